@@ -1,0 +1,86 @@
+-- What is found among objects of different references.
+use Rattle.std.proofs.Common.{◌≡◌, ◌∙◌, Bool, true, false, cond, List, [], ◌∷◌, refl, sym, ap, ℤ, Option, None, Some, option_map, filter, map, IsTrue}
+use Rattle.std.specs.List.{AllByRecursion}
+use Rattle.std.proofs.lemmas.Cmp.{int_eq_equiv}
+use Rattle.opl_reader.specs.declared.object.ObjectKind.{ObjectKind}
+use Rattle.opl_reader.specs.declared.object.ObjectKind.TheVariants.{Node, Way, Relation}
+use Rattle.opl_reader.specs.declared.object.ObjectRef.{ObjectRef}
+use Rattle.opl_reader.specs.declared.object.Object.{Object}
+use Rattle.osm_objects.specs.declared.held.Held.{Held}
+use Rattle.osm_objects.specs.declared.held.Held.TheVariants as held
+use Rattle.osm_objects.specs.Object.{kind_of, id_of, is_live, ref_of, same_kind, is_at}
+use Rattle.osm_objects.specs.Objects.{object_at, AreApart}
+use Rattle.osm_objects.specs.Held.{object_from, objects_from}
+
+-- ---- the test of a kind and id
+
+same_kind-itself : (a : ObjectKind) → same_kind a a ≡ true
+same_kind-itself Node = refl
+same_kind-itself Way = refl
+same_kind-itself Relation = refl
+
+same_kind-symmetric : (a b : ObjectKind) → same_kind a b ≡ same_kind b a
+same_kind-symmetric Node Node = refl
+same_kind-symmetric Node Way = refl
+same_kind-symmetric Node Relation = refl
+same_kind-symmetric Way Node = refl
+same_kind-symmetric Way Way = refl
+same_kind-symmetric Way Relation = refl
+same_kind-symmetric Relation Node = refl
+same_kind-symmetric Relation Way = refl
+same_kind-symmetric Relation Relation = refl
+
+is_at-itself : (o : Object) → is_at (ref_of o) o ≡ true
+is_at-itself o = rw (same_kind-itself (kind_of o), int_eq_equiv.refl (id_of o)) refl
+
+is_at-symmetric : (o u : Object) → is_at (ref_of o) u ≡ is_at (ref_of u) o
+is_at-symmetric o u = rw (same_kind-symmetric (kind_of o) (kind_of u), int_eq_equiv.symm (id_of o) (id_of u)) refl
+
+-- what is not found first is not found later
+pub passes : (b : Bool) (o : Object) (rest : Option Object) → cond b (Some o) rest ≡ None → (b ≡ false) × (rest ≡ None)
+passes true o rest none = absurd (cc)
+passes false o rest none = (refl, none)
+
+-- ---- each object is found
+
+-- each of these is what its reference finds among the objects
+abbrev pub AllFound : List Object → List Object → Type 0
+AllFound objects list = AllByRecursion (λ o. object_at objects (ref_of o) ≡ Some o) list
+
+-- an object of another reference in front changes nothing
+found-behind : (o : Object) (list objects : List Object) → object_at list (ref_of o) ≡ None → AllFound objects list → AllFound (o ∷ objects) list
+found-behind o [] objects none all = tt
+found-behind o (u ∷ list) objects none all =
+    let p = passes (is_at (ref_of o) u) u (object_at list (ref_of o)) none in (
+      rw (sym (is_at-symmetric o u) ∙ p.0) (all.0),
+      found-behind o list objects p.1 all.1,
+    )
+
+pub all_found : (objects : List Object) → AreApart objects → AllFound objects objects
+all_found [] apart = tt
+all_found (o ∷ objects) apart = (
+  rw (is_at-itself o) refl,
+  found-behind o objects objects apart.0 (all_found objects apart.1),
+)
+
+-- a reference to one that passes a test finds one that passes it
+pub filter-found : (p : Object → Bool) (objects list : List Object) → AllFound objects list → AllByRecursion (λ of. option_map p (object_at objects of) ≡ Some true) (map ref_of (filter p list))
+filter-found p objects [] all = tt
+filter-found p objects (o ∷ list) all = by (p o) refl (filter-found p objects list all.1)
+  where
+    by : (b : Bool) → p o ≡ b → AllByRecursion (λ of. option_map p (object_at objects of) ≡ Some true) (map ref_of (filter p list))
+        → AllByRecursion (λ of. option_map p (object_at objects of) ≡ Some true) (map ref_of (cond b (o ∷ filter p list) (filter p list)))
+    by true passed rest = (ap (option_map p) all.0 ∙ ap Some passed, rest)
+    by false failed rest = rest
+
+-- ---- what is held is live
+
+live-from : (id : ℤ) (h : Held) → IsTrue (is_live (object_from id h))
+live-from id (held.Plain place) = refl
+live-from id (held.Tagged n) = refl
+live-from id (held.Way w) = refl
+live-from id (held.Relation r) = refl
+
+pub all_live : (es : List (ObjectRef × Held)) → AllByRecursion (λ o. IsTrue (is_live o)) (objects_from es)
+all_live [] = tt
+all_live (e ∷ es) = (live-from e.0.id e.1, all_live es)

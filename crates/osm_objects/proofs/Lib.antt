@@ -1,0 +1,4 @@
+pub mod TagLemmas
+pub mod StoreLemmas
+pub mod ApartLemmas
+pub mod FoundLemmas

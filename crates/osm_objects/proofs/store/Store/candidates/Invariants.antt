@@ -1,0 +1,7 @@
+use Rattle.std.proofs.Common.{◌≡◌, ◌++◌}
+use Rattle.osm_objects.specs.Candidates.{candidates}
+use Rattle.osm_objects.specs.Held.{objects_from}
+use Rattle.osm_objects.proofs.store.Store.candidates.Given as goal
+
+abbrev pub invariant-loop-of : goal.invariant-loop-of
+invariant-loop-of l = l.list.items ++ candidates l.keep_untagged (objects_from l.of-iterator) ≡ candidates l.keep_untagged l.self

@@ -1,0 +1,19 @@
+use Rattle.std.proofs.Common.{◌≡◌, Some, List, IsTrue, subst}
+use Rattle.std.proofs.lemmas.List.Elements.{All-from_recursion}
+use Rattle.std.specs.Prelude.{All}
+use Rattle.opl_reader.specs.declared.object.Object.{Object}
+use Rattle.osm_objects.specs.Object.{is_live, ref_of}
+use Rattle.osm_objects.specs.Objects.{object_at, AreApart}
+use Rattle.osm_objects.specs.Held.{objects_from}
+use Rattle.osm_objects.proofs.FoundLemmas.{all_found, all_live}
+use Rattle.osm_objects.proofs.store.Store.one_of_each.Goals as goal
+
+pub returns-clause-live : goal.returns-clause-live
+returns-clause-live c =
+    let AllLive : List Object → Type 0 = λ objects. All (λ o. IsTrue (is_live o)) objects in
+    subst AllLive c.self.view_is (All-from_recursion (λ o. IsTrue (is_live o)) (objects_from c.self.inside.objects.entries) (all_live c.self.inside.objects.entries))
+
+pub returns-clause-found : goal.returns-clause-found
+returns-clause-found c =
+    let objects = c.args.self.now in
+    All-from_recursion (λ o. object_at objects (ref_of o) ≡ Some o) objects (all_found objects (subst AreApart c.self.view_is c.self.invariant.1))

@@ -1,0 +1,9 @@
+pub mod Object
+pub mod Tags
+pub mod Objects
+pub mod Candidates
+pub mod CoastWays
+pub mod AreaIds
+pub mod Views
+pub mod AddErrors
+pub mod Held

@@ -1,0 +1,68 @@
+-- The live objects of an input, in order, and what is found among them.
+use Rattle.std.specs.Prelude.{◌≡◌, Bool, ◌&&◌, if◌then◌else◌, List, [], ◌∷◌, ◌++◌, find, ℤ, Option, None, Some, option_and_then, is_some}
+use Rattle.osm_geom.specs.declared.loc.Loc.{Loc}
+use Rattle.opl_reader.specs.declared.object.Tag.{Tag}
+use Rattle.opl_reader.specs.declared.object.Member.{Member}
+use Rattle.opl_reader.specs.declared.object.ObjectKind.TheVariants.{Node, Way, Relation}
+use Rattle.opl_reader.specs.declared.object.ObjectRef.{ObjectRef}
+use Rattle.opl_reader.specs.declared.object.Object.{Object}
+use Rattle.opl_reader.specs.declared.object.Object.TheVariants as object
+use Rattle.osm_objects.specs.Object.{is_live, ref_of, is_at}
+
+-- ---- look-ups
+
+-- the object of this kind and id
+abbrev pub object_at : List Object → ObjectRef → Option Object
+object_at objects of = find (is_at of) objects
+
+abbrev pub place_in : Object → Option Loc
+place_in (object.Node id live tags place) = place
+place_in (object.Way id live tags refs) = None
+place_in (object.Relation id live tags members) = None
+
+-- the location of the node of this id
+abbrev pub location_of : List Object → ℤ → Option Loc
+location_of objects id = option_and_then place_in (object_at objects (record { kind = Node; id = id }))
+
+-- a way's tags and references
+pub record WayParts : Type 0 where
+  pub tags : List Tag
+  pub refs : List ℤ
+
+abbrev pub way_in : Object → Option WayParts
+way_in (object.Node id live tags place) = None
+way_in (object.Way id live tags refs) = Some (record { tags = tags; refs = refs })
+way_in (object.Relation id live tags members) = None
+
+-- the way of this id
+abbrev pub way_of : List Object → ℤ → Option WayParts
+way_of objects id = option_and_then way_in (object_at objects (record { kind = Way; id = id }))
+
+-- a relation's tags and members
+pub record RelationParts : Type 0 where
+  pub tags : List Tag
+  pub members : List Member
+
+abbrev pub relation_in : Object → Option RelationParts
+relation_in (object.Node id live tags place) = None
+relation_in (object.Way id live tags refs) = None
+relation_in (object.Relation id live tags members) = Some (record { tags = tags; members = members })
+
+-- the relation of this id
+abbrev pub relation_of : List Object → ℤ → Option RelationParts
+relation_of objects id = option_and_then relation_in (object_at objects (record { kind = Relation; id = id }))
+
+-- ---- one more object
+
+-- a live object comes last, one that was deleted adds nothing
+abbrev pub with_object : List Object → Object → List Object
+with_object objects o = if is_live o then objects ++ o ∷ [] else objects
+
+-- it is live, and one of its kind and id is there
+abbrev pub is_duplicate : List Object → Object → Bool
+is_duplicate objects o = is_live o && is_some (object_at objects (ref_of o))
+
+-- no two have one kind and id: none comes again after its place
+abbrev pub AreApart : List Object → Type 0
+AreApart [] = Unit {0}
+AreApart (o ∷ objects) = (object_at objects (ref_of o) ≡ None) × AreApart objects

@@ -1,0 +1,32 @@
+//! Why an object is not added.
+
+ghost use Rattle.std.specs.Prelude.{◌≡◌};
+ghost use Rattle.osm_objects.specs.declared.error.AddError.TheVariants.{OutOfMemory};
+
+use opl_reader::ObjectKind;
+use std::alloc::{AllocError, AllocFailed};
+
+/// Why `Store::add` refuses an object.
+#[derive(Debug, Drop)]
+pub enum AddError {
+    /// A live object of this kind and id is held.
+    Duplicate { kind: ObjectKind, id: i64 },
+    /// Memory was wanting.
+    OutOfMemory,
+}
+
+impl From<AllocError> for AddError {
+    ghost from_gives = { λ _ e. e ≡ OutOfMemory };
+
+    fn from(_e: AllocError) -> AddError {
+        AddError::OutOfMemory
+    }
+}
+
+impl<T: Drop> From<AllocFailed<T>> for AddError {
+    ghost from_gives = { λ _ e. e ≡ OutOfMemory };
+
+    fn from(_e: AllocFailed<T>) -> AddError {
+        AddError::OutOfMemory
+    }
+}

@@ -1,0 +1,175 @@
+//! What the store keeps of an object, beside its kind and id.
+
+ghost use Rattle.std.specs.Prelude.{◌≡◌, [], ℤ, nat_lt, length, IsTrue, IfOk, option_map};
+ghost use Rattle.osm_objects.specs.Object.{is_live, id_of, kind_of};
+ghost use Rattle.osm_objects.specs.Objects.{place_in, way_in, relation_in};
+ghost use Rattle.osm_objects.specs.Candidates.{is_closed, may_have_area, area_tags, is_candidate};
+ghost use Rattle.osm_objects.specs.CoastWays.{is_coast_way};
+ghost use Rattle.osm_objects.specs.Held.{object_from};
+ghost use Rattle.osm_objects.specs.Views.{way_seen, relation_seen};
+
+use crate::tags::{copy_all, copy_without, has_other_key, is_tagged};
+use crate::view::{RelationView, WayView};
+use opl_reader::{Members, Object, ObjectKind, Refs, Tags};
+use osm_geom::Loc;
+use std::alloc::{AllocError, Global};
+
+/// A node that has tags.
+#[derive(Drop)]
+pub struct TaggedNode {
+    pub tags: Tags,
+    pub place: Option<Loc>,
+}
+
+#[derive(Drop)]
+pub struct HeldWay {
+    pub tags: Tags,
+    pub refs: Refs,
+}
+
+#[derive(Drop)]
+pub struct HeldRelation {
+    pub tags: Tags,
+    pub members: Members,
+}
+
+/// Most objects are nodes without tags, so these alone stand in the entry itself.
+#[derive(Drop)]
+pub enum Held {
+    Plain(Option<Loc>),
+    Tagged(Box<TaggedNode>),
+    Way(Box<HeldWay>),
+    Relation(Box<HeldRelation>),
+}
+
+impl Held {
+    /// What is kept of a live object.
+    pub(crate) fn of(alloc: Global, object: Object) -> Result<Held, AllocError>
+        requires { IsTrue (is_live object) }
+        ensures { IfOk result (λ h. object_from (id_of object) h ≡ object) }
+    {
+        match object {
+            Object::Node { tags, place, .. } if tags.as_slice().is_empty() => {
+                Ok(Held::Plain(place))
+            }
+            Object::Node { tags, place, .. } => {
+                Ok(Held::Tagged(Box::new(alloc, TaggedNode { tags, place })?))
+            }
+            Object::Way { tags, refs, .. } => {
+                Ok(Held::Way(Box::new(alloc, HeldWay { tags, refs })?))
+            }
+            Object::Relation { tags, members, .. } => {
+                Ok(Held::Relation(Box::new(alloc, HeldRelation { tags, members })?))
+            }
+        }
+    }
+
+    pub(crate) fn kind(&self) -> ObjectKind
+        ensures { (id : ℤ) → result ≡ kind_of (object_from id self.now) }
+    {
+        match self {
+            Held::Plain(_) | Held::Tagged(_) => ObjectKind::Node,
+            Held::Way(_) => ObjectKind::Way,
+            Held::Relation(_) => ObjectKind::Relation,
+        }
+    }
+
+    /// Whether it may have an area, be that tagged or not.
+    #[tactic(auto, unfolding(crate::specs::Candidates::may_have_area))]
+    fn may_have_area(&self) -> bool
+        ensures { (id : ℤ) → result ≡ may_have_area (object_from id self.now) }
+    {
+        match self {
+            Held::Plain(_) | Held::Tagged(_) => false,
+            Held::Way(way) => {
+                is_closed(way.refs.as_slice()) && !is_tagged(&way.tags, "area", "no")
+            }
+            Held::Relation(relation) => {
+                is_tagged(&relation.tags, "type", "multipolygon")
+                    || is_tagged(&relation.tags, "type", "boundary")
+            }
+        }
+    }
+
+    /// Whether its area has tags.
+    #[tactic(auto, using(crate::proofs::TagLemmas::any_left), unfolding(crate::specs::Candidates::area_tags))]
+    fn has_area_tags(&self) -> bool
+        ensures { (id : ℤ) → result ≡ nat_lt 0 (length (area_tags (object_from id self.now))) }
+    {
+        match self {
+            Held::Plain(_) | Held::Tagged(_) => false,
+            Held::Way(way) => !way.tags.as_slice().is_empty(),
+            Held::Relation(relation) => has_other_key(&relation.tags, "type"),
+        }
+    }
+
+    #[tactic(auto, unfolding(crate::specs::Candidates::is_candidate))]
+    pub(crate) fn is_candidate(&self, keep_untagged: bool) -> bool
+        ensures { (id : ℤ) → result ≡ is_candidate keep_untagged (object_from id self.now) }
+    {
+        self.may_have_area() && (keep_untagged || self.has_area_tags())
+    }
+
+    #[tactic(auto, unfolding(crate::specs::CoastWays::is_coast_way))]
+    pub(crate) fn is_coast_way(&self) -> bool
+        ensures { (id : ℤ) → result ≡ is_coast_way (object_from id self.now) }
+    {
+        match self {
+            Held::Way(way) => is_tagged(&way.tags, "natural", "coastline"),
+            _ => false,
+        }
+    }
+
+    /// A copy of its area's tags.
+    #[tactic(auto, unfolding(crate::specs::Candidates::area_tags))]
+    pub(crate) fn area_tags(&self, alloc: Global) -> Result<Tags, AllocError>
+        ensures { (id : ℤ) → IfOk result (λ tags. tags ≡ area_tags (object_from id self.now)) }
+    {
+        match self {
+            Held::Plain(_) | Held::Tagged(_) => Ok(Tags::new(alloc)),
+            Held::Way(way) => copy_all(alloc, &way.tags),
+            Held::Relation(relation) => copy_without(alloc, &relation.tags, "type"),
+        }
+    }
+
+    pub(crate) fn place(&self) -> Option<Loc>
+        ensures { (id : ℤ) → result ≡ place_in (object_from id self.now) }
+    {
+        match self {
+            Held::Plain(place) => *place,
+            Held::Tagged(node) => node.place,
+            _ => None,
+        }
+    }
+
+    pub(crate) fn way(&self) -> Option<WayView<'_>>
+        ensures { (id : ℤ) → option_map way_seen result ≡ way_in (object_from id self.now) }
+    {
+        match self {
+            Held::Way(way) => Some(WayView {
+                tags: &way.tags,
+                refs: &way.refs,
+            }),
+            _ => None,
+        }
+    }
+
+    pub(crate) fn relation(&self) -> Option<RelationView<'_>>
+        ensures { (id : ℤ) → option_map relation_seen result ≡ relation_in (object_from id self.now) }
+    {
+        match self {
+            Held::Relation(relation) => Some(RelationView {
+                tags: &relation.tags,
+                members: &relation.members,
+            }),
+            _ => None,
+        }
+    }
+}
+
+/// Whether references may bound an area: at least four, and the last is the first.
+fn is_closed(refs: &[i64]) -> bool
+    ensures { result ≡ is_closed refs.now }
+{
+    refs.len() >= 4 && refs.first() == refs.last()
+}

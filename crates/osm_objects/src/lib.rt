@@ -1,0 +1,14 @@
+//! The live objects of an input, kept by kind and id in input order, and those among them that may have an area.
+#![tactic(auto)]
+
+mod area;
+mod error;
+mod held;
+mod store;
+mod tags;
+mod view;
+
+pub use area::area_id;
+pub use error::AddError;
+pub use store::Store;
+pub use view::{RelationView, WayView};

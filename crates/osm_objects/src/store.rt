@@ -1,0 +1,182 @@
+//! The store of objects.
+
+ghost use Rattle.std.specs.Prelude.{◌≡◌, [], true, All, IsTrue, IfOk, OnOk, OnErr, IfErr, IsSome, Some, option_map, false};
+ghost use Rattle.std.specs.List.{IsDistinct};
+ghost use Rattle.std.specs.Ordering.{int_eq};
+ghost use Rattle.osm_objects.specs.Object.{is_live, ref_of};
+ghost use Rattle.osm_objects.specs.Objects.{object_at, location_of, way_of, relation_of, with_object, is_duplicate, AreApart};
+ghost use Rattle.osm_objects.specs.Candidates.{area_tags, is_candidate, candidates};
+ghost use Rattle.osm_objects.specs.CoastWays.{coast_ways};
+ghost use Rattle.osm_objects.specs.AddErrors.{Refuses};
+ghost use Rattle.osm_objects.specs.Views.{way_seen, relation_seen};
+ghost use Rattle.osm_objects.specs.Held.{object_from, live_ref};
+
+use crate::error::AddError;
+use crate::held::Held;
+use crate::view::{RelationView, WayView};
+use indexmap::IndexMap;
+use opl_reader::{Object, ObjectKind, ObjectRef, Tags};
+use osm_geom::Loc;
+use std::alloc::{AllocError, Global};
+use std::marker::Model;
+
+/// The live objects of an input. Contracts see it as their list, in the order in which they were added.
+#[derive(Drop)]
+pub struct Store {
+    // One map for the three kinds, since candidates come in input order across them.
+    objects: IndexMap<ObjectRef, Held>,
+}
+
+impl Model for Store {
+    ghost use Rattle.std.specs.Prelude.{List};
+    ghost use Rattle.opl_reader.specs.declared.object.Object.{Object};
+    ghost use Rattle.osm_objects.specs.Objects.{AreApart};
+    ghost use Rattle.osm_objects.specs.Held.{objects_from, KindsAgree};
+
+    ghost Value = { List Object };
+
+    ghost view = { λ s. objects_from s.objects.entries };
+
+    ghost invariant = { λ s. KindsAgree s.objects.entries × AreApart (objects_from s.objects.entries) };
+}
+
+/// The kind and id of an object that is live.
+fn live_ref(object: &Object) -> Option<ObjectRef>
+    ensures { result ≡ live_ref object.now }
+{
+    match object {
+        Object::Node { id, live, .. } if *live => Some(ObjectRef {
+            kind: ObjectKind::Node,
+            id: *id,
+        }),
+        Object::Way { id, live, .. } if *live => Some(ObjectRef {
+            kind: ObjectKind::Way,
+            id: *id,
+        }),
+        Object::Relation { id, live, .. } if *live => Some(ObjectRef {
+            kind: ObjectKind::Relation,
+            id: *id,
+        }),
+        _ => None,
+    }
+}
+
+impl Store {
+    /// A store that holds nothing. It takes no memory yet.
+    pub fn new(alloc: Global) -> Store
+        ensures { result ≡ [] }
+    {
+        Store {
+            objects: IndexMap::new(alloc),
+        }
+    }
+
+    /// Adds an object at the end. One that was deleted (`dD` in OPL) changes nothing and is never refused.
+    /// A live object of a kind and id that are held already is refused as `Duplicate`, and the store stays
+    /// as it was, as it does where memory is wanting.
+    pub fn add(&mut self, object: Object) -> Result<(), AddError>
+        ensures added { OnOk result (self.new ≡ with_object self.old object) }
+        ensures fresh { OnOk result (is_duplicate self.old object ≡ false) }
+        ensures unchanged { OnErr result (self.new ≡ self.old) }
+        ensures refusal { IfErr result (Refuses self.old object) }
+    {
+        let Some(of) = live_ref(&object) else {
+            return Ok(());
+        };
+        if self.objects.contains_key(&of) {
+            return Err(AddError::Duplicate {
+                kind: of.kind,
+                id: of.id,
+            });
+        }
+        let held = Held::of(*self.objects.allocator(), object)?;
+        self.objects.insert(of, held)?;
+        Ok(())
+    }
+
+    /// A law: all objects of a store are live, no two have one kind and id, and so each is what a look-up of
+    /// its kind and id finds.
+    pub fn one_of_each(&self)
+        ensures live { All (λ o. IsTrue (is_live o)) self.now }
+        ensures apart { AreApart self.now }
+        ensures found { All (λ o. object_at self.now (ref_of o) ≡ Some o) self.now }
+    {
+        let _held = &self.objects;
+    }
+
+    /// What is held of an object.
+    fn held(&self, of: ObjectRef) -> Option<&Held>
+        ensures { option_map (λ h. object_from of.id h.now) result ≡ object_at self.now of }
+    {
+        self.objects.get(&of)
+    }
+
+    /// The location of a node. None exactly where no node of this id is held, or it has no location.
+    pub fn location(&self, id: i64) -> Option<Loc>
+        ensures { result ≡ location_of self.now id }
+    {
+        let kind = ObjectKind::Node;
+        self.held(ObjectRef { kind, id })?.place()
+    }
+
+    /// The way of this id. None exactly where none is held.
+    pub fn way(&self, id: i64) -> Option<WayView<'_>>
+        ensures { option_map way_seen result ≡ way_of self.now id }
+    {
+        let kind = ObjectKind::Way;
+        self.held(ObjectRef { kind, id })?.way()
+    }
+
+    /// The relation of this id. None exactly where none is held.
+    pub fn relation(&self, id: i64) -> Option<RelationView<'_>>
+        ensures { option_map relation_seen result ≡ relation_of self.now id }
+    {
+        let kind = ObjectKind::Relation;
+        self.held(ObjectRef { kind, id })?.relation()
+    }
+
+    /// The objects that may have an area, in input order: closed ways that are not tagged `area=no`, and
+    /// relations tagged `type=multipolygon` or `type=boundary` (OpenStreetMap wiki, Relation:multipolygon).
+    /// One whose area would have no tag is among them only if `keep_untagged`.
+    pub fn candidates(
+        &self,
+        alloc: Global,
+        keep_untagged: bool,
+    ) -> Result<Vec<ObjectRef>, AllocError>
+        ensures list { IfOk result (λ list. list.items ≡ candidates keep_untagged self.now) }
+        ensures held { All (λ of. option_map (is_candidate keep_untagged) (object_at self.now of) ≡ Some true) (candidates keep_untagged self.now) }
+    {
+        let mut list = Vec::new(alloc);
+        for (of, held) in &self.objects {
+            if held.is_candidate(keep_untagged) {
+                list.push(ObjectRef {
+                    kind: held.kind(),
+                    id: of.id,
+                })?;
+            }
+        }
+        Ok(list)
+    }
+
+    /// The ids of the ways tagged `natural=coastline`, in input order.
+    pub fn coast_ways(&self, alloc: Global) -> Result<Vec<i64>, AllocError>
+        ensures list { IfOk result (λ list. list.items ≡ coast_ways self.now) }
+        ensures distinct { IsDistinct int_eq (coast_ways self.now) }
+    {
+        let mut list = Vec::new(alloc);
+        for (of, held) in &self.objects {
+            if held.is_coast_way() {
+                list.push(of.id)?;
+            }
+        }
+        Ok(list)
+    }
+
+    /// A copy of the tags of an area: those of its way or relation, in order, without a relation's `type`.
+    pub fn area_tags(&self, alloc: Global, of: ObjectRef) -> Result<Tags, AllocError>
+        requires { IsSome (object_at self.now of) }
+        ensures { IfOk result (λ tags. Some tags ≡ option_map area_tags (object_at self.now of)) }
+    {
+        self.held(of).unwrap().area_tags(alloc)
+    }
+}
