@@ -1,0 +1,80 @@
+-- What a host means: its streams and its list of opens, each told or not, and its counts of faults.
+use Rattle.std.specs.Prelude.{◌≡◌, ◌+◌, ◌-◌, ◌^◌, ◌≤◌, min, ℕ, Bool, List, ◌++◌, Option, None, Some, Result, OnOk, OnErr}
+
+-- an open that was asked for, by the bytes of its name; an output with its overwrite
+pub data Opened : Type 0 where
+  input : List ℕ → Opened
+  output : List ℕ → Bool → Opened
+
+-- A stream that a host tells is Some of its bytes; None tells nothing.
+pub record Outside : Type 0 where
+  -- the bytes that an input name stands for
+  pub named : List ℕ → Option (List ℕ)
+  -- what is left of the opened input
+  pub left : Option (List ℕ)
+  -- what was written to the output, and to the report
+  pub out : Option (List ℕ)
+  pub report : Option (List ℕ)
+  pub opens : Option (List Opened)
+  pub open_faults : ℕ
+  pub read_faults : ℕ
+  pub write_faults : ℕ
+
+-- a told list with more behind it; what isn't told stays so
+abbrev pub appended : {A : Type 0} → Option (List A) → List A → Option (List A)
+appended None more = None
+appended (Some items) more = Some (items ++ more)
+
+-- a told list with more before it
+abbrev pub preceded : {A : Type 0} → List A → Option (List A) → Option (List A)
+preceded more None = None
+preceded more (Some items) = Some (more ++ items)
+
+-- a count one up, or at its last value
+abbrev pub risen : ℕ → ℕ
+risen count = min (count + 1) (2 ^ 64 - 1)
+
+-- The count rose by one at least, or stands at its last value.
+abbrev pub HasRisen : ℕ → ℕ → Type 0
+HasRisen before now = risen before ≤ now
+
+-- A count never falls, rises where a call of its kind failed, and stays where it was answered.
+pub record Counts {T E : Type 0} (before now : ℕ) (result : Result T E) : Type 0 where
+  pub never_falls : before ≤ now
+  pub failed : OnErr result (HasRisen before now)
+  pub answered : OnOk result (now ≡ before)
+
+-- Nothing but the opened input, the list of opens and the count of opens changed.
+pub record OnlyOpens (before now : Outside) : Type 0 where
+  pub named : now.named ≡ before.named
+  pub out : now.out ≡ before.out
+  pub report : now.report ≡ before.report
+  pub read_faults : now.read_faults ≡ before.read_faults
+  pub write_faults : now.write_faults ≡ before.write_faults
+
+-- Nothing but what is left of the input and the count of reads changed.
+pub record OnlyReads (before now : Outside) : Type 0 where
+  pub named : now.named ≡ before.named
+  pub out : now.out ≡ before.out
+  pub report : now.report ≡ before.report
+  pub opens : now.opens ≡ before.opens
+  pub open_faults : now.open_faults ≡ before.open_faults
+  pub write_faults : now.write_faults ≡ before.write_faults
+
+-- Nothing but the output and the count of writes changed.
+pub record OnlyWritesOut (before now : Outside) : Type 0 where
+  pub named : now.named ≡ before.named
+  pub left : now.left ≡ before.left
+  pub report : now.report ≡ before.report
+  pub opens : now.opens ≡ before.opens
+  pub open_faults : now.open_faults ≡ before.open_faults
+  pub read_faults : now.read_faults ≡ before.read_faults
+
+-- Nothing but the report and the count of writes changed.
+pub record OnlyWritesReport (before now : Outside) : Type 0 where
+  pub named : now.named ≡ before.named
+  pub left : now.left ≡ before.left
+  pub out : now.out ≡ before.out
+  pub opens : now.opens ≡ before.opens
+  pub open_faults : now.open_faults ≡ before.open_faults
+  pub read_faults : now.read_faults ≡ before.read_faults
