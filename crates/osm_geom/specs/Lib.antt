@@ -1,2 +1,4 @@
 pub mod Bounds
 pub mod Loc
+pub mod Seg
+pub mod Conflict

@@ -1,8 +1,14 @@
 //! Exact geometry over OpenStreetMap's coordinates, whole numbers in units of 1e-7 degree.
 #![tactic(auto)]
 
+mod conflicts;
 mod lists;
 mod loc;
+mod orientation;
+mod seg;
 
-pub use lists::{Ids, Locs, Path};
+pub use conflicts::{Kind, conflict};
+pub use lists::{Ids, Locs, Path, Segs};
 pub use loc::Loc;
+pub use orientation::orient;
+pub use seg::Seg;
