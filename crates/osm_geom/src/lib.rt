@@ -2,12 +2,14 @@
 #![tactic(auto)]
 
 mod conflicts;
+mod frac;
 mod lists;
 mod loc;
 mod orientation;
 mod seg;
 
 pub use conflicts::{Kind, conflict};
+pub use frac::{Frac, round};
 pub use lists::{Ids, Locs, Path, Segs};
 pub use loc::Loc;
 pub use orientation::orient;
