@@ -1,0 +1,12 @@
+pub mod Conflicts
+pub mod Edges
+pub mod FreeSegments
+pub mod Identities
+pub mod PointOrder
+pub mod Points
+pub mod Products
+pub mod RayCrossings
+pub mod Scaling
+pub mod Sectors
+pub mod Signs
+pub mod Views

@@ -1,0 +1,245 @@
+-- Signs of sums and products, and statements about all signs decided by computing.
+use Rattle.std.proofs.Common.{Bool, ap, arith, false, not, refl, subst, suc, sym, true, zero, ℕ, ◌*◌, ◌<◌, ◌↔◌, ◌∙◌, ◌≡◌}
+use borrow.Author.Differences.{down, ints, up}
+use lib.IntN.{neg_ℤ, negsuc, pos, ℤ, ◌*ℤ◌, ◌+ℤ◌, ◌-ℤ◌}
+use lib.Signed.{◌<ℤ◌}
+use Rattle.plane.specs.Sign.{Minus, Null, Plus, Sign, is_minus, is_null, negated, sign, then_sign}
+
+abbrev pub times : Sign → Sign → Sign
+times Null b = Null
+times a Null = Null
+times Plus b = b
+times Minus Plus = Minus
+times Minus Minus = Plus
+
+-- x + y = z is possible at these signs
+abbrev pub agree : Sign → Sign → Sign → Bool
+agree Null Null Null = true
+agree Null Plus Plus = true
+agree Null Minus Minus = true
+agree Plus Null Plus = true
+agree Minus Null Minus = true
+agree Plus Plus Plus = true
+agree Minus Minus Minus = true
+agree Plus Minus u = true
+agree Minus Plus u = true
+agree s t u = false
+
+sign-pos : (k : ℕ) → 0 < k → sign (pos k) ≡ Plus
+sign-pos zero h = absurd (omega arith)
+sign-pos (suc k) h = refl
+
+sign-neg : (k : ℕ) → 0 < k → sign (neg_ℤ (pos k)) ≡ Minus
+sign-neg zero h = absurd (omega arith)
+sign-neg (suc k) h = refl
+
+product-pos : (m n : ℕ) → 0 < suc m * suc n
+product-pos m n = omega arith
+
+zero-left : (n : ℕ) → 0 * n ≡ 0
+zero-left n = omega arith
+
+zero-right : (n : ℕ) → n * 0 ≡ 0
+zero-right n = omega arith
+
+pub sign-* : (a b : ℤ) → sign (a *ℤ b) ≡ times (sign a) (sign b)
+sign-* (pos zero) (pos n) = ap (λ (k : ℕ). sign (pos k)) (zero-left n)
+sign-* (pos zero) (negsuc n) = ap (λ (k : ℕ). sign (neg_ℤ (pos k))) (zero-left (suc n))
+sign-* (pos (suc m)) (pos zero) = ap (λ (k : ℕ). sign (pos k)) (zero-right (suc m))
+sign-* (pos (suc m)) (pos (suc n)) = sign-pos (suc m * suc n) (product-pos m n)
+sign-* (pos (suc m)) (negsuc n) = sign-neg (suc m * suc n) (product-pos m n)
+sign-* (negsuc m) (pos zero) = ap (λ (k : ℕ). sign (neg_ℤ (pos k))) (zero-right (suc m))
+sign-* (negsuc m) (pos (suc n)) = sign-neg (suc m * suc n) (product-pos m n)
+sign-* (negsuc m) (negsuc n) = sign-pos (suc m * suc n) (product-pos m n)
+
+-- what a sign says to `omega`
+abbrev pub Says : Sign → ℤ → Type 0
+Says Minus z = up z < down z
+Says Null z = up z ≡ down z
+Says Plus z = down z < up z
+
+pub says : (z : ℤ) → Says (sign z) z
+says (pos zero) = refl
+says (pos (suc n)) = omega arith
+says (negsuc n) = omega arith
+
+pub sign-from : (s : Sign) (z : ℤ) → Says s z → sign z ≡ s
+sign-from Minus (pos n) h = absurd (omega arith)
+sign-from Minus (negsuc n) h = refl
+sign-from Null (pos zero) h = refl
+sign-from Null (pos (suc n)) h = absurd (omega arith)
+sign-from Null (negsuc n) h = absurd (omega arith)
+sign-from Plus (pos zero) h = absurd (omega arith)
+sign-from Plus (pos (suc n)) h = refl
+sign-from Plus (negsuc n) h = absurd (omega arith)
+
+agree-by : (s t u : Sign) (x y z : ℤ) → Says s x → Says t y → Says u z → x +ℤ y ≡ z → agree s t u ≡ true
+agree-by Null Null Null x y z h k l e = refl
+agree-by Null Plus Plus x y z h k l e = refl
+agree-by Null Minus Minus x y z h k l e = refl
+agree-by Plus Null Plus x y z h k l e = refl
+agree-by Minus Null Minus x y z h k l e = refl
+agree-by Plus Plus Plus x y z h k l e = refl
+agree-by Minus Minus Minus x y z h k l e = refl
+agree-by Plus Minus u x y z h k l e = refl
+agree-by Minus Plus u x y z h k l e = refl
+agree-by s t u x y z h k l e = absurd (omega (arith, ints))
+
+pub agree-sum : (x y z : ℤ) → x +ℤ y ≡ z → agree (sign x) (sign y) (sign z) ≡ true
+agree-sum x y z e = agree-by (sign x) (sign y) (sign z) x y z (says x) (says y) (says z) e
+
+-- three products
+pub agree-products : (a b c d e f : ℤ) → a *ℤ b +ℤ c *ℤ d ≡ e *ℤ f → agree (times (sign a) (sign b)) (times (sign c) (sign d)) (times (sign e) (sign f)) ≡ true
+agree-products a b c d e f h = rw (← sign-* a b, ← sign-* c d, ← sign-* e f) (agree-sum (a *ℤ b) (c *ℤ d) (e *ℤ f) h)
+
+-- ---- statements about all signs, by computing
+abbrev pub both : Bool → Bool → Bool
+both true b = b
+both false b = false
+
+abbrev pub all : (Sign → Bool) → Bool
+all f = both (f Minus) (both (f Null) (f Plus))
+
+abbrev pub all2 : (Sign → Sign → Bool) → Bool
+all2 f = all (λ a. all (f a))
+
+abbrev pub all4 : (Sign → Sign → Sign → Sign → Bool) → Bool
+all4 f = all2 (λ a b. all2 (f a b))
+
+pub left-out : (a b : Bool) → both a b ≡ true → a ≡ true
+left-out true b h = refl
+left-out false b h = h
+
+pub right-out : (a b : Bool) → both a b ≡ true → b ≡ true
+right-out true b h = h
+right-out false b h = absurd (cc h)
+
+pub all-out : (f : Sign → Bool) → all f ≡ true → (s : Sign) → f s ≡ true
+all-out f h Minus = left-out (f Minus) (both (f Null) (f Plus)) h
+all-out f h Null = left-out (f Null) (f Plus) (right-out (f Minus) (both (f Null) (f Plus)) h)
+all-out f h Plus = right-out (f Null) (f Plus) (right-out (f Minus) (both (f Null) (f Plus)) h)
+
+pub all2-out : (f : Sign → Sign → Bool) → all2 f ≡ true → (s t : Sign) → f s t ≡ true
+all2-out f h s t = all-out (f s) (all-out (λ a. all (f a)) h s) t
+
+pub all4-out : (f : Sign → Sign → Sign → Sign → Bool) → all4 f ≡ true → (s t u v : Sign) → f s t u v ≡ true
+all4-out f h s t u v = all2-out (f s t) (all2-out (λ a b. all2 (f a b)) h s t) u v
+
+-- a premise: what follows it is computed only where it holds
+abbrev pub imp : Bool → (Unit {0} → Bool) → Bool
+imp true k = k tt
+imp false k = true
+
+pub imp-out : (p : Bool) (k : Unit {0} → Bool) → imp p k ≡ true → p ≡ true → k tt ≡ true
+imp-out true k h e = h
+imp-out false k h e = absurd (cc e)
+
+pub null-zero : (z : ℤ) → sign z ≡ Null → z ≡ pos 0
+null-zero (pos zero) h = refl
+null-zero (pos (suc n)) h = absurd (cc h)
+null-zero (negsuc n) h = absurd (cc h)
+
+pub plus-plus : (s : Sign) → agree Plus Plus s ≡ true → s ≡ Plus
+plus-plus Plus h = refl
+plus-plus Null h = absurd (cc h)
+plus-plus Minus h = absurd (cc h)
+
+pub sum-zero-left : (k x y : ℤ) → k ≡ pos 0 → k +ℤ x ≡ y → x ≡ y
+sum-zero-left k x y z e = omega (arith, ints)
+
+pub sum-with-plus : (m x y : ℤ) → sign m ≡ Plus → m +ℤ x ≡ y → agree Plus (sign x) (sign y) ≡ true
+sum-with-plus m x y h e = let a = agree-sum m x y e in rw h at a
+
+says-twice : (s : Sign) (z : ℤ) → Says s z → Says s (z +ℤ z)
+says-twice Plus z h = omega (arith, ints)
+says-twice Null z h = omega (arith, ints)
+says-twice Minus z h = omega (arith, ints)
+
+pub sign-twice : (z : ℤ) → sign (z +ℤ z) ≡ sign z
+sign-twice z = sign-from (sign z) (z +ℤ z) (says-twice (sign z) z (says z))
+
+pub times-plus : (s : Sign) → times Plus s ≡ s
+times-plus Plus = refl
+times-plus Null = refl
+times-plus Minus = refl
+
+neg-by : (s t : Sign) → agree s t Null ≡ true → t ≡ negated s
+neg-by Plus Minus h = refl
+neg-by Minus Plus h = refl
+neg-by Null Null h = refl
+neg-by s t h = absurd (cc h)
+
+pub sign-turned : (x y : ℤ) → x +ℤ y ≡ pos 0 → sign y ≡ negated (sign x)
+sign-turned x y e = neg-by (sign x) (sign y) (agree-sum x y (pos 0) e)
+
+-- ---- a sign, as an order
+pub says-at : (s : Sign) (z : ℤ) → sign z ≡ s → Says s z
+says-at s z h = subst (λ (t : Sign). Says t z) h (says z)
+
+pub plus-is : (z : ℤ) → (sign z ≡ Plus) ↔ (pos 0 <ℤ z)
+plus-is z = ((λ h. let k = says-at Plus z h in omega (arith, ints)), (λ h. sign-from Plus z (omega (arith, ints))))
+
+pub minus-is : (z : ℤ) → (sign z ≡ Minus) ↔ (z <ℤ pos 0)
+minus-is z = ((λ h. let k = says-at Minus z h in omega (arith, ints)), (λ h. sign-from Minus z (omega (arith, ints))))
+
+pub null-is : (z : ℤ) → (sign z ≡ Null) ↔ (z ≡ pos 0)
+null-is z = ((λ h. let k = says-at Null z h in omega (arith, ints)), (λ h. sign-from Null z (omega (arith, ints))))
+
+-- ---- signs that are the same
+abbrev pub same_sign : Sign → Sign → Bool
+same_sign Minus Minus = true
+same_sign Null Null = true
+same_sign Plus Plus = true
+same_sign s t = false
+
+pub same_sign-true : (s t : Sign) → same_sign s t ≡ true → s ≡ t
+same_sign-true Minus Minus h = refl
+same_sign-true Null Null h = refl
+same_sign-true Plus Plus h = refl
+same_sign-true s t h = absurd (cc h)
+
+pub same_sign-refl : (s : Sign) → same_sign s s ≡ true
+same_sign-refl Minus = refl
+same_sign-refl Null = refl
+same_sign-refl Plus = refl
+
+pub times-back : (s t : Sign) → times s t ≡ times t s
+times-back s t = same_sign-true (times s t) (times t s) (all2-out (λ s t. same_sign (times s t) (times t s)) refl s t)
+
+pub not-null : (s : Sign) → s ≡ Plus → not (is_null s) ≡ true
+not-null s h = ap (λ t. not (is_null t)) h
+
+pub agree-plus-first : (x y z : ℤ) → sign x ≡ Plus → x +ℤ y ≡ z → agree Plus (sign y) (sign z) ≡ true
+agree-plus-first x y z h e = subst (λ s. agree s (sign y) (sign z) ≡ true) h (agree-sum x y z e)
+
+pub plus-times : (q x : ℤ) → sign q ≡ Plus → sign (q *ℤ x) ≡ sign x
+plus-times q x h = sign-* q x ∙ ap (λ s. times s (sign x)) h ∙ times-plus (sign x)
+
+-- a sum with positive weights
+pub weighted-agree : (q m x y z : ℤ) → sign q ≡ Plus → sign m ≡ Plus → q *ℤ x +ℤ m *ℤ y ≡ z → agree (sign x) (sign y) (sign z) ≡ true
+weighted-agree q m x y z h k e =
+    subst (λ s. agree s (sign y) (sign z) ≡ true) (plus-times q x h) (subst (λ s. agree (sign (q *ℤ x)) s (sign z) ≡ true) (plus-times m y k) (agree-sum (q *ℤ x) (m *ℤ y) z e))
+
+pub same-out : (s t : Sign) → agree s s t ≡ true → t ≡ s
+same-out s t h = same_sign-true t s (imp-out _ _ (all2-out (λ s t. imp (agree s s t) λ _. same_sign t s) refl s t) h)
+
+pub plus-sum : (q m : ℤ) → sign q ≡ Plus → sign m ≡ Plus → sign (q +ℤ m) ≡ Plus
+plus-sum q m h k = let a = agree-sum q m (q +ℤ m) refl in let b = rw (h, k) at a in same-out Plus (sign (q +ℤ m)) b
+
+pub self-diff : (z : ℤ) → sign (z -ℤ z) ≡ Null
+self-diff z = ap sign (let e : z -ℤ z ≡ pos 0 = omega (arith, ints) in e)
+
+pub not-minus-by : (s t : Sign) → then_sign s t ≡ Plus → not (is_minus s) ≡ true
+not-minus-by Plus t h = refl
+not-minus-by Null t h = refl
+not-minus-by Minus t h = absurd (cc h)
+
+pub same-sign-is : (s t : Sign) → s ≡ t → same_sign s t ≡ true
+same-sign-is Plus t h = ap (same_sign Plus) (sym h)
+same-sign-is Null t h = ap (same_sign Null) (sym h)
+same-sign-is Minus t h = ap (same_sign Minus) (sym h)
+
+pub not-null-by : (k : Sign) → (k ≡ Null → ⊥) → not (is_null k) ≡ true
+not-null-by Null h = absurd (h refl)
+not-null-by Plus h = refl
+not-null-by Minus h = refl

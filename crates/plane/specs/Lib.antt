@@ -1,0 +1,17 @@
+pub mod Bit
+pub mod Conflict
+pub mod ConflictLaws
+pub mod Edge
+pub mod FreeSegment
+pub mod FreeSegmentLaws
+pub mod Height
+pub mod Order
+pub mod OrderLaws
+pub mod RayCrossing
+pub mod RayCrossingLaws
+pub mod Scale
+pub mod ScaleLaws
+pub mod Sector
+pub mod SectorLaws
+pub mod Sign
+pub mod Vector

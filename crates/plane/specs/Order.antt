@@ -1,0 +1,8 @@
+-- The order of points: by y, then by x.
+use lib.IntN.{◌-ℤ◌}
+use Rattle.plane.specs.Sign.{Sign, sign, then_sign}
+use Rattle.plane.specs.Vector.{Vector}
+
+-- Plus where q comes after p, Null where it is p, Minus where it comes before p
+abbrev pub order : Vector → Vector → Sign
+order p q = then_sign (sign (q.y -ℤ p.y)) (sign (q.x -ℤ p.x))
