@@ -1,11 +1,11 @@
 ghost use Rattle.std.specs.Prelude.{◌≡◌};
-ghost use Rattle.osm_geom.specs.Loc.{side};
-ghost use Rattle.osm_geom.specs.Conflict.{is_inside, is_along, overlaps, are_opposite, is_parted_by, is_touched_by, crosses, conflict_of};
+ghost use Rattle.plane.specs.Sign.{sign, are_opposite};
+ghost use Rattle.osm_geom.specs.Conflict.{are_overlapping, are_crossing, conflict_of};
+ghost use Rattle.osm_geom.specs.ConflictTests.{before, on_line, inside, along, touched_by, parted_by};
 
 use crate::loc::Loc;
 use crate::orientation::orient;
 use crate::seg::Seg;
-use std::cmp::Ordering;
 
 /// How two segments conflict.
 #[derive(Clone, Copy, Debug, PartialEq, Eq)]
@@ -16,54 +16,71 @@ pub enum Kind {
     Overlap,
 }
 
-// On which side of the line from `a` to `b` the third lies.
-#[tactic(auto, unfolding(crate::specs::Loc::side))]
-fn side(a: Loc, b: Loc, c: Loc) -> Ordering
-    ensures { result ≡ side a b c }
+#[tactic(auto, using(crate::proofs::LocationOrder::is_lt_before))]
+fn is_before(p: Loc, q: Loc) -> bool
+    ensures { result ≡ before p q }
 {
-    orient(a, b, c).cmp(&0)
+    p < q
 }
 
-fn is_inside(s: Seg, p: Loc) -> bool
-    ensures { result ≡ is_inside s p }
+#[tactic(auto, unfolding(crate::specs::ConflictTests::on_line, crate::specs::Loc::orientation))]
+fn is_on_line(p: Loc, s: Seg) -> bool
+    ensures { result ≡ on_line p s }
 {
-    side(s.a, s.b, p).is_eq() && s.a < p && p < s.b
+    orient(s.a, s.b, p) == 0
 }
 
+// One number is positive and the other negative.
+fn are_opposite(x: i128, y: i128) -> bool
+    ensures { result ≡ are_opposite (sign x) (sign y) }
+{
+    x > 0 && y < 0 || x < 0 && y > 0
+}
+
+// Whether `p` lies strictly between the ends of `s`.
+#[tactic(auto, unfolding(crate::specs::ConflictTests::inside, crate::specs::ConflictTests::on_line, crate::specs::ConflictTests::before))]
+fn is_inside(p: Loc, s: Seg) -> bool
+    ensures { result ≡ inside p s }
+{
+    is_on_line(p, s) && is_before(s.a, p) && is_before(p, s.b)
+}
+
+#[tactic(auto, unfolding(crate::specs::ConflictTests::along, crate::specs::ConflictTests::on_line))]
 fn is_along(s: Seg, t: Seg) -> bool
-    ensures { result ≡ is_along s t }
+    ensures { result ≡ along s t }
 {
-    side(s.a, s.b, t.a).is_eq() && side(s.a, s.b, t.b).is_eq()
+    is_on_line(t.a, s) && is_on_line(t.b, s)
 }
 
-fn overlaps(s: Seg, t: Seg) -> bool
-    ensures { result ≡ overlaps s t }
+#[tactic(auto, unfolding(crate::specs::Conflict::are_overlapping, crate::specs::ConflictTests::along, crate::specs::ConflictTests::before))]
+fn are_overlapping(s: Seg, t: Seg) -> bool
+    ensures { result ≡ are_overlapping s t }
 {
-    is_along(s, t) && is_along(t, s) && s.a.max(t.a) < s.b.min(t.b)
+    is_along(s, t) && is_along(t, s) && (is_before(s.a, t.b) && is_before(t.a, s.b))
 }
 
-fn are_opposite(o: Ordering, p: Ordering) -> bool
-    ensures { result ≡ are_opposite o p }
-{
-    o.is_lt() && p.is_gt() || o.is_gt() && p.is_lt()
-}
-
-fn is_parted_by(t: Seg, s: Seg) -> bool
-    ensures { result ≡ is_parted_by t s }
-{
-    are_opposite(side(s.a, s.b, t.a), side(s.a, s.b, t.b))
-}
-
+// Whether an end of `t` lies strictly inside `s`.
+#[tactic(auto, unfolding(crate::specs::ConflictTests::touched_by, crate::specs::ConflictTests::inside))]
 fn is_touched_by(s: Seg, t: Seg) -> bool
-    ensures { result ≡ is_touched_by s t }
+    ensures { result ≡ touched_by s t }
 {
-    is_inside(s, t.a) || is_inside(s, t.b)
+    is_inside(t.a, s) || is_inside(t.b, s)
 }
 
-fn crosses(s: Seg, t: Seg) -> bool
-    ensures { result ≡ crosses s t }
+// Whether the ends of `t` lie strictly on opposite sides of the line of `s`.
+#[tactic(auto, unfolding(crate::specs::ConflictTests::parted_by, crate::specs::Loc::orientation))]
+fn is_parted_by(t: Seg, s: Seg) -> bool
+    ensures { result ≡ parted_by t s }
 {
-    is_touched_by(s, t) || is_touched_by(t, s) || is_parted_by(t, s) && is_parted_by(s, t)
+    are_opposite(orient(s.a, s.b, t.a), orient(s.a, s.b, t.b))
+}
+
+#[tactic(auto, unfolding(crate::specs::Conflict::are_crossing, crate::specs::Conflict::are_overlapping, crate::specs::ConflictTests::touched_by, crate::specs::ConflictTests::parted_by))]
+fn are_crossing(s: Seg, t: Seg) -> bool
+    ensures { result ≡ are_crossing s t }
+{
+    !are_overlapping(s, t)
+        && (is_touched_by(s, t) || is_touched_by(t, s) || is_parted_by(t, s) && is_parted_by(s, t))
 }
 
 /// How two segments conflict, if they do. Two equal ones do not.
@@ -72,9 +89,9 @@ pub fn conflict(s: Seg, t: Seg) -> Option<Kind>
 {
     if s == t {
         None
-    } else if overlaps(s, t) {
+    } else if are_overlapping(s, t) {
         Some(Kind::Overlap)
-    } else if crosses(s, t) {
+    } else if are_crossing(s, t) {
         Some(Kind::Crossing)
     } else {
         None

@@ -3,6 +3,7 @@
 
 mod conflicts;
 mod frac;
+mod laws;
 mod lists;
 mod loc;
 mod orientation;
@@ -10,6 +11,7 @@ mod seg;
 
 pub use conflicts::{Kind, conflict};
 pub use frac::{Frac, round};
+pub use laws::{conflicts_are_symmetric, orders_are_exact};
 pub use lists::{Ids, Locs, Path, Segs};
 pub use loc::Loc;
 pub use orientation::orient;

@@ -1,5 +1,5 @@
 ghost use Rattle.std.specs.Prelude.{◌≡◌, ◌^◌, ◌<◌, ◌≤◌, ◌*◌, ◌*ℤ◌, ◌-ℤ◌, unsigned_abs};
-ghost use Rattle.osm_geom.specs.Loc.{orient};
+ghost use Rattle.osm_geom.specs.Loc.{orientation};
 
 use crate::loc::Loc;
 
@@ -41,9 +41,9 @@ pub fn cross(ux: i64, uy: i64, vx: i64, vy: i64) -> i128
 
 /// Twice the signed area of the triangle `a`, `b`, `c`: positive where `c` lies left of the line
 /// from `a` to `b`, negative where it lies right of it, and 0 on the line.
-#[tactic(auto, unfolding(crate::specs::Loc::orient))]
+#[tactic(auto, unfolding(crate::specs::Loc::orientation))]
 pub fn orient(a: Loc, b: Loc, c: Loc) -> i128
-    ensures value { result ≡ orient a b c }
+    ensures value { result ≡ orientation a b c }
     ensures small { unsigned_abs result < 2 ^ 64 }
 {
     cross(step_x(a, b), step_y(a, b), step_x(a, c), step_y(a, c))
