@@ -1,2 +1,9 @@
 pub mod Bounds
 pub mod Loc
+pub mod Seg
+pub mod Conflict
+pub mod ConflictTests
+pub mod Lowest
+pub mod Frac
+pub mod OrderLaws
+pub mod ConflictLaws

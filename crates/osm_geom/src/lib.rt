@@ -1,8 +1,18 @@
 //! Exact geometry over OpenStreetMap's coordinates, whole numbers in units of 1e-7 degree.
 #![tactic(auto)]
 
+mod conflicts;
+mod frac;
+mod laws;
 mod lists;
 mod loc;
+mod orientation;
+mod seg;
 
-pub use lists::{Ids, Locs, Path};
+pub use conflicts::{Kind, conflict};
+pub use frac::{Frac, round};
+pub use laws::{conflicts_are_symmetric, orders_are_exact};
+pub use lists::{Ids, Locs, Path, Segs};
 pub use loc::Loc;
+pub use orientation::orient;
+pub use seg::Seg;

@@ -1,8 +1,9 @@
-//! Lists of locations and of ids. Contracts see each as the list of its items.
+//! Lists of locations, of segments and of ids. Contracts see each as the list of its items.
 
 ghost use Rattle.std.specs.Prelude.{◌≡◌, ◌++◌, ◌∷◌, [], OnOk, OnErr};
 
 use crate::loc::Loc;
+use crate::seg::Seg;
 use std::alloc::{AllocError, Global};
 use std::marker::Model;
 
@@ -84,6 +85,48 @@ impl Locs {
 
     /// The items, in order.
     pub fn as_slice(&self) -> &[Loc]
+        ensures { result.now ≡ self.now }
+    {
+        self.items.as_slice()
+    }
+}
+
+/// A list of segments.
+#[derive(Debug, Drop)]
+pub struct Segs {
+    items: Vec<Seg>,
+}
+
+impl Model for Segs {
+    ghost use Rattle.std.specs.Prelude.{List};
+    ghost use Rattle.osm_geom.specs.declared.seg.Seg.{Seg};
+
+    ghost Value = { List Seg };
+
+    ghost view = { λ list. list.items.items };
+}
+
+impl Segs {
+    /// The empty list, which takes no memory.
+    pub fn new(alloc: Global) -> Segs
+        ensures { result ≡ [] }
+    {
+        Segs {
+            items: Vec::new(alloc),
+        }
+    }
+
+    /// Adds a segment at the end. After an `Err` the list is unchanged.
+    pub fn push(&mut self, item: Seg) -> Result<(), AllocError>
+        ensures ok { OnOk result (self.new ≡ self.old ++ item ∷ []) }
+        ensures err { OnErr result (self.new ≡ self.old) }
+    {
+        self.items.push(item)?;
+        Ok(())
+    }
+
+    /// The items, in order.
+    pub fn as_slice(&self) -> &[Seg]
         ensures { result.now ≡ self.now }
     {
         self.items.as_slice()

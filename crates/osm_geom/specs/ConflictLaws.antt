@@ -1,0 +1,8 @@
+-- The laws of conflicts, as statements.
+use Rattle.std.specs.Prelude.{◌≡◌}
+use Rattle.osm_geom.specs.declared.seg.Seg.{Seg}
+use Rattle.osm_geom.specs.Conflict.{conflict_of}
+
+-- a conflict does not depend on which segment is named first
+abbrev pub ConflictIsSymmetric : Type 0
+ConflictIsSymmetric = (s t : Seg) → conflict_of s t ≡ conflict_of t s

@@ -1,0 +1,6 @@
+//! Lists in strict order, and how often each item stands in a list.
+#![tactic(auto)]
+
+mod tally;
+
+pub use tally::{Tally, tallies};
