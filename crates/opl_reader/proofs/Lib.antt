@@ -14,3 +14,4 @@ pub mod PlaceLaws
 pub mod ItemLaws
 pub mod LineLaws
 pub mod FaultLaws
+pub mod AnswerLaws

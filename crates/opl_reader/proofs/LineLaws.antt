@@ -1,8 +1,6 @@
 -- A line is read as the object that it spells, and the other way round.
 use Rattle.std.proofs.Common.{◌≡◌, ◌≢◌, ℕ, ◌+◌, Bool, true, false, cond, eqb, ltb, leb, ◌&&◌, ◌||◌, ◌⊎◌, List, [], ◌∷◌, length, get_or, Option, Some, None, Result, Ok, Err, ℤ, pos, refl, sym, ap, subst, ◌∙◌, inl, inr, arith}
-use Rattle.std.specs.Prelude.{option_map, option_and_then, IfOk, IfErr, IfSome, IfNone}
-use Rattle.opl_reader.specs.declared.fault.LineError.{LineError}
-use Rattle.opl_reader.specs.declared.fault.LineError.TheVariants.{Fault, OutOfMemory}
+use Rattle.std.specs.Prelude.{option_map, option_and_then}
 use Rattle.std.specs.List.{list_all, list_any}
 use Rattle.std.specs.Str.{is_utf8}
 use Rattle.std.specs.Str.Lossy.{utf8_valid_len}
@@ -22,21 +20,21 @@ use Rattle.opl_reader.specs.declared.content.Content.{Content}
 use Rattle.opl_reader.specs.declared.coordinate.Longitude.{Longitude}
 use Rattle.opl_reader.specs.declared.coordinate.Latitude.{Latitude}
 use Rattle.opl_reader.proofs.PlaceLaws.{longitude_is, latitude_is, is_longitude, is_latitude, some_decimal}
-use Rattle.opl_reader.specs.Reading.{◌>>=◌, Fails, Gives, no_reading, or_fault}
+use Rattle.opl_reader.specs.Reading.{◌>>=◌, no_reading, or_fault}
 use Rattle.opl_reader.specs.Parts.{Part, without_cr, Lacks, Parted}
 use Rattle.opl_reader.specs.Numbers.{IsId, IsCount, IsNumber}
 use Rattle.opl_reader.specs.Items.{first_of_each, kind_of, IsTag, IsRef, IsMember}
 use Rattle.opl_reader.specs.Fields.{letter_of, nothing, object_of, IsFlag, Tells, FieldTells, Told, IsX, IsY}
-use Rattle.opl_reader.specs.NumberReading.{id_of, decimal_of, within, unsigned_of, is_count, is_number}
+use Rattle.opl_reader.specs.NumberReading.{id_of, decimal_of, is_count, is_number}
 use Rattle.opl_reader.specs.StringReading.{string_at}
 use Rattle.opl_reader.specs.ItemReading.{items, each, tag_at, ref_at, member_at, tags_at, refs_at, members_at}
 use Rattle.opl_reader.specs.FieldReading.{flag_of, with_value, with_field, with_fields, longitude, latitude, x_of, y_of}
 use Rattle.opl_reader.specs.LineReading.{head_at, object_at, fields_from, is_passed_over, reading_of, reading}
-use Rattle.opl_reader.specs.Spells.{Spells, IsPassedOver, HasNoReading, IsAside}
+use Rattle.opl_reader.specs.Spells.{Spells, IsPassedOver, IsAside}
 use Rattle.opl_reader.specs.Steps.{begins_passed}
 use Rattle.opl_reader.proofs.PartedLaws.{parted, is_parted}
 use Rattle.opl_reader.proofs.SpellingLaws.{map_some}
-use Rattle.opl_reader.proofs.DecimalLaws.{id_is, is_id, digits_are, are_digits, decimal_is, is_decimal}
+use Rattle.opl_reader.proofs.DecimalLaws.{id_is, is_id, digits_are, are_digits}
 use Rattle.opl_reader.proofs.ReadingLemmas.{Begins, is_read}
 use Rattle.opl_reader.proofs.ItemLaws.{bind_ok, or_fault_ok, string_ok, ok_string, items_are, are_items, tag_is, is_tag, ref_is, is_ref, member_is, is_member}
 
@@ -202,7 +200,7 @@ told_fields kind seen (f ∷ fields) c d t = rw (tells_field kind seen f.at f.by
 
 -- ---- lines
 
-head_is : (place : ℕ) (bytes : List ℕ) (head : ObjectKind × ℤ) → head_at place bytes ≡ Ok head → (letter : ℕ) × (digits : List ℕ) × (bytes ≡ letter ∷ digits) × (kind_of letter ≡ Some head.0) × IsId digits head.1
+pub head_is : (place : ℕ) (bytes : List ℕ) (head : ObjectKind × ℤ) → head_at place bytes ≡ Ok head → (letter : ℕ) × (digits : List ℕ) × (bytes ≡ letter ∷ digits) × (kind_of letter ≡ Some head.0) × IsId digits head.1
 unfolding head_at
 head_is place [] head e = absurd cc
 head_is place (letter ∷ digits) head e =
@@ -306,26 +304,3 @@ passed_read line (inr p) =
     let first : Part = record { at = p.place; bytes = p.letter ∷ p.rest } in
     let passed : is_passed_over first ≡ true = elim p.passed [ inl is ↦ or_left (eqb p.letter 35) (eqb p.letter 99) (eq-eqb _ _ is) | inr is ↦ or_right (eqb p.letter 35) (eqb p.letter 99) (eq-eqb _ _ is) ] in
     ap (reading_of (without_cr line)) (is_parted 0 (without_cr line) (first ∷ p.others) p.fields) ∙ rw passed refl
-
--- ---- as clauses
-
-pub clause-object : (line : List ℕ) (r : Result (Option Object) LineError) → Gives r (reading line) → IfOk r (λ o. IfSome o (λ x. Spells line x))
-clause-object line (Ok None) g = tt
-clause-object line (Ok (Some o)) g = read_spells line o g
-clause-object line (Err e) g = tt
-
-pub clause-passed : (line : List ℕ) (r : Result (Option Object) LineError) → Gives r (reading line) → IfOk r (λ o. IfNone o (IsPassedOver line))
-clause-passed line (Ok None) g = read_passed line g
-clause-passed line (Ok (Some o)) g = tt
-clause-passed line (Err e) g = tt
-
-no_reading_of : (line : List ℕ) (e : LineError) → Fails e (reading line) → HasNoReading line e
-no_reading_of line OutOfMemory g = tt
-no_reading_of line (Fault f) g = (λ o s. two_ways (Some o) f (sym (spells_read line o s) ∙ g), λ p. two_ways None f (sym (passed_read line p) ∙ g))
-  where
-    two_ways : (o : Option Object) (f : LineFault) → ◌≡◌ {A = Result (Option Object) LineFault} (Ok o) (Err f) → ⊥
-    two_ways o f e = cc
-
-pub clause-fault : (line : List ℕ) (r : Result (Option Object) LineError) → Gives r (reading line) → IfErr r (HasNoReading line)
-clause-fault line (Ok o) g = tt
-clause-fault line (Err e) g = no_reading_of line e g

@@ -1,14 +1,13 @@
 -- Parted by separators or commas, as the relation says and as the cutting gives.
-use Rattle.std.proofs.Common.{◌≡◌, ◌≢◌, ℕ, ◌+◌, ◌<◌, ◌≤◌, Bool, true, false, eqb, ◌||◌, ◌⊎◌, List, [], ◌∷◌, ◌++◌, length, get_or, refl, sym, ap, subst, ◌∙◌, inl, inr, arith}
+use Rattle.std.proofs.Common.{◌≡◌, ◌≢◌, ℕ, ◌+◌, ◌<◌, true, false, eqb, List, [], ◌∷◌, ◌++◌, length, refl, sym, ap, subst, ◌∙◌, inl, inr, arith}
 use Rattle.std.specs.List.{slice_split}
 use Rattle.std.proofs.lemmas.Bool.{cases_eq, eq-eqb, ne_eqb, or_left, or_right}
 use Rattle.std.proofs.lemmas.List.{append-nil}
 use Rattle.std.proofs.lemmas.List.Elements.{All-nil, All-cons}
 use Rattle.std.proofs.lemmas.List.Splits.{slice_split_none, slice_split_at}
-use Rattle.opl_reader.specs.Parts.{Part, part, Lacks, IsSeparator, LacksSeparators, EndsField, Parted, ends, separator, field, PartedByCommas, last, more}
+use Rattle.opl_reader.specs.Parts.{Part, part, IsSeparator, LacksSeparators, EndsField, Parted, ends, separator, field, PartedByCommas, last, more}
 use Rattle.opl_reader.specs.ItemReading.{is_comma}
 use Rattle.opl_reader.specs.LineReading.{is_separator, fields_from}
-use Rattle.opl_reader.specs.Steps.{with_part}
 use Rattle.opl_reader.proofs.LineLemmas.{fields-none, fields-separator, fields-cut, fields-last, field_comes}
 
 -- ---- fields

@@ -11,5 +11,6 @@ pub mod ItemReading
 pub mod FieldReading
 pub mod LineReading
 pub mod Spells
-pub mod FirstFault
+pub mod Faults
+pub mod OneAnswer
 pub mod Steps

@@ -1,8 +1,6 @@
 -- Which line spells which object, and which line is passed over.
 use Rattle.std.specs.Prelude.{◌≡◌, ℕ, ◌⊎◌, List, [], ◌∷◌, ℤ, Some}
 use Rattle.std.specs.Str.{IsUtf8}
-use Rattle.opl_reader.specs.declared.fault.LineError.{LineError}
-use Rattle.opl_reader.specs.declared.fault.LineError.TheVariants.{Fault, OutOfMemory}
 use Rattle.opl_reader.specs.declared.object.ObjectKind.{ObjectKind}
 use Rattle.opl_reader.specs.declared.object.Object.{Object}
 use Rattle.opl_reader.specs.declared.content.Content.{Content}
@@ -39,8 +37,3 @@ pub record IsAside (line : List ℕ) : Type 0 where
 -- Nothing stands in the line, or it is a comment or a changeset.
 abbrev pub IsPassedOver : List ℕ → Type 0
 IsPassedOver line = Parted 0 (without_cr line) [] ⊎ IsAside line
-
--- A line with a fault spells nothing and is not passed over.
-abbrev pub HasNoReading : List ℕ → LineError → Type 0
-HasNoReading line OutOfMemory = Unit {0}
-HasNoReading line (Fault f) = ((o : Object) → Spells line o → ⊥) × (IsPassedOver line → ⊥)

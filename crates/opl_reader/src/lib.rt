@@ -15,7 +15,7 @@ mod text;
 
 pub use escape::strings_are_spelled;
 pub use fault::{FaultKind, LineError, LineFault, fault_text};
-pub use line::{faults_are_first, read_line};
+pub use line::{lines_have_one_answer, read_line};
 pub use number::{read_decimal, read_id};
 pub use object::{Member, Members, Object, ObjectKind, ObjectRef, Refs, Tag, Tags};
 pub use text::Text;

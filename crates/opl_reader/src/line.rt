@@ -8,8 +8,9 @@ ghost use Rattle.opl_reader.specs.Parts.{Part, without_cr};
 ghost use Rattle.opl_reader.specs.Fields.{nothing};
 ghost use Rattle.opl_reader.specs.FieldReading.{with_field, with_fields};
 ghost use Rattle.opl_reader.specs.LineReading.{fields_from, head_at, reading};
-ghost use Rattle.opl_reader.specs.Spells.{Spells, IsPassedOver, HasNoReading};
-ghost use Rattle.opl_reader.specs.FirstFault.{FirstFault};
+ghost use Rattle.opl_reader.specs.Spells.{Spells, IsPassedOver};
+ghost use Rattle.opl_reader.specs.Faults.{HasFault, Explains};
+ghost use Rattle.opl_reader.specs.OneAnswer.{IsAnswer, HasAnswer, HasNoOther};
 ghost use Rattle.opl_reader.specs.Steps.{with_part, begins_passed, Marks};
 ghost use Rattle.opl_reader.specs.declared.object.Object.{Object};
 ghost use Rattle.std.specs.Str.{IsUtf8};
@@ -175,26 +176,27 @@ fn read(alloc: Global, line: &[u8]) -> Result<Option<Object>, LineError>
     Ok(Some(object_of(kind, id, content)))
 }
 
-/// Reads a line: an object, or None where the line is passed over.
+/// Reads a line of OPL, given without its LF: an object, or None for a line that is passed over, as one without fields, a comment or a changeset.
+///
+/// A line that has no reading gives its first fault. Bytes that aren't UTF-8 come before all other faults.
 pub fn read_line(alloc: Global, line: &[u8]) -> Result<Option<Object>, LineError>
-    // An object is one that the line spells.
+    // What comes is so.
     ensures object { IfOk result (λ o. IfSome o (λ x. Spells line.now x)) }
-    // None comes for a line that is passed over.
     ensures passed { IfOk result (λ o. IfNone o (IsPassedOver line.now)) }
-    // A fault comes for a line that spells nothing and is not passed over.
-    ensures fault { IfErr result (HasNoReading line.now) }
-    // What the line spells is what comes, unless memory runs out.
+    ensures fault { IfErr result (Explains line.now) }
+    // What is so comes, unless memory runs out.
     ensures spelled { (o : Object) → Spells line.now o → Gives result (Ok (Some o)) }
-    // A line that is passed over gives None, unless memory runs out.
     ensures skipped { IsPassedOver line.now → Gives result (Ok None) }
-    // Which fault it is, and where.
+    ensures refused { (x : LineFault) → HasFault line.now x → Gives result (Err x) }
+    // The same, as a function of the line.
     ensures exact { Gives result (reading line.now) }
 {
     read(alloc, line)
 }
 
-/// The fault of fields is that of the first one from the left that has no reading.
-pub fn faults_are_first()
-    ensures only { (kind : ObjectKind) (fields : List Part) (x : LineFault) → with_fields kind [] fields nothing ≡ Err x → FirstFault kind [] fields nothing x }
-    ensures comes { (kind : ObjectKind) (fields : List Part) (x : LineFault) → FirstFault kind [] fields nothing x → with_fields kind [] fields nothing ≡ Err x }
+/// Every line is passed over, or spells one object, or has one fault; this is what it is read as.
+pub fn lines_have_one_answer()
+    ensures reading { (line : List ℕ) → IsAnswer line }
+    ensures some { (line : List ℕ) → HasAnswer line }
+    ensures one { (line : List ℕ) → HasNoOther line }
 {}
