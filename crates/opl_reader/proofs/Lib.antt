@@ -1,0 +1,17 @@
+pub mod NumberLemmas
+pub mod CutLemmas
+pub mod EscapeLemmas
+pub mod StringLemmas
+pub mod ItemLemmas
+pub mod TagLemmas
+pub mod LineLemmas
+pub mod FieldLemmas
+pub mod ReadingLemmas
+pub mod PartedLaws
+pub mod SpellingLaws
+pub mod DecimalLaws
+pub mod PlaceLaws
+pub mod ItemLaws
+pub mod LineLaws
+pub mod FaultLaws
+pub mod AnswerLaws

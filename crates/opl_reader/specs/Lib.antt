@@ -1,0 +1,16 @@
+pub mod Reading
+pub mod Fault
+pub mod Parts
+pub mod Numbers
+pub mod Strings
+pub mod Items
+pub mod Fields
+pub mod NumberReading
+pub mod StringReading
+pub mod ItemReading
+pub mod FieldReading
+pub mod LineReading
+pub mod Spells
+pub mod Faults
+pub mod OneAnswer
+pub mod Steps

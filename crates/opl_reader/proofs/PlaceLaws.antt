@@ -1,0 +1,108 @@
+-- Coordinates: a number of units in range, and the decimal that spells it.
+use Rattle.std.proofs.Common.{◌≡◌, ℕ, ◌≤◌, Bool, true, false, leb, List, [], ◌∷◌, length, Some, None, ℤ, pos, nat_abs, ◌≤ℤ◌, refl, sym, ap, subst, ◌∙◌, arith}
+use Rattle.std.specs.Prelude.{option_and_then, unsigned_abs}
+use Rattle.std.proofs.lemmas.Bool.{le-leb, leb-true}
+use Rattle.std.proofs.lemmas.Option.{none-some}
+use Rattle.std.proofs.Props.{props}
+use mathlib.Core.HLevel.{is_prop→PathP}
+use Rattle.std.proofs.Common.{rules, w32, to_z, of_z}
+use Rattle.std.specs.Prelude.{FitsSigned}
+use Rattle.std.proofs.lemmas.Int.{to_z-of_z}
+use Rattle.osm_geom.specs.declared.loc.Loc.{Loc}
+use Rattle.opl_reader.specs.Fields.{place_of}
+use Rattle.osm_geom.specs.Bounds.{IsLongitude, IsLatitude}
+use Rattle.opl_reader.specs.declared.coordinate.Longitude.{Longitude}
+use Rattle.opl_reader.specs.declared.coordinate.Latitude.{Latitude}
+use Rattle.opl_reader.specs.Numbers.{IsDecimal}
+use Rattle.opl_reader.specs.NumberReading.{decimal_of, within, unsigned_of}
+use Rattle.opl_reader.specs.FieldReading.{where_true, longitude, latitude}
+use Rattle.opl_reader.proofs.SpellingLaws.{and_then_some}
+use Rattle.opl_reader.proofs.DecimalLaws.{decimal_is, is_decimal}
+
+where-holds : {A : Type 0} (b : Bool) (f : b ≡ true → A) (x : A) → b ≡ true → ((h : b ≡ true) → f h ≡ x) → where_true b f ≡ Some x
+where-holds true f x h e = ap (λ y. Some y) (e refl)
+where-holds false f x h e = absurd cc
+
+where-some : {A : Type 0} (b : Bool) (f : b ≡ true → A) (x : A) → where_true b f ≡ Some x → (h : b ≡ true) × (f h ≡ x)
+where-some true f x e = (refl, cc)
+where-some false f x e = absurd cc
+
+longitude_prop : (x : ℤ) → IsProp (IsLongitude x)
+longitude_prop x = hlevel props
+
+latitude_prop : (x : ℤ) → IsProp (IsLatitude x)
+latitude_prop x = hlevel props
+
+pub longitude-at : (z : ℤ) (l : Longitude) → l.units ≡ z → longitude z ≡ Some l
+longitude-at z l e =
+    ap longitude (sym e) ∙ where-holds (leb (unsigned_abs l.units) 1_800_000_000) (λ h. record { units = l.units; in_range = leb-true (unsigned_abs l.units) 1_800_000_000 h }) l (le-leb _ _ l.in_range)
+    (λ h. let made : IsLongitude l.units → Longitude = λ r. record { units = l.units; in_range = r } in ap made (longitude_prop l.units (leb-true (unsigned_abs l.units) 1_800_000_000 h) l.in_range))
+
+pub latitude-at : (z : ℤ) (l : Latitude) → l.units ≡ z → latitude z ≡ Some l
+latitude-at z l e =
+    ap latitude (sym e) ∙ where-holds (leb (unsigned_abs l.units) 900_000_000) (λ h. record { units = l.units; in_range = leb-true (unsigned_abs l.units) 900_000_000 h }) l (le-leb _ _ l.in_range)
+    (λ h. let made : IsLatitude l.units → Latitude = λ r. record { units = l.units; in_range = r } in ap made (latitude_prop l.units (leb-true (unsigned_abs l.units) 900_000_000 h) l.in_range))
+
+longitude-units : (z : ℤ) (l : Longitude) → longitude z ≡ Some l → z ≡ l.units
+longitude-units z l e = ap (λ (k : Longitude). k.units) (where-some (leb (unsigned_abs z) 1_800_000_000) (λ h. record { units = z; in_range = leb-true (unsigned_abs z) 1_800_000_000 h }) l e).1
+
+latitude-units : (z : ℤ) (l : Latitude) → latitude z ≡ Some l → z ≡ l.units
+latitude-units z l e = ap (λ (k : Latitude). k.units) (where-some (leb (unsigned_abs z) 900_000_000) (λ h. record { units = z; in_range = leb-true (unsigned_abs z) 900_000_000 h }) l e).1
+
+-- ---- the decimals that spell them
+
+pub longitude_is : (bytes : List ℕ) (l : Longitude) → option_and_then longitude (decimal_of (pos 1800000000) bytes) ≡ Some l → IsDecimal bytes l.units
+longitude_is bytes l e =
+    let a = and_then_some (decimal_of (pos 1800000000) bytes) longitude l e in
+    subst (IsDecimal bytes) (longitude-units a.0 l a.2) (decimal_is (pos 1800000000) bytes a.0 a.1).0
+
+pub latitude_is : (bytes : List ℕ) (l : Latitude) → option_and_then latitude (decimal_of (pos 900000000) bytes) ≡ Some l → IsDecimal bytes l.units
+latitude_is bytes l e =
+    let a = and_then_some (decimal_of (pos 900000000) bytes) latitude l e in
+    subst (IsDecimal bytes) (latitude-units a.0 l a.2) (decimal_is (pos 900000000) bytes a.0 a.1).0
+
+small : (z : ℤ) (m : ℕ) → unsigned_abs z ≤ m → pos (nat_abs z) ≤ℤ pos m
+small z m h = grind (arith, h)
+
+pub is_longitude : (bytes : List ℕ) (l : Longitude) → IsDecimal bytes l.units → option_and_then longitude (decimal_of (pos 1800000000) bytes) ≡ Some l
+is_longitude bytes l d = ap (option_and_then longitude) (is_decimal (pos 1800000000) bytes l.units d (small l.units 1800000000 l.in_range)) ∙ longitude-at l.units l refl
+
+pub is_latitude : (bytes : List ℕ) (l : Latitude) → IsDecimal bytes l.units → option_and_then latitude (decimal_of (pos 900000000) bytes) ≡ Some l
+is_latitude bytes l d = ap (option_and_then latitude) (is_decimal (pos 900000000) bytes l.units d (small l.units 900000000 l.in_range)) ∙ latitude-at l.units l refl
+
+no_decimal : (most : ℤ) → decimal_of most [] ≡ None
+unfolding decimal_of within unsigned_of
+no_decimal most = refl
+
+-- a decimal isn't empty
+pub some_decimal : (bytes : List ℕ) (z : ℤ) → IsDecimal bytes z → length bytes ≡ 0 → ⊥
+some_decimal [] z d none = none-some z (sym (no_decimal (pos (nat_abs z))) ∙ is_decimal (pos (nat_abs z)) [] z d (small z (nat_abs z) (omega arith)))
+some_decimal (b ∷ bytes) z d none = absurd (omega arith)
+
+-- ---- locations
+
+-- the facts of a location have one proof each, so its coordinates make it
+loc_from_fields : (p q : Loc) → p.x ≡ q.x → p.y ≡ q.y → p ≡ q
+loc_from_fields p q ex ey = λ i. record {
+  x = ex i;
+  y = ey i;
+  x_in = is_prop→PathP (λ j. IsLongitude (ex j)) (λ j. longitude_prop (ex j)) p.x_in q.x_in i;
+  y_in = is_prop→PathP (λ j. IsLatitude (ey j)) (λ j. latitude_prop (ey j)) p.y_in q.y_in i;
+}
+
+pub place-at : (x : Longitude) (y : Latitude) (l : Loc) → l.x ≡ x.units → l.y ≡ y.units → Some l ≡ place_of (Some x) (Some y)
+place-at x y l e f = ap (λ (p : Loc). Some p) (loc_from_fields l (record { x = x.units; y = y.units; x_in = x.in_range; y_in = y.in_range }) e f)
+
+-- ---- as the machine holds them
+
+longitude_fits : (z : ℤ) → IsLongitude z → FitsSigned w32 z
+longitude_fits z h = search (rules, h)
+
+latitude_fits : (z : ℤ) → IsLatitude z → FitsSigned w32 z
+latitude_fits z h = search (rules, h)
+
+pub longitude-held : (l : Longitude) → to_z w32 (of_z w32 l.units) ≡ l.units
+longitude-held l = to_z-of_z w32 l.units (longitude_fits l.units l.in_range)
+
+pub latitude-held : (l : Latitude) → to_z w32 (of_z w32 l.units) ≡ l.units
+latitude-held l = to_z-of_z w32 l.units (latitude_fits l.units l.in_range)

@@ -1,0 +1,74 @@
+-- Of equal keys the first alone, one tag more at a time.
+use Rattle.std.proofs.Common.{◌≡◌, ℕ, Bool, true, false, cond, not, ◌||◌, List, [], ◌∷◌, ◌++◌, refl, sym, ap, ◌∙◌, inl, inr}
+use Rattle.std.specs.List.{list_any, filter}
+use Rattle.std.specs.Str.{bytes_eq}
+use Rattle.std.proofs.lemmas.Bool.{cases_Bool, cond-true, cond-false, false_from_ne_true, or_parts, false≢true}
+use Rattle.std.proofs.lemmas.Slice.Eq.{bytes_eq-Decides}
+use Rattle.opl_reader.specs.declared.object.Tag.{Tag}
+use Rattle.opl_reader.specs.Items.{first_of_each}
+use Rattle.opl_reader.specs.Steps.{kept_with}
+
+-- a tag has this key
+abbrev pub has_this : List ℕ → Tag → Bool
+has_this key t = bytes_eq t.key key
+
+abbrev without : List ℕ → List Tag → List Tag
+without key tags = filter (λ u. not (bytes_eq u.key key)) tags
+
+same_key : (a b : List ℕ) → bytes_eq a b ≡ true → a ≡ b
+same_key a b e = (bytes_eq-Decides a b).0 e
+
+other_way : (a b : List ℕ) → bytes_eq a b ≡ false → bytes_eq b a ≡ false
+other_way a b e = false_from_ne_true (bytes_eq b a) (λ t. false≢true (sym e ∙ (bytes_eq-Decides a b).1 (sym (same_key b a t))))
+
+-- what goes has another key than this
+any-without : (gone key : List ℕ) (tags : List Tag) → bytes_eq gone key ≡ false → list_any (has_this key) (without gone tags) ≡ list_any (has_this key) tags
+any-without gone key [] ne = refl
+any-without gone key (t ∷ tags) ne =
+    elim (cases_Bool (bytes_eq t.key gone)) [
+      | inl e ↦
+          let k : bytes_eq t.key key ≡ false = ap (λ (x : List ℕ). bytes_eq x key) (same_key t.key gone e) ∙ ne in
+          rw (e, k) (any-without gone key tags ne)
+      | inr e ↦ rw e (ap (λ (b : Bool). bytes_eq t.key key || b) (any-without gone key tags ne))
+    ]
+
+without-push-gone : (gone : List ℕ) (tags : List Tag) (t : Tag) → bytes_eq t.key gone ≡ true → without gone (tags ++ t ∷ []) ≡ without gone tags
+without-push-gone gone [] t e = rw e refl
+without-push-gone gone (u ∷ tags) t e = ap (λ (r : List Tag). cond (not (bytes_eq u.key gone)) (u ∷ r) r) (without-push-gone gone tags t e)
+
+without-push-kept : (gone : List ℕ) (tags : List Tag) (t : Tag) → bytes_eq t.key gone ≡ false → without gone (tags ++ t ∷ []) ≡ without gone tags ++ t ∷ []
+without-push-kept gone [] t e = rw e refl
+without-push-kept gone (u ∷ tags) t e =
+    elim (cases_Bool (bytes_eq u.key gone)) [
+      | inl k ↦ rw k (without-push-kept gone tags t e)
+      | inr k ↦ rw k (ap (λ (r : List Tag). u ∷ r) (without-push-kept gone tags t e))
+    ]
+
+pub push-new : (tags : List Tag) (t : Tag) → list_any (has_this t.key) (first_of_each tags) ≡ false → first_of_each (tags ++ t ∷ []) ≡ first_of_each tags ++ t ∷ []
+push-new [] t h = refl
+push-new (u ∷ tags) t h =
+    let parts = or_parts (bytes_eq u.key t.key) (list_any (has_this t.key) (without u.key (first_of_each tags))) h in
+    let none : list_any (has_this t.key) (first_of_each tags) ≡ false = sym (any-without u.key t.key (first_of_each tags) parts.0) ∙ parts.1 in
+    ap (λ (r : List Tag). u ∷ r) (ap (without u.key) (push-new tags t none) ∙ without-push-kept u.key (first_of_each tags) t (other_way u.key t.key parts.0))
+
+pub push-old : (tags : List Tag) (t : Tag) → list_any (has_this t.key) (first_of_each tags) ≡ true → first_of_each (tags ++ t ∷ []) ≡ first_of_each tags
+push-old [] t h = absurd (false≢true h)
+push-old (u ∷ tags) t h =
+    ap (λ (r : List Tag). u ∷ r) (elim (cases_Bool (bytes_eq u.key t.key)) [
+      | inl e ↦
+          let gone : bytes_eq t.key u.key ≡ true = (bytes_eq-Decides t.key u.key).1 (sym (same_key u.key t.key e)) in
+          elim (cases_Bool (list_any (has_this t.key) (first_of_each tags))) [
+            | inl in_tags ↦ ap (without u.key) (push-old tags t in_tags)
+            | inr new_one ↦ ap (without u.key) (push-new tags t new_one) ∙ without-push-gone u.key (first_of_each tags) t gone
+          ]
+      | inr ne ↦
+          let some : list_any (has_this t.key) (without u.key (first_of_each tags)) ≡ true = sym (ap (λ (b : Bool). b || list_any (has_this t.key) (without u.key (first_of_each tags))) ne) ∙ h in
+          ap (without u.key) (push-old tags t (sym (any-without u.key t.key (first_of_each tags) ne) ∙ some))
+    ])
+
+pub push-kept : (front : List Tag) (t : Tag) → kept_with (first_of_each front) t ≡ first_of_each (front ++ t ∷ [])
+push-kept front t =
+    elim (cases_Bool (list_any (has_this t.key) (first_of_each front))) [
+      | inl old ↦ cond-true _ (first_of_each front) (first_of_each front ++ t ∷ []) old ∙ sym (push-old front t old)
+      | inr new_one ↦ cond-false _ (first_of_each front) (first_of_each front ++ t ∷ []) new_one ∙ sym (push-new front t new_one)
+    ]

@@ -1,0 +1,11 @@
+use Rattle.std.specs.Option.{option_copied}
+use Rattle.opl_reader.specs.ItemReading.{member_at}
+use Rattle.opl_reader.specs.Steps.{left_len}
+use Rattle.opl_reader.proofs.ItemLemmas.{ItemsTo}
+use Rattle.opl_reader.proofs.items.read_members.Given as goal
+
+abbrev pub invariant-loop-left : goal.invariant-loop-left
+invariant-loop-left l = ItemsTo member_at l.members l.at l.left l.place l.text
+
+abbrev pub decreases-loop-left : goal.decreases-loop-left
+decreases-loop-left l = left_len (option_copied l.left)

@@ -1,0 +1,93 @@
+-- Fields: what a letter stands for, and what a field says of an object.
+use Rattle.std.specs.Prelude.{◌≡◌, ℕ, ◌⊎◌, Bool, true, false, ◌||◌, ◌==◌, if◌then◌else◌, List, [], ◌∷◌, ℤ, Option, Some, None, option_and_then, slice_index}
+use Rattle.osm_tables.specs.declared.Row.{Row}
+use Rattle.osm_tables.specs.declared.TheConstants.{NODE_FIELDS, WAY_FIELDS, RELATION_FIELDS}
+use Rattle.osm_tables.specs.Tables.{code_of}
+use Rattle.osm_geom.specs.declared.loc.Loc.{Loc}
+use Rattle.opl_reader.specs.declared.object.Tag.{Tag}
+use Rattle.opl_reader.specs.declared.object.Member.{Member}
+use Rattle.opl_reader.specs.declared.object.ObjectKind.{ObjectKind}
+use Rattle.opl_reader.specs.declared.object.ObjectKind.TheVariants.{Node, Way, Relation}
+use Rattle.opl_reader.specs.declared.object.Object.{Object}
+use Rattle.opl_reader.specs.declared.object.Object.TheVariants as object
+use Rattle.opl_reader.specs.declared.field.Meaning.{Meaning}
+use Rattle.opl_reader.specs.declared.field.Meaning.TheVariants.{Count, Flag, Anything, Name, X, Y, Tagged, Referring, Having}
+use Rattle.opl_reader.specs.declared.content.Content.{Content}
+use Rattle.opl_reader.specs.declared.coordinate.Longitude.{Longitude}
+use Rattle.opl_reader.specs.declared.coordinate.Latitude.{Latitude}
+use Rattle.opl_reader.specs.Parts.{Part, Lacks}
+use Rattle.opl_reader.specs.Numbers.{IsNumber, IsDecimal}
+use Rattle.opl_reader.specs.Strings.{IsString}
+use Rattle.opl_reader.specs.Items.{IsItems, IsTag, IsRef, IsMember, first_of_each}
+
+-- ---- letters
+
+-- the table of a kind of object
+abbrev pub table_of : ObjectKind → List Row
+table_of Node = NODE_FIELDS
+table_of Way = WAY_FIELDS
+table_of Relation = RELATION_FIELDS
+
+-- what a code of the tables stands for; 0 for no field
+abbrev pub meaning_of : ℕ → Option Meaning
+meaning_of code = if code == 1 then Some Tagged else (if code == 2 || code == 4 || code == 7 then Some Count else (if code == 3 then Some Flag else (if code == 5 then Some Anything else (if code == 6 then Some Name else (if code == 8 then Some X else (if code == 9 then Some Y else (if code == 10 then Some Referring else (if code == 11 then Some Having else None))))))))
+
+-- what a letter means for a kind of object
+unfoldable pub letter_of : ObjectKind → ℕ → Option Meaning
+letter_of kind letter = option_and_then meaning_of (code_of (table_of kind) letter)
+
+-- ---- content
+
+-- what is known of an object before its fields: it is live, and nothing else stands
+abbrev pub nothing : Content
+nothing = record { live = true; x = None; y = None; tags = []; refs = []; members = [] }
+
+-- a location, where both coordinates are there
+abbrev pub place_of : Option Longitude → Option Latitude → Option Loc
+place_of None y = None
+place_of (Some x) None = None
+place_of (Some x) (Some y) = Some (record { x = x.units; y = y.units; x_in = x.in_range; y_in = y.in_range })
+
+-- the object of a kind, an id and a content
+abbrev pub object_of : ObjectKind → ℤ → Content → Object
+object_of Node id c = object.Node id c.live c.tags (place_of c.x c.y)
+object_of Way id c = object.Way id c.live c.tags c.refs
+object_of Relation id c = object.Relation id c.live c.tags c.members
+
+-- ---- values
+
+-- V for a live object, D for a deleted one
+abbrev pub IsFlag : List ℕ → Bool → Type 0
+IsFlag bytes live = ((bytes ≡ 86 ∷ []) × (live ≡ true)) ⊎ ((bytes ≡ 68 ∷ []) × (live ≡ false))
+
+-- empty, or the decimal of a longitude
+abbrev pub IsX : List ℕ → Option Longitude → Type 0
+IsX bytes x = ((bytes ≡ []) × (x ≡ None)) ⊎ ((l : Longitude) × IsDecimal bytes l.units × (x ≡ Some l))
+
+-- empty, or the decimal of a latitude
+abbrev pub IsY : List ℕ → Option Latitude → Type 0
+IsY bytes y = ((bytes ≡ []) × (y ≡ None)) ⊎ ((l : Latitude) × IsDecimal bytes l.units × (y ≡ Some l))
+
+-- a field of this meaning with this value makes d of the content c
+abbrev pub Tells : Meaning → List ℕ → Content → Content → Type 0
+Tells Count value c d = IsNumber value × (c ≡ d)
+Tells Flag value c d = (live : Bool) × IsFlag value live × (record c { live = live } ≡ d)
+Tells Anything value c d = c ≡ d
+Tells Name value c d = (name : List ℕ) × IsString value name × (c ≡ d)
+Tells X value c d = (x : Option Longitude) × IsX value x × (record c { x = x } ≡ d)
+Tells Y value c d = (y : Option Latitude) × IsY value y × (record c { y = y } ≡ d)
+Tells Tagged value c d = (tags : List Tag) × IsItems IsTag value tags × (record c { tags = first_of_each tags } ≡ d)
+Tells Referring value c d = (refs : List ℤ) × IsItems IsRef value refs × (record c { refs = refs } ≡ d)
+Tells Having value c d = (members : List Member) × IsItems IsMember value members × (record c { members = members } ≡ d)
+
+-- ---- fields
+
+-- a field is a letter that has a meaning and wasn't seen before, and a value
+abbrev pub FieldTells : ObjectKind → List ℕ → List ℕ → Content → Content → Type 0
+FieldTells kind seen [] c d = ⊥
+FieldTells kind seen (letter ∷ value) c d = (meaning : Meaning) × (letter_of kind letter ≡ Some meaning) × Lacks letter seen × Tells meaning value c d
+
+-- the fields from left to right make d of the content c
+abbrev pub Told : ObjectKind → List ℕ → List Part → Content → Content → Type 0
+Told kind seen [] c d = c ≡ d
+Told kind seen (f ∷ fields) c d = (e : Content) × FieldTells kind seen f.bytes c e × Told kind (slice_index f.bytes 0 ∷ seen) fields e d

@@ -1,0 +1,78 @@
+-- Items as functions of their bytes, each with the byte at which it begins.
+use Rattle.std.specs.Prelude.{ℕ, ◌+◌, Bool, ◌==◌, nat_lt, if◌then◌else◌, List, [], ◌∷◌, length, ℤ, Option, Some, None, option_map, option_and_then, Result, Ok}
+use Rattle.std.specs.List.{slice_split, position_or_len, before_first, after_first}
+use Rattle.opl_reader.specs.declared.fault.FaultKind.TheVariants.{BadTag, BadReference, BadMember}
+use Rattle.opl_reader.specs.declared.fault.LineFault.{LineFault}
+use Rattle.opl_reader.specs.declared.object.Tag.{Tag}
+use Rattle.opl_reader.specs.declared.object.Member.{Member}
+use Rattle.opl_reader.specs.declared.object.ObjectKind.{ObjectKind}
+use Rattle.opl_reader.specs.Reading.{◌>>=◌, or_fault}
+use Rattle.opl_reader.specs.Parts.{Part, part}
+use Rattle.opl_reader.specs.Items.{kind_of, first_of_each}
+use Rattle.opl_reader.specs.NumberReading.{id_of}
+use Rattle.opl_reader.specs.StringReading.{string_at}
+
+-- the parts of a text that begins at a byte; one byte stands between two of them
+abbrev pub placed : ℕ → List (List ℕ) → List Part
+placed at [] = []
+placed at (bytes ∷ more) = part at bytes ∷ placed (at + length bytes + 1) more
+
+abbrev pub is_comma : ℕ → Bool
+is_comma b = b == 44
+
+-- none where nothing stands; otherwise what stands between commas
+unfoldable pub items : ℕ → List ℕ → List Part
+items at bytes = placed at (if length bytes == 0 then [] else slice_split is_comma bytes)
+
+-- each part is read, and the first that has no reading gives the fault
+abbrev pub each : {A : Type 0} → (ℕ → List ℕ → Result A LineFault) → List Part → Result (List A) LineFault
+each read [] = Ok []
+each read (p ∷ parts) = read p.at p.bytes >>= λ x. each read parts >>= λ xs. Ok (x ∷ xs)
+
+-- what stands before the first such byte, and what behind it
+abbrev pub halves : ℕ → List ℕ → Option (List ℕ × List ℕ)
+halves byte bytes = if nat_lt (position_or_len (λ b. b == byte) bytes) (length bytes) then Some (before_first (λ b. b == byte) bytes, after_first (λ b. b == byte) bytes) else None
+
+-- ---- tags
+
+-- key=value
+unfoldable pub tag_at : ℕ → List ℕ → Result Tag LineFault
+tag_at place bytes = do
+  parts ← or_fault BadTag place (halves 61 bytes)
+  key ← string_at place parts.0
+  value ← string_at place parts.1
+  Ok (record { key = key; value = value })
+
+unfoldable pub tags_at : ℕ → List ℕ → Result (List Tag) LineFault
+tags_at place bytes = each tag_at (items place bytes) >>= λ tags. Ok (first_of_each tags)
+
+-- ---- references
+
+-- n and an id
+unfoldable pub ref_of : List ℕ → Option ℤ
+ref_of [] = None
+ref_of (b ∷ bytes) = if b == 110 then id_of bytes else None
+
+unfoldable pub ref_at : ℕ → List ℕ → Result ℤ LineFault
+ref_at place bytes = or_fault BadReference place (ref_of bytes)
+
+unfoldable pub refs_at : ℕ → List ℕ → Result (List ℤ) LineFault
+refs_at place bytes = each ref_at (items place bytes)
+
+-- ---- members
+
+-- a letter and an id
+unfoldable pub target_of : List ℕ → Option (ObjectKind × ℤ)
+target_of [] = None
+target_of (b ∷ bytes) = option_and_then (λ kind. option_map (λ id. (kind, id)) (id_of bytes)) (kind_of b)
+
+-- a target, @ and a role
+unfoldable pub member_at : ℕ → List ℕ → Result Member LineFault
+member_at place bytes = do
+  parts ← or_fault BadMember place (halves 64 bytes)
+  target ← or_fault BadMember place (target_of parts.0)
+  role ← string_at place parts.1
+  Ok (record { kind = target.0; id = target.1; role = role })
+
+unfoldable pub members_at : ℕ → List ℕ → Result (List Member) LineFault
+members_at place bytes = each member_at (items place bytes)

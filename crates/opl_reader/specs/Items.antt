@@ -1,0 +1,68 @@
+-- Values that are lists of items: tags, references and members.
+use Rattle.std.specs.Prelude.{◌≡◌, ℕ, ◌<◌, ◌⊎◌, not, ◌==◌, if◌then◌else◌, List, [], ◌∷◌, ◌++◌, length, ℤ, Option, Some, None}
+use Rattle.std.specs.List.{filter}
+use Rattle.std.specs.Str.{bytes_eq}
+use Rattle.opl_reader.specs.declared.object.Tag.{Tag}
+use Rattle.opl_reader.specs.declared.object.Member.{Member}
+use Rattle.opl_reader.specs.declared.object.ObjectKind.{ObjectKind}
+use Rattle.opl_reader.specs.declared.object.ObjectKind.TheVariants.{Node, Way, Relation}
+use Rattle.opl_reader.specs.Parts.{Lacks, PartedByCommas}
+use Rattle.opl_reader.specs.Numbers.{IsId}
+use Rattle.opl_reader.specs.Strings.{IsString}
+
+-- each part spells the value in its place
+abbrev pub Each : {A : Type 0} → (List ℕ → A → Type 0) → List (List ℕ) → List A → Type 0
+Each spells [] [] = Unit {0}
+Each spells [] (x ∷ xs) = ⊥
+Each spells (part ∷ parts) [] = ⊥
+Each spells (part ∷ parts) (x ∷ xs) = spells part x × Each spells parts xs
+
+-- items that commas part
+pub record AreItems {A : Type 0} (spells : List ℕ → A → Type 0) (bytes : List ℕ) (xs : List A) : Type 0 where
+  pub some : 0 < length bytes
+  pub parts : List (List ℕ)
+  pub parted : PartedByCommas bytes parts
+  pub spelled : Each spells parts xs
+
+-- no items where the value is empty, else those that commas part
+abbrev pub IsItems : {A : Type 0} → (List ℕ → A → Type 0) → List ℕ → List A → Type 0
+IsItems spells bytes xs = ((bytes ≡ []) × (xs ≡ [])) ⊎ AreItems spells bytes xs
+
+-- ---- tags
+
+-- key=value, cut at the first =
+pub record IsTag (bytes : List ℕ) (t : Tag) : Type 0 where
+  pub key : List ℕ
+  pub value : List ℕ
+  pub parts : bytes ≡ key ++ 61 ∷ value
+  pub first : Lacks 61 key
+  pub key_is : IsString key t.key
+  pub value_is : IsString value t.value
+
+-- of equal keys the first alone
+abbrev pub first_of_each : List Tag → List Tag
+first_of_each [] = []
+first_of_each (t ∷ tags) = t ∷ filter (λ u. not (bytes_eq u.key t.key)) (first_of_each tags)
+
+-- ---- references
+
+-- n and an id
+abbrev pub IsRef : List ℕ → ℤ → Type 0
+IsRef bytes id = (digits : List ℕ) × (bytes ≡ 110 ∷ digits) × IsId digits id
+
+-- ---- members
+
+-- the kind of object that n, w or r stands for
+abbrev pub kind_of : ℕ → Option ObjectKind
+kind_of b = if b == 110 then Some Node else (if b == 119 then Some Way else (if b == 114 then Some Relation else None))
+
+-- a letter and an id, cut at the first @ from the role
+pub record IsMember (bytes : List ℕ) (m : Member) : Type 0 where
+  pub letter : ℕ
+  pub digits : List ℕ
+  pub role : List ℕ
+  pub parts : bytes ≡ (letter ∷ digits) ++ 64 ∷ role
+  pub first : Lacks 64 (letter ∷ digits)
+  pub kind_is : kind_of letter ≡ Some m.kind
+  pub id_is : IsId digits m.id
+  pub role_is : IsString role m.role

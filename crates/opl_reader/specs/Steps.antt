@@ -1,0 +1,48 @@
+-- Words that contracts of private functions alone cite: one step of a reading.
+use Rattle.std.specs.Prelude.{◌≡◌, ℕ, ◌+◌, ◌-◌, ◌^◌, ◌<◌, min, Bool, true, false, ◌==◌, if◌then◌else◌, List, [], ◌∷◌, ◌++◌, length, slice_index_or, Option, Some, None}
+use Rattle.std.specs.List.{slice_split, list_any}
+use Rattle.std.specs.Str.{bytes_eq}
+use Rattle.opl_reader.specs.declared.object.Tag.{Tag}
+use Rattle.opl_reader.specs.Parts.{Part, part}
+use Rattle.opl_reader.specs.ItemReading.{is_comma}
+use Rattle.opl_reader.specs.LineReading.{is_passed_over}
+
+-- a value as far as the machine counts
+abbrev pub capped : ℕ → ℕ
+capped n = min n (2 ^ 64 - 1)
+
+-- ---- items
+
+-- the text of a value in which something stands
+abbrev pub all_left : List ℕ → Option (List ℕ)
+all_left text = if length text == 0 then None else Some text
+
+-- the items in what is left
+abbrev pub left_parts : Option (List ℕ) → List (List ℕ)
+left_parts None = []
+left_parts (Some rest) = slice_split is_comma rest
+
+-- the length of what is left, with the comma before it
+abbrev pub left_len : Option (List ℕ) → ℕ
+left_len None = 0
+left_len (Some rest) = length rest + 1
+
+-- the tags with one more, unless one with its key is there
+abbrev pub kept_with : List Tag → Tag → List Tag
+kept_with tags t = if list_any (λ u. bytes_eq u.key t.key) tags then tags else tags ++ t ∷ []
+
+-- ---- fields
+
+-- the flags mark these letters and no others
+abbrev pub Marks : List Bool → List ℕ → Type 0
+Marks seen letters = (length seen ≡ 256) × ((k : ℕ) → k < 256 → slice_index_or seen k false ≡ list_any (λ s. s == k) letters)
+
+-- a part, where something stands in it, before the fields behind it
+abbrev pub with_part : ℕ → List ℕ → List Part → List Part
+with_part place [] fields = fields
+with_part place (b ∷ bytes) fields = part place (b ∷ bytes) ∷ fields
+
+-- whether the first of these fields lets the line be passed over
+abbrev pub begins_passed : List Part → Bool
+begins_passed [] = true
+begins_passed (first ∷ others) = is_passed_over first

@@ -1,0 +1,79 @@
+//! Why a line has no reading.
+
+ghost use Rattle.std.specs.Prelude.{◌≡◌};
+ghost use Rattle.opl_reader.specs.declared.fault.LineError.TheVariants.{OutOfMemory};
+ghost use Rattle.opl_reader.specs.Fault.{text_of};
+
+use std::alloc::{AllocError, AllocFailed};
+
+/// What is wrong with a line.
+#[derive(Clone, Copy, Debug, PartialEq, Eq)]
+pub enum FaultKind {
+    NotUtf8,
+    UnknownObject,
+    UnknownField,
+    RepeatedField,
+    BadNumber,
+    BadFlag,
+    BadCoordinate,
+    BadEscape,
+    BadTag,
+    BadReference,
+    BadMember,
+}
+
+/// What a report calls a fault of this kind.
+pub fn fault_text(kind: FaultKind) -> &'static str
+    ensures { result.now ≡ text_of kind }
+{
+    match kind {
+        FaultKind::NotUtf8 => "not utf-8",
+        FaultKind::UnknownObject => "unknown object",
+        FaultKind::UnknownField => "unknown field",
+        FaultKind::RepeatedField => "repeated field",
+        FaultKind::BadNumber => "bad number",
+        FaultKind::BadFlag => "bad flag",
+        FaultKind::BadCoordinate => "bad coordinate",
+        FaultKind::BadEscape => "bad escape",
+        FaultKind::BadTag => "bad tag",
+        FaultKind::BadReference => "bad reference",
+        FaultKind::BadMember => "bad member",
+    }
+}
+
+/// The first fault of a line, and the byte of the line at which it stands, from 0.
+#[derive(Clone, Copy, Debug, PartialEq, Eq)]
+pub struct LineFault {
+    pub kind: FaultKind,
+    pub place: u64,
+}
+
+/// Why a line gave no answer: it has no reading, or memory ran out.
+#[derive(Debug, Drop)]
+pub enum LineError {
+    Fault(LineFault),
+    OutOfMemory,
+}
+
+impl From<AllocError> for LineError {
+    ghost from_gives = { λ _ e. e ≡ OutOfMemory };
+
+    fn from(_e: AllocError) -> LineError {
+        LineError::OutOfMemory
+    }
+}
+
+impl<T: Drop> From<AllocFailed<T>> for LineError {
+    ghost from_gives = { λ _ e. e ≡ OutOfMemory };
+
+    fn from(_e: AllocFailed<T>) -> LineError {
+        LineError::OutOfMemory
+    }
+}
+
+/// The fault of this kind at this place.
+pub fn fault(kind: FaultKind, place: u64) -> LineError
+    ensures { result ≡ LineError.Fault (record { kind = kind; place = place }) }
+{
+    LineError::Fault(LineFault { kind, place })
+}

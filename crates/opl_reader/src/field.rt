@@ -1,0 +1,192 @@
+//! The fields of an object: a letter, and a value that is read by its letter.
+
+ghost use Rattle.std.specs.Prelude.{◌≡◌, ◌+◌, ◌^◌, ◌<◌, pos, length, option_and_then};
+ghost use Rattle.std.specs.List.{list_all};
+ghost use Rattle.std.specs.Char.{is_ascii_digit};
+ghost use Rattle.opl_reader.specs.Reading.{Gives};
+ghost use Rattle.opl_reader.specs.Fields.{meaning_of, letter_of};
+ghost use Rattle.opl_reader.specs.NumberReading.{is_count, is_number, decimal_of};
+ghost use Rattle.opl_reader.specs.FieldReading.{flag_of, longitude, latitude, x_of, y_of, with_value};
+
+use crate::content::Content;
+use crate::coordinate::{Latitude, Longitude};
+use crate::escape::read_string;
+use crate::fault::{FaultKind, LineError, fault};
+use crate::items::{read_members, read_refs, read_tags};
+use crate::number::decimal;
+use crate::object::ObjectKind;
+use osm_tables::{node_field, relation_field, way_field};
+use std::alloc::Global;
+
+/// What a field's letter stands for.
+#[derive(Clone, Copy, Debug, PartialEq, Eq)]
+pub enum Meaning {
+    /// A number that isn't kept: v, c or i.
+    Count,
+    /// Whether the object is live: d.
+    Flag,
+    /// Bytes that aren't kept: t.
+    Anything,
+    /// A string that isn't kept: u.
+    Name,
+    /// The longitude of a node: x.
+    X,
+    /// The latitude of a node: y.
+    Y,
+    /// The tags: T.
+    Tagged,
+    /// The references of a way: N.
+    Referring,
+    /// The members of a relation: M.
+    Having,
+}
+
+/// What a code of the field tables stands for, None for no field.
+fn meaning_of(code: u16) -> Option<Meaning>
+    ensures { result ≡ meaning_of code }
+{
+    match code {
+        1 => Some(Meaning::Tagged),
+        2 | 4 | 7 => Some(Meaning::Count),
+        3 => Some(Meaning::Flag),
+        5 => Some(Meaning::Anything),
+        6 => Some(Meaning::Name),
+        8 => Some(Meaning::X),
+        9 => Some(Meaning::Y),
+        10 => Some(Meaning::Referring),
+        11 => Some(Meaning::Having),
+        _ => None,
+    }
+}
+
+/// What a letter means for a kind of object, None where it means nothing.
+#[tactic(auto, unfolding(crate::specs::Fields::letter_of))]
+pub fn letter_of(kind: ObjectKind, letter: u8) -> Option<Meaning>
+    ensures { result ≡ letter_of kind letter }
+{
+    let code = match kind {
+        ObjectKind::Node => node_field(letter),
+        ObjectKind::Way => way_field(letter),
+        ObjectKind::Relation => relation_field(letter),
+    }?;
+    meaning_of(code)
+}
+
+fn are_digits(bytes: &[u8]) -> bool
+    ensures { result ≡ list_all is_ascii_digit bytes.now }
+{
+    bytes.iter().all(|b| b.is_ascii_digit())
+}
+
+/// 1 to 19 digits.
+fn is_count(digits: &[u8]) -> bool
+    ensures { result ≡ is_count digits.now }
+{
+    !digits.is_empty() && digits.len() <= 19 && are_digits(digits)
+}
+
+/// Nothing, or an optional minus and a count.
+#[tactic(auto, unfolding(crate::specs::NumberReading::is_number))]
+fn is_number(bytes: &[u8]) -> bool
+    ensures { result ≡ is_number bytes.now }
+{
+    match bytes {
+        [] => true,
+        [b'-', digits @ ..] => is_count(digits),
+        digits => is_count(digits),
+    }
+}
+
+/// Whether the object is live: V says so, D that it was deleted.
+#[tactic(auto, unfolding(crate::specs::FieldReading::flag_of))]
+fn flag_of(bytes: &[u8]) -> Option<bool>
+    ensures { result ≡ flag_of bytes.now }
+{
+    match bytes {
+        [b'V'] => Some(true),
+        [b'D'] => Some(false),
+        _ => None,
+    }
+}
+
+/// The longitude of a decimal.
+fn longitude(bytes: &[u8]) -> Option<Longitude>
+    ensures { result ≡ option_and_then longitude (decimal_of (pos 1800000000) bytes.now) }
+{
+    let units = decimal(bytes, 1_800_000_000)?;
+    Some(Longitude {
+        units: units as i32,
+    })
+}
+
+/// The latitude of a decimal.
+fn latitude(bytes: &[u8]) -> Option<Latitude>
+    ensures { result ≡ option_and_then latitude (decimal_of (pos 900000000) bytes.now) }
+{
+    let units = decimal(bytes, 900_000_000)?;
+    Some(Latitude {
+        units: units as i32,
+    })
+}
+
+/// Nothing, or a longitude.
+#[tactic(auto, unfolding(crate::specs::FieldReading::x_of))]
+fn x_of(bytes: &[u8]) -> Option<Option<Longitude>>
+    ensures { result ≡ x_of bytes.now }
+{
+    if bytes.is_empty() {
+        return Some(None);
+    }
+    let x = longitude(bytes)?;
+    Some(Some(x))
+}
+
+/// Nothing, or a latitude.
+#[tactic(auto, unfolding(crate::specs::FieldReading::y_of))]
+fn y_of(bytes: &[u8]) -> Option<Option<Latitude>>
+    ensures { result ≡ y_of bytes.now }
+{
+    if bytes.is_empty() {
+        return Some(None);
+    }
+    let y = latitude(bytes)?;
+    Some(Some(y))
+}
+
+/// The content with the value of a field whose letter stands at this place.
+#[tactic(auto, unfolding(crate::specs::FieldReading::with_value))]
+pub fn with_value(
+    alloc: Global,
+    meaning: Meaning,
+    place: u64,
+    value: &str,
+    mut content: Content,
+) -> Result<Content, LineError>
+    requires { place + 1 + length value.now < 2 ^ 63 }
+    ensures { Gives result (with_value meaning place value.now content) }
+{
+    match meaning {
+        Meaning::Count => {
+            if !is_number(value.as_bytes()) {
+                return Err(fault(FaultKind::BadNumber, place));
+            }
+        }
+        Meaning::Flag => {
+            content.live = flag_of(value.as_bytes()).ok_or(fault(FaultKind::BadFlag, place))?;
+        }
+        Meaning::Anything => {}
+        Meaning::Name => {
+            read_string(alloc, value, place)?;
+        }
+        Meaning::X => {
+            content.x = x_of(value.as_bytes()).ok_or(fault(FaultKind::BadCoordinate, place))?;
+        }
+        Meaning::Y => {
+            content.y = y_of(value.as_bytes()).ok_or(fault(FaultKind::BadCoordinate, place))?;
+        }
+        Meaning::Tagged => content.tags = read_tags(alloc, value, place + 1)?,
+        Meaning::Referring => content.refs = read_refs(alloc, value, place + 1)?,
+        Meaning::Having => content.members = read_members(alloc, value, place + 1)?,
+    }
+    Ok(content)
+}

@@ -1,0 +1,181 @@
+//! Values that are lists of items.
+
+ghost use Rattle.std.specs.Prelude.{◌≡◌, ◌+◌, ◌^◌, ◌<◌, ◌∷◌, length, IfSome, OnOk};
+ghost use Rattle.std.specs.List.{slice_split, list_any};
+ghost use Rattle.std.specs.Option.{option_copied};
+ghost use Rattle.std.specs.Str.{IsUtf8, bytes_eq};
+ghost use Rattle.opl_reader.specs.Reading.{Gives};
+ghost use Rattle.opl_reader.specs.Items.{kind_of};
+ghost use Rattle.opl_reader.specs.ItemReading.{is_comma, tag_at, tags_at, ref_at, refs_at, target_of, member_at, members_at};
+ghost use Rattle.opl_reader.specs.Steps.{all_left, left_parts, left_len, kept_with};
+
+use crate::cut::cut;
+use crate::escape::read_string;
+use crate::fault::{FaultKind, LineError, fault};
+use crate::number::read_id;
+use crate::object::{Member, Members, ObjectKind, Refs, Tag, Tags};
+use std::alloc::{AllocError, Global};
+
+/// The first item, and what is left behind its comma.
+fn next_item(rest: &str) -> (&str, Option<&str>)
+    ensures parts { slice_split is_comma rest.now ≡ result.0.now ∷ left_parts (option_copied result.1) }
+    ensures utf8 { IfSome result.1 (λ left. IsUtf8 left.now) }
+    ensures len { length result.0.now + left_len (option_copied result.1) ≡ length rest.now }
+{
+    match cut(rest, ',') {
+        None => (rest, None),
+        Some((item, left)) => (item, Some(left)),
+    }
+}
+
+/// The text where something stands in it.
+fn all_items(text: &str) -> Option<&str>
+    ensures value { option_copied result ≡ all_left text.now }
+    ensures utf8 { IfSome result (λ left. IsUtf8 left.now) }
+{
+    if text.is_empty() { None } else { Some(text) }
+}
+
+/// A tag: key=value.
+#[tactic(auto, unfolding(crate::specs::ItemReading::tag_at))]
+fn read_tag(alloc: Global, item: &str, place: u64) -> Result<Tag, LineError>
+    ensures { Gives result (tag_at place item.now) }
+{
+    let Some((key, value)) = cut(item, '=') else {
+        return Err(fault(FaultKind::BadTag, place));
+    };
+    let key = read_string(alloc, key, place)?;
+    let value = read_string(alloc, value, place)?;
+    Ok(Tag { key, value })
+}
+
+/// Whether a tag has this key.
+fn has_key(tags: &Tags, key: &str) -> bool
+    ensures { result ≡ list_any (λ t. bytes_eq t.key key.now) tags.now }
+{
+    for tag in tags.as_slice() {
+        if tag.key.as_str() == key {
+            return true;
+        }
+    }
+    false
+}
+
+/// Adds a tag, unless one with its key is there.
+fn keep(tags: &mut Tags, tag: Tag) -> Result<(), AllocError>
+    ensures { OnOk result (tags.new ≡ kept_with tags.old tag) }
+{
+    if has_key(tags, tag.key.as_str()) {
+        return Ok(());
+    }
+    tags.push(tag)
+}
+
+/// Tags, of equal keys the first alone.
+#[tactic(auto, unfolding(crate::specs::ItemReading::tags_at))]
+pub fn read_tags(alloc: Global, text: &str, place: u64) -> Result<Tags, LineError>
+    requires { place + length text.now < 2 ^ 63 }
+    ensures { Gives result (tags_at place text.now) }
+{
+    let mut tags = Tags::new(alloc);
+    let mut at = place;
+    let mut left = all_items(text);
+    while let Some(rest) = left {
+        let (item, more) = next_item(rest);
+        let tag = read_tag(alloc, item, at)?;
+        keep(&mut tags, tag)?;
+        at += item.len() as u64 + 1;
+        left = more;
+    }
+    Ok(tags)
+}
+
+/// A reference: n and an id.
+#[tactic(auto, unfolding(crate::specs::ItemReading::ref_of, crate::specs::ItemReading::ref_at))]
+fn read_ref(item: &str, place: u64) -> Result<i64, LineError>
+    ensures { Gives result (ref_at place item.now) }
+{
+    let id = match item.as_bytes() {
+        [b'n', id @ ..] => read_id(id),
+        _ => None,
+    };
+    id.ok_or(fault(FaultKind::BadReference, place))
+}
+
+/// References.
+pub fn read_refs(alloc: Global, text: &str, place: u64) -> Result<Refs, LineError>
+    requires { place + length text.now < 2 ^ 63 }
+    ensures { Gives result (refs_at place text.now) }
+{
+    let mut refs = Refs::new(alloc);
+    let mut at = place;
+    let mut left = all_items(text);
+    while let Some(rest) = left {
+        let (item, more) = next_item(rest);
+        let id = read_ref(item, at)?;
+        refs.push(id)?;
+        at += item.len() as u64 + 1;
+        left = more;
+    }
+    Ok(refs)
+}
+
+/// The kind of object that a letter names.
+pub fn kind_of(letter: u8) -> Option<ObjectKind>
+    ensures { result ≡ kind_of letter }
+{
+    match letter {
+        b'n' => Some(ObjectKind::Node),
+        b'w' => Some(ObjectKind::Way),
+        b'r' => Some(ObjectKind::Relation),
+        _ => None,
+    }
+}
+
+/// A letter and an id.
+#[tactic(auto, unfolding(crate::specs::ItemReading::target_of))]
+fn read_target(text: &str) -> Option<(ObjectKind, i64)>
+    ensures { result ≡ target_of text.now }
+{
+    match text.as_bytes() {
+        [] => None,
+        [letter, id @ ..] => {
+            let kind = kind_of(*letter)?;
+            let id = read_id(id)?;
+            Some((kind, id))
+        }
+    }
+}
+
+/// A member: a target, @ and a role.
+#[tactic(auto, unfolding(crate::specs::ItemReading::member_at))]
+fn read_member(alloc: Global, item: &str, place: u64) -> Result<Member, LineError>
+    ensures { Gives result (member_at place item.now) }
+{
+    let Some((target, role)) = cut(item, '@') else {
+        return Err(fault(FaultKind::BadMember, place));
+    };
+    let Some((kind, id)) = read_target(target) else {
+        return Err(fault(FaultKind::BadMember, place));
+    };
+    let role = read_string(alloc, role, place)?;
+    Ok(Member { kind, id, role })
+}
+
+/// Members.
+pub fn read_members(alloc: Global, text: &str, place: u64) -> Result<Members, LineError>
+    requires { place + length text.now < 2 ^ 63 }
+    ensures { Gives result (members_at place text.now) }
+{
+    let mut members = Members::new(alloc);
+    let mut at = place;
+    let mut left = all_items(text);
+    while let Some(rest) = left {
+        let (item, more) = next_item(rest);
+        let member = read_member(alloc, item, at)?;
+        members.push(member)?;
+        at += item.len() as u64 + 1;
+        left = more;
+    }
+    Ok(members)
+}

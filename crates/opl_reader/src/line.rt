@@ -1,0 +1,202 @@
+//! Lines.
+
+ghost use Rattle.std.specs.Prelude.{◌≡◌, ◌+◌, ◌^◌, ◌<◌, ◌≤◌, ◌∷◌, [], List, ℕ, length, IfSome, MatchOption, Some, None, Ok, IfOk, IfErr, IfNone, Err};
+ghost use Rattle.opl_reader.specs.declared.object.ObjectKind.{ObjectKind};
+ghost use Rattle.opl_reader.specs.declared.fault.LineFault.{LineFault};
+ghost use Rattle.opl_reader.specs.Reading.{Gives};
+ghost use Rattle.opl_reader.specs.Parts.{Part, without_cr};
+ghost use Rattle.opl_reader.specs.Fields.{nothing};
+ghost use Rattle.opl_reader.specs.FieldReading.{with_field, with_fields};
+ghost use Rattle.opl_reader.specs.LineReading.{fields_from, head_at, reading};
+ghost use Rattle.opl_reader.specs.Spells.{Spells, IsPassedOver};
+ghost use Rattle.opl_reader.specs.Faults.{HasFault, Explains};
+ghost use Rattle.opl_reader.specs.OneAnswer.{IsAnswer, HasAnswer, HasNoOther};
+ghost use Rattle.opl_reader.specs.Steps.{with_part, begins_passed, Marks};
+ghost use Rattle.opl_reader.specs.declared.object.Object.{Object};
+ghost use Rattle.std.specs.Str.{IsUtf8};
+
+use crate::content::{Content, object_of};
+use crate::fault::{FaultKind, LineError, fault};
+use crate::field::{letter_of, with_value};
+use crate::items::kind_of;
+use crate::number::read_id;
+use crate::object::{Object, ObjectKind};
+use memchr::memchr2;
+use std::alloc::Global;
+use std::str;
+
+/// What stands before the first separator, and what stands behind it.
+fn next_part(text: &str) -> (&str, &str)
+    ensures fields { (place : ℕ) → fields_from place text.now ≡ with_part place result.0.now (fields_from (place + length result.0.now + 1) result.1.now) }
+    ensures part_utf8 { IsUtf8 result.0.now }
+    ensures left_utf8 { IsUtf8 result.1.now }
+    ensures len { length result.0.now + length result.1.now ≤ length text.now }
+    ensures behind { 0 < length result.1.now → length result.0.now + 1 + length result.1.now ≤ length text.now }
+    ensures shorter { 0 < length text.now → length result.1.now < length text.now }
+{
+    match memchr2(b' ', b'\t', text.as_bytes()) {
+        None => (text, ""),
+        Some(at) => (&text[..at], &text[at + 1..]),
+    }
+}
+
+/// The next field with its place, and what is left behind it.
+fn next_field(text: &str, place: u64) -> Option<(u64, &str, &str)>
+    requires { place + length text.now < 2 ^ 64 }
+    ensures fields { MatchOption result (fields_from place text.now ≡ [])
+        (λ f. fields_from place text.now ≡ record { at = f.0; bytes = f.1.now } ∷ fields_from (f.0 + length f.1.now + 1) f.2.now) }
+    ensures field_utf8 { IfSome result (λ f. IsUtf8 f.1.now) }
+    ensures left_utf8 { IfSome result (λ f. IsUtf8 f.2.now) }
+    ensures some { IfSome result (λ f. 0 < length f.1.now) }
+    ensures shorter { IfSome result (λ f. length f.2.now < length text.now) }
+    ensures room { IfSome result (λ f. f.0 + length f.1.now + length f.2.now ≤ place + length text.now) }
+    ensures behind { IfSome result (λ f. 0 < length f.2.now → f.0 + length f.1.now + 1 + length f.2.now ≤ place + length text.now) }
+{
+    let mut at = place;
+    let mut left = text;
+    while !left.is_empty() {
+        let (part, more) = next_part(left);
+        if !part.is_empty() {
+            return Some((at, part, more));
+        }
+        at += 1;
+        left = more;
+    }
+    None
+}
+
+/// Whether the first field begins a comment or a changeset, or there is none.
+fn is_passed_over(text: &[u8]) -> bool
+    ensures { result ≡ begins_passed (fields_from 0 text.now) }
+{
+    for byte in text {
+        if *byte != b' ' && *byte != b'\t' {
+            return *byte == b'#' || *byte == b'c';
+        }
+    }
+    true
+}
+
+/// The content with a field, where letters are seen.
+#[tactic(auto, unfolding(crate::specs::FieldReading::with_field))]
+fn with_field(
+    alloc: Global,
+    kind: ObjectKind,
+    seen: &[bool; 256],
+    place: u64,
+    field: &str,
+    content: Content,
+) -> Result<Content, LineError>
+    requires { place + length field.now < 2 ^ 63 }
+    ensures { (letters : List ℕ) → Marks seen.now letters → Gives result (with_field kind letters place field.now content) }
+{
+    let Some((letter, value)) = field.split_at_checked(1) else {
+        return Err(fault(FaultKind::UnknownField, place));
+    };
+    let letter = letter.as_bytes()[0];
+    let Some(meaning) = letter_of(kind, letter) else {
+        return Err(fault(FaultKind::UnknownField, place));
+    };
+    if seen[letter as usize] {
+        return Err(fault(FaultKind::RepeatedField, place));
+    }
+    with_value(alloc, meaning, place, value, content)
+}
+
+/// The content of the fields from a place on.
+fn with_fields(
+    alloc: Global,
+    kind: ObjectKind,
+    text: &str,
+    place: u64,
+) -> Result<Content, LineError>
+    requires small { place ≤ 2 ^ 63 }
+    requires room { 0 < length text.now → place + length text.now < 2 ^ 63 }
+    ensures { Gives result (with_fields kind [] (fields_from place text.now) nothing) }
+{
+    let mut seen = [false; 256];
+    let mut content = Content::new(alloc);
+    let mut at = place;
+    let mut left = text;
+    while let Some((start, field, more)) = next_field(left, at) {
+        content = with_field(alloc, kind, &seen, start, field, content)?;
+        seen[field.as_bytes()[0] as usize] = true;
+        at = start + field.len() as u64 + 1;
+        left = more;
+    }
+    Ok(content)
+}
+
+/// The first field: a letter and an id.
+#[tactic(auto, unfolding(crate::specs::LineReading::head_at))]
+fn read_head(field: &str, place: u64) -> Result<(ObjectKind, i64), LineError>
+    ensures { Gives result (head_at place field.now) }
+{
+    match field.as_bytes() {
+        [] => Err(fault(FaultKind::UnknownObject, place)),
+        [letter, id @ ..] => {
+            let Some(kind) = kind_of(*letter) else {
+                return Err(fault(FaultKind::UnknownObject, place));
+            };
+            let Some(id) = read_id(id) else {
+                return Err(fault(FaultKind::BadNumber, place));
+            };
+            Ok((kind, id))
+        }
+    }
+}
+
+/// A line without the CR that stands last in it.
+fn without_cr(line: &[u8]) -> &[u8]
+    ensures { result.now ≡ without_cr line.now }
+{
+    match line {
+        [text @ .., b'\r'] => text,
+        _ => line,
+    }
+}
+
+#[tactic(auto, unfolding(crate::specs::LineReading::reading, crate::specs::LineReading::object_at))]
+fn read(alloc: Global, line: &[u8]) -> Result<Option<Object>, LineError>
+    ensures { Gives result (reading line.now) }
+{
+    let text = without_cr(line);
+    if is_passed_over(text) {
+        return Ok(None);
+    }
+    let text = match str::from_utf8(text) {
+        Ok(text) => text,
+        Err(e) => return Err(fault(FaultKind::NotUtf8, e.valid_up_to() as u64)),
+    };
+    let Some((place, head, left)) = next_field(text, 0) else {
+        return Ok(None);
+    };
+    let (kind, id) = read_head(head, place)?;
+    let content = with_fields(alloc, kind, left, place + head.len() as u64 + 1)?;
+    Ok(Some(object_of(kind, id, content)))
+}
+
+/// Reads a line of OPL, given without its LF: an object, or None for a line that is passed over, as one without fields, a comment or a changeset.
+///
+/// A line that has no reading gives its first fault. Bytes that aren't UTF-8 come before all other faults.
+pub fn read_line(alloc: Global, line: &[u8]) -> Result<Option<Object>, LineError>
+    // What comes is so.
+    ensures object { IfOk result (λ o. IfSome o (λ x. Spells line.now x)) }
+    ensures passed { IfOk result (λ o. IfNone o (IsPassedOver line.now)) }
+    ensures fault { IfErr result (Explains line.now) }
+    // What is so comes, unless memory runs out.
+    ensures spelled { (o : Object) → Spells line.now o → Gives result (Ok (Some o)) }
+    ensures skipped { IsPassedOver line.now → Gives result (Ok None) }
+    ensures refused { (x : LineFault) → HasFault line.now x → Gives result (Err x) }
+    // The same, as a function of the line.
+    ensures exact { Gives result (reading line.now) }
+{
+    read(alloc, line)
+}
+
+/// Every line is passed over, or spells one object, or has one fault; this is what it is read as.
+pub fn lines_have_one_answer()
+    ensures reading { (line : List ℕ) → IsAnswer line }
+    ensures some { (line : List ℕ) → HasAnswer line }
+    ensures one { (line : List ℕ) → HasNoOther line }
+{}

@@ -1,0 +1,152 @@
+//! Ids and decimals.
+
+ghost use Rattle.std.specs.Prelude.{◌≡◌, ◌+◌, ◌*◌, ◌/◌, ◌^◌, if◌then◌else◌, ◌≤◌, ◌≤ℤ◌, pos, neg_ℤ, min, option_map, length, IsTrue, IfSome, IfNone, ℤ, nat_abs, Some, None};
+ghost use Rattle.std.specs.List.{list_all, before_first, after_first};
+ghost use Rattle.std.specs.Char.{is_ascii_digit};
+ghost use Rattle.std.specs.Str.Parse.{digits_value};
+ghost use Rattle.opl_reader.specs.Numbers.{IsId, IsDecimal, first_eight};
+ghost use Rattle.opl_reader.specs.NumberReading.{magnitude_of, id_of, is_point, unsigned_of, within, decimal_of};
+ghost use Rattle.opl_reader.specs.Steps.{capped};
+
+use memchr::memchr;
+
+/// The greatest magnitude of an id.
+pub const MAX_ID: u64 = 4_611_686_018_427_387_903;
+
+/// The value of digits, at most 2^64 - 1; None where a byte is no digit.
+fn value(bytes: &[u8]) -> Option<u64>
+    ensures { result ≡ (if list_all is_ascii_digit bytes.now then Some (capped (digits_value 10 bytes.now)) else None) }
+{
+    let mut value: u64 = 0;
+    for byte in bytes {
+        if !byte.is_ascii_digit() {
+            return None;
+        }
+        value = value
+            .saturating_mul(10)
+            .saturating_add(u64::from(*byte - b'0'));
+    }
+    Some(value)
+}
+
+#[tactic(auto, unfolding(crate::specs::NumberReading::magnitude_of))]
+/// One or more digits, up to the greatest magnitude of an id.
+fn magnitude(digits: &[u8]) -> Option<i64>
+    ensures value { result ≡ magnitude_of digits.now }
+    ensures in_range { IfSome result (λ n. (pos 0 ≤ℤ n) × (n ≤ℤ pos 4611686018427387903)) }
+{
+    if digits.is_empty() {
+        return None;
+    }
+    let value = value(digits)?;
+    if value > MAX_ID {
+        return None;
+    }
+    Some(value as i64)
+}
+
+#[tactic(auto, unfolding(crate::specs::NumberReading::id_of))]
+fn id(text: &[u8]) -> Option<i64>
+    ensures { result ≡ id_of text.now }
+{
+    match text {
+        [b'-', digits @ ..] => {
+            let magnitude = magnitude(digits)?;
+            Some(-magnitude)
+        }
+        digits => magnitude(digits),
+    }
+}
+
+/// An id: an optional minus and digits.
+pub fn read_id(text: &[u8]) -> Option<i64>
+    ensures found { IfSome result (λ id. IsId text.now id) }
+    ensures none { IfNone result ((id : ℤ) → ¬ IsId text.now id) }
+    ensures value { result ≡ id_of text.now }
+{
+    id(text)
+}
+
+/// The first eight decimals, with zeros for those that are not there.
+fn eight(decimals: &[u8]) -> [u8; 8]
+    ensures { result ≡ first_eight decimals.now }
+{
+    let mut eight = [b'0'; 8];
+    let len = decimals.len().min(8);
+    eight[..len].copy_from_slice(&decimals[..len]);
+    eight
+}
+
+/// The digits before the first point, and those behind it.
+fn cut_at_point(text: &[u8]) -> (&[u8], &[u8])
+    ensures whole { result.0.now ≡ before_first is_point text.now }
+    ensures decimals { result.1.now ≡ after_first is_point text.now }
+{
+    match memchr(b'.', text) {
+        None => (text, &text[text.len()..]),
+        Some(at) => (&text[..at], &text[at + 1..]),
+    }
+}
+
+/// The units of decimals, rounded at the eighth; None where a byte is no digit.
+fn fraction(decimals: &[u8]) -> Option<u64>
+    ensures value { result ≡ (if list_all is_ascii_digit decimals.now then Some ((digits_value 10 (first_eight decimals.now) + 5) / 10) else None) }
+    ensures bound { IfSome result (λ n. n ≤ 10000000) }
+{
+    value(decimals)?;
+    let tenths = value(&eight(decimals))?;
+    Some((tenths + 5) / 10)
+}
+
+/// Digits, and a point with digits: the units, as far as the machine counts.
+#[tactic(auto, unfolding(crate::specs::NumberReading::unsigned_of))]
+fn unsigned(text: &[u8]) -> Option<u64>
+    ensures { result ≡ option_map capped (unsigned_of text.now) }
+{
+    let (whole, decimals) = cut_at_point(text);
+    if whole.is_empty() && decimals.is_empty() {
+        return None;
+    }
+    let degrees = value(whole)?;
+    let fraction = fraction(decimals)?;
+    Some(degrees.saturating_mul(10_000_000).saturating_add(fraction))
+}
+
+#[tactic(auto, unfolding(crate::specs::NumberReading::within))]
+/// The same, where it is not above the limit.
+fn within(text: &[u8], limit: i64) -> Option<i64>
+    ensures value { result ≡ within limit text.now }
+    ensures in_range { IfSome result (λ units. (pos 0 ≤ℤ units) × (units ≤ℤ limit)) }
+{
+    let units = unsigned(text)?;
+    if limit < 0 || units > limit as u64 {
+        return None;
+    }
+    Some(units as i64)
+}
+
+/// The units of a decimal: an optional sign, digits, and a point with digits.
+#[tactic(auto, unfolding(crate::specs::NumberReading::decimal_of))]
+pub fn decimal(text: &[u8], limit: i64) -> Option<i64>
+    ensures value { result ≡ decimal_of limit text.now }
+    ensures in_range { IfSome result (λ z. (neg_ℤ limit ≤ℤ z) × (z ≤ℤ limit)) }
+{
+    match text {
+        [b'-', rest @ ..] => {
+            let units = within(rest, limit)?;
+            Some(-units)
+        }
+        [b'+', rest @ ..] => within(rest, limit),
+        rest => within(rest, limit),
+    }
+}
+
+/// The units of a decimal: an optional sign, digits, and a point with digits.
+pub fn read_decimal(text: &[u8], limit: i64) -> Option<i64>
+    ensures found { IfSome result (λ units. IsDecimal text.now units × (pos (nat_abs units) ≤ℤ limit)) }
+    ensures none { IfNone result ((units : ℤ) → IsDecimal text.now units → ¬ (pos (nat_abs units) ≤ℤ limit)) }
+    ensures value { result ≡ decimal_of limit text.now }
+    ensures in_range { IfSome result (λ units. (neg_ℤ limit ≤ℤ units) × (units ≤ℤ limit)) }
+{
+    decimal(text, limit)
+}
