@@ -6,6 +6,8 @@ mod error;
 mod held;
 mod store;
 mod tags;
+#[cfg(test)]
+mod tests;
 mod view;
 
 pub use area::area_id;
