@@ -1,5 +1,5 @@
 -- What is found among objects of different references.
-use Rattle.std.proofs.Common.{◌≡◌, ◌∙◌, Bool, true, false, cond, List, [], ◌∷◌, refl, sym, ap, ℤ, Option, None, Some, option_map, filter, map, IsTrue, IsSome, true≢false}
+use Rattle.std.proofs.Common.{◌≡◌, ◌∙◌, Bool, true, false, cond, List, [], ◌∷◌, refl, sym, ap, ℤ, Option, None, Some, option_map, filter, map, IsTrue, IsSome}
 use Rattle.std.specs.List.{AllByRecursion}
 use Rattle.std.proofs.lemmas.Cmp.{int_eq_equiv}
 use Rattle.opl_reader.specs.declared.object.ObjectKind.{ObjectKind}

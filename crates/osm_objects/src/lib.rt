@@ -4,6 +4,7 @@
 mod area;
 mod error;
 mod held;
+mod problem;
 mod store;
 mod tags;
 #[cfg(test)]
@@ -12,5 +13,6 @@ mod view;
 
 pub use area::area_id;
 pub use error::AddError;
+pub use problem::{Note, Problem};
 pub use store::Store;
 pub use view::{RelationView, WayView};
