@@ -1,6 +1,6 @@
 -- A string, one escape more at a time.
-use Rattle.std.proofs.Common.{◌≡◌, ℕ, ◌==◌, List, [], ◌∷◌, ◌++◌, Option, Some, None, Ok, refl, sym, ap, ◌∙◌, append_assoc}
-use Rattle.std.specs.Prelude.{option_map, option_and_then, encode_utf8}
+use Rattle.std.proofs.Common.{◌≡◌, ℕ, ◌==◌, true, false, List, [], ◌∷◌, ◌++◌, Option, Some, None, Ok, refl, sym, ap, ◌∙◌, append_assoc}
+use Rattle.std.specs.Prelude.{option_map, option_and_then, encode_utf8, is_some}
 use Rattle.std.specs.List.{slice_split}
 use Rattle.std.specs.Str.{IsUtf8}
 use Rattle.opl_reader.specs.declared.fault.FaultKind.TheVariants.{BadEscape}
@@ -74,3 +74,29 @@ begins text (Some t) = refl
 pub record ReadTo (front rest text : List ℕ) : Type 0 where
   pub utf8 : IsUtf8 rest
   pub so_far : with_front front (string_of rest) ≡ string_of text
+
+-- ---- whether a string stands here
+
+-- the rest is a string exactly where the text is one
+pub record TestedTo (rest text : List ℕ) : Type 0 where
+  pub utf8 : IsUtf8 rest
+  pub so_far : is_some (string_of rest) ≡ is_some (string_of text)
+
+some-map : {A B : Type 0} (f : A → B) (o : Option A) → is_some (option_map f o) ≡ is_some o
+some-map f None = refl
+some-map f (Some x) = refl
+
+pub tested-on : (text rest plain escape after more : List ℕ) (c : ℕ) → parts rest ≡ plain ∷ parts after → parts after ≡ escape ∷ parts more → Some c ≡ code_point escape
+    → is_some (string_of rest) ≡ is_some (string_of text) → is_some (string_of more) ≡ is_some (string_of text)
+tested-on text rest plain escape after more c e f g so_far =
+    sym (ap is_some (string-step rest plain escape after more c e f (sym g)) ∙ some-map (λ (t : List ℕ). plain ++ encode_utf8 c ++ t) (string_of more)) ∙ so_far
+
+pub tested-open : (text rest plain after : List ℕ) → parts rest ≡ plain ∷ parts after → parts after ≡ after ∷ [] → is_some (string_of rest) ≡ is_some (string_of text) → false ≡ is_some (string_of text)
+tested-open text rest plain after e f so_far = sym (ap is_some (string-open rest plain after e f)) ∙ so_far
+
+pub tested-bad : (text rest plain escape after more : List ℕ) → parts rest ≡ plain ∷ parts after → parts after ≡ escape ∷ parts more → None ≡ code_point escape
+    → is_some (string_of rest) ≡ is_some (string_of text) → false ≡ is_some (string_of text)
+tested-bad text rest plain escape after more e f g so_far = sym (ap is_some (string-bad rest plain escape after more e f (sym g))) ∙ so_far
+
+pub tested-end : (text rest : List ℕ) → parts rest ≡ rest ∷ [] → is_some (string_of rest) ≡ is_some (string_of text) → true ≡ is_some (string_of text)
+tested-end text rest e so_far = sym (ap is_some (string-plain rest e)) ∙ so_far

@@ -1,6 +1,6 @@
 //! Strings with escapes.
 
-ghost use Rattle.std.specs.Prelude.{◌≡◌, List, ℕ, Some};
+ghost use Rattle.std.specs.Prelude.{◌≡◌, List, ℕ, Some, is_some};
 ghost use Rattle.opl_reader.specs.Reading.{Gives};
 ghost use Rattle.opl_reader.specs.Strings.{IsString};
 ghost use Rattle.opl_reader.specs.StringReading.{code_point, string_of, string_at};
@@ -25,7 +25,7 @@ fn code_point(digits: &str) -> Option<char>
     char::from_u32(code)
 }
 
-/// The string that stands here, its escapes read.
+/// The string that stands in a field or an item at this place, its escapes read.
 pub fn read_string(alloc: Global, text: &str, place: u64) -> Result<Text, LineError>
     ensures { Gives result (string_at place text.now) }
 {
@@ -44,6 +44,23 @@ pub fn read_string(alloc: Global, text: &str, place: u64) -> Result<Text, LineEr
     }
     read.push_str(rest)?;
     Ok(Text::of(read))
+}
+
+/// Whether a string stands here. It takes no memory, for strings that aren't kept.
+pub fn is_string(text: &str) -> bool
+    ensures { result ≡ is_some (string_of text.now) }
+{
+    let mut rest = text;
+    while let Some((_plain, after)) = cut(rest, '%') {
+        let Some((escape, after)) = cut(after, '%') else {
+            return false;
+        };
+        let Some(_c) = code_point(escape) else {
+            return false;
+        };
+        rest = after;
+    }
+    true
 }
 
 /// What a string is read as is what its bytes spell, and nothing else.

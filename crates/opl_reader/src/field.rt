@@ -10,7 +10,7 @@ ghost use Rattle.opl_reader.specs.FieldReading.{flag_of, longitude, latitude, x_
 
 use crate::content::Content;
 use crate::coordinate::{Latitude, Longitude};
-use crate::escape::read_string;
+use crate::escape::is_string;
 use crate::fault::{FaultKind, LineError, fault};
 use crate::items::{read_members, read_refs, read_tags};
 use crate::number::decimal;
@@ -154,7 +154,7 @@ fn y_of(bytes: &[u8]) -> Option<Option<Latitude>>
 }
 
 /// The content with the value of a field whose letter stands at this place.
-#[tactic(auto, unfolding(crate::specs::FieldReading::with_value))]
+#[tactic(auto, unfolding(crate::specs::FieldReading::with_value, crate::specs::StringReading::string_at))]
 pub fn with_value(
     alloc: Global,
     meaning: Meaning,
@@ -176,7 +176,9 @@ pub fn with_value(
         }
         Meaning::Anything => {}
         Meaning::Name => {
-            read_string(alloc, value, place)?;
+            if !is_string(value) {
+                return Err(fault(FaultKind::BadEscape, place));
+            }
         }
         Meaning::X => {
             content.x = x_of(value.as_bytes()).ok_or(fault(FaultKind::BadCoordinate, place))?;

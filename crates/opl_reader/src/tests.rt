@@ -2,17 +2,18 @@ use super::*;
 use osm_geom::Loc;
 use std::test::*;
 
+/// The report's words for the fault of a line, and its place.
 fn faults(
     rt: &impl std::process::Abort,
     alloc: std::alloc::Global,
     line: &[u8],
-    kind: FaultKind,
+    text: &str,
     place: u64,
 ) {
     match read_line(alloc, line) {
-        Err(LineError::Fault(f)) => {
-            assert_eq!(rt; f.kind, kind);
-            assert_eq!(rt; f.place, place);
+        Err(LineError::Fault(fault)) => {
+            assert_eq!(rt; fault_text(fault.kind), text);
+            assert_eq!(rt; fault.place, place);
         }
         _other => assert!(rt; false),
     }
@@ -20,29 +21,109 @@ fn faults(
 
 #[test]
 fn bad_lines(rt: HostRuntime) {
-    let a = rt.alloc();
-    faults(&rt, a, b"n1 x0 y0 Tname=%2", FaultKind::BadEscape, 10);
-    faults(&rt, a, b"n1 x200 y0", FaultKind::BadCoordinate, 3);
-    faults(&rt, a, b"x1", FaultKind::UnknownObject, 0);
-    faults(&rt, a, b"n1 v1 v2", FaultKind::RepeatedField, 6);
-    faults(&rt, a, b"w1 x1", FaultKind::UnknownField, 3);
-    faults(&rt, a, b"w1 Nn1,,n2", FaultKind::BadReference, 7);
-    faults(&rt, a, b"r1 Mw1outer", FaultKind::BadMember, 4);
-    faults(&rt, a, b"n1 Tname", FaultKind::BadTag, 4);
-    faults(&rt, a, b"n9999999999999999999", FaultKind::BadNumber, 0);
-    faults(&rt, a, b"n1 dX", FaultKind::BadFlag, 3);
-    faults(&rt, a, b"n1 T\xff", FaultKind::NotUtf8, 4);
-    faults(&rt, a, b"  n1\tD1", FaultKind::UnknownField, 5);
-    faults(&rt, a, b"n1 Ta=b,", FaultKind::BadTag, 8);
-    faults(&rt, a, b"n1 \xc3\xbc", FaultKind::UnknownField, 3);
+    let lines: [(&[u8], &str, u64); 23] = [
+        (b"n1 x0 y0 Tname=%2", "bad escape", 10),
+        (b"n1 x200 y0", "bad coordinate", 3),
+        (b"x1", "unknown object", 0),
+        (b"n1 v1 v2", "repeated field", 6),
+        (b"w1 x1", "unknown field", 3),
+        (b"w1 Nn1,,n2", "bad reference", 7),
+        (b"r1 Mw1outer", "bad member", 4),
+        (b"n1 Tname", "bad tag", 4),
+        (b"n9999999999999999999", "bad number", 0),
+        (b"n1 dX", "bad flag", 3),
+        (b"n1 T\xff", "not utf-8", 4),
+        (b"  n1\tD1", "unknown field", 5),
+        (b"n1 Ta=b,", "bad tag", 8),
+        (b"n1 \xc3\xbc", "unknown field", 3),
+        (b"x1 \xc3(", "not utf-8", 3),
+        (b"n1 x0 y0\r\r", "bad coordinate", 6),
+        (b"\r\r", "unknown object", 0),
+        (b"n4611686018427387904", "bad number", 0),
+        (b"w1 Nn1,n2x1y1", "bad reference", 7),
+        (b"r1 Mw1@a,n2@%20", "bad escape", 9),
+        (b"r1 Mx1@%20", "bad member", 4),
+        (b"n1 ua%d800%", "bad escape", 3),
+        (b"n1 v12345678901234567890", "bad number", 3),
+    ];
+    for line in &lines {
+        faults(&rt, rt.alloc(), line.0, line.1, line.2);
+    }
+}
+
+/// The value of the first tag, where the line is that of a node without faults.
+fn first_value(rt: &impl std::process::Abort, alloc: std::alloc::Global, line: &[u8], value: &str) {
+    match read_line(alloc, line) {
+        Ok(Some(Object::Node { tags, .. })) => match tags.as_slice() {
+            [tag, ..] => assert_eq!(rt; tag.value.as_str(), value),
+            _other => assert!(rt; false),
+        },
+        _other => assert!(rt; false),
+    }
 }
 
 #[test]
-fn objects(rt: HostRuntime) {
-    let a = rt.alloc();
+fn worked_items_of_strings(rt: HostRuntime) {
+    let good: [(&[u8], &str); 6] = [
+        (b"n1 Ta=%20%", " "),
+        (b"n1 Ta=%fc%", "ü"),
+        (b"n1 Ta=%0000FC%", "ü"),
+        (b"n1 Ta=", ""),
+        (b"n1 Ta=b=c@d", "b=c@d"),
+        (b"n1 Ta=b,a=c", "b"),
+    ];
+    for line in &good {
+        first_value(&rt, rt.alloc(), line.0, line.1);
+    }
+    for line in [
+        "n1 Ta=%d800%",
+        "n1 Ta=%110000%",
+        "n1 Ta=%%",
+        "n1 Ta=%0020",
+        "n1 Ta=%0000020%",
+    ] {
+        faults(&rt, rt.alloc(), line.as_bytes(), "bad escape", 4);
+    }
+}
+
+#[test]
+fn worked_items_of_decimals(rt: HostRuntime) {
+    let limit = 1_800_000_000;
+    let rows: [(&[u8], Option<i64>); 14] = [
+        (b"-0.00000005", Some(-1)),
+        (b"1.23456789", Some(12_345_679)),
+        (b".5", Some(5_000_000)),
+        (b"5.", Some(50_000_000)),
+        (b"+7", Some(70_000_000)),
+        (b"-0", Some(0)),
+        (b"180.00000004", Some(1_800_000_000)),
+        (b"180.00000005", None),
+        (b"-180.00000005", None),
+        (b"1e2", None),
+        (b".", None),
+        (b"-", None),
+        (b"1.2.3", None),
+        (b"99999999999999999999999999", None),
+    ];
+    for row in &rows {
+        assert_eq!(rt; read_decimal(row.0, limit), row.1);
+    }
+    assert_eq!(rt; read_decimal(b"0", -1), None);
+}
+
+#[test]
+fn lines_that_are_passed_over(rt: HostRuntime) {
+    let lines: [&[u8]; 7] = [b"", b"\r", b" \t ", b"# \xff", b" #", b"c77 k2", b"\tc\xff"];
+    for line in &lines {
+        assert!(rt; matches!(read_line(rt.alloc(), *line), Ok(None)));
+    }
+}
+
+#[test]
+fn village_node_as_osmium_writes_it(rt: HostRuntime) {
     match read_line(
-        a,
-        b"n-007 v1 dV c11 t2020-01-01T00:00:00Z i7 uAnna%20%B Ta=%fc%=,a=c x10.1 y-0.00000005\r",
+        rt.alloc(),
+        b"n9 v1 dV c11 t2020-01-01T00:00:00Z i7 uAnna%20%B Tplace=village x10.05 y50.05\r",
     ) {
         Ok(
             Some(
@@ -54,58 +135,96 @@ fn objects(rt: HostRuntime) {
                 },
             ),
         ) => {
-            assert_eq!(rt; id, -7);
+            assert_eq!(rt; id, 9);
             assert!(rt; live);
-            assert_eq!(rt;
-                place,
-                Some(Loc {
-                    x: 101_000_000,
-                    y: -1
-                })
-            );
-            assert_eq!(rt; tags.as_slice().len(), 1);
+            assert_eq!(rt; place, Loc::new(100_500_000, 500_500_000));
             for tag in tags.as_slice() {
-                assert_eq!(rt; tag.key.as_str(), "a");
-                assert_eq!(rt; tag.value.as_str(), "ü=");
+                assert_eq!(rt; tag.key.as_str(), "place");
+                assert_eq!(rt; tag.value.as_str(), "village");
+            }
+            assert_eq!(rt; tags.as_slice().len(), 1);
+        }
+        _other => assert!(rt; false),
+    }
+}
+
+#[test]
+fn village_relation_as_osmium_writes_it(rt: HostRuntime) {
+    match read_line(
+        rt.alloc(),
+        b"r1 v4 dV c12 t2020-01-03T00:00:00Z i7 uAnna%20%B Ttype=boundary,boundary=administrative,admin_level=8 Mw1@outer,w2@,n9@label",
+    ) {
+        Ok(
+            Some(
+                Object::Relation {
+                    id,
+                    live,
+                    tags,
+                    members,
+                },
+            ),
+        ) => {
+            assert_eq!(rt; id, 1);
+            assert!(rt; live);
+            assert_eq!(rt; tags.as_slice().len(), 3);
+            match members.as_slice() {
+                [outer, _, label] => {
+                    assert_eq!(rt; outer.kind, ObjectKind::Way);
+                    assert_eq!(rt; outer.id, 1);
+                    assert_eq!(rt; outer.role.as_str(), "outer");
+                    assert_eq!(rt; label.kind, ObjectKind::Node);
+                }
+                _other => assert!(rt; false),
             }
         }
         _other => assert!(rt; false),
     }
-    assert!(rt; matches!(read_line(a, b"# \xff"), Ok(None)));
-    assert!(rt; matches!(read_line(a, b" \t "), Ok(None)));
-    assert!(rt; matches!(read_line(a, b"c77 k2"), Ok(None)));
-    assert!(rt; matches!(read_line(a, b""), Ok(None)));
-    assert!(rt;
-        matches!(
-            read_line(a, b"w1 dD N"),
-            Ok(Some(Object::Way {
-                id: 1,
-                live: false,
-                ..
-            }))
-        )
-    );
 }
 
 #[test]
-fn decimals(rt: HostRuntime) {
-    assert_eq!(rt; read_decimal(b"-0.00000005", 1_800_000_000), Some(-1));
-    assert_eq!(rt;
-        read_decimal(b"1.23456789", 1_800_000_000),
-        Some(12_345_679)
-    );
-    assert_eq!(rt; read_decimal(b".5", 1_800_000_000), Some(5_000_000));
-    assert_eq!(rt; read_decimal(b"5.", 1_800_000_000), Some(50_000_000));
-    assert_eq!(rt;
-        read_decimal(b"180.00000004", 1_800_000_000),
-        Some(1_800_000_000)
-    );
-    assert_eq!(rt; read_decimal(b"180.00000005", 1_800_000_000), None);
-    assert_eq!(rt; read_decimal(b"1e2", 1_800_000_000), None);
-    assert_eq!(rt; read_decimal(b".", 1_800_000_000), None);
-    assert_eq!(rt; read_decimal(b"-", 1_800_000_000), None);
-    assert_eq!(rt;
-        read_decimal(b"99999999999999999999999999", 1_800_000_000),
-        None
-    );
+fn deleted_objects_and_empty_fields(rt: HostRuntime) {
+    match read_line(
+        rt.alloc(),
+        b"n8 v2 dD c12 t2020-01-03T00:00:00Z i7 uAnna%20%B T x y",
+    ) {
+        Ok(
+            Some(
+                Object::Node {
+                    id,
+                    live,
+                    place,
+                    ..
+                },
+            ),
+        ) => {
+            assert_eq!(rt; id, 8);
+            assert!(rt; !live);
+            assert_eq!(rt; place, None);
+        }
+        _other => assert!(rt; false),
+    }
+    match read_line(
+        rt.alloc(),
+        b"w-0 v c i t u T dV Nn1,n-4611686018427387903,n007",
+    ) {
+        Ok(Some(Object::Way { id, refs, .. })) => {
+            assert_eq!(rt; id, 0);
+            let expected = [1, -4_611_686_018_427_387_903, 7];
+            assert_eq!(rt; refs.as_slice(), expected.as_slice());
+        }
+        _other => assert!(rt; false),
+    }
+}
+
+#[test]
+fn one_megabyte_in_one_line(rt: HostRuntime) {
+    let mut line = Vec::new(rt.alloc());
+    line.extend_from_slice(b"w1 Nn12345").expect(&rt, "memory");
+    for _ in 0..116_500 {
+        line.extend_from_slice(b",n1234567").expect(&rt, "memory");
+    }
+    match read_line(rt.alloc(), line.as_slice()) {
+        Ok(Some(Object::Way { refs, .. })) => assert_eq!(rt; refs.as_slice().len(), 116_501),
+        _other => assert!(rt; false),
+    }
 }
