@@ -1,6 +1,7 @@
 ghost use Rattle.std.specs.Prelude.{◌≡◌, ◌^◌, ◌<◌, ◌≤◌, ◌-◌, ◌*ℤ◌, ◌+ℤ◌, pos, unsigned_abs};
 ghost use Rattle.osm_geom.specs.Conflict.{conflict_of};
-ghost use Rattle.osm_geom.specs.Loc.{orientation};
+ghost use Rattle.std.specs.Ordering.{ord_min, ord_max};
+ghost use Rattle.osm_geom.specs.Loc.{orientation, loc_cmp};
 ghost use Rattle.osm_geom.specs.Meeting.{IsOnSegment, slant};
 ghost use Rattle.osm_geom.specs.Share.{IsShare};
 
@@ -74,4 +75,17 @@ pub fn meeting(s: Seg, t: Seg) -> (Frac, Frac)
 {
     let at = share_of(s, t);
     (x_at(s, at), y_at(s, at))
+}
+
+/// The segment that two overlapping segments share: from the greater of their lesser ends to the
+/// lesser of their greater ends.
+pub fn overlap(s: Seg, t: Seg) -> Seg
+    requires { conflict_of s t ≡ Some Kind.Overlap }
+    ensures begins { result.a ≡ ord_max loc_cmp s.a t.a }
+    ensures ends { result.b ≡ ord_min loc_cmp s.b t.b }
+{
+    Seg {
+        a: s.a.max(t.a),
+        b: s.b.min(t.b),
+    }
 }
