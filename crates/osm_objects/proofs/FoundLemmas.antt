@@ -1,5 +1,5 @@
 -- What is found among objects of different references.
-use Rattle.std.proofs.Common.{◌≡◌, ◌∙◌, Bool, true, false, cond, List, [], ◌∷◌, refl, sym, ap, ℤ, Option, None, Some, option_map, filter, map, IsTrue}
+use Rattle.std.proofs.Common.{◌≡◌, ◌∙◌, Bool, true, false, cond, List, [], ◌∷◌, refl, sym, ap, ℤ, Option, None, Some, option_map, filter, map, IsTrue, IsSome}
 use Rattle.std.specs.List.{AllByRecursion}
 use Rattle.std.proofs.lemmas.Cmp.{int_eq_equiv}
 use Rattle.opl_reader.specs.declared.object.ObjectKind.{ObjectKind}
@@ -72,6 +72,18 @@ filter-found p objects (o ∷ list) all = by (p o) refl (filter-found p objects 
         → AllByRecursion (λ of. option_map p (object_at objects of) ≡ Some true) (map ref_of (cond b (o ∷ filter p list) (filter p list)))
     by true passed rest = (ap (option_map p) all.0 ∙ ap Some passed, rest)
     by false failed rest = rest
+
+-- a reference at which something is true finds an object
+some-from : {A B : Type 0} (f : A → B) (o : Option A) (y : B) → option_map f o ≡ Some y → IsSome o
+some-from f None y none = absurd (cc)
+some-from f (Some x) y some = refl
+
+pub filter-held : (p : Object → Bool) (objects : List Object) → AreApart objects → AllByRecursion (λ of. IsSome (object_at objects of)) (map ref_of (filter p objects))
+filter-held p objects apart = weaker (map ref_of (filter p objects)) (filter-found p objects objects (all_found objects apart))
+  where
+    weaker : (list : List ObjectRef) → AllByRecursion (λ of. option_map p (object_at objects of) ≡ Some true) list → AllByRecursion (λ of. IsSome (object_at objects of)) list
+    weaker [] all = tt
+    weaker (of ∷ list) all = (some-from p (object_at objects of) true all.0, weaker list all.1)
 
 -- ---- what is held is live
 

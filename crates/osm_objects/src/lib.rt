@@ -4,11 +4,15 @@
 mod area;
 mod error;
 mod held;
+mod problem;
 mod store;
 mod tags;
+#[cfg(test)]
+mod tests;
 mod view;
 
 pub use area::area_id;
 pub use error::AddError;
+pub use problem::{Note, Problem};
 pub use store::Store;
 pub use view::{RelationView, WayView};

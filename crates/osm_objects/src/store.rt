@@ -1,6 +1,6 @@
 //! The store of objects.
 
-ghost use Rattle.std.specs.Prelude.{◌≡◌, [], true, All, IsTrue, IfOk, OnOk, OnErr, IfErr, IsSome, Some, option_map, false};
+ghost use Rattle.std.specs.Prelude.{◌≡◌, [], Bool, true, All, IsTrue, IfOk, OnOk, OnErr, IfErr, IsSome, Some, option_map, false};
 ghost use Rattle.std.specs.List.{IsDistinct};
 ghost use Rattle.std.specs.Ordering.{int_eq};
 ghost use Rattle.osm_objects.specs.Object.{is_live, ref_of};
@@ -94,14 +94,16 @@ impl Store {
         Ok(())
     }
 
-    /// A law: all objects of a store are live, no two have one kind and id, and so each is what a look-up of
-    /// its kind and id finds.
+    /// A law: all objects of a store are live, no two have one kind and id, each is what a look-up of its kind
+    /// and id finds, and so a candidate's kind and id find a candidate.
     pub fn one_of_each(&self)
         ensures live { All (λ o. IsTrue (is_live o)) self.now }
         ensures apart { AreApart self.now }
         ensures found { All (λ o. object_at self.now (ref_of o) ≡ Some o) self.now }
+        ensures candidates { (keep : Bool) → All (λ of. option_map (is_candidate keep) (object_at self.now of) ≡ Some true) (candidates keep self.now) }
     {
-        let _held = &self.objects;
+        // The invariant of the type says it.
+        let _ = &self.objects;
     }
 
     /// What is held of an object.
@@ -144,7 +146,7 @@ impl Store {
         keep_untagged: bool,
     ) -> Result<Vec<ObjectRef>, AllocError>
         ensures list { IfOk result (λ list. list.items ≡ candidates keep_untagged self.now) }
-        ensures held { All (λ of. option_map (is_candidate keep_untagged) (object_at self.now of) ≡ Some true) (candidates keep_untagged self.now) }
+        ensures held { IfOk result (λ list. All (λ of. IsSome (object_at self.now of)) list.items) }
     {
         let mut list = Vec::new(alloc);
         for (of, held) in &self.objects {

@@ -1,16 +1,16 @@
-use Rattle.std.proofs.Common.{◌≡◌, true, Some, option_map, subst}
+use Rattle.std.proofs.Common.{◌≡◌, List, IsSome, subst, sym, rules}
+use Rattle.std.specs.Prelude.{All}
 use Rattle.std.proofs.lemmas.List.Elements.{All-from_recursion}
+use Rattle.opl_reader.specs.declared.object.ObjectRef.{ObjectRef}
 use Rattle.osm_objects.specs.Objects.{object_at, AreApart}
 use Rattle.osm_objects.specs.Candidates.{candidates, is_candidate}
-use Rattle.osm_objects.proofs.FoundLemmas.{all_found, filter-found}
+use Rattle.osm_objects.proofs.FoundLemmas.{filter-held}
 use Rattle.osm_objects.proofs.store.Store.candidates.Goals as goal
-
-pub returns-in_err-push-clause-held : goal.returns-in_err-push-clause-held
-returns-in_err-push-clause-held c =
-    let objects = c.args.self.now in
-    All-from_recursion (λ of. option_map (is_candidate c.args.keep_untagged) (object_at objects of) ≡ Some true) (candidates c.args.keep_untagged objects) (filter-found (is_candidate c.args.keep_untagged) objects objects (all_found objects (subst AreApart c.self.view_is c.self.invariant.1)))
 
 pub returns-clause-held : goal.returns-clause-held
 returns-clause-held c =
     let objects = c.args.self.now in
-    All-from_recursion (λ of. option_map (is_candidate c.args.keep_untagged) (object_at objects of) ≡ Some true) (candidates c.args.keep_untagged objects) (filter-found (is_candidate c.args.keep_untagged) objects objects (all_found objects (subst AreApart c.self.view_is c.self.invariant.1)))
+    let keep = c.args.keep_untagged in
+    let whole : c.loop-of.list.items ≡ candidates keep objects = search rules in
+    let AllHeld : List ObjectRef → Type 0 = λ list. All (λ of. IsSome (object_at objects of)) list in
+    subst AllHeld (sym whole) (All-from_recursion (λ of. IsSome (object_at objects of)) (candidates keep objects) (filter-held (is_candidate keep) objects (subst AreApart c.self.view_is c.self.invariant.1)))

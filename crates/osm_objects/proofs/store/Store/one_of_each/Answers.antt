@@ -1,11 +1,12 @@
-use Rattle.std.proofs.Common.{◌≡◌, Some, List, IsTrue, subst}
+use Rattle.std.proofs.Common.{◌≡◌, true, Some, option_map, List, IsTrue, subst}
 use Rattle.std.proofs.lemmas.List.Elements.{All-from_recursion}
 use Rattle.std.specs.Prelude.{All}
 use Rattle.opl_reader.specs.declared.object.Object.{Object}
 use Rattle.osm_objects.specs.Object.{is_live, ref_of}
 use Rattle.osm_objects.specs.Objects.{object_at, AreApart}
+use Rattle.osm_objects.specs.Candidates.{candidates, is_candidate}
 use Rattle.osm_objects.specs.Held.{objects_from}
-use Rattle.osm_objects.proofs.FoundLemmas.{all_found, all_live}
+use Rattle.osm_objects.proofs.FoundLemmas.{all_found, all_live, filter-found}
 use Rattle.osm_objects.proofs.store.Store.one_of_each.Goals as goal
 
 pub returns-clause-live : goal.returns-clause-live
@@ -17,3 +18,8 @@ pub returns-clause-found : goal.returns-clause-found
 returns-clause-found c =
     let objects = c.args.self.now in
     All-from_recursion (λ o. object_at objects (ref_of o) ≡ Some o) objects (all_found objects (subst AreApart c.self.view_is c.self.invariant.1))
+
+pub returns-clause-candidates : goal.returns-clause-candidates
+returns-clause-candidates c keep =
+    let objects = c.args.self.now in
+    All-from_recursion (λ of. option_map (is_candidate keep) (object_at objects of) ≡ Some true) (candidates keep objects) (filter-found (is_candidate keep) objects objects (all_found objects (subst AreApart c.self.view_is c.self.invariant.1)))

@@ -1,0 +1,300 @@
+use super::*;
+use opl_reader::{Member, Members, Object, ObjectKind, ObjectRef, Refs, Tag, Tags, Text};
+use osm_geom::Loc;
+use std::alloc::Global;
+use std::test::Fail;
+
+const NODE: ObjectKind = ObjectKind::Node;
+
+const WAY: ObjectKind = ObjectKind::Way;
+
+const RELATION: ObjectKind = ObjectKind::Relation;
+
+fn at(kind: ObjectKind, id: i64) -> ObjectRef {
+    ObjectRef { kind, id }
+}
+
+/// The numbers of a word such as `1,2,3,1`.
+fn numbers_of(alloc: Global, word: &str) -> Result<Vec<i64>, Fail> {
+    let mut numbers = Vec::new(alloc);
+    for part in word.split(',') {
+        if let Ok(number) = part.parse::<i64>() {
+            numbers.push(number)?;
+        }
+    }
+    Ok(numbers)
+}
+
+/// A tag from a word such as `area=no`.
+fn tag_of(alloc: Global, word: &str) -> Result<Tag, Fail> {
+    let (key, value) = word.split_once('=').unwrap_or((word, ""));
+    Ok(Tag {
+        key: Text::from_str(alloc, key)?,
+        value: Text::from_str(alloc, value)?,
+    })
+}
+
+/// Tags as words, a blank after each.
+fn words_of(alloc: Global, tags: &Tags) -> Result<String, Fail> {
+    let mut words = String::new(alloc);
+    for tag in tags.as_slice() {
+        words.push_str(tag.key.as_str())?;
+        words.push_str("=")?;
+        words.push_str(tag.value.as_str())?;
+        words.push_str(" ")?;
+    }
+    Ok(words)
+}
+
+fn place_of(coordinates: &[i64]) -> Option<Loc> {
+    match coordinates {
+        [x, y] => Loc::new(*x, *y),
+        _ => None,
+    }
+}
+
+fn refs_of(alloc: Global, ids: &[i64]) -> Result<Refs, Fail> {
+    let mut refs = Refs::new(alloc);
+    for id in ids {
+        refs.push(*id)?;
+    }
+    Ok(refs)
+}
+
+/// Members that are outer ways.
+fn members_of(alloc: Global, ids: &[i64]) -> Result<Members, Fail> {
+    let mut members = Members::new(alloc);
+    for id in ids {
+        let role = Text::from_str(alloc, "outer")?;
+        members.push(Member {
+            kind: WAY,
+            id: *id,
+            role,
+        })?;
+    }
+    Ok(members)
+}
+
+/// An object from a line: its kind, its id, the coordinates of a node, the references of a way or the outer
+/// ways of a relation, or `-` for none, and its tags. One that was deleted has that word before.
+fn object_of(alloc: Global, line: &str) -> Result<Object, Fail> {
+    let deleted = line.strip_prefix("deleted ");
+    let live = deleted.is_none();
+    let mut words = deleted.unwrap_or(line).split_whitespace();
+    let kind = words.next().unwrap_or("");
+    let id = words.next().unwrap_or("").parse::<i64>().unwrap_or(0);
+    let numbers = numbers_of(alloc, words.next().unwrap_or(""))?;
+    let mut tags = Tags::new(alloc);
+    for word in words {
+        tags.push(tag_of(alloc, word)?)?;
+    }
+    match kind {
+        "node" => Ok(Object::Node {
+            id,
+            live,
+            tags,
+            place: place_of(&numbers),
+        }),
+        "way" => Ok(Object::Way {
+            id,
+            live,
+            tags,
+            refs: refs_of(alloc, &numbers)?,
+        }),
+        _ => Ok(Object::Relation {
+            id,
+            live,
+            tags,
+            members: members_of(alloc, &numbers)?,
+        }),
+    }
+}
+
+/// The kind and id with which an object is refused as a duplicate.
+fn refusal(answer: Result<(), AddError>) -> Result<Option<ObjectRef>, Fail> {
+    match answer {
+        Ok(()) => Ok(None),
+        Err(AddError::Duplicate { kind, id }) => Ok(Some(at(kind, id))),
+        Err(AddError::OutOfMemory) => Err(Fail::new("out of memory")),
+    }
+}
+
+/// A store of the live objects of a text, a line each.
+fn store_of(alloc: Global, text: &str) -> Result<Store, Fail> {
+    let mut store = Store::new(alloc);
+    for line in text.lines() {
+        let object = object_of(alloc, line)?;
+        if refusal(store.add(object))?.is_some() {
+            return Err(Fail::new("a duplicate"));
+        }
+    }
+    Ok(store)
+}
+
+const AGAIN: &str = "deleted way 1 -
+node 1 0,0
+deleted node 1 7,7
+node 1 7,7
+way 1 -
+relation 1 -
+node -1 -
+way 1 -
+relation 1 -
+node -1 7,7";
+
+#[test]
+fn one_live_object_of_each_kind_and_id(rt: HostRuntime) -> Result<(), Fail> {
+    let alloc = rt.alloc();
+    let mut store = Store::new(alloc);
+    let mut refused = Vec::new(alloc);
+    for (line, row) in AGAIN.lines().enumerate() {
+        let object = object_of(alloc, row)?;
+        if let Some(of) = refusal(store.add(object))? {
+            refused.push((line, of))?;
+        }
+    }
+    let again = [
+        (3, at(NODE, 1)),
+        (7, at(WAY, 1)),
+        (8, at(RELATION, 1)),
+        (9, at(NODE, -1)),
+    ];
+    assert_eq!(rt; refused.as_slice(), again.as_slice());
+    assert_eq!(rt; store.location(1), Loc::new(0, 0));
+    Ok(())
+}
+
+#[test]
+fn locations_of_nodes(rt: HostRuntime) -> Result<(), Fail> {
+    let text = "node 7 1,2\nnode 8 3,4 place=village\nnode -7 -\nway 9 7,8";
+    let store = store_of(rt.alloc(), text)?;
+    for (id, place) in [
+        (7, Loc::new(1, 2)),
+        (8, Loc::new(3, 4)),
+        (-7, None),
+        (9, None),
+        (1, None),
+    ] {
+        assert_eq!(rt; store.location(id), place, "at {id}");
+    }
+    Ok(())
+}
+
+#[test]
+fn a_way_is_lent(rt: HostRuntime) -> Result<(), Fail> {
+    let alloc = rt.alloc();
+    let store = store_of(alloc, "node 7 -\nway 9 7,8 a=b c=d")?;
+    assert!(rt; store.way(7).is_none());
+    match store.way(9) {
+        Some(way) => {
+            assert_eq!(rt; words_of(alloc, way.tags)?.as_str(), "a=b c=d ");
+            assert_eq!(rt; way.refs.as_slice(), [7, 8].as_slice());
+            Ok(())
+        }
+        None => Err(Fail::new("no way 9")),
+    }
+}
+
+#[test]
+fn a_relation_is_lent(rt: HostRuntime) -> Result<(), Fail> {
+    let alloc = rt.alloc();
+    let store = store_of(alloc, "way 7 -\nrelation 5 -3 type=route")?;
+    assert!(rt; store.relation(7).is_none());
+    match store.relation(5) {
+        Some(relation) => {
+            assert_eq!(rt; words_of(alloc, relation.tags)?.as_str(), "type=route ");
+            let ids = relation.members.as_slice().iter().map(|member| member.id);
+            assert!(rt; ids.eq([-3]));
+            Ok(())
+        }
+        None => Err(Fail::new("no relation 5")),
+    }
+}
+
+const MIXED: &str = "relation 9 9 type=boundary a=b
+node 9 0,0 a=b type=multipolygon
+way 9 1,2,3,1 a=b
+relation 8 - type=multipolygon
+way 8 1,2,3,1 area=no
+way 7 1,2,3,1 area=yes area=no
+relation 7 9 type=route a=b
+relation 6 9 a=multipolygon
+way 6 1,2,1 a=b
+way 5 1,2,3,4 a=b
+way 4 - a=b
+relation 5 9 a=b type=multipolygon
+relation 4 9 type=route type=boundary
+way 3 1,2,3,4,1";
+
+#[test]
+fn candidates_in_input_order(rt: HostRuntime) -> Result<(), Fail> {
+    let alloc = rt.alloc();
+    let store = store_of(alloc, MIXED)?;
+    let tagged = [at(RELATION, 9), at(WAY, 9), at(WAY, 7), at(RELATION, 5)];
+    assert_eq!(rt;
+        store.candidates(alloc, false)?.as_slice(),
+        tagged.as_slice()
+    );
+    let all = [
+        at(RELATION, 9),
+        at(WAY, 9),
+        at(RELATION, 8),
+        at(WAY, 7),
+        at(RELATION, 5),
+        at(WAY, 3),
+    ];
+    assert_eq!(rt; store.candidates(alloc, true)?.as_slice(), all.as_slice());
+    Ok(())
+}
+
+const COASTS: &str = "way 9 1,2 natural=coastline
+way 8 1,2 natural=water
+way -7 - name=x natural=coastline
+way 6 1,2 natural=water natural=coastline
+relation 5 9 natural=coastline
+way 2 1 natural=coastline";
+
+#[test]
+fn coast_ways_in_input_order(rt: HostRuntime) -> Result<(), Fail> {
+    let alloc = rt.alloc();
+    let store = store_of(alloc, COASTS)?;
+    assert_eq!(rt; store.coast_ways(alloc)?.as_slice(), [9, -7, 2].as_slice());
+    Ok(())
+}
+
+#[test]
+fn tags_of_an_area(rt: HostRuntime) -> Result<(), Fail> {
+    let alloc = rt.alloc();
+    let text = "way 1 1,2,3,1 type=x name=y\nrelation 1 1 name=y type=boundary level=8";
+    let store = store_of(alloc, text)?;
+    for of in &store.candidates(alloc, false)? {
+        let tags = store.area_tags(alloc, *of)?;
+        let words = if of.kind == WAY {
+            "type=x name=y "
+        } else {
+            "name=y level=8 "
+        };
+        assert_eq!(rt; words_of(alloc, &tags)?.as_str(), words);
+    }
+    Ok(())
+}
+
+#[test]
+fn ids_of_areas(rt: HostRuntime) {
+    let most = 4_611_686_018_427_387_903;
+    for (kind, id, area) in [
+        (WAY, 7, Some(14)),
+        (RELATION, 5, Some(11)),
+        (WAY, -7, Some(-14)),
+        (RELATION, -7, Some(-15)),
+        (WAY, 0, Some(0)),
+        (RELATION, 0, Some(1)),
+        (WAY, most, Some(9_223_372_036_854_775_806)),
+        (RELATION, -most, Some(-9_223_372_036_854_775_807)),
+        (WAY, most + 1, None),
+        (RELATION, -most - 1, None),
+        (NODE, 1, None),
+    ] {
+        assert_eq!(rt; area_id(at(kind, id)), area, "at {id}");
+    }
+}
