@@ -7,11 +7,12 @@ use Rattle.std.proofs.lemmas.Int.{ints}
 use Rattle.std.proofs.lemmas.Cmp.{int_cmp_total, then_total, on_total}
 use Rattle.plane.specs.Sign.{Sign, Plus, Null, Minus, sign, then_sign, is_plus}
 use Rattle.plane.specs.Order.{order}
+use Rattle.plane.specs.Edge.{IsRising}
 use Rattle.plane.proofs.Signs.{Says, says}
 use Rattle.osm_geom.specs.declared.loc.Loc.{Loc}
 use Rattle.osm_geom.specs.declared.seg.Seg.{Seg}
 use Rattle.osm_geom.specs.Loc.{loc_cmp, vector_of}
-use Rattle.osm_geom.specs.Seg.{seg_cmp}
+use Rattle.osm_geom.specs.Seg.{seg_cmp, edge_of}
 use Rattle.osm_geom.specs.OrderLaws.{ordering_of}
 use Rattle.osm_geom.specs.ConflictTests.{before}
 
@@ -46,3 +47,12 @@ is_lt-plus Minus = refl
 pub is_lt_before : (p q : Loc) → is_lt (loc_cmp p q) ≡ before p q
 unfolding before
 is_lt_before p q = rw (loc_cmp-is p q) (is_lt-plus (order (vector_of p) (vector_of q)))
+
+-- a segment's edge runs from its lesser end
+less-plus : (s : Sign) → ordering_of s ≡ Less → s ≡ Plus
+less-plus Plus h = refl
+less-plus Null h = cc
+less-plus Minus h = cc
+
+pub rising_edge : (s : Seg) → IsRising (edge_of s)
+rising_edge s = less-plus (order (vector_of s.a) (vector_of s.b)) (sym (loc_cmp-is s.a s.b) ∙ s.rising)

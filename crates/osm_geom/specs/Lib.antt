@@ -7,3 +7,5 @@ pub mod Lowest
 pub mod Frac
 pub mod OrderLaws
 pub mod ConflictLaws
+pub mod Meeting
+pub mod Share

@@ -6,6 +6,7 @@ mod frac;
 mod laws;
 mod lists;
 mod loc;
+mod meetings;
 mod orientation;
 mod seg;
 
@@ -14,5 +15,6 @@ pub use frac::{Frac, round};
 pub use laws::{conflicts_are_symmetric, orders_are_exact};
 pub use lists::{Ids, Locs, Path, Segs};
 pub use loc::Loc;
+pub use meetings::{meeting, overlap};
 pub use orientation::orient;
 pub use seg::Seg;

@@ -1,0 +1,3 @@
+mod DecimalLemmas
+mod RowLemmas
+mod StringLemmas

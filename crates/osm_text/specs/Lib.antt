@@ -1,0 +1,5 @@
+pub mod Decimal
+pub mod Feature
+pub mod Rows
+pub mod Wkt
+pub mod Written

@@ -1,0 +1,13 @@
+//! Printed text: decimals, written strings, features in well-known text and lines of the report.
+#![tactic(auto)]
+
+mod decimal;
+mod feature;
+mod strings;
+#[cfg(test)]
+mod tests;
+mod wkt;
+
+pub use decimal::put_decimal;
+pub use feature::ring_text;
+pub use strings::written;
