@@ -10,6 +10,7 @@ pub mod Polygons
 pub mod RationalPoints
 pub mod RingLists
 pub mod Rotations
+pub mod ScaledRings
 pub mod Stacks
 pub mod Stretches
 pub mod Successors

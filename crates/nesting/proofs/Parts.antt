@@ -101,20 +101,20 @@ some-of : (p : Edge → Bool) (xs : List Edge) → 1 ≤ total (λ y. bit (p y))
 some-of p [] h = absurd (omega arith)
 some-of p (x ∷ xs) h = some-by p x xs (p x) refl h (some-of p xs)
 
-same-total : (xs ys : List Edge) → HasSameEdges xs ys → (f : Edge → ℕ) → total f xs ≡ total f ys
-same-total xs ys s f = total-is f xs ∙ s f ∙ sym (total-is f ys)
+same-edges-total : (xs ys : List Edge) → HasSameEdges xs ys → (f : Edge → ℕ) → total f xs ≡ total f ys
+same-edges-total xs ys s f = total-is f xs ∙ s f ∙ sym (total-is f ys)
 
 pub same-back : (xs ys : List Edge) → HasSameEdges xs ys → HasSameEdges ys xs
 same-back xs ys s f = sym (s f)
 
 pub same-in : (xs ys : List Edge) → HasSameEdges xs ys → (x : Edge) → In x xs → In x ys
 same-in xs ys s x i =
-    let a = total-member (λ (y : Edge). bit (same_edge x y)) xs x i in let b = one-here x x refl in let c = same-total xs ys s (λ (y : Edge). bit (same_edge x y)) in
+    let a = total-member (λ (y : Edge). bit (same_edge x y)) xs x i in let b = one-here x x refl in let c = same-edges-total xs ys s (λ (y : Edge). bit (same_edge x y)) in
     let r = some-of (same_edge x) ys (omega arith) in
     subst (λ w. In w ys) (sym (same_edge-true x r.0 r.2)) r.1
 
 pub same-once : (xs ys : List Edge) → HasSameEdges xs ys → Once ys → Once xs
-same-once xs ys s o = count-once xs (λ x i. let a = same-total xs ys s (λ (y : Edge). bit (same_edge x y)) in let b = once-count x ys o in omega arith)
+same-once xs ys s o = count-once xs (λ x i. let a = same-edges-total xs ys s (λ (y : Edge). bit (same_edge x y)) in let b = once-count x ys o in omega arith)
 
 once-raised : (xs : List Edge) → ((x : Edge) → In x xs → IsRising (segment_of x)) → EachPair IsClearOf (segments_of xs) → Once xs
 once-raised [] r p = tt
@@ -126,7 +126,7 @@ once-raised (x ∷ xs) r p = (
 )
 
 scaled-sum : (k : ℤ) (f : Edge → ℕ) (xs ys : List Edge) → HasSameEdges xs ys → total f (scaled_edges k xs) ≡ total f (scaled_edges k ys)
-scaled-sum k f xs ys s = total-map f (scaled_edge k) xs ∙ same-total xs ys s (λ e. f (scaled_edge k e)) ∙ sym (total-map f (scaled_edge k) ys)
+scaled-sum k f xs ys s = total-map f (scaled_edge k) xs ∙ same-edges-total xs ys s (λ e. f (scaled_edge k e)) ∙ sym (total-map f (scaled_edge k) ys)
 
 same-winding : (k : ℤ) (p : Vector) (xs ys : List Edge) → HasSameEdges xs ys → winding_number east p (scaled_edges k xs) ≡ winding_number east p (scaled_edges k ys)
 same-winding k p xs ys s =

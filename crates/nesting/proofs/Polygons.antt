@@ -28,13 +28,24 @@ filter-map-by : (b : Bool) (r : List Edge) (xs : List (List Edge)) → cond b (s
 filter-map-by true r xs = refl
 filter-map-by false r xs = refl
 
-filter-map : (under : List Edge → Bool) (rs : List (List Edge)) → filter under (map segments_of rs) ≡ map segments_of (filter (λ r. under (segments_of r)) rs)
+pub filter-map : (under : List Edge → Bool) (rs : List (List Edge)) → filter under (map segments_of rs) ≡ map segments_of (filter (λ r. under (segments_of r)) rs)
 filter-map under [] = refl
 filter-map under (r ∷ rs) = ap (λ l. cond (under (segments_of r)) (segments_of r ∷ l) l) (filter-map under rs) ∙ filter-map-by (under (segments_of r)) r (filter (λ r. under (segments_of r)) rs)
 
 small : (b : Bool) → bit b ≤ 1
 small true = omega arith
 small false = omega arith
+
+-- a sum over a polygon: its outer ring r0, and inner rings at most one of which counts, and only where the outer one does
+pub area-sum : (U D : Edge → ℕ) (c : List Edge → Bool) (r0 : List Edge) (inner : List (List Edge)) → total U r0 ≡ total D r0 + bit (c r0) → ((r : List Edge) → In r inner → total U r + bit (c r) ≡ total D r) →
+    total (λ r. bit (c r)) inner ≤ bit (c r0) → (w : ℕ) × (w ≤ 1) × (total U (r0 ++ edges_of inner) ≡ total D (r0 ++ edges_of inner) + w)
+area-sum U D c r0 inner o h le =
+    let s = sym (total-+ (λ r. total U r) (λ r. bit (c r)) inner) ∙ total-same (λ r. total U r + bit (c r)) (λ r. total D r) inner h in
+    let b = small (c r0) in
+    let u2 = total-++ U r0 (edges_of inner) in let u3 = total-flat U inner in
+    let d2 = total-++ D r0 (edges_of inner) in let d3 = total-flat D inner in
+    let x = bit (c r0) in let y = total (λ r. bit (c r)) inner in
+    (x - y, omega arith, omega arith)
 
 module _ (rs : List (List Edge)) (l : IsRingList rs) (outer : List Edge → Bool) (tells : TellsOuter (map segments_of rs) outer) (anchors : HasAnchors (map segments_of rs)) (p : Vector) where
   abbrev pub ups' : List Edge → ℕ
@@ -47,17 +58,17 @@ module _ (rs : List (List Edge)) (l : IsRingList rs) (outer : List Edge → Bool
   around-is r = odd-bit (crossing_count east p r) ∙ ap (λ n. bit (not (is_even n))) (sym (raised-crossings east p r))
 
   -- the anchor of a ring as an edge of it
-  own-anchor : (r : List Edge) → In r rs → (e : Edge) × In e r × IsAnchor (segment_of e) (segments_of r)
+  pub own-anchor : (r : List Edge) → In r rs → (e : Edge) × In e r × IsAnchor (segment_of e) (segments_of r)
   own-anchor r i =
       let a = anchors (segments_of r) (in-map segments_of rs r i) in let e = in-map-out segment_of r a.0 a.1.member in
       (e.0, e.1, subst (λ s. IsAnchor s (segments_of r)) e.2 a.1)
 
-  down-is : (r : List Edge) → (i : In r rs) → outer (segments_of r) ≡ not (is_plus (order (own-anchor r i).0.from (own-anchor r i).0.to))
+  pub down-is : (r : List Edge) → (i : In r rs) → outer (segments_of r) ≡ not (is_plus (order (own-anchor r i).0.from (own-anchor r i).0.to))
   down-is r i =
       let a = own-anchor r i in
       tells (segments_of r) (in-map segments_of rs r i) (segment_of a.0) a.2 ∙ outer_down rs l a.0 (in-flat rs r a.0 i a.1)
 
-  not-back : (b c : Bool) → b ≡ not c → c ≡ not b
+  pub not-back : (b c : Bool) → b ≡ not c → c ≡ not b
   not-back true true h = absurd (cc h)
   not-back true false h = refl
   not-back false true h = refl
@@ -83,28 +94,20 @@ module _ (rs : List (List Edge)) (l : IsRingList rs) (outer : List Edge → Bool
 
   module _ (r0 : List Edge) (i0 : In r0 rs) (o0 : outer (segments_of r0) ≡ true) (under : List Edge → Bool)
       (means : (h : List Edge) → (i : In h (map segments_of rs)) → under h ≡ true → (outer h ≡ false) × EnclosesDirectly (map segments_of rs) outer (segments_of r0) (anchors h i).0) where
-    abbrev inner : List (List Edge)
+    abbrev pub inner : List (List Edge)
     inner = filter (λ r. under (segments_of r)) rs
-
-    inner-sum : total ups' inner + total (λ r. bit (covers (segments_of r) p)) inner ≡ total downs' inner
-    inner-sum =
-        sym (total-+ ups' (λ r. bit (covers (segments_of r) p)) inner)
-        ∙ total-same (λ r. ups' r + bit (covers (segments_of r) p)) downs' inner
-        (λ r j. let i = in-filter (λ r. under (segments_of r)) rs r j in in-count r i (means (segments_of r) (in-map segments_of rs r i) (in-passes (λ r. under (segments_of r)) rs r j)).0)
 
     -- an outer ring with the inner rings directly under it
     pub area_count : (w : ℕ) × (w ≤ 1) × (winding_number east p (r0 ++ edges_of inner) ≡ pos w)
     area_count =
         let m = polygon_count (map segments_of rs) (ring_list_nest rs l) outer tells anchors (segments_of r0) (in-map segments_of rs r0 i0) under means p in
         let f = ap (λ gs. total (λ h. bit (covers h p)) gs) (filter-map under rs) ∙ total-map (λ h. bit (covers h p)) segments_of inner in
-        let s = inner-sum in let o = out-count r0 i0 o0 in let b = small (covers (segments_of r0) p) in
         let U = up_seen east (from_to p) in let D = down_seen east (from_to p) in
-        let u1 = total-is U (r0 ++ edges_of inner) in let u2 = total-++ U r0 (edges_of inner) in let u3 = total-flat U inner in
-        let d1 = total-is D (r0 ++ edges_of inner) in let d2 = total-++ D r0 (edges_of inner) in let d3 = total-flat D inner in
-        let x = bit (covers (segments_of r0) p) in let y = total (λ r. bit (covers (segments_of r) p)) inner in
-        let le : y ≤ x = omega arith in
-        let e : up_count east p (r0 ++ edges_of inner) ≡ down_count east p (r0 ++ edges_of inner) + (x - y) = omega arith in
-        (x - y, omega arith, omega (arith, ints))
+        let a = area-sum U D (λ r. covers (segments_of r) p) r0 inner (out-count r0 i0 o0)
+        (λ r j. let i = in-filter (λ r. under (segments_of r)) rs r j in in-count r i (means (segments_of r) (in-map segments_of rs r i) (in-passes (λ r. under (segments_of r)) rs r j)).0) (omega arith) in
+        let u1 = total-is U (r0 ++ edges_of inner) in let d1 = total-is D (r0 ++ edges_of inner) in
+        let w = a.0 in let e : up_count east p (r0 ++ edges_of inner) ≡ down_count east p (r0 ++ edges_of inner) + w = let g = a.2 in omega arith in
+        (w, a.1, omega (arith, ints))
 
 pub area_law : (rs : List (List Edge)) → IsRingList rs → (outer : List Edge → Bool) → TellsOuter (map segments_of rs) outer → (anchors : HasAnchors (map segments_of rs)) → (r : List Edge) → In r rs → outer (segments_of r) ≡ true → (under : List Edge → Bool) →
     ((h : List Edge) → (i : In h (map segments_of rs)) → under h ≡ true → (outer h ≡ false) × EnclosesDirectly (map segments_of rs) outer (segments_of r) (anchors h i).0) → (p : Vector) →

@@ -30,7 +30,7 @@ module _ (k : ℤ) (hk : sign k ≡ Plus) where
   beyond-by : (b c : Bool) (m n : ℕ) → b ≡ c → m ≡ n → cond (not b) m 0 ≡ cond (not c) n 0
   beyond-by b c m n h e = ap (λ x. cond (not x) m 0) h ∙ ap (λ y. cond (not c) y 0) e
 
-  ends-scaled : (v : Vector) (t : Edge) → ends_at (scaled_point k v) (scaled_edge k t) ≡ ends_at v t
+  pub ends-scaled : (v : Vector) (t : Edge) → ends_at (scaled_point k v) (scaled_edge k t) ≡ ends_at v t
   ends-scaled v t = ap (λ b. b || same_point (scaled_point k v) (scaled_point k t.to)) (point-scaled k hk v t.from) ∙ ap (λ b. same_point v t.from || b) (point-scaled k hk v t.to)
 
   hits-scaled : (a b v : Vector) (t : Edge) → hits_at (from_to (scaled_point k a) (scaled_point k b)) (from_to (scaled_point k v)) (scaled_edge k t) ≡ hits_at (from_to a b) (from_to v) t

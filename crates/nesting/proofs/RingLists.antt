@@ -21,7 +21,7 @@ use Rattle.winding.proofs.Members.{in-all, in-map, in-map-out}
 use Rattle.winding.proofs.RingCounts.{ring-even}
 use Rattle.winding.proofs.SidedLists.{sided_direct}
 
-map-++ : {X Y : Type 0} (f : X → Y) (xs ys : List X) → map f (xs ++ ys) ≡ map f xs ++ map f ys
+pub map-++ : {X Y : Type 0} (f : X → Y) (xs ys : List X) → map f (xs ++ ys) ≡ map f xs ++ map f ys
 map-++ f [] ys = refl
 map-++ f (x ∷ xs) ys = ap (λ l. f x ∷ l) (map-++ f xs ys)
 

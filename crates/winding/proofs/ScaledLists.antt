@@ -23,6 +23,14 @@ use Rattle.winding.proofs.Members.{all-in, in-all, total-same}
 use Rattle.winding.proofs.OddSides.{around-hits}
 use Rattle.winding.proofs.Sums.{total-is, total-map}
 
+pub map-same : {X Y : Type 0} (f g : X → Y) (xs : List X) → ((x : X) → f x ≡ g x) → map f xs ≡ map g xs
+map-same f g [] h = refl
+map-same f g (x ∷ xs) h = ap (λ y. y ∷ map f xs) (h x) ∙ ap (λ l. g x ∷ l) (map-same f g xs h)
+
+pub map-map : {X Y Z : Type 0} (f : Y → Z) (g : X → Y) (xs : List X) → map f (map g xs) ≡ map (λ x. f (g x)) xs
+map-map f g [] = refl
+map-map f g (x ∷ xs) = ap (λ l. f (g x) ∷ l) (map-map f g xs)
+
 module _ (k : ℤ) (hk : sign k ≡ Plus) where
   filter-by : (b c : Bool) (x : Edge) (xs ys : List Edge) → b ≡ c → xs ≡ scaled_edges k ys → cond b (scaled_edge k x ∷ xs) xs ≡ scaled_edges k (cond c (x ∷ ys) ys)
   filter-by true true x xs ys h e = ap (λ l. scaled_edge k x ∷ l) e
@@ -30,7 +38,7 @@ module _ (k : ℤ) (hk : sign k ≡ Plus) where
   filter-by true false x xs ys h e = absurd (cc h)
   filter-by false true x xs ys h e = absurd (cc h)
 
-  others-scaled : (s : Edge) (es : List Edge) → others (scaled_edge k s) (scaled_edges k es) ≡ scaled_edges k (others s es)
+  pub others-scaled : (s : Edge) (es : List Edge) → others (scaled_edge k s) (scaled_edges k es) ≡ scaled_edges k (others s es)
   others-scaled s [] = refl
   others-scaled s (x ∷ xs) = filter-by (not (same_edge (scaled_edge k s) (scaled_edge k x))) (not (same_edge s x)) x (others (scaled_edge k s) (scaled_edges k xs)) (others s xs) (ap not (edge-scaled k hk s x)) (others-scaled s xs)
 
@@ -55,14 +63,6 @@ module _ (k : ℤ) (hk : sign k ≡ Plus) where
   direct-by false false s h = refl
   direct-by true false s h = absurd (cc h)
   direct-by false true s h = absurd (cc h)
-
-  map-same : {X Y : Type 0} (f g : X → Y) (xs : List X) → ((x : X) → f x ≡ g x) → map f xs ≡ map g xs
-  map-same f g [] h = refl
-  map-same f g (x ∷ xs) h = ap (λ y. y ∷ map f xs) (h x) ∙ ap (λ l. g x ∷ l) (map-same f g xs h)
-
-  pub map-map : {X Y Z : Type 0} (f : Y → Z) (g : X → Y) (xs : List X) → map f (map g xs) ≡ map (λ x. f (g x)) xs
-  map-map f g [] = refl
-  map-map f g (x ∷ xs) = ap (λ l. f (g x) ∷ l) (map-map f g xs)
 
   -- the odd side of the multiplied list
   pub directed_scaled : (es : List Edge) → directed (scaled_edges k es) ≡ scaled_edges k (directed es)
