@@ -65,14 +65,14 @@ down_crossing-east a b = rw (cross-east a, cross-east b)
 pub east-direction : IsDirection east
 east-direction = refl
 
-abbrev pub ups_at : Vector → (Vector → Vector) → Edge → ℕ
-ups_at d r e = up_crossing d (r e.from) (r e.to)
+abbrev pub up_seen : Vector → (Vector → Vector) → Edge → ℕ
+up_seen d r e = up_crossing d (r e.from) (r e.to)
 
-abbrev pub downs_at : Vector → (Vector → Vector) → Edge → ℕ
-downs_at d r e = down_crossing d (r e.from) (r e.to)
+abbrev pub down_seen : Vector → (Vector → Vector) → Edge → ℕ
+down_seen d r e = down_crossing d (r e.from) (r e.to)
 
 abbrev pub hits_at : Vector → (Vector → Vector) → Edge → ℕ
-hits_at d r t = ups_at d r t + downs_at d r t
+hits_at d r t = up_seen d r t + down_seen d r t
 
 -- ---- an edge that does not end at the point
 abbrev left_1 : Sign → Sign → Sign → Sign → Bool

@@ -13,7 +13,7 @@ use Rattle.plane.specs.Sector.{in_sector}
 use Rattle.plane.specs.Sign.{Plus, is_minus, is_null, is_plus, sign, then_sign}
 use Rattle.plane.specs.Vector.{Vector, cross, dot, from_to, orient, same_point}
 use Rattle.plane.proofs.Identities.{lift, same, ◌⊞◌, ◌⊟◌, ◌⊠◌}
-use Rattle.plane.proofs.Points.{int_eq-same, int_eq-true}
+use Rattle.plane.proofs.Points.{int_eq-same, int_eq-true, same_vector}
 use Rattle.plane.proofs.Signs.{null-zero, plus-times}
 
 module _ (k : ℤ) (hk : sign k ≡ Plus) where
@@ -121,3 +121,15 @@ module _ (k : ℤ) (hk : sign k ≡ Plus) where
 
   pub sector-scaled : (d e a : Vector) → in_sector (scaled_point k d) (scaled_point k e) (scaled_point k a) ≡ in_sector d e a
   sector-scaled d e a = rw (dot-both d a, cross-both d a, dot-both d e, cross-both d e, cross-both e a)
+
+  pub from_to-scaled : (p q : Vector) → from_to (scaled_point k p) (scaled_point k q) ≡ scaled_point k (from_to p q)
+  from_to-scaled p q = same_vector (k *ℤ q.x -ℤ k *ℤ p.x) (k *ℤ q.y -ℤ k *ℤ p.y) (k *ℤ (q.x -ℤ p.x)) (k *ℤ (q.y -ℤ p.y)) (minus-scaled k hk q.x p.x) (minus-scaled k hk q.y p.y)
+
+  -- a sector as a multiplied point sees it
+  pub sector-seen-scaled : (v a b w : Vector) →
+      in_sector (from_to (scaled_point k v) (scaled_point k a)) (from_to (scaled_point k v) (scaled_point k b)) (from_to (scaled_point k v) (scaled_point k w)) ≡ in_sector (from_to v a) (from_to v b) (from_to v w)
+  sector-seen-scaled v a b w =
+      ap (λ d. in_sector d (from_to (scaled_point k v) (scaled_point k b)) (from_to (scaled_point k v) (scaled_point k w))) (from_to-scaled v a)
+      ∙ ap (λ e. in_sector (scaled_point k (from_to v a)) e (from_to (scaled_point k v) (scaled_point k w))) (from_to-scaled v b)
+      ∙ ap (in_sector (scaled_point k (from_to v a)) (scaled_point k (from_to v b))) (from_to-scaled v w)
+      ∙ sector-scaled (from_to v a) (from_to v b) (from_to v w)

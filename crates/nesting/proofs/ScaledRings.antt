@@ -1,0 +1,274 @@
+-- A ring list multiplied by a positive number is a ring list, and what its polygons cover at points with fractions.
+use Rattle.std.proofs.Common.{All, Bool, List, [], ap, arith, cond, false, length, map, not, refl, subst, suc, sym, true, ℕ, ◌%◌, ◌&&◌, ◌++◌, ◌+◌, ◌==◌, ◌||◌, ◌∙◌, ◌∷◌, ◌≡◌, ◌≤◌, ◌⊎◌}
+use Rattle.std.specs.List.{count_by, filter}
+use borrow.Author.Differences.{ints}
+use lib.IntN.{pos, ℤ, ◌*ℤ◌, ◌-ℤ◌}
+use Rattle.nesting.specs.Cover.{DoNotCross, covers}
+use Rattle.nesting.specs.Nesting.{EnclosesDirectly, HasAnchors, TellsOuter, edges_of}
+use Rattle.nesting.specs.RingList.{IsRingList, scaled_rings}
+use Rattle.plane.specs.Bit.{bit}
+use Rattle.plane.specs.Edge.{Edge, ends_at, other_end, reversed, segment_of}
+use Rattle.plane.specs.Order.{order}
+use Rattle.plane.specs.RayCrossing.{IsOffEdge}
+use Rattle.plane.specs.Scale.{scaled_edge, scaled_point}
+use Rattle.plane.specs.Sector.{in_sector}
+use Rattle.plane.specs.Sign.{Minus, Plus, is_plus, sign}
+use Rattle.plane.specs.Vector.{Vector, east, from_to, one_at, orient, same_point}
+use Rattle.winding.specs.ConflictFree.{IsConflictFree, others}
+use Rattle.winding.specs.EdgeList.{IsBalanced, crossing_count, down_count, up_count, winding_number}
+use Rattle.winding.specs.Member.{EachPair, In}
+use Rattle.winding.specs.Node.{spokes_in}
+use Rattle.winding.specs.Parity.{is_even}
+use Rattle.winding.specs.Ring.{IsAnchor, IsPath, IsRing, segments_of}
+use Rattle.winding.specs.ScaledEdges.{scaled_edges}
+use Rattle.winding.specs.Sided.{IsSided}
+use Rattle.nesting.proofs.Nests.{odd-bit, plain-part}
+use Rattle.nesting.proofs.PolygonCover.{all-count, cover_once, fold-direct, ring-by, small-mod}
+use Rattle.nesting.proofs.Polygons.{area-sum, down-is, filter-map, inner, not-back, own-anchor}
+use Rattle.nesting.proofs.RationalPoints.{ends-scaled, polygon_at}
+use Rattle.nesting.proofs.RingLists.{map-++, nest-plain, ring_list_nest}
+use Rattle.plane.proofs.Edges.{same_edge_by}
+use Rattle.plane.proofs.Identities.{lift, same, ◌⊠◌}
+use Rattle.plane.proofs.Points.{same_point-refl, same_point-true, same_vector}
+use Rattle.plane.proofs.RayCrossings.{down_seen, up_seen}
+use Rattle.plane.proofs.Scaling.{order-scaled, orient-scaled, point-scaled, sector-seen-scaled}
+use Rattle.plane.proofs.Signs.{plus-times}
+use Rattle.winding.proofs.Anchors.{ring_by_anchor}
+use Rattle.winding.proofs.Members.{all-in, in-all, in-filter, in-map, in-map-out, in-passes, total-same}
+use Rattle.winding.proofs.OddSides.{spokes-is}
+use Rattle.winding.proofs.RingCounts.{raised-crossings}
+use Rattle.winding.proofs.ScaledLists.{map-map, map-same, others-scaled, plain_scaled, rational_count}
+use Rattle.winding.proofs.SidedLists.{sided-even, sided_direct}
+use Rattle.winding.proofs.Sums.{same-total, total, total-is, total-map}
+
+pairs-map : {X Y : Type 0} (f : X → Y) (R : X → X → Type 0) (S : Y → Y → Type 0) (xs : List X) → ((x y : X) → R x y → S (f x) (f y)) → EachPair R xs → EachPair S (map f xs)
+pairs-map f R S [] h p = tt
+pairs-map f R S (x ∷ xs) h p =
+    (all-in (S (f x)) (map f xs) (λ y i. let r = in-map-out f xs y i in subst (λ w. S (f x) w) (sym r.2) (h x r.0 (in-all (R x) xs r.0 p.0 r.1))), pairs-map f R S xs h p.1)
+
+length-map : {X Y : Type 0} (f : X → Y) (xs : List X) → length (map f xs) ≡ length xs
+length-map f [] = refl
+length-map f (x ∷ xs) = ap (λ n. suc n) (length-map f xs)
+
+balanced-total : (f : Vector → ℕ) (es : List Edge) → IsBalanced es → total (λ (e : Edge). f e.from) es ≡ total (λ (e : Edge). f e.to) es
+balanced-total f es b =
+    sym (total-map f (λ (e : Edge). e.from) es)
+    ∙ same-total f (map (λ (e : Edge). e.from) es) (map (λ (e : Edge). e.to) es)
+    (λ v. total-map (one_at v) (λ (e : Edge). e.from) es ∙ total-is (λ (e : Edge). one_at v e.from) es ∙ b v ∙ sym (total-is (λ (e : Edge). one_at v e.to) es) ∙ sym (total-map (one_at v) (λ (e : Edge). e.to) es))
+    ∙ total-map f (λ (e : Edge). e.to) es
+
+module _ (k : ℤ) (hk : sign k ≡ Plus) where
+  path-scaled : (a : Vector) (es : List Edge) (b : Vector) → IsPath a es b → IsPath (scaled_point k a) (scaled_edges k es) (scaled_point k b)
+  path-scaled a [] b h = ap (scaled_point k) h
+  path-scaled a (e ∷ es) b h = (ap (scaled_point k) h.0, path-scaled e.to es b h.1)
+
+  ring-scaled : (r : List Edge) → IsRing r → IsRing (scaled_edges k r)
+  ring-scaled r g = record {
+    start = scaled_point k g.start;
+    path = path-scaled g.start r g.start g.path;
+    once = pairs-map (scaled_edge k) (λ (e f : Edge). same_point e.from f.from ≡ false) (λ (e f : Edge). same_point e.from f.from ≡ false) r (λ e f h. point-scaled k hk e.from f.from ∙ h) g.once;
+  }
+
+  segment-by : (b c : Bool) (s : Edge) → b ≡ c → cond b (scaled_edge k s) (reversed (scaled_edge k s)) ≡ scaled_edge k (cond c s (reversed s))
+  segment-by true true s h = refl
+  segment-by false false s h = refl
+  segment-by true false s h = absurd (cc h)
+  segment-by false true s h = absurd (cc h)
+
+  segment-scaled : (e : Edge) → segment_of (scaled_edge k e) ≡ scaled_edge k (segment_of e)
+  segment-scaled e = segment-by (is_plus (order (scaled_point k e.from) (scaled_point k e.to))) (is_plus (order e.from e.to)) e (ap is_plus (order-scaled k hk e.from e.to))
+
+  pub segments-scaled : (es : List Edge) → segments_of (scaled_edges k es) ≡ scaled_edges k (segments_of es)
+  segments-scaled es = map-map segment_of (scaled_edge k) es ∙ map-same (λ e. segment_of (scaled_edge k e)) (λ e. scaled_edge k (segment_of e)) es segment-scaled ∙ sym (map-map (scaled_edge k) segment_of es)
+
+  -- ---- a sided list
+  balanced-scaled : (es : List Edge) → IsBalanced es → IsBalanced (scaled_edges k es)
+  balanced-scaled es b v =
+      sym (total-is (λ (e : Edge). one_at v e.from) (scaled_edges k es)) ∙ total-map (λ (e : Edge). one_at v e.from) (scaled_edge k) es
+      ∙ balanced-total (λ (w : Vector). one_at v (scaled_point k w)) es b
+      ∙ sym (total-map (λ (e : Edge). one_at v e.to) (scaled_edge k) es) ∙ total-is (λ (e : Edge). one_at v e.to) (scaled_edges k es)
+
+  times-twice : (q z : ℤ) → q *ℤ (k *ℤ z) ≡ (q *ℤ k) *ℤ z
+  times-twice q z = let q' = lift q in let k' = lift k in let z' = lift z in same (q' ⊠ (k' ⊠ z')) ((q' ⊠ k') ⊠ z') (omega arith)
+
+  point-twice : (q : ℤ) (p : Vector) → scaled_point q (scaled_point k p) ≡ scaled_point (q *ℤ k) p
+  point-twice q p = same_vector (q *ℤ (k *ℤ p.x)) (q *ℤ (k *ℤ p.y)) ((q *ℤ k) *ℤ p.x) ((q *ℤ k) *ℤ p.y) (times-twice q p.x) (times-twice q p.y)
+
+  scaled-twice : (q : ℤ) (es : List Edge) → scaled_edges q (scaled_edges k es) ≡ scaled_edges (q *ℤ k) es
+  scaled-twice q es =
+      map-map (scaled_edge q) (scaled_edge k) es
+      ∙ map-same (λ e. scaled_edge q (scaled_edge k e)) (scaled_edge (q *ℤ k)) es (λ e.
+      same_edge_by (scaled_point q (scaled_point k e.from)) (scaled_point q (scaled_point k e.to)) (scaled_point (q *ℤ k) e.from) (scaled_point (q *ℤ k) e.to) (point-twice q e.from) (point-twice q e.to))
+
+  sided-scaled : (es : List Edge) → IsSided es → IsSided (scaled_edges k es)
+  sided-scaled es sd = record {
+    plain = subst IsConflictFree (sym (segments-scaled es)) (plain_scaled k hk (segments_of es) sd.plain);
+    balanced = balanced-scaled es sd.balanced;
+    counted = λ q hq p off.
+        let e = scaled-twice q es in
+        subst (λ l. (winding_number east p l ≡ pos 0) ⊎ (winding_number east p l ≡ pos 1)) (sym e) (sd.counted (q *ℤ k) (plus-times q k hq ∙ hk) p (subst (λ l. All (IsOffEdge p) l) e off));
+  }
+
+  -- ---- round a point
+  other-by : (b c : Bool) (t : Edge) → b ≡ c → cond b (scaled_point k t.to) (scaled_point k t.from) ≡ scaled_point k (cond c t.to t.from)
+  other-by true true t h = refl
+  other-by false false t h = refl
+  other-by true false t h = absurd (cc h)
+  other-by false true t h = absurd (cc h)
+
+  other-scaled : (v : Vector) (t : Edge) → other_end (scaled_point k v) (scaled_edge k t) ≡ scaled_point k (other_end v t)
+  other-scaled v t = other-by (same_point (scaled_point k v) (scaled_point k t.from)) (same_point v t.from) t (point-scaled k hk v t.from)
+
+  spokes-scaled : (v a b : Vector) (es : List Edge) →
+      spokes_in (from_to (scaled_point k v) (scaled_point k a)) (from_to (scaled_point k v) (scaled_point k b)) (scaled_point k v) (scaled_edges k es) ≡ spokes_in (from_to v a) (from_to v b) v es
+  spokes-scaled v a b es =
+      let w = scaled_point k v in let d = from_to w (scaled_point k a) in let c = from_to w (scaled_point k b) in
+      let f = λ (t : Edge). cond (ends_at w t) (in_sector d c (from_to w (other_end w t))) 0 in
+      let g = λ (t : Edge). cond (ends_at v t) (in_sector (from_to v a) (from_to v b) (from_to v (other_end v t))) 0 in
+      spokes-is d c w (scaled_edges k es) ∙ total-map f (scaled_edge k) es
+      ∙ total-same (λ t. f (scaled_edge k t)) g es (λ t i.
+      ap (λ x. cond x (in_sector d c (from_to w (other_end w (scaled_edge k t)))) 0) (ends-scaled k hk v t)
+      ∙ ap (λ n. cond (ends_at v t) n 0) (ap (λ u. in_sector d c (from_to w u)) (other-scaled v t) ∙ sector-seen-scaled k hk v a b (other_end v t)))
+      ∙ sym (spokes-is (from_to v a) (from_to v b) v es)
+
+  end-by : (v : Vector) (s : Edge) (b c : Bool) → same_point v (scaled_point k s.from) ≡ b → same_point v (scaled_point k s.to) ≡ c → (b || c) ≡ true → (u : Vector) × (v ≡ scaled_point k u)
+  end-by v s true c h j o = (s.from, same_point-true v (scaled_point k s.from) h)
+  end-by v s false true h j o = (s.to, same_point-true v (scaled_point k s.to) j)
+  end-by v s false false h j o = absurd (cc o)
+
+  abbrev Uncrossed : List Edge → Vector → Edge → Edge → Type 0
+  Uncrossed es v s t = spokes_in (from_to v (other_end v s)) (from_to v (other_end v t)) v es % 2 ≡ 0
+
+  uncrossed-at : (ss es : List Edge) → DoNotCross ss es → (u : Vector) (s t : Edge) → In s ss → In t ss → ends_at (scaled_point k u) (scaled_edge k s) ≡ true → ends_at (scaled_point k u) (scaled_edge k t) ≡ true →
+      Uncrossed (scaled_edges k es) (scaled_point k u) (scaled_edge k s) (scaled_edge k t)
+  uncrossed-at ss es n u s t i j hs ht =
+      let w = scaled_point k u in
+      ap (λ x. spokes_in (from_to w x) (from_to w (other_end w (scaled_edge k t))) w (scaled_edges k es) % 2) (other-scaled u s)
+      ∙ ap (λ x. spokes_in (from_to w (scaled_point k (other_end u s))) (from_to w x) w (scaled_edges k es) % 2) (other-scaled u t)
+      ∙ ap (λ m. m % 2) (spokes-scaled u (other_end u s) (other_end u t) es)
+      ∙ n u s t i j (sym (ends-scaled k hk u s) ∙ hs) (sym (ends-scaled k hk u t) ∙ ht)
+
+  uncrossed-scaled : (ss es : List Edge) → DoNotCross ss es → DoNotCross (scaled_edges k ss) (scaled_edges k es)
+  uncrossed-scaled ss es n v s t i j hs ht =
+      let r = in-map-out (scaled_edge k) ss s i in let q = in-map-out (scaled_edge k) ss t j in
+      let hr = subst (λ w. ends_at v w ≡ true) r.2 hs in let hq = subst (λ w. ends_at v w ≡ true) q.2 ht in
+      let e = end-by v r.0 (same_point v (scaled_point k r.0.from)) (same_point v (scaled_point k r.0.to)) refl refl hr in
+      let at_r = subst (λ w. ends_at w (scaled_edge k r.0) ≡ true) e.1 hr in let at_q = subst (λ w. ends_at w (scaled_edge k q.0) ≡ true) e.1 hq in
+      subst (λ w. Uncrossed (scaled_edges k es) w s t) (sym e.1)
+      (subst (λ w. Uncrossed (scaled_edges k es) (scaled_point k e.0) w t) (sym r.2)
+      (subst (λ w. Uncrossed (scaled_edges k es) (scaled_point k e.0) (scaled_edge k r.0) w) (sym q.2)
+      (uncrossed-at ss es n e.0 r.0 q.0 r.1 q.1 at_r at_q)))
+
+  -- ---- a ring list
+  edges-scaled : (rs : List (List Edge)) → edges_of (scaled_rings k rs) ≡ scaled_edges k (edges_of rs)
+  edges-scaled [] = refl
+  edges-scaled (r ∷ rs) = ap (λ l. scaled_edges k r ++ l) (edges-scaled rs) ∙ sym (map-++ (scaled_edge k) r (edges_of rs))
+
+  free-scaled : (r s : List Edge) → DoNotCross (segments_of r) (segments_of s) → DoNotCross (segments_of (scaled_edges k r)) (segments_of (scaled_edges k s))
+  free-scaled r s n =
+      subst (λ w. DoNotCross w (segments_of (scaled_edges k s))) (sym (segments-scaled r))
+      (subst (λ w. DoNotCross (scaled_edges k (segments_of r)) w) (sym (segments-scaled s)) (uncrossed-scaled (segments_of r) (segments_of s) n))
+
+  pub scaled_ring_list : (rs : List (List Edge)) → IsRingList rs → IsRingList (scaled_rings k rs)
+  scaled_ring_list rs l = record {
+    ring = λ r i. let q = in-map-out (scaled_edges k) rs r i in subst IsRing (sym q.2) (ring-scaled q.0 (l.ring q.0 q.1));
+    long = λ r i. let q = in-map-out (scaled_edges k) rs r i in subst (λ w. 3 ≤ length w) (sym q.2) (subst (λ n. 3 ≤ n) (sym (length-map (scaled_edge k) q.0)) (l.long q.0 q.1));
+    sided = subst IsSided (sym (edges-scaled rs)) (sided-scaled (edges_of rs) l.sided);
+    free = pairs-map (scaled_edges k) (λ (r s : List Edge). DoNotCross (segments_of r) (segments_of s) × DoNotCross (segments_of s) (segments_of r))
+    (λ (r s : List Edge). DoNotCross (segments_of r) (segments_of s) × DoNotCross (segments_of s) (segments_of r)) rs (λ r s f. (free-scaled r s f.0, free-scaled s r f.1)) l.free;
+  }
+
+  -- ---- the anchor of a ring
+  point-back : (p q : Vector) → scaled_point k p ≡ scaled_point k q → p ≡ q
+  point-back p q e = same_point-true p q (sym (point-scaled k hk p q) ∙ subst (λ w. same_point (scaled_point k p) w ≡ true) e (same_point-refl (scaled_point k p)))
+
+  anchor-scaled : (s : Edge) (es : List Edge) → IsAnchor s es → IsAnchor (scaled_edge k s) (scaled_edges k es)
+  anchor-scaled s es a = record {
+    member = in-map (scaled_edge k) es s a.member;
+    least = λ t i o. let r = in-map-out (scaled_edge k) es t i in a.least r.0 r.1 (sym (order-scaled k hk s.from r.0.from) ∙ subst (λ (w : Edge). order (scaled_point k s.from) w.from ≡ Minus) r.2 o);
+    leftmost = λ t i q.
+        let r = in-map-out (scaled_edge k) (others s es) t (subst (λ l. In t l) (others-scaled k hk s es) i) in
+        subst (λ (w : Edge). orient (scaled_point k s.from) (scaled_point k s.to) w.to ≡ Minus) (sym r.2)
+        (orient-scaled k hk s.from s.to r.0.to ∙ a.leftmost r.0 r.1 (point-back s.from r.0.from (q ∙ ap (λ (w : Edge). w.from) r.2)));
+  }
+
+  -- ---- what the rings and polygons count at p.x / k, p.y / k
+  module _ (rs : List (List Edge)) (l : IsRingList rs) (outer : List Edge → Bool) (tells : TellsOuter (map segments_of rs) outer) (anchors : HasAnchors (map segments_of rs)) (p : Vector) where
+    abbrev up_at : Edge → ℕ
+    up_at e = up_seen east (from_to p) (scaled_edge k e)
+
+    abbrev down_at : Edge → ℕ
+    down_at e = down_seen east (from_to p) (scaled_edge k e)
+
+    abbrev covers_at : List Edge → Bool
+    covers_at g = covers (scaled_edges k g) p
+
+    covered-is : (r : List Edge) → crossing_count east p (scaled_edges k r) % 2 ≡ bit (covers_at (segments_of r))
+    covered-is r =
+        odd-bit (crossing_count east p (scaled_edges k r))
+        ∙ ap (λ n. bit (not (is_even n))) (sym (raised-crossings east p (scaled_edges k r)) ∙ ap (λ (g : List Edge). crossing_count east p g) (segments-scaled r))
+
+    wound-scaled : (r : List Edge) → (i : In r rs) →
+        winding_number east p (scaled_edges k r) ≡ cond (not (outer (segments_of r))) (pos 0 -ℤ pos (crossing_count east p (scaled_edges k r) % 2)) (pos (crossing_count east p (scaled_edges k r) % 2))
+    wound-scaled r i =
+        let a = own-anchor rs l outer tells anchors p r i in
+        ring_by_anchor (scaled_edge k a.0) (scaled_edges k r) (ring-scaled r (l.ring r i))
+        (subst IsConflictFree (sym (segments-scaled r)) (plain_scaled k hk (segments_of r) (plain-part (map segments_of rs) (segments_of r) (nest-plain rs l) (in-map segments_of rs r i))))
+        (in-map (scaled_edge k) r a.0 a.1)
+        (subst (λ g. IsAnchor (segment_of (scaled_edge k a.0)) g) (sym (segments-scaled r)) (subst (λ s. IsAnchor s (scaled_edges k (segments_of r))) (sym (segment-scaled a.0)) (anchor-scaled (segment_of a.0) (segments_of r) a.2))) p
+        ∙ ap (λ b. cond b (pos 0 -ℤ pos (crossing_count east p (scaled_edges k r) % 2)) (pos (crossing_count east p (scaled_edges k r) % 2)))
+        (ap is_plus (order-scaled k hk a.0.from a.0.to) ∙ not-back rs l outer tells anchors p (outer (segments_of r)) (is_plus (order a.0.from a.0.to)) (down-is rs l outer tells anchors p r i))
+
+    out-count-scaled : (r : List Edge) → In r rs → outer (segments_of r) ≡ true → total up_at r ≡ total down_at r + bit (covers_at (segments_of r))
+    out-count-scaled r i o =
+        let n = crossing_count east p (scaled_edges k r) % 2 in
+        let w = wound-scaled r i ∙ ap (λ b. cond (not b) (pos 0 -ℤ pos n) (pos n)) o in
+        let a = total-is (up_seen east (from_to p)) (scaled_edges k r) in let b = total-is (down_seen east (from_to p)) (scaled_edges k r) in
+        let e = total-map (up_seen east (from_to p)) (scaled_edge k) r in let f = total-map (down_seen east (from_to p)) (scaled_edge k) r in
+        let c = covered-is r in
+        let m : up_count east p (scaled_edges k r) ≡ down_count east p (scaled_edges k r) + n = omega (arith, ints) in omega arith
+
+    in-count-scaled : (r : List Edge) → In r rs → outer (segments_of r) ≡ false → total up_at r + bit (covers_at (segments_of r)) ≡ total down_at r
+    in-count-scaled r i o =
+        let n = crossing_count east p (scaled_edges k r) % 2 in
+        let w = wound-scaled r i ∙ ap (λ b. cond (not b) (pos 0 -ℤ pos n) (pos n)) o in
+        let a = total-is (up_seen east (from_to p)) (scaled_edges k r) in let b = total-is (down_seen east (from_to p)) (scaled_edges k r) in
+        let e = total-map (up_seen east (from_to p)) (scaled_edge k) r in let f = total-map (down_seen east (from_to p)) (scaled_edge k) r in
+        let c = covered-is r in
+        let m : up_count east p (scaled_edges k r) + n ≡ down_count east p (scaled_edges k r) = omega (arith, ints) in omega arith
+
+    pub polygon_at_fractions : (r : List Edge) → In r rs → outer (segments_of r) ≡ true → (under : List Edge → Bool) →
+        ((h : List Edge) → (i : In h (map segments_of rs)) → under h ≡ true → (outer h ≡ false) × EnclosesDirectly (map segments_of rs) outer (segments_of r) (anchors h i).0) →
+        (w : ℕ) × (w ≤ 1) × (winding_number east p (scaled_edges k (r ++ edges_of (filter (λ (h : List Edge). under (segments_of h)) rs))) ≡ pos w)
+    polygon_at_fractions r i o under means =
+        let inner = filter (λ (h : List Edge). under (segments_of h)) rs in let es = r ++ edges_of inner in
+        let m = polygon_at k hk (map segments_of rs) (ring_list_nest rs l) outer tells anchors p (segments_of r) (in-map segments_of rs r i) under means in
+        let t = total-is (λ (h : List Edge). bit (covers_at h)) (filter under (map segments_of rs)) in
+        let f = ap (λ gs. total (λ (h : List Edge). bit (covers_at h)) gs) (filter-map under rs) ∙ total-map (λ h. bit (covers_at h)) segments_of inner in
+        let s = area-sum up_at down_at (λ r. covers_at (segments_of r)) r inner (out-count-scaled r i o)
+        (λ h j. let ih = in-filter (λ (h : List Edge). under (segments_of h)) rs h j in
+            in-count-scaled h ih (means (segments_of h) (in-map segments_of rs h ih) (in-passes (λ (h : List Edge). under (segments_of h)) rs h j)).0) (omega arith) in
+        let w = s.0 in let g = s.2 in
+        let a = total-is (up_seen east (from_to p)) (scaled_edges k es) in let b = total-is (down_seen east (from_to p)) (scaled_edges k es) in
+        let e = total-map (up_seen east (from_to p)) (scaled_edge k) es in let d = total-map (down_seen east (from_to p)) (scaled_edge k) es in
+        let c : up_count east p (scaled_edges k es) ≡ down_count east p (scaled_edges k es) + w = omega arith in
+        (w, s.1, omega (arith, ints))
+
+    pub cover_at_fractions : (under : List Edge → List Edge → Bool) →
+        ((g h : List Edge) → In g (map segments_of rs) → (i : In h (map segments_of rs)) → under g h ≡ true → (outer h ≡ false) × EnclosesDirectly (map segments_of rs) outer g (anchors h i).0) →
+        ((g h : List Edge) → In g (map segments_of rs) → (i : In h (map segments_of rs)) → outer h ≡ false → EnclosesDirectly (map segments_of rs) outer g (anchors h i).0 → under g h ≡ true) →
+        count_by (λ (g : List Edge). outer g && (covers (scaled_edges k g) p && (count_by (λ (h : List Edge). under g h && covers (scaled_edges k h) p) (map segments_of rs) == 0))) (map segments_of rs) ≤ 1
+    cover_at_fractions under means meant =
+        let es = edges_of rs in let n = crossing_count east p (scaled_edges k (segments_of es)) % 2 in
+        let s = rational_count k hk p (segments_of es) l.sided.plain (sided-even es l.sided.balanced) in
+        let q = fold-direct (segments_of es) es (λ e i. sided_direct es l.sided e i) in
+        let w : winding_number east p (scaled_edges k es) ≡ pos n = subst (λ (u : List Edge). winding_number east p (scaled_edges k u) ≡ pos n) q s in
+        let a = total-is (up_seen east (from_to p)) (scaled_edges k es) in let b = total-is (down_seen east (from_to p)) (scaled_edges k es) in
+        let e = total-map (up_seen east (from_to p)) (scaled_edge k) es in let f = total-map (down_seen east (from_to p)) (scaled_edge k) es in
+        let m : up_count east p (scaled_edges k es) ≡ down_count east p (scaled_edges k es) + n = omega (arith, ints) in
+        cover_once rs l outer tells anchors covers_at under means meant n (small-mod (crossing_count east p (scaled_edges k (segments_of es))))
+        (all-count up_at down_at outer covers_at n rs (omega arith)
+        (λ r i. ring-by (outer (segments_of r)) (total up_at r) (total down_at r) (bit (covers_at (segments_of r))) (λ o. out-count-scaled r i o) (λ o. in-count-scaled r i o)))
+        (λ g j.
+            let x = polygon_at k hk (map segments_of rs) (ring_list_nest rs l) outer tells anchors p g j (under g) (λ h i u. means g h j i u) in
+            let t = total-is (λ (h : List Edge). bit (covers_at h)) (filter (under g) (map segments_of rs)) in omega arith)

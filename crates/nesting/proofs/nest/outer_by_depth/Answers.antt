@@ -1,0 +1,17 @@
+use Rattle.nesting.proofs.nest.outer_by_depth.Goals as goal
+use Rattle.nesting.proofs.DirectEnclosure.{encloses_law}
+use Rattle.nesting.proofs.EnclosingSums.{enclosing_sums}
+use Rattle.nesting.proofs.Nests.{outer_depth}
+use Rattle.nesting.proofs.RingLists.{outer_down}
+
+pub returns-clause-down : goal.returns-clause-down
+returns-clause-down c = outer_down
+
+pub returns-clause-depth : goal.returns-clause-depth
+returns-clause-depth c = outer_depth
+
+pub returns-clause-encloses : goal.returns-clause-encloses
+returns-clause-encloses c = encloses_law
+
+pub returns-clause-balance : goal.returns-clause-balance
+returns-clause-balance c = enclosing_sums

@@ -1,0 +1,18 @@
+use Rattle.nesting.proofs.walk.ring_list_exists.Goals as goal
+use Rattle.nesting.specs.Stack.{cut_all}
+use Rattle.nesting.proofs.Pieces.{pieces_same}
+use Rattle.nesting.proofs.Rotations.{rotated_rings}
+use Rattle.nesting.proofs.Stacks.{stack_cut_all, stack_cuts, stack_rings}
+use Rattle.nesting.proofs.Walks.{walks_there}
+
+pub returns-clause-cuts : goal.returns-clause-cuts
+returns-clause-cuts c = stack_cuts
+
+pub returns-clause-stack : goal.returns-clause-stack
+returns-clause-stack c = stack_rings
+
+pub returns-clause-exists : goal.returns-clause-exists
+returns-clause-exists c = λ es sd. let w = walks_there es sd in (cut_all w.0, stack_rings es sd w.0 w.1, pieces_same es sd w.0 (cut_all w.0) w.1 (stack_cut_all es sd w.0 w.1))
+
+pub returns-clause-rotated : goal.returns-clause-rotated
+returns-clause-rotated c = rotated_rings

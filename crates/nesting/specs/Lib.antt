@@ -1,0 +1,10 @@
+pub mod Cover
+pub mod CoverLaws
+pub mod Nesting
+pub mod NestingLaws
+pub mod PolygonLaws
+pub mod RingList
+pub mod Rotated
+pub mod Stack
+pub mod Walk
+pub mod WalkLaws

@@ -1,0 +1,19 @@
+-- Ring lists: a sided list split into rings that do not cross.
+use Rattle.std.specs.Prelude.{List, length, map, ◌≤◌}
+use lib.IntN.{ℤ}
+use Rattle.nesting.specs.Cover.{DoNotCross}
+use Rattle.nesting.specs.Nesting.{edges_of}
+use Rattle.plane.specs.Edge.{Edge}
+use Rattle.winding.specs.Member.{EachPair, In}
+use Rattle.winding.specs.Ring.{IsRing, segments_of}
+use Rattle.winding.specs.ScaledEdges.{scaled_edges}
+use Rattle.winding.specs.Sided.{IsSided}
+
+pub record IsRingList (rs : List (List Edge)) : Type 0 where
+  pub ring : (r : List Edge) → In r rs → IsRing r
+  pub long : (r : List Edge) → In r rs → 3 ≤ length r
+  pub sided : IsSided (edges_of rs)
+  pub free : EachPair (λ (r s : List Edge). DoNotCross (segments_of r) (segments_of s) × DoNotCross (segments_of s) (segments_of r)) rs
+
+abbrev pub scaled_rings : ℤ → List (List Edge) → List (List Edge)
+scaled_rings k rs = map (scaled_edges k) rs

@@ -1,0 +1,16 @@
+pub mod AlongSegment
+pub mod Anchors
+pub mod Balance
+pub mod ConflictFree
+pub mod Independence
+pub mod Levels
+pub mod Members
+pub mod OddSides
+pub mod OppositeEnds
+pub mod Ranks
+pub mod RingCounts
+pub mod RoundNode
+pub mod ScaledLists
+pub mod Shifts
+pub mod SidedLists
+pub mod Sums

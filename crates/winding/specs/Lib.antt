@@ -1,0 +1,17 @@
+pub mod AlongSegmentLaws
+pub mod ConflictFree
+pub mod DirectionLaws
+pub mod EdgeList
+pub mod Member
+pub mod Node
+pub mod OddSide
+pub mod OddSideLaws
+pub mod Parity
+pub mod Rank
+pub mod RankLaws
+pub mod Ring
+pub mod RingLaws
+pub mod RoundNodeLaws
+pub mod ScaledEdges
+pub mod ScaledListLaws
+pub mod Sided

@@ -1,0 +1,11 @@
+//! Along a segment.
+ghost use Rattle.winding.specs.AlongSegmentLaws.{ParityAlongSegment, WindingAlongSegment, ParityFromEnd, ParityFromBothEnds};
+
+/// Along a segment that shares with the edges of a closed list no point but ends, parity and winding number are the same at
+/// all inner points, and the ray along the segment tells the parity from both of its ends, past the edges that end there.
+pub fn parity_is_one_along_segment()
+    ensures parity { ParityAlongSegment }
+    ensures winding { WindingAlongSegment }
+    ensures from_end { ParityFromEnd }
+    ensures from_both_ends { ParityFromBothEnds }
+{}
