@@ -16,26 +16,27 @@ use std::alloc::{AllocError, Global};
 
 /// A node that has tags.
 #[derive(Drop)]
-pub struct TaggedNode {
-    pub tags: Tags,
-    pub place: Option<Loc>,
+pub(crate) struct TaggedNode {
+    pub(crate) tags: Tags,
+    pub(crate) place: Option<Loc>,
 }
 
 #[derive(Drop)]
-pub struct HeldWay {
-    pub tags: Tags,
-    pub refs: Refs,
+pub(crate) struct HeldWay {
+    pub(crate) tags: Tags,
+    pub(crate) refs: Refs,
 }
 
 #[derive(Drop)]
-pub struct HeldRelation {
-    pub tags: Tags,
-    pub members: Members,
+pub(crate) struct HeldRelation {
+    pub(crate) tags: Tags,
+    pub(crate) members: Members,
 }
 
-/// Most objects are nodes without tags, so these alone stand in the entry itself.
+/// An object without its kind and id. Most are nodes without tags, so these alone stand in the entry itself,
+/// and an entry is no larger than they need.
 #[derive(Drop)]
-pub enum Held {
+pub(crate) enum Held {
     Plain(Option<Loc>),
     Tagged(Box<TaggedNode>),
     Way(Box<HeldWay>),
