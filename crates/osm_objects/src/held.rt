@@ -83,7 +83,8 @@ impl Held {
         match self {
             Held::Plain(_) | Held::Tagged(_) => false,
             Held::Way(way) => {
-                is_closed(way.refs.as_slice()) && !is_tagged(&way.tags, "area", "no")
+                let refs = way.refs.as_slice();
+                refs.len() >= 4 && is_closed(refs) && !is_tagged(&way.tags, "area", "no")
             }
             Held::Relation(relation) => {
                 is_tagged(&relation.tags, "type", "multipolygon")
@@ -168,9 +169,9 @@ impl Held {
     }
 }
 
-/// Whether references may bound an area: at least four, and the last is the first.
+/// Whether there is a reference, and the last is the first.
 fn is_closed(refs: &[i64]) -> bool
     ensures { result ≡ is_closed refs.now }
 {
-    refs.len() >= 4 && refs.first() == refs.last()
+    !refs.is_empty() && refs.first() == refs.last()
 }
