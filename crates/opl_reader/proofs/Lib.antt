@@ -5,6 +5,7 @@ pub mod StringLemmas
 pub mod ItemLemmas
 pub mod TagLemmas
 pub mod LineLemmas
+pub mod LetterLaws
 pub mod FieldLemmas
 pub mod ReadingLemmas
 pub mod PartedLaws
