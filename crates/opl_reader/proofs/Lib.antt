@@ -14,5 +14,6 @@ pub mod DecimalLaws
 pub mod PlaceLaws
 pub mod ItemLaws
 pub mod LineLaws
+pub mod BadLaws
 pub mod FaultLaws
 pub mod AnswerLaws

@@ -56,13 +56,17 @@ IsRef bytes id = (digits : List ℕ) × (bytes ≡ 110 ∷ digits) × IsId digit
 abbrev pub kind_of : ℕ → Option ObjectKind
 kind_of b = if b == 110 then Some Node else (if b == 119 then Some Way else (if b == 114 then Some Relation else None))
 
--- a letter and an id, cut at the first @ from the role
-pub record IsMember (bytes : List ℕ) (m : Member) : Type 0 where
+-- a letter and an id, which the first @ parts from a role
+pub record HasTarget (bytes : List ℕ) (role : List ℕ) (kind : ObjectKind) (id : ℤ) : Type 0 where
   pub letter : ℕ
   pub digits : List ℕ
-  pub role : List ℕ
   pub parts : bytes ≡ (letter ∷ digits) ++ 64 ∷ role
   pub first : Lacks 64 (letter ∷ digits)
-  pub kind_is : kind_of letter ≡ Some m.kind
-  pub id_is : IsId digits m.id
+  pub kind_is : kind_of letter ≡ Some kind
+  pub id_is : IsId digits id
+
+-- a letter, an id, @ and a role
+pub record IsMember (bytes : List ℕ) (m : Member) : Type 0 where
+  pub role : List ℕ
+  pub target : HasTarget bytes role m.kind m.id
   pub role_is : IsString role m.role
