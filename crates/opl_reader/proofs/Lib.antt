@@ -17,3 +17,4 @@ pub mod LineLaws
 pub mod BadLaws
 pub mod FaultLaws
 pub mod AnswerLaws
+pub mod KeyLaws

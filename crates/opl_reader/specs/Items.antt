@@ -1,6 +1,6 @@
 -- Values that are lists of items: tags, references and members.
-use Rattle.std.specs.Prelude.{◌≡◌, ℕ, ◌<◌, ◌⊎◌, not, ◌==◌, if◌then◌else◌, List, [], ◌∷◌, ◌++◌, length, ℤ, Option, Some, None}
-use Rattle.std.specs.List.{filter}
+use Rattle.std.specs.Prelude.{◌≡◌, ◌≢◌, ℕ, ◌<◌, ◌⊎◌, not, ◌==◌, if◌then◌else◌, List, [], ◌∷◌, ◌++◌, length, ℤ, Option, Some, None}
+use Rattle.std.specs.List.{filter, AllByRecursion}
 use Rattle.std.specs.Str.{bytes_eq}
 use Rattle.opl_reader.specs.declared.object.Tag.{Tag}
 use Rattle.opl_reader.specs.declared.object.Member.{Member}
@@ -43,6 +43,11 @@ pub record IsTag (bytes : List ℕ) (t : Tag) : Type 0 where
 abbrev pub first_of_each : List Tag → List Tag
 first_of_each [] = []
 first_of_each (t ∷ tags) = t ∷ filter (λ u. not (bytes_eq u.key t.key)) (first_of_each tags)
+
+-- no two of the tags have one key
+abbrev pub HaveDifferentKeys : List Tag → Type 0
+HaveDifferentKeys [] = Unit {0}
+HaveDifferentKeys (t ∷ tags) = AllByRecursion (λ u. u.key ≢ t.key) tags × HaveDifferentKeys tags
 
 -- ---- references
 
