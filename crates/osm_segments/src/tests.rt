@@ -114,6 +114,35 @@ fn distinct_segments_and_odd_nodes(rt: HostRuntime) -> Result<(), Fail> {
     Ok(())
 }
 
+/// The conflicts among the survivors of lines.
+fn conflicts_along(alloc: Global, lines: &str) -> Result<Vec<Pair>, Fail> {
+    let list = survivors(alloc, &all_segs(alloc, lines)?)?;
+    Ok(conflicts(alloc, &list)?)
+}
+
+/// Pairs of the segments of lines, two by two, each an overlap where its word is `o`.
+fn pairs_of(alloc: Global, lines: &str, kinds: &str) -> Result<Vec<Pair>, Fail> {
+    let segs = all_segs(alloc, lines)?;
+    let mut rest = segs.as_slice();
+    let mut pairs = Vec::new(alloc);
+    for word in kinds.split_whitespace() {
+        if let [first, second, later @ ..] = rest {
+            let kind = if word == "o" {
+                Kind::Overlap
+            } else {
+                Kind::Crossing
+            };
+            pairs.push(Pair {
+                kind,
+                first: *first,
+                second: *second,
+            })?;
+            rest = later;
+        }
+    }
+    Ok(pairs)
+}
+
 #[test]
 fn conflicts_of_survivors(rt: HostRuntime) -> Result<(), Fail> {
     let alloc = rt.alloc();
@@ -144,26 +173,11 @@ fn conflicts_of_survivors(rt: HostRuntime) -> Result<(), Fail> {
         ),
     ];
     for (name, lines, pairs, kinds) in rows {
-        let list = survivors(alloc, &all_segs(alloc, lines)?)?;
-        let found = conflicts(alloc, &list)?;
-        let expected = all_segs(alloc, pairs)?;
-        let mut want = Vec::new(alloc);
-        let mut rest = expected.as_slice();
-        let mut words = kinds.split_whitespace();
-        while let [first, second, later @ ..] = rest {
-            let kind = if words.next() == Some("o") {
-                Kind::Overlap
-            } else {
-                Kind::Crossing
-            };
-            want.push(Pair {
-                kind,
-                first: *first,
-                second: *second,
-            })?;
-            rest = later;
-        }
-        assert_eq!(rt; found.as_slice(), want.as_slice(), "{name}");
+        assert_eq!(rt;
+            conflicts_along(alloc, lines)?.as_slice(),
+            pairs_of(alloc, pairs, kinds)?.as_slice(),
+            "{name}"
+        );
     }
     Ok(())
 }
