@@ -6,20 +6,19 @@ use Rattle.nesting.specs.Nesting.{EnclosesDirectly, IsNearest, IsNest, edges_of,
 use Rattle.plane.specs.Bit.{bit}
 use Rattle.plane.specs.Conflict.{IsClearOf}
 use Rattle.plane.specs.Edge.{Edge}
-use Rattle.plane.specs.Height.{is_in_span}
+use Rattle.plane.specs.Height.{is_in_span, is_right_above}
 use Rattle.plane.specs.Vector.{Vector}
 use Rattle.winding.specs.ConflictFree.{IsConflictFree}
 use Rattle.winding.specs.Member.{EachPair, In}
 use Rattle.winding.specs.Parity.{is_even}
 use Rattle.winding.specs.Ring.{IsAnchor}
 use Rattle.nesting.proofs.CoveredEdges.{beside}
-use Rattle.nesting.proofs.Nearest.{is_beyond}
 use Rattle.nesting.proofs.Nests.{alternate, and-make, clear-of, clear_rings, depth-total, encloses-in, encloses-not, has-not-by, has_same, in-flat, innermost, nearest_exists, nearest_in, not-both, outer_depth, plain-left, plain-part, plain-right, same-ring, true-not-false}
 use Rattle.nesting.proofs.TwoLists.{clear-turned, contained, disjoint, plain-append}
 use Rattle.plane.proofs.Edges.{and-out}
+use Rattle.plane.proofs.Heights.{right_of}
 use Rattle.winding.proofs.Anchors.{anchor_spans, some_odd}
 use Rattle.winding.proofs.ConflictFree.{rising_in}
-use Rattle.winding.proofs.Levels.{right_of}
 use Rattle.winding.proofs.Members.{all-in, in-all, in-either, in-filter, in-passes, into-filter, pairs-across, pairs-filter, pairs-weaker}
 use Rattle.winding.proofs.OddSides.{not-not}
 use Rattle.winding.proofs.Ranks.{First}
@@ -73,17 +72,17 @@ pub plain-chosen : (sel : List Edge → Bool) (gs : List (List Edge)) → IsConf
 plain-chosen sel [] p = p
 plain-chosen sel (g ∷ gs) p = plain-chosen-by (sel g) g (filter sel gs) gs p (plain-chosen sel gs (plain-right g (edges_of gs) p)) (flat-filter sel gs)
 
-first-nearest : (e m : Edge) (es : List Edge) → IsNearest e m es → First (right_of e.from) m (filter (is_beyond e.from e) es)
+first-nearest : (e m : Edge) (es : List Edge) → IsNearest e m es → First (right_of e.from) m (filter (is_right_above e.from e) es)
 first-nearest e m es n = record {
-  here = into-filter (is_beyond e.from e) es m n.member n.right;
-  first = λ f i. n.first f (in-filter (is_beyond e.from e) es f i) (in-passes (is_beyond e.from e) es f i);
+  here = into-filter (is_right_above e.from e) es m n.member n.right;
+  first = λ f i. n.first f (in-filter (is_right_above e.from e) es f i) (in-passes (is_right_above e.from e) es f i);
 }
 
-nearest-first : (e m : Edge) (es : List Edge) → First (right_of e.from) m (filter (is_beyond e.from e) es) → IsNearest e m es
+nearest-first : (e m : Edge) (es : List Edge) → First (right_of e.from) m (filter (is_right_above e.from e) es) → IsNearest e m es
 nearest-first e m es n = record {
-  member = in-filter (is_beyond e.from e) es m n.here;
-  right = in-passes (is_beyond e.from e) es m n.here;
-  first = λ f i b. n.first f (into-filter (is_beyond e.from e) es f i b);
+  member = in-filter (is_right_above e.from e) es m n.here;
+  right = in-passes (is_right_above e.from e) es m n.here;
+  first = λ f i b. n.first f (into-filter (is_right_above e.from e) es f i b);
 }
 
 module _ (gs : List (List Edge)) (n : IsNest gs) (outer : List Edge → Bool) (tells : (g : List Edge) → In g gs → (a : Edge) → IsAnchor a g → outer g ≡ is_outer gs a)
@@ -111,13 +110,13 @@ module _ (gs : List (List Edge)) (n : IsNest gs) (outer : List Edge → Bool) (t
       pub round : encloses ring e ≡ true
       pub edge : Edge
       pub here : In edge ring
-      pub first : First (right_of e.from) edge (filter (is_beyond e.from e) (edges_of (filter inside gs)))
+      pub first : First (right_of e.from) edge (filter (is_right_above e.from e) (edges_of (filter inside gs)))
 
     inmost : outer h ≡ false → Inmost
     inmost o =
         let g = some-ring o in
         let m = nearest_exists gs n h ih e a.member e.from e-spans inside (λ g i c. c) g.0 g.1 g.2 (plain-chosen inside gs n.plain) in
-        let t = in-flat-out (filter inside gs) m.0 (in-filter (is_beyond e.from e) (edges_of (filter inside gs)) m.0 m.1.here) in
+        let t = in-flat-out (filter inside gs) m.0 (in-filter (is_right_above e.from e) (edges_of (filter inside gs)) m.0 m.1.here) in
         record { ring = t.0; member = in-filter inside gs t.0 t.1; round = in-passes inside gs t.0 t.1; edge = m.0; here = t.2; first = m.1 }
 
     inmost-outer : (o : outer h ≡ false) → (t : Inmost) → outer t.ring ≡ true
@@ -148,7 +147,7 @@ module _ (gs : List (List Edge)) (n : IsNest gs) (outer : List Edge → Bool) (t
       let t = inmost h ih e a o in let out = inmost-outer h ih e a o t in
       let sel = λ (g : List Edge). outer g && encloses g e in
       let m = nearest_exists gs n h ih e a.member e.from (e-spans h ih e a) sel (λ g i c. (and-out (outer g) (encloses g e) c).1) t.ring t.member (both-true (outer t.ring) (encloses t.ring e) out t.round) (plain-chosen sel gs n.plain) in
-      let r = in-flat-out (filter sel gs) m.0 (in-filter (is_beyond e.from e) (edges_of (filter sel gs)) m.0 m.1.here) in
+      let r = in-flat-out (filter sel gs) m.0 (in-filter (is_right_above e.from e) (edges_of (filter sel gs)) m.0 m.1.here) in
       let c = and-out (outer r.0) (encloses r.0 e) (in-passes sel gs r.0 r.1) in
       (r.0, record { member = in-filter sel gs r.0 r.1; is = c.0; around = c.1; edge = m.0; here = r.2; nearest = nearest-first e m.0 (edges_of (filter sel gs)) m.1 })
 
@@ -228,11 +227,11 @@ polygon_law gs n outer tells anchors g ig under means p =
     let a = polygon_count gs n outer tells anchors g ig under means p in let b = total-is (λ h. bit (covers h p)) (filter under gs) in omega arith
 
 -- a ring encloses another where an odd number of its edges are right of the other's anchor
-pub encloses_law : (gs : List (List Edge)) → IsNest gs → (g h : List Edge) → In g gs → In h gs → (e : Edge) → IsAnchor e h → has_edge g e ≡ false → encloses g e ≡ not (is_even (count_by (is_beyond e.from e) g))
+pub encloses_law : (gs : List (List Edge)) → IsNest gs → (g h : List Edge) → In g gs → In h gs → (e : Edge) → IsAnchor e h → has_edge g e ≡ false → encloses g e ≡ not (is_even (count_by (is_right_above e.from e) g))
 encloses_law gs n g h ig ih e a m =
     let pg = plain-part gs g n.plain ig in let ph = plain-part gs h n.plain ih in
     let s = anchor_spans e h ph (n.even h ih) a in
     let c = clear-of gs n g h e ig ih a.member m in
     let b = beside e.from e g (rising_in h e ph a.member) pg (n.even g ig) c s in
-    let t = total-is (λ f. bit (is_beyond e.from e f)) g in
+    let t = total-is (λ f. bit (is_right_above e.from e f)) g in
     ap (λ x. not x && covers_edge g e) m ∙ sym (not-not (covers_edge g e)) ∙ ap not (sym b) ∙ ap (λ k. not (is_even k)) t

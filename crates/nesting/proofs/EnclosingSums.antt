@@ -4,12 +4,12 @@ use Rattle.std.specs.List.{count_by, filter}
 use Rattle.nesting.specs.Nesting.{HasAnchors, IsNest, TellsOuter, depth, edges_of, encloses, has_edge}
 use Rattle.plane.specs.Bit.{bit}
 use Rattle.plane.specs.Edge.{Edge}
+use Rattle.plane.specs.Height.{is_right_above}
 use Rattle.winding.specs.Member.{In}
 use Rattle.winding.specs.Ring.{IsAnchor}
 use Rattle.nesting.proofs.DirectEnclosure.{e-spans, in-flat-out, plain-chosen}
-use Rattle.nesting.proofs.Nearest.{is_beyond}
 use Rattle.nesting.proofs.Nests.{alternate, cond-out, cond-times, depth-at, depth-total, depth_same, depth_step, encloses_same, has_once, in-flat, nearest_exists, outer_depth, same-ring}
-use Rattle.winding.proofs.Levels.{right_of}
+use Rattle.plane.proofs.Heights.{right_of}
 use Rattle.winding.proofs.Members.{in-filter, in-passes, total-same}
 use Rattle.winding.proofs.Ranks.{First, even-is}
 use Rattle.winding.proofs.Sums.{total, total-+, total-is}
@@ -78,7 +78,7 @@ module _ (gs : List (List Edge)) (n : IsNest gs) (outer : List Edge → Bool) (t
       let o = ap (λ b. bit (not b)) (tells h ih e a ∙ outer_depth gs n h e ih a ∙ even-is (depth gs e) (let q = d in omega arith)) in omega arith
 
   -- one step inward, given the sums for the innermost ring that encloses e
-  balance-step : (h : List Edge) → (ih : In h gs) → (e : Edge) → (a : IsAnchor e h) → (m : Edge) → (fm : First (right_of e.from) m (filter (is_beyond e.from e) (edges_of (filter (λ g. encloses g e) gs)))) →
+  balance-step : (h : List Edge) → (ih : In h gs) → (e : Edge) → (a : IsAnchor e h) → (m : Edge) → (fm : First (right_of e.from) m (filter (is_right_above e.from e) (edges_of (filter (λ g. encloses g e) gs)))) →
       (t : List Edge) → (it : In t gs) → (im : In m t) → (ct : encloses t e ≡ true) → (outers (anchors t it).0 ≡ inners (anchors t it).0 + bit (not (outer t))) → outers e ≡ inners e + bit (not (outer h))
   balance-step h ih e a m fm t it im ct r =
       let b = anchors t it in let se = e-spans gs n outer tells anchors h ih e a in
@@ -99,7 +99,7 @@ module _ (gs : List (List Edge)) (n : IsNest gs) (outer : List Edge → Bool) (t
   balance-by (suc f) h ih e a l (inl g) =
       let se = e-spans gs n outer tells anchors h ih e a in
       let m = nearest_exists gs n h ih e a.member e.from se (λ g. encloses g e) (λ g i c. c) g.0 g.1 g.2 (plain-chosen (λ g. encloses g e) gs n.plain) in
-      let t = in-flat-out (filter (λ g. encloses g e) gs) m.0 (in-filter (is_beyond e.from e) (edges_of (filter (λ g. encloses g e) gs)) m.0 m.1.here) in
+      let t = in-flat-out (filter (λ g. encloses g e) gs) m.0 (in-filter (is_right_above e.from e) (edges_of (filter (λ g. encloses g e) gs)) m.0 m.1.here) in
       let it = in-filter (λ g. encloses g e) gs t.0 t.1 in let ct = in-passes (λ g. encloses g e) gs t.0 t.1 in
       let b = anchors t.0 it in
       let d = depth_step gs n h ih e a.member e.from se m.0 m.1 t.0 it t.2 ct in let q = depth_same gs n t.0 m.0 b.0 it t.2 b.1.member in

@@ -6,7 +6,7 @@ use Rattle.nesting.specs.Nesting.{IsNest, depth, edges_of, encloses, has_edge, i
 use Rattle.plane.specs.Bit.{bit}
 use Rattle.plane.specs.Conflict.{IsClearOf}
 use Rattle.plane.specs.Edge.{Edge, IsRising, same_edge}
-use Rattle.plane.specs.Height.{is_in_span}
+use Rattle.plane.specs.Height.{is_in_span, is_right_above}
 use Rattle.plane.specs.Vector.{Vector, from_to, one_at}
 use Rattle.winding.specs.ConflictFree.{IsConflictFree}
 use Rattle.winding.specs.EdgeList.{IsEvenAtPoints, crossing_count}
@@ -15,13 +15,13 @@ use Rattle.winding.specs.Node.{away}
 use Rattle.winding.specs.Parity.{is_even}
 use Rattle.winding.specs.Ring.{IsAnchor}
 use Rattle.nesting.proofs.CoveredEdges.{IsClearOfAll}
-use Rattle.nesting.proofs.Nearest.{beyond-order, bit-both, is_beyond, same_beside, some_beyond, through}
+use Rattle.nesting.proofs.Nearest.{beyond-order, bit-both, same_beside, some_beyond, through}
 use Rattle.nesting.proofs.TwoLists.{clear-list, clear-turned, differ-lists, first-right, not_both_in}
 use Rattle.plane.proofs.Conflicts.{clear_back}
 use Rattle.plane.proofs.Edges.{and-out, same_edge-refl, same_edge-true}
+use Rattle.plane.proofs.Heights.{right_of}
 use Rattle.winding.proofs.Anchors.{anchor_runs}
 use Rattle.winding.proofs.ConflictFree.{rising_in}
-use Rattle.winding.proofs.Levels.{right_of}
 use Rattle.winding.proofs.Members.{all-in, in-all, in-either, in-left, in-passes, in-right, into-filter, pairs-across, pairs-left, pairs-right, total-same}
 use Rattle.winding.proofs.OddSides.{not-not, runs_from, same-parity}
 use Rattle.winding.proofs.OppositeEnds.{beyond, crossings-away}
@@ -246,7 +246,7 @@ module _ (gs : List (List Edge)) (n : IsNest gs) where
     re = rising_in h e (part h ih) ie
 
     abbrev pub beyonds : List Edge
-    beyonds = filter (is_beyond p e) (edges_of (filter sel gs))
+    beyonds = filter (is_right_above p e) (edges_of (filter sel gs))
 
     -- along the nearest edge m each other chosen ring has odd parity
     pub nearest_in : (m : Edge) → First (right_of p) m beyonds → (t : List Edge) → In t gs → In m t → (g : List Edge) → In g gs → sel g ≡ true → has_edge g m ≡ false → covers_edge g m ≡ covers_edge g e
@@ -254,16 +254,16 @@ module _ (gs : List (List Edge)) (n : IsNest gs) where
         let rm = rising_in t m (part t it) im in
         let ce = clear-of g h e ig ih ie (encloses-not g e (chosen g ig sg)) in
         let cm = clear-of g t m ig it im nm in
-        same_beside p e m g re rm (part g ig) (n.even g ig) ce cm se (in-passes (is_beyond p e) (edges_of (filter sel gs)) m f.here)
+        same_beside p e m g re rm (part g ig) (n.even g ig) ce cm se (in-passes (is_right_above p e) (edges_of (filter sel gs)) m f.here)
         (λ u i b. first-right p m u rm (in-all (IsClearOf m) g u cm i)
-        (f.first u (into-filter (is_beyond p e) (edges_of (filter sel gs)) u (in-flat (filter sel gs) g u (into-filter sel gs g ig sg) i) b)))
+        (f.first u (into-filter (is_right_above p e) (edges_of (filter sel gs)) u (in-flat (filter sel gs) g u (into-filter sel gs g ig sg) i) b)))
 
     -- there is one, where a ring is chosen
     pub nearest_exists : (g : List Edge) → In g gs → sel g ≡ true → IsConflictFree (edges_of (filter sel gs)) → (m : Edge) × First (right_of p) m beyonds
     nearest_exists g ig sg pl =
         let ce = clear-of g h e ig ih ie (encloses-not g e (chosen g ig sg)) in
         let s = some_beyond p e g re (part g ig) (n.even g ig) ce se (encloses-in g e (chosen g ig sg)) in
-        first_exists (right_of p) beyonds s.0 (into-filter (is_beyond p e) (edges_of (filter sel gs)) s.0 (in-flat (filter sel gs) g s.0 (into-filter sel gs g ig sg) s.1) s.2) (beyond-order p e (edges_of (filter sel gs)) pl)
+        first_exists (right_of p) beyonds s.0 (into-filter (is_right_above p e) (edges_of (filter sel gs)) s.0 (in-flat (filter sel gs) g s.0 (into-filter sel gs g ig sg) s.1) s.2) (beyond-order p e (edges_of (filter sel gs)) pl)
 
   -- ---- the innermost ring that encloses e: the one with the nearest edge
   module _ (h : List Edge) (ih : In h gs) (e : Edge) (ie : In e h) (p : Vector) (se : is_in_span p e ≡ true) where

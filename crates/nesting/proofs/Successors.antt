@@ -19,11 +19,10 @@ use Rattle.winding.specs.Sided.{IsSided}
 use Rattle.nesting.proofs.CoveredEdges.{or-swap, raise-ends-by, same_in}
 use Rattle.plane.proofs.Edges.{ends_at-to, same_edge-refl, same_edge-true}
 use Rattle.plane.proofs.Points.{same_point-refl, same_point-true}
-use Rattle.plane.proofs.Products.{cross-self, frame-dot-agree}
+use Rattle.plane.proofs.Products.{cross-neg, cross-self, frame-dot-agree}
 use Rattle.plane.proofs.Signs.{agree, all, all-out, all2-out, all4-out, imp, imp-out, times}
 use Rattle.winding.proofs.Balance.{bit-back, leaves, no-loop, out_count, way, way-direction, ways_apart}
 use Rattle.winding.proofs.ConflictFree.{clear_pair, not-false-out, off_away, rising_in, split_off}
-use Rattle.winding.proofs.Levels.{cross-neg}
 use Rattle.winding.proofs.Members.{all-in, in-filter, in-map, in-map-out, in-passes, total-same}
 use Rattle.winding.proofs.OddSides.{differ-parity, not-not, spokes-is}
 use Rattle.winding.proofs.Ranks.{odds}

@@ -17,12 +17,11 @@ use Rattle.nesting.proofs.Parts.{differ, sided-once}
 use Rattle.nesting.proofs.Successors.{clear-two, is_some, none-between, raise-back, raise-ends, rise, sector-either, sector-own, some-signs, sym-differs, unraised, up-even, way-raise}
 use Rattle.plane.proofs.Edges.{and-out, ends_at-to, same_edge-refl, same_edge-true}
 use Rattle.plane.proofs.Identities.{same}
-use Rattle.plane.proofs.Products.{dot2, frame-agree, frame-dot-agree, lift2, plucker-agree, plucker-dot-agree}
-use Rattle.plane.proofs.Signs.{agree, all, all-out, all2, all2-out, all4, all4-out, imp, imp-out, times, times-back, times-plus}
+use Rattle.plane.proofs.Products.{cross-neg, dot2, frame-agree, frame-dot-agree, lift2, plucker-agree, plucker-dot-agree}
+use Rattle.plane.proofs.Signs.{agree, all, all-out, all2, all2-out, all4, all4-out, imp, imp-out, same_bool-true, times, times-back, times-plus}
 use Rattle.winding.proofs.Anchors.{some_odd}
-use Rattle.winding.proofs.Balance.{chain_signs, crossed, degree-even, either_2, either_computes, length-total, same_bool-true, way, way-direction, ways_apart}
+use Rattle.winding.proofs.Balance.{chain_signs, crossed, degree-even, either_2, either_computes, length-total, way, way-direction, ways_apart}
 use Rattle.winding.proofs.ConflictFree.{not-false-out, split_off}
-use Rattle.winding.proofs.Levels.{cross-neg}
 use Rattle.winding.proofs.Members.{in-filter, in-map, in-map-out, in-passes, into-filter, pairs-filter, pairs-weaker, total-filter}
 use Rattle.winding.proofs.Ranks.{first_exists, odd-is}
 use Rattle.winding.proofs.Sums.{total}

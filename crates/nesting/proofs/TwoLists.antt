@@ -15,11 +15,12 @@ use Rattle.winding.specs.Ring.{IsAnchor}
 use Rattle.nesting.proofs.CoveredEdges.{IsClearOfAll, beside, off-list}
 use Rattle.plane.proofs.Conflicts.{clear_back, clear_differs}
 use Rattle.plane.proofs.Edges.{ends_at-from, same_edge-refl}
+use Rattle.plane.proofs.Heights.{right_of}
 use Rattle.plane.proofs.PointOrder.{rising-direction}
 use Rattle.winding.proofs.Anchors.{all-right, anchor_right, some-anchor, west, west-direction, west-none}
 use Rattle.winding.proofs.Balance.{degree-even, length-total}
 use Rattle.winding.proofs.ConflictFree.{rising_in}
-use Rattle.winding.proofs.Levels.{hit-order, hit_by, kept-by, left-spans, right_left, right_of, to_right}
+use Rattle.winding.proofs.Levels.{hit-order, hit_by, kept-by, left-spans, right_left, to_right}
 use Rattle.winding.proofs.Members.{all-either, all-in, in-either, in-filter, in-left, in-passes, in-right, into-filter, pairs-append, total-filter, total-same}
 use Rattle.winding.proofs.OddSides.{around-hits, not-not}
 use Rattle.winding.proofs.Ranks.{First, even-is, first_exists}

@@ -11,7 +11,7 @@ use Rattle.plane.proofs.Edges.{same_edge-true}
 use Rattle.plane.proofs.PointOrder.{line-order, line-order-up, order-self, order-sum, order-turned, rising-direction}
 use Rattle.plane.proofs.Points.{same_point-true}
 use Rattle.plane.proofs.Products.{cross-here, cross-self, dot-chain, frame-agree, orient-round, side-there}
-use Rattle.plane.proofs.Signs.{agree, agree-plus-first, all4, all4-out, both, imp, imp-out, left-out, right-out, same_sign, same_sign-refl, times}
+use Rattle.plane.proofs.Signs.{agree, agree-plus-first, all4, all4-out, both, imp, imp-out, left-out, right-out, same_bool, same_bool-true, same_sign, same_sign-refl, times}
 
 -- ---- a conflict, by signs: the sides of t's ends (a, b) and of s's ends (c, d); then where t's two ends are in the order, seen from s's lower end (h, k) and from its upper end (m, n)
 abbrev touch_by : Sign → Sign → Sign → Bool
@@ -152,19 +152,9 @@ pub clear_off_to : (s t : Edge) → IsRising t → IsClearOf s t → same_point 
 clear_off_to s t ht h hu hv = off_at s.to t.from t.to ht hu hv (right-out _ _ (ends_off s t h))
 
 -- ---- conflicts go both ways
-abbrev both_or_none : Bool → Bool → Bool
-both_or_none true b = b
-both_or_none false b = not b
-
-none-true : (a b : Bool) → both_or_none a b ≡ true → a ≡ b
-none-true true true h = refl
-none-true false false h = refl
-none-true true false h = absurd (cc h)
-none-true false true h = absurd (cc h)
-
 -- a word of the signs of two segments that is the same for the two in the other order
 abbrev swapped : (Sign → Sign → Sign → Sign → Sign → Sign → Sign → Sign → Bool) → Sign → Sign → Sign → Sign → Sign → Sign → Sign → Sign → Bool
-swapped f a b c d h k m n = both_or_none (f a b c d h k m n) (f c d a b (negated h) (negated m) (negated k) (negated n))
+swapped f a b c d h k m n = same_bool (f a b c d h k m n) (f c d a b (negated h) (negated m) (negated k) (negated n))
 
 swap_by : (f : Sign → Sign → Sign → Sign → Sign → Sign → Sign → Sign → Bool) → all4 (λ a b c d. all4 (swapped f a b c d)) ≡ true → (s t : Edge) →
     f (orient t.from t.to s.from) (orient t.from t.to s.to) (orient s.from s.to t.from) (orient s.from s.to t.to) (order t.from s.from) (order t.from s.to) (order t.to s.from) (order t.to s.to)
@@ -172,7 +162,7 @@ swap_by : (f : Sign → Sign → Sign → Sign → Sign → Sign → Sign → Si
 swap_by f computes s t =
     let p = s.from in let q = s.to in let u = t.from in let v = t.to in
     let c = all4-out (swapped f (orient p q u) (orient p q v) (orient u v p) (orient u v q)) (all4-out (λ a b c d. all4 (swapped f a b c d)) computes (orient p q u) (orient p q v) (orient u v p) (orient u v q)) (order p u) (order p v) (order q u) (order q v) in
-    let e = none-true (f (orient p q u) (orient p q v) (orient u v p) (orient u v q) (order p u) (order p v) (order q u) (order q v)) (f (orient u v p) (orient u v q) (orient p q u) (orient p q v) (negated (order p u)) (negated (order q u)) (negated (order p v)) (negated (order q v))) c in
+    let e = same_bool-true (f (orient p q u) (orient p q v) (orient u v p) (orient u v q) (order p u) (order p v) (order q u) (order q v)) (f (orient u v p) (orient u v q) (orient p q u) (orient p q v) (negated (order p u)) (negated (order q u)) (negated (order p v)) (negated (order q v))) c in
     rw (order-turned p u, order-turned q u, order-turned p v, order-turned q v) (sym e)
 
 abbrev overlap_8 : Sign → Sign → Sign → Sign → Sign → Sign → Sign → Sign → Bool

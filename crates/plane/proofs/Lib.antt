@@ -1,6 +1,7 @@
 pub mod Conflicts
 pub mod Edges
 pub mod FreeSegments
+pub mod Heights
 pub mod Identities
 pub mod PointOrder
 pub mod Points

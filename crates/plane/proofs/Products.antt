@@ -167,3 +167,9 @@ cross-agree d w =
     let i : pos 1 *ℤ cross d w +ℤ d.y *ℤ w.x ≡ d.x *ℤ w.y = same (lift (pos 1) ⊠ (a ⊠ e ⊟ b ⊠ c) ⊞ b ⊠ c) (a ⊠ e) (omega arith) in
     let h = agree-products (pos 1) (cross d w) d.y w.x d.x w.y i in
     subst (λ k. agree k (times (sign d.y) (sign w.x)) (times (sign d.x) (sign w.y)) ≡ true) (times-plus (sign (cross d w))) h
+
+pub cross-turned : (a b : Vector) → cross a b +ℤ cross b a ≡ pos 0
+cross-turned a b = let e = lift2 a in let f = lift2 b in same (cross2 e f ⊞ cross2 f e) (lift (pos 0)) (omega arith)
+
+pub cross-neg : (a b : Vector) → sign (cross b a) ≡ negated (sign (cross a b))
+cross-neg a b = sign-turned (cross a b) (cross b a) (cross-turned a b)

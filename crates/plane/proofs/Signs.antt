@@ -243,3 +243,13 @@ pub not-null-by : (k : Sign) → (k ≡ Null → ⊥) → not (is_null k) ≡ tr
 not-null-by Null h = absurd (h refl)
 not-null-by Plus h = refl
 not-null-by Minus h = refl
+
+abbrev pub same_bool : Bool → Bool → Bool
+same_bool true b = b
+same_bool false b = not b
+
+pub same_bool-true : (a b : Bool) → same_bool a b ≡ true → a ≡ b
+same_bool-true true true h = refl
+same_bool-true false false h = refl
+same_bool-true true false h = absurd (cc h)
+same_bool-true false true h = absurd (cc h)

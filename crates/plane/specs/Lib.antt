@@ -5,6 +5,7 @@ pub mod Edge
 pub mod FreeSegment
 pub mod FreeSegmentLaws
 pub mod Height
+pub mod HeightLaws
 pub mod Order
 pub mod OrderLaws
 pub mod RayCrossing

@@ -6,6 +6,7 @@
 
 pub mod conflict;
 pub mod free_segment;
+pub mod height;
 pub mod order;
 pub mod ray_crossing;
 pub mod scale;

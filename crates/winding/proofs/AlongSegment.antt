@@ -19,7 +19,7 @@ use Rattle.winding.proofs.RoundNode.{parity_round_node}
 use Rattle.winding.proofs.Sums.{total, total-is}
 
 -- an edge that does not meet the segment is hit by the rays along it from everywhere inside it, or from nowhere
-same_hits : (g : Sign → Sign → Sign → ℕ) → all4 (hits_0 g) ≡ true → (s t : Vector) (r q : Vector → Vector) → View s t r → View s t q → (es : List Edge) → All (Misses s t) es →
+pub same_hits : (g : Sign → Sign → Sign → ℕ) → all4 (hits_0 g) ≡ true → (s t : Vector) (r q : Vector → Vector) → View s t r → View s t q → (es : List Edge) → All (Misses s t) es →
     total (hits_seen g (from_to s t) r) es ≡ total (hits_seen g (from_to s t) q) es
 same_hits g computes s t r q i j [] missed = refl
 same_hits g computes s t r q i j (e ∷ es) missed =

@@ -23,12 +23,11 @@ use Rattle.plane.proofs.Edges.{edge_of, ends_at-from, same_edge-true}
 use Rattle.plane.proofs.Identities.{lift, same, ◌⊞◌, ◌⊟◌, ◌⊠◌}
 use Rattle.plane.proofs.PointOrder.{line-order-up, order-null, order-self-null, order-sum, order-turned, rising-direction}
 use Rattle.plane.proofs.Points.{same_point-true}
-use Rattle.plane.proofs.Products.{cross-agree, cross-self, dot-east, plucker-agree, plucker-dot-agree}
+use Rattle.plane.proofs.Products.{cross-agree, cross-neg, cross-self, dot-east, plucker-agree, plucker-dot-agree}
 use Rattle.plane.proofs.RayCrossings.{cross-east, hits_at, level-side, rise-y}
-use Rattle.plane.proofs.Signs.{agree, all, all-out, all4, all4-out, imp, imp-out, self-diff, sign-turned, times}
-use Rattle.winding.proofs.Balance.{degree-even, length-total, same_bool}
+use Rattle.plane.proofs.Signs.{agree, all, all-out, all4, all4-out, imp, imp-out, same_bool, self-diff, sign-turned, times}
+use Rattle.winding.proofs.Balance.{degree-even, length-total}
 use Rattle.winding.proofs.ConflictFree.{clear_of_others, off_away, rising_in, split_off}
-use Rattle.winding.proofs.Levels.{cross-neg}
 use Rattle.winding.proofs.Members.{in-filter, into-filter, total-filter, total-same}
 use Rattle.winding.proofs.OddSides.{no_same_way_from, runs_from, spokes-is}
 use Rattle.winding.proofs.OppositeEnds.{beyond, crossings-away}

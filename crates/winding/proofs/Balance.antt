@@ -19,12 +19,12 @@ use Rattle.winding.specs.Rank.{IsOrder}
 use Rattle.plane.proofs.Conflicts.{clear_misses}
 use Rattle.plane.proofs.Edges.{edge_of}
 use Rattle.plane.proofs.FreeSegments.{misses_turned}
-use Rattle.plane.proofs.Identities.{lift, same, ◌⊞◌, ◌⊠◌}
+use Rattle.plane.proofs.Identities.{lift, same, ◌⊠◌}
 use Rattle.plane.proofs.PointOrder.{order-self-null, order-turned, rising-direction}
 use Rattle.plane.proofs.Points.{same_point-true}
-use Rattle.plane.proofs.Products.{cross-agree, cross-self, cross2, direction-back, dot-east, dot2, lift2, plucker-agree, plucker-dot-agree}
+use Rattle.plane.proofs.Products.{cross-agree, cross-self, cross-turned, direction-back, dot-east, dot2, lift2, plucker-agree, plucker-dot-agree}
 use Rattle.plane.proofs.RayCrossings.{cross-east, east-direction, sector-east}
-use Rattle.plane.proofs.Signs.{agree, agree-products, all, all-out, all2, all2-out, all4, all4-out, imp, imp-out, not-null-by, sign-turned, times, times-plus}
+use Rattle.plane.proofs.Signs.{agree, agree-products, all, all-out, all2, all2-out, all4, all4-out, imp, imp-out, not-null-by, same_bool, same_bool-true, sign-turned, times, times-plus}
 use Rattle.winding.proofs.ConflictFree.{off_away, rising_in, split_off}
 use Rattle.winding.proofs.Members.{in-filter, in-passes, pairs-filter, pairs-weaker, total-filter, total-same}
 use Rattle.winding.proofs.OddSides.{differ-parity, no_same_way_from, no_same_way_to, not-not, runs_from, runs_to, same-parity, spokes-is}
@@ -100,16 +100,6 @@ turns_itself a s =
     let c = all2-out (λ x y. imp (not (is_null (then_sign y x))) λ _. eqb (sector_by x y x y Null) 1) refl (sign a.x) (sign a.y) in
     turns-is a a ∙ ap (λ z. eqb (sector_by (sign a.x) (sign a.y) (sign a.x) (sign a.y) (sign z)) 1) (cross-self a) ∙ imp-out _ _ c s
 
-abbrev pub same_bool : Bool → Bool → Bool
-same_bool true b = b
-same_bool false b = not b
-
-pub same_bool-true : (a b : Bool) → same_bool a b ≡ true → a ≡ b
-same_bool-true true true h = refl
-same_bool-true false false h = refl
-same_bool-true true false h = absurd (cc h)
-same_bool-true false true h = absurd (cc h)
-
 abbrev pub either_2 : Sign → Sign → Sign → Sign → Sign → Sign → Bool
 either_2 ax ay bx by k m =
     imp (crossed ax ay bx by k) λ _.
@@ -121,9 +111,6 @@ either_2 ax ay bx by k m =
 
 pub either_computes : all4 (λ ax ay bx by. all2 (either_2 ax ay bx by)) ≡ true
 either_computes = refl
-
-cross-turned : (a b : Vector) → cross a b +ℤ cross b a ≡ pos 0
-cross-turned a b = let e = lift2 a in let f = lift2 b in same (cross2 e f ⊞ cross2 f e) (lift (pos 0)) (omega arith)
 
 one-times : (a b : Vector) → a.x *ℤ b.x +ℤ a.y *ℤ b.y ≡ pos 1 *ℤ dot a b
 one-times a b = let e = lift2 a in let f = lift2 b in same (dot2 e f) (lift (pos 1) ⊠ dot2 e f) (omega arith)

@@ -7,7 +7,7 @@ use Rattle.plane.specs.Bit.{bit}
 use Rattle.plane.specs.Conflict.{IsClearOf}
 use Rattle.plane.specs.Edge.{Edge, IsRising, ends_at, reversed, same_edge}
 use Rattle.plane.specs.FreeSegment.{Misses}
-use Rattle.plane.specs.Height.{is_in_span, is_left_of, starts_left_of}
+use Rattle.plane.specs.Height.{distance_right, is_in_span, is_left_of, order_above, starts_left_of}
 use Rattle.plane.specs.Order.{order}
 use Rattle.plane.specs.RayCrossing.{IsOff, IsOffEdge, down_by, off_by, up_by}
 use Rattle.plane.specs.Sector.{in_sector, sector_by}
@@ -22,15 +22,16 @@ use Rattle.winding.specs.Parity.{is_even}
 use Rattle.winding.specs.Rank.{IsOrder}
 use Rattle.plane.proofs.Conflicts.{clear_differs, clear_misses}
 use Rattle.plane.proofs.Edges.{and-out, edge_of, ends_at-from}
+use Rattle.plane.proofs.Heights.{right_chain, right_either, right_itself, right_of, step_of, tall-by, zero-part}
 use Rattle.plane.proofs.Identities.{apart, lift, same, ◌⊞◌, ◌⊟◌, ◌⊠◌}
 use Rattle.plane.proofs.PointOrder.{line-order-up, rising-direction}
 use Rattle.plane.proofs.Points.{same_point-true}
-use Rattle.plane.proofs.Products.{cross-agree, cross-self, cross2, dot-east, from_to2, lift2, orient-round, plucker-agree, plucker-dot-agree, side-moves}
-use Rattle.plane.proofs.RayCrossings.{at-end-by, cross-east, down_seen, east-direction, east-side, hits-left, hits_at, left-signs, rise-y, sector-east, up_seen}
-use Rattle.plane.proofs.Signs.{agree, agree-sum, all, all-out, all2, all2-out, all4-out, both, imp, imp-out, left-out, not-minus-by, not-null-by, null-zero, plus-times, right-out, same-out, same_sign, same_sign-true, self-diff, sign-turned, times, times-plus}
+use Rattle.plane.proofs.Products.{cross-agree, cross-neg, cross-self, cross2, from_to2, lift2, orient-round, side-moves}
+use Rattle.plane.proofs.RayCrossings.{at-end-by, down_seen, east-direction, east-side, hits-left, hits_at, left-signs, rise-y, sector-east, up_seen}
+use Rattle.plane.proofs.Signs.{agree, agree-sum, all, all-out, all2, all2-out, all4-out, both, imp, imp-out, left-out, not-minus-by, not-null-by, null-zero, plus-times, right-out, same-out, self-diff, sign-turned, times}
 use Rattle.plane.proofs.Views.{View, view_weighted, weigh}
 use Rattle.winding.proofs.AlongSegment.{along_from, off_all}
-use Rattle.winding.proofs.Balance.{agree-dot, length-total, same_bool, same_bool-true}
+use Rattle.winding.proofs.Balance.{agree-dot, length-total}
 use Rattle.winding.proofs.ConflictFree.{misses_others, off_away, rising_in, split_off}
 use Rattle.winding.proofs.Independence.{IsOffSeen, count-is, even-at-ends, in_sector_seen, sector_sum, total-ends}
 use Rattle.winding.proofs.Members.{in-all, in-filter, in-passes, into-filter, pairs-filter, pairs-weaker, total-filter, total-same}
@@ -38,65 +39,6 @@ use Rattle.winding.proofs.OddSides.{differ-parity, no_same_way_from, runs_from}
 use Rattle.winding.proofs.OppositeEnds.{away-others, off-others}
 use Rattle.winding.proofs.Ranks.{evens, odds, rank', rank-parity}
 use Rattle.winding.proofs.Sums.{total, total-+, total-is, total-map}
-
--- ---- where an edge is at the height of p: its height and its position times its height; and its slope
-abbrev pub spot : Vector → Edge → Vector
-spot p t = record { x = t.to.y -ℤ t.from.y; y = cross (from_to p t.from) (from_to p t.to) }
-
-abbrev pub step_of : Edge → Vector
-step_of t = from_to t.from t.to
-
-abbrev pub right_sign : Vector → Edge → Edge → Sign
-right_sign p e f = then_sign (sign (cross (spot p e) (spot p f))) (sign (cross (step_of f) (step_of e)))
-
--- f is right of e at the height of p and just above it
-abbrev pub right_of : Vector → Edge → Edge → Bool
-right_of p e f = is_plus (right_sign p e f)
-
--- ---- signs of an edge that spans the height
-abbrev tall : Sign → Sign → Sign → Bool
-tall yu dy yv = imp (agree yu dy yv) λ _. imp (not (is_plus yu) && is_plus yv) λ _. same_sign dy Plus
-
-pub tall-by : (p : Vector) (t : Edge) → is_in_span p t ≡ true → sign (t.to.y -ℤ t.from.y) ≡ Plus
-tall-by p t h =
-    let yu = sign (t.from.y -ℤ p.y) in let yv = sign (t.to.y -ℤ p.y) in let dy = sign (t.to.y -ℤ t.from.y) in
-    let c = all-out (λ v. tall yu dy v) (all2-out (λ a b. all (λ v. tall a b v)) refl yu dy) yv in
-    same_sign-true dy Plus (imp-out _ _ (imp-out _ _ c (rise-y p t.from t.to)) h)
-
--- ---- the order
-abbrev lex_chain : Sign → Sign → Sign → Sign → Bool
-lex_chain k l k' l' = all2 λ m m'. imp (agree k l m) λ _. imp (agree k' l' m') λ _. imp (is_plus (then_sign k k')) λ _. imp (is_plus (then_sign l l')) λ _. is_plus (then_sign m m')
-
-agree-back : (s t u : Sign) → agree s t u ≡ true → agree t s u ≡ true
-agree-back s t u h = imp-out _ _ (all-out (λ u. imp (agree s t u) λ _. agree t s u) (all2-out (λ s t. all (λ u. imp (agree s t u) λ _. agree t s u)) refl s t) u) h
-
-pub right_chain : (p : Vector) (a b c : Edge) → is_in_span p a ≡ true → is_in_span p b ≡ true → is_in_span p c ≡ true → right_of p a b ≡ true → right_of p b c ≡ true → right_of p a c ≡ true
-right_chain p a b c sa sb sc h g =
-    let A = spot p a in let B = spot p b in let C = spot p c in
-    let E = step_of a in let F = step_of b in let G = step_of c in
-    let x = rw (dot-east A, dot-east B, dot-east C, tall-by p a sa, tall-by p b sb, tall-by p c sc, times-plus (sign (cross B C)), times-plus (sign (cross A B)), times-plus (sign (cross A C))) at (plucker-dot-agree east A B C) in
-    let y = rw (cross-east G, cross-east F, cross-east E, tall-by p a sa, tall-by p b sb, tall-by p c sc, times-plus (sign (cross F E)), times-plus (sign (cross G F)), times-plus (sign (cross G E))) at (plucker-agree east G F E) in
-    let k = all2-out (λ m m'. imp (agree (sign (cross A B)) (sign (cross B C)) m) λ _. imp (agree (sign (cross F E)) (sign (cross G F)) m') λ _. imp (is_plus (then_sign (sign (cross A B)) (sign (cross F E)))) λ _. imp (is_plus (then_sign (sign (cross B C)) (sign (cross G F)))) λ _. is_plus (then_sign m m'))
-    (all4-out lex_chain refl (sign (cross A B)) (sign (cross B C)) (sign (cross F E)) (sign (cross G F))) (sign (cross A C)) (sign (cross G E)) in
-    imp-out _ _ (imp-out _ _ (imp-out _ _ (imp-out _ _ k (agree-back _ _ _ x)) y) h) g
-
-pub right_itself : (p : Vector) (a : Edge) → right_of p a a ≡ false
-right_itself p a = rw (cross-self (spot p a), cross-self (step_of a)) refl
-
-abbrev lex_either : Sign → Sign → Bool
-lex_either k l = imp (not (is_null (then_sign k l))) λ _. same_bool (is_plus (then_sign k l)) (not (is_plus (then_sign (negated k) (negated l))))
-
-cross-turned : (a b : Vector) → cross a b +ℤ cross b a ≡ pos 0
-cross-turned a b = let e = lift2 a in let f = lift2 b in same (cross2 e f ⊞ cross2 f e) (lift (pos 0)) (omega arith)
-
-pub cross-neg : (a b : Vector) → sign (cross b a) ≡ negated (sign (cross a b))
-cross-neg a b = sign-turned (cross a b) (cross b a) (cross-turned a b)
-
-pub right_either : (p : Vector) (a b : Edge) → not (is_null (right_sign p a b)) ≡ true → right_of p a b ≡ not (right_of p b a)
-right_either p a b n =
-    let k = sign (cross (spot p a) (spot p b)) in let l = sign (cross (step_of b) (step_of a)) in
-    same_bool-true _ _ (imp-out _ _ (all2-out lex_either refl k l) n)
-    ∙ ap (λ s. not (is_plus (then_sign s (negated l)))) (sym (cross-neg (spot p a) (spot p b))) ∙ ap (λ s. not (is_plus (then_sign (sign (cross (spot p b) (spot p a))) s))) (sym (cross-neg (step_of b) (step_of a)))
 
 -- ---- an edge whose lower end is below the height: seen from its point at the height
 module _ (p a b : Vector) (lo : sign (a.y -ℤ p.y) ≡ Minus) (hi : sign (b.y -ℤ p.y) ≡ Plus) where
@@ -149,8 +91,8 @@ module _ (p a b : Vector) (lo : sign (a.y -ℤ p.y) ≡ Minus) (hi : sign (b.y -
       ∙ ap (λ (z : ℤ). (D *ℤ ux -ℤ C) *ℤ (D *ℤ vy) -ℤ (D *ℤ uy) *ℤ z) (look-x v)
       ∙ spread D C ux uy vx vy (v.y -ℤ u.y) (omega (arith, ints))
 
-  look-side : (f : Edge) → sign (cross (look f.from) (look f.to)) ≡ sign (cross (spot p (edge_of a b)) (spot p f))
-  look-side f = ap sign (look-cross f.from f.to) ∙ plus-times tallness (cross (spot p (edge_of a b)) (spot p f)) tall-plus
+  look-side : (f : Edge) → sign (cross (look f.from) (look f.to)) ≡ sign (cross (distance_right p (edge_of a b)) (distance_right p f))
+  look-side f = ap sign (look-cross f.from f.to) ∙ plus-times tallness (cross (distance_right p (edge_of a b)) (distance_right p f)) tall-plus
 
 -- a step that goes up past the ray's line and is off its origin is not on one line with it
 abbrev past_line : Sign → Sign → Sign → Sign → Bool
@@ -195,7 +137,7 @@ module _ (p : Vector) (e : Edge) (es : List Edge) (pl : IsConflictFree es) (i : 
       let g = left-signs (sign (u.y -ℤ p.y)) (sign (v.y -ℤ p.y)) (sign (cross (from_e u) (from_e v))) (sign (v.y -ℤ u.y)) (rise-y p u v) (not-minus-by (sign (v.y -ℤ u.y)) (sign (v.x -ℤ u.x)) r) in
       let n = λ (s : is_in_span p f ≡ true). subst (λ k. not (is_null k) ≡ true) c (off_not_null (from_e u) (from_e v) o
       (subst (λ k. (not (is_plus k) && is_plus (sign (from_e v).y)) ≡ true) (sym a) (subst (λ k. (not (is_plus (sign (u.y -ℤ p.y))) && is_plus k) ≡ true) (sym b) s))) in
-      let h = first-tells (is_in_span p f) (sign (cross (spot p e) (spot p f))) (sign (cross (step_of f) (step_of e))) n in
+      let h = first-tells (is_in_span p f) (sign (cross (distance_right p e) (distance_right p f))) (sign (cross (step_of f) (step_of e))) n in
       ap (λ k. up_by k (sign (cross east (from_e v))) (sign (cross (from_e u) (from_e v))) + down_by k (sign (cross east (from_e v))) (sign (cross (from_e u) (from_e v)))) (east-side (from_e u) ∙ a)
       ∙ ap (λ k. up_by (sign (u.y -ℤ p.y)) k (sign (cross (from_e u) (from_e v))) + down_by (sign (u.y -ℤ p.y)) k (sign (cross (from_e u) (from_e v)))) (east-side (from_e v) ∙ b)
       ∙ g ∙ ap (λ k. bit (is_in_span p f && is_plus k)) c ∙ h
@@ -247,11 +189,6 @@ sloping_runs-by s es Plus h = refl
 sloping_runs-by s es Null h = absurd (cc h)
 sloping_runs-by s es Minus h = absurd (cc h)
 
-zero-part : (x y z w d : ℤ) → y ≡ pos 0 → z ≡ d → x *ℤ z -ℤ y *ℤ w ≡ x *ℤ d
-zero-part x y z w d e f =
-    let x' = lift x in let w' = lift w in let d' = lift d in
-    ap (λ k. x *ℤ k -ℤ y *ℤ w) f ∙ ap (λ k. x *ℤ d -ℤ k *ℤ w) e ∙ same (x' ⊠ d' ⊟ lift (pos 0) ⊠ w') (x' ⊠ d') (omega arith)
-
 level-mix : (D W x dy Z Cf Ce : ℤ) → Ce ≡ x *ℤ D → Z ≡ x *ℤ dy → W +ℤ Z ≡ Cf → D *ℤ Cf -ℤ Ce *ℤ dy ≡ D *ℤ W
 level-mix D W x dy Z Cf Ce e f g =
     let D' = lift D in let W' = lift W in let x' = lift x in let y' = lift dy in let Z' = lift Z in let Cf' = lift Cf in let Ce' = lift Ce in
@@ -295,7 +232,7 @@ module _ (p : Vector) (e : Edge) (es : List Edge) (pl : IsConflictFree es) (i : 
   pub e-tall : sign (e.to.y -ℤ e.from.y) ≡ Plus
   e-tall = subst (λ z. sign (e.to.y -ℤ z) ≡ Plus) (sym level) hi
 
-  spot-level : (f : Edge) → cross (spot p e) (spot p f) ≡ (e.to.y -ℤ e.from.y) *ℤ cross (from_to e.from f.from) (from_to e.from f.to)
+  spot-level : (f : Edge) → cross (distance_right p e) (distance_right p f) ≡ (e.to.y -ℤ e.from.y) *ℤ cross (from_to e.from f.from) (from_to e.from f.to)
   spot-level f =
       let a = e.from in let b = e.to in let u = f.from in let v = f.to in
       let z = null-zero (a.y -ℤ p.y) lo in
@@ -305,7 +242,7 @@ module _ (p : Vector) (e : Edge) (es : List Edge) (pl : IsConflictFree es) (i : 
       (zero-part (a.x -ℤ p.x) (a.y -ℤ p.y) (v.y -ℤ u.y) (v.x -ℤ u.x) (v.y -ℤ u.y) z refl)
       (side-moves p a u v)
 
-  spot-sign : (f : Edge) → sign (cross (spot p e) (spot p f)) ≡ orient f.from f.to e.from
+  spot-sign : (f : Edge) → sign (cross (distance_right p e) (distance_right p f)) ≡ orient f.from f.to e.from
   spot-sign f = ap sign (spot-level f) ∙ plus-times (e.to.y -ℤ e.from.y) (cross (from_to e.from f.from) (from_to e.from f.to)) e-tall ∙ ap sign (sym (orient-round e.from f.from f.to))
 
   spans-level : (f : Edge) → is_in_span e.from f ≡ is_in_span p f
@@ -385,7 +322,7 @@ module _ (p : Vector) (e f : Edge) (es : List Edge) (pl : IsConflictFree es) (i 
   other : In f (others e es)
   other = into-filter (λ (t : Edge). not (same_edge e t)) es f j (ap not (clear_differs e f (rising_in es e pl i) n))
 
-  apart-inner : (lo : sign (e.from.y -ℤ p.y) ≡ Minus) → (hi : sign (e.to.y -ℤ p.y) ≡ Plus) → not (is_null (right_sign p e f)) ≡ true
+  apart-inner : (lo : sign (e.from.y -ℤ p.y) ≡ Minus) → (hi : sign (e.to.y -ℤ p.y) ≡ Plus) → not (is_null (order_above p e f)) ≡ true
   apart-inner lo hi =
       let r = from_e p e es pl i lo hi in let v = e-view p e es pl i lo hi in
       let off = in-all (IsOffSeen r) (others e es) f (off_all e.from e.to r v (others e es) (misses_others e es pl i)) other in
@@ -415,16 +352,16 @@ module _ (p : Vector) (e f : Edge) (es : List Edge) (pl : IsConflictFree es) (i 
       let z : sign (cross (from_to e.from f.from) (from_to e.from f.to)) ≡ Null = ap sign (sym (orient-round e.from f.from f.to)) ∙ o in
       absurd (cc (sym (ap (λ w. not (is_null w)) z) ∙ m))
 
-  apart-level : (lo : sign (e.from.y -ℤ p.y) ≡ Null) → (hi : sign (e.to.y -ℤ p.y) ≡ Plus) → not (is_null (right_sign p e f)) ≡ true
+  apart-level : (lo : sign (e.from.y -ℤ p.y) ≡ Null) → (hi : sign (e.to.y -ℤ p.y) ≡ Plus) → not (is_null (order_above p e f)) ≡ true
   apart-level lo hi =
-      set-second (sign (cross (spot p e) (spot p f))) (sign (cross (step_of f) (step_of e)))
+      set-second (sign (cross (distance_right p e) (distance_right p f))) (sign (cross (step_of f) (step_of e)))
       (λ z. ends-cases (same_point e.from f.from) (same_point e.from f.to) refl refl lo hi (sym (spot-sign p e es pl i lo hi f) ∙ z))
 
-  apart-both : (sign (e.from.y -ℤ p.y) ≡ Minus) ⊎ (sign (e.from.y -ℤ p.y) ≡ Null) → sign (e.to.y -ℤ p.y) ≡ Plus → not (is_null (right_sign p e f)) ≡ true
+  apart-both : (sign (e.from.y -ℤ p.y) ≡ Minus) ⊎ (sign (e.from.y -ℤ p.y) ≡ Null) → sign (e.to.y -ℤ p.y) ≡ Plus → not (is_null (order_above p e f)) ≡ true
   apart-both (inl lo) hi = apart-inner lo hi
   apart-both (inr lo) hi = apart-level lo hi
 
-  pub right_apart : is_in_span p e ≡ true → not (is_null (right_sign p e f)) ≡ true
+  pub right_apart : is_in_span p e ≡ true → not (is_null (order_above p e f)) ≡ true
   right_apart h = let g = low-by (sign (e.from.y -ℤ p.y)) (sign (e.to.y -ℤ p.y)) h in apart-both g.0 g.1
 
 -- ---- the edges right of p
@@ -449,9 +386,9 @@ and-in false y h k = absurd (cc h)
 -- what is right of an edge that is right of p is right of p
 pub right_left : (p : Vector) (e f : Edge) → is_left_of p e ≡ true → is_in_span p f ≡ true → right_of p e f ≡ true → is_left_of p f ≡ true
 right_left p e f h s r =
-    let k = sign (cross (spot p e) (spot p f)) in let l = sign (cross (step_of f) (step_of e)) in
+    let k = sign (cross (distance_right p e) (distance_right p f)) in let l = sign (cross (step_of f) (step_of e)) in
     let ce : sign (cross (from_to p e.from) (from_to p e.to)) ≡ Plus = ap sign (sym (orient-round p e.from e.to)) ∙ is-plus-out (orient e.from e.to p) (and-out (is_in_span p e) (is_plus (orient e.from e.to p)) h).1 in
-    let a = rw (tall-by p e (left-spans p e h), tall-by p f s, ce) at (cross-agree (spot p e) (spot p f)) in
+    let a = rw (tall-by p e (left-spans p e h), tall-by p f s, ce) at (cross-agree (distance_right p e) (distance_right p f)) in
     let c = all-out (λ c. imp (agree k (times Plus Plus) (times Plus c)) λ _. imp (is_plus (then_sign k l)) λ _. is_plus c) (all2-out still_left refl k l) (sign (cross (from_to p f.from) (from_to p f.to))) in
     and-in (is_in_span p f) (is_plus (orient f.from f.to p)) s (ap (λ z. is_plus (sign z)) (orient-round p f.from f.to) ∙ imp-out _ _ (imp-out _ _ c a) r)
 

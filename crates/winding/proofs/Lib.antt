@@ -7,6 +7,7 @@ pub mod Levels
 pub mod Members
 pub mod OddSides
 pub mod OppositeEnds
+pub mod OwnEdge
 pub mod Ranks
 pub mod RingCounts
 pub mod RoundNode

@@ -12,10 +12,11 @@ use Rattle.winding.specs.Member.{EachPair, In}
 use Rattle.winding.specs.OddSide.{directed, directed_edge, runs_up}
 use Rattle.winding.specs.Ring.{IsPath, IsRing, segments_of}
 use Rattle.plane.proofs.Points.{same_point-true}
+use Rattle.plane.proofs.Products.{cross-neg}
 use Rattle.plane.proofs.RayCrossings.{down_seen, hits_at, up_seen}
-use Rattle.plane.proofs.Signs.{all4-out, both, left-out, right-out}
-use Rattle.winding.proofs.Balance.{directed_balanced, same_bool}
-use Rattle.winding.proofs.Levels.{cross-neg, signed_parity}
+use Rattle.plane.proofs.Signs.{all4-out, both, left-out, right-out, same_bool}
+use Rattle.winding.proofs.Balance.{directed_balanced}
+use Rattle.winding.proofs.Levels.{signed_parity}
 use Rattle.winding.proofs.Members.{in-all, total-same}
 use Rattle.winding.proofs.Sums.{at-self, total, total-+, total-is, total-map}
 

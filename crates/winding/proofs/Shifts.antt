@@ -8,13 +8,13 @@ use Rattle.plane.specs.RayCrossing.{IsOff, IsOffEdge, off_by}
 use Rattle.plane.specs.Scale.{scaled_edge, scaled_point}
 use Rattle.plane.specs.Sign.{Minus, Null, Plus, Sign, is_minus, is_null, is_plus, sign}
 use Rattle.plane.specs.Vector.{Vector, cross, dot, from_to, orient}
+use Rattle.plane.proofs.Heights.{tall-by}
 use Rattle.plane.proofs.Identities.{lift, same, ◌⊞◌, ◌⊟◌, ◌⊠◌}
 use Rattle.plane.proofs.Products.{cross-agree, orient-round}
 use Rattle.plane.proofs.RayCrossings.{rise-y}
 use Rattle.plane.proofs.Scaling.{minus-sign, spans-scaled}
 use Rattle.plane.proofs.Signs.{agree, agree-sum, all, all-out, all2, all2-out, all4, all4-out, imp, imp-out, not-minus-by, plus-times, says-at, sign-from, times}
 use Rattle.winding.proofs.Balance.{agree-dot}
-use Rattle.winding.proofs.Levels.{tall-by}
 
 -- ---- K * o - s, where s is small: between 0 and K
 abbrev pub sub_sign : Sign → Sign

@@ -7,7 +7,7 @@ use Rattle.plane.specs.Bit.{bit}
 use Rattle.plane.specs.Conflict.{IsClearOf}
 use Rattle.plane.specs.Edge.{Edge, IsRising, ends_at, reversed, same_edge, segment_of}
 use Rattle.plane.specs.FreeSegment.{IsBetween}
-use Rattle.plane.specs.Height.{is_in_span, is_left_of}
+use Rattle.plane.specs.Height.{distance_right, is_in_span, is_left_of}
 use Rattle.plane.specs.Order.{order}
 use Rattle.plane.specs.RayCrossing.{IsOff, IsOffEdge, off_by}
 use Rattle.plane.specs.Scale.{scaled_edge, scaled_point}
@@ -22,19 +22,20 @@ use Rattle.winding.specs.Ring.{IsAnchor, segments_of}
 use Rattle.winding.specs.ScaledEdges.{scaled_edges}
 use Rattle.winding.specs.Sided.{IsSided}
 use Rattle.plane.proofs.Edges.{edge_of, ends_at-from, same_edge-true}
+use Rattle.plane.proofs.Heights.{step_of, tall-by}
 use Rattle.plane.proofs.Identities.{lift, same, ◌⊞◌, ◌⊟◌, ◌⊠◌}
 use Rattle.plane.proofs.PointOrder.{line-order-up, order-turned}
 use Rattle.plane.proofs.Points.{same_point-true, same_vector}
-use Rattle.plane.proofs.Products.{cross-agree, cross-chain, cross-self, dot2, lift2, orient-round}
+use Rattle.plane.proofs.Products.{cross-agree, cross-chain, cross-neg, cross-self, dot2, lift2, orient-round}
 use Rattle.plane.proofs.RayCrossings.{down_seen, level-side, up_seen}
 use Rattle.plane.proofs.Scaling.{order-scaled}
-use Rattle.plane.proofs.Signs.{agree, all2-out, imp, imp-out, null-zero, plus-times, same_sign, same_sign-true, says-at, sign-from, sign-turned, times}
+use Rattle.plane.proofs.Signs.{agree, all2-out, imp, imp-out, null-zero, plus-times, same_bool, same_sign, same_sign-true, says-at, sign-from, sign-turned, times}
 use Rattle.plane.proofs.Views.{view_at}
 use Rattle.winding.proofs.AlongSegment.{off_all}
 use Rattle.winding.proofs.Anchors.{begins-by, level-plus, some-anchor}
-use Rattle.winding.proofs.Balance.{directed_balanced, ends-by, same_bool}
+use Rattle.winding.proofs.Balance.{directed_balanced, ends-by}
 use Rattle.winding.proofs.ConflictFree.{misses_others, rising_in, split_off}
-use Rattle.winding.proofs.Levels.{cross-neg, downs-run, first-tells, inner_runs, low-plus, off_not_null, spot, step_of, tall-by, to_right, ups-run}
+use Rattle.winding.proofs.Levels.{downs-run, first-tells, inner_runs, low-plus, off_not_null, to_right, ups-run}
 use Rattle.winding.proofs.Members.{all-in, in-all, in-filter, in-map, in-map-out, in-passes, into-filter, total-filter, total-same}
 use Rattle.winding.proofs.OddSides.{around-hits}
 use Rattle.winding.proofs.Ranks.{even-is, halves, odd-is}
@@ -163,9 +164,9 @@ module _ (es : List Edge) (pl : IsConflictFree (segments_of es)) (even : IsEvenA
       let c = sign (cross (from_to p t.from) (from_to p t.to)) in
       let ct : c ≡ orient t.from t.to p = ap sign (sym (orient-round p t.from t.to)) in
       let cs = ap sign (sym (orient-round p s.from s.to)) ∙ on in
-      let a = subst (λ z. agree (sign (cross (spot p s) (spot p t))) (times (sign (cross (from_to p s.from) (from_to p s.to))) (sign (t.to.y -ℤ t.from.y))) (times z c) ≡ true) (tall-by p s s-spans) (cross-agree (spot p s) (spot p t)) in
-      let k = beside-zero (sign (cross (spot p s) (spot p t))) (sign (cross (from_to p s.from) (from_to p s.to))) (sign (t.to.y -ℤ t.from.y)) c a cs in
-      sym (first-tells (is_in_span p t) (sign (cross (spot p s) (spot p t))) (sign (cross (step_of t) (step_of s))) (λ h. subst (λ z. not (is_null z) ≡ true) (sym k) (not-on t j h)))
+      let a = subst (λ z. agree (sign (cross (distance_right p s) (distance_right p t))) (times (sign (cross (from_to p s.from) (from_to p s.to))) (sign (t.to.y -ℤ t.from.y))) (times z c) ≡ true) (tall-by p s s-spans) (cross-agree (distance_right p s) (distance_right p t)) in
+      let k = beside-zero (sign (cross (distance_right p s) (distance_right p t))) (sign (cross (from_to p s.from) (from_to p s.to))) (sign (t.to.y -ℤ t.from.y)) c a cs in
+      sym (first-tells (is_in_span p t) (sign (cross (distance_right p s) (distance_right p t))) (sign (cross (step_of t) (step_of s))) (λ h. subst (λ z. not (is_null z) ≡ true) (sym k) (not-on t j h)))
       ∙ ap (λ z. bit (is_in_span p t && is_plus z)) (k ∙ ct)
 
   own-not-left : bit (is_left_of p s) ≡ 0

@@ -4,7 +4,9 @@ use Rattle.plane.specs.Edge.{Edge}
 use Rattle.plane.specs.FreeSegment.{IsBetween, Misses}
 use Rattle.plane.specs.RayCrossing.{IsOffEdge}
 use Rattle.plane.specs.Vector.{IsDirection, Vector, from_to}
+use Rattle.winding.specs.ConflictFree.{IsConflictFree, others}
 use Rattle.winding.specs.EdgeList.{IsBalanced, IsEvenAtPoints, crossing_count, winding_number}
+use Rattle.winding.specs.Member.{In}
 use Rattle.winding.specs.Node.{away}
 
 -- the parity is the same at all points inside the segment
@@ -22,3 +24,7 @@ ParityFromEnd = (d s t p : Vector) (es : List Edge) → IsDirection d → IsBetw
 -- and in the same way from both ends
 abbrev pub ParityFromBothEnds : Type 0
 ParityFromBothEnds = (s t : Vector) (es : List Edge) → IsDirection (from_to s t) → IsDirection (from_to t s) → IsEvenAtPoints es → All (Misses s t) es → All (IsOffEdge s) (away s es) → All (IsOffEdge t) (away t es) → crossing_count (from_to s t) s (away s es) % 2 ≡ crossing_count (from_to t s) t (away t es) % 2
+
+-- along an edge of a conflict-free list the parity of its others is the same at all inner points
+abbrev pub ParityAlongOwnEdge : Type 0
+ParityAlongOwnEdge = (d : Vector) → IsDirection d → (s : Edge) (es : List Edge) → IsConflictFree es → IsEvenAtPoints es → In s es → (p q : Vector) → IsBetween s.from s.to p → IsBetween s.from s.to q → crossing_count d p (others s es) % 2 ≡ crossing_count d q (others s es) % 2
