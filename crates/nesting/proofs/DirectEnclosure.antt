@@ -2,7 +2,7 @@
 use Rattle.std.proofs.Common.{Bool, List, [], ap, arith, cond, false, inl, inr, not, refl, subst, sym, true, ◌&&◌, ◌++◌, ◌+◌, ◌∙◌, ◌∷◌, ◌≡◌, ◌≤◌, ◌⊎◌}
 use Rattle.std.specs.List.{count_by, filter}
 use Rattle.nesting.specs.Cover.{AreClear, covers, covers_edge}
-use Rattle.nesting.specs.Nesting.{EnclosesDirectly, IsNearest, IsNest, edges_of, encloses, has_edge, is_outer}
+use Rattle.nesting.specs.Nesting.{IsNest, edges_of, encloses, has_edge, is_outer}
 use Rattle.plane.specs.Bit.{bit}
 use Rattle.plane.specs.Conflict.{IsClearOf}
 use Rattle.plane.specs.Edge.{Edge}
@@ -14,17 +14,18 @@ use Rattle.winding.specs.Parity.{is_even}
 use Rattle.winding.specs.Ring.{IsAnchor}
 use Rattle.nesting.proofs.CoveredEdges.{beside}
 use Rattle.nesting.proofs.Nests.{alternate, and-make, clear-of, clear_rings, depth-total, encloses-in, encloses-not, has-not-by, has_same, in-flat, innermost, nearest_exists, nearest_in, not-both, outer_depth, plain-left, plain-part, plain-right, same-ring, true-not-false}
+use Rattle.nesting.proofs.OuterTests.{IsDirectBy, IsNearest}
 use Rattle.nesting.proofs.TwoLists.{clear-turned, contained, disjoint, plain-append}
 use Rattle.plane.proofs.Edges.{and-out}
 use Rattle.plane.proofs.Heights.{right_of}
 use Rattle.winding.proofs.Anchors.{anchor_spans, some_odd}
 use Rattle.winding.proofs.ConflictFree.{rising_in}
-use Rattle.winding.proofs.Members.{all-in, in-all, in-either, in-filter, in-passes, into-filter, pairs-across, pairs-filter, pairs-weaker}
+use Rattle.winding.proofs.Members.{all-in, in-all, in-either, in-filter, in-passes, into-filter, pairs-across}
 use Rattle.winding.proofs.OddSides.{not-not}
 use Rattle.winding.proofs.Ranks.{First}
 use Rattle.winding.proofs.Sums.{total, total-is}
 
-both-true : (x y : Bool) → x ≡ true → y ≡ true → (x && y) ≡ true
+pub both-true : (x y : Bool) → x ≡ true → y ≡ true → (x && y) ≡ true
 both-true true y h k = k
 both-true false y h k = absurd (cc h)
 
@@ -125,7 +126,7 @@ module _ (gs : List (List Edge)) (n : IsNest gs) (outer : List Edge → Bool) (t
         tells t.ring t.member b.0 b.1 ∙ alternate gs n h ih e a.member e.from e-spans t.edge t.first t.ring t.member t.here t.round e a b.0 b.1 ∙ ap not (sym (tells h ih e a) ∙ o)
 
     -- the ring with the nearest edge among the outer ones is the same
-    direct-has : outer h ≡ false → (t : Inmost) → (g : List Edge) → (d : EnclosesDirectly gs outer g e) → (b : Bool) → has_edge t.ring d.edge ≡ b → g ≡ t.ring
+    direct-has : outer h ≡ false → (t : Inmost) → (g : List Edge) → (d : IsDirectBy gs outer g e) → (b : Bool) → has_edge t.ring d.edge ≡ b → g ≡ t.ring
     direct-has o t g d true k = sym (same-ring gs n g t.ring d.edge d.member t.member d.here k)
     direct-has o t g d false k =
         let f = first-nearest e d.edge (edges_of (filter above gs)) d.nearest in
@@ -138,11 +139,11 @@ module _ (gs : List (List Edge)) (n : IsNest gs) (outer : List Edge → Bool) (t
         let c2 = innermost gs n h ih e a.member e.from e-spans t.edge t.first t.ring t.member t.here t.round g d.member d.around gm in
         absurd (not-both gs n t.ring g d.edge t.edge t.member d.member d.here t.here c1 c2)
 
-    pub direct_is : outer h ≡ false → (t : Inmost) → (g : List Edge) → EnclosesDirectly gs outer g e → g ≡ t.ring
+    pub direct_is : outer h ≡ false → (t : Inmost) → (g : List Edge) → IsDirectBy gs outer g e → g ≡ t.ring
     direct_is o t g d = direct-has o t g d (has_edge t.ring d.edge) refl
 
   -- each inner ring stands directly under an outer ring
-  pub direct_exists : (h : List Edge) → (ih : In h gs) → (e : Edge) → IsAnchor e h → outer h ≡ false → (g : List Edge) × EnclosesDirectly gs outer g e
+  pub direct_exists : (h : List Edge) → (ih : In h gs) → (e : Edge) → IsAnchor e h → outer h ≡ false → (g : List Edge) × IsDirectBy gs outer g e
   direct_exists h ih e a o =
       let t = inmost h ih e a o in let out = inmost-outer h ih e a o t in
       let sel = λ (g : List Edge). outer g && encloses g e in
@@ -152,7 +153,7 @@ module _ (gs : List (List Edge)) (n : IsNest gs) (outer : List Edge → Bool) (t
       (r.0, record { member = in-filter sel gs r.0 r.1; is = c.0; around = c.1; edge = m.0; here = r.2; nearest = nearest-first e m.0 (edges_of (filter sel gs)) m.1 })
 
   -- under one ring only
-  pub direct_once : (h : List Edge) → (ih : In h gs) → (e : Edge) → IsAnchor e h → outer h ≡ false → (f g : List Edge) → EnclosesDirectly gs outer f e → EnclosesDirectly gs outer g e → f ≡ g
+  pub direct_once : (h : List Edge) → (ih : In h gs) → (e : Edge) → IsAnchor e h → outer h ≡ false → (f g : List Edge) → IsDirectBy gs outer f e → IsDirectBy gs outer g e → f ≡ g
   direct_once h ih e a o f g x y = let t = inmost h ih e a o in direct_is h ih e a o t f x ∙ sym (direct_is h ih e a o t g y)
 
   not-inner : (k t : List Edge) → outer k ≡ false → outer t ≡ true → (f : Edge) → In k gs → In t gs → In f t → (b : Bool) → has_edge k f ≡ b → b ≡ false
@@ -160,7 +161,7 @@ module _ (gs : List (List Edge)) (n : IsNest gs) (outer : List Edge → Bool) (t
   not-inner k t u o f ik it i true e = absurd (true-not-false (outer t) o (ap outer (sym (same-ring gs n t k f it ik i e)) ∙ u))
 
   -- two inner rings directly under one ring: the one is not in the other
-  pub siblings : (g h k : List Edge) → (ih : In h gs) → In k gs → (e f : Edge) → (a : IsAnchor e h) → IsAnchor f k → outer h ≡ false → outer k ≡ false → EnclosesDirectly gs outer g e → EnclosesDirectly gs outer g f → encloses k e ≡ true → ⊥
+  pub siblings : (g h k : List Edge) → (ih : In h gs) → In k gs → (e f : Edge) → (a : IsAnchor e h) → IsAnchor f k → outer h ≡ false → outer k ≡ false → IsDirectBy gs outer g e → IsDirectBy gs outer g f → encloses k e ≡ true → ⊥
   siblings g h k ih ik e f a b o u d d' c =
       let t = inmost h ih e a o in let q = direct_is h ih e a o t g d in
       let nk = not-inner k t.ring u (inmost-outer h ih e a o t) t.edge ik t.member t.here (has_edge k t.edge) refl in
@@ -197,34 +198,6 @@ module _ (gs : List (List Edge)) (n : IsNest gs) (outer : List Edge → Bool) (t
   insides_apart h k ih ik c e f ie if' x y p o u =
       disjoint h k (plain-part gs h n.plain ih) (plain-part gs k n.plain ik) (n.even h ih) (n.even k ik) c p
       (out-of h k ih ik e ie (clear-turned h k c) x) (out-of k h ik ih f if' c y) o u
-
-  -- ---- a polygon: an outer ring and the inner rings directly under it
-  module _ (g : List Edge) (ig : In g gs) (under : List Edge → Bool)
-      (means : (h : List Edge) → (i : In h gs) → under h ≡ true → (outer h ≡ false) × EnclosesDirectly gs outer g (anchors h i).0) (p : Vector) where
-    apart-under : (h k : List Edge) → In h gs → In k gs → under h ≡ true → under k ≡ true → AreClear h k → covers h p ≡ true → covers k p ≡ true → ⊥
-    apart-under h k ih ik uh uk c =
-        let a = anchors h ih in let b = anchors k ik in let x = means h ih uh in let y = means k ik uk in
-        insides_apart h k ih ik c a.0 b.0 a.1.member b.1.member
-        (false-by (encloses k a.0) (λ z. siblings g h k ih ik a.0 b.0 a.1 b.1 x.0 y.0 x.1 y.1 z))
-        (false-by (encloses h b.0) (λ z. siblings g k h ik ih b.0 a.0 b.1 a.1 y.0 x.0 y.1 x.1 z)) p
-
-    pub within_outer : (h : List Edge) → In h gs → under h ≡ true → covers h p ≡ true → covers g p ≡ true
-    within_outer h ih uh o = let a = anchors h ih in let x = means h ih uh in inside_of g h ig ih a.0 a.1.member x.1.around p o
-
-    -- the signed count of a polygon, its outer ring's less those of its inner rings, is 0 or 1: at most one inner ring is round p, and only where the outer ring is
-    pub polygon_count : total (λ h. bit (covers h p)) (filter under gs) ≤ bit (covers g p)
-    polygon_count =
-        at-most (λ h. covers h p) (covers g p) (filter under gs)
-        (λ h i o. within_outer h (in-filter under gs h i) (in-passes under gs h i) o)
-        (pairs-weaker AreClear (λ h k. covers h p ≡ true → covers k p ≡ true → ⊥) (filter under gs)
-        (λ h k i j c. apart-under h k (in-filter under gs h i) (in-filter under gs k j) (in-passes under gs h i) (in-passes under gs k j) c)
-        (pairs-filter AreClear under gs (clear-pairs gs n.plain)))
-
-pub polygon_law : (gs : List (List Edge)) → (n : IsNest gs) → (outer : List Edge → Bool) → (tells : (g : List Edge) → In g gs → (a : Edge) → IsAnchor a g → outer g ≡ is_outer gs a) → (anchors : (g : List Edge) → In g gs → (a : Edge) × IsAnchor a g) →
-    (g : List Edge) → In g gs → (under : List Edge → Bool) → ((h : List Edge) → (i : In h gs) → under h ≡ true → (outer h ≡ false) × EnclosesDirectly gs outer g (anchors h i).0) → (p : Vector) →
-    count_by (λ (h : List Edge). covers h p) (filter under gs) ≤ bit (covers g p)
-polygon_law gs n outer tells anchors g ig under means p =
-    let a = polygon_count gs n outer tells anchors g ig under means p in let b = total-is (λ h. bit (covers h p)) (filter under gs) in omega arith
 
 -- a ring encloses another where an odd number of its edges are right of the other's anchor
 pub encloses_law : (gs : List (List Edge)) → IsNest gs → (g h : List Edge) → In g gs → In h gs → (e : Edge) → IsAnchor e h → has_edge g e ≡ false → encloses g e ≡ not (is_even (count_by (is_right_above e.from e) g))

@@ -1,7 +1,7 @@
 -- Of the rings that enclose an outer ring as many are outer as inner; of those that enclose an inner ring one outer ring more.
 use Rattle.std.proofs.Common.{Bool, List, [], ap, arith, cond, false, inl, inr, not, refl, suc, sym, true, zero, ℕ, ◌&&◌, ◌+◌, ◌∙◌, ◌∷◌, ◌≡◌, ◌≤◌, ◌⊎◌}
 use Rattle.std.specs.List.{count_by, filter}
-use Rattle.nesting.specs.Nesting.{HasAnchors, IsNest, TellsOuter, depth, edges_of, encloses, has_edge}
+use Rattle.nesting.specs.Nesting.{IsNest, TellsOuter, depth, edges_of, encloses, has_edge}
 use Rattle.plane.specs.Bit.{bit}
 use Rattle.plane.specs.Edge.{Edge}
 use Rattle.plane.specs.Height.{is_right_above}
@@ -9,6 +9,7 @@ use Rattle.winding.specs.Member.{In}
 use Rattle.winding.specs.Ring.{IsAnchor}
 use Rattle.nesting.proofs.DirectEnclosure.{e-spans, in-flat-out, plain-chosen}
 use Rattle.nesting.proofs.Nests.{alternate, cond-out, cond-times, depth-at, depth-total, depth_same, depth_step, encloses_same, has_once, in-flat, nearest_exists, outer_depth, same-ring}
+use Rattle.nesting.proofs.OuterTests.{HasAnchors}
 use Rattle.plane.proofs.Heights.{right_of}
 use Rattle.winding.proofs.Members.{in-filter, in-passes, total-same}
 use Rattle.winding.proofs.Ranks.{First, even-is}

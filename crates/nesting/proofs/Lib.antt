@@ -1,11 +1,12 @@
 pub mod CoveredEdges
 pub mod DirectEnclosure
+pub mod DirectRings
 pub mod EnclosingSums
 pub mod Nearest
 pub mod Nests
+pub mod OuterTests
 pub mod Parts
 pub mod Pieces
-pub mod PolygonCover
 pub mod Polygons
 pub mod RationalPoints
 pub mod RingLists
@@ -17,3 +18,4 @@ pub mod Successors
 pub mod Turns
 pub mod TwoLists
 pub mod Walks
+pub mod WoundRings

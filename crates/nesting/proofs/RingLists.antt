@@ -15,7 +15,7 @@ use Rattle.nesting.proofs.CoveredEdges.{constant_in}
 use Rattle.nesting.proofs.Nests.{clear_rings, has-in, plain-part}
 use Rattle.nesting.proofs.TwoLists.{clear-list, clear-turned}
 use Rattle.plane.proofs.PointOrder.{order-turned}
-use Rattle.winding.proofs.Anchors.{anchor_exists}
+use Rattle.winding.proofs.Anchors.{some-anchor}
 use Rattle.winding.proofs.ConflictFree.{rising_in}
 use Rattle.winding.proofs.Members.{in-all, in-map, in-map-out}
 use Rattle.winding.proofs.RingCounts.{ring-even}
@@ -30,7 +30,7 @@ flat-raised [] = refl
 flat-raised (r ∷ rs) = ap (λ l. segments_of r ++ l) (flat-raised rs) ∙ sym (map-++ segment_of r (edges_of rs))
 
 -- two members are one, or stand at different places
-pairs-of : {X : Type 0} (R : X → X → Type 0) (xs : List X) (x y : X) → EachPair R xs → In x xs → In y xs → (x ≡ y) ⊎ (R x y ⊎ R y x)
+pub pairs-of : {X : Type 0} (R : X → X → Type 0) (xs : List X) (x y : X) → EachPair R xs → In x xs → In y xs → (x ≡ y) ⊎ (R x y ⊎ R y x)
 pairs-of R [] x y p i j = absurd i
 pairs-of R (z ∷ zs) x y p (inl e) (inl f) = inl (e ∙ sym f)
 pairs-of R (z ∷ zs) x y p (inl e) (inr j) = inr (inl (subst (λ w. R w y) (sym e) (in-all (R z) zs y p.0 j)))
@@ -85,7 +85,7 @@ module _ (rs : List (List Edge)) (l : IsRingList rs) where
   -- each ring has an anchor
   first-edge : (r : List Edge) → 3 ≤ length r → IsConflictFree (segments_of r) → (a : Edge) × IsAnchor a (segments_of r)
   first-edge [] h p = absurd (omega arith)
-  first-edge (x ∷ xs) h p = anchor_exists (segment_of x) (segments_of xs) p
+  first-edge (x ∷ xs) h p = some-anchor (segments_of (x ∷ xs)) (segment_of x) (inl refl) p
 
   pub ring_anchor : (g : List Edge) → In g nest → (a : Edge) × IsAnchor a g
   ring_anchor g i =

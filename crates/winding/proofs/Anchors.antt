@@ -19,7 +19,7 @@ use Rattle.winding.specs.OddSide.{runs_up}
 use Rattle.winding.specs.Parity.{is_even}
 use Rattle.winding.specs.Ring.{IsAnchor, IsRing, segments_of}
 use Rattle.plane.proofs.Conflicts.{clear_misses}
-use Rattle.plane.proofs.Edges.{edge_of, ends_at-from, same_edge-true}
+use Rattle.plane.proofs.Edges.{edge_of, ends_at-from, same_edge-refl, same_edge-true}
 use Rattle.plane.proofs.Identities.{lift, same, ◌⊞◌, ◌⊟◌, ◌⊠◌}
 use Rattle.plane.proofs.PointOrder.{line-order-up, order-null, order-self-null, order-sum, order-turned, rising-direction}
 use Rattle.plane.proofs.Points.{same_point-true}
@@ -284,17 +284,9 @@ keep-tail : (x : Edge) (es : List Edge) (s : Edge) → Best s es → ok s x ≡ 
 keep-tail x es s b h t (inl e) = subst (λ w. ok s w ≡ true) (sym e) h
 keep-tail x es s b h t (inr i) = b.best t i
 
-best-step : (x : Edge) (es : List Edge) (s : Edge) → ((t : Edge) → In t (x ∷ es) → IsRising t) → Best s es → (b : Bool) → ok x s ≡ b → (m : Edge) × Best m (x ∷ es)
-best-step x es s r b true h = (x, record { here = inl refl; best = better-head x es s r b h })
-best-step x es s r b false h = (s, record { here = inr b.here; best = keep-tail x es s b (ok-either-by x s (order x.from s.from) refl h) })
-
 one-best : (x t : Edge) → In t (x ∷ []) → ok x t ≡ true
 one-best x t (inl e) = subst (λ w. ok x w ≡ true) (sym e) (ok-self x)
 one-best x t (inr i) = absurd i
-
-find-best : (x : Edge) (es : List Edge) → ((t : Edge) → In t (x ∷ es) → IsRising t) → (m : Edge) × Best m (x ∷ es)
-find-best x [] r = (x, record { here = inl refl; best = one-best x })
-find-best x (y ∷ ys) r = let s = find-best y ys (λ t i. r t (inr i)) in best-step x (y ∷ ys) s.0 r s.1 (ok x s.0) refl
 
 no-ok : (s t : Edge) → ok s t ≡ true → order s.from t.from ≡ Minus → ⊥
 no-ok s t h g = let k = ap (λ o. ok_by o (orient s.from s.to t.to)) g in cc (sym h ∙ k)
@@ -313,12 +305,6 @@ best-left s t es p b i q =
     let r = subst (λ w. order w t.to ≡ Plus) (sym q) rt in
     let m = subst (λ w. Misses s.from s.to (edge_of w t.to)) (sym q) (clear_misses s t rs rt c) in
     minus-by (orient s.from s.to t.to) k (λ z. no_same_way_from s.from s.to t.to (rising-direction s.from s.to rs) m z (line-order-up s.from s.to s.from t.to rs z ∙ r))
-
--- a list without conflicts that is not empty has an anchor
-pub anchor_exists : (x : Edge) (es : List Edge) → IsConflictFree (x ∷ es) → (m : Edge) × IsAnchor m (x ∷ es)
-anchor_exists x es p =
-    let s = find-best x es (λ t i. rising_in (x ∷ es) t p i) in let b = s.1 in
-    (s.0, record { member = b.here; least = λ t i h. no-ok s.0 t (b.best t i) h; leftmost = λ t i q. best-left s.0 t (x ∷ es) p b i q })
 
 -- ---- an anchor is not level
 minus-rise : (y x : Sign) → then_sign y x ≡ Plus → y ≡ Minus → ⊥
@@ -371,6 +357,55 @@ anchor_spans s es p even a =
     let t = some_odd (λ t. ends_at s.from t) (others s es) (other-by s es p even a.member) in
     spans-by s.from (sign (s.to.y -ℤ s.from.y)) s refl refl (λ z. level-out s t.0 es p a t.1 t.2 z) (rising_in es s p a.member)
 
+-- ---- the anchor, computed: the best of the list
+abbrev pub leftmost_of : Edge → List Edge → Edge
+leftmost_of x [] = x
+leftmost_of x (y ∷ ys) = cond (ok x (leftmost_of y ys)) x (leftmost_of y ys)
+
+best-step : (x : Edge) (es : List Edge) (s : Edge) → ((t : Edge) → In t (x ∷ es) → IsRising t) → Best s es → (b : Bool) → ok x s ≡ b → Best (cond b x s) (x ∷ es)
+best-step x es s r b true h = record { here = inl refl; best = better-head x es s r b h }
+best-step x es s r b false h = record { here = inr b.here; best = keep-tail x es s b (ok-either-by x s (order x.from s.from) refl h) }
+
+leftmost-best : (x : Edge) (es : List Edge) → ((t : Edge) → In t (x ∷ es) → IsRising t) → Best (leftmost_of x es) (x ∷ es)
+leftmost-best x [] r = record { here = inl refl; best = one-best x }
+leftmost-best x (y ∷ ys) r = best-step x (y ∷ ys) (leftmost_of y ys) r (leftmost-best y ys (λ t i. r t (inr i))) (ok x (leftmost_of y ys)) refl
+
+pub leftmost_anchor : (x : Edge) (es : List Edge) → IsConflictFree (x ∷ es) → IsAnchor (leftmost_of x es) (x ∷ es)
+leftmost_anchor x es p =
+    let s = leftmost_of x es in let b = leftmost-best x es (λ t i. rising_in (x ∷ es) t p i) in
+    record { member = b.here; least = λ t i h. no-ok s t (b.best t i) h; leftmost = λ t i q. best-left s t (x ∷ es) p b i q }
+
+-- a conflict-free list that is not empty has an anchor
 pub some-anchor : (es : List Edge) (x : Edge) → In x es → IsConflictFree es → (m : Edge) × IsAnchor m es
 some-anchor [] x i p = absurd i
-some-anchor (y ∷ ys) x i p = anchor_exists y ys p
+some-anchor (y ∷ ys) x i p = (leftmost_of y ys, leftmost_anchor y ys p)
+
+-- ---- and only one
+not-both-minus : (s : Sign) → s ≡ Minus → negated s ≡ Minus → ⊥
+not-both-minus Minus h k = cc k
+not-both-minus Null h k = cc h
+not-both-minus Plus h k = cc h
+
+neither-way : (s : Sign) → (s ≡ Minus → ⊥) → (negated s ≡ Minus → ⊥) → s ≡ Null
+neither-way Minus h k = absurd (h refl)
+neither-way Null h k = refl
+neither-way Plus h k = absurd (k refl)
+
+pub false-if-never : (b : Bool) → (b ≡ true → ⊥) → b ≡ false
+false-if-never true h = absurd (h refl)
+false-if-never false h = refl
+
+anchor-one-by : (a b : Edge) (es : List Edge) → IsConflictFree es → IsAnchor a es → IsAnchor b es → (x : Bool) → same_edge a b ≡ x → a ≡ b
+anchor-one-by a b es p h k true e = same_edge-true a b e
+anchor-one-by a b es p h k false e =
+    let i : In b (others a es) = into-filter (λ (t : Edge). not (same_edge a t)) es b k.member (ap not e) in
+    let f : same_edge b a ≡ false = false-if-never (same_edge b a) (λ z. let q = same_edge-true b a z in let r = ap (λ w. same_edge a w) q in let s = same_edge-refl a in cc (sym s ∙ sym r ∙ e)) in
+    let j : In a (others b es) = into-filter (λ (t : Edge). not (same_edge b t)) es a h.member (ap not f) in
+    let n = neither-way (order a.from b.from) (h.least b k.member) (λ z. k.least a h.member (order-turned a.from b.from ∙ z)) in
+    let q = order-null a.from b.from n in
+    let u = h.leftmost b i q in let v = k.leftmost a j (sym q) in
+    let w : orient a.from b.to a.to ≡ Minus = subst (λ c. orient c b.to a.to ≡ Minus) (sym q) v in
+    absurd (not-both-minus (orient a.from a.to b.to) u (sym (cross-neg (from_to a.from a.to) (from_to a.from b.to)) ∙ w))
+
+pub anchor_one : (a b : Edge) (es : List Edge) → IsConflictFree es → IsAnchor a es → IsAnchor b es → a ≡ b
+anchor_one a b es p h k = anchor-one-by a b es p h k (same_edge a b) refl
