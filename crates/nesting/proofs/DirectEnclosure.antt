@@ -169,10 +169,6 @@ module _ (gs : List (List Edge)) (n : IsNest gs) (outer : List Edge → Bool) (t
       let c2 = subst (λ l. encloses l f ≡ true) q d'.around in
       not-both gs n t.ring k f t.edge t.member ik b.member t.here c2 c1
 
-  false-by : (b : Bool) → (b ≡ true → ⊥) → b ≡ false
-  false-by true h = absurd (h refl)
-  false-by false h = refl
-
   half-false : (x y : Bool) → x ≡ false → (not x && y) ≡ false → y ≡ false
   half-false false y h k = k
   half-false true y h k = absurd (cc h)

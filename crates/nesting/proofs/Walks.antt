@@ -26,10 +26,6 @@ last-or : (x : Edge) (p : List Edge) → In (last x p) (x ∷ p)
 last-or x [] = inl refl
 last-or x (y ∷ ys) = inr (last-in x y ys)
 
-last-push : (x : Edge) (p : List Edge) (y : Edge) → last x (p ++ (y ∷ [])) ≡ y
-last-push x [] y = refl
-last-push x (q ∷ p) y = last-push q p y
-
 module _ (es : List Edge) (sd : IsSided es) where
   abbrev T : Edge → Edge → Type 0
   T = IsSuccessor es

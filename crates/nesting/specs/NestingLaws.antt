@@ -4,10 +4,8 @@ use Rattle.std.specs.List.{count_by}
 use Rattle.nesting.specs.Nesting.{EnclosesDirectly, IsInnerRing, IsNest, TellsOuter, depth, edges_of, encloses, has_edge, is_outer}
 use Rattle.nesting.specs.RingList.{IsRingList}
 use Rattle.plane.specs.Bit.{bit}
-use Rattle.plane.specs.Edge.{Edge, segment_of}
+use Rattle.plane.specs.Edge.{Edge, is_rising, segment_of}
 use Rattle.plane.specs.Height.{is_right_above}
-use Rattle.plane.specs.Order.{order}
-use Rattle.plane.specs.Sign.{is_plus}
 use Rattle.winding.specs.Member.{In}
 use Rattle.winding.specs.Parity.{is_even}
 use Rattle.winding.specs.Ring.{IsAnchor, segments_of}
@@ -21,7 +19,7 @@ RingHasAnchor = (rs : List (List Edge)) → IsRingList rs → (r : List Edge) �
 
 -- a ring of a ring list is outer where its anchor runs down
 abbrev pub OuterRunsDown : Type 0
-OuterRunsDown = (rs : List (List Edge)) → IsRingList rs → (e : Edge) → In e (edges_of rs) → is_outer (map segments_of rs) (segment_of e) ≡ not (is_plus (order e.from e.to))
+OuterRunsDown = (rs : List (List Edge)) → IsRingList rs → (e : Edge) → In e (edges_of rs) → is_outer (map segments_of rs) (segment_of e) ≡ not (is_rising e)
 
 -- a ring is outer exactly where an even number of rings enclose it
 abbrev pub OuterByDepth : Type 0

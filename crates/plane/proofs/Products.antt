@@ -88,9 +88,6 @@ cross-here d v = let e = lift2 d in let w = lift2 v in same (cross2 e (from_to2 
 pub cross-from-here : (v w : Vector) → cross (from_to v v) w ≡ pos 0
 cross-from-here v w = let e = lift2 v in let f = lift2 w in same (cross2 (from_to2 e e) f) (lift (pos 0)) (omega arith)
 
-pub cross-to-here : (v w : Vector) → cross w (from_to v v) ≡ pos 0
-cross-to-here v w = cross-here w v
-
 turned-side : (s t w : Vector) → cross (from_to s t) (from_to s w) +ℤ cross (from_to t s) (from_to t w) ≡ pos 0
 turned-side s t w =
     let s' = lift2 s in let t' = lift2 t in let w' = lift2 w in

@@ -15,4 +15,5 @@ pub mod ScaleLaws
 pub mod Sector
 pub mod SectorLaws
 pub mod Sign
+pub mod SignLaws
 pub mod Vector

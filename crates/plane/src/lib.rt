@@ -11,3 +11,4 @@ pub mod order;
 pub mod ray_crossing;
 pub mod scale;
 pub mod sector;
+pub mod sign;

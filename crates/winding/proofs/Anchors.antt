@@ -150,9 +150,6 @@ in-map f [] x i = i
 in-map f (y ∷ ys) x (inl e) = inl (ap f e)
 in-map f (y ∷ ys) x (inr i) = inr (in-map f ys x i)
 
-same-false : (b : Bool) → same_bool false b ≡ not b
-same-false b = refl
-
 anchor-keeps : (e : Edge) (es : List Edge) → IsRing es → IsConflictFree (segments_of es) → IsAnchor (segment_of e) (segments_of es) → keeps es e ≡ not (is_plus (order e.from e.to))
 anchor-keeps e es r p a = ap (λ b. same_bool b (is_plus (order e.from e.to))) (anchor_runs (segment_of e) (segments_of es) p (ring-even es r) a)
 

@@ -24,7 +24,7 @@ use Rattle.plane.proofs.PointOrder.{order-self-null, order-turned, rising-direct
 use Rattle.plane.proofs.Points.{same_point-true}
 use Rattle.plane.proofs.Products.{cross-agree, cross-self, cross-turned, direction-back, dot-east, dot2, lift2, plucker-agree, plucker-dot-agree}
 use Rattle.plane.proofs.RayCrossings.{cross-east, east-direction, sector-east}
-use Rattle.plane.proofs.Signs.{agree, agree-products, all, all-out, all2, all2-out, all4, all4-out, imp, imp-out, not-null-by, same_bool, same_bool-true, sign-turned, times, times-plus}
+use Rattle.plane.proofs.Signs.{agree, agree-products, all, all-out, all2, all2-out, all4, all4-out, imp, imp-out, same_bool, same_bool-true, sign-turned, times, times-plus}
 use Rattle.winding.proofs.ConflictFree.{off_away, rising_in, split_off}
 use Rattle.winding.proofs.Members.{in-filter, in-passes, pairs-filter, pairs-weaker, total-filter, total-same}
 use Rattle.winding.proofs.OddSides.{differ-parity, no_same_way_from, no_same_way_to, not-not, runs_from, runs_to, same-parity, spokes-is}
@@ -129,9 +129,6 @@ turns_either a b sa sb n =
 -- ---- the edges at a point
 abbrev pub way : Vector → Edge → Vector
 way v t = from_to v (other_end v t)
-
-set-by : (s : Sign) → (s ≡ Null → ⊥) → not (is_null s) ≡ true
-set-by s h = not-null-by s h
 
 way-set-by : (v : Vector) (t : Edge) (b c : Bool) → same_point v t.from ≡ b → same_point v t.to ≡ c → (b || c) ≡ true → IsRising t → not (is_null (order v (cond b t.to t.from))) ≡ true
 way-set-by v t true c h k o r = ap (λ s. not (is_null s)) (subst (λ w. order w t.to ≡ Plus) (sym (same_point-true v t.from h)) r)

@@ -2,6 +2,7 @@ pub mod AlongSegment
 pub mod Anchors
 pub mod Balance
 pub mod ConflictFree
+pub mod Counts
 pub mod Independence
 pub mod Levels
 pub mod Members

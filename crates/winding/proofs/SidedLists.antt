@@ -276,9 +276,6 @@ plus-two n = sign-from Plus (pos (2 + n)) (omega (arith, ints))
 less-two : (n : ℕ) → sign (pos (2 + n) -ℤ pos 1) ≡ Plus
 less-two n = sign-from Plus (pos (2 + n) -ℤ pos 1) (omega (arith, ints))
 
-heights : List Edge → ℕ
-heights es = total (λ (t : Edge). up (t.to.y -ℤ t.from.y)) es
-
 keeps-at : (es : List Edge) → IsConflictFree (segments_of es) → IsEvenAtPoints (segments_of es) →
     ((q : ℤ) → sign q ≡ Plus → (p : Vector) → All (IsOffEdge p) (scaled_edges q es) → (winding_number east p (scaled_edges q es) ≡ pos 0) ⊎ (winding_number east p (scaled_edges q es) ≡ pos 1)) →
     (e : Edge) → In e es → (p : Vector) → sign ((segment_of e).from.y -ℤ p.y) ≡ Minus → sign ((segment_of e).to.y -ℤ p.y) ≡ Plus → orient (segment_of e).from (segment_of e).to p ≡ Null → keeps es e ≡ true
@@ -326,9 +323,6 @@ list-twice k m (x ∷ xs) = ap (λ y. y ∷ scaled_edges k (scaled_edges m xs)) 
 
 product-plus : (k m : ℤ) → sign k ≡ Plus → sign m ≡ Plus → sign (k *ℤ m) ≡ Plus
 product-plus k m h g = plus-times k m h ∙ g
-
-middle : Edge → Vector
-middle s = record { x = s.from.x +ℤ s.to.x; y = s.from.y +ℤ s.to.y }
 
 mid-low : (a b : ℤ) → sign (b -ℤ a) ≡ Plus → sign (pos 2 *ℤ a -ℤ (a +ℤ b)) ≡ Minus
 mid-low a b h =
