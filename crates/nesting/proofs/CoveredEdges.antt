@@ -16,6 +16,7 @@ use Rattle.winding.specs.Member.{In}
 use Rattle.winding.specs.Node.{away, spokes_in}
 use Rattle.winding.specs.Parity.{is_even}
 use Rattle.winding.specs.Ring.{IsPath, IsRing, segments_of}
+use Rattle.plane.proofs.Bools.{not-not}
 use Rattle.plane.proofs.Conflicts.{clear_misses}
 use Rattle.plane.proofs.Edges.{ends_at-from, ends_at-to}
 use Rattle.plane.proofs.PointOrder.{rising-direction}
@@ -27,8 +28,8 @@ use Rattle.winding.proofs.Balance.{way, way-direction}
 use Rattle.winding.proofs.ConflictFree.{off_away, rising_in}
 use Rattle.winding.proofs.Independence.{IsOffSeen, parity_independent}
 use Rattle.winding.proofs.Levels.{e-tall, e-view, from_e, hits-right, low-by, right-level, to_right}
-use Rattle.winding.proofs.Members.{all-in, from-map, in-all, in-filter, in-map-all, in-passes, into-filter, total-same}
-use Rattle.winding.proofs.OddSides.{not-not, same-parity, share, share-is, spokes-is}
+use Rattle.winding.proofs.Members.{all-in, from-map, in-all, in-filter, in-map, in-passes, into-filter, total-same}
+use Rattle.winding.proofs.OddSides.{same-parity, share, share-is, spokes-is}
 use Rattle.winding.proofs.OppositeEnds.{beyond, crossings-away}
 use Rattle.winding.proofs.RoundNode.{parity_round_node}
 use Rattle.winding.proofs.Sums.{total, total-+, total-is}
@@ -128,7 +129,7 @@ module _ (rs : List Edge) (ring : IsRing rs) (es : List Edge) (ps : IsConflictFr
   next-in : (e f : Edge) → In e rs → In f rs → f.from ≡ e.to → covers_edge es (segment_of f) ≡ covers_edge es (segment_of e)
   next-in e f i j q =
       let v = e.to in let s = segment_of f in let t = segment_of e in
-      let is = in-map-all segment_of rs f j in let it = in-map-all segment_of rs e i in
+      let is = in-map segment_of rs f j in let it = in-map segment_of rs e i in
       let hs : ends_at v s ≡ true = raise-ends-by v (is_plus (order f.from f.to)) f (subst (λ w. (same_point w f.from || same_point w f.to) ≡ true) q (ends_at-from f)) in
       let ht : ends_at v t ≡ true = raise-ends-by v (is_plus (order e.from e.to)) e (ends_at-to e) in
       same_in v s t es (rising_in (segments_of rs) s ps is) (rising_in (segments_of rs) t ps it) pl even (c s is) (c t it) hs ht (n v s t is it hs ht)

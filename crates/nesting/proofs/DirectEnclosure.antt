@@ -16,31 +16,22 @@ use Rattle.nesting.proofs.CoveredEdges.{beside}
 use Rattle.nesting.proofs.Nests.{alternate, and-make, clear-of, clear_rings, depth-total, encloses-in, encloses-not, has-not-by, has_same, in-flat, innermost, nearest_exists, nearest_in, not-both, outer_depth, plain-left, plain-part, plain-right, same-ring, true-not-false}
 use Rattle.nesting.proofs.OuterTests.{IsDirectBy, IsNearest}
 use Rattle.nesting.proofs.TwoLists.{clear-turned, contained, disjoint, plain-append}
-use Rattle.plane.proofs.Edges.{and-out}
+use Rattle.plane.proofs.Bools.{and-in, and-out, false-if-never, not-not}
 use Rattle.plane.proofs.Heights.{right_of}
 use Rattle.winding.proofs.Anchors.{anchor_spans, some_odd}
 use Rattle.winding.proofs.ConflictFree.{rising_in}
 use Rattle.winding.proofs.Members.{all-in, in-all, in-either, in-filter, in-passes, into-filter, pairs-across}
-use Rattle.winding.proofs.OddSides.{not-not}
 use Rattle.winding.proofs.Ranks.{First}
 use Rattle.winding.proofs.Sums.{total, total-is}
-
-pub both-true : (x y : Bool) → x ≡ true → y ≡ true → (x && y) ≡ true
-both-true true y h k = k
-both-true false y h k = absurd (cc h)
 
 -- ---- at most one
 none-of : {X : Type 0} (q : X → Bool) (xs : List X) → ((x : X) → In x xs → q x ≡ false) → total (λ x. bit (q x)) xs ≡ 0
 none-of q [] h = refl
 none-of q (x ∷ xs) h = let a = ap bit (h x (inl refl)) in let b = none-of q xs (λ y i. h y (inr i)) in omega arith
 
-not-so : (b : Bool) → (b ≡ true → ⊥) → b ≡ false
-not-so true h = absurd (h refl)
-not-so false h = refl
-
 at-most-step : {X : Type 0} (q : X → Bool) (m : Bool) (x : X) (xs : List X) → (b : Bool) → q x ≡ b → (q x ≡ true → m ≡ true) → ((y : X) → In y xs → q x ≡ true → q y ≡ true → ⊥) → total (λ x. bit (q x)) xs ≤ bit m →
     bit b + total (λ x. bit (q x)) xs ≤ bit m
-at-most-step q m x xs true h k d l = let a = none-of q xs (λ y i. not-so (q y) (λ z. d y i h z)) in let b = ap bit (k h) in omega arith
+at-most-step q m x xs true h k d l = let a = none-of q xs (λ y i. false-if-never (q y) (λ z. d y i h z)) in let b = ap bit (k h) in omega arith
 at-most-step q m x xs false h k d l = omega arith
 
 pub at-most : {X : Type 0} (q : X → Bool) (m : Bool) (xs : List X) → ((x : X) → In x xs → q x ≡ true → m ≡ true) → EachPair (λ x y. q x ≡ true → q y ≡ true → ⊥) xs → total (λ x. bit (q x)) xs ≤ bit m
@@ -130,7 +121,7 @@ module _ (gs : List (List Edge)) (n : IsNest gs) (outer : List Edge → Bool) (t
     direct-has o t g d true k = sym (same-ring gs n g t.ring d.edge d.member t.member d.here k)
     direct-has o t g d false k =
         let f = first-nearest e d.edge (edges_of (filter above gs)) d.nearest in
-        let st : above t.ring ≡ true = both-true (outer t.ring) (encloses t.ring e) (inmost-outer o t) t.round in
+        let st : above t.ring ≡ true = and-in (outer t.ring) (encloses t.ring e) (inmost-outer o t) t.round in
         let x = nearest_in gs n h ih e a.member e.from e-spans above (λ g i c. (and-out (outer g) (encloses g e) c).1) d.edge f g d.member d.here t.ring t.member st k in
         let c1 = and-make (has_edge t.ring d.edge) (covers_edge t.ring d.edge) k (x ∙ encloses-in gs n t.ring e t.round) in
         let m = has_same gs t.ring g d.edge d.edge n.plain t.member d.member d.here d.here k in
@@ -147,7 +138,7 @@ module _ (gs : List (List Edge)) (n : IsNest gs) (outer : List Edge → Bool) (t
   direct_exists h ih e a o =
       let t = inmost h ih e a o in let out = inmost-outer h ih e a o t in
       let sel = λ (g : List Edge). outer g && encloses g e in
-      let m = nearest_exists gs n h ih e a.member e.from (e-spans h ih e a) sel (λ g i c. (and-out (outer g) (encloses g e) c).1) t.ring t.member (both-true (outer t.ring) (encloses t.ring e) out t.round) (plain-chosen sel gs n.plain) in
+      let m = nearest_exists gs n h ih e a.member e.from (e-spans h ih e a) sel (λ g i c. (and-out (outer g) (encloses g e) c).1) t.ring t.member (and-in (outer t.ring) (encloses t.ring e) out t.round) (plain-chosen sel gs n.plain) in
       let r = in-flat-out (filter sel gs) m.0 (in-filter (is_right_above e.from e) (edges_of (filter sel gs)) m.0 m.1.here) in
       let c = and-out (outer r.0) (encloses r.0 e) (in-passes sel gs r.0 r.1) in
       (r.0, record { member = in-filter sel gs r.0 r.1; is = c.0; around = c.1; edge = m.0; here = r.2; nearest = nearest-first e m.0 (edges_of (filter sel gs)) m.1 })

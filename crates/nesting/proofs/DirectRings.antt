@@ -1,5 +1,5 @@
 -- Outer and inner rings and direct enclosure, from tests of them; and what the rings of a polygon cover.
-use Rattle.std.proofs.Common.{Bool, List, [], ap, arith, false, inl, inr, map, not, refl, subst, sym, true, ℕ, ◌&&◌, ◌+◌, ◌∙◌, ◌∷◌, ◌≡◌, ◌≤◌, ◌⊎◌}
+use Rattle.std.proofs.Common.{Bool, List, [], ap, arith, false, inl, inr, map, not, subst, sym, true, ℕ, ◌&&◌, ◌+◌, ◌∙◌, ◌∷◌, ◌≡◌, ◌≤◌, ◌⊎◌}
 use Rattle.std.specs.List.{count_by, filter}
 use borrow.Author.Differences.{down, ints, up}
 use lib.IntN.{pos}
@@ -15,17 +15,18 @@ use Rattle.winding.specs.ConflictFree.{IsConflictFree}
 use Rattle.winding.specs.EdgeList.{crossing_count, down_count, up_count, winding_number}
 use Rattle.winding.specs.Member.{EachPair, In}
 use Rattle.winding.specs.Ring.{IsAnchor, segments_of}
-use Rattle.nesting.proofs.DirectEnclosure.{at-most, both-true, clear-pairs, direct_exists, direct_once, in-flat-out, siblings}
+use Rattle.nesting.proofs.DirectEnclosure.{at-most, clear-pairs, direct_exists, direct_once, in-flat-out, siblings}
 use Rattle.nesting.proofs.EnclosingSums.{enclosing_sums}
 use Rattle.nesting.proofs.Nests.{in-flat, nearest, odd-bit, plain-part, total-flat}
 use Rattle.nesting.proofs.OuterTests.{HasAnchors, IsDirectBy}
 use Rattle.nesting.proofs.RingLists.{nest-plain, pairs-of, ring_anchor, ring_list_nest}
 use Rattle.nesting.proofs.TwoLists.{clear-turned}
 use Rattle.nesting.proofs.WoundRings.{area-sum}
+use Rattle.plane.proofs.Bools.{and-in, and-left, and-right, false-if-never}
 use Rattle.plane.proofs.Conflicts.{self_conflicts}
 use Rattle.plane.proofs.Identities.{apart}
 use Rattle.plane.proofs.RayCrossings.{down_seen, up_seen}
-use Rattle.winding.proofs.Anchors.{anchor_one, false-if-never, leftmost_anchor, leftmost_of}
+use Rattle.winding.proofs.Anchors.{anchor_one, leftmost_anchor, leftmost_of}
 use Rattle.winding.proofs.ConflictFree.{rising_in}
 use Rattle.winding.proofs.Independence.{count-is}
 use Rattle.winding.proofs.Members.{all-in, in-all, in-filter, in-map, in-map-out, in-passes, into-filter, pairs-weaker, total-same}
@@ -45,14 +46,6 @@ outer_test_tells gs p g i a h = tells-by gs g (plain-part gs g p i) a h
 pairs-unmap : {X Y : Type 0} (f : X → Y) (R : Y → Y → Type 0) (xs : List X) → EachPair R (map f xs) → EachPair (λ x y. R (f x) (f y)) xs
 pairs-unmap f R [] h = tt
 pairs-unmap f R (x ∷ xs) h = (all-in (λ y. R (f x) (f y)) xs (λ y i. in-all (R (f x)) (map f xs) (f y) h.0 (in-map f xs y i)), pairs-unmap f R xs h.1)
-
-and-first : (x y : Bool) → (x && y) ≡ true → x ≡ true
-and-first true y h = refl
-and-first false y h = absurd (cc h)
-
-and-second : (x y : Bool) → (x && y) ≡ true → y ≡ true
-and-second true y h = h
-and-second false y h = absurd (cc h)
 
 abbrev clear-rings : List Edge → List Edge → Type 0
 clear-rings r s = AreClear (segments_of r) (segments_of s)
@@ -98,12 +91,12 @@ module _ (rs : List (List Edge)) (l : IsRingList rs) where
     edge = d.edge;
     here = d.belongs;
     nearest = record {
-      member = in-flat (filter (chosen d.anchor) rings) g d.edge (into-filter (chosen d.anchor) rings g i (both-true (is_outer_by g) (encloses g d.anchor) (outer-out g i d.outer) d.around)) d.belongs;
+      member = in-flat (filter (chosen d.anchor) rings) g d.edge (into-filter (chosen d.anchor) rings g i (and-in (is_outer_by g) (encloses g d.anchor) (outer-out g i d.outer) d.around)) d.belongs;
       right = d.right;
       first = λ f m b.
           let r = in-flat-out (filter (chosen d.anchor) rings) f m in
           let ir = in-filter (chosen d.anchor) rings r.0 r.1 in let t = in-passes (chosen d.anchor) rings r.0 r.1 in
-          d.nearest r.0 ir (outer-in r.0 ir (and-first (is_outer_by r.0) (encloses r.0 d.anchor) t)) (and-second (is_outer_by r.0) (encloses r.0 d.anchor) t) f r.2 b;
+          d.nearest r.0 ir (outer-in r.0 ir (and-left (is_outer_by r.0) (encloses r.0 d.anchor) t)) (and-right (is_outer_by r.0) (encloses r.0 d.anchor) t) f r.2 b;
     };
   }
 
@@ -117,7 +110,7 @@ module _ (rs : List (List Edge)) (l : IsRingList rs) where
     belongs = d.here;
     right = d.nearest.right;
     nearest = λ k i o c f m b.
-        d.nearest.first f (in-flat (filter (chosen e) rings) k f (into-filter (chosen e) rings k i (both-true (is_outer_by k) (encloses k e) (outer-out k i o) c)) m) b;
+        d.nearest.first f (in-flat (filter (chosen e) rings) k f (into-filter (chosen e) rings k i (and-in (is_outer_by k) (encloses k e) (outer-out k i o) c)) m) b;
   }
 
   -- two rings are one, or clear of each other

@@ -1,5 +1,5 @@
 -- The nearest edge right of an edge.
-use Rattle.std.proofs.Common.{Bool, List, [], ap, arith, false, inl, inr, not, refl, sym, true, ℕ, ◌&&◌, ◌++◌, ◌+◌, ◌∙◌, ◌∷◌, ◌≡◌, ◌⊎◌}
+use Rattle.std.proofs.Common.{Bool, List, ap, false, inl, inr, not, refl, sym, true, ◌++◌, ◌∙◌, ◌≡◌, ◌⊎◌}
 use Rattle.std.specs.List.{filter}
 use Rattle.nesting.specs.Cover.{AreClear, covers_edge}
 use Rattle.plane.specs.Bit.{bit}
@@ -14,15 +14,14 @@ use Rattle.winding.specs.Parity.{is_even}
 use Rattle.winding.specs.Rank.{IsOrder}
 use Rattle.nesting.proofs.CoveredEdges.{IsClearOfAll, beside}
 use Rattle.nesting.proofs.TwoLists.{clear-list, clear-turned, first-right, not_both_in, plain-append}
+use Rattle.plane.proofs.Bools.{and-in, and-out, not-not}
 use Rattle.plane.proofs.Conflicts.{clear_back}
-use Rattle.plane.proofs.Edges.{and-out}
 use Rattle.plane.proofs.Heights.{right_chain, right_either, right_itself, right_of}
+use Rattle.winding.proofs.Anchors.{some_odd}
 use Rattle.winding.proofs.ConflictFree.{rising_in}
 use Rattle.winding.proofs.Levels.{right_apart, to_right}
 use Rattle.winding.proofs.Members.{in-either, in-filter, in-left, in-passes, in-right, into-filter, pairs-filter, pairs-weaker, total-same}
-use Rattle.winding.proofs.OddSides.{not-not}
 use Rattle.winding.proofs.Ranks.{First, first_exists}
-use Rattle.winding.proofs.Sums.{total}
 
 beyond-spans : (p : Vector) (e f : Edge) → is_right_above p e f ≡ true → is_in_span p f ≡ true
 beyond-spans p e f h = (and-out (is_in_span p f) (right_of p e f) h).0
@@ -48,10 +47,6 @@ bit-both false false h k = refl
 bit-both true false h k = absurd (cc (h refl))
 bit-both false true h k = absurd (cc (k refl))
 
-and-join : (x y : Bool) → x ≡ true → y ≡ true → (x && y) ≡ true
-and-join true y h k = k
-and-join false y h k = absurd (cc h)
-
 not-inject : (a b : Bool) → not a ≡ not b → a ≡ b
 not-inject a b h = sym (not-not a) ∙ ap not h ∙ not-not b
 
@@ -62,22 +57,9 @@ same_beside p e t es re rt pl even ce ct se b h =
     let st = beyond-spans p e t b in
     let x = beside p e es re pl even ce se in let y = beside p t es rt pl even ct st in
     let w = total-same (to_right p t) (to_right p e) es (λ f i. bit-both (is_right_above p t f) (is_right_above p e f)
-    (λ k. and-join (is_in_span p f) (right_of p e f) (beyond-spans p t f k) (right_chain p e t f se st (beyond-spans p t f k) (beyond-right p e t b) (beyond-right p t f k)))
-    (λ k. and-join (is_in_span p f) (right_of p t f) (beyond-spans p e f k) (h f i k))) in
+    (λ k. and-in (is_in_span p f) (right_of p e f) (beyond-spans p t f k) (right_chain p e t f se st (beyond-spans p t f k) (beyond-right p e t b) (beyond-right p t f k)))
+    (λ k. and-in (is_in_span p f) (right_of p t f) (beyond-spans p e f k) (h f i k))) in
     not-inject (covers_edge es t) (covers_edge es e) (sym y ∙ ap is_even w ∙ x)
-
--- ---- where a list has odd parity, an edge of it is right of e
-some-step : {X : Type 0} (q : X → Bool) (x : X) (xs : List X) → (b : Bool) → q x ≡ b → (b ≡ false → (y : X) × In y xs × (q y ≡ true)) → (y : X) × In y (x ∷ xs) × (q y ≡ true)
-some-step q x xs true h k = (x, inl refl, h)
-some-step q x xs false h k = let r = k refl in (r.0, inr r.1, r.2)
-
-rest-odd : (b : Bool) (n : ℕ) → b ≡ false → is_even (bit b + n) ≡ false → is_even n ≡ false
-rest-odd true n h k = absurd (cc h)
-rest-odd false n h k = sym (ap is_even (let e : 0 + n ≡ n = omega arith in e)) ∙ k
-
-pub some_odd : {X : Type 0} (q : X → Bool) (xs : List X) → is_even (total (λ x. bit (q x)) xs) ≡ false → (y : X) × In y xs × (q y ≡ true)
-some_odd q [] h = absurd (cc h)
-some_odd q (x ∷ xs) h = some-step q x xs (q x) refl (λ e. some_odd q xs (rest-odd (q x) (total (λ x. bit (q x)) xs) e h))
 
 pub some_beyond : (p : Vector) (e : Edge) (es : List Edge) → IsRising e → IsConflictFree es → IsEvenAtPoints es → IsClearOfAll e es → is_in_span p e ≡ true → covers_edge es e ≡ true → (f : Edge) × In f es × (is_right_above p e f ≡ true)
 some_beyond p e es re pl even c s h = some_odd (is_right_above p e) es (beside p e es re pl even c s ∙ ap not h)

@@ -17,16 +17,17 @@ use Rattle.winding.specs.Ring.{IsAnchor}
 use Rattle.nesting.proofs.CoveredEdges.{IsClearOfAll}
 use Rattle.nesting.proofs.Nearest.{beyond-order, bit-both, same_beside, some_beyond, through}
 use Rattle.nesting.proofs.TwoLists.{clear-list, clear-turned, differ-lists, first-right, not_both_in}
+use Rattle.plane.proofs.Bools.{and-out, not-not, not-true-out, or-right}
 use Rattle.plane.proofs.Conflicts.{clear_back}
-use Rattle.plane.proofs.Edges.{and-out, same_edge-refl, same_edge-true}
+use Rattle.plane.proofs.Edges.{same_edge-refl, same_edge-true}
 use Rattle.plane.proofs.Heights.{right_of}
 use Rattle.winding.proofs.Anchors.{anchor_runs}
 use Rattle.winding.proofs.ConflictFree.{rising_in}
 use Rattle.winding.proofs.Members.{all-in, in-all, in-either, in-left, in-passes, in-right, into-filter, pairs-across, pairs-left, pairs-right, total-same}
-use Rattle.winding.proofs.OddSides.{not-not, runs_from, same-parity}
+use Rattle.winding.proofs.OddSides.{runs_from, same-parity}
 use Rattle.winding.proofs.OppositeEnds.{beyond, crossings-away}
 use Rattle.winding.proofs.Ranks.{First, even-is, even-next, first_exists, halves, odd-is}
-use Rattle.winding.proofs.Sums.{total, total-+, total-++, total-is}
+use Rattle.winding.proofs.Sums.{none-sum, total, total-+, total-++, total-is}
 
 pub plain-left : (xs ys : List Edge) → IsConflictFree (xs ++ ys) → IsConflictFree xs
 plain-left xs ys p = record { rising = all-in IsRising xs (λ t i. rising_in (xs ++ ys) t p (in-left xs ys t i)); clear = pairs-left IsClearOf xs ys p.clear }
@@ -51,14 +52,10 @@ clear_or_same (k ∷ ks) g h p (inl e) (inr j) = inl (λ s t a b. pairs-across I
 clear_or_same (k ∷ ks) g h p (inr i) (inl f) = inl (λ s t a b. clear_back t s (pairs-across IsClearOf k (edges_of ks) t s p.clear (subst (λ l. In t l) f b) (in-flat ks g s i a)))
 clear_or_same (k ∷ ks) g h p (inr i) (inr j) = clear_or_same ks g h (plain-right k (edges_of ks) p) i j
 
-or-second : (b c : Bool) → c ≡ true → (b || c) ≡ true
-or-second true c h = refl
-or-second false c h = h
-
 pub has-in : (g : List Edge) (s : Edge) → In s g → has_edge g s ≡ true
 has-in [] s i = absurd i
 has-in (x ∷ xs) s (inl e) = ap (λ b. b || has_edge xs s) (ap (λ w. same_edge x w) e ∙ same_edge-refl x)
-has-in (x ∷ xs) s (inr i) = or-second (same_edge x s) (has_edge xs s) (has-in xs s i)
+has-in (x ∷ xs) s (inr i) = or-right (same_edge x s) (has_edge xs s) (has-in xs s i)
 
 in-has-by : (x s : Edge) (xs : List Edge) (b : Bool) → same_edge x s ≡ b → (b || has_edge xs s) ≡ true → (has_edge xs s ≡ true → In s xs) → In s (x ∷ xs)
 in-has-by x s xs true h k r = inl (sym (same_edge-true x s h))
@@ -86,11 +83,6 @@ has-not-by g h t p c j true e = let i = in-has g t e in absurd (differ-lists t t
 
 pub has_same : (gs : List (List Edge)) (g h : List Edge) (s t : Edge) → IsConflictFree (edges_of gs) → In g gs → In h gs → In s h → In t h → has_edge g s ≡ false → has_edge g t ≡ false
 has_same gs g h s t p i j k l n = has-not-by g h t (plain-part gs g p i) (clear_rings gs g h s p i j k n) l (has_edge g t) refl
-
--- ---- how many rings have an edge
-none-sum : {X : Type 0} (xs : List X) → total (λ x. 0) xs ≡ 0
-none-sum [] = refl
-none-sum (x ∷ xs) = let a = none-sum xs in omega arith
 
 none-rings : (gs : List (List Edge)) → total (λ g. 0) gs ≡ 0
 none-rings gs = none-sum gs
@@ -155,10 +147,6 @@ cond-out false f xs = none-sum xs
 
 pub depth-total : (gs : List (List Edge)) (s : Edge) → depth gs s ≡ total (λ g. bit (encloses g s)) gs
 depth-total gs s = sym (total-is (λ g. bit (encloses g s)) gs)
-
-not-true-out : (b : Bool) → not b ≡ true → b ≡ false
-not-true-out true h = absurd (cc h)
-not-true-out false h = refl
 
 pub and-make : (x y : Bool) → x ≡ false → y ≡ true → (not x && y) ≡ true
 and-make false y h k = k

@@ -8,7 +8,7 @@ use Rattle.nesting.specs.Nesting.{TellsOuter, edges_of}
 use Rattle.nesting.specs.Polygon.{ArePolygons, IsPolygon, Polygon, polygon_edges}
 use Rattle.nesting.specs.RingList.{IsRingList, scaled_rings}
 use Rattle.plane.specs.Bit.{bit}
-use Rattle.plane.specs.Edge.{Edge, ends_at, other_end, reversed, segment_of}
+use Rattle.plane.specs.Edge.{Edge, ends_at, other_end, segment_of}
 use Rattle.plane.specs.Order.{order}
 use Rattle.plane.specs.RayCrossing.{IsOffEdge}
 use Rattle.plane.specs.Scale.{scaled_edge, scaled_point}
@@ -39,7 +39,7 @@ use Rattle.winding.proofs.Anchors.{ring_by_anchor}
 use Rattle.winding.proofs.Members.{all-in, in-all, in-map, in-map-out, total-same}
 use Rattle.winding.proofs.OddSides.{spokes-is}
 use Rattle.winding.proofs.RingCounts.{raised-crossings}
-use Rattle.winding.proofs.ScaledLists.{map-map, map-same, others-scaled, plain_scaled, rational_count}
+use Rattle.winding.proofs.ScaledLists.{direct-by, map-map, map-same, others-scaled, plain_scaled, rational_count}
 use Rattle.winding.proofs.SidedLists.{sided-even, sided_direct}
 use Rattle.winding.proofs.Sums.{same-total, total, total-is, total-map}
 
@@ -71,14 +71,8 @@ module _ (k : ℤ) (hk : sign k ≡ Plus) where
     once = pairs-map (scaled_edge k) (λ (e f : Edge). same_point e.from f.from ≡ false) (λ (e f : Edge). same_point e.from f.from ≡ false) r (λ e f h. point-scaled k hk e.from f.from ∙ h) g.once;
   }
 
-  segment-by : (b c : Bool) (s : Edge) → b ≡ c → cond b (scaled_edge k s) (reversed (scaled_edge k s)) ≡ scaled_edge k (cond c s (reversed s))
-  segment-by true true s h = refl
-  segment-by false false s h = refl
-  segment-by true false s h = absurd (cc h)
-  segment-by false true s h = absurd (cc h)
-
   segment-scaled : (e : Edge) → segment_of (scaled_edge k e) ≡ scaled_edge k (segment_of e)
-  segment-scaled e = segment-by (is_plus (order (scaled_point k e.from) (scaled_point k e.to))) (is_plus (order e.from e.to)) e (ap is_plus (order-scaled k hk e.from e.to))
+  segment-scaled e = direct-by k hk (is_plus (order (scaled_point k e.from) (scaled_point k e.to))) (is_plus (order e.from e.to)) e (ap is_plus (order-scaled k hk e.from e.to))
 
   pub segments-scaled : (es : List Edge) → segments_of (scaled_edges k es) ≡ scaled_edges k (segments_of es)
   segments-scaled es = map-map segment_of (scaled_edge k) es ∙ map-same (λ e. segment_of (scaled_edge k e)) (λ e. scaled_edge k (segment_of e)) es segment-scaled ∙ sym (map-map (scaled_edge k) segment_of es)

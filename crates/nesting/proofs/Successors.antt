@@ -1,5 +1,5 @@
 -- Successors in a sided list.
-use Rattle.std.proofs.Common.{Bool, List, [], ap, arith, cond, eqb, eqb-true, false, not, refl, subst, sym, true, ℕ, ◌&&◌, ◌||◌, ◌∙◌, ◌∷◌, ◌≡◌}
+use Rattle.std.proofs.Common.{Bool, List, ap, arith, cond, eqb, eqb-true, false, not, refl, subst, sym, true, ℕ, ◌&&◌, ◌||◌, ◌∙◌, ◌≡◌}
 use Rattle.nesting.specs.Cover.{covers_edge}
 use Rattle.nesting.specs.Walk.{IsNextClockwise, IsSuccessor}
 use Rattle.plane.specs.Conflict.{IsClearOf}
@@ -17,23 +17,19 @@ use Rattle.winding.specs.Parity.{is_even}
 use Rattle.winding.specs.Ring.{segments_of}
 use Rattle.winding.specs.Sided.{IsSided}
 use Rattle.nesting.proofs.CoveredEdges.{or-swap, raise-ends-by, same_in}
+use Rattle.plane.proofs.Bools.{not-not, not-true-out}
 use Rattle.plane.proofs.Edges.{ends_at-to, same_edge-refl, same_edge-true}
 use Rattle.plane.proofs.Points.{same_point-refl, same_point-true}
 use Rattle.plane.proofs.Products.{cross-neg, cross-self, frame-dot-agree}
 use Rattle.plane.proofs.Signs.{agree, all, all-out, all2-out, all4-out, imp, imp-out, times}
 use Rattle.winding.proofs.Balance.{bit-back, leaves, no-loop, out_count, way, way-direction, ways_apart}
-use Rattle.winding.proofs.ConflictFree.{clear_pair, not-false-out, off_away, rising_in, split_off}
+use Rattle.winding.proofs.ConflictFree.{clear_pair, off_away, rising_in, split_off}
 use Rattle.winding.proofs.Members.{all-in, in-filter, in-map, in-map-out, in-passes, total-same}
-use Rattle.winding.proofs.OddSides.{differ-parity, not-not, spokes-is}
+use Rattle.winding.proofs.OddSides.{differ-parity, spokes-is}
 use Rattle.winding.proofs.Ranks.{odds}
 use Rattle.winding.proofs.RoundNode.{parity_round_node}
 use Rattle.winding.proofs.SidedLists.{sided-even, sided_direct}
-use Rattle.winding.proofs.Sums.{total}
-
--- ---- sectors
-pub none-total : {X : Type 0} (xs : List X) → total (λ x. 0) xs ≡ 0
-none-total [] = refl
-none-total (x ∷ xs) = let a = none-total xs in omega arith
+use Rattle.winding.proofs.Sums.{none-sum}
 
 abbrev pub is_some : Sign → Sign → Bool
 is_some x y = agree (times x x) (times y y) Plus
@@ -177,7 +173,7 @@ module _ (es : List Edge) (sd : IsSided es) where
     F-other : (t : Edge) → In t (others (segment_of e) (segments_of es)) → F t ≡ 0
     F-other t j =
         let r = in-map-out segment_of es t (in-filter (λ (t : Edge). not (same_edge (segment_of e) t)) (segments_of es) t j) in
-        let d = not-false-out (same_edge (segment_of e) t) (in-passes (λ (t : Edge). not (same_edge (segment_of e) t)) (segments_of es) t j) in
+        let d = not-true-out (same_edge (segment_of e) t) (in-passes (λ (t : Edge). not (same_edge (segment_of e) t)) (segments_of es) t j) in
         let x = unraised e r.0 (subst (λ w. same_edge (segment_of e) w ≡ false) r.2 d) (same_edge e r.0) refl in
         subst (λ w. F w ≡ 0) (sym r.2) (F-other-by r.0 r.1 x (same_edge f r.0) refl)
 
@@ -186,7 +182,7 @@ module _ (es : List Edge) (sd : IsSided es) where
     one_between =
         let a = spokes-is wf we v (segments_of es) in let b = split_off F (segment_of e) (segments_of es) sd.plain (in-map segment_of es e i) in
         let c : F (segment_of e) ≡ 1 = ap (λ b. cond b (in_sector wf we we) 0) (raise-ends v e h) ∙ sector-own wf we f-way e-way in
-        let d = total-same F (λ t. 0) (others (segment_of e) (segments_of es)) F-other in let z = none-total (others (segment_of e) (segments_of es)) in omega arith
+        let d = total-same F (λ t. 0) (others (segment_of e) (segments_of es)) F-other in let z = none-sum (others (segment_of e) (segments_of es)) in omega arith
 
     -- round a point edges enter and leave by turns
     pub by_turns : same_point v f.from ≡ not (same_point v e.from)
@@ -202,7 +198,7 @@ module _ (es : List Edge) (sd : IsSided es) where
         let zero = λ (t : Edge) (j : In t (segments_of rs)). (
         let r = in-map-out segment_of rs t j in
         subst (λ w. F w ≡ 0) (sym r.2) (F-none r.0 (sub r.0 r.1) (not-member e r.0 rs ne r.1 (same_edge e r.0) refl) (not-member f r.0 rs nf r.1 (same_edge f r.0) refl))) in
-        let a = spokes-is wf we v (segments_of rs) in let d = total-same F (λ t. 0) (segments_of rs) zero in let z = none-total (segments_of rs) in
+        let a = spokes-is wf we v (segments_of rs) in let d = total-same F (λ t. 0) (segments_of rs) zero in let z = none-sum (segments_of rs) in
         let clear = λ (s : Edge) (is : In s es) (ns : In s rs → ⊥). all-in (IsClearOf (segment_of s)) (segments_of rs) (λ t j.
         let r = in-map-out segment_of rs t j in subst (IsClearOf (segment_of s)) (sym r.2) (clear-two s r.0 is (sub r.0 r.1) (not-member s r.0 rs ns r.1 (same_edge s r.0) refl))) in
         sym (same_in v (segment_of f) (segment_of e) (segments_of rs) (rise f n.member) (rise e i) pl even (clear f n.member nf) (clear e i ne) (raise-ends v f n.meets) (raise-ends v e h) (omega arith))

@@ -15,19 +15,17 @@ use Rattle.winding.specs.Ring.{segments_of}
 use Rattle.winding.specs.Sided.{IsSided}
 use Rattle.nesting.proofs.Parts.{differ, sided-once}
 use Rattle.nesting.proofs.Successors.{clear-two, is_some, none-between, raise-back, raise-ends, rise, sector-either, sector-own, some-signs, sym-differs, unraised, up-even, way-raise}
-use Rattle.plane.proofs.Edges.{and-out, ends_at-to, same_edge-refl, same_edge-true}
-use Rattle.plane.proofs.Identities.{same}
-use Rattle.plane.proofs.Products.{cross-neg, dot2, frame-agree, frame-dot-agree, lift2, plucker-agree, plucker-dot-agree}
+use Rattle.plane.proofs.Bools.{and-out, not-true-out}
+use Rattle.plane.proofs.Edges.{ends_at-to, same_edge-refl, same_edge-true}
+use Rattle.plane.proofs.Products.{cross-neg, frame-agree, frame-dot-agree, plucker-agree, plucker-dot-agree}
 use Rattle.plane.proofs.Signs.{agree, all, all-out, all2, all2-out, all4, all4-out, imp, imp-out, same_bool-true, times, times-back, times-plus}
 use Rattle.winding.proofs.Anchors.{some_odd}
 use Rattle.winding.proofs.Balance.{chain_signs, crossed, degree-even, either_2, either_computes, length-total, way, way-direction, ways_apart}
-use Rattle.winding.proofs.ConflictFree.{not-false-out, split_off}
+use Rattle.winding.proofs.ConflictFree.{split_off}
 use Rattle.winding.proofs.Members.{in-filter, in-map, in-map-out, in-passes, into-filter, pairs-filter, pairs-weaker, total-filter}
 use Rattle.winding.proofs.Ranks.{first_exists, odd-is}
+use Rattle.winding.proofs.SidedLists.{dot-swap}
 use Rattle.winding.proofs.Sums.{total}
-
-dot-back : (a b : Vector) → dot b a ≡ dot a b
-dot-back a b = let e = lift2 a in let f = lift2 b in same (dot2 f e) (dot2 e f) (omega arith)
 
 -- a and b do not point the same way
 abbrev pub apart : Vector → Vector → Bool
@@ -77,7 +75,7 @@ sector-rest d m y pd pm py n =
     let x1 = sign (dot d y) in let y1 = sign (cross d y) in let t = sign (dot d m) in let q = sign (cross d m) in let e = sign (cross m y) in let g = sign (dot m y) in
     let c = all2-out (rest_2 x1 y1 t q) (all4-out (λ x y t q. all2 (rest_2 x y t q)) rest_computes x1 y1 t q) e g in
     let r = eqb-true _ _ (imp-out _ _ (imp-out _ _ (imp-out _ _ (imp-out _ _ (imp-out _ _ c (some-signs d y pd py)) (some-signs d m pd pm)) (crossed-at d m y pd)) (dot-at d m y pd)) n) in
-    ap (λ s. in_sector d m y + sector_by g e s (sign (cross m d)) y1) (ap sign (dot-back d m)) ∙ ap (λ s. in_sector d m y + sector_by g e t s y1) (cross-neg d m) ∙ r
+    ap (λ s. in_sector d m y + sector_by g e s (sign (cross m d)) y1) (ap sign (dot-swap d m)) ∙ ap (λ s. in_sector d m y + sector_by g e t s y1) (cross-neg d m) ∙ r
 
 abbrev zero_one : Sign → Sign → Sign → Sign → Bool
 zero_one s b t c = all λ e. eqb (bit (eqb (sector_by s b t c e) 1)) (sector_by s b t c e)
@@ -140,13 +138,13 @@ module _ (es : List Edge) (sd : IsSided es) (v : Vector) where
 
     behind : (x y : Edge) → In x rest → In y rest → ahead_of x y ≡ true → in_sector (w e) (w x) (w y) ≡ 1
     behind x y j k o =
-        sector-either (w e) (w y) (w x) (w-way e i h) (rest-way y k) (rest-way x j) (zero-of (w e) (w y) (w x) (not-false-out (eqb (in_sector (w e) (w y) (w x)) 1) o))
+        sector-either (w e) (w y) (w x) (w-way e i h) (rest-way y k) (rest-way x j) (zero-of (w e) (w y) (w x) (not-true-out (eqb (in_sector (w e) (w y) (w x)) 1) o))
 
     chain-by : (x y z : Edge) → In x rest → In y rest → In z rest → ahead_of x y ≡ true → ahead_of y z ≡ true → (b : Bool) → eqb (in_sector (w e) (w z) (w x)) 1 ≡ b → not b ≡ true
     chain-by x y z jx jy jz p q false o = refl
     chain-by x y z jx jy jz p q true o =
         let c = sector-chain (w e) (w y) (w z) (w x) (w-way e i h) (rest-way z jz) (behind y z jy jz q) (eqb-true _ _ o) in
-        absurd (cc (sym (one-eqb _ c) ∙ not-false-out (eqb (in_sector (w e) (w y) (w x)) 1) p))
+        absurd (cc (sym (one-eqb _ c) ∙ not-true-out (eqb (in_sector (w e) (w y) (w x)) 1) p))
 
     rest-order : IsOrder false ahead_of rest
     rest-order = record {
@@ -167,7 +165,7 @@ module _ (es : List Edge) (sd : IsSided es) (v : Vector) where
         let o : bit (ends_at v s) ≡ 1 = ap bit (raise-ends v e h) in
         let t = some_odd (ends_at v) (others s up) (odd-is (total (λ t. bit (ends_at v t)) (others s up)) (omega arith)) in
         let r = in-map-out segment_of es t.0 (in-filter (λ (t : Edge). not (same_edge s t)) up t.0 t.1) in
-        let n = not-false-out (same_edge s t.0) (in-passes (λ (t : Edge). not (same_edge s t)) up t.0 t.1) in
+        let n = not-true-out (same_edge s t.0) (in-passes (λ (t : Edge). not (same_edge s t)) up t.0 t.1) in
         let m = unraised e r.0 (subst (λ w. same_edge s w ≡ false) r.2 n) (same_edge e r.0) refl in
         let k = raise-back v r.0 (subst (λ w. ends_at v w ≡ true) r.2 t.2) in
         (r.0, into-filter is_other es r.0 r.1 (let x = k in let y = m in both-so (ends_at v r.0) (same_edge e r.0) x y))
@@ -176,7 +174,7 @@ module _ (es : List Edge) (sd : IsSided es) (v : Vector) where
     before-by m g jm jg n (inl q) = absurd (cc (sym (same_edge-refl g) ∙ ap (λ u. same_edge u g) q ∙ n))
     before-by m g jm jg n (inr o) =
         let a = behind m g jm jg o in
-        let b = sector-rest (w e) (w m) (w g) (w-way e i h) (rest-way m jm) (rest-way g jg) (w-apart e m i (rest-in m jm) h (rest-is m jm).0 (not-false-out (same_edge e m) (rest-is m jm).1)) in
+        let b = sector-rest (w e) (w m) (w g) (w-way e i h) (rest-way m jm) (rest-way g jg) (w-apart e m i (rest-in m jm) h (rest-is m jm).0 (not-true-out (same_edge e m) (rest-is m jm).1)) in
         omega arith
 
     pub first_there : (f : Edge) × IsNextClockwise v e f es
@@ -187,7 +185,7 @@ module _ (es : List Edge) (sd : IsSided es) (v : Vector) where
           record {
             member = rest-in f j;
             meets = hf;
-            other = not-false-out (same_edge e f) (rest-is f j).1;
+            other = not-true-out (same_edge e f) (rest-is f j).1;
             first = λ g k hg n l.
                 let jg = into-filter is_other es g k (both-so (ends_at v g) (same_edge e g) hg n) in
                 ap (λ u. in_sector u (from_to v (other_end v e)) (from_to v (other_end v g))) (sym (way-raise v f hf (rise es sd f (rest-in f j))))

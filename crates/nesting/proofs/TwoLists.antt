@@ -13,6 +13,7 @@ use Rattle.winding.specs.Node.{away}
 use Rattle.winding.specs.Parity.{is_even}
 use Rattle.winding.specs.Ring.{IsAnchor}
 use Rattle.nesting.proofs.CoveredEdges.{IsClearOfAll, beside, off-list}
+use Rattle.plane.proofs.Bools.{not-not}
 use Rattle.plane.proofs.Conflicts.{clear_back, clear_differs}
 use Rattle.plane.proofs.Edges.{ends_at-from, same_edge-refl}
 use Rattle.plane.proofs.Heights.{right_of}
@@ -22,7 +23,7 @@ use Rattle.winding.proofs.Balance.{degree-even, length-total}
 use Rattle.winding.proofs.ConflictFree.{rising_in}
 use Rattle.winding.proofs.Levels.{hit-order, hit_by, kept-by, left-spans, right_left, to_right}
 use Rattle.winding.proofs.Members.{all-either, all-in, in-either, in-filter, in-left, in-passes, in-right, into-filter, pairs-append, total-filter, total-same}
-use Rattle.winding.proofs.OddSides.{around-hits, not-not}
+use Rattle.winding.proofs.OddSides.{around-hits}
 use Rattle.winding.proofs.Ranks.{First, even-is, first_exists}
 use Rattle.winding.proofs.RoundNode.{parity_round_node}
 use Rattle.winding.proofs.Sums.{total}

@@ -11,7 +11,7 @@ use Rattle.plane.proofs.Edges.{same_edge-true}
 use Rattle.plane.proofs.PointOrder.{line-order, line-order-up, order-self, order-sum, order-turned, rising-direction}
 use Rattle.plane.proofs.Points.{same_point-true}
 use Rattle.plane.proofs.Products.{cross-here, cross-self, dot-chain, frame-agree, orient-round, side-there}
-use Rattle.plane.proofs.Signs.{agree, agree-plus-first, all4, all4-out, both, imp, imp-out, left-out, right-out, same_bool, same_bool-true, same_sign, same_sign-refl, times}
+use Rattle.plane.proofs.Signs.{agree, all4, all4-out, both, imp, imp-out, left-out, right-out, same_bool, same_bool-true, same_sign, same_sign-refl, sum-with-plus, times}
 
 -- ---- a conflict, by signs: the sides of t's ends (a, b) and of s's ends (c, d); then where t's two ends are in the order, seen from s's lower end (h, k) and from its upper end (m, n)
 abbrev touch_by : Sign → Sign → Sign → Bool
@@ -98,8 +98,8 @@ clear_misses s t hs ht h =
     (sign (dot st (from_to p u))) (sign (dot st (from_to p v))) (sign (dot st (from_to q u))) (sign (dot st (from_to q v)))
     (order p u) (order p v) (order q u) (order q v)
     f1 f2
-    (agree-plus-first (dot st st) (dot st (from_to q u)) (dot st (from_to p u)) dir (dot-chain st p q u))
-    (agree-plus-first (dot st st) (dot st (from_to q v)) (dot st (from_to p v)) dir (dot-chain st p q v))
+    (sum-with-plus (dot st st) (dot st (from_to q u)) (dot st (from_to p u)) dir (dot-chain st p q u))
+    (sum-with-plus (dot st st) (dot st (from_to q v)) (dot st (from_to p v)) dir (dot-chain st p q v))
     (match-by _ _ _ (λ z. line-order-up p q p u hs z))
     (match-by _ _ _ (λ z. line-order-up p q p v hs z))
     (match-by _ _ _ (λ z. line-order-up p q q u hs (ap sign eu ∙ z)))

@@ -8,11 +8,12 @@ use Rattle.plane.specs.Height.{distance_right, is_in_span, is_right_above, order
 use Rattle.plane.specs.Order.{order}
 use Rattle.plane.specs.Sign.{Minus, Null, Plus, Sign, is_null, is_plus, negated, sign, then_sign}
 use Rattle.plane.specs.Vector.{Vector, cross, east, from_to, orient}
+use Rattle.plane.proofs.Bools.{and-in, and-left, and-no, and-right, false-if-never}
 use Rattle.plane.proofs.Conflicts.{conflict_by, conflicts-by}
 use Rattle.plane.proofs.Identities.{apart, lift, same, ◌⊞◌, ◌⊟◌, ◌⊠◌}
 use Rattle.plane.proofs.Products.{cross-from-here, cross-here, cross-neg, cross-self, dot-east, orient-round, plucker-agree, plucker-dot-agree, side-moves}
 use Rattle.plane.proofs.RayCrossings.{cross-east, rise-y}
-use Rattle.plane.proofs.Signs.{agree, agree-sum, all, all-out, all2, all2-out, all4-out, imp, imp-out, plus-times, same_bool, same_bool-true, same_sign, same_sign-true, sign-*, sign-turned, times, times-plus}
+use Rattle.plane.proofs.Signs.{agree, agree-sum, all, all-out, all2, all2-out, all4-out, imp, imp-out, is_plus-true, plus-times, same_bool, same_bool-true, same_sign, same_sign-true, sign-*, sign-turned, times, times-plus}
 
 abbrev pub step_of : Edge → Vector
 step_of t = from_to t.from t.to
@@ -108,31 +109,6 @@ crossed-by Plus c h k m n = refl
 crossed-by Minus c h k m n = refl
 crossed-by Null c h k m n = absurd (cc c)
 
-and-left : (x y : Bool) → (x && y) ≡ true → x ≡ true
-and-left true y h = refl
-and-left false y h = absurd (cc h)
-
-and-right : (x y : Bool) → (x && y) ≡ true → y ≡ true
-and-right true y h = h
-and-right false y h = absurd (cc h)
-
-and-no : (x y : Bool) → y ≡ false → (x && y) ≡ false
-and-no true y h = h
-and-no false y h = refl
-
-and-yes : (x y : Bool) → x ≡ true → y ≡ true → (x && y) ≡ true
-and-yes true y h k = k
-and-yes false y h k = absurd (cc h)
-
-never-true : (b : Bool) → (b ≡ true → ⊥) → not b ≡ true
-never-true true h = absurd (h refl)
-never-true false h = refl
-
-plus-is-plus : (s : Sign) → is_plus s ≡ true → s ≡ Plus
-plus-is-plus Plus h = refl
-plus-is-plus Null h = absurd (cc h)
-plus-is-plus Minus h = absurd (cc h)
-
 module _ (e f : Edge) (he : sign (e.to.y -ℤ e.from.y) ≡ Plus) (hf : sign (f.to.y -ℤ f.from.y) ≡ Plus) (clear : IsClearOf e f) where
   abbrev distance_at : Vector → Sign
   distance_at w = sign (cross (distance_right w e) (distance_right w f))
@@ -187,7 +163,7 @@ module _ (e f : Edge) (he : sign (e.to.y -ℤ e.from.y) ≡ Plus) (hf : sign (f.
     low-of t h = and-left (not (is_plus (sign (t.from.y -ℤ p.y)))) (is_plus (sign (t.to.y -ℤ p.y))) h
 
     high-of : (t : Edge) → is_in_span q t ≡ true → sign (t.to.y -ℤ q.y) ≡ Plus
-    high-of t h = plus-is-plus (sign (t.to.y -ℤ q.y)) (and-right (not (is_plus (sign (t.from.y -ℤ q.y)))) (is_plus (sign (t.to.y -ℤ q.y))) h)
+    high-of t h = is_plus-true (sign (t.to.y -ℤ q.y)) (and-right (not (is_plus (sign (t.from.y -ℤ q.y)))) (is_plus (sign (t.to.y -ℤ q.y))) h)
 
     swaps-never : swaps (distance_at p) slope (distance_at q) ≡ true → ⊥
     swaps-never h =
@@ -201,7 +177,7 @@ module _ (e f : Edge) (he : sign (e.to.y -ℤ e.from.y) ≡ Plus) (hf : sign (f.
     stays-above =
         let s = all-out (λ y. stays (distance_at p) slope y) (all2-out (λ x k. all (stays x k)) refl (distance_at p) slope) (distance_at q) in
         same_sign-true (order_above p e f) (order_above q e f)
-        (imp-out _ _ (imp-out _ _ s (subst (λ g. agree (distance_at p) (times g slope) (distance_at q) ≡ true) up (change-agrees p q))) (never-true (swaps (distance_at p) slope (distance_at q)) swaps-never))
+        (imp-out _ _ (imp-out _ _ s (subst (λ g. agree (distance_at p) (times g slope) (distance_at q) ≡ true) up (change-agrees p q))) (ap not (false-if-never (swaps (distance_at p) slope (distance_at q)) swaps-never)))
 
   same-height : (p q : Vector) → sign (q.y -ℤ p.y) ≡ Null → order_above p e f ≡ order_above q e f
   same-height p q h =
@@ -223,4 +199,4 @@ not-right-itself p e = and-no (is_in_span p e) (right_of p e e) (right_itself p 
 pub right-above-chain : (p : Vector) (e f g : Edge) → is_in_span p e ≡ true → is_right_above p e f ≡ true → is_right_above p f g ≡ true → is_right_above p e g ≡ true
 right-above-chain p e f g s h k =
     let sf = and-left (is_in_span p f) (right_of p e f) h in let sg = and-left (is_in_span p g) (right_of p f g) k in
-    and-yes (is_in_span p g) (right_of p e g) sg (right_chain p e f g s sf sg (and-right (is_in_span p f) (right_of p e f) h) (and-right (is_in_span p g) (right_of p f g) k))
+    and-in (is_in_span p g) (right_of p e g) sg (right_chain p e f g s sf sg (and-right (is_in_span p f) (right_of p e f) h) (and-right (is_in_span p g) (right_of p f g) k))

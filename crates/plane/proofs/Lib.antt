@@ -1,3 +1,4 @@
+pub mod Bools
 pub mod Conflicts
 pub mod Edges
 pub mod FreeSegments

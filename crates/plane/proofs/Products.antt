@@ -1,10 +1,10 @@
 -- Identities of cross and dot products, and the signs that they leave possible.
 use Rattle.std.proofs.Common.{Bool, ap, arith, false, refl, subst, true, ◌∙◌, ◌≡◌}
 use lib.IntN.{pos, ◌*ℤ◌, ◌+ℤ◌}
-use Rattle.plane.specs.Sign.{Minus, Null, Plus, Sign, is_plus, negated, sign}
+use Rattle.plane.specs.Sign.{Null, Plus, Sign, is_plus, negated, sign}
 use Rattle.plane.specs.Vector.{IsDirection, Vector, cross, dot, east, from_to}
 use Rattle.plane.proofs.Identities.{Split, lift, same, ◌⊞◌, ◌⊟◌, ◌⊠◌}
-use Rattle.plane.proofs.Signs.{agree, agree-products, agree-sum, all, all-out, all2-out, imp, imp-out, null-is, sign-*, sign-turned, times, times-plus}
+use Rattle.plane.proofs.Signs.{agree, agree-products, agree-sum, all, all-out, all2-out, imp, imp-out, is_plus-true, null-is, sign-*, sign-turned, times, times-plus}
 
 -- ---- the identities
 pub record Vec2 : Type 0 where
@@ -103,11 +103,6 @@ side-turned s t w = sign-turned (cross (from_to s t) (from_to s w)) (cross (from
 
 pub dot-turned : (s t p w : Vector) → sign (dot (from_to t s) (from_to p w)) ≡ negated (sign (dot (from_to s t) (from_to p w)))
 dot-turned s t p w = sign-turned (dot (from_to s t) (from_to p w)) (dot (from_to t s) (from_to p w)) (turned-dot s t p w)
-
-is_plus-true : (s : Sign) → is_plus s ≡ true → s ≡ Plus
-is_plus-true Plus h = refl
-is_plus-true Null h = absurd (cc h)
-is_plus-true Minus h = absurd (cc h)
 
 abbrev is_nonzero : Sign → Sign → Bool
 is_nonzero Null Null = false

@@ -3,7 +3,7 @@ use Rattle.std.proofs.Common.{Bool, ap, arith, false, not, refl, subst, suc, sym
 use borrow.Author.Differences.{down, ints, up}
 use lib.IntN.{neg_ℤ, negsuc, pos, ℤ, ◌*ℤ◌, ◌+ℤ◌, ◌-ℤ◌}
 use lib.Signed.{◌<ℤ◌}
-use Rattle.plane.specs.Sign.{Minus, Null, Plus, Sign, is_minus, is_null, negated, sign, then_sign}
+use Rattle.plane.specs.Sign.{Minus, Null, Plus, Sign, is_minus, is_null, is_plus, negated, sign, then_sign}
 
 abbrev pub times : Sign → Sign → Sign
 times Null b = Null
@@ -185,6 +185,11 @@ minus-is z = ((λ h. let k = says-at Minus z h in omega (arith, ints)), (λ h. s
 pub null-is : (z : ℤ) → (sign z ≡ Null) ↔ (z ≡ pos 0)
 null-is z = ((λ h. let k = says-at Null z h in omega (arith, ints)), (λ h. sign-from Null z (omega (arith, ints))))
 
+pub is_plus-true : (s : Sign) → is_plus s ≡ true → s ≡ Plus
+is_plus-true Plus h = refl
+is_plus-true Null h = absurd (cc h)
+is_plus-true Minus h = absurd (cc h)
+
 -- ---- signs that are the same
 abbrev pub same_sign : Sign → Sign → Bool
 same_sign Minus Minus = true
@@ -208,9 +213,6 @@ times-back s t = same_sign-true (times s t) (times t s) (all2-out (λ s t. same_
 
 pub not-null : (s : Sign) → s ≡ Plus → not (is_null s) ≡ true
 not-null s h = ap (λ t. not (is_null t)) h
-
-pub agree-plus-first : (x y z : ℤ) → sign x ≡ Plus → x +ℤ y ≡ z → agree Plus (sign y) (sign z) ≡ true
-agree-plus-first x y z h e = subst (λ s. agree s (sign y) (sign z) ≡ true) h (agree-sum x y z e)
 
 pub plus-times : (q x : ℤ) → sign q ≡ Plus → sign (q *ℤ x) ≡ sign x
 plus-times q x h = sign-* q x ∙ ap (λ s. times s (sign x)) h ∙ times-plus (sign x)

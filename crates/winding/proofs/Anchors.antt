@@ -1,5 +1,5 @@
 -- The leftmost edge at the least point.
-use Rattle.std.proofs.Common.{Bool, List, [], ap, arith, cond, eqb, eqb-true, false, inl, inr, length, map, not, refl, subst, sym, true, ℕ, ◌%◌, ◌+◌, ◌||◌, ◌∙◌, ◌∷◌, ◌≡◌}
+use Rattle.std.proofs.Common.{Bool, List, [], ap, arith, cond, eqb, eqb-true, false, inl, inr, length, not, refl, subst, sym, true, ℕ, ◌%◌, ◌+◌, ◌||◌, ◌∙◌, ◌∷◌, ◌≡◌}
 use borrow.Author.Differences.{ints}
 use lib.IntN.{negsuc, pos, ◌+ℤ◌, ◌-ℤ◌}
 use Rattle.plane.specs.Bit.{bit}
@@ -18,6 +18,7 @@ use Rattle.winding.specs.Node.{away, spokes, spokes_in}
 use Rattle.winding.specs.OddSide.{runs_up}
 use Rattle.winding.specs.Parity.{is_even}
 use Rattle.winding.specs.Ring.{IsAnchor, IsRing, segments_of}
+use Rattle.plane.proofs.Bools.{false-if-never}
 use Rattle.plane.proofs.Conflicts.{clear_misses}
 use Rattle.plane.proofs.Edges.{edge_of, ends_at-from, same_edge-refl, same_edge-true}
 use Rattle.plane.proofs.Identities.{lift, same, ◌⊞◌, ◌⊟◌, ◌⊠◌}
@@ -25,7 +26,7 @@ use Rattle.plane.proofs.PointOrder.{line-order-up, order-null, order-self-null, 
 use Rattle.plane.proofs.Points.{same_point-true}
 use Rattle.plane.proofs.Products.{cross-agree, cross-neg, cross-self, dot-east, plucker-agree, plucker-dot-agree}
 use Rattle.plane.proofs.RayCrossings.{cross-east, hits_at, level-side, rise-y}
-use Rattle.plane.proofs.Signs.{agree, all, all-out, all4, all4-out, imp, imp-out, same_bool, self-diff, sign-turned, times}
+use Rattle.plane.proofs.Signs.{agree, all, all-out, all4, all4-out, imp, imp-out, plus-plus, same_bool, self-diff, sign-turned, times}
 use Rattle.winding.proofs.Balance.{degree-even, length-total}
 use Rattle.winding.proofs.ConflictFree.{clear_of_others, off_away, rising_in, split_off}
 use Rattle.winding.proofs.Members.{in-filter, into-filter, total-filter, total-same}
@@ -34,7 +35,7 @@ use Rattle.winding.proofs.OppositeEnds.{beyond, crossings-away}
 use Rattle.winding.proofs.Ranks.{even-is, odd-is}
 use Rattle.winding.proofs.RingCounts.{keeps, ring-even, ring_count, ring_keeps}
 use Rattle.winding.proofs.RoundNode.{parity_round_node}
-use Rattle.winding.proofs.Sums.{total}
+use Rattle.winding.proofs.Sums.{none-sum, total}
 
 abbrev pub west : Vector
 west = record { x = negsuc 0; y = pos 0 }
@@ -79,10 +80,6 @@ west-misses a t r h =
 beyond-none-by : (n : ℕ) (b : Bool) → n ≡ 0 → cond (not b) n 0 ≡ 0
 beyond-none-by n true h = refl
 beyond-none-by n false h = h
-
-none-sum : {X : Type 0} (xs : List X) → total (λ x. 0) xs ≡ 0
-none-sum [] = refl
-none-sum (x ∷ xs) = let a = none-sum xs in omega arith
 
 pub west-none : (a : Vector) (es : List Edge) → ((t : Edge) → In t es → IsRising t) → ((t : Edge) → In t es → order a t.from ≡ Minus → ⊥) → crossing_count west a (away a es) ≡ 0
 west-none a es r h =
@@ -143,12 +140,6 @@ anchor_runs s es p even a =
     let m = all-right v d es rs (λ t i. rising_in es t p i) a.least (λ t i q. anchor_right s t es a i q) in
     let e = degree-even v es p even in
     runs_from s es p even a.member ∙ ap not (even-is (crossing_count d v (away v es)) (omega arith))
-
--- ---- a ring's signed count, told by its anchor
-in-map : {X Y : Type 0} (f : X → Y) (xs : List X) (x : X) → In x xs → In (f x) (map f xs)
-in-map f [] x i = i
-in-map f (y ∷ ys) x (inl e) = inl (ap f e)
-in-map f (y ∷ ys) x (inr i) = inr (in-map f ys x i)
 
 anchor-keeps : (e : Edge) (es : List Edge) → IsRing es → IsConflictFree (segments_of es) → IsAnchor (segment_of e) (segments_of es) → keeps es e ≡ not (is_plus (order e.from e.to))
 anchor-keeps e es r p a = ap (λ b. same_bool b (is_plus (order e.from e.to))) (anchor_runs (segment_of e) (segments_of es) p (ring-even es r) a)
@@ -221,11 +212,6 @@ ok-of-plus o k h = ap (λ o. ok_by o k) h
 ok-of-null : (o k : Sign) → o ≡ Null → not (is_plus k) ≡ true → ok_by o k ≡ true
 ok-of-null o k h g = ap (λ o. ok_by o k) h ∙ g
 
-sum-plus-plus : (s : Sign) → agree Plus Plus s ≡ true → s ≡ Plus
-sum-plus-plus Plus h = refl
-sum-plus-plus Null h = absurd (cc h)
-sum-plus-plus Minus h = absurd (cc h)
-
 sum-plus-null : (s : Sign) → agree Plus Null s ≡ true → s ≡ Plus
 sum-plus-null Plus h = refl
 sum-plus-null Null h = absurd (cc h)
@@ -237,7 +223,7 @@ sum-null-plus Null h = absurd (cc h)
 sum-null-plus Minus h = absurd (cc h)
 
 ok-chain-by : (s t u : Edge) → IsRising s → IsRising t → IsRising u → (o o' : Sign) → order s.from t.from ≡ o → order t.from u.from ≡ o' → ok_by o (orient s.from s.to t.to) ≡ true → ok_by o' (orient t.from t.to u.to) ≡ true → ok s u ≡ true
-ok-chain-by s t u rs rt ru Plus Plus h g a b = ok-of-plus (order s.from u.from) (orient s.from s.to u.to) (sum-plus-plus (order s.from u.from) (let k = order-sum s.from t.from u.from in rw (h, g) at k))
+ok-chain-by s t u rs rt ru Plus Plus h g a b = ok-of-plus (order s.from u.from) (orient s.from s.to u.to) (plus-plus (order s.from u.from) (let k = order-sum s.from t.from u.from in rw (h, g) at k))
 ok-chain-by s t u rs rt ru Plus Null h g a b = ok-of-plus (order s.from u.from) (orient s.from s.to u.to) (sum-plus-null (order s.from u.from) (let k = order-sum s.from t.from u.from in rw (h, g) at k))
 ok-chain-by s t u rs rt ru Null Plus h g a b = ok-of-plus (order s.from u.from) (orient s.from s.to u.to) (sum-null-plus (order s.from u.from) (let k = order-sum s.from t.from u.from in rw (h, g) at k))
 ok-chain-by s t u rs rt ru Null Null h g a b =
@@ -387,10 +373,6 @@ neither-way : (s : Sign) → (s ≡ Minus → ⊥) → (negated s ≡ Minus → 
 neither-way Minus h k = absurd (h refl)
 neither-way Null h k = refl
 neither-way Plus h k = absurd (k refl)
-
-pub false-if-never : (b : Bool) → (b ≡ true → ⊥) → b ≡ false
-false-if-never true h = absurd (h refl)
-false-if-never false h = refl
 
 anchor-one-by : (a b : Edge) (es : List Edge) → IsConflictFree es → IsAnchor a es → IsAnchor b es → (x : Bool) → same_edge a b ≡ x → a ≡ b
 anchor-one-by a b es p h k true e = same_edge-true a b e

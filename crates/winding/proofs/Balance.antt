@@ -16,6 +16,7 @@ use Rattle.winding.specs.Node.{away, spokes, spokes_in}
 use Rattle.winding.specs.OddSide.{directed, directed_edge, runs_up}
 use Rattle.winding.specs.Parity.{is_even}
 use Rattle.winding.specs.Rank.{IsOrder}
+use Rattle.plane.proofs.Bools.{not-not}
 use Rattle.plane.proofs.Conflicts.{clear_misses}
 use Rattle.plane.proofs.Edges.{edge_of}
 use Rattle.plane.proofs.FreeSegments.{misses_turned}
@@ -27,7 +28,7 @@ use Rattle.plane.proofs.RayCrossings.{cross-east, east-direction, sector-east}
 use Rattle.plane.proofs.Signs.{agree, agree-products, all, all-out, all2, all2-out, all4, all4-out, imp, imp-out, same_bool, same_bool-true, sign-turned, times, times-plus}
 use Rattle.winding.proofs.ConflictFree.{off_away, rising_in, split_off}
 use Rattle.winding.proofs.Members.{in-filter, in-passes, pairs-filter, pairs-weaker, total-filter, total-same}
-use Rattle.winding.proofs.OddSides.{differ-parity, no_same_way_from, no_same_way_to, not-not, runs_from, runs_to, same-parity, spokes-is}
+use Rattle.winding.proofs.OddSides.{differ-parity, no_same_way_from, no_same_way_to, runs_from, runs_to, same-parity, spokes-is}
 use Rattle.winding.proofs.Ranks.{evens, halves, odds, rank', rank-parity-own}
 use Rattle.winding.proofs.RoundNode.{parity_round_node}
 use Rattle.winding.proofs.Sums.{total, total-is, total-map}

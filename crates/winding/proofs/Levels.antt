@@ -20,15 +20,16 @@ use Rattle.winding.specs.Node.{away}
 use Rattle.winding.specs.OddSide.{directed, directed_edge, runs_up}
 use Rattle.winding.specs.Parity.{is_even}
 use Rattle.winding.specs.Rank.{IsOrder}
+use Rattle.plane.proofs.Bools.{and-in, and-out}
 use Rattle.plane.proofs.Conflicts.{clear_differs, clear_misses}
-use Rattle.plane.proofs.Edges.{and-out, edge_of, ends_at-from}
+use Rattle.plane.proofs.Edges.{edge_of, ends_at-from}
 use Rattle.plane.proofs.Heights.{right_chain, right_either, right_itself, right_of, step_of, tall-by, zero-part}
 use Rattle.plane.proofs.Identities.{apart, lift, same, ◌⊞◌, ◌⊟◌, ◌⊠◌}
 use Rattle.plane.proofs.PointOrder.{line-order-up, rising-direction}
 use Rattle.plane.proofs.Points.{same_point-true}
 use Rattle.plane.proofs.Products.{cross-agree, cross-neg, cross-self, cross2, from_to2, lift2, orient-round, side-moves}
 use Rattle.plane.proofs.RayCrossings.{at-end-by, down_seen, east-direction, east-side, hits-left, hits_at, left-signs, rise-y, sector-east, up_seen}
-use Rattle.plane.proofs.Signs.{agree, agree-sum, all, all-out, all2, all2-out, all4-out, both, imp, imp-out, left-out, not-minus-by, not-null-by, null-zero, plus-times, right-out, same-out, self-diff, sign-turned, times}
+use Rattle.plane.proofs.Signs.{agree, agree-sum, all, all-out, all2, all2-out, all4-out, both, imp, imp-out, is_plus-true, left-out, not-minus-by, not-null-by, null-zero, plus-times, right-out, same-out, self-diff, sign-turned, times}
 use Rattle.plane.proofs.Views.{View, view_weighted, weigh}
 use Rattle.winding.proofs.AlongSegment.{along_from, off_all}
 use Rattle.winding.proofs.Balance.{agree-dot, length-total}
@@ -374,20 +375,11 @@ left-spans p t h = (and-out (is_in_span p t) (is_plus (orient t.from t.to p)) h)
 abbrev still_left : Sign → Sign → Bool
 still_left k l = all λ c. imp (agree k (times Plus Plus) (times Plus c)) λ _. imp (is_plus (then_sign k l)) λ _. is_plus c
 
-is-plus-out : (s : Sign) → is_plus s ≡ true → s ≡ Plus
-is-plus-out Plus h = refl
-is-plus-out Null h = absurd (cc h)
-is-plus-out Minus h = absurd (cc h)
-
-and-in : (x y : Bool) → x ≡ true → y ≡ true → (x && y) ≡ true
-and-in true y h k = k
-and-in false y h k = absurd (cc h)
-
 -- what is right of an edge that is right of p is right of p
 pub right_left : (p : Vector) (e f : Edge) → is_left_of p e ≡ true → is_in_span p f ≡ true → right_of p e f ≡ true → is_left_of p f ≡ true
 right_left p e f h s r =
     let k = sign (cross (distance_right p e) (distance_right p f)) in let l = sign (cross (step_of f) (step_of e)) in
-    let ce : sign (cross (from_to p e.from) (from_to p e.to)) ≡ Plus = ap sign (sym (orient-round p e.from e.to)) ∙ is-plus-out (orient e.from e.to p) (and-out (is_in_span p e) (is_plus (orient e.from e.to p)) h).1 in
+    let ce : sign (cross (from_to p e.from) (from_to p e.to)) ≡ Plus = ap sign (sym (orient-round p e.from e.to)) ∙ is_plus-true (orient e.from e.to p) (and-out (is_in_span p e) (is_plus (orient e.from e.to p)) h).1 in
     let a = rw (tall-by p e (left-spans p e h), tall-by p f s, ce) at (cross-agree (distance_right p e) (distance_right p f)) in
     let c = all-out (λ c. imp (agree k (times Plus Plus) (times Plus c)) λ _. imp (is_plus (then_sign k l)) λ _. is_plus c) (all2-out still_left refl k l) (sign (cross (from_to p f.from) (from_to p f.to))) in
     and-in (is_in_span p f) (is_plus (orient f.from f.to p)) s (ap (λ z. is_plus (sign z)) (orient-round p f.from f.to) ∙ imp-out _ _ (imp-out _ _ c a) r)

@@ -17,6 +17,7 @@ use Rattle.winding.specs.Member.{In}
 use Rattle.winding.specs.Node.{away, spokes, spokes_in}
 use Rattle.winding.specs.OddSide.{runs_up}
 use Rattle.winding.specs.Parity.{is_even}
+use Rattle.plane.proofs.Bools.{not-not}
 use Rattle.plane.proofs.Conflicts.{clear_misses}
 use Rattle.plane.proofs.Edges.{edge_of, ends_at-from}
 use Rattle.plane.proofs.PointOrder.{line-order-up, order-turned, rising-direction}
@@ -192,10 +193,6 @@ runs-by s es p even i Plus x hy hx r =
 pub runs_from : (s : Edge) (es : List Edge) → IsConflictFree es → IsEvenAtPoints es → In s es →
     runs_up es s ≡ not (is_even (crossing_count (from_to s.from s.to) s.from (away s.from es)))
 runs_from s es p even i = runs-by s es p even i (sign (s.to.y -ℤ s.from.y)) (sign (s.to.x -ℤ s.from.x)) refl refl (rising_in es s p i)
-
-pub not-not : (b : Bool) → not (not b) ≡ b
-not-not true = refl
-not-not false = refl
 
 -- and so it enters its upper end exactly where the ray back along it from there hits an even number
 pub runs_to : (s : Edge) (es : List Edge) → IsConflictFree es → IsEvenAtPoints es → In s es →

@@ -15,7 +15,7 @@ use Rattle.plane.proofs.Points.{same_point-true}
 use Rattle.plane.proofs.Products.{cross-neg}
 use Rattle.plane.proofs.RayCrossings.{down_seen, hits_at, up_seen}
 use Rattle.plane.proofs.Signs.{all4-out, both, left-out, right-out, same_bool}
-use Rattle.winding.proofs.Balance.{directed_balanced}
+use Rattle.winding.proofs.Balance.{bit-back, directed_balanced}
 use Rattle.winding.proofs.Levels.{signed_parity}
 use Rattle.winding.proofs.Members.{in-all, total-same}
 use Rattle.winding.proofs.Sums.{at-self, total, total-+, total-is, total-map}
@@ -89,12 +89,6 @@ one-by : (k : Bool) (n : ℕ) → n ≡ 1 → (cond k n 0 ≡ bit k) × (cond k 
 one-by true n h = (h, refl)
 one-by false n h = (refl, h)
 
-bit-same : (b c : Bool) → bit b ≡ bit c → b ≡ c
-bit-same true true h = refl
-bit-same false false h = refl
-bit-same true false h = absurd (omega arith)
-bit-same false true h = absurd (omega arith)
-
 pub bit-sum : (b : Bool) → bit b + bit (not b) ≡ 1
 bit-sum true = refl
 bit-sum false = refl
@@ -119,7 +113,7 @@ next-keeps es r p e f i j q =
     let o = one-by (k f) (one_at v f.from) here in let u = one-by (k e) (one_at v e.to) there in
     let o0 = o.0 in let o1 = o.1 in let u0 = u.0 in let u1 = u.1 in
     let w = bit-sum (k f) in let w' = bit-sum (k e) in
-    bit-same (k f) (k e) (omega arith)
+    bit-back (k f) (k e) (omega arith)
 
 along : (es : List Edge) → IsRing es → IsConflictFree (segments_of es) → (e : Edge) → In e es → (a b : Vector) (xs : List Edge) → IsPath a xs b → e.to ≡ a → ((x : Edge) → In x xs → In x es) →
     (x : Edge) → In x xs → keeps es x ≡ keeps es e

@@ -58,7 +58,7 @@ module _ (k : ℤ) (hk : sign k ≡ Plus) where
       ap (λ b. cond b (not (is_even (odd_side_count (scaled_edge k s) (scaled_edges k es)))) (is_even (odd_side_count (scaled_edge k s) (scaled_edges k es)))) (level-scaled k hk s)
       ∙ ap (λ n. cond (is_horizontal s) (not (is_even n)) (is_even n)) (odd-scaled s es)
 
-  direct-by : (b c : Bool) (s : Edge) → b ≡ c → cond b (scaled_edge k s) (reversed (scaled_edge k s)) ≡ scaled_edge k (cond c s (reversed s))
+  pub direct-by : (b c : Bool) (s : Edge) → b ≡ c → cond b (scaled_edge k s) (reversed (scaled_edge k s)) ≡ scaled_edge k (cond c s (reversed s))
   direct-by true true s h = refl
   direct-by false false s h = refl
   direct-by true false s h = absurd (cc h)

@@ -100,7 +100,7 @@ same-self : (b : Bool) → same_bool b b ≡ true
 same-self true = refl
 same-self false = refl
 
-dot-swap : (a b : Vector) → dot b a ≡ dot a b
+pub dot-swap : (a b : Vector) → dot b a ≡ dot a b
 dot-swap a b = let e = lift2 a in let f = lift2 b in same (dot2 f e) (dot2 e f) (omega arith)
 
 off-neg : (c s : Sign) → off_by c s ≡ true → off_by (negated c) s ≡ true
