@@ -15,12 +15,12 @@ use Rattle.winding.specs.ConflictFree.{IsConflictFree}
 use Rattle.winding.specs.EdgeList.{crossing_count, down_count, up_count, winding_number}
 use Rattle.winding.specs.Member.{EachPair, In}
 use Rattle.winding.specs.Ring.{IsAnchor, segments_of}
-use Rattle.nesting.proofs.DirectEnclosure.{at-most, clear-pairs, direct_exists, direct_once, in-flat-out, siblings}
+use Rattle.nesting.proofs.DirectEnclosure.{at-most, clear-pairs, direct_exists, direct_once, in-edges-out, siblings}
 use Rattle.nesting.proofs.EnclosingSums.{enclosing_sums}
-use Rattle.nesting.proofs.Nests.{in-flat, nearest, odd-bit, plain-part, total-flat}
+use Rattle.nesting.proofs.Nests.{in-edges, nearest, odd-bit, plain-part, total-edges}
 use Rattle.nesting.proofs.OuterTests.{HasAnchors, IsDirectBy}
 use Rattle.nesting.proofs.RingLists.{nest-plain, pairs-of, ring_anchor, ring_list_nest}
-use Rattle.nesting.proofs.TwoLists.{clear-turned}
+use Rattle.nesting.proofs.TwoLists.{clear-reversed}
 use Rattle.nesting.proofs.WoundRings.{area-sum}
 use Rattle.plane.proofs.Bools.{and-in, and-left, and-right, false-if-never}
 use Rattle.plane.proofs.Conflicts.{self_conflicts}
@@ -53,7 +53,7 @@ clear-rings r s = AreClear (segments_of r) (segments_of s)
 either-clear : (r s : List Edge) → (r ≡ s) ⊎ (clear-rings r s ⊎ clear-rings s r) → (r ≡ s) ⊎ (clear-rings r s)
 either-clear r s (inl e) = inl e
 either-clear r s (inr (inl c)) = inr c
-either-clear r s (inr (inr c)) = inr (clear-turned (segments_of s) (segments_of r) c)
+either-clear r s (inr (inr c)) = inr (clear-reversed (segments_of s) (segments_of r) c)
 
 module _ (rs : List (List Edge)) (l : IsRingList rs) where
   abbrev pub rings : List (List Edge)
@@ -91,10 +91,10 @@ module _ (rs : List (List Edge)) (l : IsRingList rs) where
     edge = d.edge;
     here = d.belongs;
     nearest = record {
-      member = in-flat (filter (chosen d.anchor) rings) g d.edge (into-filter (chosen d.anchor) rings g i (and-in (is_outer_by g) (encloses g d.anchor) (outer-out g i d.outer) d.around)) d.belongs;
+      member = in-edges (filter (chosen d.anchor) rings) g d.edge (into-filter (chosen d.anchor) rings g i (and-in (is_outer_by g) (encloses g d.anchor) (outer-out g i d.outer) d.around)) d.belongs;
       right = d.right;
       first = λ f m b.
-          let r = in-flat-out (filter (chosen d.anchor) rings) f m in
+          let r = in-edges-out (filter (chosen d.anchor) rings) f m in
           let ir = in-filter (chosen d.anchor) rings r.0 r.1 in let t = in-passes (chosen d.anchor) rings r.0 r.1 in
           d.nearest r.0 ir (outer-in r.0 ir (and-left (is_outer_by r.0) (encloses r.0 d.anchor) t)) (and-right (is_outer_by r.0) (encloses r.0 d.anchor) t) f r.2 b;
     };
@@ -110,7 +110,7 @@ module _ (rs : List (List Edge)) (l : IsRingList rs) where
     belongs = d.here;
     right = d.nearest.right;
     nearest = λ k i o c f m b.
-        d.nearest.first f (in-flat (filter (chosen e) rings) k f (into-filter (chosen e) rings k i (and-in (is_outer_by k) (encloses k e) (outer-out k i o) c)) m) b;
+        d.nearest.first f (in-edges (filter (chosen e) rings) k f (into-filter (chosen e) rings k i (and-in (is_outer_by k) (encloses k e) (outer-out k i o) c)) m) b;
   }
 
   -- two rings are one, or clear of each other
@@ -205,7 +205,7 @@ total-by : (U D : Edge → ℕ) (c : Polygon → Bool) (gs : List Polygon) → (
 total-by U D c gs h =
     let a = total-same (λ (g : Polygon). total U (polygon_edges g)) (λ (g : Polygon). total D (polygon_edges g) + bit (c g)) gs h in
     let b = total-+ (λ (g : Polygon). total D (polygon_edges g)) (λ (g : Polygon). bit (c g)) gs in
-    let u = total-flat U (map polygon_edges gs) in let d = total-flat D (map polygon_edges gs) in
+    let u = total-edges U (map polygon_edges gs) in let d = total-edges D (map polygon_edges gs) in
     let m = total-map (λ (e : List Edge). total U e) polygon_edges gs in let n = total-map (λ (e : List Edge). total D e) polygon_edges gs in
     omega arith
 

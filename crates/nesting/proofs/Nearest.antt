@@ -13,7 +13,7 @@ use Rattle.winding.specs.Member.{In}
 use Rattle.winding.specs.Parity.{is_even}
 use Rattle.winding.specs.Rank.{IsOrder}
 use Rattle.nesting.proofs.CoveredEdges.{IsClearOfAll, beside}
-use Rattle.nesting.proofs.TwoLists.{clear-list, clear-turned, first-right, not_both_in, plain-append}
+use Rattle.nesting.proofs.TwoLists.{clear-list, clear-reversed, first-right, not_both_in, plain-append}
 use Rattle.plane.proofs.Bools.{and-in, and-out, not-not}
 use Rattle.plane.proofs.Conflicts.{clear_back}
 use Rattle.plane.proofs.Heights.{right_chain, right_either, right_itself, right_of}
@@ -23,8 +23,8 @@ use Rattle.winding.proofs.Levels.{right_apart, to_right}
 use Rattle.winding.proofs.Members.{in-either, in-filter, in-left, in-passes, in-right, into-filter, pairs-filter, pairs-weaker, total-same}
 use Rattle.winding.proofs.Ranks.{First, first_exists}
 
-beyond-spans : (p : Vector) (e f : Edge) → is_right_above p e f ≡ true → is_in_span p f ≡ true
-beyond-spans p e f h = (and-out (is_in_span p f) (right_of p e f) h).0
+beyond-span : (p : Vector) (e f : Edge) → is_right_above p e f ≡ true → is_in_span p f ≡ true
+beyond-span p e f h = (and-out (is_in_span p f) (right_of p e f) h).0
 
 beyond-right : (p : Vector) (e f : Edge) → is_right_above p e f ≡ true → right_of p e f ≡ true
 beyond-right p e f h = (and-out (is_in_span p f) (right_of p e f) h).1
@@ -32,7 +32,7 @@ beyond-right p e f h = (and-out (is_in_span p f) (right_of p e f) h).1
 -- the edges right of e are in order
 pub beyond-order : (p : Vector) (e : Edge) (es : List Edge) → IsConflictFree es → IsOrder false (right_of p) (filter (is_right_above p e) es)
 beyond-order p e es pl =
-    let s = λ (t : Edge) (i : In t (filter (is_right_above p e) es)). beyond-spans p e t (in-passes (is_right_above p e) es t i) in
+    let s = λ (t : Edge) (i : In t (filter (is_right_above p e) es)). beyond-span p e t (in-passes (is_right_above p e) es t i) in
     record {
       itself = λ t i. right_itself p t;
       chain = λ a b c i j k h g. right_chain p a b c (s a i) (s b j) (s c k) h g;
@@ -54,11 +54,11 @@ not-inject a b h = sym (not-not a) ∙ ap not h ∙ not-not b
 pub same_beside : (p : Vector) (e t : Edge) (es : List Edge) → IsRising e → IsRising t → IsConflictFree es → IsEvenAtPoints es → IsClearOfAll e es → IsClearOfAll t es → is_in_span p e ≡ true → is_right_above p e t ≡ true →
     ((f : Edge) → In f es → is_right_above p e f ≡ true → right_of p t f ≡ true) → covers_edge es t ≡ covers_edge es e
 same_beside p e t es re rt pl even ce ct se b h =
-    let st = beyond-spans p e t b in
+    let st = beyond-span p e t b in
     let x = beside p e es re pl even ce se in let y = beside p t es rt pl even ct st in
     let w = total-same (to_right p t) (to_right p e) es (λ f i. bit-both (is_right_above p t f) (is_right_above p e f)
-    (λ k. and-in (is_in_span p f) (right_of p e f) (beyond-spans p t f k) (right_chain p e t f se st (beyond-spans p t f k) (beyond-right p e t b) (beyond-right p t f k)))
-    (λ k. and-in (is_in_span p f) (right_of p t f) (beyond-spans p e f k) (h f i k))) in
+    (λ k. and-in (is_in_span p f) (right_of p e f) (beyond-span p t f k) (right_chain p e t f se st (beyond-span p t f k) (beyond-right p e t b) (beyond-right p t f k)))
+    (λ k. and-in (is_in_span p f) (right_of p t f) (beyond-span p e f k) (h f i k))) in
     not-inject (covers_edge es t) (covers_edge es e) (sym y ∙ ap is_even w ∙ x)
 
 pub some_beyond : (p : Vector) (e : Edge) (es : List Edge) → IsRising e → IsConflictFree es → IsEvenAtPoints es → IsClearOfAll e es → is_in_span p e ≡ true → covers_edge es e ≡ true → (f : Edge) × In f es × (is_right_above p e f ≡ true)
@@ -88,7 +88,7 @@ module _ (p : Vector) (e : Edge) (cs bs : List Edge) (re : IsRising e) (s : is_i
         edge = m;
         of = inr (
           i,
-          same_beside p e m cs re rm pa ea ca (clear-list bs cs (clear-turned cs bs c) m i) s (in-passes (is_right_above p e) (cs ++ bs) m f.here)
+          same_beside p e m cs re rm pa ea ca (clear-list bs cs (clear-reversed cs bs c) m i) s (in-passes (is_right_above p e) (cs ++ bs) m f.here)
               (λ t j h. first-right p m t rm (clear_back t m (c t m j i)) (f.first t (into-filter (is_right_above p e) (cs ++ bs) t (in-left cs bs t j) h))),
         );
       }

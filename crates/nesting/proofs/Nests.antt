@@ -16,7 +16,7 @@ use Rattle.winding.specs.Parity.{is_even}
 use Rattle.winding.specs.Ring.{IsAnchor}
 use Rattle.nesting.proofs.CoveredEdges.{IsClearOfAll}
 use Rattle.nesting.proofs.Nearest.{beyond-order, bit-both, same_beside, some_beyond, through}
-use Rattle.nesting.proofs.TwoLists.{clear-list, clear-turned, differ-lists, first-right, not_both_in}
+use Rattle.nesting.proofs.TwoLists.{clear-list, clear-reversed, differ-lists, first-right, not_both_in}
 use Rattle.plane.proofs.Bools.{and-out, not-not, not-true-out, or-right}
 use Rattle.plane.proofs.Conflicts.{clear_back}
 use Rattle.plane.proofs.Edges.{same_edge-refl, same_edge-true}
@@ -35,10 +35,10 @@ plain-left xs ys p = record { rising = all-in IsRising xs (λ t i. rising_in (xs
 pub plain-right : (xs ys : List Edge) → IsConflictFree (xs ++ ys) → IsConflictFree ys
 plain-right xs ys p = record { rising = all-in IsRising ys (λ t i. rising_in (xs ++ ys) t p (in-right xs ys t i)); clear = pairs-right IsClearOf xs ys p.clear }
 
-pub in-flat : (gs : List (List Edge)) (g : List Edge) (s : Edge) → In g gs → In s g → In s (edges_of gs)
-in-flat [] g s i j = absurd i
-in-flat (h ∷ hs) g s (inl e) j = in-left h (edges_of hs) s (subst (λ l. In s l) e j)
-in-flat (h ∷ hs) g s (inr i) j = in-right h (edges_of hs) s (in-flat hs g s i j)
+pub in-edges : (gs : List (List Edge)) (g : List Edge) (s : Edge) → In g gs → In s g → In s (edges_of gs)
+in-edges [] g s i j = absurd i
+in-edges (h ∷ hs) g s (inl e) j = in-left h (edges_of hs) s (subst (λ l. In s l) e j)
+in-edges (h ∷ hs) g s (inr i) j = in-right h (edges_of hs) s (in-edges hs g s i j)
 
 pub plain-part : (gs : List (List Edge)) (g : List Edge) → IsConflictFree (edges_of gs) → In g gs → IsConflictFree g
 plain-part [] g p i = absurd i
@@ -48,8 +48,8 @@ plain-part (h ∷ hs) g p (inr i) = plain-part hs g (plain-right h (edges_of hs)
 pub clear_or_same : (gs : List (List Edge)) (g h : List Edge) → IsConflictFree (edges_of gs) → In g gs → In h gs → (AreClear g h) ⊎ (g ≡ h)
 clear_or_same [] g h p i j = absurd i
 clear_or_same (k ∷ ks) g h p (inl e) (inl f) = inr (e ∙ sym f)
-clear_or_same (k ∷ ks) g h p (inl e) (inr j) = inl (λ s t a b. pairs-across IsClearOf k (edges_of ks) s t p.clear (subst (λ l. In s l) e a) (in-flat ks h t j b))
-clear_or_same (k ∷ ks) g h p (inr i) (inl f) = inl (λ s t a b. clear_back t s (pairs-across IsClearOf k (edges_of ks) t s p.clear (subst (λ l. In t l) f b) (in-flat ks g s i a)))
+clear_or_same (k ∷ ks) g h p (inl e) (inr j) = inl (λ s t a b. pairs-across IsClearOf k (edges_of ks) s t p.clear (subst (λ l. In s l) e a) (in-edges ks h t j b))
+clear_or_same (k ∷ ks) g h p (inr i) (inl f) = inl (λ s t a b. clear_back t s (pairs-across IsClearOf k (edges_of ks) t s p.clear (subst (λ l. In t l) f b) (in-edges ks g s i a)))
 clear_or_same (k ∷ ks) g h p (inr i) (inr j) = clear_or_same ks g h (plain-right k (edges_of ks) p) i j
 
 pub has-in : (g : List Edge) (s : Edge) → In s g → has_edge g s ≡ true
@@ -101,11 +101,11 @@ has_once [] s p i = absurd i
 has_once (h ∷ hs) s p i =
     one-by hs s (has_edge h s) h refl p (λ n. pick-or s h n (in-either h (edges_of hs) s i)) (has_once hs s (plain-right h (edges_of hs) p))
     (λ g j e. has-not-by g h s (plain-part hs g (plain-right h (edges_of hs) p) j)
-    (λ a b k l. clear_back b a (pairs-across IsClearOf h (edges_of hs) b a p.clear l (in-flat hs g a j k))) (in-has h s e) (has_edge g s) refl)
+    (λ a b k l. clear_back b a (pairs-across IsClearOf h (edges_of hs) b a p.clear l (in-edges hs g a j k))) (in-has h s e) (has_edge g s) refl)
 
-pub total-flat : (f : Edge → ℕ) (gs : List (List Edge)) → total f (edges_of gs) ≡ total (λ g. total f g) gs
-total-flat f [] = refl
-total-flat f (g ∷ gs) = let a = total-++ f g (edges_of gs) in let b = total-flat f gs in omega arith
+pub total-edges : (f : Edge → ℕ) (gs : List (List Edge)) → total f (edges_of gs) ≡ total (λ g. total f g) gs
+total-edges f [] = refl
+total-edges f (g ∷ gs) = let a = total-++ f g (edges_of gs) in let b = total-edges f gs in omega arith
 
 odd-by : (n : ℕ) → (n % 2 ≡ 0) ⊎ (n % 2 ≡ 1) → n % 2 ≡ bit (not (is_even n))
 odd-by n (inl h) = h ∙ sym (ap (λ b. bit (not b)) (even-is n h))
@@ -119,10 +119,10 @@ parity-sum f [] = refl
 parity-sum f (x ∷ xs) = let a = parity-sum f xs in let b = odd-bit (f x) in omega arith
 
 -- the parity of all along an edge is that of the number of rings whose parity along it is odd
-in_flat : (gs : List (List Edge)) (s : Edge) → is_even (crossing_count (from_to s.from s.to) s.from (away s.from (edges_of gs))) ≡ is_even (total (λ g. bit (covers_edge g s)) gs)
-in_flat gs s =
+in_edges : (gs : List (List Edge)) (s : Edge) → is_even (crossing_count (from_to s.from s.to) s.from (away s.from (edges_of gs))) ≡ is_even (total (λ g. bit (covers_edge g s)) gs)
+in_edges gs s =
     let d = from_to s.from s.to in let v = s.from in
-    let a = crossings-away d v (edges_of gs) ∙ total-flat (beyond d v) gs in
+    let a = crossings-away d v (edges_of gs) ∙ total-edges (beyond d v) gs in
     let b = parity-sum (λ g. total (beyond d v) g) gs in
     let c = total-same (λ g. bit (not (is_even (total (beyond d v) g)))) (λ g. bit (covers_edge g s)) gs (λ g i. ap (λ n. bit (not (is_even n))) (sym (crossings-away d v g))) in
     same-parity (crossing_count d v (away v (edges_of gs))) (total (λ g. bit (covers_edge g s)) gs) (omega arith)
@@ -173,7 +173,7 @@ module _ (gs : List (List Edge)) (n : IsNest gs) where
       let a = total-same (λ g. cond (has_edge g s) (bit (covers_edge g s)) 0) (λ g. cond (covers_edge h s) (bit (has_edge g s)) 0) gs
       (λ g j. own-bit (covers_edge h s) (has_edge g s) (bit (covers_edge g s)) (λ e. ap (λ l. bit (covers_edge l s)) (same-ring h g s i j k e)) ∙ cond-times (covers_edge h s) (has_edge g s)) in
       let b = cond-out (covers_edge h s) (λ g. has_edge g s) gs in
-      let c = has_once gs s n.plain (in-flat gs h s i k) in
+      let c = has_once gs s n.plain (in-edges gs h s i k) in
       a ∙ b ∙ ap (λ m. cond (covers_edge h s) m 0) c
 
   sum_in : (h : List Edge) (s : Edge) → In h gs → In s h → total (λ g. bit (covers_edge g s)) gs ≡ total (λ g. bit (encloses g s)) gs + bit (covers_edge h s)
@@ -182,10 +182,10 @@ module _ (gs : List (List Edge)) (n : IsNest gs) where
       let b = total-+ (λ g. bit (encloses g s)) (λ g. cond (has_edge g s) (bit (covers_edge g s)) 0) gs in
       let c = own-sum h s i k in omega arith
 
-  pub flat-even : IsEvenAtPoints (edges_of gs)
-  flat-even v =
+  pub edges-even : IsEvenAtPoints (edges_of gs)
+  edges-even v =
       let f = λ (e : Edge). one_at v e.from + one_at v e.to in
-      let a = sym (total-is f (edges_of gs)) ∙ total-flat f gs in
+      let a = sym (total-is f (edges_of gs)) ∙ total-edges f gs in
       let b = evens-sum (λ g. total f g) gs (λ g i. let c = total-is f g in let d = n.even g i v in omega arith) in
       omega arith
 
@@ -195,10 +195,10 @@ module _ (gs : List (List Edge)) (n : IsNest gs) where
   -- a ring is outer where an even number of rings enclose it
   pub outer_depth : (h : List Edge) (s : Edge) → In h gs → IsAnchor s h → is_outer gs s ≡ is_even (depth gs s)
   outer_depth h s i a =
-      let r = runs_from s (edges_of gs) n.plain flat-even (in-flat gs h s i a.member) in
+      let r = runs_from s (edges_of gs) n.plain edges-even (in-edges gs h s i a.member) in
       let b = sum_in h s i a.member in let c = ap bit (anchor-out-own h s i a) in let d = depth-total gs s in
       let e : total (λ g. bit (covers_edge g s)) gs ≡ depth gs s = omega arith in
-      ap not r ∙ not-not (is_even (crossing_count (from_to s.from s.to) s.from (away s.from (edges_of gs)))) ∙ in_flat gs s ∙ ap is_even e
+      ap not r ∙ not-not (is_even (crossing_count (from_to s.from s.to) s.from (away s.from (edges_of gs)))) ∙ in_edges gs s ∙ ap is_even e
 
   pub encloses-not : (g : List Edge) (s : Edge) → encloses g s ≡ true → has_edge g s ≡ false
   encloses-not g s h = not-true-out (has_edge g s) (and-out (not (has_edge g s)) (covers_edge g s) h).0
@@ -207,7 +207,7 @@ module _ (gs : List (List Edge)) (n : IsNest gs) where
   encloses-in g s h = (and-out (not (has_edge g s)) (covers_edge g s) h).1
 
   pub clear-of : (g h : List Edge) (s : Edge) → In g gs → In h gs → In s h → has_edge g s ≡ false → IsClearOfAll s g
-  clear-of g h s i j k m = clear-list h g (clear-turned g h (clear_rings gs g h s n.plain i j k m)) s k
+  clear-of g h s i j k m = clear-list h g (clear-reversed g h (clear_rings gs g h s n.plain i j k m)) s k
 
   encloses-same-by : (g h : List Edge) (s t : Edge) → In g gs → In h gs → In s h → In t h → (b c : Bool) → has_edge g s ≡ b → has_edge g t ≡ c → (not b && covers_edge g s) ≡ (not c && covers_edge g t)
   encloses-same-by g h s t i j k l false false e f = n.constant g h i j s t k l e
@@ -224,7 +224,7 @@ module _ (gs : List (List Edge)) (n : IsNest gs) where
   -- two rings, the one in the other: not the other way round
   pub not-both : (g h : List Edge) (s t : Edge) → In g gs → In h gs → In s h → In t g → encloses g s ≡ true → encloses h t ≡ true → ⊥
   not-both g h s t i j k l a b =
-      not_both_in h g (part h j) (part g i) (n.even h j) (n.even g i) (clear-turned g h (clear_rings gs g h s n.plain i j k (encloses-not g s a))) s k
+      not_both_in h g (part h j) (part g i) (n.even h j) (n.even g i) (clear-reversed g h (clear_rings gs g h s n.plain i j k (encloses-not g s a))) s k
       (λ x m. n.constant g h i j x s m k (has_same gs g h s x n.plain i j k m (encloses-not g s a)) ∙ encloses-in g s a)
       (λ x m. n.constant h g j i x t m l (has_same gs h g t x n.plain j i l m (encloses-not h t b)) ∙ encloses-in h t b)
 
@@ -244,14 +244,14 @@ module _ (gs : List (List Edge)) (n : IsNest gs) where
         let cm = clear-of g t m ig it im nm in
         same_beside p e m g re rm (part g ig) (n.even g ig) ce cm se (in-passes (is_right_above p e) (edges_of (filter sel gs)) m f.here)
         (λ u i b. first-right p m u rm (in-all (IsClearOf m) g u cm i)
-        (f.first u (into-filter (is_right_above p e) (edges_of (filter sel gs)) u (in-flat (filter sel gs) g u (into-filter sel gs g ig sg) i) b)))
+        (f.first u (into-filter (is_right_above p e) (edges_of (filter sel gs)) u (in-edges (filter sel gs) g u (into-filter sel gs g ig sg) i) b)))
 
     -- there is one, where a ring is chosen
     pub nearest_exists : (g : List Edge) → In g gs → sel g ≡ true → IsConflictFree (edges_of (filter sel gs)) → (m : Edge) × First (right_of p) m beyonds
     nearest_exists g ig sg pl =
         let ce = clear-of g h e ig ih ie (encloses-not g e (chosen g ig sg)) in
         let s = some_beyond p e g re (part g ig) (n.even g ig) ce se (encloses-in g e (chosen g ig sg)) in
-        first_exists (right_of p) beyonds s.0 (into-filter (is_right_above p e) (edges_of (filter sel gs)) s.0 (in-flat (filter sel gs) g s.0 (into-filter sel gs g ig sg) s.1) s.2) (beyond-order p e (edges_of (filter sel gs)) pl)
+        first_exists (right_of p) beyonds s.0 (into-filter (is_right_above p e) (edges_of (filter sel gs)) s.0 (in-edges (filter sel gs) g s.0 (into-filter sel gs g ig sg) s.1) s.2) (beyond-order p e (edges_of (filter sel gs)) pl)
 
   -- ---- the innermost ring that encloses e: the one with the nearest edge
   module _ (h : List Edge) (ih : In h gs) (e : Edge) (ie : In e h) (p : Vector) (se : is_in_span p e ≡ true) where
@@ -278,7 +278,7 @@ module _ (gs : List (List Edge)) (n : IsNest gs) where
           let nm = encloses-not g m c in
           let ne = has-not-e g ig c (has_edge g e) refl in
           let gt = clear_rings gs g t m n.plain ig it im nm in
-          let tg = clear-turned g t gt in
+          let tg = clear-reversed g t gt in
           let ca = clear-of t h e it ih ie (encloses-not t e ct) in let cb = clear-of g h e ig ih ie ne in
           and-make (has_edge g e) (covers_edge g e) ne
           (through p e t g (rising_in h e (part h ih) ie) se (part t it) (part g ig) (n.even t it) (n.even g ig) tg ca cb
@@ -297,7 +297,7 @@ module _ (gs : List (List Edge)) (n : IsNest gs) where
           let a = depth-total gs e in let b = depth-total gs m in
           let c = total-same (λ g. bit (encloses g e)) (λ g. bit (has_edge g m) + bit (encloses g m)) gs (λ g i. depth-at g i (has_edge g m) refl) in
           let d = total-+ (λ g. bit (has_edge g m)) (λ g. bit (encloses g m)) gs in
-          let o = has_once gs m n.plain (in-flat gs t m it im) in omega arith
+          let o = has_once gs m n.plain (in-edges gs t m it im) in omega arith
 
       -- so of e's ring and the innermost ring that encloses it, one is outer and one is inner
       pub alternate : (a : Edge) → IsAnchor a h → (b : Edge) → IsAnchor b t → is_outer gs b ≡ not (is_outer gs a)

@@ -18,7 +18,7 @@ use Rattle.nesting.proofs.Nests.{odd-bit}
 use Rattle.nesting.proofs.WoundRings.{fold-direct, in-count, out-count}
 use Rattle.plane.proofs.RayCrossings.{down_seen, up_seen}
 use Rattle.winding.proofs.Levels.{signed_parity}
-use Rattle.winding.proofs.RingCounts.{raised-crossings}
+use Rattle.winding.proofs.RingCounts.{segments-crossings}
 use Rattle.winding.proofs.SidedLists.{sided-even, sided_direct}
 use Rattle.winding.proofs.Sums.{total, total-is}
 
@@ -43,7 +43,7 @@ module _ (rs : List (List Edge)) (l : IsRingList rs) (p : Vector) where
       let q = fold-direct (segments_of es) es (λ e i. sided_direct es l.sided e i) in
       let u = sym (total-is (up_seen east (from_to p)) (directed (segments_of es))) in let d = sym (total-is (down_seen east (from_to p)) (directed (segments_of es))) in
       let v = ap (λ (k : List Edge). total (up_seen east (from_to p)) k) q in let w = ap (λ (k : List Edge). total (down_seen east (from_to p)) k) q in
-      let c = raised-crossings east p es in let o = odd-bit (crossing_count east p es) in
+      let c = segments-crossings east p es in let o = odd-bit (crossing_count east p es) in
       omega arith
 
   pub polygons_cover : (gs : List Polygon) → ArePolygons rs gs → count_by (λ (g : Polygon). covers (polygon_edges g) p) gs ≡ bit (covers (edges_of rs) p)

@@ -17,8 +17,8 @@ use Rattle.winding.specs.ScaledEdges.{scaled_edges}
 use Rattle.nesting.proofs.DirectEnclosure.{out-of}
 use Rattle.nesting.proofs.Nests.{clear_rings, encloses-in, encloses-not, has-not-by, plain-part}
 use Rattle.nesting.proofs.OuterTests.{HasAnchors}
-use Rattle.nesting.proofs.TwoLists.{clear-turned, contained, disjoint}
-use Rattle.plane.proofs.RayCrossings.{hits_at}
+use Rattle.nesting.proofs.TwoLists.{clear-reversed, contained, disjoint}
+use Rattle.plane.proofs.RayCrossings.{crossings_at}
 use Rattle.plane.proofs.Scaling.{conflicts-scaled, cross-scaled, point-scaled}
 use Rattle.winding.proofs.Members.{in-map-out, total-same}
 use Rattle.winding.proofs.OppositeEnds.{beyond, crossings-away}
@@ -32,8 +32,8 @@ module _ (k : ℤ) (hk : sign k ≡ Plus) where
   pub ends-scaled : (v : Vector) (t : Edge) → ends_at (scaled_point k v) (scaled_edge k t) ≡ ends_at v t
   ends-scaled v t = ap (λ b. b || same_point (scaled_point k v) (scaled_point k t.to)) (point-scaled k hk v t.from) ∙ ap (λ b. same_point v t.from || b) (point-scaled k hk v t.to)
 
-  hits-scaled : (a b v : Vector) (t : Edge) → hits_at (from_to (scaled_point k a) (scaled_point k b)) (from_to (scaled_point k v)) (scaled_edge k t) ≡ hits_at (from_to a b) (from_to v) t
-  hits-scaled a b v t =
+  crossings-scaled : (a b v : Vector) (t : Edge) → crossings_at (from_to (scaled_point k a) (scaled_point k b)) (from_to (scaled_point k v)) (scaled_edge k t) ≡ crossings_at (from_to a b) (from_to v) t
+  crossings-scaled a b v t =
       let x = sign (cross (from_to (scaled_point k a) (scaled_point k b)) (from_to (scaled_point k v) (scaled_point k t.from))) in
       let y = sign (cross (from_to (scaled_point k a) (scaled_point k b)) (from_to (scaled_point k v) (scaled_point k t.to))) in
       let z = sign (cross (from_to (scaled_point k v) (scaled_point k t.from)) (from_to (scaled_point k v) (scaled_point k t.to))) in
@@ -48,7 +48,7 @@ module _ (k : ℤ) (hk : sign k ≡ Plus) where
       ap (λ n. not (is_even n))
       (crossings-away d' (scaled_point k t.from) (scaled_edges k es) ∙ total-map (beyond d' (scaled_point k t.from)) (scaled_edge k) es
       ∙ total-same (λ s. beyond d' (scaled_point k t.from) (scaled_edge k s)) (beyond d t.from) es
-      (λ s i. beyond-by (ends_at (scaled_point k t.from) (scaled_edge k s)) (ends_at t.from s) (hits_at d' (from_to (scaled_point k t.from)) (scaled_edge k s)) (hits_at d (from_to t.from) s) (ends-scaled t.from s) (hits-scaled t.from t.to t.from s))
+      (λ s i. beyond-by (ends_at (scaled_point k t.from) (scaled_edge k s)) (ends_at t.from s) (crossings_at d' (from_to (scaled_point k t.from)) (scaled_edge k s)) (crossings_at d (from_to t.from) s) (ends-scaled t.from s) (crossings-scaled t.from t.to t.from s))
       ∙ sym (crossings-away d t.from es))
 
   clear-scaled : (ss es : List Edge) → AreClear ss es → AreClear (scaled_edges k ss) (scaled_edges k es)
@@ -78,7 +78,7 @@ module _ (k : ℤ) (hk : sign k ≡ Plus) where
     pub inside-at : (g h : List Edge) → In g gs → In h gs → (e : Edge) → In e h → encloses g e ≡ true → around h ≡ true → around g ≡ true
     inside-at g h ig ih e ie c o =
         let ne = encloses-not gs n g e c in
-        let gh = clear_rings gs g h e n.plain ig ih ie ne in let hg = clear-turned g h gh in
+        let gh = clear_rings gs g h e n.plain ig ih ie ne in let hg = clear-reversed g h gh in
         contained (scaled_edges k h) (scaled_edges k g) (plain-of h ih) (plain-of g ig) (even-of h ih) (even-of g ig) (clear-scaled h g hg) p
         (in-all-scaled h g true (λ s i. n.constant g h ig ih s e i ie (has-not-by g h s (plain-part gs g n.plain ig) gh i (has_edge g s) refl) ∙ encloses-in gs n g e c))
         (in-same-scaled g h (λ s t i j. n.constant h g ih ig s t i j (has-not-by h g s (plain-part gs h n.plain ih) hg i (has_edge h s) refl))) o
@@ -86,4 +86,4 @@ module _ (k : ℤ) (hk : sign k ≡ Plus) where
     pub apart-at : (h j : List Edge) → In h gs → In j gs → AreClear h j → (e f : Edge) → In e h → In f j → encloses j e ≡ false → encloses h f ≡ false → around h ≡ true → around j ≡ true → ⊥
     apart-at h j ih ij c e f ie if' x y o u =
         disjoint (scaled_edges k h) (scaled_edges k j) (plain-of h ih) (plain-of j ij) (even-of h ih) (even-of j ij) (clear-scaled h j c) p
-        (in-all-scaled h j false (out-of gs n outer tells anchors h j ih ij e ie (clear-turned h j c) x)) (in-all-scaled j h false (out-of gs n outer tells anchors j h ij ih f if' c y)) o u
+        (in-all-scaled h j false (out-of gs n outer tells anchors h j ih ij e ie (clear-reversed h j c) x)) (in-all-scaled j h false (out-of gs n outer tells anchors j h ij ih f if' c y)) o u

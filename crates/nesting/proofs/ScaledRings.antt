@@ -38,7 +38,7 @@ use Rattle.plane.proofs.Signs.{plus-times}
 use Rattle.winding.proofs.Anchors.{ring_by_anchor}
 use Rattle.winding.proofs.Members.{all-in, in-all, in-map, in-map-out, total-same}
 use Rattle.winding.proofs.OddSides.{spokes-is}
-use Rattle.winding.proofs.RingCounts.{raised-crossings}
+use Rattle.winding.proofs.RingCounts.{segments-crossings}
 use Rattle.winding.proofs.ScaledLists.{direct-by, map-map, map-same, others-scaled, plain_scaled, rational_count}
 use Rattle.winding.proofs.SidedLists.{sided-even, sided_direct}
 use Rattle.winding.proofs.Sums.{same-total, total, total-is, total-map}
@@ -202,7 +202,7 @@ module _ (k : ℤ) (hk : sign k ≡ Plus) where
     covered-is : (r : List Edge) → crossing_count east p (scaled_edges k r) % 2 ≡ bit (covers_at (segments_of r))
     covered-is r =
         odd-bit (crossing_count east p (scaled_edges k r))
-        ∙ ap (λ n. bit (not (is_even n))) (sym (raised-crossings east p (scaled_edges k r)) ∙ ap (λ (g : List Edge). crossing_count east p g) (segments-scaled r))
+        ∙ ap (λ n. bit (not (is_even n))) (sym (segments-crossings east p (scaled_edges k r)) ∙ ap (λ (g : List Edge). crossing_count east p g) (segments-scaled r))
 
     wound-scaled : (r : List Edge) → (i : In r rs) →
         winding_number east p (scaled_edges k r) ≡ cond (not (outer (segments_of r))) (pos 0 -ℤ pos (crossing_count east p (scaled_edges k r) % 2)) (pos (crossing_count east p (scaled_edges k r) % 2))
@@ -267,7 +267,7 @@ module _ (k : ℤ) (hk : sign k ≡ Plus) where
         let w : winding_number east p (scaled_edges k es) ≡ pos n = subst (λ (u : List Edge). winding_number east p (scaled_edges k u) ≡ pos n) q s in
         let a = total-is (up_seen east (from_to p)) (scaled_edges k es) in let b = total-is (down_seen east (from_to p)) (scaled_edges k es) in
         let e = total-map (up_seen east (from_to p)) (scaled_edge k) es in let f = total-map (down_seen east (from_to p)) (scaled_edge k) es in
-        let c = ap (λ (g : List Edge). crossing_count east p g) (sym (segments-scaled es)) ∙ raised-crossings east p (scaled_edges k es) in let o = odd-bit (crossing_count east p (scaled_edges k es)) in
+        let c = ap (λ (g : List Edge). crossing_count east p g) (sym (segments-scaled es)) ∙ segments-crossings east p (scaled_edges k es) in let o = odd-bit (crossing_count east p (scaled_edges k es)) in
         let m : up_count east p (scaled_edges k es) ≡ down_count east p (scaled_edges k es) + n = omega (arith, ints) in
         omega arith
 

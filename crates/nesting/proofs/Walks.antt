@@ -5,7 +5,7 @@ use Rattle.nesting.specs.Walk.{AreWalks, Follow, HasSameEdges, IsCycle, IsSucces
 use Rattle.plane.specs.Edge.{Edge}
 use Rattle.winding.specs.Member.{In}
 use Rattle.winding.specs.Sided.{IsSided}
-use Rattle.nesting.proofs.Nests.{in-flat}
+use Rattle.nesting.proofs.Nests.{in-edges}
 use Rattle.nesting.proofs.Parts.{Once, once-apart, same-back, same-in, same-once, sided-once}
 use Rattle.nesting.proofs.Pieces.{last-in}
 use Rattle.nesting.proofs.Successors.{next_one}
@@ -156,7 +156,7 @@ module _ (es : List Edge) (sd : IsSided es) where
       let r = from-list es refl in (
         r.0,
         record {
-          walk = λ w i. record { here = λ e j. same-in (edges_of r.0) es r.2 e (in-flat r.0 w e i j); cycle = r.1 w i };
+          walk = λ w i. record { here = λ e j. same-in (edges_of r.0) es r.2 e (in-edges r.0 w e i j); cycle = r.1 w i };
           whole = r.2;
         },
       )

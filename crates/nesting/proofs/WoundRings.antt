@@ -15,13 +15,13 @@ use Rattle.winding.specs.Member.{In}
 use Rattle.winding.specs.OddSide.{directed_edge}
 use Rattle.winding.specs.Parity.{is_even}
 use Rattle.winding.specs.Ring.{IsAnchor, segments_of}
-use Rattle.nesting.proofs.Nests.{in-flat, odd-bit, plain-part, total-flat}
+use Rattle.nesting.proofs.Nests.{in-edges, odd-bit, plain-part, total-edges}
 use Rattle.nesting.proofs.OuterTests.{HasAnchors}
 use Rattle.nesting.proofs.RingLists.{nest-plain, outer_down}
 use Rattle.plane.proofs.RayCrossings.{down_seen, up_seen}
 use Rattle.winding.proofs.Anchors.{ring_by_anchor}
 use Rattle.winding.proofs.Members.{in-map, in-map-out, total-same}
-use Rattle.winding.proofs.RingCounts.{raised-crossings}
+use Rattle.winding.proofs.RingCounts.{segments-crossings}
 use Rattle.winding.proofs.Sums.{total, total-+, total-++, total-is}
 
 small : (b : Bool) → bit b ≤ 1
@@ -34,8 +34,8 @@ pub area-sum : (U D : Edge → ℕ) (c : List Edge → Bool) (r0 : List Edge) (i
 area-sum U D c r0 inner o h le =
     let s = sym (total-+ (λ r. total U r) (λ r. bit (c r)) inner) ∙ total-same (λ r. total U r + bit (c r)) (λ r. total D r) inner h in
     let b = small (c r0) in
-    let u2 = total-++ U r0 (edges_of inner) in let u3 = total-flat U inner in
-    let d2 = total-++ D r0 (edges_of inner) in let d3 = total-flat D inner in
+    let u2 = total-++ U r0 (edges_of inner) in let u3 = total-edges U inner in
+    let d2 = total-++ D r0 (edges_of inner) in let d3 = total-edges D inner in
     let x = bit (c r0) in let y = total (λ r. bit (c r)) inner in
     (x - y, omega arith, omega arith)
 
@@ -46,8 +46,8 @@ module _ (rs : List (List Edge)) (l : IsRingList rs) (outer : List Edge → Bool
   abbrev pub downs' : List Edge → ℕ
   downs' r = total (down_seen east (from_to p)) r
 
-  around-is : (r : List Edge) → crossing_count east p r % 2 ≡ bit (covers (segments_of r) p)
-  around-is r = odd-bit (crossing_count east p r) ∙ ap (λ n. bit (not (is_even n))) (sym (raised-crossings east p r))
+  covers-is : (r : List Edge) → crossing_count east p r % 2 ≡ bit (covers (segments_of r) p)
+  covers-is r = odd-bit (crossing_count east p r) ∙ ap (λ n. bit (not (is_even n))) (sym (segments-crossings east p r))
 
   -- the anchor of a ring as an edge of it
   pub own-anchor : (r : List Edge) → In r rs → (e : Edge) × In e r × IsAnchor (segment_of e) (segments_of r)
@@ -58,7 +58,7 @@ module _ (rs : List (List Edge)) (l : IsRingList rs) (outer : List Edge → Bool
   pub down-is : (r : List Edge) → (i : In r rs) → outer (segments_of r) ≡ not (is_plus (order (own-anchor r i).0.from (own-anchor r i).0.to))
   down-is r i =
       let a = own-anchor r i in
-      tells (segments_of r) (in-map segments_of rs r i) (segment_of a.0) a.2 ∙ outer_down rs l a.0 (in-flat rs r a.0 i a.1)
+      tells (segments_of r) (in-map segments_of rs r i) (segment_of a.0) a.2 ∙ outer_down rs l a.0 (in-edges rs r a.0 i a.1)
 
   pub not-back : (b c : Bool) → b ≡ not c → c ≡ not b
   not-back true true h = absurd (cc h)
@@ -75,13 +75,13 @@ module _ (rs : List (List Edge)) (l : IsRingList rs) (outer : List Edge → Bool
   pub out-count : (r : List Edge) → In r rs → outer (segments_of r) ≡ true → ups' r ≡ downs' r + bit (covers (segments_of r) p)
   out-count r i o =
       let w = wound r i ∙ ap (λ b. cond (not b) (pos 0 -ℤ pos (crossing_count east p r % 2)) (pos (crossing_count east p r % 2))) o in
-      let a = total-is (up_seen east (from_to p)) r in let b = total-is (down_seen east (from_to p)) r in let c = around-is r in
+      let a = total-is (up_seen east (from_to p)) r in let b = total-is (down_seen east (from_to p)) r in let c = covers-is r in
       let n : up_count east p r ≡ down_count east p r + crossing_count east p r % 2 = omega (arith, ints) in omega arith
 
   pub in-count : (r : List Edge) → In r rs → outer (segments_of r) ≡ false → ups' r + bit (covers (segments_of r) p) ≡ downs' r
   in-count r i o =
       let w = wound r i ∙ ap (λ b. cond (not b) (pos 0 -ℤ pos (crossing_count east p r % 2)) (pos (crossing_count east p r % 2))) o in
-      let a = total-is (up_seen east (from_to p)) r in let b = total-is (down_seen east (from_to p)) r in let c = around-is r in
+      let a = total-is (up_seen east (from_to p)) r in let b = total-is (down_seen east (from_to p)) r in let c = covers-is r in
       let n : up_count east p r + crossing_count east p r % 2 ≡ down_count east p r = omega (arith, ints) in omega arith
 
 pub fold-direct : (us es : List Edge) → ((e : Edge) → In e es → directed_edge us (segment_of e) ≡ e) → map (directed_edge us) (map segment_of es) ≡ es

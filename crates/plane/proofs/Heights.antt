@@ -11,9 +11,9 @@ use Rattle.plane.specs.Vector.{Vector, cross, east, from_to, orient}
 use Rattle.plane.proofs.Bools.{and-in, and-left, and-no, and-right, false-if-never}
 use Rattle.plane.proofs.Conflicts.{conflict_by, conflicts-by}
 use Rattle.plane.proofs.Identities.{apart, lift, same, ◌⊞◌, ◌⊟◌, ◌⊠◌}
-use Rattle.plane.proofs.Products.{cross-from-here, cross-here, cross-neg, cross-self, dot-east, orient-round, plucker-agree, plucker-dot-agree, side-moves}
+use Rattle.plane.proofs.Products.{cross-from-here, cross-here, cross-negated, cross-self, dot-east, orient-round, plucker-agree, plucker-dot-agree, side-moves}
 use Rattle.plane.proofs.RayCrossings.{cross-east, rise-y}
-use Rattle.plane.proofs.Signs.{agree, agree-sum, all, all-out, all2, all2-out, all4-out, imp, imp-out, is_plus-true, plus-times, same_bool, same_bool-true, same_sign, same_sign-true, sign-*, sign-turned, times, times-plus}
+use Rattle.plane.proofs.Signs.{agree, agree-sum, all, all-out, all2, all2-out, all4-out, imp, imp-out, is_plus-true, plus-times, same_bool, same_bool-true, same_sign, same_sign-true, sign-*, sign-reversed, times, times-plus}
 
 abbrev pub step_of : Edge → Vector
 step_of t = from_to t.from t.to
@@ -59,7 +59,7 @@ pub right_either : (p : Vector) (a b : Edge) → not (is_null (order_above p a b
 right_either p a b n =
     let k = sign (cross (distance_right p a) (distance_right p b)) in let l = sign (cross (step_of b) (step_of a)) in
     same_bool-true _ _ (imp-out _ _ (all2-out then_either refl k l) n)
-    ∙ ap (λ s. not (is_plus (then_sign s (negated l)))) (sym (cross-neg (distance_right p a) (distance_right p b))) ∙ ap (λ s. not (is_plus (then_sign (sign (cross (distance_right p b) (distance_right p a))) s))) (sym (cross-neg (step_of b) (step_of a)))
+    ∙ ap (λ s. not (is_plus (then_sign s (negated l)))) (sym (cross-negated (distance_right p a) (distance_right p b))) ∙ ap (λ s. not (is_plus (then_sign (sign (cross (distance_right p b) (distance_right p a))) s))) (sym (cross-negated (step_of b) (step_of a)))
 
 pub zero-part : (x y z w d : ℤ) → y ≡ pos 0 → z ≡ d → x *ℤ z -ℤ y *ℤ w ≡ x *ℤ d
 zero-part x y z w d e f =
@@ -132,7 +132,7 @@ module _ (e f : Edge) (he : sign (e.to.y -ℤ e.from.y) ≡ Plus) (hf : sign (f.
   on-second w z =
       let c = cross (from_to w e.from) (from_to w e.to) in let dy = f.to.y -ℤ f.from.y in
       let h = ap sign (zero-end (e.to.y -ℤ e.from.y) c (cross (from_to w f.from) (from_to w f.to)) dy (pos 0) z) in
-      let g : sign (dy *ℤ c) ≡ negated (sign (pos 0 -ℤ dy *ℤ c)) = sign-turned (pos 0 -ℤ dy *ℤ c) (dy *ℤ c) (omega (arith, ints)) in
+      let g : sign (dy *ℤ c) ≡ negated (sign (pos 0 -ℤ dy *ℤ c)) = sign-reversed (pos 0 -ℤ dy *ℤ c) (dy *ℤ c) (omega (arith, ints)) in
       ap sign (orient-round w e.from e.to) ∙ sym (plus-times dy c hf) ∙ g ∙ ap negated (sym h)
 
   no_swap : (s : Sign) → not (is_null s) ≡ true → distance_at e.from ≡ s → distance_at f.from ≡ s → distance_at e.to ≡ negated s → distance_at f.to ≡ negated s → ⊥
@@ -187,7 +187,7 @@ module _ (e f : Edge) (he : sign (e.to.y -ℤ e.from.y) ≡ Plus) (hf : sign (f.
   persists-by : (p q : Vector) (s : Sign) → sign (q.y -ℤ p.y) ≡ s → is_in_span p e ≡ true → is_in_span p f ≡ true → is_in_span q e ≡ true → is_in_span q f ≡ true → order_above p e f ≡ order_above q e f
   persists-by p q Plus h pe pf qe qf = stays-above p q h pe pf qe qf
   persists-by p q Null h pe pf qe qf = same-height p q h
-  persists-by p q Minus h pe pf qe qf = sym (stays-above q p (sign-turned (q.y -ℤ p.y) (p.y -ℤ q.y) (omega (arith, ints)) ∙ ap negated h) qe qf pe pf)
+  persists-by p q Minus h pe pf qe qf = sym (stays-above q p (sign-reversed (q.y -ℤ p.y) (p.y -ℤ q.y) (omega (arith, ints)) ∙ ap negated h) qe qf pe pf)
 
 -- two edges that don't conflict and both span two heights have the same order just above both
 pub order_persists : (p q : Vector) (e f : Edge) → IsClearOf e f → is_in_span p e ≡ true → is_in_span p f ≡ true → is_in_span q e ≡ true → is_in_span q f ≡ true → order_above p e f ≡ order_above q e f

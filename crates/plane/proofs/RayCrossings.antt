@@ -65,8 +65,8 @@ up_seen d r e = up_crossing d (r e.from) (r e.to)
 abbrev pub down_seen : Vector → (Vector → Vector) → Edge → ℕ
 down_seen d r e = down_crossing d (r e.from) (r e.to)
 
-abbrev pub hits_at : Vector → (Vector → Vector) → Edge → ℕ
-hits_at d r t = up_seen d r t + down_seen d r t
+abbrev pub crossings_at : Vector → (Vector → Vector) → Edge → ℕ
+crossings_at d r t = up_seen d r t + down_seen d r t
 
 -- ---- an edge that does not end at the point
 abbrev left_1 : Sign → Sign → Sign → Sign → Bool
@@ -79,8 +79,8 @@ pub rise-y : (p u v : Vector) → agree (sign (u.y -ℤ p.y)) (sign (v.y -ℤ u.
 rise-y p u v = agree-sum (u.y -ℤ p.y) (v.y -ℤ u.y) (v.y -ℤ p.y) (omega (arith, ints))
 
 -- a ray in a direction d of which the heights tell the sides
-pub hits-left : (d p : Vector) (t : Edge) → ((w : Vector) → sign (cross d w) ≡ sign w.y) → IsRising t → hits_at d (from_to p) t ≡ bit (is_left_of p t)
-hits-left d p t h r =
+pub crossings-left : (d p : Vector) (t : Edge) → ((w : Vector) → sign (cross d w) ≡ sign w.y) → IsRising t → crossings_at d (from_to p) t ≡ bit (is_left_of p t)
+crossings-left d p t h r =
     let u = t.from in let v = t.to in
     let e = left-signs (sign (u.y -ℤ p.y)) (sign (v.y -ℤ p.y)) (sign (cross (from_to p u) (from_to p v))) (sign (v.y -ℤ u.y)) (rise-y p u v) (not-minus-by (sign (v.y -ℤ u.y)) (sign (v.x -ℤ u.x)) r) in
     rw (h (from_to p u), h (from_to p v), orient-round p u v) e

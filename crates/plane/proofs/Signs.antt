@@ -29,9 +29,9 @@ sign-pos : (k : ℕ) → 0 < k → sign (pos k) ≡ Plus
 sign-pos zero h = absurd (omega arith)
 sign-pos (suc k) h = refl
 
-sign-neg : (k : ℕ) → 0 < k → sign (neg_ℤ (pos k)) ≡ Minus
-sign-neg zero h = absurd (omega arith)
-sign-neg (suc k) h = refl
+sign-negated : (k : ℕ) → 0 < k → sign (neg_ℤ (pos k)) ≡ Minus
+sign-negated zero h = absurd (omega arith)
+sign-negated (suc k) h = refl
 
 product-pos : (m n : ℕ) → 0 < suc m * suc n
 product-pos m n = omega arith
@@ -47,9 +47,9 @@ sign-* (pos zero) (pos n) = ap (λ (k : ℕ). sign (pos k)) (zero-left n)
 sign-* (pos zero) (negsuc n) = ap (λ (k : ℕ). sign (neg_ℤ (pos k))) (zero-left (suc n))
 sign-* (pos (suc m)) (pos zero) = ap (λ (k : ℕ). sign (pos k)) (zero-right (suc m))
 sign-* (pos (suc m)) (pos (suc n)) = sign-pos (suc m * suc n) (product-pos m n)
-sign-* (pos (suc m)) (negsuc n) = sign-neg (suc m * suc n) (product-pos m n)
+sign-* (pos (suc m)) (negsuc n) = sign-negated (suc m * suc n) (product-pos m n)
 sign-* (negsuc m) (pos zero) = ap (λ (k : ℕ). sign (neg_ℤ (pos k))) (zero-right (suc m))
-sign-* (negsuc m) (pos (suc n)) = sign-neg (suc m * suc n) (product-pos m n)
+sign-* (negsuc m) (pos (suc n)) = sign-negated (suc m * suc n) (product-pos m n)
 sign-* (negsuc m) (negsuc n) = sign-pos (suc m * suc n) (product-pos m n)
 
 -- what a sign says to `omega`
@@ -163,14 +163,14 @@ times-plus Plus = refl
 times-plus Null = refl
 times-plus Minus = refl
 
-neg-by : (s t : Sign) → agree s t Null ≡ true → t ≡ negated s
-neg-by Plus Minus h = refl
-neg-by Minus Plus h = refl
-neg-by Null Null h = refl
-neg-by s t h = absurd (cc h)
+negated-by : (s t : Sign) → agree s t Null ≡ true → t ≡ negated s
+negated-by Plus Minus h = refl
+negated-by Minus Plus h = refl
+negated-by Null Null h = refl
+negated-by s t h = absurd (cc h)
 
-pub sign-turned : (x y : ℤ) → x +ℤ y ≡ pos 0 → sign y ≡ negated (sign x)
-sign-turned x y e = neg-by (sign x) (sign y) (agree-sum x y (pos 0) e)
+pub sign-reversed : (x y : ℤ) → x +ℤ y ≡ pos 0 → sign y ≡ negated (sign x)
+sign-reversed x y e = negated-by (sign x) (sign y) (agree-sum x y (pos 0) e)
 
 -- ---- a sign, as an order
 pub says-at : (s : Sign) (z : ℤ) → sign z ≡ s → Says s z

@@ -22,11 +22,11 @@ use Rattle.plane.proofs.Bools.{false-if-never}
 use Rattle.plane.proofs.Conflicts.{clear_misses}
 use Rattle.plane.proofs.Edges.{edge_of, ends_at-from, same_edge-refl, same_edge-true}
 use Rattle.plane.proofs.Identities.{lift, same, ◌⊞◌, ◌⊟◌, ◌⊠◌}
-use Rattle.plane.proofs.PointOrder.{line-order-up, order-null, order-self-null, order-sum, order-turned, rising-direction}
+use Rattle.plane.proofs.PointOrder.{line-order-up, order-null, order-reversed, order-self-null, order-sum, rising-direction}
 use Rattle.plane.proofs.Points.{same_point-true}
-use Rattle.plane.proofs.Products.{cross-agree, cross-neg, cross-self, dot-east, plucker-agree, plucker-dot-agree}
-use Rattle.plane.proofs.RayCrossings.{cross-east, hits_at, level-side, rise-y}
-use Rattle.plane.proofs.Signs.{agree, all, all-out, all4, all4-out, imp, imp-out, plus-plus, same_bool, self-diff, sign-turned, times}
+use Rattle.plane.proofs.Products.{cross-agree, cross-negated, cross-self, dot-east, plucker-agree, plucker-dot-agree}
+use Rattle.plane.proofs.RayCrossings.{cross-east, crossings_at, level-side, rise-y}
+use Rattle.plane.proofs.Signs.{agree, all, all-out, all4, all4-out, imp, imp-out, plus-plus, same_bool, self-diff, sign-reversed, times}
 use Rattle.winding.proofs.Balance.{degree-even, length-total}
 use Rattle.winding.proofs.ConflictFree.{clear_of_others, off_away, rising_in, split_off}
 use Rattle.winding.proofs.Members.{in-filter, into-filter, total-filter, total-same}
@@ -47,13 +47,13 @@ cross-west : (w : Vector) → sign (cross west w) ≡ negated (sign w.y)
 cross-west w =
     let x = lift w.x in let y = lift w.y in
     let e : w.y +ℤ cross west w ≡ pos 0 = same (y ⊞ (lift (negsuc 0) ⊠ y ⊟ lift (pos 0) ⊠ x)) (lift (pos 0)) (omega arith) in
-    sign-turned w.y (cross west w) e
+    sign-reversed w.y (cross west w) e
 
 dot-west : (w : Vector) → sign (dot west w) ≡ negated (sign w.x)
 dot-west w =
     let x = lift w.x in let y = lift w.y in
     let e : w.x +ℤ dot west w ≡ pos 0 = same (x ⊞ (lift (negsuc 0) ⊠ x ⊞ lift (pos 0) ⊠ y)) (lift (pos 0)) (omega arith) in
-    sign-turned w.x (dot west w) e
+    sign-reversed w.x (dot west w) e
 
 sector-west : (d w : Vector) → in_sector west d w ≡ sector_by (negated (sign w.x)) (negated (sign w.y)) (negated (sign d.x)) (negated (sign d.y)) (sign (cross d w))
 sector-west d w = rw (dot-west w, cross-west w, dot-west d, cross-west d)
@@ -70,7 +70,7 @@ first-not-minus Plus t h = refl
 plus-not-minus : (s : Sign) → s ≡ Plus → s ≡ Minus → ⊥
 plus-not-minus s h k = cc (sym h ∙ k)
 
-pub west-misses : (a : Vector) (t : Edge) → IsRising t → (order a t.from ≡ Minus → ⊥) → hits_at west (from_to a) t ≡ 0
+pub west-misses : (a : Vector) (t : Edge) → IsRising t → (order a t.from ≡ Minus → ⊥) → crossings_at west (from_to a) t ≡ 0
 west-misses a t r h =
     let u = t.from in let v = t.to in let c = sign (cross (from_to a u) (from_to a v)) in
     let g = all4-out west_1 refl (sign (u.y -ℤ a.y)) (sign (v.y -ℤ a.y)) c (sign (v.y -ℤ u.y)) in
@@ -83,7 +83,7 @@ beyond-none-by n false h = h
 
 pub west-none : (a : Vector) (es : List Edge) → ((t : Edge) → In t es → IsRising t) → ((t : Edge) → In t es → order a t.from ≡ Minus → ⊥) → crossing_count west a (away a es) ≡ 0
 west-none a es r h =
-    crossings-away west a es ∙ total-same (beyond west a) (λ t. 0) es (λ t i. beyond-none-by (hits_at west (from_to a) t) (ends_at a t) (west-misses a t (r t i) (h t i))) ∙ none-sum es
+    crossings-away west a es ∙ total-same (beyond west a) (λ t. 0) es (λ t i. beyond-none-by (crossings_at west (from_to a) t) (ends_at a t) (west-misses a t (r t i) (h t i))) ∙ none-sum es
 
 -- ---- the edges at that point, from west round to one that is left of all of them
 abbrev right_1 : Sign → Sign → Sign → Sign → Bool
@@ -99,7 +99,7 @@ west-sector d w hd hw n =
 -- an edge at a point below all edges begins there
 pub begins-by : (a : Vector) (t : Edge) (b c : Bool) → same_point a t.from ≡ b → same_point a t.to ≡ c → (b || c) ≡ true → IsRising t → (order a t.from ≡ Minus → ⊥) → b ≡ true
 begins-by a t true c h k o r l = refl
-begins-by a t false true h k o r l = absurd (l (order-turned t.from a ∙ ap negated (subst (λ w. order t.from w ≡ Plus) (sym (same_point-true a t.to k)) r)))
+begins-by a t false true h k o r l = absurd (l (order-reversed t.from a ∙ ap negated (subst (λ w. order t.from w ≡ Plus) (sym (same_point-true a t.to k)) r)))
 begins-by a t false false h k o r l = o
 
 share-one-by : (n : ℕ) (b : Bool) → (b ≡ true → n ≡ 1) → cond b n 0 ≡ cond b 1 0
@@ -239,18 +239,18 @@ ok-chain-by s t u rs rt ru Null Minus h g a b = absurd (cc b)
 pub ok_chain : (s t u : Edge) → IsRising s → IsRising t → IsRising u → ok s t ≡ true → ok t u ≡ true → ok s u ≡ true
 ok_chain s t u rs rt ru a b = ok-chain-by s t u rs rt ru (order s.from t.from) (order t.from u.from) refl refl a b
 
-not-plus-neg : (k : Sign) → not (is_plus k) ≡ false → not (is_plus (negated k)) ≡ true
-not-plus-neg Plus h = refl
-not-plus-neg Null h = absurd (cc h)
-not-plus-neg Minus h = absurd (cc h)
+not-plus-negated : (k : Sign) → not (is_plus k) ≡ false → not (is_plus (negated k)) ≡ true
+not-plus-negated Plus h = refl
+not-plus-negated Null h = absurd (cc h)
+not-plus-negated Minus h = absurd (cc h)
 
 ok-either-by : (s t : Edge) → (o : Sign) → order s.from t.from ≡ o → ok_by o (orient s.from s.to t.to) ≡ false → ok t s ≡ true
 ok-either-by s t Plus h a = absurd (cc a)
 ok-either-by s t Null h a =
     let q = order-null s.from t.from h in
     ok-of-null (order t.from s.from) (orient t.from t.to s.to) (subst (λ w. order w s.from ≡ Null) q (order-self-null s.from))
-    (subst (λ w. not (is_plus (orient w t.to s.to)) ≡ true) q (ap (λ z. not (is_plus z)) (cross-neg (from_to s.from s.to) (from_to s.from t.to)) ∙ not-plus-neg (orient s.from s.to t.to) a))
-ok-either-by s t Minus h a = ok-of-plus (order t.from s.from) (orient t.from t.to s.to) (order-turned s.from t.from ∙ ap negated h)
+    (subst (λ w. not (is_plus (orient w t.to s.to)) ≡ true) q (ap (λ z. not (is_plus z)) (cross-negated (from_to s.from s.to) (from_to s.from t.to)) ∙ not-plus-negated (orient s.from s.to t.to) a))
+ok-either-by s t Minus h a = ok-of-plus (order t.from s.from) (orient t.from t.to s.to) (order-reversed s.from t.from ∙ ap negated h)
 
 ok-self : (s : Edge) → ok s s ≡ true
 ok-self s = ok-of-null (order s.from s.from) (orient s.from s.to s.to) (order-self-null s.from) (ap (λ z. not (is_plus (sign z))) (cross-self (from_to s.from s.to)))
@@ -330,15 +330,15 @@ level-out s t es p a i h z =
     let l = level-side (from_to s.from s.to) (from_to s.from t.to) z (level-plus (sign (s.to.y -ℤ s.from.y)) (sign (s.to.x -ℤ s.from.x)) z rs) in
     minus-rise (sign (t.to.y -ℤ s.from.y)) (sign (t.to.x -ℤ s.from.x)) (subst (λ w. order w t.to ≡ Plus) (sym q) rt) (sym l ∙ m)
 
-spans-by : (p : Vector) (y : Sign) (s : Edge) → s.from ≡ p → sign (s.to.y -ℤ s.from.y) ≡ y → (y ≡ Null → ⊥) → then_sign y (sign (s.to.x -ℤ s.from.x)) ≡ Plus → is_in_span s.from s ≡ true
-spans-by p Plus s e h n r = let k = self-diff s.from.y in rw (k, h) refl
-spans-by p Null s e h n r = absurd (n refl)
-spans-by p Minus s e h n r = absurd (cc r)
+span-by : (p : Vector) (y : Sign) (s : Edge) → s.from ≡ p → sign (s.to.y -ℤ s.from.y) ≡ y → (y ≡ Null → ⊥) → then_sign y (sign (s.to.x -ℤ s.from.x)) ≡ Plus → is_in_span s.from s ≡ true
+span-by p Plus s e h n r = let k = self-diff s.from.y in rw (k, h) refl
+span-by p Null s e h n r = absurd (n refl)
+span-by p Minus s e h n r = absurd (cc r)
 
-pub anchor_spans : (s : Edge) (es : List Edge) → IsConflictFree es → IsEvenAtPoints es → IsAnchor s es → is_in_span s.from s ≡ true
-anchor_spans s es p even a =
+pub anchor_span : (s : Edge) (es : List Edge) → IsConflictFree es → IsEvenAtPoints es → IsAnchor s es → is_in_span s.from s ≡ true
+anchor_span s es p even a =
     let t = some_odd (λ t. ends_at s.from t) (others s es) (other-by s es p even a.member) in
-    spans-by s.from (sign (s.to.y -ℤ s.from.y)) s refl refl (λ z. level-out s t.0 es p a t.1 t.2 z) (rising_in es s p a.member)
+    span-by s.from (sign (s.to.y -ℤ s.from.y)) s refl refl (λ z. level-out s t.0 es p a t.1 t.2 z) (rising_in es s p a.member)
 
 -- ---- the anchor, computed: the best of the list
 abbrev pub leftmost_of : Edge → List Edge → Edge
@@ -380,11 +380,11 @@ anchor-one-by a b es p h k false e =
     let i : In b (others a es) = into-filter (λ (t : Edge). not (same_edge a t)) es b k.member (ap not e) in
     let f : same_edge b a ≡ false = false-if-never (same_edge b a) (λ z. let q = same_edge-true b a z in let r = ap (λ w. same_edge a w) q in let s = same_edge-refl a in cc (sym s ∙ sym r ∙ e)) in
     let j : In a (others b es) = into-filter (λ (t : Edge). not (same_edge b t)) es a h.member (ap not f) in
-    let n = neither-way (order a.from b.from) (h.least b k.member) (λ z. k.least a h.member (order-turned a.from b.from ∙ z)) in
+    let n = neither-way (order a.from b.from) (h.least b k.member) (λ z. k.least a h.member (order-reversed a.from b.from ∙ z)) in
     let q = order-null a.from b.from n in
     let u = h.leftmost b i q in let v = k.leftmost a j (sym q) in
     let w : orient a.from b.to a.to ≡ Minus = subst (λ c. orient c b.to a.to ≡ Minus) (sym q) v in
-    absurd (not-both-minus (orient a.from a.to b.to) u (sym (cross-neg (from_to a.from a.to) (from_to a.from b.to)) ∙ w))
+    absurd (not-both-minus (orient a.from a.to b.to) u (sym (cross-negated (from_to a.from a.to) (from_to a.from b.to)) ∙ w))
 
 pub anchor_one : (a b : Edge) (es : List Edge) → IsConflictFree es → IsAnchor a es → IsAnchor b es → a ≡ b
 anchor_one a b es p h k = anchor-one-by a b es p h k (same_edge a b) refl

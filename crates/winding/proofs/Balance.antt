@@ -19,13 +19,13 @@ use Rattle.winding.specs.Rank.{IsOrder}
 use Rattle.plane.proofs.Bools.{not-not}
 use Rattle.plane.proofs.Conflicts.{clear_misses}
 use Rattle.plane.proofs.Edges.{edge_of}
-use Rattle.plane.proofs.FreeSegments.{misses_turned}
+use Rattle.plane.proofs.FreeSegments.{misses_reversed}
 use Rattle.plane.proofs.Identities.{lift, same, ◌⊠◌}
-use Rattle.plane.proofs.PointOrder.{order-self-null, order-turned, rising-direction}
+use Rattle.plane.proofs.PointOrder.{order-reversed, order-self-null, rising-direction}
 use Rattle.plane.proofs.Points.{same_point-true}
-use Rattle.plane.proofs.Products.{cross-agree, cross-self, cross-turned, direction-back, dot-east, dot2, lift2, plucker-agree, plucker-dot-agree}
+use Rattle.plane.proofs.Products.{cross-agree, cross-reversed, cross-self, direction-back, dot-east, dot2, lift2, plucker-agree, plucker-dot-agree}
 use Rattle.plane.proofs.RayCrossings.{cross-east, east-direction, sector-east}
-use Rattle.plane.proofs.Signs.{agree, agree-products, all, all-out, all2, all2-out, all4, all4-out, imp, imp-out, same_bool, same_bool-true, sign-turned, times, times-plus}
+use Rattle.plane.proofs.Signs.{agree, agree-products, all, all-out, all2, all2-out, all4, all4-out, imp, imp-out, same_bool, same_bool-true, sign-reversed, times, times-plus}
 use Rattle.winding.proofs.ConflictFree.{off_away, rising_in, split_off}
 use Rattle.winding.proofs.Members.{in-filter, in-passes, pairs-filter, pairs-weaker, total-filter, total-same}
 use Rattle.winding.proofs.OddSides.{differ-parity, no_same_way_from, no_same_way_to, runs_from, runs_to, same-parity, spokes-is}
@@ -124,7 +124,7 @@ turns_either a b sa sb n =
     let c = all2-out (either_2 (sign a.x) (sign a.y) (sign b.x) (sign b.y)) (all4-out (λ ax ay bx by. all2 (either_2 ax ay bx by)) either_computes (sign a.x) (sign a.y) (sign b.x) (sign b.y)) (sign (cross a b)) (sign (dot a b)) in
     let d = agree-dot a b in
     let e = same_bool-true _ _ (imp-out _ _ (imp-out _ _ (imp-out _ _ (imp-out _ _ (imp-out _ _ c (cross-agree a b)) d) n) sa) sb) in
-    let f = sign-turned (cross a b) (cross b a) (cross-turned a b) in
+    let f = sign-reversed (cross a b) (cross b a) (cross-reversed a b) in
     turns-is a b ∙ e ∙ ap (λ s. not (eqb (sector_by (sign a.x) (sign a.y) (sign b.x) (sign b.y) s) 1)) (sym f) ∙ ap not (sym (turns-is b a))
 
 -- ---- the edges at a point
@@ -133,7 +133,7 @@ way v t = from_to v (other_end v t)
 
 way-set-by : (v : Vector) (t : Edge) (b c : Bool) → same_point v t.from ≡ b → same_point v t.to ≡ c → (b || c) ≡ true → IsRising t → not (is_null (order v (cond b t.to t.from))) ≡ true
 way-set-by v t true c h k o r = ap (λ s. not (is_null s)) (subst (λ w. order w t.to ≡ Plus) (sym (same_point-true v t.from h)) r)
-way-set-by v t false true h k o r = ap (λ s. not (is_null s)) (order-turned t.from v ∙ ap negated (subst (λ w. order t.from w ≡ Plus) (sym (same_point-true v t.to k)) r))
+way-set-by v t false true h k o r = ap (λ s. not (is_null s)) (order-reversed t.from v ∙ ap negated (subst (λ w. order t.from w ≡ Plus) (sym (same_point-true v t.to k)) r))
 way-set-by v t false false h k o r = absurd (cc o)
 
 pub way-set : (v : Vector) (t : Edge) → ends_at v t ≡ true → IsRising t → is_set (way v t) ≡ true
@@ -149,7 +149,7 @@ way-direction v t h r = way-direction-by v t (same_point v t.from) (same_point v
 
 misses-way-by : (v : Vector) (s t : Edge) (b c : Bool) → same_point v s.from ≡ b → same_point v s.to ≡ c → (b || c) ≡ true → Misses s.from s.to t → Misses v (cond b s.to s.from) t
 misses-way-by v s t true c h k o m = subst (λ w. Misses w s.to t) (sym (same_point-true v s.from h)) m
-misses-way-by v s t false true h k o m = subst (λ w. Misses w s.from t) (sym (same_point-true v s.to k)) (misses_turned s.from s.to t m)
+misses-way-by v s t false true h k o m = subst (λ w. Misses w s.from t) (sym (same_point-true v s.to k)) (misses_reversed s.from s.to t m)
 misses-way-by v s t false false h k o m = absurd (cc o)
 
 pub misses-way : (v : Vector) (s t : Edge) → ends_at v s ≡ true → Misses s.from s.to t → Misses v (other_end v s) t

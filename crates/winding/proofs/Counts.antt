@@ -8,7 +8,7 @@ use Rattle.plane.specs.RayCrossing.{down_crossing, is_crossed, up_crossing}
 use Rattle.plane.specs.Sign.{sign}
 use Rattle.plane.specs.Vector.{Vector, cross, east, from_to}
 use Rattle.winding.specs.EdgeList.{crossing_count}
-use Rattle.plane.proofs.RayCrossings.{crossing-bit, east-side, hits-left, hits_at}
+use Rattle.plane.proofs.RayCrossings.{crossing-bit, crossings-left, crossings_at, east-side}
 use Rattle.winding.proofs.Members.{in-all, total-same}
 use Rattle.winding.proofs.Sums.{total-is}
 
@@ -21,6 +21,6 @@ count-crossed d p es =
 
 pub count-right : (p : Vector) (es : List Edge) → All IsRising es → crossing_count east p es ≡ count_by (is_left_of p) es
 count-right p es r =
-    sym (total-is (hits_at east (from_to p)) es)
-    ∙ total-same (hits_at east (from_to p)) (λ (t : Edge). bit (is_left_of p t)) es (λ t i. hits-left east p t east-side (in-all IsRising es t r i))
+    sym (total-is (crossings_at east (from_to p)) es)
+    ∙ total-same (crossings_at east (from_to p)) (λ (t : Edge). bit (is_left_of p t)) es (λ t i. crossings-left east p t east-side (in-all IsRising es t r i))
     ∙ total-is (λ (t : Edge). bit (is_left_of p t)) es

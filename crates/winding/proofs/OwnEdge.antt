@@ -9,12 +9,12 @@ use Rattle.plane.specs.Vector.{IsDirection, Vector, cross, dot, from_to}
 use Rattle.winding.specs.ConflictFree.{IsConflictFree, others}
 use Rattle.winding.specs.EdgeList.{IsEvenAtPoints, crossing_count}
 use Rattle.winding.specs.Member.{In}
-use Rattle.plane.proofs.FreeSegments.{downs_compute, ups_compute}
+use Rattle.plane.proofs.FreeSegments.{down_compute, up_compute}
 use Rattle.plane.proofs.PointOrder.{rising-direction}
 use Rattle.plane.proofs.Products.{cross-here, cross-self, dot-chain, dot-here, frame-agree, frame-dot-agree}
-use Rattle.plane.proofs.Signs.{agree, all, all-out, all2-out, imp, imp-out, same_sign, same_sign-true, sign-turned, times, times-plus}
+use Rattle.plane.proofs.Signs.{agree, all, all-out, all2-out, imp, imp-out, same_sign, same_sign-true, sign-reversed, times, times-plus}
 use Rattle.plane.proofs.Views.{view_at}
-use Rattle.winding.proofs.AlongSegment.{off_all, same_hits}
+use Rattle.winding.proofs.AlongSegment.{off_all, same_crossings}
 use Rattle.winding.proofs.ConflictFree.{misses_others, rising_in, split_off}
 use Rattle.winding.proofs.Independence.{count-is, even-at-ends, in_sector_seen, sector_sum, total-ends}
 use Rattle.winding.proofs.Sums.{total-+}
@@ -74,7 +74,7 @@ module _ (d : Vector) (hd : IsDirection d) (s : Edge) (es : List Edge) (pl : IsC
 
     back-minus : sign (dot along (from_to p s.from)) ≡ Minus
     back-minus =
-        sign-turned (dot along (from_to s.from p)) (dot along (from_to p s.from)) (dot-chain along s.from p s.from ∙ dot-here along s.from) ∙ ap negated b.after_s
+        sign-reversed (dot along (from_to s.from p)) (dot along (from_to p s.from)) (dot-chain along s.from p s.from ∙ dot-here along s.from) ∙ ap negated b.after_s
 
     -- the others, with what the ends of s add
     others-parity : (crossing_count d p (others s es) + crossing_count along p (others s es)) % 2 ≡ (in_sector d along (from_to p s.from) + in_sector d along (from_to p s.to)) % 2
@@ -94,7 +94,7 @@ module _ (d : Vector) (hd : IsDirection d) (s : Edge) (es : List Edge) (pl : IsC
       let x = others-parity p b in let y = others-parity q c in
       let f = same-sector d along (from_to p s.from) (from_to q s.from) along-direction (back-null p b) (back-null q c) (back-minus p b ∙ sym (back-minus q c)) in
       let g = same-sector d along (from_to p s.to) (from_to q s.to) along-direction (on-null p b) (on-null q c) (b.before_t ∙ sym c.before_t) in
-      let k = same_hits up_by ups_compute s.from s.to (from_to p) (from_to q) v w os (misses_others s es pl i) in
-      let l = same_hits down_by downs_compute s.from s.to (from_to p) (from_to q) v w os (misses_others s es pl i) in
+      let k = same_crossings up_by up_compute s.from s.to (from_to p) (from_to q) v w os (misses_others s es pl i) in
+      let l = same_crossings down_by down_compute s.from s.to (from_to p) (from_to q) v w os (misses_others s es pl i) in
       let m = count-is along (from_to p) os in let n = count-is along (from_to q) os in
       omega arith

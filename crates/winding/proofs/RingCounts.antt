@@ -12,8 +12,8 @@ use Rattle.winding.specs.Member.{EachPair, In}
 use Rattle.winding.specs.OddSide.{directed, directed_edge, runs_up}
 use Rattle.winding.specs.Ring.{IsPath, IsRing, segments_of}
 use Rattle.plane.proofs.Points.{same_point-true}
-use Rattle.plane.proofs.Products.{cross-neg}
-use Rattle.plane.proofs.RayCrossings.{down_seen, hits_at, up_seen}
+use Rattle.plane.proofs.Products.{cross-negated}
+use Rattle.plane.proofs.RayCrossings.{crossings_at, down_seen, up_seen}
 use Rattle.plane.proofs.Signs.{all4-out, both, left-out, right-out, same_bool}
 use Rattle.winding.proofs.Balance.{bit-back, directed_balanced}
 use Rattle.winding.proofs.Levels.{signed_parity}
@@ -138,23 +138,23 @@ ring_keeps es r p x y i j = first-keeps es r p r.start r.start es r.path (λ z l
 abbrev turn_1 : Sign → Sign → Sign → Sign → Bool
 turn_1 a b c d = both (eqb (up_by b a (negated c)) (down_by a b c)) (eqb (down_by b a (negated c)) (up_by a b c))
 
-pub turned-hits : (d : Vector) (r : Vector → Vector) (e : Edge) → (up_seen d r (reversed e) ≡ down_seen d r e) × (down_seen d r (reversed e) ≡ up_seen d r e)
-turned-hits d r e =
+pub reversed-crossings : (d : Vector) (r : Vector → Vector) (e : Edge) → (up_seen d r (reversed e) ≡ down_seen d r e) × (down_seen d r (reversed e) ≡ up_seen d r e)
+reversed-crossings d r e =
     let a = sign (cross d (r e.from)) in let b = sign (cross d (r e.to)) in let c = sign (cross (r e.from) (r e.to)) in
     let h = all4-out turn_1 refl a b c Null in
-    let n = cross-neg (r e.from) (r e.to) in (
+    let n = cross-negated (r e.from) (r e.to) in (
       ap (λ s. up_by b a s) n ∙ eqb-true _ _ (left-out (eqb (up_by b a (negated c)) (down_by a b c)) (eqb (down_by b a (negated c)) (up_by a b c)) h),
       ap (λ s. down_by b a s) n ∙ eqb-true _ _ (right-out (eqb (up_by b a (negated c)) (down_by a b c)) (eqb (down_by b a (negated c)) (up_by a b c)) h),
     )
 
-raise-hits : (d : Vector) (r : Vector → Vector) (b : Bool) (e : Edge) → hits_at d r (cond b e (reversed e)) ≡ hits_at d r e
-raise-hits d r true e = refl
-raise-hits d r false e = let h = turned-hits d r e in let x = h.0 in let y = h.1 in omega arith
+segment-crossings : (d : Vector) (r : Vector → Vector) (b : Bool) (e : Edge) → crossings_at d r (cond b e (reversed e)) ≡ crossings_at d r e
+segment-crossings d r true e = refl
+segment-crossings d r false e = let h = reversed-crossings d r e in let x = h.0 in let y = h.1 in omega arith
 
-pub raised-crossings : (d p : Vector) (es : List Edge) → crossing_count d p (segments_of es) ≡ crossing_count d p es
-raised-crossings d p es =
-    sym (total-is (hits_at d (from_to p)) (segments_of es)) ∙ total-map (hits_at d (from_to p)) segment_of es
-    ∙ total-same (λ e. hits_at d (from_to p) (segment_of e)) (hits_at d (from_to p)) es (λ e i. raise-hits d (from_to p) (is_plus (order e.from e.to)) e) ∙ total-is (hits_at d (from_to p)) es
+pub segments-crossings : (d p : Vector) (es : List Edge) → crossing_count d p (segments_of es) ≡ crossing_count d p es
+segments-crossings d p es =
+    sym (total-is (crossings_at d (from_to p)) (segments_of es)) ∙ total-map (crossings_at d (from_to p)) segment_of es
+    ∙ total-same (λ e. crossings_at d (from_to p) (segment_of e)) (crossings_at d (from_to p)) es (λ e i. segment-crossings d (from_to p) (is_plus (order e.from e.to)) e) ∙ total-is (crossings_at d (from_to p)) es
 
 -- the signed count of a ring whose edges the odd side directs as the ring does (k), or the other way
 pub ring_count : (es : List Edge) → IsRing es → IsConflictFree (segments_of es) → (k : Bool) → ((e : Edge) → In e es → keeps es e ≡ k) → (p : Vector) →
@@ -166,12 +166,12 @@ ring_count es r pl true h p =
     let b = sym (total-is g (directed (segments_of es))) ∙ total-map g (directed_edge (segments_of es)) (segments_of es) ∙ total-map (λ e. g (directed_edge (segments_of es) e)) segment_of es in
     let c = total-same (λ e. f (directed_edge (segments_of es) (segment_of e))) f es (λ e i. ap f (direct-is es e ∙ ap (λ k. cond k e (reversed e)) (h e i))) in
     let d = total-same (λ e. g (directed_edge (segments_of es) (segment_of e))) g es (λ e i. ap g (direct-is es e ∙ ap (λ k. cond k e (reversed e)) (h e i))) in
-    let x = total-is f es in let y = total-is g es in let z = raised-crossings east p es in omega arith
+    let x = total-is f es in let y = total-is g es in let z = segments-crossings east p es in omega arith
 ring_count es r pl false h p =
     let s = signed_parity p (segments_of es) pl (ring-even es r) in
     let f = up_seen east (from_to p) in let g = down_seen east (from_to p) in
     let a = sym (total-is f (directed (segments_of es))) ∙ total-map f (directed_edge (segments_of es)) (segments_of es) ∙ total-map (λ e. f (directed_edge (segments_of es) e)) segment_of es in
     let b = sym (total-is g (directed (segments_of es))) ∙ total-map g (directed_edge (segments_of es)) (segments_of es) ∙ total-map (λ e. g (directed_edge (segments_of es) e)) segment_of es in
-    let c = total-same (λ e. f (directed_edge (segments_of es) (segment_of e))) g es (λ e i. ap f (direct-is es e ∙ ap (λ k. cond k e (reversed e)) (h e i)) ∙ (turned-hits east (from_to p) e).0) in
-    let d = total-same (λ e. g (directed_edge (segments_of es) (segment_of e))) f es (λ e i. ap g (direct-is es e ∙ ap (λ k. cond k e (reversed e)) (h e i)) ∙ (turned-hits east (from_to p) e).1) in
-    let x = total-is f es in let y = total-is g es in let z = raised-crossings east p es in omega arith
+    let c = total-same (λ e. f (directed_edge (segments_of es) (segment_of e))) g es (λ e i. ap f (direct-is es e ∙ ap (λ k. cond k e (reversed e)) (h e i)) ∙ (reversed-crossings east (from_to p) e).0) in
+    let d = total-same (λ e. g (directed_edge (segments_of es) (segment_of e))) f es (λ e i. ap g (direct-is es e ∙ ap (λ k. cond k e (reversed e)) (h e i)) ∙ (reversed-crossings east (from_to p) e).1) in
+    let x = total-is f es in let y = total-is g es in let z = segments-crossings east p es in omega arith
