@@ -1,7 +1,7 @@
 -- Outer and inner rings and direct enclosure, from tests of them; and what the rings of a polygon cover.
 use Rattle.std.proofs.Common.{Bool, List, [], ap, arith, false, inl, inr, map, not, subst, sym, true, ℕ, ◌&&◌, ◌+◌, ◌∙◌, ◌∷◌, ◌≡◌, ◌≤◌, ◌⊎◌}
 use Rattle.std.specs.List.{count_by, filter}
-use borrow.Author.Differences.{down, ints, up}
+use borrow.Author.Differences.{ints}
 use lib.IntN.{pos}
 use Rattle.nesting.specs.Cover.{AreClear, covers}
 use Rattle.nesting.specs.Nesting.{EnclosesDirectly, IsInnerRing, IsNest, IsOuterRing, TellsOuter, edges_of, encloses, is_outer}
@@ -17,14 +17,13 @@ use Rattle.winding.specs.Member.{EachPair, In}
 use Rattle.winding.specs.Ring.{IsAnchor, segments_of}
 use Rattle.nesting.proofs.DirectEnclosure.{at-most, clear-pairs, direct_exists, direct_once, in-edges-out, siblings}
 use Rattle.nesting.proofs.EnclosingSums.{enclosing_sums}
-use Rattle.nesting.proofs.Nests.{in-edges, nearest, odd-bit, plain-part, total-edges}
+use Rattle.nesting.proofs.Nests.{in-edges, odd-bit, plain-part, total-edges}
 use Rattle.nesting.proofs.OuterTests.{HasAnchors, IsDirectBy}
 use Rattle.nesting.proofs.RingLists.{nest-plain, pairs-of, ring_anchor, ring_list_nest}
 use Rattle.nesting.proofs.TwoLists.{clear-reversed}
 use Rattle.nesting.proofs.WoundRings.{area-sum}
 use Rattle.plane.proofs.Bools.{and-in, and-left, and-right, false-if-never}
 use Rattle.plane.proofs.Conflicts.{self_conflicts}
-use Rattle.plane.proofs.Identities.{apart}
 use Rattle.plane.proofs.RayCrossings.{down_seen, up_seen}
 use Rattle.winding.proofs.Anchors.{anchor_one, leftmost_anchor, leftmost_of}
 use Rattle.winding.proofs.ConflictFree.{rising_in}

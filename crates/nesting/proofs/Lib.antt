@@ -2,6 +2,7 @@ pub mod CoveredEdges
 pub mod DirectEnclosure
 pub mod DirectRings
 pub mod EnclosingSums
+pub mod Examples
 pub mod Nearest
 pub mod Nests
 pub mod OuterTests

@@ -7,7 +7,6 @@ use Rattle.plane.specs.Height.{is_right_above, order_above}
 use Rattle.plane.specs.Sign.{is_plus}
 use Rattle.winding.specs.Member.{In}
 use Rattle.winding.specs.Ring.{IsAnchor}
-use Rattle.nesting.proofs.Nests.{nearest}
 
 -- an anchor of each ring
 abbrev pub HasAnchors : List (List Edge) → Type 0

@@ -171,7 +171,7 @@ module _ (k : ℤ) (hk : sign k ≡ Plus) where
     long = λ r i. let q = in-map-out (scaled_edges k) rs r i in subst (λ w. 3 ≤ length w) (sym q.2) (subst (λ n. 3 ≤ n) (sym (length-map (scaled_edge k) q.0)) (l.long q.0 q.1));
     sided = subst IsSided (sym (edges-scaled rs)) (sided-scaled (edges_of rs) l.sided);
     free = pairs-map (scaled_edges k) (λ (r s : List Edge). DoNotCross (segments_of r) (segments_of s) × DoNotCross (segments_of s) (segments_of r))
-    (λ (r s : List Edge). DoNotCross (segments_of r) (segments_of s) × DoNotCross (segments_of s) (segments_of r)) rs (λ r s f. (free-scaled r s f.0, free-scaled s r f.1)) l.free;
+        (λ (r s : List Edge). DoNotCross (segments_of r) (segments_of s) × DoNotCross (segments_of s) (segments_of r)) rs (λ r s f. (free-scaled r s f.0, free-scaled s r f.1)) l.free;
   }
 
   -- ---- the anchor of a ring

@@ -233,9 +233,10 @@ pub inner_points_alike : (s t p q : Vector) (e : Edge) → IsBetween s t p → I
     (up_crossing (from_to s t) (from_to p e.from) (from_to p e.to) ≡ up_crossing (from_to s t) (from_to q e.from) (from_to q e.to))
     × (down_crossing (from_to s t) (from_to p e.from) (from_to p e.to) ≡ down_crossing (from_to s t) (from_to q e.from) (from_to q e.to))
 inner_points_alike s t p q e i j m =
-    let v = view_at s t p i in let w = view_at s t q j in
-    (crossings-by s t (from_to p) v e.from e.to up_by up_compute m ∙ sym (crossings-by s t (from_to q) w e.from e.to up_by up_compute m),
-    crossings-by s t (from_to p) v e.from e.to down_by down_compute m ∙ sym (crossings-by s t (from_to q) w e.from e.to down_by down_compute m))
+    let v = view_at s t p i in let w = view_at s t q j in (
+      crossings-by s t (from_to p) v e.from e.to up_by up_compute m ∙ sym (crossings-by s t (from_to q) w e.from e.to up_by up_compute m),
+      crossings-by s t (from_to p) v e.from e.to down_by down_compute m ∙ sym (crossings-by s t (from_to q) w e.from e.to down_by down_compute m),
+    )
 
 pub end_alike : (s t p : Vector) (e : Edge) → IsBetween s t p → Misses s t e → IsOffEdge s e →
     (up_crossing (from_to s t) (from_to p e.from) (from_to p e.to) ≡ up_crossing (from_to s t) (from_to s e.from) (from_to s e.to))

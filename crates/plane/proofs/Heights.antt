@@ -1,6 +1,6 @@
 -- Two edges that span a height: their order just above it, and that it persists where they don't conflict.
 use Rattle.std.proofs.Common.{Bool, ap, arith, false, not, refl, subst, sym, true, ◌&&◌, ◌∙◌, ◌≡◌}
-use borrow.Author.Differences.{ints, up}
+use borrow.Author.Differences.{ints}
 use lib.IntN.{pos, ℤ, ◌*ℤ◌, ◌+ℤ◌, ◌-ℤ◌}
 use Rattle.plane.specs.Conflict.{IsClearOf}
 use Rattle.plane.specs.Edge.{Edge}
@@ -143,10 +143,10 @@ module _ (e f : Edge) (he : sign (e.to.y -ℤ e.from.y) ≡ Plus) (hf : sign (f.
       let l : orient e.from e.to f.to ≡ negated (negated s) = on-second f.to (cross-here (from_to f.to f.from) f.to) ∙ ap negated y in
       let o1 = order e.from f.from in let o2 = order e.from f.to in let o3 = order e.to f.from in let o4 = order e.to f.to in
       let t =
-          ap (λ z. conflict_by z (orient e.from e.to f.to) (orient f.from f.to e.from) (orient f.from f.to e.to) o1 o2 o3 o4) k
-          ∙ ap (λ z. conflict_by (negated s) z (orient f.from f.to e.from) (orient f.from f.to e.to) o1 o2 o3 o4) l
-          ∙ ap (λ z. conflict_by (negated s) (negated (negated s)) z (orient f.from f.to e.to) o1 o2 o3 o4) i
-          ∙ ap (λ z. conflict_by (negated s) (negated (negated s)) s z o1 o2 o3 o4) j in
+      ap (λ z. conflict_by z (orient e.from e.to f.to) (orient f.from f.to e.from) (orient f.from f.to e.to) o1 o2 o3 o4) k
+      ∙ ap (λ z. conflict_by (negated s) z (orient f.from f.to e.from) (orient f.from f.to e.to) o1 o2 o3 o4) l
+      ∙ ap (λ z. conflict_by (negated s) (negated (negated s)) z (orient f.from f.to e.to) o1 o2 o3 o4) i
+      ∙ ap (λ z. conflict_by (negated s) (negated (negated s)) s z o1 o2 o3 o4) j in
       let r = conflicts-by e f ∙ t ∙ crossed-by s c o1 o2 o3 o4 in cc (sym clear ∙ r)
 
   low-end : (p w : Vector) → not (is_null (distance_at p)) ≡ true → same_sign slope (negated (distance_at p)) ≡ true → not (is_plus (sign (w.y -ℤ p.y))) ≡ true → distance_at w ≡ distance_at p

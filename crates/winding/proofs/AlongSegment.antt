@@ -13,7 +13,7 @@ use Rattle.plane.proofs.FreeSegments.{Sound, crossings-by, crossings_0, crossing
 use Rattle.plane.proofs.Identities.{same}
 use Rattle.plane.proofs.RayCrossings.{down_seen, up_seen}
 use Rattle.plane.proofs.Signs.{all4}
-use Rattle.plane.proofs.Views.{View, mid, mid_reversed, st, view_at, view_mid}
+use Rattle.plane.proofs.Views.{View, mid, mid_reversed, view_at, view_mid}
 use Rattle.winding.proofs.Independence.{IsOffSeen, count-is, crossing_count_seen, parity_independent, winding_independent}
 use Rattle.winding.proofs.RoundNode.{parity_round_node}
 use Rattle.winding.proofs.Sums.{total, total-is}

@@ -3,6 +3,7 @@ pub mod Anchors
 pub mod Balance
 pub mod ConflictFree
 pub mod Counts
+pub mod Examples
 pub mod Independence
 pub mod Levels
 pub mod Members
