@@ -16,7 +16,6 @@ use Rattle.winding.specs.Member.{In}
 use Rattle.winding.specs.OddSide.{directed}
 use Rattle.winding.specs.Ring.{IsRing, segments_of}
 use Rattle.winding.specs.Sided.{IsSided}
-use Rattle.nesting.proofs.Nearest.{meets}
 use Rattle.plane.proofs.Bools.{and-left, and-right}
 use Rattle.winding.proofs.RingCounts.{ring-even}
 use Rattle.winding.proofs.SidedLists.{directed_sided}

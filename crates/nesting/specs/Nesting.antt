@@ -61,4 +61,7 @@ pub record EnclosesDirectly (gs : List (List Edge)) (g h : List Edge) : Type 0 w
   pub edge : Edge
   pub belongs : In edge g
   pub right : is_right_above anchor.from anchor edge ≡ true
-  pub nearest : (k : List Edge) → In k gs → IsOuterRing gs k → encloses k anchor ≡ true → (f : Edge) → In f k → is_right_above anchor.from anchor f ≡ true → (f ≡ edge) ⊎ (is_plus (order_above anchor.from edge f) ≡ true)
+  pub nearest :
+      (k : List Edge) → In k gs → IsOuterRing gs k → encloses k anchor ≡ true →
+      (f : Edge) → In f k → is_right_above anchor.from anchor f ≡ true →
+      (f ≡ edge) ⊎ (is_plus (order_above anchor.from edge f) ≡ true)

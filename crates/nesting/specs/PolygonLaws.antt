@@ -15,22 +15,31 @@ use Rattle.winding.specs.ScaledEdges.{scaled_edges}
 
 -- a polygon goes once round the points that it covers, counterclockwise, and round no others
 abbrev pub PolygonWindsByCover : Type 0
-PolygonWindsByCover = (rs : List (List Edge)) → IsRingList rs → (g : Polygon) → IsPolygon rs g → (p : Vector) → winding_number east p (polygon_edges g) ≡ pos (bit (covers (polygon_edges g) p))
+PolygonWindsByCover =
+    (rs : List (List Edge)) → IsRingList rs → (g : Polygon) → IsPolygon rs g → (p : Vector) →
+    winding_number east p (polygon_edges g) ≡ pos (bit (covers (polygon_edges g) p))
 
 -- the same at the point p.x / k, p.y / k
 abbrev pub PolygonWindsByCoverAtFractions : Type 0
-PolygonWindsByCoverAtFractions = (k : ℤ) → sign k ≡ Plus → (rs : List (List Edge)) → IsRingList rs → (g : Polygon) → IsPolygon rs g → (p : Vector) →
+PolygonWindsByCoverAtFractions =
+    (k : ℤ) → sign k ≡ Plus → (rs : List (List Edge)) → IsRingList rs → (g : Polygon) → IsPolygon rs g →
+    (p : Vector) →
     winding_number east p (scaled_edges k (polygon_edges g)) ≡ pos (bit (covers (scaled_edges k (polygon_edges g)) p))
 
 -- exactly one of the polygons covers a point that the ring list covers, and none any other point
 abbrev pub PolygonsCoverAsRingList : Type 0
-PolygonsCoverAsRingList = (rs : List (List Edge)) → IsRingList rs → (gs : List Polygon) → ArePolygons rs gs → (p : Vector) → count_by (λ (g : Polygon). covers (polygon_edges g) p) gs ≡ bit (covers (edges_of rs) p)
+PolygonsCoverAsRingList =
+    (rs : List (List Edge)) → IsRingList rs → (gs : List Polygon) → ArePolygons rs gs → (p : Vector) →
+    count_by (λ (g : Polygon). covers (polygon_edges g) p) gs ≡ bit (covers (edges_of rs) p)
 
 -- the same at the point p.x / k, p.y / k
 abbrev pub PolygonsCoverAsRingListAtFractions : Type 0
-PolygonsCoverAsRingListAtFractions = (k : ℤ) → sign k ≡ Plus → (rs : List (List Edge)) → IsRingList rs → (gs : List Polygon) → ArePolygons rs gs → (p : Vector) →
+PolygonsCoverAsRingListAtFractions =
+    (k : ℤ) → sign k ≡ Plus → (rs : List (List Edge)) → IsRingList rs → (gs : List Polygon) →
+    ArePolygons rs gs → (p : Vector) →
     count_by (λ (g : Polygon). covers (scaled_edges k (polygon_edges g)) p) gs ≡ bit (covers (scaled_edges k (edges_of rs)) p)
 
 -- a multiplied ring list is a ring list
 abbrev pub ScaledIsRingList : Type 0
-ScaledIsRingList = (k : ℤ) → sign k ≡ Plus → (rs : List (List Edge)) → IsRingList rs → IsRingList (scaled_rings k rs)
+ScaledIsRingList =
+    (k : ℤ) → sign k ≡ Plus → (rs : List (List Edge)) → IsRingList rs → IsRingList (scaled_rings k rs)
