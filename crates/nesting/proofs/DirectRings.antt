@@ -46,7 +46,7 @@ pairs-unmap : {X Y : Type 0} (f : X → Y) (R : Y → Y → Type 0) (xs : List X
 pairs-unmap f R [] h = tt
 pairs-unmap f R (x ∷ xs) h = (all-in (λ y. R (f x) (f y)) xs (λ y i. in-all (R (f x)) (map f xs) (f y) h.0 (in-map f xs y i)), pairs-unmap f R xs h.1)
 
-abbrev clear-rings : List Edge → List Edge → Type 0
+abbrev pub clear-rings : List Edge → List Edge → Type 0
 clear-rings r s = AreClear (segments_of r) (segments_of s)
 
 either-clear : (r s : List Edge) → (r ≡ s) ⊎ (clear-rings r s ⊎ clear-rings s r) → (r ≡ s) ⊎ (clear-rings r s)
@@ -113,11 +113,11 @@ module _ (rs : List (List Edge)) (l : IsRingList rs) where
   }
 
   -- two rings are one, or clear of each other
-  same_or_clear : (r s : List Edge) → In r rs → In s rs → (r ≡ s) ⊎ (AreClear (segments_of r) (segments_of s))
+  pub same_or_clear : (r s : List Edge) → In r rs → In s rs → (r ≡ s) ⊎ (AreClear (segments_of r) (segments_of s))
   same_or_clear r s i j =
       either-clear r s (pairs-of clear-rings rs r s (pairs-unmap segments_of AreClear rs (clear-pairs rings (nest-plain rs l))) i j)
 
-  ring-plain : (r : List Edge) → In r rs → IsConflictFree (segments_of r)
+  pub ring-plain : (r : List Edge) → In r rs → IsConflictFree (segments_of r)
   ring-plain r i = plain-part rings (segments_of r) (nest-plain rs l) (in-map segments_of rs r i)
 
   one-ring-by : (r s : List Edge) → In r rs → segments_of r ≡ segments_of s → (r ≡ s) ⊎ (AreClear (segments_of r) (segments_of s)) → r ≡ s

@@ -13,6 +13,7 @@ pub mod RationalPoints
 pub mod RingLists
 pub mod Rotations
 pub mod ScaledRings
+pub mod SidedPolygons
 pub mod Stacks
 pub mod Stretches
 pub mod Successors

@@ -12,6 +12,7 @@ use Rattle.plane.specs.Sign.{Plus, sign}
 use Rattle.plane.specs.Vector.{Vector, east}
 use Rattle.winding.specs.EdgeList.{winding_number}
 use Rattle.winding.specs.ScaledEdges.{scaled_edges}
+use Rattle.winding.specs.Sided.{IsSided}
 
 -- a polygon goes once round the points that it covers, counterclockwise, and round no others
 abbrev pub PolygonWindsByCover : Type 0
@@ -43,3 +44,8 @@ PolygonsCoverAsRingListAtFractions =
 abbrev pub ScaledIsRingList : Type 0
 ScaledIsRingList =
     (k : ℤ) → sign k ≡ Plus → (rs : List (List Edge)) → IsRingList rs → IsRingList (scaled_rings k rs)
+
+-- a polygon is a sided list
+abbrev pub PolygonIsSided : Type 0
+PolygonIsSided =
+    (rs : List (List Edge)) → IsRingList rs → (g : Polygon) → IsPolygon rs g → IsSided (polygon_edges g)

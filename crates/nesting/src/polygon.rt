@@ -1,10 +1,11 @@
 //! Polygons: an outer ring with the inner rings that it directly encloses.
-ghost use Rattle.nesting.specs.PolygonLaws.{PolygonWindsByCover, PolygonWindsByCoverAtFractions, PolygonsCoverAsRingList, PolygonsCoverAsRingListAtFractions, ScaledIsRingList};
+ghost use Rattle.nesting.specs.PolygonLaws.{PolygonWindsByCover, PolygonWindsByCoverAtFractions, PolygonsCoverAsRingList, PolygonsCoverAsRingListAtFractions, PolygonIsSided, ScaledIsRingList};
 
-/// The winding number of a polygon is 1 where it covers a point and 0 elsewhere.
+/// The winding number of a polygon is 1 where it covers a point and 0 elsewhere; so it is a sided list itself.
 pub fn polygon_winds_by_cover()
     ensures winding { PolygonWindsByCover }
     ensures winding_at_fractions { PolygonWindsByCoverAtFractions }
+    ensures sided { PolygonIsSided }
 {}
 
 /// Polygons that have each edge of a ring list once cover together what the ring list covers, and no point twice.
