@@ -1,0 +1,3 @@
+pub mod OnceLemmas
+pub mod RefLemmas
+pub mod SegmentLemmas

@@ -1,0 +1,4 @@
+pub mod Once
+pub mod MemberWays
+pub mod Missing
+pub mod Segments
