@@ -107,10 +107,10 @@ module _ {X : Type 0} {eq : X → X → Bool} (equal : IsEquivalence eq) where
       and-turned false false = refl
 
 -- an insert that adds nothing was of a key that is there
-pub there_from : (r there : Bool) → r ≡ not there → not r ≡ true → there ≡ true
+pub there_from : (r there : Bool) → r ≡ not there → r ≡ false → there ≡ true
 there_from r true e h = refl
 there_from r false e h = absurd (cc)
 
-pub absent_from : (r there : Bool) → r ≡ not there → not r ≡ false → there ≡ false
+pub absent_from : (r there : Bool) → r ≡ not there → r ≡ true → there ≡ false
 absent_from r true e h = absurd (cc)
 absent_from r false e h = refl
