@@ -97,7 +97,7 @@ module _ {X : Type 0} {eq : X → X → Bool} (equal : IsEquivalence eq) where
       let taken : take (i + 1) xs ≡ take i xs ++ x ∷ [] = take_more xs i x h ∙ ap (λ y. take i xs ++ y ∷ []) (sym is) in
       let in_it : b ≡ list_any (eq x) (each_once eq (take i xs)) = sym there ∙ ap (list_any (eq x)) once in
       let turned : cond (b && eq x q) true (old q) ≡ cond (eq q x && list_any (eq x) (each_once eq (take i xs))) true (old q) =
-          ap (λ d. cond (d && eq x q) true (old q)) in_it ∙ (ap (λ e. cond (list_any (eq x) (each_once eq (take i xs)) && e) true (old q)) (equal.symm x q) ∙ ap (λ d. cond d true (old q)) (and-turned (list_any (eq x) (each_once eq (take i xs))) (eq q x))) in
+      ap (λ d. cond (d && eq x q) true (old q)) in_it ∙ (ap (λ e. cond (list_any (eq x) (each_once eq (take i xs)) && e) true (old q)) (equal.symm x q) ∙ ap (λ d. cond d true (old q)) (and-turned (list_any (eq x) (each_once eq (take i xs))) (eq q x))) in
       after q ∙ (turned ∙ (again_push (take i xs) x old inv q ∙ ap (λ ys. nat_le 2 (count_by (eq q) ys)) (sym taken)))
     where
       and-turned : (d e : Bool) → (d && e) ≡ (e && d)

@@ -23,10 +23,10 @@ kinds Relation Relation = refl
 same_ref-is : (r s : ObjectRef) → ref_eq.ghosts.eq r s ≡ same_ref r s
 same_ref-is r s = ap (λ k. k && int_eq r.id s.id) (kinds r.kind s.kind)
 
-filter-same : {X : Type 0} (p q : X → Bool) → ((x : X) → p x ≡ q x) → (xs : List X) → filter p xs ≡ filter q xs
-filter-same p q same [] = refl
-filter-same p q same (x ∷ xs) = rw (same x, filter-same p q same xs) refl
+pub filter_same : {X : Type 0} (p q : X → Bool) → ((x : X) → p x ≡ q x) → (xs : List X) → filter p xs ≡ filter q xs
+filter_same p q same [] = refl
+filter_same p q same (x ∷ xs) = rw (same x, filter_same p q same xs) refl
 
 pub each_once_refs : (refs : List ObjectRef) → each_once ref_eq.ghosts.eq refs ≡ each_once same_ref refs
 each_once_refs [] = refl
-each_once_refs (r ∷ refs) = ap (λ rs. r ∷ rs) (ap (filter (λ s. not (ref_eq.ghosts.eq r s))) (each_once_refs refs) ∙ filter-same (λ s. not (ref_eq.ghosts.eq r s)) (λ s. not (same_ref r s)) (λ s. ap not (same_ref-is r s)) (each_once same_ref refs))
+each_once_refs (r ∷ refs) = ap (λ rs. r ∷ rs) (ap (filter (λ s. not (ref_eq.ghosts.eq r s))) (each_once_refs refs) ∙ filter_same (λ s. not (ref_eq.ghosts.eq r s)) (λ s. not (same_ref r s)) (λ s. ap not (same_ref-is r s)) (each_once same_ref refs))

@@ -53,3 +53,26 @@ module _ (p q : Loc) where
   pub made : (r : Option Seg) → IsMade p q r → r ≡ segment_between p q
   unfolding segment_between
   made r is = made_by r is (loc_cmp p q) (loc_cmp q p) refl refl
+
+-- the segment between the ends of one is that segment, whichever comes first
+before_by : (s : Seg) (forth back : Ordering) (before : loc_cmp s.a s.b ≡ forth) (after : loc_cmp s.b s.a ≡ back) → segment_by s.a s.b forth back before after ≡ Some s
+before_by s Less back before after = ap Some (seg_from_ends (record { a = s.a; b = s.b; rising = before }) s refl refl)
+before_by s Equal back before after = let less = s.rising in absurd (cc)
+before_by s Greater back before after = let less = s.rising in absurd (cc)
+
+after_by : (s : Seg) (forth back : Ordering) (before : loc_cmp s.b s.a ≡ forth) (after : loc_cmp s.a s.b ≡ back) → segment_by s.b s.a forth back before after ≡ Some s
+after_by s Less back before after = let greater = back-of s.a s.b Less s.rising in absurd (cc)
+after_by s Equal Less before after = ap Some (seg_from_ends (record { a = s.a; b = s.b; rising = after }) s refl refl)
+after_by s Greater Less before after = ap Some (seg_from_ends (record { a = s.a; b = s.b; rising = after }) s refl refl)
+after_by s Equal Equal before after = let less = s.rising in absurd (cc)
+after_by s Equal Greater before after = let less = s.rising in absurd (cc)
+after_by s Greater Equal before after = let less = s.rising in absurd (cc)
+after_by s Greater Greater before after = let less = s.rising in absurd (cc)
+
+pub segment-forth : (s : Seg) → segment_between s.a s.b ≡ Some s
+unfolding segment_between
+segment-forth s = before_by s (loc_cmp s.a s.b) (loc_cmp s.b s.a) refl refl
+
+pub segment-back : (s : Seg) → segment_between s.b s.a ≡ Some s
+unfolding segment_between
+segment-back s = after_by s (loc_cmp s.b s.a) (loc_cmp s.a s.b) refl refl

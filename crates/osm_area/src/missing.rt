@@ -31,11 +31,7 @@ fn add_missing_nodes(
 }
 
 // Adds what a way lacks.
-fn add_missing(
-    missing: &mut Vec<ObjectRef>,
-    store: &Store,
-    way: i64,
-) -> Result<(), AllocError>
+fn add_missing(missing: &mut Vec<ObjectRef>, store: &Store, way: i64) -> Result<(), AllocError>
     ensures { OnOk result (missing.new.items ≡ missing.old.items ++ way_missing store.now way) }
 {
     match store.way(way) {
@@ -50,11 +46,7 @@ fn add_missing(
     }
 }
 
-fn all_missing(
-    alloc: Global,
-    store: &Store,
-    ways: &[i64],
-) -> Result<Vec<ObjectRef>, AllocError>
+fn all_missing(alloc: Global, store: &Store, ways: &[i64]) -> Result<Vec<ObjectRef>, AllocError>
     ensures { IfOk result (λ v. v.items ≡ flat_map (way_missing store.now) ways.now) }
 {
     let mut missing = Vec::new(alloc);

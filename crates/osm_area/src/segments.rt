@@ -37,7 +37,9 @@ fn path_of(alloc: Global, store: &Store, way: i64) -> Result<Vec<Loc>, AllocErro
 fn located(alloc: Global, store: &Store, refs: &[i64]) -> Result<Vec<Loc>, AllocError>
     ensures { IfOk result (λ v. v.items ≡ filter_map (location_of store.now) refs.now) }
 {
-    refs.iter().filter_map(|id| store.location(*id)).collect(alloc)
+    refs.iter()
+        .filter_map(|id| store.location(*id))
+        .collect(alloc)
 }
 
 // Adds the segments of a way.
