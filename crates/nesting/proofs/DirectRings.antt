@@ -42,7 +42,7 @@ tells-by gs (x ∷ xs) p a h = ap (is_outer gs) (anchor_one (leftmost_of x xs) a
 pub outer_test_tells : (gs : List (List Edge)) → IsConflictFree (edges_of gs) → TellsOuter gs (outer_test gs)
 outer_test_tells gs p g i a h = tells-by gs g (plain-part gs g p i) a h
 
-pairs-unmap : {X Y : Type 0} (f : X → Y) (R : Y → Y → Type 0) (xs : List X) → EachPair R (map f xs) → EachPair (λ x y. R (f x) (f y)) xs
+pub pairs-unmap : {X Y : Type 0} (f : X → Y) (R : Y → Y → Type 0) (xs : List X) → EachPair R (map f xs) → EachPair (λ x y. R (f x) (f y)) xs
 pairs-unmap f R [] h = tt
 pairs-unmap f R (x ∷ xs) h = (all-in (λ y. R (f x) (f y)) xs (λ y i. in-all (R (f x)) (map f xs) (f y) h.0 (in-map f xs y i)), pairs-unmap f R xs h.1)
 
@@ -76,7 +76,7 @@ module _ (rs : List (List Edge)) (l : IsRingList rs) where
   pub inner-out : (h : List Edge) → In h rings → IsInnerRing rings h → is_outer_by h ≡ false
   inner-out h i o = rings-tell h i o.anchor o.anchors ∙ o.up
 
-  outer-in : (g : List Edge) → In g rings → is_outer_by g ≡ true → IsOuterRing rings g
+  pub outer-in : (g : List Edge) → In g rings → is_outer_by g ≡ true → IsOuterRing rings g
   outer-in g i o = let a = rings-anchors g i in record { anchor = a.0; anchors = a.1; down = sym (rings-tell g i a.0 a.1) ∙ o }
 
   abbrev chosen : Edge → List Edge → Bool

@@ -8,6 +8,7 @@ pub mod Nests
 pub mod OuterTests
 pub mod Parts
 pub mod Pieces
+pub mod PolygonLists
 pub mod Polygons
 pub mod RationalPoints
 pub mod RingLists

@@ -49,3 +49,7 @@ ScaledIsRingList =
 abbrev pub PolygonIsSided : Type 0
 PolygonIsSided =
     (rs : List (List Edge)) → IsRingList rs → (g : Polygon) → IsPolygon rs g → IsSided (polygon_edges g)
+
+-- every ring list has its polygons
+abbrev pub PolygonsExist : Type 0
+PolygonsExist = (rs : List (List Edge)) → IsRingList rs → (gs : List Polygon) × ArePolygons rs gs

@@ -401,6 +401,17 @@ crossing-order p es pl = record {
       (pairs-filter IsClearOf (is_left_of p) es pl.clear);
 }
 
+-- the edges that span the height of p
+pub spanning-order : (p : Vector) (es : List Edge) → IsConflictFree es → IsOrder false (right_of p) (filter (is_in_span p) es)
+spanning-order p es pl = record {
+  itself = λ t i. right_itself p t;
+  chain = λ a b c i j k h g. right_chain p a b c (in-passes (is_in_span p) es a i) (in-passes (is_in_span p) es b j) (in-passes (is_in_span p) es c k) h g;
+  either = pairs-weaker IsClearOf (λ s t. right_of p s t ≡ not (right_of p t s)) (filter (is_in_span p) es)
+      (λ s t i j n. right_either p s t (right_apart p s t es pl (in-filter (is_in_span p) es s i) (in-filter (is_in_span p) es t j) n
+      (in-passes (is_in_span p) es t j) (in-passes (is_in_span p) es s i)))
+      (pairs-filter IsClearOf (is_in_span p) es pl.clear);
+}
+
 own-by : (s r : Bool) → r ≡ false → bit (s && r) ≡ 0
 own-by true r h = ap bit h
 own-by false r h = refl

@@ -3,6 +3,7 @@ pub mod ConflictFree
 pub mod CountLaws
 pub mod DirectionLaws
 pub mod EdgeList
+pub mod LevelLaws
 pub mod Member
 pub mod Node
 pub mod OddSide
