@@ -9,6 +9,8 @@ mod loc;
 mod meetings;
 mod orientation;
 mod seg;
+#[cfg(test)]
+mod tests;
 
 pub use conflicts::{Kind, conflict};
 pub use frac::{Frac, round};

@@ -1,5 +1,6 @@
 pub mod AlongSegmentLaws
 pub mod ConflictFree
+pub mod CountLaws
 pub mod DirectionLaws
 pub mod EdgeList
 pub mod Member

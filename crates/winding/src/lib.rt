@@ -6,6 +6,7 @@
 #![tactic(auto)]
 
 pub mod along_segment;
+pub mod count;
 pub mod direction;
 pub mod odd_side;
 pub mod rank;
