@@ -23,20 +23,19 @@ pub record Gathered (objects : List Object) (candidate : ObjectRef) (ways : List
   pub parts_are : parts ≡ missing objects candidate
   pub notes_are : notes ≡ map named_twice_note (ways_named_twice objects candidate)
 
--- `first` to `fourth` are the lists as they were lent to one call after the other
-pub gathered : (objects : List Object) (candidate : ObjectRef) (named first ways second third fourth : List ℤ) (parts : List ObjectRef) (notes : List Note)
-    → named ≡ named_ways objects candidate → first ≡ named → ways ≡ each_once int_eq first
-    → second ≡ named → third ≡ ways → notes ≡ map named_twice_note (filter (λ way. nat_le 2 (count_by (int_eq way) second)) third)
-    → fourth ≡ ways → parts ≡ each_once same_ref (flat_map (way_missing objects) fourth)
+-- `first` and `second` are the named ways as they were lent to two calls
+pub gathered : (objects : List Object) (candidate : ObjectRef) (named first distinct second ways : List ℤ) (parts : List ObjectRef) (notes : List Note)
+    → named ≡ named_ways objects candidate → first ≡ named → distinct ≡ each_once int_eq first → ways ≡ distinct
+    → second ≡ named → notes ≡ map named_twice_note (filter (λ way. nat_le 2 (count_by (int_eq way) second)) ways)
+    → parts ≡ each_once same_ref (flat_map (way_missing objects) ways)
     → Gathered objects candidate ways parts notes
-gathered objects candidate named first ways second third fourth parts notes n f w s t e o p =
+gathered objects candidate named first distinct second ways parts notes n f d w s e p =
     let all : second ≡ named_ways objects candidate = s ∙ n in
-    let are : ways ≡ member_ways objects candidate = w ∙ ap (each_once int_eq) (f ∙ n) in
-    let each : third ≡ member_ways objects candidate = t ∙ are in
+    let are : ways ≡ member_ways objects candidate = w ∙ (d ∙ ap (each_once int_eq) (f ∙ n)) in
     record {
       ways_are = are;
-      parts_are = p ∙ ap (λ ids. each_once same_ref (flat_map (way_missing objects) ids)) (o ∙ are);
-      notes_are = e ∙ (λ i. map named_twice_note (filter (λ way. nat_le 2 (count_by (int_eq way) (all i))) (each i)));
+      parts_are = p ∙ ap (λ ids. each_once same_ref (flat_map (way_missing objects) ids)) are;
+      notes_are = e ∙ (λ i. map named_twice_note (filter (λ way. nat_le 2 (count_by (int_eq way) (all i))) (are i)));
     }
 
 given_missing : (missing : List ObjectRef) (ways : List ℤ) (segments : List Seg) (list : List Problem) (notes : List Note)
@@ -57,13 +56,13 @@ nothing-of : {X : Type 0} (xs : List X) → length xs ≡ 0 → xs ≡ []
 nothing-of [] h = refl
 nothing-of (x ∷ xs) h = absurd (omega arith)
 
-pub complete_outcome : (objects : List Object) (candidate : ObjectRef) (ways lent : List ℤ) (parts : List ObjectRef) (notes : List Note) (segs passed : List Seg) (empty : Bool) (outcome : Outcome)
-    → Gathered objects candidate ways parts notes → IsTrue empty ↔ (length parts ≡ 0) → empty ≡ true → lent ≡ ways → segs ≡ flat_map (way_segments objects) lent → passed ≡ segs
+pub complete_outcome : (objects : List Object) (candidate : ObjectRef) (ways : List ℤ) (parts : List ObjectRef) (notes : List Note) (segs passed : List Seg) (empty : Bool) (outcome : Outcome)
+    → Gathered objects candidate ways parts notes → IsTrue empty ↔ (length parts ≡ 0) → empty ≡ true → segs ≡ flat_map (way_segments objects) ways → passed ≡ segs
     → ((ways : List ℤ) → notes ≡ map named_twice_note ways → IsOutcomeGiven [] ways passed outcome)
     → IsOutcome objects candidate outcome
-complete_outcome objects candidate ways lent parts notes segs passed empty outcome g test none l s p h =
+complete_outcome objects candidate ways parts notes segs passed empty outcome g test none s p h =
     let nothing : [] ≡ missing objects candidate = sym (nothing-of parts (test.0 none)) ∙ g.parts_are in
-    let same : passed ≡ segments_of objects candidate = p ∙ (s ∙ ap (flat_map (way_segments objects)) (l ∙ g.ways_are)) in
+    let same : passed ≡ segments_of objects candidate = p ∙ (s ∙ ap (flat_map (way_segments objects)) g.ways_are) in
     let Given : List ObjectRef → Type 0 = λ rs. IsOutcomeGiven rs (ways_named_twice objects candidate) (segments_of objects candidate) outcome in
     let With : List Seg → Type 0 = λ ss. IsOutcomeGiven [] (ways_named_twice objects candidate) ss outcome in
     subst Given nothing (subst With same (h (ways_named_twice objects candidate) g.notes_are))

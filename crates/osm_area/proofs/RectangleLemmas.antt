@@ -1,8 +1,8 @@
 -- The ring of a rectangle.
-use Rattle.std.proofs.Common.{◌≡◌, ◌∙◌, ℕ, suc, zero, Bool, true, false, ◌&&◌, List, [], ◌∷◌, length, map, refl, sym, ap, subst, arith, Some, int_eq, true≢false, lit<}
+use Rattle.std.proofs.Common.{◌≡◌, ◌∙◌, Bool, true, false, ◌&&◌, List, [], ◌∷◌, length, refl, sym, ap, Some, int_eq, true≢false, lit<}
 use Rattle.std.specs.declared.cmp.Ordering.{Ordering}
 use Rattle.std.specs.declared.cmp.Ordering.TheVariants.{Less, Equal, Greater}
-use Rattle.std.specs.Ordering.{int_cmp, is_eq, is_lt, ordering_then, ordering_reverse}
+use Rattle.std.specs.Ordering.{int_cmp, is_eq, ordering_then, ordering_reverse}
 use Rattle.std.specs.List.{IsDistinct}
 use Rattle.std.specs.List.Sorted.{IsPermutation}
 use Rattle.std.proofs.lemmas.Bool.Decides.{Decides-int_eq}
@@ -14,7 +14,7 @@ use Rattle.osm_geom.specs.Loc.{loc_cmp, IsBefore}
 use Rattle.osm_geom.proofs.Orders.{loc_same}
 use Rattle.osm_geom.proofs.LocationOrder.{loc_total}
 use Rattle.osm_area.specs.Segments.{segment_between}
-use Rattle.osm_area.specs.Ring.{same_location, rises, comes_down_leftmost, IsRingOf}
+use Rattle.osm_area.specs.Ring.{same_location, comes_down_leftmost, IsRingOf}
 use Rattle.osm_area.specs.Rectangle.{are_parallel, have_corners, are_sides, is_rectangle}
 use Rattle.osm_area.proofs.SegmentLemmas.{segment-forth, segment-back}
 

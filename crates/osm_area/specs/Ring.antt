@@ -1,5 +1,5 @@
 -- The ring that segments make.
-use Rattle.std.specs.Prelude.{◌≡◌, ⊤, Bool, true, false, not, ◌&&◌, ◌||◌, List, [], ◌∷◌, ◌++◌, map, take, drop, Some, All, IsTrue, pos}
+use Rattle.std.specs.Prelude.{⊤, Bool, false, not, ◌&&◌, ◌||◌, List, [], ◌∷◌, ◌++◌, map, take, drop, Some, All, IsTrue, pos}
 use Rattle.std.specs.List.{zip, IsDistinct}
 use Rattle.std.specs.List.Sorted.{IsPermutation}
 use Rattle.std.specs.Ordering.{int_cmp, is_eq, is_lt}

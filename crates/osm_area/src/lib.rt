@@ -10,6 +10,8 @@ mod outcome;
 mod problems;
 mod rectangle;
 mod segments;
+#[cfg(test)]
+mod tests;
 
 pub use lists::{Notes, Problems};
 pub use outcome::{Outcome, assemble};

@@ -21,10 +21,8 @@ fn add_missing_nodes(
 {
     for &id in refs {
         if store.location(id).is_none() {
-            missing.push(ObjectRef {
-                kind: ObjectKind::Node,
-                id,
-            })?;
+            let kind = ObjectKind::Node;
+            missing.push(ObjectRef { kind, id })?;
         }
     }
     Ok(())
@@ -37,10 +35,8 @@ fn add_missing(missing: &mut Vec<ObjectRef>, store: &Store, way: i64) -> Result<
     match store.way(way) {
         Some(found) => add_missing_nodes(missing, store, found.refs.as_slice()),
         None => {
-            missing.push(ObjectRef {
-                kind: ObjectKind::Way,
-                id: way,
-            })?;
+            let kind = ObjectKind::Way;
+            missing.push(ObjectRef { kind, id: way })?;
             Ok(())
         }
     }

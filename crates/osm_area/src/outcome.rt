@@ -56,13 +56,14 @@ pub fn assemble(alloc: Global, store: &Store, candidate: ObjectRef) -> Result<Ou
     ensures { IfOk result (λ outcome. IsOutcome store.now candidate outcome) }
 {
     let named = named_ways(alloc, store, candidate)?;
-    let ways = each_once(alloc, &named)?;
-    let notes = named_twice(alloc, &named, ways.as_slice())?;
-    let missing = missing(alloc, store, ways.as_slice())?;
+    let distinct = each_once(alloc, &named)?;
+    let ways = distinct.as_slice();
+    let notes = named_twice(alloc, &named, ways)?;
+    let missing = missing(alloc, store, ways)?;
     if !missing.is_empty() {
         let list = missing_problems(alloc, missing.as_slice())?;
         return Ok(Outcome::Problems { list, notes });
     }
-    let segs = segments(alloc, store, ways.as_slice())?;
+    let segs = segments(alloc, store, ways)?;
     complete(alloc, &segs, notes)
 }

@@ -1,4 +1,4 @@
-use Rattle.std.proofs.Common.{◌≡◌, ◌++◌, take, map, filter}
+use Rattle.std.proofs.Common.{◌≡◌, ◌++◌, take, map}
 use Rattle.osm_area.specs.Notes.{repeated_note}
 use Rattle.osm_area.proofs.notes.add_repeats.Given as goal
 

@@ -1,4 +1,4 @@
-use Rattle.std.proofs.Common.{◌≡◌, ◌++◌, take, map, filter}
+use Rattle.std.proofs.Common.{◌≡◌, ◌++◌, take, map}
 use Rattle.osm_area.specs.Problems.{conflict_problem}
 use Rattle.osm_area.proofs.problems.add_conflicts.Given as goal
 

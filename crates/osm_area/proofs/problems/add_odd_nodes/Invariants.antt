@@ -1,4 +1,4 @@
-use Rattle.std.proofs.Common.{◌≡◌, ◌++◌, take, map, filter}
+use Rattle.std.proofs.Common.{◌≡◌, ◌++◌, take, map}
 use Rattle.osm_area.specs.Problems.{odd_problem}
 use Rattle.osm_area.proofs.problems.add_odd_nodes.Given as goal
 

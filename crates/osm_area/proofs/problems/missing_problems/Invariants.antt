@@ -1,4 +1,4 @@
-use Rattle.std.proofs.Common.{◌≡◌, ◌++◌, take, map, filter}
+use Rattle.std.proofs.Common.{◌≡◌, take, map}
 use Rattle.osm_area.specs.Problems.{missing_problem}
 use Rattle.osm_area.proofs.problems.missing_problems.Given as goal
 

@@ -1,4 +1,4 @@
-use Rattle.std.proofs.Common.{◌≡◌, ◌∙◌, true, ◌&&◌, List, subst, sym, ap, ◌∷◌, []}
+use Rattle.std.proofs.Common.{◌≡◌, ◌∙◌, true, List, subst, sym, ◌∷◌, []}
 use Rattle.osm_geom.specs.declared.loc.Loc.{Loc}
 use Rattle.osm_area.specs.Ring.{IsRingOf}
 use Rattle.osm_area.specs.Rectangle.{are_sides}
