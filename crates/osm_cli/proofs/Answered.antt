@@ -108,7 +108,7 @@ bad_counted limit longest taken rest line fault bad (inr few) =
     let all : take limit taken ≡ taken = take_all limit taken (omega (arith, length-append taken rest)) in
     subst (λ (ls : List (List ℕ)). IsBadPlace longest ls line fault) (sym (within limit longest (taken ++ rest) few))
     (front_bad longest (λ part. nat_lt 0 (length part)) (λ part long. lt-ltb 0 (length part) (omega arith)) taken rest line fault
-      (subst (λ (xs : List ℕ). IsBadPlace longest (lines_begun longest xs) line fault) all bad))
+    (subst (λ (xs : List ℕ). IsBadPlace longest (lines_begun longest xs) line fault) all bad))
 bad_counted limit longest taken rest line fault bad (inl many) =
     let front : (more : List ℕ) × (take limit (taken ++ rest) ≡ take limit taken ++ more) = take_front limit taken rest in
     subst (λ (ls : List (List ℕ)). IsBadPlace longest ls line fault)
@@ -125,9 +125,11 @@ told_of limit longest taken rest now (Err (BadInput line fault)) left (inr bad) 
     subst (λ (xs : List ℕ). IsReadOf limit longest xs (Err (BadInput line fault))) (sym (ap (λ (ys : List ℕ). taken ++ ys) none ∙ append-nil taken))
     (subst (λ (ls : List (List ℕ)). IsBadPlace longest ls line fault) (sym (within limit longest taken bad.1)) bad.2)
 told_of limit longest taken rest now (Err (TooMuchInput most)) left answer =
-    let many : limit < length taken = answer.1 in
-    (answer.0, omega (arith, length-append taken rest),
-      subst (λ (xs : List ℕ). AreGood longest (lines_begun longest xs)) (sym (take-append-le limit taken rest (omega arith))) answer.2)
+    let many : limit < length taken = answer.1 in (
+      answer.0,
+      omega (arith, length-append taken rest),
+      subst (λ (xs : List ℕ). AreGood longest (lines_begun longest xs)) (sym (take-append-le limit taken rest (omega arith))) answer.2,
+    )
 told_of limit longest taken rest now (Err ReadFault) left answer = tt
 told_of limit longest taken rest now (Err OutOfMemory) left answer = tt
 

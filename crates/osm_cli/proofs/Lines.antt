@@ -158,9 +158,10 @@ pub good_with : (is_whole : Bool) (longest : ℕ) (bytes rest : List ℕ) (objec
     slice_split is_newline rest ≡ rest ∷ [] → last_counts is_whole longest rest ≡ true → line_fault longest objects rest ≡ None →
     more ≡ objects ++ objects_told (rest ∷ []) → IsRead longest (lines_counting is_whole longest bytes) (Ok more)
 good_with is_whole longest bytes rest objects more number p cut counts none is =
-    subst (λ (zs : List (List ℕ)). IsRead longest zs (Ok more)) (sym (last_line_is is_whole longest bytes rest objects number p cut counts))
-    (one_more_good longest p.lines rest p.good (subst (λ (os : List Object). line_fault longest os rest ≡ None) p.told none),
-      is ∙ ap (λ (os : List Object). os ++ objects_told (rest ∷ [])) p.told ∙ sym (one_more_told p.lines rest))
+    subst (λ (zs : List (List ℕ)). IsRead longest zs (Ok more)) (sym (last_line_is is_whole longest bytes rest objects number p cut counts)) (
+      one_more_good longest p.lines rest p.good (subst (λ (os : List Object). line_fault longest os rest ≡ None) p.told none),
+      is ∙ ap (λ (os : List Object). os ++ objects_told (rest ∷ [])) p.told ∙ sym (one_more_told p.lines rest),
+    )
 
 -- they are one, and bad
 pub bad_last : (is_whole : Bool) (longest : ℕ) (bytes rest : List ℕ) (objects : List Object) (number : ℕ) (e : ReadError) → Passed longest bytes rest objects number →

@@ -61,8 +61,8 @@ among_of_kind [] list is = subst (λ (ps : List Problem). All IsOfItsKind ps) (s
 among_of_kind (s ∷ survivors) list faults =
     subst (λ (ps : List Problem). All IsOfItsKind ps) (sym faults.whole)
     (All-append IsOfItsKind (map conflict_problem (conflicts_of (s ∷ survivors))) (map odd_problem faults.odd_nodes)
-      (All-map IsOfItsKind conflict_problem (conflicts_of (s ∷ survivors)) (conflicts_of_kind (s ∷ survivors)))
-      (All-map IsOfItsKind odd_problem faults.odd_nodes (λ k d lt. tt)))
+    (All-map IsOfItsKind conflict_problem (conflicts_of (s ∷ survivors)) (conflicts_of_kind (s ∷ survivors)))
+    (All-map IsOfItsKind odd_problem faults.odd_nodes (λ k d lt. tt)))
 
 missing_of_kind : (kind : ObjectKind) (r : ObjectRef) → IsOfItsKind (missing_of kind r.id)
 missing_of_kind Node r = tt
@@ -120,7 +120,8 @@ problems_entry false objects candidate list notes texts before middle right feat
 
 pub next_line : (of : ObjectRef) (problems : List Problem) (k : ℕ) (p : Problem) → k < length problems → p ≡ get_or problems k p → (first : List ℕ) (lines more : List (Vec ℕ Global)) (line : Vec ℕ Global) →
     AddsProblems true of (take k problems) first (lines_text lines) → IsProblemLine of p line.items → more ≡ lines ++ line ∷ [] → AddsProblems true of (take (k + 1) problems) first (lines_text more)
-next_line of problems k p lt is first lines more line adds one all =
-    (adds.0 ++ line.items,
-      subst (λ (ps : List Problem). AreProblemLines of ps (adds.0 ++ line.items)) (ap (λ (q : Problem). take k problems ++ q ∷ []) is ∙ sym (take_more problems k p lt)) (one_line_more of (take k problems) p adds.0 line.items adds.1 one),
-      ap lines_text all ∙ flat_map-append (λ (l : Vec ℕ Global). l.items) lines (line ∷ []) ∙ ap₂ (λ (xs ys : List ℕ). xs ++ ys) adds.2 (append-nil line.items) ∙ append_assoc first adds.0 line.items)
+next_line of problems k p lt is first lines more line adds one all = (
+  adds.0 ++ line.items,
+  subst (λ (ps : List Problem). AreProblemLines of ps (adds.0 ++ line.items)) (ap (λ (q : Problem). take k problems ++ q ∷ []) is ∙ sym (take_more problems k p lt)) (one_line_more of (take k problems) p adds.0 line.items adds.1 one),
+  ap lines_text all ∙ flat_map-append (λ (l : Vec ℕ Global). l.items) lines (line ∷ []) ∙ ap₂ (λ (xs ys : List ℕ). xs ++ ys) adds.2 (append-nil line.items) ∙ append_assoc first adds.0 line.items,
+)

@@ -145,7 +145,7 @@ module _ {X : Type 0} (f g : X → List ℕ) (xs : List X) (k : ℕ) (d : X) (lt
       WroteTexts {T = Unit {0}} {E = E} (f (get_or xs k d)) (g (get_or xs k d)) middle now (Err e) → WroteTexts {T = T} (flat_map f xs) (flat_map g xs) before now (Err e)
   next_failed {E} {T} before middle now e first then =
       rw (flat_whole f, flat_whole g) (of_longer {T = Unit {0}} {T' = T} (flat_map f (take k xs) ++ f (get_or xs k d)) (flat_map g (take k xs) ++ g (get_or xs k d)) (flat_map f (drop (k + 1) xs)) (flat_map g (drop (k + 1) xs)) before now e
-        (then_more (flat_map f (take k xs)) (flat_map g (take k xs)) (f (get_or xs k d)) (g (get_or xs k d)) before middle now tt (Err e) first then))
+      (then_more (flat_map f (take k xs)) (flat_map g (take k xs)) (f (get_or xs k d)) (g (get_or xs k d)) before middle now tt (Err e) first then))
 
 -- all are written
 pub all_wrote : {X E : Type 0} (f g : X → List ℕ) (xs : List X) (n : ℕ) (before now : Outside) → length xs ≤ n → WroteTexts {T = Unit {0}} {E = E} (flat_map f (take n xs)) (flat_map g (take n xs)) before now (Ok tt) →
@@ -157,7 +157,7 @@ pub next_report_failed : {X E T : Type 0} (g : X → List ℕ) (xs : List X) (k 
     WroteTexts {T = Unit {0}} {E = E} [] (g (get_or xs k d)) middle now (Err e) → WroteTexts {T = T} [] (flat_map g xs) before now (Err e)
 next_report_failed {X} {E} {T} g xs k d lt before middle now e first then =
     rw (flat_whole (λ (x : X). []) g xs k d lt g) (of_longer {T = Unit {0}} {T' = T} [] (flat_map g (take k xs) ++ g (get_or xs k d)) [] (flat_map g (drop (k + 1) xs)) before now e
-      (then_more [] (flat_map g (take k xs)) [] (g (get_or xs k d)) before middle now tt (Err e) first then))
+    (then_more [] (flat_map g (take k xs)) [] (g (get_or xs k d)) before middle now tt (Err e) first then))
 
 -- a feature and its report lines
 pub feature_then_lines : {T E : Type 0} (feature lines : List ℕ) (before middle now : Outside) (r : Result T E) → WroteTexts {T = Unit {0}} {E = E} feature [] before middle (Ok tt) →

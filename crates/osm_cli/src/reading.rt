@@ -53,14 +53,20 @@ fn add_line(
 {
     if line.len() as u64 > longest {
         let fault = InputFault::TooLong;
-        return Err(ReadError::BadInput { line: number, fault });
+        return Err(ReadError::BadInput {
+            line: number,
+            fault,
+        });
     }
     let object = match read_line(alloc, line) {
         Ok(Some(object)) => object,
         Ok(None) => return Ok(()),
         Err(LineError::Fault(fault)) => {
             let fault = InputFault::Line(fault);
-            return Err(ReadError::BadInput { line: number, fault });
+            return Err(ReadError::BadInput {
+                line: number,
+                fault,
+            });
         }
         Err(LineError::OutOfMemory) => return Err(ReadError::OutOfMemory),
     };
@@ -68,19 +74,17 @@ fn add_line(
         Ok(()) => Ok(()),
         Err(AddError::Duplicate { kind, id }) => {
             let fault = InputFault::Duplicate { kind, id };
-            Err(ReadError::BadInput { line: number, fault })
+            Err(ReadError::BadInput {
+                line: number,
+                fault,
+            })
         }
         Err(AddError::OutOfMemory) => Err(ReadError::OutOfMemory),
     }
 }
 
 /// Reads the lines of a whole input, or of its front, into a store.
-fn read_lines(
-    alloc: Global,
-    bytes: &[u8],
-    is_whole: bool,
-    longest: u64,
-) -> Result<Store, ReadError>
+fn read_lines(alloc: Global, bytes: &[u8], is_whole: bool, longest: u64) -> Result<Store, ReadError>
     ensures { IsRead longest (lines_counting is_whole longest bytes.now) result }
 {
     let mut store = Store::new(alloc);

@@ -11,7 +11,7 @@ ghost use Rattle.osm_cli.specs.RunSteps.{Works, Printed, WroteTexts, features_te
 ghost use Rattle.osm_cli.specs.Entries.{lines_text};
 
 use crate::ended::Ended;
-use crate::entry::{Texts, EntryError, entries_of};
+use crate::entry::{EntryError, Texts, entries_of};
 use crate::last_line::last_line;
 use crate::reading::{ReadError, read_all};
 use crate::words::{ExportSettings, Job, job_of};

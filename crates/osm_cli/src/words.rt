@@ -71,8 +71,7 @@ fn export_settings(words: &[String]) -> Result<ExportSettings<'_>, WordsFault>
             show_errors: false,
         }),
         [option, format, file]
-            if option.as_str() == "-f" && format.as_str() == "text" && is_file(file.as_str()) =>
-        {
+            if option.as_str() == "-f" && format.as_str() == "text" && is_file(file.as_str()) => {
             Ok(ExportSettings {
                 file: file.as_str(),
                 show_errors: false,
@@ -82,8 +81,7 @@ fn export_settings(words: &[String]) -> Result<ExportSettings<'_>, WordsFault>
             if option.as_str() == "-f"
                 && format.as_str() == "text"
                 && errors.as_str() == "-e"
-                && is_file(file.as_str()) =>
-        {
+                && is_file(file.as_str()) => {
             Ok(ExportSettings {
                 file: file.as_str(),
                 show_errors: true,

@@ -13,4 +13,4 @@ pub returns-in-Err-clause-failed : goal.returns-in-Err-clause-failed
 returns-in-Err-clause-failed c =
     subst (λ (cs : List ObjectRef). entries_failed c.args.show_errors c.args.store.now cs c.in-Err.error) (c.deref-candidate-items.ensures.value ∙ c.in-Ok.ensures.list)
     (stopped c.args.show_errors c.args.store.now c.deref-candidate-items.result.now c.loop-candidate.candidate-index _ c.loop-candidate.entries.items c.in-Err.error
-      c.loop-candidate-test.true c.loop-candidate.invariant c.in-Err.ensures.failed)
+    c.loop-candidate-test.true c.loop-candidate.invariant c.in-Err.ensures.failed)

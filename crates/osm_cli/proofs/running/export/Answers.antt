@@ -9,8 +9,8 @@ use Rattle.osm_cli.proofs.running.export.Goals as goal
 pub returns-in-Err : goal.returns-in-Err
 returns-in-Err g c =
     rw c.read_ended.ensures (not_read (settings_seen c.args.settings.now) (g.H.Host.seen c.args.host.now) (g.H.Host.seen c.open_input.new.self)
-      c.in-Ok.ensures.listed c.in-Ok.ensures.rest c.in-Ok.ensures.begins c.in-Ok.ensures.cause.answered (g.H.Host.seen c.read_all.new.host) c.in-Err.ensures.rest
-      c.in-Err.error c.in-Err.ensures.reads c.in-Err.ensures.told (λ is. c.in-Err.ensures.read_fault (search (rules, is))))
+    c.in-Ok.ensures.listed c.in-Ok.ensures.rest c.in-Ok.ensures.begins c.in-Ok.ensures.cause.answered (g.H.Host.seen c.read_all.new.host) c.in-Err.ensures.rest
+    c.in-Err.error c.in-Err.ensures.reads c.in-Err.ensures.told (λ is. c.in-Err.ensures.read_fault (search (rules, is))))
 
 pub returns-in-Ok-entries_of : goal.returns-in-Ok-entries_of
 returns-in-Ok-entries_of g c =
