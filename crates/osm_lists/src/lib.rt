@@ -3,4 +3,4 @@
 
 mod tally;
 
-pub use tally::{Tally, tallies};
+pub use tally::{Tally, distinct_items, odd_items, repeated_items};
