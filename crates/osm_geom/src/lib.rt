@@ -19,6 +19,8 @@ mod point_order;
 mod ratio;
 mod seg;
 mod turning;
+#[cfg(test)]
+mod tests;
 
 pub use conflicts::{Kind, conflict};
 pub use dir::Dir;

@@ -1,7 +1,7 @@
 -- The items that are picked from tallies by how often they stand.
-use Rattle.std.proofs.Common.{◌≡◌, ℕ, zero, suc, ◌+◌, ◌<◌, ◌≤◌, ◌%◌, ◌==◌, List, [], ◌∷◌, length, get_or, min, map, filter, All, Bool, true, false, cond, nat_le, refl, sym, ap, ◌∙◌, subst, arith}
+use Rattle.std.proofs.Common.{◌≡◌, ℕ, suc, ◌+◌, ◌<◌, ◌%◌, ◌==◌, List, [], ◌∷◌, length, min, map, filter, All, Bool, true, false, cond, nat_le, refl, sym, ap, ◌∙◌, subst, arith}
 use Rattle.std.specs.declared.cmp.Ordering.{Ordering}
-use Rattle.std.specs.declared.cmp.Ordering.TheVariants.{Less, Equal, Greater}
+use Rattle.std.specs.declared.cmp.Ordering.TheVariants.{Less, Equal}
 use Rattle.std.specs.Ordering.{is_eq, on}
 use Rattle.std.specs.Cmp.{IsTotalOrder}
 use Rattle.std.specs.List.{count_by}
@@ -24,7 +24,6 @@ pub twice_once : (n : ℕ) → cond (nat_le 2 n) (min 1 n) 0 ≡ cond (nat_le 2 
 twice_once n = grind (arith, leb_tells)
 
 module _ {X : Type 0} {R : X → X → Ordering} (o : IsTotalOrder R) where
-
   count-map : (x : X) (ts : List (Tally X)) → count_of R x (map (λ t. t.item) ts) ≡ count_by (λ t. is_eq (R t.item x)) ts
   count-map x [] = refl
   count-map x (t ∷ ts) =

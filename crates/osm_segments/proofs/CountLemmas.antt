@@ -1,5 +1,5 @@
 -- Facts of two clauses put together, and the segments of repeats.
-use Rattle.std.proofs.Common.{◌≡◌, ℕ, List, [], ◌∷◌, map, All, refl, ap, ◌∙◌, Result, Ok, Err}
+use Rattle.std.proofs.Common.{◌≡◌, List, [], ◌∷◌, map, refl, ap, Result, Ok, Err}
 use Rattle.std.specs.Prelude.{IfOk}
 use Rattle.osm_geom.specs.declared.seg.Seg.{Seg}
 use Rattle.osm_lists.specs.declared.tally.Tally.{Tally}

@@ -93,8 +93,8 @@ module _ (s : Seg) (later : List Pair) (above : All (λ q. seg_cmp s q.first ≡
       let is = pair_is s t p e in
       AllPairs-cons (λ p q. pair_cmp p q ≡ Less) p (filter_map (pair_of s) ts ++ later)
       (All-append (λ q. pair_cmp p q ≡ Less) (filter_map (pair_of s) ts) later
-        (all_from_pairs (λ q. pair_cmp p q ≡ Less) s ts (λ k d h q of_q. before_by_second p q s t is of_q.first (subst (λ r. seg_cmp t r ≡ Less) (sym of_q.second) (less k d h))))
-        (λ k d h. before_by_first p (get_or later k d) s is.first (above k d h)))
+      (all_from_pairs (λ q. pair_cmp p q ≡ Less) s ts (λ k d h q of_q. before_by_second p q s t is of_q.first (subst (λ r. seg_cmp t r ≡ Less) (sym of_q.second) (less k d h))))
+      (λ k d h. before_by_first p (get_or later k d) s is.first (above k d h)))
       rest
 
   rising_pairs : (ts : List Seg) → IsRising seg_cmp ts → IsRising pair_cmp (filter_map (pair_of s) ts ++ later)

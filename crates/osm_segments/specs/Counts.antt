@@ -1,5 +1,5 @@
 -- What counting tells of a list of segments. A strictly rising list is determined by how often each item stands in it.
-use Rattle.std.specs.Prelude.{◌≡◌, ◌%◌, ℕ, List, [], ◌∷◌, min}
+use Rattle.std.specs.Prelude.{◌≡◌, ◌%◌, List, [], ◌∷◌, min}
 use Rattle.std.specs.List.{flat_map}
 use Rattle.osm_geom.specs.declared.loc.Loc.{Loc}
 use Rattle.osm_geom.specs.declared.seg.Seg.{Seg}

@@ -1,5 +1,5 @@
 -- The segments that stand at least twice in a list.
-use Rattle.std.specs.Prelude.{◌≡◌, ℕ, List, All, map, nat_le, if◌then◌else◌}
+use Rattle.std.specs.Prelude.{◌≡◌, List, All, map, nat_le, if◌then◌else◌}
 use Rattle.osm_geom.specs.declared.seg.Seg.{Seg}
 use Rattle.osm_geom.specs.Seg.{seg_cmp}
 use Rattle.osm_lists.specs.Rising.{IsRising, count_of}

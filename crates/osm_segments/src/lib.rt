@@ -4,6 +4,8 @@
 
 mod counts;
 mod pairs;
+#[cfg(test)]
+mod tests;
 
 pub use counts::{Repeat, distinct, odd_nodes, repeated, survivors};
 pub use pairs::{Pair, conflicts};

@@ -1,4 +1,4 @@
-use Rattle.std.proofs.Common.{nat_le, ◌∙◌, refl, ap, map}
+use Rattle.std.proofs.Common.{nat_le, ◌∙◌, ap, map}
 use Rattle.std.proofs.lemmas.Result.{IfOk-weaker}
 use Rattle.osm_lists.specs.Rising.{count_of}
 use Rattle.osm_lists.proofs.Picks.{picked, rising_picked, times_picked, twice_once}

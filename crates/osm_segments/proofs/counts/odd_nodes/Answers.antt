@@ -1,4 +1,4 @@
-use Rattle.std.proofs.Common.{◌≡◌, ◌%◌, ap, ◌∙◌}
+use Rattle.std.proofs.Common.{◌%◌, ap, ◌∙◌}
 use Rattle.osm_geom.specs.Loc.{loc_cmp}
 use Rattle.osm_lists.specs.Rising.{count_of}
 use Rattle.osm_segments.proofs.CountLemmas.{IfOk-both}

@@ -1,8 +1,7 @@
-use Rattle.std.proofs.Common.{◌≡◌, ap, ◌∙◌, map, sym, subst, All, List}
+use Rattle.std.proofs.Common.{◌≡◌, ap, ◌∙◌, map, sym, subst, All}
 use Rattle.std.proofs.lemmas.Result.{IfOk-weaker}
 use Rattle.std.proofs.lemmas.List.Elements.{All-map}
 use Rattle.osm_geom.specs.Seg.{seg_cmp}
-use Rattle.osm_geom.specs.declared.seg.Seg.{Seg}
 use Rattle.osm_lists.specs.Rising.{IsRising, count_of}
 use Rattle.osm_segments.specs.declared.counts.Repeat.{Repeat}
 use Rattle.osm_segments.specs.Repeats.{repeat_of, segs_of}

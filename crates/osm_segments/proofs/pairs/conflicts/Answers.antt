@@ -1,4 +1,4 @@
-use Rattle.std.proofs.Common.{◌≡◌, sym, subst}
+use Rattle.std.proofs.Common.{sym, subst}
 use Rattle.osm_lists.specs.Rising.{IsRising}
 use Rattle.osm_segments.specs.Pairs.{conflicts_of, pair_cmp}
 use Rattle.osm_segments.proofs.RisingPairs.{conflicts_rising, all_found}
