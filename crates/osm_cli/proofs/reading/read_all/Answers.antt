@@ -1,0 +1,6 @@
+use Rattle.osm_cli.proofs.Answered.{told}
+use Rattle.osm_cli.proofs.reading.read_all.Goals as goal
+
+pub returns-clause-told : goal.returns-clause-told
+returns-clause-told g c =
+    told c.args.limit c.args.longest (g.H.Host.seen c.args.host.now) (g.H.Host.seen c.read_opened.new.host) c.read_opened.result c.read_opened.ensures.reads
