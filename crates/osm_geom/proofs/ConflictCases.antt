@@ -1,11 +1,10 @@
 -- What each answer on a conflict says of the two segments.
-use Rattle.std.proofs.Common.{◌≡◌, Bool, true, false, if◌then◌else◌, Option, Some, None, refl, sym, ap, ◌∙◌}
+use Rattle.std.proofs.Common.{◌≡◌, Bool, true, false, if◌then◌else◌, Some, None, refl, ap, ◌∙◌}
 use Rattle.std.specs.declared.cmp.Ordering.{Ordering}
 use Rattle.std.specs.declared.cmp.Ordering.TheVariants.{Less, Equal, Greater}
 use Rattle.std.specs.Ordering.{is_eq, ordering_reverse}
 use Rattle.plane.proofs.Conflicts.{overlaps_turned, crosses_turned}
 use Rattle.osm_geom.specs.declared.seg.Seg.{Seg}
-use Rattle.osm_geom.specs.declared.conflicts.Kind.{Kind}
 use Rattle.osm_geom.specs.declared.conflicts.Kind.TheVariants.{Crossing, Overlap}
 use Rattle.osm_geom.specs.Seg.{seg_cmp, edge_of}
 use Rattle.osm_geom.specs.Conflict.{are_overlapping, are_crossing, conflict_of}

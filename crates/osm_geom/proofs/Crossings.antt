@@ -1,5 +1,5 @@
 -- Where two segments cross, the ends of each are not on one side of the line of the other.
-use Rattle.std.proofs.Common.{◌≡◌, Bool, true, false, not, refl, sym, ap, ◌∙◌, subst}
+use Rattle.std.proofs.Common.{◌≡◌, Bool, true, not, refl, sym, ap, ◌∙◌, subst}
 use Rattle.plane.specs.Conflict.{crosses}
 use Rattle.plane.specs.Edge.{Edge, IsRising}
 use Rattle.plane.specs.Order.{order}

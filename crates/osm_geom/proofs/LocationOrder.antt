@@ -1,6 +1,6 @@
 -- The order of locations in Rust's words and in signs.
-use Rattle.std.proofs.Common.{◌≡◌, ℤ, ◌-ℤ◌, ◌<ℤ◌, Bool, refl, sym, ◌∙◌, arith}
-use Rattle.std.specs.declared.cmp.Ordering.TheVariants.{Less, Equal, Greater}
+use Rattle.std.proofs.Common.{◌≡◌, ℤ, ◌-ℤ◌, refl, sym, ◌∙◌, arith}
+use Rattle.std.specs.declared.cmp.Ordering.TheVariants.{Less}
 use Rattle.std.specs.Ordering.{int_cmp, is_lt, ordering_then}
 use Rattle.std.specs.Cmp.{IsTotalOrder}
 use Rattle.std.proofs.lemmas.Int.{ints}
@@ -28,10 +28,10 @@ int_cmp-by x y Plus h = grind (arith, ints)
 int_cmp-by x y Null h = grind (arith, ints)
 int_cmp-by x y Minus h = grind (arith, ints)
 
-int_cmp-is : (x y : ℤ) → int_cmp x y ≡ ordering_of (sign (y -ℤ x))
+pub int_cmp-is : (x y : ℤ) → int_cmp x y ≡ ordering_of (sign (y -ℤ x))
 int_cmp-is x y = int_cmp-by x y (sign (y -ℤ x)) (says (y -ℤ x))
 
-ordering_of-then : (s t : Sign) → ordering_then (ordering_of s) (ordering_of t) ≡ ordering_of (then_sign s t)
+pub ordering_of-then : (s t : Sign) → ordering_then (ordering_of s) (ordering_of t) ≡ ordering_of (then_sign s t)
 ordering_of-then Plus t = refl
 ordering_of-then Null t = refl
 ordering_of-then Minus t = refl

@@ -1,5 +1,5 @@
 -- The point so far along a segment lies on it, and is the only one on two segments that are not parallel.
-use Rattle.std.proofs.Common.{◌≡◌, ◌≢◌, ℕ, zero, suc, ◌+◌, ◌-◌, ◌≤◌, ℤ, pos, ◌+ℤ◌, ◌-ℤ◌, ◌*ℤ◌, Bool, true, false, not, refl, sym, ap, ◌∙◌, arith}
+use Rattle.std.proofs.Common.{◌≡◌, ◌≢◌, ℕ, zero, suc, ◌-◌, ◌≤◌, ℤ, pos, ◌+ℤ◌, ◌-ℤ◌, ◌*ℤ◌, Bool, true, false, refl, sym, ap, ◌∙◌, arith}
 use Rattle.std.proofs.lemmas.Int.{ints}
 use Rattle.plane.specs.Edge.{Edge, IsRising}
 use Rattle.plane.specs.RayCrossing.{is_off, off_by}
@@ -71,8 +71,8 @@ not_off d m n u v w hd hu hb vx vy wx wy =
     let d_some : d ≢ pos 0 = λ z. absurd (cc (sym hd ∙ ap sign z)) in
     let c = zero_other d (cross v w) d_some (zero_other d (d *ℤ cross v w) d_some (crossed d m n u v w vx vy wx wy)) in
     let e : sign (dot v w) ≡ times (times (sign m) (sign n)) Plus =
-        sym (plus-times d (dot v w) hd) ∙ sym (plus-times d (d *ℤ dot v w) hd) ∙ ap sign (dotted d m n u v w vx vy wx wy)
-        ∙ sign-* (m *ℤ n) (dot u u) ∙ ap (λ s. times s (sign (dot u u))) (sign-* m n) ∙ ap (λ s. times (times (sign m) (sign n)) s) hu in
+    sym (plus-times d (dot v w) hd) ∙ sym (plus-times d (d *ℤ dot v w) hd) ∙ ap sign (dotted d m n u v w vx vy wx wy)
+    ∙ sign-* (m *ℤ n) (dot u u) ∙ ap (λ s. times s (sign (dot u u))) (sign-* m n) ∙ ap (λ s. times (times (sign m) (sign n)) s) hu in
     off_where (cross v w) (sign (dot v w)) c (not-plus (sign m) (sign n) (sign (dot v w)) hb e)
 
 -- ---- a coordinate that lies w of w + r parts of the way from a to b: the steps to a and to b, multiplied by its denominator e and by the other's f
@@ -194,9 +194,10 @@ module _ (s t : Edge) where
       let o = cross v (from_to t.from s.from) in
       let seen : cross v z ≡ pos 0 -ℤ k *ℤ o = moved v.x v.y s.from.x s.from.y t.from.x t.from.y p.x p.y k ∙ ap (λ y. y -ℤ k *ℤ o) hv in
       let ex : z.x *ℤ cross u v ≡ k *ℤ (u.x *ℤ o) = spread_x u.x u.y v.x v.y z.x z.y ∙ rw (hu, seen) (left_over v.x u.x k o) in
-      let ey : z.y *ℤ cross u v ≡ k *ℤ (u.y *ℤ o) = spread_y u.x u.y v.x v.y z.x z.y ∙ rw (hu, seen) (left_over v.y u.y k o) in
-      (coordinate_by xn (pos xd) (pos yd) k s.from.x (cross u v) (u.x *ℤ o) (some yd ys) refl ex,
-        coordinate_by yn (pos yd) (pos xd) k s.from.y (cross u v) (u.y *ℤ o) (some xd xs) (times_back (pos yd) (pos xd)) ey)
+      let ey : z.y *ℤ cross u v ≡ k *ℤ (u.y *ℤ o) = spread_y u.x u.y v.x v.y z.x z.y ∙ rw (hu, seen) (left_over v.y u.y k o) in (
+        coordinate_by xn (pos xd) (pos yd) k s.from.x (cross u v) (u.x *ℤ o) (some yd ys) refl ex,
+        coordinate_by yn (pos yd) (pos xd) k s.from.y (cross u v) (u.y *ℤ o) (some xd xs) (times_back (pos yd) (pos xd)) ey,
+      )
 
 same_ratio : (x e y f g s : ℤ) → s ≢ pos 0 → x *ℤ s ≡ e *ℤ g → y *ℤ s ≡ f *ℤ g → x *ℤ f ≡ y *ℤ e
 same_ratio x e y f g s nonzero h k =
@@ -212,10 +213,12 @@ axis a b c d s o q whole w w' nonzero line first second =
     let h = lift whole in let v = lift w in let v' = lift w' in let zero' = lift (pos 0) in
     cancel_factor (a *ℤ (whole -ℤ w) +ℤ b *ℤ w) (c *ℤ (whole -ℤ w') +ℤ d *ℤ w') s nonzero
     (same (s' ⊠ (a' ⊠ (h ⊟ v) ⊞ b' ⊠ v)) (s' ⊠ (c' ⊠ (h ⊟ v') ⊞ d' ⊠ v'))
-    (omega (arith,
+    (omega (
+      arith,
       apart (h ⊠ ((a' ⊟ c') ⊠ s' ⊞ (b' ⊟ a') ⊠ o')) (h ⊠ (zero' ⊟ (d' ⊟ c') ⊠ q')) (ap (λ z. whole *ℤ z) line),
       apart ((b' ⊟ a') ⊠ (v ⊠ s')) ((b' ⊟ a') ⊠ (o' ⊠ h)) (ap (λ z. (b -ℤ a) *ℤ z) first),
-      apart ((d' ⊟ c') ⊠ (v' ⊠ (zero' ⊟ s'))) ((d' ⊟ c') ⊠ (q' ⊠ h)) (ap (λ z. (d -ℤ c) *ℤ z) second))))
+      apart ((d' ⊟ c') ⊠ (v' ⊠ (zero' ⊟ s'))) ((d' ⊟ c') ⊠ (q' ⊠ h)) (ap (λ z. (d -ℤ c) *ℤ z) second),
+    )))
 
 turned_about : (ux uy px py qx qy : ℤ) → ux *ℤ (py -ℤ qy) -ℤ uy *ℤ (px -ℤ qx) ≡ pos 0 -ℤ (ux *ℤ (qy -ℤ py) -ℤ uy *ℤ (qx -ℤ px))
 turned_about ux uy px py qx qy =
@@ -255,6 +258,7 @@ pub one_point : (s t : Edge) (xn yn : ℤ) (xd yd : ℕ) (xn' yn' : ℤ) (xd' yd
     (xn *ℤ pos xd' ≡ xn' *ℤ pos xd) × (yn *ℤ pos yd' ≡ yn' *ℤ pos yd)
 one_point s t xn yn xd yd xn' yn' xd' yd' nonzero xs ys xs' ys' on_s on_t on_s' on_t' =
     let first = solved s t xn yn xd yd xs ys on_s on_t in
-    let second = solved s t xn' yn' xd' yd' xs' ys' on_s' on_t' in
-    (same_ratio xn (pos xd) xn' (pos xd') (s.from.x *ℤ slant_of s t +ℤ (s.to.x -ℤ s.from.x) *ℤ offset_of s t) (slant_of s t) nonzero first.0 second.0,
-      same_ratio yn (pos yd) yn' (pos yd') (s.from.y *ℤ slant_of s t +ℤ (s.to.y -ℤ s.from.y) *ℤ offset_of s t) (slant_of s t) nonzero first.1 second.1)
+    let second = solved s t xn' yn' xd' yd' xs' ys' on_s' on_t' in (
+      same_ratio xn (pos xd) xn' (pos xd') (s.from.x *ℤ slant_of s t +ℤ (s.to.x -ℤ s.from.x) *ℤ offset_of s t) (slant_of s t) nonzero first.0 second.0,
+      same_ratio yn (pos yd) yn' (pos yd') (s.from.y *ℤ slant_of s t +ℤ (s.to.y -ℤ s.from.y) *ℤ offset_of s t) (slant_of s t) nonzero first.1 second.1,
+    )

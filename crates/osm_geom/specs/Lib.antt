@@ -9,3 +9,11 @@ pub mod OrderLaws
 pub mod ConflictLaws
 pub mod Meeting
 pub mod Share
+pub mod Part
+pub mod Ratio
+pub mod RatioOrder
+pub mod Point
+pub mod Carrier
+pub mod Edge
+pub mod Steps
+pub mod Dir

@@ -2,19 +2,33 @@
 #![tactic(auto)]
 
 mod conflicts;
+mod dir;
+mod edge;
+mod edge_dir;
+mod edge_lists;
 mod frac;
 mod laws;
 mod lists;
 mod loc;
 mod meetings;
 mod orientation;
+mod point;
+mod point_order;
+mod ratio;
 mod seg;
+mod turning;
 
 pub use conflicts::{Kind, conflict};
+pub use dir::Dir;
+pub use edge::{Carrier, Edge};
+pub use edge_lists::{Edges, Points};
 pub use frac::{Frac, round};
 pub use laws::{conflicts_are_symmetric, orders_are_exact};
 pub use lists::{Ids, Locs, Path, Segs};
 pub use loc::Loc;
 pub use meetings::{meeting, overlap};
 pub use orientation::orient;
+pub use point::{Part, Point};
+pub use point_order::compare_points;
 pub use seg::Seg;
+pub use turning::clockwise;

@@ -23,7 +23,12 @@ fn slant(s: Seg, t: Seg) -> i128
     ensures value { result ≡ slant s t }
     ensures small { unsigned_abs result < 2 ^ 64 }
 {
-    cross(step_x(s.a, s.b), step_y(s.a, s.b), step_x(t.a, t.b), step_y(t.a, t.b))
+    cross(
+        step_x(s.a, s.b),
+        step_y(s.a, s.b),
+        step_x(t.a, t.b),
+        step_y(t.a, t.b),
+    )
 }
 
 // How far along `s` its meeting point with `t` lies: the lower end's distance from the line of `t`,

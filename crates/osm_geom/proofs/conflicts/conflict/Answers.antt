@@ -1,4 +1,4 @@
-use Rattle.std.proofs.Common.{◌≡◌, true, false, cond, sym, ◌∙◌, refl}
+use Rattle.std.proofs.Common.{sym, ◌∙◌}
 use Rattle.osm_geom.specs.contracts.seg.SegOrd.TheImpl.Laws.{matches_eq-law}
 use Rattle.osm_geom.proofs.ConflictCases.{none_where_equal}
 use Rattle.osm_geom.proofs.conflicts.conflict.Goals as goal

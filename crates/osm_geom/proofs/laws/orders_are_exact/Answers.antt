@@ -1,6 +1,4 @@
 use Rattle.std.proofs.lemmas.Cmp.{tied_itself}
-use Rattle.osm_geom.specs.Loc.{loc_cmp}
-use Rattle.osm_geom.specs.Seg.{seg_cmp}
 use Rattle.osm_geom.proofs.LocationOrder.{loc_total, seg_total, loc_cmp-is}
 use Rattle.osm_geom.proofs.Orders.{loc_same, seg_same}
 use Rattle.osm_geom.proofs.laws.orders_are_exact.Goals as goal

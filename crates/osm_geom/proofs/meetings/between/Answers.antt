@@ -1,4 +1,4 @@
-use Rattle.std.proofs.Common.{◌<◌, ◌≤◌, ◌-◌, ◌^◌, lit<, refl, arith, rules}
+use Rattle.std.proofs.Common.{◌<◌, ◌^◌, lit<, arith, rules}
 use Rattle.osm_geom.proofs.Exact.{from_i32, from_unsigned, times, plus, plus_fits, held_is, held_within}
 use Rattle.osm_geom.proofs.meetings.between.Goals as goal
 

@@ -1,4 +1,4 @@
-use Rattle.std.proofs.Common.{◌≡◌, ◌≢◌, ℕ, zero, suc, ◌-◌, ◌≤◌, ℤ, pos, negsuc, ◌-ℤ◌, ◌+ℤ◌, ◌*ℤ◌, unsigned_abs, refl, sym, ap, ◌∙◌, arith, Some}
+use Rattle.std.proofs.Common.{◌≡◌, ◌≢◌, ℕ, zero, suc, ◌-◌, ◌≤◌, ℤ, pos, negsuc, ◌-ℤ◌, ◌+ℤ◌, ◌*ℤ◌, unsigned_abs, sym, ap, ◌∙◌, arith, Some}
 use Rattle.osm_geom.specs.declared.seg.Seg.{Seg}
 use Rattle.osm_geom.specs.declared.frac.Frac.{Frac}
 use Rattle.osm_geom.specs.declared.conflicts.Kind.TheVariants.{Crossing}
@@ -8,9 +8,9 @@ use Rattle.osm_geom.specs.Conflict.{conflict_of}
 use Rattle.osm_geom.specs.Meeting.{IsOnSegment, slant}
 use Rattle.osm_geom.proofs.LocationOrder.{rising_edge}
 use Rattle.osm_geom.proofs.LowestTerms.{frac_same}
-use Rattle.osm_geom.proofs.MeetingPoint.{on_segment, slant_of, offset_of, along_x, along_y, one_point}
+use Rattle.osm_geom.proofs.MeetingPoint.{on_segment, along_x, along_y, one_point}
 use Rattle.osm_geom.proofs.Sizes.{signed}
-use Rattle.osm_geom.proofs.Shares.{IsPart, part_of_first, part_of_second, slant_turned}
+use Rattle.osm_geom.proofs.Shares.{part_of_first, part_of_second, slant_turned}
 use Rattle.osm_geom.proofs.meetings.meeting.Goals as goal
 
 some_abs : (z : ℤ) → 1 ≤ unsigned_abs z → z ≢ pos 0

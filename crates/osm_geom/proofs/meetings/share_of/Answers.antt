@@ -1,4 +1,4 @@
-use Rattle.std.proofs.Common.{◌≡◌, ◌<◌, ◌≤◌, ◌^◌, ℤ, unsigned_abs, rules, FitsSigned, arith}
+use Rattle.std.proofs.Common.{rules, FitsSigned}
 use Rattle.std.specs.Int.{w128}
 use Rattle.std.proofs.lemmas.Int.{to_z-of_z}
 use Rattle.osm_geom.proofs.Shares.{part_of_first}
@@ -11,7 +11,9 @@ invariant_of-result c =
     let slant_fits : FitsSigned w128 c.slant.result = search rules in
     let above = simp to_z-of_z at c.unsigned_abs.ensures.value in
     let den = simp to_z-of_z at c.unsigned_abs-2.ensures.value in
-    record { is_share = (
-      rw (den, c.slant.ensures.value) part.den_some,
-      rw (above, den, c.orient.ensures.value, c.slant.ensures.value) part.at_most,
-    ) }
+    record {
+      is_share = (
+        rw (den, c.slant.ensures.value) part.den_some,
+        rw (above, den, c.orient.ensures.value, c.slant.ensures.value) part.at_most,
+      );
+    }

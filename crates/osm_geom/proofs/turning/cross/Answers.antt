@@ -1,0 +1,21 @@
+use Rattle.std.proofs.Common.{lit<}
+use Rattle.osm_geom.specs.Dir.{cross}
+use Rattle.osm_geom.proofs.Exact.{from_i64, times, minus, minus_fits, held_is}
+use Rattle.osm_geom.proofs.turning.cross.Goals as goal
+
+pub overflow_sub-result : goal.overflow_sub-result
+overflow_sub-result c =
+    let ux = from_i64 _ c.args.d.dx 3_600_000_000 c.from.ensures c.args.d.dx_in (lit< tt) in
+    let vy = from_i64 _ c.args.e.dy 3_600_000_000 c.from-2.ensures c.args.e.dy_in (lit< tt) in
+    let uy = from_i64 _ c.args.d.dy 3_600_000_000 c.from-3.ensures c.args.d.dy_in (lit< tt) in
+    let vx = from_i64 _ c.args.e.dx 3_600_000_000 c.from-4.ensures c.args.e.dx_in (lit< tt) in
+    minus_fits (times ux vy (lit< tt)) (times uy vx (lit< tt)) (lit< tt)
+
+pub returns : goal.returns
+unfolding cross
+returns c =
+    let ux = from_i64 _ c.args.d.dx 3_600_000_000 c.from.ensures c.args.d.dx_in (lit< tt) in
+    let vy = from_i64 _ c.args.e.dy 3_600_000_000 c.from-2.ensures c.args.e.dy_in (lit< tt) in
+    let uy = from_i64 _ c.args.d.dy 3_600_000_000 c.from-3.ensures c.args.d.dy_in (lit< tt) in
+    let vx = from_i64 _ c.args.e.dx 3_600_000_000 c.from-4.ensures c.args.e.dx_in (lit< tt) in
+    held_is (minus (times ux vy (lit< tt)) (times uy vx (lit< tt)) (lit< tt))

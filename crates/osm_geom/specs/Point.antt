@@ -1,0 +1,50 @@
+-- Exact points, of whose coordinates one need not be whole: the points of the plane that they are once multiplied, and their order.
+use Rattle.std.specs.Prelude.{ℕ, ◌*◌, ◌≤◌, ℤ, pos, ◌*ℤ◌, unsigned_abs}
+use Rattle.std.specs.declared.cmp.Ordering.{Ordering}
+use Rattle.plane.specs.Order.{order}
+use Rattle.plane.specs.Scale.{scaled_point}
+use Rattle.plane.specs.Sign.{Sign}
+use Rattle.plane.specs.Vector.{Vector}
+use Rattle.osm_geom.specs.declared.point.Point.{Point}
+use Rattle.osm_geom.specs.declared.point.Point.TheVariants.{Lattice, OnVertical, OnHorizontal}
+use Rattle.osm_geom.specs.OrderLaws.{ordering_of}
+
+-- num / den
+pub record Fraction : Type 0 where
+  pub num : ℤ
+  pub den : ℕ
+
+abbrev pub whole : ℤ → Fraction
+whole n = record { num = n; den = 1 }
+
+-- the x of a point
+abbrev pub x_of : Point → Fraction
+x_of (Lattice p) = whole p.x
+x_of (OnVertical c y) = whole c
+x_of (OnHorizontal x d) = record { num = x.frac.num; den = x.frac.den }
+
+-- the y of a point
+abbrev pub y_of : Point → Fraction
+y_of (Lattice p) = whole p.y
+y_of (OnVertical c y) = record { num = y.frac.num; den = y.frac.den }
+y_of (OnHorizontal x d) = whole d
+
+-- the least positive number by which the plane is multiplied so that p has whole coordinates
+abbrev pub den_of : Point → ℕ
+den_of p = (x_of p).den * (y_of p).den
+
+-- p in the plane multiplied by it
+abbrev pub whole_of : Point → Vector
+whole_of p = record { x = (x_of p).num *ℤ pos (y_of p).den; y = (y_of p).num *ℤ pos (x_of p).den }
+
+-- the order of points, in the plane multiplied by both denominators: Plus where q comes after p
+abbrev pub point_order : Point → Point → Sign
+point_order p q = order (scaled_point (pos (den_of q)) (whole_of p)) (scaled_point (pos (den_of p)) (whole_of q))
+
+-- the same in Rust's words: by y, then by x
+unfoldable pub point_cmp : Point → Point → Ordering
+point_cmp p q = ordering_of (point_order p q)
+
+-- p is a longitude and a latitude
+abbrev pub IsInWorld : Point → Type 0
+IsInWorld p = (unsigned_abs (x_of p).num ≤ 1_800_000_000 * (x_of p).den) × (unsigned_abs (y_of p).num ≤ 900_000_000 * (y_of p).den)

@@ -1,0 +1,43 @@
+ghost use Rattle.std.specs.Prelude.{◌≡◌};
+ghost use Rattle.osm_geom.specs.Point.{x_of, y_of, point_cmp};
+ghost use Rattle.osm_geom.specs.RatioOrder.{fraction_of, by_fractions};
+
+use crate::point::Point;
+use crate::ratio::Ratio;
+use std::cmp::Ordering;
+
+fn x_ratio(p: Point) -> Ratio
+    ensures { fraction_of result ≡ x_of p }
+{
+    match p {
+        Point::Lattice(q) => Ratio::of_whole(q.x),
+        Point::OnVertical { c, .. } => Ratio::of_whole(c),
+        Point::OnHorizontal { x, .. } => Ratio::of_part(x),
+    }
+}
+
+fn y_ratio(p: Point) -> Ratio
+    ensures { fraction_of result ≡ y_of p }
+{
+    match p {
+        Point::Lattice(q) => Ratio::of_whole(q.y),
+        Point::OnVertical { y, .. } => Ratio::of_part(y),
+        Point::OnHorizontal { d, .. } => Ratio::of_whole(d),
+    }
+}
+
+fn compare_by_fractions(p: Point, q: Point) -> Ordering
+    ensures { result ≡ by_fractions p q }
+{
+    y_ratio(p)
+        .compare(y_ratio(q))
+        .then(x_ratio(p).compare(x_ratio(q)))
+}
+
+/// The order of two points: by y, then by x. `Equal` for one point alone.
+#[tactic(auto, using(crate::proofs::PointOrders::point_cmp_is))]
+pub fn compare_points(p: Point, q: Point) -> Ordering
+    ensures { result ≡ point_cmp p q }
+{
+    compare_by_fractions(p, q)
+}
