@@ -1,0 +1,10 @@
+pub mod Clockwise
+pub mod LeastStart
+pub mod Numbered
+pub mod Pieces
+pub mod PlaneEdge
+pub mod Ring
+pub mod RingList
+pub mod SidedEdges
+pub mod Turned
+pub mod Ways
