@@ -17,3 +17,7 @@ pub mod Carrier
 pub mod Edge
 pub mod Steps
 pub mod Dir
+pub mod Span
+pub mod JustAbove
+pub mod Level
+pub mod LineOrder

@@ -7,7 +7,9 @@ mod edge;
 mod edge_dir;
 mod edge_lists;
 mod frac;
+mod just_above;
 mod laws;
+mod level;
 mod lists;
 mod loc;
 mod meetings;
@@ -17,12 +19,15 @@ mod point_order;
 mod ratio;
 mod seg;
 mod turning;
+#[cfg(test)]
+mod tests;
 
 pub use conflicts::{Kind, conflict};
 pub use dir::Dir;
 pub use edge::{Carrier, Edge};
 pub use edge_lists::{Edges, Points};
 pub use frac::{Frac, round};
+pub use just_above::compare_just_above;
 pub use laws::{conflicts_are_symmetric, orders_are_exact};
 pub use lists::{Ids, Locs, Path, Segs};
 pub use loc::Loc;

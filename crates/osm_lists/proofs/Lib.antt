@@ -1,1 +1,3 @@
 pub mod TallySteps
+pub mod Picks
+pub mod Unique

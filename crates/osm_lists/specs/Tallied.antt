@@ -1,5 +1,5 @@
 -- How far a tally of a sorted list has come.
-use Rattle.std.specs.Prelude.{◌≡◌, ℕ, false, List, All, count_by, min}
+use Rattle.std.specs.Prelude.{◌≡◌, false, List, All, count_by, min}
 use Rattle.std.specs.declared.cmp.Ordering.{Ordering}
 use Rattle.std.specs.Ordering.{is_eq, is_gt, on}
 use Rattle.osm_lists.specs.declared.tally.Tally.{Tally}

@@ -1,0 +1,2 @@
+pub mod RisingPairs
+pub mod CountLemmas

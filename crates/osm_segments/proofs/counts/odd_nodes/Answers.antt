@@ -1,0 +1,8 @@
+use Rattle.std.proofs.Common.{◌%◌, ap, ◌∙◌}
+use Rattle.osm_geom.specs.Loc.{loc_cmp}
+use Rattle.osm_lists.specs.Rising.{count_of}
+use Rattle.osm_segments.proofs.CountLemmas.{IfOk-both}
+use Rattle.osm_segments.proofs.counts.odd_nodes.Goals as goal
+
+pub returns : goal.returns
+returns c = IfOk-both c.odd_items.result _ _ _ (λ v odd rising. record { odd = λ p. odd p ∙ ap (λ ps. count_of loc_cmp p ps % 2) (c.deref.ensures.value ∙ c.in_ok-ends.ensures); rising = rising }) c.odd_items.ensures.odd c.odd_items.ensures.rising

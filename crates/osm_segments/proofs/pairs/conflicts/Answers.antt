@@ -1,0 +1,11 @@
+use Rattle.std.proofs.Common.{sym, subst}
+use Rattle.osm_lists.specs.Rising.{IsRising}
+use Rattle.osm_segments.specs.Pairs.{conflicts_of, pair_cmp}
+use Rattle.osm_segments.proofs.RisingPairs.{conflicts_rising, all_found}
+use Rattle.osm_segments.proofs.pairs.conflicts.Goals as goal
+
+pub returns-clause-rising : goal.returns-clause-rising
+returns-clause-rising c =
+    let segs = c.args.segs.now in
+    let whole = all_found c.loop-rest.pairs.items c.loop-rest.rest.now (conflicts_of segs) c.in_default.len_below c.loop-rest.invariant in
+    subst (IsRising pair_cmp) (sym whole) (conflicts_rising segs c.requires)

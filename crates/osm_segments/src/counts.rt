@@ -1,0 +1,68 @@
+ghost use Rattle.std.specs.Prelude.{◌≡◌, IfOk, map};
+ghost use Rattle.osm_segments.specs.Counts.{AreSurvivors, AreDistinct, AreOddNodes, ends_of};
+ghost use Rattle.osm_segments.specs.Repeats.{AreRepeats, repeat_of};
+
+use osm_geom::{Loc, Seg};
+use osm_lists::{Tally, distinct_items, odd_items, repeated_items};
+use std::alloc::{AllocError, Global};
+
+/// A segment of a list, and how often it stands there.
+#[derive(Clone, Copy, Debug, PartialEq, Eq)]
+pub struct Repeat {
+    pub seg: Seg,
+    pub times: u64,
+}
+
+/// The segments that stand an odd number of times in a list, each once, in strict order.
+pub fn survivors(alloc: Global, segs: &[Seg]) -> Result<Vec<Seg>, AllocError>
+    ensures { IfOk result (λ v. AreSurvivors segs.now v.items) }
+{
+    odd_items(alloc, segs)
+}
+
+/// The segments of a list, each once, in strict order.
+pub fn distinct(alloc: Global, segs: &[Seg]) -> Result<Vec<Seg>, AllocError>
+    ensures { IfOk result (λ v. AreDistinct segs.now v.items) }
+{
+    distinct_items(alloc, segs)
+}
+
+fn repeats_of(alloc: Global, tallies: &[Tally<Seg>]) -> Result<Vec<Repeat>, AllocError>
+    ensures { IfOk result (λ v. v.items ≡ map repeat_of tallies.now) }
+{
+    tallies
+        .iter()
+        .map(|t| Repeat {
+            seg: t.item,
+            times: t.times,
+        })
+        .collect(alloc)
+}
+
+/// The segments that stand at least twice in a list, each once and with its number, in strict order.
+pub fn repeated(alloc: Global, segs: &[Seg]) -> Result<Vec<Repeat>, AllocError>
+    ensures { IfOk result (λ v. AreRepeats segs.now v.items) }
+{
+    let tallies = repeated_items(alloc, segs)?;
+    repeats_of(alloc, &tallies)
+}
+
+// Both ends of each segment.
+fn ends(alloc: Global, segs: &[Seg]) -> Result<Vec<Loc>, AllocError>
+    ensures { IfOk result (λ v. v.items ≡ ends_of segs.now) }
+{
+    let mut ends = Vec::new(alloc);
+    for seg in segs {
+        ends.push(seg.a)?;
+        ends.push(seg.b)?;
+    }
+    Ok(ends)
+}
+
+/// The locations at which an odd number of segments end, in strict order.
+pub fn odd_nodes(alloc: Global, segs: &[Seg]) -> Result<Vec<Loc>, AllocError>
+    ensures { IfOk result (λ v. AreOddNodes segs.now v.items) }
+{
+    let ends = ends(alloc, segs)?;
+    odd_items(alloc, &ends)
+}

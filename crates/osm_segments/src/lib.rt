@@ -1,0 +1,11 @@
+//! What is known of a list of segments before any ring is made: which survive cancelling, which stand
+//! repeatedly, which conflict, and at which locations an odd number of them end.
+#![tactic(auto)]
+
+mod counts;
+mod pairs;
+#[cfg(test)]
+mod tests;
+
+pub use counts::{Repeat, distinct, odd_nodes, repeated, survivors};
+pub use pairs::{Pair, conflicts};

@@ -1,0 +1,6 @@
+pub mod SegmentTests
+pub mod OddSideCounts
+pub mod PlaneEdges
+pub mod Survivors
+pub mod DirectedSides
+pub mod Pushes

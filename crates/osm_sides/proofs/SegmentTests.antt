@@ -1,0 +1,55 @@
+-- The tests of segments that need more than their definitions.
+use Rattle.std.proofs.Common.{Bool, true, false, not, ℤ, ◌-ℤ◌, ◌≡◌, ◌∙◌, refl, ap, arith}
+use Rattle.std.specs.declared.cmp.Ordering.{Ordering}
+use Rattle.std.specs.declared.cmp.Ordering.TheVariants.{Less, Equal, Greater}
+use Rattle.std.specs.Ordering.{is_eq}
+use lib.Signed.{lt_z}
+use Rattle.std.proofs.lemmas.Int.{ints}
+use Rattle.plane.proofs.Signs.{Says, says}
+use Rattle.std.proofs.lemmas.Cmp.{tied_itself}
+use Rattle.plane.specs.Sign.{Sign, Plus, Null, Minus, is_null, is_plus, sign, then_sign}
+use Rattle.plane.specs.Vector.{Vector, same_point}
+use Rattle.plane.proofs.Points.{same_point-refl, same_point-true}
+use Rattle.osm_geom.specs.declared.loc.Loc.{Loc}
+use Rattle.osm_geom.specs.declared.seg.Seg.{Seg}
+use Rattle.osm_geom.specs.Loc.{loc_cmp, vector_of}
+use Rattle.osm_geom.proofs.LocationOrder.{loc_total, rising_edge}
+use Rattle.osm_geom.proofs.Orders.{loc_from_fields, loc_same}
+use Rattle.osm_sides.specs.SideTests.{level, same}
+
+loc_from_vectors : (p q : Loc) → vector_of p ≡ vector_of q → p ≡ q
+loc_from_vectors p q e = loc_from_fields p q (ap (λ (v : Vector). v.x) e) (ap (λ (v : Vector). v.y) e)
+
+-- a location ties with itself alone
+same_by : (p q : Loc) (b : Bool) (o : Ordering) → same_point (vector_of p) (vector_of q) ≡ b → loc_cmp p q ≡ o → is_eq o ≡ b
+same_by p q true Equal e h = refl
+same_by p q true Less e h =
+    let one : p ≡ q = loc_from_vectors p q (same_point-true (vector_of p) (vector_of q) e) in
+    let tied : loc_cmp p q ≡ Equal = rw one (tied_itself loc_total q) in cc
+same_by p q true Greater e h =
+    let one : p ≡ q = loc_from_vectors p q (same_point-true (vector_of p) (vector_of q) e) in
+    let tied : loc_cmp p q ≡ Equal = rw one (tied_itself loc_total q) in cc
+same_by p q false Less e h = refl
+same_by p q false Greater e h = refl
+same_by p q false Equal e h =
+    let one : p ≡ q = loc_same p q h in
+    let here : same_point (vector_of p) (vector_of q) ≡ true = rw one (same_point-refl (vector_of q)) in cc
+
+pub same_is : (p q : Loc) → is_eq (loc_cmp p q) ≡ same p q
+unfolding same
+same_is p q = same_by p q (same_point (vector_of p) (vector_of q)) (loc_cmp p q) refl refl
+
+flat_by : (s t : Sign) → then_sign s t ≡ Plus → not (is_plus s) ≡ is_null s
+flat_by Plus t h = refl
+flat_by Null t h = refl
+flat_by Minus t h = cc
+
+-- one number is below another where the difference is positive
+lt_by : (x y : ℤ) (s : Sign) → Says s (y -ℤ x) → lt_z x y ≡ is_plus s
+lt_by x y Plus h = grind (arith, ints)
+lt_by x y Null h = grind (arith, ints)
+lt_by x y Minus h = grind (arith, ints)
+
+pub level_is : (s : Seg) → not (lt_z s.a.y s.b.y) ≡ level s
+unfolding level
+level_is s = ap not (lt_by s.a.y s.b.y (sign (s.b.y -ℤ s.a.y)) (says (s.b.y -ℤ s.a.y))) ∙ flat_by (sign (s.b.y -ℤ s.a.y)) (sign (s.b.x -ℤ s.a.x)) (rising_edge s)

@@ -1,0 +1,3 @@
+pub mod Survivors
+pub mod SideTests
+pub mod Directions

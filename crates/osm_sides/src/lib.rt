@@ -1,0 +1,7 @@
+//! Directions of segments by the odd side, and how many edges are right of one at a height.
+#![tactic(auto)]
+
+mod directions;
+mod sides;
+
+pub use directions::direct;

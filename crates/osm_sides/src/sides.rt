@@ -1,0 +1,96 @@
+ghost use Rattle.std.specs.Prelude.{◌≡◌};
+ghost use Rattle.winding.specs.OddSide.{runs_up};
+ghost use Rattle.osm_geom.specs.Seg.{edge_of};
+ghost use Rattle.osm_sides.specs.Survivors.{edges_of};
+ghost use Rattle.osm_sides.specs.SideTests.{span, left_of, starts_left, level, same, left_side, forks_right, counted, left_count, right_count};
+
+use osm_geom::{Loc, Seg, orient};
+
+// The height of `p` is at least that of the lower end and less than that of the upper end.
+#[tactic(auto, unfolding(crate::specs::SideTests::span))]
+fn is_in_span(p: Loc, t: Seg) -> bool
+    ensures { result ≡ span p t }
+{
+    t.a.y <= p.y && p.y < t.b.y
+}
+
+// The segment spans the height of `p` and has it on its left.
+#[tactic(auto, unfolding(crate::specs::SideTests::left_of, crate::specs::SideTests::span, crate::specs::SideTests::left_side))]
+fn is_left_of(p: Loc, t: Seg) -> bool
+    ensures { result ≡ left_of p t }
+{
+    is_in_span(p, t) && is_left_of_line(p, t)
+}
+
+#[tactic(auto, unfolding(crate::specs::SideTests::same))]
+fn is_same(p: Loc, q: Loc) -> bool
+    ensures { result ≡ same p q }
+{
+    p == q
+}
+
+// `p` is left of the line of `t`.
+#[tactic(auto, unfolding(crate::specs::SideTests::left_side, osm_geom::specs::Loc::orientation))]
+fn is_left_of_line(p: Loc, t: Seg) -> bool
+    ensures { result ≡ left_side p t }
+{
+    orient(t.a, t.b, p) > 0
+}
+
+// `t` begins where `s` does, and runs to the right of it.
+#[tactic(auto, unfolding(crate::specs::SideTests::forks_right, crate::specs::SideTests::same, osm_geom::specs::Loc::orientation))]
+fn forks_right(s: Seg, t: Seg) -> bool
+    ensures { result ≡ forks_right s t }
+{
+    is_same(s.a, t.a) && orient(s.a, s.b, t.b) < 0
+}
+
+// The lower end of `s` is left of `t`, or `t` begins there too and runs to the right of `s`.
+#[tactic(auto, unfolding(crate::specs::SideTests::starts_left, crate::specs::SideTests::span, crate::specs::SideTests::left_side, crate::specs::SideTests::forks_right))]
+fn starts_left_of(s: Seg, t: Seg) -> bool
+    ensures { result ≡ starts_left s t }
+{
+    is_in_span(s.a, t) && (is_left_of_line(s.a, t) || forks_right(s, t))
+}
+
+// Its upper end is no higher than its lower end.
+#[tactic(auto, using(crate::proofs::SegmentTests::level_is))]
+fn is_horizontal(s: Seg) -> bool
+    ensures { result ≡ level s }
+{
+    !(s.a.y < s.b.y)
+}
+
+// `t` is another segment than `s` and right of it just above its lower end.
+#[tactic(auto, unfolding(crate::specs::SideTests::counted, crate::specs::SideTests::same))]
+fn is_counted(s: Seg, t: Seg) -> bool
+    ensures { result ≡ counted s t }
+{
+    !(is_same(s.a, t.a) && is_same(s.b, t.b)) && starts_left_of(s, t)
+}
+
+// How many segments have `p` on their left.
+fn left_count(segs: &[Seg], p: Loc) -> usize
+    ensures { result ≡ left_count p segs.now }
+{
+    segs.iter().filter(|t| is_left_of(p, **t)).count()
+}
+
+// How many others are right of `s` just above its lower end.
+fn right_count(segs: &[Seg], s: Seg) -> usize
+    ensures { result ≡ right_count s segs.now }
+{
+    segs.iter().filter(|t| is_counted(s, **t)).count()
+}
+
+/// Whether the odd side makes `s` run from its lesser end to its greater one.
+#[tactic(auto, using(crate::proofs::OddSideCounts::runs_up_is))]
+pub fn runs_up(segs: &[Seg], s: Seg) -> bool
+    ensures { result ≡ runs_up (edges_of segs.now) (edge_of s) }
+{
+    if is_horizontal(s) {
+        left_count(segs, s.a) % 2 != 0
+    } else {
+        right_count(segs, s) % 2 == 0
+    }
+}

@@ -1,0 +1,3 @@
+pub mod Multiple
+pub mod Sided
+pub mod SidedLaws

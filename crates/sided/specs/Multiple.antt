@@ -1,0 +1,34 @@
+-- Points and edges in the plane multiplied by a number that makes them whole.
+use Rattle.std.specs.Prelude.{All, List, [], map, ℕ, ◌*◌, ◌/◌, ◌∷◌, ◌≤◌, pos}
+use Prim.Native.Nat.{◌∣◌}
+use Rattle.plane.specs.Edge as plane
+use Rattle.plane.specs.Scale.{scaled_point}
+use Rattle.plane.specs.Vector.{Vector}
+use Rattle.osm_geom.specs.declared.edge.Edge.{Edge}
+use Rattle.osm_geom.specs.declared.point.Point.{Point}
+use Rattle.osm_geom.specs.Point.{den_of, whole_of}
+
+-- p in the plane multiplied by k, a multiple of its denominator
+abbrev pub point_times : ℕ → Point → Vector
+point_times k p = scaled_point (pos (k / den_of p)) (whole_of p)
+
+abbrev pub edge_times : ℕ → Edge → plane.Edge
+edge_times k e = record { from = point_times k e.from; to = point_times k e.to }
+
+abbrev pub edges_times : ℕ → List Edge → List plane.Edge
+edges_times k es = map (edge_times k) es
+
+-- multiplied by k, all points of the list are whole
+pub record IsCommon (k : ℕ) (es : List Edge) : Type 0 where
+  pub some : 1 ≤ k
+  pub froms : All (λ (e : Edge). den_of e.from ∣ k) es
+  pub tos : All (λ (e : Edge). den_of e.to ∣ k) es
+
+-- the product of all denominators, which is such a number
+abbrev pub common_den : List Edge → ℕ
+common_den [] = 1
+common_den (e ∷ es) = den_of e.from * den_of e.to * common_den es
+
+-- the list in the plane multiplied by it
+abbrev pub whole_edges : List Edge → List plane.Edge
+whole_edges es = edges_times (common_den es) es

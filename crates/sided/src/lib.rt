@@ -1,0 +1,9 @@
+//! Sidedness and counts of lists of exact edges: the words of the plane over the list once it is multiplied so that
+//! all of its points are whole.
+//!
+//! There is no code to run here. Each public function has an empty body; its contract is a law about the definitions in
+//! `specs/`.
+#![tactic(auto)]
+
+pub mod lattice;
+pub mod multiple;
