@@ -1,4 +1,5 @@
 pub mod Clockwise
+pub mod Multiplied
 pub mod FirstMets
 pub mod LeastStarts
 pub mod OrbitWalks

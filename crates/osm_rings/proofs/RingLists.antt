@@ -21,8 +21,7 @@ use Rattle.osm_rings.specs.Numbered.{AreSuccessors, edge_at}
 use Rattle.osm_rings.specs.Pieces.{AreAllCut, TellPoints, edges_at}
 use Rattle.osm_rings.specs.PlaneEdge.{IsWholeSegment, plane_edge, vector_at}
 use Rattle.osm_rings.specs.Ring.{IsRing}
-use Rattle.osm_rings.specs.RingList.{AreRingsOf, LiesInWalk}
-use Rattle.osm_rings.specs.SidedEdges.{AreSidedSegments}
+use Rattle.osm_rings.specs.PlaneRings.{ArePlaneRingsOf, AreSidedInPlane}
 use Rattle.osm_rings.proofs.OrbitWalks.{edge-in, orbits-walks, round, end-is}
 use Rattle.osm_rings.proofs.Placed.{all-below, placed-map, placed-whole, sums-whole}
 use Rattle.osm_rings.specs.Ways.{IsFirstMet}
@@ -85,7 +84,7 @@ ring-of-plane r whole long ring =
     }
 
 -- ---- orbits are paths
-module _ (es : List Edge) (sided : AreSidedSegments es) (next : List (Option ℕ)) (are : AreSuccessors (map plane_edge es) next) where
+module _ (es : List Edge) (sided : AreSidedInPlane es) (next : List (Option ℕ)) (are : AreSuccessors (map plane_edge es) next) where
   abbrev edges : List plane.Edge
   edges = map plane_edge es
 
@@ -150,7 +149,7 @@ module _ (es : List Edge) (sided : AreSidedSegments es) (next : List (Option ℕ
       listed = ring_list edges sided.sided (map (map (edge_at edges)) os) (map (map (edge_at edges)) pieces) walks cuts
 
       -- the pieces are rings that hold each edge once, each in one walk, no two of which cross
-      pub pieces-are-rings : AreRingsOf es (map (edges_at es) pieces)
+      pub pieces-are-rings : ArePlaneRingsOf es (map (edges_at es) pieces)
       pieces-are-rings = record {
         edges = sums-whole es keys os pieces cut (λ g. sums (length es) os (subst (λ n. HoldEachOnce n os) (are.sized ∙ size) orbits.once) g);
         walks = λ r i.
@@ -159,6 +158,14 @@ module _ (es : List Edge) (sided : AreSidedSegments es) (next : List (Option ℕ
             (found.0, walks.walk found.0 found.1, λ e j. found.2 (plane_edge e) (in-map plane_edge r e j));
         rings = subst IsRingList (sym in-plane) listed;
       }
+
+      wholes : (ps : List (List ℕ)) → All (λ p. All (λ k. k < length es) p) ps → All (λ r. All IsWholeSegment r) (map (edges_at es) ps)
+      wholes [] inside = All-nil (λ r. All IsWholeSegment r)
+      wholes (p ∷ ps) inside = All-cons (λ r. All IsWholeSegment r) (edges_at es p) (map (edges_at es) ps) (placed-whole es p sided.whole (inside 0 [] (omega arith))) (wholes ps (λ i z l. inside (suc i) z (omega arith)))
+
+      -- the rings too run along whole segments
+      pub pieces-whole : All (λ r. All IsWholeSegment r) (map (edges_at es) pieces)
+      pieces-whole = wholes pieces pieces-inside
 
       ring-at : (ps : List (List ℕ)) → ((p : List ℕ) → In p ps → In p pieces) → All (λ p. All (λ k. k < length es) p) ps → All (λ p. IsRing (edges_at es p)) ps
       ring-at [] sub inside = All-nil (λ p. IsRing (edges_at es p))
@@ -175,7 +182,7 @@ module _ (es : List Edge) (sided : AreSidedSegments es) (next : List (Option ℕ
       pieces-ring = ring-at pieces (λ p i. i) pieces-inside
 
 -- ---- from what the functions ensure
-pub successors-of : (es : List Edge) → AreSidedSegments es → (next : List (Option ℕ)) → length next ≡ length es → ((i : ℕ) → i < length es → IsFirstMet (map plane_edge es) (edge_at (map plane_edge es) i) (after next i)) → AreSuccessors (map plane_edge es) next
+pub successors-of : (es : List Edge) → AreSidedInPlane es → (next : List (Option ℕ)) → length next ≡ length es → ((i : ℕ) → i < length es → IsFirstMet (map plane_edge es) (edge_at (map plane_edge es) i) (after next i)) → AreSuccessors (map plane_edge es) next
 successors-of es sided next sized met =
     let size = length-map es plane_edge in
     are-successors (map plane_edge es) sided.sided next (omega arith) (λ i h. met i (omega arith))

@@ -3,6 +3,7 @@ pub mod LeastStart
 pub mod Numbered
 pub mod Pieces
 pub mod PlaneEdge
+pub mod PlaneRings
 pub mod Ring
 pub mod RingList
 pub mod SidedEdges

@@ -1,4 +1,4 @@
--- The edges of the plane that whole segments are.
+-- Edges that run along whole segments, and the edges of the plane that they are.
 use Rattle.std.specs.Prelude.{Bool, cond, ◌≡◌}
 use Rattle.plane.specs.Edge as plane
 use Rattle.plane.specs.Vector.{Vector}
