@@ -1,5 +1,6 @@
 pub mod Clockwise
 pub mod Multiplied
+pub mod Directed
 pub mod FirstMets
 pub mod LeastStarts
 pub mod OrbitWalks

@@ -1,4 +1,5 @@
 pub mod Clockwise
+pub mod Laws
 pub mod LeastStart
 pub mod Numbered
 pub mod Pieces
