@@ -1,0 +1,9 @@
+pub mod CutSteps
+pub mod Exists
+pub mod Finding
+pub mod Marking
+pub mod Members
+pub mod Reading
+pub mod Sums
+pub mod Unique
+pub mod Walks

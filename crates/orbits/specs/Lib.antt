@@ -1,0 +1,6 @@
+pub mod Cutting
+pub mod Once
+pub mod OnceLaws
+pub mod OrbitLaws
+pub mod OrbitSteps
+pub mod Orbits

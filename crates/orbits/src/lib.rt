@@ -1,0 +1,12 @@
+//! Orbits of a partial one-to-one map on numbers, and closed walks cut where they come to a key again.
+#![tactic(auto)]
+
+mod cutting;
+mod laws;
+mod orbit;
+#[cfg(test)]
+mod tests;
+
+pub use cutting::cut;
+pub use laws::{each_stands_once, orbits_are_determined};
+pub use orbit::orbits;

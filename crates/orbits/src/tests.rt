@@ -1,0 +1,39 @@
+use super::*;
+use std::alloc::AllocError;
+use std::test::*;
+
+#[test]
+fn chains_and_cycles(rt: HostRuntime) -> Result<(), AllocError> {
+    // 4 -> 0 -> 2 is open, 5 -> 3 -> 1 -> 5 is closed, 6 stands alone and 7 goes on to itself.
+    let next = [
+        Some(2),
+        Some(5),
+        None,
+        Some(1),
+        Some(0),
+        Some(3),
+        None,
+        Some(7),
+    ];
+    let found = orbits(rt.alloc(), &next)?;
+    assert_eq!(rt; found.len(), 4);
+    assert_eq!(rt; found[0].as_slice(), [1, 5, 3].as_slice());
+    assert_eq!(rt; found[1].as_slice(), [4, 0, 2].as_slice());
+    assert_eq!(rt; found[2].as_slice(), [6].as_slice());
+    assert_eq!(rt; found[3].as_slice(), [7].as_slice());
+    Ok(())
+}
+
+#[test]
+fn loops_within_loops(rt: HostRuntime) -> Result<(), AllocError> {
+    // The items leave the keys P Q R Q S P T.
+    let keys = [2, 1, 0, 4, 3];
+    let walk = [2, 1, 0, 1, 4, 2, 3];
+    let mut depths = [9; 5];
+    let pieces = cut(rt.alloc(), &walk, &keys, &mut depths)?;
+    assert_eq!(rt; pieces.len(), 3);
+    assert_eq!(rt; pieces[0].as_slice(), [1, 0].as_slice());
+    assert_eq!(rt; pieces[1].as_slice(), [2, 1, 4].as_slice());
+    assert_eq!(rt; pieces[2].as_slice(), [2, 3].as_slice());
+    Ok(())
+}

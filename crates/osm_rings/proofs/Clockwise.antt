@@ -1,0 +1,130 @@
+-- The clockwise order by signs: a chain, the same as that of directions, and what a sector holds.
+use Rattle.std.proofs.Common.{◌≡◌, ◌≢◌, ℕ, Bool, true, false, not, ◌&&◌, eqb, eqb-true, ℤ, pos, ◌-ℤ◌, ◌+ℤ◌, refl, sym, ap, subst, ◌∙◌, arith}
+use Rattle.std.specs.Ordering.{is_lt, int_cmp, nat_cmp, ordering_then}
+use Rattle.std.specs.declared.cmp.Ordering.{Ordering}
+use Rattle.std.proofs.lemmas.Int.{ints}
+use Rattle.plane.specs.Sector.{in_sector, sector_by}
+use Rattle.plane.specs.Sign.{Minus, Null, Plus, Sign, is_null, is_plus, negated, sign}
+use Rattle.plane.specs.Vector.{IsDirection, Vector, cross, dot}
+use Rattle.plane.specs.Vector as vector
+use Rattle.plane.proofs.Identities.{same}
+use Rattle.plane.proofs.Products.{cross-self, dot2, frame-agree, frame-dot-agree, lift2, plucker-agree, plucker-dot-agree}
+use Rattle.plane.proofs.Signs.{agree, all, all-out, all2, all2-out, all4, all4-out, imp, imp-out, sign-turned, times, times-back, times-plus}
+use Rattle.winding.proofs.Balance.{crossed, same_bool, same_bool-true}
+use Rattle.winding.proofs.Levels.{cross-neg}
+use Rattle.nesting.proofs.Successors.{is_some, some-signs}
+use Rattle.osm_geom.specs.declared.dir.Dir.{Dir}
+use Rattle.osm_geom.specs.Dir as dir
+use Rattle.osm_geom.specs.Dir.{clockwise_cmp, rank_of, turn_by, vector_along}
+use Rattle.osm_geom.specs.OrderLaws.{ordering_of}
+use Rattle.osm_geom.proofs.LocationOrder.{int_cmp-is}
+use Rattle.osm_rings.specs.Clockwise.{earlier, is_met_before}
+
+-- a direction seen from d, and another one
+pub crossed-at : (d a b : Vector) → IsDirection d → crossed (sign (dot d a)) (sign (cross d a)) (sign (dot d b)) (sign (cross d b)) (sign (cross a b)) ≡ true
+crossed-at d a b p =
+    let k = sign (cross a b) in let ay = sign (cross d a) in let bx = sign (dot d b) in
+    subst (λ s. agree s (times ay bx) (times (sign (dot d a)) (sign (cross d b))) ≡ true) (times-plus k)
+    (subst (λ s. agree (times Plus k) s (times (sign (dot d a)) (sign (cross d b))) ≡ true) (times-back bx ay) (frame-agree d a b p))
+
+dot-at : (d a b : Vector) → IsDirection d → agree (times (sign (dot d a)) (sign (dot d b))) (times (sign (cross d a)) (sign (cross d b))) (sign (dot a b)) ≡ true
+dot-at d a b p = subst (λ s. agree (times (sign (dot d a)) (sign (dot d b))) (times (sign (cross d a)) (sign (cross d b))) s ≡ true) (times-plus (sign (dot a b))) (frame-dot-agree d a b p)
+
+-- ---- a chain
+abbrev chain_4 : Sign → Sign → Sign → Sign → Sign → Sign → Sign → Sign → Sign → Bool
+chain_4 ax ay bx by cx cy k l m =
+    imp (agree (times ay l) (times cy k) (times by m)) λ _.
+    imp (agree (times ax l) (times cx k) (times bx m)) λ _.
+    earlier ax ay cx cy m
+
+abbrev chain_3 : Sign → Sign → Sign → Sign → Sign → Sign → Sign → Sign → Bool
+chain_3 ax ay bx by k cx cy l =
+    imp (crossed bx by cx cy l) λ _.
+    imp (earlier bx by cx cy l) λ _.
+    all λ m. imp (crossed ax ay cx cy m) λ _. chain_4 ax ay bx by cx cy k l m
+
+abbrev chain_2 : Sign → Sign → Sign → Sign → Sign → Bool
+chain_2 ax ay bx by k =
+    imp (is_some bx by) λ _.
+    imp (crossed ax ay bx by k) λ _.
+    imp (earlier ax ay bx by k) λ _.
+    all λ cx. all λ cy. all λ l. chain_3 ax ay bx by k cx cy l
+
+abbrev chain_1 : Sign → Sign → Sign → Sign → Bool
+chain_1 ax ay bx by = all (chain_2 ax ay bx by)
+
+chain_computes : all4 chain_1 ≡ true
+chain_computes = refl
+
+pub met-chain : (d a b c : Vector) → IsDirection d → IsDirection b → is_met_before d a b ≡ true → is_met_before d b c ≡ true → is_met_before d a c ≡ true
+met-chain d a b c pd pb h g =
+    let ax = sign (dot d a) in let ay = sign (cross d a) in let bx = sign (dot d b) in let by = sign (cross d b) in let cx = sign (dot d c) in let cy = sign (cross d c) in
+    let k = sign (cross a b) in let l = sign (cross b c) in let m = sign (cross a c) in
+    let g1 = all-out (chain_2 ax ay bx by) (all4-out chain_1 chain_computes ax ay bx by) k in
+    let g2 = imp-out _ _ (imp-out _ _ (imp-out _ _ g1 (some-signs d b pd pb)) (crossed-at d a b pd)) h in
+    let g3 = all-out (λ l. chain_3 ax ay bx by k cx cy l) (all-out (λ cy. all λ l. chain_3 ax ay bx by k cx cy l) (all-out (λ cx. all λ cy. all λ l. chain_3 ax ay bx by k cx cy l) g2 cx) cy) l in
+    let g4 = all-out (λ m. imp (crossed ax ay cx cy m) λ _. chain_4 ax ay bx by cx cy k l m) (imp-out _ _ (imp-out _ _ g3 (crossed-at d b c pd)) g) m in
+    imp-out _ _ (imp-out _ _ (imp-out _ _ g4 (crossed-at d a c pd)) (plucker-agree d a b c)) (plucker-dot-agree d a b c)
+
+-- nothing is met before itself
+pub met-itself : (d a : Vector) → is_met_before d a a ≡ false
+met-itself d a =
+    let c = all2-out (λ x y. not (earlier x y x y Null)) refl (sign (dot d a)) (sign (cross d a)) in
+    ap (λ z. earlier (sign (dot d a)) (sign (cross d a)) (sign (dot d a)) (sign (cross d a)) (sign z)) (cross-self a) ∙ not-out _ c
+  where
+    not-out : (b : Bool) → not b ≡ true → b ≡ false
+    not-out true h = sym h
+    not-out false h = refl
+
+-- ---- the same as in Rust's words
+abbrev ranked_2 : Sign → Sign → Sign → Sign → Sign → Bool
+ranked_2 ax ay bx by k =
+    same_bool (earlier ax ay bx by k)
+    (is_lt (ordering_then (nat_cmp (rank_of (turn_by (ordering_of (negated ay)) (ordering_of (negated ax)))) (rank_of (turn_by (ordering_of (negated by)) (ordering_of (negated bx))))) (ordering_of (negated k))))
+
+ranked_computes : all4 (λ ax ay bx by. all (ranked_2 ax ay bx by)) ≡ true
+ranked_computes = refl
+
+below-zero : (z : ℤ) → int_cmp z (pos 0) ≡ ordering_of (negated (sign z))
+below-zero z = int_cmp-is z (pos 0) ∙ ap ordering_of (sign-turned z (pos 0 -ℤ z) (sum-none z))
+  where
+    sum-none : (z : ℤ) → z +ℤ (pos 0 -ℤ z) ≡ pos 0
+    sum-none z = omega (arith, ints)
+
+pub met-before-is : (d a b : Dir) → is_lt (clockwise_cmp d a b) ≡ is_met_before (vector_along d) (vector_along a) (vector_along b)
+unfolding dir.cross dir.dot
+met-before-is d a b =
+    let u = vector_along d in let v = vector_along a in let w = vector_along b in
+    let c = same_bool-true _ _ (all-out (ranked_2 (sign (dot u v)) (sign (cross u v)) (sign (dot u w)) (sign (cross u w))) (all4-out (λ ax ay bx by. all (ranked_2 ax ay bx by)) ranked_computes (sign (dot u v)) (sign (cross u v)) (sign (dot u w)) (sign (cross u w))) (sign (cross v w))) in
+    rw (below-zero (cross u v), below-zero (dot u v), below-zero (cross u w), below-zero (dot u w), below-zero (cross v w)) (sym c)
+
+-- ---- the sector from a direction that isn't met before another one back to d holds that other one
+abbrev held_2 : Sign → Sign → Sign → Sign → Sign → Sign → Bool
+held_2 ax ay bx by k g =
+    imp (is_some ax ay) λ _. imp (is_some bx by) λ _.
+    imp (crossed ax ay bx by k) λ _. imp (agree (times ax bx) (times ay by) g) λ _.
+    imp (not (is_null k && is_plus g)) λ _.
+    imp (not (earlier bx by ax ay (negated k))) λ _.
+    eqb (sector_by g (negated k) bx (negated by) ay) 1
+
+held_computes : all4 (λ ax ay bx by. all2 (held_2 ax ay bx by)) ≡ true
+held_computes = refl
+
+dot-back : (a b : Vector) → dot b a ≡ dot a b
+dot-back a b = let e = lift2 a in let f = lift2 b in same (dot2 f e) (dot2 e f) (omega arith)
+
+-- a and b do not point the same way
+abbrev pub apart : Vector → Vector → Bool
+apart a b = not (is_null (sign (cross a b)) && is_plus (sign (dot a b)))
+
+pub sector-holds : (d a b : Vector) → IsDirection d → IsDirection a → IsDirection b → apart a b ≡ true → is_met_before d b a ≡ false → in_sector b d a ≡ 1
+sector-holds d a b pd pa pb n h =
+    let ax = sign (dot d a) in let ay = sign (cross d a) in let bx = sign (dot d b) in let by = sign (cross d b) in let k = sign (cross a b) in let g = sign (dot a b) in
+    let back : is_met_before d b a ≡ earlier bx by ax ay (negated k) = ap (λ s. earlier bx by ax ay s) (cross-neg a b) in
+    let first : not (earlier bx by ax ay (negated k)) ≡ true = ap not (sym back ∙ h) in
+    let c = all2-out (held_2 ax ay bx by) (all4-out (λ ax ay bx by. all2 (held_2 ax ay bx by)) held_computes ax ay bx by) k g in
+    let r = eqb-true _ _ (imp-out _ _ (imp-out _ _ (imp-out _ _ (imp-out _ _ (imp-out _ _ (imp-out _ _ c (some-signs d a pd pa)) (some-signs d b pd pb)) (crossed-at d a b pd)) (dot-at d a b pd)) n) first) in
+    ap (λ s. sector_by s (sign (cross b a)) (sign (dot b d)) (sign (cross b d)) ay) (ap sign (dot-back a b))
+    ∙ (ap (λ s. sector_by g s (sign (dot b d)) (sign (cross b d)) ay) (cross-neg a b)
+    ∙ (ap (λ s. sector_by g (negated k) s (sign (cross b d)) ay) (ap sign (dot-back d b))
+    ∙ (ap (λ s. sector_by g (negated k) bx s ay) (cross-neg d b) ∙ r)))

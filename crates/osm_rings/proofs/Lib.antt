@@ -1,0 +1,13 @@
+pub mod Clockwise
+pub mod Multiplied
+pub mod Directed
+pub mod FirstMets
+pub mod LeastStarts
+pub mod OrbitWalks
+pub mod Placed
+pub mod RingLists
+pub mod Starts
+pub mod Succeed
+pub mod TurnedRings
+pub mod WalkCuts
+pub mod Whole

@@ -1,0 +1,271 @@
+-- The ways in order: where those that begin at a location stand.
+use Rattle.std.proofs.Common.{◌≡◌, ◌≢◌, ◌⊎◌, inl, inr, ℕ, suc, zero, ◌+◌, ◌-◌, ◌<◌, ◌≤◌, List, [], ◌∷◌, ◌++◌, length, get_or, map, take, drop, All, Bool, true, false, not, refl, sym, ap, subst, ◌∙◌, arith, ⊎_elim}
+use Rattle.std.specs.List.{Contains, slice_range}
+use Rattle.std.specs.List.Sorted.{IsPartitionedBy, IsPermutation, IsSorted}
+use Rattle.std.specs.declared.cmp.Ordering.{Ordering}
+use Rattle.std.specs.declared.cmp.Ordering.TheVariants.{Less, Equal, Greater}
+use Rattle.std.specs.Ordering.{is_lt, nat_cmp, on, ordering_reverse, ordering_then, then_cmp}
+use Rattle.std.proofs.lemmas.Bool.{cases_lt}
+use Rattle.std.proofs.lemmas.Cmp.{tied_itself}
+use Rattle.std.proofs.lemmas.List.{get_or_default, get_or-map, get_or-take, get_or-drop, length-map, length-append, length-drop, length-take-le, get_or_append_left}
+use Rattle.std.proofs.lemmas.List.MinMax.{ranks_by}
+use Rattle.std.proofs.lemmas.List.Sorted.{All-permutation, Contains-permutation, length_permutation}
+use Rattle.std.proofs.Math.Seq.{get_or-append_seam}
+use Rattle.plane.specs.Edge.{Edge}
+use Rattle.osm_geom.specs.declared.loc.Loc.{Loc}
+use Rattle.osm_geom.specs.Loc.{loc_cmp, vector_of}
+use Rattle.osm_geom.proofs.LocationOrder.{loc_total}
+use Rattle.osm_geom.proofs.Orders.{loc_same}
+use Rattle.osm_rings.specs.declared.ways.Way.{Way}
+use Rattle.osm_rings.specs.Numbered.{edge_at}
+use Rattle.osm_rings.specs.Pieces.{TellPoints}
+use Rattle.osm_rings.specs.Ways.{AreFrom, AreRising, AreWays, IsEndAt, IsFirstAt}
+use Rattle.osm_rings.proofs.Whole.{same-location}
+
+abbrev lt : Loc → Loc → Bool
+lt p q = is_lt (loc_cmp p q)
+
+ranked-chain : (p q r : Loc) → lt p q ≡ false → lt q r ≡ false → lt p r ≡ false
+ranked-chain = (ranks_by loc_total (λ (p : Loc). p)).chain
+
+lt-itself : (p : Loc) → lt p p ≡ false
+lt-itself p = ap is_lt (tied_itself loc_total p)
+
+clash : (b : Bool) → b ≡ true → b ≡ false → ⊥
+clash b p q = cc
+
+not-out : (b : Bool) → not b ≡ true → b ≡ false
+not-out true h = sym h
+not-out false h = refl
+
+not-in : (b : Bool) → not b ≡ false → b ≡ true
+not-in true h = refl
+not-in false h = sym h
+
+-- neither begins before the other
+same-from : (p q : Loc) → lt p q ≡ false → lt q p ≡ false → p ≡ q
+same-from p q h g = decide (loc_cmp p q) refl
+  where
+    decide : (o : Ordering) → loc_cmp p q ≡ o → p ≡ q
+    decide Less e = absurd (clash (lt p q) (ap is_lt e) h)
+    decide Equal e = loc_same p q e
+    decide Greater e = absurd (clash (lt q p) (ap is_lt (loc_total.antisymm q p ∙ ap ordering_reverse e)) g)
+
+module _ (ws : List Way) where
+  -- what is sorted by where it begins, and then by something else
+  pub rising-from : (cmp : Way → Way → Ordering) → ((v w : Way) → loc_cmp v.from w.from ≡ Less → cmp v w ≡ Less) → IsSorted cmp ws → AreRising ws
+  rising-from cmp by sorted = λ i j d h l.
+      let far : i + (j - i) ≡ j = omega arith in
+      subst (λ m. lt (get_or ws m d).from (get_or ws i d).from ≡ false) far (rise (j - i) i d (omega arith))
+    where
+      next : (k : ℕ) (d : Way) → k + 1 < length ws → lt (get_or ws (k + 1) d).from (get_or ws k d).from ≡ false
+      next k d h = decide (loc_cmp (get_or ws (k + 1) d).from (get_or ws k d).from) refl
+        where
+          decide : (o : Ordering) → loc_cmp (get_or ws (k + 1) d).from (get_or ws k d).from ≡ o → lt (get_or ws (k + 1) d).from (get_or ws k d).from ≡ false
+          decide Less e = absurd (clash (is_lt (cmp (get_or ws (k + 1) d) (get_or ws k d))) (ap is_lt (by (get_or ws (k + 1) d) (get_or ws k d) e)) (sorted k d (omega arith) h))
+          decide Equal e = ap is_lt e
+          decide Greater e = ap is_lt e
+
+      rise : (n i : ℕ) (d : Way) → i + n < length ws → lt (get_or ws (i + n) d).from (get_or ws i d).from ≡ false
+      rise zero i d h =
+          let same : i + zero ≡ i = omega arith in
+          subst (λ m. lt (get_or ws m d).from (get_or ws i d).from ≡ false) (sym same) (lt-itself (get_or ws i d).from)
+      rise (suc n) i d h =
+          let same : i + suc n ≡ i + n + 1 = omega arith in
+          let step = next (i + n) d (omega arith) in
+          let before = rise n i d (omega arith) in
+          subst (λ m. lt (get_or ws m d).from (get_or ws i d).from ≡ false) (sym same) (ranked-chain (get_or ws (i + n + 1) d).from (get_or ws (i + n) d).from (get_or ws i d).from step before)
+
+  module _ (rising : AreRising ws) where
+    pub before-parts : (p : Loc) → IsPartitionedBy (λ w. lt w.from p) ws
+    before-parts p i j d h l below = decide (lt (get_or ws i d).from p) refl
+      where
+        decide : (b : Bool) → lt (get_or ws i d).from p ≡ b → lt (get_or ws i d).from p ≡ true
+        decide true e = e
+        decide false e = absurd (clash (lt (get_or ws j d).from p) below (ranked-chain (get_or ws j d).from (get_or ws i d).from p (rising i j d h l) e))
+
+    pub after-parts : (p : Loc) → IsPartitionedBy (λ w. not (lt p w.from)) ws
+    after-parts p i j d h l upto = ap not (ranked-chain p (get_or ws j d).from (get_or ws i d).from (not-out (lt p (get_or ws j d).from) upto) (rising i j d h l))
+
+    -- a way that begins at p stands at the first place or later, and one begins there
+    pub found-at : (p : Loc) (i : ℕ) (w : Way) → IsFirstAt ws p i → Contains ws w → w.from ≡ p → (i < length ws) × ((get_or ws i w).from ≡ p)
+    found-at p i w first (m, inside, is) at_p =
+        let here : (get_or ws m w).from ≡ p = ap (λ v. v.from) is ∙ at_p in
+        let late : i ≤ m = ⊎_elim
+        (λ early. absurd (clash (lt (get_or ws m w).from p) (first.0 m w (omega arith) early) (ap (λ q. lt q p) here ∙ lt-itself p)))
+        (λ late. late)
+        (cases_lt m i) in
+        let fits : i < length ws = omega arith in
+        let up : lt p (get_or ws i w).from ≡ false = subst (λ q. lt q (get_or ws i w).from ≡ false) here (rising i m w late inside) in
+        (fits, same-from (get_or ws i w).from p (first.1 i w (omega arith) fits) up)
+
+    -- there is one first place
+    pub first-one : (p : Loc) (i j : ℕ) (d : Way) → i < length ws → j < length ws → IsFirstAt ws p i → IsFirstAt ws p j → i ≡ j
+    first-one p i j d hi hj f g = ⊎_elim
+        (λ l. absurd (clash (lt (get_or ws i d).from p) (g.0 i d (omega arith) l) (f.1 i d (omega arith) hi)))
+        (λ l. ⊎_elim
+        (λ m. absurd (clash (lt (get_or ws j d).from p) (f.0 j d (omega arith) m) (g.1 j d (omega arith) hj)))
+        (λ m. omega arith)
+        (cases_lt j i))
+        (cases_lt i j)
+
+  -- the first place is not after the end
+  pub first-to-end : (p : Loc) (a b : ℕ) → a ≤ length ws → IsFirstAt ws p a → IsEndAt ws p b → a ≤ b
+  first-to-end p a b h first end = by-length ws refl
+    where
+      before-end : (d : Way) → a ≤ b
+      before-end d = ⊎_elim
+          (λ l.
+          let low : lt (get_or ws b d).from p ≡ true = first.0 b d (omega arith) l in
+          let high : lt p (get_or ws b d).from ≡ true = not-in (lt p (get_or ws b d).from) (end.1 b d (omega arith) (omega arith)) in
+          absurd (clash (lt (get_or ws b d).from p) low ((ranks_by loc_total (λ (q : Loc). q)).one_way p (get_or ws b d).from high)))
+          (λ l. l)
+          (cases_lt b a)
+
+      by-length : (xs : List Way) → ws ≡ xs → a ≤ b
+      by-length [] e = let none : length ws ≡ 0 = ap length e in omega arith
+      by-length (x ∷ xs) e = before-end x
+
+  -- what stands from the first place up to the end begins at p, and nothing else does
+  pub range-from : (p : Loc) (a b : ℕ) → a ≤ b → b ≤ length ws → IsFirstAt ws p a → IsEndAt ws p b → (ks : List ℕ) → ks ≡ map (λ w. w.edge) (slice_range ws a b) → AreFrom ws p ks
+  range-from p a b h l first end ks is =
+      let range = slice_range ws a b in
+      let dropped : length (drop a ws) ≡ length ws - a = length-drop a ws in
+      let long : length range ≡ b - a = length-take-le (b - a) (drop a ws) (omega arith) in
+      let longer : length ks ≡ length range = ap length is ∙ length-map range (λ w. w.edge) in
+      let read : (k : ℕ) (d : Way) → k < b - a → get_or range k d ≡ get_or ws (a + k) d = λ k d m. get_or-take (b - a) (drop a ws) k d m ∙ get_or-drop a ws k d in
+      let at_k : (k z : ℕ) (d : Way) → k < length ks → get_or ks k z ≡ (get_or ws (a + k) d).edge = λ k z d m. ap (λ xs. get_or xs k z) is ∙ (get_or-map (λ w. w.edge) range k d z (omega arith) ∙ ap (λ w. w.edge) (read k d (omega arith))) in
+      record {
+        right = λ k z m. with-way ws refl (λ d.
+            let w = get_or ws (a + k) d in
+            let fits : a + k < length ws = omega arith in
+            let low : lt w.from p ≡ false = first.1 (a + k) d (omega arith) fits in
+            let high : lt p w.from ≡ false = not-out (lt p w.from) (end.0 (a + k) d (omega arith) (omega arith)) in
+            (w, (a + k, fits, get_or_default ws (a + k) w d fits), same-from w.from p low high, sym (at_k k z d m))) (omega arith);
+        whole = λ w (m, inside, it) at_p.
+            let here : (get_or ws m w).from ≡ p = ap (λ v. v.from) it ∙ at_p in
+            let late : a ≤ m = ⊎_elim
+            (λ early. absurd (clash (lt (get_or ws m w).from p) (first.0 m w (omega arith) early) (ap (λ q. lt q p) here ∙ lt-itself p)))
+            (λ late. late)
+            (cases_lt m a) in
+            let early : m < b = ⊎_elim
+            (λ early. early)
+            (λ late. absurd (clash (lt p (get_or ws m w).from) (not-in (lt p (get_or ws m w).from) (end.1 m w late inside)) (ap (λ q. lt p q) here ∙ lt-itself p)))
+            (cases_lt m b) in
+            let same : a + (m - a) ≡ m = omega arith in
+            let fits : m - a < length ks = omega arith in
+            (m - a, fits, at_k (m - a) w.edge w fits ∙ (ap (λ n. (get_or ws n w).edge) same ∙ ap (λ v. v.edge) it));
+      }
+    where
+      with-way : {G : Type 0} (xs : List Way) → ws ≡ xs → (Way → G) → 0 < length ws → G
+      with-way [] e f h = let none : length ws ≡ 0 = ap length e in absurd (omega arith)
+      with-way (x ∷ xs) e f h = f x
+
+-- ---- the ways of the edges passed so far
+pub record AreListed (es : List Edge) (n : ℕ) (ws : List Way) : Type 0 where
+  pub sized : length ws ≡ n
+  pub edge : (i : ℕ) (d : Way) → i < n → (get_or ws i d).edge ≡ i
+  pub from : (i : ℕ) (d : Way) → i < n → (edge_at es i).from ≡ vector_of (get_or ws i d).from
+
+pub listed-none : (es : List Edge) → AreListed es 0 []
+listed-none es = record { sized = refl; edge = λ i d h. absurd (omega arith); from = λ i d h. absurd (omega arith) }
+
+pub listed-more : (es : List Edge) (n : ℕ) (ws : List Way) (w : Way) → AreListed es n ws → w.edge ≡ n → (edge_at es n).from ≡ vector_of w.from → AreListed es (n + 1) (ws ++ w ∷ [])
+listed-more es n ws w l is from =
+    let sized = l.sized in
+    let old : (i : ℕ) (d : Way) → i < n → get_or (ws ++ w ∷ []) i d ≡ get_or ws i d = λ i d h. get_or_append_left ws (w ∷ []) d i (omega arith) in
+    let new : (i : ℕ) (d : Way) → i ≡ n → get_or (ws ++ w ∷ []) i d ≡ w = λ i d e. ap (λ k. get_or (ws ++ w ∷ []) k d) (e ∙ sym sized) ∙ get_or-append_seam ws w [] d in
+    record {
+      sized = let e = length-append ws (w ∷ []) in omega arith;
+      edge = λ i d h. ⊎_elim (λ m. ap (λ v. v.edge) (old i d m) ∙ l.edge i d m) (λ m. let e : i ≡ n = omega arith in ap (λ v. v.edge) (new i d e) ∙ (is ∙ sym e)) (cases_lt i n);
+      from = λ i d h. ⊎_elim (λ m. l.from i d m ∙ ap (λ v. vector_of v.from) (sym (old i d m))) (λ m. let e : i ≡ n = omega arith in ap (λ k. (edge_at es k).from) e ∙ (from ∙ ap (λ v. vector_of v.from) (sym (new i d e)))) (cases_lt i n);
+    }
+
+-- sorted, they are the ways of all edges
+pub listed-sorted : (es : List Edge) (ws vs : List Way) (n : ℕ) → n ≡ length es → AreListed es n ws → IsPermutation ws vs → AreRising vs → AreWays es vs
+listed-sorted es ws vs n whole l moved rising =
+    let sized = l.sized in
+    record {
+      sized = length_permutation ws vs moved ∙ (sized ∙ whole);
+      rising = rising;
+      right = All-permutation (λ w. (w.edge < length es) × ((edge_at es w.edge).from ≡ vector_of w.from)) ws vs moved (λ i d h.
+          let fits : i < n = omega arith in
+          let is = l.edge i d fits in
+          (omega arith, ap (λ k. (edge_at es k).from) is ∙ l.from i d fits));
+      whole = λ k h. with-way ws refl (λ d.
+          let w = get_or ws k d in
+          let fits : k < length ws = omega arith in
+          (w, Contains-permutation ws vs w moved (k, fits, get_or_default ws k w d fits), l.edge k d (omega arith))) (omega arith);
+    }
+  where
+    with-way : {G : Type 0} (xs : List Way) → ws ≡ xs → (Way → G) → 0 < length ws → G
+    with-way [] e f h = let none : length ws ≡ 0 = ap length e in absurd (omega arith)
+    with-way (x ∷ xs) e f h = f x
+
+-- ---- the numbers of the nodes
+pub record AreKeyed (es : List Edge) (ws : List Way) (n : ℕ) (keys : List ℕ) : Type 0 where
+  pub sized : length keys ≡ n
+  pub first : (i : ℕ) → i < n → (p : Loc) × ((edge_at es i).from ≡ vector_of p) × IsFirstAt ws p (get_or keys i 0)
+
+pub keyed-none : (es : List Edge) (ws : List Way) → AreKeyed es ws 0 []
+keyed-none es ws = record { sized = refl; first = λ i h. absurd (omega arith) }
+
+pub keyed-more : (es : List Edge) (ws : List Way) (n : ℕ) (keys : List ℕ) (p : Loc) (k : ℕ) → AreKeyed es ws n keys → (edge_at es n).from ≡ vector_of p → IsFirstAt ws p k → AreKeyed es ws (n + 1) (keys ++ k ∷ [])
+keyed-more es ws n keys p k inv from first =
+    let sized = inv.sized in
+    record {
+      sized = let e = length-append keys (k ∷ []) in omega arith;
+      first = λ i h. ⊎_elim
+          (λ m. let old = inv.first i m in
+          let same : get_or (keys ++ k ∷ []) i 0 ≡ get_or keys i 0 = get_or_append_left keys (k ∷ []) 0 i (omega arith) in
+          (old.0, old.1, subst (IsFirstAt ws old.0) (sym same) old.2))
+          (λ m. let e : i ≡ n = omega arith in
+          let same : get_or (keys ++ k ∷ []) i 0 ≡ k = ap (λ j. get_or (keys ++ k ∷ []) j 0) (e ∙ sym sized) ∙ get_or-append_seam keys k [] 0 in
+          (p, ap (λ j. (edge_at es j).from) e ∙ from, subst (IsFirstAt ws p) (sym same) first))
+          (cases_lt i n);
+    }
+
+module _ (es : List Edge) (ws : List Way) (are : AreWays es ws) (keys : List ℕ) (keyed : AreKeyed es ws (length es) keys) where
+  -- the way of an edge begins where the edge does
+  way-of : (i : ℕ) (p : Loc) → i < length es → (edge_at es i).from ≡ vector_of p → (w : Way) × Contains ws w × (w.from ≡ p)
+  way-of i p h from =
+      let found = are.whole i h in
+      let w = found.0 in
+      let m = found.1 in
+      let right = are.right m.0 w m.1 in
+      let same : (edge_at es w.edge).from ≡ vector_of w.from = subst (λ v. (edge_at es v.edge).from ≡ vector_of v.from) m.2 right.1 in
+      (w, m, same-location w.from p (sym same ∙ (ap (λ k. (edge_at es k).from) found.2 ∙ from)))
+
+  at-key : (i : ℕ) → i < length es → (p : Loc) × (w : Way) × ((edge_at es i).from ≡ vector_of p) × IsFirstAt ws p (get_or keys i 0) × (get_or keys i 0 < length ws) × ((get_or ws (get_or keys i 0) w).from ≡ p)
+  at-key i h =
+      let key = keyed.first i h in
+      let w = way-of i key.0 h key.1 in
+      let at = found-at ws are.rising key.0 (get_or keys i 0) w.0 key.2 w.1 w.2 in
+      (key.0, w.0, key.1, key.2, at.0, at.1)
+
+  pub keys-below : All (λ k. k < length es) keys
+  keys-below i d h =
+      let sized = keyed.sized in
+      let at = at-key i (omega arith) in
+      let fits = at.4 in
+      let size = are.sized in
+      let read : get_or keys i d ≡ get_or keys i 0 = get_or_default keys i d 0 h in
+      rw read (omega arith)
+
+  pub keys-tell : TellPoints es keys
+  keys-tell i j hi hj =
+      let a = at-key i hi in
+      let b = at-key j hj in
+      (
+        λ same.
+            let here : (get_or ws (get_or keys j 0) b.1).from ≡ a.0 =
+            ap (λ w. w.from) (get_or_default ws (get_or keys j 0) b.1 a.1 b.4) ∙ (ap (λ k. (get_or ws k a.1).from) (sym same) ∙ a.5) in
+            a.2 ∙ (ap vector_of (sym here ∙ b.5) ∙ sym b.2),
+        λ same.
+            let one : a.0 ≡ b.0 = same-location a.0 b.0 (sym a.2 ∙ (same ∙ b.2)) in
+            first-one ws are.rising b.0 (get_or keys i 0) (get_or keys j 0) b.1 a.4 b.4 (subst (λ p. IsFirstAt ws p (get_or keys i 0)) one a.3) b.3,
+      )
+
+-- the order of ways goes by where they begin
+pub from-first : (v w : Way) → loc_cmp v.from w.from ≡ Less → then_cmp (on (λ (u : Way). u.from) loc_cmp) (on (λ (u : Way). u.edge) nat_cmp) v w ≡ Less
+from-first v w h = ap (λ o. ordering_then o (nat_cmp v.edge w.edge)) h

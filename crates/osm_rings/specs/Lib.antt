@@ -1,0 +1,12 @@
+pub mod Clockwise
+pub mod Laws
+pub mod LeastStart
+pub mod Numbered
+pub mod Pieces
+pub mod PlaneEdge
+pub mod PlaneRings
+pub mod Ring
+pub mod RingList
+pub mod SidedEdges
+pub mod Turned
+pub mod Ways

@@ -1,0 +1,61 @@
+-- The starts of edges in order, and the edges that leave a point. No public contract cites it.
+use Rattle.std.specs.Prelude.{All, Contains, List, Option, None, Some, false, get_or, length, map, not, slice_index_or, true, ℕ, ◌<◌, ◌≡◌, ◌≢◌, ◌≤◌}
+use Rattle.std.specs.Ordering.{is_lt}
+use Rattle.std.specs.List.Sorted.{IsPartitionPoint}
+use Rattle.plane.specs.Edge.{Edge}
+use Rattle.plane.specs.Vector.{Vector, east, from_to}
+use Rattle.osm_geom.specs.declared.edge.Edge as geom
+use Rattle.osm_geom.specs.declared.loc.Loc.{Loc}
+use Rattle.osm_geom.specs.declared.point.Point.{Point}
+use Rattle.osm_geom.specs.declared.point.Point.TheVariants.{Lattice}
+use Rattle.osm_geom.specs.Edge.{direction_of}
+use Rattle.osm_geom.specs.Loc.{loc_cmp, vector_of}
+use Rattle.osm_rings.specs.declared.ways.Way.{Way}
+use Rattle.osm_rings.specs.Clockwise.{is_met_before}
+use Rattle.osm_rings.specs.Numbered.{edge_at}
+
+abbrev pub IsLattice : Point → Type 0
+IsLattice p = (q : Loc) × (p ≡ Lattice q)
+
+-- no way begins before one that stands before it
+abbrev pub AreRising : List Way → Type 0
+AreRising ws = (i j : ℕ) (d : Way) → i ≤ j → j < length ws → is_lt (loc_cmp (slice_index_or ws j d).from (slice_index_or ws i d).from) ≡ false
+
+-- the ways of all edges, each with the place of its edge, in order of where they begin
+pub record AreWays (es : List Edge) (ws : List Way) : Type 0 where
+  pub sized : length ws ≡ length es
+  pub rising : AreRising ws
+  pub right : All (λ w. (w.edge < length es) × ((edge_at es w.edge).from ≡ vector_of w.from)) ws
+  pub whole : (k : ℕ) → k < length es → (w : Way) × Contains ws w × (w.edge ≡ k)
+
+-- the ways before place i are those that begin before p
+abbrev pub IsFirstAt : List Way → Loc → ℕ → Type 0
+IsFirstAt ws p i = IsPartitionPoint (λ w. is_lt (loc_cmp w.from p) ≡ true) (λ w. is_lt (loc_cmp w.from p) ≡ false) ws i
+
+-- the ways before place i are those that begin at p or before
+abbrev pub IsEndAt : List Way → Loc → ℕ → Type 0
+IsEndAt ws p i = IsPartitionPoint (λ w. not (is_lt (loc_cmp p w.from)) ≡ true) (λ w. not (is_lt (loc_cmp p w.from)) ≡ false) ws i
+
+-- the places of the edges whose ways begin at p
+pub record AreFrom (ws : List Way) (p : Loc) (ks : List ℕ) : Type 0 where
+  pub right : All (λ k. (w : Way) × Contains ws w × (w.from ≡ p) × (w.edge ≡ k)) ks
+  pub whole : (w : Way) → Contains ws w → w.from ≡ p → Contains ks w.edge
+
+-- the direction of the edge at a place
+abbrev pub direction_at : List geom.Edge → ℕ → Vector
+direction_at es k = get_or (map direction_of es) k east
+
+-- where an edge at a place goes
+abbrev pub way_at : List Edge → ℕ → Vector
+way_at es k = from_to (edge_at es k).from (edge_at es k).to
+
+-- of the edges that leave the end of e, the one at place j is met first on turning clockwise from the direction back
+pub record IsFirstFrom (es : List Edge) (e : Edge) (j : ℕ) : Type 0 where
+  pub inside : j < length es
+  pub leaves : (edge_at es j).from ≡ e.to
+  pub first : (k : ℕ) → k < length es → (edge_at es k).from ≡ e.to → is_met_before (from_to e.to e.from) (way_at es k) (way_at es j) ≡ false
+
+-- the place of that edge, if any leaves the end of e
+pub record IsFirstMet (es : List Edge) (e : Edge) (r : Option ℕ) : Type 0 where
+  pub some : (j : ℕ) → r ≡ Some j → IsFirstFrom es e j
+  pub none : r ≡ None → (k : ℕ) → k < length es → (edge_at es k).from ≢ e.to

@@ -1,0 +1,20 @@
+//! Laws of successors and ring lists, for edges with any points. Each function has an empty body; its contract is the law.
+ghost use Rattle.osm_rings.specs.Laws.{DirectedAreWhole, RingListExists, SuccessorExists, SuccessorIsOneToOne, SuccessorLeaves};
+
+/// In a sided list each edge has a successor, which leaves the node that the edge enters, and no edge is the
+/// successor of two.
+pub fn successors_are_one_to_one()
+    ensures exists { SuccessorExists }
+    ensures leaves { SuccessorLeaves }
+    ensures one_to_one { SuccessorIsOneToOne }
+{}
+
+/// Every sided list has a ring list.
+pub fn ring_list_exists()
+    ensures { RingListExists }
+{}
+
+/// What the survivors' directions give may be cut into rings.
+pub fn directed_segments_are_whole()
+    ensures { DirectedAreWhole }
+{}

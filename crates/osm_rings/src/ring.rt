@@ -1,0 +1,128 @@
+//! Rings, and lists of them.
+ghost use Rattle.std.specs.Prelude.{◌≡◌, ◌≢◌, ◌<◌, ◌++◌, ◌∷◌, [], All, IfOk, OnErr, OnOk, length, slice_index_or};
+ghost use Rattle.std.specs.declared.cmp.Ordering.TheVariants.{Less};
+ghost use Rattle.osm_geom.specs.Point.{point_cmp};
+ghost use Rattle.osm_rings.specs.LeastStart.{IsLesserStart};
+ghost use Rattle.osm_rings.specs.Ring.{IsRing};
+ghost use Rattle.osm_rings.specs.Turned.{IsTurned, BeginsLeast};
+
+use osm_geom::{Edge, compare_points};
+use std::alloc::{AllocError, Global};
+use std::cmp::Ordering;
+use std::marker::Model;
+
+/// A closed chain of at least three edges that leaves no point twice. Contracts see it as the list of its edges.
+#[derive(Drop)]
+pub struct Ring {
+    edges: Vec<Edge>,
+}
+
+impl Model for Ring {
+    ghost use Rattle.std.specs.Prelude.{List};
+    ghost use Rattle.osm_geom.specs.declared.edge.Edge.{Edge};
+    ghost use Rattle.osm_rings.specs.Ring.{IsRing};
+
+    ghost Value = { List Edge };
+
+    ghost view = { λ ring. ring.edges.items };
+
+    ghost invariant = { λ ring. IsRing ring.edges.items };
+}
+
+impl Ring {
+    /// The ring of these edges, which make one.
+    pub fn of_edges(edges: Vec<Edge>) -> Ring
+        requires { IsRing edges.items }
+        ensures { result ≡ edges.items }
+    {
+        Ring { edges }
+    }
+
+    /// Its edges, in order.
+    pub fn as_slice(&self) -> &[Edge]
+        ensures edges { result.now ≡ self.now }
+        ensures ring { IsRing self.now }
+    {
+        self.edges.as_slice()
+    }
+
+    /// The same edges in the same cyclic order, begun with the one that leaves the ring's least node. The error is
+    /// want of memory.
+    pub fn from_least(&self, alloc: Global) -> Result<Ring, AllocError>
+        ensures turned { IfOk result (λ ring. IsTurned self.now ring) }
+        ensures least { IfOk result (λ ring. BeginsLeast ring) }
+    {
+        let edges = self.as_slice();
+        let least = least_start(edges);
+        let mut turned = Vec::from_slice(alloc, &edges[least..])?;
+        turned.extend_from_slice(&edges[..least])?;
+        Ok(Ring::of_edges(turned))
+    }
+}
+
+// The place of an edge that leaves the least point.
+fn least_start(edges: &[Edge]) -> usize
+    requires { 0 < length edges.now }
+    ensures inside { result < length edges.now }
+    ensures least { All (λ e. point_cmp e.from (slice_index_or edges.now result e).from ≢ Less) edges.now }
+{
+    let mut least = 0;
+    for place in 0..edges.len() {
+        least = lesser_start(edges, least, place);
+    }
+    least
+}
+
+// Of two places the one whose edge leaves the lesser point, the first of them where both leave one.
+fn lesser_start(edges: &[Edge], least: usize, place: usize) -> usize
+    requires first { least < length edges.now }
+    requires second { place < length edges.now }
+    ensures { IsLesserStart edges.now least place result }
+{
+    match compare_points(edges[place].from, edges[least].from) {
+        Ordering::Less => place,
+        _ => least,
+    }
+}
+
+/// A list of rings.
+#[derive(Drop)]
+pub struct Rings {
+    items: Vec<Ring>,
+}
+
+impl Model for Rings {
+    ghost use Rattle.std.specs.Prelude.{List};
+    ghost use Rattle.osm_geom.specs.declared.edge.Edge.{Edge};
+
+    ghost Value = { List (List Edge) };
+
+    ghost view = { λ list. list.items.items };
+}
+
+impl Rings {
+    /// The empty list, which takes no memory.
+    pub fn new(alloc: Global) -> Rings
+        ensures { result ≡ [] }
+    {
+        Rings {
+            items: Vec::new(alloc),
+        }
+    }
+
+    /// Adds a ring at the end. After an `Err` the list is unchanged.
+    pub fn push(&mut self, item: Ring) -> Result<(), AllocError>
+        ensures ok { OnOk result (self.new ≡ self.old ++ item ∷ []) }
+        ensures err { OnErr result (self.new ≡ self.old) }
+    {
+        self.items.push(item)?;
+        Ok(())
+    }
+
+    /// The rings, in order.
+    pub fn as_slice(&self) -> &[Ring]
+        ensures { result.now ≡ self.now }
+    {
+        self.items.as_slice()
+    }
+}

@@ -1,0 +1,70 @@
+//! The ring list of a sided list of edges.
+ghost use Rattle.std.specs.Prelude.{◌≡◌, ◌<◌, All, IfOk, length, map};
+ghost use Rattle.osm_rings.specs.Pieces.{AreAllCut, edges_at};
+ghost use Rattle.osm_rings.specs.Ring.{IsRing};
+ghost use Rattle.osm_rings.specs.RingList.{AreRingsOf};
+ghost use Rattle.osm_rings.specs.SidedEdges.{AreSidedSegments};
+
+use crate::ring::{Ring, Rings};
+use crate::successors::successors;
+use crate::ways::{keys, ways};
+use orbits::{cut, orbits};
+use osm_geom::Edge;
+use std::alloc::{AllocError, Global};
+
+/// The rings of a sided list of edges that run along whole segments.
+///
+/// Each edge lies in exactly one ring, there once. The edges of a ring lie in one walk of successors, and no two
+/// rings cross: turning round a point that both pass, the two edges of the one don't alternate with those of the
+/// other. It takes time n log n, and at a node the square of the number of edges there. The error is want of memory.
+pub fn rings(alloc: Global, edges: &[Edge]) -> Result<Rings, AllocError>
+    requires { AreSidedSegments edges.now }
+    ensures { IfOk result (λ v. AreRingsOf edges.now v) }
+{
+    let ways = ways(alloc, edges)?;
+    let keys = keys(alloc, edges, &ways)?;
+    let next = successors(alloc, edges, &ways)?;
+    let walks = orbits(alloc, &next)?;
+    let pieces = pieces(alloc, &walks, &keys)?;
+    rings_of(alloc, edges, &pieces)
+}
+
+// The pieces that are cut off the walks.
+fn pieces(alloc: Global, walks: &[Vec<usize>], keys: &[usize]) -> Result<Vec<Vec<usize>>, AllocError>
+    requires keyed { All (λ w. All (λ i. i < length keys.now) w.items) walks.now }
+    requires room { All (λ k. k < length keys.now) keys.now }
+    ensures { IfOk result (λ v. AreAllCut keys.now (map (λ w. w.items) walks.now) (map (λ p. p.items) v.items)) }
+{
+    let mut depths = vec![in alloc; 0; keys.len()]?;
+    let mut pieces = Vec::new(alloc);
+    for walk in walks {
+        let mut cut = cut(alloc, walk, keys, &mut depths)?;
+        pieces.append(&mut cut)?;
+    }
+    Ok(pieces)
+}
+
+// The edges at these places.
+fn edges_at(alloc: Global, edges: &[Edge], places: &[usize]) -> Result<Vec<Edge>, AllocError>
+    requires { All (λ k. k < length edges.now) places.now }
+    ensures { IfOk result (λ v. v.items ≡ edges_at edges.now places.now) }
+{
+    let mut found = Vec::new(alloc);
+    for &place in places {
+        found.push(edges[place])?;
+    }
+    Ok(found)
+}
+
+// The rings whose edges stand at these places.
+fn rings_of(alloc: Global, edges: &[Edge], pieces: &[Vec<usize>]) -> Result<Rings, AllocError>
+    requires inside { All (λ p. All (λ k. k < length edges.now) p.items) pieces.now }
+    requires rings { All (λ p. IsRing (edges_at edges.now p.items)) pieces.now }
+    ensures { IfOk result (λ v. v ≡ map (λ p. edges_at edges.now p.items) pieces.now) }
+{
+    let mut rings = Rings::new(alloc);
+    for piece in pieces {
+        rings.push(Ring::of_edges(edges_at(alloc, edges, piece)?))?;
+    }
+    Ok(rings)
+}

@@ -1,0 +1,83 @@
+use super::*;
+use osm_geom::{Edge, Loc, Point, Seg};
+use osm_segments::{conflicts, odd_nodes, survivors};
+use osm_sides::direct;
+use std::alloc::Global;
+use std::test::Fail;
+
+/// The locations of a line, each its x and y.
+fn nodes(alloc: Global, line: &str) -> Result<Vec<Loc>, Fail> {
+    let mut nodes = Vec::new(alloc);
+    for word in line.split_whitespace() {
+        let (x, y) = word.split_once(',').unwrap_or((word, ""));
+        let at = Loc::new(x.parse().unwrap_or(i64::MAX), y.parse().unwrap_or(i64::MAX));
+        nodes.push(at.ok_or_else(|| Fail::new("out of range"))?)?;
+    }
+    Ok(nodes)
+}
+
+/// The segments of closed lines, parted by `/`, each line without its first location at the end.
+fn segs(alloc: Global, lines: &str) -> Result<Vec<Seg>, Fail> {
+    let mut segs = Vec::new(alloc);
+    for line in lines.split('/') {
+        let nodes = nodes(alloc, line)?;
+        let mut last = nodes.last().copied();
+        for &node in &nodes {
+            if let Some(from) = last {
+                segs.push(Seg::new(from, node).ok_or_else(|| Fail::new("no segment"))?)?;
+            }
+            last = Some(node);
+        }
+    }
+    Ok(segs)
+}
+
+/// The rings of the survivors of segments; none where there is a conflict or an odd node.
+#[tactic(auto, using(crate::proofs::Directed::sided_segments))]
+fn rings_of(alloc: Global, segs: &[Seg]) -> Result<Rings, Fail> {
+    let kept = survivors(alloc, segs)?;
+    let pairs = conflicts(alloc, &kept)?;
+    let odd = odd_nodes(alloc, &kept)?;
+    if !pairs.is_empty() || !odd.is_empty() {
+        return Err(Fail::new("not closed"));
+    }
+    let edges = direct(alloc, &kept)?;
+    Ok(rings(alloc, &edges)?)
+}
+
+/// Whether the ring passes these nodes in this order.
+fn passes(ring: &[Edge], nodes: &[Loc]) -> bool {
+    ring.len() == nodes.len() && ring.iter().zip(nodes).all(|(edge, node)| edge.from == Point::Lattice(*node))
+}
+
+#[test]
+fn rings_of_printed_areas(rt: HostRuntime) -> Result<(), Fail> {
+    let alloc = rt.alloc();
+    // Each ring from its least node, outer ones counterclockwise, inner ones clockwise.
+    let rows = [
+        ("square", "0,0 1,0 1,1 0,1"),
+        ("touching triangle", "0,0 4,0 4,4 0,4 / 0,0 1,2 2,1"),
+        (
+            "two crescents",
+            "0,0 4,0 4,2 2,2 2,4 0,4 / 4,2 6,2 6,6 2,6 2,4 4,4",
+        ),
+        (
+            "three triangles round a node",
+            "0,0 4,1 3,3 / 0,0 -1,4 -3,3 / -2,-4 2,-4 0,0",
+        ),
+    ];
+    for (name, lines) in rows {
+        let found = rings_of(alloc, &segs(alloc, lines)?)?;
+        assert_eq!(rt; found.as_slice().len(), lines.split('/').count(), "{name}");
+        for line in lines.split('/') {
+            let nodes = nodes(alloc, line)?;
+            let mut seen = false;
+            for ring in found.as_slice() {
+                let turned = ring.from_least(alloc)?;
+                seen |= passes(turned.as_slice(), &nodes);
+            }
+            assert!(rt; seen, "{name}");
+        }
+    }
+    Ok(())
+}
