@@ -4,7 +4,7 @@ use Rattle.std.proofs.lemmas.Bool.{cases_lt, lt-ltb, le-leb, lt-leb}
 use Rattle.std.proofs.lemmas.List.{take_all, take-append-le}
 use Rattle.std.proofs.Math.Seq.{take-append-add}
 use Rattle.opl_reader.specs.declared.object.Object.{Object}
-use Rattle.osm_host.specs.Outside.{Outside, preceded}
+use Rattle.osm_host.specs.Outside.{Outside, preceded, HasRisen}
 use Rattle.osm_cli.specs.declared.ended.InputFault.{InputFault}
 use Rattle.osm_cli.specs.declared.gather.Gathered.{Gathered}
 use Rattle.osm_cli.specs.declared.gather.Stop.{Stop}
@@ -14,7 +14,7 @@ use Rattle.osm_cli.specs.declared.reading.ReadError.TheVariants.{BadInput, TooMu
 use Rattle.osm_cli.specs.Lines.{lines_of, lines_begun}
 use Rattle.osm_cli.specs.Input.{AreGood, IsBadPlace}
 use Rattle.osm_cli.specs.Gathering.{HasEnded, IsStop, Gathers}
-use Rattle.osm_cli.specs.Reading.{lines_counted, IsReadOf, IsAnswer, Took, Reads}
+use Rattle.osm_cli.specs.Reading.{lines_counted, IsReadOf, IsAnswer, Took, Reads, IsReadWhole}
 use Rattle.osm_cli.specs.LineSteps.{lines_counting, IsRead}
 use Rattle.osm_cli.proofs.Fronts.{front_bad}
 
@@ -152,3 +152,16 @@ told limit longest before now (Err (BadInput line fault)) reads = told_by limit 
 told limit longest before now (Err (TooMuchInput most)) reads = told_by limit longest before now (Err (TooMuchInput most)) reads
 told limit longest before now (Err ReadFault) reads = told_by limit longest before now (Err ReadFault) reads
 told limit longest before now (Err OutOfMemory) reads = none_told before.left limit longest
+
+-- Without a fault of the host, it is right for the whole input.
+whole_told : (told : Option (List ℕ)) (limit longest : ℕ) (r : Result (List Object) ReadError) → (r ≡ Err ReadFault → ⊥) → IfSome told (λ bytes. IsReadOf limit longest bytes r) → IfSome told (λ bytes. IsReadWhole limit longest bytes r)
+whole_told None limit longest r none read = tt
+whole_told (Some bytes) limit longest (Ok objects) none read = read
+whole_told (Some bytes) limit longest (Err (BadInput line fault)) none read = read
+whole_told (Some bytes) limit longest (Err (TooMuchInput most)) none read = read
+whole_told (Some bytes) limit longest (Err ReadFault) none read = absurd (none refl)
+whole_told (Some bytes) limit longest (Err OutOfMemory) none read = tt
+
+pub completes : (limit longest : ℕ) (before now : Outside) (r : Result (List Object) ReadError) → Reads limit longest before now r → (r ≡ Err ReadFault → HasRisen before.read_faults now.read_faults) →
+    (HasRisen before.read_faults now.read_faults → ⊥) → IfSome before.left (λ bytes. IsReadWhole limit longest bytes r)
+completes limit longest before now r reads cause none = whole_told before.left limit longest r (λ is. none (cause is)) (told limit longest before now r reads)

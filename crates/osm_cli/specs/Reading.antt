@@ -27,6 +27,11 @@ IsReadOf limit longest bytes (Err ReadFault) = Unit {0}
 IsReadOf limit longest bytes (Err OutOfMemory) = Unit {0}
 IsReadOf limit longest bytes result = IsReadAs limit longest bytes result
 
+-- What is answered is right for an input of these bytes, unless memory was wanting.
+abbrev pub IsReadWhole : ℕ → ℕ → List ℕ → Result (List Object) ReadError → Type 0
+IsReadWhole limit longest bytes (Err OutOfMemory) = Unit {0}
+IsReadWhole limit longest bytes result = IsReadAs limit longest bytes result
+
 -- What is answered of the bytes that were taken off an input. With a bad place, it stands in their lines, the last one
 -- counting only where the input ended there or it is too long already.
 abbrev pub IsAnswer : ℕ → ℕ → List ℕ → Outside → Result (List Object) ReadError → Type 0
