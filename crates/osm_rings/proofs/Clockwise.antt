@@ -1,12 +1,10 @@
 -- The clockwise order by signs: a chain, the same as that of directions, and what a sector holds.
-use Rattle.std.proofs.Common.{◌≡◌, ◌≢◌, ℕ, Bool, true, false, not, ◌&&◌, eqb, eqb-true, ℤ, pos, ◌-ℤ◌, ◌+ℤ◌, refl, sym, ap, subst, ◌∙◌, arith}
+use Rattle.std.proofs.Common.{◌≡◌, Bool, true, false, not, ◌&&◌, eqb, eqb-true, ℤ, pos, ◌-ℤ◌, ◌+ℤ◌, refl, sym, ap, subst, ◌∙◌, arith}
 use Rattle.std.specs.Ordering.{is_lt, int_cmp, nat_cmp, ordering_then}
-use Rattle.std.specs.declared.cmp.Ordering.{Ordering}
 use Rattle.std.proofs.lemmas.Int.{ints}
 use Rattle.plane.specs.Sector.{in_sector, sector_by}
-use Rattle.plane.specs.Sign.{Minus, Null, Plus, Sign, is_null, is_plus, negated, sign}
+use Rattle.plane.specs.Sign.{Null, Plus, Sign, is_null, is_plus, negated, sign}
 use Rattle.plane.specs.Vector.{IsDirection, Vector, cross, dot}
-use Rattle.plane.specs.Vector as vector
 use Rattle.plane.proofs.Identities.{same}
 use Rattle.plane.proofs.Products.{cross-self, dot2, frame-agree, frame-dot-agree, lift2, plucker-agree, plucker-dot-agree}
 use Rattle.plane.proofs.Signs.{agree, all, all-out, all2, all2-out, all4, all4-out, imp, imp-out, sign-turned, times, times-back, times-plus}

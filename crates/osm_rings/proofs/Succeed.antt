@@ -1,21 +1,20 @@
 -- What is met first of the edges that leave is the successor.
-use Rattle.std.proofs.Common.{◌≡◌, ◌≢◌, ◌⊎◌, inl, inr, ℕ, suc, zero, ◌+◌, ◌<◌, List, [], ◌∷◌, length, get_or, All, Bool, true, false, cond, not, ◌&&◌, Option, Some, None, refl, sym, ap, subst, ◌∙◌, arith, ⊎_elim}
+use Rattle.std.proofs.Common.{◌≡◌, ℕ, suc, zero, ◌<◌, List, [], ◌∷◌, length, Bool, true, false, cond, Option, Some, None, refl, sym, ap, subst, ◌∙◌, arith, ⊎_elim}
 use Rattle.std.proofs.lemmas.Bool.{cases_lt}
 use Rattle.std.proofs.lemmas.List.{get_or_past}
-use Rattle.nesting.specs.Walk.{IsNextClockwise, IsSuccessor}
+use Rattle.nesting.specs.Walk.{IsSuccessor}
 use Rattle.nesting.proofs.Parts.{sided-once}
 use Rattle.nesting.proofs.Successors.{clear-two, next_leaves, next_one, no-loop-raised, raise-ends, rise, sym-differs, way-raise}
 use Rattle.nesting.proofs.Turns.{next_there}
 use Rattle.plane.specs.Edge.{Edge, ends_at, other_end, same_edge, segment_of}
 use Rattle.plane.specs.Sector.{in_sector}
-use Rattle.plane.specs.Sign.{is_null, is_plus, sign}
-use Rattle.plane.specs.Vector.{IsDirection, Vector, cross, dot, from_to, same_point}
+use Rattle.plane.specs.Vector.{IsDirection, Vector, from_to, same_point}
 use Rattle.plane.proofs.Edges.{ends_at-from, ends_at-to, same_edge-true}
-use Rattle.plane.proofs.Points.{same_point-refl, same_point-true}
+use Rattle.plane.proofs.Points.{same_point-refl}
 use Rattle.winding.specs.Member.{EachPair, In}
 use Rattle.winding.specs.Sided.{IsSided}
 use Rattle.winding.proofs.Balance.{way, way-direction, ways_apart}
-use Rattle.orbits.specs.Orbits.{IsOneToOne, after}
+use Rattle.orbits.specs.Orbits.{after}
 use Rattle.osm_rings.specs.Clockwise.{is_met_before}
 use Rattle.osm_rings.specs.Numbered.{AreSuccessors, edge_at, nowhere}
 use Rattle.osm_rings.specs.Ways.{IsFirstFrom, IsFirstMet, way_at}

@@ -1,8 +1,8 @@
 -- Whole segments: their ends, their directions, and that the plane tells lattice points apart.
-use Rattle.std.proofs.Common.{◌≡◌, ℤ, pos, ◌*ℤ◌, ◌-ℤ◌, Bool, true, false, cond, refl, sym, ap, subst, ◌∙◌, arith}
+use Rattle.std.proofs.Common.{◌≡◌, pos, ◌*ℤ◌, ◌-ℤ◌, Bool, true, false, cond, refl, sym, ap, subst, ◌∙◌, arith}
 use Rattle.std.proofs.lemmas.Int.{ints}
 use Rattle.plane.specs.Order.{order}
-use Rattle.plane.specs.Sign.{Plus, Minus, Sign, is_plus, negated}
+use Rattle.plane.specs.Sign.{is_plus, negated}
 use Rattle.plane.specs.Vector.{Vector, from_to}
 use Rattle.plane.proofs.PointOrder.{order-self-null, order-turned}
 use Rattle.plane.proofs.Points.{same_vector}
@@ -21,7 +21,7 @@ use Rattle.osm_geom.specs.Point.{point_order, whole_of}
 use Rattle.osm_geom.proofs.LocationOrder.{loc_cmp-is, rising_edge}
 use Rattle.osm_geom.proofs.Orders.{loc_same}
 use Rattle.plane.specs.Scale.{scaled_point}
-use Rattle.osm_rings.specs.PlaneEdge.{IsWholeSegment, plane_edge, vector_at}
+use Rattle.osm_rings.specs.PlaneEdge.{IsWholeSegment, vector_at}
 use Rattle.osm_rings.specs.Ways.{IsLattice}
 
 -- the plane tells locations apart
