@@ -16,19 +16,20 @@ use Rattle.winding.specs.Member.{In}
 use Rattle.winding.specs.Node.{away, spokes_in}
 use Rattle.winding.specs.Parity.{is_even}
 use Rattle.winding.specs.Ring.{IsPath, IsRing, segments_of}
+use Rattle.plane.proofs.Bools.{not-not}
 use Rattle.plane.proofs.Conflicts.{clear_misses}
 use Rattle.plane.proofs.Edges.{ends_at-from, ends_at-to}
 use Rattle.plane.proofs.PointOrder.{rising-direction}
 use Rattle.plane.proofs.Points.{same_point-true}
 use Rattle.plane.proofs.Products.{direction-back}
-use Rattle.plane.proofs.RayCrossings.{east-direction, hits_at}
+use Rattle.plane.proofs.RayCrossings.{crossings_at, east-direction}
 use Rattle.winding.proofs.AlongSegment.{along_from, off_all, parity_from_both_ends}
 use Rattle.winding.proofs.Balance.{way, way-direction}
 use Rattle.winding.proofs.ConflictFree.{off_away, rising_in}
 use Rattle.winding.proofs.Independence.{IsOffSeen, parity_independent}
-use Rattle.winding.proofs.Levels.{e-tall, e-view, from_e, hits-right, low-by, right-level, to_right}
-use Rattle.winding.proofs.Members.{all-in, from-map, in-all, in-filter, in-map-all, in-passes, into-filter, total-same}
-use Rattle.winding.proofs.OddSides.{not-not, same-parity, share, share-is, spokes-is}
+use Rattle.winding.proofs.Levels.{crossings-right, e-tall, e-view, from_e, low-by, right-level, to_right}
+use Rattle.winding.proofs.Members.{all-in, from-map, in-all, in-filter, in-map, in-passes, into-filter, total-same}
+use Rattle.winding.proofs.OddSides.{same-parity, share, share-is, spokes-is}
 use Rattle.winding.proofs.OppositeEnds.{beyond, crossings-away}
 use Rattle.winding.proofs.RoundNode.{parity_round_node}
 use Rattle.winding.proofs.Sums.{total, total-+, total-is}
@@ -70,8 +71,8 @@ module _ (p : Vector) (e : Edge) (es : List Edge) (re : IsRising e) (pl : IsConf
       let off = off_all e.from e.to r v es ms in
       let x = parity_independent east ray r east-direction (rising-direction e.from e.to re) es off even in
       let q = along_from e.from e.to r v es ms (off-list e.from e es re pl c (ends_at-from e)) in
-      let t = total-same (hits_at east r) (to_right p e) es (λ t j. hits-right p e (e ∷ es) both-plain (inl refl) lo hi t (in-all (IsOffSeen r) es t off j) (rising_in es t pl j)) in
-      let n = total-is (hits_at east r) es in
+      let t = total-same (crossings_at east r) (to_right p e) es (λ t j. crossings-right p e (e ∷ es) both-plain (inl refl) lo hi t (in-all (IsOffSeen r) es t off j) (rising_in es t pl j)) in
+      let n = total-is (crossings_at east r) es in
       same-parity (total (to_right p e) es) (crossing_count ray e.from (away e.from es)) (omega arith)
 
   beside-level : sign (e.from.y -ℤ p.y) ≡ Null → sign (e.to.y -ℤ p.y) ≡ Plus → is_even (total (to_right p e) es) ≡ is_even (crossing_count ray e.from (away e.from es))
@@ -119,18 +120,18 @@ or-swap true false h = refl
 or-swap false true h = refl
 or-swap false false h = h
 
-pub raise-ends-by : (v : Vector) (b : Bool) (e : Edge) → (same_point v e.from || same_point v e.to) ≡ true → ends_at v (cond b e (reversed e)) ≡ true
-raise-ends-by v true e h = h
-raise-ends-by v false e h = or-swap (same_point v e.from) (same_point v e.to) h
+pub segment-ends-by : (v : Vector) (b : Bool) (e : Edge) → (same_point v e.from || same_point v e.to) ≡ true → ends_at v (cond b e (reversed e)) ≡ true
+segment-ends-by v true e h = h
+segment-ends-by v false e h = or-swap (same_point v e.from) (same_point v e.to) h
 
 module _ (rs : List Edge) (ring : IsRing rs) (es : List Edge) (ps : IsConflictFree (segments_of rs)) (pl : IsConflictFree es) (even : IsEvenAtPoints es)
     (c : (s : Edge) → In s (segments_of rs) → IsClearOfAll s es) (n : DoNotCross (segments_of rs) es) where
   next-in : (e f : Edge) → In e rs → In f rs → f.from ≡ e.to → covers_edge es (segment_of f) ≡ covers_edge es (segment_of e)
   next-in e f i j q =
       let v = e.to in let s = segment_of f in let t = segment_of e in
-      let is = in-map-all segment_of rs f j in let it = in-map-all segment_of rs e i in
-      let hs : ends_at v s ≡ true = raise-ends-by v (is_plus (order f.from f.to)) f (subst (λ w. (same_point w f.from || same_point w f.to) ≡ true) q (ends_at-from f)) in
-      let ht : ends_at v t ≡ true = raise-ends-by v (is_plus (order e.from e.to)) e (ends_at-to e) in
+      let is = in-map segment_of rs f j in let it = in-map segment_of rs e i in
+      let hs : ends_at v s ≡ true = segment-ends-by v (is_plus (order f.from f.to)) f (subst (λ w. (same_point w f.from || same_point w f.to) ≡ true) q (ends_at-from f)) in
+      let ht : ends_at v t ≡ true = segment-ends-by v (is_plus (order e.from e.to)) e (ends_at-to e) in
       same_in v s t es (rising_in (segments_of rs) s ps is) (rising_in (segments_of rs) t ps it) pl even (c s is) (c t it) hs ht (n v s t is it hs ht)
 
   along-in : (e : Edge) → In e rs → (a b : Vector) (xs : List Edge) → IsPath a xs b → e.to ≡ a → ((x : Edge) → In x xs → In x rs) → (x : Edge) → In x xs → covers_edge es (segment_of x) ≡ covers_edge es (segment_of e)

@@ -2,45 +2,36 @@
 use Rattle.std.proofs.Common.{Bool, List, [], ap, arith, cond, false, inl, inr, not, refl, subst, sym, true, ◌&&◌, ◌++◌, ◌+◌, ◌∙◌, ◌∷◌, ◌≡◌, ◌≤◌, ◌⊎◌}
 use Rattle.std.specs.List.{count_by, filter}
 use Rattle.nesting.specs.Cover.{AreClear, covers, covers_edge}
-use Rattle.nesting.specs.Nesting.{EnclosesDirectly, IsNearest, IsNest, edges_of, encloses, has_edge, is_outer}
+use Rattle.nesting.specs.Nesting.{IsNest, edges_of, encloses, has_edge, is_outer}
 use Rattle.plane.specs.Bit.{bit}
 use Rattle.plane.specs.Conflict.{IsClearOf}
 use Rattle.plane.specs.Edge.{Edge}
-use Rattle.plane.specs.Height.{is_in_span}
+use Rattle.plane.specs.Height.{is_in_span, is_right_above}
 use Rattle.plane.specs.Vector.{Vector}
 use Rattle.winding.specs.ConflictFree.{IsConflictFree}
 use Rattle.winding.specs.Member.{EachPair, In}
 use Rattle.winding.specs.Parity.{is_even}
 use Rattle.winding.specs.Ring.{IsAnchor}
 use Rattle.nesting.proofs.CoveredEdges.{beside}
-use Rattle.nesting.proofs.Nearest.{is_beyond}
-use Rattle.nesting.proofs.Nests.{alternate, and-make, clear-of, clear_rings, depth-total, encloses-in, encloses-not, has-not-by, has_same, in-flat, innermost, nearest_exists, nearest_in, not-both, outer_depth, plain-left, plain-part, plain-right, same-ring, true-not-false}
-use Rattle.nesting.proofs.TwoLists.{clear-turned, contained, disjoint, plain-append}
-use Rattle.plane.proofs.Edges.{and-out}
-use Rattle.winding.proofs.Anchors.{anchor_spans, some_odd}
+use Rattle.nesting.proofs.Nests.{alternate, and-make, clear-of, clear_rings, depth-total, encloses-in, encloses-not, has-not-by, has_same, in-edges, innermost, nearest_exists, nearest_in, not-both, outer_depth, plain-left, plain-part, plain-right, same-ring, true-not-false}
+use Rattle.nesting.proofs.OuterTests.{IsDirectBy, IsNearest}
+use Rattle.nesting.proofs.TwoLists.{clear-reversed, contained, disjoint, plain-append}
+use Rattle.plane.proofs.Bools.{and-in, and-out, false-if-never, not-not}
+use Rattle.plane.proofs.Heights.{right_of}
+use Rattle.winding.proofs.Anchors.{anchor_span, some_odd}
 use Rattle.winding.proofs.ConflictFree.{rising_in}
-use Rattle.winding.proofs.Levels.{right_of}
-use Rattle.winding.proofs.Members.{all-in, in-all, in-either, in-filter, in-passes, into-filter, pairs-across, pairs-filter, pairs-weaker}
-use Rattle.winding.proofs.OddSides.{not-not}
+use Rattle.winding.proofs.Members.{all-in, in-all, in-either, in-filter, in-passes, into-filter, pairs-across}
 use Rattle.winding.proofs.Ranks.{First}
 use Rattle.winding.proofs.Sums.{total, total-is}
-
-both-true : (x y : Bool) → x ≡ true → y ≡ true → (x && y) ≡ true
-both-true true y h k = k
-both-true false y h k = absurd (cc h)
 
 -- ---- at most one
 none-of : {X : Type 0} (q : X → Bool) (xs : List X) → ((x : X) → In x xs → q x ≡ false) → total (λ x. bit (q x)) xs ≡ 0
 none-of q [] h = refl
 none-of q (x ∷ xs) h = let a = ap bit (h x (inl refl)) in let b = none-of q xs (λ y i. h y (inr i)) in omega arith
 
-not-so : (b : Bool) → (b ≡ true → ⊥) → b ≡ false
-not-so true h = absurd (h refl)
-not-so false h = refl
-
 at-most-step : {X : Type 0} (q : X → Bool) (m : Bool) (x : X) (xs : List X) → (b : Bool) → q x ≡ b → (q x ≡ true → m ≡ true) → ((y : X) → In y xs → q x ≡ true → q y ≡ true → ⊥) → total (λ x. bit (q x)) xs ≤ bit m →
     bit b + total (λ x. bit (q x)) xs ≤ bit m
-at-most-step q m x xs true h k d l = let a = none-of q xs (λ y i. not-so (q y) (λ z. d y i h z)) in let b = ap bit (k h) in omega arith
+at-most-step q m x xs true h k d l = let a = none-of q xs (λ y i. false-if-never (q y) (λ z. d y i h z)) in let b = ap bit (k h) in omega arith
 at-most-step q m x xs false h k d l = omega arith
 
 pub at-most : {X : Type 0} (q : X → Bool) (m : Bool) (xs : List X) → ((x : X) → In x xs → q x ≡ true → m ≡ true) → EachPair (λ x y. q x ≡ true → q y ≡ true → ⊥) xs → total (λ x. bit (q x)) xs ≤ bit m
@@ -52,18 +43,18 @@ at-most q m (x ∷ xs) h p =
 pub clear-pairs : (gs : List (List Edge)) → IsConflictFree (edges_of gs) → EachPair AreClear gs
 clear-pairs [] p = tt
 clear-pairs (g ∷ gs) p =
-    (all-in (AreClear g) gs (λ h i s t a b. pairs-across IsClearOf g (edges_of gs) s t p.clear a (in-flat gs h t i b)), clear-pairs gs (plain-right g (edges_of gs) p))
+    (all-in (AreClear g) gs (λ h i s t a b. pairs-across IsClearOf g (edges_of gs) s t p.clear a (in-edges gs h t i b)), clear-pairs gs (plain-right g (edges_of gs) p))
 
-flat-out-by : (h : List Edge) (hs : List (List Edge)) (s : Edge) → (In s h) ⊎ (In s (edges_of hs)) → (In s (edges_of hs) → (g : List Edge) × In g hs × In s g) → (g : List Edge) × In g (h ∷ hs) × In s g
-flat-out-by h hs s (inl i) k = (h, inl refl, i)
-flat-out-by h hs s (inr i) k = let r = k i in (r.0, inr r.1, r.2)
+edges-out-by : (h : List Edge) (hs : List (List Edge)) (s : Edge) → (In s h) ⊎ (In s (edges_of hs)) → (In s (edges_of hs) → (g : List Edge) × In g hs × In s g) → (g : List Edge) × In g (h ∷ hs) × In s g
+edges-out-by h hs s (inl i) k = (h, inl refl, i)
+edges-out-by h hs s (inr i) k = let r = k i in (r.0, inr r.1, r.2)
 
-pub in-flat-out : (gs : List (List Edge)) (s : Edge) → In s (edges_of gs) → (g : List Edge) × In g gs × In s g
-in-flat-out [] s i = absurd i
-in-flat-out (h ∷ hs) s i = flat-out-by h hs s (in-either h (edges_of hs) s i) (in-flat-out hs s)
+pub in-edges-out : (gs : List (List Edge)) (s : Edge) → In s (edges_of gs) → (g : List Edge) × In g gs × In s g
+in-edges-out [] s i = absurd i
+in-edges-out (h ∷ hs) s i = edges-out-by h hs s (in-either h (edges_of hs) s i) (in-edges-out hs s)
 
-flat-filter : (sel : List Edge → Bool) (gs : List (List Edge)) (s : Edge) → In s (edges_of (filter sel gs)) → In s (edges_of gs)
-flat-filter sel gs s i = let r = in-flat-out (filter sel gs) s i in in-flat gs r.0 s (in-filter sel gs r.0 r.1) r.2
+edges-filter : (sel : List Edge → Bool) (gs : List (List Edge)) (s : Edge) → In s (edges_of (filter sel gs)) → In s (edges_of gs)
+edges-filter sel gs s i = let r = in-edges-out (filter sel gs) s i in in-edges gs r.0 s (in-filter sel gs r.0 r.1) r.2
 
 plain-chosen-by : (b : Bool) (g : List Edge) (r gs : List (List Edge)) → IsConflictFree (g ++ edges_of gs) → IsConflictFree (edges_of r) → ((s : Edge) → In s (edges_of r) → In s (edges_of gs)) → IsConflictFree (edges_of (cond b (g ∷ r) r))
 plain-chosen-by true g r gs p q k = plain-append g (edges_of r) (plain-left g (edges_of gs) p) q (λ s t i j. pairs-across IsClearOf g (edges_of gs) s t p.clear i (k t j))
@@ -71,26 +62,26 @@ plain-chosen-by false g r gs p q k = q
 
 pub plain-chosen : (sel : List Edge → Bool) (gs : List (List Edge)) → IsConflictFree (edges_of gs) → IsConflictFree (edges_of (filter sel gs))
 plain-chosen sel [] p = p
-plain-chosen sel (g ∷ gs) p = plain-chosen-by (sel g) g (filter sel gs) gs p (plain-chosen sel gs (plain-right g (edges_of gs) p)) (flat-filter sel gs)
+plain-chosen sel (g ∷ gs) p = plain-chosen-by (sel g) g (filter sel gs) gs p (plain-chosen sel gs (plain-right g (edges_of gs) p)) (edges-filter sel gs)
 
-first-nearest : (e m : Edge) (es : List Edge) → IsNearest e m es → First (right_of e.from) m (filter (is_beyond e.from e) es)
+first-nearest : (e m : Edge) (es : List Edge) → IsNearest e m es → First (right_of e.from) m (filter (is_right_above e.from e) es)
 first-nearest e m es n = record {
-  here = into-filter (is_beyond e.from e) es m n.member n.right;
-  first = λ f i. n.first f (in-filter (is_beyond e.from e) es f i) (in-passes (is_beyond e.from e) es f i);
+  here = into-filter (is_right_above e.from e) es m n.member n.right;
+  first = λ f i. n.first f (in-filter (is_right_above e.from e) es f i) (in-passes (is_right_above e.from e) es f i);
 }
 
-nearest-first : (e m : Edge) (es : List Edge) → First (right_of e.from) m (filter (is_beyond e.from e) es) → IsNearest e m es
+nearest-first : (e m : Edge) (es : List Edge) → First (right_of e.from) m (filter (is_right_above e.from e) es) → IsNearest e m es
 nearest-first e m es n = record {
-  member = in-filter (is_beyond e.from e) es m n.here;
-  right = in-passes (is_beyond e.from e) es m n.here;
-  first = λ f i b. n.first f (into-filter (is_beyond e.from e) es f i b);
+  member = in-filter (is_right_above e.from e) es m n.here;
+  right = in-passes (is_right_above e.from e) es m n.here;
+  first = λ f i b. n.first f (into-filter (is_right_above e.from e) es f i b);
 }
 
 module _ (gs : List (List Edge)) (n : IsNest gs) (outer : List Edge → Bool) (tells : (g : List Edge) → In g gs → (a : Edge) → IsAnchor a g → outer g ≡ is_outer gs a)
     (anchors : (g : List Edge) → In g gs → (a : Edge) × IsAnchor a g) where
   module _ (h : List Edge) (ih : In h gs) (e : Edge) (a : IsAnchor e h) where
-    pub e-spans : is_in_span e.from e ≡ true
-    e-spans = anchor_spans e h (plain-part gs h n.plain ih) (n.even h ih) a
+    pub e-span : is_in_span e.from e ≡ true
+    e-span = anchor_span e h (plain-part gs h n.plain ih) (n.even h ih) a
 
     abbrev inside : List Edge → Bool
     inside g = encloses g e
@@ -111,49 +102,49 @@ module _ (gs : List (List Edge)) (n : IsNest gs) (outer : List Edge → Bool) (t
       pub round : encloses ring e ≡ true
       pub edge : Edge
       pub here : In edge ring
-      pub first : First (right_of e.from) edge (filter (is_beyond e.from e) (edges_of (filter inside gs)))
+      pub first : First (right_of e.from) edge (filter (is_right_above e.from e) (edges_of (filter inside gs)))
 
     inmost : outer h ≡ false → Inmost
     inmost o =
         let g = some-ring o in
-        let m = nearest_exists gs n h ih e a.member e.from e-spans inside (λ g i c. c) g.0 g.1 g.2 (plain-chosen inside gs n.plain) in
-        let t = in-flat-out (filter inside gs) m.0 (in-filter (is_beyond e.from e) (edges_of (filter inside gs)) m.0 m.1.here) in
+        let m = nearest_exists gs n h ih e a.member e.from e-span inside (λ g i c. c) g.0 g.1 g.2 (plain-chosen inside gs n.plain) in
+        let t = in-edges-out (filter inside gs) m.0 (in-filter (is_right_above e.from e) (edges_of (filter inside gs)) m.0 m.1.here) in
         record { ring = t.0; member = in-filter inside gs t.0 t.1; round = in-passes inside gs t.0 t.1; edge = m.0; here = t.2; first = m.1 }
 
     inmost-outer : (o : outer h ≡ false) → (t : Inmost) → outer t.ring ≡ true
     inmost-outer o t =
         let b = anchors t.ring t.member in
-        tells t.ring t.member b.0 b.1 ∙ alternate gs n h ih e a.member e.from e-spans t.edge t.first t.ring t.member t.here t.round e a b.0 b.1 ∙ ap not (sym (tells h ih e a) ∙ o)
+        tells t.ring t.member b.0 b.1 ∙ alternate gs n h ih e a.member e.from e-span t.edge t.first t.ring t.member t.here t.round e a b.0 b.1 ∙ ap not (sym (tells h ih e a) ∙ o)
 
     -- the ring with the nearest edge among the outer ones is the same
-    direct-has : outer h ≡ false → (t : Inmost) → (g : List Edge) → (d : EnclosesDirectly gs outer g e) → (b : Bool) → has_edge t.ring d.edge ≡ b → g ≡ t.ring
+    direct-has : outer h ≡ false → (t : Inmost) → (g : List Edge) → (d : IsDirectBy gs outer g e) → (b : Bool) → has_edge t.ring d.edge ≡ b → g ≡ t.ring
     direct-has o t g d true k = sym (same-ring gs n g t.ring d.edge d.member t.member d.here k)
     direct-has o t g d false k =
         let f = first-nearest e d.edge (edges_of (filter above gs)) d.nearest in
-        let st : above t.ring ≡ true = both-true (outer t.ring) (encloses t.ring e) (inmost-outer o t) t.round in
-        let x = nearest_in gs n h ih e a.member e.from e-spans above (λ g i c. (and-out (outer g) (encloses g e) c).1) d.edge f g d.member d.here t.ring t.member st k in
+        let st : above t.ring ≡ true = and-in (outer t.ring) (encloses t.ring e) (inmost-outer o t) t.round in
+        let x = nearest_in gs n h ih e a.member e.from e-span above (λ g i c. (and-out (outer g) (encloses g e) c).1) d.edge f g d.member d.here t.ring t.member st k in
         let c1 = and-make (has_edge t.ring d.edge) (covers_edge t.ring d.edge) k (x ∙ encloses-in gs n t.ring e t.round) in
         let m = has_same gs t.ring g d.edge d.edge n.plain t.member d.member d.here d.here k in
         let gt = clear_rings gs t.ring g d.edge n.plain t.member d.member d.here k in
-        let gm = has-not-by g t.ring t.edge (plain-part gs g n.plain d.member) (clear-turned t.ring g gt) t.here (has_edge g t.edge) refl in
-        let c2 = innermost gs n h ih e a.member e.from e-spans t.edge t.first t.ring t.member t.here t.round g d.member d.around gm in
+        let gm = has-not-by g t.ring t.edge (plain-part gs g n.plain d.member) (clear-reversed t.ring g gt) t.here (has_edge g t.edge) refl in
+        let c2 = innermost gs n h ih e a.member e.from e-span t.edge t.first t.ring t.member t.here t.round g d.member d.around gm in
         absurd (not-both gs n t.ring g d.edge t.edge t.member d.member d.here t.here c1 c2)
 
-    pub direct_is : outer h ≡ false → (t : Inmost) → (g : List Edge) → EnclosesDirectly gs outer g e → g ≡ t.ring
+    pub direct_is : outer h ≡ false → (t : Inmost) → (g : List Edge) → IsDirectBy gs outer g e → g ≡ t.ring
     direct_is o t g d = direct-has o t g d (has_edge t.ring d.edge) refl
 
   -- each inner ring stands directly under an outer ring
-  pub direct_exists : (h : List Edge) → (ih : In h gs) → (e : Edge) → IsAnchor e h → outer h ≡ false → (g : List Edge) × EnclosesDirectly gs outer g e
+  pub direct_exists : (h : List Edge) → (ih : In h gs) → (e : Edge) → IsAnchor e h → outer h ≡ false → (g : List Edge) × IsDirectBy gs outer g e
   direct_exists h ih e a o =
       let t = inmost h ih e a o in let out = inmost-outer h ih e a o t in
       let sel = λ (g : List Edge). outer g && encloses g e in
-      let m = nearest_exists gs n h ih e a.member e.from (e-spans h ih e a) sel (λ g i c. (and-out (outer g) (encloses g e) c).1) t.ring t.member (both-true (outer t.ring) (encloses t.ring e) out t.round) (plain-chosen sel gs n.plain) in
-      let r = in-flat-out (filter sel gs) m.0 (in-filter (is_beyond e.from e) (edges_of (filter sel gs)) m.0 m.1.here) in
+      let m = nearest_exists gs n h ih e a.member e.from (e-span h ih e a) sel (λ g i c. (and-out (outer g) (encloses g e) c).1) t.ring t.member (and-in (outer t.ring) (encloses t.ring e) out t.round) (plain-chosen sel gs n.plain) in
+      let r = in-edges-out (filter sel gs) m.0 (in-filter (is_right_above e.from e) (edges_of (filter sel gs)) m.0 m.1.here) in
       let c = and-out (outer r.0) (encloses r.0 e) (in-passes sel gs r.0 r.1) in
       (r.0, record { member = in-filter sel gs r.0 r.1; is = c.0; around = c.1; edge = m.0; here = r.2; nearest = nearest-first e m.0 (edges_of (filter sel gs)) m.1 })
 
   -- under one ring only
-  pub direct_once : (h : List Edge) → (ih : In h gs) → (e : Edge) → IsAnchor e h → outer h ≡ false → (f g : List Edge) → EnclosesDirectly gs outer f e → EnclosesDirectly gs outer g e → f ≡ g
+  pub direct_once : (h : List Edge) → (ih : In h gs) → (e : Edge) → IsAnchor e h → outer h ≡ false → (f g : List Edge) → IsDirectBy gs outer f e → IsDirectBy gs outer g e → f ≡ g
   direct_once h ih e a o f g x y = let t = inmost h ih e a o in direct_is h ih e a o t f x ∙ sym (direct_is h ih e a o t g y)
 
   not-inner : (k t : List Edge) → outer k ≡ false → outer t ≡ true → (f : Edge) → In k gs → In t gs → In f t → (b : Bool) → has_edge k f ≡ b → b ≡ false
@@ -161,17 +152,13 @@ module _ (gs : List (List Edge)) (n : IsNest gs) (outer : List Edge → Bool) (t
   not-inner k t u o f ik it i true e = absurd (true-not-false (outer t) o (ap outer (sym (same-ring gs n t k f it ik i e)) ∙ u))
 
   -- two inner rings directly under one ring: the one is not in the other
-  pub siblings : (g h k : List Edge) → (ih : In h gs) → In k gs → (e f : Edge) → (a : IsAnchor e h) → IsAnchor f k → outer h ≡ false → outer k ≡ false → EnclosesDirectly gs outer g e → EnclosesDirectly gs outer g f → encloses k e ≡ true → ⊥
+  pub siblings : (g h k : List Edge) → (ih : In h gs) → In k gs → (e f : Edge) → (a : IsAnchor e h) → IsAnchor f k → outer h ≡ false → outer k ≡ false → IsDirectBy gs outer g e → IsDirectBy gs outer g f → encloses k e ≡ true → ⊥
   siblings g h k ih ik e f a b o u d d' c =
       let t = inmost h ih e a o in let q = direct_is h ih e a o t g d in
       let nk = not-inner k t.ring u (inmost-outer h ih e a o t) t.edge ik t.member t.here (has_edge k t.edge) refl in
-      let c1 = innermost gs n h ih e a.member e.from (e-spans h ih e a) t.edge t.first t.ring t.member t.here t.round k ik c nk in
+      let c1 = innermost gs n h ih e a.member e.from (e-span h ih e a) t.edge t.first t.ring t.member t.here t.round k ik c nk in
       let c2 = subst (λ l. encloses l f ≡ true) q d'.around in
       not-both gs n t.ring k f t.edge t.member ik b.member t.here c2 c1
-
-  false-by : (b : Bool) → (b ≡ true → ⊥) → b ≡ false
-  false-by true h = absurd (h refl)
-  false-by false h = refl
 
   half-false : (x y : Bool) → x ≡ false → (not x && y) ≡ false → y ≡ false
   half-false false y h k = k
@@ -188,7 +175,7 @@ module _ (gs : List (List Edge)) (n : IsNest gs) (outer : List Edge → Bool) (t
   pub inside_of : (g h : List Edge) → In g gs → In h gs → (e : Edge) → In e h → encloses g e ≡ true → (p : Vector) → covers h p ≡ true → covers g p ≡ true
   inside_of g h ig ih e ie c p o =
       let ne = encloses-not gs n g e c in
-      let gh = clear_rings gs g h e n.plain ig ih ie ne in let hg = clear-turned g h gh in
+      let gh = clear_rings gs g h e n.plain ig ih ie ne in let hg = clear-reversed g h gh in
       contained h g (plain-part gs h n.plain ih) (plain-part gs g n.plain ig) (n.even h ih) (n.even g ig) hg p
       (λ s i. n.constant g h ig ih s e i ie (has-not-by g h s (plain-part gs g n.plain ig) gh i (has_edge g s) refl) ∙ encloses-in gs n g e c)
       (λ s t i j. n.constant h g ih ig s t i j (has-not-by h g s (plain-part gs h n.plain ih) hg i (has_edge h s) refl)) o
@@ -197,42 +184,14 @@ module _ (gs : List (List Edge)) (n : IsNest gs) (outer : List Edge → Bool) (t
   pub insides_apart : (h k : List Edge) → In h gs → In k gs → AreClear h k → (e f : Edge) → In e h → In f k → encloses k e ≡ false → encloses h f ≡ false → (p : Vector) → covers h p ≡ true → covers k p ≡ true → ⊥
   insides_apart h k ih ik c e f ie if' x y p o u =
       disjoint h k (plain-part gs h n.plain ih) (plain-part gs k n.plain ik) (n.even h ih) (n.even k ik) c p
-      (out-of h k ih ik e ie (clear-turned h k c) x) (out-of k h ik ih f if' c y) o u
-
-  -- ---- a polygon: an outer ring and the inner rings directly under it
-  module _ (g : List Edge) (ig : In g gs) (under : List Edge → Bool)
-      (means : (h : List Edge) → (i : In h gs) → under h ≡ true → (outer h ≡ false) × EnclosesDirectly gs outer g (anchors h i).0) (p : Vector) where
-    apart-under : (h k : List Edge) → In h gs → In k gs → under h ≡ true → under k ≡ true → AreClear h k → covers h p ≡ true → covers k p ≡ true → ⊥
-    apart-under h k ih ik uh uk c =
-        let a = anchors h ih in let b = anchors k ik in let x = means h ih uh in let y = means k ik uk in
-        insides_apart h k ih ik c a.0 b.0 a.1.member b.1.member
-        (false-by (encloses k a.0) (λ z. siblings g h k ih ik a.0 b.0 a.1 b.1 x.0 y.0 x.1 y.1 z))
-        (false-by (encloses h b.0) (λ z. siblings g k h ik ih b.0 a.0 b.1 a.1 y.0 x.0 y.1 x.1 z)) p
-
-    pub within_outer : (h : List Edge) → In h gs → under h ≡ true → covers h p ≡ true → covers g p ≡ true
-    within_outer h ih uh o = let a = anchors h ih in let x = means h ih uh in inside_of g h ig ih a.0 a.1.member x.1.around p o
-
-    -- the signed count of a polygon, its outer ring's less those of its inner rings, is 0 or 1: at most one inner ring is round p, and only where the outer ring is
-    pub polygon_count : total (λ h. bit (covers h p)) (filter under gs) ≤ bit (covers g p)
-    polygon_count =
-        at-most (λ h. covers h p) (covers g p) (filter under gs)
-        (λ h i o. within_outer h (in-filter under gs h i) (in-passes under gs h i) o)
-        (pairs-weaker AreClear (λ h k. covers h p ≡ true → covers k p ≡ true → ⊥) (filter under gs)
-        (λ h k i j c. apart-under h k (in-filter under gs h i) (in-filter under gs k j) (in-passes under gs h i) (in-passes under gs k j) c)
-        (pairs-filter AreClear under gs (clear-pairs gs n.plain)))
-
-pub polygon_law : (gs : List (List Edge)) → (n : IsNest gs) → (outer : List Edge → Bool) → (tells : (g : List Edge) → In g gs → (a : Edge) → IsAnchor a g → outer g ≡ is_outer gs a) → (anchors : (g : List Edge) → In g gs → (a : Edge) × IsAnchor a g) →
-    (g : List Edge) → In g gs → (under : List Edge → Bool) → ((h : List Edge) → (i : In h gs) → under h ≡ true → (outer h ≡ false) × EnclosesDirectly gs outer g (anchors h i).0) → (p : Vector) →
-    count_by (λ (h : List Edge). covers h p) (filter under gs) ≤ bit (covers g p)
-polygon_law gs n outer tells anchors g ig under means p =
-    let a = polygon_count gs n outer tells anchors g ig under means p in let b = total-is (λ h. bit (covers h p)) (filter under gs) in omega arith
+      (out-of h k ih ik e ie (clear-reversed h k c) x) (out-of k h ik ih f if' c y) o u
 
 -- a ring encloses another where an odd number of its edges are right of the other's anchor
-pub encloses_law : (gs : List (List Edge)) → IsNest gs → (g h : List Edge) → In g gs → In h gs → (e : Edge) → IsAnchor e h → has_edge g e ≡ false → encloses g e ≡ not (is_even (count_by (is_beyond e.from e) g))
+pub encloses_law : (gs : List (List Edge)) → IsNest gs → (g h : List Edge) → In g gs → In h gs → (e : Edge) → IsAnchor e h → has_edge g e ≡ false → encloses g e ≡ not (is_even (count_by (is_right_above e.from e) g))
 encloses_law gs n g h ig ih e a m =
     let pg = plain-part gs g n.plain ig in let ph = plain-part gs h n.plain ih in
-    let s = anchor_spans e h ph (n.even h ih) a in
+    let s = anchor_span e h ph (n.even h ih) a in
     let c = clear-of gs n g h e ig ih a.member m in
     let b = beside e.from e g (rising_in h e ph a.member) pg (n.even g ig) c s in
-    let t = total-is (λ f. bit (is_beyond e.from e f)) g in
+    let t = total-is (λ f. bit (is_right_above e.from e f)) g in
     ap (λ x. not x && covers_edge g e) m ∙ sym (not-not (covers_edge g e)) ∙ ap not (sym b) ∙ ap (λ k. not (is_even k)) t

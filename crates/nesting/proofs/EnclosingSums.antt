@@ -1,15 +1,16 @@
 -- Of the rings that enclose an outer ring as many are outer as inner; of those that enclose an inner ring one outer ring more.
 use Rattle.std.proofs.Common.{Bool, List, [], ap, arith, cond, false, inl, inr, not, refl, suc, sym, true, zero, ℕ, ◌&&◌, ◌+◌, ◌∙◌, ◌∷◌, ◌≡◌, ◌≤◌, ◌⊎◌}
 use Rattle.std.specs.List.{count_by, filter}
-use Rattle.nesting.specs.Nesting.{HasAnchors, IsNest, TellsOuter, depth, edges_of, encloses, has_edge}
+use Rattle.nesting.specs.Nesting.{IsNest, TellsOuter, depth, edges_of, encloses, has_edge}
 use Rattle.plane.specs.Bit.{bit}
 use Rattle.plane.specs.Edge.{Edge}
+use Rattle.plane.specs.Height.{is_right_above}
 use Rattle.winding.specs.Member.{In}
 use Rattle.winding.specs.Ring.{IsAnchor}
-use Rattle.nesting.proofs.DirectEnclosure.{e-spans, in-flat-out, plain-chosen}
-use Rattle.nesting.proofs.Nearest.{is_beyond}
-use Rattle.nesting.proofs.Nests.{alternate, cond-out, cond-times, depth-at, depth-total, depth_same, depth_step, encloses_same, has_once, in-flat, nearest_exists, outer_depth, same-ring}
-use Rattle.winding.proofs.Levels.{right_of}
+use Rattle.nesting.proofs.DirectEnclosure.{e-span, in-edges-out, plain-chosen}
+use Rattle.nesting.proofs.Nests.{alternate, cond-out, cond-times, depth-at, depth-total, depth_same, depth_step, encloses_same, has_once, in-edges, nearest_exists, outer_depth, same-ring}
+use Rattle.nesting.proofs.OuterTests.{HasAnchors}
+use Rattle.plane.proofs.Heights.{right_of}
 use Rattle.winding.proofs.Members.{in-filter, in-passes, total-same}
 use Rattle.winding.proofs.Ranks.{First, even-is}
 use Rattle.winding.proofs.Sums.{total, total-+, total-is}
@@ -69,7 +70,7 @@ module _ (gs : List (List Edge)) (n : IsNest gs) (outer : List Edge → Bool) (t
   has-sum w t m it im =
       total-same (λ g. cond (has_edge g m) (bit (w g)) 0) (λ g. cond (w t) (bit (has_edge g m)) 0) gs
       (λ g i. own-cond (has_edge g m) (bit (w g)) (bit (w t)) (λ e. ap (λ l. bit (w l)) (same-ring gs n t g m it i im e)) ∙ cond-times (w t) (has_edge g m))
-      ∙ cond-out (w t) (λ g. has_edge g m) gs ∙ ap (λ k. cond (w t) k 0) (has_once gs m n.plain (in-flat gs t m it im))
+      ∙ cond-out (w t) (λ g. has_edge g m) gs ∙ ap (λ k. cond (w t) k 0) (has_once gs m n.plain (in-edges gs t m it im))
 
   balance-none : (h : List Edge) → In h gs → (e : Edge) → IsAnchor e h → total (λ g. bit (encloses g e)) gs ≡ 0 → outers e ≡ inners e + bit (not (outer h))
   balance-none h ih e a z =
@@ -78,10 +79,10 @@ module _ (gs : List (List Edge)) (n : IsNest gs) (outer : List Edge → Bool) (t
       let o = ap (λ b. bit (not b)) (tells h ih e a ∙ outer_depth gs n h e ih a ∙ even-is (depth gs e) (let q = d in omega arith)) in omega arith
 
   -- one step inward, given the sums for the innermost ring that encloses e
-  balance-step : (h : List Edge) → (ih : In h gs) → (e : Edge) → (a : IsAnchor e h) → (m : Edge) → (fm : First (right_of e.from) m (filter (is_beyond e.from e) (edges_of (filter (λ g. encloses g e) gs)))) →
+  balance-step : (h : List Edge) → (ih : In h gs) → (e : Edge) → (a : IsAnchor e h) → (m : Edge) → (fm : First (right_of e.from) m (filter (is_right_above e.from e) (edges_of (filter (λ g. encloses g e) gs)))) →
       (t : List Edge) → (it : In t gs) → (im : In m t) → (ct : encloses t e ≡ true) → (outers (anchors t it).0 ≡ inners (anchors t it).0 + bit (not (outer t))) → outers e ≡ inners e + bit (not (outer h))
   balance-step h ih e a m fm t it im ct r =
-      let b = anchors t it in let se = e-spans gs n outer tells anchors h ih e a in
+      let b = anchors t it in let se = e-span gs n outer tells anchors h ih e a in
       let split = λ (w : List Edge → Bool). total-same (λ g. cond (encloses g e) (bit (w g)) 0) (λ g. cond (has_edge g m) (bit (w g)) 0 + cond (encloses g m) (bit (w g)) 0) gs
       (λ g i. cond-sum (encloses g e) (has_edge g m) (encloses g m) (bit (w g)) (depth-at gs n h ih e a.member e.from se m fm t it im ct g i (has_edge g m) refl)) in
       let o1 = split outer in let o2 = total-+ (λ g. cond (has_edge g m) (bit (outer g)) 0) (λ g. cond (encloses g m) (bit (outer g)) 0) gs in
@@ -97,9 +98,9 @@ module _ (gs : List (List Edge)) (n : IsNest gs) (outer : List Edge → Bool) (t
       let d = depth-total gs e in
       let z : total (λ g. bit (encloses g e)) gs ≡ 0 = omega arith in balance-none h ih e a z
   balance-by (suc f) h ih e a l (inl g) =
-      let se = e-spans gs n outer tells anchors h ih e a in
+      let se = e-span gs n outer tells anchors h ih e a in
       let m = nearest_exists gs n h ih e a.member e.from se (λ g. encloses g e) (λ g i c. c) g.0 g.1 g.2 (plain-chosen (λ g. encloses g e) gs n.plain) in
-      let t = in-flat-out (filter (λ g. encloses g e) gs) m.0 (in-filter (is_beyond e.from e) (edges_of (filter (λ g. encloses g e) gs)) m.0 m.1.here) in
+      let t = in-edges-out (filter (λ g. encloses g e) gs) m.0 (in-filter (is_right_above e.from e) (edges_of (filter (λ g. encloses g e) gs)) m.0 m.1.here) in
       let it = in-filter (λ g. encloses g e) gs t.0 t.1 in let ct = in-passes (λ g. encloses g e) gs t.0 t.1 in
       let b = anchors t.0 it in
       let d = depth_step gs n h ih e a.member e.from se m.0 m.1 t.0 it t.2 ct in let q = depth_same gs n t.0 m.0 b.0 it t.2 b.1.member in

@@ -1,11 +1,11 @@
 -- The nearest edge right of an edge.
-use Rattle.std.proofs.Common.{Bool, List, [], ap, arith, false, inl, inr, not, refl, sym, true, ℕ, ◌&&◌, ◌++◌, ◌+◌, ◌∙◌, ◌∷◌, ◌≡◌, ◌⊎◌}
+use Rattle.std.proofs.Common.{Bool, List, ap, false, inl, inr, not, refl, sym, true, ◌++◌, ◌∙◌, ◌≡◌, ◌⊎◌}
 use Rattle.std.specs.List.{filter}
 use Rattle.nesting.specs.Cover.{AreClear, covers_edge}
 use Rattle.plane.specs.Bit.{bit}
 use Rattle.plane.specs.Conflict.{IsClearOf}
 use Rattle.plane.specs.Edge.{Edge, IsRising}
-use Rattle.plane.specs.Height.{is_in_span}
+use Rattle.plane.specs.Height.{is_in_span, is_right_above}
 use Rattle.plane.specs.Vector.{Vector}
 use Rattle.winding.specs.ConflictFree.{IsConflictFree}
 use Rattle.winding.specs.EdgeList.{IsEvenAtPoints}
@@ -13,36 +13,32 @@ use Rattle.winding.specs.Member.{In}
 use Rattle.winding.specs.Parity.{is_even}
 use Rattle.winding.specs.Rank.{IsOrder}
 use Rattle.nesting.proofs.CoveredEdges.{IsClearOfAll, beside}
-use Rattle.nesting.proofs.TwoLists.{clear-list, clear-turned, first-right, not_both_in, plain-append}
+use Rattle.nesting.proofs.TwoLists.{clear-list, clear-reversed, first-right, not_both_in, plain-append}
+use Rattle.plane.proofs.Bools.{and-in, and-out, not-not}
 use Rattle.plane.proofs.Conflicts.{clear_back}
-use Rattle.plane.proofs.Edges.{and-out}
+use Rattle.plane.proofs.Heights.{right_chain, right_either, right_itself, right_of}
+use Rattle.winding.proofs.Anchors.{some_odd}
 use Rattle.winding.proofs.ConflictFree.{rising_in}
-use Rattle.winding.proofs.Levels.{right_apart, right_chain, right_either, right_itself, right_of, to_right}
+use Rattle.winding.proofs.Levels.{right_apart, to_right}
 use Rattle.winding.proofs.Members.{in-either, in-filter, in-left, in-passes, in-right, into-filter, pairs-filter, pairs-weaker, total-same}
-use Rattle.winding.proofs.OddSides.{not-not}
 use Rattle.winding.proofs.Ranks.{First, first_exists}
-use Rattle.winding.proofs.Sums.{total}
 
--- f spans the height and is right of e there
-abbrev pub is_beyond : Vector → Edge → Edge → Bool
-is_beyond p e f = is_in_span p f && right_of p e f
+beyond-span : (p : Vector) (e f : Edge) → is_right_above p e f ≡ true → is_in_span p f ≡ true
+beyond-span p e f h = (and-out (is_in_span p f) (right_of p e f) h).0
 
-beyond-spans : (p : Vector) (e f : Edge) → is_beyond p e f ≡ true → is_in_span p f ≡ true
-beyond-spans p e f h = (and-out (is_in_span p f) (right_of p e f) h).0
-
-beyond-right : (p : Vector) (e f : Edge) → is_beyond p e f ≡ true → right_of p e f ≡ true
+beyond-right : (p : Vector) (e f : Edge) → is_right_above p e f ≡ true → right_of p e f ≡ true
 beyond-right p e f h = (and-out (is_in_span p f) (right_of p e f) h).1
 
 -- the edges right of e are in order
-pub beyond-order : (p : Vector) (e : Edge) (es : List Edge) → IsConflictFree es → IsOrder false (right_of p) (filter (is_beyond p e) es)
+pub beyond-order : (p : Vector) (e : Edge) (es : List Edge) → IsConflictFree es → IsOrder false (right_of p) (filter (is_right_above p e) es)
 beyond-order p e es pl =
-    let s = λ (t : Edge) (i : In t (filter (is_beyond p e) es)). beyond-spans p e t (in-passes (is_beyond p e) es t i) in
+    let s = λ (t : Edge) (i : In t (filter (is_right_above p e) es)). beyond-span p e t (in-passes (is_right_above p e) es t i) in
     record {
       itself = λ t i. right_itself p t;
       chain = λ a b c i j k h g. right_chain p a b c (s a i) (s b j) (s c k) h g;
-      either = pairs-weaker IsClearOf (λ a b. right_of p a b ≡ not (right_of p b a)) (filter (is_beyond p e) es)
-          (λ a b i j n. right_either p a b (right_apart p a b es pl (in-filter (is_beyond p e) es a i) (in-filter (is_beyond p e) es b j) n (s b j) (s a i)))
-          (pairs-filter IsClearOf (is_beyond p e) es pl.clear);
+      either = pairs-weaker IsClearOf (λ a b. right_of p a b ≡ not (right_of p b a)) (filter (is_right_above p e) es)
+          (λ a b i j n. right_either p a b (right_apart p a b es pl (in-filter (is_right_above p e) es a i) (in-filter (is_right_above p e) es b j) n (s b j) (s a i)))
+          (pairs-filter IsClearOf (is_right_above p e) es pl.clear);
     }
 
 pub bit-both : (a b : Bool) → (a ≡ true → b ≡ true) → (b ≡ true → a ≡ true) → bit a ≡ bit b
@@ -51,39 +47,22 @@ bit-both false false h k = refl
 bit-both true false h k = absurd (cc (h refl))
 bit-both false true h k = absurd (cc (k refl))
 
-and-join : (x y : Bool) → x ≡ true → y ≡ true → (x && y) ≡ true
-and-join true y h k = k
-and-join false y h k = absurd (cc h)
-
 not-inject : (a b : Bool) → not a ≡ not b → a ≡ b
 not-inject a b h = sym (not-not a) ∙ ap not h ∙ not-not b
 
 -- t is right of e, and all edges of the list right of e are right of t: the parity of the list is the same at both
-pub same_beside : (p : Vector) (e t : Edge) (es : List Edge) → IsRising e → IsRising t → IsConflictFree es → IsEvenAtPoints es → IsClearOfAll e es → IsClearOfAll t es → is_in_span p e ≡ true → is_beyond p e t ≡ true →
-    ((f : Edge) → In f es → is_beyond p e f ≡ true → right_of p t f ≡ true) → covers_edge es t ≡ covers_edge es e
+pub same_beside : (p : Vector) (e t : Edge) (es : List Edge) → IsRising e → IsRising t → IsConflictFree es → IsEvenAtPoints es → IsClearOfAll e es → IsClearOfAll t es → is_in_span p e ≡ true → is_right_above p e t ≡ true →
+    ((f : Edge) → In f es → is_right_above p e f ≡ true → right_of p t f ≡ true) → covers_edge es t ≡ covers_edge es e
 same_beside p e t es re rt pl even ce ct se b h =
-    let st = beyond-spans p e t b in
+    let st = beyond-span p e t b in
     let x = beside p e es re pl even ce se in let y = beside p t es rt pl even ct st in
-    let w = total-same (to_right p t) (to_right p e) es (λ f i. bit-both (is_beyond p t f) (is_beyond p e f)
-    (λ k. and-join (is_in_span p f) (right_of p e f) (beyond-spans p t f k) (right_chain p e t f se st (beyond-spans p t f k) (beyond-right p e t b) (beyond-right p t f k)))
-    (λ k. and-join (is_in_span p f) (right_of p t f) (beyond-spans p e f k) (h f i k))) in
+    let w = total-same (to_right p t) (to_right p e) es (λ f i. bit-both (is_right_above p t f) (is_right_above p e f)
+    (λ k. and-in (is_in_span p f) (right_of p e f) (beyond-span p t f k) (right_chain p e t f se st (beyond-span p t f k) (beyond-right p e t b) (beyond-right p t f k)))
+    (λ k. and-in (is_in_span p f) (right_of p t f) (beyond-span p e f k) (h f i k))) in
     not-inject (covers_edge es t) (covers_edge es e) (sym y ∙ ap is_even w ∙ x)
 
--- ---- where a list has odd parity, an edge of it is right of e
-some-step : {X : Type 0} (q : X → Bool) (x : X) (xs : List X) → (b : Bool) → q x ≡ b → (b ≡ false → (y : X) × In y xs × (q y ≡ true)) → (y : X) × In y (x ∷ xs) × (q y ≡ true)
-some-step q x xs true h k = (x, inl refl, h)
-some-step q x xs false h k = let r = k refl in (r.0, inr r.1, r.2)
-
-rest-odd : (b : Bool) (n : ℕ) → b ≡ false → is_even (bit b + n) ≡ false → is_even n ≡ false
-rest-odd true n h k = absurd (cc h)
-rest-odd false n h k = sym (ap is_even (let e : 0 + n ≡ n = omega arith in e)) ∙ k
-
-pub some_odd : {X : Type 0} (q : X → Bool) (xs : List X) → is_even (total (λ x. bit (q x)) xs) ≡ false → (y : X) × In y xs × (q y ≡ true)
-some_odd q [] h = absurd (cc h)
-some_odd q (x ∷ xs) h = some-step q x xs (q x) refl (λ e. some_odd q xs (rest-odd (q x) (total (λ x. bit (q x)) xs) e h))
-
-pub some_beyond : (p : Vector) (e : Edge) (es : List Edge) → IsRising e → IsConflictFree es → IsEvenAtPoints es → IsClearOfAll e es → is_in_span p e ≡ true → covers_edge es e ≡ true → (f : Edge) × In f es × (is_beyond p e f ≡ true)
-some_beyond p e es re pl even c s h = some_odd (is_beyond p e) es (beside p e es re pl even c s ∙ ap not h)
+pub some_beyond : (p : Vector) (e : Edge) (es : List Edge) → IsRising e → IsConflictFree es → IsEvenAtPoints es → IsClearOfAll e es → is_in_span p e ≡ true → covers_edge es e ≡ true → (f : Edge) × In f es × (is_right_above p e f ≡ true)
+some_beyond p e es re pl even c s h = some_odd (is_right_above p e) es (beside p e es re pl even c s ∙ ap not h)
 
 -- ---- two lists beside an edge that is in the one
 pub record Meets (e : Edge) (cs bs : List Edge) : Type 0 where
@@ -92,15 +71,15 @@ pub record Meets (e : Edge) (cs bs : List Edge) : Type 0 where
 
 module _ (p : Vector) (e : Edge) (cs bs : List Edge) (re : IsRising e) (s : is_in_span p e ≡ true) (pa : IsConflictFree cs) (pb : IsConflictFree bs) (ea : IsEvenAtPoints cs) (eb : IsEvenAtPoints bs)
     (c : AreClear cs bs) (ca : IsClearOfAll e cs) (cb : IsClearOfAll e bs) where
-  meets-by : (m : Edge) → First (right_of p) m (filter (is_beyond p e) (cs ++ bs)) → (In m cs) ⊎ (In m bs) → Meets e cs bs
+  meets-by : (m : Edge) → First (right_of p) m (filter (is_right_above p e) (cs ++ bs)) → (In m cs) ⊎ (In m bs) → Meets e cs bs
   meets-by m f (inl i) =
       let rm = rising_in cs m pa i in
       record {
         edge = m;
         of = inl (
           i,
-          same_beside p e m bs re rm pb eb cb (clear-list cs bs c m i) s (in-passes (is_beyond p e) (cs ++ bs) m f.here)
-              (λ t j h. first-right p m t rm (c m t i j) (f.first t (into-filter (is_beyond p e) (cs ++ bs) t (in-right cs bs t j) h))),
+          same_beside p e m bs re rm pb eb cb (clear-list cs bs c m i) s (in-passes (is_right_above p e) (cs ++ bs) m f.here)
+              (λ t j h. first-right p m t rm (c m t i j) (f.first t (into-filter (is_right_above p e) (cs ++ bs) t (in-right cs bs t j) h))),
         );
       }
   meets-by m f (inr i) =
@@ -109,16 +88,16 @@ module _ (p : Vector) (e : Edge) (cs bs : List Edge) (re : IsRising e) (s : is_i
         edge = m;
         of = inr (
           i,
-          same_beside p e m cs re rm pa ea ca (clear-list bs cs (clear-turned cs bs c) m i) s (in-passes (is_beyond p e) (cs ++ bs) m f.here)
-              (λ t j h. first-right p m t rm (clear_back t m (c t m j i)) (f.first t (into-filter (is_beyond p e) (cs ++ bs) t (in-left cs bs t j) h))),
+          same_beside p e m cs re rm pa ea ca (clear-list bs cs (clear-reversed cs bs c) m i) s (in-passes (is_right_above p e) (cs ++ bs) m f.here)
+              (λ t j h. first-right p m t rm (clear_back t m (c t m j i)) (f.first t (into-filter (is_right_above p e) (cs ++ bs) t (in-left cs bs t j) h))),
         );
       }
 
   pub meets : covers_edge cs e ≡ true → Meets e cs bs
   meets h =
       let t = some_beyond p e cs re pa ea ca s h in
-      let m = first_exists (right_of p) (filter (is_beyond p e) (cs ++ bs)) t.0 (into-filter (is_beyond p e) (cs ++ bs) t.0 (in-left cs bs t.0 t.1) t.2) (beyond-order p e (cs ++ bs) (plain-append cs bs pa pb c)) in
-      meets-by m.0 m.1 (in-either cs bs m.0 (in-filter (is_beyond p e) (cs ++ bs) m.0 m.1.here))
+      let m = first_exists (right_of p) (filter (is_right_above p e) (cs ++ bs)) t.0 (into-filter (is_right_above p e) (cs ++ bs) t.0 (in-left cs bs t.0 t.1) t.2) (beyond-order p e (cs ++ bs) (plain-append cs bs pa pb c)) in
+      meets-by m.0 m.1 (in-either cs bs m.0 (in-filter (is_right_above p e) (cs ++ bs) m.0 m.1.here))
 
   through-by : ((x : Edge) → In x cs → covers_edge bs x ≡ true) → ((x y : Edge) → In x bs → In y bs → covers_edge cs x ≡ covers_edge cs y) → covers_edge cs e ≡ true → (m : Edge) → (In m cs × (covers_edge bs m ≡ covers_edge bs e)) ⊎ (In m bs × (covers_edge cs m ≡ covers_edge cs e)) → covers_edge bs e ≡ true
   through-by h k o m (inl i) = sym i.1 ∙ h m i.0

@@ -6,7 +6,7 @@ use Rattle.nesting.specs.Nesting.{IsNest, depth, edges_of, encloses, has_edge, i
 use Rattle.plane.specs.Bit.{bit}
 use Rattle.plane.specs.Conflict.{IsClearOf}
 use Rattle.plane.specs.Edge.{Edge, IsRising, same_edge}
-use Rattle.plane.specs.Height.{is_in_span}
+use Rattle.plane.specs.Height.{is_in_span, is_right_above}
 use Rattle.plane.specs.Vector.{Vector, from_to, one_at}
 use Rattle.winding.specs.ConflictFree.{IsConflictFree}
 use Rattle.winding.specs.EdgeList.{IsEvenAtPoints, crossing_count}
@@ -15,18 +15,19 @@ use Rattle.winding.specs.Node.{away}
 use Rattle.winding.specs.Parity.{is_even}
 use Rattle.winding.specs.Ring.{IsAnchor}
 use Rattle.nesting.proofs.CoveredEdges.{IsClearOfAll}
-use Rattle.nesting.proofs.Nearest.{beyond-order, bit-both, is_beyond, same_beside, some_beyond, through}
-use Rattle.nesting.proofs.TwoLists.{clear-list, clear-turned, differ-lists, first-right, not_both_in}
+use Rattle.nesting.proofs.Nearest.{beyond-order, bit-both, same_beside, some_beyond, through}
+use Rattle.nesting.proofs.TwoLists.{clear-list, clear-reversed, differ-lists, first-right, not_both_in}
+use Rattle.plane.proofs.Bools.{and-out, not-not, not-true-out, or-right}
 use Rattle.plane.proofs.Conflicts.{clear_back}
-use Rattle.plane.proofs.Edges.{and-out, same_edge-refl, same_edge-true}
+use Rattle.plane.proofs.Edges.{same_edge-refl, same_edge-true}
+use Rattle.plane.proofs.Heights.{right_of}
 use Rattle.winding.proofs.Anchors.{anchor_runs}
 use Rattle.winding.proofs.ConflictFree.{rising_in}
-use Rattle.winding.proofs.Levels.{right_of}
 use Rattle.winding.proofs.Members.{all-in, in-all, in-either, in-left, in-passes, in-right, into-filter, pairs-across, pairs-left, pairs-right, total-same}
-use Rattle.winding.proofs.OddSides.{not-not, runs_from, same-parity}
+use Rattle.winding.proofs.OddSides.{runs_from, same-parity}
 use Rattle.winding.proofs.OppositeEnds.{beyond, crossings-away}
 use Rattle.winding.proofs.Ranks.{First, even-is, even-next, first_exists, halves, odd-is}
-use Rattle.winding.proofs.Sums.{total, total-+, total-++, total-is}
+use Rattle.winding.proofs.Sums.{none-sum, total, total-+, total-++, total-is}
 
 pub plain-left : (xs ys : List Edge) → IsConflictFree (xs ++ ys) → IsConflictFree xs
 plain-left xs ys p = record { rising = all-in IsRising xs (λ t i. rising_in (xs ++ ys) t p (in-left xs ys t i)); clear = pairs-left IsClearOf xs ys p.clear }
@@ -34,10 +35,10 @@ plain-left xs ys p = record { rising = all-in IsRising xs (λ t i. rising_in (xs
 pub plain-right : (xs ys : List Edge) → IsConflictFree (xs ++ ys) → IsConflictFree ys
 plain-right xs ys p = record { rising = all-in IsRising ys (λ t i. rising_in (xs ++ ys) t p (in-right xs ys t i)); clear = pairs-right IsClearOf xs ys p.clear }
 
-pub in-flat : (gs : List (List Edge)) (g : List Edge) (s : Edge) → In g gs → In s g → In s (edges_of gs)
-in-flat [] g s i j = absurd i
-in-flat (h ∷ hs) g s (inl e) j = in-left h (edges_of hs) s (subst (λ l. In s l) e j)
-in-flat (h ∷ hs) g s (inr i) j = in-right h (edges_of hs) s (in-flat hs g s i j)
+pub in-edges : (gs : List (List Edge)) (g : List Edge) (s : Edge) → In g gs → In s g → In s (edges_of gs)
+in-edges [] g s i j = absurd i
+in-edges (h ∷ hs) g s (inl e) j = in-left h (edges_of hs) s (subst (λ l. In s l) e j)
+in-edges (h ∷ hs) g s (inr i) j = in-right h (edges_of hs) s (in-edges hs g s i j)
 
 pub plain-part : (gs : List (List Edge)) (g : List Edge) → IsConflictFree (edges_of gs) → In g gs → IsConflictFree g
 plain-part [] g p i = absurd i
@@ -47,18 +48,14 @@ plain-part (h ∷ hs) g p (inr i) = plain-part hs g (plain-right h (edges_of hs)
 pub clear_or_same : (gs : List (List Edge)) (g h : List Edge) → IsConflictFree (edges_of gs) → In g gs → In h gs → (AreClear g h) ⊎ (g ≡ h)
 clear_or_same [] g h p i j = absurd i
 clear_or_same (k ∷ ks) g h p (inl e) (inl f) = inr (e ∙ sym f)
-clear_or_same (k ∷ ks) g h p (inl e) (inr j) = inl (λ s t a b. pairs-across IsClearOf k (edges_of ks) s t p.clear (subst (λ l. In s l) e a) (in-flat ks h t j b))
-clear_or_same (k ∷ ks) g h p (inr i) (inl f) = inl (λ s t a b. clear_back t s (pairs-across IsClearOf k (edges_of ks) t s p.clear (subst (λ l. In t l) f b) (in-flat ks g s i a)))
+clear_or_same (k ∷ ks) g h p (inl e) (inr j) = inl (λ s t a b. pairs-across IsClearOf k (edges_of ks) s t p.clear (subst (λ l. In s l) e a) (in-edges ks h t j b))
+clear_or_same (k ∷ ks) g h p (inr i) (inl f) = inl (λ s t a b. clear_back t s (pairs-across IsClearOf k (edges_of ks) t s p.clear (subst (λ l. In t l) f b) (in-edges ks g s i a)))
 clear_or_same (k ∷ ks) g h p (inr i) (inr j) = clear_or_same ks g h (plain-right k (edges_of ks) p) i j
-
-or-second : (b c : Bool) → c ≡ true → (b || c) ≡ true
-or-second true c h = refl
-or-second false c h = h
 
 pub has-in : (g : List Edge) (s : Edge) → In s g → has_edge g s ≡ true
 has-in [] s i = absurd i
 has-in (x ∷ xs) s (inl e) = ap (λ b. b || has_edge xs s) (ap (λ w. same_edge x w) e ∙ same_edge-refl x)
-has-in (x ∷ xs) s (inr i) = or-second (same_edge x s) (has_edge xs s) (has-in xs s i)
+has-in (x ∷ xs) s (inr i) = or-right (same_edge x s) (has_edge xs s) (has-in xs s i)
 
 in-has-by : (x s : Edge) (xs : List Edge) (b : Bool) → same_edge x s ≡ b → (b || has_edge xs s) ≡ true → (has_edge xs s ≡ true → In s xs) → In s (x ∷ xs)
 in-has-by x s xs true h k r = inl (sym (same_edge-true x s h))
@@ -87,11 +84,6 @@ has-not-by g h t p c j true e = let i = in-has g t e in absurd (differ-lists t t
 pub has_same : (gs : List (List Edge)) (g h : List Edge) (s t : Edge) → IsConflictFree (edges_of gs) → In g gs → In h gs → In s h → In t h → has_edge g s ≡ false → has_edge g t ≡ false
 has_same gs g h s t p i j k l n = has-not-by g h t (plain-part gs g p i) (clear_rings gs g h s p i j k n) l (has_edge g t) refl
 
--- ---- how many rings have an edge
-none-sum : {X : Type 0} (xs : List X) → total (λ x. 0) xs ≡ 0
-none-sum [] = refl
-none-sum (x ∷ xs) = let a = none-sum xs in omega arith
-
 none-rings : (gs : List (List Edge)) → total (λ g. 0) gs ≡ 0
 none-rings gs = none-sum gs
 
@@ -109,11 +101,11 @@ has_once [] s p i = absurd i
 has_once (h ∷ hs) s p i =
     one-by hs s (has_edge h s) h refl p (λ n. pick-or s h n (in-either h (edges_of hs) s i)) (has_once hs s (plain-right h (edges_of hs) p))
     (λ g j e. has-not-by g h s (plain-part hs g (plain-right h (edges_of hs) p) j)
-    (λ a b k l. clear_back b a (pairs-across IsClearOf h (edges_of hs) b a p.clear l (in-flat hs g a j k))) (in-has h s e) (has_edge g s) refl)
+    (λ a b k l. clear_back b a (pairs-across IsClearOf h (edges_of hs) b a p.clear l (in-edges hs g a j k))) (in-has h s e) (has_edge g s) refl)
 
-pub total-flat : (f : Edge → ℕ) (gs : List (List Edge)) → total f (edges_of gs) ≡ total (λ g. total f g) gs
-total-flat f [] = refl
-total-flat f (g ∷ gs) = let a = total-++ f g (edges_of gs) in let b = total-flat f gs in omega arith
+pub total-edges : (f : Edge → ℕ) (gs : List (List Edge)) → total f (edges_of gs) ≡ total (λ g. total f g) gs
+total-edges f [] = refl
+total-edges f (g ∷ gs) = let a = total-++ f g (edges_of gs) in let b = total-edges f gs in omega arith
 
 odd-by : (n : ℕ) → (n % 2 ≡ 0) ⊎ (n % 2 ≡ 1) → n % 2 ≡ bit (not (is_even n))
 odd-by n (inl h) = h ∙ sym (ap (λ b. bit (not b)) (even-is n h))
@@ -127,10 +119,10 @@ parity-sum f [] = refl
 parity-sum f (x ∷ xs) = let a = parity-sum f xs in let b = odd-bit (f x) in omega arith
 
 -- the parity of all along an edge is that of the number of rings whose parity along it is odd
-in_flat : (gs : List (List Edge)) (s : Edge) → is_even (crossing_count (from_to s.from s.to) s.from (away s.from (edges_of gs))) ≡ is_even (total (λ g. bit (covers_edge g s)) gs)
-in_flat gs s =
+in_edges : (gs : List (List Edge)) (s : Edge) → is_even (crossing_count (from_to s.from s.to) s.from (away s.from (edges_of gs))) ≡ is_even (total (λ g. bit (covers_edge g s)) gs)
+in_edges gs s =
     let d = from_to s.from s.to in let v = s.from in
-    let a = crossings-away d v (edges_of gs) ∙ total-flat (beyond d v) gs in
+    let a = crossings-away d v (edges_of gs) ∙ total-edges (beyond d v) gs in
     let b = parity-sum (λ g. total (beyond d v) g) gs in
     let c = total-same (λ g. bit (not (is_even (total (beyond d v) g)))) (λ g. bit (covers_edge g s)) gs (λ g i. ap (λ n. bit (not (is_even n))) (sym (crossings-away d v g))) in
     same-parity (crossing_count d v (away v (edges_of gs))) (total (λ g. bit (covers_edge g s)) gs) (omega arith)
@@ -155,10 +147,6 @@ cond-out false f xs = none-sum xs
 
 pub depth-total : (gs : List (List Edge)) (s : Edge) → depth gs s ≡ total (λ g. bit (encloses g s)) gs
 depth-total gs s = sym (total-is (λ g. bit (encloses g s)) gs)
-
-not-true-out : (b : Bool) → not b ≡ true → b ≡ false
-not-true-out true h = absurd (cc h)
-not-true-out false h = refl
 
 pub and-make : (x y : Bool) → x ≡ false → y ≡ true → (not x && y) ≡ true
 and-make false y h k = k
@@ -185,7 +173,7 @@ module _ (gs : List (List Edge)) (n : IsNest gs) where
       let a = total-same (λ g. cond (has_edge g s) (bit (covers_edge g s)) 0) (λ g. cond (covers_edge h s) (bit (has_edge g s)) 0) gs
       (λ g j. own-bit (covers_edge h s) (has_edge g s) (bit (covers_edge g s)) (λ e. ap (λ l. bit (covers_edge l s)) (same-ring h g s i j k e)) ∙ cond-times (covers_edge h s) (has_edge g s)) in
       let b = cond-out (covers_edge h s) (λ g. has_edge g s) gs in
-      let c = has_once gs s n.plain (in-flat gs h s i k) in
+      let c = has_once gs s n.plain (in-edges gs h s i k) in
       a ∙ b ∙ ap (λ m. cond (covers_edge h s) m 0) c
 
   sum_in : (h : List Edge) (s : Edge) → In h gs → In s h → total (λ g. bit (covers_edge g s)) gs ≡ total (λ g. bit (encloses g s)) gs + bit (covers_edge h s)
@@ -194,10 +182,10 @@ module _ (gs : List (List Edge)) (n : IsNest gs) where
       let b = total-+ (λ g. bit (encloses g s)) (λ g. cond (has_edge g s) (bit (covers_edge g s)) 0) gs in
       let c = own-sum h s i k in omega arith
 
-  pub flat-even : IsEvenAtPoints (edges_of gs)
-  flat-even v =
+  pub edges-even : IsEvenAtPoints (edges_of gs)
+  edges-even v =
       let f = λ (e : Edge). one_at v e.from + one_at v e.to in
-      let a = sym (total-is f (edges_of gs)) ∙ total-flat f gs in
+      let a = sym (total-is f (edges_of gs)) ∙ total-edges f gs in
       let b = evens-sum (λ g. total f g) gs (λ g i. let c = total-is f g in let d = n.even g i v in omega arith) in
       omega arith
 
@@ -207,10 +195,10 @@ module _ (gs : List (List Edge)) (n : IsNest gs) where
   -- a ring is outer where an even number of rings enclose it
   pub outer_depth : (h : List Edge) (s : Edge) → In h gs → IsAnchor s h → is_outer gs s ≡ is_even (depth gs s)
   outer_depth h s i a =
-      let r = runs_from s (edges_of gs) n.plain flat-even (in-flat gs h s i a.member) in
+      let r = runs_from s (edges_of gs) n.plain edges-even (in-edges gs h s i a.member) in
       let b = sum_in h s i a.member in let c = ap bit (anchor-out-own h s i a) in let d = depth-total gs s in
       let e : total (λ g. bit (covers_edge g s)) gs ≡ depth gs s = omega arith in
-      ap not r ∙ not-not (is_even (crossing_count (from_to s.from s.to) s.from (away s.from (edges_of gs)))) ∙ in_flat gs s ∙ ap is_even e
+      ap not r ∙ not-not (is_even (crossing_count (from_to s.from s.to) s.from (away s.from (edges_of gs)))) ∙ in_edges gs s ∙ ap is_even e
 
   pub encloses-not : (g : List Edge) (s : Edge) → encloses g s ≡ true → has_edge g s ≡ false
   encloses-not g s h = not-true-out (has_edge g s) (and-out (not (has_edge g s)) (covers_edge g s) h).0
@@ -219,7 +207,7 @@ module _ (gs : List (List Edge)) (n : IsNest gs) where
   encloses-in g s h = (and-out (not (has_edge g s)) (covers_edge g s) h).1
 
   pub clear-of : (g h : List Edge) (s : Edge) → In g gs → In h gs → In s h → has_edge g s ≡ false → IsClearOfAll s g
-  clear-of g h s i j k m = clear-list h g (clear-turned g h (clear_rings gs g h s n.plain i j k m)) s k
+  clear-of g h s i j k m = clear-list h g (clear-reversed g h (clear_rings gs g h s n.plain i j k m)) s k
 
   encloses-same-by : (g h : List Edge) (s t : Edge) → In g gs → In h gs → In s h → In t h → (b c : Bool) → has_edge g s ≡ b → has_edge g t ≡ c → (not b && covers_edge g s) ≡ (not c && covers_edge g t)
   encloses-same-by g h s t i j k l false false e f = n.constant g h i j s t k l e
@@ -236,7 +224,7 @@ module _ (gs : List (List Edge)) (n : IsNest gs) where
   -- two rings, the one in the other: not the other way round
   pub not-both : (g h : List Edge) (s t : Edge) → In g gs → In h gs → In s h → In t g → encloses g s ≡ true → encloses h t ≡ true → ⊥
   not-both g h s t i j k l a b =
-      not_both_in h g (part h j) (part g i) (n.even h j) (n.even g i) (clear-turned g h (clear_rings gs g h s n.plain i j k (encloses-not g s a))) s k
+      not_both_in h g (part h j) (part g i) (n.even h j) (n.even g i) (clear-reversed g h (clear_rings gs g h s n.plain i j k (encloses-not g s a))) s k
       (λ x m. n.constant g h i j x s m k (has_same gs g h s x n.plain i j k m (encloses-not g s a)) ∙ encloses-in g s a)
       (λ x m. n.constant h g j i x t m l (has_same gs h g t x n.plain j i l m (encloses-not h t b)) ∙ encloses-in h t b)
 
@@ -246,7 +234,7 @@ module _ (gs : List (List Edge)) (n : IsNest gs) where
     re = rising_in h e (part h ih) ie
 
     abbrev pub beyonds : List Edge
-    beyonds = filter (is_beyond p e) (edges_of (filter sel gs))
+    beyonds = filter (is_right_above p e) (edges_of (filter sel gs))
 
     -- along the nearest edge m each other chosen ring has odd parity
     pub nearest_in : (m : Edge) → First (right_of p) m beyonds → (t : List Edge) → In t gs → In m t → (g : List Edge) → In g gs → sel g ≡ true → has_edge g m ≡ false → covers_edge g m ≡ covers_edge g e
@@ -254,16 +242,16 @@ module _ (gs : List (List Edge)) (n : IsNest gs) where
         let rm = rising_in t m (part t it) im in
         let ce = clear-of g h e ig ih ie (encloses-not g e (chosen g ig sg)) in
         let cm = clear-of g t m ig it im nm in
-        same_beside p e m g re rm (part g ig) (n.even g ig) ce cm se (in-passes (is_beyond p e) (edges_of (filter sel gs)) m f.here)
+        same_beside p e m g re rm (part g ig) (n.even g ig) ce cm se (in-passes (is_right_above p e) (edges_of (filter sel gs)) m f.here)
         (λ u i b. first-right p m u rm (in-all (IsClearOf m) g u cm i)
-        (f.first u (into-filter (is_beyond p e) (edges_of (filter sel gs)) u (in-flat (filter sel gs) g u (into-filter sel gs g ig sg) i) b)))
+        (f.first u (into-filter (is_right_above p e) (edges_of (filter sel gs)) u (in-edges (filter sel gs) g u (into-filter sel gs g ig sg) i) b)))
 
     -- there is one, where a ring is chosen
     pub nearest_exists : (g : List Edge) → In g gs → sel g ≡ true → IsConflictFree (edges_of (filter sel gs)) → (m : Edge) × First (right_of p) m beyonds
     nearest_exists g ig sg pl =
         let ce = clear-of g h e ig ih ie (encloses-not g e (chosen g ig sg)) in
         let s = some_beyond p e g re (part g ig) (n.even g ig) ce se (encloses-in g e (chosen g ig sg)) in
-        first_exists (right_of p) beyonds s.0 (into-filter (is_beyond p e) (edges_of (filter sel gs)) s.0 (in-flat (filter sel gs) g s.0 (into-filter sel gs g ig sg) s.1) s.2) (beyond-order p e (edges_of (filter sel gs)) pl)
+        first_exists (right_of p) beyonds s.0 (into-filter (is_right_above p e) (edges_of (filter sel gs)) s.0 (in-edges (filter sel gs) g s.0 (into-filter sel gs g ig sg) s.1) s.2) (beyond-order p e (edges_of (filter sel gs)) pl)
 
   -- ---- the innermost ring that encloses e: the one with the nearest edge
   module _ (h : List Edge) (ih : In h gs) (e : Edge) (ie : In e h) (p : Vector) (se : is_in_span p e ≡ true) where
@@ -290,7 +278,7 @@ module _ (gs : List (List Edge)) (n : IsNest gs) where
           let nm = encloses-not g m c in
           let ne = has-not-e g ig c (has_edge g e) refl in
           let gt = clear_rings gs g t m n.plain ig it im nm in
-          let tg = clear-turned g t gt in
+          let tg = clear-reversed g t gt in
           let ca = clear-of t h e it ih ie (encloses-not t e ct) in let cb = clear-of g h e ig ih ie ne in
           and-make (has_edge g e) (covers_edge g e) ne
           (through p e t g (rising_in h e (part h ih) ie) se (part t it) (part g ig) (n.even t it) (n.even g ig) tg ca cb
@@ -309,7 +297,7 @@ module _ (gs : List (List Edge)) (n : IsNest gs) where
           let a = depth-total gs e in let b = depth-total gs m in
           let c = total-same (λ g. bit (encloses g e)) (λ g. bit (has_edge g m) + bit (encloses g m)) gs (λ g i. depth-at g i (has_edge g m) refl) in
           let d = total-+ (λ g. bit (has_edge g m)) (λ g. bit (encloses g m)) gs in
-          let o = has_once gs m n.plain (in-flat gs t m it im) in omega arith
+          let o = has_once gs m n.plain (in-edges gs t m it im) in omega arith
 
       -- so of e's ring and the innermost ring that encloses it, one is outer and one is inner
       pub alternate : (a : Edge) → IsAnchor a h → (b : Edge) → IsAnchor b t → is_outer gs b ≡ not (is_outer gs a)

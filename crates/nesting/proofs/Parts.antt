@@ -16,13 +16,13 @@ use Rattle.winding.specs.Member.{EachPair, In}
 use Rattle.winding.specs.Ring.{IsPath, segments_of}
 use Rattle.winding.specs.ScaledEdges.{scaled_edges}
 use Rattle.winding.specs.Sided.{IsSided}
-use Rattle.nesting.proofs.Successors.{clear-two, no-loop-raised, raise-one, rise}
+use Rattle.nesting.proofs.Successors.{clear-two, no-loop-segments, rise, segment-one}
 use Rattle.plane.proofs.Conflicts.{clear_differs}
 use Rattle.plane.proofs.Edges.{same_edge-refl, same_edge-true, same_edge_by}
 use Rattle.plane.proofs.Points.{same_point-refl}
 use Rattle.winding.proofs.Members.{all-in, in-all, in-either, in-left, in-map, in-map-out, in-right, pairs-across, pairs-left, pairs-right}
 use Rattle.winding.proofs.RingCounts.{total-member}
-use Rattle.winding.proofs.SidedLists.{raise-direct-by}
+use Rattle.winding.proofs.SidedLists.{segment-direct-by}
 use Rattle.winding.proofs.Sums.{total, total-is, total-map}
 
 abbrev pub Apart : List Edge → List Edge → Type 0
@@ -35,17 +35,17 @@ Once xs = EachPair (λ (x y : Edge). x ≡ y → ⊥) xs
 pub once-apart : (xs ys : List Edge) → Once (xs ++ ys) → Apart xs ys
 once-apart xs ys o x i j = pairs-across (λ (x y : Edge). x ≡ y → ⊥) xs ys x x o i j refl
 
-pub in-around : (a p b : List Edge) (x : Edge) → In x (a ++ b) → In x (a ++ (p ++ b))
-in-around [] p b x i = in-right p b x i
-in-around (y ∷ a) p b x (inl e) = inl e
-in-around (y ∷ a) p b x (inr i) = inr (in-around a p b x i)
+pub in-covers : (a p b : List Edge) (x : Edge) → In x (a ++ b) → In x (a ++ (p ++ b))
+in-covers [] p b x i = in-right p b x i
+in-covers (y ∷ a) p b x (inl e) = inl e
+in-covers (y ∷ a) p b x (inr i) = inr (in-covers a p b x i)
 
 pub in-middle : (a p b : List Edge) (x : Edge) → In x p → In x (a ++ (p ++ b))
 in-middle a p b x i = in-right a (p ++ b) x (in-left p b x i)
 
 pub once-cut : (a p b : List Edge) → Once (a ++ (p ++ b)) → Once (a ++ b)
 once-cut [] p b o = pairs-right (λ (x y : Edge). x ≡ y → ⊥) p b o
-once-cut (x ∷ a) p b o = (all-in (λ (y : Edge). x ≡ y → ⊥) (a ++ b) (λ y i. in-all (λ (y : Edge). x ≡ y → ⊥) (a ++ (p ++ b)) y o.0 (in-around a p b y i)), once-cut a p b o.1)
+once-cut (x ∷ a) p b o = (all-in (λ (y : Edge). x ≡ y → ⊥) (a ++ b) (λ y i. in-all (λ (y : Edge). x ≡ y → ⊥) (a ++ (p ++ b)) y o.0 (in-covers a p b y i)), once-cut a p b o.1)
 
 pub once-middle : (a p b : List Edge) → Once (a ++ (p ++ b)) → Once p
 once-middle a p b o = pairs-left (λ (x y : Edge). x ≡ y → ⊥) p b (pairs-right (λ (x y : Edge). x ≡ y → ⊥) a (p ++ b) o)
@@ -116,13 +116,13 @@ same-in xs ys s x i =
 pub same-once : (xs ys : List Edge) → HasSameEdges xs ys → Once ys → Once xs
 same-once xs ys s o = count-once xs (λ x i. let a = same-edges-total xs ys s (λ (y : Edge). bit (same_edge x y)) in let b = once-count x ys o in omega arith)
 
-once-raised : (xs : List Edge) → ((x : Edge) → In x xs → IsRising (segment_of x)) → EachPair IsClearOf (segments_of xs) → Once xs
-once-raised [] r p = tt
-once-raised (x ∷ xs) r p = (
+once-segments : (xs : List Edge) → ((x : Edge) → In x xs → IsRising (segment_of x)) → EachPair IsClearOf (segments_of xs) → Once xs
+once-segments [] r p = tt
+once-segments (x ∷ xs) r p = (
   all-in (λ (y : Edge). x ≡ y → ⊥) xs (λ y i e.
       let k = clear_differs (segment_of x) (segment_of y) (r x (inl refl)) (in-all (IsClearOf (segment_of x)) (segments_of xs) (segment_of y) p.0 (in-map segment_of xs y i)) in
       absurd (cc (sym (same_edge-refl (segment_of x)) ∙ ap (λ w. same_edge (segment_of x) (segment_of w)) e ∙ k))),
-  once-raised xs (λ y i. r y (inr i)) p.1,
+  once-segments xs (λ y i. r y (inr i)) p.1,
 )
 
 scaled-sum : (k : ℤ) (f : Edge → ℕ) (xs ys : List Edge) → HasSameEdges xs ys → total f (scaled_edges k xs) ≡ total f (scaled_edges k ys)
@@ -135,13 +135,13 @@ same-winding k p xs ys s =
     let b : down_count east p (scaled_edges k xs) ≡ down_count east p (scaled_edges k ys) = sym (total-is g (scaled_edges k xs)) ∙ scaled-sum k g xs ys s ∙ total-is g (scaled_edges k ys) in
     ap (λ n. pos n -ℤ pos (down_count east p (scaled_edges k xs))) a ∙ ap (λ n. pos (up_count east p (scaled_edges k ys)) -ℤ pos n) b
 
-turned-by : (b : Bool) (x : Edge) → IsRising (cond b x (reversed x)) → segment_of (reversed x) ≡ cond b x (reversed x)
-turned-by true x r = raise-direct-by false x r
-turned-by false x r = raise-direct-by true (reversed x) r
+reversed-by : (b : Bool) (x : Edge) → IsRising (cond b x (reversed x)) → segment_of (reversed x) ≡ cond b x (reversed x)
+reversed-by true x r = segment-direct-by false x r
+reversed-by false x r = segment-direct-by true (reversed x) r
 
 module _ (es : List Edge) (sd : IsSided es) where
   pub sided-once : Once es
-  sided-once = once-raised es (rise es sd) sd.plain.clear
+  sided-once = once-segments es (rise es sd) sd.plain.clear
 
   plain-pairs : (xs : List Edge) → ((x : Edge) → In x xs → In x es) → Once xs → EachPair IsClearOf (segments_of xs)
   plain-pairs [] sub o = tt
@@ -170,12 +170,12 @@ module _ (es : List Edge) (sd : IsSided es) where
   }
 
   one-long : (x : Edge) → In x es → (v : Vector) → x.from ≡ v → v ≡ x.to → ⊥
-  one-long x i v h k = no-loop-raised v x (ap (same_point v) h ∙ same_point-refl v) (ap (same_point v) (sym k) ∙ same_point-refl v) (rise es sd x i)
+  one-long x i v h k = no-loop-segments v x (ap (same_point v) h ∙ same_point-refl v) (ap (same_point v) (sym k) ∙ same_point-refl v) (rise es sd x i)
 
   two-long : (x y : Edge) → In x es → In y es → (x ≡ y → ⊥) → x.from ≡ y.to → y.from ≡ x.to → ⊥
   two-long x y i j n h k =
       let q : y ≡ reversed x = same_edge_by y.from y.to x.to x.from k (sym h) in
-      n (raise-one es sd x y i j (sym (ap segment_of q ∙ turned-by (is_plus (order x.from x.to)) x (rise es sd x i))))
+      n (segment-one es sd x y i j (sym (ap segment_of q ∙ reversed-by (is_plus (order x.from x.to)) x (rise es sd x i))))
 
   -- a ring has three edges at least
   pub ring_long : (xs : List Edge) → ((x : Edge) → In x xs → In x es) → Once xs → 0 < length xs → (a : Vector) → IsPath a xs a → 3 ≤ length xs

@@ -14,9 +14,9 @@ use Rattle.winding.specs.Parity.{is_even}
 use Rattle.winding.specs.Ring.{IsRing, segments_of}
 use Rattle.winding.specs.Sided.{IsSided}
 use Rattle.nesting.proofs.CoveredEdges.{in-from-end, off-list}
-use Rattle.nesting.proofs.Nests.{in-flat}
-use Rattle.nesting.proofs.Parts.{Apart, Once, apart-rest, differ, in-around, in-middle, once-apart, once-cut, once-middle, plain-of, ring_long, same-once, sided-once, sided_same}
-use Rattle.nesting.proofs.Stretches.{Keeps, around_same, cut_cycle, follow-weaker, piece_same, stretch_same}
+use Rattle.nesting.proofs.Nests.{in-edges}
+use Rattle.nesting.proofs.Parts.{Apart, Once, apart-rest, differ, in-covers, in-middle, once-apart, once-cut, once-middle, plain-of, ring_long, same-once, sided-once, sided_same}
+use Rattle.nesting.proofs.Stretches.{Keeps, covers_same, cut_cycle, follow-weaker, piece_same, stretch_same}
 use Rattle.nesting.proofs.Successors.{clear-two, first_same}
 use Rattle.nesting.proofs.TwoLists.{clear-list}
 use Rattle.plane.proofs.Edges.{ends_at-to}
@@ -48,7 +48,7 @@ not_crossed ss es ps pl even c k v s t i j hs ht =
 pub cuts-in : (w : List Edge) (ps : List (List Edge)) → Cuts w ps → (p : List Edge) → In p ps → (x : Edge) → In x p → In x w
 cuts-in w [] k p i x j = absurd i
 cuts-in w (q ∷ qs) k p (inl e) x j = subst (λ l. In x l) (sym k.2) (in-middle k.0 q k.1 x (subst (λ l. In x l) e j))
-cuts-in w (q ∷ qs) k p (inr i) x j = subst (λ l. In x l) (sym k.2) (in-around k.0 q k.1 x (cuts-in (k.0 ++ k.1) qs k.5 p i x j))
+cuts-in w (q ∷ qs) k p (inr i) x j = subst (λ l. In x l) (sym k.2) (in-covers k.0 q k.1 x (cuts-in (k.0 ++ k.1) qs k.5 p i x j))
 
 pub cuts-ring : (w : List Edge) (ps : List (List Edge)) → Cuts w ps → (p : List Edge) → In p ps → IsRing p × (0 < length p)
 cuts-ring w [] k p i = absurd i
@@ -71,15 +71,15 @@ pub append-assoc : {X : Type 0} (xs ys zs : List X) → xs ++ (ys ++ zs) ≡ (xs
 append-assoc [] ys zs = refl
 append-assoc (x ∷ xs) ys zs = ap (λ l. x ∷ l) (append-assoc xs ys zs)
 
-flat-append : (ps qs : List (List Edge)) → edges_of (ps ++ qs) ≡ edges_of ps ++ edges_of qs
-flat-append [] qs = refl
-flat-append (p ∷ ps) qs = ap (λ l. p ++ l) (flat-append ps qs) ∙ append-assoc p (edges_of ps) (edges_of qs)
+edges-append : (ps qs : List (List Edge)) → edges_of (ps ++ qs) ≡ edges_of ps ++ edges_of qs
+edges-append [] qs = refl
+edges-append (p ∷ ps) qs = ap (λ l. p ++ l) (edges-append ps qs) ∙ append-assoc p (edges_of ps) (edges_of qs)
 
 pub all-total : (f : Edge → ℕ) (ws rs : List (List Edge)) → AreCuts ws rs → total f (edges_of rs) ≡ total f (edges_of ws)
 all-total f [] rs k = ap (λ l. total f (edges_of l)) k
 all-total f (w ∷ ws) rs k =
     let a = all-total f ws k.1 k.4 in let b = cuts-total f w k.0 k.3 in
-    let c = total-++ f w (edges_of ws) in let d = ap (λ l. total f (edges_of l)) k.2 ∙ ap (total f) (flat-append k.0 k.1) ∙ total-++ f (edges_of k.0) (edges_of k.1) in omega arith
+    let c = total-++ f w (edges_of ws) in let d = ap (λ l. total f (edges_of l)) k.2 ∙ ap (total f) (edges-append k.0 k.1) ∙ total-++ f (edges_of k.0) (edges_of k.1) in omega arith
 
 pub all_same : (ws rs : List (List Edge)) → AreCuts ws rs → HasSameEdges (edges_of rs) (edges_of ws)
 all_same ws rs k f = sym (total-is f (edges_of rs)) ∙ all-total f ws rs k ∙ total-is f (edges_of ws)
@@ -126,7 +126,7 @@ module _ (es : List Edge) (sd : IsSided es) where
 
   steady-cut : (a p b : List Edge) → Once (a ++ (p ++ b)) → IsSteady (a ++ (p ++ b)) → IsSteady (a ++ b)
   steady-cut a p b o k rs fit sub =
-      cut_cycle (λ (x : Edge). In x rs → ⊥) (λ (x : Edge). covers_edge (segments_of rs) (segment_of x)) a p b (λ x i j. apart-rest a p b o x i (sub x j)) (k rs fit (λ x i. in-around a p b x (sub x i)))
+      cut_cycle (λ (x : Edge). In x rs → ⊥) (λ (x : Edge). covers_edge (segments_of rs) (segment_of x)) a p b (λ x i j. apart-rest a p b o x i (sub x j)) (k rs fit (λ x i. in-covers a p b x (sub x i)))
 
   fits : (p : List Edge) → IsRing p → Once p → ((x : Edge) → In x p → In x es) → Fits p
   fits p r o sub = record { sub = sub; plain = plain-of es sd p sub o; even = ring-even p r }
@@ -142,13 +142,13 @@ module _ (es : List Edge) (sd : IsSided es) where
       let o' : Once (a ++ (p ++ b)) = subst Once k.2 o in
       let st' : IsSteady (a ++ (p ++ b)) = subst IsSteady k.2 st in
       let sub' : (x : Edge) → In x (a ++ (p ++ b)) → In x es = subst (λ l. (x : Edge) → In x l → In x es) k.2 sub in
-      let rest = λ (x : Edge) (i : In x (a ++ b)). in-around a p b x i in
+      let rest = λ (x : Edge) (i : In x (a ++ b)). in-covers a p b x i in
       let away-from = apart-rest a p b o' in
       let fp = fits p k.4 (once-middle a p b o') (λ x i. sub' x (in-middle a p b x i)) in (
         all-in (AreFree p) ps (λ s i.
             let s-in = cuts-in (a ++ b) ps k.5 s i in
             let fs = cuts-fit (a ++ b) ps k.5 (once-cut a p b o') (λ x j. sub' x (rest x j)) s i in (
-              λ x y j l. around_same (λ (x : Edge). In x p → ⊥) (λ (x : Edge). covers_edge (segments_of p) (segment_of x)) a p b (λ u m n. away-from u n m) (st' p fp (in-middle a p b)) x y (s-in x j) (s-in y l),
+              λ x y j l. covers_same (λ (x : Edge). In x p → ⊥) (λ (x : Edge). covers_edge (segments_of p) (segment_of x)) a p b (λ u m n. away-from u n m) (st' p fp (in-middle a p b)) x y (s-in x j) (s-in y l),
               λ x y j l. piece_same (λ (x : Edge). In x s → ⊥) (λ (x : Edge). covers_edge (segments_of s) (segment_of x)) a p b (λ u m n. away-from u m (s-in u n)) (st' s fs (λ u m. rest u (s-in u m))) x y j l,
               λ x j l. away-from x j (s-in x l),
             )),
@@ -184,27 +184,27 @@ module _ (es : List Edge) (sd : IsSided es) where
       let hu = h g.0 (inr g.1) in let ou = once-part ws g.0 (once-right w (edges_of ws) o) g.1 in
       let r-in = cuts-in w ps k.3 r i in let s-in = cuts-in g.0 g.2 g.4 s g.3 in
       let fr = cuts-fit w ps k.3 ow hw.here r i in let fs = cuts-fit g.0 g.2 g.4 ou hu.here s g.3 in
-      let far = λ (x : Edge) (m : In x w) (n : In x g.0). once-apart w (edges_of ws) o x m (in-flat ws g.0 x g.1 n) in (
+      let far = λ (x : Edge) (m : In x w) (n : In x g.0). once-apart w (edges_of ws) o x m (in-edges ws g.0 x g.1 n) in (
         λ x y m n. walk-same g.0 hu r fr (λ u a b. far u (r-in u a) b) x y (s-in x m) (s-in y n),
         λ x y m n. walk-same w hw s fs (λ u a b. far u b (s-in u a)) x y (r-in x m) (r-in y n),
         λ x m n. far x (r-in x m) (s-in x n),
       )))
 
-  constant-raised : (rs ss : List Edge) → CoversAllOrNone rs ss → (s t : Edge) → In s (segments_of ss) → In t (segments_of ss) → covers_edge (segments_of rs) s ≡ covers_edge (segments_of rs) t
-  constant-raised rs ss c s t i j =
+  constant-segments : (rs ss : List Edge) → CoversAllOrNone rs ss → (s t : Edge) → In s (segments_of ss) → In t (segments_of ss) → covers_edge (segments_of rs) s ≡ covers_edge (segments_of rs) t
+  constant-segments rs ss c s t i j =
       let a = in-map-out segment_of ss s i in let b = in-map-out segment_of ss t j in
       ap (covers_edge (segments_of rs)) a.2 ∙ c a.0 b.0 a.1 b.1 ∙ ap (covers_edge (segments_of rs)) (sym b.2)
 
-  clear-raised : (rs ss : List Edge) → Fits rs → Fits ss → Apart rs ss → AreClear (segments_of rs) (segments_of ss)
-  clear-raised rs ss fr fs far s t i j =
+  clear-segments : (rs ss : List Edge) → Fits rs → Fits ss → Apart rs ss → AreClear (segments_of rs) (segments_of ss)
+  clear-segments rs ss fr fs far s t i j =
       let a = in-map-out segment_of rs s i in let b = in-map-out segment_of ss t j in
       let c = clear-two es sd a.0 b.0 (fr.sub a.0 a.1) (fs.sub b.0 b.1) (differ a.0 b.0 (λ e. far a.0 a.1 (subst (λ w. In w ss) (sym e) b.1))) in
       subst (λ w. IsClearOf w t) (sym a.2) (subst (λ w. IsClearOf (segment_of a.0) w) (sym b.2) c)
 
   free-cross : (rs ss : List Edge) → Fits rs → Fits ss → AreFree rs ss → DoNotCross (segments_of rs) (segments_of ss) × DoNotCross (segments_of ss) (segments_of rs)
   free-cross rs ss fr fs f = (
-    not_crossed (segments_of rs) (segments_of ss) fr.plain fs.plain fs.even (clear-raised rs ss fr fs f.2) (constant-raised ss rs f.1),
-    not_crossed (segments_of ss) (segments_of rs) fs.plain fr.plain fr.even (clear-raised ss rs fs fr (λ x i j. f.2 x j i)) (constant-raised rs ss f.0),
+    not_crossed (segments_of rs) (segments_of ss) fr.plain fs.plain fs.even (clear-segments rs ss fr fs f.2) (constant-segments ss rs f.1),
+    not_crossed (segments_of ss) (segments_of rs) fs.plain fr.plain fr.even (clear-segments ss rs fs fr (λ x i j. f.2 x j i)) (constant-segments rs ss f.0),
   )
 
   module _ (ws rs : List (List Edge)) (aw : AreWalks es ws) (k : AreCuts ws rs) where
@@ -214,21 +214,21 @@ module _ (es : List Edge) (sd : IsSided es) where
     same : HasSameEdges (edges_of ws) es
     same = aw.whole
 
-    flat-once : Once (edges_of ws)
-    flat-once = same-once (edges_of ws) es same (sided-once es sd)
+    edges-once : Once (edges_of ws)
+    edges-once = same-once (edges_of ws) es same (sided-once es sd)
 
     piece-fits : (r : List Edge) → In r rs → Fits r
-    piece-fits r i = let g = walk_of ws rs k r i in cuts-fit g.0 g.2 g.4 (once-part ws g.0 flat-once g.1) (walks g.0 g.1).here r g.3
+    piece-fits r i = let g = walk_of ws rs k r i in cuts-fit g.0 g.2 g.4 (once-part ws g.0 edges-once g.1) (walks g.0 g.1).here r g.3
 
     piece-ring : (r : List Edge) → In r rs → IsRing r × (0 < length r)
     piece-ring r i = let g = walk_of ws rs k r i in cuts-ring g.0 g.2 g.4 r g.3
 
     piece-once : (r : List Edge) → In r rs → Once r
-    piece-once r i = let g = walk_of ws rs k r i in cuts-once g.0 g.2 g.4 (once-part ws g.0 flat-once g.1) r g.3
+    piece-once r i = let g = walk_of ws rs k r i in cuts-once g.0 g.2 g.4 (once-part ws g.0 edges-once g.1) r g.3
 
     -- each piece has one parity on each other
     pub pieces_constant : EachPair (λ (r s : List Edge). CoversAllOrNone r s × CoversAllOrNone s r) rs
-    pieces_constant = pairs-weaker AreFree (λ (r s : List Edge). CoversAllOrNone r s × CoversAllOrNone s r) rs (λ r s i j f. (f.0, f.1)) (all-free ws rs k walks flat-once)
+    pieces_constant = pairs-weaker AreFree (λ (r s : List Edge). CoversAllOrNone r s × CoversAllOrNone s r) rs (λ r s i j f. (f.0, f.1)) (all-free ws rs k walks edges-once)
 
     pub pieces_same : HasSameEdges (edges_of rs) es
     pieces_same f = all_same ws rs k f ∙ same f
@@ -243,5 +243,5 @@ module _ (es : List Edge) (sd : IsSided es) where
       long = λ r i. let g = (piece-ring r i).0 in ring_long es sd r (piece-fits r i).sub (piece-once r i) (piece-ring r i).1 g.start g.path;
       sided = sided_same es sd (edges_of rs) (λ f. all_same ws rs k f ∙ same f);
       free = pairs-weaker AreFree (λ (r s : List Edge). DoNotCross (segments_of r) (segments_of s) × DoNotCross (segments_of s) (segments_of r)) rs
-          (λ r s i j f. free-cross r s (piece-fits r i) (piece-fits s j) f) (all-free ws rs k walks flat-once);
+          (λ r s i j f. free-cross r s (piece-fits r i) (piece-fits s j) f) (all-free ws rs k walks edges-once);
     }

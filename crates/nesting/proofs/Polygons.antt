@@ -1,115 +1,51 @@
--- The winding number of a polygon of a ring list is 0 or 1.
-use Rattle.std.proofs.Common.{Bool, List, [], ap, arith, cond, false, map, not, refl, subst, sym, true, ℕ, ◌%◌, ◌++◌, ◌+◌, ◌-◌, ◌∙◌, ◌∷◌, ◌≡◌, ◌≤◌}
-use Rattle.std.specs.List.{filter}
-use borrow.Author.Differences.{ints}
-use lib.IntN.{pos, ◌-ℤ◌}
+-- What polygons cover at points of the lattice.
+use Rattle.std.proofs.Common.{List, ap, arith, sym, ℕ, ◌+◌, ◌≡◌, ◌≤◌}
+use Rattle.std.specs.List.{count_by}
+use lib.IntN.{pos}
 use Rattle.nesting.specs.Cover.{covers}
-use Rattle.nesting.specs.Nesting.{EnclosesDirectly, HasAnchors, TellsOuter, edges_of}
+use Rattle.nesting.specs.Nesting.{edges_of}
+use Rattle.nesting.specs.Polygon.{ArePolygons, IsPolygon, Polygon, polygon_edges}
 use Rattle.nesting.specs.RingList.{IsRingList}
 use Rattle.plane.specs.Bit.{bit}
-use Rattle.plane.specs.Edge.{Edge, segment_of}
-use Rattle.plane.specs.Order.{order}
-use Rattle.plane.specs.Sign.{is_plus}
+use Rattle.plane.specs.Edge.{Edge}
 use Rattle.plane.specs.Vector.{Vector, east, from_to}
-use Rattle.winding.specs.EdgeList.{crossing_count, down_count, up_count, winding_number}
-use Rattle.winding.specs.Member.{In}
-use Rattle.winding.specs.Parity.{is_even}
-use Rattle.winding.specs.Ring.{IsAnchor, segments_of}
-use Rattle.nesting.proofs.DirectEnclosure.{polygon_count}
-use Rattle.nesting.proofs.Nests.{in-flat, odd-bit, plain-part, total-flat}
-use Rattle.nesting.proofs.RingLists.{nest-plain, outer_down, ring_list_nest}
+use Rattle.winding.specs.EdgeList.{crossing_count, winding_number}
+use Rattle.winding.specs.OddSide.{directed}
+use Rattle.winding.specs.Ring.{segments_of}
+use Rattle.nesting.proofs.DirectEnclosure.{inside_of, insides_apart}
+use Rattle.nesting.proofs.DirectRings.{is_outer_by, polygon_sum, polygons_count, rings, rings-anchors, rings-nest, rings-tell, winds_by}
+use Rattle.nesting.proofs.Nests.{odd-bit}
+use Rattle.nesting.proofs.WoundRings.{fold-direct, in-count, out-count}
 use Rattle.plane.proofs.RayCrossings.{down_seen, up_seen}
-use Rattle.winding.proofs.Anchors.{ring_by_anchor}
-use Rattle.winding.proofs.Members.{in-filter, in-map, in-map-out, in-passes, total-same}
-use Rattle.winding.proofs.RingCounts.{raised-crossings}
-use Rattle.winding.proofs.Sums.{total, total-+, total-++, total-is, total-map}
+use Rattle.winding.proofs.Levels.{signed_parity}
+use Rattle.winding.proofs.RingCounts.{segments-crossings}
+use Rattle.winding.proofs.SidedLists.{sided-even, sided_direct}
+use Rattle.winding.proofs.Sums.{total, total-is}
 
-filter-map-by : (b : Bool) (r : List Edge) (xs : List (List Edge)) → cond b (segments_of r ∷ map segments_of xs) (map segments_of xs) ≡ map segments_of (cond b (r ∷ xs) xs)
-filter-map-by true r xs = refl
-filter-map-by false r xs = refl
+-- ---- the laws at points of the lattice
+module _ (rs : List (List Edge)) (l : IsRingList rs) (p : Vector) where
+  polygon-sum-at : (g : Polygon) → IsPolygon rs g → (w : ℕ) × (w ≤ 1) × (total (up_seen east (from_to p)) (polygon_edges g) ≡ total (down_seen east (from_to p)) (polygon_edges g) + w)
+  polygon-sum-at g m =
+      let n = rings-nest rs l in let o = is_outer_by rs l in let t = rings-tell rs l in let a = rings-anchors rs l in
+      polygon_sum rs l (λ h. covers h p) (λ g h i j e k c x. inside_of (rings rs l) n o t a g h i j e k c p x) (λ h k i j c e f ie if' x y u v. insides_apart (rings rs l) n o t a h k i j c e f ie if' x y p u v) g m
+      (up_seen east (from_to p)) (down_seen east (from_to p)) (λ r i h. out-count rs l o t a p r i h) (λ r i h. in-count rs l o t a p r i h)
 
-pub filter-map : (under : List Edge → Bool) (rs : List (List Edge)) → filter under (map segments_of rs) ≡ map segments_of (filter (λ r. under (segments_of r)) rs)
-filter-map under [] = refl
-filter-map under (r ∷ rs) = ap (λ l. cond (under (segments_of r)) (segments_of r ∷ l) l) (filter-map under rs) ∙ filter-map-by (under (segments_of r)) r (filter (λ r. under (segments_of r)) rs)
+  pub polygon_winds : (g : Polygon) → IsPolygon rs g → winding_number east p (polygon_edges g) ≡ pos (bit (covers (polygon_edges g) p))
+  polygon_winds g m = let s = polygon-sum-at g m in (winds_by p (polygon_edges g) s.0 s.1 s.2).0
 
-small : (b : Bool) → bit b ≤ 1
-small true = omega arith
-small false = omega arith
+  polygon-counts : (g : Polygon) → IsPolygon rs g → total (up_seen east (from_to p)) (polygon_edges g) ≡ total (down_seen east (from_to p)) (polygon_edges g) + bit (covers (polygon_edges g) p)
+  polygon-counts g m = let s = polygon-sum-at g m in let w = (winds_by p (polygon_edges g) s.0 s.1 s.2).1 in let e = s.2 in omega arith
 
--- a sum over a polygon: its outer ring r0, and inner rings at most one of which counts, and only where the outer one does
-pub area-sum : (U D : Edge → ℕ) (c : List Edge → Bool) (r0 : List Edge) (inner : List (List Edge)) → total U r0 ≡ total D r0 + bit (c r0) → ((r : List Edge) → In r inner → total U r + bit (c r) ≡ total D r) →
-    total (λ r. bit (c r)) inner ≤ bit (c r0) → (w : ℕ) × (w ≤ 1) × (total U (r0 ++ edges_of inner) ≡ total D (r0 ++ edges_of inner) + w)
-area-sum U D c r0 inner o h le =
-    let s = sym (total-+ (λ r. total U r) (λ r. bit (c r)) inner) ∙ total-same (λ r. total U r + bit (c r)) (λ r. total D r) inner h in
-    let b = small (c r0) in
-    let u2 = total-++ U r0 (edges_of inner) in let u3 = total-flat U inner in
-    let d2 = total-++ D r0 (edges_of inner) in let d3 = total-flat D inner in
-    let x = bit (c r0) in let y = total (λ r. bit (c r)) inner in
-    (x - y, omega arith, omega arith)
+  rings-count : total (up_seen east (from_to p)) (edges_of rs) ≡ total (down_seen east (from_to p)) (edges_of rs) + bit (covers (edges_of rs) p)
+  rings-count =
+      let es = edges_of rs in
+      let s = signed_parity p (segments_of es) l.sided.plain (sided-even es l.sided.balanced) in
+      let q = fold-direct (segments_of es) es (λ e i. sided_direct es l.sided e i) in
+      let u = sym (total-is (up_seen east (from_to p)) (directed (segments_of es))) in let d = sym (total-is (down_seen east (from_to p)) (directed (segments_of es))) in
+      let v = ap (λ (k : List Edge). total (up_seen east (from_to p)) k) q in let w = ap (λ (k : List Edge). total (down_seen east (from_to p)) k) q in
+      let c = segments-crossings east p es in let o = odd-bit (crossing_count east p es) in
+      omega arith
 
-module _ (rs : List (List Edge)) (l : IsRingList rs) (outer : List Edge → Bool) (tells : TellsOuter (map segments_of rs) outer) (anchors : HasAnchors (map segments_of rs)) (p : Vector) where
-  abbrev pub ups' : List Edge → ℕ
-  ups' r = total (up_seen east (from_to p)) r
-
-  abbrev pub downs' : List Edge → ℕ
-  downs' r = total (down_seen east (from_to p)) r
-
-  around-is : (r : List Edge) → crossing_count east p r % 2 ≡ bit (covers (segments_of r) p)
-  around-is r = odd-bit (crossing_count east p r) ∙ ap (λ n. bit (not (is_even n))) (sym (raised-crossings east p r))
-
-  -- the anchor of a ring as an edge of it
-  pub own-anchor : (r : List Edge) → In r rs → (e : Edge) × In e r × IsAnchor (segment_of e) (segments_of r)
-  own-anchor r i =
-      let a = anchors (segments_of r) (in-map segments_of rs r i) in let e = in-map-out segment_of r a.0 a.1.member in
-      (e.0, e.1, subst (λ s. IsAnchor s (segments_of r)) e.2 a.1)
-
-  pub down-is : (r : List Edge) → (i : In r rs) → outer (segments_of r) ≡ not (is_plus (order (own-anchor r i).0.from (own-anchor r i).0.to))
-  down-is r i =
-      let a = own-anchor r i in
-      tells (segments_of r) (in-map segments_of rs r i) (segment_of a.0) a.2 ∙ outer_down rs l a.0 (in-flat rs r a.0 i a.1)
-
-  pub not-back : (b c : Bool) → b ≡ not c → c ≡ not b
-  not-back true true h = absurd (cc h)
-  not-back true false h = refl
-  not-back false true h = refl
-  not-back false false h = absurd (cc h)
-
-  wound : (r : List Edge) → (i : In r rs) → winding_number east p r ≡ cond (not (outer (segments_of r))) (pos 0 -ℤ pos (crossing_count east p r % 2)) (pos (crossing_count east p r % 2))
-  wound r i =
-      let a = own-anchor r i in
-      ring_by_anchor a.0 r (l.ring r i) (plain-part (map segments_of rs) (segments_of r) (nest-plain rs l) (in-map segments_of rs r i)) a.1 a.2 p
-      ∙ ap (λ b. cond b (pos 0 -ℤ pos (crossing_count east p r % 2)) (pos (crossing_count east p r % 2))) (not-back (outer (segments_of r)) (is_plus (order a.0.from a.0.to)) (down-is r i))
-
-  pub out-count : (r : List Edge) → In r rs → outer (segments_of r) ≡ true → ups' r ≡ downs' r + bit (covers (segments_of r) p)
-  out-count r i o =
-      let w = wound r i ∙ ap (λ b. cond (not b) (pos 0 -ℤ pos (crossing_count east p r % 2)) (pos (crossing_count east p r % 2))) o in
-      let a = total-is (up_seen east (from_to p)) r in let b = total-is (down_seen east (from_to p)) r in let c = around-is r in
-      let n : up_count east p r ≡ down_count east p r + crossing_count east p r % 2 = omega (arith, ints) in omega arith
-
-  pub in-count : (r : List Edge) → In r rs → outer (segments_of r) ≡ false → ups' r + bit (covers (segments_of r) p) ≡ downs' r
-  in-count r i o =
-      let w = wound r i ∙ ap (λ b. cond (not b) (pos 0 -ℤ pos (crossing_count east p r % 2)) (pos (crossing_count east p r % 2))) o in
-      let a = total-is (up_seen east (from_to p)) r in let b = total-is (down_seen east (from_to p)) r in let c = around-is r in
-      let n : up_count east p r + crossing_count east p r % 2 ≡ down_count east p r = omega (arith, ints) in omega arith
-
-  module _ (r0 : List Edge) (i0 : In r0 rs) (o0 : outer (segments_of r0) ≡ true) (under : List Edge → Bool)
-      (means : (h : List Edge) → (i : In h (map segments_of rs)) → under h ≡ true → (outer h ≡ false) × EnclosesDirectly (map segments_of rs) outer (segments_of r0) (anchors h i).0) where
-    abbrev pub inner : List (List Edge)
-    inner = filter (λ r. under (segments_of r)) rs
-
-    -- an outer ring with the inner rings directly under it
-    pub area_count : (w : ℕ) × (w ≤ 1) × (winding_number east p (r0 ++ edges_of inner) ≡ pos w)
-    area_count =
-        let m = polygon_count (map segments_of rs) (ring_list_nest rs l) outer tells anchors (segments_of r0) (in-map segments_of rs r0 i0) under means p in
-        let f = ap (λ gs. total (λ h. bit (covers h p)) gs) (filter-map under rs) ∙ total-map (λ h. bit (covers h p)) segments_of inner in
-        let U = up_seen east (from_to p) in let D = down_seen east (from_to p) in
-        let a = area-sum U D (λ r. covers (segments_of r) p) r0 inner (out-count r0 i0 o0)
-        (λ r j. let i = in-filter (λ r. under (segments_of r)) rs r j in in-count r i (means (segments_of r) (in-map segments_of rs r i) (in-passes (λ r. under (segments_of r)) rs r j)).0) (omega arith) in
-        let u1 = total-is U (r0 ++ edges_of inner) in let d1 = total-is D (r0 ++ edges_of inner) in
-        let w = a.0 in let e : up_count east p (r0 ++ edges_of inner) ≡ down_count east p (r0 ++ edges_of inner) + w = let g = a.2 in omega arith in
-        (w, a.1, omega (arith, ints))
-
-pub area_law : (rs : List (List Edge)) → IsRingList rs → (outer : List Edge → Bool) → TellsOuter (map segments_of rs) outer → (anchors : HasAnchors (map segments_of rs)) → (r : List Edge) → In r rs → outer (segments_of r) ≡ true → (under : List Edge → Bool) →
-    ((h : List Edge) → (i : In h (map segments_of rs)) → under h ≡ true → (outer h ≡ false) × EnclosesDirectly (map segments_of rs) outer (segments_of r) (anchors h i).0) → (p : Vector) →
-    (w : ℕ) × (w ≤ 1) × (winding_number east p (r ++ edges_of (filter (λ (h : List Edge). under (segments_of h)) rs)) ≡ pos w)
-area_law rs l outer tells anchors r i o under means p = area_count rs l outer tells anchors p r i o under means
+  pub polygons_cover : (gs : List Polygon) → ArePolygons rs gs → count_by (λ (g : Polygon). covers (polygon_edges g) p) gs ≡ bit (covers (edges_of rs) p)
+  polygons_cover gs a =
+      polygons_count rs (up_seen east (from_to p)) (down_seen east (from_to p)) (λ (g : Polygon). covers (polygon_edges g) p) gs (bit (covers (edges_of rs) p)) a.whole (λ g i. polygon-counts g (a.each g i)) rings-count

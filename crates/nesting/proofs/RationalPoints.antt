@@ -1,10 +1,8 @@
 -- What a nest covers at points with fractions.
-use Rattle.std.proofs.Common.{Bool, List, ap, arith, cond, false, not, refl, subst, sym, true, ℕ, ◌+◌, ◌||◌, ◌∙◌, ◌≡◌, ◌≤◌}
-use Rattle.std.specs.List.{count_by, filter}
+use Rattle.std.proofs.Common.{Bool, List, ap, cond, false, not, refl, subst, sym, true, ℕ, ◌+◌, ◌||◌, ◌∙◌, ◌≡◌}
 use lib.IntN.{ℤ}
 use Rattle.nesting.specs.Cover.{AreClear, covers, covers_edge}
-use Rattle.nesting.specs.Nesting.{EnclosesDirectly, HasAnchors, IsNest, TellsOuter, encloses, has_edge}
-use Rattle.plane.specs.Bit.{bit}
+use Rattle.nesting.specs.Nesting.{IsNest, TellsOuter, encloses, has_edge}
 use Rattle.plane.specs.Conflict.{IsClearOf}
 use Rattle.plane.specs.Edge.{Edge, ends_at}
 use Rattle.plane.specs.RayCrossing.{down_by, up_by}
@@ -16,15 +14,16 @@ use Rattle.winding.specs.EdgeList.{IsEvenAtPoints}
 use Rattle.winding.specs.Member.{In}
 use Rattle.winding.specs.Parity.{is_even}
 use Rattle.winding.specs.ScaledEdges.{scaled_edges}
-use Rattle.nesting.proofs.DirectEnclosure.{at-most, clear-pairs, out-of, siblings}
+use Rattle.nesting.proofs.DirectEnclosure.{out-of}
 use Rattle.nesting.proofs.Nests.{clear_rings, encloses-in, encloses-not, has-not-by, plain-part}
-use Rattle.nesting.proofs.TwoLists.{clear-turned, contained, disjoint}
-use Rattle.plane.proofs.RayCrossings.{hits_at}
+use Rattle.nesting.proofs.OuterTests.{HasAnchors}
+use Rattle.nesting.proofs.TwoLists.{clear-reversed, contained, disjoint}
+use Rattle.plane.proofs.RayCrossings.{crossings_at}
 use Rattle.plane.proofs.Scaling.{conflicts-scaled, cross-scaled, point-scaled}
-use Rattle.winding.proofs.Members.{in-filter, in-map-out, in-passes, pairs-filter, pairs-weaker, total-same}
+use Rattle.winding.proofs.Members.{in-map-out, total-same}
 use Rattle.winding.proofs.OppositeEnds.{beyond, crossings-away}
 use Rattle.winding.proofs.ScaledLists.{even_scaled, plain_scaled}
-use Rattle.winding.proofs.Sums.{total-is, total-map}
+use Rattle.winding.proofs.Sums.{total-map}
 
 module _ (k : ℤ) (hk : sign k ≡ Plus) where
   beyond-by : (b c : Bool) (m n : ℕ) → b ≡ c → m ≡ n → cond (not b) m 0 ≡ cond (not c) n 0
@@ -33,8 +32,8 @@ module _ (k : ℤ) (hk : sign k ≡ Plus) where
   pub ends-scaled : (v : Vector) (t : Edge) → ends_at (scaled_point k v) (scaled_edge k t) ≡ ends_at v t
   ends-scaled v t = ap (λ b. b || same_point (scaled_point k v) (scaled_point k t.to)) (point-scaled k hk v t.from) ∙ ap (λ b. same_point v t.from || b) (point-scaled k hk v t.to)
 
-  hits-scaled : (a b v : Vector) (t : Edge) → hits_at (from_to (scaled_point k a) (scaled_point k b)) (from_to (scaled_point k v)) (scaled_edge k t) ≡ hits_at (from_to a b) (from_to v) t
-  hits-scaled a b v t =
+  crossings-scaled : (a b v : Vector) (t : Edge) → crossings_at (from_to (scaled_point k a) (scaled_point k b)) (from_to (scaled_point k v)) (scaled_edge k t) ≡ crossings_at (from_to a b) (from_to v) t
+  crossings-scaled a b v t =
       let x = sign (cross (from_to (scaled_point k a) (scaled_point k b)) (from_to (scaled_point k v) (scaled_point k t.from))) in
       let y = sign (cross (from_to (scaled_point k a) (scaled_point k b)) (from_to (scaled_point k v) (scaled_point k t.to))) in
       let z = sign (cross (from_to (scaled_point k v) (scaled_point k t.from)) (from_to (scaled_point k v) (scaled_point k t.to))) in
@@ -49,7 +48,7 @@ module _ (k : ℤ) (hk : sign k ≡ Plus) where
       ap (λ n. not (is_even n))
       (crossings-away d' (scaled_point k t.from) (scaled_edges k es) ∙ total-map (beyond d' (scaled_point k t.from)) (scaled_edge k) es
       ∙ total-same (λ s. beyond d' (scaled_point k t.from) (scaled_edge k s)) (beyond d t.from) es
-      (λ s i. beyond-by (ends_at (scaled_point k t.from) (scaled_edge k s)) (ends_at t.from s) (hits_at d' (from_to (scaled_point k t.from)) (scaled_edge k s)) (hits_at d (from_to t.from) s) (ends-scaled t.from s) (hits-scaled t.from t.to t.from s))
+      (λ s i. beyond-by (ends_at (scaled_point k t.from) (scaled_edge k s)) (ends_at t.from s) (crossings_at d' (from_to (scaled_point k t.from)) (scaled_edge k s)) (crossings_at d (from_to t.from) s) (ends-scaled t.from s) (crossings-scaled t.from t.to t.from s))
       ∙ sym (crossings-away d t.from es))
 
   clear-scaled : (ss es : List Edge) → AreClear ss es → AreClear (scaled_edges k ss) (scaled_edges k es)
@@ -76,37 +75,15 @@ module _ (k : ℤ) (hk : sign k ≡ Plus) where
     even-of : (g : List Edge) → In g gs → IsEvenAtPoints (scaled_edges k g)
     even-of g i = even_scaled k hk g (n.even g i)
 
-    inside-at : (g h : List Edge) → In g gs → In h gs → (e : Edge) → In e h → encloses g e ≡ true → around h ≡ true → around g ≡ true
+    pub inside-at : (g h : List Edge) → In g gs → In h gs → (e : Edge) → In e h → encloses g e ≡ true → around h ≡ true → around g ≡ true
     inside-at g h ig ih e ie c o =
         let ne = encloses-not gs n g e c in
-        let gh = clear_rings gs g h e n.plain ig ih ie ne in let hg = clear-turned g h gh in
+        let gh = clear_rings gs g h e n.plain ig ih ie ne in let hg = clear-reversed g h gh in
         contained (scaled_edges k h) (scaled_edges k g) (plain-of h ih) (plain-of g ig) (even-of h ih) (even-of g ig) (clear-scaled h g hg) p
         (in-all-scaled h g true (λ s i. n.constant g h ig ih s e i ie (has-not-by g h s (plain-part gs g n.plain ig) gh i (has_edge g s) refl) ∙ encloses-in gs n g e c))
         (in-same-scaled g h (λ s t i j. n.constant h g ih ig s t i j (has-not-by h g s (plain-part gs h n.plain ih) hg i (has_edge h s) refl))) o
 
-    apart-at : (h j : List Edge) → In h gs → In j gs → AreClear h j → (e f : Edge) → In e h → In f j → encloses j e ≡ false → encloses h f ≡ false → around h ≡ true → around j ≡ true → ⊥
+    pub apart-at : (h j : List Edge) → In h gs → In j gs → AreClear h j → (e f : Edge) → In e h → In f j → encloses j e ≡ false → encloses h f ≡ false → around h ≡ true → around j ≡ true → ⊥
     apart-at h j ih ij c e f ie if' x y o u =
         disjoint (scaled_edges k h) (scaled_edges k j) (plain-of h ih) (plain-of j ij) (even-of h ih) (even-of j ij) (clear-scaled h j c) p
-        (in-all-scaled h j false (out-of gs n outer tells anchors h j ih ij e ie (clear-turned h j c) x)) (in-all-scaled j h false (out-of gs n outer tells anchors j h ij ih f if' c y)) o u
-
-    false-by : (b : Bool) → (b ≡ true → ⊥) → b ≡ false
-    false-by true h = absurd (h refl)
-    false-by false h = refl
-
-    module _ (g : List Edge) (ig : In g gs) (under : List Edge → Bool) (means : (h : List Edge) → (i : In h gs) → under h ≡ true → (outer h ≡ false) × EnclosesDirectly gs outer g (anchors h i).0) where
-      apart-under : (h j : List Edge) → In h gs → In j gs → under h ≡ true → under j ≡ true → AreClear h j → around h ≡ true → around j ≡ true → ⊥
-      apart-under h j ih ij uh uj c =
-          let a = anchors h ih in let b = anchors j ij in let x = means h ih uh in let y = means j ij uj in
-          apart-at h j ih ij c a.0 b.0 a.1.member b.1.member
-          (false-by (encloses j a.0) (λ z. siblings gs n outer tells anchors g h j ih ij a.0 b.0 a.1 b.1 x.0 y.0 x.1 y.1 z))
-          (false-by (encloses h b.0) (λ z. siblings gs n outer tells anchors g j h ij ih b.0 a.0 b.1 a.1 y.0 x.0 y.1 x.1 z))
-
-      -- the polygon's count at the point p.x / k, p.y / k
-      pub polygon_at : count_by (λ (h : List Edge). covers (scaled_edges k h) p) (filter under gs) ≤ bit (covers (scaled_edges k g) p)
-      polygon_at =
-          let c = at-most around (around g) (filter under gs)
-          (λ h i o. let j = in-filter under gs h i in let a = anchors h j in let x = means h j (in-passes under gs h i) in inside-at g h ig j a.0 a.1.member x.1.around o)
-          (pairs-weaker AreClear (λ h j. around h ≡ true → around j ≡ true → ⊥) (filter under gs)
-          (λ h j a b c. apart-under h j (in-filter under gs h a) (in-filter under gs j b) (in-passes under gs h a) (in-passes under gs j b) c)
-          (pairs-filter AreClear under gs (clear-pairs gs n.plain))) in
-          let t = total-is (λ h. bit (around h)) (filter under gs) in omega arith
+        (in-all-scaled h j false (out-of gs n outer tells anchors h j ih ij e ie (clear-reversed h j c) x)) (in-all-scaled j h false (out-of gs n outer tells anchors j h ij ih f if' c y)) o u

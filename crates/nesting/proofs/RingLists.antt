@@ -13,9 +13,9 @@ use Rattle.winding.specs.OddSide.{runs_up}
 use Rattle.winding.specs.Ring.{IsAnchor, segments_of}
 use Rattle.nesting.proofs.CoveredEdges.{constant_in}
 use Rattle.nesting.proofs.Nests.{clear_rings, has-in, plain-part}
-use Rattle.nesting.proofs.TwoLists.{clear-list, clear-turned}
-use Rattle.plane.proofs.PointOrder.{order-turned}
-use Rattle.winding.proofs.Anchors.{anchor_exists}
+use Rattle.nesting.proofs.TwoLists.{clear-list, clear-reversed}
+use Rattle.plane.proofs.PointOrder.{order-reversed}
+use Rattle.winding.proofs.Anchors.{some-anchor}
 use Rattle.winding.proofs.ConflictFree.{rising_in}
 use Rattle.winding.proofs.Members.{in-all, in-map, in-map-out}
 use Rattle.winding.proofs.RingCounts.{ring-even}
@@ -25,12 +25,12 @@ pub map-++ : {X Y : Type 0} (f : X → Y) (xs ys : List X) → map f (xs ++ ys) 
 map-++ f [] ys = refl
 map-++ f (x ∷ xs) ys = ap (λ l. f x ∷ l) (map-++ f xs ys)
 
-pub flat-raised : (rs : List (List Edge)) → edges_of (map segments_of rs) ≡ segments_of (edges_of rs)
-flat-raised [] = refl
-flat-raised (r ∷ rs) = ap (λ l. segments_of r ++ l) (flat-raised rs) ∙ sym (map-++ segment_of r (edges_of rs))
+pub edges-segments : (rs : List (List Edge)) → edges_of (map segments_of rs) ≡ segments_of (edges_of rs)
+edges-segments [] = refl
+edges-segments (r ∷ rs) = ap (λ l. segments_of r ++ l) (edges-segments rs) ∙ sym (map-++ segment_of r (edges_of rs))
 
 -- two members are one, or stand at different places
-pairs-of : {X : Type 0} (R : X → X → Type 0) (xs : List X) (x y : X) → EachPair R xs → In x xs → In y xs → (x ≡ y) ⊎ (R x y ⊎ R y x)
+pub pairs-of : {X : Type 0} (R : X → X → Type 0) (xs : List X) (x y : X) → EachPair R xs → In x xs → In y xs → (x ≡ y) ⊎ (R x y ⊎ R y x)
 pairs-of R [] x y p i j = absurd i
 pairs-of R (z ∷ zs) x y p (inl e) (inl f) = inl (e ∙ sym f)
 pairs-of R (z ∷ zs) x y p (inl e) (inr j) = inr (inl (subst (λ w. R w y) (sym e) (in-all (R z) zs y p.0 j)))
@@ -51,14 +51,14 @@ up-down Null h k = cc h
 up-down Minus h k = cc h
 
 both-up : (e : Edge) → IsRising e → IsRising (reversed e) → ⊥
-both-up e r k = up-down (order e.from e.to) r (sym (order-turned e.from e.to) ∙ k)
+both-up e r k = up-down (order e.from e.to) r (sym (order-reversed e.from e.to) ∙ k)
 
 module _ (rs : List (List Edge)) (l : IsRingList rs) where
   abbrev pub nest : List (List Edge)
   nest = map segments_of rs
 
   pub nest-plain : IsConflictFree (edges_of nest)
-  nest-plain = subst IsConflictFree (sym (flat-raised rs)) l.sided.plain
+  nest-plain = subst IsConflictFree (sym (edges-segments rs)) l.sided.plain
 
   nest-even : (g : List Edge) → In g nest → IsEvenAtPoints g
   nest-even g i = let r = in-map-out segments_of rs g i in subst IsEvenAtPoints (sym r.2) (ring-even r.0 (l.ring r.0 r.1))
@@ -69,7 +69,7 @@ module _ (rs : List (List Edge)) (l : IsRingList rs) where
       let c = clear_rings nest (segments_of r) (segments_of s) a nest-plain ir js ia n in
       let f = free-by r s a ia n (has-in (segments_of s) a ia) (pairs-of free-of rs r s l.free i j) in
       constant_in s (l.ring s j) (segments_of r) (plain-part nest (segments_of s) nest-plain js) (plain-part nest (segments_of r) nest-plain ir) (ring-even r (l.ring r i))
-      (λ x k. clear-list (segments_of s) (segments_of r) (clear-turned (segments_of r) (segments_of s) c) x k) f a b ia ib
+      (λ x k. clear-list (segments_of s) (segments_of r) (clear-reversed (segments_of r) (segments_of s) c) x k) f a b ia ib
 
   -- a ring list is a nest
   pub ring_list_nest : IsNest nest
@@ -85,7 +85,7 @@ module _ (rs : List (List Edge)) (l : IsRingList rs) where
   -- each ring has an anchor
   first-edge : (r : List Edge) → 3 ≤ length r → IsConflictFree (segments_of r) → (a : Edge) × IsAnchor a (segments_of r)
   first-edge [] h p = absurd (omega arith)
-  first-edge (x ∷ xs) h p = anchor_exists (segment_of x) (segments_of xs) p
+  first-edge (x ∷ xs) h p = some-anchor (segments_of (x ∷ xs)) (segment_of x) (inl refl) p
 
   pub ring_anchor : (g : List Edge) → In g nest → (a : Edge) × IsAnchor a g
   ring_anchor g i =
@@ -109,4 +109,4 @@ module _ (rs : List (List Edge)) (l : IsRingList rs) where
 
   -- a ring is outer where its anchor runs down
   pub outer_down : (e : Edge) → In e (edges_of rs) → is_outer nest (segment_of e) ≡ not (is_plus (order e.from e.to))
-  outer_down e i = ap (λ u. not (runs_up u (segment_of e))) (flat-raised rs) ∙ ap not (runs_as e i)
+  outer_down e i = ap (λ u. not (runs_up u (segment_of e))) (edges-segments rs) ∙ ap not (runs_as e i)

@@ -55,8 +55,8 @@ rotated-length : (p q : List Edge) → IsRotated p q → 3 ≤ length p → 3 �
 rotated-length p q t l =
     let a = ones p in let b = ones q in let c = rotated-total (λ e. 1) p q t in omega arith
 
-same-raised : (xs ys : List Edge) → HasSameEdges xs ys → HasSameEdges (segments_of xs) (segments_of ys)
-same-raised xs ys s f =
+same-segments : (xs ys : List Edge) → HasSameEdges xs ys → HasSameEdges (segments_of xs) (segments_of ys)
+same-segments xs ys s f =
     sym (total-is f (segments_of xs)) ∙ total-map f segment_of xs ∙ total-is (λ e. f (segment_of e)) xs ∙ s (λ e. f (segment_of e)) ∙ sym (total-is (λ e. f (segment_of e)) ys) ∙ sym (total-map f segment_of ys) ∙ total-is f (segments_of ys)
 
 abbrev spoke : Vector → Vector → Vector → Edge → ℕ
@@ -69,8 +69,8 @@ same-spokes d c v xs ys s =
 -- crossing is told by the edges alone
 uncrossed-self : (rs ss us vs : List Edge) → HasSameEdges us rs → HasSameEdges vs ss → DoNotCross (segments_of rs) (segments_of ss) → DoNotCross (segments_of us) (segments_of vs)
 uncrossed-self rs ss us vs a b n v s t i j hs ht =
-    ap (λ k. k % 2) (same-spokes (from_to v (other_end v s)) (from_to v (other_end v t)) v (segments_of vs) (segments_of ss) (same-raised vs ss b))
-    ∙ n v s t (same-in (segments_of us) (segments_of rs) (same-raised us rs a) s i) (same-in (segments_of us) (segments_of rs) (same-raised us rs a) t j) hs ht
+    ap (λ k. k % 2) (same-spokes (from_to v (other_end v s)) (from_to v (other_end v t)) v (segments_of vs) (segments_of ss) (same-segments vs ss b))
+    ∙ n v s t (same-in (segments_of us) (segments_of rs) (same-segments us rs a) s i) (same-in (segments_of us) (segments_of rs) (same-segments us rs a) t j) hs ht
 
 abbrev Free : List Edge → List Edge → Type 0
 Free r s = DoNotCross (segments_of r) (segments_of s) × DoNotCross (segments_of s) (segments_of r)
@@ -84,11 +84,11 @@ was : (rs qs : List (List Edge)) → AreRotated rs qs → (q : List Edge) → In
 was [] qs k q i = absurd (subst (λ l. In q l) k i)
 was (r ∷ rs) qs k q i = was-by r rs k.0 k.1 k.3 q (subst (λ l. In q l) k.2 i) (was rs k.1 k.4 q)
 
-flat-same : (rs qs : List (List Edge)) → AreRotated rs qs → (f : Edge → ℕ) → total f (edges_of qs) ≡ total f (edges_of rs)
-flat-same [] qs k f = ap (λ l. total f (edges_of l)) k
-flat-same (r ∷ rs) qs k f =
+edges-same : (rs qs : List (List Edge)) → AreRotated rs qs → (f : Edge → ℕ) → total f (edges_of qs) ≡ total f (edges_of rs)
+edges-same [] qs k f = ap (λ l. total f (edges_of l)) k
+edges-same (r ∷ rs) qs k f =
     let a = ap (λ l. total f (edges_of l)) k.2 in let b = total-++ f k.0 (edges_of k.1) in let c = total-++ f r (edges_of rs) in
-    let d = rotated-total f r k.0 k.3 in let e = flat-same rs k.1 k.4 f in omega arith
+    let d = rotated-total f r k.0 k.3 in let e = edges-same rs k.1 k.4 f in omega arith
 
 free-rotated : (rs qs : List (List Edge)) → AreRotated rs qs → EachPair Free rs → EachPair Free qs
 free-rotated [] qs k p = subst (EachPair Free) (sym k) tt
@@ -105,6 +105,6 @@ pub rotated_rings : (rs qs : List (List Edge)) → AreRotated rs qs → IsRingLi
 rotated_rings rs qs k l = record {
   ring = λ q i. let w = was rs qs k q i in ring_rotated w.0 q w.2 (l.ring w.0 w.1);
   long = λ q i. let w = was rs qs k q i in rotated-length w.0 q w.2 (l.long w.0 w.1);
-  sided = sided_same (edges_of rs) l.sided (edges_of qs) (λ f. sym (total-is f (edges_of qs)) ∙ flat-same rs qs k f ∙ total-is f (edges_of rs));
+  sided = sided_same (edges_of rs) l.sided (edges_of qs) (λ f. sym (total-is f (edges_of qs)) ∙ edges-same rs qs k f ∙ total-is f (edges_of rs));
   free = free-rotated rs qs k l.free;
 }

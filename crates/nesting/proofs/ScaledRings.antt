@@ -1,13 +1,14 @@
 -- A ring list multiplied by a positive number is a ring list, and what its polygons cover at points with fractions.
-use Rattle.std.proofs.Common.{All, Bool, List, [], ap, arith, cond, false, length, map, not, refl, subst, suc, sym, true, ℕ, ◌%◌, ◌&&◌, ◌++◌, ◌+◌, ◌==◌, ◌||◌, ◌∙◌, ◌∷◌, ◌≡◌, ◌≤◌, ◌⊎◌}
-use Rattle.std.specs.List.{count_by, filter}
+use Rattle.std.proofs.Common.{All, Bool, List, [], ap, arith, cond, false, length, map, not, refl, subst, suc, sym, true, ℕ, ◌%◌, ◌++◌, ◌+◌, ◌||◌, ◌∙◌, ◌∷◌, ◌≡◌, ◌≤◌, ◌⊎◌}
+use Rattle.std.specs.List.{count_by}
 use borrow.Author.Differences.{ints}
 use lib.IntN.{pos, ℤ, ◌*ℤ◌, ◌-ℤ◌}
 use Rattle.nesting.specs.Cover.{DoNotCross, covers}
-use Rattle.nesting.specs.Nesting.{EnclosesDirectly, HasAnchors, TellsOuter, edges_of}
+use Rattle.nesting.specs.Nesting.{TellsOuter, edges_of}
+use Rattle.nesting.specs.Polygon.{ArePolygons, IsPolygon, Polygon, polygon_edges}
 use Rattle.nesting.specs.RingList.{IsRingList, scaled_rings}
 use Rattle.plane.specs.Bit.{bit}
-use Rattle.plane.specs.Edge.{Edge, ends_at, other_end, reversed, segment_of}
+use Rattle.plane.specs.Edge.{Edge, ends_at, other_end, segment_of}
 use Rattle.plane.specs.Order.{order}
 use Rattle.plane.specs.RayCrossing.{IsOffEdge}
 use Rattle.plane.specs.Scale.{scaled_edge, scaled_point}
@@ -22,11 +23,12 @@ use Rattle.winding.specs.Parity.{is_even}
 use Rattle.winding.specs.Ring.{IsAnchor, IsPath, IsRing, segments_of}
 use Rattle.winding.specs.ScaledEdges.{scaled_edges}
 use Rattle.winding.specs.Sided.{IsSided}
+use Rattle.nesting.proofs.DirectRings.{is_outer_by, polygon_sum, polygons_count, rings, rings-anchors, rings-nest, rings-tell, winds_by}
 use Rattle.nesting.proofs.Nests.{odd-bit, plain-part}
-use Rattle.nesting.proofs.PolygonCover.{all-count, cover_once, fold-direct, ring-by, small-mod}
-use Rattle.nesting.proofs.Polygons.{area-sum, down-is, filter-map, inner, not-back, own-anchor}
-use Rattle.nesting.proofs.RationalPoints.{ends-scaled, polygon_at}
-use Rattle.nesting.proofs.RingLists.{map-++, nest-plain, ring_list_nest}
+use Rattle.nesting.proofs.OuterTests.{HasAnchors}
+use Rattle.nesting.proofs.RationalPoints.{apart-at, ends-scaled, inside-at}
+use Rattle.nesting.proofs.RingLists.{map-++, nest-plain}
+use Rattle.nesting.proofs.WoundRings.{down-is, fold-direct, not-back, own-anchor}
 use Rattle.plane.proofs.Edges.{same_edge_by}
 use Rattle.plane.proofs.Identities.{lift, same, ◌⊠◌}
 use Rattle.plane.proofs.Points.{same_point-refl, same_point-true, same_vector}
@@ -34,10 +36,10 @@ use Rattle.plane.proofs.RayCrossings.{down_seen, up_seen}
 use Rattle.plane.proofs.Scaling.{order-scaled, orient-scaled, point-scaled, sector-seen-scaled}
 use Rattle.plane.proofs.Signs.{plus-times}
 use Rattle.winding.proofs.Anchors.{ring_by_anchor}
-use Rattle.winding.proofs.Members.{all-in, in-all, in-filter, in-map, in-map-out, in-passes, total-same}
+use Rattle.winding.proofs.Members.{all-in, in-all, in-map, in-map-out, total-same}
 use Rattle.winding.proofs.OddSides.{spokes-is}
-use Rattle.winding.proofs.RingCounts.{raised-crossings}
-use Rattle.winding.proofs.ScaledLists.{map-map, map-same, others-scaled, plain_scaled, rational_count}
+use Rattle.winding.proofs.RingCounts.{segments-crossings}
+use Rattle.winding.proofs.ScaledLists.{direct-by, map-map, map-same, others-scaled, plain_scaled, rational_count}
 use Rattle.winding.proofs.SidedLists.{sided-even, sided_direct}
 use Rattle.winding.proofs.Sums.{same-total, total, total-is, total-map}
 
@@ -69,14 +71,8 @@ module _ (k : ℤ) (hk : sign k ≡ Plus) where
     once = pairs-map (scaled_edge k) (λ (e f : Edge). same_point e.from f.from ≡ false) (λ (e f : Edge). same_point e.from f.from ≡ false) r (λ e f h. point-scaled k hk e.from f.from ∙ h) g.once;
   }
 
-  segment-by : (b c : Bool) (s : Edge) → b ≡ c → cond b (scaled_edge k s) (reversed (scaled_edge k s)) ≡ scaled_edge k (cond c s (reversed s))
-  segment-by true true s h = refl
-  segment-by false false s h = refl
-  segment-by true false s h = absurd (cc h)
-  segment-by false true s h = absurd (cc h)
-
   segment-scaled : (e : Edge) → segment_of (scaled_edge k e) ≡ scaled_edge k (segment_of e)
-  segment-scaled e = segment-by (is_plus (order (scaled_point k e.from) (scaled_point k e.to))) (is_plus (order e.from e.to)) e (ap is_plus (order-scaled k hk e.from e.to))
+  segment-scaled e = direct-by k hk (is_plus (order (scaled_point k e.from) (scaled_point k e.to))) (is_plus (order e.from e.to)) e (ap is_plus (order-scaled k hk e.from e.to))
 
   pub segments-scaled : (es : List Edge) → segments_of (scaled_edges k es) ≡ scaled_edges k (segments_of es)
   segments-scaled es = map-map segment_of (scaled_edge k) es ∙ map-same (λ e. segment_of (scaled_edge k e)) (λ e. scaled_edge k (segment_of e)) es segment-scaled ∙ sym (map-map (scaled_edge k) segment_of es)
@@ -175,7 +171,7 @@ module _ (k : ℤ) (hk : sign k ≡ Plus) where
     long = λ r i. let q = in-map-out (scaled_edges k) rs r i in subst (λ w. 3 ≤ length w) (sym q.2) (subst (λ n. 3 ≤ n) (sym (length-map (scaled_edge k) q.0)) (l.long q.0 q.1));
     sided = subst IsSided (sym (edges-scaled rs)) (sided-scaled (edges_of rs) l.sided);
     free = pairs-map (scaled_edges k) (λ (r s : List Edge). DoNotCross (segments_of r) (segments_of s) × DoNotCross (segments_of s) (segments_of r))
-    (λ (r s : List Edge). DoNotCross (segments_of r) (segments_of s) × DoNotCross (segments_of s) (segments_of r)) rs (λ r s f. (free-scaled r s f.0, free-scaled s r f.1)) l.free;
+        (λ (r s : List Edge). DoNotCross (segments_of r) (segments_of s) × DoNotCross (segments_of s) (segments_of r)) rs (λ r s f. (free-scaled r s f.0, free-scaled s r f.1)) l.free;
   }
 
   -- ---- the anchor of a ring
@@ -206,7 +202,7 @@ module _ (k : ℤ) (hk : sign k ≡ Plus) where
     covered-is : (r : List Edge) → crossing_count east p (scaled_edges k r) % 2 ≡ bit (covers_at (segments_of r))
     covered-is r =
         odd-bit (crossing_count east p (scaled_edges k r))
-        ∙ ap (λ n. bit (not (is_even n))) (sym (raised-crossings east p (scaled_edges k r)) ∙ ap (λ (g : List Edge). crossing_count east p g) (segments-scaled r))
+        ∙ ap (λ n. bit (not (is_even n))) (sym (segments-crossings east p (scaled_edges k r)) ∙ ap (λ (g : List Edge). crossing_count east p g) (segments-scaled r))
 
     wound-scaled : (r : List Edge) → (i : In r rs) →
         winding_number east p (scaled_edges k r) ≡ cond (not (outer (segments_of r))) (pos 0 -ℤ pos (crossing_count east p (scaled_edges k r) % 2)) (pos (crossing_count east p (scaled_edges k r) % 2))
@@ -237,38 +233,44 @@ module _ (k : ℤ) (hk : sign k ≡ Plus) where
         let c = covered-is r in
         let m : up_count east p (scaled_edges k r) + n ≡ down_count east p (scaled_edges k r) = omega (arith, ints) in omega arith
 
-    pub polygon_at_fractions : (r : List Edge) → In r rs → outer (segments_of r) ≡ true → (under : List Edge → Bool) →
-        ((h : List Edge) → (i : In h (map segments_of rs)) → under h ≡ true → (outer h ≡ false) × EnclosesDirectly (map segments_of rs) outer (segments_of r) (anchors h i).0) →
-        (w : ℕ) × (w ≤ 1) × (winding_number east p (scaled_edges k (r ++ edges_of (filter (λ (h : List Edge). under (segments_of h)) rs))) ≡ pos w)
-    polygon_at_fractions r i o under means =
-        let inner = filter (λ (h : List Edge). under (segments_of h)) rs in let es = r ++ edges_of inner in
-        let m = polygon_at k hk (map segments_of rs) (ring_list_nest rs l) outer tells anchors p (segments_of r) (in-map segments_of rs r i) under means in
-        let t = total-is (λ (h : List Edge). bit (covers_at h)) (filter under (map segments_of rs)) in
-        let f = ap (λ gs. total (λ (h : List Edge). bit (covers_at h)) gs) (filter-map under rs) ∙ total-map (λ h. bit (covers_at h)) segments_of inner in
-        let s = area-sum up_at down_at (λ r. covers_at (segments_of r)) r inner (out-count-scaled r i o)
-        (λ h j. let ih = in-filter (λ (h : List Edge). under (segments_of h)) rs h j in
-            in-count-scaled h ih (means (segments_of h) (in-map segments_of rs h ih) (in-passes (λ (h : List Edge). under (segments_of h)) rs h j)).0) (omega arith) in
-        let w = s.0 in let g = s.2 in
-        let a = total-is (up_seen east (from_to p)) (scaled_edges k es) in let b = total-is (down_seen east (from_to p)) (scaled_edges k es) in
-        let e = total-map (up_seen east (from_to p)) (scaled_edge k) es in let d = total-map (down_seen east (from_to p)) (scaled_edge k) es in
-        let c : up_count east p (scaled_edges k es) ≡ down_count east p (scaled_edges k es) + w = omega arith in
-        (w, s.1, omega (arith, ints))
+  module _ (rs : List (List Edge)) (l : IsRingList rs) (p : Vector) where
+    abbrev up_here : Edge → ℕ
+    up_here e = up_seen east (from_to p) (scaled_edge k e)
 
-    pub cover_at_fractions : (under : List Edge → List Edge → Bool) →
-        ((g h : List Edge) → In g (map segments_of rs) → (i : In h (map segments_of rs)) → under g h ≡ true → (outer h ≡ false) × EnclosesDirectly (map segments_of rs) outer g (anchors h i).0) →
-        ((g h : List Edge) → In g (map segments_of rs) → (i : In h (map segments_of rs)) → outer h ≡ false → EnclosesDirectly (map segments_of rs) outer g (anchors h i).0 → under g h ≡ true) →
-        count_by (λ (g : List Edge). outer g && (covers (scaled_edges k g) p && (count_by (λ (h : List Edge). under g h && covers (scaled_edges k h) p) (map segments_of rs) == 0))) (map segments_of rs) ≤ 1
-    cover_at_fractions under means meant =
+    abbrev down_here : Edge → ℕ
+    down_here e = down_seen east (from_to p) (scaled_edge k e)
+
+    polygon-sum-here : (g : Polygon) → IsPolygon rs g →
+        (w : ℕ) × (w ≤ 1) × (total (up_seen east (from_to p)) (scaled_edges k (polygon_edges g)) ≡ total (down_seen east (from_to p)) (scaled_edges k (polygon_edges g)) + w)
+    polygon-sum-here g m =
+        let n = rings-nest rs l in let o = is_outer_by rs l in let t = rings-tell rs l in let a = rings-anchors rs l in
+        let s = polygon_sum rs l (λ h. covers (scaled_edges k h) p) (λ g h i j e x c y. inside-at k hk (rings rs l) n o t a p g h i j e x c y)
+        (λ h j ih ij c e f ie if' x y u v. apart-at k hk (rings rs l) n o t a p h j ih ij c e f ie if' x y u v) g m
+        up_here down_here (λ r i h. out-count-scaled rs l o t a p r i h) (λ r i h. in-count-scaled rs l o t a p r i h) in
+        let e = total-map (up_seen east (from_to p)) (scaled_edge k) (polygon_edges g) in let d = total-map (down_seen east (from_to p)) (scaled_edge k) (polygon_edges g) in
+        let f = s.2 in (s.0, s.1, omega arith)
+
+    pub polygon_winds_at_fractions : (g : Polygon) → IsPolygon rs g → winding_number east p (scaled_edges k (polygon_edges g)) ≡ pos (bit (covers (scaled_edges k (polygon_edges g)) p))
+    polygon_winds_at_fractions g m = let s = polygon-sum-here g m in (winds_by p (scaled_edges k (polygon_edges g)) s.0 s.1 s.2).0
+
+    polygon-counts-here : (g : Polygon) → IsPolygon rs g → total up_here (polygon_edges g) ≡ total down_here (polygon_edges g) + bit (covers (scaled_edges k (polygon_edges g)) p)
+    polygon-counts-here g m =
+        let s = polygon-sum-here g m in let w = (winds_by p (scaled_edges k (polygon_edges g)) s.0 s.1 s.2).1 in
+        let e = total-map (up_seen east (from_to p)) (scaled_edge k) (polygon_edges g) in let d = total-map (down_seen east (from_to p)) (scaled_edge k) (polygon_edges g) in
+        let f = s.2 in omega arith
+
+    rings-count-here : total up_here (edges_of rs) ≡ total down_here (edges_of rs) + bit (covers (scaled_edges k (edges_of rs)) p)
+    rings-count-here =
         let es = edges_of rs in let n = crossing_count east p (scaled_edges k (segments_of es)) % 2 in
         let s = rational_count k hk p (segments_of es) l.sided.plain (sided-even es l.sided.balanced) in
         let q = fold-direct (segments_of es) es (λ e i. sided_direct es l.sided e i) in
         let w : winding_number east p (scaled_edges k es) ≡ pos n = subst (λ (u : List Edge). winding_number east p (scaled_edges k u) ≡ pos n) q s in
         let a = total-is (up_seen east (from_to p)) (scaled_edges k es) in let b = total-is (down_seen east (from_to p)) (scaled_edges k es) in
         let e = total-map (up_seen east (from_to p)) (scaled_edge k) es in let f = total-map (down_seen east (from_to p)) (scaled_edge k) es in
+        let c = ap (λ (g : List Edge). crossing_count east p g) (sym (segments-scaled es)) ∙ segments-crossings east p (scaled_edges k es) in let o = odd-bit (crossing_count east p (scaled_edges k es)) in
         let m : up_count east p (scaled_edges k es) ≡ down_count east p (scaled_edges k es) + n = omega (arith, ints) in
-        cover_once rs l outer tells anchors covers_at under means meant n (small-mod (crossing_count east p (scaled_edges k (segments_of es))))
-        (all-count up_at down_at outer covers_at n rs (omega arith)
-        (λ r i. ring-by (outer (segments_of r)) (total up_at r) (total down_at r) (bit (covers_at (segments_of r))) (λ o. out-count-scaled r i o) (λ o. in-count-scaled r i o)))
-        (λ g j.
-            let x = polygon_at k hk (map segments_of rs) (ring_list_nest rs l) outer tells anchors p g j (under g) (λ h i u. means g h j i u) in
-            let t = total-is (λ (h : List Edge). bit (covers_at h)) (filter (under g) (map segments_of rs)) in omega arith)
+        omega arith
+
+    pub polygons_cover_at_fractions : (gs : List Polygon) → ArePolygons rs gs → count_by (λ (g : Polygon). covers (scaled_edges k (polygon_edges g)) p) gs ≡ bit (covers (scaled_edges k (edges_of rs)) p)
+    polygons_cover_at_fractions gs a =
+        polygons_count rs up_here down_here (λ (g : Polygon). covers (scaled_edges k (polygon_edges g)) p) gs (bit (covers (scaled_edges k (edges_of rs)) p)) a.whole (λ g i. polygon-counts-here g (a.each g i)) rings-count-here

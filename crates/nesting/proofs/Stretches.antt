@@ -83,26 +83,26 @@ module _ {X : Type 0} (IsOut : X → Type 0) (c : X → Bool) where
       subst (λ l. IsCycle Keeps l) (sym (append-nil a)) (cut-end k.end a p o (ap (λ l. last k.end (a ++ l)) (sym (append-nil p)) ∙ k.closed) (subst (λ l. Follow Keeps k.end (a ++ l)) (append-nil p) k.steps))
   cut_cycle a p (y ∷ b) o k = cut-more k.end a p y b o k.closed k.steps
 
-  around-by : (z : X) (a p : List X) (y : X) (b : List X) → AllOut (a ++ (y ∷ b)) → last z (a ++ (p ++ (y ∷ b))) ≡ z → Follow Keeps z (a ++ (p ++ (y ∷ b))) → Follow Keeps y b → (x : X) → (In x a) ⊎ (In x (y ∷ b)) → c y ≡ c x
-  around-by z a p y b o e h k x (inr i) = head-same y b (λ w j. o w (in-right a (y ∷ b) w j)) k x i
-  around-by z a p y b o e h k x (inl i) =
+  covers-by : (z : X) (a p : List X) (y : X) (b : List X) → AllOut (a ++ (y ∷ b)) → last z (a ++ (p ++ (y ∷ b))) ≡ z → Follow Keeps z (a ++ (p ++ (y ∷ b))) → Follow Keeps y b → (x : X) → (In x a) ⊎ (In x (y ∷ b)) → c y ≡ c x
+  covers-by z a p y b o e h k x (inr i) = head-same y b (λ w j. o w (in-right a (y ∷ b) w j)) k x i
+  covers-by z a p y b o e h k x (inl i) =
       let out = λ (w : X) (j : In w (y ∷ b)). o w (in-right a (y ∷ b) w j) in
       let l = chain-last y b (out y (inl refl)) (λ w j. out w (inr j)) k in
       let q : last y b ≡ z = sym (last-append (last z a) p (y ∷ b)) ∙ sym (last-append z a (p ++ (y ∷ b))) ∙ e in
       l.0 ∙ ap c q ∙ chain z a (subst IsOut q l.1) (λ w j. o w (in-left a (y ∷ b) w j)) (follow-left Keeps z a (p ++ (y ∷ b)) h) x i
 
-  around-more : (z : X) (a p : List X) (y : X) (b : List X) → AllOut (a ++ (y ∷ b)) → last z (a ++ (p ++ (y ∷ b))) ≡ z → Follow Keeps z (a ++ (p ++ (y ∷ b))) → (x : X) → (In x a) ⊎ (In x (y ∷ b)) → c y ≡ c x
-  around-more z a p y b o e h x i =
+  covers-more : (z : X) (a p : List X) (y : X) (b : List X) → AllOut (a ++ (y ∷ b)) → last z (a ++ (p ++ (y ∷ b))) ≡ z → Follow Keeps z (a ++ (p ++ (y ∷ b))) → (x : X) → (In x a) ⊎ (In x (y ∷ b)) → c y ≡ c x
+  covers-more z a p y b o e h x i =
       let u = last z a in let r = follow-right Keeps z a (p ++ (y ∷ b)) h in let k = follow-right Keeps u p (y ∷ b) r in
-      around-by z a p y b o e h k.1 x i
+      covers-by z a p y b o e h k.1 x i
 
   -- a stretch of the cycle that is out has one colour
   pub piece_same : (a p b : List X) → AllOut p → IsCycle Keeps (a ++ (p ++ b)) → (x y : X) → In x p → In y p → c x ≡ c y
   piece_same a p b o k x y i j = stretch_same (last k.end a) p o (follow-left Keeps (last k.end a) p b (follow-right Keeps k.end a (p ++ b) k.steps)) x y i j
 
   -- the rest of the cycle, if it is out, has one colour
-  pub around_same : (a p b : List X) → AllOut (a ++ b) → IsCycle Keeps (a ++ (p ++ b)) → (x y : X) → In x (a ++ b) → In y (a ++ b) → c x ≡ c y
-  around_same a p [] o k x y i j =
+  pub covers_same : (a p b : List X) → AllOut (a ++ b) → IsCycle Keeps (a ++ (p ++ b)) → (x y : X) → In x (a ++ b) → In y (a ++ b) → c x ≡ c y
+  covers_same a p [] o k x y i j =
       stretch_same k.end a (λ w m. o w (in-left a [] w m)) (follow-left Keeps k.end a (p ++ []) k.steps) x y (subst (λ l. In x l) (append-nil a) i) (subst (λ l. In y l) (append-nil a) j)
-  around_same a p (q ∷ b) o k x y i j =
-      sym (around-more k.end a p q b o k.closed k.steps x (in-either a (q ∷ b) x i)) ∙ around-more k.end a p q b o k.closed k.steps y (in-either a (q ∷ b) y j)
+  covers_same a p (q ∷ b) o k x y i j =
+      sym (covers-more k.end a p q b o k.closed k.steps x (in-either a (q ∷ b) x i)) ∙ covers-more k.end a p q b o k.closed k.steps y (in-either a (q ∷ b) y j)

@@ -1,5 +1,5 @@
 -- Successors in a sided list.
-use Rattle.std.proofs.Common.{Bool, List, [], ap, arith, cond, eqb, eqb-true, false, not, refl, subst, sym, true, ℕ, ◌&&◌, ◌||◌, ◌∙◌, ◌∷◌, ◌≡◌}
+use Rattle.std.proofs.Common.{Bool, List, ap, arith, cond, eqb, eqb-true, false, not, refl, subst, sym, true, ℕ, ◌&&◌, ◌||◌, ◌∙◌, ◌≡◌}
 use Rattle.nesting.specs.Cover.{covers_edge}
 use Rattle.nesting.specs.Walk.{IsNextClockwise, IsSuccessor}
 use Rattle.plane.specs.Conflict.{IsClearOf}
@@ -16,25 +16,20 @@ use Rattle.winding.specs.OddSide.{directed_edge}
 use Rattle.winding.specs.Parity.{is_even}
 use Rattle.winding.specs.Ring.{segments_of}
 use Rattle.winding.specs.Sided.{IsSided}
-use Rattle.nesting.proofs.CoveredEdges.{or-swap, raise-ends-by, same_in}
+use Rattle.nesting.proofs.CoveredEdges.{or-swap, same_in, segment-ends-by}
+use Rattle.plane.proofs.Bools.{not-not, not-true-out}
 use Rattle.plane.proofs.Edges.{ends_at-to, same_edge-refl, same_edge-true}
 use Rattle.plane.proofs.Points.{same_point-refl, same_point-true}
-use Rattle.plane.proofs.Products.{cross-self, frame-dot-agree}
+use Rattle.plane.proofs.Products.{cross-negated, cross-self, frame-dot-agree}
 use Rattle.plane.proofs.Signs.{agree, all, all-out, all2-out, all4-out, imp, imp-out, times}
 use Rattle.winding.proofs.Balance.{bit-back, leaves, no-loop, out_count, way, way-direction, ways_apart}
-use Rattle.winding.proofs.ConflictFree.{clear_pair, not-false-out, off_away, rising_in, split_off}
-use Rattle.winding.proofs.Levels.{cross-neg}
+use Rattle.winding.proofs.ConflictFree.{clear_pair, off_away, rising_in, split_off}
 use Rattle.winding.proofs.Members.{all-in, in-filter, in-map, in-map-out, in-passes, total-same}
-use Rattle.winding.proofs.OddSides.{differ-parity, not-not, spokes-is}
+use Rattle.winding.proofs.OddSides.{differ-parity, spokes-is}
 use Rattle.winding.proofs.Ranks.{odds}
 use Rattle.winding.proofs.RoundNode.{parity_round_node}
 use Rattle.winding.proofs.SidedLists.{sided-even, sided_direct}
-use Rattle.winding.proofs.Sums.{total}
-
--- ---- sectors
-pub none-total : {X : Type 0} (xs : List X) → total (λ x. 0) xs ≡ 0
-none-total [] = refl
-none-total (x ∷ xs) = let a = none-total xs in omega arith
+use Rattle.winding.proofs.Sums.{none-sum}
 
 abbrev pub is_some : Sign → Sign → Bool
 is_some x y = agree (times x x) (times y y) Plus
@@ -54,7 +49,7 @@ sector-first a b pa pb n =
     let c = all2-out (λ t k. imp (is_some t k) λ _. imp (not (is_null k && is_plus t)) λ _. eqb (sector_by Plus Null t k (negated k)) 0) refl (sign (dot a b)) (sign (cross a b)) in
     let t = sign (dot a b) in let k = sign (cross a b) in
     ap (λ s. sector_by s (sign (cross a a)) t k (sign (cross b a))) pa ∙ ap (λ z. sector_by Plus (sign z) t k (sign (cross b a))) (cross-self a)
-    ∙ ap (λ s. sector_by Plus Null t k s) (cross-neg a b) ∙ eqb-true _ _ (imp-out _ _ (imp-out _ _ c (some-signs a b pa pb)) n)
+    ∙ ap (λ s. sector_by Plus Null t k s) (cross-negated a b) ∙ eqb-true _ _ (imp-out _ _ (imp-out _ _ c (some-signs a b pa pb)) n)
 
 -- of two directions one comes first
 pub sector-either : (a b c : Vector) → IsDirection a → IsDirection b → IsDirection c → in_sector a b c ≡ 0 → in_sector a c b ≡ 1
@@ -62,25 +57,25 @@ sector-either a b c pa pb pc h =
     let s = sign (dot a c) in let p = sign (cross a c) in let t = sign (dot a b) in let q = sign (cross a b) in let e = sign (cross b c) in
     let g = all-out (λ e. imp (is_some s p) λ _. imp (is_some t q) λ _. imp (eqb (sector_by s p t q e) 0) λ _. eqb (sector_by t q s p (negated e)) 1)
     (all4-out (λ s p t q. all λ e. imp (is_some s p) λ _. imp (is_some t q) λ _. imp (eqb (sector_by s p t q e) 0) λ _. eqb (sector_by t q s p (negated e)) 1) refl s p t q) e in
-    ap (λ k. sector_by t q s p k) (cross-neg b c) ∙ eqb-true _ _ (imp-out _ _ (imp-out _ _ (imp-out _ _ g (some-signs a c pa pc)) (some-signs a b pa pb)) (ap (λ n. eqb n 0) h))
+    ap (λ k. sector_by t q s p k) (cross-negated b c) ∙ eqb-true _ _ (imp-out _ _ (imp-out _ _ (imp-out _ _ g (some-signs a c pa pc)) (some-signs a b pa pb)) (ap (λ n. eqb n 0) h))
 
 -- ---- an edge with its lower end first
-raise-back-by : (v : Vector) (b : Bool) (g : Edge) → ends_at v (cond b g (reversed g)) ≡ true → ends_at v g ≡ true
-raise-back-by v true g h = h
-raise-back-by v false g h = or-swap (same_point v g.to) (same_point v g.from) h
+segment-back-by : (v : Vector) (b : Bool) (g : Edge) → ends_at v (cond b g (reversed g)) ≡ true → ends_at v g ≡ true
+segment-back-by v true g h = h
+segment-back-by v false g h = or-swap (same_point v g.to) (same_point v g.from) h
 
-pub raise-back : (v : Vector) (g : Edge) → ends_at v (segment_of g) ≡ true → ends_at v g ≡ true
-raise-back v g h = raise-back-by v (is_plus (order g.from g.to)) g h
+pub segment-back : (v : Vector) (g : Edge) → ends_at v (segment_of g) ≡ true → ends_at v g ≡ true
+segment-back v g h = segment-back-by v (is_plus (order g.from g.to)) g h
 
-pub raise-ends : (v : Vector) (g : Edge) → ends_at v g ≡ true → ends_at v (segment_of g) ≡ true
-raise-ends v g h = raise-ends-by v (is_plus (order g.from g.to)) g h
+pub segment-ends : (v : Vector) (g : Edge) → ends_at v g ≡ true → ends_at v (segment_of g) ≡ true
+segment-ends v g h = segment-ends-by v (is_plus (order g.from g.to)) g h
 
 loop-by : (v : Vector) (b : Bool) (g : Edge) → same_point v g.from ≡ true → same_point v g.to ≡ true → IsRising (cond b g (reversed g)) → ⊥
 loop-by v true g h k r = no-loop v g h k r
 loop-by v false g h k r = no-loop v (reversed g) k h r
 
-pub no-loop-raised : (v : Vector) (g : Edge) → same_point v g.from ≡ true → same_point v g.to ≡ true → IsRising (segment_of g) → ⊥
-no-loop-raised v g h k r = loop-by v (is_plus (order g.from g.to)) g h k r
+pub no-loop-segments : (v : Vector) (g : Edge) → same_point v g.from ≡ true → same_point v g.to ≡ true → IsRising (segment_of g) → ⊥
+no-loop-segments v g h k r = loop-by v (is_plus (order g.from g.to)) g h k r
 
 other-by : (v : Vector) (b p q : Bool) (g : Edge) → same_point v g.from ≡ p → same_point v g.to ≡ q → (p || q) ≡ true → IsRising (cond b g (reversed g)) → other_end v (cond b g (reversed g)) ≡ cond p g.to g.from
 other-by v true p q g h k o r = ap (λ z. cond z g.to g.from) h
@@ -89,8 +84,8 @@ other-by v false true false g h k o r = ap (λ z. cond z g.from g.to) k
 other-by v false false true g h k o r = ap (λ z. cond z g.from g.to) k
 other-by v false false false g h k o r = absurd (cc o)
 
-pub way-raise : (v : Vector) (g : Edge) → ends_at v g ≡ true → IsRising (segment_of g) → way v (segment_of g) ≡ from_to v (other_end v g)
-way-raise v g h r = ap (λ w. from_to v w) (other-by v (is_plus (order g.from g.to)) (same_point v g.from) (same_point v g.to) g refl refl h r)
+pub way-segment : (v : Vector) (g : Edge) → ends_at v g ≡ true → IsRising (segment_of g) → way v (segment_of g) ≡ from_to v (other_end v g)
+way-segment v g h r = ap (λ w. from_to v w) (other-by v (is_plus (order g.from g.to)) (same_point v g.from) (same_point v g.to) g refl refl h r)
 
 differ-by : (e g : Edge) (P : Edge → Edge) → same_edge e g ≡ false → (P e ≡ P g → e ≡ g) → (b : Bool) → same_edge (P e) (P g) ≡ b → b ≡ false
 differ-by e g P n inj false h = refl
@@ -119,20 +114,20 @@ module _ (es : List Edge) (sd : IsSided es) where
   pub up-even : IsEvenAtPoints (segments_of es)
   up-even = sided-even es sd.balanced
 
-  pub raise-one : (e g : Edge) → In e es → In g es → segment_of e ≡ segment_of g → e ≡ g
-  raise-one e g i j q = sym (sided_direct es sd e i) ∙ ap (directed_edge (segments_of es)) q ∙ sided_direct es sd g j
+  pub segment-one : (e g : Edge) → In e es → In g es → segment_of e ≡ segment_of g → e ≡ g
+  segment-one e g i j q = sym (sided_direct es sd e i) ∙ ap (directed_edge (segments_of es)) q ∙ sided_direct es sd g j
 
-  pub raise-differs : (e g : Edge) → In e es → In g es → same_edge e g ≡ false → same_edge (segment_of e) (segment_of g) ≡ false
-  raise-differs e g i j n = differ-by e g segment_of n (raise-one e g i j) (same_edge (segment_of e) (segment_of g)) refl
+  pub segment-differs : (e g : Edge) → In e es → In g es → same_edge e g ≡ false → same_edge (segment_of e) (segment_of g) ≡ false
+  segment-differs e g i j n = differ-by e g segment_of n (segment-one e g i j) (same_edge (segment_of e) (segment_of g)) refl
 
   pub clear-two : (e g : Edge) → In e es → In g es → same_edge e g ≡ false → IsClearOf (segment_of e) (segment_of g)
-  clear-two e g i j n = clear_pair (segment_of e) (segment_of g) (segments_of es) sd.plain (in-map segment_of es e i) (in-map segment_of es g j) (raise-differs e g i j n)
+  clear-two e g i j n = clear_pair (segment_of e) (segment_of g) (segments_of es) sd.plain (in-map segment_of es e i) (in-map segment_of es g j) (segment-differs e g i j n)
 
   -- an edge leaves v exactly where the ray along it from v hits an odd number of the edges that do not end there
   pub leaves_where : (v : Vector) (g : Edge) → In g es → ends_at v g ≡ true → same_point v g.from ≡ not (is_even (out_count v (segments_of es) (segment_of g)))
   leaves_where v g i h =
       let k = ap (λ (e : Edge). one_at v e.from) (sym (sided_direct es sd g i)) ∙ (leaves v (segment_of g) (segments_of es) sd.plain up-even (in-map segment_of es g i)).0
-      ∙ ap (λ b. cond b (odds (out_count v (segments_of es) (segment_of g))) 0) (raise-ends v g h) in
+      ∙ ap (λ b. cond b (odds (out_count v (segments_of es) (segment_of g))) 0) (segment-ends v g h) in
       bit-back (same_point v g.from) (not (is_even (out_count v (segments_of es) (segment_of g)))) k
 
   module _ (v : Vector) (e f : Edge) (i : In e es) (h : ends_at v e ≡ true) (n : IsNextClockwise v e f es) where
@@ -143,23 +138,23 @@ module _ (es : List Edge) (sd : IsSided es) where
     wf = way v (segment_of f)
 
     pub e-way : IsDirection we
-    e-way = way-direction v (segment_of e) (raise-ends v e h) (rise e i)
+    e-way = way-direction v (segment_of e) (segment-ends v e h) (rise e i)
 
     pub f-way : IsDirection wf
-    f-way = way-direction v (segment_of f) (raise-ends v f n.meets) (rise f n.member)
+    f-way = way-direction v (segment_of f) (segment-ends v f n.meets) (rise f n.member)
 
     first-out : in_sector wf we wf ≡ 0
-    first-out = sector-first wf we f-way e-way (ways_apart v (segment_of f) (segment_of e) (raise-ends v f n.meets) (raise-ends v e h) (rise f n.member) (rise e i) (clear-two f e n.member i (sym-differs f e n.other)))
+    first-out = sector-first wf we f-way e-way (ways_apart v (segment_of f) (segment_of e) (segment-ends v f n.meets) (segment-ends v e h) (rise f n.member) (rise e i) (clear-two f e n.member i (sym-differs f e n.other)))
 
     abbrev F : Edge → ℕ
     F t = cond (ends_at v t) (in_sector wf we (way v t)) 0
 
     pub none-between : (g : Edge) → In g es → same_edge e g ≡ false → same_edge f g ≡ false → ends_at v (segment_of g) ≡ true → in_sector wf we (way v (segment_of g)) ≡ 0
     none-between g j x y k =
-        let m = raise-back v g k in
-        ap (λ w. in_sector w we (way v (segment_of g))) (way-raise v f n.meets (rise f n.member))
-        ∙ ap (λ w. in_sector (from_to v (other_end v f)) w (way v (segment_of g))) (way-raise v e h (rise e i))
-        ∙ ap (λ w. in_sector (from_to v (other_end v f)) (from_to v (other_end v e)) w) (way-raise v g m (rise g j)) ∙ n.first g j m x y
+        let m = segment-back v g k in
+        ap (λ w. in_sector w we (way v (segment_of g))) (way-segment v f n.meets (rise f n.member))
+        ∙ ap (λ w. in_sector (from_to v (other_end v f)) w (way v (segment_of g))) (way-segment v e h (rise e i))
+        ∙ ap (λ w. in_sector (from_to v (other_end v f)) (from_to v (other_end v e)) w) (way-segment v g m (rise g j)) ∙ n.first g j m x y
 
     F-by : (g : Edge) → In g es → same_edge e g ≡ false → same_edge f g ≡ false → (b : Bool) → ends_at v (segment_of g) ≡ b → cond b (in_sector wf we (way v (segment_of g))) 0 ≡ 0
     F-by g j x y true k = none-between g j x y k
@@ -169,7 +164,7 @@ module _ (es : List Edge) (sd : IsSided es) where
     F-none g j x y = F-by g j x y (ends_at v (segment_of g)) refl
 
     F-first : F (segment_of f) ≡ 0
-    F-first = ap (λ b. cond b (in_sector wf we wf) 0) (raise-ends v f n.meets) ∙ first-out
+    F-first = ap (λ b. cond b (in_sector wf we wf) 0) (segment-ends v f n.meets) ∙ first-out
 
     F-other-by : (g : Edge) → In g es → same_edge e g ≡ false → (b : Bool) → same_edge f g ≡ b → F (segment_of g) ≡ 0
     F-other-by g j x true k = subst (λ w. F (segment_of w) ≡ 0) (same_edge-true f g k) F-first
@@ -178,7 +173,7 @@ module _ (es : List Edge) (sd : IsSided es) where
     F-other : (t : Edge) → In t (others (segment_of e) (segments_of es)) → F t ≡ 0
     F-other t j =
         let r = in-map-out segment_of es t (in-filter (λ (t : Edge). not (same_edge (segment_of e) t)) (segments_of es) t j) in
-        let d = not-false-out (same_edge (segment_of e) t) (in-passes (λ (t : Edge). not (same_edge (segment_of e) t)) (segments_of es) t j) in
+        let d = not-true-out (same_edge (segment_of e) t) (in-passes (λ (t : Edge). not (same_edge (segment_of e) t)) (segments_of es) t j) in
         let x = unraised e r.0 (subst (λ w. same_edge (segment_of e) w ≡ false) r.2 d) (same_edge e r.0) refl in
         subst (λ w. F w ≡ 0) (sym r.2) (F-other-by r.0 r.1 x (same_edge f r.0) refl)
 
@@ -186,13 +181,13 @@ module _ (es : List Edge) (sd : IsSided es) where
     pub one_between : spokes_in wf we v (segments_of es) ≡ 1
     one_between =
         let a = spokes-is wf we v (segments_of es) in let b = split_off F (segment_of e) (segments_of es) sd.plain (in-map segment_of es e i) in
-        let c : F (segment_of e) ≡ 1 = ap (λ b. cond b (in_sector wf we we) 0) (raise-ends v e h) ∙ sector-own wf we f-way e-way in
-        let d = total-same F (λ t. 0) (others (segment_of e) (segments_of es)) F-other in let z = none-total (others (segment_of e) (segments_of es)) in omega arith
+        let c : F (segment_of e) ≡ 1 = ap (λ b. cond b (in_sector wf we we) 0) (segment-ends v e h) ∙ sector-own wf we f-way e-way in
+        let d = total-same F (λ t. 0) (others (segment_of e) (segments_of es)) F-other in let z = none-sum (others (segment_of e) (segments_of es)) in omega arith
 
     -- round a point edges enter and leave by turns
     pub by_turns : same_point v f.from ≡ not (same_point v e.from)
     by_turns =
-        let b = parity_round_node wf we v (segments_of es) f-way e-way up-even (off_away v (segment_of e) (segments_of es) sd.plain (in-map segment_of es e i) (raise-ends v e h)) in
+        let b = parity_round_node wf we v (segments_of es) f-way e-way up-even (off_away v (segment_of e) (segments_of es) sd.plain (in-map segment_of es e i) (segment-ends v e h)) in
         let o = one_between in
         let d = differ-parity (out_count v (segments_of es) (segment_of f)) (out_count v (segments_of es) (segment_of e)) (omega arith) in
         leaves_where v f n.member n.meets ∙ ap not d ∙ not-not _ ∙ sym (not-not _) ∙ ap not (sym (leaves_where v e i h))
@@ -203,13 +198,13 @@ module _ (es : List Edge) (sd : IsSided es) where
         let zero = λ (t : Edge) (j : In t (segments_of rs)). (
         let r = in-map-out segment_of rs t j in
         subst (λ w. F w ≡ 0) (sym r.2) (F-none r.0 (sub r.0 r.1) (not-member e r.0 rs ne r.1 (same_edge e r.0) refl) (not-member f r.0 rs nf r.1 (same_edge f r.0) refl))) in
-        let a = spokes-is wf we v (segments_of rs) in let d = total-same F (λ t. 0) (segments_of rs) zero in let z = none-total (segments_of rs) in
+        let a = spokes-is wf we v (segments_of rs) in let d = total-same F (λ t. 0) (segments_of rs) zero in let z = none-sum (segments_of rs) in
         let clear = λ (s : Edge) (is : In s es) (ns : In s rs → ⊥). all-in (IsClearOf (segment_of s)) (segments_of rs) (λ t j.
         let r = in-map-out segment_of rs t j in subst (IsClearOf (segment_of s)) (sym r.2) (clear-two s r.0 is (sub r.0 r.1) (not-member s r.0 rs ns r.1 (same_edge s r.0) refl))) in
-        sym (same_in v (segment_of f) (segment_of e) (segments_of rs) (rise f n.member) (rise e i) pl even (clear f n.member nf) (clear e i ne) (raise-ends v f n.meets) (raise-ends v e h) (omega arith))
+        sym (same_in v (segment_of f) (segment_of e) (segments_of rs) (rise f n.member) (rise e i) pl even (clear f n.member nf) (clear e i ne) (segment-ends v f n.meets) (segment-ends v e h) (omega arith))
 
   next-by : (e f : Edge) → In e es → IsSuccessor es e f → (b : Bool) → same_point e.to e.from ≡ b → e.to ≡ f.from
-  next-by e f i n true k = absurd (no-loop-raised e.to e k (same_point-refl e.to) (rise e i))
+  next-by e f i n true k = absurd (no-loop-segments e.to e k (same_point-refl e.to) (rise e i))
   next-by e f i n false k = same_point-true e.to f.from (by_turns e.to e f i (ends_at-to e) n ∙ ap not k)
 
   -- the successor leaves the point that its edge enters
@@ -220,8 +215,8 @@ module _ (es : List Edge) (sd : IsSided es) where
   first-one-by : (v : Vector) (d e f : Edge) → In d es → In e es → ends_at v d ≡ true → ends_at v e ≡ true → IsNextClockwise v d f es → IsNextClockwise v e f es → (b : Bool) → same_edge d e ≡ b → d ≡ e
   first-one-by v d e f i j hd he m n true k = same_edge-true d e k
   first-one-by v d e f i j hd he m n false k =
-      let x = none-between v d f i hd m e j k (sym-differs f e n.other) (raise-ends v e he) in
-      let y = none-between v e f j he n d i (sym-differs e d k) (sym-differs f d m.other) (raise-ends v d hd) in
+      let x = none-between v d f i hd m e j k (sym-differs f e n.other) (segment-ends v e he) in
+      let y = none-between v e f j he n d i (sym-differs e d k) (sym-differs f d m.other) (segment-ends v d hd) in
       let z = sector-either (way v (segment_of f)) (way v (segment_of d)) (way v (segment_of e)) (f-way v d f i hd m) (e-way v d f i hd m) (e-way v e f j he n) x in
       absurd (omega arith)
 

@@ -14,21 +14,18 @@ use Rattle.winding.specs.Rank.{IsOrder}
 use Rattle.winding.specs.Ring.{segments_of}
 use Rattle.winding.specs.Sided.{IsSided}
 use Rattle.nesting.proofs.Parts.{differ, sided-once}
-use Rattle.nesting.proofs.Successors.{clear-two, is_some, none-between, raise-back, raise-ends, rise, sector-either, sector-own, some-signs, sym-differs, unraised, up-even, way-raise}
-use Rattle.plane.proofs.Edges.{and-out, ends_at-to, same_edge-refl, same_edge-true}
-use Rattle.plane.proofs.Identities.{same}
-use Rattle.plane.proofs.Products.{dot2, frame-agree, frame-dot-agree, lift2, plucker-agree, plucker-dot-agree}
-use Rattle.plane.proofs.Signs.{agree, all, all-out, all2, all2-out, all4, all4-out, imp, imp-out, times, times-back, times-plus}
+use Rattle.nesting.proofs.Successors.{clear-two, is_some, none-between, rise, sector-either, sector-own, segment-back, segment-ends, some-signs, sym-differs, unraised, up-even, way-segment}
+use Rattle.plane.proofs.Bools.{and-out, not-true-out}
+use Rattle.plane.proofs.Edges.{ends_at-to, same_edge-refl, same_edge-true}
+use Rattle.plane.proofs.Products.{cross-negated, frame-agree, frame-dot-agree, plucker-agree, plucker-dot-agree}
+use Rattle.plane.proofs.Signs.{agree, all, all-out, all2, all2-out, all4, all4-out, imp, imp-out, same_bool-true, times, times-back, times-plus}
 use Rattle.winding.proofs.Anchors.{some_odd}
-use Rattle.winding.proofs.Balance.{chain_signs, crossed, degree-even, either_2, either_computes, length-total, same_bool-true, way, way-direction, ways_apart}
-use Rattle.winding.proofs.ConflictFree.{not-false-out, split_off}
-use Rattle.winding.proofs.Levels.{cross-neg}
+use Rattle.winding.proofs.Balance.{chain_signs, crossed, degree-even, either_2, either_computes, length-total, way, way-direction, ways_apart}
+use Rattle.winding.proofs.ConflictFree.{split_off}
 use Rattle.winding.proofs.Members.{in-filter, in-map, in-map-out, in-passes, into-filter, pairs-filter, pairs-weaker, total-filter}
 use Rattle.winding.proofs.Ranks.{first_exists, odd-is}
+use Rattle.winding.proofs.SidedLists.{dot-swap}
 use Rattle.winding.proofs.Sums.{total}
-
-dot-back : (a b : Vector) → dot b a ≡ dot a b
-dot-back a b = let e = lift2 a in let f = lift2 b in same (dot2 f e) (dot2 e f) (omega arith)
 
 -- a and b do not point the same way
 abbrev pub apart : Vector → Vector → Bool
@@ -60,7 +57,7 @@ sector-one : (d a b : Vector) → IsDirection d → IsDirection a → IsDirectio
 sector-one d a b pd pa pb n =
     let c = all2-out (either_2 (sign (dot d a)) (sign (cross d a)) (sign (dot d b)) (sign (cross d b))) (all4-out (λ ax ay bx by. all2 (either_2 ax ay bx by)) either_computes (sign (dot d a)) (sign (cross d a)) (sign (dot d b)) (sign (cross d b))) (sign (cross a b)) (sign (dot a b)) in
     let e = same_bool-true _ _ (imp-out _ _ (imp-out _ _ (imp-out _ _ (imp-out _ _ (imp-out _ _ c (crossed-at d a b pd)) (dot-at d a b pd)) n) (set-at d a pd pa)) (set-at d b pd pb)) in
-    e ∙ ap (λ s. not (eqb (sector_by (sign (dot d a)) (sign (cross d a)) (sign (dot d b)) (sign (cross d b)) s) 1)) (sym (cross-neg a b))
+    e ∙ ap (λ s. not (eqb (sector_by (sign (dot d a)) (sign (cross d a)) (sign (dot d b)) (sign (cross d b)) s) 1)) (sym (cross-negated a b))
 
 abbrev rest_2 : Sign → Sign → Sign → Sign → Sign → Sign → Bool
 rest_2 x y t q e g =
@@ -78,7 +75,7 @@ sector-rest d m y pd pm py n =
     let x1 = sign (dot d y) in let y1 = sign (cross d y) in let t = sign (dot d m) in let q = sign (cross d m) in let e = sign (cross m y) in let g = sign (dot m y) in
     let c = all2-out (rest_2 x1 y1 t q) (all4-out (λ x y t q. all2 (rest_2 x y t q)) rest_computes x1 y1 t q) e g in
     let r = eqb-true _ _ (imp-out _ _ (imp-out _ _ (imp-out _ _ (imp-out _ _ (imp-out _ _ c (some-signs d y pd py)) (some-signs d m pd pm)) (crossed-at d m y pd)) (dot-at d m y pd)) n) in
-    ap (λ s. in_sector d m y + sector_by g e s (sign (cross m d)) y1) (ap sign (dot-back d m)) ∙ ap (λ s. in_sector d m y + sector_by g e t s y1) (cross-neg d m) ∙ r
+    ap (λ s. in_sector d m y + sector_by g e s (sign (cross m d)) y1) (ap sign (dot-swap d m)) ∙ ap (λ s. in_sector d m y + sector_by g e t s y1) (cross-negated d m) ∙ r
 
 abbrev zero_one : Sign → Sign → Sign → Sign → Bool
 zero_one s b t c = all λ e. eqb (bit (eqb (sector_by s b t c e) 1)) (sector_by s b t c e)
@@ -99,17 +96,17 @@ module _ (es : List Edge) (sd : IsSided es) (v : Vector) where
   w g = way v (segment_of g)
 
   w-way : (g : Edge) → In g es → ends_at v g ≡ true → IsDirection (w g)
-  w-way g i h = way-direction v (segment_of g) (raise-ends v g h) (rise es sd g i)
+  w-way g i h = way-direction v (segment_of g) (segment-ends v g h) (rise es sd g i)
 
   w-apart : (f g : Edge) → In f es → In g es → ends_at v f ≡ true → ends_at v g ≡ true → same_edge f g ≡ false → apart (w f) (w g) ≡ true
-  w-apart f g i j hf hg n = ways_apart v (segment_of f) (segment_of g) (raise-ends v f hf) (raise-ends v g hg) (rise es sd f i) (rise es sd g j) (clear-two es sd f g i j n)
+  w-apart f g i j hf hg n = ways_apart v (segment_of f) (segment_of g) (segment-ends v f hf) (segment-ends v g hg) (rise es sd f i) (rise es sd g j) (clear-two es sd f g i j n)
 
   -- ---- one alone
   alone-by : (e f g : Edge) → In e es → ends_at v e ≡ true → IsNextClockwise v e f es → IsNextClockwise v e g es → (b : Bool) → same_edge f g ≡ b → f ≡ g
   alone-by e f g i h m n true k = same_edge-true f g k
   alone-by e f g i h m n false k =
-      let x = none-between es sd v e f i h m g n.member n.other k (raise-ends v g n.meets) in
-      let y = none-between es sd v e g i h n f m.member m.other (sym-differs g f k) (raise-ends v f m.meets) in
+      let x = none-between es sd v e f i h m g n.member n.other k (segment-ends v g n.meets) in
+      let y = none-between es sd v e g i h n f m.member m.other (sym-differs g f k) (segment-ends v f m.meets) in
       let a = sector-rest (w e) (w f) (w g) (w-way e i h) (w-way f m.member m.meets) (w-way g n.member n.meets) (w-apart e f i m.member h m.meets m.other) in
       let b = sector-rest (w e) (w g) (w f) (w-way e i h) (w-way g n.member n.meets) (w-way f m.member m.meets) (w-apart e g i n.member h n.meets n.other) in
       let c = sector-one (w e) (w f) (w g) (w-way e i h) (w-way f m.member m.meets) (w-way g n.member n.meets) (w-apart f g m.member n.member m.meets n.meets k) in
@@ -141,13 +138,13 @@ module _ (es : List Edge) (sd : IsSided es) (v : Vector) where
 
     behind : (x y : Edge) → In x rest → In y rest → ahead_of x y ≡ true → in_sector (w e) (w x) (w y) ≡ 1
     behind x y j k o =
-        sector-either (w e) (w y) (w x) (w-way e i h) (rest-way y k) (rest-way x j) (zero-of (w e) (w y) (w x) (not-false-out (eqb (in_sector (w e) (w y) (w x)) 1) o))
+        sector-either (w e) (w y) (w x) (w-way e i h) (rest-way y k) (rest-way x j) (zero-of (w e) (w y) (w x) (not-true-out (eqb (in_sector (w e) (w y) (w x)) 1) o))
 
     chain-by : (x y z : Edge) → In x rest → In y rest → In z rest → ahead_of x y ≡ true → ahead_of y z ≡ true → (b : Bool) → eqb (in_sector (w e) (w z) (w x)) 1 ≡ b → not b ≡ true
     chain-by x y z jx jy jz p q false o = refl
     chain-by x y z jx jy jz p q true o =
         let c = sector-chain (w e) (w y) (w z) (w x) (w-way e i h) (rest-way z jz) (behind y z jy jz q) (eqb-true _ _ o) in
-        absurd (cc (sym (one-eqb _ c) ∙ not-false-out (eqb (in_sector (w e) (w y) (w x)) 1) p))
+        absurd (cc (sym (one-eqb _ c) ∙ not-true-out (eqb (in_sector (w e) (w y) (w x)) 1) p))
 
     rest-order : IsOrder false ahead_of rest
     rest-order = record {
@@ -165,19 +162,19 @@ module _ (es : List Edge) (sd : IsSided es) (v : Vector) where
         let d = degree-even v up sd.plain (up-even es sd) in
         let a = length-total (spokes v up) in let b = total-filter (ends_at v) (λ t. 1) up in
         let c = split_off (λ t. bit (ends_at v t)) s up sd.plain j in
-        let o : bit (ends_at v s) ≡ 1 = ap bit (raise-ends v e h) in
+        let o : bit (ends_at v s) ≡ 1 = ap bit (segment-ends v e h) in
         let t = some_odd (ends_at v) (others s up) (odd-is (total (λ t. bit (ends_at v t)) (others s up)) (omega arith)) in
         let r = in-map-out segment_of es t.0 (in-filter (λ (t : Edge). not (same_edge s t)) up t.0 t.1) in
-        let n = not-false-out (same_edge s t.0) (in-passes (λ (t : Edge). not (same_edge s t)) up t.0 t.1) in
+        let n = not-true-out (same_edge s t.0) (in-passes (λ (t : Edge). not (same_edge s t)) up t.0 t.1) in
         let m = unraised e r.0 (subst (λ w. same_edge s w ≡ false) r.2 n) (same_edge e r.0) refl in
-        let k = raise-back v r.0 (subst (λ w. ends_at v w ≡ true) r.2 t.2) in
+        let k = segment-back v r.0 (subst (λ w. ends_at v w ≡ true) r.2 t.2) in
         (r.0, into-filter is_other es r.0 r.1 (let x = k in let y = m in both-so (ends_at v r.0) (same_edge e r.0) x y))
 
     before-by : (m g : Edge) → In m rest → In g rest → same_edge m g ≡ false → (g ≡ m) ⊎ (ahead_of m g ≡ true) → in_sector (w m) (w e) (w g) ≡ 0
     before-by m g jm jg n (inl q) = absurd (cc (sym (same_edge-refl g) ∙ ap (λ u. same_edge u g) q ∙ n))
     before-by m g jm jg n (inr o) =
         let a = behind m g jm jg o in
-        let b = sector-rest (w e) (w m) (w g) (w-way e i h) (rest-way m jm) (rest-way g jg) (w-apart e m i (rest-in m jm) h (rest-is m jm).0 (not-false-out (same_edge e m) (rest-is m jm).1)) in
+        let b = sector-rest (w e) (w m) (w g) (w-way e i h) (rest-way m jm) (rest-way g jg) (w-apart e m i (rest-in m jm) h (rest-is m jm).0 (not-true-out (same_edge e m) (rest-is m jm).1)) in
         omega arith
 
     pub first_there : (f : Edge) × IsNextClockwise v e f es
@@ -188,12 +185,12 @@ module _ (es : List Edge) (sd : IsSided es) (v : Vector) where
           record {
             member = rest-in f j;
             meets = hf;
-            other = not-false-out (same_edge e f) (rest-is f j).1;
+            other = not-true-out (same_edge e f) (rest-is f j).1;
             first = λ g k hg n l.
                 let jg = into-filter is_other es g k (both-so (ends_at v g) (same_edge e g) hg n) in
-                ap (λ u. in_sector u (from_to v (other_end v e)) (from_to v (other_end v g))) (sym (way-raise v f hf (rise es sd f (rest-in f j))))
-                ∙ ap (λ u. in_sector (w f) u (from_to v (other_end v g))) (sym (way-raise v e h (rise es sd e i)))
-                ∙ ap (λ u. in_sector (w f) (w e) u) (sym (way-raise v g hg (rise es sd g k)))
+                ap (λ u. in_sector u (from_to v (other_end v e)) (from_to v (other_end v g))) (sym (way-segment v f hf (rise es sd f (rest-in f j))))
+                ∙ ap (λ u. in_sector (w f) u (from_to v (other_end v g))) (sym (way-segment v e h (rise es sd e i)))
+                ∙ ap (λ u. in_sector (w f) (w e) u) (sym (way-segment v g hg (rise es sd g k)))
                 ∙ before-by f g j jg l (m.1.first g jg);
           },
         )

@@ -5,7 +5,7 @@ use Rattle.nesting.specs.Walk.{AreWalks, Follow, HasSameEdges, IsCycle, IsSucces
 use Rattle.plane.specs.Edge.{Edge}
 use Rattle.winding.specs.Member.{In}
 use Rattle.winding.specs.Sided.{IsSided}
-use Rattle.nesting.proofs.Nests.{in-flat}
+use Rattle.nesting.proofs.Nests.{in-edges}
 use Rattle.nesting.proofs.Parts.{Once, once-apart, same-back, same-in, same-once, sided-once}
 use Rattle.nesting.proofs.Pieces.{last-in}
 use Rattle.nesting.proofs.Successors.{next_one}
@@ -25,10 +25,6 @@ length-append (x ∷ xs) ys = let h = length-append xs ys in omega arith
 last-or : (x : Edge) (p : List Edge) → In (last x p) (x ∷ p)
 last-or x [] = inl refl
 last-or x (y ∷ ys) = inr (last-in x y ys)
-
-last-push : (x : Edge) (p : List Edge) (y : Edge) → last x (p ++ (y ∷ [])) ≡ y
-last-push x [] y = refl
-last-push x (q ∷ p) y = last-push q p y
 
 module _ (es : List Edge) (sd : IsSided es) where
   abbrev T : Edge → Edge → Type 0
@@ -160,7 +156,7 @@ module _ (es : List Edge) (sd : IsSided es) where
       let r = from-list es refl in (
         r.0,
         record {
-          walk = λ w i. record { here = λ e j. same-in (edges_of r.0) es r.2 e (in-flat r.0 w e i j); cycle = r.1 w i };
+          walk = λ w i. record { here = λ e j. same-in (edges_of r.0) es r.2 e (in-edges r.0 w e i j); cycle = r.1 w i };
           whole = r.2;
         },
       )

@@ -19,7 +19,9 @@ covers_edge es t = not (is_even (crossing_count (from_to t.from t.to) t.from (aw
 
 -- at each point, between two edges of the one list there is an even number of edges of the other
 abbrev pub DoNotCross : List Edge → List Edge → Type 0
-DoNotCross ss es = (v : Vector) (s t : Edge) → In s ss → In t ss → ends_at v s ≡ true → ends_at v t ≡ true → spokes_in (from_to v (other_end v s)) (from_to v (other_end v t)) v es % 2 ≡ 0
+DoNotCross ss es =
+    (v : Vector) (s t : Edge) → In s ss → In t ss → ends_at v s ≡ true → ends_at v t ≡ true →
+    spokes_in (from_to v (other_end v s)) (from_to v (other_end v t)) v es % 2 ≡ 0
 
 -- no edge of the one list conflicts with one of the other
 abbrev pub AreClear : List Edge → List Edge → Type 0

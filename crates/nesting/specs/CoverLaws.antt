@@ -10,17 +10,28 @@ use Rattle.winding.specs.Ring.{IsRing, segments_of}
 
 -- a list that a ring doesn't cross covers all edges of the ring or none
 abbrev pub CoverIsOneAlongRing : Type 0
-CoverIsOneAlongRing = (rs : List Edge) → IsRing rs → (es : List Edge) → IsConflictFree (segments_of rs) → IsConflictFree es → IsEvenAtPoints es → AreClear (segments_of rs) es → DoNotCross (segments_of rs) es →
-    (s t : Edge) → In s (segments_of rs) → In t (segments_of rs) → covers_edge es s ≡ covers_edge es t
+CoverIsOneAlongRing =
+    (rs : List Edge) → IsRing rs → (es : List Edge) → IsConflictFree (segments_of rs) → IsConflictFree es →
+    IsEvenAtPoints es → AreClear (segments_of rs) es → DoNotCross (segments_of rs) es → (s t : Edge) →
+    In s (segments_of rs) → In t (segments_of rs) → covers_edge es s ≡ covers_edge es t
 
 -- of two lists not each covers all edges of the other
 abbrev pub NotEachCoversOther : Type 0
-NotEachCoversOther = (ss es : List Edge) → AreConflictFree ss es → (x : Edge) → In x ss → ((s : Edge) → In s ss → covers_edge es s ≡ true) → ((t : Edge) → In t es → covers_edge ss t ≡ true) → ⊥
+NotEachCoversOther =
+    (ss es : List Edge) → AreConflictFree ss es → (x : Edge) → In x ss →
+    ((s : Edge) → In s ss → covers_edge es s ≡ true) → ((t : Edge) → In t es → covers_edge ss t ≡ true) → ⊥
 
 -- a list that covers all edges of another one covers what the other covers
 abbrev pub CoverOfEdgesIsCover : Type 0
-CoverOfEdgesIsCover = (ss es : List Edge) → AreConflictFree ss es → (p : Vector) → ((s : Edge) → In s ss → covers_edge es s ≡ true) → ((s t : Edge) → In s es → In t es → covers_edge ss s ≡ covers_edge ss t) → covers ss p ≡ true → covers es p ≡ true
+CoverOfEdgesIsCover =
+    (ss es : List Edge) → AreConflictFree ss es → (p : Vector) →
+    ((s : Edge) → In s ss → covers_edge es s ≡ true) →
+    ((s t : Edge) → In s es → In t es → covers_edge ss s ≡ covers_edge ss t) → covers ss p ≡ true →
+    covers es p ≡ true
 
 -- two lists neither of which covers an edge of the other cover no point in common
 abbrev pub ApartCoverNothingInCommon : Type 0
-ApartCoverNothingInCommon = (ss es : List Edge) → AreConflictFree ss es → (p : Vector) → ((s : Edge) → In s ss → covers_edge es s ≡ false) → ((t : Edge) → In t es → covers_edge ss t ≡ false) → covers ss p ≡ true → covers es p ≡ true → ⊥
+ApartCoverNothingInCommon =
+    (ss es : List Edge) → AreConflictFree ss es → (p : Vector) →
+    ((s : Edge) → In s ss → covers_edge es s ≡ false) → ((t : Edge) → In t es → covers_edge ss t ≡ false) →
+    covers ss p ≡ true → covers es p ≡ true → ⊥

@@ -2,6 +2,7 @@ pub mod Cover
 pub mod CoverLaws
 pub mod Nesting
 pub mod NestingLaws
+pub mod Polygon
 pub mod PolygonLaws
 pub mod RingList
 pub mod Rotated

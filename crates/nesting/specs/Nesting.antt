@@ -1,6 +1,6 @@
 -- Lists of rings as lists of segments, and which ring encloses which.
 use Rattle.std.specs.Prelude.{Bool, List, [], false, not, true, ℕ, ◌&&◌, ◌++◌, ◌||◌, ◌∷◌, ◌≡◌, ◌⊎◌}
-use Rattle.std.specs.List.{count_by, filter}
+use Rattle.std.specs.List.{count_by}
 use Rattle.nesting.specs.Cover.{covers_edge}
 use Rattle.plane.specs.Edge.{Edge, same_edge}
 use Rattle.plane.specs.Height.{is_right_above, order_above}
@@ -38,25 +38,30 @@ pub record IsNest (gs : List (List Edge)) : Type 0 where
 abbrev pub is_outer : List (List Edge) → Edge → Bool
 is_outer gs s = not (runs_up (edges_of gs) s)
 
--- m is the nearest of the edges of a list that are right of e just above its lower end
-pub record IsNearest (e m : Edge) (es : List Edge) : Type 0 where
-  pub member : In m es
-  pub right : is_right_above e.from e m ≡ true
-  pub first : (f : Edge) → In f es → is_right_above e.from e f ≡ true → (f ≡ m) ⊎ (is_plus (order_above e.from m f) ≡ true)
-
--- g is outer and encloses the ring with the anchor e, and has the nearest edge among the outer rings that do
-pub record EnclosesDirectly (gs : List (List Edge)) (outer : List Edge → Bool) (g : List Edge) (e : Edge) : Type 0 where
-  pub member : In g gs
-  pub is : outer g ≡ true
-  pub around : encloses g e ≡ true
-  pub edge : Edge
-  pub here : In edge g
-  pub nearest : IsNearest e edge (edges_of (filter (λ (h : List Edge). outer h && encloses h e) gs))
-
--- a test for the outer rings
+-- a test that tells the outer rings from the inner ones
 abbrev pub TellsOuter : List (List Edge) → (List Edge → Bool) → Type 0
 TellsOuter gs outer = (g : List Edge) → In g gs → (a : Edge) → IsAnchor a g → outer g ≡ is_outer gs a
 
--- an anchor of each ring
-abbrev pub HasAnchors : List (List Edge) → Type 0
-HasAnchors gs = (g : List Edge) → In g gs → (a : Edge) × IsAnchor a g
+pub record IsOuterRing (gs : List (List Edge)) (g : List Edge) : Type 0 where
+  pub anchor : Edge
+  pub anchors : IsAnchor anchor g
+  pub down : is_outer gs anchor ≡ true
+
+pub record IsInnerRing (gs : List (List Edge)) (h : List Edge) : Type 0 where
+  pub anchor : Edge
+  pub anchors : IsAnchor anchor h
+  pub up : is_outer gs anchor ≡ false
+
+-- g is outer and encloses h, and of the edges right of the anchor of h, among all outer rings that enclose h, the nearest belongs to g
+pub record EnclosesDirectly (gs : List (List Edge)) (g h : List Edge) : Type 0 where
+  pub outer : IsOuterRing gs g
+  pub anchor : Edge
+  pub anchors : IsAnchor anchor h
+  pub around : encloses g anchor ≡ true
+  pub edge : Edge
+  pub belongs : In edge g
+  pub right : is_right_above anchor.from anchor edge ≡ true
+  pub nearest :
+      (k : List Edge) → In k gs → IsOuterRing gs k → encloses k anchor ≡ true →
+      (f : Edge) → In f k → is_right_above anchor.from anchor f ≡ true →
+      (f ≡ edge) ⊎ (is_plus (order_above anchor.from edge f) ≡ true)

@@ -1,13 +1,11 @@
 -- Outer and inner rings, and which ring encloses which, as statements.
 use Rattle.std.specs.Prelude.{Bool, List, false, map, not, ◌&&◌, ◌+◌, ◌≡◌}
 use Rattle.std.specs.List.{count_by}
-use Rattle.nesting.specs.Nesting.{EnclosesDirectly, HasAnchors, IsNest, TellsOuter, depth, edges_of, encloses, has_edge, is_outer}
+use Rattle.nesting.specs.Nesting.{EnclosesDirectly, IsInnerRing, IsNest, TellsOuter, depth, edges_of, encloses, has_edge, is_outer}
 use Rattle.nesting.specs.RingList.{IsRingList}
 use Rattle.plane.specs.Bit.{bit}
-use Rattle.plane.specs.Edge.{Edge, segment_of}
+use Rattle.plane.specs.Edge.{Edge, is_rising, segment_of}
 use Rattle.plane.specs.Height.{is_right_above}
-use Rattle.plane.specs.Order.{order}
-use Rattle.plane.specs.Sign.{is_plus}
 use Rattle.winding.specs.Member.{In}
 use Rattle.winding.specs.Parity.{is_even}
 use Rattle.winding.specs.Ring.{IsAnchor, segments_of}
@@ -15,31 +13,51 @@ use Rattle.winding.specs.Ring.{IsAnchor, segments_of}
 abbrev pub RingListIsNest : Type 0
 RingListIsNest = (rs : List (List Edge)) → IsRingList rs → IsNest (map segments_of rs)
 
--- each ring of a ring list has an anchor
+-- each ring of a ring list has one anchor
 abbrev pub RingHasAnchor : Type 0
-RingHasAnchor = (rs : List (List Edge)) → IsRingList rs → HasAnchors (map segments_of rs)
+RingHasAnchor =
+    (rs : List (List Edge)) → IsRingList rs → (r : List Edge) → In r rs →
+    (a : Edge) × IsAnchor a (segments_of r) × ((b : Edge) → IsAnchor b (segments_of r) → b ≡ a)
 
 -- a ring of a ring list is outer where its anchor runs down
 abbrev pub OuterRunsDown : Type 0
-OuterRunsDown = (rs : List (List Edge)) → IsRingList rs → (e : Edge) → In e (edges_of rs) → is_outer (map segments_of rs) (segment_of e) ≡ not (is_plus (order e.from e.to))
+OuterRunsDown =
+    (rs : List (List Edge)) → IsRingList rs → (e : Edge) → In e (edges_of rs) →
+    is_outer (map segments_of rs) (segment_of e) ≡ not (is_rising e)
 
 -- a ring is outer exactly where an even number of rings enclose it
 abbrev pub OuterByDepth : Type 0
-OuterByDepth = (gs : List (List Edge)) → IsNest gs → (h : List Edge) (s : Edge) → In h gs → IsAnchor s h → is_outer gs s ≡ is_even (depth gs s)
+OuterByDepth =
+    (gs : List (List Edge)) → IsNest gs → (h : List Edge) (s : Edge) → In h gs → IsAnchor s h →
+    is_outer gs s ≡ is_even (depth gs s)
 
 -- a ring encloses another where an odd number of its edges are right of the other's anchor
 abbrev pub EnclosesByAnchor : Type 0
-EnclosesByAnchor = (gs : List (List Edge)) → IsNest gs → (g h : List Edge) → In g gs → In h gs → (e : Edge) → IsAnchor e h → has_edge g e ≡ false → encloses g e ≡ not (is_even (count_by (is_right_above e.from e) g))
+EnclosesByAnchor =
+    (gs : List (List Edge)) → IsNest gs → (g h : List Edge) → In g gs → In h gs → (e : Edge) →
+    IsAnchor e h → has_edge g e ≡ false →
+    encloses g e ≡ not (is_even (count_by (is_right_above e.from e) g))
 
 -- of the rings that enclose an outer ring as many are outer as inner, of those that enclose an inner ring one outer ring more
 abbrev pub EnclosingRingsBalance : Type 0
-EnclosingRingsBalance = (gs : List (List Edge)) → IsNest gs → (outer : List Edge → Bool) → TellsOuter gs outer → HasAnchors gs → (h : List Edge) → In h gs → (e : Edge) → IsAnchor e h →
-    count_by (λ (g : List Edge). encloses g e && outer g) gs ≡ count_by (λ (g : List Edge). encloses g e && not (outer g)) gs + bit (not (outer h))
+EnclosingRingsBalance =
+    (rs : List (List Edge)) → IsRingList rs → (outer : List Edge → Bool) →
+    TellsOuter (map segments_of rs) outer → (h : List Edge) → In h rs → (e : Edge) →
+    IsAnchor e (segments_of h) →
+    count_by (λ (g : List Edge). encloses g e && outer g) (map segments_of rs)
+    ≡ count_by (λ (g : List Edge). encloses g e && not (outer g)) (map segments_of rs) + bit (not (outer (segments_of h)))
 
 -- each inner ring is directly enclosed by an outer ring
 abbrev pub DirectEncloserExists : Type 0
-DirectEncloserExists = (gs : List (List Edge)) → IsNest gs → (outer : List Edge → Bool) → TellsOuter gs outer → HasAnchors gs → (h : List Edge) → In h gs → (e : Edge) → IsAnchor e h → outer h ≡ false → (g : List Edge) × EnclosesDirectly gs outer g e
+DirectEncloserExists =
+    (rs : List (List Edge)) → IsRingList rs → (h : List Edge) → In h rs →
+    IsInnerRing (map segments_of rs) (segments_of h) →
+    (r : List Edge) × In r rs × EnclosesDirectly (map segments_of rs) (segments_of r) (segments_of h)
 
 -- and by no other
 abbrev pub DirectEncloserIsOne : Type 0
-DirectEncloserIsOne = (gs : List (List Edge)) → IsNest gs → (outer : List Edge → Bool) → TellsOuter gs outer → HasAnchors gs → (h : List Edge) → In h gs → (e : Edge) → IsAnchor e h → outer h ≡ false → (f g : List Edge) → EnclosesDirectly gs outer f e → EnclosesDirectly gs outer g e → f ≡ g
+DirectEncloserIsOne =
+    (rs : List (List Edge)) → IsRingList rs → (h r s : List Edge) → In h rs → In r rs → In s rs →
+    IsInnerRing (map segments_of rs) (segments_of h) →
+    EnclosesDirectly (map segments_of rs) (segments_of r) (segments_of h) →
+    EnclosesDirectly (map segments_of rs) (segments_of s) (segments_of h) → r ≡ s

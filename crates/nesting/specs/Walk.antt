@@ -14,7 +14,9 @@ pub record IsNextClockwise (v : Vector) (e f : Edge) (es : List Edge) : Type 0 w
   pub member : In f es
   pub meets : ends_at v f ≡ true
   pub other : same_edge e f ≡ false
-  pub first : (g : Edge) → In g es → ends_at v g ≡ true → same_edge e g ≡ false → same_edge f g ≡ false → in_sector (from_to v (other_end v f)) (from_to v (other_end v e)) (from_to v (other_end v g)) ≡ 0
+  pub first :
+      (g : Edge) → In g es → ends_at v g ≡ true → same_edge e g ≡ false → same_edge f g ≡ false →
+      in_sector (from_to v (other_end v f)) (from_to v (other_end v e)) (from_to v (other_end v g)) ≡ 0
 
 -- f is the successor of e: the first on turning clockwise at the end of e from the direction back along it
 abbrev pub IsSuccessor : List Edge → Edge → Edge → Type 0
@@ -56,7 +58,9 @@ HasSameEdges xs ys = (f : Edge → ℕ) → sum_by f xs ≡ sum_by f ys
 
 -- rs covers all edges of ss or none
 abbrev pub CoversAllOrNone : List Edge → List Edge → Type 0
-CoversAllOrNone rs ss = (x y : Edge) → In x ss → In y ss → covers_edge (segments_of rs) (segment_of x) ≡ covers_edge (segments_of rs) (segment_of y)
+CoversAllOrNone rs ss =
+    (x y : Edge) → In x ss → In y ss →
+    covers_edge (segments_of rs) (segment_of x) ≡ covers_edge (segments_of rs) (segment_of y)
 
 -- a list of walks of es that together hold each edge of es once
 pub record AreWalks (es : List Edge) (ws : List (List Edge)) : Type 0 where

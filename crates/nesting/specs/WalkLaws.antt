@@ -16,12 +16,17 @@ use Rattle.winding.specs.Sided.{IsSided}
 
 -- round a point of a sided list edges enter and leave by turns
 abbrev pub EdgesAlternate : Type 0
-EdgesAlternate = (es : List Edge) → IsSided es → (v : Vector) (e f : Edge) → In e es → ends_at v e ≡ true → IsNextClockwise v e f es → same_point v f.from ≡ not (same_point v e.from)
+EdgesAlternate =
+    (es : List Edge) → IsSided es → (v : Vector) (e f : Edge) → In e es → ends_at v e ≡ true →
+    IsNextClockwise v e f es → same_point v f.from ≡ not (same_point v e.from)
 
 -- a list that holds neither of two neighbours round a point covers both or none
 abbrev pub NeighboursAreCoveredAlike : Type 0
-NeighboursAreCoveredAlike = (es : List Edge) → IsSided es → (v : Vector) (e f : Edge) → In e es → ends_at v e ≡ true → IsNextClockwise v e f es →
-    (rs : List Edge) → ((x : Edge) → In x rs → In x es) → IsConflictFree (segments_of rs) → IsEvenAtPoints (segments_of rs) → (In e rs → ⊥) → (In f rs → ⊥) → covers_edge (segments_of rs) (segment_of e) ≡ covers_edge (segments_of rs) (segment_of f)
+NeighboursAreCoveredAlike =
+    (es : List Edge) → IsSided es → (v : Vector) (e f : Edge) → In e es → ends_at v e ≡ true →
+    IsNextClockwise v e f es → (rs : List Edge) → ((x : Edge) → In x rs → In x es) →
+    IsConflictFree (segments_of rs) → IsEvenAtPoints (segments_of rs) → (In e rs → ⊥) → (In f rs → ⊥) →
+    covers_edge (segments_of rs) (segment_of e) ≡ covers_edge (segments_of rs) (segment_of f)
 
 -- each edge has a successor
 abbrev pub SuccessorExists : Type 0
@@ -29,15 +34,20 @@ SuccessorExists = (es : List Edge) → IsSided es → (e : Edge) → In e es →
 
 -- and one alone
 abbrev pub SuccessorIsOne : Type 0
-SuccessorIsOne = (es : List Edge) → IsSided es → (e f g : Edge) → In e es → IsSuccessor es e f → IsSuccessor es e g → f ≡ g
+SuccessorIsOne =
+    (es : List Edge) → IsSided es → (e f g : Edge) → In e es → IsSuccessor es e f → IsSuccessor es e g →
+    f ≡ g
 
 -- it leaves the point that its edge enters
 abbrev pub SuccessorLeaves : Type 0
-SuccessorLeaves = (es : List Edge) → IsSided es → (e f : Edge) → In e es → IsSuccessor es e f → e.to ≡ f.from
+SuccessorLeaves =
+    (es : List Edge) → IsSided es → (e f : Edge) → In e es → IsSuccessor es e f → e.to ≡ f.from
 
 -- no edge is the successor of two
 abbrev pub SuccessorIsOneToOne : Type 0
-SuccessorIsOneToOne = (es : List Edge) → IsSided es → (d e f : Edge) → In d es → In e es → IsSuccessor es d f → IsSuccessor es e f → d ≡ e
+SuccessorIsOneToOne =
+    (es : List Edge) → IsSided es → (d e f : Edge) → In d es → In e es → IsSuccessor es d f →
+    IsSuccessor es e f → d ≡ e
 
 -- the edges of a sided list are parted into walks
 abbrev pub WalksExist : Type 0
@@ -45,19 +55,27 @@ WalksExist = (es : List Edge) → IsSided es → (ws : List (List Edge)) × AreW
 
 -- each piece that is cut off the walks is a ring, of edges of one walk
 abbrev pub PieceIsRingOfOneWalk : Type 0
-PieceIsRingOfOneWalk = (es : List Edge) → IsSided es → (ws rs : List (List Edge)) → AreWalks es ws → AreCuts ws rs → (r : List Edge) → In r rs → IsRing r × ((w : List Edge) × In w ws × ((x : Edge) → In x r → In x w))
+PieceIsRingOfOneWalk =
+    (es : List Edge) → IsSided es → (ws rs : List (List Edge)) → AreWalks es ws → AreCuts ws rs →
+    (r : List Edge) → In r rs → IsRing r × ((w : List Edge) × In w ws × ((x : Edge) → In x r → In x w))
 
 -- the pieces together hold each edge once
 abbrev pub PiecesHoldEachEdge : Type 0
-PiecesHoldEachEdge = (es : List Edge) → IsSided es → (ws rs : List (List Edge)) → AreWalks es ws → AreCuts ws rs → HasSameEdges (edges_of rs) es
+PiecesHoldEachEdge =
+    (es : List Edge) → IsSided es → (ws rs : List (List Edge)) → AreWalks es ws → AreCuts ws rs →
+    HasSameEdges (edges_of rs) es
 
 -- of each two pieces each covers all edges of the other or none
 abbrev pub PiecesCoverAllOrNone : Type 0
-PiecesCoverAllOrNone = (es : List Edge) → IsSided es → (ws rs : List (List Edge)) → AreWalks es ws → AreCuts ws rs → EachPair (λ (r s : List Edge). CoversAllOrNone r s × CoversAllOrNone s r) rs
+PiecesCoverAllOrNone =
+    (es : List Edge) → IsSided es → (ws rs : List (List Edge)) → AreWalks es ws → AreCuts ws rs →
+    EachPair (λ (r s : List Edge). CoversAllOrNone r s × CoversAllOrNone s r) rs
 
 -- the pieces are a ring list
 abbrev pub PiecesAreRingList : Type 0
-PiecesAreRingList = (es : List Edge) → IsSided es → (ws rs : List (List Edge)) → AreWalks es ws → AreCuts ws rs → IsRingList rs
+PiecesAreRingList =
+    (es : List Edge) → IsSided es → (ws rs : List (List Edge)) → AreWalks es ws → AreCuts ws rs →
+    IsRingList rs
 
 -- the stack cuts each closed path into such pieces
 abbrev pub StackCuts : Type 0
@@ -65,11 +83,13 @@ StackCuts = (a : Vector) (w : List Edge) → IsPath a w a → Cuts w (cut_off []
 
 -- what it cuts off the walks is a ring list
 abbrev pub StackGivesRingList : Type 0
-StackGivesRingList = (es : List Edge) → IsSided es → (ws : List (List Edge)) → AreWalks es ws → IsRingList (cut_all ws)
+StackGivesRingList =
+    (es : List Edge) → IsSided es → (ws : List (List Edge)) → AreWalks es ws → IsRingList (cut_all ws)
 
 -- so every sided list has a ring list
 abbrev pub RingListExists : Type 0
-RingListExists = (es : List Edge) → IsSided es → (rs : List (List Edge)) × IsRingList rs × HasSameEdges (edges_of rs) es
+RingListExists =
+    (es : List Edge) → IsSided es → (rs : List (List Edge)) × IsRingList rs × HasSameEdges (edges_of rs) es
 
 -- a ring list stays one where its rings begin at other edges
 abbrev pub RotatedIsRingList : Type 0

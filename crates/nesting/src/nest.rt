@@ -1,7 +1,7 @@
 //! Which ring encloses which.
 ghost use Rattle.nesting.specs.NestingLaws.{RingListIsNest, RingHasAnchor, OuterRunsDown, OuterByDepth, EnclosesByAnchor, EnclosingRingsBalance, DirectEncloserExists, DirectEncloserIsOne};
 
-/// The rings of a ring list are a nest, and each has an anchor.
+/// The rings of a ring list are a nest, and each has exactly one anchor.
 pub fn ring_list_is_nest()
     ensures nest { RingListIsNest }
     ensures anchor { RingHasAnchor }

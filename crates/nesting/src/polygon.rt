@@ -1,19 +1,19 @@
-//! Polygons.
-ghost use Rattle.nesting.specs.PolygonLaws.{InnerRingsCoverWithin, InnerRingsCoverWithinAtFractions, PolygonWindsOnceOrNot, PolygonWindsOnceOrNotAtFractions, AtMostOnePolygonCovers, AtMostOnePolygonCoversAtFractions, ScaledIsRingList};
+//! Polygons: an outer ring with the inner rings that it directly encloses.
+ghost use Rattle.nesting.specs.PolygonLaws.{PolygonWindsByCover, PolygonWindsByCoverAtFractions, PolygonsCoverAsRingList, PolygonsCoverAsRingListAtFractions, PolygonIsSided, PolygonsExist, ScaledIsRingList};
 
-/// The winding number of a polygon is everywhere 0 or 1: at most one of its inner rings covers a point, and only where its
-/// outer ring does.
-pub fn polygon_winds_once_or_not()
-    ensures inner { InnerRingsCoverWithin }
-    ensures inner_at_fractions { InnerRingsCoverWithinAtFractions }
-    ensures winding { PolygonWindsOnceOrNot }
-    ensures winding_at_fractions { PolygonWindsOnceOrNotAtFractions }
+/// The winding number of a polygon is 1 where it covers a point and 0 elsewhere; so it is a sided list itself.
+pub fn polygon_winds_by_cover()
+    ensures winding { PolygonWindsByCover }
+    ensures winding_at_fractions { PolygonWindsByCoverAtFractions }
+    ensures sided { PolygonIsSided }
 {}
 
-/// No point is covered by two polygons of a ring list.
-pub fn polygons_cover_once()
-    ensures cover { AtMostOnePolygonCovers }
-    ensures cover_at_fractions { AtMostOnePolygonCoversAtFractions }
+/// Polygons that have each edge of a ring list once cover together what the ring list covers, and no point twice. Every ring
+/// list has such polygons.
+pub fn polygons_cover_as_ring_list()
+    ensures cover { PolygonsCoverAsRingList }
+    ensures cover_at_fractions { PolygonsCoverAsRingListAtFractions }
+    ensures exist { PolygonsExist }
 {}
 
 /// A ring list multiplied by a positive number is a ring list.

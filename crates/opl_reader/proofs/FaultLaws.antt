@@ -1,11 +1,10 @@
 -- The fault of a line is that of what comes first that has no reading, and the other way round.
-use Rattle.std.proofs.Common.{◌≡◌, ℕ, Bool, true, false, cond, eqb, List, [], ◌∷◌, ◌++◌, ◌⊎◌, get_or, Option, Some, None, Result, Ok, Err, ℤ, refl, sym, ap, subst, ◌∙◌, inl, inr}
+use Rattle.std.proofs.Common.{◌≡◌, ℕ, Bool, true, false, cond, eqb, List, [], ◌∷◌, ◌++◌, get_or, Option, Some, None, Result, Ok, Err, ℤ, refl, sym, ap, subst, ◌∙◌, inl, inr}
 use Rattle.std.specs.Str.{is_utf8}
 use Rattle.std.specs.Str.Lossy.{utf8_valid_len}
 use Rattle.std.proofs.lemmas.Bool.{cases_Bool, or_parts, eqb-false, ne_eqb, false_from_ne_true, false≢true}
 use Rattle.std.proofs.lemmas.Option.{none-some}
 use Rattle.std.proofs.lemmas.Str.{is_utf8-from_IsUtf8, IsUtf8-from_is_utf8}
-use Rattle.opl_reader.specs.declared.fault.FaultKind.{FaultKind}
 use Rattle.opl_reader.specs.declared.fault.FaultKind.TheVariants.{NotUtf8, UnknownObject, BadNumber}
 use Rattle.opl_reader.specs.declared.fault.LineFault.{LineFault}
 use Rattle.opl_reader.specs.declared.object.ObjectKind.{ObjectKind}
@@ -19,22 +18,19 @@ use Rattle.opl_reader.specs.Fields.{Told, nothing, object_of}
 use Rattle.opl_reader.specs.NumberReading.{id_of}
 use Rattle.opl_reader.specs.FieldReading.{with_field, with_fields}
 use Rattle.opl_reader.specs.LineReading.{fields_from, head_at, is_passed_over, object_at, reading_of, reading}
-use Rattle.opl_reader.specs.Faults.{FirstFault, seen_after, fault_at, IsKept, ObjectFault, HasFault}
+use Rattle.opl_reader.specs.Faults.{FirstFault, seen_after, fault_at, BadField, IsKept, ObjectFault, HasFault}
+use Rattle.opl_reader.proofs.BadLaws.{bind_err, or_fault_err, none_of, field_bad, bad_field}
 use Rattle.opl_reader.proofs.DecimalLaws.{id_is, is_id}
 use Rattle.opl_reader.proofs.PartedLaws.{parted, is_parted}
 use Rattle.opl_reader.proofs.ItemLaws.{or_fault_ok}
 use Rattle.opl_reader.proofs.LineLaws.{field_tells, tells_field, head_is}
-
-bind_err : {A B : Type 0} (r : Result A LineFault) (g : A → Result B LineFault) (x : LineFault) → (r >>= g) ≡ Err x → (r ≡ Err x) ⊎ ((y : A) × (r ≡ Ok y) × (g y ≡ Err x))
-bind_err (Ok y) g x e = inr (y, refl, e)
-bind_err (Err f) g x e = inl (cc)
 
 pub fault_is_first : (kind : ObjectKind) (seen : List ℕ) (fields : List Part) (c : Content) (x : LineFault) → with_fields kind seen fields c ≡ Err x → FirstFault kind seen fields c x
 unfolding with_fields
 fault_is_first kind seen [] c x e = absurd cc
 fault_is_first kind seen (f ∷ fields) c x e =
     elim (bind_err (with_field kind seen f.at f.bytes c) (with_fields kind (get_or f.bytes 0 0 ∷ seen) fields) x e) [
-      | inl here ↦ record { before = []; field = f; after = fields; content = c; parts = refl; told = refl; fault = here }
+      | inl here ↦ record { before = []; field = f; after = fields; content = c; parts = refl; told = refl; bad = field_bad kind seen f.at f.bytes c x here }
       | inr on ↦
           let rest = fault_is_first kind (get_or f.bytes 0 0 ∷ seen) fields on.0 x on.2 in
           record {
@@ -44,31 +40,24 @@ fault_is_first kind seen (f ∷ fields) c x e =
             content = rest.content;
             parts = ap (λ (fs : List Part). f ∷ fs) rest.parts;
             told = (on.0, field_tells kind seen f.at f.bytes c on.0 on.1, rest.told);
-            fault = rest.fault;
+            bad = rest.bad;
           }
     ]
 
-first_from : (kind : ObjectKind) (seen : List ℕ) (before : List Part) (f : Part) (after : List Part) (c d : Content) (x : LineFault) → Told kind seen before c d → with_field kind (seen_after seen before) f.at f.bytes d ≡ Err x → with_fields kind seen (before ++ f ∷ after) c ≡ Err x
+first_from : (kind : ObjectKind) (seen : List ℕ) (before : List Part) (f : Part) (after : List Part) (c d : Content) (x : LineFault) → Told kind seen before c d → BadField kind (seen_after seen before) f x → with_fields kind seen (before ++ f ∷ after) c ≡ Err x
 unfolding with_fields
-first_from kind seen [] f after c d x told fault = ap (λ (e : Content). with_field kind seen f.at f.bytes e >>= with_fields kind (get_or f.bytes 0 0 ∷ seen) after) told ∙ rw fault refl
+first_from kind seen [] f after c d x told fault =
+    ap (λ (e : Content). with_field kind seen f.at f.bytes e >>= with_fields kind (get_or f.bytes 0 0 ∷ seen) after) told ∙ rw (bad_field kind seen f.at f.bytes d x fault) refl
 first_from kind seen (b ∷ before) f after c d x told fault =
     rw (tells_field kind seen b.at b.bytes c told.0 told.1) (first_from kind (get_or b.bytes 0 0 ∷ seen) before f after told.0 d x told.2 fault)
 
 pub first_is_fault : (kind : ObjectKind) (seen : List ℕ) (fields : List Part) (c : Content) (x : LineFault) → FirstFault kind seen fields c x → with_fields kind seen fields c ≡ Err x
-first_is_fault kind seen fields c x first = ap (λ (fs : List Part). with_fields kind seen fs c) first.parts ∙ first_from kind seen first.before first.field first.after c first.content x first.told first.fault
+first_is_fault kind seen fields c x first = ap (λ (fs : List Part). with_fields kind seen fs c) first.parts ∙ first_from kind seen first.before first.field first.after c first.content x first.told first.bad
 
 -- ---- the first field
 
-or_fault_err : {A : Type 0} (kind : FaultKind) (place : ℕ) (o : Option A) (x : LineFault) → or_fault kind place o ≡ Err x → (o ≡ None) × (x ≡ fault_at kind place)
-or_fault_err kind place None x e = (refl, sym cc)
-or_fault_err kind place (Some y) x e = absurd cc
-
 no_id : (digits : List ℕ) → id_of digits ≡ None → (id : ℤ) → IsId digits id → ⊥
 no_id digits e id is = none-some id (sym e ∙ is_id digits id is)
-
-none_of : {A : Type 0} (o : Option A) → ((x : A) → o ≡ Some x → ⊥) → o ≡ None
-none_of None h = refl
-none_of (Some x) h = absurd (h x refl)
 
 id_none : (digits : List ℕ) → ((id : ℤ) → IsId digits id → ⊥) → id_of digits ≡ None
 id_none digits h = none_of (id_of digits) (λ id e. h id (id_is digits id e))

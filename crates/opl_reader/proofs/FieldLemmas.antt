@@ -14,10 +14,11 @@ use Rattle.opl_reader.specs.declared.object.ObjectKind.{ObjectKind}
 use Rattle.opl_reader.specs.declared.object.ObjectKind.TheVariants.{Node, Way, Relation}
 use Rattle.opl_reader.specs.declared.content.Content.{Content}
 use Rattle.opl_reader.specs.Reading.{Fails, no_reading}
-use Rattle.opl_reader.specs.Fields.{table_of, letter_of, nothing}
+use Rattle.opl_reader.specs.Fields.{letter_of, nothing}
 use Rattle.opl_reader.specs.FieldReading.{with_field, with_fields}
 use Rattle.opl_reader.specs.LineReading.{fields_from}
-use Rattle.opl_reader.specs.Steps.{Marks}
+use Rattle.opl_reader.specs.Steps.{Marks, table_of}
+use Rattle.opl_reader.proofs.LetterLaws.{by_table}
 
 -- ---- letters of the tables are ASCII
 
@@ -34,8 +35,7 @@ tables_small Way = refl
 tables_small Relation = refl
 
 far_letter : (kind : ObjectKind) (letter : ℕ) → 128 ≤ letter → letter_of kind letter ≡ None
-unfolding letter_of
-far_letter kind letter far = rw (far_code (table_of kind) letter (tables_small kind) far) refl
+far_letter kind letter far = by_table kind letter ∙ rw (far_code (table_of kind) letter (tables_small kind) far) refl
 
 pub no_letter : (kind : ObjectKind) (letters : List ℕ) (place : ℕ) (field : List ℕ) (c : Content) → IsUtf8 field → (IsCharBoundary field 1 → ⊥) → with_field kind letters place field c ≡ no_reading UnknownField place
 unfolding with_field

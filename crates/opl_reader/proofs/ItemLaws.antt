@@ -17,7 +17,7 @@ use Rattle.opl_reader.specs.Reading.{◌>>=◌, or_fault}
 use Rattle.opl_reader.specs.Parts.{Lacks}
 use Rattle.opl_reader.specs.Numbers.{IsId}
 use Rattle.opl_reader.specs.Strings.{IsString}
-use Rattle.opl_reader.specs.Items.{kind_of, Each, IsItems, IsTag, IsRef, IsMember}
+use Rattle.opl_reader.specs.Items.{kind_of, Each, IsItems, IsTag, IsRef, HasTarget, IsMember}
 use Rattle.opl_reader.specs.NumberReading.{id_of}
 use Rattle.opl_reader.specs.StringReading.{string_of, string_at}
 use Rattle.opl_reader.specs.ItemReading.{placed, is_comma, items, each, halves, tag_at, ref_of, ref_at, target_of, member_at}
@@ -46,7 +46,7 @@ ok_string place bytes text s = ap (or_fault BadEscape place) (spelled_is_read by
 
 -- ---- two halves
 
-halves_are : (b : ℕ) (bytes : List ℕ) (parts : List ℕ × List ℕ) → halves b bytes ≡ Some parts → (bytes ≡ parts.0 ++ b ∷ parts.1) × Lacks b parts.0
+pub halves_are : (b : ℕ) (bytes : List ℕ) (parts : List ℕ × List ℕ) → halves b bytes ≡ Some parts → (bytes ≡ parts.0 ++ b ∷ parts.1) × Lacks b parts.0
 halves_are b bytes parts e =
     let p : ℕ → Bool = λ x. eqb x b in
     let s = cond_some (ltb (position_or_len p bytes) (length bytes)) (before_first p bytes, after_first p bytes) parts e in
@@ -58,7 +58,7 @@ halves_are b bytes parts e =
     eqb-false _ _ (fails_before_first p bytes k d inside) (sym (get_or-take n bytes k d inside) ∙ is) in
     subst (λ (q : List ℕ × List ℕ). (bytes ≡ q.0 ++ b ∷ q.1) × Lacks b q.0) s.1 (whole, front)
 
-are_halves : (b : ℕ) (front back : List ℕ) → Lacks b front → halves b (front ++ b ∷ back) ≡ Some (front, back)
+pub are_halves : (b : ℕ) (front back : List ℕ) → Lacks b front → halves b (front ++ b ∷ back) ≡ Some (front, back)
 are_halves b front back lacks =
     let p : ℕ → Bool = λ x. eqb x b in
     let all = front ++ b ∷ back in
@@ -142,8 +142,23 @@ pub is_ref : (place : ℕ) (bytes : List ℕ) (id : ℤ) → IsRef bytes id → 
 unfolding ref_at ref_of
 is_ref place bytes id h = ap (λ (b : List ℕ). or_fault BadReference place (ref_of b)) h.1 ∙ ap (or_fault BadReference place) (is_id h.0 id h.2)
 
+pub target_is : (bytes front role : List ℕ) (kind : ObjectKind) (id : ℤ) → bytes ≡ front ++ 64 ∷ role → Lacks 64 front → target_of front ≡ Some (kind, id) → HasTarget bytes role kind id
+unfolding target_of
+target_is bytes [] role kind id parts lacks e = absurd cc
+target_is bytes (letter ∷ digits) role kind id parts lacks e =
+    let a = and_then_some (kind_of letter) (λ k. option_map (λ i. (k, i)) (id_of digits)) (kind, id) e in
+    let b = map_some (id_of digits) (λ i. (a.0, i)) (kind, id) a.2 in
+    let k : a.0 ≡ kind = ap (λ (q : ObjectKind × ℤ). q.0) b.2 in
+    let i : b.0 ≡ id = ap (λ (q : ObjectKind × ℤ). q.1) b.2 in
+    record { letter = letter; digits = digits; parts = parts; first = lacks; kind_is = a.1 ∙ ap (λ (x : ObjectKind). Some x) k; id_is = subst (IsId digits) i (id_is digits b.0 b.1) }
+
+pub is_target : (bytes role : List ℕ) (kind : ObjectKind) (id : ℤ) → HasTarget bytes role kind id → (front : List ℕ) × (halves 64 bytes ≡ Some (front, role)) × (target_of front ≡ Some (kind, id))
+unfolding target_of
+is_target bytes role kind id h =
+    (h.letter ∷ h.digits, ap (halves 64) h.parts ∙ are_halves 64 (h.letter ∷ h.digits) role h.first, rw (h.kind_is, is_id h.digits id h.id_is) refl)
+
 pub member_is : (place : ℕ) (bytes : List ℕ) (m : Member) → member_at place bytes ≡ Ok m → IsMember bytes m
-unfolding member_at target_of
+unfolding member_at
 member_is place bytes m e =
     let a = bind_ok (or_fault BadMember place (halves 64 bytes)) (λ parts. or_fault BadMember place (target_of parts.0) >>= λ target. string_at place parts.1 >>= λ role. Ok (record { kind = target.0; id = target.1; role = role })) m e in
     let b = bind_ok (or_fault BadMember place (target_of a.0.0)) (λ target. string_at place a.0.1 >>= λ role. Ok (record { kind = target.0; id = target.1; role = role })) m a.2 in
@@ -151,19 +166,11 @@ member_is place bytes m e =
     let made : Member = record { kind = b.0.0; id = b.0.1; role = c.0 } in
     let same : made ≡ m = cc in
     let h = halves_are 64 bytes a.0 (or_fault_ok BadMember place (halves 64 bytes) a.0 a.1) in
-    subst (IsMember bytes) same (of_target bytes a.0.0 a.0.1 b.0.0 b.0.1 c.0 h.0 h.1 (or_fault_ok BadMember place (target_of a.0.0) b.0 b.1) (string_ok place a.0.1 c.0 c.1))
-  where
-    of_target : (bytes target role : List ℕ) (kind : ObjectKind) (id : ℤ) (text : List ℕ) → bytes ≡ target ++ 64 ∷ role → Lacks 64 target → target_of target ≡ Some (kind, id) → IsString role text → IsMember bytes (record { kind = kind; id = id; role = text })
-    of_target bytes [] role kind id text parts lacks e s = absurd cc
-    of_target bytes (letter ∷ digits) role kind id text parts lacks e s =
-        let a = and_then_some (kind_of letter) (λ k. option_map (λ i. (k, i)) (id_of digits)) (kind, id) e in
-        let b = map_some (id_of digits) (λ i. (a.0, i)) (kind, id) a.2 in
-        let k : a.0 ≡ kind = ap (λ (q : ObjectKind × ℤ). q.0) b.2 in
-        let i : b.0 ≡ id = ap (λ (q : ObjectKind × ℤ). q.1) b.2 in
-        record { letter = letter; digits = digits; role = role; parts = parts; first = lacks; kind_is = a.1 ∙ ap (λ (x : ObjectKind). Some x) k; id_is = subst (IsId digits) i (id_is digits b.0 b.1); role_is = s }
+    let target = target_is bytes a.0.0 a.0.1 b.0.0 b.0.1 h.0 h.1 (or_fault_ok BadMember place (target_of a.0.0) b.0 b.1) in
+    subst (IsMember bytes) same (record { role = a.0.1; target = target; role_is = string_ok place a.0.1 c.0 c.1 })
 
 pub is_member : (place : ℕ) (bytes : List ℕ) (m : Member) → IsMember bytes m → member_at place bytes ≡ Ok m
-unfolding member_at target_of
+unfolding member_at
 is_member place bytes m h =
-    let cut : halves 64 bytes ≡ Some (h.letter ∷ h.digits, h.role) = ap (halves 64) h.parts ∙ are_halves 64 (h.letter ∷ h.digits) h.role h.first in
-    rw (cut, h.kind_is, is_id h.digits m.id h.id_is, ok_string place h.role m.role h.role_is) refl
+    let t = is_target bytes h.role m.kind m.id h.target in
+    rw (t.1, t.2, ok_string place h.role m.role h.role_is) refl

@@ -5,6 +5,7 @@ pub mod StringLemmas
 pub mod ItemLemmas
 pub mod TagLemmas
 pub mod LineLemmas
+pub mod LetterLaws
 pub mod FieldLemmas
 pub mod ReadingLemmas
 pub mod PartedLaws
@@ -13,5 +14,7 @@ pub mod DecimalLaws
 pub mod PlaceLaws
 pub mod ItemLaws
 pub mod LineLaws
+pub mod BadLaws
 pub mod FaultLaws
 pub mod AnswerLaws
+pub mod KeyLaws

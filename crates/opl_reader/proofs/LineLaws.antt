@@ -53,7 +53,7 @@ count_is digits h =
 is_count_from : (digits : List ℕ) → IsCount digits → is_count digits ≡ true
 is_count_from digits h = rw (lt-ltb 0 (length digits) h.1, le-leb (length digits) 19 h.2) (are_digits digits h.0)
 
-number_is : (bytes : List ℕ) → is_number bytes ≡ true → IsNumber bytes
+pub number_is : (bytes : List ℕ) → is_number bytes ≡ true → IsNumber bytes
 unfolding is_number
 number_is [] h = inl refl
 number_is (b ∷ bytes) h =
@@ -62,7 +62,7 @@ number_is (b ∷ bytes) h =
       | inr ne ↦ inr (inl (count_is (b ∷ bytes) (rw (ne_eqb b 45 ne) at h)))
     ]
 
-is_number_from : (bytes : List ℕ) → IsNumber bytes → is_number bytes ≡ true
+pub is_number_from : (bytes : List ℕ) → IsNumber bytes → is_number bytes ≡ true
 unfolding is_number
 is_number_from bytes (inl none) = ap is_number none
 is_number_from [] (inr (inl count)) = absurd (omega (arith, count.1))
@@ -71,7 +71,7 @@ is_number_from (b ∷ bytes) (inr (inl count)) =
     rw (ne_eqb b 45 (λ e. absurd (omega arith))) (is_count_from (b ∷ bytes) count)
 is_number_from bytes (inr (inr signed)) = ap is_number signed.1 ∙ is_count_from signed.0 signed.2
 
-flag_is : (bytes : List ℕ) (live : Bool) → flag_of bytes ≡ Some live → IsFlag bytes live
+pub flag_is : (bytes : List ℕ) (live : Bool) → flag_of bytes ≡ Some live → IsFlag bytes live
 unfolding flag_of
 flag_is [] live e = absurd cc
 flag_is (b ∷ []) live e =
@@ -84,7 +84,7 @@ flag_is (b ∷ []) live e =
     ]
 flag_is (b ∷ c ∷ bytes) live e = absurd cc
 
-is_flag : (bytes : List ℕ) (live : Bool) → IsFlag bytes live → flag_of bytes ≡ Some live
+pub is_flag : (bytes : List ℕ) (live : Bool) → IsFlag bytes live → flag_of bytes ≡ Some live
 unfolding flag_of
 is_flag bytes live (inl v) = ap flag_of v.0 ∙ ap (λ (b : Bool). Some b) (sym v.1)
 is_flag bytes live (inr d) = ap flag_of d.0 ∙ ap (λ (b : Bool). Some b) (sym d.1)
@@ -100,27 +100,27 @@ coordinate_is {A = A} bytes o x e =
           inr (m.0, m.1, sym m.2)
     ]
 
-x_is : (bytes : List ℕ) (x : Option Longitude) → x_of bytes ≡ Some x → IsX bytes x
+pub x_is : (bytes : List ℕ) (x : Option Longitude) → x_of bytes ≡ Some x → IsX bytes x
 unfolding x_of
 x_is bytes x e = elim (coordinate_is bytes (option_and_then longitude (decimal_of (pos 1800000000) bytes)) x e) [
   | inl none ↦ inl none
   | inr l ↦ inr (l.0, longitude_is bytes l.0 l.1, l.2)
 ]
 
-y_is : (bytes : List ℕ) (y : Option Latitude) → y_of bytes ≡ Some y → IsY bytes y
+pub y_is : (bytes : List ℕ) (y : Option Latitude) → y_of bytes ≡ Some y → IsY bytes y
 unfolding y_of
 y_is bytes y e = elim (coordinate_is bytes (option_and_then latitude (decimal_of (pos 900000000) bytes)) y e) [
   | inl none ↦ inl none
   | inr l ↦ inr (l.0, latitude_is bytes l.0 l.1, l.2)
 ]
 
-is_x : (bytes : List ℕ) (x : Option Longitude) → IsX bytes x → x_of bytes ≡ Some x
+pub is_x : (bytes : List ℕ) (x : Option Longitude) → IsX bytes x → x_of bytes ≡ Some x
 unfolding x_of
 is_x bytes x (inl none) = ap x_of none.0 ∙ ap (λ (y : Option Longitude). Some y) (sym none.1)
 is_x bytes x (inr l) =
     rw (ne_eqb (length bytes) 0 (some_decimal bytes l.0.units l.1), is_longitude bytes l.0 l.1) (ap (λ (y : Option Longitude). Some y) (sym l.2))
 
-is_y : (bytes : List ℕ) (y : Option Latitude) → IsY bytes y → y_of bytes ≡ Some y
+pub is_y : (bytes : List ℕ) (y : Option Latitude) → IsY bytes y → y_of bytes ≡ Some y
 unfolding y_of
 is_y bytes y (inl none) = ap y_of none.0 ∙ ap (λ (z : Option Latitude). Some z) (sym none.1)
 is_y bytes y (inr l) =
@@ -163,13 +163,13 @@ guard_not : {A : Type 0} (b : Bool) (f : LineFault) (r : Result A LineFault) (y 
 guard_not true f r y e = absurd cc
 guard_not false f r y e = (refl, e)
 
-lacks_is : (letter : ℕ) (seen : List ℕ) → list_any (λ s. eqb s letter) seen ≡ false → Lacks letter seen
+pub lacks_is : (letter : ℕ) (seen : List ℕ) → list_any (λ s. eqb s letter) seen ≡ false → Lacks letter seen
 lacks_is letter [] h = All-nil (λ x. x ≢ letter)
 lacks_is letter (s ∷ seen) h =
     let p = or_parts (eqb s letter) (list_any (λ q. eqb q letter) seen) h in
     All-cons (λ x. x ≢ letter) s seen (eqb-false s letter p.0) (lacks_is letter seen p.1)
 
-is_lacks : (letter : ℕ) (seen : List ℕ) → Lacks letter seen → list_any (λ s. eqb s letter) seen ≡ false
+pub is_lacks : (letter : ℕ) (seen : List ℕ) → Lacks letter seen → list_any (λ s. eqb s letter) seen ≡ false
 is_lacks letter [] h = refl
 is_lacks letter (s ∷ seen) h = rw (ne_eqb s letter (All-head (λ x. x ≢ letter) s seen h)) (is_lacks letter seen (All-tail (λ x. x ≢ letter) s seen h))
 

@@ -1,25 +1,85 @@
 -- The fault of a line: the kind and the place of what comes first that has no reading.
-use Rattle.std.specs.Prelude.{◌≡◌, ◌≢◌, ℕ, ◌⊎◌, List, [], ◌∷◌, ◌++◌, ℤ, Some, None, slice_index, Err}
+use Rattle.std.specs.Prelude.{◌≡◌, ◌≢◌, ℕ, ◌+◌, ◌<◌, ◌⊎◌, Bool, List, [], ◌∷◌, ◌++◌, length, sum_by, ℤ, Option, Some, None, slice_index}
 use Rattle.std.specs.Str.{IsUtf8}
 use Rattle.std.specs.Str.Lossy.{utf8_valid_len}
 use Rattle.opl_reader.specs.declared.fault.FaultKind.{FaultKind}
-use Rattle.opl_reader.specs.declared.fault.FaultKind.TheVariants.{NotUtf8, UnknownObject, BadNumber}
+use Rattle.opl_reader.specs.declared.fault.FaultKind.TheVariants.{NotUtf8, UnknownObject, UnknownField, RepeatedField, BadNumber, BadFlag, BadCoordinate, BadEscape, BadTag, BadReference, BadMember}
 use Rattle.opl_reader.specs.declared.fault.LineFault.{LineFault}
 use Rattle.opl_reader.specs.declared.fault.LineError.{LineError}
 use Rattle.opl_reader.specs.declared.fault.LineError.TheVariants.{Fault, OutOfMemory}
 use Rattle.opl_reader.specs.declared.object.ObjectKind.{ObjectKind}
+use Rattle.opl_reader.specs.declared.field.Meaning.{Meaning}
+use Rattle.opl_reader.specs.declared.field.Meaning.TheVariants.{Count, Flag, Anything, Name, X, Y, Tagged, Referring, Having}
 use Rattle.opl_reader.specs.declared.content.Content.{Content}
-use Rattle.opl_reader.specs.Parts.{Part, without_cr, Parted}
-use Rattle.opl_reader.specs.Numbers.{IsId}
-use Rattle.opl_reader.specs.Items.{kind_of}
-use Rattle.opl_reader.specs.Fields.{nothing, Told}
-use Rattle.opl_reader.specs.FieldReading.{with_field}
+use Rattle.opl_reader.specs.declared.coordinate.Longitude.{Longitude}
+use Rattle.opl_reader.specs.declared.coordinate.Latitude.{Latitude}
+use Rattle.opl_reader.specs.Parts.{Part, without_cr, Lacks, Parted, PartedByCommas}
+use Rattle.opl_reader.specs.Numbers.{IsId, IsNumber}
+use Rattle.opl_reader.specs.Strings.{IsString}
+use Rattle.opl_reader.specs.Items.{Each, IsTag, IsRef, kind_of, HasTarget, IsMember}
+use Rattle.opl_reader.specs.Fields.{letter_of, nothing, IsFlag, IsX, IsY, Told}
 
 -- a fault of this kind at this place
 abbrev pub fault_at : FaultKind → ℕ → LineFault
 fault_at kind place = record { kind = kind; place = place }
 
+-- ---- items
+
+-- a string that spells no text: some % of it begins no escape
+abbrev pub IsBadString : List ℕ → Type 0
+IsBadString bytes = (text : List ℕ) → ¬ IsString bytes text
+
+-- an item of T that is no tag: it has no =, or else a bad string as its key or its value
+abbrev pub IsBadTag : FaultKind → List ℕ → Type 0
+IsBadTag kind bytes = (Lacks 61 bytes × (kind ≡ BadTag))
+    ⊎ ((key : List ℕ) × (value : List ℕ) × (bytes ≡ key ++ 61 ∷ value) × Lacks 61 key × (IsBadString key ⊎ IsBadString value) × (kind ≡ BadEscape))
+
+-- an item of N that is no reference
+abbrev pub IsBadRef : FaultKind → List ℕ → Type 0
+IsBadRef kind bytes = ((id : ℤ) → ¬ IsRef bytes id) × (kind ≡ BadReference)
+
+-- an item of M that is no member: it has no target, or else a bad string as its role
+abbrev pub IsBadMember : FaultKind → List ℕ → Type 0
+IsBadMember kind bytes = (((role : List ℕ) (k : ObjectKind) (id : ℤ) → ¬ HasTarget bytes role k id) × (kind ≡ BadMember))
+    ⊎ ((role : List ℕ) × (k : ObjectKind) × (id : ℤ) × HasTarget bytes role k id × IsBadString role × (kind ≡ BadEscape))
+
+-- the parts before are read, and this one is bad; its fault stands where it begins
+pub record FirstBad {A : Type 0} (spells : List ℕ → A → Type 0) (bad : FaultKind → List ℕ → Type 0) (place : ℕ) (parts : List (List ℕ)) (x : LineFault) : Type 0 where
+  pub before : List (List ℕ)
+  pub item : List ℕ
+  pub after : List (List ℕ)
+  pub read : List A
+  pub parts_are : parts ≡ before ++ item ∷ after
+  pub spelled : Each spells before read
+  pub is_bad : bad x.kind item
+  pub place_is : x.place ≡ place + sum_by (λ b. length b + 1) before
+
+-- a value in which something stands, with a first bad one among its items
+pub record HasBadItem {A : Type 0} (spells : List ℕ → A → Type 0) (bad : FaultKind → List ℕ → Type 0) (place : ℕ) (bytes : List ℕ) (x : LineFault) : Type 0 where
+  pub some : 0 < length bytes
+  pub parts : List (List ℕ)
+  pub parted : PartedByCommas bytes parts
+  pub first : FirstBad spells bad place parts x
+
 -- ---- fields
+
+-- A value that has no reading by the letter's meaning. Its fault stands at the letter, but that of items stands at the first bad one.
+abbrev pub BadValue : Meaning → ℕ → List ℕ → LineFault → Type 0
+BadValue Count place value x = (¬ IsNumber value) × (x ≡ fault_at BadNumber place)
+BadValue Flag place value x = ((live : Bool) → ¬ IsFlag value live) × (x ≡ fault_at BadFlag place)
+BadValue Anything place value x = ⊥
+BadValue Name place value x = IsBadString value × (x ≡ fault_at BadEscape place)
+BadValue X place value x = ((l : Option Longitude) → ¬ IsX value l) × (x ≡ fault_at BadCoordinate place)
+BadValue Y place value x = ((l : Option Latitude) → ¬ IsY value l) × (x ≡ fault_at BadCoordinate place)
+BadValue Tagged place value x = HasBadItem IsTag IsBadTag (place + 1) value x
+BadValue Referring place value x = HasBadItem IsRef IsBadRef (place + 1) value x
+BadValue Having place value x = HasBadItem IsMember IsBadMember (place + 1) value x
+
+-- A letter that means nothing, one that was seen before, or a bad value.
+abbrev pub BadField : ObjectKind → List ℕ → Part → LineFault → Type 0
+BadField kind seen field x = ((letter_of kind (slice_index field.bytes 0) ≡ None) × (x ≡ fault_at UnknownField field.at))
+    ⊎ ((letter : ℕ) × (value : List ℕ) × (meaning : Meaning) × (field.bytes ≡ letter ∷ value) × (letter_of kind letter ≡ Some meaning)
+    × (((¬ Lacks letter seen) × (x ≡ fault_at RepeatedField field.at)) ⊎ (Lacks letter seen × BadValue meaning field.at value x)))
 
 -- the letters seen behind these fields
 abbrev pub seen_after : List ℕ → List Part → List ℕ
@@ -34,7 +94,7 @@ pub record FirstFault (kind : ObjectKind) (seen : List ℕ) (fields : List Part)
   pub content : Content
   pub parts : fields ≡ before ++ field ∷ after
   pub told : Told kind seen before c content
-  pub fault : with_field kind (seen_after seen before) field.at field.bytes content ≡ Err x
+  pub bad : BadField kind (seen_after seen before) field x
 
 -- ---- lines
 

@@ -1,8 +1,5 @@
 -- Fields: what a letter stands for, and what a field says of an object.
-use Rattle.std.specs.Prelude.{◌≡◌, ℕ, ◌⊎◌, Bool, true, false, ◌||◌, ◌==◌, if◌then◌else◌, List, [], ◌∷◌, ℤ, Option, Some, None, option_and_then, slice_index}
-use Rattle.osm_tables.specs.declared.Row.{Row}
-use Rattle.osm_tables.specs.declared.TheConstants.{NODE_FIELDS, WAY_FIELDS, RELATION_FIELDS}
-use Rattle.osm_tables.specs.Tables.{code_of}
+use Rattle.std.specs.Prelude.{◌≡◌, ℕ, ◌⊎◌, Bool, true, false, ◌||◌, ◌==◌, if◌then◌else◌, List, [], ◌∷◌, ℤ, Option, Some, None, slice_index}
 use Rattle.osm_geom.specs.declared.loc.Loc.{Loc}
 use Rattle.opl_reader.specs.declared.object.Tag.{Tag}
 use Rattle.opl_reader.specs.declared.object.Member.{Member}
@@ -22,19 +19,20 @@ use Rattle.opl_reader.specs.Items.{IsItems, IsTag, IsRef, IsMember, first_of_eac
 
 -- ---- letters
 
--- the table of a kind of object
-abbrev pub table_of : ObjectKind → List Row
-table_of Node = NODE_FIELDS
-table_of Way = WAY_FIELDS
-table_of Relation = RELATION_FIELDS
+-- the letters that every object may have
+abbrev pub shared : ℕ → Option Meaning
+shared letter =
+    if letter == 84 then Some Tagged
+    else (if letter == 118 || letter == 99 || letter == 105 then Some Count
+    else (if letter == 100 then Some Flag
+    else (if letter == 116 then Some Anything
+    else (if letter == 117 then Some Name else None))))
 
--- what a code of the tables stands for; 0 for no field
-abbrev pub meaning_of : ℕ → Option Meaning
-meaning_of code = if code == 1 then Some Tagged else (if code == 2 || code == 4 || code == 7 then Some Count else (if code == 3 then Some Flag else (if code == 5 then Some Anything else (if code == 6 then Some Name else (if code == 8 then Some X else (if code == 9 then Some Y else (if code == 10 then Some Referring else (if code == 11 then Some Having else None))))))))
-
--- what a letter means for a kind of object
+-- What a letter means for a kind of object: T, then v, c or i, then d, t and u for all; x and y for a node, N for a way, M for a relation.
 unfoldable pub letter_of : ObjectKind → ℕ → Option Meaning
-letter_of kind letter = option_and_then meaning_of (code_of (table_of kind) letter)
+letter_of Node letter = if letter == 120 then Some X else (if letter == 121 then Some Y else shared letter)
+letter_of Way letter = if letter == 78 then Some Referring else shared letter
+letter_of Relation letter = if letter == 77 then Some Having else shared letter
 
 -- ---- content
 

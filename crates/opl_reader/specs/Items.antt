@@ -1,6 +1,6 @@
 -- Values that are lists of items: tags, references and members.
-use Rattle.std.specs.Prelude.{◌≡◌, ℕ, ◌<◌, ◌⊎◌, not, ◌==◌, if◌then◌else◌, List, [], ◌∷◌, ◌++◌, length, ℤ, Option, Some, None}
-use Rattle.std.specs.List.{filter}
+use Rattle.std.specs.Prelude.{◌≡◌, ◌≢◌, ℕ, ◌<◌, ◌⊎◌, not, ◌==◌, if◌then◌else◌, List, [], ◌∷◌, ◌++◌, length, ℤ, Option, Some, None}
+use Rattle.std.specs.List.{filter, AllByRecursion}
 use Rattle.std.specs.Str.{bytes_eq}
 use Rattle.opl_reader.specs.declared.object.Tag.{Tag}
 use Rattle.opl_reader.specs.declared.object.Member.{Member}
@@ -44,6 +44,11 @@ abbrev pub first_of_each : List Tag → List Tag
 first_of_each [] = []
 first_of_each (t ∷ tags) = t ∷ filter (λ u. not (bytes_eq u.key t.key)) (first_of_each tags)
 
+-- no two of the tags have one key
+abbrev pub HaveDifferentKeys : List Tag → Type 0
+HaveDifferentKeys [] = Unit {0}
+HaveDifferentKeys (t ∷ tags) = AllByRecursion (λ u. u.key ≢ t.key) tags × HaveDifferentKeys tags
+
 -- ---- references
 
 -- n and an id
@@ -56,13 +61,17 @@ IsRef bytes id = (digits : List ℕ) × (bytes ≡ 110 ∷ digits) × IsId digit
 abbrev pub kind_of : ℕ → Option ObjectKind
 kind_of b = if b == 110 then Some Node else (if b == 119 then Some Way else (if b == 114 then Some Relation else None))
 
--- a letter and an id, cut at the first @ from the role
-pub record IsMember (bytes : List ℕ) (m : Member) : Type 0 where
+-- a letter and an id, which the first @ parts from a role
+pub record HasTarget (bytes : List ℕ) (role : List ℕ) (kind : ObjectKind) (id : ℤ) : Type 0 where
   pub letter : ℕ
   pub digits : List ℕ
-  pub role : List ℕ
   pub parts : bytes ≡ (letter ∷ digits) ++ 64 ∷ role
   pub first : Lacks 64 (letter ∷ digits)
-  pub kind_is : kind_of letter ≡ Some m.kind
-  pub id_is : IsId digits m.id
+  pub kind_is : kind_of letter ≡ Some kind
+  pub id_is : IsId digits id
+
+-- a letter, an id, @ and a role
+pub record IsMember (bytes : List ℕ) (m : Member) : Type 0 where
+  pub role : List ℕ
+  pub target : HasTarget bytes role m.kind m.id
   pub role_is : IsString role m.role

@@ -1,5 +1,5 @@
 -- Numbers: ids, decimals, and those that aren't kept.
-use Rattle.std.specs.Prelude.{◌≡◌, ℕ, ◌+◌, ◌*◌, ◌/◌, ◌-◌, ◌<◌, ◌≤◌, ◌⊎◌, List, [], ◌∷◌, ◌++◌, length, take, replicate, ℤ, pos, neg_ℤ, All}
+use Rattle.std.specs.Prelude.{◌≡◌, ℕ, ◌+◌, ◌*◌, ◌/◌, ◌-◌, ◌<◌, ◌≤◌, ◌⊎◌, List, [], ◌∷◌, ◌++◌, length, take, replicate, ℤ, pos, neg_ℤ, nat_abs, ◌≤ℤ◌, All}
 use Rattle.std.specs.Char.{IsAsciiDigit}
 use Rattle.std.specs.Str.Parse.{digits_value}
 
@@ -44,6 +44,10 @@ abbrev pub IsDecimal : List ℕ → ℤ → Type 0
 IsDecimal text z = ((n : ℕ) × IsUnsigned text n × (z ≡ pos n))
     ⊎ (((digits : List ℕ) × (n : ℕ) × (text ≡ 43 ∷ digits) × IsUnsigned digits n × (z ≡ pos n))
     ⊎ ((digits : List ℕ) × (n : ℕ) × (text ≡ 45 ∷ digits) × IsUnsigned digits n × (z ≡ neg_ℤ (pos n))))
+
+-- the magnitude is at most the limit
+abbrev pub IsWithin : ℤ → ℤ → Type 0
+IsWithin limit z = pos (nat_abs z) ≤ℤ limit
 
 -- ---- numbers that aren't kept
 

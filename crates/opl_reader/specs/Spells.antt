@@ -3,6 +3,8 @@ use Rattle.std.specs.Prelude.{◌≡◌, ℕ, ◌⊎◌, List, [], ◌∷◌, �
 use Rattle.std.specs.Str.{IsUtf8}
 use Rattle.opl_reader.specs.declared.object.ObjectKind.{ObjectKind}
 use Rattle.opl_reader.specs.declared.object.Object.{Object}
+use Rattle.opl_reader.specs.declared.object.Object.TheVariants as object
+use Rattle.opl_reader.specs.declared.object.Tag.{Tag}
 use Rattle.opl_reader.specs.declared.content.Content.{Content}
 use Rattle.opl_reader.specs.Parts.{Part, part, without_cr, Parted}
 use Rattle.opl_reader.specs.Numbers.{IsId}
@@ -37,3 +39,9 @@ pub record IsAside (line : List ℕ) : Type 0 where
 -- Nothing stands in the line, or it is a comment or a changeset.
 abbrev pub IsPassedOver : List ℕ → Type 0
 IsPassedOver line = Parted 0 (without_cr line) [] ⊎ IsAside line
+
+-- the tags of an object
+abbrev pub tags_of : Object → List Tag
+tags_of (object.Node id live tags place) = tags
+tags_of (object.Way id live tags refs) = tags
+tags_of (object.Relation id live tags members) = tags

@@ -9,16 +9,27 @@ use std::alloc::{AllocError, AllocFailed};
 /// What is wrong with a line.
 #[derive(Clone, Copy, Debug, PartialEq, Eq)]
 pub enum FaultKind {
+    /// The line holds bytes that aren't UTF-8.
     NotUtf8,
+    /// The line begins with no letter of an object: n, w or r.
     UnknownObject,
+    /// A field begins with a letter that means nothing for its object.
     UnknownField,
+    /// A letter stands twice.
     RepeatedField,
+    /// An id, or a number that isn't kept, can't be read.
     BadNumber,
+    /// The flag is neither V nor D.
     BadFlag,
+    /// A coordinate is no decimal, or out of range.
     BadCoordinate,
+    /// A percent sign begins no escape.
     BadEscape,
+    /// A tag has no `=`.
     BadTag,
+    /// A reference isn't n and an id.
     BadReference,
+    /// A member isn't a letter, an id, `@` and a role.
     BadMember,
 }
 
@@ -45,13 +56,16 @@ pub fn fault_text(kind: FaultKind) -> &'static str
 #[derive(Clone, Copy, Debug, PartialEq, Eq)]
 pub struct LineFault {
     pub kind: FaultKind,
+    /// A count of bytes from the line's first.
     pub place: u64,
 }
 
 /// Why a line gave no answer: it has no reading, or memory ran out.
 #[derive(Debug, Drop)]
 pub enum LineError {
+    /// The line has no reading.
     Fault(LineFault),
+    /// Memory ran out.
     OutOfMemory,
 }
 

@@ -4,7 +4,9 @@ ghost use Rattle.std.specs.Prelude.{◌≡◌, ◌+◌, ◌^◌, ◌<◌, pos, l
 ghost use Rattle.std.specs.List.{list_all};
 ghost use Rattle.std.specs.Char.{is_ascii_digit};
 ghost use Rattle.opl_reader.specs.Reading.{Gives};
-ghost use Rattle.opl_reader.specs.Fields.{meaning_of, letter_of};
+ghost use Rattle.opl_reader.specs.Fields.{letter_of};
+ghost use Rattle.opl_reader.specs.Steps.{table_of, meaning_of};
+ghost use Rattle.osm_tables.specs.Tables.{code_of};
 ghost use Rattle.opl_reader.specs.NumberReading.{is_count, is_number, decimal_of};
 ghost use Rattle.opl_reader.specs.FieldReading.{flag_of, longitude, latitude, x_of, y_of, with_value};
 
@@ -59,16 +61,22 @@ fn meaning_of(code: u16) -> Option<Meaning>
     }
 }
 
-/// What a letter means for a kind of object, None where it means nothing.
-#[tactic(auto, unfolding(crate::specs::Fields::letter_of))]
-pub fn letter_of(kind: ObjectKind, letter: u8) -> Option<Meaning>
-    ensures { result ≡ letter_of kind letter }
+/// The code of a letter in the table of a kind of object.
+fn field_code(kind: ObjectKind, letter: u8) -> Option<u16>
+    ensures { result ≡ code_of (table_of kind) letter }
 {
-    let code = match kind {
+    match kind {
         ObjectKind::Node => node_field(letter),
         ObjectKind::Way => way_field(letter),
         ObjectKind::Relation => relation_field(letter),
-    }?;
+    }
+}
+
+/// What a letter means for a kind of object, None where it means nothing.
+pub fn letter_of(kind: ObjectKind, letter: u8) -> Option<Meaning>
+    ensures { result ≡ letter_of kind letter }
+{
+    let code = field_code(kind, letter)?;
     meaning_of(code)
 }
 

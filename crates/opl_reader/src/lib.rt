@@ -1,4 +1,7 @@
 //! OPL, the line format of OpenStreetMap data that osmium reads and writes: a line an object.
+//!
+//! A line is fields parted by spaces or tabs. Each field is a letter and a value that is read by its letter,
+//! as the OPL manual (<https://osmcode.org/opl-file-format/>) says; a line has to be right to its last byte.
 #![tactic(auto)]
 
 mod content;
@@ -16,7 +19,7 @@ mod text;
 pub use escape::strings_are_spelled;
 pub use fault::{FaultKind, LineError, LineFault, fault_text};
 pub use line::{lines_have_one_answer, read_line};
-pub use number::{read_decimal, read_id};
+pub use number::read_decimal;
 pub use object::{Member, Members, Object, ObjectKind, ObjectRef, Refs, Tag, Tags};
 pub use text::Text;
 

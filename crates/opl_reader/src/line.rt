@@ -8,7 +8,8 @@ ghost use Rattle.opl_reader.specs.Parts.{Part, without_cr};
 ghost use Rattle.opl_reader.specs.Fields.{nothing};
 ghost use Rattle.opl_reader.specs.FieldReading.{with_field, with_fields};
 ghost use Rattle.opl_reader.specs.LineReading.{fields_from, head_at, reading};
-ghost use Rattle.opl_reader.specs.Spells.{Spells, IsPassedOver};
+ghost use Rattle.opl_reader.specs.Spells.{Spells, IsPassedOver, tags_of};
+ghost use Rattle.opl_reader.specs.Items.{HaveDifferentKeys};
 ghost use Rattle.opl_reader.specs.Faults.{HasFault, Explains};
 ghost use Rattle.opl_reader.specs.OneAnswer.{IsAnswer, HasAnswer, HasNoOther};
 ghost use Rattle.opl_reader.specs.Steps.{with_part, begins_passed, Marks};
@@ -156,6 +157,7 @@ fn without_cr(line: &[u8]) -> &[u8]
     }
 }
 
+/// Reads a line. The public call has more clauses, which follow from this one.
 #[tactic(auto, unfolding(crate::specs::LineReading::reading, crate::specs::LineReading::object_at))]
 fn read(alloc: Global, line: &[u8]) -> Result<Option<Object>, LineError>
     ensures { Gives result (reading line.now) }
@@ -184,6 +186,8 @@ pub fn read_line(alloc: Global, line: &[u8]) -> Result<Option<Object>, LineError
     ensures object { IfOk result (λ o. IfSome o (λ x. Spells line.now x)) }
     ensures passed { IfOk result (λ o. IfNone o (IsPassedOver line.now)) }
     ensures fault { IfErr result (Explains line.now) }
+    // Of equal keys the first tag alone is kept.
+    ensures keys { IfOk result (λ o. IfSome o (λ x. HaveDifferentKeys (tags_of x))) }
     // What is so comes, unless memory runs out.
     ensures spelled { (o : Object) → Spells line.now o → Gives result (Ok (Some o)) }
     ensures skipped { IsPassedOver line.now → Gives result (Ok None) }

@@ -4,13 +4,13 @@ ghost use Rattle.std.specs.Prelude.{◌≡◌, ◌+◌, ◌*◌, ◌/◌, ◌^�
 ghost use Rattle.std.specs.List.{list_all, before_first, after_first};
 ghost use Rattle.std.specs.Char.{is_ascii_digit};
 ghost use Rattle.std.specs.Str.Parse.{digits_value};
-ghost use Rattle.opl_reader.specs.Numbers.{IsId, IsDecimal, first_eight};
+ghost use Rattle.opl_reader.specs.Numbers.{IsWithin, IsId, IsDecimal, first_eight};
 ghost use Rattle.opl_reader.specs.NumberReading.{magnitude_of, id_of, is_point, unsigned_of, within, decimal_of};
 ghost use Rattle.opl_reader.specs.Steps.{capped};
 
 use memchr::memchr;
 
-/// The greatest magnitude of an id.
+/// The greatest magnitude of an id, 2^62 - 1.
 pub const MAX_ID: u64 = 4_611_686_018_427_387_903;
 
 /// The value of digits, at most 2^64 - 1; None where a byte is no digit.
@@ -29,8 +29,8 @@ fn value(bytes: &[u8]) -> Option<u64>
     Some(value)
 }
 
-#[tactic(auto, unfolding(crate::specs::NumberReading::magnitude_of))]
 /// One or more digits, up to the greatest magnitude of an id.
+#[tactic(auto, unfolding(crate::specs::NumberReading::magnitude_of))]
 fn magnitude(digits: &[u8]) -> Option<i64>
     ensures value { result ≡ magnitude_of digits.now }
     ensures in_range { IfSome result (λ n. (pos 0 ≤ℤ n) × (n ≤ℤ pos 4611686018427387903)) }
@@ -45,6 +45,7 @@ fn magnitude(digits: &[u8]) -> Option<i64>
     Some(value as i64)
 }
 
+/// An optional minus, and a magnitude.
 #[tactic(auto, unfolding(crate::specs::NumberReading::id_of))]
 fn id(text: &[u8]) -> Option<i64>
     ensures { result ≡ id_of text.now }
@@ -58,7 +59,7 @@ fn id(text: &[u8]) -> Option<i64>
     }
 }
 
-/// An id: an optional minus and digits.
+/// An id, None where the text is none.
 pub fn read_id(text: &[u8]) -> Option<i64>
     ensures found { IfSome result (λ id. IsId text.now id) }
     ensures none { IfNone result ((id : ℤ) → ¬ IsId text.now id) }
@@ -98,7 +99,7 @@ fn fraction(decimals: &[u8]) -> Option<u64>
     Some((tenths + 5) / 10)
 }
 
-/// Digits, and a point with digits: the units, as far as the machine counts.
+/// The units of digits with a point, as far as the machine counts.
 #[tactic(auto, unfolding(crate::specs::NumberReading::unsigned_of))]
 fn unsigned(text: &[u8]) -> Option<u64>
     ensures { result ≡ option_map capped (unsigned_of text.now) }
@@ -112,8 +113,8 @@ fn unsigned(text: &[u8]) -> Option<u64>
     Some(degrees.saturating_mul(10_000_000).saturating_add(fraction))
 }
 
+/// Digits with a point, worth at most the limit.
 #[tactic(auto, unfolding(crate::specs::NumberReading::within))]
-/// The same, where it is not above the limit.
 fn within(text: &[u8], limit: i64) -> Option<i64>
     ensures value { result ≡ within limit text.now }
     ensures in_range { IfSome result (λ units. (pos 0 ≤ℤ units) × (units ≤ℤ limit)) }
@@ -125,7 +126,7 @@ fn within(text: &[u8], limit: i64) -> Option<i64>
     Some(units as i64)
 }
 
-/// The units of a decimal: an optional sign, digits, and a point with digits.
+/// The units of a decimal with its sign. The crate calls this one, whose contract is the function alone.
 #[tactic(auto, unfolding(crate::specs::NumberReading::decimal_of))]
 pub fn decimal(text: &[u8], limit: i64) -> Option<i64>
     ensures value { result ≡ decimal_of limit text.now }
@@ -141,12 +142,15 @@ pub fn decimal(text: &[u8], limit: i64) -> Option<i64>
     }
 }
 
-/// The units of a decimal: an optional sign, digits, and a point with digits.
+/// The value of a decimal in units of 1e-7: an optional sign, digits, and where there is a point more digits, at least one in all.
+///
+/// The eighth decimal rounds the magnitude, from 5 on upwards, and later ones don't count. There is no exponent.
+/// None comes where the text is no such decimal, or where its rounded magnitude is above the limit.
 pub fn read_decimal(text: &[u8], limit: i64) -> Option<i64>
-    ensures found { IfSome result (λ units. IsDecimal text.now units × (pos (nat_abs units) ≤ℤ limit)) }
-    ensures none { IfNone result ((units : ℤ) → IsDecimal text.now units → ¬ (pos (nat_abs units) ≤ℤ limit)) }
+    ensures found { IfSome result (λ units. IsDecimal text.now units × IsWithin limit units) }
+    ensures none { IfNone result ((units : ℤ) → IsDecimal text.now units → ¬ IsWithin limit units) }
+    // The same, as a function of the text.
     ensures value { result ≡ decimal_of limit text.now }
-    ensures in_range { IfSome result (λ units. (neg_ℤ limit ≤ℤ units) × (units ≤ℤ limit)) }
 {
     decimal(text, limit)
 }

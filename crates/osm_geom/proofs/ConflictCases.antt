@@ -3,7 +3,7 @@ use Rattle.std.proofs.Common.{◌≡◌, Bool, true, false, if◌then◌else◌,
 use Rattle.std.specs.declared.cmp.Ordering.{Ordering}
 use Rattle.std.specs.declared.cmp.Ordering.TheVariants.{Less, Equal, Greater}
 use Rattle.std.specs.Ordering.{is_eq, ordering_reverse}
-use Rattle.plane.proofs.Conflicts.{overlaps_turned, crosses_turned}
+use Rattle.plane.proofs.Conflicts.{overlaps_reversed, crosses_reversed}
 use Rattle.osm_geom.specs.declared.seg.Seg.{Seg}
 use Rattle.osm_geom.specs.declared.conflicts.Kind.TheVariants.{Crossing, Overlap}
 use Rattle.osm_geom.specs.Seg.{seg_cmp, edge_of}
@@ -16,11 +16,11 @@ none_where_equal s t e = rw e refl
 -- ---- a conflict does not depend on which segment is named first
 overlapping-comm : (s t : Seg) → are_overlapping s t ≡ are_overlapping t s
 unfolding are_overlapping
-overlapping-comm s t = overlaps_turned (edge_of t) (edge_of s)
+overlapping-comm s t = overlaps_reversed (edge_of t) (edge_of s)
 
 crossing-comm : (s t : Seg) → are_crossing s t ≡ are_crossing t s
 unfolding are_crossing
-crossing-comm s t = crosses_turned (edge_of t) (edge_of s)
+crossing-comm s t = crosses_reversed (edge_of t) (edge_of s)
 
 equal_turned : (o : Ordering) → is_eq (ordering_reverse o) ≡ is_eq o
 equal_turned Less = refl

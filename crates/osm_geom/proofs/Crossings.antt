@@ -5,10 +5,10 @@ use Rattle.plane.specs.Edge.{Edge, IsRising}
 use Rattle.plane.specs.Order.{order}
 use Rattle.plane.specs.Sign.{Sign, Null, Plus, Minus, is_null, sign}
 use Rattle.plane.specs.Vector.{cross, dot, from_to, orient}
-use Rattle.plane.proofs.Conflicts.{cross_by, crosses-by, crosses_turned}
+use Rattle.plane.proofs.Conflicts.{cross_by, crosses-by, crosses_reversed}
 use Rattle.plane.proofs.PointOrder.{line-order-up, order-sum, rising-direction}
 use Rattle.plane.proofs.Products.{dot-chain, frame-agree, orient-round, side-there}
-use Rattle.plane.proofs.Signs.{agree, agree-plus-first, all, all-out, all4, all4-out, imp, imp-out, same_sign, same_sign-refl, times}
+use Rattle.plane.proofs.Signs.{agree, sum-with-plus, all, all-out, all4, all4-out, imp, imp-out, same_sign, same_sign-refl, times}
 
 -- ---- the signs: the sides of t's ends (a, b) and of s's ends (c, d); where t's two ends are along s, seen from its lower end (us, vs) and from its
 -- upper end (ut, vt); and where they are in the order of points, seen from the lower end (h, k) and from the upper end (m, n)
@@ -92,8 +92,8 @@ sides_differ s t hs ht h =
     (line-by (orient p q v) (orient u v p) (orient u v q) _ _ (subst (λ b. agree (times Plus b) (times (sign (dot vt (from_to v q))) (orient u v p)) (times (sign (dot vt (from_to v p))) (orient u v q)) ≡ true) (sym (ap sign (orient-round v p q))) g2))
     (subst (λ c. agree (times Plus c) (times (sign (dot st (from_to p v))) (sign (cross st (from_to p u)))) (times (sign (dot st (from_to p u))) (sign (cross st (from_to p v)))) ≡ true) (sym c) f1)
     (subst (λ d. agree (times Plus d) (times (sign (dot st (from_to q v))) (sign (cross st (from_to p u)))) (times (sign (dot st (from_to q u))) (sign (cross st (from_to p v)))) ≡ true) (sym d) f2)
-    (agree-plus-first (dot st st) (dot st (from_to q u)) (dot st (from_to p u)) dir (dot-chain st p q u))
-    (agree-plus-first (dot st st) (dot st (from_to q v)) (dot st (from_to p v)) dir (dot-chain st p q v))
+    (sum-with-plus (dot st st) (dot st (from_to q u)) (dot st (from_to p u)) dir (dot-chain st p q u))
+    (sum-with-plus (dot st st) (dot st (from_to q v)) (dot st (from_to p v)) dir (dot-chain st p q v))
     (match-by _ _ _ (λ z. line-order-up p q p u hs z))
     (match-by _ _ _ (λ z. line-order-up p q p v hs z))
     (match-by _ _ _ (λ z. line-order-up p q q u hs (ap sign eu ∙ z)))
@@ -104,4 +104,4 @@ sides_differ s t hs ht h =
 
 -- and those of t not on one side of s
 pub sides_differ_back : (s t : Edge) → IsRising s → IsRising t → crosses s t ≡ true → not (same_sign (orient s.from s.to t.from) (orient s.from s.to t.to)) ≡ true
-sides_differ_back s t hs ht h = sides_differ t s ht hs (crosses_turned s t ∙ h)
+sides_differ_back s t hs ht h = sides_differ t s ht hs (crosses_reversed s t ∙ h)

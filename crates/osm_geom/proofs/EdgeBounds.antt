@@ -4,7 +4,7 @@ use Rattle.std.proofs.lemmas.Int.{ints}
 use Rattle.std.proofs.lemmas.Bool.{cases_lt}
 use Rattle.std.proofs.Math.Nat.{mul-lt-mul_of_pos_right}
 use Rattle.plane.specs.Sign.{Sign, Plus, Null, Minus, is_minus, is_plus, sign}
-use Rattle.plane.proofs.Edges.{and-out}
+use Rattle.plane.proofs.Bools.{and-out}
 use Rattle.plane.proofs.Points.{int_eq-true}
 use Rattle.plane.proofs.Signs.{Says, says}
 use Rattle.osm_geom.specs.declared.edge.Edge.{Edge}

@@ -9,7 +9,7 @@ use Rattle.plane.specs.Vector.{Vector, cross, dot, from_to}
 use Rattle.plane.proofs.Identities.{lift, same, apart, ◌⊞◌, ◌⊟◌, ◌⊠◌}
 use Rattle.plane.proofs.PointOrder.{rising-direction}
 use Rattle.plane.proofs.Products.{orient-round}
-use Rattle.plane.proofs.Signs.{times, sign-*, sign-turned, null-zero, plus-times}
+use Rattle.plane.proofs.Signs.{times, sign-*, sign-reversed, null-zero, plus-times}
 use Rattle.osm_geom.proofs.Factors.{zero_other, cancel_factor}
 
 positive : (n : ℕ) → 1 ≤ n → sign (pos n) ≡ Plus
@@ -99,7 +99,7 @@ behind_parts (suc p) (suc q) = refl
 
 behind_by : (k : ℤ) (p q : ℕ) → sign k ≡ Plus → behind (sign (pos 0 -ℤ k *ℤ pos p)) (sign (k *ℤ pos q)) ≡ true
 behind_by k p q hk =
-    let back : sign (pos 0 -ℤ k *ℤ pos p) ≡ negated (sign (pos p)) = sign-turned (k *ℤ pos p) (pos 0 -ℤ k *ℤ pos p) (gone (k *ℤ pos p)) ∙ ap negated (plus-times k (pos p) hk) in
+    let back : sign (pos 0 -ℤ k *ℤ pos p) ≡ negated (sign (pos p)) = sign-reversed (k *ℤ pos p) (pos 0 -ℤ k *ℤ pos p) (gone (k *ℤ pos p)) ∙ ap negated (plus-times k (pos p) hk) in
     rw (back, plus-times k (pos q) hk) (behind_parts p q)
   where
     gone : (z : ℤ) → z +ℤ (pos 0 -ℤ z) ≡ pos 0

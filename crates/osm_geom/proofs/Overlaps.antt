@@ -6,7 +6,7 @@ use Rattle.std.specs.Ordering.{is_lt, ord_max, ord_min}
 use Rattle.plane.specs.Conflict.{is_along}
 use Rattle.plane.specs.Order.{order}
 use Rattle.plane.specs.Sign.{is_plus}
-use Rattle.plane.proofs.Edges.{and-out}
+use Rattle.plane.proofs.Bools.{and-out}
 use Rattle.osm_geom.specs.declared.loc.Loc.{Loc}
 use Rattle.osm_geom.specs.declared.seg.Seg.{Seg}
 use Rattle.osm_geom.specs.declared.conflicts.Kind.TheVariants.{Overlap}

@@ -9,6 +9,7 @@ use Rattle.osm_geom.specs.declared.point.Point.TheVariants.{Lattice, OnVertical,
 use Rattle.osm_geom.specs.OrderLaws.{ordering_of}
 use Rattle.osm_geom.specs.Point.{x_of, y_of, den_of, whole_of, point_cmp}
 use Rattle.osm_geom.specs.RatioOrder.{fraction_cmp, by_fractions}
+use Rattle.osm_geom.specs.Span.{height_order}
 use Rattle.osm_geom.proofs.LocationOrder.{int_cmp-is, ordering_of-then}
 
 pub x_den-some : (p : Point) → 1 ≤ (x_of p).den
@@ -58,3 +59,6 @@ point_cmp_is p q =
     ap (λ o. ordering_then o (fraction_cmp (x_of p) (x_of q))) (int_cmp-is ((y_of p).num *ℤ pos (y_of q).den) ((y_of q).num *ℤ pos (y_of p).den) ∙ ap ordering_of (sym (y_sign p q)))
     ∙ ap (λ o. ordering_then (ordering_of (sign (pos (den_of p) *ℤ (whole_of q).y -ℤ pos (den_of q) *ℤ (whole_of p).y))) o) (int_cmp-is ((x_of p).num *ℤ pos (x_of q).den) ((x_of q).num *ℤ pos (x_of p).den) ∙ ap ordering_of (sym (x_sign p q)))
     ∙ ordering_of-then (sign (pos (den_of p) *ℤ (whole_of q).y -ℤ pos (den_of q) *ℤ (whole_of p).y)) (sign (pos (den_of p) *ℤ (whole_of q).x -ℤ pos (den_of q) *ℤ (whole_of p).x))
+
+pub height_cmp_is : (p q : Point) → fraction_cmp (y_of p) (y_of q) ≡ ordering_of (height_order p q)
+height_cmp_is p q = int_cmp-is ((y_of p).num *ℤ pos (y_of q).den) ((y_of q).num *ℤ pos (y_of p).den)

@@ -9,7 +9,7 @@ use Rattle.plane.specs.Scale.{scaled_edge, scaled_point}
 use Rattle.plane.specs.Vector.{Vector, dot, from_to}
 use Rattle.plane.proofs.Identities.{lift, same, ◌⊞◌, ◌⊟◌, ◌⊠◌}
 use Rattle.plane.proofs.Points.{same_vector}
-use Rattle.plane.proofs.Products.{dot-here, cross-from-here, cross-to-here}
+use Rattle.plane.proofs.Products.{dot-here, cross-here, cross-from-here}
 use Rattle.osm_geom.specs.declared.loc.Loc.{Loc}
 use Rattle.osm_geom.specs.declared.seg.Seg.{Seg}
 use Rattle.osm_geom.specs.declared.point.Point.TheVariants.{Lattice}
@@ -33,7 +33,7 @@ first_on : (e : Edge) → not (is_off e.from e) ≡ true
 first_on e = rw (cross-from-here e.from (from_to e.from e.to), dot-from-here e.from (from_to e.from e.to)) refl
 
 second_on : (e : Edge) → not (is_off e.to e) ≡ true
-second_on e = rw (cross-to-here e.to (from_to e.to e.from), dot-here (from_to e.to e.from) e.to) refl
+second_on e = rw (cross-here (from_to e.to e.from) e.to, dot-here (from_to e.to e.from) e.to) refl
 
 pub on_a : (s : Seg) → is_on (OfSeg s) (Lattice s.a) ≡ true
 unfolding is_on

@@ -6,6 +6,8 @@ mod dir;
 mod edge;
 mod edge_dir;
 mod edge_lists;
+#[cfg(test)]
+mod edge_tests;
 mod frac;
 mod just_above;
 mod laws;
@@ -18,9 +20,10 @@ mod point;
 mod point_order;
 mod ratio;
 mod seg;
-mod turning;
+mod span;
 #[cfg(test)]
 mod tests;
+mod turning;
 
 pub use conflicts::{Kind, conflict};
 pub use dir::Dir;
@@ -36,4 +39,5 @@ pub use orientation::orient;
 pub use point::{Part, Point};
 pub use point_order::compare_points;
 pub use seg::Seg;
+pub use span::spans_height;
 pub use turning::clockwise;

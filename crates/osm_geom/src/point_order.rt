@@ -1,5 +1,7 @@
 ghost use Rattle.std.specs.Prelude.{◌≡◌};
 ghost use Rattle.osm_geom.specs.Point.{x_of, y_of, point_cmp};
+ghost use Rattle.osm_geom.specs.OrderLaws.{ordering_of};
+ghost use Rattle.osm_geom.specs.Span.{height_order};
 ghost use Rattle.osm_geom.specs.RatioOrder.{fraction_of, by_fractions};
 
 use crate::point::Point;
@@ -32,6 +34,14 @@ fn compare_by_fractions(p: Point, q: Point) -> Ordering
     y_ratio(p)
         .compare(y_ratio(q))
         .then(x_ratio(p).compare(x_ratio(q)))
+}
+
+/// The order of two points by y alone.
+#[tactic(auto, using(crate::proofs::PointOrders::height_cmp_is))]
+pub fn compare_heights(p: Point, q: Point) -> Ordering
+    ensures { result ≡ ordering_of (height_order p q) }
+{
+    y_ratio(p).compare(y_ratio(q))
 }
 
 /// The order of two points: by y, then by x. `Equal` for one point alone.

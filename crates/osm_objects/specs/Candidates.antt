@@ -9,14 +9,14 @@ use Rattle.opl_reader.specs.declared.object.Object.TheVariants as object
 use Rattle.osm_objects.specs.Object.{ref_of}
 use Rattle.osm_objects.specs.Tags.{is_tagged, without_key}
 
--- at least four references, and the last is the first
+-- it has a reference, and the last is the first
 abbrev pub is_closed : List ℤ → Bool
-is_closed refs = nat_le 4 (length refs) && option_eq int_eq (slice_get refs 0) (slice_get refs (length refs - 1))
+is_closed refs = nat_lt 0 (length refs) && option_eq int_eq (slice_get refs 0) (slice_get refs (length refs - 1))
 
--- a closed way that is not tagged area=no, or a relation tagged type=multipolygon or type=boundary
+-- a closed way with at least four references that is not tagged area=no, or a relation tagged type=multipolygon or type=boundary
 unfoldable pub may_have_area : Object → Bool
 may_have_area (object.Node id live tags place) = false
-may_have_area (object.Way id live tags refs) = is_closed refs && not (is_tagged (codes "area") (codes "no") tags)
+may_have_area (object.Way id live tags refs) = nat_le 4 (length refs) && is_closed refs && not (is_tagged (codes "area") (codes "no") tags)
 may_have_area (object.Relation id live tags members) = is_tagged (codes "type") (codes "multipolygon") tags || is_tagged (codes "type") (codes "boundary") tags
 
 -- the tags of its area: all of a way's, and a relation's without its type

@@ -16,26 +16,27 @@ use std::alloc::{AllocError, Global};
 
 /// A node that has tags.
 #[derive(Drop)]
-pub struct TaggedNode {
-    pub tags: Tags,
-    pub place: Option<Loc>,
+pub(crate) struct TaggedNode {
+    pub(crate) tags: Tags,
+    pub(crate) place: Option<Loc>,
 }
 
 #[derive(Drop)]
-pub struct HeldWay {
-    pub tags: Tags,
-    pub refs: Refs,
+pub(crate) struct HeldWay {
+    pub(crate) tags: Tags,
+    pub(crate) refs: Refs,
 }
 
 #[derive(Drop)]
-pub struct HeldRelation {
-    pub tags: Tags,
-    pub members: Members,
+pub(crate) struct HeldRelation {
+    pub(crate) tags: Tags,
+    pub(crate) members: Members,
 }
 
-/// Most objects are nodes without tags, so these alone stand in the entry itself.
+/// An object without its kind and id. Most are nodes without tags, so these alone stand in the entry itself,
+/// and an entry is no larger than they need.
 #[derive(Drop)]
-pub enum Held {
+pub(crate) enum Held {
     Plain(Option<Loc>),
     Tagged(Box<TaggedNode>),
     Way(Box<HeldWay>),
@@ -82,7 +83,8 @@ impl Held {
         match self {
             Held::Plain(_) | Held::Tagged(_) => false,
             Held::Way(way) => {
-                is_closed(way.refs.as_slice()) && !is_tagged(&way.tags, "area", "no")
+                let refs = way.refs.as_slice();
+                refs.len() >= 4 && is_closed(refs) && !is_tagged(&way.tags, "area", "no")
             }
             Held::Relation(relation) => {
                 is_tagged(&relation.tags, "type", "multipolygon")
@@ -167,9 +169,9 @@ impl Held {
     }
 }
 
-/// Whether references may bound an area: at least four, and the last is the first.
+/// Whether there is a reference, and the last is the first.
 fn is_closed(refs: &[i64]) -> bool
     ensures { result ≡ is_closed refs.now }
 {
-    refs.len() >= 4 && refs.first() == refs.last()
+    !refs.is_empty() && refs.first() == refs.last()
 }

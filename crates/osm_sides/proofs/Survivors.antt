@@ -122,5 +122,5 @@ end_or_none v (s ∷ ss) = ⊎_elim inl (λ none. by_ends none (same_point v (ve
 
 pub even_points : (ss : List Seg) → HasEvenNodes ss → IsEvenAtPoints (edges_of ss)
 even_points ss even v = ⊎_elim
-    (λ (at : (p : Loc) × (vector_of p ≡ v)). subst (λ u. IsEven (sum_by (ends_at u) (edges_of ss))) at.1 (ap (λ n. n % 2) (at_location at.0 ss) ∙ even at.0))
+    (λ (at : (p : Loc) × (vector_of p ≡ v)). subst (λ u. IsEven (sum_by (ends_at u) (edges_of ss))) at.1 (ap (λ n. n % 2) (at_location at.0 ss) ∙ sym (even.odd at.0)))
     (λ none. ap (λ n. n % 2) none) (end_or_none v ss)

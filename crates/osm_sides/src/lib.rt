@@ -3,5 +3,7 @@
 
 mod directions;
 mod sides;
+#[cfg(test)]
+mod tests;
 
 pub use directions::direct;

@@ -1,5 +1,5 @@
 -- Tables: their order, and the code that stands beside a key.
-use Rattle.std.specs.Prelude.{ℕ, List, [], ◌∷◌, Option, Some, None, ◌==◌, if◌then◌else◌, Contains, map}
+use Rattle.std.specs.Prelude.{ℕ, List, [], ◌∷◌, Option, Some, None, ◌==◌, if◌then◌else◌, Contains, map, codes}
 use Rattle.std.specs.List.Sorted.{IsStrictlyIncreasing}
 use Rattle.osm_tables.specs.declared.Row.{Row}
 
@@ -15,3 +15,25 @@ HasRow rows key code = Contains rows (record { key = key; code = code })
 abbrev pub code_of : List Row → ℕ → Option ℕ
 code_of [] key = None
 code_of (r ∷ rows) key = if r.key == key then Some r.code else code_of rows key
+
+-- ---- what stands in the tables
+
+-- keys and their codes, in order
+abbrev pub table : List ℕ → List ℕ → List Row
+table [] codes = []
+table (key ∷ keys) [] = []
+table (key ∷ keys) (code ∷ codes) = record { key = key; code = code } ∷ table keys codes
+
+-- the letters that a node, a way or a relation may have; the code 0 stands for no field
+abbrev pub node_fields : List Row
+node_fields = table (codes "DTcdituvxy") (0 ∷ 1 ∷ 2 ∷ 3 ∷ 4 ∷ 5 ∷ 6 ∷ 7 ∷ 8 ∷ 9 ∷ [])
+
+abbrev pub way_fields : List Row
+way_fields = table (codes "NTcdituv") (10 ∷ 1 ∷ 2 ∷ 3 ∷ 4 ∷ 5 ∷ 6 ∷ 7 ∷ [])
+
+abbrev pub relation_fields : List Row
+relation_fields = table (codes "MTcdituv") (11 ∷ 1 ∷ 2 ∷ 3 ∷ 4 ∷ 5 ∷ 6 ∷ 7 ∷ [])
+
+-- six kinds of problems, and then four of notes
+abbrev pub problem_kinds : List Row
+problem_kinds = table (1 ∷ 2 ∷ 3 ∷ 4 ∷ 5 ∷ 6 ∷ 7 ∷ 8 ∷ 9 ∷ 10 ∷ []) (1 ∷ 1 ∷ 1 ∷ 1 ∷ 1 ∷ 1 ∷ 2 ∷ 2 ∷ 2 ∷ 2 ∷ [])

@@ -3,7 +3,7 @@
 
 ghost use Rattle.std.specs.Prelude.{◌≡◌, ◌≢◌, ◌↔◌, All, MatchOption, IsSome};
 ghost use Rattle.std.specs.Option.{option_copied};
-ghost use Rattle.osm_tables.specs.Tables.{HasRisingKeys, HasRow, code_of};
+ghost use Rattle.osm_tables.specs.Tables.{HasRisingKeys, HasRow, code_of, node_fields, way_fields, relation_fields, problem_kinds};
 ghost use Rattle.osm_tables.specs.Words.{word_of};
 
 /// A key and its code.
@@ -169,7 +169,15 @@ pub fn problem_word(kind: u8) -> Option<&'static str>
     )
 }
 
-/// The keys of each table rise strictly, and the code of the last kinds alone is a note.
+/// What stands in the tables.
+pub fn tables_are()
+    ensures node { NODE_FIELDS ≡ node_fields }
+    ensures way { WAY_FIELDS ≡ way_fields }
+    ensures relation { RELATION_FIELDS ≡ relation_fields }
+    ensures problem { PROBLEM_KINDS ≡ problem_kinds }
+{}
+
+/// The keys of each table rise strictly, which `look` asks for.
 pub fn tables_rise()
     ensures node { HasRisingKeys NODE_FIELDS }
     ensures way { HasRisingKeys WAY_FIELDS }

@@ -1,3 +1,4 @@
 mod DecimalLemmas
+mod MeetingLemmas
 mod RowLemmas
 mod StringLemmas

@@ -3,6 +3,7 @@
 
 mod decimal;
 mod feature;
+mod report;
 mod strings;
 #[cfg(test)]
 mod tests;
@@ -10,4 +11,5 @@ mod wkt;
 
 pub use decimal::put_decimal;
 pub use feature::ring_text;
+pub use report::{note_line, problem_line};
 pub use strings::written;

@@ -3,29 +3,36 @@
 ghost use Rattle.std.specs.Prelude.{◌≡◌, ◌++◌, map, OnOk};
 ghost use Rattle.osm_text.specs.Decimal.{units_text};
 ghost use Rattle.osm_text.specs.Rows.{led};
-ghost use Rattle.osm_text.specs.Wkt.{point_text, ring_wkt};
+ghost use Rattle.osm_text.specs.Wkt.{xy_text, point_text, ring_wkt};
 
 use crate::decimal::put_decimal;
 use osm_geom::Loc;
 use std::alloc::AllocError;
 
-/// Adds a coordinate.
-fn put_coordinate(text: &mut Vec<u8>, v: i32) -> Result<(), AllocError>
+/// Adds a coordinate of `v` units of 1e-7 degree.
+fn put_coordinate(text: &mut Vec<u8>, v: i64) -> Result<(), AllocError>
     ensures { OnOk result (text.new.items ≡ text.old.items ++ units_text v) }
 {
     let mut buf = [0; 24];
-    let len = put_decimal(&mut buf, i64::from(v));
+    let len = put_decimal(&mut buf, v);
     text.extend_from_slice(&buf[..len])?;
     Ok(())
+}
+
+/// Adds the point of these coordinates.
+pub(crate) fn put_xy(text: &mut Vec<u8>, x: i64, y: i64) -> Result<(), AllocError>
+    ensures { OnOk result (text.new.items ≡ text.old.items ++ xy_text x y) }
+{
+    put_coordinate(text, x)?;
+    text.push(b' ')?;
+    put_coordinate(text, y)
 }
 
 /// Adds a point.
 pub(crate) fn put_point(text: &mut Vec<u8>, point: Loc) -> Result<(), AllocError>
     ensures { OnOk result (text.new.items ≡ text.old.items ++ point_text point) }
 {
-    put_coordinate(text, point.x)?;
-    text.push(b' ')?;
-    put_coordinate(text, point.y)
+    put_xy(text, i64::from(point.x), i64::from(point.y))
 }
 
 /// Adds points, the first behind `lead` and each other behind a comma.

@@ -8,10 +8,10 @@ use Rattle.plane.specs.RayCrossing.{IsOff, IsOffEdge, off_by}
 use Rattle.plane.specs.Sign.{Minus, Null, Plus, Sign, are_opposite, is_minus, is_null, is_plus, negated, sign}
 use Rattle.plane.specs.Vector.{Vector, cross, dot, from_to, orient, same_point}
 use Rattle.plane.proofs.Edges.{same_edge-true}
-use Rattle.plane.proofs.PointOrder.{line-order, line-order-up, order-self, order-sum, order-turned, rising-direction}
+use Rattle.plane.proofs.PointOrder.{line-order, line-order-up, order-reversed, order-self, order-sum, rising-direction}
 use Rattle.plane.proofs.Points.{same_point-true}
 use Rattle.plane.proofs.Products.{cross-here, cross-self, dot-chain, frame-agree, orient-round, side-there}
-use Rattle.plane.proofs.Signs.{agree, agree-plus-first, all4, all4-out, both, imp, imp-out, left-out, right-out, same_sign, same_sign-refl, times}
+use Rattle.plane.proofs.Signs.{agree, all4, all4-out, both, imp, imp-out, left-out, right-out, same_bool, same_bool-true, same_sign, same_sign-refl, sum-with-plus, times}
 
 -- ---- a conflict, by signs: the sides of t's ends (a, b) and of s's ends (c, d); then where t's two ends are in the order, seen from s's lower end (h, k) and from its upper end (m, n)
 abbrev touch_by : Sign → Sign → Sign → Bool
@@ -30,17 +30,17 @@ conflict_by a b c d h k m n = overlap_by a b c d k m || cross_by a b c d h k m n
 
 pub overlaps-by : (s t : Edge) →
     overlaps s t ≡ overlap_by (orient s.from s.to t.from) (orient s.from s.to t.to) (orient t.from t.to s.from) (orient t.from t.to s.to) (order s.from t.to) (order s.to t.from)
-overlaps-by s t = rw (order-turned s.to t.from)
+overlaps-by s t = rw (order-reversed s.to t.from)
 
 pub crosses-by : (s t : Edge) →
     crosses s t ≡ cross_by (orient s.from s.to t.from) (orient s.from s.to t.to) (orient t.from t.to s.from) (orient t.from t.to s.to)
     (order s.from t.from) (order s.from t.to) (order s.to t.from) (order s.to t.to)
-crosses-by s t = rw (order-turned s.to t.from, order-turned s.to t.to, order-turned s.from t.from)
+crosses-by s t = rw (order-reversed s.to t.from, order-reversed s.to t.to, order-reversed s.from t.from)
 
 pub conflicts-by : (s t : Edge) →
     conflicts s t ≡ conflict_by (orient s.from s.to t.from) (orient s.from s.to t.to) (orient t.from t.to s.from) (orient t.from t.to s.to)
     (order s.from t.from) (order s.from t.to) (order s.to t.from) (order s.to t.to)
-conflicts-by s t = rw (order-turned s.to t.from, order-turned s.to t.to, order-turned s.from t.from)
+conflicts-by s t = rw (order-reversed s.to t.from, order-reversed s.to t.to, order-reversed s.from t.from)
 
 -- ---- the signs: a, b, c, d as for `conflict_by` (c, d seen from s's ends), where t's ends are along s, and where they are in the order
 abbrev match_when : Sign → Sign → Sign → Bool
@@ -98,8 +98,8 @@ clear_misses s t hs ht h =
     (sign (dot st (from_to p u))) (sign (dot st (from_to p v))) (sign (dot st (from_to q u))) (sign (dot st (from_to q v)))
     (order p u) (order p v) (order q u) (order q v)
     f1 f2
-    (agree-plus-first (dot st st) (dot st (from_to q u)) (dot st (from_to p u)) dir (dot-chain st p q u))
-    (agree-plus-first (dot st st) (dot st (from_to q v)) (dot st (from_to p v)) dir (dot-chain st p q v))
+    (sum-with-plus (dot st st) (dot st (from_to q u)) (dot st (from_to p u)) dir (dot-chain st p q u))
+    (sum-with-plus (dot st st) (dot st (from_to q v)) (dot st (from_to p v)) dir (dot-chain st p q v))
     (match-by _ _ _ (λ z. line-order-up p q p u hs z))
     (match-by _ _ _ (λ z. line-order-up p q p v hs z))
     (match-by _ _ _ (λ z. line-order-up p q q u hs (ap sign eu ∙ z)))
@@ -152,19 +152,9 @@ pub clear_off_to : (s t : Edge) → IsRising t → IsClearOf s t → same_point 
 clear_off_to s t ht h hu hv = off_at s.to t.from t.to ht hu hv (right-out _ _ (ends_off s t h))
 
 -- ---- conflicts go both ways
-abbrev both_or_none : Bool → Bool → Bool
-both_or_none true b = b
-both_or_none false b = not b
-
-none-true : (a b : Bool) → both_or_none a b ≡ true → a ≡ b
-none-true true true h = refl
-none-true false false h = refl
-none-true true false h = absurd (cc h)
-none-true false true h = absurd (cc h)
-
 -- a word of the signs of two segments that is the same for the two in the other order
 abbrev swapped : (Sign → Sign → Sign → Sign → Sign → Sign → Sign → Sign → Bool) → Sign → Sign → Sign → Sign → Sign → Sign → Sign → Sign → Bool
-swapped f a b c d h k m n = both_or_none (f a b c d h k m n) (f c d a b (negated h) (negated m) (negated k) (negated n))
+swapped f a b c d h k m n = same_bool (f a b c d h k m n) (f c d a b (negated h) (negated m) (negated k) (negated n))
 
 swap_by : (f : Sign → Sign → Sign → Sign → Sign → Sign → Sign → Sign → Bool) → all4 (λ a b c d. all4 (swapped f a b c d)) ≡ true → (s t : Edge) →
     f (orient t.from t.to s.from) (orient t.from t.to s.to) (orient s.from s.to t.from) (orient s.from s.to t.to) (order t.from s.from) (order t.from s.to) (order t.to s.from) (order t.to s.to)
@@ -172,20 +162,20 @@ swap_by : (f : Sign → Sign → Sign → Sign → Sign → Sign → Sign → Si
 swap_by f computes s t =
     let p = s.from in let q = s.to in let u = t.from in let v = t.to in
     let c = all4-out (swapped f (orient p q u) (orient p q v) (orient u v p) (orient u v q)) (all4-out (λ a b c d. all4 (swapped f a b c d)) computes (orient p q u) (orient p q v) (orient u v p) (orient u v q)) (order p u) (order p v) (order q u) (order q v) in
-    let e = none-true (f (orient p q u) (orient p q v) (orient u v p) (orient u v q) (order p u) (order p v) (order q u) (order q v)) (f (orient u v p) (orient u v q) (orient p q u) (orient p q v) (negated (order p u)) (negated (order q u)) (negated (order p v)) (negated (order q v))) c in
-    rw (order-turned p u, order-turned q u, order-turned p v, order-turned q v) (sym e)
+    let e = same_bool-true (f (orient p q u) (orient p q v) (orient u v p) (orient u v q) (order p u) (order p v) (order q u) (order q v)) (f (orient u v p) (orient u v q) (orient p q u) (orient p q v) (negated (order p u)) (negated (order q u)) (negated (order p v)) (negated (order q v))) c in
+    rw (order-reversed p u, order-reversed q u, order-reversed p v, order-reversed q v) (sym e)
 
 abbrev overlap_8 : Sign → Sign → Sign → Sign → Sign → Sign → Sign → Sign → Bool
 overlap_8 a b c d h k m n = overlap_by a b c d k m
 
-pub overlaps_turned : (s t : Edge) → overlaps t s ≡ overlaps s t
-overlaps_turned s t = overlaps-by t s ∙ swap_by overlap_8 refl s t ∙ sym (overlaps-by s t)
+pub overlaps_reversed : (s t : Edge) → overlaps t s ≡ overlaps s t
+overlaps_reversed s t = overlaps-by t s ∙ swap_by overlap_8 refl s t ∙ sym (overlaps-by s t)
 
-pub crosses_turned : (s t : Edge) → crosses t s ≡ crosses s t
-crosses_turned s t = crosses-by t s ∙ swap_by cross_by refl s t ∙ sym (crosses-by s t)
+pub crosses_reversed : (s t : Edge) → crosses t s ≡ crosses s t
+crosses_reversed s t = crosses-by t s ∙ swap_by cross_by refl s t ∙ sym (crosses-by s t)
 
-pub conflicts_turned : (s t : Edge) → conflicts t s ≡ conflicts s t
-conflicts_turned s t = conflicts-by t s ∙ swap_by conflict_by refl s t ∙ sym (conflicts-by s t)
+pub conflicts_reversed : (s t : Edge) → conflicts t s ≡ conflicts s t
+conflicts_reversed s t = conflicts-by t s ∙ swap_by conflict_by refl s t ∙ sym (conflicts-by s t)
 
 cross-twice-here : (p q : Vector) → orient p q p ≡ Null
 cross-twice-here p q = ap sign (cross-here (from_to p q) p)
@@ -203,7 +193,7 @@ pub clear_differs : (s t : Edge) → IsRising s → IsClearOf s t → same_edge 
 clear_differs s t r h = apart-by s t r h (same_edge s t) refl
 
 pub clear_back : (s t : Edge) → IsClearOf s t → IsClearOf t s
-clear_back s t h = conflicts_turned s t ∙ h
+clear_back s t h = conflicts_reversed s t ∙ h
 
 pub self_overlaps : (s : Edge) → IsRising s → overlaps s s ≡ true
 self_overlaps s h =

@@ -1,15 +1,12 @@
 -- Edges that are the same, and their ends.
-use Rattle.std.proofs.Common.{Bool, ap, false, refl, true, ◌&&◌, ◌||◌, ◌∙◌, ◌≡◌}
+use Rattle.std.proofs.Common.{ap, true, ◌||◌, ◌∙◌, ◌≡◌}
 use Rattle.plane.specs.Edge.{Edge, ends_at, same_edge}
 use Rattle.plane.specs.Vector.{Vector, same_point}
+use Rattle.plane.proofs.Bools.{and-out, or-right}
 use Rattle.plane.proofs.Points.{same_point-refl, same_point-true}
 
 abbrev pub edge_of : Vector → Vector → Edge
 edge_of p q = record { from = p; to = q }
-
-pub and-out : (p q : Bool) → (p && q) ≡ true → (p ≡ true) × (q ≡ true)
-and-out true q h = (refl, h)
-and-out false q h = absurd (cc h)
 
 pub same_edge_by : (p q u v : Vector) → p ≡ u → q ≡ v → edge_of p q ≡ edge_of u v
 same_edge_by p q u v e f = ap (λ w. edge_of w q) e ∙ ap (λ w. edge_of u w) f
@@ -25,9 +22,5 @@ same_edge-refl s = rw (same_point-refl s.from, same_point-refl s.to)
 pub ends_at-from : (s : Edge) → ends_at s.from s ≡ true
 ends_at-from s = ap (λ b. b || same_point s.from s.to) (same_point-refl s.from)
 
-or-true : (b c : Bool) → c ≡ true → (b || c) ≡ true
-or-true true c h = refl
-or-true false c h = h
-
 pub ends_at-to : (s : Edge) → ends_at s.to s ≡ true
-ends_at-to s = or-true (same_point s.to s.from) (same_point s.to s.to) (same_point-refl s.to)
+ends_at-to s = or-right (same_point s.to s.from) (same_point s.to s.to) (same_point-refl s.to)

@@ -7,7 +7,7 @@ use Rattle.plane.specs.RayCrossing.{IsOff, IsOffEdge, down_by, down_crossing, of
 use Rattle.plane.specs.Sign.{Null, Plus, Sign, negated, sign}
 use Rattle.plane.specs.Vector.{Vector, cross, dot, from_to, same_point}
 use Rattle.plane.proofs.Points.{same_point-true}
-use Rattle.plane.proofs.Products.{cross-chain, cross-from-here, cross-here, dot-turned, frame-agree, frame-dot-agree, side-moves, side-turned}
+use Rattle.plane.proofs.Products.{cross-chain, cross-from-here, cross-here, dot-reversed, frame-agree, frame-dot-agree, side-moves, side-reversed}
 use Rattle.plane.proofs.Signs.{agree, agree-sum, all, all-out, all2, all2-out, all4, all4-out, imp, imp-out, times}
 use Rattle.plane.proofs.Views.{View, view_at}
 
@@ -61,28 +61,28 @@ abbrev mean : Sign → Sign → Sign
 mean Null t = t
 mean s t = s
 
-abbrev hits_2 : (Sign → Sign → Sign → ℕ) → Sign → Sign → Sign → Sign → Sign → Sign → Sign → Sign → Sign → Bool
-hits_2 g a b cs ct us vs ut vt cp =
+abbrev crossings_2 : (Sign → Sign → Sign → ℕ) → Sign → Sign → Sign → Sign → Sign → Sign → Sign → Sign → Sign → Bool
+crossings_2 g a b cs ct us vs ut vt cp =
     imp (agree (times Plus cs) (times Plus ct) (times Plus cp)) λ _. eqb (g a b cp) (g a b (mean cs ct))
 
-abbrev hits_1 : (Sign → Sign → Sign → ℕ) → Sign → Sign → Sign → Sign → Sign → Sign → Sign → Sign → Bool
-hits_1 g a b cs ct us vs ut vt =
-    imp (misses_by a b cs ct us vs ut vt) λ _. all (hits_2 g a b cs ct us vs ut vt)
+abbrev crossings_1 : (Sign → Sign → Sign → ℕ) → Sign → Sign → Sign → Sign → Sign → Sign → Sign → Sign → Bool
+crossings_1 g a b cs ct us vs ut vt =
+    imp (misses_by a b cs ct us vs ut vt) λ _. all (crossings_2 g a b cs ct us vs ut vt)
 
-abbrev pub hits_0 : (Sign → Sign → Sign → ℕ) → Sign → Sign → Sign → Sign → Bool
-hits_0 g a b cs ct = all4 (hits_1 g a b cs ct)
+abbrev pub crossings_0 : (Sign → Sign → Sign → ℕ) → Sign → Sign → Sign → Sign → Bool
+crossings_0 g a b cs ct = all4 (crossings_1 g a b cs ct)
 
-pub ups_compute : all4 (hits_0 up_by) ≡ true
-ups_compute = refl
+pub up_compute : all4 (crossings_0 up_by) ≡ true
+up_compute = refl
 
-pub downs_compute : all4 (hits_0 down_by) ≡ true
-downs_compute = refl
+pub down_compute : all4 (crossings_0 down_by) ≡ true
+down_compute = refl
 
-hits_signs : (g : Sign → Sign → Sign → ℕ) → all4 (hits_0 g) ≡ true → (a b cs ct cp us vs ut vt : Sign) →
+crossings_signs : (g : Sign → Sign → Sign → ℕ) → all4 (crossings_0 g) ≡ true → (a b cs ct cp us vs ut vt : Sign) →
     misses_by a b cs ct us vs ut vt ≡ true → agree (times Plus cs) (times Plus ct) (times Plus cp) ≡ true → g a b cp ≡ g a b (mean cs ct)
-hits_signs g computes a b cs ct cp us vs ut vt h k =
-    let g1 = all4-out (hits_1 g a b cs ct) (all4-out (hits_0 g) computes a b cs ct) us vs ut vt in
-    eqb-true _ _ (imp-out _ _ (all-out (hits_2 g a b cs ct us vs ut vt) (imp-out _ _ g1 h) cp) k)
+crossings_signs g computes a b cs ct cp us vs ut vt h k =
+    let g1 = all4-out (crossings_1 g a b cs ct) (all4-out (crossings_0 g) computes a b cs ct) us vs ut vt in
+    eqb-true _ _ (imp-out _ _ (all-out (crossings_2 g a b cs ct us vs ut vt) (imp-out _ _ g1 h) cp) k)
 
 -- ---- an edge from u to v, seen so
 module _ (s t : Vector) (r : Vector → Vector) (i : View s t r) (u v : Vector) where
@@ -102,16 +102,16 @@ module _ (s t : Vector) (r : Vector → Vector) (i : View s t r) (u v : Vector) 
       (i.mixed u v) missed (i.past_s u) (i.past_s v) (i.before_t u) (i.before_t v)
       (rw (i.side u, i.side v) at f) (rw (i.side u, i.side v) at g)
 
-  pub hits-by : (g : Sign → Sign → Sign → ℕ) → all4 (hits_0 g) ≡ true → Misses s t (record { from = u; to = v }) →
+  pub crossings-by : (g : Sign → Sign → Sign → ℕ) → all4 (crossings_0 g) ≡ true → Misses s t (record { from = u; to = v }) →
       g (sign (cross ray (r u))) (sign (cross ray (r v))) (sign (cross (r u) (r v)))
       ≡ g (sign (cross ray (from_to s u))) (sign (cross ray (from_to s v))) (mean (sign (cross (from_to s u) (from_to s v))) (sign (cross (from_to t u) (from_to t v))))
-  hits-by g computes missed =
+  crossings-by g computes missed =
       rw (i.side u, i.side v)
-      (hits_signs g computes (sign (cross ray (from_to s u))) (sign (cross ray (from_to s v))) (sign (cross (from_to s u) (from_to s v))) (sign (cross (from_to t u) (from_to t v))) (sign (cross (r u) (r v)))
+      (crossings_signs g computes (sign (cross ray (from_to s u))) (sign (cross ray (from_to s v))) (sign (cross (from_to s u) (from_to s v))) (sign (cross (from_to t u) (from_to t v))) (sign (cross (r u) (r v)))
       (sign (dot ray (from_to s u))) (sign (dot ray (from_to s v))) (sign (dot ray (from_to t u))) (sign (dot ray (from_to t v))) missed (i.mixed u v))
 
-abbrev pub hits_seen : (Sign → Sign → Sign → ℕ) → Vector → (Vector → Vector) → Edge → ℕ
-hits_seen g d r e = g (sign (cross d (r e.from))) (sign (cross d (r e.to))) (sign (cross (r e.from) (r e.to)))
+abbrev pub crossings_seen : (Sign → Sign → Sign → ℕ) → Vector → (Vector → Vector) → Edge → ℕ
+crossings_seen g d r e = g (sign (cross d (r e.from))) (sign (cross d (r e.to))) (sign (cross (r e.from) (r e.to)))
 
 -- ---- an edge that does not end at s
 abbrev pub past_2 : (Sign → Sign → Sign → ℕ) → Sign → Sign → Sign → Sign → Sign → Sign → Sign → Sign → Sign → Sign → Bool
@@ -188,41 +188,41 @@ pub record Sound (g : Sign → Sign → Sign → ℕ) : Type 0 where
   pub from : all4 (at_from_2 g) ≡ true
   pub to : all4 (at_to_2 g) ≡ true
 
-pub ups_sound : Sound up_by
-ups_sound = record { past = refl; from = refl; to = refl }
+pub up_sound : Sound up_by
+up_sound = record { past = refl; from = refl; to = refl }
 
-pub downs_sound : Sound down_by
-downs_sound = record { past = refl; from = refl; to = refl }
+pub down_sound : Sound down_by
+down_sound = record { past = refl; from = refl; to = refl }
 
-from_here : (g : Sign → Sign → Sign → ℕ) → Sound g → (s t : Vector) (r : Vector → Vector) (v : Vector) → View s t r → hits_seen g (from_to s t) r (record { from = s; to = v }) ≡ 0
+from_here : (g : Sign → Sign → Sign → ℕ) → Sound g → (s t : Vector) (r : Vector → Vector) (v : Vector) → View s t r → crossings_seen g (from_to s t) r (record { from = s; to = v }) ≡ 0
 from_here g k s t r v i =
     at_edge s t r i s v g (cross-from-here s (from_to s v))
     (rw (cross-here (from_to s t) s) (all4-out (at_from_2 g) k.from Null (sign (cross (from_to s t) (from_to s v))) (sign (cross (from_to t s) (from_to t v))) (sign (cross (from_to s t) (from_to s v)))))
 
-to_here : (g : Sign → Sign → Sign → ℕ) → Sound g → (s t : Vector) (r : Vector → Vector) (u : Vector) → View s t r → hits_seen g (from_to s t) r (record { from = u; to = s }) ≡ 0
+to_here : (g : Sign → Sign → Sign → ℕ) → Sound g → (s t : Vector) (r : Vector → Vector) (u : Vector) → View s t r → crossings_seen g (from_to s t) r (record { from = u; to = s }) ≡ 0
 to_here g k s t r u i =
     at_edge s t r i u s g (cross-here (from_to s u) s)
     (rw (cross-here (from_to s t) s) (all4-out (at_to_2 g) k.to (sign (cross (from_to s t) (from_to s u))) Null (sign (cross (from_to t u) (from_to t s))) (sign (cross (from_to s t) (from_to u s)))))
 
 pub none_here : (g : Sign → Sign → Sign → ℕ) → Sound g → (s t : Vector) (r : Vector → Vector) (e : Edge) → View s t r → (b b' : Bool) → same_point s e.from ≡ b → same_point s e.to ≡ b' → (b || b') ≡ true →
-    hits_seen g (from_to s t) r e ≡ 0
-none_here g k s t r e i true b' h h' c = subst (λ (w : Vector). hits_seen g (from_to s t) r (record { from = w; to = e.to }) ≡ 0) (same_point-true s e.from h) (from_here g k s t r e.to i)
-none_here g k s t r e i false true h h' c = subst (λ (w : Vector). hits_seen g (from_to s t) r (record { from = e.from; to = w }) ≡ 0) (same_point-true s e.to h') (to_here g k s t r e.from i)
+    crossings_seen g (from_to s t) r e ≡ 0
+none_here g k s t r e i true b' h h' c = subst (λ (w : Vector). crossings_seen g (from_to s t) r (record { from = w; to = e.to }) ≡ 0) (same_point-true s e.from h) (from_here g k s t r e.to i)
+none_here g k s t r e i false true h h' c = subst (λ (w : Vector). crossings_seen g (from_to s t) r (record { from = e.from; to = w }) ≡ 0) (same_point-true s e.to h') (to_here g k s t r e.from i)
 none_here g k s t r e i false false h h' c = absurd (cc c)
 
-abbrev turned_1 : Sign → Sign → Sign → Sign → Sign → Sign → Sign → Sign → Bool
-turned_1 a b cs ct us vs ut vt = imp (misses_by a b cs ct us vs ut vt) λ _. misses_by (negated a) (negated b) ct cs (negated ut) (negated vt) (negated us) (negated vs)
+abbrev reversed_1 : Sign → Sign → Sign → Sign → Sign → Sign → Sign → Sign → Bool
+reversed_1 a b cs ct us vs ut vt = imp (misses_by a b cs ct us vs ut vt) λ _. misses_by (negated a) (negated b) ct cs (negated ut) (negated vt) (negated us) (negated vs)
 
-turned_computes : all4 (λ a b cs ct. all4 (turned_1 a b cs ct)) ≡ true
-turned_computes = refl
+reversed_computes : all4 (λ a b cs ct. all4 (reversed_1 a b cs ct)) ≡ true
+reversed_computes = refl
 
-pub misses_turned : (s t : Vector) (e : Edge) → Misses s t e → Misses t s e
-misses_turned s t e m =
+pub misses_reversed : (s t : Vector) (e : Edge) → Misses s t e → Misses t s e
+misses_reversed s t e m =
     let u = e.from in let v = e.to in
-    let c = all4-out (turned_1 (sign (cross (from_to s t) (from_to s u))) (sign (cross (from_to s t) (from_to s v))) (sign (cross (from_to s u) (from_to s v))) (sign (cross (from_to t u) (from_to t v))))
-    (all4-out (λ a b cs ct. all4 (turned_1 a b cs ct)) turned_computes (sign (cross (from_to s t) (from_to s u))) (sign (cross (from_to s t) (from_to s v))) (sign (cross (from_to s u) (from_to s v))) (sign (cross (from_to t u) (from_to t v))))
+    let c = all4-out (reversed_1 (sign (cross (from_to s t) (from_to s u))) (sign (cross (from_to s t) (from_to s v))) (sign (cross (from_to s u) (from_to s v))) (sign (cross (from_to t u) (from_to t v))))
+    (all4-out (λ a b cs ct. all4 (reversed_1 a b cs ct)) reversed_computes (sign (cross (from_to s t) (from_to s u))) (sign (cross (from_to s t) (from_to s v))) (sign (cross (from_to s u) (from_to s v))) (sign (cross (from_to t u) (from_to t v))))
     (sign (dot (from_to s t) (from_to s u))) (sign (dot (from_to s t) (from_to s v))) (sign (dot (from_to s t) (from_to t u))) (sign (dot (from_to s t) (from_to t v))) in
-    rw (side-turned s t u, side-turned s t v, dot-turned s t t u, dot-turned s t t v, dot-turned s t s u, dot-turned s t s v)
+    rw (side-reversed s t u, side-reversed s t v, dot-reversed s t t u, dot-reversed s t t v, dot-reversed s t s u, dot-reversed s t s v)
     (imp-out _ _ c m)
 
 -- ---- the laws for one edge
@@ -233,19 +233,20 @@ pub inner_points_alike : (s t p q : Vector) (e : Edge) → IsBetween s t p → I
     (up_crossing (from_to s t) (from_to p e.from) (from_to p e.to) ≡ up_crossing (from_to s t) (from_to q e.from) (from_to q e.to))
     × (down_crossing (from_to s t) (from_to p e.from) (from_to p e.to) ≡ down_crossing (from_to s t) (from_to q e.from) (from_to q e.to))
 inner_points_alike s t p q e i j m =
-    let v = view_at s t p i in let w = view_at s t q j in
-    (hits-by s t (from_to p) v e.from e.to up_by ups_compute m ∙ sym (hits-by s t (from_to q) w e.from e.to up_by ups_compute m),
-    hits-by s t (from_to p) v e.from e.to down_by downs_compute m ∙ sym (hits-by s t (from_to q) w e.from e.to down_by downs_compute m))
+    let v = view_at s t p i in let w = view_at s t q j in (
+      crossings-by s t (from_to p) v e.from e.to up_by up_compute m ∙ sym (crossings-by s t (from_to q) w e.from e.to up_by up_compute m),
+      crossings-by s t (from_to p) v e.from e.to down_by down_compute m ∙ sym (crossings-by s t (from_to q) w e.from e.to down_by down_compute m),
+    )
 
 pub end_alike : (s t p : Vector) (e : Edge) → IsBetween s t p → Misses s t e → IsOffEdge s e →
     (up_crossing (from_to s t) (from_to p e.from) (from_to p e.to) ≡ up_crossing (from_to s t) (from_to s e.from) (from_to s e.to))
     × (down_crossing (from_to s t) (from_to p e.from) (from_to p e.to) ≡ down_crossing (from_to s t) (from_to s e.from) (from_to s e.to))
 end_alike s t p e i m o =
     let v = view_at s t p i in
-    (past_edge s t (from_to p) v e.from e.to up_by ups_sound.past m o, past_edge s t (from_to p) v e.from e.to down_by downs_sound.past m o)
+    (past_edge s t (from_to p) v e.from e.to up_by up_sound.past m o, past_edge s t (from_to p) v e.from e.to down_by down_sound.past m o)
 
 pub end_edge_none : (s t p : Vector) (e : Edge) → IsBetween s t p → Misses s t e → ends_at s e ≡ true →
     (up_crossing (from_to s t) (from_to p e.from) (from_to p e.to) ≡ 0) × (down_crossing (from_to s t) (from_to p e.from) (from_to p e.to) ≡ 0)
 end_edge_none s t p e i m h =
     let v = view_at s t p i in
-    (none_here up_by ups_sound s t (from_to p) e v (same_point s e.from) (same_point s e.to) refl refl h, none_here down_by downs_sound s t (from_to p) e v (same_point s e.from) (same_point s e.to) refl refl h)
+    (none_here up_by up_sound s t (from_to p) e v (same_point s e.from) (same_point s e.to) refl refl h, none_here down_by down_sound s t (from_to p) e v (same_point s e.from) (same_point s e.to) refl refl h)

@@ -1,6 +1,9 @@
+pub mod Bools
 pub mod Conflicts
 pub mod Edges
+pub mod Examples
 pub mod FreeSegments
+pub mod Heights
 pub mod Identities
 pub mod PointOrder
 pub mod Points

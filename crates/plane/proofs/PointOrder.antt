@@ -7,7 +7,7 @@ use Rattle.plane.specs.Sign.{Minus, Null, Plus, Sign, is_null, negated, sign, th
 use Rattle.plane.specs.Vector.{IsDirection, Vector, cross, dot, from_to, same_point}
 use Rattle.plane.proofs.Identities.{apart, lift, same, ◌⊞◌, ◌⊟◌, ◌⊠◌}
 use Rattle.plane.proofs.Points.{same_point-refl, same_vector}
-use Rattle.plane.proofs.Signs.{agree, agree-products, agree-sum, all, all-out, all2, all2-out, all4-out, imp, imp-out, not-null, null-zero, same-out, same_sign, same_sign-true, sign-turned, times, times-plus}
+use Rattle.plane.proofs.Signs.{agree, agree-products, agree-sum, all, all-out, all2, all2-out, all4-out, imp, imp-out, not-null, null-zero, same-out, same_sign, same_sign-true, sign-reversed, times, times-plus}
 
 -- ---- the order of points
 abbrev then_sums : Sign → Sign → Sign → Sign → Bool
@@ -26,10 +26,10 @@ negated-then Plus t = refl
 negated-then Null t = refl
 negated-then Minus t = refl
 
-pub order-turned : (p q : Vector) → order q p ≡ negated (order p q)
-order-turned p q =
-    let h = sign-turned (q.y -ℤ p.y) (p.y -ℤ q.y) (omega (arith, ints)) in
-    let k = sign-turned (q.x -ℤ p.x) (p.x -ℤ q.x) (omega (arith, ints)) in
+pub order-reversed : (p q : Vector) → order q p ≡ negated (order p q)
+order-reversed p q =
+    let h = sign-reversed (q.y -ℤ p.y) (p.y -ℤ q.y) (omega (arith, ints)) in
+    let k = sign-reversed (q.x -ℤ p.x) (p.x -ℤ q.x) (omega (arith, ints)) in
     rw (h, k) (negated-then (sign (q.y -ℤ p.y)) (sign (q.x -ℤ p.x)))
 
 pub order-self-null : (p : Vector) → order p p ≡ Null

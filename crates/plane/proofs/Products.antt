@@ -1,10 +1,10 @@
 -- Identities of cross and dot products, and the signs that they leave possible.
 use Rattle.std.proofs.Common.{Bool, ap, arith, false, refl, subst, true, ◌∙◌, ◌≡◌}
 use lib.IntN.{pos, ◌*ℤ◌, ◌+ℤ◌}
-use Rattle.plane.specs.Sign.{Minus, Null, Plus, Sign, is_plus, negated, sign}
+use Rattle.plane.specs.Sign.{Null, Plus, Sign, is_plus, negated, sign}
 use Rattle.plane.specs.Vector.{IsDirection, Vector, cross, dot, east, from_to}
 use Rattle.plane.proofs.Identities.{Split, lift, same, ◌⊞◌, ◌⊟◌, ◌⊠◌}
-use Rattle.plane.proofs.Signs.{agree, agree-products, agree-sum, all, all-out, all2-out, imp, imp-out, null-is, sign-*, sign-turned, times, times-plus}
+use Rattle.plane.proofs.Signs.{agree, agree-products, agree-sum, all, all-out, all2-out, imp, imp-out, is_plus-true, null-is, sign-*, sign-reversed, times, times-plus}
 
 -- ---- the identities
 pub record Vec2 : Type 0 where
@@ -88,29 +88,21 @@ cross-here d v = let e = lift2 d in let w = lift2 v in same (cross2 e (from_to2 
 pub cross-from-here : (v w : Vector) → cross (from_to v v) w ≡ pos 0
 cross-from-here v w = let e = lift2 v in let f = lift2 w in same (cross2 (from_to2 e e) f) (lift (pos 0)) (omega arith)
 
-pub cross-to-here : (v w : Vector) → cross w (from_to v v) ≡ pos 0
-cross-to-here v w = cross-here w v
-
-turned-side : (s t w : Vector) → cross (from_to s t) (from_to s w) +ℤ cross (from_to t s) (from_to t w) ≡ pos 0
-turned-side s t w =
+reversed-side : (s t w : Vector) → cross (from_to s t) (from_to s w) +ℤ cross (from_to t s) (from_to t w) ≡ pos 0
+reversed-side s t w =
     let s' = lift2 s in let t' = lift2 t in let w' = lift2 w in
     same (cross2 (from_to2 s' t') (from_to2 s' w') ⊞ cross2 (from_to2 t' s') (from_to2 t' w')) (lift (pos 0)) (omega arith)
 
-turned-dot : (s t p w : Vector) → dot (from_to s t) (from_to p w) +ℤ dot (from_to t s) (from_to p w) ≡ pos 0
-turned-dot s t p w =
+reversed-dot : (s t p w : Vector) → dot (from_to s t) (from_to p w) +ℤ dot (from_to t s) (from_to p w) ≡ pos 0
+reversed-dot s t p w =
     let s' = lift2 s in let t' = lift2 t in let w' = lift2 w in let p' = lift2 p in
     same (dot2 (from_to2 s' t') (from_to2 p' w') ⊞ dot2 (from_to2 t' s') (from_to2 p' w')) (lift (pos 0)) (omega arith)
 
-pub side-turned : (s t w : Vector) → sign (cross (from_to t s) (from_to t w)) ≡ negated (sign (cross (from_to s t) (from_to s w)))
-side-turned s t w = sign-turned (cross (from_to s t) (from_to s w)) (cross (from_to t s) (from_to t w)) (turned-side s t w)
+pub side-reversed : (s t w : Vector) → sign (cross (from_to t s) (from_to t w)) ≡ negated (sign (cross (from_to s t) (from_to s w)))
+side-reversed s t w = sign-reversed (cross (from_to s t) (from_to s w)) (cross (from_to t s) (from_to t w)) (reversed-side s t w)
 
-pub dot-turned : (s t p w : Vector) → sign (dot (from_to t s) (from_to p w)) ≡ negated (sign (dot (from_to s t) (from_to p w)))
-dot-turned s t p w = sign-turned (dot (from_to s t) (from_to p w)) (dot (from_to t s) (from_to p w)) (turned-dot s t p w)
-
-is_plus-true : (s : Sign) → is_plus s ≡ true → s ≡ Plus
-is_plus-true Plus h = refl
-is_plus-true Null h = absurd (cc h)
-is_plus-true Minus h = absurd (cc h)
+pub dot-reversed : (s t p w : Vector) → sign (dot (from_to t s) (from_to p w)) ≡ negated (sign (dot (from_to s t) (from_to p w)))
+dot-reversed s t p w = sign-reversed (dot (from_to s t) (from_to p w)) (dot (from_to t s) (from_to p w)) (reversed-dot s t p w)
 
 abbrev is_nonzero : Sign → Sign → Bool
 is_nonzero Null Null = false
@@ -167,3 +159,9 @@ cross-agree d w =
     let i : pos 1 *ℤ cross d w +ℤ d.y *ℤ w.x ≡ d.x *ℤ w.y = same (lift (pos 1) ⊠ (a ⊠ e ⊟ b ⊠ c) ⊞ b ⊠ c) (a ⊠ e) (omega arith) in
     let h = agree-products (pos 1) (cross d w) d.y w.x d.x w.y i in
     subst (λ k. agree k (times (sign d.y) (sign w.x)) (times (sign d.x) (sign w.y)) ≡ true) (times-plus (sign (cross d w))) h
+
+pub cross-reversed : (a b : Vector) → cross a b +ℤ cross b a ≡ pos 0
+cross-reversed a b = let e = lift2 a in let f = lift2 b in same (cross2 e f ⊞ cross2 f e) (lift (pos 0)) (omega arith)
+
+pub cross-negated : (a b : Vector) → sign (cross b a) ≡ negated (sign (cross a b))
+cross-negated a b = sign-reversed (cross a b) (cross b a) (cross-reversed a b)

@@ -6,14 +6,14 @@ use lib.Signed.{◌<ℤ◌, ◌≤ℤ◌}
 use Rattle.plane.specs.Bit.{bit}
 use Rattle.plane.specs.Edge.{Edge, IsRising, ends_at}
 use Rattle.plane.specs.Height.{is_in_span, is_left_of}
-use Rattle.plane.specs.RayCrossing.{down_by, down_crossing, up_by, up_crossing}
+use Rattle.plane.specs.RayCrossing.{crosses_down, crosses_up, down_by, down_crossing, up_by, up_crossing}
 use Rattle.plane.specs.Sector.{in_sector, sector_by}
 use Rattle.plane.specs.Sign.{Minus, Null, Plus, Sign, is_minus, is_plus, sign}
 use Rattle.plane.specs.Vector.{IsDirection, Vector, cross, east, from_to, orient, same_point}
 use Rattle.plane.proofs.Identities.{lift, same, ◌⊟◌, ◌⊠◌}
 use Rattle.plane.proofs.Points.{same_point-true}
 use Rattle.plane.proofs.Products.{cross-agree, cross-here, cross-self, dot-east, orient-round}
-use Rattle.plane.proofs.Signs.{Says, agree, agree-sum, all2-out, all4-out, both, imp, imp-out, left-out, not-minus-by, right-out, same_sign, same_sign-true, says, times}
+use Rattle.plane.proofs.Signs.{Says, agree, agree-sum, all, all-out, all2-out, all4-out, both, imp, imp-out, left-out, not-minus-by, right-out, same_sign, same_sign-true, says, times}
 
 -- ---- a hit, by orders
 up-out : (s t u : Sign) (x y z : ℤ) → Says s x → Says t y → Says u z → up_by s t u ≡ 1 → (x ≤ℤ pos 0) × (pos 0 <ℤ y) × (pos 0 <ℤ z)
@@ -56,12 +56,6 @@ down_crossing-is d a b = (
 pub cross-east : (a : Vector) → cross east a ≡ a.y
 cross-east a = let x = lift a.x in let y = lift a.y in same (lift (pos 1) ⊠ y ⊟ lift (pos 0) ⊠ x) y (omega arith)
 
-pub up_crossing-east : (a b : Vector) → up_crossing east a b ≡ up_by (sign a.y) (sign b.y) (sign (cross a b))
-up_crossing-east a b = rw (cross-east a, cross-east b)
-
-pub down_crossing-east : (a b : Vector) → down_crossing east a b ≡ down_by (sign a.y) (sign b.y) (sign (cross a b))
-down_crossing-east a b = rw (cross-east a, cross-east b)
-
 pub east-direction : IsDirection east
 east-direction = refl
 
@@ -71,8 +65,8 @@ up_seen d r e = up_crossing d (r e.from) (r e.to)
 abbrev pub down_seen : Vector → (Vector → Vector) → Edge → ℕ
 down_seen d r e = down_crossing d (r e.from) (r e.to)
 
-abbrev pub hits_at : Vector → (Vector → Vector) → Edge → ℕ
-hits_at d r t = up_seen d r t + down_seen d r t
+abbrev pub crossings_at : Vector → (Vector → Vector) → Edge → ℕ
+crossings_at d r t = up_seen d r t + down_seen d r t
 
 -- ---- an edge that does not end at the point
 abbrev left_1 : Sign → Sign → Sign → Sign → Bool
@@ -85,8 +79,8 @@ pub rise-y : (p u v : Vector) → agree (sign (u.y -ℤ p.y)) (sign (v.y -ℤ u.
 rise-y p u v = agree-sum (u.y -ℤ p.y) (v.y -ℤ u.y) (v.y -ℤ p.y) (omega (arith, ints))
 
 -- a ray in a direction d of which the heights tell the sides
-pub hits-left : (d p : Vector) (t : Edge) → ((w : Vector) → sign (cross d w) ≡ sign w.y) → IsRising t → hits_at d (from_to p) t ≡ bit (is_left_of p t)
-hits-left d p t h r =
+pub crossings-left : (d p : Vector) (t : Edge) → ((w : Vector) → sign (cross d w) ≡ sign w.y) → IsRising t → crossings_at d (from_to p) t ≡ bit (is_left_of p t)
+crossings-left d p t h r =
     let u = t.from in let v = t.to in
     let e = left-signs (sign (u.y -ℤ p.y)) (sign (v.y -ℤ p.y)) (sign (cross (from_to p u) (from_to p v))) (sign (v.y -ℤ u.y)) (rise-y p u v) (not-minus-by (sign (v.y -ℤ u.y)) (sign (v.x -ℤ u.x)) r) in
     rw (h (from_to p u), h (from_to p v), orient-round p u v) e
@@ -125,3 +119,7 @@ rightward_crossing p t r =
     let c = imp-out _ _ (imp-out _ _ (all4-out rightward_1 refl (sign (u.y -ℤ p.y)) (sign (v.y -ℤ p.y)) (sign (cross (from_to p u) (from_to p v))) (sign (v.y -ℤ u.y))) (rise-y p u v)) (not-minus-by (sign (v.y -ℤ u.y)) (sign (v.x -ℤ u.x)) r) in
     let e = eqb-true _ _ (left-out _ _ c) in let f = eqb-true _ _ (right-out _ _ c) in
     (rw (cross-east (from_to p u), cross-east (from_to p v), orient-round p u v) e, rw (cross-east (from_to p u), cross-east (from_to p v)) f)
+
+pub crossing-bit : (a b c : Sign) → up_by a b c + down_by a b c ≡ bit (crosses_up a b c || crosses_down a b c)
+crossing-bit a b c =
+    eqb-true _ _ (all-out (λ z. eqb (up_by a b z + down_by a b z) (bit (crosses_up a b z || crosses_down a b z))) (all2-out (λ x y. all (λ z. eqb (up_by x y z + down_by x y z) (bit (crosses_up x y z || crosses_down x y z)))) refl a b) c)

@@ -62,11 +62,11 @@ module _ (k : ℤ) (hk : sign k ≡ Plus) where
       let p = s.from in let q = s.to in let u = t.from in let v = t.to in
       rw (cross-scaled p q p u, cross-scaled p q p v, cross-scaled u v u p, cross-scaled u v u q, order-scaled p u, order-scaled p v, order-scaled u q, order-scaled v q, order-scaled u p, order-scaled q v)
 
-  pub spans-scaled : (p : Vector) (t : Edge) → is_in_span (scaled_point k p) (scaled_edge k t) ≡ is_in_span p t
-  spans-scaled p t = ap (λ s. not (is_plus s) && is_plus (sign (k *ℤ t.to.y -ℤ k *ℤ p.y))) (minus-sign t.from.y p.y) ∙ ap (λ s. not (is_plus (sign (t.from.y -ℤ p.y))) && is_plus s) (minus-sign t.to.y p.y)
+  pub span-scaled : (p : Vector) (t : Edge) → is_in_span (scaled_point k p) (scaled_edge k t) ≡ is_in_span p t
+  span-scaled p t = ap (λ s. not (is_plus s) && is_plus (sign (k *ℤ t.to.y -ℤ k *ℤ p.y))) (minus-sign t.from.y p.y) ∙ ap (λ s. not (is_plus (sign (t.from.y -ℤ p.y))) && is_plus s) (minus-sign t.to.y p.y)
 
   pub left-scaled : (p : Vector) (t : Edge) → is_left_of (scaled_point k p) (scaled_edge k t) ≡ is_left_of p t
-  left-scaled p t = ap (λ b. b && is_plus (orient (scaled_point k t.from) (scaled_point k t.to) (scaled_point k p))) (spans-scaled p t) ∙ ap (λ s. is_in_span p t && is_plus s) (cross-scaled t.from t.to t.from p)
+  left-scaled p t = ap (λ b. b && is_plus (orient (scaled_point k t.from) (scaled_point k t.to) (scaled_point k p))) (span-scaled p t) ∙ ap (λ s. is_in_span p t && is_plus s) (cross-scaled t.from t.to t.from p)
 
   pub level-scaled : (s : Edge) → is_horizontal (scaled_edge k s) ≡ is_horizontal s
   level-scaled s = ap is_null (minus-sign s.to.y s.from.y)
@@ -74,7 +74,7 @@ module _ (k : ℤ) (hk : sign k ≡ Plus) where
   pub right-scaled : (s t : Edge) → starts_left_of (scaled_edge k s) (scaled_edge k t) ≡ starts_left_of s t
   right-scaled s t =
       let a = s.from in
-      ap (λ b. b && (is_plus (orient (scaled_point k t.from) (scaled_point k t.to) (scaled_point k a)) || (same_point (scaled_point k a) (scaled_point k t.from) && is_minus (orient (scaled_point k a) (scaled_point k s.to) (scaled_point k t.to))))) (spans-scaled a t)
+      ap (λ b. b && (is_plus (orient (scaled_point k t.from) (scaled_point k t.to) (scaled_point k a)) || (same_point (scaled_point k a) (scaled_point k t.from) && is_minus (orient (scaled_point k a) (scaled_point k s.to) (scaled_point k t.to))))) (span-scaled a t)
       ∙ ap (λ o. is_in_span a t && (is_plus o || (same_point (scaled_point k a) (scaled_point k t.from) && is_minus (orient (scaled_point k a) (scaled_point k s.to) (scaled_point k t.to))))) (cross-scaled t.from t.to t.from a)
       ∙ ap (λ b. is_in_span a t && (is_plus (orient t.from t.to a) || (b && is_minus (orient (scaled_point k a) (scaled_point k s.to) (scaled_point k t.to))))) (point-scaled a t.from)
       ∙ ap (λ o. is_in_span a t && (is_plus (orient t.from t.to a) || (same_point a t.from && is_minus o))) (cross-scaled a s.to a t.to)

@@ -6,7 +6,7 @@ use Rattle.plane.specs.RayCrossing.{IsOff, down_by, down_crossing, off_by, ray_c
 use Rattle.plane.specs.Sector.{in_sector, sector_by}
 use Rattle.plane.specs.Sign.{Plus, Sign, negated, sign}
 use Rattle.plane.specs.Vector.{IsDirection, Vector, cross, dot, from_to}
-use Rattle.plane.proofs.Products.{cross-back, cross-here, cross-self, direction-back, dot-here, dot-turned, frame-agree, frame-dot-agree, plucker-agree, plucker-dot-agree}
+use Rattle.plane.proofs.Products.{cross-back, cross-here, cross-self, direction-back, dot-here, dot-reversed, frame-agree, frame-dot-agree, plucker-agree, plucker-dot-agree}
 use Rattle.plane.proofs.Signs.{agree, all2, all2-out, all4, all4-out, imp, imp-out, times}
 
 -- ---- the signs: of dot d and cross d at a (xa, ya), b (xb, yb) and d' (xd, yd), of cross a b (c), dot a b (s), cross d' a (ca) and cross d' b (cb)
@@ -70,10 +70,10 @@ signed_sector_lemma d c a b p q o = let w = sector_lemma d c a b p q o in omega 
 
 pub opposite-in : (a b : Vector) → IsDirection (from_to a b) → in_sector (from_to a b) (from_to b a) (from_to b a) ≡ 1
 opposite-in a b h =
-    let m = dot-turned b a b a ∙ ap negated (direction-back a b h) in
+    let m = dot-reversed b a b a ∙ ap negated (direction-back a b h) in
     rw (m, cross-back a b, cross-self (from_to b a)) refl
 
 pub own-out : (a b : Vector) → IsDirection (from_to a b) → in_sector (from_to a b) (from_to b a) (from_to a b) ≡ 0
 own-out a b h =
-    let m = dot-turned b a b a ∙ ap negated (direction-back a b h) in
+    let m = dot-reversed b a b a ∙ ap negated (direction-back a b h) in
     rw (h, m, cross-back a b, cross-self (from_to a b)) refl

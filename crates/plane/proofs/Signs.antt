@@ -3,7 +3,7 @@ use Rattle.std.proofs.Common.{Bool, ap, arith, false, not, refl, subst, suc, sym
 use borrow.Author.Differences.{down, ints, up}
 use lib.IntN.{neg_ℤ, negsuc, pos, ℤ, ◌*ℤ◌, ◌+ℤ◌, ◌-ℤ◌}
 use lib.Signed.{◌<ℤ◌}
-use Rattle.plane.specs.Sign.{Minus, Null, Plus, Sign, is_minus, is_null, negated, sign, then_sign}
+use Rattle.plane.specs.Sign.{Minus, Null, Plus, Sign, is_minus, is_null, is_plus, negated, sign, then_sign}
 
 abbrev pub times : Sign → Sign → Sign
 times Null b = Null
@@ -29,9 +29,9 @@ sign-pos : (k : ℕ) → 0 < k → sign (pos k) ≡ Plus
 sign-pos zero h = absurd (omega arith)
 sign-pos (suc k) h = refl
 
-sign-neg : (k : ℕ) → 0 < k → sign (neg_ℤ (pos k)) ≡ Minus
-sign-neg zero h = absurd (omega arith)
-sign-neg (suc k) h = refl
+sign-negated : (k : ℕ) → 0 < k → sign (neg_ℤ (pos k)) ≡ Minus
+sign-negated zero h = absurd (omega arith)
+sign-negated (suc k) h = refl
 
 product-pos : (m n : ℕ) → 0 < suc m * suc n
 product-pos m n = omega arith
@@ -47,9 +47,9 @@ sign-* (pos zero) (pos n) = ap (λ (k : ℕ). sign (pos k)) (zero-left n)
 sign-* (pos zero) (negsuc n) = ap (λ (k : ℕ). sign (neg_ℤ (pos k))) (zero-left (suc n))
 sign-* (pos (suc m)) (pos zero) = ap (λ (k : ℕ). sign (pos k)) (zero-right (suc m))
 sign-* (pos (suc m)) (pos (suc n)) = sign-pos (suc m * suc n) (product-pos m n)
-sign-* (pos (suc m)) (negsuc n) = sign-neg (suc m * suc n) (product-pos m n)
+sign-* (pos (suc m)) (negsuc n) = sign-negated (suc m * suc n) (product-pos m n)
 sign-* (negsuc m) (pos zero) = ap (λ (k : ℕ). sign (neg_ℤ (pos k))) (zero-right (suc m))
-sign-* (negsuc m) (pos (suc n)) = sign-neg (suc m * suc n) (product-pos m n)
+sign-* (negsuc m) (pos (suc n)) = sign-negated (suc m * suc n) (product-pos m n)
 sign-* (negsuc m) (negsuc n) = sign-pos (suc m * suc n) (product-pos m n)
 
 -- what a sign says to `omega`
@@ -163,14 +163,14 @@ times-plus Plus = refl
 times-plus Null = refl
 times-plus Minus = refl
 
-neg-by : (s t : Sign) → agree s t Null ≡ true → t ≡ negated s
-neg-by Plus Minus h = refl
-neg-by Minus Plus h = refl
-neg-by Null Null h = refl
-neg-by s t h = absurd (cc h)
+negated-by : (s t : Sign) → agree s t Null ≡ true → t ≡ negated s
+negated-by Plus Minus h = refl
+negated-by Minus Plus h = refl
+negated-by Null Null h = refl
+negated-by s t h = absurd (cc h)
 
-pub sign-turned : (x y : ℤ) → x +ℤ y ≡ pos 0 → sign y ≡ negated (sign x)
-sign-turned x y e = neg-by (sign x) (sign y) (agree-sum x y (pos 0) e)
+pub sign-reversed : (x y : ℤ) → x +ℤ y ≡ pos 0 → sign y ≡ negated (sign x)
+sign-reversed x y e = negated-by (sign x) (sign y) (agree-sum x y (pos 0) e)
 
 -- ---- a sign, as an order
 pub says-at : (s : Sign) (z : ℤ) → sign z ≡ s → Says s z
@@ -184,6 +184,11 @@ minus-is z = ((λ h. let k = says-at Minus z h in omega (arith, ints)), (λ h. s
 
 pub null-is : (z : ℤ) → (sign z ≡ Null) ↔ (z ≡ pos 0)
 null-is z = ((λ h. let k = says-at Null z h in omega (arith, ints)), (λ h. sign-from Null z (omega (arith, ints))))
+
+pub is_plus-true : (s : Sign) → is_plus s ≡ true → s ≡ Plus
+is_plus-true Plus h = refl
+is_plus-true Null h = absurd (cc h)
+is_plus-true Minus h = absurd (cc h)
 
 -- ---- signs that are the same
 abbrev pub same_sign : Sign → Sign → Bool
@@ -208,9 +213,6 @@ times-back s t = same_sign-true (times s t) (times t s) (all2-out (λ s t. same_
 
 pub not-null : (s : Sign) → s ≡ Plus → not (is_null s) ≡ true
 not-null s h = ap (λ t. not (is_null t)) h
-
-pub agree-plus-first : (x y z : ℤ) → sign x ≡ Plus → x +ℤ y ≡ z → agree Plus (sign y) (sign z) ≡ true
-agree-plus-first x y z h e = subst (λ s. agree s (sign y) (sign z) ≡ true) h (agree-sum x y z e)
 
 pub plus-times : (q x : ℤ) → sign q ≡ Plus → sign (q *ℤ x) ≡ sign x
 plus-times q x h = sign-* q x ∙ ap (λ s. times s (sign x)) h ∙ times-plus (sign x)
@@ -243,3 +245,13 @@ pub not-null-by : (k : Sign) → (k ≡ Null → ⊥) → not (is_null k) ≡ tr
 not-null-by Null h = absurd (h refl)
 not-null-by Plus h = refl
 not-null-by Minus h = refl
+
+abbrev pub same_bool : Bool → Bool → Bool
+same_bool true b = b
+same_bool false b = not b
+
+pub same_bool-true : (a b : Bool) → same_bool a b ≡ true → a ≡ b
+same_bool-true true true h = refl
+same_bool-true false false h = refl
+same_bool-true true false h = absurd (cc h)
+same_bool-true false true h = absurd (cc h)

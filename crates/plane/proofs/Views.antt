@@ -115,8 +115,8 @@ module _ (s t : Vector) (d : IsDirection (from_to s t)) where
     before_t = λ w. let h = sum-with-plus (dot line line) (dot line (from_to t w) +ℤ dot line (from_to t w)) (dot line (mid s t w)) d (mid-before w) in rw (sign-twice (dot line (from_to t w))) at h;
   }
 
-pub mid_turned : (s t : Vector) → mid s t ≡ mid t s
-mid_turned s t = fun_ext (λ w. same_vector ((w.x -ℤ s.x) +ℤ (w.x -ℤ t.x)) ((w.y -ℤ s.y) +ℤ (w.y -ℤ t.y)) ((w.x -ℤ t.x) +ℤ (w.x -ℤ s.x)) ((w.y -ℤ t.y) +ℤ (w.y -ℤ s.y)) (omega (arith, ints)) (omega (arith, ints)))
+pub mid_reversed : (s t : Vector) → mid s t ≡ mid t s
+mid_reversed s t = fun_ext (λ w. same_vector ((w.x -ℤ s.x) +ℤ (w.x -ℤ t.x)) ((w.y -ℤ s.y) +ℤ (w.y -ℤ t.y)) ((w.x -ℤ t.x) +ℤ (w.x -ℤ s.x)) ((w.y -ℤ t.y) +ℤ (w.y -ℤ s.y)) (omega (arith, ints)) (omega (arith, ints)))
 
 abbrev pub weigh : ℤ → ℤ → Vector → Vector → Vector
 weigh q m a b = record { x = q *ℤ a.x +ℤ m *ℤ b.x; y = q *ℤ a.y +ℤ m *ℤ b.y }

@@ -23,11 +23,13 @@ is_parted_by t s = are_opposite (orient s.from s.to t.from) (orient s.from s.to 
 
 -- the two lie on one line, and each begins before the other ends: they share more than one point
 abbrev pub overlaps : Edge → Edge → Bool
-overlaps s t = (is_along s t && is_along t s) && (is_plus (order s.from t.to) && is_plus (order t.from s.to))
+overlaps s t =
+    (is_along s t && is_along t s) && (is_plus (order s.from t.to) && is_plus (order t.from s.to))
 
 -- the two share one point, which is not an end of both
 abbrev pub crosses : Edge → Edge → Bool
-crosses s t = not (overlaps s t) && ((is_touched_by s t || is_touched_by t s) || (is_parted_by t s && is_parted_by s t))
+crosses s t =
+    not (overlaps s t) && ((is_touched_by s t || is_touched_by t s) || (is_parted_by t s && is_parted_by s t))
 
 -- whether two segments conflict; a segment conflicts with itself
 abbrev pub conflicts : Edge → Edge → Bool

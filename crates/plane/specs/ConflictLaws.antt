@@ -26,4 +26,6 @@ ClearSegmentMisses = (s t : Edge) → IsRising s → IsRising t → IsClearOf s 
 
 -- an end of a segment that is no end of another one lies nowhere on it, where they don't conflict
 abbrev pub ClearEndIsOff : Type 0
-ClearEndIsOff = (v : Vector) (s t : Edge) → IsRising t → IsClearOf s t → ends_at v s ≡ true → ends_at v t ≡ false → IsOffEdge v t
+ClearEndIsOff =
+    (v : Vector) (s t : Edge) → IsRising t → IsClearOf s t → ends_at v s ≡ true → ends_at v t ≡ false →
+    IsOffEdge v t

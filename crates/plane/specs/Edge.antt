@@ -1,5 +1,5 @@
 -- Directed edges between points, and segments: edges with their lower end first.
-use Rattle.std.specs.Prelude.{Bool, cond, false, ◌&&◌, ◌||◌, ◌≡◌}
+use Rattle.std.specs.Prelude.{Bool, cond, ◌&&◌, ◌||◌, ◌≡◌}
 use lib.IntN.{◌-ℤ◌}
 use Rattle.plane.specs.Order.{order}
 use Rattle.plane.specs.Sign.{Plus, is_null, is_plus, sign}
@@ -24,16 +24,16 @@ other_end v e = cond (same_point v e.from) e.to e.from
 abbrev pub IsRising : Edge → Type 0
 IsRising e = order e.from e.to ≡ Plus
 
--- e runs to the end that comes first
-abbrev pub IsDown : Edge → Type 0
-IsDown e = is_plus (order e.from e.to) ≡ false
+-- the same as a test: e runs to its upper end, or along one height to its right end
+abbrev pub is_rising : Edge → Bool
+is_rising e = is_plus (order e.from e.to)
 
 abbrev pub reversed : Edge → Edge
 reversed e = record { from = e.to; to = e.from }
 
 -- the edge with its lower end first
 abbrev pub segment_of : Edge → Edge
-segment_of e = cond (is_plus (order e.from e.to)) e (reversed e)
+segment_of e = cond (is_rising e) e (reversed e)
 
 abbrev pub is_horizontal : Edge → Bool
 is_horizontal s = is_null (sign (s.to.y -ℤ s.from.y))

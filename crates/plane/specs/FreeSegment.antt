@@ -16,7 +16,8 @@ pub record IsBetween (s t p : Vector) : Type 0 where
 abbrev pub misses_by : Sign → Sign → Sign → Sign → Sign → Sign → Sign → Sign → Bool
 misses_by Plus Plus cs ct us vs ut vt = true
 misses_by Minus Minus cs ct us vs ut vt = true
-misses_by Null Null cs ct us vs ut vt = (not (is_plus us) && not (is_plus vs)) || (not (is_minus ut) && not (is_minus vt))
+misses_by Null Null cs ct us vs ut vt =
+    (not (is_plus us) && not (is_plus vs)) || (not (is_minus ut) && not (is_minus vt))
 misses_by a b cs ct us vs ut vt = not (are_opposite cs ct)
 
 -- no point of the closed edge is strictly between s and t on the segment that joins them

@@ -5,6 +5,7 @@ pub mod Edge
 pub mod FreeSegment
 pub mod FreeSegmentLaws
 pub mod Height
+pub mod HeightLaws
 pub mod Order
 pub mod OrderLaws
 pub mod RayCrossing
@@ -14,4 +15,5 @@ pub mod ScaleLaws
 pub mod Sector
 pub mod SectorLaws
 pub mod Sign
+pub mod SignLaws
 pub mod Vector

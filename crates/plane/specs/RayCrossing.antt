@@ -36,8 +36,9 @@ ray_crossing d a b = pos (up_crossing d a b) -ℤ pos (down_crossing d a b)
 -- whether the ray from p in the direction d crosses the edge
 abbrev pub is_crossed : Vector → Vector → Edge → Bool
 is_crossed d p e =
-    crosses_up (sign (cross d (from_to p e.from))) (sign (cross d (from_to p e.to))) (sign (cross (from_to p e.from) (from_to p e.to)))
-    || crosses_down (sign (cross d (from_to p e.from))) (sign (cross d (from_to p e.to))) (sign (cross (from_to p e.from) (from_to p e.to)))
+    let a = from_to p e.from in let b = from_to p e.to in
+    crosses_up (sign (cross d a)) (sign (cross d b)) (sign (cross a b))
+    || crosses_down (sign (cross d a)) (sign (cross d b)) (sign (cross a b))
 
 -- the origin is not on the closed step: the signs of cross a b and dot a b
 abbrev pub off_by : Sign → Sign → Bool
@@ -49,7 +50,8 @@ IsOff a b = off_by (sign (cross a b)) (sign (dot a b)) ≡ true
 
 -- p is not on the closed edge
 abbrev pub is_off : Vector → Edge → Bool
-is_off p e = off_by (sign (cross (from_to p e.from) (from_to p e.to))) (sign (dot (from_to p e.from) (from_to p e.to)))
+is_off p e =
+    off_by (sign (cross (from_to p e.from) (from_to p e.to))) (sign (dot (from_to p e.from) (from_to p e.to)))
 
 abbrev pub IsOffEdge : Vector → Edge → Type 0
 IsOffEdge p e = IsOff (from_to p e.from) (from_to p e.to)

@@ -6,7 +6,9 @@
 
 pub mod conflict;
 pub mod free_segment;
+pub mod height;
 pub mod order;
 pub mod ray_crossing;
 pub mod scale;
 pub mod sector;
+pub mod sign;

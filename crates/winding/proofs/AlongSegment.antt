@@ -9,23 +9,23 @@ use Rattle.plane.specs.Sign.{Sign}
 use Rattle.plane.specs.Vector.{IsDirection, Vector, from_to, same_point}
 use Rattle.winding.specs.EdgeList.{IsBalanced, IsEvenAtPoints, crossing_count, winding_number}
 use Rattle.winding.specs.Node.{away, spokes_in}
-use Rattle.plane.proofs.FreeSegments.{Sound, downs_compute, downs_sound, hits-by, hits_0, hits_seen, misses_turned, none_here, off_when_missed, past_edge, ups_compute, ups_sound}
+use Rattle.plane.proofs.FreeSegments.{Sound, crossings-by, crossings_0, crossings_seen, down_compute, down_sound, misses_reversed, none_here, off_when_missed, past_edge, up_compute, up_sound}
 use Rattle.plane.proofs.Identities.{same}
 use Rattle.plane.proofs.RayCrossings.{down_seen, up_seen}
 use Rattle.plane.proofs.Signs.{all4}
-use Rattle.plane.proofs.Views.{View, mid, mid_turned, st, view_at, view_mid}
+use Rattle.plane.proofs.Views.{View, mid, mid_reversed, view_at, view_mid}
 use Rattle.winding.proofs.Independence.{IsOffSeen, count-is, crossing_count_seen, parity_independent, winding_independent}
 use Rattle.winding.proofs.RoundNode.{parity_round_node}
 use Rattle.winding.proofs.Sums.{total, total-is}
 
 -- an edge that does not meet the segment is hit by the rays along it from everywhere inside it, or from nowhere
-same_hits : (g : Sign → Sign → Sign → ℕ) → all4 (hits_0 g) ≡ true → (s t : Vector) (r q : Vector → Vector) → View s t r → View s t q → (es : List Edge) → All (Misses s t) es →
-    total (hits_seen g (from_to s t) r) es ≡ total (hits_seen g (from_to s t) q) es
-same_hits g computes s t r q i j [] missed = refl
-same_hits g computes s t r q i j (e ∷ es) missed =
+pub same_crossings : (g : Sign → Sign → Sign → ℕ) → all4 (crossings_0 g) ≡ true → (s t : Vector) (r q : Vector → Vector) → View s t r → View s t q → (es : List Edge) → All (Misses s t) es →
+    total (crossings_seen g (from_to s t) r) es ≡ total (crossings_seen g (from_to s t) q) es
+same_crossings g computes s t r q i j [] missed = refl
+same_crossings g computes s t r q i j (e ∷ es) missed =
     let m = All-head (Misses s t) e es missed in
-    let h = hits-by s t r i e.from e.to g computes m ∙ sym (hits-by s t q j e.from e.to g computes m) in
-    let k = same_hits g computes s t r q i j es (All-tail (Misses s t) e es missed) in
+    let h = crossings-by s t r i e.from e.to g computes m ∙ sym (crossings-by s t q j e.from e.to g computes m) in
+    let k = same_crossings g computes s t r q i j es (All-tail (Misses s t) e es missed) in
     cc
 
 pub off_all : (s t : Vector) (r : Vector → Vector) → View s t r → (es : List Edge) → All (Misses s t) es → All (IsOffSeen r) es
@@ -38,8 +38,8 @@ parity_along_segment d s t p q es hd even missed i j =
     let st = from_to s t in let v = view_at s t p i in let w = view_at s t q j in
     let a = parity_independent d st (from_to p) hd v.direction es (off_all s t (from_to p) v es missed) even in
     let b = parity_independent d st (from_to q) hd w.direction es (off_all s t (from_to q) w es missed) even in
-    let c = same_hits up_by ups_compute s t (from_to p) (from_to q) v w es missed in
-    let e = same_hits down_by downs_compute s t (from_to p) (from_to q) v w es missed in
+    let c = same_crossings up_by up_compute s t (from_to p) (from_to q) v w es missed in
+    let e = same_crossings down_by down_compute s t (from_to p) (from_to q) v w es missed in
     let f = count-is st (from_to p) es in let g = count-is st (from_to q) es in
     omega arith
 
@@ -50,8 +50,8 @@ winding_along_segment d s t p q es hd balanced missed i j =
     let st = from_to s t in let v = view_at s t p i in let w = view_at s t q j in
     let a = winding_independent d st p hd v.direction es (off_all s t (from_to p) v es missed) balanced in
     let b = winding_independent d st q hd w.direction es (off_all s t (from_to q) w es missed) balanced in
-    let c = same_hits up_by ups_compute s t (from_to p) (from_to q) v w es missed in
-    let e = same_hits down_by downs_compute s t (from_to p) (from_to q) v w es missed in
+    let c = same_crossings up_by up_compute s t (from_to p) (from_to q) v w es missed in
+    let e = same_crossings down_by down_compute s t (from_to p) (from_to q) v w es missed in
     let f = total-is (up_seen st (from_to p)) es in let g = total-is (up_seen st (from_to q)) es in
     let h = total-is (down_seen st (from_to p)) es in let k = total-is (down_seen st (from_to q)) es in
     a ∙ (let m : winding_number st p es ≡ winding_number st q es = omega (arith, ints) in m) ∙ sym b
@@ -63,10 +63,10 @@ join_step f h s e xs ys false z same rest off =
     let a = same (All-head (IsOffEdge s) e ys off) in let r = rest (All-tail (IsOffEdge s) e ys off) in omega arith
 
 pub join_total : (g : Sign → Sign → Sign → ℕ) → Sound g → (s t : Vector) (r : Vector → Vector) → View s t r → (es : List Edge) → All (Misses s t) es → All (IsOffEdge s) (away s es) →
-    total (hits_seen g (from_to s t) r) es ≡ total (hits_seen g (from_to s t) (from_to s)) (away s es)
+    total (crossings_seen g (from_to s t) r) es ≡ total (crossings_seen g (from_to s t) (from_to s)) (away s es)
 join_total g k s t r i [] missed off = refl
 join_total g k s t r i (e ∷ es) missed off =
-    join_step (hits_seen g (from_to s t) r) (hits_seen g (from_to s t) (from_to s)) s e es (away s es) (ends_at s e)
+    join_step (crossings_seen g (from_to s t) r) (crossings_seen g (from_to s t) (from_to s)) s e es (away s es) (ends_at s e)
     (λ c. none_here g k s t r e i (same_point s e.from) (same_point s e.to) refl refl c)
     (λ o. past_edge s t r i e.from e.to g k.past (All-head (Misses s t) e es missed) o)
     (λ o. join_total g k s t r i es (All-tail (Misses s t) e es missed) o) off
@@ -76,7 +76,7 @@ pub along_from : (s t : Vector) (r : Vector → Vector) → View s t r → (es :
     crossing_count_seen (from_to s t) r es ≡ crossing_count (from_to s t) s (away s es)
 along_from s t r i es missed off =
     let st = from_to s t in
-    let a = join_total up_by ups_sound s t r i es missed off in let b = join_total down_by downs_sound s t r i es missed off in
+    let a = join_total up_by up_sound s t r i es missed off in let b = join_total down_by down_sound s t r i es missed off in
     let f = count-is st r es in let h = count-is st (from_to s) (away s es) in omega arith
 
 -- and so the parity at a point inside, by a ray in any direction
@@ -103,7 +103,7 @@ pub parity_from_both_ends : (s t : Vector) (es : List Edge) → IsDirection (fro
 parity_from_both_ends s t es hs ht even missed off_s off_t =
     let i = view_mid s t hs in let j = view_mid t s ht in
     let a = along_from s t (mid s t) i es missed off_s in
-    let b = along_from t s (mid t s) j es (All-weaker (Misses s t) (Misses t s) (misses_turned s t) es missed) off_t in
+    let b = along_from t s (mid t s) j es (All-weaker (Misses s t) (Misses t s) (misses_reversed s t) es missed) off_t in
     let c = parity_independent (from_to s t) (from_to t s) (mid s t) hs ht es (off_all s t (mid s t) i es missed) even in
-    let m = ap (λ (r : Vector → Vector). crossing_count_seen (from_to t s) r es) (mid_turned s t) in
+    let m = ap (λ (r : Vector → Vector). crossing_count_seen (from_to t s) r es) (mid_reversed s t) in
     omega arith

@@ -1,5 +1,5 @@
 -- The leftmost edge at the least point.
-use Rattle.std.proofs.Common.{Bool, List, [], ap, arith, cond, eqb, eqb-true, false, inl, inr, length, map, not, refl, subst, sym, true, ℕ, ◌%◌, ◌+◌, ◌||◌, ◌∙◌, ◌∷◌, ◌≡◌}
+use Rattle.std.proofs.Common.{Bool, List, [], ap, arith, cond, eqb, eqb-true, false, inl, inr, length, not, refl, subst, sym, true, ℕ, ◌%◌, ◌+◌, ◌||◌, ◌∙◌, ◌∷◌, ◌≡◌}
 use borrow.Author.Differences.{ints}
 use lib.IntN.{negsuc, pos, ◌+ℤ◌, ◌-ℤ◌}
 use Rattle.plane.specs.Bit.{bit}
@@ -18,24 +18,24 @@ use Rattle.winding.specs.Node.{away, spokes, spokes_in}
 use Rattle.winding.specs.OddSide.{runs_up}
 use Rattle.winding.specs.Parity.{is_even}
 use Rattle.winding.specs.Ring.{IsAnchor, IsRing, segments_of}
+use Rattle.plane.proofs.Bools.{false-if-never}
 use Rattle.plane.proofs.Conflicts.{clear_misses}
-use Rattle.plane.proofs.Edges.{edge_of, ends_at-from, same_edge-true}
+use Rattle.plane.proofs.Edges.{edge_of, ends_at-from, same_edge-refl, same_edge-true}
 use Rattle.plane.proofs.Identities.{lift, same, ◌⊞◌, ◌⊟◌, ◌⊠◌}
-use Rattle.plane.proofs.PointOrder.{line-order-up, order-null, order-self-null, order-sum, order-turned, rising-direction}
+use Rattle.plane.proofs.PointOrder.{line-order-up, order-null, order-reversed, order-self-null, order-sum, rising-direction}
 use Rattle.plane.proofs.Points.{same_point-true}
-use Rattle.plane.proofs.Products.{cross-agree, cross-self, dot-east, plucker-agree, plucker-dot-agree}
-use Rattle.plane.proofs.RayCrossings.{cross-east, hits_at, level-side, rise-y}
-use Rattle.plane.proofs.Signs.{agree, all, all-out, all4, all4-out, imp, imp-out, self-diff, sign-turned, times}
-use Rattle.winding.proofs.Balance.{degree-even, length-total, same_bool}
+use Rattle.plane.proofs.Products.{cross-agree, cross-negated, cross-self, dot-east, plucker-agree, plucker-dot-agree}
+use Rattle.plane.proofs.RayCrossings.{cross-east, crossings_at, level-side, rise-y}
+use Rattle.plane.proofs.Signs.{agree, all, all-out, all4, all4-out, imp, imp-out, plus-plus, same_bool, self-diff, sign-reversed, times}
+use Rattle.winding.proofs.Balance.{degree-even, length-total}
 use Rattle.winding.proofs.ConflictFree.{clear_of_others, off_away, rising_in, split_off}
-use Rattle.winding.proofs.Levels.{cross-neg}
 use Rattle.winding.proofs.Members.{in-filter, into-filter, total-filter, total-same}
 use Rattle.winding.proofs.OddSides.{no_same_way_from, runs_from, spokes-is}
 use Rattle.winding.proofs.OppositeEnds.{beyond, crossings-away}
 use Rattle.winding.proofs.Ranks.{even-is, odd-is}
 use Rattle.winding.proofs.RingCounts.{keeps, ring-even, ring_count, ring_keeps}
 use Rattle.winding.proofs.RoundNode.{parity_round_node}
-use Rattle.winding.proofs.Sums.{total}
+use Rattle.winding.proofs.Sums.{none-sum, total}
 
 abbrev pub west : Vector
 west = record { x = negsuc 0; y = pos 0 }
@@ -47,13 +47,13 @@ cross-west : (w : Vector) → sign (cross west w) ≡ negated (sign w.y)
 cross-west w =
     let x = lift w.x in let y = lift w.y in
     let e : w.y +ℤ cross west w ≡ pos 0 = same (y ⊞ (lift (negsuc 0) ⊠ y ⊟ lift (pos 0) ⊠ x)) (lift (pos 0)) (omega arith) in
-    sign-turned w.y (cross west w) e
+    sign-reversed w.y (cross west w) e
 
 dot-west : (w : Vector) → sign (dot west w) ≡ negated (sign w.x)
 dot-west w =
     let x = lift w.x in let y = lift w.y in
     let e : w.x +ℤ dot west w ≡ pos 0 = same (x ⊞ (lift (negsuc 0) ⊠ x ⊞ lift (pos 0) ⊠ y)) (lift (pos 0)) (omega arith) in
-    sign-turned w.x (dot west w) e
+    sign-reversed w.x (dot west w) e
 
 sector-west : (d w : Vector) → in_sector west d w ≡ sector_by (negated (sign w.x)) (negated (sign w.y)) (negated (sign d.x)) (negated (sign d.y)) (sign (cross d w))
 sector-west d w = rw (dot-west w, cross-west w, dot-west d, cross-west d)
@@ -70,7 +70,7 @@ first-not-minus Plus t h = refl
 plus-not-minus : (s : Sign) → s ≡ Plus → s ≡ Minus → ⊥
 plus-not-minus s h k = cc (sym h ∙ k)
 
-pub west-misses : (a : Vector) (t : Edge) → IsRising t → (order a t.from ≡ Minus → ⊥) → hits_at west (from_to a) t ≡ 0
+pub west-misses : (a : Vector) (t : Edge) → IsRising t → (order a t.from ≡ Minus → ⊥) → crossings_at west (from_to a) t ≡ 0
 west-misses a t r h =
     let u = t.from in let v = t.to in let c = sign (cross (from_to a u) (from_to a v)) in
     let g = all4-out west_1 refl (sign (u.y -ℤ a.y)) (sign (v.y -ℤ a.y)) c (sign (v.y -ℤ u.y)) in
@@ -81,13 +81,9 @@ beyond-none-by : (n : ℕ) (b : Bool) → n ≡ 0 → cond (not b) n 0 ≡ 0
 beyond-none-by n true h = refl
 beyond-none-by n false h = h
 
-none-sum : {X : Type 0} (xs : List X) → total (λ x. 0) xs ≡ 0
-none-sum [] = refl
-none-sum (x ∷ xs) = let a = none-sum xs in omega arith
-
 pub west-none : (a : Vector) (es : List Edge) → ((t : Edge) → In t es → IsRising t) → ((t : Edge) → In t es → order a t.from ≡ Minus → ⊥) → crossing_count west a (away a es) ≡ 0
 west-none a es r h =
-    crossings-away west a es ∙ total-same (beyond west a) (λ t. 0) es (λ t i. beyond-none-by (hits_at west (from_to a) t) (ends_at a t) (west-misses a t (r t i) (h t i))) ∙ none-sum es
+    crossings-away west a es ∙ total-same (beyond west a) (λ t. 0) es (λ t i. beyond-none-by (crossings_at west (from_to a) t) (ends_at a t) (west-misses a t (r t i) (h t i))) ∙ none-sum es
 
 -- ---- the edges at that point, from west round to one that is left of all of them
 abbrev right_1 : Sign → Sign → Sign → Sign → Bool
@@ -103,7 +99,7 @@ west-sector d w hd hw n =
 -- an edge at a point below all edges begins there
 pub begins-by : (a : Vector) (t : Edge) (b c : Bool) → same_point a t.from ≡ b → same_point a t.to ≡ c → (b || c) ≡ true → IsRising t → (order a t.from ≡ Minus → ⊥) → b ≡ true
 begins-by a t true c h k o r l = refl
-begins-by a t false true h k o r l = absurd (l (order-turned t.from a ∙ ap negated (subst (λ w. order t.from w ≡ Plus) (sym (same_point-true a t.to k)) r)))
+begins-by a t false true h k o r l = absurd (l (order-reversed t.from a ∙ ap negated (subst (λ w. order t.from w ≡ Plus) (sym (same_point-true a t.to k)) r)))
 begins-by a t false false h k o r l = o
 
 share-one-by : (n : ℕ) (b : Bool) → (b ≡ true → n ≡ 1) → cond b n 0 ≡ cond b 1 0
@@ -144,15 +140,6 @@ anchor_runs s es p even a =
     let m = all-right v d es rs (λ t i. rising_in es t p i) a.least (λ t i q. anchor_right s t es a i q) in
     let e = degree-even v es p even in
     runs_from s es p even a.member ∙ ap not (even-is (crossing_count d v (away v es)) (omega arith))
-
--- ---- a ring's signed count, told by its anchor
-in-map : {X Y : Type 0} (f : X → Y) (xs : List X) (x : X) → In x xs → In (f x) (map f xs)
-in-map f [] x i = i
-in-map f (y ∷ ys) x (inl e) = inl (ap f e)
-in-map f (y ∷ ys) x (inr i) = inr (in-map f ys x i)
-
-same-false : (b : Bool) → same_bool false b ≡ not b
-same-false b = refl
 
 anchor-keeps : (e : Edge) (es : List Edge) → IsRing es → IsConflictFree (segments_of es) → IsAnchor (segment_of e) (segments_of es) → keeps es e ≡ not (is_plus (order e.from e.to))
 anchor-keeps e es r p a = ap (λ b. same_bool b (is_plus (order e.from e.to))) (anchor_runs (segment_of e) (segments_of es) p (ring-even es r) a)
@@ -225,11 +212,6 @@ ok-of-plus o k h = ap (λ o. ok_by o k) h
 ok-of-null : (o k : Sign) → o ≡ Null → not (is_plus k) ≡ true → ok_by o k ≡ true
 ok-of-null o k h g = ap (λ o. ok_by o k) h ∙ g
 
-sum-plus-plus : (s : Sign) → agree Plus Plus s ≡ true → s ≡ Plus
-sum-plus-plus Plus h = refl
-sum-plus-plus Null h = absurd (cc h)
-sum-plus-plus Minus h = absurd (cc h)
-
 sum-plus-null : (s : Sign) → agree Plus Null s ≡ true → s ≡ Plus
 sum-plus-null Plus h = refl
 sum-plus-null Null h = absurd (cc h)
@@ -241,7 +223,7 @@ sum-null-plus Null h = absurd (cc h)
 sum-null-plus Minus h = absurd (cc h)
 
 ok-chain-by : (s t u : Edge) → IsRising s → IsRising t → IsRising u → (o o' : Sign) → order s.from t.from ≡ o → order t.from u.from ≡ o' → ok_by o (orient s.from s.to t.to) ≡ true → ok_by o' (orient t.from t.to u.to) ≡ true → ok s u ≡ true
-ok-chain-by s t u rs rt ru Plus Plus h g a b = ok-of-plus (order s.from u.from) (orient s.from s.to u.to) (sum-plus-plus (order s.from u.from) (let k = order-sum s.from t.from u.from in rw (h, g) at k))
+ok-chain-by s t u rs rt ru Plus Plus h g a b = ok-of-plus (order s.from u.from) (orient s.from s.to u.to) (plus-plus (order s.from u.from) (let k = order-sum s.from t.from u.from in rw (h, g) at k))
 ok-chain-by s t u rs rt ru Plus Null h g a b = ok-of-plus (order s.from u.from) (orient s.from s.to u.to) (sum-plus-null (order s.from u.from) (let k = order-sum s.from t.from u.from in rw (h, g) at k))
 ok-chain-by s t u rs rt ru Null Plus h g a b = ok-of-plus (order s.from u.from) (orient s.from s.to u.to) (sum-null-plus (order s.from u.from) (let k = order-sum s.from t.from u.from in rw (h, g) at k))
 ok-chain-by s t u rs rt ru Null Null h g a b =
@@ -257,18 +239,18 @@ ok-chain-by s t u rs rt ru Null Minus h g a b = absurd (cc b)
 pub ok_chain : (s t u : Edge) → IsRising s → IsRising t → IsRising u → ok s t ≡ true → ok t u ≡ true → ok s u ≡ true
 ok_chain s t u rs rt ru a b = ok-chain-by s t u rs rt ru (order s.from t.from) (order t.from u.from) refl refl a b
 
-not-plus-neg : (k : Sign) → not (is_plus k) ≡ false → not (is_plus (negated k)) ≡ true
-not-plus-neg Plus h = refl
-not-plus-neg Null h = absurd (cc h)
-not-plus-neg Minus h = absurd (cc h)
+not-plus-negated : (k : Sign) → not (is_plus k) ≡ false → not (is_plus (negated k)) ≡ true
+not-plus-negated Plus h = refl
+not-plus-negated Null h = absurd (cc h)
+not-plus-negated Minus h = absurd (cc h)
 
 ok-either-by : (s t : Edge) → (o : Sign) → order s.from t.from ≡ o → ok_by o (orient s.from s.to t.to) ≡ false → ok t s ≡ true
 ok-either-by s t Plus h a = absurd (cc a)
 ok-either-by s t Null h a =
     let q = order-null s.from t.from h in
     ok-of-null (order t.from s.from) (orient t.from t.to s.to) (subst (λ w. order w s.from ≡ Null) q (order-self-null s.from))
-    (subst (λ w. not (is_plus (orient w t.to s.to)) ≡ true) q (ap (λ z. not (is_plus z)) (cross-neg (from_to s.from s.to) (from_to s.from t.to)) ∙ not-plus-neg (orient s.from s.to t.to) a))
-ok-either-by s t Minus h a = ok-of-plus (order t.from s.from) (orient t.from t.to s.to) (order-turned s.from t.from ∙ ap negated h)
+    (subst (λ w. not (is_plus (orient w t.to s.to)) ≡ true) q (ap (λ z. not (is_plus z)) (cross-negated (from_to s.from s.to) (from_to s.from t.to)) ∙ not-plus-negated (orient s.from s.to t.to) a))
+ok-either-by s t Minus h a = ok-of-plus (order t.from s.from) (orient t.from t.to s.to) (order-reversed s.from t.from ∙ ap negated h)
 
 ok-self : (s : Edge) → ok s s ≡ true
 ok-self s = ok-of-null (order s.from s.from) (orient s.from s.to s.to) (order-self-null s.from) (ap (λ z. not (is_plus (sign z))) (cross-self (from_to s.from s.to)))
@@ -285,17 +267,9 @@ keep-tail : (x : Edge) (es : List Edge) (s : Edge) → Best s es → ok s x ≡ 
 keep-tail x es s b h t (inl e) = subst (λ w. ok s w ≡ true) (sym e) h
 keep-tail x es s b h t (inr i) = b.best t i
 
-best-step : (x : Edge) (es : List Edge) (s : Edge) → ((t : Edge) → In t (x ∷ es) → IsRising t) → Best s es → (b : Bool) → ok x s ≡ b → (m : Edge) × Best m (x ∷ es)
-best-step x es s r b true h = (x, record { here = inl refl; best = better-head x es s r b h })
-best-step x es s r b false h = (s, record { here = inr b.here; best = keep-tail x es s b (ok-either-by x s (order x.from s.from) refl h) })
-
 one-best : (x t : Edge) → In t (x ∷ []) → ok x t ≡ true
 one-best x t (inl e) = subst (λ w. ok x w ≡ true) (sym e) (ok-self x)
 one-best x t (inr i) = absurd i
-
-find-best : (x : Edge) (es : List Edge) → ((t : Edge) → In t (x ∷ es) → IsRising t) → (m : Edge) × Best m (x ∷ es)
-find-best x [] r = (x, record { here = inl refl; best = one-best x })
-find-best x (y ∷ ys) r = let s = find-best y ys (λ t i. r t (inr i)) in best-step x (y ∷ ys) s.0 r s.1 (ok x s.0) refl
 
 no-ok : (s t : Edge) → ok s t ≡ true → order s.from t.from ≡ Minus → ⊥
 no-ok s t h g = let k = ap (λ o. ok_by o (orient s.from s.to t.to)) g in cc (sym h ∙ k)
@@ -314,12 +288,6 @@ best-left s t es p b i q =
     let r = subst (λ w. order w t.to ≡ Plus) (sym q) rt in
     let m = subst (λ w. Misses s.from s.to (edge_of w t.to)) (sym q) (clear_misses s t rs rt c) in
     minus-by (orient s.from s.to t.to) k (λ z. no_same_way_from s.from s.to t.to (rising-direction s.from s.to rs) m z (line-order-up s.from s.to s.from t.to rs z ∙ r))
-
--- a list without conflicts that is not empty has an anchor
-pub anchor_exists : (x : Edge) (es : List Edge) → IsConflictFree (x ∷ es) → (m : Edge) × IsAnchor m (x ∷ es)
-anchor_exists x es p =
-    let s = find-best x es (λ t i. rising_in (x ∷ es) t p i) in let b = s.1 in
-    (s.0, record { member = b.here; least = λ t i h. no-ok s.0 t (b.best t i) h; leftmost = λ t i q. best-left s.0 t (x ∷ es) p b i q })
 
 -- ---- an anchor is not level
 minus-rise : (y x : Sign) → then_sign y x ≡ Plus → y ≡ Minus → ⊥
@@ -362,16 +330,61 @@ level-out s t es p a i h z =
     let l = level-side (from_to s.from s.to) (from_to s.from t.to) z (level-plus (sign (s.to.y -ℤ s.from.y)) (sign (s.to.x -ℤ s.from.x)) z rs) in
     minus-rise (sign (t.to.y -ℤ s.from.y)) (sign (t.to.x -ℤ s.from.x)) (subst (λ w. order w t.to ≡ Plus) (sym q) rt) (sym l ∙ m)
 
-spans-by : (p : Vector) (y : Sign) (s : Edge) → s.from ≡ p → sign (s.to.y -ℤ s.from.y) ≡ y → (y ≡ Null → ⊥) → then_sign y (sign (s.to.x -ℤ s.from.x)) ≡ Plus → is_in_span s.from s ≡ true
-spans-by p Plus s e h n r = let k = self-diff s.from.y in rw (k, h) refl
-spans-by p Null s e h n r = absurd (n refl)
-spans-by p Minus s e h n r = absurd (cc r)
+span-by : (p : Vector) (y : Sign) (s : Edge) → s.from ≡ p → sign (s.to.y -ℤ s.from.y) ≡ y → (y ≡ Null → ⊥) → then_sign y (sign (s.to.x -ℤ s.from.x)) ≡ Plus → is_in_span s.from s ≡ true
+span-by p Plus s e h n r = let k = self-diff s.from.y in rw (k, h) refl
+span-by p Null s e h n r = absurd (n refl)
+span-by p Minus s e h n r = absurd (cc r)
 
-pub anchor_spans : (s : Edge) (es : List Edge) → IsConflictFree es → IsEvenAtPoints es → IsAnchor s es → is_in_span s.from s ≡ true
-anchor_spans s es p even a =
+pub anchor_span : (s : Edge) (es : List Edge) → IsConflictFree es → IsEvenAtPoints es → IsAnchor s es → is_in_span s.from s ≡ true
+anchor_span s es p even a =
     let t = some_odd (λ t. ends_at s.from t) (others s es) (other-by s es p even a.member) in
-    spans-by s.from (sign (s.to.y -ℤ s.from.y)) s refl refl (λ z. level-out s t.0 es p a t.1 t.2 z) (rising_in es s p a.member)
+    span-by s.from (sign (s.to.y -ℤ s.from.y)) s refl refl (λ z. level-out s t.0 es p a t.1 t.2 z) (rising_in es s p a.member)
 
+-- ---- the anchor, computed: the best of the list
+abbrev pub leftmost_of : Edge → List Edge → Edge
+leftmost_of x [] = x
+leftmost_of x (y ∷ ys) = cond (ok x (leftmost_of y ys)) x (leftmost_of y ys)
+
+best-step : (x : Edge) (es : List Edge) (s : Edge) → ((t : Edge) → In t (x ∷ es) → IsRising t) → Best s es → (b : Bool) → ok x s ≡ b → Best (cond b x s) (x ∷ es)
+best-step x es s r b true h = record { here = inl refl; best = better-head x es s r b h }
+best-step x es s r b false h = record { here = inr b.here; best = keep-tail x es s b (ok-either-by x s (order x.from s.from) refl h) }
+
+leftmost-best : (x : Edge) (es : List Edge) → ((t : Edge) → In t (x ∷ es) → IsRising t) → Best (leftmost_of x es) (x ∷ es)
+leftmost-best x [] r = record { here = inl refl; best = one-best x }
+leftmost-best x (y ∷ ys) r = best-step x (y ∷ ys) (leftmost_of y ys) r (leftmost-best y ys (λ t i. r t (inr i))) (ok x (leftmost_of y ys)) refl
+
+pub leftmost_anchor : (x : Edge) (es : List Edge) → IsConflictFree (x ∷ es) → IsAnchor (leftmost_of x es) (x ∷ es)
+leftmost_anchor x es p =
+    let s = leftmost_of x es in let b = leftmost-best x es (λ t i. rising_in (x ∷ es) t p i) in
+    record { member = b.here; least = λ t i h. no-ok s t (b.best t i) h; leftmost = λ t i q. best-left s t (x ∷ es) p b i q }
+
+-- a conflict-free list that is not empty has an anchor
 pub some-anchor : (es : List Edge) (x : Edge) → In x es → IsConflictFree es → (m : Edge) × IsAnchor m es
 some-anchor [] x i p = absurd i
-some-anchor (y ∷ ys) x i p = anchor_exists y ys p
+some-anchor (y ∷ ys) x i p = (leftmost_of y ys, leftmost_anchor y ys p)
+
+-- ---- and only one
+not-both-minus : (s : Sign) → s ≡ Minus → negated s ≡ Minus → ⊥
+not-both-minus Minus h k = cc k
+not-both-minus Null h k = cc h
+not-both-minus Plus h k = cc h
+
+neither-way : (s : Sign) → (s ≡ Minus → ⊥) → (negated s ≡ Minus → ⊥) → s ≡ Null
+neither-way Minus h k = absurd (h refl)
+neither-way Null h k = refl
+neither-way Plus h k = absurd (k refl)
+
+anchor-one-by : (a b : Edge) (es : List Edge) → IsConflictFree es → IsAnchor a es → IsAnchor b es → (x : Bool) → same_edge a b ≡ x → a ≡ b
+anchor-one-by a b es p h k true e = same_edge-true a b e
+anchor-one-by a b es p h k false e =
+    let i : In b (others a es) = into-filter (λ (t : Edge). not (same_edge a t)) es b k.member (ap not e) in
+    let f : same_edge b a ≡ false = false-if-never (same_edge b a) (λ z. let q = same_edge-true b a z in let r = ap (λ w. same_edge a w) q in let s = same_edge-refl a in cc (sym s ∙ sym r ∙ e)) in
+    let j : In a (others b es) = into-filter (λ (t : Edge). not (same_edge b t)) es a h.member (ap not f) in
+    let n = neither-way (order a.from b.from) (h.least b k.member) (λ z. k.least a h.member (order-reversed a.from b.from ∙ z)) in
+    let q = order-null a.from b.from n in
+    let u = h.leftmost b i q in let v = k.leftmost a j (sym q) in
+    let w : orient a.from b.to a.to ≡ Minus = subst (λ c. orient c b.to a.to ≡ Minus) (sym q) v in
+    absurd (not-both-minus (orient a.from a.to b.to) u (sym (cross-negated (from_to a.from a.to) (from_to a.from b.to)) ∙ w))
+
+pub anchor_one : (a b : Edge) (es : List Edge) → IsConflictFree es → IsAnchor a es → IsAnchor b es → a ≡ b
+anchor_one a b es p h k = anchor-one-by a b es p h k (same_edge a b) refl

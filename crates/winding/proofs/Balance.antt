@@ -16,18 +16,19 @@ use Rattle.winding.specs.Node.{away, spokes, spokes_in}
 use Rattle.winding.specs.OddSide.{directed, directed_edge, runs_up}
 use Rattle.winding.specs.Parity.{is_even}
 use Rattle.winding.specs.Rank.{IsOrder}
+use Rattle.plane.proofs.Bools.{not-not}
 use Rattle.plane.proofs.Conflicts.{clear_misses}
 use Rattle.plane.proofs.Edges.{edge_of}
-use Rattle.plane.proofs.FreeSegments.{misses_turned}
-use Rattle.plane.proofs.Identities.{lift, same, ◌⊞◌, ◌⊠◌}
-use Rattle.plane.proofs.PointOrder.{order-self-null, order-turned, rising-direction}
+use Rattle.plane.proofs.FreeSegments.{misses_reversed}
+use Rattle.plane.proofs.Identities.{lift, same, ◌⊠◌}
+use Rattle.plane.proofs.PointOrder.{order-reversed, order-self-null, rising-direction}
 use Rattle.plane.proofs.Points.{same_point-true}
-use Rattle.plane.proofs.Products.{cross-agree, cross-self, cross2, direction-back, dot-east, dot2, lift2, plucker-agree, plucker-dot-agree}
+use Rattle.plane.proofs.Products.{cross-agree, cross-reversed, cross-self, direction-back, dot-east, dot2, lift2, plucker-agree, plucker-dot-agree}
 use Rattle.plane.proofs.RayCrossings.{cross-east, east-direction, sector-east}
-use Rattle.plane.proofs.Signs.{agree, agree-products, all, all-out, all2, all2-out, all4, all4-out, imp, imp-out, not-null-by, sign-turned, times, times-plus}
+use Rattle.plane.proofs.Signs.{agree, agree-products, all, all-out, all2, all2-out, all4, all4-out, imp, imp-out, same_bool, same_bool-true, sign-reversed, times, times-plus}
 use Rattle.winding.proofs.ConflictFree.{off_away, rising_in, split_off}
 use Rattle.winding.proofs.Members.{in-filter, in-passes, pairs-filter, pairs-weaker, total-filter, total-same}
-use Rattle.winding.proofs.OddSides.{differ-parity, no_same_way_from, no_same_way_to, not-not, runs_from, runs_to, same-parity, spokes-is}
+use Rattle.winding.proofs.OddSides.{differ-parity, no_same_way_from, no_same_way_to, runs_from, runs_to, same-parity, spokes-is}
 use Rattle.winding.proofs.Ranks.{evens, halves, odds, rank', rank-parity-own}
 use Rattle.winding.proofs.RoundNode.{parity_round_node}
 use Rattle.winding.proofs.Sums.{total, total-is, total-map}
@@ -100,16 +101,6 @@ turns_itself a s =
     let c = all2-out (λ x y. imp (not (is_null (then_sign y x))) λ _. eqb (sector_by x y x y Null) 1) refl (sign a.x) (sign a.y) in
     turns-is a a ∙ ap (λ z. eqb (sector_by (sign a.x) (sign a.y) (sign a.x) (sign a.y) (sign z)) 1) (cross-self a) ∙ imp-out _ _ c s
 
-abbrev pub same_bool : Bool → Bool → Bool
-same_bool true b = b
-same_bool false b = not b
-
-pub same_bool-true : (a b : Bool) → same_bool a b ≡ true → a ≡ b
-same_bool-true true true h = refl
-same_bool-true false false h = refl
-same_bool-true true false h = absurd (cc h)
-same_bool-true false true h = absurd (cc h)
-
 abbrev pub either_2 : Sign → Sign → Sign → Sign → Sign → Sign → Bool
 either_2 ax ay bx by k m =
     imp (crossed ax ay bx by k) λ _.
@@ -122,9 +113,6 @@ either_2 ax ay bx by k m =
 pub either_computes : all4 (λ ax ay bx by. all2 (either_2 ax ay bx by)) ≡ true
 either_computes = refl
 
-cross-turned : (a b : Vector) → cross a b +ℤ cross b a ≡ pos 0
-cross-turned a b = let e = lift2 a in let f = lift2 b in same (cross2 e f ⊞ cross2 f e) (lift (pos 0)) (omega arith)
-
 one-times : (a b : Vector) → a.x *ℤ b.x +ℤ a.y *ℤ b.y ≡ pos 1 *ℤ dot a b
 one-times a b = let e = lift2 a in let f = lift2 b in same (dot2 e f) (lift (pos 1) ⊠ dot2 e f) (omega arith)
 
@@ -136,19 +124,16 @@ turns_either a b sa sb n =
     let c = all2-out (either_2 (sign a.x) (sign a.y) (sign b.x) (sign b.y)) (all4-out (λ ax ay bx by. all2 (either_2 ax ay bx by)) either_computes (sign a.x) (sign a.y) (sign b.x) (sign b.y)) (sign (cross a b)) (sign (dot a b)) in
     let d = agree-dot a b in
     let e = same_bool-true _ _ (imp-out _ _ (imp-out _ _ (imp-out _ _ (imp-out _ _ (imp-out _ _ c (cross-agree a b)) d) n) sa) sb) in
-    let f = sign-turned (cross a b) (cross b a) (cross-turned a b) in
+    let f = sign-reversed (cross a b) (cross b a) (cross-reversed a b) in
     turns-is a b ∙ e ∙ ap (λ s. not (eqb (sector_by (sign a.x) (sign a.y) (sign b.x) (sign b.y) s) 1)) (sym f) ∙ ap not (sym (turns-is b a))
 
 -- ---- the edges at a point
 abbrev pub way : Vector → Edge → Vector
 way v t = from_to v (other_end v t)
 
-set-by : (s : Sign) → (s ≡ Null → ⊥) → not (is_null s) ≡ true
-set-by s h = not-null-by s h
-
 way-set-by : (v : Vector) (t : Edge) (b c : Bool) → same_point v t.from ≡ b → same_point v t.to ≡ c → (b || c) ≡ true → IsRising t → not (is_null (order v (cond b t.to t.from))) ≡ true
 way-set-by v t true c h k o r = ap (λ s. not (is_null s)) (subst (λ w. order w t.to ≡ Plus) (sym (same_point-true v t.from h)) r)
-way-set-by v t false true h k o r = ap (λ s. not (is_null s)) (order-turned t.from v ∙ ap negated (subst (λ w. order t.from w ≡ Plus) (sym (same_point-true v t.to k)) r))
+way-set-by v t false true h k o r = ap (λ s. not (is_null s)) (order-reversed t.from v ∙ ap negated (subst (λ w. order t.from w ≡ Plus) (sym (same_point-true v t.to k)) r))
 way-set-by v t false false h k o r = absurd (cc o)
 
 pub way-set : (v : Vector) (t : Edge) → ends_at v t ≡ true → IsRising t → is_set (way v t) ≡ true
@@ -164,7 +149,7 @@ way-direction v t h r = way-direction-by v t (same_point v t.from) (same_point v
 
 misses-way-by : (v : Vector) (s t : Edge) (b c : Bool) → same_point v s.from ≡ b → same_point v s.to ≡ c → (b || c) ≡ true → Misses s.from s.to t → Misses v (cond b s.to s.from) t
 misses-way-by v s t true c h k o m = subst (λ w. Misses w s.to t) (sym (same_point-true v s.from h)) m
-misses-way-by v s t false true h k o m = subst (λ w. Misses w s.from t) (sym (same_point-true v s.to k)) (misses_turned s.from s.to t m)
+misses-way-by v s t false true h k o m = subst (λ w. Misses w s.from t) (sym (same_point-true v s.to k)) (misses_reversed s.from s.to t m)
 misses-way-by v s t false false h k o m = absurd (cc o)
 
 pub misses-way : (v : Vector) (s t : Edge) → ends_at v s ≡ true → Misses s.from s.to t → Misses v (other_end v s) t

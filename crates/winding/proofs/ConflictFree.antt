@@ -8,6 +8,7 @@ use Rattle.plane.specs.Vector.{Vector, same_point}
 use Rattle.winding.specs.ConflictFree.{IsConflictFree, others}
 use Rattle.winding.specs.Member.{EachPair, In}
 use Rattle.winding.specs.Node.{away}
+use Rattle.plane.proofs.Bools.{not-true-out}
 use Rattle.plane.proofs.Conflicts.{clear_back, clear_differs, clear_misses, clear_off_from, clear_off_to}
 use Rattle.plane.proofs.Edges.{same_edge-refl, same_edge-true}
 use Rattle.plane.proofs.Points.{same_point-true}
@@ -46,16 +47,12 @@ pair-by s t (x ∷ xs) p (inr i) (inr j) d = pair-by s t xs p.1 i j d
 pub clear_pair : (s t : Edge) (es : List Edge) → IsConflictFree es → In s es → In t es → same_edge s t ≡ false → IsClearOf s t
 clear_pair s t es p i j d = pair-by s t es p.clear i j d
 
-pub not-false-out : (b : Bool) → not b ≡ true → b ≡ false
-not-false-out true h = absurd (cc h)
-not-false-out false h = refl
-
 pub rising_in : (es : List Edge) (s : Edge) → IsConflictFree es → In s es → IsRising s
 rising_in es s p i = in-all IsRising es s p.rising i
 
 pub clear_of_others : (s t : Edge) (es : List Edge) → IsConflictFree es → In s es → In t (others s es) → IsClearOf s t
 clear_of_others s t es p i j =
-    clear_pair s t es p i (in-filter (λ (t : Edge). not (same_edge s t)) es t j) (not-false-out (same_edge s t) (in-passes (λ (t : Edge). not (same_edge s t)) es t j))
+    clear_pair s t es p i (in-filter (λ (t : Edge). not (same_edge s t)) es t j) (not-true-out (same_edge s t) (in-passes (λ (t : Edge). not (same_edge s t)) es t j))
 
 pub misses_others : (s : Edge) (es : List Edge) → IsConflictFree es → In s es → All (Misses s.from s.to) (others s es)
 misses_others s es p i = all-in (Misses s.from s.to) (others s es)
@@ -82,6 +79,6 @@ off-end v s t false false h k o r n e = absurd (cc o)
 pub off_away : (v : Vector) (s : Edge) (es : List Edge) → IsConflictFree es → In s es → ends_at v s ≡ true → All (IsOffEdge v) (away v es)
 off_away v s es p i h = all-in (IsOffEdge v) (away v es) (λ t j.
     let k = in-filter (λ (t : Edge). not (ends_at v t)) es t j in
-    let e = not-false-out (ends_at v t) (in-passes (λ (t : Edge). not (ends_at v t)) es t j) in
+    let e = not-true-out (ends_at v t) (in-passes (λ (t : Edge). not (ends_at v t)) es t j) in
     off-end v s t (same_point v s.from) (same_point v s.to) refl refl h (rising_in es t p k)
     (clear_pair s t es p i k (differ-at v s t h e (same_edge s t) refl)) e)

@@ -7,7 +7,7 @@ use Rattle.plane.specs.Bit.{bit}
 use Rattle.plane.specs.Conflict.{IsClearOf}
 use Rattle.plane.specs.Edge.{Edge, IsRising, ends_at, reversed, same_edge}
 use Rattle.plane.specs.FreeSegment.{Misses}
-use Rattle.plane.specs.Height.{is_in_span, is_left_of, starts_left_of}
+use Rattle.plane.specs.Height.{distance_right, is_in_span, is_left_of, order_above, starts_left_of}
 use Rattle.plane.specs.Order.{order}
 use Rattle.plane.specs.RayCrossing.{IsOff, IsOffEdge, down_by, off_by, up_by}
 use Rattle.plane.specs.Sector.{in_sector, sector_by}
@@ -20,17 +20,19 @@ use Rattle.winding.specs.Node.{away}
 use Rattle.winding.specs.OddSide.{directed, directed_edge, runs_up}
 use Rattle.winding.specs.Parity.{is_even}
 use Rattle.winding.specs.Rank.{IsOrder}
+use Rattle.plane.proofs.Bools.{and-in, and-out}
 use Rattle.plane.proofs.Conflicts.{clear_differs, clear_misses}
-use Rattle.plane.proofs.Edges.{and-out, edge_of, ends_at-from}
+use Rattle.plane.proofs.Edges.{edge_of, ends_at-from}
+use Rattle.plane.proofs.Heights.{right_chain, right_either, right_itself, right_of, step_of, tall-by, zero-part}
 use Rattle.plane.proofs.Identities.{apart, lift, same, ◌⊞◌, ◌⊟◌, ◌⊠◌}
 use Rattle.plane.proofs.PointOrder.{line-order-up, rising-direction}
 use Rattle.plane.proofs.Points.{same_point-true}
-use Rattle.plane.proofs.Products.{cross-agree, cross-self, cross2, dot-east, from_to2, lift2, orient-round, plucker-agree, plucker-dot-agree, side-moves}
-use Rattle.plane.proofs.RayCrossings.{at-end-by, cross-east, down_seen, east-direction, east-side, hits-left, hits_at, left-signs, rise-y, sector-east, up_seen}
-use Rattle.plane.proofs.Signs.{agree, agree-sum, all, all-out, all2, all2-out, all4-out, both, imp, imp-out, left-out, not-minus-by, not-null-by, null-zero, plus-times, right-out, same-out, same_sign, same_sign-true, self-diff, sign-turned, times, times-plus}
+use Rattle.plane.proofs.Products.{cross-agree, cross-negated, cross-self, cross2, from_to2, lift2, orient-round, side-moves}
+use Rattle.plane.proofs.RayCrossings.{at-end-by, crossings-left, crossings_at, down_seen, east-direction, east-side, left-signs, rise-y, sector-east, up_seen}
+use Rattle.plane.proofs.Signs.{agree, agree-sum, all, all-out, all2, all2-out, all4-out, both, imp, imp-out, is_plus-true, left-out, not-minus-by, not-null-by, null-zero, plus-times, right-out, same-out, self-diff, sign-reversed, times}
 use Rattle.plane.proofs.Views.{View, view_weighted, weigh}
 use Rattle.winding.proofs.AlongSegment.{along_from, off_all}
-use Rattle.winding.proofs.Balance.{agree-dot, length-total, same_bool, same_bool-true}
+use Rattle.winding.proofs.Balance.{agree-dot, length-total}
 use Rattle.winding.proofs.ConflictFree.{misses_others, off_away, rising_in, split_off}
 use Rattle.winding.proofs.Independence.{IsOffSeen, count-is, even-at-ends, in_sector_seen, sector_sum, total-ends}
 use Rattle.winding.proofs.Members.{in-all, in-filter, in-passes, into-filter, pairs-filter, pairs-weaker, total-filter, total-same}
@@ -38,65 +40,6 @@ use Rattle.winding.proofs.OddSides.{differ-parity, no_same_way_from, runs_from}
 use Rattle.winding.proofs.OppositeEnds.{away-others, off-others}
 use Rattle.winding.proofs.Ranks.{evens, odds, rank', rank-parity}
 use Rattle.winding.proofs.Sums.{total, total-+, total-is, total-map}
-
--- ---- where an edge is at the height of p: its height and its position times its height; and its slope
-abbrev pub spot : Vector → Edge → Vector
-spot p t = record { x = t.to.y -ℤ t.from.y; y = cross (from_to p t.from) (from_to p t.to) }
-
-abbrev pub step_of : Edge → Vector
-step_of t = from_to t.from t.to
-
-abbrev pub right_sign : Vector → Edge → Edge → Sign
-right_sign p e f = then_sign (sign (cross (spot p e) (spot p f))) (sign (cross (step_of f) (step_of e)))
-
--- f is right of e at the height of p and just above it
-abbrev pub right_of : Vector → Edge → Edge → Bool
-right_of p e f = is_plus (right_sign p e f)
-
--- ---- signs of an edge that spans the height
-abbrev tall : Sign → Sign → Sign → Bool
-tall yu dy yv = imp (agree yu dy yv) λ _. imp (not (is_plus yu) && is_plus yv) λ _. same_sign dy Plus
-
-pub tall-by : (p : Vector) (t : Edge) → is_in_span p t ≡ true → sign (t.to.y -ℤ t.from.y) ≡ Plus
-tall-by p t h =
-    let yu = sign (t.from.y -ℤ p.y) in let yv = sign (t.to.y -ℤ p.y) in let dy = sign (t.to.y -ℤ t.from.y) in
-    let c = all-out (λ v. tall yu dy v) (all2-out (λ a b. all (λ v. tall a b v)) refl yu dy) yv in
-    same_sign-true dy Plus (imp-out _ _ (imp-out _ _ c (rise-y p t.from t.to)) h)
-
--- ---- the order
-abbrev lex_chain : Sign → Sign → Sign → Sign → Bool
-lex_chain k l k' l' = all2 λ m m'. imp (agree k l m) λ _. imp (agree k' l' m') λ _. imp (is_plus (then_sign k k')) λ _. imp (is_plus (then_sign l l')) λ _. is_plus (then_sign m m')
-
-agree-back : (s t u : Sign) → agree s t u ≡ true → agree t s u ≡ true
-agree-back s t u h = imp-out _ _ (all-out (λ u. imp (agree s t u) λ _. agree t s u) (all2-out (λ s t. all (λ u. imp (agree s t u) λ _. agree t s u)) refl s t) u) h
-
-pub right_chain : (p : Vector) (a b c : Edge) → is_in_span p a ≡ true → is_in_span p b ≡ true → is_in_span p c ≡ true → right_of p a b ≡ true → right_of p b c ≡ true → right_of p a c ≡ true
-right_chain p a b c sa sb sc h g =
-    let A = spot p a in let B = spot p b in let C = spot p c in
-    let E = step_of a in let F = step_of b in let G = step_of c in
-    let x = rw (dot-east A, dot-east B, dot-east C, tall-by p a sa, tall-by p b sb, tall-by p c sc, times-plus (sign (cross B C)), times-plus (sign (cross A B)), times-plus (sign (cross A C))) at (plucker-dot-agree east A B C) in
-    let y = rw (cross-east G, cross-east F, cross-east E, tall-by p a sa, tall-by p b sb, tall-by p c sc, times-plus (sign (cross F E)), times-plus (sign (cross G F)), times-plus (sign (cross G E))) at (plucker-agree east G F E) in
-    let k = all2-out (λ m m'. imp (agree (sign (cross A B)) (sign (cross B C)) m) λ _. imp (agree (sign (cross F E)) (sign (cross G F)) m') λ _. imp (is_plus (then_sign (sign (cross A B)) (sign (cross F E)))) λ _. imp (is_plus (then_sign (sign (cross B C)) (sign (cross G F)))) λ _. is_plus (then_sign m m'))
-    (all4-out lex_chain refl (sign (cross A B)) (sign (cross B C)) (sign (cross F E)) (sign (cross G F))) (sign (cross A C)) (sign (cross G E)) in
-    imp-out _ _ (imp-out _ _ (imp-out _ _ (imp-out _ _ k (agree-back _ _ _ x)) y) h) g
-
-pub right_itself : (p : Vector) (a : Edge) → right_of p a a ≡ false
-right_itself p a = rw (cross-self (spot p a), cross-self (step_of a)) refl
-
-abbrev lex_either : Sign → Sign → Bool
-lex_either k l = imp (not (is_null (then_sign k l))) λ _. same_bool (is_plus (then_sign k l)) (not (is_plus (then_sign (negated k) (negated l))))
-
-cross-turned : (a b : Vector) → cross a b +ℤ cross b a ≡ pos 0
-cross-turned a b = let e = lift2 a in let f = lift2 b in same (cross2 e f ⊞ cross2 f e) (lift (pos 0)) (omega arith)
-
-pub cross-neg : (a b : Vector) → sign (cross b a) ≡ negated (sign (cross a b))
-cross-neg a b = sign-turned (cross a b) (cross b a) (cross-turned a b)
-
-pub right_either : (p : Vector) (a b : Edge) → not (is_null (right_sign p a b)) ≡ true → right_of p a b ≡ not (right_of p b a)
-right_either p a b n =
-    let k = sign (cross (spot p a) (spot p b)) in let l = sign (cross (step_of b) (step_of a)) in
-    same_bool-true _ _ (imp-out _ _ (all2-out lex_either refl k l) n)
-    ∙ ap (λ s. not (is_plus (then_sign s (negated l)))) (sym (cross-neg (spot p a) (spot p b))) ∙ ap (λ s. not (is_plus (then_sign (sign (cross (spot p b) (spot p a))) s))) (sym (cross-neg (step_of b) (step_of a)))
 
 -- ---- an edge whose lower end is below the height: seen from its point at the height
 module _ (p a b : Vector) (lo : sign (a.y -ℤ p.y) ≡ Minus) (hi : sign (b.y -ℤ p.y) ≡ Plus) where
@@ -107,7 +50,7 @@ module _ (p a b : Vector) (lo : sign (a.y -ℤ p.y) ≡ Minus) (hi : sign (b.y -
   low_part = p.y -ℤ a.y
 
   pub low-plus : sign low_part ≡ Plus
-  low-plus = sign-turned (a.y -ℤ p.y) low_part (omega (arith, ints)) ∙ ap negated lo
+  low-plus = sign-reversed (a.y -ℤ p.y) low_part (omega (arith, ints)) ∙ ap negated lo
 
   abbrev pub look : Vector → Vector
   look w = weigh up_part low_part (from_to a w) (from_to b w)
@@ -149,8 +92,8 @@ module _ (p a b : Vector) (lo : sign (a.y -ℤ p.y) ≡ Minus) (hi : sign (b.y -
       ∙ ap (λ (z : ℤ). (D *ℤ ux -ℤ C) *ℤ (D *ℤ vy) -ℤ (D *ℤ uy) *ℤ z) (look-x v)
       ∙ spread D C ux uy vx vy (v.y -ℤ u.y) (omega (arith, ints))
 
-  look-side : (f : Edge) → sign (cross (look f.from) (look f.to)) ≡ sign (cross (spot p (edge_of a b)) (spot p f))
-  look-side f = ap sign (look-cross f.from f.to) ∙ plus-times tallness (cross (spot p (edge_of a b)) (spot p f)) tall-plus
+  look-side : (f : Edge) → sign (cross (look f.from) (look f.to)) ≡ sign (cross (distance_right p (edge_of a b)) (distance_right p f))
+  look-side f = ap sign (look-cross f.from f.to) ∙ plus-times tallness (cross (distance_right p (edge_of a b)) (distance_right p f)) tall-plus
 
 -- a step that goes up past the ray's line and is off its origin is not on one line with it
 abbrev past_line : Sign → Sign → Sign → Sign → Bool
@@ -187,15 +130,15 @@ module _ (p : Vector) (e : Edge) (es : List Edge) (pl : IsConflictFree es) (i : 
   pub e-view : View e.from e.to from_e
   e-view = view_weighted e.from e.to (e.to.y -ℤ p.y) (p.y -ℤ e.from.y) hi (low-plus p e.from e.to lo hi) e-direction
 
-  pub hits-right : (f : Edge) → IsOffSeen from_e f → IsRising f → hits_at east from_e f ≡ to_right p e f
-  hits-right f o r =
+  pub crossings-right : (f : Edge) → IsOffSeen from_e f → IsRising f → crossings_at east from_e f ≡ to_right p e f
+  crossings-right f o r =
       let u = f.from in let v = f.to in
       let a = look-height p e.from e.to lo hi u in let b = look-height p e.from e.to lo hi v in
       let c = look-side p e.from e.to lo hi f in
       let g = left-signs (sign (u.y -ℤ p.y)) (sign (v.y -ℤ p.y)) (sign (cross (from_e u) (from_e v))) (sign (v.y -ℤ u.y)) (rise-y p u v) (not-minus-by (sign (v.y -ℤ u.y)) (sign (v.x -ℤ u.x)) r) in
       let n = λ (s : is_in_span p f ≡ true). subst (λ k. not (is_null k) ≡ true) c (off_not_null (from_e u) (from_e v) o
       (subst (λ k. (not (is_plus k) && is_plus (sign (from_e v).y)) ≡ true) (sym a) (subst (λ k. (not (is_plus (sign (u.y -ℤ p.y))) && is_plus k) ≡ true) (sym b) s))) in
-      let h = first-tells (is_in_span p f) (sign (cross (spot p e) (spot p f))) (sign (cross (step_of f) (step_of e))) n in
+      let h = first-tells (is_in_span p f) (sign (cross (distance_right p e) (distance_right p f))) (sign (cross (step_of f) (step_of e))) n in
       ap (λ k. up_by k (sign (cross east (from_e v))) (sign (cross (from_e u) (from_e v))) + down_by k (sign (cross east (from_e v))) (sign (cross (from_e u) (from_e v)))) (east-side (from_e u) ∙ a)
       ∙ ap (λ k. up_by (sign (u.y -ℤ p.y)) k (sign (cross (from_e u) (from_e v))) + down_by (sign (u.y -ℤ p.y)) k (sign (cross (from_e u) (from_e v)))) (east-side (from_e v) ∙ b)
       ∙ g ∙ ap (λ k. bit (is_in_span p f && is_plus k)) c ∙ h
@@ -234,8 +177,8 @@ module _ (p : Vector) (e : Edge) (es : List Edge) (pl : IsConflictFree es) (i : 
       let n = ahead-in in let o = behind-out in
       let q = along_from e.from e.to from_e e-view os (misses_others e es pl i) (off-others e.from e es pl i (ends_at-from e)) in
       let z = away-others d e.from e es pl i (ends_at-from e) in
-      let r = total-same (hits_at east from_e) (to_right p e) os (λ t j. hits-right t (in-all (IsOffSeen from_e) os t off j) (rising_in es t pl (in-filter (λ (t : Edge). not (same_edge e t)) es t j))) in
-      let c = total-is (hits_at east from_e) os in
+      let r = total-same (crossings_at east from_e) (to_right p e) os (λ t j. crossings-right t (in-all (IsOffSeen from_e) os t off j) (rising_in es t pl (in-filter (λ (t : Edge). not (same_edge e t)) es t j))) in
+      let c = total-is (crossings_at east from_e) os in
       let m : (total (to_right p e) os + crossing_count d e.from (away e.from es)) % 2 ≡ 1 = omega arith in
       runs_from e es pl even i ∙ sym (differ-parity (total (to_right p e) os) (crossing_count d e.from (away e.from es)) m)
 
@@ -246,11 +189,6 @@ sloping_runs-by : (s : Edge) (es : List Edge) (y : Sign) → y ≡ Plus →
 sloping_runs-by s es Plus h = refl
 sloping_runs-by s es Null h = absurd (cc h)
 sloping_runs-by s es Minus h = absurd (cc h)
-
-zero-part : (x y z w d : ℤ) → y ≡ pos 0 → z ≡ d → x *ℤ z -ℤ y *ℤ w ≡ x *ℤ d
-zero-part x y z w d e f =
-    let x' = lift x in let w' = lift w in let d' = lift d in
-    ap (λ k. x *ℤ k -ℤ y *ℤ w) f ∙ ap (λ k. x *ℤ d -ℤ k *ℤ w) e ∙ same (x' ⊠ d' ⊟ lift (pos 0) ⊠ w') (x' ⊠ d') (omega arith)
 
 level-mix : (D W x dy Z Cf Ce : ℤ) → Ce ≡ x *ℤ D → Z ≡ x *ℤ dy → W +ℤ Z ≡ Cf → D *ℤ Cf -ℤ Ce *ℤ dy ≡ D *ℤ W
 level-mix D W x dy Z Cf Ce e f g =
@@ -280,10 +218,10 @@ plus-or x q Minus l false h k = refl
 plus-or x q Null l false h k = refl
 plus-or x q Null l true h k = ap bit (k refl refl)
 
-plus-neg : (s : Sign) → is_minus s ≡ is_plus (negated s)
-plus-neg Plus = refl
-plus-neg Null = refl
-plus-neg Minus = refl
+plus-negated : (s : Sign) → is_minus s ≡ is_plus (negated s)
+plus-negated Plus = refl
+plus-negated Null = refl
+plus-negated Minus = refl
 
 minus-not-null : (s : Sign) → s ≡ Minus → s ≡ Null → ⊥
 minus-not-null s h k = cc (sym h ∙ k)
@@ -295,8 +233,8 @@ module _ (p : Vector) (e : Edge) (es : List Edge) (pl : IsConflictFree es) (i : 
   pub e-tall : sign (e.to.y -ℤ e.from.y) ≡ Plus
   e-tall = subst (λ z. sign (e.to.y -ℤ z) ≡ Plus) (sym level) hi
 
-  spot-level : (f : Edge) → cross (spot p e) (spot p f) ≡ (e.to.y -ℤ e.from.y) *ℤ cross (from_to e.from f.from) (from_to e.from f.to)
-  spot-level f =
+  distance-level : (f : Edge) → cross (distance_right p e) (distance_right p f) ≡ (e.to.y -ℤ e.from.y) *ℤ cross (from_to e.from f.from) (from_to e.from f.to)
+  distance-level f =
       let a = e.from in let b = e.to in let u = f.from in let v = f.to in
       let z = null-zero (a.y -ℤ p.y) lo in
       let d = level in
@@ -305,11 +243,11 @@ module _ (p : Vector) (e : Edge) (es : List Edge) (pl : IsConflictFree es) (i : 
       (zero-part (a.x -ℤ p.x) (a.y -ℤ p.y) (v.y -ℤ u.y) (v.x -ℤ u.x) (v.y -ℤ u.y) z refl)
       (side-moves p a u v)
 
-  spot-sign : (f : Edge) → sign (cross (spot p e) (spot p f)) ≡ orient f.from f.to e.from
-  spot-sign f = ap sign (spot-level f) ∙ plus-times (e.to.y -ℤ e.from.y) (cross (from_to e.from f.from) (from_to e.from f.to)) e-tall ∙ ap sign (sym (orient-round e.from f.from f.to))
+  distance-sign : (f : Edge) → sign (cross (distance_right p e) (distance_right p f)) ≡ orient f.from f.to e.from
+  distance-sign f = ap sign (distance-level f) ∙ plus-times (e.to.y -ℤ e.from.y) (cross (from_to e.from f.from) (from_to e.from f.to)) e-tall ∙ ap sign (sym (orient-round e.from f.from f.to))
 
-  spans-level : (f : Edge) → is_in_span e.from f ≡ is_in_span p f
-  spans-level f = ap (λ (z : ℤ). not (is_plus (sign (f.from.y -ℤ z))) && is_plus (sign (f.to.y -ℤ z))) level
+  span-level : (f : Edge) → is_in_span e.from f ≡ is_in_span p f
+  span-level f = ap (λ (z : ℤ). not (is_plus (sign (f.from.y -ℤ z))) && is_plus (sign (f.to.y -ℤ z))) level
 
   away-in : (f : Edge) → In f es → ends_at e.from f ≡ false → IsOffEdge e.from f
   away-in f j h = in-all (IsOffEdge e.from) (away e.from es) f (off_away e.from e es pl i (ends_at-from e)) (into-filter (λ (t : Edge). not (ends_at e.from t)) es f j (ap not h))
@@ -322,7 +260,7 @@ module _ (p : Vector) (e : Edge) (es : List Edge) (pl : IsConflictFree es) (i : 
       (x && is_minus (orient e.from e.to f.to)) ≡ is_plus (sign (cross (step_of f) (step_of e)))
   on-line-by f j true y h k o s =
       let q = same_point-true e.from f.from h in
-      plus-neg (orient e.from e.to f.to) ∙ ap is_plus (sym (cross-neg (from_to e.from e.to) (from_to e.from f.to)) ∙ ap (λ (w : Vector). sign (cross (from_to w f.to) (step_of e))) q)
+      plus-negated (orient e.from e.to f.to) ∙ ap is_plus (sym (cross-negated (from_to e.from e.to) (from_to e.from f.to)) ∙ ap (λ (w : Vector). sign (cross (from_to w f.to) (step_of e))) q)
   on-line-by f j false true h k o s =
       let q = same_point-true e.from f.to k in
       let n : sign (f.to.y -ℤ e.from.y) ≡ Null = subst (λ (w : Vector). sign (w.y -ℤ e.from.y) ≡ Null) q (self-diff e.from.y) in
@@ -337,8 +275,8 @@ module _ (p : Vector) (e : Edge) (es : List Edge) (pl : IsConflictFree es) (i : 
   right-level f j =
       let c = same_point e.from f.from in let q = is_minus (orient e.from e.to f.to) in let o = orient f.from f.to e.from in let l = sign (cross (step_of f) (step_of e)) in
       plus-or c q o l (is_in_span e.from f) (not-here f c refl) (λ z s. on-line-by f j c (same_point e.from f.to) refl refl z s)
-      ∙ ap (λ b. bit (b && is_plus (then_sign o l))) (spans-level f)
-      ∙ ap (λ k. bit (is_in_span p f && is_plus (then_sign k l))) (sym (spot-sign f))
+      ∙ ap (λ b. bit (b && is_plus (then_sign o l))) (span-level f)
+      ∙ ap (λ k. bit (is_in_span p f && is_plus (then_sign k l))) (sym (distance-sign f))
 
   pub level_runs : IsEvenAtPoints es → runs_up es e ≡ is_even (total (to_right p e) (others e es))
   level_runs even =
@@ -376,16 +314,16 @@ set-second Plus l h = refl
 set-second Minus l h = refl
 set-second Null l h = h refl
 
-neg-null : (s : Sign) → not (is_null s) ≡ true → not (is_null (negated s)) ≡ true
-neg-null Plus h = refl
-neg-null Minus h = refl
-neg-null Null h = h
+negated-null : (s : Sign) → not (is_null s) ≡ true → not (is_null (negated s)) ≡ true
+negated-null Plus h = refl
+negated-null Minus h = refl
+negated-null Null h = h
 
 module _ (p : Vector) (e f : Edge) (es : List Edge) (pl : IsConflictFree es) (i : In e es) (j : In f es) (n : IsClearOf e f) (s : is_in_span p f ≡ true) where
   other : In f (others e es)
   other = into-filter (λ (t : Edge). not (same_edge e t)) es f j (ap not (clear_differs e f (rising_in es e pl i) n))
 
-  apart-inner : (lo : sign (e.from.y -ℤ p.y) ≡ Minus) → (hi : sign (e.to.y -ℤ p.y) ≡ Plus) → not (is_null (right_sign p e f)) ≡ true
+  apart-inner : (lo : sign (e.from.y -ℤ p.y) ≡ Minus) → (hi : sign (e.to.y -ℤ p.y) ≡ Plus) → not (is_null (order_above p e f)) ≡ true
   apart-inner lo hi =
       let r = from_e p e es pl i lo hi in let v = e-view p e es pl i lo hi in
       let off = in-all (IsOffSeen r) (others e es) f (off_all e.from e.to r v (others e es) (misses_others e es pl i)) other in
@@ -402,56 +340,47 @@ module _ (p : Vector) (e f : Edge) (es : List Edge) (pl : IsConflictFree es) (i 
       let r : order a v ≡ Plus = subst (λ w. order w v ≡ Plus) (sym q) rf in
       let m : Misses a b (edge_of a v) = subst (λ w. Misses a b (edge_of w v)) (sym q) (clear_misses e f re rf n) in
       let g = not-null-by (sign (cross (from_to a b) (from_to a v))) (λ z. no_same_way_from a b v (rising-direction a b re) m z (line-order-up a b a v re z ∙ r)) in
-      subst (λ (w : Vector). not (is_null (sign (cross (from_to w v) (from_to a b)))) ≡ true) q (subst (λ z. not (is_null z) ≡ true) (sym (cross-neg (from_to a b) (from_to a v))) (neg-null _ g))
+      subst (λ (w : Vector). not (is_null (sign (cross (from_to w v) (from_to a b)))) ≡ true) q (subst (λ z. not (is_null z) ≡ true) (sym (cross-negated (from_to a b) (from_to a v))) (negated-null _ g))
   ends-cases false true h k lo hi o =
       let q = same_point-true e.from f.to k in
-      let s' = spans-level p e es pl i lo hi f ∙ s in
+      let s' = span-level p e es pl i lo hi f ∙ s in
       let z : sign (f.to.y -ℤ e.from.y) ≡ Null = subst (λ (w : Vector). sign (w.y -ℤ e.from.y) ≡ Null) q (self-diff e.from.y) in
       let g = subst (λ z. (not (is_plus (sign (f.from.y -ℤ e.from.y))) && is_plus z) ≡ true) z s' in absurd (no-and (not (is_plus (sign (f.from.y -ℤ e.from.y)))) g)
   ends-cases false false h k lo hi o =
       let off = away-in p e es pl i lo hi f j (ends-none e.from f h k) in
-      let s' = spans-level p e es pl i lo hi f ∙ s in
+      let s' = span-level p e es pl i lo hi f ∙ s in
       let m = off_not_null (from_to e.from f.from) (from_to e.from f.to) off s' in
       let z : sign (cross (from_to e.from f.from) (from_to e.from f.to)) ≡ Null = ap sign (sym (orient-round e.from f.from f.to)) ∙ o in
       absurd (cc (sym (ap (λ w. not (is_null w)) z) ∙ m))
 
-  apart-level : (lo : sign (e.from.y -ℤ p.y) ≡ Null) → (hi : sign (e.to.y -ℤ p.y) ≡ Plus) → not (is_null (right_sign p e f)) ≡ true
+  apart-level : (lo : sign (e.from.y -ℤ p.y) ≡ Null) → (hi : sign (e.to.y -ℤ p.y) ≡ Plus) → not (is_null (order_above p e f)) ≡ true
   apart-level lo hi =
-      set-second (sign (cross (spot p e) (spot p f))) (sign (cross (step_of f) (step_of e)))
-      (λ z. ends-cases (same_point e.from f.from) (same_point e.from f.to) refl refl lo hi (sym (spot-sign p e es pl i lo hi f) ∙ z))
+      set-second (sign (cross (distance_right p e) (distance_right p f))) (sign (cross (step_of f) (step_of e)))
+      (λ z. ends-cases (same_point e.from f.from) (same_point e.from f.to) refl refl lo hi (sym (distance-sign p e es pl i lo hi f) ∙ z))
 
-  apart-both : (sign (e.from.y -ℤ p.y) ≡ Minus) ⊎ (sign (e.from.y -ℤ p.y) ≡ Null) → sign (e.to.y -ℤ p.y) ≡ Plus → not (is_null (right_sign p e f)) ≡ true
+  apart-both : (sign (e.from.y -ℤ p.y) ≡ Minus) ⊎ (sign (e.from.y -ℤ p.y) ≡ Null) → sign (e.to.y -ℤ p.y) ≡ Plus → not (is_null (order_above p e f)) ≡ true
   apart-both (inl lo) hi = apart-inner lo hi
   apart-both (inr lo) hi = apart-level lo hi
 
-  pub right_apart : is_in_span p e ≡ true → not (is_null (right_sign p e f)) ≡ true
+  pub right_apart : is_in_span p e ≡ true → not (is_null (order_above p e f)) ≡ true
   right_apart h = let g = low-by (sign (e.from.y -ℤ p.y)) (sign (e.to.y -ℤ p.y)) h in apart-both g.0 g.1
 
 -- ---- the edges right of p
-abbrev pub hit_by : Vector → List Edge → List Edge
-hit_by p es = filter (is_left_of p) es
+abbrev pub crossing_by : Vector → List Edge → List Edge
+crossing_by p es = filter (is_left_of p) es
 
-pub left-spans : (p : Vector) (t : Edge) → is_left_of p t ≡ true → is_in_span p t ≡ true
-left-spans p t h = (and-out (is_in_span p t) (is_plus (orient t.from t.to p)) h).0
+pub left-span : (p : Vector) (t : Edge) → is_left_of p t ≡ true → is_in_span p t ≡ true
+left-span p t h = (and-out (is_in_span p t) (is_plus (orient t.from t.to p)) h).0
 
 abbrev still_left : Sign → Sign → Bool
 still_left k l = all λ c. imp (agree k (times Plus Plus) (times Plus c)) λ _. imp (is_plus (then_sign k l)) λ _. is_plus c
 
-is-plus-out : (s : Sign) → is_plus s ≡ true → s ≡ Plus
-is-plus-out Plus h = refl
-is-plus-out Null h = absurd (cc h)
-is-plus-out Minus h = absurd (cc h)
-
-and-in : (x y : Bool) → x ≡ true → y ≡ true → (x && y) ≡ true
-and-in true y h k = k
-and-in false y h k = absurd (cc h)
-
 -- what is right of an edge that is right of p is right of p
 pub right_left : (p : Vector) (e f : Edge) → is_left_of p e ≡ true → is_in_span p f ≡ true → right_of p e f ≡ true → is_left_of p f ≡ true
 right_left p e f h s r =
-    let k = sign (cross (spot p e) (spot p f)) in let l = sign (cross (step_of f) (step_of e)) in
-    let ce : sign (cross (from_to p e.from) (from_to p e.to)) ≡ Plus = ap sign (sym (orient-round p e.from e.to)) ∙ is-plus-out (orient e.from e.to p) (and-out (is_in_span p e) (is_plus (orient e.from e.to p)) h).1 in
-    let a = rw (tall-by p e (left-spans p e h), tall-by p f s, ce) at (cross-agree (spot p e) (spot p f)) in
+    let k = sign (cross (distance_right p e) (distance_right p f)) in let l = sign (cross (step_of f) (step_of e)) in
+    let ce : sign (cross (from_to p e.from) (from_to p e.to)) ≡ Plus = ap sign (sym (orient-round p e.from e.to)) ∙ is_plus-true (orient e.from e.to p) (and-out (is_in_span p e) (is_plus (orient e.from e.to p)) h).1 in
+    let a = rw (tall-by p e (left-span p e h), tall-by p f s, ce) at (cross-agree (distance_right p e) (distance_right p f)) in
     let c = all-out (λ c. imp (agree k (times Plus Plus) (times Plus c)) λ _. imp (is_plus (then_sign k l)) λ _. is_plus c) (all2-out still_left refl k l) (sign (cross (from_to p f.from) (from_to p f.to))) in
     and-in (is_in_span p f) (is_plus (orient f.from f.to p)) s (ap (λ z. is_plus (sign z)) (orient-round p f.from f.to) ∙ imp-out _ _ (imp-out _ _ c a) r)
 
@@ -462,14 +391,25 @@ kept-by false true true h k = absurd (cc (k refl refl))
 kept-by false true false h k = refl
 kept-by false false r h k = refl
 
-pub hit-order : (p : Vector) (es : List Edge) → IsConflictFree es → IsOrder false (right_of p) (hit_by p es)
-hit-order p es pl = record {
+pub crossing-order : (p : Vector) (es : List Edge) → IsConflictFree es → IsOrder false (right_of p) (crossing_by p es)
+crossing-order p es pl = record {
   itself = λ t i. right_itself p t;
-  chain = λ a b c i j k h g. right_chain p a b c (left-spans p a (in-passes (is_left_of p) es a i)) (left-spans p b (in-passes (is_left_of p) es b j)) (left-spans p c (in-passes (is_left_of p) es c k)) h g;
-  either = pairs-weaker IsClearOf (λ s t. right_of p s t ≡ not (right_of p t s)) (hit_by p es)
+  chain = λ a b c i j k h g. right_chain p a b c (left-span p a (in-passes (is_left_of p) es a i)) (left-span p b (in-passes (is_left_of p) es b j)) (left-span p c (in-passes (is_left_of p) es c k)) h g;
+  either = pairs-weaker IsClearOf (λ s t. right_of p s t ≡ not (right_of p t s)) (crossing_by p es)
       (λ s t i j n. right_either p s t (right_apart p s t es pl (in-filter (is_left_of p) es s i) (in-filter (is_left_of p) es t j) n
-      (left-spans p t (in-passes (is_left_of p) es t j)) (left-spans p s (in-passes (is_left_of p) es s i))))
+      (left-span p t (in-passes (is_left_of p) es t j)) (left-span p s (in-passes (is_left_of p) es s i))))
       (pairs-filter IsClearOf (is_left_of p) es pl.clear);
+}
+
+-- the edges that span the height of p
+pub spanning-order : (p : Vector) (es : List Edge) → IsConflictFree es → IsOrder false (right_of p) (filter (is_in_span p) es)
+spanning-order p es pl = record {
+  itself = λ t i. right_itself p t;
+  chain = λ a b c i j k h g. right_chain p a b c (in-passes (is_in_span p) es a i) (in-passes (is_in_span p) es b j) (in-passes (is_in_span p) es c k) h g;
+  either = pairs-weaker IsClearOf (λ s t. right_of p s t ≡ not (right_of p t s)) (filter (is_in_span p) es)
+      (λ s t i j n. right_either p s t (right_apart p s t es pl (in-filter (is_in_span p) es s i) (in-filter (is_in_span p) es t j) n
+      (in-passes (is_in_span p) es t j) (in-passes (is_in_span p) es s i)))
+      (pairs-filter IsClearOf (is_in_span p) es pl.clear);
 }
 
 own-by : (s r : Bool) → r ≡ false → bit (s && r) ≡ 0
@@ -479,22 +419,22 @@ own-by false r h = refl
 own-right : (p : Vector) (e : Edge) → to_right p e e ≡ 0
 own-right p e = own-by (is_in_span p e) (right_of p e e) (right_itself p e)
 
-hit-rank : (p : Vector) (e : Edge) (es : List Edge) → IsConflictFree es → IsEvenAtPoints es → In e (hit_by p es) → rank' (right_of p) (hit_by p es) e ≡ total (to_right p e) (others e es)
-hit-rank p e es pl even i =
+crossing-rank : (p : Vector) (e : Edge) (es : List Edge) → IsConflictFree es → IsEvenAtPoints es → In e (crossing_by p es) → rank' (right_of p) (crossing_by p es) e ≡ total (to_right p e) (others e es)
+crossing-rank p e es pl even i =
     let k = in-filter (is_left_of p) es e i in let l = in-passes (is_left_of p) es e i in
     let a = total-filter (is_left_of p) (λ f. bit (right_of p e f)) es in
-    let b = total-same (λ f. cond (is_left_of p f) (bit (right_of p e f)) 0) (to_right p e) es (λ f j. kept-by (is_left_of p f) (is_in_span p f) (right_of p e f) (left-spans p f) (λ s r. right_left p e f l s r)) in
+    let b = total-same (λ f. cond (is_left_of p f) (bit (right_of p e f)) 0) (to_right p e) es (λ f j. kept-by (is_left_of p f) (is_in_span p f) (right_of p e f) (left-span p f) (λ s r. right_left p e f l s r)) in
     let c = split_off (to_right p e) e es pl k in let d = own-right p e in omega arith
 
-hit-runs : (p : Vector) (e : Edge) (es : List Edge) → IsConflictFree es → IsEvenAtPoints es → In e (hit_by p es) → runs_up es e ≡ is_even (rank' (right_of p) (hit_by p es) e)
-hit-runs p e es pl even i =
-    spanning_runs p e es pl even (in-filter (is_left_of p) es e i) (left-spans p e (in-passes (is_left_of p) es e i)) ∙ ap is_even (sym (hit-rank p e es pl even i))
+crossing-runs : (p : Vector) (e : Edge) (es : List Edge) → IsConflictFree es → IsEvenAtPoints es → In e (crossing_by p es) → runs_up es e ≡ is_even (rank' (right_of p) (crossing_by p es) e)
+crossing-runs p e es pl even i =
+    spanning_runs p e es pl even (in-filter (is_left_of p) es e i) (left-span p e (in-passes (is_left_of p) es e i)) ∙ ap is_even (sym (crossing-rank p e es pl even i))
 
-hit-sum : (p : Vector) (es : List Edge) → IsConflictFree es → IsEvenAtPoints es → total (λ e. bit (runs_up es e)) (hit_by p es) ≡ total (λ e. bit (not (runs_up es e))) (hit_by p es) + length (hit_by p es) % 2
-hit-sum p es pl even =
-    let a = total-same (λ e. bit (runs_up es e)) (λ e. evens (rank' (right_of p) (hit_by p es) e)) (hit_by p es) (λ e i. ap bit (hit-runs p e es pl even i)) in
-    let b = total-same (λ e. bit (not (runs_up es e))) (λ e. odds (rank' (right_of p) (hit_by p es) e)) (hit_by p es) (λ e i. ap (λ x. bit (not x)) (hit-runs p e es pl even i)) in
-    let c = rank-parity (right_of p) (hit_by p es) (hit-order p es pl) in omega arith
+crossing-sum : (p : Vector) (es : List Edge) → IsConflictFree es → IsEvenAtPoints es → total (λ e. bit (runs_up es e)) (crossing_by p es) ≡ total (λ e. bit (not (runs_up es e))) (crossing_by p es) + length (crossing_by p es) % 2
+crossing-sum p es pl even =
+    let a = total-same (λ e. bit (runs_up es e)) (λ e. evens (rank' (right_of p) (crossing_by p es) e)) (crossing_by p es) (λ e i. ap bit (crossing-runs p e es pl even i)) in
+    let b = total-same (λ e. bit (not (runs_up es e))) (λ e. odds (rank' (right_of p) (crossing_by p es) e)) (crossing_by p es) (λ e i. ap (λ x. bit (not x)) (crossing-runs p e es pl even i)) in
+    let c = rank-parity (right_of p) (crossing_by p es) (crossing-order p es pl) in omega arith
 
 -- ---- the crossings of a directed edge
 abbrev run_1 : Sign → Sign → Sign → Sign → Bool
@@ -532,19 +472,19 @@ module _ (p : Vector) (t : Edge) (r : IsRising t) where
   left-is = ap (λ z. bit (is_in_span p t && is_plus (sign z))) (sym (orient-round p t.from t.to))
 
   turn-back : sign (cross (from_to p t.to) (from_to p t.from)) ≡ negated turn
-  turn-back = cross-neg (from_to p t.from) (from_to p t.to)
+  turn-back = cross-negated (from_to p t.from) (from_to p t.to)
 
-  pub ups-run : (b : Bool) → up_seen east (from_to p) (cond b t (reversed t)) ≡ cond (is_left_of p t) (bit b) 0
-  ups-run true = rw (east-side (from_to p t.from), east-side (from_to p t.to)) (eqb-true _ _ (left-out _ _ run-out) ∙ left-is)
-  ups-run false =
+  pub up-run : (b : Bool) → up_seen east (from_to p) (cond b t (reversed t)) ≡ cond (is_left_of p t) (bit b) 0
+  up-run true = rw (east-side (from_to p t.from), east-side (from_to p t.to)) (eqb-true _ _ (left-out _ _ run-out) ∙ left-is)
+  up-run false =
       rw (east-side (from_to p t.from), east-side (from_to p t.to), turn-back)
       (eqb-true _ _ (left-out _ _ (right-out _ _ (right-out _ _ run-out))) ∙ sym (cond-same (is_left_of p t)))
 
-  pub downs-run : (b : Bool) → down_seen east (from_to p) (cond b t (reversed t)) ≡ cond (is_left_of p t) (bit (not b)) 0
-  downs-run true =
+  pub down-run : (b : Bool) → down_seen east (from_to p) (cond b t (reversed t)) ≡ cond (is_left_of p t) (bit (not b)) 0
+  down-run true =
       rw (east-side (from_to p t.from), east-side (from_to p t.to))
       (eqb-true _ _ (left-out _ _ (right-out _ _ run-out)) ∙ sym (cond-same (is_left_of p t)))
-  downs-run false =
+  down-run false =
       rw (east-side (from_to p t.from), east-side (from_to p t.to), turn-back)
       (eqb-true _ _ (fourth (eqb (up_by yu yv turn) left') (eqb (down_by yu yv turn) 0) (eqb (up_by yv yu (negated turn)) 0) (eqb (down_by yv yu (negated turn)) left') run-out) ∙ left-is)
 
@@ -553,13 +493,13 @@ pub signed_parity : (p : Vector) (es : List Edge) → IsConflictFree es → IsEv
 signed_parity p es pl even =
     let a = sym (total-is (up_seen east (from_to p)) (directed es)) ∙ total-map (up_seen east (from_to p)) (directed_edge es) es in
     let b = sym (total-is (down_seen east (from_to p)) (directed es)) ∙ total-map (down_seen east (from_to p)) (directed_edge es) es in
-    let c = total-same (λ t. up_seen east (from_to p) (directed_edge es t)) (λ t. cond (is_left_of p t) (bit (runs_up es t)) 0) es (λ t i. ups-run p t (rising_in es t pl i) (runs_up es t)) in
-    let d = total-same (λ t. down_seen east (from_to p) (directed_edge es t)) (λ t. cond (is_left_of p t) (bit (not (runs_up es t))) 0) es (λ t i. downs-run p t (rising_in es t pl i) (runs_up es t)) in
+    let c = total-same (λ t. up_seen east (from_to p) (directed_edge es t)) (λ t. cond (is_left_of p t) (bit (runs_up es t)) 0) es (λ t i. up-run p t (rising_in es t pl i) (runs_up es t)) in
+    let d = total-same (λ t. down_seen east (from_to p) (directed_edge es t)) (λ t. cond (is_left_of p t) (bit (not (runs_up es t))) 0) es (λ t i. down-run p t (rising_in es t pl i) (runs_up es t)) in
     let x = total-filter (is_left_of p) (λ t. bit (runs_up es t)) es in let y = total-filter (is_left_of p) (λ t. bit (not (runs_up es t))) es in
-    let z = hit-sum p es pl even in
-    let l = length-total (hit_by p es) in let m = total-filter (is_left_of p) (λ t. 1) es in
-    let n = total-is (hits_at east (from_to p)) es in
-    let o = total-same (hits_at east (from_to p)) (λ t. cond (is_left_of p t) 1 0) es (λ t i. hits-left east p t east-side (rising_in es t pl i)) in
+    let z = crossing-sum p es pl even in
+    let l = length-total (crossing_by p es) in let m = total-filter (is_left_of p) (λ t. 1) es in
+    let n = total-is (crossings_at east (from_to p)) es in
+    let o = total-same (crossings_at east (from_to p)) (λ t. cond (is_left_of p t) 1 0) es (λ t i. crossings-left east p t east-side (rising_in es t pl i)) in
     omega arith
 
 pub signed_count : (p : Vector) (es : List Edge) → IsConflictFree es → IsEvenAtPoints es → winding_number east p (directed es) ≡ pos (crossing_count east p es % 2)

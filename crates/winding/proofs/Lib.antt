@@ -2,11 +2,14 @@ pub mod AlongSegment
 pub mod Anchors
 pub mod Balance
 pub mod ConflictFree
+pub mod Counts
+pub mod Examples
 pub mod Independence
 pub mod Levels
 pub mod Members
 pub mod OddSides
 pub mod OppositeEnds
+pub mod OwnEdge
 pub mod Ranks
 pub mod RingCounts
 pub mod RoundNode

@@ -90,11 +90,6 @@ in-map f [] x i = i
 in-map f (y ∷ ys) x (inl e) = inl (ap f e)
 in-map f (y ∷ ys) x (inr i) = inr (in-map f ys x i)
 
-pub in-map-all : {X Y : Type 0} (f : X → Y) (xs : List X) (x : X) → In x xs → In (f x) (map f xs)
-in-map-all f [] x i = i
-in-map-all f (y ∷ ys) x (inl e) = inl (ap f e)
-in-map-all f (y ∷ ys) x (inr i) = inr (in-map-all f ys x i)
-
 pub from-map : {X Y : Type 0} (P : Y → Type 0) (f : X → Y) (xs : List X) → ((x : X) → In x xs → P (f x)) → (y : Y) → In y (map f xs) → P y
 from-map P f [] h y i = absurd i
 from-map P f (x ∷ xs) h y (inl e) = subst P (sym e) (h x (inl refl))

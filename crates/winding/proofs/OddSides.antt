@@ -17,12 +17,13 @@ use Rattle.winding.specs.Member.{In}
 use Rattle.winding.specs.Node.{away, spokes, spokes_in}
 use Rattle.winding.specs.OddSide.{runs_up}
 use Rattle.winding.specs.Parity.{is_even}
+use Rattle.plane.proofs.Bools.{not-not}
 use Rattle.plane.proofs.Conflicts.{clear_misses}
 use Rattle.plane.proofs.Edges.{edge_of, ends_at-from}
-use Rattle.plane.proofs.PointOrder.{line-order-up, order-turned, rising-direction}
+use Rattle.plane.proofs.PointOrder.{line-order-up, order-reversed, rising-direction}
 use Rattle.plane.proofs.Points.{same_point-refl, same_point-true}
-use Rattle.plane.proofs.Products.{cross-agree, cross-here, cross-self, direction-back, dot-here, dot-turned}
-use Rattle.plane.proofs.RayCrossings.{east-direction, east-side, hits-left, hits_at, level-side, not-left, sector-east}
+use Rattle.plane.proofs.Products.{cross-agree, cross-here, cross-self, direction-back, dot-here, dot-reversed}
+use Rattle.plane.proofs.RayCrossings.{crossings-left, crossings_at, east-direction, east-side, level-side, not-left, sector-east}
 use Rattle.plane.proofs.Signs.{agree, all, all-out, all4-out, imp, imp-out, not-null-by, same-sign-is, same_sign, self-diff, times}
 use Rattle.winding.proofs.ConflictFree.{clear_of_others, off_away, rising_in, split_off}
 use Rattle.winding.proofs.Members.{in-filter, total-filter, total-same}
@@ -31,9 +32,9 @@ use Rattle.winding.proofs.Ranks.{even-is, halves, odd-is}
 use Rattle.winding.proofs.RoundNode.{parity_round_node}
 use Rattle.winding.proofs.Sums.{total, total-+, total-is}
 
-beyond-left-by : (d p : Vector) (t : Edge) (b : Bool) → ends_at p t ≡ b → ((w : Vector) → sign (cross d w) ≡ sign w.y) → IsRising t → cond (not b) (hits_at d (from_to p) t) 0 ≡ bit (is_left_of p t)
+beyond-left-by : (d p : Vector) (t : Edge) (b : Bool) → ends_at p t ≡ b → ((w : Vector) → sign (cross d w) ≡ sign w.y) → IsRising t → cond (not b) (crossings_at d (from_to p) t) 0 ≡ bit (is_left_of p t)
 beyond-left-by d p t true e h r = sym (not-left p t e)
-beyond-left-by d p t false e h r = hits-left d p t h r
+beyond-left-by d p t false e h r = crossings-left d p t h r
 
 pub beyond-left : (d p : Vector) (t : Edge) → ((w : Vector) → sign (cross d w) ≡ sign w.y) → IsRising t → beyond d p t ≡ bit (is_left_of p t)
 beyond-left d p t h r = beyond-left-by d p t (ends_at p t) refl h r
@@ -57,7 +58,7 @@ no_way_2 cs ct Null h = cc h
 no_way_2 cs ct Minus h = cc h
 
 back-minus : (v p : Vector) → IsDirection (from_to v p) → sign (dot (from_to v p) (from_to p v)) ≡ Minus
-back-minus v p h = dot-turned p v p v ∙ ap negated (direction-back v p h)
+back-minus v p h = dot-reversed p v p v ∙ ap negated (direction-back v p h)
 
 pub no_same_way_from : (v p q : Vector) → IsDirection (from_to v p) → Misses v p (edge_of v q) → sign (cross (from_to v p) (from_to v q)) ≡ Null → sign (dot (from_to v p) (from_to v q)) ≡ Plus → ⊥
 no_same_way_from v p q h m z o =
@@ -97,7 +98,7 @@ abbrev pub share : Edge → Edge → Bool → ℕ
 share s t b = cond b (in_sector east (from_to s.from s.to) (from_to s.from (other_end s.from t))) 0
 
 share-by : (s t : Edge) → sign (s.to.y -ℤ s.from.y) ≡ Plus → IsRising s → IsRising t → IsClearOf s t → (b c : Bool) → same_point s.from t.from ≡ b → same_point s.from t.to ≡ c →
-    cond (not (b || c)) (hits_at east (from_to s.from) t) 0 + cond (b || c) (in_sector east (from_to s.from s.to) (from_to s.from (cond b t.to t.from))) 0
+    cond (not (b || c)) (crossings_at east (from_to s.from) t) 0 + cond (b || c) (in_sector east (from_to s.from s.to) (from_to s.from (cond b t.to t.from))) 0
     ≡ bit (is_in_span s.from t && (is_plus (orient t.from t.to s.from) || (b && is_minus (orient s.from s.to t.to))))
 share-by s t hy hs ht n true c h k =
     let a = s.from in let b = s.to in let v = t.to in
@@ -111,13 +112,13 @@ share-by s t hy hs ht n true c h k =
 share-by s t hy hs ht n false true h k =
     let a = s.from in let b = s.to in let u = t.from in
     let q = same_point-true a t.to k in
-    let r : order a u ≡ Minus = order-turned u a ∙ ap negated (subst (λ w. order u w ≡ Plus) (sym q) ht) in
+    let r : order a u ≡ Minus = order-reversed u a ∙ ap negated (subst (λ w. order u w ≡ Plus) (sym q) ht) in
     let e = finish_here a b u hy r in
     let g : is_plus (sign (t.to.y -ℤ a.y)) ≡ false = ap is_plus (ap (λ (w : Vector). sign (w.y -ℤ a.y)) (sym q) ∙ self-diff a.y) in
     let f = and-false-left (not (is_plus (sign (u.y -ℤ a.y)))) (is_plus (sign (t.to.y -ℤ a.y))) (is_plus (orient t.from t.to a) || (false && is_minus (orient a b t.to))) g in
     omega arith
 share-by s t hy hs ht n false false h k =
-    let e = hits-left east s.from t east-side ht in
+    let e = crossings-left east s.from t east-side ht in
     let f = or-nothing (is_in_span s.from t) (is_plus (orient t.from t.to s.from)) in omega arith
 
 pub share-is : (s t : Edge) → sign (s.to.y -ℤ s.from.y) ≡ Plus → IsRising s → IsRising t → IsClearOf s t →
@@ -148,7 +149,7 @@ sloping_count s es p i hy =
     let f = λ (t : Edge). beyond east a t + share s t (ends_at a t) in
     let z = total-+ (beyond east a) (λ (t : Edge). share s t (ends_at a t)) es in
     let w = split_off f s es p i in
-    let o = own-share s hy in let b : beyond east a s ≡ 0 = ap (λ b. cond (not b) (hits_at east (from_to a) s) 0) (ends_at-from s) in
+    let o = own-share s hy in let b : beyond east a s ≡ 0 = ap (λ b. cond (not b) (crossings_at east (from_to a) s) 0) (ends_at-from s) in
     let r : total f (others s es) ≡ total (λ (t : Edge). bit (starts_left_of s t)) (others s es) = total-same f (λ (t : Edge). bit (starts_left_of s t)) (others s es)
     (λ t j. share-is s t hy (rising_in es s p i) (rising_in es t p (in-filter (λ (t : Edge). not (same_edge s t)) es t j)) (clear_of_others s t es p i j)) in
     let c = total-is (λ (t : Edge). bit (starts_left_of s t)) (others s es) in
@@ -193,10 +194,6 @@ pub runs_from : (s : Edge) (es : List Edge) → IsConflictFree es → IsEvenAtPo
     runs_up es s ≡ not (is_even (crossing_count (from_to s.from s.to) s.from (away s.from es)))
 runs_from s es p even i = runs-by s es p even i (sign (s.to.y -ℤ s.from.y)) (sign (s.to.x -ℤ s.from.x)) refl refl (rising_in es s p i)
 
-pub not-not : (b : Bool) → not (not b) ≡ b
-not-not true = refl
-not-not false = refl
-
 -- and so it enters its upper end exactly where the ray back along it from there hits an even number
 pub runs_to : (s : Edge) (es : List Edge) → IsConflictFree es → IsEvenAtPoints es → In s es →
     runs_up es s ≡ is_even (crossing_count (from_to s.to s.from) s.to (away s.to es))
@@ -204,5 +201,5 @@ runs_to s es p even i =
     runs_from s es p even i ∙ ap not (differ-parity _ (crossing_count (from_to s.to s.from) s.to (away s.to es)) (opposite_odd s es p even i)) ∙ not-not (is_even (crossing_count (from_to s.to s.from) s.to (away s.to es)))
 
 -- ---- the parity at p, and the first edge right of p
-pub around-hits : (p : Vector) (es : List Edge) → IsConflictFree es → crossing_count east p es ≡ total (λ t. bit (is_left_of p t)) es
-around-hits p es pl = sym (total-is (hits_at east (from_to p)) es) ∙ total-same (hits_at east (from_to p)) (λ t. bit (is_left_of p t)) es (λ t i. hits-left east p t east-side (rising_in es t pl i))
+pub covers-crossings : (p : Vector) (es : List Edge) → IsConflictFree es → crossing_count east p es ≡ total (λ t. bit (is_left_of p t)) es
+covers-crossings p es pl = sym (total-is (crossings_at east (from_to p)) es) ∙ total-same (crossings_at east (from_to p)) (λ t. bit (is_left_of p t)) es (λ t i. crossings-left east p t east-side (rising_in es t pl i))

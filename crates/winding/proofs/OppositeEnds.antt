@@ -11,12 +11,12 @@ use Rattle.winding.specs.EdgeList.{IsEvenAtPoints, crossing_count}
 use Rattle.winding.specs.Member.{In}
 use Rattle.winding.specs.Node.{away}
 use Rattle.plane.proofs.Edges.{ends_at-from, ends_at-to}
-use Rattle.plane.proofs.FreeSegments.{misses_turned}
+use Rattle.plane.proofs.FreeSegments.{misses_reversed}
 use Rattle.plane.proofs.PointOrder.{rising-direction}
 use Rattle.plane.proofs.Products.{direction-back}
-use Rattle.plane.proofs.RayCrossings.{hits_at}
+use Rattle.plane.proofs.RayCrossings.{crossings_at}
 use Rattle.plane.proofs.Sectors.{opposite-in, own-out}
-use Rattle.plane.proofs.Views.{mid, mid-first, mid-last, mid_turned, view_mid}
+use Rattle.plane.proofs.Views.{mid, mid-first, mid-last, mid_reversed, view_mid}
 use Rattle.winding.proofs.AlongSegment.{along_from, off_all}
 use Rattle.winding.proofs.ConflictFree.{misses_others, off_away, rising_in, split_off}
 use Rattle.winding.proofs.Independence.{count-is, crossing_count_seen, even-at-ends, in_sector_seen, sector_sum, total-ends}
@@ -24,13 +24,13 @@ use Rattle.winding.proofs.Members.{all-in, in-all, in-filter, in-passes, into-fi
 use Rattle.winding.proofs.Sums.{total, total-+, total-is}
 
 abbrev pub beyond : Vector → Vector → Edge → ℕ
-beyond d v t = cond (not (ends_at v t)) (hits_at d (from_to v) t) 0
+beyond d v t = cond (not (ends_at v t)) (crossings_at d (from_to v) t) 0
 
 pub crossings-away : (d v : Vector) (es : List Edge) → crossing_count d v (away v es) ≡ total (beyond d v) es
-crossings-away d v es = sym (total-is (hits_at d (from_to v)) (away v es)) ∙ total-filter (λ (t : Edge). not (ends_at v t)) (hits_at d (from_to v)) es
+crossings-away d v es = sym (total-is (crossings_at d (from_to v)) (away v es)) ∙ total-filter (λ (t : Edge). not (ends_at v t)) (crossings_at d (from_to v)) es
 
 own-beyond : (d v : Vector) (s : Edge) → ends_at v s ≡ true → beyond d v s ≡ 0
-own-beyond d v s h = ap (λ b. cond (not b) (hits_at d (from_to v) s) 0) h
+own-beyond d v s h = ap (λ b. cond (not b) (crossings_at d (from_to v) s) 0) h
 
 pub away-others : (d v : Vector) (s : Edge) (es : List Edge) → IsConflictFree es → In s es → ends_at v s ≡ true → crossing_count d v (away v es) ≡ crossing_count d v (away v (others s es))
 away-others d v s es p i h =
@@ -58,7 +58,7 @@ opposite_odd s es p even i =
     let n : in_sector_seen d c m a ≡ 1 = ap (in_sector d c) (mid-first a b) ∙ opposite-in a b hd in
     let o : in_sector_seen d c m b ≡ 0 = ap (in_sector d c) (mid-last a b) ∙ own-out a b hd in
     let q = along_from a b m v os miss (off-others a s es p i (ends_at-from s)) in
-    let r = along_from b a (mid b a) v' os (All-weaker (Misses a b) (Misses b a) (misses_turned a b) os miss) (off-others b s es p i (ends_at-to s)) in
-    let t : crossing_count_seen c (mid a b) os ≡ crossing_count_seen c (mid b a) os = ap (λ (r : Vector → Vector). crossing_count_seen c r os) (mid_turned a b) in
+    let r = along_from b a (mid b a) v' os (All-weaker (Misses a b) (Misses b a) (misses_reversed a b) os miss) (off-others b s es p i (ends_at-to s)) in
+    let t : crossing_count_seen c (mid a b) os ≡ crossing_count_seen c (mid b a) os = ap (λ (r : Vector → Vector). crossing_count_seen c r os) (mid_reversed a b) in
     let z = away-others d a s es p i (ends_at-from s) in let z' = away-others c b s es p i (ends_at-to s) in
     omega arith

@@ -6,6 +6,7 @@ use Rattle.plane.specs.Bit.{bit}
 use Rattle.winding.specs.Member.{In}
 use Rattle.winding.specs.Parity.{is_even}
 use Rattle.winding.specs.Rank.{IsOrder, rank, sum_from}
+use Rattle.plane.proofs.Bools.{not-not}
 use Rattle.winding.proofs.Members.{in-all, total-below, total-less, total-same}
 use Rattle.winding.proofs.Sums.{total, total-is}
 
@@ -141,10 +142,6 @@ span-parity (suc n) =
 
 one-plus : (n : ℕ) → is_even (1 + n) ≡ not (is_even n)
 one-plus n = (let e : is_even (1 + n) ≡ is_even (suc n) = ap is_even (omega arith) in e) ∙ even-next n
-
-not-not : (b : Bool) → not (not b) ≡ b
-not-not true = refl
-not-not false = refl
 
 -- among 1, .., n
 span-parity-one : (n : ℕ) → (sum_from evens 1 n ≡ sum_from odds 0 n) × (sum_from odds 1 n ≡ sum_from evens 0 n)

@@ -12,10 +12,11 @@ use Rattle.winding.specs.Member.{EachPair, In}
 use Rattle.winding.specs.OddSide.{directed, directed_edge, runs_up}
 use Rattle.winding.specs.Ring.{IsPath, IsRing, segments_of}
 use Rattle.plane.proofs.Points.{same_point-true}
-use Rattle.plane.proofs.RayCrossings.{down_seen, hits_at, up_seen}
-use Rattle.plane.proofs.Signs.{all4-out, both, left-out, right-out}
-use Rattle.winding.proofs.Balance.{directed_balanced, same_bool}
-use Rattle.winding.proofs.Levels.{cross-neg, signed_parity}
+use Rattle.plane.proofs.Products.{cross-negated}
+use Rattle.plane.proofs.RayCrossings.{crossings_at, down_seen, up_seen}
+use Rattle.plane.proofs.Signs.{all4-out, both, left-out, right-out, same_bool}
+use Rattle.winding.proofs.Balance.{bit-back, directed_balanced}
+use Rattle.winding.proofs.Levels.{signed_parity}
 use Rattle.winding.proofs.Members.{in-all, total-same}
 use Rattle.winding.proofs.Sums.{at-self, total, total-+, total-is, total-map}
 
@@ -88,12 +89,6 @@ one-by : (k : Bool) (n : ℕ) → n ≡ 1 → (cond k n 0 ≡ bit k) × (cond k 
 one-by true n h = (h, refl)
 one-by false n h = (refl, h)
 
-bit-same : (b c : Bool) → bit b ≡ bit c → b ≡ c
-bit-same true true h = refl
-bit-same false false h = refl
-bit-same true false h = absurd (omega arith)
-bit-same false true h = absurd (omega arith)
-
 pub bit-sum : (b : Bool) → bit b + bit (not b) ≡ 1
 bit-sum true = refl
 bit-sum false = refl
@@ -118,7 +113,7 @@ next-keeps es r p e f i j q =
     let o = one-by (k f) (one_at v f.from) here in let u = one-by (k e) (one_at v e.to) there in
     let o0 = o.0 in let o1 = o.1 in let u0 = u.0 in let u1 = u.1 in
     let w = bit-sum (k f) in let w' = bit-sum (k e) in
-    bit-same (k f) (k e) (omega arith)
+    bit-back (k f) (k e) (omega arith)
 
 along : (es : List Edge) → IsRing es → IsConflictFree (segments_of es) → (e : Edge) → In e es → (a b : Vector) (xs : List Edge) → IsPath a xs b → e.to ≡ a → ((x : Edge) → In x xs → In x es) →
     (x : Edge) → In x xs → keeps es x ≡ keeps es e
@@ -143,23 +138,23 @@ ring_keeps es r p x y i j = first-keeps es r p r.start r.start es r.path (λ z l
 abbrev turn_1 : Sign → Sign → Sign → Sign → Bool
 turn_1 a b c d = both (eqb (up_by b a (negated c)) (down_by a b c)) (eqb (down_by b a (negated c)) (up_by a b c))
 
-pub turned-hits : (d : Vector) (r : Vector → Vector) (e : Edge) → (up_seen d r (reversed e) ≡ down_seen d r e) × (down_seen d r (reversed e) ≡ up_seen d r e)
-turned-hits d r e =
+pub reversed-crossings : (d : Vector) (r : Vector → Vector) (e : Edge) → (up_seen d r (reversed e) ≡ down_seen d r e) × (down_seen d r (reversed e) ≡ up_seen d r e)
+reversed-crossings d r e =
     let a = sign (cross d (r e.from)) in let b = sign (cross d (r e.to)) in let c = sign (cross (r e.from) (r e.to)) in
     let h = all4-out turn_1 refl a b c Null in
-    let n = cross-neg (r e.from) (r e.to) in (
+    let n = cross-negated (r e.from) (r e.to) in (
       ap (λ s. up_by b a s) n ∙ eqb-true _ _ (left-out (eqb (up_by b a (negated c)) (down_by a b c)) (eqb (down_by b a (negated c)) (up_by a b c)) h),
       ap (λ s. down_by b a s) n ∙ eqb-true _ _ (right-out (eqb (up_by b a (negated c)) (down_by a b c)) (eqb (down_by b a (negated c)) (up_by a b c)) h),
     )
 
-raise-hits : (d : Vector) (r : Vector → Vector) (b : Bool) (e : Edge) → hits_at d r (cond b e (reversed e)) ≡ hits_at d r e
-raise-hits d r true e = refl
-raise-hits d r false e = let h = turned-hits d r e in let x = h.0 in let y = h.1 in omega arith
+segment-crossings : (d : Vector) (r : Vector → Vector) (b : Bool) (e : Edge) → crossings_at d r (cond b e (reversed e)) ≡ crossings_at d r e
+segment-crossings d r true e = refl
+segment-crossings d r false e = let h = reversed-crossings d r e in let x = h.0 in let y = h.1 in omega arith
 
-pub raised-crossings : (d p : Vector) (es : List Edge) → crossing_count d p (segments_of es) ≡ crossing_count d p es
-raised-crossings d p es =
-    sym (total-is (hits_at d (from_to p)) (segments_of es)) ∙ total-map (hits_at d (from_to p)) segment_of es
-    ∙ total-same (λ e. hits_at d (from_to p) (segment_of e)) (hits_at d (from_to p)) es (λ e i. raise-hits d (from_to p) (is_plus (order e.from e.to)) e) ∙ total-is (hits_at d (from_to p)) es
+pub segments-crossings : (d p : Vector) (es : List Edge) → crossing_count d p (segments_of es) ≡ crossing_count d p es
+segments-crossings d p es =
+    sym (total-is (crossings_at d (from_to p)) (segments_of es)) ∙ total-map (crossings_at d (from_to p)) segment_of es
+    ∙ total-same (λ e. crossings_at d (from_to p) (segment_of e)) (crossings_at d (from_to p)) es (λ e i. segment-crossings d (from_to p) (is_plus (order e.from e.to)) e) ∙ total-is (crossings_at d (from_to p)) es
 
 -- the signed count of a ring whose edges the odd side directs as the ring does (k), or the other way
 pub ring_count : (es : List Edge) → IsRing es → IsConflictFree (segments_of es) → (k : Bool) → ((e : Edge) → In e es → keeps es e ≡ k) → (p : Vector) →
@@ -171,12 +166,12 @@ ring_count es r pl true h p =
     let b = sym (total-is g (directed (segments_of es))) ∙ total-map g (directed_edge (segments_of es)) (segments_of es) ∙ total-map (λ e. g (directed_edge (segments_of es) e)) segment_of es in
     let c = total-same (λ e. f (directed_edge (segments_of es) (segment_of e))) f es (λ e i. ap f (direct-is es e ∙ ap (λ k. cond k e (reversed e)) (h e i))) in
     let d = total-same (λ e. g (directed_edge (segments_of es) (segment_of e))) g es (λ e i. ap g (direct-is es e ∙ ap (λ k. cond k e (reversed e)) (h e i))) in
-    let x = total-is f es in let y = total-is g es in let z = raised-crossings east p es in omega arith
+    let x = total-is f es in let y = total-is g es in let z = segments-crossings east p es in omega arith
 ring_count es r pl false h p =
     let s = signed_parity p (segments_of es) pl (ring-even es r) in
     let f = up_seen east (from_to p) in let g = down_seen east (from_to p) in
     let a = sym (total-is f (directed (segments_of es))) ∙ total-map f (directed_edge (segments_of es)) (segments_of es) ∙ total-map (λ e. f (directed_edge (segments_of es) e)) segment_of es in
     let b = sym (total-is g (directed (segments_of es))) ∙ total-map g (directed_edge (segments_of es)) (segments_of es) ∙ total-map (λ e. g (directed_edge (segments_of es) e)) segment_of es in
-    let c = total-same (λ e. f (directed_edge (segments_of es) (segment_of e))) g es (λ e i. ap f (direct-is es e ∙ ap (λ k. cond k e (reversed e)) (h e i)) ∙ (turned-hits east (from_to p) e).0) in
-    let d = total-same (λ e. g (directed_edge (segments_of es) (segment_of e))) f es (λ e i. ap g (direct-is es e ∙ ap (λ k. cond k e (reversed e)) (h e i)) ∙ (turned-hits east (from_to p) e).1) in
-    let x = total-is f es in let y = total-is g es in let z = raised-crossings east p es in omega arith
+    let c = total-same (λ e. f (directed_edge (segments_of es) (segment_of e))) g es (λ e i. ap f (direct-is es e ∙ ap (λ k. cond k e (reversed e)) (h e i)) ∙ (reversed-crossings east (from_to p) e).0) in
+    let d = total-same (λ e. g (directed_edge (segments_of es) (segment_of e))) f es (λ e i. ap g (direct-is es e ∙ ap (λ k. cond k e (reversed e)) (h e i)) ∙ (reversed-crossings east (from_to p) e).1) in
+    let x = total-is f es in let y = total-is g es in let z = segments-crossings east p es in omega arith

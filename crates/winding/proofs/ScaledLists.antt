@@ -20,7 +20,7 @@ use Rattle.winding.proofs.ConflictFree.{rising_in}
 use Rattle.winding.proofs.Independence.{even-at-ends, total-ends}
 use Rattle.winding.proofs.Levels.{signed_count}
 use Rattle.winding.proofs.Members.{all-in, in-all, total-same}
-use Rattle.winding.proofs.OddSides.{around-hits}
+use Rattle.winding.proofs.OddSides.{covers-crossings}
 use Rattle.winding.proofs.Sums.{total-is, total-map}
 
 pub map-same : {X Y : Type 0} (f g : X → Y) (xs : List X) → ((x : X) → f x ≡ g x) → map f xs ≡ map g xs
@@ -58,7 +58,7 @@ module _ (k : ℤ) (hk : sign k ≡ Plus) where
       ap (λ b. cond b (not (is_even (odd_side_count (scaled_edge k s) (scaled_edges k es)))) (is_even (odd_side_count (scaled_edge k s) (scaled_edges k es)))) (level-scaled k hk s)
       ∙ ap (λ n. cond (is_horizontal s) (not (is_even n)) (is_even n)) (odd-scaled s es)
 
-  direct-by : (b c : Bool) (s : Edge) → b ≡ c → cond b (scaled_edge k s) (reversed (scaled_edge k s)) ≡ scaled_edge k (cond c s (reversed s))
+  pub direct-by : (b c : Bool) (s : Edge) → b ≡ c → cond b (scaled_edge k s) (reversed (scaled_edge k s)) ≡ scaled_edge k (cond c s (reversed s))
   direct-by true true s h = refl
   direct-by false false s h = refl
   direct-by true false s h = absurd (cc h)
@@ -96,8 +96,8 @@ module _ (k : ℤ) (hk : sign k ≡ Plus) where
   -- the parity at a multiplied point
   pub count_scaled : (p : Vector) (es : List Edge) → IsConflictFree es → crossing_count east (scaled_point k p) (scaled_edges k es) ≡ crossing_count east p es
   count_scaled p es pl =
-      around-hits (scaled_point k p) (scaled_edges k es) (plain_scaled es pl) ∙ total-map (λ t. bit (is_left_of (scaled_point k p) t)) (scaled_edge k) es
-      ∙ total-same (λ t. bit (is_left_of (scaled_point k p) (scaled_edge k t))) (λ t. bit (is_left_of p t)) es (λ t i. ap bit (left-scaled k hk p t)) ∙ sym (around-hits p es pl)
+      covers-crossings (scaled_point k p) (scaled_edges k es) (plain_scaled es pl) ∙ total-map (λ t. bit (is_left_of (scaled_point k p) t)) (scaled_edge k) es
+      ∙ total-same (λ t. bit (is_left_of (scaled_point k p) (scaled_edge k t))) (λ t. bit (is_left_of p t)) es (λ t i. ap bit (left-scaled k hk p t)) ∙ sym (covers-crossings p es pl)
 
   -- the signed count at the point p.x / k, p.y / k
   pub rational_count : (p : Vector) (es : List Edge) → IsConflictFree es → IsEvenAtPoints es → winding_number east p (scaled_edges k (directed es)) ≡ pos (crossing_count east p (scaled_edges k es) % 2)

@@ -8,13 +8,13 @@ use Rattle.plane.specs.RayCrossing.{IsOff, IsOffEdge, off_by}
 use Rattle.plane.specs.Scale.{scaled_edge, scaled_point}
 use Rattle.plane.specs.Sign.{Minus, Null, Plus, Sign, is_minus, is_null, is_plus, sign}
 use Rattle.plane.specs.Vector.{Vector, cross, dot, from_to, orient}
+use Rattle.plane.proofs.Heights.{tall-by}
 use Rattle.plane.proofs.Identities.{lift, same, ◌⊞◌, ◌⊟◌, ◌⊠◌}
 use Rattle.plane.proofs.Products.{cross-agree, orient-round}
 use Rattle.plane.proofs.RayCrossings.{rise-y}
-use Rattle.plane.proofs.Scaling.{minus-sign, spans-scaled}
+use Rattle.plane.proofs.Scaling.{minus-sign, span-scaled}
 use Rattle.plane.proofs.Signs.{agree, agree-sum, all, all-out, all2, all2-out, all4, all4-out, imp, imp-out, not-minus-by, plus-times, says-at, sign-from, times}
 use Rattle.winding.proofs.Balance.{agree-dot}
-use Rattle.winding.proofs.Levels.{tall-by}
 
 -- ---- K * o - s, where s is small: between 0 and K
 abbrev pub sub_sign : Sign → Sign
@@ -216,12 +216,12 @@ module _ (k : ℤ) (hk : sign k ≡ Plus) (h1 : sign (k -ℤ pos 1) ≡ Plus) (p
 
   pub right-left : is_left_of (right_point k p) (scaled_edge k t) ≡ is_left_of p t
   right-left =
-      ap (λ b. b && is_plus (orient (scaled_point k t.from) (scaled_point k t.to) (right_point k p))) (spans-scaled k hk p t)
+      ap (λ b. b && is_plus (orient (scaled_point k t.from) (scaled_point k t.to) (right_point k p))) (span-scaled k hk p t)
       ∙ tests-by (is_in_span p t) (is_plus (orient (scaled_point k t.from) (scaled_point k t.to) (right_point k p))) (is_plus o) (λ s. ap is_plus (right-side s) ∙ sub-plus o)
 
   pub left-left : is_left_of (left_point k p) (scaled_edge k t) ≡ (is_in_span p t && not (is_minus o))
   left-left =
-      ap (λ b. b && is_plus (orient (scaled_point k t.from) (scaled_point k t.to) (left_point k p))) (spans-scaled k hk p t)
+      ap (λ b. b && is_plus (orient (scaled_point k t.from) (scaled_point k t.to) (left_point k p))) (span-scaled k hk p t)
       ∙ tests-by (is_in_span p t) (is_plus (orient (scaled_point k t.from) (scaled_point k t.to) (left_point k p))) (not (is_minus o)) (λ s. ap is_plus (left-side s) ∙ add-plus o)
 
   right-off-by : (b : Bool) → is_in_span p t ≡ b → (b ≡ false → IsOffEdge p t) → IsOffEdge (right_point k p) (scaled_edge k t)

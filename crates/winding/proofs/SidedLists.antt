@@ -7,7 +7,7 @@ use Rattle.plane.specs.Bit.{bit}
 use Rattle.plane.specs.Conflict.{IsClearOf}
 use Rattle.plane.specs.Edge.{Edge, IsRising, ends_at, reversed, same_edge, segment_of}
 use Rattle.plane.specs.FreeSegment.{IsBetween}
-use Rattle.plane.specs.Height.{is_in_span, is_left_of}
+use Rattle.plane.specs.Height.{distance_right, is_in_span, is_left_of}
 use Rattle.plane.specs.Order.{order}
 use Rattle.plane.specs.RayCrossing.{IsOff, IsOffEdge, off_by}
 use Rattle.plane.specs.Scale.{scaled_edge, scaled_point}
@@ -22,21 +22,22 @@ use Rattle.winding.specs.Ring.{IsAnchor, segments_of}
 use Rattle.winding.specs.ScaledEdges.{scaled_edges}
 use Rattle.winding.specs.Sided.{IsSided}
 use Rattle.plane.proofs.Edges.{edge_of, ends_at-from, same_edge-true}
+use Rattle.plane.proofs.Heights.{step_of, tall-by}
 use Rattle.plane.proofs.Identities.{lift, same, ◌⊞◌, ◌⊟◌, ◌⊠◌}
-use Rattle.plane.proofs.PointOrder.{line-order-up, order-turned}
+use Rattle.plane.proofs.PointOrder.{line-order-up, order-reversed}
 use Rattle.plane.proofs.Points.{same_point-true, same_vector}
-use Rattle.plane.proofs.Products.{cross-agree, cross-chain, cross-self, dot2, lift2, orient-round}
+use Rattle.plane.proofs.Products.{cross-agree, cross-chain, cross-negated, cross-self, dot2, lift2, orient-round}
 use Rattle.plane.proofs.RayCrossings.{down_seen, level-side, up_seen}
 use Rattle.plane.proofs.Scaling.{order-scaled}
-use Rattle.plane.proofs.Signs.{agree, all2-out, imp, imp-out, null-zero, plus-times, same_sign, same_sign-true, says-at, sign-from, sign-turned, times}
+use Rattle.plane.proofs.Signs.{agree, all2-out, imp, imp-out, null-zero, plus-times, same_bool, same_sign, same_sign-true, says-at, sign-from, sign-reversed, times}
 use Rattle.plane.proofs.Views.{view_at}
 use Rattle.winding.proofs.AlongSegment.{off_all}
 use Rattle.winding.proofs.Anchors.{begins-by, level-plus, some-anchor}
-use Rattle.winding.proofs.Balance.{directed_balanced, ends-by, same_bool}
+use Rattle.winding.proofs.Balance.{directed_balanced, ends-by}
 use Rattle.winding.proofs.ConflictFree.{misses_others, rising_in, split_off}
-use Rattle.winding.proofs.Levels.{cross-neg, downs-run, first-tells, inner_runs, low-plus, off_not_null, spot, step_of, tall-by, to_right, ups-run}
+use Rattle.winding.proofs.Levels.{down-run, first-tells, inner_runs, low-plus, off_not_null, to_right, up-run}
 use Rattle.winding.proofs.Members.{all-in, in-all, in-filter, in-map, in-map-out, in-passes, into-filter, total-filter, total-same}
-use Rattle.winding.proofs.OddSides.{around-hits}
+use Rattle.winding.proofs.OddSides.{covers-crossings}
 use Rattle.winding.proofs.Ranks.{even-is, halves, odd-is}
 use Rattle.winding.proofs.RingCounts.{bit-sum, direct-is, ends-swap, keeps, total-member}
 use Rattle.winding.proofs.ScaledLists.{even_scaled, plain_scaled, rational_count, runs-scaled}
@@ -46,9 +47,9 @@ use Rattle.winding.proofs.Sums.{total, total-+, total-is, total-map}
 abbrev pub rises : Edge → Bool
 rises x = is_plus (order x.from x.to)
 
-scale-raise : (k : ℤ) (b : Bool) (x : Edge) → scaled_edge k x ≡ cond b (scaled_edge k (cond b x (reversed x))) (reversed (scaled_edge k (cond b x (reversed x))))
-scale-raise k true x = refl
-scale-raise k false x = refl
+scale-segment : (k : ℤ) (b : Bool) (x : Edge) → scaled_edge k x ≡ cond b (scaled_edge k (cond b x (reversed x))) (reversed (scaled_edge k (cond b x (reversed x))))
+scale-segment k true x = refl
+scale-segment k false x = refl
 
 split-left : (s : Bool) (o : Sign) (n : ℕ) → cond (s && not (is_minus o)) n 0 ≡ cond (s && is_plus o) n 0 + cond (s && is_null o) n 0
 split-left false o n = refl
@@ -99,23 +100,23 @@ same-self : (b : Bool) → same_bool b b ≡ true
 same-self true = refl
 same-self false = refl
 
-dot-swap : (a b : Vector) → dot b a ≡ dot a b
+pub dot-swap : (a b : Vector) → dot b a ≡ dot a b
 dot-swap a b = let e = lift2 a in let f = lift2 b in same (dot2 f e) (dot2 e f) (omega arith)
 
-off-neg : (c s : Sign) → off_by c s ≡ true → off_by (negated c) s ≡ true
-off-neg Plus s h = refl
-off-neg Minus s h = refl
-off-neg Null Plus h = refl
-off-neg Null Null h = h
-off-neg Null Minus h = h
+off-negated : (c s : Sign) → off_by c s ≡ true → off_by (negated c) s ≡ true
+off-negated Plus s h = refl
+off-negated Minus s h = refl
+off-negated Null Plus h = refl
+off-negated Null Null h = h
+off-negated Null Minus h = h
 
 off-swap : (a b : Vector) → IsOff a b → IsOff b a
 off-swap a b h =
-    subst (λ c. off_by c (sign (dot b a)) ≡ true) (sym (cross-neg a b)) (subst (λ d. off_by (negated (sign (cross a b))) d ≡ true) (ap sign (sym (dot-swap a b))) (off-neg (sign (cross a b)) (sign (dot a b)) h))
+    subst (λ c. off_by c (sign (dot b a)) ≡ true) (sym (cross-negated a b)) (subst (λ d. off_by (negated (sign (cross a b))) d ≡ true) (ap sign (sym (dot-swap a b))) (off-negated (sign (cross a b)) (sign (dot a b)) h))
 
-off-raise : (q : Vector) (k : ℤ) (b : Bool) (x : Edge) → IsOffEdge q (scaled_edge k (cond b x (reversed x))) → IsOffEdge q (scaled_edge k x)
-off-raise q k true x h = h
-off-raise q k false x h = off-swap (from_to q (scaled_point k x.to)) (from_to q (scaled_point k x.from)) h
+off-segment : (q : Vector) (k : ℤ) (b : Bool) (x : Edge) → IsOffEdge q (scaled_edge k (cond b x (reversed x))) → IsOffEdge q (scaled_edge k x)
+off-segment q k true x h = h
+off-segment q k false x h = off-swap (from_to q (scaled_point k x.to)) (from_to q (scaled_point k x.from)) h
 
 module _ (es : List Edge) (pl : IsConflictFree (segments_of es)) (even : IsEvenAtPoints (segments_of es)) (e : Edge) (i : In e es) (p : Vector)
     (lo : sign ((segment_of e).from.y -ℤ p.y) ≡ Minus) (hi : sign ((segment_of e).to.y -ℤ p.y) ≡ Plus) (on : orient (segment_of e).from (segment_of e).to p ≡ Null) where
@@ -131,8 +132,8 @@ module _ (es : List Edge) (pl : IsConflictFree (segments_of es)) (even : IsEvenA
   rs : IsRising s
   rs = rising_in U s pl is'
 
-  s-spans : is_in_span p s ≡ true
-  s-spans = ap (λ z. not (is_plus z) && is_plus (sign (s.to.y -ℤ p.y))) lo ∙ ap (λ z. true && is_plus z) hi
+  s-span : is_in_span p s ≡ true
+  s-span = ap (λ z. not (is_plus z) && is_plus (sign (s.to.y -ℤ p.y))) lo ∙ ap (λ z. true && is_plus z) hi
 
   rest-zero : (x y z : ℤ) → x +ℤ y ≡ z → x ≡ pos 0 → z ≡ pos 0 → y ≡ pos 0
   rest-zero x y z h a b = omega (arith, ints)
@@ -150,7 +151,7 @@ module _ (es : List Edge) (pl : IsConflictFree (segments_of es)) (even : IsEvenA
 
   not-same : (x : Edge) → is_in_span p (segment_of x) ≡ false → (b : Bool) → same_edge s (segment_of x) ≡ b → b ≡ false
   not-same x h false g = refl
-  not-same x h true g = let q = ap (is_in_span p) (same_edge-true s (segment_of x) g) in absurd (cc (sym s-spans ∙ q ∙ h))
+  not-same x h true g = let q = ap (is_in_span p) (same_edge-true s (segment_of x) g) in absurd (cc (sym s-span ∙ q ∙ h))
 
   off-rest : All (IsOffEdge p) (others s U)
   off-rest = off_all s.from s.to (from_to p) (view_at s.from s.to p inside-s) (others s U) (misses_others s U pl is')
@@ -163,9 +164,9 @@ module _ (es : List Edge) (pl : IsConflictFree (segments_of es)) (even : IsEvenA
       let c = sign (cross (from_to p t.from) (from_to p t.to)) in
       let ct : c ≡ orient t.from t.to p = ap sign (sym (orient-round p t.from t.to)) in
       let cs = ap sign (sym (orient-round p s.from s.to)) ∙ on in
-      let a = subst (λ z. agree (sign (cross (spot p s) (spot p t))) (times (sign (cross (from_to p s.from) (from_to p s.to))) (sign (t.to.y -ℤ t.from.y))) (times z c) ≡ true) (tall-by p s s-spans) (cross-agree (spot p s) (spot p t)) in
-      let k = beside-zero (sign (cross (spot p s) (spot p t))) (sign (cross (from_to p s.from) (from_to p s.to))) (sign (t.to.y -ℤ t.from.y)) c a cs in
-      sym (first-tells (is_in_span p t) (sign (cross (spot p s) (spot p t))) (sign (cross (step_of t) (step_of s))) (λ h. subst (λ z. not (is_null z) ≡ true) (sym k) (not-on t j h)))
+      let a = subst (λ z. agree (sign (cross (distance_right p s) (distance_right p t))) (times (sign (cross (from_to p s.from) (from_to p s.to))) (sign (t.to.y -ℤ t.from.y))) (times z c) ≡ true) (tall-by p s s-span) (cross-agree (distance_right p s) (distance_right p t)) in
+      let k = beside-zero (sign (cross (distance_right p s) (distance_right p t))) (sign (cross (from_to p s.from) (from_to p s.to))) (sign (t.to.y -ℤ t.from.y)) c a cs in
+      sym (first-tells (is_in_span p t) (sign (cross (distance_right p s) (distance_right p t))) (sign (cross (step_of t) (step_of s))) (λ h. subst (λ z. not (is_null z) ≡ true) (sym k) (not-on t j h)))
       ∙ ap (λ z. bit (is_in_span p t && is_plus z)) (k ∙ ct)
 
   own-not-left : bit (is_left_of p s) ≡ 0
@@ -174,7 +175,7 @@ module _ (es : List Edge) (pl : IsConflictFree (segments_of es)) (even : IsEvenA
   -- the direction of the odd side, by the parity at p
   runs-here : runs_up U s ≡ is_even (crossing_count east p U)
   runs-here =
-      let a = around-hits p U pl in let b = split_off (λ t. bit (is_left_of p t)) s U pl is' in let c = own-not-left in
+      let a = covers-crossings p U pl in let b = split_off (λ t. bit (is_left_of p t)) s U pl is' in let c = own-not-left in
       let d = total-same (to_right p s) (λ t. bit (is_left_of p t)) (others s U) rest-right in
       let n : total (to_right p s) (others s U) ≡ crossing_count east p U = omega arith in
       inner_runs p s U pl is' lo hi even ∙ ap is_even n
@@ -185,7 +186,7 @@ module _ (es : List Edge) (pl : IsConflictFree (segments_of es)) (even : IsEvenA
   own-one : total (λ x. bit (own (segment_of x))) es ≡ 1
   own-one =
       let a = sym (total-map (λ t. bit (own t)) segment_of es) in let b = split_off (λ t. bit (own t)) s U pl is' in
-      let c : bit (own s) ≡ 1 = ap (λ z. bit (z && is_null (orient s.from s.to p))) s-spans ∙ ap (λ z. bit (is_null z)) on in
+      let c : bit (own s) ≡ 1 = ap (λ z. bit (z && is_null (orient s.from s.to p))) s-span ∙ ap (λ z. bit (is_null z)) on in
       let d = total-same (λ t. bit (own t)) (λ t. 0) (others s U) (λ t j. ap bit (both-false (is_in_span p t) (is_null (orient t.from t.to p))
       (λ h. null-out (orient t.from t.to p) (subst (λ z. not (is_null z) ≡ true) (ap sign (sym (orient-round p t.from t.to))) (not-on t j h))))) in
       let z = no-sum (others s U) in omega arith
@@ -197,13 +198,13 @@ module _ (es : List Edge) (pl : IsConflictFree (segments_of es)) (even : IsEvenA
     rk : (x : Edge) → In x es → IsRising (scaled_edge k (segment_of x))
     rk x j = order-scaled k hk (segment_of x).from (segment_of x).to ∙ rx x j
 
-    ups-q : (q : Vector) → total (up_seen east (from_to q)) (scaled_edges k es) ≡ total (λ x. cond (is_left_of q (scaled_edge k (segment_of x))) (bit (rises x)) 0) es
-    ups-q q = total-map (up_seen east (from_to q)) (scaled_edge k) es ∙ total-same (λ x. up_seen east (from_to q) (scaled_edge k x)) (λ x. cond (is_left_of q (scaled_edge k (segment_of x))) (bit (rises x)) 0) es
-        (λ x j. ap (up_seen east (from_to q)) (scale-raise k (rises x) x) ∙ ups-run q (scaled_edge k (segment_of x)) (rk x j) (rises x))
+    up-q : (q : Vector) → total (up_seen east (from_to q)) (scaled_edges k es) ≡ total (λ x. cond (is_left_of q (scaled_edge k (segment_of x))) (bit (rises x)) 0) es
+    up-q q = total-map (up_seen east (from_to q)) (scaled_edge k) es ∙ total-same (λ x. up_seen east (from_to q) (scaled_edge k x)) (λ x. cond (is_left_of q (scaled_edge k (segment_of x))) (bit (rises x)) 0) es
+        (λ x j. ap (up_seen east (from_to q)) (scale-segment k (rises x) x) ∙ up-run q (scaled_edge k (segment_of x)) (rk x j) (rises x))
 
-    downs-q : (q : Vector) → total (down_seen east (from_to q)) (scaled_edges k es) ≡ total (λ x. cond (is_left_of q (scaled_edge k (segment_of x))) (bit (not (rises x))) 0) es
-    downs-q q = total-map (down_seen east (from_to q)) (scaled_edge k) es ∙ total-same (λ x. down_seen east (from_to q) (scaled_edge k x)) (λ x. cond (is_left_of q (scaled_edge k (segment_of x))) (bit (not (rises x))) 0) es
-        (λ x j. ap (down_seen east (from_to q)) (scale-raise k (rises x) x) ∙ downs-run q (scaled_edge k (segment_of x)) (rk x j) (rises x))
+    down-q : (q : Vector) → total (down_seen east (from_to q)) (scaled_edges k es) ≡ total (λ x. cond (is_left_of q (scaled_edge k (segment_of x))) (bit (not (rises x))) 0) es
+    down-q q = total-map (down_seen east (from_to q)) (scaled_edge k) es ∙ total-same (λ x. down_seen east (from_to q) (scaled_edge k x)) (λ x. cond (is_left_of q (scaled_edge k (segment_of x))) (bit (not (rises x))) 0) es
+        (λ x j. ap (down_seen east (from_to q)) (scale-segment k (rises x) x) ∙ down-run q (scaled_edge k (segment_of x)) (rk x j) (rises x))
 
     bigx : (x : Edge) → In x es → is_in_span p (segment_of x) ≡ true → sign (k -ℤ ((segment_of x).to.y -ℤ (segment_of x).from.y)) ≡ Plus
     bigx x j = big (segment_of x) (in-map segment_of es x j)
@@ -222,23 +223,23 @@ module _ (es : List Edge) (pl : IsConflictFree (segments_of es)) (even : IsEvenA
         (winding_number east (left_point k p) (scaled_edges k es) ≡ pos 0) ⊎ (winding_number east (left_point k p) (scaled_edges k es) ≡ pos 1) → is_even (crossing_count east p U) ≡ rises e
     parity-here wr wl =
         let R = right_point k p in let L = left_point k p in
-        let ru = sym (total-is (up_seen east (from_to R)) (scaled_edges k es)) ∙ ups-q R ∙ right-sum (λ x. bit (rises x)) in
-        let rd = sym (total-is (down_seen east (from_to R)) (scaled_edges k es)) ∙ downs-q R ∙ right-sum (λ x. bit (not (rises x))) in
-        let lu = sym (total-is (up_seen east (from_to L)) (scaled_edges k es)) ∙ ups-q L ∙ left-sum (λ x. bit (rises x)) in
-        let ld = sym (total-is (down_seen east (from_to L)) (scaled_edges k es)) ∙ downs-q L ∙ left-sum (λ x. bit (not (rises x))) in
+        let ru = sym (total-is (up_seen east (from_to R)) (scaled_edges k es)) ∙ up-q R ∙ right-sum (λ x. bit (rises x)) in
+        let rd = sym (total-is (down_seen east (from_to R)) (scaled_edges k es)) ∙ down-q R ∙ right-sum (λ x. bit (not (rises x))) in
+        let lu = sym (total-is (up_seen east (from_to L)) (scaled_edges k es)) ∙ up-q L ∙ left-sum (λ x. bit (rises x)) in
+        let ld = sym (total-is (down_seen east (from_to L)) (scaled_edges k es)) ∙ down-q L ∙ left-sum (λ x. bit (not (rises x))) in
         let A = total (λ x. cond (is_left_of p (segment_of x)) (bit (rises x)) 0) es in let B = total (λ x. cond (is_left_of p (segment_of x)) (bit (not (rises x))) 0) es in
         let O = total (λ x. cond (own (segment_of x)) (bit (rises x)) 0) es in let N = total (λ x. cond (own (segment_of x)) (bit (not (rises x))) 0) es in
         let one = own-one in
         let on' = sym (total-+ (λ x. cond (own (segment_of x)) (bit (rises x)) 0) (λ x. cond (own (segment_of x)) (bit (not (rises x))) 0) es)
         ∙ total-same (λ x. cond (own (segment_of x)) (bit (rises x)) 0 + cond (own (segment_of x)) (bit (not (rises x))) 0) (λ x. bit (own (segment_of x))) es (λ x j. own-share (own (segment_of x)) (rises x)) in
-        let oe : own s ≡ true = ap (λ z. z && is_null (orient s.from s.to p)) s-spans ∙ ap (λ z. is_null z) on in
+        let oe : own s ≡ true = ap (λ z. z && is_null (orient s.from s.to p)) s-span ∙ ap (λ z. is_null z) on in
         let m1 = total-member (λ x. cond (own (segment_of x)) (bit (rises x)) 0) es e i in let m2 = total-member (λ x. cond (own (segment_of x)) (bit (not (rises x))) 0) es e i in
         let q1 = ap (λ b. cond b (bit (rises e)) 0) oe in let q2 = ap (λ b. cond b (bit (not (rises e))) 0) oe in
         let bs = bit-sum (rises e) in
         let ho : O ≡ bit (rises e) = omega arith in let hn : N ≡ bit (not (rises e)) = omega arith in
         let ab = sym (total-+ (λ x. cond (is_left_of p (segment_of x)) (bit (rises x)) 0) (λ x. cond (is_left_of p (segment_of x)) (bit (not (rises x))) 0) es)
         ∙ total-same (λ x. cond (is_left_of p (segment_of x)) (bit (rises x)) 0 + cond (is_left_of p (segment_of x)) (bit (not (rises x))) 0) (λ x. bit (is_left_of p (segment_of x))) es (λ x j. own-share (is_left_of p (segment_of x)) (rises x))
-        ∙ sym (total-map (λ t. bit (is_left_of p t)) segment_of es) ∙ sym (around-hits p U pl) in
+        ∙ sym (total-map (λ t. bit (is_left_of p t)) segment_of es) ∙ sym (covers-crossings p U pl) in
         let x1 = wind-nat _ _ wr in let x2 = wind-nat _ _ wl in
         ap is_even (sym ab)
         ∙ tells-up (rises e) A B O N ho hn
@@ -257,13 +258,13 @@ module _ (es : List Edge) (pl : IsConflictFree (segments_of es)) (even : IsEvenA
     off-right = all-in (IsOffEdge (right_point k p)) (scaled_edges k es) (λ t j.
         let r = in-map-out (scaled_edge k) es t j in
         subst (IsOffEdge (right_point k p)) (sym r.2)
-        (off-raise (right_point k p) k (rises r.0) r.0 (right-off k hk h1 p (segment_of r.0) (rx r.0 r.1) (bigx r.0 r.1) (off-x r.0 r.1))))
+        (off-segment (right_point k p) k (rises r.0) r.0 (right-off k hk h1 p (segment_of r.0) (rx r.0 r.1) (bigx r.0 r.1) (off-x r.0 r.1))))
 
     pub off-left : All (IsOffEdge (left_point k p)) (scaled_edges k es)
     off-left = all-in (IsOffEdge (left_point k p)) (scaled_edges k es) (λ t j.
         let r = in-map-out (scaled_edge k) es t j in
         subst (IsOffEdge (left_point k p)) (sym r.2)
-        (off-raise (left_point k p) k (rises r.0) r.0 (left-off k hk h1 p (segment_of r.0) (rx r.0 r.1) (bigx r.0 r.1) (off-x r.0 r.1))))
+        (off-segment (left_point k p) k (rises r.0) r.0 (left-off k hk h1 p (segment_of r.0) (rx r.0 r.1) (bigx r.0 r.1) (off-x r.0 r.1))))
 
 -- ---- a number that is greater than all heights
 tall-bound : (n : ℕ) (z : ℤ) → up z ≤ n → sign z ≡ Plus → sign (pos (2 + n) -ℤ z) ≡ Plus
@@ -274,9 +275,6 @@ plus-two n = sign-from Plus (pos (2 + n)) (omega (arith, ints))
 
 less-two : (n : ℕ) → sign (pos (2 + n) -ℤ pos 1) ≡ Plus
 less-two n = sign-from Plus (pos (2 + n) -ℤ pos 1) (omega (arith, ints))
-
-heights : List Edge → ℕ
-heights es = total (λ (t : Edge). up (t.to.y -ℤ t.from.y)) es
 
 keeps-at : (es : List Edge) → IsConflictFree (segments_of es) → IsEvenAtPoints (segments_of es) →
     ((q : ℤ) → sign q ≡ Plus → (p : Vector) → All (IsOffEdge p) (scaled_edges q es) → (winding_number east p (scaled_edges q es) ≡ pos 0) ⊎ (winding_number east p (scaled_edges q es) ≡ pos 1)) →
@@ -290,23 +288,23 @@ keeps-at es pl even counted e i p lo hi on =
     (counted k hk (left_point k p) (off-left es pl even e i p lo hi on k hk h1 big))
 
 -- ---- the doubled list has a point in the middle of each edge
-raise-scaled-by : (k : ℤ) (b c : Bool) (x : Edge) → b ≡ c → cond b (scaled_edge k x) (reversed (scaled_edge k x)) ≡ scaled_edge k (cond c x (reversed x))
-raise-scaled-by k true true x h = refl
-raise-scaled-by k false false x h = refl
-raise-scaled-by k true false x h = absurd (cc h)
-raise-scaled-by k false true x h = absurd (cc h)
+segment-scaled-by : (k : ℤ) (b c : Bool) (x : Edge) → b ≡ c → cond b (scaled_edge k x) (reversed (scaled_edge k x)) ≡ scaled_edge k (cond c x (reversed x))
+segment-scaled-by k true true x h = refl
+segment-scaled-by k false false x h = refl
+segment-scaled-by k true false x h = absurd (cc h)
+segment-scaled-by k false true x h = absurd (cc h)
 
-raise-scaled : (k : ℤ) (hk : sign k ≡ Plus) (x : Edge) → segment_of (scaled_edge k x) ≡ scaled_edge k (segment_of x)
-raise-scaled k hk x = raise-scaled-by k (rises (scaled_edge k x)) (rises x) x (ap is_plus (order-scaled k hk x.from x.to))
+segment-scaled : (k : ℤ) (hk : sign k ≡ Plus) (x : Edge) → segment_of (scaled_edge k x) ≡ scaled_edge k (segment_of x)
+segment-scaled k hk x = segment-scaled-by k (rises (scaled_edge k x)) (rises x) x (ap is_plus (order-scaled k hk x.from x.to))
 
-raised-scaled : (k : ℤ) (hk : sign k ≡ Plus) (es : List Edge) → segments_of (scaled_edges k es) ≡ scaled_edges k (segments_of es)
-raised-scaled k hk [] = refl
-raised-scaled k hk (x ∷ xs) = ap (λ y. y ∷ segments_of (scaled_edges k xs)) (raise-scaled k hk x) ∙ ap (λ l. scaled_edge k (segment_of x) ∷ l) (raised-scaled k hk xs)
+segments-scaled : (k : ℤ) (hk : sign k ≡ Plus) (es : List Edge) → segments_of (scaled_edges k es) ≡ scaled_edges k (segments_of es)
+segments-scaled k hk [] = refl
+segments-scaled k hk (x ∷ xs) = ap (λ y. y ∷ segments_of (scaled_edges k xs)) (segment-scaled k hk x) ∙ ap (λ l. scaled_edge k (segment_of x) ∷ l) (segments-scaled k hk xs)
 
 keeps-scaled : (k : ℤ) (hk : sign k ≡ Plus) (es : List Edge) (e : Edge) → keeps (scaled_edges k es) (scaled_edge k e) ≡ keeps es e
 keeps-scaled k hk es e =
-    ap (λ (l : List Edge). same_bool (runs_up l (segment_of (scaled_edge k e))) (rises (scaled_edge k e))) (raised-scaled k hk es)
-    ∙ ap (λ (s : Edge). same_bool (runs_up (scaled_edges k (segments_of es)) s) (rises (scaled_edge k e))) (raise-scaled k hk e)
+    ap (λ (l : List Edge). same_bool (runs_up l (segment_of (scaled_edge k e))) (rises (scaled_edge k e))) (segments-scaled k hk es)
+    ∙ ap (λ (s : Edge). same_bool (runs_up (scaled_edges k (segments_of es)) s) (rises (scaled_edge k e))) (segment-scaled k hk e)
     ∙ ap (λ b. same_bool b (rises (scaled_edge k e))) (runs-scaled k hk (segment_of e) (segments_of es))
     ∙ ap (λ b. same_bool (runs_up (segments_of es) (segment_of e)) b) (ap is_plus (order-scaled k hk e.from e.to))
 
@@ -326,14 +324,11 @@ list-twice k m (x ∷ xs) = ap (λ y. y ∷ scaled_edges k (scaled_edges m xs)) 
 product-plus : (k m : ℤ) → sign k ≡ Plus → sign m ≡ Plus → sign (k *ℤ m) ≡ Plus
 product-plus k m h g = plus-times k m h ∙ g
 
-middle : Edge → Vector
-middle s = record { x = s.from.x +ℤ s.to.x; y = s.from.y +ℤ s.to.y }
-
 mid-low : (a b : ℤ) → sign (b -ℤ a) ≡ Plus → sign (pos 2 *ℤ a -ℤ (a +ℤ b)) ≡ Minus
 mid-low a b h =
     let a' = lift a in let b' = lift b in
     let e : pos 2 *ℤ a -ℤ (a +ℤ b) ≡ a -ℤ b = same (lift (pos 2) ⊠ a' ⊟ (a' ⊞ b')) (a' ⊟ b') (omega arith) in
-    ap sign e ∙ sign-turned (b -ℤ a) (a -ℤ b) (omega (arith, ints)) ∙ ap negated h
+    ap sign e ∙ sign-reversed (b -ℤ a) (a -ℤ b) (omega (arith, ints)) ∙ ap negated h
 
 mid-high : (a b : ℤ) → sign (b -ℤ a) ≡ Plus → sign (pos 2 *ℤ b -ℤ (a +ℤ b)) ≡ Plus
 mid-high a b h =
@@ -350,9 +345,9 @@ keeps-sloping es d even e i h =
     let two : sign (pos 2) ≡ Plus = refl in
     let es2 = scaled_edges (pos 2) es in let s = segment_of e in
     let p : Vector = record { x = s.from.x +ℤ s.to.x; y = s.from.y +ℤ s.to.y } in
-    let q = raise-scaled (pos 2) two e in
-    let pl2 = subst IsConflictFree (sym (raised-scaled (pos 2) two es)) (plain_scaled (pos 2) two (segments_of es) d.plain) in
-    let ev2 = subst IsEvenAtPoints (sym (raised-scaled (pos 2) two es)) (even_scaled (pos 2) two (segments_of es) even) in
+    let q = segment-scaled (pos 2) two e in
+    let pl2 = subst IsConflictFree (sym (segments-scaled (pos 2) two es)) (plain_scaled (pos 2) two (segments_of es) d.plain) in
+    let ev2 = subst IsEvenAtPoints (sym (segments-scaled (pos 2) two es)) (even_scaled (pos 2) two (segments_of es) even) in
     let c2 = λ (k : ℤ) (hk : sign k ≡ Plus) (w : Vector) (off : All (IsOffEdge w) (scaled_edges k es2)).
     subst (λ l. (winding_number east w l ≡ pos 0) ⊎ (winding_number east w l ≡ pos 1)) (sym (list-twice k (pos 2) es))
     (d.counted (k *ℤ pos 2) (product-plus k (pos 2) hk two) w (subst (λ l. All (IsOffEdge w) l) (list-twice k (pos 2) es) off)) in
@@ -366,8 +361,8 @@ keeps-sloping es d even e i h =
 abbrev bad : List Edge → List Edge
 bad es = filter (λ e. not (keeps es e)) es
 
-raised-filter : (q : Edge → Bool) (es : List Edge) (t : Edge) → In t (segments_of (filter q es)) → (x : Edge) × In x es × (q x ≡ true) × (t ≡ segment_of x)
-raised-filter q es t i = let r = in-map-out segment_of (filter q es) t i in (r.0, in-filter q es r.0 r.1, in-passes q es r.0 r.1, r.2)
+segments-filter : (q : Edge → Bool) (es : List Edge) (t : Edge) → In t (segments_of (filter q es)) → (x : Edge) × In x es × (q x ≡ true) × (t ≡ segment_of x)
+segments-filter q es t i = let r = in-map-out segment_of (filter q es) t i in (r.0, in-filter q es r.0 r.1, in-passes q es r.0 r.1, r.2)
 
 pairs-map-by : (b : Bool) (x : Edge) (ys : List Edge) → All (IsClearOf (segment_of x)) (segments_of ys) → EachPair IsClearOf (segments_of ys) → EachPair IsClearOf (segments_of (cond b (x ∷ ys) ys))
 pairs-map-by true x ys h p = (h, p)
@@ -376,12 +371,12 @@ pairs-map-by false x ys h p = p
 pairs-bad : (q : Edge → Bool) (es : List Edge) → EachPair IsClearOf (segments_of es) → EachPair IsClearOf (segments_of (filter q es))
 pairs-bad q [] p = tt
 pairs-bad q (x ∷ xs) p =
-    pairs-map-by (q x) x (filter q xs) (all-in (IsClearOf (segment_of x)) (segments_of (filter q xs)) (λ t i. let r = raised-filter q xs t i in
+    pairs-map-by (q x) x (filter q xs) (all-in (IsClearOf (segment_of x)) (segments_of (filter q xs)) (λ t i. let r = segments-filter q xs t i in
     subst (λ w. IsClearOf (segment_of x) w) (sym r.3) (in-all (IsClearOf (segment_of x)) (segments_of xs) (segment_of r.0) p.0 (in-map segment_of xs r.0 r.1)))) (pairs-bad q xs p.1)
 
 plain-bad : (q : Edge → Bool) (es : List Edge) → IsConflictFree (segments_of es) → IsConflictFree (segments_of (filter q es))
 plain-bad q es p = record {
-  rising = all-in IsRising (segments_of (filter q es)) (λ t i. let r = raised-filter q es t i in subst IsRising (sym r.3) (rising_in (segments_of es) (segment_of r.0) p (in-map segment_of es r.0 r.1)));
+  rising = all-in IsRising (segments_of (filter q es)) (λ t i. let r = segments-filter q es t i in subst IsRising (sym r.3) (rising_in (segments_of es) (segment_of r.0) p (in-map segment_of es r.0 r.1)));
   clear = pairs-bad q es p.clear;
 }
 
@@ -431,7 +426,7 @@ module _ (es : List Edge) (d : IsSided es) where
 
   bad-level : (t : Edge) → In t (segments_of (bad es)) → sign (t.to.y -ℤ t.from.y) ≡ Null
   bad-level t i =
-      let r = raised-filter (λ e. not (keeps es e)) es t i in
+      let r = segments-filter (λ e. not (keeps es e)) es t i in
       subst (λ (t : Edge). sign (t.to.y -ℤ t.from.y) ≡ Null) (sym r.3)
       (level-by (sign ((segment_of r.0).to.y -ℤ (segment_of r.0).from.y)) (sign ((segment_of r.0).to.x -ℤ (segment_of r.0).from.x)) (rising_in (segments_of es) (segment_of r.0) d.plain (in-map segment_of es r.0 r.1))
       (λ h. not-out (keeps es r.0) r.2 (keeps-sloping es d ev r.0 r.1 h)))
@@ -481,14 +476,14 @@ module _ (es : List Edge) (d : IsSided es) where
   sided_direct e i = direct-is es e ∙ ap (λ k. cond k e (reversed e)) (keeps-by e i (keeps es e) refl)
 
 -- ---- the odd side gives a sided list
-pub raise-direct-by : (b : Bool) (s : Edge) → IsRising s → segment_of (cond b s (reversed s)) ≡ s
-raise-direct-by true s r = ap (λ z. cond (is_plus z) s (reversed s)) r
-raise-direct-by false s r = ap (λ z. cond (is_plus z) (reversed s) (reversed (reversed s))) (order-turned s.from s.to ∙ ap negated r)
+pub segment-direct-by : (b : Bool) (s : Edge) → IsRising s → segment_of (cond b s (reversed s)) ≡ s
+segment-direct-by true s r = ap (λ z. cond (is_plus z) s (reversed s)) r
+segment-direct-by false s r = ap (λ z. cond (is_plus z) (reversed s) (reversed (reversed s))) (order-reversed s.from s.to ∙ ap negated r)
 
-raised-directed-by : (us es : List Edge) → ((s : Edge) → In s es → IsRising s) → segments_of (map (directed_edge us) es) ≡ es
-raised-directed-by us [] r = refl
-raised-directed-by us (x ∷ xs) r =
-    ap (λ y. y ∷ segments_of (map (directed_edge us) xs)) (raise-direct-by (runs_up us x) x (r x (inl refl))) ∙ ap (λ l. x ∷ l) (raised-directed-by us xs (λ s i. r s (inr i)))
+segments-directed-by : (us es : List Edge) → ((s : Edge) → In s es → IsRising s) → segments_of (map (directed_edge us) es) ≡ es
+segments-directed-by us [] r = refl
+segments-directed-by us (x ∷ xs) r =
+    ap (λ y. y ∷ segments_of (map (directed_edge us) xs)) (segment-direct-by (runs_up us x) x (r x (inl refl))) ∙ ap (λ l. x ∷ l) (segments-directed-by us xs (λ s i. r s (inr i)))
 
 zero-or-one : (n : ℕ) (w : ℤ) → w ≡ pos (n % 2) → (n % 2 ≡ 0) ⊎ (n % 2 ≡ 1) → (w ≡ pos 0) ⊎ (w ≡ pos 1)
 zero-or-one n w h (inl e) = inl (h ∙ ap pos e)
@@ -496,7 +491,7 @@ zero-or-one n w h (inr e) = inr (h ∙ ap pos e)
 
 pub directed_sided : (es : List Edge) → IsConflictFree es → IsEvenAtPoints es → IsSided (directed es)
 directed_sided es p even = record {
-  plain = subst IsConflictFree (sym (raised-directed-by es es (λ s i. rising_in es s p i))) p;
+  plain = subst IsConflictFree (sym (segments-directed-by es es (λ s i. rising_in es s p i))) p;
   balanced = directed_balanced es p even;
   counted = λ q hq w off. zero-or-one (crossing_count east w (scaled_edges q es)) (winding_number east w (scaled_edges q (directed es))) (rational_count q hq w es p even) (halves (crossing_count east w (scaled_edges q es)));
 }

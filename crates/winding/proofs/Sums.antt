@@ -108,6 +108,10 @@ pub total-+ : {X : Type 0} (f g : X → ℕ) (xs : List X) → total (λ (x : X)
 total-+ f g [] = refl
 total-+ f g (x ∷ xs) = let h = total-+ f g xs in omega arith
 
+pub none-sum : {X : Type 0} (xs : List X) → total (λ x. 0) xs ≡ 0
+none-sum [] = refl
+none-sum (x ∷ xs) = let a = none-sum xs in omega arith
+
 -- ---- the parity of all rings along an edge
 pub total-++ : {X : Type 0} (f : X → ℕ) (xs ys : List X) → total f (xs ++ ys) ≡ total f xs + total f ys
 total-++ f [] ys = omega arith

@@ -10,7 +10,8 @@ use Rattle.winding.specs.Parity.{IsEven}
 
 -- each point is the start of as many edges as it is the end of
 abbrev pub IsBalanced : List Edge → Type 0
-IsBalanced es = (v : Vector) → sum_by (λ (e : Edge). one_at v e.from) es ≡ sum_by (λ (e : Edge). one_at v e.to) es
+IsBalanced es =
+    (v : Vector) → sum_by (λ (e : Edge). one_at v e.from) es ≡ sum_by (λ (e : Edge). one_at v e.to) es
 
 -- each point is an end of an even number of edges
 abbrev pub IsEvenAtPoints : List Edge → Type 0
@@ -26,7 +27,8 @@ down_count d p es = sum_by (λ (e : Edge). down_crossing d (from_to p e.from) (f
 
 -- how many cross it
 abbrev pub crossing_count : Vector → Vector → List Edge → ℕ
-crossing_count d p es = sum_by (λ (e : Edge). up_crossing d (from_to p e.from) (from_to p e.to) + down_crossing d (from_to p e.from) (from_to p e.to)) es
+crossing_count d p es =
+    sum_by (λ (e : Edge). up_crossing d (from_to p e.from) (from_to p e.to) + down_crossing d (from_to p e.from) (from_to p e.to)) es
 
 -- how often the edges go round p counterclockwise, as the ray in the direction d tells it: the signed count
 abbrev pub winding_number : Vector → Vector → List Edge → ℤ

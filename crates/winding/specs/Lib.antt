@@ -1,7 +1,9 @@
 pub mod AlongSegmentLaws
 pub mod ConflictFree
+pub mod CountLaws
 pub mod DirectionLaws
 pub mod EdgeList
+pub mod LevelLaws
 pub mod Member
 pub mod Node
 pub mod OddSide

@@ -28,4 +28,5 @@ edges_through p es = filter (λ (e : Edge). not (is_off p e)) es
 
 -- how many ends of the edges that p is on are in the sector from d to c, seen from p
 abbrev pub ends_in : Vector → Vector → Vector → List Edge → ℕ
-ends_in d c p es = sum_by (λ (e : Edge). in_sector d c (from_to p e.from) + in_sector d c (from_to p e.to)) (edges_through p es)
+ends_in d c p es =
+    sum_by (λ (e : Edge). in_sector d c (from_to p e.from) + in_sector d c (from_to p e.to)) (edges_through p es)

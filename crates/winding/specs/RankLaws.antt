@@ -6,8 +6,12 @@ use Rattle.winding.specs.Rank.{IsOrder, rank, sum_from}
 
 -- the ranks are 0, 1, .., each once: a sum over them is the sum over these numbers
 abbrev pub RanksAreFirstNumbers : Type 0 → Type 0
-RanksAreFirstNumbers X = (above : X → X → Bool) (xs : List X) → IsOrder false above xs → (f : ℕ → ℕ) → sum_by (λ x. f (rank above xs x)) xs ≡ sum_from f 0 (length xs)
+RanksAreFirstNumbers X =
+    (above : X → X → Bool) (xs : List X) → IsOrder false above xs → (f : ℕ → ℕ) →
+    sum_by (λ x. f (rank above xs x)) xs ≡ sum_from f 0 (length xs)
 
 -- so those of even rank are as many as those of odd rank, and one more where the list is of odd length
 abbrev pub EvenRanksAreHalf : Type 0 → Type 0
-EvenRanksAreHalf X = (above : X → X → Bool) (xs : List X) → IsOrder false above xs → count_by (λ x. is_even (rank above xs x)) xs ≡ count_by (λ x. not (is_even (rank above xs x))) xs + length xs % 2
+EvenRanksAreHalf X =
+    (above : X → X → Bool) (xs : List X) → IsOrder false above xs →
+    count_by (λ x. is_even (rank above xs x)) xs ≡ count_by (λ x. not (is_even (rank above xs x))) xs + length xs % 2

@@ -1,9 +1,7 @@
 -- One ring, as statements.
 use Rattle.std.specs.Prelude.{List, cond, ◌%◌, ◌≡◌}
 use lib.IntN.{pos, ◌-ℤ◌}
-use Rattle.plane.specs.Edge.{Edge, segment_of}
-use Rattle.plane.specs.Order.{order}
-use Rattle.plane.specs.Sign.{is_plus}
+use Rattle.plane.specs.Edge.{Edge, is_rising, segment_of}
 use Rattle.plane.specs.Vector.{Vector, east}
 use Rattle.winding.specs.ConflictFree.{IsConflictFree}
 use Rattle.winding.specs.EdgeList.{crossing_count, winding_number}
@@ -16,5 +14,8 @@ AnchorExists = (x : Edge) (es : List Edge) → In x es → IsConflictFree es →
 
 -- the winding number of a ring is everywhere its parity where its anchor runs down, and everywhere the negative of it where its anchor runs up
 abbrev pub RingWindsByAnchor : Type 0
-RingWindsByAnchor = (e : Edge) (es : List Edge) → IsRing es → IsConflictFree (segments_of es) → In e es → IsAnchor (segment_of e) (segments_of es) → (p : Vector) →
-    winding_number east p es ≡ cond (is_plus (order e.from e.to)) (pos 0 -ℤ pos (crossing_count east p es % 2)) (pos (crossing_count east p es % 2))
+RingWindsByAnchor =
+    (e : Edge) (es : List Edge) → IsRing es → IsConflictFree (segments_of es) → In e es →
+    IsAnchor (segment_of e) (segments_of es) → (p : Vector) →
+    winding_number east p es
+    ≡ cond (is_rising e) (pos 0 -ℤ pos (crossing_count east p es % 2)) (pos (crossing_count east p es % 2))

@@ -15,4 +15,6 @@ use Rattle.winding.specs.ScaledEdges.{scaled_edges}
 pub record IsSided (es : List Edge) : Type 0 where
   pub plain : IsConflictFree (segments_of es)
   pub balanced : IsBalanced es
-  pub counted : (q : ℤ) → sign q ≡ Plus → (p : Vector) → All (IsOffEdge p) (scaled_edges q es) → (winding_number east p (scaled_edges q es) ≡ pos 0) ⊎ (winding_number east p (scaled_edges q es) ≡ pos 1)
+  pub counted :
+      (q : ℤ) → sign q ≡ Plus → (p : Vector) → All (IsOffEdge p) (scaled_edges q es) →
+      (winding_number east p (scaled_edges q es) ≡ pos 0) ⊎ (winding_number east p (scaled_edges q es) ≡ pos 1)

@@ -6,7 +6,9 @@
 #![tactic(auto)]
 
 pub mod along_segment;
+pub mod count;
 pub mod direction;
+pub mod level;
 pub mod odd_side;
 pub mod rank;
 pub mod ring;

@@ -1,6 +1,6 @@
 use Rattle.nesting.proofs.nest.outer_by_depth.Goals as goal
 use Rattle.nesting.proofs.DirectEnclosure.{encloses_law}
-use Rattle.nesting.proofs.EnclosingSums.{enclosing_sums}
+use Rattle.nesting.proofs.DirectRings.{enclosing_rings_balance}
 use Rattle.nesting.proofs.Nests.{outer_depth}
 use Rattle.nesting.proofs.RingLists.{outer_down}
 
@@ -14,4 +14,4 @@ pub returns-clause-encloses : goal.returns-clause-encloses
 returns-clause-encloses c = encloses_law
 
 pub returns-clause-balance : goal.returns-clause-balance
-returns-clause-balance c = enclosing_sums
+returns-clause-balance c = enclosing_rings_balance

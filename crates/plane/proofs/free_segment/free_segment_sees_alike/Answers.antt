@@ -1,8 +1,8 @@
 use Rattle.plane.proofs.free_segment.free_segment_sees_alike.Goals as goal
-use Rattle.plane.proofs.FreeSegments.{end_alike, end_edge_none, inner_point_off, inner_points_alike, misses_turned}
+use Rattle.plane.proofs.FreeSegments.{end_alike, end_edge_none, inner_point_off, inner_points_alike, misses_reversed}
 
 pub returns-clause-both_ways : goal.returns-clause-both_ways
-returns-clause-both_ways c = misses_turned
+returns-clause-both_ways c = misses_reversed
 
 pub returns-clause-off : goal.returns-clause-off
 returns-clause-off c = inner_point_off

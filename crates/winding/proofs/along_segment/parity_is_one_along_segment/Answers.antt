@@ -1,5 +1,6 @@
 use Rattle.winding.proofs.along_segment.parity_is_one_along_segment.Goals as goal
 use Rattle.winding.proofs.AlongSegment.{parity_along_segment, parity_from_both_ends, parity_from_end, winding_along_segment}
+use Rattle.winding.proofs.OwnEdge.{parity_along_own_edge}
 
 pub returns-clause-parity : goal.returns-clause-parity
 returns-clause-parity c = parity_along_segment
@@ -12,3 +13,6 @@ returns-clause-from_end c = parity_from_end
 
 pub returns-clause-from_both_ends : goal.returns-clause-from_both_ends
 returns-clause-from_both_ends c = parity_from_both_ends
+
+pub returns-clause-own_edge : goal.returns-clause-own_edge
+returns-clause-own_edge c = parity_along_own_edge

@@ -1,0 +1,5 @@
+pub mod OnceLemmas
+pub mod RefLemmas
+pub mod SegmentLemmas
+pub mod RectangleLemmas
+pub mod OutcomeLemmas

@@ -1,0 +1,68 @@
+-- The outcomes of a candidate.
+use Rattle.std.proofs.Common.{◌≡◌, ◌≢◌, ◌∙◌, Bool, true, false, List, [], ◌∷◌, length, map, filter, nat_le, count_by, ℤ, int_eq, IsTrue, refl, sym, ap, subst, arith}
+use Rattle.std.specs.Prelude.{◌↔◌}
+use Rattle.std.specs.List.{flat_map}
+use Rattle.osm_geom.specs.declared.seg.Seg.{Seg}
+use Rattle.opl_reader.specs.declared.object.Object.{Object}
+use Rattle.opl_reader.specs.declared.object.ObjectRef.{ObjectRef}
+use Rattle.osm_objects.specs.declared.problem.Problem.{Problem}
+use Rattle.osm_objects.specs.declared.problem.Note.{Note}
+use Rattle.osm_area.specs.declared.outcome.Outcome.{Outcome}
+use Rattle.osm_area.specs.declared.outcome.Outcome.TheVariants as outcome
+use Rattle.osm_area.specs.Once.{each_once}
+use Rattle.osm_area.specs.MemberWays.{named_ways, member_ways, ways_named_twice}
+use Rattle.osm_area.specs.Missing.{same_ref, way_missing, missing}
+use Rattle.osm_area.specs.Segments.{way_segments, segments_of}
+use Rattle.osm_area.specs.Problems.{missing_problem}
+use Rattle.osm_area.specs.Notes.{named_twice_note}
+use Rattle.osm_area.specs.Outcome.{IsOutcome, IsOutcomeGiven}
+
+-- what `assemble` knows of a candidate before it looks at segments
+pub record Gathered (objects : List Object) (candidate : ObjectRef) (ways : List ℤ) (parts : List ObjectRef) (notes : List Note) : Type 0 where
+  pub ways_are : ways ≡ member_ways objects candidate
+  pub parts_are : parts ≡ missing objects candidate
+  pub notes_are : notes ≡ map named_twice_note (ways_named_twice objects candidate)
+
+-- `first` and `second` are the named ways as they were lent to two calls
+pub gathered : (objects : List Object) (candidate : ObjectRef) (named first distinct second ways : List ℤ) (parts : List ObjectRef) (notes : List Note)
+    → named ≡ named_ways objects candidate → first ≡ named → distinct ≡ each_once int_eq first → ways ≡ distinct
+    → second ≡ named → notes ≡ map named_twice_note (filter (λ way. nat_le 2 (count_by (int_eq way) second)) ways)
+    → parts ≡ each_once same_ref (flat_map (way_missing objects) ways)
+    → Gathered objects candidate ways parts notes
+gathered objects candidate named first distinct second ways parts notes n f d w s e p =
+    let all : second ≡ named_ways objects candidate = s ∙ n in
+    let are : ways ≡ member_ways objects candidate = w ∙ (d ∙ ap (each_once int_eq) (f ∙ n)) in
+    record {
+      ways_are = are;
+      parts_are = p ∙ ap (λ ids. each_once same_ref (flat_map (way_missing objects) ids)) are;
+      notes_are = e ∙ (λ i. map named_twice_note (filter (λ way. nat_le 2 (count_by (int_eq way) (all i))) (are i)));
+    }
+
+given_missing : (missing : List ObjectRef) (ways : List ℤ) (segments : List Seg) (list : List Problem) (notes : List Note)
+    → missing ≢ [] → list ≡ map missing_problem missing → notes ≡ map named_twice_note ways → IsOutcomeGiven missing ways segments (outcome.Problems list notes)
+given_missing [] ways segments list notes some e n = absurd (some refl)
+given_missing (r ∷ missing) ways segments list notes some e n = (e, (λ none. cc), n)
+
+pub missing_outcome : (objects : List Object) (candidate : ObjectRef) (ways : List ℤ) (parts lent : List ObjectRef) (notes : List Note) (list : List Problem) (empty : Bool)
+    → Gathered objects candidate ways parts notes → IsTrue empty ↔ (length parts ≡ 0) → empty ≡ false → lent ≡ parts → list ≡ map missing_problem lent
+    → IsOutcome objects candidate (outcome.Problems list notes)
+missing_outcome objects candidate ways parts lent notes list empty g test some l e =
+    given_missing (missing objects candidate) (ways_named_twice objects candidate) (segments_of objects candidate) list notes
+    (λ none. let yes : IsTrue empty = test.1 (ap length (g.parts_are ∙ none)) in cc)
+    (e ∙ ap (map missing_problem) (l ∙ g.parts_are))
+    g.notes_are
+
+nothing-of : {X : Type 0} (xs : List X) → length xs ≡ 0 → xs ≡ []
+nothing-of [] h = refl
+nothing-of (x ∷ xs) h = absurd (omega arith)
+
+pub complete_outcome : (objects : List Object) (candidate : ObjectRef) (ways : List ℤ) (parts : List ObjectRef) (notes : List Note) (segs passed : List Seg) (empty : Bool) (outcome : Outcome)
+    → Gathered objects candidate ways parts notes → IsTrue empty ↔ (length parts ≡ 0) → empty ≡ true → segs ≡ flat_map (way_segments objects) ways → passed ≡ segs
+    → ((ways : List ℤ) → notes ≡ map named_twice_note ways → IsOutcomeGiven [] ways passed outcome)
+    → IsOutcome objects candidate outcome
+complete_outcome objects candidate ways parts notes segs passed empty outcome g test none s p h =
+    let nothing : [] ≡ missing objects candidate = sym (nothing-of parts (test.0 none)) ∙ g.parts_are in
+    let same : passed ≡ segments_of objects candidate = p ∙ (s ∙ ap (flat_map (way_segments objects)) g.ways_are) in
+    let Given : List ObjectRef → Type 0 = λ rs. IsOutcomeGiven rs (ways_named_twice objects candidate) (segments_of objects candidate) outcome in
+    let With : List Seg → Type 0 = λ ss. IsOutcomeGiven [] (ways_named_twice objects candidate) ss outcome in
+    subst Given nothing (subst With same (h (ways_named_twice objects candidate) g.notes_are))

@@ -1,0 +1,9 @@
+pub mod Once
+pub mod MemberWays
+pub mod Missing
+pub mod Segments
+pub mod Problems
+pub mod Notes
+pub mod Ring
+pub mod Rectangle
+pub mod Outcome

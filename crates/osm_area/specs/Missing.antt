@@ -1,0 +1,31 @@
+-- What a candidate lacks.
+use Rattle.std.specs.Prelude.{Bool, ◌&&◌, List, [], ◌∷◌, map, filter, ℤ, Option, None, Some, is_none}
+use Rattle.std.specs.List.{flat_map}
+use Rattle.std.specs.Ordering.{int_eq}
+use Rattle.opl_reader.specs.declared.object.ObjectKind.TheVariants.{Node, Way}
+use Rattle.opl_reader.specs.declared.object.ObjectRef.{ObjectRef}
+use Rattle.opl_reader.specs.declared.object.Object.{Object}
+use Rattle.osm_objects.specs.Object.{same_kind}
+use Rattle.osm_objects.specs.Objects.{WayParts, way_of, location_of}
+use Rattle.osm_area.specs.Once.{each_once}
+use Rattle.osm_area.specs.MemberWays.{member_ways}
+
+-- the same kind and id
+abbrev pub same_ref : ObjectRef → ObjectRef → Bool
+same_ref r s = same_kind r.kind s.kind && int_eq r.id s.id
+
+-- the references to nodes that have no location here, in order
+abbrev pub nodes_missing : List Object → List ℤ → List ObjectRef
+nodes_missing objects refs = map (λ id. record { kind = Node; id = id }) (filter (λ id. is_none (location_of objects id)) refs)
+
+-- what a way lacks: itself, where it isn't here, and otherwise nodes
+abbrev pub missing_from : List Object → ℤ → Option WayParts → List ObjectRef
+missing_from objects id None = record { kind = Way; id = id } ∷ []
+missing_from objects id (Some way) = nodes_missing objects way.refs
+
+abbrev pub way_missing : List Object → ℤ → List ObjectRef
+way_missing objects id = missing_from objects id (way_of objects id)
+
+-- what the member ways lack, one way after the other, each once, at its first place
+abbrev pub missing : List Object → ObjectRef → List ObjectRef
+missing objects candidate = each_once same_ref (flat_map (way_missing objects) (member_ways objects candidate))

@@ -1,0 +1,27 @@
+-- What is noted of a candidate.
+use Rattle.std.specs.Prelude.{◌≡◌, List, [], ◌∷◌, ◌++◌, map, ℤ}
+use Rattle.osm_geom.specs.declared.seg.Seg.{Seg}
+use Rattle.opl_reader.specs.declared.object.ObjectRef.{ObjectRef}
+use Rattle.opl_reader.specs.declared.object.Object.{Object}
+use Rattle.osm_objects.specs.declared.problem.Note.{Note}
+use Rattle.osm_objects.specs.declared.problem.Note.TheVariants.{NamedTwice, Repeated}
+use Rattle.osm_segments.specs.declared.counts.Repeat.{Repeat}
+use Rattle.osm_segments.specs.Repeats.{AreRepeats}
+use Rattle.osm_area.specs.MemberWays.{ways_named_twice}
+use Rattle.osm_area.specs.Missing.{missing}
+use Rattle.osm_area.specs.Segments.{segments_of}
+
+abbrev pub named_twice_note : ℤ → Note
+named_twice_note way = NamedTwice way
+
+abbrev pub repeated_note : Repeat → Note
+repeated_note r = Repeated r.seg r.times
+
+-- each way that is named at least twice, and then, where nothing is missing, each segment that stands at least twice
+abbrev pub AreNotesGiven : List ObjectRef → List ℤ → List Seg → List Note → Type 0
+AreNotesGiven [] ways segments notes =
+    (repeats : List Repeat) × (AreRepeats segments repeats × (notes ≡ map named_twice_note ways ++ map repeated_note repeats))
+AreNotesGiven (r ∷ missing) ways segments notes = notes ≡ map named_twice_note ways
+
+abbrev pub AreNotes : List Object → ObjectRef → List Note → Type 0
+AreNotes objects candidate notes = AreNotesGiven (missing objects candidate) (ways_named_twice objects candidate) (segments_of objects candidate) notes

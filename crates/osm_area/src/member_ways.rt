@@ -1,0 +1,47 @@
+//! The ways that a candidate is made of.
+
+ghost use Rattle.std.specs.Prelude.{◌≡◌, IfOk};
+ghost use Rattle.osm_objects.specs.Object.{same_kind};
+ghost use Rattle.osm_area.specs.MemberWays.{ways_among, named_ways};
+ghost use Rattle.opl_reader.specs.declared.object.ObjectKind.TheVariants.{Way};
+
+use opl_reader::{Member, ObjectKind, ObjectRef};
+use osm_objects::Store;
+use std::alloc::{AllocError, Global};
+
+fn is_way(kind: ObjectKind) -> bool
+    ensures { result ≡ same_kind kind Way }
+{
+    match kind {
+        ObjectKind::Way => true,
+        _ => false,
+    }
+}
+
+fn ways_among(alloc: Global, members: &[Member]) -> Result<Vec<i64>, AllocError>
+    ensures { IfOk result (λ v. v.items ≡ ways_among members.now) }
+{
+    members
+        .iter()
+        .filter(|m| is_way(m.kind))
+        .map(|m| m.id)
+        .collect(alloc)
+}
+
+/// The ways that a candidate names, in order: a way names itself, and a relation its way members of every role.
+pub fn named_ways(
+    alloc: Global,
+    store: &Store,
+    candidate: ObjectRef,
+) -> Result<Vec<i64>, AllocError>
+    ensures { IfOk result (λ v. v.items ≡ named_ways store.now candidate) }
+{
+    match candidate.kind {
+        ObjectKind::Node => Ok(Vec::new(alloc)),
+        ObjectKind::Way => Vec::from_slice(alloc, &[candidate.id]),
+        ObjectKind::Relation => match store.relation(candidate.id) {
+            Some(relation) => ways_among(alloc, relation.members.as_slice()),
+            None => Ok(Vec::new(alloc)),
+        },
+    }
+}

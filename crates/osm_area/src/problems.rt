@@ -1,0 +1,82 @@
+//! What keeps a candidate from having an area.
+
+ghost use Rattle.std.specs.Prelude.{◌≡◌, ◌++◌, [], OnOk, IfOk, map};
+ghost use Rattle.osm_geom.specs.Seg.{seg_cmp};
+ghost use Rattle.osm_lists.specs.Rising.{IsRising};
+ghost use Rattle.osm_area.specs.Problems.{missing_problem, conflict_problem, odd_problem, AreFaults, AreProblemsAmong};
+
+use crate::lists::Problems;
+use opl_reader::{ObjectKind, ObjectRef};
+use osm_geom::{Loc, Seg};
+use osm_objects::Problem;
+use osm_segments::{Pair, conflicts, odd_nodes};
+use std::alloc::{AllocError, Global};
+
+fn missing_problem(missing: ObjectRef) -> Problem
+    ensures { result ≡ missing_problem missing }
+{
+    let id = missing.id;
+    match missing.kind {
+        ObjectKind::Way => Problem::MissingWay { id },
+        _ => Problem::MissingNode { id },
+    }
+}
+
+/// A problem for each missing way or node.
+pub fn missing_problems(alloc: Global, missing: &[ObjectRef]) -> Result<Problems, AllocError>
+    ensures { IfOk result (λ list. list ≡ map missing_problem missing.now) }
+{
+    let mut list = Problems::new(alloc);
+    for part in missing {
+        list.push(missing_problem(*part))?;
+    }
+    Ok(list)
+}
+
+fn add_conflicts(list: &mut Problems, pairs: &[Pair]) -> Result<(), AllocError>
+    ensures { OnOk result (list.new ≡ list.old ++ map conflict_problem pairs.now) }
+{
+    for pair in pairs {
+        list.push(Problem::Conflict {
+            kind: pair.kind,
+            first: pair.first,
+            second: pair.second,
+        })?;
+    }
+    Ok(())
+}
+
+fn add_odd_nodes(list: &mut Problems, nodes: &[Loc]) -> Result<(), AllocError>
+    ensures { OnOk result (list.new ≡ list.old ++ map odd_problem nodes.now) }
+{
+    for &at in nodes {
+        list.push(Problem::Odd { at })?;
+    }
+    Ok(())
+}
+
+// Each conflicting pair in order, and then each odd node in order.
+fn faults(alloc: Global, survivors: &[Seg]) -> Result<Problems, AllocError>
+    requires { IsRising seg_cmp survivors.now }
+    ensures { IfOk result (λ list. AreFaults survivors.now list) }
+{
+    let pairs = conflicts(alloc, survivors)?;
+    let nodes = odd_nodes(alloc, survivors)?;
+    let mut list = Problems::new(alloc);
+    add_conflicts(&mut list, &pairs)?;
+    add_odd_nodes(&mut list, &nodes)?;
+    Ok(list)
+}
+
+/// The problems among the surviving segments of a candidate of which nothing is missing.
+pub fn problems_among(alloc: Global, survivors: &[Seg]) -> Result<Problems, AllocError>
+    requires { IsRising seg_cmp survivors.now }
+    ensures { IfOk result (λ list. AreProblemsAmong survivors.now list) }
+{
+    if survivors.is_empty() {
+        let mut list = Problems::new(alloc);
+        list.push(Problem::Nothing)?;
+        return Ok(list);
+    }
+    faults(alloc, survivors)
+}

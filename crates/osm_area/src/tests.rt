@@ -1,0 +1,260 @@
+use super::*;
+use opl_reader::{Member, Members, Object, ObjectKind, ObjectRef, Refs, Tags, Text};
+use osm_geom::{Loc, Seg};
+use osm_objects::{Note, Problem, Store};
+use std::alloc::{AllocError, Global};
+use std::test::Fail;
+
+fn numbers_of(alloc: Global, words: &str) -> Result<Vec<i64>, AllocError> {
+    let mut numbers = Vec::new(alloc);
+    for word in words.split_whitespace() {
+        if let Ok(number) = word.parse::<i64>() {
+            numbers.push(number)?;
+        }
+    }
+    Ok(numbers)
+}
+
+fn node_of(alloc: Global, id: i64, numbers: &[i64]) -> Object {
+    let place = match numbers {
+        [_, x, y] => Loc::new(*x, *y),
+        _ => None,
+    };
+    Object::Node {
+        id,
+        live: true,
+        tags: Tags::new(alloc),
+        place,
+    }
+}
+
+fn way_of(alloc: Global, id: i64, numbers: &[i64]) -> Result<Object, AllocError> {
+    let mut refs = Refs::new(alloc);
+    for number in numbers.iter().skip(1) {
+        refs.push(*number)?;
+    }
+    Ok(Object::Way {
+        id,
+        live: true,
+        tags: Tags::new(alloc),
+        refs,
+    })
+}
+
+fn relation_of(
+    alloc: Global,
+    id: i64,
+    kind: ObjectKind,
+    numbers: &[i64],
+) -> Result<Object, AllocError> {
+    let mut members = Members::new(alloc);
+    for number in numbers.iter().skip(1) {
+        let role = Text::from_str(alloc, "outer")?;
+        members.push(Member {
+            kind,
+            id: *number,
+            role,
+        })?;
+    }
+    Ok(Object::Relation {
+        id,
+        live: true,
+        tags: Tags::new(alloc),
+        members,
+    })
+}
+
+/// The object of a line: `n` with its id, x and y; `w` with its id and its nodes; `r` with its id and its member
+/// ways; `s` with its id and its member relations.
+fn object_of(alloc: Global, line: &str) -> Result<Object, AllocError> {
+    let numbers = numbers_of(alloc, line)?;
+    let id = numbers.first().copied().unwrap_or(0);
+    if line.starts_with('n') {
+        return Ok(node_of(alloc, id, &numbers));
+    }
+    if line.starts_with('w') {
+        return way_of(alloc, id, &numbers);
+    }
+    let kind = if line.starts_with('r') {
+        ObjectKind::Way
+    } else {
+        ObjectKind::Relation
+    };
+    relation_of(alloc, id, kind, &numbers)
+}
+
+fn add_lines(alloc: Global, store: &mut Store, lines: &str) -> Result<(), Fail> {
+    for line in lines.lines() {
+        let object = object_of(alloc, line)?;
+        if store.add(object).is_err() {
+            return Err(Fail::new("not added"));
+        }
+    }
+    Ok(())
+}
+
+fn seg_text(alloc: Global, s: Seg) -> Result<String, AllocError> {
+    format!(in alloc; "{} {},{} {}", s.a.x, s.a.y, s.b.x, s.b.y)
+}
+
+fn problem_text(alloc: Global, problem: &Problem) -> Result<String, AllocError> {
+    match problem {
+        Problem::MissingWay { id } => format!(in alloc; "no way {id}"),
+        Problem::MissingNode { id } => format!(in alloc; "no node {id}"),
+        Problem::Nothing => format!(in alloc; "nothing"),
+        Problem::Conflict {
+            kind,
+            first,
+            second,
+        } => {
+            let first = seg_text(alloc, *first)?;
+            let second = seg_text(alloc, *second)?;
+            format!(in alloc; "{kind:?} of {first} and {second}")
+        }
+        Problem::Odd { at } => format!(in alloc; "odd {} {}", at.x, at.y),
+    }
+}
+
+fn note_text(alloc: Global, note: &Note) -> Result<String, AllocError> {
+    match note {
+        Note::NamedTwice { way } => format!(in alloc; "way {way} twice"),
+        Note::Repeated { seg, times } => {
+            let seg = seg_text(alloc, *seg)?;
+            format!(in alloc; "{seg} stands {times} times")
+        }
+        _ => format!(in alloc; "a role"),
+    }
+}
+
+fn put_notes(alloc: Global, text: &mut String, notes: &Notes) -> Result<(), AllocError> {
+    for note in notes.as_slice() {
+        text.push_str(note_text(alloc, note)?.as_str())?;
+        text.push_str("\n")?;
+    }
+    Ok(())
+}
+
+/// An outcome as lines: the area's locations or the problems, and then the notes.
+fn outcome_text(alloc: Global, outcome: &Outcome) -> Result<String, AllocError> {
+    let mut text = String::new(alloc);
+    match outcome {
+        Outcome::Area { path, notes } => {
+            for p in path.as_slice() {
+                text.push_str(format!(in alloc; "{} {}\n", p.x, p.y)?.as_str())?;
+            }
+            put_notes(alloc, &mut text, notes)?;
+        }
+        Outcome::Problems { list, notes } => {
+            for problem in list.as_slice() {
+                text.push_str(problem_text(alloc, problem)?.as_str())?;
+                text.push_str("\n")?;
+            }
+            put_notes(alloc, &mut text, notes)?;
+        }
+        Outcome::NotYet => text.push_str("not yet")?,
+    }
+    Ok(text)
+}
+
+const SQUARE: &str = "n 1 0 0\nn 2 1 0\nn 3 1 1\nn 4 0 1";
+
+/// The outcome of object 5 of these lines, a relation, or of way 7 where there is none.
+fn outcome_of(alloc: Global, nodes: &str, lines: &str) -> Result<String, Fail> {
+    let mut store = Store::new(alloc);
+    add_lines(alloc, &mut store, nodes)?;
+    add_lines(alloc, &mut store, lines)?;
+    let relation = store.relation(5).is_some();
+    let of = if relation {
+        ObjectRef {
+            kind: ObjectKind::Relation,
+            id: 5,
+        }
+    } else {
+        ObjectRef {
+            kind: ObjectKind::Way,
+            id: 7,
+        }
+    };
+    let outcome = assemble(alloc, &store, of)?;
+    Ok(outcome_text(alloc, &outcome)?)
+}
+
+#[test]
+fn all_ways_to_draw_a_square(rt: HostRuntime) -> Result<(), Fail> {
+    let alloc = rt.alloc();
+    let ways = "w 7 1 2 3 4 1\nw 7 2 3 4 1 2\nw 7 3 4 1 2 3\nw 7 4 1 2 3 4
+w 7 1 4 3 2 1\nw 7 4 3 2 1 4\nw 7 3 2 1 4 3\nw 7 2 1 4 3 2";
+    for way in ways.lines() {
+        let text = outcome_of(alloc, SQUARE, way)?;
+        assert_eq!(rt; text.as_str(), "0 0\n1 0\n1 1\n0 1\n");
+    }
+    Ok(())
+}
+
+#[test]
+fn shared_side_and_way_named_twice(rt: HostRuntime) -> Result<(), Fail> {
+    let alloc = rt.alloc();
+    let shared = "n 5 2 0\nn 6 2 1\nw 1 1 2 3 4 1\nw 2 2 5 6 3 2\nr 5 1 2";
+    let text = outcome_of(alloc, SQUARE, shared)?;
+    assert_eq!(rt; text.as_str(), "not yet");
+    let twice = "w 1 1 2 3 4 1\nw 2 2 3\nw 3 3 2\nr 5 1 2 3 2";
+    let text = outcome_of(alloc, SQUARE, twice)?;
+    assert_eq!(rt;
+        text.as_str(),
+        "0 0\n1 0\n1 1\n0 1\nway 2 twice\n1 0,1 1 stands 3 times\n"
+    );
+    Ok(())
+}
+
+#[test]
+fn nothing_survives(rt: HostRuntime) -> Result<(), Fail> {
+    let alloc = rt.alloc();
+    let text = outcome_of(alloc, SQUARE, "w 7 1 2 3 2 1")?;
+    assert_eq!(rt;
+        text.as_str(),
+        "nothing\n0 0,1 0 stands 2 times\n1 0,1 1 stands 2 times\n"
+    );
+    let text = outcome_of(alloc, SQUARE, "s 5 1 2")?;
+    assert_eq!(rt; text.as_str(), "nothing\n");
+    let text = outcome_of(alloc, SQUARE, "r 5")?;
+    assert_eq!(rt; text.as_str(), "nothing\n");
+    Ok(())
+}
+
+#[test]
+fn conflicts_and_odd_nodes(rt: HostRuntime) -> Result<(), Fail> {
+    let alloc = rt.alloc();
+    let bow = "n 1 0 0\nn 2 2 2\nn 3 2 0\nn 4 0 1\nw 7 1 2 3 4 1";
+    let text = outcome_of(alloc, bow, "")?;
+    assert_eq!(rt; text.as_str(), "Crossing of 0 0,2 2 and 2 0,0 1\n");
+    let base = "n 1 0 0\nn 2 4 0\nn 3 4 4\nn 4 0 4\nn 5 1 0\nn 6 3 0\nn 7 2 2";
+    let text = outcome_of(alloc, base, "w 1 1 2 3 4 1\nw 2 5 6 7 5\nr 5 1 2")?;
+    assert_eq!(rt;
+        text.as_str(),
+        "Overlap of 0 0,4 0 and 1 0,3 0\nCrossing of 0 0,4 0 and 1 0,2 2\nCrossing of 0 0,4 0 and 3 0,2 2\n"
+    );
+    let text = outcome_of(alloc, SQUARE, "w 1 1 3\nw 2 2 4\nr 5 1 2")?;
+    assert_eq!(rt;
+        text.as_str(),
+        "Crossing of 0 0,1 1 and 1 0,0 1\nodd 0 0\nodd 1 0\nodd 0 1\nodd 1 1\n"
+    );
+    let text = outcome_of(alloc, SQUARE, "w 1 1 2 3\nr 5 1")?;
+    assert_eq!(rt; text.as_str(), "odd 0 0\nodd 1 1\n");
+    Ok(())
+}
+
+#[test]
+fn missing_parts(rt: HostRuntime) -> Result<(), Fail> {
+    let alloc = rt.alloc();
+    let two = "n 1 0 0\nn 2 1 0";
+    let text = outcome_of(alloc, two, "w 1 1 2 4 1\nr 5 1 9")?;
+    assert_eq!(rt; text.as_str(), "no node 4\nno way 9\n");
+    let text = outcome_of(alloc, two, "n 6\nw 1 4 6 4 1\nw 2 3 4 7\nr 5 9 1 9 2 8 1")?;
+    assert_eq!(rt;
+        text.as_str(),
+        "no way 9\nno node 4\nno node 6\nno node 3\nno node 7\nno way 8\nway 9 twice\nway 1 twice\n"
+    );
+    let text = outcome_of(alloc, two, "w 1 1 2 1 2\nw 2 9\nr 5 2 1")?;
+    assert_eq!(rt; text.as_str(), "no node 9\n");
+    Ok(())
+}

@@ -1,0 +1,88 @@
+-- A run with its last line.
+use Rattle.osm_host.specs.declared.host.Failed.{Failed}
+use Rattle.std.proofs.Common.{◌≡◌, ◌∙◌, ap, subst, ◌≤◌, ℕ, List, take, arith, OnOk, OnErr, inl, inr, Option, None, Some, IfSome, Result, Ok, Err}
+use Rattle.osm_host.specs.Outside.{Outside, appended, Counts, OnlyWritesReport}
+use Rattle.osm_host.proofs.Streams.{appended_twice}
+use Rattle.osm_cli.specs.declared.words.WordsFault.{WordsFault}
+use Rattle.osm_cli.specs.declared.ended.Ended.{Ended}
+use Rattle.osm_cli.specs.declared.ended.Ended.TheVariants.{Done, BadWords, BadInput, NotYet, TooMuchInput, OpenFault, ReadFault, WriteFault, OutOfMemory}
+use Rattle.osm_cli.specs.Job.{Job}
+use Rattle.osm_cli.specs.LastLine.{last_line}
+use Rattle.osm_cli.specs.Whole.{Whole, IsWhole}
+use Rattle.osm_cli.specs.Run.{IsFront, WroteAll, IsRun, Writes, Opens, HasCause, NoFault, Completes}
+use Rattle.osm_cli.specs.RunSteps.{Works}
+use Rattle.osm_cli.proofs.Writing.{take_is_front, whole_front}
+
+module _ (words : Result Job WordsFault) (ended : Ended) (before middle now : Outside) (works : Works words ended before middle) (only : OnlyWritesReport middle now) where
+  -- the last line or a front of it stands behind what was reported
+  pub writes : (line : List ℕ) (r : Result (Unit {0}) Failed) → line ≡ last_line ended → OnOk r (now.report ≡ appended middle.report line) →
+      OnErr r ((n : ℕ) × (now.report ≡ appended middle.report (take n line))) → Counts middle.write_faults now.write_faults r → Writes words ended before now
+  writes line (Ok done) is all front counts = record {
+    output = works.output;
+    report = works.report;
+    last = line;
+    out = only.out ∙ works.to_output;
+    reported = all ∙ ap (λ (o : Option (List ℕ)). appended o line) works.to_report ∙ appended_twice before.report works.report line;
+    right = works.right;
+    silent = works.silent;
+    last_front = subst (λ (xs : List ℕ). IsFront line xs) is (whole_front line);
+    last_whole = inl is;
+  }
+  writes line (Err failed) is all front counts = record {
+    output = works.output;
+    report = works.report;
+    last = take front.0 line;
+    out = only.out ∙ works.to_output;
+    reported = front.1 ∙ ap (λ (o : Option (List ℕ)). appended o (take front.0 line)) works.to_report ∙ appended_twice before.report works.report (take front.0 line);
+    right = works.right;
+    silent = works.silent;
+    last_front = subst (λ (xs : List ℕ). IsFront (take front.0 line) xs) is (take_is_front front.0 line);
+    last_whole = inr (let a = works.never_falls in let b = counts.failed in omega arith);
+  }
+
+opens_so_far : (words : Result Job WordsFault) (ended : Ended) (before middle now : Outside) → now.opens ≡ middle.opens → Opens words ended before middle → Opens words ended before now
+opens_so_far (Err fault) ended before middle now same opens = same ∙ opens
+opens_so_far (Ok job) Done before middle now same opens = same ∙ opens
+opens_so_far (Ok job) WriteFault before middle now same opens = same ∙ opens
+opens_so_far (Ok job) OpenFault before middle now same opens = (opens.0, same ∙ opens.1)
+opens_so_far (Ok job) OutOfMemory before middle now same opens = (opens.0, same ∙ opens.1)
+opens_so_far (Ok job) (BadWords cause) before middle now same opens = same ∙ opens
+opens_so_far (Ok job) (BadInput line fault) before middle now same opens = same ∙ opens
+opens_so_far (Ok job) (NotYet candidate) before middle now same opens = same ∙ opens
+opens_so_far (Ok job) (TooMuchInput limit) before middle now same opens = same ∙ opens
+opens_so_far (Ok job) ReadFault before middle now same opens = same ∙ opens
+
+pub opens_kept : (words : Result Job WordsFault) (ended : Ended) (before middle now : Outside) → Works words ended before middle → OnlyWritesReport middle now → Opens words ended before now
+opens_kept words ended before middle now works only = opens_so_far words ended before middle now only.opens works.opens
+
+cause_so_far : (ended : Ended) (before middle now : Outside) → now.open_faults ≡ middle.open_faults → now.read_faults ≡ middle.read_faults → middle.write_faults ≤ now.write_faults →
+    HasCause ended before middle → HasCause ended before now
+cause_so_far OpenFault before middle now opens reads writes cause = omega arith
+cause_so_far ReadFault before middle now opens reads writes cause = omega arith
+cause_so_far WriteFault before middle now opens reads writes cause = omega arith
+cause_so_far Done before middle now opens reads writes cause = tt
+cause_so_far OutOfMemory before middle now opens reads writes cause = tt
+cause_so_far (BadWords fault) before middle now opens reads writes cause = tt
+cause_so_far (BadInput line fault) before middle now opens reads writes cause = tt
+cause_so_far (NotYet candidate) before middle now opens reads writes cause = tt
+cause_so_far (TooMuchInput limit) before middle now opens reads writes cause = tt
+
+pub cause_kept : (words : Result Job WordsFault) (ended : Ended) (before middle now : Outside) → Works words ended before middle → OnlyWritesReport middle now → middle.write_faults ≤ now.write_faults → HasCause ended before now
+cause_kept words ended before middle now works only rises = cause_so_far ended before middle now only.open_faults only.read_faults rises works.cause
+
+whole_of_all : (job : Job) (told : Option (List ℕ)) (ended : Ended) (output report : List ℕ) → WroteAll job told ended output report → IfSome told (λ bytes. (whole : Whole) × IsWhole job bytes whole × (ended ≡ whole.ended))
+whole_of_all job None ended output report wrote = tt
+whole_of_all job (Some bytes) ended output report wrote = (wrote.0, wrote.1, wrote.2)
+
+-- without a fault of the host, what was written is all that is right
+pub completes : (words : Result Job WordsFault) (ended : Ended) (before now : Outside) (output report : List ℕ) → IsRun words before ended output report → HasCause ended before now → NoFault before now → Completes words before ended
+completes (Err fault) ended before now output report run cause none = run.0
+completes (Ok job) OpenFault before now output report run cause none = absurd (none.opens cause)
+completes (Ok job) ReadFault before now output report run cause none = absurd (none.reads cause)
+completes (Ok job) WriteFault before now output report run cause none = absurd (none.writes cause)
+completes (Ok job) OutOfMemory before now output report run cause none = tt
+completes (Ok job) Done before now output report run cause none = whole_of_all job _ Done output report run
+completes (Ok job) (BadWords fault) before now output report run cause none = whole_of_all job _ (BadWords fault) output report run
+completes (Ok job) (BadInput line fault) before now output report run cause none = whole_of_all job _ (BadInput line fault) output report run
+completes (Ok job) (NotYet candidate) before now output report run cause none = whole_of_all job _ (NotYet candidate) output report run
+completes (Ok job) (TooMuchInput limit) before now output report run cause none = whole_of_all job _ (TooMuchInput limit) output report run

@@ -1,0 +1,10 @@
+mod Answered
+mod Cuts
+mod Endings
+mod Entries
+mod Fronts
+mod Gathering
+mod Lines
+mod ReportLines
+mod Runs
+mod Writing

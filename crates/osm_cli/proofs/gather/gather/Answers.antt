@@ -1,0 +1,18 @@
+use Rattle.std.proofs.Common.{rules, ◌∙◌, ap, sym, ℕ, ◌++◌, take, List, Option, arith, length-append, length-take}
+use Rattle.osm_host.specs.Outside.{preceded}
+use Rattle.osm_host.proofs.Streams.{preceded_twice}
+use Rattle.osm_cli.proofs.Gathering.{kept_to_limit}
+use Rattle.osm_cli.proofs.gather.gather.Goals as goal
+
+pub returns-then-room-count-clause-gathers : goal.returns-then-room-count-clause-gathers
+returns-then-room-count-clause-gathers g c =
+    let i = c.loop-count.invariant in
+    let e = c.in-Ok.ensures in
+    let piece : List ℕ = take c.in-Ok.count c.read.new.buf in
+    record {
+      taken = c.loop-count.bytes.items ++ piece;
+      left = i.taken ∙ ap (λ (o : Option (List ℕ)). preceded c.loop-count.bytes.items o) e.taken
+          ∙ preceded_twice c.loop-count.bytes.items piece (g.H.Host.seen c.read.new.self).left;
+      kept = c.in_ok-extend_from_slice.ensures.items ∙ sym (kept_to_limit c.loop-count.bytes.items c.read.new.buf c.args.limit c.loop-count.room c.in-Ok.count i.size (search rules));
+      stop = omega (arith, length-append c.loop-count.bytes.items piece, length-take c.in-Ok.count c.read.new.buf);
+    }

@@ -1,0 +1,14 @@
+use Rattle.std.proofs.Common.{◌≡◌, ◌+◌, length}
+use Rattle.osm_host.specs.Outside.{preceded, OnlyReads}
+use Rattle.osm_cli.proofs.gather.gather.Given as goal
+
+abbrev pub invariant-loop-count : goal.invariant-loop-count
+invariant-loop-count g l = record {
+  size : length l.bytes.items + l.room ≡ l.limit;
+  taken : (g.H.Host.seen l.fn.host).left ≡ preceded l.bytes.items (g.H.Host.seen l.host).left;
+  no_fault : (g.H.Host.seen l.host).read_faults ≡ (g.H.Host.seen l.fn.host).read_faults;
+  rest : OnlyReads (g.H.Host.seen l.fn.host) (g.H.Host.seen l.host);
+}
+
+abbrev pub decreases-loop-count : goal.decreases-loop-count
+decreases-loop-count g l = l.room

@@ -1,0 +1,27 @@
+use Rattle.osm_cli.proofs.Answered.{whole_read, front_refused, limit_passed, read_failed}
+use Rattle.osm_cli.proofs.reading.read_opened.Goals as goal
+
+pub returns-in-AtEnd-clause-reads : goal.returns-in-AtEnd-clause-reads
+returns-in-AtEnd-clause-reads g c =
+    whole_read c.args.limit c.args.longest (g.H.Host.seen c.args.host.now) (g.H.Host.seen c.gather.new.host) c.in-Ok.gathered c.as_slice-bytes.result.now
+    c.in-Ok.ensures.gathers c.as_slice-bytes.ensures.value c.read_lines.result c.in-AtEnd.is c.read_lines.ensures
+
+pub returns-in-Ok-read_lines-clause-reads : goal.returns-in-Ok-read_lines-clause-reads
+returns-in-Ok-read_lines-clause-reads g c =
+    limit_passed c.args.limit c.args.longest (g.H.Host.seen c.args.host.now) (g.H.Host.seen c.gather.new.host) c.in-Ok.gathered c.as_slice-bytes.result.now
+    c.in-Ok.ensures.gathers c.as_slice-bytes.ensures.value c.in-Ok-read_lines.field-0 c.in-PastLimit.is c.in-Ok-read_lines.ensures
+
+pub returns-in-PastLimit-clause-reads : goal.returns-in-PastLimit-clause-reads
+returns-in-PastLimit-clause-reads g c =
+    front_refused c.args.limit c.args.longest (g.H.Host.seen c.args.host.now) (g.H.Host.seen c.gather.new.host) c.in-Ok.gathered c.as_slice-bytes.result.now
+    c.in-Ok.ensures.gathers c.as_slice-bytes.ensures.value c.in-Err.error c.in-Err.ensures
+
+pub returns-in-Ok-read_lines-2-clause-reads : goal.returns-in-Ok-read_lines-2-clause-reads
+returns-in-Ok-read_lines-2-clause-reads g c =
+    read_failed c.args.limit c.args.longest (g.H.Host.seen c.args.host.now) (g.H.Host.seen c.gather.new.host) c.in-Ok.gathered c.as_slice-bytes.result.now
+    c.in-Ok.ensures.gathers c.as_slice-bytes.ensures.value c.in-Ok-read_lines-2.field-0 c.in-Ok-read_lines-2.ensures
+
+pub returns-clause-reads : goal.returns-clause-reads
+returns-clause-reads g c =
+    front_refused c.args.limit c.args.longest (g.H.Host.seen c.args.host.now) (g.H.Host.seen c.gather.new.host) c.in-Ok.gathered c.as_slice-bytes.result.now
+    c.in-Ok.ensures.gathers c.as_slice-bytes.ensures.value c.in-Err-read_lines.error c.in-Err-read_lines.ensures

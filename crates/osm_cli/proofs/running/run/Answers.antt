@@ -1,0 +1,25 @@
+use Rattle.std.proofs.Common.{map, string_bytes, ◌∙◌}
+use Rattle.osm_cli.specs.Words.{job_asked}
+use Rattle.osm_cli.proofs.Endings.{writes, opens_kept, cause_kept, completes}
+use Rattle.osm_cli.proofs.running.run.Goals as goal
+
+pub returns-clause-writes : goal.returns-clause-writes
+returns-clause-writes g c =
+    writes (job_asked (map string_bytes c.args.words.now)) c.work-ended.result (g.H.Host.seen c.args.host.now) (g.H.Host.seen c.work-ended.new.host) (g.H.Host.seen c.write_all_report.new.host)
+    c.work-ended.ensures c.write_all_report.ensures.rest c.as_slice.result.now c.write_all_report.result (c.as_slice.ensures ∙ c.last_line-line.ensures)
+    c.write_all_report.ensures.all c.write_all_report.ensures.front c.write_all_report.ensures.cause
+
+pub returns-clause-opens : goal.returns-clause-opens
+returns-clause-opens g c =
+    opens_kept (job_asked (map string_bytes c.args.words.now)) c.work-ended.result (g.H.Host.seen c.args.host.now) (g.H.Host.seen c.work-ended.new.host) (g.H.Host.seen c.write_all_report.new.host)
+    c.work-ended.ensures c.write_all_report.ensures.rest
+
+pub returns-clause-cause : goal.returns-clause-cause
+returns-clause-cause g c =
+    cause_kept (job_asked (map string_bytes c.args.words.now)) c.work-ended.result (g.H.Host.seen c.args.host.now) (g.H.Host.seen c.work-ended.new.host) (g.H.Host.seen c.write_all_report.new.host)
+    c.work-ended.ensures c.write_all_report.ensures.rest c.write_all_report.ensures.cause.never_falls
+
+pub returns-clause-complete : goal.returns-clause-complete
+returns-clause-complete g c = λ none.
+    completes (job_asked (map string_bytes c.args.words.now)) c.work-ended.result (g.H.Host.seen c.args.host.now) (g.H.Host.seen c.write_all_report.new.host)
+    c.work-ended.ensures.output c.work-ended.ensures.report c.work-ended.ensures.right (returns-clause-cause g c) none

@@ -1,0 +1,23 @@
+-- What was taken off an input, and what of it was kept.
+use Rattle.std.specs.Prelude.{◌≡◌, ◌<◌, ◌≤◌, ℕ, List, [], length, take, IfSome}
+use Rattle.osm_host.specs.Outside.{Outside, preceded}
+use Rattle.osm_cli.specs.declared.gather.Stop.{Stop}
+use Rattle.osm_cli.specs.declared.gather.Stop.TheVariants.{AtEnd, PastLimit, ReadFault}
+use Rattle.osm_cli.specs.declared.gather.Gathered.{Gathered}
+
+-- nothing is left of the input
+abbrev pub HasEnded : Outside → Type 0
+HasEnded now = IfSome now.left (λ left. left ≡ [])
+
+-- the stop is that of a run of reads that took these bytes
+abbrev pub IsStop : ℕ → List ℕ → Outside → Stop → Type 0
+IsStop limit taken now AtEnd = (length taken ≤ limit) × HasEnded now
+IsStop limit taken now PastLimit = limit < length taken
+IsStop limit taken now ReadFault = length taken ≤ limit
+
+-- These bytes were taken off the input; up to the limit they were kept.
+pub record Gathers (limit : ℕ) (before now : Outside) (gathered : Gathered) : Type 0 where
+  pub taken : List ℕ
+  pub left : before.left ≡ preceded taken now.left
+  pub kept : gathered.bytes.items ≡ take limit taken
+  pub stop : IsStop limit taken now gathered.stop

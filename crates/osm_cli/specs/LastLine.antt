@@ -1,0 +1,51 @@
+-- The last line of a report: how the run ended.
+use Rattle.std.specs.Prelude.{ℕ, ℤ, List, [], ◌++◌, codes, decimal}
+use Rattle.std.specs.Fmt.{signed_decimal}
+use Rattle.opl_reader.specs.declared.fault.LineFault.{LineFault}
+use Rattle.opl_reader.specs.declared.object.ObjectKind.{ObjectKind}
+use Rattle.opl_reader.specs.declared.object.ObjectKind.TheVariants.{Node, Way, Relation}
+use Rattle.opl_reader.specs.Fault.{text_of}
+use Rattle.osm_cli.specs.declared.words.WordsFault.{WordsFault}
+use Rattle.osm_cli.specs.declared.words.WordsFault.TheVariants.{NoCommand, UnknownCommand, NotTaken}
+use Rattle.osm_cli.specs.declared.ended.InputFault.{InputFault}
+use Rattle.osm_cli.specs.declared.ended.InputFault.TheVariants.{Line, TooLong, Duplicate}
+use Rattle.osm_cli.specs.declared.ended.Ended.{Ended}
+use Rattle.osm_cli.specs.declared.ended.Ended.TheVariants.{Done, BadWords, BadInput, NotYet, TooMuchInput, OpenFault, ReadFault, WriteFault, OutOfMemory}
+
+abbrev pub words_line : WordsFault → List ℕ
+words_line NoCommand = codes "osmpoly: no command\n"
+words_line UnknownCommand = codes "osmpoly: unknown command\n"
+words_line NotTaken = codes "osmpoly: words refused\n"
+
+abbrev pub kind_word : ObjectKind → List ℕ
+kind_word Node = codes "node"
+kind_word Way = codes "way"
+kind_word Relation = codes "relation"
+
+-- the beginning of a line about a line of the input
+abbrev pub line_begun : ℕ → List ℕ
+line_begun line = codes "osmpoly: line " ++ decimal line ++ codes ": "
+
+-- of a line without a reading
+abbrev pub bad_line : ℕ → LineFault → List ℕ
+bad_line line fault = line_begun line ++ text_of fault.kind ++ codes " at byte " ++ decimal fault.place ++ codes "\n"
+
+-- of a line that tells an object again
+abbrev pub again_line : ℕ → ObjectKind → ℤ → List ℕ
+again_line line kind id = line_begun line ++ kind_word kind ++ codes " " ++ signed_decimal id ++ codes " again\n"
+
+abbrev pub fault_line : ℕ → InputFault → List ℕ
+fault_line line (Line fault) = bad_line line fault
+fault_line line TooLong = line_begun line ++ codes "too long\n"
+fault_line line (Duplicate kind id) = again_line line kind id
+
+abbrev pub last_line : Ended → List ℕ
+last_line Done = []
+last_line (BadWords cause) = words_line cause
+last_line (BadInput line fault) = fault_line line fault
+last_line (NotYet candidate) = codes "osmpoly: not built yet\n"
+last_line (TooMuchInput limit) = codes "osmpoly: too much input\n"
+last_line OpenFault = codes "osmpoly: open fault\n"
+last_line ReadFault = codes "osmpoly: read fault\n"
+last_line WriteFault = codes "osmpoly: write fault\n"
+last_line OutOfMemory = codes "osmpoly: out of memory\n"

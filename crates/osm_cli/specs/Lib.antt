@@ -1,0 +1,15 @@
+pub mod Gathering
+pub mod Input
+pub mod Job
+pub mod LastLine
+pub mod LineSteps
+pub mod Lines
+pub mod Reading
+pub mod Status
+pub mod Words
+pub mod WordsSeen
+pub mod Entry
+pub mod Run
+pub mod Whole
+pub mod Entries
+pub mod RunSteps

@@ -1,0 +1,105 @@
+-- What a run does with its words and its host.
+use Rattle.std.specs.Prelude.{◌≡◌, ◌⊎◌, ℕ, Bool, true, false, List, [], ◌++◌, take, Option, None, Some, IfSome, Result, Ok, Err}
+use Rattle.osm_host.specs.Outside.{Outside, appended, HasRisen}
+use Rattle.osm_cli.specs.declared.words.WordsFault.{WordsFault}
+use Rattle.osm_cli.specs.declared.ended.Ended.{Ended}
+use Rattle.osm_cli.specs.declared.ended.Ended.TheVariants.{Done, BadWords, OpenFault, ReadFault, WriteFault, OutOfMemory}
+use Rattle.osm_cli.specs.Job.{Job, input_of, opens_of}
+use Rattle.osm_cli.specs.Lines.{lines_begun}
+use Rattle.osm_cli.specs.Input.{AreGood}
+use Rattle.osm_cli.specs.Whole.{Whole, IsWhole, input_limit, longest_line}
+use Rattle.osm_cli.specs.LastLine.{last_line}
+
+-- xs is a front of ys
+pub record IsFront (xs ys : List ℕ) : Type 0 where
+  pub rest : List ℕ
+  pub whole : ys ≡ xs ++ rest
+
+-- ---- what was written
+
+-- fronts of what is right for the input, where the host tells it
+abbrev pub WroteFront : Job → Option (List ℕ) → List ℕ → List ℕ → Type 0
+WroteFront job told output report = IfSome told (λ bytes. (whole : Whole) × IsWhole job bytes whole × IsFront output whole.output × IsFront report whole.report)
+
+-- the whole of it, and how it is to end
+abbrev pub WroteAll : Job → Option (List ℕ) → Ended → List ℕ → List ℕ → Type 0
+WroteAll job told ended output report = IfSome told (λ bytes. (whole : Whole) × IsWhole job bytes whole × (ended ≡ whole.ended) × (output ≡ whole.output) × (report ≡ whole.report))
+
+-- no line is bad among those that were read before a read failed
+pub record IsGoodFront (bytes : List ℕ) : Type 0 where
+  pub taken : List ℕ
+  pub front : IsFront taken bytes
+  pub good : AreGood longest_line (lines_begun longest_line (take input_limit taken))
+
+-- What was written out, and into the report before its last line, is right for the input of a job.
+abbrev pub IsWritten : Job → Option (List ℕ) → Ended → List ℕ → List ℕ → Type 0
+IsWritten job told OpenFault output report = (output ≡ []) × (report ≡ [])
+IsWritten job told ReadFault output report = (output ≡ []) × (report ≡ []) × IfSome told IsGoodFront
+IsWritten job told WriteFault output report = WroteFront job told output report
+IsWritten job told OutOfMemory output report = ((output ≡ []) × (report ≡ [])) ⊎ WroteFront job told output report
+IsWritten job told ended output report = WroteAll job told ended output report
+
+-- with these endings nothing is written out
+abbrev pub is_silent : Ended → Bool
+is_silent Done = false
+is_silent WriteFault = false
+is_silent OutOfMemory = false
+is_silent _ = true
+
+-- The words are taken, and what was written is right for their job; or they are refused and nothing was written.
+abbrev pub IsRun : Result Job WordsFault → Outside → Ended → List ℕ → List ℕ → Type 0
+IsRun (Ok job) before ended output report = IsWritten job (before.named (input_of job)) ended output report
+IsRun (Err fault) before ended output report = (ended ≡ BadWords fault) × (output ≡ []) × (report ≡ [])
+
+-- What a run wrote: an output, and a report with its last line or, where that write failed, a front of it.
+pub record Writes (words : Result Job WordsFault) (ended : Ended) (before after : Outside) : Type 0 where
+  pub output : List ℕ
+  pub report : List ℕ
+  pub last : List ℕ
+  pub out : after.out ≡ appended before.out output
+  pub reported : after.report ≡ appended before.report (report ++ last)
+  pub right : IsRun words before ended output report
+  pub silent : is_silent ended ≡ true → (output ≡ []) × (report ≡ [])
+  pub last_front : IsFront last (last_line ended)
+  pub last_whole : (last ≡ last_line ended) ⊎ HasRisen before.write_faults after.write_faults
+
+-- ---- what was opened
+
+-- The opens are those of the job, as far as the run came.
+abbrev pub Opens : Result Job WordsFault → Ended → Outside → Outside → Type 0
+Opens (Ok job) Done before after = after.opens ≡ appended before.opens (opens_of job)
+Opens (Ok job) WriteFault before after = after.opens ≡ appended before.opens (opens_of job)
+Opens (Ok job) OpenFault before after = (n : ℕ) × (after.opens ≡ appended before.opens (take n (opens_of job)))
+Opens (Ok job) OutOfMemory before after = (n : ℕ) × (after.opens ≡ appended before.opens (take n (opens_of job)))
+Opens (Ok job) ended before after = after.opens ≡ appended before.opens (take 1 (opens_of job))
+Opens (Err fault) ended before after = after.opens ≡ before.opens
+
+-- ---- why it ended so
+
+-- why words were refused
+abbrev pub words_fault : Ended → Option WordsFault
+words_fault (BadWords cause) = Some cause
+words_fault _ = None
+
+abbrev pub fault_of : Result Job WordsFault → Option WordsFault
+fault_of (Ok job) = None
+fault_of (Err fault) = Some fault
+
+-- A fault is answered only where the count of its kind rose.
+abbrev pub HasCause : Ended → Outside → Outside → Type 0
+HasCause OpenFault before after = HasRisen before.open_faults after.open_faults
+HasCause ReadFault before after = HasRisen before.read_faults after.read_faults
+HasCause WriteFault before after = HasRisen before.write_faults after.write_faults
+HasCause ended before after = Unit {0}
+
+-- No count of faults rose, or stands at its last value.
+pub record NoFault (before after : Outside) : Type 0 where
+  pub opens : HasRisen before.open_faults after.open_faults → ⊥
+  pub reads : HasRisen before.read_faults after.read_faults → ⊥
+  pub writes : HasRisen before.write_faults after.write_faults → ⊥
+
+-- The run ends as is right for its words and its input, or for want of memory.
+abbrev pub Completes : Result Job WordsFault → Outside → Ended → Type 0
+Completes (Ok job) before OutOfMemory = Unit {0}
+Completes (Ok job) before ended = IfSome (before.named (input_of job)) (λ bytes. (whole : Whole) × IsWhole job bytes whole × (ended ≡ whole.ended))
+Completes (Err fault) before ended = ended ≡ BadWords fault

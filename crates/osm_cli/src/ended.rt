@@ -1,0 +1,60 @@
+//! How a run ends, and the status that the process ends with.
+
+ghost use Rattle.std.specs.Prelude.{◌≡◌};
+ghost use Rattle.osm_cli.specs.Status.{status_of};
+
+use crate::words::{Command, WordsFault};
+use opl_reader::{LineFault, ObjectKind, ObjectRef};
+
+/// What is wrong with the bad place of an input, a line.
+#[derive(Clone, Copy, Debug, PartialEq, Eq)]
+pub enum InputFault {
+    /// The line has no reading.
+    Line(LineFault),
+    /// The line is longer than lines may be.
+    TooLong,
+    /// The line tells a live object whose kind and id an earlier live object has.
+    Duplicate { kind: ObjectKind, id: i64 },
+}
+
+/// How a run ends.
+#[derive(Clone, Copy, Debug, PartialEq, Eq)]
+pub enum Ended {
+    /// The whole output and the whole report are written.
+    Done,
+    /// The words aren't taken.
+    BadWords { cause: WordsFault },
+    /// A line of the input, counted from 1, is its bad place.
+    BadInput { line: u64, fault: InputFault },
+    /// The area of this candidate can't be made yet.
+    NotYet { candidate: ObjectRef },
+    /// The input has more bytes than this limit.
+    TooMuchInput { limit: u64 },
+    /// An open failed.
+    OpenFault,
+    /// A read failed.
+    ReadFault,
+    /// A write failed.
+    WriteFault,
+    /// Memory was wanting.
+    OutOfMemory,
+}
+
+/// The status of the process after a run of a command: 0 for Done, 2 for words that aren't taken, 5 for want of memory,
+/// 1 for the others.
+pub fn status(command: Command, ended: &Ended) -> u8
+    ensures { result ≡ status_of command ended.now }
+{
+    let _ = command;
+    match ended {
+        Ended::Done => 0,
+        Ended::BadWords { .. } => 2,
+        Ended::OutOfMemory => 5,
+        Ended::BadInput { .. }
+        | Ended::NotYet { .. }
+        | Ended::TooMuchInput { .. }
+        | Ended::OpenFault
+        | Ended::ReadFault
+        | Ended::WriteFault => 1,
+    }
+}

@@ -1,0 +1,74 @@
+use super::*;
+use osm_geom::{Edge, Loc, Point, Seg};
+use osm_segments::{conflicts, odd_nodes, survivors};
+use std::alloc::Global;
+use std::test::Fail;
+
+fn loc(word: &str) -> Result<Loc, Fail> {
+    let (x, y) = word.split_once(',').unwrap_or((word, ""));
+    Loc::new(x.parse().unwrap_or(i64::MAX), y.parse().unwrap_or(i64::MAX)).ok_or_else(|| Fail::new(
+        "out of range",
+    ))
+}
+
+/// The steps between neighbouring locations of several closed lines, parted by `/`.
+fn steps(alloc: Global, lines: &str) -> Result<Vec<(Loc, Loc)>, Fail> {
+    let mut steps = Vec::new(alloc);
+    for line in lines.split('/') {
+        let mut last = None;
+        for word in line.split_whitespace() {
+            let at = loc(word)?;
+            if let Some(from) = last {
+                steps.push((from, at))?;
+            }
+            last = Some(at);
+        }
+    }
+    Ok(steps)
+}
+
+fn segs(alloc: Global, steps: &[(Loc, Loc)]) -> Result<Vec<Seg>, Fail> {
+    let mut segs = Vec::new(alloc);
+    for (from, to) in steps {
+        segs.push(Seg::new(*from, *to).ok_or_else(|| Fail::new("no segment"))?)?;
+    }
+    Ok(segs)
+}
+
+/// The survivors of segments, directed; none where there is a conflict or an odd node.
+fn directed(alloc: Global, segs: &[Seg]) -> Result<Vec<Edge>, Fail> {
+    let kept = survivors(alloc, segs)?;
+    let pairs = conflicts(alloc, &kept)?;
+    let odd = odd_nodes(alloc, &kept)?;
+    if !pairs.is_empty() || !odd.is_empty() {
+        return Err(Fail::new("not closed"));
+    }
+    Ok(direct(alloc, &kept)?)
+}
+
+#[test]
+fn edges_have_the_printed_directions(rt: HostRuntime) -> Result<(), Fail> {
+    let alloc = rt.alloc();
+    let rows = [
+        ("touching triangle", "0,0 4,0 4,4 0,4 0,0 / 0,0 1,2 2,1 0,0"),
+        (
+            "two crescents",
+            "0,0 4,0 4,2 2,2 2,4 0,4 0,0 / 4,2 6,2 6,6 2,6 2,4 4,4 4,2",
+        ),
+        (
+            "four nested squares",
+            "0,0 9,0 9,9 0,9 0,0 / 1,1 1,8 8,8 8,1 1,1 / 2,2 7,2 7,7 2,7 2,2 / 3,3 3,6 6,6 6,3 3,3",
+        ),
+    ];
+    for (name, printed) in rows {
+        let steps = steps(alloc, printed)?;
+        let edges = directed(alloc, &segs(alloc, &steps)?)?;
+        assert_eq!(rt; edges.len(), steps.len(), "{name}");
+        for (from, to) in &steps {
+            let (from, to) = (Point::Lattice(*from), Point::Lattice(*to));
+            let found = edges.iter().any(|e| e.from == from && e.to == to);
+            assert!(rt; found, "{name}");
+        }
+    }
+    Ok(())
+}

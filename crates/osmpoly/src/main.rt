@@ -1,0 +1,35 @@
+//! Makes polygons of OpenStreetMap data in OPL text.
+#![tactic(auto)]
+
+use osm_cli::{command_of, run, status};
+use osm_host::StdHost;
+use std::env;
+use std::io::ErrorKind;
+use std::process::ExitCode;
+
+/// The status where the words can't be held.
+const NO_MEMORY: u8 = 5;
+
+/// The status where a word isn't text.
+const NO_TEXT: u8 = 6;
+
+fn main(rt: HostRuntime) -> ExitCode {
+    let alloc = rt.alloc();
+    let words = match words_given(&rt) {
+        Ok(words) => words,
+        Err(status) => return ExitCode::from(status),
+    };
+    let mut host = StdHost::new(rt);
+    let ended = run(alloc, &words, &mut host);
+    ExitCode::from(status(command_of(&words), &ended))
+}
+
+/// The words after the program's name, or the status that says why they can't be had.
+fn words_given(rt: &HostRuntime) -> Result<Vec<String>, u8> {
+    let words = match env::args(rt) {
+        Ok(words) => words,
+        Err(error) if error.kind() == ErrorKind::OutOfMemory => return Err(NO_MEMORY),
+        Err(_) => return Err(NO_TEXT),
+    };
+    words.skip(1).collect(rt.alloc()).map_err(|_| NO_MEMORY)
+}
