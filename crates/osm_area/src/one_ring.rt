@@ -1,6 +1,6 @@
 //! The one ring of a candidate without problems.
 
-ghost use Rattle.std.specs.Prelude.{◌≡◌, [], IfOk, MatchOption, OnOk, ◌++◌};
+ghost use Rattle.std.specs.Prelude.{◌≡◌, [], IfOk, MatchOption, OnOk, ◌++◌, ◌∷◌};
 ghost use Rattle.osm_geom.specs.Seg.{seg_cmp};
 ghost use Rattle.osm_lists.specs.Rising.{IsRising};
 ghost use Rattle.osm_sides.specs.Survivors.{HasEvenNodes};
@@ -38,9 +38,17 @@ fn path_along(alloc: Global, edges: &[Edge]) -> Result<Path, AllocError>
 {
     let mut path = Path::new(alloc);
     for edge in edges {
-        if let Point::Lattice(at) = edge.from {
-            path.push(at)?;
-        }
+        push_start(&mut path, edge)?;
     }
     Ok(path)
+}
+
+// Adds the location that an edge leaves.
+fn push_start(path: &mut Path, edge: &Edge) -> Result<(), AllocError>
+    ensures { OnOk result (path.new ≡ path.old ++ path_along (edge.now ∷ [])) }
+{
+    match edge.from {
+        Point::Lattice(at) => path.push(at),
+        Point::OnVertical { .. } | Point::OnHorizontal { .. } => Ok(()),
+    }
 }
