@@ -1,9 +1,8 @@
-pub mod Once
 pub mod MemberWays
 pub mod Missing
-pub mod Segments
-pub mod Problems
 pub mod Notes
-pub mod Ring
-pub mod Rectangle
+pub mod Once
+pub mod OneRing
 pub mod Outcome
+pub mod Problems
+pub mod Segments

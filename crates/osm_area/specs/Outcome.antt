@@ -1,5 +1,5 @@
 -- What comes of a candidate.
-use Rattle.std.specs.Prelude.{◌≡◌, ◌≢◌, true, false, List, [], ℤ}
+use Rattle.std.specs.Prelude.{◌≢◌, List, [], ℤ}
 use Rattle.osm_geom.specs.declared.seg.Seg.{Seg}
 use Rattle.opl_reader.specs.declared.object.ObjectRef.{ObjectRef}
 use Rattle.opl_reader.specs.declared.object.Object.{Object}
@@ -10,18 +10,17 @@ use Rattle.osm_area.specs.Problems.{AreProblemsGiven, SurvivorsAre}
 use Rattle.osm_area.specs.Notes.{AreNotesGiven}
 use Rattle.osm_area.specs.MemberWays.{ways_named_twice}
 use Rattle.osm_area.specs.Missing.{missing}
-use Rattle.osm_area.specs.Ring.{IsRingOf}
-use Rattle.osm_area.specs.Rectangle.{is_rectangle}
+use Rattle.osm_area.specs.OneRing.{IsOneRing, IsNotOneRing}
 
 -- of a candidate with these missing parts, ways named twice and segments: its problems, where it has any; else an area of
--- one ring, where its surviving segments are a rectangle
+-- one ring, where its surviving segments are one
 abbrev pub IsOutcomeGiven : List ObjectRef → List ℤ → List Seg → Outcome → Type 0
 IsOutcomeGiven missing ways segments (outcome.Problems list notes) =
     AreProblemsGiven missing segments list × (list ≢ []) × AreNotesGiven missing ways segments notes
 IsOutcomeGiven missing ways segments (outcome.Area path notes) =
-    AreProblemsGiven missing segments [] × SurvivorsAre segments (λ survivors. (is_rectangle survivors ≡ true) × IsRingOf survivors path) × AreNotesGiven missing ways segments notes
+    AreProblemsGiven missing segments [] × SurvivorsAre segments (λ survivors. IsOneRing survivors path) × AreNotesGiven missing ways segments notes
 IsOutcomeGiven missing ways segments outcome.NotYet =
-    AreProblemsGiven missing segments [] × SurvivorsAre segments (λ survivors. is_rectangle survivors ≡ false)
+    AreProblemsGiven missing segments [] × SurvivorsAre segments IsNotOneRing
 
 abbrev pub IsOutcome : List Object → ObjectRef → Outcome → Type 0
 IsOutcome objects candidate outcome = IsOutcomeGiven (missing objects candidate) (ways_named_twice objects candidate) (segments_of objects candidate) outcome

@@ -6,9 +6,9 @@ mod member_ways;
 mod missing;
 mod notes;
 mod once;
+mod one_ring;
 mod outcome;
 mod problems;
-mod rectangle;
 mod segments;
 #[cfg(test)]
 mod tests;

@@ -9,8 +9,8 @@ use crate::member_ways::named_ways;
 use crate::missing::missing;
 use crate::notes::{add_repeats, named_twice};
 use crate::once::each_once;
+use crate::one_ring::one_ring;
 use crate::problems::{missing_problems, problems_among};
-use crate::rectangle::rectangle;
 use crate::segments::segments;
 use opl_reader::ObjectRef;
 use osm_geom::{Path, Seg};
@@ -26,7 +26,7 @@ pub enum Outcome {
     Area { path: Path, notes: Notes },
     /// What keeps it from having an area; at least one problem.
     Problems { list: Problems, notes: Notes },
-    /// Nothing keeps it from having an area, but areas of this shape aren't built yet.
+    /// Nothing keeps it from having an area, but areas of several rings aren't built yet.
     NotYet,
 }
 
@@ -41,7 +41,7 @@ fn complete(alloc: Global, segs: &[Seg], mut notes: Notes) -> Result<Outcome, Al
     if !list.as_slice().is_empty() {
         return Ok(Outcome::Problems { list, notes });
     }
-    match rectangle(alloc, &survivors)? {
+    match one_ring(alloc, &survivors)? {
         Some(path) => Ok(Outcome::Area { path, notes }),
         None => Ok(Outcome::NotYet),
     }

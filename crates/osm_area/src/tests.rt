@@ -180,6 +180,16 @@ fn outcome_of(alloc: Global, nodes: &str, lines: &str) -> Result<String, Fail> {
 }
 
 #[test]
+fn two_rings_are_not_built_yet(rt: HostRuntime) -> Result<(), Fail> {
+    let alloc = rt.alloc();
+    let apart = "n 5 3 0\nn 6 4 0\nn 8 3 1\nw 1 1 2 3 4 1\nw 2 5 6 8 5\nr 5 1 2";
+    assert_eq!(rt; outcome_of(alloc, SQUARE, apart)?.as_str(), "not yet");
+    let touching = "n 5 2 2\nn 6 1 2\nw 7 1 2 3 5 6 3 4 1";
+    assert_eq!(rt; outcome_of(alloc, SQUARE, touching)?.as_str(), "not yet");
+    Ok(())
+}
+
+#[test]
 fn all_ways_to_draw_a_square(rt: HostRuntime) -> Result<(), Fail> {
     let alloc = rt.alloc();
     let ways = "w 7 1 2 3 4 1\nw 7 2 3 4 1 2\nw 7 3 4 1 2 3\nw 7 4 1 2 3 4
@@ -196,7 +206,10 @@ fn shared_side_and_way_named_twice(rt: HostRuntime) -> Result<(), Fail> {
     let alloc = rt.alloc();
     let shared = "n 5 2 0\nn 6 2 1\nw 1 1 2 3 4 1\nw 2 2 5 6 3 2\nr 5 1 2";
     let text = outcome_of(alloc, SQUARE, shared)?;
-    assert_eq!(rt; text.as_str(), "not yet");
+    assert_eq!(rt;
+        text.as_str(),
+        "0 0\n1 0\n2 0\n2 1\n1 1\n0 1\n1 0,1 1 stands 2 times\n"
+    );
     let twice = "w 1 1 2 3 4 1\nw 2 2 3\nw 3 3 2\nr 5 1 2 3 2";
     let text = outcome_of(alloc, SQUARE, twice)?;
     assert_eq!(rt;

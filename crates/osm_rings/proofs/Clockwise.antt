@@ -1,17 +1,14 @@
 -- The clockwise order by signs: a chain, the same as that of directions, and what a sector holds.
-use Rattle.std.proofs.Common.{◌≡◌, ◌≢◌, ℕ, Bool, true, false, not, ◌&&◌, eqb, eqb-true, ℤ, pos, ◌-ℤ◌, ◌+ℤ◌, refl, sym, ap, subst, ◌∙◌, arith}
+use Rattle.std.proofs.Common.{◌≡◌, Bool, true, false, not, ◌&&◌, eqb, eqb-true, ℤ, pos, ◌-ℤ◌, ◌+ℤ◌, refl, sym, ap, subst, ◌∙◌, arith}
 use Rattle.std.specs.Ordering.{is_lt, int_cmp, nat_cmp, ordering_then}
-use Rattle.std.specs.declared.cmp.Ordering.{Ordering}
 use Rattle.std.proofs.lemmas.Int.{ints}
 use Rattle.plane.specs.Sector.{in_sector, sector_by}
-use Rattle.plane.specs.Sign.{Minus, Null, Plus, Sign, is_null, is_plus, negated, sign}
+use Rattle.plane.specs.Sign.{Null, Plus, Sign, is_null, is_plus, negated, sign}
 use Rattle.plane.specs.Vector.{IsDirection, Vector, cross, dot}
-use Rattle.plane.specs.Vector as vector
 use Rattle.plane.proofs.Identities.{same}
-use Rattle.plane.proofs.Products.{cross-self, dot2, frame-agree, frame-dot-agree, lift2, plucker-agree, plucker-dot-agree}
-use Rattle.plane.proofs.Signs.{agree, all, all-out, all2, all2-out, all4, all4-out, imp, imp-out, sign-turned, times, times-back, times-plus}
-use Rattle.winding.proofs.Balance.{crossed, same_bool, same_bool-true}
-use Rattle.winding.proofs.Levels.{cross-neg}
+use Rattle.plane.proofs.Products.{cross-negated, cross-self, dot2, frame-agree, frame-dot-agree, lift2, plucker-agree, plucker-dot-agree}
+use Rattle.plane.proofs.Signs.{agree, all, all-out, all2, all2-out, all4, all4-out, imp, imp-out, same_bool, same_bool-true, sign-reversed, times, times-back, times-plus}
+use Rattle.winding.proofs.Balance.{crossed}
 use Rattle.nesting.proofs.Successors.{is_some, some-signs}
 use Rattle.osm_geom.specs.declared.dir.Dir.{Dir}
 use Rattle.osm_geom.specs.Dir as dir
@@ -86,7 +83,7 @@ ranked_computes : all4 (λ ax ay bx by. all (ranked_2 ax ay bx by)) ≡ true
 ranked_computes = refl
 
 below-zero : (z : ℤ) → int_cmp z (pos 0) ≡ ordering_of (negated (sign z))
-below-zero z = int_cmp-is z (pos 0) ∙ ap ordering_of (sign-turned z (pos 0 -ℤ z) (sum-none z))
+below-zero z = int_cmp-is z (pos 0) ∙ ap ordering_of (sign-reversed z (pos 0 -ℤ z) (sum-none z))
   where
     sum-none : (z : ℤ) → z +ℤ (pos 0 -ℤ z) ≡ pos 0
     sum-none z = omega (arith, ints)
@@ -120,11 +117,11 @@ apart a b = not (is_null (sign (cross a b)) && is_plus (sign (dot a b)))
 pub sector-holds : (d a b : Vector) → IsDirection d → IsDirection a → IsDirection b → apart a b ≡ true → is_met_before d b a ≡ false → in_sector b d a ≡ 1
 sector-holds d a b pd pa pb n h =
     let ax = sign (dot d a) in let ay = sign (cross d a) in let bx = sign (dot d b) in let by = sign (cross d b) in let k = sign (cross a b) in let g = sign (dot a b) in
-    let back : is_met_before d b a ≡ earlier bx by ax ay (negated k) = ap (λ s. earlier bx by ax ay s) (cross-neg a b) in
+    let back : is_met_before d b a ≡ earlier bx by ax ay (negated k) = ap (λ s. earlier bx by ax ay s) (cross-negated a b) in
     let first : not (earlier bx by ax ay (negated k)) ≡ true = ap not (sym back ∙ h) in
     let c = all2-out (held_2 ax ay bx by) (all4-out (λ ax ay bx by. all2 (held_2 ax ay bx by)) held_computes ax ay bx by) k g in
     let r = eqb-true _ _ (imp-out _ _ (imp-out _ _ (imp-out _ _ (imp-out _ _ (imp-out _ _ (imp-out _ _ c (some-signs d a pd pa)) (some-signs d b pd pb)) (crossed-at d a b pd)) (dot-at d a b pd)) n) first) in
     ap (λ s. sector_by s (sign (cross b a)) (sign (dot b d)) (sign (cross b d)) ay) (ap sign (dot-back a b))
-    ∙ (ap (λ s. sector_by g s (sign (dot b d)) (sign (cross b d)) ay) (cross-neg a b)
+    ∙ (ap (λ s. sector_by g s (sign (dot b d)) (sign (cross b d)) ay) (cross-negated a b)
     ∙ (ap (λ s. sector_by g (negated k) s (sign (cross b d)) ay) (ap sign (dot-back d b))
-    ∙ (ap (λ s. sector_by g (negated k) bx s ay) (cross-neg d b) ∙ r)))
+    ∙ (ap (λ s. sector_by g (negated k) bx s ay) (cross-negated d b) ∙ r)))

@@ -1,5 +1,5 @@
 -- Directed segments run along whole segments.
-use Rattle.std.proofs.Common.{◌≡◌, List, [], ◌∷◌, All, Bool, true, false, cond, drop, get_or, length, map, refl, sym, ap, ◌∙◌, arith}
+use Rattle.std.proofs.Common.{◌≡◌, List, [], ◌∷◌, All, Bool, true, false, cond, drop, get_or, length, map, refl, ap, ◌∙◌, arith}
 use Rattle.std.proofs.lemmas.List.Elements.{All-cons, All-nil}
 use Rattle.winding.specs.OddSide as odd_side
 use Rattle.osm_geom.specs.declared.edge.Carrier.TheVariants.{OfSeg}

@@ -1,10 +1,8 @@
 -- Whole segments in the plane multiplied by their common denominator, which is 1.
-use Rattle.std.proofs.Common.{◌≡◌, ℕ, ◌*◌, ◌<◌, List, [], ◌∷◌, length, map, All, ℤ, pos, ◌*ℤ◌, refl, sym, ap, subst, suc, ◌∙◌, arith}
+use Rattle.std.proofs.Common.{◌≡◌, ◌*◌, List, [], ◌∷◌, map, All, pos, ◌*ℤ◌, refl, sym, ap, subst, suc, ◌∙◌, arith}
 use Rattle.std.proofs.lemmas.Int.{ints}
 use Rattle.nesting.specs.RingList.{IsRingList}
 use Rattle.nesting.specs.Walk.{IsWalk}
-use Rattle.plane.specs.Scale.{scaled_point}
-use Rattle.plane.specs.Vector.{Vector}
 use Rattle.plane.proofs.Edges.{same_edge_by}
 use Rattle.plane.proofs.Points.{same_vector}
 use Rattle.winding.specs.Member.{In}
@@ -15,7 +13,7 @@ use Rattle.osm_geom.specs.declared.loc.Loc.{Loc}
 use Rattle.osm_geom.specs.declared.point.Point.{Point}
 use Rattle.osm_geom.specs.declared.point.Point.TheVariants.{Lattice}
 use Rattle.osm_geom.specs.Loc.{vector_of}
-use Rattle.osm_geom.specs.Point.{den_of, whole_of}
+use Rattle.osm_geom.specs.Point.{den_of}
 use Rattle.sided.specs.Multiple.{common_den, edge_times, edges_times, point_times, whole_edges}
 use Rattle.osm_rings.specs.PlaneEdge.{IsWholeSegment, plane_edge, vector_at}
 use Rattle.osm_rings.specs.PlaneRings.{ArePlaneRingsOf, AreSidedInPlane}
@@ -67,10 +65,12 @@ pub rings-multiplied : (es : List Edge) → All IsWholeSegment es → (rs : List
 rings-multiplied es whole rs wholes are = record {
   edges = are.edges;
   walks = λ r i.
-      let w = are.walks r i in
-      (w.0, subst (λ xs. IsWalk xs w.0) (sym (whole-is es whole)) w.1,
+      let w = are.walks r i in (
+        w.0,
+        subst (λ xs. IsWalk xs w.0) (sym (whole-is es whole)) w.1,
         λ e j.
             let we = in-all IsWholeSegment r e (in-all (λ r. All IsWholeSegment r) rs r wholes i) j in
-            subst (λ x. In x w.0) (sym (ap (λ k. edge_times k e) (common-one es whole) ∙ edge-once e we)) (w.2 e j));
+            subst (λ x. In x w.0) (sym (ap (λ k. edge_times k e) (common-one es whole) ∙ edge-once e we)) (w.2 e j),
+      );
   rings = subst IsRingList (sym (ap (λ k. map (edges_times k) rs) (common-one es whole) ∙ rings-once rs wholes)) are.rings;
 }

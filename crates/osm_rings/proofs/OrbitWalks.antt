@@ -1,9 +1,9 @@
 -- The orbits of the map from each place to its successor's are walks.
-use Rattle.std.proofs.Common.{◌≡◌, ◌⊎◌, inl, inr, ℕ, zero, suc, ◌+◌, ◌-◌, ◌<◌, List, [], ◌∷◌, ◌++◌, length, get_or, map, take, All, refl, sym, ap, subst, ◌∙◌, arith, ⊎_elim, Option, Some, None, sum_by}
-use Rattle.std.proofs.lemmas.List.{get_or_default, take_all, length-map}
+use Rattle.std.proofs.Common.{◌≡◌, inl, inr, ℕ, zero, suc, ◌+◌, ◌-◌, ◌<◌, List, [], ◌∷◌, length, get_or, map, take, All, refl, sym, ap, subst, ◌∙◌, arith, Option, Some, sum_by}
+use Rattle.std.proofs.lemmas.List.{take_all}
 use Rattle.std.proofs.lemmas.List.Sums.{sum_by-cons, sum_by-append, sum_by_more}
 use Rattle.nesting.specs.Nesting.{edges_of}
-use Rattle.nesting.specs.Walk.{AreWalks, Follow, HasSameEdges, IsSuccessor, IsWalk, last}
+use Rattle.nesting.specs.Walk.{AreWalks, Follow, IsSuccessor, IsWalk, last}
 use Rattle.plane.specs.Edge.{Edge}
 use Rattle.winding.specs.Member.{In}
 use Rattle.winding.proofs.Members.{in-map-out}

@@ -1,5 +1,5 @@
 -- What is cut off the walks of successors is a ring list.
-use Rattle.std.proofs.Common.{◌≡◌, ◌≢◌, ◌⊎◌, inl, inr, ℕ, suc, zero, ◌+◌, ◌-◌, ◌<◌, ◌≤◌, List, [], ◌∷◌, ◌++◌, length, get_or, map, All, AllPairs, Bool, true, false, Option, Some, Result, Ok, Err, IfOk, refl, sym, ap, subst, ◌∙◌, arith}
+use Rattle.std.proofs.Common.{◌≡◌, ◌≢◌, inl, inr, ℕ, suc, zero, ◌+◌, ◌-◌, ◌<◌, ◌≤◌, List, [], ◌∷◌, length, get_or, map, All, Bool, true, false, Option, Some, Result, Ok, Err, IfOk, refl, sym, ap, subst, ◌∙◌, arith}
 use Rattle.std.proofs.lemmas.List.{get_or-map, length-map, map-append}
 use Rattle.std.proofs.lemmas.List.Elements.{All-cons, All-nil}
 use Rattle.nesting.specs.RingList.{IsRingList}
@@ -12,7 +12,7 @@ use Rattle.plane.proofs.Points.{same_point-refl}
 use Rattle.winding.specs.Member.{EachPair, In}
 use Rattle.winding.specs.Ring.{IsPath}
 use Rattle.winding.specs.Ring as winding
-use Rattle.winding.proofs.Members.{in-map, in-map-out}
+use Rattle.winding.proofs.Members.{in-map}
 use Rattle.orbits.specs.Orbits.{AreOrbits, IsOrbit, after}
 use Rattle.orbits.specs.Once.{HoldEachOnce}
 use Rattle.orbits.specs.OnceLaws.{StandBelow, SumsAgree}
@@ -110,8 +110,7 @@ module _ (es : List Edge) (sided : AreSidedInPlane es) (next : List (Option ℕ)
     cuts-of [] pieces orbits low none = ap (map (map (edge_at edges))) none
     cuts-of (o ∷ os) pieces orbits low (ps, qs, is, cut, rest) =
         let w = orbits 0 [] (omega arith) in
-        let low_o : All (λ i. i < length edges) o = low 0 [] (omega arith) in
-        (
+        let low_o : All (λ i. i < length edges) o = low 0 [] (omega arith) in (
           map (map (edge_at edges)) ps,
           map (map (edge_at edges)) qs,
           ap (map (map (edge_at edges))) is ∙ map-append (map (edge_at edges)) ps qs,

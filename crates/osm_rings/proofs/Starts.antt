@@ -1,5 +1,5 @@
 -- The ways in order: where those that begin at a location stand.
-use Rattle.std.proofs.Common.{◌≡◌, ◌≢◌, ◌⊎◌, inl, inr, ℕ, suc, zero, ◌+◌, ◌-◌, ◌<◌, ◌≤◌, List, [], ◌∷◌, ◌++◌, length, get_or, map, take, drop, All, Bool, true, false, not, refl, sym, ap, subst, ◌∙◌, arith, ⊎_elim}
+use Rattle.std.proofs.Common.{◌≡◌, ℕ, suc, zero, ◌+◌, ◌-◌, ◌<◌, ◌≤◌, List, [], ◌∷◌, ◌++◌, length, get_or, map, drop, All, Bool, true, false, not, refl, sym, ap, subst, ◌∙◌, arith, ⊎_elim}
 use Rattle.std.specs.List.{Contains, slice_range}
 use Rattle.std.specs.List.Sorted.{IsPartitionedBy, IsPermutation, IsSorted}
 use Rattle.std.specs.declared.cmp.Ordering.{Ordering}
@@ -255,8 +255,7 @@ module _ (es : List Edge) (ws : List Way) (are : AreWays es ws) (keys : List ℕ
   pub keys-tell : TellPoints es keys
   keys-tell i j hi hj =
       let a = at-key i hi in
-      let b = at-key j hj in
-      (
+      let b = at-key j hj in (
         λ same.
             let here : (get_or ws (get_or keys j 0) b.1).from ≡ a.0 =
             ap (λ w. w.from) (get_or_default ws (get_or keys j 0) b.1 a.1 b.4) ∙ (ap (λ k. (get_or ws k a.1).from) (sym same) ∙ a.5) in

@@ -1,21 +1,20 @@
 -- What is met first of the edges that leave is the successor.
-use Rattle.std.proofs.Common.{◌≡◌, ◌≢◌, ◌⊎◌, inl, inr, ℕ, suc, zero, ◌+◌, ◌<◌, List, [], ◌∷◌, length, get_or, All, Bool, true, false, cond, not, ◌&&◌, Option, Some, None, refl, sym, ap, subst, ◌∙◌, arith, ⊎_elim}
+use Rattle.std.proofs.Common.{◌≡◌, ℕ, suc, zero, ◌<◌, List, [], ◌∷◌, length, Bool, true, false, cond, Option, Some, None, refl, sym, ap, subst, ◌∙◌, arith, ⊎_elim}
 use Rattle.std.proofs.lemmas.Bool.{cases_lt}
 use Rattle.std.proofs.lemmas.List.{get_or_past}
-use Rattle.nesting.specs.Walk.{IsNextClockwise, IsSuccessor}
+use Rattle.nesting.specs.Walk.{IsSuccessor}
 use Rattle.nesting.proofs.Parts.{sided-once}
-use Rattle.nesting.proofs.Successors.{clear-two, next_leaves, next_one, no-loop-raised, raise-ends, rise, sym-differs, way-raise}
+use Rattle.nesting.proofs.Successors.{clear-two, next_leaves, next_one, no-loop-segments, segment-ends, rise, sym-differs, way-segment}
 use Rattle.nesting.proofs.Turns.{next_there}
 use Rattle.plane.specs.Edge.{Edge, ends_at, other_end, same_edge, segment_of}
 use Rattle.plane.specs.Sector.{in_sector}
-use Rattle.plane.specs.Sign.{is_null, is_plus, sign}
-use Rattle.plane.specs.Vector.{IsDirection, Vector, cross, dot, from_to, same_point}
+use Rattle.plane.specs.Vector.{IsDirection, Vector, from_to, same_point}
 use Rattle.plane.proofs.Edges.{ends_at-from, ends_at-to, same_edge-true}
-use Rattle.plane.proofs.Points.{same_point-refl, same_point-true}
+use Rattle.plane.proofs.Points.{same_point-refl}
 use Rattle.winding.specs.Member.{EachPair, In}
 use Rattle.winding.specs.Sided.{IsSided}
 use Rattle.winding.proofs.Balance.{way, way-direction, ways_apart}
-use Rattle.orbits.specs.Orbits.{IsOneToOne, after}
+use Rattle.orbits.specs.Orbits.{after}
 use Rattle.osm_rings.specs.Clockwise.{is_met_before}
 use Rattle.osm_rings.specs.Numbered.{AreSuccessors, edge_at, nowhere}
 use Rattle.osm_rings.specs.Ways.{IsFirstFrom, IsFirstMet, way_at}
@@ -42,7 +41,7 @@ module _ (es : List Edge) (sd : IsSided es) where
   no-loop e i = decide (same_point e.to e.from) refl
     where
       decide : (b : Bool) → same_point e.to e.from ≡ b → b ≡ false
-      decide true h = absurd (no-loop-raised e.to e h (same_point-refl e.to) (rise es sd e i))
+      decide true h = absurd (no-loop-segments e.to e h (same_point-refl e.to) (rise es sd e i))
       decide false h = refl
 
   module _ (i j : ℕ) (h : i < length es) (first : IsFirstFrom es (edge_at es i) j) where
@@ -71,16 +70,16 @@ module _ (es : List Edge) (sd : IsSided es) where
         decide false s = refl
 
     way-is : (f : Edge) → In f es → f.from ≡ e.to → way e.to (segment_of f) ≡ from_to e.to f.to
-    way-is f in_f leaves = way-raise e.to f (leaves-end e.to f leaves) (rise es sd f in_f) ∙ ap (λ w. from_to e.to w) (other-out e.to f leaves)
+    way-is f in_f leaves = way-segment e.to f (leaves-end e.to f leaves) (rise es sd f in_f) ∙ ap (λ w. from_to e.to w) (other-out e.to f leaves)
 
     way-set : (f : Edge) → In f es → f.from ≡ e.to → IsDirection (from_to e.to f.to)
-    way-set f in_f leaves = subst IsDirection (way-is f in_f leaves) (way-direction e.to (segment_of f) (raise-ends e.to f (leaves-end e.to f leaves)) (rise es sd f in_f))
+    way-set f in_f leaves = subst IsDirection (way-is f in_f leaves) (way-direction e.to (segment_of f) (segment-ends e.to f (leaves-end e.to f leaves)) (rise es sd f in_f))
 
     back-is : way e.to (segment_of e) ≡ from_to e.to e.from
-    back-is = way-raise e.to e (ends_at-to e) (rise es sd e in_e) ∙ ap (λ b. from_to e.to (cond b e.to e.from)) (no-loop e in_e)
+    back-is = way-segment e.to e (ends_at-to e) (rise es sd e in_e) ∙ ap (λ b. from_to e.to (cond b e.to e.from)) (no-loop e in_e)
 
     back-set : IsDirection (from_to e.to e.from)
-    back-set = subst IsDirection back-is (way-direction e.to (segment_of e) (raise-ends e.to e (ends_at-to e)) (rise es sd e in_e))
+    back-set = subst IsDirection back-is (way-direction e.to (segment_of e) (segment-ends e.to e (ends_at-to e)) (rise es sd e in_e))
 
     same-by : (f : Edge) → IsSuccessor es e f → (b : Bool) → same_edge f g ≡ b → f ≡ g
     same-by f n true s = same_edge-true f g s
@@ -96,7 +95,7 @@ module _ (es : List Edge) (sd : IsSided es) where
         subst (λ w. is_met_before (from_to v e.from) (from_to v f.to) w ≡ false) way_g (subst (λ w. is_met_before (from_to v e.from) w (way_at es j) ≡ false) way_f (first.first k.0 k.1 out_k)) in
         let g_f : same_edge g f ≡ false = sym-differs g f s in
         let ways : apart (way v (segment_of g)) (way v (segment_of f)) ≡ true =
-        ways_apart v (segment_of g) (segment_of f) (raise-ends v g (leaves-end v g first.leaves)) (raise-ends v f (leaves-end v f out)) (rise es sd g in_g) (rise es sd f in_f) (clear-two es sd g f in_g in_f g_f) in
+        ways_apart v (segment_of g) (segment_of f) (segment-ends v g (leaves-end v g first.leaves)) (segment-ends v f (leaves-end v f out)) (rise es sd g in_g) (rise es sd f in_f) (clear-two es sd g f in_g in_f g_f) in
         let apart_gf : apart (from_to v g.to) (from_to v f.to) ≡ true =
         subst (λ w. apart (from_to v g.to) w ≡ true) (way-is f in_f out) (subst (λ w. apart w (way v (segment_of f)) ≡ true) (way-is g in_g first.leaves) ways) in
         let holds : in_sector (from_to v f.to) (from_to v e.from) (from_to v g.to) ≡ 1 =

@@ -1,15 +1,15 @@
 -- What is cut off an orbit are pieces of its walk.
-use Rattle.std.proofs.Common.{◌≡◌, ◌≢◌, ◌⊎◌, inl, inr, ℕ, zero, suc, ◌+◌, ◌-◌, ◌<◌, List, [], ◌∷◌, ◌++◌, length, get_or, map, All, Bool, true, false, refl, sym, ap, subst, ◌∙◌, arith, Option, Some, None}
+use Rattle.std.proofs.Common.{◌≡◌, ◌≢◌, ℕ, zero, suc, ◌<◌, List, [], ◌∷◌, ◌++◌, length, get_or, map, All, Bool, true, false, refl, sym, ap, subst, ◌∙◌, arith}
 use Rattle.std.proofs.lemmas.List.{append_assoc, append-nil, map-append, length-map, length-append, get_or_append_left}
 use Rattle.std.proofs.lemmas.List.Elements.{All-append}
 use Rattle.nesting.specs.Walk.{AreCuts, Cuts}
 use Rattle.plane.specs.Edge.{Edge}
 use Rattle.plane.specs.Vector.{Vector, same_point}
 use Rattle.plane.proofs.Points.{same_point-true}
-use Rattle.winding.specs.Member.{EachPair, In}
+use Rattle.winding.specs.Member.{EachPair}
 use Rattle.winding.specs.Ring.{IsPath, IsRing}
-use Rattle.orbits.specs.Cutting.{AreCutOff, IsPiece, first_key}
-use Rattle.osm_rings.specs.Numbered.{edge_at, nowhere}
+use Rattle.orbits.specs.Cutting.{AreCutOff}
+use Rattle.osm_rings.specs.Numbered.{edge_at}
 use Rattle.osm_rings.specs.Pieces.{TellPoints}
 
 -- paths one after the other

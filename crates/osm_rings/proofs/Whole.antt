@@ -1,10 +1,10 @@
 -- Whole segments: their ends, their directions, and that the plane tells lattice points apart.
-use Rattle.std.proofs.Common.{◌≡◌, ℤ, pos, ◌*ℤ◌, ◌-ℤ◌, Bool, true, false, cond, refl, sym, ap, subst, ◌∙◌, arith}
+use Rattle.std.proofs.Common.{◌≡◌, pos, ◌*ℤ◌, ◌-ℤ◌, Bool, true, false, cond, refl, sym, ap, subst, ◌∙◌, arith}
 use Rattle.std.proofs.lemmas.Int.{ints}
 use Rattle.plane.specs.Order.{order}
-use Rattle.plane.specs.Sign.{Plus, Minus, Sign, is_plus, negated}
+use Rattle.plane.specs.Sign.{is_plus, negated}
 use Rattle.plane.specs.Vector.{Vector, from_to}
-use Rattle.plane.proofs.PointOrder.{order-self-null, order-turned}
+use Rattle.plane.proofs.PointOrder.{order-self-null, order-reversed}
 use Rattle.plane.proofs.Points.{same_vector}
 use Rattle.osm_geom.specs.declared.edge.Carrier.{Carrier}
 use Rattle.osm_geom.specs.declared.edge.Carrier.TheVariants.{OfSeg}
@@ -21,7 +21,7 @@ use Rattle.osm_geom.specs.Point.{point_order, whole_of}
 use Rattle.osm_geom.proofs.LocationOrder.{loc_cmp-is, rising_edge}
 use Rattle.osm_geom.proofs.Orders.{loc_same}
 use Rattle.plane.specs.Scale.{scaled_point}
-use Rattle.osm_rings.specs.PlaneEdge.{IsWholeSegment, plane_edge, vector_at}
+use Rattle.osm_rings.specs.PlaneEdge.{IsWholeSegment, vector_at}
 use Rattle.osm_rings.specs.Ways.{IsLattice}
 
 -- the plane tells locations apart
@@ -66,7 +66,7 @@ along-by : (s : Seg) (f : Bool) → along (OfSeg s) (cond f (Lattice s.a) (Latti
 unfolding step
 along-by s true = ap (λ o. cond (is_plus o) (rising_of (OfSeg s)) (opposite (rising_of (OfSeg s)))) (lattice-order s.a s.b ∙ rising_edge s)
 along-by s false =
-    ap (λ o. cond (is_plus o) (rising_of (OfSeg s)) (opposite (rising_of (OfSeg s)))) (lattice-order s.b s.a ∙ (order-turned (vector_of s.a) (vector_of s.b) ∙ ap negated (rising_edge s)))
+    ap (λ o. cond (is_plus o) (rising_of (OfSeg s)) (opposite (rising_of (OfSeg s)))) (lattice-order s.b s.a ∙ (order-reversed (vector_of s.a) (vector_of s.b) ∙ ap negated (rising_edge s)))
     ∙ back-is (vector_of s.a) (vector_of s.b)
 
 -- a whole segment has the direction from its one end to the other

@@ -30,7 +30,11 @@ pub fn rings(alloc: Global, edges: &[Edge]) -> Result<Rings, AllocError>
 }
 
 // The pieces that are cut off the walks.
-fn pieces(alloc: Global, walks: &[Vec<usize>], keys: &[usize]) -> Result<Vec<Vec<usize>>, AllocError>
+fn pieces(
+    alloc: Global,
+    walks: &[Vec<usize>],
+    keys: &[usize],
+) -> Result<Vec<Vec<usize>>, AllocError>
     requires keyed { All (λ w. All (λ i. i < length keys.now) w.items) walks.now }
     requires room { All (λ k. k < length keys.now) keys.now }
     ensures { IfOk result (λ v. AreAllCut keys.now (map (λ w. w.items) walks.now) (map (λ p. p.items) v.items)) }

@@ -53,7 +53,12 @@ fn first_met(edges: &[Edge], from: Dir, places: &[usize]) -> Option<usize>
 }
 
 // The place of the successor of an edge.
-fn successor(alloc: Global, edges: &[Edge], ways: &[Way], edge: &Edge) -> Result<Option<usize>, AllocError>
+fn successor(
+    alloc: Global,
+    edges: &[Edge],
+    ways: &[Way],
+    edge: &Edge,
+) -> Result<Option<usize>, AllocError>
     requires segments { All IsWholeSegment edges.now }
     requires segment { IsWholeSegment edge.now }
     requires ways { AreWays (map plane_edge edges.now) ways.now }
@@ -64,7 +69,11 @@ fn successor(alloc: Global, edges: &[Edge], ways: &[Way], edge: &Edge) -> Result
 }
 
 /// For each edge the place of its successor.
-pub fn successors(alloc: Global, edges: &[Edge], ways: &[Way]) -> Result<Vec<Option<usize>>, AllocError>
+pub fn successors(
+    alloc: Global,
+    edges: &[Edge],
+    ways: &[Way],
+) -> Result<Vec<Option<usize>>, AllocError>
     requires segments { All IsWholeSegment edges.now }
     requires ways { AreWays (map plane_edge edges.now) ways.now }
     ensures sized { IfOk result (λ v. length v.items ≡ length edges.now) }

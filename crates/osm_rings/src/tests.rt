@@ -47,7 +47,11 @@ fn rings_of(alloc: Global, segs: &[Seg]) -> Result<Rings, Fail> {
 
 /// Whether the ring passes these nodes in this order.
 fn passes(ring: &[Edge], nodes: &[Loc]) -> bool {
-    ring.len() == nodes.len() && ring.iter().zip(nodes).all(|(edge, node)| edge.from == Point::Lattice(*node))
+    ring.len() == nodes.len()
+        && ring
+            .iter()
+            .zip(nodes)
+            .all(|(edge, node)| edge.from == Point::Lattice(*node))
 }
 
 #[test]

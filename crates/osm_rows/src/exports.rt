@@ -59,6 +59,12 @@ fn exports_write_areas_and_report_problems_and_notes(rt: HostRuntime) -> Result<
             "MULTIPOLYGON(((0 0,1 0,1 1,0 1,0 0))) name=H%fc%tte,building=yes\n",
             "",
         ),
+        // two squares with a shared side
+        (
+            "n1 x0 y0\nn2 x1 y0\nn3 x1 y1\nn4 x0 y1\nn5 x2 y0\nn6 x2 y1\nw1 Nn1,n2,n3,n4,n1\nw2 Nn2,n5,n6,n3,n2\nr5 Ttype=multipolygon,a=b Mw1@outer,w2@outer\n",
+            "MULTIPOLYGON(((0 0,1 0,2 0,2 1,1 1,0 1,0 0))) a=b\n",
+            "relation 5: note segment 1 0,1 1 stands 2 times\n",
+        ),
         // a way named twice
         (
             "n1 x0 y0\nn2 x1 y0\nn3 x1 y1\nn4 x0 y1\nw1 Nn1,n2,n3,n4,n1\nw2 Nn2,n3\nw3 Nn3,n2\nr5 Ttype=multipolygon,a=b Mw1@,w2@,w3@,w2@\n",

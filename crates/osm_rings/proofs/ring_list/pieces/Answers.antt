@@ -2,7 +2,6 @@
 use Rattle.std.proofs.Common.{◌≡◌, ◌+◌, ◌++◌, ◌∷◌, [], map, take, ap, subst, sym, ◌∙◌}
 use Rattle.std.proofs.lemmas.List.{map-append, map_more}
 use Rattle.orbits.specs.Cutting.{AreCutOff}
-use Rattle.osm_rings.specs.Pieces.{AreAllCut}
 use Rattle.osm_rings.proofs.Placed.{all-cut-more, length_refilled}
 use Rattle.osm_rings.proofs.ring_list.pieces.Goals as goal
 

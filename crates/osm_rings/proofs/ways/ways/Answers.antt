@@ -1,5 +1,5 @@
 -- The ways of all edges, sorted.
-use Rattle.std.proofs.Common.{◌≡◌, length, map, ap, subst, sym, ◌∙◌, arith}
+use Rattle.std.proofs.Common.{◌≡◌, length, map, subst, sym, arith}
 use Rattle.std.specs.Ordering.{nat_cmp, on, then_cmp}
 use Rattle.std.proofs.lemmas.List.{length-map}
 use Rattle.osm_geom.specs.Loc.{loc_cmp}

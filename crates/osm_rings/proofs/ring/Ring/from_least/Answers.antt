@@ -1,5 +1,5 @@
 -- The ring begun at its least point is one.
-use Rattle.std.proofs.Common.{◌≡◌, ◌<◌, ◌++◌, drop, length, take, ap, subst, sym, ◌-◌, ◌∙◌, arith}
+use Rattle.std.proofs.Common.{◌≡◌, ◌++◌, drop, length, take, ap, subst, sym, ◌-◌, ◌∙◌, arith}
 use Rattle.std.proofs.lemmas.List.{length-drop, take_all}
 use Rattle.osm_rings.specs.Ring.{IsRing}
 use Rattle.osm_rings.specs.Turned.{BeginsLeast}
