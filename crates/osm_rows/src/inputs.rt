@@ -3,7 +3,8 @@
 use crate::run::{host_of, run_over};
 use opl_reader::ObjectKind;
 use osm_cli::{InputFault, ReadError, read_all};
-use osm_host::Host;
+use osm_host::{Host, MemoryHost};
+use std::alloc::Global;
 use std::test::Fail;
 
 #[test]
@@ -49,6 +50,14 @@ fn a_bad_line_ends_a_run(rt: HostRuntime) -> Result<(), Fail> {
         assert_eq!(rt; got.report.as_str(), report, "{input}");
     }
     Ok(())
+}
+
+/// Why the opened input isn't read; None where it is.
+fn read_error(alloc: Global, host: &mut MemoryHost, limit: u32, longest: u64) -> Option<ReadError> {
+    match read_all(alloc, host, u64::from(limit), longest) {
+        Ok(_) => None,
+        Err(error) => Some(error),
+    }
 }
 
 // A read that fails behind a bad line doesn't hide it; the unfinished line isn't read.
@@ -119,10 +128,7 @@ fn limits_are_met_exactly(rt: HostRuntime) -> Result<(), Fail> {
         let mut host = host_of(alloc, input, fail)?;
         let opened = host.open_input("-");
         assert!(rt; opened.is_ok());
-        let error = match read_all(alloc, &mut host, limit, longest) {
-            Ok(_) => None,
-            Err(error) => Some(error),
-        };
+        let error = read_error(alloc, &mut host, limit, longest);
         assert_eq!(rt; error, want, "{input}");
     }
     Ok(())
