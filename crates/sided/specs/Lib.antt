@@ -1,3 +1,4 @@
+pub mod Along
 pub mod Multiple
 pub mod Sided
 pub mod SidedLaws
