@@ -20,7 +20,7 @@ use Rattle.sided.proofs.Multiples.{times_further}
 use Rattle.sided.proofs.ScaledSides.{count-scaled, edges-turned, point-turned, sided-back, sided-scaled, winding-scaled}
 
 -- ---- the product of all denominators
-product-some : (m n : ℕ) → 1 ≤ m → 1 ≤ n → 1 ≤ m * n
+pub product-some : (m n : ℕ) → 1 ≤ m → 1 ≤ n → 1 ≤ m * n
 product-some (suc m) (suc n) h k = omega arith
 product-some zero n h k = absurd (omega arith)
 product-some m zero h k = absurd (omega arith)

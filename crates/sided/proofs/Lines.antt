@@ -11,8 +11,8 @@ use Rattle.plane.proofs.Points.{same_vector, vector_of}
 use Rattle.plane.proofs.Products.{cross2, from_to2, lift2}
 use Rattle.plane.proofs.Scaling.{cross-scaled}
 use Rattle.plane.proofs.Signs.{null-zero, plus-times}
-use Rattle.sided.specs.Along.{IsAlong}
-use Rattle.sided.proofs.Alongs.{along-cross, cross-times}
+use Rattle.sided.specs.OneDirection.{HaveOneDirection}
+use Rattle.sided.proofs.Directions.{along-cross, cross-times}
 
 abbrev pub step_of : Edge → Vector
 step_of t = from_to t.from t.to
@@ -33,10 +33,10 @@ less-nothing x z e = ap (λ k. x -ℤ k) e ∙ same (lift x ⊟ lift (pos 0)) (l
 
 -- s and t are pieces of one line that run in one direction
 pub record AreOneLine (s t : Edge) : Type 0 where
-  pub along : IsAlong (step_of s) (step_of t)
+  pub along : HaveOneDirection (step_of s) (step_of t)
   pub on : sign (cross (step_of t) (from_to t.from s.from)) ≡ Null
 
-pub line-distance : (p : Vector) (s t : Edge) → AreOneLine s t → IsAlong (distance_right p s) (distance_right p t)
+pub line-distance : (p : Vector) (s t : Edge) → AreOneLine s t → HaveOneDirection (distance_right p s) (distance_right p t)
 line-distance p s t l =
     let m = l.along.m in let n = l.along.n in let d = step_of s in let e = step_of t in
     let S = cross (from_to p s.from) (from_to p s.to) in let T = cross (from_to p t.from) (from_to p t.to) in

@@ -24,7 +24,7 @@ use Rattle.winding.proofs.ConflictFree.{rising_in}
 use Rattle.winding.proofs.Members.{all-in, in-all, in-map, in-map-out, total-same}
 use Rattle.winding.proofs.ScaledLists.{direct-by, map-map, map-same, plain_scaled}
 use Rattle.winding.proofs.Sums.{same-total, total, total-+, total-is, total-map}
-use Rattle.sided.proofs.Alongs.{dot-both}
+use Rattle.sided.proofs.Directions.{dot-both}
 
 balanced-total : (f : Vector → ℕ) (es : List Edge) → IsBalanced es → total (λ (e : Edge). f e.from) es ≡ total (λ (e : Edge). f e.to) es
 balanced-total f es b =

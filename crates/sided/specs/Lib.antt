@@ -1,4 +1,6 @@
-pub mod Along
+pub mod EdgeLaws
 pub mod Multiple
+pub mod OneDirection
+pub mod PointLaws
 pub mod Sided
 pub mod SidedLaws

@@ -6,7 +6,7 @@ use Rattle.plane.specs.Vector.{IsDirection, Vector, cross, dot}
 use Rattle.plane.proofs.Identities.{lift, same, ◌⊞◌, ◌⊟◌, ◌⊠◌}
 use Rattle.plane.proofs.Points.{same_vector}
 use Rattle.plane.proofs.Signs.{null-zero, plus-times}
-use Rattle.sided.specs.Along.{IsAlong}
+use Rattle.sided.specs.OneDirection.{HaveOneDirection}
 
 cross_left-by : (n a b c d : ℤ) → (n *ℤ a) *ℤ d -ℤ (n *ℤ b) *ℤ c ≡ n *ℤ (a *ℤ d -ℤ b *ℤ c)
 cross_left-by n a b c d =
@@ -47,12 +47,12 @@ dot-right n v w h = ap sign (dot_right-by n v.x v.y w.x w.y) ∙ plus-times n (d
 pub dot-both : (n : ℤ) (v w : Vector) → sign n ≡ Plus → sign (dot (scaled_point n v) (scaled_point n w)) ≡ sign (dot v w)
 dot-both n v w h = dot-left n v (scaled_point n w) h ∙ dot-right n v w h
 
-pub along-cross : (v w d e : Vector) → IsAlong v d → IsAlong w e → sign (cross v w) ≡ sign (cross d e)
+pub along-cross : (v w d e : Vector) → HaveOneDirection v d → HaveOneDirection w e → sign (cross v w) ≡ sign (cross d e)
 along-cross v w d e a b =
     sym (cross-left a.m v w a.m_positive) ∙ ap (λ u. sign (cross u w)) a.same ∙ cross-left a.n d w a.n_positive
     ∙ sym (cross-right b.m d w b.m_positive) ∙ ap (λ u. sign (cross d u)) b.same ∙ cross-right b.n d e b.n_positive
 
-pub along-dot : (v w d e : Vector) → IsAlong v d → IsAlong w e → sign (dot v w) ≡ sign (dot d e)
+pub along-dot : (v w d e : Vector) → HaveOneDirection v d → HaveOneDirection w e → sign (dot v w) ≡ sign (dot d e)
 along-dot v w d e a b =
     sym (dot-left a.m v w a.m_positive) ∙ ap (λ u. sign (dot u w)) a.same ∙ dot-left a.n d w a.n_positive
     ∙ sym (dot-right b.m d w b.m_positive) ∙ ap (λ u. sign (dot d u)) b.same ∙ dot-right b.n d e b.n_positive
@@ -76,7 +76,7 @@ plus-zero x b = let x' = lift x in let b' = lift b in same x' (x' ⊞ b' ⊠ lif
 minus-zero : (x b : ℤ) → x ≡ x -ℤ b *ℤ pos 0
 minus-zero x b = let x' = lift x in let b' = lift b in same x' (x' ⊟ b' ⊠ lift (pos 0)) (omega arith)
 
-pub along-from : (d w : Vector) → IsDirection d → sign (cross d w) ≡ Null → sign (dot d w) ≡ Plus → IsAlong w d
+pub along-from : (d w : Vector) → IsDirection d → sign (cross d w) ≡ Null → sign (dot d w) ≡ Plus → HaveOneDirection w d
 along-from d w direction on ahead = record {
   m = dot d d;
   n = dot d w;

@@ -5,7 +5,7 @@ use Rattle.plane.specs.Sign.{Plus, sign}
 use Rattle.plane.specs.Vector.{Vector}
 
 -- multiplied by positive numbers, v and w are one vector
-pub record IsAlong (v w : Vector) : Type 0 where
+pub record HaveOneDirection (v w : Vector) : Type 0 where
   pub m : ℤ
   pub n : ℤ
   pub m_positive : sign m ≡ Plus
