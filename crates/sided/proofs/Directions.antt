@@ -1,11 +1,13 @@
 -- Vectors that point in one direction have products of the same signs.
-use Rattle.std.proofs.Common.{ap, arith, pos, sym, ℤ, ◌*ℤ◌, ◌+ℤ◌, ◌-ℤ◌, ◌∙◌, ◌≡◌}
+use Rattle.std.proofs.Common.{ap, arith, pos, refl, sym, ℤ, ◌*ℤ◌, ◌+ℤ◌, ◌-ℤ◌, ◌∙◌, ◌≡◌}
 use Rattle.plane.specs.Scale.{scaled_point}
+use Rattle.plane.specs.Sector.{in_sector}
 use Rattle.plane.specs.Sign.{Null, Plus, sign}
 use Rattle.plane.specs.Vector.{IsDirection, Vector, cross, dot}
 use Rattle.plane.proofs.Identities.{lift, same, ◌⊞◌, ◌⊟◌, ◌⊠◌}
 use Rattle.plane.proofs.Points.{same_vector}
 use Rattle.plane.proofs.Signs.{null-zero, plus-times}
+use Rattle.osm_geom.specs.Edge.{opposite}
 use Rattle.sided.specs.OneDirection.{HaveOneDirection}
 
 cross_left-by : (n a b c d : ℤ) → (n *ℤ a) *ℤ d -ℤ (n *ℤ b) *ℤ c ≡ n *ℤ (a *ℤ d -ℤ b *ℤ c)
@@ -85,4 +87,24 @@ along-from d w direction on ahead = record {
   same = let z = null-zero (cross d w) on in
       same_vector (dot d d *ℤ w.x) (dot d d *ℤ w.y) (dot d w *ℤ d.x) (dot d w *ℤ d.y)
       (plus-zero (dot d d *ℤ w.x) d.y ∙ part_x d.x d.y w.x w.y (pos 0) z) (minus-zero (dot d d *ℤ w.y) d.x ∙ part_y d.x d.y w.x w.y (pos 0) z);
+}
+
+-- ---- sectors, and the way back
+pub along-sector : (u v w c d e : Vector) → HaveOneDirection u c → HaveOneDirection v d → HaveOneDirection w e → in_sector u v w ≡ in_sector c d e
+along-sector u v w c d e a b g =
+    rw (along-dot u w c e a g, along-cross u w c e a g, along-dot u v c d a b, along-cross u v c d a b, along-cross v w d e b g) refl
+
+back-by : (m n a b : ℤ) → m *ℤ a ≡ n *ℤ b → m *ℤ (pos 0 -ℤ a) ≡ n *ℤ (pos 0 -ℤ b)
+back-by m n a b e =
+    let m' = lift m in let n' = lift n in let a' = lift a in let b' = lift b in let o = lift (pos 0) in
+    same (m' ⊠ (o ⊟ a')) (o ⊟ m' ⊠ a') (omega arith) ∙ ap (λ z. pos 0 -ℤ z) e ∙ same (o ⊟ n' ⊠ b') (n' ⊠ (o ⊟ b')) (omega arith)
+
+pub along-opposite : (v d : Vector) → HaveOneDirection v d → HaveOneDirection (opposite v) (opposite d)
+along-opposite v d a = record {
+  m = a.m;
+  n = a.n;
+  m_positive = a.m_positive;
+  n_positive = a.n_positive;
+  same = same_vector (a.m *ℤ (pos 0 -ℤ v.x)) (a.m *ℤ (pos 0 -ℤ v.y)) (a.n *ℤ (pos 0 -ℤ d.x)) (a.n *ℤ (pos 0 -ℤ d.y))
+      (back-by a.m a.n v.x d.x (ap (λ (w : Vector). w.x) a.same)) (back-by a.m a.n v.y d.y (ap (λ (w : Vector). w.y) a.same));
 }

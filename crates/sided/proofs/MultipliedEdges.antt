@@ -11,7 +11,7 @@ use Rattle.plane.specs.Scale.{scaled_edge, scaled_point}
 use Rattle.plane.specs.Sign.{Minus, Null, Plus, Sign, is_minus, is_plus, negated, sign}
 use Rattle.plane.specs.Vector.{Vector, cross, dot, from_to}
 use Rattle.plane.proofs.Edges.{same_edge_by}
-use Rattle.plane.proofs.Identities.{lift, same, ◌⊟◌, ◌⊠◌}
+use Rattle.plane.proofs.Identities.{lift, same, ◌⊠◌}
 use Rattle.plane.proofs.PointOrder.{line-order-up, order-null, order-reversed, rising-direction}
 use Rattle.plane.proofs.Points.{same_vector, vector_of}
 use Rattle.plane.proofs.Products.{cross-chain}
@@ -32,7 +32,7 @@ use Rattle.osm_geom.proofs.PointOrders.{x_den-some}
 use Rattle.sided.specs.OneDirection.{HaveOneDirection}
 use Rattle.sided.specs.EdgeLaws.{IsWholeAt, step_times}
 use Rattle.sided.specs.Multiple.{IsCommon, edge_times, point_times}
-use Rattle.sided.proofs.Directions.{along-cross, along-dot, along-from}
+use Rattle.sided.proofs.Directions.{along-cross, along-dot, along-from, along-opposite}
 use Rattle.sided.proofs.Carriers.{IsOnLineOf, on_line, piece-steps, piece_times, piece_times-rises, point-regained}
 use Rattle.sided.proofs.Commons.{product-some, sign-some}
 use Rattle.sided.proofs.Lines.{AreOneLine, level-order, line-order, order_above-scaled, step_of}
@@ -94,20 +94,11 @@ along-unscaled k v w u hk a e = record {
   same = a.same ∙ ap (scaled_point a.n) e ∙ point-twice a.n k u;
 }
 
-turned-by : (m n a b r : ℤ) → m *ℤ (a -ℤ b) ≡ n *ℤ r → m *ℤ (b -ℤ a) ≡ n *ℤ (pos 0 -ℤ r)
-turned-by m n a b r e =
-    let m' = lift m in let n' = lift n in let a' = lift a in let b' = lift b in let r' = lift r in let o = lift (pos 0) in
-    same (m' ⊠ (b' ⊟ a')) (o ⊟ m' ⊠ (a' ⊟ b')) (omega arith) ∙ ap (λ z. pos 0 -ℤ z) e ∙ same (o ⊟ n' ⊠ r') (n' ⊠ (o ⊟ r')) (omega arith)
+back-is : (u v : Vector) → opposite (from_to u v) ≡ from_to v u
+back-is u v = same_vector (pos 0 -ℤ (v.x -ℤ u.x)) (pos 0 -ℤ (v.y -ℤ u.y)) (u.x -ℤ v.x) (u.y -ℤ v.y) (omega (arith, ints)) (omega (arith, ints))
 
 along-turned : (u v r : Vector) → HaveOneDirection (from_to u v) r → HaveOneDirection (from_to v u) (opposite r)
-along-turned u v r a = record {
-  m = a.m;
-  n = a.n;
-  m_positive = a.m_positive;
-  n_positive = a.n_positive;
-  same = same_vector (a.m *ℤ (u.x -ℤ v.x)) (a.m *ℤ (u.y -ℤ v.y)) (a.n *ℤ (pos 0 -ℤ r.x)) (a.n *ℤ (pos 0 -ℤ r.y))
-      (turned-by a.m a.n v.x u.x r.x (ap (λ (w : Vector). w.x) a.same)) (turned-by a.m a.n v.y u.y r.y (ap (λ (w : Vector). w.y) a.same));
-}
+along-turned u v r a = subst (λ w. HaveOneDirection w (opposite r)) (back-is u v) (along-opposite (from_to u v) r a)
 
 direction-by : (b : Bool) (t : plane.Edge) (r : Vector) → HaveOneDirection (step_of (cond b t (reversed t))) r → HaveOneDirection (step_of t) (cond b r (opposite r))
 direction-by true t r a = a
@@ -120,6 +111,9 @@ step_along k e w =
     let steps : step_of (piece_times k e.carrier) ≡ scaled_point (pos k) r = from_to-scaled (pos k) hk (piece_of e.carrier).from (piece_of e.carrier).to ∙ ap (scaled_point (pos k)) (piece-steps e.carrier) in
     let along : HaveOneDirection (step_of (segment_of t)) r = along-unscaled (pos k) (step_of (segment_of t)) (step_of (piece_times k e.carrier)) r hk (edge_line k e w).along steps in
     subst (λ b. HaveOneDirection (step_of t) (cond b r (opposite r))) (sym (rises_alike k e w)) (direction-by (is_rising t) t r along)
+
+pub back_along : (k : ℕ) (e : Edge) → IsWholeAt k e → HaveOneDirection (from_to (point_times k e.to) (point_times k e.from)) (opposite (direction_of e))
+back_along k e w = along-turned (point_times k e.from) (point_times k e.to) (direction_of e) (step_along k e w)
 
 pub cross_alike : (k : ℕ) (e f : Edge) → IsWholeAt k e → IsWholeAt k f → sign (cross (step_times k e) (step_times k f)) ≡ sign (cross (direction_of e) (direction_of f))
 cross_alike k e f w z = along-cross (step_times k e) (step_times k f) (direction_of e) (direction_of f) (step_along k e w) (step_along k f z)

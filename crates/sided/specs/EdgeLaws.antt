@@ -9,7 +9,7 @@ use Rattle.plane.specs.Vector.{Vector, cross, dot, from_to}
 use Rattle.winding.specs.Member.{In}
 use Rattle.osm_geom.specs.declared.edge.Edge.{Edge}
 use Rattle.osm_geom.specs.declared.point.Point.{Point}
-use Rattle.osm_geom.specs.Edge.{direction_of, runs_up}
+use Rattle.osm_geom.specs.Edge.{direction_of, opposite, runs_up}
 use Rattle.osm_geom.specs.JustAbove.{just_above_cmp}
 use Rattle.osm_geom.specs.OrderLaws.{ordering_of}
 use Rattle.osm_geom.specs.Point.{den_of}
@@ -27,13 +27,19 @@ pub record IsWholeAt (k : ℕ) (e : Edge) : Type 0 where
 abbrev pub step_times : ℕ → Edge → Vector
 step_times k e = from_to (point_times k e.from) (point_times k e.to)
 
--- so is each edge of a list at each common multiple
+-- so are those of each edge of a list at each common multiple
 abbrev pub EachEdgeIsWhole : Type 0
 EachEdgeIsWhole = (k : ℕ) (es : List Edge) → IsCommon k es → (e : Edge) → In e es → IsWholeAt k e
 
--- ---- directions
+-- ---- directions: the step is along the direction that the carrier gives
 abbrev pub StepHasDirection : Type 0
 StepHasDirection = (k : ℕ) (e : Edge) → IsWholeAt k e → HaveOneDirection (step_times k e) (direction_of e)
+
+-- and the way back in the opposite one
+abbrev pub BackHasOppositeDirection : Type 0
+BackHasOppositeDirection =
+    (k : ℕ) (e : Edge) → IsWholeAt k e →
+    HaveOneDirection (from_to (point_times k e.to) (point_times k e.from)) (opposite (direction_of e))
 
 abbrev pub CrossIsOfDirections : Type 0
 CrossIsOfDirections =

@@ -1,3 +1,4 @@
+pub mod DirectionLaws
 pub mod EdgeLaws
 pub mod Multiple
 pub mod OneDirection

@@ -5,6 +5,7 @@
 //! `specs/`.
 #![tactic(auto)]
 
+pub mod direction;
 pub mod edge;
 pub mod lattice;
 pub mod multiple;

@@ -1,8 +1,11 @@
-use Rattle.sided.proofs.MultipliedEdges.{cross_alike, dot_alike, rises_alike, segment_rises, step_along}
+use Rattle.sided.proofs.MultipliedEdges.{back_along, cross_alike, dot_alike, rises_alike, segment_rises, step_along}
 use Rattle.sided.proofs.edge.steps_are_along_directions.Goals as goal
 
 pub returns-clause-along : goal.returns-clause-along
 returns-clause-along c = step_along
+
+pub returns-clause-back : goal.returns-clause-back
+returns-clause-back c = back_along
 
 pub returns-clause-cross : goal.returns-clause-cross
 returns-clause-cross c = cross_alike
