@@ -30,8 +30,7 @@ use Rattle.osm_geom.specs.Point.{den_of, x_of, y_of}
 use Rattle.osm_geom.specs.Span.{height_order, spans}
 use Rattle.osm_geom.proofs.PointOrders.{x_den-some}
 use Rattle.sided.specs.OneDirection.{HaveOneDirection}
-use Rattle.sided.specs.EdgeLaws.{IsWholeAt, step_times}
-use Rattle.sided.specs.Multiple.{IsCommon, edge_times, point_times}
+use Rattle.sided.specs.Multiple.{IsCommon, IsWholeAt, edge_times, point_times, step_times}
 use Rattle.sided.proofs.Directions.{along-cross, along-dot, along-from, along-opposite}
 use Rattle.sided.proofs.Carriers.{IsOnLineOf, on_line, piece-steps, piece_times, piece_times-rises, point-regained}
 use Rattle.sided.proofs.Commons.{product-some, sign-some}

@@ -1,11 +1,11 @@
 -- The laws of multiplied edges, as statements: what a carrier says of an edge, the plane says of it once multiplied.
-use Rattle.std.specs.Prelude.{List, ℕ, ◌&&◌, ◌≡◌, ◌≤◌}
+use Rattle.std.specs.Prelude.{List, ℕ, ◌&&◌, ◌≡◌}
 use Rattle.std.specs.Ordering.{is_lt}
 use Prim.Native.Nat.{◌∣◌}
 use Rattle.plane.specs.Edge.{IsRising, is_rising, segment_of}
 use Rattle.plane.specs.Height.{is_in_span, is_right_above, order_above}
 use Rattle.plane.specs.Sign.{sign}
-use Rattle.plane.specs.Vector.{Vector, cross, dot, from_to}
+use Rattle.plane.specs.Vector.{cross, dot, from_to}
 use Rattle.winding.specs.Member.{In}
 use Rattle.osm_geom.specs.declared.edge.Edge.{Edge}
 use Rattle.osm_geom.specs.declared.point.Point.{Point}
@@ -15,19 +15,9 @@ use Rattle.osm_geom.specs.OrderLaws.{ordering_of}
 use Rattle.osm_geom.specs.Point.{den_of}
 use Rattle.osm_geom.specs.Span.{spans}
 use Rattle.sided.specs.OneDirection.{HaveOneDirection}
-use Rattle.sided.specs.Multiple.{IsCommon, edge_times, point_times}
+use Rattle.sided.specs.Multiple.{IsCommon, IsWholeAt, edge_times, point_times, step_times}
 
--- multiplied by k, the ends of e are whole
-pub record IsWholeAt (k : ℕ) (e : Edge) : Type 0 where
-  pub some : 1 ≤ k
-  pub first : den_of e.from ∣ k
-  pub second : den_of e.to ∣ k
-
--- from its first end to its second, multiplied by k
-abbrev pub step_times : ℕ → Edge → Vector
-step_times k e = from_to (point_times k e.from) (point_times k e.to)
-
--- so are those of each edge of a list at each common multiple
+-- at each common multiple of a list the ends of each of its edges are whole
 abbrev pub EachEdgeIsWhole : Type 0
 EachEdgeIsWhole = (k : ℕ) (es : List Edge) → IsCommon k es → (e : Edge) → In e es → IsWholeAt k e
 
