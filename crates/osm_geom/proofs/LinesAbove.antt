@@ -1,5 +1,5 @@
 -- The plane's order of edges just above a height: the signs of three edges that rise, and what ties.
-use Rattle.std.proofs.Common.{◌≡◌, Bool, true, false, ◌&&◌, ℤ, pos, ◌+ℤ◌, ◌-ℤ◌, ◌*ℤ◌, refl, sym, ap, ◌∙◌, subst, arith}
+use Rattle.std.proofs.Common.{◌≡◌, Bool, true, ◌&&◌, ℤ, ◌+ℤ◌, ◌-ℤ◌, ◌*ℤ◌, refl, sym, ap, ◌∙◌, subst, arith}
 use Rattle.plane.specs.Conflict.{is_along}
 use Rattle.plane.specs.Edge.{Edge}
 use Rattle.plane.specs.Height.{distance_right, order_above}

@@ -1,5 +1,5 @@
 -- The order of edges just above a height that they span is total, and ties exactly those on one line.
-use Rattle.std.proofs.Common.{◌≡◌, ◌≢◌, ◌↔◌, Bool, true, false, not, ◌&&◌, cond, ℕ, zero, suc, ◌*◌, ◌≤◌, ℤ, pos, negsuc, ◌+ℤ◌, ◌-ℤ◌, ◌*ℤ◌, refl, sym, ap, ◌∙◌, subst, arith}
+use Rattle.std.proofs.Common.{◌≡◌, ◌≢◌, ◌↔◌, Bool, true, false, not, ◌&&◌, cond, ℕ, ◌*◌, ◌≤◌, ℤ, pos, ◌-ℤ◌, ◌*ℤ◌, refl, sym, ap, ◌∙◌, subst, arith}
 use Rattle.std.proofs.lemmas.Int.{ints}
 use Rattle.std.specs.Ordering.{ordering_reverse}
 use Rattle.std.specs.declared.cmp.Ordering.TheVariants.{Less, Equal}
@@ -9,7 +9,7 @@ use Rattle.plane.specs.Height.{order_above}
 use Rattle.plane.specs.RayCrossing.{off_by}
 use Rattle.plane.specs.Scale.{scaled_edge}
 use Rattle.plane.specs.Sign.{Sign, Plus, Null, Minus, is_minus, is_null, is_plus, negated, sign, then_sign}
-use Rattle.plane.specs.Vector.{Vector, cross, dot, from_to}
+use Rattle.plane.specs.Vector.{cross, dot, from_to}
 use Rattle.plane.proofs.Identities.{lift, same, ◌⊟◌, ◌⊠◌}
 use Rattle.plane.proofs.Points.{int_eq-true}
 use Rattle.plane.proofs.Scaling.{minus-sign}
@@ -31,7 +31,7 @@ use Rattle.osm_geom.proofs.Factors.{cancel_factor, zero_other}
 use Rattle.osm_geom.proofs.LinesAbove.{IsTall, along-scaled, order_above-reversed, order_above-sum, tie_along}
 use Rattle.osm_geom.proofs.LocationOrder.{rising_edge}
 use Rattle.osm_geom.proofs.MeetingPoint.{some}
-use Rattle.osm_geom.proofs.PointOrders.{den-sign, x_den-some, y_den-some, y_den-sign}
+use Rattle.osm_geom.proofs.PointOrders.{den-sign, x_den-some, y_den-sign}
 use Rattle.osm_geom.proofs.SignOrders.{chains, reverses, tied, ties_alike}
 
 -- ---- an edge along one height spans no height

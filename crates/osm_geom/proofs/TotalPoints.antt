@@ -1,12 +1,12 @@
 -- The order of points is total, and tells points apart.
-use Rattle.std.proofs.Common.{◌≡◌, ◌↔◌, ℕ, zero, suc, ◌*◌, ◌≤◌, ℤ, pos, ◌*ℤ◌, unsigned_abs, true, refl, sym, ap, ◌∙◌, subst, arith}
+use Rattle.std.proofs.Common.{◌≡◌, ◌↔◌, ℕ, ◌*◌, ℤ, pos, ◌*ℤ◌, unsigned_abs, true, refl, sym, ap, ◌∙◌, subst, arith}
 use Rattle.std.proofs.Props.{props}
 use Rattle.std.proofs.Math.Nat.{dvd-mul_left}
 use Rattle.std.proofs.lemmas.Int.{ints, unsigned_abs-mul}
 use Rattle.std.proofs.lemmas.Nat.Gcd.{dvd_refl}
 use Rattle.std.proofs.lemmas.Cmp.{int_ranked, tied_itself}
 use Rattle.std.specs.Cmp.{IsTotalOrder}
-use Rattle.std.specs.Ordering.{int_cmp, ordering_then}
+use Rattle.std.specs.Ordering.{ordering_then}
 use Rattle.std.specs.declared.cmp.Ordering.{Ordering}
 use Rattle.std.specs.declared.cmp.Ordering.TheVariants.{Less, Equal, Greater}
 use Prim.Native.Nat.{◌∣◌}
@@ -22,11 +22,10 @@ use Rattle.plane.proofs.Signs.{agree}
 use Rattle.osm_geom.specs.declared.point.Part.{Part}
 use Rattle.osm_geom.specs.declared.point.Point.{Point}
 use Rattle.osm_geom.specs.declared.point.Point.TheVariants.{Lattice, OnVertical, OnHorizontal}
-use Rattle.osm_geom.specs.declared.frac.Frac.{Frac}
 use Rattle.osm_geom.specs.OrderLaws.{ordering_of}
 use Rattle.osm_geom.specs.Part.{IsPartDen, IsPartNum}
 use Rattle.osm_geom.specs.Point.{x_of, y_of, den_of, whole_of, point_order, point_cmp}
-use Rattle.osm_geom.specs.RatioOrder.{fraction_cmp, by_fractions}
+use Rattle.osm_geom.specs.RatioOrder.{fraction_cmp}
 use Rattle.osm_geom.proofs.LowestTerms.{frac_same}
 use Rattle.osm_geom.proofs.Orders.{loc_from_fields}
 use Rattle.osm_geom.proofs.PointOrders.{den-sign, point_cmp_is}

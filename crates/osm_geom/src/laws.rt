@@ -1,4 +1,4 @@
-//! Laws of locations and segments. Each function has an empty body; its contract is the law.
+//! Laws of orders and of conflicts. Each function has an empty body; its contract is the law.
 ghost use Rattle.osm_geom.specs.ConflictLaws.{ConflictIsSymmetric};
 ghost use Rattle.osm_geom.specs.OrderLaws.{LocationOrderIsPointOrder, LocationOrderTellsApart, SegmentOrderTellsApart};
 ghost use Rattle.osm_geom.specs.TotalOrders.{PointOrderIsTotal, PointOrderTellsApart, OrderAboveReverses, OrderAboveIsTransitive, OrderAboveTiesAlike, OrderAboveTellsLinesApart, ClockwiseOrderIsTotal, ClockwiseOrderTellsApart};
@@ -11,14 +11,14 @@ pub fn orders_are_exact()
     ensures segments { SegmentOrderTellsApart }
 {}
 
-/// `compare_points` is a total order, and `Equal` for one point alone.
+/// The order of `compare_points` is total, and `Equal` for one point alone.
 pub fn point_order_is_total()
     ensures total { PointOrderIsTotal }
     ensures apart { PointOrderTellsApart }
 {}
 
-/// `compare_just_above` is a total order among the edges that span the height, and `Equal` exactly for those whose
-/// carriers lie on one line.
+/// The order of `compare_just_above` is total among the edges that span the height, and `Equal` exactly for
+/// those whose carriers lie on one line.
 pub fn order_above_is_total()
     ensures reverses { OrderAboveReverses }
     ensures transitive { OrderAboveIsTransitive }
@@ -26,7 +26,7 @@ pub fn order_above_is_total()
     ensures apart { OrderAboveTellsLinesApart }
 {}
 
-/// `clockwise` is a total order around each direction, and `Equal` for one direction alone.
+/// The order of `clockwise` is total around each direction, and `Equal` for one direction alone.
 pub fn clockwise_order_is_total()
     ensures total { ClockwiseOrderIsTotal }
     ensures apart { ClockwiseOrderTellsApart }
