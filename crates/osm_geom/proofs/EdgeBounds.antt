@@ -1,25 +1,23 @@
 -- How large the coordinates of carriers and of spanned heights are.
-use Rattle.std.proofs.Common.{◌≡◌, ℕ, suc, zero, ◌*◌, ◌<◌, ◌≤◌, ℤ, pos, negsuc, ◌*ℤ◌, ◌-ℤ◌, ◌<ℤ◌, ◌≤ℤ◌, Bool, true, false, not, ◌&&◌, cond, unsigned_abs, refl, ap, sym, ◌∙◌, arith, mul-le-mul, subst, ⊎_elim}
+use Rattle.std.proofs.Common.{◌≡◌, ℕ, suc, zero, ◌*◌, ◌<◌, ◌≤◌, ℤ, pos, negsuc, ◌*ℤ◌, ◌-ℤ◌, ◌<ℤ◌, ◌≤ℤ◌, Bool, true, false, not, cond, unsigned_abs, sym, arith, mul-le-mul, subst, ⊎_elim}
 use Rattle.std.proofs.lemmas.Int.{ints}
 use Rattle.std.proofs.lemmas.Bool.{cases_lt}
 use Rattle.std.proofs.Math.Nat.{mul-lt-mul_of_pos_right}
-use Rattle.plane.specs.Sign.{Sign, Plus, Null, Minus, is_minus, is_plus, sign}
+use Rattle.plane.specs.Sign.{Sign, Plus, Null, Minus, is_minus, is_plus}
 use Rattle.plane.proofs.Bools.{and-out}
 use Rattle.plane.proofs.Points.{int_eq-true}
 use Rattle.plane.proofs.Signs.{Says, says}
 use Rattle.osm_geom.specs.declared.edge.Edge.{Edge}
-use Rattle.osm_geom.specs.declared.edge.Carrier.TheVariants.{OfSeg, Vertical, Horizontal}
+use Rattle.osm_geom.specs.declared.edge.Carrier.TheVariants.{Vertical, Horizontal}
 use Rattle.osm_geom.specs.declared.point.Point.{Point}
 use Rattle.osm_geom.specs.declared.point.Point.TheVariants.{Lattice, OnVertical, OnHorizontal}
 use Rattle.osm_geom.specs.Bounds.{IsLongitude, IsLatitude}
 use Rattle.osm_geom.specs.Carrier.{has_x, has_y, is_on}
 use Rattle.osm_geom.specs.Edge.{runs_up}
 use Rattle.osm_geom.specs.Level.{IsLevel}
-use Rattle.osm_geom.specs.Point.{IsInWorld, x_of, y_of}
+use Rattle.osm_geom.specs.Point.{IsInWorld, y_of}
 use Rattle.osm_geom.specs.Span.{height_order, lower_end, upper_end, spans}
 use Rattle.osm_geom.proofs.PointOrders.{y_den-some}
-use Rattle.osm_geom.proofs.Sizes.{signed, product_within}
-use borrow.Author.Differences.{up, down, product_is}
 
 x_bound : (c : ℤ) (p : Point) → IsInWorld p → has_x c p ≡ true → IsLongitude c
 x_bound c (Lattice p) w h = rw (sym (int_eq-true p.x c h)) p.x_in

@@ -6,7 +6,7 @@ use Rattle.plane.specs.Height.{distance_right, order_above}
 use Rattle.plane.specs.Scale.{scaled_edge}
 use Rattle.plane.specs.Sign.{Plus, sign}
 use Rattle.plane.specs.Vector.{Vector, cross, from_to}
-use Rattle.plane.proofs.Identities.{Split, lift, same, ◌⊞◌, ◌⊟◌, ◌⊠◌}
+use Rattle.plane.proofs.Identities.{lift, same, ◌⊞◌, ◌⊟◌, ◌⊠◌}
 use Rattle.plane.proofs.Scaling.{cross-scaled}
 use Rattle.plane.proofs.Signs.{plus-times}
 use Rattle.osm_geom.specs.declared.level.Level.{Level}

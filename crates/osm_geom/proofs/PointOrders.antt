@@ -62,3 +62,9 @@ point_cmp_is p q =
 
 pub height_cmp_is : (p q : Point) → fraction_cmp (y_of p) (y_of q) ≡ ordering_of (height_order p q)
 height_cmp_is p q = int_cmp-is ((y_of p).num *ℤ pos (y_of q).den) ((y_of q).num *ℤ pos (y_of p).den)
+
+pub den-sign : (p : Point) → sign (pos (den_of p)) ≡ Plus
+den-sign p = sign-pos (den_of p) (product-some (x_of p).den (y_of p).den (x_den-some p) (y_den-some p))
+
+pub y_den-sign : (p : Point) → sign (pos (y_of p).den) ≡ Plus
+y_den-sign p = sign-pos (y_of p).den (y_den-some p)

@@ -1,5 +1,5 @@
 -- The order of edges from left to right just above the height of a point that they span.
-use Rattle.std.specs.Prelude.{pos, ◌+ℤ◌}
+use Rattle.std.specs.Prelude.{pos}
 use Rattle.std.specs.declared.cmp.Ordering.{Ordering}
 use Rattle.plane.specs.Edge as plane
 use Rattle.plane.specs.Height.{order_above}

@@ -21,3 +21,4 @@ pub mod Span
 pub mod JustAbove
 pub mod Level
 pub mod LineOrder
+pub mod TotalOrders

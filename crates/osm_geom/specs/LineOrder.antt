@@ -2,7 +2,6 @@
 use Rattle.std.specs.Prelude.{ℤ, pos, ◌+ℤ◌, ◌-ℤ◌, ◌*ℤ◌}
 use Rattle.std.specs.declared.cmp.Ordering.{Ordering}
 use Rattle.std.specs.Ordering.{int_cmp, ordering_then}
-use Rattle.plane.specs.Edge as plane
 use Rattle.plane.specs.Vector.{Vector}
 use Rattle.osm_geom.specs.declared.level.Level.{Level}
 use Rattle.osm_geom.specs.declared.level.Line.{Line}

@@ -90,7 +90,8 @@ fn level_of(at: &Point, e: &Edge) -> Level
 }
 
 /// The order of two edges from left to right just above the height of a point that both span: by where
-/// they are at that height, then by their slopes. `Equal` for edges on one line alone.
+/// they are at that height, then by their slopes. `order_above_is_total` says that it is total, and `Equal` for
+/// edges on one line alone.
 pub fn compare_just_above(e: &Edge, f: &Edge, at: &Point) -> Ordering
     requires first { spans e.now at.now ≡ true }
     requires second { spans f.now at.now ≡ true }

@@ -1,6 +1,7 @@
-//! Laws of locations and segments. Each function has an empty body; its contract is the law.
+//! Laws of orders and of conflicts. Each function has an empty body; its contract is the law.
 ghost use Rattle.osm_geom.specs.ConflictLaws.{ConflictIsSymmetric};
 ghost use Rattle.osm_geom.specs.OrderLaws.{LocationOrderIsPointOrder, LocationOrderTellsApart, SegmentOrderTellsApart};
+ghost use Rattle.osm_geom.specs.TotalOrders.{PointOrderIsTotal, PointOrderTellsApart, OrderAboveReverses, OrderAboveIsTransitive, OrderAboveTiesAlike, OrderAboveTellsLinesApart, ClockwiseOrderIsTotal, ClockwiseOrderTellsApart};
 
 /// Locations are in the order of the plane's points. Two locations, and two segments, tie exactly
 /// where they are one.
@@ -8,6 +9,27 @@ pub fn orders_are_exact()
     ensures points { LocationOrderIsPointOrder }
     ensures locations { LocationOrderTellsApart }
     ensures segments { SegmentOrderTellsApart }
+{}
+
+/// The order of `compare_points` is total, and `Equal` for one point alone.
+pub fn point_order_is_total()
+    ensures total { PointOrderIsTotal }
+    ensures apart { PointOrderTellsApart }
+{}
+
+/// The order of `compare_just_above` is total among the edges that span the height, and `Equal` exactly for
+/// those whose carriers lie on one line.
+pub fn order_above_is_total()
+    ensures reverses { OrderAboveReverses }
+    ensures transitive { OrderAboveIsTransitive }
+    ensures ties { OrderAboveTiesAlike }
+    ensures apart { OrderAboveTellsLinesApart }
+{}
+
+/// The order of `clockwise` is total around each direction, and `Equal` for one direction alone.
+pub fn clockwise_order_is_total()
+    ensures total { ClockwiseOrderIsTotal }
+    ensures apart { ClockwiseOrderTellsApart }
 {}
 
 /// How two segments conflict does not depend on which is named first.

@@ -31,7 +31,10 @@ pub use edge::{Carrier, Edge};
 pub use edge_lists::{Edges, Points};
 pub use frac::{Frac, round};
 pub use just_above::compare_just_above;
-pub use laws::{conflicts_are_symmetric, orders_are_exact};
+pub use laws::{
+    clockwise_order_is_total, conflicts_are_symmetric, order_above_is_total, orders_are_exact,
+    point_order_is_total,
+};
 pub use lists::{Ids, Locs, Path, Segs};
 pub use loc::Loc;
 pub use meetings::{meeting, overlap};

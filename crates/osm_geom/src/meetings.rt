@@ -1,4 +1,4 @@
-ghost use Rattle.std.specs.Prelude.{◌≡◌, ◌^◌, ◌<◌, ◌≤◌, ◌-◌, ◌*ℤ◌, ◌+ℤ◌, pos, unsigned_abs};
+ghost use Rattle.std.specs.Prelude.{◌≡◌, ◌^◌, ◌<◌, ◌≤◌, ◌-◌, ◌*◌, ◌*ℤ◌, ◌+ℤ◌, pos, unsigned_abs};
 ghost use Rattle.osm_geom.specs.Conflict.{conflict_of};
 ghost use Rattle.std.specs.Ordering.{ord_min, ord_max};
 ghost use Rattle.osm_geom.specs.Loc.{orientation, loc_cmp};
@@ -69,7 +69,7 @@ fn y_at(s: Seg, at: Share) -> Frac
     Frac::new(between(s.a.y, s.b.y, at), at.den)
 }
 
-/// The point in which two segments cross: its x and its y, exactly.
+/// The point in which two segments cross: its x and its y, exactly. It is in the world.
 pub fn meeting(s: Seg, t: Seg) -> (Frac, Frac)
     requires { conflict_of s t ≡ Some Kind.Crossing }
     ensures first { IsOnSegment s result.0 result.1 }
@@ -77,6 +77,8 @@ pub fn meeting(s: Seg, t: Seg) -> (Frac, Frac)
     ensures alone { (x y : Frac) → IsOnSegment s x y → IsOnSegment t x y → (x ≡ result.0) × (y ≡ result.1) }
     ensures dens_small { (result.0.den < 2 ^ 64) × (result.1.den < 2 ^ 64) }
     ensures nums_small { (unsigned_abs result.0.num < 2 ^ 98) × (unsigned_abs result.1.num < 2 ^ 98) }
+    ensures x_in { unsigned_abs result.0.num ≤ 1_800_000_000 * result.0.den }
+    ensures y_in { unsigned_abs result.1.num ≤ 900_000_000 * result.1.den }
 {
     let at = share_of(s, t);
     (x_at(s, at), y_at(s, at))

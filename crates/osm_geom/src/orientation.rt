@@ -3,7 +3,7 @@ ghost use Rattle.osm_geom.specs.Loc.{orientation};
 
 use crate::loc::Loc;
 
-// How far `to` lies to the right of `from`.
+/// How far `to` lies to the right of `from`, in units of 1e-7 degree.
 pub fn step_x(from: Loc, to: Loc) -> i64
     ensures value { result ≡ to.x -ℤ from.x }
     ensures small { unsigned_abs result ≤ 3_600_000_000 }
@@ -11,7 +11,7 @@ pub fn step_x(from: Loc, to: Loc) -> i64
     i64::from(to.x) - i64::from(from.x)
 }
 
-// How far `to` lies above `from`.
+/// How far `to` lies above `from`, in units of 1e-7 degree.
 pub fn step_y(from: Loc, to: Loc) -> i64
     ensures value { result ≡ to.y -ℤ from.y }
     ensures small { unsigned_abs result ≤ 1_800_000_000 }
@@ -27,7 +27,7 @@ fn product(a: i64, b: i64) -> i128
     i128::from(a) * i128::from(b)
 }
 
-// The cross product of two steps.
+/// The cross product of the steps `u` and `v`: positive where `v` points left of `u`.
 pub fn cross(ux: i64, uy: i64, vx: i64, vy: i64) -> i128
     requires ux_in { unsigned_abs ux ≤ 3_600_000_000 }
     requires uy_in { unsigned_abs uy ≤ 1_800_000_000 }

@@ -44,7 +44,8 @@ pub fn compare_heights(p: Point, q: Point) -> Ordering
     y_ratio(p).compare(y_ratio(q))
 }
 
-/// The order of two points: by y, then by x. `Equal` for one point alone.
+/// The order of two points: by y, then by x. `point_order_is_total` says that it is total, and `Equal` for one
+/// point alone.
 #[tactic(auto, using(crate::proofs::PointOrders::point_cmp_is))]
 pub fn compare_points(p: Point, q: Point) -> Ordering
     ensures { result ≡ point_cmp p q }

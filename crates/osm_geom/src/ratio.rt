@@ -16,6 +16,7 @@ pub struct Ratio {
 impl Ratio {
     ghost use Rattle.osm_geom.specs.RatioOrder.{fraction_of, fraction_cmp};
 
+    /// A whole number, over 1.
     pub fn of_whole(n: i32) -> Ratio
         ensures num { result.num ≡ n }
         ensures den { result.den ≡ 1 }
@@ -26,6 +27,7 @@ impl Ratio {
         }
     }
 
+    /// A coordinate that is no whole number, as it stands.
     pub fn of_part(p: Part) -> Ratio
         ensures num { result.num ≡ p.frac.num }
         ensures den { result.den ≡ p.frac.den }

@@ -15,11 +15,15 @@ pub struct Seg {
 }
 
 impl Seg {
+    ghost use Rattle.osm_geom.specs.Seg.{segment_between};
+
     /// The segment between two locations, whichever comes first; `None` if they are one location.
+    #[tactic(auto, using(crate::proofs::SegmentsBetween::neither))]
     pub fn new(p: Loc, q: Loc) -> Option<Seg>
         ensures none { IsNone result ↔ (p ≡ q) }
         ensures lesser { IfSome result (λ s. s.a ≡ ord_min loc_cmp p q) }
         ensures greater { IfSome result (λ s. s.b ≡ ord_max loc_cmp p q) }
+        ensures between { result ≡ segment_between p q }
     {
         if p < q {
             Some(Seg { a: p, b: q })

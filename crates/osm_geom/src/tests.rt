@@ -96,6 +96,18 @@ fn kinds_of_conflict(rt: HostRuntime) -> Result<(), Fail> {
     Ok(())
 }
 
+/// The x and the y in which two segments cross, each as a numerator and a denominator.
+fn meeting_of(first: [i64; 4], second: [i64; 4]) -> Result<((i128, u64), (i128, u64)), Fail> {
+    let (s, t) = (seg(first)?, seg(second)?);
+    match conflict(s, t) {
+        Some(Kind::Crossing) => {
+            let (x, y) = meeting(s, t);
+            Ok(((x.num, x.den), (y.num, y.den)))
+        }
+        _ => Err(Fail::new("no crossing")),
+    }
+}
+
 #[test]
 fn meeting_points(rt: HostRuntime) -> Result<(), Fail> {
     let rows = [
@@ -105,14 +117,6 @@ fn meeting_points(rt: HostRuntime) -> Result<(), Fail> {
             [10_000_000, 0, 0, 5_000_000],
             (10_000_000, 3),
             (10_000_000, 3),
-        ),
-        ("lattice point", [0, 0, 2, 2], [0, 2, 2, 0], (1, 1), (1, 1)),
-        (
-            "overlapping base, an end inside",
-            [0, 0, 4, 0],
-            [1, 0, 2, 2],
-            (1, 1),
-            (0, 1),
         ),
         (
             "in general",
@@ -130,19 +134,17 @@ fn meeting_points(rt: HostRuntime) -> Result<(), Fail> {
         ),
     ];
     for (name, first, second, x, y) in rows {
-        let (s, t) = (seg(first)?, seg(second)?);
-        match conflict(s, t) {
-            Some(Kind::Crossing) => {
-                let (at_x, at_y) = meeting(s, t);
-                assert_eq!(rt;
-                    ((at_x.num, at_x.den), (at_y.num, at_y.den)),
-                    (x, y),
-                    "{name}"
-                );
-            }
-            _ => return Err(Fail::new("no crossing")),
-        }
+        assert_eq!(rt; meeting_of(first, second)?, (x, y), "{name}");
     }
+    Ok(())
+}
+
+#[test]
+fn meeting_points_with_whole_coordinates(rt: HostRuntime) -> Result<(), Fail> {
+    let crossing = meeting_of([0, 0, 2, 2], [0, 2, 2, 0])?;
+    assert_eq!(rt; crossing, ((1, 1), (1, 1)));
+    let end_inside = meeting_of([0, 0, 4, 0], [1, 0, 2, 2])?;
+    assert_eq!(rt; end_inside, ((1, 1), (0, 1)));
     Ok(())
 }
 

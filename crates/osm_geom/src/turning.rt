@@ -41,7 +41,8 @@ fn turn_between(from: Dir, d: Dir) -> Turn
 }
 
 /// The order of the angles by which `d` and `e` are turned clockwise from `from`, each above 0 and up to a
-/// full turn, which is the angle of `from` itself. `Equal` for one direction alone, however long its step.
+/// full turn, which is the angle of `from` itself. `clockwise_order_is_total` says that it is total, and `Equal`
+/// for one direction alone, however long its step.
 pub fn clockwise(from: Dir, d: Dir, e: Dir) -> Ordering
     ensures { result ≡ clockwise_cmp from d e }
 {

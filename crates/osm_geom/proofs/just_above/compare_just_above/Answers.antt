@@ -1,4 +1,4 @@
-use Rattle.std.proofs.Common.{rules, ap, ◌∙◌, ◌≡◌}
+use Rattle.std.proofs.Common.{◌∙◌}
 use Rattle.osm_geom.specs.JustAbove.{piece_of, just_above_cmp}
 use Rattle.osm_geom.proofs.LineOrders.{line_cmp-is}
 use Rattle.osm_geom.proofs.just_above.compare_just_above.Goals as goal

@@ -1,4 +1,4 @@
-use Rattle.std.proofs.Common.{◌≡◌, ℤ, arith}
+use Rattle.std.proofs.Common.{arith}
 use Rattle.std.specs.Int.{w32}
 use Rattle.osm_geom.specs.Bounds.{IsLongitude, IsLatitude}
 use Rattle.osm_geom.proofs.EdgeBounds.{vertical_bound, horizontal_bound}

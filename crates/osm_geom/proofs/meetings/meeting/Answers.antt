@@ -8,6 +8,7 @@ use Rattle.osm_geom.specs.Conflict.{conflict_of}
 use Rattle.osm_geom.specs.Meeting.{IsOnSegment, slant}
 use Rattle.osm_geom.proofs.LocationOrder.{rising_edge}
 use Rattle.osm_geom.proofs.LowestTerms.{frac_same}
+use Rattle.osm_geom.proofs.MeetingBounds.{on_segment_in}
 use Rattle.osm_geom.proofs.MeetingPoint.{on_segment, along_x, along_y, one_point}
 use Rattle.osm_geom.proofs.Sizes.{signed}
 use Rattle.osm_geom.proofs.Shares.{part_of_first, part_of_second, slant_turned}
@@ -65,3 +66,9 @@ returns-clause-second c = second_is c
 
 pub returns-clause-alone : goal.returns-clause-alone
 returns-clause-alone c = λ x y on_s on_t. only_point c.args.s c.args.t x y c.x_at.result c.y_at.result c.requires on_s on_t (first_is c) (second_is c)
+
+pub returns-clause-x_in : goal.returns-clause-x_in
+returns-clause-x_in c = (on_segment_in c.args.s c.x_at.result c.y_at.result (first_is c)).0
+
+pub returns-clause-y_in : goal.returns-clause-y_in
+returns-clause-y_in c = (on_segment_in c.args.s c.x_at.result c.y_at.result (first_is c)).1

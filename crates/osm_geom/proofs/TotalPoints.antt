@@ -1,0 +1,116 @@
+-- The order of points is total, and tells points apart.
+use Rattle.std.proofs.Common.{◌≡◌, ◌↔◌, ℕ, ◌*◌, ℤ, pos, ◌*ℤ◌, unsigned_abs, true, refl, sym, ap, ◌∙◌, subst, arith}
+use Rattle.std.proofs.Props.{props}
+use Rattle.std.proofs.Math.Nat.{dvd-mul_left}
+use Rattle.std.proofs.lemmas.Int.{ints, unsigned_abs-mul}
+use Rattle.std.proofs.lemmas.Nat.Gcd.{dvd_refl}
+use Rattle.std.proofs.lemmas.Cmp.{int_ranked, tied_itself}
+use Rattle.std.specs.Cmp.{IsTotalOrder}
+use Rattle.std.specs.Ordering.{ordering_then}
+use Rattle.std.specs.declared.cmp.Ordering.{Ordering}
+use Rattle.std.specs.declared.cmp.Ordering.TheVariants.{Less, Equal, Greater}
+use Prim.Native.Nat.{◌∣◌}
+use mathlib.Core.HLevel.{is_prop→PathP}
+use Rattle.plane.specs.Order.{order}
+use Rattle.plane.specs.Scale.{scaled_point}
+use Rattle.plane.specs.Vector.{Vector}
+use Rattle.plane.proofs.Identities.{lift, same, ◌⊠◌}
+use Rattle.plane.proofs.PointOrder.{order-reversed, order-sum}
+use Rattle.plane.proofs.Points.{same_vector}
+use Rattle.plane.proofs.Scaling.{order-scaled}
+use Rattle.plane.proofs.Signs.{agree}
+use Rattle.osm_geom.specs.declared.point.Part.{Part}
+use Rattle.osm_geom.specs.declared.point.Point.{Point}
+use Rattle.osm_geom.specs.declared.point.Point.TheVariants.{Lattice, OnVertical, OnHorizontal}
+use Rattle.osm_geom.specs.OrderLaws.{ordering_of}
+use Rattle.osm_geom.specs.Part.{IsPartDen, IsPartNum}
+use Rattle.osm_geom.specs.Point.{x_of, y_of, den_of, whole_of, point_order, point_cmp}
+use Rattle.osm_geom.specs.RatioOrder.{fraction_cmp}
+use Rattle.osm_geom.proofs.LowestTerms.{frac_same}
+use Rattle.osm_geom.proofs.Orders.{loc_from_fields}
+use Rattle.osm_geom.proofs.PointOrders.{den-sign, point_cmp_is}
+use Rattle.osm_geom.proofs.SignOrders.{reverses, chains, ties_alike}
+
+-- ---- three points, each multiplied by the denominators of the two others
+scaled_twice : (j k : ℤ) (v : Vector) → scaled_point j (scaled_point k v) ≡ scaled_point k (scaled_point j v)
+scaled_twice j k v = same_vector (j *ℤ (k *ℤ v.x)) (j *ℤ (k *ℤ v.y)) (k *ℤ (j *ℤ v.x)) (k *ℤ (j *ℤ v.y)) (turned j k v.x) (turned j k v.y)
+  where
+    turned : (j k z : ℤ) → j *ℤ (k *ℤ z) ≡ k *ℤ (j *ℤ z)
+    turned j k z = let a = lift j in let b = lift k in let c = lift z in same (a ⊠ (b ⊠ c)) (b ⊠ (a ⊠ c)) (omega arith)
+
+point_order-sum : (p q r : Point) → agree (point_order p q) (point_order q r) (point_order p r) ≡ true
+point_order-sum p q r =
+    let a = pos (den_of p) in let b = pos (den_of q) in let c = pos (den_of r) in
+    let first = scaled_point c (scaled_point b (whole_of p)) in
+    let second = scaled_point c (scaled_point a (whole_of q)) in
+    let third = scaled_point a (scaled_point b (whole_of r)) in
+    let one : order first second ≡ point_order p q = order-scaled c (den-sign r) (scaled_point b (whole_of p)) (scaled_point a (whole_of q)) in
+    let two : order second third ≡ point_order q r = ap (λ v. order v third) (scaled_twice c a (whole_of q)) ∙ order-scaled a (den-sign p) (scaled_point c (whole_of q)) (scaled_point b (whole_of r)) in
+    let both : order first third ≡ point_order p r = ap (λ v. order v third) (scaled_twice c b (whole_of p)) ∙ (ap (λ v. order (scaled_point b (scaled_point c (whole_of p))) v) (scaled_twice a b (whole_of r)) ∙ order-scaled b (den-sign q) (scaled_point c (whole_of p)) (scaled_point a (whole_of r))) in
+    subst (λ s. agree s (point_order q r) (point_order p r) ≡ true) one
+    (subst (λ s. agree (order first second) s (point_order p r) ≡ true) two
+    (subst (λ s. agree (order first second) (order second third) s ≡ true) both (order-sum first second third)))
+
+pub point_total : IsTotalOrder point_cmp
+unfolding point_cmp
+point_total = record {
+  antisymm = λ p q. ap ordering_of (order-reversed (scaled_point (pos (den_of p)) (whole_of q)) (scaled_point (pos (den_of q)) (whole_of p))) ∙ reverses (point_order q p);
+  trans = λ p q r. chains (point_order p q) (point_order q r) (point_order p r) (point_order-sum p q r);
+  congr = λ p q r. ties_alike (point_order p q) (point_order q r) (point_order p r) (point_order-sum p q r);
+}
+
+-- ---- a point has one spelling
+part_den_prop : (n : ℕ) → IsProp (IsPartDen n)
+part_den_prop n = hlevel props
+
+part_num_prop : (z : ℤ) (n : ℕ) → IsProp (IsPartNum z n)
+part_num_prop z n = hlevel props
+
+part_from_frac : (p q : Part) → p.frac ≡ q.frac → p ≡ q
+part_from_frac p q e = λ i. record {
+  frac = e i;
+  den_in = is_prop→PathP (λ j. IsPartDen (e j).den) (λ j. part_den_prop (e j).den) p.den_in q.den_in i;
+  num_in = is_prop→PathP (λ j. IsPartNum (e j).num (e j).den) (λ j. part_num_prop (e j).num (e j).den) p.num_in q.num_in i;
+}
+
+part_same : (p q : Part) → p.frac.num *ℤ pos q.frac.den ≡ q.frac.num *ℤ pos p.frac.den → p ≡ q
+part_same p q e = part_from_frac p q (frac_same p.frac q.frac e)
+
+-- a part isn't whole
+part_whole : (n : ℤ) (p : Part) → n *ℤ pos p.frac.den ≡ p.frac.num *ℤ pos 1 → ⊥
+part_whole n p e =
+    let sizes : unsigned_abs n * p.frac.den ≡ unsigned_abs p.frac.num = sym (unsigned_abs-mul n (pos p.frac.den)) ∙ (ap unsigned_abs e ∙ once p.frac.num) in
+    let one : p.frac.den ≡ 1 = p.frac.lowest p.frac.den (subst (λ k. p.frac.den ∣ k) sizes (dvd-mul_left p.frac.den (unsigned_abs n))) (dvd_refl p.frac.den) in
+    absurd (omega (arith, p.den_in.0, one))
+  where
+    once : (z : ℤ) → unsigned_abs (z *ℤ pos 1) ≡ unsigned_abs z
+    once z = omega (arith, unsigned_abs-mul z (pos 1))
+
+whole_same : (m n : ℤ) → m *ℤ pos 1 ≡ n *ℤ pos 1 → m ≡ n
+whole_same m n e = omega (arith, ints)
+
+then_equal : (o p : Ordering) → ordering_then o p ≡ Equal → (o ≡ Equal) × (p ≡ Equal)
+then_equal Less p e = cc
+then_equal Equal p e = (refl, e)
+then_equal Greater p e = cc
+
+same_by : (p q : Point) → (x_of p).num *ℤ pos (x_of q).den ≡ (x_of q).num *ℤ pos (x_of p).den → (y_of p).num *ℤ pos (y_of q).den ≡ (y_of q).num *ℤ pos (y_of p).den → p ≡ q
+same_by (Lattice p) (Lattice q) ex ey = ap Lattice (loc_from_fields p q (whole_same p.x q.x ex) (whole_same p.y q.y ey))
+same_by (Lattice p) (OnVertical c y) ex ey = absurd (part_whole p.y y ey)
+same_by (Lattice p) (OnHorizontal x d) ex ey = absurd (part_whole p.x x ex)
+same_by (OnVertical c y) (Lattice q) ex ey = absurd (part_whole q.y y (sym ey))
+same_by (OnVertical c y) (OnVertical c' y') ex ey = ap (λ k. OnVertical k y) (whole_same c c' ex) ∙ ap (OnVertical c') (part_same y y' ey)
+same_by (OnVertical c y) (OnHorizontal x d) ex ey = absurd (part_whole c x ex)
+same_by (OnHorizontal x d) (Lattice q) ex ey = absurd (part_whole q.x x (sym ex))
+same_by (OnHorizontal x d) (OnVertical c y) ex ey = absurd (part_whole c x (sym ex))
+same_by (OnHorizontal x d) (OnHorizontal x' d') ex ey = ap (λ k. OnHorizontal k d) (part_same x x' ex) ∙ ap (OnHorizontal x') (whole_same d d' ey)
+
+pub point_same : (p q : Point) → point_cmp p q ≡ Equal → p ≡ q
+point_same p q e =
+    let both = then_equal (fraction_cmp (y_of p) (y_of q)) (fraction_cmp (x_of p) (x_of q)) (point_cmp_is p q ∙ e) in
+    same_by p q
+    (int_ranked ((x_of p).num *ℤ pos (x_of q).den) ((x_of q).num *ℤ pos (x_of p).den) Equal (sym both.1))
+    (int_ranked ((y_of p).num *ℤ pos (y_of q).den) ((y_of q).num *ℤ pos (y_of p).den) Equal (sym both.0))
+
+pub point_alone : (p q : Point) → (point_cmp p q ≡ Equal) ↔ (p ≡ q)
+point_alone p q = (point_same p q, λ e. subst (λ k. point_cmp p k ≡ Equal) e (tied_itself point_total p))
