@@ -1,0 +1,121 @@
+-- Plain words are taken, and give what they say. No public contract cites it.
+use Rattle.std.proofs.Common.{◌≡◌, ◌++◌, ◌∙◌, Bool, true, false, List, [], ◌∷◌, Option, Some, None, Result, Ok, Err, codes, refl, sym, ap, ap₂, true≢false}
+use Rattle.std.specs.Option.{option_map_or}
+use Rattle.std.specs.Prelude.{unwrap_or}
+use Rattle.std.specs.Str.{bytes_eq}
+use Rattle.clap.specs.Words.{Row, Text, first_of, matches_of}
+use Rattle.osm_words.specs.ExportCommand.{export_app}
+use Rattle.osm_words.specs.Job.{ExportSettings, Job, export}
+use Rattle.osm_words.specs.ExportWords.{export_asked, format_named, format_said, ids_said, in_range, is_set, settings_said, settings_with, unless_refused}
+use Rattle.osm_words.specs.Words.{as_job, job_asked}
+use Rattle.osm_words.specs.Answers.{Answers, Gives}
+use Rattle.osm_words.specs.PlainWords.{Form, plain_words}
+use Rattle.osm_words.specs.PlainExport.{ArePlain, ExportOption, export_words, format_text, ids_text, format, output, overwrite, keep_untagged, ids, omit_rs, show_errors, stop_on_error, name_of, option_words, said, with_option}
+use Rattle.osm_words.specs.declared.settings.Format.{Format}
+use Rattle.osm_words.specs.declared.settings.Format.TheVariants.{GeoJson, GeoJsonSeq, Text as PlainText}
+use Rattle.osm_words.specs.declared.settings.UniqueId.{UniqueId}
+use Rattle.osm_words.specs.declared.settings.UniqueId.TheVariants.{Counter, TypeId}
+use Rattle.osm_words.specs.declared.fault.WordsFault.{WordsFault}
+use Rattle.osm_words.specs.declared.fault.WordsError.{WordsError}
+use Rattle.osm_words.specs.declared.fault.WordsError.TheVariants.{BadWords, OutOfMemory}
+use Rattle.osm_words.specs.declared.settings.Job.{Job as CodeJob}
+use Rattle.osm_words.proofs.Walk.{Ends, ends, row_for, rows_with}
+use Rattle.osm_words.proofs.Taken.{given, taken, value_in}
+use Rattle.osm_words.proofs.ExportOptions.{export_ends_well, export_options, top, value_text}
+
+abbrev option_rows : List (Form × ExportOption) → List Row
+option_rows options = rows_with top (codes "file") export_options options
+
+-- ---- what the words say
+
+abbrev flag_said : Option Text → Bool
+flag_said value = option_map_or (λ word. bytes_eq word (codes "true")) value false
+
+record Say (rows : List Row) (s : ExportSettings) : Type 0 where
+  format : format_said (value_in top (codes "format") rows) ≡ Some s.format
+  output : unwrap_or (value_in top (codes "output") rows) (codes "-") ≡ s.output
+  overwrite : flag_said (value_in top (codes "overwrite") rows) ≡ s.overwrite
+  keep_untagged : flag_said (value_in top (codes "keep-untagged") rows) ≡ s.keep_untagged
+  ids : ids_said (value_in top (codes "ids") rows) ≡ Some s.ids
+  omit_rs : flag_said (value_in top (codes "omit-rs") rows) ≡ s.omit_rs
+  show_errors : flag_said (value_in top (codes "show-errors") rows) ≡ s.show_errors
+  stop_on_error : flag_said (value_in top (codes "stop-on-error") rows) ≡ s.stop_on_error
+  file : unwrap_or (value_in top (codes "file") rows) [] ≡ s.file
+
+format_read : (f : Format) → format_named (format_text f) ≡ Some f
+format_read GeoJson = refl
+format_read GeoJsonSeq = refl
+format_read PlainText = refl
+
+ids_read : (i : UniqueId) → ids_said (Some (ids_text i)) ≡ Some (Some i)
+ids_read Counter = refl
+ids_read TypeId = refl
+
+say_more : (c : ExportOption) (rows : List Row) (s : ExportSettings) → Say rows s → Say (row_for (name_of c) (value_text c) ∷ rows) (with_option c s)
+say_more (format f) rows s more = record { format = format_read f; output = more.output; overwrite = more.overwrite; keep_untagged = more.keep_untagged; ids = more.ids; omit_rs = more.omit_rs; show_errors = more.show_errors; stop_on_error = more.stop_on_error; file = more.file }
+say_more (output name) rows s more = record { format = more.format; output = refl; overwrite = more.overwrite; keep_untagged = more.keep_untagged; ids = more.ids; omit_rs = more.omit_rs; show_errors = more.show_errors; stop_on_error = more.stop_on_error; file = more.file }
+say_more overwrite rows s more = record { format = more.format; output = more.output; overwrite = refl; keep_untagged = more.keep_untagged; ids = more.ids; omit_rs = more.omit_rs; show_errors = more.show_errors; stop_on_error = more.stop_on_error; file = more.file }
+say_more keep_untagged rows s more = record { format = more.format; output = more.output; overwrite = more.overwrite; keep_untagged = refl; ids = more.ids; omit_rs = more.omit_rs; show_errors = more.show_errors; stop_on_error = more.stop_on_error; file = more.file }
+say_more (ids i) rows s more = record { format = more.format; output = more.output; overwrite = more.overwrite; keep_untagged = more.keep_untagged; ids = ids_read i; omit_rs = more.omit_rs; show_errors = more.show_errors; stop_on_error = more.stop_on_error; file = more.file }
+say_more omit_rs rows s more = record { format = more.format; output = more.output; overwrite = more.overwrite; keep_untagged = more.keep_untagged; ids = more.ids; omit_rs = refl; show_errors = more.show_errors; stop_on_error = more.stop_on_error; file = more.file }
+say_more show_errors rows s more = record { format = more.format; output = more.output; overwrite = more.overwrite; keep_untagged = more.keep_untagged; ids = more.ids; omit_rs = more.omit_rs; show_errors = refl; stop_on_error = more.stop_on_error; file = more.file }
+say_more stop_on_error rows s more = record { format = more.format; output = more.output; overwrite = more.overwrite; keep_untagged = more.keep_untagged; ids = more.ids; omit_rs = more.omit_rs; show_errors = more.show_errors; stop_on_error = refl; file = more.file }
+
+say : (options : List (Form × ExportOption)) (file : Text) → Say (option_rows options ++ row_for (codes "file") file ∷ []) (said options file)
+say [] file = record { format = refl; output = refl; overwrite = refl; keep_untagged = refl; ids = refl; omit_rs = refl; show_errors = refl; stop_on_error = refl; file = refl }
+say (option ∷ others) file = say_more option.1 (option_rows others ++ row_for (codes "file") file ∷ []) (said others file) (say others file)
+
+-- rows in which each name has the value of `found` give what `found` says
+read_by : (rows found : List Row) (s : ExportSettings) → Say found s → ((name : Text) → first_of name rows ≡ value_in top name found) → settings_said rows ≡ Ok s
+read_by rows found s says same =
+    let format_is : format_said (first_of (codes "format") rows) ≡ Some s.format = ap format_said (same (codes "format")) ∙ says.format in
+    let ids_are : ids_said (first_of (codes "ids") rows) ≡ Some s.ids = ap ids_said (same (codes "ids")) ∙ says.ids in
+    let output_is : unwrap_or (first_of (codes "output") rows) (codes "-") ≡ s.output = ap (λ (o : Option Text). unwrap_or o (codes "-")) (same (codes "output")) ∙ says.output in
+    let overwrite_is : is_set (codes "overwrite") rows ≡ s.overwrite = ap flag_said (same (codes "overwrite")) ∙ says.overwrite in
+    let keep_is : is_set (codes "keep-untagged") rows ≡ s.keep_untagged = ap flag_said (same (codes "keep-untagged")) ∙ says.keep_untagged in
+    let omit_is : is_set (codes "omit-rs") rows ≡ s.omit_rs = ap flag_said (same (codes "omit-rs")) ∙ says.omit_rs in
+    let show_is : is_set (codes "show-errors") rows ≡ s.show_errors = ap flag_said (same (codes "show-errors")) ∙ says.show_errors in
+    let stop_is : is_set (codes "stop-on-error") rows ≡ s.stop_on_error = ap flag_said (same (codes "stop-on-error")) ∙ says.stop_on_error in
+    let file_is : unwrap_or (first_of (codes "file") rows) [] ≡ s.file = ap (λ (o : Option Text). unwrap_or o []) (same (codes "file")) ∙ says.file in
+    let all : settings_with s.format s.ids rows ≡ s = (λ i. record {
+      format = s.format;
+      output = output_is i;
+      overwrite = overwrite_is i;
+      keep_untagged = keep_is i;
+      ids = s.ids;
+      omit_rs = omit_is i;
+      show_errors = show_is i;
+      stop_on_error = stop_is i;
+      file = file_is i;
+    }) in
+    ap₂ (λ (f : Option Format) (i : Option (Option UniqueId)). in_range f i rows) format_is ids_are ∙ ap Ok all
+
+-- plain words of `export` are taken with what they say
+plain_export : (options : List (Form × ExportOption)) (file : Text) → ArePlain options file → export_asked (export_words options file) ≡ Ok (said options file)
+plain_export options file plain =
+    let words = plain_words option_words options file in
+    let used = option_rows options in
+    let end : Ends top (codes "file") words [] None used file = ends top (codes "file") export_options options file plain.once plain.values plain.file_name in
+    let rows = matches_of export_app (export_words options file) in
+    let found : settings_said rows ≡ Ok (said options file) =
+    read_by rows (used ++ row_for (codes "file") file ∷ []) (said options file) (say options file) (given top (codes "file") export_ends_well words used file end) in
+    ap₂ unless_refused (taken top (codes "file") export_ends_well words used file end) found
+
+pub plain_words_asked : (options : List (Form × ExportOption)) (file : Text) → ArePlain options file → job_asked (export_words options file) ≡ Ok (export (said options file))
+plain_words_asked options file plain = ap as_job (plain_export options file plain)
+
+-- ---- what a call answers to plain words
+
+abbrev job_or : Job → Result Job WordsFault → Job
+job_or job (Ok given) = given
+job_or job (Err fault) = job
+
+abbrev is_job : Result Job WordsFault → Bool
+is_job (Ok given) = true
+is_job (Err fault) = false
+
+-- an answer that is what was asked gives the job, where a job was asked
+pub answers_give : (asked : Result Job WordsFault) (job : Job) (r : Result CodeJob WordsError) → asked ≡ Ok job → Answers asked r → Gives job r
+answers_give asked job (Ok found) is answers = ap (job_or job) (sym answers ∙ is)
+answers_give asked job (Err OutOfMemory) is answers = refl
+answers_give asked job (Err (BadWords fault)) is answers = absurd (true≢false (ap is_job (sym is ∙ answers)))

@@ -1,0 +1,22 @@
+use Rattle.std.proofs.Common.{ap, ap₂, codes, true, ◌≡◌, ◌∙◌}
+use Rattle.clap.specs.Words.{App, app_of, new_app, with_rule}
+use Rattle.clap.specs.Simple.{app_of_fields, on_top}
+use Rattle.osm_words.specs.ExportCommand.{export_rules}
+use Rattle.osm_words.proofs.export_command.export_command.Goals as goal
+
+pub returns : goal.returns
+returns c =
+    let all : app_of c.in_ok-command.command ≡ export_rules (new_app (codes "export")) =
+    c.in_ok-command.ensures.shape c.file.ensures.local
+    ∙ ap₂ with_rule (c.in_ok-arg-8.ensures.shape c.flag-5.ensures.local
+    ∙ ap₂ with_rule (c.in_ok-arg-7.ensures.shape c.flag-4.ensures.local
+    ∙ ap₂ with_rule (c.in_ok-arg-6.ensures.shape c.flag-3.ensures.local
+    ∙ ap₂ with_rule (c.in_ok-arg-5.ensures.shape c.option-3.ensures.local
+    ∙ ap₂ with_rule (c.in_ok-arg-4.ensures.shape c.flag-2.ensures.local
+    ∙ ap₂ with_rule (c.in_ok-arg-3.ensures.shape c.flag.ensures.local
+    ∙ ap₂ with_rule (c.in_ok-arg-2.ensures.shape c.option-2.ensures.local
+    ∙ ap₂ with_rule (c.in_ok-arg.ensures.shape c.option.ensures.local
+    ∙ ap₂ with_rule c.new.ensures.app c.option.ensures.rule)
+    c.option-2.ensures.rule) c.flag.ensures.rule) c.flag-2.ensures.rule) c.option-3.ensures.rule) c.flag-3.ensures.rule) c.flag-4.ensures.rule) c.flag-5.ensures.rule)
+    c.file.ensures.rule in
+    ap app_of_fields c.disable_help_flag.ensures ∙ ap (λ (a : App). on_top (λ s. record s { disable_help_flag = true }) a) all

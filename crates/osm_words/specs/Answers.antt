@@ -1,0 +1,37 @@
+-- What a call that reads words answers. Want of memory is free.
+use Rattle.std.specs.Prelude.{◌≡◌, Result, Ok, Err, ⊤}
+use Rattle.osm_words.specs.Job.{ExportSettings, Job, export}
+use Rattle.osm_words.specs.declared.settings.ExportSettings.{ExportSettings as CodeSettings}
+use Rattle.osm_words.specs.declared.settings.Job.{Job as CodeJob}
+use Rattle.osm_words.specs.declared.settings.Job.TheVariants.{Export as code_export}
+use Rattle.osm_words.specs.declared.fault.WordsFault.{WordsFault}
+use Rattle.osm_words.specs.declared.fault.WordsError.{WordsError}
+use Rattle.osm_words.specs.declared.fault.WordsError.TheVariants.{BadWords, OutOfMemory}
+
+-- what was read, without where it lies in memory
+abbrev pub settings_seen : CodeSettings → ExportSettings
+settings_seen s = record {
+  file = s.file.now;
+  format = s.format;
+  output = s.output.now;
+  overwrite = s.overwrite;
+  keep_untagged = s.keep_untagged;
+  ids = s.ids;
+  omit_rs = s.omit_rs;
+  show_errors = s.show_errors;
+  stop_on_error = s.stop_on_error;
+}
+
+abbrev pub job_seen : CodeJob → Job
+job_seen (code_export settings) = export (settings_seen settings)
+
+-- the answer is what was asked
+abbrev pub Answers : Result Job WordsFault → Result CodeJob WordsError → Type 0
+Answers asked (Ok job) = asked ≡ Ok (job_seen job)
+Answers asked (Err (BadWords cause)) = asked ≡ Err cause
+Answers asked (Err OutOfMemory) = ⊤
+
+-- the answer is this job
+abbrev pub Gives : Job → Result CodeJob WordsError → Type 0
+Gives asked (Ok job) = job_seen job ≡ asked
+Gives asked (Err error) = error ≡ OutOfMemory

@@ -1,0 +1,75 @@
+-- What the words of `export` ask for: what `clap` finds in them, and then the ranges of the values.
+use Rattle.std.specs.Prelude.{ℕ, Bool, false, List, [], ◌∷◌, Option, Some, None, Result, Ok, Err, codes, if◌then◌else◌, option_map, unwrap_or}
+use Rattle.std.specs.Str.{bytes_eq}
+use Rattle.std.specs.Option.{option_map_or}
+use Rattle.clap.specs.Words.{Kinds, Row, Text, fault_of, first_of, matches_of}
+use Rattle.osm_words.specs.Job.{ExportSettings}
+use Rattle.osm_words.specs.ExportCommand.{export_app}
+use Rattle.osm_words.specs.declared.settings.Format.{Format}
+use Rattle.osm_words.specs.declared.settings.Format.TheVariants.{GeoJson, GeoJsonSeq, Text as PlainText}
+use Rattle.osm_words.specs.declared.settings.UniqueId.{UniqueId}
+use Rattle.osm_words.specs.declared.settings.UniqueId.TheVariants.{Counter, TypeId}
+use Rattle.osm_words.specs.declared.fault.WordsFault.{WordsFault}
+use Rattle.osm_words.specs.declared.fault.WordsFault.TheVariants.{Refused, OutOfRange}
+
+-- ---- the ranges of the values
+
+abbrev pub format_named : List ℕ → Option Format
+format_named word =
+    if bytes_eq word (codes "geojson") then Some GeoJson
+    else if bytes_eq word (codes "geojsonseq") then Some GeoJsonSeq
+    else if bytes_eq word (codes "text") then Some PlainText else None
+
+abbrev pub ids_named : List ℕ → Option UniqueId
+ids_named word =
+    if bytes_eq word (codes "counter") then Some Counter
+    else if bytes_eq word (codes "type_id") then Some TypeId else None
+
+-- the format of a value; geojson where there is none
+abbrev pub format_said : Option (List ℕ) → Option Format
+format_said None = Some GeoJson
+format_said (Some word) = format_named word
+
+-- the ids of a value; where there is none, areas get none
+abbrev pub ids_said : Option (List ℕ) → Option (Option UniqueId)
+ids_said None = Some None
+ids_said (Some word) = option_map (λ ids. Some ids) (ids_named word)
+
+-- ---- what was found
+
+abbrev pub is_set : Text → List Row → Bool
+is_set name rows = option_map_or (λ word. bytes_eq word (codes "true")) (first_of name rows) false
+
+-- The output is `-` where none was found. The parser asks for a file, so there is always one.
+abbrev pub settings_with : Format → Option UniqueId → List Row → ExportSettings
+settings_with format ids rows = record {
+  file = unwrap_or (first_of (codes "file") rows) [];
+  format = format;
+  output = unwrap_or (first_of (codes "output") rows) (codes "-");
+  overwrite = is_set (codes "overwrite") rows;
+  keep_untagged = is_set (codes "keep-untagged") rows;
+  ids = ids;
+  omit_rs = is_set (codes "omit-rs") rows;
+  show_errors = is_set (codes "show-errors") rows;
+  stop_on_error = is_set (codes "stop-on-error") rows;
+}
+
+-- The first value out of its range refuses the words: `f`, of the code 102, before `u`, of the code 117.
+abbrev pub in_range : Option Format → Option (Option UniqueId) → List Row → Result ExportSettings WordsFault
+in_range None ids rows = Err (OutOfRange 102)
+in_range (Some format) None rows = Err (OutOfRange 117)
+in_range (Some format) (Some ids) rows = Ok (settings_with format ids rows)
+
+abbrev pub settings_said : List Row → Result ExportSettings WordsFault
+settings_said rows = in_range (format_said (first_of (codes "format") rows)) (ids_said (first_of (codes "ids") rows)) rows
+
+-- ---- the words
+
+-- Of a command without subcommands `clap` states one kind at most.
+abbrev pub unless_refused : {T : Type 0} → Kinds → Result T WordsFault → Result T WordsFault
+unless_refused [] asked = asked
+unless_refused (kind ∷ others) asked = Err (Refused kind)
+
+-- what the words ask of `export`, its name first, or why they aren't taken
+abbrev pub export_asked : List (List ℕ) → Result ExportSettings WordsFault
+export_asked words = unless_refused (fault_of export_app words) (settings_said (matches_of export_app words))

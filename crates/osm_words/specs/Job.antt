@@ -1,0 +1,22 @@
+-- What the words of a run ask for.
+use Rattle.std.specs.Prelude.{ℕ, Bool, List, Option}
+use Rattle.osm_words.specs.declared.settings.Format.{Format}
+use Rattle.osm_words.specs.declared.settings.UniqueId.{UniqueId}
+
+-- of `export`
+pub record ExportSettings : Type 0 where
+  -- the name of the input
+  pub file : List ℕ
+  pub format : Format
+  -- the name of the output
+  pub output : List ℕ
+  pub overwrite : Bool
+  pub keep_untagged : Bool
+  -- None where areas get no ids
+  pub ids : Option UniqueId
+  pub omit_rs : Bool
+  pub show_errors : Bool
+  pub stop_on_error : Bool
+
+pub data Job : Type 0 where
+  export : ExportSettings → Job

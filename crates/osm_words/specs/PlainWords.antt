@@ -1,0 +1,34 @@
+-- Plain words of a command: options, each at most once, and behind them a file.
+use Rattle.std.specs.Prelude.{◌≡◌, ◌==◌, ◌⊎◌, ℕ, Bool, false, List, [], ◌∷◌, ◌++◌, codes, ⊤}
+use Rattle.std.specs.List.{list_any}
+use Rattle.std.specs.Str.{bytes_eq}
+
+-- how an option is written: by its letter, or in its long form
+pub data Form : Type 0 where
+  letter : Form
+  long : Form
+
+-- the words of options and a file, where `words` writes one option
+abbrev pub plain_words : {C : Type 0} → (Form → C → List (List ℕ)) → List (Form × C) → List ℕ → List (List ℕ)
+plain_words words [] file = file ∷ []
+plain_words words (option ∷ others) file = words option.0 option.1 ++ plain_words words others file
+
+-- its first byte is that of `-`, 45
+abbrev pub begins_with_dash : List ℕ → Bool
+begins_with_dash [] = false
+begins_with_dash (first ∷ others) = first == 45
+
+-- no two of the options have one name
+abbrev pub StandOnce : {C : Type 0} → (C → List ℕ) → List (Form × C) → Type 0
+StandOnce name_of [] = ⊤
+StandOnce name_of (option ∷ others) =
+    (list_any (λ other. bytes_eq (name_of option.1) (name_of other.1)) others ≡ false) × StandOnce name_of others
+
+-- each of the options has a plain value, or none
+abbrev pub HavePlainValues : {C : Type 0} → (C → Type 0) → List (Form × C) → Type 0
+HavePlainValues HasPlainValue [] = ⊤
+HavePlainValues HasPlainValue (option ∷ others) = HasPlainValue option.1 × HavePlainValues HasPlainValue others
+
+-- It is a lone dash, or doesn't begin with one. So the empty word is one too.
+abbrev pub IsFileName : List ℕ → Type 0
+IsFileName file = (file ≡ codes "-") ⊎ (begins_with_dash file ≡ false)

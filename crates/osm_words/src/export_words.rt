@@ -1,0 +1,120 @@
+//! What the words of `export` say, read from what `clap` found in them.
+
+ghost use Rattle.std.specs.Prelude.{◌≡◌, codes, map, option_map, string_bytes};
+ghost use Rattle.clap.specs.Words.{first_of, found_of, rows_of};
+ghost use Rattle.osm_words.specs.ExportWords.{export_asked, format_named, format_said, ids_named, ids_said, is_set, settings_said};
+ghost use Rattle.osm_words.specs.Private.{AnswersExport, export_seen};
+
+use crate::export_command::export_matches;
+use crate::fault::{WordsError, WordsFault};
+use crate::settings::{ExportSettings, Format, UniqueId};
+use clap::ArgMatches;
+use clap::error::ErrorKind;
+use std::alloc::Global;
+
+/// The format that a word names.
+fn format_named(word: &str) -> Option<Format>
+    ensures { result ≡ format_named word.now }
+{
+    match word {
+        "geojson" => Some(Format::GeoJson),
+        "geojsonseq" => Some(Format::GeoJsonSeq),
+        "text" => Some(Format::Text),
+        _ => None,
+    }
+}
+
+/// The ids that a word names.
+fn ids_named(word: &str) -> Option<UniqueId>
+    ensures { result ≡ ids_named word.now }
+{
+    match word {
+        "counter" => Some(UniqueId::Counter),
+        "type_id" => Some(UniqueId::TypeId),
+        _ => None,
+    }
+}
+
+/// The value of an argument.
+fn value_of<'a>(matches: &ArgMatches<'a>, name: &str) -> Option<&'a str>
+    ensures { option_map (λ value. value.now) result ≡ first_of name.now (rows_of (found_of matches.now)) }
+{
+    matches.get_str(name)
+}
+
+/// Whether a flag is set. `get_flag` would say nothing of a text that is neither `true` nor `false`.
+fn is_set(matches: &ArgMatches<'_>, name: &str) -> bool
+    ensures { result ≡ is_set name.now (rows_of (found_of matches.now)) }
+{
+    match value_of(matches, name) {
+        Some(word) => word == "true",
+        None => false,
+    }
+}
+
+/// The format; None where its value is out of range.
+fn format_said(matches: &ArgMatches<'_>) -> Option<Format>
+    ensures { result ≡ format_said (first_of (codes "format") (rows_of (found_of matches.now))) }
+{
+    match value_of(matches, "format") {
+        Some(word) => format_named(word),
+        None => Some(Format::GeoJson),
+    }
+}
+
+/// The ids; None where their value is out of range.
+fn ids_said(matches: &ArgMatches<'_>) -> Option<Option<UniqueId>>
+    ensures { result ≡ ids_said (first_of (codes "ids") (rows_of (found_of matches.now))) }
+{
+    match value_of(matches, "ids") {
+        Some(word) => match ids_named(word) {
+            Some(ids) => Some(Some(ids)),
+            None => None,
+        },
+        None => Some(None),
+    }
+}
+
+/// The settings, once `clap` has taken the words.
+fn settings_said<'a>(matches: &ArgMatches<'a>) -> Result<ExportSettings<'a>, WordsFault>
+    ensures { export_seen result ≡ settings_said (rows_of (found_of matches.now)) }
+{
+    let Some(format) = format_said(matches) else {
+        return Err(WordsFault::OutOfRange { option: 'f' });
+    };
+    let Some(ids) = ids_said(matches) else {
+        return Err(WordsFault::OutOfRange { option: 'u' });
+    };
+    Ok(ExportSettings {
+        file: value_of(matches, "file").unwrap_or(""),
+        format,
+        output: value_of(matches, "output").unwrap_or("-"),
+        overwrite: is_set(matches, "overwrite"),
+        keep_untagged: is_set(matches, "keep-untagged"),
+        ids,
+        omit_rs: is_set(matches, "omit-rs"),
+        show_errors: is_set(matches, "show-errors"),
+        stop_on_error: is_set(matches, "stop-on-error"),
+    })
+}
+
+/// What the words ask of `export`, the first of which is its name.
+pub(crate) fn export_settings<'a>(
+    alloc: Global,
+    words: &'a [String],
+) -> Result<ExportSettings<'a>, WordsError>
+    ensures { AnswersExport (export_asked (map string_bytes words.now)) result }
+{
+    match export_matches(alloc, words) {
+        Ok(matches) => match settings_said(&matches) {
+            Ok(settings) => Ok(settings),
+            Err(cause) => Err(WordsError::BadWords { cause }),
+        },
+        Err(error) => match error.kind() {
+            ErrorKind::OutOfMemory => Err(WordsError::OutOfMemory),
+            kind => Err(WordsError::BadWords {
+                cause: WordsFault::Refused { kind },
+            }),
+        },
+    }
+}

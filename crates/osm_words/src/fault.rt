@@ -1,0 +1,23 @@
+//! Why the words of a run aren't taken.
+
+use clap::error::ErrorKind;
+
+/// Why the words of a run aren't taken.
+#[derive(Clone, Copy, Debug, PartialEq, Eq)]
+pub enum WordsFault {
+    /// There are no words.
+    NoCommand,
+    /// The first word names no command.
+    UnknownCommand,
+    /// The command's parser refuses the words behind its name, with this kind of `clap`'s.
+    Refused { kind: ErrorKind },
+    /// The option with this letter has a value that isn't one of its own.
+    OutOfRange { option: char },
+}
+
+/// Why nothing is known of what the words ask for.
+#[derive(Clone, Copy, Debug, PartialEq, Eq)]
+pub enum WordsError {
+    BadWords { cause: WordsFault },
+    OutOfMemory,
+}

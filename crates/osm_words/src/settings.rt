@@ -1,0 +1,49 @@
+//! What the words of a run ask for.
+
+/// How areas are written.
+#[derive(Clone, Copy, Debug, PartialEq, Eq)]
+pub enum Format {
+    /// One GeoJSON feature collection (RFC 7946).
+    GeoJson,
+    /// GeoJSON text sequences (RFC 8142): a feature a line.
+    GeoJsonSeq,
+    /// Well-known text and the tags, an area a line.
+    Text,
+}
+
+/// The id of a written area.
+#[derive(Clone, Copy, Debug, PartialEq, Eq)]
+pub enum UniqueId {
+    /// It counts the written areas, from 1.
+    Counter,
+    /// It is the letter `a` and the area's id.
+    TypeId,
+}
+
+/// What the words of `export` ask for.
+#[derive(Clone, Copy, Debug, PartialEq, Eq)]
+pub struct ExportSettings<'a> {
+    /// The name of the input, `-` for standard input.
+    pub file: &'a str,
+    pub format: Format,
+    /// The name of the output, `-` for standard output.
+    pub output: &'a str,
+    /// Whether an output file that is there already may be overwritten.
+    pub overwrite: bool,
+    /// Whether candidates without tags are kept.
+    pub keep_untagged: bool,
+    /// The ids of the written areas; None where they get none.
+    pub ids: Option<UniqueId>,
+    /// Whether GeoJSON text sequences are written without record separators.
+    pub omit_rs: bool,
+    /// Whether problems and notes go to the report.
+    pub show_errors: bool,
+    /// Whether the run stops at the first candidate with problems.
+    pub stop_on_error: bool,
+}
+
+/// What the words of a run ask for.
+#[derive(Clone, Copy, Debug, PartialEq, Eq)]
+pub enum Job<'a> {
+    Export(ExportSettings<'a>),
+}

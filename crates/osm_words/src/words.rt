@@ -1,0 +1,77 @@
+//! The words of a command line: which command they name, and what they ask for.
+
+ghost use Rattle.std.specs.Prelude.{◌≡◌, ℕ, List, Ok, map, string_bytes};
+ghost use Rattle.osm_words.specs.Answers.{Answers, Gives};
+ghost use Rattle.osm_words.specs.Job.{export};
+ghost use Rattle.osm_words.specs.PlainExport.{ArePlain, ExportOption, export_words, said};
+ghost use Rattle.osm_words.specs.PlainWords.{Form};
+ghost use Rattle.osm_words.specs.Words.{command_named, job_asked, unnamed_cause};
+
+use crate::export_words::export_settings;
+use crate::fault::{WordsError, WordsFault};
+use crate::settings::Job;
+use std::alloc::Global;
+
+/// The commands of the program.
+#[derive(Clone, Copy, Debug, PartialEq, Eq)]
+pub enum Command {
+    Export,
+    Unknown,
+}
+
+/// The command that the first word names; Unknown for any other word and for none.
+pub fn command_of(words: &[String]) -> Command
+    ensures { result ≡ command_named (map string_bytes words.now) }
+{
+    match words.first() {
+        Some(word) if word.as_str() == "export" => Command::Export,
+        _ => Command::Unknown,
+    }
+}
+
+/// Why words that name no command aren't taken.
+fn unnamed_cause(words: &[String]) -> WordsFault
+    ensures { result ≡ unnamed_cause (map string_bytes words.now) }
+{
+    match words.first() {
+        Some(_) => WordsFault::UnknownCommand,
+        None => WordsFault::NoCommand,
+    }
+}
+
+/// What the words ask for.
+fn answer<'a>(alloc: Global, words: &'a [String]) -> Result<Job<'a>, WordsError>
+    ensures { Answers (job_asked (map string_bytes words.now)) result }
+{
+    match command_of(words) {
+        Command::Export => match export_settings(alloc, words) {
+            Ok(settings) => Ok(Job::Export(settings)),
+            Err(error) => Err(error),
+        },
+        Command::Unknown => Err(WordsError::BadWords {
+            cause: unnamed_cause(words),
+        }),
+    }
+}
+
+/// What the words of a run ask for, where they are the program's arguments without its name.
+///
+/// `answers` says that it is what `job_asked` says, want of memory aside. So NoCommand comes exactly where there are no words, and UnknownCommand
+/// exactly where the first word names no command. Refused comes exactly where the command's parser doesn't take the words behind its name, with the
+/// one kind that `clap` states for them. OutOfRange comes exactly where it takes them and a value isn't one of its option's: the first such
+/// option in the order `f`, `u`.
+///
+/// `plain` says that options in any order, each in its short or its long form and at most once, and a file behind them are taken with what they say.
+pub fn job_of<'a>(alloc: Global, words: &'a [String]) -> Result<Job<'a>, WordsError>
+    ensures answers { Answers (job_asked (map string_bytes words.now)) result }
+    ensures plain { (options : List (Form × ExportOption)) (file : List ℕ) → ArePlain options file
+        → map string_bytes words.now ≡ export_words options file → Gives (export (said options file)) result }
+{
+    answer(alloc, words)
+}
+
+/// The law that plain words are taken with what they say.
+pub fn plain_words_are_taken()
+    ensures { (options : List (Form × ExportOption)) (file : List ℕ) → ArePlain options file
+        → job_asked (export_words options file) ≡ Ok (export (said options file)) }
+{}
