@@ -22,3 +22,4 @@ pub mod JustAbove
 pub mod Level
 pub mod LineOrder
 pub mod TotalOrders
+pub mod MeetingLaws

@@ -20,6 +20,13 @@ whole_point x y = record { x = x.num *ℤ pos y.den; y = y.num *ℤ pos x.den }
 abbrev pub IsOnSegment : Seg → Frac → Frac → Type 0
 IsOnSegment s x y = is_off (whole_point x y) (scaled_edge (common_den x y) (edge_of s)) ≡ false
 
+-- a point on both of two segments
+pub record CommonPoint (s t : Seg) : Type 0 where
+  pub x : Frac
+  pub y : Frac
+  pub on_first : IsOnSegment s x y
+  pub on_second : IsOnSegment t x y
+
 -- how two segments slant against each other: 0 where they are parallel
 unfoldable pub slant : Seg → Seg → ℤ
 slant s t = cross (step s.a s.b) (step t.a t.b)
