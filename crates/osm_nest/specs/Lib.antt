@@ -1,0 +1,5 @@
+pub mod Cover
+pub mod Nested
+pub mod Outer
+pub mod Polygons
+pub mod RingLists

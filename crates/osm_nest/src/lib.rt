@@ -1,0 +1,6 @@
+//! Which rings are outer and which inner, and which inner ring lies under which outer one: the polygons of a ring list.
+#![tactic(auto)]
+
+mod polygon;
+
+pub use polygon::{Polygon, Polygons};
