@@ -1,0 +1,4 @@
+pub mod InPlane
+pub mod Leftmost
+pub mod RingAnchors
+pub mod WholeHeights

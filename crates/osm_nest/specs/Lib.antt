@@ -1,5 +1,6 @@
 pub mod Cover
 pub mod Homes
+pub mod Leftmost
 pub mod Nested
 pub mod Outer
 pub mod Paths

@@ -3,7 +3,9 @@
 
 mod grouping;
 mod homes;
+mod outer;
 mod polygon;
 
 pub use grouping::nest;
+pub use outer::is_outer;
 pub use polygon::{Polygon, Polygons};
