@@ -1,4 +1,5 @@
 pub mod InPlane
 pub mod Leftmost
+pub mod NestedRings
 pub mod RingAnchors
 pub mod WholeHeights

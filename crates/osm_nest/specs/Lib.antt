@@ -1,5 +1,6 @@
 pub mod Cover
 pub mod Homes
+pub mod Laws
 pub mod Leftmost
 pub mod Nested
 pub mod Outer

@@ -3,9 +3,11 @@
 
 mod grouping;
 mod homes;
+mod laws;
 mod outer;
 mod polygon;
 
 pub use grouping::nest;
+pub use laws::rings_may_be_nested;
 pub use outer::is_outer;
 pub use polygon::{Polygon, Polygons};
