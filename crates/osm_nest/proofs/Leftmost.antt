@@ -225,7 +225,7 @@ first-is-anchor es e plain inv =
     let is = inv.found m.0 m.1 k.0 x.0 k.1 k.1 (ap segment_along (k.2 x.0) ∙ sym x.2) in
     subst (λ s. IsAnchor s (segments_along es)) (sym is) m.1
 
-at-in : {X : Type 0} (xs : List X) (k : ℕ) (d : X) → k < length xs → In (get_or xs k d) xs
+pub at-in : {X : Type 0} (xs : List X) (k : ℕ) (d : X) → k < length xs → In (get_or xs k d) xs
 at-in [] k d h = absurd (omega arith)
 at-in (x ∷ xs) zero d h = inl refl
 at-in (x ∷ xs) (suc k) d h = inr (at-in xs k d (omega arith))

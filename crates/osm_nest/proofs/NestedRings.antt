@@ -78,7 +78,7 @@ test-whole e (OfSeg s) is h = by (or-out (is_at e.from s.a && is_at e.to s.b) (i
 abbrev is_part : Edge → ℕ
 is_part e = bit (not (is_whole e))
 
-none-in : {X : Type 0} (f : X → ℕ) (xs : List X) → ((x : X) → In x xs → f x ≡ 0) → total f xs ≡ 0
+pub none-in : {X : Type 0} (f : X → ℕ) (xs : List X) → ((x : X) → In x xs → f x ≡ 0) → total f xs ≡ 0
 none-in f [] h = refl
 none-in f (x ∷ xs) h = let a = h x (inl refl) in let b = none-in f xs (λ y i. h y (inr i)) in omega arith
 

@@ -1,3 +1,4 @@
+pub mod Beside
 pub mod Cover
 pub mod Homes
 pub mod Laws
