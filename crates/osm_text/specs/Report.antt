@@ -11,7 +11,6 @@ use Rattle.osm_geom.specs.declared.frac.Frac.{Frac}
 use Rattle.osm_geom.specs.declared.conflicts.Kind.TheVariants.{Crossing, Overlap}
 use Rattle.osm_geom.specs.Loc.{loc_cmp}
 use Rattle.osm_geom.specs.Frac.{rounded}
-use Rattle.osm_geom.specs.Conflict.{conflict_of}
 use Rattle.osm_geom.specs.Meeting.{IsOnSegment}
 use Rattle.osm_objects.specs.declared.problem.Problem.{Problem}
 use Rattle.osm_objects.specs.declared.problem.Problem.TheVariants.{MissingWay, MissingNode, Nothing, Conflict, Odd}
@@ -65,11 +64,6 @@ IsProblemText (Odd at) text = text ≡ codes "odd node " ++ point_text at
 -- the line of a problem
 abbrev pub IsProblemLine : ObjectRef → Problem → List ℕ → Type 0
 IsProblemLine of problem line = (text : List ℕ) × IsProblemText problem text × (line ≡ subject_text of ++ text ++ codes "\n")
-
--- A conflict is of the kind that its segments have.
-abbrev pub IsOfItsKind : Problem → Type 0
-IsOfItsKind (Conflict kind s t) = conflict_of s t ≡ Some kind
-IsOfItsKind problem = Unit {0}
 
 -- what a line says of a note
 abbrev pub note_text : Note → List ℕ

@@ -6,7 +6,8 @@ ghost use Rattle.osm_geom.specs.Conflict.{conflict_of};
 ghost use Rattle.osm_geom.specs.Frac.{rounded};
 ghost use Rattle.osm_tables.specs.Words.{word_of};
 ghost use Rattle.osm_text.specs.Wkt.{xy_text};
-ghost use Rattle.osm_text.specs.Report.{subject_text, segment_text, stretch_text, pair_text, shared_text, IsMeetingText, IsProblemText, IsProblemLine, IsOfItsKind, note_text, note_line};
+ghost use Rattle.osm_objects.specs.Problem.{IsOfItsKind};
+ghost use Rattle.osm_text.specs.Report.{subject_text, segment_text, stretch_text, pair_text, shared_text, IsMeetingText, IsProblemText, IsProblemLine, note_text, note_line};
 
 use crate::wkt::{put_point, put_xy};
 use itoa::{Buffer, Integer};

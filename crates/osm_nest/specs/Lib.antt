@@ -1,0 +1,10 @@
+pub mod Beside
+pub mod Cover
+pub mod Homes
+pub mod Laws
+pub mod Leftmost
+pub mod Nested
+pub mod Outer
+pub mod Paths
+pub mod Polygons
+pub mod RingLists

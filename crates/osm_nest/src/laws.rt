@@ -1,0 +1,7 @@
+//! Laws of nesting. Each function has an empty body; its contract is the law.
+ghost use Rattle.osm_nest.specs.Laws.{RingsMayBeNested};
+
+/// The rings that a sided list of edges along whole segments is cut into may be nested.
+pub fn rings_may_be_nested()
+    ensures { RingsMayBeNested }
+{}

@@ -1,0 +1,13 @@
+//! Which rings are outer and which inner, and which inner ring lies under which outer one: the polygons of a ring list.
+#![tactic(auto)]
+
+mod grouping;
+mod homes;
+mod laws;
+mod outer;
+mod polygon;
+
+pub use grouping::nest;
+pub use laws::rings_may_be_nested;
+pub use outer::is_outer;
+pub use polygon::{Polygon, Polygons};
