@@ -258,3 +258,6 @@ module _ (rs : List (List Edge)) (are : AreRings rs) where
 
 pub same-item : (rs : List (List Edge)) (k : ℕ) (r s : List Edge) → k < length rs → r ≡ get_or rs k r → s ≡ get_or rs k s → r ≡ s
 same-item rs k r s h is it = is ∙ get_or_default rs k r s h ∙ sym it
+
+pub each-clear : (rs : List (List Edge)) → AreRings rs → All AreClear rs
+each-clear rs are k r h = subst AreClear (get_or_default rs k [] r h) (clear-at rs are k h)

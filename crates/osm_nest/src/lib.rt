@@ -6,8 +6,10 @@ mod homes;
 mod laws;
 mod outer;
 mod polygon;
+#[cfg(test)]
+mod tests;
 
 pub use grouping::nest;
-pub use laws::rings_may_be_nested;
+pub use laws::{rings_are_clear, rings_may_be_nested};
 pub use outer::is_outer;
 pub use polygon::{Polygon, Polygons};
