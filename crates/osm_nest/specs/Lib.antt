@@ -1,4 +1,5 @@
 pub mod Cover
+pub mod Grouped
 pub mod Homes
 pub mod Nested
 pub mod Outer

@@ -1,6 +1,7 @@
 //! Which rings are outer and which inner, and which inner ring lies under which outer one: the polygons of a ring list.
 #![tactic(auto)]
 
+mod begun;
 mod grouping;
 mod homes;
 mod polygon;
