@@ -1,6 +1,6 @@
 -- Polygons whose rings are begun elsewhere: each is sided, and together they cover what the rings cover.
-use Rattle.std.proofs.Common.{All, List, [], ap, arith, cond, inl, inr, map, not, pos, refl, subst, suc, sym, ℕ, ℤ, ◌%◌, ◌*◌, ◌++◌, ◌+◌, ◌∙◌, ◌∷◌, ◌≡◌, ◌⊎◌}
-use Rattle.std.specs.List.{count_by, sum_by}
+use Rattle.std.proofs.Common.{All, List, [], ap, arith, inl, inr, map, not, pos, refl, subst, suc, sym, ℕ, ℤ, ◌%◌, ◌*◌, ◌++◌, ◌+◌, ◌∙◌, ◌∷◌, ◌≡◌, ◌⊎◌}
+use Rattle.std.specs.List.{count_by}
 use Rattle.std.proofs.lemmas.List.{map-append}
 use Rattle.nesting.specs.Cover.{covers}
 use Rattle.nesting.specs.Nesting.{edges_of}
@@ -27,8 +27,8 @@ use Rattle.winding.proofs.Sums.{total, total-++, total-is, total-map}
 use Rattle.osm_geom.specs.declared.edge.Edge.{Edge}
 use Rattle.osm_geom.specs.Point.{den_of}
 use Rattle.osm_nest.specs.declared.polygon.Polygon.{Polygon}
-use Rattle.osm_nest.specs.Cover.{AreSided, CoverAsRings, covers_at}
-use Rattle.osm_nest.specs.Nested.{AreBegun, ArePolygonsBegun, ArePolygonsOf, IsBegun, IsPolygonBegun}
+use Rattle.osm_nest.specs.Cover.{AreSided, covers_at}
+use Rattle.osm_nest.specs.Nested.{AreBegun, ArePolygonsBegun, ArePolygonsOf, IsPolygonBegun}
 use Rattle.osm_nest.specs.Polygons.{edges_in, polygon_times, rings_in, rings_of}
 use Rattle.osm_nest.specs.RingLists.{AreRings, all_edges, whole_rings}
 use Rattle.osm_rings.specs.PlaneEdge.{IsWholeSegment}
@@ -117,7 +117,7 @@ crossing-same q p xs ys s =
     let g = λ (e : plane.Edge). f (scaled_edge q e) in
     sym (total-is f (scaled_edges q xs)) ∙ total-map f (scaled_edge q) xs ∙ total-is g xs ∙ s g ∙ sym (total-is g ys) ∙ sym (total-map f (scaled_edge q) ys) ∙ total-is f (scaled_edges q ys)
 
-rings-total : (F : List Edge → ℕ) (ps : List Polygon) → total F (rings_of ps) ≡ total (λ (g : Polygon). total F (rings_in g)) ps
+pub rings-total : (F : List Edge → ℕ) (ps : List Polygon) → total F (rings_of ps) ≡ total (λ (g : Polygon). total F (rings_in g)) ps
 rings-total F [] = refl
 rings-total F (p ∷ ps) = let a = total-++ F (rings_in p) (rings_of ps) in let b = rings-total F ps in omega arith
 
@@ -151,7 +151,7 @@ module _ (rs : List (List Edge)) (are : AreRings rs) (ps bs : List Polygon) (of 
         let F = ring-sum k f in
         let u = edges_of (map polygon_edges planes) in
         let a : total f u ≡ total (λ (g : Polygon). total f (polygon_edges (polygon_times k g))) ps =
-            total-edges f (map polygon_edges planes) ∙ (total-map (total f) polygon_edges planes ∙ total-map (λ (g : nesting.Polygon). total f (polygon_edges g)) (polygon_times k) ps) in
+        total-edges f (map polygon_edges planes) ∙ (total-map (total f) polygon_edges planes ∙ total-map (λ (g : nesting.Polygon). total f (polygon_edges g)) (polygon_times k) ps) in
         let b : total (λ (g : Polygon). total f (polygon_edges (polygon_times k g))) ps ≡ total (λ (g : Polygon). total F (rings_in g)) ps = by-polygon f ps in
         let c : total F (rings_of ps) ≡ total F rs = total-is F (rings_of ps) ∙ (of.once F ∙ sym (total-is F rs)) in
         let d : total f (edges_of (whole_rings rs)) ≡ total F rs = total-edges f (whole_rings rs) ∙ total-map (total f) (edges_times k) rs in

@@ -1,7 +1,7 @@
 -- Rings begun at their least nodes, in the order of the list.
-use Rattle.std.proofs.Common.{All, List, [], ap, arith, get_or, length, refl, subst, sym, ℕ, ◌++◌, ◌+◌, ◌<◌, ◌∙◌, ◌∷◌, ◌≡◌, ⊎_elim}
+use Rattle.std.proofs.Common.{All, List, [], ap, arith, get_or, length, subst, sym, ℕ, ◌++◌, ◌+◌, ◌<◌, ◌∙◌, ◌∷◌, ◌≡◌, ⊎_elim}
 use Rattle.std.proofs.lemmas.Bool.{cases_lt}
-use Rattle.std.proofs.lemmas.List.{get_or_append_left, length-append}
+use Rattle.std.proofs.lemmas.List.{get_or_append_left, get_or_default, length-append}
 use Rattle.std.proofs.Math.Seq.{get_or-append_seam}
 use Rattle.osm_geom.specs.declared.edge.Edge.{Edge}
 use Rattle.osm_nest.specs.declared.begun.Begun.{Begun}
@@ -24,10 +24,7 @@ turned-in p q t e i =
 pub turned-whole : (p q : List Edge) → IsTurned p q → All IsWholeSegment p → All IsWholeSegment q
 turned-whole p q t whole = all-in IsWholeSegment q (λ e i. in-all IsWholeSegment p e whole (turned-in p q t e i))
 
-pub listed-none : (rs : List (List Edge)) → AreListed rs 0 []
-listed-none rs = record { sized = refl; each = λ place d h. absurd (omega arith) }
-
-pub listed-more : (rs : List (List Edge)) (n : ℕ) (bs : List Begun) (b : Begun) → AreListed rs n bs → IsBegunAt (get_or rs n []) n b → AreListed rs (n + 1) (bs ++ b ∷ [])
+listed-more : (rs : List (List Edge)) (n : ℕ) (bs : List Begun) (b : Begun) → AreListed rs n bs → IsBegunAt (get_or rs n []) n b → AreListed rs (n + 1) (bs ++ b ∷ [])
 listed-more rs n bs b are one =
     let sized = are.sized in
     record {
@@ -39,6 +36,11 @@ listed-more rs n bs b are one =
           subst (IsBegunAt (get_or rs place []) place) (sym last) (subst (λ k. IsBegunAt (get_or rs k []) k b) (sym same) one))
           (cases_lt place n);
     }
+
+pub listed-step : (rs : List (List Edge)) (n : ℕ) (bs after : List Begun) (b : Begun) (r : List Edge) → n < length rs → r ≡ get_or rs n r → after ≡ bs ++ b ∷ [] → IsBegunAt r n b → AreListed rs n bs → AreListed rs (n + 1) after
+listed-step rs n bs after b r l is made one are =
+    let here : r ≡ get_or rs n [] = is ∙ get_or_default rs n r [] l in
+    subst (AreListed rs (n + 1)) (sym made) (listed-more rs n bs b are (subst (λ s. IsBegunAt s n b) here one))
 
 -- the first edge of a ring of whole segments is one
 pub first-whole : (es xs : List Edge) (e : Edge) → xs ≡ es → All IsWholeSegment es → IsRing es → e ≡ get_or xs 0 e → IsWholeSegment e

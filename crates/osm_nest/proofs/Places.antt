@@ -1,16 +1,15 @@
 -- Begun rings, each with a place of its own; and rings at different places of a ring list, which share no edge.
-use Rattle.std.proofs.Common.{All, AllPairs, List, [], ap, arith, get_or, inl, inr, length, refl, subst, suc, sym, zero, ℕ, ◌++◌, ◌+◌, ◌<◌, ◌∙◌, ◌∷◌, ◌≡◌, ◌≢◌, ◌≤◌, ⊎_elim, nat_eq, cond, Bool, true, false}
+use Rattle.std.proofs.Common.{All, AllPairs, List, [], ap, arith, get_or, inl, inr, length, refl, subst, suc, sym, zero, ℕ, ◌+◌, ◌<◌, ◌∙◌, ◌∷◌, ◌≡◌, ◌≢◌, ◌≤◌, ⊎_elim, nat_eq, Bool, true, false}
 use Rattle.std.specs.List.Sorted.{IsPermutation}
 use Rattle.std.proofs.lemmas.Bool.{cases_lt, eq-eqb, eqb-true}
-use Rattle.std.proofs.lemmas.List.{get_or_default, length-map}
 use Rattle.std.proofs.lemmas.List.Kept.{AllPairs-cons}
-use Rattle.std.proofs.lemmas.List.Sorted.{All-permutation, length_permutation, sum_by-IsPermutation}
+use Rattle.std.proofs.lemmas.List.Sorted.{All-permutation, sum_by-IsPermutation}
 use Rattle.nesting.specs.Nesting.{edges_of}
-use Rattle.nesting.proofs.Parts.{Once, once-apart, sided-once}
+use Rattle.nesting.proofs.Parts.{Once, once-apart}
 use Rattle.plane.specs.Bit.{bit}
 use Rattle.plane.specs.Edge as plane
 use Rattle.winding.specs.Member.{In}
-use Rattle.winding.proofs.Members.{all-in, in-all, in-left, in-right, pairs-right, total-same}
+use Rattle.winding.proofs.Members.{all-in, in-left, in-right, pairs-right}
 use Rattle.winding.proofs.RingCounts.{total-member}
 use Rattle.winding.proofs.Sums.{total, total-is}
 use Rattle.osm_geom.specs.declared.edge.Edge.{Edge}

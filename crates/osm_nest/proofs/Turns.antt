@@ -1,5 +1,5 @@
 -- Begun rings sorted by where they begin are in order, since no two begin with the same edge.
-use Rattle.std.proofs.Common.{All, AllPairs, Bool, List, [], ap, arith, false, get_or, length, map, pos, refl, subst, sym, true, ℕ, ◌*ℤ◌, ◌+◌, ◌<◌, ◌∙◌, ◌≡◌, ◌≢◌, ◌≤◌}
+use Rattle.std.proofs.Common.{AllPairs, Bool, List, [], ap, arith, false, get_or, length, pos, refl, subst, sym, true, ℕ, ◌*ℤ◌, ◌<◌, ◌∙◌, ◌≡◌, ◌≢◌, ◌≤◌}
 use Rattle.std.proofs.lemmas.Int.{ints}
 use Rattle.std.specs.List.Sorted.{IsPermutation, IsSortedBy}
 use Rattle.std.specs.Ordering.{is_lt, on, ordering_reverse, ordering_then, then_cmp}
@@ -9,9 +9,8 @@ use Rattle.std.proofs.lemmas.Cmp.{on_total, then_total, tied_itself}
 use Rattle.std.proofs.lemmas.List.{get_or-map, length-append, length-map}
 use Rattle.std.proofs.lemmas.List.MinMax.{ranks_by}
 use Rattle.std.proofs.lemmas.List.Sorted.{sorted_far}
-use Rattle.nesting.proofs.Parts.{Once, sided-once}
+use Rattle.nesting.proofs.Parts.{sided-once}
 use Rattle.nesting.specs.Nesting.{edges_of}
-use Rattle.plane.specs.Edge as plane
 use Rattle.plane.specs.Order.{order}
 use Rattle.plane.specs.Scale.{scaled_point}
 use Rattle.plane.proofs.Points.{same_vector}
@@ -27,7 +26,7 @@ use Rattle.osm_geom.proofs.LocationOrder.{loc_cmp-is, loc_total}
 use Rattle.osm_geom.proofs.Orders.{loc_same}
 use Rattle.osm_nest.specs.declared.begun.Begun.{Begun}
 use Rattle.osm_nest.specs.declared.begun.Start.{Start}
-use Rattle.osm_nest.specs.Grouped.{AreInTurn, AreListed, IsBegunAt, StartsAt}
+use Rattle.osm_nest.specs.Grouped.{AreInTurn, AreListed, IsBegunAt}
 use Rattle.osm_nest.specs.Nested.{IsBefore}
 use Rattle.osm_nest.specs.RingLists.{AreRings, all_edges, whole_rings}
 use Rattle.osm_nest.proofs.Listing.{turned-in}
@@ -85,8 +84,8 @@ module _ (rs : List (List Edge)) (are : AreRings rs) (listed bs : List Begun) (a
       let long : 3 ≤ length (edges_times k r) = subst (λ xs. 3 ≤ length xs) here (are.ring_list.long (get_or (whole_rings rs) n []) (in-at (whole_rings rs) n [] (omega arith))) in
       let t = is.turned.turned in
       let some : 0 < length b.ring =
-          let a = length-map r (edge_times k) in let b = length-append t.front t.back in let c = length-append t.back t.front in
-          let d = ap length t.old in let e = ap length t.new in omega arith in
+      let a = length-map r (edge_times k) in let b = length-append t.front t.back in let c = length-append t.back t.front in
+      let d = ap length t.old in let e = ap length t.new in omega arith in
       subst (In (edge_times k (get_or b.ring 0 d))) (sym here) (in-map (edge_times k) r (get_or b.ring 0 d) (turned-in r b.ring t (get_or b.ring 0 d) (in-at b.ring 0 d some)))
 
   starts-apart : (b c : Begun) → b.place ≢ c.place → (b.place < length rs) × IsBegunAt (get_or rs b.place []) b.place b → (c.place < length rs) × IsBegunAt (get_or rs c.place []) c.place c → (d : Edge) → b.start.from ≡ c.start.from → b.start.to ≡ c.start.to → ⊥
@@ -108,9 +107,9 @@ module _ (rs : List (List Edge)) (are : AreRings rs) (listed bs : List Begun) (a
       let apart = starts-apart b c ((placed rs listed bs all moved).once i j z h l) x y d in
       let before = start-before b.start c.start far apart in
       let from : point_cmp (get_or b.ring 0 d).from (get_or c.ring 0 d).from ≡ loc_cmp b.start.from c.start.from =
-          ap (λ p. point_cmp p (get_or c.ring 0 d).from) (x.1.starts.from d) ∙ (ap (λ p. point_cmp (Lattice b.start.from) p) (y.1.starts.from d) ∙ lattice-cmp b.start.from c.start.from) in
+      ap (λ p. point_cmp p (get_or c.ring 0 d).from) (x.1.starts.from d) ∙ (ap (λ p. point_cmp (Lattice b.start.from) p) (y.1.starts.from d) ∙ lattice-cmp b.start.from c.start.from) in
       let to : point_cmp (get_or b.ring 0 d).to (get_or c.ring 0 d).to ≡ loc_cmp b.start.to c.start.to =
-          ap (λ p. point_cmp p (get_or c.ring 0 d).to) (x.1.starts.to d) ∙ (ap (λ p. point_cmp (Lattice b.start.to) p) (y.1.starts.to d) ∙ lattice-cmp b.start.to c.start.to) in
+      ap (λ p. point_cmp p (get_or c.ring 0 d).to) (x.1.starts.to d) ∙ (ap (λ p. point_cmp (Lattice b.start.to) p) (y.1.starts.to d) ∙ lattice-cmp b.start.to c.start.to) in
       ap (λ o. ordering_then o (point_cmp (get_or b.ring 0 d).to (get_or c.ring 0 d).to)) from ∙ (ap (λ o. ordering_then (loc_cmp b.start.from c.start.from) o) to ∙ before)
 
   pub turns : AreInTurn rs bs

@@ -49,19 +49,14 @@ fn put(
 }
 
 // Each outer ring with those that stand under it.
-fn joined(
-    alloc: Global,
-    outers: Vec<Begun>,
-    under: Vec<Rings>,
-) -> Result<Polygons, AllocError>
+fn joined(alloc: Global, outers: Vec<Begun>, mut under: Vec<Rings>) -> Result<Polygons, AllocError>
     requires within { All (λ b. b.place < length under.items) outers.items }
     requires once { AllPairs (λ b c. b.place ≢ c.place) outers.items }
     ensures { IfOk result (λ v. v ≡ map (with_under under.items) outers.items) }
 {
-    let mut left = under;
     let mut polygons = Polygons::new(alloc);
     for begun in outers {
-        let inners = mem::replace(&mut left[begun.place], Rings::new(alloc));
+        let inners = mem::replace(&mut under[begun.place], Rings::new(alloc));
         polygons.push(Polygon {
             outer: begun.ring,
             inners,

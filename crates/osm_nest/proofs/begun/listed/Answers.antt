@@ -1,8 +1,6 @@
 -- One more ring begun at its least node.
-use Rattle.std.proofs.Common.{All, [], ap, get_or, subst, sym, ◌+◌, ◌∙◌, ◌≡◌}
-use Rattle.std.proofs.lemmas.List.{get_or_default}
-use Rattle.osm_nest.specs.Grouped.{AreListed, IsBegunAt}
-use Rattle.osm_nest.proofs.Listing.{listed-more}
+use Rattle.std.proofs.Common.{All, subst, sym}
+use Rattle.osm_nest.proofs.Listing.{listed-step}
 use Rattle.osm_rings.specs.PlaneEdge.{IsWholeSegment}
 use Rattle.osm_nest.proofs.begun.listed.Goals as goal
 
@@ -11,9 +9,4 @@ begin-requires c = subst (All IsWholeSegment) (sym c.index-rings-place.is) (c.re
 
 pub loop-place-preserved : goal.loop-place-preserved
 loop-place-preserved c =
-    let rs = c.args.rings.now in
-    let n = c.loop-place.place in
-    let r = c.index-rings-place.result in
-    let here : r ≡ get_or rs n [] = c.index-rings-place.is ∙ get_or_default rs n r [] c.loop-place-test.true in
-    subst (AreListed rs (n + 1)) (sym c.in_ok-push.ensures.items)
-    (listed-more rs n c.loop-place.listed.items c.in_ok-begin.field-0 c.loop-place.invariant (subst (λ s. IsBegunAt s n c.in_ok-begin.field-0) here c.in_ok-begin.ensures))
+    listed-step c.args.rings.now c.loop-place.place c.loop-place.listed.items c.push.new.self.items c.in_ok-begin.field-0 c.index-rings-place.result c.loop-place-test.true c.index-rings-place.is c.in_ok-push.ensures.items c.in_ok-begin.ensures c.loop-place.invariant
