@@ -24,7 +24,7 @@ use Rattle.osm_nest.specs.Nested.{AreBegun, AreInOrder, AreNested, ArePolygonsBe
 use Rattle.osm_nest.specs.Polygons.{polygon_times, rings_in, rings_of}
 use Rattle.osm_nest.specs.RingLists.{AreRings, all_edges, whole_rings}
 use Rattle.osm_nest.proofs.BegunPolygons.{cover_begun, rings-total, sided_begun}
-use Rattle.osm_nest.proofs.Listing.{turned-whole}
+use Rattle.osm_nest.proofs.Listing.{turned_whole}
 use Rattle.osm_nest.proofs.Places.{in-at, placed, rings-apart, stand, sum-all, sum-one}
 use Rattle.osm_rings.specs.PlaneEdge.{IsWholeSegment}
 use Rattle.sided.specs.Multiple.{common_den, edges_times}
@@ -263,7 +263,7 @@ module _ (rs : List (List Edge)) (are : AreRings rs) (homes : List (Option ℕ))
 
     -- ---- the rings run along whole segments
     begun-whole : (b : Begun) → In b bs → All IsWholeSegment b.ring
-    begun-whole b i = let s = stands b i in turned-whole (given b) b.ring s.1.turned.turned (in-all (All IsWholeSegment) rs (given b) are.whole (in-at rs b.place [] s.0))
+    begun-whole b i = let s = stands b i in turned_whole (given b) b.ring s.1.turned.turned (in-all (All IsWholeSegment) rs (given b) are.whole (in-at rs b.place [] s.0))
 
     whole-by : (b : Begun) → In b bs → (rest : List (List Edge)) → ((r : List Edge) → In r rest → All IsWholeSegment r) → (r : List Edge) → (In r (rings_in (polygon_at homes bs b))) ⊎ (In r rest) → All IsWholeSegment r
     whole-by b i rest h r (inl (inl e)) = subst (All IsWholeSegment) (sym e) (begun-whole b i)

@@ -21,8 +21,8 @@ turned-in p q t e i =
     (in-either t.back t.front e (subst (In e) t.new i))
 
 -- and still runs along whole segments
-pub turned-whole : (p q : List Edge) → IsTurned p q → All IsWholeSegment p → All IsWholeSegment q
-turned-whole p q t whole = all-in IsWholeSegment q (λ e i. in-all IsWholeSegment p e whole (turned-in p q t e i))
+pub turned_whole : (p q : List Edge) → IsTurned p q → All IsWholeSegment p → All IsWholeSegment q
+turned_whole p q t whole = all-in IsWholeSegment q (λ e i. in-all IsWholeSegment p e whole (turned-in p q t e i))
 
 listed-more : (rs : List (List Edge)) (n : ℕ) (bs : List Begun) (b : Begun) → AreListed rs n bs → IsBegunAt (get_or rs n []) n b → AreListed rs (n + 1) (bs ++ b ∷ [])
 listed-more rs n bs b are one =

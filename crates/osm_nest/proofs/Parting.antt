@@ -19,12 +19,12 @@ all-empty (x ∷ xs) h zero = h 0 x (omega arith)
 all-empty (x ∷ xs) h (suc place) = all-empty xs (λ k d l. h (suc k) d (omega arith)) place
 
 pub parted-more : (homes : List (Option ℕ)) (passed outers outers' : List Begun) (under under' : List (List (List Edge))) (b : Begun) →
-    outers' ≡ outers ++ filter (stands_first homes) (b ∷ []) → length under' ≡ length under →
+    outers' ≡ outers ++ filter (stands_first homes) (b ∷ []) → length under' ≡ length homes →
     ((place : ℕ) → get_or under' place [] ≡ get_or under place [] ++ rings_under homes (b ∷ []) place) →
     AreParted homes passed outers under → AreParted homes (passed ++ b ∷ []) outers' under'
 parted-more homes passed outers outers' under under' b first size more inv = record {
   outer = first ∙ (ap (λ bs. bs ++ filter (stands_first homes) (b ∷ [])) inv.outer ∙ sym (filter-append (stands_first homes) passed (b ∷ [])));
-  sized = size ∙ inv.sized;
+  sized = size;
   inner = λ place.
       more place
       ∙ (ap (λ rs. rs ++ rings_under homes (b ∷ []) place) (inv.inner place)

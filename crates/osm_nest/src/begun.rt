@@ -2,6 +2,7 @@
 ghost use Rattle.std.specs.Prelude.{All, IfOk, length, ◌<◌, ◌≡◌};
 ghost use Rattle.osm_geom.specs.declared.point.Point.TheVariants.{Lattice};
 ghost use Rattle.osm_nest.specs.Grouped.{AreInTurn, AreListed, IsBegunAt, StartsAt};
+ghost use Rattle.osm_nest.specs.Nested.{IsBegun};
 ghost use Rattle.osm_nest.specs.RingLists.{AreRings};
 ghost use Rattle.osm_rings.specs.PlaneEdge.{IsWholeSegment};
 ghost use Rattle.osm_rings.specs.Ways.{IsLattice};
@@ -50,11 +51,20 @@ fn start_of(ring: &Ring) -> Start
 }
 
 // The ring begun at its least node.
+fn from_least(alloc: Global, ring: &Ring) -> Result<Ring, AllocError>
+    requires { All IsWholeSegment ring.now }
+    ensures begun { IfOk result (λ r. IsBegun ring.now r) }
+    ensures whole { IfOk result (λ r. All IsWholeSegment r) }
+{
+    ring.from_least(alloc)
+}
+
+// The same with its place and where it begins.
 fn begin(alloc: Global, ring: &Ring, place: usize) -> Result<Begun, AllocError>
     requires { All IsWholeSegment ring.now }
     ensures { IfOk result (λ b. IsBegunAt ring.now place b) }
 {
-    let ring = ring.from_least(alloc)?;
+    let ring = from_least(alloc, ring)?;
     Ok(Begun {
         start: start_of(&ring),
         place,

@@ -1,5 +1,5 @@
 //! The polygons of a ring list.
-ghost use Rattle.std.specs.Prelude.{All, AllPairs, IfOk, List, None, OnOk, Some, [], length, map, slice_index_or, ℕ, ◌++◌, ◌<◌, ◌∷◌, ◌≡◌, ◌≢◌};
+ghost use Rattle.std.specs.Prelude.{All, AllPairs, IfOk, List, OnOk, [], length, map, slice_index_or, ℕ, ◌++◌, ◌<◌, ◌∷◌, ◌≡◌, ◌≢◌};
 ghost use Rattle.std.specs.List.{filter};
 ghost use Rattle.osm_geom.specs.declared.edge.Edge.{Edge};
 ghost use Rattle.osm_nest.specs.Cover.{AreSided, CoverAsRings};
@@ -36,9 +36,10 @@ fn put(
     begun: Begun,
 ) -> Result<(), AllocError>
     requires place { begun.place < length homes.now }
-    requires home { (home : ℕ) → slice_index_or homes.now begun.place None ≡ Some home → home < length under.old.items }
+    requires homes { AreWithin homes.now }
+    requires room { length under.old.items ≡ length homes.now }
     ensures outers { OnOk result (outers.new.items ≡ outers.old.items ++ filter (stands_first homes.now) (begun ∷ [])) }
-    ensures sized { OnOk result (length under.new.items ≡ length under.old.items) }
+    ensures room { OnOk result (length under.new.items ≡ length homes.now) }
     ensures under { OnOk result ((place : ℕ) → slice_index_or under.new.items place [] ≡ slice_index_or under.old.items place [] ++ rings_under homes.now (begun ∷ []) place) }
 {
     match homes[begun.place] {
