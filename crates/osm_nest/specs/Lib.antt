@@ -1,5 +1,6 @@
 pub mod Beside
 pub mod Cover
+pub mod Grouped
 pub mod Homes
 pub mod Laws
 pub mod Leftmost

@@ -1,9 +1,12 @@
 //! Which rings are outer and which inner, and which inner ring lies under which outer one: the polygons of a ring list.
 #![tactic(auto)]
 
+mod begun;
 mod grouping;
 mod homes;
 mod laws;
+#[cfg(test)]
+mod nest_tests;
 mod outer;
 mod polygon;
 #[cfg(test)]
