@@ -1,13 +1,12 @@
 -- Edges right of an anchor: the code's tests, and the order of these edges.
-use Rattle.std.proofs.Common.{◌≡◌, Bool, true, false, not, ◌&&◌, List, refl, sym, ap, subst, ◌∙◌, arith}
+use Rattle.std.proofs.Common.{◌≡◌, true, false, ◌&&◌, refl, sym, ap, ◌∙◌}
 use Rattle.std.specs.Ordering.{is_lt}
 use Rattle.plane.specs.Edge as plane
-use Rattle.plane.specs.Height.{is_in_span, is_right_above, order_above}
+use Rattle.plane.specs.Height.{is_in_span, order_above}
 use Rattle.plane.specs.Sign.{Minus, Null, Plus, Sign, is_plus}
 use Rattle.plane.proofs.Bools.{and-left, false-if-never}
 use Rattle.plane.proofs.Heights.{right_chain, right_itself}
 use Rattle.osm_geom.specs.declared.edge.Edge.{Edge}
-use Rattle.osm_geom.specs.declared.point.Point.TheVariants.{Lattice}
 use Rattle.osm_geom.specs.JustAbove.{just_above_cmp}
 use Rattle.osm_geom.specs.OrderLaws.{ordering_of}
 use Rattle.osm_geom.specs.Seg.{edge_of}

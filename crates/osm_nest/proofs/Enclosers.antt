@@ -1,8 +1,8 @@
 -- The candidate with the nearest edge is the ring that directly encloses an inner ring.
-use Rattle.std.proofs.Common.{◌≡◌, inl, inr, ◌⊎◌, Bool, true, false, not, ℕ, ◌+◌, ◌<◌, List, [], ◌∷◌, length, get_or, map, All, cond, refl, sym, ap, subst, ◌∙◌, arith, ⊎_elim}
+use Rattle.std.proofs.Common.{◌≡◌, inl, inr, ◌⊎◌, Bool, true, false, not, ℕ, ◌<◌, List, [], length, get_or, map, All, refl, sym, ap, subst, ◌∙◌, arith}
 use Rattle.std.specs.List.{count_by}
 use Rattle.std.proofs.lemmas.List.{get_or_default, get_or-map, length-map}
-use Rattle.nesting.specs.Nesting.{EnclosesDirectly, IsInnerRing, IsNest, IsOuterRing, edges_of, encloses, has_edge, is_outer}
+use Rattle.nesting.specs.Nesting.{EnclosesDirectly, IsInnerRing, IsOuterRing, edges_of, encloses, has_edge, is_outer}
 use Rattle.nesting.specs.RingList.{IsRingList}
 use Rattle.nesting.proofs.DirectEnclosure.{encloses_law}
 use Rattle.nesting.proofs.DirectRings.{encloser_exists, inner-out, is_outer_by, outer-out, ring-plain}
@@ -26,12 +26,12 @@ use Rattle.winding.proofs.ScaledLists.{map-map}
 use Rattle.winding.proofs.Sums.{total-is, total-map}
 use Rattle.osm_geom.specs.declared.edge.Edge.{Edge}
 use Rattle.osm_geom.specs.Edge.{runs_up}
-use Rattle.sided.specs.Multiple.{edges_times, whole_edges}
+use Rattle.sided.specs.Multiple.{edges_times}
 use Rattle.osm_nest.specs.declared.homes.Candidate.{Candidate}
 use Rattle.osm_nest.specs.Beside.{IsCandidate, IsNearestUpTo, IsSloping, is_around, is_nearer, is_right_of}
 use Rattle.osm_nest.specs.Homes.{segments_at}
 use Rattle.osm_nest.specs.Leftmost.{segment_along}
-use Rattle.osm_nest.specs.Outer.{AnchorRuns, AreClear, IsAnchorOf, IsInner, IsOuter}
+use Rattle.osm_nest.specs.Outer.{AreClear, IsAnchorOf, IsInner, IsOuter}
 use Rattle.osm_nest.specs.RingLists.{AreRings, whole_rings}
 use Rattle.osm_nest.proofs.Beside.{spans-along}
 use Rattle.osm_nest.proofs.InPlane.{rings-once, rising-is, whole-is}
@@ -247,11 +247,13 @@ module _ (rs : List (List Edge)) (are : AreRings rs) where
         (c.place < length rs) × IsInnerRing (map segments_of (whole_rings rs)) (segments_at rs h) × EnclosesDirectly (map segments_of (whole_rings rs)) (segments_at rs c.place) (segments_at rs h)
     home-of c inner best =
         let hk = best.is.candidate.inside in
-        let i = subst IsInner own inner in
-        (hk, inner-home h hh i,
-        subst (λ (p : List (List plane.Edge)). EnclosesDirectly (map segments_of p) (segments_of (get_or p c.place [])) (segments_of (get_or p h []))) (sym plane-is)
-        (subst (λ g. EnclosesDirectly nest g (segments_of (get_or in_plane h []))) (sym (segments-at c.place hk))
-        (subst (λ g. EnclosesDirectly nest (segments_along (ring c.place)) g) (sym (segments-at h hh)) (encloses-directly h hh a at-own i c best))))
+        let i = subst IsInner own inner in (
+          hk,
+          inner-home h hh i,
+          subst (λ (p : List (List plane.Edge)). EnclosesDirectly (map segments_of p) (segments_of (get_or p c.place [])) (segments_of (get_or p h []))) (sym plane-is)
+              (subst (λ g. EnclosesDirectly nest g (segments_of (get_or in_plane h []))) (sym (segments-at c.place hk))
+              (subst (λ g. EnclosesDirectly nest (segments_along (ring c.place)) g) (sym (segments-at h hh)) (encloses-directly h hh a at-own i c best))),
+        )
 
     pub home-there : IsInner r → ((k : ℕ) → k < length rs → IsCandidate rs a k → ⊥) → ⊥
     home-there inner none = some-candidate h hh a at-own (subst IsInner own inner) none

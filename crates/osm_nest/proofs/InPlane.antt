@@ -1,15 +1,13 @@
 -- Edges along whole segments, in the plane as it stands: multiplied by their common denominator, which is 1.
-use Rattle.std.proofs.Common.{◌≡◌, Bool, true, false, cond, List, [], ◌∷◌, ◌*◌, map, All, ℕ, suc, pos, ◌*ℤ◌, refl, sym, ap, subst, ◌∙◌, arith}
+use Rattle.std.proofs.Common.{◌≡◌, Bool, true, false, cond, List, [], ◌∷◌, ◌*◌, map, All, suc, pos, ◌*ℤ◌, refl, sym, ap, ◌∙◌, arith}
 use Rattle.std.proofs.lemmas.Int.{ints}
 use Rattle.plane.specs.Edge as plane
 use Rattle.plane.specs.Order.{order}
 use Rattle.plane.specs.Scale.{scaled_point}
-use Rattle.plane.specs.Sign.{Plus, is_plus, negated}
-use Rattle.plane.specs.Vector.{Vector}
+use Rattle.plane.specs.Sign.{is_plus, negated}
 use Rattle.plane.proofs.Edges.{same_edge_by}
 use Rattle.plane.proofs.PointOrder.{order-reversed}
 use Rattle.plane.proofs.Points.{same_vector}
-use Rattle.winding.specs.Ring.{segments_of}
 use Rattle.osm_geom.specs.declared.edge.Edge.{Edge}
 use Rattle.osm_geom.specs.declared.loc.Loc.{Loc}
 use Rattle.osm_geom.specs.declared.point.Point.{Point}

@@ -1,5 +1,5 @@
 -- The edge that comes first of a list along whole segments is its anchor.
-use Rattle.std.proofs.Common.{◌≡◌, ◌≢◌, inl, inr, Bool, true, false, not, ◌&&◌, ◌||◌, ℕ, ◌+◌, ◌<◌, ◌*ℤ◌, ◌-ℤ◌, ℤ, pos, List, [], ◌∷◌, length, get_or, map, All, refl, sym, ap, subst, suc, zero, ◌∙◌, arith, ⊎_elim, cond}
+use Rattle.std.proofs.Common.{◌≡◌, inl, inr, Bool, true, false, not, ◌&&◌, ◌||◌, ℕ, ◌+◌, ◌<◌, ◌*ℤ◌, ◌-ℤ◌, ℤ, pos, List, [], ◌∷◌, length, get_or, map, refl, sym, ap, subst, suc, zero, ◌∙◌, arith, ⊎_elim, cond}
 use Rattle.std.specs.declared.cmp.Ordering.{Ordering}
 use Rattle.std.specs.declared.cmp.Ordering.TheVariants.{Less, Equal, Greater}
 use Rattle.std.specs.Ordering.{is_lt}
@@ -8,25 +8,22 @@ use Rattle.std.proofs.lemmas.Int.{ints}
 use Rattle.std.proofs.lemmas.List.{get_or_default}
 use Rattle.plane.specs.Edge as plane
 use Rattle.plane.specs.Edge.{IsRising, same_edge}
-use Rattle.plane.specs.Height.{distance_right, is_in_span, order_above}
+use Rattle.plane.specs.Height.{is_in_span, order_above}
 use Rattle.plane.specs.Order.{order}
-use Rattle.plane.specs.Sign.{Minus, Null, Plus, Sign, is_minus, is_plus, negated, sign, then_sign}
+use Rattle.plane.specs.Sign.{Minus, Null, Plus, Sign, is_plus, negated, sign, then_sign}
 use Rattle.plane.specs.Vector.{Vector, cross, from_to, orient}
 use Rattle.plane.proofs.Edges.{same_edge-true}
-use Rattle.plane.proofs.PointOrder.{order-null, order-reversed, order-self-null}
+use Rattle.plane.proofs.PointOrder.{order-null, order-reversed}
 use Rattle.plane.proofs.Products.{cross-agree, cross-from-here, cross-negated, cross-self}
 use Rattle.plane.proofs.Signs.{agree, all, all-out, all4-out, imp, imp-out, same_bool, same_bool-true, self-diff, times}
-use Rattle.winding.specs.ConflictFree.{IsConflictFree, others}
+use Rattle.winding.specs.ConflictFree.{IsConflictFree}
 use Rattle.winding.specs.Member.{In}
 use Rattle.winding.specs.Ring.{IsAnchor}
 use Rattle.winding.proofs.Anchors.{some-anchor}
 use Rattle.winding.proofs.Members.{in-map, in-map-out, into-filter}
 use Rattle.osm_geom.specs.declared.edge.Edge.{Edge}
-use Rattle.osm_geom.specs.declared.loc.Loc.{Loc}
-use Rattle.osm_geom.specs.declared.point.Point.{Point}
 use Rattle.osm_geom.specs.declared.point.Point.TheVariants.{Lattice}
 use Rattle.osm_geom.specs.JustAbove.{just_above_cmp}
-use Rattle.osm_geom.specs.Loc.{vector_of}
 use Rattle.osm_geom.specs.OrderLaws.{ordering_of}
 use Rattle.osm_geom.specs.Point.{point_cmp, point_order}
 use Rattle.osm_geom.specs.Seg.{edge_of}

@@ -1,6 +1,5 @@
 -- Anchors of rings along whole segments: that there is one, that it is one alone, and how the ring winds.
-use Rattle.std.proofs.Common.{◌≡◌, ◌≢◌, inl, inr, Bool, true, false, not, ℕ, ◌+◌, ◌-◌, ◌<◌, ◌%◌, ◌⊎◌, ◌↔◌, ◌-ℤ◌, ℤ, pos, List, [], ◌∷◌, length, get_or, map, All, cond, refl, sym, ap, subst, suc, zero, ◌∙◌, arith}
-use Rattle.std.proofs.lemmas.List.{length-map}
+use Rattle.std.proofs.Common.{◌≡◌, ◌≢◌, inl, inr, Bool, true, false, not, ℕ, ◌+◌, ◌-◌, ◌<◌, ◌%◌, ◌⊎◌, ◌↔◌, ◌-ℤ◌, ℤ, pos, List, [], ◌∷◌, length, get_or, map, All, cond, refl, sym, ap, subst, suc, ◌∙◌, arith}
 use Rattle.plane.specs.Conflict.{IsClearOf}
 use Rattle.plane.specs.Edge as plane
 use Rattle.plane.specs.Edge.{segment_of}
@@ -10,7 +9,6 @@ use Rattle.plane.specs.Sign.{Minus, Plus, is_plus, sign}
 use Rattle.plane.specs.Vector.{Vector, east, orient, same_point}
 use Rattle.plane.proofs.Bools.{false-if-never}
 use Rattle.plane.proofs.Conflicts.{self_conflicts}
-use Rattle.plane.proofs.Edges.{same_edge_by}
 use Rattle.plane.proofs.Points.{same_point-refl, same_point-true}
 use Rattle.plane.proofs.Scaling.{order-scaled, orient-scaled, point-scaled}
 use Rattle.winding.specs.ConflictFree.{IsConflictFree, others}
@@ -25,7 +23,7 @@ use Rattle.winding.proofs.Members.{all-in, in-all, in-map, in-map-out}
 use Rattle.winding.proofs.ScaledLists.{map-map, map-same, others-scaled, plain_scaled}
 use Rattle.nesting.proofs.DirectRings.{pairs-unmap}
 use Rattle.nesting.proofs.RingLists.{pairs-of}
-use Rattle.sided.specs.Multiple.{common_den, edge_times, edges_times, whole_edges}
+use Rattle.sided.specs.Multiple.{common_den, edge_times, whole_edges}
 use Rattle.osm_geom.specs.declared.edge.Edge.{Edge}
 use Rattle.osm_geom.specs.Edge.{runs_up}
 use Rattle.osm_rings.specs.PlaneEdge.{IsWholeSegment, plane_edge, vector_at}
@@ -110,9 +108,11 @@ path-of (e ∷ []) d joins h = (refl, refl)
 path-of (e ∷ (f ∷ es)) d joins h =
     let rest = path-of (f ∷ es) d (λ k d l. let same : suc k + 1 ≡ suc (k + 1) = omega arith in joins (suc k) d (omega arith) ∙ ap (λ m. (get_or (e ∷ (f ∷ es)) m d).from) same) (omega arith) in
     let same : length (e ∷ (f ∷ es)) - 1 ≡ suc (length (f ∷ es) - 1) = omega arith in
-    let join : vector_at f.from ≡ vector_at e.to = ap vector_at (sym (joins 0 d (omega arith))) in
-    (refl, subst (λ m. IsPath (vector_at e.to) (map plane_edge (f ∷ es)) (vector_at (get_or (e ∷ (f ∷ es)) m d).to)) (sym same)
-    (subst (λ v. IsPath v (map plane_edge (f ∷ es)) (vector_at (get_or (f ∷ es) (length (f ∷ es) - 1) d).to)) join rest))
+    let join : vector_at f.from ≡ vector_at e.to = ap vector_at (sym (joins 0 d (omega arith))) in (
+      refl,
+      subst (λ m. IsPath (vector_at e.to) (map plane_edge (f ∷ es)) (vector_at (get_or (e ∷ (f ∷ es)) m d).to)) (sym same)
+          (subst (λ v. IsPath v (map plane_edge (f ∷ es)) (vector_at (get_or (f ∷ es) (length (f ∷ es) - 1) d).to)) join rest),
+    )
 
 apart-by : (e f : Edge) → IsWholeSegment e → IsWholeSegment f → e.from ≢ f.from → same_point (vector_at e.from) (vector_at f.from) ≡ false
 apart-by e f w v n =
@@ -123,11 +123,11 @@ once-of : (es : List Edge) → All IsWholeSegment es → ((i j : ℕ) (d : Edge)
 once-of [] whole n = tt
 once-of (e ∷ es) whole n = (
   all-in (λ (f : plane.Edge). same_point (vector_at e.from) f.from ≡ false) (map plane_edge es) (λ f i.
-    let x = in-map-out plane_edge es f i in
-    let k = in-at x.0 es x.1 in
-    let rest : All IsWholeSegment es = λ k d h. whole (suc k) d (omega arith) in
-    subst (λ (f : plane.Edge). same_point (vector_at e.from) f.from ≡ false) (sym x.2)
-    (apart-by e x.0 (whole 0 e (omega arith)) (whole-in es x.0 rest x.1) (λ same. n 0 (suc k.0) e (omega arith) (let l = k.1 in omega arith) (same ∙ ap (λ (z : Edge). z.from) (sym (k.2 e)))))),
+      let x = in-map-out plane_edge es f i in
+      let k = in-at x.0 es x.1 in
+      let rest : All IsWholeSegment es = λ k d h. whole (suc k) d (omega arith) in
+      subst (λ (f : plane.Edge). same_point (vector_at e.from) f.from ≡ false) (sym x.2)
+      (apart-by e x.0 (whole 0 e (omega arith)) (whole-in es x.0 rest x.1) (λ same. n 0 (suc k.0) e (omega arith) (let l = k.1 in omega arith) (same ∙ ap (λ (z : Edge). z.from) (sym (k.2 e)))))),
   once-of es (λ k d h. whole (suc k) d (omega arith)) (λ i j d l m. n (suc i) (suc j) d (omega arith) (omega arith)),
 )
 

@@ -1,8 +1,8 @@
 -- Edges along whole segments at the height of a lattice point: spans and the order just above are the plane's.
-use Rattle.std.proofs.Common.{◌≡◌, Bool, not, pos, ℤ, ◌*ℤ◌, ◌+ℤ◌, ◌-ℤ◌, ◌&&◌, refl, sym, ap, ◌∙◌, arith}
+use Rattle.std.proofs.Common.{◌≡◌, not, pos, ℤ, ◌*ℤ◌, ◌+ℤ◌, ◌-ℤ◌, ◌&&◌, refl, ap, ◌∙◌, arith}
 use Rattle.std.proofs.lemmas.Int.{ints}
 use Rattle.plane.specs.Edge as plane
-use Rattle.plane.specs.Height.{distance_right, is_in_span, order_above}
+use Rattle.plane.specs.Height.{is_in_span, order_above}
 use Rattle.plane.specs.Scale.{scaled_edge}
 use Rattle.plane.specs.Sign.{Minus, Null, Plus, Sign, is_minus, is_plus, negated, sign, then_sign}
 use Rattle.plane.specs.Vector.{Vector, cross, from_to}
@@ -15,14 +15,12 @@ use Rattle.osm_geom.specs.declared.edge.Carrier.{Carrier}
 use Rattle.osm_geom.specs.declared.edge.Carrier.TheVariants.{OfSeg}
 use Rattle.osm_geom.specs.declared.edge.Edge.{Edge}
 use Rattle.osm_geom.specs.declared.loc.Loc.{Loc}
-use Rattle.osm_geom.specs.declared.point.Point.{Point}
 use Rattle.osm_geom.specs.declared.point.Point.TheVariants.{Lattice}
-use Rattle.osm_geom.specs.declared.seg.Seg.{Seg}
 use Rattle.osm_geom.specs.JustAbove.{height_of, just_above_cmp, piece_of}
 use Rattle.osm_geom.specs.Loc.{vector_of}
 use Rattle.osm_geom.specs.OrderLaws.{ordering_of}
 use Rattle.osm_geom.specs.Seg.{edge_of}
-use Rattle.osm_geom.specs.Span.{height_order, lower_end, spans, upper_end}
+use Rattle.osm_geom.specs.Span.{height_order, spans, upper_end}
 use Rattle.osm_rings.specs.PlaneEdge.{IsWholeSegment}
 use Rattle.osm_nest.proofs.InPlane.{lower-is, upper-is}
 

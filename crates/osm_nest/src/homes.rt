@@ -146,7 +146,11 @@ fn closer(edge: Edge, next: Edge, anchor: &Edge) -> Edge
     requires second { IsRight anchor.now next }
     ensures { result ≡ cond (is_nearer anchor.now next edge) next edge }
 {
-    if is_nearer(&next, &edge, anchor) { next } else { edge }
+    if is_nearer(&next, &edge, anchor) {
+        next
+    } else {
+        edge
+    }
 }
 
 // Whether an edge spans the lower end of the anchor, and is right of the anchor just above it.

@@ -101,11 +101,7 @@ fn outer_and_inner(rt: HostRuntime) -> Result<(), Fail> {
     // Each ring from its least node, outer ones counterclockwise, inner ones clockwise.
     let rows = [
         ("square", "0,0 1,0 1,1 0,1", "o"),
-        (
-            "square hole",
-            "0,0 9,0 9,9 0,9 / 2,2 2,3 3,3 3,2",
-            "oi",
-        ),
+        ("square hole", "0,0 9,0 9,9 0,9 / 2,2 2,3 3,3 3,2", "oi"),
         ("triangle on a horizontal edge", "0,0 4,0 -2,3", "o"),
         (
             "hole on a horizontal edge",

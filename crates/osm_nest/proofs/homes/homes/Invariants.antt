@@ -1,5 +1,5 @@
 -- The homes of the rings passed.
-use Rattle.std.proofs.Common.{length, get_or, ◌<◌, ◌≡◌, ℕ, Option, None}
+use Rattle.std.proofs.Common.{length, get_or, ◌<◌, ◌≡◌, ℕ, None}
 use Rattle.osm_nest.specs.Homes.{IsHome}
 use Rattle.osm_nest.proofs.homes.homes.Given as goal
 

@@ -1,5 +1,5 @@
 -- The first of the edges passed and the next one.
-use Rattle.std.proofs.Common.{length, ap, sym, subst, ◌<◌, ◌≡◌, arith}
+use Rattle.std.proofs.Common.{length, sym, subst, ◌≡◌, arith}
 use Rattle.osm_nest.specs.Outer.{AreClear, IsAnchorOf}
 use Rattle.osm_nest.proofs.Leftmost.{IsFirstUpTo, first-step, item-in}
 use Rattle.osm_nest.proofs.RingAnchors.{found-anchor, whole-in}
