@@ -1,4 +1,11 @@
 pub mod OnceLemmas
 pub mod RefLemmas
 pub mod SegmentLemmas
+pub mod RoleLemmas
+pub mod RoleSteps
+pub mod WholeRings
+pub mod RingSums
+pub mod AreaLemmas
+pub mod ProblemKinds
+pub mod OutcomeParity
 pub mod OutcomeLemmas

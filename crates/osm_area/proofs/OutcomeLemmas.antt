@@ -1,6 +1,7 @@
 -- The outcomes of a candidate.
-use Rattle.std.proofs.Common.{◌≡◌, ◌≢◌, ◌∙◌, Bool, true, false, List, [], ◌∷◌, length, map, filter, nat_le, count_by, ℤ, int_eq, IsTrue, refl, sym, ap, subst, arith}
-use Rattle.std.specs.Prelude.{◌↔◌}
+use Rattle.std.proofs.Common.{◌≡◌, ◌≢◌, ◌∙◌, Bool, true, false, List, [], ◌∷◌, ◌++◌, length, map, filter, nat_le, count_by, ℤ, int_eq, IsTrue, refl, sym, ap, subst, arith}
+use Rattle.std.specs.Prelude.{◌↔◌, ◌==◌}
+use Rattle.std.proofs.lemmas.Bool.Decides.{Decides-eqb}
 use Rattle.std.specs.List.{flat_map}
 use Rattle.osm_geom.specs.declared.seg.Seg.{Seg}
 use Rattle.opl_reader.specs.declared.object.Object.{Object}
@@ -13,11 +14,17 @@ use Rattle.osm_area.specs.Once.{each_once}
 use Rattle.osm_area.specs.MemberWays.{named_ways, member_ways, ways_named_twice}
 use Rattle.osm_area.specs.Missing.{same_ref, way_missing, missing}
 use Rattle.osm_area.specs.Segments.{way_segments, segments_of}
-use Rattle.osm_area.specs.Problems.{missing_problem}
-use Rattle.osm_area.specs.Notes.{named_twice_note}
+use Rattle.osm_area.specs.Problems.{missing_problem, AreProblemsAmong, SurvivorsAre}
+use Rattle.osm_segments.specs.declared.counts.Repeat.{Repeat}
+use Rattle.osm_segments.specs.Counts.{AreSurvivors}
+use Rattle.osm_segments.specs.Repeats.{AreRepeats}
+use Rattle.osm_area.specs.Area.{IsArea}
+use Rattle.osm_area.specs.Notes.{named_twice_note, repeated_note, AreNotesBefore}
+use Rattle.osm_area.specs.Roles.{role_notes, role_notes_of}
+use Rattle.osm_nest.specs.declared.polygon.Polygon.{Polygon}
 use Rattle.osm_area.specs.Outcome.{IsOutcome, IsOutcomeGiven}
 
--- what `assemble` knows of a candidate before it looks at segments
+-- what `outcome_of` knows of a candidate before it looks at segments
 pub record Gathered (objects : List Object) (candidate : ObjectRef) (ways : List ℤ) (parts : List ObjectRef) (notes : List Note) : Type 0 where
   pub ways_are : ways ≡ member_ways objects candidate
   pub parts_are : parts ≡ missing objects candidate
@@ -38,16 +45,16 @@ gathered objects candidate named first distinct second ways parts notes n f d w 
       notes_are = e ∙ (λ i. map named_twice_note (filter (λ way. nat_le 2 (count_by (int_eq way) (all i))) (are i)));
     }
 
-given_missing : (missing : List ObjectRef) (ways : List ℤ) (segments : List Seg) (list : List Problem) (notes : List Note)
-    → missing ≢ [] → list ≡ map missing_problem missing → notes ≡ map named_twice_note ways → IsOutcomeGiven missing ways segments (outcome.Problems list notes)
-given_missing [] ways segments list notes some e n = absurd (some refl)
-given_missing (r ∷ missing) ways segments list notes some e n = (e, (λ none. cc), n)
+given_missing : (missing : List ObjectRef) (ways : List ℤ) (segments : List Seg) (roles : List Polygon → List Note) (list : List Problem) (notes : List Note)
+    → missing ≢ [] → list ≡ map missing_problem missing → notes ≡ map named_twice_note ways → IsOutcomeGiven missing ways segments roles (outcome.Problems list notes)
+given_missing [] ways segments roles list notes some e n = absurd (some refl)
+given_missing (r ∷ missing) ways segments roles list notes some e n = (e, (λ none. cc), n)
 
 pub missing_outcome : (objects : List Object) (candidate : ObjectRef) (ways : List ℤ) (parts lent : List ObjectRef) (notes : List Note) (list : List Problem) (empty : Bool)
     → Gathered objects candidate ways parts notes → IsTrue empty ↔ (length parts ≡ 0) → empty ≡ false → lent ≡ parts → list ≡ map missing_problem lent
     → IsOutcome objects candidate (outcome.Problems list notes)
 missing_outcome objects candidate ways parts lent notes list empty g test some l e =
-    given_missing (missing objects candidate) (ways_named_twice objects candidate) (segments_of objects candidate) list notes
+    given_missing (missing objects candidate) (ways_named_twice objects candidate) (segments_of objects candidate) (role_notes objects candidate) list notes
     (λ none. let yes : IsTrue empty = test.1 (ap length (g.parts_are ∙ none)) in cc)
     (e ∙ ap (map missing_problem) (l ∙ g.parts_are))
     g.notes_are
@@ -56,13 +63,28 @@ nothing-of : {X : Type 0} (xs : List X) → length xs ≡ 0 → xs ≡ []
 nothing-of [] h = refl
 nothing-of (x ∷ xs) h = absurd (omega arith)
 
-pub complete_outcome : (objects : List Object) (candidate : ObjectRef) (ways : List ℤ) (parts : List ObjectRef) (notes : List Note) (segs passed : List Seg) (empty : Bool) (outcome : Outcome)
+pub complete_outcome : (objects : List Object) (candidate : ObjectRef) (ways named : List ℤ) (parts : List ObjectRef) (notes : List Note) (segs passed : List Seg) (empty : Bool) (outcome : Outcome)
     → Gathered objects candidate ways parts notes → IsTrue empty ↔ (length parts ≡ 0) → empty ≡ true → segs ≡ flat_map (way_segments objects) ways → passed ≡ segs
-    → ((ways : List ℤ) → notes ≡ map named_twice_note ways → IsOutcomeGiven [] ways passed outcome)
+    → ((twice : List ℤ) → notes ≡ map named_twice_note twice → IsOutcomeGiven [] twice passed (role_notes_of objects candidate named) outcome) → named ≡ ways
     → IsOutcome objects candidate outcome
-complete_outcome objects candidate ways parts notes segs passed empty outcome g test none s p h =
+complete_outcome objects candidate ways named parts notes segs passed empty outcome g test none s p h n =
     let nothing : [] ≡ missing objects candidate = sym (nothing-of parts (test.0 none)) ∙ g.parts_are in
     let same : passed ≡ segments_of objects candidate = p ∙ (s ∙ ap (flat_map (way_segments objects)) g.ways_are) in
-    let Given : List ObjectRef → Type 0 = λ rs. IsOutcomeGiven rs (ways_named_twice objects candidate) (segments_of objects candidate) outcome in
-    let With : List Seg → Type 0 = λ ss. IsOutcomeGiven [] (ways_named_twice objects candidate) ss outcome in
-    subst Given nothing (subst With same (h (ways_named_twice objects candidate) g.notes_are))
+    let Given : List ObjectRef → Type 0 = λ rs. IsOutcomeGiven rs (ways_named_twice objects candidate) (segments_of objects candidate) (role_notes objects candidate) outcome in
+    let With : List Seg → Type 0 = λ ss. IsOutcomeGiven [] (ways_named_twice objects candidate) ss (role_notes objects candidate) outcome in
+    let Along : List ℤ → Type 0 = λ ws. IsOutcomeGiven [] (ways_named_twice objects candidate) passed (role_notes_of objects candidate ws) outcome in
+    subst Given nothing (subst With same (subst Along (n ∙ g.ways_are) (h (ways_named_twice objects candidate) g.notes_are)))
+
+-- `first` and `second` are the survivors as they were lent to two calls, and `seen` the problems
+pub area_given : (segs : List Seg) (roles : List Note) (polygons : List Polygon) (notes middle last : List Note) (repeats lent : List Repeat) (survivors first second : List Seg) (list seen : List Problem) (empty : Bool)
+    → AreRepeats segs repeats → lent ≡ repeats → middle ≡ notes ++ map repeated_note lent
+    → AreSurvivors segs survivors → first ≡ survivors → AreProblemsAmong first list → seen ≡ list → empty ≡ (length seen == 0) → empty ≡ true
+    → second ≡ survivors → IsArea second polygons → last ≡ middle ++ roles
+    → (twice : List ℤ) → notes ≡ map named_twice_note twice
+    → SurvivorsAre segs (λ ss. AreProblemsAmong ss []) × SurvivorsAre segs (λ ss. IsArea ss polygons) × AreNotesBefore [] twice segs roles last
+area_given segs roles polygons notes middle last repeats lent survivors first second list seen empty are l m odd f among s test none g area end twice n =
+    let clear : list ≡ [] = sym s ∙ nothing-of seen ((Decides-eqb (length seen) 0).0 (sym test ∙ none)) in (
+      (survivors, (odd, subst (AreProblemsAmong survivors) clear (subst (λ ss. AreProblemsAmong ss list) f among))),
+      (survivors, (odd, subst (λ ss. IsArea ss polygons) g area)),
+      (middle, ((repeats, (are, m ∙ (λ i. n i ++ map repeated_note (l i)))), end)),
+    )

@@ -1,8 +1,10 @@
+pub mod Area
 pub mod MemberWays
 pub mod Missing
 pub mod Notes
 pub mod Once
-pub mod OneRing
 pub mod Outcome
 pub mod Problems
+pub mod RoleKinds
+pub mod Roles
 pub mod Segments

@@ -25,3 +25,7 @@ AreNotesGiven (r ∷ missing) ways segments notes = notes ≡ map named_twice_no
 
 abbrev pub AreNotes : List Object → ObjectRef → List Note → Type 0
 AreNotes objects candidate notes = AreNotesGiven (missing objects candidate) (ways_named_twice objects candidate) (segments_of objects candidate) notes
+
+-- those, and then the notes on roles
+abbrev pub AreNotesBefore : List ObjectRef → List ℤ → List Seg → (roles notes : List Note) → Type 0
+AreNotesBefore missing ways segments roles notes = (shared : List Note) × (AreNotesGiven missing ways segments shared × (notes ≡ shared ++ roles))

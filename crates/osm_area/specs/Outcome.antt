@@ -3,24 +3,42 @@ use Rattle.std.specs.Prelude.{◌≢◌, List, [], ℤ}
 use Rattle.osm_geom.specs.declared.seg.Seg.{Seg}
 use Rattle.opl_reader.specs.declared.object.ObjectRef.{ObjectRef}
 use Rattle.opl_reader.specs.declared.object.Object.{Object}
+use Rattle.osm_objects.specs.declared.problem.Note.{Note}
+use Rattle.osm_objects.specs.declared.problem.Problem.{Problem}
+use Rattle.osm_nest.specs.declared.polygon.Polygon.{Polygon}
 use Rattle.osm_area.specs.declared.outcome.Outcome.{Outcome}
 use Rattle.osm_area.specs.declared.outcome.Outcome.TheVariants as outcome
 use Rattle.osm_area.specs.Segments.{segments_of}
 use Rattle.osm_area.specs.Problems.{AreProblemsGiven, SurvivorsAre}
-use Rattle.osm_area.specs.Notes.{AreNotesGiven}
+use Rattle.osm_area.specs.Notes.{AreNotesGiven, AreNotesBefore}
 use Rattle.osm_area.specs.MemberWays.{ways_named_twice}
 use Rattle.osm_area.specs.Missing.{missing}
-use Rattle.osm_area.specs.OneRing.{IsOneRing, IsNotOneRing}
+use Rattle.osm_area.specs.Area.{IsArea, HaveParityOf}
+use Rattle.osm_area.specs.Roles.{role_notes}
 
--- of a candidate with these missing parts, ways named twice and segments: its problems, where it has any; else an area of
--- one ring, where its surviving segments are one
-abbrev pub IsOutcomeGiven : List ObjectRef → List ℤ → List Seg → Outcome → Type 0
-IsOutcomeGiven missing ways segments (outcome.Problems list notes) =
+-- the polygons of an area; none where there are problems
+abbrev pub polygons_in : Outcome → List Polygon
+polygons_in (outcome.Area polygons notes) = polygons
+polygons_in (outcome.Problems list notes) = []
+
+-- the problems; none of an area
+abbrev pub problems_in : Outcome → List Problem
+problems_in (outcome.Area polygons notes) = []
+problems_in (outcome.Problems list notes) = list
+
+-- of a candidate with these missing parts, ways named twice, segments, and notes on roles that polygons give: its problems,
+-- where it has any, and else its area
+abbrev pub IsOutcomeGiven : List ObjectRef → List ℤ → List Seg → (List Polygon → List Note) → Outcome → Type 0
+IsOutcomeGiven missing ways segments roles (outcome.Problems list notes) =
     AreProblemsGiven missing segments list × (list ≢ []) × AreNotesGiven missing ways segments notes
-IsOutcomeGiven missing ways segments (outcome.Area path notes) =
-    AreProblemsGiven missing segments [] × SurvivorsAre segments (λ survivors. IsOneRing survivors path) × AreNotesGiven missing ways segments notes
-IsOutcomeGiven missing ways segments outcome.NotYet =
-    AreProblemsGiven missing segments [] × SurvivorsAre segments IsNotOneRing
+IsOutcomeGiven missing ways segments roles (outcome.Area polygons notes) =
+    AreProblemsGiven missing segments [] × SurvivorsAre segments (λ survivors. IsArea survivors polygons) × AreNotesBefore missing ways segments (roles polygons) notes
 
 abbrev pub IsOutcome : List Object → ObjectRef → Outcome → Type 0
-IsOutcome objects candidate outcome = IsOutcomeGiven (missing objects candidate) (ways_named_twice objects candidate) (segments_of objects candidate) outcome
+IsOutcome objects candidate outcome =
+    IsOutcomeGiven (missing objects candidate) (ways_named_twice objects candidate) (segments_of objects candidate) (role_notes objects candidate) outcome
+
+-- at every point the rings of an area together have the parity of the segments that survive
+abbrev pub KeepsParity : List Object → ObjectRef → Outcome → Type 0
+KeepsParity objects candidate (outcome.Area polygons notes) = SurvivorsAre (segments_of objects candidate) (λ survivors. HaveParityOf survivors polygons)
+KeepsParity objects candidate (outcome.Problems list notes) = Unit {0}

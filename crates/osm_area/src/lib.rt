@@ -1,14 +1,17 @@
 //! From a candidate to its area, or to the exact list of what keeps it from having one.
 #![tactic(auto)]
 
+mod area;
 mod lists;
 mod member_ways;
 mod missing;
 mod notes;
 mod once;
-mod one_ring;
 mod outcome;
 mod problems;
+mod ring_segments;
+mod role_notes;
+mod roles;
 mod segments;
 #[cfg(test)]
 mod tests;

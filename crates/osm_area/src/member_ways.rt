@@ -9,7 +9,8 @@ use opl_reader::{Member, ObjectKind, ObjectRef};
 use osm_objects::Store;
 use std::alloc::{AllocError, Global};
 
-fn is_way(kind: ObjectKind) -> bool
+/// Whether it is that of ways.
+pub fn is_way(kind: ObjectKind) -> bool
     ensures { result ≡ same_kind kind Way }
 {
     match kind {

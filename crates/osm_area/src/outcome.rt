@@ -1,38 +1,49 @@
 //! From a candidate to its area, or to what keeps it from having one.
 
-ghost use Rattle.std.specs.Prelude.{◌≡◌, List, [], ℤ, map, IfOk};
-ghost use Rattle.osm_area.specs.Outcome.{IsOutcome, IsOutcomeGiven};
+ghost use Rattle.std.specs.Prelude.{◌≡◌, List, [], ℤ, map, All, IfOk};
+ghost use Rattle.osm_objects.specs.Problem.{IsOfItsKind};
+ghost use Rattle.osm_rings.specs.PlaneEdge.{IsWholeSegment};
+ghost use Rattle.osm_nest.specs.Polygons.{rings_of};
+ghost use Rattle.osm_area.specs.Outcome.{IsOutcome, IsOutcomeGiven, KeepsParity, polygons_in, problems_in};
 ghost use Rattle.osm_area.specs.Notes.{named_twice_note};
+ghost use Rattle.osm_area.specs.Roles.{role_notes_of};
 
+use crate::area::area;
 use crate::lists::{Notes, Problems};
 use crate::member_ways::named_ways;
 use crate::missing::missing;
 use crate::notes::{add_repeats, named_twice};
 use crate::once::each_once;
-use crate::one_ring::one_ring;
 use crate::problems::{missing_problems, problems_among};
+use crate::role_notes::add_role_notes;
 use crate::segments::segments;
 use opl_reader::ObjectRef;
-use osm_geom::{Path, Seg};
+use osm_geom::Seg;
+use osm_nest::Polygons;
 use osm_objects::Store;
 use osm_segments::{repeated, survivors};
 use std::alloc::{AllocError, Global};
 
 /// What comes of a candidate.
-#[derive(Debug, Drop)]
+#[derive(Drop)]
 pub enum Outcome {
-    /// It has an area of one ring, which `path` passes counterclockwise from its least location on; the last
-    /// location is not the first again.
-    Area { path: Path, notes: Notes },
+    /// It has an area of at least one polygon.
+    Area { polygons: Polygons, notes: Notes },
     /// What keeps it from having an area; at least one problem.
     Problems { list: Problems, notes: Notes },
-    /// Nothing keeps it from having an area, but areas of several rings aren't built yet.
-    NotYet,
 }
 
 // What comes of a candidate of which nothing is missing, and of which these segments and notes on ways are known.
-fn complete(alloc: Global, segs: &[Seg], mut notes: Notes) -> Result<Outcome, AllocError>
-    ensures { IfOk result (λ outcome. (ways : List ℤ) → notes ≡ map named_twice_note ways → IsOutcomeGiven [] ways segs.now outcome) }
+fn complete(
+    alloc: Global,
+    store: &Store,
+    candidate: ObjectRef,
+    ways: &[i64],
+    segs: &[Seg],
+    mut notes: Notes,
+) -> Result<Outcome, AllocError>
+    ensures right { IfOk result (λ outcome. (twice : List ℤ) → notes ≡ map named_twice_note twice → IsOutcomeGiven [] twice segs.now (role_notes_of store.now candidate ways.now) outcome) }
+    ensures whole { IfOk result (λ outcome. All (All IsWholeSegment) (rings_of (polygons_in outcome))) }
 {
     let repeats = repeated(alloc, segs)?;
     add_repeats(&mut notes, &repeats)?;
@@ -41,19 +52,15 @@ fn complete(alloc: Global, segs: &[Seg], mut notes: Notes) -> Result<Outcome, Al
     if !list.as_slice().is_empty() {
         return Ok(Outcome::Problems { list, notes });
     }
-    match one_ring(alloc, &survivors)? {
-        Some(path) => Ok(Outcome::Area { path, notes }),
-        None => Ok(Outcome::NotYet),
-    }
+    let polygons = area(alloc, &survivors)?;
+    add_role_notes(&mut notes, alloc, store, candidate, &polygons, ways)?;
+    Ok(Outcome::Area { polygons, notes })
 }
 
-/// Assembles a candidate: its area, or the exact list of its problems.
-///
-/// Its ways are those that it names, each once, at its first mention; members of other kinds are passed over.
-/// Where a way isn't held, or a node that a way names has no location, these are the problems. Otherwise they are
-/// found among the segments that stand an odd number of times in its ways together.
-pub fn assemble(alloc: Global, store: &Store, candidate: ObjectRef) -> Result<Outcome, AllocError>
-    ensures { IfOk result (λ outcome. IsOutcome store.now candidate outcome) }
+// What comes of a candidate.
+fn outcome_of(alloc: Global, store: &Store, candidate: ObjectRef) -> Result<Outcome, AllocError>
+    ensures right { IfOk result (λ outcome. IsOutcome store.now candidate outcome) }
+    ensures whole { IfOk result (λ outcome. All (All IsWholeSegment) (rings_of (polygons_in outcome))) }
 {
     let named = named_ways(alloc, store, candidate)?;
     let distinct = each_once(alloc, &named)?;
@@ -65,5 +72,21 @@ pub fn assemble(alloc: Global, store: &Store, candidate: ObjectRef) -> Result<Ou
         return Ok(Outcome::Problems { list, notes });
     }
     let segs = segments(alloc, store, ways)?;
-    complete(alloc, &segs, notes)
+    complete(alloc, store, candidate, ways, &segs, notes)
+}
+
+/// Assembles a candidate: its area, or the exact list of its problems.
+///
+/// Its ways are those that it names, each once, at its first mention; members of other kinds are passed over.
+/// Where a way isn't held, or a node that a way names has no location, these are the problems. Otherwise they are
+/// found among the segments that stand an odd number of times in its ways together. Where there are none, these
+/// segments make the area: each is directed so that its odd side is on its left, they are cut into rings, and each
+/// inner ring is put under the outer one that directly encloses it. The error is want of memory.
+pub fn assemble(alloc: Global, store: &Store, candidate: ObjectRef) -> Result<Outcome, AllocError>
+    ensures outcome { IfOk result (λ outcome. IsOutcome store.now candidate outcome) }
+    ensures kinds { IfOk result (λ outcome. All IsOfItsKind (problems_in outcome)) }
+    ensures whole { IfOk result (λ outcome. All (All IsWholeSegment) (rings_of (polygons_in outcome))) }
+    ensures parity { IfOk result (λ outcome. KeepsParity store.now candidate outcome) }
+{
+    outcome_of(alloc, store, candidate)
 }

@@ -1,6 +1,6 @@
 //! The segments of a candidate's ways.
 
-ghost use Rattle.std.specs.Prelude.{◌≡◌, ◌++◌, IfOk, OnOk};
+ghost use Rattle.std.specs.Prelude.{◌≡◌, IfOk};
 ghost use Rattle.std.specs.List.{filter_map, flat_map};
 ghost use Rattle.osm_objects.specs.Objects.{location_of};
 ghost use Rattle.osm_area.specs.Segments.{segment_between, segments_along, path_of, way_segments};
@@ -42,25 +42,22 @@ fn located(alloc: Global, store: &Store, refs: &[i64]) -> Result<Vec<Loc>, Alloc
         .collect(alloc)
 }
 
-// Adds the segments of a way.
+/// The segments of a way: the pairs of neighbouring different locations.
 #[tactic(auto, unfolding(crate::specs::Segments::way_segments))]
-fn add_segments(segments: &mut Vec<Seg>, store: &Store, way: i64) -> Result<(), AllocError>
-    ensures { OnOk result (segments.new.items ≡ segments.old.items ++ way_segments store.now way) }
+pub fn way_segments(alloc: Global, store: &Store, way: i64) -> Result<Vec<Seg>, AllocError>
+    ensures { IfOk result (λ v. v.items ≡ way_segments store.now way) }
 {
-    let alloc = *segments.allocator();
     let path = path_of(alloc, store, way)?;
-    let along = segments_along(alloc, &path)?;
-    segments.extend_from_slice(&along)?;
-    Ok(())
+    segments_along(alloc, &path)
 }
 
-/// The segments of ways, one way after the other: the pairs of neighbouring different locations.
+/// The segments of ways, one way after the other.
 pub fn segments(alloc: Global, store: &Store, ways: &[i64]) -> Result<Vec<Seg>, AllocError>
     ensures { IfOk result (λ v. v.items ≡ flat_map (way_segments store.now) ways.now) }
 {
     let mut segments = Vec::new(alloc);
     for &way in ways {
-        add_segments(&mut segments, store, way)?;
+        segments.extend_from_slice(&way_segments(alloc, store, way)?)?;
     }
     Ok(segments)
 }

@@ -1,7 +1,9 @@
 use super::*;
 use opl_reader::{Member, Members, Object, ObjectKind, ObjectRef, Refs, Tags, Text};
-use osm_geom::{Loc, Seg};
+use osm_geom::{Loc, Point, Seg};
+use osm_nest::Polygon;
 use osm_objects::{Note, Problem, Store};
+use osm_rings::Ring;
 use std::alloc::{AllocError, Global};
 use std::test::Fail;
 
@@ -41,31 +43,25 @@ fn way_of(alloc: Global, id: i64, numbers: &[i64]) -> Result<Object, AllocError>
     })
 }
 
-fn relation_of(
-    alloc: Global,
-    id: i64,
-    kind: ObjectKind,
-    numbers: &[i64],
-) -> Result<Object, AllocError> {
+/// The members that words name: a word that is no number is the role of those after it.
+fn members_of(alloc: Global, kind: ObjectKind, words: &str) -> Result<Members, AllocError> {
     let mut members = Members::new(alloc);
-    for number in numbers.iter().skip(1) {
-        let role = Text::from_str(alloc, "outer")?;
-        members.push(Member {
-            kind,
-            id: *number,
-            role,
-        })?;
+    let mut role = "";
+    for word in words.split_whitespace().skip(2) {
+        match word.parse::<i64>() {
+            Ok(id) => members.push(Member {
+                kind,
+                id,
+                role: Text::from_str(alloc, role)?,
+            })?,
+            Err(_) => role = word,
+        }
     }
-    Ok(Object::Relation {
-        id,
-        live: true,
-        tags: Tags::new(alloc),
-        members,
-    })
+    Ok(members)
 }
 
 /// The object of a line: `n` with its id, x and y; `w` with its id and its nodes; `r` with its id and its member
-/// ways; `s` with its id and its member relations.
+/// ways, each role before those that have it; `s` with its id and its member relations.
 fn object_of(alloc: Global, line: &str) -> Result<Object, AllocError> {
     let numbers = numbers_of(alloc, line)?;
     let id = numbers.first().copied().unwrap_or(0);
@@ -80,7 +76,12 @@ fn object_of(alloc: Global, line: &str) -> Result<Object, AllocError> {
     } else {
         ObjectKind::Relation
     };
-    relation_of(alloc, id, kind, &numbers)
+    Ok(Object::Relation {
+        id,
+        live: true,
+        tags: Tags::new(alloc),
+        members: members_of(alloc, kind, line)?,
+    })
 }
 
 fn add_lines(alloc: Global, store: &mut Store, lines: &str) -> Result<(), Fail> {
@@ -122,7 +123,8 @@ fn note_text(alloc: Global, note: &Note) -> Result<String, AllocError> {
             let seg = seg_text(alloc, *seg)?;
             format!(in alloc; "{seg} stands {times} times")
         }
-        _ => format!(in alloc; "a role"),
+        Note::InnerInOuter { way } => format!(in alloc; "way {way} is inner in an outer ring"),
+        Note::OuterInInner { way } => format!(in alloc; "way {way} is outer in an inner ring"),
     }
 }
 
@@ -134,13 +136,33 @@ fn put_notes(alloc: Global, text: &mut String, notes: &Notes) -> Result<(), Allo
     Ok(())
 }
 
-/// An outcome as lines: the area's locations or the problems, and then the notes.
+/// The locations of a ring, in order.
+fn put_ring(alloc: Global, text: &mut String, name: &str, ring: &Ring) -> Result<(), AllocError> {
+    text.push_str(name)?;
+    for edge in ring.as_slice() {
+        if let Point::Lattice(p) = edge.from {
+            text.push_str(format!(in alloc; " {} {}", p.x, p.y)?.as_str())?;
+        }
+    }
+    text.push_str("\n")?;
+    Ok(())
+}
+
+fn put_polygon(alloc: Global, text: &mut String, polygon: &Polygon) -> Result<(), AllocError> {
+    put_ring(alloc, text, "outer", &polygon.outer)?;
+    for ring in polygon.inners.as_slice() {
+        put_ring(alloc, text, "inner", ring)?;
+    }
+    Ok(())
+}
+
+/// An outcome as lines: the area's rings or the problems, and then the notes.
 fn outcome_text(alloc: Global, outcome: &Outcome) -> Result<String, AllocError> {
     let mut text = String::new(alloc);
     match outcome {
-        Outcome::Area { path, notes } => {
-            for p in path.as_slice() {
-                text.push_str(format!(in alloc; "{} {}\n", p.x, p.y)?.as_str())?;
+        Outcome::Area { polygons, notes } => {
+            for polygon in polygons.as_slice() {
+                put_polygon(alloc, &mut text, polygon)?;
             }
             put_notes(alloc, &mut text, notes)?;
         }
@@ -151,7 +173,6 @@ fn outcome_text(alloc: Global, outcome: &Outcome) -> Result<String, AllocError> 
             }
             put_notes(alloc, &mut text, notes)?;
         }
-        Outcome::NotYet => text.push_str("not yet")?,
     }
     Ok(text)
 }
@@ -177,46 +198,6 @@ fn outcome_of(alloc: Global, nodes: &str, lines: &str) -> Result<String, Fail> {
     };
     let outcome = assemble(alloc, &store, of)?;
     Ok(outcome_text(alloc, &outcome)?)
-}
-
-#[test]
-fn two_rings_are_not_built_yet(rt: HostRuntime) -> Result<(), Fail> {
-    let alloc = rt.alloc();
-    let apart = "n 5 3 0\nn 6 4 0\nn 8 3 1\nw 1 1 2 3 4 1\nw 2 5 6 8 5\nr 5 1 2";
-    assert_eq!(rt; outcome_of(alloc, SQUARE, apart)?.as_str(), "not yet");
-    let touching = "n 5 2 2\nn 6 1 2\nw 7 1 2 3 5 6 3 4 1";
-    assert_eq!(rt; outcome_of(alloc, SQUARE, touching)?.as_str(), "not yet");
-    Ok(())
-}
-
-#[test]
-fn all_ways_to_draw_a_square(rt: HostRuntime) -> Result<(), Fail> {
-    let alloc = rt.alloc();
-    let ways = "w 7 1 2 3 4 1\nw 7 2 3 4 1 2\nw 7 3 4 1 2 3\nw 7 4 1 2 3 4
-w 7 1 4 3 2 1\nw 7 4 3 2 1 4\nw 7 3 2 1 4 3\nw 7 2 1 4 3 2";
-    for way in ways.lines() {
-        let text = outcome_of(alloc, SQUARE, way)?;
-        assert_eq!(rt; text.as_str(), "0 0\n1 0\n1 1\n0 1\n");
-    }
-    Ok(())
-}
-
-#[test]
-fn shared_side_and_way_named_twice(rt: HostRuntime) -> Result<(), Fail> {
-    let alloc = rt.alloc();
-    let shared = "n 5 2 0\nn 6 2 1\nw 1 1 2 3 4 1\nw 2 2 5 6 3 2\nr 5 1 2";
-    let text = outcome_of(alloc, SQUARE, shared)?;
-    assert_eq!(rt;
-        text.as_str(),
-        "0 0\n1 0\n2 0\n2 1\n1 1\n0 1\n1 0,1 1 stands 2 times\n"
-    );
-    let twice = "w 1 1 2 3 4 1\nw 2 2 3\nw 3 3 2\nr 5 1 2 3 2";
-    let text = outcome_of(alloc, SQUARE, twice)?;
-    assert_eq!(rt;
-        text.as_str(),
-        "0 0\n1 0\n1 1\n0 1\nway 2 twice\n1 0,1 1 stands 3 times\n"
-    );
-    Ok(())
 }
 
 #[test]

@@ -1,20 +1,12 @@
--- The parts that `assemble` gathered, in the words of the definitions.
+-- What follows of each right outcome.
 use Rattle.std.proofs.lemmas.Result.{IfOk-weaker}
-use Rattle.osm_area.proofs.OutcomeLemmas.{gathered, missing_outcome, complete_outcome}
+use Rattle.osm_segments.proofs.CountLemmas.{IfOk-both}
+use Rattle.osm_area.proofs.OutcomeParity.{keeps_parity}
+use Rattle.osm_area.proofs.ProblemKinds.{problems_of_kind}
 use Rattle.osm_area.proofs.outcome.assemble.Goals as goal
 
-pub returns-then-not-is_empty : goal.returns-then-not-is_empty
-returns-then-not-is_empty c =
-    let objects = c.args.store.now in
-    let g = gathered objects c.args.candidate c.in_ok-named.named.items c.deref.result.now c.in_ok-distinct.distinct.keys c.deref-2.result.now c.as_slice-ways.result.now c.in_ok-missing.missing.keys c.in_ok-notes.notes
-    c.in_ok-named.ensures c.deref.ensures.value c.in_ok-distinct.ensures c.as_slice-ways.ensures.keys c.deref-2.ensures.value c.in_ok-notes.ensures c.in_ok-missing.ensures in
-    missing_outcome objects c.args.candidate c.as_slice-ways.result.now c.in_ok-missing.missing.keys c.as_slice.result.now c.in_ok-notes.notes c.in_ok-list.list c.is_empty.result g
-    c.is_empty.ensures c.if-not-is_empty.true c.as_slice.ensures.keys c.in_ok-list.ensures
+pub returns-clause-kinds : goal.returns-clause-kinds
+returns-clause-kinds c = IfOk-weaker c.outcome_of.result _ _ (λ outcome right. problems_of_kind c.args.store.now c.args.candidate outcome right) c.outcome_of.ensures.right
 
-pub returns : goal.returns
-returns c =
-    let objects = c.args.store.now in
-    let g = gathered objects c.args.candidate c.in_ok-named.named.items c.deref.result.now c.in_ok-distinct.distinct.keys c.deref-2.result.now c.as_slice-ways.result.now c.in_ok-missing.missing.keys c.in_ok-notes.notes
-    c.in_ok-named.ensures c.deref.ensures.value c.in_ok-distinct.ensures c.as_slice-ways.ensures.keys c.deref-2.ensures.value c.in_ok-notes.ensures c.in_ok-missing.ensures in
-    IfOk-weaker c.complete.result _ _ (λ outcome h. complete_outcome objects c.args.candidate c.as_slice-ways.result.now c.in_ok-missing.missing.keys c.in_ok-notes.notes c.in_ok-segs.segs.items c.deref-3.result.now c.is_empty.result outcome g
-    c.is_empty.ensures c.if-not-is_empty.false c.in_ok-segs.ensures c.deref-3.ensures.value h) c.complete.ensures
+pub returns-clause-parity : goal.returns-clause-parity
+returns-clause-parity c = IfOk-both c.outcome_of.result _ _ _ (λ outcome right whole. keeps_parity c.args.store.now c.args.candidate outcome right whole) c.outcome_of.ensures.right c.outcome_of.ensures.whole

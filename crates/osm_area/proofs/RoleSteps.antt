@@ -1,0 +1,104 @@
+-- One more member, edge or ring.
+use Rattle.std.proofs.Common.{◌≡◌, ◌∙◌, ℕ, ◌+◌, ◌<◌, Bool, true, false, cond, ◌||◌, List, [], ◌∷◌, ◌++◌, take, length, get_or, map, find, ℤ, Option, None, Some, option_map, append_assoc, append-nil, refl, sym, ap, int_eq}
+use Rattle.std.specs.List.{cons_option, filter_map, flat_map, list_any}
+use Rattle.std.specs.Option.{option_or}
+use Rattle.std.proofs.lemmas.List.{take_more}
+use Rattle.std.proofs.lemmas.List.Folds.{find-append, list_any-append}
+use Rattle.std.proofs.lemmas.List.Elements.{filter_map-append}
+use Rattle.std.proofs.lemmas.Grind.{flat_map-append}
+use Rattle.osm_geom.specs.declared.edge.Edge.{Edge}
+use Rattle.osm_geom.specs.declared.seg.Seg.{Seg}
+use Rattle.opl_reader.specs.declared.object.Member.{Member}
+use Rattle.osm_objects.specs.declared.problem.Note.{Note}
+use Rattle.osm_nest.specs.declared.polygon.Polygon.{Polygon}
+use Rattle.osm_area.specs.declared.roles.Role.{Role}
+use Rattle.osm_area.specs.RoleKinds.{role_named, first_role}
+use Rattle.osm_area.specs.Roles.{mentions, carries, is_in_rings, inners, outers}
+
+-- ---- roles
+
+map-or : {X Y : Type 0} (f : X → Y) (o p : Option X) → option_map f (option_or o p) ≡ option_or (option_map f o) (option_map f p)
+map-or f None p = refl
+map-or f (Some x) p = refl
+
+pub role_step : (members : List Member) (i : ℕ) (m : Member) (old new : ℤ → Option Role) → i < length members → m ≡ get_or members i m → ((way : ℤ) → old way ≡ first_role (take i members) way)
+    → ((way : ℤ) → new way ≡ option_or (old way) (first_role (m ∷ []) way)) → (way : ℤ) → new way ≡ first_role (take (i + 1) members) way
+role_step members i m old new h is inv after way =
+    let f : Member → Role = λ m. role_named m.role in
+    let taken : take (i + 1) members ≡ take i members ++ m ∷ [] = take_more members i m h ∙ ap (λ y. take i members ++ y ∷ []) (sym is) in
+    after way
+    ∙ (ap (λ o. option_or o (first_role (m ∷ []) way)) (inv way)
+    ∙ (sym (map-or f (find (mentions way) (take i members)) (find (mentions way) (m ∷ [])))
+    ∙ (sym (ap (option_map f) (find-append (mentions way) (take i members) (m ∷ [])))
+    ∙ sym (ap (λ ms. first_role ms way) taken))))
+
+-- ---- notes
+
+pub note_step : (f : ℤ → Option Note) (ways : List ℤ) (i : ℕ) (d : ℤ) (note : Option Note) (initial old new : List Note) → i < length ways → old ≡ initial ++ filter_map f (take i ways)
+    → note ≡ f (get_or ways i d) → new ≡ old ++ cons_option note [] → new ≡ initial ++ filter_map f (take (i + 1) ways)
+note_step f ways i d note initial old new h inv n after =
+    let way = get_or ways i d in
+    after
+    ∙ (ap (λ ns. ns ++ cons_option note []) inv
+    ∙ (append_assoc initial (filter_map f (take i ways)) (cons_option note [])
+    ∙ (ap (λ m. initial ++ (filter_map f (take i ways) ++ cons_option m [])) n
+    ∙ (ap (λ ns. initial ++ ns) (sym (filter_map-append f (take i ways) (way ∷ [])))
+    ∙ ap (λ ws. initial ++ filter_map f ws) (sym (take_more ways i d h))))))
+
+-- ---- segments of rings
+
+or-false : (b : Bool) → (b || false) ≡ b
+or-false true = refl
+or-false false = refl
+
+or-assoc : (a b c : Bool) → ((a || b) || c) ≡ (a || (b || c))
+or-assoc true b c = refl
+or-assoc false b c = refl
+
+pub or_turned : (b old : Bool) → cond b true old ≡ (old || b)
+or_turned true true = refl
+or_turned true false = refl
+or_turned false true = refl
+or_turned false false = refl
+
+-- one more element of a list, as it was lent
+pub any_step : {X : Type 0} (p : X → Bool) (xs lent : List X) (i : ℕ) (x : X) (initial old new : Bool) → lent ≡ xs → i < length lent → x ≡ get_or lent i x → old ≡ (initial || list_any p (take i xs)) → new ≡ (old || p x)
+    → new ≡ (initial || list_any p (take (i + 1) xs))
+any_step p xs lent i x initial old new same h is inv after =
+    let taken : take (i + 1) lent ≡ take i lent ++ x ∷ [] = take_more lent i x h ∙ ap (λ y. take i lent ++ y ∷ []) (sym is) in
+    after
+    ∙ (ap (λ b. b || p x) inv
+    ∙ (or-assoc initial (list_any p (take i xs)) (p x)
+    ∙ (ap (λ ys. initial || (list_any p (take i ys) || p x)) (sym same)
+    ∙ (ap (λ b. initial || (list_any p (take i lent) || b)) (sym (or-false (p x)))
+    ∙ (ap (λ b. initial || b) (sym (list_any-append p (take i lent) (x ∷ [])))
+    ∙ (ap (λ ys. initial || list_any p ys) (sym taken)
+    ∙ ap (λ ys. initial || list_any p (take (i + 1) ys)) same))))))
+
+map-append : {X Y : Type 0} (f : X → Y) (xs ys : List X) → map f (xs ++ ys) ≡ map f xs ++ map f ys
+map-append f [] ys = refl
+map-append f (x ∷ xs) ys = ap (λ zs. f x ∷ zs) (map-append f xs ys)
+
+pub outer_step : (polygons : List Polygon) (i : ℕ) (p : Polygon) (s : Seg) (old new : Bool) → i < length polygons → p ≡ get_or polygons i p → old ≡ is_in_rings (outers (take i polygons)) s
+    → new ≡ (old || list_any (λ (e : Edge). carries s e.carrier) p.outer) → new ≡ is_in_rings (outers (take (i + 1) polygons)) s
+outer_step polygons i p s old new h is inv after =
+    let test : List Edge → Bool = list_any (λ (e : Edge). carries s e.carrier) in
+    let taken : take (i + 1) polygons ≡ take i polygons ++ p ∷ [] = take_more polygons i p h ∙ ap (λ y. take i polygons ++ y ∷ []) (sym is) in
+    after
+    ∙ (ap (λ b. b || test p.outer) inv
+    ∙ (ap (λ b. list_any test (outers (take i polygons)) || b) (sym (or-false (test p.outer)))
+    ∙ (sym (list_any-append test (outers (take i polygons)) (p.outer ∷ []))
+    ∙ (ap (list_any test) (sym (map-append (λ (p : Polygon). p.outer) (take i polygons) (p ∷ [])))
+    ∙ ap (λ ps. is_in_rings (outers ps) s) (sym taken)))))
+
+pub inner_step : (polygons : List Polygon) (i : ℕ) (p : Polygon) (s : Seg) (old new : Bool) → i < length polygons → p ≡ get_or polygons i p → old ≡ is_in_rings (inners (take i polygons)) s
+    → new ≡ (old || is_in_rings p.inners s) → new ≡ is_in_rings (inners (take (i + 1) polygons)) s
+inner_step polygons i p s old new h is inv after =
+    let test : List Edge → Bool = list_any (λ (e : Edge). carries s e.carrier) in
+    let taken : take (i + 1) polygons ≡ take i polygons ++ p ∷ [] = take_more polygons i p h ∙ ap (λ y. take i polygons ++ y ∷ []) (sym is) in
+    after
+    ∙ (ap (λ b. b || list_any test p.inners) inv
+    ∙ (sym (list_any-append test (inners (take i polygons)) p.inners)
+    ∙ (ap (λ rs. list_any test (inners (take i polygons) ++ rs)) (sym (append-nil p.inners))
+    ∙ (ap (list_any test) (sym (flat_map-append (λ (p : Polygon). p.inners) (take i polygons) (p ∷ [])))
+    ∙ ap (λ ps. is_in_rings (inners ps) s) (sym taken)))))

@@ -1,7 +1,0 @@
-use Rattle.std.proofs.Common.{arith}
-use Rattle.std.proofs.lemmas.Grind.{common_steps}
-use Rattle.std.proofs.lemmas.List.Elements.{filter_map-append}
-use Rattle.osm_area.proofs.one_ring.path_along.Goals as goal
-
-pub loop-edge-preserved : goal.loop-edge-preserved
-loop-edge-preserved c = grind (arith, common_steps, filter_map-append)

@@ -1,0 +1,68 @@
+//! The roles of a relation's ways.
+
+ghost use Rattle.std.specs.Prelude.{◌≡◌, ◌∷◌, [], ℤ, IfOk, OnOk};
+ghost use Rattle.std.specs.List.{list_any};
+ghost use Rattle.std.specs.Option.{option_or};
+ghost use Rattle.std.specs.Ordering.{int_eq};
+ghost use Rattle.indexmap.specs.IndexMap.{get};
+ghost use Rattle.osm_area.specs.RoleKinds.{role_named, first_role, names_a_ring};
+
+use crate::member_ways::is_way;
+use indexmap::IndexMap;
+use opl_reader::{Member, Text};
+use std::alloc::{AllocError, Global};
+
+/// What a role tells of the rings that a way lies in.
+#[derive(Clone, Copy)]
+pub enum Role {
+    Inner,
+    Outer,
+    Other,
+}
+
+#[tactic(auto, unfolding(crate::specs::RoleKinds::role_named))]
+fn role_named(role: &Text) -> Role
+    ensures { result ≡ role_named role.now }
+{
+    if role.as_str() == "inner" {
+        Role::Inner
+    } else if role.as_str() == "outer" {
+        Role::Outer
+    } else {
+        Role::Other
+    }
+}
+
+fn names_a_ring(member: &Member) -> bool
+    ensures { result ≡ names_a_ring member.now }
+{
+    member.role.as_str() == "inner" || member.role.as_str() == "outer"
+}
+
+/// Whether some member has the role `inner` or `outer`.
+pub fn any_names_a_ring(members: &[Member]) -> bool
+    ensures { result ≡ list_any names_a_ring members.now }
+{
+    members.iter().any(|member| names_a_ring(member))
+}
+
+// Adds the role of a member, if it is a way that isn't there yet.
+fn add_role(roles: &mut IndexMap<i64, Role>, member: &Member) -> Result<(), AllocError>
+    ensures { OnOk result ((way : ℤ) → get int_eq roles.new way ≡ option_or (get int_eq roles.old way) (first_role (member.now ∷ []) way)) }
+{
+    if is_way(member.kind) && !roles.contains_key(&member.id) {
+        roles.insert(member.id, role_named(&member.role))?;
+    }
+    Ok(())
+}
+
+/// For each way its role where it is first mentioned.
+pub fn first_roles(alloc: Global, members: &[Member]) -> Result<IndexMap<i64, Role>, AllocError>
+    ensures { IfOk result (λ roles. (way : ℤ) → get int_eq roles way ≡ first_role members.now way) }
+{
+    let mut roles = IndexMap::new(alloc);
+    for member in members {
+        add_role(&mut roles, member)?;
+    }
+    Ok(roles)
+}
