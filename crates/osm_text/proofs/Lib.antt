@@ -1,4 +1,4 @@
 mod DecimalLemmas
-mod MeetingLemmas
+pub mod LineExists
 mod RowLemmas
 mod StringLemmas

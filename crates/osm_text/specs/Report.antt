@@ -71,6 +71,10 @@ abbrev pub IsOfItsKind : Problem → Type 0
 IsOfItsKind (Conflict kind s t) = conflict_of s t ≡ Some kind
 IsOfItsKind problem = Unit {0}
 
+-- every problem has a line; a conflict, if it is of the kind that its segments have
+abbrev pub ProblemLineExists : Type 0
+ProblemLineExists = (of : ObjectRef) (problem : Problem) → IsOfItsKind problem → (line : List ℕ) × IsProblemLine of problem line
+
 -- what a line says of a note
 abbrev pub note_text : Note → List ℕ
 note_text (NamedTwice way) = codes "note way " ++ signed_decimal way ++ codes " named twice"

@@ -3,6 +3,7 @@
 
 mod decimal;
 mod feature;
+mod laws;
 mod report;
 mod strings;
 #[cfg(test)]
@@ -11,5 +12,6 @@ mod wkt;
 
 pub use decimal::put_decimal;
 pub use feature::ring_text;
+pub use laws::problem_line_exists;
 pub use report::{note_line, problem_line};
 pub use strings::written;
