@@ -1,4 +1,9 @@
 mod DecimalLemmas
+mod EscapeLemmas
+mod KeyLaws
+mod LatticeLemmas
 mod MeetingLemmas
+mod NotationLemmas
+mod PropertyLemmas
 mod RowLemmas
 mod StringLemmas

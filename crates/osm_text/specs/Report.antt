@@ -1,5 +1,5 @@
 -- Lines of an export's report: a problem or a note of a candidate.
-use Rattle.std.specs.Prelude.{◌≡◌, ℕ, List, ◌++◌, Some, codes, decimal}
+use Rattle.std.specs.Prelude.{◌≡◌, ℕ, List, ◌++◌, codes, decimal}
 use Rattle.std.specs.Fmt.{signed_decimal}
 use Rattle.std.specs.Ordering.{ord_min, ord_max}
 use Rattle.opl_reader.specs.declared.object.ObjectKind.{ObjectKind}
