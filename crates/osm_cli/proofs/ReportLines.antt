@@ -27,7 +27,8 @@ use Rattle.osm_area.specs.Problems.{missing_of, missing_problem, conflict_proble
 use Rattle.osm_area.specs.Missing.{missing}
 use Rattle.osm_area.specs.Segments.{segments_of}
 use Rattle.osm_text.specs.Feature.{feature_text}
-use Rattle.osm_text.specs.Report.{IsProblemLine, IsOfItsKind, note_line}
+use Rattle.osm_objects.specs.Problem.{IsOfItsKind}
+use Rattle.osm_text.specs.Report.{IsProblemLine, note_line}
 use Rattle.osm_cli.specs.declared.entry.Texts.{Texts}
 use Rattle.osm_cli.specs.Entry.{tags_of, AreProblemLines, IsReportShown}
 use Rattle.osm_cli.specs.Entries.{lines_text, shown, AddsProblems, IsEntryOf}

@@ -5,7 +5,8 @@ ghost use Rattle.std.specs.List.{flat_map};
 ghost use Rattle.osm_objects.specs.Objects.{object_at};
 ghost use Rattle.osm_objects.specs.Candidates.{candidates};
 ghost use Rattle.osm_cli.specs.Entries.{lines_text, shown, IsEntryOf, AreEntriesOf, AddsProblems, entry_failed, entries_failed};
-ghost use Rattle.osm_text.specs.Report.{note_line, IsOfItsKind};
+ghost use Rattle.osm_objects.specs.Problem.{IsOfItsKind};
+ghost use Rattle.osm_text.specs.Report.{note_line};
 
 use opl_reader::ObjectRef;
 use osm_area::{Outcome, assemble};

@@ -7,3 +7,4 @@ pub mod AreaIds
 pub mod Views
 pub mod AddErrors
 pub mod Held
+pub mod Problem

@@ -1,0 +1,21 @@
+-- Which ring directly encloses which, by places in a list. No public contract cites it.
+use Rattle.std.specs.Prelude.{List, Option, None, Some, [], get_or, length, map, ℕ, ◌<◌, ◌≡◌}
+use Rattle.nesting.specs.Nesting.{EnclosesDirectly, IsInnerRing, IsOuterRing}
+use Rattle.winding.specs.Ring.{segments_of}
+use Rattle.osm_geom.specs.declared.edge.Edge.{Edge}
+use Rattle.osm_nest.specs.RingLists.{whole_rings}
+use Rattle.plane.specs.Edge as plane
+
+-- the segments of the plane's ring at a place
+abbrev pub segments_at : List (List Edge) → ℕ → List plane.Edge
+segments_at rs place = segments_of (get_or (whole_rings rs) place [])
+
+-- the home of an inner ring is the place of the ring that directly encloses it; an outer ring has none
+abbrev pub IsHome : List (List Edge) → ℕ → Option ℕ → Type 0
+IsHome rs place None = IsOuterRing (map segments_of (whole_rings rs)) (segments_at rs place)
+IsHome rs place (Some home) =
+    (home < length rs) × IsInnerRing (map segments_of (whole_rings rs)) (segments_at rs place) × EnclosesDirectly (map segments_of (whole_rings rs)) (segments_at rs home) (segments_at rs place)
+
+pub record AreHomes (rs : List (List Edge)) (homes : List (Option ℕ)) : Type 0 where
+  pub sized : length homes ≡ length rs
+  pub right : (place : ℕ) → place < length rs → IsHome rs place (get_or homes place None)

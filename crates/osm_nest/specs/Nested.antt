@@ -1,0 +1,54 @@
+-- Rings put under those that directly enclose them: the polygons of a ring list.
+use Rattle.std.specs.Prelude.{All, AllPairs, List, [], slice_index_or, sum_by, ℕ, ◌∷◌, ◌≡◌}
+use Rattle.std.specs.declared.cmp.Ordering.{Ordering}
+use Rattle.std.specs.declared.cmp.Ordering.TheVariants.{Less}
+use Rattle.std.specs.Ordering.{ordering_then}
+use Rattle.nesting.specs.Polygon.{IsPolygon}
+use Rattle.osm_geom.specs.declared.edge.Edge.{Edge}
+use Rattle.osm_geom.specs.Point.{point_cmp}
+use Rattle.osm_nest.specs.declared.polygon.Polygon.{Polygon}
+use Rattle.osm_nest.specs.Polygons.{polygon_times, rings_of}
+use Rattle.osm_nest.specs.RingLists.{all_edges, whole_rings}
+use Rattle.osm_rings.specs.Turned.{BeginsLeast, IsTurned}
+use Rattle.sided.specs.Multiple.{common_den}
+
+-- each polygon is an outer ring of the list and inner rings that it directly encloses, and each ring stands in exactly one polygon, there once
+pub record ArePolygonsOf (rs : List (List Edge)) (polygons : List Polygon) : Type 0 where
+  pub each : All (λ polygon. IsPolygon (whole_rings rs) (polygon_times (common_den (all_edges rs)) polygon)) polygons
+  pub once : (f : List Edge → ℕ) → sum_by f (rings_of polygons) ≡ sum_by f rs
+
+-- the cyclic list of edges begun with the one that leaves its least node
+pub record IsBegun (ring begun : List Edge) : Type 0 where
+  pub turned : IsTurned ring begun
+  pub least : BeginsLeast begun
+
+abbrev pub AreBegun : List (List Edge) → List (List Edge) → Type 0
+AreBegun [] begun = begun ≡ []
+AreBegun (r ∷ rs) begun = (first : List Edge) × (others : List (List Edge)) × (begun ≡ first ∷ others) × IsBegun r first × AreBegun rs others
+
+pub record IsPolygonBegun (polygon begun : Polygon) : Type 0 where
+  pub outer : IsBegun polygon.outer begun.outer
+  pub inners : AreBegun polygon.inners begun.inners
+
+abbrev pub ArePolygonsBegun : List Polygon → List Polygon → Type 0
+ArePolygonsBegun [] begun = begun ≡ []
+ArePolygonsBegun (p ∷ ps) begun = (first : Polygon) × (others : List Polygon) × (begun ≡ first ∷ others) × IsPolygonBegun p first × ArePolygonsBegun ps others
+
+-- the order of rings: by the node that the first edge leaves, then by the node that it enters
+abbrev pub edge_cmp : Edge → Edge → Ordering
+edge_cmp e f = ordering_then (point_cmp e.from f.from) (point_cmp e.to f.to)
+
+abbrev pub IsBefore : List Edge → List Edge → Type 0
+IsBefore r s = (d : Edge) → edge_cmp (slice_index_or r 0 d) (slice_index_or s 0 d) ≡ Less
+
+-- polygons by their outer rings, and in each the inner rings, in order
+pub record AreInOrder (polygons : List Polygon) : Type 0 where
+  pub outers : AllPairs (λ (p q : Polygon). IsBefore p.outer q.outer) polygons
+  pub inners : All (λ (p : Polygon). AllPairs IsBefore p.inners) polygons
+
+-- the polygons of the rings, in order, each ring begun at its least node
+pub record AreNested (rs : List (List Edge)) (nested : List Polygon) : Type 0 where
+  pub polygons : List Polygon
+  pub of_rings : ArePolygonsOf rs polygons
+  pub begun : ArePolygonsBegun polygons nested
+  pub in_order : AreInOrder nested

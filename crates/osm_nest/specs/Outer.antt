@@ -1,0 +1,42 @@
+-- Outer and inner rings, told by the anchor.
+use Rattle.std.specs.Prelude.{All, Bool, List, cond, false, pos, true, ℤ, ◌%◌, ◌-ℤ◌, ◌≡◌}
+use Rattle.plane.specs.Edge.{segment_of}
+use Rattle.plane.specs.Sign.{Plus, sign}
+use Rattle.plane.specs.Vector.{Vector}
+use Rattle.winding.specs.ConflictFree.{IsConflictFree}
+use Rattle.winding.specs.Member.{In}
+use Rattle.winding.specs.Ring.{IsAnchor, segments_of}
+use Rattle.osm_geom.specs.declared.edge.Edge.{Edge}
+use Rattle.osm_geom.specs.Edge.{runs_up}
+use Rattle.osm_rings.specs.PlaneEdge.{IsWholeSegment}
+use Rattle.sided.specs.Multiple.{common_den, edge_times, whole_edges}
+use Rattle.sided.specs.Sided.{count_at, signed_count_at}
+
+-- edges along whole segments, no two of which share a point that isn't an end of both
+pub record AreClear (es : List Edge) : Type 0 where
+  pub whole : All IsWholeSegment es
+  pub clear : IsConflictFree (segments_of (whole_edges es))
+
+-- e stands at the least node of the ring and is the leftmost of the edges that rise from there
+pub record IsAnchorOf (e : Edge) (ring : List Edge) : Type 0 where
+  pub member : In e ring
+  pub anchor : IsAnchor (segment_of (edge_times (common_den ring) e)) (segments_of (whole_edges ring))
+
+-- the anchor of the ring runs up, or down
+pub record AnchorRuns (up : Bool) (ring : List Edge) : Type 0 where
+  pub anchor : Edge
+  pub is_anchor : IsAnchorOf anchor ring
+  pub direction : runs_up anchor ≡ up
+
+-- a ring is outer where its anchor runs down, inner where it runs up
+abbrev pub IsOuter : List Edge → Type 0
+IsOuter ring = AnchorRuns false ring
+
+abbrev pub IsInner : List Edge → Type 0
+IsInner ring = AnchorRuns true ring
+
+-- at every point p.x / q, p.y / q the signed count of a ring is its parity where it is outer, and the negative of it where it is inner
+abbrev pub WindsBySign : Bool → List Edge → Type 0
+WindsBySign outer ring =
+    (q : ℤ) → sign q ≡ Plus → (p : Vector) →
+    signed_count_at q p ring ≡ cond outer (pos (count_at q p ring % 2)) (pos 0 -ℤ pos (count_at q p ring % 2))
