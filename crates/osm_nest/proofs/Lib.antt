@@ -1,0 +1,15 @@
+pub mod BegunPolygons
+pub mod Beside
+pub mod Enclosers
+pub mod GroupedRings
+pub mod InPlane
+pub mod Joining
+pub mod Leftmost
+pub mod Listing
+pub mod Nearest
+pub mod NestedRings
+pub mod Parting
+pub mod Places
+pub mod RingAnchors
+pub mod Turns
+pub mod WholeHeights

@@ -1,5 +1,9 @@
+pub mod Beside
 pub mod Cover
+pub mod Grouped
 pub mod Homes
+pub mod Laws
+pub mod Leftmost
 pub mod Nested
 pub mod Outer
 pub mod Paths

@@ -1,15 +1,172 @@
 //! Which ring directly encloses which.
-ghost use Rattle.std.specs.Prelude.{IfOk};
-ghost use Rattle.osm_nest.specs.Homes.{AreHomes};
+ghost use Rattle.std.specs.Prelude.{◌≡◌, ◌<◌, ◌&&◌, All, IfOk, IfSome, cond, length, true};
+ghost use Rattle.std.specs.Ordering.{is_lt};
+ghost use Rattle.osm_geom.specs.JustAbove.{just_above_cmp};
+ghost use Rattle.osm_geom.specs.Span.{lower_end, spans};
+ghost use Rattle.osm_nest.specs.Beside.{IsBestUpTo, IsCandidateAt, IsNearestRight, IsRight, IsSloping, better_of, is_around, is_nearer, is_right_of, nearer_of};
+ghost use Rattle.osm_nest.specs.Homes.{AreHomes, IsHome};
 ghost use Rattle.osm_nest.specs.RingLists.{AreRings};
+ghost use Rattle.osm_rings.specs.PlaneEdge.{IsWholeSegment};
 
+use crate::outer::{anchor, is_outer, lower_end};
+use osm_geom::{Edge, compare_just_above, spans_height};
 use osm_rings::Ring;
 use std::alloc::{AllocError, Global};
+
+/// An edge right of an anchor, and the place of its ring.
+#[derive(Clone, Copy)]
+pub(crate) struct Candidate {
+    pub place: usize,
+    pub edge: Edge,
+}
 
 /// For each inner ring the place of the outer ring that directly encloses it; for an outer ring None.
 pub(crate) fn homes(alloc: Global, rings: &[Ring]) -> Result<Vec<Option<usize>>, AllocError>
     requires { AreRings rings.now }
     ensures { IfOk result (λ homes. AreHomes rings.now homes.items) }
 {
-    Err(AllocError)
+    let mut homes = Vec::new(alloc);
+    for place in 0..rings.len() {
+        homes.push(home(rings, place))?;
+    }
+    Ok(homes)
+}
+
+// The place of the ring that directly encloses the one at a place; None for an outer ring.
+fn home(rings: &[Ring], place: usize) -> Option<usize>
+    requires rings { AreRings rings.now }
+    requires inside { place < length rings.now }
+    ensures { IsHome rings.now place result }
+{
+    if is_outer(&rings[place]) {
+        return None;
+    }
+    match best_candidate(rings, &anchor(&rings[place])) {
+        Some(found) => Some(found.place),
+        None => None,
+    }
+}
+
+// Among the outer rings that have an odd number of edges right of the anchor, the one to which the nearest of these edges belongs.
+fn best_candidate(rings: &[Ring], anchor: &Edge) -> Option<Candidate>
+    requires rings { AreRings rings.now }
+    requires anchor { IsSloping anchor.now }
+    ensures { IsBestUpTo rings.now anchor.now (length rings.now) result }
+{
+    let mut best = None;
+    for place in 0..rings.len() {
+        best = better(best, candidate_at(rings, place, anchor), anchor);
+    }
+    best
+}
+
+// The nearest edge right of the anchor of the ring at a place, if the ring is outer and has an odd number of such edges.
+fn candidate_at(rings: &[Ring], place: usize, anchor: &Edge) -> Option<Candidate>
+    requires rings { AreRings rings.now }
+    requires inside { place < length rings.now }
+    requires anchor { IsSloping anchor.now }
+    ensures { IsCandidateAt rings.now anchor.now place result }
+{
+    let ring = &rings[place];
+    if !is_outer(ring) || !is_around(ring.as_slice(), anchor) {
+        return None;
+    }
+    match nearest_right(ring.as_slice(), anchor) {
+        Some(edge) => Some(Candidate { place, edge }),
+        None => None,
+    }
+}
+
+// Of two candidates the one whose edge is nearer to the anchor.
+fn better(best: Option<Candidate>, next: Option<Candidate>, anchor: &Edge) -> Option<Candidate>
+    requires anchor { IsSloping anchor.now }
+    requires first { IfSome best (λ c. IsRight anchor.now c.edge) }
+    requires second { IfSome next (λ c. IsRight anchor.now c.edge) }
+    ensures { result ≡ better_of anchor.now best next }
+{
+    match (best, next) {
+        (Some(found), Some(other)) => {
+            if is_nearer(&other.edge, &found.edge, anchor) {
+                next
+            } else {
+                best
+            }
+        }
+        (Some(_), None) => best,
+        (None, _) => next,
+    }
+}
+
+// Whether an odd number of edges are right of the anchor.
+fn is_around(edges: &[Edge], anchor: &Edge) -> bool
+    requires anchor { IsSloping anchor.now }
+    requires whole { All IsWholeSegment edges.now }
+    ensures { result ≡ is_around anchor.now edges.now }
+{
+    let mut odd = false;
+    for edge in edges {
+        odd = odd != is_right_of(edge, anchor);
+    }
+    odd
+}
+
+// The nearest of the edges right of the anchor.
+fn nearest_right(edges: &[Edge], anchor: &Edge) -> Option<Edge>
+    requires anchor { IsSloping anchor.now }
+    requires whole { All IsWholeSegment edges.now }
+    ensures { IsNearestRight anchor.now edges.now result }
+{
+    let mut nearest = None;
+    for edge in edges {
+        nearest = nearer(nearest, *edge, anchor);
+    }
+    nearest
+}
+
+// The next edge where it is right of the anchor and nearer than what was found, else that.
+fn nearer(found: Option<Edge>, next: Edge, anchor: &Edge) -> Option<Edge>
+    requires anchor { IsSloping anchor.now }
+    requires found { IfSome found (λ e. IsRight anchor.now e) }
+    requires whole { IsWholeSegment next }
+    ensures { result ≡ nearer_of anchor.now found next }
+{
+    if !is_right_of(&next, anchor) {
+        return found;
+    }
+    match found {
+        Some(edge) => Some(closer(edge, next, anchor)),
+        None => Some(next),
+    }
+}
+
+// Of two edges right of the anchor the nearer.
+fn closer(edge: Edge, next: Edge, anchor: &Edge) -> Edge
+    requires anchor { IsSloping anchor.now }
+    requires first { IsRight anchor.now edge }
+    requires second { IsRight anchor.now next }
+    ensures { result ≡ cond (is_nearer anchor.now next edge) next edge }
+{
+    if is_nearer(&next, &edge, anchor) { next } else { edge }
+}
+
+// Whether an edge spans the lower end of the anchor, and is right of the anchor just above it.
+#[tactic(auto, using(crate::proofs::Beside::right_is))]
+fn is_right_of(edge: &Edge, anchor: &Edge) -> bool
+    requires anchor { IsSloping anchor.now }
+    requires whole { IsWholeSegment edge.now }
+    ensures { result ≡ is_right_of anchor.now edge.now }
+{
+    let at = lower_end(anchor);
+    spans_height(edge, &at) && compare_just_above(anchor, edge, &at).is_lt()
+}
+
+// Of two edges right of the anchor, whether the first is left of the second.
+#[tactic(auto, using(crate::proofs::Beside::nearer_is, crate::proofs::Beside::right_spans))]
+fn is_nearer(edge: &Edge, other: &Edge, anchor: &Edge) -> bool
+    requires anchor { IsSloping anchor.now }
+    requires first { IsRight anchor.now edge.now }
+    requires second { IsRight anchor.now other.now }
+    ensures { result ≡ is_nearer anchor.now edge.now other.now }
+{
+    compare_just_above(edge, other, &lower_end(anchor)).is_lt()
 }

@@ -1,4 +1,7 @@
 pub mod SegmentTests
+pub mod Counts
+pub mod NearCounts
+pub mod NearIndexes
 pub mod OddSideCounts
 pub mod PlaneEdges
 pub mod Survivors

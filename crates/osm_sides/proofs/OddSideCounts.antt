@@ -1,7 +1,6 @@
 -- The counts of the odd side, over segments.
 use Rattle.std.proofs.Common.{Bool, true, false, not, cond, List, [], ◌∷◌, ℕ, ◌+◌, ◌≡◌, ◌∙◌, refl, sym, ap, arith, ◌&&◌}
 use Rattle.std.specs.List.{count_by}
-use Rattle.std.proofs.lemmas.List.Sums.{sum_by-cons}
 use Rattle.plane.specs.Edge.{Edge, same_edge}
 use Rattle.plane.specs.Height.{is_left_of, starts_left_of}
 use Rattle.winding.specs.ConflictFree.{others}
@@ -13,9 +12,7 @@ use Rattle.osm_geom.specs.Loc.{vector_of}
 use Rattle.osm_geom.specs.Seg.{edge_of}
 use Rattle.osm_sides.specs.Survivors.{edges_of}
 use Rattle.osm_sides.specs.SideTests.{left_of, counted, starts_left, level, left_count, right_count}
-
-count_cons : {X : Type 0} (f : X → Bool) (x : X) (xs : List X) → count_by f (x ∷ xs) ≡ cond (f x) 1 0 + count_by f xs
-count_cons f x xs = sum_by-cons (λ y. cond {A = ℕ} (f y) 1 0) x xs
+use Rattle.osm_sides.proofs.Counts.{count_cons}
 
 left_count_is : (p : Loc) (segs : List Seg) → count_by (is_left_of (vector_of p)) (edges_of segs) ≡ left_count p segs
 unfolding left_of

@@ -2,8 +2,14 @@
 #![tactic(auto)]
 
 mod directions;
+mod plain_stab;
 mod sides;
+mod stab;
+#[cfg(test)]
+mod stab_tests;
 #[cfg(test)]
 mod tests;
 
 pub use directions::direct;
+pub use plain_stab::PlainStab;
+pub use stab::Stab;

@@ -1,0 +1,49 @@
+-- Rings begun at their least nodes, in the order of the list.
+use Rattle.std.proofs.Common.{All, List, [], ap, arith, get_or, length, subst, sym, ℕ, ◌++◌, ◌+◌, ◌<◌, ◌∙◌, ◌∷◌, ◌≡◌, ⊎_elim}
+use Rattle.std.proofs.lemmas.Bool.{cases_lt}
+use Rattle.std.proofs.lemmas.List.{get_or_append_left, get_or_default, length-append}
+use Rattle.std.proofs.Math.Seq.{get_or-append_seam}
+use Rattle.osm_geom.specs.declared.edge.Edge.{Edge}
+use Rattle.osm_nest.specs.declared.begun.Begun.{Begun}
+use Rattle.osm_nest.specs.Grouped.{AreListed, IsBegunAt}
+use Rattle.osm_rings.specs.PlaneEdge.{IsWholeSegment}
+use Rattle.osm_rings.specs.Ring.{IsRing}
+use Rattle.osm_rings.specs.Turned.{IsTurned}
+use Rattle.winding.specs.Member.{In}
+use Rattle.winding.proofs.Members.{all-either, all-in, in-all, in-either, in-left, in-right}
+
+-- what is begun elsewhere has the same edges
+pub turned-in : (p q : List Edge) → IsTurned p q → (e : Edge) → In e q → In e p
+turned-in p q t e i =
+    all-either (λ x. In x p) t.back t.front e
+    (λ x j. subst (In x) (sym t.old) (in-right t.front t.back x j))
+    (λ x j. subst (In x) (sym t.old) (in-left t.front t.back x j))
+    (in-either t.back t.front e (subst (In e) t.new i))
+
+-- and still runs along whole segments
+pub turned_whole : (p q : List Edge) → IsTurned p q → All IsWholeSegment p → All IsWholeSegment q
+turned_whole p q t whole = all-in IsWholeSegment q (λ e i. in-all IsWholeSegment p e whole (turned-in p q t e i))
+
+listed-more : (rs : List (List Edge)) (n : ℕ) (bs : List Begun) (b : Begun) → AreListed rs n bs → IsBegunAt (get_or rs n []) n b → AreListed rs (n + 1) (bs ++ b ∷ [])
+listed-more rs n bs b are one =
+    let sized = are.sized in
+    record {
+      sized = let s = length-append bs (b ∷ []) in omega arith;
+      each = λ place d h. ⊎_elim
+          (λ l. subst (IsBegunAt (get_or rs place []) place) (sym (get_or_append_left bs (b ∷ []) d place (omega arith))) (are.each place d l))
+          (λ m. let same : place ≡ n = omega arith in
+          let last : get_or (bs ++ b ∷ []) place d ≡ b = ap (λ j. get_or (bs ++ b ∷ []) j d) (same ∙ sym sized) ∙ get_or-append_seam bs b [] d in
+          subst (IsBegunAt (get_or rs place []) place) (sym last) (subst (λ k. IsBegunAt (get_or rs k []) k b) (sym same) one))
+          (cases_lt place n);
+    }
+
+pub listed-step : (rs : List (List Edge)) (n : ℕ) (bs after : List Begun) (b : Begun) (r : List Edge) → n < length rs → r ≡ get_or rs n r → after ≡ bs ++ b ∷ [] → IsBegunAt r n b → AreListed rs n bs → AreListed rs (n + 1) after
+listed-step rs n bs after b r l is made one are =
+    let here : r ≡ get_or rs n [] = is ∙ get_or_default rs n r [] l in
+    subst (AreListed rs (n + 1)) (sym made) (listed-more rs n bs b are (subst (λ s. IsBegunAt s n b) here one))
+
+-- the first edge of a ring of whole segments is one
+pub first-whole : (es xs : List Edge) (e : Edge) → xs ≡ es → All IsWholeSegment es → IsRing es → e ≡ get_or xs 0 e → IsWholeSegment e
+first-whole es xs e same whole ring is =
+    let long = ring.long in
+    subst IsWholeSegment (sym (is ∙ ap (λ ys. get_or ys 0 e) same)) (whole 0 e (omega arith))

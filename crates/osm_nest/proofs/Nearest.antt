@@ -1,0 +1,211 @@
+-- Looking for the nearest edge right of an anchor, in one ring and among rings.
+use Rattle.std.proofs.Common.{◌≡◌, inl, inr, ◌⊎◌, Bool, true, false, not, ℕ, ◌+◌, ◌<◌, List, [], ◌∷◌, ◌++◌, length, get_or, take, All, Option, Some, None, IfSome, cond, refl, sym, ap, subst, ◌∙◌, arith, ⊎_elim, suc, zero}
+use Rattle.std.proofs.lemmas.Bool.{cases_lt}
+use Rattle.std.proofs.lemmas.List.{get_or_default, take_more}
+use Rattle.plane.specs.Bit.{bit}
+use Rattle.plane.specs.Edge as plane
+use Rattle.plane.specs.Height.{is_right_above, order_above}
+use Rattle.plane.specs.Sign.{is_plus}
+use Rattle.plane.proofs.Bools.{false-if-never}
+use Rattle.plane.proofs.Heights.{right_of}
+use Rattle.winding.specs.ConflictFree.{IsConflictFree}
+use Rattle.winding.specs.Member.{In}
+use Rattle.winding.specs.Parity.{is_even}
+use Rattle.winding.proofs.Sums.{total-is}
+use Rattle.winding.proofs.Members.{in-either, in-left, in-map, in-right, into-filter}
+use Rattle.nesting.proofs.Nearest.{beyond-order}
+use Rattle.nesting.proofs.RingLists.{pairs-of}
+use Rattle.std.specs.List.{count_by, filter}
+use Rattle.osm_geom.specs.declared.edge.Edge.{Edge}
+use Rattle.osm_nest.specs.declared.homes.Candidate.{Candidate}
+use Rattle.osm_nest.specs.Beside.{IsBestUpTo, IsCandidate, IsCandidateAt, IsCandidateBy, IsNearest, IsNearestRight, IsNearestUpTo, IsRight, better_of, closer_of, is_around, is_nearer, is_right_of, nearer_of}
+use Rattle.osm_nest.specs.Leftmost.{segment_along}
+use Rattle.osm_nest.specs.Outer.{AreClear, IsOuter}
+use Rattle.osm_nest.proofs.Beside.{nearer-chain, not-nearer, not-nearer-itself}
+use Rattle.osm_nest.proofs.Leftmost.{segments_along}
+use Rattle.osm_nest.proofs.NestedRings.{none-in}
+use Rattle.osm_nest.proofs.RingAnchors.{plain-along, whole-in}
+use Rattle.osm_rings.specs.PlaneEdge.{IsWholeSegment}
+
+clash : (b : Bool) → b ≡ true → b ≡ false → ⊥
+clash b h k = cc
+
+-- ---- in one ring
+in-more : (es : List Edge) (x f : Edge) → In f (es ++ x ∷ []) → (In f es) ⊎ (f ≡ x)
+in-more es x f i = ⊎_elim (λ a. inl a) (λ b. ⊎_elim (λ e. inr e) (λ n. absurd n) b) (in-either es (x ∷ []) f i)
+
+last-in : (es : List Edge) (x : Edge) → In x (es ++ x ∷ [])
+last-in es x = in-right es (x ∷ []) x (inl refl)
+
+module _ (a : Edge) (es : List Edge) (x : Edge) where
+  abbrev more : List Edge
+  more = es ++ x ∷ []
+
+  skipped : (best : Option Edge) → is_right_of a x ≡ false → IsNearestRight a es best → IsNearestRight a more best
+  skipped None n inv = λ f i. ⊎_elim (λ j. inv f j) (λ e. ap (is_right_of a) e ∙ n) (in-more es x f i)
+  skipped (Some e) n inv = record {
+    member = in-left es (x ∷ []) e inv.member;
+    right = inv.right;
+    nearest = λ f i r. ⊎_elim (λ j. inv.nearest f j r) (λ s. absurd (clash (is_right_of a f) r (ap (is_right_of a) s ∙ n))) (in-more es x f i);
+  }
+
+  closer-by : (e : Edge) (b : Bool) → is_nearer a x e ≡ b → is_right_of a x ≡ true → IsNearest a es e → IsNearest a more (cond b x e)
+  closer-by e true m r inv = record {
+    member = last-in es x;
+    right = r;
+    nearest = λ f i s. ⊎_elim
+        (λ j. not-nearer a f e x s inv.right r (inv.nearest f j s) m)
+        (λ q. subst (λ g. is_nearer a g x ≡ false) (sym q) (not-nearer-itself a x))
+        (in-more es x f i);
+  }
+  closer-by e false m r inv = record {
+    member = in-left es (x ∷ []) e inv.member;
+    right = inv.right;
+    nearest = λ f i s. ⊎_elim
+        (λ j. inv.nearest f j s)
+        (λ q. subst (λ g. is_nearer a g e ≡ false) (sym q) m)
+        (in-more es x f i);
+  }
+
+  taken : (best : Option Edge) → is_right_of a x ≡ true → IsNearestRight a es best → IsNearest a more (closer_of a best x)
+  taken None r inv = record {
+    member = last-in es x;
+    right = r;
+    nearest = λ f i s. ⊎_elim
+        (λ j. absurd (clash (is_right_of a f) s (inv f j)))
+        (λ q. subst (λ g. is_nearer a g x ≡ false) (sym q) (not-nearer-itself a x))
+        (in-more es x f i);
+  }
+  taken (Some e) r inv = closer-by e (is_nearer a x e) refl r inv
+
+  nearest-by : (best : Option Edge) (b : Bool) → is_right_of a x ≡ b → IsNearestRight a es best → IsNearestRight a more (cond b (Some (closer_of a best x)) best)
+  nearest-by best true r inv = taken best r inv
+  nearest-by best false r inv = skipped best r inv
+
+pub nearest-step : (a : Edge) (es : List Edge) (n : ℕ) (best next : Option Edge) (x : Edge) → n < length es → x ≡ get_or es n x → next ≡ nearer_of a best x → IsNearestRight a (take n es) best → IsNearestRight a (take (n + 1) es) next
+nearest-step a es n best next x h is be inv =
+    let same : take (n + 1) es ≡ take n es ++ x ∷ [] = take_more es n x h ∙ ap (λ y. take n es ++ y ∷ []) (sym is) in
+    subst (λ o. IsNearestRight a (take (n + 1) es) o) (sym be)
+    (subst (λ l. IsNearestRight a l (nearer_of a best x)) (sym same) (nearest-by a (take n es) x best (is_right_of a x) refl inv))
+
+take-none : (n : ℕ) (none : List Edge) → none ≡ [] → take n none ≡ []
+take-none zero none h = refl
+take-none (suc n) none h = rw h refl
+
+in-take : (n : ℕ) (es : List Edge) (e : Edge) → In e (take n es) → In e es
+in-take n [] e i = subst (λ l. In e l) (take-none n [] refl) i
+in-take zero (x ∷ xs) e i = absurd i
+in-take (suc n) (x ∷ xs) e (inl q) = inl q
+in-take (suc n) (x ∷ xs) e (inr i) = inr (in-take n xs e i)
+
+pub found-right : (a : Edge) (es : List Edge) (n : ℕ) (best : Option Edge) → All IsWholeSegment es → IsNearestRight a (take n es) best → IfSome best (λ e. IsRight a e)
+found-right a es n None whole inv = tt
+found-right a es n (Some e) whole inv = record { whole = whole-in es e whole (in-take n es e inv.member); right = inv.right }
+
+-- ---- two edges of one ring right of an anchor
+either-by : (a f g : Edge) → (segment_along f ≡ segment_along g) ⊎ ((is_nearer a f g ≡ not (is_nearer a g f)) ⊎ (is_nearer a g f ≡ not (is_nearer a f g))) → is_nearer a f g ≡ false → (segment_along f ≡ segment_along g) ⊎ (is_nearer a g f ≡ true)
+either-by a f g (inl e) n = inl e
+either-by a f g (inr (inr h)) n = inr (h ∙ ap not n)
+either-by a f g (inr (inl h)) n = inr (turned (is_nearer a g f) (sym h ∙ n))
+  where
+    turned : (b : Bool) → not b ≡ false → b ≡ true
+    turned true h = refl
+    turned false h = cc
+
+-- of edges without conflict right of an anchor: one that isn't nearer than another is that one, or the other is nearer
+pub nearer-either : (a f g : Edge) (all : List plane.Edge) → IsConflictFree all → In (segment_along f) all → In (segment_along g) all → is_right_of a f ≡ true → is_right_of a g ≡ true → is_nearer a f g ≡ false → (segment_along f ≡ segment_along g) ⊎ (is_nearer a g f ≡ true)
+unfolding is_right_of is_nearer
+nearer-either a f g all plain i j rf rg n =
+    let p = (segment_along a).from in let e = segment_along a in
+    let order = beyond-order p e all plain in
+    either-by a f g (pairs-of (λ x y. right_of p x y ≡ not (right_of p y x)) (filter (is_right_above p e) all) (segment_along f) (segment_along g) order.either
+    (into-filter (is_right_above p e) all (segment_along f) i rf) (into-filter (is_right_above p e) all (segment_along g) j rg)) n
+
+same-nearer : (a f g b : Edge) → segment_along f ≡ segment_along g → is_nearer a f b ≡ is_nearer a g b
+unfolding is_nearer
+same-nearer a f g b e = ap (λ (s : plane.Edge). is_plus (order_above (segment_along a).from s (segment_along b))) e
+
+-- ---- among rings
+module _ (rs : List (List Edge)) (a : Edge) (n : ℕ) where
+  none-more : ((k : ℕ) → k < n → IsCandidate rs a k → ⊥) → (IsCandidate rs a n → ⊥) → (k : ℕ) → k < n + 1 → IsCandidate rs a k → ⊥
+  none-more none here k h c = ⊎_elim (λ m. none k m c) (λ m. let e : k ≡ n = omega arith in here (subst (λ j. IsCandidate rs a j) e c)) (cases_lt k n)
+
+  first-candidate : (c : Candidate) → ((k : ℕ) → k < n → IsCandidate rs a k → ⊥) → c.place ≡ n → IsCandidateBy rs a c → IsNearestUpTo rs a (n + 1) c
+  first-candidate c none at by = record {
+    is = by;
+    nearest = λ k h d f i r. ⊎_elim
+        (λ m. absurd (none k m d))
+        (λ m. let e : k ≡ c.place = (let q : k ≡ n = omega arith in q) ∙ sym at in by.edge.nearest f (subst (λ j. In f (get_or rs j [])) e i) r)
+        (cases_lt k n);
+  }
+
+  kept : (b : Candidate) → IsNearestUpTo rs a n b → (IsCandidate rs a n → ⊥) → IsNearestUpTo rs a (n + 1) b
+  kept b inv here = record {
+    is = inv.is;
+    nearest = λ k h d f i r. ⊎_elim
+        (λ m. inv.nearest k m d f i r)
+        (λ m. let e : k ≡ n = omega arith in absurd (here (subst (λ j. IsCandidate rs a j) e d)))
+        (cases_lt k n);
+  }
+
+  behind-by : (b c : Candidate) (f : Edge) → IsCandidateBy rs a b → IsCandidateBy rs a c → is_right_of a f ≡ true → is_nearer a c.edge b.edge ≡ false → (segment_along f ≡ segment_along c.edge) ⊎ (is_nearer a c.edge f ≡ true) → is_nearer a f b.edge ≡ false
+  behind-by b c f ib ic r n (inl e) = same-nearer a f c.edge b.edge e ∙ n
+  behind-by b c f ib ic r n (inr m) =
+      false-if-never (is_nearer a f b.edge) (λ k. clash (is_nearer a c.edge b.edge) (nearer-chain a c.edge f b.edge ic.edge.right r ib.edge.right m k) n)
+
+  module _ (clear : AreClear (get_or rs n [])) where
+    behind : (b c : Candidate) (f : Edge) → IsCandidateBy rs a b → c.place ≡ n → IsCandidateBy rs a c → In f (get_or rs n []) → is_right_of a f ≡ true → is_nearer a c.edge b.edge ≡ false → is_nearer a f b.edge ≡ false
+    behind b c f ib at ic i r m =
+        let ring = get_or rs c.place [] in
+        let j : In f ring = subst (λ k. In f (get_or rs k [])) (sym at) i in
+        let plain : IsConflictFree (segments_along ring) = subst (λ k. IsConflictFree (segments_along (get_or rs k []))) (sym at) (plain-along (get_or rs n []) clear) in
+        behind-by b c f ib ic r m (nearer-either a f c.edge (segments_along ring) plain (in-map segment_along ring f j) (in-map segment_along ring c.edge ic.edge.member) r ic.edge.right (ic.edge.nearest f j r))
+
+    chosen : (b c : Candidate) (d : Bool) → is_nearer a c.edge b.edge ≡ d → IsNearestUpTo rs a n b → c.place ≡ n → IsCandidateBy rs a c → IsBestUpTo rs a (n + 1) (cond d (Some c) (Some b))
+    chosen b c true m inv at by = record {
+      is = by;
+      nearest = λ k h d f i r. ⊎_elim
+          (λ l. not-nearer a f b.edge c.edge r inv.is.edge.right by.edge.right (inv.nearest k l d f i r) m)
+          (λ l. let e : k ≡ c.place = (let q : k ≡ n = omega arith in q) ∙ sym at in by.edge.nearest f (subst (λ j. In f (get_or rs j [])) e i) r)
+          (cases_lt k n);
+    }
+    chosen b c false m inv at by = record {
+      is = inv.is;
+      nearest = λ k h d f i r. ⊎_elim
+          (λ l. inv.nearest k l d f i r)
+          (λ l. let e : k ≡ n = omega arith in behind b c f inv.is at by (subst (λ j. In f (get_or rs j [])) e i) r m)
+          (cases_lt k n);
+    }
+
+    pub better-step : (best next : Option Candidate) → IsBestUpTo rs a n best → IsCandidateAt rs a n next → IsBestUpTo rs a (n + 1) (better_of a best next)
+    better-step None None inv at = none-more inv at
+    better-step None (Some c) inv at = first-candidate c inv at.0 at.1
+    better-step (Some b) None inv at = kept b inv at
+    better-step (Some b) (Some c) inv at = chosen b c (is_nearer a c.edge b.edge) refl inv at.0 at.1
+
+right-by : (rs : List (List Edge)) (a : Edge) (c : Candidate) → All (λ r. All IsWholeSegment r) rs → IsCandidateBy rs a c → IsRight a c.edge
+right-by rs a c whole by = record { whole = whole-in (get_or rs c.place []) c.edge (whole c.place [] by.candidate.inside) by.edge.member; right = by.edge.right }
+
+pub best-right : (rs : List (List Edge)) (a : Edge) (n : ℕ) (best : Option Candidate) → All (λ r. All IsWholeSegment r) rs → IsBestUpTo rs a n best → IfSome best (λ c. IsRight a c.edge)
+best-right rs a n None whole inv = tt
+best-right rs a n (Some c) whole inv = right-by rs a c whole inv.is
+
+pub next-right : (rs : List (List Edge)) (a : Edge) (n : ℕ) (next : Option Candidate) → All (λ r. All IsWholeSegment r) rs → IsCandidateAt rs a n next → IfSome next (λ c. IsRight a c.edge)
+next-right rs a n None whole at = tt
+next-right rs a n (Some c) whole at = right-by rs a c whole at.1
+
+-- ---- a candidate
+none-around : (a : Edge) (es : List Edge) → ((f : Edge) → In f es → is_right_of a f ≡ false) → is_around a es ≡ false
+none-around a es h =
+    let n : count_by (is_right_of a) es ≡ 0 = sym (total-is (λ f. bit (is_right_of a f)) es) ∙ none-in (λ f. bit (is_right_of a f)) es (λ f i. ap bit (h f i)) in
+    ap (λ k. not (is_even k)) n
+
+pub candidate-by : (rs : List (List Edge)) (a : Edge) (k : ℕ) (r : List Edge) (e : Edge) → k < length rs → r ≡ get_or rs k r → IsOuter r → is_around a r ≡ true → IsNearest a r e → (k ≡ k) × IsCandidateBy rs a (record { place = k; edge = e })
+candidate-by rs a k r e h is o odd n =
+    let own : r ≡ get_or rs k [] = is ∙ get_or_default rs k r [] h in
+    (refl, record { candidate = record { inside = h; outer = subst IsOuter own o; odd = subst (λ l. is_around a l ≡ true) own odd }; edge = subst (λ l. IsNearest a l e) own n })
+
+pub no-candidate : (rs : List (List Edge)) (a : Edge) (k : ℕ) (r : List Edge) → k < length rs → r ≡ get_or rs k r → ((f : Edge) → In f r → is_right_of a f ≡ false) → IsCandidate rs a k → ⊥
+no-candidate rs a k r h is none c =
+    let own : r ≡ get_or rs k [] = is ∙ get_or_default rs k r [] h in
+    clash (is_around a (get_or rs k [])) c.odd (subst (λ l. is_around a l ≡ false) own (none-around a r none))

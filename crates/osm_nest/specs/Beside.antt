@@ -1,0 +1,82 @@
+-- Which edges are right of an anchor, and which of them is nearest. No public contract cites it.
+use Rattle.std.specs.Prelude.{Bool, List, None, Option, Some, [], cond, false, get_or, length, not, true, ℕ, ◌<◌, ◌≡◌}
+use Rattle.std.specs.List.{count_by}
+use Rattle.plane.specs.Height.{is_right_above, order_above}
+use Rattle.plane.specs.Sign.{is_plus}
+use Rattle.winding.specs.Member.{In}
+use Rattle.winding.specs.Parity.{is_even}
+use Rattle.osm_geom.specs.declared.edge.Edge.{Edge}
+use Rattle.osm_geom.specs.Span.{lower_end, spans}
+use Rattle.osm_nest.specs.declared.homes.Candidate.{Candidate}
+use Rattle.osm_nest.specs.Leftmost.{segment_along}
+use Rattle.osm_nest.specs.Outer.{IsOuter}
+use Rattle.osm_rings.specs.PlaneEdge.{IsWholeSegment}
+
+-- e runs along a whole segment that isn't horizontal
+pub record IsSloping (e : Edge) : Type 0 where
+  pub whole : IsWholeSegment e
+  pub own : spans e (lower_end e) ≡ true
+
+-- f spans the height of the lower end of a, and is right of a just above it
+unfoldable pub is_right_of : Edge → Edge → Bool
+is_right_of a f = is_right_above (segment_along a).from (segment_along a) (segment_along f)
+
+-- just above the lower end of a, which both span, f is left of g
+unfoldable pub is_nearer : Edge → Edge → Edge → Bool
+is_nearer a f g = is_plus (order_above (segment_along a).from (segment_along f) (segment_along g))
+
+-- an odd number of the edges are right of a
+abbrev pub is_around : Edge → List Edge → Bool
+is_around a es = not (is_even (count_by (is_right_of a) es))
+
+pub record IsRight (a f : Edge) : Type 0 where
+  pub whole : IsWholeSegment f
+  pub right : is_right_of a f ≡ true
+
+-- e is one of the edges right of a, and none of them is nearer
+pub record IsNearest (a : Edge) (es : List Edge) (e : Edge) : Type 0 where
+  pub member : In e es
+  pub right : is_right_of a e ≡ true
+  pub nearest : (f : Edge) → In f es → is_right_of a f ≡ true → is_nearer a f e ≡ false
+
+abbrev pub IsNearestRight : Edge → List Edge → Option Edge → Type 0
+IsNearestRight a es None = (f : Edge) → In f es → is_right_of a f ≡ false
+IsNearestRight a es (Some e) = IsNearest a es e
+
+-- the nearer of what was found and the next edge
+abbrev pub closer_of : Edge → Option Edge → Edge → Edge
+closer_of a None next = next
+closer_of a (Some e) next = cond (is_nearer a next e) next e
+
+-- the same, where the next edge counts only right of a
+abbrev pub nearer_of : Edge → Option Edge → Edge → Option Edge
+nearer_of a found next = cond (is_right_of a next) (Some (closer_of a found next)) found
+
+-- the ring at a place is outer, and around a
+pub record IsCandidate (rs : List (List Edge)) (a : Edge) (place : ℕ) : Type 0 where
+  pub inside : place < length rs
+  pub outer : IsOuter (get_or rs place [])
+  pub odd : is_around a (get_or rs place []) ≡ true
+
+-- with the nearest of its edges
+pub record IsCandidateBy (rs : List (List Edge)) (a : Edge) (c : Candidate) : Type 0 where
+  pub candidate : IsCandidate rs a c.place
+  pub edge : IsNearest a (get_or rs c.place []) c.edge
+
+abbrev pub IsCandidateAt : List (List Edge) → Edge → ℕ → Option Candidate → Type 0
+IsCandidateAt rs a place None = IsCandidate rs a place → ⊥
+IsCandidateAt rs a place (Some c) = (c.place ≡ place) × IsCandidateBy rs a c
+
+abbrev pub better_of : Edge → Option Candidate → Option Candidate → Option Candidate
+better_of a None next = next
+better_of a (Some b) None = Some b
+better_of a (Some b) (Some c) = cond (is_nearer a c.edge b.edge) (Some c) (Some b)
+
+-- of the edges right of a of all candidates up to a place none is nearer
+pub record IsNearestUpTo (rs : List (List Edge)) (a : Edge) (place : ℕ) (c : Candidate) : Type 0 where
+  pub is : IsCandidateBy rs a c
+  pub nearest : (k : ℕ) → k < place → IsCandidate rs a k → (f : Edge) → In f (get_or rs k []) → is_right_of a f ≡ true → is_nearer a f c.edge ≡ false
+
+abbrev pub IsBestUpTo : List (List Edge) → Edge → ℕ → Option Candidate → Type 0
+IsBestUpTo rs a place None = (k : ℕ) → k < place → IsCandidate rs a k → ⊥
+IsBestUpTo rs a place (Some c) = IsNearestUpTo rs a place c

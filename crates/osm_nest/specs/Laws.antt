@@ -1,0 +1,15 @@
+-- What may be nested, as a statement.
+use Rattle.std.specs.Prelude.{All, List}
+use Rattle.osm_geom.specs.declared.edge.Edge.{Edge}
+use Rattle.osm_nest.specs.Outer.{AreClear}
+use Rattle.osm_nest.specs.RingLists.{AreRings}
+use Rattle.osm_rings.specs.RingList.{AreRingsOf}
+use Rattle.osm_rings.specs.SidedEdges.{AreSidedSegments}
+
+-- the rings of a sided list of edges along whole segments are rings to be nested
+abbrev pub RingsMayBeNested : Type 0
+RingsMayBeNested = (es : List Edge) (rs : List (List Edge)) → AreSidedSegments es → AreRingsOf es rs → AreRings rs
+
+-- of rings to be nested none has a conflict among its own edges, so that each is outer or inner
+abbrev pub RingsAreClear : Type 0
+RingsAreClear = (rs : List (List Edge)) → AreRings rs → All AreClear rs

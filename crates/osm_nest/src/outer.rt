@@ -1,0 +1,92 @@
+//! Outer and inner rings, told by their anchors.
+ghost use Rattle.std.specs.Prelude.{◌≡◌, ◌&&◌, ◌||◌, ◌↔◌, cond, false, not, true};
+ghost use Rattle.std.specs.Ordering.{is_lt};
+ghost use Rattle.std.specs.declared.cmp.Ordering.TheVariants.{Equal};
+ghost use Rattle.osm_geom.specs.Edge.{runs_up};
+ghost use Rattle.osm_geom.specs.JustAbove.{just_above_cmp};
+ghost use Rattle.osm_geom.specs.Point.{point_cmp};
+ghost use Rattle.osm_geom.specs.Span.{lower_end, spans};
+ghost use Rattle.osm_nest.specs.Leftmost.{comes_first, forks_left};
+ghost use Rattle.osm_nest.specs.Outer.{AreClear, IsAnchorOf, IsInner, IsOuter, WindsBySign};
+ghost use Rattle.osm_rings.specs.PlaneEdge.{IsWholeSegment};
+ghost use Rattle.osm_rings.specs.Ring.{IsRing};
+
+use osm_geom::{Edge, Point, compare_just_above, compare_points, spans_height};
+use osm_rings::Ring;
+use std::cmp::Ordering;
+
+/// Whether a ring is outer: its anchor runs down. Else it is inner.
+///
+/// The anchor stands at the ring's least node, and is the leftmost of the edges that rise from there. Round an outer ring
+/// the inside is on the left, so that it counts 1 at each point that it covers; an inner one counts -1.
+pub fn is_outer(ring: &Ring) -> bool
+    requires { AreClear ring.now }
+    ensures anchor { (result ≡ true) ↔ IsOuter ring.now }
+    ensures inner { (result ≡ false) ↔ IsInner ring.now }
+    ensures sign { WindsBySign result ring.now }
+{
+    !is_rising(&anchor(ring))
+}
+
+/// The anchor of a ring.
+pub(crate) fn anchor(ring: &Ring) -> Edge
+    requires { AreClear ring.now }
+    ensures anchor { IsAnchorOf result ring.now }
+    ensures ring { IsRing ring.now }
+{
+    let edges = ring.as_slice();
+    let mut anchor = edges[0];
+    for edge in edges {
+        anchor = first_of(anchor, *edge);
+    }
+    anchor
+}
+
+// Of two edges the one that comes first.
+fn first_of(e: Edge, f: Edge) -> Edge
+    requires first { IsWholeSegment e }
+    requires second { IsWholeSegment f }
+    ensures { result ≡ cond (comes_first e f) e f }
+{
+    if comes_first(&e, &f) { e } else { f }
+}
+
+// Whether `e` has the lesser lower end, or the same as `f`, which doesn't run to the left of it.
+#[tactic(auto, using(crate::proofs::Leftmost::first_is))]
+fn comes_first(e: &Edge, f: &Edge) -> bool
+    requires first { IsWholeSegment e.now }
+    requires second { IsWholeSegment f.now }
+    ensures { result ≡ comes_first e.now f.now }
+{
+    match compare_points(lower_end(e), lower_end(f)) {
+        Ordering::Less => true,
+        Ordering::Equal => !forks_left(e, f),
+        Ordering::Greater => false,
+    }
+}
+
+// Of two edges with one lower end, whether `f` runs to the left of `e`. A horizontal one runs to the right of all others.
+#[tactic(auto, using(crate::proofs::Leftmost::forks_is))]
+fn forks_left(e: &Edge, f: &Edge) -> bool
+    requires first { IsWholeSegment e.now }
+    requires second { IsWholeSegment f.now }
+    requires one { point_cmp (lower_end e.now) (lower_end f.now) ≡ Equal }
+    ensures { result ≡ forks_left e.now f.now }
+{
+    let at = lower_end(e);
+    spans_height(f, &at) && (!spans_height(e, &at) || compare_just_above(f, e, &at).is_lt())
+}
+
+/// The lower end of an edge, or the left one of a horizontal edge.
+pub(crate) fn lower_end(edge: &Edge) -> Point
+    ensures { result ≡ lower_end edge.now }
+{
+    if is_rising(edge) { edge.from } else { edge.to }
+}
+
+#[tactic(auto, unfolding(osm_geom::specs::Point::point_cmp))]
+fn is_rising(edge: &Edge) -> bool
+    ensures { result ≡ runs_up edge.now }
+{
+    compare_points(edge.from, edge.to).is_lt()
+}
