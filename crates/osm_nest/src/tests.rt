@@ -22,7 +22,7 @@ fn nodes(alloc: Global, line: &str) -> Result<Vec<Loc>, Fail> {
 }
 
 /// The segments of closed lines, parted by `/`, each line without its first location at the end.
-fn segs(alloc: Global, lines: &str) -> Result<Vec<Seg>, Fail> {
+pub(crate) fn segs(alloc: Global, lines: &str) -> Result<Vec<Seg>, Fail> {
     let mut segs = Vec::new(alloc);
     for line in lines.split('/') {
         let nodes = nodes(alloc, line)?;
@@ -38,7 +38,7 @@ fn segs(alloc: Global, lines: &str) -> Result<Vec<Seg>, Fail> {
 }
 
 /// The rings of the survivors of segments; none where there is a conflict or an odd node.
-fn rings_of(alloc: Global, segs: &[Seg]) -> Result<Rings, Fail>
+pub(crate) fn rings_of(alloc: Global, segs: &[Seg]) -> Result<Rings, Fail>
     ensures { IfOk result (λ rings. AreRings rings) }
 {
     let kept = survivors(alloc, segs)?;

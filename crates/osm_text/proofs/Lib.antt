@@ -1,4 +1,9 @@
 mod DecimalLemmas
-mod MeetingLemmas
+mod EscapeLemmas
+mod KeyLaws
+mod LatticeLemmas
+mod LineExists
+mod NotationLemmas
+mod PropertyLemmas
 mod RowLemmas
 mod StringLemmas

@@ -1,12 +1,10 @@
 -- Texts in a row and texts joined by commas.
-use Rattle.std.proofs.Common.{◌≡◌, ◌∙◌, ℕ, List, [], ◌∷◌, ◌++◌, map, take, refl, sym, ap, append_assoc, append-nil, length, ◌<◌, arith}
+use Rattle.std.proofs.Common.{◌≡◌, ◌∙◌, ℕ, List, [], ◌∷◌, ◌++◌, map, refl, sym, ap, append_assoc, append-nil}
 use Rattle.std.proofs.lemmas.List.{map-append}
 use Rattle.std.specs.List.{join_with_byte}
-use Rattle.osm_geom.specs.declared.loc.Loc.{Loc}
 use Rattle.opl_reader.specs.declared.object.Tag.{Tag}
 use Rattle.osm_text.specs.Feature.{tag_text, tags_text}
 use Rattle.osm_text.specs.Rows.{led}
-use Rattle.osm_text.specs.Wkt.{point_text, ring_wkt}
 
 -- texts in a row are the byte and the texts joined
 pub led-join : (byte : ℕ) (text : List ℕ) (texts : List (List ℕ)) → led byte (text ∷ texts) ≡ byte ∷ join_with_byte 44 (text ∷ texts)
@@ -23,11 +21,12 @@ pub led_tags : (tags : List Tag) → led 32 (map tag_text tags) ≡ tags_text ta
 led_tags [] = refl
 led_tags (tag ∷ tags) = led-join 32 (tag_text tag) (map tag_text tags)
 
--- a ring is its points, and the first once more
-ring-of : (p : Loc) (points : List Loc) → led 40 (map point_text (p ∷ points)) ++ led 44 (map point_text (p ∷ [])) ++ 41 ∷ [] ≡ ring_wkt (p ∷ points)
-ring-of p points =
-    ap (λ (xs : List ℕ). xs ++ 41 ∷ []) (sym (led-append 40 (point_text p) (map point_text points) (map point_text (p ∷ []))) ∙ ap (led 40) (sym (map-append point_text (p ∷ points) (p ∷ []))) ∙ led-join 40 (point_text p) (map point_text (points ++ p ∷ [])))
+-- a list that has items, from its first byte to its last
+pub led-list : (first last : ℕ) (text : List ℕ) (texts : List (List ℕ)) → led first (text ∷ texts) ++ last ∷ [] ≡ first ∷ join_with_byte 44 (text ∷ texts) ++ last ∷ []
+led-list first last text texts = ap (λ (xs : List ℕ). xs ++ last ∷ []) (led-join first text texts)
 
-pub led-ring : (points : List Loc) → 0 < length points → led 40 (map point_text points) ++ led 44 (map point_text (take 1 points)) ++ 41 ∷ [] ≡ ring_wkt points
-led-ring [] some = absurd (omega arith)
-led-ring (p ∷ points) some = ring-of p points
+-- a ring is its points, and the first once more
+pub led-closed : {X : Type 0} (first last : ℕ) (print : X → List ℕ) (p : X) (points : List X) →
+    led first (map print (p ∷ points)) ++ led 44 (map print (p ∷ [])) ++ last ∷ [] ≡ first ∷ join_with_byte 44 (map print (p ∷ points ++ p ∷ [])) ++ last ∷ []
+led-closed first last print p points =
+    ap (λ (xs : List ℕ). xs ++ last ∷ []) (sym (led-append first (print p) (map print points) (map print (p ∷ []))) ∙ ap (led first) (sym (map-append print (p ∷ points) (p ∷ []))) ∙ led-join first (print p) (map print (points ++ p ∷ [])))

@@ -1,10 +1,17 @@
 -- A feature of the format text, a line.
-use Rattle.std.specs.Prelude.{ℕ, List, [], ◌∷◌, ◌++◌, map, codes}
+use Rattle.std.specs.Prelude.{ℕ, List, [], ◌∷◌, ◌++◌, Option, Some, None, map, codes}
 use Rattle.std.specs.List.{join_with_byte}
 use Rattle.opl_reader.specs.declared.object.Tag.{Tag}
 use Rattle.osm_geom.specs.declared.loc.Loc.{Loc}
+use Rattle.osm_text.specs.declared.feature_id.FeatureId.{FeatureId}
+use Rattle.osm_text.specs.Id.{id_text}
 use Rattle.osm_text.specs.Wkt.{multipolygon_wkt}
 use Rattle.osm_text.specs.Written.{written}
+
+-- where there is an id, the id and a space
+abbrev pub id_before : Option FeatureId → List ℕ
+id_before None = []
+id_before (Some id) = id_text id ++ codes " "
 
 -- a tag: key=value
 abbrev pub tag_text : Tag → List ℕ
@@ -16,5 +23,5 @@ tags_text [] = []
 tags_text (tag ∷ tags) = codes " " ++ join_with_byte 44 (map tag_text (tag ∷ tags))
 
 -- the line of polygons, each a list of rings, and tags
-abbrev pub feature_text : List (List (List Loc)) → List Tag → List ℕ
-feature_text polygons tags = multipolygon_wkt polygons ++ tags_text tags ++ codes "\n"
+abbrev pub feature_text : Option FeatureId → List (List (List Loc)) → List Tag → List ℕ
+feature_text id polygons tags = id_before id ++ multipolygon_wkt polygons ++ tags_text tags ++ codes "\n"

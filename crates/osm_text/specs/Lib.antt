@@ -1,5 +1,12 @@
 pub mod Decimal
 pub mod Feature
+pub mod Framing
+pub mod GeoJson
+pub mod Id
+pub mod Lattice
+pub mod Members
+pub mod Notation
+pub mod Properties
 pub mod Report
 pub mod Rows
 pub mod Wkt

@@ -1,5 +1,5 @@
 -- Lines of an export's report: a problem or a note of a candidate.
-use Rattle.std.specs.Prelude.{◌≡◌, ℕ, List, ◌++◌, Some, codes, decimal}
+use Rattle.std.specs.Prelude.{◌≡◌, ℕ, List, ◌++◌, codes, decimal}
 use Rattle.std.specs.Fmt.{signed_decimal}
 use Rattle.std.specs.Ordering.{ord_min, ord_max}
 use Rattle.opl_reader.specs.declared.object.ObjectKind.{ObjectKind}
@@ -12,6 +12,7 @@ use Rattle.osm_geom.specs.declared.conflicts.Kind.TheVariants.{Crossing, Overlap
 use Rattle.osm_geom.specs.Loc.{loc_cmp}
 use Rattle.osm_geom.specs.Frac.{rounded}
 use Rattle.osm_geom.specs.Meeting.{IsOnSegment}
+use Rattle.osm_objects.specs.Problem.{IsOfItsKind}
 use Rattle.osm_objects.specs.declared.problem.Problem.{Problem}
 use Rattle.osm_objects.specs.declared.problem.Problem.TheVariants.{MissingWay, MissingNode, Nothing, Conflict, Odd}
 use Rattle.osm_objects.specs.declared.problem.Note.{Note}
@@ -64,6 +65,10 @@ IsProblemText (Odd at) text = text ≡ codes "odd node " ++ point_text at
 -- the line of a problem
 abbrev pub IsProblemLine : ObjectRef → Problem → List ℕ → Type 0
 IsProblemLine of problem line = (text : List ℕ) × IsProblemText problem text × (line ≡ subject_text of ++ text ++ codes "\n")
+
+-- every problem has a line; a conflict, if it is of the kind that its segments have
+abbrev pub ProblemLineExists : Type 0
+ProblemLineExists = (of : ObjectRef) (problem : Problem) → IsOfItsKind problem → (line : List ℕ) × IsProblemLine of problem line
 
 -- what a line says of a note
 abbrev pub note_text : Note → List ℕ

@@ -1,13 +1,20 @@
-//! Features of the format text, a line each.
+//! Features of the formats text and GeoJSON.
 
-ghost use Rattle.std.specs.Prelude.{◌≡◌, ◌++◌, [], ◌∷◌, map, IfOk, OnOk};
+ghost use Rattle.std.specs.Prelude.{All, ◌≡◌, ◌++◌, map, IfOk, OnOk};
+ghost use Rattle.osm_nest.specs.Paths.{paths_of};
+ghost use Rattle.osm_nest.specs.Polygons.{rings_of};
+ghost use Rattle.osm_rings.specs.PlaneEdge.{IsWholeSegment};
 ghost use Rattle.osm_text.specs.Feature.{tag_text, tags_text, feature_text};
+ghost use Rattle.osm_text.specs.GeoJson.{feature_json};
+ghost use Rattle.osm_text.specs.Lattice.{AreLattice};
 ghost use Rattle.osm_text.specs.Rows.{led};
 
+use crate::feature_id::{FeatureId, put_id_before, put_id_member};
+use crate::notation::{Notation, put_polygons};
+use crate::properties::properties;
 use crate::strings::put_written;
-use crate::wkt::put_ring;
 use opl_reader::{Tag, Tags};
-use osm_geom::Path;
+use osm_nest::Polygons;
 use std::alloc::{AllocError, Global};
 
 /// Adds a tag.
@@ -32,17 +39,56 @@ fn put_tags(alloc: Global, text: &mut Vec<u8>, tags: &[Tag]) -> Result<(), Alloc
     Ok(())
 }
 
-/// The feature of the format text, without an id, of one polygon with one ring: its well-known text, then where there
-/// are tags a space and the tags, and LF.
+/// The feature of the format text, a line: the id and a space where there is an id, the polygons in well-known text,
+/// then where there are tags a space and the tags, and LF.
 ///
-/// The ring runs through the locations in their order, the first again at the end. Coordinates are in degrees.
-pub fn ring_text(alloc: Global, path: &Path, tags: &Tags) -> Result<Vec<u8>, AllocError>
-    ensures { IfOk result (λ text. text.items ≡ feature_text ((path.now ∷ []) ∷ []) tags.now) }
+/// Each ring runs through the points that its edges leave, the first again at the end. Coordinates are in degrees. The
+/// error is want of memory.
+pub fn feature_text(
+    alloc: Global,
+    polygons: &Polygons,
+    tags: &Tags,
+    id: Option<FeatureId>,
+) -> Result<Vec<u8>, AllocError>
+    requires { AreLattice polygons.now }
+    ensures { IfOk result (λ text. text.items ≡ feature_text id (paths_of polygons.now) tags.now) }
 {
-    let mut text = Vec::from_slice(alloc, b"MULTIPOLYGON((")?;
-    put_ring(&mut text, path.as_slice())?;
-    text.extend_from_slice(b"))")?;
+    let mut text = Vec::new(alloc);
+    put_id_before(&mut text, id)?;
+    text.extend_from_slice(b"MULTIPOLYGON")?;
+    put_polygons(&mut text, Notation::WellKnown, polygons.as_slice())?;
     put_tags(alloc, &mut text, tags.as_slice())?;
     text.push(b'\n')?;
     Ok(text)
 }
+
+/// The feature of GeoJSON (RFC 7946), without what parts features and without LF.
+///
+/// Each ring runs through the points that its edges leave, the first again at the end. Coordinates are in degrees. The
+/// properties are the tags as strings, their keys rising by their bytes, of equal keys the first alone. The error is
+/// want of memory.
+pub fn feature_json(
+    alloc: Global,
+    polygons: &Polygons,
+    tags: &Tags,
+    id: Option<FeatureId>,
+) -> Result<Vec<u8>, AllocError>
+    requires { AreLattice polygons.now }
+    ensures { IfOk result (λ text. text.items ≡ feature_json id (paths_of polygons.now) tags.now) }
+{
+    let mut text = Vec::from_slice(alloc, b"{\"type\":\"Feature\",")?;
+    put_id_member(&mut text, id)?;
+    text.extend_from_slice(b"\"geometry\":{\"type\":\"MultiPolygon\",\"coordinates\":")?;
+    put_polygons(&mut text, Notation::Json, polygons.as_slice())?;
+    text.extend_from_slice(b"},\"properties\":")?;
+    text.extend_from_slice(properties(alloc, tags)?.as_bytes())?;
+    text.push(b'}')?;
+    Ok(text)
+}
+
+/// The law that edges along whole segments leave lattice points.
+#[tactic(auto, using(crate::proofs::LatticeLemmas::all_leave))]
+pub fn whole_segments_are_lattice(_polygons: &Polygons)
+    requires { All (All IsWholeSegment) (rings_of _polygons.now) }
+    ensures { AreLattice _polygons.now }
+{}

@@ -1,8 +1,16 @@
-//! Printed text: decimals, written strings, features in well-known text and lines of the report.
+//! Printed text: decimals, written strings, features in well-known text and in GeoJSON, and lines of the report.
 #![tactic(auto)]
 
 mod decimal;
 mod feature;
+mod feature_id;
+#[cfg(test)]
+mod feature_tests;
+mod framing;
+mod laws;
+mod notation;
+mod number;
+mod properties;
 mod report;
 mod strings;
 #[cfg(test)]
@@ -10,6 +18,10 @@ mod tests;
 mod wkt;
 
 pub use decimal::put_decimal;
-pub use feature::ring_text;
+pub use feature::{feature_json, feature_text, whole_segments_are_lattice};
+pub use feature_id::FeatureId;
+pub use framing::Framing;
+pub use laws::problem_line_exists;
+pub use properties::tags_by_key;
 pub use report::{note_line, problem_line};
 pub use strings::written;

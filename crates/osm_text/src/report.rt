@@ -9,8 +9,8 @@ ghost use Rattle.osm_text.specs.Wkt.{xy_text};
 ghost use Rattle.osm_objects.specs.Problem.{IsOfItsKind};
 ghost use Rattle.osm_text.specs.Report.{subject_text, segment_text, stretch_text, pair_text, shared_text, IsMeetingText, IsProblemText, IsProblemLine, note_text, note_line};
 
+use crate::number::put_number;
 use crate::wkt::{put_point, put_xy};
-use itoa::{Buffer, Integer};
 use opl_reader::{ObjectKind, ObjectRef};
 use osm_geom::{Frac, Kind, Loc, Seg, meeting, overlap, round};
 use osm_objects::{Note, Problem};
@@ -22,15 +22,6 @@ fn word(kind: u8) -> &'static str
     ensures { result.now ≡ unwrap_or (word_of kind) [] }
 {
     problem_word(kind).unwrap_or("")
-}
-
-/// Adds a whole number.
-fn put_number<I: Integer>(line: &mut Vec<u8>, number: I) -> Result<(), AllocError>
-    ensures { OnOk result (line.new.items ≡ line.old.items ++ I.text number) }
-{
-    let mut digits = Buffer::new();
-    line.extend_from_slice(digits.format(number).as_bytes())?;
-    Ok(())
 }
 
 /// Adds what a line is about.

@@ -1,0 +1,8 @@
+-- Tags as the members of an object of JSON, their values strings. No public contract cites it.
+use Rattle.std.specs.Prelude.{List, [], ◌∷◌}
+use Rattle.serde_json.specs.Data.{string, Members, no_members, member}
+use Rattle.opl_reader.specs.declared.object.Tag.{Tag}
+
+abbrev pub members : List Tag → Members
+members [] = no_members
+members (t ∷ tags) = member t.key (string t.value) (members tags)

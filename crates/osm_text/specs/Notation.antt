@@ -1,0 +1,39 @@
+-- The two notations of polygons, as the functions that print them see them. No public contract cites it.
+use Rattle.std.specs.Prelude.{ℕ, List, [], option_map, unwrap_or, map}
+use Rattle.osm_geom.specs.declared.edge.Edge.{Edge}
+use Rattle.osm_geom.specs.declared.loc.Loc.{Loc}
+use Rattle.osm_nest.specs.Paths.{location_at}
+use Rattle.osm_text.specs.declared.notation.Notation.{Notation}
+use Rattle.osm_text.specs.declared.notation.Notation.TheVariants.{WellKnown, Json}
+use Rattle.osm_text.specs.GeoJson.{position_json, ring_json, polygon_json, multipolygon_json}
+use Rattle.osm_text.specs.Wkt.{in_parentheses, point_text, ring_wkt, polygon_wkt}
+
+-- the bytes around a list
+abbrev pub open_of : Notation → ℕ
+open_of WellKnown = 40
+open_of Json = 91
+
+abbrev pub close_of : Notation → ℕ
+close_of WellKnown = 41
+close_of Json = 93
+
+abbrev pub point_in : Notation → Loc → List ℕ
+point_in WellKnown point = point_text point
+point_in Json point = position_json point
+
+-- the point that an edge leaves, where it is a lattice point
+abbrev pub start_in : Notation → Edge → List ℕ
+start_in notation edge = unwrap_or (option_map (point_in notation) (location_at edge.from)) []
+
+abbrev pub ring_in : Notation → List Loc → List ℕ
+ring_in WellKnown ring = ring_wkt ring
+ring_in Json ring = ring_json ring
+
+abbrev pub polygon_in : Notation → List (List Loc) → List ℕ
+polygon_in WellKnown rings = polygon_wkt rings
+polygon_in Json rings = polygon_json rings
+
+-- the list of polygons, in WKT what stands behind the word
+abbrev pub polygons_in : Notation → List (List (List Loc)) → List ℕ
+polygons_in WellKnown polygons = in_parentheses (map polygon_wkt polygons)
+polygons_in Json polygons = multipolygon_json polygons

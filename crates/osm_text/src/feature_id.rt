@@ -1,0 +1,59 @@
+//! Ids of features.
+ghost use Rattle.std.specs.Prelude.{◌≡◌, ◌++◌, OnOk};
+ghost use Rattle.osm_text.specs.Feature.{id_before};
+ghost use Rattle.osm_text.specs.GeoJson.{id_member};
+ghost use Rattle.osm_text.specs.Id.{id_text};
+
+use crate::number::put_number;
+use std::alloc::AllocError;
+
+/// What a feature is named by.
+#[derive(Clone, Copy, Debug, PartialEq, Eq)]
+pub enum FeatureId {
+    /// The place of the feature in the output, from 1.
+    Counter(u64),
+    /// The id of the feature's area, printed behind the letter `a`: twice the id of a way, or twice that of a relation and 1.
+    Area(i64),
+}
+
+/// Adds an id.
+fn put_id(text: &mut Vec<u8>, id: FeatureId) -> Result<(), AllocError>
+    ensures { OnOk result (text.new.items ≡ text.old.items ++ id_text id) }
+{
+    match id {
+        FeatureId::Counter(number) => put_number(text, number),
+        FeatureId::Area(id) => {
+            text.push(b'a')?;
+            put_number(text, id)
+        }
+    }
+}
+
+/// Adds the id and a space, where there is an id.
+pub(crate) fn put_id_before(text: &mut Vec<u8>, id: Option<FeatureId>) -> Result<(), AllocError>
+    ensures { OnOk result (text.new.items ≡ text.old.items ++ id_before id) }
+{
+    let Some(id) = id else {
+        return Ok(());
+    };
+    put_id(text, id)?;
+    text.push(b' ')?;
+    Ok(())
+}
+
+/// Adds the member of the id and a comma, where there is an id.
+pub(crate) fn put_id_member(text: &mut Vec<u8>, id: Option<FeatureId>) -> Result<(), AllocError>
+    ensures { OnOk result (text.new.items ≡ text.old.items ++ id_member id) }
+{
+    let Some(id) = id else {
+        return Ok(());
+    };
+    let (before, after) = match id {
+        FeatureId::Counter(_) => ("\"id\":", ","),
+        FeatureId::Area(_) => ("\"id\":\"", "\","),
+    };
+    text.extend_from_slice(before.as_bytes())?;
+    put_id(text, id)?;
+    text.extend_from_slice(after.as_bytes())?;
+    Ok(())
+}

@@ -1,0 +1,42 @@
+//! The object of an area's tags in GeoJSON.
+ghost use Rattle.std.specs.Prelude.{◌≡◌, List, ℕ, IfOk, OnOk, string_bytes};
+ghost use Rattle.serde_json.specs.View.{members_view};
+ghost use Rattle.opl_reader.specs.declared.object.Tag.{Tag};
+ghost use Rattle.osm_text.specs.Members.{members};
+ghost use Rattle.osm_text.specs.Properties.{KeysRise, by_key, properties_text, tag_at, with_tag};
+
+use opl_reader::{Tag, Tags};
+use serde_json::{Map, Value};
+use std::alloc::{AllocError, Global};
+
+/// Adds a tag, unless its key is there.
+fn put(alloc: Global, object: &mut Map<String, Value>, tag: &Tag) -> Result<(), AllocError>
+    ensures { (tags : List Tag) → members_view object.old.entries ≡ members tags → OnOk result (members_view object.new.entries ≡ members (with_tag tags tag.now)) }
+{
+    let key = String::from_str(alloc, tag.key.as_str())?;
+    if object.contains_key(&key) {
+        return Ok(());
+    }
+    let value = String::from_str(alloc, tag.value.as_str())?;
+    object.insert(key, Value::String(value))?;
+    Ok(())
+}
+
+/// The compact text of the object of tags: of equal keys the first alone, keys rising by their bytes.
+pub(crate) fn properties(alloc: Global, tags: &Tags) -> Result<String, AllocError>
+    ensures { IfOk result (λ text. string_bytes text ≡ properties_text tags.now) }
+{
+    let mut object = Map::new(alloc);
+    for tag in tags.as_slice() {
+        put(alloc, &mut object, tag)?;
+    }
+    Value::Object(object).to_string(alloc)
+}
+
+/// The laws of the tags that the object has as members: their keys rise by their bytes, and with each key stands the
+/// first of the tags with it.
+#[tactic(auto, using(crate::proofs::KeyLaws::by_key_rises, crate::proofs::KeyLaws::first_stands))]
+pub fn tags_by_key(_tags: &Tags)
+    ensures rise { KeysRise (by_key _tags.now) }
+    ensures first { (key : List ℕ) → tag_at key (by_key _tags.now) ≡ tag_at key _tags.now }
+{}
