@@ -1,12 +1,12 @@
 -- The edges of an area's rings are those of the directed segments, each as often: sums over them are the same.
-use Rattle.std.proofs.Common.{◌≡◌, ◌∙◌, ℕ, ◌+◌, List, [], ◌∷◌, ◌++◌, refl, sym, ap, arith}
-use Rattle.std.specs.List.{flat_map, sum_by}
+use Rattle.std.proofs.Common.{◌≡◌, ◌∙◌, ℕ, ◌+◌, List, [], ◌∷◌, ◌++◌, refl, ap, arith}
+use Rattle.std.specs.List.{sum_by}
 use Rattle.std.proofs.lemmas.List.Sums.{sum_by-append, sum_by-cons}
 use Rattle.osm_geom.specs.declared.edge.Edge.{Edge}
 use Rattle.osm_rings.specs.RingList.{AreRingsOf}
 use Rattle.osm_rings.specs.Turned.{IsTurned}
 use Rattle.osm_nest.specs.declared.polygon.Polygon.{Polygon}
-use Rattle.osm_nest.specs.Nested.{AreNested, IsBegun, AreBegun, ArePolygonsBegun}
+use Rattle.osm_nest.specs.Nested.{AreNested, AreBegun, ArePolygonsBegun}
 use Rattle.osm_nest.specs.Polygons.{rings_in, rings_of}
 use Rattle.osm_nest.specs.RingLists.{all_edges}
 

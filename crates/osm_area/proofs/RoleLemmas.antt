@@ -1,5 +1,5 @@
 -- Roles, and the notes on them, in the words of the definitions.
-use Rattle.std.proofs.Common.{◌≡◌, ◌∙◌, Bool, true, false, cond, ◌&&◌, ◌||◌, if◌then◌else◌, List, [], ◌∷◌, ◌++◌, append-nil, find, bytes_eq, codes, ℕ, ℤ, Option, None, Some, option_map, refl, sym, ap, subst, int_eq}
+use Rattle.std.proofs.Common.{◌≡◌, ◌∙◌, Bool, true, false, cond, ◌&&◌, ◌||◌, if◌then◌else◌, List, [], ◌∷◌, ◌++◌, append-nil, find, bytes_eq, codes, ℕ, ℤ, Option, None, Some, option_map, refl, sym, ap, subst}
 use Rattle.std.specs.List.{filter_map, list_any}
 use Rattle.std.specs.Option.{option_map_or}
 use Rattle.std.proofs.lemmas.Slice.Eq.{bytes_eq-Decides}
@@ -19,7 +19,7 @@ use Rattle.osm_nest.specs.declared.polygon.Polygon.{Polygon}
 use Rattle.osm_area.specs.declared.roles.Role.{Role}
 use Rattle.osm_area.specs.declared.roles.Role.TheVariants.{Inner, Outer, Other}
 use Rattle.osm_area.specs.RoleKinds.{role_named, first_role, names_a_ring, note_on, note_by, note_from}
-use Rattle.osm_area.specs.Roles.{mentions, is_first_role, is_in_rings, lies_in, inners, outers, members_by, members_of, role_note, role_notes_of}
+use Rattle.osm_area.specs.Roles.{mentions, is_in_rings, lies_in, inners, outers, members_by, members_of, role_note, role_notes_of}
 
 -- ---- lists
 

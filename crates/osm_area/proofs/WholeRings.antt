@@ -1,5 +1,5 @@
 -- Rings of whole segments pass lattice points alone.
-use Rattle.std.proofs.Common.{◌≡◌, All, List, [], ◌∷◌, ap}
+use Rattle.std.proofs.Common.{All, List, [], ◌∷◌, ap}
 use Rattle.std.proofs.lemmas.List.Elements.{All-nil, All-append, All-head, All-tail}
 use Rattle.winding.proofs.Members.{in-all}
 use Rattle.sided.specs.SidedLaws.{IsLattice}

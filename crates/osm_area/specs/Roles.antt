@@ -1,5 +1,5 @@
 -- Notes on roles that differ from what the geometry says.
-use Rattle.std.specs.Prelude.{Bool, true, false, ◌&&◌, if◌then◌else◌, List, [], map, find, bytes_eq, codes, ℕ, ℤ, Option, None, Some}
+use Rattle.std.specs.Prelude.{Bool, false, ◌&&◌, if◌then◌else◌, List, [], map, find, bytes_eq, codes, ℕ, ℤ, Option, None, Some}
 use Rattle.std.specs.List.{filter_map, flat_map, list_any}
 use Rattle.std.specs.Option.{option_map_or}
 use Rattle.std.specs.Ordering.{int_eq, is_eq}

@@ -43,18 +43,37 @@ fn way_of(alloc: Global, id: i64, numbers: &[i64]) -> Result<Object, AllocError>
     })
 }
 
+/// The roles of the tests by numbers, since a loop can't carry the text.
+fn role_number(word: &str) -> u8 {
+    if word == "inner" {
+        1
+    } else if word == "outer" {
+        2
+    } else {
+        3
+    }
+}
+
+fn role_of(alloc: Global, number: u8) -> Result<Text, AllocError> {
+    match number {
+        0 => Text::from_str(alloc, ""),
+        1 => Text::from_str(alloc, "inner"),
+        2 => Text::from_str(alloc, "outer"),
+        _ => Text::from_str(alloc, "Inner"),
+    }
+}
+
 /// The members that words name: a word that is no number is the role of those after it.
 fn members_of(alloc: Global, kind: ObjectKind, words: &str) -> Result<Members, AllocError> {
     let mut members = Members::new(alloc);
-    let mut role = "";
+    let mut number = 0;
     for word in words.split_whitespace().skip(2) {
         match word.parse::<i64>() {
-            Ok(id) => members.push(Member {
-                kind,
-                id,
-                role: Text::from_str(alloc, role)?,
-            })?,
-            Err(_) => role = word,
+            Ok(id) => {
+                let role = role_of(alloc, number)?;
+                members.push(Member { kind, id, role })?;
+            }
+            Err(_) => number = role_number(word),
         }
     }
     Ok(members)

@@ -18,4 +18,4 @@ returns-in-None c =
     let fits : FitsSigned w64 c.args.candidate.id = search rules in
     nothing_added c.args.store.now c.args.candidate c.args.ways.now c.args.polygons.now c.args.notes.now
     (no_relation c.args.store.now c.args.candidate c.in-Relation.is
-        (ap (relation_of c.args.store.now) (sym (to_z-of_z w64 c.args.candidate.id fits)) ∙ (sym c.relation.ensures ∙ ap (option_map relation_seen) c.in-None.is)))
+    (ap (relation_of c.args.store.now) (sym (to_z-of_z w64 c.args.candidate.id fits)) ∙ (sym c.relation.ensures ∙ ap (option_map relation_seen) c.in-None.is)))
