@@ -15,6 +15,8 @@ use Rattle.osm_geom.specs.Dir as dir
 use Rattle.osm_geom.specs.Dir.{clockwise_cmp, rank_of, turn_by, vector_along}
 use Rattle.osm_geom.specs.OrderLaws.{ordering_of}
 use Rattle.osm_geom.proofs.LocationOrder.{int_cmp-is}
+use Rattle.sided.specs.OneDirection.{HaveOneDirection}
+use Rattle.sided.proofs.Directions.{along-cross, along-dot}
 use Rattle.osm_rings.specs.Clockwise.{earlier, is_met_before}
 
 -- a direction seen from d, and another one
@@ -72,6 +74,10 @@ met-itself d a =
     not-out : (b : Bool) → not b ≡ true → b ≡ false
     not-out true h = sym h
     not-out false h = refl
+
+-- the order goes by directions alone
+pub met-along : (u v w c d e : Vector) → HaveOneDirection u c → HaveOneDirection v d → HaveOneDirection w e → is_met_before u v w ≡ is_met_before c d e
+met-along u v w c d e hu hv hw = rw (along-dot u v c d hu hv, along-cross u v c d hu hv, along-dot u w c e hu hw, along-cross u w c e hu hw, along-cross v w d e hv hw) refl
 
 -- ---- the same as in Rust's words
 abbrev ranked_2 : Sign → Sign → Sign → Sign → Sign → Bool

@@ -5,6 +5,7 @@ pub mod FirstMets
 pub mod LeastStarts
 pub mod OrbitWalks
 pub mod Placed
+pub mod RingListLifts
 pub mod RingLists
 pub mod Starts
 pub mod Succeed

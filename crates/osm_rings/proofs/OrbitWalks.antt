@@ -13,7 +13,7 @@ use Rattle.orbits.specs.Orbits.{AreOrbits, IsOrbit, after, first}
 use Rattle.orbits.specs.Orbits as orbit
 use Rattle.osm_rings.specs.Numbered.{AreSuccessors, edge_at, nowhere}
 
-in-at : {X : Type 0} (xs : List X) (i : ℕ) (d : X) → i < length xs → In (get_or xs i d) xs
+pub in-at : {X : Type 0} (xs : List X) (i : ℕ) (d : X) → i < length xs → In (get_or xs i d) xs
 in-at [] i d h = absurd (omega arith)
 in-at (x ∷ xs) zero d h = inl refl
 in-at (x ∷ xs) (suc i) d h = inr (in-at xs i d (omega arith))

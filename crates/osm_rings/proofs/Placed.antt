@@ -8,8 +8,8 @@ use Rattle.orbits.specs.OnceLaws.{sum_below}
 use Rattle.osm_geom.specs.declared.edge.Edge.{Edge}
 use Rattle.osm_rings.specs.Numbered.{edge_at}
 use Rattle.osm_rings.specs.Pieces.{AreAllCut, edges_at}
-use Rattle.osm_rings.specs.PlaneEdge.{IsWholeSegment, plane_edge}
-use Rattle.osm_rings.proofs.FirstMets.{read-edge}
+use Rattle.sided.specs.Multiple.{IsWholeAt, edge_times, edges_times}
+use Rattle.osm_rings.proofs.Multiplied.{pick, read-edge}
 
 pub one-at : (es : List Edge) (k : ℕ) (d : Edge) → k < length es → take 1 (drop k es) ≡ get_or es k d ∷ []
 one-at es k d h = ap (take 1) (drop_more es k d h)
@@ -18,29 +18,25 @@ pub edges_at-more : (es : List Edge) (ks : List ℕ) (k : ℕ) → edges_at es (
 edges_at-more es [] k = append-nil (take 1 (drop k es))
 edges_at-more es (x ∷ ks) k = ap (λ r. take 1 (drop x es) ++ r) (edges_at-more es ks k) ∙ sym (append_assoc (take 1 (drop x es)) (edges_at es ks) (take 1 (drop k es)))
 
-pick : (es : List Edge) → 0 < length es → Edge
-pick [] h = absurd (omega arith)
-pick (x ∷ xs) h = x
-
 -- as edges of the plane
-pub placed-map : (es : List Edge) (ks : List ℕ) → All (λ k. k < length es) ks → map plane_edge (edges_at es ks) ≡ map (edge_at (map plane_edge es)) ks
-placed-map es [] low = refl
-placed-map es (k ∷ ks) low =
+pub placed-map : (m : ℕ) (es : List Edge) (ks : List ℕ) → All (λ k. k < length es) ks → edges_times m (edges_at es ks) ≡ map (edge_at (edges_times m es)) ks
+placed-map m es [] low = refl
+placed-map m es (k ∷ ks) low =
     let h : k < length es = low 0 0 (omega arith) in
     let d = pick es (omega arith) in
-    let rest = placed-map es ks (λ i z l. low (suc i) z (omega arith)) in
-    map-append plane_edge (take 1 (drop k es)) (edges_at es ks)
-    ∙ (ap (λ xs. map plane_edge xs ++ map plane_edge (edges_at es ks)) (one-at es k d h)
-    ∙ (ap (λ x. x ∷ map plane_edge (edges_at es ks)) (sym (read-edge es k d h)) ∙ ap (λ xs. edge_at (map plane_edge es) k ∷ xs) rest))
+    let rest = placed-map m es ks (λ i z l. low (suc i) z (omega arith)) in
+    map-append (edge_times m) (take 1 (drop k es)) (edges_at es ks)
+    ∙ (ap (λ xs. edges_times m xs ++ edges_times m (edges_at es ks)) (one-at es k d h)
+    ∙ (ap (λ x. x ∷ edges_times m (edges_at es ks)) (sym (read-edge m es k d h)) ∙ ap (λ xs. edge_at (edges_times m es) k ∷ xs) rest))
 
--- whole segments stay whole segments
-pub placed-whole : (es : List Edge) (ks : List ℕ) → All IsWholeSegment es → All (λ k. k < length es) ks → All IsWholeSegment (edges_at es ks)
-placed-whole es [] whole low = All-nil IsWholeSegment
-placed-whole es (k ∷ ks) whole low =
+-- what is whole stays whole
+pub placed-whole : (m : ℕ) (es : List Edge) (ks : List ℕ) → All (IsWholeAt m) es → All (λ k. k < length es) ks → All (IsWholeAt m) (edges_at es ks)
+placed-whole m es [] whole low = All-nil (IsWholeAt m)
+placed-whole m es (k ∷ ks) whole low =
     let h : k < length es = low 0 0 (omega arith) in
     let d = pick es (omega arith) in
-    let rest = placed-whole es ks whole (λ i z l. low (suc i) z (omega arith)) in
-    subst (λ xs. All IsWholeSegment (xs ++ edges_at es ks)) (sym (one-at es k d h)) (All-cons IsWholeSegment (get_or es k d) (edges_at es ks) (whole k d h) rest)
+    let rest = placed-whole m es ks whole (λ i z l. low (suc i) z (omega arith)) in
+    subst (λ xs. All (IsWholeAt m) (xs ++ edges_at es ks)) (sym (one-at es k d h)) (All-cons (IsWholeAt m) (get_or es k d) (edges_at es ks) (whole k d h) rest)
 
 -- ---- sums
 sum-placed : (es : List Edge) (f : Edge → ℕ) (ks : List ℕ) → sum_by f (edges_at es ks) ≡ sum_by (λ k. sum_by f (take 1 (drop k es))) ks

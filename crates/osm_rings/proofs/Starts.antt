@@ -1,35 +1,42 @@
--- The ways in order: where those that begin at a location stand.
-use Rattle.std.proofs.Common.{◌≡◌, ℕ, suc, zero, ◌+◌, ◌-◌, ◌<◌, ◌≤◌, List, [], ◌∷◌, ◌++◌, length, get_or, map, drop, All, Bool, true, false, not, refl, sym, ap, subst, ◌∙◌, arith, ⊎_elim}
+-- The ways in order: where those that begin at a point stand.
+use Rattle.std.proofs.Common.{◌≡◌, ℕ, suc, zero, ◌+◌, ◌-◌, ◌<◌, ◌≤◌, List, [], ◌∷◌, ◌++◌, length, get_or, map, drop, All, Bool, true, false, not, Some, None, refl, sym, ap, subst, ◌∙◌, arith, ⊎_elim}
 use Rattle.std.specs.List.{Contains, slice_range}
-use Rattle.std.specs.List.Sorted.{IsPartitionedBy, IsPermutation, IsSorted}
+use Rattle.std.specs.Cmp.{IsStrictWeakOrder}
+use Rattle.std.specs.List.Sorted.{IsPartitionedBy, IsPermutation, IsSortedBy}
 use Rattle.std.specs.declared.cmp.Ordering.{Ordering}
 use Rattle.std.specs.declared.cmp.Ordering.TheVariants.{Less, Equal, Greater}
-use Rattle.std.specs.Ordering.{is_lt, nat_cmp, on, ordering_reverse, ordering_then, then_cmp}
+use Rattle.std.specs.Ordering.{is_lt, ordering_reverse}
 use Rattle.std.proofs.lemmas.Bool.{cases_lt}
 use Rattle.std.proofs.lemmas.Cmp.{tied_itself}
 use Rattle.std.proofs.lemmas.List.{get_or_default, get_or-map, get_or-take, get_or-drop, length-map, length-append, length-drop, length-take-le, get_or_append_left}
 use Rattle.std.proofs.lemmas.List.MinMax.{ranks_by}
 use Rattle.std.proofs.lemmas.List.Sorted.{All-permutation, Contains-permutation, length_permutation}
 use Rattle.std.proofs.Math.Seq.{get_or-append_seam}
-use Rattle.plane.specs.Edge.{Edge}
-use Rattle.osm_geom.specs.declared.loc.Loc.{Loc}
-use Rattle.osm_geom.specs.Loc.{loc_cmp, vector_of}
-use Rattle.osm_geom.proofs.LocationOrder.{loc_total}
-use Rattle.osm_geom.proofs.Orders.{loc_same}
+use Rattle.osm_geom.specs.declared.edge.Edge.{Edge}
+use Rattle.osm_geom.specs.declared.point.Point.{Point}
+use Rattle.osm_geom.specs.Point.{point_cmp}
+use Rattle.osm_geom.proofs.TotalPoints.{point_same, point_total}
 use Rattle.osm_rings.specs.declared.ways.Way.{Way}
-use Rattle.osm_rings.specs.Numbered.{edge_at}
-use Rattle.osm_rings.specs.Pieces.{TellPoints}
-use Rattle.osm_rings.specs.Ways.{AreFrom, AreRising, AreWays, IsEndAt, IsFirstAt}
-use Rattle.osm_rings.proofs.Whole.{same-location}
+use Rattle.osm_rings.specs.Ways.{AreFrom, AreRising, AreWays, IsEndAt, IsFirstAt, TellStarts, start_at}
 
-abbrev lt : Loc → Loc → Bool
-lt p q = is_lt (loc_cmp p q)
+-- what an edge leaves
+pub start-at : (es : List Edge) (i : ℕ) (d : Edge) → i < length es → start_at es i ≡ Some (get_or es i d).from
+start-at es i d h = get_or-map (λ (e : Edge). Some e.from) es i d None h
 
-ranked-chain : (p q r : Loc) → lt p q ≡ false → lt q r ≡ false → lt p r ≡ false
-ranked-chain = (ranks_by loc_total (λ (p : Loc). p)).chain
+pub start-read : (es : List Edge) (i : ℕ) (e : Edge) → i < length es → e ≡ get_or es i e → start_at es i ≡ Some e.from
+start-read es i e h is = start-at es i e h ∙ ap (λ (f : Edge). Some f.from) (sym is)
 
-lt-itself : (p : Loc) → lt p p ≡ false
-lt-itself p = ap is_lt (tied_itself loc_total p)
+pub same-some : (p q : Point) → Some p ≡ Some q → p ≡ q
+same-some p q e = cc
+
+abbrev pub lt : Point → Point → Bool
+lt p q = is_lt (point_cmp p q)
+
+ranked-chain : (p q r : Point) → lt p q ≡ false → lt q r ≡ false → lt p r ≡ false
+ranked-chain = (ranks_by point_total (λ (p : Point). p)).chain
+
+lt-itself : (p : Point) → lt p p ≡ false
+lt-itself p = ap is_lt (tied_itself point_total p)
 
 clash : (b : Bool) → b ≡ true → b ≡ false → ⊥
 clash b p q = cc
@@ -43,28 +50,23 @@ not-in true h = refl
 not-in false h = sym h
 
 -- neither begins before the other
-same-from : (p q : Loc) → lt p q ≡ false → lt q p ≡ false → p ≡ q
-same-from p q h g = decide (loc_cmp p q) refl
+same-from : (p q : Point) → lt p q ≡ false → lt q p ≡ false → p ≡ q
+same-from p q h g = decide (point_cmp p q) refl
   where
-    decide : (o : Ordering) → loc_cmp p q ≡ o → p ≡ q
+    decide : (o : Ordering) → point_cmp p q ≡ o → p ≡ q
     decide Less e = absurd (clash (lt p q) (ap is_lt e) h)
-    decide Equal e = loc_same p q e
-    decide Greater e = absurd (clash (lt q p) (ap is_lt (loc_total.antisymm q p ∙ ap ordering_reverse e)) g)
+    decide Equal e = point_same p q e
+    decide Greater e = absurd (clash (lt q p) (ap is_lt (point_total.antisymm q p ∙ ap ordering_reverse e)) g)
 
 module _ (ws : List Way) where
-  -- what is sorted by where it begins, and then by something else
-  pub rising-from : (cmp : Way → Way → Ordering) → ((v w : Way) → loc_cmp v.from w.from ≡ Less → cmp v w ≡ Less) → IsSorted cmp ws → AreRising ws
-  rising-from cmp by sorted = λ i j d h l.
+  -- what is sorted by where it begins
+  pub rising-from : IsSortedBy (λ v w. lt v.from w.from) ws → AreRising ws
+  rising-from sorted = λ i j d h l.
       let far : i + (j - i) ≡ j = omega arith in
       subst (λ m. lt (get_or ws m d).from (get_or ws i d).from ≡ false) far (rise (j - i) i d (omega arith))
     where
       next : (k : ℕ) (d : Way) → k + 1 < length ws → lt (get_or ws (k + 1) d).from (get_or ws k d).from ≡ false
-      next k d h = decide (loc_cmp (get_or ws (k + 1) d).from (get_or ws k d).from) refl
-        where
-          decide : (o : Ordering) → loc_cmp (get_or ws (k + 1) d).from (get_or ws k d).from ≡ o → lt (get_or ws (k + 1) d).from (get_or ws k d).from ≡ false
-          decide Less e = absurd (clash (is_lt (cmp (get_or ws (k + 1) d) (get_or ws k d))) (ap is_lt (by (get_or ws (k + 1) d) (get_or ws k d) e)) (sorted k d (omega arith) h))
-          decide Equal e = ap is_lt e
-          decide Greater e = ap is_lt e
+      next k d h = sorted k d (omega arith) h
 
       rise : (n i : ℕ) (d : Way) → i + n < length ws → lt (get_or ws (i + n) d).from (get_or ws i d).from ≡ false
       rise zero i d h =
@@ -77,18 +79,18 @@ module _ (ws : List Way) where
           subst (λ m. lt (get_or ws m d).from (get_or ws i d).from ≡ false) (sym same) (ranked-chain (get_or ws (i + n + 1) d).from (get_or ws (i + n) d).from (get_or ws i d).from step before)
 
   module _ (rising : AreRising ws) where
-    pub before-parts : (p : Loc) → IsPartitionedBy (λ w. lt w.from p) ws
+    pub before-parts : (p : Point) → IsPartitionedBy (λ w. lt w.from p) ws
     before-parts p i j d h l below = decide (lt (get_or ws i d).from p) refl
       where
         decide : (b : Bool) → lt (get_or ws i d).from p ≡ b → lt (get_or ws i d).from p ≡ true
         decide true e = e
         decide false e = absurd (clash (lt (get_or ws j d).from p) below (ranked-chain (get_or ws j d).from (get_or ws i d).from p (rising i j d h l) e))
 
-    pub after-parts : (p : Loc) → IsPartitionedBy (λ w. not (lt p w.from)) ws
+    pub after-parts : (p : Point) → IsPartitionedBy (λ w. not (lt p w.from)) ws
     after-parts p i j d h l upto = ap not (ranked-chain p (get_or ws j d).from (get_or ws i d).from (not-out (lt p (get_or ws j d).from) upto) (rising i j d h l))
 
     -- a way that begins at p stands at the first place or later, and one begins there
-    pub found-at : (p : Loc) (i : ℕ) (w : Way) → IsFirstAt ws p i → Contains ws w → w.from ≡ p → (i < length ws) × ((get_or ws i w).from ≡ p)
+    pub found-at : (p : Point) (i : ℕ) (w : Way) → IsFirstAt ws p i → Contains ws w → w.from ≡ p → (i < length ws) × ((get_or ws i w).from ≡ p)
     found-at p i w first (m, inside, is) at_p =
         let here : (get_or ws m w).from ≡ p = ap (λ v. v.from) is ∙ at_p in
         let late : i ≤ m = ⊎_elim
@@ -100,7 +102,7 @@ module _ (ws : List Way) where
         (fits, same-from (get_or ws i w).from p (first.1 i w (omega arith) fits) up)
 
     -- there is one first place
-    pub first-one : (p : Loc) (i j : ℕ) (d : Way) → i < length ws → j < length ws → IsFirstAt ws p i → IsFirstAt ws p j → i ≡ j
+    pub first-one : (p : Point) (i j : ℕ) (d : Way) → i < length ws → j < length ws → IsFirstAt ws p i → IsFirstAt ws p j → i ≡ j
     first-one p i j d hi hj f g = ⊎_elim
         (λ l. absurd (clash (lt (get_or ws i d).from p) (g.0 i d (omega arith) l) (f.1 i d (omega arith) hi)))
         (λ l. ⊎_elim
@@ -110,7 +112,7 @@ module _ (ws : List Way) where
         (cases_lt i j)
 
   -- the first place is not after the end
-  pub first-to-end : (p : Loc) (a b : ℕ) → a ≤ length ws → IsFirstAt ws p a → IsEndAt ws p b → a ≤ b
+  pub first-to-end : (p : Point) (a b : ℕ) → a ≤ length ws → IsFirstAt ws p a → IsEndAt ws p b → a ≤ b
   first-to-end p a b h first end = by-length ws refl
     where
       before-end : (d : Way) → a ≤ b
@@ -118,7 +120,7 @@ module _ (ws : List Way) where
           (λ l.
           let low : lt (get_or ws b d).from p ≡ true = first.0 b d (omega arith) l in
           let high : lt p (get_or ws b d).from ≡ true = not-in (lt p (get_or ws b d).from) (end.1 b d (omega arith) (omega arith)) in
-          absurd (clash (lt (get_or ws b d).from p) low ((ranks_by loc_total (λ (q : Loc). q)).one_way p (get_or ws b d).from high)))
+          absurd (clash (lt (get_or ws b d).from p) low ((ranks_by point_total (λ (q : Point). q)).one_way p (get_or ws b d).from high)))
           (λ l. l)
           (cases_lt b a)
 
@@ -127,7 +129,7 @@ module _ (ws : List Way) where
       by-length (x ∷ xs) e = before-end x
 
   -- what stands from the first place up to the end begins at p, and nothing else does
-  pub range-from : (p : Loc) (a b : ℕ) → a ≤ b → b ≤ length ws → IsFirstAt ws p a → IsEndAt ws p b → (ks : List ℕ) → ks ≡ map (λ w. w.edge) (slice_range ws a b) → AreFrom ws p ks
+  pub range-from : (p : Point) (a b : ℕ) → a ≤ b → b ≤ length ws → IsFirstAt ws p a → IsEndAt ws p b → (ks : List ℕ) → ks ≡ map (λ w. w.edge) (slice_range ws a b) → AreFrom ws p ks
   range-from p a b h l first end ks is =
       let range = slice_range ws a b in
       let dropped : length (drop a ws) ≡ length ws - a = length-drop a ws in
@@ -165,12 +167,12 @@ module _ (ws : List Way) where
 pub record AreListed (es : List Edge) (n : ℕ) (ws : List Way) : Type 0 where
   pub sized : length ws ≡ n
   pub edge : (i : ℕ) (d : Way) → i < n → (get_or ws i d).edge ≡ i
-  pub from : (i : ℕ) (d : Way) → i < n → (edge_at es i).from ≡ vector_of (get_or ws i d).from
+  pub from : (i : ℕ) (d : Way) → i < n → start_at es i ≡ Some (get_or ws i d).from
 
 pub listed-none : (es : List Edge) → AreListed es 0 []
 listed-none es = record { sized = refl; edge = λ i d h. absurd (omega arith); from = λ i d h. absurd (omega arith) }
 
-pub listed-more : (es : List Edge) (n : ℕ) (ws : List Way) (w : Way) → AreListed es n ws → w.edge ≡ n → (edge_at es n).from ≡ vector_of w.from → AreListed es (n + 1) (ws ++ w ∷ [])
+pub listed-more : (es : List Edge) (n : ℕ) (ws : List Way) (w : Way) → AreListed es n ws → w.edge ≡ n → start_at es n ≡ Some w.from → AreListed es (n + 1) (ws ++ w ∷ [])
 listed-more es n ws w l is from =
     let sized = l.sized in
     let old : (i : ℕ) (d : Way) → i < n → get_or (ws ++ w ∷ []) i d ≡ get_or ws i d = λ i d h. get_or_append_left ws (w ∷ []) d i (omega arith) in
@@ -178,7 +180,7 @@ listed-more es n ws w l is from =
     record {
       sized = let e = length-append ws (w ∷ []) in omega arith;
       edge = λ i d h. ⊎_elim (λ m. ap (λ v. v.edge) (old i d m) ∙ l.edge i d m) (λ m. let e : i ≡ n = omega arith in ap (λ v. v.edge) (new i d e) ∙ (is ∙ sym e)) (cases_lt i n);
-      from = λ i d h. ⊎_elim (λ m. l.from i d m ∙ ap (λ v. vector_of v.from) (sym (old i d m))) (λ m. let e : i ≡ n = omega arith in ap (λ k. (edge_at es k).from) e ∙ (from ∙ ap (λ v. vector_of v.from) (sym (new i d e)))) (cases_lt i n);
+      from = λ i d h. ⊎_elim (λ m. l.from i d m ∙ ap (λ v. Some v.from) (sym (old i d m))) (λ m. let e : i ≡ n = omega arith in ap (start_at es) e ∙ (from ∙ ap (λ v. Some v.from) (sym (new i d e)))) (cases_lt i n);
     }
 
 -- sorted, they are the ways of all edges
@@ -188,10 +190,10 @@ listed-sorted es ws vs n whole l moved rising =
     record {
       sized = length_permutation ws vs moved ∙ (sized ∙ whole);
       rising = rising;
-      right = All-permutation (λ w. (w.edge < length es) × ((edge_at es w.edge).from ≡ vector_of w.from)) ws vs moved (λ i d h.
+      right = All-permutation (λ w. (w.edge < length es) × (start_at es w.edge ≡ Some w.from)) ws vs moved (λ i d h.
           let fits : i < n = omega arith in
           let is = l.edge i d fits in
-          (omega arith, ap (λ k. (edge_at es k).from) is ∙ l.from i d fits));
+          (omega arith, ap (start_at es) is ∙ l.from i d fits));
       whole = λ k h. with-way ws refl (λ d.
           let w = get_or ws k d in
           let fits : k < length ws = omega arith in
@@ -205,12 +207,12 @@ listed-sorted es ws vs n whole l moved rising =
 -- ---- the numbers of the nodes
 pub record AreKeyed (es : List Edge) (ws : List Way) (n : ℕ) (keys : List ℕ) : Type 0 where
   pub sized : length keys ≡ n
-  pub first : (i : ℕ) → i < n → (p : Loc) × ((edge_at es i).from ≡ vector_of p) × IsFirstAt ws p (get_or keys i 0)
+  pub first : (i : ℕ) → i < n → (p : Point) × (start_at es i ≡ Some p) × IsFirstAt ws p (get_or keys i 0)
 
 pub keyed-none : (es : List Edge) (ws : List Way) → AreKeyed es ws 0 []
 keyed-none es ws = record { sized = refl; first = λ i h. absurd (omega arith) }
 
-pub keyed-more : (es : List Edge) (ws : List Way) (n : ℕ) (keys : List ℕ) (p : Loc) (k : ℕ) → AreKeyed es ws n keys → (edge_at es n).from ≡ vector_of p → IsFirstAt ws p k → AreKeyed es ws (n + 1) (keys ++ k ∷ [])
+pub keyed-more : (es : List Edge) (ws : List Way) (n : ℕ) (keys : List ℕ) (p : Point) (k : ℕ) → AreKeyed es ws n keys → start_at es n ≡ Some p → IsFirstAt ws p k → AreKeyed es ws (n + 1) (keys ++ k ∷ [])
 keyed-more es ws n keys p k inv from first =
     let sized = inv.sized in
     record {
@@ -221,22 +223,22 @@ keyed-more es ws n keys p k inv from first =
           (old.0, old.1, subst (IsFirstAt ws old.0) (sym same) old.2))
           (λ m. let e : i ≡ n = omega arith in
           let same : get_or (keys ++ k ∷ []) i 0 ≡ k = ap (λ j. get_or (keys ++ k ∷ []) j 0) (e ∙ sym sized) ∙ get_or-append_seam keys k [] 0 in
-          (p, ap (λ j. (edge_at es j).from) e ∙ from, subst (IsFirstAt ws p) (sym same) first))
+          (p, ap (start_at es) e ∙ from, subst (IsFirstAt ws p) (sym same) first))
           (cases_lt i n);
     }
 
 module _ (es : List Edge) (ws : List Way) (are : AreWays es ws) (keys : List ℕ) (keyed : AreKeyed es ws (length es) keys) where
   -- the way of an edge begins where the edge does
-  way-of : (i : ℕ) (p : Loc) → i < length es → (edge_at es i).from ≡ vector_of p → (w : Way) × Contains ws w × (w.from ≡ p)
+  way-of : (i : ℕ) (p : Point) → i < length es → start_at es i ≡ Some p → (w : Way) × Contains ws w × (w.from ≡ p)
   way-of i p h from =
       let found = are.whole i h in
       let w = found.0 in
       let m = found.1 in
       let right = are.right m.0 w m.1 in
-      let same : (edge_at es w.edge).from ≡ vector_of w.from = subst (λ v. (edge_at es v.edge).from ≡ vector_of v.from) m.2 right.1 in
-      (w, m, same-location w.from p (sym same ∙ (ap (λ k. (edge_at es k).from) found.2 ∙ from)))
+      let same : start_at es w.edge ≡ Some w.from = subst (λ v. start_at es v.edge ≡ Some v.from) m.2 right.1 in
+      (w, m, same-some w.from p (sym same ∙ (ap (start_at es) found.2 ∙ from)))
 
-  at-key : (i : ℕ) → i < length es → (p : Loc) × (w : Way) × ((edge_at es i).from ≡ vector_of p) × IsFirstAt ws p (get_or keys i 0) × (get_or keys i 0 < length ws) × ((get_or ws (get_or keys i 0) w).from ≡ p)
+  at-key : (i : ℕ) → i < length es → (p : Point) × (w : Way) × (start_at es i ≡ Some p) × IsFirstAt ws p (get_or keys i 0) × (get_or keys i 0 < length ws) × ((get_or ws (get_or keys i 0) w).from ≡ p)
   at-key i h =
       let key = keyed.first i h in
       let w = way-of i key.0 h key.1 in
@@ -252,19 +254,19 @@ module _ (es : List Edge) (ws : List Way) (are : AreWays es ws) (keys : List ℕ
       let read : get_or keys i d ≡ get_or keys i 0 = get_or_default keys i d 0 h in
       rw read (omega arith)
 
-  pub keys-tell : TellPoints es keys
+  pub keys-tell : TellStarts es keys
   keys-tell i j hi hj =
       let a = at-key i hi in
       let b = at-key j hj in (
         λ same.
             let here : (get_or ws (get_or keys j 0) b.1).from ≡ a.0 =
             ap (λ w. w.from) (get_or_default ws (get_or keys j 0) b.1 a.1 b.4) ∙ (ap (λ k. (get_or ws k a.1).from) (sym same) ∙ a.5) in
-            a.2 ∙ (ap vector_of (sym here ∙ b.5) ∙ sym b.2),
+            a.2 ∙ (ap Some (sym here ∙ b.5) ∙ sym b.2),
         λ same.
-            let one : a.0 ≡ b.0 = same-location a.0 b.0 (sym a.2 ∙ (same ∙ b.2)) in
+            let one : a.0 ≡ b.0 = same-some a.0 b.0 (sym a.2 ∙ (same ∙ b.2)) in
             first-one ws are.rising b.0 (get_or keys i 0) (get_or keys j 0) b.1 a.4 b.4 (subst (λ p. IsFirstAt ws p (get_or keys i 0)) one a.3) b.3,
       )
 
--- the order of ways goes by where they begin
-pub from-first : (v w : Way) → loc_cmp v.from w.from ≡ Less → then_cmp (on (λ (u : Way). u.from) loc_cmp) (on (λ (u : Way). u.edge) nat_cmp) v w ≡ Less
-from-first v w h = ap (λ o. ordering_then o (nat_cmp v.edge w.edge)) h
+-- the order in which they are sorted
+pub starts-order : IsStrictWeakOrder (λ (v w : Way). lt v.from w.from)
+starts-order = ranks_by point_total (λ (w : Way). w.from)

@@ -10,6 +10,7 @@ use Rattle.osm_geom.specs.declared.seg.Seg.{Seg}
 use Rattle.osm_sides.specs.Directions.{AreDirected}
 use Rattle.sided.specs.Multiple.{whole_edges}
 use Rattle.sided.specs.Sided.{IsSided}
+use Rattle.osm_rings.specs.RingList.{AreRingsOf}
 use Rattle.osm_rings.specs.SidedEdges.{AreSidedSegments}
 
 -- each edge of a sided list has a successor
@@ -27,6 +28,10 @@ SuccessorIsOneToOne = (es : List Edge) → IsSided es → (d e f : plane.Edge) �
 -- every sided list has a ring list
 abbrev pub RingListExists : Type 0
 RingListExists = (es : List Edge) → IsSided es → (rs : List (List plane.Edge)) × IsRingList rs × HasSameEdges (edges_of rs) (whole_edges es)
+
+-- and one of its own edges
+abbrev pub RingListOfEdgesExists : Type 0
+RingListOfEdgesExists = (es : List Edge) → IsSided es → (rs : List (List Edge)) × AreRingsOf es rs
 
 -- directed segments run along whole segments
 abbrev pub DirectedAreWhole : Type 0

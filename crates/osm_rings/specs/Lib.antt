@@ -4,7 +4,6 @@ pub mod LeastStart
 pub mod Numbered
 pub mod Pieces
 pub mod PlaneEdge
-pub mod PlaneRings
 pub mod Ring
 pub mod RingList
 pub mod SidedEdges

@@ -9,7 +9,7 @@ use Rattle.osm_geom.specs.declared.loc.Loc.{Loc}
 use Rattle.osm_geom.specs.declared.point.Point.{Point}
 use Rattle.osm_geom.specs.declared.point.Point.TheVariants.{Lattice}
 use Rattle.osm_geom.specs.Edge.{direction_of}
-use Rattle.osm_geom.specs.Loc.{loc_cmp, vector_of}
+use Rattle.osm_geom.specs.Point.{point_cmp}
 use Rattle.osm_rings.specs.declared.ways.Way.{Way}
 use Rattle.osm_rings.specs.Clockwise.{is_met_before}
 use Rattle.osm_rings.specs.Numbered.{edge_at}
@@ -17,27 +17,35 @@ use Rattle.osm_rings.specs.Numbered.{edge_at}
 abbrev pub IsLattice : Point → Type 0
 IsLattice p = (q : Loc) × (p ≡ Lattice q)
 
+-- the point that the edge at a place leaves
+abbrev pub start_at : List geom.Edge → ℕ → Option Point
+start_at es i = get_or (map (λ e. Some e.from) es) i None
+
+-- keys tell the points that the edges at these places leave
+abbrev pub TellStarts : List geom.Edge → List ℕ → Type 0
+TellStarts es keys = (i j : ℕ) → i < length es → j < length es → ((get_or keys i 0 ≡ get_or keys j 0) → start_at es i ≡ start_at es j) × ((start_at es i ≡ start_at es j) → get_or keys i 0 ≡ get_or keys j 0)
+
 -- no way begins before one that stands before it
 abbrev pub AreRising : List Way → Type 0
-AreRising ws = (i j : ℕ) (d : Way) → i ≤ j → j < length ws → is_lt (loc_cmp (slice_index_or ws j d).from (slice_index_or ws i d).from) ≡ false
+AreRising ws = (i j : ℕ) (d : Way) → i ≤ j → j < length ws → is_lt (point_cmp (slice_index_or ws j d).from (slice_index_or ws i d).from) ≡ false
 
 -- the ways of all edges, each with the place of its edge, in order of where they begin
-pub record AreWays (es : List Edge) (ws : List Way) : Type 0 where
+pub record AreWays (es : List geom.Edge) (ws : List Way) : Type 0 where
   pub sized : length ws ≡ length es
   pub rising : AreRising ws
-  pub right : All (λ w. (w.edge < length es) × ((edge_at es w.edge).from ≡ vector_of w.from)) ws
+  pub right : All (λ w. (w.edge < length es) × (start_at es w.edge ≡ Some w.from)) ws
   pub whole : (k : ℕ) → k < length es → (w : Way) × Contains ws w × (w.edge ≡ k)
 
 -- the ways before place i are those that begin before p
-abbrev pub IsFirstAt : List Way → Loc → ℕ → Type 0
-IsFirstAt ws p i = IsPartitionPoint (λ w. is_lt (loc_cmp w.from p) ≡ true) (λ w. is_lt (loc_cmp w.from p) ≡ false) ws i
+abbrev pub IsFirstAt : List Way → Point → ℕ → Type 0
+IsFirstAt ws p i = IsPartitionPoint (λ w. is_lt (point_cmp w.from p) ≡ true) (λ w. is_lt (point_cmp w.from p) ≡ false) ws i
 
 -- the ways before place i are those that begin at p or before
-abbrev pub IsEndAt : List Way → Loc → ℕ → Type 0
-IsEndAt ws p i = IsPartitionPoint (λ w. not (is_lt (loc_cmp p w.from)) ≡ true) (λ w. not (is_lt (loc_cmp p w.from)) ≡ false) ws i
+abbrev pub IsEndAt : List Way → Point → ℕ → Type 0
+IsEndAt ws p i = IsPartitionPoint (λ w. not (is_lt (point_cmp p w.from)) ≡ true) (λ w. not (is_lt (point_cmp p w.from)) ≡ false) ws i
 
 -- the places of the edges whose ways begin at p
-pub record AreFrom (ws : List Way) (p : Loc) (ks : List ℕ) : Type 0 where
+pub record AreFrom (ws : List Way) (p : Point) (ks : List ℕ) : Type 0 where
   pub right : All (λ k. (w : Way) × Contains ws w × (w.from ≡ p) × (w.edge ≡ k)) ks
   pub whole : (w : Way) → Contains ws w → w.from ≡ p → Contains ks w.edge
 

@@ -1,5 +1,5 @@
 //! Laws of successors and ring lists, for edges with any points. Each function has an empty body; its contract is the law.
-ghost use Rattle.osm_rings.specs.Laws.{DirectedAreWhole, RingListExists, SuccessorExists, SuccessorIsOneToOne, SuccessorLeaves};
+ghost use Rattle.osm_rings.specs.Laws.{DirectedAreWhole, RingListExists, RingListOfEdgesExists, SuccessorExists, SuccessorIsOneToOne, SuccessorLeaves};
 
 /// In a sided list each edge has a successor, which leaves the node that the edge enters, and no edge is the
 /// successor of two.
@@ -12,6 +12,11 @@ pub fn successors_are_one_to_one()
 /// Every sided list has a ring list.
 pub fn ring_list_exists()
     ensures { RingListExists }
+{}
+
+/// Every sided list has a ring list that is made of its own edges, as `rings` gives one.
+pub fn ring_list_of_edges_exists()
+    ensures { RingListOfEdgesExists }
 {}
 
 /// What the survivors' directions give may be cut into rings.

@@ -9,6 +9,9 @@ mod successors;
 mod tests;
 mod ways;
 
-pub use laws::{directed_segments_are_whole, ring_list_exists, successors_are_one_to_one};
+pub use laws::{
+    directed_segments_are_whole, ring_list_exists, ring_list_of_edges_exists,
+    successors_are_one_to_one,
+};
 pub use ring::{Ring, Rings};
 pub use ring_list::rings;

@@ -3,7 +3,7 @@ ghost use Rattle.std.specs.Prelude.{◌≡◌, ◌<◌, All, IfOk, length, map};
 ghost use Rattle.osm_rings.specs.Pieces.{AreAllCut, edges_at};
 ghost use Rattle.osm_rings.specs.Ring.{IsRing};
 ghost use Rattle.osm_rings.specs.RingList.{AreRingsOf};
-ghost use Rattle.osm_rings.specs.SidedEdges.{AreSidedSegments};
+ghost use Rattle.sided.specs.Sided.{IsSided};
 
 use crate::ring::{Ring, Rings};
 use crate::successors::successors;
@@ -12,13 +12,13 @@ use orbits::{cut, orbits};
 use osm_geom::Edge;
 use std::alloc::{AllocError, Global};
 
-/// The rings of a sided list of edges that run along whole segments.
+/// The rings of a sided list of edges, between any points.
 ///
 /// Each edge lies in exactly one ring, there once. The edges of a ring lie in one walk of successors, and no two
 /// rings cross: turning round a point that both pass, the two edges of the one don't alternate with those of the
 /// other. It takes time n log n, and at a node the square of the number of edges there. The error is want of memory.
 pub fn rings(alloc: Global, edges: &[Edge]) -> Result<Rings, AllocError>
-    requires { AreSidedSegments edges.now }
+    requires { IsSided edges.now }
     ensures { IfOk result (λ v. AreRingsOf edges.now v) }
 {
     let ways = ways(alloc, edges)?;

@@ -1,15 +1,16 @@
 //! The successor of each edge: the first edge that is met on turning clockwise from the direction back.
-ghost use Rattle.std.specs.Prelude.{◌≡◌, ◌<◌, All, Contains, IfNone, IfOk, IfSome, [], cond, false, length, map, ℕ};
+ghost use Rattle.std.specs.Prelude.{◌≡◌, ◌<◌, All, Contains, IfNone, IfOk, IfSome, [], cond, false, length, ℕ};
 ghost use Rattle.plane.specs.Vector.{IsDirection};
 ghost use Rattle.osm_geom.specs.Dir.{vector_along};
 ghost use Rattle.osm_geom.specs.Edge.{direction_of, opposite};
 ghost use Rattle.orbits.specs.Orbits.{after};
+ghost use Rattle.sided.specs.Multiple.{common_den, edge_times, whole_edges};
+ghost use Rattle.winding.specs.Member.{In};
 ghost use Rattle.osm_rings.specs.Clockwise.{is_met_before};
 ghost use Rattle.osm_rings.specs.Numbered.{edge_at};
-ghost use Rattle.osm_rings.specs.PlaneEdge.{IsWholeSegment, plane_edge};
 ghost use Rattle.osm_rings.specs.Ways.{AreWays, IsFirstMet, direction_at};
 
-use crate::ways::{Way, leaving, location};
+use crate::ways::{Way, leaving};
 use osm_geom::{Dir, Edge, clockwise};
 use std::alloc::{AllocError, Global};
 
@@ -59,12 +60,11 @@ fn successor(
     ways: &[Way],
     edge: &Edge,
 ) -> Result<Option<usize>, AllocError>
-    requires segments { All IsWholeSegment edges.now }
-    requires segment { IsWholeSegment edge.now }
-    requires ways { AreWays (map plane_edge edges.now) ways.now }
-    ensures { IfOk result (λ r. IsFirstMet (map plane_edge edges.now) (plane_edge edge.now) r) }
+    requires member { In edge.now edges.now }
+    requires ways { AreWays edges.now ways.now }
+    ensures { IfOk result (λ r. IsFirstMet (whole_edges edges.now) (edge_times (common_den edges.now) edge.now) r) }
 {
-    let places = leaving(alloc, ways, location(edge.to))?;
+    let places = leaving(alloc, ways, edge.to)?;
     Ok(first_met(edges, back(edge), places.as_slice()))
 }
 
@@ -74,10 +74,9 @@ pub fn successors(
     edges: &[Edge],
     ways: &[Way],
 ) -> Result<Vec<Option<usize>>, AllocError>
-    requires segments { All IsWholeSegment edges.now }
-    requires ways { AreWays (map plane_edge edges.now) ways.now }
+    requires { AreWays edges.now ways.now }
     ensures sized { IfOk result (λ v. length v.items ≡ length edges.now) }
-    ensures first { IfOk result (λ v. (i : ℕ) → i < length edges.now → IsFirstMet (map plane_edge edges.now) (edge_at (map plane_edge edges.now) i) (after v.items i)) }
+    ensures first { IfOk result (λ v. (i : ℕ) → i < length edges.now → IsFirstMet (whole_edges edges.now) (edge_at (whole_edges edges.now) i) (after v.items i)) }
 {
     let mut next = Vec::new(alloc);
     for edge in edges {

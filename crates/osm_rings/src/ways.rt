@@ -1,84 +1,67 @@
 //! The starts of edges in order, the numbers of the nodes where they begin, and the edges that leave a node.
-ghost use Rattle.std.specs.Prelude.{◌≡◌, ◌<◌, ◌≤◌, All, IfOk, length, map};
-ghost use Rattle.osm_geom.specs.declared.point.Point.TheVariants.{Lattice};
-ghost use Rattle.osm_rings.specs.Pieces.{TellPoints};
-ghost use Rattle.osm_rings.specs.PlaneEdge.{plane_edge};
-ghost use Rattle.osm_rings.specs.Ways.{AreFrom, AreRising, AreWays, IsEndAt, IsFirstAt, IsLattice};
+ghost use Rattle.std.specs.Prelude.{◌≡◌, ◌<◌, ◌≤◌, All, IfOk, length};
+ghost use Rattle.osm_rings.specs.Ways.{AreFrom, AreRising, AreWays, IsEndAt, IsFirstAt, TellStarts};
 
-use osm_geom::{Edge, Loc, Point};
+use osm_geom::{Edge, Point, compare_points};
 use smallvec::SmallVec;
 use std::alloc::{AllocError, Global};
 
-/// The place of an edge, and the location that it leaves.
-#[derive(Clone, Copy, Debug, PartialEq, Eq, PartialOrd, Ord)]
+/// The place of an edge, and the point that it leaves.
+#[derive(Clone, Copy, Debug, PartialEq, Eq)]
 pub struct Way {
-    pub from: Loc,
+    pub from: Point,
     pub edge: usize,
-}
-
-/// The location that a lattice point is.
-pub fn location(p: Point) -> Loc
-    requires { IsLattice p }
-    ensures { Lattice result ≡ p }
-{
-    match p {
-        Point::Lattice(q) => q,
-        Point::OnVertical { .. } => unreachable!(),
-        Point::OnHorizontal { .. } => unreachable!(),
-    }
 }
 
 /// The ways of the edges, in order of where they begin.
 pub fn ways(alloc: Global, edges: &[Edge]) -> Result<Vec<Way>, AllocError>
-    requires { All (λ e. IsLattice e.from) edges.now }
-    ensures { IfOk result (λ v. AreWays (map plane_edge edges.now) v.items) }
+    ensures { IfOk result (λ v. AreWays edges.now v.items) }
 {
     let mut ways = Vec::new(alloc);
     for (edge, &it) in edges.iter().enumerate() {
         ways.push(Way {
-            from: location(it.from),
+            from: it.from,
             edge,
         })?;
     }
-    ways.sort()?;
+    ways.sort_by(|way, other| compare_points(way.from, other.from))?;
     Ok(ways)
 }
 
 // How many ways begin before p: where some begin at p, the place of the first of these, which numbers the node.
-fn first_at(ways: &[Way], p: Loc) -> usize
+fn first_at(ways: &[Way], p: Point) -> usize
     requires { AreRising ways.now }
     ensures inside { result ≤ length ways.now }
     ensures first { IsFirstAt ways.now p result }
 {
-    ways.partition_point(|way| way.from < p)
+    ways.partition_point(|way| compare_points(way.from, p).is_lt())
 }
 
 // How many ways begin at p or before.
-fn end_at(ways: &[Way], p: Loc) -> usize
+fn end_at(ways: &[Way], p: Point) -> usize
     requires { AreRising ways.now }
     ensures inside { result ≤ length ways.now }
     ensures end { IsEndAt ways.now p result }
 {
-    ways.partition_point(|way| !(p < way.from))
+    ways.partition_point(|way| !compare_points(p, way.from).is_lt())
 }
 
 /// For each edge the number of the node that it leaves.
 pub fn keys(alloc: Global, edges: &[Edge], ways: &[Way]) -> Result<Vec<usize>, AllocError>
-    requires lattice { All (λ e. IsLattice e.from) edges.now }
-    requires ways { AreWays (map plane_edge edges.now) ways.now }
+    requires { AreWays edges.now ways.now }
     ensures sized { IfOk result (λ v. length v.items ≡ length edges.now) }
     ensures below { IfOk result (λ v. All (λ k. k < length edges.now) v.items) }
-    ensures tell { IfOk result (λ v. TellPoints (map plane_edge edges.now) v.items) }
+    ensures tell { IfOk result (λ v. TellStarts edges.now v.items) }
 {
     let mut keys = Vec::new(alloc);
     for &edge in edges {
-        keys.push(first_at(ways, location(edge.from)))?;
+        keys.push(first_at(ways, edge.from))?;
     }
     Ok(keys)
 }
 
 // The places between which the ways that begin at p stand.
-fn range_at(ways: &[Way], p: Loc) -> (usize, usize)
+fn range_at(ways: &[Way], p: Point) -> (usize, usize)
     requires { AreRising ways.now }
     ensures ordered { result.0 ≤ result.1 }
     ensures inside { result.1 ≤ length ways.now }
@@ -89,7 +72,7 @@ fn range_at(ways: &[Way], p: Loc) -> (usize, usize)
 }
 
 /// The places of the edges that leave p.
-pub fn leaving(alloc: Global, ways: &[Way], p: Loc) -> Result<SmallVec<usize, 8>, AllocError>
+pub fn leaving(alloc: Global, ways: &[Way], p: Point) -> Result<SmallVec<usize, 8>, AllocError>
     requires { AreRising ways.now }
     ensures { IfOk result (λ v. AreFrom ways.now p v.items) }
 {

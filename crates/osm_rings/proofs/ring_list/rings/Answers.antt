@@ -1,25 +1,18 @@
 -- What is cut off the walks is a ring list.
-use Rattle.std.proofs.Common.{◌≡◌, ◌<◌, All, get_or, length, map, ap, subst, sym, ◌∙◌}
+use Rattle.std.proofs.Common.{◌≡◌, ◌<◌, All, length, map, ap, subst, sym, ◌∙◌}
 use Rattle.orbits.specs.Once.{HoldEachOnce}
 use Rattle.orbits.specs.Orbits.{AreOrbits, IsOneToOne}
 use Rattle.orbits.proofs.Sums.{all_below, sums_agree}
 use Rattle.osm_rings.specs.Pieces.{AreAllCut, edges_at}
 use Rattle.osm_rings.specs.Ring.{IsRing}
 use Rattle.osm_rings.specs.RingList.{AreRingsOf}
-use Rattle.osm_rings.proofs.RingLists.{all-unmapped, if-ok, mapped-twice, pieces-are-rings, pieces-inside, pieces-ring, pieces-whole, successors-of}
-use Rattle.osm_rings.proofs.Multiplied.{in-plane, rings-multiplied}
-use Rattle.osm_rings.proofs.Whole.{from-lattice}
+use Rattle.osm_rings.proofs.RingLists.{all-unmapped, if-ok, mapped-twice, pieces-are-rings, pieces-inside, pieces-ring, successors-of}
+use Rattle.osm_rings.proofs.Multiplied.{tell-plane}
 use Rattle.osm_rings.proofs.ring_list.rings.Goals as goal
-
-pub ways-requires : goal.ways-requires
-ways-requires c = λ k d h. from-lattice (get_or c.args.edges.now k d) (c.requires.whole k d h)
-
-pub keys-requires-clause-lattice : goal.keys-requires-clause-lattice
-keys-requires-clause-lattice c = λ k d h. from-lattice (get_or c.args.edges.now k d) (c.requires.whole k d h)
 
 pub orbits-requires : goal.orbits-requires
 orbits-requires c =
-    let are = successors-of c.args.edges.now (in-plane c.args.edges.now c.requires) c.in_ok-next.next.items c.in_ok-next.ensures.sized c.in_ok-next.ensures.first in
+    let are = successors-of c.args.edges.now c.requires c.in_ok-next.next.items c.in_ok-next.ensures.sized c.in_ok-next.ensures.first in
     subst IsOneToOne (sym c.deref-3.ensures.value) are.map
 
 pub pieces-requires-clause-keyed : goal.pieces-requires-clause-keyed
@@ -34,42 +27,39 @@ pub rings_of-requires-clause-inside : goal.rings_of-requires-clause-inside
 rings_of-requires-clause-inside c =
     let es = c.args.edges.now in
     let next = c.in_ok-next.next.items in
-    let are = successors-of es (in-plane es c.requires) next c.in_ok-next.ensures.sized c.in_ok-next.ensures.first in
+    let are = successors-of es c.requires next c.in_ok-next.ensures.sized c.in_ok-next.ensures.first in
     let os = map (λ o. o.items) c.in_ok-walks.walks.items in
     let keys = c.in_ok-keys.keys.items in
     let pieces = map (λ p. p.items) c.in_ok-pieces.pieces.items in
     let orbits : AreOrbits next os = subst (λ n. AreOrbits n os) c.deref-3.ensures.value c.in_ok-walks.ensures.orbits in
     let cut : AreAllCut keys os pieces = subst (λ ks. AreAllCut ks os pieces) c.deref-5.ensures.value (subst (λ ws. AreAllCut c.deref-5.result.now (map (λ w. w.items) ws) pieces) c.deref-4.ensures.value c.in_ok-pieces.ensures) in
     subst (λ ps. All (λ p. All (λ k. k < length es) p.items) ps) (sym c.deref-6.ensures.value)
-    (all-unmapped (λ xs. All (λ k. k < length es) xs) (λ p. p.items) c.in_ok-pieces.pieces.items (pieces-inside es (in-plane es c.requires) next are keys c.in_ok-keys.ensures.tell sums_agree all_below os orbits pieces cut))
+    (all-unmapped (λ xs. All (λ k. k < length es) xs) (λ p. p.items) c.in_ok-pieces.pieces.items (pieces-inside es c.requires next are keys (tell-plane c.args.edges.now c.in_ok-keys.keys.items c.in_ok-keys.ensures.tell) sums_agree all_below os orbits pieces cut))
 
 pub rings_of-requires-clause-rings : goal.rings_of-requires-clause-rings
 rings_of-requires-clause-rings c =
     let es = c.args.edges.now in
     let next = c.in_ok-next.next.items in
-    let are = successors-of es (in-plane es c.requires) next c.in_ok-next.ensures.sized c.in_ok-next.ensures.first in
+    let are = successors-of es c.requires next c.in_ok-next.ensures.sized c.in_ok-next.ensures.first in
     let os = map (λ o. o.items) c.in_ok-walks.walks.items in
     let keys = c.in_ok-keys.keys.items in
     let pieces = map (λ p. p.items) c.in_ok-pieces.pieces.items in
     let orbits : AreOrbits next os = subst (λ n. AreOrbits n os) c.deref-3.ensures.value c.in_ok-walks.ensures.orbits in
     let cut : AreAllCut keys os pieces = subst (λ ks. AreAllCut ks os pieces) c.deref-5.ensures.value (subst (λ ws. AreAllCut c.deref-5.result.now (map (λ w. w.items) ws) pieces) c.deref-4.ensures.value c.in_ok-pieces.ensures) in
     subst (λ ps. All (λ p. IsRing (edges_at es p.items)) ps) (sym c.deref-6.ensures.value)
-    (all-unmapped (λ p. IsRing (edges_at es p)) (λ p. p.items) c.in_ok-pieces.pieces.items (pieces-ring es (in-plane es c.requires) next are keys c.in_ok-keys.ensures.tell sums_agree all_below os orbits pieces cut))
+    (all-unmapped (λ p. IsRing (edges_at es p)) (λ p. p.items) c.in_ok-pieces.pieces.items (pieces-ring es c.requires next are keys (tell-plane c.args.edges.now c.in_ok-keys.keys.items c.in_ok-keys.ensures.tell) sums_agree all_below os orbits pieces cut))
 
 pub returns : goal.returns
 returns c =
     let es = c.args.edges.now in
     let next = c.in_ok-next.next.items in
-    let are = successors-of es (in-plane es c.requires) next c.in_ok-next.ensures.sized c.in_ok-next.ensures.first in
+    let are = successors-of es c.requires next c.in_ok-next.ensures.sized c.in_ok-next.ensures.first in
     let os = map (λ o. o.items) c.in_ok-walks.walks.items in
     let keys = c.in_ok-keys.keys.items in
     let pieces = map (λ p. p.items) c.in_ok-pieces.pieces.items in
     let orbits : AreOrbits next os = subst (λ n. AreOrbits n os) c.deref-3.ensures.value c.in_ok-walks.ensures.orbits in
     let cut : AreAllCut keys os pieces = subst (λ ks. AreAllCut ks os pieces) c.deref-5.ensures.value (subst (λ ws. AreAllCut c.deref-5.result.now (map (λ w. w.items) ws) pieces) c.deref-4.ensures.value c.in_ok-pieces.ensures) in
-    let sided = in-plane es c.requires in
-    let whole : AreRingsOf es (map (edges_at es) pieces) = rings-multiplied es c.requires.whole (map (edges_at es) pieces)
-    (pieces-whole es sided next are keys c.in_ok-keys.ensures.tell sums_agree all_below os orbits pieces cut)
-    (pieces-are-rings es sided next are keys c.in_ok-keys.ensures.tell sums_agree all_below os orbits pieces cut) in
+    let whole : AreRingsOf es (map (edges_at es) pieces) = pieces-are-rings es c.requires next are keys (tell-plane es keys c.in_ok-keys.ensures.tell) sums_agree all_below os orbits pieces cut in
     if-ok (λ v. v ≡ map (λ p. edges_at es p.items) c.deref-6.result.now) (λ v. AreRingsOf es v) c.rings_of.result
     (λ v is. subst (AreRingsOf es) (sym (is ∙ (ap (map (λ p. edges_at es p.items)) c.deref-6.ensures.value ∙ sym (mapped-twice (λ p. p.items) (edges_at es) c.in_ok-pieces.pieces.items)))) whole)
     c.rings_of.ensures

@@ -3,16 +3,12 @@ use Rattle.std.proofs.Common.{◌<◌, All, length, subst, sym}
 use Rattle.osm_geom.specs.Dir.{vector_along}
 use Rattle.osm_rings.specs.Ways.{AreFrom}
 use Rattle.osm_rings.proofs.FirstMets.{met, places-below}
-use Rattle.osm_rings.proofs.Whole.{to-lattice}
 use Rattle.osm_rings.proofs.successors.successor.Goals as goal
 
-pub location-requires : goal.location-requires
-location-requires c = to-lattice c.args.edge.now c.requires.segment
-
 pub first_met-requires : goal.first_met-requires
-first_met-requires c = subst (λ xs. All (λ k. k < length c.args.edges.now) xs) (sym c.as_slice.ensures) (places-below c.args.edges.now c.args.ways.now c.location.result c.in_ok-places.places.items c.requires.ways c.in_ok-places.ensures)
+first_met-requires c = subst (λ xs. All (λ k. k < length c.args.edges.now) xs) (sym c.as_slice.ensures) (places-below c.args.edges.now c.args.ways.now c.args.edge.now.to c.in_ok-places.places.items c.requires.ways c.in_ok-places.ensures)
 
 pub returns : goal.returns
 returns c =
-    let from : AreFrom c.args.ways.now c.location.result c.as_slice.result.now = subst (AreFrom c.args.ways.now c.location.result) (sym c.as_slice.ensures) c.in_ok-places.ensures in
-    met c.args.edges.now c.requires.segments c.args.ways.now c.requires.ways c.args.edge.now c.requires.segment c.location.result c.location.ensures (vector_along c.back.result) c.back.ensures c.as_slice.result.now from c.first_met.result c.first_met.ensures.none c.first_met.ensures.member c.first_met.ensures.first
+    let from : AreFrom c.args.ways.now c.args.edge.now.to c.as_slice.result.now = subst (AreFrom c.args.ways.now c.args.edge.now.to) (sym c.as_slice.ensures) c.in_ok-places.ensures in
+    met c.args.edges.now c.args.ways.now c.requires.ways c.args.edge.now c.requires.member (vector_along c.back.result) c.back.ensures c.as_slice.result.now from c.first_met.result c.first_met.ensures.none c.first_met.ensures.member c.first_met.ensures.first
