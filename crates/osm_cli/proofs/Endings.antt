@@ -3,15 +3,15 @@ use Rattle.osm_host.specs.declared.host.Failed.{Failed}
 use Rattle.std.proofs.Common.{◌≡◌, ◌∙◌, ap, subst, ◌≤◌, ℕ, List, take, arith, OnOk, OnErr, inl, inr, Option, None, Some, IfSome, Result, Ok, Err}
 use Rattle.osm_host.specs.Outside.{Outside, appended, Counts, OnlyWritesReport}
 use Rattle.osm_host.proofs.Streams.{appended_twice}
-use Rattle.osm_cli.specs.declared.words.WordsFault.{WordsFault}
+use Rattle.osm_words.specs.declared.fault.WordsFault.{WordsFault}
 use Rattle.osm_cli.specs.declared.ended.Ended.{Ended}
-use Rattle.osm_cli.specs.declared.ended.Ended.TheVariants.{Done, BadWords, BadInput, NotYet, TooMuchInput, OpenFault, ReadFault, WriteFault, OutOfMemory}
-use Rattle.osm_cli.specs.Job.{Job}
+use Rattle.osm_cli.specs.declared.ended.Ended.TheVariants.{Done, BadWords, BadInput, Stopped, TooMuchInput, OpenFault, ReadFault, WriteFault, OutOfMemory}
+use Rattle.osm_words.specs.Job.{ExportSettings, Job, export}
 use Rattle.osm_cli.specs.LastLine.{last_line}
 use Rattle.osm_cli.specs.Whole.{Whole, IsWhole}
 use Rattle.osm_cli.specs.Run.{IsFront, WroteAll, IsRun, Writes, Opens, HasCause, NoFault, Completes}
 use Rattle.osm_cli.specs.RunSteps.{Works}
-use Rattle.osm_cli.proofs.Writing.{take_is_front, whole_front}
+use Rattle.osm_cli.proofs.Writes.{take_is_front, whole_front}
 
 module _ (words : Result Job WordsFault) (ended : Ended) (before middle now : Outside) (works : Works words ended before middle) (only : OnlyWritesReport middle now) where
   -- the last line or a front of it stands behind what was reported
@@ -48,7 +48,7 @@ opens_so_far (Ok job) OpenFault before middle now same opens = (opens.0, same �
 opens_so_far (Ok job) OutOfMemory before middle now same opens = (opens.0, same ∙ opens.1)
 opens_so_far (Ok job) (BadWords cause) before middle now same opens = same ∙ opens
 opens_so_far (Ok job) (BadInput line fault) before middle now same opens = same ∙ opens
-opens_so_far (Ok job) (NotYet candidate) before middle now same opens = same ∙ opens
+opens_so_far (Ok job) (Stopped candidate) before middle now same opens = same ∙ opens
 opens_so_far (Ok job) (TooMuchInput limit) before middle now same opens = same ∙ opens
 opens_so_far (Ok job) ReadFault before middle now same opens = same ∙ opens
 
@@ -64,7 +64,7 @@ cause_so_far Done before middle now opens reads writes cause = tt
 cause_so_far OutOfMemory before middle now opens reads writes cause = tt
 cause_so_far (BadWords fault) before middle now opens reads writes cause = tt
 cause_so_far (BadInput line fault) before middle now opens reads writes cause = tt
-cause_so_far (NotYet candidate) before middle now opens reads writes cause = tt
+cause_so_far (Stopped candidate) before middle now opens reads writes cause = tt
 cause_so_far (TooMuchInput limit) before middle now opens reads writes cause = tt
 
 pub cause_kept : (words : Result Job WordsFault) (ended : Ended) (before middle now : Outside) → Works words ended before middle → OnlyWritesReport middle now → middle.write_faults ≤ now.write_faults → HasCause ended before now
@@ -84,5 +84,9 @@ completes (Ok job) OutOfMemory before now output report run cause none = tt
 completes (Ok job) Done before now output report run cause none = whole_of_all job _ Done output report run
 completes (Ok job) (BadWords fault) before now output report run cause none = whole_of_all job _ (BadWords fault) output report run
 completes (Ok job) (BadInput line fault) before now output report run cause none = whole_of_all job _ (BadInput line fault) output report run
-completes (Ok job) (NotYet candidate) before now output report run cause none = whole_of_all job _ (NotYet candidate) output report run
+completes (Ok job) (Stopped candidate) before now output report run cause none = whole_of_all job _ (Stopped candidate) output report run
 completes (Ok job) (TooMuchInput limit) before now output report run cause none = whole_of_all job _ (TooMuchInput limit) output report run
+
+-- with words that are taken, it is what they say
+pub plain_completes : (words : Result Job WordsFault) (settings : ExportSettings) → words ≡ Ok (export settings) → (before : Outside) (ended : Ended) → Completes words before ended → Completes (Ok (export settings)) before ended
+plain_completes words settings is before ended complete = subst (λ (w : Result Job WordsFault). Completes w before ended) is complete

@@ -1,61 +1,155 @@
--- The texts of candidates, one candidate more.
-use Rattle.std.proofs.Common.{◌≡◌, ◌∙◌, sym, ap, ap₂, subst, ℕ, ◌+◌, ◌<◌, Bool, List, [], ◌∷◌, ◌++◌, length, take, drop, get_or, map, append-nil, append_assoc}
+-- Lists of entries: what they add one after the other, and that every list of candidates has one.
+use Rattle.std.proofs.Common.{◌≡◌, ◌∙◌, refl, sym, ap, ap₂, ℕ, ◌+◌, Bool, true, false, List, [], ◌∷◌, ◌++◌, map, All, append_assoc, append-nil, arith}
 use Rattle.std.specs.List.{flat_map}
-use Rattle.std.proofs.lemmas.List.{map-append, take_more, take-append-drop}
-use Rattle.std.proofs.lemmas.List.Elements.{All-push}
+use Rattle.std.proofs.lemmas.List.{map-append}
+use Rattle.std.proofs.lemmas.List.Elements.{All-nil, All-cons, All-append, All-head, All-tail}
 use Rattle.std.proofs.lemmas.Grind.{flat_map-append}
 use Rattle.opl_reader.specs.declared.object.Object.{Object}
 use Rattle.opl_reader.specs.declared.object.ObjectRef.{ObjectRef}
-use Rattle.osm_area.specs.declared.outcome.Outcome.TheVariants as outcome
-use Rattle.osm_area.specs.Outcome.{IsOutcome}
-use Rattle.osm_cli.specs.declared.entry.Texts.{Texts}
-use Rattle.osm_cli.specs.declared.entry.EntryError.{EntryError}
-use Rattle.osm_cli.specs.declared.entry.EntryError.TheVariants.{NotYet, OutOfMemory}
-use Rattle.osm_cli.specs.Entry.{Entry, feature_of, IsEntry}
-use Rattle.osm_cli.specs.Entries.{lines_text, IsEntryOf, AreEntriesOf, entry_failed, entries_failed}
+use Rattle.osm_area.specs.declared.outcome.Outcome.{Outcome}
+use Rattle.osm_area.specs.declared.outcome.Outcome.TheVariants.{Area, Problems}
+use Rattle.osm_area.specs.Outcome.{OutcomeExists, problems_in}
+use Rattle.osm_objects.specs.Problem.{IsOfItsKind}
+use Rattle.osm_objects.specs.declared.problem.Problem.{Problem}
+use Rattle.osm_text.specs.Report.{ProblemLineExists, note_line}
+use Rattle.osm_words.specs.Job.{ExportSettings}
+use Rattle.osm_cli.specs.Entry.{Entry, IsEntry, AreProblemLines, IsReportShown, has_area, features_in, piece_of, pieces_of, reports_of}
+use Rattle.osm_cli.specs.RunSteps.{features_of, IsEntryOf, AreEntriesOf, StopsAt}
 
 abbrev candidate_of : Entry → ObjectRef
 candidate_of entry = entry.candidate
 
-abbrev feature_in : List Object → Entry → List ℕ
-feature_in objects entry = feature_of objects entry.candidate entry.outcome
-
 abbrev report_of : Entry → List ℕ
 report_of entry = entry.report
 
-one_more : (show : Bool) (objects : List Object) (candidates : List ObjectRef) (texts : List Texts) (candidate : ObjectRef) (text : Texts) →
-    AreEntriesOf show objects candidates texts → IsEntryOf show objects candidate text → AreEntriesOf show objects (candidates ++ candidate ∷ []) (texts ++ text ∷ [])
-one_more show objects candidates texts candidate text are is =
-    let entry : Entry = record { candidate = candidate; outcome = is.outcome; report = is.report } in
-    record {
-      entries = are.entries ++ entry ∷ [];
-      candidates_are = map-append candidate_of are.entries (entry ∷ []) ∙ ap (λ (cs : List ObjectRef). cs ++ candidate ∷ []) are.candidates_are;
-      right = All-push (IsEntry show objects) are.entries entry are.right is.right;
-      features = flat_map-append (λ (t : Texts). t.feature.items) texts (text ∷ [])
-          ∙ ap₂ (λ (xs ys : List ℕ). xs ++ ys) are.features (append-nil text.feature.items ∙ is.feature ∙ sym (append-nil (feature_in objects entry)))
-          ∙ sym (flat_map-append (feature_in objects) are.entries (entry ∷ []));
-      lines = flat_map-append (λ (t : Texts). lines_text t.lines.items) texts (text ∷ [])
-          ∙ ap₂ (λ (xs ys : List ℕ). xs ++ ys) are.lines (append-nil (lines_text text.lines.items) ∙ is.lines)
-          ∙ ap (λ (ys : List ℕ). flat_map report_of are.entries ++ ys) (sym (append-nil is.report)) ∙ sym (flat_map-append report_of are.entries (entry ∷ []));
-    }
+-- ---- one list behind another
 
--- the next candidate's texts
-pub next_entry : (show : Bool) (objects : List Object) (all : List ObjectRef) (k : ℕ) (d : ObjectRef) (texts more : List Texts) (text : Texts) → k < length all →
-    AreEntriesOf show objects (take k all) texts → IsEntryOf show objects (get_or all k d) text → more ≡ texts ++ text ∷ [] → AreEntriesOf show objects (take (k + 1) all) more
-next_entry show objects all k d texts more text lt are is eq =
-    subst (λ (ts : List Texts). AreEntriesOf show objects (take (k + 1) all) ts) (sym eq)
-    (subst (λ (cs : List ObjectRef). AreEntriesOf show objects cs (texts ++ text ∷ [])) (sym (take_more all k d lt)) (one_more show objects (take k all) texts (get_or all k d) text are is))
+pub pieces-append : (settings : ExportSettings) (objects : List Object) (earlier : ℕ) (es fs : List Entry) →
+    pieces_of settings objects earlier (es ++ fs) ≡ pieces_of settings objects earlier es ++ pieces_of settings objects (earlier + features_of es) fs
+pieces-append settings objects earlier [] fs = let same : earlier ≡ earlier + 0 = omega arith in ap (λ (n : ℕ). pieces_of settings objects n fs) same
+pieces-append settings objects earlier (e ∷ es) fs =
+    let first : List ℕ = piece_of settings objects earlier e.candidate e.outcome in
+    let n : ℕ = features_in e.outcome in
+    let same : (earlier + n) + features_of es ≡ earlier + (n + features_of es) = omega arith in
+    ap (λ (xs : List ℕ). first ++ xs) (pieces-append settings objects (earlier + n) es fs)
+    ∙ sym (append_assoc first (pieces_of settings objects (earlier + n) es) (pieces_of settings objects ((earlier + n) + features_of es) fs))
+    ∙ ap (λ (m : ℕ). (first ++ pieces_of settings objects (earlier + n) es) ++ pieces_of settings objects m fs) same
 
--- the next candidate's area can't be made yet, or memory was wanting
-pub stopped : (show : Bool) (objects : List Object) (all : List ObjectRef) (k : ℕ) (d : ObjectRef) (texts : List Texts) (error : EntryError) → k < length all →
-    AreEntriesOf show objects (take k all) texts → entry_failed objects (get_or all k d) error → entries_failed show objects all error
-stopped show objects all k d texts OutOfMemory lt are failed = tt
-stopped show objects all k d texts (NotYet candidate) lt are failed = record {
-  entries = are.entries;
-  later = drop (k + 1) all;
-  candidates_are =
-      sym (take-append-drop (k + 1) all) ∙ ap (λ (cs : List ObjectRef). cs ++ drop (k + 1) all) (take_more all k d lt ∙ ap₂ (λ (cs : List ObjectRef) (c : ObjectRef). cs ++ c ∷ []) (sym are.candidates_are) (sym failed.0))
-      ∙ append_assoc (map candidate_of are.entries) (candidate ∷ []) (drop (k + 1) all);
-  right = are.right;
-  not_yet = subst (λ (c : ObjectRef). IsOutcome objects c outcome.NotYet) (sym failed.0) failed.1;
+pub reports-append : (es fs : List Entry) → reports_of (es ++ fs) ≡ reports_of es ++ reports_of fs
+reports-append es fs = flat_map-append report_of es fs
+
+pub features_push : (es : List Entry) (e : Entry) → features_of (es ++ e ∷ []) ≡ features_of es + features_in e.outcome
+features_push [] e = let same : features_in e.outcome + 0 ≡ 0 + features_in e.outcome = omega arith in same
+features_push (f ∷ es) e =
+    let rest : features_of (es ++ e ∷ []) ≡ features_of es + features_in e.outcome = features_push es e in
+    let same : features_in f.outcome + (features_of es + features_in e.outcome) ≡ (features_in f.outcome + features_of es) + features_in e.outcome = omega arith in
+    ap (λ (m : ℕ). features_in f.outcome + m) rest ∙ same
+
+pub pieces_behind : (settings : ExportSettings) (objects : List Object) (es fs : List Entry) → pieces_of settings objects 0 (es ++ fs) ≡ pieces_of settings objects 0 es ++ pieces_of settings objects (features_of es) fs
+pieces_behind settings objects es fs =
+    let same : 0 + features_of es ≡ features_of es = omega arith in
+    pieces-append settings objects 0 es fs ∙ ap (λ (n : ℕ). pieces_of settings objects 0 es ++ pieces_of settings objects n fs) same
+
+pub pieces_push : (settings : ExportSettings) (objects : List Object) (es : List Entry) (e : Entry) →
+    pieces_of settings objects 0 (es ++ e ∷ []) ≡ pieces_of settings objects 0 es ++ piece_of settings objects (features_of es) e.candidate e.outcome
+pieces_push settings objects es e =
+    pieces_behind settings objects es (e ∷ [])
+    ∙ ap (λ (xs : List ℕ). pieces_of settings objects 0 es ++ xs) (append-nil (piece_of settings objects (features_of es) e.candidate e.outcome))
+
+pub reports_push : (es : List Entry) (e : Entry) → reports_of (es ++ e ∷ []) ≡ reports_of es ++ e.report
+reports_push es e = reports-append es (e ∷ []) ∙ ap (λ (xs : List ℕ). reports_of es ++ xs) (append-nil e.report)
+
+-- ---- entries of candidates
+
+pub no_entries : (settings : ExportSettings) (objects : List Object) → AreEntriesOf settings objects [] []
+no_entries settings objects = record { in_order = refl; right = All-nil (IsEntry settings.show_errors objects); go_on = λ _. All-nil (λ (e : Entry). has_area e ≡ true) }
+
+pub both_entries : (settings : ExportSettings) (objects : List Object) (cs ds : List ObjectRef) (es fs : List Entry) →
+    AreEntriesOf settings objects cs es → AreEntriesOf settings objects ds fs → AreEntriesOf settings objects (cs ++ ds) (es ++ fs)
+both_entries settings objects cs ds es fs first then = record {
+  in_order = map-append candidate_of es fs ∙ ap₂ (λ (xs ys : List ObjectRef). xs ++ ys) first.in_order then.in_order;
+  right = All-append (IsEntry settings.show_errors objects) es fs first.right then.right;
+  go_on = λ stops. All-append (λ (e : Entry). has_area e ≡ true) es fs (first.go_on stops) (then.go_on stops);
 }
+
+pub one_entry : (settings : ExportSettings) (objects : List Object) (c : ObjectRef) (e : Entry) → IsEntryOf settings objects c e →
+    (settings.stop_on_error ≡ true → has_area e ≡ true) → AreEntriesOf settings objects (c ∷ []) (e ∷ [])
+one_entry settings objects c e is area = record {
+  in_order = ap (λ (x : ObjectRef). x ∷ []) is.of_candidate;
+  right = All-cons (IsEntry settings.show_errors objects) e [] is.right (All-nil (IsEntry settings.show_errors objects));
+  go_on = λ stops. All-cons (λ (x : Entry). has_area x ≡ true) e [] (area stops) (All-nil (λ (x : Entry). has_area x ≡ true));
+}
+
+-- the run stops behind more entries
+pub stops_behind : (settings : ExportSettings) (objects : List Object) (cs ds : List ObjectRef) (es fs : List Entry) (last : Entry) →
+    AreEntriesOf settings objects cs es → StopsAt settings objects ds fs last → StopsAt settings objects (cs ++ ds) (es ++ fs) last
+stops_behind settings objects cs ds es fs last first then = record {
+  stops = then.stops;
+  later = then.later;
+  in_order = ap₂ (λ (xs ys : List ObjectRef). xs ++ ys) (sym first.in_order) then.in_order
+      ∙ sym (append_assoc (map candidate_of es) (map candidate_of fs) (last.candidate ∷ then.later))
+      ∙ ap (λ (xs : List ObjectRef). xs ++ last.candidate ∷ then.later) (sym (map-append candidate_of es fs));
+  right = All-append (IsEntry settings.show_errors objects) es fs first.right then.right;
+  last_right = then.last_right;
+  areas = All-append (λ (e : Entry). has_area e ≡ true) es fs (first.go_on then.stops) then.areas;
+  problems = then.problems;
+}
+
+-- the run stops at a candidate
+pub stops_here : (settings : ExportSettings) (objects : List Object) (c : ObjectRef) (later : List ObjectRef) (e : Entry) → IsEntryOf settings objects c e →
+    settings.stop_on_error ≡ true → has_area e ≡ false → StopsAt settings objects (c ∷ later) [] e
+stops_here settings objects c later e is stops none = record {
+  stops = stops;
+  later = later;
+  in_order = ap (λ (x : ObjectRef). x ∷ later) (sym is.of_candidate);
+  right = All-nil (IsEntry settings.show_errors objects);
+  last_right = is.right;
+  areas = All-nil (λ (x : Entry). has_area x ≡ true);
+  problems = none;
+}
+
+-- ---- that there are entries
+
+-- The rest of the candidates have entries, or the run stops at one of theirs.
+pub data Rest (settings : ExportSettings) (objects : List Object) (candidates : List ObjectRef) : Type 0 where
+  all_go : (entries : List Entry) → AreEntriesOf settings objects candidates entries → Rest settings objects candidates
+  one_stops : (entries : List Entry) (last : Entry) → StopsAt settings objects candidates entries last → Rest settings objects candidates
+
+module _ (outcome_exists : OutcomeExists) (line_exists : ProblemLineExists) where
+  lines_exist : (of : ObjectRef) (problems : List Problem) → All IsOfItsKind problems → (text : List ℕ) × AreProblemLines of problems text
+  lines_exist of [] kinds = ([], refl)
+  lines_exist of (p ∷ problems) kinds =
+      let line = line_exists of p (All-head IsOfItsKind p problems kinds) in
+      let rest = lines_exist of problems (All-tail IsOfItsKind p problems kinds) in
+      (line.0 ++ rest.0, (line.0, rest.0, line.1, rest.1, refl))
+
+  report_exists : (show : Bool) (of : ObjectRef) (outcome : Outcome) → All IsOfItsKind (problems_in outcome) → (text : List ℕ) × IsReportShown show of outcome text
+  report_exists false of outcome kinds = ([], refl)
+  report_exists true of (Area polygons notes) kinds = (flat_map (note_line of) notes, refl)
+  report_exists true of (Problems list notes) kinds =
+      let lines = lines_exist of list kinds in
+      (lines.0 ++ flat_map (note_line of) notes, (lines.0, lines.1, refl))
+
+  entry_exists : (settings : ExportSettings) (objects : List Object) (c : ObjectRef) → (e : Entry) × IsEntryOf settings objects c e
+  entry_exists settings objects c =
+      let outcome = outcome_exists objects c in
+      let report = report_exists settings.show_errors c outcome.0 outcome.2 in
+      (record { candidate = c; outcome = outcome.0; report = report.0 }, record { of_candidate = refl; right = record { right = outcome.1; reported = report.1 } })
+
+  behind : (settings : ExportSettings) (objects : List Object) (c : ObjectRef) (cs : List ObjectRef) (e : Entry) → AreEntriesOf settings objects (c ∷ []) (e ∷ []) →
+      Rest settings objects cs → Rest settings objects (c ∷ cs)
+  behind settings objects c cs e one (all_go es are) = all_go (e ∷ es) (both_entries settings objects (c ∷ []) cs (e ∷ []) es one are)
+  behind settings objects c cs e one (one_stops es last stops) = one_stops (e ∷ es) last (stops_behind settings objects (c ∷ []) cs (e ∷ []) es last one stops)
+
+  first_or_stop : (settings : ExportSettings) (objects : List Object) (c : ObjectRef) (cs : List ObjectRef) (e : Entry) → IsEntryOf settings objects c e → Rest settings objects cs →
+      (stop : Bool) → settings.stop_on_error ≡ stop → (area : Bool) → has_area e ≡ area → Rest settings objects (c ∷ cs)
+  first_or_stop settings objects c cs e is rest false stops area has =
+      behind settings objects c cs e (one_entry settings objects c e is (λ yes. absurd (cc))) rest
+  first_or_stop settings objects c cs e is rest true stops true has = behind settings objects c cs e (one_entry settings objects c e is (λ _. has)) rest
+  first_or_stop settings objects c cs e is rest true stops false has = one_stops [] e (stops_here settings objects c cs e is stops has)
+
+  pub rest_exists : (settings : ExportSettings) (objects : List Object) (candidates : List ObjectRef) → Rest settings objects candidates
+  rest_exists settings objects [] = all_go [] (no_entries settings objects)
+  rest_exists settings objects (c ∷ cs) =
+      let entry = entry_exists settings objects c in
+      first_or_stop settings objects c cs entry.0 entry.1 (rest_exists settings objects cs) settings.stop_on_error refl (has_area entry.0) refl

@@ -1,10 +1,13 @@
 mod Answered
+mod Candidates
 mod Cuts
 mod Endings
 mod Entries
+mod Exports
 mod Fronts
 mod Gathering
 mod Lines
 mod ReportLines
 mod Runs
-mod Writing
+mod Wholes
+mod Writes

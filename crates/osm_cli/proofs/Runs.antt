@@ -1,40 +1,26 @@
 -- A run but for its last line: each way in which it ends.
-use Rattle.std.proofs.Common.{◌≡◌, ◌∙◌, refl, sym, ap, subst, ℕ, ◌≤◌, true, false, List, [], ◌∷◌, take, codes, arith, Option, None, Some, IfSome, Ok, Err, inl, inr}
+use Rattle.std.proofs.Common.{◌≡◌, ◌∙◌, refl, sym, ap, subst, ℕ, ◌≤◌, ◌⊎◌, true, List, [], ◌∷◌, take, arith, Option, None, Some, IfSome, Result, Ok, Err, inl, inr}
 use Rattle.opl_reader.specs.declared.object.Object.{Object}
-use Rattle.opl_reader.specs.declared.object.ObjectRef.{ObjectRef}
-use Rattle.osm_host.specs.declared.host.Failed.{Failed}
 use Rattle.osm_host.specs.Outside.{Outside, Opened, input, output, appended, preceded, HasRisen, OnlyOpens, OnlyReads}
 use Rattle.osm_host.proofs.Streams.{appended_nothing, appended_twice}
-use Rattle.osm_objects.specs.Candidates.{candidates}
-use Rattle.osm_cli.specs.declared.words.WordsFault.{WordsFault}
-use Rattle.osm_cli.specs.declared.entry.Texts.{Texts}
+use Rattle.osm_words.specs.declared.fault.WordsFault.{WordsFault}
+use Rattle.osm_words.specs.declared.fault.WordsError.{WordsError}
+use Rattle.osm_words.specs.declared.fault.WordsError.TheVariants as words
+use Rattle.osm_words.specs.Answers.{Answers}
+use Rattle.osm_words.specs.Job.{ExportSettings, Job, export}
 use Rattle.osm_cli.specs.declared.ended.Ended.{Ended}
-use Rattle.osm_cli.specs.declared.ended.Ended.TheVariants.{Done, BadWords, BadInput, NotYet, TooMuchInput, OpenFault, ReadFault, WriteFault, OutOfMemory}
+use Rattle.osm_cli.specs.declared.ended.Ended.TheVariants.{Done, BadWords, BadInput, Stopped, TooMuchInput, OpenFault, ReadFault, WriteFault, OutOfMemory}
+use Rattle.osm_cli.specs.declared.export.Halt.{Halt}
+use Rattle.osm_cli.specs.declared.export.Halt.TheVariants as halt
 use Rattle.osm_cli.specs.declared.reading.ReadError.{ReadError}
 use Rattle.osm_cli.specs.declared.reading.ReadError.TheVariants as read
-use Rattle.osm_cli.specs.Job.{ExportSettings, Job, export, opens_of}
-use Rattle.osm_cli.specs.Entries.{AreEntriesOf, StopsAt}
+use Rattle.osm_cli.specs.Job.{opens_of}
 use Rattle.osm_cli.specs.Lines.{lines_begun}
 use Rattle.osm_cli.specs.Input.{AreGood}
 use Rattle.osm_cli.specs.Reading.{IsReadAs, IsReadOf, Reads}
-use Rattle.osm_cli.specs.Whole.{Whole, silent, export_whole, all_built, not_yet, IsWhole, read_ended, input_limit, longest_line}
-use Rattle.osm_cli.specs.Run.{IsFront, IsGoodFront, WroteAll, WroteFront, IsWritten, is_silent, words_fault, Opens, HasCause}
-use Rattle.osm_cli.specs.RunSteps.{features_text, lines_texts, WroteTexts, IsPrinted, IsOpened, Printed, Works}
-
--- ---- the output
-
-pub printed_all : (out report : List ℕ) (before middle now : Outside) (u : Unit {0}) → middle.opens ≡ appended before.opens (output (codes "-") false ∷ []) → OnlyOpens before middle →
-    WroteTexts {T = Unit {0}} {E = Failed} out report middle now (Ok u) → Printed out report Done before now
-printed_all out report before middle now u listed only wrote = record {
-  written = wrote.written;
-  reported = wrote.reported;
-  printed = wrote.sent;
-  to_output = wrote.to_output ∙ ap (λ (o : Option (List ℕ)). appended o wrote.written) only.out;
-  to_report = wrote.to_report ∙ ap (λ (o : Option (List ℕ)). appended o wrote.reported) only.report;
-  opened = wrote.rest.opens ∙ listed;
-  cause = tt;
-  never_falls = let a = only.write_faults in let b = wrote.counts.never_falls in omega arith;
-}
+use Rattle.osm_cli.specs.Whole.{silent, read_ended, input_limit, longest_line}
+use Rattle.osm_cli.specs.Run.{IsGoodFront, WroteAll, WroteFront, IsWritten, is_silent, JudgesWords, Opens, HasCause}
+use Rattle.osm_cli.specs.RunSteps.{Added, HaltCause, ended_by, words_ended, IsAll, IsBegun, IsExported, WroteWhole, Works}
 
 -- ---- the input of an export
 
@@ -44,6 +30,9 @@ module _ (settings : ExportSettings) (before middle : Outside) where
 
   abbrev first : List Opened
   first = input settings.file ∷ []
+
+  abbrev second : List Opened
+  second = output settings.output settings.overwrite ∷ []
 
   module _ (listed : middle.opens ≡ appended before.opens first) (only : OnlyOpens before middle) (begins : middle.left ≡ before.named settings.file) (answered : middle.open_faults ≡ before.open_faults) where
     module _ (now : Outside) (reads_only : OnlyReads middle now) where
@@ -59,17 +48,20 @@ module _ (settings : ExportSettings) (before middle : Outside) where
       none_fell : before.write_faults ≤ now.write_faults
       none_fell = let a = only.write_faults in let b = reads_only.write_faults in omega arith
 
+      both_opens : (last : Outside) → last.opens ≡ appended now.opens second → last.opens ≡ appended before.opens (opens_of job)
+      both_opens last is = is ∙ ap (λ (o : Option (List Opened)). appended o second) one_open ∙ appended_twice before.opens first second
+
       -- nothing was written, and only the input opened
-      read_silent : (ended : Ended) → IsWritten job (before.named settings.file) ended [] [] → Opens (Ok job) ended before now → HasCause ended before now → words_fault ended ≡ None →
+      read_silent : (ended : Ended) → IsWritten job (before.named settings.file) ended [] [] → Opens (Ok job) ended before now → HasCause ended before now → JudgesWords (Ok job) ended →
           Works (Ok job) ended before now
-      read_silent ended right opens cause fault = record {
+      read_silent ended right opens cause judged = record {
         output = [];
         report = [];
         to_output = still_out ∙ sym (appended_nothing before.out);
         to_report = still_report ∙ sym (appended_nothing before.report);
         right = right;
         silent = λ _. (refl, refl);
-        fault = fault;
+        judged = judged;
         opens = opens;
         cause = cause;
         never_falls = none_fell;
@@ -93,115 +85,100 @@ module _ (settings : ExportSettings) (before middle : Outside) where
       not_read read.ReadFault reads told cause =
           read_silent ReadFault (refl, refl, good_front now.left (before.named settings.file) reads.taken (sym begins ∙ reads.left) reads.answer) one_open
           (let a = only.read_faults in let b = cause refl in omega arith) refl
-      not_read read.OutOfMemory reads told cause = read_silent OutOfMemory (inl (refl, refl)) (1, one_open) tt refl
+      not_read read.OutOfMemory reads told cause = read_silent OutOfMemory (inl (refl, refl)) (1, one_open) tt tt
 
       pub no_memory : Works (Ok job) OutOfMemory before now
-      no_memory = read_silent OutOfMemory (inl (refl, refl)) (1, one_open) tt refl
+      no_memory = read_silent OutOfMemory (inl (refl, refl)) (1, one_open) tt tt
 
-      module _ (objects : List Object) (told : IfSome middle.left (λ bytes. IsReadOf input_limit longest_line bytes (Ok objects))) where
-        all_stopped : (left : Option (List ℕ)) (candidate : ObjectRef) → IfSome left (λ bytes. IsReadOf input_limit longest_line bytes (Ok objects)) → StopsAt settings.show_errors objects (candidates false objects) candidate →
-            WroteAll job left (NotYet candidate) [] []
-        all_stopped None candidate is stops = tt
-        all_stopped (Some bytes) candidate is stops =
-            (silent (NotYet candidate), record { read = Ok objects; is_read = is; after = not_yet stops.entries candidate stops.later stops.candidates_are stops.right stops.not_yet refl }, refl, refl, refl)
+      -- ---- the output
 
-        -- a candidate's area can't be made yet
-        pub stops_at : (candidate : ObjectRef) → StopsAt settings.show_errors objects (candidates false objects) candidate → Works (Ok job) (NotYet candidate) before now
-        stops_at candidate stops = read_silent (NotYet candidate) (subst (λ (o : Option (List ℕ)). WroteAll job o (NotYet candidate) [] []) begins (all_stopped middle.left candidate told stops)) one_open tt refl
-
-        module _ (texts : List Texts) (are : AreEntriesOf settings.show_errors objects (candidates false objects) texts) where
-          abbrev whole : Whole
-          whole = export_whole objects are.entries
-
-          is_whole : (bytes : List ℕ) → IsReadOf input_limit longest_line bytes (Ok objects) → IsWhole job bytes whole
-          is_whole bytes is = record { read = Ok objects; is_read = is; after = all_built are.entries are.candidates_are are.right refl }
-
-          all_wrote : (left : Option (List ℕ)) (written reported : List ℕ) → IfSome left (λ bytes. IsReadOf input_limit longest_line bytes (Ok objects)) → written ≡ features_text texts → reported ≡ lines_texts texts →
-              WroteAll job left Done written reported
-          all_wrote None written reported is w r = tt
-          all_wrote (Some bytes) written reported is w r = (whole, is_whole bytes is, refl, w ∙ are.features, r ∙ are.lines)
-
-          front_wrote : (left : Option (List ℕ)) (written reported : List ℕ) → IfSome left (λ bytes. IsReadOf input_limit longest_line bytes (Ok objects)) → IsFront written (features_text texts) → IsFront reported (lines_texts texts) →
-              WroteFront job left written reported
-          front_wrote None written reported is w r = tt
-          front_wrote (Some bytes) written reported is w r =
-              (whole, is_whole bytes is, subst (λ (ys : List ℕ). IsFront written ys) are.features w, subst (λ (ys : List ℕ). IsFront reported ys) are.lines r)
-
-          two_opens : (last : Outside) → last.opens ≡ appended now.opens (output (codes "-") false ∷ []) → last.opens ≡ appended before.opens (opens_of job)
-          two_opens last is = is ∙ ap (λ (o : Option (List Opened)). appended o (output (codes "-") false ∷ [])) one_open ∙ appended_twice before.opens first (output (codes "-") false ∷ [])
-
-          printed_right : (ended : Ended) (written reported : List ℕ) → IsPrinted (features_text texts) (lines_texts texts) written reported ended → IsWritten job (before.named settings.file) ended written reported
-          printed_right Done written reported p = subst (λ (o : Option (List ℕ)). WroteAll job o Done written reported) begins (all_wrote middle.left written reported told p.0 p.1)
-          printed_right OpenFault written reported p = p
-          printed_right WriteFault written reported p = subst (λ (o : Option (List ℕ)). WroteFront job o written reported) begins (front_wrote middle.left written reported told p.0 p.1)
-          printed_right (BadWords cause) written reported p = absurd p
-          printed_right (BadInput line fault) written reported p = absurd p
-          printed_right (NotYet candidate) written reported p = absurd p
-          printed_right (TooMuchInput limit) written reported p = absurd p
-          printed_right ReadFault written reported p = absurd p
-          printed_right OutOfMemory written reported p = absurd p
-
-          printed_silent : (ended : Ended) (written reported : List ℕ) → IsPrinted (features_text texts) (lines_texts texts) written reported ended → is_silent ended ≡ true → (written ≡ []) × (reported ≡ [])
-          printed_silent Done written reported p is = absurd (cc)
-          printed_silent OpenFault written reported p is = p
-          printed_silent WriteFault written reported p is = absurd (cc)
-          printed_silent (BadWords cause) written reported p is = absurd p
-          printed_silent (BadInput line fault) written reported p is = absurd p
-          printed_silent (NotYet candidate) written reported p is = absurd p
-          printed_silent (TooMuchInput limit) written reported p is = absurd p
-          printed_silent ReadFault written reported p is = absurd p
-          printed_silent OutOfMemory written reported p is = absurd p
-
-          printed_fault : (ended : Ended) (written reported : List ℕ) → IsPrinted (features_text texts) (lines_texts texts) written reported ended → words_fault ended ≡ None
-          printed_fault Done written reported p = refl
-          printed_fault OpenFault written reported p = refl
-          printed_fault WriteFault written reported p = refl
-          printed_fault (BadWords cause) written reported p = absurd p
-          printed_fault (BadInput line fault) written reported p = absurd p
-          printed_fault (NotYet candidate) written reported p = absurd p
-          printed_fault (TooMuchInput limit) written reported p = absurd p
-          printed_fault ReadFault written reported p = absurd p
-          printed_fault OutOfMemory written reported p = absurd p
-
-          printed_opens : (ended : Ended) (written reported : List ℕ) (last : Outside) → IsPrinted (features_text texts) (lines_texts texts) written reported ended → IsOpened ended now last → Opens (Ok job) ended before last
-          printed_opens Done written reported last p is = two_opens last is
-          printed_opens OpenFault written reported last p is = elim is [
-            | inl two ↦ (2, two_opens last two)
+      module _ (opened : Outside) (opens_only : OnlyOpens now opened) where
+        -- the output isn't opened
+        pub not_opened : HasRisen now.open_faults opened.open_faults → ((opened.opens ≡ appended now.opens second) ⊎ (opened.opens ≡ now.opens)) → Works (Ok job) OpenFault before opened
+        not_opened risen listed_or_not = record {
+          output = [];
+          report = [];
+          to_output = opens_only.out ∙ still_out ∙ sym (appended_nothing before.out);
+          to_report = opens_only.report ∙ still_report ∙ sym (appended_nothing before.report);
+          right = (refl, refl);
+          silent = λ _. (refl, refl);
+          judged = refl;
+          opens = elim listed_or_not [
+            | inl two ↦ (2, both_opens opened two)
             | inr one ↦ (1, one ∙ one_open)
-          ]
-          printed_opens WriteFault written reported last p is = two_opens last is
-          printed_opens (BadWords cause) written reported last p is = absurd p
-          printed_opens (BadInput line fault) written reported last p is = absurd p
-          printed_opens (NotYet candidate) written reported last p is = absurd p
-          printed_opens (TooMuchInput limit) written reported last p is = absurd p
-          printed_opens ReadFault written reported last p is = absurd p
-          printed_opens OutOfMemory written reported last p is = absurd p
+          ];
+          cause = let a = reads_only.open_faults in let b = answered in omega arith;
+          never_falls = let a = none_fell in let b = opens_only.write_faults in omega arith;
+        }
 
-          printed_cause : (ended : Ended) (written reported : List ℕ) (last : Outside) → IsPrinted (features_text texts) (lines_texts texts) written reported ended → HasCause ended now last → HasCause ended before last
-          printed_cause Done written reported last p is = tt
-          printed_cause OpenFault written reported last p is = let a = reads_only.open_faults in let b = answered in omega arith
-          printed_cause WriteFault written reported last p is = let a = reads_only.write_faults in let b = only.write_faults in omega arith
-          printed_cause (BadWords cause) written reported last p is = absurd p
-          printed_cause (BadInput line fault) written reported last p is = absurd p
-          printed_cause (NotYet candidate) written reported last p is = absurd p
-          printed_cause (TooMuchInput limit) written reported last p is = absurd p
-          printed_cause ReadFault written reported last p is = absurd p
-          printed_cause OutOfMemory written reported last p is = absurd p
+        module _ (lists : opened.opens ≡ appended now.opens second) (objects : List Object) (told : IfSome middle.left (λ bytes. IsReadOf input_limit longest_line bytes (Ok objects))) (last : Outside) where
+          all_told : (left : Option (List ℕ)) (ended : Ended) (written reported : List ℕ) → IfSome left (λ bytes. IsReadOf input_limit longest_line bytes (Ok objects)) → IsAll settings objects written reported ended →
+              WroteAll job left ended written reported
+          all_told None ended written reported is right = tt
+          all_told (Some bytes) ended written reported is right = (right.0, record { read = Ok objects; is_read = is; after = right.1 }, right.2, right.3, right.4)
 
-          -- the output was opened and written, as far as no fault came
-          pub works_printed : (ended : Ended) (last : Outside) → Printed (features_text texts) (lines_texts texts) ended now last → Works (Ok job) ended before last
-          works_printed ended last printed = record {
-            output = printed.written;
-            report = printed.reported;
-            to_output = printed.to_output ∙ ap (λ (o : Option (List ℕ)). appended o printed.written) still_out;
-            to_report = printed.to_report ∙ ap (λ (o : Option (List ℕ)). appended o printed.reported) still_report;
-            right = printed_right ended printed.written printed.reported printed.printed;
-            silent = printed_silent ended printed.written printed.reported printed.printed;
-            fault = printed_fault ended printed.written printed.reported printed.printed;
-            opens = printed_opens ended printed.written printed.reported last printed.printed printed.opened;
-            cause = printed_cause ended printed.written printed.reported last printed.printed printed.cause;
-            never_falls = let a = none_fell in let b = printed.never_falls in omega arith;
-          }
+          front_told : (left : Option (List ℕ)) (written reported : List ℕ) → IfSome left (λ bytes. IsReadOf input_limit longest_line bytes (Ok objects)) → IsBegun settings objects written reported →
+              WroteFront job left written reported
+          front_told None written reported is begun = tt
+          front_told (Some bytes) written reported is begun = (begun.0, record { read = Ok objects; is_read = is; after = begun.1 }, begun.2, begun.3)
+
+          wrote_all : (ended : Ended) (written reported : List ℕ) → IsAll settings objects written reported ended → WroteAll job (before.named settings.file) ended written reported
+          wrote_all ended written reported right = subst (λ (o : Option (List ℕ)). WroteAll job o ended written reported) begins (all_told middle.left ended written reported told right)
+
+          wrote_front : (written reported : List ℕ) → IsBegun settings objects written reported → WroteFront job (before.named settings.file) written reported
+          wrote_front written reported begun = subst (λ (o : Option (List ℕ)). WroteFront job o written reported) begins (front_told middle.left written reported told begun)
+
+          two_opens : last.opens ≡ opened.opens → last.opens ≡ appended before.opens (opens_of job)
+          two_opens same = both_opens last (same ∙ lists)
+
+          module _ (written reported : List ℕ) (added : Added written reported opened last) where
+            works : (ended : Ended) → IsWritten job (before.named settings.file) ended written reported → (is_silent ended ≡ true → ⊥) → JudgesWords (Ok job) ended → Opens (Ok job) ended before last →
+                HasCause ended before last → Works (Ok job) ended before last
+            works ended right loud judged opens cause = record {
+              output = written;
+              report = reported;
+              to_output = added.to_output ∙ ap (λ (o : Option (List ℕ)). appended o written) (opens_only.out ∙ still_out);
+              to_report = added.to_report ∙ ap (λ (o : Option (List ℕ)). appended o reported) (opens_only.report ∙ still_report);
+              right = right;
+              silent = λ is. absurd (loud is);
+              judged = judged;
+              opens = opens;
+              cause = cause;
+              never_falls = let a = none_fell in let b = opens_only.write_faults in let c = added.never_falls in omega arith;
+            }
+
+            ended_works : (result : Result (Unit {0}) Halt) → IsExported settings objects written reported result → HaltCause opened last result → Works (Ok job) (ended_by result) before last
+            ended_works (Ok done) right cause = works Done (wrote_all Done written reported right) (λ is. absurd (cc)) refl (two_opens added.rest.opens) tt
+            ended_works (Err (halt.Stopped candidate)) right cause =
+                works (Stopped candidate) (wrote_all (Stopped candidate) written reported right) (λ is. absurd (cc)) refl (two_opens added.rest.opens) tt
+            ended_works (Err halt.WriteFault) right cause =
+                works WriteFault (wrote_front written reported right) (λ is. absurd (cc)) refl (two_opens added.rest.opens)
+                (let a = reads_only.write_faults in let b = only.write_faults in let c = opens_only.write_faults in omega arith)
+            ended_works (Err halt.OutOfMemory) right cause = works OutOfMemory (inr (wrote_front written reported right)) (λ is. absurd (cc)) tt (2, two_opens added.rest.opens) tt
+
+          -- the output was written, as far as the run came
+          pub works_written : (result : Result (Unit {0}) Halt) → WroteWhole settings objects opened last result → Works (Ok job) (ended_by result) before last
+          works_written result wrote = ended_works wrote.written wrote.reported wrote.added result wrote.right wrote.cause
+
+-- ---- the input isn't opened
+
+pub input_not_opened : (settings : ExportSettings) (before now : Outside) → OnlyOpens before now → HasRisen before.open_faults now.open_faults →
+    ((now.opens ≡ appended before.opens (input settings.file ∷ [])) ⊎ (now.opens ≡ before.opens)) → Works (Ok (export settings)) OpenFault before now
+input_not_opened settings before now only risen listed_or_not = record {
+  output = [];
+  report = [];
+  to_output = only.out ∙ sym (appended_nothing before.out);
+  to_report = only.report ∙ sym (appended_nothing before.report);
+  right = (refl, refl);
+  silent = λ _. (refl, refl);
+  judged = refl;
+  opens = elim listed_or_not [
+    | inl one ↦ (1, one)
+    | inr none ↦ (0, none ∙ sym (appended_nothing before.opens))
+  ];
+  cause = risen;
+  never_falls = let a = only.write_faults in omega arith;
+}
 
 -- ---- words that aren't taken
 
@@ -213,8 +190,39 @@ refused cause o = record {
   to_report = sym (appended_nothing o.report);
   right = (refl, refl, refl);
   silent = λ _. (refl, refl);
-  fault = refl;
+  judged = refl;
   opens = refl;
   cause = tt;
   never_falls = omega arith;
 }
+
+-- there was no memory to read the words
+pub no_memory_for_words : (words : Result Job WordsFault) (o : Outside) → Works words OutOfMemory o o
+no_memory_for_words (Ok job) o = record {
+  output = [];
+  report = [];
+  to_output = sym (appended_nothing o.out);
+  to_report = sym (appended_nothing o.report);
+  right = inl (refl, refl);
+  silent = λ _. (refl, refl);
+  judged = tt;
+  opens = (0, sym (appended_nothing o.opens));
+  cause = tt;
+  never_falls = omega arith;
+}
+no_memory_for_words (Err fault) o = record {
+  output = [];
+  report = [];
+  to_output = sym (appended_nothing o.out);
+  to_report = sym (appended_nothing o.report);
+  right = (tt, refl, refl);
+  silent = λ _. (refl, refl);
+  judged = tt;
+  opens = refl;
+  cause = tt;
+  never_falls = omega arith;
+}
+
+pub not_taken : (asked_for : Result Job WordsFault) (error : WordsError) → Answers asked_for (Err error) → (o : Outside) → Works asked_for (words_ended error) o o
+not_taken asked_for (words.BadWords cause) asked o = subst (λ (w : Result Job WordsFault). Works w (BadWords cause) o o) (sym asked) (refused cause o)
+not_taken asked_for words.OutOfMemory asked o = no_memory_for_words asked_for o

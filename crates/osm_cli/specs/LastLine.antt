@@ -1,21 +1,22 @@
 -- The last line of a report: how the run ended.
-use Rattle.std.specs.Prelude.{ℕ, ℤ, List, [], ◌++◌, codes, decimal}
+use Rattle.std.specs.Prelude.{ℕ, ℤ, List, [], ◌++◌, codes, decimal, encode_utf8}
 use Rattle.std.specs.Fmt.{signed_decimal}
 use Rattle.opl_reader.specs.declared.fault.LineFault.{LineFault}
 use Rattle.opl_reader.specs.declared.object.ObjectKind.{ObjectKind}
 use Rattle.opl_reader.specs.declared.object.ObjectKind.TheVariants.{Node, Way, Relation}
 use Rattle.opl_reader.specs.Fault.{text_of}
-use Rattle.osm_cli.specs.declared.words.WordsFault.{WordsFault}
-use Rattle.osm_cli.specs.declared.words.WordsFault.TheVariants.{NoCommand, UnknownCommand, NotTaken}
+use Rattle.osm_words.specs.declared.fault.WordsFault.{WordsFault}
+use Rattle.osm_words.specs.declared.fault.WordsFault.TheVariants.{NoCommand, UnknownCommand, Refused, OutOfRange}
 use Rattle.osm_cli.specs.declared.ended.InputFault.{InputFault}
 use Rattle.osm_cli.specs.declared.ended.InputFault.TheVariants.{Line, TooLong, Duplicate}
 use Rattle.osm_cli.specs.declared.ended.Ended.{Ended}
-use Rattle.osm_cli.specs.declared.ended.Ended.TheVariants.{Done, BadWords, BadInput, NotYet, TooMuchInput, OpenFault, ReadFault, WriteFault, OutOfMemory}
+use Rattle.osm_cli.specs.declared.ended.Ended.TheVariants.{Done, BadWords, BadInput, Stopped, TooMuchInput, OpenFault, ReadFault, WriteFault, OutOfMemory}
 
 abbrev pub words_line : WordsFault → List ℕ
 words_line NoCommand = codes "osmpoly: no command\n"
 words_line UnknownCommand = codes "osmpoly: unknown command\n"
-words_line NotTaken = codes "osmpoly: words refused\n"
+words_line (Refused kind) = codes "osmpoly: words refused\n"
+words_line (OutOfRange option) = codes "osmpoly: value out of range: " ++ encode_utf8 option ++ codes "\n"
 
 abbrev pub kind_word : ObjectKind → List ℕ
 kind_word Node = codes "node"
@@ -43,7 +44,7 @@ abbrev pub last_line : Ended → List ℕ
 last_line Done = []
 last_line (BadWords cause) = words_line cause
 last_line (BadInput line fault) = fault_line line fault
-last_line (NotYet candidate) = codes "osmpoly: not built yet\n"
+last_line (Stopped candidate) = codes "osmpoly: stopped at " ++ kind_word candidate.kind ++ codes " " ++ signed_decimal candidate.id ++ codes "\n"
 last_line (TooMuchInput limit) = codes "osmpoly: too much input\n"
 last_line OpenFault = codes "osmpoly: open fault\n"
 last_line ReadFault = codes "osmpoly: read fault\n"

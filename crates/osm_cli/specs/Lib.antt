@@ -6,8 +6,7 @@ pub mod LineSteps
 pub mod Lines
 pub mod Reading
 pub mod Status
-pub mod Words
-pub mod WordsSeen
+pub mod Framing
 pub mod Entry
 pub mod Run
 pub mod Whole

@@ -1,10 +1,11 @@
 -- What a run does with its words and its host.
 use Rattle.std.specs.Prelude.{◌≡◌, ◌⊎◌, ℕ, Bool, true, false, List, [], ◌++◌, take, Option, None, Some, IfSome, Result, Ok, Err}
 use Rattle.osm_host.specs.Outside.{Outside, appended, HasRisen}
-use Rattle.osm_cli.specs.declared.words.WordsFault.{WordsFault}
+use Rattle.osm_words.specs.declared.fault.WordsFault.{WordsFault}
 use Rattle.osm_cli.specs.declared.ended.Ended.{Ended}
-use Rattle.osm_cli.specs.declared.ended.Ended.TheVariants.{Done, BadWords, OpenFault, ReadFault, WriteFault, OutOfMemory}
-use Rattle.osm_cli.specs.Job.{Job, input_of, opens_of}
+use Rattle.osm_cli.specs.declared.ended.Ended.TheVariants.{Done, Stopped, BadWords, OpenFault, ReadFault, WriteFault, OutOfMemory}
+use Rattle.osm_words.specs.Job.{Job}
+use Rattle.osm_cli.specs.Job.{input_of, opens_of}
 use Rattle.osm_cli.specs.Lines.{lines_begun}
 use Rattle.osm_cli.specs.Input.{AreGood}
 use Rattle.osm_cli.specs.Whole.{Whole, IsWhole, input_limit, longest_line}
@@ -42,14 +43,20 @@ IsWritten job told ended output report = WroteAll job told ended output report
 -- with these endings nothing is written out
 abbrev pub is_silent : Ended → Bool
 is_silent Done = false
+is_silent (Stopped candidate) = false
 is_silent WriteFault = false
 is_silent OutOfMemory = false
 is_silent _ = true
 
+-- Words are refused with this fault, unless memory was wanting.
+abbrev pub IsRefused : WordsFault → Ended → Type 0
+IsRefused fault OutOfMemory = Unit {0}
+IsRefused fault ended = ended ≡ BadWords fault
+
 -- The words are taken, and what was written is right for their job; or they are refused and nothing was written.
 abbrev pub IsRun : Result Job WordsFault → Outside → Ended → List ℕ → List ℕ → Type 0
 IsRun (Ok job) before ended output report = IsWritten job (before.named (input_of job)) ended output report
-IsRun (Err fault) before ended output report = (ended ≡ BadWords fault) × (output ≡ []) × (report ≡ [])
+IsRun (Err fault) before ended output report = IsRefused fault ended × (output ≡ []) × (report ≡ [])
 
 -- What a run wrote: an output, and a report with its last line or, where that write failed, a front of it.
 pub record Writes (words : Result Job WordsFault) (ended : Ended) (before after : Outside) : Type 0 where
@@ -68,6 +75,7 @@ pub record Writes (words : Result Job WordsFault) (ended : Ended) (before after 
 -- The opens are those of the job, as far as the run came.
 abbrev pub Opens : Result Job WordsFault → Ended → Outside → Outside → Type 0
 Opens (Ok job) Done before after = after.opens ≡ appended before.opens (opens_of job)
+Opens (Ok job) (Stopped candidate) before after = after.opens ≡ appended before.opens (opens_of job)
 Opens (Ok job) WriteFault before after = after.opens ≡ appended before.opens (opens_of job)
 Opens (Ok job) OpenFault before after = (n : ℕ) × (after.opens ≡ appended before.opens (take n (opens_of job)))
 Opens (Ok job) OutOfMemory before after = (n : ℕ) × (after.opens ≡ appended before.opens (take n (opens_of job)))
@@ -84,6 +92,11 @@ words_fault _ = None
 abbrev pub fault_of : Result Job WordsFault → Option WordsFault
 fault_of (Ok job) = None
 fault_of (Err fault) = Some fault
+
+-- Words are refused exactly where they are faulty, and then with their fault, unless memory was wanting.
+abbrev pub JudgesWords : Result Job WordsFault → Ended → Type 0
+JudgesWords words OutOfMemory = Unit {0}
+JudgesWords words ended = words_fault ended ≡ fault_of words
 
 -- A fault is answered only where the count of its kind rose.
 abbrev pub HasCause : Ended → Outside → Outside → Type 0
@@ -102,4 +115,4 @@ pub record NoFault (before after : Outside) : Type 0 where
 abbrev pub Completes : Result Job WordsFault → Outside → Ended → Type 0
 Completes (Ok job) before OutOfMemory = Unit {0}
 Completes (Ok job) before ended = IfSome (before.named (input_of job)) (λ bytes. (whole : Whole) × IsWhole job bytes whole × (ended ≡ whole.ended))
-Completes (Err fault) before ended = ended ≡ BadWords fault
+Completes (Err fault) before ended = IsRefused fault ended

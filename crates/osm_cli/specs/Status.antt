@@ -1,16 +1,16 @@
 -- The statuses of the process.
 use Rattle.std.specs.Prelude.{ℕ}
-use Rattle.osm_cli.specs.declared.words.Command.{Command}
-use Rattle.osm_cli.specs.declared.words.Command.TheVariants.{Export, Unknown}
+use Rattle.osm_words.specs.declared.words.Command.{Command}
+use Rattle.osm_words.specs.declared.words.Command.TheVariants.{Export, Unknown}
 use Rattle.osm_cli.specs.declared.ended.Ended.{Ended}
-use Rattle.osm_cli.specs.declared.ended.Ended.TheVariants.{Done, BadWords, BadInput, NotYet, TooMuchInput, OpenFault, ReadFault, WriteFault, OutOfMemory}
+use Rattle.osm_cli.specs.declared.ended.Ended.TheVariants.{Done, BadWords, BadInput, Stopped, TooMuchInput, OpenFault, ReadFault, WriteFault, OutOfMemory}
 
 -- of `export`, and of words that name no command
 abbrev pub export_status : Ended → ℕ
 export_status Done = 0
 export_status (BadWords cause) = 2
 export_status (BadInput line fault) = 1
-export_status (NotYet candidate) = 1
+export_status (Stopped candidate) = 1
 export_status (TooMuchInput limit) = 1
 export_status OpenFault = 1
 export_status ReadFault = 1

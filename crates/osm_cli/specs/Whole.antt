@@ -1,17 +1,15 @@
 -- What a run is to write in all, and how it is to end.
-use Rattle.std.specs.Prelude.{◌≡◌, ◌^◌, ℕ, false, List, [], ◌∷◌, ◌++◌, map, All, Result, Ok, Err}
-use Rattle.std.specs.List.{flat_map}
+use Rattle.std.specs.Prelude.{◌≡◌, ◌^◌, ℕ, false, true, List, [], ◌∷◌, ◌++◌, map, All, Result, Ok, Err}
 use Rattle.opl_reader.specs.declared.object.Object.{Object}
 use Rattle.opl_reader.specs.declared.object.ObjectRef.{ObjectRef}
 use Rattle.osm_objects.specs.Candidates.{candidates}
-use Rattle.osm_area.specs.declared.outcome.Outcome.TheVariants as outcome
-use Rattle.osm_area.specs.Outcome.{IsOutcome}
 use Rattle.osm_cli.specs.declared.ended.Ended.{Ended}
 use Rattle.osm_cli.specs.declared.ended.Ended.TheVariants as ended
 use Rattle.osm_cli.specs.declared.reading.ReadError.{ReadError}
 use Rattle.osm_cli.specs.declared.reading.ReadError.TheVariants.{BadInput, TooMuchInput, ReadFault, OutOfMemory}
-use Rattle.osm_cli.specs.Job.{ExportSettings, Job, export}
-use Rattle.osm_cli.specs.Entry.{Entry, feature_of, IsEntry}
+use Rattle.osm_words.specs.Job.{ExportSettings, Job, export}
+use Rattle.osm_cli.specs.Entry.{Entry, IsEntry, has_area, pieces_of, reports_of}
+use Rattle.osm_cli.specs.Framing.{footer, header}
 use Rattle.osm_cli.specs.Reading.{IsReadAs}
 
 -- the most bytes of an input
@@ -34,21 +32,36 @@ silent ended = record { output = []; report = []; ended = ended }
 
 -- ---- export
 
--- the features of candidates, and their report lines
-abbrev pub export_whole : List Object → List Entry → Whole
-export_whole objects entries = record {
-  output = flat_map (λ entry. feature_of objects entry.candidate entry.outcome) entries;
-  report = flat_map (λ entry. entry.report) entries;
+-- the header, what each entry adds, and the footer
+abbrev pub finished_whole : ExportSettings → List Object → List Entry → Whole
+finished_whole settings objects entries = record {
+  output = header settings.format ++ pieces_of settings objects 0 entries ++ footer settings.format;
+  report = reports_of entries;
   ended = ended.Done;
 }
 
--- Each candidate has its entry, in order; or the area of the first one without an entry can't be made yet.
+-- the header and what each entry adds, up to the first one with problems
+abbrev pub stopped_whole : ExportSettings → List Object → List Entry → Entry → Whole
+stopped_whole settings objects entries last = record {
+  output = header settings.format ++ pieces_of settings objects 0 entries;
+  report = reports_of entries ++ last.report;
+  ended = ended.Stopped last.candidate;
+}
+
+abbrev pub HaveAreas : List Entry → Type 0
+HaveAreas entries = All (λ entry. has_area entry ≡ true) entries
+
+-- Each candidate has its entry, in order; or the run is to stop at the first candidate with problems.
 pub data IsExport (settings : ExportSettings) (objects : List Object) (whole : Whole) : Type 0 where
-  all_built : (entries : List Entry) → map (λ entry. entry.candidate) entries ≡ candidates false objects → All (IsEntry settings.show_errors objects) entries →
-      whole ≡ export_whole objects entries → IsExport settings objects whole
-  not_yet : (entries : List Entry) (candidate : ObjectRef) (later : List ObjectRef) →
-      candidates false objects ≡ map (λ entry. entry.candidate) entries ++ candidate ∷ later → All (IsEntry settings.show_errors objects) entries → IsOutcome objects candidate outcome.NotYet →
-      whole ≡ silent (ended.NotYet candidate) → IsExport settings objects whole
+  finished : (entries : List Entry) →
+      map (λ entry. entry.candidate) entries ≡ candidates settings.keep_untagged objects → All (IsEntry settings.show_errors objects) entries →
+      (settings.stop_on_error ≡ true → HaveAreas entries) →
+      whole ≡ finished_whole settings objects entries → IsExport settings objects whole
+  stopped : (entries : List Entry) (last : Entry) (later : List ObjectRef) → settings.stop_on_error ≡ true →
+      candidates settings.keep_untagged objects ≡ map (λ entry. entry.candidate) entries ++ last.candidate ∷ later →
+      All (IsEntry settings.show_errors objects) entries → IsEntry settings.show_errors objects last →
+      HaveAreas entries → has_area last ≡ false →
+      whole ≡ stopped_whole settings objects entries last → IsExport settings objects whole
 
 -- ---- any job
 

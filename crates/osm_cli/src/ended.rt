@@ -3,8 +3,8 @@
 ghost use Rattle.std.specs.Prelude.{◌≡◌};
 ghost use Rattle.osm_cli.specs.Status.{status_of};
 
-use crate::words::{Command, WordsFault};
 use opl_reader::{LineFault, ObjectKind, ObjectRef};
+use osm_words::{Command, WordsFault};
 
 /// What is wrong with the bad place of an input, a line.
 #[derive(Clone, Copy, Debug, PartialEq, Eq)]
@@ -22,12 +22,12 @@ pub enum InputFault {
 pub enum Ended {
     /// The whole output and the whole report are written.
     Done,
+    /// This candidate is the first that has problems, and the run was to stop there.
+    Stopped { candidate: ObjectRef },
     /// The words aren't taken.
     BadWords { cause: WordsFault },
     /// A line of the input, counted from 1, is its bad place.
     BadInput { line: u64, fault: InputFault },
-    /// The area of this candidate can't be made yet.
-    NotYet { candidate: ObjectRef },
     /// The input has more bytes than this limit.
     TooMuchInput { limit: u64 },
     /// An open failed.
@@ -50,8 +50,8 @@ pub fn status(command: Command, ended: &Ended) -> u8
         Ended::Done => 0,
         Ended::BadWords { .. } => 2,
         Ended::OutOfMemory => 5,
-        Ended::BadInput { .. }
-        | Ended::NotYet { .. }
+        Ended::Stopped { .. }
+        | Ended::BadInput { .. }
         | Ended::TooMuchInput { .. }
         | Ended::OpenFault
         | Ended::ReadFault

@@ -1,99 +1,133 @@
-//! What candidates add to the output and to the report.
+//! What a candidate adds to the output and to the report.
 
-ghost use Rattle.std.specs.Prelude.{◌≡◌, [], All, false, IfOk, IfErr, IsSome, OnOk, ◌++◌, map};
+ghost use Rattle.std.specs.Prelude.{◌≡◌, All, IfOk, IsSome, OnOk, ◌++◌, ◌+◌, ◌≤◌, map};
 ghost use Rattle.std.specs.List.{flat_map};
+ghost use Rattle.osm_area.specs.Outcome.{IsOutcome};
+ghost use Rattle.osm_cli.specs.Entries.{lines_text, shown, IsTextsOf, AddsProblems};
+ghost use Rattle.osm_cli.specs.Entry.{feature_id, feature_in, tags_of};
+ghost use Rattle.osm_cli.specs.Framing.{framed};
+ghost use Rattle.osm_nest.specs.Polygons.{rings_of};
 ghost use Rattle.osm_objects.specs.Objects.{object_at};
-ghost use Rattle.osm_objects.specs.Candidates.{candidates};
-ghost use Rattle.osm_cli.specs.Entries.{lines_text, shown, IsEntryOf, AreEntriesOf, AddsProblems, entry_failed, entries_failed};
 ghost use Rattle.osm_objects.specs.Problem.{IsOfItsKind};
+ghost use Rattle.osm_rings.specs.PlaneEdge.{IsWholeSegment};
 ghost use Rattle.osm_text.specs.Report.{note_line};
+ghost use Rattle.osm_words.specs.Answers.{settings_seen};
 
-use opl_reader::ObjectRef;
+use crate::framing::framed;
+use opl_reader::{ObjectRef, Tags};
 use osm_area::{Outcome, assemble};
-use osm_objects::{Note, Problem, Store};
-use osm_text::{note_line, problem_line, ring_text};
+use osm_nest::Polygons;
+use osm_objects::{Note, Problem, Store, area_id};
+use osm_text::{FeatureId, feature_json, feature_text, note_line, problem_line};
+use osm_words::{ExportSettings, Format, UniqueId};
 use std::alloc::{AllocError, Global};
 
 /// What a candidate adds, each text a piece that is written by itself.
 #[derive(Drop)]
 pub(crate) struct Texts {
-    /// Its feature; empty where it has problems.
-    pub feature: Vec<u8>,
+    /// Its feature with what stands around it; None where it has problems.
+    pub feature: Option<Vec<u8>>,
     /// Its report lines; none where they aren't asked for.
     pub lines: Vec<Vec<u8>>,
 }
 
-/// Why a candidate adds nothing.
-#[derive(Clone, Copy, Debug, PartialEq, Eq)]
-pub(crate) enum EntryError {
-    /// Its area can't be made yet.
-    NotYet { candidate: ObjectRef },
-    OutOfMemory,
-}
-
-impl From<AllocError> for EntryError {
-    ghost use Rattle.std.specs.Prelude.{◌≡◌};
-    ghost use Rattle.osm_cli.specs.declared.entry.EntryError.TheVariants.{OutOfMemory};
-
-    ghost from_gives = { λ _ e. e ≡ OutOfMemory };
-
-    fn from(_: AllocError) -> Self {
-        EntryError::OutOfMemory
-    }
-}
-
-/// What every candidate adds, in order.
-pub(crate) fn entries_of(
-    alloc: Global,
-    store: &Store,
-    show_errors: bool,
-) -> Result<Vec<Texts>, EntryError>
-    ensures entries { IfOk result (λ entries. AreEntriesOf show_errors store.now (candidates false store.now) entries.items) }
-    ensures failed { IfErr result (entries_failed show_errors store.now (candidates false store.now)) }
+// The id of a candidate's feature that has so many features before it.
+fn feature_id(ids: Option<UniqueId>, earlier: u64, candidate: ObjectRef) -> Option<FeatureId>
+    requires { earlier + 1 ≤ 18_446_744_073_709_551_615 }
+    ensures { result ≡ feature_id ids earlier candidate }
 {
-    let mut entries = Vec::new(alloc);
-    let Ok(candidates) = store.candidates(alloc, false) else {
-        return Err(EntryError::OutOfMemory);
-    };
-    for &candidate in &candidates {
-        let entry = match entry_of(alloc, store, candidate, show_errors) {
-            Ok(entry) => entry,
-            Err(error) => return Err(error),
-        };
-        let Ok(()) = entries.push(entry) else {
-            return Err(EntryError::OutOfMemory);
-        };
+    match ids {
+        Some(UniqueId::Counter) => Some(FeatureId::Counter(earlier + 1)),
+        Some(UniqueId::TypeId) => area_id(candidate).map(FeatureId::Area),
+        None => None,
     }
-    Ok(entries)
 }
 
-/// What a candidate adds.
-fn entry_of(
+// The feature of an area in a format.
+fn feature_in(
+    alloc: Global,
+    format: Format,
+    polygons: &Polygons,
+    tags: &Tags,
+    id: Option<FeatureId>,
+) -> Result<Vec<u8>, AllocError>
+    requires { All (All IsWholeSegment) (rings_of polygons.now) }
+    ensures { IfOk result (λ text. text.items ≡ feature_in format id polygons.now tags.now) }
+{
+    match format {
+        Format::Text => feature_text(alloc, polygons, tags, id),
+        Format::GeoJson | Format::GeoJsonSeq => feature_json(alloc, polygons, tags, id),
+    }
+}
+
+// The feature of a candidate's area that has so many features before it, with what stands around it.
+fn feature_of(
     alloc: Global,
     store: &Store,
+    settings: &ExportSettings<'_>,
     candidate: ObjectRef,
-    show_errors: bool,
-) -> Result<Texts, EntryError>
-    requires { IsSome (object_at store.now candidate) }
-    ensures entry { IfOk result (IsEntryOf show_errors store.now candidate) }
-    ensures failed { IfErr result (entry_failed store.now candidate) }
+    polygons: &Polygons,
+    earlier: u64,
+) -> Result<Vec<u8>, AllocError>
+    requires held { IsSome (object_at store.now candidate) }
+    requires whole { All (All IsWholeSegment) (rings_of polygons.now) }
+    requires room { earlier + 1 ≤ 18_446_744_073_709_551_615 }
+    ensures { IfOk result (λ text. text.items ≡ framed (settings_seen settings.now) earlier (feature_in settings.now.format (feature_id settings.now.ids earlier candidate) polygons.now (tags_of (object_at store.now candidate)))) }
 {
+    let tags = store.area_tags(alloc, candidate)?;
+    let id = feature_id(settings.ids, earlier, candidate);
+    let feature = feature_in(alloc, settings.format, polygons, &tags, id)?;
+    framed(alloc, settings, earlier, &feature)
+}
+
+/// What a candidate adds that has so many features before it.
+pub(crate) fn texts_of(
+    alloc: Global,
+    store: &Store,
+    settings: &ExportSettings<'_>,
+    candidate: ObjectRef,
+    earlier: u64,
+) -> Result<Texts, AllocError>
+    requires held { IsSome (object_at store.now candidate) }
+    requires room { earlier + 1 ≤ 18_446_744_073_709_551_615 }
+    ensures { IfOk result (IsTextsOf (settings_seen settings.now) store.now earlier candidate) }
+{
+    let mut lines = Vec::new(alloc);
     match assemble(alloc, store, candidate)? {
-        Outcome::Area { path, notes } => {
-            let tags = store.area_tags(alloc, candidate)?;
-            let feature = ring_text(alloc, &path, &tags)?;
-            let mut lines = Vec::new(alloc);
-            push_notes(alloc, &mut lines, candidate, notes.as_slice(), show_errors)?;
-            Ok(Texts { feature, lines })
+        Outcome::Area { polygons, notes } => {
+            let feature = feature_of(alloc, store, settings, candidate, &polygons, earlier)?;
+            push_notes(
+                alloc,
+                &mut lines,
+                candidate,
+                notes.as_slice(),
+                settings.show_errors,
+            )?;
+            Ok(Texts {
+                feature: Some(feature),
+                lines,
+            })
         }
         Outcome::Problems { list, notes } => {
-            let feature = Vec::new(alloc);
-            let mut lines = Vec::new(alloc);
-            push_problems(alloc, &mut lines, candidate, list.as_slice(), show_errors)?;
-            push_notes(alloc, &mut lines, candidate, notes.as_slice(), show_errors)?;
-            Ok(Texts { feature, lines })
+            push_problems(
+                alloc,
+                &mut lines,
+                candidate,
+                list.as_slice(),
+                settings.show_errors,
+            )?;
+            push_notes(
+                alloc,
+                &mut lines,
+                candidate,
+                notes.as_slice(),
+                settings.show_errors,
+            )?;
+            Ok(Texts {
+                feature: None,
+                lines,
+            })
         }
-        Outcome::NotYet => Err(EntryError::NotYet { candidate }),
     }
 }
 

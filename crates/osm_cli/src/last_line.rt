@@ -1,12 +1,14 @@
 //! The last line of a report, which says how a run ended.
 
 ghost use Rattle.std.specs.Prelude.{◌≡◌, ◌≤◌, length};
+ghost use Rattle.osm_words.specs.declared.fault.WordsFault.TheVariants.{OutOfRange};
+ghost use Rattle.osm_cli.specs.declared.ended.Ended.TheVariants.{Stopped};
 ghost use Rattle.osm_cli.specs.LastLine.{last_line, fault_line, line_begun, bad_line, again_line, kind_word, words_line};
 
 use crate::ended::{Ended, InputFault};
 use crate::line::Line;
-use crate::words::WordsFault;
-use opl_reader::{LineFault, ObjectKind, fault_text};
+use opl_reader::{LineFault, ObjectKind, ObjectRef, fault_text};
+use osm_words::WordsFault;
 
 /// The last line of a run that ended so; empty where no such line is written. It takes no memory.
 pub(crate) fn last_line(ended: &Ended) -> Line
@@ -14,9 +16,9 @@ pub(crate) fn last_line(ended: &Ended) -> Line
 {
     match ended {
         Ended::Done => Line::new(),
-        Ended::BadWords { cause } => line_of(words_line(*cause)),
+        Ended::BadWords { cause } => words_line(*cause),
         Ended::BadInput { line, fault } => fault_line(*line, fault),
-        Ended::NotYet { .. } => line_of("osmpoly: not built yet\n"),
+        Ended::Stopped { candidate } => stopped_line(*candidate),
         Ended::TooMuchInput { .. } => line_of("osmpoly: too much input\n"),
         Ended::OpenFault => line_of("osmpoly: open fault\n"),
         Ended::ReadFault => line_of("osmpoly: read fault\n"),
@@ -34,15 +36,26 @@ fn line_of(text: &'static str) -> Line
     line
 }
 
-fn words_line(cause: WordsFault) -> &'static str
-    ensures text { result.now ≡ words_line cause }
-    ensures short { length result.now ≤ 96 }
+fn words_line(cause: WordsFault) -> Line
+    ensures { result ≡ words_line cause }
 {
     match cause {
-        WordsFault::NoCommand => "osmpoly: no command\n",
-        WordsFault::UnknownCommand => "osmpoly: unknown command\n",
-        WordsFault::NotTaken => "osmpoly: words refused\n",
+        WordsFault::NoCommand => line_of("osmpoly: no command\n"),
+        WordsFault::UnknownCommand => line_of("osmpoly: unknown command\n"),
+        WordsFault::Refused { .. } => line_of("osmpoly: words refused\n"),
+        WordsFault::OutOfRange { option } => range_line(option),
     }
+}
+
+fn stopped_line(candidate: ObjectRef) -> Line
+    ensures { result ≡ last_line (Stopped candidate) }
+{
+    let mut whole = line_of("osmpoly: stopped at ");
+    whole.put(kind_word(candidate.kind));
+    whole.put(" ");
+    whole.put_id(candidate.id);
+    whole.put("\n");
+    whole
 }
 
 fn fault_line(line: u64, fault: &InputFault) -> Line
@@ -102,4 +115,14 @@ fn kind_word(kind: ObjectKind) -> &'static str
         ObjectKind::Way => "way",
         ObjectKind::Relation => "relation",
     }
+}
+
+fn range_line(option: char) -> Line
+    ensures { result ≡ words_line (OutOfRange option) }
+{
+    let mut whole = line_of("osmpoly: value out of range: ");
+    let mut room = [0; 4];
+    whole.put(option.encode_utf8(&mut room));
+    whole.put("\n");
+    whole
 }

@@ -3,14 +3,16 @@
 
 mod ended;
 mod entry;
+mod export;
+mod framing;
 mod gather;
 mod last_line;
 mod line;
 mod reading;
 mod running;
-mod words;
+mod writing;
 
 pub use ended::{Ended, InputFault, status};
+pub use osm_words::{Command, WordsFault, command_of};
 pub use reading::{ReadError, read_all};
 pub use running::run;
-pub use words::{Command, WordsFault, command_of};

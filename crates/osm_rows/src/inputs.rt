@@ -1,6 +1,6 @@
 // Bad places of an input, and the limits of reading.
 
-use crate::run::{host_of, run_over};
+use crate::run::{host_of, run_on, run_over};
 use opl_reader::ObjectKind;
 use osm_cli::{InputFault, ReadError, read_all};
 use osm_host::{Host, MemoryHost};
@@ -49,6 +49,22 @@ fn a_bad_line_ends_a_run(rt: HostRuntime) -> Result<(), Fail> {
         assert_eq!(rt; got.out.as_str(), "", "{input}");
         assert_eq!(rt; got.report.as_str(), report, "{input}");
     }
+    Ok(())
+}
+
+#[test]
+fn a_line_that_is_no_text_is_bad(rt: HostRuntime) -> Result<(), Fail> {
+    let alloc = rt.alloc();
+    let mut host = MemoryHost::new(alloc, 65536);
+    host.add_input("-", b"n1 T\xff\n")?;
+    host.reserve(65536)?;
+    let got = run_on(alloc, "export -", &mut host)?;
+    assert_eq!(rt; got.status, 1);
+    assert_eq!(rt; got.out.as_str(), "");
+    assert_eq!(rt;
+        got.report.as_str(),
+        "osmpoly: line 1: not utf-8 at byte 4\n"
+    );
     Ok(())
 }
 

@@ -2,10 +2,14 @@
 #![tactic(auto)]
 
 #[cfg(test)]
-mod exports;
+mod areas;
 #[cfg(test)]
 mod faults;
+#[cfg(test)]
+mod formats;
 #[cfg(test)]
 mod inputs;
 #[cfg(test)]
 mod run;
+#[cfg(test)]
+mod stops;

@@ -1,6 +1,7 @@
-use Rattle.std.proofs.Common.{map, string_bytes, ◌∙◌}
-use Rattle.osm_cli.specs.Words.{job_asked}
-use Rattle.osm_cli.proofs.Endings.{writes, opens_kept, cause_kept, completes}
+use Rattle.std.proofs.Common.{map, string_bytes, ◌∙◌, ap}
+use Rattle.osm_words.specs.Words.{job_asked}
+use Rattle.osm_words.specs.PlainExport.{said}
+use Rattle.osm_cli.proofs.Endings.{writes, opens_kept, cause_kept, completes, plain_completes}
 use Rattle.osm_cli.proofs.running.run.Goals as goal
 
 pub returns-clause-writes : goal.returns-clause-writes
@@ -23,3 +24,8 @@ pub returns-clause-complete : goal.returns-clause-complete
 returns-clause-complete g c = λ none.
     completes (job_asked (map string_bytes c.args.words.now)) c.work-ended.result (g.H.Host.seen c.args.host.now) (g.H.Host.seen c.write_all_report.new.host)
     c.work-ended.ensures.output c.work-ended.ensures.report c.work-ended.ensures.right (returns-clause-cause g c) none
+
+pub returns-clause-plain : goal.returns-clause-plain
+returns-clause-plain g c = λ options file plain same none.
+    plain_completes (job_asked (map string_bytes c.args.words.now)) (said options file) (ap job_asked same ∙ c.plain_words_are_taken.ensures options file plain) (g.H.Host.seen c.args.host.now) c.work-ended.result
+    (returns-clause-complete g c none)
