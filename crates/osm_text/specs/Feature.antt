@@ -22,6 +22,6 @@ abbrev pub tags_text : List Tag → List ℕ
 tags_text [] = []
 tags_text (tag ∷ tags) = codes " " ++ join_with_byte 44 (map tag_text (tag ∷ tags))
 
--- the line of polygons, each a list of rings, and tags
+-- the line of a feature: its id, its polygons, each a list of rings, and its tags in order
 abbrev pub feature_text : Option FeatureId → List (List (List Loc)) → List Tag → List ℕ
 feature_text id polygons tags = id_before id ++ multipolygon_wkt polygons ++ tags_text tags ++ codes "\n"

@@ -1,4 +1,4 @@
--- Features of GeoJSON (RFC 7946), in degrees.
+-- Features of GeoJSON (RFC 7946), their coordinates in degrees.
 use Rattle.std.specs.Prelude.{ℕ, List, [], ◌++◌, Option, Some, None, map, take, codes}
 use Rattle.std.specs.List.{join_with_byte}
 use Rattle.opl_reader.specs.declared.object.Tag.{Tag}
@@ -21,7 +21,7 @@ position_json p = codes "[" ++ units_text p.x ++ codes "," ++ units_text p.y ++ 
 abbrev pub ring_json : List Loc → List ℕ
 ring_json ring = in_brackets (map position_json (ring ++ take 1 ring))
 
--- a polygon: its rings
+-- a polygon: its rings in order, the outer one first
 abbrev pub polygon_json : List (List Loc) → List ℕ
 polygon_json rings = in_brackets (map ring_json rings)
 
@@ -35,7 +35,7 @@ id_member None = []
 id_member (Some (Counter number)) = codes "\"id\":" ++ id_text (Counter number) ++ codes ","
 id_member (Some (Area id)) = codes "\"id\":\"" ++ id_text (Area id) ++ codes "\","
 
--- the feature of polygons, each a list of rings, and tags
+-- a feature: its id, its polygons, each a list of rings, and its tags as properties
 abbrev pub feature_json : Option FeatureId → List (List (List Loc)) → List Tag → List ℕ
 feature_json id polygons tags =
     codes "{\"type\":\"Feature\"," ++ id_member id ++ codes "\"geometry\":{\"type\":\"MultiPolygon\",\"coordinates\":" ++ multipolygon_json polygons

@@ -1,6 +1,5 @@
 pub mod Decimal
 pub mod Feature
-pub mod Framing
 pub mod GeoJson
 pub mod Id
 pub mod Lattice

@@ -1,4 +1,4 @@
--- The object of an area's tags in GeoJSON.
+-- The properties of a feature of GeoJSON: the object of an area's tags, as the compact text of JSON (RFC 8259).
 use Rattle.std.specs.Prelude.{◌≡◌, ℕ, Option, ◌/◌, ◌%◌, ◌==◌, nat_lt, if◌then◌else◌, List, [], ◌∷◌, ◌++◌, fold, flat_map, map, codes, bytes_eq}
 use Rattle.std.specs.Char.{digit_char}
 use Rattle.std.specs.List.{find, join_with_byte, list_any}
@@ -38,7 +38,7 @@ KeysRise (t ∷ tags) = IsBelow t tags × KeysRise tags
 abbrev pub hex_pair : ℕ → List ℕ
 hex_pair c = digit_char (c / 16) ∷ digit_char (c % 16) ∷ []
 
--- a byte of a string: the quotation mark, the backslash and what is below 20 (hexadecimal) are escaped, all else stands for itself
+-- a byte of a string: the quotation mark (34), the backslash (92) and the control characters (below 32) are escaped, all else stands for itself
 abbrev pub escaped_byte : ℕ → List ℕ
 escaped_byte c =
     if c == 34 then codes "\\\"" else
@@ -51,13 +51,14 @@ escaped_byte c =
     if nat_lt c 32 then codes "\\u00" ++ hex_pair c else
     c ∷ []
 
+-- a string in its quotation marks
 unfoldable pub string_text : List ℕ → List ℕ
 string_text bytes = codes "\"" ++ flat_map escaped_byte bytes ++ codes "\""
 
--- a member of the object
+-- a tag as a member of the object: its key and its value as strings
 abbrev pub member_text : Tag → List ℕ
 member_text tag = string_text tag.key ++ codes ":" ++ string_text tag.value
 
--- the object, its members parted by commas
+-- the object of tags by keys, its members parted by commas and no spaces
 abbrev pub properties_text : List Tag → List ℕ
 properties_text tags = codes "{" ++ join_with_byte 44 (map member_text (by_key tags)) ++ codes "}"

@@ -19,7 +19,7 @@ point_text p = xy_text p.x p.y
 abbrev pub ring_wkt : List Loc → List ℕ
 ring_wkt ring = in_parentheses (map point_text (ring ++ take 1 ring))
 
--- a polygon: its rings
+-- a polygon: its rings in order, the outer one first
 abbrev pub polygon_wkt : List (List Loc) → List ℕ
 polygon_wkt rings = in_parentheses (map ring_wkt rings)
 

@@ -6,7 +6,6 @@ mod feature;
 mod feature_id;
 #[cfg(test)]
 mod feature_tests;
-mod framing;
 mod laws;
 mod notation;
 mod number;
@@ -20,7 +19,6 @@ mod wkt;
 pub use decimal::put_decimal;
 pub use feature::{feature_json, feature_text, whole_segments_are_lattice};
 pub use feature_id::FeatureId;
-pub use framing::Framing;
 pub use laws::problem_line_exists;
 pub use properties::tags_by_key;
 pub use report::{note_line, problem_line};
