@@ -92,41 +92,20 @@ pub(crate) fn texts_of(
     requires room { earlier + 1 ≤ 18_446_744_073_709_551_615 }
     ensures { IfOk result (IsTextsOf (settings_seen settings.now) store.now earlier candidate) }
 {
+    let show = settings.show_errors;
     let mut lines = Vec::new(alloc);
     match assemble(alloc, store, candidate)? {
         Outcome::Area { polygons, notes } => {
-            let feature = feature_of(alloc, store, settings, candidate, &polygons, earlier)?;
-            push_notes(
-                alloc,
-                &mut lines,
-                candidate,
-                notes.as_slice(),
-                settings.show_errors,
-            )?;
-            Ok(Texts {
-                feature: Some(feature),
-                lines,
-            })
+            let text = feature_of(alloc, store, settings, candidate, &polygons, earlier)?;
+            push_notes(alloc, &mut lines, candidate, notes.as_slice(), show)?;
+            let feature = Some(text);
+            Ok(Texts { feature, lines })
         }
         Outcome::Problems { list, notes } => {
-            push_problems(
-                alloc,
-                &mut lines,
-                candidate,
-                list.as_slice(),
-                settings.show_errors,
-            )?;
-            push_notes(
-                alloc,
-                &mut lines,
-                candidate,
-                notes.as_slice(),
-                settings.show_errors,
-            )?;
-            Ok(Texts {
-                feature: None,
-                lines,
-            })
+            push_problems(alloc, &mut lines, candidate, list.as_slice(), show)?;
+            push_notes(alloc, &mut lines, candidate, notes.as_slice(), show)?;
+            let feature = None;
+            Ok(Texts { feature, lines })
         }
     }
 }

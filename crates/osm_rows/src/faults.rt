@@ -31,14 +31,20 @@ fn words_are_refused_by_their_cause(rt: HostRuntime) -> Result<(), Fail> {
 #[test]
 fn each_write_of_geojson_may_fail(rt: HostRuntime) -> Result<(), Fail> {
     let alloc = rt.alloc();
-    let whole = "{\"type\":\"FeatureCollection\",\"features\":[\n{\"type\":\"Feature\",\"geometry\":{\"type\":\"MultiPolygon\",\"coordinates\":[[[[0,0],[4,0],[4,4],[0,4],[0,0]],[[1,1],[1,2],[2,2],[2,1],[1,1]]]]},\"properties\":{\"landuse\":\"forest\"}}\n]}\n";
+    let whole =
+        "{\"type\":\"FeatureCollection\",\"features\":[\n{\"type\":\"Feature\",\"geometry\":{\"type\":\"MultiPolygon\",\"coordinates\":[[[[0,0],[4,0],[4,4],[0,4],[0,0]],[[1,1],[1,2],[2,2],[2,1],[1,1]]]]},\"properties\":{\"landuse\":\"forest\"}}\n]}\n";
     let header = "{\"type\":\"FeatureCollection\",\"features\":[";
     let cases = [
         (1, Ended::OpenFault, 0, "osmpoly: open fault\n"),
         (2, Ended::ReadFault, 0, "osmpoly: read fault\n"),
         (5, Ended::WriteFault, 0, "osmpoly: write fault\n"),
         (6, Ended::WriteFault, header.len(), "osmpoly: write fault\n"),
-        (7, Ended::WriteFault, whole.len() - 4, "osmpoly: write fault\n"),
+        (
+            7,
+            Ended::WriteFault,
+            whole.len() - 4,
+            "osmpoly: write fault\n",
+        ),
         (8, Ended::Done, whole.len(), ""),
     ];
     for (fail, ended, len, report) in cases {

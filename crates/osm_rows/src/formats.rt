@@ -7,7 +7,8 @@ use std::test::Fail;
 const NOTHING: &str = "{\"type\":\"FeatureCollection\",\"features\":[\n]}\n";
 
 // As a tool that writes OPL gives a village: its boundary and its place.
-const VILLAGE: &str = "n1 v1 dV c11 t2020-01-01T00:00:00Z i7 uAnna%20%B T x10 y50\nn2 v1 dV c11 t2020-01-01T00:00:00Z i7 uAnna%20%B T x10.1 y50\nn3 v1 dV c11 t2020-01-01T00:00:00Z i7 uAnna%20%B T x10.1 y50.1\nn4 v1 dV c11 t2020-01-01T00:00:00Z i7 uAnna%20%B T x10 y50.1\nn8 v2 dD c12 t2020-01-03T00:00:00Z i7 uAnna%20%B T x y\nn9 v1 dV c11 t2020-01-01T00:00:00Z i7 uAnna%20%B Tplace=village x10.05 y50.05\nw1 v2 dV c12 t2020-01-03T00:00:00Z i7 uAnna%20%B T Nn1,n2,n3\nw2 v1 dV c11 t2020-01-01T00:00:00Z i7 uAnna%20%B T Nn1,n4,n3\nr1 v4 dV c12 t2020-01-03T00:00:00Z i7 uAnna%20%B Ttype=boundary,boundary=administrative,admin_level=8 Mw1@outer,w2@outer,n9@label\n";
+const VILLAGE: &str =
+    "n1 v1 dV c11 t2020-01-01T00:00:00Z i7 uAnna%20%B T x10 y50\nn2 v1 dV c11 t2020-01-01T00:00:00Z i7 uAnna%20%B T x10.1 y50\nn3 v1 dV c11 t2020-01-01T00:00:00Z i7 uAnna%20%B T x10.1 y50.1\nn4 v1 dV c11 t2020-01-01T00:00:00Z i7 uAnna%20%B T x10 y50.1\nn8 v2 dD c12 t2020-01-03T00:00:00Z i7 uAnna%20%B T x y\nn9 v1 dV c11 t2020-01-01T00:00:00Z i7 uAnna%20%B Tplace=village x10.05 y50.05\nw1 v2 dV c12 t2020-01-03T00:00:00Z i7 uAnna%20%B T Nn1,n2,n3\nw2 v1 dV c11 t2020-01-01T00:00:00Z i7 uAnna%20%B T Nn1,n4,n3\nr1 v4 dV c12 t2020-01-03T00:00:00Z i7 uAnna%20%B Ttype=boundary,boundary=administrative,admin_level=8 Mw1@outer,w2@outer,n9@label\n";
 
 #[test]
 fn without_candidates_header_and_footer_alone_are_written(rt: HostRuntime) -> Result<(), Fail> {
@@ -56,7 +57,8 @@ fn areas_have_their_ids(rt: HostRuntime) -> Result<(), Fail> {
 #[test]
 fn a_village_is_a_sequence_of_one_feature(rt: HostRuntime) -> Result<(), Fail> {
     let alloc = rt.alloc();
-    let feature = "{\"type\":\"Feature\",\"id\":1,\"geometry\":{\"type\":\"MultiPolygon\",\"coordinates\":[[[[10,50],[10.1,50],[10.1,50.1],[10,50.1],[10,50]]]]},\"properties\":{\"admin_level\":\"8\",\"boundary\":\"administrative\"}}\n";
+    let feature =
+        "{\"type\":\"Feature\",\"id\":1,\"geometry\":{\"type\":\"MultiPolygon\",\"coordinates\":[[[[10,50],[10.1,50],[10.1,50.1],[10,50.1],[10,50]]]]},\"properties\":{\"admin_level\":\"8\",\"boundary\":\"administrative\"}}\n";
     let got = run_over(alloc, "export -f geojsonseq -r -u counter -", VILLAGE, 0)?;
     assert_eq!(rt; got.ended, Ended::Done);
     assert_eq!(rt; got.out.as_str(), feature);
@@ -98,7 +100,8 @@ fn features_are_counted_and_parted(rt: HostRuntime) -> Result<(), Fail> {
 
 #[test]
 fn a_name_is_escaped(rt: HostRuntime) -> Result<(), Fail> {
-    let input = "n1 x0 y0\nn2 x1 y0\nn3 x1 y1\nn4 x0 y1\nw7 Tname=Hütte,building=yes Nn1,n2,n3,n4,n1\n";
+    let input =
+        "n1 x0 y0\nn2 x1 y0\nn3 x1 y1\nn4 x0 y1\nw7 Tname=Hütte,building=yes Nn1,n2,n3,n4,n1\n";
     let got = run_over(rt.alloc(), "export -f text -", input, 0)?;
     assert_eq!(rt; got.ended, Ended::Done);
     assert_eq!(rt;

@@ -5,10 +5,12 @@ use osm_host::MemoryHost;
 use std::alloc::{AllocError, Global};
 
 /// A square.
-pub(crate) const SQUARE: &str = "n1 x0 y0\nn2 x1 y0\nn3 x1 y1\nn4 x0 y1\nw7 Tbuilding=yes Nn1,n4,n3,n2,n1\n";
+pub(crate) const SQUARE: &str =
+    "n1 x0 y0\nn2 x1 y0\nn3 x1 y1\nn4 x0 y1\nw7 Tbuilding=yes Nn1,n4,n3,n2,n1\n";
 
 /// A square with a hole, of two ways.
-pub(crate) const HOLE: &str = "n1 x0 y0\nn2 x4 y0\nn3 x4 y4\nn4 x0 y4\nn5 x1 y1\nn6 x2 y1\nn7 x2 y2\nn8 x1 y2\nw1 Nn1,n2,n3,n4,n1\nw2 Nn5,n6,n7,n8,n5\nr5 Ttype=multipolygon,landuse=forest Mw1@outer,w2@inner\n";
+pub(crate) const HOLE: &str =
+    "n1 x0 y0\nn2 x4 y0\nn3 x4 y4\nn4 x0 y4\nn5 x1 y1\nn6 x2 y1\nn7 x2 y2\nn8 x1 y2\nw1 Nn1,n2,n3,n4,n1\nw2 Nn5,n6,n7,n8,n5\nr5 Ttype=multipolygon,landuse=forest Mw1@outer,w2@inner\n";
 
 /// How a run ended and with which status, and its output and its report.
 #[derive(Debug, Drop)]

@@ -5,7 +5,8 @@ use opl_reader::{ObjectKind, ObjectRef};
 use osm_cli::Ended;
 use std::test::Fail;
 
-const MISSING: &str = "n1 x0 y0\nn2 x1 y0\nw1 Nn1,n2,n4,n1\nr5 Ttype=multipolygon,a=b Mw1@outer,w9@outer\n";
+const MISSING: &str =
+    "n1 x0 y0\nn2 x1 y0\nw1 Nn1,n2,n4,n1\nr5 Ttype=multipolygon,a=b Mw1@outer,w9@outer\n";
 
 #[test]
 fn it_stops_at_the_first_candidate_with_problems(rt: HostRuntime) -> Result<(), Fail> {
@@ -40,7 +41,8 @@ fn it_stops_at_the_first_candidate_with_problems(rt: HostRuntime) -> Result<(), 
 #[test]
 fn it_writes_what_stands_before(rt: HostRuntime) -> Result<(), Fail> {
     let alloc = rt.alloc();
-    let before = "n1 x0 y0\nn2 x1 y0\nn3 x1 y1\nw6 Ta=b Nn1,n2,n3,n1\nw7 Ta=b Nn1,n2,n4,n1\nw8 Ta=b Nn1,n2,n3,n1\n";
+    let before =
+        "n1 x0 y0\nn2 x1 y0\nn3 x1 y1\nw6 Ta=b Nn1,n2,n3,n1\nw7 Ta=b Nn1,n2,n4,n1\nw8 Ta=b Nn1,n2,n3,n1\n";
     let candidate = ObjectRef {
         kind: ObjectKind::Way,
         id: 7,

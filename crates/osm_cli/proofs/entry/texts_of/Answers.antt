@@ -21,8 +21,8 @@ returns-in_ok-push_notes-in-Area c =
     let right : IsOutcome c.args.store.now c.args.candidate (Area c.in-Area.polygons c.in-Area.notes) =
     subst (λ (o : Outcome). IsOutcome c.args.store.now c.args.candidate o) c.in-Area.is c.in_ok-polygons.ensures.outcome in
     area_texts (settings_seen c.args.settings.now) c.args.store.now c.args.earlier c.args.candidate c.in-Area.polygons c.in-Area.notes
-    c.in_ok-feature-in-Area.feature c.push_notes.new.lines (lines_text c.new-lines.result.items) right
-    c.in_ok-feature-in-Area.ensures (ap lines_text c.new-lines.ensures.items) (rw (← c.as_slice.ensures) c.in_ok-push_notes-in-Area.ensures)
+    c.in_ok-text-in-Area.text c.push_notes.new.lines (lines_text c.new-lines.result.items) right
+    c.in_ok-text-in-Area.ensures (ap lines_text c.new-lines.ensures.items) (rw (← c.as_slice.ensures) c.in_ok-push_notes-in-Area.ensures)
 
 pub returns-in_ok-push_notes-in-Problems : goal.returns-in_ok-push_notes-in-Problems
 returns-in_ok-push_notes-in-Problems c =
