@@ -2,6 +2,8 @@
 #![tactic(auto)]
 
 mod area;
+#[cfg(test)]
+mod area_tests;
 mod lists;
 mod member_ways;
 mod missing;
