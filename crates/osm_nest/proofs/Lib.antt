@@ -8,6 +8,7 @@ pub mod Leftmost
 pub mod Listing
 pub mod Nearest
 pub mod NestedRings
+pub mod NestingExists
 pub mod Parting
 pub mod Places
 pub mod RingAnchors

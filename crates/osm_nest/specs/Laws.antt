@@ -1,6 +1,8 @@
 -- What may be nested, as a statement.
 use Rattle.std.specs.Prelude.{All, List}
 use Rattle.osm_geom.specs.declared.edge.Edge.{Edge}
+use Rattle.osm_nest.specs.declared.polygon.Polygon.{Polygon}
+use Rattle.osm_nest.specs.Nested.{AreNested}
 use Rattle.osm_nest.specs.Outer.{AreClear}
 use Rattle.osm_nest.specs.RingLists.{AreRings}
 use Rattle.osm_rings.specs.RingList.{AreRingsOf}
@@ -13,3 +15,7 @@ RingsMayBeNested = (es : List Edge) (rs : List (List Edge)) → AreSidedSegments
 -- of rings to be nested none has a conflict among its own edges, so that each is outer or inner
 abbrev pub RingsAreClear : Type 0
 RingsAreClear = (rs : List (List Edge)) → AreRings rs → All AreClear rs
+
+-- every list of rings to be nested has its polygons in order
+abbrev pub NestingExists : Type 0
+NestingExists = (rs : List (List Edge)) → AreRings rs → (polygons : List Polygon) × AreNested rs polygons

@@ -13,6 +13,6 @@ mod polygon;
 mod tests;
 
 pub use grouping::nest;
-pub use laws::{rings_are_clear, rings_may_be_nested};
+pub use laws::{nesting_exists, rings_are_clear, rings_may_be_nested};
 pub use outer::is_outer;
 pub use polygon::{Polygon, Polygons};

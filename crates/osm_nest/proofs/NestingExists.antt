@@ -1,0 +1,237 @@
+-- Each ring list has its polygons in order: homes, rings begun at their least nodes, and a sorted order of them exist.
+use Rattle.std.proofs.Common.{All, Bool, List, None, Option, Some, [], ap, arith, drop, false, get_or, inl, inr, length, map, refl, subst, suc, sym, take, true, zero, ℕ, ◌+◌, ◌++◌, ◌<◌, ◌∙◌, ◌∷◌, ◌≡◌, ◌≢◌, ◌≤◌}
+use Rattle.std.specs.Cmp.{IsStrictWeakOrder}
+use Rattle.std.specs.List.Sorted.{IsPermutation, IsSortedBy}
+use Rattle.std.specs.Ordering.{is_lt}
+use Rattle.std.specs.declared.cmp.Ordering.{Ordering}
+use Rattle.std.specs.declared.cmp.Ordering.TheVariants.{Equal, Greater, Less}
+use Rattle.std.proofs.lemmas.Cmp.{on_total, then_total}
+use Rattle.std.proofs.lemmas.List.{get_or-map, get_or_default, length-append, length-map, take-append-drop}
+use Rattle.std.proofs.lemmas.List.MinMax.{ranks_by}
+use Rattle.std.proofs.lemmas.List.Sorted.{IsPermutation-append_comm, IsPermutation-append_left, IsPermutation-cons, IsPermutation-refl, IsPermutation-trans}
+use Rattle.nesting.specs.Nesting.{EnclosesDirectly, IsInnerRing}
+use Rattle.nesting.proofs.DirectRings.{encloser_exists, is_outer_by, outer-in, rings-anchors, rings-tell}
+use Rattle.plane.specs.Edge as plane
+use Rattle.winding.specs.Member.{In}
+use Rattle.winding.specs.Ring.{segments_of}
+use Rattle.winding.proofs.Members.{in-map}
+use Rattle.osm_geom.specs.declared.edge.Edge.{Edge}
+use Rattle.osm_geom.specs.Point.{point_cmp}
+use Rattle.osm_geom.proofs.LocationOrder.{loc_total}
+use Rattle.sided.specs.Multiple.{common_den, edge_times, edges_times}
+use Rattle.osm_nest.specs.declared.begun.Begun.{Begun}
+use Rattle.osm_nest.specs.declared.begun.Start.{Start}
+use Rattle.osm_nest.specs.declared.polygon.Polygon.{Polygon}
+use Rattle.osm_nest.specs.Grouped.{AreInTurn, AreListed, IsBegunAt, StartsAt, grouped}
+use Rattle.osm_nest.specs.Homes.{AreHomes, IsHome, segments_at}
+use Rattle.osm_nest.specs.Nested.{AreNested, IsBegun}
+use Rattle.osm_nest.specs.RingLists.{AreRings, all_edges, whole_rings}
+use Rattle.osm_nest.proofs.GroupedRings.{nested}
+use Rattle.osm_nest.proofs.Leftmost.{in-at}
+use Rattle.osm_nest.proofs.Listing.{turned_whole}
+use Rattle.osm_nest.proofs.Places as places
+use Rattle.osm_nest.proofs.Turns.{start_cmp, turns}
+use Rattle.osm_rings.specs.LeastStart.{IsLesserStart}
+use Rattle.osm_rings.specs.PlaneEdge.{IsWholeSegment}
+use Rattle.osm_rings.proofs.LeastStarts.{IsLeastUpTo, least-more, least-start}
+use Rattle.osm_rings.proofs.TurnedRings.{turned-least}
+use Rattle.osm_rings.proofs.Whole.{from-lattice, to-lattice}
+
+-- ---- lists chosen place by place
+chosen : {X : Type 0} (P : ℕ → X → Type 0) (n : ℕ) → ((k : ℕ) → k < n → (x : X) × P k x) → (xs : List X) × (length xs ≡ n) × ((k : ℕ) (d : X) → k < n → P k (get_or xs k d))
+chosen P zero h = ([], refl, λ k d l. absurd (omega arith))
+chosen {X} P (suc n) h =
+    let first = h 0 (omega arith) in
+    let rest = chosen (λ k x. P (suc k) x) n (λ k l. h (suc k) (omega arith)) in
+    (first.0 ∷ rest.0, ap (λ m. suc m) rest.1, each first.0 rest.0 first.1 rest.2)
+  where
+    each : (x : X) (xs : List X) → P 0 x → ((k : ℕ) (d : X) → k < n → P (suc k) (get_or xs k d)) → (k : ℕ) (d : X) → k < suc n → P k (get_or (x ∷ xs) k d)
+    each x xs p ps zero d l = p
+    each x xs p ps (suc k) d l = ps k d (omega arith)
+
+-- ---- a sorted order
+module _ (lt : Begun → Begun → Bool) (order : IsStrictWeakOrder lt) where
+  abbrev put_by : Bool → Begun → Begun → List Begun → List Begun → List Begun
+  put_by true b c cs more = c ∷ more
+  put_by false b c cs more = b ∷ c ∷ cs
+
+  -- b put before the first that isn't less
+  abbrev put_in : Begun → List Begun → List Begun
+  put_in b [] = b ∷ []
+  put_in b (c ∷ cs) = put_by (lt c b) b c cs (put_in b cs)
+
+  abbrev sorted : List Begun → List Begun
+  sorted [] = []
+  sorted (b ∷ bs) = put_in b (sorted bs)
+
+  put-moves : (t : Bool) (b c : Begun) (cs more : List Begun) → IsPermutation (b ∷ cs) more → IsPermutation (b ∷ c ∷ cs) (put_by t b c cs more)
+  put-moves true b c cs more h =
+      IsPermutation-trans (b ∷ c ∷ cs) (c ∷ b ∷ cs) (c ∷ more) (IsPermutation-append_left cs (b ∷ c ∷ []) (c ∷ b ∷ []) (IsPermutation-append_comm (b ∷ []) (c ∷ []))) (IsPermutation-cons c (b ∷ cs) more h)
+  put-moves false b c cs more h = IsPermutation-refl (b ∷ c ∷ cs)
+
+  put-in-moves : (b : Begun) (cs : List Begun) → IsPermutation (b ∷ cs) (put_in b cs)
+  put-in-moves b [] = IsPermutation-refl (b ∷ [])
+  put-in-moves b (c ∷ cs) = put-moves (lt c b) b c cs (put_in b cs) (put-in-moves b cs)
+
+  sorted-moves : (bs : List Begun) → IsPermutation bs (sorted bs)
+  sorted-moves [] = IsPermutation-refl []
+  sorted-moves (b ∷ bs) = IsPermutation-trans (b ∷ bs) (b ∷ sorted bs) (put_in b (sorted bs)) (IsPermutation-cons b bs (sorted bs) (sorted-moves bs)) (put-in-moves b (sorted bs))
+
+  -- the first of a list isn't less than b
+  abbrev Heads : Begun → List Begun → Type 0
+  Heads b [] = Unit {0}
+  Heads b (c ∷ cs) = lt c b ≡ false
+
+  abbrev Rises : List Begun → Type 0
+  Rises [] = Unit {0}
+  Rises (b ∷ bs) = Heads b bs × Rises bs
+
+  put-heads : (a b : Begun) (cs : List Begun) → lt b a ≡ false → Heads a cs → Heads a (put_in b cs)
+  put-heads a b [] h k = h
+  put-heads a b (c ∷ cs) h k = by (lt c b)
+    where
+      by : (t : Bool) → Heads a (put_by t b c cs (put_in b cs))
+      by true = k
+      by false = h
+
+  put-up : (b c : Begun) (cs : List Begun) (t : Bool) → lt c b ≡ t → Rises (c ∷ cs) → Rises (put_in b cs) → Rises (put_by t b c cs (put_in b cs))
+  put-up b c cs true e h more = (put-heads c b cs (order.one_way c b e) h.0, more)
+  put-up b c cs false e h more = (e, h)
+
+  put-rises : (b : Begun) (cs : List Begun) → Rises cs → Rises (put_in b cs)
+  put-rises b [] h = (tt, tt)
+  put-rises b (c ∷ cs) h = put-up b c cs (lt c b) refl h (put-rises b cs h.1)
+
+  sorted-rises : (bs : List Begun) → Rises (sorted bs)
+  sorted-rises [] = tt
+  sorted-rises (b ∷ bs) = put-rises b (sorted bs) (sorted-rises bs)
+
+  rises-sorted : (bs : List Begun) → Rises bs → IsSortedBy lt bs
+  rises-sorted [] h = λ k d l m. absurd (omega arith)
+  rises-sorted (b ∷ bs) h = by bs h.0 (rises-sorted bs h.1)
+    where
+      by : (bs : List Begun) → Heads b bs → IsSortedBy lt bs → IsSortedBy lt (b ∷ bs)
+      by [] h up k d l m = absurd (omega arith)
+      by (c ∷ cs) h up zero d l m = h
+      by (c ∷ cs) h up (suc k) d l m =
+          let one : suc k + 1 ≡ suc (k + 1) = omega arith in
+          subst (λ n. lt (get_or (b ∷ c ∷ cs) n d) (get_or (c ∷ cs) k d) ≡ false) (sym one) (up k d (omega arith) (omega arith))
+
+  sorted-order : (bs : List Begun) → IsSortedBy lt (sorted bs)
+  sorted-order bs = rises-sorted (sorted bs) (sorted-rises bs)
+
+-- ---- a ring begun at its least node
+first-of : (es : List Edge) → 0 < length es → (e : Edge) × ((d : Edge) → get_or es 0 d ≡ e)
+first-of [] h = absurd (omega arith)
+first-of (e ∷ es) h = (e, λ d. refl)
+
+lesser-by : (es : List Edge) (i n : ℕ) (e f : Edge) → ((d : Edge) → get_or es i d ≡ e) → ((d : Edge) → get_or es n d ≡ f) → (o : Ordering) → point_cmp f.from e.from ≡ o → (j : ℕ) × IsLesserStart es i n j
+lesser-by es i n e f at_i at_n o is = by o is
+  where
+    same : (d : Edge) → point_cmp (get_or es n d).from (get_or es i d).from ≡ point_cmp f.from e.from
+    same d = ap (λ (x : Edge). point_cmp x.from (get_or es i d).from) (at_n d) ∙ ap (λ (x : Edge). point_cmp f.from x.from) (at_i d)
+
+    by : (o : Ordering) → point_cmp f.from e.from ≡ o → (j : ℕ) × IsLesserStart es i n j
+    by Less is = (n, inl (refl, λ d. same d ∙ is))
+    by Equal is = (i, inr (refl, λ d less. absurd (cc (sym less ∙ (same d ∙ is)))))
+    by Greater is = (i, inr (refl, λ d less. absurd (cc (sym less ∙ (same d ∙ is)))))
+
+least-up-to : (es : List Edge) → 0 < length es → (n : ℕ) → n ≤ length es → (i : ℕ) × IsLeastUpTo es n i
+least-up-to es some zero h = (0, least-start es some)
+least-up-to es some (suc n) h =
+    let before = least-up-to es some n (omega arith) in
+    let d = (first-of es some).0 in
+    let e = get_or es before.0 d in let f = get_or es n d in
+    let next = lesser-by es before.0 n e f (λ x. get_or_default es before.0 x d before.1.inside) (λ x. get_or_default es n x d (omega arith)) (point_cmp f.from e.from) refl in
+    let one : n + 1 ≡ suc n = omega arith in
+    (next.0, subst (λ m. IsLeastUpTo es m next.0) one (least-more es n before.0 next.0 (omega arith) before.1 next.1))
+
+begun-of : (es : List Edge) → 0 < length es → (r : List Edge) × IsBegun es r
+begun-of es some =
+    let n = least-up-to es some (length es) (omega arith) in
+    let least : All (λ e. point_cmp e.from (get_or es n.0 e).from ≢ Less) es = λ k d l.
+    let x = get_or es k d in
+    subst (λ (e : Edge). point_cmp e.from (get_or es n.0 x).from ≢ Less) (get_or_default es k x d l) (n.1.least_of k x l) in (
+      drop n.0 es ++ take n.0 es,
+      record {
+        turned = record { front = take n.0 es; back = drop n.0 es; old = sym (take-append-drop n.0 es); new = refl };
+        least = turned-least es n.0 n.1.inside least;
+      },
+    )
+
+start-of : (r : List Edge) → 0 < length r → All IsWholeSegment r → (s : Start) × StartsAt r s
+start-of r some whole =
+    let e = first-of r some in
+    let w = subst IsWholeSegment (e.1 e.0) (whole 0 e.0 some) in
+    let p = from-lattice e.0 w in let q = to-lattice e.0 w in (
+      record { from = p.0; to = q.0 },
+      record {
+        from = λ d. ap (λ (x : Edge). x.from) (e.1 d) ∙ p.1;
+        to = λ d. ap (λ (x : Edge). x.to) (e.1 d) ∙ q.1;
+      },
+    )
+
+begun-at : (es : List Edge) (place : ℕ) → 0 < length es → All IsWholeSegment es → (b : Begun) × IsBegunAt es place b
+begun-at es place some whole =
+    let r = begun-of es some in
+    let t = r.1.turned in
+    let long : 0 < length r.0 = let a = ap length t.old in let b = ap length t.new in let c = length-append t.front t.back in let d = length-append t.back t.front in omega arith in
+    let s = start-of r.0 long (turned_whole es r.0 t whole) in
+    (record { start = s.0; place = place; ring = r.0 }, record { here = refl; turned = r.1; starts = s.1 })
+
+-- ---- homes
+module _ (rs : List (List Edge)) (are : AreRings rs) where
+  abbrev k : ℕ
+  k = common_den (all_edges rs)
+
+  abbrev gs : List (List plane.Edge)
+  gs = whole_rings rs
+
+  at-place : (n : ℕ) → n < length rs → In (get_or gs n []) gs
+  at-place n h = let s = length-map rs (edges_times k) in places.in-at gs n [] (omega arith)
+
+  inner-in : (n : ℕ) → n < length rs → is_outer_by gs are.ring_list (segments_at rs n) ≡ false → IsInnerRing (map segments_of gs) (segments_at rs n)
+  inner-in n h e =
+      let i = in-map segments_of gs (get_or gs n []) (at-place n h) in
+      let a = rings-anchors gs are.ring_list (segments_at rs n) i in
+      record { anchor = a.0; anchors = a.1; up = sym (rings-tell gs are.ring_list (segments_at rs n) i a.0 a.1) ∙ e }
+
+  home-by : (n : ℕ) → n < length rs → (b : Bool) → is_outer_by gs are.ring_list (segments_at rs n) ≡ b → (o : Option ℕ) × IsHome rs n o
+  home-by n h true e = (None, outer-in gs are.ring_list (segments_at rs n) (in-map segments_of gs (get_or gs n []) (at-place n h)) e)
+  home-by n h false e =
+      let o = inner-in n h e in
+      let r = encloser_exists gs are.ring_list (get_or gs n []) (at-place n h) o in
+      let p = in-at r.0 gs r.1 in
+      let s = length-map rs (edges_times k) in
+      (Some p.0, (omega arith, o, subst (λ g. EnclosesDirectly (map segments_of gs) (segments_of g) (segments_at rs n)) (sym (p.2 [])) r.2))
+
+  homes-exist : (homes : List (Option ℕ)) × AreHomes rs homes
+  homes-exist =
+      let c = chosen (λ n o. IsHome rs n o) (length rs) (λ n h. home-by n h (is_outer_by gs are.ring_list (segments_at rs n)) refl) in
+      (c.0, record { sized = c.1; right = λ n h. c.2 n None h })
+
+  -- ---- begun rings, in order
+  some-edge : (n : ℕ) → n < length rs → 0 < length (get_or rs n [])
+  some-edge n h =
+      let a = are.ring_list.long (get_or gs n []) (at-place n h) in
+      let b = ap length (get_or-map (edges_times k) rs n [] [] h) in
+      let c = length-map (get_or rs n []) (edge_times k) in omega arith
+
+  listed-exists : (listed : List Begun) × AreListed rs (length rs) listed
+  listed-exists =
+      let c = chosen (λ n b. IsBegunAt (get_or rs n []) n b) (length rs) (λ n h. begun-at (get_or rs n []) n (some-edge n h) (are.whole n [] h)) in
+      (c.0, record { sized = c.1; each = c.2 })
+
+  abbrev before : Begun → Begun → Bool
+  before b c = is_lt (start_cmp b.start c.start)
+
+  before-ranks : IsStrictWeakOrder before
+  before-ranks = ranks_by (then_total (on_total (λ (s : Start). s.from) loc_total) (on_total (λ (s : Start). s.to) loc_total)) (λ (b : Begun). b.start)
+
+  turn-exists : (bs : List Begun) × AreInTurn rs bs
+  turn-exists =
+      let l = listed-exists in
+      (sorted before before-ranks l.0, turns rs are l.0 (sorted before before-ranks l.0) l.1 (sorted-moves before before-ranks l.0) (sorted-order before before-ranks l.0))
+
+  pub nesting_exists : (ps : List Polygon) × AreNested rs ps
+  nesting_exists = let h = homes-exist in let t = turn-exists in (grouped h.0 t.0, nested rs are h.0 h.1 t.0 t.1)
