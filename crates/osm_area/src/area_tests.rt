@@ -96,6 +96,8 @@ fn a_way_in_rings_of_both_kinds(rt: HostRuntime) -> Result<(), Fail> {
     let nodes = "n 1 0 0\nn 2 4 0\nn 3 4 4\nn 4 0 4\nn 5 1 2\nn 6 2 1\nw 7 1 2 3 4 1 5 6 1";
     let rings = "outer 0 0 4 0 4 4 0 4\ninner 0 0 1 2 2 1\n";
     assert_eq!(rt; outcome_of(alloc, nodes, "")?.as_str(), rings);
+    // what a relation calls the way is nothing to the way itself
+    assert_eq!(rt; outcome_of(alloc, nodes, "r 6 inner 7")?.as_str(), rings);
     let inner = format!(in alloc; "{rings}way 7 is inner in an outer ring\n")?;
     assert_eq!(rt;
         outcome_of(alloc, nodes, "r 5 inner 7")?.as_str(),
@@ -121,6 +123,20 @@ n 30 3 3\nn 31 6 3\nn 32 6 6\nn 33 3 6\nw 1 1 2 3 4 1\nw 2 10 11 12 13 10\nw 3 2
     assert_eq!(rt;
         text.as_str(),
         "outer 0 0 9 0 9 9 0 9\ninner 1 1 1 8 8 8 8 1\nouter 2 2 7 2 7 7 2 7\ninner 3 3 3 6 6 6 6 3\n"
+    );
+    Ok(())
+}
+
+#[test]
+fn two_crescents(rt: HostRuntime) -> Result<(), Fail> {
+    let alloc = rt.alloc();
+    let nodes =
+        "n 1 0 0\nn 2 4 0\nn 3 4 2\nn 4 4 4\nn 5 2 4\nn 6 0 4\nn 7 2 2\nn 8 6 2\nn 9 6 6\nn 10 2 6";
+    let ways = "w 1 1 2 3 4 5 6 1\nw 2 7 3 8 9 10 5 7\nr 5 1 2";
+    let text = outcome_of(alloc, nodes, ways)?;
+    assert_eq!(rt;
+        text.as_str(),
+        "outer 0 0 4 0 4 2 2 2 2 4 0 4\nouter 4 2 6 2 6 6 2 6 2 4 4 4\n"
     );
     Ok(())
 }
