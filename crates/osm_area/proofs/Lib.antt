@@ -9,3 +9,6 @@ pub mod AreaLemmas
 pub mod ProblemKinds
 pub mod OutcomeParity
 pub mod OutcomeLemmas
+pub mod RisingLists
+pub mod AreaExists
+pub mod OutcomeExists

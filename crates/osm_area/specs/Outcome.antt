@@ -42,3 +42,7 @@ IsOutcome objects candidate outcome =
 abbrev pub KeepsParity : List Object → ObjectRef → Outcome → Type 0
 KeepsParity objects candidate (outcome.Area polygons notes) = SurvivorsAre (segments_of objects candidate) (λ survivors. HaveParityOf survivors polygons)
 KeepsParity objects candidate (outcome.Problems list notes) = Unit {0}
+
+-- every candidate has an outcome
+abbrev pub OutcomeExists : Type 0
+OutcomeExists = (objects : List Object) (candidate : ObjectRef) → (outcome : Outcome) × IsOutcome objects candidate outcome

@@ -2,6 +2,9 @@
 #![tactic(auto)]
 
 mod area;
+#[cfg(test)]
+mod area_tests;
+mod laws;
 mod lists;
 mod member_ways;
 mod missing;
@@ -16,5 +19,6 @@ mod segments;
 #[cfg(test)]
 mod tests;
 
+pub use laws::outcome_exists;
 pub use lists::{Notes, Problems};
 pub use outcome::{Outcome, assemble};

@@ -196,10 +196,10 @@ fn outcome_text(alloc: Global, outcome: &Outcome) -> Result<String, AllocError> 
     Ok(text)
 }
 
-const SQUARE: &str = "n 1 0 0\nn 2 1 0\nn 3 1 1\nn 4 0 1";
+pub const SQUARE: &str = "n 1 0 0\nn 2 1 0\nn 3 1 1\nn 4 0 1";
 
 /// The outcome of object 5 of these lines, a relation, or of way 7 where there is none.
-fn outcome_of(alloc: Global, nodes: &str, lines: &str) -> Result<String, Fail> {
+pub fn outcome_of(alloc: Global, nodes: &str, lines: &str) -> Result<String, Fail> {
     let mut store = Store::new(alloc);
     add_lines(alloc, &mut store, nodes)?;
     add_lines(alloc, &mut store, lines)?;
