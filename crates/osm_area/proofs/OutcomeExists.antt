@@ -32,6 +32,7 @@ use Rattle.osm_area.specs.Problems.{missing_problem, conflict_problem, odd_probl
 use Rattle.osm_area.specs.Roles.{role_notes}
 use Rattle.osm_area.specs.Segments.{segments_of}
 use Rattle.osm_area.proofs.AreaExists.{area_exists}
+use Rattle.osm_area.proofs.ProblemKinds.{problems_of_kind}
 use Rattle.osm_area.proofs.RisingLists.{picked, rising-picked, count-picked}
 
 -- ---- what is counted
@@ -122,4 +123,6 @@ module _ (whole : DirectedAreWhole) (cut : RingListOfEdgesExists) (fit : RingsMa
   by_missing (r ∷ parts) twice segs roles = (outcome.Problems (map missing_problem (r ∷ parts)) (map named_twice_note twice), (refl, (λ none. cc), refl))
 
   pub exists : OutcomeExists
-  exists objects candidate = by_missing (missing objects candidate) (ways_named_twice objects candidate) (segments_of objects candidate) (role_notes objects candidate)
+  exists objects candidate =
+      let found = by_missing (missing objects candidate) (ways_named_twice objects candidate) (segments_of objects candidate) (role_notes objects candidate) in
+      (found.0, found.1, problems_of_kind objects candidate found.0 found.1)

@@ -1,9 +1,10 @@
 -- What comes of a candidate.
-use Rattle.std.specs.Prelude.{◌≢◌, List, [], ℤ}
+use Rattle.std.specs.Prelude.{All, ◌≢◌, List, [], ℤ}
 use Rattle.osm_geom.specs.declared.seg.Seg.{Seg}
 use Rattle.opl_reader.specs.declared.object.ObjectRef.{ObjectRef}
 use Rattle.opl_reader.specs.declared.object.Object.{Object}
 use Rattle.osm_objects.specs.declared.problem.Note.{Note}
+use Rattle.osm_objects.specs.Problem.{IsOfItsKind}
 use Rattle.osm_objects.specs.declared.problem.Problem.{Problem}
 use Rattle.osm_nest.specs.declared.polygon.Polygon.{Polygon}
 use Rattle.osm_area.specs.declared.outcome.Outcome.{Outcome}
@@ -43,6 +44,6 @@ abbrev pub KeepsParity : List Object → ObjectRef → Outcome → Type 0
 KeepsParity objects candidate (outcome.Area polygons notes) = SurvivorsAre (segments_of objects candidate) (λ survivors. HaveParityOf survivors polygons)
 KeepsParity objects candidate (outcome.Problems list notes) = Unit {0}
 
--- every candidate has an outcome
+-- every candidate has an outcome, whose conflicts are of the kinds that their segments have
 abbrev pub OutcomeExists : Type 0
-OutcomeExists = (objects : List Object) (candidate : ObjectRef) → (outcome : Outcome) × IsOutcome objects candidate outcome
+OutcomeExists = (objects : List Object) (candidate : ObjectRef) → (outcome : Outcome) × IsOutcome objects candidate outcome × All IsOfItsKind (problems_in outcome)
