@@ -13,8 +13,8 @@ use Rattle.osm_area.specs.declared.outcome.Outcome.TheVariants.{Area, Problems}
 use Rattle.osm_area.specs.Outcome.{IsOutcome}
 use Rattle.osm_nest.specs.declared.polygon.Polygon.{Polygon}
 use Rattle.osm_nest.specs.Paths.{paths_of}
-use Rattle.osm_text.specs.declared.feature.FeatureId.{FeatureId}
-use Rattle.osm_text.specs.declared.feature.FeatureId.TheVariants as id
+use Rattle.osm_text.specs.declared.feature_id.FeatureId.{FeatureId}
+use Rattle.osm_text.specs.declared.feature_id.FeatureId.TheVariants as id
 use Rattle.osm_text.specs.Feature.{feature_text}
 use Rattle.osm_text.specs.GeoJson.{feature_json}
 use Rattle.osm_text.specs.Report.{IsProblemLine, note_line}

@@ -10,6 +10,7 @@ ghost use Rattle.osm_nest.specs.Polygons.{rings_of};
 ghost use Rattle.osm_objects.specs.Objects.{object_at};
 ghost use Rattle.osm_objects.specs.Problem.{IsOfItsKind};
 ghost use Rattle.osm_rings.specs.PlaneEdge.{IsWholeSegment};
+ghost use Rattle.osm_text.specs.Lattice.{AreLattice};
 ghost use Rattle.osm_text.specs.Report.{note_line};
 ghost use Rattle.osm_words.specs.Answers.{settings_seen};
 
@@ -18,7 +19,9 @@ use opl_reader::{ObjectRef, Tags};
 use osm_area::{Outcome, assemble};
 use osm_nest::Polygons;
 use osm_objects::{Note, Problem, Store, area_id};
-use osm_text::{FeatureId, feature_json, feature_text, note_line, problem_line};
+use osm_text::{
+    FeatureId, feature_json, feature_text, note_line, problem_line, whole_segments_are_lattice,
+};
 use osm_words::{ExportSettings, Format, UniqueId};
 use std::alloc::{AllocError, Global};
 
@@ -51,7 +54,7 @@ fn feature_in(
     tags: &Tags,
     id: Option<FeatureId>,
 ) -> Result<Vec<u8>, AllocError>
-    requires { All (All IsWholeSegment) (rings_of polygons.now) }
+    requires { AreLattice polygons.now }
     ensures { IfOk result (λ text. text.items ≡ feature_in format id polygons.now tags.now) }
 {
     match format {
@@ -74,6 +77,7 @@ fn feature_of(
     requires room { earlier + 1 ≤ 18_446_744_073_709_551_615 }
     ensures { IfOk result (λ text. text.items ≡ framed (settings_seen settings.now) earlier (feature_in settings.now.format (feature_id settings.now.ids earlier candidate) polygons.now (tags_of (object_at store.now candidate)))) }
 {
+    whole_segments_are_lattice(polygons);
     let tags = store.area_tags(alloc, candidate)?;
     let id = feature_id(settings.ids, earlier, candidate);
     let feature = feature_in(alloc, settings.format, polygons, &tags, id)?;

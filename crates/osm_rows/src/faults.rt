@@ -33,24 +33,25 @@ fn each_write_of_geojson_may_fail(rt: HostRuntime) -> Result<(), Fail> {
     let alloc = rt.alloc();
     let whole =
         "{\"type\":\"FeatureCollection\",\"features\":[\n{\"type\":\"Feature\",\"geometry\":{\"type\":\"MultiPolygon\",\"coordinates\":[[[[0,0],[4,0],[4,4],[0,4],[0,0]],[[1,1],[1,2],[2,2],[2,1],[1,1]]]]},\"properties\":{\"landuse\":\"forest\"}}\n]}\n";
+    let before_footer = whole.strip_suffix("\n]}\n").unwrap_or("");
     let header = "{\"type\":\"FeatureCollection\",\"features\":[";
     let cases = [
-        (1, Ended::OpenFault, 0, "osmpoly: open fault\n"),
-        (2, Ended::ReadFault, 0, "osmpoly: read fault\n"),
-        (5, Ended::WriteFault, 0, "osmpoly: write fault\n"),
-        (6, Ended::WriteFault, header.len(), "osmpoly: write fault\n"),
+        (1, Ended::OpenFault, "", "osmpoly: open fault\n"),
+        (2, Ended::ReadFault, "", "osmpoly: read fault\n"),
+        (5, Ended::WriteFault, "", "osmpoly: write fault\n"),
+        (6, Ended::WriteFault, header, "osmpoly: write fault\n"),
         (
             7,
             Ended::WriteFault,
-            whole.len() - 4,
+            before_footer,
             "osmpoly: write fault\n",
         ),
-        (8, Ended::Done, whole.len(), ""),
+        (8, Ended::Done, whole, ""),
     ];
-    for (fail, ended, len, report) in cases {
+    for (fail, ended, out, report) in cases {
         let got = run_over(alloc, "export -", HOLE, fail)?;
         assert_eq!(rt; got.ended, ended, "{fail}");
-        assert_eq!(rt; whole.get(..len), Some(got.out.as_str()), "{fail}");
+        assert_eq!(rt; got.out.as_str(), out, "{fail}");
         assert_eq!(rt; got.report.as_str(), report, "{fail}");
     }
     Ok(())
