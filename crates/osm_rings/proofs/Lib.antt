@@ -2,6 +2,7 @@ pub mod Clockwise
 pub mod Multiplied
 pub mod Directed
 pub mod FirstMets
+pub mod Halves
 pub mod LeastStarts
 pub mod OrbitWalks
 pub mod Placed

@@ -1,4 +1,4 @@
--- Whole segments: their ends, their directions, and that the plane tells lattice points apart.
+-- The ends of whole segments are lattice points, which the plane tells apart.
 use Rattle.std.proofs.Common.{◌≡◌, pos, ◌*ℤ◌, ◌-ℤ◌, Bool, true, false, cond, refl, sym, ap, subst, ◌∙◌, arith}
 use Rattle.std.proofs.lemmas.Int.{ints}
 use Rattle.plane.specs.Order.{order}
@@ -43,32 +43,3 @@ from-lattice e w = subst IsLattice (sym w.from) (lattice-by w.forward w.segment.
 
 pub to-lattice : (e : Edge) → IsWholeSegment e → IsLattice e.to
 to-lattice e w = subst IsLattice (sym w.to) (lattice-by w.forward w.segment.b w.segment.a)
-
-once : (p : Loc) → scaled_point (pos 1) (whole_of (Lattice p)) ≡ vector_of p
-once p = same_vector (pos 1 *ℤ (p.x *ℤ pos 1)) (pos 1 *ℤ (p.y *ℤ pos 1)) p.x p.y (omega (arith, ints)) (omega (arith, ints))
-
--- lattice points are in the plane's order
-lattice-order : (p q : Loc) → point_order (Lattice p) (Lattice q) ≡ order (vector_of p) (vector_of q)
-lattice-order p q = ap (λ u. order u (scaled_point (pos 1) (whole_of (Lattice q)))) (once p) ∙ ap (λ v. order (vector_of p) v) (once q)
-
--- the direction of what runs along a carrier
-abbrev along : Carrier → Point → Point → Vector
-along c p q = cond (is_plus (point_order p q)) (rising_of c) (opposite (rising_of c))
-
-along-is : (e : Edge) → direction_of e ≡ along e.carrier e.from e.to
-unfolding direction_of
-along-is e = refl
-
-pub back-is : (u v : Vector) → opposite (from_to u v) ≡ from_to v u
-back-is u v = same_vector (pos 0 -ℤ (v.x -ℤ u.x)) (pos 0 -ℤ (v.y -ℤ u.y)) (u.x -ℤ v.x) (u.y -ℤ v.y) (omega (arith, ints)) (omega (arith, ints))
-
-along-by : (s : Seg) (f : Bool) → along (OfSeg s) (cond f (Lattice s.a) (Lattice s.b)) (cond f (Lattice s.b) (Lattice s.a)) ≡ from_to (vector_at (cond f (Lattice s.a) (Lattice s.b))) (vector_at (cond f (Lattice s.b) (Lattice s.a)))
-unfolding step
-along-by s true = ap (λ o. cond (is_plus o) (rising_of (OfSeg s)) (opposite (rising_of (OfSeg s)))) (lattice-order s.a s.b ∙ rising_edge s)
-along-by s false =
-    ap (λ o. cond (is_plus o) (rising_of (OfSeg s)) (opposite (rising_of (OfSeg s)))) (lattice-order s.b s.a ∙ (order-reversed (vector_of s.a) (vector_of s.b) ∙ ap negated (rising_edge s)))
-    ∙ back-is (vector_of s.a) (vector_of s.b)
-
--- a whole segment has the direction from its one end to the other
-pub whole-direction : (e : Edge) → IsWholeSegment e → direction_of e ≡ from_to (vector_at e.from) (vector_at e.to)
-whole-direction e w = along-is e ∙ (rw (w.carrier, w.from, w.to) (along-by w.segment w.forward))

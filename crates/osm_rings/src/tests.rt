@@ -1,5 +1,7 @@
 use super::*;
-use osm_geom::{Edge, Loc, Point, Seg};
+use crate::successors::successors;
+use crate::ways::ways;
+use osm_geom::{Carrier, Edge, Frac, Loc, Part, Point, Seg};
 use osm_segments::{conflicts, odd_nodes, survivors};
 use osm_sides::direct;
 use std::alloc::Global;
@@ -65,6 +67,8 @@ fn rings_of_printed_areas(rt: HostRuntime) -> Result<(), Fail> {
             "two crescents",
             "0,0 4,0 4,2 2,2 2,4 0,4 / 4,2 6,2 6,6 2,6 2,4 4,4",
         ),
+        // The half on the left of x = 4 of a polygon that touches itself at (4, 4).
+        ("broken at a touched node", "0,0 4,0 4,4 / 4,4 4,8 0,8"),
         (
             "three triangles round a node",
             "0,0 4,1 3,3 / 0,0 -1,4 -3,3 / -2,-4 2,-4 0,0",
@@ -82,6 +86,56 @@ fn rings_of_printed_areas(rt: HostRuntime) -> Result<(), Fail> {
             }
             assert!(rt; seen, "{name}");
         }
+    }
+    Ok(())
+}
+
+/// The triangles (0, 0), (1, 1/2), (1, 1) and (1, 1/2), (2, 0), (2, 1), each counterclockwise. One edge lies on x = 1.
+#[tactic(auto, using(crate::proofs::Halves::half_lowest), unfolding(osm_geom::specs::Carrier::is_on))]
+fn touching_triangles() -> [Edge; 6] {
+    let half = Frac { num: 1, den: 2 };
+    let middle = Point::OnVertical {
+        c: 1,
+        y: Part { frac: half },
+    };
+    let (first, last) = (Loc { x: 0, y: 0 }, Loc { x: 2, y: 1 });
+    let (right, left) = (Loc { x: 2, y: 0 }, Loc { x: 0, y: 1 });
+    let top = Loc { x: 1, y: 1 };
+    let rising = Carrier::OfSeg(Seg { a: first, b: last });
+    [
+        Edge {
+            from: Point::Lattice(first),
+            to: middle,
+            carrier: rising,
+        },
+        Edge {
+            from: middle,
+            to: Point::Lattice(top),
+            carrier: Carrier::Vertical(1),
+        },
+        Edge::of(Seg { a: first, b: top }, false),
+        Edge {
+            from: middle,
+            to: Point::Lattice(right),
+            carrier: Carrier::OfSeg(Seg { a: right, b: left }),
+        },
+        Edge::of(Seg { a: right, b: last }, true),
+        Edge {
+            from: Point::Lattice(last),
+            to: middle,
+            carrier: rising,
+        },
+    ]
+}
+
+#[test]
+fn successors_at_fractional_point(rt: HostRuntime) -> Result<(), Fail> {
+    let alloc = rt.alloc();
+    let edges = touching_triangles();
+    let ways = ways(alloc, &edges)?;
+    let next = successors(alloc, &edges, &ways)?;
+    for (place, after) in [1, 2, 0, 4, 5, 3].into_iter().enumerate() {
+        assert_eq!(rt; next.get(place).copied(), Some(Some(after)), "{place}");
     }
     Ok(())
 }
