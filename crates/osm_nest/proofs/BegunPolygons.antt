@@ -1,5 +1,5 @@
 -- Polygons whose rings are begun elsewhere: each is sided, and together they cover what the rings cover.
-use Rattle.std.proofs.Common.{All, List, [], ap, arith, inl, inr, map, not, pos, refl, subst, suc, sym, ℕ, ℤ, ◌%◌, ◌*◌, ◌++◌, ◌+◌, ◌∙◌, ◌∷◌, ◌≡◌, ◌⊎◌}
+use Rattle.std.proofs.Common.{All, List, [], ap, arith, inl, inr, map, not, pos, refl, subst, sym, ℕ, ℤ, ◌%◌, ◌++◌, ◌+◌, ◌∙◌, ◌∷◌, ◌≡◌, ◌≤◌, ◌⊎◌}
 use Rattle.std.specs.List.{count_by}
 use Rattle.std.proofs.lemmas.List.{map-append}
 use Rattle.nesting.specs.Cover.{covers}
@@ -21,8 +21,7 @@ use Rattle.winding.specs.EdgeList.{crossing_count}
 use Rattle.winding.specs.Member.{In}
 use Rattle.winding.specs.Parity.{is_even}
 use Rattle.winding.specs.ScaledEdges.{scaled_edges}
-use Rattle.winding.specs.Sided as winding
-use Rattle.winding.proofs.Members.{all-in, in-all, in-left, in-map-out, in-right}
+use Rattle.winding.proofs.Members.{all-either, all-in, in-all, in-either, in-left, in-map-out, in-right}
 use Rattle.winding.proofs.Sums.{total, total-++, total-is, total-map}
 use Rattle.osm_geom.specs.declared.edge.Edge.{Edge}
 use Rattle.osm_geom.specs.Point.{den_of}
@@ -31,37 +30,11 @@ use Rattle.osm_nest.specs.Cover.{AreSided, covers_at}
 use Rattle.osm_nest.specs.Nested.{AreBegun, ArePolygonsBegun, ArePolygonsOf, IsPolygonBegun}
 use Rattle.osm_nest.specs.Polygons.{edges_in, polygon_times, rings_in, rings_of}
 use Rattle.osm_nest.specs.RingLists.{AreRings, all_edges, whole_rings}
-use Rattle.osm_rings.specs.PlaneEdge.{IsWholeSegment}
 use Rattle.osm_rings.specs.Turned.{IsTurned}
-use Rattle.osm_rings.specs.Ways.{IsLattice}
-use Rattle.osm_rings.proofs.Whole.{from-lattice, to-lattice}
-use Rattle.sided.specs.Multiple.{common_den, edge_times, edges_times}
-use Rattle.sided.specs.Sided.{count_at}
-
--- ---- whole segments have the common denominator 1
-den-one : (p : _) → IsLattice p → den_of p ≡ 1
-den-one p (q, is) = ap den_of is
-
-pub common-one : (es : List Edge) → All IsWholeSegment es → common_den es ≡ 1
-common-one [] whole = refl
-common-one (e ∷ es) whole =
-    let w = whole 0 e (omega arith) in
-    let a = den-one e.from (from-lattice e w) in
-    let b = den-one e.to (to-lattice e w) in
-    let c = common-one es (λ k d h. whole (suc k) d (omega arith)) in
-    ap (λ n. n * den_of e.to * common_den es) a ∙ (ap (λ n. 1 * n * common_den es) b ∙ ap (λ n. 1 * 1 * n) c)
-
-pub all-whole : (rs : List (List Edge)) → ((r : List Edge) → In r rs → All IsWholeSegment r) → All IsWholeSegment (all_edges rs)
-all-whole rs h = all-in IsWholeSegment (all_edges rs) (λ e i. by rs h e i)
-  where
-    either : (r : List Edge) (rs : List (List Edge)) → All IsWholeSegment r → ((e : Edge) → In e (all_edges rs) → IsWholeSegment e) → (e : Edge) → In e (r ++ all_edges rs) → IsWholeSegment e
-    either [] rs w k e i = k e i
-    either (x ∷ r) rs w k e (inl q) = subst IsWholeSegment (sym q) (w 0 x (omega arith))
-    either (x ∷ r) rs w k e (inr i) = either r rs (λ n d l. w (suc n) d (omega arith)) k e i
-
-    by : (rs : List (List Edge)) → ((r : List Edge) → In r rs → All IsWholeSegment r) → (e : Edge) → In e (all_edges rs) → IsWholeSegment e
-    by [] h e i = absurd i
-    by (r ∷ rs) h e i = either r rs (h r (inl refl)) (by rs (λ s j. h s (inr j))) e i
+use Prim.Native.Nat.{◌∣◌}
+use Rattle.sided.specs.Multiple.{IsCommon, IsWholeAt, common_den, edge_times, edges_times}
+use Rattle.sided.specs.Sided.{IsSided, count_at}
+use Rattle.sided.proofs.Commons.{common_is_common, count_at_each, sided_at_each}
 
 -- ---- sums over edges in the multiplied plane
 module _ (k : ℕ) where
@@ -121,24 +94,36 @@ pub rings-total : (F : List Edge → ℕ) (ps : List Polygon) → total F (rings
 rings-total F [] = refl
 rings-total F (p ∷ ps) = let a = total-++ F (rings_in p) (rings_of ps) in let b = rings-total F ps in omega arith
 
-module _ (rs : List (List Edge)) (are : AreRings rs) (ps bs : List Polygon) (of : ArePolygonsOf rs ps) (begun : ArePolygonsBegun ps bs) (whole : All (All IsWholeSegment) (rings_of bs)) where
+module _ (rs : List (List Edge)) (are : AreRings rs) (ps bs : List Polygon) (of : ArePolygonsOf rs ps) (begun : ArePolygonsBegun ps bs) (whole : All (All (IsWholeAt (common_den (all_edges rs)))) (rings_of bs)) where
   abbrev k : ℕ
   k = common_den (all_edges rs)
 
-  one : k ≡ 1
-  one = common-one (all_edges rs) (all-whole rs (λ r i. in-all (All IsWholeSegment) rs r are.whole i))
+  some : 1 ≤ k
+  some = (common_is_common (all_edges rs)).some
 
-  one-in : (b : Polygon) → In b bs → common_den (edges_in b) ≡ k
-  one-in b i = common-one (edges_in b) (all-whole (rings_in b) (λ r j. in-all (All IsWholeSegment) (rings_of bs) r whole (in-rings bs b r i j))) ∙ sym one
+  edge-whole : (xs : List (List Edge)) → ((r : List Edge) → In r xs → All (IsWholeAt k) r) → (e : Edge) → In e (all_edges xs) → IsWholeAt k e
+  edge-whole [] h e i = absurd i
+  edge-whole (x ∷ xs) h e i =
+      all-either (IsWholeAt k) x (all_edges xs) e (λ y j. in-all (IsWholeAt k) x y (h x (inl refl)) j) (λ y j. edge-whole xs (λ r l. h r (inr l)) y j) (in-either x (all_edges xs) e i)
+
+  -- the common denominator is a common multiple of each polygon's edges
+  common-in : (b : Polygon) → In b bs → IsCommon k (edges_in b)
+  common-in b i =
+      let w = edge-whole (rings_in b) (λ r j. in-all (All (IsWholeAt k)) (rings_of bs) r whole (in-rings bs b r i j)) in
+      record {
+        some = some;
+        froms = all-in (λ (e : Edge). den_of e.from ∣ k) (edges_in b) (λ e j. (w e j).first);
+        tos = all-in (λ (e : Edge). den_of e.to ∣ k) (edges_in b) (λ e j. (w e j).second);
+      }
 
   each : (g : Polygon) → In g ps → IsPolygon (whole_rings rs) (polygon_times k g)
   each g i = in-all (λ (g : Polygon). IsPolygon (whole_rings rs) (polygon_times k g)) ps g of.each i
 
   pub sided_begun : AreSided bs
-  sided_begun = all-in (λ (b : Polygon). winding.IsSided (edges_times (common_den (edges_in b)) (edges_in b))) bs (λ b i.
+  sided_begun = all-in (λ (b : Polygon). IsSided (edges_in b)) bs (λ b i.
       let w = was ps bs begun b i in
       let s = polygon_sided (whole_rings rs) are.ring_list (polygon_times k w.0) (each w.0 w.1) in
-      subst (λ n. winding.IsSided (edges_times n (edges_in b))) (sym (one-in b i))
+      (sided_at_each k (edges_in b) (common-in b i)).1
       (sided_same (polygon_edges (polygon_times k w.0)) s (edges_times k (edges_in b)) (polygon-same k w.0 b w.2)))
 
   abbrev planes : List nesting.Polygon
@@ -169,7 +154,7 @@ module _ (rs : List (List Edge)) (are : AreRings rs) (ps bs : List Polygon) (of 
 
     count-begun : (g b : Polygon) → In b bs → IsPolygonBegun g b → count_at q p (edges_in b) ≡ crossing_count east at_k (scaled_edges q (polygon_edges (polygon_times k g)))
     count-begun g b i is =
-        ap (λ n. crossing_count east (scaled_point (pos n) p) (scaled_edges q (edges_times n (edges_in b)))) (one-in b i)
+        count_at_each k (edges_in b) (common-in b i) q p
         ∙ crossing-same q at_k (edges_times k (edges_in b)) (polygon_edges (polygon_times k g)) (polygon-same k g b is)
 
     abbrev covered : nesting.Polygon → ℕ

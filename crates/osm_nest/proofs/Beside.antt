@@ -1,69 +1,67 @@
--- Edges right of an anchor: the code's tests, and the order of these edges.
-use Rattle.std.proofs.Common.{◌≡◌, true, false, ◌&&◌, refl, sym, ap, ◌∙◌}
+-- Edges right of an anchor in the plane's words, and the order of these edges.
+use Rattle.std.proofs.Common.{◌≡◌, inl, inr, true, false, ◌&&◌, ℕ, List, [], ◌∷◌, refl, sym, ap, ◌∙◌}
 use Rattle.std.specs.Ordering.{is_lt}
-use Rattle.plane.specs.Edge as plane
-use Rattle.plane.specs.Height.{is_in_span, order_above}
-use Rattle.plane.specs.Sign.{Minus, Null, Plus, Sign, is_plus}
+use Rattle.plane.specs.Height.{is_in_span, is_right_above, order_above}
+use Rattle.plane.specs.Sign.{is_plus}
 use Rattle.plane.proofs.Bools.{and-left, false-if-never}
 use Rattle.plane.proofs.Heights.{right_chain, right_itself}
 use Rattle.osm_geom.specs.declared.edge.Edge.{Edge}
 use Rattle.osm_geom.specs.JustAbove.{just_above_cmp}
-use Rattle.osm_geom.specs.OrderLaws.{ordering_of}
-use Rattle.osm_geom.specs.Seg.{edge_of}
 use Rattle.osm_geom.specs.Span.{lower_end, spans}
-use Rattle.osm_nest.specs.Beside.{IsRight, IsSloping, is_nearer, is_right_of}
-use Rattle.osm_nest.specs.Leftmost.{segment_along}
-use Rattle.osm_nest.proofs.InPlane.{lower-is, segment-is}
-use Rattle.osm_nest.proofs.WholeHeights.{above-is, spans-is}
-use Rattle.osm_rings.specs.PlaneEdge.{IsWholeSegment}
+use Rattle.sided.specs.Multiple.{IsWholeAt, common_den}
+use Rattle.osm_nest.specs.Beside.{IsRight, is_nearer, is_right_of}
+use Rattle.osm_nest.proofs.InPlane.{above-at, segment_at, spans-at, whole-at}
 
-lt-plus : (s : Sign) → is_lt (ordering_of s) ≡ is_plus s
-lt-plus Plus = refl
-lt-plus Null = refl
-lt-plus Minus = refl
-
--- at the lower end of a whole segment, in the plane's words
-pub spans-along : (a f : Edge) → IsWholeSegment a → IsWholeSegment f → spans f (lower_end a) ≡ is_in_span (segment_along a).from (segment_along f)
-spans-along a f w v =
-    ap (spans f) (lower-is a w) ∙ spans-is f v w.segment.a
-    ∙ ap (λ (u : plane.Edge). is_in_span (edge_of w.segment).from u) (sym (segment-is f v))
-    ∙ ap (λ (u : plane.Edge). is_in_span u.from (segment_along f)) (sym (segment-is a w))
-
-above-along : (a f g : Edge) → IsWholeSegment a → IsWholeSegment f → IsWholeSegment g → is_lt (just_above_cmp f g (lower_end a)) ≡ is_plus (order_above (segment_along a).from (segment_along f) (segment_along g))
-above-along a f g w v u =
-    ap (λ p. is_lt (just_above_cmp f g p)) (lower-is a w)
-    ∙ ap is_lt (above-is f g v u w.segment.a) ∙ lt-plus (order_above (edge_of w.segment).from (edge_of v.segment) (edge_of u.segment))
-    ∙ ap (λ (s : plane.Edge). is_plus (order_above (edge_of w.segment).from s (edge_of u.segment))) (sym (segment-is f v))
-    ∙ ap (λ (s : plane.Edge). is_plus (order_above (edge_of w.segment).from (segment_along f) s)) (sym (segment-is g u))
-    ∙ ap (λ (s : plane.Edge). is_plus (order_above s.from (segment_along f) (segment_along g))) (sym (segment-is a w))
-
-pub right_is : (a f : Edge) → IsSloping a → IsWholeSegment f → is_right_of a f ≡ (spans f (lower_end a) && is_lt (just_above_cmp a f (lower_end a)))
+pub right-at : (k : ℕ) (a f : Edge) → IsWholeAt k a → IsWholeAt k f → is_right_of a f ≡ is_right_above (segment_at k a).from (segment_at k a) (segment_at k f)
 unfolding is_right_of
-right_is a f s v =
-    ap (λ b. b && is_plus (order_above (segment_along a).from (segment_along a) (segment_along f))) (sym (spans-along a f s.whole v))
-    ∙ ap (λ b. spans f (lower_end a) && b) (sym (above-along a a f s.whole s.whole v))
+right-at k a f w v =
+    ap (λ b. b && is_lt (just_above_cmp a f (lower_end a))) (spans-at k a f w v)
+    ∙ ap (λ b. is_in_span (segment_at k a).from (segment_at k f) && b) (above-at k a a f w w v)
 
-pub nearer_is : (a f g : Edge) → IsSloping a → IsRight a f → IsRight a g → is_nearer a f g ≡ is_lt (just_above_cmp f g (lower_end a))
+pub nearer-at : (k : ℕ) (a f g : Edge) → IsWholeAt k a → IsWholeAt k f → IsWholeAt k g → is_nearer a f g ≡ is_plus (order_above (segment_at k a).from (segment_at k f) (segment_at k g))
 unfolding is_nearer
-nearer_is a f g s v u = sym (above-along a f g s.whole v.whole u.whole)
+nearer-at k a f g w v u = above-at k a f g w v u
 
 -- an edge right of the anchor spans its lower end
-pub right_spans : (a f : Edge) → IsSloping a → IsRight a f → spans f (lower_end a) ≡ true
-right_spans a f s v = and-left (spans f (lower_end a)) (is_lt (just_above_cmp a f (lower_end a))) (sym (right_is a f s v.whole) ∙ v.right)
+pub right_spans : (a f : Edge) → IsRight a f → spans f (lower_end a) ≡ true
+unfolding is_right_of
+right_spans a f right = and-left (spans f (lower_end a)) (is_lt (just_above_cmp a f (lower_end a))) right
 
 -- ---- the order
-span-of : (a f : Edge) → is_right_of a f ≡ true → is_in_span (segment_along a).from (segment_along f) ≡ true
-unfolding is_right_of
-span-of a f h = and-left _ (is_plus (order_above (segment_along a).from (segment_along a) (segment_along f))) h
+module _ (a f g h : Edge) where
+  abbrev four : List Edge
+  four = a ∷ f ∷ g ∷ h ∷ []
 
--- of edges right of a: f is nearer than g, and g than h, so f than h
-pub nearer-chain : (a f g h : Edge) → is_right_of a f ≡ true → is_right_of a g ≡ true → is_right_of a h ≡ true → is_nearer a f g ≡ true → is_nearer a g h ≡ true → is_nearer a f h ≡ true
-unfolding is_nearer
-nearer-chain a f g h rf rg rh m n = right_chain (segment_along a).from (segment_along f) (segment_along g) (segment_along h) (span-of a f rf) (span-of a g rg) (span-of a h rh) m n
+  abbrev k : ℕ
+  k = common_den four
+
+  w_a : IsWholeAt k a
+  w_a = whole-at four a (inl refl)
+
+  w_f : IsWholeAt k f
+  w_f = whole-at four f (inr (inl refl))
+
+  w_g : IsWholeAt k g
+  w_g = whole-at four g (inr (inr (inl refl)))
+
+  w_h : IsWholeAt k h
+  w_h = whole-at four h (inr (inr (inr (inl refl))))
+
+  span-of : (x : Edge) → IsWholeAt k x → is_right_of a x ≡ true → is_in_span (segment_at k a).from (segment_at k x) ≡ true
+  span-of x w r = and-left _ (is_plus (order_above (segment_at k a).from (segment_at k a) (segment_at k x))) (sym (right-at k a x w_a w) ∙ r)
+
+  -- of edges right of a: f is nearer than g, and g than h, so f than h
+  pub nearer-chain : is_right_of a f ≡ true → is_right_of a g ≡ true → is_right_of a h ≡ true → is_nearer a f g ≡ true → is_nearer a g h ≡ true → is_nearer a f h ≡ true
+  nearer-chain rf rg rh m n =
+      nearer-at k a f h w_a w_f w_h
+      ∙ right_chain (segment_at k a).from (segment_at k f) (segment_at k g) (segment_at k h) (span-of f w_f rf) (span-of g w_g rg) (span-of h w_h rh)
+      (sym (nearer-at k a f g w_a w_f w_g) ∙ m) (sym (nearer-at k a g h w_a w_g w_h) ∙ n)
 
 pub not-nearer-itself : (a f : Edge) → is_nearer a f f ≡ false
-unfolding is_nearer
-not-nearer-itself a f = right_itself (segment_along a).from (segment_along f)
+not-nearer-itself a f =
+    let k = common_den (a ∷ f ∷ []) in
+    let v = whole-at (a ∷ f ∷ []) f (inr (inl refl)) in
+    nearer-at k a f f (whole-at (a ∷ f ∷ []) a (inl refl)) v v ∙ right_itself (segment_at k a).from (segment_at k f)
 
 -- what isn't nearer than g isn't nearer than what is nearer than g
 pub not-nearer : (a f g h : Edge) → is_right_of a f ≡ true → is_right_of a g ≡ true → is_right_of a h ≡ true → is_nearer a f g ≡ false → is_nearer a h g ≡ true → is_nearer a f h ≡ false

@@ -20,50 +20,36 @@ use Rattle.winding.specs.Member.{In}
 use Rattle.winding.specs.Parity.{is_even}
 use Rattle.winding.specs.Ring.{IsAnchor, segments_of}
 use Rattle.winding.proofs.Anchors.{anchor_one, anchor_span}
-use Rattle.winding.proofs.Members.{in-map, in-map-out}
+use Rattle.winding.proofs.Members.{in-map, in-map-out, total-same}
 use Rattle.winding.proofs.RingCounts.{ring-even}
 use Rattle.winding.proofs.ScaledLists.{map-map}
 use Rattle.winding.proofs.Sums.{total-is, total-map}
 use Rattle.osm_geom.specs.declared.edge.Edge.{Edge}
 use Rattle.osm_geom.specs.Edge.{runs_up}
-use Rattle.sided.specs.Multiple.{edges_times}
+use Rattle.sided.specs.Multiple.{IsWholeAt, common_den, edge_times, edges_times}
+use Rattle.sided.proofs.MultipliedEdges.{rises_alike}
 use Rattle.osm_nest.specs.declared.homes.Candidate.{Candidate}
 use Rattle.osm_nest.specs.Beside.{IsCandidate, IsNearestUpTo, IsSloping, is_around, is_nearer, is_right_of}
 use Rattle.osm_nest.specs.Homes.{segments_at}
-use Rattle.osm_nest.specs.Leftmost.{segment_along}
 use Rattle.osm_nest.specs.Outer.{AreClear, IsAnchorOf, IsInner, IsOuter}
-use Rattle.osm_nest.specs.RingLists.{AreRings, whole_rings}
-use Rattle.osm_nest.proofs.Beside.{spans-along}
-use Rattle.osm_nest.proofs.InPlane.{rings-once, rising-is, whole-is}
-use Rattle.osm_nest.proofs.Leftmost.{at-in, in-at, segments_along}
+use Rattle.osm_nest.specs.RingLists.{AreRings, all_edges, whole_rings}
+use Rattle.osm_nest.proofs.Beside.{nearer-at, right-at}
+use Rattle.osm_nest.proofs.Further.{all-edges-in, anchor-further, anchor-nearer, part, plain-nearer}
+use Rattle.osm_nest.proofs.InPlane.{segment_at, segments_times, spans-at, whole-at}
+use Rattle.osm_nest.proofs.Leftmost.{at-in, in-at}
 use Rattle.osm_nest.proofs.Nearest.{nearer-either}
-use Rattle.osm_nest.proofs.NestedRings.{rings-one}
-use Rattle.osm_nest.proofs.RingAnchors.{anchor-along, anchor-of, plain-along, whole-in}
-use Rattle.osm_rings.specs.PlaneEdge.{IsWholeSegment, plane_edge}
+use Rattle.osm_nest.proofs.RingAnchors.{anchor-along, anchor-of, segments-are}
 
 clash : (b : Bool) → b ≡ true → b ≡ false → ⊥
 clash b h k = cc
 
-nearer-plus : (a f g : Edge) → is_nearer a f g ≡ is_plus (order_above (segment_along a).from (segment_along f) (segment_along g))
-unfolding is_nearer
-nearer-plus a f g = refl
-
-right-above : (a f : Edge) → is_right_of a f ≡ is_right_above (segment_along a).from (segment_along a) (segment_along f)
-unfolding is_right_of
-right-above a f = refl
-
--- as many edges are right of a as of their segments
-right-count : (a : Edge) (r : List Edge) → count_by (is_right_above (segment_along a).from (segment_along a)) (segments_along r) ≡ count_by (is_right_of a) r
-unfolding is_right_of
-right-count a r =
-    sym (total-is (λ t. bit (is_right_above (segment_along a).from (segment_along a) t)) (segments_along r))
-    ∙ total-map (λ t. bit (is_right_above (segment_along a).from (segment_along a) t)) segment_along r
-    ∙ total-is (λ t. bit (is_right_above (segment_along a).from (segment_along a) (segment_along t))) r
-
 module _ (rs : List (List Edge)) (are : AreRings rs) where
-  -- the rings in the plane as it stands
+  abbrev K : ℕ
+  K = common_den (all_edges rs)
+
+  -- the rings in the multiplied plane
   abbrev in_plane : List (List plane.Edge)
-  in_plane = map (map plane_edge) rs
+  in_plane = whole_rings rs
 
   abbrev nest : List (List plane.Edge)
   nest = map segments_of in_plane
@@ -71,46 +57,59 @@ module _ (rs : List (List Edge)) (are : AreRings rs) where
   abbrev ring : ℕ → List Edge
   ring k = get_or rs k []
 
-  pub plane-is : whole_rings rs ≡ in_plane
-  plane-is = ap (λ k. map (edges_times k) rs) (rings-one rs are.whole) ∙ rings-once rs are.whole
-
   listed : IsRingList in_plane
-  listed = subst IsRingList plane-is are.ring_list
+  listed = are.ring_list
 
   sized : length in_plane ≡ length rs
-  sized = length-map rs (map plane_edge)
+  sized = length-map rs (edges_times K)
 
-  ring-at : (k : ℕ) → k < length rs → get_or in_plane k [] ≡ map plane_edge (ring k)
-  ring-at k h = get_or-map (map plane_edge) rs k [] [] h
+  ring-at : (k : ℕ) → k < length rs → get_or in_plane k [] ≡ edges_times K (ring k)
+  ring-at k h = get_or-map (edges_times K) rs k [] [] h
 
-  ring-in : (k : ℕ) → k < length rs → In (map plane_edge (ring k)) in_plane
+  ring-in : (k : ℕ) → k < length rs → In (edges_times K (ring k)) in_plane
   ring-in k h = let s = sized in subst (λ r. In r in_plane) (ring-at k h) (at-in in_plane k [] (omega arith))
 
-  along-is : (r : List Edge) → segments_of (map plane_edge r) ≡ segments_along r
-  along-is r = map-map segment_of plane_edge r
+  along-is : (r : List Edge) → segments_of (edges_times K r) ≡ segments_times K r
+  along-is r = map-map segment_of (edge_times K) r
 
   -- the segments of the ring at a place
-  pub segments-at : (k : ℕ) → k < length rs → segments_of (get_or in_plane k []) ≡ segments_along (ring k)
+  pub segments-at : (k : ℕ) → k < length rs → segments_of (get_or in_plane k []) ≡ segments_times K (ring k)
   segments-at k h = ap segments_of (ring-at k h) ∙ along-is (ring k)
 
-  segments-in : (k : ℕ) → k < length rs → In (segments_along (ring k)) nest
-  segments-in k h = subst (λ g. In g nest) (along-is (ring k)) (in-map segments_of in_plane (map plane_edge (ring k)) (ring-in k h))
+  segments-in : (k : ℕ) → k < length rs → In (segments_times K (ring k)) nest
+  segments-in k h = subst (λ g. In g nest) (along-is (ring k)) (in-map segments_of in_plane (edges_times K (ring k)) (ring-in k h))
 
-  place-of : (g : List plane.Edge) → In g nest → (k : ℕ) × (k < length rs) × (g ≡ segments_along (ring k))
+  place-of : (g : List plane.Edge) → In g nest → (k : ℕ) × (k < length rs) × (g ≡ segments_times K (ring k))
   place-of g i =
       let r = in-map-out segments_of in_plane g i in
-      let q = in-map-out (map plane_edge) rs r.0 r.1 in
+      let q = in-map-out (edges_times K) rs r.0 r.1 in
       let k = in-at q.0 rs q.1 in
-      (k.0, k.1, r.2 ∙ ap segments_of q.2 ∙ along-is q.0 ∙ ap segments_along (sym (k.2 [])))
+      (k.0, k.1, r.2 ∙ ap segments_of q.2 ∙ along-is q.0 ∙ ap (segments_times K) (sym (k.2 [])))
 
-  whole-at : (k : ℕ) → k < length rs → All IsWholeSegment (ring k)
-  whole-at k h = are.whole k [] h
+  in-list : (k : ℕ) → k < length rs → In (ring k) rs
+  in-list k h = at-in rs k [] h
+
+  whole-in : (k : ℕ) → k < length rs → (e : Edge) → In e (ring k) → IsWholeAt K e
+  whole-in k h e i = whole-at (all_edges rs) e (all-edges-in rs (ring k) e (in-list k h) i)
+
+  plain-at : (k : ℕ) → k < length rs → IsConflictFree (segments_times K (ring k))
+  plain-at k h = subst IsConflictFree (along-is (ring k)) (ring-plain in_plane listed (edges_times K (ring k)) (ring-in k h))
 
   pub clear-at : (k : ℕ) → k < length rs → AreClear (ring k)
-  clear-at k h = record {
-    whole = whole-at k h;
-    clear = subst (λ l. IsConflictFree (segments_of l)) (sym (whole-is (ring k) (whole-at k h))) (ring-plain in_plane listed (map plane_edge (ring k)) (ring-in k h));
-  }
+  clear-at k h =
+      let q = part rs (ring k) (in-list k h) in
+      record { clear = subst IsConflictFree (sym (segments-are (ring k))) (plain-nearer (ring k) q.0 q.1 (subst (λ n. IsConflictFree (segments_times n (ring k))) q.2 (plain-at k h))) }
+
+  -- the anchor of a ring is that of the ring multiplied further
+  anchor-up : (k : ℕ) → k < length rs → (e : Edge) → IsAnchorOf e (ring k) → IsAnchor (segment_at K e) (segments_times K (ring k))
+  anchor-up k h e a =
+      let q = part rs (ring k) (in-list k h) in
+      subst (λ n. IsAnchor (segment_at n e) (segments_times n (ring k))) (sym q.2) (anchor-further (ring k) q.0 q.1 e a.member (anchor-along (ring k) (clear-at k h) e a))
+
+  anchor-down : (k : ℕ) → k < length rs → (e : Edge) → In e (ring k) → IsAnchor (segment_at K e) (segments_times K (ring k)) → IsAnchorOf e (ring k)
+  anchor-down k h e i a =
+      let q = part rs (ring k) (in-list k h) in
+      anchor-of (ring k) (clear-at k h) e i (anchor-nearer (ring k) q.0 q.1 e i (subst (λ n. IsAnchor (segment_at n e) (segments_times n (ring k))) q.2 a))
 
   pub clear-item : (k : ℕ) (r : List Edge) → k < length rs → r ≡ get_or rs k r → AreClear r
   clear-item k r h is = subst AreClear (sym (get_or-same rs k r [] h is)) (clear-at k h)
@@ -119,25 +118,25 @@ module _ (rs : List (List Edge)) (are : AreRings rs) where
       get_or-same rs k r d h is = is ∙ get_or_default rs k r d h
 
   -- ---- outer and inner
-  even-at : (k : ℕ) → k < length rs → IsEvenAtPoints (segments_along (ring k))
-  even-at k h = subst IsEvenAtPoints (along-is (ring k)) (ring-even (map plane_edge (ring k)) (listed.ring (map plane_edge (ring k)) (ring-in k h)))
+  even-at : (k : ℕ) → k < length rs → IsEvenAtPoints (segments_times K (ring k))
+  even-at k h = subst IsEvenAtPoints (along-is (ring k)) (ring-even (edges_times K (ring k)) (listed.ring (edges_times K (ring k)) (ring-in k h)))
 
-  outer-is : (k : ℕ) → k < length rs → (e : Edge) → In e (ring k) → is_outer nest (segment_along e) ≡ not (runs_up e)
+  outer-is : (k : ℕ) → k < length rs → (e : Edge) → In e (ring k) → is_outer nest (segment_at K e) ≡ not (runs_up e)
   outer-is k h e i =
-      outer_down in_plane listed (plane_edge e) (in-edges in_plane (map plane_edge (ring k)) (plane_edge e) (ring-in k h) (in-map plane_edge (ring k) e i))
-      ∙ ap not (rising-is e (whole-in (ring k) e (whole-at k h) i))
+      outer_down in_plane listed (edge_times K e) (in-edges in_plane (edges_times K (ring k)) (edge_times K e) (ring-in k h) (in-map (edge_times K) (ring k) e i))
+      ∙ ap not (sym (rises_alike K e (whole-in k h e i)))
 
-  pub outer-ring : (k : ℕ) → k < length rs → IsOuter (ring k) → IsOuterRing nest (segments_along (ring k))
+  pub outer-ring : (k : ℕ) → k < length rs → IsOuter (ring k) → IsOuterRing nest (segments_times K (ring k))
   outer-ring k h o = record {
-    anchor = segment_along o.anchor;
-    anchors = anchor-along (ring k) (clear-at k h) o.anchor o.is_anchor;
+    anchor = segment_at K o.anchor;
+    anchors = anchor-up k h o.anchor o.is_anchor;
     down = outer-is k h o.anchor o.is_anchor.member ∙ ap not o.direction;
   }
 
-  pub inner-ring : (k : ℕ) → k < length rs → IsInner (ring k) → IsInnerRing nest (segments_along (ring k))
+  pub inner-ring : (k : ℕ) → k < length rs → IsInner (ring k) → IsInnerRing nest (segments_times K (ring k))
   inner-ring k h o = record {
-    anchor = segment_along o.anchor;
-    anchors = anchor-along (ring k) (clear-at k h) o.anchor o.is_anchor;
+    anchor = segment_at K o.anchor;
+    anchors = anchor-up k h o.anchor o.is_anchor;
     up = outer-is k h o.anchor o.is_anchor.member ∙ ap not o.direction;
   }
 
@@ -145,90 +144,97 @@ module _ (rs : List (List Edge)) (are : AreRings rs) where
   not-true-false true h = cc
   not-true-false false h = refl
 
-  is-outer-at : (k : ℕ) → k < length rs → IsOuterRing nest (segments_along (ring k)) → IsOuter (ring k)
+  is-outer-at : (k : ℕ) → k < length rs → IsOuterRing nest (segments_times K (ring k)) → IsOuter (ring k)
   is-outer-at k h o =
-      let x = in-map-out segment_along (ring k) o.anchor o.anchors.member in
+      let x = in-map-out (segment_at K) (ring k) o.anchor o.anchors.member in
       record {
         anchor = x.0;
-        is_anchor = anchor-of (ring k) (clear-at k h) x.0 x.1 (subst (λ s. IsAnchor s (segments_along (ring k))) x.2 o.anchors);
+        is_anchor = anchor-down k h x.0 x.1 (subst (λ s. IsAnchor s (segments_times K (ring k))) x.2 o.anchors);
         direction = not-true-false (runs_up x.0) (sym (outer-is k h x.0 x.1) ∙ ap (is_outer nest) (sym x.2) ∙ o.down);
       }
 
   -- ---- beside the anchor of an inner ring
   module _ (h : ℕ) (hh : h < length rs) (a : Edge) (an : IsAnchorOf a (ring h)) where
-    along : IsAnchor (segment_along a) (segments_along (ring h))
-    along = anchor-along (ring h) (clear-at h hh) a an
+    along : IsAnchor (segment_at K a) (segments_times K (ring h))
+    along = anchor-up h hh a an
+
+    whole-a : IsWholeAt K a
+    whole-a = whole-in h hh a an.member
 
     pub sloping : IsSloping a
-    sloping =
-        let w = whole-in (ring h) a (whole-at h hh) an.member in
-        record { whole = w; own = spans-along a a w w ∙ anchor_span (segment_along a) (segments_along (ring h)) (plain-along (ring h) (clear-at h hh)) (even-at h hh) along }
+    sloping = spans-at K a a whole-a whole-a ∙ anchor_span (segment_at K a) (segments_times K (ring h)) (plain-at h hh) (even-at h hh) along
 
-    around-is : (k : ℕ) → k < length rs → has_edge (segments_along (ring k)) (segment_along a) ≡ false → encloses (segments_along (ring k)) (segment_along a) ≡ is_around a (ring k)
+    -- as many edges are right of a as of their segments
+    right-count : (k : ℕ) → k < length rs → count_by (is_right_above (segment_at K a).from (segment_at K a)) (segments_times K (ring k)) ≡ count_by (is_right_of a) (ring k)
+    right-count k hk =
+        let f = λ (t : plane.Edge). bit (is_right_above (segment_at K a).from (segment_at K a) t) in
+        sym (total-is f (segments_times K (ring k))) ∙ total-map f (segment_at K) (ring k)
+        ∙ total-same (λ x. f (segment_at K x)) (λ x. bit (is_right_of a x)) (ring k) (λ x i. ap bit (sym (right-at K a x whole-a (whole-in k hk x i))))
+        ∙ total-is (λ x. bit (is_right_of a x)) (ring k)
+
+    around-is : (k : ℕ) → k < length rs → has_edge (segments_times K (ring k)) (segment_at K a) ≡ false → encloses (segments_times K (ring k)) (segment_at K a) ≡ is_around a (ring k)
     around-is k hk none =
-        encloses_law nest (ring_list_nest in_plane listed) (segments_along (ring k)) (segments_along (ring h)) (segments-in k hk) (segments-in h hh) (segment_along a) along none
-        ∙ ap (λ n. not (is_even n)) (right-count a (ring k))
+        encloses_law nest (ring_list_nest in_plane listed) (segments_times K (ring k)) (segments_times K (ring h)) (segments-in k hk) (segments-in h hh) (segment_at K a) along none
+        ∙ ap (λ n. not (is_even n)) (right-count k hk)
 
     module _ (inner : IsInner (ring h)) where
       -- an outer ring is another one
-      not-own : (k : ℕ) → k < length rs → IsOuter (ring k) → has_edge (segments_along (ring k)) (segment_along a) ≡ false
-      not-own k hk o = false-if-never (has_edge (segments_along (ring k)) (segment_along a)) (λ e.
-          let same = same-ring nest (ring_list_nest in_plane listed) (segments_along (ring h)) (segments_along (ring k)) (segment_along a) (segments-in h hh) (segments-in k hk) along.member e in
-          let out = outer-out in_plane listed (segments_along (ring k)) (segments-in k hk) (outer-ring k hk o) in
-          let inn = inner-out in_plane listed (segments_along (ring h)) (segments-in h hh) (inner-ring h hh inner) in
-          clash (is_outer_by in_plane listed (segments_along (ring k))) out (ap (is_outer_by in_plane listed) same ∙ inn))
+      not-own : (k : ℕ) → k < length rs → IsOuter (ring k) → has_edge (segments_times K (ring k)) (segment_at K a) ≡ false
+      not-own k hk o = false-if-never (has_edge (segments_times K (ring k)) (segment_at K a)) (λ e.
+          let same = same-ring nest (ring_list_nest in_plane listed) (segments_times K (ring h)) (segments_times K (ring k)) (segment_at K a) (segments-in h hh) (segments-in k hk) along.member e in
+          let out = outer-out in_plane listed (segments_times K (ring k)) (segments-in k hk) (outer-ring k hk o) in
+          let inn = inner-out in_plane listed (segments_times K (ring h)) (segments-in h hh) (inner-ring h hh inner) in
+          clash (is_outer_by in_plane listed (segments_times K (ring k))) out (ap (is_outer_by in_plane listed) same ∙ inn))
 
-      candidate-of : (g : List plane.Edge) → In g nest → IsOuterRing nest g → encloses g (segment_along a) ≡ true → (k : ℕ) × (k < length rs) × (g ≡ segments_along (ring k)) × IsCandidate rs a k
+      candidate-of : (g : List plane.Edge) → In g nest → IsOuterRing nest g → encloses g (segment_at K a) ≡ true → (k : ℕ) × (k < length rs) × (g ≡ segments_times K (ring k)) × IsCandidate rs a k
       candidate-of g i o c =
           let k = place-of g i in
           let outer = is-outer-at k.0 k.1 (subst (IsOuterRing nest) k.2 o) in
-          let around = subst (λ l. encloses l (segment_along a) ≡ true) k.2 c in
-          let none = encloses-not nest (ring_list_nest in_plane listed) (segments_along (ring k.0)) (segment_along a) around in
+          let around = subst (λ l. encloses l (segment_at K a) ≡ true) k.2 c in
+          let none = encloses-not nest (ring_list_nest in_plane listed) (segments_times K (ring k.0)) (segment_at K a) around in
           (k.0, k.1, k.2, record { inside = k.1; outer = outer; odd = sym (around-is k.0 k.1 none) ∙ around })
 
       -- there is a candidate
       pub some-candidate : ((k : ℕ) → k < length rs → IsCandidate rs a k → ⊥) → ⊥
       some-candidate none =
-          let d = encloser_exists in_plane listed (map plane_edge (ring h)) (ring-in h hh) (subst (IsInnerRing nest) (sym (along-is (ring h))) (inner-ring h hh inner)) in
-          let same : d.2.anchor ≡ segment_along a = anchor_one d.2.anchor (segment_along a) (segments_along (ring h)) (plain-along (ring h) (clear-at h hh)) (subst (IsAnchor d.2.anchor) (along-is (ring h)) d.2.anchors) along in
+          let d = encloser_exists in_plane listed (edges_times K (ring h)) (ring-in h hh) (subst (IsInnerRing nest) (sym (along-is (ring h))) (inner-ring h hh inner)) in
+          let same : d.2.anchor ≡ segment_at K a = anchor_one d.2.anchor (segment_at K a) (segments_times K (ring h)) (plain-at h hh) (subst (IsAnchor d.2.anchor) (along-is (ring h)) d.2.anchors) along in
           let c = candidate-of (segments_of d.0) (in-map segments_of in_plane d.0 d.1) d.2.outer (subst (λ s. encloses (segments_of d.0) s ≡ true) same d.2.around) in
           none c.0 c.1 c.3
 
       -- the one with the nearest edge encloses directly
-      nearest-by : (c : Candidate) (f : Edge) → (segment_along f ≡ segment_along c.edge) ⊎ (is_nearer a c.edge f ≡ true) → (segment_along f ≡ segment_along c.edge) ⊎ (is_plus (order_above (segment_along a).from (segment_along c.edge) (segment_along f)) ≡ true)
-      nearest-by c f (inl e) = inl e
-      nearest-by c f (inr n) = inr (sym (nearer-plus a c.edge f) ∙ n)
+      nearest-by : (c : Candidate) (f : Edge) → IsWholeAt K c.edge → IsWholeAt K f → (segment_at K f ≡ segment_at K c.edge) ⊎ (is_nearer a c.edge f ≡ true) → (segment_at K f ≡ segment_at K c.edge) ⊎ (is_plus (order_above (segment_at K a).from (segment_at K c.edge) (segment_at K f)) ≡ true)
+      nearest-by c f wc wf (inl e) = inl e
+      nearest-by c f wc wf (inr n) = inr (sym (nearer-at K a c.edge f whole-a wc wf) ∙ n)
 
-      in-all-edges : (k : ℕ) → k < length rs → (f : Edge) → In f (ring k) → In (segment_along f) (edges_of nest)
-      in-all-edges k hk f i = in-edges nest (segments_along (ring k)) (segment_along f) (segments-in k hk) (in-map segment_along (ring k) f i)
+      in-all-edges : (k : ℕ) → k < length rs → (f : Edge) → In f (ring k) → In (segment_at K f) (edges_of nest)
+      in-all-edges k hk f i = in-edges nest (segments_times K (ring k)) (segment_at K f) (segments-in k hk) (in-map (segment_at K) (ring k) f i)
 
-      pub encloses-directly : (c : Candidate) → IsNearestUpTo rs a (length rs) c → EnclosesDirectly nest (segments_along (ring c.place)) (segments_along (ring h))
+      pub encloses-directly : (c : Candidate) → IsNearestUpTo rs a (length rs) c → EnclosesDirectly nest (segments_times K (ring c.place)) (segments_times K (ring h))
       encloses-directly c best =
           let k = c.place in let hk = best.is.candidate.inside in let o = best.is.candidate.outer in let m = best.is.edge in
           record {
             outer = outer-ring k hk o;
-            anchor = segment_along a;
+            anchor = segment_at K a;
             anchors = along;
             around = around-is k hk (not-own k hk o) ∙ best.is.candidate.odd;
-            edge = segment_along c.edge;
-            belongs = in-map segment_along (ring k) c.edge m.member;
-            right = sym (right-above a c.edge) ∙ m.right;
+            edge = segment_at K c.edge;
+            belongs = in-map (segment_at K) (ring k) c.edge m.member;
+            right = sym (right-at K a c.edge whole-a (whole-in k hk c.edge m.member)) ∙ m.right;
             nearest = λ g i out around s j right.
                 let q = candidate-of g i out around in
-                let f = in-map-out segment_along (ring q.0) s (subst (λ l. In s l) q.2 j) in
-                let r : is_right_of a f.0 ≡ true = right-above a f.0 ∙ subst (λ t. is_right_above (segment_along a).from (segment_along a) t ≡ true) f.2 right in
-                subst (λ t. (t ≡ segment_along c.edge) ⊎ (is_plus (order_above (segment_along a).from (segment_along c.edge) t) ≡ true)) (sym f.2)
-                (nearest-by c f.0 (nearer-either a f.0 c.edge (edges_of nest) (nest-plain in_plane listed) (in-all-edges q.0 q.1 f.0 f.1) (in-all-edges k hk c.edge m.member) r m.right (best.nearest q.0 q.1 q.3 f.0 f.1 r)));
+                let f = in-map-out (segment_at K) (ring q.0) s (subst (λ l. In s l) q.2 j) in
+                let r : is_right_of a f.0 ≡ true = right-at K a f.0 whole-a (whole-in q.0 q.1 f.0 f.1) ∙ subst (λ t. is_right_above (segment_at K a).from (segment_at K a) t ≡ true) f.2 right in
+                subst (λ t. (t ≡ segment_at K c.edge) ⊎ (is_plus (order_above (segment_at K a).from (segment_at K c.edge) t) ≡ true)) (sym f.2)
+                (nearest-by c f.0 (whole-in k hk c.edge m.member) (whole-in q.0 q.1 f.0 f.1) (nearer-either K a f.0 c.edge whole-a (whole-in q.0 q.1 f.0 f.1) (whole-in k hk c.edge m.member) (edges_of nest) (nest-plain in_plane listed) (in-all-edges q.0 q.1 f.0 f.1) (in-all-edges k hk c.edge m.member) r m.right (best.nearest q.0 q.1 q.3 f.0 f.1 r)));
           }
 
   -- ---- in the multiplied plane
-  outer-home : (k : ℕ) → k < length rs → IsOuter (ring k) → IsOuterRing (map segments_of (whole_rings rs)) (segments_at rs k)
-  outer-home k h o =
-      subst (λ (p : List (List plane.Edge)). IsOuterRing (map segments_of p) (segments_of (get_or p k []))) (sym plane-is) (subst (IsOuterRing nest) (sym (segments-at k h)) (outer-ring k h o))
+  outer-home : (k : ℕ) → k < length rs → IsOuter (ring k) → IsOuterRing nest (segments_at rs k)
+  outer-home k h o = subst (IsOuterRing nest) (sym (segments-at k h)) (outer-ring k h o)
 
-  inner-home : (k : ℕ) → k < length rs → IsInner (ring k) → IsInnerRing (map segments_of (whole_rings rs)) (segments_at rs k)
-  inner-home k h o =
-      subst (λ (p : List (List plane.Edge)). IsInnerRing (map segments_of p) (segments_of (get_or p k []))) (sym plane-is) (subst (IsInnerRing nest) (sym (segments-at k h)) (inner-ring k h o))
+  inner-home : (k : ℕ) → k < length rs → IsInner (ring k) → IsInnerRing nest (segments_at rs k)
+  inner-home k h o = subst (IsInnerRing nest) (sym (segments-at k h)) (inner-ring k h o)
 
   pub outer-home-of : (k : ℕ) (r : List Edge) → k < length rs → r ≡ get_or rs k r → IsOuter r → IsOuterRing (map segments_of (whole_rings rs)) (segments_at rs k)
   outer-home-of k r h is o = outer-home k h (subst IsOuter (is ∙ get_or_default rs k r [] h) o)
@@ -250,9 +256,8 @@ module _ (rs : List (List Edge)) (are : AreRings rs) where
         let i = subst IsInner own inner in (
           hk,
           inner-home h hh i,
-          subst (λ (p : List (List plane.Edge)). EnclosesDirectly (map segments_of p) (segments_of (get_or p c.place [])) (segments_of (get_or p h []))) (sym plane-is)
-              (subst (λ g. EnclosesDirectly nest g (segments_of (get_or in_plane h []))) (sym (segments-at c.place hk))
-              (subst (λ g. EnclosesDirectly nest (segments_along (ring c.place)) g) (sym (segments-at h hh)) (encloses-directly h hh a at-own i c best))),
+          subst (λ g. EnclosesDirectly nest g (segments_of (get_or in_plane h []))) (sym (segments-at c.place hk))
+              (subst (λ g. EnclosesDirectly nest (segments_times K (ring c.place)) g) (sym (segments-at h hh)) (encloses-directly h hh a at-own i c best)),
         )
 
     pub home-there : IsInner r → ((k : ℕ) → k < length rs → IsCandidate rs a k → ⊥) → ⊥

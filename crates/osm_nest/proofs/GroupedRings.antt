@@ -23,11 +23,12 @@ use Rattle.osm_nest.specs.Homes.{AreHomes, IsHome, segments_at}
 use Rattle.osm_nest.specs.Nested.{AreBegun, AreInOrder, AreNested, ArePolygonsBegun, ArePolygonsOf, IsBefore}
 use Rattle.osm_nest.specs.Polygons.{polygon_times, rings_in, rings_of}
 use Rattle.osm_nest.specs.RingLists.{AreRings, all_edges, whole_rings}
+use Rattle.osm_nest.proofs.Further.{all-edges-in}
+use Rattle.osm_nest.proofs.InPlane.{whole-at}
 use Rattle.osm_nest.proofs.BegunPolygons.{cover_begun, rings-total, sided_begun}
-use Rattle.osm_nest.proofs.Listing.{turned_whole}
+use Rattle.osm_nest.proofs.Listing.{turned_all}
 use Rattle.osm_nest.proofs.Places.{in-at, placed, rings-apart, stand, sum-all, sum-one}
-use Rattle.osm_rings.specs.PlaneEdge.{IsWholeSegment}
-use Rattle.sided.specs.Multiple.{common_den, edges_times}
+use Rattle.sided.specs.Multiple.{IsWholeAt, common_den, edges_times}
 
 -- ---- lists
 pairs-map : {X Y : Type 0} (R : Y → Y → Type 0) (f : X → Y) (xs : List X) → AllPairs (λ x y. R (f x) (f y)) xs → AllPairs R (map f xs)
@@ -261,32 +262,39 @@ module _ (rs : List (List Edge)) (are : AreRings rs) (homes : List (Option ℕ))
       in_order = in-order;
     }
 
-    -- ---- the rings run along whole segments
-    begun-whole : (b : Begun) → In b bs → All IsWholeSegment b.ring
-    begun-whole b i = let s = stands b i in turned_whole (given b) b.ring s.1.turned.turned (in-all (All IsWholeSegment) rs (given b) are.whole (in-at rs b.place [] s.0))
+    -- ---- what holds of all edges that were given holds of those of the polygons
+    module _ (P : Edge → Type 0) (all : All (All P) rs) where
+      begun-all : (b : Begun) → In b bs → All P b.ring
+      begun-all b i = let s = stands b i in turned_all P (given b) b.ring s.1.turned.turned (in-all (All P) rs (given b) all (in-at rs b.place [] s.0))
 
-    whole-by : (b : Begun) → In b bs → (rest : List (List Edge)) → ((r : List Edge) → In r rest → All IsWholeSegment r) → (r : List Edge) → (In r (rings_in (polygon_at homes bs b))) ⊎ (In r rest) → All IsWholeSegment r
-    whole-by b i rest h r (inl (inl e)) = subst (All IsWholeSegment) (sym e) (begun-whole b i)
-    whole-by b i rest h r (inl (inr j)) =
-        let c = in-map-out (λ (b : Begun). b.ring) (filter (stands_under homes b.place) bs) r j in
-        subst (All IsWholeSegment) (sym c.2) (begun-whole c.0 (in-filter (stands_under homes b.place) bs c.0 c.1))
-    whole-by b i rest h r (inr j) = h r j
+      all-by : (b : Begun) → In b bs → (rest : List (List Edge)) → ((r : List Edge) → In r rest → All P r) → (r : List Edge) → (In r (rings_in (polygon_at homes bs b))) ⊎ (In r rest) → All P r
+      all-by b i rest h r (inl (inl e)) = subst (All P) (sym e) (begun-all b i)
+      all-by b i rest h r (inl (inr j)) =
+          let c = in-map-out (λ (b : Begun). b.ring) (filter (stands_under homes b.place) bs) r j in
+          subst (All P) (sym c.2) (begun-all c.0 (in-filter (stands_under homes b.place) bs c.0 c.1))
+      all-by b i rest h r (inr j) = h r j
 
-    rings-whole : (xs : List Begun) → ((b : Begun) → In b xs → In b bs) → (r : List Edge) → In r (rings_of (map (polygon_at homes bs) xs)) → All IsWholeSegment r
-    rings-whole [] sub r i = absurd i
-    rings-whole (b ∷ xs) sub r i =
-        whole-by b (sub b (inl refl)) (rings_of (map (polygon_at homes bs) xs)) (rings-whole xs (λ c j. sub c (inr j))) r
-        (in-either (rings_in (polygon_at homes bs b)) (rings_of (map (polygon_at homes bs) xs)) r i)
+      rings-all : (xs : List Begun) → ((b : Begun) → In b xs → In b bs) → (r : List Edge) → In r (rings_of (map (polygon_at homes bs) xs)) → All P r
+      rings-all [] sub r i = absurd i
+      rings-all (b ∷ xs) sub r i =
+          all-by b (sub b (inl refl)) (rings_of (map (polygon_at homes bs) xs)) (rings-all xs (λ c j. sub c (inr j))) r
+          (in-either (rings_in (polygon_at homes bs b)) (rings_of (map (polygon_at homes bs) xs)) r i)
 
-    pub whole_rings_of : All (All IsWholeSegment) (rings_of (grouped homes bs))
-    whole_rings_of = all-in (All IsWholeSegment) (rings_of (grouped homes bs)) (rings-whole (filter (stands_first homes) bs) (λ b i. in-filter (stands_first homes) bs b i))
+      pub all_rings_of : All (All P) (rings_of (grouped homes bs))
+      all_rings_of = all-in (All P) (rings_of (grouped homes bs)) (rings-all (filter (stands_first homes) bs) (λ b i. in-filter (stands_first homes) bs b i))
+
+    whole-given : All (All (IsWholeAt k)) rs
+    whole-given = all-in (All (IsWholeAt k)) rs (λ r i. all-in (IsWholeAt k) r (λ e j. whole-at (all_edges rs) e (all-edges-in rs r e i j)))
+
+    whole-grouped : All (All (IsWholeAt k)) (rings_of (grouped homes bs))
+    whole-grouped = all_rings_of (IsWholeAt k) whole-given
 
     -- ---- so they are sided, and cover what the rings cover
     pub sided_grouped : AreSided (grouped homes bs)
-    sided_grouped = sided_begun rs are nested.polygons (grouped homes bs) nested.of_rings nested.begun whole_rings_of
+    sided_grouped = sided_begun rs are nested.polygons (grouped homes bs) nested.of_rings nested.begun whole-grouped
 
     pub cover_grouped : CoverAsRings rs (grouped homes bs)
-    cover_grouped = λ q plus p. cover_begun rs are nested.polygons (grouped homes bs) nested.of_rings nested.begun whole_rings_of q plus p
+    cover_grouped = λ q plus p. cover_begun rs are nested.polygons (grouped homes bs) nested.of_rings nested.begun whole-grouped q plus p
 
     -- ---- places and homes fit
     pub placed_in : ArePlaced (length homes) bs

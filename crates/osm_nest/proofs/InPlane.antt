@@ -1,99 +1,71 @@
--- Edges along whole segments, in the plane as it stands: multiplied by their common denominator, which is 1.
-use Rattle.std.proofs.Common.{◌≡◌, Bool, true, false, cond, List, [], ◌∷◌, ◌*◌, map, All, suc, pos, ◌*ℤ◌, refl, sym, ap, ◌∙◌, arith}
-use Rattle.std.proofs.lemmas.Int.{ints}
+-- Edges in the plane multiplied by a number that makes their ends whole: heights and orders in the plane's words.
+use Rattle.std.proofs.Common.{◌≡◌, Bool, true, false, cond, List, [], ◌∷◌, ◌++◌, ◌*◌, map, ℕ, refl, sym, ap, ◌∙◌, arith}
+use Rattle.std.proofs.Math.Nat.{mul_assoc}
+use Prim.Native.Nat.{◌∣◌}
+use Rattle.std.specs.Ordering.{is_lt}
 use Rattle.plane.specs.Edge as plane
+use Rattle.plane.specs.Height.{is_in_span, order_above}
 use Rattle.plane.specs.Order.{order}
-use Rattle.plane.specs.Scale.{scaled_point}
-use Rattle.plane.specs.Sign.{is_plus, negated}
-use Rattle.plane.proofs.Edges.{same_edge_by}
-use Rattle.plane.proofs.PointOrder.{order-reversed}
-use Rattle.plane.proofs.Points.{same_vector}
+use Rattle.plane.specs.Sign.{Minus, Null, Plus, Sign, is_plus}
+use Rattle.winding.specs.Member.{In}
 use Rattle.osm_geom.specs.declared.edge.Edge.{Edge}
-use Rattle.osm_geom.specs.declared.loc.Loc.{Loc}
-use Rattle.osm_geom.specs.declared.point.Point.{Point}
-use Rattle.osm_geom.specs.declared.point.Point.TheVariants.{Lattice}
-use Rattle.osm_geom.specs.declared.seg.Seg.{Seg}
 use Rattle.osm_geom.specs.Edge.{runs_up}
-use Rattle.osm_geom.specs.Loc.{vector_of}
-use Rattle.osm_geom.specs.Point.{den_of, point_order, whole_of}
-use Rattle.osm_geom.specs.Seg.{edge_of}
-use Rattle.osm_geom.specs.Span.{lower_end, upper_end}
-use Rattle.osm_geom.proofs.LocationOrder.{rising_edge}
-use Rattle.sided.specs.Multiple.{common_den, edge_times, edges_times, point_times, whole_edges}
-use Rattle.osm_rings.specs.PlaneEdge.{IsWholeSegment, plane_edge, vector_at}
-use Rattle.osm_rings.specs.Ways.{IsLattice}
-use Rattle.osm_rings.proofs.Whole.{from-lattice, to-lattice}
-use Rattle.osm_nest.specs.Leftmost.{segment_along}
+use Rattle.osm_geom.specs.JustAbove.{just_above_cmp}
+use Rattle.osm_geom.specs.OrderLaws.{ordering_of}
+use Rattle.osm_geom.specs.Point.{den_of, point_cmp}
+use Rattle.osm_geom.specs.Span.{lower_end, spans}
+use Rattle.sided.specs.Multiple.{IsWholeAt, common_den, edge_times, point_times}
+use Rattle.sided.proofs.Commons.{common_is_common}
+use Rattle.sided.proofs.MultipliedEdges.{each_whole, just_above_alike, rises_alike, spans_alike}
+use Rattle.sided.proofs.MultipliedPoints.{order_is}
 
--- ---- multiplied by 1
-once : (p : Loc) → scaled_point (pos 1) (whole_of (Lattice p)) ≡ vector_of p
-once p = same_vector (pos 1 *ℤ (p.x *ℤ pos 1)) (pos 1 *ℤ (p.y *ℤ pos 1)) p.x p.y (omega (arith, ints)) (omega (arith, ints))
+-- the segment of the multiplied plane along which e runs
+abbrev pub segment_at : ℕ → Edge → plane.Edge
+segment_at k e = plane.segment_of (edge_times k e)
 
-den-one : (p : Point) → IsLattice p → den_of p ≡ 1
-den-one p (q, is) = ap den_of is
+abbrev pub segments_times : ℕ → List Edge → List plane.Edge
+segments_times k es = map (segment_at k) es
 
-point-once : (p : Point) → IsLattice p → point_times 1 p ≡ vector_at p
-point-once p (q, is) = ap (point_times 1) is ∙ (once q ∙ ap vector_at (sym is))
+-- at the common denominator of a list its edges are whole
+pub whole-at : (es : List Edge) (e : Edge) → In e es → IsWholeAt (common_den es) e
+whole-at es e i = each_whole (common_den es) es (common_is_common es) e i
 
-pub edge-once : (e : Edge) → IsWholeSegment e → edge_times 1 e ≡ plane_edge e
-edge-once e w = same_edge_by (point_times 1 e.from) (point_times 1 e.to) (vector_at e.from) (vector_at e.to) (point-once e.from (from-lattice e w)) (point-once e.to (to-lattice e w))
+pub common-append : (xs ys : List Edge) → common_den (xs ++ ys) ≡ common_den xs * common_den ys
+common-append [] ys = let e : 1 * common_den ys ≡ common_den ys = omega arith in sym e
+common-append (x ∷ xs) ys =
+    ap (λ n. den_of x.from * den_of x.to * n) (common-append xs ys) ∙ sym (mul_assoc (den_of x.from * den_of x.to) (common_den xs) (common_den ys))
 
-pub common-one : (es : List Edge) → All IsWholeSegment es → common_den es ≡ 1
-common-one [] whole = refl
-common-one (e ∷ es) whole =
-    let w = whole 0 e (omega arith) in
-    let a = den-one e.from (from-lattice e w) in
-    let b = den-one e.to (to-lattice e w) in
-    let c = common-one es (λ k d h. whole (suc k) d (omega arith)) in
-    ap (λ n. n * den_of e.to * common_den es) a ∙ (ap (λ n. 1 * n * common_den es) b ∙ ap (λ n. 1 * 1 * n) c)
+pub lt-plus : (s : Sign) → is_lt (ordering_of s) ≡ is_plus s
+lt-plus Plus = refl
+lt-plus Null = refl
+lt-plus Minus = refl
 
-pub edges-once : (es : List Edge) → All IsWholeSegment es → edges_times 1 es ≡ map plane_edge es
-edges-once [] whole = refl
-edges-once (e ∷ es) whole =
-    ap (λ x. x ∷ edges_times 1 es) (edge-once e (whole 0 e (omega arith))) ∙ ap (λ xs. plane_edge e ∷ xs) (edges-once es (λ k d h. whole (suc k) d (omega arith)))
+module _ (k : ℕ) where
+  lower-by : (e : Edge) (b : Bool) → point_times k (cond b e.from e.to) ≡ (cond b (edge_times k e) (plane.reversed (edge_times k e))).from
+  lower-by e true = refl
+  lower-by e false = refl
 
-pub whole-is : (es : List Edge) → All IsWholeSegment es → whole_edges es ≡ map plane_edge es
-whole-is es whole = ap (λ k. edges_times k es) (common-one es whole) ∙ edges-once es whole
+  -- its lower end
+  pub lower-at : (e : Edge) → IsWholeAt k e → point_times k (lower_end e) ≡ (segment_at k e).from
+  lower-at e w = lower-by e (runs_up e) ∙ ap (λ b. (cond b (edge_times k e) (plane.reversed (edge_times k e))).from) (rises_alike k e w)
 
-pub rings-once : (rs : List (List Edge)) → All (λ r. All IsWholeSegment r) rs → map (edges_times 1) rs ≡ map (map plane_edge) rs
-rings-once [] whole = refl
-rings-once (r ∷ rs) whole =
-    ap (λ x. x ∷ map (edges_times 1) rs) (edges-once r (whole 0 r (omega arith))) ∙ ap (λ xs. map plane_edge r ∷ xs) (rings-once rs (λ k d h. whole (suc k) d (omega arith)))
+  den-by : (e : Edge) → IsWholeAt k e → (b : Bool) → den_of (cond b e.from e.to) ∣ k
+  den-by e w true = w.first
+  den-by e w false = w.second
 
--- ---- the segment along which an edge runs
-segment-by : (s : Seg) (forward : Bool) → plane.segment_of (record { from = vector_at (cond forward (Lattice s.a) (Lattice s.b)); to = vector_at (cond forward (Lattice s.b) (Lattice s.a)) }) ≡ edge_of s
-segment-by s true = ap (λ o. cond (is_plus o) (edge_of s) (plane.reversed (edge_of s))) (rising_edge s)
-segment-by s false =
-    ap (λ o. cond (is_plus o) (plane.reversed (edge_of s)) (edge_of s)) (order-reversed (vector_of s.a) (vector_of s.b) ∙ ap negated (rising_edge s))
+  pub lower-den : (e : Edge) → IsWholeAt k e → den_of (lower_end e) ∣ k
+  lower-den e w = den-by e w (runs_up e)
 
-pub segment-is : (e : Edge) → (w : IsWholeSegment e) → segment_along e ≡ edge_of w.segment
-segment-is e w = rw (w.from, w.to) (segment-by w.segment w.forward)
+  pub spans-at : (a f : Edge) → IsWholeAt k a → IsWholeAt k f → spans f (lower_end a) ≡ is_in_span (segment_at k a).from (segment_at k f)
+  spans-at a f w v = spans_alike k f (lower_end a) v (lower-den a w) ∙ ap (λ p. is_in_span p (segment_at k f)) (lower-at a w)
 
--- ---- its ends
-pub lattice-order : (p q : Loc) → point_order (Lattice p) (Lattice q) ≡ order (vector_of p) (vector_of q)
-lattice-order p q = ap (λ u. order u (scaled_point (pos 1) (whole_of (Lattice q)))) (once p) ∙ ap (λ v. order (vector_of p) v) (once q)
+  pub above-at : (a f g : Edge) → IsWholeAt k a → IsWholeAt k f → IsWholeAt k g → is_lt (just_above_cmp f g (lower_end a)) ≡ is_plus (order_above (segment_at k a).from (segment_at k f) (segment_at k g))
+  above-at a f g w v u =
+      ap is_lt (just_above_alike k f g (lower_end a) v u (lower-den a w)) ∙ lt-plus (order_above (point_times k (lower_end a)) (segment_at k f) (segment_at k g))
+      ∙ ap (λ p. is_plus (order_above p (segment_at k f) (segment_at k g))) (lower-at a w)
 
-up-by : (s : Seg) (forward : Bool) → is_plus (point_order (cond forward (Lattice s.a) (Lattice s.b)) (cond forward (Lattice s.b) (Lattice s.a))) ≡ forward
-up-by s true = ap is_plus (lattice-order s.a s.b ∙ rising_edge s)
-up-by s false = ap is_plus (lattice-order s.b s.a ∙ order-reversed (vector_of s.a) (vector_of s.b) ∙ ap negated (rising_edge s))
-
-pub up-is : (e : Edge) → (w : IsWholeSegment e) → runs_up e ≡ w.forward
-up-is e w = rw (w.from, w.to) (up-by w.segment w.forward)
-
-rising-by : (s : Seg) (forward : Bool) → is_plus (order (vector_at (cond forward (Lattice s.a) (Lattice s.b))) (vector_at (cond forward (Lattice s.b) (Lattice s.a)))) ≡ forward
-rising-by s true = ap is_plus (rising_edge s)
-rising-by s false = ap is_plus (order-reversed (vector_of s.a) (vector_of s.b) ∙ ap negated (rising_edge s))
-
--- it runs up where the plane's edge does
-pub rising-is : (e : Edge) → IsWholeSegment e → plane.is_rising (plane_edge e) ≡ runs_up e
-rising-is e w = rw (w.from, w.to) (rising-by w.segment w.forward) ∙ sym (up-is e w)
-
-ends-by : (s : Seg) (forward : Bool) → (cond forward (cond forward (Lattice s.a) (Lattice s.b)) (cond forward (Lattice s.b) (Lattice s.a)) ≡ Lattice s.a) × (cond forward (cond forward (Lattice s.b) (Lattice s.a)) (cond forward (Lattice s.a) (Lattice s.b)) ≡ Lattice s.b)
-ends-by s true = (refl, refl)
-ends-by s false = (refl, refl)
-
-pub lower-is : (e : Edge) → (w : IsWholeSegment e) → lower_end e ≡ Lattice w.segment.a
-lower-is e w = ap (λ b. cond b e.from e.to) (up-is e w) ∙ (rw (w.from, w.to) (ends-by w.segment w.forward).0)
-
-pub upper-is : (e : Edge) → (w : IsWholeSegment e) → upper_end e ≡ Lattice w.segment.b
-upper-is e w = ap (λ b. cond b e.to e.from) (up-is e w) ∙ (rw (w.from, w.to) (ends-by w.segment w.forward).1)
+  pub order-at : (e f : Edge) → IsWholeAt k e → IsWholeAt k f → point_cmp (lower_end e) (lower_end f) ≡ ordering_of (order (segment_at k e).from (segment_at k f).from)
+  unfolding point_cmp
+  order-at e f w v =
+      ap ordering_of (order_is k (lower_end e) (lower_end f) w.some (lower-den e w) (lower-den f v)
+      ∙ ap (λ p. order p (point_times k (lower_end f))) (lower-at e w) ∙ ap (λ p. order (segment_at k e).from p) (lower-at f v))

@@ -1,7 +1,6 @@
--- The edge that comes first of a list along whole segments is its anchor.
+-- The edge that comes first of a list is its anchor.
 use Rattle.std.proofs.Common.{◌≡◌, inl, inr, Bool, true, false, not, ◌&&◌, ◌||◌, ℕ, ◌+◌, ◌<◌, ◌*ℤ◌, ◌-ℤ◌, ℤ, pos, List, [], ◌∷◌, length, get_or, map, refl, sym, ap, subst, suc, zero, ◌∙◌, arith, ⊎_elim, cond}
-use Rattle.std.specs.declared.cmp.Ordering.{Ordering}
-use Rattle.std.specs.declared.cmp.Ordering.TheVariants.{Less, Equal, Greater}
+use Rattle.std.specs.declared.cmp.Ordering.TheVariants.{Equal}
 use Rattle.std.specs.Ordering.{is_lt}
 use Rattle.std.proofs.lemmas.Bool.{cases_lt}
 use Rattle.std.proofs.lemmas.Int.{ints}
@@ -22,17 +21,13 @@ use Rattle.winding.specs.Ring.{IsAnchor}
 use Rattle.winding.proofs.Anchors.{some-anchor}
 use Rattle.winding.proofs.Members.{in-map, in-map-out, into-filter}
 use Rattle.osm_geom.specs.declared.edge.Edge.{Edge}
-use Rattle.osm_geom.specs.declared.point.Point.TheVariants.{Lattice}
 use Rattle.osm_geom.specs.JustAbove.{just_above_cmp}
 use Rattle.osm_geom.specs.OrderLaws.{ordering_of}
-use Rattle.osm_geom.specs.Point.{point_cmp, point_order}
-use Rattle.osm_geom.specs.Seg.{edge_of}
 use Rattle.osm_geom.specs.Span.{lower_end, spans}
-use Rattle.osm_geom.proofs.LocationOrder.{rising_edge}
-use Rattle.osm_rings.specs.PlaneEdge.{IsWholeSegment}
-use Rattle.osm_nest.specs.Leftmost.{comes_first, first_by, forks_left, segment_along}
-use Rattle.osm_nest.proofs.InPlane.{lattice-order, lower-is, segment-is}
-use Rattle.osm_nest.proofs.WholeHeights.{above-is, spans-is}
+use Rattle.sided.specs.Multiple.{IsWholeAt, common_den}
+use Rattle.sided.proofs.MultipliedEdges.{segment_rises}
+use Rattle.osm_nest.specs.Leftmost.{comes_first, first_of, forks_left}
+use Rattle.osm_nest.proofs.InPlane.{above-at, order-at, segment_at, spans-at, whole-at}
 
 -- ---- two segments from one point: which runs to the left
 abbrev left_1 : Sign → Sign → Sign → Sign → Bool
@@ -63,11 +58,6 @@ above-fork s t e =
     (zero-cross (t.to.y -ℤ t.from.y) (s.to.y -ℤ s.from.y) (cross (from_to s.from t.from) (from_to s.from t.to)) (cross (from_to s.from s.from) (from_to s.from s.to)) same own)
     ∙ ap (λ v. sign (cross (from_to s.from s.to) (from_to v t.to))) (sym e)
 
-lt-plus : (s : Sign) → is_lt (ordering_of s) ≡ is_plus s
-lt-plus Plus = refl
-lt-plus Null = refl
-lt-plus Minus = refl
-
 fork-plane : (s t : plane.Edge) → IsRising s → IsRising t → s.from ≡ t.from → is_plus (orient s.from s.to t.to) ≡ (is_in_span s.from t && (not (is_in_span s.from s) || is_plus (order_above s.from t s)))
 fork-plane s t rs rt e =
     let span_t : is_in_span s.from t ≡ is_plus (sign (t.to.y -ℤ s.from.y)) = subst (λ v. is_in_span v t ≡ is_plus (sign (t.to.y -ℤ v.y))) (sym e) (own-span t) in
@@ -81,51 +71,39 @@ equal-null Plus h = cc
 equal-null Null h = refl
 equal-null Minus h = cc
 
-order-of : (e f : Edge) → (w : IsWholeSegment e) → (v : IsWholeSegment f) → point_cmp (lower_end e) (lower_end f) ≡ ordering_of (order (edge_of w.segment).from (edge_of v.segment).from)
-unfolding point_cmp
-order-of e f w v =
-    ap (λ p. ordering_of (point_order p (lower_end f))) (lower-is e w) ∙ ap (λ p. ordering_of (point_order (Lattice w.segment.a) p)) (lower-is f v)
-    ∙ ap ordering_of (lattice-order w.segment.a v.segment.a)
-
--- the test in the code's words
-pub forks_is : (e f : Edge) → IsWholeSegment e → IsWholeSegment f → point_cmp (lower_end e) (lower_end f) ≡ Equal → forks_left e f ≡ (spans f (lower_end e) && (not (spans e (lower_end e)) || is_lt (just_above_cmp f e (lower_end e))))
-unfolding forks_left
-forks_is e f w v h =
-    let s = edge_of w.segment in let t = edge_of v.segment in let p = w.segment.a in
-    let same = order-null s.from t.from (equal-null (order s.from t.from) (sym (order-of e f w v) ∙ h)) in
-    ap (λ (u : plane.Edge). is_plus (orient u.from u.to (segment_along f).to)) (segment-is e w)
-    ∙ ap (λ (u : plane.Edge). is_plus (orient s.from s.to u.to)) (segment-is f v)
-    ∙ fork-plane s t (rising_edge w.segment) (rising_edge v.segment) same
-    ∙ ap (λ b. b && (not (is_in_span s.from s) || is_plus (order_above s.from t s))) (sym (spans-is f v p))
-    ∙ ap (λ b. spans f (Lattice p) && (not b || is_plus (order_above s.from t s))) (sym (spans-is e w p))
-    ∙ ap (λ b. spans f (Lattice p) && (not (spans e (Lattice p)) || b)) (sym (ap is_lt (above-is f e v w p) ∙ lt-plus (order_above s.from t s)))
-    ∙ ap (λ q. spans f q && (not (spans e q) || is_lt (just_above_cmp f e q))) (sym (lower-is e w))
-
-abbrev pub first_of : Ordering → Bool → Bool
-first_of Less left = true
-first_of Equal left = not left
-first_of Greater left = false
-
-first-same : (s : Sign) (left : Bool) → first_by s left ≡ first_of (ordering_of s) left
-first-same Plus left = refl
-first-same Null left = refl
-first-same Minus left = refl
-
-pub first_is : (e f : Edge) → IsWholeSegment e → IsWholeSegment f → comes_first e f ≡ first_of (point_cmp (lower_end e) (lower_end f)) (forks_left e f)
-unfolding comes_first
-first_is e f w v =
-    ap (λ (u : plane.Edge). first_by (order u.from (segment_along f).from) (forks_left e f)) (segment-is e w)
-    ∙ ap (λ (u : plane.Edge). first_by (order (edge_of w.segment).from u.from) (forks_left e f)) (segment-is f v)
-    ∙ first-same (order (edge_of w.segment).from (edge_of v.segment).from) (forks_left e f)
-    ∙ ap (λ o. first_of o (forks_left e f)) (sym (order-of e f w v))
+-- ---- the code's tests in the plane's words
+abbrev first_by : Sign → Bool → Bool
+first_by Plus left = true
+first_by Null left = not left
+first_by Minus left = false
 
 -- ---- the anchor comes first, and only the anchor comes before it
 abbrev comes_by : plane.Edge → plane.Edge → Bool
 comes_by s t = first_by (order s.from t.from) (is_plus (orient s.from s.to t.to))
 
-comes-is : (e f : Edge) → comes_first e f ≡ comes_by (segment_along e) (segment_along f)
-unfolding comes_first forks_left
-comes-is e f = refl
+module _ (k : ℕ) (e f : Edge) (w : IsWholeAt k e) (v : IsWholeAt k f) where
+  abbrev s_e : plane.Edge
+  s_e = segment_at k e
+
+  abbrev s_f : plane.Edge
+  s_f = segment_at k f
+
+  fork-at : s_e.from ≡ s_f.from → forks_left e f ≡ is_plus (orient s_e.from s_e.to s_f.to)
+  unfolding forks_left
+  fork-at same =
+      ap (λ b. b && (not (spans e (lower_end e)) || is_lt (just_above_cmp f e (lower_end e)))) (spans-at k e f w v)
+      ∙ ap (λ b. is_in_span s_e.from s_f && (not b || is_lt (just_above_cmp f e (lower_end e)))) (spans-at k e e w w)
+      ∙ ap (λ b. is_in_span s_e.from s_f && (not (is_in_span s_e.from s_e) || b)) (above-at k e f e w v w)
+      ∙ sym (fork-plane s_e s_f (segment_rises k e w) (segment_rises k f v) same)
+
+  comes-by : (o : Sign) → order s_e.from s_f.from ≡ o → first_of (ordering_of o) (forks_left e f) ≡ first_by o (is_plus (orient s_e.from s_e.to s_f.to))
+  comes-by Plus h = refl
+  comes-by Null h = ap not (fork-at (order-null s_e.from s_f.from h))
+  comes-by Minus h = refl
+
+  comes-is : comes_first e f ≡ comes_by s_e s_f
+  unfolding comes_first
+  comes-is = ap (λ o. first_of o (forks_left e f)) (order-at k e f w v) ∙ comes-by (order s_e.from s_f.from) refl
 
 minus-plus : (s : Sign) → s ≡ Minus → is_plus s ≡ false
 minus-plus s h = ap is_plus h
@@ -173,13 +151,17 @@ module _ (es : List plane.Edge) (m : plane.Edge) (a : IsAnchor m es) where
   only-anchor s i f = one-by s i (order s.from m.from) refl f (same_edge m s) refl
 
 -- ---- looking for it
+-- the segments in the plane multiplied by the common denominator
+abbrev pub along : List Edge → Edge → plane.Edge
+along es = segment_at (common_den es)
+
 abbrev pub segments_along : List Edge → List plane.Edge
-segments_along es = map segment_along es
+segments_along es = map (along es) es
 
 -- the edge is one of the list, and runs along its anchor where that is among those up to the place
 pub record IsFirstUpTo (es : List Edge) (place : ℕ) (e : Edge) : Type 0 where
   pub member : In e es
-  pub found : (m : plane.Edge) → IsAnchor m (segments_along es) → (k : ℕ) (d : Edge) → k < place → k < length es → segment_along (get_or es k d) ≡ m → segment_along e ≡ m
+  pub found : (m : plane.Edge) → IsAnchor m (segments_along es) → (k : ℕ) (d : Edge) → k < place → k < length es → (along es) (get_or es k d) ≡ m → (along es) e ≡ m
 
 pub in-at : {X : Type 0} (x : X) (xs : List X) → In x xs → (k : ℕ) × (k < length xs) × ((d : X) → get_or xs k d ≡ x)
 in-at x [] i = absurd i
@@ -196,8 +178,8 @@ first-more es n e f true i at h inv = record {
       (λ before. inv.found m a k d before lt s)
       (λ past.
       let here : k ≡ n = omega arith in
-      let is : segment_along f ≡ m = sym (ap segment_along (ap (λ j. get_or es j d) here ∙ at d)) ∙ s in
-      only-anchor (segments_along es) m a (segment_along e) (in-map segment_along es e inv.member) (subst (λ t. comes_by (segment_along e) t ≡ true) is (sym (comes-is e f) ∙ h)))
+      let is : (along es) f ≡ m = sym (ap (along es) (ap (λ j. get_or es j d) here ∙ at d)) ∙ s in
+      only-anchor (segments_along es) m a (along es e) (in-map (along es) es e inv.member) (subst (λ t. comes_by (along es e) t ≡ true) is (sym (comes-is (common_den es) e f (whole-at es e inv.member) (whole-at es f i)) ∙ h)))
       (cases_lt k n);
 }
 first-more es n e f false i at h inv = record {
@@ -205,21 +187,21 @@ first-more es n e f false i at h inv = record {
   found = λ m a k d l lt s. ⊎_elim
       (λ before.
       let is = inv.found m a k d before lt s in
-      let t = anchor-first (segments_along es) m a (segment_along f) (in-map segment_along es f i) in
-      let g : comes_by m (segment_along f) ≡ false = subst (λ u. comes_by u (segment_along f) ≡ false) is (sym (comes-is e f) ∙ h) in
+      let t = anchor-first (segments_along es) m a (along es f) (in-map (along es) es f i) in
+      let g : comes_by m (along es f) ≡ false = subst (λ u. comes_by u (along es f) ≡ false) is (sym (comes-is (common_den es) e f (whole-at es e inv.member) (whole-at es f i)) ∙ h) in
       absurd (cc (sym t ∙ g)))
       (λ past.
       let here : k ≡ n = omega arith in
-      sym (ap segment_along (ap (λ j. get_or es j d) here ∙ at d)) ∙ s)
+      sym (ap (along es) (ap (λ j. get_or es j d) here ∙ at d)) ∙ s)
       (cases_lt k n);
 }
 
-pub first-is-anchor : (es : List Edge) (e : Edge) → IsConflictFree (segments_along es) → IsFirstUpTo es (length es) e → IsAnchor (segment_along e) (segments_along es)
+pub first-is-anchor : (es : List Edge) (e : Edge) → IsConflictFree (segments_along es) → IsFirstUpTo es (length es) e → IsAnchor (along es e) (segments_along es)
 first-is-anchor es e plain inv =
-    let m = some-anchor (segments_along es) (segment_along e) (in-map segment_along es e inv.member) plain in
-    let x = in-map-out segment_along es m.0 m.1.member in
+    let m = some-anchor (segments_along es) (along es e) (in-map (along es) es e inv.member) plain in
+    let x = in-map-out (along es) es m.0 m.1.member in
     let k = in-at x.0 es x.1 in
-    let is = inv.found m.0 m.1 k.0 x.0 k.1 k.1 (ap segment_along (k.2 x.0) ∙ sym x.2) in
+    let is = inv.found m.0 m.1 k.0 x.0 k.1 k.1 (ap (along es) (k.2 x.0) ∙ sym x.2) in
     subst (λ s. IsAnchor s (segments_along es)) (sym is) m.1
 
 pub at-in : {X : Type 0} (xs : List X) (k : ℕ) (d : X) → k < length xs → In (get_or xs k d) xs

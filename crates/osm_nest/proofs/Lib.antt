@@ -1,7 +1,9 @@
 pub mod BegunPolygons
 pub mod Beside
 pub mod Enclosers
+pub mod Further
 pub mod GroupedRings
+pub mod Halves
 pub mod InPlane
 pub mod Joining
 pub mod Leftmost
@@ -13,4 +15,3 @@ pub mod Parting
 pub mod Places
 pub mod RingAnchors
 pub mod Turns
-pub mod WholeHeights

@@ -6,8 +6,6 @@ use Rattle.std.proofs.Math.Seq.{get_or-append_seam}
 use Rattle.osm_geom.specs.declared.edge.Edge.{Edge}
 use Rattle.osm_nest.specs.declared.begun.Begun.{Begun}
 use Rattle.osm_nest.specs.Grouped.{AreListed, IsBegunAt}
-use Rattle.osm_rings.specs.PlaneEdge.{IsWholeSegment}
-use Rattle.osm_rings.specs.Ring.{IsRing}
 use Rattle.osm_rings.specs.Turned.{IsTurned}
 use Rattle.winding.specs.Member.{In}
 use Rattle.winding.proofs.Members.{all-either, all-in, in-all, in-either, in-left, in-right}
@@ -20,9 +18,9 @@ turned-in p q t e i =
     (λ x j. subst (In x) (sym t.old) (in-left t.front t.back x j))
     (in-either t.back t.front e (subst (In e) t.new i))
 
--- and still runs along whole segments
-pub turned_whole : (p q : List Edge) → IsTurned p q → All IsWholeSegment p → All IsWholeSegment q
-turned_whole p q t whole = all-in IsWholeSegment q (λ e i. in-all IsWholeSegment p e whole (turned-in p q t e i))
+-- and what holds of all of them holds still
+pub turned_all : (P : Edge → Type 0) (p q : List Edge) → IsTurned p q → All P p → All P q
+turned_all P p q t all = all-in P q (λ e i. in-all P p e all (turned-in p q t e i))
 
 listed-more : (rs : List (List Edge)) (n : ℕ) (bs : List Begun) (b : Begun) → AreListed rs n bs → IsBegunAt (get_or rs n []) n b → AreListed rs (n + 1) (bs ++ b ∷ [])
 listed-more rs n bs b are one =
@@ -41,9 +39,3 @@ pub listed-step : (rs : List (List Edge)) (n : ℕ) (bs after : List Begun) (b :
 listed-step rs n bs after b r l is made one are =
     let here : r ≡ get_or rs n [] = is ∙ get_or_default rs n r [] l in
     subst (AreListed rs (n + 1)) (sym made) (listed-more rs n bs b are (subst (λ s. IsBegunAt s n b) here one))
-
--- the first edge of a ring of whole segments is one
-pub first-whole : (es xs : List Edge) (e : Edge) → xs ≡ es → All IsWholeSegment es → IsRing es → e ≡ get_or xs 0 e → IsWholeSegment e
-first-whole es xs e same whole ring is =
-    let long = ring.long in
-    subst IsWholeSegment (sym (is ∙ ap (λ ys. get_or ys 0 e) same)) (whole 0 e (omega arith))

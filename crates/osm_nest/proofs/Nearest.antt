@@ -1,11 +1,11 @@
 -- Looking for the nearest edge right of an anchor, in one ring and among rings.
-use Rattle.std.proofs.Common.{◌≡◌, inl, inr, ◌⊎◌, Bool, true, false, not, ℕ, ◌+◌, ◌<◌, List, [], ◌∷◌, ◌++◌, length, get_or, take, All, Option, Some, None, IfSome, cond, refl, sym, ap, subst, ◌∙◌, arith, ⊎_elim, suc, zero}
+use Rattle.std.proofs.Common.{◌≡◌, inl, inr, ◌⊎◌, Bool, true, false, not, ℕ, ◌+◌, ◌<◌, List, [], ◌∷◌, ◌++◌, length, get_or, take, Option, Some, None, IfSome, cond, refl, sym, ap, subst, ◌∙◌, arith, ⊎_elim}
 use Rattle.std.proofs.lemmas.Bool.{cases_lt}
 use Rattle.std.proofs.lemmas.List.{get_or_default, take_more}
 use Rattle.plane.specs.Bit.{bit}
 use Rattle.plane.specs.Edge as plane
-use Rattle.plane.specs.Height.{is_right_above, order_above}
-use Rattle.plane.specs.Sign.{is_plus}
+use Rattle.plane.specs.Height.{is_right_above}
+use Rattle.plane.specs.Vector.{Vector}
 use Rattle.plane.proofs.Bools.{false-if-never}
 use Rattle.plane.proofs.Heights.{right_of}
 use Rattle.winding.specs.ConflictFree.{IsConflictFree}
@@ -19,13 +19,13 @@ use Rattle.std.specs.List.{count_by, filter}
 use Rattle.osm_geom.specs.declared.edge.Edge.{Edge}
 use Rattle.osm_nest.specs.declared.homes.Candidate.{Candidate}
 use Rattle.osm_nest.specs.Beside.{IsBestUpTo, IsCandidate, IsCandidateAt, IsCandidateBy, IsNearest, IsNearestRight, IsNearestUpTo, IsRight, better_of, closer_of, is_around, is_nearer, is_right_of, nearer_of}
-use Rattle.osm_nest.specs.Leftmost.{segment_along}
 use Rattle.osm_nest.specs.Outer.{AreClear, IsOuter}
-use Rattle.osm_nest.proofs.Beside.{nearer-chain, not-nearer, not-nearer-itself}
-use Rattle.osm_nest.proofs.Leftmost.{segments_along}
+use Rattle.osm_nest.proofs.Beside.{nearer-at, nearer-chain, not-nearer, not-nearer-itself, right-at}
+use Rattle.osm_nest.proofs.Further.{one-more, plain-further}
+use Rattle.osm_nest.proofs.InPlane.{segment_at, segments_times, whole-at}
 use Rattle.osm_nest.proofs.NestedRings.{none-in}
-use Rattle.osm_nest.proofs.RingAnchors.{plain-along, whole-in}
-use Rattle.osm_rings.specs.PlaneEdge.{IsWholeSegment}
+use Rattle.osm_nest.proofs.RingAnchors.{plain-along, same-along}
+use Rattle.sided.specs.Multiple.{IsWholeAt, common_den}
 
 clash : (b : Bool) → b ≡ true → b ≡ false → ⊥
 clash b h k = cc
@@ -88,42 +88,54 @@ nearest-step a es n best next x h is be inv =
     subst (λ o. IsNearestRight a (take (n + 1) es) o) (sym be)
     (subst (λ l. IsNearestRight a l (nearer_of a best x)) (sym same) (nearest-by a (take n es) x best (is_right_of a x) refl inv))
 
-take-none : (n : ℕ) (none : List Edge) → none ≡ [] → take n none ≡ []
-take-none zero none h = refl
-take-none (suc n) none h = rw h refl
-
-in-take : (n : ℕ) (es : List Edge) (e : Edge) → In e (take n es) → In e es
-in-take n [] e i = subst (λ l. In e l) (take-none n [] refl) i
-in-take zero (x ∷ xs) e i = absurd i
-in-take (suc n) (x ∷ xs) e (inl q) = inl q
-in-take (suc n) (x ∷ xs) e (inr i) = inr (in-take n xs e i)
-
-pub found-right : (a : Edge) (es : List Edge) (n : ℕ) (best : Option Edge) → All IsWholeSegment es → IsNearestRight a (take n es) best → IfSome best (λ e. IsRight a e)
-found-right a es n None whole inv = tt
-found-right a es n (Some e) whole inv = record { whole = whole-in es e whole (in-take n es e inv.member); right = inv.right }
+pub found-right : (a : Edge) (es : List Edge) (n : ℕ) (best : Option Edge) → IsNearestRight a (take n es) best → IfSome best (λ e. IsRight a e)
+found-right a es n None inv = tt
+found-right a es n (Some e) inv = inv.right
 
 -- ---- two edges of one ring right of an anchor
-either-by : (a f g : Edge) → (segment_along f ≡ segment_along g) ⊎ ((is_nearer a f g ≡ not (is_nearer a g f)) ⊎ (is_nearer a g f ≡ not (is_nearer a f g))) → is_nearer a f g ≡ false → (segment_along f ≡ segment_along g) ⊎ (is_nearer a g f ≡ true)
-either-by a f g (inl e) n = inl e
-either-by a f g (inr (inr h)) n = inr (h ∙ ap not n)
-either-by a f g (inr (inl h)) n = inr (turned (is_nearer a g f) (sym h ∙ n))
-  where
-    turned : (b : Bool) → not b ≡ false → b ≡ true
-    turned true h = refl
-    turned false h = cc
+module _ (k : ℕ) (a f g : Edge) (wa : IsWholeAt k a) (wf : IsWholeAt k f) (wg : IsWholeAt k g) where
+  abbrev p : Vector
+  p = (segment_at k a).from
 
--- of edges without conflict right of an anchor: one that isn't nearer than another is that one, or the other is nearer
-pub nearer-either : (a f g : Edge) (all : List plane.Edge) → IsConflictFree all → In (segment_along f) all → In (segment_along g) all → is_right_of a f ≡ true → is_right_of a g ≡ true → is_nearer a f g ≡ false → (segment_along f ≡ segment_along g) ⊎ (is_nearer a g f ≡ true)
-unfolding is_right_of is_nearer
-nearer-either a f g all plain i j rf rg n =
-    let p = (segment_along a).from in let e = segment_along a in
-    let order = beyond-order p e all plain in
-    either-by a f g (pairs-of (λ x y. right_of p x y ≡ not (right_of p y x)) (filter (is_right_above p e) all) (segment_along f) (segment_along g) order.either
-    (into-filter (is_right_above p e) all (segment_along f) i rf) (into-filter (is_right_above p e) all (segment_along g) j rg)) n
+  turned : (b : Bool) → not b ≡ false → b ≡ true
+  turned true h = refl
+  turned false h = cc
 
-same-nearer : (a f g b : Edge) → segment_along f ≡ segment_along g → is_nearer a f b ≡ is_nearer a g b
-unfolding is_nearer
-same-nearer a f g b e = ap (λ (s : plane.Edge). is_plus (order_above (segment_along a).from s (segment_along b))) e
+  either-by : (s t : plane.Edge) → (s ≡ t) ⊎ ((right_of p s t ≡ not (right_of p t s)) ⊎ (right_of p t s ≡ not (right_of p s t))) → right_of p s t ≡ false → (s ≡ t) ⊎ (right_of p t s ≡ true)
+  either-by s t (inl e) n = inl e
+  either-by s t (inr (inr h)) n = inr (h ∙ ap not n)
+  either-by s t (inr (inl h)) n = inr (turned (right_of p t s) (sym h ∙ n))
+
+  back : (segment_at k f ≡ segment_at k g) ⊎ (right_of p (segment_at k g) (segment_at k f) ≡ true) → (segment_at k f ≡ segment_at k g) ⊎ (is_nearer a g f ≡ true)
+  back (inl e) = inl e
+  back (inr n) = inr (nearer-at k a g f wa wg wf ∙ n)
+
+  -- of edges without conflict right of an anchor: one that isn't nearer than another is along that one, or the other is nearer
+  pub nearer-either : (all : List plane.Edge) → IsConflictFree all → In (segment_at k f) all → In (segment_at k g) all → is_right_of a f ≡ true → is_right_of a g ≡ true → is_nearer a f g ≡ false → (segment_at k f ≡ segment_at k g) ⊎ (is_nearer a g f ≡ true)
+  nearer-either all plain i j rf rg n =
+      let e = segment_at k a in
+      let order = beyond-order p e all plain in
+      back (either-by (segment_at k f) (segment_at k g) (pairs-of (λ x y. right_of p x y ≡ not (right_of p y x)) (filter (is_right_above p e) all) (segment_at k f) (segment_at k g) order.either
+      (into-filter (is_right_above p e) all (segment_at k f) i (sym (right-at k a f wa wf) ∙ rf)) (into-filter (is_right_above p e) all (segment_at k g) j (sym (right-at k a g wa wg) ∙ rg)))
+      (sym (nearer-at k a f g wa wf wg) ∙ n))
+
+-- the same in one ring
+module _ (a : Edge) (es : List Edge) (clear : AreClear es) (f g : Edge) (i : In f es) (j : In g es) where
+  abbrev at_all : ℕ
+  at_all = common_den (a ∷ es)
+
+  plain-all : IsConflictFree (segments_times at_all es)
+  plain-all = let m = one-more a es in subst (λ k. IsConflictFree (segments_times k es)) (sym m.2) (plain-further es m.0 m.1 (plain-along es clear))
+
+  one-edge : (segment_at at_all f ≡ segment_at at_all g) ⊎ (is_nearer a g f ≡ true) → (f ≡ g) ⊎ (is_nearer a g f ≡ true)
+  one-edge (inl e) = inl (same-along at_all es plain-all f g i j e)
+  one-edge (inr n) = inr n
+
+  in-ring : is_right_of a f ≡ true → is_right_of a g ≡ true → is_nearer a f g ≡ false → (f ≡ g) ⊎ (is_nearer a g f ≡ true)
+  in-ring rf rg n =
+      let list = a ∷ es in
+      one-edge (nearer-either at_all a f g (whole-at list a (inl refl)) (whole-at list f (inr i)) (whole-at list g (inr j)) (segments_times at_all es) plain-all
+      (in-map (segment_at at_all) es f i) (in-map (segment_at at_all) es g j) rf rg n)
 
 -- ---- among rings
 module _ (rs : List (List Edge)) (a : Edge) (n : ℕ) where
@@ -148,8 +160,8 @@ module _ (rs : List (List Edge)) (a : Edge) (n : ℕ) where
         (cases_lt k n);
   }
 
-  behind-by : (b c : Candidate) (f : Edge) → IsCandidateBy rs a b → IsCandidateBy rs a c → is_right_of a f ≡ true → is_nearer a c.edge b.edge ≡ false → (segment_along f ≡ segment_along c.edge) ⊎ (is_nearer a c.edge f ≡ true) → is_nearer a f b.edge ≡ false
-  behind-by b c f ib ic r n (inl e) = same-nearer a f c.edge b.edge e ∙ n
+  behind-by : (b c : Candidate) (f : Edge) → IsCandidateBy rs a b → IsCandidateBy rs a c → is_right_of a f ≡ true → is_nearer a c.edge b.edge ≡ false → (f ≡ c.edge) ⊎ (is_nearer a c.edge f ≡ true) → is_nearer a f b.edge ≡ false
+  behind-by b c f ib ic r n (inl e) = ap (λ x. is_nearer a x b.edge) e ∙ n
   behind-by b c f ib ic r n (inr m) =
       false-if-never (is_nearer a f b.edge) (λ k. clash (is_nearer a c.edge b.edge) (nearer-chain a c.edge f b.edge ic.edge.right r ib.edge.right m k) n)
 
@@ -158,8 +170,8 @@ module _ (rs : List (List Edge)) (a : Edge) (n : ℕ) where
     behind b c f ib at ic i r m =
         let ring = get_or rs c.place [] in
         let j : In f ring = subst (λ k. In f (get_or rs k [])) (sym at) i in
-        let plain : IsConflictFree (segments_along ring) = subst (λ k. IsConflictFree (segments_along (get_or rs k []))) (sym at) (plain-along (get_or rs n []) clear) in
-        behind-by b c f ib ic r m (nearer-either a f c.edge (segments_along ring) plain (in-map segment_along ring f j) (in-map segment_along ring c.edge ic.edge.member) r ic.edge.right (ic.edge.nearest f j r))
+        let clear_c : AreClear ring = subst (λ k. AreClear (get_or rs k [])) (sym at) clear in
+        behind-by b c f ib ic r m (in-ring a ring clear_c f c.edge j ic.edge.member r ic.edge.right (ic.edge.nearest f j r))
 
     chosen : (b c : Candidate) (d : Bool) → is_nearer a c.edge b.edge ≡ d → IsNearestUpTo rs a n b → c.place ≡ n → IsCandidateBy rs a c → IsBestUpTo rs a (n + 1) (cond d (Some c) (Some b))
     chosen b c true m inv at by = record {
@@ -183,16 +195,13 @@ module _ (rs : List (List Edge)) (a : Edge) (n : ℕ) where
     better-step (Some b) None inv at = kept b inv at
     better-step (Some b) (Some c) inv at = chosen b c (is_nearer a c.edge b.edge) refl inv at.0 at.1
 
-right-by : (rs : List (List Edge)) (a : Edge) (c : Candidate) → All (λ r. All IsWholeSegment r) rs → IsCandidateBy rs a c → IsRight a c.edge
-right-by rs a c whole by = record { whole = whole-in (get_or rs c.place []) c.edge (whole c.place [] by.candidate.inside) by.edge.member; right = by.edge.right }
+pub best-right : (rs : List (List Edge)) (a : Edge) (n : ℕ) (best : Option Candidate) → IsBestUpTo rs a n best → IfSome best (λ c. IsRight a c.edge)
+best-right rs a n None inv = tt
+best-right rs a n (Some c) inv = inv.is.edge.right
 
-pub best-right : (rs : List (List Edge)) (a : Edge) (n : ℕ) (best : Option Candidate) → All (λ r. All IsWholeSegment r) rs → IsBestUpTo rs a n best → IfSome best (λ c. IsRight a c.edge)
-best-right rs a n None whole inv = tt
-best-right rs a n (Some c) whole inv = right-by rs a c whole inv.is
-
-pub next-right : (rs : List (List Edge)) (a : Edge) (n : ℕ) (next : Option Candidate) → All (λ r. All IsWholeSegment r) rs → IsCandidateAt rs a n next → IfSome next (λ c. IsRight a c.edge)
-next-right rs a n None whole at = tt
-next-right rs a n (Some c) whole at = right-by rs a c whole at.1
+pub next-right : (rs : List (List Edge)) (a : Edge) (n : ℕ) (next : Option Candidate) → IsCandidateAt rs a n next → IfSome next (λ c. IsRight a c.edge)
+next-right rs a n None at = tt
+next-right rs a n (Some c) at = at.1.edge.right
 
 -- ---- a candidate
 none-around : (a : Edge) (es : List Edge) → ((f : Edge) → In f es → is_right_of a f ≡ false) → is_around a es ≡ false

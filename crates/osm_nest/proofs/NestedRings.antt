@@ -1,14 +1,16 @@
--- The rings of a sided list of edges along whole segments run along whole segments too.
-use Rattle.std.proofs.Common.{◌≡◌, inl, inr, ◌⊎◌, Bool, true, false, not, ◌&&◌, ◌||◌, ℕ, List, [], ◌∷◌, map, All, cond, refl, sym, ap, subst, ◌∙◌, arith}
+-- The rings of a list of edges: they run along whole segments where the list does, and have its common denominator.
+use Rattle.std.proofs.Common.{All, Bool, ◌+◌, List, [], ap, arith, cond, false, inl, inr, map, nat_eq, not, refl, subst, sym, true, ℕ, ◌&&◌, ◌*◌, ◌++◌, ◌||◌, ◌∙◌, ◌∷◌, ◌≡◌, ◌≤◌, ◌⊎◌}
 use Rattle.std.specs.List.{sum_by}
+use Rattle.std.proofs.Math.Nat.{mul_assoc, mul_left_comm}
+use Rattle.std.proofs.lemmas.Bool.{eq-eqb, eqb-true}
 use Rattle.nesting.specs.RingList.{IsRingList}
 use Rattle.plane.specs.Bit.{bit}
 use Rattle.plane.specs.Vector.{same_point}
 use Rattle.plane.proofs.Bools.{and-in, and-out}
 use Rattle.plane.proofs.Points.{same_point-refl, same_point-true}
 use Rattle.winding.specs.Member.{In}
-use Rattle.winding.proofs.Members.{all-either, all-in, in-all, in-either}
-use Rattle.winding.proofs.Sums.{total, total-is}
+use Rattle.winding.proofs.Members.{all-in, in-all}
+use Rattle.winding.proofs.Sums.{total, total-++, total-is}
 use Rattle.osm_geom.specs.declared.edge.Carrier.{Carrier}
 use Rattle.osm_geom.specs.declared.edge.Carrier.TheVariants.{OfSeg, Vertical, Horizontal}
 use Rattle.osm_geom.specs.declared.edge.Edge.{Edge}
@@ -16,13 +18,13 @@ use Rattle.osm_geom.specs.declared.loc.Loc.{Loc}
 use Rattle.osm_geom.specs.declared.point.Point.{Point}
 use Rattle.osm_geom.specs.declared.point.Point.TheVariants.{Lattice, OnHorizontal, OnVertical}
 use Rattle.osm_geom.specs.Loc.{vector_of}
+use Rattle.osm_geom.specs.Point.{den_of}
 use Rattle.sided.specs.Multiple.{common_den, edges_times}
+use Rattle.sided.specs.Sided.{IsSided}
 use Rattle.osm_rings.specs.PlaneEdge.{IsWholeSegment}
 use Rattle.osm_rings.specs.RingList.{AreRingsOf}
-use Rattle.osm_rings.specs.SidedEdges.{AreSidedSegments}
 use Rattle.osm_rings.proofs.Whole.{same-location}
 use Rattle.osm_nest.specs.RingLists.{AreRings, all_edges}
-use Rattle.osm_nest.proofs.InPlane.{common-one}
 
 -- ---- whether an edge runs along a whole segment, as a test
 abbrev is_at : Point → Loc → Bool
@@ -98,23 +100,72 @@ ring-edge es rs whole sums r i e j =
     let here : total is_part r ≡ 0 = total-is is_part r ∙ none-out (λ r. sum_by is_part r) rs r all i in
     test-whole e e.carrier refl (no-part (is_whole e) (none-out is_part r e here j))
 
-pub rings-whole : (es : List Edge) (rs : List (List Edge)) → AreSidedSegments es → AreRingsOf es rs → All (λ r. All IsWholeSegment r) rs
-rings-whole es rs s are = all-in (λ r. All IsWholeSegment r) rs (λ r i. all-in IsWholeSegment r (λ e j. ring-edge es rs s.whole are.edges r i e j))
+pub rings-whole : (es : List Edge) (rs : List (List Edge)) → All IsWholeSegment es → AreRingsOf es rs → All (λ r. All IsWholeSegment r) rs
+rings-whole es rs whole are = all-in (λ r. All IsWholeSegment r) rs (λ r i. all-in IsWholeSegment r (λ e j. ring-edge es rs whole are.edges r i e j))
 
--- ---- all edges together
-pub all-whole : (rs : List (List Edge)) → ((r : List Edge) → In r rs → All IsWholeSegment r) → All IsWholeSegment (all_edges rs)
-all-whole rs whole = all-in IsWholeSegment (all_edges rs) (each rs whole)
-  where
-    each : (rs : List (List Edge)) → ((r : List Edge) → In r rs → All IsWholeSegment r) → (e : Edge) → In e (all_edges rs) → IsWholeSegment e
-    each [] whole e i = absurd i
-    each (r ∷ rs) whole e i =
-        all-either IsWholeSegment r (all_edges rs) e (λ x j. in-all IsWholeSegment r x (whole r (inl refl)) j) (λ x j. each rs (λ q k. whole q (inr k)) x j) (in-either r (all_edges rs) e i)
+-- ---- lists over which all sums are equal have equal products
+module _ {X : Type 0} (w : X → ℕ) where
+  abbrev product : List X → ℕ
+  product [] = 1
+  product (x ∷ xs) = w x * product xs
 
-pub rings-one : (rs : List (List Edge)) → All (λ r. All IsWholeSegment r) rs → common_den (all_edges rs) ≡ 1
-rings-one rs whole = common-one (all_edges rs) (all-whole rs (λ r i. in-all (λ r. All IsWholeSegment r) rs r whole i))
+  product-append : (xs ys : List X) → product (xs ++ ys) ≡ product xs * product ys
+  product-append [] ys = let e : 1 * product ys ≡ product ys = omega arith in sym e
+  product-append (x ∷ xs) ys = ap (λ n. w x * n) (product-append xs ys) ∙ sym (mul_assoc (w x) (product xs) (product ys))
 
-pub may-be-nested : (es : List Edge) (rs : List (List Edge)) → AreSidedSegments es → AreRingsOf es rs → AreRings rs
-may-be-nested es rs s are =
-    let whole = rings-whole es rs s are in
-    let same : common_den es ≡ common_den (all_edges rs) = common-one es s.whole ∙ sym (rings-one rs whole) in
-    record { whole = whole; ring_list = subst (λ k. IsRingList (map (edges_times k) rs)) same are.rings }
+  abbrev is_by : ℕ → ℕ → ℕ
+  is_by n m = bit (nat_eq n m)
+
+  found-by : (n : ℕ) (y : X) (ys : List X) → (b : Bool) → nat_eq n (w y) ≡ b → 1 ≤ bit b + total (λ (x : X). is_by n (w x)) ys →
+      (1 ≤ total (λ (x : X). is_by n (w x)) ys → (us : List X) × (x : X) × (vs : List X) × (ys ≡ us ++ x ∷ vs) × (w x ≡ n)) →
+      (us : List X) × (x : X) × (vs : List X) × (y ∷ ys ≡ us ++ x ∷ vs) × (w x ≡ n)
+  found-by n y ys true e h more = ([], y, ys, refl, sym (eqb-true n (w y) e))
+  found-by n y ys false e h more = let r = more (omega arith) in (y ∷ r.0, r.1, r.2, ap (λ l. y ∷ l) r.3, r.4)
+
+  -- a value that is counted stands somewhere
+  found : (n : ℕ) (ys : List X) → 1 ≤ total (λ (x : X). is_by n (w x)) ys → (us : List X) × (x : X) × (vs : List X) × (ys ≡ us ++ x ∷ vs) × (w x ≡ n)
+  found n [] h = absurd (omega arith)
+  found n (y ∷ ys) h = found-by n y ys (nat_eq n (w y)) refl h (found n ys)
+
+  none-left : (ys : List X) → 0 ≡ total (λ (x : X). 1) ys → product ys ≡ 1
+  none-left [] h = refl
+  none-left (y ∷ ys) h = absurd (omega arith)
+
+  same-product : (xs ys : List X) → ((f : ℕ → ℕ) → total (λ x. f (w x)) xs ≡ total (λ x. f (w x)) ys) → product xs ≡ product ys
+  same-product [] ys h = sym (none-left ys (h (λ n. 1)))
+  same-product (x ∷ xs) ys h =
+      let n = w x in
+      let own : is_by n n ≡ 1 = ap bit (eq-eqb n n refl) in
+      let count = h (is_by n) in
+      let s = found n ys (omega arith) in
+      let us = s.0 in let y = s.1 in let vs = s.2 in
+      let rest : (f : ℕ → ℕ) → total (λ x. f (w x)) xs ≡ total (λ x. f (w x)) (us ++ vs) = λ f.
+      let a = h f in
+      let b = ap (total (λ x. f (w x))) s.3 in
+      let c = total-++ (λ x. f (w x)) us (y ∷ vs) in
+      let d = total-++ (λ x. f (w x)) us vs in
+      let e = ap f s.4 in omega arith in
+      ap (λ m. n * m) (same-product xs (us ++ vs) rest ∙ product-append us vs)
+      ∙ mul_left_comm n (product us) (product vs)
+      ∙ ap (λ m. product us * (m * product vs)) (sym s.4)
+      ∙ sym (product-append us (y ∷ vs)) ∙ ap product (sym s.3)
+
+abbrev dens : Edge → ℕ
+dens e = den_of e.from * den_of e.to
+
+common-is : (es : List Edge) → common_den es ≡ product dens es
+common-is [] = refl
+common-is (e ∷ es) = ap (λ n. den_of e.from * den_of e.to * n) (common-is es)
+
+all-sum : (f : Edge → ℕ) (rs : List (List Edge)) → total f (all_edges rs) ≡ total (λ r. sum_by f r) rs
+all-sum f [] = refl
+all-sum f (r ∷ rs) = let a = total-++ f r (all_edges rs) in let b = total-is f r in let c = all-sum f rs in omega arith
+
+same-common : (es : List Edge) (rs : List (List Edge)) → AreRingsOf es rs → common_den es ≡ common_den (all_edges rs)
+same-common es rs are =
+    common-is es
+    ∙ same-product dens es (all_edges rs) (λ f. let g = λ (e : Edge). f (dens e) in total-is g es ∙ sym (are.edges g) ∙ sym (total-is (λ r. sum_by g r) rs) ∙ sym (all-sum g rs))
+    ∙ sym (common-is (all_edges rs))
+
+pub may-be-nested : (es : List Edge) (rs : List (List Edge)) → IsSided es → AreRingsOf es rs → AreRings rs
+may-be-nested es rs s are = record { ring_list = subst (λ k. IsRingList (map (edges_times k) rs)) (same-common es rs are) are.rings }

@@ -5,7 +5,6 @@ use Rattle.std.specs.List.Sorted.{IsPermutation, IsSortedBy}
 use Rattle.std.specs.Ordering.{is_lt}
 use Rattle.std.specs.declared.cmp.Ordering.{Ordering}
 use Rattle.std.specs.declared.cmp.Ordering.TheVariants.{Equal, Greater, Less}
-use Rattle.std.proofs.lemmas.Cmp.{on_total, then_total}
 use Rattle.std.proofs.lemmas.List.{get_or-map, get_or_default, length-append, length-map, take-append-drop}
 use Rattle.std.proofs.lemmas.List.MinMax.{ranks_by}
 use Rattle.std.proofs.lemmas.List.Sorted.{IsPermutation-append_comm, IsPermutation-append_left, IsPermutation-cons, IsPermutation-refl, IsPermutation-trans}
@@ -17,25 +16,20 @@ use Rattle.winding.specs.Ring.{segments_of}
 use Rattle.winding.proofs.Members.{in-map}
 use Rattle.osm_geom.specs.declared.edge.Edge.{Edge}
 use Rattle.osm_geom.specs.Point.{point_cmp}
-use Rattle.osm_geom.proofs.LocationOrder.{loc_total}
 use Rattle.sided.specs.Multiple.{common_den, edge_times, edges_times}
 use Rattle.osm_nest.specs.declared.begun.Begun.{Begun}
-use Rattle.osm_nest.specs.declared.begun.Start.{Start}
 use Rattle.osm_nest.specs.declared.polygon.Polygon.{Polygon}
-use Rattle.osm_nest.specs.Grouped.{AreInTurn, AreListed, IsBegunAt, StartsAt, grouped}
+use Rattle.osm_nest.specs.Grouped.{AreInTurn, AreListed, IsBegunAt, grouped, start_cmp}
 use Rattle.osm_nest.specs.Homes.{AreHomes, IsHome, segments_at}
 use Rattle.osm_nest.specs.Nested.{AreNested, IsBegun}
 use Rattle.osm_nest.specs.RingLists.{AreRings, all_edges, whole_rings}
 use Rattle.osm_nest.proofs.GroupedRings.{nested}
 use Rattle.osm_nest.proofs.Leftmost.{in-at}
-use Rattle.osm_nest.proofs.Listing.{turned_whole}
 use Rattle.osm_nest.proofs.Places as places
-use Rattle.osm_nest.proofs.Turns.{start_cmp, turns}
+use Rattle.osm_nest.proofs.Turns.{starts-total, turns}
 use Rattle.osm_rings.specs.LeastStart.{IsLesserStart}
-use Rattle.osm_rings.specs.PlaneEdge.{IsWholeSegment}
 use Rattle.osm_rings.proofs.LeastStarts.{IsLeastUpTo, least-more, least-start}
 use Rattle.osm_rings.proofs.TurnedRings.{turned-least}
-use Rattle.osm_rings.proofs.Whole.{from-lattice, to-lattice}
 
 -- ---- lists chosen place by place
 chosen : {X : Type 0} (P : ℕ → X → Type 0) (n : ℕ) → ((k : ℕ) → k < n → (x : X) × P k x) → (xs : List X) × (length xs ≡ n) × ((k : ℕ) (d : X) → k < n → P k (get_or xs k d))
@@ -159,25 +153,19 @@ begun-of es some =
       },
     )
 
-start-of : (r : List Edge) → 0 < length r → All IsWholeSegment r → (s : Start) × StartsAt r s
-start-of r some whole =
-    let e = first-of r some in
-    let w = subst IsWholeSegment (e.1 e.0) (whole 0 e.0 some) in
-    let p = from-lattice e.0 w in let q = to-lattice e.0 w in (
-      record { from = p.0; to = q.0 },
-      record {
-        from = λ d. ap (λ (x : Edge). x.from) (e.1 d) ∙ p.1;
-        to = λ d. ap (λ (x : Edge). x.to) (e.1 d) ∙ q.1;
-      },
-    )
-
-begun-at : (es : List Edge) (place : ℕ) → 0 < length es → All IsWholeSegment es → (b : Begun) × IsBegunAt es place b
-begun-at es place some whole =
+begun-at : (es : List Edge) (place : ℕ) → 0 < length es → (b : Begun) × IsBegunAt es place b
+begun-at es place some =
     let r = begun-of es some in
     let t = r.1.turned in
     let long : 0 < length r.0 = let a = ap length t.old in let b = ap length t.new in let c = length-append t.front t.back in let d = length-append t.back t.front in omega arith in
-    let s = start-of r.0 long (turned_whole es r.0 t whole) in
-    (record { start = s.0; place = place; ring = r.0 }, record { here = refl; turned = r.1; starts = s.1 })
+    let e = first-of r.0 long in (
+      record { start = record { from = e.0.from; to = e.0.to }; place = place; ring = r.0 },
+      record {
+        here = refl;
+        turned = r.1;
+        starts = record { from = λ d. ap (λ (x : Edge). x.from) (e.1 d); to = λ d. ap (λ (x : Edge). x.to) (e.1 d) };
+      },
+    )
 
 -- ---- homes
 module _ (rs : List (List Edge)) (are : AreRings rs) where
@@ -219,14 +207,14 @@ module _ (rs : List (List Edge)) (are : AreRings rs) where
 
   listed-exists : (listed : List Begun) × AreListed rs (length rs) listed
   listed-exists =
-      let c = chosen (λ n b. IsBegunAt (get_or rs n []) n b) (length rs) (λ n h. begun-at (get_or rs n []) n (some-edge n h) (are.whole n [] h)) in
+      let c = chosen (λ n b. IsBegunAt (get_or rs n []) n b) (length rs) (λ n h. begun-at (get_or rs n []) n (some-edge n h)) in
       (c.0, record { sized = c.1; each = c.2 })
 
   abbrev before : Begun → Begun → Bool
   before b c = is_lt (start_cmp b.start c.start)
 
   before-ranks : IsStrictWeakOrder before
-  before-ranks = ranks_by (then_total (on_total (λ (s : Start). s.from) loc_total) (on_total (λ (s : Start). s.to) loc_total)) (λ (b : Begun). b.start)
+  before-ranks = ranks_by starts-total (λ (b : Begun). b.start)
 
   turn-exists : (bs : List Begun) × AreInTurn rs bs
   turn-exists =

@@ -1,8 +1,7 @@
 -- Begun rings sorted by where they begin are in order, since no two begin with the same edge.
-use Rattle.std.proofs.Common.{AllPairs, Bool, List, [], ap, arith, false, get_or, length, pos, refl, subst, sym, true, ℕ, ◌*ℤ◌, ◌<◌, ◌∙◌, ◌≡◌, ◌≢◌, ◌≤◌}
-use Rattle.std.proofs.lemmas.Int.{ints}
+use Rattle.std.proofs.Common.{AllPairs, Bool, List, [], ap, arith, false, get_or, length, refl, subst, sym, true, ℕ, ◌<◌, ◌∙◌, ◌≡◌, ◌≢◌, ◌≤◌}
 use Rattle.std.specs.List.Sorted.{IsPermutation, IsSortedBy}
-use Rattle.std.specs.Ordering.{is_lt, on, ordering_reverse, ordering_then, then_cmp}
+use Rattle.std.specs.Ordering.{is_lt, ordering_reverse, ordering_then}
 use Rattle.std.specs.declared.cmp.Ordering.{Ordering}
 use Rattle.std.specs.declared.cmp.Ordering.TheVariants.{Equal, Greater, Less}
 use Rattle.std.proofs.lemmas.Cmp.{on_total, then_total, tied_itself}
@@ -11,66 +10,50 @@ use Rattle.std.proofs.lemmas.List.MinMax.{ranks_by}
 use Rattle.std.proofs.lemmas.List.Sorted.{sorted_far}
 use Rattle.nesting.proofs.Parts.{sided-once}
 use Rattle.nesting.specs.Nesting.{edges_of}
-use Rattle.plane.specs.Order.{order}
-use Rattle.plane.specs.Scale.{scaled_point}
-use Rattle.plane.proofs.Points.{same_vector}
 use Rattle.winding.specs.Member.{In}
 use Rattle.winding.proofs.Members.{in-map}
 use Rattle.osm_geom.specs.declared.edge.Edge.{Edge}
-use Rattle.osm_geom.specs.declared.loc.Loc.{Loc}
-use Rattle.osm_geom.specs.declared.point.Point.TheVariants.{Lattice}
-use Rattle.osm_geom.specs.Loc.{loc_cmp, vector_of}
-use Rattle.osm_geom.specs.OrderLaws.{ordering_of}
-use Rattle.osm_geom.specs.Point.{point_cmp, whole_of}
-use Rattle.osm_geom.proofs.LocationOrder.{loc_cmp-is, loc_total}
-use Rattle.osm_geom.proofs.Orders.{loc_same}
+use Rattle.osm_geom.specs.declared.point.Point.{Point}
+use Rattle.osm_geom.specs.Point.{point_cmp}
+use Rattle.osm_geom.proofs.TotalPoints.{point_same, point_total}
+use Rattle.std.specs.Cmp.{IsTotalOrder}
 use Rattle.osm_nest.specs.declared.begun.Begun.{Begun}
 use Rattle.osm_nest.specs.declared.begun.Start.{Start}
-use Rattle.osm_nest.specs.Grouped.{AreInTurn, AreListed, IsBegunAt}
+use Rattle.osm_nest.specs.Grouped.{AreInTurn, AreListed, IsBegunAt, start_cmp}
 use Rattle.osm_nest.specs.Nested.{IsBefore}
 use Rattle.osm_nest.specs.RingLists.{AreRings, all_edges, whole_rings}
 use Rattle.osm_nest.proofs.Listing.{turned-in}
 use Rattle.osm_nest.proofs.Places.{in-at, placed, rings-apart, stand}
 use Rattle.sided.specs.Multiple.{common_den, edge_times, edges_times, point_times}
 
--- the order by which the code sorts
-abbrev pub start_cmp : Start → Start → Ordering
-start_cmp = then_cmp (on (λ s. s.from) loc_cmp) (on (λ s. s.to) loc_cmp)
-
--- lattice points are in the order of their locations
-once : (p : Loc) → scaled_point (pos 1) (whole_of (Lattice p)) ≡ vector_of p
-once p = same_vector (pos 1 *ℤ (p.x *ℤ pos 1)) (pos 1 *ℤ (p.y *ℤ pos 1)) p.x p.y (omega (arith, ints)) (omega (arith, ints))
-
-lattice-cmp : (p q : Loc) → point_cmp (Lattice p) (Lattice q) ≡ loc_cmp p q
-unfolding point_cmp
-lattice-cmp p q =
-    ap ordering_of (ap (λ u. order u (scaled_point (pos 1) (whole_of (Lattice q)))) (once p) ∙ ap (λ v. order (vector_of p) v) (once q)) ∙ sym (loc_cmp-is p q)
+pub starts-total : IsTotalOrder start_cmp
+starts-total = then_total (on_total (λ (s : Start). s.from) point_total) (on_total (λ (s : Start). s.to) point_total)
 
 clash : (b : Bool) → b ≡ true → b ≡ false → ⊥
 clash b p q = cc
 
 -- of two different starts the one that isn't after the other is before it
 module _ (s t : Start) (after : is_lt (start_cmp t s) ≡ false) (apart : s.from ≡ t.from → s.to ≡ t.to → ⊥) where
-  flip : (p q : Loc) → loc_cmp p q ≡ Greater → loc_cmp q p ≡ Less
-  flip p q e = loc_total.antisymm q p ∙ ap ordering_reverse e
+  flip : (p q : Point) → point_cmp p q ≡ Greater → point_cmp q p ≡ Less
+  flip p q e = point_total.antisymm q p ∙ ap ordering_reverse e
 
-  by-to : s.from ≡ t.from → (o : Ordering) → loc_cmp s.to t.to ≡ o → ordering_then Equal (loc_cmp s.to t.to) ≡ Less
+  by-to : s.from ≡ t.from → (o : Ordering) → point_cmp s.to t.to ≡ o → ordering_then Equal (point_cmp s.to t.to) ≡ Less
   by-to f Less e = e
-  by-to f Equal e = absurd (apart f (loc_same s.to t.to e))
+  by-to f Equal e = absurd (apart f (point_same s.to t.to e))
   by-to f Greater e =
-      let g : loc_cmp t.from s.from ≡ Equal = ap (λ p. loc_cmp t.from p) f ∙ tied_itself loc_total t.from in
-      let h : start_cmp t s ≡ Less = ap (λ o. ordering_then o (loc_cmp t.to s.to)) g ∙ flip s.to t.to e in
+      let g : point_cmp t.from s.from ≡ Equal = ap (λ p. point_cmp t.from p) f ∙ tied_itself point_total t.from in
+      let h : start_cmp t s ≡ Less = ap (λ o. ordering_then o (point_cmp t.to s.to)) g ∙ flip s.to t.to e in
       absurd (clash (is_lt (start_cmp t s)) (ap is_lt h) after)
 
-  by-from : (o : Ordering) → loc_cmp s.from t.from ≡ o → ordering_then (loc_cmp s.from t.from) (loc_cmp s.to t.to) ≡ Less
-  by-from Less e = ap (λ o. ordering_then o (loc_cmp s.to t.to)) e
-  by-from Equal e = ap (λ o. ordering_then o (loc_cmp s.to t.to)) e ∙ by-to (loc_same s.from t.from e) (loc_cmp s.to t.to) refl
+  by-from : (o : Ordering) → point_cmp s.from t.from ≡ o → ordering_then (point_cmp s.from t.from) (point_cmp s.to t.to) ≡ Less
+  by-from Less e = ap (λ o. ordering_then o (point_cmp s.to t.to)) e
+  by-from Equal e = ap (λ o. ordering_then o (point_cmp s.to t.to)) e ∙ by-to (point_same s.from t.from e) (point_cmp s.to t.to) refl
   by-from Greater e =
-      let h : start_cmp t s ≡ Less = ap (λ o. ordering_then o (loc_cmp t.to s.to)) (flip s.from t.from e) in
+      let h : start_cmp t s ≡ Less = ap (λ o. ordering_then o (point_cmp t.to s.to)) (flip s.from t.from e) in
       absurd (clash (is_lt (start_cmp t s)) (ap is_lt h) after)
 
-  pub start-before : ordering_then (loc_cmp s.from t.from) (loc_cmp s.to t.to) ≡ Less
-  start-before = by-from (loc_cmp s.from t.from) refl
+  pub start-before : ordering_then (point_cmp s.from t.from) (point_cmp s.to t.to) ≡ Less
+  start-before = by-from (point_cmp s.from t.from) refl
 
 module _ (rs : List (List Edge)) (are : AreRings rs) (listed bs : List Begun) (all : AreListed rs (length rs) listed) (moved : IsPermutation listed bs) (sorted : IsSortedBy (λ (b c : Begun). is_lt (start_cmp b.start c.start)) bs) where
   abbrev k : ℕ
@@ -90,8 +73,8 @@ module _ (rs : List (List Edge)) (are : AreRings rs) (listed bs : List Begun) (a
 
   starts-apart : (b c : Begun) → b.place ≢ c.place → (b.place < length rs) × IsBegunAt (get_or rs b.place []) b.place b → (c.place < length rs) × IsBegunAt (get_or rs c.place []) c.place c → (d : Edge) → b.start.from ≡ c.start.from → b.start.to ≡ c.start.to → ⊥
   starts-apart b c n (h, is) (l, it) d f t =
-      let from : (get_or b.ring 0 d).from ≡ (get_or c.ring 0 d).from = is.starts.from d ∙ (ap (λ p. Lattice p) f ∙ sym (it.starts.from d)) in
-      let to : (get_or b.ring 0 d).to ≡ (get_or c.ring 0 d).to = is.starts.to d ∙ (ap (λ p. Lattice p) t ∙ sym (it.starts.to d)) in
+      let from : (get_or b.ring 0 d).from ≡ (get_or c.ring 0 d).from = is.starts.from d ∙ (f ∙ sym (it.starts.from d)) in
+      let to : (get_or b.ring 0 d).to ≡ (get_or c.ring 0 d).to = is.starts.to d ∙ (t ∙ sym (it.starts.to d)) in
       let e = edge_times k (get_or b.ring 0 d) in
       let same : edge_times k (get_or c.ring 0 d) ≡ e = ap (λ p. record { from = point_times k p; to = point_times k (get_or c.ring 0 d).to }) (sym from) ∙ ap (λ p. record { from = point_times k (get_or b.ring 0 d).from; to = point_times k p }) (sym to) in
       let size = length-map rs (edges_times k) in
@@ -103,14 +86,14 @@ module _ (rs : List (List Edge)) (are : AreRings rs) (listed bs : List Begun) (a
       let b = get_or bs i z in let c = get_or bs j z in
       let x = stand rs listed bs all moved i z (omega arith) in
       let y = stand rs listed bs all moved j z l in
-      let far = sorted_far (λ (b c : Begun). is_lt (start_cmp b.start c.start)) (ranks_by (then_total (on_total (λ (s : Start). s.from) loc_total) (on_total (λ (s : Start). s.to) loc_total)) (λ (b : Begun). b.start)) bs sorted i j z (omega arith) l in
+      let far = sorted_far (λ (b c : Begun). is_lt (start_cmp b.start c.start)) (ranks_by starts-total (λ (b : Begun). b.start)) bs sorted i j z (omega arith) l in
       let apart = starts-apart b c ((placed rs listed bs all moved).once i j z h l) x y d in
       let before = start-before b.start c.start far apart in
-      let from : point_cmp (get_or b.ring 0 d).from (get_or c.ring 0 d).from ≡ loc_cmp b.start.from c.start.from =
-      ap (λ p. point_cmp p (get_or c.ring 0 d).from) (x.1.starts.from d) ∙ (ap (λ p. point_cmp (Lattice b.start.from) p) (y.1.starts.from d) ∙ lattice-cmp b.start.from c.start.from) in
-      let to : point_cmp (get_or b.ring 0 d).to (get_or c.ring 0 d).to ≡ loc_cmp b.start.to c.start.to =
-      ap (λ p. point_cmp p (get_or c.ring 0 d).to) (x.1.starts.to d) ∙ (ap (λ p. point_cmp (Lattice b.start.to) p) (y.1.starts.to d) ∙ lattice-cmp b.start.to c.start.to) in
-      ap (λ o. ordering_then o (point_cmp (get_or b.ring 0 d).to (get_or c.ring 0 d).to)) from ∙ (ap (λ o. ordering_then (loc_cmp b.start.from c.start.from) o) to ∙ before)
+      let from : point_cmp (get_or b.ring 0 d).from (get_or c.ring 0 d).from ≡ point_cmp b.start.from c.start.from =
+      ap (λ p. point_cmp p (get_or c.ring 0 d).from) (x.1.starts.from d) ∙ ap (λ p. point_cmp b.start.from p) (y.1.starts.from d) in
+      let to : point_cmp (get_or b.ring 0 d).to (get_or c.ring 0 d).to ≡ point_cmp b.start.to c.start.to =
+      ap (λ p. point_cmp p (get_or c.ring 0 d).to) (x.1.starts.to d) ∙ ap (λ p. point_cmp b.start.to p) (y.1.starts.to d) in
+      ap (λ o. ordering_then o (point_cmp (get_or b.ring 0 d).to (get_or c.ring 0 d).to)) from ∙ (ap (λ o. ordering_then (point_cmp b.start.from c.start.from) o) to ∙ before)
 
   pub turns : AreInTurn rs bs
   turns = record { listed = listed; are = all; moved = moved; order = in-order }

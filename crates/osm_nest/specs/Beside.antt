@@ -1,37 +1,33 @@
 -- Which edges are right of an anchor, and which of them is nearest. No public contract cites it.
-use Rattle.std.specs.Prelude.{Bool, List, None, Option, Some, [], cond, false, get_or, length, not, true, ℕ, ◌<◌, ◌≡◌}
+use Rattle.std.specs.Prelude.{Bool, List, None, Option, Some, [], cond, false, get_or, length, not, true, ℕ, ◌&&◌, ◌<◌, ◌≡◌}
 use Rattle.std.specs.List.{count_by}
-use Rattle.plane.specs.Height.{is_right_above, order_above}
-use Rattle.plane.specs.Sign.{is_plus}
+use Rattle.std.specs.Ordering.{is_lt}
 use Rattle.winding.specs.Member.{In}
 use Rattle.winding.specs.Parity.{is_even}
 use Rattle.osm_geom.specs.declared.edge.Edge.{Edge}
+use Rattle.osm_geom.specs.JustAbove.{just_above_cmp}
 use Rattle.osm_geom.specs.Span.{lower_end, spans}
 use Rattle.osm_nest.specs.declared.homes.Candidate.{Candidate}
-use Rattle.osm_nest.specs.Leftmost.{segment_along}
 use Rattle.osm_nest.specs.Outer.{IsOuter}
-use Rattle.osm_rings.specs.PlaneEdge.{IsWholeSegment}
 
--- e runs along a whole segment that isn't horizontal
-pub record IsSloping (e : Edge) : Type 0 where
-  pub whole : IsWholeSegment e
-  pub own : spans e (lower_end e) ≡ true
+-- e isn't horizontal
+abbrev pub IsSloping : Edge → Type 0
+IsSloping e = spans e (lower_end e) ≡ true
 
 -- f spans the height of the lower end of a, and is right of a just above it
 unfoldable pub is_right_of : Edge → Edge → Bool
-is_right_of a f = is_right_above (segment_along a).from (segment_along a) (segment_along f)
+is_right_of a f = spans f (lower_end a) && is_lt (just_above_cmp a f (lower_end a))
 
 -- just above the lower end of a, which both span, f is left of g
 unfoldable pub is_nearer : Edge → Edge → Edge → Bool
-is_nearer a f g = is_plus (order_above (segment_along a).from (segment_along f) (segment_along g))
+is_nearer a f g = is_lt (just_above_cmp f g (lower_end a))
 
 -- an odd number of the edges are right of a
 abbrev pub is_around : Edge → List Edge → Bool
 is_around a es = not (is_even (count_by (is_right_of a) es))
 
-pub record IsRight (a f : Edge) : Type 0 where
-  pub whole : IsWholeSegment f
-  pub right : is_right_of a f ≡ true
+abbrev pub IsRight : Edge → Edge → Type 0
+IsRight a f = is_right_of a f ≡ true
 
 -- e is one of the edges right of a, and none of them is nearer
 pub record IsNearest (a : Edge) (es : List Edge) (e : Edge) : Type 0 where

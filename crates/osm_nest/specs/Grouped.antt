@@ -2,8 +2,10 @@
 use Rattle.std.specs.Prelude.{All, AllPairs, Bool, List, None, Option, Some, [], false, map, nat_eq, slice_index_or, true, ℕ, length, ◌<◌, ◌≡◌, ◌≢◌}
 use Rattle.std.specs.List.{filter}
 use Rattle.std.specs.List.Sorted.{IsPermutation}
+use Rattle.std.specs.Ordering.{ordering_then}
+use Rattle.std.specs.declared.cmp.Ordering.{Ordering}
 use Rattle.osm_geom.specs.declared.edge.Edge.{Edge}
-use Rattle.osm_geom.specs.declared.point.Point.TheVariants.{Lattice}
+use Rattle.osm_geom.specs.Point.{point_cmp}
 use Rattle.osm_nest.specs.declared.begun.Begun.{Begun}
 use Rattle.osm_nest.specs.declared.begun.Start.{Start}
 use Rattle.osm_nest.specs.declared.polygon.Polygon.{Polygon}
@@ -11,8 +13,12 @@ use Rattle.osm_nest.specs.Nested.{IsBefore, IsBegun}
 
 -- the first edge of the ring has these ends
 pub record StartsAt (ring : List Edge) (start : Start) : Type 0 where
-  pub from : (d : Edge) → (slice_index_or ring 0 d).from ≡ Lattice start.from
-  pub to : (d : Edge) → (slice_index_or ring 0 d).to ≡ Lattice start.to
+  pub from : (d : Edge) → (slice_index_or ring 0 d).from ≡ start.from
+  pub to : (d : Edge) → (slice_index_or ring 0 d).to ≡ start.to
+
+-- by the first end, then by the second
+abbrev pub start_cmp : Start → Start → Ordering
+start_cmp s t = ordering_then (point_cmp s.from t.from) (point_cmp s.to t.to)
 
 -- the ring at a place, begun at its least node
 pub record IsBegunAt (ring : List Edge) (place : ℕ) (begun : Begun) : Type 0 where

@@ -5,12 +5,17 @@ use Rattle.osm_nest.specs.declared.polygon.Polygon.{Polygon}
 use Rattle.osm_nest.specs.Nested.{AreNested}
 use Rattle.osm_nest.specs.Outer.{AreClear}
 use Rattle.osm_nest.specs.RingLists.{AreRings}
+use Rattle.osm_rings.specs.PlaneEdge.{IsWholeSegment}
 use Rattle.osm_rings.specs.RingList.{AreRingsOf}
-use Rattle.osm_rings.specs.SidedEdges.{AreSidedSegments}
+use Rattle.sided.specs.Sided.{IsSided}
 
--- the rings of a sided list of edges along whole segments are rings to be nested
+-- the rings of a sided list of edges are rings to be nested
 abbrev pub RingsMayBeNested : Type 0
-RingsMayBeNested = (es : List Edge) (rs : List (List Edge)) → AreSidedSegments es → AreRingsOf es rs → AreRings rs
+RingsMayBeNested = (es : List Edge) (rs : List (List Edge)) → IsSided es → AreRingsOf es rs → AreRings rs
+
+-- those of edges along whole segments run along whole segments
+abbrev pub RingsRunAlongSegments : Type 0
+RingsRunAlongSegments = (es : List Edge) (rs : List (List Edge)) → All IsWholeSegment es → AreRingsOf es rs → All (All IsWholeSegment) rs
 
 -- of rings to be nested none has a conflict among its own edges, so that each is outer or inner
 abbrev pub RingsAreClear : Type 0

@@ -1,5 +1,5 @@
 -- Outer and inner rings, told by the anchor.
-use Rattle.std.specs.Prelude.{All, Bool, List, cond, false, pos, true, ℤ, ◌%◌, ◌-ℤ◌, ◌≡◌}
+use Rattle.std.specs.Prelude.{Bool, List, cond, false, pos, true, ℤ, ◌%◌, ◌-ℤ◌, ◌≡◌}
 use Rattle.plane.specs.Edge.{segment_of}
 use Rattle.plane.specs.Sign.{Plus, sign}
 use Rattle.plane.specs.Vector.{Vector}
@@ -8,13 +8,11 @@ use Rattle.winding.specs.Member.{In}
 use Rattle.winding.specs.Ring.{IsAnchor, segments_of}
 use Rattle.osm_geom.specs.declared.edge.Edge.{Edge}
 use Rattle.osm_geom.specs.Edge.{runs_up}
-use Rattle.osm_rings.specs.PlaneEdge.{IsWholeSegment}
 use Rattle.sided.specs.Multiple.{common_den, edge_times, whole_edges}
 use Rattle.sided.specs.Sided.{count_at, signed_count_at}
 
--- edges along whole segments, no two of which share a point that isn't an end of both
+-- edges no two of which share a point that isn't an end of both
 pub record AreClear (es : List Edge) : Type 0 where
-  pub whole : All IsWholeSegment es
   pub clear : IsConflictFree (segments_of (whole_edges es))
 
 -- e stands at the least node of the ring and is the leftmost of the edges that rise from there

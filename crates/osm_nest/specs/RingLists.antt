@@ -1,10 +1,9 @@
 -- Ring lists of edges, in the plane multiplied so that all of their points are whole.
-use Rattle.std.specs.Prelude.{All, List, map}
+use Rattle.std.specs.Prelude.{List, map}
 use Rattle.std.specs.List.{flat_map}
 use Rattle.nesting.specs.RingList.{IsRingList}
 use Rattle.plane.specs.Edge as plane
 use Rattle.osm_geom.specs.declared.edge.Edge.{Edge}
-use Rattle.osm_rings.specs.PlaneEdge.{IsWholeSegment}
 use Rattle.sided.specs.Multiple.{common_den, edges_times}
 
 -- all edges of rings, one ring after the other
@@ -15,7 +14,6 @@ all_edges rs = flat_map (λ (r : List Edge). r) rs
 abbrev pub whole_rings : List (List Edge) → List (List plane.Edge)
 whole_rings rs = map (edges_times (common_den (all_edges rs))) rs
 
--- rings of edges along whole segments, that together make a sided list, and no two of which cross
+-- rings that together make a sided list, and no two of which cross
 pub record AreRings (rs : List (List Edge)) : Type 0 where
-  pub whole : All (All IsWholeSegment) rs
   pub ring_list : IsRingList (whole_rings rs)

@@ -84,15 +84,15 @@ fn grouped(
     joined(alloc, outers, under)
 }
 
-/// The polygons of a ring list of edges along whole segments.
+/// The polygons of a ring list.
 ///
 /// Each ring stands in exactly one polygon, there once, begun at its least node: an outer ring first in a polygon of its own, an inner ring
 /// under the outer one that directly encloses it. Polygons by their outer rings, and inner rings, are in order of their least
-/// nodes, and then of the next. The error is want of memory.
+/// nodes, and then of the next. Where all edges run along whole segments, so do those of the polygons. The error is want of memory.
 pub fn nest(alloc: Global, rings: &[Ring]) -> Result<Polygons, AllocError>
     requires { AreRings rings.now }
     ensures nested { IfOk result (λ polygons. AreNested rings.now polygons) }
-    ensures whole { IfOk result (λ polygons. All (All IsWholeSegment) (rings_of polygons)) }
+    ensures whole { All (All IsWholeSegment) rings.now → IfOk result (λ polygons. All (All IsWholeSegment) (rings_of polygons)) }
     ensures sided { IfOk result (λ polygons. AreSided polygons) }
     ensures cover { IfOk result (λ polygons. CoverAsRings rings.now polygons) }
 {

@@ -6,7 +6,6 @@ ghost use Rattle.osm_geom.specs.Span.{lower_end, spans};
 ghost use Rattle.osm_nest.specs.Beside.{IsBestUpTo, IsCandidateAt, IsNearestRight, IsRight, IsSloping, better_of, is_around, is_nearer, is_right_of, nearer_of};
 ghost use Rattle.osm_nest.specs.Homes.{AreHomes, IsHome};
 ghost use Rattle.osm_nest.specs.RingLists.{AreRings};
-ghost use Rattle.osm_rings.specs.PlaneEdge.{IsWholeSegment};
 
 use crate::outer::{anchor, is_outer, lower_end};
 use osm_geom::{Edge, compare_just_above, spans_height};
@@ -98,9 +97,8 @@ fn better(best: Option<Candidate>, next: Option<Candidate>, anchor: &Edge) -> Op
 }
 
 // Whether an odd number of edges are right of the anchor.
-fn is_around(edges: &[Edge], anchor: &Edge) -> bool
+pub(crate) fn is_around(edges: &[Edge], anchor: &Edge) -> bool
     requires anchor { IsSloping anchor.now }
-    requires whole { All IsWholeSegment edges.now }
     ensures { result ≡ is_around anchor.now edges.now }
 {
     let mut odd = false;
@@ -111,9 +109,8 @@ fn is_around(edges: &[Edge], anchor: &Edge) -> bool
 }
 
 // The nearest of the edges right of the anchor.
-fn nearest_right(edges: &[Edge], anchor: &Edge) -> Option<Edge>
+pub(crate) fn nearest_right(edges: &[Edge], anchor: &Edge) -> Option<Edge>
     requires anchor { IsSloping anchor.now }
-    requires whole { All IsWholeSegment edges.now }
     ensures { IsNearestRight anchor.now edges.now result }
 {
     let mut nearest = None;
@@ -127,7 +124,6 @@ fn nearest_right(edges: &[Edge], anchor: &Edge) -> Option<Edge>
 fn nearer(found: Option<Edge>, next: Edge, anchor: &Edge) -> Option<Edge>
     requires anchor { IsSloping anchor.now }
     requires found { IfSome found (λ e. IsRight anchor.now e) }
-    requires whole { IsWholeSegment next }
     ensures { result ≡ nearer_of anchor.now found next }
 {
     if !is_right_of(&next, anchor) {
@@ -154,10 +150,9 @@ fn closer(edge: Edge, next: Edge, anchor: &Edge) -> Edge
 }
 
 // Whether an edge spans the lower end of the anchor, and is right of the anchor just above it.
-#[tactic(auto, using(crate::proofs::Beside::right_is))]
+#[tactic(auto, unfolding(crate::specs::Beside::is_right_of))]
 fn is_right_of(edge: &Edge, anchor: &Edge) -> bool
     requires anchor { IsSloping anchor.now }
-    requires whole { IsWholeSegment edge.now }
     ensures { result ≡ is_right_of anchor.now edge.now }
 {
     let at = lower_end(anchor);
@@ -165,7 +160,7 @@ fn is_right_of(edge: &Edge, anchor: &Edge) -> bool
 }
 
 // Of two edges right of the anchor, whether the first is left of the second.
-#[tactic(auto, using(crate::proofs::Beside::nearer_is, crate::proofs::Beside::right_spans))]
+#[tactic(auto, using(crate::proofs::Beside::right_spans), unfolding(crate::specs::Beside::is_nearer))]
 fn is_nearer(edge: &Edge, other: &Edge, anchor: &Edge) -> bool
     requires anchor { IsSloping anchor.now }
     requires first { IsRight anchor.now edge.now }

@@ -1,9 +1,10 @@
 //! Laws of nesting. Each function has an empty body; its contract is the law.
-ghost use Rattle.osm_nest.specs.Laws.{NestingExists, RingsAreClear, RingsMayBeNested};
+ghost use Rattle.osm_nest.specs.Laws.{NestingExists, RingsAreClear, RingsMayBeNested, RingsRunAlongSegments};
 
-/// The rings that a sided list of edges along whole segments is cut into may be nested.
+/// The rings that a sided list of edges is cut into may be nested, and run along whole segments where the edges do.
 pub fn rings_may_be_nested()
-    ensures { RingsMayBeNested }
+    ensures nested { RingsMayBeNested }
+    ensures whole { RingsRunAlongSegments }
 {}
 
 /// Each of the rings to be nested may be asked whether it is outer.

@@ -2,6 +2,8 @@
 #![tactic(auto)]
 
 mod begun;
+#[cfg(test)]
+mod fraction_tests;
 mod grouping;
 mod homes;
 mod laws;

@@ -8,7 +8,6 @@ ghost use Rattle.osm_geom.specs.Point.{point_cmp};
 ghost use Rattle.osm_geom.specs.Span.{lower_end, spans};
 ghost use Rattle.osm_nest.specs.Leftmost.{comes_first, forks_left};
 ghost use Rattle.osm_nest.specs.Outer.{AreClear, IsAnchorOf, IsInner, IsOuter, WindsBySign};
-ghost use Rattle.osm_rings.specs.PlaneEdge.{IsWholeSegment};
 ghost use Rattle.osm_rings.specs.Ring.{IsRing};
 
 use osm_geom::{Edge, Point, compare_just_above, compare_points, spans_height};
@@ -43,19 +42,15 @@ pub(crate) fn anchor(ring: &Ring) -> Edge
 }
 
 // Of two edges the one that comes first.
-fn first_of(e: Edge, f: Edge) -> Edge
-    requires first { IsWholeSegment e }
-    requires second { IsWholeSegment f }
+pub(crate) fn first_of(e: Edge, f: Edge) -> Edge
     ensures { result ≡ cond (comes_first e f) e f }
 {
     if comes_first(&e, &f) { e } else { f }
 }
 
 // Whether `e` has the lesser lower end, or the same as `f`, which doesn't run to the left of it.
-#[tactic(auto, using(crate::proofs::Leftmost::first_is))]
+#[tactic(auto, unfolding(crate::specs::Leftmost::comes_first))]
 fn comes_first(e: &Edge, f: &Edge) -> bool
-    requires first { IsWholeSegment e.now }
-    requires second { IsWholeSegment f.now }
     ensures { result ≡ comes_first e.now f.now }
 {
     match compare_points(lower_end(e), lower_end(f)) {
@@ -66,11 +61,8 @@ fn comes_first(e: &Edge, f: &Edge) -> bool
 }
 
 // Of two edges with one lower end, whether `f` runs to the left of `e`. A horizontal one runs to the right of all others.
-#[tactic(auto, using(crate::proofs::Leftmost::forks_is))]
+#[tactic(auto, unfolding(crate::specs::Leftmost::forks_left))]
 fn forks_left(e: &Edge, f: &Edge) -> bool
-    requires first { IsWholeSegment e.now }
-    requires second { IsWholeSegment f.now }
-    requires one { point_cmp (lower_end e.now) (lower_end f.now) ≡ Equal }
     ensures { result ≡ forks_left e.now f.now }
 {
     let at = lower_end(e);

@@ -1,11 +1,6 @@
 -- One more ring begun at its least node.
-use Rattle.std.proofs.Common.{All, subst, sym}
 use Rattle.osm_nest.proofs.Listing.{listed-step}
-use Rattle.osm_rings.specs.PlaneEdge.{IsWholeSegment}
 use Rattle.osm_nest.proofs.begun.listed.Goals as goal
-
-pub begin-requires : goal.begin-requires
-begin-requires c = subst (All IsWholeSegment) (sym c.index-rings-place.is) (c.requires c.loop-place.place c.index-rings-place.result c.loop-place-test.true)
 
 pub loop-place-preserved : goal.loop-place-preserved
 loop-place-preserved c =

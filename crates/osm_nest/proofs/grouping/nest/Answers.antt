@@ -5,7 +5,7 @@ use Rattle.osm_nest.specs.Cover.{AreSided, CoverAsRings}
 use Rattle.osm_nest.specs.Grouped.{ArePlaced, AreWithin, grouped}
 use Rattle.osm_nest.specs.Nested.{AreNested}
 use Rattle.osm_nest.specs.Polygons.{rings_of}
-use Rattle.osm_nest.proofs.GroupedRings.{cover_grouped, nested, placed_in, sided_grouped, whole_rings_of, within_homes}
+use Rattle.osm_nest.proofs.GroupedRings.{all_rings_of, cover_grouped, nested, placed_in, sided_grouped, within_homes}
 use Rattle.osm_rings.specs.PlaneEdge.{IsWholeSegment}
 use Rattle.osm_nest.proofs.grouping.nest.Goals as goal
 
@@ -24,10 +24,10 @@ returns-clause-nested c =
     (λ v e. subst (AreNested c.args.rings.now) (sym (e ∙ ap (λ hs. grouped hs bs) c.deref.ensures.value)) (nested c.args.rings.now c.requires c.in_ok-homes.homes.items c.in_ok-homes.ensures bs c.in_ok-begun.ensures)) c.grouped.ensures
 
 pub returns-clause-whole : goal.returns-clause-whole
-returns-clause-whole c =
+returns-clause-whole c whole =
     let bs = c.in_ok-begun.begun.items in
     IfOk-weaker c.grouped.result (λ v. v ≡ grouped c.deref.result.now bs) (λ v. All (All IsWholeSegment) (rings_of v))
-    (λ v e. subst (λ v. All (All IsWholeSegment) (rings_of v)) (sym (e ∙ ap (λ hs. grouped hs bs) c.deref.ensures.value)) (whole_rings_of c.args.rings.now c.requires c.in_ok-homes.homes.items c.in_ok-homes.ensures bs c.in_ok-begun.ensures)) c.grouped.ensures
+    (λ v e. subst (λ v. All (All IsWholeSegment) (rings_of v)) (sym (e ∙ ap (λ hs. grouped hs bs) c.deref.ensures.value)) (all_rings_of c.args.rings.now c.requires c.in_ok-homes.homes.items c.in_ok-homes.ensures bs c.in_ok-begun.ensures IsWholeSegment whole)) c.grouped.ensures
 
 pub returns-clause-sided : goal.returns-clause-sided
 returns-clause-sided c =

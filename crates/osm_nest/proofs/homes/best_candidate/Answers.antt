@@ -6,10 +6,10 @@ use Rattle.osm_nest.proofs.Nearest.{best-right, better-step, next-right}
 use Rattle.osm_nest.proofs.homes.best_candidate.Goals as goal
 
 pub better-best-requires-clause-first : goal.better-best-requires-clause-first
-better-best-requires-clause-first c = best-right c.args.rings.now c.args.anchor.now c.loop-place.place c.loop-place.best c.requires.rings.whole c.loop-place.invariant
+better-best-requires-clause-first c = best-right c.args.rings.now c.args.anchor.now c.loop-place.place c.loop-place.best c.loop-place.invariant
 
 pub better-best-requires-clause-second : goal.better-best-requires-clause-second
-better-best-requires-clause-second c = next-right c.args.rings.now c.args.anchor.now c.loop-place.place c.candidate_at.result c.requires.rings.whole c.candidate_at.ensures
+better-best-requires-clause-second c = next-right c.args.rings.now c.args.anchor.now c.loop-place.place c.candidate_at.result c.candidate_at.ensures
 
 pub loop-place-preserved : goal.loop-place-preserved
 loop-place-preserved c =

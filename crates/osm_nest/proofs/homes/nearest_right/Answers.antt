@@ -3,7 +3,7 @@ use Rattle.osm_nest.proofs.Nearest.{found-right, nearest-step}
 use Rattle.osm_nest.proofs.homes.nearest_right.Goals as goal
 
 pub nearer-nearest-requires-clause-found : goal.nearer-nearest-requires-clause-found
-nearer-nearest-requires-clause-found c = found-right c.args.anchor.now c.args.edges.now c.loop-edge.edge-index c.loop-edge.nearest c.requires.whole c.loop-edge.invariant
+nearer-nearest-requires-clause-found c = found-right c.args.anchor.now c.args.edges.now c.loop-edge.edge-index c.loop-edge.nearest c.loop-edge.invariant
 
 pub loop-edge-preserved : goal.loop-edge-preserved
 loop-edge-preserved c =

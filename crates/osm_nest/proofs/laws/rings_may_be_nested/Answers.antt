@@ -1,6 +1,9 @@
--- The rings run along whole segments, so that both common denominators are 1.
-use Rattle.osm_nest.proofs.NestedRings.{may-be-nested}
+-- The rings have the edges of the list, so that both common denominators are one.
+use Rattle.osm_nest.proofs.NestedRings.{may-be-nested, rings-whole}
 use Rattle.osm_nest.proofs.laws.rings_may_be_nested.Goals as goal
 
-pub returns : goal.returns
-returns c = may-be-nested
+pub returns-clause-nested : goal.returns-clause-nested
+returns-clause-nested c = may-be-nested
+
+pub returns-clause-whole : goal.returns-clause-whole
+returns-clause-whole c = rings-whole

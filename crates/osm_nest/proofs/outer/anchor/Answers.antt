@@ -1,21 +1,9 @@
 -- The first of the edges passed and the next one.
 use Rattle.std.proofs.Common.{length, sym, subst, ◌≡◌, arith}
 use Rattle.osm_nest.specs.Outer.{AreClear, IsAnchorOf}
-use Rattle.osm_nest.proofs.Leftmost.{IsFirstUpTo, first-step, item-in}
-use Rattle.osm_nest.proofs.RingAnchors.{found-anchor, whole-in}
+use Rattle.osm_nest.proofs.Leftmost.{IsFirstUpTo, first-step}
+use Rattle.osm_nest.proofs.RingAnchors.{found-anchor}
 use Rattle.osm_nest.proofs.outer.anchor.Goals as goal
-
-pub first_of-anchor-requires-clause-first : goal.first_of-anchor-requires-clause-first
-first_of-anchor-requires-clause-first c =
-    let es = c.as_slice-edges.result.now in
-    let clear = subst AreClear (sym c.as_slice-edges.ensures.edges) c.requires in
-    whole-in es c.loop-edge.anchor clear.whole c.loop-edge.invariant.member
-
-pub first_of-anchor-requires-clause-second : goal.first_of-anchor-requires-clause-second
-first_of-anchor-requires-clause-second c =
-    let es = c.as_slice-edges.result.now in
-    let clear = subst AreClear (sym c.as_slice-edges.ensures.edges) c.requires in
-    whole-in es c.edge-item.result clear.whole (item-in es c.loop-edge.edge-index c.edge-item.result c.loop-edge-test.true c.edge-item.is)
 
 pub loop-edge-preserved : goal.loop-edge-preserved
 loop-edge-preserved c =
