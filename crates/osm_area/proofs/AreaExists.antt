@@ -12,7 +12,7 @@ use Rattle.osm_segments.specs.Pairs.{conflicts_of}
 use Rattle.osm_sides.specs.Directions.{AreDirected, first_end, last_end}
 use Rattle.osm_sides.specs.Survivors.{HasEvenNodes, edges_of}
 use Rattle.osm_sides.proofs.DirectedSides.{directed_is_sided}
-use Rattle.osm_rings.specs.Laws.{DirectedAreWhole, RingListOfEdgesExists}
+use Rattle.osm_rings.specs.Laws.{RingListOfEdgesExists}
 use Rattle.osm_nest.specs.declared.polygon.Polygon.{Polygon}
 use Rattle.osm_nest.specs.Laws.{RingsMayBeNested}
 use Rattle.osm_nest.specs.Nested.{AreNested}
@@ -55,12 +55,12 @@ are_directed segs = record {
 
 -- ---- rings and polygons, by the laws of the layers below
 
-module _ (whole : DirectedAreWhole) (cut : RingListOfEdgesExists) (fit : RingsMayBeNested) (nest : (rs : List (List Edge)) → AreRings rs → (polygons : List Polygon) × AreNested rs polygons) where
+module _ (cut : RingListOfEdgesExists) (fit : RingsMayBeNested) (nest : (rs : List (List Edge)) → AreRings rs → (polygons : List Polygon) × AreNested rs polygons) where
   pub area_exists : (segs : List Seg) → segs ≢ [] → IsRising seg_cmp segs → conflicts_of segs ≡ [] → HasEvenNodes segs → (polygons : List Polygon) × IsArea segs polygons
   area_exists segs some rising clear even =
       let edges = map (directed_of segs) segs in
       let directed = are_directed segs in
       let sided = directed_is_sided segs edges rising clear even directed in
       let rings = cut edges sided in
-      let nested = nest rings.0 (fit edges rings.0 (whole segs edges directed sided) rings.1) in
+      let nested = nest rings.0 (fit edges rings.0 sided rings.1) in
       (nested.0, is_area segs edges edges rings.0 rings.0 some directed refl rings.1 refl nested.0 nested.1)

@@ -17,7 +17,7 @@ use Rattle.osm_segments.specs.declared.counts.Repeat.{Repeat}
 use Rattle.osm_segments.specs.Counts.{AreSurvivors, AreOddNodes, ends_of}
 use Rattle.osm_segments.specs.Pairs.{conflicts_of}
 use Rattle.osm_segments.specs.Repeats.{AreRepeats, segs_of}
-use Rattle.osm_rings.specs.Laws.{DirectedAreWhole, RingListOfEdgesExists}
+use Rattle.osm_rings.specs.Laws.{RingListOfEdgesExists}
 use Rattle.osm_nest.specs.declared.polygon.Polygon.{Polygon}
 use Rattle.osm_nest.specs.Laws.{RingsMayBeNested}
 use Rattle.osm_nest.specs.Nested.{AreNested}
@@ -85,7 +85,7 @@ none-second f g [] [] none = refl
 none-second f g [] (y ∷ ys) none = absurd (cc)
 none-second f g (x ∷ xs) ys none = absurd (cc)
 
-module _ (whole : DirectedAreWhole) (cut : RingListOfEdgesExists) (fit : RingsMayBeNested) (nest : (rs : List (List Edge)) → AreRings rs → (polygons : List Polygon) × AreNested rs polygons) where
+module _ (cut : RingListOfEdgesExists) (fit : RingsMayBeNested) (nest : (rs : List (List Edge)) → AreRings rs → (polygons : List Polygon) × AreNested rs polygons) where
   module _ (twice : List ℤ) (segs : List Seg) (roles : List Polygon → List Note) where
     abbrev notes : List Note
     notes = map named_twice_note twice ++ map repeated_note (repeats_of segs)
@@ -96,7 +96,7 @@ module _ (whole : DirectedAreWhole) (cut : RingListOfEdgesExists) (fit : RingsMa
     by_faults s ss are nodes odd [] e =
         let clear = none-first conflict_problem odd_problem (conflicts_of (s ∷ ss)) nodes e in
         let even = none-second conflict_problem odd_problem (conflicts_of (s ∷ ss)) nodes e in
-        let area = area_exists whole cut fit nest (s ∷ ss) (λ none. cc) are.rising clear (subst (AreOddNodes (s ∷ ss)) even odd) in (
+        let area = area_exists cut fit nest (s ∷ ss) (λ none. cc) are.rising clear (subst (AreOddNodes (s ∷ ss)) even odd) in (
           outcome.Area area.0 (notes ++ roles area.0),
           (
             (s ∷ ss, (are, record { odd_nodes = nodes; odd = odd; whole = e })),

@@ -2,13 +2,12 @@
 ghost use Rattle.osm_area.specs.Outcome.{OutcomeExists};
 
 use osm_nest::{nesting_exists, rings_may_be_nested};
-use osm_rings::{directed_segments_are_whole, ring_list_of_edges_exists};
+use osm_rings::ring_list_of_edges_exists;
 
 /// Every candidate of every list of objects has an outcome, whatever memory there is.
 pub fn outcome_exists()
     ensures { OutcomeExists }
 {
-    directed_segments_are_whole();
     ring_list_of_edges_exists();
     rings_may_be_nested();
     nesting_exists();
