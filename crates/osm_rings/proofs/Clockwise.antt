@@ -1,12 +1,12 @@
--- The clockwise order by signs: a chain, the same as that of directions, and what a sector holds.
+-- The clockwise order by signs: the same as that of directions, and what a sector holds.
 use Rattle.std.proofs.Common.{◌≡◌, Bool, true, false, not, ◌&&◌, eqb, eqb-true, ℤ, pos, ◌-ℤ◌, ◌+ℤ◌, refl, sym, ap, subst, ◌∙◌, arith}
 use Rattle.std.specs.Ordering.{is_lt, int_cmp, nat_cmp, ordering_then}
 use Rattle.std.proofs.lemmas.Int.{ints}
 use Rattle.plane.specs.Sector.{in_sector, sector_by}
-use Rattle.plane.specs.Sign.{Null, Plus, Sign, is_null, is_plus, negated, sign}
+use Rattle.plane.specs.Sign.{Plus, Sign, is_null, is_plus, negated, sign}
 use Rattle.plane.specs.Vector.{IsDirection, Vector, cross, dot}
 use Rattle.plane.proofs.Identities.{same}
-use Rattle.plane.proofs.Products.{cross-negated, cross-self, dot2, frame-agree, frame-dot-agree, lift2, plucker-agree, plucker-dot-agree}
+use Rattle.plane.proofs.Products.{cross-negated, dot2, frame-agree, frame-dot-agree, lift2}
 use Rattle.plane.proofs.Signs.{agree, all, all-out, all2, all2-out, all4, all4-out, imp, imp-out, same_bool, same_bool-true, sign-reversed, times, times-back, times-plus}
 use Rattle.winding.proofs.Balance.{crossed}
 use Rattle.nesting.proofs.Successors.{is_some, some-signs}
@@ -26,54 +26,8 @@ crossed-at d a b p =
     subst (λ s. agree s (times ay bx) (times (sign (dot d a)) (sign (cross d b))) ≡ true) (times-plus k)
     (subst (λ s. agree (times Plus k) s (times (sign (dot d a)) (sign (cross d b))) ≡ true) (times-back bx ay) (frame-agree d a b p))
 
-dot-at : (d a b : Vector) → IsDirection d → agree (times (sign (dot d a)) (sign (dot d b))) (times (sign (cross d a)) (sign (cross d b))) (sign (dot a b)) ≡ true
+pub dot-at : (d a b : Vector) → IsDirection d → agree (times (sign (dot d a)) (sign (dot d b))) (times (sign (cross d a)) (sign (cross d b))) (sign (dot a b)) ≡ true
 dot-at d a b p = subst (λ s. agree (times (sign (dot d a)) (sign (dot d b))) (times (sign (cross d a)) (sign (cross d b))) s ≡ true) (times-plus (sign (dot a b))) (frame-dot-agree d a b p)
-
--- ---- a chain
-abbrev chain_4 : Sign → Sign → Sign → Sign → Sign → Sign → Sign → Sign → Sign → Bool
-chain_4 ax ay bx by cx cy k l m =
-    imp (agree (times ay l) (times cy k) (times by m)) λ _.
-    imp (agree (times ax l) (times cx k) (times bx m)) λ _.
-    earlier ax ay cx cy m
-
-abbrev chain_3 : Sign → Sign → Sign → Sign → Sign → Sign → Sign → Sign → Bool
-chain_3 ax ay bx by k cx cy l =
-    imp (crossed bx by cx cy l) λ _.
-    imp (earlier bx by cx cy l) λ _.
-    all λ m. imp (crossed ax ay cx cy m) λ _. chain_4 ax ay bx by cx cy k l m
-
-abbrev chain_2 : Sign → Sign → Sign → Sign → Sign → Bool
-chain_2 ax ay bx by k =
-    imp (is_some bx by) λ _.
-    imp (crossed ax ay bx by k) λ _.
-    imp (earlier ax ay bx by k) λ _.
-    all λ cx. all λ cy. all λ l. chain_3 ax ay bx by k cx cy l
-
-abbrev chain_1 : Sign → Sign → Sign → Sign → Bool
-chain_1 ax ay bx by = all (chain_2 ax ay bx by)
-
-chain_computes : all4 chain_1 ≡ true
-chain_computes = refl
-
-pub met-chain : (d a b c : Vector) → IsDirection d → IsDirection b → is_met_before d a b ≡ true → is_met_before d b c ≡ true → is_met_before d a c ≡ true
-met-chain d a b c pd pb h g =
-    let ax = sign (dot d a) in let ay = sign (cross d a) in let bx = sign (dot d b) in let by = sign (cross d b) in let cx = sign (dot d c) in let cy = sign (cross d c) in
-    let k = sign (cross a b) in let l = sign (cross b c) in let m = sign (cross a c) in
-    let g1 = all-out (chain_2 ax ay bx by) (all4-out chain_1 chain_computes ax ay bx by) k in
-    let g2 = imp-out _ _ (imp-out _ _ (imp-out _ _ g1 (some-signs d b pd pb)) (crossed-at d a b pd)) h in
-    let g3 = all-out (λ l. chain_3 ax ay bx by k cx cy l) (all-out (λ cy. all λ l. chain_3 ax ay bx by k cx cy l) (all-out (λ cx. all λ cy. all λ l. chain_3 ax ay bx by k cx cy l) g2 cx) cy) l in
-    let g4 = all-out (λ m. imp (crossed ax ay cx cy m) λ _. chain_4 ax ay bx by cx cy k l m) (imp-out _ _ (imp-out _ _ g3 (crossed-at d b c pd)) g) m in
-    imp-out _ _ (imp-out _ _ (imp-out _ _ g4 (crossed-at d a c pd)) (plucker-agree d a b c)) (plucker-dot-agree d a b c)
-
--- nothing is met before itself
-pub met-itself : (d a : Vector) → is_met_before d a a ≡ false
-met-itself d a =
-    let c = all2-out (λ x y. not (earlier x y x y Null)) refl (sign (dot d a)) (sign (cross d a)) in
-    ap (λ z. earlier (sign (dot d a)) (sign (cross d a)) (sign (dot d a)) (sign (cross d a)) (sign z)) (cross-self a) ∙ not-out _ c
-  where
-    not-out : (b : Bool) → not b ≡ true → b ≡ false
-    not-out true h = sym h
-    not-out false h = refl
 
 -- the order goes by directions alone
 pub met-along : (u v w c d e : Vector) → HaveOneDirection u c → HaveOneDirection v d → HaveOneDirection w e → is_met_before u v w ≡ is_met_before c d e

@@ -10,6 +10,8 @@ pub mod RingListLifts
 pub mod RingLists
 pub mod Starts
 pub mod Succeed
+pub mod TurnedFrom
 pub mod TurnedRings
 pub mod WalkCuts
+pub mod WaysRound
 pub mod Whole

@@ -1,23 +1,26 @@
 -- The ways in order: where those that begin at a point stand.
-use Rattle.std.proofs.Common.{◌≡◌, ℕ, suc, zero, ◌+◌, ◌-◌, ◌<◌, ◌≤◌, List, [], ◌∷◌, ◌++◌, length, get_or, map, drop, All, Bool, true, false, not, Some, None, refl, sym, ap, subst, ◌∙◌, arith, ⊎_elim}
+use Rattle.std.proofs.Common.{◌≡◌, ℕ, ◌+◌, ◌-◌, ◌<◌, ◌≤◌, List, [], ◌∷◌, ◌++◌, length, get_or, drop, All, Bool, true, false, not, Some, None, refl, sym, ap, subst, ◌∙◌, arith, ⊎_elim}
 use Rattle.std.specs.List.{Contains, slice_range}
-use Rattle.std.specs.Cmp.{IsStrictWeakOrder}
-use Rattle.std.specs.List.Sorted.{IsPartitionedBy, IsPermutation, IsSortedBy}
+use Rattle.std.specs.List.Sorted.{IsPartitionedBy, IsPermutation}
 use Rattle.std.specs.declared.cmp.Ordering.{Ordering}
 use Rattle.std.specs.declared.cmp.Ordering.TheVariants.{Less, Equal, Greater}
 use Rattle.std.specs.Ordering.{is_lt, ordering_reverse}
 use Rattle.std.proofs.lemmas.Bool.{cases_lt}
 use Rattle.std.proofs.lemmas.Cmp.{tied_itself}
-use Rattle.std.proofs.lemmas.List.{get_or_default, get_or-map, get_or-take, get_or-drop, length-map, length-append, length-drop, length-take-le, get_or_append_left}
+use Rattle.std.proofs.lemmas.List.{get_or_default, get_or-map, get_or-take, get_or-drop, length-append, length-drop, length-take-le, get_or_append_left}
+use Rattle.std.proofs.lemmas.List.Elements.{All-contains, All-push}
 use Rattle.std.proofs.lemmas.List.MinMax.{ranks_by}
 use Rattle.std.proofs.lemmas.List.Sorted.{All-permutation, Contains-permutation, length_permutation}
 use Rattle.std.proofs.Math.Seq.{get_or-append_seam}
+use Rattle.plane.specs.Vector.{east}
 use Rattle.osm_geom.specs.declared.edge.Edge.{Edge}
 use Rattle.osm_geom.specs.declared.point.Point.{Point}
+use Rattle.osm_geom.specs.Dir.{vector_along}
+use Rattle.osm_geom.specs.Edge.{direction_of}
 use Rattle.osm_geom.specs.Point.{point_cmp}
 use Rattle.osm_geom.proofs.TotalPoints.{point_same, point_total}
 use Rattle.osm_rings.specs.declared.ways.Way.{Way}
-use Rattle.osm_rings.specs.Ways.{AreFrom, AreRising, AreWays, IsEndAt, IsFirstAt, TellStarts, start_at}
+use Rattle.osm_rings.specs.Ways.{AreClockwiseRound, AreFrom, AreRising, AreWays, IsEndAt, IsFirstAt, IsWayOf, TellStarts, start_at}
 
 -- what an edge leaves
 pub start-at : (es : List Edge) (i : ℕ) (d : Edge) → i < length es → start_at es i ≡ Some (get_or es i d).from
@@ -59,25 +62,6 @@ same-from p q h g = decide (point_cmp p q) refl
     decide Greater e = absurd (clash (lt q p) (ap is_lt (point_total.antisymm q p ∙ ap ordering_reverse e)) g)
 
 module _ (ws : List Way) where
-  -- what is sorted by where it begins
-  pub rising-from : IsSortedBy (λ v w. lt v.from w.from) ws → AreRising ws
-  rising-from sorted = λ i j d h l.
-      let far : i + (j - i) ≡ j = omega arith in
-      subst (λ m. lt (get_or ws m d).from (get_or ws i d).from ≡ false) far (rise (j - i) i d (omega arith))
-    where
-      next : (k : ℕ) (d : Way) → k + 1 < length ws → lt (get_or ws (k + 1) d).from (get_or ws k d).from ≡ false
-      next k d h = sorted k d (omega arith) h
-
-      rise : (n i : ℕ) (d : Way) → i + n < length ws → lt (get_or ws (i + n) d).from (get_or ws i d).from ≡ false
-      rise zero i d h =
-          let same : i + zero ≡ i = omega arith in
-          subst (λ m. lt (get_or ws m d).from (get_or ws i d).from ≡ false) (sym same) (lt-itself (get_or ws i d).from)
-      rise (suc n) i d h =
-          let same : i + suc n ≡ i + n + 1 = omega arith in
-          let step = next (i + n) d (omega arith) in
-          let before = rise n i d (omega arith) in
-          subst (λ m. lt (get_or ws m d).from (get_or ws i d).from ≡ false) (sym same) (ranked-chain (get_or ws (i + n + 1) d).from (get_or ws (i + n) d).from (get_or ws i d).from step before)
-
   module _ (rising : AreRising ws) where
     pub before-parts : (p : Point) → IsPartitionedBy (λ w. lt w.from p) ws
     before-parts p i j d h l below = decide (lt (get_or ws i d).from p) refl
@@ -129,21 +113,22 @@ module _ (ws : List Way) where
       by-length (x ∷ xs) e = before-end x
 
   -- what stands from the first place up to the end begins at p, and nothing else does
-  pub range-from : (p : Point) (a b : ℕ) → a ≤ b → b ≤ length ws → IsFirstAt ws p a → IsEndAt ws p b → (ks : List ℕ) → ks ≡ map (λ w. w.edge) (slice_range ws a b) → AreFrom ws p ks
-  range-from p a b h l first end ks is =
+  pub range-from : AreClockwiseRound ws → (p : Point) (a b : ℕ) → a ≤ b → b ≤ length ws → IsFirstAt ws p a → IsEndAt ws p b → AreFrom ws p (slice_range ws a b)
+  range-from round p a b l low_end first end =
       let range = slice_range ws a b in
       let dropped : length (drop a ws) ≡ length ws - a = length-drop a ws in
       let long : length range ≡ b - a = length-take-le (b - a) (drop a ws) (omega arith) in
-      let longer : length ks ≡ length range = ap length is ∙ length-map range (λ w. w.edge) in
-      let read : (k : ℕ) (d : Way) → k < b - a → get_or range k d ≡ get_or ws (a + k) d = λ k d m. get_or-take (b - a) (drop a ws) k d m ∙ get_or-drop a ws k d in
-      let at_k : (k z : ℕ) (d : Way) → k < length ks → get_or ks k z ≡ (get_or ws (a + k) d).edge = λ k z d m. ap (λ xs. get_or xs k z) is ∙ (get_or-map (λ w. w.edge) range k d z (omega arith) ∙ ap (λ w. w.edge) (read k d (omega arith))) in
+      let read : (k : ℕ) (d : Way) → k < length range → get_or range k d ≡ get_or ws (a + k) d = λ k d m. get_or-take (b - a) (drop a ws) k d (omega arith) ∙ get_or-drop a ws k d in
+      let begins : (k : ℕ) (d : Way) → k < length range → (get_or range k d).from ≡ p = λ k d m.
+      let w = get_or ws (a + k) d in
+      let low : lt w.from p ≡ false = first.1 (a + k) d (omega arith) (omega arith) in
+      let high : lt p w.from ≡ false = not-out (lt p w.from) (end.0 (a + k) d (omega arith) (omega arith)) in
+      ap (λ v. v.from) (read k d m) ∙ same-from w.from p low high in
       record {
-        right = λ k z m. with-way ws refl (λ d.
-            let w = get_or ws (a + k) d in
+        right = λ k d m.
+            let w = get_or range k d in
             let fits : a + k < length ws = omega arith in
-            let low : lt w.from p ≡ false = first.1 (a + k) d (omega arith) fits in
-            let high : lt p w.from ≡ false = not-out (lt p w.from) (end.0 (a + k) d (omega arith) (omega arith)) in
-            (w, (a + k, fits, get_or_default ws (a + k) w d fits), same-from w.from p low high, sym (at_k k z d m))) (omega arith);
+            ((a + k, fits, get_or_default ws (a + k) w d fits ∙ sym (read k d m)), begins k d m);
         whole = λ w (m, inside, it) at_p.
             let here : (get_or ws m w).from ≡ p = ap (λ v. v.from) it ∙ at_p in
             let late : a ≤ m = ⊎_elim
@@ -155,45 +140,50 @@ module _ (ws : List Way) where
             (λ late. absurd (clash (lt p (get_or ws m w).from) (not-in (lt p (get_or ws m w).from) (end.1 m w late inside)) (ap (λ q. lt p q) here ∙ lt-itself p)))
             (cases_lt m b) in
             let same : a + (m - a) ≡ m = omega arith in
-            let fits : m - a < length ks = omega arith in
-            (m - a, fits, at_k (m - a) w.edge w fits ∙ (ap (λ n. (get_or ws n w).edge) same ∙ ap (λ v. v.edge) it));
+            let fits : m - a < length range = omega arith in
+            (m - a, fits, read (m - a) w fits ∙ (ap (λ n. get_or ws n w) same ∙ it));
+        clockwise = λ i j d h m.
+            let fits : i < length range = omega arith in
+            let same : (get_or ws (a + j) d).from ≡ (get_or ws (a + i) d).from =
+            ap (λ v. v.from) (sym (read j d m)) ∙ (begins j d m ∙ (sym (begins i d fits) ∙ ap (λ v. v.from) (read i d fits))) in
+            rw (read j d m, read i d fits) (round (a + i) (a + j) d (omega arith) (omega arith) same);
       }
-    where
-      with-way : {G : Type 0} (xs : List Way) → ws ≡ xs → (Way → G) → 0 < length ws → G
-      with-way [] e f h = let none : length ws ≡ 0 = ap length e in absurd (omega arith)
-      with-way (x ∷ xs) e f h = f x
 
 -- ---- the ways of the edges passed so far
+pub way-of : (es : List Edge) (w : Way) (e : Edge) → w.edge < length es → e ≡ get_or es w.edge e → w.from ≡ e.from → vector_along w.dir ≡ direction_of e → IsWayOf es w
+way-of es w e inside is from along = record {
+  inside = inside;
+  from = start-read es w.edge e inside is ∙ ap Some (sym from);
+  along = along ∙ sym (get_or-map direction_of es w.edge e east inside ∙ ap direction_of (sym is));
+}
+
 pub record AreListed (es : List Edge) (n : ℕ) (ws : List Way) : Type 0 where
   pub sized : length ws ≡ n
   pub edge : (i : ℕ) (d : Way) → i < n → (get_or ws i d).edge ≡ i
-  pub from : (i : ℕ) (d : Way) → i < n → start_at es i ≡ Some (get_or ws i d).from
+  pub right : All (IsWayOf es) ws
 
-pub listed-none : (es : List Edge) → AreListed es 0 []
-listed-none es = record { sized = refl; edge = λ i d h. absurd (omega arith); from = λ i d h. absurd (omega arith) }
-
-pub listed-more : (es : List Edge) (n : ℕ) (ws : List Way) (w : Way) → AreListed es n ws → w.edge ≡ n → start_at es n ≡ Some w.from → AreListed es (n + 1) (ws ++ w ∷ [])
-listed-more es n ws w l is from =
+pub listed-more : (es : List Edge) (n : ℕ) (ws : List Way) (w : Way) → AreListed es n ws → w.edge ≡ n → IsWayOf es w → AreListed es (n + 1) (ws ++ w ∷ [])
+listed-more es n ws w l is right =
     let sized = l.sized in
-    let old : (i : ℕ) (d : Way) → i < n → get_or (ws ++ w ∷ []) i d ≡ get_or ws i d = λ i d h. get_or_append_left ws (w ∷ []) d i (omega arith) in
-    let new : (i : ℕ) (d : Way) → i ≡ n → get_or (ws ++ w ∷ []) i d ≡ w = λ i d e. ap (λ k. get_or (ws ++ w ∷ []) k d) (e ∙ sym sized) ∙ get_or-append_seam ws w [] d in
     record {
       sized = let e = length-append ws (w ∷ []) in omega arith;
-      edge = λ i d h. ⊎_elim (λ m. ap (λ v. v.edge) (old i d m) ∙ l.edge i d m) (λ m. let e : i ≡ n = omega arith in ap (λ v. v.edge) (new i d e) ∙ (is ∙ sym e)) (cases_lt i n);
-      from = λ i d h. ⊎_elim (λ m. l.from i d m ∙ ap (λ v. Some v.from) (sym (old i d m))) (λ m. let e : i ≡ n = omega arith in ap (start_at es) e ∙ (from ∙ ap (λ v. Some v.from) (sym (new i d e)))) (cases_lt i n);
+      edge = λ i d h. ⊎_elim
+          (λ m. ap (λ v. v.edge) (get_or_append_left ws (w ∷ []) d i (omega arith)) ∙ l.edge i d m)
+          (λ m. let e : i ≡ n = omega arith in
+          ap (λ k. (get_or (ws ++ w ∷ []) k d).edge) (e ∙ sym sized) ∙ (ap (λ v. v.edge) (get_or-append_seam ws w [] d) ∙ (is ∙ sym e)))
+          (cases_lt i n);
+      right = All-push (IsWayOf es) ws w l.right right;
     }
 
 -- sorted, they are the ways of all edges
-pub listed-sorted : (es : List Edge) (ws vs : List Way) (n : ℕ) → n ≡ length es → AreListed es n ws → IsPermutation ws vs → AreRising vs → AreWays es vs
-listed-sorted es ws vs n whole l moved rising =
+pub listed-sorted : (es : List Edge) (ws vs : List Way) (n : ℕ) → n ≡ length es → AreListed es n ws → IsPermutation ws vs → AreRising vs → AreClockwiseRound vs → AreWays es vs
+listed-sorted es ws vs n whole l moved rising round =
     let sized = l.sized in
     record {
       sized = length_permutation ws vs moved ∙ (sized ∙ whole);
       rising = rising;
-      right = All-permutation (λ w. (w.edge < length es) × (start_at es w.edge ≡ Some w.from)) ws vs moved (λ i d h.
-          let fits : i < n = omega arith in
-          let is = l.edge i d fits in
-          (omega arith, ap (start_at es) is ∙ l.from i d fits));
+      round = round;
+      right = All-permutation (IsWayOf es) ws vs moved l.right;
       whole = λ k h. with-way ws refl (λ d.
           let w = get_or ws k d in
           let fits : k < length ws = omega arith in
@@ -208,9 +198,6 @@ listed-sorted es ws vs n whole l moved rising =
 pub record AreKeyed (es : List Edge) (ws : List Way) (n : ℕ) (keys : List ℕ) : Type 0 where
   pub sized : length keys ≡ n
   pub first : (i : ℕ) → i < n → (p : Point) × (start_at es i ≡ Some p) × IsFirstAt ws p (get_or keys i 0)
-
-pub keyed-none : (es : List Edge) (ws : List Way) → AreKeyed es ws 0 []
-keyed-none es ws = record { sized = refl; first = λ i h. absurd (omega arith) }
 
 pub keyed-more : (es : List Edge) (ws : List Way) (n : ℕ) (keys : List ℕ) (p : Point) (k : ℕ) → AreKeyed es ws n keys → start_at es n ≡ Some p → IsFirstAt ws p k → AreKeyed es ws (n + 1) (keys ++ k ∷ [])
 keyed-more es ws n keys p k inv from first =
@@ -229,19 +216,17 @@ keyed-more es ws n keys p k inv from first =
 
 module _ (es : List Edge) (ws : List Way) (are : AreWays es ws) (keys : List ℕ) (keyed : AreKeyed es ws (length es) keys) where
   -- the way of an edge begins where the edge does
-  way-of : (i : ℕ) (p : Point) → i < length es → start_at es i ≡ Some p → (w : Way) × Contains ws w × (w.from ≡ p)
-  way-of i p h from =
+  begins-there : (i : ℕ) (p : Point) → i < length es → start_at es i ≡ Some p → (w : Way) × Contains ws w × (w.from ≡ p)
+  begins-there i p h from =
       let found = are.whole i h in
       let w = found.0 in
-      let m = found.1 in
-      let right = are.right m.0 w m.1 in
-      let same : start_at es w.edge ≡ Some w.from = subst (λ v. start_at es v.edge ≡ Some v.from) m.2 right.1 in
-      (w, m, same-some w.from p (sym same ∙ (ap (start_at es) found.2 ∙ from)))
+      let right : IsWayOf es w = All-contains (IsWayOf es) ws w are.right found.1 in
+      (w, found.1, same-some w.from p (sym right.from ∙ (ap (start_at es) found.2 ∙ from)))
 
   at-key : (i : ℕ) → i < length es → (p : Point) × (w : Way) × (start_at es i ≡ Some p) × IsFirstAt ws p (get_or keys i 0) × (get_or keys i 0 < length ws) × ((get_or ws (get_or keys i 0) w).from ≡ p)
   at-key i h =
       let key = keyed.first i h in
-      let w = way-of i key.0 h key.1 in
+      let w = begins-there i key.0 h key.1 in
       let at = found-at ws are.rising key.0 (get_or keys i 0) w.0 key.2 w.1 w.2 in
       (key.0, w.0, key.1, key.2, at.0, at.1)
 
@@ -266,7 +251,3 @@ module _ (es : List Edge) (ws : List Way) (are : AreWays es ws) (keys : List ℕ
             let one : a.0 ≡ b.0 = same-some a.0 b.0 (sym a.2 ∙ (same ∙ b.2)) in
             first-one ws are.rising b.0 (get_or keys i 0) (get_or keys j 0) b.1 a.4 b.4 (subst (λ p. IsFirstAt ws p (get_or keys i 0)) one a.3) b.3,
       )
-
--- the order in which they are sorted
-pub starts-order : IsStrictWeakOrder (λ (v w : Way). lt v.from w.from)
-starts-order = ranks_by point_total (λ (w : Way). w.from)

@@ -1,26 +1,15 @@
 -- The ends of whole segments are lattice points, which the plane tells apart.
-use Rattle.std.proofs.Common.{◌≡◌, pos, ◌*ℤ◌, ◌-ℤ◌, Bool, true, false, cond, refl, sym, ap, subst, ◌∙◌, arith}
-use Rattle.std.proofs.lemmas.Int.{ints}
+use Rattle.std.proofs.Common.{◌≡◌, Bool, true, false, cond, refl, sym, ap, subst, ◌∙◌}
 use Rattle.plane.specs.Order.{order}
-use Rattle.plane.specs.Sign.{is_plus, negated}
-use Rattle.plane.specs.Vector.{Vector, from_to}
-use Rattle.plane.proofs.PointOrder.{order-self-null, order-reversed}
-use Rattle.plane.proofs.Points.{same_vector}
-use Rattle.osm_geom.specs.declared.edge.Carrier.{Carrier}
-use Rattle.osm_geom.specs.declared.edge.Carrier.TheVariants.{OfSeg}
+use Rattle.plane.proofs.PointOrder.{order-self-null}
 use Rattle.osm_geom.specs.declared.edge.Edge.{Edge}
 use Rattle.osm_geom.specs.declared.loc.Loc.{Loc}
 use Rattle.osm_geom.specs.declared.point.Point.{Point}
 use Rattle.osm_geom.specs.declared.point.Point.TheVariants.{Lattice}
-use Rattle.osm_geom.specs.declared.seg.Seg.{Seg}
-use Rattle.osm_geom.specs.Carrier.{rising_of}
-use Rattle.osm_geom.specs.Edge.{direction_of, opposite}
-use Rattle.osm_geom.specs.Loc.{step, vector_of}
+use Rattle.osm_geom.specs.Loc.{vector_of}
 use Rattle.osm_geom.specs.OrderLaws.{ordering_of}
-use Rattle.osm_geom.specs.Point.{point_order, whole_of}
-use Rattle.osm_geom.proofs.LocationOrder.{loc_cmp-is, rising_edge}
+use Rattle.osm_geom.proofs.LocationOrder.{loc_cmp-is}
 use Rattle.osm_geom.proofs.Orders.{loc_same}
-use Rattle.plane.specs.Scale.{scaled_point}
 use Rattle.osm_rings.specs.PlaneEdge.{IsWholeSegment, vector_at}
 use Rattle.osm_rings.specs.Ways.{IsLattice}
 

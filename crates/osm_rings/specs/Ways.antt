@@ -1,6 +1,6 @@
--- The starts of edges in order, and the edges that leave a point. No public contract cites it.
-use Rattle.std.specs.Prelude.{All, Contains, List, Option, None, Some, false, get_or, length, map, not, slice_index_or, true, ℕ, ◌<◌, ◌≡◌, ◌≢◌, ◌≤◌}
-use Rattle.std.specs.Ordering.{is_lt}
+-- The ways of edges in order, and the edges that leave a point. No public contract cites it.
+use Rattle.std.specs.Prelude.{All, Bool, Contains, List, Option, None, Some, false, get_or, length, map, not, slice_index_or, true, ℕ, ◌&&◌, ◌<◌, ◌||◌, ◌≡◌, ◌≢◌, ◌≤◌}
+use Rattle.std.specs.Ordering.{is_eq, is_lt}
 use Rattle.std.specs.List.Sorted.{IsPartitionPoint}
 use Rattle.plane.specs.Edge.{Edge}
 use Rattle.plane.specs.Vector.{Vector, east, from_to}
@@ -8,6 +8,7 @@ use Rattle.osm_geom.specs.declared.edge.Edge as geom
 use Rattle.osm_geom.specs.declared.loc.Loc.{Loc}
 use Rattle.osm_geom.specs.declared.point.Point.{Point}
 use Rattle.osm_geom.specs.declared.point.Point.TheVariants.{Lattice}
+use Rattle.osm_geom.specs.Dir.{vector_along}
 use Rattle.osm_geom.specs.Edge.{direction_of}
 use Rattle.osm_geom.specs.Point.{point_cmp}
 use Rattle.osm_rings.specs.declared.ways.Way.{Way}
@@ -25,15 +26,44 @@ start_at es i = get_or (map (λ e. Some e.from) es) i None
 abbrev pub TellStarts : List geom.Edge → List ℕ → Type 0
 TellStarts es keys = (i j : ℕ) → i < length es → j < length es → ((get_or keys i 0 ≡ get_or keys j 0) → start_at es i ≡ start_at es j) × ((start_at es i ≡ start_at es j) → get_or keys i 0 ≡ get_or keys j 0)
 
+-- the direction of the edge at a place
+abbrev pub direction_at : List geom.Edge → ℕ → Vector
+direction_at es k = get_or (map direction_of es) k east
+
+-- w leaves the point that the edge at its place leaves, in the direction of that edge
+pub record IsWayOf (es : List geom.Edge) (w : Way) : Type 0 where
+  pub inside : w.edge < length es
+  pub from : start_at es w.edge ≡ Some w.from
+  pub along : vector_along w.dir ≡ direction_at es w.edge
+
+-- on turning clockwise from the east, v is met before w
+abbrev pub points_before : Way → Way → Bool
+points_before v w = is_met_before east (vector_along v.dir) (vector_along w.dir)
+
+-- v begins before w, or at the same point and points before it
+abbrev pub stands_before : Way → Way → Bool
+stands_before v w = is_lt (point_cmp v.from w.from) || (is_eq (point_cmp v.from w.from) && points_before v w)
+
 -- no way begins before one that stands before it
 abbrev pub AreRising : List Way → Type 0
 AreRising ws = (i j : ℕ) (d : Way) → i ≤ j → j < length ws → is_lt (point_cmp (slice_index_or ws j d).from (slice_index_or ws i d).from) ≡ false
 
--- the ways of all edges, each with the place of its edge, in order of where they begin
+-- no way points before one that stands before it
+abbrev pub AreClockwise : List Way → Type 0
+AreClockwise ws = (i j : ℕ) (d : Way) → i ≤ j → j < length ws → points_before (slice_index_or ws j d) (slice_index_or ws i d) ≡ false
+
+-- of ways that begin at one point, none points before one that stands before it
+abbrev pub AreClockwiseRound : List Way → Type 0
+AreClockwiseRound ws =
+    (i j : ℕ) (d : Way) → i ≤ j → j < length ws → (slice_index_or ws j d).from ≡ (slice_index_or ws i d).from →
+    points_before (slice_index_or ws j d) (slice_index_or ws i d) ≡ false
+
+-- the ways of all edges, in order of where they begin, and round a point clockwise from the east
 pub record AreWays (es : List geom.Edge) (ws : List Way) : Type 0 where
   pub sized : length ws ≡ length es
   pub rising : AreRising ws
-  pub right : All (λ w. (w.edge < length es) × (start_at es w.edge ≡ Some w.from)) ws
+  pub round : AreClockwiseRound ws
+  pub right : All (IsWayOf es) ws
   pub whole : (k : ℕ) → k < length es → (w : Way) × Contains ws w × (w.edge ≡ k)
 
 -- the ways before place i are those that begin before p
@@ -44,14 +74,11 @@ IsFirstAt ws p i = IsPartitionPoint (λ w. is_lt (point_cmp w.from p) ≡ true) 
 abbrev pub IsEndAt : List Way → Point → ℕ → Type 0
 IsEndAt ws p i = IsPartitionPoint (λ w. not (is_lt (point_cmp p w.from)) ≡ true) (λ w. not (is_lt (point_cmp p w.from)) ≡ false) ws i
 
--- the places of the edges whose ways begin at p
-pub record AreFrom (ws : List Way) (p : Point) (ks : List ℕ) : Type 0 where
-  pub right : All (λ k. (w : Way) × Contains ws w × (w.from ≡ p) × (w.edge ≡ k)) ks
-  pub whole : (w : Way) → Contains ws w → w.from ≡ p → Contains ks w.edge
-
--- the direction of the edge at a place
-abbrev pub direction_at : List geom.Edge → ℕ → Vector
-direction_at es k = get_or (map direction_of es) k east
+-- the ways that begin at p, clockwise from the east
+pub record AreFrom (ws : List Way) (p : Point) (vs : List Way) : Type 0 where
+  pub right : All (λ w. Contains ws w × (w.from ≡ p)) vs
+  pub whole : (w : Way) → Contains ws w → w.from ≡ p → Contains vs w
+  pub clockwise : AreClockwise vs
 
 -- where an edge at a place goes
 abbrev pub way_at : List Edge → ℕ → Vector

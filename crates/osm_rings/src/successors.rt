@@ -1,6 +1,7 @@
 //! The successor of each edge: the first edge that is met on turning clockwise from the direction back.
-ghost use Rattle.std.specs.Prelude.{◌≡◌, ◌<◌, All, Contains, IfNone, IfOk, IfSome, [], cond, false, length, ℕ};
-ghost use Rattle.plane.specs.Vector.{IsDirection};
+ghost use Rattle.std.specs.Prelude.{◌≡◌, ◌<◌, All, Contains, IfNone, IfOk, IfSome, List, [], false, length, ℕ};
+ghost use Rattle.plane.specs.Vector.{east};
+ghost use Rattle.osm_geom.specs.declared.edge.Edge.{Edge};
 ghost use Rattle.osm_geom.specs.Dir.{vector_along};
 ghost use Rattle.osm_geom.specs.Edge.{direction_of, opposite};
 ghost use Rattle.orbits.specs.Orbits.{after};
@@ -8,9 +9,9 @@ ghost use Rattle.sided.specs.Multiple.{common_den, edge_times, whole_edges};
 ghost use Rattle.winding.specs.Member.{In};
 ghost use Rattle.osm_rings.specs.Clockwise.{is_met_before};
 ghost use Rattle.osm_rings.specs.Numbered.{edge_at};
-ghost use Rattle.osm_rings.specs.Ways.{AreWays, IsFirstMet, direction_at};
+ghost use Rattle.osm_rings.specs.Ways.{AreClockwise, AreClockwiseRound, AreRising, AreWays, IsFirstMet};
 
-use crate::ways::{Way, leaving};
+use crate::ways::{EAST, Way, leaving};
 use osm_geom::{Dir, Edge, clockwise};
 use std::alloc::{AllocError, Global};
 
@@ -25,47 +26,33 @@ fn back(edge: &Edge) -> Dir
     }
 }
 
-// Of two places the one whose edge is met first on turning clockwise from `from`, the first of them where both point
-// the same way.
-fn nearer(edges: &[Edge], from: Dir, best: usize, other: usize) -> usize
-    requires first { best < length edges.now }
-    requires second { other < length edges.now }
-    ensures chosen { result ≡ cond (is_met_before (vector_along from) (direction_at edges.now other) (direction_at edges.now best)) other best }
-    ensures direction { IsDirection (direction_at edges.now other) }
+// Whether `dir` is met after `from` on turning clockwise from the east.
+fn lies_after(dir: Dir, from: Dir) -> bool
+    ensures { result ≡ is_met_before east (vector_along from) (vector_along dir) }
 {
-    if clockwise(from, edges[other].dir(), edges[best].dir()).is_lt() {
-        return other;
-    }
-    best
+    clockwise(EAST, from, dir).is_lt()
 }
 
-// The first of these edges that is met on turning clockwise from `from`.
-fn first_met(edges: &[Edge], from: Dir, places: &[usize]) -> Option<usize>
-    requires { All (λ k. k < length edges.now) places.now }
-    ensures none { IfNone result (places.now ≡ []) }
-    ensures member { IfSome result (λ j. Contains places.now j) }
-    ensures first { IfSome result (λ j. All (λ k. is_met_before (vector_along from) (direction_at edges.now k) (direction_at edges.now j) ≡ false) places.now) }
+// The first of these ways that is met on turning clockwise from `from`: the first that lies after it, or where none
+// does, the first.
+fn first_met(ways: &[Way], from: Dir) -> Option<&Way>
+    requires { AreClockwise ways.now }
+    ensures none { IfNone result (ways.now ≡ []) }
+    ensures member { IfSome result (λ w. Contains ways.now w.now) }
+    ensures first { IfSome result (λ w. All (λ v. is_met_before (vector_along from) (vector_along v.dir) (vector_along w.now.dir) ≡ false) ways.now) }
 {
-    let mut best = *places.first()?;
-    for &other in places {
-        best = nearer(edges, from, best, other);
-    }
-    Some(best)
+    let after = ways.partition_point(|way| !lies_after(way.dir, from));
+    ways.get(after).or(ways.first())
 }
 
-// The place of the successor of an edge.
-fn successor(
-    alloc: Global,
-    edges: &[Edge],
-    ways: &[Way],
-    edge: &Edge,
-) -> Result<Option<usize>, AllocError>
-    requires member { In edge.now edges.now }
-    requires ways { AreWays edges.now ways.now }
-    ensures { IfOk result (λ r. IsFirstMet (whole_edges edges.now) (edge_times (common_den edges.now) edge.now) r) }
+// The place of the successor of an edge, among those that the ways are of.
+fn successor(ways: &[Way], edge: &Edge) -> Option<usize>
+    requires rising { AreRising ways.now }
+    requires round { AreClockwiseRound ways.now }
+    ensures { (es : List Edge) → AreWays es ways.now → In edge.now es → IsFirstMet (whole_edges es) (edge_times (common_den es) edge.now) result }
 {
-    let places = leaving(alloc, ways, edge.to)?;
-    Ok(first_met(edges, back(edge), places.as_slice()))
+    let way = first_met(leaving(ways, edge.to), back(edge))?;
+    Some(way.edge)
 }
 
 /// For each edge the place of its successor.
@@ -80,7 +67,7 @@ pub fn successors(
 {
     let mut next = Vec::new(alloc);
     for edge in edges {
-        next.push(successor(alloc, edges, ways, edge)?)?;
+        next.push(successor(ways, edge))?;
     }
     Ok(next)
 }

@@ -56,6 +56,17 @@ fn passes(ring: &[Edge], nodes: &[Loc]) -> bool {
             .all(|(edge, node)| edge.from == Point::Lattice(*node))
 }
 
+/// Whether one of the rings, begun at its least node, passes the nodes of this line.
+fn holds(alloc: Global, rings: &Rings, line: &str) -> Result<bool, Fail> {
+    let nodes = nodes(alloc, line)?;
+    let mut seen = false;
+    for ring in rings.as_slice() {
+        let turned = ring.from_least(alloc)?;
+        seen |= passes(turned.as_slice(), &nodes);
+    }
+    Ok(seen)
+}
+
 #[test]
 fn rings_of_printed_areas(rt: HostRuntime) -> Result<(), Fail> {
     let alloc = rt.alloc();
@@ -78,13 +89,30 @@ fn rings_of_printed_areas(rt: HostRuntime) -> Result<(), Fail> {
         let found = rings_of(alloc, &segs(alloc, lines)?)?;
         assert_eq!(rt; found.as_slice().len(), lines.split('/').count(), "{name}");
         for line in lines.split('/') {
-            let nodes = nodes(alloc, line)?;
-            let mut seen = false;
-            for ring in found.as_slice() {
-                let turned = ring.from_least(alloc)?;
-                seen |= passes(turned.as_slice(), &nodes);
-            }
-            assert!(rt; seen, "{name}");
+            assert!(rt; holds(alloc, &found, line)?, "{name}");
+        }
+    }
+    Ok(())
+}
+
+#[test]
+fn twenty_triangles_round_a_node(rt: HostRuntime) -> Result<(), Fail> {
+    let alloc = rt.alloc();
+    let quarters = [
+        "0,0 10,0 10,1 / 0,0 10,2 10,3 / 0,0 10,4 10,5 / 0,0 10,6 10,7 / 0,0 10,8 10,9",
+        "0,0 0,10 -1,10 / 0,0 -2,10 -3,10 / 0,0 -4,10 -5,10 / 0,0 -6,10 -7,10 / 0,0 -8,10 -9,10",
+        "-10,-1 0,0 -10,0 / -10,-3 0,0 -10,-2 / -10,-5 0,0 -10,-4 / -10,-7 0,0 -10,-6 / -10,-9 0,0 -10,-8",
+        "0,-10 1,-10 0,0 / 2,-10 3,-10 0,0 / 4,-10 5,-10 0,0 / 6,-10 7,-10 0,0 / 8,-10 9,-10 0,0",
+    ];
+    let mut all = Vec::new(alloc);
+    for lines in quarters {
+        all.append(&mut segs(alloc, lines)?)?;
+    }
+    let found = rings_of(alloc, &all)?;
+    assert_eq!(rt; found.as_slice().len(), 20);
+    for lines in quarters {
+        for line in lines.split('/') {
+            assert!(rt; holds(alloc, &found, line)?, "{line}");
         }
     }
     Ok(())

@@ -1,19 +1,31 @@
-//! The starts of edges in order, the numbers of the nodes where they begin, and the edges that leave a node.
+//! The edges of a list as they leave their points, in order; the numbers of these points; and the edges that leave one.
 ghost use Rattle.std.specs.Prelude.{◌≡◌, ◌<◌, ◌≤◌, All, IfOk, length};
-ghost use Rattle.osm_rings.specs.Ways.{AreFrom, AreRising, AreWays, IsEndAt, IsFirstAt, TellStarts};
+ghost use Rattle.std.specs.Ordering.{is_lt};
+ghost use Rattle.osm_rings.specs.Ways.{AreClockwiseRound, AreFrom, AreRising, AreWays, IsEndAt, IsFirstAt, TellStarts, stands_before};
 
-use osm_geom::{Edge, Point, compare_points};
-use smallvec::SmallVec;
+use osm_geom::{Dir, Edge, Point, clockwise, compare_points};
 use std::alloc::{AllocError, Global};
+use std::cmp::Ordering;
 
-/// The place of an edge, and the point that it leaves.
+/// The direction from which the ways round a point are told, clockwise.
+pub const EAST: Dir = Dir { dx: 1, dy: 0 };
+
+/// The point that an edge leaves, its direction, and its place in the list.
 #[derive(Clone, Copy, Debug, PartialEq, Eq)]
 pub struct Way {
     pub from: Point,
+    pub dir: Dir,
     pub edge: usize,
 }
 
-/// The ways of the edges, in order of where they begin.
+// The order of ways: by the points that they leave, and round one point clockwise from the east.
+fn compare_ways(way: Way, other: Way) -> Ordering
+    ensures { is_lt result ≡ stands_before way other }
+{
+    compare_points(way.from, other.from).then(clockwise(EAST, way.dir, other.dir))
+}
+
+/// The ways of the edges, in order.
 pub fn ways(alloc: Global, edges: &[Edge]) -> Result<Vec<Way>, AllocError>
     ensures { IfOk result (λ v. AreWays edges.now v.items) }
 {
@@ -21,10 +33,11 @@ pub fn ways(alloc: Global, edges: &[Edge]) -> Result<Vec<Way>, AllocError>
     for (edge, &it) in edges.iter().enumerate() {
         ways.push(Way {
             from: it.from,
+            dir: it.dir(),
             edge,
         })?;
     }
-    ways.sort_by(|way, other| compare_points(way.from, other.from))?;
+    ways.sort_by(|way, other| compare_ways(*way, *other))?;
     Ok(ways)
 }
 
@@ -71,15 +84,12 @@ fn range_at(ways: &[Way], p: Point) -> (usize, usize)
     (first_at(ways, p), end_at(ways, p))
 }
 
-/// The places of the edges that leave p.
-pub fn leaving(alloc: Global, ways: &[Way], p: Point) -> Result<SmallVec<usize, 8>, AllocError>
-    requires { AreRising ways.now }
-    ensures { IfOk result (λ v. AreFrom ways.now p v.items) }
+/// The ways that leave p, clockwise from the east.
+pub fn leaving(ways: &[Way], p: Point) -> &[Way]
+    requires rising { AreRising ways.now }
+    requires round { AreClockwiseRound ways.now }
+    ensures { AreFrom ways.now p result.now }
 {
     let range = range_at(ways, p);
-    let mut edges = SmallVec::new(alloc);
-    for &way in &ways[range.0..range.1] {
-        edges.push(way.edge)?;
-    }
-    Ok(edges)
+    &ways[range.0..range.1]
 }

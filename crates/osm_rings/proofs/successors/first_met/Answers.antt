@@ -1,13 +1,18 @@
--- The best of the places passed and the next one.
-use Rattle.std.proofs.Common.{get_or}
-use Rattle.std.proofs.lemmas.List.{get_or_default}
+-- The first way after the direction, else the first.
+use Rattle.std.proofs.Common.{◌≡◌, false, rules, subst, sym, true}
+use Rattle.std.specs.List.Sorted.{IsPartitionPoint}
+use Rattle.std.proofs.lemmas.List.Sorted.{IsPartitionPoint-from_clause}
 use Rattle.osm_geom.specs.Dir.{vector_along}
-use Rattle.osm_rings.proofs.FirstMets.{along-direction, best-more}
+use Rattle.osm_rings.proofs.WaysRound.{IsPicked, is_passed, passed-parts, picked}
 use Rattle.osm_rings.proofs.successors.first_met.Goals as goal
 
-pub loop-other-preserved : goal.loop-other-preserved
-loop-other-preserved c =
-    let places = c.args.places.now in
-    let n = c.loop-other.other-index in
-    let other = get_or places n 0 in
-    best-more c.args.edges.now (vector_along c.args.from) n places c.loop-other.best other c.nearer-best.result (along-direction c.args.from) c.nearer-best.ensures.direction c.loop-other-test.true (get_or_default places n 0 other c.loop-other-test.true) c.nearer-best.ensures.chosen c.loop-other.invariant
+pub returns : goal.returns
+returns c =
+    let ws = c.args.ways.now in
+    let from = c.args.from in
+    let after = c.partition_point-after.result in
+    let test = is_passed ws c.requires from in
+    let point : IsPartitionPoint (λ w. test w ≡ true) (λ w. test w ≡ false) ws after =
+    IsPartitionPoint-from_clause test ws after c.partition_point-after.ensures.partitioned (passed-parts ws c.requires from) (λ a r f' k. search rules) in
+    let found : IsPicked ws (vector_along from) c.or.result = subst (IsPicked ws (vector_along from)) (sym c.or.ensures) (picked ws c.requires from after point c.get.result c.first.result c.get.ensures.lookup c.first.ensures.item) in
+    record { none = found.none; member = found.member; first = found.first }

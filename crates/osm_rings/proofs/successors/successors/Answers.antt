@@ -11,19 +11,18 @@ use Rattle.osm_rings.proofs.Multiplied.{read-edge}
 use Rattle.osm_rings.proofs.OrbitWalks.{in-at}
 use Rattle.osm_rings.proofs.successors.successors.Goals as goal
 
-pub successor-requires-clause-member : goal.successor-requires-clause-member
-successor-requires-clause-member c = subst (λ e. In e c.args.edges.now) (sym c.edge-item.is) (in-at c.args.edges.now c.loop-edge.edge-index c.edge-item.result c.loop-edge-test.true)
-
 pub loop-edge-preserved : goal.loop-edge-preserved
 loop-edge-preserved c =
     let es = c.args.edges.now in
     let xs = whole_edges es in
     let n = c.loop-edge.edge-index in
     let next = c.loop-edge.next.items in
-    let new = c.in_ok-successor.field-0 in
+    let edge = c.edge-item.result in
+    let new = c.successor.result in
     let items : c.push.new.self.items ≡ next ++ new ∷ [] = c.in_ok-push.ensures.items in
-    let here : edge_at xs n ≡ edge_times (common_den es) c.edge-item.result = read-edge (common_den es) es n c.edge-item.result c.loop-edge-test.true ∙ ap (edge_times (common_den es)) (sym c.edge-item.is) in
-    let met : IsFirstMet xs (edge_at xs n) new = subst (λ e. IsFirstMet xs e new) (sym here) c.in_ok-successor.ensures in
+    let member : In edge es = subst (λ e. In e es) (sym c.edge-item.is) (in-at es n edge c.loop-edge-test.true) in
+    let here : edge_at xs n ≡ edge_times (common_den es) edge = read-edge (common_den es) es n edge c.loop-edge-test.true ∙ ap (edge_times (common_den es)) (sym c.edge-item.is) in
+    let met : IsFirstMet xs (edge_at xs n) new = subst (λ e. IsFirstMet xs e new) (sym here) (c.successor.ensures es c.requires member) in
     record {
       sized = ap length items ∙ (let sized = c.loop-edge.invariant.sized in omega (arith, length-append next (new ∷ [])));
       first = λ i h. subst (λ ns. IsFirstMet xs (edge_at xs i) (after ns i)) (sym items) (met-more xs n next new c.loop-edge.invariant.sized c.loop-edge.invariant.first met i h);
