@@ -1,12 +1,12 @@
 -- Why an object is not added.
 use Rattle.std.specs.Prelude.{◌≡◌, true, false, List}
 use Rattle.opl_reader.specs.declared.object.Object.{Object}
-use Rattle.osm_objects.specs.Object.{kind_of, id_of}
+use Rattle.osm_objects.specs.Object.{is_live, kind_of, id_of}
 use Rattle.osm_objects.specs.Objects.{is_duplicate}
 use Rattle.osm_objects.specs.declared.error.AddError.{AddError}
 use Rattle.osm_objects.specs.declared.error.AddError.TheVariants.{Duplicate, OutOfMemory}
 
--- a duplicate is refused as one, by its kind and id, and nothing else is
+-- A duplicate is refused as one, by its kind and id, and nothing else is. Memory is wanting for a live object alone: one that was deleted is never refused.
 abbrev pub Refuses : List Object → Object → AddError → Type 0
 Refuses objects o (Duplicate kind id) = (is_duplicate objects o ≡ true) × (kind ≡ kind_of o) × (id ≡ id_of o)
-Refuses objects o OutOfMemory = is_duplicate objects o ≡ false
+Refuses objects o OutOfMemory = (is_live o ≡ true) × (is_duplicate objects o ≡ false)

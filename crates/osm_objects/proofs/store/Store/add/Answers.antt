@@ -25,14 +25,14 @@ returns-in_err-held-clause-refusal c =
     let p = err_from_is_err_and c.from_residual.result c.from_residual.ensures.1 in
     let of = c.in-Some.of in
     let at : At c.args.object of = at-live_ref c.args.object of (sym c.live_ref.ensures ∙ c.in-Some.is) in
-    rw (p.1, p.2) (is_duplicate-from c.args.object of c.self.inside.objects.entries c.args.self.now at c.self.invariant.0 c.self.view_is ∙ sym c.contains_key.ensures ∙ c.if-contains_key.false)
+    rw (p.1, p.2) ((at.live, is_duplicate-from c.args.object of c.self.inside.objects.entries c.args.self.now at c.self.invariant.0 c.self.view_is ∙ sym c.contains_key.ensures ∙ c.if-contains_key.false))
 
 pub returns-in_err-insert-clause-refusal : goal.returns-in_err-insert-clause-refusal
 returns-in_err-insert-clause-refusal c =
     let p = err_from_is_err_and c.from_residual-in_err-insert.result c.from_residual-in_err-insert.ensures.1 in
     let of = c.in-Some.of in
     let at : At c.args.object of = at-live_ref c.args.object of (sym c.live_ref.ensures ∙ c.in-Some.is) in
-    rw (p.1, p.2) (is_duplicate-from c.args.object of c.self.inside.objects.entries c.args.self.now at c.self.invariant.0 c.self.view_is ∙ sym c.contains_key.ensures ∙ c.if-contains_key.false)
+    rw (p.1, p.2) ((at.live, is_duplicate-from c.args.object of c.self.inside.objects.entries c.args.self.now at c.self.invariant.0 c.self.view_is ∙ sym c.contains_key.ensures ∙ c.if-contains_key.false))
 
 pub invariant_of-self-2 : goal.invariant_of-self-2
 invariant_of-self-2 c =
