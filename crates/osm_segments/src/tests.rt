@@ -33,71 +33,51 @@ fn all_segs(alloc: Global, lines: &str) -> Result<Vec<Seg>, Fail> {
     Ok(all)
 }
 
+/// Each segment of lines, standing so often.
+fn repeats(alloc: Global, lines: &str, times: u64) -> Result<Vec<Repeat>, Fail> {
+    let mut repeats = Vec::new(alloc);
+    for seg in &all_segs(alloc, lines)? {
+        repeats.push(Repeat { seg: *seg, times })?;
+    }
+    Ok(repeats)
+}
+
 #[test]
 fn survivors_repeats_and_odd_nodes(rt: HostRuntime) -> Result<(), Fail> {
     let alloc = rt.alloc();
+    // Lines, what survives of them, what stands there repeatedly and how often, and how many odd nodes there are.
     let rows = [
-        ("two copies", "0,0 1,0 / 1,0 0,0", "", "2", "0,0 1,0", 0),
+        ("0,0 1,0 / 1,0 0,0", "", "0,0 1,0", 2, 0),
+        ("0,0 1,0 0,0 1,0", "0,0 1,0", "0,0 1,0", 3, 2),
+        ("0,0 1,0 0,0 1,0 0,0", "", "0,0 1,0", 4, 0),
+        ("0,0 1,0 0,0 1,0 0,0 1,0", "0,0 1,0", "0,0 1,0", 5, 2),
+        // nothing survives
+        ("0,0 1,0 1,1 1,0 0,0", "", "0,0 1,0 / 1,0 1,1", 2, 0),
+        // way named twice
         (
-            "three copies",
-            "0,0 1,0 0,0 1,0",
-            "0,0 1,0",
-            "3",
-            "0,0 1,0",
-            2,
-        ),
-        ("four copies", "0,0 1,0 0,0 1,0 0,0", "", "4", "0,0 1,0", 0),
-        (
-            "five copies",
-            "0,0 1,0 0,0 1,0 0,0 1,0",
-            "0,0 1,0",
-            "5",
-            "0,0 1,0",
-            2,
-        ),
-        (
-            "nothing survives",
-            "0,0 1,0 1,1 1,0 0,0",
-            "",
-            "2 2",
-            "0,0 1,0 / 1,0 1,1",
-            0,
-        ),
-        (
-            "way named twice",
             "0,0 1,0 1,1 0,1 0,0 / 1,0 1,1 / 1,1 1,0",
             "0,0 1,0 / 0,0 0,1 / 1,0 1,1 / 0,1 1,1",
-            "3",
             "1,0 1,1",
+            3,
             0,
         ),
-        (
-            "an open line",
-            "0,0 1,0 / 0,0 0,1",
-            "0,0 1,0 / 0,0 0,1",
-            "",
-            "",
-            2,
-        ),
+        // an open line
+        ("0,0 1,0 / 0,0 0,1", "0,0 1,0 / 0,0 0,1", "", 0, 2),
     ];
-    for (name, lines, survive, times, twice, odd) in rows {
+    for (lines, survive, twice, times, odd) in rows {
         let list = all_segs(alloc, lines)?;
+        let kept = all_segs(alloc, survive)?;
         assert_eq!(rt;
             survivors(alloc, &list)?.as_slice(),
-            all_segs(alloc, survive)?.as_slice(),
-            "{name}"
+            kept.as_slice(),
+            "{lines}"
         );
-        assert_eq!(rt; odd_nodes(alloc, &list)?.len(), odd, "{name}");
-        let mut counts = times.split_whitespace();
-        let mut repeats = Vec::new(alloc);
-        for seg in &all_segs(alloc, twice)? {
-            let times = counts.next().and_then(|n| n.parse().ok()).unwrap_or(0);
-            repeats.push(Repeat { seg: *seg, times })?;
-        }
+        assert_eq!(rt; odd_nodes(alloc, &list)?.len(), odd, "{lines}");
+        let expected = repeats(alloc, twice, times)?;
         assert_eq!(rt;
             repeated(alloc, &list)?.as_slice(),
-            repeats.as_slice(),
-            "{name}"
+            expected.as_slice(),
+            "{lines}"
         );
     }
     Ok(())
