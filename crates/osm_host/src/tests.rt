@@ -16,6 +16,8 @@ fn files_are_read_and_written(rt: HostRuntime) -> Result<(), Fail> {
     assert_eq!(rt; host.read(&mut buffer), Ok(3));
     assert_eq!(rt; &buffer[..3], b"abc".as_slice());
     assert_eq!(rt; host.read(&mut buffer), Ok(0), "nothing is left");
+    assert!(rt; host.open_input(".").is_ok());
+    assert!(rt; host.read(&mut buffer).is_err(), "a folder is no input");
 
     assert!(rt; host.open_output("there.txt", false).is_err());
     assert_eq!(rt;
@@ -31,68 +33,30 @@ fn files_are_read_and_written(rt: HostRuntime) -> Result<(), Fail> {
     Ok(())
 }
 
-/// What a row of the table below is answered: to its opens, its read and its writes.
-type Answers = ([bool; 2], [Option<usize>; 3]);
-
-/// Opens an input, reads, opens an output, writes six bytes out and two to the report.
-fn call_all(host: &mut MemoryHost) -> Answers {
+/// What is answered to a read, a write of six bytes out and one of two to the report, after opens of an input and an
+/// output.
+fn call_all(host: &mut MemoryHost) -> [Option<usize>; 3] {
     let mut buffer = [0; 8];
-    let input = host.open_input("in").is_ok();
+    let _ = host.open_input("in");
     let read = host.read(&mut buffer).ok();
-    let output = host.open_output("new", false).is_ok();
+    let _ = host.open_output("new", false);
     let out = host.write_out(b"abcdef").ok();
     let report = host.write_report(b"gh").ok();
-    ([input, output], [read, out, report])
+    [read, out, report]
 }
 
 #[test]
 fn room_most_and_numbers_bound_a_host_over_memory(rt: HostRuntime) -> Result<(), Fail> {
     // most, room, the call that fails, and then the answers and the counts of faults
     let rows = [
-        (
-            9,
-            99,
-            0,
-            ([true, true], [Some(5), Some(6), Some(2)]),
-            [0, 0, 0],
-        ),
-        (
-            2,
-            99,
-            0,
-            ([true, true], [Some(2), Some(2), Some(2)]),
-            [0, 0, 0],
-        ),
-        (9, 9, 0, ([true, true], [Some(5), Some(2), None]), [0, 0, 1]),
-        (9, 3, 0, ([true, false], [Some(5), None, None]), [1, 0, 2]),
-        (
-            9,
-            2,
-            0,
-            ([false, false], [Some(0), Some(2), None]),
-            [2, 0, 1],
-        ),
-        (
-            9,
-            99,
-            1,
-            ([false, true], [Some(0), Some(6), Some(2)]),
-            [1, 0, 0],
-        ),
-        (
-            9,
-            99,
-            2,
-            ([true, true], [None, Some(6), Some(2)]),
-            [0, 1, 0],
-        ),
-        (
-            9,
-            99,
-            5,
-            ([true, true], [Some(5), Some(6), None]),
-            [0, 0, 1],
-        ),
+        (9, 99, 0, [Some(5), Some(6), Some(2)], [0, 0, 0]),
+        (2, 99, 0, [Some(2), Some(2), Some(2)], [0, 0, 0]),
+        (9, 9, 0, [Some(5), Some(2), None], [0, 0, 1]),
+        (9, 3, 0, [Some(5), None, None], [1, 0, 2]),
+        (9, 2, 0, [Some(0), Some(2), None], [2, 0, 1]),
+        (9, 99, 1, [Some(0), Some(6), Some(2)], [1, 0, 0]),
+        (9, 99, 2, [None, Some(6), Some(2)], [0, 1, 0]),
+        (9, 99, 5, [Some(5), Some(6), None], [0, 0, 1]),
     ];
     for (most, room, call, answers, [opens, reads, writes]) in rows {
         // Each row's `most` is at least 1, which the check can't read off the table.
@@ -111,7 +75,7 @@ fn room_most_and_numbers_bound_a_host_over_memory(rt: HostRuntime) -> Result<(),
                 writes
             }
         );
-        assert_eq!(rt; host.out().len(), answers.1[1].unwrap_or(0));
+        assert_eq!(rt; host.out().len(), answers[1].unwrap_or(0));
         assert!(rt; host.open_output("old", false).is_err());
     }
     Ok(())
