@@ -31,17 +31,15 @@ use Rattle.sided.proofs.MultipliedEdges.{rises_alike}
 use Rattle.osm_nest.specs.declared.homes.Candidate.{Candidate}
 use Rattle.osm_nest.specs.Beside.{IsCandidate, IsNearestUpTo, IsSloping, is_around, is_nearer, is_right_of}
 use Rattle.osm_nest.specs.Homes.{segments_at}
-use Rattle.osm_nest.specs.Outer.{AreClear, IsAnchorOf, IsInner, IsOuter}
+use Rattle.osm_nest.specs.Outer.{AnchorRuns, AreClear, IsAnchorOf, IsInner, IsOuter}
 use Rattle.osm_nest.specs.RingLists.{AreRings, all_edges, whole_rings}
+use Rattle.osm_nest.proofs.Bools.{clash}
 use Rattle.osm_nest.proofs.Beside.{nearer-at, right-at}
 use Rattle.osm_nest.proofs.Further.{all-edges-in, anchor-further, anchor-nearer, part, plain-nearer}
 use Rattle.osm_nest.proofs.InPlane.{segment_at, segments_times, spans-at, whole-at}
-use Rattle.osm_nest.proofs.Leftmost.{at-in, in-at}
+use Rattle.osm_nest.proofs.Items.{at-in, in-at}
 use Rattle.osm_nest.proofs.Nearest.{nearer-either}
 use Rattle.osm_nest.proofs.RingAnchors.{anchor-along, anchor-of, segments-are}
-
-clash : (b : Bool) → b ≡ true → b ≡ false → ⊥
-clash b h k = cc
 
 module _ (rs : List (List Edge)) (are : AreRings rs) where
   abbrev K : ℕ
@@ -140,18 +138,30 @@ module _ (rs : List (List Edge)) (are : AreRings rs) where
     up = outer-is k h o.anchor o.is_anchor.member ∙ ap not o.direction;
   }
 
-  not-true-false : (b : Bool) → not b ≡ true → b ≡ false
-  not-true-false true h = cc
-  not-true-false false h = refl
+  same-not : (b c : Bool) → not b ≡ not c → b ≡ c
+  same-not true true h = refl
+  same-not true false h = cc
+  same-not false true h = cc
+  same-not false false h = refl
 
-  is-outer-at : (k : ℕ) → k < length rs → IsOuterRing nest (segments_times K (ring k)) → IsOuter (ring k)
-  is-outer-at k h o =
-      let x = in-map-out (segment_at K) (ring k) o.anchor o.anchors.member in
+  runs-at : (k : ℕ) → k < length rs → (up : Bool) (a : plane.Edge) → IsAnchor a (segments_times K (ring k)) → is_outer nest a ≡ not up → AnchorRuns up (ring k)
+  runs-at k h up a an tells =
+      let x = in-map-out (segment_at K) (ring k) a an.member in
       record {
         anchor = x.0;
-        is_anchor = anchor-down k h x.0 x.1 (subst (λ s. IsAnchor s (segments_times K (ring k))) x.2 o.anchors);
-        direction = not-true-false (runs_up x.0) (sym (outer-is k h x.0 x.1) ∙ ap (is_outer nest) (sym x.2) ∙ o.down);
+        is_anchor = anchor-down k h x.0 x.1 (subst (λ s. IsAnchor s (segments_times K (ring k))) x.2 an);
+        direction = same-not (runs_up x.0) up (sym (outer-is k h x.0 x.1) ∙ ap (is_outer nest) (sym x.2) ∙ tells);
       }
+
+  is-outer-at : (k : ℕ) → k < length rs → IsOuterRing nest (segments_times K (ring k)) → IsOuter (ring k)
+  is-outer-at k h o = runs-at k h false o.anchor o.anchors o.down
+
+  -- what the rings are in the multiplied plane, they are
+  pub outer-at : (k : ℕ) → k < length rs → IsOuterRing nest (segments_at rs k) → IsOuter (ring k)
+  outer-at k h o = is-outer-at k h (subst (IsOuterRing nest) (segments-at k h) o)
+
+  pub inner-at : (k : ℕ) → k < length rs → IsInnerRing nest (segments_at rs k) → IsInner (ring k)
+  inner-at k h o = let i = subst (IsInnerRing nest) (segments-at k h) o in runs-at k h true i.anchor i.anchors i.up
 
   -- ---- beside the anchor of an inner ring
   module _ (h : ℕ) (hh : h < length rs) (a : Edge) (an : IsAnchorOf a (ring h)) where
@@ -230,14 +240,11 @@ module _ (rs : List (List Edge)) (are : AreRings rs) where
           }
 
   -- ---- in the multiplied plane
-  outer-home : (k : ℕ) → k < length rs → IsOuter (ring k) → IsOuterRing nest (segments_at rs k)
+  pub outer-home : (k : ℕ) → k < length rs → IsOuter (ring k) → IsOuterRing nest (segments_at rs k)
   outer-home k h o = subst (IsOuterRing nest) (sym (segments-at k h)) (outer-ring k h o)
 
   inner-home : (k : ℕ) → k < length rs → IsInner (ring k) → IsInnerRing nest (segments_at rs k)
   inner-home k h o = subst (IsInnerRing nest) (sym (segments-at k h)) (inner-ring k h o)
-
-  pub outer-home-of : (k : ℕ) (r : List Edge) → k < length rs → r ≡ get_or rs k r → IsOuter r → IsOuterRing (map segments_of (whole_rings rs)) (segments_at rs k)
-  outer-home-of k r h is o = outer-home k h (subst IsOuter (is ∙ get_or_default rs k r [] h) o)
 
   module _ (h : ℕ) (r : List Edge) (hh : h < length rs) (is : r ≡ get_or rs h r) (a : Edge) (an : IsAnchorOf a r) where
     abbrev own : r ≡ ring h
@@ -249,22 +256,18 @@ module _ (rs : List (List Edge)) (are : AreRings rs) where
     pub sloping-of : IsSloping a
     sloping-of = sloping h hh a at-own
 
-    pub home-of : (c : Candidate) → IsInner r → IsNearestUpTo rs a (length rs) c →
+    pub home-of : (c : Candidate) → IsInner (ring h) → IsNearestUpTo rs a (length rs) c →
         (c.place < length rs) × IsInnerRing (map segments_of (whole_rings rs)) (segments_at rs h) × EnclosesDirectly (map segments_of (whole_rings rs)) (segments_at rs c.place) (segments_at rs h)
     home-of c inner best =
-        let hk = best.is.candidate.inside in
-        let i = subst IsInner own inner in (
+        let hk = best.is.candidate.inside in (
           hk,
-          inner-home h hh i,
+          inner-home h hh inner,
           subst (λ g. EnclosesDirectly nest g (segments_of (get_or in_plane h []))) (sym (segments-at c.place hk))
-              (subst (λ g. EnclosesDirectly nest (segments_times K (ring c.place)) g) (sym (segments-at h hh)) (encloses-directly h hh a at-own i c best)),
+              (subst (λ g. EnclosesDirectly nest (segments_times K (ring c.place)) g) (sym (segments-at h hh)) (encloses-directly h hh a at-own inner c best)),
         )
 
-    pub home-there : IsInner r → ((k : ℕ) → k < length rs → IsCandidate rs a k → ⊥) → ⊥
-    home-there inner none = some-candidate h hh a at-own (subst IsInner own inner) none
-
-pub same-item : (rs : List (List Edge)) (k : ℕ) (r s : List Edge) → k < length rs → r ≡ get_or rs k r → s ≡ get_or rs k s → r ≡ s
-same-item rs k r s h is it = is ∙ get_or_default rs k r s h ∙ sym it
+    pub home-there : IsInner (ring h) → ((k : ℕ) → k < length rs → IsCandidate rs a k → ⊥) → ⊥
+    home-there inner none = some-candidate h hh a at-own inner none
 
 pub each-clear : (rs : List (List Edge)) → AreRings rs → All AreClear rs
 each-clear rs are k r h = subst AreClear (get_or_default rs k [] r h) (clear-at rs are k h)

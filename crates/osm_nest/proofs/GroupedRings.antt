@@ -20,14 +20,19 @@ use Rattle.osm_nest.specs.declared.polygon.Polygon.{Polygon}
 use Rattle.osm_nest.specs.Cover.{AreSided, CoverAsRings}
 use Rattle.osm_nest.specs.Grouped.{AreInTurn, ArePlaced, AreWithin, IsBegunAt, grouped, has_home, has_no_home, polygon_at, stands_first, stands_under}
 use Rattle.osm_nest.specs.Homes.{AreHomes, IsHome, segments_at}
-use Rattle.osm_nest.specs.Nested.{AreBegun, AreInOrder, AreNested, ArePolygonsBegun, ArePolygonsOf, IsBefore}
+use Rattle.osm_nest.specs.Nested.{AreBegun, AreInOrder, AreNested, ArePolygonsBegun, ArePolygonsOf, HasKinds, IsBefore}
+use Rattle.osm_nest.specs.Outer.{IsInner, IsOuter}
 use Rattle.osm_nest.specs.Polygons.{polygon_times, rings_in, rings_of}
 use Rattle.osm_nest.specs.RingLists.{AreRings, all_edges, whole_rings}
 use Rattle.osm_nest.proofs.Further.{all-edges-in}
 use Rattle.osm_nest.proofs.InPlane.{whole-at}
+use Rattle.osm_nest.proofs.Enclosers.{inner-at, outer-at}
+use Rattle.osm_nest.proofs.TurnedAnchors.{runs-turned}
 use Rattle.osm_nest.proofs.BegunPolygons.{cover_begun, rings-total, sided_begun}
+use Rattle.osm_nest.proofs.Bools.{clash}
+use Rattle.osm_nest.proofs.Items.{at-in}
 use Rattle.osm_nest.proofs.Listing.{turned_all}
-use Rattle.osm_nest.proofs.Places.{in-at, placed, rings-apart, stand, sum-all, sum-one}
+use Rattle.osm_nest.proofs.Places.{placed, rings-apart, stand, sum-all, sum-one}
 use Rattle.sided.specs.Multiple.{IsWholeAt, common_den, edges_times}
 
 -- ---- lists
@@ -70,9 +75,6 @@ nothing-by : (b : Bool) → cond {A = ℕ} b 0 0 ≡ 0
 nothing-by true = refl
 nothing-by false = refl
 
-clash : (b : Bool) → b ≡ true → b ≡ false → ⊥
-clash b p q = cc
-
 -- ---- homes
 no-home-out : (o : Option ℕ) → has_no_home o ≡ true → o ≡ None
 no-home-out None e = refl
@@ -97,7 +99,7 @@ module _ (rs : List (List Edge)) (are : AreRings rs) (homes : List (Option ℕ))
   size = length-map rs (edges_times k)
 
   at-place : (n : ℕ) → n < length rs → In (get_or gs n []) gs
-  at-place n h = let s = size in in-at gs n [] (omega arith)
+  at-place n h = let s = size in at-in gs n [] (omega arith)
 
   times-at : (n : ℕ) → n < length rs → get_or gs n [] ≡ edges_times k (get_or rs n [])
   times-at n h = get_or-map (edges_times k) rs n [] [] h
@@ -262,10 +264,36 @@ module _ (rs : List (List Edge)) (are : AreRings rs) (homes : List (Option ℕ))
       in_order = in-order;
     }
 
+    -- ---- outer and inner rings
+    outer-begun : (b : Begun) → In b bs → stands_first homes b ≡ true → IsOuter b.ring
+    outer-begun b i first =
+        let s = stands b i in
+        runs-turned (given b) b.ring s.1.turned.turned false (outer-at rs are b.place s.0 (home-at b.place None s.0 (no-home-out (get_or homes b.place None) first)))
+
+    inner-begun : (b c : Begun) → In c bs → stands_under homes b.place c ≡ true → IsInner c.ring
+    inner-begun b c i under =
+        let s = stands c i in
+        runs-turned (given c) c.ring s.1.turned.turned true (inner-at rs are c.place s.0 (home-at c.place (Some b.place) s.0 (home-out b.place (get_or homes c.place None) under)).1)
+
+    kinds-of : (b : Begun) → In b bs → stands_first homes b ≡ true → HasKinds (polygon_at homes bs b)
+    kinds-of b i first =
+        let under = stands_under homes b.place in
+        record {
+          outer = outer-begun b i first;
+          inners = All-map IsInner (λ (c : Begun). c.ring) (filter under bs)
+              (all-in (λ (c : Begun). IsInner c.ring) (filter under bs) (λ c j. inner-begun b c (in-filter under bs c j) (in-passes under bs c j)));
+        }
+
+    pub kinds_grouped : All HasKinds (grouped homes bs)
+    kinds_grouped =
+        let first = stands_first homes in
+        All-map HasKinds (polygon_at homes bs) (filter first bs)
+        (all-in (λ (b : Begun). HasKinds (polygon_at homes bs b)) (filter first bs) (λ b i. kinds-of b (in-filter first bs b i) (in-passes first bs b i)))
+
     -- ---- what holds of all edges that were given holds of those of the polygons
     module _ (P : Edge → Type 0) (all : All (All P) rs) where
       begun-all : (b : Begun) → In b bs → All P b.ring
-      begun-all b i = let s = stands b i in turned_all P (given b) b.ring s.1.turned.turned (in-all (All P) rs (given b) all (in-at rs b.place [] s.0))
+      begun-all b i = let s = stands b i in turned_all P (given b) b.ring s.1.turned.turned (in-all (All P) rs (given b) all (at-in rs b.place [] s.0))
 
       all-by : (b : Begun) → In b bs → (rest : List (List Edge)) → ((r : List Edge) → In r rest → All P r) → (r : List Edge) → (In r (rings_in (polygon_at homes bs b))) ⊎ (In r rest) → All P r
       all-by b i rest h r (inl (inl e)) = subst (All P) (sym e) (begun-all b i)

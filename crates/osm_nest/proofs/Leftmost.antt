@@ -1,5 +1,5 @@
 -- The edge that comes first of a list is its anchor.
-use Rattle.std.proofs.Common.{◌≡◌, inl, inr, Bool, true, false, not, ◌&&◌, ◌||◌, ℕ, ◌+◌, ◌<◌, ◌*ℤ◌, ◌-ℤ◌, ℤ, pos, List, [], ◌∷◌, length, get_or, map, refl, sym, ap, subst, suc, zero, ◌∙◌, arith, ⊎_elim, cond}
+use Rattle.std.proofs.Common.{◌≡◌, Bool, true, false, not, ◌&&◌, ◌||◌, ℕ, ◌+◌, ◌<◌, ◌*ℤ◌, ◌-ℤ◌, ℤ, pos, List, length, get_or, map, refl, sym, ap, subst, ◌∙◌, arith, ⊎_elim, cond}
 use Rattle.std.specs.declared.cmp.Ordering.TheVariants.{Equal}
 use Rattle.std.specs.Ordering.{is_lt}
 use Rattle.std.proofs.lemmas.Bool.{cases_lt}
@@ -27,6 +27,7 @@ use Rattle.osm_geom.specs.Span.{lower_end, spans}
 use Rattle.sided.specs.Multiple.{IsWholeAt, common_den}
 use Rattle.sided.proofs.MultipliedEdges.{segment_rises}
 use Rattle.osm_nest.specs.Leftmost.{comes_first, first_of, forks_left}
+use Rattle.osm_nest.proofs.Items.{in-at, item-in}
 use Rattle.osm_nest.proofs.InPlane.{above-at, order-at, segment_at, spans-at, whole-at}
 
 -- ---- two segments from one point: which runs to the left
@@ -163,11 +164,6 @@ pub record IsFirstUpTo (es : List Edge) (place : ℕ) (e : Edge) : Type 0 where
   pub member : In e es
   pub found : (m : plane.Edge) → IsAnchor m (segments_along es) → (k : ℕ) (d : Edge) → k < place → k < length es → (along es) (get_or es k d) ≡ m → (along es) e ≡ m
 
-pub in-at : {X : Type 0} (x : X) (xs : List X) → In x xs → (k : ℕ) × (k < length xs) × ((d : X) → get_or xs k d ≡ x)
-in-at x [] i = absurd i
-in-at x (y ∷ ys) (inl e) = (0, omega arith, λ d. sym e)
-in-at x (y ∷ ys) (inr i) = let r = in-at x ys i in (r.0 + 1, omega arith, λ d. let same : r.0 + 1 ≡ suc r.0 = omega arith in ap (λ k. get_or (y ∷ ys) k d) same ∙ r.2 d)
-
 pub first-begins : (es : List Edge) (e : Edge) → In e es → IsFirstUpTo es 0 e
 first-begins es e i = record { member = i; found = λ m a k d h l s. absurd (omega arith) }
 
@@ -203,15 +199,6 @@ first-is-anchor es e plain inv =
     let k = in-at x.0 es x.1 in
     let is = inv.found m.0 m.1 k.0 x.0 k.1 k.1 (ap (along es) (k.2 x.0) ∙ sym x.2) in
     subst (λ s. IsAnchor s (segments_along es)) (sym is) m.1
-
-pub at-in : {X : Type 0} (xs : List X) (k : ℕ) (d : X) → k < length xs → In (get_or xs k d) xs
-at-in [] k d h = absurd (omega arith)
-at-in (x ∷ xs) zero d h = inl refl
-at-in (x ∷ xs) (suc k) d h = inr (at-in xs k d (omega arith))
-
--- what stands at a place is in the list
-pub item-in : {X : Type 0} (xs : List X) (k : ℕ) (x : X) → k < length xs → x ≡ get_or xs k x → In x xs
-item-in xs k x h is = subst (λ y. In y xs) (sym is) (at-in xs k x h)
 
 pub first-step : (es : List Edge) (n : ℕ) (e f next : Edge) → n < length es → f ≡ get_or es n f → next ≡ cond (comes_first e f) e f → IsFirstUpTo es n e → IsFirstUpTo es (n + 1) next
 first-step es n e f next h is be inv =

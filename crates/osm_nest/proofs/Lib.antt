@@ -1,10 +1,13 @@
 pub mod BegunPolygons
 pub mod Beside
+pub mod Bools
 pub mod Enclosers
+pub mod Filled
 pub mod Further
 pub mod GroupedRings
 pub mod Halves
 pub mod InPlane
+pub mod Items
 pub mod Joining
 pub mod Leftmost
 pub mod Listing
@@ -14,4 +17,5 @@ pub mod NestingExists
 pub mod Parting
 pub mod Places
 pub mod RingAnchors
+pub mod TurnedAnchors
 pub mod Turns

@@ -18,6 +18,9 @@ turned-in p q t e i =
     (λ x j. subst (In x) (sym t.old) (in-left t.front t.back x j))
     (in-either t.back t.front e (subst (In e) t.new i))
 
+pub turned-back : (p q : List Edge) → IsTurned p q → (e : Edge) → In e p → In e q
+turned-back p q t = turned-in q p (record { front = t.back; back = t.front; old = t.new; new = t.old })
+
 -- and what holds of all of them holds still
 pub turned_all : (P : Edge → Type 0) (p q : List Edge) → IsTurned p q → All P p → All P q
 turned_all P p q t all = all-in P q (λ e i. in-all P p e all (turned-in p q t e i))

@@ -1,5 +1,5 @@
 -- Looking for the nearest edge right of an anchor, in one ring and among rings.
-use Rattle.std.proofs.Common.{◌≡◌, inl, inr, ◌⊎◌, Bool, true, false, not, ℕ, ◌+◌, ◌<◌, List, [], ◌∷◌, ◌++◌, length, get_or, take, Option, Some, None, IfSome, cond, refl, sym, ap, subst, ◌∙◌, arith, ⊎_elim}
+use Rattle.std.proofs.Common.{◌≡◌, inl, inr, ◌⊎◌, Bool, true, false, not, ℕ, ◌+◌, ◌<◌, List, [], ◌∷◌, ◌++◌, length, get_or, take, Option, Some, None, IfSome, cond, refl, sym, ap, subst, ◌∙◌, ◌↔◌, arith, ⊎_elim}
 use Rattle.std.proofs.lemmas.Bool.{cases_lt}
 use Rattle.std.proofs.lemmas.List.{get_or_default, take_more}
 use Rattle.plane.specs.Bit.{bit}
@@ -20,15 +20,13 @@ use Rattle.osm_geom.specs.declared.edge.Edge.{Edge}
 use Rattle.osm_nest.specs.declared.homes.Candidate.{Candidate}
 use Rattle.osm_nest.specs.Beside.{IsBestUpTo, IsCandidate, IsCandidateAt, IsCandidateBy, IsNearest, IsNearestRight, IsNearestUpTo, IsRight, better_of, closer_of, is_around, is_nearer, is_right_of, nearer_of}
 use Rattle.osm_nest.specs.Outer.{AreClear, IsOuter}
+use Rattle.osm_nest.proofs.Bools.{clash}
 use Rattle.osm_nest.proofs.Beside.{nearer-at, nearer-chain, not-nearer, not-nearer-itself, right-at}
 use Rattle.osm_nest.proofs.Further.{one-more, plain-further}
 use Rattle.osm_nest.proofs.InPlane.{segment_at, segments_times, whole-at}
 use Rattle.osm_nest.proofs.NestedRings.{none-in}
 use Rattle.osm_nest.proofs.RingAnchors.{plain-along, same-along}
 use Rattle.sided.specs.Multiple.{IsWholeAt, common_den}
-
-clash : (b : Bool) → b ≡ true → b ≡ false → ⊥
-clash b h k = cc
 
 -- ---- in one ring
 in-more : (es : List Edge) (x f : Edge) → In f (es ++ x ∷ []) → (In f es) ⊎ (f ≡ x)
@@ -209,10 +207,13 @@ none-around a es h =
     let n : count_by (is_right_of a) es ≡ 0 = sym (total-is (λ f. bit (is_right_of a f)) es) ∙ none-in (λ f. bit (is_right_of a f)) es (λ f i. ap bit (h f i)) in
     ap (λ k. not (is_even k)) n
 
-pub candidate-by : (rs : List (List Edge)) (a : Edge) (k : ℕ) (r : List Edge) (e : Edge) → k < length rs → r ≡ get_or rs k r → IsOuter r → is_around a r ≡ true → IsNearest a r e → (k ≡ k) × IsCandidateBy rs a (record { place = k; edge = e })
+pub candidate-by : (rs : List (List Edge)) (a : Edge) (k : ℕ) (r : List Edge) (e : Edge) → k < length rs → r ≡ get_or rs k r → IsOuter (get_or rs k []) → is_around a r ≡ true → IsNearest a r e → (k ≡ k) × IsCandidateBy rs a (record { place = k; edge = e })
 candidate-by rs a k r e h is o odd n =
     let own : r ≡ get_or rs k [] = is ∙ get_or_default rs k r [] h in
-    (refl, record { candidate = record { inside = h; outer = subst IsOuter own o; odd = subst (λ l. is_around a l ≡ true) own odd }; edge = subst (λ l. IsNearest a l e) own n })
+    (refl, record { candidate = record { inside = h; outer = o; odd = subst (λ l. is_around a l ≡ true) own odd }; edge = subst (λ l. IsNearest a l e) own n })
+
+pub not-outer : (rs : List (List Edge)) (a : Edge) (k : ℕ) (b : Bool) → (b ≡ true) ↔ IsOuter (get_or rs k []) → b ≡ false → IsCandidate rs a k → ⊥
+not-outer rs a k b tells n c = clash b (tells.1 c.outer) n
 
 pub no-candidate : (rs : List (List Edge)) (a : Edge) (k : ℕ) (r : List Edge) → k < length rs → r ≡ get_or rs k r → ((f : Edge) → In f r → is_right_of a f ≡ false) → IsCandidate rs a k → ⊥
 no-candidate rs a k r h is none c =

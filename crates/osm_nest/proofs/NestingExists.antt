@@ -24,8 +24,7 @@ use Rattle.osm_nest.specs.Homes.{AreHomes, IsHome, segments_at}
 use Rattle.osm_nest.specs.Nested.{AreNested, IsBegun}
 use Rattle.osm_nest.specs.RingLists.{AreRings, all_edges, whole_rings}
 use Rattle.osm_nest.proofs.GroupedRings.{nested}
-use Rattle.osm_nest.proofs.Leftmost.{in-at}
-use Rattle.osm_nest.proofs.Places as places
+use Rattle.osm_nest.proofs.Items.{at-in, in-at}
 use Rattle.osm_nest.proofs.Turns.{starts-total, turns}
 use Rattle.osm_rings.specs.LeastStart.{IsLesserStart}
 use Rattle.osm_rings.proofs.LeastStarts.{IsLeastUpTo, least-more, least-start}
@@ -176,7 +175,7 @@ module _ (rs : List (List Edge)) (are : AreRings rs) where
   gs = whole_rings rs
 
   at-place : (n : ℕ) → n < length rs → In (get_or gs n []) gs
-  at-place n h = let s = length-map rs (edges_times k) in places.in-at gs n [] (omega arith)
+  at-place n h = let s = length-map rs (edges_times k) in at-in gs n [] (omega arith)
 
   inner-in : (n : ℕ) → n < length rs → is_outer_by gs are.ring_list (segments_at rs n) ≡ false → IsInnerRing (map segments_of gs) (segments_at rs n)
   inner-in n h e =

@@ -1,5 +1,5 @@
 -- Begun rings, each with a place of its own; and rings at different places of a ring list, which share no edge.
-use Rattle.std.proofs.Common.{All, AllPairs, List, [], ap, arith, get_or, inl, inr, length, refl, subst, suc, sym, zero, ℕ, ◌+◌, ◌<◌, ◌∙◌, ◌∷◌, ◌≡◌, ◌≢◌, ◌≤◌, ⊎_elim, nat_eq, Bool, true, false}
+use Rattle.std.proofs.Common.{All, AllPairs, List, [], ap, arith, get_or, length, refl, subst, suc, sym, zero, ℕ, ◌+◌, ◌<◌, ◌∙◌, ◌∷◌, ◌≡◌, ◌≢◌, ◌≤◌, ⊎_elim, nat_eq, Bool, true, false}
 use Rattle.std.specs.List.Sorted.{IsPermutation}
 use Rattle.std.proofs.lemmas.Bool.{cases_lt, eq-eqb, eqb-true}
 use Rattle.std.proofs.lemmas.List.Kept.{AllPairs-cons}
@@ -17,11 +17,6 @@ use Rattle.osm_nest.specs.declared.begun.Begun.{Begun}
 use Rattle.osm_nest.specs.Grouped.{AreListed, ArePlaced, IsBegunAt}
 
 -- ---- rings at different places
-pub in-at : {X : Type 0} (gs : List X) (j : ℕ) (d : X) → j < length gs → In (get_or gs j d) gs
-in-at [] j d h = absurd (omega arith)
-in-at (g ∷ gs) zero d h = inl refl
-in-at (g ∷ gs) (suc j) d h = inr (in-at gs j d (omega arith))
-
 edges-at : (gs : List (List plane.Edge)) (j : ℕ) (x : plane.Edge) → j < length gs → In x (get_or gs j []) → In x (edges_of gs)
 edges-at [] j x h i = absurd (omega arith)
 edges-at (g ∷ gs) zero x h i = in-left g (edges_of gs) x i

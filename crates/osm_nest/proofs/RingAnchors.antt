@@ -32,7 +32,8 @@ use Rattle.osm_rings.specs.Ring.{IsRing}
 use Rattle.osm_nest.specs.Outer.{AnchorRuns, AreClear, IsAnchorOf, IsInner, IsOuter, WindsBySign}
 use Rattle.osm_nest.proofs.Further.{anchor-scaled, segment-scaled, segments-scaled}
 use Rattle.osm_nest.proofs.InPlane.{segment_at, segments_times, whole-at}
-use Rattle.osm_nest.proofs.Leftmost.{IsFirstUpTo, along, first-is-anchor, in-at, segments_along}
+use Rattle.osm_nest.proofs.Items.{in-at}
+use Rattle.osm_nest.proofs.Leftmost.{IsFirstUpTo, along, first-is-anchor, segments_along}
 
 -- ---- the segments of the multiplied list
 pub segments-are : (es : List Edge) → segments_of (whole_edges es) ≡ segments_along es

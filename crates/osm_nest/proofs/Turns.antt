@@ -1,5 +1,5 @@
 -- Begun rings sorted by where they begin are in order, since no two begin with the same edge.
-use Rattle.std.proofs.Common.{AllPairs, Bool, List, [], ap, arith, false, get_or, length, refl, subst, sym, true, ℕ, ◌<◌, ◌∙◌, ◌≡◌, ◌≢◌, ◌≤◌}
+use Rattle.std.proofs.Common.{AllPairs, List, [], ap, arith, false, get_or, length, refl, subst, sym, ℕ, ◌<◌, ◌∙◌, ◌≡◌, ◌≢◌, ◌≤◌}
 use Rattle.std.specs.List.Sorted.{IsPermutation, IsSortedBy}
 use Rattle.std.specs.Ordering.{is_lt, ordering_reverse, ordering_then}
 use Rattle.std.specs.declared.cmp.Ordering.{Ordering}
@@ -23,14 +23,13 @@ use Rattle.osm_nest.specs.Grouped.{AreInTurn, AreListed, IsBegunAt, start_cmp}
 use Rattle.osm_nest.specs.Nested.{IsBefore}
 use Rattle.osm_nest.specs.RingLists.{AreRings, all_edges, whole_rings}
 use Rattle.osm_nest.proofs.Listing.{turned-in}
-use Rattle.osm_nest.proofs.Places.{in-at, placed, rings-apart, stand}
+use Rattle.osm_nest.proofs.Bools.{clash}
+use Rattle.osm_nest.proofs.Items.{at-in}
+use Rattle.osm_nest.proofs.Places.{placed, rings-apart, stand}
 use Rattle.sided.specs.Multiple.{common_den, edge_times, edges_times, point_times}
 
 pub starts-total : IsTotalOrder start_cmp
 starts-total = then_total (on_total (λ (s : Start). s.from) point_total) (on_total (λ (s : Start). s.to) point_total)
-
-clash : (b : Bool) → b ≡ true → b ≡ false → ⊥
-clash b p q = cc
 
 -- of two different starts the one that isn't after the other is before it
 module _ (s t : Start) (after : is_lt (start_cmp t s) ≡ false) (apart : s.from ≡ t.from → s.to ≡ t.to → ⊥) where
@@ -64,12 +63,12 @@ module _ (rs : List (List Edge)) (are : AreRings rs) (listed bs : List Begun) (a
       let r = get_or rs n [] in
       let here : get_or (whole_rings rs) n [] ≡ edges_times k r = get_or-map (edges_times k) rs n [] [] h in
       let size = length-map rs (edges_times k) in
-      let long : 3 ≤ length (edges_times k r) = subst (λ xs. 3 ≤ length xs) here (are.ring_list.long (get_or (whole_rings rs) n []) (in-at (whole_rings rs) n [] (omega arith))) in
+      let long : 3 ≤ length (edges_times k r) = subst (λ xs. 3 ≤ length xs) here (are.ring_list.long (get_or (whole_rings rs) n []) (at-in (whole_rings rs) n [] (omega arith))) in
       let t = is.turned.turned in
       let some : 0 < length b.ring =
       let a = length-map r (edge_times k) in let b = length-append t.front t.back in let c = length-append t.back t.front in
       let d = ap length t.old in let e = ap length t.new in omega arith in
-      subst (In (edge_times k (get_or b.ring 0 d))) (sym here) (in-map (edge_times k) r (get_or b.ring 0 d) (turned-in r b.ring t (get_or b.ring 0 d) (in-at b.ring 0 d some)))
+      subst (In (edge_times k (get_or b.ring 0 d))) (sym here) (in-map (edge_times k) r (get_or b.ring 0 d) (turned-in r b.ring t (get_or b.ring 0 d) (at-in b.ring 0 d some)))
 
   starts-apart : (b c : Begun) → b.place ≢ c.place → (b.place < length rs) × IsBegunAt (get_or rs b.place []) b.place b → (c.place < length rs) × IsBegunAt (get_or rs c.place []) c.place c → (d : Edge) → b.start.from ≡ c.start.from → b.start.to ≡ c.start.to → ⊥
   starts-apart b c n (h, is) (l, it) d f t =

@@ -1,8 +1,9 @@
 -- Which ring directly encloses which, by places in a list. No public contract cites it.
-use Rattle.std.specs.Prelude.{List, Option, None, Some, [], get_or, length, map, ℕ, ◌<◌, ◌≡◌}
+use Rattle.std.specs.Prelude.{Bool, List, Option, None, Some, [], false, get_or, length, map, true, ℕ, ◌<◌, ◌≡◌, ◌↔◌}
 use Rattle.nesting.specs.Nesting.{EnclosesDirectly, IsInnerRing, IsOuterRing}
 use Rattle.winding.specs.Ring.{segments_of}
 use Rattle.osm_geom.specs.declared.edge.Edge.{Edge}
+use Rattle.osm_nest.specs.Outer.{IsInner, IsOuter}
 use Rattle.osm_nest.specs.RingLists.{whole_rings}
 use Rattle.plane.specs.Edge as plane
 
@@ -19,3 +20,11 @@ IsHome rs place (Some home) =
 pub record AreHomes (rs : List (List Edge)) (homes : List (Option ℕ)) : Type 0 where
   pub sized : length homes ≡ length rs
   pub right : (place : ℕ) → place < length rs → IsHome rs place (get_or homes place None)
+
+-- the answer whether a ring is outer
+abbrev pub TellsOuter : Bool → List Edge → Type 0
+TellsOuter outer ring = ((outer ≡ true) ↔ IsOuter ring) × ((outer ≡ false) ↔ IsInner ring)
+
+-- that answer for the ring at each place
+abbrev pub TellOuter : List (List Edge) → List Bool → Type 0
+TellOuter rs outer = (place : ℕ) → place < length rs → TellsOuter (get_or outer place false) (get_or rs place [])

@@ -7,6 +7,7 @@ use Rattle.nesting.specs.Polygon.{IsPolygon}
 use Rattle.osm_geom.specs.declared.edge.Edge.{Edge}
 use Rattle.osm_geom.specs.Point.{point_cmp}
 use Rattle.osm_nest.specs.declared.polygon.Polygon.{Polygon}
+use Rattle.osm_nest.specs.Outer.{IsInner, IsOuter}
 use Rattle.osm_nest.specs.Polygons.{polygon_times, rings_of}
 use Rattle.osm_nest.specs.RingLists.{all_edges, whole_rings}
 use Rattle.osm_rings.specs.Turned.{BeginsLeast, IsTurned}
@@ -16,6 +17,11 @@ use Rattle.sided.specs.Multiple.{common_den}
 pub record ArePolygonsOf (rs : List (List Edge)) (polygons : List Polygon) : Type 0 where
   pub each : All (λ polygon. IsPolygon (whole_rings rs) (polygon_times (common_den (all_edges rs)) polygon)) polygons
   pub once : (f : List Edge → ℕ) → sum_by f (rings_of polygons) ≡ sum_by f rs
+
+-- the first ring of the polygon is outer, told by its anchor, and the others are inner
+pub record HasKinds (polygon : Polygon) : Type 0 where
+  pub outer : IsOuter polygon.outer
+  pub inners : All IsInner polygon.inners
 
 -- the cyclic list of edges begun with the one that leaves its least node
 pub record IsBegun (ring begun : List Edge) : Type 0 where

@@ -4,7 +4,7 @@ ghost use Rattle.std.specs.List.{filter};
 ghost use Rattle.osm_geom.specs.declared.edge.Edge.{Edge};
 ghost use Rattle.osm_nest.specs.Cover.{AreSided, CoverAsRings};
 ghost use Rattle.osm_nest.specs.Grouped.{ArePlaced, AreWithin, grouped, rings_under, stands_first, with_under};
-ghost use Rattle.osm_nest.specs.Nested.{AreNested};
+ghost use Rattle.osm_nest.specs.Nested.{AreNested, HasKinds};
 ghost use Rattle.osm_nest.specs.Polygons.{rings_of};
 ghost use Rattle.osm_nest.specs.RingLists.{AreRings};
 ghost use Rattle.osm_rings.specs.PlaneEdge.{IsWholeSegment};
@@ -92,6 +92,7 @@ fn grouped(
 pub fn nest(alloc: Global, rings: &[Ring]) -> Result<Polygons, AllocError>
     requires { AreRings rings.now }
     ensures nested { IfOk result (λ polygons. AreNested rings.now polygons) }
+    ensures kinds { IfOk result (λ polygons. All HasKinds polygons) }
     ensures whole { All (All IsWholeSegment) rings.now → IfOk result (λ polygons. All (All IsWholeSegment) (rings_of polygons)) }
     ensures sided { IfOk result (λ polygons. AreSided polygons) }
     ensures cover { IfOk result (λ polygons. CoverAsRings rings.now polygons) }

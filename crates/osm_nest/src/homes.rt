@@ -4,7 +4,7 @@ ghost use Rattle.std.specs.Ordering.{is_lt};
 ghost use Rattle.osm_geom.specs.JustAbove.{just_above_cmp};
 ghost use Rattle.osm_geom.specs.Span.{lower_end, spans};
 ghost use Rattle.osm_nest.specs.Beside.{IsBestUpTo, IsCandidateAt, IsNearestRight, IsRight, IsSloping, better_of, is_around, is_nearer, is_right_of, nearer_of};
-ghost use Rattle.osm_nest.specs.Homes.{AreHomes, IsHome};
+ghost use Rattle.osm_nest.specs.Homes.{AreHomes, IsHome, TellOuter};
 ghost use Rattle.osm_nest.specs.RingLists.{AreRings};
 
 use crate::outer::{anchor, is_outer, lower_end};
@@ -24,53 +24,72 @@ pub(crate) fn homes(alloc: Global, rings: &[Ring]) -> Result<Vec<Option<usize>>,
     requires { AreRings rings.now }
     ensures { IfOk result (λ homes. AreHomes rings.now homes.items) }
 {
+    let outer = told(alloc, rings)?;
     let mut homes = Vec::new(alloc);
     for place in 0..rings.len() {
-        homes.push(home(rings, place))?;
+        homes.push(home(rings, &outer, place))?;
     }
     Ok(homes)
 }
 
+// Of each ring whether it is outer; each is asked once.
+fn told(alloc: Global, rings: &[Ring]) -> Result<Vec<bool>, AllocError>
+    requires { AreRings rings.now }
+    ensures sized { IfOk result (λ outer. length outer.items ≡ length rings.now) }
+    ensures outer { IfOk result (λ outer. TellOuter rings.now outer.items) }
+{
+    let mut outer = Vec::new(alloc);
+    for ring in rings {
+        outer.push(is_outer(ring))?;
+    }
+    Ok(outer)
+}
+
 // The place of the ring that directly encloses the one at a place; None for an outer ring.
-fn home(rings: &[Ring], place: usize) -> Option<usize>
+fn home(rings: &[Ring], outer: &[bool], place: usize) -> Option<usize>
     requires rings { AreRings rings.now }
+    requires sized { length outer.now ≡ length rings.now }
+    requires outer { TellOuter rings.now outer.now }
     requires inside { place < length rings.now }
     ensures { IsHome rings.now place result }
 {
-    if is_outer(&rings[place]) {
+    if outer[place] {
         return None;
     }
-    match best_candidate(rings, &anchor(&rings[place])) {
+    match best_candidate(rings, outer, &anchor(&rings[place])) {
         Some(found) => Some(found.place),
         None => None,
     }
 }
 
 // Among the outer rings that have an odd number of edges right of the anchor, the one to which the nearest of these edges belongs.
-fn best_candidate(rings: &[Ring], anchor: &Edge) -> Option<Candidate>
+fn best_candidate(rings: &[Ring], outer: &[bool], anchor: &Edge) -> Option<Candidate>
     requires rings { AreRings rings.now }
+    requires sized { length outer.now ≡ length rings.now }
+    requires outer { TellOuter rings.now outer.now }
     requires anchor { IsSloping anchor.now }
     ensures { IsBestUpTo rings.now anchor.now (length rings.now) result }
 {
     let mut best = None;
     for place in 0..rings.len() {
-        best = better(best, candidate_at(rings, place, anchor), anchor);
+        best = better(best, candidate_at(rings, outer, place, anchor), anchor);
     }
     best
 }
 
 // The nearest edge right of the anchor of the ring at a place, if the ring is outer and has an odd number of such edges.
-fn candidate_at(rings: &[Ring], place: usize, anchor: &Edge) -> Option<Candidate>
-    requires rings { AreRings rings.now }
+fn candidate_at(rings: &[Ring], outer: &[bool], place: usize, anchor: &Edge) -> Option<Candidate>
+    requires sized { length outer.now ≡ length rings.now }
+    requires outer { TellOuter rings.now outer.now }
     requires inside { place < length rings.now }
     requires anchor { IsSloping anchor.now }
     ensures { IsCandidateAt rings.now anchor.now place result }
 {
-    let ring = &rings[place];
-    if !is_outer(ring) || !is_around(ring.as_slice(), anchor) {
+    let ring = rings[place].as_slice();
+    if !outer[place] || !is_around(ring, anchor) {
         return None;
     }
-    match nearest_right(ring.as_slice(), anchor) {
+    match nearest_right(ring, anchor) {
         Some(edge) => Some(Candidate { place, edge }),
         None => None,
     }

@@ -3,9 +3,9 @@ use Rattle.std.proofs.Common.{All, ap, length, subst, sym, ◌∙◌, ◌≡◌}
 use Rattle.std.proofs.lemmas.Result.{IfOk-weaker}
 use Rattle.osm_nest.specs.Cover.{AreSided, CoverAsRings}
 use Rattle.osm_nest.specs.Grouped.{ArePlaced, AreWithin, grouped}
-use Rattle.osm_nest.specs.Nested.{AreNested}
+use Rattle.osm_nest.specs.Nested.{AreNested, HasKinds}
 use Rattle.osm_nest.specs.Polygons.{rings_of}
-use Rattle.osm_nest.proofs.GroupedRings.{all_rings_of, cover_grouped, nested, placed_in, sided_grouped, within_homes}
+use Rattle.osm_nest.proofs.GroupedRings.{all_rings_of, cover_grouped, kinds_grouped, nested, placed_in, sided_grouped, within_homes}
 use Rattle.osm_rings.specs.PlaneEdge.{IsWholeSegment}
 use Rattle.osm_nest.proofs.grouping.nest.Goals as goal
 
@@ -22,6 +22,12 @@ returns-clause-nested c =
     let bs = c.in_ok-begun.begun.items in
     IfOk-weaker c.grouped.result (λ v. v ≡ grouped c.deref.result.now bs) (AreNested c.args.rings.now)
     (λ v e. subst (AreNested c.args.rings.now) (sym (e ∙ ap (λ hs. grouped hs bs) c.deref.ensures.value)) (nested c.args.rings.now c.requires c.in_ok-homes.homes.items c.in_ok-homes.ensures bs c.in_ok-begun.ensures)) c.grouped.ensures
+
+pub returns-clause-kinds : goal.returns-clause-kinds
+returns-clause-kinds c =
+    let bs = c.in_ok-begun.begun.items in
+    IfOk-weaker c.grouped.result (λ v. v ≡ grouped c.deref.result.now bs) (All HasKinds)
+    (λ v e. subst (All HasKinds) (sym (e ∙ ap (λ hs. grouped hs bs) c.deref.ensures.value)) (kinds_grouped c.args.rings.now c.requires c.in_ok-homes.homes.items c.in_ok-homes.ensures bs c.in_ok-begun.ensures)) c.grouped.ensures
 
 pub returns-clause-whole : goal.returns-clause-whole
 returns-clause-whole c whole =

@@ -1,22 +1,19 @@
 -- The nearest edge of an outer ring.
 use Rattle.std.proofs.Common.{None, true, sym, subst, ◌∙◌, ◌≡◌}
 use Rattle.osm_nest.specs.Beside.{IsNearest, IsNearestRight, is_around}
-use Rattle.osm_nest.proofs.Enclosers.{clear-item}
 use Rattle.osm_nest.proofs.Nearest.{candidate-by, no-candidate}
 use Rattle.osm_nest.proofs.homes.candidate_at.Goals as goal
-
-pub is_outer-requires : goal.is_outer-requires
-is_outer-requires c = clear-item c.args.rings.now c.requires.rings c.args.place c.index-rings-place.result c.requires.inside c.index-rings-place.is
 
 pub returns-in-Some : goal.returns-in-Some
 returns-in-Some c =
     let a = c.args.anchor.now in let r = c.index-rings-place.result in
-    candidate-by c.args.rings.now a c.args.place r c.in-Some.edge c.requires.inside c.index-rings-place.is (c.is_outer.ensures.anchor.0 c.if-not-is_outer.false)
-    (subst (λ l. is_around a l ≡ true) c.as_slice.ensures.edges (sym c.is_around.ensures ∙ c.if-not-is_around.false))
-    (subst (λ l. IsNearest a l c.in-Some.edge) c.as_slice-2.ensures.edges (subst (λ o. IsNearestRight a c.as_slice-2.result.now o) c.in-Some.is c.nearest_right.ensures))
+    let told = c.requires.outer c.args.place c.requires.inside in
+    candidate-by c.args.rings.now a c.args.place r c.in-Some.edge c.requires.inside c.index-rings-place.is (told.0.0 c.if-not-outer-place.false)
+    (subst (λ l. is_around a l ≡ true) c.as_slice-ring.ensures.edges (sym c.is_around.ensures ∙ c.if-not-is_around.false))
+    (subst (λ l. IsNearest a l c.in-Some.edge) c.as_slice-ring.ensures.edges (subst (λ o. IsNearestRight a c.as_slice-ring.result.now o) c.in-Some.is c.nearest_right.ensures))
 
 pub returns-in-None : goal.returns-in-None
 returns-in-None c =
     let a = c.args.anchor.now in let r = c.index-rings-place.result in
     no-candidate c.args.rings.now a c.args.place r c.requires.inside c.index-rings-place.is
-    (subst (λ l. IsNearestRight a l None) c.as_slice-2.ensures.edges (subst (λ o. IsNearestRight a c.as_slice-2.result.now o) c.in-None.is c.nearest_right.ensures))
+    (subst (λ l. IsNearestRight a l None) c.as_slice-ring.ensures.edges (subst (λ o. IsNearestRight a c.as_slice-ring.result.now o) c.in-None.is c.nearest_right.ensures))

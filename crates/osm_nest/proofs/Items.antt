@@ -1,0 +1,17 @@
+-- What stands in a list, and at which place.
+use Rattle.std.proofs.Common.{List, [], ap, arith, get_or, inl, inr, length, refl, subst, suc, sym, zero, ℕ, ◌+◌, ◌<◌, ◌∙◌, ◌∷◌, ◌≡◌}
+use Rattle.winding.specs.Member.{In}
+
+pub in-at : {X : Type 0} (x : X) (xs : List X) → In x xs → (k : ℕ) × (k < length xs) × ((d : X) → get_or xs k d ≡ x)
+in-at x [] i = absurd i
+in-at x (y ∷ ys) (inl e) = (0, omega arith, λ d. sym e)
+in-at x (y ∷ ys) (inr i) = let r = in-at x ys i in (r.0 + 1, omega arith, λ d. let same : r.0 + 1 ≡ suc r.0 = omega arith in ap (λ k. get_or (y ∷ ys) k d) same ∙ r.2 d)
+
+pub at-in : {X : Type 0} (xs : List X) (k : ℕ) (d : X) → k < length xs → In (get_or xs k d) xs
+at-in [] k d h = absurd (omega arith)
+at-in (x ∷ xs) zero d h = inl refl
+at-in (x ∷ xs) (suc k) d h = inr (at-in xs k d (omega arith))
+
+-- what stands at a place is in the list
+pub item-in : {X : Type 0} (xs : List X) (k : ℕ) (x : X) → k < length xs → x ≡ get_or xs k x → In x xs
+item-in xs k x h is = subst (λ y. In y xs) (sym is) (at-in xs k x h)
