@@ -14,9 +14,7 @@ use Rattle.osm_sides.specs.Survivors.{HasEvenNodes, edges_of}
 use Rattle.osm_sides.proofs.DirectedSides.{directed_is_sided}
 use Rattle.osm_rings.specs.Laws.{RingListOfEdgesExists}
 use Rattle.osm_nest.specs.declared.polygon.Polygon.{Polygon}
-use Rattle.osm_nest.specs.Laws.{RingsMayBeNested}
-use Rattle.osm_nest.specs.Nested.{AreNested}
-use Rattle.osm_nest.specs.RingLists.{AreRings}
+use Rattle.osm_nest.specs.Laws.{NestingExists, RingsMayBeNested}
 use Rattle.osm_area.specs.Area.{IsArea}
 use Rattle.osm_area.proofs.AreaLemmas.{is_area}
 
@@ -55,7 +53,7 @@ are_directed segs = record {
 
 -- ---- rings and polygons, by the laws of the layers below
 
-module _ (cut : RingListOfEdgesExists) (fit : RingsMayBeNested) (nest : (rs : List (List Edge)) → AreRings rs → (polygons : List Polygon) × AreNested rs polygons) where
+module _ (cut : RingListOfEdgesExists) (fit : RingsMayBeNested) (nest : NestingExists) where
   pub area_exists : (segs : List Seg) → segs ≢ [] → IsRising seg_cmp segs → conflicts_of segs ≡ [] → HasEvenNodes segs → (polygons : List Polygon) × IsArea segs polygons
   area_exists segs some rising clear even =
       let edges = map (directed_of segs) segs in

@@ -1,7 +1,6 @@
 -- Every candidate has an outcome, whatever memory there is.
 use Rattle.std.proofs.Common.{◌≡◌, ◌∙◌, ◌%◌, ◌==◌, List, [], ◌∷◌, ◌++◌, map, nat_le, ℤ, refl, sym, ap, subst}
 use Rattle.std.proofs.lemmas.List.Elements.{All-map}
-use Rattle.osm_geom.specs.declared.edge.Edge.{Edge}
 use Rattle.osm_geom.specs.declared.loc.Loc.{Loc}
 use Rattle.osm_geom.specs.declared.seg.Seg.{Seg}
 use Rattle.osm_geom.specs.Loc.{loc_cmp}
@@ -19,9 +18,7 @@ use Rattle.osm_segments.specs.Pairs.{conflicts_of}
 use Rattle.osm_segments.specs.Repeats.{AreRepeats, segs_of}
 use Rattle.osm_rings.specs.Laws.{RingListOfEdgesExists}
 use Rattle.osm_nest.specs.declared.polygon.Polygon.{Polygon}
-use Rattle.osm_nest.specs.Laws.{RingsMayBeNested}
-use Rattle.osm_nest.specs.Nested.{AreNested}
-use Rattle.osm_nest.specs.RingLists.{AreRings}
+use Rattle.osm_nest.specs.Laws.{NestingExists, RingsMayBeNested}
 use Rattle.osm_area.specs.declared.outcome.Outcome.{Outcome}
 use Rattle.osm_area.specs.declared.outcome.Outcome.TheVariants as outcome
 use Rattle.osm_area.specs.MemberWays.{ways_named_twice}
@@ -85,7 +82,7 @@ none-second f g [] [] none = refl
 none-second f g [] (y ∷ ys) none = absurd (cc)
 none-second f g (x ∷ xs) ys none = absurd (cc)
 
-module _ (cut : RingListOfEdgesExists) (fit : RingsMayBeNested) (nest : (rs : List (List Edge)) → AreRings rs → (polygons : List Polygon) × AreNested rs polygons) where
+module _ (cut : RingListOfEdgesExists) (fit : RingsMayBeNested) (nest : NestingExists) where
   module _ (twice : List ℤ) (segs : List Seg) (roles : List Polygon → List Note) where
     abbrev notes : List Note
     notes = map named_twice_note twice ++ map repeated_note (repeats_of segs)

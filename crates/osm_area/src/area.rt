@@ -6,6 +6,7 @@ ghost use Rattle.osm_lists.specs.Rising.{IsRising};
 ghost use Rattle.osm_segments.specs.Pairs.{conflicts_of};
 ghost use Rattle.osm_sides.specs.Survivors.{HasEvenNodes};
 ghost use Rattle.osm_rings.specs.PlaneEdge.{IsWholeSegment};
+ghost use Rattle.osm_nest.specs.Nested.{HasKinds};
 ghost use Rattle.osm_nest.specs.Polygons.{rings_of};
 ghost use Rattle.osm_area.specs.Area.{IsArea};
 
@@ -23,6 +24,7 @@ pub fn area(alloc: Global, survivors: &[Seg]) -> Result<Polygons, AllocError>
     requires clear { conflicts_of survivors.now ≡ [] }
     requires even { HasEvenNodes survivors.now }
     ensures area { IfOk result (λ polygons. IsArea survivors.now polygons) }
+    ensures rings { IfOk result (λ polygons. All HasKinds polygons) }
     ensures whole { IfOk result (λ polygons. All (All IsWholeSegment) (rings_of polygons)) }
 {
     let edges = direct(alloc, survivors)?;

@@ -3,6 +3,7 @@
 ghost use Rattle.std.specs.Prelude.{◌≡◌, List, [], ℤ, map, All, IfOk};
 ghost use Rattle.osm_objects.specs.Problem.{IsOfItsKind};
 ghost use Rattle.osm_rings.specs.PlaneEdge.{IsWholeSegment};
+ghost use Rattle.osm_nest.specs.Nested.{HasKinds};
 ghost use Rattle.osm_nest.specs.Polygons.{rings_of};
 ghost use Rattle.osm_area.specs.Outcome.{IsOutcome, IsOutcomeGiven, KeepsParity, polygons_in, problems_in};
 ghost use Rattle.osm_area.specs.Notes.{named_twice_note};
@@ -43,6 +44,7 @@ fn complete(
     mut notes: Notes,
 ) -> Result<Outcome, AllocError>
     ensures right { IfOk result (λ outcome. (twice : List ℤ) → notes ≡ map named_twice_note twice → IsOutcomeGiven [] twice segs.now (role_notes_of store.now candidate ways.now) outcome) }
+    ensures rings { IfOk result (λ outcome. All HasKinds (polygons_in outcome)) }
     ensures whole { IfOk result (λ outcome. All (All IsWholeSegment) (rings_of (polygons_in outcome))) }
 {
     let repeats = repeated(alloc, segs)?;
@@ -60,6 +62,7 @@ fn complete(
 // What comes of a candidate.
 fn outcome_of(alloc: Global, store: &Store, candidate: ObjectRef) -> Result<Outcome, AllocError>
     ensures right { IfOk result (λ outcome. IsOutcome store.now candidate outcome) }
+    ensures rings { IfOk result (λ outcome. All HasKinds (polygons_in outcome)) }
     ensures whole { IfOk result (λ outcome. All (All IsWholeSegment) (rings_of (polygons_in outcome))) }
 {
     let named = named_ways(alloc, store, candidate)?;
@@ -85,6 +88,7 @@ fn outcome_of(alloc: Global, store: &Store, candidate: ObjectRef) -> Result<Outc
 pub fn assemble(alloc: Global, store: &Store, candidate: ObjectRef) -> Result<Outcome, AllocError>
     ensures outcome { IfOk result (λ outcome. IsOutcome store.now candidate outcome) }
     ensures kinds { IfOk result (λ outcome. All IsOfItsKind (problems_in outcome)) }
+    ensures rings { IfOk result (λ outcome. All HasKinds (polygons_in outcome)) }
     ensures whole { IfOk result (λ outcome. All (All IsWholeSegment) (rings_of (polygons_in outcome))) }
     ensures parity { IfOk result (λ outcome. KeepsParity store.now candidate outcome) }
 {
