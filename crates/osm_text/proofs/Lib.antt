@@ -1,5 +1,6 @@
 mod DecimalLemmas
 mod EscapeLemmas
+mod FourCorners
 mod KeyLaws
 mod LatticeLemmas
 mod LineExists

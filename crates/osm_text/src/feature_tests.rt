@@ -1,72 +1,108 @@
 //! Features against the values of the formats.
-ghost use Rattle.std.specs.Prelude.{IfOk};
-ghost use Rattle.osm_text.specs.Lattice.{AreLattice};
+ghost use Rattle.std.specs.Prelude.{◌≡◌, ◌≢◌, All, IfOk, OnOk};
+ghost use Rattle.osm_geom.specs.declared.point.Point.TheVariants.{Lattice};
+ghost use Rattle.osm_text.specs.Lattice.{AreLattice, IsLattice, LeavesLattice};
 
 use super::*;
 use opl_reader::{Tag, Tags, Text};
-use osm_geom::{Loc, Seg};
-use osm_nest::{Polygons, nest, rings_may_be_nested};
-use osm_rings::{directed_segments_are_whole, rings};
-use osm_segments::{conflicts, odd_nodes, survivors};
-use osm_sides::direct;
+use osm_geom::{Edge, Loc, Seg};
+use osm_nest::{Polygon, Polygons};
+use osm_rings::{Ring, Rings};
 use std::alloc::Global;
 use std::test::Fail;
 
 /// Units of a tenth of a degree.
 const TENTH: i64 = 1_000_000;
 
-/// A square with a hole, in tenths of a degree.
-const HOLED: &str = "0,0 40,0 40,40 0,40 / 10,10 20,10 20,20 10,20";
+/// The west, south, east and north sides of a rectangle, in tenths of a degree.
+type Sides = [i64; 4];
 
-/// A square in tenths of a degree.
-const SQUARE: &str = "0,0 10,0 10,10 0,10";
+/// A square, and a hole in it.
+const HOLED: (Sides, Option<Sides>) = ([0, 0, 40, 40], Some([10, 10, 20, 20]));
 
-/// A coordinate from a number of tenths; out of range where it is no number.
-fn units(tenths: &str) -> i64 {
-    tenths.parse().unwrap_or(i64::MAX).saturating_mul(TENTH)
+/// A square.
+const SQUARE: (Sides, Option<Sides>) = ([0, 0, 10, 10], None);
+
+/// The location of numbers of tenths.
+fn location(x: i64, y: i64) -> Result<Loc, Fail> {
+    Loc::new(x.saturating_mul(TENTH), y.saturating_mul(TENTH)).ok_or_else(|| Fail::new(
+        "out of range",
+    ))
 }
 
-/// The locations of a line, each its x and y in tenths.
-fn nodes(alloc: Global, line: &str) -> Result<Vec<Loc>, Fail> {
-    let mut nodes = Vec::new(alloc);
-    for word in line.split_whitespace() {
-        let (x, y) = word.split_once(',').unwrap_or((word, ""));
-        nodes.push(Loc::new(units(x), units(y)).ok_or_else(|| Fail::new("out of range"))?)?;
+/// The edge from one location to another.
+fn edge(from: Loc, to: Loc) -> Result<Edge, Fail>
+    ensures from { IfOk result (λ edge. edge.from ≡ Lattice from) }
+    ensures to { IfOk result (λ edge. edge.to ≡ Lattice to) }
+{
+    if from < to {
+        return Ok(Edge::of(Seg { a: from, b: to }, true));
     }
-    Ok(nodes)
-}
-
-/// The segments of closed lines, parted by `/`, each line without its first location at the end.
-fn segs(alloc: Global, lines: &str) -> Result<Vec<Seg>, Fail> {
-    let mut segs = Vec::new(alloc);
-    for line in lines.split('/') {
-        let nodes = nodes(alloc, line)?;
-        let mut last = nodes.last().copied();
-        for &node in &nodes {
-            if let Some(from) = last {
-                segs.push(Seg::new(from, node).ok_or_else(|| Fail::new("no segment"))?)?;
-            }
-            last = Some(node);
-        }
+    if to < from {
+        return Ok(Edge::of(Seg { a: to, b: from }, false));
     }
-    Ok(segs)
+    Err(Fail::new("no edge"))
 }
 
-/// The polygons that closed lines bound; none where there is a conflict or an odd node.
-fn polygons_of(alloc: Global, lines: &str) -> Result<Polygons, Fail>
+/// Refuses two corners at one location.
+fn apart(p: Loc, q: Loc) -> Result<(), Fail>
+    ensures { OnOk result (p ≢ q) }
+{
+    if p == q {
+        return Err(Fail::new("a corner twice"));
+    }
+    Ok(())
+}
+
+/// The ring through four corners.
+fn ring(alloc: Global, corners: [Loc; 4]) -> Result<Ring, Fail>
+    ensures { IfOk result (λ ring. All LeavesLattice ring) }
+{
+    let [a, b, c, d] = corners;
+    apart(a, c)?;
+    apart(b, d)?;
+    let first = edge(a, b)?;
+    let second = edge(b, c)?;
+    let third = edge(c, d)?;
+    let last = edge(d, a)?;
+    let edges = Vec::from_array(alloc, [first, second, third, last])?;
+    Ok(Ring::of_edges(edges))
+}
+
+/// The ring along a rectangle's sides from its least corner, counterclockwise or clockwise.
+fn rectangle(alloc: Global, sides: Sides, clockwise: bool) -> Result<Ring, Fail>
+    ensures { IfOk result (λ ring. All LeavesLattice ring) }
+{
+    let [west, south, east, north] = sides;
+    let (first, last) = (location(west, south)?, location(east, north)?);
+    let (right, left) = (location(east, south)?, location(west, north)?);
+    if clockwise {
+        ring(alloc, [first, left, last, right])
+    } else {
+        ring(alloc, [first, right, last, left])
+    }
+}
+
+/// A rectangle, with a hole where there is one.
+fn polygon_of(alloc: Global, outer: Sides, hole: Option<Sides>) -> Result<Polygon, Fail>
+    ensures { IfOk result (λ polygon. IsLattice polygon) }
+{
+    let outer = rectangle(alloc, outer, false)?;
+    let mut inners = Rings::new(alloc);
+    if let Some(hole) = hole {
+        inners.push(rectangle(alloc, hole, true)?)?;
+    }
+    Ok(Polygon { outer, inners })
+}
+
+/// Rectangles, each with a hole where there is one.
+fn polygons_of(alloc: Global, list: &[(Sides, Option<Sides>)]) -> Result<Polygons, Fail>
     ensures { IfOk result (λ polygons. AreLattice polygons) }
 {
-    let kept = survivors(alloc, &segs(alloc, lines)?)?;
-    let pairs = conflicts(alloc, &kept)?;
-    let odd = odd_nodes(alloc, &kept)?;
-    if !pairs.is_empty() || !odd.is_empty() {
-        return Err(Fail::new("not closed"));
+    let mut polygons = Polygons::new(alloc);
+    for &(outer, hole) in list {
+        polygons.push(polygon_of(alloc, outer, hole)?)?;
     }
-    let edges = direct(alloc, &kept)?;
-    directed_segments_are_whole();
-    rings_may_be_nested();
-    let polygons = nest(alloc, rings(alloc, &edges)?.as_slice())?;
-    whole_segments_are_lattice(&polygons);
     Ok(polygons)
 }
 
@@ -86,7 +122,7 @@ fn tags_of(alloc: Global, tags: &str) -> Result<Tags, Fail> {
 #[test]
 fn square_with_a_hole(rt: HostRuntime) -> Result<(), Fail> {
     let alloc = rt.alloc();
-    let polygons = polygons_of(alloc, HOLED)?;
+    let polygons = polygons_of(alloc, &[HOLED])?;
     let tags = tags_of(alloc, "landuse=forest")?;
     let id = Some(FeatureId::Area(11));
     let text = feature_text(alloc, &polygons, &tags, id)?;
@@ -102,9 +138,8 @@ fn square_with_a_hole(rt: HostRuntime) -> Result<(), Fail> {
 #[test]
 fn two_polygons_with_holes(rt: HostRuntime) -> Result<(), Fail> {
     let alloc = rt.alloc();
-    // The lower polygon comes first.
-    let east = "50,-5 55,-5 55,5 50,5 / 51,0 52,0 52,1 51,1";
-    let polygons = polygons_of(alloc, format!(in alloc; "{HOLED} / {east}")?.as_str())?;
+    let east = ([50, -5, 55, 5], Some([51, 0, 52, 1]));
+    let polygons = polygons_of(alloc, &[east, HOLED])?;
     let tags = Tags::new(alloc);
     let id = Some(FeatureId::Area(-6));
     let text = feature_text(alloc, &polygons, &tags, id)?;
@@ -121,7 +156,7 @@ fn two_polygons_with_holes(rt: HostRuntime) -> Result<(), Fail> {
 #[test]
 fn village(rt: HostRuntime) -> Result<(), Fail> {
     let alloc = rt.alloc();
-    let polygons = polygons_of(alloc, "100,500 101,500 101,501 100,501")?;
+    let polygons = polygons_of(alloc, &[([100, 500, 101, 501], None)])?;
     let tags = tags_of(alloc, "boundary=administrative|admin_level=8")?;
     let json = feature_json(alloc, &polygons, &tags, Some(FeatureId::Counter(1)))?;
     let object =
@@ -145,7 +180,7 @@ fn escaped_name_and_other_tags(rt: HostRuntime) -> Result<(), Fail> {
         ("q\"=\\\u{7f}\u{1f600}", " q\"=\\%7f%%1f600%"),
     ];
     let alloc = rt.alloc();
-    let polygons = polygons_of(alloc, SQUARE)?;
+    let polygons = polygons_of(alloc, &[SQUARE])?;
     for (tags, printed) in rows {
         let text = feature_text(alloc, &polygons, &tags_of(alloc, tags)?, None)?;
         let expected = format!(in alloc; "MULTIPOLYGON(((0 0,1 0,1 1,0 1,0 0))){printed}\n")?;
