@@ -41,82 +41,90 @@ const ALL: ExportSettings<'static> = ExportSettings {
     stop_on_error: true,
 };
 
+/// The settings of plain words with a format.
+fn with_format(format: Format) -> ExportSettings<'static> {
+    ExportSettings { format, ..PLAIN }
+}
+
+/// The settings of plain words with ids.
+fn with_ids(ids: UniqueId) -> ExportSettings<'static> {
+    ExportSettings {
+        ids: Some(ids),
+        ..PLAIN
+    }
+}
+
+/// The settings of plain words with the flag of a letter.
+fn with_flag(letter: char) -> ExportSettings<'static> {
+    ExportSettings {
+        overwrite: letter == 'O',
+        keep_untagged: letter == 'n',
+        omit_rs: letter == 'r',
+        show_errors: letter == 'e',
+        stop_on_error: letter == 'E',
+        ..PLAIN
+    }
+}
+
 #[test]
-fn each_option_has_two_forms(rt: HostRuntime) -> Result<(), Fail> {
+fn each_option_with_a_value_has_two_forms(rt: HostRuntime) -> Result<(), Fail> {
     let alloc = rt.alloc();
-    let text = ExportSettings {
-        format: Format::Text,
-        ..PLAIN
-    };
-    let sequence = ExportSettings {
-        format: Format::GeoJsonSeq,
-        ..PLAIN
-    };
     let output = ExportSettings {
         output: "out",
         ..PLAIN
     };
-    let overwrite = ExportSettings {
-        overwrite: true,
-        ..PLAIN
-    };
-    let keep = ExportSettings {
-        keep_untagged: true,
-        ..PLAIN
-    };
-    let counter = ExportSettings {
-        ids: Some(UniqueId::Counter),
-        ..PLAIN
-    };
-    let type_id = ExportSettings {
-        ids: Some(UniqueId::TypeId),
-        ..PLAIN
-    };
-    let omit_rs = ExportSettings {
-        omit_rs: true,
-        ..PLAIN
-    };
-    let show = ExportSettings {
-        show_errors: true,
-        ..PLAIN
-    };
-    let stop = ExportSettings {
-        stop_on_error: true,
-        ..PLAIN
-    };
     let cases = [
-        ("export -f text -", "export --output-format text -", text),
+        ("-f", "--output-format", "geojson", PLAIN),
         (
-            "export -f geojsonseq -",
-            "export --output-format geojsonseq -",
-            sequence,
+            "-f",
+            "--output-format",
+            "geojsonseq",
+            with_format(Format::GeoJsonSeq),
+        ),
+        ("-f", "--output-format", "text", with_format(Format::Text)),
+        ("-o", "--output", "out", output),
+        (
+            "-u",
+            "--add-unique-id",
+            "counter",
+            with_ids(UniqueId::Counter),
         ),
         (
-            "export -f geojson -",
-            "export --output-format geojson -",
-            PLAIN,
+            "-u",
+            "--add-unique-id",
+            "type_id",
+            with_ids(UniqueId::TypeId),
         ),
-        ("export -o out -", "export --output out -", output),
-        ("export -O -", "export --overwrite -", overwrite),
-        ("export -n -", "export --keep-untagged -", keep),
-        (
-            "export -u counter -",
-            "export --add-unique-id counter -",
-            counter,
-        ),
-        (
-            "export -u type_id -",
-            "export --add-unique-id type_id -",
-            type_id,
-        ),
-        ("export -r -", "export --omit-rs -", omit_rs),
-        ("export -e -", "export --show-errors -", show),
-        ("export -E -", "export --stop-on-error -", stop),
     ];
-    for (short, long, settings) in cases {
-        let words = words_of(alloc, short)?;
-        assert_eq!(rt; job_of(alloc, &words), Ok(Job::Export(settings)), "{short}");
-        let words = words_of(alloc, long)?;
+    for (short, long, value, settings) in cases {
+        for option in [short, long] {
+            let line = format!(in alloc; "export {option} {value} -")?;
+            let words = words_of(alloc, &line)?;
+            assert_eq!(rt; job_of(alloc, &words), Ok(Job::Export(settings)), "{line}");
+        }
+    }
+    Ok(())
+}
+
+#[test]
+fn each_flag_has_two_forms(rt: HostRuntime) -> Result<(), Fail> {
+    let alloc = rt.alloc();
+    let cases = [
+        ('O', "--overwrite"),
+        ('n', "--keep-untagged"),
+        ('r', "--omit-rs"),
+        ('e', "--show-errors"),
+        ('E', "--stop-on-error"),
+    ];
+    for (letter, long) in cases {
+        let settings = with_flag(letter);
+        let words = words_of(alloc, &format!(in alloc; "export -{letter} -")?)?;
+        assert_eq!(rt;
+            job_of(alloc, &words),
+            Ok(Job::Export(settings)),
+            "{letter}"
+        );
+        let words = words_of(alloc, &format!(in alloc; "export {long} -")?)?;
         assert_eq!(rt; job_of(alloc, &words), Ok(Job::Export(settings)), "{long}");
     }
     Ok(())
@@ -125,10 +133,7 @@ fn each_option_has_two_forms(rt: HostRuntime) -> Result<(), Fail> {
 #[test]
 fn words_are_taken_as_clap_takes_them(rt: HostRuntime) -> Result<(), Fail> {
     let alloc = rt.alloc();
-    let text = ExportSettings {
-        format: Format::Text,
-        ..PLAIN
-    };
+    let text = with_format(Format::Text);
     let no_name = ExportSettings {
         file: "",
         output: "",

@@ -1,7 +1,5 @@
-use Rattle.std.proofs.Common.{All, List, sym, subst}
-use Rattle.osm_geom.specs.declared.edge.Edge.{Edge}
+use Rattle.std.proofs.Common.{sym, subst}
 use Rattle.osm_rings.specs.Ring.{IsRing}
-use Rattle.osm_text.specs.Lattice.{LeavesLattice}
 use Rattle.osm_text.proofs.FourCorners.{corners_ring}
 use Rattle.osm_text.proofs.feature_tests.ring.Goals as goal
 
