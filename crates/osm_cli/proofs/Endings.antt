@@ -1,17 +1,31 @@
 -- A run with its last line.
 use Rattle.osm_host.specs.declared.host.Failed.{Failed}
-use Rattle.std.proofs.Common.{◌≡◌, ◌∙◌, ap, subst, ◌≤◌, ℕ, List, take, arith, OnOk, OnErr, inl, inr, Option, None, Some, IfSome, Result, Ok, Err}
-use Rattle.osm_host.specs.Outside.{Outside, appended, Counts, OnlyWritesReport}
+use Rattle.std.proofs.Common.{◌≡◌, ◌∙◌, sym, ap, subst, ◌≤◌, ℕ, List, [], take, arith, OnOk, OnErr, inl, inr, Option, None, Some, IfSome, Result, Ok, Err}
+use Rattle.osm_host.specs.Outside.{Outside, appended, preceded, Counts, HasRisen, OnlyWritesReport}
 use Rattle.osm_host.proofs.Streams.{appended_twice}
 use Rattle.osm_words.specs.declared.fault.WordsFault.{WordsFault}
 use Rattle.osm_cli.specs.declared.ended.Ended.{Ended}
 use Rattle.osm_cli.specs.declared.ended.Ended.TheVariants.{Done, BadWords, BadInput, Stopped, TooMuchInput, OpenFault, ReadFault, WriteFault, OutOfMemory}
+use Rattle.osm_cli.specs.declared.reading.ReadError.{ReadError}
+use Rattle.osm_cli.specs.declared.reading.ReadError.TheVariants as read
 use Rattle.osm_words.specs.Job.{ExportSettings, Job, export}
 use Rattle.osm_cli.specs.LastLine.{last_line}
-use Rattle.osm_cli.specs.Whole.{Whole, IsWhole}
-use Rattle.osm_cli.specs.Run.{IsFront, WroteAll, IsRun, Writes, Opens, HasCause, NoFault, Completes}
+use Rattle.osm_cli.specs.Reading.{IsAnswer}
+use Rattle.osm_cli.specs.Whole.{Whole, IsWhole, input_limit, longest_line}
+use Rattle.osm_cli.specs.Run.{IsFront, WroteAll, IsRun, LastFailed, Writes, TookOff, JudgesInput, Opens, HasCause, NoFault, Completes}
 use Rattle.osm_cli.specs.RunSteps.{Works}
 use Rattle.osm_cli.proofs.Writes.{take_is_front, whole_front}
+
+last_failed : (ended : Ended) (before middle now : Outside) → HasCause ended before middle → before.write_faults ≤ middle.write_faults → HasRisen middle.write_faults now.write_faults → LastFailed ended before now
+last_failed WriteFault before middle now cause rises failed = omega arith
+last_failed Done before middle now cause rises failed = omega arith
+last_failed OpenFault before middle now cause rises failed = omega arith
+last_failed ReadFault before middle now cause rises failed = omega arith
+last_failed OutOfMemory before middle now cause rises failed = omega arith
+last_failed (BadWords fault) before middle now cause rises failed = omega arith
+last_failed (BadInput line fault) before middle now cause rises failed = omega arith
+last_failed (Stopped candidate) before middle now cause rises failed = omega arith
+last_failed (TooMuchInput limit) before middle now cause rises failed = omega arith
 
 module _ (words : Result Job WordsFault) (ended : Ended) (before middle now : Outside) (works : Works words ended before middle) (only : OnlyWritesReport middle now) where
   -- the last line or a front of it stands behind what was reported
@@ -37,7 +51,7 @@ module _ (words : Result Job WordsFault) (ended : Ended) (before middle now : Ou
     right = works.right;
     silent = works.silent;
     last_front = subst (λ (xs : List ℕ). IsFront (take front.0 line) xs) is (take_is_front front.0 line);
-    last_whole = inr (let a = works.never_falls in let b = counts.failed in omega arith);
+    last_whole = inr (last_failed ended before middle now works.cause works.never_falls counts.failed);
   }
 
 opens_so_far : (words : Result Job WordsFault) (ended : Ended) (before middle now : Outside) → now.opens ≡ middle.opens → Opens words ended before middle → Opens words ended before now
@@ -54,6 +68,36 @@ opens_so_far (Ok job) ReadFault before middle now same opens = same ∙ opens
 
 pub opens_kept : (words : Result Job WordsFault) (ended : Ended) (before middle now : Outside) → Works words ended before middle → OnlyWritesReport middle now → Opens words ended before now
 opens_kept words ended before middle now works only = opens_so_far words ended before middle now only.opens works.opens
+
+answer_kept : (limit longest : ℕ) (taken : List ℕ) (middle now : Outside) (error : ReadError) → now.left ≡ middle.left → IsAnswer limit longest taken middle (Err error) → IsAnswer limit longest taken now (Err error)
+answer_kept limit longest taken middle now (read.BadInput line fault) same (inl bad) = inl bad
+answer_kept limit longest taken middle now (read.BadInput line fault) same (inr bad) =
+    inr (subst (λ (o : Option (List ℕ)). IfSome o (λ left. left ≡ [])) (sym same) bad.0, bad.1, bad.2)
+answer_kept limit longest taken middle now (read.TooMuchInput most) same answer = answer
+answer_kept limit longest taken middle now read.ReadFault same answer = answer
+answer_kept limit longest taken middle now read.OutOfMemory same answer = tt
+
+took_kept : (job : Job) (error : ReadError) (before middle now : Outside) → now.left ≡ middle.left → TookOff job error before middle → TookOff job error before now
+took_kept job error before middle now same took = record {
+  taken = took.taken;
+  left = took.left ∙ ap (λ (o : Option (List ℕ)). preceded took.taken o) (sym same);
+  answer = answer_kept input_limit longest_line took.taken middle now error same took.answer;
+}
+
+input_so_far : (words : Result Job WordsFault) (ended : Ended) (before middle now : Outside) → now.left ≡ middle.left → JudgesInput words ended before middle → JudgesInput words ended before now
+input_so_far (Err fault) ended before middle now same input = tt
+input_so_far (Ok job) (BadInput line fault) before middle now same input = took_kept job (read.BadInput line fault) before middle now same input
+input_so_far (Ok job) (TooMuchInput limit) before middle now same input = took_kept job (read.TooMuchInput limit) before middle now same input
+input_so_far (Ok job) ReadFault before middle now same input = took_kept job read.ReadFault before middle now same input
+input_so_far (Ok job) Done before middle now same input = tt
+input_so_far (Ok job) WriteFault before middle now same input = tt
+input_so_far (Ok job) OpenFault before middle now same input = tt
+input_so_far (Ok job) OutOfMemory before middle now same input = tt
+input_so_far (Ok job) (BadWords cause) before middle now same input = tt
+input_so_far (Ok job) (Stopped candidate) before middle now same input = tt
+
+pub input_kept : (words : Result Job WordsFault) (ended : Ended) (before middle now : Outside) → Works words ended before middle → OnlyWritesReport middle now → JudgesInput words ended before now
+input_kept words ended before middle now works only = input_so_far words ended before middle now only.left works.judged_input
 
 cause_so_far : (ended : Ended) (before middle now : Outside) → now.open_faults ≡ middle.open_faults → now.read_faults ≡ middle.read_faults → middle.write_faults ≤ now.write_faults →
     HasCause ended before middle → HasCause ended before now

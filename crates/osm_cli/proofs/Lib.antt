@@ -9,5 +9,6 @@ mod Gathering
 mod Lines
 mod ReportLines
 mod Runs
+mod SameWords
 mod Wholes
 mod Writes

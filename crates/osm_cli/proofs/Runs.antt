@@ -1,7 +1,7 @@
 -- A run but for its last line: each way in which it ends.
-use Rattle.std.proofs.Common.{◌≡◌, ◌∙◌, refl, sym, ap, subst, ℕ, ◌≤◌, ◌⊎◌, true, List, [], ◌∷◌, take, arith, Option, None, Some, IfSome, Result, Ok, Err, inl, inr}
+use Rattle.std.proofs.Common.{◌≡◌, ◌∙◌, refl, sym, ap, subst, ℕ, ◌≤◌, ◌⊎◌, true, false, List, [], ◌∷◌, arith, Option, None, Some, IfSome, Result, Ok, Err, inl, inr}
 use Rattle.opl_reader.specs.declared.object.Object.{Object}
-use Rattle.osm_host.specs.Outside.{Outside, Opened, input, output, appended, preceded, HasRisen, OnlyOpens, OnlyReads}
+use Rattle.osm_host.specs.Outside.{Outside, Opened, input, output, appended, HasRisen, OnlyOpens, OnlyReads}
 use Rattle.osm_host.proofs.Streams.{appended_nothing, appended_twice}
 use Rattle.osm_words.specs.declared.fault.WordsFault.{WordsFault}
 use Rattle.osm_words.specs.declared.fault.WordsError.{WordsError}
@@ -15,12 +15,15 @@ use Rattle.osm_cli.specs.declared.export.Halt.TheVariants as halt
 use Rattle.osm_cli.specs.declared.reading.ReadError.{ReadError}
 use Rattle.osm_cli.specs.declared.reading.ReadError.TheVariants as read
 use Rattle.osm_cli.specs.Job.{opens_of}
-use Rattle.osm_cli.specs.Lines.{lines_begun}
-use Rattle.osm_cli.specs.Input.{AreGood}
-use Rattle.osm_cli.specs.Reading.{IsReadAs, IsReadOf, Reads}
-use Rattle.osm_cli.specs.Whole.{silent, read_ended, input_limit, longest_line}
-use Rattle.osm_cli.specs.Run.{IsGoodFront, WroteAll, WroteFront, IsWritten, is_silent, JudgesWords, Opens, HasCause}
+use Rattle.osm_cli.specs.Reading.{IsReadAs, IsReadOf, Reads, Took}
+use Rattle.osm_cli.specs.Whole.{Whole, IsExport, finished, stopped, silent, read_ended, input_limit, longest_line}
+use Rattle.osm_cli.specs.Run.{WroteAll, WroteFront, IsWritten, is_silent, JudgesWords, JudgesInput, TookOff, Opens, HasCause}
 use Rattle.osm_cli.specs.RunSteps.{Added, HaltCause, ended_by, words_ended, IsAll, IsBegun, IsExported, WroteWhole, Works}
+
+-- an export of an input that is read writes something out
+is_loud : (settings : ExportSettings) (objects : List Object) (whole : Whole) → IsExport settings objects whole → is_silent whole.ended ≡ false
+is_loud settings objects whole (finished entries in_order right areas is) = ap (λ (w : Whole). is_silent w.ended) is
+is_loud settings objects whole (stopped entries last later stops in_order right last_right areas problems is) = ap (λ (w : Whole). is_silent w.ended) is
 
 -- ---- the input of an export
 
@@ -53,8 +56,8 @@ module _ (settings : ExportSettings) (before middle : Outside) where
 
       -- nothing was written, and only the input opened
       read_silent : (ended : Ended) → IsWritten job (before.named settings.file) ended [] [] → Opens (Ok job) ended before now → HasCause ended before now → JudgesWords (Ok job) ended →
-          Works (Ok job) ended before now
-      read_silent ended right opens cause judged = record {
+          JudgesInput (Ok job) ended before now → Works (Ok job) ended before now
+      read_silent ended right opens cause judged judged_input = record {
         output = [];
         report = [];
         to_output = still_out ∙ sym (appended_nothing before.out);
@@ -62,6 +65,7 @@ module _ (settings : ExportSettings) (before middle : Outside) where
         right = right;
         silent = λ _. (refl, refl);
         judged = judged;
+        judged_input = judged_input;
         opens = opens;
         cause = cause;
         never_falls = none_fell;
@@ -71,24 +75,24 @@ module _ (settings : ExportSettings) (before middle : Outside) where
       all_silent None error is = tt
       all_silent (Some bytes) error is = (silent (read_ended error), record { read = Err error; is_read = is; after = refl }, refl, refl, refl)
 
-      good_front : (left : Option (List ℕ)) (told : Option (List ℕ)) (taken : List ℕ) → told ≡ preceded taken left → AreGood longest_line (lines_begun longest_line (take input_limit taken)) → IfSome told IsGoodFront
-      good_front None told taken is good = subst (λ (o : Option (List ℕ)). IfSome o IsGoodFront) (sym is) tt
-      good_front (Some rest) told taken is good = subst (λ (o : Option (List ℕ)). IfSome o IsGoodFront) (sym is) (record { taken = taken; front = record { rest = rest; whole = refl }; good = good })
+      took_off : (error : ReadError) → Took input_limit longest_line middle now (Err error) → TookOff job error before now
+      took_off error took = record { taken = took.taken; left = sym begins ∙ took.left; answer = took.answer }
 
       -- the input isn't read
       pub not_read : (error : ReadError) → Reads input_limit longest_line middle now (Err error) → IfSome middle.left (λ bytes. IsReadOf input_limit longest_line bytes (Err error)) →
           (error ≡ read.ReadFault → HasRisen middle.read_faults now.read_faults) → Works (Ok job) (read_ended error) before now
       not_read (read.BadInput line fault) reads told cause =
           read_silent (BadInput line fault) (subst (λ (o : Option (List ℕ)). WroteAll job o (BadInput line fault) [] []) begins (all_silent middle.left (read.BadInput line fault) told)) one_open tt refl
+          (took_off (read.BadInput line fault) reads)
       not_read (read.TooMuchInput limit) reads told cause =
           read_silent (TooMuchInput limit) (subst (λ (o : Option (List ℕ)). WroteAll job o (TooMuchInput limit) [] []) begins (all_silent middle.left (read.TooMuchInput limit) told)) one_open tt refl
+          (took_off (read.TooMuchInput limit) reads)
       not_read read.ReadFault reads told cause =
-          read_silent ReadFault (refl, refl, good_front now.left (before.named settings.file) reads.taken (sym begins ∙ reads.left) reads.answer) one_open
-          (let a = only.read_faults in let b = cause refl in omega arith) refl
-      not_read read.OutOfMemory reads told cause = read_silent OutOfMemory (inl (refl, refl)) (1, one_open) tt tt
+          read_silent ReadFault (refl, refl) one_open (let a = only.read_faults in let b = cause refl in omega arith) refl (took_off read.ReadFault reads)
+      not_read read.OutOfMemory reads told cause = read_silent OutOfMemory (inl (refl, refl)) (1, one_open) tt tt tt
 
       pub no_memory : Works (Ok job) OutOfMemory before now
-      no_memory = read_silent OutOfMemory (inl (refl, refl)) (1, one_open) tt tt
+      no_memory = read_silent OutOfMemory (inl (refl, refl)) (1, one_open) tt tt tt
 
       -- ---- the output
 
@@ -103,6 +107,7 @@ module _ (settings : ExportSettings) (before middle : Outside) where
           right = (refl, refl);
           silent = λ _. (refl, refl);
           judged = refl;
+          judged_input = tt;
           opens = elim listed_or_not [
             | inl two ↦ (2, both_opens opened two)
             | inr one ↦ (1, one ∙ one_open)
@@ -120,7 +125,7 @@ module _ (settings : ExportSettings) (before middle : Outside) where
           front_told : (left : Option (List ℕ)) (written reported : List ℕ) → IfSome left (λ bytes. IsReadOf input_limit longest_line bytes (Ok objects)) → IsBegun settings objects written reported →
               WroteFront job left written reported
           front_told None written reported is begun = tt
-          front_told (Some bytes) written reported is begun = (begun.0, record { read = Ok objects; is_read = is; after = begun.1 }, begun.2, begun.3)
+          front_told (Some bytes) written reported is begun = (begun.0, record { read = Ok objects; is_read = is; after = begun.1 }, is_loud settings objects begun.0 begun.1, begun.2, begun.3)
 
           wrote_all : (ended : Ended) (written reported : List ℕ) → IsAll settings objects written reported ended → WroteAll job (before.named settings.file) ended written reported
           wrote_all ended written reported right = subst (λ (o : Option (List ℕ)). WroteAll job o ended written reported) begins (all_told middle.left ended written reported told right)
@@ -132,9 +137,9 @@ module _ (settings : ExportSettings) (before middle : Outside) where
           two_opens same = both_opens last (same ∙ lists)
 
           module _ (written reported : List ℕ) (added : Added written reported opened last) where
-            works : (ended : Ended) → IsWritten job (before.named settings.file) ended written reported → (is_silent ended ≡ true → ⊥) → JudgesWords (Ok job) ended → Opens (Ok job) ended before last →
-                HasCause ended before last → Works (Ok job) ended before last
-            works ended right loud judged opens cause = record {
+            works : (ended : Ended) → IsWritten job (before.named settings.file) ended written reported → (is_silent ended ≡ true → ⊥) → JudgesWords (Ok job) ended → JudgesInput (Ok job) ended before last →
+                Opens (Ok job) ended before last → HasCause ended before last → Works (Ok job) ended before last
+            works ended right loud judged judged_input opens cause = record {
               output = written;
               report = reported;
               to_output = added.to_output ∙ ap (λ (o : Option (List ℕ)). appended o written) (opens_only.out ∙ still_out);
@@ -142,19 +147,20 @@ module _ (settings : ExportSettings) (before middle : Outside) where
               right = right;
               silent = λ is. absurd (loud is);
               judged = judged;
+              judged_input = judged_input;
               opens = opens;
               cause = cause;
               never_falls = let a = none_fell in let b = opens_only.write_faults in let c = added.never_falls in omega arith;
             }
 
             ended_works : (result : Result (Unit {0}) Halt) → IsExported settings objects written reported result → HaltCause opened last result → Works (Ok job) (ended_by result) before last
-            ended_works (Ok done) right cause = works Done (wrote_all Done written reported right) (λ is. absurd (cc)) refl (two_opens added.rest.opens) tt
+            ended_works (Ok done) right cause = works Done (wrote_all Done written reported right) (λ is. absurd (cc)) refl tt (two_opens added.rest.opens) tt
             ended_works (Err (halt.Stopped candidate)) right cause =
-                works (Stopped candidate) (wrote_all (Stopped candidate) written reported right) (λ is. absurd (cc)) refl (two_opens added.rest.opens) tt
+                works (Stopped candidate) (wrote_all (Stopped candidate) written reported right) (λ is. absurd (cc)) refl tt (two_opens added.rest.opens) tt
             ended_works (Err halt.WriteFault) right cause =
-                works WriteFault (wrote_front written reported right) (λ is. absurd (cc)) refl (two_opens added.rest.opens)
+                works WriteFault (wrote_front written reported right) (λ is. absurd (cc)) refl tt (two_opens added.rest.opens)
                 (let a = reads_only.write_faults in let b = only.write_faults in let c = opens_only.write_faults in omega arith)
-            ended_works (Err halt.OutOfMemory) right cause = works OutOfMemory (inr (wrote_front written reported right)) (λ is. absurd (cc)) tt (2, two_opens added.rest.opens) tt
+            ended_works (Err halt.OutOfMemory) right cause = works OutOfMemory (inr (wrote_front written reported right)) (λ is. absurd (cc)) tt tt (2, two_opens added.rest.opens) tt
 
           -- the output was written, as far as the run came
           pub works_written : (result : Result (Unit {0}) Halt) → WroteWhole settings objects opened last result → Works (Ok job) (ended_by result) before last
@@ -172,6 +178,7 @@ input_not_opened settings before now only risen listed_or_not = record {
   right = (refl, refl);
   silent = λ _. (refl, refl);
   judged = refl;
+  judged_input = tt;
   opens = elim listed_or_not [
     | inl one ↦ (1, one)
     | inr none ↦ (0, none ∙ sym (appended_nothing before.opens))
@@ -191,6 +198,7 @@ refused cause o = record {
   right = (refl, refl, refl);
   silent = λ _. (refl, refl);
   judged = refl;
+  judged_input = tt;
   opens = refl;
   cause = tt;
   never_falls = omega arith;
@@ -206,6 +214,7 @@ no_memory_for_words (Ok job) o = record {
   right = inl (refl, refl);
   silent = λ _. (refl, refl);
   judged = tt;
+  judged_input = tt;
   opens = (0, sym (appended_nothing o.opens));
   cause = tt;
   never_falls = omega arith;
@@ -218,6 +227,7 @@ no_memory_for_words (Err fault) o = record {
   right = (tt, refl, refl);
   silent = λ _. (refl, refl);
   judged = tt;
+  judged_input = tt;
   opens = refl;
   cause = tt;
   never_falls = omega arith;

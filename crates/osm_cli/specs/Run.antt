@@ -1,13 +1,14 @@
 -- What a run does with its words and its host.
 use Rattle.std.specs.Prelude.{◌≡◌, ◌⊎◌, ℕ, Bool, true, false, List, [], ◌++◌, take, Option, None, Some, IfSome, Result, Ok, Err}
-use Rattle.osm_host.specs.Outside.{Outside, appended, HasRisen}
+use Rattle.osm_host.specs.Outside.{Outside, appended, preceded, risen, HasRisen}
 use Rattle.osm_words.specs.declared.fault.WordsFault.{WordsFault}
 use Rattle.osm_cli.specs.declared.ended.Ended.{Ended}
-use Rattle.osm_cli.specs.declared.ended.Ended.TheVariants.{Done, Stopped, BadWords, OpenFault, ReadFault, WriteFault, OutOfMemory}
+use Rattle.osm_cli.specs.declared.ended.Ended.TheVariants.{Done, Stopped, BadWords, BadInput, TooMuchInput, OpenFault, ReadFault, WriteFault, OutOfMemory}
+use Rattle.osm_cli.specs.declared.reading.ReadError.{ReadError}
+use Rattle.osm_cli.specs.declared.reading.ReadError.TheVariants as read
 use Rattle.osm_words.specs.Job.{Job}
 use Rattle.osm_cli.specs.Job.{input_of, opens_of}
-use Rattle.osm_cli.specs.Lines.{lines_begun}
-use Rattle.osm_cli.specs.Input.{AreGood}
+use Rattle.osm_cli.specs.Reading.{IsAnswer}
 use Rattle.osm_cli.specs.Whole.{Whole, IsWhole, input_limit, longest_line}
 use Rattle.osm_cli.specs.LastLine.{last_line}
 
@@ -18,28 +19,6 @@ pub record IsFront (xs ys : List ℕ) : Type 0 where
 
 -- ---- what was written
 
--- fronts of what is right for the input, where the host tells it
-abbrev pub WroteFront : Job → Option (List ℕ) → List ℕ → List ℕ → Type 0
-WroteFront job told output report = IfSome told (λ bytes. (whole : Whole) × IsWhole job bytes whole × IsFront output whole.output × IsFront report whole.report)
-
--- the whole of it, and how it is to end
-abbrev pub WroteAll : Job → Option (List ℕ) → Ended → List ℕ → List ℕ → Type 0
-WroteAll job told ended output report = IfSome told (λ bytes. (whole : Whole) × IsWhole job bytes whole × (ended ≡ whole.ended) × (output ≡ whole.output) × (report ≡ whole.report))
-
--- no line is bad among those that were read before a read failed
-pub record IsGoodFront (bytes : List ℕ) : Type 0 where
-  pub taken : List ℕ
-  pub front : IsFront taken bytes
-  pub good : AreGood longest_line (lines_begun longest_line (take input_limit taken))
-
--- What was written out, and into the report before its last line, is right for the input of a job.
-abbrev pub IsWritten : Job → Option (List ℕ) → Ended → List ℕ → List ℕ → Type 0
-IsWritten job told OpenFault output report = (output ≡ []) × (report ≡ [])
-IsWritten job told ReadFault output report = (output ≡ []) × (report ≡ []) × IfSome told IsGoodFront
-IsWritten job told WriteFault output report = WroteFront job told output report
-IsWritten job told OutOfMemory output report = ((output ≡ []) × (report ≡ [])) ⊎ WroteFront job told output report
-IsWritten job told ended output report = WroteAll job told ended output report
-
 -- with these endings nothing is written out
 abbrev pub is_silent : Ended → Bool
 is_silent Done = false
@@ -47,6 +26,23 @@ is_silent (Stopped candidate) = false
 is_silent WriteFault = false
 is_silent OutOfMemory = false
 is_silent _ = true
+
+-- fronts of what is right for the input, where the host tells it; it has no bad place and keeps the limit
+abbrev pub WroteFront : Job → Option (List ℕ) → List ℕ → List ℕ → Type 0
+WroteFront job told output report =
+    IfSome told (λ bytes. (whole : Whole) × IsWhole job bytes whole × (is_silent whole.ended ≡ false) × IsFront output whole.output × IsFront report whole.report)
+
+-- the whole of it, and how it is to end
+abbrev pub WroteAll : Job → Option (List ℕ) → Ended → List ℕ → List ℕ → Type 0
+WroteAll job told ended output report = IfSome told (λ bytes. (whole : Whole) × IsWhole job bytes whole × (ended ≡ whole.ended) × (output ≡ whole.output) × (report ≡ whole.report))
+
+-- What was written out, and into the report before its last line, is right for the input of a job.
+abbrev pub IsWritten : Job → Option (List ℕ) → Ended → List ℕ → List ℕ → Type 0
+IsWritten job told OpenFault output report = (output ≡ []) × (report ≡ [])
+IsWritten job told ReadFault output report = (output ≡ []) × (report ≡ [])
+IsWritten job told WriteFault output report = WroteFront job told output report
+IsWritten job told OutOfMemory output report = ((output ≡ []) × (report ≡ [])) ⊎ WroteFront job told output report
+IsWritten job told ended output report = WroteAll job told ended output report
 
 -- Words are refused with this fault, unless memory was wanting.
 abbrev pub IsRefused : WordsFault → Ended → Type 0
@@ -58,6 +54,11 @@ abbrev pub IsRun : Result Job WordsFault → Outside → Ended → List ℕ → 
 IsRun (Ok job) before ended output report = IsWritten job (before.named (input_of job)) ended output report
 IsRun (Err fault) before ended output report = IsRefused fault ended × (output ≡ []) × (report ≡ [])
 
+-- The write of the last line failed. After a write fault it is one more that did.
+abbrev pub LastFailed : Ended → Outside → Outside → Type 0
+LastFailed WriteFault before after = HasRisen (risen before.write_faults) after.write_faults
+LastFailed ended before after = HasRisen before.write_faults after.write_faults
+
 -- What a run wrote: an output, and a report with its last line or, where that write failed, a front of it.
 pub record Writes (words : Result Job WordsFault) (ended : Ended) (before after : Outside) : Type 0 where
   pub output : List ℕ
@@ -68,7 +69,24 @@ pub record Writes (words : Result Job WordsFault) (ended : Ended) (before after 
   pub right : IsRun words before ended output report
   pub silent : is_silent ended ≡ true → (output ≡ []) × (report ≡ [])
   pub last_front : IsFront last (last_line ended)
-  pub last_whole : (last ≡ last_line ended) ⊎ HasRisen before.write_faults after.write_faults
+  pub last_whole : (last ≡ last_line ended) ⊎ LastFailed ended before after
+
+-- ---- what was read
+
+-- These bytes were taken off the input of a job, and they don't let it be read.
+pub record TookOff (job : Job) (error : ReadError) (before after : Outside) : Type 0 where
+  pub taken : List ℕ
+  pub left : before.named (input_of job) ≡ preceded taken after.left
+  pub answer : IsAnswer input_limit longest_line taken after (Err error)
+
+-- An input is refused only for what was taken off it: its bad place stands in the lines that count there, or they have
+-- none and it passes the limit. Where a read failed, they have none either.
+abbrev pub JudgesInput : Result Job WordsFault → Ended → Outside → Outside → Type 0
+JudgesInput (Ok job) (BadInput line fault) before after = TookOff job (read.BadInput line fault) before after
+JudgesInput (Ok job) (TooMuchInput limit) before after = TookOff job (read.TooMuchInput limit) before after
+JudgesInput (Ok job) ReadFault before after = TookOff job read.ReadFault before after
+JudgesInput (Ok job) ended before after = Unit {0}
+JudgesInput (Err fault) ended before after = Unit {0}
 
 -- ---- what was opened
 

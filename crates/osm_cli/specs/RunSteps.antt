@@ -12,7 +12,7 @@ use Rattle.osm_cli.specs.declared.ended.Ended.TheVariants as ended
 use Rattle.osm_cli.specs.declared.export.Halt.{Halt}
 use Rattle.osm_cli.specs.declared.export.Halt.TheVariants.{Stopped, WriteFault, OutOfMemory}
 use Rattle.osm_cli.specs.Entry.{Entry, IsEntry, features_in, has_area, piece_of, pieces_of, reports_of}
-use Rattle.osm_cli.specs.Run.{IsFront, IsRun, is_silent, Opens, JudgesWords, HasCause}
+use Rattle.osm_cli.specs.Run.{IsFront, IsRun, is_silent, Opens, JudgesWords, JudgesInput, HasCause}
 use Rattle.osm_cli.specs.Whole.{Whole, HaveAreas, IsExport}
 
 -- ---- writing
@@ -179,6 +179,7 @@ pub record Works (words : Result Job WordsFault) (ended : Ended) (before after :
   pub right : IsRun words before ended output report
   pub silent : is_silent ended ≡ true → (output ≡ []) × (report ≡ [])
   pub judged : JudgesWords words ended
+  pub judged_input : JudgesInput words ended before after
   pub opens : Opens words ended before after
   pub cause : HasCause ended before after
   pub never_falls : before.write_faults ≤ after.write_faults

@@ -1,7 +1,7 @@
 //! The run: from words and a host to what is written and how it ended.
 
 ghost use Rattle.std.specs.Prelude.{◌≡◌, ℕ, List, Ok, map, string_bytes};
-ghost use Rattle.osm_cli.specs.Run.{Writes, Opens, JudgesWords, HasCause, NoFault, Completes};
+ghost use Rattle.osm_cli.specs.Run.{Writes, Opens, JudgesWords, JudgesInput, HasCause, NoFault, Completes};
 ghost use Rattle.osm_cli.specs.RunSteps.{Works, words_ended};
 ghost use Rattle.osm_words.specs.Answers.{job_seen};
 ghost use Rattle.osm_words.specs.Job.{export};
@@ -24,6 +24,8 @@ pub fn run<H: Host>(alloc: Global, words: &[String], host: &mut H) -> Ended
     ensures writes { Writes (job_asked (map string_bytes words.now)) result (H.seen host.old) (H.seen host.new) }
     // Words are refused exactly where they ask for nothing that a run does.
     ensures words { JudgesWords (job_asked (map string_bytes words.now)) result }
+    // An input is refused only for what was taken off it.
+    ensures reads { JudgesInput (job_asked (map string_bytes words.now)) result (H.seen host.old) (H.seen host.new) }
     // No name is opened that the words don't give.
     ensures opens { Opens (job_asked (map string_bytes words.now)) result (H.seen host.old) (H.seen host.new) }
     // No fault is answered by itself.

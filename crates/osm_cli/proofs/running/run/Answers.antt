@@ -1,7 +1,7 @@
 use Rattle.std.proofs.Common.{map, string_bytes, ◌∙◌, ap}
 use Rattle.osm_words.specs.Words.{job_asked}
 use Rattle.osm_words.specs.PlainExport.{said}
-use Rattle.osm_cli.proofs.Endings.{writes, opens_kept, cause_kept, completes, plain_completes}
+use Rattle.osm_cli.proofs.Endings.{writes, input_kept, opens_kept, cause_kept, completes, plain_completes}
 use Rattle.osm_cli.proofs.running.run.Goals as goal
 
 pub returns-clause-writes : goal.returns-clause-writes
@@ -9,6 +9,11 @@ returns-clause-writes g c =
     writes (job_asked (map string_bytes c.args.words.now)) c.work-ended.result (g.H.Host.seen c.args.host.now) (g.H.Host.seen c.work-ended.new.host) (g.H.Host.seen c.write_all_report.new.host)
     c.work-ended.ensures c.write_all_report.ensures.rest c.as_slice.result.now c.write_all_report.result (c.as_slice.ensures ∙ c.last_line-line.ensures)
     c.write_all_report.ensures.all c.write_all_report.ensures.front c.write_all_report.ensures.cause
+
+pub returns-clause-reads : goal.returns-clause-reads
+returns-clause-reads g c =
+    input_kept (job_asked (map string_bytes c.args.words.now)) c.work-ended.result (g.H.Host.seen c.args.host.now) (g.H.Host.seen c.work-ended.new.host) (g.H.Host.seen c.write_all_report.new.host)
+    c.work-ended.ensures c.write_all_report.ensures.rest
 
 pub returns-clause-opens : goal.returns-clause-opens
 returns-clause-opens g c =
