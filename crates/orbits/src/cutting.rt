@@ -21,7 +21,7 @@ pub fn cut(
     ensures { IfOk result (λ v. AreCutOff keys.now walk.now (map (λ p. p.items) v.items)) }
 {
     let mut pieces = Vec::new(alloc);
-    let mut stack: Vec<usize> = Vec::new(alloc);
+    let mut stack: Vec<usize> = Vec::with_capacity(alloc, walk.len())?;
     for &item in walk {
         let key = keys[item];
         // A depth is right only where the stack has the key there, so none is ever cleared.

@@ -23,27 +23,44 @@ some_abs (negsuc n) h e = cc
 pub on_first : (s : Seg) (x y : Frac) (d w : ℕ) → 1 ≤ d → w ≤ d → x.num *ℤ pos d ≡ (s.a.x *ℤ pos (d - w) +ℤ s.b.x *ℤ pos w) *ℤ pos x.den → y.num *ℤ pos d ≡ (s.a.y *ℤ pos (d - w) +ℤ s.b.y *ℤ pos w) *ℤ pos y.den → IsOnSegment s x y
 on_first s x y d w some le hx hy = on_segment (edge_of s) x.num y.num x.den y.den d w (rising_edge s) x.den_in y.den_in some le hx hy
 
--- and on t, where they cross
-pub on_second : (s t : Seg) (x y : Frac) (d w : ℕ) → conflict_of s t ≡ Some Crossing → w ≡ unsigned_abs (orientation t.a t.b s.a) → d ≡ unsigned_abs (slant s t) →
-    x.num *ℤ pos d ≡ (s.a.x *ℤ pos (d - w) +ℤ s.b.x *ℤ pos w) *ℤ pos x.den → y.num *ℤ pos d ≡ (s.a.y *ℤ pos (d - w) +ℤ s.b.y *ℤ pos w) *ℤ pos y.den → IsOnSegment t x y
+-- how far along each of two crossing segments their meeting point lies: w of d parts, and w' of them
+pub record AreAlike (s t : Seg) (d w w' : ℕ) : Type 0 where
+  pub some : 1 ≤ d
+  pub first : w ≤ d
+  pub second : w' ≤ d
+  pub xs : s.a.x *ℤ pos (d - w) +ℤ s.b.x *ℤ pos w ≡ t.a.x *ℤ pos (d - w') +ℤ t.b.x *ℤ pos w'
+  pub ys : s.a.y *ℤ pos (d - w) +ℤ s.b.y *ℤ pos w ≡ t.a.y *ℤ pos (d - w') +ℤ t.b.y *ℤ pos w'
+
+pub are_alike : (s t : Seg) → conflict_of s t ≡ Some Crossing → AreAlike s t (unsigned_abs (slant s t)) (unsigned_abs (orientation t.a t.b s.a)) (unsigned_abs (orientation s.a s.b t.a))
 unfolding orientation slant step
-on_second s t x y d w crossing ew ed hx hy =
+are_alike s t crossing =
+    let w = unsigned_abs (orientation t.a t.b s.a) in
     let w' = unsigned_abs (orientation s.a s.b t.a) in
+    let d = unsigned_abs (slant s t) in
     let first = part_of_first s t crossing in let second = part_of_second s t crossing in
     let turned = slant_turned s t in
-    let same_size : unsigned_abs (slant t s) ≡ d = ap unsigned_abs turned ∙ (abs-turned (slant s t) ∙ sym ed) in
-    let some : 1 ≤ d = rw ed first.den_some in
-    let le : w ≤ d = rw (ew, ed) first.at_most in
+    let same_size : unsigned_abs (slant t s) ≡ d = ap unsigned_abs turned ∙ abs-turned (slant s t) in
     let le' : w' ≤ d = rw (← same_size) second.at_most in
-    let ratio : pos w *ℤ slant s t ≡ orientation t.a t.b s.a *ℤ pos d = rw (ew, ed) first.ratio in
     let ratio' : pos w' *ℤ (pos 0 -ℤ slant s t) ≡ orientation s.a s.b t.a *ℤ pos d = rw (← turned, ← same_size) second.ratio in
     let nonzero = some_abs (slant s t) first.den_some in
-    let ex = along_x (edge_of s) (edge_of t) d w w' nonzero le le' ratio ratio' in
-    let ey = along_y (edge_of s) (edge_of t) d w w' nonzero le le' ratio ratio' in
-    on_segment (edge_of t) x.num y.num x.den y.den d w' (rising_edge t) x.den_in y.den_in some le' (hx ∙ ap (λ z. z *ℤ pos x.den) ex) (hy ∙ ap (λ z. z *ℤ pos y.den) ey)
+    record {
+      some = first.den_some;
+      first = first.at_most;
+      second = le';
+      xs = along_x (edge_of s) (edge_of t) d w w' nonzero first.at_most le' first.ratio ratio';
+      ys = along_y (edge_of s) (edge_of t) d w w' nonzero first.at_most le' first.ratio ratio';
+    }
   where
     abs-turned : (z : ℤ) → unsigned_abs (pos 0 -ℤ z) ≡ unsigned_abs z
     abs-turned z = omega (arith, signed)
+
+-- and on t, where they cross
+pub on_second : (s t : Seg) (x y : Frac) (d w : ℕ) → conflict_of s t ≡ Some Crossing → w ≡ unsigned_abs (orientation t.a t.b s.a) → d ≡ unsigned_abs (slant s t) →
+    x.num *ℤ pos d ≡ (s.a.x *ℤ pos (d - w) +ℤ s.b.x *ℤ pos w) *ℤ pos x.den → y.num *ℤ pos d ≡ (s.a.y *ℤ pos (d - w) +ℤ s.b.y *ℤ pos w) *ℤ pos y.den → IsOnSegment t x y
+on_second s t x y d w crossing ew ed hx hy =
+    let w' = unsigned_abs (orientation s.a s.b t.a) in
+    let alike : AreAlike s t d w w' = rw (ew, ed) (are_alike s t crossing) in
+    on_segment (edge_of t) x.num y.num x.den y.den d w' (rising_edge t) x.den_in y.den_in alike.some alike.second (hx ∙ ap (λ z. z *ℤ pos x.den) alike.xs) (hy ∙ ap (λ z. z *ℤ pos y.den) alike.ys)
 
 pub only_point : (s t : Seg) (x y x' y' : Frac) → conflict_of s t ≡ Some Crossing → IsOnSegment s x y → IsOnSegment t x y → IsOnSegment s x' y' → IsOnSegment t x' y' → (x ≡ x') × (y ≡ y')
 unfolding slant step

@@ -1,13 +1,16 @@
 -- The order of points by fractions is that of the plane once all is multiplied.
 use Rattle.std.proofs.Common.{◌≡◌, ℕ, suc, zero, ◌*◌, ◌≤◌, ℤ, pos, ◌*ℤ◌, ◌-ℤ◌, ap, refl, sym, ◌∙◌, arith}
-use Rattle.std.specs.Ordering.{ordering_then}
+use Rattle.std.specs.Ordering.{int_cmp, ordering_then}
+use Rattle.std.proofs.lemmas.Int.{ints}
 use Rattle.plane.specs.Sign.{Plus, sign}
 use Rattle.plane.proofs.Identities.{Split, lift, same, ◌⊟◌, ◌⊠◌}
 use Rattle.plane.proofs.Signs.{plus-times}
+use Rattle.osm_geom.specs.declared.loc.Loc.{Loc}
 use Rattle.osm_geom.specs.declared.point.Point.{Point}
 use Rattle.osm_geom.specs.declared.point.Point.TheVariants.{Lattice, OnVertical, OnHorizontal}
+use Rattle.osm_geom.specs.Loc.{loc_cmp}
 use Rattle.osm_geom.specs.OrderLaws.{ordering_of}
-use Rattle.osm_geom.specs.Point.{x_of, y_of, den_of, whole_of, point_cmp}
+use Rattle.osm_geom.specs.Point.{Fraction, x_of, y_of, den_of, whole_of, point_cmp}
 use Rattle.osm_geom.specs.RatioOrder.{fraction_cmp, by_fractions}
 use Rattle.osm_geom.specs.Span.{height_order}
 use Rattle.osm_geom.proofs.LocationOrder.{int_cmp-is, ordering_of-then}
@@ -68,3 +71,19 @@ den-sign p = sign-pos (den_of p) (product-some (x_of p).den (y_of p).den (x_den-
 
 pub y_den-sign : (p : Point) → sign (pos (y_of p).den) ≡ Plus
 y_den-sign p = sign-pos (y_of p).den (y_den-some p)
+
+-- whole coordinates are compared as they stand
+times-one : (z : ℤ) → z *ℤ pos 1 ≡ z
+times-one z = omega (arith, ints)
+
+pub height_cmp_by : (r s : Fraction) (p q : Point) → r ≡ y_of p → s ≡ y_of q → fraction_cmp r s ≡ ordering_of (height_order p q)
+height_cmp_by r s p q first second = rw (first, second) (height_cmp_is p q)
+
+pub lattice_height_cmp_is : (p q : Loc) → int_cmp p.y q.y ≡ ordering_of (height_order (Lattice p) (Lattice q))
+lattice_height_cmp_is p q = sym (ap (λ z. int_cmp z (q.y *ℤ pos 1)) (times-one p.y) ∙ ap (int_cmp p.y) (times-one q.y)) ∙ height_cmp_is (Lattice p) (Lattice q)
+
+lattice_by : (py qy px qx : ℤ) → ordering_then (int_cmp py qy) (int_cmp px qx) ≡ ordering_then (int_cmp (py *ℤ pos 1) (qy *ℤ pos 1)) (int_cmp (px *ℤ pos 1) (qx *ℤ pos 1))
+lattice_by py qy px qx = rw (times-one py, times-one qy, times-one px, times-one qx) refl
+
+pub lattice_cmp_is : (p q : Loc) → loc_cmp p q ≡ point_cmp (Lattice p) (Lattice q)
+lattice_cmp_is p q = lattice_by p.y q.y p.x q.x ∙ point_cmp_is (Lattice p) (Lattice q)

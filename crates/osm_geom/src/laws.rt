@@ -1,5 +1,5 @@
 //! Laws of orders, of conflicts and of meeting points. Each function has an empty body; its contract is the law.
-ghost use Rattle.osm_geom.specs.ConflictLaws.{ConflictIsSymmetric};
+ghost use Rattle.osm_geom.specs.ConflictLaws.{ConflictIsSymmetric, SegmentsApartAreClear};
 ghost use Rattle.osm_geom.specs.MeetingLaws.{CrossingSegmentsMeet};
 ghost use Rattle.osm_geom.specs.OrderLaws.{LocationOrderIsPointOrder, LocationOrderTellsApart, SegmentOrderTellsApart};
 ghost use Rattle.osm_geom.specs.TotalOrders.{PointOrderIsTotal, PointOrderTellsApart, OrderAboveReverses, OrderAboveIsTransitive, OrderAboveTiesAlike, OrderAboveTellsLinesApart, ClockwiseOrderIsTotal, ClockwiseOrderTellsApart};
@@ -36,6 +36,11 @@ pub fn clockwise_order_is_total()
 /// How two segments conflict does not depend on which is named first.
 pub fn conflicts_are_symmetric()
     ensures { ConflictIsSymmetric }
+{}
+
+/// Segments of which one begins above the other don't conflict.
+pub fn segments_apart_are_clear()
+    ensures { SegmentsApartAreClear }
 {}
 
 /// Two segments that cross have a point in common: the one that `meeting` gives is a value, whether it is called or not.

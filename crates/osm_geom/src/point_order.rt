@@ -37,18 +37,22 @@ fn compare_by_fractions(p: Point, q: Point) -> Ordering
 }
 
 /// The order of two points by y alone.
-#[tactic(auto, using(crate::proofs::PointOrders::height_cmp_is))]
 pub fn compare_heights(p: Point, q: Point) -> Ordering
     ensures { result ≡ ordering_of (height_order p q) }
 {
-    y_ratio(p).compare(y_ratio(q))
+    match (p, q) {
+        (Point::Lattice(p), Point::Lattice(q)) => p.y.cmp(&q.y),
+        _ => y_ratio(p).compare(y_ratio(q)),
+    }
 }
 
 /// The order of two points: by y, then by x. `point_order_is_total` says that it is total, and `Equal` for one
 /// point alone.
-#[tactic(auto, using(crate::proofs::PointOrders::point_cmp_is))]
 pub fn compare_points(p: Point, q: Point) -> Ordering
     ensures { result ≡ point_cmp p q }
 {
-    compare_by_fractions(p, q)
+    match (p, q) {
+        (Point::Lattice(p), Point::Lattice(q)) => p.cmp(&q),
+        _ => compare_by_fractions(p, q),
+    }
 }

@@ -38,7 +38,7 @@ pub fn tallies<T: Ord + Copy>(alloc: Global, items: &[T]) -> Result<Vec<Tally<T>
 {
     let mut sorted = Vec::from_slice(alloc, items)?;
     sorted.sort()?;
-    let mut tallies = Vec::new(alloc);
+    let mut tallies = Vec::with_capacity(alloc, sorted.len())?;
     for &item in &sorted {
         count_in(&mut tallies, item)?;
     }

@@ -53,7 +53,7 @@ fn edges_at(alloc: Global, edges: &[Edge], places: &[usize]) -> Result<Vec<Edge>
     requires { All (λ k. k < length edges.now) places.now }
     ensures { IfOk result (λ v. v.items ≡ edges_at edges.now places.now) }
 {
-    let mut found = Vec::new(alloc);
+    let mut found = Vec::with_capacity(alloc, places.len())?;
     for &place in places {
         found.push(edges[place])?;
     }

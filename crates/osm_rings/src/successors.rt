@@ -65,7 +65,7 @@ pub fn successors(
     ensures sized { IfOk result (λ v. length v.items ≡ length edges.now) }
     ensures first { IfOk result (λ v. (i : ℕ) → i < length edges.now → IsFirstMet (whole_edges edges.now) (edge_at (whole_edges edges.now) i) (after v.items i)) }
 {
-    let mut next = Vec::new(alloc);
+    let mut next = Vec::with_capacity(alloc, edges.len())?;
     for edge in edges {
         next.push(successor(ways, edge))?;
     }

@@ -29,7 +29,7 @@ fn compare_ways(way: Way, other: Way) -> Ordering
 pub fn ways(alloc: Global, edges: &[Edge]) -> Result<Vec<Way>, AllocError>
     ensures { IfOk result (λ v. AreWays edges.now v.items) }
 {
-    let mut ways = Vec::new(alloc);
+    let mut ways = Vec::with_capacity(alloc, edges.len())?;
     for (edge, &it) in edges.iter().enumerate() {
         ways.push(Way {
             from: it.from,
@@ -66,7 +66,7 @@ pub fn keys(alloc: Global, edges: &[Edge], ways: &[Way]) -> Result<Vec<usize>, A
     ensures below { IfOk result (λ v. All (λ k. k < length edges.now) v.items) }
     ensures tell { IfOk result (λ v. TellStarts edges.now v.items) }
 {
-    let mut keys = Vec::new(alloc);
+    let mut keys = Vec::with_capacity(alloc, edges.len())?;
     for &edge in edges {
         keys.push(first_at(ways, edge.from))?;
     }

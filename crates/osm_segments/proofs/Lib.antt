@@ -1,2 +1,3 @@
 pub mod RisingPairs
 pub mod CountLemmas
+pub mod NearSegments

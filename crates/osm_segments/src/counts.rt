@@ -51,7 +51,7 @@ pub fn repeated(alloc: Global, segs: &[Seg]) -> Result<Vec<Repeat>, AllocError>
 fn ends(alloc: Global, segs: &[Seg]) -> Result<Vec<Loc>, AllocError>
     ensures { IfOk result (λ v. v.items ≡ ends_of segs.now) }
 {
-    let mut ends = Vec::new(alloc);
+    let mut ends = Vec::with_capacity(alloc, 2 * segs.len())?;
     for seg in segs {
         ends.push(seg.a)?;
         ends.push(seg.b)?;

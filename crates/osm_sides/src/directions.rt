@@ -25,7 +25,7 @@ fn direct_each(alloc: Global, segs: &[Seg]) -> Result<Vec<Edge>, AllocError>
     ensures firsts { IfOk result (λ v. map (λ e. e.from) v.items ≡ map (first_end segs.now) segs.now) }
     ensures lasts { IfOk result (λ v. map (λ e. e.to) v.items ≡ map (last_end segs.now) segs.now) }
 {
-    let mut edges = Vec::new(alloc);
+    let mut edges = Vec::with_capacity(alloc, segs.len())?;
     for &s in segs {
         edges.push(direct_one(segs, s))?;
     }
