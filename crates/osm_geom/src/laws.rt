@@ -1,5 +1,6 @@
 //! Laws of orders, of conflicts and of meeting points. Each function has an empty body; its contract is the law.
 ghost use Rattle.osm_geom.specs.ConflictLaws.{ConflictIsSymmetric};
+ghost use Rattle.osm_geom.specs.ConflictPoints.{CrossingHasOnePoint, OverlapHasManyPoints, ClearSegmentsMeetAtEnds};
 ghost use Rattle.osm_geom.specs.MeetingLaws.{CrossingSegmentsMeet};
 ghost use Rattle.osm_geom.specs.OrderLaws.{LocationOrderIsPointOrder, LocationOrderTellsApart, SegmentOrderTellsApart};
 ghost use Rattle.osm_geom.specs.TotalOrders.{PointOrderIsTotal, PointOrderTellsApart, OrderAboveReverses, OrderAboveIsTransitive, OrderAboveTiesAlike, OrderAboveTellsLinesApart, ClockwiseOrderIsTotal, ClockwiseOrderTellsApart};
@@ -41,4 +42,12 @@ pub fn conflicts_are_symmetric()
 /// Two segments that cross have a point in common: the one that `meeting` gives is a value, whether it is called or not.
 pub fn meetings_exist()
     ensures { CrossingSegmentsMeet }
+{}
+
+/// Two segments that cross share one point, which isn't an end of both; two that overlap share more than one;
+/// two different ones without a conflict share none but ends of both.
+pub fn conflicts_are_told_by_points()
+    ensures crossing { CrossingHasOnePoint }
+    ensures overlap { OverlapHasManyPoints }
+    ensures clear { ClearSegmentsMeetAtEnds }
 {}
