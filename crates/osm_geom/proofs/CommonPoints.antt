@@ -1,11 +1,10 @@
 -- The points that two segments share, by how they conflict.
-use Rattle.std.proofs.Common.{◌≡◌, ◌≢◌, ◌⊎◌, inl, inr, Bool, true, false, not, if◌then◌else◌, ◌||◌, ◌≤◌, Some, None, ℕ, zero, suc, ℤ, pos, ◌*ℤ◌, refl, sym, ap, ◌∙◌, subst, arith}
+use Rattle.std.proofs.Common.{◌≡◌, ◌≢◌, inl, inr, Bool, true, false, if◌then◌else◌, ◌||◌, ◌≤◌, Some, None, ℕ, zero, suc, ℤ, pos, ◌*ℤ◌, refl, sym, ap, ◌∙◌, subst, arith}
 use Rattle.std.specs.declared.cmp.Ordering.{Ordering}
 use Rattle.std.specs.declared.cmp.Ordering.TheVariants.{Less, Equal, Greater}
 use Rattle.std.specs.Ordering.{is_eq}
-use Rattle.plane.specs.Conflict.{IsClearOf, conflicts, crosses, overlaps}
+use Rattle.plane.specs.Conflict.{IsClearOf, crosses}
 use Rattle.plane.specs.Edge.{Edge, IsRising, ends_at}
-use Rattle.plane.specs.RayCrossing.{is_off}
 use Rattle.plane.specs.Scale.{scaled_edge, scaled_point}
 use Rattle.plane.specs.Sign.{Plus, sign}
 use Rattle.plane.specs.Vector.{Vector, same_point}
@@ -22,7 +21,7 @@ use Rattle.osm_geom.specs.declared.conflicts.Kind.TheVariants.{Crossing, Overlap
 use Rattle.osm_geom.specs.Loc.{vector_of}
 use Rattle.osm_geom.specs.Seg.{seg_cmp, edge_of}
 use Rattle.osm_geom.specs.Conflict.{are_overlapping, are_crossing, conflict_of}
-use Rattle.osm_geom.specs.ConflictPoints.{IsAt, IsEndOf, IsEndOfBoth, OneInnerPoint}
+use Rattle.osm_geom.specs.ConflictPoints.{IsAt, IsEndOf, IsEndOfBoth, OnePoint}
 use Rattle.osm_geom.specs.Meeting.{CommonPoint, common_den, whole_point}
 use Rattle.osm_geom.proofs.ConflictCases.{where_crossing}
 use Rattle.osm_geom.proofs.CrossingMeets.{meeting_exists, only_point}
@@ -93,7 +92,7 @@ end_is s x y (inr at) =
     subst (λ w. (same_point w (multiplied x y s).from || same_point w (multiplied x y s).to) ≡ true) (sym e) (or-right (same_point (multiplied x y s).to (multiplied x y s).from) (same_point (multiplied x y s).to (multiplied x y s).to) (same_point-refl (multiplied x y s).to))
 
 -- ---- segments that cross
-pub crossing_has_one : (s t : Seg) → conflict_of s t ≡ Some Crossing → OneInnerPoint s t
+pub crossing_has_one : (s t : Seg) → conflict_of s t ≡ Some Crossing → OnePoint s t
 unfolding are_crossing
 crossing_has_one s t crossing =
     let point = meeting_exists s t crossing in
@@ -102,7 +101,7 @@ crossing_has_one s t crossing =
     let crossed : crosses (multiplied x y s) (multiplied x y t) ≡ true = crosses-scaled k (den_plus x y) (edge_of s) (edge_of t) ∙ where_crossing s t crossing in
     record {
       point = point;
-      inner = λ both.
+      not_end_of_both = λ both.
           let not_crossed = no_crossing_where_shared (whole_point x y) (multiplied x y s) (multiplied x y t) (multiplied_rising s x y) (multiplied_rising t x y) (end_is s x y both.0) (end_is t x y both.1) in
           let wrong : true ≡ false = sym crossed ∙ not_crossed in cc;
       alone = λ p. only_point s t p.x p.y x y crossing p.on_first p.on_second point.on_first point.on_second;

@@ -192,17 +192,23 @@ not_before_itself p q h e =
     let itself : order_of p q ≡ Null = ap (λ q. order_of p q) (sym e) ∙ order-self-null (vector_of p) in
     let wrong : Plus ≡ Null = sym h ∙ itself in cc
 
+many_at : (s t : Seg) (p q : Loc) → IsLocationOn s p → IsLocationOn t p → IsLocationOn s q → IsLocationOn t q → order_of p q ≡ Plus → ManyPoints s t
+many_at s t p q p_on_s p_on_t q_on_s q_on_t before =
+    let first = shared_at s t p p_on_s p_on_t in
+    let second = shared_at s t q q_on_s q_on_t in
+    record {
+      first = first.point;
+      second = second.point;
+      apart = λ same. not_before_itself p q before (same_location_by p q first.point.x first.point.y second.point.x second.point.y first.at second.at same.0 same.1);
+    }
+
 pub overlap_has_many : (s t : Seg) → conflict_of s t ≡ Some Overlap → ManyPoints s t
 unfolding are_overlapping
 overlap_has_many s t h =
     let i = overlapping_is s t (where_overlapping s t h) in
     let low = low_by s t (order_of s.a t.a) refl i in
     let high = high_by s t (order_of s.b t.b) refl i in
-    let first = shared_at s t low.low low.on_first low.on_second in
-    let second = shared_at s t high.high high.on_first high.on_second in
-    record {
-      first = first.point;
-      second = second.point;
-      apart = λ same. not_before_itself low.low high.high (high.after_both low.low low.before_first low.before_second)
-          (same_location_by low.low high.high first.point.x first.point.y second.point.x second.point.y first.at second.at same.0 same.1);
-    }
+    many_at s t low.low high.high low.on_first low.on_second high.on_first high.on_second (high.after_both low.low low.before_first low.before_second)
+
+pub itself_has_many : (s : Seg) → ManyPoints s s
+itself_has_many s = many_at s s s.a s.b (first_end s) (first_end s) (second_end s) (second_end s) (rising_edge s)

@@ -4,14 +4,14 @@ use Rattle.plane.specs.Conflict.{crosses}
 use Rattle.plane.specs.Edge.{Edge, IsRising, ends_at}
 use Rattle.plane.specs.Order.{order}
 use Rattle.plane.specs.Sign.{Sign, Null, Plus, Minus, negated, sign}
-use Rattle.plane.specs.Vector.{Vector, cross, from_to, orient, same_point}
+use Rattle.plane.specs.Vector.{Vector, from_to, orient, same_point}
 use Rattle.plane.proofs.Bools.{not-true-out}
 use Rattle.plane.proofs.Conflicts.{cross_by, crosses-by, crosses_reversed}
 use Rattle.plane.proofs.Edges.{edge_of}
 use Rattle.plane.proofs.PointOrder.{order-reversed, order-self-null}
 use Rattle.plane.proofs.Points.{same_point-true}
 use Rattle.plane.proofs.Products.{cross-here, cross-negated, cross-self, orient-round}
-use Rattle.plane.proofs.Signs.{all, all2, all2-out, all-out}
+use Rattle.plane.proofs.Signs.{all2, all2-out, all-out}
 
 reversed : (p q : Vector) → order p q ≡ Plus → order q p ≡ Minus
 reversed p q h = order-reversed p q ∙ ap negated h

@@ -22,9 +22,9 @@ abbrev pub AreSame : (s t : Seg) → CommonPoint s t → CommonPoint s t → Typ
 AreSame s t p q = (p.x ≡ q.x) × (p.y ≡ q.y)
 
 -- s and t share one point alone, which is not an end of both
-pub record OneInnerPoint (s t : Seg) : Type 0 where
+pub record OnePoint (s t : Seg) : Type 0 where
   pub point : CommonPoint s t
-  pub inner : IsEndOfBoth s t point → ⊥
+  pub not_end_of_both : IsEndOfBoth s t point → ⊥
   pub alone : (p : CommonPoint s t) → AreSame s t p point
 
 -- s and t share more than one point
@@ -33,13 +33,15 @@ pub record ManyPoints (s t : Seg) : Type 0 where
   pub second : CommonPoint s t
   pub apart : AreSame s t first second → ⊥
 
+-- two segments cross exactly where they share one such point
 abbrev pub CrossingHasOnePoint : Type 0
-CrossingHasOnePoint = (s t : Seg) → conflict_of s t ≡ Some Crossing → OneInnerPoint s t
+CrossingHasOnePoint = (s t : Seg) → (conflict_of s t ≡ Some Crossing) ↔ OnePoint s t
 
+-- they overlap exactly where they are two and share more than one point
 abbrev pub OverlapHasManyPoints : Type 0
-OverlapHasManyPoints = (s t : Seg) → conflict_of s t ≡ Some Overlap → ManyPoints s t
+OverlapHasManyPoints = (s t : Seg) → (conflict_of s t ≡ Some Overlap) ↔ ((s ≢ t) × ManyPoints s t)
 
--- two different segments without a conflict share at most ends of both
+-- two different ones have no conflict exactly where each point that they share is an end of both
 abbrev pub ClearSegmentsMeetAtEnds : Type 0
 ClearSegmentsMeetAtEnds =
-    (s t : Seg) → s ≢ t → conflict_of s t ≡ None → (p : CommonPoint s t) → IsEndOfBoth s t p
+    (s t : Seg) → s ≢ t → (conflict_of s t ≡ None) ↔ ((p : CommonPoint s t) → IsEndOfBoth s t p)

@@ -44,8 +44,9 @@ pub fn meetings_exist()
     ensures { CrossingSegmentsMeet }
 {}
 
-/// Two segments that cross share one point, which isn't an end of both; two that overlap share more than one;
-/// two different ones without a conflict share none but ends of both.
+/// The points that two segments share tell how they conflict: they cross exactly where they share one point, which isn't
+/// an end of both; they overlap exactly where they are two and share more than one; two different ones have no conflict
+/// exactly where they share none but ends of both.
 pub fn conflicts_are_told_by_points()
     ensures crossing { CrossingHasOnePoint }
     ensures overlap { OverlapHasManyPoints }
