@@ -8,10 +8,10 @@ use Rattle.plane.specs.Edge.{Edge, IsRising, ends_at}
 use Rattle.plane.specs.Scale.{scaled_edge, scaled_point}
 use Rattle.plane.specs.Sign.{Plus, sign}
 use Rattle.plane.specs.Vector.{Vector, same_point}
-use Rattle.plane.proofs.Bools.{or-right}
 use Rattle.plane.proofs.Conflicts.{clear_back}
+use Rattle.plane.proofs.Edges.{ends_at-from, ends_at-to}
 use Rattle.plane.proofs.Identities.{lift, same, apart, ◌⊠◌}
-use Rattle.plane.proofs.Points.{same_point-refl, same_point-true, same_vector}
+use Rattle.plane.proofs.Points.{same_point-true, same_vector}
 use Rattle.plane.proofs.Scaling.{conflicts-scaled, crosses-scaled, order-scaled}
 use Rattle.plane.proofs.Signs.{sign-*, times}
 use Rattle.osm_geom.specs.declared.loc.Loc.{Loc}
@@ -84,12 +84,8 @@ end_from : (s : Seg) (x y : Frac) → ends_at (whole_point x y) (multiplied x y 
 end_from s x y h = end_by s x y (same_point (whole_point x y) (multiplied x y s).from) (same_point (whole_point x y) (multiplied x y s).to) refl refl h
 
 end_is : (s : Seg) (x y : Frac) → IsEndOf s x y → ends_at (whole_point x y) (multiplied x y s) ≡ true
-end_is s x y (inl at) =
-    let e = point_at s.a x y at in
-    subst (λ w. (same_point w (multiplied x y s).from || same_point w (multiplied x y s).to) ≡ true) (sym e) (ap (λ b. b || same_point (multiplied x y s).from (multiplied x y s).to) (same_point-refl (multiplied x y s).from))
-end_is s x y (inr at) =
-    let e = point_at s.b x y at in
-    subst (λ w. (same_point w (multiplied x y s).from || same_point w (multiplied x y s).to) ≡ true) (sym e) (or-right (same_point (multiplied x y s).to (multiplied x y s).from) (same_point (multiplied x y s).to (multiplied x y s).to) (same_point-refl (multiplied x y s).to))
+end_is s x y (inl at) = subst (λ w. ends_at w (multiplied x y s) ≡ true) (sym (point_at s.a x y at)) (ends_at-from (multiplied x y s))
+end_is s x y (inr at) = subst (λ w. ends_at w (multiplied x y s) ≡ true) (sym (point_at s.b x y at)) (ends_at-to (multiplied x y s))
 
 -- ---- segments that cross
 pub crossing_has_one : (s t : Seg) → conflict_of s t ≡ Some Crossing → OnePoint s t

@@ -1,4 +1,4 @@
--- Points on an edge: one of its ends, or strictly between them. Where two edges don't conflict, a point on both is an end of both.
+-- Points on an edge: its ends, and those strictly between them. A point on two edges that don't conflict is an end of both.
 use Rattle.std.proofs.Common.{◌≡◌, Bool, true, false, not, ◌||◌, refl, sym, ap, ◌∙◌, pos}
 use Rattle.plane.specs.Conflict.{IsClearOf}
 use Rattle.plane.specs.Edge.{Edge, IsRising, ends_at}

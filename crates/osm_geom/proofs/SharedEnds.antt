@@ -1,4 +1,4 @@
--- Two edges that share an end don't cross.
+-- Two edges with a common end don't cross.
 use Rattle.std.proofs.Common.{◌≡◌, Bool, true, false, not, ◌||◌, refl, sym, ap, ◌∙◌, subst}
 use Rattle.plane.specs.Conflict.{crosses}
 use Rattle.plane.specs.Edge.{Edge, IsRising, ends_at}
