@@ -1,6 +1,6 @@
 -- Segments of which one begins above the other don't conflict.
-use Rattle.std.proofs.Common.{◌≡◌, Bool, true, false, if◌then◌else◌, ℕ, suc, ◌+◌, ◌-◌, ◌*◌, ◌≤◌, ℤ, pos, ◌-ℤ◌, ◌+ℤ◌, ◌*ℤ◌, unsigned_abs, refl, ap, arith, Some, None, ◌∙◌, sym}
-use Rattle.std.specs.Prelude.{◌<ℤ◌, ◌≤ℤ◌, ◌&&◌}
+use Rattle.std.proofs.Common.{◌≡◌, Bool, true, false, if◌then◌else◌, ℕ, suc, ◌+◌, ◌-◌, ◌*◌, ◌≤◌, ℤ, pos, ◌-ℤ◌, ◌+ℤ◌, ◌*ℤ◌, unsigned_abs, refl, ap, arith, Some, None}
+use Rattle.std.specs.Prelude.{◌<ℤ◌, ◌≤ℤ◌}
 use Rattle.std.specs.declared.cmp.Ordering.{Ordering}
 use Rattle.std.specs.declared.cmp.Ordering.TheVariants.{Less}
 use Rattle.std.specs.Ordering.{int_cmp, is_eq, ordering_then}
@@ -8,7 +8,7 @@ use Rattle.std.proofs.lemmas.Int.{ints}
 use Rattle.plane.proofs.Identities.{Split, apart, lift, ◌⊞◌, ◌⊟◌, ◌⊠◌}
 use Rattle.osm_geom.specs.declared.seg.Seg.{Seg}
 use Rattle.osm_geom.specs.declared.conflicts.Kind.TheVariants.{Crossing, Overlap}
-use Rattle.osm_geom.specs.Seg.{seg_cmp, edge_of}
+use Rattle.osm_geom.specs.Seg.{seg_cmp}
 use Rattle.osm_geom.specs.Loc.{orientation}
 use Rattle.osm_geom.specs.Meeting.{slant}
 use Rattle.osm_geom.proofs.Overlaps.{begins_before}

@@ -1,5 +1,5 @@
 -- The point in which two crossing segments meet: it lies on both, no other does, and there is one.
-use Rattle.std.proofs.Common.{◌≡◌, ◌≢◌, ℕ, zero, suc, ◌-◌, ◌≤◌, ℤ, pos, negsuc, ◌-ℤ◌, ◌+ℤ◌, ◌*ℤ◌, unsigned_abs, refl, sym, ap, ◌∙◌, arith, Some}
+use Rattle.std.proofs.Common.{◌≡◌, ◌≢◌, ℕ, zero, suc, ◌-◌, ◌≤◌, ℤ, pos, negsuc, ◌-ℤ◌, ◌+ℤ◌, ◌*ℤ◌, unsigned_abs, refl, ap, ◌∙◌, arith, Some}
 use Rattle.osm_geom.specs.declared.seg.Seg.{Seg}
 use Rattle.osm_geom.specs.declared.frac.Frac.{Frac}
 use Rattle.osm_geom.specs.declared.conflicts.Kind.TheVariants.{Crossing}

@@ -23,3 +23,4 @@ pub mod Level
 pub mod LineOrder
 pub mod TotalOrders
 pub mod MeetingLaws
+pub mod ConflictPoints

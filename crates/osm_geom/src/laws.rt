@@ -1,5 +1,6 @@
 //! Laws of orders, of conflicts and of meeting points. Each function has an empty body; its contract is the law.
 ghost use Rattle.osm_geom.specs.ConflictLaws.{ConflictIsSymmetric, SegmentsApartAreClear};
+ghost use Rattle.osm_geom.specs.ConflictPoints.{CrossingHasOnePoint, OverlapHasManyPoints, ClearSegmentsMeetAtEnds};
 ghost use Rattle.osm_geom.specs.MeetingLaws.{CrossingSegmentsMeet};
 ghost use Rattle.osm_geom.specs.OrderLaws.{LocationOrderIsPointOrder, LocationOrderTellsApart, SegmentOrderTellsApart};
 ghost use Rattle.osm_geom.specs.TotalOrders.{PointOrderIsTotal, PointOrderTellsApart, OrderAboveReverses, OrderAboveIsTransitive, OrderAboveTiesAlike, OrderAboveTellsLinesApart, ClockwiseOrderIsTotal, ClockwiseOrderTellsApart};
@@ -46,4 +47,13 @@ pub fn segments_apart_are_clear()
 /// Two segments that cross have a point in common: the one that `meeting` gives is a value, whether it is called or not.
 pub fn meetings_exist()
     ensures { CrossingSegmentsMeet }
+{}
+
+/// The points that two segments share tell how they conflict: they cross exactly where they share one point, which isn't
+/// an end of both; they overlap exactly where they are two and share more than one; two different ones have no conflict
+/// exactly where they share none but ends of both.
+pub fn conflicts_are_told_by_points()
+    ensures crossing { CrossingHasOnePoint }
+    ensures overlap { OverlapHasManyPoints }
+    ensures clear { ClearSegmentsMeetAtEnds }
 {}

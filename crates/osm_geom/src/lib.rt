@@ -32,8 +32,9 @@ pub use edge_lists::{Edges, Points};
 pub use frac::{Frac, round};
 pub use just_above::compare_just_above;
 pub use laws::{
-    clockwise_order_is_total, conflicts_are_symmetric, meetings_exist, order_above_is_total,
-    orders_are_exact, point_order_is_total, segments_apart_are_clear,
+    clockwise_order_is_total, conflicts_are_symmetric, conflicts_are_told_by_points,
+    meetings_exist, order_above_is_total, orders_are_exact, point_order_is_total,
+    segments_apart_are_clear,
 };
 pub use lists::{Ids, Locs, Path, Segs};
 pub use loc::Loc;

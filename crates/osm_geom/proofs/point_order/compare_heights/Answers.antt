@@ -1,4 +1,4 @@
-use Rattle.std.proofs.Common.{◌≡◌, ◌∙◌, rules}
+use Rattle.std.proofs.Common.{◌∙◌, rules}
 use Rattle.osm_geom.specs.RatioOrder.{fraction_of}
 use Rattle.osm_geom.proofs.PointOrders.{lattice_height_cmp_is, height_cmp_by}
 use Rattle.osm_geom.proofs.point_order.compare_heights.Goals as goal

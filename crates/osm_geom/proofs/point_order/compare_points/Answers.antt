@@ -1,6 +1,4 @@
-use Rattle.std.proofs.Common.{◌≡◌, ◌∙◌, rules}
-use Rattle.osm_geom.specs.Point.{point_cmp}
-use Rattle.osm_geom.specs.RatioOrder.{by_fractions}
+use Rattle.std.proofs.Common.{◌∙◌, rules}
 use Rattle.osm_geom.proofs.PointOrders.{lattice_cmp_is, point_cmp_is}
 use Rattle.osm_geom.proofs.point_order.compare_points.Goals as goal
 
