@@ -1,7 +1,7 @@
 -- Of segments in order, those that begin above the end of another one stand last, and none of them conflicts with it.
-use Rattle.std.proofs.Common.{◌≡◌, Bool, true, false, not, ℕ, zero, suc, ◌<◌, ◌≤◌, List, [], ◌∷◌, length, get_or, take, Option, Some, None, refl, ap, arith, ℤ, ⊎_elim}
+use Rattle.std.proofs.Common.{◌≡◌, Bool, true, false, not, ℕ, zero, suc, ◌≤◌, List, [], ◌∷◌, length, get_or, take, Option, None, refl, ap, arith, ℤ, ⊎_elim, ◌-◌, ◌++◌, drop, ◌∙◌, sym, subst}
 use Rattle.std.specs.declared.cmp.Ordering.{Ordering}
-use Rattle.std.specs.declared.cmp.Ordering.TheVariants.{Less, Equal, Greater}
+use Rattle.std.specs.declared.cmp.Ordering.TheVariants.{Less}
 use Rattle.std.specs.Ordering.{int_cmp, ordering_then}
 use Rattle.std.specs.Prelude.{◌≤ℤ◌, ◌<ℤ◌}
 use Rattle.std.specs.List.{AllWithin, cons_option, filter_map}
@@ -12,10 +12,12 @@ use lib.Signed.{lt_z}
 use Rattle.osm_geom.specs.declared.seg.Seg.{Seg}
 use Rattle.osm_geom.specs.Seg.{seg_cmp}
 use Rattle.osm_geom.specs.Loc.{loc_cmp}
-use Rattle.osm_geom.specs.Conflict.{conflict_of}
 use Rattle.osm_geom.specs.ConflictLaws.{SegmentsApartAreClear}
 use Rattle.osm_lists.specs.Rising.{IsRising}
-use Rattle.osm_segments.specs.Pairs.{pair_of}
+use Rattle.std.proofs.lemmas.List.{take_all, append_assoc}
+use Rattle.osm_segments.specs.declared.pairs.Pair.{Pair}
+use Rattle.osm_segments.specs.Pairs.{conflicts_of, pair_of}
+use Rattle.osm_segments.proofs.RisingPairs.{tail_rising}
 
 -- t begins no higher than s ends
 abbrev pub is_near : Seg → Seg → Bool
@@ -52,3 +54,19 @@ without_last h (x ∷ xs) (suc i) none = ap (cons_option (h x)) (without_last h 
 
 pub near_are_all : SegmentsApartAreClear → (s : Seg) (ts : List Seg) (i : ℕ) → AllWithin (λ t. is_near s t ≡ false) ts i (length ts) → filter_map (pair_of s) (take i ts) ≡ filter_map (pair_of s) ts
 near_are_all clear s ts i far = without_last (pair_of s) ts i (λ k d l m. no_pair clear s (get_or ts k d) (far k d l m))
+
+-- the segments after the first
+later_are : (t : Seg) (ts : List Seg) → take (length (t ∷ ts) - 1) (drop 1 (t ∷ ts)) ≡ ts
+later_are t ts = take_all (length (t ∷ ts) - 1) ts (omega arith)
+
+pub later_rising : (rest : List Seg) → 1 ≤ length rest → IsRising seg_cmp rest → IsRising seg_cmp (take (length rest - 1) (drop 1 rest))
+later_rising [] some rising = absurd (omega arith)
+later_rising (t ∷ ts) some rising = subst (IsRising seg_cmp) (sym (later_are t ts)) (tail_rising t ts rising)
+
+-- one more segment, with the later ones, of those that are left
+pub one_more : (rest : List Seg) (s : Seg) (old new found all : List Pair) → 1 ≤ length rest → s ≡ get_or rest 0 s → new ≡ old ++ found → found ≡ filter_map (pair_of s) (take (length rest - 1) (drop 1 rest)) → old ++ conflicts_of rest ≡ all →
+    new ++ conflicts_of (take (length rest - 1) (drop 1 rest)) ≡ all
+one_more [] s old new found all some is grown what before = absurd (omega arith)
+one_more (t ∷ ts) s old new found all some is grown what before =
+    let pairs : found ≡ filter_map (pair_of t) ts = what ∙ (λ i. filter_map (pair_of (is i)) (later_are t ts i)) in
+    (λ i. grown i ++ conflicts_of (later_are t ts i)) ∙ (ap (λ ps. (old ++ ps) ++ conflicts_of ts) pairs ∙ (append_assoc old (filter_map (pair_of t) ts) (conflicts_of ts) ∙ before))

@@ -29,7 +29,7 @@ none_all P k d h = absurd (omega arith)
 head_rising : (s : Seg) (ts : List Seg) → IsRising seg_cmp (s ∷ ts) → All (λ t. seg_cmp s t ≡ Less) ts
 head_rising s ts rising k d h = rising 0 (suc k) d (omega arith) (omega arith)
 
-tail_rising : (s : Seg) (ts : List Seg) → IsRising seg_cmp (s ∷ ts) → IsRising seg_cmp ts
+pub tail_rising : (s : Seg) (ts : List Seg) → IsRising seg_cmp (s ∷ ts) → IsRising seg_cmp ts
 tail_rising s ts rising i j d h l = rising (suc i) (suc j) d (omega arith) (omega arith)
 
 -- a pair is of the two segments that it was made of
