@@ -57,7 +57,7 @@ fn begin(alloc: Global, ring: &Ring, place: usize) -> Result<Begun, AllocError>
 fn listed(alloc: Global, rings: &[Ring]) -> Result<Vec<Begun>, AllocError>
     ensures { IfOk result (λ v. AreListed rings.now (length rings.now) v.items) }
 {
-    let mut listed = Vec::new(alloc);
+    let mut listed = Vec::with_capacity(alloc, rings.len())?;
     for (place, ring) in rings.iter().enumerate() {
         listed.push(begin(alloc, ring, place)?)?;
     }

@@ -21,7 +21,7 @@ fn no_rings(alloc: Global, places: usize) -> Result<Vec<Rings>, AllocError>
     ensures sized { IfOk result (λ v. length v.items ≡ places) }
     ensures empty { IfOk result (λ v. All (λ (under : List (List Edge)). under ≡ []) v.items) }
 {
-    let mut under = Vec::new(alloc);
+    let mut under = Vec::with_capacity(alloc, places)?;
     for _ in 0..places {
         under.push(Rings::new(alloc))?;
     }

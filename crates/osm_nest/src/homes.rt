@@ -25,7 +25,7 @@ pub(crate) fn homes(alloc: Global, rings: &[Ring]) -> Result<Vec<Option<usize>>,
     ensures { IfOk result (λ homes. AreHomes rings.now homes.items) }
 {
     let outer = told(alloc, rings)?;
-    let mut homes = Vec::new(alloc);
+    let mut homes = Vec::with_capacity(alloc, rings.len())?;
     for place in 0..rings.len() {
         homes.push(home(rings, &outer, place))?;
     }
@@ -38,7 +38,7 @@ fn told(alloc: Global, rings: &[Ring]) -> Result<Vec<bool>, AllocError>
     ensures sized { IfOk result (λ outer. length outer.items ≡ length rings.now) }
     ensures outer { IfOk result (λ outer. TellOuter rings.now outer.items) }
 {
-    let mut outer = Vec::new(alloc);
+    let mut outer = Vec::with_capacity(alloc, rings.len())?;
     for ring in rings {
         outer.push(is_outer(ring))?;
     }

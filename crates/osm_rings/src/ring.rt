@@ -54,7 +54,8 @@ impl Ring {
     {
         let edges = self.as_slice();
         let least = least_start(edges);
-        let mut turned = Vec::from_slice(alloc, &edges[least..])?;
+        let mut turned = Vec::with_capacity(alloc, edges.len())?;
+        turned.extend_from_slice(&edges[least..])?;
         turned.extend_from_slice(&edges[..least])?;
         Ok(Ring::of_edges(turned))
     }
