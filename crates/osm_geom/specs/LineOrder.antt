@@ -17,6 +17,14 @@ step_of l = record { x = l.run; y = l.rise }
 unfoldable pub x_num : Line → Level → ℤ
 x_num l h = l.x *ℤ l.rise *ℤ pos h.den +ℤ (h.num -ℤ l.y *ℤ pos h.den) *ℤ l.run
 
+-- by x at the height
+abbrev pub place_cmp : Line → Line → Level → Ordering
+place_cmp l m h = int_cmp (x_num l h *ℤ m.rise) (x_num m h *ℤ l.rise)
+
+-- by run / rise
+abbrev pub slope_cmp : Line → Line → Ordering
+slope_cmp l m = int_cmp (l.run *ℤ m.rise) (m.run *ℤ l.rise)
+
 -- by x at the height, then by run / rise
 unfoldable pub line_cmp : Line → Line → Level → Ordering
-line_cmp l m h = ordering_then (int_cmp (x_num l h *ℤ m.rise) (x_num m h *ℤ l.rise)) (int_cmp (l.run *ℤ m.rise) (m.run *ℤ l.rise))
+line_cmp l m h = ordering_then (place_cmp l m h) (slope_cmp l m)

@@ -27,8 +27,19 @@ pub struct Line {
     pub ghost rise_in: { IsRise rise },
 }
 
+impl Line {
+    ghost use Rattle.osm_geom.specs.LineOrder.{slope_cmp};
+
+    // The order of two lines that rise by how far each runs to the right while it rises.
+    fn compare_slopes(self, other: Line) -> Ordering
+        ensures { result ≡ slope_cmp self other }
+    {
+        (self.run * other.rise).cmp(&(other.run * self.rise))
+    }
+}
+
 impl Level {
-    ghost use Rattle.osm_geom.specs.LineOrder.{x_num, line_cmp};
+    ghost use Rattle.osm_geom.specs.LineOrder.{x_num, place_cmp, line_cmp};
 
     // How far the height is above the line's point, times its denominator.
     fn above(self, l: Line) -> i128
@@ -47,11 +58,18 @@ impl Level {
         l.x * l.rise * i128::from(self.den) + self.above(l) * l.run
     }
 
+    // The order of two lines that rise by where they are at this height.
+    fn compare_places(self, l: Line, m: Line) -> Ordering
+        ensures { result ≡ place_cmp l m self }
+    {
+        (self.x_num(l) * m.rise).cmp(&(self.x_num(m) * l.rise))
+    }
+
     /// The order of two lines that rise, from left to right just above this height.
+    #[tactic(auto, unfolding(crate::specs::LineOrder::line_cmp))]
     pub fn compare(self, l: Line, m: Line) -> Ordering
         ensures { result ≡ line_cmp l m self }
     {
-        let at = (self.x_num(l) * m.rise).cmp(&(self.x_num(m) * l.rise));
-        at.then((l.run * m.rise).cmp(&(m.run * l.rise)))
+        self.compare_places(l, m).then(l.compare_slopes(m))
     }
 }
