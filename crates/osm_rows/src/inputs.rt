@@ -76,69 +76,31 @@ fn read_error(alloc: Global, host: &mut MemoryHost, limit: u32, longest: u64) ->
     }
 }
 
+fn bad(line: u64, fault: InputFault) -> Option<ReadError> {
+    Some(ReadError::BadInput { line, fault })
+}
+
+fn too_much(limit: u64) -> Option<ReadError> {
+    Some(ReadError::TooMuchInput { limit })
+}
+
 // A read that fails behind a bad line doesn't hide it; the unfinished line isn't read.
 #[test]
 fn limits_are_met_exactly(rt: HostRuntime) -> Result<(), Fail> {
     let alloc = rt.alloc();
-    let node = ObjectKind::Node;
+    let kind = ObjectKind::Node;
+    let again = InputFault::Duplicate { kind, id: 1 };
+    let long = InputFault::TooLong;
     let cases = [
-        (
-            "# 345678901234567890\n",
-            20,
-            100,
-            0,
-            Some(ReadError::TooMuchInput { limit: 20 }),
-        ),
+        ("# 345678901234567890\n", 20, 100, 0, too_much(20)),
         ("# 345678901234567890\n", 21, 100, 0, None),
         ("n1 x0 y0\n", 100, 8, 0, None),
-        (
-            "n1 x0 y00\n",
-            100,
-            8,
-            0,
-            Some(ReadError::BadInput {
-                line: 1,
-                fault: InputFault::TooLong,
-            }),
-        ),
-        (
-            "n1\nn1\nx",
-            100,
-            8,
-            0,
-            Some(ReadError::BadInput {
-                line: 2,
-                fault: InputFault::Duplicate { kind: node, id: 1 },
-            }),
-        ),
-        (
-            "n1\nn1\n",
-            3,
-            8,
-            0,
-            Some(ReadError::TooMuchInput { limit: 3 }),
-        ),
-        (
-            "n1\nn1\n",
-            6,
-            8,
-            3,
-            Some(ReadError::BadInput {
-                line: 2,
-                fault: InputFault::Duplicate { kind: node, id: 1 },
-            }),
-        ),
+        ("n1 x0 y00\n", 100, 8, 0, bad(1, long)),
+        ("n1\nn1\nx", 100, 8, 0, bad(2, again)),
+        ("n1\nn1\n", 3, 8, 0, too_much(3)),
+        ("n1\nn1\n", 6, 8, 3, bad(2, again)),
         ("n1\nx", 6, 8, 3, Some(ReadError::ReadFault)),
-        (
-            "n1\nxxxxxxxxx",
-            100,
-            8,
-            3,
-            Some(ReadError::BadInput {
-                line: 2,
-                fault: InputFault::TooLong,
-            }),
-        ),
+        ("n1\nxxxxxxxxx", 100, 8, 3, bad(2, long)),
     ];
     for (input, limit, longest, fail, want) in cases {
         let mut host = host_of(alloc, input, fail)?;
