@@ -14,7 +14,11 @@ use crate::escape::read_string;
 use crate::fault::{FaultKind, LineError, fault};
 use crate::number::read_id;
 use crate::object::{Member, Members, ObjectKind, Refs, Tag, Tags};
+use memchr::memchr_iter;
 use std::alloc::{AllocError, Global};
+
+/// The most items that a list has room for before they are read, so that a line of commas alone takes little memory.
+const MOST_ROOM: usize = 2_000;
 
 /// The first item, and what is left behind its comma.
 fn next_item(rest: &str) -> (&str, Option<&str>)
@@ -34,6 +38,15 @@ fn all_items(text: &str) -> Option<&str>
     ensures utf8 { IfSome result (λ left. IsUtf8 left.now) }
 {
     if text.is_empty() { None } else { Some(text) }
+}
+
+/// How many items a list is given room for: all that stand in the text, up to a limit.
+fn item_room(text: &str) -> usize {
+    if text.is_empty() {
+        return 0;
+    }
+    let commas = memchr_iter(b',', text.as_bytes()).count();
+    commas.min(MOST_ROOM - 1) + 1
 }
 
 /// A tag: key=value.
@@ -77,7 +90,7 @@ pub fn read_tags(alloc: Global, text: &str, place: u64) -> Result<Tags, LineErro
     requires { place + length text.now < 2 ^ 63 }
     ensures { Gives result (tags_at place text.now) }
 {
-    let mut tags = Tags::new(alloc);
+    let mut tags = Tags::with_capacity(alloc, item_room(text))?;
     let mut at = place;
     let mut left = all_items(text);
     while let Some(rest) = left {
@@ -107,7 +120,7 @@ pub fn read_refs(alloc: Global, text: &str, place: u64) -> Result<Refs, LineErro
     requires { place + length text.now < 2 ^ 63 }
     ensures { Gives result (refs_at place text.now) }
 {
-    let mut refs = Refs::new(alloc);
+    let mut refs = Refs::with_capacity(alloc, item_room(text))?;
     let mut at = place;
     let mut left = all_items(text);
     while let Some(rest) = left {
@@ -167,7 +180,7 @@ pub fn read_members(alloc: Global, text: &str, place: u64) -> Result<Members, Li
     requires { place + length text.now < 2 ^ 63 }
     ensures { Gives result (members_at place text.now) }
 {
-    let mut members = Members::new(alloc);
+    let mut members = Members::with_capacity(alloc, item_room(text))?;
     let mut at = place;
     let mut left = all_items(text);
     while let Some(rest) = left {

@@ -7,7 +7,7 @@ use Rattle.opl_reader.proofs.TagLemmas.{push-kept}
 use Rattle.opl_reader.proofs.items.read_tags.Goals as goal
 
 pub loop-left-init : goal.loop-left-init
-loop-left-init c = ([], c.new-tags.ensures, begins-all tag_at c.args.place c.args.text.now c.all_items-left.result c.all_items-left.ensures.value c.all_items-left.ensures.utf8)
+loop-left-init c = ([], c.in_ok-tags.ensures, begins-all tag_at c.args.place c.args.text.now c.all_items-left.result c.all_items-left.ensures.value c.all_items-left.ensures.utf8)
 
 pub loop-left-preserved : goal.loop-left-preserved
 loop-left-preserved c =
