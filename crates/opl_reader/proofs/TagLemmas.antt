@@ -1,12 +1,16 @@
 -- Of equal keys the first alone, one tag more at a time.
-use Rattle.std.proofs.Common.{◌≡◌, ℕ, Bool, true, false, cond, not, ◌||◌, List, [], ◌∷◌, ◌++◌, refl, sym, ap, ◌∙◌, inl, inr}
+use Rattle.std.proofs.Common.{◌≡◌, ℕ, ◌<◌, ◌≤◌, min, Bool, true, false, cond, not, ◌||◌, List, [], ◌∷◌, ◌++◌, length, take, drop, refl, sym, ap, subst, ◌∙◌, inl, inr, arith}
+use Rattle.std.specs.BTreeSet.{BTreeSet, contains_text, IsEmpty}
 use Rattle.std.specs.List.{list_any, filter}
 use Rattle.std.specs.Str.{bytes_eq}
-use Rattle.std.proofs.lemmas.Bool.{cases_Bool, cond-true, cond-false, false_from_ne_true, or_parts, false≢true}
+use Rattle.std.specs.declared.string.String.{String}
+use Rattle.std.proofs.lemmas.Bool.{cases_Bool, cases_lt, cond-true, cond-false, false_from_ne_true, or_parts, false≢true}
+use Rattle.std.proofs.lemmas.List.{take_all, drop_all, take-append-drop, drop-append-le, length-append}
+use Rattle.std.proofs.lemmas.List.Folds.{list_any-append}
 use Rattle.std.proofs.lemmas.Slice.Eq.{bytes_eq-Decides}
 use Rattle.opl_reader.specs.declared.object.Tag.{Tag}
 use Rattle.opl_reader.specs.Items.{first_of_each}
-use Rattle.opl_reader.specs.Steps.{kept_with}
+use Rattle.opl_reader.specs.Steps.{kept_with, HasKeysOf}
 
 -- a tag has this key
 abbrev pub has_this : List ℕ → Tag → Bool
@@ -72,3 +76,44 @@ push-kept front t =
       | inl old ↦ cond-true _ (first_of_each front) (first_of_each front ++ t ∷ []) old ∙ sym (push-old front t old)
       | inr new_one ↦ cond-false _ (first_of_each front) (first_of_each front ++ t ∷ []) new_one ∙ sym (push-new front t new_one)
     ]
+
+-- ---- keys of later tags
+
+pub no-keys : {Y : Type 0} (keys : BTreeSet (String Y)) → IsEmpty keys → HasKeysOf keys []
+no-keys keys none = λ key. rw none refl
+
+-- the first tags and those behind them
+any-parts : (n few : ℕ) (key : List ℕ) (tags : List Tag) → few ≡ min (length tags) n → (list_any (has_this key) (take few tags) || list_any (has_this key) (drop n tags)) ≡ list_any (has_this key) tags
+any-parts n few key tags is =
+    let same : take few tags ≡ take n tags = elim (cases_lt (length tags) n) [
+      | inl lt ↦ take_all few tags (omega arith) ∙ sym (take_all n tags (omega arith))
+      | inr le ↦ let k : few ≡ n = omega arith in rw k refl
+    ] in
+    rw same (sym (list_any-append (has_this key) (take n tags) (drop n tags)) ∙ ap (list_any (has_this key)) (take-append-drop n tags))
+
+-- the key is none of the first tags'
+pub any-later : (n few : ℕ) (key : List ℕ) (tags : List Tag) (found : Bool) → few ≡ min (length tags) n → false ≡ list_any (has_this key) (take few tags) → found ≡ list_any (has_this key) (drop n tags) → found ≡ list_any (has_this key) tags
+any-later n few key tags found is none later = later ∙ ap (λ (b : Bool). b || list_any (has_this key) (drop n tags)) none ∙ any-parts n few key tags is
+
+-- a tag more of the first few
+pub keys-few : {Y : Type 0} (n : ℕ) (keys : BTreeSet (String Y)) (tags : List Tag) (t : Tag) → length tags < n → HasKeysOf keys (drop n tags) → HasKeysOf keys (drop n (tags ++ t ∷ []))
+keys-few n keys tags t lt has =
+    let before : drop n tags ≡ [] = drop_all n tags (omega arith) in
+    let after : drop n (tags ++ t ∷ []) ≡ [] = drop_all n (tags ++ t ∷ []) (omega (arith, length-append tags (t ∷ []))) in
+    subst (HasKeysOf keys) (before ∙ sym after) has
+
+-- a later tag more, whose key is added
+pub keys-more : {Y : Type 0} (n : ℕ) (old new : BTreeSet (String Y)) (tags : List Tag) (t : Tag) → n ≤ length tags → HasKeysOf old (drop n tags)
+    → ((key : List ℕ) → contains_text new key ≡ cond (bytes_eq t.key key) true (contains_text old key)) → HasKeysOf new (drop n (tags ++ t ∷ []))
+keys-more n old new tags t le has added = λ key.
+    added key
+    ∙ ap (λ (b : Bool). cond (bytes_eq t.key key) true b) (has key)
+    ∙ either-way (bytes_eq t.key key) (list_any (has_this key) (drop n tags))
+    ∙ sym (list_any-append (has_this key) (drop n tags) (t ∷ []))
+    ∙ ap (list_any (has_this key)) (sym (drop-append-le n tags (t ∷ []) le))
+  where
+    either-way : (b c : Bool) → cond b true c ≡ (c || (b || false))
+    either-way true true = refl
+    either-way true false = refl
+    either-way false true = refl
+    either-way false false = refl

@@ -1,7 +1,9 @@
 -- Words that contracts of private functions alone cite: one step of a reading.
 use Rattle.std.specs.Prelude.{◌≡◌, ℕ, ◌+◌, ◌-◌, ◌^◌, ◌<◌, min, Bool, true, false, ◌||◌, ◌==◌, if◌then◌else◌, List, [], ◌∷◌, ◌++◌, length, slice_index_or, Option, Some, None}
+use Rattle.std.specs.BTreeSet.{BTreeSet, contains_text}
 use Rattle.std.specs.List.{slice_split, list_any}
 use Rattle.std.specs.Str.{bytes_eq}
+use Rattle.std.specs.declared.string.String.{String}
 use Rattle.osm_tables.specs.declared.Row.{Row}
 use Rattle.osm_tables.specs.declared.TheConstants.{NODE_FIELDS, WAY_FIELDS, RELATION_FIELDS}
 use Rattle.opl_reader.specs.declared.object.ObjectKind.{ObjectKind}
@@ -36,6 +38,10 @@ left_len (Some rest) = length rest + 1
 -- the tags with one more, unless one with its key is there
 abbrev pub kept_with : List Tag → Tag → List Tag
 kept_with tags t = if list_any (λ u. bytes_eq u.key t.key) tags then tags else tags ++ t ∷ []
+
+-- the set has the keys of these tags
+abbrev pub HasKeysOf : {Y : Type 0} → BTreeSet (String Y) → List Tag → Type 0
+HasKeysOf keys tags = (key : List ℕ) → contains_text keys key ≡ list_any (λ t. bytes_eq t.key key) tags
 
 -- ---- fields
 

@@ -29,7 +29,7 @@ fn code_point(digits: &str) -> Option<char>
 pub fn read_string(alloc: Global, text: &str, place: u64) -> Result<Text, LineError>
     ensures { Gives result (string_at place text.now) }
 {
-    let mut read = String::new(alloc);
+    let mut read = String::with_capacity(alloc, text.len())?;
     let mut rest = text;
     while let Some((plain, after)) = cut(rest, '%') {
         let Some((escape, after)) = cut(after, '%') else {

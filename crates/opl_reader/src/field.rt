@@ -1,9 +1,7 @@
 //! The fields of an object: a letter, and a value that is read by its letter.
 
 ghost use Rattle.std.specs.Prelude.{◌≡◌, ◌+◌, ◌^◌, ◌<◌, pos, length, option_and_then};
-ghost use Rattle.std.specs.List.{list_all};
-ghost use Rattle.std.specs.Char.{is_ascii_digit};
-ghost use Rattle.opl_reader.specs.Reading.{Gives};
+ghost use Rattle.opl_reader.specs.Reading.{Leaves};
 ghost use Rattle.opl_reader.specs.Fields.{letter_of};
 ghost use Rattle.opl_reader.specs.Steps.{table_of, meaning_of};
 ghost use Rattle.osm_tables.specs.Tables.{code_of};
@@ -15,7 +13,7 @@ use crate::coordinate::{Latitude, Longitude};
 use crate::escape::is_string;
 use crate::fault::{FaultKind, LineError, fault};
 use crate::items::{read_members, read_refs, read_tags};
-use crate::number::decimal;
+use crate::number::{are_digits, decimal};
 use crate::object::ObjectKind;
 use osm_tables::{node_field, relation_field, way_field};
 use std::alloc::Global;
@@ -78,12 +76,6 @@ pub fn letter_of(kind: ObjectKind, letter: u8) -> Option<Meaning>
 {
     let code = field_code(kind, letter)?;
     meaning_of(code)
-}
-
-fn are_digits(bytes: &[u8]) -> bool
-    ensures { result ≡ list_all is_ascii_digit bytes.now }
-{
-    bytes.iter().all(|b| b.is_ascii_digit())
 }
 
 /// 1 to 19 digits.
@@ -161,17 +153,17 @@ fn y_of(bytes: &[u8]) -> Option<Option<Latitude>>
     Some(Some(y))
 }
 
-/// The content with the value of a field whose letter stands at this place.
+/// Adds to the content the value of a field whose letter stands at this place.
 #[tactic(auto, unfolding(crate::specs::FieldReading::with_value, crate::specs::StringReading::string_at))]
-pub fn with_value(
+pub fn add_value(
     alloc: Global,
     meaning: Meaning,
     place: u64,
     value: &str,
-    mut content: Content,
-) -> Result<Content, LineError>
+    content: &mut Content,
+) -> Result<(), LineError>
     requires { place + 1 + length value.now < 2 ^ 63 }
-    ensures { Gives result (with_value meaning place value.now content) }
+    ensures { Leaves result content.new (with_value meaning place value.now content.old) }
 {
     match meaning {
         Meaning::Count => {
@@ -198,5 +190,5 @@ pub fn with_value(
         Meaning::Referring => content.refs = read_refs(alloc, value, place + 1)?,
         Meaning::Having => content.members = read_members(alloc, value, place + 1)?,
     }
-    Ok(content)
+    Ok(())
 }

@@ -1,20 +1,29 @@
 //! Values that are lists of items.
 
-ghost use Rattle.std.specs.Prelude.{◌≡◌, ◌+◌, ◌^◌, ◌<◌, ◌∷◌, length, IfSome, OnOk};
+ghost use Rattle.std.specs.Prelude.{◌≡◌, ◌+◌, ◌^◌, ◌<◌, ◌∷◌, ◌++◌, [], length, drop, IfSome, OnOk};
 ghost use Rattle.std.specs.List.{slice_split, list_any};
 ghost use Rattle.std.specs.Option.{option_copied};
 ghost use Rattle.std.specs.Str.{IsUtf8, bytes_eq};
 ghost use Rattle.opl_reader.specs.Reading.{Gives};
 ghost use Rattle.opl_reader.specs.Items.{kind_of};
 ghost use Rattle.opl_reader.specs.ItemReading.{is_comma, tag_at, tags_at, ref_at, refs_at, target_of, member_at, members_at};
-ghost use Rattle.opl_reader.specs.Steps.{all_left, left_parts, left_len, kept_with};
+ghost use Rattle.opl_reader.specs.Steps.{all_left, left_parts, left_len, kept_with, HasKeysOf};
 
 use crate::cut::cut;
 use crate::escape::read_string;
 use crate::fault::{FaultKind, LineError, fault};
 use crate::number::read_id;
 use crate::object::{Member, Members, ObjectKind, Refs, Tag, Tags};
+use memchr::memchr_iter;
 use std::alloc::{AllocError, Global};
+use std::collections::BTreeSet;
+
+/// The most items that a list has room for before they are read, so that a line of commas alone takes little memory.
+const MOST_ROOM: usize = 2_000;
+
+/// How many tags are looked through for a key. The keys of the tags behind them stand in a set, so that a line of very
+/// many tags is soon read.
+const FEW_TAGS: usize = 16;
 
 /// The first item, and what is left behind its comma.
 fn next_item(rest: &str) -> (&str, Option<&str>)
@@ -36,6 +45,15 @@ fn all_items(text: &str) -> Option<&str>
     if text.is_empty() { None } else { Some(text) }
 }
 
+/// How many items a list is given room for: all that stand in the text, up to a limit.
+fn item_room(text: &str) -> usize {
+    if text.is_empty() {
+        return 0;
+    }
+    let commas = memchr_iter(b',', text.as_bytes()).count();
+    commas.min(MOST_ROOM - 1) + 1
+}
+
 /// A tag: key=value.
 #[tactic(auto, unfolding(crate::specs::ItemReading::tag_at))]
 fn read_tag(alloc: Global, item: &str, place: u64) -> Result<Tag, LineError>
@@ -49,11 +67,11 @@ fn read_tag(alloc: Global, item: &str, place: u64) -> Result<Tag, LineError>
     Ok(Tag { key, value })
 }
 
-/// Whether a tag has this key.
-fn has_key(tags: &Tags, key: &str) -> bool
+/// Whether a tag of these has this key.
+fn is_key_among(tags: &[Tag], key: &str) -> bool
     ensures { result ≡ list_any (λ t. bytes_eq t.key key.now) tags.now }
 {
-    for tag in tags.as_slice() {
+    for tag in tags {
         if tag.key.as_str() == key {
             return true;
         }
@@ -61,13 +79,49 @@ fn has_key(tags: &Tags, key: &str) -> bool
     false
 }
 
-/// Adds a tag, unless one with its key is there.
-fn keep(tags: &mut Tags, tag: Tag) -> Result<(), AllocError>
-    ensures { OnOk result (tags.new ≡ kept_with tags.old tag) }
+/// Whether a tag has this key: one of the first few, or one of the later ones, whose keys are given.
+fn has_key(tags: &Tags, later_keys: &BTreeSet<String>, key: &str) -> bool
+    requires { HasKeysOf later_keys.now (drop 16 tags.now) }
+    ensures { result ≡ list_any (λ t. bytes_eq t.key key.now) tags.now }
 {
-    if has_key(tags, tag.key.as_str()) {
+    let tags = tags.as_slice();
+    let few = tags.len().min(FEW_TAGS);
+    is_key_among(&tags[..few], key) || later_keys.contains(key)
+}
+
+/// Adds the key of the tag that is to stand behind these, where it is a later one.
+fn add_later_key(
+    alloc: Global,
+    tags: &Tags,
+    later_keys: &mut BTreeSet<String>,
+    tag: &Tag,
+) -> Result<(), AllocError>
+    requires { HasKeysOf later_keys.old (drop 16 tags.now) }
+    ensures { OnOk result (HasKeysOf later_keys.new (drop 16 (tags.now ++ tag.now ∷ []))) }
+{
+    if tags.as_slice().len() < FEW_TAGS {
         return Ok(());
     }
+    let key = String::from_str(alloc, tag.key.as_str())?;
+    later_keys.insert(key)?;
+    Ok(())
+}
+
+/// Adds a tag, unless one with its key is there.
+fn keep(
+    alloc: Global,
+    tags: &mut Tags,
+    later_keys: &mut BTreeSet<String>,
+    tag: Tag,
+) -> Result<(), AllocError>
+    requires { HasKeysOf later_keys.old (drop 16 tags.old) }
+    ensures kept { OnOk result (tags.new ≡ kept_with tags.old tag) }
+    ensures keys { OnOk result (HasKeysOf later_keys.new (drop 16 tags.new)) }
+{
+    if has_key(tags, later_keys, tag.key.as_str()) {
+        return Ok(());
+    }
+    add_later_key(alloc, tags, later_keys, &tag)?;
     tags.push(tag)
 }
 
@@ -77,13 +131,14 @@ pub fn read_tags(alloc: Global, text: &str, place: u64) -> Result<Tags, LineErro
     requires { place + length text.now < 2 ^ 63 }
     ensures { Gives result (tags_at place text.now) }
 {
-    let mut tags = Tags::new(alloc);
+    let mut tags = Tags::with_capacity(alloc, item_room(text))?;
+    let mut later_keys = BTreeSet::new(alloc);
     let mut at = place;
     let mut left = all_items(text);
     while let Some(rest) = left {
         let (item, more) = next_item(rest);
         let tag = read_tag(alloc, item, at)?;
-        keep(&mut tags, tag)?;
+        keep(alloc, &mut tags, &mut later_keys, tag)?;
         at += item.len() as u64 + 1;
         left = more;
     }
@@ -107,7 +162,7 @@ pub fn read_refs(alloc: Global, text: &str, place: u64) -> Result<Refs, LineErro
     requires { place + length text.now < 2 ^ 63 }
     ensures { Gives result (refs_at place text.now) }
 {
-    let mut refs = Refs::new(alloc);
+    let mut refs = Refs::with_capacity(alloc, item_room(text))?;
     let mut at = place;
     let mut left = all_items(text);
     while let Some(rest) = left {
@@ -167,7 +222,7 @@ pub fn read_members(alloc: Global, text: &str, place: u64) -> Result<Members, Li
     requires { place + length text.now < 2 ^ 63 }
     ensures { Gives result (members_at place text.now) }
 {
-    let mut members = Members::new(alloc);
+    let mut members = Members::with_capacity(alloc, item_room(text))?;
     let mut at = place;
     let mut left = all_items(text);
     while let Some(rest) = left {

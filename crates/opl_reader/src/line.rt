@@ -3,7 +3,7 @@
 ghost use Rattle.std.specs.Prelude.{◌≡◌, ◌+◌, ◌^◌, ◌<◌, ◌≤◌, ◌∷◌, [], List, ℕ, length, IfSome, MatchOption, Some, None, Ok, IfOk, IfErr, IfNone, Err};
 ghost use Rattle.opl_reader.specs.declared.object.ObjectKind.{ObjectKind};
 ghost use Rattle.opl_reader.specs.declared.fault.LineFault.{LineFault};
-ghost use Rattle.opl_reader.specs.Reading.{Gives};
+ghost use Rattle.opl_reader.specs.Reading.{Gives, Leaves};
 ghost use Rattle.opl_reader.specs.Parts.{Part, without_cr};
 ghost use Rattle.opl_reader.specs.Fields.{nothing};
 ghost use Rattle.opl_reader.specs.FieldReading.{with_field, with_fields};
@@ -18,7 +18,7 @@ ghost use Rattle.std.specs.Str.{IsUtf8};
 
 use crate::content::{Content, object_of};
 use crate::fault::{FaultKind, LineError, fault};
-use crate::field::{letter_of, with_value};
+use crate::field::{add_value, letter_of};
 use crate::items::kind_of;
 use crate::number::read_id;
 use crate::object::{Object, ObjectKind};
@@ -78,18 +78,18 @@ fn is_passed_over(text: &[u8]) -> bool
     true
 }
 
-/// The content with a field, where letters are seen.
+/// Adds a field to the content, where letters are seen.
 #[tactic(auto, unfolding(crate::specs::FieldReading::with_field))]
-fn with_field(
+fn add_field(
     alloc: Global,
     kind: ObjectKind,
     seen: &[bool; 256],
     place: u64,
     field: &str,
-    content: Content,
-) -> Result<Content, LineError>
+    content: &mut Content,
+) -> Result<(), LineError>
     requires { place + length field.now < 2 ^ 63 }
-    ensures { (letters : List ℕ) → Marks seen.now letters → Gives result (with_field kind letters place field.now content) }
+    ensures { (letters : List ℕ) → Marks seen.now letters → Leaves result content.new (with_field kind letters place field.now content.old) }
 {
     let Some((letter, value)) = field.split_at_checked(1) else {
         return Err(fault(FaultKind::UnknownField, place));
@@ -101,7 +101,7 @@ fn with_field(
     if seen[letter as usize] {
         return Err(fault(FaultKind::RepeatedField, place));
     }
-    with_value(alloc, meaning, place, value, content)
+    add_value(alloc, meaning, place, value, content)
 }
 
 /// The content of the fields from a place on.
@@ -120,7 +120,7 @@ fn with_fields(
     let mut at = place;
     let mut left = text;
     while let Some((start, field, more)) = next_field(left, at) {
-        content = with_field(alloc, kind, &seen, start, field, content)?;
+        add_field(alloc, kind, &seen, start, field, &mut content)?;
         seen[field.as_bytes()[0] as usize] = true;
         at = start + field.len() as u64 + 1;
         left = more;

@@ -13,6 +13,13 @@ use memchr::memchr;
 /// The greatest magnitude of an id, 2^62 - 1.
 pub const MAX_ID: u64 = 4_611_686_018_427_387_903;
 
+/// Whether each byte is a digit.
+pub fn are_digits(bytes: &[u8]) -> bool
+    ensures { result ≡ list_all is_ascii_digit bytes.now }
+{
+    bytes.iter().all(|b| b.is_ascii_digit())
+}
+
 /// The value of digits, at most 2^64 - 1; None where a byte is no digit.
 fn value(bytes: &[u8]) -> Option<u64>
     ensures { result ≡ (if list_all is_ascii_digit bytes.now then Some (capped (digits_value 10 bytes.now)) else None) }
@@ -94,7 +101,9 @@ fn fraction(decimals: &[u8]) -> Option<u64>
     ensures value { result ≡ (if list_all is_ascii_digit decimals.now then Some ((digits_value 10 (first_eight decimals.now) + 5) / 10) else None) }
     ensures bound { IfSome result (λ n. n ≤ 10000000) }
 {
-    value(decimals)?;
+    if !are_digits(decimals) {
+        return None;
+    }
     let tenths = value(&eight(decimals))?;
     Some((tenths + 5) / 10)
 }

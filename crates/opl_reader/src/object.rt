@@ -1,6 +1,6 @@
 //! What an OPL line tells: nodes, ways and relations with their tags.
 
-ghost use Rattle.std.specs.Prelude.{◌≡◌, ◌++◌, ◌∷◌, [], OnOk, OnErr};
+ghost use Rattle.std.specs.Prelude.{◌≡◌, ◌++◌, ◌∷◌, [], IfOk, OnOk, OnErr};
 
 use crate::text::Text;
 use osm_geom::Loc;
@@ -86,6 +86,15 @@ impl Tags {
         }
     }
 
+    /// The empty list, with room for this many items.
+    pub(crate) fn with_capacity(alloc: Global, capacity: usize) -> Result<Tags, AllocError>
+        ensures { IfOk result (λ tags. tags ≡ []) }
+    {
+        Ok(Tags {
+            items: Vec::with_capacity(alloc, capacity)?,
+        })
+    }
+
     /// Adds a tag at the end. After an `Err` the list is unchanged.
     pub fn push(&mut self, item: Tag) -> Result<(), AllocError>
         ensures ok { OnOk result (self.new ≡ self.old ++ item ∷ []) }
@@ -125,6 +134,15 @@ impl Refs {
         Refs {
             items: Vec::new(alloc),
         }
+    }
+
+    /// The empty list, with room for this many items.
+    pub(crate) fn with_capacity(alloc: Global, capacity: usize) -> Result<Refs, AllocError>
+        ensures { IfOk result (λ refs. refs ≡ []) }
+    {
+        Ok(Refs {
+            items: Vec::with_capacity(alloc, capacity)?,
+        })
     }
 
     /// Adds a node's id at the end. After an `Err` the list is unchanged.
@@ -167,6 +185,15 @@ impl Members {
         Members {
             items: Vec::new(alloc),
         }
+    }
+
+    /// The empty list, with room for this many items.
+    pub(crate) fn with_capacity(alloc: Global, capacity: usize) -> Result<Members, AllocError>
+        ensures { IfOk result (λ members. members ≡ []) }
+    {
+        Ok(Members {
+            items: Vec::with_capacity(alloc, capacity)?,
+        })
     }
 
     /// Adds a member at the end. After an `Err` the list is unchanged.

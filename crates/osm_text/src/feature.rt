@@ -17,23 +17,26 @@ use opl_reader::{Tag, Tags};
 use osm_nest::Polygons;
 use std::alloc::{AllocError, Global};
 
+/// Room for the text of an ordinary feature, so that it seldom grows.
+const FIRST_ROOM: usize = 1_024;
+
 /// Adds a tag.
-fn put_tag(alloc: Global, text: &mut Vec<u8>, tag: &Tag) -> Result<(), AllocError>
+fn put_tag(text: &mut Vec<u8>, tag: &Tag) -> Result<(), AllocError>
     ensures { OnOk result (text.new.items ≡ text.old.items ++ tag_text tag.now) }
 {
-    put_written(alloc, text, &tag.key)?;
+    put_written(text, &tag.key)?;
     text.push(b'=')?;
-    put_written(alloc, text, &tag.value)
+    put_written(text, &tag.value)
 }
 
 /// Adds tags, the first behind a space and each other behind a comma.
-fn put_tags(alloc: Global, text: &mut Vec<u8>, tags: &[Tag]) -> Result<(), AllocError>
+fn put_tags(text: &mut Vec<u8>, tags: &[Tag]) -> Result<(), AllocError>
     ensures { OnOk result (text.new.items ≡ text.old.items ++ tags_text tags.now) }
 {
     let mut byte = b' ';
     for tag in tags {
         text.push(byte)?;
-        put_tag(alloc, text, tag)?;
+        put_tag(text, tag)?;
         byte = b',';
     }
     Ok(())
@@ -53,11 +56,11 @@ pub fn feature_text(
     requires { AreLattice polygons.now }
     ensures { IfOk result (λ text. text.items ≡ feature_text id (paths_of polygons.now) tags.now) }
 {
-    let mut text = Vec::new(alloc);
+    let mut text = Vec::with_capacity(alloc, FIRST_ROOM)?;
     put_id_before(&mut text, id)?;
     text.extend_from_slice(b"MULTIPOLYGON")?;
     put_polygons(&mut text, Notation::WellKnown, polygons.as_slice())?;
-    put_tags(alloc, &mut text, tags.as_slice())?;
+    put_tags(&mut text, tags.as_slice())?;
     text.push(b'\n')?;
     Ok(text)
 }
@@ -76,7 +79,8 @@ pub fn feature_json(
     requires { AreLattice polygons.now }
     ensures { IfOk result (λ text. text.items ≡ feature_json id (paths_of polygons.now) tags.now) }
 {
-    let mut text = Vec::from_slice(alloc, b"{\"type\":\"Feature\",")?;
+    let mut text = Vec::with_capacity(alloc, FIRST_ROOM)?;
+    text.extend_from_slice(b"{\"type\":\"Feature\",")?;
     put_id_member(&mut text, id)?;
     text.extend_from_slice(b"\"geometry\":{\"type\":\"MultiPolygon\",\"coordinates\":")?;
     put_polygons(&mut text, Notation::Json, polygons.as_slice())?;

@@ -3,17 +3,23 @@ use Rattle.opl_reader.specs.declared.object.Tag.{Tag}
 use Rattle.opl_reader.specs.ItemReading.{tag_at}
 use Rattle.opl_reader.specs.Steps.{kept_with}
 use Rattle.opl_reader.proofs.ItemLemmas.{begins-all, goes_on}
-use Rattle.opl_reader.proofs.TagLemmas.{push-kept}
+use Rattle.opl_reader.proofs.TagLemmas.{push-kept, no-keys}
 use Rattle.opl_reader.proofs.items.read_tags.Goals as goal
 
 pub loop-left-init : goal.loop-left-init
-loop-left-init c = ([], c.new-tags.ensures, begins-all tag_at c.args.place c.args.text.now c.all_items-left.result c.all_items-left.ensures.value c.all_items-left.ensures.utf8)
+loop-left-init c = (
+  [],
+  c.in_ok-tags.ensures,
+  begins-all tag_at c.args.place c.args.text.now c.all_items-left.result c.all_items-left.ensures.value c.all_items-left.ensures.utf8,
+  rw c.in_ok-tags.ensures (no-keys c.new-later_keys.result c.new-later_keys.ensures.empty),
+)
 
 pub loop-left-preserved : goal.loop-left-preserved
 loop-left-preserved c =
     let front = c.loop-left.invariant.0 in
     let tag = c.in_ok-tag.tag in (
       front ++ tag ∷ [],
-      c.in_ok-keep.ensures ∙ ap (λ (tags : List Tag). kept_with tags tag) c.loop-left.invariant.1 ∙ push-kept front tag,
+      c.in_ok-keep.ensures.kept ∙ ap (λ (tags : List Tag). kept_with tags tag) c.loop-left.invariant.1 ∙ push-kept front tag,
       goes_on tag_at front c.loop-left.at c.in-Some.rest c.next_item.result.0.now c.next_item.result.1 tag c.args.place c.args.text.now c.next_item.ensures.parts c.next_item.ensures.len c.next_item.ensures.utf8 c.in_ok-tag.ensures (rw c.in-Some.is at c.loop-left.invariant.2),
+      c.in_ok-keep.ensures.keys,
     )
