@@ -1,6 +1,7 @@
 pub mod OnceLemmas
 pub mod RefLemmas
 pub mod SegmentLemmas
+pub mod WholeWays
 pub mod RoleLemmas
 pub mod RoleSteps
 pub mod WholeRings

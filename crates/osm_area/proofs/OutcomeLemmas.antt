@@ -1,7 +1,8 @@
 -- The outcomes of a candidate.
-use Rattle.std.proofs.Common.{◌≡◌, ◌≢◌, ◌∙◌, Bool, true, false, List, [], ◌∷◌, ◌++◌, length, map, filter, nat_le, count_by, ℤ, int_eq, IsTrue, refl, sym, ap, subst, arith}
+use Rattle.std.proofs.Common.{◌≡◌, ◌≢◌, ◌∙◌, Bool, true, List, [], ◌∷◌, ◌++◌, length, map, filter, nat_le, count_by, ℤ, int_eq, Option, None, Some, IsSome, is_some, refl, sym, ap, subst}
 use Rattle.std.specs.Prelude.{◌↔◌, ◌==◌}
 use Rattle.std.proofs.lemmas.Bool.Decides.{Decides-eqb}
+use Rattle.std.proofs.lemmas.List.{nil_from_length}
 use Rattle.std.specs.List.{flat_map}
 use Rattle.osm_geom.specs.declared.seg.Seg.{Seg}
 use Rattle.opl_reader.specs.declared.object.Object.{Object}
@@ -25,50 +26,51 @@ use Rattle.osm_nest.specs.declared.polygon.Polygon.{Polygon}
 use Rattle.osm_area.specs.Outcome.{IsOutcome, IsOutcomeGiven}
 
 -- what `outcome_of` knows of a candidate before it looks at segments
-pub record Gathered (objects : List Object) (candidate : ObjectRef) (ways : List ℤ) (parts : List ObjectRef) (notes : List Note) : Type 0 where
+pub record Gathered (objects : List Object) (candidate : ObjectRef) (ways : List ℤ) (notes : List Note) : Type 0 where
   pub ways_are : ways ≡ member_ways objects candidate
-  pub parts_are : parts ≡ missing objects candidate
   pub notes_are : notes ≡ map named_twice_note (ways_named_twice objects candidate)
 
 -- `first` and `second` are the named ways as they were lent to two calls
-pub gathered : (objects : List Object) (candidate : ObjectRef) (named first distinct second ways : List ℤ) (parts : List ObjectRef) (notes : List Note)
+pub gathered : (objects : List Object) (candidate : ObjectRef) (named first distinct second ways : List ℤ) (notes : List Note)
     → named ≡ named_ways objects candidate → first ≡ named → distinct ≡ each_once int_eq first → ways ≡ distinct
     → second ≡ named → notes ≡ map named_twice_note (filter (λ way. nat_le 2 (count_by (int_eq way) second)) ways)
-    → parts ≡ each_once same_ref (flat_map (way_missing objects) ways)
-    → Gathered objects candidate ways parts notes
-gathered objects candidate named first distinct second ways parts notes n f d w s e p =
+    → Gathered objects candidate ways notes
+gathered objects candidate named first distinct second ways notes n f d w s e =
     let all : second ≡ named_ways objects candidate = s ∙ n in
     let are : ways ≡ member_ways objects candidate = w ∙ (d ∙ ap (each_once int_eq) (f ∙ n)) in
     record {
       ways_are = are;
-      parts_are = p ∙ ap (λ ids. each_once same_ref (flat_map (way_missing objects) ids)) are;
       notes_are = e ∙ (λ i. map named_twice_note (filter (λ way. nat_le 2 (count_by (int_eq way) (all i))) (are i)));
     }
+
+none-once : (refs : List ObjectRef) → each_once same_ref refs ≡ [] → refs ≡ []
+none-once [] none = refl
+none-once (r ∷ refs) none = absurd (cc)
 
 given_missing : (missing : List ObjectRef) (ways : List ℤ) (segments : List Seg) (roles : List Polygon → List Note) (list : List Problem) (notes : List Note)
     → missing ≢ [] → list ≡ map missing_problem missing → notes ≡ map named_twice_note ways → IsOutcomeGiven missing ways segments roles (outcome.Problems list notes)
 given_missing [] ways segments roles list notes some e n = absurd (some refl)
 given_missing (r ∷ missing) ways segments roles list notes some e n = (e, (λ none. cc), n)
 
-pub missing_outcome : (objects : List Object) (candidate : ObjectRef) (ways : List ℤ) (parts lent : List ObjectRef) (notes : List Note) (list : List Problem) (empty : Bool)
-    → Gathered objects candidate ways parts notes → IsTrue empty ↔ (length parts ≡ 0) → empty ≡ false → lent ≡ parts → list ≡ map missing_problem lent
+-- `found` are the segments, or None where a way isn't whole
+pub missing_outcome : {A : Type 0} (objects : List Object) (candidate : ObjectRef) (ways : List ℤ) (parts lent : List ObjectRef) (notes : List Note) (list : List Problem) (found : Option A)
+    → Gathered objects candidate ways notes → IsSome found ↔ (flat_map (way_missing objects) ways ≡ []) → found ≡ None
+    → parts ≡ each_once same_ref (flat_map (way_missing objects) ways) → lent ≡ parts → list ≡ map missing_problem lent
     → IsOutcome objects candidate (outcome.Problems list notes)
-missing_outcome objects candidate ways parts lent notes list empty g test some l e =
+missing_outcome objects candidate ways parts lent notes list found g test absent p l e =
+    let are : parts ≡ missing objects candidate = p ∙ ap (λ ids. each_once same_ref (flat_map (way_missing objects) ids)) g.ways_are in
     given_missing (missing objects candidate) (ways_named_twice objects candidate) (segments_of objects candidate) (role_notes objects candidate) list notes
-    (λ none. let yes : IsTrue empty = test.1 (ap length (g.parts_are ∙ none)) in cc)
-    (e ∙ ap (map missing_problem) (l ∙ g.parts_are))
+    (λ none. let some : IsSome found = test.1 (none-once (flat_map (way_missing objects) ways) (sym p ∙ (are ∙ none))) in cc)
+    (e ∙ ap (map missing_problem) (l ∙ are))
     g.notes_are
 
-nothing-of : {X : Type 0} (xs : List X) → length xs ≡ 0 → xs ≡ []
-nothing-of [] h = refl
-nothing-of (x ∷ xs) h = absurd (omega arith)
-
-pub complete_outcome : (objects : List Object) (candidate : ObjectRef) (ways named : List ℤ) (parts : List ObjectRef) (notes : List Note) (segs passed : List Seg) (empty : Bool) (outcome : Outcome)
-    → Gathered objects candidate ways parts notes → IsTrue empty ↔ (length parts ≡ 0) → empty ≡ true → segs ≡ flat_map (way_segments objects) ways → passed ≡ segs
+pub complete_outcome : {A : Type 0} (objects : List Object) (candidate : ObjectRef) (ways named : List ℤ) (notes : List Note) (segs passed : List Seg) (found : Option A) (a : A) (outcome : Outcome)
+    → Gathered objects candidate ways notes → IsSome found ↔ (flat_map (way_missing objects) ways ≡ []) → found ≡ Some a → segs ≡ flat_map (way_segments objects) ways → passed ≡ segs
     → ((twice : List ℤ) → notes ≡ map named_twice_note twice → IsOutcomeGiven [] twice passed (role_notes_of objects candidate named) outcome) → named ≡ ways
     → IsOutcome objects candidate outcome
-complete_outcome objects candidate ways named parts notes segs passed empty outcome g test none s p h n =
-    let nothing : [] ≡ missing objects candidate = sym (nothing-of parts (test.0 none)) ∙ g.parts_are in
+complete_outcome objects candidate ways named notes segs passed found a outcome g test some s p h n =
+    let held : IsSome found = ap is_some some in
+    let nothing : [] ≡ missing objects candidate = sym (ap (each_once same_ref) (ap (flat_map (way_missing objects)) (sym g.ways_are) ∙ test.0 held)) in
     let same : passed ≡ segments_of objects candidate = p ∙ (s ∙ ap (flat_map (way_segments objects)) g.ways_are) in
     let Given : List ObjectRef → Type 0 = λ rs. IsOutcomeGiven rs (ways_named_twice objects candidate) (segments_of objects candidate) (role_notes objects candidate) outcome in
     let With : List Seg → Type 0 = λ ss. IsOutcomeGiven [] (ways_named_twice objects candidate) ss (role_notes objects candidate) outcome in
@@ -83,7 +85,7 @@ pub area_given : (segs : List Seg) (roles : List Note) (polygons : List Polygon)
     → (twice : List ℤ) → notes ≡ map named_twice_note twice
     → SurvivorsAre segs (λ ss. AreProblemsAmong ss []) × SurvivorsAre segs (λ ss. IsArea ss polygons) × AreNotesBefore [] twice segs roles last
 area_given segs roles polygons notes middle last repeats lent survivors first second list seen empty are l m odd f among s test none g area end twice n =
-    let clear : list ≡ [] = sym s ∙ nothing-of seen ((Decides-eqb (length seen) 0).0 (sym test ∙ none)) in (
+    let clear : list ≡ [] = sym s ∙ nil_from_length seen ((Decides-eqb (length seen) 0).0 (sym test ∙ none)) in (
       (survivors, (odd, subst (AreProblemsAmong survivors) clear (subst (λ ss. AreProblemsAmong ss list) f among))),
       (survivors, (odd, subst (λ ss. IsArea ss polygons) g area)),
       (middle, ((repeats, (are, m ∙ (λ i. n i ++ map repeated_note (l i)))), end)),

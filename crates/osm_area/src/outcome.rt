@@ -69,13 +69,15 @@ fn outcome_of(alloc: Global, store: &Store, candidate: ObjectRef) -> Result<Outc
     let distinct = each_once(alloc, &named)?;
     let ways = distinct.as_slice();
     let notes = named_twice(alloc, &named, ways)?;
-    let missing = missing(alloc, store, ways)?;
-    if !missing.is_empty() {
-        let list = missing_problems(alloc, missing.as_slice())?;
-        return Ok(Outcome::Problems { list, notes });
+    match segments(alloc, store, ways)? {
+        Some(segs) => complete(alloc, store, candidate, ways, &segs, notes),
+        // What is missing is looked up only where something is.
+        None => {
+            let missing = missing(alloc, store, ways)?;
+            let list = missing_problems(alloc, missing.as_slice())?;
+            Ok(Outcome::Problems { list, notes })
+        }
     }
-    let segs = segments(alloc, store, ways)?;
-    complete(alloc, store, candidate, ways, &segs, notes)
 }
 
 /// Assembles a candidate: its area, or the exact list of its problems.

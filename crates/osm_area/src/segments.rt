@@ -1,8 +1,9 @@
 //! The segments of a candidate's ways.
 
-ghost use Rattle.std.specs.Prelude.{◌≡◌, IfOk};
+ghost use Rattle.std.specs.Prelude.{◌≡◌, ◌++◌, ◌↔◌, [], true, IfOk, IfSome, IsSome, IsTrue, OnOk};
 ghost use Rattle.std.specs.List.{filter_map, flat_map};
 ghost use Rattle.osm_objects.specs.Objects.{location_of};
+ghost use Rattle.osm_area.specs.Missing.{nodes_missing, way_missing};
 ghost use Rattle.osm_area.specs.Segments.{segment_between, segments_along, path_of, way_segments};
 
 use osm_geom::{Loc, Seg};
@@ -15,13 +16,21 @@ fn segment_between(p: Loc, q: Loc) -> Option<Seg>
     Seg::new(p, q)
 }
 
-fn segments_along(alloc: Global, path: &[Loc]) -> Result<Vec<Seg>, AllocError>
-    ensures { IfOk result (λ v. v.items ≡ segments_along path.now) }
+// Adds the segments that a line passes.
+fn add_along(segments: &mut Vec<Seg>, path: &[Loc]) -> Result<(), AllocError>
+    ensures { OnOk result (segments.new.items ≡ segments.old.items ++ segments_along path.now) }
 {
-    path.iter()
-        .zip(path.iter().skip(1))
-        .filter_map(|(p, q)| segment_between(*p, *q))
-        .collect(alloc)
+    let steps = path.iter().zip(path.iter().skip(1));
+    segments.extend(steps.filter_map(|(p, q)| segment_between(*p, *q)))
+}
+
+// The locations of nodes, in order; a node that has none is passed over.
+fn located(alloc: Global, store: &Store, refs: &[i64]) -> Result<Vec<Loc>, AllocError>
+    ensures { IfOk result (λ v. v.items ≡ filter_map (location_of store.now) refs.now) }
+{
+    let mut path = Vec::with_capacity(alloc, refs.len())?;
+    path.extend(refs.iter().filter_map(|id| store.location(*id)))?;
+    Ok(path)
 }
 
 // The locations of a way's nodes, in order.
@@ -34,30 +43,63 @@ fn path_of(alloc: Global, store: &Store, way: i64) -> Result<Vec<Loc>, AllocErro
     }
 }
 
-fn located(alloc: Global, store: &Store, refs: &[i64]) -> Result<Vec<Loc>, AllocError>
-    ensures { IfOk result (λ v. v.items ≡ filter_map (location_of store.now) refs.now) }
-{
-    refs.iter()
-        .filter_map(|id| store.location(*id))
-        .collect(alloc)
-}
-
 /// The segments of a way: the pairs of neighbouring different locations.
 #[tactic(auto, unfolding(crate::specs::Segments::way_segments))]
 pub fn way_segments(alloc: Global, store: &Store, way: i64) -> Result<Vec<Seg>, AllocError>
     ensures { IfOk result (λ v. v.items ≡ way_segments store.now way) }
 {
     let path = path_of(alloc, store, way)?;
-    segments_along(alloc, &path)
+    let mut segments = Vec::with_capacity(alloc, path.len())?;
+    add_along(&mut segments, &path)?;
+    Ok(segments)
+}
+
+// Adds the segments along nodes. False where one of them has no location.
+fn add_along_nodes(
+    segments: &mut Vec<Seg>,
+    alloc: Global,
+    store: &Store,
+    refs: &[i64],
+) -> Result<bool, AllocError>
+    ensures whole { IfOk result (λ whole. IsTrue whole ↔ (nodes_missing store.now refs.now ≡ [])) }
+    ensures added { IfOk result (λ whole. whole ≡ true → segments.new.items ≡ segments.old.items ++ segments_along (filter_map (location_of store.now) refs.now)) }
+{
+    let path = located(alloc, store, refs)?;
+    if path.len() < refs.len() {
+        return Ok(false);
+    }
+    add_along(segments, &path)?;
+    Ok(true)
+}
+
+// Adds the segments of a way. False where it isn't held, or a node that it names has no location.
+fn add_segments(
+    segments: &mut Vec<Seg>,
+    alloc: Global,
+    store: &Store,
+    way: i64,
+) -> Result<bool, AllocError>
+    ensures whole { IfOk result (λ whole. IsTrue whole ↔ (way_missing store.now way ≡ [])) }
+    ensures added { IfOk result (λ whole. whole ≡ true → segments.new.items ≡ segments.old.items ++ way_segments store.now way) }
+{
+    match store.way(way) {
+        Some(found) => add_along_nodes(segments, alloc, store, found.refs.as_slice()),
+        None => Ok(false),
+    }
 }
 
 /// The segments of ways, one way after the other.
-pub fn segments(alloc: Global, store: &Store, ways: &[i64]) -> Result<Vec<Seg>, AllocError>
-    ensures { IfOk result (λ v. v.items ≡ flat_map (way_segments store.now) ways.now) }
+///
+/// None where a way isn't held, or a node that one names has no location.
+pub fn segments(alloc: Global, store: &Store, ways: &[i64]) -> Result<Option<Vec<Seg>>, AllocError>
+    ensures some { IfOk result (λ found. IfSome found (λ v. v.items ≡ flat_map (way_segments store.now) ways.now)) }
+    ensures whole { IfOk result (λ found. IsSome found ↔ (flat_map (way_missing store.now) ways.now ≡ [])) }
 {
     let mut segments = Vec::new(alloc);
     for &way in ways {
-        segments.extend_from_slice(&way_segments(alloc, store, way)?)?;
+        if !add_segments(&mut segments, alloc, store, way)? {
+            return Ok(None);
+        }
     }
-    Ok(segments)
+    Ok(Some(segments))
 }

@@ -1,7 +1,11 @@
-use Rattle.std.proofs.Common.{◌≡◌, take}
+use Rattle.std.proofs.Common.{◌≡◌, [], take}
 use Rattle.std.specs.List.{flat_map}
+use Rattle.osm_area.specs.Missing.{way_missing}
 use Rattle.osm_area.specs.Segments.{way_segments}
 use Rattle.osm_area.proofs.segments.segments.Given as goal
 
 abbrev pub invariant-loop-way : goal.invariant-loop-way
-invariant-loop-way l = l.segments.items ≡ flat_map (way_segments l.store) (take l.way-index l.ways)
+invariant-loop-way l = record {
+  segments : l.segments.items ≡ flat_map (way_segments l.store) (take l.way-index l.ways);
+  whole : flat_map (way_missing l.store) (take l.way-index l.ways) ≡ [];
+}

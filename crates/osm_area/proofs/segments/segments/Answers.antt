@@ -1,0 +1,27 @@
+-- One more way, whole or not.
+use Rattle.std.proofs.Common.{rules, FitsSigned, w64, ◌≡◌, [], get_or, pos, true, sym, ℤ}
+use Rattle.std.proofs.lemmas.Int.{to_z-of_z}
+use Rattle.osm_area.specs.Missing.{way_missing}
+use Rattle.osm_area.specs.Segments.{way_segments}
+use Rattle.osm_area.proofs.WholeWays.{pushed, some_of}
+use Rattle.osm_area.proofs.segments.segments.Goals as goal
+
+pub returns-then-not-branch-clause-whole : goal.returns-then-not-branch-clause-whole
+returns-then-not-branch-clause-whole c =
+    let way : ℤ = get_or c.args.ways.now c.loop-way.way-index (pos 0) in
+    let fits : FitsSigned w64 (get_or c.args.ways.now c.loop-way.way-index (pos 0)) = search rules in
+    let lacks = some_of (way_missing c.args.store.now) c.args.ways.now c.loop-way.way-index (pos 0) _ c.loop-way-test.true (to_z-of_z w64 way fits)
+    (λ none. let yes : c.in_ok-add_segments.field-0 ≡ true = c.in_ok-add_segments.ensures.whole.1 none in let no = c.if-not-branch.true in cc) in
+    ((λ yes. absurd (cc)), (λ none. absurd (lacks none)))
+
+pub loop-way-preserved : goal.loop-way-preserved
+loop-way-preserved c =
+    let way : ℤ = get_or c.args.ways.now c.loop-way.way-index (pos 0) in
+    let fits : FitsSigned w64 (get_or c.args.ways.now c.loop-way.way-index (pos 0)) = search rules in
+    let same = to_z-of_z w64 way fits in
+    record {
+      segments = pushed (way_segments c.args.store.now) c.args.ways.now c.loop-way.way-index (pos 0) _ c.loop-way-test.true same
+          c.loop-way.segments.items c.add_segments.new.segments.items c.loop-way.invariant.segments (c.in_ok-add_segments.ensures.added c.if-not-branch.false);
+      whole = sym (pushed (way_missing c.args.store.now) c.args.ways.now c.loop-way.way-index (pos 0) _ c.loop-way-test.true same
+          [] [] (sym c.loop-way.invariant.whole) (sym (c.in_ok-add_segments.ensures.whole.0 c.if-not-branch.false)));
+    }
