@@ -208,6 +208,8 @@ impl Host for MemoryHost {
         ensures amount { IfOk result (λ n. n ≡ min (min (length self.old.left) (length buf.old)) self.old.most) }
         ensures after { IfOk result (λ n. self.new ≡ record self.old { call = risen self.old.call; left = drop n self.old.left }) }
         ensures after_fault { OnErr result (self.new ≡ record self.old { call = risen self.old.call; read_faults = risen self.old.read_faults }) }
+        ensures behind { IfOk result (λ n. drop n buf.new ≡ drop n buf.old) }
+        ensures buffer_after_fault { OnErr result (buf.new ≡ buf.old) }
     {
         let fails = take_number(&mut self.call, &self.fail);
         if buf.is_empty() {
