@@ -9,12 +9,13 @@ use Rattle.osm_cli.specs.declared.ended.InputFault.{InputFault}
 use Rattle.osm_cli.specs.declared.gather.Gathered.{Gathered}
 use Rattle.osm_cli.specs.declared.gather.Stop.{Stop}
 use Rattle.osm_cli.specs.declared.gather.Stop.TheVariants.{AtEnd, PastLimit}
+use Rattle.osm_cli.specs.declared.gather.Stop.TheVariants as why
 use Rattle.osm_cli.specs.declared.reading.ReadError.{ReadError}
 use Rattle.osm_cli.specs.declared.reading.ReadError.TheVariants.{BadInput, TooMuchInput, ReadFault, OutOfMemory}
 use Rattle.osm_cli.specs.Lines.{lines_of, lines_begun}
 use Rattle.osm_cli.specs.Input.{AreGood, IsBadPlace}
-use Rattle.osm_cli.specs.Gathering.{HasEnded, IsStop, Gathers}
-use Rattle.osm_cli.specs.Reading.{lines_counted, IsReadOf, IsAnswer, Took, Reads, IsReadWhole}
+use Rattle.osm_cli.specs.Gathering.{HasEnded, IsStop, Gathers, StopCause}
+use Rattle.osm_cli.specs.Reading.{lines_counted, IsReadOf, IsAnswer, Took, Reads, IsReadWhole, ReadsOnce}
 use Rattle.osm_cli.specs.LineSteps.{lines_counting, IsRead}
 use Rattle.osm_cli.proofs.Fronts.{front_bad}
 
@@ -76,12 +77,35 @@ module _ (limit longest : ℕ) (before now : Outside) (g : Gathered) (bytes : Li
       }
 
   -- none is, and a read failed
-  pub read_failed : (objects : List Object) → IsRead longest (lines_counting false longest bytes) (Ok objects) → Reads limit longest before now (Err ReadFault)
-  read_failed objects read = record {
-    taken = gathers.taken;
-    left = gathers.left;
-    answer = subst (λ (xs : List ℕ). AreGood longest (lines_begun longest xs)) kept read.0;
-  }
+  pub read_failed : (objects : List Object) → g.stop ≡ why.ReadFault → IsRead longest (lines_counting false longest bytes) (Ok objects) → Reads limit longest before now (Err ReadFault)
+  read_failed objects is read =
+      let few : IsStop limit gathers.taken now why.ReadFault = subst (λ (s : Stop). IsStop limit gathers.taken now s) is gathers.stop in
+      record {
+        taken = gathers.taken;
+        left = gathers.left;
+        answer = (few, subst (λ (xs : List ℕ). AreGood longest (lines_begun longest xs)) kept read.0);
+      }
+
+-- ---- a failed read ends it
+
+-- none failed
+pub none_failed : (before now : Outside) (r : Result (List Object) ReadError) → now.read_faults ≡ before.read_faults → ReadsOnce before now r
+none_failed before now (Ok objects) same = same
+none_failed before now (Err (BadInput line fault)) same = tt
+none_failed before now (Err (TooMuchInput most)) same = same
+none_failed before now (Err ReadFault) same = tt
+none_failed before now (Err OutOfMemory) same = tt
+
+-- a line that was read before is bad
+pub bad_before : (longest : ℕ) (lines : List (List ℕ)) (before now : Outside) (e : ReadError) → IsRead longest lines (Err e) → ReadsOnce before now (Err e)
+bad_before longest lines before now (BadInput line fault) read = tt
+bad_before longest lines before now (TooMuchInput most) read = absurd read
+bad_before longest lines before now ReadFault read = tt
+bad_before longest lines before now OutOfMemory read = tt
+
+-- the input ended or passed the limit
+pub stopped_at : (before now : Outside) (s t : Stop) → s ≡ t → StopCause before now s → StopCause before now t
+stopped_at before now s t is cause = subst (λ (u : Stop). StopCause before now u) is cause
 
 -- ---- of an input that is told
 

@@ -56,7 +56,7 @@ no_piece settings objects earlier c (Problems list notes) has = refl
 
 module _ (settings : ExportSettings) (objects : List Object) (earlier : ℕ) (c : ObjectRef) (before now : Outside) where
   pub no_texts : WroteCandidate settings objects earlier c before before (Err OutOfMemory)
-  no_texts = record { written = []; reported = []; right = (refl, refl); added = nothing_added before; cause = tt }
+  no_texts = record { written = []; reported = []; right = (refl, refl); added = nothing_added before; cause = refl }
 
   module _ (texts : Texts) (is : IsTextsOf settings objects earlier c texts) where
     is_entry : IsEntryOf settings objects c is.entry
@@ -84,7 +84,7 @@ module _ (settings : ExportSettings) (objects : List Object) (earlier : ℕ) (c 
             reported = w.reported;
             right = (is.entry, is_entry, (λ _. area), count_one is.entry.outcome area, w.sent.0 ∙ is.piece, w.sent.1 ∙ is.lines);
             added = added;
-            cause = tt;
+            cause = w.counts.answered;
           }
 
       pub stops_written : is_some texts.feature ≡ false → settings.stop_on_error ≡ true → WroteCandidate settings objects earlier c before now (Err (Stopped c))
@@ -95,7 +95,7 @@ module _ (settings : ExportSettings) (objects : List Object) (earlier : ℕ) (c 
             reported = w.reported;
             right = (is.entry, is_entry, stops, area, refl, w.sent.0 ∙ is.piece ∙ no_piece settings objects earlier c is.entry.outcome area, w.sent.1 ∙ is.lines);
             added = added;
-            cause = tt;
+            cause = w.counts.answered;
           }
 
       pub problems_written : is_some texts.feature ≡ false → settings.stop_on_error ≡ false → WroteCandidate settings objects earlier c before now (Ok 0)
@@ -106,13 +106,13 @@ module _ (settings : ExportSettings) (objects : List Object) (earlier : ℕ) (c 
             reported = w.reported;
             right = (is.entry, is_entry, (λ stops. absurd (cc)), count_none is.entry.outcome area, w.sent.0 ∙ is.piece, w.sent.1 ∙ is.lines);
             added = added;
-            cause = tt;
+            cause = w.counts.answered;
           }
 
 -- ---- one candidate more
 
 pub none_first : (settings : ExportSettings) (objects : List Object) (candidates : List ObjectRef) (o : Outside) → WroteFirst settings objects (take 0 candidates) 0 o o
-none_first settings objects candidates o = record { entries = []; are = no_entries settings objects; counted = refl; added = nothing_added o }
+none_first settings objects candidates o = record { entries = []; are = no_entries settings objects; counted = refl; added = nothing_added o; quiet = refl }
 
 module _ (settings : ExportSettings) (objects : List Object) (cs : List ObjectRef) (k : ℕ) (d : ObjectRef) (lt : k < length cs) (features : ℕ) (before middle now : Outside)
     (first : WroteFirst settings objects (take k cs) features before middle) where
@@ -146,6 +146,7 @@ module _ (settings : ExportSettings) (objects : List Object) (cs : List ObjectRe
         added = subst (λ (xs : List ℕ). Added xs (reports_of (es ++ e ∷ [])) before now) (ap (λ (xs : List ℕ). pieces_of settings objects 0 es ++ xs) w.right.4 ∙ pieces_are e of_c)
             (subst (λ (ys : List ℕ). Added (pieces_of settings objects 0 es ++ w.written) ys before now) (ap (λ (ys : List ℕ). reports_of es ++ ys) w.right.5 ∙ sym (reports_push es e))
             (added_both (pieces_of settings objects 0 es) (reports_of es) w.written w.reported before middle now first.added w.added));
+        quiet = w.cause ∙ first.quiet;
       }
 
   stops_front : (e : Entry) → IsEntryOf settings objects c e → settings.stop_on_error ≡ true → has_area e ≡ false → StopsAt settings objects cs es e
@@ -193,10 +194,10 @@ module _ (settings : ExportSettings) (objects : List Object) (cs : List ObjectRe
       (subst (λ (xs : List ℕ). IsFront xs (pieces_of settings objects 0 es)) (sym (ap (λ (xs : List ℕ). pieces_of settings objects 0 es ++ xs) right.0 ∙ append-nil (pieces_of settings objects 0 es))) (whole_front (pieces_of settings objects 0 es)))
       (subst (λ (xs : List ℕ). IsFront xs (reports_of es)) (sym (ap (λ (xs : List ℕ). reports_of es ++ xs) right.1 ∙ append-nil (reports_of es))) (whole_front (reports_of es)))
 
-  halt_cause : (halt : Halt) → before.write_faults ≤ middle.write_faults → HaltCause {T = ℕ} middle now (Err halt) → HaltCause {T = Unit {0}} before now (Err halt)
-  halt_cause (Stopped stopped) rises cause = tt
-  halt_cause WriteFault rises cause = omega arith
-  halt_cause OutOfMemory rises cause = tt
+  halt_cause : (halt : Halt) → middle.write_faults ≡ before.write_faults → HaltCause {T = ℕ} middle now (Err halt) → HaltCause {T = Unit {0}} before now (Err halt)
+  halt_cause (Stopped stopped) same cause = cause ∙ same
+  halt_cause WriteFault same cause = omega arith
+  halt_cause OutOfMemory same cause = cause ∙ same
 
   -- the next candidate breaks it off
   pub next_halted : (halt : Halt) → WroteCandidate settings objects features c middle now (Err halt) → WroteCandidates settings objects cs before now (Err halt)
@@ -205,7 +206,7 @@ module _ (settings : ExportSettings) (objects : List Object) (cs : List ObjectRe
     reported = reports_of es ++ w.reported;
     right = halt_right w.written w.reported halt w.right;
     added = added_both (pieces_of settings objects 0 es) (reports_of es) w.written w.reported before middle now first.added w.added;
-    cause = halt_cause halt first.added.never_falls w.cause;
+    cause = halt_cause halt first.quiet w.cause;
   }
 
 -- all candidates have gone
@@ -216,5 +217,5 @@ all_gone settings objects cs n features before now u many first = record {
   reported = reports_of first.entries;
   right = (first.entries, subst (λ (xs : List ObjectRef). AreEntriesOf settings objects xs first.entries) (take_all n cs many) first.are, refl, refl);
   added = first.added;
-  cause = tt;
+  cause = first.quiet;
 }

@@ -1,6 +1,6 @@
 -- A run with its last line.
 use Rattle.osm_host.specs.declared.host.Failed.{Failed}
-use Rattle.std.proofs.Common.{◌≡◌, ◌∙◌, sym, ap, subst, ◌≤◌, ℕ, List, [], take, arith, OnOk, OnErr, inl, inr, Option, None, Some, IfSome, Result, Ok, Err}
+use Rattle.std.proofs.Common.{◌≡◌, ◌∙◌, refl, sym, ap, subst, ◌<◌, ◌≤◌, ℕ, List, [], length, take, arith, OnOk, OnErr, inl, inr, Option, None, Some, IfSome, Result, Ok, Err}
 use Rattle.osm_host.specs.Outside.{Outside, appended, preceded, Counts, HasRisen, OnlyWritesReport}
 use Rattle.osm_host.proofs.Streams.{appended_twice}
 use Rattle.osm_words.specs.declared.fault.WordsFault.{WordsFault}
@@ -12,7 +12,7 @@ use Rattle.osm_words.specs.Job.{ExportSettings, Job, export}
 use Rattle.osm_cli.specs.LastLine.{last_line}
 use Rattle.osm_cli.specs.Reading.{IsAnswer}
 use Rattle.osm_cli.specs.Whole.{Whole, IsWhole, input_limit, longest_line}
-use Rattle.osm_cli.specs.Run.{IsFront, WroteAll, IsRun, LastFailed, Writes, TookOff, JudgesInput, Opens, HasCause, NoFault, Completes}
+use Rattle.osm_cli.specs.Run.{IsFront, WroteAll, IsRun, LastFailed, Writes, TookOff, JudgesInput, Opens, HasCause, EndsAtOnce, SameOpens, SameReads, SameWrites, NoFault, Completes}
 use Rattle.osm_cli.specs.RunSteps.{Works}
 use Rattle.osm_cli.proofs.Writes.{take_is_front, whole_front}
 
@@ -85,7 +85,7 @@ took_kept job error before middle now same took = record {
 }
 
 input_so_far : (words : Result Job WordsFault) (ended : Ended) (before middle now : Outside) → now.left ≡ middle.left → JudgesInput words ended before middle → JudgesInput words ended before now
-input_so_far (Err fault) ended before middle now same input = tt
+input_so_far (Err fault) ended before middle now same input = same ∙ input
 input_so_far (Ok job) (BadInput line fault) before middle now same input = took_kept job (read.BadInput line fault) before middle now same input
 input_so_far (Ok job) (TooMuchInput limit) before middle now same input = took_kept job (read.TooMuchInput limit) before middle now same input
 input_so_far (Ok job) ReadFault before middle now same input = took_kept job read.ReadFault before middle now same input
@@ -113,6 +113,53 @@ cause_so_far (TooMuchInput limit) before middle now opens reads writes cause = t
 
 pub cause_kept : (words : Result Job WordsFault) (ended : Ended) (before middle now : Outside) → Works words ended before middle → OnlyWritesReport middle now → middle.write_faults ≤ now.write_faults → HasCause ended before now
 cause_kept words ended before middle now works only rises = cause_so_far ended before middle now only.open_faults only.read_faults rises works.cause
+
+opens_still : (ended : Ended) (before middle now : Outside) → now.open_faults ≡ middle.open_faults → SameOpens ended before middle → SameOpens ended before now
+opens_still OpenFault before middle now same opens = tt
+opens_still ReadFault before middle now same opens = same ∙ opens
+opens_still WriteFault before middle now same opens = same ∙ opens
+opens_still Done before middle now same opens = same ∙ opens
+opens_still OutOfMemory before middle now same opens = same ∙ opens
+opens_still (BadWords fault) before middle now same opens = same ∙ opens
+opens_still (BadInput line fault) before middle now same opens = same ∙ opens
+opens_still (Stopped candidate) before middle now same opens = same ∙ opens
+opens_still (TooMuchInput limit) before middle now same opens = same ∙ opens
+
+reads_still : (ended : Ended) (before middle now : Outside) → now.read_faults ≡ middle.read_faults → SameReads ended before middle → SameReads ended before now
+reads_still OpenFault before middle now same reads = same ∙ reads
+reads_still ReadFault before middle now same reads = tt
+reads_still WriteFault before middle now same reads = same ∙ reads
+reads_still Done before middle now same reads = same ∙ reads
+reads_still OutOfMemory before middle now same reads = tt
+reads_still (BadWords fault) before middle now same reads = same ∙ reads
+reads_still (BadInput line fault) before middle now same reads = tt
+reads_still (Stopped candidate) before middle now same reads = same ∙ reads
+reads_still (TooMuchInput limit) before middle now same reads = same ∙ reads
+
+writes_still : (ended : Ended) (before middle now : Outside) → (ended ≡ Done → now.write_faults ≡ middle.write_faults) → SameWrites ended before middle → SameWrites ended before now
+writes_still OpenFault before middle now same kept = tt
+writes_still ReadFault before middle now same kept = tt
+writes_still WriteFault before middle now same kept = tt
+writes_still Done before middle now same kept = same refl ∙ kept
+writes_still OutOfMemory before middle now same kept = tt
+writes_still (BadWords fault) before middle now same kept = tt
+writes_still (BadInput line fault) before middle now same kept = tt
+writes_still (Stopped candidate) before middle now same kept = tt
+writes_still (TooMuchInput limit) before middle now same kept = tt
+
+-- after Done nothing is written
+nothing_failed : (ended : Ended) (line : List ℕ) (r : Result (Unit {0}) Failed) (m n : ℕ) → line ≡ last_line ended → OnErr r (0 < length line) → Counts m n r → ended ≡ Done → n ≡ m
+nothing_failed ended line (Ok done) m n is some counts same = counts.answered
+nothing_failed ended line (Err failed) m n is some counts same =
+    let none : length line ≡ 0 = ap length is ∙ ap (λ (e : Ended). length (last_line e)) same in absurd (omega arith)
+
+pub once_kept : (words : Result Job WordsFault) (ended : Ended) (before middle now : Outside) → Works words ended before middle → OnlyWritesReport middle now → (line : List ℕ) (r : Result (Unit {0}) Failed) →
+    line ≡ last_line ended → OnErr r (0 < length line) → Counts middle.write_faults now.write_faults r → EndsAtOnce ended before now
+once_kept words ended before middle now works only line r is some counts = record {
+  opens = opens_still ended before middle now only.open_faults works.at_once.opens;
+  reads = reads_still ended before middle now only.read_faults works.at_once.reads;
+  writes = writes_still ended before middle now (nothing_failed ended line r middle.write_faults now.write_faults is some counts) works.at_once.writes;
+}
 
 whole_of_all : (job : Job) (told : Option (List ℕ)) (ended : Ended) (output report : List ℕ) → WroteAll job told ended output report → IfSome told (λ bytes. (whole : Whole) × IsWhole job bytes whole × (ended ≡ whole.ended))
 whole_of_all job None ended output report wrote = tt

@@ -15,9 +15,9 @@ use Rattle.osm_cli.specs.declared.export.Halt.TheVariants as halt
 use Rattle.osm_cli.specs.declared.reading.ReadError.{ReadError}
 use Rattle.osm_cli.specs.declared.reading.ReadError.TheVariants as read
 use Rattle.osm_cli.specs.Job.{opens_of}
-use Rattle.osm_cli.specs.Reading.{IsReadAs, IsReadOf, Reads, Took}
+use Rattle.osm_cli.specs.Reading.{IsReadAs, IsReadOf, Reads, Took, ReadsOnce}
 use Rattle.osm_cli.specs.Whole.{Whole, IsExport, finished, stopped, silent, read_ended, input_limit, longest_line}
-use Rattle.osm_cli.specs.Run.{WroteAll, WroteFront, IsWritten, is_silent, JudgesWords, JudgesInput, TookOff, Opens, HasCause}
+use Rattle.osm_cli.specs.Run.{WroteAll, WroteFront, IsWritten, is_silent, JudgesWords, JudgesInput, TookOff, Opens, HasCause, EndsAtOnce}
 use Rattle.osm_cli.specs.RunSteps.{Added, HaltCause, ended_by, words_ended, IsAll, IsBegun, IsExported, WroteWhole, Works}
 
 -- an export of an input that is read writes something out
@@ -48,6 +48,9 @@ module _ (settings : ExportSettings) (before middle : Outside) where
       one_open : now.opens ≡ appended before.opens first
       one_open = reads_only.opens ∙ listed
 
+      no_open_failed : now.open_faults ≡ before.open_faults
+      no_open_failed = reads_only.open_faults ∙ answered
+
       none_fell : before.write_faults ≤ now.write_faults
       none_fell = let a = only.write_faults in let b = reads_only.write_faults in omega arith
 
@@ -56,8 +59,8 @@ module _ (settings : ExportSettings) (before middle : Outside) where
 
       -- nothing was written, and only the input opened
       read_silent : (ended : Ended) → IsWritten job (before.named settings.file) ended [] [] → Opens (Ok job) ended before now → HasCause ended before now → JudgesWords (Ok job) ended →
-          JudgesInput (Ok job) ended before now → Works (Ok job) ended before now
-      read_silent ended right opens cause judged judged_input = record {
+          JudgesInput (Ok job) ended before now → EndsAtOnce ended before now → Works (Ok job) ended before now
+      read_silent ended right opens cause judged judged_input at_once = record {
         output = [];
         report = [];
         to_output = still_out ∙ sym (appended_nothing before.out);
@@ -68,6 +71,7 @@ module _ (settings : ExportSettings) (before middle : Outside) where
         judged_input = judged_input;
         opens = opens;
         cause = cause;
+        at_once = at_once;
         never_falls = none_fell;
       }
 
@@ -78,28 +82,29 @@ module _ (settings : ExportSettings) (before middle : Outside) where
       took_off : (error : ReadError) → Took input_limit longest_line middle now (Err error) → TookOff job error before now
       took_off error took = record { taken = took.taken; left = sym begins ∙ took.left; answer = took.answer }
 
+      pub no_memory : Works (Ok job) OutOfMemory before now
+      no_memory = read_silent OutOfMemory (inl (refl, refl)) (1, one_open) tt tt tt (record { opens = no_open_failed; reads = tt; writes = tt })
+
       -- the input isn't read
       pub not_read : (error : ReadError) → Reads input_limit longest_line middle now (Err error) → IfSome middle.left (λ bytes. IsReadOf input_limit longest_line bytes (Err error)) →
-          (error ≡ read.ReadFault → HasRisen middle.read_faults now.read_faults) → Works (Ok job) (read_ended error) before now
-      not_read (read.BadInput line fault) reads told cause =
+          (error ≡ read.ReadFault → HasRisen middle.read_faults now.read_faults) → ReadsOnce middle now (Err error) → Works (Ok job) (read_ended error) before now
+      not_read (read.BadInput line fault) reads told cause once =
           read_silent (BadInput line fault) (subst (λ (o : Option (List ℕ)). WroteAll job o (BadInput line fault) [] []) begins (all_silent middle.left (read.BadInput line fault) told)) one_open tt refl
-          (took_off (read.BadInput line fault) reads)
-      not_read (read.TooMuchInput limit) reads told cause =
+          (took_off (read.BadInput line fault) reads) (record { opens = no_open_failed; reads = tt; writes = tt })
+      not_read (read.TooMuchInput limit) reads told cause once =
           read_silent (TooMuchInput limit) (subst (λ (o : Option (List ℕ)). WroteAll job o (TooMuchInput limit) [] []) begins (all_silent middle.left (read.TooMuchInput limit) told)) one_open tt refl
-          (took_off (read.TooMuchInput limit) reads)
-      not_read read.ReadFault reads told cause =
+          (took_off (read.TooMuchInput limit) reads) (record { opens = no_open_failed; reads = once ∙ only.read_faults; writes = tt })
+      not_read read.ReadFault reads told cause once =
           read_silent ReadFault (refl, refl) one_open (let a = only.read_faults in let b = cause refl in omega arith) refl (took_off read.ReadFault reads)
-      not_read read.OutOfMemory reads told cause = read_silent OutOfMemory (inl (refl, refl)) (1, one_open) tt tt tt
-
-      pub no_memory : Works (Ok job) OutOfMemory before now
-      no_memory = read_silent OutOfMemory (inl (refl, refl)) (1, one_open) tt tt tt
+          (record { opens = no_open_failed; reads = tt; writes = tt })
+      not_read read.OutOfMemory reads told cause once = no_memory
 
       -- ---- the output
 
       module _ (opened : Outside) (opens_only : OnlyOpens now opened) where
         -- the output isn't opened
-        pub not_opened : HasRisen now.open_faults opened.open_faults → ((opened.opens ≡ appended now.opens second) ⊎ (opened.opens ≡ now.opens)) → Works (Ok job) OpenFault before opened
-        not_opened risen listed_or_not = record {
+        pub not_opened : now.read_faults ≡ middle.read_faults → HasRisen now.open_faults opened.open_faults → ((opened.opens ≡ appended now.opens second) ⊎ (opened.opens ≡ now.opens)) → Works (Ok job) OpenFault before opened
+        not_opened once risen listed_or_not = record {
           output = [];
           report = [];
           to_output = opens_only.out ∙ still_out ∙ sym (appended_nothing before.out);
@@ -113,10 +118,11 @@ module _ (settings : ExportSettings) (before middle : Outside) where
             | inr one ↦ (1, one ∙ one_open)
           ];
           cause = let a = reads_only.open_faults in let b = answered in omega arith;
+          at_once = record { opens = tt; reads = opens_only.read_faults ∙ once ∙ only.read_faults; writes = tt };
           never_falls = let a = none_fell in let b = opens_only.write_faults in omega arith;
         }
 
-        module _ (lists : opened.opens ≡ appended now.opens second) (objects : List Object) (told : IfSome middle.left (λ bytes. IsReadOf input_limit longest_line bytes (Ok objects))) (last : Outside) where
+        module _ (lists : opened.opens ≡ appended now.opens second) (once : now.read_faults ≡ middle.read_faults) (same : opened.open_faults ≡ now.open_faults) (objects : List Object) (told : IfSome middle.left (λ bytes. IsReadOf input_limit longest_line bytes (Ok objects))) (last : Outside) where
           all_told : (left : Option (List ℕ)) (ended : Ended) (written reported : List ℕ) → IfSome left (λ bytes. IsReadOf input_limit longest_line bytes (Ok objects)) → IsAll settings objects written reported ended →
               WroteAll job left ended written reported
           all_told None ended written reported is right = tt
@@ -138,8 +144,8 @@ module _ (settings : ExportSettings) (before middle : Outside) where
 
           module _ (written reported : List ℕ) (added : Added written reported opened last) where
             works : (ended : Ended) → IsWritten job (before.named settings.file) ended written reported → (is_silent ended ≡ true → ⊥) → JudgesWords (Ok job) ended → JudgesInput (Ok job) ended before last →
-                Opens (Ok job) ended before last → HasCause ended before last → Works (Ok job) ended before last
-            works ended right loud judged judged_input opens cause = record {
+                Opens (Ok job) ended before last → HasCause ended before last → EndsAtOnce ended before last → Works (Ok job) ended before last
+            works ended right loud judged judged_input opens cause at_once = record {
               output = written;
               report = reported;
               to_output = added.to_output ∙ ap (λ (o : Option (List ℕ)). appended o written) (opens_only.out ∙ still_out);
@@ -150,17 +156,31 @@ module _ (settings : ExportSettings) (before middle : Outside) where
               judged_input = judged_input;
               opens = opens;
               cause = cause;
+              at_once = at_once;
               never_falls = let a = none_fell in let b = opens_only.write_faults in let c = added.never_falls in omega arith;
             }
 
+            opens_same : last.open_faults ≡ before.open_faults
+            opens_same = added.rest.open_faults ∙ same ∙ no_open_failed
+
+            reads_same : last.read_faults ≡ before.read_faults
+            reads_same = added.rest.read_faults ∙ opens_only.read_faults ∙ once ∙ only.read_faults
+
+            writes_same : last.write_faults ≡ opened.write_faults → last.write_faults ≡ before.write_faults
+            writes_same none = none ∙ opens_only.write_faults ∙ reads_only.write_faults ∙ only.write_faults
+
             ended_works : (result : Result (Unit {0}) Halt) → IsExported settings objects written reported result → HaltCause opened last result → Works (Ok job) (ended_by result) before last
             ended_works (Ok done) right cause = works Done (wrote_all Done written reported right) (λ is. absurd (cc)) refl tt (two_opens added.rest.opens) tt
+                (record { opens = opens_same; reads = reads_same; writes = writes_same cause })
             ended_works (Err (halt.Stopped candidate)) right cause =
                 works (Stopped candidate) (wrote_all (Stopped candidate) written reported right) (λ is. absurd (cc)) refl tt (two_opens added.rest.opens) tt
+                (record { opens = opens_same; reads = reads_same; writes = tt })
             ended_works (Err halt.WriteFault) right cause =
                 works WriteFault (wrote_front written reported right) (λ is. absurd (cc)) refl tt (two_opens added.rest.opens)
                 (let a = reads_only.write_faults in let b = only.write_faults in let c = opens_only.write_faults in omega arith)
+                (record { opens = opens_same; reads = reads_same; writes = tt })
             ended_works (Err halt.OutOfMemory) right cause = works OutOfMemory (inr (wrote_front written reported right)) (λ is. absurd (cc)) tt tt (2, two_opens added.rest.opens) tt
+                (record { opens = opens_same; reads = tt; writes = tt })
 
           -- the output was written, as far as the run came
           pub works_written : (result : Result (Unit {0}) Halt) → WroteWhole settings objects opened last result → Works (Ok job) (ended_by result) before last
@@ -184,6 +204,7 @@ input_not_opened settings before now only risen listed_or_not = record {
     | inr none ↦ (0, none ∙ sym (appended_nothing before.opens))
   ];
   cause = risen;
+  at_once = record { opens = tt; reads = only.read_faults; writes = tt };
   never_falls = let a = only.write_faults in omega arith;
 }
 
@@ -198,9 +219,10 @@ refused cause o = record {
   right = (refl, refl, refl);
   silent = λ _. (refl, refl);
   judged = refl;
-  judged_input = tt;
+  judged_input = refl;
   opens = refl;
   cause = tt;
+  at_once = record { opens = refl; reads = refl; writes = tt };
   never_falls = omega arith;
 }
 
@@ -217,6 +239,7 @@ no_memory_for_words (Ok job) o = record {
   judged_input = tt;
   opens = (0, sym (appended_nothing o.opens));
   cause = tt;
+  at_once = record { opens = refl; reads = tt; writes = tt };
   never_falls = omega arith;
 }
 no_memory_for_words (Err fault) o = record {
@@ -227,9 +250,10 @@ no_memory_for_words (Err fault) o = record {
   right = (tt, refl, refl);
   silent = λ _. (refl, refl);
   judged = tt;
-  judged_input = tt;
+  judged_input = refl;
   opens = refl;
   cause = tt;
+  at_once = record { opens = refl; reads = tt; writes = tt };
   never_falls = omega arith;
 }
 

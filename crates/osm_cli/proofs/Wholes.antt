@@ -47,9 +47,9 @@ module _ (settings : ExportSettings) (objects : List Object) where
     begun written reported added = added_both (header settings.format) [] written reported before middle next (added_all bytes (header settings.format) is before middle u head) added
 
     rises : (halt : Halt) → HaltCause {T = Unit {0}} middle next (Err halt) → HaltCause {T = Unit {0}} before next (Err halt)
-    rises (Stopped candidate) cause = tt
+    rises (Stopped candidate) cause = cause ∙ head.counts.answered
     rises WriteFault cause = let same = head.counts.answered in omega arith
-    rises OutOfMemory cause = tt
+    rises OutOfMemory cause = cause ∙ head.counts.answered
 
     -- the candidates are broken off
     pub candidates_halted : OutcomeExists → ProblemLineExists → (halt : Halt) → WroteCandidates settings objects cs middle next (Err halt) → WroteWhole settings objects before next (Err halt)
@@ -94,5 +94,5 @@ module _ (settings : ExportSettings) (objects : List Object) where
             (ap (λ (xs : List ℕ). header settings.format ++ xs ++ footer settings.format) body.right.2) body.right.3;
         added = subst (λ (ys : List ℕ). Added (header settings.format ++ body.written ++ footer settings.format) ys before last) (append-nil body.reported)
             (behind (footer settings.format) (added_all foot_bytes (footer settings.format) foot_is next last t w));
-        cause = tt;
+        cause = w.counts.answered ∙ body.cause ∙ head.counts.answered;
       }

@@ -1,6 +1,6 @@
 -- What was taken off an input, and what of it was kept.
 use Rattle.std.specs.Prelude.{◌≡◌, ◌<◌, ◌≤◌, ℕ, List, [], length, take, IfSome}
-use Rattle.osm_host.specs.Outside.{Outside, preceded}
+use Rattle.osm_host.specs.Outside.{Outside, preceded, HasRisen}
 use Rattle.osm_cli.specs.declared.gather.Stop.{Stop}
 use Rattle.osm_cli.specs.declared.gather.Stop.TheVariants.{AtEnd, PastLimit, ReadFault}
 use Rattle.osm_cli.specs.declared.gather.Gathered.{Gathered}
@@ -21,3 +21,9 @@ pub record Gathers (limit : ℕ) (before now : Outside) (gathered : Gathered) : 
   pub left : before.left ≡ preceded taken now.left
   pub kept : gathered.bytes.items ≡ take limit taken
   pub stop : IsStop limit taken now gathered.stop
+
+-- The count of reads rose where a read failed, and else is the same.
+abbrev pub StopCause : Outside → Outside → Stop → Type 0
+StopCause before now AtEnd = now.read_faults ≡ before.read_faults
+StopCause before now PastLimit = now.read_faults ≡ before.read_faults
+StopCause before now ReadFault = HasRisen before.read_faults now.read_faults

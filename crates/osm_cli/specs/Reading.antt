@@ -40,7 +40,7 @@ IsAnswer limit longest taken now (Err (BadInput line fault)) =
     IsBadPlace longest (lines_begun longest (take limit taken)) line fault
     ⊎ (HasEnded now × (length taken ≤ limit) × IsBadPlace longest (lines_of taken) line fault)
 IsAnswer limit longest taken now (Err (TooMuchInput most)) = IsReadAs limit longest taken (Err (TooMuchInput most))
-IsAnswer limit longest taken now (Err ReadFault) = AreGood longest (lines_begun longest (take limit taken))
+IsAnswer limit longest taken now (Err ReadFault) = (length taken ≤ limit) × AreGood longest (lines_begun longest (take limit taken))
 IsAnswer limit longest taken now (Err OutOfMemory) = Unit {0}
 
 -- These bytes were taken off the input, and what is answered is right for them.
@@ -53,3 +53,12 @@ pub record Took (limit longest : ℕ) (before now : Outside) (result : Result (L
 abbrev pub Reads : ℕ → ℕ → Outside → Outside → Result (List Object) ReadError → Type 0
 Reads limit longest before now (Err OutOfMemory) = Unit {0}
 Reads limit longest before now result = Took limit longest before now result
+
+-- A failed read ends it: the count of reads rose only where that is answered, or a bad line that was read before it, or
+-- want of memory.
+abbrev pub ReadsOnce : Outside → Outside → Result (List Object) ReadError → Type 0
+ReadsOnce before now (Ok objects) = now.read_faults ≡ before.read_faults
+ReadsOnce before now (Err (BadInput line fault)) = Unit {0}
+ReadsOnce before now (Err (TooMuchInput most)) = now.read_faults ≡ before.read_faults
+ReadsOnce before now (Err ReadFault) = Unit {0}
+ReadsOnce before now (Err OutOfMemory) = Unit {0}

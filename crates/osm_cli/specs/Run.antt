@@ -80,13 +80,13 @@ pub record TookOff (job : Job) (error : ReadError) (before after : Outside) : Ty
   pub answer : IsAnswer input_limit longest_line taken after (Err error)
 
 -- An input is refused only for what was taken off it: its bad place stands in the lines that count there, or they have
--- none and it passes the limit. Where a read failed, they have none either.
+-- none and it passes the limit. Where a read failed, they have none either. With words that are refused nothing is taken.
 abbrev pub JudgesInput : Result Job WordsFault → Ended → Outside → Outside → Type 0
 JudgesInput (Ok job) (BadInput line fault) before after = TookOff job (read.BadInput line fault) before after
 JudgesInput (Ok job) (TooMuchInput limit) before after = TookOff job (read.TooMuchInput limit) before after
 JudgesInput (Ok job) ReadFault before after = TookOff job read.ReadFault before after
 JudgesInput (Ok job) ended before after = Unit {0}
-JudgesInput (Err fault) ended before after = Unit {0}
+JudgesInput (Err fault) ended before after = after.left ≡ before.left
 
 -- ---- what was opened
 
@@ -122,6 +122,29 @@ HasCause OpenFault before after = HasRisen before.open_faults after.open_faults
 HasCause ReadFault before after = HasRisen before.read_faults after.read_faults
 HasCause WriteFault before after = HasRisen before.write_faults after.write_faults
 HasCause ended before after = Unit {0}
+
+-- No open failed but where that is answered.
+abbrev pub SameOpens : Ended → Outside → Outside → Type 0
+SameOpens OpenFault before after = Unit {0}
+SameOpens ended before after = after.open_faults ≡ before.open_faults
+
+-- No read failed but where that is answered, or a bad line that was read before it, or want of memory.
+abbrev pub SameReads : Ended → Outside → Outside → Type 0
+SameReads ReadFault before after = Unit {0}
+SameReads (BadInput line fault) before after = Unit {0}
+SameReads OutOfMemory before after = Unit {0}
+SameReads ended before after = after.read_faults ≡ before.read_faults
+
+-- Where all is done no write failed.
+abbrev pub SameWrites : Ended → Outside → Outside → Type 0
+SameWrites Done before after = after.write_faults ≡ before.write_faults
+SameWrites ended before after = Unit {0}
+
+-- A fault of the host ends the run at once.
+pub record EndsAtOnce (ended : Ended) (before after : Outside) : Type 0 where
+  pub opens : SameOpens ended before after
+  pub reads : SameReads ended before after
+  pub writes : SameWrites ended before after
 
 -- No count of faults rose, or stands at its last value.
 pub record NoFault (before after : Outside) : Type 0 where

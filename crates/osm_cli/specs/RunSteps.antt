@@ -12,7 +12,7 @@ use Rattle.osm_cli.specs.declared.ended.Ended.TheVariants as ended
 use Rattle.osm_cli.specs.declared.export.Halt.{Halt}
 use Rattle.osm_cli.specs.declared.export.Halt.TheVariants.{Stopped, WriteFault, OutOfMemory}
 use Rattle.osm_cli.specs.Entry.{Entry, IsEntry, features_in, has_area, piece_of, pieces_of, reports_of}
-use Rattle.osm_cli.specs.Run.{IsFront, IsRun, is_silent, Opens, JudgesWords, JudgesInput, HasCause}
+use Rattle.osm_cli.specs.Run.{IsFront, IsRun, is_silent, Opens, JudgesWords, JudgesInput, HasCause, EndsAtOnce}
 use Rattle.osm_cli.specs.Whole.{Whole, HaveAreas, IsExport}
 
 -- ---- writing
@@ -47,12 +47,12 @@ pub record Added (written reported : List ℕ) (before after : Outside) : Type 0
   pub never_falls : before.write_faults ≤ after.write_faults
   pub rest : OnlyWrites before after
 
--- A write fault is answered only where the count of writes rose.
+-- A write fault is answered where the count of writes rose, and only there.
 abbrev pub HaltCause : {T : Type 0} → Outside → Outside → Result T Halt → Type 0
-HaltCause before after (Ok done) = Unit {0}
-HaltCause before after (Err (Stopped candidate)) = Unit {0}
+HaltCause before after (Ok done) = after.write_faults ≡ before.write_faults
+HaltCause before after (Err (Stopped candidate)) = after.write_faults ≡ before.write_faults
 HaltCause before after (Err WriteFault) = HasRisen before.write_faults after.write_faults
-HaltCause before after (Err OutOfMemory) = Unit {0}
+HaltCause before after (Err OutOfMemory) = after.write_faults ≡ before.write_faults
 
 -- ---- one candidate
 
@@ -133,6 +133,7 @@ pub record WroteFirst (settings : ExportSettings) (objects : List Object) (first
   pub are : AreEntriesOf settings objects first entries
   pub counted : features ≡ features_of entries
   pub added : Added (pieces_of settings objects 0 entries) (reports_of entries) before after
+  pub quiet : after.write_faults ≡ before.write_faults
 
 -- ---- the whole
 
@@ -182,4 +183,5 @@ pub record Works (words : Result Job WordsFault) (ended : Ended) (before after :
   pub judged_input : JudgesInput words ended before after
   pub opens : Opens words ended before after
   pub cause : HasCause ended before after
+  pub at_once : EndsAtOnce ended before after
   pub never_falls : before.write_faults ≤ after.write_faults

@@ -3,7 +3,7 @@
 ghost use Rattle.std.specs.Prelude.{◌≡◌, IfOk};
 ghost use Rattle.osm_host.specs.Outside.{HasRisen, OnlyReads};
 ghost use Rattle.osm_cli.specs.declared.gather.Stop.TheVariants.{ReadFault};
-ghost use Rattle.osm_cli.specs.Gathering.{Gathers};
+ghost use Rattle.osm_cli.specs.Gathering.{Gathers, StopCause};
 
 use osm_host::Host;
 use std::alloc::{AllocError, Global};
@@ -37,6 +37,7 @@ pub(crate) fn gather<H: Host>(
 ) -> Result<Gathered, AllocError>
     ensures gathers { IfOk result (λ gathered. Gathers limit (H.seen host.old) (H.seen host.new) gathered) }
     ensures read_fault { IfOk result (λ gathered. gathered.stop ≡ ReadFault → HasRisen (H.seen host.old).read_faults (H.seen host.new).read_faults) }
+    ensures cause { IfOk result (λ gathered. StopCause (H.seen host.old) (H.seen host.new) gathered.stop) }
     ensures rest { OnlyReads (H.seen host.old) (H.seen host.new) }
 {
     let mut bytes = Vec::new(alloc);

@@ -4,7 +4,7 @@ ghost use Rattle.std.specs.Prelude.{◌≡◌, ◌<◌, ◌^◌, ◌+◌, ◌++�
 ghost use Rattle.opl_reader.specs.declared.object.Object.{Object};
 ghost use Rattle.osm_host.specs.Outside.{HasRisen, OnlyReads};
 ghost use Rattle.osm_cli.specs.Input.{line_fault, objects_told};
-ghost use Rattle.osm_cli.specs.Reading.{IsReadOf, IsReadWhole, Reads};
+ghost use Rattle.osm_cli.specs.Reading.{IsReadOf, IsReadWhole, Reads, ReadsOnce};
 ghost use Rattle.osm_cli.specs.LineSteps.{IsLineError, lines_counting, last_counts, IsRead};
 
 use crate::ended::InputFault;
@@ -134,6 +134,8 @@ pub fn read_all<H: Host>(
     // Where the host tells the input, it is right for the input.
     ensures told { IfSome (H.seen host.old).left (λ bytes. IsReadOf limit longest bytes result) }
     ensures read_fault { IsErrOf result ReadError.ReadFault → HasRisen (H.seen host.old).read_faults (H.seen host.new).read_faults }
+    // A failed read isn't made again.
+    ensures at_once { ReadsOnce (H.seen host.old) (H.seen host.new) result }
     // Where no read failed, the whole of it was read, or memory was wanting.
     ensures complete { ¬ HasRisen (H.seen host.old).read_faults (H.seen host.new).read_faults
         → IfSome (H.seen host.old).left (λ bytes. IsReadWhole limit longest bytes result) }
@@ -151,6 +153,7 @@ fn read_opened<H: Host>(
 ) -> Result<Store, ReadError>
     ensures reads { Reads limit longest (H.seen host.old) (H.seen host.new) result }
     ensures read_fault { IsErrOf result ReadError.ReadFault → HasRisen (H.seen host.old).read_faults (H.seen host.new).read_faults }
+    ensures at_once { ReadsOnce (H.seen host.old) (H.seen host.new) result }
     ensures rest { OnlyReads (H.seen host.old) (H.seen host.new) }
 {
     let Ok(gathered) = gather(alloc, host, limit) else {

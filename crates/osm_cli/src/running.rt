@@ -1,7 +1,7 @@
 //! The run: from words and a host to what is written and how it ended.
 
 ghost use Rattle.std.specs.Prelude.{◌≡◌, ℕ, List, Ok, map, string_bytes};
-ghost use Rattle.osm_cli.specs.Run.{Writes, Opens, JudgesWords, JudgesInput, HasCause, NoFault, Completes};
+ghost use Rattle.osm_cli.specs.Run.{Writes, Opens, JudgesWords, JudgesInput, HasCause, EndsAtOnce, NoFault, Completes};
 ghost use Rattle.osm_cli.specs.RunSteps.{Works, words_ended};
 ghost use Rattle.osm_words.specs.Answers.{job_seen};
 ghost use Rattle.osm_words.specs.Job.{export};
@@ -30,6 +30,8 @@ pub fn run<H: Host>(alloc: Global, words: &[String], host: &mut H) -> Ended
     ensures opens { Opens (job_asked (map string_bytes words.now)) result (H.seen host.old) (H.seen host.new) }
     // No fault is answered by itself.
     ensures cause { HasCause result (H.seen host.old) (H.seen host.new) }
+    // A fault of the host ends the run: no count rose but that of the answer, save where a bad line was read before it.
+    ensures at_once { EndsAtOnce result (H.seen host.old) (H.seen host.new) }
     // Without a fault of the host the run ends as is right for the input.
     ensures complete { NoFault (H.seen host.old) (H.seen host.new) → Completes (job_asked (map string_bytes words.now)) (H.seen host.old) result }
     // Plain words are taken: then the run ends as is right for what they say.

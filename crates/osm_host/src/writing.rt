@@ -1,6 +1,6 @@
 //! Whole pieces, by as many writes as they take.
 
-ghost use Rattle.std.specs.Prelude.{◌≡◌, ◌<◌, ◌≤◌, ◌++◌, ℕ, List, take, OnOk, OnErr};
+ghost use Rattle.std.specs.Prelude.{◌≡◌, ◌<◌, ◌≤◌, ◌++◌, ℕ, List, length, take, OnOk, OnErr};
 ghost use Rattle.osm_host.specs.Outside.{Outside, appended, HasRisen, Counts, OnlyWritesOut, OnlyWritesReport};
 
 use crate::host::{Failed, Host};
@@ -11,6 +11,7 @@ use crate::host::{Failed, Host};
 pub fn write_all_out<H: Host>(host: &mut H, bytes: &[u8]) -> Result<(), Failed>
     ensures all { OnOk result ((H.seen host.new).out ≡ appended (H.seen host.old).out bytes.now) }
     ensures front { OnErr result ((n : ℕ) × ((H.seen host.new).out ≡ appended (H.seen host.old).out (take n bytes.now))) }
+    ensures some { OnErr result (0 < length bytes.now) }
     ensures cause { Counts (H.seen host.old).write_faults (H.seen host.new).write_faults result }
     ensures rest { OnlyWritesOut (H.seen host.old) (H.seen host.new) }
 {
@@ -27,6 +28,7 @@ pub fn write_all_out<H: Host>(host: &mut H, bytes: &[u8]) -> Result<(), Failed>
 pub fn write_all_report<H: Host>(host: &mut H, bytes: &[u8]) -> Result<(), Failed>
     ensures all { OnOk result ((H.seen host.new).report ≡ appended (H.seen host.old).report bytes.now) }
     ensures front { OnErr result ((n : ℕ) × ((H.seen host.new).report ≡ appended (H.seen host.old).report (take n bytes.now))) }
+    ensures some { OnErr result (0 < length bytes.now) }
     ensures cause { Counts (H.seen host.old).write_faults (H.seen host.new).write_faults result }
     ensures rest { OnlyWritesReport (H.seen host.old) (H.seen host.new) }
 {

@@ -7,7 +7,7 @@ pub returns-in-Err : goal.returns-in-Err
 returns-in-Err g c =
     rw c.read_ended.ensures (not_read (settings_seen c.args.settings.now) (g.H.Host.seen c.args.host.now) (g.H.Host.seen c.open_input.new.self)
     c.in-Ok.ensures.listed c.in-Ok.ensures.rest c.in-Ok.ensures.begins c.in-Ok.ensures.cause.answered (g.H.Host.seen c.read_all.new.host) c.in-Err.ensures.rest
-    c.in-Err.error c.in-Err.ensures.reads c.in-Err.ensures.told (λ is. c.in-Err.ensures.read_fault (search (rules, is))))
+    c.in-Err.error c.in-Err.ensures.reads c.in-Err.ensures.told (λ is. c.in-Err.ensures.read_fault (search (rules, is))) c.in-Err.ensures.at_once)
 
 pub returns-in_default-candidates : goal.returns-in_default-candidates
 returns-in_default-candidates g c =
@@ -18,11 +18,11 @@ pub returns-in_default-open_output : goal.returns-in_default-open_output
 returns-in_default-open_output g c =
     not_opened (settings_seen c.args.settings.now) (g.H.Host.seen c.args.host.now) (g.H.Host.seen c.open_input.new.self)
     c.in-Ok.ensures.listed c.in-Ok.ensures.rest c.in-Ok.ensures.begins c.in-Ok.ensures.cause.answered (g.H.Host.seen c.read_all.new.host) c.in-Ok-read_all.ensures.rest
-    (g.H.Host.seen c.open_output.new.self) c.in_default-open_output.ensures.rest c.in_default-open_output.ensures.cause.failed c.in_default-open_output.ensures.listed_or_not
+    (g.H.Host.seen c.open_output.new.self) c.in_default-open_output.ensures.rest c.in-Ok-read_all.ensures.at_once c.in_default-open_output.ensures.cause.failed c.in_default-open_output.ensures.listed_or_not
 
 pub returns : goal.returns
 returns g c =
     rw c.ended_by.ensures (works_written (settings_seen c.args.settings.now) (g.H.Host.seen c.args.host.now) (g.H.Host.seen c.open_input.new.self)
     c.in-Ok.ensures.listed c.in-Ok.ensures.rest c.in-Ok.ensures.begins c.in-Ok.ensures.cause.answered (g.H.Host.seen c.read_all.new.host) c.in-Ok-read_all.ensures.rest
-    (g.H.Host.seen c.open_output.new.self) c.in-Ok-open_output.ensures.rest c.in-Ok-open_output.ensures.listed c.in-Ok-read_all.store c.in-Ok-read_all.ensures.told
+    (g.H.Host.seen c.open_output.new.self) c.in-Ok-open_output.ensures.rest c.in-Ok-open_output.ensures.listed c.in-Ok-read_all.ensures.at_once c.in-Ok-open_output.ensures.cause.answered c.in-Ok-read_all.store c.in-Ok-read_all.ensures.told
     (g.H.Host.seen c.write_whole.new.host) c.write_whole.result c.write_whole.ensures)

@@ -1,4 +1,7 @@
-use Rattle.osm_cli.proofs.Answered.{whole_read, front_refused, limit_passed, read_failed}
+use Rattle.std.proofs.Common.{false}
+use Rattle.osm_cli.specs.LineSteps.{lines_counting}
+use Rattle.osm_cli.specs.declared.gather.Stop.TheVariants.{AtEnd, PastLimit}
+use Rattle.osm_cli.proofs.Answered.{whole_read, front_refused, limit_passed, read_failed, none_failed, bad_before, stopped_at}
 use Rattle.osm_cli.proofs.reading.read_opened.Goals as goal
 
 pub returns-in-AtEnd-clause-reads : goal.returns-in-AtEnd-clause-reads
@@ -19,9 +22,26 @@ returns-in-PastLimit-clause-reads g c =
 pub returns-in-Ok-read_lines-2-clause-reads : goal.returns-in-Ok-read_lines-2-clause-reads
 returns-in-Ok-read_lines-2-clause-reads g c =
     read_failed c.args.limit c.args.longest (g.H.Host.seen c.args.host.now) (g.H.Host.seen c.gather.new.host) c.in-Ok.gathered c.as_slice-bytes.result.now
-    c.in-Ok.ensures.gathers c.as_slice-bytes.ensures.value c.in-Ok-read_lines-2.field-0 c.in-Ok-read_lines-2.ensures
+    c.in-Ok.ensures.gathers c.as_slice-bytes.ensures.value c.in-Ok-read_lines-2.field-0 c.in-ReadFault.is c.in-Ok-read_lines-2.ensures
 
 pub returns-clause-reads : goal.returns-clause-reads
 returns-clause-reads g c =
     front_refused c.args.limit c.args.longest (g.H.Host.seen c.args.host.now) (g.H.Host.seen c.gather.new.host) c.in-Ok.gathered c.as_slice-bytes.result.now
     c.in-Ok.ensures.gathers c.as_slice-bytes.ensures.value c.in-Err-read_lines.error c.in-Err-read_lines.ensures
+
+pub returns-in-AtEnd-clause-at_once : goal.returns-in-AtEnd-clause-at_once
+returns-in-AtEnd-clause-at_once g c =
+    none_failed (g.H.Host.seen c.args.host.now) (g.H.Host.seen c.gather.new.host) c.read_lines.result
+    (stopped_at (g.H.Host.seen c.args.host.now) (g.H.Host.seen c.gather.new.host) c.in-Ok.gathered.stop AtEnd c.in-AtEnd.is c.in-Ok.ensures.cause)
+
+pub returns-in-Ok-read_lines-clause-at_once : goal.returns-in-Ok-read_lines-clause-at_once
+returns-in-Ok-read_lines-clause-at_once g c =
+    stopped_at (g.H.Host.seen c.args.host.now) (g.H.Host.seen c.gather.new.host) c.in-Ok.gathered.stop PastLimit c.in-PastLimit.is c.in-Ok.ensures.cause
+
+pub returns-in-PastLimit-clause-at_once : goal.returns-in-PastLimit-clause-at_once
+returns-in-PastLimit-clause-at_once g c =
+    bad_before c.args.longest (lines_counting false c.args.longest c.as_slice-bytes.result.now) (g.H.Host.seen c.args.host.now) (g.H.Host.seen c.gather.new.host) c.in-Err.error c.in-Err.ensures
+
+pub returns-clause-at_once : goal.returns-clause-at_once
+returns-clause-at_once g c =
+    bad_before c.args.longest (lines_counting false c.args.longest c.as_slice-bytes.result.now) (g.H.Host.seen c.args.host.now) (g.H.Host.seen c.gather.new.host) c.in-Err-read_lines.error c.in-Err-read_lines.ensures

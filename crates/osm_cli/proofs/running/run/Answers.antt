@@ -1,7 +1,7 @@
 use Rattle.std.proofs.Common.{map, string_bytes, ◌∙◌, ap}
 use Rattle.osm_words.specs.Words.{job_asked}
 use Rattle.osm_words.specs.PlainExport.{said}
-use Rattle.osm_cli.proofs.Endings.{writes, input_kept, opens_kept, cause_kept, completes, plain_completes}
+use Rattle.osm_cli.proofs.Endings.{writes, input_kept, opens_kept, cause_kept, once_kept, completes, plain_completes}
 use Rattle.osm_cli.proofs.running.run.Goals as goal
 
 pub returns-clause-writes : goal.returns-clause-writes
@@ -24,6 +24,11 @@ pub returns-clause-cause : goal.returns-clause-cause
 returns-clause-cause g c =
     cause_kept (job_asked (map string_bytes c.args.words.now)) c.work-ended.result (g.H.Host.seen c.args.host.now) (g.H.Host.seen c.work-ended.new.host) (g.H.Host.seen c.write_all_report.new.host)
     c.work-ended.ensures c.write_all_report.ensures.rest c.write_all_report.ensures.cause.never_falls
+
+pub returns-clause-at_once : goal.returns-clause-at_once
+returns-clause-at_once g c =
+    once_kept (job_asked (map string_bytes c.args.words.now)) c.work-ended.result (g.H.Host.seen c.args.host.now) (g.H.Host.seen c.work-ended.new.host) (g.H.Host.seen c.write_all_report.new.host)
+    c.work-ended.ensures c.write_all_report.ensures.rest c.as_slice.result.now c.write_all_report.result (c.as_slice.ensures ∙ c.last_line-line.ensures) c.write_all_report.ensures.some c.write_all_report.ensures.cause
 
 pub returns-clause-complete : goal.returns-clause-complete
 returns-clause-complete g c = λ none.
