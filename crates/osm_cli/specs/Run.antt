@@ -140,7 +140,7 @@ abbrev pub SameWrites : Ended → Outside → Outside → Type 0
 SameWrites Done before after = after.write_faults ≡ before.write_faults
 SameWrites ended before after = Unit {0}
 
--- A fault of the host ends the run at once.
+-- A fault of the host ends the run, as far as the counts tell it.
 pub record EndsAtOnce (ended : Ended) (before after : Outside) : Type 0 where
   pub opens : SameOpens ended before after
   pub reads : SameReads ended before after

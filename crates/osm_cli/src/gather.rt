@@ -1,8 +1,7 @@
 //! The bytes of an opened input, gathered.
 
 ghost use Rattle.std.specs.Prelude.{◌≡◌, IfOk};
-ghost use Rattle.osm_host.specs.Outside.{HasRisen, OnlyReads};
-ghost use Rattle.osm_cli.specs.declared.gather.Stop.TheVariants.{ReadFault};
+ghost use Rattle.osm_host.specs.Outside.{OnlyReads};
 ghost use Rattle.osm_cli.specs.Gathering.{Gathers, StopCause};
 
 use osm_host::Host;
@@ -36,7 +35,6 @@ pub(crate) fn gather<H: Host>(
     limit: u64,
 ) -> Result<Gathered, AllocError>
     ensures gathers { IfOk result (λ gathered. Gathers limit (H.seen host.old) (H.seen host.new) gathered) }
-    ensures read_fault { IfOk result (λ gathered. gathered.stop ≡ ReadFault → HasRisen (H.seen host.old).read_faults (H.seen host.new).read_faults) }
     ensures cause { IfOk result (λ gathered. StopCause (H.seen host.old) (H.seen host.new) gathered.stop) }
     ensures rest { OnlyReads (H.seen host.old) (H.seen host.new) }
 {

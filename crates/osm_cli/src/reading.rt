@@ -134,7 +134,7 @@ pub fn read_all<H: Host>(
     // Where the host tells the input, it is right for the input.
     ensures told { IfSome (H.seen host.old).left (λ bytes. IsReadOf limit longest bytes result) }
     ensures read_fault { IsErrOf result ReadError.ReadFault → HasRisen (H.seen host.old).read_faults (H.seen host.new).read_faults }
-    // A failed read isn't made again.
+    // No read failed with an Ok or TooMuchInput.
     ensures at_once { ReadsOnce (H.seen host.old) (H.seen host.new) result }
     // Where no read failed, the whole of it was read, or memory was wanting.
     ensures complete { ¬ HasRisen (H.seen host.old).read_faults (H.seen host.new).read_faults

@@ -30,7 +30,7 @@ pub fn run<H: Host>(alloc: Global, words: &[String], host: &mut H) -> Ended
     ensures opens { Opens (job_asked (map string_bytes words.now)) result (H.seen host.old) (H.seen host.new) }
     // No fault is answered by itself.
     ensures cause { HasCause result (H.seen host.old) (H.seen host.new) }
-    // A fault of the host ends the run: no count rose but that of the answer, save where a bad line was read before it.
+    // No open failed but with OpenFault; no read but with ReadFault, BadInput or OutOfMemory; and with Done no write.
     ensures at_once { EndsAtOnce result (H.seen host.old) (H.seen host.new) }
     // Without a fault of the host the run ends as is right for the input.
     ensures complete { NoFault (H.seen host.old) (H.seen host.new) → Completes (job_asked (map string_bytes words.now)) (H.seen host.old) result }
