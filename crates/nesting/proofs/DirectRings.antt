@@ -4,7 +4,7 @@ use Rattle.std.specs.List.{count_by, filter}
 use borrow.Author.Differences.{ints}
 use lib.IntN.{pos}
 use Rattle.nesting.specs.Cover.{AreClear, covers}
-use Rattle.nesting.specs.Nesting.{EnclosesDirectly, IsInnerRing, IsNest, IsOuterRing, TellsOuter, edges_of, encloses, is_outer}
+use Rattle.nesting.specs.Nesting.{EnclosesDirectly, IsInnerRing, IsNest, IsNextLeft, IsOuterRing, TellsOuter, edges_of, encloses, is_outer}
 use Rattle.nesting.specs.Polygon.{IsPolygon, Polygon, polygon_edges}
 use Rattle.nesting.specs.RingList.{IsRingList}
 use Rattle.nesting.specs.Walk.{HasSameEdges}
@@ -17,6 +17,7 @@ use Rattle.winding.specs.Member.{EachPair, In}
 use Rattle.winding.specs.Ring.{IsAnchor, segments_of}
 use Rattle.nesting.proofs.DirectEnclosure.{at-most, clear-pairs, direct_exists, direct_once, in-edges-out, siblings}
 use Rattle.nesting.proofs.EnclosingSums.{enclosing_sums}
+use Rattle.nesting.proofs.LeftNeighbours.{inner_neighbour, outer_neighbour}
 use Rattle.nesting.proofs.Nests.{in-edges, odd-bit, plain-part, total-edges}
 use Rattle.nesting.proofs.OuterTests.{HasAnchors, IsDirectBy}
 use Rattle.nesting.proofs.RingLists.{nest-plain, pairs-of, ring_anchor, ring_list_nest}
@@ -143,6 +144,21 @@ module _ (rs : List (List Edge)) (l : IsRingList rs) where
       (direct-by (segments_of r) (segments_of h) jr j d)
       (subst (λ e. IsDirectBy rings is_outer_by (segments_of s) e) q (direct-by (segments_of s) (segments_of h) js j c)))
       (same_or_clear r s ir is)
+
+  pub left_neighbour_encloses : (h q : List Edge) → In h rs → In q rs → IsInnerRing rings (segments_of h) → IsOuterRing rings (segments_of q) → (a e : Edge) → IsAnchor a (segments_of h) → In e (segments_of q) →
+      IsNextLeft a e (edges_of rings) → EnclosesDirectly rings (segments_of q) (segments_of h)
+  left_neighbour_encloses h q i k o u a e aa ie next =
+      let j = in-map segments_of rs h i in let l = in-map segments_of rs q k in
+      direct-of (segments_of q) (segments_of h) a aa
+      (outer_neighbour rings rings-nest is_outer_by rings-tell rings-anchors (segments_of h) j a aa (inner-out (segments_of h) j o) (segments_of q) l e ie next.spans next.right next.nearest (outer-out (segments_of q) l u))
+
+  pub left_neighbour_alike : (h q r : List Edge) → In h rs → In q rs → In r rs → IsInnerRing rings (segments_of h) → IsInnerRing rings (segments_of q) → (a e : Edge) → IsAnchor a (segments_of h) → In e (segments_of q) →
+      IsNextLeft a e (edges_of rings) → EnclosesDirectly rings (segments_of r) (segments_of q) → EnclosesDirectly rings (segments_of r) (segments_of h)
+  left_neighbour_alike h q r i k m o u a e aa ie next d =
+      let j = in-map segments_of rs h i in let l = in-map segments_of rs q k in
+      direct-of (segments_of r) (segments_of h) a aa
+      (inner_neighbour rings rings-nest is_outer_by rings-tell rings-anchors (segments_of h) j a aa (inner-out (segments_of h) j o) (segments_of q) l e ie next.spans next.right next.nearest (inner-out (segments_of q) l u)
+      d.anchor d.anchors (segments_of r) (direct-by (segments_of r) (segments_of q) (in-map segments_of rs r m) l d))
 
   pub ring_has_anchor : (r : List Edge) → In r rs → (a : Edge) × IsAnchor a (segments_of r) × ((b : Edge) → IsAnchor b (segments_of r) → b ≡ a)
   ring_has_anchor r i = let a = rings-anchors (segments_of r) (in-map segments_of rs r i) in (a.0, a.1, λ b h. anchor_one b a.0 (segments_of r) (ring-plain r i) h a.1)

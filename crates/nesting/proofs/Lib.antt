@@ -22,3 +22,4 @@ pub mod Turns
 pub mod TwoLists
 pub mod Walks
 pub mod WoundRings
+pub mod LeftNeighbours

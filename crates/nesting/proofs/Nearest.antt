@@ -23,10 +23,10 @@ use Rattle.winding.proofs.Levels.{right_apart, to_right}
 use Rattle.winding.proofs.Members.{in-either, in-filter, in-left, in-passes, in-right, into-filter, pairs-filter, pairs-weaker, total-same}
 use Rattle.winding.proofs.Ranks.{First, first_exists}
 
-beyond-span : (p : Vector) (e f : Edge) → is_right_above p e f ≡ true → is_in_span p f ≡ true
+pub beyond-span : (p : Vector) (e f : Edge) → is_right_above p e f ≡ true → is_in_span p f ≡ true
 beyond-span p e f h = (and-out (is_in_span p f) (right_of p e f) h).0
 
-beyond-right : (p : Vector) (e f : Edge) → is_right_above p e f ≡ true → right_of p e f ≡ true
+pub beyond-right : (p : Vector) (e f : Edge) → is_right_above p e f ≡ true → right_of p e f ≡ true
 beyond-right p e f h = (and-out (is_in_span p f) (right_of p e f) h).1
 
 -- the edges right of e are in order

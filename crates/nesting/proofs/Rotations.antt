@@ -18,7 +18,7 @@ use Rattle.winding.proofs.Members.{all-in, in-all, pairs-across, pairs-append, p
 use Rattle.winding.proofs.OddSides.{spokes-is}
 use Rattle.winding.proofs.Sums.{total, total-++, total-is, total-map}
 
-path-split : (a b : Vector) (xs ys : List Edge) → IsPath a (xs ++ ys) b → (m : Vector) × IsPath a xs m × IsPath m ys b
+pub path-split : (a b : Vector) (xs ys : List Edge) → IsPath a (xs ++ ys) b → (m : Vector) × IsPath a xs m × IsPath m ys b
 path-split a b [] ys p = (a, refl, p)
 path-split a b (x ∷ xs) ys p = let r = path-split x.to b xs ys p.1 in (r.0, (p.0, r.1), r.2)
 
@@ -40,7 +40,7 @@ ring-turn a b r =
 pub ring_rotated : (p q : List Edge) → IsRotated p q → IsRing p → IsRing q
 ring_rotated p q t r = subst IsRing (sym t.new) (ring-turn t.front t.back (subst IsRing t.old r))
 
-rotated-total : (f : Edge → ℕ) (p q : List Edge) → IsRotated p q → total f q ≡ total f p
+pub rotated-total : (f : Edge → ℕ) (p q : List Edge) → IsRotated p q → total f q ≡ total f p
 rotated-total f p q t =
     let a = ap (total f) t.old in let b = ap (total f) t.new in let c = total-++ f t.front t.back in let d = total-++ f t.back t.front in omega arith
 
@@ -51,7 +51,7 @@ ones : (xs : List Edge) → total (λ (e : Edge). 1) xs ≡ length xs
 ones [] = refl
 ones (x ∷ xs) = let h = ones xs in omega arith
 
-rotated-length : (p q : List Edge) → IsRotated p q → 3 ≤ length p → 3 ≤ length q
+pub rotated-length : (p q : List Edge) → IsRotated p q → 3 ≤ length p → 3 ≤ length q
 rotated-length p q t l =
     let a = ones p in let b = ones q in let c = rotated-total (λ e. 1) p q t in omega arith
 

@@ -8,19 +8,19 @@ pub append-nil : {X : Type 0} (xs : List X) → xs ++ [] ≡ xs
 append-nil [] = refl
 append-nil (x ∷ xs) = ap (λ l. x ∷ l) (append-nil xs)
 
-last-append : {X : Type 0} (z : X) (xs ys : List X) → last z (xs ++ ys) ≡ last (last z xs) ys
+pub last-append : {X : Type 0} (z : X) (xs ys : List X) → last z (xs ++ ys) ≡ last (last z xs) ys
 last-append z [] ys = refl
 last-append z (x ∷ xs) ys = last-append x xs ys
 
-follow-left : {X : Type 0} (T : X → X → Type 0) (z : X) (xs ys : List X) → Follow T z (xs ++ ys) → Follow T z xs
+pub follow-left : {X : Type 0} (T : X → X → Type 0) (z : X) (xs ys : List X) → Follow T z (xs ++ ys) → Follow T z xs
 follow-left T z [] ys h = tt
 follow-left T z (x ∷ xs) ys h = (h.0, follow-left T x xs ys h.1)
 
-follow-right : {X : Type 0} (T : X → X → Type 0) (z : X) (xs ys : List X) → Follow T z (xs ++ ys) → Follow T (last z xs) ys
+pub follow-right : {X : Type 0} (T : X → X → Type 0) (z : X) (xs ys : List X) → Follow T z (xs ++ ys) → Follow T (last z xs) ys
 follow-right T z [] ys h = h
 follow-right T z (x ∷ xs) ys h = follow-right T x xs ys h.1
 
-follow-join : {X : Type 0} (T : X → X → Type 0) (z : X) (xs ys : List X) → Follow T z xs → Follow T (last z xs) ys → Follow T z (xs ++ ys)
+pub follow-join : {X : Type 0} (T : X → X → Type 0) (z : X) (xs ys : List X) → Follow T z xs → Follow T (last z xs) ys → Follow T z (xs ++ ys)
 follow-join T z [] ys h k = k
 follow-join T z (x ∷ xs) ys h k = (h.0, follow-join T x xs ys h.1 k)
 

@@ -44,16 +44,16 @@ dot-at d a b p = subst (λ s. agree (times (sign (dot d a)) (sign (dot d b))) (t
 set-at : (d a : Vector) → IsDirection d → IsDirection a → not (is_null (then_sign (sign (cross d a)) (sign (dot d a)))) ≡ true
 set-at d a pd pa = imp-out _ _ (all2-out (λ x y. imp (is_some x y) λ _. not (is_null (then_sign y x))) refl (sign (dot d a)) (sign (cross d a))) (some-signs d a pd pa)
 
-one-eqb : (n : ℕ) → n ≡ 1 → eqb n 1 ≡ true
+pub one-eqb : (n : ℕ) → n ≡ 1 → eqb n 1 ≡ true
 one-eqb n h = ap (λ n. eqb n 1) h
 
-sector-chain : (d a b c : Vector) → IsDirection d → IsDirection b → in_sector d a b ≡ 1 → in_sector d b c ≡ 1 → in_sector d a c ≡ 1
+pub sector-chain : (d a b c : Vector) → IsDirection d → IsDirection b → in_sector d a b ≡ 1 → in_sector d b c ≡ 1 → in_sector d a c ≡ 1
 sector-chain d a b c pd pb h g =
     eqb-true _ _ (chain_signs (sign (dot d a)) (sign (cross d a)) (sign (dot d b)) (sign (cross d b)) (sign (dot d c)) (sign (cross d c)) (sign (cross a b)) (sign (cross b c)) (sign (cross a c))
     (crossed-at d a b pd) (crossed-at d b c pd) (crossed-at d a c pd) (plucker-agree d a b c) (plucker-dot-agree d a b c) (set-at d b pd pb) (one-eqb _ h) (one-eqb _ g))
 
 -- of two directions apart exactly one comes first
-sector-one : (d a b : Vector) → IsDirection d → IsDirection a → IsDirection b → apart a b ≡ true → eqb (in_sector d a b) 1 ≡ not (eqb (in_sector d b a) 1)
+pub sector-one : (d a b : Vector) → IsDirection d → IsDirection a → IsDirection b → apart a b ≡ true → eqb (in_sector d a b) 1 ≡ not (eqb (in_sector d b a) 1)
 sector-one d a b pd pa pb n =
     let c = all2-out (either_2 (sign (dot d a)) (sign (cross d a)) (sign (dot d b)) (sign (cross d b))) (all4-out (λ ax ay bx by. all2 (either_2 ax ay bx by)) either_computes (sign (dot d a)) (sign (cross d a)) (sign (dot d b)) (sign (cross d b))) (sign (cross a b)) (sign (dot a b)) in
     let e = same_bool-true _ _ (imp-out _ _ (imp-out _ _ (imp-out _ _ (imp-out _ _ (imp-out _ _ c (crossed-at d a b pd)) (dot-at d a b pd)) n) (set-at d a pd pa)) (set-at d b pd pb)) in
@@ -70,7 +70,7 @@ rest_computes : all4 (λ x y t q. all2 (rest_2 x y t q)) ≡ true
 rest_computes = refl
 
 -- the rest of the turn
-sector-rest : (d m y : Vector) → IsDirection d → IsDirection m → IsDirection y → apart d m ≡ true → in_sector d m y + in_sector m d y ≡ 1
+pub sector-rest : (d m y : Vector) → IsDirection d → IsDirection m → IsDirection y → apart d m ≡ true → in_sector d m y + in_sector m d y ≡ 1
 sector-rest d m y pd pm py n =
     let x1 = sign (dot d y) in let y1 = sign (cross d y) in let t = sign (dot d m) in let q = sign (cross d m) in let e = sign (cross m y) in let g = sign (dot m y) in
     let c = all2-out (rest_2 x1 y1 t q) (all4-out (λ x y t q. all2 (rest_2 x y t q)) rest_computes x1 y1 t q) e g in
@@ -80,7 +80,7 @@ sector-rest d m y pd pm py n =
 abbrev zero_one : Sign → Sign → Sign → Sign → Bool
 zero_one s b t c = all λ e. eqb (bit (eqb (sector_by s b t c e) 1)) (sector_by s b t c e)
 
-zero-of : (d a b : Vector) → eqb (in_sector d a b) 1 ≡ false → in_sector d a b ≡ 0
+pub zero-of : (d a b : Vector) → eqb (in_sector d a b) 1 ≡ false → in_sector d a b ≡ 0
 zero-of d a b h =
     let z = all-out (λ e. eqb (bit (eqb (sector_by (sign (dot d b)) (sign (cross d b)) (sign (dot d a)) (sign (cross d a)) e) 1)) (sector_by (sign (dot d b)) (sign (cross d b)) (sign (dot d a)) (sign (cross d a)) e))
     (all4-out zero_one refl (sign (dot d b)) (sign (cross d b)) (sign (dot d a)) (sign (cross d a))) (sign (cross a b)) in

@@ -13,7 +13,7 @@ use Rattle.nesting.proofs.Turns.{next_there}
 use Rattle.winding.proofs.Members.{in-all, in-either, in-left, in-right, pairs-left, pairs-right}
 use Rattle.winding.proofs.Sums.{total, total-++, total-is}
 
-take : (y : Edge) (xs : List Edge) → In y xs → (a : List Edge) × (b : List Edge) × (xs ≡ a ++ (y ∷ b))
+pub take : {X : Type 0} (y : X) (xs : List X) → In y xs → (a : List X) × (b : List X) × (xs ≡ a ++ (y ∷ b))
 take y [] i = absurd i
 take y (x ∷ xs) (inl e) = ([], xs, ap (λ w. w ∷ xs) (sym e))
 take y (x ∷ xs) (inr i) = let r = take y xs i in (x ∷ r.0, r.1, ap (λ l. x ∷ l) r.2)

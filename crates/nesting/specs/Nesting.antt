@@ -3,7 +3,7 @@ use Rattle.std.specs.Prelude.{Bool, List, [], false, not, true, ℕ, ◌&&◌, �
 use Rattle.std.specs.List.{count_by}
 use Rattle.nesting.specs.Cover.{covers_edge}
 use Rattle.plane.specs.Edge.{Edge, same_edge}
-use Rattle.plane.specs.Height.{is_right_above, order_above}
+use Rattle.plane.specs.Height.{is_in_span, is_right_above, order_above}
 use Rattle.plane.specs.Sign.{is_plus}
 use Rattle.winding.specs.ConflictFree.{IsConflictFree}
 use Rattle.winding.specs.EdgeList.{IsEvenAtPoints}
@@ -65,3 +65,11 @@ pub record EnclosesDirectly (gs : List (List Edge)) (g h : List Edge) : Type 0 w
       (k : List Edge) → In k gs → IsOuterRing gs k → encloses k anchor ≡ true →
       (f : Edge) → In f k → is_right_above anchor.from anchor f ≡ true →
       (f ≡ edge) ⊎ (is_plus (order_above anchor.from edge f) ≡ true)
+
+-- e is an edge of the list at the height of the lower end of a, and a is the nearest edge right of it just above that height
+pub record IsNextLeft (a e : Edge) (es : List Edge) : Type 0 where
+  pub spans : is_in_span a.from e ≡ true
+  pub right : is_right_above a.from e a ≡ true
+  pub nearest :
+      (f : Edge) → In f es → is_right_above a.from e f ≡ true →
+      (f ≡ a) ⊎ (is_plus (order_above a.from a f) ≡ true)

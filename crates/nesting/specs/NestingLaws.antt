@@ -1,7 +1,7 @@
 -- Outer and inner rings, and which ring encloses which, as statements.
 use Rattle.std.specs.Prelude.{Bool, List, false, map, not, ◌&&◌, ◌+◌, ◌≡◌}
 use Rattle.std.specs.List.{count_by}
-use Rattle.nesting.specs.Nesting.{EnclosesDirectly, IsInnerRing, IsNest, TellsOuter, depth, edges_of, encloses, has_edge, is_outer}
+use Rattle.nesting.specs.Nesting.{EnclosesDirectly, IsInnerRing, IsNest, IsNextLeft, IsOuterRing, TellsOuter, depth, edges_of, encloses, has_edge, is_outer}
 use Rattle.nesting.specs.RingList.{IsRingList}
 use Rattle.plane.specs.Bit.{bit}
 use Rattle.plane.specs.Edge.{Edge, is_rising, segment_of}
@@ -61,3 +61,22 @@ DirectEncloserIsOne =
     IsInnerRing (map segments_of rs) (segments_of h) →
     EnclosesDirectly (map segments_of rs) (segments_of r) (segments_of h) →
     EnclosesDirectly (map segments_of rs) (segments_of s) (segments_of h) → r ≡ s
+
+-- the nearest edge left of the anchor of an inner ring: where its ring is outer, it directly encloses the inner one
+abbrev pub LeftNeighbourEncloses : Type 0
+LeftNeighbourEncloses =
+    (rs : List (List Edge)) → IsRingList rs → (h q : List Edge) → In h rs → In q rs →
+    IsInnerRing (map segments_of rs) (segments_of h) → IsOuterRing (map segments_of rs) (segments_of q) →
+    (a e : Edge) → IsAnchor a (segments_of h) → In e (segments_of q) →
+    IsNextLeft a e (edges_of (map segments_of rs)) →
+    EnclosesDirectly (map segments_of rs) (segments_of q) (segments_of h)
+
+-- where its ring is inner, what directly encloses that one directly encloses this one too
+abbrev pub LeftNeighbourIsEnclosedAlike : Type 0
+LeftNeighbourIsEnclosedAlike =
+    (rs : List (List Edge)) → IsRingList rs → (h q r : List Edge) → In h rs → In q rs → In r rs →
+    IsInnerRing (map segments_of rs) (segments_of h) → IsInnerRing (map segments_of rs) (segments_of q) →
+    (a e : Edge) → IsAnchor a (segments_of h) → In e (segments_of q) →
+    IsNextLeft a e (edges_of (map segments_of rs)) →
+    EnclosesDirectly (map segments_of rs) (segments_of r) (segments_of q) →
+    EnclosesDirectly (map segments_of rs) (segments_of r) (segments_of h)

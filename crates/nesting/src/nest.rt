@@ -1,5 +1,5 @@
 //! Which ring encloses which.
-ghost use Rattle.nesting.specs.NestingLaws.{RingListIsNest, RingHasAnchor, OuterRunsDown, OuterByDepth, EnclosesByAnchor, EnclosingRingsBalance, DirectEncloserExists, DirectEncloserIsOne};
+ghost use Rattle.nesting.specs.NestingLaws.{RingListIsNest, RingHasAnchor, OuterRunsDown, OuterByDepth, EnclosesByAnchor, EnclosingRingsBalance, DirectEncloserExists, DirectEncloserIsOne, LeftNeighbourEncloses, LeftNeighbourIsEnclosedAlike};
 
 /// The rings of a ring list are a nest, and each has exactly one anchor.
 pub fn ring_list_is_nest()
@@ -19,4 +19,11 @@ pub fn outer_by_depth()
 pub fn direct_encloser_is_one()
     ensures exists { DirectEncloserExists }
     ensures one { DirectEncloserIsOne }
+{}
+
+/// The nearest edge left of the anchor of an inner ring tells what directly encloses it: the ring of that edge where it is outer, else
+/// what directly encloses that ring.
+pub fn left_neighbour_tells_encloser()
+    ensures outer { LeftNeighbourEncloses }
+    ensures inner { LeftNeighbourIsEnclosedAlike }
 {}

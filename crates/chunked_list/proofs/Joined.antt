@@ -1,0 +1,117 @@
+-- Lists joined end to end, when one of them changes.
+use Rattle.std.proofs.Common.{arith, drop, insert, length, remove, List, [], ◌++◌, ◌+◌, ◌-◌, ◌∷◌, ◌<◌, ◌≡◌, ◌≤◌, suc, take, zero, ℕ}
+use Rattle.std.proofs.Math.ListN.{get_or, set}
+use Rattle.std.proofs.Math.Nat.{not-suc-le-zero}
+use Rattle.std.proofs.Math.Path.{ap, refl, sym, subst, ◌∙◌}
+use Rattle.std.specs.List.{flat_map}
+use Rattle.std.proofs.lemmas.List.{append_assoc, drop_more, get_or_default, set_split, take-append-drop}
+use Rattle.std.proofs.lemmas.List.Concat.{flat_map-append, get_or-flat_map}
+use Rattle.std.proofs.lemmas.List.Edits.{get_or-insert_below, insert-append_left, insert-append_right, remove-append_left, remove-append_right}
+
+pub item-at : {X C : Type 0} (f : C → List X) (cs : List C) (place i end : ℕ) (c : C) (x d : X) → i < length cs →
+    place + 1 ≡ length (flat_map f (take i cs)) + end → 0 < end → end ≤ length (f c) → c ≡ get_or cs i c →
+    x ≡ get_or (f c) (end - 1) x → x ≡ get_or (flat_map f cs) place d
+item-at f cs place i end c x d inside count some reach is read =
+    let at : place ≡ length (flat_map f (take i cs)) + (end - 1) = omega arith in
+    let short : end - 1 < length (f c) = omega arith in
+    let there : end - 1 < length (f (get_or cs i c)) = subst (λ y. end - 1 < length (f y)) is short in
+    let default : get_or (f c) (end - 1) x ≡ get_or (f c) (end - 1) d = get_or_default (f c) (end - 1) x d short in
+    read ∙ default ∙ ap (λ y. get_or (f y) (end - 1) d) is ∙ sym (get_or-flat_map f cs i (end - 1) c d inside there) ∙ ap (λ n. get_or (flat_map f cs) n d) (sym at)
+
+-- what stands before one of them, it, and what stands behind
+parts : {X C : Type 0} (f : C → List X) (cs : List C) (i : ℕ) (c : C) → i < length cs → c ≡ get_or cs i c →
+    flat_map f cs ≡ flat_map f (take i cs) ++ (f c ++ flat_map f (drop (suc i) cs))
+parts f cs i c inside is =
+    let next : i + 1 ≡ suc i = omega arith in
+    ap (flat_map f) (sym (take-append-drop i cs)) ∙ flat_map-append f (take i cs) (drop i cs)
+    ∙ ap (λ ds. flat_map f (take i cs) ++ flat_map f ds) (drop_more cs i c inside ∙ ap (λ n. get_or cs i c ∷ drop n cs) next ∙ ap (λ y. y ∷ drop (suc i) cs) (sym is))
+
+parts-set : {X C : Type 0} (f : C → List X) (cs : List C) (i : ℕ) (c : C) → i < length cs →
+    flat_map f (set cs i c) ≡ flat_map f (take i cs) ++ (f c ++ flat_map f (drop (suc i) cs))
+parts-set f cs i c inside = ap (flat_map f) (set_split cs i c inside) ∙ flat_map-append f (take i cs) (c ∷ drop (suc i) cs)
+
+pub same-set : {X C : Type 0} (f : C → List X) (cs : List C) (i : ℕ) (b c : C) → i < length cs → b ≡ get_or cs i b →
+    f c ≡ f b → flat_map f (set cs i c) ≡ flat_map f cs
+same-set f cs i b c inside is same =
+    parts-set f cs i c inside ∙ ap (λ xs. flat_map f (take i cs) ++ (xs ++ flat_map f (drop (suc i) cs))) same
+    ∙ sym (parts f cs i b inside is)
+
+pub insert-set : {X C : Type 0} (f : C → List X) (cs : List C) (place i at : ℕ) (b c : C) (x : X) → i < length cs →
+    b ≡ get_or cs i b → place ≡ length (flat_map f (take i cs)) + at → at ≤ length (f b) → f c ≡ insert (f b) at x →
+    flat_map f (set cs i c) ≡ insert (flat_map f cs) place x
+insert-set f cs place i at b c x inside is count reach new =
+    let front = flat_map f (take i cs) in
+    let back = flat_map f (drop (suc i) cs) in
+    let there : place - length front ≡ at = omega arith in
+    let within : insert (f b ++ back) at x ≡ insert (f b) at x ++ back = insert-append_left (f b) back at x reach in
+    let whole : insert (front ++ (f b ++ back)) place x ≡ front ++ insert (f b ++ back) (place - length front) x =
+    insert-append_right front (f b ++ back) (length front) place x refl (omega arith) in
+    parts-set f cs i c inside ∙ ap (λ xs. front ++ (xs ++ back)) new
+    ∙ sym (ap (λ xs. insert xs place x) (parts f cs i b inside is) ∙ whole ∙ ap (λ n. front ++ insert (f b ++ back) n x) there ∙ ap (λ xs. front ++ xs) within)
+
+pub remove-set : {X C : Type 0} (f : C → List X) (cs : List C) (place i at : ℕ) (b c : C) → i < length cs →
+    b ≡ get_or cs i b → place ≡ length (flat_map f (take i cs)) + at → at < length (f b) → f c ≡ remove (f b) at →
+    flat_map f (set cs i c) ≡ remove (flat_map f cs) place
+remove-set f cs place i at b c inside is count reach new =
+    let front = flat_map f (take i cs) in
+    let back = flat_map f (drop (suc i) cs) in
+    let there : place - length front ≡ at = omega arith in
+    let within : remove (f b ++ back) at ≡ remove (f b) at ++ back = remove-append_left (f b) back at reach in
+    let whole : remove (front ++ (f b ++ back)) place ≡ front ++ remove (f b ++ back) (place - length front) =
+    remove-append_right front (f b ++ back) (length front) place refl (omega arith) in
+    parts-set f cs i c inside ∙ ap (λ xs. front ++ (xs ++ back)) new
+    ∙ sym (ap (λ xs. remove xs place) (parts f cs i b inside is) ∙ whole ∙ ap (λ n. front ++ remove (f b ++ back) n) there ∙ ap (λ xs. front ++ xs) within)
+
+-- one of them in two
+pub same-parted : {X C : Type 0} (f : C → List X) (cs : List C) (i : ℕ) (b c u : C) → i < length cs → b ≡ get_or cs i b →
+    f b ≡ f c ++ f u → flat_map f (set (insert cs (suc i) u) i c) ≡ flat_map f cs
+same-parted f (d ∷ cs) zero b c u inside is parted =
+    sym (append_assoc (f c) (f u) (flat_map f cs)) ∙ ap (λ xs. xs ++ flat_map f cs) (sym parted ∙ ap f is)
+same-parted f (d ∷ cs) (suc i) b c u inside is parted = ap (λ xs. f d ++ xs) (same-parted f cs i b c u (omega arith) is parted)
+same-parted f [] zero b c u inside is parted = absurd (not-suc-le-zero inside)
+same-parted f [] (suc i) b c u inside is parted = absurd (not-suc-le-zero inside)
+
+-- the same where the place was looked for in a list that is this one
+pub insert-at : {X C : Type 0} (f : C → List X) (ds cs : List C) → ds ≡ cs → (place i at : ℕ) (b c : C) (x : X) → i < length ds →
+    place ≡ length (flat_map f (take i ds)) + at → ((d : C) → at ≤ length (f (get_or ds i d))) → b ≡ get_or cs i b → f c ≡ insert (f b) at x →
+    flat_map f (set cs i c) ≡ insert (flat_map f cs) place x
+insert-at f ds cs same place i at b c x inside count reach is new =
+    let in_cs : i < length cs = subst (λ xs. i < length xs) same inside in
+    let counted : place ≡ length (flat_map f (take i cs)) + at = subst (λ xs. place ≡ length (flat_map f (take i xs)) + at) same count in
+    let short : at ≤ length (f b) = subst (λ y. at ≤ length (f y)) (ap (λ xs. get_or xs i b) same ∙ sym is) (reach b) in
+    insert-set f cs place i at b c x in_cs is counted short new
+
+pub remove-at : {X C : Type 0} (f : C → List X) (ds cs : List C) → ds ≡ cs → (place i end : ℕ) (b c : C) → i < length ds →
+    place + 1 ≡ length (flat_map f (take i ds)) + end → 0 < end → ((d : C) → end ≤ length (f (get_or ds i d))) → b ≡ get_or cs i b → f c ≡ remove (f b) (end - 1) →
+    flat_map f (set cs i c) ≡ remove (flat_map f cs) place
+remove-at f ds cs same place i end b c inside count some reach is new =
+    let in_cs : i < length cs = subst (λ xs. i < length xs) same inside in
+    let counted : place + 1 ≡ length (flat_map f (take i cs)) + end = subst (λ xs. place + 1 ≡ length (flat_map f (take i xs)) + end) same count in
+    let short : end ≤ length (f b) = subst (λ y. end ≤ length (f y)) (ap (λ xs. get_or xs i b) same ∙ sym is) (reach b) in
+    remove-set f cs place i (end - 1) b c in_cs is (omega arith) (omega arith) new
+
+pub item-in : {X C : Type 0} (f : C → List X) (ds cs : List C) → ds ≡ cs → (place i end : ℕ) (c : C) (x d : X) → i < length ds →
+    place + 1 ≡ length (flat_map f (take i ds)) + end → 0 < end → ((e : C) → end ≤ length (f (get_or ds i e))) → c ≡ get_or cs i c →
+    x ≡ get_or (f c) (end - 1) x → x ≡ get_or (flat_map f cs) place d
+item-in f ds cs same place i end c x d inside count some reach is read =
+    let in_cs : i < length cs = subst (λ xs. i < length xs) same inside in
+    let counted : place + 1 ≡ length (flat_map f (take i cs)) + end = subst (λ xs. place + 1 ≡ length (flat_map f (take i xs)) + end) same count in
+    let short : end ≤ length (f c) = subst (λ y. end ≤ length (f y)) (ap (λ xs. get_or xs i c) same ∙ sym is) (reach c) in
+    item-at f cs place i end c x d in_cs counted some short is read
+
+-- the item in the middle goes over to a new list behind
+pub same-split : {X C : Type 0} (f : C → List X) (cs new : List C) (i half : ℕ) (b d c u : C) → i < length cs → new ≡ insert cs (i + 1) u →
+    b ≡ get_or cs i b → d ≡ get_or new i d → f c ≡ take half (f d) → f u ≡ drop half (f b) → flat_map f (set new i c) ≡ flat_map f cs
+same-split f cs new i half b d c u inside put is found lower upper =
+    let next : i + 1 ≡ suc i = omega arith in
+    let below : get_or (insert cs (i + 1) u) i d ≡ get_or cs i d = get_or-insert_below cs (i + 1) u d i (omega arith) (omega arith) in
+    let same : d ≡ b = found ∙ ap (λ xs. get_or xs i d) put ∙ below ∙ get_or_default cs i d b inside ∙ sym is in
+    let cut : f b ≡ f c ++ f u = sym (take-append-drop half (f b)) ∙ ap (λ xs. xs ++ drop half (f b)) (sym (lower ∙ ap (λ y. take half (f y)) same)) ∙ ap (λ xs. f c ++ xs) (sym upper) in
+    ap (λ xs. flat_map f (set xs i c)) (put ∙ ap (λ n. insert cs n u) next) ∙ same-parted f cs i b c u inside is cut
+
+-- one without items dropped
+pub same-dropped : {X C : Type 0} (f : C → List X) (cs : List C) (i : ℕ) (c : C) → i < length cs → c ≡ get_or cs i c → f c ≡ [] →
+    flat_map f (remove cs i) ≡ flat_map f cs
+same-dropped f cs i c inside is none =
+    flat_map-append f (take i cs) (drop (suc i) cs)
+    ∙ sym (parts f cs i c inside is ∙ ap (λ xs. flat_map f (take i cs) ++ (xs ++ flat_map f (drop (suc i) cs))) none)

@@ -1,0 +1,11 @@
+//! A long list that changes in its middle.
+//!
+//! It is held in chunks, so that an item put in or taken out moves the rest of a chunk, and not of the list.
+#![tactic(auto)]
+
+mod chunks;
+mod list;
+#[cfg(test)]
+mod tests;
+
+pub use list::ChunkedList;

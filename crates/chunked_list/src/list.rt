@@ -1,0 +1,226 @@
+ghost use Rattle.std.specs.Prelude.{◌≡◌, ◌==◌, ◌<◌, ◌≤◌, ◌-◌, List, [], false, filter, insert, length, remove, slice_index_or, true, OnErr, OnOk, Bool};
+ghost use Rattle.std.specs.List.{flat_map};
+ghost use Rattle.std.specs.List.Sorted.{IsPartitionedBy, IsPartitionPoint};
+ghost use Rattle.std.specs.Fn.{FnReturnsAt};
+
+use crate::chunks::{item, put_in, take_out};
+use std::alloc::{AllocError, Global};
+use std::marker::Model;
+
+/// A list of items.
+#[derive(Drop)]
+pub struct ChunkedList<T> {
+    alloc: Global,
+    chunks: Vec<Vec<T>>,
+    len: usize,
+}
+
+impl<T> Model for ChunkedList<T> {
+    ghost Value = { List T };
+
+    ghost view = { λ l. flat_map (λ c. c.items) l.chunks.items };
+
+    ghost invariant = { λ l. length (flat_map (λ c. c.items) l.chunks.items) ≡ l.len };
+}
+
+impl<T: Copy> ChunkedList<T> {
+    /// A list without items.
+    pub fn new(alloc: Global) -> Self
+        ensures { result ≡ [] }
+    {
+        ChunkedList {
+            alloc,
+            chunks: Vec::new(alloc),
+            len: 0,
+        }
+    }
+
+    /// How many items it has.
+    pub fn len(&self) -> usize
+        ensures { result ≡ length self.now }
+    {
+        self.len
+    }
+
+    /// Whether it has none.
+    pub fn is_empty(&self) -> bool
+        ensures { result ≡ (length self.now == 0) }
+    {
+        self.len == 0
+    }
+
+    /// The item at a place.
+    pub fn get(&self, place: usize) -> T
+        requires { place < length self.now }
+        ensures { (d : T) → result ≡ slice_index_or self.now place d }
+    {
+        let inside = place < self.len;
+        prove!(inside);
+        item(&self.chunks, place)
+    }
+
+    /// Puts an item in before the one at a place, or at the end. The error is out of memory.
+    pub fn insert(&mut self, place: usize, item: T) -> Result<(), AllocError>
+        requires { place ≤ length self.old }
+        ensures inserted { OnOk result (self.new ≡ insert self.old place item) }
+        ensures unchanged { OnErr result (self.new ≡ self.old) }
+    {
+        let Some(len) = self.len.checked_add(1) else {
+            return Err(AllocError);
+        };
+        match put_in(self.alloc, &mut self.chunks, place, item) {
+            Ok(()) => {
+                self.len = len;
+                Ok(())
+            }
+            Err(error) => Err(error),
+        }
+    }
+
+    /// Takes the item at a place out.
+    pub fn remove(&mut self, place: usize) -> T
+        requires { place < length self.old }
+        ensures item { result ≡ slice_index_or self.old place result }
+        ensures removed { self.new ≡ remove self.old place }
+    {
+        self.len -= 1;
+        take_out(&mut self.chunks, place)
+    }
+
+    /// Where the items that pass a test end, if those that pass it stand before those that don't.
+    pub fn partition_point<F: Fn(&T) -> bool>(&self, test: F) -> usize
+        requires { F.IsAlwaysCallable test }
+        ensures within { result ≤ length self.now }
+        ensures point { (p : T → Bool) → ((x : T) (told : Bool) → FnReturnsAt F.Fn test x told → told ≡ p x) → IsPartitionedBy p self.now → IsPartitionPoint (λ x. p x ≡ true) (λ x. p x ≡ false) self.now result }
+    {
+        let guess = self.guess(&test);
+        if self.passes_before(&test, guess) && self.fails_from(&test, guess) {
+            return guess;
+        }
+        let mut low = 0;
+        let mut high = self.len;
+        while low < high {
+            let middle = low + (high - low) / 2;
+            if passes(&test, &self.get(middle)) {
+                low = middle + 1;
+            } else {
+                high = middle;
+            }
+        }
+        low
+    }
+
+    // Where the items that pass seem to end, by the first items of chunks and then within one. Only speed rests on it.
+    fn guess<F: Fn(&T) -> bool>(&self, test: &F) -> usize
+        requires { F.IsAlwaysCallable test.now }
+        ensures { result ≤ length self.now }
+    {
+        let next = chunks_begun(&self.chunks, test);
+        let mut place: usize = 0;
+        for chunk in &self.chunks[..next.saturating_sub(1)] {
+            place = place.saturating_add(chunk.len());
+        }
+        if next > 0 {
+            place = place.saturating_add(point_in(&self.chunks[next - 1], test));
+        }
+        place.min(self.len)
+    }
+
+    // Whether the item at a place passes.
+    fn passes_at<F: Fn(&T) -> bool>(&self, test: &F, place: usize) -> bool
+        requires inside { place < length self.now }
+        requires test { F.IsAlwaysCallable test.now }
+        ensures { (p : T → Bool) → ((x : T) (told : Bool) → FnReturnsAt F.Fn test.now x told → told ≡ p x) → (d : T) → result ≡ p (slice_index_or self.now place d) }
+    {
+        passes(test, &self.get(place))
+    }
+
+    // Whether the item before a place passes, if there is one.
+    fn passes_before<F: Fn(&T) -> bool>(&self, test: &F, place: usize) -> bool
+        requires within { place ≤ length self.now }
+        requires test { F.IsAlwaysCallable test.now }
+        ensures { result ≡ true → (p : T → Bool) → ((x : T) (told : Bool) → FnReturnsAt F.Fn test.now x told → told ≡ p x) → (d : T) → 0 < place → p (slice_index_or self.now (place - 1) d) ≡ true }
+    {
+        if place == 0 {
+            return true;
+        }
+        self.passes_at(test, place - 1)
+    }
+
+    // Whether the item at a place doesn't pass, if there is one.
+    fn fails_from<F: Fn(&T) -> bool>(&self, test: &F, place: usize) -> bool
+        requires { F.IsAlwaysCallable test.now }
+        ensures { result ≡ true → (p : T → Bool) → ((x : T) (told : Bool) → FnReturnsAt F.Fn test.now x told → told ≡ p x) → (d : T) → place < length self.now → p (slice_index_or self.now place d) ≡ false }
+    {
+        if place >= self.len {
+            return true;
+        }
+        !self.passes_at(test, place)
+    }
+
+    /// Takes out the items that don't pass a test.
+    pub fn retain<F: Fn(&T) -> bool>(&mut self, test: F)
+        requires { F.IsAlwaysCallable test }
+        ensures { (p : T → Bool) → ((x : T) (told : Bool) → FnReturnsAt F.Fn test x told → told ≡ p x) → self.new ≡ filter p self.old }
+    {
+        let mut place = 0;
+        while place < self.len {
+            if passes(&test, &self.get(place)) {
+                place += 1;
+            } else {
+                self.remove(place);
+            }
+        }
+    }
+}
+
+// How many chunks begin with an item that passes, if these stand first.
+fn chunks_begun<T, F: Fn(&T) -> bool>(chunks: &[Vec<T>], test: &F) -> usize
+    requires { F.IsAlwaysCallable test.now }
+    ensures { result ≤ length chunks.now }
+{
+    let mut low = 0;
+    let mut high = chunks.len();
+    while low < high {
+        let middle = low + (high - low) / 2;
+        if first_passes(&chunks[middle], test) {
+            low = middle + 1;
+        } else {
+            high = middle;
+        }
+    }
+    low
+}
+
+fn first_passes<T, F: Fn(&T) -> bool>(chunk: &[T], test: &F) -> bool
+    requires { F.IsAlwaysCallable test.now }
+{
+    match chunk.first() {
+        Some(item) => passes(test, item),
+        None => true,
+    }
+}
+
+// Where the items that pass end, if these stand first.
+fn point_in<T, F: Fn(&T) -> bool>(items: &[T], test: &F) -> usize
+    requires { F.IsAlwaysCallable test.now }
+{
+    let mut low = 0;
+    let mut high = items.len();
+    while low < high {
+        let middle = low + (high - low) / 2;
+        if passes(test, &items[middle]) {
+            low = middle + 1;
+        } else {
+            high = middle;
+        }
+    }
+    low
+}
+
+fn passes<T, F: Fn(&T) -> bool>(test: &F, item: &T) -> bool
+    requires { F.IsAlwaysCallable test.now }
+    ensures { FnReturnsAt F.Fn test.now item.now result }
+{
+    test(item)
+}

@@ -1,0 +1,11 @@
+pub mod Above
+pub mod AlongLine
+pub mod Balance
+pub mod Clears
+pub mod Counts
+pub mod Halves
+pub mod Means
+pub mod Plain
+pub mod ScaledHalves
+pub mod ScaledSides
+pub mod Sides

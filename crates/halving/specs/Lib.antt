@@ -1,0 +1,3 @@
+pub mod Half
+pub mod HalfLaws
+pub mod Line
