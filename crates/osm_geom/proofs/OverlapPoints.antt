@@ -101,7 +101,7 @@ same_location_by p q x y x' y' at_p at_q ex ey =
     same_location p q x' y' (subst (λ y. IsAt p x' y) ey (subst (λ x. IsAt p x y) ex at_p)) at_q
 
 -- ---- the ends of the shared part
-record AreOverlapping (s t : Seg) : Type 0 where
+pub record AreOverlapping (s t : Seg) : Type 0 where
   pub first_on : orient (vector_of s.a) (vector_of s.b) (vector_of t.a) ≡ Null
   pub second_on : orient (vector_of s.a) (vector_of s.b) (vector_of t.b) ≡ Null
   pub first_on_back : orient (vector_of t.a) (vector_of t.b) (vector_of s.a) ≡ Null
@@ -130,6 +130,10 @@ overlapping_is s t h =
       begins = is_plus-true (order a d) ends.0;
       begins_back = is_plus-true (order c b) ends.1;
     }
+
+pub overlapping_where : (s t : Seg) → conflict_of s t ≡ Some Overlap → AreOverlapping s t
+unfolding are_overlapping
+overlapping_where s t h = overlapping_is s t (where_overlapping s t h)
 
 turned_order : (p q : Loc) (o : Sign) → order_of p q ≡ o → order_of q p ≡ negated o
 turned_order p q o h = order-reversed (vector_of p) (vector_of q) ∙ ap negated h
@@ -203,9 +207,8 @@ many_at s t p q p_on_s p_on_t q_on_s q_on_t before =
     }
 
 pub overlap_has_many : (s t : Seg) → conflict_of s t ≡ Some Overlap → ManyPoints s t
-unfolding are_overlapping
 overlap_has_many s t h =
-    let i = overlapping_is s t (where_overlapping s t h) in
+    let i = overlapping_where s t h in
     let low = low_by s t (order_of s.a t.a) refl i in
     let high = high_by s t (order_of s.b t.b) refl i in
     many_at s t low.low high.high low.on_first low.on_second high.on_first high.on_second (high.after_both low.low low.before_first low.before_second)

@@ -37,15 +37,12 @@ between a b c d ac ad bc bd =
     one_of (λ p. loc_cmp p (ord_min loc_cmp c d) ≡ Less) (is_lt (loc_cmp b a)) a b (low a ac ad) (low b bc bd)
 
 -- each begins before the other ends
-begin_in_time : (s t : Seg) → conflict_of s t ≡ Some Overlap → (loc_cmp s.a t.b ≡ Less) × (loc_cmp t.a s.b ≡ Less)
+pub begin_in_time : (s t : Seg) → conflict_of s t ≡ Some Overlap → (loc_cmp s.a t.b ≡ Less) × (loc_cmp t.a s.b ≡ Less)
 unfolding are_overlapping
 begin_in_time s t h =
     let parts = and-out (is_along (edge_of s) (edge_of t) && is_along (edge_of t) (edge_of s)) _ (where_overlapping s t h) in
     let ends = and-out (is_plus (order (vector_of s.a) (vector_of t.b))) (is_plus (order (vector_of t.a) (vector_of s.b))) parts.1 in
     (before_less s.a t.b ends.0, before_less t.a s.b ends.1)
-
-pub begins_before : (s t : Seg) → conflict_of s t ≡ Some Overlap → loc_cmp t.a s.b ≡ Less
-begins_before s t h = (begin_in_time s t h).1
 
 pub shared_rising : (s t : Seg) → conflict_of s t ≡ Some Overlap → loc_cmp (ord_max loc_cmp s.a t.a) (ord_min loc_cmp s.b t.b) ≡ Less
 shared_rising s t h =

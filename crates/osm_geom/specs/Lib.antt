@@ -16,6 +16,7 @@ pub mod Point
 pub mod Carrier
 pub mod Edge
 pub mod Steps
+pub mod Cut
 pub mod Dir
 pub mod Span
 pub mod JustAbove

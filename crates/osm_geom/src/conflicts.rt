@@ -8,7 +8,7 @@ use crate::orientation::orient;
 use crate::seg::Seg;
 
 /// How two segments conflict.
-#[derive(Clone, Copy, Debug, PartialEq, Eq)]
+#[derive(Clone, Copy, Debug, PartialEq, Eq, PartialOrd, Ord)]
 pub enum Kind {
     /// They share one point that is not an end of both.
     Crossing,

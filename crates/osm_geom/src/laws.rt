@@ -1,5 +1,5 @@
 //! Laws of orders, of conflicts and of meeting points. Each function has an empty body; its contract is the law.
-ghost use Rattle.osm_geom.specs.ConflictLaws.{ConflictIsSymmetric, SegmentsApartAreClear};
+ghost use Rattle.osm_geom.specs.ConflictLaws.{ConflictIsSymmetric, SegmentsApartAreClear, SegmentsPartedAreClear};
 ghost use Rattle.osm_geom.specs.ConflictPoints.{CrossingHasOnePoint, OverlapHasManyPoints, ClearSegmentsMeetAtEnds};
 ghost use Rattle.osm_geom.specs.MeetingLaws.{CrossingSegmentsMeet};
 ghost use Rattle.osm_geom.specs.OrderLaws.{LocationOrderIsPointOrder, LocationOrderTellsApart, SegmentOrderTellsApart};
@@ -39,9 +39,10 @@ pub fn conflicts_are_symmetric()
     ensures { ConflictIsSymmetric }
 {}
 
-/// Segments of which one begins above the other don't conflict.
+/// Segments of which one begins above the other don't conflict, nor do those that any line parts.
 pub fn segments_apart_are_clear()
-    ensures { SegmentsApartAreClear }
+    ensures heights { SegmentsApartAreClear }
+    ensures lines { SegmentsPartedAreClear }
 {}
 
 /// Two segments that cross have a point in common: the one that `meeting` gives is a value, whether it is called or not.

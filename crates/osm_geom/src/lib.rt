@@ -2,6 +2,7 @@
 #![tactic(auto)]
 
 mod conflicts;
+mod cut;
 mod dir;
 mod edge;
 mod edge_dir;
@@ -26,6 +27,7 @@ mod tests;
 mod turning;
 
 pub use conflicts::{Kind, conflict};
+pub use cut::{Axis, Cut, Side, compare_to_cut, cut_point};
 pub use dir::Dir;
 pub use edge::{Carrier, Edge};
 pub use edge_lists::{Edges, Points};

@@ -12,10 +12,10 @@ use crate::seg::Seg;
 
 // How far along a segment one of its points lies: `above / den` of the way.
 #[derive(Clone, Copy)]
-struct Share {
-    above: u64,
-    den: u64,
-    ghost is_share: { IsShare above den },
+pub(crate) struct Share {
+    pub above: u64,
+    pub den: u64,
+    pub ghost is_share: { IsShare above den },
 }
 
 #[tactic(auto, unfolding(crate::specs::Meeting::slant, crate::specs::Loc::step))]
@@ -45,7 +45,7 @@ fn share_of(s: Seg, t: Seg) -> Share
 }
 
 // The number that lies so far from `start` to `end`, times `at.den`.
-fn between(start: i32, end: i32, at: Share) -> i128
+pub(crate) fn between(start: i32, end: i32, at: Share) -> i128
     requires start_in { unsigned_abs start ≤ 1_800_000_000 }
     requires end_in { unsigned_abs end ≤ 1_800_000_000 }
     ensures value { result ≡ start *ℤ pos (at.den - at.above) +ℤ end *ℤ pos at.above }
@@ -55,14 +55,14 @@ fn between(start: i32, end: i32, at: Share) -> i128
     i128::from(start) * i128::from(rest) + i128::from(end) * i128::from(at.above)
 }
 
-fn x_at(s: Seg, at: Share) -> Frac
+pub(crate) fn x_at(s: Seg, at: Share) -> Frac
     ensures value { result.num *ℤ pos at.den ≡ (s.a.x *ℤ pos (at.den - at.above) +ℤ s.b.x *ℤ pos at.above) *ℤ pos result.den }
     ensures small { unsigned_abs result.num < 2 ^ 98 }
 {
     Frac::new(between(s.a.x, s.b.x, at), at.den)
 }
 
-fn y_at(s: Seg, at: Share) -> Frac
+pub(crate) fn y_at(s: Seg, at: Share) -> Frac
     ensures value { result.num *ℤ pos at.den ≡ (s.a.y *ℤ pos (at.den - at.above) +ℤ s.b.y *ℤ pos at.above) *ℤ pos result.den }
     ensures small { unsigned_abs result.num < 2 ^ 98 }
 {

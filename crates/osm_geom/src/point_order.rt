@@ -8,7 +8,7 @@ use crate::point::Point;
 use crate::ratio::Ratio;
 use std::cmp::Ordering;
 
-fn x_ratio(p: Point) -> Ratio
+pub(crate) fn x_ratio(p: Point) -> Ratio
     ensures { fraction_of result ≡ x_of p }
 {
     match p {
@@ -18,7 +18,7 @@ fn x_ratio(p: Point) -> Ratio
     }
 }
 
-fn y_ratio(p: Point) -> Ratio
+pub(crate) fn y_ratio(p: Point) -> Ratio
     ensures { fraction_of result ≡ y_of p }
 {
     match p {

@@ -1,3 +1,12 @@
 pub mod RisingPairs
 pub mod CountLemmas
-pub mod NearSegments
+pub mod LaterSegments
+pub mod CellPairs
+pub mod FoundPairs
+pub mod EdgePairs
+pub mod EdgeMeetings
+pub mod EdgeOrders
+pub mod SweptLists
+pub mod TiltedEdges
+pub mod SegmentTests
+pub mod Sweeps

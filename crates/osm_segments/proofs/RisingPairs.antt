@@ -1,11 +1,10 @@
 -- The conflicts among segments in strict order are in strict order.
-use Rattle.std.proofs.Common.{◌≡◌, suc, ◌<◌, List, [], ◌∷◌, ◌++◌, length, get_or, All, Option, Some, None, option_map, refl, sym, ap, ◌∙◌, subst, arith}
+use Rattle.std.proofs.Common.{◌≡◌, suc, List, [], ◌∷◌, ◌++◌, get_or, All, Option, Some, None, option_map, refl, sym, ap, ◌∙◌, subst, arith}
 use Rattle.std.specs.declared.cmp.Ordering.{Ordering}
 use Rattle.std.specs.declared.cmp.Ordering.TheVariants.{Less, Equal}
 use Rattle.std.specs.Ordering.{ordering_then}
 use Rattle.std.specs.List.{filter_map, cons_option}
 use Rattle.std.proofs.lemmas.Cmp.{tied_itself}
-use Rattle.std.proofs.lemmas.List.{append-nil}
 use Rattle.std.proofs.lemmas.List.Elements.{All-append, All-cons}
 use Rattle.std.proofs.lemmas.List.Kept.{AllPairs-cons}
 use Rattle.osm_geom.specs.declared.conflicts.Kind.{Kind}
@@ -105,8 +104,3 @@ pub conflicts_rising : (segs : List Seg) → IsRising seg_cmp segs → IsRising 
 conflicts_rising [] rising = λ i j d h l. absurd (omega arith)
 conflicts_rising (s ∷ ts) rising =
     rising_pairs s (conflicts_of ts) (all_firsts (λ t. seg_cmp s t ≡ Less) ts (head_rising s ts rising)) (conflicts_rising ts (tail_rising s ts rising)) ts (tail_rising s ts rising)
-
--- where no segment is left, all conflicts have been found
-pub all_found : (found : List Pair) (left : List Seg) (all : List Pair) → length left < 1 → found ++ conflicts_of left ≡ all → found ≡ all
-all_found found [] all h e = sym (append-nil found) ∙ e
-all_found found (s ∷ ss) all h e = absurd (omega arith)

@@ -1,3 +1,6 @@
 pub mod Counts
 pub mod Repeats
 pub mod Pairs
+pub mod Tilted
+pub mod Sweep
+pub mod Cells

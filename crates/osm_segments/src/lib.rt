@@ -2,7 +2,9 @@
 //! repeatedly, which conflict, and at which locations an odd number of them end.
 #![tactic(auto)]
 
+mod clear;
 mod counts;
+mod division;
 mod pairs;
 #[cfg(test)]
 mod tests;

@@ -1,18 +1,26 @@
-ghost use Rattle.std.specs.Prelude.{◌≡◌, ◌++◌, IfOk, OnOk};
+ghost use Rattle.std.specs.Prelude.{◌≡◌, ◌++◌, [], IfOk, OnOk, true};
 ghost use Rattle.std.specs.List.{filter_map};
 ghost use Rattle.osm_geom.specs.Seg.{seg_cmp};
 ghost use Rattle.osm_lists.specs.Rising.{IsRising};
 ghost use Rattle.osm_segments.specs.Pairs.{pair_of, conflicts_of, pair_cmp};
 
-use osm_geom::{Kind, Seg, conflict, segments_apart_are_clear};
+use crate::clear::is_clear;
+use crate::division::add_conflicts;
+use osm_geom::{Kind, Seg, conflict};
+use osm_lists::{counts_determine, distinct_items};
 use std::alloc::{AllocError, Global};
 
+/// How often a list of segments is divided in a row.
+const DEPTH: u32 = 64;
+
 /// Two segments that conflict, the lesser first, and how.
-#[derive(Clone, Copy, Debug, PartialEq, Eq)]
+///
+/// Pairs are ordered by the first segment, then by the second.
+#[derive(Clone, Copy, Debug, PartialEq, Eq, PartialOrd, Ord)]
 pub struct Pair {
-    pub kind: Kind,
     pub first: Seg,
     pub second: Seg,
+    pub kind: Kind,
 }
 
 // Two segments, if they conflict.
@@ -22,22 +30,12 @@ fn pair_of(first: Seg, second: Seg) -> Option<Pair>
 {
     match conflict(first, second) {
         Some(kind) => Some(Pair {
-            kind,
             first,
             second,
+            kind,
         }),
         None => None,
     }
-}
-
-// Those of `rest`, in order, that begin no higher than `first` ends: only these can conflict with it.
-fn near(first: Seg, rest: &[Seg]) -> &[Seg]
-    requires { IsRising seg_cmp rest.now }
-    ensures { filter_map (pair_of first) result.now ≡ filter_map (pair_of first) rest.now }
-{
-    segments_apart_are_clear();
-    let end = rest.partition_point(|second| second.a.y <= first.b.y);
-    &rest[..end]
 }
 
 // Adds each of `rest` that conflicts with `first`.
@@ -52,19 +50,45 @@ fn push_conflicts(pairs: &mut Vec<Pair>, first: Seg, rest: &[Seg]) -> Result<(),
     Ok(())
 }
 
+/// Adds each conflict, each segment being tried with all later ones.
+pub fn push_all_pairs(pairs: &mut Vec<Pair>, segs: &[Seg]) -> Result<(), AllocError>
+    ensures { OnOk result (pairs.new.items ≡ pairs.old.items ++ conflicts_of segs.now) }
+{
+    let mut rest = segs;
+    while let [first, later @ ..] = rest {
+        push_conflicts(pairs, *first, later)?;
+        rest = later;
+    }
+    Ok(())
+}
+
+/// A list of so few segments isn't swept: all its pairs are tried sooner.
+const FEW: usize = 10;
+
+// Whether a sweep finds the segments free of conflicts.
+fn is_swept_clear(alloc: Global, segs: &[Seg]) -> Result<bool, AllocError>
+    requires { IsRising seg_cmp segs.now }
+    ensures { IfOk result (λ clear. clear ≡ true → conflicts_of segs.now ≡ []) }
+{
+    if segs.len() <= FEW {
+        return Ok(false);
+    }
+    is_clear(alloc, segs)
+}
+
 /// All conflicting pairs among segments in strict order: by the first segment, then by the second.
 ///
-/// Each segment is tried with the later ones that begin no higher than it ends.
+/// One sweep finds most long lists free of them; only where it doesn't is the list divided.
 pub fn conflicts(alloc: Global, segs: &[Seg]) -> Result<Vec<Pair>, AllocError>
     requires { IsRising seg_cmp segs.now }
     ensures whole { IfOk result (λ v. v.items ≡ conflicts_of segs.now) }
     ensures rising { IfOk result (λ v. IsRising pair_cmp v.items) }
 {
-    let mut pairs = Vec::new(alloc);
-    let mut rest = segs;
-    while let [first, later @ ..] = rest {
-        push_conflicts(&mut pairs, *first, near(*first, later))?;
-        rest = later;
+    if is_swept_clear(alloc, segs)? {
+        return Ok(Vec::new(alloc));
     }
-    Ok(pairs)
+    let mut pairs = Vec::new(alloc);
+    add_conflicts(alloc, &mut pairs, segs, DEPTH)?;
+    counts_determine::<Pair>();
+    distinct_items(alloc, &pairs)
 }

@@ -151,6 +151,18 @@ fn conflicts_of_survivors(rt: HostRuntime) -> Result<(), Fail> {
             "",
             "",
         ),
+        (
+            "sweep window",
+            "10,0 10,2 / 20,0 20,1 / 0,1 100,1 / 50,1 60,1 / 100,1 100,3 / 30,2 30,4",
+            "10,0 10,2 / 0,1 100,1 / 20,0 20,1 / 0,1 100,1 / 0,1 100,1 / 50,1 60,1",
+            "x x o",
+        ),
+        (
+            "a node with segments from below and above",
+            "0,0 5,5 10,0 / 2,9 5,5 9,9 / 5,0 5,5 5,9 / 4,1 6,1",
+            "5,0 5,5 / 4,1 6,1",
+            "x",
+        ),
     ];
     for (name, lines, pairs, kinds) in rows {
         assert_eq!(rt;
@@ -159,5 +171,156 @@ fn conflicts_of_survivors(rt: HostRuntime) -> Result<(), Fail> {
             "{name}"
         );
     }
+    Ok(())
+}
+
+fn seg(ax: i64, ay: i64, bx: i64, by: i64) -> Result<Seg, Fail> {
+    Seg::new(loc(ax, ay)?, loc(bx, by)?).ok_or_else(|| Fail::new("one location"))
+}
+
+/// Two segments that conflict, whichever is the lesser.
+fn pair(kind: Kind, s: Seg, t: Seg) -> Pair {
+    Pair {
+        kind,
+        first: s.min(t),
+        second: s.max(t),
+    }
+}
+
+/// The conflicts among segments in any order.
+fn conflicts_among(alloc: Global, segs: &[Seg]) -> Result<Vec<Pair>, Fail> {
+    Ok(conflicts(alloc, &distinct(alloc, segs)?)?)
+}
+
+/// A segment, given from the foot of a post 4 high, and how it conflicts with the post.
+#[derive(Clone, Copy)]
+struct Beside {
+    from: (i32, i32),
+    to: (i32, i32),
+    kind: Option<Kind>,
+}
+
+/// A hundred posts at every tenth x, each with a segment beside it, and far from them two segments that cross.
+fn posts(alloc: Global, beside: Beside) -> Result<(Vec<Seg>, Vec<Pair>), Fail> {
+    let (first, second) = (seg(-30, 0, -20, 4)?, seg(-20, 0, -30, 4)?);
+    let mut segs = Vec::new(alloc);
+    let mut pairs = Vec::new(alloc);
+    segs.push(first)?;
+    segs.push(second)?;
+    pairs.push(pair(Kind::Crossing, first, second))?;
+    for i in 0..100u32 {
+        let x = 10 * i64::from(i);
+        let post = seg(x, 0, x, 4)?;
+        let (from, to) = (beside.from, beside.to);
+        let other = seg(
+            x.saturating_add(i64::from(from.0)),
+            i64::from(from.1),
+            x.saturating_add(i64::from(to.0)),
+            i64::from(to.1),
+        )?;
+        segs.push(post)?;
+        segs.push(other)?;
+        if let Some(kind) = beside.kind {
+            pairs.push(pair(kind, post, other))?;
+        }
+    }
+    Ok((segs, pairs))
+}
+
+#[test]
+fn conflicts_wherever_a_list_is_divided(rt: HostRuntime) -> Result<(), Fail> {
+    let alloc = rt.alloc();
+    let (crossing, overlap) = (Some(Kind::Crossing), Some(Kind::Overlap));
+    let rows = [
+        ("crosses", (-1, 2), (1, 2), crossing),
+        ("passes the foot", (-1, 0), (1, 0), crossing),
+        ("passes the top", (-1, 4), (1, 4), crossing),
+        ("begins inside", (0, 2), (3, 3), crossing),
+        ("ends inside", (-3, 1), (0, 2), crossing),
+        ("lies inside", (0, 1), (0, 3), overlap),
+        ("reaches beyond", (0, 3), (0, 5), overlap),
+        ("begins at the foot", (0, 0), (3, 1), None),
+        ("ends at the top", (-3, 1), (0, 4), None),
+        ("goes on above", (0, 4), (0, 6), None),
+        ("stands beside", (1, 0), (1, 4), None),
+    ];
+    for (name, from, to, kind) in rows {
+        let (segs, pairs) = posts(alloc, Beside { from, to, kind })?;
+        assert_eq!(rt;
+            conflicts_among(alloc, &segs)?.as_slice(),
+            pairs.as_slice(),
+            "{name}"
+        );
+    }
+    Ok(())
+}
+
+#[test]
+fn conflicts_across_all_parts_are_listed_once(rt: HostRuntime) -> Result<(), Fail> {
+    let alloc = rt.alloc();
+    // Two upright lines overlap, and each crosses a hundred steps.
+    let lines = [seg(3, -5, 3, 995)?, seg(3, -4, 3, 996)?];
+    let mut segs = Vec::from_slice(alloc, &lines)?;
+    let mut pairs = Vec::new(alloc);
+    pairs.push(pair(Kind::Overlap, lines[0], lines[1]))?;
+    for line in lines {
+        for i in 0..100u32 {
+            let y = 10 * i64::from(i);
+            let step = seg(0, y, 4, y)?;
+            segs.push(step)?;
+            pairs.push(pair(Kind::Crossing, line, step))?;
+        }
+    }
+    assert_eq!(rt; conflicts_among(alloc, &segs)?.as_slice(), pairs.as_slice());
+    Ok(())
+}
+
+#[test]
+fn three_crossings_in_a_comb(rt: HostRuntime) -> Result<(), Fail> {
+    let alloc = rt.alloc();
+    // Slanted teeth four apart; a short bar crosses the first, the middle and the last of them.
+    let mut segs = Vec::new(alloc);
+    let mut pairs = Vec::new(alloc);
+    for i in 0..1000u32 {
+        let x = 4 * i64::from(i);
+        let tooth = seg(x, 0, x + 9000, 9000)?;
+        segs.push(tooth)?;
+        if i == 0 || i == 500 || i == 999 {
+            let bar = seg(x + 99, 100, x + 101, 100)?;
+            segs.push(bar)?;
+            pairs.push(pair(Kind::Crossing, tooth, bar))?;
+        }
+    }
+    assert_eq!(rt; conflicts_among(alloc, &segs)?.as_slice(), pairs.as_slice());
+    Ok(())
+}
+
+#[test]
+fn many_segments_meet_in_one_node(rt: HostRuntime) -> Result<(), Fail> {
+    let alloc = rt.alloc();
+    // A hundred from below and a hundred from above, and beside the node two that cross.
+    let (first, second) = (seg(-9, -9, -5, -5)?, seg(-5, -9, -9, -5)?);
+    let mut segs = Vec::from_slice(alloc, &[first, second])?;
+    for i in 0..100u32 {
+        segs.push(seg(i64::from(i), -1000, 0, 0)?)?;
+        segs.push(seg(0, 0, i64::from(i), 999)?)?;
+    }
+    let pairs = [pair(Kind::Crossing, first, second)];
+    assert_eq!(rt; conflicts_among(alloc, &segs)?.as_slice(), pairs.as_slice());
+    Ok(())
+}
+
+#[test]
+fn one_conflict_among_a_million(rt: HostRuntime) -> Result<(), Fail> {
+    let alloc = rt.alloc();
+    let mut segs = Vec::with_capacity(alloc, 1_000_001)?;
+    for i in 0..1_000_000u32 {
+        let x = 2 * i64::from(i);
+        segs.push(seg(x, 0, x, 1)?)?;
+    }
+    let last = seg(-1, 1, 1, 1)?;
+    segs.push(last)?;
+    let pairs = [pair(Kind::Crossing, seg(0, 0, 0, 1)?, last)];
+    assert_eq!(rt; conflicts_among(alloc, &segs)?.as_slice(), pairs.as_slice());
     Ok(())
 }

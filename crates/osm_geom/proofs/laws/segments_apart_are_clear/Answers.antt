@@ -1,5 +1,5 @@
-use Rattle.osm_geom.proofs.ApartSegments.{apart_clear}
+use Rattle.osm_geom.proofs.ApartSegments.{apart_clear, parted_clear}
 use Rattle.osm_geom.proofs.laws.segments_apart_are_clear.Goals as goal
 
 pub returns : goal.returns
-returns c = apart_clear
+returns c = record { heights = apart_clear; lines = parted_clear }

@@ -1,0 +1,42 @@
+-- Cut lines: where points stand against them.
+use Rattle.std.specs.Prelude.{pos, ◌*ℤ◌, ◌-ℤ◌}
+use Rattle.plane.specs.Sign.{Sign, negated, sign}
+use Rattle.osm_geom.specs.declared.cut.Axis.{Axis}
+use Rattle.osm_geom.specs.declared.cut.Axis.TheVariants.{X, Y}
+use Rattle.osm_geom.specs.declared.cut.Cut.{Cut}
+use Rattle.osm_geom.specs.declared.cut.Side.{Side}
+use Rattle.osm_geom.specs.declared.cut.Side.TheVariants.{Low, High}
+use Rattle.osm_geom.specs.declared.edge.Carrier.{Carrier}
+use Rattle.osm_geom.specs.declared.edge.Carrier.TheVariants.{Vertical, Horizontal}
+use Rattle.osm_geom.specs.declared.frac.Frac.{Frac}
+use Rattle.osm_geom.specs.declared.point.Point.{Point}
+use Rattle.osm_geom.specs.Point.{Fraction, x_of, y_of}
+
+-- a number as a coordinate
+abbrev pub fraction : Frac → Fraction
+fraction f = record { num = f.num; den = f.den }
+
+-- the coordinate of p on an axis
+abbrev pub coordinate_of : Axis → Point → Fraction
+coordinate_of X p = x_of p
+coordinate_of Y p = y_of p
+
+-- Plus where the line comes after p, Null where p is on it, Minus where the line comes before p
+abbrev pub cut_order : Cut → Point → Sign
+cut_order cut p = sign (cut.at *ℤ pos (coordinate_of cut.axis p).den -ℤ (coordinate_of cut.axis p).num)
+
+-- Plus where p is strictly on the side, Null where it is on the line, Minus where it is strictly on the other side
+abbrev pub side_by : Side → Sign → Sign
+side_by Low s = s
+side_by High s = negated s
+
+abbrev pub side_of : Cut → Side → Point → Sign
+side_of cut side p = side_by side (cut_order cut p)
+
+-- the line as a carrier of edges
+abbrev pub carrier_by : Axis → Cut → Carrier
+carrier_by X cut = Vertical cut.at
+carrier_by Y cut = Horizontal cut.at
+
+abbrev pub carrier_of_cut : Cut → Carrier
+carrier_of_cut cut = carrier_by cut.axis cut

@@ -1,0 +1,152 @@
+-- The conflicts that were found, each once and in order, are those of the definition.
+use Rattle.std.proofs.Common.{◌≡◌, ◌<◌, ◌≤◌, ◌+◌, ⊎_elim, ℕ, zero, suc, subst, List, [], ◌∷◌, length, get_or, min, cond, false, refl, sym, ap, ◌∙◌, arith}
+use Rattle.std.specs.Prelude.{Contains}
+use Rattle.std.specs.declared.cmp.Ordering.{Ordering}
+use Rattle.std.specs.declared.cmp.Ordering.TheVariants.{Less, Equal, Greater}
+use Rattle.std.specs.Ordering.{is_eq, ordering_then}
+use Rattle.std.proofs.lemmas.Cmp.{tied_itself}
+use Rattle.std.proofs.lemmas.List.Sums.{sum_by-cons}
+use Rattle.osm_geom.specs.declared.conflicts.Kind.{Kind}
+use Rattle.osm_geom.specs.declared.conflicts.Kind.TheVariants.{Crossing, Overlap}
+use Rattle.osm_geom.specs.declared.seg.Seg.{Seg}
+use Rattle.osm_geom.specs.Seg.{seg_cmp}
+use Rattle.osm_geom.proofs.LocationOrder.{seg_total}
+use Rattle.osm_geom.proofs.Orders.{seg_same}
+use Rattle.osm_lists.specs.Rising.{CountsDetermine, IsRising, count_of}
+use Rattle.osm_segments.specs.declared.pairs.Pair.{Pair}
+use Rattle.osm_segments.specs.Cells.{AreAdded}
+use Rattle.osm_segments.specs.Pairs.{conflicts_of, pair_cmp}
+use Rattle.osm_segments.specs.contracts.pairs.PairOrd.TheImpl.{cmp-value}
+use Rattle.osm_segments.proofs.CellPairs.{first_member, later_member, member_cases, no_member}
+use Rattle.osm_segments.proofs.RisingPairs.{conflicts_rising}
+
+-- an order under which each item ties with itself alone
+module _ {X : Type 0} {R : X → X → Ordering} (itself : (x : X) → R x x ≡ Equal) (exact : (x y : X) → R x y ≡ Equal → x ≡ y) where
+  count-cons : (z x : X) (xs : List X) → count_of R z (x ∷ xs) ≡ cond (is_eq (R x z)) 1 0 + count_of R z xs
+  count-cons z x xs = sum_by-cons (λ y. cond (is_eq (R y z)) 1 0) x xs
+
+  counts_itself : (y x : X) → y ≡ x → cond {A = ℕ} (is_eq (R y x)) 1 0 ≡ 1
+  counts_itself y x e = rw (e, itself x) refl
+
+  -- a member stands at least once
+  counted : (x : X) (xs : List X) → Contains xs x → 0 < count_of R x xs
+  counted x [] c = absurd (no_member x c)
+  counted x (y ∷ ys) c =
+      ⊎_elim
+      (λ (e : y ≡ x). omega (arith, count-cons x y ys, counts_itself y x e))
+      (λ (c : Contains ys x). omega (arith, count-cons x y ys, counted x ys c))
+      (member_cases y x ys c)
+
+  member_by : (r : Ordering) (x y : X) (ys : List X) → R y x ≡ r → 0 < cond (is_eq r) 1 0 + count_of R x ys → (0 < count_of R x ys → Contains ys x) → Contains (y ∷ ys) x
+  member_by Equal x y ys e some later = rw (exact y x e) (first_member x ys)
+  member_by Less x y ys e some later = later_member y x ys (later (omega arith))
+  member_by Greater x y ys e some later = later_member y x ys (later (omega arith))
+
+  -- what stands there is a member
+  member : (x : X) (xs : List X) → 0 < count_of R x xs → Contains xs x
+  member x [] some = absurd (omega arith)
+  member x (y ∷ ys) some = member_by (R y x) x y ys refl (omega (arith, count-cons x y ys)) (member x ys)
+
+  -- what is below all others doesn't stand among them
+  not_above : (r : Ordering) (x y : X) → R y x ≡ r → R x y ≡ Less → is_eq r ≡ false
+  not_above Less x y e less = refl
+  not_above Greater x y e less = refl
+  not_above Equal x y e less = let one : R x y ≡ Equal = ap (R x) (exact y x e) ∙ itself x in absurd (cc)
+
+  none : (x : X) (xs : List X) → ((k : ℕ) (d : X) → k < length xs → R x (get_or xs k d) ≡ Less) → count_of R x xs ≡ 0
+  none x [] below = refl
+  none x (y ∷ ys) below =
+      let first : cond {A = ℕ} (is_eq (R y x)) 1 0 ≡ 0 = rw (not_above (R y x) x y refl (below 0 y (omega arith))) refl in
+      omega (arith, count-cons x y ys, none x ys (λ k d h. below (suc k) d (omega arith)))
+
+  once_by : (r : Ordering) (x y : X) (ys : List X) → R y x ≡ r → IsRising R (y ∷ ys) → count_of R x ys ≤ 1 → cond (is_eq r) 1 0 + count_of R x ys ≤ 1
+  once_by Less x y ys e rising later = omega arith
+  once_by Greater x y ys e rising later = omega arith
+  once_by Equal x y ys e rising later =
+      let one = exact y x e in
+      omega (arith, none x ys (λ k d h. ap (λ z. R z (get_or ys k d)) (sym one) ∙ rising 0 (suc k) d (omega arith) (omega arith)))
+
+  -- in strict order each stands once at most
+  once : (x : X) (xs : List X) → IsRising R xs → count_of R x xs ≤ 1
+  once x [] rising = omega arith
+  once x (y ∷ ys) rising =
+      omega (arith, count-cons x y ys, once_by (R y x) x y ys refl rising (once x ys (λ i j d h l. rising (suc i) (suc j) d (omega arith) (omega arith))))
+
+  -- each once, in strict order, of lists with the same members
+  same_once : (xs ys : List X) → IsRising R ys → ((x : X) → Contains xs x → Contains ys x) → ((x : X) → Contains ys x → Contains xs x) → (x : X) → min 1 (count_of R x xs) ≡ count_of R x ys
+  same_once xs ys rising into back x =
+      let there : 0 < count_of R x xs → 0 < count_of R x ys = λ h. counted x ys (into x (member x xs h)) in
+      let here : 0 < count_of R x ys → 0 < count_of R x xs = λ h. counted x xs (back x (member x ys h)) in
+      same_by (count_of R x xs) (count_of R x ys) there here (once x ys rising)
+    where
+      same_by : (n m : ℕ) → (0 < n → 0 < m) → (0 < m → 0 < n) → m ≤ 1 → min 1 n ≡ m
+      same_by zero zero there here h = refl
+      same_by zero (suc m) there here h = absurd (omega (arith, here (omega arith)))
+      same_by (suc n) zero there here h = absurd (omega (arith, there (omega arith)))
+      same_by (suc n) (suc m) there here h = omega arith
+
+-- ---- the order of pairs with their kinds
+abbrev kind_cmp : Kind → Kind → Ordering
+kind_cmp Crossing Crossing = Equal
+kind_cmp Crossing Overlap = Less
+kind_cmp Overlap Crossing = Greater
+kind_cmp Overlap Overlap = Equal
+
+parts_of : (k l : Kind) (s t s' t' : Seg) → cmp-value.it (record { first = s; second = t; kind = k }) (record { first = s'; second = t'; kind = l }) ≡ ordering_then (seg_cmp s s') (ordering_then (seg_cmp t t') (kind_cmp k l))
+parts_of Crossing Crossing s t s' t' = refl
+parts_of Crossing Overlap s t s' t' = refl
+parts_of Overlap Crossing s t s' t' = refl
+parts_of Overlap Overlap s t s' t' = refl
+
+parts : (p q : Pair) → cmp-value.it p q ≡ ordering_then (seg_cmp p.first q.first) (ordering_then (seg_cmp p.second q.second) (kind_cmp p.kind q.kind))
+parts p q = parts_of p.kind q.kind p.first p.second q.first q.second
+
+kind_itself : (k : Kind) → kind_cmp k k ≡ Equal
+kind_itself Crossing = refl
+kind_itself Overlap = refl
+
+kind_exact : (k l : Kind) → kind_cmp k l ≡ Equal → k ≡ l
+kind_exact Crossing Crossing e = refl
+kind_exact Crossing Overlap e = absurd (cc e)
+kind_exact Overlap Crossing e = absurd (cc e)
+kind_exact Overlap Overlap e = refl
+
+all_equal : (a b c : Ordering) → ordering_then a (ordering_then b c) ≡ Equal → (a ≡ Equal) × (b ≡ Equal) × (c ≡ Equal)
+all_equal Equal Equal c e = (refl, refl, e)
+all_equal Equal Less c e = absurd (cc e)
+all_equal Equal Greater c e = absurd (cc e)
+all_equal Less b c e = absurd (cc e)
+all_equal Greater b c e = absurd (cc e)
+
+less_already : (a b c : Ordering) → ordering_then a b ≡ Less → ordering_then a (ordering_then b c) ≡ Less
+less_already Less b c e = refl
+less_already Greater b c e = absurd (cc e)
+less_already Equal Less c e = refl
+less_already Equal Equal c e = absurd (cc e)
+less_already Equal Greater c e = absurd (cc e)
+
+pair_itself : (p : Pair) → cmp-value.it p p ≡ Equal
+pair_itself p = rw (parts p p, tied_itself seg_total p.first, tied_itself seg_total p.second) (kind_itself p.kind)
+
+pair_exact : (p q : Pair) → cmp-value.it p q ≡ Equal → p ≡ q
+pair_exact p q e =
+    let h = all_equal (seg_cmp p.first q.first) (seg_cmp p.second q.second) (kind_cmp p.kind q.kind) (sym (parts p q) ∙ e) in
+    λ i. record { first = seg_same p.first q.first h.0 i; second = seg_same p.second q.second h.1 i; kind = kind_exact p.kind q.kind h.2 i }
+
+rising_whole : (ps : List Pair) → IsRising pair_cmp ps → IsRising cmp-value.it ps
+rising_whole ps rising i j d h l =
+    let p = get_or ps i d in let q = get_or ps j d in
+    parts p q ∙ less_already (seg_cmp p.first q.first) (seg_cmp p.second q.second) (kind_cmp p.kind q.kind) (rising i j d h l)
+
+pub pairs_are : CountsDetermine cmp-value.it → (segs : List Seg) (start found kept v : List Pair) → IsRising seg_cmp segs → start ≡ [] → AreAdded segs start found → kept ≡ found →
+    IsRising cmp-value.it v → ((p : Pair) → count_of cmp-value.it p v ≡ min 1 (count_of cmp-value.it p kept)) → v ≡ conflicts_of segs
+pairs_are determine segs start found kept v rising empty all_of same_kept rising_v each =
+    let goal = conflicts_of segs in
+    let up = rising_whole goal (conflicts_rising segs rising) in
+    let added : AreAdded segs [] found = subst (λ old. AreAdded segs old found) empty all_of in
+    let into : (p : Pair) → Contains found p → Contains goal p = λ p c. ⊎_elim (λ (c : Contains [] p). absurd (no_member p c)) (λ (c : Contains goal p). c) (added.known p c) in
+    determine pair_exact v goal rising_v up
+    (λ p. each p ∙ (ap (λ ps. min 1 (count_of cmp-value.it p ps)) same_kept ∙ same_once pair_itself pair_exact found goal up into added.found p))
+
+pub pairs_rise : (segs : List Seg) (v : List Pair) → IsRising seg_cmp segs → v ≡ conflicts_of segs → IsRising pair_cmp v
+pairs_rise segs v rising e = subst (IsRising pair_cmp) (sym e) (conflicts_rising segs rising)

@@ -1,0 +1,569 @@
+-- A sweep over segments, which enter in order of their lower ends and leave in order of their upper ones. Where each enters between two that fit, and each two that come to stand
+-- side by side don't conflict, no two conflict at all.
+use Rattle.std.proofs.Common.{All, AllPairs, Bool, Contains, List, None, Option, Some, [], ap, arith, cond, drop, false, get_or, inl, inr, length, not, pos, refl, remove, subst, suc, sym, take, true, zero, ℕ, ℤ, ⊎_elim, ◌&&◌, ◌+◌, ◌-◌, ◌-ℤ◌, ◌<◌, ◌||◌, ◌∙◌, ◌∷◌, ◌≡◌, ◌≢◌, ◌≤◌, ◌⊎◌}
+use borrow.Author.Differences.{ints}
+use Rattle.std.specs.declared.cmp.Ordering.{Ordering}
+use Rattle.std.specs.declared.cmp.Ordering.TheVariants.{Equal, Greater, Less}
+use Rattle.std.specs.Ordering.{is_eq, is_lt, ordering_then}
+use Rattle.std.specs.List.Sorted.{IsSortedBy}
+use Rattle.std.proofs.lemmas.List.MinMax.{ranks_by}
+use Rattle.std.proofs.lemmas.List.Sorted.{sorted_far}
+use Rattle.std.specs.List.{filter_map, insert}
+use Rattle.std.proofs.lemmas.Bool.{cases_eq, cases_lt}
+use Rattle.std.proofs.lemmas.Cmp.{tied_itself}
+use Rattle.std.proofs.lemmas.List.{get_or-drop, get_or-take, length-drop, length-take-le, take-append-drop, take_all, take_more}
+use Rattle.std.proofs.lemmas.List.Edits.{get_or-insert_above, get_or-insert_at, get_or-insert_below, get_or-remove_above, get_or-remove_below, length-insert, length-remove}
+use Rattle.std.proofs.lemmas.List.Quantifiers.{all_pairs_remove}
+use Rattle.plane.specs.Conflict.{IsClearOf}
+use Rattle.plane.specs.Height.{is_in_span}
+use Rattle.plane.specs.Order.{order}
+use Rattle.plane.specs.Sign.{Minus, Null, Plus, Sign, is_minus, is_plus, negated, sign, then_sign}
+use Rattle.plane.specs.Vector.{Vector, orient}
+use Rattle.plane.proofs.Conflicts.{clear_back}
+use Rattle.plane.proofs.Heights.{order_persists, right_chain, right_itself, right_of}
+use Rattle.plane.proofs.PointOrder.{order-reversed, order-self-null, order-sum}
+use Rattle.plane.proofs.Signs.{agree, all, all-out, all2-out, imp, imp-out, says-at, self-diff, sign-from}
+use Rattle.winding.specs.Member.{In}
+use Rattle.winding.proofs.Members.{in-either, in-left, in-right}
+use Rattle.osm_geom.specs.declared.loc.Loc.{Loc}
+use Rattle.osm_geom.specs.declared.seg.Seg.{Seg}
+use Rattle.osm_geom.specs.Conflict.{are_crossing, are_overlapping, conflict_of}
+use Rattle.osm_geom.specs.Loc.{loc_cmp, vector_of}
+use Rattle.osm_geom.specs.Seg.{seg_cmp}
+use Rattle.osm_geom.specs.declared.conflicts.Kind.{Kind}
+use Rattle.osm_geom.specs.declared.conflicts.Kind.TheVariants.{Crossing, Overlap}
+use Rattle.osm_geom.proofs.LocationOrder.{loc_cmp-is, loc_total, rising_edge, seg_total}
+use Rattle.osm_geom.proofs.Orders.{seg_same}
+use Rattle.osm_geom.specs.OrderLaws.{ordering_of}
+use Rattle.osm_lists.specs.Rising.{IsRising}
+use Rattle.osm_segments.specs.Pairs.{conflicts_of, pair_of}
+use Rattle.osm_segments.proofs.RisingPairs.{tail_rising}
+use Rattle.osm_segments.specs.Sweep.{EndsRise, IsAfter, HasLeft, IsEntered, left_of_line, lies_left, lies_right, right_of_line, side}
+use Rattle.osm_segments.specs.Tilted.{tilted, tilted_point}
+use Rattle.osm_segments.proofs.EdgePairs.{BeginsLeft, fans, turn-first, turn-second, two_ends}
+use Rattle.osm_segments.proofs.EdgeMeetings.{at-first-from, at-second-from}
+use Rattle.osm_segments.proofs.EdgeOrders.{BottomsLeft, TopsLeft, begins_left, beside, bottoms-chain, bottoms_left, clear_apart, ends_left, high-of, low-of, same-level, tops-chain, tops_left}
+use Rattle.osm_segments.proofs.SegmentTests.{same_get}
+use Rattle.osm_segments.proofs.SweptLists.{Linked, all_insert, linked_insert, linked_remove, linked_weaker, pairs_from_linked, pairs_insert}
+use Rattle.osm_segments.proofs.TiltedEdges.{conflicts-tilted, cross-tilted, height-tilted, order-tilted, tall-tilted}
+
+abbrev pub at_height : ℤ → Vector
+at_height y = record { x = pos 0; y = y }
+
+-- u is right of t just above the height
+abbrev pub IsRight : ℤ → Seg → Seg → Type 0
+IsRight y t u = right_of (at_height y) (tilted t) (tilted u) ≡ true
+
+pub record FitsAbove (y : ℤ) (t u : Seg) : Type 0 where
+  pub clear : IsClearOf (tilted t) (tilted u)
+  pub right : IsRight y t u
+
+abbrev pub Spans : ℤ → Seg → Type 0
+Spans y t = is_in_span (at_height y) (tilted t) ≡ true
+
+-- those that entered span a height, in order, and neighbours don't conflict; those that are gone don't conflict with any that entered
+pub record IsSwept (segs ends : List Seg) (next left : ℕ) (status : List Seg) : Type 0 where
+  pub gone : List Seg
+  pub height : ℤ
+  pub entered : All (λ t. In t (take next segs)) status
+  pub waiting : All (λ t. In t (drop left ends)) status
+  pub spans : All (Spans height) status
+  pub linked : Linked (FitsAbove height) status
+  pub births : AllPairs (λ t u. BeginsLeft (tilted t) (tilted u)) status
+  pub cover : (x : Seg) → In x (take next segs) → (In x status) ⊎ (In x gone)
+  pub apart : (u x : Seg) → In u gone → In x (take next segs) → (u ≡ x) ⊎ IsClearOf (tilted u) (tilted x)
+  pub gone_in : (u : Seg) → In u gone → In u (take left ends)
+  pub passed : (u : Seg) → In u (take left ends) → (i : ℕ) (d : Seg) → next ≤ i → i < length segs → IsAfter u.b (get_or segs i d).a
+
+-- ---- lists
+in-index : {X : Type 0} (x : X) (xs : List X) (d : X) → In x xs → (m : ℕ) × (m < length xs) × (get_or xs m d ≡ x)
+in-index x [] d i = absurd i
+in-index x (y ∷ ys) d (inl e) = (0, omega arith, sym e)
+in-index x (y ∷ ys) d (inr i) = let r = in-index x ys d i in (suc r.0, (let h = r.1 in omega arith), r.2)
+
+pub in-place : {X : Type 0} (xs : List X) (k : ℕ) (d : X) → k < length xs → In (get_or xs k d) xs
+in-place [] k d h = absurd (omega arith)
+in-place (x ∷ xs) zero d h = inl refl
+in-place (x ∷ xs) (suc k) d h = inr (in-place xs k d (omega arith))
+
+in-remove : {X : Type 0} (x : X) (xs : List X) (i : ℕ) (d : X) → In x xs → i < length xs → (x ≡ get_or xs i d) ⊎ In x (remove xs i)
+in-remove x [] i d j h = absurd j
+in-remove x (y ∷ ys) zero d (inl e) h = inl e
+in-remove x (y ∷ ys) zero d (inr j) h = inr j
+in-remove x (y ∷ ys) (suc i) d (inl e) h = inr (inl e)
+in-remove x (y ∷ ys) (suc i) d (inr j) h = ⊎_elim (λ e. inl e) (λ k. inr (inr k)) (in-remove x ys i d j (omega arith))
+
+in-insert-new : {X : Type 0} (x : X) (xs : List X) (i : ℕ) → In x (insert xs i x)
+in-insert-new x xs i = in-right (take i xs) (x ∷ drop i xs) x (inl refl)
+
+in-insert-old : {X : Type 0} (x y : X) (xs : List X) (i : ℕ) → In x xs → In x (insert xs i y)
+in-insert-old x y xs i j =
+    ⊎_elim (λ k. in-left (take i xs) (y ∷ drop i xs) x k) (λ k. in-right (take i xs) (y ∷ drop i xs) x (inr k))
+    (in-either (take i xs) (drop i xs) x (subst (In x) (sym (take-append-drop i xs)) j))
+
+in-more : {X : Type 0} (x : X) (xs : List X) (k : ℕ) (d : X) → k < length xs → In x (take (k + 1) xs) → (In x (take k xs)) ⊎ (x ≡ get_or xs k d)
+in-more x xs k d h j =
+    ⊎_elim inl (λ (l : In x (get_or xs k d ∷ [])). ⊎_elim inr (λ none. absurd none) l)
+    (in-either (take k xs) (get_or xs k d ∷ []) x (subst (In x) (take_more xs k d h) j))
+
+more-old : {X : Type 0} (x : X) (xs : List X) (k : ℕ) (d : X) → k < length xs → In x (take k xs) → In x (take (k + 1) xs)
+more-old x xs k d h j = subst (In x) (sym (take_more xs k d h)) (in-left (take k xs) (get_or xs k d ∷ []) x j)
+
+more-new : {X : Type 0} (xs : List X) (k : ℕ) (d : X) → k < length xs → In (get_or xs k d) (take (k + 1) xs)
+more-new xs k d h = subst (In (get_or xs k d)) (sym (take_more xs k d h)) (in-right (take k xs) (get_or xs k d ∷ []) (get_or xs k d) (inl refl))
+
+in-drop-by : {X : Type 0} (x : X) (xs : List X) (k : ℕ) (d : X) → k < length xs → In x (drop k xs) → (x ≡ get_or xs k d) ⊎ In x (drop (suc k) xs)
+in-drop-by x [] k d h j = absurd (omega arith)
+in-drop-by x (y ∷ ys) zero d h (inl e) = inl e
+in-drop-by x (y ∷ ys) zero d h (inr j) = inr j
+in-drop-by x (y ∷ ys) (suc k) d h j = in-drop-by x ys k d (omega arith) j
+
+in-drop : {X : Type 0} (x : X) (xs : List X) (k : ℕ) (d : X) → k < length xs → In x (drop k xs) → (x ≡ get_or xs k d) ⊎ In x (drop (k + 1) xs)
+in-drop x xs k d h j = ⊎_elim inl (λ i. inr (subst (λ m. In x (drop m xs)) (let e : suc k ≡ k + 1 = omega arith in e) i)) (in-drop-by x xs k d h j)
+
+-- what holds of all but the one that is taken out
+all_remove_other : {X : Type 0} (P : X → Type 0) (xs : List X) (i : ℕ) → i < length xs → ((m : ℕ) (d : X) → m < length xs → m ≢ i → P (get_or xs m d)) → All P (remove xs i)
+all_remove_other P xs i inside other k d h =
+    let len = length-remove xs i inside in
+    ⊎_elim
+    (λ (low : k < i). subst P (sym (get_or-remove_below xs i d k low inside)) (other k d (omega arith) (λ e. omega (arith, e))))
+    (λ (high : i ≤ k). subst P (sym (get_or-remove_above xs i d k high inside)) (other (k + 1) d (omega (arith, len, h)) (λ e. omega (arith, e))))
+    (cases_lt k i)
+
+-- ---- segments that differ and have no conflict are clear
+none_clear : (e o x : Bool) → (if_kind : Option Kind) → if_kind ≡ cond e None (cond o (Some Overlap) (cond x (Some Crossing) None)) → e ≡ false → if_kind ≡ None → (o || x) ≡ false
+none_clear true o x k h f n = absurd (cc f)
+none_clear false true x k h f n = absurd (cc (sym h ∙ n))
+none_clear false false true k h f n = absurd (cc (sym h ∙ n))
+none_clear false false false k h f n = refl
+
+untied : (s t : Seg) (o : Ordering) → seg_cmp s t ≡ o → (s ≡ t → ⊥) → is_eq o ≡ false
+untied s t Less h n = refl
+untied s t Greater h n = refl
+untied s t Equal h n = absurd (n (seg_same s t h))
+
+pub clear_of_none : (s t : Seg) → (s ≡ t → ⊥) → conflict_of s t ≡ None → IsClearOf (tilted s) (tilted t)
+unfolding are_overlapping are_crossing
+clear_of_none s t differ none = conflicts-tilted s t ∙ none_clear (is_eq (seg_cmp s t)) (are_overlapping s t) (are_crossing s t) (conflict_of s t) refl (untied s t (seg_cmp s t) refl differ) none
+
+-- and the other way round
+clear_none : (e o x : Bool) → (o || x) ≡ false → cond e None (cond o (Some Overlap) (cond x (Some Crossing) None)) ≡ None
+clear_none true o x h = refl
+clear_none false true x h = absurd (cc h)
+clear_none false false true h = absurd (cc h)
+clear_none false false false h = refl
+
+pub none_of_clear : (s t : Seg) → IsClearOf (tilted s) (tilted t) → conflict_of s t ≡ None
+unfolding are_overlapping are_crossing
+none_of_clear s t clear = clear_none (is_eq (seg_cmp s t)) (are_overlapping s t) (are_crossing s t) (sym (conflicts-tilted s t) ∙ clear)
+
+-- ---- heights of points
+after-height : (p q : Loc) → IsAfter p q → not (is_minus (sign ((tilted_point q).y -ℤ (tilted_point p).y))) ≡ true
+after-height p q h = subst (λ s. not (is_minus s) ≡ true) (sym (height-tilted p q)) h
+
+not-plus-back : (s : Sign) → not (is_minus s) ≡ true → not (is_plus (negated s)) ≡ true
+not-plus-back Plus h = refl
+not-plus-back Null h = refl
+not-plus-back Minus h = absurd (cc h)
+
+before-height : (p q : Loc) → IsAfter p q → not (is_plus (sign ((tilted_point p).y -ℤ (tilted_point q).y))) ≡ true
+before-height p q h = subst (λ s. not (is_plus s) ≡ true) (sym (height-tilted q p ∙ order-reversed (vector_of p) (vector_of q))) (not-plus-back (order (vector_of p) (vector_of q)) h)
+
+own-height : (y : ℤ) → sign (y -ℤ y) ≡ Null
+own-height y = self-diff y
+
+-- ---- all that stand in the status, at its height
+module _ (y : ℤ) (xs : List Seg) (spans : All (Spans y) xs) (linked : Linked (FitsAbove y) xs) where
+  pub all-right : AllPairs (IsRight y) xs
+  all-right = pairs_from_linked (IsRight y) (Spans y) xs spans (λ s t u a b c h k. right_chain (at_height y) (tilted s) (tilted t) (tilted u) a b c h k)
+      (linked_weaker (FitsAbove y) (IsRight y) (Spans y) xs spans (λ s t a b f. f.right) linked)
+
+  -- none stands twice
+  pub all-differ : (i j : ℕ) (d : Seg) → i < j → j < length xs → get_or xs i d ≡ get_or xs j d → ⊥
+  all-differ i j d h l e =
+      let r = all-right i j d h l in let own = right_itself (at_height y) (tilted (get_or xs i d)) in
+      let r' : right_of (at_height y) (tilted (get_or xs i d)) (tilted (get_or xs i d)) ≡ true = subst (λ (t : Seg). right_of (at_height y) (tilted (get_or xs i d)) (tilted t) ≡ true) (sym e) r in
+      cc (sym r' ∙ own)
+
+  -- beside each other where one begins
+  pub all-begin : AllPairs (λ t u. BottomsLeft (at_height y) (tilted t) (tilted u)) xs
+  all-begin = pairs_from_linked (λ t u. BottomsLeft (at_height y) (tilted t) (tilted u)) (Spans y) xs spans
+      (λ s t u a b c h k. bottoms-chain (tilted s) (tilted t) (tilted u) (tall-tilted s) (tall-tilted t) (tall-tilted u) (at_height y) h k)
+      (linked_weaker (FitsAbove y) (λ t u. BottomsLeft (at_height y) (tilted t) (tilted u)) (Spans y) xs spans
+      (λ t u a b f. bottoms_left (tilted t) (tilted u) (tall-tilted t) (tall-tilted u) f.clear (at_height y) a b f.right) linked)
+
+  -- beside each other at a greater height that all reach
+  module _ (q : Vector) (up : sign (q.y -ℤ y) ≡ Plus) (high : All (λ (t : Seg). not (is_minus (sign ((tilted t).to.y -ℤ q.y))) ≡ true) xs) where
+    abbrev Reaches : Seg → Type 0
+    Reaches t = Spans y t × (not (is_minus (sign ((tilted t).to.y -ℤ q.y))) ≡ true)
+
+    reaches : All Reaches xs
+    reaches i d h = (spans i d h, high i d h)
+
+    pub all-end : AllPairs (λ t u. TopsLeft q (tilted t) (tilted u)) xs
+    all-end = pairs_from_linked (λ t u. TopsLeft q (tilted t) (tilted u)) Reaches xs reaches
+        (λ s t u a b c h k. tops-chain (tilted s) (tilted t) (tilted u) (tall-tilted s) (tall-tilted t) (tall-tilted u) q h k)
+        (linked_weaker (FitsAbove y) (λ t u. TopsLeft q (tilted t) (tilted u)) Reaches xs reaches
+        (λ t u a b f. tops_left (tilted t) (tilted u) (tall-tilted t) (tall-tilted u) f.clear (at_height y) a.0 b.0 f.right q up a.1 b.1) linked)
+
+-- ---- the upper ends in order
+later-ends : (ends : List Seg) → EndsRise ends → (left : ℕ) (d u : Seg) → left < length ends → In u (drop left ends) → IsAfter (get_or ends left d).b u.b
+later-ends ends rise left d u inside i =
+    let r = in-index u (drop left ends) d i in
+    let far : left + r.0 < length ends = (let h = r.1 in omega (arith, h, length-drop left ends)) in
+    subst (λ (t : Seg). IsAfter (get_or ends left d).b t.b) (sym (get_or-drop left ends r.0 d) ∙ r.2) (rise left (left + r.0) d (omega arith) far)
+
+-- ---- one leaves
+module _ (segs ends : List Seg) (rise : EndsRise ends) (next left : ℕ) (old new : List Seg) (is : IsSwept segs ends next left old) (t : Seg) (out : HasLeft t old new)
+    (at : t ≡ get_or ends left t) (inside : left < length ends) (passes : (i : ℕ) (d : Seg) → next ≤ i → i < length segs → IsAfter t.b (get_or segs i d).a) where
+  abbrev q : Vector
+  q = tilted_point t.b
+
+  t-is : (d : Seg) → get_or old out.place d ≡ t
+  t-is d = same_get old out.place d t out.inside ∙ out.at
+
+  up : sign (q.y -ℤ is.height) ≡ Plus
+  up = high-of (at_height is.height) (tilted t) (subst (Spans is.height) out.at (is.spans out.place t out.inside))
+
+  high : All (λ (u : Seg). not (is_minus (sign ((tilted u).to.y -ℤ q.y))) ≡ true) old
+  high i d h = after-height t.b (get_or old i d).b (subst (λ (s : Seg). IsAfter s.b (get_or old i d).b) (sym at) (later-ends ends rise left t (get_or old i d) inside (is.waiting i d h)))
+
+  -- no other in the status conflicts with it
+  clear-with : (m : ℕ) (d : Seg) → m < length old → m ≢ out.place → IsClearOf (tilted t) (tilted (get_or old m d))
+  clear-with m d h other = ⊎_elim
+      (λ (low : m < out.place).
+      let u = get_or old m d in
+      let begins = subst (λ (s : Seg). BeginsLeft (tilted u) (tilted s)) (t-is d) (is.births m out.place d low out.inside) in
+      let tops = subst (λ (s : Seg). TopsLeft q (tilted u) (tilted s)) (t-is d) (all-end is.height old is.spans is.linked q up high m out.place d low out.inside) in
+      let ends = ends_left (tilted u) (tilted t) (tall-tilted u) (tall-tilted t) q tops (inr (own-height q.y)) (high m d h) (ap (λ s. not (is_minus s)) (own-height q.y)) in
+      clear_back (tilted u) (tilted t) (two_ends (tilted u) (tilted t) begins ends))
+      (λ (not-low : out.place ≤ m).
+      let above : out.place < m = omega (arith, other) in
+      let u = get_or old m d in
+      let begins = subst (λ (s : Seg). BeginsLeft (tilted s) (tilted u)) (t-is d) (is.births out.place m d above h) in
+      let tops = subst (λ (s : Seg). TopsLeft q (tilted s) (tilted u)) (t-is d) (all-end is.height old is.spans is.linked q up high out.place m d above h) in
+      let ends = ends_left (tilted t) (tilted u) (tall-tilted t) (tall-tilted u) q tops (inl (own-height q.y)) (ap (λ s. not (is_minus s)) (own-height q.y)) (high m d h) in
+      two_ends (tilted t) (tilted u) begins ends)
+      (cases_lt m out.place)
+
+  differs-from : (m : ℕ) (d : Seg) → m < length old → m ≢ out.place → get_or old m d ≡ t → ⊥
+  differs-from m d h other e = ⊎_elim
+      (λ (low : m < out.place). all-differ is.height old is.spans is.linked m out.place d low out.inside (e ∙ sym (t-is d)))
+      (λ (not-low : out.place ≤ m). all-differ is.height old is.spans is.linked out.place m d (omega (arith, other)) h (t-is d ∙ sym e))
+      (cases_lt m out.place)
+
+  t-entered : In t (take next segs)
+  t-entered = subst (λ s. In s (take next segs)) out.at (is.entered out.place t out.inside)
+
+  from-status : (x : Seg) → In x old → (t ≡ x) ⊎ IsClearOf (tilted t) (tilted x)
+  from-status x i =
+      let r = in-index x old t i in
+      ⊎_elim
+      (λ (here : r.0 ≡ out.place). inl (sym (t-is t) ∙ ap (λ m. get_or old m t) (sym here) ∙ r.2))
+      (λ (other : r.0 ≢ out.place). inr (subst (λ (s : Seg). IsClearOf (tilted t) (tilted s)) r.2 (clear-with r.0 t r.1 other)))
+      (cases_eq r.0 out.place)
+
+  from-gone : (x : Seg) → In x is.gone → (t ≡ x) ⊎ IsClearOf (tilted t) (tilted x)
+  from-gone x i = ⊎_elim (λ (e : x ≡ t). inl (sym e)) (λ (c : IsClearOf (tilted x) (tilted t)). inr (clear_back (tilted x) (tilted t) c)) (is.apart x t i t-entered)
+
+  pub has_left : IsSwept segs ends next (left + 1) new
+  has_left =
+      let fresh : IsSwept segs ends next (left + 1) (remove old out.place) = record {
+        gone = t ∷ is.gone;
+        height = is.height;
+        entered = all_remove_other (λ s. In s (take next segs)) old out.place out.inside (λ m d h o. is.entered m d h);
+        waiting = all_remove_other (λ s. In s (drop (left + 1) ends)) old out.place out.inside
+            (λ m d h o. ⊎_elim (λ (e : get_or old m d ≡ get_or ends left t). absurd (differs-from m d h o (e ∙ sym at))) (λ i. i) (in-drop (get_or old m d) ends left t inside (is.waiting m d h)));
+        spans = all_remove_other (Spans is.height) old out.place out.inside (λ m d h o. is.spans m d h);
+        linked = linked_remove (FitsAbove is.height) old out.place out.inside is.linked
+            (λ d a b. record {
+              clear = clear_of_none (get_or old (out.place - 1) d) (get_or old (out.place + 1) d) (all-differ is.height old is.spans is.linked (out.place - 1) (out.place + 1) d (omega arith) b) (out.closes d a b);
+              right = all-right is.height old is.spans is.linked (out.place - 1) (out.place + 1) d (omega arith) b;
+            });
+        births = all_pairs_remove (λ s u. BeginsLeft (tilted s) (tilted u)) old out.place out.inside is.births;
+        cover = λ x i. ⊎_elim
+            (λ (j : In x old). ⊎_elim (λ (e : x ≡ get_or old out.place t). inr (inl (e ∙ t-is t))) (λ k. inl k) (in-remove x old out.place t j out.inside))
+            (λ (j : In x is.gone). inr (inr j)) (is.cover x i);
+        apart = λ u x i j. ⊎_elim
+            (λ (e : u ≡ t). subst (λ (s : Seg). (s ≡ x) ⊎ IsClearOf (tilted s) (tilted x)) (sym e) (⊎_elim (from-status x) (from-gone x) (is.cover x j)))
+            (λ (k : In u is.gone). is.apart u x k j) i;
+        gone_in = λ u i. ⊎_elim (λ (e : u ≡ t). subst (λ s. In s (take (left + 1) ends)) (sym (e ∙ at)) (more-new ends left t inside)) (λ k. more-old u ends left t inside (is.gone_in u k)) i;
+        passed = λ u i k d l m. ⊎_elim (λ j. is.passed u j k d l m) (λ (e : u ≡ get_or ends left t). subst (λ (s : Seg). IsAfter s.b (get_or segs k d).a) (at ∙ sym e) (passes k d l m)) (in-more u ends left t inside i);
+      } in subst (IsSwept segs ends next (left + 1)) (sym out.is) fresh
+
+-- ---- one enters
+-- x, y: the sides of t on which s begins and ends; k: the turn
+abbrev left_table : Sign → Sign → Sign → Bool
+left_table x y k = imp (agree x (negated k) y) λ _. imp (is_minus x || (not (is_plus x) && is_minus y)) λ _. is_plus (then_sign (negated x) k)
+
+abbrev right_table : Sign → Sign → Sign → Bool
+right_table x y k = imp (agree x k y) λ _. imp (is_plus x || (not (is_minus x) && is_plus y)) λ _. is_plus (then_sign x k)
+
+side-tilted : (p : Loc) (t : Seg) → orient (tilted t).from (tilted t).to (tilted_point p) ≡ side p t
+side-tilted p t = cross-tilted (vector_of t.a) (vector_of t.b) (vector_of t.a) (vector_of p)
+
+module _ (s t : Seg) (y : ℤ) (level : sign ((tilted s).from.y -ℤ y) ≡ Null) where
+  level-back : sign (y -ℤ (tilted s).from.y) ≡ Null
+  level-back = sign-back (tilted s).from.y y level
+    where
+      sign-back : (a b : ℤ) → sign (a -ℤ b) ≡ Null → sign (b -ℤ a) ≡ Null
+      sign-back a b h = let x = says-at Null (a -ℤ b) h in sign-from Null (b -ℤ a) (omega (arith, ints))
+
+  pub left-fits : lies_left s t ≡ true → IsRight y t s
+  unfolding left_of_line right_of_line
+  left-fits h =
+      let x = side s.a t in let z = side s.b t in let k = fans (tilted t) (tilted s) in
+      let a : agree x (negated k) z ≡ true =
+      subst (λ w. agree w (negated k) z ≡ true) (side-tilted s.a t) (subst (λ w. agree (orient (tilted t).from (tilted t).to (tilted s).from) (negated k) w ≡ true) (side-tilted s.b t) (turn-first (tilted t) (tilted s))) in
+      let b : beside (at_height y) (tilted t) (tilted s) ≡ negated x =
+      same-level (tilted t) (tilted s) (tall-tilted t) (tall-tilted s) (at_height y) (tilted s).from level-back
+      ∙ twice (beside (tilted s).from (tilted t) (tilted s)) ∙ ap negated (sym (at-second-from (tilted t) (tilted s) (tall-tilted t) (tall-tilted s)) ∙ side-tilted s.a t) in
+      ap (λ w. is_plus (then_sign w k)) b ∙ imp-out _ _ (imp-out _ _ (all-out (λ k. left_table x z k) (all2-out (λ x z. all (left_table x z)) refl x z) k) a) h
+    where
+      twice : (s : Sign) → s ≡ negated (negated s)
+      twice Plus = refl
+      twice Null = refl
+      twice Minus = refl
+
+  pub right-fits : lies_right s t ≡ true → IsRight y s t
+  unfolding left_of_line right_of_line
+  right-fits h =
+      let x = side s.a t in let z = side s.b t in let k = fans (tilted s) (tilted t) in
+      let a : agree x k z ≡ true =
+      subst (λ w. agree w k z ≡ true) (side-tilted s.a t) (subst (λ w. agree (orient (tilted t).from (tilted t).to (tilted s).from) k w ≡ true) (side-tilted s.b t) (turn-second (tilted s) (tilted t))) in
+      let b : beside (at_height y) (tilted s) (tilted t) ≡ x =
+      same-level (tilted s) (tilted t) (tall-tilted s) (tall-tilted t) (at_height y) (tilted s).from level-back
+      ∙ at-first-from (tilted s) (tilted t) (tall-tilted s) (tall-tilted t) ∙ side-tilted s.a t in
+      ap (λ w. is_plus (then_sign w k)) b ∙ imp-out _ _ (imp-out _ _ (all-out (λ k. right_table x z k) (all2-out (λ x z. all (right_table x z)) refl x z) k) a) h
+
+-- segments in order begin in order
+begins-after-by : (o r : Ordering) → ordering_then o r ≡ Less → (s : Sign) → o ≡ ordering_of s → not (is_minus s) ≡ true
+begins-after-by o r h Plus e = refl
+begins-after-by o r h Null e = refl
+begins-after-by o r h Minus e = let g = ap (λ o. ordering_then o r) e in absurd (cc (sym h ∙ g))
+
+begins-after : (t s : Seg) → seg_cmp t s ≡ Less → IsAfter t.a s.a
+begins-after t s h = begins-after-by (loc_cmp t.a s.a) (loc_cmp t.b s.b) h (order (vector_of t.a) (vector_of s.a)) (loc_cmp-is t.a s.a)
+
+after-own : (p : Loc) → IsAfter p p
+after-own p = ap (λ s. not (is_minus s)) (order-self-null (vector_of p))
+
+after-plus : (p q : Loc) → order (vector_of p) (vector_of q) ≡ Plus → IsAfter p q
+after-plus p q h = ap (λ s. not (is_minus s)) h
+
+plus-then-after : (p q r : Loc) → order (vector_of p) (vector_of q) ≡ Plus → IsAfter q r → order (vector_of p) (vector_of r) ≡ Plus
+plus-then-after p q r h k = by-signs (order (vector_of p) (vector_of q)) (order (vector_of q) (vector_of r)) (order (vector_of p) (vector_of r)) (order-sum (vector_of p) (vector_of q) (vector_of r)) h k
+  where
+    by-signs : (x y z : Sign) → agree x y z ≡ true → x ≡ Plus → not (is_minus y) ≡ true → z ≡ Plus
+    by-signs Plus Plus Plus a h k = refl
+    by-signs Plus Null Plus a h k = refl
+    by-signs Plus Minus z a h k = absurd (cc k)
+    by-signs Plus Plus Null a h k = absurd (cc a)
+    by-signs Plus Plus Minus a h k = absurd (cc a)
+    by-signs Plus Null Null a h k = absurd (cc a)
+    by-signs Plus Null Minus a h k = absurd (cc a)
+    by-signs Null y z a h k = absurd (cc h)
+    by-signs Minus y z a h k = absurd (cc h)
+
+module _ (segs ends : List Seg) (rising : IsRising seg_cmp segs) (rise : EndsRise ends) (next left : ℕ) (old new : List Seg) (is : IsSwept segs ends next left old) (s : Seg) (put : IsEntered s old new)
+    (at : s ≡ get_or segs next s) (inside : next < length segs) (some : left < length ends) (first : order (vector_of s.a) (vector_of (get_or ends left s).b) ≡ Plus) (all-end : (x : Seg) → In x segs → In x ends) where
+  abbrev h' : ℤ
+  h' = (tilted s).from.y
+
+  before-s : (t : Seg) → In t (take next segs) → seg_cmp t s ≡ Less
+  before-s t i =
+      let r = in-index t (take next segs) s i in
+      let low : r.0 < next = (let h = r.1 in omega (arith, h, length-take-le next segs)) in
+      subst (λ u. seg_cmp u s ≡ Less) (sym (get_or-take next segs r.0 s low) ∙ r.2) (subst (λ u. seg_cmp (get_or segs r.0 s) u ≡ Less) (sym at) (rising r.0 next s low inside))
+
+  differs-from-s : (t : Seg) → In t (take next segs) → t ≡ s → ⊥
+  differs-from-s t i e = let own = tied_itself seg_total s in let less : seg_cmp s s ≡ Less = subst (λ u. seg_cmp u s ≡ Less) e (before-s t i) in cc (sym less ∙ own)
+
+  -- all that wait end above s.a
+  ends-above : (u : Seg) → In u (drop left ends) → order (vector_of s.a) (vector_of u.b) ≡ Plus
+  ends-above u i = plus-then-after s.a (get_or ends left s).b u.b first (later-ends ends rise left s u some i)
+
+  spans-there : (t : Seg) → In t (take next segs) → In t (drop left ends) → Spans h' t
+  spans-there t i j = both-in (not (is_plus (sign ((tilted t).from.y -ℤ h')))) (is_plus (sign ((tilted t).to.y -ℤ h'))) (before-height t.a s.a (begins-after t s (before-s t i))) (ap is_plus (height-tilted s.a t.b ∙ ends-above t j))
+    where
+      both-in : (a b : Bool) → a ≡ true → b ≡ true → a && b ≡ true
+      both-in a b h k = rw (h, k) refl
+
+  spans-old : All (Spans h') old
+  spans-old i d h = spans-there (get_or old i d) (is.entered i d h) (is.waiting i d h)
+
+  spans-own : Spans h' s
+  spans-own = both-in (not (is_plus (sign (h' -ℤ h')))) (is_plus (sign ((tilted s).to.y -ℤ h'))) (ap (λ z. not (is_plus z)) (own-height h')) (ap is_plus (tall-tilted s))
+    where
+      both-in : (a b : Bool) → a ≡ true → b ≡ true → a && b ≡ true
+      both-in a b h k = rw (h, k) refl
+
+  abbrev BothSpan : Seg → Type 0
+  BothSpan t = Spans is.height t × Spans h' t
+
+  linked-old : Linked (FitsAbove h') old
+  linked-old = linked_weaker (FitsAbove is.height) (FitsAbove h') BothSpan old (λ i d h. (is.spans i d h, spans-old i d h))
+      (λ t u a b f. record { clear = f.clear; right = sym (ap is_plus (order_persists (at_height is.height) (at_height h') (tilted t) (tilted u) f.clear a.0 b.0 a.1 b.1)) ∙ f.right }) is.linked
+
+  spans-new : All (Spans h') (insert old put.place s)
+  spans-new = all_insert (Spans h') old put.place s spans-old spans-own
+
+  linked-new : Linked (FitsAbove h') (insert old put.place s)
+  linked-new = linked_insert (FitsAbove h') old put.place s put.within linked-old
+      (λ some. let t = get_or old (put.place - 1) s in let f = put.before some in record {
+        clear = clear_of_none t s (differs-from-s t (is.entered (put.place - 1) s (omega (arith, put.within)))) f.0;
+        right = left-fits s t h' (own-height h') f.1;
+      })
+      (λ some. let t = get_or old put.place s in let f = put.after some in record {
+        clear = clear_of_none s t (λ e. differs-from-s t (is.entered put.place s some) (sym e)) f.0;
+        right = right-fits s t h' (own-height h') f.1;
+      })
+
+  bottoms-new : AllPairs (λ t u. BottomsLeft (at_height h') (tilted t) (tilted u)) (insert old put.place s)
+  bottoms-new = all-begin h' (insert old put.place s) spans-new linked-new
+
+  s-there : (d : Seg) → get_or (insert old put.place s) put.place d ≡ s
+  s-there d = get_or-insert_at old put.place s d put.within
+
+  births-new : AllPairs (λ t u. BeginsLeft (tilted t) (tilted u)) (insert old put.place s)
+  births-new = pairs_insert (λ t u. BeginsLeft (tilted t) (tilted u)) old put.place s is.births
+      (λ m d low l.
+      let t = get_or old m d in
+      let b = subst (λ (u : Seg). BottomsLeft (at_height h') (tilted u) (tilted s)) (get_or-insert_below old put.place s d m l put.within)
+      (subst (λ (u : Seg). BottomsLeft (at_height h') (tilted (get_or (insert old put.place s) m d)) (tilted u)) (s-there d) (bottoms-new m put.place d l (omega (arith, put.within, length-insert old put.place s put.within)))) in
+      begins_left (tilted t) (tilted s) (tall-tilted t) (tall-tilted s) (at_height h') b (inr (own-height h')) (low-of (at_height h') (tilted t) (spans-old m d (omega (arith, put.within)))) (low-of (at_height h') (tilted s) spans-own))
+      (λ m d low l.
+      let t = get_or old m d in
+      let b = subst (λ (u : Seg). BottomsLeft (at_height h') (tilted s) (tilted u)) (get_or-insert_above old put.place s d m low put.within)
+      (subst (λ (u : Seg). BottomsLeft (at_height h') (tilted u) (tilted (get_or (insert old put.place s) (m + 1) d))) (s-there d) (bottoms-new put.place (m + 1) d (omega arith) (omega (arith, length-insert old put.place s put.within)))) in
+      begins_left (tilted s) (tilted t) (tall-tilted s) (tall-tilted t) (at_height h') b (inl (own-height h')) (low-of (at_height h') (tilted s) spans-own) (low-of (at_height h') (tilted t) (spans-old m d l)))
+      put.within
+
+  stands : In s (drop left ends)
+  stands = ⊎_elim
+      (λ (i : In s (take left ends)).
+      let after = subst (λ (t : Seg). IsAfter s.b t.a) (sym at) (is.passed s i next s (omega arith) inside) in
+      let back : order (vector_of s.b) (vector_of s.a) ≡ Minus = order-reversed (vector_of s.a) (vector_of s.b) ∙ ap negated (rising_edge s) in
+      absurd (cc (sym (ap (λ z. not (is_minus z)) back) ∙ after)))
+      (λ (i : In s (drop left ends)). i)
+      (in-either (take left ends) (drop left ends) s (subst (In s) (sym (take-append-drop left ends)) (all-end s (subst (λ t. In t segs) (sym at) (in-place segs next s inside)))))
+
+  pub has_entered : IsSwept segs ends (next + 1) left new
+  has_entered =
+      let fresh : IsSwept segs ends (next + 1) left (insert old put.place s) = record {
+        gone = is.gone;
+        height = h';
+        entered = all_insert (λ t. In t (take (next + 1) segs)) old put.place s (λ i d h. more-old (get_or old i d) segs next s inside (is.entered i d h)) (subst (λ t. In t (take (next + 1) segs)) (sym at) (more-new segs next s inside));
+        waiting = all_insert (λ t. In t (drop left ends)) old put.place s is.waiting stands;
+        spans = spans-new;
+        linked = linked-new;
+        births = births-new;
+        cover = λ x i. ⊎_elim
+            (λ (j : In x (take next segs)). ⊎_elim (λ (k : In x old). inl (in-insert-old x s old put.place k)) (λ k. inr k) (is.cover x j))
+            (λ (e : x ≡ get_or segs next s). inl (subst (λ t. In t (insert old put.place s)) (at ∙ sym e) (in-insert-new s old put.place)))
+            (in-more x segs next s inside i);
+        apart = λ u x i j. ⊎_elim
+            (λ (k : In x (take next segs)). is.apart u x i k)
+            (λ (e : x ≡ get_or segs next s).
+            let after = subst (λ (t : Seg). IsAfter u.b t.a) (sym at) (is.passed u (is.gone_in u i) next s (omega arith) inside) in
+            let clear = clear_apart (tilted u) (tilted s) (tall-tilted u) (tall-tilted s) (after-height u.b s.a after) (subst (λ z. not (is_minus z) ≡ true) (sym (order-tilted u.b s.a)) after) in
+            inr (subst (λ (t : Seg). IsClearOf (tilted u) (tilted t)) (at ∙ sym e) clear))
+            (in-more x segs next s inside j);
+        gone_in = is.gone_in;
+        passed = λ u i k d l m. is.passed u i k d (omega arith) m;
+      } in subst (IsSwept segs ends (next + 1) left) (sym put.is) fresh
+
+-- ---- when all have left, no two conflict
+in-later : (s : Seg) (ts : List Seg) → IsRising seg_cmp (s ∷ ts) → (t : Seg) → In t ts → s ≡ t → ⊥
+in-later s ts rising t i e =
+    let r = in-index t ts s i in
+    let less = rising 0 (suc r.0) s (omega arith) (let h = r.1 in omega arith) in
+    let own = tied_itself seg_total s in
+    let same : seg_cmp s s ≡ Less = subst (λ u. seg_cmp s u ≡ Less) (r.2 ∙ sym e) less in cc (sym same ∙ own)
+
+none-with : (s : Seg) (ts : List Seg) → ((t : Seg) → In t ts → conflict_of s t ≡ None) → filter_map (pair_of s) ts ≡ []
+unfolding pair_of
+none-with s [] none = refl
+none-with s (t ∷ ts) none = rw (none t (inl refl)) (none-with s ts (λ u i. none u (inr i)))
+
+no-conflicts : (ss : List Seg) → IsRising seg_cmp ss → ((s t : Seg) → In s ss → In t ss → (s ≡ t) ⊎ IsClearOf (tilted s) (tilted t)) → conflicts_of ss ≡ []
+no-conflicts [] rising clear = refl
+no-conflicts (s ∷ ts) rising clear =
+    rw (none-with s ts (λ t i. ⊎_elim (λ e. absurd (in-later s ts rising t i e)) (λ c. none_of_clear s t c) (clear s t (inl refl) (inr i))))
+    (no-conflicts ts (tail_rising s ts rising) (λ t u i j. clear t u (inr i) (inr j)))
+
+pub all_clear : (segs ends : List Seg) → IsRising seg_cmp segs → (next left : ℕ) (status : List Seg) → next ≡ length segs → length status ≡ 0 → IsSwept segs ends next left status → conflicts_of segs ≡ []
+all_clear segs ends rising next left status whole empty is = no-conflicts segs rising
+    (λ s t i j. ⊎_elim
+    (λ (k : In s status). absurd (none-in s status empty k))
+    (λ (k : In s is.gone). is.apart s t k (among t j))
+    (is.cover s (among s i)))
+  where
+    none-in : (s : Seg) (xs : List Seg) → length xs ≡ 0 → In s xs → ⊥
+    none-in s [] e i = i
+    none-in s (x ∷ xs) e i = absurd (omega arith)
+
+    among : (x : Seg) → In x segs → In x (take next segs)
+    among x i = subst (In x) (sym (take_all next segs (omega arith))) i
+
+pub none_swept : (segs ends : List Seg) → IsSwept segs ends 0 0 []
+none_swept segs ends = record {
+  gone = [];
+  height = pos 0;
+  entered = λ i d h. absurd (omega arith);
+  waiting = λ i d h. absurd (omega arith);
+  spans = λ i d h. absurd (omega arith);
+  linked = λ k d h. absurd (omega arith);
+  births = λ i j d h l. absurd (omega arith);
+  cover = λ x i. absurd i;
+  apart = λ u x i j. absurd i;
+  gone_in = λ u i. absurd i;
+  passed = λ u i k d l m. absurd i;
+}
+
+-- ---- sorted by the upper ends
+pub ends-rise : (ends : List Seg) → IsSortedBy (λ (s t : Seg). is_lt (loc_cmp s.b t.b)) ends → EndsRise ends
+ends-rise ends sorted i j d h l =
+    not-less (order (vector_of (get_or ends i d).b) (vector_of (get_or ends j d).b)) (loc_cmp (get_or ends j d).b (get_or ends i d).b)
+    (loc_cmp-is (get_or ends j d).b (get_or ends i d).b ∙ ap ordering_of (order-reversed (vector_of (get_or ends i d).b) (vector_of (get_or ends j d).b)))
+    (sorted_far (λ (s t : Seg). is_lt (loc_cmp s.b t.b)) (ranks_by loc_total (λ (s : Seg). s.b)) ends sorted i j d h l)
+  where
+    not-less : (s : Sign) (o : Ordering) → o ≡ ordering_of (negated s) → is_lt o ≡ false → not (is_minus s) ≡ true
+    not-less Plus o e h = refl
+    not-less Null o e h = refl
+    not-less Minus o e h = absurd (cc (sym (ap is_lt e) ∙ h))
+
+-- ---- a segment that doesn't begin before the next upper end, nor any later one
+after-chain : (p q r : Loc) → IsAfter p q → IsAfter q r → IsAfter p r
+after-chain p q r h k = by-signs (order (vector_of p) (vector_of q)) (order (vector_of q) (vector_of r)) (order (vector_of p) (vector_of r)) (order-sum (vector_of p) (vector_of q) (vector_of r)) h k
+  where
+    by-signs : (x y z : Sign) → agree x y z ≡ true → not (is_minus x) ≡ true → not (is_minus y) ≡ true → not (is_minus z) ≡ true
+    by-signs x y Plus a h k = refl
+    by-signs x y Null a h k = refl
+    by-signs Plus Plus Minus a h k = absurd (cc a)
+    by-signs Plus Null Minus a h k = absurd (cc a)
+    by-signs Null Plus Minus a h k = absurd (cc a)
+    by-signs Null Null Minus a h k = absurd (cc a)
+    by-signs Minus y Minus a h k = absurd (cc h)
+    by-signs Plus Minus Minus a h k = absurd (cc k)
+    by-signs Null Minus Minus a h k = absurd (cc k)
+
+pub leaves-by : (segs : List Seg) → IsRising seg_cmp segs → (next : ℕ) (e : Loc) (s : Seg) → s ≡ get_or segs next s → next < length segs → is_plus (order (vector_of s.a) (vector_of e)) ≡ false →
+    (i : ℕ) (d : Seg) → next ≤ i → i < length segs → IsAfter e (get_or segs i d).a
+leaves-by segs rising next e s at inside not-before i d h l =
+    let here : IsAfter e (get_or segs next d).a = subst (λ (t : Seg). IsAfter e t.a) (at ∙ same_get segs next s d inside) (turned (order (vector_of s.a) (vector_of e)) (order (vector_of e) (vector_of s.a)) (order-reversed (vector_of s.a) (vector_of e)) not-before) in
+    ⊎_elim
+    (λ (same : i ≡ next). subst (λ m. IsAfter e (get_or segs m d).a) (sym same) here)
+    (λ (other : i ≢ next). after-chain e (get_or segs next d).a (get_or segs i d).a here (begins-after (get_or segs next d) (get_or segs i d) (rising next i d (omega (arith, other)) l)))
+    (cases_eq i next)
+  where
+    turned : (x y : Sign) → y ≡ negated x → is_plus x ≡ false → not (is_minus y) ≡ true
+    turned Plus y h n = absurd (cc n)
+    turned Null y h n = ap (λ s. not (is_minus s)) h
+    turned Minus y h n = ap (λ s. not (is_minus s)) h
+
+pub from-contains : (xs : List Seg) (x : Seg) → Contains xs x → In x xs
+from-contains xs x (m, inside, at) = subst (λ y. In y xs) at (in-place xs m x inside)
+
+pub to-contains : (xs : List Seg) (x : Seg) → In x xs → Contains xs x
+to-contains xs x i = in-index x xs x i

@@ -1,0 +1,56 @@
+-- One step of a sweep upwards over segments: where a segment stands among those that span the point at which it begins, and who stand side by side once it has ended. No public contract cites it.
+use Rattle.std.specs.Prelude.{Bool, List, None, insert, length, not, remove, slice_index_or, true, ℕ, ◌&&◌, ◌+◌, ◌-◌, ◌<◌, ◌||◌, ◌≡◌, ◌≤◌}
+use Rattle.plane.specs.Order.{order}
+use Rattle.plane.specs.Sign.{Sign, is_minus, is_plus}
+use Rattle.plane.specs.Vector.{orient}
+use Rattle.osm_geom.specs.declared.loc.Loc.{Loc}
+use Rattle.osm_geom.specs.declared.seg.Seg.{Seg}
+use Rattle.osm_geom.specs.Conflict.{conflict_of}
+use Rattle.osm_geom.specs.Loc.{vector_of}
+
+-- the side of the line of t on which p lies
+abbrev pub side : Loc → Seg → Sign
+side p t = orient (vector_of t.a) (vector_of t.b) (vector_of p)
+
+unfoldable pub left_of_line : Loc → Seg → Bool
+left_of_line p t = is_plus (side p t)
+
+unfoldable pub right_of_line : Loc → Seg → Bool
+right_of_line p t = is_minus (side p t)
+
+-- t is right of s at the lower end of s, or s begins on its line and turns left of it
+abbrev pub lies_right : Seg → Seg → Bool
+lies_right s t = left_of_line s.a t || (not (right_of_line s.a t) && left_of_line s.b t)
+
+abbrev pub lies_left : Seg → Seg → Bool
+lies_left s t = right_of_line s.a t || (not (left_of_line s.a t) && right_of_line s.b t)
+
+abbrev pub FitsBefore : Seg → Seg → Type 0
+FitsBefore s t = (conflict_of t s ≡ None) × (lies_left s t ≡ true)
+
+abbrev pub FitsAfter : Seg → Seg → Type 0
+FitsAfter s t = (conflict_of s t ≡ None) × (lies_right s t ≡ true)
+
+-- s was put between two that fit
+pub record IsEntered (s : Seg) (old new : List Seg) : Type 0 where
+  pub place : ℕ
+  pub within : place ≤ length old
+  pub before : 0 < place → FitsBefore s (slice_index_or old (place - 1) s)
+  pub after : place < length old → FitsAfter s (slice_index_or old place s)
+  pub is : new ≡ insert old place s
+
+-- s was taken out, and the two between which it stood don't conflict
+pub record HasLeft (s : Seg) (old new : List Seg) : Type 0 where
+  pub place : ℕ
+  pub inside : place < length old
+  pub at : slice_index_or old place s ≡ s
+  pub closes : (d : Seg) → 0 < place → place + 1 < length old → conflict_of (slice_index_or old (place - 1) d) (slice_index_or old (place + 1) d) ≡ None
+  pub is : new ≡ remove old place
+
+-- q isn't before p
+abbrev pub IsAfter : Loc → Loc → Type 0
+IsAfter p q = not (is_minus (order (vector_of p) (vector_of q))) ≡ true
+
+-- each upper end is after those of all earlier ones
+abbrev pub EndsRise : List Seg → Type 0
+EndsRise ends = (i j : ℕ) (d : Seg) → i ≤ j → j < length ends → IsAfter (slice_index_or ends i d).b (slice_index_or ends j d).b

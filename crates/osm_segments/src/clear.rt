@@ -1,0 +1,196 @@
+//! Whether segments are free of conflicts, by one sweep upwards.
+ghost use Rattle.std.specs.Prelude.{◌≡◌, ◌<◌, ◌≤◌, ◌-◌, ◌+◌, ℕ, [], IfOk, IfSome, IsPermutation, None, false, length, slice_index_or, true};
+ghost use Rattle.osm_geom.specs.declared.seg.Seg.{Seg};
+ghost use Rattle.osm_geom.specs.Conflict.{conflict_of};
+ghost use Rattle.plane.specs.Order.{order};
+ghost use Rattle.plane.specs.Sign.{Plus, is_plus};
+ghost use Rattle.osm_geom.specs.Loc.{vector_of};
+ghost use Rattle.osm_geom.specs.Seg.{seg_cmp};
+ghost use Rattle.osm_lists.specs.Rising.{IsRising};
+ghost use Rattle.osm_segments.specs.Pairs.{conflicts_of};
+ghost use Rattle.osm_segments.specs.Sweep.{EndsRise, FitsAfter, FitsBefore, HasLeft, IsAfter, IsEntered, left_of_line, lies_left, lies_right, right_of_line};
+
+use chunked_list::ChunkedList;
+use osm_geom::{Loc, Seg, conflict, orient};
+use std::alloc::{AllocError, Global};
+
+#[tactic(auto, unfolding(crate::specs::Sweep::left_of_line, osm_geom::specs::Loc::orientation))]
+fn is_left_of_line(p: Loc, t: Seg) -> bool
+    ensures { result ≡ left_of_line p t }
+{
+    orient(t.a, t.b, p) > 0
+}
+
+#[tactic(auto, unfolding(crate::specs::Sweep::right_of_line, osm_geom::specs::Loc::orientation))]
+fn is_right_of_line(p: Loc, t: Seg) -> bool
+    ensures { result ≡ right_of_line p t }
+{
+    orient(t.a, t.b, p) < 0
+}
+
+// `t` is right of `s` just above the lower end of `s`, where both pass that height.
+fn lies_right(s: Seg, t: Seg) -> bool
+    ensures { result ≡ lies_right s t }
+{
+    is_left_of_line(s.a, t) || !is_right_of_line(s.a, t) && is_left_of_line(s.b, t)
+}
+
+fn lies_left(s: Seg, t: Seg) -> bool
+    ensures { result ≡ lies_left s t }
+{
+    is_right_of_line(s.a, t) || !is_left_of_line(s.a, t) && is_right_of_line(s.b, t)
+}
+
+fn are_clear(s: Seg, t: Seg) -> bool
+    ensures { result ≡ true → conflict_of s t ≡ None }
+{
+    conflict(s, t).is_none()
+}
+
+fn fits_before(s: Seg, t: Seg) -> bool
+    ensures { result ≡ true → FitsBefore s t }
+{
+    are_clear(t, s) && lies_left(s, t)
+}
+
+fn fits_after(s: Seg, t: Seg) -> bool
+    ensures { result ≡ true → FitsAfter s t }
+{
+    are_clear(s, t) && lies_right(s, t)
+}
+
+// Whether the two between which a place lies fit.
+fn fits_at(status: &ChunkedList<Seg>, place: usize, s: Seg) -> bool
+    requires { place ≤ length status.now }
+    ensures before { result ≡ true → 0 < place → FitsBefore s (slice_index_or status.now (place - 1) s) }
+    ensures after { result ≡ true → place < length status.now → FitsAfter s (slice_index_or status.now place s) }
+{
+    if place > 0 && !fits_before(s, status.get(place - 1)) {
+        return false;
+    }
+    if place < status.len() && !fits_after(s, status.get(place)) {
+        return false;
+    }
+    true
+}
+
+// Puts a segment where it seems to belong, if it fits there.
+fn enter(status: &mut ChunkedList<Seg>, s: Seg) -> Result<bool, AllocError>
+    ensures { IfOk result (λ fits. fits ≡ true → IsEntered s status.old status.new) }
+{
+    let place = status.partition_point(|t| !lies_right(s, *t));
+    if !fits_at(status, place, s) {
+        return Ok(false);
+    }
+    status.insert(place, s)?;
+    Ok(true)
+}
+
+// Whether `t` is left of `s` just below the upper end of `s`, where both reach that height. Only speed rests on it.
+fn is_left_below(t: Seg, s: Seg) -> bool {
+    is_right_of_line(s.b, t) || !is_left_of_line(s.b, t) && is_right_of_line(s.a, t)
+}
+
+// The place of a segment, if it stands just behind those that are left of it.
+#[tactic(auto, using(osm_geom::proofs::Orders::seg_same))]
+fn find(status: &ChunkedList<Seg>, s: Seg) -> Option<usize>
+    ensures inside { IfSome result (λ place. place < length status.now) }
+    ensures at { IfSome result (λ place. slice_index_or status.now place s ≡ s) }
+{
+    let place = status.partition_point(|t| is_left_below(*t, s));
+    if place < status.len() && status.get(place) == s {
+        return Some(place);
+    }
+    None
+}
+
+// Whether the two beside a place don't conflict.
+fn closes(status: &ChunkedList<Seg>, place: usize) -> bool
+    requires { place < length status.now }
+    ensures { result ≡ true → (d : Seg) → 0 < place → place + 1 < length status.now → conflict_of (slice_index_or status.now (place - 1) d) (slice_index_or status.now (place + 1) d) ≡ None }
+{
+    if place > 0
+        && place < status.len() - 1
+        && !are_clear(status.get(place - 1), status.get(place + 1))
+    {
+        return false;
+    }
+    true
+}
+
+// Takes a segment out, if it stands there and the two beside it don't conflict.
+fn leave(status: &mut ChunkedList<Seg>, s: Seg) -> bool
+    ensures { result ≡ true → HasLeft s status.old status.new }
+{
+    match find(status, s) {
+        Some(place) => {
+            if !closes(status, place) {
+                return false;
+            }
+            status.remove(place);
+            true
+        }
+        None => false,
+    }
+}
+
+// The segments in order of their upper ends.
+fn by_ends(alloc: Global, segs: &[Seg]) -> Result<Vec<Seg>, AllocError>
+    ensures moved { IfOk result (λ ends. IsPermutation segs.now ends.items) }
+    ensures rise { IfOk result (λ ends. EndsRise ends.items) }
+{
+    let mut ends = Vec::from_slice(alloc, segs)?;
+    ends.sort_by(|s, t| s.b.cmp(&t.b))?;
+    Ok(ends)
+}
+
+#[tactic(auto, using(osm_geom::proofs::LocationOrder::is_lt_before), unfolding(osm_geom::specs::ConflictTests::before))]
+fn is_before(p: Loc, q: Loc) -> bool
+    ensures { result ≡ is_plus (order (vector_of p) (vector_of q)) }
+{
+    p < q
+}
+
+// Whether the next segment begins before the next upper end.
+fn next_enters(segs: &[Seg], next: usize, end: Seg) -> bool
+    requires { IsRising seg_cmp segs.now }
+    ensures inside { result ≡ true → next < length segs.now }
+    ensures enters { result ≡ true → (d : Seg) → order (vector_of (slice_index_or segs.now next d).a) (vector_of end.b) ≡ Plus }
+    ensures leaves { result ≡ false → (i : ℕ) (d : Seg) → next ≤ i → i < length segs.now → IsAfter end.b (slice_index_or segs.now i d).a }
+{
+    if next >= segs.len() {
+        return false;
+    }
+    is_before(segs[next].a, end.b)
+}
+
+/// Whether one sweep upwards finds segments in strict order free of conflicts.
+///
+/// Each enters between those of the status that are left and right of its lower end, and leaves at its upper end; who come to stand
+/// side by side are tried. No other pairs are.
+pub fn is_clear(alloc: Global, segs: &[Seg]) -> Result<bool, AllocError>
+    requires { IsRising seg_cmp segs.now }
+    ensures { IfOk result (λ clear. clear ≡ true → conflicts_of segs.now ≡ []) }
+{
+    let ends = by_ends(alloc, segs)?;
+    let mut status = ChunkedList::new(alloc);
+    let mut next = 0;
+    let mut left = 0;
+    while left < ends.len() {
+        if next_enters(segs, next, ends[left]) {
+            if !enter(&mut status, segs[next])? {
+                return Ok(false);
+            }
+            next += 1;
+        } else {
+            if !leave(&mut status, ends[left]) {
+                return Ok(false);
+            }
+            left += 1;
+        }
+    }
+    if next != segs.len() {
+        return Ok(false);
+    }
+    Ok(status.is_empty())
+}
