@@ -79,7 +79,7 @@ pub was : (ps bs : List Polygon) → ArePolygonsBegun ps bs → (b : Polygon) �
 was [] bs h b i = absurd (subst (In b) h i)
 was (p ∷ ps) bs h b i = was-by p ps h.0 h.1 h.3 b (subst (In b) h.2 i) (was ps h.1 h.4 b)
 
-in-rings : (gs : List Polygon) (g : Polygon) (r : List Edge) → In g gs → In r (rings_in g) → In r (rings_of gs)
+pub in-rings : (gs : List Polygon) (g : Polygon) (r : List Edge) → In g gs → In r (rings_in g) → In r (rings_of gs)
 in-rings [] g r i j = absurd i
 in-rings (x ∷ gs) g r (inl e) j = in-left (rings_in x) (rings_of gs) r (subst (λ (y : Polygon). In r (rings_in y)) e j)
 in-rings (x ∷ gs) g r (inr i) j = in-right (rings_in x) (rings_of gs) r (in-rings gs g r i j)

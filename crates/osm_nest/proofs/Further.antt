@@ -112,7 +112,7 @@ module _ (es : List Edge) (m : ℕ) (some : 1 ≤ m) where
       (subst (λ s. IsAnchor s (scaled_edges (pos m) (segments_times d es))) (further-one d m some e (whole-at es e i)) (subst (λ l. IsAnchor (segment_at (d * m) e) l) list-further a))
 
 -- the common denominator of rings is a multiple of that of each
-factor-some : (k d m : ℕ) → 1 ≤ k → k ≡ d * m → 1 ≤ m
+pub factor-some : (k d m : ℕ) → 1 ≤ k → k ≡ d * m → 1 ≤ m
 factor-some k d zero h e = let z : d * 0 ≡ 0 = omega arith in absurd (omega arith)
 factor-some k d (suc m) h e = omega arith
 

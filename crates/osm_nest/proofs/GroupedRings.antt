@@ -26,7 +26,7 @@ use Rattle.osm_nest.specs.Polygons.{polygon_times, rings_in, rings_of}
 use Rattle.osm_nest.specs.RingLists.{AreRings, all_edges, whole_rings}
 use Rattle.osm_nest.proofs.Further.{all-edges-in}
 use Rattle.osm_nest.proofs.InPlane.{whole-at}
-use Rattle.osm_nest.proofs.Enclosers.{inner-at, outer-at}
+use Rattle.osm_nest.proofs.DirectEnclosers.{inner-at, outer-at}
 use Rattle.osm_nest.proofs.TurnedAnchors.{runs-turned}
 use Rattle.osm_nest.proofs.BegunPolygons.{cover_begun, rings-total, sided_begun}
 use Rattle.osm_nest.proofs.Bools.{clash}

@@ -17,8 +17,8 @@ use Rattle.nesting.proofs.Nearest.{beyond-order}
 use Rattle.nesting.proofs.RingLists.{pairs-of}
 use Rattle.std.specs.List.{count_by, filter}
 use Rattle.osm_geom.specs.declared.edge.Edge.{Edge}
-use Rattle.osm_nest.specs.declared.homes.Candidate.{Candidate}
-use Rattle.osm_nest.specs.Beside.{IsBestUpTo, IsCandidate, IsCandidateAt, IsCandidateBy, IsNearest, IsNearestRight, IsNearestUpTo, IsRight, better_of, closer_of, is_around, is_nearer, is_right_of, nearer_of}
+use Rattle.osm_nest.specs.declared.enclosers.Encloser.{Encloser}
+use Rattle.osm_nest.specs.Beside.{IsBestUpTo, IsEncloser, IsEncloserAt, IsEncloserBy, IsNearest, IsNearestRight, IsNearestUpTo, IsRight, better_of, closer_of, is_around, is_nearer, is_right_of, nearer_of}
 use Rattle.osm_nest.specs.Outer.{AreClear, IsOuter}
 use Rattle.osm_nest.proofs.Bools.{clash}
 use Rattle.osm_nest.proofs.Beside.{nearer-at, nearer-chain, not-nearer, not-nearer-itself, right-at}
@@ -137,10 +137,10 @@ module _ (a : Edge) (es : List Edge) (clear : AreClear es) (f g : Edge) (i : In 
 
 -- ---- among rings
 module _ (rs : List (List Edge)) (a : Edge) (n : ℕ) where
-  none-more : ((k : ℕ) → k < n → IsCandidate rs a k → ⊥) → (IsCandidate rs a n → ⊥) → (k : ℕ) → k < n + 1 → IsCandidate rs a k → ⊥
-  none-more none here k h c = ⊎_elim (λ m. none k m c) (λ m. let e : k ≡ n = omega arith in here (subst (λ j. IsCandidate rs a j) e c)) (cases_lt k n)
+  none-more : ((k : ℕ) → k < n → IsEncloser rs a k → ⊥) → (IsEncloser rs a n → ⊥) → (k : ℕ) → k < n + 1 → IsEncloser rs a k → ⊥
+  none-more none here k h c = ⊎_elim (λ m. none k m c) (λ m. let e : k ≡ n = omega arith in here (subst (λ j. IsEncloser rs a j) e c)) (cases_lt k n)
 
-  first-candidate : (c : Candidate) → ((k : ℕ) → k < n → IsCandidate rs a k → ⊥) → c.place ≡ n → IsCandidateBy rs a c → IsNearestUpTo rs a (n + 1) c
+  first-candidate : (c : Encloser) → ((k : ℕ) → k < n → IsEncloser rs a k → ⊥) → c.place ≡ n → IsEncloserBy rs a c → IsNearestUpTo rs a (n + 1) c
   first-candidate c none at by = record {
     is = by;
     nearest = λ k h d f i r. ⊎_elim
@@ -149,29 +149,29 @@ module _ (rs : List (List Edge)) (a : Edge) (n : ℕ) where
         (cases_lt k n);
   }
 
-  kept : (b : Candidate) → IsNearestUpTo rs a n b → (IsCandidate rs a n → ⊥) → IsNearestUpTo rs a (n + 1) b
+  kept : (b : Encloser) → IsNearestUpTo rs a n b → (IsEncloser rs a n → ⊥) → IsNearestUpTo rs a (n + 1) b
   kept b inv here = record {
     is = inv.is;
     nearest = λ k h d f i r. ⊎_elim
         (λ m. inv.nearest k m d f i r)
-        (λ m. let e : k ≡ n = omega arith in absurd (here (subst (λ j. IsCandidate rs a j) e d)))
+        (λ m. let e : k ≡ n = omega arith in absurd (here (subst (λ j. IsEncloser rs a j) e d)))
         (cases_lt k n);
   }
 
-  behind-by : (b c : Candidate) (f : Edge) → IsCandidateBy rs a b → IsCandidateBy rs a c → is_right_of a f ≡ true → is_nearer a c.edge b.edge ≡ false → (f ≡ c.edge) ⊎ (is_nearer a c.edge f ≡ true) → is_nearer a f b.edge ≡ false
+  behind-by : (b c : Encloser) (f : Edge) → IsEncloserBy rs a b → IsEncloserBy rs a c → is_right_of a f ≡ true → is_nearer a c.edge b.edge ≡ false → (f ≡ c.edge) ⊎ (is_nearer a c.edge f ≡ true) → is_nearer a f b.edge ≡ false
   behind-by b c f ib ic r n (inl e) = ap (λ x. is_nearer a x b.edge) e ∙ n
   behind-by b c f ib ic r n (inr m) =
       false-if-never (is_nearer a f b.edge) (λ k. clash (is_nearer a c.edge b.edge) (nearer-chain a c.edge f b.edge ic.edge.right r ib.edge.right m k) n)
 
   module _ (clear : AreClear (get_or rs n [])) where
-    behind : (b c : Candidate) (f : Edge) → IsCandidateBy rs a b → c.place ≡ n → IsCandidateBy rs a c → In f (get_or rs n []) → is_right_of a f ≡ true → is_nearer a c.edge b.edge ≡ false → is_nearer a f b.edge ≡ false
+    behind : (b c : Encloser) (f : Edge) → IsEncloserBy rs a b → c.place ≡ n → IsEncloserBy rs a c → In f (get_or rs n []) → is_right_of a f ≡ true → is_nearer a c.edge b.edge ≡ false → is_nearer a f b.edge ≡ false
     behind b c f ib at ic i r m =
         let ring = get_or rs c.place [] in
         let j : In f ring = subst (λ k. In f (get_or rs k [])) (sym at) i in
         let clear_c : AreClear ring = subst (λ k. AreClear (get_or rs k [])) (sym at) clear in
         behind-by b c f ib ic r m (in-ring a ring clear_c f c.edge j ic.edge.member r ic.edge.right (ic.edge.nearest f j r))
 
-    chosen : (b c : Candidate) (d : Bool) → is_nearer a c.edge b.edge ≡ d → IsNearestUpTo rs a n b → c.place ≡ n → IsCandidateBy rs a c → IsBestUpTo rs a (n + 1) (cond d (Some c) (Some b))
+    chosen : (b c : Encloser) (d : Bool) → is_nearer a c.edge b.edge ≡ d → IsNearestUpTo rs a n b → c.place ≡ n → IsEncloserBy rs a c → IsBestUpTo rs a (n + 1) (cond d (Some c) (Some b))
     chosen b c true m inv at by = record {
       is = by;
       nearest = λ k h d f i r. ⊎_elim
@@ -187,17 +187,17 @@ module _ (rs : List (List Edge)) (a : Edge) (n : ℕ) where
           (cases_lt k n);
     }
 
-    pub better-step : (best next : Option Candidate) → IsBestUpTo rs a n best → IsCandidateAt rs a n next → IsBestUpTo rs a (n + 1) (better_of a best next)
+    pub better-step : (best next : Option Encloser) → IsBestUpTo rs a n best → IsEncloserAt rs a n next → IsBestUpTo rs a (n + 1) (better_of a best next)
     better-step None None inv at = none-more inv at
     better-step None (Some c) inv at = first-candidate c inv at.0 at.1
     better-step (Some b) None inv at = kept b inv at
     better-step (Some b) (Some c) inv at = chosen b c (is_nearer a c.edge b.edge) refl inv at.0 at.1
 
-pub best-right : (rs : List (List Edge)) (a : Edge) (n : ℕ) (best : Option Candidate) → IsBestUpTo rs a n best → IfSome best (λ c. IsRight a c.edge)
+pub best-right : (rs : List (List Edge)) (a : Edge) (n : ℕ) (best : Option Encloser) → IsBestUpTo rs a n best → IfSome best (λ c. IsRight a c.edge)
 best-right rs a n None inv = tt
 best-right rs a n (Some c) inv = inv.is.edge.right
 
-pub next-right : (rs : List (List Edge)) (a : Edge) (n : ℕ) (next : Option Candidate) → IsCandidateAt rs a n next → IfSome next (λ c. IsRight a c.edge)
+pub next-right : (rs : List (List Edge)) (a : Edge) (n : ℕ) (next : Option Encloser) → IsEncloserAt rs a n next → IfSome next (λ c. IsRight a c.edge)
 next-right rs a n None at = tt
 next-right rs a n (Some c) at = at.1.edge.right
 
@@ -207,15 +207,15 @@ none-around a es h =
     let n : count_by (is_right_of a) es ≡ 0 = sym (total-is (λ f. bit (is_right_of a f)) es) ∙ none-in (λ f. bit (is_right_of a f)) es (λ f i. ap bit (h f i)) in
     ap (λ k. not (is_even k)) n
 
-pub candidate-by : (rs : List (List Edge)) (a : Edge) (k : ℕ) (r : List Edge) (e : Edge) → k < length rs → r ≡ get_or rs k r → IsOuter (get_or rs k []) → is_around a r ≡ true → IsNearest a r e → (k ≡ k) × IsCandidateBy rs a (record { place = k; edge = e })
-candidate-by rs a k r e h is o odd n =
+pub encloser-by : (rs : List (List Edge)) (a : Edge) (k : ℕ) (r : List Edge) (e : Edge) → k < length rs → r ≡ get_or rs k r → IsOuter (get_or rs k []) → is_around a r ≡ true → IsNearest a r e → (k ≡ k) × IsEncloserBy rs a (record { place = k; edge = e })
+encloser-by rs a k r e h is o odd n =
     let own : r ≡ get_or rs k [] = is ∙ get_or_default rs k r [] h in
     (refl, record { candidate = record { inside = h; outer = o; odd = subst (λ l. is_around a l ≡ true) own odd }; edge = subst (λ l. IsNearest a l e) own n })
 
-pub not-outer : (rs : List (List Edge)) (a : Edge) (k : ℕ) (b : Bool) → (b ≡ true) ↔ IsOuter (get_or rs k []) → b ≡ false → IsCandidate rs a k → ⊥
+pub not-outer : (rs : List (List Edge)) (a : Edge) (k : ℕ) (b : Bool) → (b ≡ true) ↔ IsOuter (get_or rs k []) → b ≡ false → IsEncloser rs a k → ⊥
 not-outer rs a k b tells n c = clash b (tells.1 c.outer) n
 
-pub no-candidate : (rs : List (List Edge)) (a : Edge) (k : ℕ) (r : List Edge) → k < length rs → r ≡ get_or rs k r → ((f : Edge) → In f r → is_right_of a f ≡ false) → IsCandidate rs a k → ⊥
-no-candidate rs a k r h is none c =
+pub no-encloser : (rs : List (List Edge)) (a : Edge) (k : ℕ) (r : List Edge) → k < length rs → r ≡ get_or rs k r → ((f : Edge) → In f r → is_right_of a f ≡ false) → IsEncloser rs a k → ⊥
+no-encloser rs a k r h is none c =
     let own : r ≡ get_or rs k [] = is ∙ get_or_default rs k r [] h in
     clash (is_around a (get_or rs k [])) c.odd (subst (λ l. is_around a l ≡ false) own (none-around a r none))

@@ -22,6 +22,7 @@ use Rattle.osm_geom.specs.Point.{den_of}
 use Rattle.sided.specs.Multiple.{common_den, edges_times}
 use Rattle.sided.specs.Sided.{IsSided}
 use Rattle.osm_rings.specs.PlaneEdge.{IsWholeSegment}
+use Rattle.osm_rings.specs.Laws.{RingsOfEdgesDoNotCross}
 use Rattle.osm_rings.specs.RingList.{AreRingsOf}
 use Rattle.osm_rings.proofs.Whole.{same-location}
 use Rattle.osm_nest.specs.RingLists.{AreRings, all_edges}
@@ -84,7 +85,7 @@ pub none-in : {X : Type 0} (f : X → ℕ) (xs : List X) → ((x : X) → In x x
 none-in f [] h = refl
 none-in f (x ∷ xs) h = let a = h x (inl refl) in let b = none-in f xs (λ y i. h y (inr i)) in omega arith
 
-none-out : {X : Type 0} (f : X → ℕ) (xs : List X) (x : X) → total f xs ≡ 0 → In x xs → f x ≡ 0
+pub none-out : {X : Type 0} (f : X → ℕ) (xs : List X) (x : X) → total f xs ≡ 0 → In x xs → f x ≡ 0
 none-out f [] x h i = absurd i
 none-out f (y ∷ ys) x h (inl e) = ap f e ∙ (let n : f y ≡ 0 = omega arith in n)
 none-out f (y ∷ ys) x h (inr i) = none-out f ys x (omega arith) i
@@ -161,11 +162,11 @@ all-sum : (f : Edge → ℕ) (rs : List (List Edge)) → total f (all_edges rs) 
 all-sum f [] = refl
 all-sum f (r ∷ rs) = let a = total-++ f r (all_edges rs) in let b = total-is f r in let c = all-sum f rs in omega arith
 
-same-common : (es : List Edge) (rs : List (List Edge)) → AreRingsOf es rs → common_den es ≡ common_den (all_edges rs)
+pub same-common : (es : List Edge) (rs : List (List Edge)) → AreRingsOf es rs → common_den es ≡ common_den (all_edges rs)
 same-common es rs are =
     common-is es
     ∙ same-product dens es (all_edges rs) (λ f. let g = λ (e : Edge). f (dens e) in total-is g es ∙ sym (are.edges g) ∙ sym (total-is (λ r. sum_by g r) rs) ∙ sym (all-sum g rs))
     ∙ sym (common-is (all_edges rs))
 
-pub may-be-nested : (es : List Edge) (rs : List (List Edge)) → IsSided es → AreRingsOf es rs → AreRings rs
-may-be-nested es rs s are = record { ring_list = subst (λ k. IsRingList (map (edges_times k) rs)) (same-common es rs are) are.rings }
+pub may-be-nested : RingsOfEdgesDoNotCross → (es : List Edge) (rs : List (List Edge)) → IsSided es → AreRingsOf es rs → AreRings rs
+may-be-nested uncrossed es rs s are = record { ring_list = subst (λ k. IsRingList (map (edges_times k) rs)) (same-common es rs are) (uncrossed es s rs are) }

@@ -1,5 +1,5 @@
 -- Anchors of rings: that there is one, that it is one alone, and how the ring winds.
-use Rattle.std.proofs.Common.{◌≡◌, ◌≢◌, inl, inr, Bool, true, false, not, ℕ, ◌+◌, ◌-◌, ◌<◌, ◌%◌, ◌⊎◌, ◌↔◌, ◌-ℤ◌, ℤ, pos, List, [], ◌∷◌, length, get_or, map, cond, refl, sym, ap, subst, suc, ◌∙◌, arith}
+use Rattle.std.proofs.Common.{◌≡◌, inl, inr, Bool, true, false, not, ℕ, ◌%◌, ◌⊎◌, ◌↔◌, ◌-ℤ◌, ℤ, pos, List, [], ◌∷◌, length, map, cond, refl, sym, ap, subst, ◌∙◌}
 use Rattle.plane.specs.Conflict.{IsClearOf}
 use Rattle.plane.specs.Edge as plane
 use Rattle.plane.specs.Edge.{segment_of}
@@ -7,9 +7,7 @@ use Rattle.plane.specs.Order.{order}
 use Rattle.plane.specs.Scale.{scaled_edge, scaled_point}
 use Rattle.plane.specs.Sign.{Plus, is_plus, sign}
 use Rattle.plane.specs.Vector.{Vector, east, same_point}
-use Rattle.plane.proofs.Bools.{false-if-never}
 use Rattle.plane.proofs.Conflicts.{self_conflicts}
-use Rattle.plane.proofs.Points.{same_point-true}
 use Rattle.plane.proofs.Scaling.{order-scaled, point-scaled}
 use Rattle.winding.specs.ConflictFree.{IsConflictFree}
 use Rattle.winding.specs.EdgeList.{crossing_count, winding_number}
@@ -23,16 +21,15 @@ use Rattle.winding.proofs.Members.{all-in, in-all, in-map, in-map-out}
 use Rattle.winding.proofs.ScaledLists.{map-map, plain_scaled}
 use Rattle.nesting.proofs.DirectRings.{pairs-unmap}
 use Rattle.nesting.proofs.RingLists.{pairs-of}
-use Rattle.sided.specs.Multiple.{IsWholeAt, common_den, edge_times, edges_times, point_times, whole_edges}
+use Rattle.sided.specs.Multiple.{common_den, edge_times, whole_edges}
 use Rattle.sided.proofs.MultipliedEdges.{rises_alike}
-use Rattle.sided.proofs.MultipliedPoints.{same_is_same}
 use Rattle.osm_geom.specs.declared.edge.Edge.{Edge}
 use Rattle.osm_geom.specs.Edge.{runs_up}
 use Rattle.osm_rings.specs.Ring.{IsRing}
+use Rattle.osm_rings.proofs.PlaneRings.{plane-ring}
 use Rattle.osm_nest.specs.Outer.{AnchorRuns, AreClear, IsAnchorOf, IsInner, IsOuter, WindsBySign}
 use Rattle.osm_nest.proofs.Further.{anchor-scaled, segment-scaled, segments-scaled}
 use Rattle.osm_nest.proofs.InPlane.{segment_at, segments_times, whole-at}
-use Rattle.osm_nest.proofs.Items.{in-at}
 use Rattle.osm_nest.proofs.Leftmost.{IsFirstUpTo, along, first-is-anchor, segments_along}
 
 -- ---- the segments of the multiplied list
@@ -89,46 +86,6 @@ module _ (es : List Edge) (clear : AreClear es) where
 
   pub inner-by : (e : Edge) → IsAnchorOf e es → (not (runs_up e) ≡ false) ↔ IsInner es
   inner-by e a = (λ h. runs-into e true a (not-back-false (runs_up e) h), λ r. ap not (runs-out e true a r))
-
--- ---- the ring of the plane
-module _ (k : ℕ) where
-  path-of : (es : List Edge) (d : Edge) → ((j : ℕ) (d : Edge) → j + 1 < length es → (get_or es j d).to ≡ (get_or es (j + 1) d).from) → 0 < length es →
-      IsPath (point_times k (get_or es 0 d).from) (edges_times k es) (point_times k (get_or es (length es - 1) d).to)
-  path-of [] d joins h = absurd (omega arith)
-  path-of (e ∷ []) d joins h = (refl, refl)
-  path-of (e ∷ (f ∷ es)) d joins h =
-      let rest = path-of (f ∷ es) d (λ j d l. let same : suc j + 1 ≡ suc (j + 1) = omega arith in joins (suc j) d (omega arith) ∙ ap (λ m. (get_or (e ∷ (f ∷ es)) m d).from) same) (omega arith) in
-      let same : length (e ∷ (f ∷ es)) - 1 ≡ suc (length (f ∷ es) - 1) = omega arith in
-      let join : point_times k f.from ≡ point_times k e.to = ap (point_times k) (sym (joins 0 d (omega arith))) in (
-        refl,
-        subst (λ m. IsPath (point_times k e.to) (edges_times k (f ∷ es)) (point_times k (get_or (e ∷ (f ∷ es)) m d).to)) (sym same)
-            (subst (λ v. IsPath v (edges_times k (f ∷ es)) (point_times k (get_or (f ∷ es) (length (f ∷ es) - 1) d).to)) join rest),
-      )
-
-  apart-by : (e f : Edge) → IsWholeAt k e → IsWholeAt k f → e.from ≢ f.from → same_point (point_times k e.from) (point_times k f.from) ≡ false
-  apart-by e f w v n =
-      false-if-never (same_point (point_times k e.from) (point_times k f.from)) (λ h. n (same_is_same k e.from f.from w.some w.first v.first (same_point-true (point_times k e.from) (point_times k f.from) h)))
-
-  once-of : (es : List Edge) → ((e : Edge) → In e es → IsWholeAt k e) → ((i j : ℕ) (d : Edge) → i < j → j < length es → (get_or es i d).from ≢ (get_or es j d).from) →
-      EachPair (λ (e f : plane.Edge). same_point e.from f.from ≡ false) (edges_times k es)
-  once-of [] whole n = tt
-  once-of (e ∷ es) whole n = (
-    all-in (λ (f : plane.Edge). same_point (point_times k e.from) f.from ≡ false) (edges_times k es) (λ f i.
-        let x = in-map-out (edge_times k) es f i in
-        let j = in-at x.0 es x.1 in
-        subst (λ (f : plane.Edge). same_point (point_times k e.from) f.from ≡ false) (sym x.2)
-        (apart-by e x.0 (whole e (inl refl)) (whole x.0 (inr x.1)) (λ same. n 0 (suc j.0) e (omega arith) (let l = j.1 in omega arith) (same ∙ ap (λ (z : Edge). z.from) (sym (j.2 e)))))),
-    once-of es (λ x i. whole x (inr i)) (λ i j d l m. n (suc i) (suc j) d (omega arith) (omega arith)),
-  )
-
-  pub plane-ring : (es : List Edge) (d : Edge) → ((e : Edge) → In e es → IsWholeAt k e) → IsRing es → winding.IsRing (edges_times k es)
-  plane-ring es d whole ring =
-      let long = ring.long in
-      record {
-        start = point_times k (get_or es 0 d).from;
-        path = subst (λ p. IsPath (point_times k (get_or es 0 d).from) (edges_times k es) (point_times k p)) (ring.closed d) (path-of es d ring.chained (omega arith));
-        once = once-of es whole (λ i j d l m. ring.simple i j d l m);
-      }
 
 -- ---- multiplied
 pairs-map : {X Y : Type 0} (f : X → Y) (R : X → X → Type 0) (S : Y → Y → Type 0) (xs : List X) → ((x y : X) → R x y → S (f x) (f y)) → EachPair R xs → EachPair S (map f xs)

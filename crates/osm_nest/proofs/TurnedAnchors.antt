@@ -35,7 +35,7 @@ module _ (p q : List Edge) (t : IsTurned p q) where
       ap common_den t.old ∙ common-append t.front t.back ∙ mul_comm (common_den t.front) (common_den t.back)
       ∙ sym (common-append t.back t.front) ∙ ap common_den (sym t.new)
 
-  anchor-turned : (e : Edge) → IsAnchorOf e p → IsAnchorOf e q
+  pub anchor-turned : (e : Edge) → IsAnchorOf e p → IsAnchorOf e q
   anchor-turned e a =
       let k = common_den p in
       record {

@@ -1,4 +1,4 @@
--- Which edges are right of an anchor, and which of them is nearest. No public contract cites it.
+-- Which edges are right of an anchor, and which of them is nearest.
 use Rattle.std.specs.Prelude.{Bool, List, None, Option, Some, [], cond, false, get_or, length, not, true, ℕ, ◌&&◌, ◌<◌, ◌≡◌}
 use Rattle.std.specs.List.{count_by}
 use Rattle.std.specs.Ordering.{is_lt}
@@ -7,7 +7,7 @@ use Rattle.winding.specs.Parity.{is_even}
 use Rattle.osm_geom.specs.declared.edge.Edge.{Edge}
 use Rattle.osm_geom.specs.JustAbove.{just_above_cmp}
 use Rattle.osm_geom.specs.Span.{lower_end, spans}
-use Rattle.osm_nest.specs.declared.homes.Candidate.{Candidate}
+use Rattle.osm_nest.specs.declared.enclosers.Encloser.{Encloser}
 use Rattle.osm_nest.specs.Outer.{IsOuter}
 
 -- e isn't horizontal
@@ -49,30 +49,30 @@ abbrev pub nearer_of : Edge → Option Edge → Edge → Option Edge
 nearer_of a found next = cond (is_right_of a next) (Some (closer_of a found next)) found
 
 -- the ring at a place is outer, and around a
-pub record IsCandidate (rs : List (List Edge)) (a : Edge) (place : ℕ) : Type 0 where
+pub record IsEncloser (rs : List (List Edge)) (a : Edge) (place : ℕ) : Type 0 where
   pub inside : place < length rs
   pub outer : IsOuter (get_or rs place [])
   pub odd : is_around a (get_or rs place []) ≡ true
 
 -- with the nearest of its edges
-pub record IsCandidateBy (rs : List (List Edge)) (a : Edge) (c : Candidate) : Type 0 where
-  pub candidate : IsCandidate rs a c.place
+pub record IsEncloserBy (rs : List (List Edge)) (a : Edge) (c : Encloser) : Type 0 where
+  pub candidate : IsEncloser rs a c.place
   pub edge : IsNearest a (get_or rs c.place []) c.edge
 
-abbrev pub IsCandidateAt : List (List Edge) → Edge → ℕ → Option Candidate → Type 0
-IsCandidateAt rs a place None = IsCandidate rs a place → ⊥
-IsCandidateAt rs a place (Some c) = (c.place ≡ place) × IsCandidateBy rs a c
+abbrev pub IsEncloserAt : List (List Edge) → Edge → ℕ → Option Encloser → Type 0
+IsEncloserAt rs a place None = IsEncloser rs a place → ⊥
+IsEncloserAt rs a place (Some c) = (c.place ≡ place) × IsEncloserBy rs a c
 
-abbrev pub better_of : Edge → Option Candidate → Option Candidate → Option Candidate
+abbrev pub better_of : Edge → Option Encloser → Option Encloser → Option Encloser
 better_of a None next = next
 better_of a (Some b) None = Some b
 better_of a (Some b) (Some c) = cond (is_nearer a c.edge b.edge) (Some c) (Some b)
 
 -- of the edges right of a of all candidates up to a place none is nearer
-pub record IsNearestUpTo (rs : List (List Edge)) (a : Edge) (place : ℕ) (c : Candidate) : Type 0 where
-  pub is : IsCandidateBy rs a c
-  pub nearest : (k : ℕ) → k < place → IsCandidate rs a k → (f : Edge) → In f (get_or rs k []) → is_right_of a f ≡ true → is_nearer a f c.edge ≡ false
+pub record IsNearestUpTo (rs : List (List Edge)) (a : Edge) (place : ℕ) (c : Encloser) : Type 0 where
+  pub is : IsEncloserBy rs a c
+  pub nearest : (k : ℕ) → k < place → IsEncloser rs a k → (f : Edge) → In f (get_or rs k []) → is_right_of a f ≡ true → is_nearer a f c.edge ≡ false
 
-abbrev pub IsBestUpTo : List (List Edge) → Edge → ℕ → Option Candidate → Type 0
-IsBestUpTo rs a place None = (k : ℕ) → k < place → IsCandidate rs a k → ⊥
+abbrev pub IsBestUpTo : List (List Edge) → Edge → ℕ → Option Encloser → Type 0
+IsBestUpTo rs a place None = (k : ℕ) → k < place → IsEncloser rs a k → ⊥
 IsBestUpTo rs a place (Some c) = IsNearestUpTo rs a place c

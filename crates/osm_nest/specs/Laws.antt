@@ -1,9 +1,10 @@
 -- What may be nested, as a statement.
-use Rattle.std.specs.Prelude.{All, List}
+use Rattle.std.specs.Prelude.{All, List, true, ◌≡◌}
 use Rattle.osm_geom.specs.declared.edge.Edge.{Edge}
 use Rattle.osm_nest.specs.declared.polygon.Polygon.{Polygon}
-use Rattle.osm_nest.specs.Nested.{AreNested}
-use Rattle.osm_nest.specs.Outer.{AreClear}
+use Rattle.osm_nest.specs.Beside.{is_around}
+use Rattle.osm_nest.specs.Nested.{AreNested, HasKinds}
+use Rattle.osm_nest.specs.Outer.{AreClear, IsAnchorOf}
 use Rattle.osm_nest.specs.RingLists.{AreRings}
 use Rattle.osm_rings.specs.PlaneEdge.{IsWholeSegment}
 use Rattle.osm_rings.specs.RingList.{AreRingsOf}
@@ -24,3 +25,14 @@ RingsAreClear = (rs : List (List Edge)) → AreRings rs → All AreClear rs
 -- every list of rings to be nested has its polygons in order
 abbrev pub NestingExists : Type 0
 NestingExists = (rs : List (List Edge)) → AreRings rs → (polygons : List Polygon) × AreNested rs polygons
+
+-- every polygon of nested rings has an outer ring first and inner ones under it, as their anchors tell
+abbrev pub NestedHaveKinds : Type 0
+NestedHaveKinds = (rs : List (List Edge)) (polygons : List Polygon) → AreRings rs → AreNested rs polygons → All HasKinds polygons
+
+-- an odd number of the outer ring's edges are right of the anchor of each inner ring
+abbrev pub IsAroundInners : Polygon → Type 0
+IsAroundInners polygon = All (λ (inner : List Edge). (anchor : Edge) → IsAnchorOf anchor inner → is_around anchor polygon.outer ≡ true) polygon.inners
+
+abbrev pub NestedAreAround : Type 0
+NestedAreAround = (rs : List (List Edge)) (polygons : List Polygon) → AreRings rs → AreNested rs polygons → All IsAroundInners polygons

@@ -1,3 +1,4 @@
+pub mod Anchors
 pub mod Beside
 pub mod Cover
 pub mod Grouped
@@ -9,3 +10,4 @@ pub mod Outer
 pub mod Paths
 pub mod Polygons
 pub mod RingLists
+pub mod SweptEdges

@@ -1,5 +1,5 @@
 use crate::begun::{Start, compare_starts};
-use crate::homes::{is_around, nearest_right};
+use crate::enclosers::{is_around, nearest_right};
 use crate::outer::{first_of, lower_end};
 use osm_geom::{Carrier, Edge, Frac, Loc, Part, Point, Seg, spans_height};
 use std::cmp::Ordering;
@@ -58,13 +58,13 @@ fn three_triangles() -> [Edge; 9] {
 /// The edge that comes first.
 fn first(edges: &[Edge]) -> Option<Edge> {
     let mut first = None;
-    for &edge in edges {
+    for edge in edges {
         first = match first {
             Some(found) => Some(first_of(found, edge)),
             None => Some(edge),
         };
     }
-    first
+    first.copied()
 }
 
 #[test]

@@ -10,7 +10,7 @@ ghost use Rattle.osm_nest.specs.RingLists.{AreRings};
 ghost use Rattle.osm_rings.specs.PlaneEdge.{IsWholeSegment};
 
 use crate::begun::{Begun, in_turn};
-use crate::homes::homes;
+use crate::enclosers::direct_enclosers;
 use crate::polygon::{Polygon, Polygons};
 use osm_rings::{Ring, Rings};
 use std::alloc::{AllocError, Global};
@@ -97,7 +97,7 @@ pub fn nest(alloc: Global, rings: &[Ring]) -> Result<Polygons, AllocError>
     ensures sided { IfOk result (λ polygons. AreSided polygons) }
     ensures cover { IfOk result (λ polygons. CoverAsRings rings.now polygons) }
 {
-    let homes = homes(alloc, rings)?;
+    let homes = direct_enclosers(alloc, rings)?;
     let begun = in_turn(alloc, rings)?;
     grouped(alloc, begun, &homes)
 }

@@ -1,11 +1,15 @@
 //! Laws of nesting. Each function has an empty body; its contract is the law.
-ghost use Rattle.osm_nest.specs.Laws.{NestingExists, RingsAreClear, RingsMayBeNested, RingsRunAlongSegments};
+ghost use Rattle.osm_nest.specs.Laws.{NestedAreAround, NestedHaveKinds, NestingExists, RingsAreClear, RingsMayBeNested, RingsRunAlongSegments};
+
+use osm_rings::rings_do_not_cross;
 
 /// The rings that a sided list of edges is cut into may be nested, and run along whole segments where the edges do.
 pub fn rings_may_be_nested()
     ensures nested { RingsMayBeNested }
     ensures whole { RingsRunAlongSegments }
-{}
+{
+    rings_do_not_cross();
+}
 
 /// Each of the rings to be nested may be asked whether it is outer.
 pub fn rings_are_clear()
@@ -15,4 +19,11 @@ pub fn rings_are_clear()
 /// Every list of rings to be nested has its polygons in order, whatever memory there is.
 pub fn nesting_exists()
     ensures { NestingExists }
+{}
+
+/// In every polygon of nested rings the first ring is outer and the others are inner, as their anchors tell, and an odd number of
+/// the outer ring's edges are right of each inner ring's anchor.
+pub fn nested_have_kinds()
+    ensures kinds { NestedHaveKinds }
+    ensures around { NestedAreAround }
 {}

@@ -2,19 +2,23 @@
 #![tactic(auto)]
 
 mod begun;
+mod enclosers;
 #[cfg(test)]
 mod fraction_tests;
 mod grouping;
-mod homes;
 mod laws;
 #[cfg(test)]
 mod nest_tests;
 mod outer;
 mod polygon;
+mod ring_anchors;
+mod ring_edges;
+mod sweep_status;
+mod swept_enclosers;
 #[cfg(test)]
 mod tests;
 
 pub use grouping::nest;
-pub use laws::{nesting_exists, rings_are_clear, rings_may_be_nested};
+pub use laws::{nested_have_kinds, nesting_exists, rings_are_clear, rings_may_be_nested};
 pub use outer::is_outer;
 pub use polygon::{Polygon, Polygons};

@@ -71,6 +71,21 @@ fn polygons_of_printed_areas(rt: HostRuntime) -> Result<(), Fail> {
             " 0,0 90,0 90,90 0,90 / 30,10 30,20 40,20 40,10 / 10,50 10,60 20,60 20,50 / 50,50 50,60 60,60 60,50",
         ),
         (
+            "holes that touch at their least nodes",
+            "0,0 9,0 9,9 0,9 / 4,1 5,6 6,4 / 4,1 2,4 3,6",
+            " 0,0 9,0 9,9 0,9 / 4,1 2,4 3,6 / 4,1 5,6 6,4",
+        ),
+        (
+            "hole and island with the least node of the outer ring",
+            "0,0 5,2 2,5 / 0,0 1,8 8,1 / 0,0 9,0 9,9 0,9",
+            " 0,0 9,0 9,9 0,9 / 0,0 1,8 8,1 ; 0,0 5,2 2,5",
+        ),
+        (
+            "hole with a horizontal edge at the height of other ends",
+            "0,0 9,0 9,9 0,9 / 1,2 4,5 7,2 / 3,1 8,2 8,1 / 4,7 7,7 7,5",
+            " 0,0 9,0 9,9 0,9 / 3,1 8,2 8,1 / 1,2 4,5 7,2 / 7,5 4,7 7,7",
+        ),
+        (
             "polygons out of order",
             "50,50 60,50 60,60 50,60 / 0,0 10,0 10,10 0,10",
             " 0,0 10,0 10,10 0,10 ; 50,50 60,50 60,60 50,60",
@@ -79,5 +94,31 @@ fn polygons_of_printed_areas(rt: HostRuntime) -> Result<(), Fail> {
     for (name, lines, wanted) in rows {
         assert_eq!(rt; polygons_of(alloc, lines)?.as_str(), wanted, "{name}");
     }
+    Ok(())
+}
+
+/// Adds a square from a corner to another to closed lines.
+fn add_square(alloc: Global, lines: &mut String, low: u32, high: u32) -> Result<(), Fail> {
+    if !lines.is_empty() {
+        lines.push_str(" / ")?;
+    }
+    let square = format!(in alloc; "{low},{low} {high},{low} {high},{high} {low},{high}")?;
+    lines.push_str(square.as_str())?;
+    Ok(())
+}
+
+#[test]
+fn ten_levels_of_nested_squares(rt: HostRuntime) -> Result<(), Fail> {
+    let alloc = rt.alloc();
+    let mut lines = String::new(alloc);
+    for level in 0..10_u32 {
+        add_square(alloc, &mut lines, 10 + level, 40 - level)?;
+    }
+    let wanted = " 10,10 40,10 40,40 10,40 / 11,11 11,39 39,39 39,11 \
+        ; 12,12 38,12 38,38 12,38 / 13,13 13,37 37,37 37,13 \
+        ; 14,14 36,14 36,36 14,36 / 15,15 15,35 35,35 35,15 \
+        ; 16,16 34,16 34,34 16,34 / 17,17 17,33 33,33 33,17 \
+        ; 18,18 32,18 32,32 18,32 / 19,19 19,31 31,31 31,19";
+    assert_eq!(rt; polygons_of(alloc, lines.as_str())?.as_str(), wanted);
     Ok(())
 }

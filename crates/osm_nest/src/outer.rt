@@ -24,28 +24,28 @@ pub fn is_outer(ring: &Ring) -> bool
     ensures inner { (result ≡ false) ↔ IsInner ring.now }
     ensures sign { WindsBySign result ring.now }
 {
-    !is_rising(&anchor(ring))
+    !is_rising(anchor(ring))
 }
 
 /// The anchor of a ring.
-pub(crate) fn anchor(ring: &Ring) -> Edge
+pub(crate) fn anchor(ring: &Ring) -> &Edge
     requires { AreClear ring.now }
-    ensures anchor { IsAnchorOf result ring.now }
+    ensures anchor { IsAnchorOf result.now ring.now }
     ensures ring { IsRing ring.now }
 {
     let edges = ring.as_slice();
-    let mut anchor = edges[0];
+    let mut anchor = &edges[0];
     for edge in edges {
-        anchor = first_of(anchor, *edge);
+        anchor = first_of(anchor, edge);
     }
     anchor
 }
 
 // Of two edges the one that comes first.
-pub(crate) fn first_of(e: Edge, f: Edge) -> Edge
-    ensures { result ≡ cond (comes_first e f) e f }
+pub(crate) fn first_of<'a>(e: &'a Edge, f: &'a Edge) -> &'a Edge
+    ensures { result.now ≡ cond (comes_first e.now f.now) e.now f.now }
 {
-    if comes_first(&e, &f) { e } else { f }
+    if comes_first(e, f) { e } else { f }
 }
 
 // Whether `e` has the lesser lower end, or the same as `f`, which doesn't run to the left of it.
@@ -76,8 +76,14 @@ pub(crate) fn lower_end(edge: &Edge) -> Point
     if is_rising(edge) { edge.from } else { edge.to }
 }
 
+/// The upper end of an edge, or the right one of a horizontal edge.
+pub(crate) fn upper_end(edge: &Edge) -> Point {
+    if is_rising(edge) { edge.to } else { edge.from }
+}
+
+/// Whether an edge runs up, or to the right.
 #[tactic(auto, unfolding(osm_geom::specs::Point::point_cmp))]
-fn is_rising(edge: &Edge) -> bool
+pub(crate) fn is_rising(edge: &Edge) -> bool
     ensures { result ≡ runs_up edge.now }
 {
     compare_points(edge.from, edge.to).is_lt()

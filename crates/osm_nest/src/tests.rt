@@ -1,7 +1,9 @@
 ghost use Rattle.std.specs.Prelude.{IfOk};
 ghost use Rattle.osm_nest.specs.RingLists.{AreRings};
 
-use crate::homes::homes;
+use crate::enclosers::direct_enclosers;
+use crate::ring_anchors::find_anchors;
+use crate::swept_enclosers::swept_enclosers;
 use crate::{is_outer, rings_are_clear, rings_may_be_nested};
 use osm_geom::{Edge, Loc, Point, Seg};
 use osm_rings::{Ring, Rings, directed_segments_are_whole, rings};
@@ -119,7 +121,7 @@ fn outer_and_inner(rt: HostRuntime) -> Result<(), Fail> {
 /// Whether each ring has the home that the words name: the number of a line, or `-`.
 fn has_homes(alloc: Global, lines: &str, wanted: &str) -> Result<bool, Fail> {
     let found = rings_of(alloc, &segs(alloc, lines)?)?;
-    let homes = homes(alloc, found.as_slice())?;
+    let homes = direct_enclosers(alloc, found.as_slice())?;
     let places = places_of(alloc, found.as_slice(), lines)?;
     for (place, word) in places.iter().zip(wanted.split_whitespace()) {
         let home = homes.get(*place).copied().flatten();
@@ -161,6 +163,46 @@ fn homes_of_inner_rings(rt: HostRuntime) -> Result<(), Fail> {
     ];
     for (name, lines, wanted) in rows {
         assert!(rt; has_homes(alloc, lines, wanted)?, "{name}");
+    }
+    Ok(())
+}
+
+/// Whether the sweep alone tells of each inner ring what the whole search tells.
+fn sweep_tells_all(alloc: Global, lines: &str) -> Result<bool, Fail> {
+    let found = rings_of(alloc, &segs(alloc, lines)?)?;
+    let anchors = find_anchors(alloc, found.as_slice())?;
+    let swept = swept_enclosers(alloc, found.as_slice(), &anchors)?;
+    let all = direct_enclosers(alloc, found.as_slice())?;
+    Ok(swept.as_slice() == all.as_slice())
+}
+
+#[test]
+fn enclosers_by_the_sweep_alone(rt: HostRuntime) -> Result<(), Fail> {
+    let alloc = rt.alloc();
+    let rows = [
+        (
+            "four nested squares",
+            "0,0 90,0 90,90 0,90 / 10,10 10,80 80,80 80,10 / 20,20 70,20 70,70 20,70 / 30,30 30,60 60,60 60,30",
+        ),
+        (
+            "holes that touch at their least nodes",
+            "0,0 9,0 9,9 0,9 / 4,1 5,6 6,4 / 4,1 2,4 3,6",
+        ),
+        (
+            "hole and island with the least node of the outer ring",
+            "0,0 5,2 2,5 / 0,0 1,8 8,1 / 0,0 9,0 9,9 0,9",
+        ),
+        (
+            "many rings in one row",
+            "0,0 90,0 90,90 0,90 / 5,10 5,20 9,20 9,10 / 10,10 10,20 19,20 19,10 / 20,10 20,30 29,30 29,10 / 22,12 28,12 24,20 / 30,10 30,20 39,20 39,10 / 40,10 40,20 49,20 49,10",
+        ),
+        (
+            "horizontal edges at the height of other ends",
+            "0,0 90,0 90,90 0,90 / 5,10 5,20 9,20 9,10 / 10,20 10,30 19,30 19,20 / 20,30 20,40 29,40 29,30 / 30,20 40,20 35,40 / 50,5 50,20 60,20 60,5 / 52,10 58,10 58,15 52,15",
+        ),
+    ];
+    for (name, lines) in rows {
+        assert!(rt; sweep_tells_all(alloc, lines)?, "{name}");
     }
     Ok(())
 }

@@ -2,7 +2,6 @@
 use Rattle.std.proofs.Common.{◌≡◌, ◌+◌, ℕ, List, [], ◌∷◌, map, inl, inr, Bool, true, false, cond, refl, sym, ap, subst, ◌∙◌, arith, sum_by}
 use Rattle.std.proofs.lemmas.List.Sums.{sum_by-append, sum_by-cons}
 use Rattle.nesting.specs.Nesting.{edges_of}
-use Rattle.nesting.specs.RingList.{IsRingList}
 use Rattle.nesting.specs.Stack.{cut_all}
 use Rattle.nesting.proofs.Parts.{sided-once}
 use Rattle.nesting.proofs.Pieces.{piece_walk, pieces_same}
@@ -12,11 +11,15 @@ use Rattle.plane.specs.Edge as plane
 use Rattle.plane.specs.Edge.{same_edge}
 use Rattle.plane.proofs.Edges.{same_edge-refl, same_edge-true}
 use Rattle.winding.specs.Member.{EachPair, In}
-use Rattle.winding.proofs.Members.{in-all, in-map, in-map-out}
+use Rattle.winding.proofs.Members.{all-in, in-all, in-map, in-map-out}
 use Rattle.osm_geom.specs.declared.edge.Edge.{Edge}
-use Rattle.sided.specs.Multiple.{common_den, edge_times, edges_times, whole_edges}
+use Rattle.sided.specs.Multiple.{IsWholeAt, common_den, edge_times, edges_times, whole_edges}
 use Rattle.sided.specs.Sided.{IsSided}
-use Rattle.osm_rings.specs.RingList.{AreRingsOf}
+use Rattle.sided.proofs.Commons.{common_is_common}
+use Rattle.sided.proofs.MultipliedEdges.{each_whole}
+use Rattle.osm_rings.specs.RingList.{AreRingsOf, HoldTheEdges}
+use Rattle.osm_rings.proofs.PlaneRings.{ring-of-plane}
+use Rattle.osm_rings.proofs.UncrossedRings.{held-within}
 
 module _ (k : ℕ) (d : Edge) where
   -- the first edge of the list that is x once multiplied
@@ -95,15 +98,17 @@ lifts d es sd =
     let here : (r : List plane.Edge) → In r rs → (x : plane.Edge) → In x r → In x xs = λ r i x j.
     let v = (walk r i).1 in (w.1.walk v.0 v.1).here x (v.2 x j) in
     let up = map (map (lifted k d es)) rs in
-    let same : map (edges_times k) up ≡ rs = forth-rings k d es once rs here in (
+    let same : map (edges_times k) up ≡ rs = forth-rings k d es once rs here in
+    let there : (r : List Edge) → In r up → In (edges_times k r) rs = λ r i. subst (In (edges_times k r)) same (in-map (edges_times k) up r i) in
+    let held : HoldTheEdges es up = λ f. sums-lifted k d es once f rs ∙ (pieces_same xs sd ws rs w.1 cut (λ x. f (lifted k d es x)) ∙ sum-multiplied k d es once f es (λ e i. i)) in
+    let uncrossed = stack_rings xs sd ws w.1 in (
       up,
       record {
-        edges = λ f. sums-lifted k d es once f rs ∙ (pieces_same xs sd ws rs w.1 cut (λ x. f (lifted k d es x)) ∙ sum-multiplied k d es once f es (λ e i. i));
-        walks = λ r i.
-            let there : In (edges_times k r) rs = subst (In (edges_times k r)) same (in-map (edges_times k) up r i) in
-            let v = (walk (edges_times k r) there).1 in
-            (v.0, w.1.walk v.0 v.1, λ e j. v.2 (edge_times k e) (in-map (edge_times k) r e j));
-        rings = subst IsRingList (sym same) (stack_rings xs sd ws w.1);
+        edges = held;
+        walks = λ r i. let v = (walk (edges_times k r) (there r i)).1 in (v.0, w.1.walk v.0 v.1, v.2);
+        ring = λ r i.
+            let whole = all-in (IsWholeAt k) r (λ e j. each_whole k es (common_is_common es) e (held-within es up held r i e j)) in
+            ring-of-plane k r whole (uncrossed.long (edges_times k r) (there r i)) (uncrossed.ring (edges_times k r) (there r i));
       },
     )
 
@@ -113,7 +118,7 @@ ring_list_there [] sd = (
   record {
     edges = λ f. refl;
     walks = λ r i. absurd i;
-    rings = record { ring = λ r i. absurd i; long = λ r i. absurd i; sided = sd; free = tt };
+    ring = λ r i. absurd i;
   },
 )
 ring_list_there (e ∷ es) sd = lifts e (e ∷ es) sd

@@ -1,5 +1,5 @@
 -- What is cut off the walks of successors is a ring list.
-use Rattle.std.proofs.Common.{◌≡◌, ◌≢◌, inl, inr, ℕ, suc, zero, ◌+◌, ◌-◌, ◌<◌, ◌≤◌, List, [], ◌∷◌, length, get_or, map, All, Bool, true, false, Option, Some, Result, Ok, Err, IfOk, refl, sym, ap, subst, ◌∙◌, arith}
+use Rattle.std.proofs.Common.{◌≡◌, inl, inr, ℕ, suc, zero, ◌-◌, ◌<◌, ◌≤◌, List, [], ◌∷◌, length, get_or, map, All, Option, Some, Result, Ok, Err, IfOk, refl, sym, ap, subst, ◌∙◌, arith}
 use Rattle.std.proofs.lemmas.List.{get_or-map, length-map, map-append}
 use Rattle.std.proofs.lemmas.List.Elements.{All-cons, All-nil}
 use Rattle.nesting.specs.RingList.{IsRingList}
@@ -7,19 +7,16 @@ use Rattle.nesting.specs.Walk.{AreCuts, AreWalks}
 use Rattle.nesting.proofs.Pieces.{piece_walk, ring_list}
 use Rattle.nesting.proofs.Successors.{next_leaves}
 use Rattle.plane.specs.Edge as plane
-use Rattle.plane.specs.Vector.{Vector, same_point}
-use Rattle.plane.proofs.Points.{same_point-refl}
-use Rattle.winding.specs.Member.{EachPair, In}
+use Rattle.winding.specs.Member.{In}
 use Rattle.winding.specs.Ring.{IsPath}
 use Rattle.winding.specs.Ring as winding
-use Rattle.winding.proofs.Members.{in-map}
+use Rattle.winding.proofs.Members.{in-all, in-map, in-map-out}
 use Rattle.orbits.specs.Orbits.{AreOrbits, IsOrbit, after}
 use Rattle.orbits.specs.Once.{HoldEachOnce}
 use Rattle.orbits.specs.OnceLaws.{StandBelow, SumsAgree}
 use Rattle.osm_geom.specs.declared.edge.Edge.{Edge}
-use Rattle.sided.specs.Multiple.{IsWholeAt, common_den, edge_times, edges_times, point_times, whole_edges}
+use Rattle.sided.specs.Multiple.{IsWholeAt, common_den, edges_times, whole_edges}
 use Rattle.sided.specs.Sided.{IsSided}
-use Rattle.sided.proofs.MultipliedPoints.{same_is_same}
 use Rattle.osm_rings.specs.Numbered.{AreSuccessors, edge_at}
 use Rattle.osm_rings.specs.Pieces.{AreAllCut, TellPoints, edges_at}
 use Rattle.osm_rings.specs.Ring.{IsRing}
@@ -28,64 +25,10 @@ use Rattle.osm_rings.proofs.OrbitWalks.{edge-in, orbits-walks, round, end-is}
 use Rattle.osm_rings.proofs.Placed.{all-below, placed-map, placed-whole, sums-whole}
 use Rattle.osm_rings.specs.Ways.{IsFirstMet}
 use Rattle.osm_rings.proofs.Succeed.{are-successors}
+use Rattle.osm_rings.proofs.PlaneRings.{ring-of-plane}
 use Rattle.osm_rings.proofs.WalkCuts.{cut-pieces}
 use Rattle.osm_rings.proofs.Multiplied.{size, whole-at}
 use Rattle.orbits.specs.Orbits as orbit
-
--- ---- a ring of the plane is a ring
-path-joins : (q : ℕ) (x y : Vector) (r : List Edge) → IsPath x (edges_times q r) y → (k : ℕ) (d : Edge) → k + 1 < length r → point_times q (get_or r k d).to ≡ point_times q (get_or r (k + 1) d).from
-path-joins q x y [] p k d h = absurd (omega arith)
-path-joins q x y (e ∷ []) p k d h = absurd (omega arith)
-path-joins q x y (e ∷ (f ∷ r)) p zero d h = sym p.1.0
-path-joins q x y (e ∷ (f ∷ r)) p (suc k) d h =
-    let same : suc k + 1 ≡ suc (k + 1) = omega arith in
-    path-joins q (point_times q e.to) y (f ∷ r) p.1 k d (omega arith) ∙ ap (λ m. point_times q (get_or (e ∷ (f ∷ r)) m d).from) (sym same)
-
-path-ends : (q : ℕ) (x y : Vector) (r : List Edge) → IsPath x (edges_times q r) y → 0 < length r → (d : Edge) → point_times q (get_or r (length r - 1) d).to ≡ y
-path-ends q x y [] p h d = absurd (omega arith)
-path-ends q x y (e ∷ []) p h d = p.1
-path-ends q x y (e ∷ (f ∷ r)) p h d =
-    let rest = path-ends q (point_times q e.to) y (f ∷ r) p.1 (omega arith) d in
-    let same : length (e ∷ (f ∷ r)) - 1 ≡ suc (length (f ∷ r) - 1) = omega arith in
-    ap (λ m. point_times q (get_or (e ∷ (f ∷ r)) m d).to) same ∙ rest
-
-path-begins : (q : ℕ) (x y : Vector) (r : List Edge) → IsPath x (edges_times q r) y → 0 < length r → (d : Edge) → point_times q (get_or r 0 d).from ≡ x
-path-begins q x y [] p h d = absurd (omega arith)
-path-begins q x y (e ∷ r) p h d = p.0
-
-from-apart : (p q : Vector) → same_point p q ≡ false → p ≡ q → ⊥
-from-apart p q n e = clash (same_point p q) (subst (λ w. same_point p w ≡ true) e (same_point-refl p)) n
-  where
-    clash : (b : Bool) → b ≡ true → b ≡ false → ⊥
-    clash b h k = cc
-
-simple-out : (q : ℕ) (r : List Edge) → EachPair (λ (e f : plane.Edge). same_point e.from f.from ≡ false) (edges_times q r) → (i j : ℕ) (d : Edge) → i < j → j < length r → (get_or r i d).from ≢ (get_or r j d).from
-simple-out q [] o i j d h l = absurd (omega arith)
-simple-out q (e ∷ r) o i zero d h l = absurd (omega arith)
-simple-out q (e ∷ r) o zero (suc j) d h l = λ same. from-apart (point_times q e.from) (point_times q (get_or r j d).from) (first r j o.0 (omega arith)) (ap (point_times q) same)
-  where
-    first : (r : List Edge) (j : ℕ) → All (λ f. same_point (point_times q e.from) f.from ≡ false) (edges_times q r) → j < length r → same_point (point_times q e.from) (point_times q (get_or r j d).from) ≡ false
-    first [] j a m = absurd (omega arith)
-    first (f ∷ r) zero a m = a 0 (edge_times q f) (omega arith)
-    first (f ∷ r) (suc j) a m = first r j (λ k z n. a (suc k) z (omega arith)) (omega arith)
-simple-out q (e ∷ r) o (suc i) (suc j) d h l = simple-out q r o.1 i j d (omega arith) (omega arith)
-
-pub ring-of-plane : (q : ℕ) (r : List Edge) → All (IsWholeAt q) r → 3 ≤ length (edges_times q r) → winding.IsRing (edges_times q r) → IsRing r
-ring-of-plane q r whole long ring =
-    let size : length (edges_times q r) ≡ length r = length-map r (edge_times q) in
-    record {
-      long = omega arith;
-      chained = λ k d h.
-          let e = get_or r k d in let f = get_or r (k + 1) d in
-          let we = whole k d (omega arith) in let wf = whole (k + 1) d h in
-          same_is_same q e.to f.from we.some we.second wf.first (path-joins q ring.start ring.start r ring.path k d h);
-      closed = λ d.
-          let e = get_or r (length r - 1) d in let f = get_or r 0 d in
-          let we = whole (length r - 1) d (omega arith) in let wf = whole 0 d (omega arith) in
-          same_is_same q e.to f.from we.some we.second wf.first
-          (path-ends q ring.start ring.start r ring.path (omega arith) d ∙ sym (path-begins q ring.start ring.start r ring.path (omega arith) d));
-      simple = λ i j d h l. simple-out q r ring.once i j d h l;
-    }
 
 -- ---- orbits are paths
 module _ (es : List Edge) (sided : IsSided es) (next : List (Option ℕ)) (are : AreSuccessors (whole_edges es) next) where
@@ -151,17 +94,6 @@ module _ (es : List Edge) (sided : IsSided es) (next : List (Option ℕ)) (are :
       listed : IsRingList (map (map (edge_at edges)) pieces)
       listed = ring_list edges sided (map (map (edge_at edges)) os) (map (map (edge_at edges)) pieces) walks cuts
 
-      -- the pieces are rings that hold each edge once, each in one walk, no two of which cross
-      pub pieces-are-rings : AreRingsOf es (map (edges_at es) pieces)
-      pieces-are-rings = record {
-        edges = sums-whole es keys os pieces cut (λ g. sums (length es) os (subst (λ n. HoldEachOnce n os) (are.sized ∙ size es) orbits.once) g);
-        walks = λ r i.
-            let mapped : In (edges_times m r) (map (map (edge_at edges)) pieces) = subst (In (edges_times m r)) in-plane (in-map (edges_times m) (map (edges_at es) pieces) r i) in
-            let found = (piece_walk edges sided (map (map (edge_at edges)) os) (map (map (edge_at edges)) pieces) walks cuts (edges_times m r) mapped).1 in
-            (found.0, walks.walk found.0 found.1, λ e j. found.2 (edge_times m e) (in-map (edge_times m) r e j));
-        rings = subst IsRingList (sym in-plane) listed;
-      }
-
       whole : All (IsWholeAt m) es
       whole k d h = whole-at es k d h
 
@@ -178,6 +110,17 @@ module _ (es : List Edge) (sided : IsSided es) (next : List (Option ℕ)) (are :
 
       pub pieces-ring : All (λ p. IsRing (edges_at es p)) pieces
       pieces-ring = ring-at pieces (λ p i. i) pieces-inside
+
+      -- the pieces are rings that hold each edge once, each in one walk
+      pub pieces-are-rings : AreRingsOf es (map (edges_at es) pieces)
+      pieces-are-rings = record {
+        edges = sums-whole es keys os pieces cut (λ g. sums (length es) os (subst (λ n. HoldEachOnce n os) (are.sized ∙ size es) orbits.once) g);
+        walks = λ r i.
+            let mapped : In (edges_times m r) (map (map (edge_at edges)) pieces) = subst (In (edges_times m r)) in-plane (in-map (edges_times m) (map (edges_at es) pieces) r i) in
+            let found = (piece_walk edges sided (map (map (edge_at edges)) os) (map (map (edge_at edges)) pieces) walks cuts (edges_times m r) mapped).1 in
+            (found.0, walks.walk found.0 found.1, found.2);
+        ring = λ r i. let piece = in-map-out (edges_at es) pieces r i in subst IsRing (sym piece.2) (in-all (λ p. IsRing (edges_at es p)) pieces piece.0 pieces-ring piece.1);
+      }
 
 -- ---- from what the functions ensure
 pub successors-of : (es : List Edge) → IsSided es → (next : List (Option ℕ)) → length next ≡ length es → ((i : ℕ) → i < length es → IsFirstMet (whole_edges es) (edge_at (whole_edges es) i) (after next i)) → AreSuccessors (whole_edges es) next

@@ -1,5 +1,5 @@
 -- The laws of successors and ring lists, as statements. An edge of the list stands in the plane multiplied by the common denominator.
-use Rattle.std.specs.Prelude.{List, ◌≡◌}
+use Rattle.std.specs.Prelude.{List, map, ◌≡◌}
 use Rattle.nesting.specs.Nesting.{edges_of}
 use Rattle.nesting.specs.RingList.{IsRingList}
 use Rattle.nesting.specs.Walk.{HasSameEdges, IsSuccessor}
@@ -8,7 +8,7 @@ use Rattle.winding.specs.Member.{In}
 use Rattle.osm_geom.specs.declared.edge.Edge.{Edge}
 use Rattle.osm_geom.specs.declared.seg.Seg.{Seg}
 use Rattle.osm_sides.specs.Directions.{AreDirected}
-use Rattle.sided.specs.Multiple.{whole_edges}
+use Rattle.sided.specs.Multiple.{common_den, edges_times, whole_edges}
 use Rattle.sided.specs.Sided.{IsSided}
 use Rattle.osm_rings.specs.RingList.{AreRingsOf}
 use Rattle.osm_rings.specs.SidedEdges.{AreSidedSegments}
@@ -32,6 +32,12 @@ RingListExists = (es : List Edge) → IsSided es → (rs : List (List plane.Edge
 -- and one of its own edges
 abbrev pub RingListOfEdgesExists : Type 0
 RingListOfEdgesExists = (es : List Edge) → IsSided es → (rs : List (List Edge)) × AreRingsOf es rs
+
+-- no two of the rings cross, in the plane multiplied by the common denominator
+abbrev pub RingsOfEdgesDoNotCross : Type 0
+RingsOfEdgesDoNotCross =
+    (es : List Edge) → IsSided es → (rs : List (List Edge)) → AreRingsOf es rs →
+    IsRingList (map (edges_times (common_den es)) rs)
 
 -- directed segments run along whole segments
 abbrev pub DirectedAreWhole : Type 0

@@ -1,6 +1,5 @@
--- Edges that run along whole segments, and the edges of the plane that they are.
+-- Edges that run along whole segments, and the points of the plane where they end.
 use Rattle.std.specs.Prelude.{Bool, cond, ◌≡◌}
-use Rattle.plane.specs.Edge as plane
 use Rattle.plane.specs.Vector.{Vector}
 use Rattle.osm_geom.specs.declared.edge.Carrier.TheVariants.{OfSeg}
 use Rattle.osm_geom.specs.declared.edge.Edge.{Edge}
@@ -15,9 +14,6 @@ abbrev pub vector_at : Point → Vector
 vector_at (Lattice p) = vector_of p
 vector_at (OnVertical c y) = whole_of (OnVertical c y)
 vector_at (OnHorizontal x d) = whole_of (OnHorizontal x d)
-
-abbrev pub plane_edge : Edge → plane.Edge
-plane_edge e = record { from = vector_at e.from; to = vector_at e.to }
 
 -- e runs along a whole segment, from its lesser end or from its greater one
 pub record IsWholeSegment (e : Edge) : Type 0 where

@@ -1,5 +1,5 @@
 //! Laws of successors and ring lists, for edges with any points. Each function has an empty body; its contract is the law.
-ghost use Rattle.osm_rings.specs.Laws.{DirectedAreWhole, RingListExists, RingListOfEdgesExists, SuccessorExists, SuccessorIsOneToOne, SuccessorLeaves};
+ghost use Rattle.osm_rings.specs.Laws.{DirectedAreWhole, RingListExists, RingListOfEdgesExists, RingsOfEdgesDoNotCross, SuccessorExists, SuccessorIsOneToOne, SuccessorLeaves};
 
 /// In a sided list each edge has a successor, which leaves the node that the edge enters, and no edge is the
 /// successor of two.
@@ -17,6 +17,12 @@ pub fn ring_list_exists()
 /// Every sided list has a ring list that is made of its own edges, as `rings` gives one.
 pub fn ring_list_of_edges_exists()
     ensures { RingListOfEdgesExists }
+{}
+
+/// No two of the rings that a sided list of edges is cut into cross: turning round a point that both pass, the two edges
+/// of the one don't alternate with those of the other.
+pub fn rings_do_not_cross()
+    ensures { RingsOfEdgesDoNotCross }
 {}
 
 /// What the survivors' directions give may be cut into rings.

@@ -10,7 +10,7 @@ mod tests;
 mod ways;
 
 pub use laws::{
-    directed_segments_are_whole, ring_list_exists, ring_list_of_edges_exists,
+    directed_segments_are_whole, ring_list_exists, ring_list_of_edges_exists, rings_do_not_cross,
     successors_are_one_to_one,
 };
 pub use ring::{Ring, Rings};

@@ -14,9 +14,8 @@ use std::alloc::{AllocError, Global};
 
 /// The rings of a sided list of edges, between any points.
 ///
-/// Each edge lies in exactly one ring, there once. The edges of a ring lie in one walk of successors, and no two
-/// rings cross: turning round a point that both pass, the two edges of the one don't alternate with those of the
-/// other. It takes time n log n, however many edges meet at a node. The error is want of memory.
+/// Each edge lies in exactly one ring, there once, and the edges of a ring lie in one walk of successors. By the law
+/// `rings_do_not_cross` no two rings cross. It takes time n log n, however many edges meet at a node. The error is want of memory.
 pub fn rings(alloc: Global, edges: &[Edge]) -> Result<Rings, AllocError>
     requires { IsSided edges.now }
     ensures { IfOk result (λ v. AreRingsOf edges.now v) }

@@ -7,3 +7,8 @@ pub mod PlaneEdges
 pub mod Survivors
 pub mod DirectedSides
 pub mod Pushes
+pub mod StatusEdges
+pub mod SweptHeights
+pub mod Members
+pub mod Ends
+pub mod Statuses

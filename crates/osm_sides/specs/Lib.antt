@@ -3,3 +3,4 @@ pub mod SideTests
 pub mod Directions
 pub mod Stab
 pub mod PlainStab
+pub mod Sweep

@@ -1,15 +1,40 @@
-ghost use Rattle.std.specs.Prelude.{◌≡◌, [], IfOk, map};
+ghost use Rattle.std.specs.Prelude.{◌≡◌, [], IfOk, length};
 ghost use Rattle.osm_geom.specs.Seg.{seg_cmp};
-ghost use Rattle.osm_geom.specs.declared.edge.Carrier.TheVariants.{OfSeg};
 ghost use Rattle.osm_lists.specs.Rising.{IsRising};
 ghost use Rattle.osm_segments.specs.Pairs.{conflicts_of};
 ghost use Rattle.sided.specs.Sided.{IsSided};
 ghost use Rattle.osm_sides.specs.Survivors.{HasEvenNodes};
+ghost use Rattle.osm_geom.specs.declared.edge.Carrier.TheVariants.{OfSeg};
 ghost use Rattle.osm_sides.specs.Directions.{AreDirected, CountsParity, first_end, last_end};
+ghost use Rattle.osm_sides.specs.Sweep.{AreDirectedTo};
 
+use crate::leaving::{by_ends, leave};
+use crate::rows::{direct_row, enter_row};
 use crate::sides::runs_up;
+use chunked_list::ChunkedList;
 use osm_geom::{Edge, Seg};
 use std::alloc::{AllocError, Global};
+
+// Each segment directed, in order: row by row of those that begin at one height, upwards, by their places in the status.
+fn direct_each(alloc: Global, segs: &[Seg]) -> Result<Vec<Edge>, AllocError>
+    requires rising { IsRising seg_cmp segs.now }
+    requires clear { conflicts_of segs.now ≡ [] }
+    ensures { IfOk result (λ v. AreDirectedTo segs.now (length segs.now) v.items) }
+{
+    let ends = by_ends(alloc, segs)?;
+    let mut edges = Vec::with_capacity(alloc, segs.len())?;
+    let mut status = ChunkedList::new(alloc);
+    let mut next = 0;
+    let mut done = 0;
+    while done < segs.len() {
+        let at = segs[done].a;
+        next = leave(&mut status, &ends, next, at);
+        let to = enter_row(&mut status, segs, done, at)?;
+        direct_row(&mut edges, &status, segs, done, to)?;
+        done = to;
+    }
+    Ok(edges)
+}
 
 // One segment, directed among all.
 fn direct_one(segs: &[Seg], s: Seg) -> Edge
@@ -20,16 +45,29 @@ fn direct_one(segs: &[Seg], s: Seg) -> Edge
     Edge::of(s, runs_up(segs, s))
 }
 
-fn direct_each(alloc: Global, segs: &[Seg]) -> Result<Vec<Edge>, AllocError>
-    ensures carriers { IfOk result (λ v. map (λ e. e.carrier) v.items ≡ map OfSeg segs.now) }
-    ensures firsts { IfOk result (λ v. map (λ e. e.from) v.items ≡ map (first_end segs.now) segs.now) }
-    ensures lasts { IfOk result (λ v. map (λ e. e.to) v.items ≡ map (last_end segs.now) segs.now) }
+// Each segment directed, in order, by counting all of them for each.
+fn direct_few(alloc: Global, segs: &[Seg]) -> Result<Vec<Edge>, AllocError>
+    ensures { IfOk result (λ v. AreDirectedTo segs.now (length segs.now) v.items) }
 {
     let mut edges = Vec::with_capacity(alloc, segs.len())?;
     for &s in segs {
         edges.push(direct_one(segs, s))?;
     }
     Ok(edges)
+}
+
+/// So few segments are directed sooner by counting than by a sweep.
+const FEW: usize = 12;
+
+fn direct_all(alloc: Global, segs: &[Seg]) -> Result<Vec<Edge>, AllocError>
+    requires rising { IsRising seg_cmp segs.now }
+    requires clear { conflicts_of segs.now ≡ [] }
+    ensures { IfOk result (λ v. AreDirectedTo segs.now (length segs.now) v.items) }
+{
+    if segs.len() <= FEW {
+        return direct_few(alloc, segs);
+    }
+    direct_each(alloc, segs)
 }
 
 /// The survivors as edges, one for each and in their order, directed so that the odd side is on the left (the
@@ -43,5 +81,5 @@ pub fn direct(alloc: Global, survivors: &[Seg]) -> Result<Vec<Edge>, AllocError>
     ensures sided { IfOk result (λ v. IsSided v.items) }
     ensures parity { IfOk result (λ v. CountsParity survivors.now v.items) }
 {
-    direct_each(alloc, survivors)
+    direct_all(alloc, survivors)
 }

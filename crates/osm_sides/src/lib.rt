@@ -2,7 +2,9 @@
 #![tactic(auto)]
 
 mod directions;
+mod leaving;
 mod plain_stab;
+mod rows;
 mod sides;
 mod stab;
 #[cfg(test)]

@@ -3,6 +3,7 @@ ghost use Rattle.winding.specs.OddSide.{runs_up};
 ghost use Rattle.osm_geom.specs.Seg.{edge_of};
 ghost use Rattle.osm_sides.specs.Survivors.{edges_of};
 ghost use Rattle.osm_sides.specs.SideTests.{span, left_of, starts_left, level, same, left_side, forks_right, counted, left_count, right_count};
+ghost use Rattle.osm_sides.specs.Sweep.{ends_above};
 
 use osm_geom::{Loc, Seg, orient};
 
@@ -14,9 +15,9 @@ fn is_in_span(p: Loc, t: Seg) -> bool
     t.a.y <= p.y && p.y < t.b.y
 }
 
-// The segment spans the height of `p` and has it on its left.
+/// The segment spans the height of `p` and has it on its left.
 #[tactic(auto, unfolding(crate::specs::SideTests::left_of, crate::specs::SideTests::span, crate::specs::SideTests::left_side))]
-fn is_left_of(p: Loc, t: Seg) -> bool
+pub fn is_left_of(p: Loc, t: Seg) -> bool
     ensures { result ≡ left_of p t }
 {
     is_in_span(p, t) && is_left_of_line(p, t)
@@ -53,20 +54,27 @@ fn starts_left_of(s: Seg, t: Seg) -> bool
     is_in_span(s.a, t) && (is_left_of_line(s.a, t) || forks_right(s, t))
 }
 
-// Its upper end is no higher than its lower end.
+/// Its upper end is no higher than its lower end.
 #[tactic(auto, using(crate::proofs::SegmentTests::level_is))]
-fn is_horizontal(s: Seg) -> bool
+pub fn is_horizontal(s: Seg) -> bool
     ensures { result ≡ level s }
 {
     !(s.a.y < s.b.y)
 }
 
-// `t` is another segment than `s` and right of it just above its lower end.
+/// `t` is another segment than `s` and right of it just above its lower end.
 #[tactic(auto, unfolding(crate::specs::SideTests::counted, crate::specs::SideTests::same))]
-fn is_counted(s: Seg, t: Seg) -> bool
+pub fn is_counted(s: Seg, t: Seg) -> bool
     ensures { result ≡ counted s t }
 {
     !(is_same(s.a, t.a) && is_same(s.b, t.b)) && starts_left_of(s, t)
+}
+
+/// Its upper end is above the height of `at`.
+pub fn is_above(t: Seg, at: Loc) -> bool
+    ensures { result ≡ ends_above at.y t }
+{
+    at.y < t.b.y
 }
 
 // How many segments have `p` on their left.

@@ -7,11 +7,11 @@ use Rattle.osm_nest.proofs.outer.anchor.Goals as goal
 
 pub loop-edge-preserved : goal.loop-edge-preserved
 loop-edge-preserved c =
-    first-step c.as_slice-edges.result.now c.loop-edge.edge-index c.loop-edge.anchor c.edge-item.result c.first_of-anchor.result c.loop-edge-test.true c.edge-item.is c.first_of-anchor.ensures c.loop-edge.invariant
+    first-step c.as_slice-edges.result.now c.loop-edge.edge-index c.loop-edge.anchor.now c.edge-item.result c.first_of-anchor.result.now c.loop-edge-test.true c.edge-item.is c.first_of-anchor.ensures c.loop-edge.invariant
 
 pub returns-clause-anchor : goal.returns-clause-anchor
 returns-clause-anchor c =
     let es = c.as_slice-edges.result.now in
     let clear = subst AreClear (sym c.as_slice-edges.ensures.edges) c.requires in
     let all : c.loop-edge.edge-index ≡ length es = omega arith in
-    subst (IsAnchorOf c.loop-edge.anchor) c.as_slice-edges.ensures.edges (found-anchor es clear c.loop-edge.anchor (subst (λ n. IsFirstUpTo es n c.loop-edge.anchor) all c.loop-edge.invariant))
+    subst (IsAnchorOf c.loop-edge.anchor.now) c.as_slice-edges.ensures.edges (found-anchor es clear c.loop-edge.anchor.now (subst (λ n. IsFirstUpTo es n c.loop-edge.anchor.now) all c.loop-edge.invariant))

@@ -6,12 +6,12 @@ use Rattle.osm_nest.proofs.outer.is_outer.Goals as goal
 
 pub returns-clause-anchor : goal.returns-clause-anchor
 returns-clause-anchor c =
-    subst (λ b. (not b ≡ true) ↔ IsOuter c.args.ring.now) (sym c.is_rising.ensures) (outer-by c.args.ring.now c.requires c.anchor.result c.anchor.ensures.anchor)
+    subst (λ b. (not b ≡ true) ↔ IsOuter c.args.ring.now) (sym c.is_rising.ensures) (outer-by c.args.ring.now c.requires c.anchor.result.now c.anchor.ensures.anchor)
 
 pub returns-clause-inner : goal.returns-clause-inner
 returns-clause-inner c =
-    subst (λ b. (not b ≡ false) ↔ IsInner c.args.ring.now) (sym c.is_rising.ensures) (inner-by c.args.ring.now c.requires c.anchor.result c.anchor.ensures.anchor)
+    subst (λ b. (not b ≡ false) ↔ IsInner c.args.ring.now) (sym c.is_rising.ensures) (inner-by c.args.ring.now c.requires c.anchor.result.now c.anchor.ensures.anchor)
 
 pub returns-clause-sign : goal.returns-clause-sign
 returns-clause-sign c =
-    subst (λ b. WindsBySign (not b) c.args.ring.now) (sym c.is_rising.ensures) (winds-by-sign c.args.ring.now c.anchor.result c.requires c.anchor.ensures.ring c.anchor.ensures.anchor)
+    subst (λ b. WindsBySign (not b) c.args.ring.now) (sym c.is_rising.ensures) (winds-by-sign c.args.ring.now c.anchor.result.now c.requires c.anchor.ensures.ring c.anchor.ensures.anchor)

@@ -1,14 +1,33 @@
-use Rattle.osm_geom.specs.declared.edge.Carrier.TheVariants.{OfSeg}
-use Rattle.osm_sides.specs.Directions.{first_end, last_end}
-use Rattle.osm_sides.proofs.Pushes.{map_more}
+use Rattle.std.proofs.Common.{List, arith, get_or, subst, sym, take}
+use Rattle.status.specs.Leaving.{Remains}
+use Rattle.status.specs.Status.{IsStatus}
+use Rattle.osm_geom.specs.declared.seg.Seg.{Seg}
+use Rattle.osm_geom.specs.Loc.{vector_of}
+use Rattle.osm_geom.specs.Seg.{edge_of}
+use Rattle.osm_sides.specs.Sweep.{AreDirectedTo, IsSwept, ends_above}
+use Rattle.osm_sides.proofs.Counts.{not-false-out}
+use Rattle.osm_sides.proofs.Statuses.{none-directed, none-swept, remaining, risen}
 use Rattle.osm_sides.proofs.directions.direct_each.Goals as goal
 
-pub loop-s-preserved : goal.loop-s-preserved
-loop-s-preserved c =
-    let ss = c.args.segs.now in let i = c.loop-s.s-index in let s = c.s-item.result in
-    let es = c.loop-s.edges.items in let new = c.push.new.self.items in let e = c.direct_one.result in
-    let grown = c.in_ok-push.ensures.items in (
-      map_more (λ e. e.carrier) OfSeg ss i s es new e c.loop-s.invariant.0 c.direct_one.ensures.carrier grown c.s-item.is c.loop-s-test.true,
-      map_more (λ e. e.from) (first_end ss) ss i s es new e c.loop-s.invariant.1 c.direct_one.ensures.from grown c.s-item.is c.loop-s-test.true,
-      map_more (λ e. e.to) (last_end ss) ss i s es new e c.loop-s.invariant.2 c.direct_one.ensures.to grown c.s-item.is c.loop-s-test.true,
-    )
+pub loop-done-init : goal.loop-done-init
+loop-done-init c =
+    let segs = c.args.segs.now in let ends = c.in_ok-ends.ends.items in
+    (omega arith, subst (IsSwept segs ends 0 0) (sym c.new-status.ensures) (none-swept segs ends), subst (AreDirectedTo segs 0) (sym c.in_ok-edges.ensures.items) (none-directed segs))
+
+pub leave-next-requires-clause-remains : goal.leave-next-requires-clause-remains
+leave-next-requires-clause-remains c =
+    let segs = c.args.segs.now in let done = c.loop-done.done in let next = c.loop-done.next in let status = c.loop-done.status in
+    let y = (get_or segs done c.index-segs-done.result).a.y in
+    subst (λ (ends : List Seg). Remains (ends_above y) ends next status status) (sym c.deref.ensures.value)
+    (remaining segs c.requires.rising c.requires.clear c.in_ok-ends.ends.items c.in_ok-ends.ensures done next status c.loop-done.invariant.1 y)
+
+pub enter_row-requires-clause-status : goal.enter_row-requires-clause-status
+enter_row-requires-clause-status c =
+    let segs = c.args.segs.now in let done = c.loop-done.done in let next = c.loop-done.next in let status = c.loop-done.status in let s = c.index-segs-done.result in
+    let swept = c.loop-done.invariant.1 in
+    let up = not-false-out _ (swept.swept.later done s (omega arith) c.loop-done-test.true) in
+    subst (IsStatus edge_of (vector_of (get_or segs done s).a) (take done segs)) (sym c.leave-next.ensures.stay)
+    (risen segs c.requires.rising c.requires.clear c.in_ok-ends.ends.items c.in_ok-ends.ensures done next status swept (vector_of (get_or segs done s).a) up)
+
+pub returns : goal.returns
+returns c = subst (λ k. AreDirectedTo c.args.segs.now k c.loop-done.edges.items) (omega (arith, c.loop-done.invariant.0)) c.loop-done.invariant.2

@@ -1,10 +1,9 @@
-use Rattle.std.proofs.Common.{◌≡◌, map, take}
-use Rattle.osm_geom.specs.declared.edge.Carrier.TheVariants.{OfSeg}
-use Rattle.osm_sides.specs.Directions.{first_end, last_end}
+use Rattle.std.proofs.Common.{length, ◌-◌, ◌≤◌}
+use Rattle.osm_sides.specs.Sweep.{AreDirectedTo, IsSwept}
 use Rattle.osm_sides.proofs.directions.direct_each.Given as goal
 
-abbrev pub invariant-loop-s : goal.invariant-loop-s
-invariant-loop-s l =
-    (map (λ e. e.carrier) l.edges.items ≡ map OfSeg (take l.s-index l.segs))
-    × (map (λ e. e.from) l.edges.items ≡ map (first_end l.segs) (take l.s-index l.segs))
-    × (map (λ e. e.to) l.edges.items ≡ map (last_end l.segs) (take l.s-index l.segs))
+abbrev pub invariant-loop-done : goal.invariant-loop-done
+invariant-loop-done l = (l.done ≤ length l.segs) × IsSwept l.segs l.ends.items l.done l.next l.status × AreDirectedTo l.segs l.done l.edges.items
+
+abbrev pub decreases-loop-done : goal.decreases-loop-done
+decreases-loop-done l = length l.segs - l.done

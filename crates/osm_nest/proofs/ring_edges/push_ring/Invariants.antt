@@ -1,0 +1,5 @@
+use Rattle.osm_nest.specs.SweptEdges.{AreRingEdges}
+use Rattle.osm_nest.proofs.ring_edges.push_ring.Given as goal
+
+abbrev pub invariant-loop-edge : goal.invariant-loop-edge
+invariant-loop-edge l = AreRingEdges l.place l.edge-index l.ring l.initial.edges.items l.edges.items

@@ -1,0 +1,19 @@
+-- By the neighbour's ring.
+use Rattle.std.proofs.Common.{None, Option, Some, get_or, refl, ◌≡◌, ℕ}
+use Rattle.std.specs.Prelude.{IfSome}
+use Rattle.osm_nest.specs.Homes.{IsHome}
+use Rattle.osm_nest.proofs.AnchorLists.{outer-at}
+use Rattle.osm_nest.proofs.swept_enclosers.encloser_by.Goals as goal
+
+pub returns-then-index : goal.returns-then-index
+returns-then-index c =
+    let t = c.requires.tells in
+    let told = outer-at c.args.rings.now c.args.anchors.now c.requires.anchors c.args.left.now.ring c.index.result.now t.inside c.index.ensures in
+    t.outer (told.0.0 c.if-index.true)
+
+pub returns : goal.returns
+returns c = by (get_or c.args.known.now c.args.left.now.ring None) refl
+  where
+    by : (o : Option ℕ) → get_or c.args.known.now c.args.left.now.ring None ≡ o → IfSome o (λ home. IsHome c.args.rings.now c.args.anchor.now.ring (Some home))
+    by (Some home) e = c.requires.tells.inner home (c.requires.known.right c.args.left.now.ring home c.requires.tells.inside e)
+    by None e = tt

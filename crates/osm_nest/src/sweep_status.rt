@@ -1,0 +1,192 @@
+//! The status of a sweep upwards over edges: those that span its height, from left to right just above it.
+//!
+//! Where an edge belongs is searched for as if the status were in order, and then its neighbours there are tested. An edge that
+//! ended may still stand in the status: what counts is the status without those.
+ghost use Rattle.std.specs.Prelude.{◌≡◌, ◌<◌, ◌≤◌, ◌⊎◌, ◌&&◌, ◌-◌, IfOk, IfSome, filter, length, slice_index_or, take, true, false};
+ghost use Rattle.osm_geom.specs.Span.{lower_end, spans};
+ghost use Rattle.osm_nest.specs.declared.ring_edges.RingEdge.{RingEdge};
+ghost use Rattle.osm_nest.specs.SweptEdges.{HasNeighbour, IsPut, IsRowPut, is_within, left_at};
+ghost use Rattle.winding.specs.Member.{In};
+
+use crate::outer::lower_end;
+use crate::ring_edges::RingEdge;
+use chunked_list::ChunkedList;
+use osm_geom::{Edge, Point, compare_just_above, spans_height};
+use std::alloc::AllocError;
+
+// Whether both span the height of a point, and `f` is left of `g` just above it.
+fn is_left(f: &Edge, g: &Edge, at: &Point) -> bool
+    ensures { result ≡ left_at at.now f.now g.now }
+{
+    spans_height(f, at) && spans_height(g, at) && compare_just_above(f, g, at).is_lt()
+}
+
+// The same where `g` is known to span the height.
+fn is_left_of(f: &Edge, g: &Edge, at: &Point) -> bool
+    requires { spans g.now at.now ≡ true }
+{
+    spans_height(f, at) && compare_just_above(f, g, at).is_lt()
+}
+
+// Where the search sees an edge that spans the height among those of the status.
+fn search(status: &ChunkedList<RingEdge>, edge: &Edge, at: &Point) -> usize
+    requires { spans edge.now at.now ≡ true }
+    ensures { result ≤ length status.now }
+{
+    status.partition_point(|other| is_left_of(other.edge, edge, at))
+}
+
+// Whether the edge at a place doesn't span the height.
+fn is_past(status: &ChunkedList<RingEdge>, place: usize, at: &Point) -> bool
+    ensures inside { result ≡ true → place < length status.now }
+    ensures past { result ≡ true → (d : RingEdge) → is_within at.now (slice_index_or status.now place d) ≡ false }
+{
+    if place >= status.len() {
+        return false;
+    }
+    !spans_height(status.get(place).edge, at)
+}
+
+// Takes out an edge that ended, where the search at the height of `below` finds one that did; else all that don't span the height of `at`.
+fn take_out(status: &mut ChunkedList<RingEdge>, edge: &Edge, below: &Point, at: &Point)
+    requires { spans edge.now below.now ≡ true }
+    ensures within { filter (is_within at.now) status.new ≡ filter (is_within at.now) status.old }
+    ensures members { (e : RingEdge) → In e status.new → In e status.old }
+{
+    let place = search(status, edge, below);
+    if is_past(status, place, at) {
+        status.remove(place);
+        return;
+    }
+    status.retain(|other| spans_height(other.edge, at));
+}
+
+// Whether the edge at a place spans the height of `below` and ends no higher than `at`.
+fn ends_between(tops: &[RingEdge], place: usize, below: &Point, at: &Point) -> bool
+    ensures inside { result ≡ true → place < length tops.now }
+    ensures below { result ≡ true → (d : RingEdge) → is_within below.now (slice_index_or tops.now place d) ≡ true }
+{
+    if place >= tops.len() {
+        return false;
+    }
+    let edge = tops[place].edge;
+    spans_height(edge, below) && !spans_height(edge, at)
+}
+
+/// Takes out the edges that span the height of `below` and end no higher than `at`, by a list of all edges in order of their upper ends, from
+/// a place on; gives the place from which to go on. That each is found rests on no proof, and need not.
+pub(crate) fn leave(
+    status: &mut ChunkedList<RingEdge>,
+    tops: &[RingEdge],
+    from: usize,
+    below: &Point,
+    at: &Point,
+) -> usize
+    ensures within { filter (is_within at.now) status.new ≡ filter (is_within at.now) status.old }
+    ensures members { (e : RingEdge) → In e status.new → In e status.old }
+{
+    let mut next = from;
+    while ends_between(tops, next, below, at) {
+        take_out(status, tops[next].edge, below, at);
+        next += 1;
+    }
+    next
+}
+
+// Whether the two between which a place lies span the height, and are left and right of the edge.
+fn fits_at(status: &ChunkedList<RingEdge>, place: usize, edge: &Edge, at: &Point) -> bool
+    requires { place ≤ length status.now }
+    ensures before { result ≡ true → (d : RingEdge) → 0 < place → left_at at.now (slice_index_or status.now (place - 1) d).edge.now edge.now ≡ true }
+    ensures after { result ≡ true → (d : RingEdge) → place < length status.now → left_at at.now edge.now (slice_index_or status.now place d).edge.now ≡ true }
+{
+    if place > 0 && !is_left(status.get(place - 1).edge, edge, at) {
+        return false;
+    }
+    if place < status.len() && !is_left(edge, status.get(place).edge, at) {
+        return false;
+    }
+    true
+}
+
+// Puts an edge where it seems to belong, if it fits there.
+fn enter<'a>(
+    status: &mut ChunkedList<RingEdge<'a>>,
+    item: &RingEdge<'a>,
+    at: &Point,
+) -> Result<bool, AllocError>
+    requires { is_within at.now item.now ≡ true }
+    ensures put { IfOk result (λ fits. fits ≡ true → IsPut at.now item.now (filter (is_within at.now) status.old) (filter (is_within at.now) status.new)) }
+    ensures members { IfOk result (λ fits. (e : RingEdge) → In e status.new → (In e status.old) ⊎ (e ≡ item.now)) }
+{
+    let place = search(status, item.edge, at);
+    if !fits_at(status, place, item.edge, at) {
+        return Ok(false);
+    }
+    status.insert(place, *item)?;
+    Ok(true)
+}
+
+// Whether the next edge spans the height.
+fn goes_on(edges: &[RingEdge], next: usize, at: &Point) -> bool
+    ensures inside { result ≡ true → next < length edges.now }
+    ensures within { result ≡ true → (d : RingEdge) → is_within at.now (slice_index_or edges.now next d) ≡ true }
+    ensures ended { result ≡ false → (d : RingEdge) → next < length edges.now → is_within at.now (slice_index_or edges.now next d) ≡ false }
+{
+    if next >= edges.len() {
+        return false;
+    }
+    spans_height(edges[next].edge, at)
+}
+
+/// Puts in the edges from a place on that span the height of `at`; gives the place after the last of them, or None where one doesn't fit.
+pub(crate) fn enter_row<'a>(
+    status: &mut ChunkedList<RingEdge<'a>>,
+    edges: &[RingEdge<'a>],
+    from: usize,
+    at: &Point,
+) -> Result<Option<usize>, AllocError>
+    requires { from ≤ length edges.now }
+    ensures put { IfOk result (λ row. IfSome row (λ to. IsRowPut at.now edges.now from to (filter (is_within at.now) status.old) (filter (is_within at.now) status.new))) }
+    ensures members { IfOk result (λ row. IfSome row (λ to. (e : RingEdge) → In e status.new → (In e status.old) ⊎ In e (take to edges.now))) }
+{
+    let mut next = from;
+    while goes_on(edges, next, at) {
+        if !enter(status, &edges[next], at)? {
+            return Ok(None);
+        }
+        next += 1;
+    }
+    Ok(Some(next))
+}
+
+// Whether an anchor stands between two edges: the first is left of it, and the second, which spans the height too, isn't.
+fn is_between(left: &Edge, next: &Edge, anchor: &Edge, at: &Point) -> bool
+    ensures left { result ≡ true → left_at at.now left.now anchor.now ≡ true }
+    ensures within { result ≡ true → spans next.now at.now ≡ true }
+    ensures next { result ≡ true → left_at at.now next.now anchor.now ≡ false }
+{
+    is_left(left, anchor, at) && spans_height(next, at) && !is_left(next, anchor, at)
+}
+
+/// The edge just before an anchor in the status, if the anchor seems to stand there.
+pub(crate) fn left_neighbour<'a>(
+    status: &ChunkedList<RingEdge<'a>>,
+    anchor: &Edge,
+) -> Option<RingEdge<'a>>
+    ensures { IfSome result (λ e. HasNeighbour anchor.now (filter (is_within (lower_end anchor.now)) status.now) e) }
+{
+    let at = lower_end(anchor);
+    if !spans_height(anchor, &at) {
+        return None;
+    }
+    let place = search(status, anchor, &at);
+    if place == 0 || place >= status.len() {
+        return None;
+    }
+    let left = status.get(place - 1);
+    let next = status.get(place);
+    if is_between(left.edge, next.edge, anchor, &at) {
+        return Some(left);
+    }
+    None
+}

@@ -1,0 +1,12 @@
+use Rattle.std.proofs.Common.{arith, not, rules}
+use Rattle.osm_sides.specs.SideTests.{left_of}
+use Rattle.plane.proofs.Bools.{not-true-out}
+use Rattle.osm_sides.proofs.Counts.{count_from, not-false-out}
+use Rattle.osm_sides.proofs.rows.left_in.Goals as goal
+
+pub returns : goal.returns
+returns c =
+    let p = c.args.p in let xs = c.args.status.now in let i = c.partition_point.result in
+    let point = c.partition_point.ensures.point (λ t. not (left_of p t)) (λ x told says. search rules) c.requires in
+    let e = count_from (left_of p) xs i (λ j d h l. not-true-out _ (point.0 j d h l)) (λ j d h l. not-false-out _ (point.1 j d h l)) c.partition_point.ensures.within in
+    omega arith

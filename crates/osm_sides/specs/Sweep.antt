@@ -1,0 +1,67 @@
+-- The sweep that directs segments: the heights it comes to, the segments that leave there, the status of a row, and the directions so far.
+use Rattle.std.specs.Prelude.{Bool, List, false, insert, length, map, not, slice_index_or, take, true, ℕ, ℤ, ◌+◌, ◌<◌, ◌≡◌, ◌≤◌}
+use Rattle.std.specs.List.{AllWithin}
+use lib.Signed.{lt_z}
+use Rattle.plane.specs.Vector.{Vector}
+use Rattle.winding.specs.Member.{In}
+use Rattle.status.specs.Leaving.{Remains}
+use Rattle.status.specs.Status.{IsStatus}
+use Rattle.osm_geom.specs.declared.edge.Carrier.TheVariants.{OfSeg}
+use Rattle.osm_geom.specs.declared.edge.Edge.{Edge}
+use Rattle.osm_geom.specs.declared.seg.Seg.{Seg}
+use Rattle.osm_geom.specs.Seg.{edge_of}
+use Rattle.osm_sides.specs.Directions.{first_end, last_end}
+use Rattle.osm_sides.specs.SideTests.{counted, level}
+
+abbrev pub ends_above : ℤ → Seg → Bool
+ends_above y t = lt_z y t.b.y
+
+abbrev pub begins_by : ℤ → Seg → Bool
+begins_by y t = not (lt_z y t.a.y)
+
+-- none ends below an earlier one
+abbrev pub EndsRise : List Seg → Type 0
+EndsRise ends = (i j : ℕ) (d : Seg) → i ≤ j → j < length ends → lt_z (slice_index_or ends j d).b.y (slice_index_or ends i d).b.y ≡ false
+
+-- in order of the heights of their upper ends, among them each of the segments that isn't horizontal
+pub record AreEnds (segs ends : List Seg) : Type 0 where
+  pub whole : (t : Seg) → In t segs → level t ≡ false → In t ends
+  pub rise : EndsRise ends
+
+-- what remained of any status while its items left does so when the next one has left too
+abbrev pub NextHasLeft : ℤ → List Seg → ℕ → List Seg → List Seg → Type 0
+NextHasLeft y ends next before after =
+    (old : List Seg) → Remains (ends_above y) ends next old before → Remains (ends_above y) ends (next + 1) old after
+
+-- s stands before those that are right of it just above its lower end
+pub record IsEntered (s : Seg) (old new : List Seg) : Type 0 where
+  pub place : ℕ
+  pub within : place ≤ length old
+  pub before : AllWithin (λ t. not (counted s t) ≡ true) old 0 place
+  pub after : AllWithin (λ t. not (counted s t) ≡ false) old place (length old)
+  pub is : new ≡ insert old place s
+
+-- the sweep has come to the height of p: the first k of the segments begin by it and the others don't, and the status is that of all
+pub record IsSweptTo (p : Vector) (segs : List Seg) (k : ℕ) (status : List Seg) : Type 0 where
+  pub begun : AllWithin (λ t. begins_by p.y t ≡ true) segs 0 k
+  pub later : AllWithin (λ t. begins_by p.y t ≡ false) segs k (length segs)
+  pub is : IsStatus edge_of p segs status
+
+-- and those from one place up to another begin at it
+pub record IsRow (segs : List Seg) (from to : ℕ) (p : Vector) (status : List Seg) : Type 0 where
+  pub more : from < to
+  pub within : to ≤ length segs
+  pub level : AllWithin (λ t. t.a.y ≡ p.y) segs from to
+  pub swept : IsSweptTo p segs to status
+
+-- before a row: the sweep has come to some height, and none of the ends before a place is above it
+pub record IsSwept (segs ends : List Seg) (k next : ℕ) (status : List Seg) : Type 0 where
+  pub height : Vector
+  pub swept : IsSweptTo height segs k status
+  pub ended : AllWithin (λ t. ends_above height.y t ≡ false) ends 0 next
+
+-- one edge for each of the first k segments, in order, its odd side on the left
+pub record AreDirectedTo (segs : List Seg) (k : ℕ) (edges : List Edge) : Type 0 where
+  pub carriers : map (λ (e : Edge). e.carrier) edges ≡ map OfSeg (take k segs)
+  pub firsts : map (λ (e : Edge). e.from) edges ≡ map (first_end segs) (take k segs)
+  pub lasts : map (λ (e : Edge). e.to) edges ≡ map (last_end segs) (take k segs)

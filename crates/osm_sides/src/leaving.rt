@@ -1,0 +1,88 @@
+//! How segments leave the status of a sweep: at the heights of their upper ends.
+ghost use Rattle.std.specs.Prelude.{◌≡◌, ◌<◌, ◌≤◌, ◌+◌, List, IfOk, IfSome, false, filter, length, slice_index_or, true};
+ghost use Rattle.std.specs.List.{AllWithin};
+ghost use Rattle.osm_geom.specs.declared.seg.Seg.{Seg};
+ghost use Rattle.status.specs.Leaving.{Remains};
+ghost use Rattle.osm_sides.specs.Sweep.{AreEnds, EndsRise, NextHasLeft, ends_above};
+
+use crate::sides::{is_above, is_horizontal};
+use chunked_list::ChunkedList;
+use osm_geom::{Loc, Seg, orient};
+use std::alloc::{AllocError, Global};
+
+/// The segments that aren't horizontal, in order of the heights of their upper ends.
+pub fn by_ends(alloc: Global, segs: &[Seg]) -> Result<Vec<Seg>, AllocError>
+    ensures { IfOk result (λ ends. AreEnds segs.now ends.items) }
+{
+    let mut ends = Vec::from_slice(alloc, segs)?;
+    ends.retain(|s| !is_horizontal(*s));
+    ends.sort_by_key(|s| s.b.y)?;
+    Ok(ends)
+}
+
+// Whether `t` is left of `s` just below the upper end of `s`, where both reach that height. Only how fast a segment is found rests on it.
+fn is_left_below(t: Seg, s: Seg) -> bool {
+    let side = orient(t.a, t.b, s.b);
+    side < 0 || side == 0 && orient(t.a, t.b, s.a) < 0
+}
+
+// The place of a segment, if it stands just behind those that are left of it.
+fn find(status: &ChunkedList<Seg>, s: Seg) -> Option<usize>
+    ensures inside { IfSome result (λ place. place < length status.now) }
+    ensures at { IfSome result (λ place. slice_index_or status.now place s ≡ s) }
+{
+    let place = status.partition_point(|t| is_left_below(*t, s));
+    if place < status.len() && status.get(place) == s {
+        return Some(place);
+    }
+    None
+}
+
+// Those that end above the height of `at` stay.
+fn leave_all(status: &mut ChunkedList<Seg>, at: Loc)
+    ensures { status.new ≡ filter (ends_above at.y) status.old }
+{
+    status.retain(|t| is_above(*t, at));
+}
+
+// Takes out the next one that has ended by the height of `at`; all that have, if it isn't found.
+fn leave_next(status: &mut ChunkedList<Seg>, ends: &[Seg], next: usize, at: Loc)
+    requires inside { next < length ends.now }
+    requires ended { (d : Seg) → ends_above at.y (slice_index_or ends.now next d) ≡ false }
+    ensures { NextHasLeft at.y ends.now next status.old status.new }
+{
+    match find(status, ends[next]) {
+        Some(place) => {
+            status.remove(place);
+        }
+        None => {
+            leave_all(status, at);
+        }
+    }
+}
+
+// Takes out those from one place up to another.
+fn leave_each(status: &mut ChunkedList<Seg>, ends: &[Seg], from: usize, to: usize, at: Loc)
+    requires within { to ≤ length ends.now }
+    requires ended { AllWithin (λ t. ends_above at.y t ≡ false) ends.now from to }
+    requires stay { AllWithin (λ t. ends_above at.y t ≡ true) ends.now to (length ends.now) }
+    requires remains { Remains (ends_above at.y) ends.now from status.old status.old }
+    ensures { status.new ≡ filter (ends_above at.y) status.old }
+{
+    for next in from..to {
+        leave_next(status, ends, next, at);
+    }
+}
+
+/// Takes out those that have ended by the height of `at`, the next ones in the list of ends; gives the place of the
+/// first that hasn't.
+pub fn leave(status: &mut ChunkedList<Seg>, ends: &[Seg], next: usize, at: Loc) -> usize
+    requires rise { EndsRise ends.now }
+    requires remains { Remains (ends_above at.y) ends.now next status.old status.old }
+    ensures stay { status.new ≡ filter (ends_above at.y) status.old }
+    ensures ended { AllWithin (λ t. ends_above at.y t ≡ false) ends.now 0 result }
+{
+    let to = ends.partition_point(|t| !is_above(*t, at));
+    leave_each(status, ends, next, to, at);
+    to
+}

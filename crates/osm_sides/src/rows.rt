@@ -1,0 +1,134 @@
+//! Rows of segments that begin at one height: they enter the status of the sweep, and are directed by it.
+ghost use Rattle.std.specs.Prelude.{◌≡◌, ◌<◌, ◌≤◌, [], IfOk, OnOk, cond, false, length, not, slice_index_or, take, true};
+ghost use Rattle.std.specs.List.{AllWithin};
+ghost use Rattle.std.specs.List.Sorted.{IsPartitionedBy};
+ghost use Rattle.plane.specs.Vector.{Vector};
+ghost use Rattle.winding.specs.Parity.{is_even};
+ghost use Rattle.status.specs.Status.{IsStatus};
+ghost use Rattle.osm_geom.specs.declared.seg.Seg.{Seg};
+ghost use Rattle.osm_geom.specs.Loc.{vector_of};
+ghost use Rattle.osm_geom.specs.Seg.{edge_of, seg_cmp};
+ghost use Rattle.osm_lists.specs.Rising.{IsRising};
+ghost use Rattle.osm_segments.specs.Pairs.{conflicts_of};
+ghost use Rattle.osm_sides.specs.SideTests.{counted, left_count, left_of, level, right_count};
+ghost use Rattle.osm_sides.specs.Sweep.{AreDirectedTo, IsEntered, IsRow};
+
+use crate::sides::{is_above, is_counted, is_horizontal, is_left_of};
+use chunked_list::ChunkedList;
+use osm_geom::{Edge, Loc, Seg};
+use std::alloc::AllocError;
+
+// How many of the status don't count as right of `s`: these stand first.
+fn place(status: &ChunkedList<Seg>, s: Seg) -> usize
+    requires { IsPartitionedBy (λ t. not (counted s t)) status.now }
+    ensures within { result ≤ length status.now }
+    ensures before { AllWithin (λ t. not (counted s t) ≡ true) status.now 0 result }
+    ensures after { AllWithin (λ t. not (counted s t) ≡ false) status.now result (length status.now) }
+{
+    status.partition_point(|t| !is_counted(s, *t))
+}
+
+// Puts a segment where it belongs just above its lower end.
+fn enter(status: &mut ChunkedList<Seg>, s: Seg) -> Result<(), AllocError>
+    requires { IsPartitionedBy (λ t. not (counted s t)) status.old }
+    ensures { OnOk result (IsEntered s status.old status.new) }
+{
+    let place = place(status, s);
+    status.insert(place, s)?;
+    Ok(())
+}
+
+// Puts in the segments from one place up to another, which begin at the height of `at`; a horizontal one doesn't span
+// it.
+fn enter_each(
+    status: &mut ChunkedList<Seg>,
+    segs: &[Seg],
+    from: usize,
+    to: usize,
+    at: Loc,
+) -> Result<(), AllocError>
+    requires rising { IsRising seg_cmp segs.now }
+    requires clear { conflicts_of segs.now ≡ [] }
+    requires status { IsStatus edge_of (vector_of at) (take from segs.now) status.old }
+    requires row { AllWithin (λ t. t.a.y ≡ at.y) segs.now from to }
+    requires order { from ≤ to }
+    requires within { to ≤ length segs.now }
+    ensures { OnOk result (IsStatus edge_of (vector_of at) (take to segs.now) status.new) }
+{
+    for i in from..to {
+        let s = segs[i];
+        if is_above(s, at) {
+            enter(status, s)?;
+        }
+    }
+    Ok(())
+}
+
+/// Puts in the segments that begin at the height of `at`, where the one at `from` does; tells up to where they do.
+pub fn enter_row(
+    status: &mut ChunkedList<Seg>,
+    segs: &[Seg],
+    from: usize,
+    at: Loc,
+) -> Result<usize, AllocError>
+    requires rising { IsRising seg_cmp segs.now }
+    requires clear { conflicts_of segs.now ≡ [] }
+    requires inside { from < length segs.now }
+    requires first { (d : Seg) → (slice_index_or segs.now from d).a ≡ at }
+    requires status { IsStatus edge_of (vector_of at) (take from segs.now) status.old }
+    ensures { IfOk result (λ to. IsRow segs.now from to (vector_of at) status.new) }
+{
+    let to = segs.partition_point(|s| s.a.y <= at.y);
+    enter_each(status, segs, from, to, at)?;
+    Ok(to)
+}
+
+// How many of the status are right of `s` just above its lower end.
+fn right_in(status: &ChunkedList<Seg>, s: Seg) -> usize
+    requires { IsPartitionedBy (λ t. not (counted s t)) status.now }
+    ensures { result ≡ right_count s status.now }
+{
+    status.len() - place(status, s)
+}
+
+// How many of the status have `p` on their left.
+fn left_in(status: &ChunkedList<Seg>, p: Loc) -> usize
+    requires { IsPartitionedBy (λ t. not (left_of p t)) status.now }
+    ensures { result ≡ left_count p status.now }
+{
+    status.len() - status.partition_point(|t| !is_left_of(p, *t))
+}
+
+// Whether the odd side makes `s` run up, by its place in the status at its lower end.
+fn runs_up_in(status: &ChunkedList<Seg>, s: Seg) -> bool
+    requires flat { level s ≡ true → IsPartitionedBy (λ t. not (left_of s.a t)) status.now }
+    requires sloping { level s ≡ false → IsPartitionedBy (λ t. not (counted s t)) status.now }
+    ensures { result ≡ cond (level s) (not (is_even (left_count s.a status.now))) (is_even (right_count s status.now)) }
+{
+    if is_horizontal(s) {
+        left_in(status, s.a) % 2 != 0
+    } else {
+        right_in(status, s) % 2 == 0
+    }
+}
+
+/// Directs the segments from one place up to another, which begin at the height of the status.
+pub fn direct_row(
+    edges: &mut Vec<Edge>,
+    status: &ChunkedList<Seg>,
+    segs: &[Seg],
+    from: usize,
+    to: usize,
+) -> Result<(), AllocError>
+    requires rising { IsRising seg_cmp segs.now }
+    requires clear { conflicts_of segs.now ≡ [] }
+    requires row { (p : Vector) × IsRow segs.now from to p status.now }
+    requires so_far { AreDirectedTo segs.now from edges.old.items }
+    ensures { OnOk result (AreDirectedTo segs.now to edges.new.items) }
+{
+    for i in from..to {
+        let s = segs[i];
+        edges.push(Edge::of(s, runs_up_in(status, s)))?;
+    }
+    Ok(())
+}
