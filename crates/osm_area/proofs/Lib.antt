@@ -13,3 +13,4 @@ pub mod OutcomeLemmas
 pub mod RisingLists
 pub mod AreaExists
 pub mod OutcomeExists
+pub mod SoundAreas

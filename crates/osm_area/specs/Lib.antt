@@ -8,3 +8,4 @@ pub mod Problems
 pub mod RoleKinds
 pub mod Roles
 pub mod Segments
+pub mod Sound

@@ -2,14 +2,10 @@
 use Rattle.std.specs.Prelude.{◌≡◌, List, [], ◌∷◌, ◌++◌, map, ℤ}
 use Rattle.osm_geom.specs.declared.seg.Seg.{Seg}
 use Rattle.opl_reader.specs.declared.object.ObjectRef.{ObjectRef}
-use Rattle.opl_reader.specs.declared.object.Object.{Object}
 use Rattle.osm_objects.specs.declared.problem.Note.{Note}
 use Rattle.osm_objects.specs.declared.problem.Note.TheVariants.{NamedTwice, Repeated}
 use Rattle.osm_segments.specs.declared.counts.Repeat.{Repeat}
 use Rattle.osm_segments.specs.Repeats.{AreRepeats}
-use Rattle.osm_area.specs.MemberWays.{ways_named_twice}
-use Rattle.osm_area.specs.Missing.{missing}
-use Rattle.osm_area.specs.Segments.{segments_of}
 
 abbrev pub named_twice_note : ℤ → Note
 named_twice_note way = NamedTwice way
@@ -22,9 +18,6 @@ abbrev pub AreNotesGiven : List ObjectRef → List ℤ → List Seg → List Not
 AreNotesGiven [] ways segments notes =
     (repeats : List Repeat) × (AreRepeats segments repeats × (notes ≡ map named_twice_note ways ++ map repeated_note repeats))
 AreNotesGiven (r ∷ missing) ways segments notes = notes ≡ map named_twice_note ways
-
-abbrev pub AreNotes : List Object → ObjectRef → List Note → Type 0
-AreNotes objects candidate notes = AreNotesGiven (missing objects candidate) (ways_named_twice objects candidate) (segments_of objects candidate) notes
 
 -- those, and then the notes on roles
 abbrev pub AreNotesBefore : List ObjectRef → List ℤ → List Seg → (roles notes : List Note) → Type 0

@@ -1,5 +1,5 @@
 -- What comes of a candidate.
-use Rattle.std.specs.Prelude.{All, ◌≢◌, List, [], ℤ}
+use Rattle.std.specs.Prelude.{All, ◌≡◌, ◌≢◌, ◌↔◌, List, [], ℤ}
 use Rattle.osm_geom.specs.declared.seg.Seg.{Seg}
 use Rattle.opl_reader.specs.declared.object.ObjectRef.{ObjectRef}
 use Rattle.opl_reader.specs.declared.object.Object.{Object}
@@ -7,6 +7,7 @@ use Rattle.osm_objects.specs.declared.problem.Note.{Note}
 use Rattle.osm_objects.specs.Problem.{IsOfItsKind}
 use Rattle.osm_objects.specs.declared.problem.Problem.{Problem}
 use Rattle.osm_nest.specs.declared.polygon.Polygon.{Polygon}
+use Rattle.osm_nest.specs.Nested.{HasKinds}
 use Rattle.osm_area.specs.declared.outcome.Outcome.{Outcome}
 use Rattle.osm_area.specs.declared.outcome.Outcome.TheVariants as outcome
 use Rattle.osm_area.specs.Segments.{segments_of}
@@ -16,6 +17,7 @@ use Rattle.osm_area.specs.MemberWays.{ways_named_twice}
 use Rattle.osm_area.specs.Missing.{missing}
 use Rattle.osm_area.specs.Area.{IsArea, HaveParityOf}
 use Rattle.osm_area.specs.Roles.{role_notes}
+use Rattle.osm_area.specs.Sound.{IsSound}
 
 -- the polygons of an area; none where there are problems
 abbrev pub polygons_in : Outcome → List Polygon
@@ -47,3 +49,15 @@ KeepsParity objects candidate (outcome.Problems list notes) = Unit {0}
 -- every candidate has an outcome, whose conflicts are of the kinds that their segments have
 abbrev pub OutcomeExists : Type 0
 OutcomeExists = (objects : List Object) (candidate : ObjectRef) → (outcome : Outcome) × IsOutcome objects candidate outcome × All IsOfItsKind (problems_in outcome)
+
+-- a candidate has an area exactly where it is sound, and else problems
+abbrev pub HasAreaExactly : Type 0
+HasAreaExactly =
+    (objects : List Object) (candidate : ObjectRef) (outcome : Outcome) → IsOutcome objects candidate outcome →
+    (problems_in outcome ≡ []) ↔ IsSound objects candidate
+
+-- in each polygon of an area that is right the first ring is outer and the others are inner
+abbrev pub AreasHaveKinds : Type 0
+AreasHaveKinds =
+    (objects : List Object) (candidate : ObjectRef) (outcome : Outcome) → IsOutcome objects candidate outcome →
+    All HasKinds (polygons_in outcome)

@@ -5,14 +5,11 @@ use Rattle.osm_geom.specs.declared.seg.Seg.{Seg}
 use Rattle.opl_reader.specs.declared.object.ObjectKind.{ObjectKind}
 use Rattle.opl_reader.specs.declared.object.ObjectKind.TheVariants.{Node, Way, Relation}
 use Rattle.opl_reader.specs.declared.object.ObjectRef.{ObjectRef}
-use Rattle.opl_reader.specs.declared.object.Object.{Object}
 use Rattle.osm_objects.specs.declared.problem.Problem.{Problem}
 use Rattle.osm_objects.specs.declared.problem.Problem.TheVariants.{MissingWay, MissingNode, Nothing, Conflict, Odd}
 use Rattle.osm_segments.specs.declared.pairs.Pair.{Pair}
 use Rattle.osm_segments.specs.Counts.{AreSurvivors, AreOddNodes}
 use Rattle.osm_segments.specs.Pairs.{conflicts_of}
-use Rattle.osm_area.specs.Missing.{missing}
-use Rattle.osm_area.specs.Segments.{segments_of}
 
 -- a way that is missing, or else a node
 abbrev pub missing_of : ObjectKind → ℤ → Problem
@@ -48,6 +45,3 @@ SurvivorsAre segments P = (survivors : List Seg) × (AreSurvivors segments survi
 abbrev pub AreProblemsGiven : List ObjectRef → List Seg → List Problem → Type 0
 AreProblemsGiven [] segments problems = SurvivorsAre segments (λ survivors. AreProblemsAmong survivors problems)
 AreProblemsGiven (r ∷ missing) segments problems = problems ≡ map missing_problem (r ∷ missing)
-
-abbrev pub AreProblems : List Object → ObjectRef → List Problem → Type 0
-AreProblems objects candidate problems = AreProblemsGiven (missing objects candidate) (segments_of objects candidate) problems

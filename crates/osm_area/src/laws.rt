@@ -1,7 +1,7 @@
 //! Laws of outcomes. The contract of each function is the law.
-ghost use Rattle.osm_area.specs.Outcome.{OutcomeExists};
+ghost use Rattle.osm_area.specs.Outcome.{AreasHaveKinds, HasAreaExactly, OutcomeExists};
 
-use osm_nest::{nesting_exists, rings_may_be_nested};
+use osm_nest::{nested_have_kinds, nesting_exists, rings_may_be_nested};
 use osm_rings::ring_list_of_edges_exists;
 
 /// Every candidate of every list of objects has an outcome, whatever memory there is.
@@ -11,4 +11,18 @@ pub fn outcome_exists()
     ring_list_of_edges_exists();
     rings_may_be_nested();
     nesting_exists();
+}
+
+/// A candidate has an area exactly where nothing that it names is missing, some segment survives, no two survivors are
+/// in conflict, and an even number of them end at each location.
+pub fn has_area_exactly()
+    ensures { HasAreaExactly }
+{}
+
+/// In each polygon of every area that is right the first ring is outer and the others are inner, as their anchors tell.
+pub fn areas_have_kinds()
+    ensures { AreasHaveKinds }
+{
+    rings_may_be_nested();
+    nested_have_kinds();
 }

@@ -19,6 +19,6 @@ mod segments;
 #[cfg(test)]
 mod tests;
 
-pub use laws::outcome_exists;
+pub use laws::{areas_have_kinds, has_area_exactly, outcome_exists};
 pub use lists::{Notes, Problems};
 pub use outcome::{Outcome, assemble};

@@ -1,0 +1,5 @@
+pub mod BegunOnce
+pub mod ExactRings
+pub mod NestedOne
+pub mod OutcomeOne
+pub mod SortedLists

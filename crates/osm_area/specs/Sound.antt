@@ -1,0 +1,23 @@
+-- What a candidate needs to have an area.
+use Rattle.std.specs.Prelude.{List, [], ◌≡◌, ◌≢◌}
+use Rattle.osm_geom.specs.declared.seg.Seg.{Seg}
+use Rattle.opl_reader.specs.declared.object.Object.{Object}
+use Rattle.opl_reader.specs.declared.object.ObjectRef.{ObjectRef}
+use Rattle.osm_segments.specs.Counts.{AreSurvivors}
+use Rattle.osm_segments.specs.Pairs.{conflicts_of}
+use Rattle.osm_sides.specs.Survivors.{HasEvenNodes}
+use Rattle.osm_area.specs.Missing.{missing}
+use Rattle.osm_area.specs.Segments.{segments_of}
+
+-- no part is missing, and of the segments some survive, no two of which are in conflict and an even
+-- number of which end at each location
+pub record IsSoundGiven (missing : List ObjectRef) (segments : List Seg) : Type 0 where
+  pub complete : missing ≡ []
+  pub survivors : List Seg
+  pub survive : AreSurvivors segments survivors
+  pub some : survivors ≢ []
+  pub clear : conflicts_of survivors ≡ []
+  pub even : HasEvenNodes survivors
+
+abbrev pub IsSound : List Object → ObjectRef → Type 0
+IsSound objects candidate = IsSoundGiven (missing objects candidate) (segments_of objects candidate)
