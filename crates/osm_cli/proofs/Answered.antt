@@ -4,7 +4,7 @@ use Rattle.std.proofs.lemmas.Bool.{cases_lt, lt-ltb, le-leb, lt-leb}
 use Rattle.std.proofs.lemmas.List.{take_all, take-append-le}
 use Rattle.std.proofs.Math.Seq.{take-append-add}
 use Rattle.opl_reader.specs.declared.object.Object.{Object}
-use Rattle.osm_host.specs.Outside.{Outside, preceded, HasRisen}
+use Rattle.osm_host.specs.Outside.{Outside, preceded, risen, HasRisen}
 use Rattle.osm_cli.specs.declared.ended.InputFault.{InputFault}
 use Rattle.osm_cli.specs.declared.gather.Gathered.{Gathered}
 use Rattle.osm_cli.specs.declared.gather.Stop.{Stop}
@@ -12,6 +12,7 @@ use Rattle.osm_cli.specs.declared.gather.Stop.TheVariants.{AtEnd, PastLimit}
 use Rattle.osm_cli.specs.declared.gather.Stop.TheVariants as why
 use Rattle.osm_cli.specs.declared.reading.ReadError.{ReadError}
 use Rattle.osm_cli.specs.declared.reading.ReadError.TheVariants.{BadInput, TooMuchInput, ReadFault, OutOfMemory}
+use Rattle.osm_cli.specs.Faults.{LastReadFailed, NoneOrLastReadFailed}
 use Rattle.osm_cli.specs.Lines.{lines_of, lines_begun}
 use Rattle.osm_cli.specs.Input.{AreGood, IsBadPlace}
 use Rattle.osm_cli.specs.Gathering.{HasEnded, IsStop, Gathers, StopCause}
@@ -54,15 +55,17 @@ module _ (limit longest : ℕ) (before now : Outside) (g : Gathered) (bytes : Li
       reads_of limit longest before now r (record {
         taken = gathers.taken;
         left = gathers.left;
+        counted = gathers.counted;
         answer = whole_answer limit longest gathers.taken now r stop.0 stop.1 (subst (λ (xs : List ℕ). IsRead longest (lines_of xs) r) all read);
       })
 
-  -- a line of the front is bad
+  -- a line of the prefix is bad
   pub front_refused : (e : ReadError) → IsRead longest (lines_counting false longest bytes) (Err e) → Reads limit longest before now (Err e)
   front_refused e read =
       reads_of limit longest before now (Err e) (record {
         taken = gathers.taken;
         left = gathers.left;
+        counted = gathers.counted;
         answer = front_answer limit longest gathers.taken now e (subst (λ (xs : List ℕ). IsRead longest (lines_begun longest xs) (Err e)) kept read);
       })
 
@@ -73,6 +76,7 @@ module _ (limit longest : ℕ) (before now : Outside) (g : Gathered) (bytes : Li
       record {
         taken = gathers.taken;
         left = gathers.left;
+        counted = gathers.counted;
         answer = (refl, stop, subst (λ (xs : List ℕ). AreGood longest (lines_begun longest xs)) kept read.0);
       }
 
@@ -83,25 +87,26 @@ module _ (limit longest : ℕ) (before now : Outside) (g : Gathered) (bytes : Li
       record {
         taken = gathers.taken;
         left = gathers.left;
+        counted = gathers.counted;
         answer = (few, subst (λ (xs : List ℕ). AreGood longest (lines_begun longest xs)) kept read.0);
       }
 
 -- ---- a failed read ends it
 
--- none failed
-pub none_failed : (before now : Outside) (r : Result (List Object) ReadError) → now.read_faults ≡ before.read_faults → ReadsOnce before now r
-none_failed before now (Ok objects) same = same
-none_failed before now (Err (BadInput line fault)) same = tt
-none_failed before now (Err (TooMuchInput most)) same = same
-none_failed before now (Err ReadFault) same = tt
-none_failed before now (Err OutOfMemory) same = tt
+-- none failed, and the lines are read
+pub none_failed : (longest : ℕ) (lines : List (List ℕ)) (before now : Outside) (r : Result (List Object) ReadError) → IsRead longest lines r → now.read_faults ≡ before.read_faults → ReadsOnce before now r
+none_failed longest lines before now (Ok objects) read same = same
+none_failed longest lines before now (Err (BadInput line fault)) read same = inl same
+none_failed longest lines before now (Err (TooMuchInput most)) read same = same
+none_failed longest lines before now (Err ReadFault) read same = absurd read
+none_failed longest lines before now (Err OutOfMemory) read same = inl same
 
--- a line that was read before is bad
-pub bad_before : (longest : ℕ) (lines : List (List ℕ)) (before now : Outside) (e : ReadError) → IsRead longest lines (Err e) → ReadsOnce before now (Err e)
-bad_before longest lines before now (BadInput line fault) read = tt
-bad_before longest lines before now (TooMuchInput most) read = absurd read
-bad_before longest lines before now ReadFault read = tt
-bad_before longest lines before now OutOfMemory read = tt
+-- the last read may have failed, but a line that was read before is bad, or memory ran out
+pub bad_before : (longest : ℕ) (lines : List (List ℕ)) (before now : Outside) (e : ReadError) → IsRead longest lines (Err e) → NoneOrLastReadFailed before now → ReadsOnce before now (Err e)
+bad_before longest lines before now (BadInput line fault) read last = last
+bad_before longest lines before now (TooMuchInput most) read last = absurd read
+bad_before longest lines before now ReadFault read last = absurd read
+bad_before longest lines before now OutOfMemory read last = last
 
 -- the input ended or passed the limit
 pub stopped_at : (before now : Outside) (s t : Stop) → s ≡ t → StopCause before now s → StopCause before now t
@@ -109,10 +114,10 @@ stopped_at before now s t is cause = subst (λ (u : Stop). StopCause before now 
 
 -- ---- of an input that is told
 
-within : (limit longest : ℕ) (bytes : List ℕ) → length bytes ≤ limit → lines_counted limit longest bytes ≡ lines_of bytes
+pub within : (limit longest : ℕ) (bytes : List ℕ) → length bytes ≤ limit → lines_counted limit longest bytes ≡ lines_of bytes
 within limit longest bytes few = rw (le-leb (length bytes) limit few) refl
 
-beyond : (limit longest : ℕ) (bytes : List ℕ) → limit < length bytes → lines_counted limit longest bytes ≡ lines_begun longest (take limit bytes)
+pub beyond : (limit longest : ℕ) (bytes : List ℕ) → limit < length bytes → lines_counted limit longest bytes ≡ lines_begun longest (take limit bytes)
 beyond limit longest bytes many = rw (lt-leb (length bytes) limit many) refl
 
 -- a bad place among the lines begun counts
@@ -186,6 +191,9 @@ whole_told (Some bytes) limit longest (Err (TooMuchInput most)) none read = read
 whole_told (Some bytes) limit longest (Err ReadFault) none read = absurd (none refl)
 whole_told (Some bytes) limit longest (Err OutOfMemory) none read = tt
 
-pub completes : (limit longest : ℕ) (before now : Outside) (r : Result (List Object) ReadError) → Reads limit longest before now r → (r ≡ Err ReadFault → HasRisen before.read_faults now.read_faults) →
+read_rose : (before now : Outside) (r : Result (List Object) ReadError) → ReadsOnce before now r → r ≡ Err ReadFault → HasRisen before.read_faults now.read_faults
+read_rose before now r once is = let failed : LastReadFailed before now = subst (λ (q : Result (List Object) ReadError). ReadsOnce before now q) is once in let one : now.read_faults ≡ risen before.read_faults = failed.0 in omega arith
+
+pub completes : (limit longest : ℕ) (before now : Outside) (r : Result (List Object) ReadError) → Reads limit longest before now r → ReadsOnce before now r →
     (HasRisen before.read_faults now.read_faults → ⊥) → IfSome before.left (λ bytes. IsReadWhole limit longest bytes r)
-completes limit longest before now r reads cause none = whole_told before.left limit longest r (λ is. none (cause is)) (told limit longest before now r reads)
+completes limit longest before now r reads once none = whole_told before.left limit longest r (λ is. none (read_rose before now r once is)) (told limit longest before now r reads)

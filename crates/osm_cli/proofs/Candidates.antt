@@ -1,44 +1,23 @@
 -- What is written of one candidate, and of one candidate more.
-use Rattle.std.proofs.Common.{◌≡◌, ◌∙◌, refl, sym, ap, ap₂, subst, ℕ, ◌+◌, ◌≤◌, ◌<◌, Bool, true, false, List, [], ◌∷◌, ◌++◌, length, take, drop, get_or, append_assoc, append-nil, arith, Option, is_some, Result, Ok, Err}
+use Rattle.std.proofs.Common.{◌≡◌, ◌∙◌, refl, sym, ap, ap₂, subst, ℕ, ◌+◌, ◌≤◌, ◌<◌, Bool, true, false, List, [], ◌∷◌, ◌++◌, length, take, drop, get_or, append_assoc, append-nil, map, arith, is_some, Ok, Err}
 use Rattle.std.proofs.lemmas.List.{take_more, take_all, take-append-drop}
 use Rattle.opl_reader.specs.declared.object.Object.{Object}
 use Rattle.opl_reader.specs.declared.object.ObjectRef.{ObjectRef}
 use Rattle.osm_area.specs.declared.outcome.Outcome.{Outcome}
 use Rattle.osm_area.specs.declared.outcome.Outcome.TheVariants.{Area, Problems}
-use Rattle.osm_host.specs.Outside.{Outside, appended}
+use Rattle.osm_host.specs.Outside.{Outside}
 use Rattle.osm_host.specs.declared.host.Failed.{Failed}
-use Rattle.osm_host.proofs.Streams.{appended_nothing, appended_twice}
 use Rattle.osm_words.specs.Job.{ExportSettings}
 use Rattle.osm_cli.specs.declared.entry.Texts.{Texts}
 use Rattle.osm_cli.specs.declared.export.Halt.{Halt}
 use Rattle.osm_cli.specs.declared.export.Halt.TheVariants.{Stopped, WriteFault, OutOfMemory}
-use Rattle.osm_cli.specs.Entry.{Entry, area_in, has_area, features_in, piece_of, pieces_of, reports_of}
-use Rattle.osm_cli.specs.Entries.{lines_text, feature_text_of, IsTextsOf}
+use Rattle.osm_cli.specs.Entry.{Entry, area_in, has_area, features_in, entry_sent, entries_sent}
+use Rattle.osm_cli.specs.Entries.{IsTextsOf, texts_sent}
 use Rattle.osm_cli.specs.Run.{IsFront}
-use Rattle.osm_cli.specs.RunSteps.{WroteTexts, Added, HaltCause, IsEntryOf, IsAddedBy, WroteCandidate, features_of, AreEntriesOf, StopsAt, AreFronts, going, stopping, AreAddedBy, WroteCandidates, WroteFirst}
-use Rattle.osm_cli.proofs.Entries.{pieces_push, reports_push, features_push, both_entries, one_entry, stops_behind, stops_here, no_entries}
-use Rattle.osm_cli.proofs.Writes.{only_both, front_behind, whole_front}
-
--- ---- what was added
-
-pub nothing_added : (o : Outside) → Added [] [] o o
-nothing_added o = record {
-  to_output = sym (appended_nothing o.out);
-  to_report = sym (appended_nothing o.report);
-  never_falls = omega arith;
-  rest = record { named = refl; left = refl; opens = refl; open_faults = refl; read_faults = refl };
-}
-
-pub added_both : (a b c d : List ℕ) (before middle now : Outside) → Added a b before middle → Added c d middle now → Added (a ++ c) (b ++ d) before now
-added_both a b c d before middle now first then = record {
-  to_output = then.to_output ∙ ap (λ (o : Option (List ℕ)). appended o c) first.to_output ∙ appended_twice before.out a c;
-  to_report = then.to_report ∙ ap (λ (o : Option (List ℕ)). appended o d) first.to_report ∙ appended_twice before.report b d;
-  never_falls = let x = first.never_falls in let y = then.never_falls in omega arith;
-  rest = only_both before middle now first.rest then.rest;
-}
-
-pub added_of : {T E : Type 0} (out report : List ℕ) (before now : Outside) (r : Result T E) (w : WroteTexts out report before now r) → Added w.written w.reported before now
-added_of out report before now r w = record { to_output = w.to_output; to_report = w.to_report; never_falls = w.counts.never_falls; rest = w.rest }
+use Rattle.osm_cli.specs.RunSteps.{Wrote, Added, HaltCause, IsEntryOf, IsAddedBy, WroteCandidate, AreEntriesOf, StopsAt, IsFrontOf, going, stopping, AreAddedBy, WroteCandidates, WroteFirst}
+use Rattle.osm_cli.specs.Sent.{Sent, to_output, to_report}
+use Rattle.osm_cli.proofs.Entries.{sent_push, features_push, both_entries, one_entry, stops_behind, stops_here, no_entries}
+use Rattle.osm_cli.proofs.Writes.{nothing_added, added_both, front_behind, whole_front}
 
 -- ---- one candidate
 
@@ -50,40 +29,33 @@ count_none : (outcome : Outcome) → area_in outcome ≡ false → 0 ≡ feature
 count_none (Area polygons notes) has = absurd (cc)
 count_none (Problems list notes) has = refl
 
-no_piece : (settings : ExportSettings) (objects : List Object) (earlier : ℕ) (c : ObjectRef) (outcome : Outcome) → area_in outcome ≡ false → piece_of settings objects earlier c outcome ≡ []
-no_piece settings objects earlier c (Area polygons notes) has = absurd (cc)
-no_piece settings objects earlier c (Problems list notes) has = refl
-
 module _ (settings : ExportSettings) (objects : List Object) (earlier : ℕ) (c : ObjectRef) (before now : Outside) where
   pub no_texts : WroteCandidate settings objects earlier c before before (Err OutOfMemory)
-  no_texts = record { written = []; reported = []; right = (refl, refl); added = nothing_added before; cause = refl }
+  no_texts = record { written = []; right = refl; added = nothing_added before; cause = refl }
 
   module _ (texts : Texts) (is : IsTextsOf settings objects earlier c texts) where
     is_entry : IsEntryOf settings objects c is.entry
     is_entry = record { of_candidate = is.of_candidate; right = is.right }
 
-    pub not_written : (failed : Failed) → WroteTexts {T = Unit {0}} (feature_text_of texts.feature) (lines_text texts.lines.items) before now (Err failed) →
-        WroteCandidate settings objects earlier c before now (Err WriteFault)
+    sent : texts_sent texts ≡ entry_sent settings objects earlier is.entry
+    sent = ap₂ (λ (feature lines : List ℕ). map to_output feature ++ map to_report lines) is.piece is.lines
+
+    pub not_written : (failed : Failed) → Wrote {T = Unit {0}} (texts_sent texts) before now (Err failed) → WroteCandidate settings objects earlier c before now (Err WriteFault)
     not_written failed w = record {
       written = w.written;
-      reported = w.reported;
-      right = (is.entry, is_entry, subst (λ (xs : List ℕ). IsFront w.written xs) is.piece w.sent.0, subst (λ (xs : List ℕ). IsFront w.reported xs) is.lines w.sent.1);
-      added = added_of {T = Unit {0}} (feature_text_of texts.feature) (lines_text texts.lines.items) before now (Err failed) w;
+      right = (is.entry, is_entry, subst (λ (xs : List Sent). IsFront w.written xs) sent w.sent);
+      added = w.added;
       cause = w.counts.failed;
     }
 
-    module _ (u : Unit {0}) (w : WroteTexts {T = Unit {0}} {E = Failed} (feature_text_of texts.feature) (lines_text texts.lines.items) before now (Ok u)) where
-      added : Added w.written w.reported before now
-      added = added_of {T = Unit {0}} {E = Failed} (feature_text_of texts.feature) (lines_text texts.lines.items) before now (Ok u) w
-
+    module _ (u : Unit {0}) (w : Wrote {T = Unit {0}} {E = Failed} (texts_sent texts) before now (Ok u)) where
       pub feature_written : is_some texts.feature ≡ true → WroteCandidate settings objects earlier c before now (Ok 1)
       feature_written has =
           let area : area_in is.entry.outcome ≡ true = sym is.area ∙ has in
           record {
             written = w.written;
-            reported = w.reported;
-            right = (is.entry, is_entry, (λ _. area), count_one is.entry.outcome area, w.sent.0 ∙ is.piece, w.sent.1 ∙ is.lines);
-            added = added;
+            right = (is.entry, is_entry, (λ _. area), count_one is.entry.outcome area, w.sent ∙ sent);
+            added = w.added;
             cause = w.counts.answered;
           }
 
@@ -92,9 +64,8 @@ module _ (settings : ExportSettings) (objects : List Object) (earlier : ℕ) (c 
           let area : area_in is.entry.outcome ≡ false = sym is.area ∙ none in
           record {
             written = w.written;
-            reported = w.reported;
-            right = (is.entry, is_entry, stops, area, refl, w.sent.0 ∙ is.piece ∙ no_piece settings objects earlier c is.entry.outcome area, w.sent.1 ∙ is.lines);
-            added = added;
+            right = (is.entry, is_entry, stops, area, refl, w.sent ∙ sent);
+            added = w.added;
             cause = w.counts.answered;
           }
 
@@ -103,9 +74,8 @@ module _ (settings : ExportSettings) (objects : List Object) (earlier : ℕ) (c 
           let area : area_in is.entry.outcome ≡ false = sym is.area ∙ none in
           record {
             written = w.written;
-            reported = w.reported;
-            right = (is.entry, is_entry, (λ stops. absurd (cc)), count_none is.entry.outcome area, w.sent.0 ∙ is.piece, w.sent.1 ∙ is.lines);
-            added = added;
+            right = (is.entry, is_entry, (λ stops. absurd (cc)), count_none is.entry.outcome area, w.sent ∙ sent);
+            added = w.added;
             cause = w.counts.answered;
           }
 
@@ -128,12 +98,12 @@ module _ (settings : ExportSettings) (objects : List Object) (cs : List ObjectRe
   abbrev es : List Entry
   es = first.entries
 
-  -- the features before it are those of the first entries
-  piece_is : (e : Entry) → IsEntryOf settings objects c e → piece_of settings objects features c e.outcome ≡ piece_of settings objects (features_of es) e.candidate e.outcome
-  piece_is e of_c = ap₂ (λ (n : ℕ) (x : ObjectRef). piece_of settings objects n x e.outcome) first.counted (sym of_c.of_candidate)
+  abbrev first_sent : List Sent
+  first_sent = entries_sent settings objects 0 es
 
-  pieces_are : (e : Entry) → IsEntryOf settings objects c e → pieces_of settings objects 0 es ++ piece_of settings objects features c e.outcome ≡ pieces_of settings objects 0 (es ++ e ∷ [])
-  pieces_are e of_c = ap (λ (xs : List ℕ). pieces_of settings objects 0 es ++ xs) (piece_is e of_c) ∙ sym (pieces_push settings objects es e)
+  -- the features before it are those of the first entries
+  one_more : (e : Entry) → first_sent ++ entry_sent settings objects features e ≡ entries_sent settings objects 0 (es ++ e ∷ [])
+  one_more e = ap (λ (n : ℕ). first_sent ++ entry_sent settings objects n e) first.counted ∙ sym (sent_push settings objects es e)
 
   pub next_first : (count : ℕ) → WroteCandidate settings objects features c middle now (Ok count) → WroteFirst settings objects (take (k + 1) cs) (features + count) before now
   next_first count w =
@@ -143,9 +113,8 @@ module _ (settings : ExportSettings) (objects : List Object) (cs : List ObjectRe
         entries = es ++ e ∷ [];
         are = subst (λ (xs : List ObjectRef). AreEntriesOf settings objects xs (es ++ e ∷ [])) (sym longer) (both_entries settings objects (take k cs) (c ∷ []) es (e ∷ []) first.are (one_entry settings objects c e of_c w.right.2));
         counted = ap₂ (λ (m n : ℕ). m + n) first.counted w.right.3 ∙ sym (features_push es e);
-        added = subst (λ (xs : List ℕ). Added xs (reports_of (es ++ e ∷ [])) before now) (ap (λ (xs : List ℕ). pieces_of settings objects 0 es ++ xs) w.right.4 ∙ pieces_are e of_c)
-            (subst (λ (ys : List ℕ). Added (pieces_of settings objects 0 es ++ w.written) ys before now) (ap (λ (ys : List ℕ). reports_of es ++ ys) w.right.5 ∙ sym (reports_push es e))
-            (added_both (pieces_of settings objects 0 es) (reports_of es) w.written w.reported before middle now first.added w.added));
+        added = subst (λ (xs : List Sent). Added xs before now) (ap (λ (xs : List Sent). first_sent ++ xs) w.right.4 ∙ one_more e)
+            (added_both first_sent w.written before middle now first.added w.added);
         quiet = w.cause ∙ first.quiet;
       }
 
@@ -155,44 +124,37 @@ module _ (settings : ExportSettings) (objects : List Object) (cs : List ObjectRe
       (subst (λ (xs : List Entry). StopsAt settings objects (take k cs ++ c ∷ drop (k + 1) cs) xs e) (append-nil es)
       (stops_behind settings objects (take k cs) (c ∷ drop (k + 1) cs) es [] e first.are (stops_here settings objects c (drop (k + 1) cs) e of_c stops none)))
 
-  no_piece_front : (e : Entry) → has_area e ≡ false → (xs : List ℕ) → IsFront xs (piece_of settings objects features c e.outcome) → IsFront (pieces_of settings objects 0 es ++ xs) (pieces_of settings objects 0 es)
-  no_piece_front e none xs front =
-      subst (λ (ys : List ℕ). IsFront (pieces_of settings objects 0 es ++ xs) ys) (append-nil (pieces_of settings objects 0 es))
-      (front_behind (pieces_of settings objects 0 es) xs [] (subst (λ (ys : List ℕ). IsFront xs ys) (no_piece settings objects features c e.outcome none) front))
+  one_more_front : (e : Entry) (xs : List Sent) → IsFront xs (entry_sent settings objects features e) → IsFront (first_sent ++ xs) (entries_sent settings objects 0 (es ++ e ∷ []))
+  one_more_front e xs front = subst (λ (ys : List Sent). IsFront (first_sent ++ xs) ys) (one_more e) (front_behind first_sent xs (entry_sent settings objects features e) front)
 
-  going_on : (e : Entry) → IsEntryOf settings objects c e → (xs ys : List ℕ) → IsFront xs (piece_of settings objects features c e.outcome) → IsFront ys e.report →
-      (settings.stop_on_error ≡ true → has_area e ≡ true) → AreFronts settings objects cs (pieces_of settings objects 0 es ++ xs) (reports_of es ++ ys)
-  going_on e of_c xs ys x y area =
+  going_on : (e : Entry) → IsEntryOf settings objects c e → (xs : List Sent) → IsFront xs (entry_sent settings objects features e) → (settings.stop_on_error ≡ true → has_area e ≡ true) →
+      IsFrontOf settings objects cs (first_sent ++ xs)
+  going_on e of_c xs front area =
       going (take (k + 1) cs) (drop (k + 1) cs) (es ++ e ∷ []) (sym (take-append-drop (k + 1) cs))
       (subst (λ (xs : List ObjectRef). AreEntriesOf settings objects xs (es ++ e ∷ [])) (sym longer) (both_entries settings objects (take k cs) (c ∷ []) es (e ∷ []) first.are (one_entry settings objects c e of_c area)))
-      (subst (λ (zs : List ℕ). IsFront (pieces_of settings objects 0 es ++ xs) zs) (pieces_are e of_c) (front_behind (pieces_of settings objects 0 es) xs (piece_of settings objects features c e.outcome) x))
-      (subst (λ (zs : List ℕ). IsFront (reports_of es ++ ys) zs) (sym (reports_push es e)) (front_behind (reports_of es) ys e.report y))
+      (one_more_front e xs front)
 
   -- a write failed
-  failed_fronts : (e : Entry) → IsEntryOf settings objects c e → (xs ys : List ℕ) → IsFront xs (piece_of settings objects features c e.outcome) → IsFront ys e.report →
-      (stop : Bool) → settings.stop_on_error ≡ stop → (area : Bool) → has_area e ≡ area → AreFronts settings objects cs (pieces_of settings objects 0 es ++ xs) (reports_of es ++ ys)
-  failed_fronts e of_c xs ys x y true stops false none =
-      stopping es e (stops_front e of_c stops none) (no_piece_front e none xs x) (front_behind (reports_of es) ys e.report y)
-  failed_fronts e of_c xs ys x y true stops true has = going_on e of_c xs ys x y (λ _. has)
-  failed_fronts e of_c xs ys x y false goes area has = going_on e of_c xs ys x y (λ stops. absurd (cc))
+  failed_front : (e : Entry) → IsEntryOf settings objects c e → (xs : List Sent) → IsFront xs (entry_sent settings objects features e) → (stop : Bool) → settings.stop_on_error ≡ stop →
+      (area : Bool) → has_area e ≡ area → IsFrontOf settings objects cs (first_sent ++ xs)
+  failed_front e of_c xs front true stops false none = stopping es e (stops_front e of_c stops none) (one_more_front e xs front)
+  failed_front e of_c xs front true stops true has = going_on e of_c xs front (λ _. has)
+  failed_front e of_c xs front false goes area has = going_on e of_c xs front (λ stops. absurd (cc))
 
-  halt_right : (written reported : List ℕ) (halt : Halt) → IsAddedBy settings objects features c written reported (Err halt) →
-      AreAddedBy settings objects cs (pieces_of settings objects 0 es ++ written) (reports_of es ++ reported) (Err halt)
-  halt_right written reported (Stopped stopped) right =
+  halt_right : (written : List Sent) (halt : Halt) → IsAddedBy settings objects features c written (Err halt) → AreAddedBy settings objects cs (first_sent ++ written) (Err halt)
+  halt_right written (Stopped stopped) right =
       let e : Entry = right.0 in
       let of_c : IsEntryOf settings objects c e = right.1 in (
         es,
         e,
         stops_front e of_c right.2 right.3,
         right.4 ∙ sym of_c.of_candidate,
-        ap (λ (xs : List ℕ). pieces_of settings objects 0 es ++ xs) right.5 ∙ append-nil (pieces_of settings objects 0 es),
-        ap (λ (xs : List ℕ). reports_of es ++ xs) right.6,
+        ap (λ (xs : List Sent). first_sent ++ xs) right.5 ∙ one_more e,
       )
-  halt_right written reported WriteFault right = failed_fronts right.0 right.1 written reported right.2 right.3 settings.stop_on_error refl (has_area right.0) refl
-  halt_right written reported OutOfMemory right =
+  halt_right written WriteFault right = failed_front right.0 right.1 written right.2 settings.stop_on_error refl (has_area right.0) refl
+  halt_right written OutOfMemory right =
       going (take k cs) (drop k cs) es (sym (take-append-drop k cs)) first.are
-      (subst (λ (xs : List ℕ). IsFront xs (pieces_of settings objects 0 es)) (sym (ap (λ (xs : List ℕ). pieces_of settings objects 0 es ++ xs) right.0 ∙ append-nil (pieces_of settings objects 0 es))) (whole_front (pieces_of settings objects 0 es)))
-      (subst (λ (xs : List ℕ). IsFront xs (reports_of es)) (sym (ap (λ (xs : List ℕ). reports_of es ++ xs) right.1 ∙ append-nil (reports_of es))) (whole_front (reports_of es)))
+      (subst (λ (xs : List Sent). IsFront xs first_sent) (sym (ap (λ (xs : List Sent). first_sent ++ xs) right ∙ append-nil first_sent)) (whole_front first_sent))
 
   halt_cause : (halt : Halt) → middle.write_faults ≡ before.write_faults → HaltCause {T = ℕ} middle now (Err halt) → HaltCause {T = Unit {0}} before now (Err halt)
   halt_cause (Stopped stopped) same cause = cause ∙ same
@@ -202,10 +164,9 @@ module _ (settings : ExportSettings) (objects : List Object) (cs : List ObjectRe
   -- the next candidate breaks it off
   pub next_halted : (halt : Halt) → WroteCandidate settings objects features c middle now (Err halt) → WroteCandidates settings objects cs before now (Err halt)
   next_halted halt w = record {
-    written = pieces_of settings objects 0 es ++ w.written;
-    reported = reports_of es ++ w.reported;
-    right = halt_right w.written w.reported halt w.right;
-    added = added_both (pieces_of settings objects 0 es) (reports_of es) w.written w.reported before middle now first.added w.added;
+    written = first_sent ++ w.written;
+    right = halt_right w.written halt w.right;
+    added = added_both first_sent w.written before middle now first.added w.added;
     cause = halt_cause halt first.quiet w.cause;
   }
 
@@ -213,9 +174,8 @@ module _ (settings : ExportSettings) (objects : List Object) (cs : List ObjectRe
 pub all_gone : (settings : ExportSettings) (objects : List Object) (cs : List ObjectRef) (n features : ℕ) (before now : Outside) (u : Unit {0}) → length cs ≤ n → WroteFirst settings objects (take n cs) features before now →
     WroteCandidates settings objects cs before now (Ok u)
 all_gone settings objects cs n features before now u many first = record {
-  written = pieces_of settings objects 0 first.entries;
-  reported = reports_of first.entries;
-  right = (first.entries, subst (λ (xs : List ObjectRef). AreEntriesOf settings objects xs first.entries) (take_all n cs many) first.are, refl, refl);
+  written = entries_sent settings objects 0 first.entries;
+  right = (first.entries, subst (λ (xs : List ObjectRef). AreEntriesOf settings objects xs first.entries) (take_all n cs many) first.are, refl);
   added = first.added;
   cause = first.quiet;
 }

@@ -3,7 +3,6 @@ use Rattle.std.proofs.Common.{◌≡◌, ◌∙◌, refl, sym, ap, ap₂, ℕ, �
 use Rattle.std.specs.List.{flat_map}
 use Rattle.std.proofs.lemmas.List.{map-append}
 use Rattle.std.proofs.lemmas.List.Elements.{All-nil, All-cons, All-append, All-head, All-tail}
-use Rattle.std.proofs.lemmas.Grind.{flat_map-append}
 use Rattle.opl_reader.specs.declared.object.Object.{Object}
 use Rattle.opl_reader.specs.declared.object.ObjectRef.{ObjectRef}
 use Rattle.osm_area.specs.declared.outcome.Outcome.{Outcome}
@@ -13,30 +12,25 @@ use Rattle.osm_objects.specs.Problem.{IsOfItsKind}
 use Rattle.osm_objects.specs.declared.problem.Problem.{Problem}
 use Rattle.osm_text.specs.Report.{ProblemLineExists, note_line}
 use Rattle.osm_words.specs.Job.{ExportSettings}
-use Rattle.osm_cli.specs.Entry.{Entry, IsEntry, AreProblemLines, IsReportShown, has_area, features_in, piece_of, pieces_of, reports_of}
+use Rattle.osm_cli.specs.Entry.{Entry, IsEntry, AreProblemLines, IsReportShown, has_area, features_in, entry_sent, entries_sent}
 use Rattle.osm_cli.specs.RunSteps.{features_of, IsEntryOf, AreEntriesOf, StopsAt}
+use Rattle.osm_cli.specs.Sent.{Sent}
 
 abbrev candidate_of : Entry → ObjectRef
 candidate_of entry = entry.candidate
 
-abbrev report_of : Entry → List ℕ
-report_of entry = entry.report
-
 -- ---- one list behind another
 
-pub pieces-append : (settings : ExportSettings) (objects : List Object) (earlier : ℕ) (es fs : List Entry) →
-    pieces_of settings objects earlier (es ++ fs) ≡ pieces_of settings objects earlier es ++ pieces_of settings objects (earlier + features_of es) fs
-pieces-append settings objects earlier [] fs = let same : earlier ≡ earlier + 0 = omega arith in ap (λ (n : ℕ). pieces_of settings objects n fs) same
-pieces-append settings objects earlier (e ∷ es) fs =
-    let first : List ℕ = piece_of settings objects earlier e.candidate e.outcome in
+sent-append : (settings : ExportSettings) (objects : List Object) (earlier : ℕ) (es fs : List Entry) →
+    entries_sent settings objects earlier (es ++ fs) ≡ entries_sent settings objects earlier es ++ entries_sent settings objects (earlier + features_of es) fs
+sent-append settings objects earlier [] fs = let same : earlier ≡ earlier + 0 = omega arith in ap (λ (n : ℕ). entries_sent settings objects n fs) same
+sent-append settings objects earlier (e ∷ es) fs =
+    let first : List Sent = entry_sent settings objects earlier e in
     let n : ℕ = features_in e.outcome in
     let same : (earlier + n) + features_of es ≡ earlier + (n + features_of es) = omega arith in
-    ap (λ (xs : List ℕ). first ++ xs) (pieces-append settings objects (earlier + n) es fs)
-    ∙ sym (append_assoc first (pieces_of settings objects (earlier + n) es) (pieces_of settings objects ((earlier + n) + features_of es) fs))
-    ∙ ap (λ (m : ℕ). (first ++ pieces_of settings objects (earlier + n) es) ++ pieces_of settings objects m fs) same
-
-pub reports-append : (es fs : List Entry) → reports_of (es ++ fs) ≡ reports_of es ++ reports_of fs
-reports-append es fs = flat_map-append report_of es fs
+    ap (λ (xs : List Sent). first ++ xs) (sent-append settings objects (earlier + n) es fs)
+    ∙ sym (append_assoc first (entries_sent settings objects (earlier + n) es) (entries_sent settings objects ((earlier + n) + features_of es) fs))
+    ∙ ap (λ (m : ℕ). (first ++ entries_sent settings objects (earlier + n) es) ++ entries_sent settings objects m fs) same
 
 pub features_push : (es : List Entry) (e : Entry) → features_of (es ++ e ∷ []) ≡ features_of es + features_in e.outcome
 features_push [] e = let same : features_in e.outcome + 0 ≡ 0 + features_in e.outcome = omega arith in same
@@ -45,19 +39,16 @@ features_push (f ∷ es) e =
     let same : features_in f.outcome + (features_of es + features_in e.outcome) ≡ (features_in f.outcome + features_of es) + features_in e.outcome = omega arith in
     ap (λ (m : ℕ). features_in f.outcome + m) rest ∙ same
 
-pub pieces_behind : (settings : ExportSettings) (objects : List Object) (es fs : List Entry) → pieces_of settings objects 0 (es ++ fs) ≡ pieces_of settings objects 0 es ++ pieces_of settings objects (features_of es) fs
-pieces_behind settings objects es fs =
+pub sent_behind : (settings : ExportSettings) (objects : List Object) (es fs : List Entry) → entries_sent settings objects 0 (es ++ fs) ≡ entries_sent settings objects 0 es ++ entries_sent settings objects (features_of es) fs
+sent_behind settings objects es fs =
     let same : 0 + features_of es ≡ features_of es = omega arith in
-    pieces-append settings objects 0 es fs ∙ ap (λ (n : ℕ). pieces_of settings objects 0 es ++ pieces_of settings objects n fs) same
+    sent-append settings objects 0 es fs ∙ ap (λ (n : ℕ). entries_sent settings objects 0 es ++ entries_sent settings objects n fs) same
 
-pub pieces_push : (settings : ExportSettings) (objects : List Object) (es : List Entry) (e : Entry) →
-    pieces_of settings objects 0 (es ++ e ∷ []) ≡ pieces_of settings objects 0 es ++ piece_of settings objects (features_of es) e.candidate e.outcome
-pieces_push settings objects es e =
-    pieces_behind settings objects es (e ∷ [])
-    ∙ ap (λ (xs : List ℕ). pieces_of settings objects 0 es ++ xs) (append-nil (piece_of settings objects (features_of es) e.candidate e.outcome))
-
-pub reports_push : (es : List Entry) (e : Entry) → reports_of (es ++ e ∷ []) ≡ reports_of es ++ e.report
-reports_push es e = reports-append es (e ∷ []) ∙ ap (λ (xs : List ℕ). reports_of es ++ xs) (append-nil e.report)
+pub sent_push : (settings : ExportSettings) (objects : List Object) (es : List Entry) (e : Entry) →
+    entries_sent settings objects 0 (es ++ e ∷ []) ≡ entries_sent settings objects 0 es ++ entry_sent settings objects (features_of es) e
+sent_push settings objects es e =
+    sent_behind settings objects es (e ∷ [])
+    ∙ ap (λ (xs : List Sent). entries_sent settings objects 0 es ++ xs) (append-nil (entry_sent settings objects (features_of es) e))
 
 -- ---- entries of candidates
 

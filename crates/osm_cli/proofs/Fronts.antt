@@ -1,4 +1,4 @@
--- The bad place of an input's front is that of the input.
+-- The bad place of an input's prefix is that of the input.
 use Rattle.std.proofs.Common.{◌≡◌, ◌∙◌, refl, sym, ap, subst, ℕ, ◌<◌, Bool, true, false, List, [], ◌∷◌, ◌++◌, length, append_assoc, append-nil, length-append, arith, Some, nat_lt}
 use Rattle.std.specs.List.{slice_split, onto_first}
 use Rattle.std.proofs.lemmas.Bool.{lt-ltb, ltb-true}

@@ -1,14 +1,16 @@
-mod Answered
+pub mod Answered
 mod Candidates
 mod Cuts
 mod Endings
-mod Entries
+pub mod Entries
 mod Exports
 mod Fronts
 mod Gathering
+mod Keeping
 mod Lines
 mod ReportLines
 mod Runs
 mod SameWords
+mod Taken
 mod Wholes
 mod Writes

@@ -1,5 +1,5 @@
 -- Words of private clauses on the texts of candidates.
-use Rattle.std.specs.Prelude.{◌≡◌, ℕ, Bool, true, false, List, [], ◌++◌, Option, Some, None, Vec, if◌then◌else◌, is_some}
+use Rattle.std.specs.Prelude.{◌≡◌, ℕ, Bool, true, false, List, [], ◌++◌, Option, Some, None, Vec, if◌then◌else◌, is_some, map}
 use Rattle.std.specs.List.{flat_map}
 use Rattle.std.specs.declared.alloc.Global.{Global}
 use Rattle.opl_reader.specs.declared.object.Object.{Object}
@@ -8,6 +8,7 @@ use Rattle.osm_objects.specs.declared.problem.Problem.{Problem}
 use Rattle.osm_words.specs.Job.{ExportSettings}
 use Rattle.osm_cli.specs.declared.entry.Texts.{Texts}
 use Rattle.osm_cli.specs.Entry.{AreProblemLines, Entry, IsEntry, has_area, piece_of}
+use Rattle.osm_cli.specs.Sent.{Sent, to_output, to_report}
 
 -- lines, one after the other
 abbrev pub lines_text : List (Vec ℕ Global) → List ℕ
@@ -27,11 +28,15 @@ abbrev pub feature_text_of : Option (Vec ℕ Global) → List ℕ
 feature_text_of None = []
 feature_text_of (Some feature) = feature.items
 
+-- what texts add: the feature, then the report lines
+abbrev pub texts_sent : Texts → List Sent
+texts_sent texts = map to_output (feature_text_of texts.feature) ++ map to_report (lines_text texts.lines.items)
+
 -- the texts are those of the candidate and its outcome, where so many features stand before it
 pub record IsTextsOf (settings : ExportSettings) (objects : List Object) (earlier : ℕ) (candidate : ObjectRef) (texts : Texts) : Type 0 where
   pub entry : Entry
   pub of_candidate : entry.candidate ≡ candidate
   pub right : IsEntry settings.show_errors objects entry
   pub area : is_some texts.feature ≡ has_area entry
-  pub piece : feature_text_of texts.feature ≡ piece_of settings objects earlier candidate entry.outcome
+  pub piece : feature_text_of texts.feature ≡ piece_of settings objects earlier entry.candidate entry.outcome
   pub lines : lines_text texts.lines.items ≡ entry.report

@@ -1,5 +1,5 @@
 -- What a candidate with its outcome adds to the output and to the report.
-use Rattle.std.specs.Prelude.{◌≡◌, ℕ, Bool, true, false, List, [], ◌∷◌, ◌++◌, ◌+◌, Option, Some, None, option_map}
+use Rattle.std.specs.Prelude.{◌≡◌, ℕ, Bool, true, false, List, [], ◌∷◌, ◌++◌, ◌+◌, map, Option, Some, None, option_map}
 use Rattle.std.specs.List.{flat_map}
 use Rattle.opl_reader.specs.declared.object.Object.{Object}
 use Rattle.opl_reader.specs.declared.object.ObjectRef.{ObjectRef}
@@ -24,6 +24,7 @@ use Rattle.osm_words.specs.declared.settings.Format.TheVariants.{GeoJson, GeoJso
 use Rattle.osm_words.specs.declared.settings.UniqueId.{UniqueId}
 use Rattle.osm_words.specs.declared.settings.UniqueId.TheVariants.{Counter, TypeId}
 use Rattle.osm_cli.specs.Framing.{framed}
+use Rattle.osm_cli.specs.Sent.{Sent, to_output, to_report}
 
 -- ---- output
 
@@ -59,12 +60,15 @@ features_in (Problems list notes) = 0
 -- the lines of problems, one after the other
 abbrev pub AreProblemLines : ObjectRef → List Problem → List ℕ → Type 0
 AreProblemLines candidate [] text = text ≡ []
-AreProblemLines candidate (problem ∷ problems) text = (line : List ℕ) × (rest : List ℕ) × IsProblemLine candidate problem line × AreProblemLines candidate problems rest × (text ≡ line ++ rest)
+AreProblemLines candidate (problem ∷ problems) text =
+    (line : List ℕ) × (rest : List ℕ) × IsProblemLine candidate problem line
+    × AreProblemLines candidate problems rest × (text ≡ line ++ rest)
 
 -- the report lines of a candidate: problems before notes
 abbrev pub IsReport : ObjectRef → Outcome → List ℕ → Type 0
 IsReport candidate (Area polygons notes) text = text ≡ flat_map (note_line candidate) notes
-IsReport candidate (Problems list notes) text = (lines : List ℕ) × AreProblemLines candidate list lines × (text ≡ lines ++ flat_map (note_line candidate) notes)
+IsReport candidate (Problems list notes) text =
+    (lines : List ℕ) × AreProblemLines candidate list lines × (text ≡ lines ++ flat_map (note_line candidate) notes)
 
 -- the report of a candidate, where report lines are asked for
 abbrev pub IsReportShown : Bool → ObjectRef → Outcome → List ℕ → Type 0
@@ -92,12 +96,14 @@ area_in (Problems list notes) = false
 abbrev pub has_area : Entry → Bool
 has_area entry = area_in entry.outcome
 
--- what entries add to the output, where so many features stand before them
-abbrev pub pieces_of : ExportSettings → List Object → ℕ → List Entry → List ℕ
-pieces_of settings objects earlier [] = []
-pieces_of settings objects earlier (entry ∷ entries) =
-    piece_of settings objects earlier entry.candidate entry.outcome ++ pieces_of settings objects (earlier + features_in entry.outcome) entries
+-- what an entry adds, where so many features stand before it: its feature, then its report lines
+abbrev pub entry_sent : ExportSettings → List Object → ℕ → Entry → List Sent
+entry_sent settings objects earlier entry =
+    map to_output (piece_of settings objects earlier entry.candidate entry.outcome) ++ map to_report entry.report
 
--- what they add to the report
-abbrev pub reports_of : List Entry → List ℕ
-reports_of entries = flat_map (λ entry. entry.report) entries
+-- what entries add, in order
+abbrev pub entries_sent : ExportSettings → List Object → ℕ → List Entry → List Sent
+entries_sent settings objects earlier [] = []
+entries_sent settings objects earlier (entry ∷ entries) =
+    entry_sent settings objects earlier entry
+    ++ entries_sent settings objects (earlier + features_in entry.outcome) entries

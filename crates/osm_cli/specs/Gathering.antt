@@ -1,9 +1,10 @@
 -- What was taken off an input, and what of it was kept.
 use Rattle.std.specs.Prelude.{◌≡◌, ◌<◌, ◌≤◌, ℕ, List, [], length, take, IfSome}
-use Rattle.osm_host.specs.Outside.{Outside, preceded, HasRisen}
+use Rattle.osm_host.specs.Outside.{Outside, preceded, grown}
 use Rattle.osm_cli.specs.declared.gather.Stop.{Stop}
 use Rattle.osm_cli.specs.declared.gather.Stop.TheVariants.{AtEnd, PastLimit, ReadFault}
 use Rattle.osm_cli.specs.declared.gather.Gathered.{Gathered}
+use Rattle.osm_cli.specs.Faults.{LastReadFailed}
 
 -- nothing is left of the input
 abbrev pub HasEnded : Outside → Type 0
@@ -19,11 +20,12 @@ IsStop limit taken now ReadFault = length taken ≤ limit
 pub record Gathers (limit : ℕ) (before now : Outside) (gathered : Gathered) : Type 0 where
   pub taken : List ℕ
   pub left : before.left ≡ preceded taken now.left
+  pub counted : now.bytes_read ≡ grown before.bytes_read (length taken)
   pub kept : gathered.bytes.items ≡ take limit taken
   pub stop : IsStop limit taken now gathered.stop
 
--- The count of reads rose where a read failed, and else is the same.
+-- A read failed where that is why, and was the last; else none did.
 abbrev pub StopCause : Outside → Outside → Stop → Type 0
 StopCause before now AtEnd = now.read_faults ≡ before.read_faults
 StopCause before now PastLimit = now.read_faults ≡ before.read_faults
-StopCause before now ReadFault = HasRisen before.read_faults now.read_faults
+StopCause before now ReadFault = LastReadFailed before now

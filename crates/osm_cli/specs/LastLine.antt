@@ -29,11 +29,13 @@ line_begun line = codes "osmpoly: line " ++ decimal line ++ codes ": "
 
 -- of a line without a reading
 abbrev pub bad_line : ℕ → LineFault → List ℕ
-bad_line line fault = line_begun line ++ text_of fault.kind ++ codes " at byte " ++ decimal fault.place ++ codes "\n"
+bad_line line fault =
+    line_begun line ++ text_of fault.kind ++ codes " at byte " ++ decimal fault.place ++ codes "\n"
 
 -- of a line that tells an object again
 abbrev pub again_line : ℕ → ObjectKind → ℤ → List ℕ
-again_line line kind id = line_begun line ++ kind_word kind ++ codes " " ++ signed_decimal id ++ codes " again\n"
+again_line line kind id =
+    line_begun line ++ kind_word kind ++ codes " " ++ signed_decimal id ++ codes " again\n"
 
 abbrev pub fault_line : ℕ → InputFault → List ℕ
 fault_line line (Line fault) = bad_line line fault
@@ -44,7 +46,8 @@ abbrev pub last_line : Ended → List ℕ
 last_line Done = []
 last_line (BadWords cause) = words_line cause
 last_line (BadInput line fault) = fault_line line fault
-last_line (Stopped candidate) = codes "osmpoly: stopped at " ++ kind_word candidate.kind ++ codes " " ++ signed_decimal candidate.id ++ codes "\n"
+last_line (Stopped candidate) =
+    codes "osmpoly: stopped at " ++ kind_word candidate.kind ++ codes " " ++ signed_decimal candidate.id ++ codes "\n"
 last_line (TooMuchInput limit) = codes "osmpoly: too much input\n"
 last_line OpenFault = codes "osmpoly: open fault\n"
 last_line ReadFault = codes "osmpoly: read fault\n"

@@ -1,6 +1,9 @@
+pub mod Cause
+pub mod Faults
 pub mod Gathering
 pub mod Input
 pub mod Job
+pub mod Keeps
 pub mod LastLine
 pub mod LineSteps
 pub mod Lines
@@ -12,3 +15,4 @@ pub mod Run
 pub mod Whole
 pub mod Entries
 pub mod RunSteps
+pub mod Sent

@@ -8,14 +8,14 @@ use Rattle.osm_cli.specs.declared.reading.ReadError.TheVariants.{BadInput, TooMu
 use Rattle.osm_cli.specs.Lines.{is_newline, with_last}
 use Rattle.osm_cli.specs.Input.{objects_told, AreGood, IsBadPlace}
 
--- the error names this line and what is wrong with it, or memory was wanting
+-- the error names this line and what is wrong with it, or memory ran out
 abbrev pub IsLineError : ℕ → Option InputFault → ReadError → Type 0
 IsLineError number found (BadInput line fault) = (line ≡ number) × (found ≡ Some fault)
 IsLineError number found (TooMuchInput limit) = ⊥
 IsLineError number found ReadFault = ⊥
 IsLineError number found OutOfMemory = Unit {0}
 
--- whether the bytes behind the last newline are a line that counts, in a whole input or in its front
+-- whether the bytes behind the last newline are a line that counts, in a whole input or in a prefix of one
 abbrev pub last_counts : Bool → ℕ → List ℕ → Bool
 last_counts is_whole longest line = if is_whole then nat_lt 0 (length line) else nat_lt longest (length line)
 
@@ -23,7 +23,7 @@ last_counts is_whole longest line = if is_whole then nat_lt 0 (length line) else
 abbrev pub lines_counting : Bool → ℕ → List ℕ → List (List ℕ)
 lines_counting is_whole longest bytes = with_last (last_counts is_whole longest) (slice_split is_newline bytes)
 
--- the objects of lines of which none is bad, or the bad place among them, or memory was wanting
+-- the objects of lines of which none is bad, or the bad place among them, or memory ran out
 abbrev pub IsRead : ℕ → List (List ℕ) → Result (List Object) ReadError → Type 0
 IsRead longest lines (Ok objects) = AreGood longest lines × (objects ≡ objects_told lines)
 IsRead longest lines (Err (BadInput line fault)) = IsBadPlace longest lines line fault

@@ -15,7 +15,7 @@ with_last counts (part ∷ (next ∷ parts)) = part ∷ with_last counts (next �
 abbrev pub lines_of : List ℕ → List (List ℕ)
 lines_of bytes = with_last (λ line. nat_lt 0 (length line)) (slice_split is_newline bytes)
 
--- The lines that count where these bytes are only the front of an input: what stands behind the last newline is one
+-- The lines that count where these bytes are only a prefix of an input: what stands behind the last newline is one
 -- where it is too long already.
 abbrev pub lines_begun : ℕ → List ℕ → List (List ℕ)
 lines_begun longest bytes = with_last (λ line. nat_lt longest (length line)) (slice_split is_newline bytes)

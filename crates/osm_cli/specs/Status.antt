@@ -1,9 +1,12 @@
--- The statuses of the process.
-use Rattle.std.specs.Prelude.{ℕ}
+-- The statuses of the process, and what a run means that is answered by its status.
+use Rattle.std.specs.Prelude.{◌≡◌, ℕ, List}
+use Rattle.osm_host.specs.Outside.{Outside}
+use Rattle.osm_words.specs.Words.{command_named, job_asked}
 use Rattle.osm_words.specs.declared.words.Command.{Command}
 use Rattle.osm_words.specs.declared.words.Command.TheVariants.{Export, Unknown}
 use Rattle.osm_cli.specs.declared.ended.Ended.{Ended}
 use Rattle.osm_cli.specs.declared.ended.Ended.TheVariants.{Done, BadWords, BadInput, Stopped, TooMuchInput, OpenFault, ReadFault, WriteFault, OutOfMemory}
+use Rattle.osm_cli.specs.Run.{Ran}
 
 -- of `export`, and of words that name no command
 abbrev pub export_status : Ended → ℕ
@@ -20,3 +23,8 @@ export_status OutOfMemory = 5
 abbrev pub status_of : Command → Ended → ℕ
 status_of Export ended = export_status ended
 status_of Unknown ended = export_status ended
+
+-- A run of words ended, and this is the status for it.
+abbrev pub EndsWith : List (List ℕ) → ℕ → Outside → Outside → Type 0
+EndsWith words status before after =
+    (ended : Ended) × Ran (job_asked words) ended before after × (status ≡ status_of (command_named words) ended)

@@ -8,9 +8,11 @@ use Rattle.osm_cli.specs.declared.ended.Ended.TheVariants as ended
 use Rattle.osm_cli.specs.declared.reading.ReadError.{ReadError}
 use Rattle.osm_cli.specs.declared.reading.ReadError.TheVariants.{BadInput, TooMuchInput, ReadFault, OutOfMemory}
 use Rattle.osm_words.specs.Job.{ExportSettings, Job, export}
-use Rattle.osm_cli.specs.Entry.{Entry, IsEntry, has_area, pieces_of, reports_of}
+use Rattle.osm_cli.specs.Entry.{Entry, IsEntry, has_area, entries_sent}
 use Rattle.osm_cli.specs.Framing.{footer, header}
+use Rattle.osm_cli.specs.Job.{Texts, inputs_of}
 use Rattle.osm_cli.specs.Reading.{IsReadAs}
+use Rattle.osm_cli.specs.Sent.{Sent, to_output}
 
 -- the most bytes of an input
 abbrev pub input_limit : ℕ
@@ -21,30 +23,29 @@ abbrev pub longest_line : ℕ
 longest_line = 2 ^ 24
 
 pub record Whole : Type 0 where
-  pub output : List ℕ
-  -- the report but for its last line
-  pub report : List ℕ
+  -- all but the last line of the report, in order
+  pub written : List Sent
   pub ended : Ended
 
 -- nothing is written but the last line
 abbrev pub silent : Ended → Whole
-silent ended = record { output = []; report = []; ended = ended }
+silent ended = record { written = []; ended = ended }
 
 -- ---- export
 
 -- the header, what each entry adds, and the footer
 abbrev pub finished_whole : ExportSettings → List Object → List Entry → Whole
 finished_whole settings objects entries = record {
-  output = header settings.format ++ pieces_of settings objects 0 entries ++ footer settings.format;
-  report = reports_of entries;
+  written =
+      map to_output (header settings.format) ++ entries_sent settings objects 0 entries
+      ++ map to_output (footer settings.format);
   ended = ended.Done;
 }
 
--- the header and what each entry adds, up to the first one with problems
+-- the header and what each entry adds, up to the last one, the first with problems
 abbrev pub stopped_whole : ExportSettings → List Object → List Entry → Entry → Whole
 stopped_whole settings objects entries last = record {
-  output = header settings.format ++ pieces_of settings objects 0 entries;
-  report = reports_of entries ++ last.report;
+  written = map to_output (header settings.format) ++ entries_sent settings objects 0 (entries ++ last ∷ []);
   ended = ended.Stopped last.candidate;
 }
 
@@ -54,7 +55,8 @@ HaveAreas entries = All (λ entry. has_area entry ≡ true) entries
 -- Each candidate has its entry, in order; or the run is to stop at the first candidate with problems.
 pub data IsExport (settings : ExportSettings) (objects : List Object) (whole : Whole) : Type 0 where
   finished : (entries : List Entry) →
-      map (λ entry. entry.candidate) entries ≡ candidates settings.keep_untagged objects → All (IsEntry settings.show_errors objects) entries →
+      map (λ entry. entry.candidate) entries ≡ candidates settings.keep_untagged objects →
+      All (IsEntry settings.show_errors objects) entries →
       (settings.stop_on_error ≡ true → HaveAreas entries) →
       whole ≡ finished_whole settings objects entries → IsExport settings objects whole
   stopped : (entries : List Entry) (last : Entry) (later : List ObjectRef) → settings.stop_on_error ≡ true →
@@ -65,10 +67,6 @@ pub data IsExport (settings : ExportSettings) (objects : List Object) (whole : W
 
 -- ---- any job
 
--- what is right for a job over the objects of its input
-abbrev pub IsRight : Job → List Object → Whole → Type 0
-IsRight (export settings) objects whole = IsExport settings objects whole
-
 -- how a run ends whose input isn't read
 abbrev pub read_ended : ReadError → Ended
 read_ended (BadInput line fault) = ended.BadInput line fault
@@ -76,12 +74,16 @@ read_ended (TooMuchInput limit) = ended.TooMuchInput limit
 read_ended ReadFault = ended.ReadFault
 read_ended OutOfMemory = ended.OutOfMemory
 
-abbrev pub IsAfter : Job → Result (List Object) ReadError → Whole → Type 0
-IsAfter job (Ok objects) whole = IsRight job objects whole
-IsAfter job (Err error) whole = whole ≡ silent (read_ended error)
+abbrev pub IsAfter : (List Object → Whole → Type 0) → Result (List Object) ReadError → Whole → Type 0
+IsAfter IsRight (Ok objects) whole = IsRight objects whole
+IsAfter IsRight (Err error) whole = whole ≡ silent (read_ended error)
 
--- What is right for a job over the bytes of its input.
-pub record IsWhole (job : Job) (bytes : List ℕ) (whole : Whole) : Type 0 where
+-- What is right over the bytes of an input, from what is right over its objects.
+pub record IsReadThen (IsRight : List Object → Whole → Type 0) (bytes : List ℕ) (whole : Whole) : Type 0 where
   pub read : Result (List Object) ReadError
   pub is_read : IsReadAs input_limit longest_line bytes read
-  pub after : IsAfter job read whole
+  pub after : IsAfter IsRight read whole
+
+-- What is right for a job over the texts of its inputs.
+abbrev pub IsWhole : (job : Job) → Texts (inputs_of job) → Whole → Type 0
+IsWhole (export settings) texts whole = IsReadThen (IsExport settings) texts.0 whole

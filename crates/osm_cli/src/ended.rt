@@ -36,11 +36,11 @@ pub enum Ended {
     ReadFault,
     /// A write failed.
     WriteFault,
-    /// Memory was wanting.
+    /// Memory ran out.
     OutOfMemory,
 }
 
-/// The status of the process after a run of a command: 0 for Done, 2 for words that aren't taken, 5 for want of memory,
+/// The status of the process after a run of a command: 0 for Done, 2 for words that aren't taken, 5 where memory ran out,
 /// 1 for the others.
 pub fn status(command: Command, ended: &Ended) -> u8
     ensures { result ≡ status_of command ended.now }

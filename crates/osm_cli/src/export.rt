@@ -34,7 +34,7 @@ pub(crate) enum Halt {
     Stopped { candidate: ObjectRef },
     /// A write failed.
     WriteFault,
-    /// Memory was wanting.
+    /// Memory ran out.
     OutOfMemory,
 }
 

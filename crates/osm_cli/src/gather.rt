@@ -1,8 +1,9 @@
 //! The bytes of an opened input, gathered.
 
-ghost use Rattle.std.specs.Prelude.{◌≡◌, IfOk};
+ghost use Rattle.std.specs.Prelude.{◌≡◌, IfOk, OnErr};
 ghost use Rattle.osm_host.specs.Outside.{OnlyReads};
 ghost use Rattle.osm_cli.specs.Gathering.{Gathers, StopCause};
+ghost use Rattle.osm_cli.specs.Keeps.{Keeps};
 
 use osm_host::Host;
 use std::alloc::{AllocError, Global};
@@ -36,6 +37,8 @@ pub(crate) fn gather<H: Host>(
 ) -> Result<Gathered, AllocError>
     ensures gathers { IfOk result (λ gathered. Gathers limit (H.seen host.old) (H.seen host.new) gathered) }
     ensures cause { IfOk result (λ gathered. StopCause (H.seen host.old) (H.seen host.new) gathered.stop) }
+    ensures none_failed { OnErr result ((H.seen host.new).read_faults ≡ (H.seen host.old).read_faults) }
+    ensures keeps { Keeps (H.seen host.old) (H.seen host.new) }
     ensures rest { OnlyReads (H.seen host.old) (H.seen host.new) }
 {
     let mut bytes = Vec::new(alloc);

@@ -15,4 +15,4 @@ mod writing;
 pub use ended::{Ended, InputFault, status};
 pub use osm_words::{Command, WordsFault, command_of};
 pub use reading::{ReadError, read_all};
-pub use running::run;
+pub use running::{run, run_for_status};

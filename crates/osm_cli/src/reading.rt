@@ -1,8 +1,9 @@
 //! An opened input, read to its end into a store.
 
-ghost use Rattle.std.specs.Prelude.{◌≡◌, ◌<◌, ◌^◌, ◌+◌, ◌++◌, ◌∷◌, ◌≤◌, [], length, true, false, Bool, None, IfOk, IfErr, OnOk, IfSome, IsErrOf, if◌then◌else◌};
+ghost use Rattle.std.specs.Prelude.{◌≡◌, ◌<◌, ◌^◌, ◌+◌, ◌++◌, ◌∷◌, ◌≤◌, [], length, true, false, Bool, None, IfOk, IfErr, OnOk, IfSome, if◌then◌else◌};
 ghost use Rattle.opl_reader.specs.declared.object.Object.{Object};
 ghost use Rattle.osm_host.specs.Outside.{HasRisen, OnlyReads};
+ghost use Rattle.osm_cli.specs.Keeps.{Keeps};
 ghost use Rattle.osm_cli.specs.Input.{line_fault, objects_told};
 ghost use Rattle.osm_cli.specs.Reading.{IsReadOf, IsReadWhole, Reads, ReadsOnce};
 ghost use Rattle.osm_cli.specs.LineSteps.{IsLineError, lines_counting, last_counts, IsRead};
@@ -24,7 +25,7 @@ pub enum ReadError {
     TooMuchInput { limit: u64 },
     /// A read failed.
     ReadFault,
-    /// Memory was wanting.
+    /// Memory ran out.
     OutOfMemory,
 }
 
@@ -83,7 +84,7 @@ fn add_line(
     }
 }
 
-/// Reads the lines of a whole input, or of its front, into a store.
+/// Reads the lines of a whole input, or of a prefix of one, into a store.
 fn read_lines(alloc: Global, bytes: &[u8], is_whole: bool, longest: u64) -> Result<Store, ReadError>
     ensures { IsRead longest (lines_counting is_whole longest bytes.now) result }
 {
@@ -133,12 +134,13 @@ pub fn read_all<H: Host>(
     ensures reads { Reads limit longest (H.seen host.old) (H.seen host.new) result }
     // Where the host tells the input, it is right for the input.
     ensures told { IfSome (H.seen host.old).left (λ bytes. IsReadOf limit longest bytes result) }
-    ensures read_fault { IsErrOf result ReadError.ReadFault → HasRisen (H.seen host.old).read_faults (H.seen host.new).read_faults }
-    // No read failed with an Ok or TooMuchInput.
+    // A read failed, one alone and the last, where ReadFault is answered, and none with an Ok or TooMuchInput.
     ensures at_once { ReadsOnce (H.seen host.old) (H.seen host.new) result }
-    // Where no read failed, the whole of it was read, or memory was wanting.
+    // Where no read failed, the whole of it was read, or memory ran out.
     ensures complete { ¬ HasRisen (H.seen host.old).read_faults (H.seen host.new).read_faults
         → IfSome (H.seen host.old).left (λ bytes. IsReadWhole limit longest bytes result) }
+    // What no run changes stays as it was.
+    ensures keeps { Keeps (H.seen host.old) (H.seen host.new) }
     ensures rest { OnlyReads (H.seen host.old) (H.seen host.new) }
 {
     read_opened(alloc, host, limit, longest)
@@ -152,8 +154,8 @@ fn read_opened<H: Host>(
     longest: u64,
 ) -> Result<Store, ReadError>
     ensures reads { Reads limit longest (H.seen host.old) (H.seen host.new) result }
-    ensures read_fault { IsErrOf result ReadError.ReadFault → HasRisen (H.seen host.old).read_faults (H.seen host.new).read_faults }
     ensures at_once { ReadsOnce (H.seen host.old) (H.seen host.new) result }
+    ensures keeps { Keeps (H.seen host.old) (H.seen host.new) }
     ensures rest { OnlyReads (H.seen host.old) (H.seen host.new) }
 {
     let Ok(gathered) = gather(alloc, host, limit) else {

@@ -25,6 +25,10 @@ pub record Memory : Type 0 where
   pub open_faults : ℕ
   pub read_faults : ℕ
   pub write_faults : ℕ
+  -- whether the last read failed
+  pub read_failed : Bool
+  -- how many bytes were taken off the opened input
+  pub bytes_read : ℕ
 
 -- the bytes of the first input of this name
 abbrev pub bytes_named : List (List ℕ × List ℕ) → List ℕ → Option (List ℕ)
@@ -42,6 +46,8 @@ outside_of m = record {
   open_faults = m.open_faults;
   read_faults = m.read_faults;
   write_faults = m.write_faults;
+  read_failed = m.read_failed;
+  bytes_read = m.bytes_read;
 }
 
 -- the number is one of those that fail

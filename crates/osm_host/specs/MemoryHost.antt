@@ -25,6 +25,8 @@ memory_of host = record {
   open_faults = host.faults.opens;
   read_faults = host.faults.reads;
   write_faults = host.faults.writes;
+  read_failed = host.read_failed;
+  bytes_read = host.bytes_read;
 }
 
 -- The room fits into what the streams and the list of opens have reserved, each open has its name, and the opened

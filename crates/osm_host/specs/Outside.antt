@@ -1,5 +1,5 @@
 -- What a host means: its streams and its list of opens, each told or not, and its counts of faults.
-use Rattle.std.specs.Prelude.{◌≡◌, ◌+◌, ◌-◌, ◌^◌, ◌≤◌, min, ℕ, Bool, List, ◌++◌, Option, None, Some, Result, OnOk, OnErr}
+use Rattle.std.specs.Prelude.{◌≡◌, ◌+◌, ◌-◌, ◌^◌, ◌≤◌, min, max, ℕ, Bool, List, ◌++◌, Option, None, Some, Result, OnOk, OnErr}
 
 -- an open that was asked for, by the bytes of its name; an output with its overwrite
 pub data Opened : Type 0 where
@@ -19,6 +19,10 @@ pub record Outside : Type 0 where
   pub open_faults : ℕ
   pub read_faults : ℕ
   pub write_faults : ℕ
+  -- whether the last read failed
+  pub read_failed : Bool
+  -- how many bytes were taken off the opened input
+  pub bytes_read : ℕ
 
 -- a told list with more behind it; what isn't told stays so
 abbrev pub appended : {A : Type 0} → Option (List A) → List A → Option (List A)
@@ -34,14 +38,18 @@ preceded more (Some items) = Some (more ++ items)
 abbrev pub risen : ℕ → ℕ
 risen count = min (count + 1) (2 ^ 64 - 1)
 
+-- a count so many up, or at its last value; it never falls
+abbrev pub grown : ℕ → ℕ → ℕ
+grown count more = min (count + more) (max count (2 ^ 64 - 1))
+
 -- The count rose by one at least, or stands at its last value.
 abbrev pub HasRisen : ℕ → ℕ → Type 0
 HasRisen before now = risen before ≤ now
 
--- A count never falls, rises where a call of its kind failed, and stays where it was answered.
+-- A count never falls, is one up where a call of its kind failed, and stays where it was answered.
 pub record Counts {T E : Type 0} (before now : ℕ) (result : Result T E) : Type 0 where
   pub never_falls : before ≤ now
-  pub failed : OnErr result (HasRisen before now)
+  pub failed : OnErr result (now ≡ risen before)
   pub answered : OnOk result (now ≡ before)
 
 -- Nothing but the opened input, the list of opens and the count of opens changed.
@@ -51,8 +59,9 @@ pub record OnlyOpens (before now : Outside) : Type 0 where
   pub report : now.report ≡ before.report
   pub read_faults : now.read_faults ≡ before.read_faults
   pub write_faults : now.write_faults ≡ before.write_faults
+  pub read_failed : now.read_failed ≡ before.read_failed
 
--- Nothing but what is left of the input and the count of reads changed.
+-- Nothing but what is left of the input, and what is counted of reads, changed.
 pub record OnlyReads (before now : Outside) : Type 0 where
   pub named : now.named ≡ before.named
   pub out : now.out ≡ before.out
@@ -69,6 +78,8 @@ pub record OnlyWritesOut (before now : Outside) : Type 0 where
   pub opens : now.opens ≡ before.opens
   pub open_faults : now.open_faults ≡ before.open_faults
   pub read_faults : now.read_faults ≡ before.read_faults
+  pub read_failed : now.read_failed ≡ before.read_failed
+  pub bytes_read : now.bytes_read ≡ before.bytes_read
 
 -- Nothing but the report and the count of writes changed.
 pub record OnlyWritesReport (before now : Outside) : Type 0 where
@@ -78,3 +89,5 @@ pub record OnlyWritesReport (before now : Outside) : Type 0 where
   pub opens : now.opens ≡ before.opens
   pub open_faults : now.open_faults ≡ before.open_faults
   pub read_faults : now.read_faults ≡ before.read_faults
+  pub read_failed : now.read_failed ≡ before.read_failed
+  pub bytes_read : now.bytes_read ≡ before.bytes_read

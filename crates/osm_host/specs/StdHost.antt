@@ -1,4 +1,4 @@
--- What a host over real files and streams means: nothing is told, and its counts of faults alone are known.
+-- What a host over real files and streams means: nothing is told, and its counts alone are known.
 use Rattle.std.specs.Prelude.{None}
 use Rattle.osm_host.specs.Outside.{Outside}
 use Rattle.osm_host.specs.declared.standard.StdHost.{StdHost}
@@ -13,4 +13,6 @@ std_outside host = record {
   open_faults = host.faults.opens;
   read_faults = host.faults.reads;
   write_faults = host.faults.writes;
+  read_failed = host.read_failed;
+  bytes_read = host.bytes_read;
 }

@@ -1,7 +1,7 @@
 //! What the program asks of the outside: an input, an output and a report.
 
-ghost use Rattle.std.specs.Prelude.{◌≡◌, ◌⊎◌, ◌<◌, ◌≤◌, ◌++◌, [], ◌∷◌, length, take, is_some, IfOk, OnOk, OnErr, IfSome};
-ghost use Rattle.osm_host.specs.Outside.{Outside, input, output, appended, preceded, risen, Counts, OnlyOpens, OnlyReads, OnlyWritesOut, OnlyWritesReport};
+ghost use Rattle.std.specs.Prelude.{◌≡◌, ◌⊎◌, ◌<◌, ◌≤◌, ◌++◌, [], ◌∷◌, length, take, is_ok, is_some, not, IfOk, OnOk, OnErr, IfSome};
+ghost use Rattle.osm_host.specs.Outside.{Outside, input, output, appended, preceded, risen, grown, Counts, OnlyOpens, OnlyReads, OnlyWritesOut, OnlyWritesReport};
 
 /// A call on the outside failed. Why isn't told: the counts of faults say of which kind it was.
 #[derive(Clone, Copy, Debug, PartialEq, Eq)]
@@ -34,11 +34,12 @@ pub(crate) fn note_fault(count: &mut u64) -> Failed
 /// The outside: one opened input, one output and one report.
 ///
 /// A host means the bytes that input names stand for, the bytes left of the opened input, the bytes out, the bytes of
-/// the report and the list of opens. It tells each of these or doesn't, and no call changes that. Besides it counts
-/// its faults: opens, reads and writes. No call touches what is another call's: each changes its own stream or the
-/// list of opens, and the count of its kind, and what a name stands for never changes.
+/// the report and the list of opens. It tells each of these or doesn't, and no call changes that. Whether it tells them
+/// or not, it counts the bytes that are taken off the opened input, and its faults: each call that fails counts once, as
+/// an open, a read or a write. No call touches what is another call's: each changes its own stream or the list of opens,
+/// and the count of its kind, and what a name stands for never changes.
 pub trait Host {
-    /// The bytes of the streams and the counts of faults.
+    /// The streams, the list of opens, and the counts.
     ghost seen: { Self → Outside };
 
     /// Opens an input by its name, in place of the one before; `-` is standard input.
@@ -49,6 +50,7 @@ pub trait Host {
         ensures listed_or_not { OnErr result (((seen self.new).opens ≡ appended (seen self.old).opens (input name.now ∷ []))
             ⊎ ((seen self.new).opens ≡ (seen self.old).opens)) }
         ensures begins { OnOk result ((seen self.new).left ≡ (seen self.old).named name.now) }
+        ensures none_read { OnOk result ((seen self.new).bytes_read ≡ 0) }
         // What is left is told after the call where it was told before.
         ensures told { is_some (seen self.new).left ≡ is_some (seen self.old).left }
         ensures cause { Counts (seen self.old).open_faults (seen self.new).open_faults result }
@@ -63,6 +65,10 @@ pub trait Host {
         ensures ended { result ≡ Ok 0 → 0 < length buf.old → IfSome (seen self.old).left (λ left. left ≡ []) }
         ensures failed { OnErr result ((seen self.new).left ≡ (seen self.old).left) }
         ensures empty { length buf.old ≡ 0 → result ≡ Ok 0 }
+        // Whether it failed is kept until the next read.
+        ensures last { (seen self.new).read_failed ≡ not (is_ok result) }
+        ensures counted { IfOk result (λ n. (seen self.new).bytes_read ≡ grown (seen self.old).bytes_read n) }
+        ensures none_counted { OnErr result ((seen self.new).bytes_read ≡ (seen self.old).bytes_read) }
         ensures cause { Counts (seen self.old).read_faults (seen self.new).read_faults result }
         ensures rest { OnlyReads (seen self.old) (seen self.new) };
 
@@ -74,10 +80,11 @@ pub trait Host {
         ensures listed_or_not { OnErr result (((seen self.new).opens ≡ appended (seen self.old).opens (output name.now overwrite ∷ []))
             ⊎ ((seen self.new).opens ≡ (seen self.old).opens)) }
         ensures left { (seen self.new).left ≡ (seen self.old).left }
+        ensures bytes_read { (seen self.new).bytes_read ≡ (seen self.old).bytes_read }
         ensures cause { Counts (seen self.old).open_faults (seen self.new).open_faults result }
         ensures rest { OnlyOpens (seen self.old) (seen self.new) };
 
-    /// Writes a front of the piece to the output, and says how long it is: at least one byte of a piece that isn't
+    /// Writes a prefix of the piece to the output, and says how long it is: at least one byte of a piece that isn't
     /// empty. A failed write writes nothing.
     fn write_out(&mut self, bytes: &[u8]) -> Result<usize, Failed>
         ensures count { IfOk result (λ n. n ≤ length bytes.now) }
@@ -88,7 +95,7 @@ pub trait Host {
         ensures cause { Counts (seen self.old).write_faults (seen self.new).write_faults result }
         ensures rest { OnlyWritesOut (seen self.old) (seen self.new) };
 
-    /// Writes a front of the piece to the report, and says how long it is: at least one byte of a piece that isn't
+    /// Writes a prefix of the piece to the report, and says how long it is: at least one byte of a piece that isn't
     /// empty. A failed write writes nothing.
     fn write_report(&mut self, bytes: &[u8]) -> Result<usize, Failed>
         ensures count { IfOk result (λ n. n ≤ length bytes.now) }

@@ -1,7 +1,7 @@
 //! A host over memory, for tests. It tells everything, and each call is exact.
 
-ghost use Rattle.std.specs.Prelude.{◌≡◌, ◌⊎◌, ◌+◌, ◌<◌, ◌≤◌, ◌++◌, [], ◌∷◌, length, take, drop, unwrap_or, IfOk, OnOk, OnErr, IfSome, min, is_ok, is_some, ◌-◌};
-ghost use Rattle.osm_host.specs.Outside.{input, output, appended, preceded, risen, Counts, OnlyOpens, OnlyReads, OnlyWritesOut, OnlyWritesReport};
+ghost use Rattle.std.specs.Prelude.{◌≡◌, ◌⊎◌, ◌+◌, ◌<◌, ◌≤◌, ◌++◌, [], ◌∷◌, length, take, drop, unwrap_or, IfOk, OnOk, OnErr, IfSome, min, is_ok, is_some, not, true, false, ◌-◌};
+ghost use Rattle.osm_host.specs.Outside.{input, output, appended, preceded, risen, grown, Counts, OnlyOpens, OnlyReads, OnlyWritesOut, OnlyWritesReport};
 ghost use Rattle.osm_host.specs.Memory.{Memory, bytes_named, outside_of, is_listed, with_open, with_open_fault, input_opens, output_opens, reads, writes};
 
 use crate::host::{Failed, Faults, Host, NO_FAULTS, note_fault};
@@ -33,6 +33,8 @@ pub struct MemoryHost {
     names: Vec<u8>,
     entries: Vec<Entry>,
     faults: Faults,
+    read_failed: bool,
+    bytes_read: u64,
 }
 
 impl Model for MemoryHost {
@@ -65,6 +67,8 @@ impl MemoryHost {
           open_faults = 0;
           read_faults = 0;
           write_faults = 0;
+          read_failed = false;
+          bytes_read = 0;
         } }
     {
         MemoryHost {
@@ -82,6 +86,8 @@ impl MemoryHost {
             names: Vec::new(alloc),
             entries: Vec::new(alloc),
             faults: NO_FAULTS,
+            read_failed: false,
+            bytes_read: 0,
         }
     }
 
@@ -170,12 +176,13 @@ impl Host for MemoryHost {
         ensures listed_or_not { OnErr result (((outside_of self.new).opens ≡ appended (outside_of self.old).opens (input name.now ∷ []))
             ⊎ ((outside_of self.new).opens ≡ (outside_of self.old).opens)) }
         ensures begins { OnOk result ((outside_of self.new).left ≡ (outside_of self.old).named name.now) }
+        ensures none_read { OnOk result ((outside_of self.new).bytes_read ≡ 0) }
         ensures told { is_some (outside_of self.new).left ≡ is_some (outside_of self.old).left }
         ensures cause { Counts (outside_of self.old).open_faults (outside_of self.new).open_faults result }
         ensures rest { OnlyOpens (outside_of self.old) (outside_of self.new) }
         ensures exact { is_ok result ≡ input_opens self.old name.now }
         ensures after { OnOk result (self.new ≡ record (with_open self.old (input name.now) (length name.now))
-            { left = unwrap_or (bytes_named self.old.inputs name.now) [] }) }
+            { left = unwrap_or (bytes_named self.old.inputs name.now) []; bytes_read = 0 }) }
         ensures after_fault { OnErr result (self.new ≡ with_open_fault (with_open self.old (input name.now) (length name.now))) }
     {
         let fails = take_number(&mut self.call, &self.fail);
@@ -190,6 +197,7 @@ impl Host for MemoryHost {
             Some(index) if has_room && !fails => {
                 self.opened = Some(index);
                 self.place = 0;
+                self.bytes_read = 0;
                 Ok(())
             }
             _ => Err(note_fault(&mut self.faults.opens)),
@@ -202,16 +210,29 @@ impl Host for MemoryHost {
         ensures ended { result ≡ Ok 0 → 0 < length buf.old → IfSome (outside_of self.old).left (λ left. left ≡ []) }
         ensures failed { OnErr result ((outside_of self.new).left ≡ (outside_of self.old).left) }
         ensures empty { length buf.old ≡ 0 → result ≡ Ok 0 }
+        ensures last { (outside_of self.new).read_failed ≡ not (is_ok result) }
+        ensures counted { IfOk result (λ n. (outside_of self.new).bytes_read ≡ grown (outside_of self.old).bytes_read n) }
+        ensures none_counted { OnErr result ((outside_of self.new).bytes_read ≡ (outside_of self.old).bytes_read) }
         ensures cause { Counts (outside_of self.old).read_faults (outside_of self.new).read_faults result }
         ensures rest { OnlyReads (outside_of self.old) (outside_of self.new) }
         ensures exact { is_ok result ≡ reads self.old (length buf.old) }
         ensures amount { IfOk result (λ n. n ≡ min (min (length self.old.left) (length buf.old)) self.old.most) }
-        ensures after { IfOk result (λ n. self.new ≡ record self.old { call = risen self.old.call; left = drop n self.old.left }) }
-        ensures after_fault { OnErr result (self.new ≡ record self.old { call = risen self.old.call; read_faults = risen self.old.read_faults }) }
+        ensures after { IfOk result (λ n. self.new ≡ record self.old {
+          call = risen self.old.call;
+          left = drop n self.old.left;
+          read_failed = false;
+          bytes_read = grown self.old.bytes_read n;
+        }) }
+        ensures after_fault { OnErr result (self.new ≡ record self.old {
+          call = risen self.old.call;
+          read_faults = risen self.old.read_faults;
+          read_failed = true;
+        }) }
         ensures behind { IfOk result (λ n. drop n buf.new ≡ drop n buf.old) }
         ensures buffer_after_fault { OnErr result (buf.new ≡ buf.old) }
     {
         let fails = take_number(&mut self.call, &self.fail);
+        self.read_failed = fails && !buf.is_empty();
         if buf.is_empty() {
             return Ok(0);
         }
@@ -226,6 +247,7 @@ impl Host for MemoryHost {
         let count = (bytes.len() - place).min(buf.len()).min(self.most);
         buf[..count].copy_from_slice(&bytes[place..place + count]);
         self.place = place + count;
+        self.bytes_read = self.bytes_read.saturating_add(count as u64);
         Ok(count)
     }
 
@@ -234,6 +256,7 @@ impl Host for MemoryHost {
         ensures listed_or_not { OnErr result (((outside_of self.new).opens ≡ appended (outside_of self.old).opens (output name.now overwrite ∷ []))
             ⊎ ((outside_of self.new).opens ≡ (outside_of self.old).opens)) }
         ensures left { (outside_of self.new).left ≡ (outside_of self.old).left }
+        ensures bytes_read { (outside_of self.new).bytes_read ≡ (outside_of self.old).bytes_read }
         ensures cause { Counts (outside_of self.old).open_faults (outside_of self.new).open_faults result }
         ensures rest { OnlyOpens (outside_of self.old) (outside_of self.new) }
         ensures exact { is_ok result ≡ output_opens self.old name.now overwrite }
@@ -264,8 +287,15 @@ impl Host for MemoryHost {
         ensures rest { OnlyWritesOut (outside_of self.old) (outside_of self.new) }
         ensures exact { is_ok result ≡ writes self.old (length bytes.now) }
         ensures amount { IfOk result (λ n. n ≡ min (min (length bytes.now) self.old.most) self.old.room) }
-        ensures after { IfOk result (λ n. self.new ≡ record self.old { call = risen self.old.call; room = self.old.room - n; out = self.old.out ++ take n bytes.now }) }
-        ensures after_fault { OnErr result (self.new ≡ record self.old { call = risen self.old.call; write_faults = risen self.old.write_faults }) }
+        ensures after { IfOk result (λ n. self.new ≡ record self.old {
+          call = risen self.old.call;
+          room = self.old.room - n;
+          out = self.old.out ++ take n bytes.now;
+        }) }
+        ensures after_fault { OnErr result (self.new ≡ record self.old {
+          call = risen self.old.call;
+          write_faults = risen self.old.write_faults;
+        }) }
     {
         let fails = take_number(&mut self.call, &self.fail);
         if bytes.is_empty() {
@@ -287,8 +317,15 @@ impl Host for MemoryHost {
         ensures rest { OnlyWritesReport (outside_of self.old) (outside_of self.new) }
         ensures exact { is_ok result ≡ writes self.old (length bytes.now) }
         ensures amount { IfOk result (λ n. n ≡ min (min (length bytes.now) self.old.most) self.old.room) }
-        ensures after { IfOk result (λ n. self.new ≡ record self.old { call = risen self.old.call; room = self.old.room - n; report = self.old.report ++ take n bytes.now }) }
-        ensures after_fault { OnErr result (self.new ≡ record self.old { call = risen self.old.call; write_faults = risen self.old.write_faults }) }
+        ensures after { IfOk result (λ n. self.new ≡ record self.old {
+          call = risen self.old.call;
+          room = self.old.room - n;
+          report = self.old.report ++ take n bytes.now;
+        }) }
+        ensures after_fault { OnErr result (self.new ≡ record self.old {
+          call = risen self.old.call;
+          write_faults = risen self.old.write_faults;
+        }) }
     {
         let fails = take_number(&mut self.call, &self.fail);
         if bytes.is_empty() {

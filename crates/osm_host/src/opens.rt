@@ -57,7 +57,7 @@ pub(crate) fn note_open(
     true
 }
 
-/// Writes the front of a piece that `most` and the room allow, and says how long it is.
+/// Writes the prefix of a piece that `most` and the room allow, and says how long it is.
 pub(crate) fn add_front(stream: &mut Vec<u8>, room: &mut usize, most: usize, bytes: &[u8]) -> usize
     requires { vec_len stream.old + room.old ≤ vec_capacity stream.old }
     ensures amount { result ≡ min (min (length bytes.now) most) room.old }

@@ -1,6 +1,6 @@
 //! The host over real files and standard streams. It tells nothing of what they hold.
 
-ghost use Rattle.std.specs.Prelude.{◌≡◌, None};
+ghost use Rattle.std.specs.Prelude.{◌≡◌, None, false};
 ghost use Rattle.osm_host.specs.Outside.{Outside};
 
 use crate::host::{Failed, Faults, Host, NO_FAULTS, note_fault};
@@ -32,6 +32,8 @@ pub struct StdHost {
     source: Source,
     sink: Sink,
     faults: Faults,
+    read_failed: bool,
+    bytes_read: u64,
 }
 
 impl StdHost {
@@ -48,6 +50,8 @@ impl StdHost {
           open_faults = 0;
           read_faults = 0;
           write_faults = 0;
+          read_failed = false;
+          bytes_read = 0;
         } }
     {
         StdHost {
@@ -55,6 +59,8 @@ impl StdHost {
             source: Source::Nothing,
             sink: Sink::Standard,
             faults: NO_FAULTS,
+            read_failed: false,
+            bytes_read: 0,
         }
     }
 }
@@ -67,16 +73,19 @@ impl Host for StdHost {
     fn open_input(&mut self, name: &str) -> Result<(), Failed> {
         if name == "-" {
             self.source = Source::Standard;
+            self.bytes_read = 0;
             return Ok(());
         }
         let Ok(file) = File::open(&self.rt, name) else {
             return Err(note_fault(&mut self.faults.opens));
         };
         self.source = Source::File(file);
+        self.bytes_read = 0;
         Ok(())
     }
 
     fn read(&mut self, buf: &mut [u8]) -> Result<usize, Failed> {
+        self.read_failed = false;
         if buf.is_empty() {
             return Ok(0);
         }
@@ -86,8 +95,10 @@ impl Host for StdHost {
             Source::File(file) => file.read(buf),
         };
         let Ok(count) = answer else {
+            self.read_failed = true;
             return Err(note_fault(&mut self.faults.reads));
         };
+        self.bytes_read = self.bytes_read.saturating_add(count as u64);
         Ok(count)
     }
 

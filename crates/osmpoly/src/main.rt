@@ -1,7 +1,7 @@
 //! Makes polygons of OpenStreetMap data in OPL text.
 #![tactic(auto)]
 
-use osm_cli::{command_of, run, status};
+use osm_cli::run_for_status;
 use osm_host::StdHost;
 use std::env;
 use std::io::ErrorKind;
@@ -20,8 +20,7 @@ fn main(rt: HostRuntime) -> ExitCode {
         Err(status) => return ExitCode::from(status),
     };
     let mut host = StdHost::new(rt);
-    let ended = run(alloc, &words, &mut host);
-    ExitCode::from(status(command_of(&words), &ended))
+    ExitCode::from(run_for_status(alloc, &words, &mut host))
 }
 
 /// The words after the program's name, or the status that says why they can't be had.

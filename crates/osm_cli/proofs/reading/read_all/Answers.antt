@@ -7,4 +7,4 @@ returns-clause-told g c =
 
 pub returns-clause-complete : goal.returns-clause-complete
 returns-clause-complete g c =
-    completes c.args.limit c.args.longest (g.H.Host.seen c.args.host.now) (g.H.Host.seen c.read_opened.new.host) c.read_opened.result c.read_opened.ensures.reads c.read_opened.ensures.read_fault
+    completes c.args.limit c.args.longest (g.H.Host.seen c.args.host.now) (g.H.Host.seen c.read_opened.new.host) c.read_opened.result c.read_opened.ensures.reads c.read_opened.ensures.at_once

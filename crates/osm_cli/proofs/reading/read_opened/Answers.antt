@@ -1,6 +1,6 @@
-use Rattle.std.proofs.Common.{false}
+use Rattle.std.proofs.Common.{true, false, inl, inr}
 use Rattle.osm_cli.specs.LineSteps.{lines_counting}
-use Rattle.osm_cli.specs.declared.gather.Stop.TheVariants.{AtEnd, PastLimit}
+use Rattle.osm_cli.specs.declared.gather.Stop.TheVariants.{AtEnd, PastLimit, ReadFault}
 use Rattle.osm_cli.proofs.Answered.{whole_read, front_refused, limit_passed, read_failed, none_failed, bad_before, stopped_at}
 use Rattle.osm_cli.proofs.reading.read_opened.Goals as goal
 
@@ -31,7 +31,7 @@ returns-clause-reads g c =
 
 pub returns-in-AtEnd-clause-at_once : goal.returns-in-AtEnd-clause-at_once
 returns-in-AtEnd-clause-at_once g c =
-    none_failed (g.H.Host.seen c.args.host.now) (g.H.Host.seen c.gather.new.host) c.read_lines.result
+    none_failed c.args.longest (lines_counting true c.args.longest c.as_slice-bytes.result.now) (g.H.Host.seen c.args.host.now) (g.H.Host.seen c.gather.new.host) c.read_lines.result c.read_lines.ensures
     (stopped_at (g.H.Host.seen c.args.host.now) (g.H.Host.seen c.gather.new.host) c.in-Ok.gathered.stop AtEnd c.in-AtEnd.is c.in-Ok.ensures.cause)
 
 pub returns-in-Ok-read_lines-clause-at_once : goal.returns-in-Ok-read_lines-clause-at_once
@@ -41,7 +41,16 @@ returns-in-Ok-read_lines-clause-at_once g c =
 pub returns-in-PastLimit-clause-at_once : goal.returns-in-PastLimit-clause-at_once
 returns-in-PastLimit-clause-at_once g c =
     bad_before c.args.longest (lines_counting false c.args.longest c.as_slice-bytes.result.now) (g.H.Host.seen c.args.host.now) (g.H.Host.seen c.gather.new.host) c.in-Err.error c.in-Err.ensures
+    (inl (stopped_at (g.H.Host.seen c.args.host.now) (g.H.Host.seen c.gather.new.host) c.in-Ok.gathered.stop PastLimit c.in-PastLimit.is c.in-Ok.ensures.cause))
+
+pub returns-in-Ok-read_lines-2-clause-at_once : goal.returns-in-Ok-read_lines-2-clause-at_once
+returns-in-Ok-read_lines-2-clause-at_once g c =
+    stopped_at (g.H.Host.seen c.args.host.now) (g.H.Host.seen c.gather.new.host) c.in-Ok.gathered.stop ReadFault c.in-ReadFault.is c.in-Ok.ensures.cause
+
+pub returns-in_default-clause-at_once : goal.returns-in_default-clause-at_once
+returns-in_default-clause-at_once g c = inl c.in_default.ensures.none_failed
 
 pub returns-clause-at_once : goal.returns-clause-at_once
 returns-clause-at_once g c =
     bad_before c.args.longest (lines_counting false c.args.longest c.as_slice-bytes.result.now) (g.H.Host.seen c.args.host.now) (g.H.Host.seen c.gather.new.host) c.in-Err-read_lines.error c.in-Err-read_lines.ensures
+    (inr (stopped_at (g.H.Host.seen c.args.host.now) (g.H.Host.seen c.gather.new.host) c.in-Ok.gathered.stop ReadFault c.in-ReadFault.is c.in-Ok.ensures.cause))

@@ -1,0 +1,5 @@
+pub mod EntryOne
+pub mod ExportOne
+pub mod ReadingOne
+pub mod RunOne
+pub mod WholeThere

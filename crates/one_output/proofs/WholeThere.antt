@@ -1,0 +1,115 @@
+-- Each job and input has a whole.
+use Rattle.std.proofs.Common.{Err, List, None, Ok, Option, Result, Some, [], ap, inl, inr, length, refl, subst, sym, take, ℕ, ◌++◌, ◌+◌, ◌<◌, ◌≤◌, ◌∙◌, ◌∷◌, ◌≡◌, ◌⊎◌}
+use Rattle.std.proofs.lemmas.Bool.{cases_lt}
+use Rattle.opl_reader.specs.declared.object.Object.{Object}
+use Rattle.osm_area.specs.Outcome.{OutcomeExists}
+use Rattle.osm_objects.specs.Candidates.{candidates}
+use Rattle.osm_text.specs.Report.{ProblemLineExists}
+use Rattle.osm_words.specs.Job.{ExportSettings, Job, export}
+use Rattle.osm_cli.specs.declared.ended.InputFault.{InputFault}
+use Rattle.osm_cli.specs.declared.reading.ReadError.{ReadError}
+use Rattle.osm_cli.specs.declared.reading.ReadError.TheVariants.{BadInput, TooMuchInput}
+use Rattle.osm_cli.specs.Input.{AreGood, IsBadPlace, line_fault, objects_told}
+use Rattle.osm_cli.specs.Job.{Texts, inputs_of}
+use Rattle.osm_cli.specs.Lines.{lines_begun, lines_of}
+use Rattle.osm_cli.specs.Reading.{IsReadAs}
+use Rattle.osm_cli.specs.Whole.{IsAfter, IsExport, IsReadThen, IsWhole, Whole, finished, finished_whole, input_limit, longest_line, read_ended, silent, stopped, stopped_whole}
+use Rattle.one_ring_list.proofs.CyclicLists.{Overlap, overlap}
+use Rattle.osm_cli.proofs.Answered.{beyond, within}
+use Rattle.osm_cli.proofs.Entries.{Rest, all_go, one_stops, rest_exists}
+
+append-nil : (xs : List (List ℕ)) → xs ++ [] ≡ xs
+append-nil [] = refl
+append-nil (x ∷ xs) = ap (λ l. x ∷ l) (append-nil xs)
+
+append-assoc : (xs ys zs : List (List ℕ)) → xs ++ (ys ++ zs) ≡ (xs ++ ys) ++ zs
+append-assoc [] ys zs = refl
+append-assoc (x ∷ xs) ys zs = ap (λ l. x ∷ l) (append-assoc xs ys zs)
+
+-- ---- a list of lines is good, or has a bad place
+module _ (longest : ℕ) where
+  none-good : AreGood longest []
+  none-good [] line after h = cc
+  none-good (x ∷ before) line after h = cc
+
+  module _ (before : List (List ℕ)) (line : List ℕ) (good : AreGood longest before) (fine : line_fault longest (objects_told before) line ≡ None) where
+    here : (b : List (List ℕ)) (l : List ℕ) → b ≡ before → l ≡ line → line_fault longest (objects_told b) l ≡ None
+    here b l p q = ap (λ x. line_fault longest (objects_told x) l) p ∙ ap (λ x. line_fault longest (objects_told before) x) q ∙ fine
+
+    last-by : (b : List (List ℕ)) (l : List ℕ) (a mid : List (List ℕ)) → b ≡ before ++ mid → line ∷ [] ≡ mid ++ (l ∷ a) → line_fault longest (objects_told b) l ≡ None
+    last-by b l a [] p q = here b l (p ∙ append-nil before) (cc)
+    last-by b l a (x ∷ []) p q = cc
+    last-by b l a (x ∷ (y ∷ mid)) p q = cc
+
+    first-by : (b : List (List ℕ)) (l : List ℕ) (a mid : List (List ℕ)) → before ≡ b ++ mid → l ∷ a ≡ mid ++ (line ∷ []) → line_fault longest (objects_told b) l ≡ None
+    first-by b l a [] p q = here b l (sym (p ∙ append-nil b)) (cc)
+    first-by b l a (x ∷ mid) p q =
+        let e : l ≡ x = cc in good b l mid (p ∙ ap (λ y. b ++ (y ∷ mid)) (sym e))
+
+    push-by : (b : List (List ℕ)) (l : List ℕ) (a : List (List ℕ)) → (Overlap before (line ∷ []) b (l ∷ a)) ⊎ (Overlap b (l ∷ a) before (line ∷ [])) → line_fault longest (objects_told b) l ≡ None
+    push-by b l a (inl o) = last-by b l a o.middle o.longer o.shorter
+    push-by b l a (inr o) = first-by b l a o.middle o.longer o.shorter
+
+    push : AreGood longest (before ++ line ∷ [])
+    push b l a h = push-by b l a (overlap before (line ∷ []) b (l ∷ a) h)
+
+  abbrev Judged : List (List ℕ) → Type 0
+  Judged lines = (AreGood longest lines) ⊎ ((n : ℕ) × (f : InputFault) × IsBadPlace longest lines n f)
+
+  judge-by : (before : List (List ℕ)) (line : List ℕ) (rest : List (List ℕ)) → AreGood longest before → (f : Option InputFault) → line_fault longest (objects_told before) line ≡ f →
+      (AreGood longest (before ++ line ∷ []) → Judged ((before ++ line ∷ []) ++ rest)) → Judged (before ++ line ∷ rest)
+  judge-by before line rest good None h k = subst Judged (sym (append-assoc before (line ∷ []) rest)) (k (push before line good h))
+  judge-by before line rest good (Some f) h k =
+      inr (length before + 1, f, record { before = before; line = line; after = rest; parted = refl; counted = refl; good_before = good; bad = h })
+
+  judge : (before rest : List (List ℕ)) → AreGood longest before → Judged (before ++ rest)
+  judge before [] good = inl (subst (AreGood longest) (sym (append-nil before)) good)
+  judge before (line ∷ rest) good = judge-by before line rest good (line_fault longest (objects_told before) line) refl (judge (before ++ line ∷ []) rest)
+
+  judged : (lines : List (List ℕ)) → Judged lines
+  judged lines = judge [] lines none-good
+
+-- ---- an input is read as something
+module _ (limit longest : ℕ) (bytes : List ℕ) where
+  abbrev Found : Type 0
+  Found = (r : Result (List Object) ReadError) × IsReadAs limit longest bytes r
+
+  few-read : length bytes ≤ limit → Judged longest (lines_of bytes) → Found
+  few-read h (inl good) = (Ok (objects_told (lines_of bytes)), (h, good, refl))
+  few-read h (inr bad) = (Err (BadInput bad.0 bad.1), subst (λ l. IsBadPlace longest l bad.0 bad.1) (sym (within limit longest bytes h)) bad.2)
+
+  many-read : limit < length bytes → Judged longest (lines_begun longest (take limit bytes)) → Found
+  many-read h (inl good) = (Err (TooMuchInput limit), (refl, h, good))
+  many-read h (inr bad) = (Err (BadInput bad.0 bad.1), subst (λ l. IsBadPlace longest l bad.0 bad.1) (sym (beyond limit longest bytes h)) bad.2)
+
+  read-by : (limit < length bytes) ⊎ (length bytes ≤ limit) → Found
+  read-by (inl h) = many-read h (judged longest (lines_begun longest (take limit bytes)))
+  read-by (inr h) = few-read h (judged longest (lines_of bytes))
+
+  pub read-there : Found
+  read-there = read-by (cases_lt limit (length bytes))
+
+-- ---- a whole
+
+-- there is one over the bytes of an input, where there is one over its objects
+module _ (IsRight : List Object → Whole → Type 0) (there : (objects : List Object) → (w : Whole) × IsRight objects w) where
+  after-there : (r : Result (List Object) ReadError) → (w : Whole) × IsAfter IsRight r w
+  after-there (Ok objects) = there objects
+  after-there (Err e) = (silent (read_ended e), refl)
+
+  pub then-there : (bytes : List ℕ) → (w : Whole) × IsReadThen IsRight bytes w
+  then-there bytes =
+      let r = read-there input_limit longest_line bytes in
+      let w = after-there r.0 in
+      (w.0, record { read = r.0; is_read = r.1; after = w.1 })
+
+module _ (outcomes : OutcomeExists) (lines : ProblemLineExists) where
+  export-by : (settings : ExportSettings) (objects : List Object) → Rest settings objects (candidates settings.keep_untagged objects) → (w : Whole) × IsExport settings objects w
+  export-by settings objects (all_go es are) = (finished_whole settings objects es, finished es are.in_order are.right are.go_on refl)
+  export-by settings objects (one_stops es last at) = (stopped_whole settings objects es last, stopped es last at.later at.stops at.in_order at.right at.last_right at.areas at.problems refl)
+
+  export-there : (settings : ExportSettings) (objects : List Object) → (w : Whole) × IsExport settings objects w
+  export-there settings objects = export-by settings objects (rest_exists outcomes lines settings objects (candidates settings.keep_untagged objects))
+
+  pub whole-there : (job : Job) (texts : Texts (inputs_of job)) → (w : Whole) × IsWhole job texts w
+  whole-there (export settings) texts = then-there (IsExport settings) (export-there settings) texts.0

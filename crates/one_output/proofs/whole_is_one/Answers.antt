@@ -1,0 +1,19 @@
+use Rattle.one_output.proofs.whole_is_one.Goals as goal
+use Rattle.one_output.proofs.EntryOne.{entry-one}
+use Rattle.one_output.proofs.ExportOne.{export-one, objects-tell, whole-one}
+use Rattle.one_output.proofs.ReadingOne.{reading-one}
+
+pub returns-clause-reading : goal.returns-clause-reading
+returns-clause-reading c = reading-one
+
+pub returns-clause-entry : goal.returns-clause-entry
+returns-clause-entry c = entry-one
+
+pub returns-clause-export : goal.returns-clause-export
+returns-clause-export c = export-one
+
+pub returns-clause-whole : goal.returns-clause-whole
+returns-clause-whole c = whole-one
+
+pub returns-clause-objects : goal.returns-clause-objects
+returns-clause-objects c = objects-tell

@@ -1,0 +1,90 @@
+-- What a run is to write in all is a function of its job and its inputs, as statements.
+use Rattle.std.specs.Prelude.{Bool, List, Result, true, ℕ, [], ◌↔◌, ◌∷◌, ◌≡◌, ◌⊎◌}
+use Rattle.opl_reader.specs.declared.object.Object.{Object}
+use Rattle.osm_words.specs.Job.{ExportSettings, Job}
+use Rattle.osm_words.specs.declared.fault.WordsFault.{WordsFault}
+use Rattle.osm_host.specs.Outside.{Outside}
+use Rattle.osm_cli.specs.Cause.{cause_of}
+use Rattle.osm_cli.specs.Entry.{Entry, IsEntry}
+use Rattle.osm_cli.specs.Job.{Texts, inputs_of}
+use Rattle.osm_cli.specs.Reading.{IsReadAs}
+use Rattle.osm_cli.specs.Run.{IsFront, Writes}
+use Rattle.osm_cli.specs.Whole.{IsExport, IsWhole, Whole, input_limit, longest_line}
+use Rattle.osm_cli.specs.declared.ended.Ended.{Ended}
+use Rattle.osm_cli.specs.declared.reading.ReadError.{ReadError}
+use Rattle.one_output.specs.Right.{AllRunsKeepTo, AreTold, IsRight, TextsOf, is_unbroken}
+
+-- an input is read as one thing alone
+abbrev pub ReadingIsOne : Type 0
+ReadingIsOne =
+    (limit longest : ℕ) (bytes : List ℕ) (r s : Result (List Object) ReadError) →
+    IsReadAs limit longest bytes r → IsReadAs limit longest bytes s → r ≡ s
+
+-- a candidate adds one thing alone
+abbrev pub EntryIsOne : Type 0
+EntryIsOne =
+    (show_errors : Bool) (objects : List Object) (e f : Entry) → e.candidate ≡ f.candidate →
+    IsEntry show_errors objects e → IsEntry show_errors objects f → e ≡ f
+
+-- an export of objects is one
+abbrev pub ExportIsOne : Type 0
+ExportIsOne =
+    (settings : ExportSettings) (objects : List Object) (v w : Whole) → IsExport settings objects v →
+    IsExport settings objects w → v ≡ w
+
+-- what is right for a job over the texts of its inputs is one list of what is written, and one
+-- ending, alone
+abbrev pub WholeIsOne : Type 0
+WholeIsOne =
+    (job : Job) (texts : Texts (inputs_of job)) (v w : Whole) →
+    IsWhole job texts v → IsWhole job texts w → v ≡ w
+
+-- both texts are read as the same
+abbrev pub IsReadAlike : List ℕ → List ℕ → Type 0
+IsReadAlike text more =
+    (r : Result (List Object) ReadError)
+    × IsReadAs input_limit longest_line text r × IsReadAs input_limit longest_line more r
+
+-- each of these texts is read as the other one of its name is
+abbrev pub AreReadAlike : (names : List (List ℕ)) → Texts names → Texts names → Type 0
+AreReadAlike [] texts more = Unit {0}
+AreReadAlike (name ∷ names) texts more =
+    IsReadAlike texts.0 more.0 × AreReadAlike names texts.1 more.1
+
+-- it depends on the objects of the inputs alone: it is the same for inputs that are read as the
+-- same objects, however they are spelled, and for inputs that are refused alike
+abbrev pub ObjectsTellTheWhole : Type 0
+ObjectsTellTheWhole =
+    (job : Job) (texts more : Texts (inputs_of job)) (v w : Whole) →
+    AreReadAlike (inputs_of job) texts more → IsWhole job texts v → IsWhole job more w → v ≡ w
+
+-- For each words and texts of their inputs there is exactly one right list of what is written, to
+-- the output and to the report, in order, and one ending. Every run with these words over these
+-- texts, on whatever host, writes a prefix of that list, and unless the host or memory failed all
+-- of it, and ends so.
+abbrev pub RunsKeepToTheWhole : Type 0
+RunsKeepToTheWhole =
+    (words : Result Job WordsFault) (texts : TextsOf words) →
+    (whole : Whole)
+    × ((other : Whole) → IsRight words texts other ↔ (other ≡ whole))
+    × AllRunsKeepTo words texts whole
+
+-- So two runs with the same words over the same texts, on whatever hosts, write the same, in the
+-- same order, and end alike, unless the host or memory failed in one of them.
+abbrev pub RunsAgree : Type 0
+RunsAgree =
+    (words : Result Job WordsFault) (texts : TextsOf words)
+    (ended : Ended) (before after : Outside) (run : Writes words ended before after)
+    (ended_2 : Ended) (before_2 after_2 : Outside) (run_2 : Writes words ended_2 before_2 after_2) →
+    AreTold before words texts → AreTold before_2 words texts →
+    is_unbroken (cause_of ended) ≡ true → is_unbroken (cause_of ended_2) ≡ true →
+    (run.written ≡ run_2.written) × (ended ≡ ended_2)
+
+-- And whatever broke them off, what one of them wrote is a prefix of what the other wrote.
+abbrev pub RunsDontPart : Type 0
+RunsDontPart =
+    (words : Result Job WordsFault) (texts : TextsOf words)
+    (ended : Ended) (before after : Outside) (run : Writes words ended before after)
+    (ended_2 : Ended) (before_2 after_2 : Outside) (run_2 : Writes words ended_2 before_2 after_2) →
+    AreTold before words texts → AreTold before_2 words texts →
+    IsFront run.written run_2.written ⊎ IsFront run_2.written run.written

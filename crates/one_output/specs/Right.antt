@@ -1,0 +1,49 @@
+-- What is right for words and the texts of their inputs, and the runs that keep to it.
+use Rattle.std.specs.Prelude.{Bool, Err, List, Ok, Result, Some, false, true, ◌≡◌}
+use Rattle.osm_host.specs.Outside.{Outside}
+use Rattle.osm_words.specs.Job.{Job}
+use Rattle.osm_words.specs.declared.fault.WordsFault.{WordsFault}
+use Rattle.osm_cli.specs.Cause.{Cause, by_input, by_itself, by_memory, by_open, by_read, by_words, by_write, cause_of}
+use Rattle.osm_cli.specs.Job.{Texts, inputs_of, told_texts}
+use Rattle.osm_cli.specs.Run.{IsFront, Writes}
+use Rattle.osm_cli.specs.Sent.{Sent}
+use Rattle.osm_cli.specs.Whole.{IsWhole, Whole, silent}
+use Rattle.osm_cli.specs.declared.ended.Ended.{Ended}
+use Rattle.osm_cli.specs.declared.ended.Ended.TheVariants.{BadWords}
+
+-- a text for each input of the job that the words ask for; nothing where they are refused
+abbrev pub TextsOf : Result Job WordsFault → Type 0
+TextsOf (Ok job) = Texts (inputs_of job)
+TextsOf (Err fault) = Unit {0}
+
+-- the names of the inputs stand for these texts outside
+abbrev pub AreTold : Outside → (words : Result Job WordsFault) → TextsOf words → Type 0
+AreTold before (Ok job) texts = told_texts before.named (inputs_of job) ≡ Some texts
+AreTold before (Err fault) texts = Unit {0}
+
+-- what is right for the job over its texts; where the words are refused, that nothing is written
+abbrev pub IsRight : (words : Result Job WordsFault) → TextsOf words → Whole → Type 0
+IsRight (Ok job) texts whole = IsWhole job texts whole
+IsRight (Err fault) texts whole = whole ≡ silent (BadWords fault)
+
+-- neither the host nor memory ended the run
+abbrev pub is_unbroken : Cause → Bool
+is_unbroken by_itself = true
+is_unbroken by_words = true
+is_unbroken by_input = true
+is_unbroken by_open = false
+is_unbroken by_read = false
+is_unbroken by_write = false
+is_unbroken by_memory = false
+
+-- a prefix of the whole was written, and unless the host or memory failed all of it, and the run
+-- ended as is right; only the last line of the report comes after it, which the ending tells
+pub record KeepsTo (whole : Whole) (ended : Ended) (written : List Sent) : Type 0 where
+  pub front : IsFront written whole.written
+  pub all : is_unbroken (cause_of ended) ≡ true → (written ≡ whole.written) × (ended ≡ whole.ended)
+
+-- every run with these words over these texts, on whatever host that tells them, keeps to the whole
+abbrev pub AllRunsKeepTo : (words : Result Job WordsFault) → TextsOf words → Whole → Type 0
+AllRunsKeepTo words texts whole =
+    (ended : Ended) (before after : Outside) (run : Writes words ended before after) →
+    AreTold before words texts → KeepsTo whole ended run.written

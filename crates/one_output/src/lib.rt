@@ -1,0 +1,42 @@
+//! What a run writes is a function of its words and the texts of its inputs: there is one right
+//! output, one report and one ending.
+//!
+//! There is no code to run here. The contract of each function is a law about the definitions of
+//! `osm_cli`, by which the contract of its `run` speaks.
+#![tactic(auto)]
+
+ghost use Rattle.one_output.specs.Laws.{EntryIsOne, ExportIsOne, ObjectsTellTheWhole, ReadingIsOne, RunsAgree, RunsDontPart, RunsKeepToTheWhole, WholeIsOne};
+
+use osm_area::outcome_exists;
+use osm_text::problem_line_exists;
+
+/// What is right for a job over the texts of its inputs is one list of what is written, and one
+/// ending, alone: each text is read as one thing, and each candidate adds one thing. It depends on
+/// the objects of the inputs alone.
+pub fn whole_is_one()
+    ensures reading { ReadingIsOne }
+    ensures entry { EntryIsOne }
+    ensures export { ExportIsOne }
+    ensures whole { WholeIsOne }
+    ensures objects { ObjectsTellTheWhole }
+{}
+
+/// For each words and texts of their inputs there is exactly one right output, report and ending;
+/// and whatever a run writes is a prefix of it, and all of it unless the host or memory failed.
+pub fn runs_keep_to_the_whole()
+    ensures { RunsKeepToTheWhole }
+{
+    outcome_exists();
+    problem_line_exists();
+}
+
+/// Two runs with the same words over the same texts, on whatever hosts, write the same and end
+/// alike, unless the host or memory failed; then what one wrote is still a prefix of what the other
+/// wrote.
+pub fn runs_agree()
+    ensures same { RunsAgree }
+    ensures fronts { RunsDontPart }
+{
+    outcome_exists();
+    problem_line_exists();
+}
