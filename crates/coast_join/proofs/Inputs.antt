@@ -1,0 +1,57 @@
+-- One more coastline way.
+use Rattle.std.proofs.Common.{◌⊎◌, inl, inr, ⊎_elim, Bool, true, false, if◌then◌else◌, nat_le, refl, subst, ◌≡◌, ℕ, ℤ, pos, ◌+◌, ◌<◌, List, [], ◌∷◌, ◌++◌, length, take, map, get_or, sym, ap, ◌∙◌}
+use Rattle.std.specs.List.{AllByRecursion, IsDistinct, flat_map}
+use Rattle.std.specs.Ordering.{int_eq}
+use Rattle.std.proofs.lemmas.Map.Keys.{IsDistinct-cons, IsDistinct-head, IsDistinct-tail}
+use Rattle.coast_join.specs.declared.way.CoastWay.{CoastWay}
+use Rattle.coast_join.proofs.Sorting.{map-map}
+use Rattle.std.proofs.lemmas.List.{flat_map_more, take_more}
+use Rattle.opl_reader.specs.declared.object.Object.{Object}
+use Rattle.coast_join.specs.declared.way.Aside.{Aside}
+use Rattle.coast_join.specs.Chains.{Line, line_of}
+use Rattle.coast_join.specs.Input.{is_empty, asides_by, asides_of, line_along, lines_by, lines_of, nodes_missing, refs_of}
+
+flat_more : {A : Type 0} (f : ℤ → List A) (ways : List ℤ) (i : ℕ) (z : ℤ) (now new : List A) → i < length ways → z ≡ get_or ways i (pos 0) → now ≡ flat_map f (take i ways) → new ≡ now ++ f z → new ≡ flat_map f (take (i + 1) ways)
+flat_more {A} f ways i z now new h e was is =
+    let more : take (i + 1) ways ≡ take i ways ++ z ∷ [] = take_more ways i (pos 0) h ∙ ap (λ (w : ℤ). take i ways ++ w ∷ []) (sym e) in
+    is ∙ (ap (λ (xs : List A). xs ++ f z) was ∙ (flat_map_more f [] (take i ways) z ∙ ap (flat_map f) (sym more)))
+
+pub lines_more : (objects : List Object) (ways refs : List ℤ) (i : ℕ) (z : ℤ) (now new : List Line) → i < length ways → z ≡ get_or ways i (pos 0) → refs ≡ refs_of objects z → now ≡ flat_map (lines_of objects) (take i ways) → new ≡ now ++ lines_by z (nodes_missing objects refs) (line_along objects refs) → new ≡ flat_map (lines_of objects) (take (i + 1) ways)
+lines_more objects ways refs i z now new h e r was is = flat_more (lines_of objects) ways i z now new h e was (is ∙ ap (λ (rs : List ℤ). now ++ lines_by z (nodes_missing objects rs) (line_along objects rs)) r)
+
+pub asides_more : (objects : List Object) (ways refs : List ℤ) (i : ℕ) (z : ℤ) (now new : List Aside) → i < length ways → z ≡ get_or ways i (pos 0) → refs ≡ refs_of objects z → now ≡ flat_map (asides_of objects) (take i ways) → new ≡ now ++ asides_by z (nodes_missing objects refs) (line_along objects refs) → new ≡ flat_map (asides_of objects) (take (i + 1) ways)
+asides_more objects ways refs i z now new h e r was is = flat_more (asides_of objects) ways i z now new h e was (is ∙ ap (λ (rs : List ℤ). now ++ asides_by z (nodes_missing objects rs) (line_along objects rs)) r)
+
+-- ---- the ids of the ways that take part differ
+
+module _ (objects : List Object) where
+  abbrev line_ids : List ℤ → List ℤ
+  line_ids ways = map (λ (l : Line). l.id) (flat_map (lines_of objects) ways)
+
+  -- a way's line, if it has one, has its id
+  one_line : (way : ℤ) (rest : List Line) → (map (λ (l : Line). l.id) (lines_of objects way ++ rest) ≡ map (λ (l : Line). l.id) rest) ⊎ (map (λ (l : Line). l.id) (lines_of objects way ++ rest) ≡ way ∷ map (λ (l : Line). l.id) rest)
+  one_line way rest = by (is_empty (nodes_missing objects (refs_of objects way))) (nat_le 2 (length (line_along objects (refs_of objects way))))
+    where
+      lines : Bool → Bool → List Line
+      lines a b = if a then (if b then record { id = way; path = line_along objects (refs_of objects way) } ∷ [] else []) else []
+
+      by : (a b : Bool) → (map (λ (l : Line). l.id) ((if a then (if b then record { id = way; path = line_along objects (refs_of objects way) } ∷ [] else []) else []) ++ rest) ≡ map (λ (l : Line). l.id) rest) ⊎ (map (λ (l : Line). l.id) ((if a then (if b then record { id = way; path = line_along objects (refs_of objects way) } ∷ [] else []) else []) ++ rest) ≡ way ∷ map (λ (l : Line). l.id) rest)
+      by false b = inl refl
+      by true false = inl refl
+      by true true = inr refl
+
+  kept_apart : (x : ℤ) (ways : List ℤ) → AllByRecursion (λ y. int_eq x y ≡ false) ways → AllByRecursion (λ y. int_eq x y ≡ false) (line_ids ways)
+  kept_apart x [] h = h
+  kept_apart x (w ∷ ways) h =
+      let P : List ℤ → Type 0 = AllByRecursion (λ y. int_eq x y ≡ false) in
+      let rest = kept_apart x ways h.1 in
+      ⊎_elim (λ e. subst P (sym e) rest) (λ e. subst P (sym e) (h.0, rest)) (one_line w (flat_map (lines_of objects) ways))
+
+  pub lines_apart : (ways : List ℤ) → IsDistinct int_eq ways → IsDistinct int_eq (line_ids ways)
+  lines_apart [] h = h
+  lines_apart (w ∷ ways) h =
+      let rest = lines_apart ways (IsDistinct-tail int_eq w ways h) in
+      ⊎_elim (λ e. subst (IsDistinct int_eq) (sym e) rest) (λ e. subst (IsDistinct int_eq) (sym e) (IsDistinct-cons int_eq w (line_ids ways) (kept_apart w ways (IsDistinct-head int_eq w ways h)) rest)) (one_line w (flat_map (lines_of objects) ways))
+
+  pub ways_apart : (ways : List CoastWay) (ids : List ℤ) → map line_of ways ≡ flat_map (lines_of objects) ids → IsDistinct int_eq ids → IsDistinct int_eq (map (λ (w : CoastWay). w.id) ways)
+  ways_apart ways ids e h = subst (IsDistinct int_eq) (sym (ap (map (λ (l : Line). l.id)) e) ∙ map-map (λ (l : Line). l.id) line_of ways) (lines_apart ids h)

@@ -1,0 +1,11 @@
+pub mod Following
+pub mod Inputs
+pub mod Joining
+pub mod NearPairs
+pub mod OnceLemmas
+pub mod NearestFirst
+pub mod Numbering
+pub mod OneTaken
+pub mod Rounding
+pub mod Sorting
+pub mod Stepping

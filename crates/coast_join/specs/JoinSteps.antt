@@ -1,0 +1,23 @@
+-- What joining chains goes by. No public contract cites it.
+use Rattle.std.specs.Prelude.{◌≡◌, ◌↔◌, ◌<◌, ℕ, All, if◌then◌else◌, List, length, Option, Some}
+use Rattle.std.specs.List.{slice_get}
+use Rattle.orbits.specs.Orbits.{after}
+use Rattle.coast_join.specs.declared.chain.Chain.{Chain}
+use Rattle.coast_join.specs.declared.gap.Gap.{Gap}
+use Rattle.coast_join.specs.Closings.{is_open}
+use Rattle.coast_join.specs.Joined.{Leads}
+
+-- for each chain the one to which a gap leads
+pub record AreGapLinks (gaps : List Gap) (n : ℕ) (links : List (Option ℕ)) : Type 0 where
+  pub sized : length links ≡ n
+  pub exact : (i j : ℕ) → (after links i ≡ Some j) ↔ Leads gaps i j
+
+-- what each chain goes on to, of which those that take part in gaps have links
+pub record AreNextBy (links : List (Option ℕ)) (chains : List Chain) (next : List (Option ℕ)) : Type 0 where
+  pub sized : length next ≡ length chains
+  pub each : (i : ℕ) (c : Chain) → slice_get chains i ≡ Some c → after next i ≡ (if is_open c then after links i else Some i)
+
+-- places of chains, at least one
+pub record AreInside (n : ℕ) (places : List ℕ) : Type 0 where
+  pub some : 0 < length places
+  pub inside : All (λ k. k < n) places

@@ -1,0 +1,79 @@
+-- Chains joined to rings.
+use Rattle.std.specs.Prelude.{◌≡◌, ◌↔◌, ◌++◌, ◌≤ℤ◌, ℕ, ℤ, pos, neg_ℤ, Bool, false, true, not, if◌then◌else◌, List, [], ◌∷◌, length, filter, All, Contains, Option, Some, is_some}
+use Rattle.std.specs.List.{AllZip, filter_map, flat_map, list_any, slice_get}
+use Rattle.std.specs.List.Sorted.{IsPermutation, IsSortedByKey}
+use Rattle.std.specs.Ordering.{int_cmp}
+use Rattle.std.proofs.Common.{lit≤}
+use Rattle.osm_geom.specs.declared.loc.Loc.{Loc}
+use Rattle.orbits.specs.Orbits.{AreInOrder, AreOrbits, after, last}
+use Rattle.coast_join.specs.declared.chain.Chain.{Chain}
+use Rattle.coast_join.specs.declared.gap.Closings.{Closings}
+use Rattle.coast_join.specs.declared.gap.Gap.{Gap}
+use Rattle.coast_join.specs.declared.ring.CoastRing.{CoastRing}
+use Rattle.coast_join.specs.declared.ring.Joined.{Joined}
+use Rattle.coast_join.specs.ById.{id_at}
+use Rattle.coast_join.specs.Closings.{is_antarctic, is_open}
+use Rattle.coast_join.specs.Round.{once, once_round}
+
+-- a gap leads from the end of chain i to the start of chain j
+abbrev pub Leads : List Gap → ℕ → ℕ → Type 0
+Leads gaps i j = (g : Gap) × Contains gaps g × (g.from_chain ≡ i) × (g.to_chain ≡ j)
+
+-- what each chain goes on to: one that takes part in gaps to where a gap leads, and every other one, being closed, to itself
+pub record AreNext (chains : List Chain) (gaps : List Gap) (next : List (Option ℕ)) : Type 0 where
+  pub sized : length next ≡ length chains
+  pub leads : (i : ℕ) (c : Chain) → slice_get chains i ≡ Some c → is_open c ≡ true → (j : ℕ) → (after next i ≡ Some j) ↔ Leads gaps i j
+  pub stays : (i : ℕ) (c : Chain) → slice_get chains i ≡ Some c → is_open c ≡ false → after next i ≡ Some i
+
+-- the chains at places
+abbrev pub chains_at : List Chain → List ℕ → List Chain
+chains_at chains places = filter_map (slice_get chains) places
+
+abbrev pub ways_of : List Chain → List ℤ
+ways_of chains = flat_map (λ c. c.ways) chains
+
+abbrev pub paths_of : List Chain → List Loc
+paths_of chains = flat_map (λ c. c.path) chains
+
+abbrev pub south_west : Loc
+south_west = record { x = neg_ℤ (pos 1800000000); y = neg_ℤ (pos 900000000); x_in = lit≤ tt; y_in = lit≤ tt }
+
+abbrev pub south_east : Loc
+south_east = record { x = pos 1800000000; y = neg_ℤ (pos 900000000); x_in = lit≤ tt; y_in = lit≤ tt }
+
+-- the corners by which a chain round Antarctica is closed
+abbrev pub corners : List Loc
+corners = south_west ∷ (south_east ∷ [])
+
+-- an unclosed chain of chains one after the other
+pub record IsUnclosed (parts : List Chain) (chain : Chain) : Type 0 where
+  pub ways : chain.ways ≡ ways_of parts
+  pub name : chain.name ≡ id_at chain.ways 0
+  pub path : chain.path ≡ once (paths_of parts)
+  pub closed : chain.closed ≡ false
+
+-- the least id
+pub record IsLeast (ids : List ℤ) (id : ℤ) : Type 0 where
+  pub stands : Contains ids id
+  pub least : All (λ other. id ≤ℤ other) ids
+
+-- a ring of chains one after the other, that round Antarctica by the corners
+pub record IsRing (parts : List Chain) (ring : CoastRing) : Type 0 where
+  pub name : IsLeast (ways_of parts) ring.name
+  pub path : ring.path ≡ once_round (if list_any is_antarctic parts then paths_of parts ++ corners else paths_of parts)
+
+abbrev pub is_closed : List (Option ℕ) → List ℕ → Bool
+is_closed next orbit = is_some (after next (last orbit))
+
+-- what has become of chains: each orbit of what they go on to is a ring or an unclosed chain; rings stand in order of name, unclosed chains in order of their first chains
+pub record AreJoined (chains : List Chain) (closings : Closings) (joined : Joined) : Type 0 where
+  pub next : List (Option ℕ)
+  pub are_next : AreNext chains closings.gaps next
+  pub orbits : List (List ℕ)
+  pub are_orbits : AreOrbits next orbits
+  pub in_order : AreInOrder next orbits
+  pub rings : List CoastRing
+  pub each_ring : AllZip (λ o r. IsRing (chains_at chains o) r) (filter (is_closed next) orbits) rings
+  pub same : IsPermutation rings joined.rings
+  pub by_name : IsSortedByKey (λ (r : CoastRing). r.name) int_cmp joined.rings
+  pub each_unclosed : AllZip (λ o c. IsUnclosed (chains_at chains o) c) (filter (λ o. not (is_closed next o)) orbits) joined.unclosed

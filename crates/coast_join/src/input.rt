@@ -1,0 +1,148 @@
+//! The coastline ways of a store.
+
+ghost use Rattle.std.specs.Prelude.{◌≡◌, ◌≤◌, ◌++◌, ◌∷◌, [], IfOk, OnOk, filter, is_none, length, map};
+ghost use Rattle.std.specs.List.{IsDistinct, filter_map, flat_map};
+ghost use Rattle.std.specs.Ordering.{int_eq};
+ghost use Rattle.coast_join.specs.declared.way.CoastWay.{CoastWay};
+ghost use Rattle.osm_objects.specs.CoastWays.{coast_ways};
+ghost use Rattle.osm_objects.specs.Objects.{location_of};
+ghost use Rattle.coast_join.specs.declared.way.Aside.TheVariants.{Missing};
+ghost use Rattle.coast_join.specs.Chains.{line_of};
+ghost use Rattle.coast_join.specs.Line.{NeighboursDiffer};
+ghost use Rattle.coast_join.specs.Input.{asides_by, asides_of, line_along, lines_by, lines_of, nodes_missing, refs_of};
+
+use crate::repeated::each_once;
+use crate::round::once_path;
+use crate::way::{Aside, Asides, CoastWay, CoastWays};
+use indexmap::IndexSet;
+use osm_geom::{Loc, Path, orders_are_exact};
+use osm_objects::Store;
+use std::alloc::{AllocError, Global};
+
+/// The coastline ways that take part, and what keeps the others from it, each in input order.
+#[derive(Debug, Drop)]
+pub struct CoastInput {
+    pub ways: CoastWays,
+    pub aside: Asides,
+}
+
+// The references to nodes that have no location.
+fn unlocated(alloc: Global, store: &Store, refs: &[i64]) -> Result<Vec<i64>, AllocError>
+    ensures { IfOk result (λ v. v.items ≡ filter (λ id. is_none (location_of store.now id)) refs.now) }
+{
+    let mut ids = Vec::new(alloc);
+    for &id in refs {
+        if store.location(id).is_none() {
+            ids.push(id)?;
+        }
+    }
+    Ok(ids)
+}
+
+fn nodes_missing(alloc: Global, store: &Store, refs: &[i64]) -> Result<IndexSet<i64>, AllocError>
+    ensures { IfOk result (λ s. s.keys ≡ nodes_missing store.now refs.now) }
+{
+    let all = unlocated(alloc, store, refs)?;
+    each_once(alloc, &all)
+}
+
+// The locations of references; one without a location is passed over.
+fn located(alloc: Global, store: &Store, refs: &[i64]) -> Result<Vec<Loc>, AllocError>
+    ensures { IfOk result (λ v. v.items ≡ filter_map (location_of store.now) refs.now) }
+{
+    let mut locs = Vec::with_capacity(alloc, refs.len())?;
+    locs.extend(refs.iter().filter_map(|id| store.location(*id)))?;
+    Ok(locs)
+}
+
+fn line_along(alloc: Global, store: &Store, refs: &[i64]) -> Result<Path, AllocError>
+    ensures { IfOk result (λ path. path ≡ line_along store.now refs.now) }
+{
+    let locs = located(alloc, store, refs)?;
+    once_path(alloc, locs)
+}
+
+// Adds a missing node of each of these ids.
+fn add_missing(asides: &mut Asides, way: i64, nodes: &[i64]) -> Result<(), AllocError>
+    ensures { OnOk result (asides.new ≡ asides.old ++ map (Missing way) nodes.now) }
+{
+    for &node in nodes {
+        asides.push(Aside::Missing { way, node })?;
+    }
+    Ok(())
+}
+
+// Adds a way with these locations, if they are at least two, and else notes that they aren't.
+fn add_line(
+    ways: &mut CoastWays,
+    asides: &mut Asides,
+    way: i64,
+    path: Path,
+) -> Result<(), AllocError>
+    requires { NeighboursDiffer path }
+    ensures ways { OnOk result (map line_of ways.new ≡ map line_of ways.old ++ lines_by way [] path) }
+    ensures asides { OnOk result (asides.new ≡ asides.old ++ asides_by way [] path) }
+{
+    if path.as_slice().len() < 2 {
+        asides.push(Aside::Short { way })?;
+        return Ok(());
+    }
+    ways.push(CoastWay { id: way, path })?;
+    Ok(())
+}
+
+// Adds a way with these references.
+fn add_way(
+    alloc: Global,
+    store: &Store,
+    ways: &mut CoastWays,
+    asides: &mut Asides,
+    way: i64,
+    refs: &[i64],
+) -> Result<(), AllocError>
+    ensures ways { OnOk result (map line_of ways.new ≡ map line_of ways.old ++ lines_by way (nodes_missing store.now refs.now) (line_along store.now refs.now)) }
+    ensures asides { OnOk result (asides.new ≡ asides.old ++ asides_by way (nodes_missing store.now refs.now) (line_along store.now refs.now)) }
+{
+    orders_are_exact();
+    let missing = nodes_missing(alloc, store, refs)?;
+    if !missing.is_empty() {
+        return add_missing(asides, way, missing.as_slice());
+    }
+    let path = line_along(alloc, store, refs)?;
+    add_line(ways, asides, way, path)
+}
+
+// The references of a way.
+fn refs_of(store: &Store, way: i64) -> &[i64]
+    ensures { result.now ≡ refs_of store.now way }
+{
+    match store.way(way) {
+        Some(found) => found.refs.as_slice(),
+        None => &[],
+    }
+}
+
+/// The coastline ways of a store that take part, and what keeps the others from it, each in input order.
+///
+/// A way with a reference to a node that has no location is set aside with each such node; so is one of which fewer
+/// than two locations are left where equal neighbours are taken once. The error is want of memory.
+pub fn coast_input(alloc: Global, store: &Store) -> Result<CoastInput, AllocError>
+    ensures ways { IfOk result (λ input. map line_of input.ways ≡ flat_map (lines_of store.now) (coast_ways store.now)) }
+    ensures aside { IfOk result (λ input. input.aside ≡ flat_map (asides_of store.now) (coast_ways store.now)) }
+    ensures apart { IfOk result (λ input. IsDistinct int_eq (map (λ (w : CoastWay). w.id) input.ways)) }
+{
+    let mut ways = CoastWays::new(alloc);
+    let mut aside = Asides::new(alloc);
+    let coast = store.coast_ways(alloc)?;
+    for &way in &coast {
+        add_way(
+            alloc,
+            store,
+            &mut ways,
+            &mut aside,
+            way,
+            refs_of(store, way),
+        )?;
+    }
+    Ok(CoastInput { ways, aside })
+}

@@ -1,0 +1,62 @@
+//! Which way goes on to which.
+
+ghost use Rattle.std.specs.Prelude.{◌≡◌, ◌↔◌, ◌<◌, ◌^◌, ℕ, IfOk, Option, Some, length, map};
+ghost use Rattle.std.specs.List.{slice_get};
+ghost use Rattle.std.specs.BTreeMap.{get};
+ghost use Rattle.osm_geom.specs.declared.loc.Loc.{Loc};
+ghost use Rattle.coast_join.specs.Links.{before, AreNumbered, AreLinks, key_cmp};
+
+use osm_geom::{Loc, orders_are_exact};
+use std::alloc::{AllocError, Global};
+use std::collections::BTreeMap;
+
+// Each location, and how often it stands before.
+fn numbered(alloc: Global, locs: &[Loc]) -> Result<Vec<(Loc, usize)>, AllocError>
+    ensures { IfOk result (λ v. AreNumbered locs.now v.items) }
+{
+    orders_are_exact();
+    let mut stood = BTreeMap::new(alloc);
+    let mut numbered = Vec::with_capacity(alloc, locs.len())?;
+    for &loc in locs {
+        let number = stood.get(&loc).copied().unwrap_or(0usize);
+        numbered.push((loc, number))?;
+        stood.insert(loc, number + 1)?;
+    }
+    Ok(numbered)
+}
+
+// For each location, and how often it stands before, its place.
+fn places(alloc: Global, locs: &[Loc]) -> Result<BTreeMap<(Loc, usize), usize>, AllocError>
+    ensures { IfOk result (λ m. (p : Loc) (r j : ℕ) → (get key_cmp m (p, r) ≡ Some j) ↔ ((slice_get locs.now j ≡ Some p) × (before p locs.now j ≡ r))) }
+{
+    orders_are_exact();
+    let keys = numbered(alloc, locs)?;
+    let mut places = BTreeMap::new(alloc);
+    for (place, &key) in keys.iter().enumerate() {
+        places.insert(key, place)?;
+    }
+    Ok(places)
+}
+
+// What the map has at each key.
+fn found(
+    alloc: Global,
+    places: &BTreeMap<(Loc, usize), usize>,
+    keys: &[(Loc, usize)],
+) -> Result<Vec<Option<usize>>, AllocError>
+    ensures { IfOk result (λ v. v.items ≡ map (get key_cmp places.now) keys.now) }
+{
+    keys.iter()
+        .map(|key| places.get(key).copied())
+        .collect(alloc)
+}
+
+/// For each way the one that it goes on to: at each location the i-th that ends there goes on to the i-th that
+/// starts there. Told are the locations at which the ways end, and those at which they start.
+pub fn links(alloc: Global, ends: &[Loc], starts: &[Loc]) -> Result<Vec<Option<usize>>, AllocError>
+    ensures { IfOk result (λ v. AreLinks ends.now starts.now v.items) }
+{
+    let places = places(alloc, starts)?;
+    let keys = numbered(alloc, ends)?;
+    found(alloc, &places, &keys)
+}

@@ -1,0 +1,101 @@
+//! What has become of chains once gaps are closed.
+
+ghost use Rattle.std.specs.Prelude.{◌≡◌, ◌<◌, not, All, IfOk, OnOk, filter, length, map, ℕ};
+ghost use Rattle.std.specs.List.{AllZip};
+ghost use Rattle.std.specs.List.Sorted.{IsPermutation, IsSortedByKey};
+ghost use Rattle.std.specs.Ordering.{int_cmp};
+ghost use Rattle.coast_join.specs.declared.chain.Chain.{Chain};
+ghost use Rattle.coast_join.specs.declared.ring.CoastRing.{CoastRing};
+ghost use Rattle.coast_join.specs.Closings.{AreClosings};
+ghost use Rattle.coast_join.specs.Joined.{AreJoined, IsRing, IsUnclosed, chains_at, is_closed};
+ghost use Rattle.coast_join.specs.JoinSteps.{AreInside};
+
+use crate::chain::{Chain, Chains};
+use crate::gap::Closings;
+use crate::ring::{CoastRing, CoastRings, Joined};
+use crate::ring_making::{gap_links, next_chains, ring_of, unclosed_of};
+use orbits::{each_stands_once, orbits};
+use std::alloc::{AllocError, Global};
+
+// Whether the last chain of an orbit goes on.
+fn is_closed(next: &[Option<usize>], orbit: &[usize]) -> bool
+    requires some { 0 < length orbit.now }
+    requires inside { All (λ k. k < length next.now) orbit.now }
+    ensures { result ≡ is_closed next.now orbit.now }
+{
+    let end = orbit[orbit.len() - 1];
+    next[end].is_some()
+}
+
+// The unclosed chains, in order of their first chains.
+fn unclosed(
+    alloc: Global,
+    chains: &[Chain],
+    next: &[Option<usize>],
+    orbits: &[Vec<usize>],
+) -> Result<Chains, AllocError>
+    requires sized { length next.now ≡ length chains.now }
+    requires inside { All (AreInside (length chains.now)) (map (λ o. o.items) orbits.now) }
+    ensures { IfOk result (λ v. AllZip (λ o c. IsUnclosed (chains_at chains.now o) c) (filter (λ o. not (is_closed next.now o)) (map (λ o. o.items) orbits.now)) v) }
+{
+    let mut unclosed = Chains::new(alloc);
+    for orbit in orbits {
+        if !is_closed(next, orbit) {
+            unclosed.push(unclosed_of(alloc, chains, orbit)?)?;
+        }
+    }
+    Ok(unclosed)
+}
+
+// The rings, in order of their first chains.
+fn rings(
+    alloc: Global,
+    chains: &[Chain],
+    next: &[Option<usize>],
+    orbits: &[Vec<usize>],
+) -> Result<Vec<CoastRing>, AllocError>
+    requires sized { length next.now ≡ length chains.now }
+    requires inside { All (AreInside (length chains.now)) (map (λ o. o.items) orbits.now) }
+    ensures { IfOk result (λ v. AllZip (λ o r. IsRing (chains_at chains.now o) r) (filter (is_closed next.now) (map (λ o. o.items) orbits.now)) v.items) }
+{
+    let mut rings = Vec::new(alloc);
+    for orbit in orbits {
+        if is_closed(next, orbit) {
+            rings.push(ring_of(alloc, chains, orbit)?)?;
+        }
+    }
+    Ok(rings)
+}
+
+// Rings in order of name.
+fn by_name(mut rings: Vec<CoastRing>) -> Result<CoastRings, AllocError>
+    ensures same { IfOk result (λ v. IsPermutation rings.items v) }
+    ensures by_name { IfOk result (λ v. IsSortedByKey (λ (r : CoastRing). r.name) int_cmp v) }
+{
+    rings.sort_by_key(|ring| ring.name)?;
+    Ok(CoastRings::of_vec(rings))
+}
+
+/// What has become of chains once gaps are closed: the rings, and the chains that are still unclosed.
+///
+/// A ring is named by the least of its ways and begins with the chain of the least name; one round Antarctica ends
+/// with the two corners. The error is want of memory.
+pub fn closed_rings(
+    alloc: Global,
+    chains: &[Chain],
+    closings: &Closings,
+) -> Result<Joined, AllocError>
+    requires { (limit : ℕ) × AreClosings chains.now limit closings.now }
+    ensures { IfOk result (λ joined. AreJoined chains.now closings.now joined) }
+{
+    each_stands_once();
+    let links = gap_links(alloc, closings.gaps.as_slice(), chains.len())?;
+    let next = next_chains(alloc, chains, &links)?;
+    let orbits = orbits(alloc, &next)?;
+    let unclosed = unclosed(alloc, chains, &next, &orbits)?;
+    let rings = rings(alloc, chains, &next, &orbits)?;
+    Ok(Joined {
+        rings: by_name(rings)?,
+        unclosed,
+    })
+}

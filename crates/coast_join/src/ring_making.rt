@@ -1,0 +1,203 @@
+//! Chains joined to rings.
+
+ghost use Rattle.std.specs.Prelude.{◌≡◌, ◌≢◌, ◌<◌, ◌++◌, if◌then◌else◌, All, AllPairs, IfOk, OnOk, Some, length, ℤ};
+ghost use Rattle.std.specs.List.{list_any, range_with_len};
+ghost use Rattle.osm_geom.specs.declared.loc.Loc.{Loc};
+ghost use Rattle.coast_join.specs.declared.chain.Chain.{Chain};
+ghost use Rattle.coast_join.specs.declared.gap.Gap.{Gap};
+ghost use Rattle.coast_join.specs.Closings.{is_antarctic, is_open};
+ghost use Rattle.coast_join.specs.Joined.{IsLeast, IsRing, IsUnclosed, chains_at, corners, paths_of, south_east, south_west, ways_of};
+ghost use Rattle.coast_join.specs.JoinSteps.{AreGapLinks, AreNextBy};
+ghost use Rattle.coast_join.specs.Line.{IsLine};
+ghost use Rattle.coast_join.specs.Round.{once, once_round};
+
+use crate::chain::Chain;
+use crate::closing::{is_antarctic, is_open};
+use crate::gap::Gap;
+use crate::ring::CoastRing;
+use crate::round::{once_path, round_path};
+use osm_geom::{Ids, Loc, orders_are_exact};
+use std::alloc::{AllocError, Global};
+
+// For each chain the one to which a gap leads from its end.
+pub(crate) fn gap_links(
+    alloc: Global,
+    gaps: &[Gap],
+    chains: usize,
+) -> Result<Vec<Option<usize>>, AllocError>
+    requires from { All (λ (g : Gap). g.from_chain < chains) gaps.now }
+    requires apart { AllPairs (λ (g : Gap) (h : Gap). g.from_chain ≢ h.from_chain) gaps.now }
+    ensures { IfOk result (λ v. AreGapLinks gaps.now chains v.items) }
+{
+    let mut links = vec![in alloc; None; chains]?;
+    for &gap in gaps {
+        links[gap.from_chain] = Some(gap.to_chain);
+    }
+    Ok(links)
+}
+
+fn goes_on(chain: &Chain, link: Option<usize>, place: usize) -> Option<usize>
+    ensures { result ≡ (if is_open chain.now then link else Some place) }
+{
+    if is_open(chain) { link } else { Some(place) }
+}
+
+// What each chain goes on to.
+pub(crate) fn next_chains(
+    alloc: Global,
+    chains: &[Chain],
+    links: &[Option<usize>],
+) -> Result<Vec<Option<usize>>, AllocError>
+    requires { length links.now ≡ length chains.now }
+    ensures { IfOk result (λ v. AreNextBy links.now chains.now v.items) }
+{
+    let mut next = Vec::with_capacity(alloc, chains.len())?;
+    for (place, chain) in chains.iter().enumerate() {
+        next.push(goes_on(chain, links[place], place))?;
+    }
+    Ok(next)
+}
+
+// Adds the ids of a chain's ways.
+fn add_ids(ids: &mut Ids, more: &[i64]) -> Result<(), AllocError>
+    ensures { OnOk result (ids.new ≡ ids.old ++ more.now) }
+{
+    for &id in more {
+        ids.push(id)?;
+    }
+    Ok(())
+}
+
+// The ids of the ways of the chains at these places.
+fn ids_at(alloc: Global, chains: &[Chain], places: &[usize]) -> Result<Ids, AllocError>
+    requires { All (λ k. k < length chains.now) places.now }
+    ensures { IfOk result (λ ids. ids ≡ ways_of (chains_at chains.now places.now)) }
+{
+    let mut ids = Ids::new(alloc);
+    for &place in places {
+        add_ids(&mut ids, chains[place].ways.as_slice())?;
+    }
+    Ok(ids)
+}
+
+// The paths of the chains at these places one after the other.
+fn paths_at(alloc: Global, chains: &[Chain], places: &[usize]) -> Result<Vec<Loc>, AllocError>
+    requires { All (λ k. k < length chains.now) places.now }
+    ensures { IfOk result (λ v. v.items ≡ paths_of (chains_at chains.now places.now)) }
+{
+    let mut locs = Vec::new(alloc);
+    for &place in places {
+        locs.extend_from_slice(chains[place].path.as_slice())?;
+    }
+    Ok(locs)
+}
+
+// The unclosed chain of the chains at these places.
+pub(crate) fn unclosed_of(
+    alloc: Global,
+    chains: &[Chain],
+    places: &[usize],
+) -> Result<Chain, AllocError>
+    requires some { 0 < length places.now }
+    requires inside { All (λ k. k < length chains.now) places.now }
+    ensures { IfOk result (λ chain. IsUnclosed (chains_at chains.now places.now) chain) }
+{
+    orders_are_exact();
+    let ways = ids_at(alloc, chains, places)?;
+    let locs = paths_at(alloc, chains, places)?;
+    let path = once_path(alloc, locs)?;
+    let name = ways.as_slice()[0];
+    Ok(Chain {
+        name,
+        ways,
+        path,
+        closed: false,
+    })
+}
+
+// The least id.
+fn least(ids: &[i64]) -> i64
+    requires { 0 < length ids.now }
+    ensures { IsLeast ids.now result }
+{
+    let mut best = 0;
+    for place in 1..ids.len() {
+        if ids[place] < ids[best] {
+            best = place;
+        }
+    }
+    ids[best]
+}
+
+// Whether a chain at these places runs round Antarctica.
+fn any_antarctic(chains: &[Chain], places: &[usize]) -> bool
+    requires { All (λ k. k < length chains.now) places.now }
+    ensures { result ≡ list_any is_antarctic (chains_at chains.now places.now) }
+{
+    for &place in places {
+        if is_antarctic(&chains[place]) {
+            return true;
+        }
+    }
+    false
+}
+
+fn south_west() -> Loc
+    ensures { result ≡ south_west }
+{
+    orders_are_exact();
+    Loc {
+        x: -1_800_000_000,
+        y: -900_000_000,
+    }
+}
+
+fn south_east() -> Loc
+    ensures { result ≡ south_east }
+{
+    orders_are_exact();
+    Loc {
+        x: 1_800_000_000,
+        y: -900_000_000,
+    }
+}
+
+// The corners of the world by which a chain round Antarctica is closed.
+fn add_corners(locs: &mut Vec<Loc>) -> Result<(), AllocError>
+    ensures { OnOk result (locs.new.items ≡ locs.old.items ++ corners) }
+{
+    locs.push(south_west())?;
+    locs.push(south_east())?;
+    Ok(())
+}
+
+// The locations of the ring of the chains at these places.
+fn ring_locs(alloc: Global, chains: &[Chain], places: &[usize]) -> Result<Vec<Loc>, AllocError>
+    requires { All (λ k. k < length chains.now) places.now }
+    ensures { IfOk result (λ v. v.items ≡ (if list_any is_antarctic (chains_at chains.now places.now) then paths_of (chains_at chains.now places.now) ++ corners else paths_of (chains_at chains.now places.now))) }
+{
+    let mut locs = paths_at(alloc, chains, places)?;
+    if !any_antarctic(chains, places) {
+        return Ok(locs);
+    }
+    add_corners(&mut locs)?;
+    Ok(locs)
+}
+
+// The ring of the chains at these places.
+pub(crate) fn ring_of(
+    alloc: Global,
+    chains: &[Chain],
+    places: &[usize],
+) -> Result<CoastRing, AllocError>
+    requires some { 0 < length places.now }
+    requires inside { All (λ k. k < length chains.now) places.now }
+    ensures { IfOk result (λ ring. IsRing (chains_at chains.now places.now) ring) }
+{
+    orders_are_exact();
+    let ways = ids_at(alloc, chains, places)?;
+    let locs = ring_locs(alloc, chains, places)?;
+    let path = round_path(alloc, locs)?;
+    let name = least(ways.as_slice());
+    Ok(CoastRing { name, path })
+}

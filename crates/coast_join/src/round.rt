@@ -1,0 +1,62 @@
+//! Lines without equal neighbours.
+
+ghost use Rattle.std.specs.Prelude.{◌≡◌, ◌≤◌, IfOk, length};
+ghost use Rattle.coast_join.specs.Round.{is_same, once, once_round, opened};
+ghost use Rattle.coast_join.specs.Line.{first_of, last_of};
+
+use osm_geom::{Loc, Path};
+use std::alloc::{AllocError, Global};
+
+fn is_same(p: Loc, q: Loc) -> bool
+    ensures { result ≡ is_same p q }
+{
+    p == q
+}
+
+fn path_of(alloc: Global, locs: &[Loc]) -> Result<Path, AllocError>
+    ensures { IfOk result (λ path. path ≡ locs.now) }
+{
+    let mut path = Path::new(alloc);
+    for &loc in locs {
+        path.push(loc)?;
+    }
+    Ok(path)
+}
+
+// Equal neighbours taken once.
+fn once(mut locs: Vec<Loc>) -> Vec<Loc>
+    ensures { result.items ≡ once locs.items }
+{
+    locs.dedup();
+    locs
+}
+
+// Without the last location, where it is the first again.
+fn opened(locs: &[Loc]) -> &[Loc]
+    requires { 1 ≤ length locs.now }
+    ensures { result.now ≡ opened locs.now }
+{
+    let end = locs.len() - 1;
+    if is_same(locs[end], locs[0]) {
+        &locs[..end]
+    } else {
+        locs
+    }
+}
+
+/// The line of locations with equal neighbours taken once.
+pub(crate) fn once_path(alloc: Global, locs: Vec<Loc>) -> Result<Path, AllocError>
+    ensures { IfOk result (λ path. path ≡ once locs.items) }
+{
+    let line = once(locs);
+    path_of(alloc, &line)
+}
+
+/// The closed line of locations with equal neighbours taken once, the last and the first included.
+pub(crate) fn round_path(alloc: Global, locs: Vec<Loc>) -> Result<Path, AllocError>
+    requires { 1 ≤ length (once locs.items) }
+    ensures { IfOk result (λ path. path ≡ once_round locs.items) }
+{
+    let line = once(locs);
+    path_of(alloc, opened(&line))
+}

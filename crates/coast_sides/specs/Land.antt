@@ -1,0 +1,29 @@
+-- Land.
+use Rattle.std.specs.Prelude.{◌≡◌, ◌%◌, List, Contains, None, ℤ, pos}
+use Rattle.plane.specs.Sign.{Plus, sign}
+use Rattle.plane.specs.Vector.{Vector, east}
+use Rattle.winding.specs.EdgeList.{crossing_count}
+use Rattle.winding.specs.ScaledEdges.{scaled_edges}
+use Rattle.osm_geom.specs.declared.edge.Edge.{Edge}
+use Rattle.osm_geom.specs.declared.seg.Seg.{Seg}
+use Rattle.osm_geom.specs.Conflict.{conflict_of}
+use Rattle.osm_segments.specs.Counts.{AreSurvivors}
+use Rattle.osm_sides.specs.Directions.{AreDirected}
+use Rattle.osm_sides.specs.Survivors.{edges_of}
+use Rattle.sided.specs.Sided.{IsSided, signed_count_at}
+
+-- no two of the segments conflict
+abbrev pub AreClear : List Seg → Type 0
+AreClear segs = (s t : Seg) → Contains segs s → Contains segs t → conflict_of s t ≡ None
+
+-- the parity of segments at the point p.x / q, p.y / q
+abbrev pub parity_at : ℤ → Vector → List Seg → ℤ
+parity_at q p segs = pos (crossing_count east p (scaled_edges q (edges_of segs)) % 2)
+
+-- the edges are what is left of the segments once pairs are cancelled, directed by the odd side; they are sided, and their signed count is the parity of the segments, before cancelling, at every point
+pub record IsLand (segs : List Seg) (edges : List Edge) : Type 0 where
+  pub survivors : List Seg
+  pub left : AreSurvivors segs survivors
+  pub directed : AreDirected survivors edges
+  pub sided : IsSided edges
+  pub parity : (q : ℤ) → sign q ≡ Plus → (p : Vector) → signed_count_at q p edges ≡ parity_at q p segs

@@ -1,0 +1,5 @@
+pub mod Segments
+pub mod Laws
+pub mod Land
+pub mod Water
+pub mod WorldSides

@@ -1,0 +1,39 @@
+//! Land: what is left of the rings, directed.
+
+ghost use Rattle.std.specs.Prelude.{◌≡◌, ◌++◌, IfOk, OnOk};
+ghost use Rattle.coast_join.specs.declared.ring.CoastRing.{CoastRing};
+ghost use Rattle.coast_sides.specs.Segments.{all_segments};
+ghost use Rattle.coast_sides.specs.Land.{AreClear, IsLand};
+
+use crate::sorting::{all_segments, closed_lines_are_even};
+use coast_join::CoastRing;
+use osm_geom::{Edge, Edges, orders_are_exact};
+use osm_segments::survivors;
+use osm_sides::direct;
+use std::alloc::{AllocError, Global};
+
+// These edges as a list of their own.
+pub(crate) fn list_of(alloc: Global, edges: &[Edge]) -> Result<Edges, AllocError>
+    ensures { IfOk result (λ list. list ≡ edges.now) }
+{
+    let mut list = Edges::new(alloc);
+    for &edge in edges {
+        list.push(edge)?;
+    }
+    Ok(list)
+}
+
+/// The edges of land: what is left of the segments of rings, directed so that land is on the left.
+///
+/// No two segments of the rings conflict. The error is want of memory.
+pub fn land_edges(alloc: Global, kept: &[CoastRing]) -> Result<Edges, AllocError>
+    requires { AreClear (all_segments kept.now) }
+    ensures { IfOk result (λ edges. IsLand (all_segments kept.now) edges) }
+{
+    closed_lines_are_even();
+    orders_are_exact();
+    let segs = all_segments(alloc, kept)?;
+    let left = survivors(alloc, &segs)?;
+    let edges = direct(alloc, &left)?;
+    list_of(alloc, &edges)
+}

@@ -1,0 +1,232 @@
+-- The envelope of a list: its points lie in it, and where all points lie between two numbers so does the envelope.
+use Rattle.std.proofs.Common.{Bool, List, [], ap, arith, cond, false, get_or, inl, inr, length, take, ◌+◌, ◌++◌, pos, negsuc, refl, subst, suc, sym, true, zero, ℕ, ℤ, ◌*ℤ◌, ◌+ℤ◌, ◌-ℤ◌, ◌<◌, ◌∙◌, ◌∷◌, ◌≡◌, ◌≤◌, ◌≤ℤ◌, ◌<ℤ◌}
+use Rattle.std.specs.Int.{int_div_euclid}
+use Rattle.std.proofs.lemmas.Int.{ints}
+use Rattle.plane.specs.Sign.{Minus, Null, Plus, Sign, is_minus, sign}
+use Rattle.winding.specs.Member.{In}
+use Rattle.osm_geom.specs.declared.cut.Axis.{Axis}
+use Rattle.osm_geom.specs.declared.cut.Axis.TheVariants.{X, Y}
+use Rattle.osm_geom.specs.declared.edge.Edge.{Edge}
+use Rattle.osm_geom.specs.declared.point.Point.{Point}
+use Rattle.osm_geom.specs.Cut.{coordinate_of}
+use Rattle.osm_geom.specs.Point.{Fraction}
+use Rattle.coast_split.specs.SplitTree.{ceiling_of, floor_of, greater, high_from, high_of, lesser, low_from, low_of}
+use Rattle.plane.proofs.Identities.{lift, same, ◌⊞◌, ◌⊟◌, ◌⊠◌}
+use Rattle.plane.proofs.Signs.{plus-is, plus-times, says-at}
+use Rattle.osm_geom.proofs.PointOrders.{x_den-some, y_den-some}
+use Rattle.coast_split.proofs.Lists.{next-taken}
+
+-- ---- fractions and whole numbers
+-- a whole number is at most a fraction, and a fraction at most a whole number
+abbrev pub AtLeast : ℤ → Fraction → Type 0
+AtLeast a f = (a *ℤ pos f.den) ≤ℤ f.num
+
+abbrev pub AtMost : Fraction → ℤ → Type 0
+AtMost f b = f.num ≤ℤ (b *ℤ pos f.den)
+
+pub floor-below : (z : ℤ) (k : ℕ) → 1 ≤ k → (int_div_euclid z (pos k) *ℤ pos k) ≤ℤ z
+floor-below (pos a) k h = omega (arith, ints)
+floor-below (negsuc a) k h = omega (arith, ints)
+
+pub floor-above : (z : ℤ) (k : ℕ) → 1 ≤ k → z <ℤ (int_div_euclid z (pos k) *ℤ pos k +ℤ pos k)
+floor-above (pos a) k h = omega (arith, ints)
+floor-above (negsuc a) k h = omega (arith, ints)
+
+pub sign-pos : (k : ℕ) → 1 ≤ k → sign (pos k) ≡ Plus
+sign-pos zero h = absurd (omega arith)
+sign-pos (suc k) h = refl
+
+factor-out : (k q a : ℤ) → (q *ℤ k +ℤ k) -ℤ a *ℤ k ≡ k *ℤ ((q +ℤ pos 1) -ℤ a)
+factor-out k q a = let k' = lift k in let q' = lift q in let a' = lift a in same ((q' ⊠ k' ⊞ k') ⊟ a' ⊠ k') (k' ⊠ ((q' ⊞ lift (pos 1)) ⊟ a')) (omega arith)
+
+-- a whole number that is at most the fraction is at most its floor
+floor-most : (a z : ℤ) (k : ℕ) → 1 ≤ k → (a *ℤ pos k) ≤ℤ z → a ≤ℤ int_div_euclid z (pos k)
+floor-most a z k h g =
+    let q = int_div_euclid z (pos k) in
+    let u = floor-above z k h in
+    let p : sign ((q *ℤ pos k +ℤ pos k) -ℤ a *ℤ pos k) ≡ Plus = (plus-is _).1 (omega (arith, ints)) in
+    let r : sign ((q +ℤ pos 1) -ℤ a) ≡ Plus = sym (plus-times (pos k) ((q +ℤ pos 1) -ℤ a) (sign-pos k h)) ∙ ap sign (sym (factor-out (pos k) q a)) ∙ p in
+    let s = (plus-is _).0 r in omega (arith, ints)
+
+pub floor-is : (f : Fraction) → 1 ≤ f.den → AtLeast (floor_of f) f
+floor-is f h = floor-below f.num f.den h
+
+pub floor-from : (a : ℤ) (f : Fraction) → 1 ≤ f.den → AtLeast a f → a ≤ℤ floor_of f
+floor-from a f h g = floor-most a f.num f.den h g
+
+turned : (b k : ℤ) → (pos 0 -ℤ b) *ℤ k ≡ pos 0 -ℤ b *ℤ k
+turned b k = let b' = lift b in let k' = lift k in same ((lift (pos 0) ⊟ b') ⊠ k') (lift (pos 0) ⊟ b' ⊠ k') (omega arith)
+
+pub ceiling-is : (f : Fraction) → 1 ≤ f.den → AtMost f (ceiling_of f)
+ceiling-is f h =
+    let q = int_div_euclid (pos 0 -ℤ f.num) (pos f.den) in
+    let a = floor-below (pos 0 -ℤ f.num) f.den h in let t = turned q (pos f.den) in omega (arith, ints)
+
+pub ceiling-from : (b : ℤ) (f : Fraction) → 1 ≤ f.den → AtMost f b → ceiling_of f ≤ℤ b
+ceiling-from b f h g =
+    let t = turned b (pos f.den) in
+    let m : ((pos 0 -ℤ b) *ℤ pos f.den) ≤ℤ (pos 0 -ℤ f.num) = omega (arith, ints) in
+    let a = floor-most (pos 0 -ℤ b) (pos 0 -ℤ f.num) f.den h m in omega (arith, ints)
+
+-- ---- the lesser and the greater of two
+lesser-by : (a b : ℤ) (s : Sign) → sign (a -ℤ b) ≡ s → ((cond (is_minus s) a b) ≤ℤ a) × ((cond (is_minus s) a b) ≤ℤ b)
+lesser-by a b Minus h = let k = says-at Minus (a -ℤ b) h in (omega (arith, ints), omega (arith, ints))
+lesser-by a b Null h = let k = says-at Null (a -ℤ b) h in (omega (arith, ints), omega (arith, ints))
+lesser-by a b Plus h = let k = says-at Plus (a -ℤ b) h in (omega (arith, ints), omega (arith, ints))
+
+pub lesser-is : (a b : ℤ) → (lesser a b ≤ℤ a) × (lesser a b ≤ℤ b)
+lesser-is a b = lesser-by a b (sign (a -ℤ b)) refl
+
+greater-by : (a b : ℤ) (s : Sign) → sign (a -ℤ b) ≡ s → (a ≤ℤ (cond (is_minus s) b a)) × (b ≤ℤ (cond (is_minus s) b a))
+greater-by a b Minus h = let k = says-at Minus (a -ℤ b) h in (omega (arith, ints), omega (arith, ints))
+greater-by a b Null h = let k = says-at Null (a -ℤ b) h in (omega (arith, ints), omega (arith, ints))
+greater-by a b Plus h = let k = says-at Plus (a -ℤ b) h in (omega (arith, ints), omega (arith, ints))
+
+pub greater-is : (a b : ℤ) → (a ≤ℤ greater a b) × (b ≤ℤ greater a b)
+greater-is a b = greater-by a b (sign (a -ℤ b)) refl
+
+lesser-from-by : (c a b : ℤ) (s : Bool) → c ≤ℤ a → c ≤ℤ b → c ≤ℤ cond s a b
+lesser-from-by c a b true h k = h
+lesser-from-by c a b false h k = k
+
+lesser-from : (c a b : ℤ) → c ≤ℤ a → c ≤ℤ b → c ≤ℤ lesser a b
+lesser-from c a b h k = lesser-from-by c a b (is_minus (sign (a -ℤ b))) h k
+
+greater-from-by : (c a b : ℤ) (s : Bool) → a ≤ℤ c → b ≤ℤ c → cond s b a ≤ℤ c
+greater-from-by c a b true h k = k
+greater-from-by c a b false h k = h
+
+greater-from : (c a b : ℤ) → a ≤ℤ c → b ≤ℤ c → greater a b ≤ℤ c
+greater-from c a b h k = greater-from-by c a b (is_minus (sign (a -ℤ b))) h k
+
+trans : (a b c : ℤ) → a ≤ℤ b → b ≤ℤ c → a ≤ℤ c
+trans a b c h k = omega (arith, ints)
+
+-- ---- the ends of edges
+pub den-of : (axis : Axis) (p : Point) → 1 ≤ (coordinate_of axis p).den
+den-of X p = x_den-some p
+den-of Y p = y_den-some p
+
+-- a point is between two numbers on an axis
+pub record IsIn (axis : Axis) (a b : ℤ) (p : Point) : Type 0 where
+  pub least : AtLeast a (coordinate_of axis p)
+  pub most : AtMost (coordinate_of axis p) b
+
+abbrev pub AllIn : Axis → ℤ → ℤ → List Edge → Type 0
+AllIn axis a b es = (e : Edge) → In e es → IsIn axis a b e.from × IsIn axis a b e.to
+
+difference : (a b k : ℤ) → b *ℤ k -ℤ a *ℤ k ≡ (b -ℤ a) *ℤ k
+difference a b k = let a' = lift a in let b' = lift b in let k' = lift k in same (b' ⊠ k' ⊟ a' ⊠ k') ((b' ⊟ a') ⊠ k') (omega arith)
+
+not-less : (z : ℤ) (k : ℕ) → pos 0 ≤ℤ z → pos 0 ≤ℤ (z *ℤ pos k)
+not-less (pos n) k h = omega (arith, ints)
+not-less (negsuc n) k h = absurd (omega (arith, ints))
+
+scale-by : (a b : ℤ) (k : ℕ) → a ≤ℤ b → (a *ℤ pos k) ≤ℤ (b *ℤ pos k)
+scale-by a b k h = let d = difference a b (pos k) in let n = not-less (b -ℤ a) k (omega (arith, ints)) in omega (arith, ints)
+
+module _ (axis : Axis) where
+  low-least : (a : ℤ) (es : List Edge) → low_from axis a es ≤ℤ a
+  low-least a [] = omega (arith, ints)
+  low-least a (e ∷ es) =
+      let x = floor_of (coordinate_of axis e.from) in let y = floor_of (coordinate_of axis e.to) in
+      trans (low_from axis (lesser (lesser a x) y) es) (lesser (lesser a x) y) a (low-least (lesser (lesser a x) y) es)
+      (trans (lesser (lesser a x) y) (lesser a x) a (lesser-is (lesser a x) y).0 (lesser-is a x).0)
+
+  low-each : (a : ℤ) (es : List Edge) (e : Edge) → In e es → (low_from axis a es ≤ℤ floor_of (coordinate_of axis e.from)) × (low_from axis a es ≤ℤ floor_of (coordinate_of axis e.to))
+  low-each a [] e i = absurd i
+  low-each a (d ∷ es) e (inl h) =
+      let x = floor_of (coordinate_of axis d.from) in let y = floor_of (coordinate_of axis d.to) in
+      let l = low_from axis (lesser (lesser a x) y) es in
+      let m = low-least (lesser (lesser a x) y) es in
+      subst (λ (c : Edge). (l ≤ℤ floor_of (coordinate_of axis c.from)) × (l ≤ℤ floor_of (coordinate_of axis c.to))) (sym h) (
+        trans l (lesser (lesser a x) y) x m (trans (lesser (lesser a x) y) (lesser a x) x (lesser-is (lesser a x) y).0 (lesser-is a x).1),
+        trans l (lesser (lesser a x) y) y m (lesser-is (lesser a x) y).1,
+      )
+  low-each a (d ∷ es) e (inr i) = low-each (lesser (lesser a (floor_of (coordinate_of axis d.from))) (floor_of (coordinate_of axis d.to))) es e i
+
+  high-most : (a : ℤ) (es : List Edge) → a ≤ℤ high_from axis a es
+  high-most a [] = omega (arith, ints)
+  high-most a (e ∷ es) =
+      let x = ceiling_of (coordinate_of axis e.from) in let y = ceiling_of (coordinate_of axis e.to) in
+      trans a (greater (greater a x) y) (high_from axis (greater (greater a x) y) es)
+      (trans a (greater a x) (greater (greater a x) y) (greater-is a x).0 (greater-is (greater a x) y).0)
+      (high-most (greater (greater a x) y) es)
+
+  high-each : (a : ℤ) (es : List Edge) (e : Edge) → In e es → (ceiling_of (coordinate_of axis e.from) ≤ℤ high_from axis a es) × (ceiling_of (coordinate_of axis e.to) ≤ℤ high_from axis a es)
+  high-each a [] e i = absurd i
+  high-each a (d ∷ es) e (inl h) =
+      let x = ceiling_of (coordinate_of axis d.from) in let y = ceiling_of (coordinate_of axis d.to) in
+      let l = high_from axis (greater (greater a x) y) es in
+      let m = high-most (greater (greater a x) y) es in
+      subst (λ (c : Edge). (ceiling_of (coordinate_of axis c.from) ≤ℤ l) × (ceiling_of (coordinate_of axis c.to) ≤ℤ l)) (sym h) (
+        trans x (greater (greater a x) y) l (trans x (greater a x) (greater (greater a x) y) (greater-is a x).1 (greater-is (greater a x) y).0) m,
+        trans y (greater (greater a x) y) l (greater-is (greater a x) y).1 m,
+      )
+  high-each a (d ∷ es) e (inr i) = high-each (greater (greater a (ceiling_of (coordinate_of axis d.from))) (ceiling_of (coordinate_of axis d.to))) es e i
+
+  scale : (a b : ℤ) (k : ℕ) → a ≤ℤ b → (a *ℤ pos k) ≤ℤ (b *ℤ pos k)
+  scale a b k h = scale-by a b k h
+
+  at-least : (a b : ℤ) (g : Fraction) → a ≤ℤ b → AtLeast b g → AtLeast a g
+  at-least a b g h k = trans (a *ℤ pos g.den) (b *ℤ pos g.den) g.num (scale a b g.den h) k
+
+  at-most : (a b : ℤ) (g : Fraction) → a ≤ℤ b → AtMost g a → AtMost g b
+  at-most a b g h k = trans g.num (a *ℤ pos g.den) (b *ℤ pos g.den) k (scale a b g.den h)
+
+  -- a list lies in its envelope
+  in-envelope-by : (e0 : Edge) (es : List Edge) (p : Point) → low_of axis (e0 ∷ es) ≤ℤ floor_of (coordinate_of axis p) → ceiling_of (coordinate_of axis p) ≤ℤ high_of axis (e0 ∷ es) → IsIn axis (low_of axis (e0 ∷ es)) (high_of axis (e0 ∷ es)) p
+  in-envelope-by e0 es p h k = record {
+    least = at-least (low_of axis (e0 ∷ es)) (floor_of (coordinate_of axis p)) (coordinate_of axis p) h (floor-is (coordinate_of axis p) (den-of axis p));
+    most = at-most (ceiling_of (coordinate_of axis p)) (high_of axis (e0 ∷ es)) (coordinate_of axis p) k (ceiling-is (coordinate_of axis p) (den-of axis p));
+  }
+
+  pub in-envelope : (es : List Edge) → AllIn axis (low_of axis es) (high_of axis es) es
+  in-envelope [] e i = absurd i
+  in-envelope (e0 ∷ es) e i =
+      let l = low-each (floor_of (coordinate_of axis e0.from)) (e0 ∷ es) e i in let h = high-each (ceiling_of (coordinate_of axis e0.from)) (e0 ∷ es) e i in
+      (in-envelope-by e0 es e.from l.0 h.0, in-envelope-by e0 es e.to l.1 h.1)
+
+  -- where all points lie between two numbers, so does the envelope
+  low-bound : (c a : ℤ) (es : List Edge) → c ≤ℤ a → ((e : Edge) → In e es → AtLeast c (coordinate_of axis e.from) × AtLeast c (coordinate_of axis e.to)) → c ≤ℤ low_from axis a es
+  low-bound c a [] h k = h
+  low-bound c a (e ∷ es) h k =
+      let x = coordinate_of axis e.from in let y = coordinate_of axis e.to in let g = k e (inl refl) in
+      low-bound c (lesser (lesser a (floor_of x)) (floor_of y)) es
+      (lesser-from c (lesser a (floor_of x)) (floor_of y) (lesser-from c a (floor_of x) h (floor-from c x (den-of axis e.from) g.0)) (floor-from c y (den-of axis e.to) g.1))
+      (λ d i. k d (inr i))
+
+  high-bound : (c a : ℤ) (es : List Edge) → a ≤ℤ c → ((e : Edge) → In e es → AtMost (coordinate_of axis e.from) c × AtMost (coordinate_of axis e.to) c) → high_from axis a es ≤ℤ c
+  high-bound c a [] h k = h
+  high-bound c a (e ∷ es) h k =
+      let x = coordinate_of axis e.from in let y = coordinate_of axis e.to in let g = k e (inl refl) in
+      high-bound c (greater (greater a (ceiling_of x)) (ceiling_of y)) es
+      (greater-from c (greater a (ceiling_of x)) (ceiling_of y) (greater-from c a (ceiling_of x) h (ceiling-from c x (den-of axis e.from) g.0)) (ceiling-from c y (den-of axis e.to) g.1))
+      (λ d i. k d (inr i))
+
+  pub envelope-in : (a b : ℤ) (e : Edge) (es : List Edge) → AllIn axis a b (e ∷ es) → (a ≤ℤ low_of axis (e ∷ es)) × (high_of axis (e ∷ es) ≤ℤ b)
+  envelope-in a b e es h =
+      let g = h e (inl refl) in (
+        low-bound a (floor_of (coordinate_of axis e.from)) (e ∷ es) (floor-from a (coordinate_of axis e.from) (den-of axis e.from) g.0.least) (λ d i. ((h d i).0.least, (h d i).1.least)),
+        high-bound b (ceiling_of (coordinate_of axis e.from)) (e ∷ es) (ceiling-from b (coordinate_of axis e.from) (den-of axis e.from) g.0.most) (λ d i. ((h d i).0.most, (h d i).1.most)),
+      )
+
+-- ---- one edge more
+low-more : (axis : Axis) (a : ℤ) (es : List Edge) (e : Edge) → low_from axis a (es ++ e ∷ []) ≡ lesser (lesser (low_from axis a es) (floor_of (coordinate_of axis e.from))) (floor_of (coordinate_of axis e.to))
+low-more axis a [] e = refl
+low-more axis a (d ∷ es) e = low-more axis (lesser (lesser a (floor_of (coordinate_of axis d.from))) (floor_of (coordinate_of axis d.to))) es e
+
+high-more : (axis : Axis) (a : ℤ) (es : List Edge) (e : Edge) → high_from axis a (es ++ e ∷ []) ≡ greater (greater (high_from axis a es) (ceiling_of (coordinate_of axis e.from))) (ceiling_of (coordinate_of axis e.to))
+high-more axis a [] e = refl
+high-more axis a (d ∷ es) e = high-more axis (greater (greater a (ceiling_of (coordinate_of axis d.from))) (ceiling_of (coordinate_of axis d.to))) es e
+
+module _ (axis : Axis) (a : ℤ) (es : List Edge) (i : ℕ) (e : Edge) (is : e ≡ get_or es i e) (inside : i < length es) (l x y m n : ℤ) where
+  pub low-step : l ≡ low_from axis a (take i es) → x ≡ floor_of (coordinate_of axis e.from) → y ≡ floor_of (coordinate_of axis e.to) → m ≡ lesser l x → n ≡ lesser m y → n ≡ low_from axis a (take (i + 1) es)
+  low-step hl hx hy hm hn =
+      hn ∙ ap (λ z. lesser z y) (hm ∙ ap (λ z. lesser z x) hl ∙ ap (lesser (low_from axis a (take i es))) hx) ∙ ap (lesser (lesser (low_from axis a (take i es)) (floor_of (coordinate_of axis e.from)))) hy
+      ∙ sym (low-more axis a (take i es) e) ∙ ap (low_from axis a) (sym (next-taken es i e is inside))
+
+  pub high-step : l ≡ high_from axis a (take i es) → x ≡ ceiling_of (coordinate_of axis e.from) → y ≡ ceiling_of (coordinate_of axis e.to) → m ≡ greater l x → n ≡ greater m y → n ≡ high_from axis a (take (i + 1) es)
+  high-step hl hx hy hm hn =
+      hn ∙ ap (λ z. greater z y) (hm ∙ ap (λ z. greater z x) hl ∙ ap (greater (high_from axis a (take i es))) hx) ∙ ap (greater (greater (high_from axis a (take i es)) (ceiling_of (coordinate_of axis e.from)))) hy
+      ∙ sym (high-more axis a (take i es) e) ∙ ap (high_from axis a) (sym (next-taken es i e is inside))

@@ -1,0 +1,134 @@
+-- How a list of edges is split: the tree of its halves, and its leaves in order.
+use Rattle.std.specs.Prelude.{All, Bool, List, [], cond, length, not, false, true, ℕ, pos, ℤ, ◌%◌, ◌&&◌, ◌++◌, ◌*◌, ◌+ℤ◌, ◌-ℤ◌, ◌+◌, ◌<◌, ◌≤◌, ◌∷◌, ◌≡◌}
+use Rattle.std.specs.Int.{int_div_euclid}
+use Rattle.plane.specs.Sign.{Null, is_minus, is_plus, sign}
+use Rattle.plane.specs.RayCrossing.{IsOffEdge}
+use Rattle.plane.specs.Scale.{scaled_point}
+use Rattle.plane.specs.Vector.{Vector}
+use Rattle.winding.specs.Member.{In}
+use Rattle.winding.specs.ScaledEdges.{scaled_edges}
+use Rattle.halving.specs.Line.{scaled_line, side}
+use Rattle.osm_geom.specs.declared.cut.Axis.{Axis}
+use Rattle.osm_geom.specs.declared.cut.Axis.TheVariants.{X, Y}
+use Rattle.osm_geom.specs.declared.cut.Cut.{Cut}
+use Rattle.osm_geom.specs.declared.cut.Side.TheVariants.{Low, High}
+use Rattle.osm_geom.specs.declared.edge.Edge.{Edge}
+use Rattle.osm_geom.specs.Cut.{coordinate_of}
+use Rattle.osm_geom.specs.Point.{Fraction}
+use Rattle.sided.specs.Multiple.{common_den, whole_edges}
+use Rattle.sided.specs.Sided.{count_at}
+use Rattle.coast_split.specs.Half.{IsHalf, line_of}
+
+-- ---- the envelope
+abbrev pub floor_of : Fraction → ℤ
+floor_of f = int_div_euclid f.num (pos f.den)
+
+abbrev pub ceiling_of : Fraction → ℤ
+ceiling_of f = pos 0 -ℤ int_div_euclid (pos 0 -ℤ f.num) (pos f.den)
+
+abbrev pub lesser : ℤ → ℤ → ℤ
+lesser a b = cond (is_minus (sign (a -ℤ b))) a b
+
+abbrev pub greater : ℤ → ℤ → ℤ
+greater a b = cond (is_minus (sign (a -ℤ b))) b a
+
+abbrev pub low_from : Axis → ℤ → List Edge → ℤ
+low_from axis a [] = a
+low_from axis a (e ∷ es) = low_from axis (lesser (lesser a (floor_of (coordinate_of axis e.from))) (floor_of (coordinate_of axis e.to))) es
+
+abbrev pub high_from : Axis → ℤ → List Edge → ℤ
+high_from axis a [] = a
+high_from axis a (e ∷ es) = high_from axis (greater (greater a (ceiling_of (coordinate_of axis e.from))) (ceiling_of (coordinate_of axis e.to))) es
+
+-- where the envelope of a list that isn't empty begins and ends on an axis: from the floor of the least coordinate to the ceiling of the greatest
+abbrev pub low_of : Axis → List Edge → ℤ
+low_of axis [] = pos 0
+low_of axis (e ∷ es) = low_from axis (floor_of (coordinate_of axis e.from)) (e ∷ es)
+
+abbrev pub high_of : Axis → List Edge → ℤ
+high_of axis [] = pos 0
+high_of axis (e ∷ es) = high_from axis (ceiling_of (coordinate_of axis e.from)) (e ∷ es)
+
+abbrev pub width_of : Axis → List Edge → ℤ
+width_of axis es = high_of axis es -ℤ low_of axis es
+
+-- the axis of the longer side, x where both are equal
+abbrev pub longer_of : List Edge → Axis
+longer_of es = cond (is_minus (sign (width_of X es -ℤ width_of Y es))) Y X
+
+-- ---- the cut
+-- where a list is cut, before the overlap
+pub record Middle : Type 0 where
+  pub axis : Axis
+  pub at : ℤ
+
+abbrev pub middle_of : List Edge → Middle
+middle_of es =
+    let axis = longer_of es in record { axis = axis; at = int_div_euclid (low_of axis es +ℤ high_of axis es) (pos 2) }
+
+-- a list with more than m edges, where m isn't 0; a leaf with more is large
+abbrev pub is_large : ℕ → List Edge → Bool
+is_large m es = not (is_plus (sign (pos 1 -ℤ pos m))) && is_plus (sign (pos (length es) -ℤ pos m))
+
+-- with m as the maximum of points and o as the overlap
+abbrev pub is_split : ℕ → ℕ → List Edge → Bool
+is_split m o es =
+    not (is_plus (sign (pos 1 -ℤ pos m)))
+    && (is_plus (sign (pos (length es) -ℤ pos m))
+    && (not (is_minus (sign (width_of (longer_of es) es -ℤ pos (8 * o)))) && not (is_minus (sign (width_of (longer_of es) es -ℤ pos 4)))))
+
+abbrev pub low_cut : Middle → ℕ → Cut
+low_cut x o = record { axis = x.axis; at = x.at +ℤ pos o }
+
+abbrev pub high_cut : Middle → ℕ → Cut
+high_cut x o = record { axis = x.axis; at = x.at -ℤ pos o }
+
+-- ---- the tree: a list that is cut has its low half and its high half
+pub data Tree : Type 0 where
+  Whole : Tree
+  Fork : List Edge → List Edge → Tree → Tree → Tree
+
+abbrev pub IsTree : ℕ → ℕ → List Edge → Tree → Type 0
+IsTree m o es Whole = is_split m o es ≡ false
+IsTree m o es (Fork low high s t) =
+    (is_split m o es ≡ true) × IsHalf (low_cut (middle_of es) o) Low es low × IsHalf (high_cut (middle_of es) o) High es high
+    × IsTree m o low s × IsTree m o high t
+
+-- the leaves in order, low halves first
+abbrev pub leaves_of : List Edge → Tree → List (List Edge)
+leaves_of es Whole = es ∷ []
+leaves_of es (Fork low high s t) = leaves_of low s ++ leaves_of high t
+
+-- ---- cover, at the point p.x / q, p.y / q
+abbrev pub Covers : ℤ → Vector → List Edge → Type 0
+Covers q p es = count_at q p es % 2 ≡ 1
+
+abbrev pub IsOffList : ℤ → Vector → List Edge → Type 0
+IsOffList q p es = All (IsOffEdge (scaled_point (pos (common_den es)) p)) (scaled_edges q (whole_edges es))
+
+-- the point is on none of the lines of the cuts in the tree
+abbrev pub IsOffCuts : ℕ → ℤ → Vector → List Edge → Tree → Type 0
+IsOffCuts o q p es Whole = Unit {0}
+IsOffCuts o q p es (Fork low high s t) =
+    (side (scaled_line q (line_of (low_cut (middle_of es) o) Low)) p ≡ Null → ⊥) × (side (scaled_line q (line_of (high_cut (middle_of es) o) High)) p ≡ Null → ⊥)
+    × IsOffCuts o q p low s × IsOffCuts o q p high t
+
+pub record SomeCovers (q : ℤ) (p : Vector) (leaves : List (List Edge)) : Type 0 where
+  pub leaf : List Edge
+  pub member : In leaf leaves
+  pub covers : Covers q p leaf
+
+-- both sides of the envelope together
+abbrev pub size_of : List Edge → ℤ
+size_of es = width_of X es +ℤ width_of Y es
+
+-- the leaves ls, after those of old, are those of a split tree with no more than most leaves together
+pub record IsSplitOnto (m o most : ℕ) (es : List Edge) (old ls : List (List Edge)) : Type 0 where
+  pub tree : Tree
+  pub is_tree : IsTree m o es tree
+  pub leaves : ls ≡ old ++ leaves_of es tree
+  pub few : length ls ≤ most
+
+-- each split tree has, with those of old, more than most leaves
+abbrev pub HasTooMany : ℕ → ℕ → ℕ → List Edge → ℕ → Type 0
+HasTooMany m o most es old = (t : Tree) → IsTree m o es t → most < old + length (leaves_of es t)

@@ -1,0 +1,59 @@
+-- The ends of parts on the line as a sorted list, and the edges that a walk along it leaves. No public contract cites it.
+use Rattle.std.specs.Prelude.{Bool, List, [], cond, false, length, true, ℕ, ◌++◌, ◌+◌, ◌-◌, ◌∷◌, ◌≡◌, ◌||◌, not}
+use Rattle.std.specs.List.Sorted.{IsPermutation, IsSortedBy}
+use Rattle.plane.specs.Sign.{Null, is_null, is_plus}
+use Rattle.winding.specs.Parity.{is_even}
+use Rattle.osm_geom.specs.declared.cut.Cut.{Cut}
+use Rattle.osm_geom.specs.declared.cut.Side.{Side}
+use Rattle.osm_geom.specs.declared.edge.Edge.{Edge}
+use Rattle.osm_geom.specs.declared.point.Point.{Point}
+use Rattle.osm_geom.specs.Cut.{cut_order}
+use Rattle.osm_geom.specs.Point.{IsInWorld}
+use Rattle.coast_split.specs.Half.{IsLink, NextLink, line_order, runs_forward}
+
+-- p, if it is on the line
+abbrev pub end_on : Cut → Point → List Point
+end_on cut p = cond (is_null (cut_order cut p)) (p ∷ []) []
+
+-- the ends of the edges that are on the line
+abbrev pub ends_on : Cut → List Edge → List Point
+ends_on cut [] = []
+ends_on cut (t ∷ ts) = end_on cut t.from ++ (end_on cut t.to ++ ends_on cut ts)
+
+-- of n ends, how many stand at the lower of two neighbours or before it, where i stand at the first of them or before it along the line
+abbrev pub up_to_lower : Cut → Side → ℕ → ℕ → ℕ
+up_to_lower cut side n i = cond (runs_forward cut.axis side) i (n - i)
+
+-- no edge stands between z, the i-th of n ends, and w, which follows: they are one, or the number of ends up to the lower is even
+abbrev pub is_skipped : Cut → Side → ℕ → ℕ → Point → Point → Bool
+is_skipped cut side n i z w = not (is_plus (line_order cut side z w)) || is_even (up_to_lower cut side n i)
+
+-- ls are the edges that a walk leaves from z, the i-th of n ends, through those that follow
+abbrev pub IsWalk : Cut → Side → ℕ → ℕ → Point → List Point → List Edge → Type 0
+IsWalk cut side n i z [] ls = ls ≡ []
+IsWalk cut side n i z (w ∷ r) ls = NextLink cut z w (is_skipped cut side n i z w) (IsWalk cut side n (i + 1) w r) ls
+
+-- the last point of a walk
+abbrev pub last_of : Point → List Point → Point
+last_of z [] = z
+last_of z (w ∷ r) = last_of w r
+
+-- the walk over a whole list
+abbrev pub AreWalked : Cut → Side → List Point → List Edge → Type 0
+AreWalked cut side [] ls = ls ≡ []
+AreWalked cut side (z ∷ r) ls = IsWalk cut side (length (z ∷ r)) 1 z r ls
+
+-- the list with the edge from z to w, unless it is skipped
+abbrev pub AddsLink : Cut → Point → Point → Bool → List Edge → List Edge → Type 0
+AddsLink cut z w true old new = new ≡ old
+AddsLink cut z w false old new = (e : Edge) × IsLink cut z w e × (new ≡ old ++ e ∷ [])
+
+-- an end on the line
+pub record IsEnd (cut : Cut) (p : Point) : Type 0 where
+  pub on_line : cut_order cut p ≡ Null
+  pub in_world : IsInWorld p
+
+-- the ends of edges on the line, in order along it
+pub record AreSortedEnds (cut : Cut) (side : Side) (ts : List Edge) (ends : List Point) : Type 0 where
+  pub moved : IsPermutation (ends_on cut ts) ends
+  pub sorted : IsSortedBy (λ (p q : Point). is_plus (line_order cut side p q)) ends

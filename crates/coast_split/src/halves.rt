@@ -1,0 +1,218 @@
+//! Halves.
+ghost use Rattle.std.specs.Prelude.{◌≡◌, ◌≢◌, ◌++◌, ◌≤◌, ◌<◌, ◌+◌, ◌^◌, [], All, IfOk, OnOk, length};
+ghost use Rattle.std.specs.Ordering.{is_lt};
+ghost use Rattle.plane.specs.Sign.{is_plus};
+ghost use Rattle.osm_geom.specs.Cut.{carrier_of_cut, cut_order};
+ghost use Rattle.osm_geom.specs.OrderLaws.{ordering_of};
+ghost use Rattle.osm_geom.specs.Point.{IsInWorld};
+ghost use Rattle.sided.specs.Sided.{IsSided};
+ghost use Rattle.coast_split.specs.Half.{ArePortions, IsHalf, IsLink, line_order, runs_forward};
+ghost use Rattle.coast_split.specs.Walk.{AddsLink, AreSortedEnds, AreWalked, IsEnd, IsWalk, end_on, ends_on, is_skipped};
+
+use crate::portion::portion;
+use osm_geom::{Axis, Carrier, Cut, Edge, Edges, Point, Side, compare_points, compare_to_cut};
+use std::alloc::{AllocError, Global};
+use std::cmp::Ordering;
+
+// The portions of those of the edges that have one.
+fn portions(alloc: Global, edges: &[Edge], cut: Cut, side: Side) -> Result<Vec<Edge>, AllocError>
+    ensures { IfOk result (λ v. ArePortions cut side edges.now v.items) }
+{
+    let mut portions = Vec::new(alloc);
+    for e in edges {
+        if let Some(t) = portion(e, cut, side) {
+            portions.push(t)?;
+        }
+    }
+    Ok(portions)
+}
+
+// Adds a point that is on the line.
+fn push_end(ends: &mut Vec<Point>, p: &Point, cut: Cut) -> Result<(), AllocError>
+    ensures { OnOk result (ends.new.items ≡ ends.old.items ++ end_on cut p.now) }
+{
+    if compare_to_cut(p, cut) == Ordering::Equal {
+        ends.push(*p)?;
+    }
+    Ok(())
+}
+
+// The ends of edges that are on the line.
+fn line_ends(alloc: Global, parts: &[Edge], cut: Cut) -> Result<Vec<Point>, AllocError>
+    ensures { IfOk result (λ v. v.items ≡ ends_on cut parts.now) }
+{
+    let mut ends = Vec::new(alloc);
+    for t in parts {
+        push_end(&mut ends, &t.from, cut)?;
+        push_end(&mut ends, &t.to, cut)?;
+    }
+    Ok(ends)
+}
+
+// Whether the side is on the left of the line where it runs in the order of points.
+fn runs_forward(axis: Axis, side: Side) -> bool
+    ensures { result ≡ runs_forward axis side }
+{
+    match axis {
+        Axis::X => match side {
+            Side::Low => true,
+            Side::High => false,
+        },
+        Axis::Y => match side {
+            Side::Low => false,
+            Side::High => true,
+        },
+    }
+}
+
+// The order of points along the line.
+#[tactic(auto, unfolding(osm_geom::specs::Point::point_cmp))]
+fn compare_along(p: Point, q: Point, cut: Cut, side: Side) -> Ordering
+    ensures { result ≡ ordering_of (line_order cut side p q) }
+{
+    if runs_forward(cut.axis, side) {
+        compare_points(p, q)
+    } else {
+        compare_points(q, p)
+    }
+}
+
+// The line as what carries edges.
+fn line_carrier(cut: Cut) -> Carrier
+    ensures { result ≡ carrier_of_cut cut }
+{
+    match cut.axis {
+        Axis::X => Carrier::Vertical(cut.at),
+        Axis::Y => Carrier::Horizontal(cut.at),
+    }
+}
+
+// The edge on the line from one end to the next.
+fn link(z: Point, w: Point, cut: Cut) -> Edge
+    requires z_end { IsEnd cut z }
+    requires w_end { IsEnd cut w }
+    requires apart { z ≢ w }
+    ensures { IsLink cut z w result }
+{
+    Edge {
+        from: z,
+        to: w,
+        carrier: line_carrier(cut),
+    }
+}
+
+// Whether no edge stands between an end and the next, of which so many are passed.
+fn is_skipped(z: Point, w: Point, passed: usize, count: usize, cut: Cut, side: Side) -> bool
+    requires { passed ≤ count }
+    ensures { result ≡ is_skipped cut side count passed z w }
+{
+    let up_to_lower = if runs_forward(cut.axis, side) {
+        passed
+    } else {
+        count - passed
+    };
+    compare_along(z, w, cut, side) != Ordering::Less || up_to_lower % 2 == 0
+}
+
+// Adds the edge from an end to the next, if one stands there.
+fn push_link(
+    links: &mut Vec<Edge>,
+    z: Point,
+    w: Point,
+    passed: usize,
+    count: usize,
+    cut: Cut,
+    side: Side,
+) -> Result<(), AllocError>
+    requires z_end { IsEnd cut z }
+    requires w_end { IsEnd cut w }
+    requires passed { passed ≤ count }
+    ensures { OnOk result (AddsLink cut z w (is_skipped cut side count passed z w) links.old.items links.new.items) }
+{
+    if !is_skipped(z, w, passed, count, cut, side) {
+        links.push(link(z, w, cut))?;
+    }
+    Ok(())
+}
+
+// The edges on the line from its first end on.
+fn links_from(
+    alloc: Global,
+    first: Point,
+    rest: &[Point],
+    cut: Cut,
+    side: Side,
+) -> Result<Vec<Edge>, AllocError>
+    requires first_end { IsEnd cut first }
+    requires rest_ends { All (IsEnd cut) rest.now }
+    requires small { length rest.now + 1 < 2 ^ 64 }
+    ensures { IfOk result (λ v. IsWalk cut side (length rest.now + 1) 1 first rest.now v.items) }
+{
+    let mut links = Vec::new(alloc);
+    let count = rest.len() + 1;
+    let mut before = first;
+    for (place, &end) in rest.iter().enumerate() {
+        push_link(&mut links, before, end, place + 1, count, cut, side)?;
+        before = end;
+    }
+    Ok(links)
+}
+
+// The same, as what a sort asks.
+fn compare_ends(p: Point, q: Point, cut: Cut, side: Side) -> Ordering
+    ensures { is_lt result ≡ is_plus (line_order cut side p q) }
+{
+    compare_along(p, q, cut, side)
+}
+
+// The ends of edges that are on the line, in order along it.
+fn sorted_ends(
+    alloc: Global,
+    parts: &[Edge],
+    cut: Cut,
+    side: Side,
+) -> Result<Vec<Point>, AllocError>
+    ensures { IfOk result (λ v. AreSortedEnds cut side parts.now v.items) }
+{
+    let mut ends = line_ends(alloc, parts, cut)?;
+    ends.sort_by(|p, q| compare_ends(*p, *q, cut, side))?;
+    Ok(ends)
+}
+
+// The edges on the line.
+fn links(alloc: Global, ends: &[Point], cut: Cut, side: Side) -> Result<Vec<Edge>, AllocError>
+    requires { All (IsEnd cut) ends.now }
+    ensures { IfOk result (λ v. AreWalked cut side ends.now v.items) }
+{
+    match ends.split_first() {
+        None => Ok(Vec::new(alloc)),
+        Some((first, rest)) => links_from(alloc, *first, rest, cut, side),
+    }
+}
+
+// The edges of two lists, one after the other.
+fn joined(alloc: Global, parts: &[Edge], links: &[Edge]) -> Result<Edges, AllocError>
+    ensures { IfOk result (λ list. list ≡ parts.now ++ links.now) }
+{
+    let mut edges = Edges::new(alloc);
+    for &e in parts {
+        edges.push(e)?;
+    }
+    for &e in links {
+        edges.push(e)?;
+    }
+    Ok(edges)
+}
+
+/// The half of a list of edges on one side of a cut line: the portions of its edges on that side, and edges on the
+/// line that close them, with the side on their left. It is sided.
+pub fn half(alloc: Global, edges: &Edges, cut: Cut, side: Side) -> Result<Edges, AllocError>
+    requires { IsSided edges.now }
+    ensures half { IfOk result (λ hs. IsHalf cut side edges.now hs) }
+    ensures sided { IfOk result (λ hs. IsSided hs) }
+{
+    let parts = portions(alloc, edges.as_slice(), cut, side)?;
+    let ends = sorted_ends(alloc, parts.as_slice(), cut, side)?;
+    let links = links(alloc, ends.as_slice(), cut, side)?;
+    Ok(joined(alloc, parts.as_slice(), links.as_slice())?)
+}
