@@ -12,9 +12,11 @@ HERE = pathlib.Path(__file__).resolve().parent
 
 
 def ring(text):
+    """A ring begun at its least point, in the direction in which the next one is lesser. No ring comes to a point twice."""
     points = text.split(",")[:-1]
-    turned = [seq[i:] + seq[:i] for seq in (points, points[::-1]) for i in range(len(seq))]
-    return min(map(tuple, turned))
+    least = points.index(min(points))
+    turned = points[least:] + points[:least]
+    return min(tuple(turned), tuple(turned[:1] + turned[:0:-1]))
 
 
 def areas(path):
