@@ -2,12 +2,12 @@
 ghost use Rattle.std.specs.Prelude.{◌≡◌, ◌<◌, ◌≤◌, ◌+◌, ◌^◌, insert, remove, length, slice_index_or, take, OnErr, OnOk};
 ghost use Rattle.std.specs.List.{flat_map};
 
-use std::alloc::{AllocError, Global};
+use std::alloc::{AllocError as OutOfMemory, Global};
 
 /// The most items of a chunk.
 const LONGEST: usize = 512;
 
-// The first chunk that reaches so far, and how much of it that is.
+/// The first chunk that reaches so far, and how much of it that is.
 fn locate<T>(chunks: &[Vec<T>], count: usize) -> (usize, usize)
     requires some { 0 < length chunks.now }
     requires within { count ≤ length (flat_map (λ c. c.items) chunks.now) }
@@ -36,8 +36,8 @@ pub(crate) fn item<T: Copy>(chunks: &[Vec<T>], place: usize) -> T
     chunks[chunk][end - 1]
 }
 
-// Puts an item in before the one at a place.
-fn put<T: Copy>(chunks: &mut Vec<Vec<T>>, place: usize, item: T) -> Result<(), AllocError>
+/// Puts an item in before the one at a place.
+fn put<T: Copy>(chunks: &mut Vec<Vec<T>>, place: usize, item: T) -> Result<(), OutOfMemory>
     requires some { 0 < length chunks.old.items }
     requires within { place ≤ length (flat_map (λ c. c.items) chunks.old.items) }
     ensures done { OnOk result (flat_map (λ c. c.items) chunks.new.items ≡ insert (flat_map (λ c. c.items) chunks.old.items) place item) }
@@ -46,7 +46,7 @@ fn put<T: Copy>(chunks: &mut Vec<Vec<T>>, place: usize, item: T) -> Result<(), A
     let (chunk, at) = locate(chunks, place);
     match chunks[chunk].insert(at, item) {
         Ok(()) => Ok(()),
-        Err(_) => Err(AllocError),
+        Err(_) => Err(OutOfMemory),
     }
 }
 
@@ -64,7 +64,7 @@ pub(crate) fn take_out<T: Copy>(chunks: &mut Vec<Vec<T>>, place: usize) -> T
     item
 }
 
-// Drops a chunk that has no items.
+/// Drops a chunk that has no items.
 fn drop_if_empty<T: Copy>(chunks: &mut Vec<Vec<T>>, chunk: usize)
     requires { chunk < length chunks.old.items }
     ensures { flat_map (λ c. c.items) chunks.new.items ≡ flat_map (λ c. c.items) chunks.old.items }
@@ -74,8 +74,8 @@ fn drop_if_empty<T: Copy>(chunks: &mut Vec<Vec<T>>, chunk: usize)
     }
 }
 
-// Parts a chunk into two.
-fn part<T: Copy>(alloc: Global, chunks: &mut Vec<Vec<T>>, chunk: usize) -> Result<(), AllocError>
+/// Parts a chunk into two.
+fn part<T: Copy>(alloc: Global, chunks: &mut Vec<Vec<T>>, chunk: usize) -> Result<(), OutOfMemory>
     requires { chunk < length chunks.old.items }
     ensures same { flat_map (λ c. c.items) chunks.new.items ≡ flat_map (λ c. c.items) chunks.old.items }
     ensures some { 0 < length chunks.new.items }
@@ -93,7 +93,7 @@ pub(crate) fn put_in<T: Copy>(
     chunks: &mut Vec<Vec<T>>,
     place: usize,
     item: T,
-) -> Result<(), AllocError>
+) -> Result<(), OutOfMemory>
     requires within { place ≤ length (flat_map (λ c. c.items) chunks.old.items) }
     ensures done { OnOk result (flat_map (λ c. c.items) chunks.new.items ≡ insert (flat_map (λ c. c.items) chunks.old.items) place item) }
     ensures kept { OnErr result (flat_map (λ c. c.items) chunks.new.items ≡ flat_map (λ c. c.items) chunks.old.items) }

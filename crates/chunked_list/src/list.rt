@@ -4,7 +4,7 @@ ghost use Rattle.std.specs.List.Sorted.{IsPartitionedBy, IsPartitionPoint};
 ghost use Rattle.std.specs.Fn.{FnReturnsAt};
 
 use crate::chunks::{item, put_in, take_out};
-use std::alloc::{AllocError, Global};
+use std::alloc::{AllocError as OutOfMemory, Global};
 use std::marker::Model;
 
 /// A list of items.
@@ -60,13 +60,13 @@ impl<T: Copy> ChunkedList<T> {
     }
 
     /// Puts an item in before the one at a place, or at the end. The error is out of memory.
-    pub fn insert(&mut self, place: usize, item: T) -> Result<(), AllocError>
+    pub fn insert(&mut self, place: usize, item: T) -> Result<(), OutOfMemory>
         requires { place ≤ length self.old }
         ensures inserted { OnOk result (self.new ≡ insert self.old place item) }
         ensures unchanged { OnErr result (self.new ≡ self.old) }
     {
         let Some(len) = self.len.checked_add(1) else {
-            return Err(AllocError);
+            return Err(OutOfMemory);
         };
         match put_in(self.alloc, &mut self.chunks, place, item) {
             Ok(()) => {
@@ -110,7 +110,7 @@ impl<T: Copy> ChunkedList<T> {
         low
     }
 
-    // Where the items that pass seem to end, by the first items of chunks and then within one. Only speed rests on it.
+    /// Where the items that pass seem to end, by the first items of chunks and then within one. Only speed rests on it.
     fn guess<F: Fn(&T) -> bool>(&self, test: &F) -> usize
         requires { F.IsAlwaysCallable test.now }
         ensures { result ≤ length self.now }
@@ -126,7 +126,7 @@ impl<T: Copy> ChunkedList<T> {
         place.min(self.len)
     }
 
-    // Whether the item at a place passes.
+    /// Whether the item at a place passes.
     fn passes_at<F: Fn(&T) -> bool>(&self, test: &F, place: usize) -> bool
         requires inside { place < length self.now }
         requires test { F.IsAlwaysCallable test.now }
@@ -135,7 +135,7 @@ impl<T: Copy> ChunkedList<T> {
         passes(test, &self.get(place))
     }
 
-    // Whether the item before a place passes, if there is one.
+    /// Whether the item before a place passes, if there is one.
     fn passes_before<F: Fn(&T) -> bool>(&self, test: &F, place: usize) -> bool
         requires within { place ≤ length self.now }
         requires test { F.IsAlwaysCallable test.now }
@@ -147,7 +147,7 @@ impl<T: Copy> ChunkedList<T> {
         self.passes_at(test, place - 1)
     }
 
-    // Whether the item at a place doesn't pass, if there is one.
+    /// Whether the item at a place doesn't pass, if there is one.
     fn fails_from<F: Fn(&T) -> bool>(&self, test: &F, place: usize) -> bool
         requires { F.IsAlwaysCallable test.now }
         ensures { result ≡ true → (p : T → Bool) → ((x : T) (told : Bool) → FnReturnsAt F.Fn test.now x told → told ≡ p x) → (d : T) → place < length self.now → p (slice_index_or self.now place d) ≡ false }
@@ -174,7 +174,7 @@ impl<T: Copy> ChunkedList<T> {
     }
 }
 
-// How many chunks begin with an item that passes, if these stand first.
+/// How many chunks begin with an item that passes, if these stand first.
 fn chunks_begun<T, F: Fn(&T) -> bool>(chunks: &[Vec<T>], test: &F) -> usize
     requires { F.IsAlwaysCallable test.now }
     ensures { result ≤ length chunks.now }
@@ -201,7 +201,7 @@ fn first_passes<T, F: Fn(&T) -> bool>(chunk: &[T], test: &F) -> bool
     }
 }
 
-// Where the items that pass end, if these stand first.
+/// Where the items that pass end, if these stand first.
 fn point_in<T, F: Fn(&T) -> bool>(items: &[T], test: &F) -> usize
     requires { F.IsAlwaysCallable test.now }
 {

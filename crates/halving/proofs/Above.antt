@@ -9,20 +9,14 @@ use Rattle.plane.specs.Scale.{scaled_edge, scaled_point}
 use Rattle.plane.specs.Sign.{Minus, Null, Plus, Sign, is_null, is_plus, sign}
 use Rattle.plane.specs.Vector.{IsDirection, Vector, cross, dot, east, from_to}
 use Rattle.winding.specs.EdgeList.{winding_number}
-use Rattle.winding.specs.Member.{In}
+use Rattle.lists.specs.Member.{In}
 use Rattle.winding.specs.ScaledEdges.{scaled_edges}
 use Rattle.winding.specs.Sided.{IsSided}
-use Rattle.plane.proofs.FreeSegments.{crossings_seen}
-use Rattle.plane.proofs.Identities.{lift, same, ◌⊞◌, ◌⊟◌, ◌⊠◌}
-use Rattle.plane.proofs.Products.{cross2, dot2, frame-agree, frame-dot-agree, from_to2, lift2}
-use Rattle.plane.proofs.RayCrossings.{down_seen, east-direction, up_seen}
-use Rattle.plane.proofs.Signs.{agree, agree-sum, all2, all2-out, all4, all4-out, imp, imp-out, plus-times, same_bool, says-at, sign-from, times}
-use Rattle.winding.proofs.Independence.{winding_independent}
-use Rattle.winding.proofs.Members.{all-in, in-map-out, total-same}
-use Rattle.winding.proofs.RingCounts.{total-member}
-use Rattle.winding.proofs.Shifts.{sub-sign, sub_sign}
-use Rattle.winding.proofs.Sums.{total, total-is, total-map}
-use Rattle.halving.proofs.ScaledSides.{balanced-scaled}
+use Rattle.plane.proofs.PlaneKit.{crossings_seen, cross2, dot2, frame-agree, frame-dot-agree, from_to2, lift2, down_seen, east-direction, up_seen, off_by-set}
+use Rattle.plane.proofs.SignKit.{lift, same, ◌⊞◌, ◌⊟◌, ◌⊠◌, agree, agree-sum, all2, all2-out, all4, all4-out, imp, imp-out, plus-times, same_bool, sign-from, times, less_one, more_one, same_bool-is}
+use Rattle.winding.proofs.WindingKit.{winding_independent, total-member, sub-sign, sub_sign, sub-plus, sub-set, balanced-scaled}
+use Rattle.lists.proofs.Members.{all-in, in-map-out, total-same}
+use Rattle.lists.proofs.Sums.{total, total-is, total-map}
 use Rattle.halving.proofs.Sides.{Flat, down_flat, flat-from, flat-level, flat-to, off-level, up_flat}
 
 -- ---- k * z + d, where d is small: between -k and k
@@ -44,32 +38,14 @@ not-plus-minus Null Minus h e = refl
 not-plus-minus Minus Minus h e = refl
 not-plus-minus a c h e = absurd (cc e)
 
-less-one : (z : ℤ) → sign z ≡ Plus → sign (z -ℤ pos 1) ≡ Minus → ⊥
-less-one z h k = let a = says-at Plus z h in let b = says-at Minus (z -ℤ pos 1) k in omega (arith, ints)
-
-more-one : (z : ℤ) → sign z ≡ Minus → sign (z +ℤ pos 1) ≡ Plus → ⊥
-more-one z h k = let a = says-at Minus z h in let b = says-at Plus (z +ℤ pos 1) k in omega (arith, ints)
-
 near-by : (k z d : ℤ) → sign k ≡ Plus → sign (k +ℤ d) ≡ Plus → sign (d -ℤ k) ≡ Minus → (s : Sign) → sign z ≡ s → not (is_null s) ≡ true → sign (k *ℤ z +ℤ d) ≡ s
 near-by k z d hk hp hm Plus e n =
     let a = agree-sum (k *ℤ (z -ℤ pos 1)) (k +ℤ d) (k *ℤ z +ℤ d) (down-one k z d) in
-    not-minus-plus (sign (k *ℤ (z -ℤ pos 1))) (sign (k *ℤ z +ℤ d)) (λ m. less-one z e (sym (plus-times k (z -ℤ pos 1) hk) ∙ m)) (subst (λ s. agree (sign (k *ℤ (z -ℤ pos 1))) s (sign (k *ℤ z +ℤ d)) ≡ true) hp a)
+    not-minus-plus (sign (k *ℤ (z -ℤ pos 1))) (sign (k *ℤ z +ℤ d)) (λ m. less_one z e (sym (plus-times k (z -ℤ pos 1) hk) ∙ m)) (subst (λ s. agree (sign (k *ℤ (z -ℤ pos 1))) s (sign (k *ℤ z +ℤ d)) ≡ true) hp a)
 near-by k z d hk hp hm Minus e n =
     let a = agree-sum (k *ℤ (z +ℤ pos 1)) (d -ℤ k) (k *ℤ z +ℤ d) (up-one k z d) in
-    not-plus-minus (sign (k *ℤ (z +ℤ pos 1))) (sign (k *ℤ z +ℤ d)) (λ m. more-one z e (sym (plus-times k (z +ℤ pos 1) hk) ∙ m)) (subst (λ s. agree (sign (k *ℤ (z +ℤ pos 1))) s (sign (k *ℤ z +ℤ d)) ≡ true) hm a)
+    not-plus-minus (sign (k *ℤ (z +ℤ pos 1))) (sign (k *ℤ z +ℤ d)) (λ m. more_one z e (sym (plus-times k (z +ℤ pos 1) hk) ∙ m)) (subst (λ s. agree (sign (k *ℤ (z +ℤ pos 1))) s (sign (k *ℤ z +ℤ d)) ≡ true) hm a)
 near-by k z d hk hp hm Null e n = absurd (cc n)
-
-sub-plus : (s : Sign) → is_plus (sub_sign s) ≡ is_plus s
-sub-plus Plus = refl
-sub-plus Null = refl
-sub-plus Minus = refl
-
-same-refl : (b : Bool) → same_bool b b ≡ true
-same-refl true = refl
-same-refl false = refl
-
-same-of : (a b : Bool) → a ≡ b → same_bool a b ≡ true
-same-of a b h = subst (λ x. same_bool a x ≡ true) h (same-refl a)
 
 sub-same : (s t : Sign) → same_bool (is_plus s) (is_plus t) ≡ true → sub_sign s ≡ sub_sign t
 sub-same Plus Plus h = refl
@@ -81,16 +57,6 @@ sub-same Plus Null h = absurd (cc h)
 sub-same Plus Minus h = absurd (cc h)
 sub-same Null Plus h = absurd (cc h)
 sub-same Minus Plus h = absurd (cc h)
-
-sub-nonnull : (s : Sign) → not (is_null (sub_sign s)) ≡ true
-sub-nonnull Plus = refl
-sub-nonnull Null = refl
-sub-nonnull Minus = refl
-
-off-nonnull : (c s : Sign) → not (is_null c) ≡ true → off_by c s ≡ true
-off-nonnull Plus s h = refl
-off-nonnull Minus s h = refl
-off-nonnull Null s h = absurd (cc h)
 
 -- ---- an edge off the point that passes from one side of the line of the ray to the other doesn't point at the point
 abbrev points_2 : Sign → Sign → Sign → Sign → Sign → Sign → Bool
@@ -158,10 +124,10 @@ module _ (u p : Vector) (d : IsDirection u) (k : ℤ) (hk : sign k ≡ Plus) (hn
 
   off-by-case : (b : Bool) → same_bool (is_plus A) (is_plus B) ≡ b → IsOffEdge q f
   off-by-case true h =
-      off-level u (from_to q f.from) (from_to q f.to) d (sub_sign A) (sub-nonnull A) (rise-moved e.from) (rise-moved e.to ∙ sym (sub-same A B h))
+      off-level u (from_to q f.from) (from_to q f.to) d (sub_sign A) (sub-set A) (rise-moved e.from) (rise-moved e.to ∙ sym (sub-same A B h))
   off-by-case false h =
       let n = ap not h in
-      off-nonnull (sign (cross (from_to q f.from) (from_to q f.to))) (sign (dot (from_to q f.from) (from_to q f.to))) (ap (λ c. not (is_null c)) (cross-moved n) ∙ passes-beside u p e d (off n) n)
+      off_by-set (sign (cross (from_to q f.from) (from_to q f.to))) (sign (dot (from_to q f.from) (from_to q f.to))) (ap (λ c. not (is_null c)) (cross-moved n) ∙ passes-beside u p e d (off n) n)
 
   pub moved-off : IsOffEdge q f
   moved-off = off-by-case (same_bool (is_plus A) (is_plus B)) refl
@@ -175,7 +141,7 @@ module _ (u p : Vector) (d : IsDirection u) (k : ℤ) (hk : sign k ≡ Plus) (hn
     moved-seen =
         let c = sign (cross (from_to q f.from) (from_to q f.to)) in
         ap (λ s. g s (sign (cross u (from_to q f.to))) c) (rise-moved e.from) ∙ ap (λ s. g (sub_sign A) s c) (rise-moved e.to)
-        ∙ flat-from g fl (sub_sign A) A (sub_sign B) c (same-of _ _ (sub-plus A)) ∙ flat-to g fl A (sub_sign B) B c (same-of _ _ (sub-plus B))
+        ∙ flat-from g fl (sub_sign A) A (sub_sign B) c (same_bool-is _ _ (sub-plus A)) ∙ flat-to g fl A (sub_sign B) B c (same_bool-is _ _ (sub-plus B))
         ∙ seen-by-case (same_bool (is_plus A) (is_plus B)) refl c refl
 
 -- ---- a list

@@ -4,16 +4,13 @@ use borrow.Author.Differences.{ints}
 use lib.IntN.{pos, ℤ, ◌*ℤ◌, ◌+ℤ◌, ◌-ℤ◌}
 use Rattle.plane.specs.Bit.{bit}
 use Rattle.plane.specs.Edge.{Edge}
-use Rattle.plane.specs.RayCrossing.{IsOffEdge, down_by, off_by, up_by}
+use Rattle.plane.specs.RayCrossing.{IsOffEdge, down_by, up_by}
 use Rattle.plane.specs.Scale.{scaled_edge, scaled_point}
 use Rattle.plane.specs.Sign.{Minus, Null, Plus, Sign, is_minus, is_null, is_plus, negated, sign}
 use Rattle.plane.specs.Vector.{IsDirection, Vector, cross, dot, from_to}
 use Rattle.halving.specs.Line.{Line, has_part, order_along, scaled_line, side}
-use Rattle.plane.proofs.FreeSegments.{crossings_seen}
-use Rattle.plane.proofs.Identities.{lift, same, ◌⊞◌, ◌⊟◌, ◌⊠◌}
-use Rattle.plane.proofs.Points.{same_vector}
-use Rattle.plane.proofs.Products.{cross2, dot-chain, dot-here, dot2, frame-agree, from_to2, lift2}
-use Rattle.plane.proofs.Signs.{agree, agree-sum, all, all-out, all2, all2-out, both, imp, imp-out, left-out, null-zero, plus-times, right-out, same_bool, same_bool-true, same_sign, same_sign-true, sign-reversed, times}
+use Rattle.plane.proofs.PlaneKit.{crossings_seen, same_vector, cross2, dot-chain, dot-here, dot2, frame-agree, from_to2, lift2, dot-there_back, off_by-set}
+use Rattle.plane.proofs.SignKit.{lift, same, ◌⊞◌, ◌⊟◌, ◌⊠◌, agree, agree-sum, all-out, both, imp, imp-out, left-out, null-zero, plus-times, right-out, same_bool, same_bool-true, same_sign, same_sign-true, sign-reversed, times, null-first, all3-out, same_bool-is, not-null-negated}
 use Rattle.halving.proofs.Sides.{off-level, rise, side-sum}
 
 -- ---- points on the line
@@ -23,13 +20,8 @@ along-sum l p q r = agree-sum (dot l.along (from_to p q)) (dot l.along (from_to 
 pub along-self : (l : Line) (p : Vector) → order_along l p p ≡ Null
 along-self l p = ap sign (dot-here l.along p)
 
-along-turned : (u p q : Vector) → dot u (from_to p q) +ℤ dot u (from_to q p) ≡ pos 0
-along-turned u p q =
-    let u' = lift2 u in let p' = lift2 p in let q' = lift2 q in
-    same (dot2 u' (from_to2 p' q') ⊞ dot2 u' (from_to2 q' p')) (lift (pos 0)) (omega arith)
-
 pub along-negated : (l : Line) (p q : Vector) → order_along l q p ≡ negated (order_along l p q)
-along-negated l p q = sign-reversed (dot l.along (from_to p q)) (dot l.along (from_to q p)) (along-turned l.along p q)
+along-negated l p q = sign-reversed (dot l.along (from_to p q)) (dot l.along (from_to q p)) (dot-there_back l.along p q)
 
 -- on the line, what is level with a point rises from it by nothing
 pub rise-null : (l : Line) (p v : Vector) → side l p ≡ Null → side l v ≡ Null → rise l p v ≡ Null
@@ -88,11 +80,6 @@ middle-level u z w c =
     let u' = lift2 u in let z' = lift2 z in let w' = lift2 w in let c' = lift c in let k = lift (pos 2) in
     same ((cross2 u' z' ⊟ c') ⊞ (cross2 u' w' ⊟ c')) ((u'.x2 ⊠ (z'.y2 ⊞ w'.y2) ⊟ u'.y2 ⊠ (z'.x2 ⊞ w'.x2)) ⊟ k ⊠ c') (omega arith)
 
-pub null-first : (x y z : Sign) → agree x y z ≡ true → x ≡ Null → y ≡ z
-null-first Null y z h e = same_sign-true y z (imp-out _ _ (all2-out (λ y z. imp (agree Null y z) λ _. same_sign y z) refl y z) h)
-null-first Plus y z h e = absurd (cc e)
-null-first Minus y z h e = absurd (cc e)
-
 sum-null : (x y z : Sign) → agree x y z ≡ true → x ≡ Null → y ≡ Null → z ≡ Null
 sum-null x y z h a b = sym (null-first x y z h a) ∙ b
 
@@ -111,29 +98,10 @@ begins_1 c y x = imp (agree (times Plus c) (times y Null) (times x Plus)) λ _. 
 abbrev stops_1 : Sign → Sign → Sign → Bool
 stops_1 c y x = imp (agree (times Plus c) (times y Plus) (times x Null)) λ _. same_sign c (negated y)
 
-sign-at : (f : Sign → Sign → Sign → Bool) → all2 (λ a b. all (f a b)) ≡ true → (a b c : Sign) → f a b c ≡ true
-sign-at f h a b c = all-out (f a b) (all2-out (λ a b. all (f a b)) h a b) c
-
-same-of : (a b : Bool) → a ≡ b → same_bool a b ≡ true
-same-of true true h = refl
-same-of false false h = refl
-same-of true false h = absurd (cc h)
-same-of false true h = absurd (cc h)
-
-off-nonnull : (c s : Sign) → not (is_null c) ≡ true → off_by c s ≡ true
-off-nonnull Plus s h = refl
-off-nonnull Minus s h = refl
-off-nonnull Null s h = absurd (cc h)
-
 negated-plus : (s : Sign) → is_minus (negated s) ≡ is_plus s
 negated-plus Plus = refl
 negated-plus Null = refl
 negated-plus Minus = refl
-
-negated-nonnull : (s : Sign) → not (is_null s) ≡ true → not (is_null (negated s)) ≡ true
-negated-nonnull Plus h = refl
-negated-nonnull Minus h = refl
-negated-nonnull Null h = absurd (cc h)
 
 module _ (l : Line) (d : IsDirection l.along) (z w : Vector) (hz : side l z ≡ Null) (hw : side l w ≡ Null) (t : Edge)
     (from_kept : not (is_minus (side l t.from)) ≡ true) (to_kept : not (is_minus (side l t.to)) ≡ true) (some : has_part l t ≡ true)
@@ -168,14 +136,14 @@ module _ (l : Line) (d : IsDirection l.along) (z w : Vector) (hz : side l z ≡ 
 
   gap : (v : Vector) → IsApart l z w v → (is_plus (place v) ≡ is_plus (order_along l z v)) × (not (is_null (place v)) ≡ true)
   gap v h =
-      let c = imp-out _ _ (imp-out _ _ (sign-at gap_1 refl (order_along l z v) (order_along l w v) (place v)) (same-of _ _ h)) (mid-place v) in
+      let c = imp-out _ _ (imp-out _ _ (all3-out gap_1 refl (order_along l z v) (order_along l w v) (place v)) (same_bool-is _ _ h)) (mid-place v) in
       (same_bool-true _ _ (left-out _ _ c), right-out _ _ c)
 
   begins : side l t.from ≡ Null → side l t.to ≡ Plus → turn ≡ place t.from
-  begins ha hb = same_sign-true turn (place t.from) (imp-out _ _ (sign-at begins_1 refl turn (place t.to) (place t.from)) (turn-agree Null Plus ha hb))
+  begins ha hb = same_sign-true turn (place t.from) (imp-out _ _ (all3-out begins_1 refl turn (place t.to) (place t.from)) (turn-agree Null Plus ha hb))
 
   stops : side l t.from ≡ Plus → side l t.to ≡ Null → turn ≡ negated (place t.to)
-  stops ha hb = same_sign-true turn (negated (place t.to)) (imp-out _ _ (sign-at stops_1 refl turn (place t.to) (place t.from)) (turn-agree Plus Null ha hb))
+  stops ha hb = same_sign-true turn (negated (place t.to)) (imp-out _ _ (all3-out stops_1 refl turn (place t.to) (place t.from)) (turn-agree Plus Null ha hb))
 
   after-off : (v : Vector) → side l v ≡ Plus → after l z v ≡ 0
   after-off v h = ap (λ x. bit (is_null x && is_plus (order_along l z v))) h
@@ -208,8 +176,8 @@ module _ (l : Line) (d : IsDirection l.along) (z w : Vector) (hz : side l z ≡ 
   middle-down = ap (λ a. down_by a (rise m P s.to) turn) (mid-rise t.from) ∙ ap (λ b. down_by (side l t.from) b turn) (mid-rise t.to) ∙ down-by (side l t.from) (side l t.to) refl refl from_kept to_kept some
 
   off-by : (a b : Sign) → side l t.from ≡ a → side l t.to ≡ b → not (is_minus a) ≡ true → not (is_minus b) ≡ true → (is_plus a || is_plus b) ≡ true → IsOffEdge P s
-  off-by Null Plus ha hb na nb h = off-nonnull turn (sign (dot (from_to P s.from) (from_to P s.to))) (ap (λ c. not (is_null c)) (begins ha hb) ∙ (gap t.from (from_apart ha)).1)
-  off-by Plus Null ha hb na nb h = off-nonnull turn (sign (dot (from_to P s.from) (from_to P s.to))) (ap (λ c. not (is_null c)) (stops ha hb) ∙ negated-nonnull (place t.to) (gap t.to (to_apart hb)).1)
+  off-by Null Plus ha hb na nb h = off_by-set turn (sign (dot (from_to P s.from) (from_to P s.to))) (ap (λ c. not (is_null c)) (begins ha hb) ∙ (gap t.from (from_apart ha)).1)
+  off-by Plus Null ha hb na nb h = off_by-set turn (sign (dot (from_to P s.from) (from_to P s.to))) (ap (λ c. not (is_null c)) (stops ha hb) ∙ not-null-negated (place t.to) (gap t.to (to_apart hb)).1)
   off-by Plus Plus ha hb na nb h = off-level l.along (from_to P s.from) (from_to P s.to) d Plus refl (mid-rise t.from ∙ ha) (mid-rise t.to ∙ hb)
   off-by Null Null ha hb na nb h = absurd (cc h)
   off-by Minus b ha hb na nb h = absurd (cc na)

@@ -1,5 +1,5 @@
 -- A half leaves each point as often as it enters it.
-use Rattle.std.proofs.Common.{All, Bool, List, [], ap, arith, cond, eqb, eqb-true, false, inl, inr, not, refl, subst, sym, true, ℕ, ◌%◌, ◌+◌, ◌&&◌, ◌||◌, ◌∙◌, ◌∷◌, ◌≡◌, ◌⊎◌}
+use Rattle.std.proofs.Common.{All, Bool, List, [], ap, arith, cond, count_by, eqb, eqb-true, false, inl, inr, not, refl, subst, sym, true, ℕ, ◌%◌, ◌+◌, ◌&&◌, ◌||◌, ◌∙◌, ◌∷◌, ◌≡◌, ◌⊎◌}
 use borrow.Author.Differences.{ints}
 use lib.IntN.{pos, ◌-ℤ◌}
 use Rattle.plane.specs.Bit.{bit}
@@ -9,26 +9,31 @@ use Rattle.plane.specs.Scale.{scaled_edge}
 use Rattle.plane.specs.Sign.{Minus, Null, Plus, Sign, is_minus, is_null, is_plus, negated}
 use Rattle.plane.specs.Vector.{IsDirection, Vector, from_to, one_at, same_point}
 use Rattle.winding.specs.EdgeList.{IsBalanced, up_count}
-use Rattle.winding.specs.Member.{EachPair, In}
+use Rattle.lists.specs.Member.{EachPair, In}
 use Rattle.winding.specs.Parity.{is_even}
 use Rattle.winding.specs.ScaledEdges.{scaled_edges}
 use Rattle.winding.specs.Sided.{IsSided}
-use Rattle.halving.specs.Half.{AreMeetings, Cutting, IsCut, closing, closing_from, ends_from, ends_up_to, half, is_from, is_up_to, parts, wholes}
+use Rattle.halving.specs.Half.{AreMeetings, Cutting, IsCut, closing, closing_from, ends_up_to, half, is_up_to, parts, wholes}
 use Rattle.halving.specs.Line.{Line, has_part, order_along, scaled_line, side}
-use Rattle.plane.proofs.Edges.{ends_at-from, ends_at-to}
-use Rattle.plane.proofs.FreeSegments.{crossings_seen}
-use Rattle.plane.proofs.Points.{same_point-refl, same_point-true}
-use Rattle.plane.proofs.RayCrossings.{down_seen, up_seen}
-use Rattle.plane.proofs.Signs.{agree, all4-out, imp, imp-out, same-out}
-use Rattle.winding.proofs.Members.{all-in, in-all, in-map-out, total-same}
-use Rattle.winding.proofs.Ranks.{even-is, halves, odd-is}
-use Rattle.winding.proofs.Sums.{none-sum, total, total-+, total-++, total-is, total-map}
+use Rattle.plane.proofs.PlaneKit.{ends_at-from, ends_at-to, crossings_seen, same_point-refl, same_point-true, down_seen, up_seen}
+use Rattle.plane.proofs.SignKit.{all4-out, imp, imp-out, neither-plus, plus-behind, bit-no}
+use Rattle.lists.proofs.Members.{all-in, in-all, in-map-out, total-same}
+use Rattle.winding.proofs.WindingKit.{even-is, halves, odd-is, balanced-total, sided-scaled}
+use Rattle.lists.proofs.Sums.{none-sum, total, total-+, total-++, total-is, total-map, cond_by}
 use Rattle.halving.proofs.Above.{WindsOnce}
 use Rattle.halving.proofs.AlongLine.{IsApart, after, along-negated, along-self, along-sum, middle, middle-down, middle-off, middle-side, middle-up, one-place, two-plus}
 use Rattle.halving.proofs.Counts.{along-line, in-parts, over-parts, seen-parts}
 use Rattle.halving.proofs.ScaledHalves.{cut-scaled, parts-scaled, scaled_cuttings, side-scaled, wholes-scaled}
-use Rattle.halving.proofs.ScaledSides.{balanced-total, sided-scaled}
 use Rattle.halving.proofs.Sides.{IsCutFrom, IsCutTo, IsWholePart, down_flat, kinds, part-ends, up_flat}
+use Rattle.lists.proofs.Numbers.{none_or_one}
+
+-- v is on the line, at z or after it
+abbrev pub is_from : Line → Vector → Vector → Bool
+is_from l z v = is_null (side l v) && not (is_minus (order_along l z v))
+
+-- how many parts end on the line at z or after it
+abbrev pub ends_from : Line → List Edge → Vector → ℕ
+ends_from l ts z = count_by (λ (t : Edge). is_from l z t.from || is_from l z t.to) ts
 
 -- ---- points that are not one
 differ-by : (v w : Vector) → (v ≡ w → ⊥) → (b : Bool) → same_point v w ≡ b → b ≡ false
@@ -43,23 +48,6 @@ apart-sides l v w s t hv hw n = differ v w (λ e. n (sym hv ∙ ap (side l) e �
 
 pub one-self : (v : Vector) → one_at v v ≡ 1
 one-self v = ap bit (same_point-refl v)
-
-none-by : (a b : Sign) → (is_plus a || is_plus b) ≡ false → (not (is_plus a) ≡ true) × (not (is_plus b) ≡ true)
-none-by Plus b h = absurd (cc h)
-none-by Null Plus h = absurd (cc h)
-none-by Minus Plus h = absurd (cc h)
-none-by Null Null h = (refl, refl)
-none-by Null Minus h = (refl, refl)
-none-by Minus Null h = (refl, refl)
-none-by Minus Minus h = (refl, refl)
-
-no-bit : (b : Bool) → not b ≡ true → bit b ≡ 0
-no-bit false h = refl
-no-bit true h = absurd (cc h)
-
-cond-by : (b : Bool) (x y : ℕ) → (b ≡ true → x ≡ y) → (b ≡ false → y ≡ 0) → cond b x 0 ≡ y
-cond-by true x y h k = h refl
-cond-by false x y h k = sym (k refl)
 
 not-plus-of : (s t : Sign) → s ≡ t → not (is_plus t) ≡ true → not (is_plus s) ≡ true
 not-plus-of s t h k = ap (λ x. not (is_plus x)) h ∙ k
@@ -80,16 +68,16 @@ module _ (l : Line) (cs : List Cutting) (cut : IsCut l cs) (x : Vector → ℕ) 
   kept-from =
       over-parts (λ (t : Edge). x t.from) l cs
       ∙ total-same (λ (c : Cutting). cond (has_part l c.whole) (x c.part.from) 0) (λ (c : Cutting). x c.whole.from) cs
-      (λ c i. cond-by (has_part l c.whole) (x c.part.from) (x c.whole.from) (λ h. from-kind c.whole c.part (kinds l c.whole c.part (cut c i h) h))
-      (λ h. zero c.whole.from (none-by (side l c.whole.from) (side l c.whole.to) h).0))
+      (λ c i. cond_by (has_part l c.whole) (x c.part.from) (x c.whole.from) (λ h. from-kind c.whole c.part (kinds l c.whole c.part (cut c i h) h))
+      (λ h. zero c.whole.from (neither-plus (side l c.whole.from) (side l c.whole.to) h).0))
       ∙ sym (total-map (λ (e : Edge). x e.from) (λ (c : Cutting). c.whole) cs)
 
   kept-to : total (λ (t : Edge). x t.to) (parts l cs) ≡ total (λ (e : Edge). x e.to) (wholes cs)
   kept-to =
       over-parts (λ (t : Edge). x t.to) l cs
       ∙ total-same (λ (c : Cutting). cond (has_part l c.whole) (x c.part.to) 0) (λ (c : Cutting). x c.whole.to) cs
-      (λ c i. cond-by (has_part l c.whole) (x c.part.to) (x c.whole.to) (λ h. to-kind c.whole c.part (kinds l c.whole c.part (cut c i h) h))
-      (λ h. zero c.whole.to (none-by (side l c.whole.from) (side l c.whole.to) h).1))
+      (λ c i. cond_by (has_part l c.whole) (x c.part.to) (x c.whole.to) (λ h. to-kind c.whole c.part (kinds l c.whole c.part (cut c i h) h))
+      (λ h. zero c.whole.to (neither-plus (side l c.whole.from) (side l c.whole.to) h).1))
       ∙ sym (total-map (λ (e : Edge). x e.to) (λ (c : Cutting). c.whole) cs)
 
   pub kept-balanced : IsBalanced (wholes cs) → total (λ (t : Edge). x t.from) (parts l cs) ≡ total (λ (t : Edge). x t.to) (parts l cs)
@@ -131,21 +119,9 @@ IsPlaced l z rest v = (not (is_plus (order_along l z v)) ≡ true) ⊎ In v rest
 abbrev pub IsAfter : Line → Vector → Vector → Type 0
 IsAfter l z v = order_along l z v ≡ Plus
 
-same-null : (c : Sign) → agree Plus Null c ≡ true → c ≡ Plus
-same-null Plus h = refl
-same-null Null h = absurd (cc h)
-same-null Minus h = absurd (cc h)
-
-behind-by : (a b c : Sign) → agree a b c ≡ true → a ≡ Plus → not (is_plus c) ≡ true → b ≡ Minus
-behind-by Plus Minus c h e n = refl
-behind-by Plus Null c h e n = absurd (cc (sym (ap (λ s. not (is_plus s)) (same-null c h)) ∙ n))
-behind-by Plus Plus c h e n = absurd (cc (sym (ap (λ s. not (is_plus s)) (same-out Plus c h)) ∙ n))
-behind-by Null b c h e n = absurd (cc e)
-behind-by Minus b c h e n = absurd (cc e)
-
 module _ (l : Line) (z w : Vector) (r : List Vector) (hzw : IsAfter l z w) (az : All (IsAfter l z) (w ∷ r)) (aw : All (IsAfter l w) r) (v : Vector) where
   behind : not (is_plus (order_along l z v)) ≡ true → order_along l w v ≡ Minus
-  behind n = behind-by (order_along l z w) (order_along l w v) (order_along l z v) (along-sum l z w v) hzw n
+  behind n = plus-behind (order_along l z w) (order_along l w v) (order_along l z v) (along-sum l z w v) hzw n
 
   apart-by : (b : Bool) → is_plus (order_along l z v) ≡ b → not b ≡ true → IsApart l z w v
   apart-by false h n = h ∙ sym (ap (λ s. not (is_minus s)) (behind (ap not h ∙ n)))
@@ -223,10 +199,6 @@ chain-by false true false S F E G Az Bz Aw Bw fw gw h k n m = omega arith
 chain-by false false true S F E G Az Bz Aw Bw fw gw h k n m = omega arith
 chain-by false false false S F E G Az Bz Aw Bw fw gw h k n m = omega arith
 
-once-nat : (u d : ℕ) → (pos u -ℤ pos d ≡ pos 0) ⊎ (pos u -ℤ pos d ≡ pos 1) → (u ≡ d) ⊎ (u ≡ d + 1)
-once-nat u d (inl h) = inl (omega (arith, ints))
-once-nat u d (inr h) = inr (omega (arith, ints))
-
 odd-by : (n a b t : ℕ) → n + (a + b) ≡ t + t → (a ≡ b) ⊎ (a ≡ b + 1) → a ≡ b + cond (is_even n) 0 1
 odd-by n a b t h (inl e) = let k = ap (λ (x : Bool). cond {A = ℕ} x 0 1) (even-is n (omega arith)) in omega arith
 odd-by n a b t h (inr e) = let k = ap (λ (x : Bool). cond {A = ℕ} x 0 1) (odd-is n (omega arith)) in omega arith
@@ -275,7 +247,7 @@ module _ (l : Line) (d : IsDirection l.along) (cs : List Cutting) (cut : IsCut l
   -- as many parts begin on the line as end there
   same-ends : begun ≡ ended
   same-ends =
-      let p = kept-balanced l cs cut (λ v. bit (is_plus (side l v))) (λ v h. no-bit (is_plus (side l v)) h) sd.balanced in
+      let p = kept-balanced l cs cut (λ v. bit (is_plus (side l v))) (λ v h. bit-no (is_plus (side l v)) h) sd.balanced in
       let a = sym (total-+ (λ (t : Edge). bit (is_null (side l t.from))) (λ (t : Edge). bit (is_plus (side l t.from))) T)
       ∙ total-same (λ (t : Edge). bit (is_null (side l t.from)) + bit (is_plus (side l t.from))) (λ t. 1) T (λ t i. null-plus (side l t.from) (kept t i).from) in
       let b = sym (total-+ (λ (t : Edge). bit (is_null (side l t.to))) (λ (t : Edge). bit (is_plus (side l t.to))) T)
@@ -348,7 +320,7 @@ module _ (l : Line) (d : IsDirection l.along) (cs : List Cutting) (cut : IsCut l
     once-between =
         let u = sym (total-is (up_seen l.along (from_to p)) (wholes cs2)) ∙ up-two in
         let v = sym (total-is (down_seen l.along (from_to p)) (wholes cs2)) ∙ down-two in
-        let o = once-nat (A z) (B z) (subst (λ a. (pos a -ℤ pos (B z) ≡ pos 0) ⊎ (pos a -ℤ pos (B z) ≡ pos 1)) u
+        let o = none_or_one (A z) (B z) (subst (λ a. (pos a -ℤ pos (B z) ≡ pos 0) ⊎ (pos a -ℤ pos (B z) ≡ pos 1)) u
         (subst (λ b. (pos (up_count l.along p (wholes cs2)) -ℤ pos b ≡ pos 0) ⊎ (pos (up_count l.along p (wholes cs2)) -ℤ pos b ≡ pos 1)) v once-two)) in
         let c = count-ends z in let s = same-ends in
         odd-by (ends_up_to l T z) (A z) (B z) begun (omega arith) o
@@ -367,7 +339,7 @@ module _ (l : Line) (d : IsDirection l.along) (cs : List Cutting) (cut : IsCut l
   AllPlaced z rest = (t : Edge) → In t T → (side l t.from ≡ Null → IsPlaced l z rest t.from) × (side l t.to ≡ Null → IsPlaced l z rest t.to)
 
   placed-none : (z v : Vector) → IsPlaced l z [] v → bit (is_plus (order_along l z v)) ≡ 0
-  placed-none z v (inl n) = no-bit (is_plus (order_along l z v)) n
+  placed-none z v (inl n) = bit-no (is_plus (order_along l z v)) n
   placed-none z v (inr i) = absurd i
 
   not-after-by : (z v : Vector) (s : Sign) → side l v ≡ s → not (is_minus s) ≡ true → (side l v ≡ Null → IsPlaced l z [] v) → after l z v ≡ 0

@@ -7,15 +7,12 @@ use Rattle.plane.specs.FreeSegment.{Misses, misses_by}
 use Rattle.plane.specs.Order.{order}
 use Rattle.plane.specs.Sign.{Minus, Null, Plus, Sign, are_opposite, is_null, is_plus, negated, sign}
 use Rattle.plane.specs.Vector.{IsDirection, Vector, cross, dot, from_to, orient}
-use Rattle.plane.proofs.Conflicts.{clear_back, clear_misses, overlap_by, overlaps-by}
-use Rattle.plane.proofs.Edges.{same_edge_by}
-use Rattle.plane.proofs.FreeSegments.{misses_reversed}
-use Rattle.plane.proofs.PointOrder.{line-order-up, order-reversed, rising-direction}
-use Rattle.plane.proofs.Products.{cross-here, cross-negated, direction-back, dot-chain, dot-here, frame-agree, orient-round, side-there}
-use Rattle.plane.proofs.Signs.{agree, agree-sum, all, all-out, all2, all2-out, all4, all4-out, both, imp, imp-out, left-out, right-out, same_sign, same_sign-refl, same_sign-true, sign-reversed, times}
+use Rattle.plane.proofs.PlaneKit.{clear_back, clear_misses, overlap_by, overlaps-by, match-by, same_edge_by, misses_reversed, line-order-up, order-reversed, rising-direction, cross-here, cross-negated, direction-back, dot-chain, dot-here, frame-agree, orient-round, side-there, dot-there_back, dot-swap}
+use Rattle.plane.proofs.SignKit.{agree, agree-sum, all, all-out, all2, all2-out, all4, all4-out, both, imp, imp-out, left-out, right-out, same_sign, same_sign-true, sign-reversed, times}
 use Rattle.halving.specs.Line.{Line}
 use Rattle.halving.proofs.Means.{IsMean, mean-back, mean-cross, mean-dot, mean-first, mean-second}
-use Rattle.halving.proofs.Sides.{IsCutFrom, IsCutTo, IsWholePart, dot-turned}
+use Rattle.halving.proofs.Sides.{IsCutFrom, IsCutTo, IsWholePart}
+use Rattle.lists.proofs.Bools.{not-true-out}
 
 -- neither has a point of the other strictly between its ends
 pub record AreClear (s t : Edge) : Type 0 where
@@ -92,15 +89,6 @@ apart_1 a b c d = all4 (apart_2 a b c d)
 apart_computes : all4 apart_1 ≡ true
 apart_computes = refl
 
-match-by : (a s t : Sign) → (a ≡ Null → s ≡ t) → match_when a s t ≡ true
-match-by Null s t h = rw (h refl) (same_sign-refl t)
-match-by Plus s t h = refl
-match-by Minus s t h = refl
-
-false-of : (b : Bool) → not b ≡ true → b ≡ false
-false-of false h = refl
-false-of true h = absurd (cc h)
-
 pub record NoConflict (s t : Edge) : Type 0 where
   pub no_overlap : overlaps s t ≡ false
   pub no_touch : is_touched_by s t ≡ false
@@ -127,9 +115,9 @@ half-clear s t hs missed =
     let r = right-out _ _ g3 in
     let cu = ap sign (sym (orient-round p u v)) in let cv = ap sign (sym (orient-round q u v)) in
     record {
-      no_overlap = overlaps-by s t ∙ false-of _ (rw (orient-round p u v, orient-round q u v) (left-out _ _ g3));
-      no_touch = false-of _ (rw (order-reversed q u, order-reversed q v) (left-out _ _ r));
-      no_parting = false-of _ (rw (orient-round p u v, orient-round q u v) (right-out _ _ r));
+      no_overlap = overlaps-by s t ∙ not-true-out _ (rw (orient-round p u v, orient-round q u v) (left-out _ _ g3));
+      no_touch = not-true-out _ (rw (order-reversed q u, order-reversed q v) (left-out _ _ r));
+      no_parting = not-true-out _ (rw (orient-round p u v, orient-round q u v) (right-out _ _ r));
     }
 
 conflicts-by-parts : (o t1 t2 p : Bool) → o ≡ false → t1 ≡ false → t2 ≡ false → p ≡ false → (o || (not o && ((t1 || t2) || p))) ≡ false
@@ -164,13 +152,10 @@ mean-dot-from : (a b z w : Vector) → IsMean a b z → sign (dot w (from_to a z
 mean-dot-from a b z w i = first-null _ _ _ (mean-dot a b z i w a) (ap sign (dot-here w a))
 
 mean-dot-of : (a b z w : Vector) → IsMean a b z → sign (dot (from_to a z) w) ≡ sign (dot (from_to a b) w)
-mean-dot-of a b z w i = ap sign (dot-turned w (from_to a z)) ∙ mean-dot-from a b z w i ∙ ap sign (sym (dot-turned w (from_to a b)))
-
-dot-sum-zero : (d p q : Vector) → dot d (from_to p q) +ℤ dot d (from_to q p) ≡ pos 0
-dot-sum-zero d p q = dot-chain d p q p ∙ dot-here d p
+mean-dot-of a b z w i = ap sign (dot-swap w (from_to a z)) ∙ mean-dot-from a b z w i ∙ ap sign (sym (dot-swap w (from_to a b)))
 
 dot-back : (d p q : Vector) → sign (dot d (from_to p q)) ≡ negated (sign (dot d (from_to q p)))
-dot-back d p q = sign-reversed (dot d (from_to q p)) (dot d (from_to p q)) (dot-sum-zero d q p)
+dot-back d p q = sign-reversed (dot d (from_to q p)) (dot d (from_to p q)) (dot-there_back d q p)
 
 ahead-by : (st s t z : Vector) → IsDirection (from_to s t) → sign (dot (from_to s t) (from_to t z)) ≡ sign (dot (from_to s t) (from_to t s)) → sign (dot (from_to s t) (from_to z t)) ≡ Plus
 ahead-by st s t z d h =

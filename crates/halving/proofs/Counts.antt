@@ -7,26 +7,21 @@ use Rattle.plane.specs.RayCrossing.{IsOffEdge, down_by, is_off, up_by}
 use Rattle.plane.specs.Sign.{Minus, Null, Plus, Sign, is_minus, is_plus, sign}
 use Rattle.plane.specs.Vector.{IsDirection, Vector, cross, east, from_to}
 use Rattle.winding.specs.EdgeList.{IsBalanced, winding_number}
-use Rattle.winding.specs.Member.{In}
+use Rattle.lists.specs.Member.{In}
 use Rattle.winding.specs.Sided.{IsSided}
 use Rattle.halving.specs.Half.{Cutting, IsCut, cut_edges, parts, wholes}
 use Rattle.halving.specs.Line.{Line, has_part, side}
-use Rattle.plane.proofs.FreeSegments.{crossings_seen}
-use Rattle.plane.proofs.RayCrossings.{down_seen, east-direction, up_seen}
-use Rattle.plane.proofs.Signs.{agree, all2-out, imp, imp-out, same_bool, same_sign, same_sign-true}
-use Rattle.winding.proofs.Independence.{winding_independent}
-use Rattle.winding.proofs.Members.{all-either, all-in, in-all, in-either, in-filter, in-left, in-map, in-map-out, in-passes, into-filter, total-filter, total-same}
-use Rattle.winding.proofs.Sums.{none-sum, total, total-++, total-is, total-map}
+use Rattle.plane.proofs.PlaneKit.{crossings_seen, down_seen, east-direction, up_seen}
+use Rattle.plane.proofs.SignKit.{agree, all2-out, imp, imp-out, same_bool, same_sign, same_sign-true, plus-behind}
+use Rattle.winding.proofs.WindingKit.{winding_independent}
+use Rattle.lists.proofs.Members.{all-either, all-in, in-all, in-either, in-filter, in-left, in-map, in-map-out, in-passes, into-filter, total-filter, total-same}
+use Rattle.lists.proofs.Sums.{none-sum, total, total-++, total-is, total-map, cond_by}
 use Rattle.halving.proofs.Above.{WindsOnce, just-above}
 use Rattle.halving.proofs.Sides.{Flat, both-false, both-true, down_flat, flat-level, is-above, kinds, no-part, not-above, not-crossed, off-level, part-crossings, part-ends, part-off, rise, side-sum, up_flat}
 
 -- the edges lie on the line
 abbrev pub AreOn : Line → List Edge → Type 0
 AreOn l es = (e : Edge) → In e es → (side l e.from ≡ Null) × (side l e.to ≡ Null)
-
-cond-by : (b : Bool) (x y : ℕ) → (b ≡ true → x ≡ y) → (b ≡ false → y ≡ 0) → cond b x 0 ≡ y
-cond-by true x y h k = h refl
-cond-by false x y h k = sym (k refl)
 
 pub over-parts : (f : Edge → ℕ) (l : Line) (cs : List Cutting) → total f (parts l cs) ≡ total (λ (c : Cutting). cond (has_part l c.whole) (f c.part) 0) cs
 over-parts f l cs = total-map f (λ (c : Cutting). c.part) (cut_edges l cs) ∙ total-filter (λ (c : Cutting). has_part l c.whole) (λ (c : Cutting). f c.part) cs
@@ -40,11 +35,6 @@ in-parts l cs t i =
 pub into-parts : (l : Line) (cs : List Cutting) (c : Cutting) → In c cs → has_part l c.whole ≡ true → In c.part (parts l cs)
 into-parts l cs c i h = in-map (λ (c : Cutting). c.part) (cut_edges l cs) c (into-filter (λ (c : Cutting). has_part l c.whole) cs c i h)
 
-plus-signs : (a x v : Sign) → agree a x v ≡ true → a ≡ Plus → not (is_plus v) ≡ true → x ≡ Minus
-plus-signs Plus x v h e n = same_sign-true x Minus (imp-out _ _ (imp-out _ _ (all2-out (λ x v. imp (agree Plus x v) λ _. imp (not (is_plus v)) λ _. same_sign x Minus) refl x v) h) n)
-plus-signs Null x v h e n = absurd (cc e)
-plus-signs Minus x v h e n = absurd (cc e)
-
 minus-signs : (a x v : Sign) → agree a x v ≡ true → a ≡ Minus → not (is_minus v) ≡ true → x ≡ Plus
 minus-signs Minus x v h e n = same_sign-true x Plus (imp-out _ _ (imp-out _ _ (all2-out (λ x v. imp (agree Minus x v) λ _. imp (not (is_minus v)) λ _. same_sign x Plus) refl x v) h) n)
 minus-signs Null x v h e n = absurd (cc e)
@@ -52,7 +42,7 @@ minus-signs Plus x v h e n = absurd (cc e)
 
 -- a point strictly on one side is off what lies on the other, closed
 pub off-below : (l : Line) (p : Vector) (e : Edge) → IsDirection l.along → side l p ≡ Plus → not (is_plus (side l e.from)) ≡ true → not (is_plus (side l e.to)) ≡ true → IsOffEdge p e
-off-below l p e d h a b = off-level l.along (from_to p e.from) (from_to p e.to) d Minus refl (plus-signs _ _ _ (side-sum l p e.from) h a) (plus-signs _ _ _ (side-sum l p e.to) h b)
+off-below l p e d h a b = off-level l.along (from_to p e.from) (from_to p e.to) d Minus refl (plus-behind _ _ _ (side-sum l p e.from) h a) (plus-behind _ _ _ (side-sum l p e.to) h b)
 
 pub off-beyond : (l : Line) (p : Vector) (e : Edge) → IsDirection l.along → side l p ≡ Minus → not (is_minus (side l e.from)) ≡ true → not (is_minus (side l e.to)) ≡ true → IsOffEdge p e
 off-beyond l p e d h a b = off-level l.along (from_to p e.from) (from_to p e.to) d Plus refl (minus-signs _ _ _ (side-sum l p e.from) h a) (minus-signs _ _ _ (side-sum l p e.to) h b)
@@ -77,7 +67,7 @@ module _ (l : Line) (d : IsDirection l.along) (cs : List Cutting) (cut : IsCut l
     seen-parts hp =
         over-parts seen l cs
         ∙ total-same (λ (c : Cutting). cond (has_part l c.whole) (seen c.part) 0) (λ (c : Cutting). seen c.whole) cs
-        (λ c i. cond-by (has_part l c.whole) (seen c.part) (seen c.whole) (λ h. part-crossings g f l p hp c.whole c.part (cut c i h) h) (λ h. not-crossed g f l p hp c.whole c.part h))
+        (λ c i. cond_by (has_part l c.whole) (seen c.part) (seen c.whole) (λ h. part-crossings g f l p hp c.whole c.part (cut c i h) h) (λ h. not-crossed g f l p hp c.whole c.part h))
         ∙ sym (total-map seen (λ (c : Cutting). c.whole) cs)
 
     zero-all : (es : List Edge) → ((e : Edge) → In e es → seen e ≡ 0) → total seen es ≡ 0

@@ -7,7 +7,7 @@ use Rattle.plane.specs.Scale.{scaled_edge}
 use Rattle.plane.specs.Sign.{Minus, Null, Plus, sign}
 use Rattle.plane.specs.Vector.{Vector, east}
 use Rattle.winding.specs.EdgeList.{IsBalanced, winding_number}
-use Rattle.winding.specs.Member.{In}
+use Rattle.lists.specs.Member.{In}
 use Rattle.winding.specs.Parity.{is_even}
 use Rattle.winding.specs.ScaledEdges.{scaled_edges}
 use Rattle.winding.specs.Sided.{IsSided}
@@ -18,7 +18,7 @@ use Rattle.halving.proofs.Above.{WindsOnce}
 use Rattle.halving.proofs.Balance.{half-balanced}
 use Rattle.halving.proofs.Counts.{AreOn, beyond-count, counted, kept-count, off-half, off-half-beyond}
 use Rattle.halving.proofs.ScaledHalves.{cut-scaled, on-scaled, parts-scaled, scaled_cuttings, wholes-scaled}
-use Rattle.halving.proofs.ScaledSides.{balanced-scaled, sided-scaled}
+use Rattle.winding.proofs.WindingKit.{balanced-scaled, sided-scaled}
 
 -- ---- the edges between the ends lie on the line
 on-cond : (l : Line) (b : Bool) (z w : Vector) (es : List Edge) → side l z ≡ Null → side l w ≡ Null → AreOn l es → AreOn l (cond b es (record { from = z; to = w } ∷ es))

@@ -1,11 +1,11 @@
-pub mod Above
-pub mod AlongLine
-pub mod Balance
-pub mod Clears
-pub mod Counts
-pub mod Halves
-pub mod Means
-pub mod Plain
-pub mod ScaledHalves
-pub mod ScaledSides
-pub mod Sides
+mod Above
+mod AlongLine
+mod Balance
+mod Clears
+mod Counts
+mod Halves
+pub mod HalvingKit
+mod Means
+mod Plain
+mod ScaledHalves
+mod Sides

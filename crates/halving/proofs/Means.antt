@@ -5,11 +5,8 @@ use lib.IntN.{pos, ℤ, ◌*ℤ◌, ◌+ℤ◌, ◌-ℤ◌}
 use Rattle.plane.specs.Scale.{scaled_point}
 use Rattle.plane.specs.Sign.{Minus, Null, Plus, Sign, negated, sign}
 use Rattle.plane.specs.Vector.{Vector, cross, dot, from_to, orient}
-use Rattle.plane.proofs.Identities.{apart, lift, same, ◌⊞◌, ◌⊟◌, ◌⊠◌}
-use Rattle.plane.proofs.Points.{same_vector}
-use Rattle.plane.proofs.Products.{cross-negated, cross-self, cross2, dot2, from_to2, lift2}
-use Rattle.plane.proofs.Signs.{agree, null-zero, plus-sum, plus-times, says-at, sign-from, sign-reversed, weighted-agree}
-use Rattle.plane.proofs.Views.{cross-weigh, dot-weigh, weigh}
+use Rattle.plane.proofs.SignKit.{apart, lift, same, ◌⊞◌, ◌⊟◌, ◌⊠◌, agree, null-zero, plus-sum, plus-times, sign-reversed, weighted-agree, difference_turned}
+use Rattle.plane.proofs.PlaneKit.{same_vector, cross-negated, cross-self, cross2, from_to2, lift2, reversed-side, cross-weigh, dot-weigh, weigh, cross-times, dot-times}
 
 -- z is a mean of a and b: (m + n) * z = m * a + n * b
 pub record IsMean (a b z : Vector) : Type 0 where
@@ -40,16 +37,6 @@ shift-by m n z a b p e =
     let m' = lift m in let n' = lift n in let z' = lift z in let a' = lift a in let b' = lift b in let p' = lift p in
     same ((m' ⊞ n') ⊠ (z' ⊟ p')) (m' ⊠ (a' ⊟ p') ⊞ n' ⊠ (b' ⊟ p')) (omega (arith, apart ((m' ⊞ n') ⊠ z') (m' ⊠ a' ⊞ n' ⊠ b') e))
 
-cross-k : (k : ℤ) (d a : Vector) → cross d (scaled_point k a) ≡ k *ℤ cross d a
-cross-k k d a =
-    let k' = lift k in let e = lift2 d in let u = lift2 a in
-    same (e.x2 ⊠ (k' ⊠ u.y2) ⊟ e.y2 ⊠ (k' ⊠ u.x2)) (k' ⊠ cross2 e u) (omega arith)
-
-dot-k : (k : ℤ) (d a : Vector) → dot d (scaled_point k a) ≡ k *ℤ dot d a
-dot-k k d a =
-    let k' = lift k in let e = lift2 d in let u = lift2 a in
-    same (e.x2 ⊠ (k' ⊠ u.x2) ⊞ e.y2 ⊠ (k' ⊠ u.y2)) (k' ⊠ dot2 e u) (omega arith)
-
 zero-left : (m n x y : ℤ) → x ≡ pos 0 → m *ℤ x +ℤ n *ℤ y ≡ n *ℤ y
 zero-left m n x y z =
     let m' = lift m in let n' = lift n in let y' = lift y in
@@ -67,10 +54,10 @@ module _ (a b z : Vector) (i : IsMean a b z) where
       (shift-by i.m i.n z.x a.x b.x p.x i.same_x) (shift-by i.m i.n z.y a.y b.y p.y i.same_y)
 
   mean-cross-is : (d p : Vector) → k *ℤ cross d (from_to p z) ≡ i.m *ℤ cross d (from_to p a) +ℤ i.n *ℤ cross d (from_to p b)
-  mean-cross-is d p = sym (cross-k k d (from_to p z)) ∙ ap (cross d) (seen p) ∙ cross-weigh i.m i.n d (from_to p a) (from_to p b)
+  mean-cross-is d p = sym (cross-times k d (from_to p z)) ∙ ap (cross d) (seen p) ∙ cross-weigh i.m i.n d (from_to p a) (from_to p b)
 
   mean-dot-is : (d p : Vector) → k *ℤ dot d (from_to p z) ≡ i.m *ℤ dot d (from_to p a) +ℤ i.n *ℤ dot d (from_to p b)
-  mean-dot-is d p = sym (dot-k k d (from_to p z)) ∙ ap (dot d) (seen p) ∙ dot-weigh i.m i.n d (from_to p a) (from_to p b)
+  mean-dot-is d p = sym (dot-times k d (from_to p z)) ∙ ap (dot d) (seen p) ∙ dot-weigh i.m i.n d (from_to p a) (from_to p b)
 
   -- the side of a mean is between those of the ends
   pub mean-cross : (d p : Vector) → agree (sign (cross d (from_to p a))) (sign (cross d (from_to p b))) (sign (cross d (from_to p z))) ≡ true
@@ -114,24 +101,16 @@ drop-zeros A B p q r s hq hs e =
     let A' = lift A in let B' = lift B in let p' = lift p in let r' = lift r in
     same A' B' (omega (arith, apart (A' ⊞ lift (pos 0) ⊠ p') (B' ⊞ r' ⊠ lift (pos 0)) f))
 
-turned : (x c : ℤ) → sign (x -ℤ c) ≡ Minus → sign (c -ℤ x) ≡ Plus
-turned x c h = let k = says-at Minus (x -ℤ c) h in sign-from Plus (c -ℤ x) (omega (arith, ints))
-
 -- from the kept side to the other one
 pub meeting-is-mean : (u a b z : Vector) (c : ℤ) → sign (cross u a -ℤ c) ≡ Plus → sign (cross u b -ℤ c) ≡ Minus → sign (cross u z -ℤ c) ≡ Null → orient a b z ≡ Null → IsMean a b z
 meeting-is-mean u a b z c ha hb hz on = record {
   m = c -ℤ cross u b;
   n = cross u a -ℤ c;
-  m_positive = turned (cross u b) c hb;
+  m_positive = difference_turned (cross u b) c hb;
   n_positive = ha;
   same_x = drop-zeros _ _ (b.x -ℤ a.x) (cross u z -ℤ c) u.x (cross (from_to a b) (from_to a z)) (null-zero _ hz) (null-zero _ on) (identity-x u a b z c);
   same_y = drop-zeros _ _ (b.y -ℤ a.y) (cross u z -ℤ c) u.y (cross (from_to a b) (from_to a z)) (null-zero _ hz) (null-zero _ on) (identity-y u a b z c);
 }
-
-orient-turned : (a b z : Vector) → cross (from_to a b) (from_to a z) +ℤ cross (from_to b a) (from_to b z) ≡ pos 0
-orient-turned a b z =
-    let a' = lift2 a in let b' = lift2 b in let z' = lift2 z in
-    same (cross2 (from_to2 a' b') (from_to2 a' z') ⊞ cross2 (from_to2 b' a') (from_to2 b' z')) (lift (pos 0)) (omega arith)
 
 negated-null : (s t : Sign) → s ≡ Null → t ≡ negated s → t ≡ Null
 negated-null s t h k = k ∙ ap negated h
@@ -140,7 +119,7 @@ negated-null s t h k = k ∙ ap negated h
 pub meeting-is-mean-back : (u a b z : Vector) (c : ℤ) → sign (cross u a -ℤ c) ≡ Minus → sign (cross u b -ℤ c) ≡ Plus → sign (cross u z -ℤ c) ≡ Null → orient a b z ≡ Null → IsMean a b z
 meeting-is-mean-back u a b z c ha hb hz on =
     mean-back b a z (meeting-is-mean u b a z c hb ha hz
-    (negated-null (orient a b z) (orient b a z) on (sign-reversed (cross (from_to a b) (from_to a z)) (cross (from_to b a) (from_to b z)) (orient-turned a b z))))
+    (negated-null (orient a b z) (orient b a z) on (sign-reversed (cross (from_to a b) (from_to a z)) (cross (from_to b a) (from_to b z)) (reversed-side a b z))))
 
 -- ---- only one point of an edge is on a line that it crosses
 one-number : (k x y r : ℤ) → sign k ≡ Plus → k *ℤ x ≡ r → k *ℤ y ≡ r → x ≡ y
@@ -152,7 +131,7 @@ one-number k x y r hk e f =
 pub meeting-one : (u a b z w : Vector) (c : ℤ) → sign (cross u a -ℤ c) ≡ Plus → sign (cross u b -ℤ c) ≡ Minus → sign (cross u z -ℤ c) ≡ Null → orient a b z ≡ Null → sign (cross u w -ℤ c) ≡ Null → orient a b w ≡ Null → z ≡ w
 meeting-one u a b z w c ha hb hz oz hw ow =
     let k = (c -ℤ cross u b) +ℤ (cross u a -ℤ c) in
-    let hk : sign k ≡ Plus = plus-sum (c -ℤ cross u b) (cross u a -ℤ c) (turned (cross u b) c hb) ha in
+    let hk : sign k ≡ Plus = plus-sum (c -ℤ cross u b) (cross u a -ℤ c) (difference_turned (cross u b) c hb) ha in
     let zx = drop-zeros (k *ℤ z.x) ((c -ℤ cross u b) *ℤ a.x +ℤ (cross u a -ℤ c) *ℤ b.x) (b.x -ℤ a.x) (cross u z -ℤ c) u.x (cross (from_to a b) (from_to a z)) (null-zero _ hz) (null-zero _ oz) (identity-x u a b z c) in
     let zy = drop-zeros (k *ℤ z.y) ((c -ℤ cross u b) *ℤ a.y +ℤ (cross u a -ℤ c) *ℤ b.y) (b.y -ℤ a.y) (cross u z -ℤ c) u.y (cross (from_to a b) (from_to a z)) (null-zero _ hz) (null-zero _ oz) (identity-y u a b z c) in
     let wx = drop-zeros (k *ℤ w.x) ((c -ℤ cross u b) *ℤ a.x +ℤ (cross u a -ℤ c) *ℤ b.x) (b.x -ℤ a.x) (cross u w -ℤ c) u.x (cross (from_to a b) (from_to a w)) (null-zero _ hw) (null-zero _ ow) (identity-x u a b w c) in
@@ -161,5 +140,5 @@ meeting-one u a b z w c ha hb hz oz hw ow =
 
 pub meeting-one-back : (u a b z w : Vector) (c : ℤ) → sign (cross u a -ℤ c) ≡ Minus → sign (cross u b -ℤ c) ≡ Plus → sign (cross u z -ℤ c) ≡ Null → orient a b z ≡ Null → sign (cross u w -ℤ c) ≡ Null → orient a b w ≡ Null → z ≡ w
 meeting-one-back u a b z w c ha hb hz oz hw ow =
-    let t = λ (v : Vector) (h : orient a b v ≡ Null). negated-null (orient a b v) (orient b a v) h (sign-reversed (cross (from_to a b) (from_to a v)) (cross (from_to b a) (from_to b v)) (orient-turned a b v)) in
+    let t = λ (v : Vector) (h : orient a b v ≡ Null). negated-null (orient a b v) (orient b a v) h (sign-reversed (cross (from_to a b) (from_to a v)) (cross (from_to b a) (from_to b v)) (reversed-side a b v)) in
     meeting-one u b a z w c hb ha hz (t z oz) hw (t w ow)

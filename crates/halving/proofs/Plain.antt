@@ -7,19 +7,17 @@ use Rattle.plane.specs.Order.{order}
 use Rattle.plane.specs.Sign.{Minus, Null, Plus, Sign, are_opposite, is_minus, is_null, is_plus, negated, sign}
 use Rattle.plane.specs.Vector.{IsDirection, Vector, cross, dot, from_to}
 use Rattle.winding.specs.ConflictFree.{IsConflictFree}
-use Rattle.winding.specs.Member.{EachPair, In}
+use Rattle.lists.specs.Member.{EachPair, In}
 use Rattle.winding.specs.Parity.{is_even}
 use Rattle.winding.specs.Ring.{segments_of}
 use Rattle.winding.specs.Sided.{IsSided}
 use Rattle.halving.specs.Half.{AreMeetings, Cutting, IsCut, closing, closing_from, cut_edges, ends_up_to, half, parts, wholes}
 use Rattle.halving.specs.Line.{Line, has_part, order_along, side}
-use Rattle.plane.proofs.Edges.{ends_at-from, ends_at-to}
-use Rattle.plane.proofs.PointOrder.{order-null, order-reversed, rising-direction}
-use Rattle.plane.proofs.Products.{direction-back, frame-agree, frame-dot-agree, orient-round, side-there}
-use Rattle.plane.proofs.Signs.{agree, all, all-out, all2, all2-out, all4, all4-out, imp, imp-out, same_sign, same_sign-true, times}
-use Rattle.winding.proofs.ConflictFree.{rising_in}
-use Rattle.winding.proofs.Members.{all-in, in-all, in-either, in-filter, in-map, in-map-out, in-passes, pairs-append, pairs-filter, pairs-weaker}
-use Rattle.halving.proofs.AlongLine.{IsApart, along-negated, along-self, along-sum, null-first, rise-null}
+use Rattle.plane.proofs.PlaneKit.{ends_at-from, ends_at-to, order-null, order-reversed, rising-direction, direction-back, frame-agree, frame-dot-agree, orient-round, side-there}
+use Rattle.plane.proofs.SignKit.{agree, all4, all4-out, imp, imp-out, same_sign, same_sign-true, times, all3-out, negated-not-plus, null-first}
+use Rattle.winding.proofs.WindingKit.{rising_in}
+use Rattle.lists.proofs.Members.{all-in, in-all, in-either, in-filter, in-map, in-map-out, in-passes, pairs-append, pairs-filter, pairs-weaker, pairs-into-map, pairs-out-of-map}
+use Rattle.halving.proofs.AlongLine.{IsApart, along-negated, along-self, along-sum, rise-null}
 use Rattle.halving.proofs.Balance.{AreKept, IsAfter, IsPlaced, kept-part, placed-apart, placed-next}
 use Rattle.halving.proofs.Clears.{AreClear, both-segments, clear-of, clear-swap, from-segments, of-clear, part-clear}
 use Rattle.halving.proofs.Counts.{in-parts}
@@ -74,9 +72,6 @@ begins_1 c y x = imp (agree (times Plus c) (times y Null) (times x Plus)) λ _. 
 
 abbrev stops_1 : Sign → Sign → Sign → Bool
 stops_1 c y x = imp (agree (times Plus c) (times y Plus) (times x Null)) λ _. same_sign c (negated y)
-
-sign-at : (f : Sign → Sign → Sign → Bool) → all2 (λ a b. all (f a b)) ≡ true → (a b c : Sign) → f a b c ≡ true
-sign-at f h a b c = all-out (f a b) (all2-out (λ a b. all (f a b)) h a b) c
 
 apart-signs : (o p : Sign) → is_plus o ≡ not (is_minus p) → not (are_opposite o p) ≡ true
 apart-signs Plus Minus h = absurd (cc h)
@@ -135,13 +130,13 @@ module _ (l : Line) (d : IsDirection l.along) (e : Edge) (i : IsLink l e) where
   link-cross x =
       let f = subst (λ o. agree (times Plus (sign (cross (from_to z w) x))) (times (sign (dot u x)) (rise l z w)) (times o (sign (cross u x))) ≡ true) i.forward (frame-agree u (from_to z w) x d) in
       let g = subst (λ r. agree (times Plus (sign (cross (from_to z w) x))) (times (sign (dot u x)) r) (times Plus (sign (cross u x))) ≡ true) link-rise f in
-      same_sign-true _ _ (imp-out _ _ (sign-at across_1 refl (sign (cross (from_to z w) x)) (sign (dot u x)) (sign (cross u x))) g)
+      same_sign-true _ _ (imp-out _ _ (all3-out across_1 refl (sign (cross (from_to z w) x)) (sign (dot u x)) (sign (cross u x))) g)
 
   pub link-dot : (x : Vector) → sign (dot (from_to z w) x) ≡ sign (dot u x)
   link-dot x =
       let f = subst (λ o. agree (times o (sign (dot u x))) (times (rise l z w) (sign (cross u x))) (times Plus (sign (dot (from_to z w) x))) ≡ true) i.forward (frame-dot-agree u (from_to z w) x d) in
       let g = subst (λ r. agree (times Plus (sign (dot u x))) (times r (sign (cross u x))) (times Plus (sign (dot (from_to z w) x))) ≡ true) link-rise f in
-      same_sign-true _ _ (imp-out _ _ (sign-at along_1 refl (sign (dot (from_to z w) x)) (sign (dot u x)) (sign (cross u x))) g)
+      same_sign-true _ _ (imp-out _ _ (all3-out along_1 refl (sign (dot (from_to z w) x)) (sign (dot u x)) (sign (cross u x))) g)
 
   rise-of : (p v : Vector) → side l p ≡ Null → rise l p v ≡ side l v
   rise-of p v hp = null-first (side l p) (rise l p v) (side l v) (side-sum l p v) hp
@@ -161,10 +156,10 @@ module _ (l : Line) (d : IsDirection l.along) (e : Edge) (i : IsLink l e) where
         (subst (λ x. agree (times Plus (turn p)) (times (order_along l p t.to) x) (times (order_along l p t.from) (rise l p t.to)) ≡ true) (rise-of p t.from hp ∙ ha) f)
 
     begins : (p : Vector) → side l p ≡ Null → side l t.from ≡ Null → side l t.to ≡ Plus → turn p ≡ order_along l p t.from
-    begins p hp ha hb = same_sign-true (turn p) (order_along l p t.from) (imp-out _ _ (sign-at begins_1 refl (turn p) (order_along l p t.to) (order_along l p t.from)) (turn-agree p Null Plus hp ha hb))
+    begins p hp ha hb = same_sign-true (turn p) (order_along l p t.from) (imp-out _ _ (all3-out begins_1 refl (turn p) (order_along l p t.to) (order_along l p t.from)) (turn-agree p Null Plus hp ha hb))
 
     stops : (p : Vector) → side l p ≡ Null → side l t.from ≡ Plus → side l t.to ≡ Null → turn p ≡ negated (order_along l p t.to)
-    stops p hp ha hb = same_sign-true (turn p) (negated (order_along l p t.to)) (imp-out _ _ (sign-at stops_1 refl (turn p) (order_along l p t.to) (order_along l p t.from)) (turn-agree p Plus Null hp ha hb))
+    stops p hp ha hb = same_sign-true (turn p) (negated (order_along l p t.to)) (imp-out _ _ (all3-out stops_1 refl (turn p) (order_along l p t.to) (order_along l p t.from)) (turn-agree p Plus Null hp ha hb))
 
     link-by : (a b : Sign) → side l t.from ≡ a → side l t.to ≡ b → not (is_minus a) ≡ true → not (is_minus b) ≡ true → (is_plus a || is_plus b) ≡ true → (us vs ut vt : Sign) → misses_by a b (turn z) (turn w) us vs ut vt ≡ true
     link-by Plus Plus ha hb na nb h us vs ut vt = refl
@@ -216,15 +211,10 @@ second-way false false b h k = absurd (cc h)
 second-way false true false h k = absurd (cc k)
 
 later-sign : (x y z : Sign) → agree x y z ≡ true → not (is_minus x) ≡ true → y ≡ Plus → not (is_minus z) ≡ true
-later-sign x y z h n e = imp-out _ _ (imp-out _ _ (imp-out _ _ (sign-at (λ x y z. imp (agree x y z) λ _. imp (not (is_minus x)) λ _. imp (is_plus y) λ _. not (is_minus z)) refl x y z) h) n) (ap is_plus e)
+later-sign x y z h n e = imp-out _ _ (imp-out _ _ (imp-out _ _ (all3-out (λ x y z. imp (agree x y z) λ _. imp (not (is_minus x)) λ _. imp (is_plus y) λ _. not (is_minus z)) refl x y z) h) n) (ap is_plus e)
 
 earlier-sign : (x y z : Sign) → agree x y z ≡ true → not (is_plus x) ≡ true → y ≡ Minus → not (is_plus z) ≡ true
-earlier-sign x y z h n e = imp-out _ _ (imp-out _ _ (imp-out _ _ (sign-at (λ x y z. imp (agree x y z) λ _. imp (not (is_plus x)) λ _. imp (is_minus y) λ _. not (is_plus z)) refl x y z) h) n) (ap is_minus e)
-
-negated-not-plus : (s : Sign) → not (is_minus s) ≡ true → not (is_plus (negated s)) ≡ true
-negated-not-plus Plus h = refl
-negated-not-plus Null h = refl
-negated-not-plus Minus h = absurd (cc h)
+earlier-sign x y z h n e = imp-out _ _ (imp-out _ _ (imp-out _ _ (all3-out (λ x y z. imp (agree x y z) λ _. imp (not (is_plus x)) λ _. imp (is_minus y) λ _. not (is_plus z)) refl x y z) h) n) (ap is_minus e)
 
 links-clear : (l : Line) → IsDirection l.along → (e f : Edge) → IsLink l e → IsLink l f → not (is_minus (order_along l e.to f.from)) ≡ true → AreClear e f
 links-clear l d e f i j n =
@@ -259,7 +249,7 @@ pub record IsStep (l : Line) (ts : List Edge) (p : Vector) (e : Edge) : Type 0 w
   pub later : not (is_minus (order_along l p e.from)) ≡ true
 
 earlier-by : (x y z : Sign) → agree x y z ≡ true → x ≡ Plus → not (is_minus y) ≡ true → not (is_minus z) ≡ true
-earlier-by x y z h e n = imp-out _ _ (imp-out _ _ (imp-out _ _ (sign-at (λ x y z. imp (agree x y z) λ _. imp (is_plus x) λ _. imp (not (is_minus y)) λ _. not (is_minus z)) refl x y z) h) (ap is_plus e)) n
+earlier-by x y z h e n = imp-out _ _ (imp-out _ _ (imp-out _ _ (all3-out (λ x y z. imp (agree x y z) λ _. imp (is_plus x) λ _. imp (not (is_minus y)) λ _. not (is_minus z)) refl x y z) h) (ap is_plus e)) n
 
 module _ (l : Line) (d : IsDirection l.along) (ts : List Edge) where
   earlier : (z w : Vector) (e : Edge) → IsAfter l z w → IsStep l ts w e → IsStep l ts z e
@@ -313,17 +303,6 @@ module _ (l : Line) (d : IsDirection l.along) (ts : List Edge) where
       (all-in (AreClear (record { from = z; to = w })) (closing_from l ts w r) (λ e i.
       let t = steps w r hw (λ x j. hr x (inr j)) rising.1 next e i in links-clear l d (record { from = z; to = w }) e s.link t.link t.later))
       (step-pairs w r hw (λ x j. hr x (inr j)) rising.1 next)
-
--- ---- lists
-pub pairs-into-map : {X Y : Type 0} (R : Y → Y → Type 0) (f : X → Y) (xs : List X) → EachPair (λ x y. R (f x) (f y)) xs → EachPair R (map f xs)
-pairs-into-map R f [] h = tt
-pairs-into-map R f (x ∷ xs) h =
-    (all-in (R (f x)) (map f xs) (λ y i. let r = in-map-out f xs y i in subst (R (f x)) (sym r.2) (in-all (λ y. R (f x) (f y)) xs r.0 h.0 r.1)), pairs-into-map R f xs h.1)
-
-pairs-out-of-map : {X Y : Type 0} (R : Y → Y → Type 0) (f : X → Y) (xs : List X) → EachPair R (map f xs) → EachPair (λ x y. R (f x) (f y)) xs
-pairs-out-of-map R f [] h = tt
-pairs-out-of-map R f (x ∷ xs) h =
-    (all-in (λ y. R (f x) (f y)) xs (λ y i. in-all (R (f x)) (map f xs) (f y) h.0 (in-map f xs y i)), pairs-out-of-map R f xs h.1)
 
 -- ---- the half
 -- what the edges on the line are to a list of parts

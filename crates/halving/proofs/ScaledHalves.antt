@@ -9,12 +9,10 @@ use Rattle.plane.specs.Vector.{Vector, cross}
 use Rattle.winding.specs.ScaledEdges.{scaled_edges}
 use Rattle.halving.specs.Half.{Cutting, IsCut, IsPart, IsPartEnd, parts, wholes}
 use Rattle.halving.specs.Line.{Line, has_part, scaled_line, side}
-use Rattle.plane.proofs.Identities.{lift, same, ◌⊟◌, ◌⊠◌}
-use Rattle.plane.proofs.Products.{cross2, lift2}
-use Rattle.plane.proofs.Scaling.{orient-scaled}
-use Rattle.plane.proofs.Signs.{plus-times}
-use Rattle.winding.proofs.Members.{in-map-out}
-use Rattle.winding.proofs.ScaledLists.{map-map}
+use Rattle.plane.proofs.SignKit.{lift, same, ◌⊟◌, ◌⊠◌, plus-times}
+use Rattle.plane.proofs.PlaneKit.{cross2, lift2, orient-scaled}
+use Rattle.lists.proofs.Members.{in-map-out}
+use Rattle.lists.proofs.Maps.{map-map}
 use Rattle.halving.proofs.Counts.{AreOn}
 
 abbrev pub scaled_cutting : ℤ → Cutting → Cutting

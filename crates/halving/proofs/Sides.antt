@@ -5,10 +5,8 @@ use Rattle.plane.specs.Edge.{Edge}
 use Rattle.plane.specs.RayCrossing.{IsOff, down_by, is_off, off_by, up_by}
 use Rattle.plane.specs.Sign.{Minus, Null, Plus, Sign, is_minus, is_null, is_plus, negated, sign}
 use Rattle.plane.specs.Vector.{IsDirection, Vector, cross, dot, from_to}
-use Rattle.plane.proofs.FreeSegments.{crossings_seen}
-use Rattle.plane.proofs.Identities.{lift, same, ◌⊞◌, ◌⊟◌}
-use Rattle.plane.proofs.Products.{cross-negated, cross2, dot2, frame-agree, frame-dot-agree, from_to2, lift2}
-use Rattle.plane.proofs.Signs.{agree, agree-sum, all, all-out, all2, all2-out, all4, all4-out, imp, imp-out, same_bool, same_bool-true, times}
+use Rattle.plane.proofs.PlaneKit.{crossings_seen, cross-negated, cross2, frame-agree, frame-dot-agree, from_to2, lift2, dot-swap}
+use Rattle.plane.proofs.SignKit.{lift, same, ◌⊞◌, ◌⊟◌, agree, agree-sum, all, all-out, all2, all2-out, all4, all4-out, imp, imp-out, same_bool, same_bool-true, times, null-not-plus, minus-not-plus, neither-plus}
 use Rattle.halving.specs.Half.{IsPart, IsPartEnd}
 use Rattle.halving.specs.Line.{Line, has_part, side}
 use Rattle.halving.proofs.Means.{IsMean, mean-back, mean-first, mean-second, meeting-is-mean, meeting-is-mean-back}
@@ -87,16 +85,13 @@ off-level u a b d s n ha hb =
     let e = all2-out (level_2 s (sign (cross a b)) (sign (dot u a))) (all-out (λ x. all2 (level_2 s (sign (cross a b)) x)) c (sign (dot u a))) (sign (dot u b)) (sign (dot a b)) in
     imp-out _ _ (imp-out _ _ e (rw (ha, hb) at f)) (rw (ha, hb) at g)
 
-pub dot-turned : (a b : Vector) → dot b a ≡ dot a b
-dot-turned a b = let e = lift2 a in let f = lift2 b in same (dot2 f e) (dot2 e f) (omega arith)
-
 off-negated : (c s : Sign) → off_by (negated c) s ≡ off_by c s
 off-negated Plus s = refl
 off-negated Minus s = refl
 off-negated Null s = refl
 
 pub off-turned : (a b : Vector) → off_by (sign (cross b a)) (sign (dot b a)) ≡ off_by (sign (cross a b)) (sign (dot a b))
-off-turned a b = ap (λ c. off_by c (sign (dot b a))) (cross-negated a b) ∙ ap (λ z. off_by (negated (sign (cross a b))) (sign z)) (dot-turned a b) ∙ off-negated (sign (cross a b)) (sign (dot a b))
+off-turned a b = ap (λ c. off_by c (sign (dot b a))) (cross-negated a b) ∙ ap (λ z. off_by (negated (sign (cross a b))) (sign z)) (dot-swap a b) ∙ off-negated (sign (cross a b)) (sign (dot a b))
 
 -- ---- off a part as off its edge: a on the kept side, b on the other, z between them on the line. x, y, w: where they are along the line
 abbrev cut_3 : Sign → Sign → Sign → Sign → Sign → Sign → Sign → Sign → Bool
@@ -186,12 +181,6 @@ pub kinds : (l : Line) (e t : Edge) → IsPart l e t → has_part l e ≡ true �
 kinds l e t p s = kinds-by l e t (side l e.from) (side l e.to) refl refl p.from p.to s
 
 -- ---- from a point of the closed kept side the ray along the line crosses a part as it crosses its edge
-pub null-not-plus : (s : Sign) → s ≡ Null → not (is_plus s) ≡ true
-null-not-plus s h = ap (λ x. not (is_plus x)) h
-
-pub minus-not-plus : (s : Sign) → s ≡ Minus → not (is_plus s) ≡ true
-minus-not-plus s h = ap (λ x. not (is_plus x)) h
-
 module _ (g : Sign → Sign → Sign → ℕ) (f : Flat g) (l : Line) (p : Vector) (hp : not (is_minus (side l p)) ≡ true) (e t : Edge) where
   abbrev seen : Vector → Vector
   seen = from_to p
@@ -214,18 +203,8 @@ module _ (g : Sign → Sign → Sign → ℕ) (f : Flat g) (l : Line) (p : Vecto
   pub part-crossings : IsPart l e t → has_part l e ≡ true → crossings_seen g l.along (from_to p) t ≡ crossings_seen g l.along (from_to p) e
   part-crossings i s = crossings-kind (kinds l e t i s)
 
-  -- an edge without a part is not crossed
-  no-part-by : (a b : Sign) → (is_plus a || is_plus b) ≡ false → (not (is_plus a) ≡ true) × (not (is_plus b) ≡ true)
-  no-part-by Plus b h = absurd (cc h)
-  no-part-by Null Plus h = absurd (cc h)
-  no-part-by Minus Plus h = absurd (cc h)
-  no-part-by Null Null h = (refl, refl)
-  no-part-by Null Minus h = (refl, refl)
-  no-part-by Minus Null h = (refl, refl)
-  no-part-by Minus Minus h = (refl, refl)
-
   pub no-part : has_part l e ≡ false → (not (is_plus (side l e.from)) ≡ true) × (not (is_plus (side l e.to)) ≡ true)
-  no-part h = no-part-by (side l e.from) (side l e.to) h
+  no-part h = neither-plus (side l e.from) (side l e.to) h
 
   pub not-crossed : has_part l e ≡ false → crossings_seen g l.along (from_to p) e ≡ 0
   not-crossed h =

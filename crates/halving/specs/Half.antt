@@ -4,7 +4,7 @@ use Rattle.std.specs.List.{count_by, filter}
 use Rattle.plane.specs.Edge.{Edge, ends_at}
 use Rattle.plane.specs.Sign.{Minus, Null, Plus, Sign, is_minus, is_null}
 use Rattle.plane.specs.Vector.{Vector, orient}
-use Rattle.winding.specs.Member.{EachPair, In}
+use Rattle.lists.specs.Member.{EachPair, In}
 use Rattle.winding.specs.Parity.{is_even}
 use Rattle.halving.specs.Line.{Line, has_part, order_along, side}
 
@@ -50,14 +50,6 @@ is_up_to l z v = is_null (side l v) && not (is_minus (order_along l v z))
 -- how many parts end on the line at z or before it
 abbrev pub ends_up_to : Line → List Edge → Vector → ℕ
 ends_up_to l ts z = count_by (λ (t : Edge). is_up_to l z t.from || is_up_to l z t.to) ts
-
--- v is on the line, at z or after it
-abbrev pub is_from : Line → Vector → Vector → Bool
-is_from l z v = is_null (side l v) && not (is_minus (order_along l z v))
-
--- how many parts end on the line at z or after it
-abbrev pub ends_from : Line → List Edge → Vector → ℕ
-ends_from l ts z = count_by (λ (t : Edge). is_from l z t.from || is_from l z t.to) ts
 
 -- the edges on the line from z on: one between neighbours exactly where the number of parts that end on the line up to the lower is odd
 abbrev pub closing_from : Line → List Edge → Vector → List Vector → List Edge

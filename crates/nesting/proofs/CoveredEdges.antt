@@ -12,27 +12,15 @@ use Rattle.plane.specs.Sign.{Minus, Null, Plus, is_plus, sign}
 use Rattle.plane.specs.Vector.{Vector, east, from_to, same_point}
 use Rattle.winding.specs.ConflictFree.{IsConflictFree}
 use Rattle.winding.specs.EdgeList.{IsEvenAtPoints, crossing_count}
-use Rattle.winding.specs.Member.{In}
+use Rattle.lists.specs.Member.{In}
 use Rattle.winding.specs.Node.{away, spokes_in}
 use Rattle.winding.specs.Parity.{is_even}
 use Rattle.winding.specs.Ring.{IsPath, IsRing, segments_of}
-use Rattle.plane.proofs.Bools.{not-not}
-use Rattle.plane.proofs.Conflicts.{clear_misses}
-use Rattle.plane.proofs.Edges.{ends_at-from, ends_at-to}
-use Rattle.plane.proofs.PointOrder.{rising-direction}
-use Rattle.plane.proofs.Points.{same_point-true}
-use Rattle.plane.proofs.Products.{direction-back}
-use Rattle.plane.proofs.RayCrossings.{crossings_at, east-direction}
-use Rattle.winding.proofs.AlongSegment.{along_from, off_all, parity_from_both_ends}
-use Rattle.winding.proofs.Balance.{way, way-direction}
-use Rattle.winding.proofs.ConflictFree.{off_away, rising_in}
-use Rattle.winding.proofs.Independence.{IsOffSeen, parity_independent}
-use Rattle.winding.proofs.Levels.{crossings-right, e-tall, e-view, from_e, low-by, right-level, to_right}
-use Rattle.winding.proofs.Members.{all-in, from-map, in-all, in-filter, in-map, in-passes, into-filter, total-same}
-use Rattle.winding.proofs.OddSides.{same-parity, share, share-is, spokes-is}
-use Rattle.winding.proofs.OppositeEnds.{beyond, crossings-away}
-use Rattle.winding.proofs.RoundNode.{parity_round_node}
-use Rattle.winding.proofs.Sums.{total, total-+, total-is}
+use Rattle.lists.proofs.Bools.{not-not}
+use Rattle.plane.proofs.PlaneKit.{clear_misses, ends_at-from, ends_at-to, rising-direction, same_point-true, direction-back, crossings_at, east-direction}
+use Rattle.winding.proofs.WindingKit.{along_from, off_all, parity_from_both_ends, way, way-direction, off_away, rising_in, IsOffSeen, parity_independent, crossings-right, e-tall, e-view, from_e, low-by, right-level, to_right, same-parity, share, share-is, spokes-is, beyond, crossings-away, parity_round_node}
+use Rattle.lists.proofs.Members.{all-in, from-map, in-all, in-filter, in-map, in-passes, into-filter, total-same}
+use Rattle.lists.proofs.Sums.{total, total-+, total-is}
 
 -- ---- an edge that is clear of a list, and the list: more of the edges of the list are right of it, or ..
 abbrev pub IsClearOfAll : Edge → List Edge → Type 0

@@ -9,20 +9,19 @@ use Rattle.plane.specs.Edge.{Edge}
 use Rattle.plane.specs.Height.{is_in_span, is_right_above}
 use Rattle.plane.specs.Vector.{Vector}
 use Rattle.winding.specs.ConflictFree.{IsConflictFree}
-use Rattle.winding.specs.Member.{EachPair, In}
+use Rattle.lists.specs.Member.{EachPair, In}
 use Rattle.winding.specs.Parity.{is_even}
 use Rattle.winding.specs.Ring.{IsAnchor}
 use Rattle.nesting.proofs.CoveredEdges.{beside}
-use Rattle.nesting.proofs.Nests.{alternate, and-make, clear-of, clear_rings, depth-total, encloses-in, encloses-not, has-not-by, has_same, in-edges, innermost, nearest_exists, nearest_in, not-both, outer_depth, plain-left, plain-part, plain-right, same-ring, true-not-false}
+use Rattle.nesting.proofs.Nests.{alternate, and-make, clear-of, clear_rings, depth-total, encloses-in, encloses-not, has-not-by, has_same, in-edges, innermost, nearest_exists, nearest_in, not-both, outer_depth, plain-left, plain-part, plain-right, same-ring}
+use Rattle.lists.proofs.Bools.{clash, not-not}
 use Rattle.nesting.proofs.OuterTests.{IsDirectBy, IsNearest}
 use Rattle.nesting.proofs.TwoLists.{clear-reversed, contained, disjoint, plain-append}
-use Rattle.plane.proofs.Bools.{and-in, and-out, false-if-never, not-not}
-use Rattle.plane.proofs.Heights.{right_of}
-use Rattle.winding.proofs.Anchors.{anchor_span, some_odd}
-use Rattle.winding.proofs.ConflictFree.{rising_in}
-use Rattle.winding.proofs.Members.{all-in, in-all, in-either, in-filter, in-passes, into-filter, pairs-across}
-use Rattle.winding.proofs.Ranks.{First}
-use Rattle.winding.proofs.Sums.{total, total-is}
+use Rattle.std.proofs.lemmas.Bool.{and_from, and_parts, false_from_ne_true}
+use Rattle.plane.proofs.PlaneKit.{right_of}
+use Rattle.winding.proofs.WindingKit.{anchor_span, some_odd, rising_in, First}
+use Rattle.lists.proofs.Members.{all-in, in-all, in-either, in-filter, in-passes, into-filter, pairs-across}
+use Rattle.lists.proofs.Sums.{total, total-is}
 
 -- ---- at most one
 none-of : {X : Type 0} (q : X → Bool) (xs : List X) → ((x : X) → In x xs → q x ≡ false) → total (λ x. bit (q x)) xs ≡ 0
@@ -31,7 +30,7 @@ none-of q (x ∷ xs) h = let a = ap bit (h x (inl refl)) in let b = none-of q xs
 
 at-most-step : {X : Type 0} (q : X → Bool) (m : Bool) (x : X) (xs : List X) → (b : Bool) → q x ≡ b → (q x ≡ true → m ≡ true) → ((y : X) → In y xs → q x ≡ true → q y ≡ true → ⊥) → total (λ x. bit (q x)) xs ≤ bit m →
     bit b + total (λ x. bit (q x)) xs ≤ bit m
-at-most-step q m x xs true h k d l = let a = none-of q xs (λ y i. false-if-never (q y) (λ z. d y i h z)) in let b = ap bit (k h) in omega arith
+at-most-step q m x xs true h k d l = let a = none-of q xs (λ y i. false_from_ne_true (q y) (λ z. d y i h z)) in let b = ap bit (k h) in omega arith
 at-most-step q m x xs false h k d l = omega arith
 
 pub at-most : {X : Type 0} (q : X → Bool) (m : Bool) (xs : List X) → ((x : X) → In x xs → q x ≡ true → m ≡ true) → EachPair (λ x y. q x ≡ true → q y ≡ true → ⊥) xs → total (λ x. bit (q x)) xs ≤ bit m
@@ -45,7 +44,7 @@ clear-pairs [] p = tt
 clear-pairs (g ∷ gs) p =
     (all-in (AreClear g) gs (λ h i s t a b. pairs-across IsClearOf g (edges_of gs) s t p.clear a (in-edges gs h t i b)), clear-pairs gs (plain-right g (edges_of gs) p))
 
-edges-out-by : (h : List Edge) (hs : List (List Edge)) (s : Edge) → (In s h) ⊎ (In s (edges_of hs)) → (In s (edges_of hs) → (g : List Edge) × In g hs × In s g) → (g : List Edge) × In g (h ∷ hs) × In s g
+pub edges-out-by : (h : List Edge) (hs : List (List Edge)) (s : Edge) → (In s h) ⊎ (In s (edges_of hs)) → (In s (edges_of hs) → (g : List Edge) × In g hs × In s g) → (g : List Edge) × In g (h ∷ hs) × In s g
 edges-out-by h hs s (inl i) k = (h, inl refl, i)
 edges-out-by h hs s (inr i) k = let r = k i in (r.0, inr r.1, r.2)
 
@@ -121,8 +120,8 @@ module _ (gs : List (List Edge)) (n : IsNest gs) (outer : List Edge → Bool) (t
     direct-has o t g d true k = sym (same-ring gs n g t.ring d.edge d.member t.member d.here k)
     direct-has o t g d false k =
         let f = first-nearest e d.edge (edges_of (filter above gs)) d.nearest in
-        let st : above t.ring ≡ true = and-in (outer t.ring) (encloses t.ring e) (inmost-outer o t) t.round in
-        let x = nearest_in gs n h ih e a.member e.from e-span above (λ g i c. (and-out (outer g) (encloses g e) c).1) d.edge f g d.member d.here t.ring t.member st k in
+        let st : above t.ring ≡ true = and_from (outer t.ring) (encloses t.ring e) (inmost-outer o t) t.round in
+        let x = nearest_in gs n h ih e a.member e.from e-span above (λ g i c. (and_parts (outer g) (encloses g e) c).1) d.edge f g d.member d.here t.ring t.member st k in
         let c1 = and-make (has_edge t.ring d.edge) (covers_edge t.ring d.edge) k (x ∙ encloses-in gs n t.ring e t.round) in
         let m = has_same gs t.ring g d.edge d.edge n.plain t.member d.member d.here d.here k in
         let gt = clear_rings gs t.ring g d.edge n.plain t.member d.member d.here k in
@@ -138,9 +137,9 @@ module _ (gs : List (List Edge)) (n : IsNest gs) (outer : List Edge → Bool) (t
   direct_exists h ih e a o =
       let t = inmost h ih e a o in let out = inmost-outer h ih e a o t in
       let sel = λ (g : List Edge). outer g && encloses g e in
-      let m = nearest_exists gs n h ih e a.member e.from (e-span h ih e a) sel (λ g i c. (and-out (outer g) (encloses g e) c).1) t.ring t.member (and-in (outer t.ring) (encloses t.ring e) out t.round) (plain-chosen sel gs n.plain) in
+      let m = nearest_exists gs n h ih e a.member e.from (e-span h ih e a) sel (λ g i c. (and_parts (outer g) (encloses g e) c).1) t.ring t.member (and_from (outer t.ring) (encloses t.ring e) out t.round) (plain-chosen sel gs n.plain) in
       let r = in-edges-out (filter sel gs) m.0 (in-filter (is_right_above e.from e) (edges_of (filter sel gs)) m.0 m.1.here) in
-      let c = and-out (outer r.0) (encloses r.0 e) (in-passes sel gs r.0 r.1) in
+      let c = and_parts (outer r.0) (encloses r.0 e) (in-passes sel gs r.0 r.1) in
       (r.0, record { member = in-filter sel gs r.0 r.1; is = c.0; around = c.1; edge = m.0; here = r.2; nearest = nearest-first e m.0 (edges_of (filter sel gs)) m.1 })
 
   -- under one ring only
@@ -149,7 +148,7 @@ module _ (gs : List (List Edge)) (n : IsNest gs) (outer : List Edge → Bool) (t
 
   not-inner : (k t : List Edge) → outer k ≡ false → outer t ≡ true → (f : Edge) → In k gs → In t gs → In f t → (b : Bool) → has_edge k f ≡ b → b ≡ false
   not-inner k t u o f ik it i false e = refl
-  not-inner k t u o f ik it i true e = absurd (true-not-false (outer t) o (ap outer (sym (same-ring gs n t k f it ik i e)) ∙ u))
+  not-inner k t u o f ik it i true e = absurd (clash (outer t) o (ap outer (sym (same-ring gs n t k f it ik i e)) ∙ u))
 
   -- two inner rings directly under one ring: the one is not in the other
   pub siblings : (g h k : List Edge) → (ih : In h gs) → In k gs → (e f : Edge) → (a : IsAnchor e h) → IsAnchor f k → outer h ≡ false → outer k ≡ false → IsDirectBy gs outer g e → IsDirectBy gs outer g f → encloses k e ≡ true → ⊥

@@ -13,7 +13,7 @@ use Rattle.plane.specs.Edge.{Edge}
 use Rattle.plane.specs.Vector.{Vector, east, from_to}
 use Rattle.winding.specs.ConflictFree.{IsConflictFree}
 use Rattle.winding.specs.EdgeList.{crossing_count, down_count, up_count, winding_number}
-use Rattle.winding.specs.Member.{EachPair, In}
+use Rattle.lists.specs.Member.{EachPair, In}
 use Rattle.winding.specs.Ring.{IsAnchor, segments_of}
 use Rattle.nesting.proofs.DirectEnclosure.{at-most, clear-pairs, direct_exists, direct_once, in-edges-out, siblings}
 use Rattle.nesting.proofs.EnclosingSums.{enclosing_sums}
@@ -23,14 +23,12 @@ use Rattle.nesting.proofs.OuterTests.{HasAnchors, IsDirectBy}
 use Rattle.nesting.proofs.RingLists.{nest-plain, pairs-of, ring_anchor, ring_list_nest}
 use Rattle.nesting.proofs.TwoLists.{clear-reversed}
 use Rattle.nesting.proofs.WoundRings.{area-sum}
-use Rattle.plane.proofs.Bools.{and-in, and-left, and-right, false-if-never}
-use Rattle.plane.proofs.Conflicts.{self_conflicts}
-use Rattle.plane.proofs.RayCrossings.{down_seen, up_seen}
-use Rattle.winding.proofs.Anchors.{anchor_one, leftmost_anchor, leftmost_of}
-use Rattle.winding.proofs.ConflictFree.{rising_in}
-use Rattle.winding.proofs.Independence.{count-is}
-use Rattle.winding.proofs.Members.{all-in, in-all, in-filter, in-map, in-map-out, in-passes, into-filter, pairs-weaker, total-same}
-use Rattle.winding.proofs.Sums.{total, total-+, total-is, total-map}
+use Rattle.std.proofs.lemmas.Bool.{and_from, false_from_ne_true}
+use Rattle.lists.proofs.Bools.{and-left, and-right}
+use Rattle.plane.proofs.PlaneKit.{self_conflicts, down_seen, up_seen}
+use Rattle.winding.proofs.WindingKit.{anchor_one, leftmost_anchor, leftmost_of, rising_in, count-is}
+use Rattle.lists.proofs.Members.{all-in, in-all, in-filter, in-map, in-map-out, in-passes, into-filter, pairs-weaker, total-same}
+use Rattle.lists.proofs.Sums.{total, total-+, total-is, total-map}
 
 abbrev pub outer_test : List (List Edge) → List Edge → Bool
 outer_test gs [] = false
@@ -91,7 +89,7 @@ module _ (rs : List (List Edge)) (l : IsRingList rs) where
     edge = d.edge;
     here = d.belongs;
     nearest = record {
-      member = in-edges (filter (chosen d.anchor) rings) g d.edge (into-filter (chosen d.anchor) rings g i (and-in (is_outer_by g) (encloses g d.anchor) (outer-out g i d.outer) d.around)) d.belongs;
+      member = in-edges (filter (chosen d.anchor) rings) g d.edge (into-filter (chosen d.anchor) rings g i (and_from (is_outer_by g) (encloses g d.anchor) (outer-out g i d.outer) d.around)) d.belongs;
       right = d.right;
       first = λ f m b.
           let r = in-edges-out (filter (chosen d.anchor) rings) f m in
@@ -110,7 +108,7 @@ module _ (rs : List (List Edge)) (l : IsRingList rs) where
     belongs = d.here;
     right = d.nearest.right;
     nearest = λ k i o c f m b.
-        d.nearest.first f (in-edges (filter (chosen e) rings) k f (into-filter (chosen e) rings k i (and-in (is_outer_by k) (encloses k e) (outer-out k i o) c)) m) b;
+        d.nearest.first f (in-edges (filter (chosen e) rings) k f (into-filter (chosen e) rings k i (and_from (is_outer_by k) (encloses k e) (outer-out k i o) c)) m) b;
   }
 
   -- two rings are one, or clear of each other
@@ -185,9 +183,9 @@ module _ (rs : List (List Edge)) (l : IsRingList rs) where
         let oh = inner-out (segments_of h) ih (m.are_inner_rings h i) in let ok = inner-out (segments_of k) ik (m.are_inner_rings k j) in
         let dh = direct-by (segments_of g.outer) (segments_of h) outer-member ih d in let dk = direct-by (segments_of g.outer) (segments_of k) outer-member ik b in
         apart (segments_of h) (segments_of k) ih ik cl d.anchor b.anchor d.anchors.member b.anchors.member
-        (false-if-never (encloses (segments_of k) d.anchor)
+        (false_from_ne_true (encloses (segments_of k) d.anchor)
         (λ z. siblings rings rings-nest is_outer_by rings-tell rings-anchors (segments_of g.outer) (segments_of h) (segments_of k) ih ik d.anchor b.anchor d.anchors b.anchors oh ok dh dk z))
-        (false-if-never (encloses (segments_of h) b.anchor)
+        (false_from_ne_true (encloses (segments_of h) b.anchor)
         (λ z. siblings rings rings-nest is_outer_by rings-tell rings-anchors (segments_of g.outer) (segments_of k) (segments_of h) ik ih b.anchor d.anchor b.anchors d.anchors ok oh dk dh z)) x y
 
     -- at most one inner ring covers the point, and only where the outer ring does

@@ -12,13 +12,12 @@ use Rattle.plane.specs.Edge.{Edge, IsRising, ends_at, other_end, same_edge}
 use Rattle.plane.specs.Sector.{in_sector}
 use Rattle.plane.specs.Vector.{Vector, from_to, same_point}
 use Rattle.winding.specs.ConflictFree.{IsConflictFree}
-use Rattle.winding.specs.Member.{In}
+use Rattle.lists.specs.Member.{In}
 use Rattle.winding.specs.OddSide.{directed}
 use Rattle.winding.specs.Ring.{IsRing, segments_of}
 use Rattle.winding.specs.Sided.{IsSided}
-use Rattle.plane.proofs.Bools.{and-left, and-right}
-use Rattle.winding.proofs.RingCounts.{ring-even}
-use Rattle.winding.proofs.SidedLists.{directed_sided}
+use Rattle.lists.proofs.Bools.{and-left, and-right}
+use Rattle.winding.proofs.WindingKit.{ring-even, directed_sided}
 
 abbrev point : ℕ → ℕ → Vector
 point x y = record { x = pos x; y = pos y }

@@ -12,27 +12,21 @@ use Rattle.plane.specs.Sign.{Minus, Null, Plus, Sign, is_minus, is_plus, negated
 use Rattle.plane.specs.Vector.{Vector, orient, same_point}
 use Rattle.winding.specs.ConflictFree.{IsConflictFree, others}
 use Rattle.winding.specs.EdgeList.{IsEvenAtPoints}
-use Rattle.winding.specs.Member.{In}
+use Rattle.lists.specs.Member.{In}
 use Rattle.winding.specs.Parity.{is_even}
 use Rattle.winding.specs.Ring.{IsAnchor}
 use Rattle.nesting.proofs.CoveredEdges.{beside}
 use Rattle.nesting.proofs.DirectEnclosure.{direct_exists}
 use Rattle.nesting.proofs.Nearest.{beyond-right, beyond-span, bit-both, same_beside}
-use Rattle.nesting.proofs.Nests.{and-make, clear-of, cond-out, cond-times, depth-total, depth_same, encloses-in, encloses-not, encloses_same, has-in, has_once, in-edges, in-has, not-both, outer_depth, part, same-ring, true-not-false}
+use Rattle.nesting.proofs.Nests.{and-make, clear-of, cond-out, cond-times, depth-total, depth_same, encloses-in, encloses-not, encloses_same, has-in, has_once, in-edges, in-has, not-both, outer_depth, part, same-ring}
+use Rattle.lists.proofs.Bools.{clash, not-not, not-true-out}
 use Rattle.nesting.proofs.OuterTests.{HasAnchors, IsDirectBy}
-use Rattle.plane.proofs.Bools.{and-in, and-out, not-not, not-true-out}
-use Rattle.plane.proofs.Edges.{same_edge-refl, same_edge-true}
-use Rattle.plane.proofs.Heights.{right_chain, right_itself, right_of, tall-by}
-use Rattle.plane.proofs.Identities.{lift, same, ◌⊟◌, ◌⊠◌}
-use Rattle.plane.proofs.PointOrder.{order-null}
-use Rattle.plane.proofs.Points.{same_point-refl}
-use Rattle.plane.proofs.Signs.{null-zero, self-diff, sign-*, sign-reversed, times}
-use Rattle.winding.proofs.Anchors.{anchor_runs, anchor_span}
-use Rattle.winding.proofs.ConflictFree.{rising_in, split_off}
-use Rattle.winding.proofs.Levels.{low-by, right-level, spanning_runs, to_right}
-use Rattle.winding.proofs.Members.{in-filter, in-passes, into-filter, total-same}
-use Rattle.winding.proofs.Ranks.{even-next}
-use Rattle.winding.proofs.Sums.{total, total-+}
+use Rattle.std.proofs.lemmas.Bool.{and_from, and_parts}
+use Rattle.plane.proofs.PlaneKit.{same_edge-refl, same_edge-true, right_chain, right_itself, right_of, tall-by, order-null, same_point-refl}
+use Rattle.plane.proofs.SignKit.{lift, same, ◌⊟◌, ◌⊠◌, null-zero, self-diff, sign-*, sign-reversed, times, bit-same}
+use Rattle.winding.proofs.WindingKit.{anchor_runs, anchor_span, rising_in, split_off, low-by, right-level, spanning_runs, to_right, even-next}
+use Rattle.lists.proofs.Members.{in-filter, in-passes, into-filter, total-same}
+use Rattle.lists.proofs.Sums.{total, total-+}
 
 -- ---- of the edges of a ring at the height of its anchor the anchor is the leftmost
 zero-end : (x y z w : ℤ) → z ≡ pos 0 → x *ℤ z -ℤ y *ℤ w ≡ pos 0 -ℤ w *ℤ y
@@ -52,12 +46,6 @@ left-by t p tall level right =
     zero-diff : (a b : ℤ) → sign (a -ℤ b) ≡ Null → b -ℤ a ≡ pos 0
     zero-diff a b h = let x = null-zero (a -ℤ b) h in omega (arith, ints)
 
-bit-same : (a b : Bool) → bit a ≡ bit b → a ≡ b
-bit-same true true h = refl
-bit-same false false h = refl
-bit-same true false h = absurd (cc h)
-bit-same false true h = absurd (cc h)
-
 level-x : (s t : Sign) → then_sign s t ≡ Plus → not (is_plus s) ≡ true → (s ≡ Null) × (t ≡ Plus)
 level-x Null t h n = (refl, h)
 level-x Plus t h n = absurd (cc n)
@@ -73,14 +61,14 @@ module _ (h : List Edge) (ph : IsConflictFree h) (even : IsEvenAtPoints h) (a : 
   starts-by : (t : Edge) → In t h → is_in_span a.from t ≡ true → same_edge a t ≡ false → (o : Sign) → order a.from t.from ≡ o → (is_plus (orient t.from t.to a.from) || (same_point a.from t.from && is_minus (orient a.from a.to t.to))) ≡ true
   starts-by t i s d Minus e = absurd (aa.least t i e)
   starts-by t i s d Plus e =
-      let low = (and-out (not (is_plus (sign (t.from.y -ℤ a.from.y)))) (is_plus (sign (t.to.y -ℤ a.from.y))) s).0 in
+      let low = (and_parts (not (is_plus (sign (t.from.y -ℤ a.from.y)))) (is_plus (sign (t.to.y -ℤ a.from.y))) s).0 in
       let l = level-x (sign (t.from.y -ℤ a.from.y)) (sign (t.from.x -ℤ a.from.x)) e low in
       ap (λ z. is_plus z || (same_point a.from t.from && is_minus (orient a.from a.to t.to))) (left-by t a.from (tall-by a.from t s) l.0 l.1)
   starts-by t i s d Null e =
       let one = order-null a.from t.from e in
       let turn = aa.leftmost t (into-filter (λ (t : Edge). not (same_edge a t)) h t i (ap not d)) one in
       or-right-in (is_plus (orient t.from t.to a.from)) (same_point a.from t.from && is_minus (orient a.from a.to t.to))
-      (and-in (same_point a.from t.from) (is_minus (orient a.from a.to t.to)) (subst (λ w. same_point a.from w ≡ true) one (same_point-refl a.from)) (ap is_minus turn))
+      (and_from (same_point a.from t.from) (is_minus (orient a.from a.to t.to)) (subst (λ w. same_point a.from w ≡ true) one (same_point-refl a.from)) (ap is_minus turn))
     where
       or-right-in : (x y : Bool) → y ≡ true → x || y ≡ true
       or-right-in true y k = refl
@@ -90,7 +78,7 @@ module _ (h : List Edge) (ph : IsConflictFree h) (even : IsEvenAtPoints h) (a : 
   anchor-first t i s d =
       let b = starts-by t i s d (order a.from t.from) refl in
       let r = right-level a.from a h ph aa.member (self-diff a.from.y) a-high t i in
-      (and-out (is_in_span a.from t) (right_of a.from a t) (sym (bit-same (starts_left_of a t) (is_in_span a.from t && right_of a.from a t) r) ∙ and-in (is_in_span a.from t) (is_plus (orient t.from t.to a.from) || (same_point a.from t.from && is_minus (orient a.from a.to t.to))) s b)).1
+      (and_parts (is_in_span a.from t) (right_of a.from a t) (sym (bit-same (starts_left_of a t) (is_in_span a.from t && right_of a.from a t) r) ∙ and_from (is_in_span a.from t) (is_plus (orient t.from t.to a.from) || (same_point a.from t.from && is_minus (orient a.from a.to t.to))) s b)).1
 
 even-one : (n : ℕ) → is_even n ≡ false → is_even (1 + n) ≡ true
 even-one n h = ap is_even (let e : 1 + n ≡ suc n = omega arith in e) ∙ even-next n ∙ ap not h
@@ -103,8 +91,8 @@ module _ (gs : List (List Edge)) (n : IsNest gs) (outer : List Edge → Bool) (t
       let cs = clear-of gs n k r s ik ir ar.member (encloses-not gs n k s c) in
       let cm = clear-of gs n k g d.edge ik d.member d.here nk in
       let x = same_beside s.from s d.edge k (rising_in r s pr ar.member) (rising_in g d.edge (part gs n g d.member) d.here) (part gs n k ik) (n.even k ik) cs cm (anchor_span s r pr (n.even r ir) ar) d.nearest.right
-      (λ f i b. ⊎_elim (λ (e : f ≡ d.edge). absurd (true-not-false (has_edge k d.edge) (has-in k d.edge (subst (λ u. In u k) e i)) nk)) (λ (b : right_of s.from d.edge f ≡ true). b)
-      (d.nearest.first f (in-edges (filter (λ (h : List Edge). outer h && encloses h s) gs) k f (into-filter (λ (h : List Edge). outer h && encloses h s) gs k ik (and-in (outer k) (encloses k s) ok c)) i) b)) in
+      (λ f i b. ⊎_elim (λ (e : f ≡ d.edge). absurd (clash (has_edge k d.edge) (has-in k d.edge (subst (λ u. In u k) e i)) nk)) (λ (b : right_of s.from d.edge f ≡ true). b)
+      (d.nearest.first f (in-edges (filter (λ (h : List Edge). outer h && encloses h s) gs) k f (into-filter (λ (h : List Edge). outer h && encloses h s) gs k ik (and_from (outer k) (encloses k s) ok c)) i) b)) in
       and-make (has_edge k d.edge) (covers_edge k d.edge) nk (x ∙ encloses-in gs n k s c)
 
   module _ (h : List Edge) (ih : In h gs) (a : Edge) (aa : IsAnchor a h) (oh : outer h ≡ false) (q : List Edge) (iq : In q gs) (e : Edge) (ie : In e q) (se : is_in_span a.from e ≡ true)
@@ -124,20 +112,20 @@ module _ (gs : List (List Edge)) (n : IsNest gs) (outer : List Edge → Bool) (t
     -- the neighbour is no edge of the ring itself
     apart-by : (b : Bool) → same_edge a e ≡ b → b ≡ false
     apart-by false k = refl
-    apart-by true k = let g = ap (λ w. right_of p w a) (same_edge-true a e k) in absurd (true-not-false (right_of p e a) ra (sym g ∙ right_itself p a))
+    apart-by true k = let g = ap (λ w. right_of p w a) (same_edge-true a e k) in absurd (clash (right_of p e a) ra (sym g ∙ right_itself p a))
 
     not-own-by : (b : Bool) → has_edge h e ≡ b → b ≡ false
     not-own-by false k = refl
     not-own-by true k =
         let r = anchor-first h ph (n.even h ih) a aa e (in-has h e k) se (apart-by (same_edge a e) refl) in
-        absurd (true-not-false (right_of p a a) (right_chain p a e a sa se sa r ra) (right_itself p a))
+        absurd (clash (right_of p a a) (right_chain p a e a sa se sa r ra) (right_itself p a))
 
     not-own : has_edge h e ≡ false
     not-own = not-own-by (has_edge h e) refl
 
     not-a-by : (b : Bool) → has_edge q a ≡ b → b ≡ false
     not-a-by false k = refl
-    not-a-by true k = let s = same-ring gs n h q a ih iq aa.member k in absurd (true-not-false (has_edge h e) (has-in h e (subst (λ l. In e l) s ie)) not-own)
+    not-a-by true k = let s = same-ring gs n h q a ih iq aa.member k in absurd (clash (has_edge h e) (has-in h e (subst (λ l. In e l) s ie)) not-own)
 
     not-a : has_edge q a ≡ false
     not-a = not-a-by (has_edge q a) refl
@@ -146,16 +134,16 @@ module _ (gs : List (List Edge)) (n : IsNest gs) (outer : List Edge → Bool) (t
     alike : (k : List Edge) → In k gs → has_edge k e ≡ false → has_edge k a ≡ false → covers_edge k a ≡ covers_edge k e
     alike k ik ne na =
         same_beside p e a k (rising_in q e (part gs n q iq) ie) (rising_in h a ph aa.member) (part gs n k ik) (n.even k ik) (clear-of gs n k q e ik iq ie ne) (clear-of gs n k h a ik ih aa.member na) se right
-        (λ f i b. ⊎_elim (λ (s : f ≡ a). absurd (true-not-false (has_edge k a) (has-in k a (subst (λ u. In u k) s i)) na)) (λ (r : right_of p a f ≡ true). r) (next f (in-edges gs k f ik i) b))
+        (λ f i b. ⊎_elim (λ (s : f ≡ a). absurd (clash (has_edge k a) (has-in k a (subst (λ u. In u k) s i)) na)) (λ (r : right_of p a f ≡ true). r) (next f (in-edges gs k f ik i) b))
 
     -- the ring itself isn't round its neighbour
     beside-same : (t : Edge) → In t (others a h) → to_right p e t ≡ to_right p a t
     beside-same t i =
         let d = not-true-out (same_edge a t) (in-passes (λ (t : Edge). not (same_edge a t)) h t i) in
         bit-both (is_right_above p e t) (is_right_above p a t)
-        (λ k. and-in (is_in_span p t) (right_of p a t) (beyond-span p e t k)
-        (⊎_elim (λ (s : t ≡ a). absurd (true-not-false (same_edge a t) (subst (λ u. same_edge a u ≡ true) (sym s) (same_edge-refl a)) d)) (λ (r : right_of p a t ≡ true). r) (next t (in-edges gs h t ih (in-filter (λ (t : Edge). not (same_edge a t)) h t i)) k)))
-        (λ k. and-in (is_in_span p t) (right_of p e t) (beyond-span p a t k) (right_chain p e a t se sa (beyond-span p a t k) ra (beyond-right p a t k)))
+        (λ k. and_from (is_in_span p t) (right_of p a t) (beyond-span p e t k)
+        (⊎_elim (λ (s : t ≡ a). absurd (clash (same_edge a t) (subst (λ u. same_edge a u ≡ true) (sym s) (same_edge-refl a)) d)) (λ (r : right_of p a t ≡ true). r) (next t (in-edges gs h t ih (in-filter (λ (t : Edge). not (same_edge a t)) h t i)) k)))
+        (λ k. and_from (is_in_span p t) (right_of p e t) (beyond-span p a t k) (right_chain p e a t se sa (beyond-span p a t k) ra (beyond-right p a t k)))
 
     own-out : covers_edge h e ≡ false
     own-out =
@@ -169,7 +157,7 @@ module _ (gs : List (List Edge)) (n : IsNest gs) (outer : List Edge → Bool) (t
 
     -- who encloses the ring and who its neighbour: the neighbour's own ring makes the difference
     enclose-by : (k : List Edge) → In k gs → (b c : Bool) → has_edge k e ≡ b → has_edge k a ≡ c → bit (not c && covers_edge k a) ≡ bit (not b && covers_edge k e) + cond b (bit (covers_edge q a)) 0
-    enclose-by k ik true true x y = absurd (true-not-false (has_edge q a) (subst (λ l. has_edge l a ≡ true) (same-ring gs n q k e iq ik ie x) y) not-a)
+    enclose-by k ik true true x y = absurd (clash (has_edge q a) (subst (λ l. has_edge l a ≡ true) (same-ring gs n q k e iq ik ie x) y) not-a)
     enclose-by k ik true false x y = let w = ap (λ l. bit (covers_edge l a)) (same-ring gs n q k e iq ik ie x) in omega arith
     enclose-by k ik false true x y =
         let s = same-ring gs n h k a ih ik aa.member y in
@@ -194,11 +182,11 @@ module _ (gs : List (List Edge)) (n : IsNest gs) (outer : List Edge → Bool) (t
 
     covers-by : (m d : ℕ) (x : Bool) → m ≡ d + bit x → is_even m ≡ false → is_even d ≡ true → x ≡ true
     covers-by m d true h k l = refl
-    covers-by m d false h k l = let e : m ≡ d = omega arith in absurd (true-not-false (is_even d) l (ap is_even (sym e) ∙ k))
+    covers-by m d false h k l = let e : m ≡ d = omega arith in absurd (clash (is_even d) l (ap is_even (sym e) ∙ k))
 
     not-a-of : (k : List Edge) → In k gs → outer k ≡ true → (b : Bool) → has_edge k a ≡ b → b ≡ false
     not-a-of k ik o false x = refl
-    not-a-of k ik o true x = absurd (true-not-false (outer k) o (ap outer (same-ring gs n h k a ih ik aa.member x) ∙ oh))
+    not-a-of k ik o true x = absurd (clash (outer k) o (ap outer (same-ring gs n h k a ih ik aa.member x) ∙ oh))
 
     -- the neighbour's ring is outer: it directly encloses
     module _ (oq : outer q ≡ true) where
@@ -216,7 +204,7 @@ module _ (gs : List (List Edge)) (n : IsNest gs) (outer : List Edge → Bool) (t
         where
           not-m : (b : Bool) → has_edge q d.edge ≡ b → b ≡ false
           not-m false y = refl
-          not-m true y = let s = same-ring gs n g q d.edge d.member iq d.here y in absurd (true-not-false (has_edge g e) (has-in g e (subst (λ l. In e l) s ie)) x)
+          not-m true y = let s = same-ring gs n g q d.edge d.member iq d.here y in absurd (clash (has_edge g e) (has-in g e (subst (λ l. In e l) s ie)) x)
 
       pub outer_neighbour : IsDirectBy gs outer q a
       outer_neighbour = let d = direct_exists gs n outer tells anchors h ih a aa oh in subst (λ g. IsDirectBy gs outer g a) (is-q d.0 d.1 (has_edge d.0 e) refl) d.1
@@ -225,7 +213,7 @@ module _ (gs : List (List Edge)) (n : IsNest gs) (outer : List Edge → Bool) (t
     module _ (oq : outer q ≡ false) (b : Edge) (ab : IsAnchor b q) where
       not-e-of : (k : List Edge) → In k gs → outer k ≡ true → (c : Bool) → has_edge k e ≡ c → c ≡ false
       not-e-of k ik o false x = refl
-      not-e-of k ik o true x = absurd (true-not-false (outer k) o (ap outer (same-ring gs n q k e iq ik ie x) ∙ oq))
+      not-e-of k ik o true x = absurd (clash (outer k) o (ap outer (same-ring gs n q k e iq ik ie x) ∙ oq))
 
       module _ (g : List Edge) (d : IsDirectBy gs outer g b) (g' : List Edge) (d' : IsDirectBy gs outer g' a) where
         g-round : encloses g a ≡ true
@@ -247,7 +235,7 @@ module _ (gs : List (List Edge)) (n : IsNest gs) (outer : List Edge → Bool) (t
           where
             other : (c : Bool) → has_edge g d'.edge ≡ c → c ≡ false
             other false y = refl
-            other true y = let s = same-ring gs n g' g d'.edge d'.member d.member d'.here y in absurd (true-not-false (has_edge g' d.edge) (has-in g' d.edge (subst (λ l. In d.edge l) s d.here)) x)
+            other true y = let s = same-ring gs n g' g d'.edge d'.member d.member d'.here y in absurd (clash (has_edge g' d.edge) (has-in g' d.edge (subst (λ l. In d.edge l) s d.here)) x)
 
       pub inner_neighbour : (g : List Edge) → IsDirectBy gs outer g b → IsDirectBy gs outer g a
       inner_neighbour g d = let d' = direct_exists gs n outer tells anchors h ih a aa oh in subst (λ k. IsDirectBy gs outer k a) (one-by g d d'.0 d'.1 (has_edge d'.0 d.edge) refl) d'.1

@@ -1,25 +1,26 @@
-pub mod CoveredEdges
-pub mod DirectEnclosure
-pub mod DirectRings
-pub mod EnclosingSums
-pub mod Examples
-pub mod Nearest
-pub mod Nests
-pub mod OuterTests
-pub mod Parts
-pub mod Pieces
-pub mod PolygonLists
-pub mod Polygons
-pub mod RationalPoints
-pub mod RingLists
-pub mod Rotations
-pub mod ScaledRings
-pub mod SidedPolygons
-pub mod Stacks
-pub mod Stretches
-pub mod Successors
-pub mod Turns
-pub mod TwoLists
-pub mod Walks
-pub mod WoundRings
-pub mod LeftNeighbours
+mod CoveredEdges
+mod DirectEnclosure
+mod DirectRings
+mod EnclosingSums
+mod Examples
+mod LeftNeighbours
+mod Nearest
+pub mod NestingKit
+mod Nests
+mod OuterTests
+mod Parts
+mod Pieces
+mod PolygonLists
+mod Polygons
+mod RationalPoints
+mod RingLists
+mod Rotations
+mod ScaledRings
+mod SidedPolygons
+mod Stacks
+mod Stretches
+mod Successors
+mod Turns
+mod TwoLists
+mod Walks
+mod WoundRings

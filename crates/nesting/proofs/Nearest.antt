@@ -9,25 +9,22 @@ use Rattle.plane.specs.Height.{is_in_span, is_right_above}
 use Rattle.plane.specs.Vector.{Vector}
 use Rattle.winding.specs.ConflictFree.{IsConflictFree}
 use Rattle.winding.specs.EdgeList.{IsEvenAtPoints}
-use Rattle.winding.specs.Member.{In}
+use Rattle.lists.specs.Member.{In}
 use Rattle.winding.specs.Parity.{is_even}
 use Rattle.winding.specs.Rank.{IsOrder}
 use Rattle.nesting.proofs.CoveredEdges.{IsClearOfAll, beside}
 use Rattle.nesting.proofs.TwoLists.{clear-list, clear-reversed, first-right, not_both_in, plain-append}
-use Rattle.plane.proofs.Bools.{and-in, and-out, not-not}
-use Rattle.plane.proofs.Conflicts.{clear_back}
-use Rattle.plane.proofs.Heights.{right_chain, right_either, right_itself, right_of}
-use Rattle.winding.proofs.Anchors.{some_odd}
-use Rattle.winding.proofs.ConflictFree.{rising_in}
-use Rattle.winding.proofs.Levels.{right_apart, to_right}
-use Rattle.winding.proofs.Members.{in-either, in-filter, in-left, in-passes, in-right, into-filter, pairs-filter, pairs-weaker, total-same}
-use Rattle.winding.proofs.Ranks.{First, first_exists}
+use Rattle.std.proofs.lemmas.Bool.{and_from, and_parts}
+use Rattle.lists.proofs.Bools.{not-same}
+use Rattle.plane.proofs.PlaneKit.{clear_back, right_chain, right_either, right_itself, right_of}
+use Rattle.winding.proofs.WindingKit.{some_odd, rising_in, right_apart, to_right, First, first_exists}
+use Rattle.lists.proofs.Members.{in-either, in-filter, in-left, in-passes, in-right, into-filter, pairs-filter, pairs-weaker, total-same}
 
 pub beyond-span : (p : Vector) (e f : Edge) → is_right_above p e f ≡ true → is_in_span p f ≡ true
-beyond-span p e f h = (and-out (is_in_span p f) (right_of p e f) h).0
+beyond-span p e f h = (and_parts (is_in_span p f) (right_of p e f) h).0
 
 pub beyond-right : (p : Vector) (e f : Edge) → is_right_above p e f ≡ true → right_of p e f ≡ true
-beyond-right p e f h = (and-out (is_in_span p f) (right_of p e f) h).1
+beyond-right p e f h = (and_parts (is_in_span p f) (right_of p e f) h).1
 
 -- the edges right of e are in order
 pub beyond-order : (p : Vector) (e : Edge) (es : List Edge) → IsConflictFree es → IsOrder false (right_of p) (filter (is_right_above p e) es)
@@ -47,9 +44,6 @@ bit-both false false h k = refl
 bit-both true false h k = absurd (cc (h refl))
 bit-both false true h k = absurd (cc (k refl))
 
-not-inject : (a b : Bool) → not a ≡ not b → a ≡ b
-not-inject a b h = sym (not-not a) ∙ ap not h ∙ not-not b
-
 -- t is right of e, and all edges of the list right of e are right of t: the parity of the list is the same at both
 pub same_beside : (p : Vector) (e t : Edge) (es : List Edge) → IsRising e → IsRising t → IsConflictFree es → IsEvenAtPoints es → IsClearOfAll e es → IsClearOfAll t es → is_in_span p e ≡ true → is_right_above p e t ≡ true →
     ((f : Edge) → In f es → is_right_above p e f ≡ true → right_of p t f ≡ true) → covers_edge es t ≡ covers_edge es e
@@ -57,9 +51,9 @@ same_beside p e t es re rt pl even ce ct se b h =
     let st = beyond-span p e t b in
     let x = beside p e es re pl even ce se in let y = beside p t es rt pl even ct st in
     let w = total-same (to_right p t) (to_right p e) es (λ f i. bit-both (is_right_above p t f) (is_right_above p e f)
-    (λ k. and-in (is_in_span p f) (right_of p e f) (beyond-span p t f k) (right_chain p e t f se st (beyond-span p t f k) (beyond-right p e t b) (beyond-right p t f k)))
-    (λ k. and-in (is_in_span p f) (right_of p t f) (beyond-span p e f k) (h f i k))) in
-    not-inject (covers_edge es t) (covers_edge es e) (sym y ∙ ap is_even w ∙ x)
+    (λ k. and_from (is_in_span p f) (right_of p e f) (beyond-span p t f k) (right_chain p e t f se st (beyond-span p t f k) (beyond-right p e t b) (beyond-right p t f k)))
+    (λ k. and_from (is_in_span p f) (right_of p t f) (beyond-span p e f k) (h f i k))) in
+    not-same (covers_edge es t) (covers_edge es e) (sym y ∙ ap is_even w ∙ x)
 
 pub some_beyond : (p : Vector) (e : Edge) (es : List Edge) → IsRising e → IsConflictFree es → IsEvenAtPoints es → IsClearOfAll e es → is_in_span p e ≡ true → covers_edge es e ≡ true → (f : Edge) × In f es × (is_right_above p e f ≡ true)
 some_beyond p e es re pl even c s h = some_odd (is_right_above p e) es (beside p e es re pl even c s ∙ ap not h)

@@ -10,24 +10,19 @@ use Rattle.plane.specs.Height.{is_in_span, is_right_above}
 use Rattle.plane.specs.Vector.{Vector, from_to, one_at}
 use Rattle.winding.specs.ConflictFree.{IsConflictFree}
 use Rattle.winding.specs.EdgeList.{IsEvenAtPoints, crossing_count}
-use Rattle.winding.specs.Member.{In}
+use Rattle.lists.specs.Member.{In}
 use Rattle.winding.specs.Node.{away}
 use Rattle.winding.specs.Parity.{is_even}
 use Rattle.winding.specs.Ring.{IsAnchor}
 use Rattle.nesting.proofs.CoveredEdges.{IsClearOfAll}
 use Rattle.nesting.proofs.Nearest.{beyond-order, bit-both, same_beside, some_beyond, through}
 use Rattle.nesting.proofs.TwoLists.{clear-list, clear-reversed, differ-lists, first-right, not_both_in}
-use Rattle.plane.proofs.Bools.{and-out, not-not, not-true-out, or-right}
-use Rattle.plane.proofs.Conflicts.{clear_back}
-use Rattle.plane.proofs.Edges.{same_edge-refl, same_edge-true}
-use Rattle.plane.proofs.Heights.{right_of}
-use Rattle.winding.proofs.Anchors.{anchor_runs}
-use Rattle.winding.proofs.ConflictFree.{rising_in}
-use Rattle.winding.proofs.Members.{all-in, in-all, in-either, in-left, in-passes, in-right, into-filter, pairs-across, pairs-left, pairs-right, total-same}
-use Rattle.winding.proofs.OddSides.{runs_from, same-parity}
-use Rattle.winding.proofs.OppositeEnds.{beyond, crossings-away}
-use Rattle.winding.proofs.Ranks.{First, even-is, even-next, first_exists, halves, odd-is}
-use Rattle.winding.proofs.Sums.{none-sum, total, total-+, total-++, total-is}
+use Rattle.std.proofs.lemmas.Bool.{and_parts, or_right}
+use Rattle.lists.proofs.Bools.{not-not, not-true-out, clash}
+use Rattle.plane.proofs.PlaneKit.{clear_back, same_edge-refl, same_edge-true, right_of}
+use Rattle.winding.proofs.WindingKit.{anchor_runs, rising_in, runs_from, same-parity, beyond, crossings-away, First, even-is, even-next, first_exists, halves, odd-is}
+use Rattle.lists.proofs.Members.{all-in, in-all, in-either, in-left, in-passes, in-right, into-filter, pairs-across, pairs-left, pairs-right, total-same}
+use Rattle.lists.proofs.Sums.{none-sum, total, total-+, total-++, total-is}
 
 pub plain-left : (xs ys : List Edge) → IsConflictFree (xs ++ ys) → IsConflictFree xs
 plain-left xs ys p = record { rising = all-in IsRising xs (λ t i. rising_in (xs ++ ys) t p (in-left xs ys t i)); clear = pairs-left IsClearOf xs ys p.clear }
@@ -55,7 +50,7 @@ clear_or_same (k ∷ ks) g h p (inr i) (inr j) = clear_or_same ks g h (plain-rig
 pub has-in : (g : List Edge) (s : Edge) → In s g → has_edge g s ≡ true
 has-in [] s i = absurd i
 has-in (x ∷ xs) s (inl e) = ap (λ b. b || has_edge xs s) (ap (λ w. same_edge x w) e ∙ same_edge-refl x)
-has-in (x ∷ xs) s (inr i) = or-right (same_edge x s) (has_edge xs s) (has-in xs s i)
+has-in (x ∷ xs) s (inr i) = or_right (same_edge x s) (has_edge xs s) (has-in xs s i)
 
 in-has-by : (x s : Edge) (xs : List Edge) (b : Bool) → same_edge x s ≡ b → (b || has_edge xs s) ≡ true → (has_edge xs s ≡ true → In s xs) → In s (x ∷ xs)
 in-has-by x s xs true h k r = inl (sym (same_edge-true x s h))
@@ -65,13 +60,10 @@ pub in-has : (g : List Edge) (s : Edge) → has_edge g s ≡ true → In s g
 in-has [] s h = absurd (cc h)
 in-has (x ∷ xs) s h = in-has-by x s xs (same_edge x s) refl h (in-has xs s)
 
-pub true-not-false : (b : Bool) → b ≡ true → b ≡ false → ⊥
-true-not-false b h k = cc (sym h ∙ k)
-
 -- a ring that does not have an edge of another is clear of it
 clear-by : (g h : List Edge) (s : Edge) → In s h → has_edge g s ≡ false → (AreClear g h) ⊎ (g ≡ h) → AreClear g h
 clear-by g h s i n (inl c) = c
-clear-by g h s i n (inr e) = absurd (true-not-false (has_edge g s) (has-in g s (subst (λ l. In s l) (sym e) i)) n)
+clear-by g h s i n (inr e) = absurd (clash (has_edge g s) (has-in g s (subst (λ l. In s l) (sym e) i)) n)
 
 pub clear_rings : (gs : List (List Edge)) (g h : List Edge) (s : Edge) → IsConflictFree (edges_of gs) → In g gs → In h gs → In s h → has_edge g s ≡ false → AreClear g h
 clear_rings gs g h s p i j k n = clear-by g h s k n (clear_or_same gs g h p i j)
@@ -93,7 +85,7 @@ one-by gs s true h e p k r n = let a = total-same (λ g. bit (has_edge g s)) (λ
 one-by gs s false h e p k r n = let a = r (k refl) in omega arith
 
 pick-or : {P : Type 0} (s : Edge) (h : List Edge) → has_edge h s ≡ false → (In s h) ⊎ P → P
-pick-or s h n (inl i) = absurd (true-not-false (has_edge h s) (has-in h s i) n)
+pick-or s h n (inl i) = absurd (clash (has_edge h s) (has-in h s i) n)
 pick-or s h n (inr x) = x
 
 pub has_once : (gs : List (List Edge)) (s : Edge) → IsConflictFree (edges_of gs) → In s (edges_of gs) → total (λ g. bit (has_edge g s)) gs ≡ 1
@@ -201,10 +193,10 @@ module _ (gs : List (List Edge)) (n : IsNest gs) where
       ap not r ∙ not-not (is_even (crossing_count (from_to s.from s.to) s.from (away s.from (edges_of gs)))) ∙ in_edges gs s ∙ ap is_even e
 
   pub encloses-not : (g : List Edge) (s : Edge) → encloses g s ≡ true → has_edge g s ≡ false
-  encloses-not g s h = not-true-out (has_edge g s) (and-out (not (has_edge g s)) (covers_edge g s) h).0
+  encloses-not g s h = not-true-out (has_edge g s) (and_parts (not (has_edge g s)) (covers_edge g s) h).0
 
   pub encloses-in : (g : List Edge) (s : Edge) → encloses g s ≡ true → covers_edge g s ≡ true
-  encloses-in g s h = (and-out (not (has_edge g s)) (covers_edge g s) h).1
+  encloses-in g s h = (and_parts (not (has_edge g s)) (covers_edge g s) h).1
 
   pub clear-of : (g h : List Edge) (s : Edge) → In g gs → In h gs → In s h → has_edge g s ≡ false → IsClearOfAll s g
   clear-of g h s i j k m = clear-list h g (clear-reversed g h (clear_rings gs g h s n.plain i j k m)) s k
@@ -212,8 +204,8 @@ module _ (gs : List (List Edge)) (n : IsNest gs) where
   encloses-same-by : (g h : List Edge) (s t : Edge) → In g gs → In h gs → In s h → In t h → (b c : Bool) → has_edge g s ≡ b → has_edge g t ≡ c → (not b && covers_edge g s) ≡ (not c && covers_edge g t)
   encloses-same-by g h s t i j k l false false e f = n.constant g h i j s t k l e
   encloses-same-by g h s t i j k l true true e f = refl
-  encloses-same-by g h s t i j k l false true e f = absurd (true-not-false (has_edge g t) f (has_same gs g h s t n.plain i j k l e))
-  encloses-same-by g h s t i j k l true false e f = absurd (true-not-false (has_edge g s) e (has_same gs g h t s n.plain i j l k f))
+  encloses-same-by g h s t i j k l false true e f = absurd (clash (has_edge g t) f (has_same gs g h s t n.plain i j k l e))
+  encloses-same-by g h s t i j k l true false e f = absurd (clash (has_edge g s) e (has_same gs g h t s n.plain i j l k f))
 
   pub encloses_same : (g h : List Edge) (s t : Edge) → In g gs → In h gs → In s h → In t h → encloses g s ≡ encloses g t
   encloses_same g h s t i j k l = encloses-same-by g h s t i j k l (has_edge g s) (has_edge g t) refl refl

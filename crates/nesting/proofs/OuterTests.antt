@@ -5,7 +5,7 @@ use Rattle.nesting.specs.Nesting.{edges_of, encloses}
 use Rattle.plane.specs.Edge.{Edge}
 use Rattle.plane.specs.Height.{is_right_above, order_above}
 use Rattle.plane.specs.Sign.{is_plus}
-use Rattle.winding.specs.Member.{In}
+use Rattle.lists.specs.Member.{In}
 use Rattle.winding.specs.Ring.{IsAnchor}
 
 -- an anchor of each ring

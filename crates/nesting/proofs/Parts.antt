@@ -12,18 +12,15 @@ use Rattle.plane.specs.Sign.{is_plus}
 use Rattle.plane.specs.Vector.{Vector, east, from_to, one_at, same_point}
 use Rattle.winding.specs.ConflictFree.{IsConflictFree}
 use Rattle.winding.specs.EdgeList.{down_count, up_count, winding_number}
-use Rattle.winding.specs.Member.{EachPair, In}
+use Rattle.lists.specs.Member.{EachPair, In}
 use Rattle.winding.specs.Ring.{IsPath, segments_of}
 use Rattle.winding.specs.ScaledEdges.{scaled_edges}
 use Rattle.winding.specs.Sided.{IsSided}
 use Rattle.nesting.proofs.Successors.{clear-two, no-loop-segments, rise, segment-one}
-use Rattle.plane.proofs.Conflicts.{clear_differs}
-use Rattle.plane.proofs.Edges.{same_edge-refl, same_edge-true, same_edge_by}
-use Rattle.plane.proofs.Points.{same_point-refl}
-use Rattle.winding.proofs.Members.{all-in, in-all, in-either, in-left, in-map, in-map-out, in-right, pairs-across, pairs-left, pairs-right}
-use Rattle.winding.proofs.RingCounts.{total-member}
-use Rattle.winding.proofs.SidedLists.{segment-direct-by}
-use Rattle.winding.proofs.Sums.{total, total-is, total-map}
+use Rattle.plane.proofs.PlaneKit.{clear_differs, same_edge-refl, same_edge-true, same_edge_by, same_point-refl}
+use Rattle.lists.proofs.Members.{all-in, in-all, in-either, in-left, in-map, in-map-out, in-right, pairs-across, pairs-left, pairs-right}
+use Rattle.winding.proofs.WindingKit.{total-member, segment-direct-by}
+use Rattle.lists.proofs.Sums.{total, total-is, total-map}
 
 abbrev pub Apart : List Edge → List Edge → Type 0
 Apart xs ys = (x : Edge) → In x xs → In x ys → ⊥

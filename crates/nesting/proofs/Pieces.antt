@@ -8,7 +8,7 @@ use Rattle.plane.specs.Conflict.{IsClearOf}
 use Rattle.plane.specs.Edge.{Edge, segment_of}
 use Rattle.winding.specs.ConflictFree.{IsConflictFree}
 use Rattle.winding.specs.EdgeList.{IsEvenAtPoints, crossing_count}
-use Rattle.winding.specs.Member.{EachPair, In}
+use Rattle.lists.specs.Member.{EachPair, In}
 use Rattle.winding.specs.Node.{away}
 use Rattle.winding.specs.Parity.{is_even}
 use Rattle.winding.specs.Ring.{IsRing, segments_of}
@@ -19,14 +19,10 @@ use Rattle.nesting.proofs.Parts.{Apart, Once, apart-rest, differ, in-covers, in-
 use Rattle.nesting.proofs.Stretches.{Keeps, covers_same, cut_cycle, follow-weaker, piece_same, stretch_same}
 use Rattle.nesting.proofs.Successors.{clear-two, first_same}
 use Rattle.nesting.proofs.TwoLists.{clear-list}
-use Rattle.plane.proofs.Edges.{ends_at-to}
-use Rattle.winding.proofs.Balance.{way, way-direction}
-use Rattle.winding.proofs.ConflictFree.{rising_in}
-use Rattle.winding.proofs.Members.{all-in, in-either, in-map-out, pairs-append, pairs-left, pairs-right, pairs-weaker}
-use Rattle.winding.proofs.Ranks.{even-is, halves, odd-is}
-use Rattle.winding.proofs.RingCounts.{ring-even}
-use Rattle.winding.proofs.RoundNode.{parity_round_node}
-use Rattle.winding.proofs.Sums.{total, total-++, total-is}
+use Rattle.plane.proofs.PlaneKit.{ends_at-to}
+use Rattle.winding.proofs.WindingKit.{way, way-direction, rising_in, even-is, halves, odd-is, ring-even, parity_round_node}
+use Rattle.lists.proofs.Members.{all-in, in-either, in-map-out, pairs-append, pairs-left, pairs-right, pairs-weaker}
+use Rattle.lists.proofs.Sums.{total, total-++, total-is}
 
 -- ---- one parity along a list says that the other is not crossed
 even-sum : (m n : ℕ) → not (is_even m) ≡ not (is_even n) → (m % 2 ≡ 0) ⊎ (m % 2 ≡ 1) → (n % 2 ≡ 0) ⊎ (n % 2 ≡ 1) → (m + n) % 2 ≡ 0

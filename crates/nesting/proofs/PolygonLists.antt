@@ -8,18 +8,18 @@ use Rattle.nesting.specs.RingList.{IsRingList}
 use Rattle.nesting.specs.Walk.{HasSameEdges}
 use Rattle.plane.specs.Bit.{bit}
 use Rattle.plane.specs.Edge.{Edge, same_edge}
-use Rattle.winding.specs.Member.{EachPair, In}
+use Rattle.lists.specs.Member.{EachPair, In}
 use Rattle.winding.specs.Ring.{segments_of}
 use Rattle.nesting.proofs.DirectEnclosure.{clear-pairs}
 use Rattle.nesting.proofs.DirectRings.{clear-rings, encloser_exists, is_outer_by, outer-in, outer-out, pairs-unmap, ring-plain, rings, rings-anchors, rings-tell}
 use Rattle.nesting.proofs.Nests.{total-edges}
 use Rattle.nesting.proofs.RingLists.{nest-plain}
-use Rattle.plane.proofs.Bools.{and-in, and-left, and-right, false-if-never}
-use Rattle.plane.proofs.Conflicts.{self_conflicts}
-use Rattle.plane.proofs.Edges.{same_edge-refl, same_edge-true}
-use Rattle.winding.proofs.ConflictFree.{rising_in}
-use Rattle.winding.proofs.Members.{all-in, in-all, in-filter, in-map, in-map-out, in-passes, pairs-filter, pairs-weaker, total-filter, total-same}
-use Rattle.winding.proofs.Sums.{none-sum, total, total-+, total-++, total-is, total-map}
+use Rattle.std.proofs.lemmas.Bool.{and_from, false_from_ne_true}
+use Rattle.lists.proofs.Bools.{and-left, and-right}
+use Rattle.plane.proofs.PlaneKit.{self_conflicts, same_edge-refl, same_edge-true}
+use Rattle.winding.proofs.WindingKit.{rising_in}
+use Rattle.lists.proofs.Members.{all-in, in-all, in-filter, in-map, in-map-out, in-passes, pairs-filter, pairs-weaker, total-filter, total-same, total_none}
+use Rattle.lists.proofs.Sums.{total, total-+, total-++, total-is, total-map, swap-sums, cond-total, total-*, cond_none, both_conds, cond-+}
 
 abbrev same_list : List Edge → List Edge → Bool
 same_list [] [] = true
@@ -39,17 +39,13 @@ same_list-true (x ∷ xs) (y ∷ ys) h =
 
 same_list-refl : (xs : List Edge) → same_list xs xs ≡ true
 same_list-refl [] = refl
-same_list-refl (x ∷ xs) = and-in (same_edge x x) (same_list xs xs) (same_edge-refl x) (same_list-refl xs)
+same_list-refl (x ∷ xs) = and_from (same_edge x x) (same_list xs xs) (same_edge-refl x) (same_list-refl xs)
 
 abbrev Distinct : List Edge → List Edge → Type 0
 Distinct x y = same_list x y ≡ false
 
-zero-total : {X : Type 0} (f : X → ℕ) (xs : List X) → ((x : X) → In x xs → f x ≡ 0) → total f xs ≡ 0
-zero-total f [] h = refl
-zero-total f (x ∷ xs) h = let a = h x (inl refl) in let b = zero-total f xs (λ y i. h y (inr i)) in omega arith
-
 distinct-back : (x y : List Edge) → Distinct x y → same_list y x ≡ false
-distinct-back x y n = false-if-never (same_list y x) (λ z.
+distinct-back x y n = false_from_ne_true (same_list y x) (λ z.
     let e = same_list-true y x z in let k = ap (λ (w : List Edge). same_list x w) e in let r = same_list-refl x in cc (sym r ∙ sym k ∙ n))
 
 -- a member of a list without repeats stands there once
@@ -57,35 +53,15 @@ count-one : (q : List Edge) (xs : List (List Edge)) → EachPair Distinct xs →
 count-one q [] d i = absurd i
 count-one q (x ∷ xs) d (inl e) =
     let a : bit (same_list q x) ≡ 1 = ap (λ (w : List Edge). bit (same_list w x)) e ∙ ap bit (same_list-refl x) in
-    let b = zero-total (λ (r : List Edge). bit (same_list q r)) xs (λ y i. ap (λ (w : List Edge). bit (same_list w y)) e ∙ ap bit (in-all (Distinct x) xs y d.0 i)) in omega arith
+    let b = total_none (λ (r : List Edge). bit (same_list q r)) xs (λ y i. ap (λ (w : List Edge). bit (same_list w y)) e ∙ ap bit (in-all (Distinct x) xs y d.0 i)) in omega arith
 count-one q (x ∷ xs) d (inr i) =
     let a : bit (same_list q x) ≡ 0 = ap bit (distinct-back x q (in-all (Distinct x) xs q d.0 i)) in
     let b = count-one q xs d.1 i in omega arith
-
-swap-sums : {X Y : Type 0} (F : X → Y → ℕ) (xs : List X) (ys : List Y) → total (λ g. total (λ h. F g h) ys) xs ≡ total (λ h. total (λ g. F g h) xs) ys
-swap-sums F [] ys = sym (none-sum ys)
-swap-sums F (x ∷ xs) ys = let a = swap-sums F xs ys in let b = total-+ (λ h. F x h) (λ h. total (λ g. F g h) xs) ys in omega arith
-
-cond-total : {X : Type 0} (b : Bool) (f : X → ℕ) (xs : List X) → cond b (total f xs) 0 ≡ total (λ x. cond b (f x) 0) xs
-cond-total true f xs = refl
-cond-total false f xs = sym (none-sum xs)
 
 factor-by : (a b : Bool) (n : ℕ) → cond a (cond b n 0) 0 ≡ cond a (bit b) 0 * n
 factor-by true true n = omega arith
 factor-by true false n = omega arith
 factor-by false b n = omega arith
-
-factor-out : {X : Type 0} (f : X → ℕ) (n : ℕ) (xs : List X) → total (λ x. f x * n) xs ≡ total f xs * n
-factor-out f n [] = omega arith
-factor-out f n (x ∷ xs) = let a = factor-out f n xs in omega arith
-
-parts-by : (b : Bool) (n : ℕ) → cond b n 0 + cond b 0 n ≡ n
-parts-by true n = omega arith
-parts-by false n = omega arith
-
-nothing-by : (c : Bool) → cond {A = ℕ} c 0 0 ≡ 0
-nothing-by true = refl
-nothing-by false = refl
 
 one-factor : (n : ℕ) → 1 * n ≡ n
 one-factor n = omega arith
@@ -164,7 +140,7 @@ module _ (rs : List (List Edge)) (l : IsRingList rs) where
 
   all-distinct : EachPair Distinct rs
   all-distinct =
-      pairs-weaker clear-rings Distinct rs (λ x y i j c. false-if-never (same_list x y) (λ z. let e = same_list-true x y z in not-clear x i (subst (λ (w : List Edge). clear-rings x w) (sym e) c)))
+      pairs-weaker clear-rings Distinct rs (λ x y i j c. false_from_ne_true (same_list x y) (λ z. let e = same_list-true x y z in not-clear x i (subst (λ (w : List Edge). clear-rings x w) (sym e) c)))
       (pairs-unmap segments_of AreClear rs (clear-pairs (rings rs l) (nest-plain rs l)))
 
   abbrev all_links : List Link
@@ -201,7 +177,7 @@ module _ (rs : List (List Edge)) (l : IsRingList rs) where
 
   outer-one-by : (r e : List Edge) (b : Bool) → same_list e r ≡ b → out e ≡ true → cond (out r) (bit b) 0 ≡ bit b
   outer-one-by r e true h o = let q = same_list-true e r h in ap (λ c. cond c 1 0) (sym (ap out q) ∙ o)
-  outer-one-by r e false h o = nothing-by (out r)
+  outer-one-by r e false h o = cond_none (out r)
 
   -- each inner ring stands under one outer ring
   under-one : (p : Link) → IsLink p → total (λ (r : List Edge). cond (out r) (bit (under r p)) 0) rs ≡ 1
@@ -217,20 +193,16 @@ module _ (rs : List (List Edge)) (l : IsRingList rs) where
       ∙ total-same (λ (p : Link). cond (out r) (cond (under r p) (total f p.inner) 0) 0) (λ (p : Link). cond (out r) (bit (under r p)) 0 * total f p.inner) all_links (λ p j. factor-by (out r) (under r p) (total f p.inner)))
       ∙ swap-sums (λ (r : List Edge) (p : Link). cond (out r) (bit (under r p)) 0 * total f p.inner) rs all_links
       ∙ total-same (λ (p : Link). total (λ (r : List Edge). cond (out r) (bit (under r p)) 0 * total f p.inner) rs) (λ (p : Link). total f p.inner) all_links
-      (λ p j. let u = under-one p (links-are rs (λ x i. i) p j).0 in factor-out (λ (r : List Edge). cond (out r) (bit (under r p)) 0) (total f p.inner) rs ∙ ap (λ n. n * total f p.inner) u ∙ one-factor (total f p.inner))
-
-  split-by : (b : Bool) (m n : ℕ) → cond b (m + n) 0 ≡ cond b m 0 + cond b n 0
-  split-by true m n = refl
-  split-by false m n = refl
+      (λ p j. let u = under-one p (links-are rs (λ x i. i) p j).0 in total-* (λ (r : List Edge). cond (out r) (bit (under r p)) 0) (total f p.inner) rs ∙ ap (λ n. n * total f p.inner) u ∙ one-factor (total f p.inner))
 
   polygons-whole : HasSameEdges (edges_of (map polygon_edges (polygons_of rs))) (edges_of rs)
   polygons-whole f =
       let a = total-is f (edges_of (map polygon_edges (polygons_of rs))) in let b = total-is f (edges_of rs) in
       let c = polygons-sum f rs in
-      let d = total-same (λ (r : List Edge). cond (out r) (total f r + under_sum f r) 0) (λ (r : List Edge). cond (out r) (total f r) 0 + cond (out r) (under_sum f r) 0) rs (λ r i. split-by (out r) (total f r) (under_sum f r)) in
+      let d = total-same (λ (r : List Edge). cond (out r) (total f r + under_sum f r) 0) (λ (r : List Edge). cond (out r) (total f r) 0 + cond (out r) (under_sum f r) 0) rs (λ r i. cond-+ (out r) (total f r) (under_sum f r)) in
       let e = total-+ (λ (r : List Edge). cond (out r) (total f r) 0) (λ (r : List Edge). cond (out r) (under_sum f r) 0) rs in
       let g = all-under f in let h = links-sum (total f) rs (λ x i. i) in
-      let k = total-same (λ (r : List Edge). cond (out r) (total f r) 0 + cond (out r) 0 (total f r)) (total f) rs (λ r i. parts-by (out r) (total f r)) in
+      let k = total-same (λ (r : List Edge). cond (out r) (total f r) 0 + cond (out r) 0 (total f r)) (total f) rs (λ r i. both_conds (out r) (total f r)) in
       let m = total-+ (λ (r : List Edge). cond (out r) (total f r) 0) (λ (r : List Edge). cond (out r) 0 (total f r)) rs in
       let n = total-edges f rs in omega arith
 

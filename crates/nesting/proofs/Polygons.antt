@@ -16,11 +16,9 @@ use Rattle.nesting.proofs.DirectEnclosure.{inside_of, insides_apart}
 use Rattle.nesting.proofs.DirectRings.{is_outer_by, polygon_sum, polygons_count, rings, rings-anchors, rings-nest, rings-tell, winds_by}
 use Rattle.nesting.proofs.Nests.{odd-bit}
 use Rattle.nesting.proofs.WoundRings.{fold-direct, in-count, out-count}
-use Rattle.plane.proofs.RayCrossings.{down_seen, up_seen}
-use Rattle.winding.proofs.Levels.{signed_parity}
-use Rattle.winding.proofs.RingCounts.{segments-crossings}
-use Rattle.winding.proofs.SidedLists.{sided-even, sided_direct}
-use Rattle.winding.proofs.Sums.{total, total-is}
+use Rattle.plane.proofs.PlaneKit.{down_seen, up_seen}
+use Rattle.winding.proofs.WindingKit.{signed_parity, segments-crossings, sided-even, sided_direct}
+use Rattle.lists.proofs.Sums.{total, total-is}
 
 -- ---- the laws at points of the lattice
 module _ (rs : List (List Edge)) (l : IsRingList rs) (p : Vector) where

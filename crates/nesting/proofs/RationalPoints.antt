@@ -11,19 +11,17 @@ use Rattle.plane.specs.Sign.{Plus, sign}
 use Rattle.plane.specs.Vector.{Vector, cross, from_to, same_point}
 use Rattle.winding.specs.ConflictFree.{IsConflictFree}
 use Rattle.winding.specs.EdgeList.{IsEvenAtPoints}
-use Rattle.winding.specs.Member.{In}
+use Rattle.lists.specs.Member.{In}
 use Rattle.winding.specs.Parity.{is_even}
 use Rattle.winding.specs.ScaledEdges.{scaled_edges}
 use Rattle.nesting.proofs.DirectEnclosure.{out-of}
 use Rattle.nesting.proofs.Nests.{clear_rings, encloses-in, encloses-not, has-not-by, plain-part}
 use Rattle.nesting.proofs.OuterTests.{HasAnchors}
 use Rattle.nesting.proofs.TwoLists.{clear-reversed, contained, disjoint}
-use Rattle.plane.proofs.RayCrossings.{crossings_at}
-use Rattle.plane.proofs.Scaling.{conflicts-scaled, cross-scaled, point-scaled}
-use Rattle.winding.proofs.Members.{in-map-out, total-same}
-use Rattle.winding.proofs.OppositeEnds.{beyond, crossings-away}
-use Rattle.winding.proofs.ScaledLists.{even_scaled, plain_scaled}
-use Rattle.winding.proofs.Sums.{total-map}
+use Rattle.plane.proofs.PlaneKit.{crossings_at, conflicts-scaled, cross-scaled, point-scaled}
+use Rattle.lists.proofs.Members.{in-map-out, total-same}
+use Rattle.winding.proofs.WindingKit.{beyond, crossings-away, even_scaled, plain_scaled}
+use Rattle.lists.proofs.Sums.{total-map}
 
 module _ (k : ℤ) (hk : sign k ≡ Plus) where
   beyond-by : (b c : Bool) (m n : ℕ) → b ≡ c → m ≡ n → cond (not b) m 0 ≡ cond (not c) n 0

@@ -8,26 +8,20 @@ use Rattle.plane.specs.Order.{order}
 use Rattle.plane.specs.Sign.{Minus, Null, Plus, Sign, is_plus, negated}
 use Rattle.winding.specs.ConflictFree.{IsConflictFree}
 use Rattle.winding.specs.EdgeList.{IsEvenAtPoints}
-use Rattle.winding.specs.Member.{EachPair, In}
+use Rattle.lists.specs.Member.{EachPair, In}
 use Rattle.winding.specs.OddSide.{runs_up}
 use Rattle.winding.specs.Ring.{IsAnchor, segments_of}
 use Rattle.nesting.proofs.CoveredEdges.{constant_in}
 use Rattle.nesting.proofs.Nests.{clear_rings, has-in, plain-part}
 use Rattle.nesting.proofs.TwoLists.{clear-list, clear-reversed}
-use Rattle.plane.proofs.PointOrder.{order-reversed}
-use Rattle.winding.proofs.Anchors.{some-anchor}
-use Rattle.winding.proofs.ConflictFree.{rising_in}
-use Rattle.winding.proofs.Members.{in-all, in-map, in-map-out}
-use Rattle.winding.proofs.RingCounts.{ring-even}
-use Rattle.winding.proofs.SidedLists.{sided_direct}
-
-pub map-++ : {X Y : Type 0} (f : X → Y) (xs ys : List X) → map f (xs ++ ys) ≡ map f xs ++ map f ys
-map-++ f [] ys = refl
-map-++ f (x ∷ xs) ys = ap (λ l. f x ∷ l) (map-++ f xs ys)
+use Rattle.plane.proofs.PlaneKit.{order-reversed}
+use Rattle.winding.proofs.WindingKit.{some-anchor, rising_in, ring-even, sided_direct}
+use Rattle.lists.proofs.Members.{in-all, in-map, in-map-out}
+use Rattle.std.proofs.lemmas.List.{map-append}
 
 pub edges-segments : (rs : List (List Edge)) → edges_of (map segments_of rs) ≡ segments_of (edges_of rs)
 edges-segments [] = refl
-edges-segments (r ∷ rs) = ap (λ l. segments_of r ++ l) (edges-segments rs) ∙ sym (map-++ segment_of r (edges_of rs))
+edges-segments (r ∷ rs) = ap (λ l. segments_of r ++ l) (edges-segments rs) ∙ sym (map-append segment_of r (edges_of rs))
 
 -- two members are one, or stand at different places
 pub pairs-of : {X : Type 0} (R : X → X → Type 0) (xs : List X) (x y : X) → EachPair R xs → In x xs → In y xs → (x ≡ y) ⊎ (R x y ⊎ R y x)

@@ -8,19 +8,14 @@ use Rattle.nesting.specs.Walk.{HasSameEdges}
 use Rattle.plane.specs.Edge.{Edge, ends_at, other_end, segment_of}
 use Rattle.plane.specs.Sector.{in_sector}
 use Rattle.plane.specs.Vector.{Vector, from_to, same_point}
-use Rattle.winding.specs.Member.{EachPair, In}
+use Rattle.lists.specs.Member.{EachPair, In}
 use Rattle.winding.specs.Node.{spokes_in}
-use Rattle.winding.specs.Ring.{IsPath, IsRing, segments_of}
+use Rattle.winding.specs.Ring.{IsRing, segments_of}
 use Rattle.nesting.proofs.Parts.{same-in, sided_same}
-use Rattle.nesting.proofs.Stacks.{path-join}
-use Rattle.plane.proofs.Points.{same_point-refl, same_point-true}
-use Rattle.winding.proofs.Members.{all-in, in-all, pairs-across, pairs-append, pairs-left, pairs-right}
-use Rattle.winding.proofs.OddSides.{spokes-is}
-use Rattle.winding.proofs.Sums.{total, total-++, total-is, total-map}
-
-pub path-split : (a b : Vector) (xs ys : List Edge) → IsPath a (xs ++ ys) b → (m : Vector) × IsPath a xs m × IsPath m ys b
-path-split a b [] ys p = (a, refl, p)
-path-split a b (x ∷ xs) ys p = let r = path-split x.to b xs ys p.1 in (r.0, (p.0, r.1), r.2)
+use Rattle.winding.proofs.WindingKit.{path-join, path-split, spokes-is}
+use Rattle.plane.proofs.PlaneKit.{same_point-refl, same_point-true}
+use Rattle.lists.proofs.Members.{all-in, in-all, pairs-across, pairs-append, pairs-left, pairs-right}
+use Rattle.lists.proofs.Sums.{total, total-++, total-is, total-map}
 
 apart-back-by : (p q : Vector) → same_point p q ≡ false → (b : Bool) → same_point q p ≡ b → b ≡ false
 apart-back-by p q n false h = refl

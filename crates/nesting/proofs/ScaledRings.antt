@@ -1,8 +1,8 @@
 -- A ring list multiplied by a positive number is a ring list, and what its polygons cover at points with fractions.
-use Rattle.std.proofs.Common.{All, Bool, List, [], ap, arith, cond, false, length, map, not, refl, subst, suc, sym, true, ℕ, ◌%◌, ◌++◌, ◌+◌, ◌||◌, ◌∙◌, ◌∷◌, ◌≡◌, ◌≤◌, ◌⊎◌}
+use Rattle.std.proofs.Common.{Bool, List, [], ap, arith, cond, false, length, map, not, refl, subst, sym, true, ℕ, ◌%◌, ◌++◌, ◌+◌, ◌||◌, ◌∙◌, ◌∷◌, ◌≡◌, ◌≤◌}
 use Rattle.std.specs.List.{count_by}
 use borrow.Author.Differences.{ints}
-use lib.IntN.{pos, ℤ, ◌*ℤ◌, ◌-ℤ◌}
+use lib.IntN.{pos, ℤ, ◌-ℤ◌}
 use Rattle.nesting.specs.Cover.{DoNotCross, covers}
 use Rattle.nesting.specs.Nesting.{TellsOuter, edges_of}
 use Rattle.nesting.specs.Polygon.{ArePolygons, IsPolygon, Polygon, polygon_edges}
@@ -10,14 +10,13 @@ use Rattle.nesting.specs.RingList.{IsRingList, scaled_rings}
 use Rattle.plane.specs.Bit.{bit}
 use Rattle.plane.specs.Edge.{Edge, ends_at, other_end, segment_of}
 use Rattle.plane.specs.Order.{order}
-use Rattle.plane.specs.RayCrossing.{IsOffEdge}
 use Rattle.plane.specs.Scale.{scaled_edge, scaled_point}
 use Rattle.plane.specs.Sector.{in_sector}
 use Rattle.plane.specs.Sign.{Minus, Plus, is_plus, sign}
-use Rattle.plane.specs.Vector.{Vector, east, from_to, one_at, orient, same_point}
+use Rattle.plane.specs.Vector.{Vector, east, from_to, orient, same_point}
 use Rattle.winding.specs.ConflictFree.{IsConflictFree, others}
-use Rattle.winding.specs.EdgeList.{IsBalanced, crossing_count, down_count, up_count, winding_number}
-use Rattle.winding.specs.Member.{EachPair, In}
+use Rattle.winding.specs.EdgeList.{crossing_count, down_count, up_count, winding_number}
+use Rattle.lists.specs.Member.{In}
 use Rattle.winding.specs.Node.{spokes_in}
 use Rattle.winding.specs.Parity.{is_even}
 use Rattle.winding.specs.Ring.{IsAnchor, IsPath, IsRing, segments_of}
@@ -27,37 +26,13 @@ use Rattle.nesting.proofs.DirectRings.{is_outer_by, polygon_sum, polygons_count,
 use Rattle.nesting.proofs.Nests.{odd-bit, plain-part}
 use Rattle.nesting.proofs.OuterTests.{HasAnchors}
 use Rattle.nesting.proofs.RationalPoints.{apart-at, ends-scaled, inside-at}
-use Rattle.nesting.proofs.RingLists.{map-++, nest-plain}
+use Rattle.std.proofs.lemmas.List.{map-append, length-map}
+use Rattle.nesting.proofs.RingLists.{nest-plain}
 use Rattle.nesting.proofs.WoundRings.{down-is, fold-direct, not-back, own-anchor}
-use Rattle.plane.proofs.Edges.{same_edge_by}
-use Rattle.plane.proofs.Identities.{lift, same, ◌⊠◌}
-use Rattle.plane.proofs.Points.{same_point-refl, same_point-true, same_vector}
-use Rattle.plane.proofs.RayCrossings.{down_seen, up_seen}
-use Rattle.plane.proofs.Scaling.{order-scaled, orient-scaled, point-scaled, sector-seen-scaled}
-use Rattle.plane.proofs.Signs.{plus-times}
-use Rattle.winding.proofs.Anchors.{ring_by_anchor}
-use Rattle.winding.proofs.Members.{all-in, in-all, in-map, in-map-out, total-same}
-use Rattle.winding.proofs.OddSides.{spokes-is}
-use Rattle.winding.proofs.RingCounts.{segments-crossings}
-use Rattle.winding.proofs.ScaledLists.{direct-by, map-map, map-same, others-scaled, plain_scaled, rational_count}
-use Rattle.winding.proofs.SidedLists.{sided-even, sided_direct}
-use Rattle.winding.proofs.Sums.{same-total, total, total-is, total-map}
-
-pairs-map : {X Y : Type 0} (f : X → Y) (R : X → X → Type 0) (S : Y → Y → Type 0) (xs : List X) → ((x y : X) → R x y → S (f x) (f y)) → EachPair R xs → EachPair S (map f xs)
-pairs-map f R S [] h p = tt
-pairs-map f R S (x ∷ xs) h p =
-    (all-in (S (f x)) (map f xs) (λ y i. let r = in-map-out f xs y i in subst (λ w. S (f x) w) (sym r.2) (h x r.0 (in-all (R x) xs r.0 p.0 r.1))), pairs-map f R S xs h p.1)
-
-length-map : {X Y : Type 0} (f : X → Y) (xs : List X) → length (map f xs) ≡ length xs
-length-map f [] = refl
-length-map f (x ∷ xs) = ap (λ n. suc n) (length-map f xs)
-
-balanced-total : (f : Vector → ℕ) (es : List Edge) → IsBalanced es → total (λ (e : Edge). f e.from) es ≡ total (λ (e : Edge). f e.to) es
-balanced-total f es b =
-    sym (total-map f (λ (e : Edge). e.from) es)
-    ∙ same-total f (map (λ (e : Edge). e.from) es) (map (λ (e : Edge). e.to) es)
-    (λ v. total-map (one_at v) (λ (e : Edge). e.from) es ∙ total-is (λ (e : Edge). one_at v e.from) es ∙ b v ∙ sym (total-is (λ (e : Edge). one_at v e.to) es) ∙ sym (total-map (one_at v) (λ (e : Edge). e.to) es))
-    ∙ total-map f (λ (e : Edge). e.to) es
+use Rattle.plane.proofs.PlaneKit.{same_point-true, down_seen, up_seen, order-scaled, orient-scaled, point-scaled, sector-seen-scaled, point-back}
+use Rattle.winding.proofs.WindingKit.{ring_by_anchor, spokes-is, segments-crossings, others-scaled, plain_scaled, rational_count, sided-even, sided_direct, segment-scaled, segments-scaled, sided-scaled}
+use Rattle.lists.proofs.Members.{in-map, in-map-out, total-same, pairs-map}
+use Rattle.lists.proofs.Sums.{total, total-is, total-map}
 
 module _ (k : ℤ) (hk : sign k ≡ Plus) where
   path-scaled : (a : Vector) (es : List Edge) (b : Vector) → IsPath a es b → IsPath (scaled_point k a) (scaled_edges k es) (scaled_point k b)
@@ -69,40 +44,6 @@ module _ (k : ℤ) (hk : sign k ≡ Plus) where
     start = scaled_point k g.start;
     path = path-scaled g.start r g.start g.path;
     once = pairs-map (scaled_edge k) (λ (e f : Edge). same_point e.from f.from ≡ false) (λ (e f : Edge). same_point e.from f.from ≡ false) r (λ e f h. point-scaled k hk e.from f.from ∙ h) g.once;
-  }
-
-  segment-scaled : (e : Edge) → segment_of (scaled_edge k e) ≡ scaled_edge k (segment_of e)
-  segment-scaled e = direct-by k hk (is_plus (order (scaled_point k e.from) (scaled_point k e.to))) (is_plus (order e.from e.to)) e (ap is_plus (order-scaled k hk e.from e.to))
-
-  pub segments-scaled : (es : List Edge) → segments_of (scaled_edges k es) ≡ scaled_edges k (segments_of es)
-  segments-scaled es = map-map segment_of (scaled_edge k) es ∙ map-same (λ e. segment_of (scaled_edge k e)) (λ e. scaled_edge k (segment_of e)) es segment-scaled ∙ sym (map-map (scaled_edge k) segment_of es)
-
-  -- ---- a sided list
-  balanced-scaled : (es : List Edge) → IsBalanced es → IsBalanced (scaled_edges k es)
-  balanced-scaled es b v =
-      sym (total-is (λ (e : Edge). one_at v e.from) (scaled_edges k es)) ∙ total-map (λ (e : Edge). one_at v e.from) (scaled_edge k) es
-      ∙ balanced-total (λ (w : Vector). one_at v (scaled_point k w)) es b
-      ∙ sym (total-map (λ (e : Edge). one_at v e.to) (scaled_edge k) es) ∙ total-is (λ (e : Edge). one_at v e.to) (scaled_edges k es)
-
-  times-twice : (q z : ℤ) → q *ℤ (k *ℤ z) ≡ (q *ℤ k) *ℤ z
-  times-twice q z = let q' = lift q in let k' = lift k in let z' = lift z in same (q' ⊠ (k' ⊠ z')) ((q' ⊠ k') ⊠ z') (omega arith)
-
-  point-twice : (q : ℤ) (p : Vector) → scaled_point q (scaled_point k p) ≡ scaled_point (q *ℤ k) p
-  point-twice q p = same_vector (q *ℤ (k *ℤ p.x)) (q *ℤ (k *ℤ p.y)) ((q *ℤ k) *ℤ p.x) ((q *ℤ k) *ℤ p.y) (times-twice q p.x) (times-twice q p.y)
-
-  scaled-twice : (q : ℤ) (es : List Edge) → scaled_edges q (scaled_edges k es) ≡ scaled_edges (q *ℤ k) es
-  scaled-twice q es =
-      map-map (scaled_edge q) (scaled_edge k) es
-      ∙ map-same (λ e. scaled_edge q (scaled_edge k e)) (scaled_edge (q *ℤ k)) es (λ e.
-      same_edge_by (scaled_point q (scaled_point k e.from)) (scaled_point q (scaled_point k e.to)) (scaled_point (q *ℤ k) e.from) (scaled_point (q *ℤ k) e.to) (point-twice q e.from) (point-twice q e.to))
-
-  sided-scaled : (es : List Edge) → IsSided es → IsSided (scaled_edges k es)
-  sided-scaled es sd = record {
-    plain = subst IsConflictFree (sym (segments-scaled es)) (plain_scaled k hk (segments_of es) sd.plain);
-    balanced = balanced-scaled es sd.balanced;
-    counted = λ q hq p off.
-        let e = scaled-twice q es in
-        subst (λ l. (winding_number east p l ≡ pos 0) ⊎ (winding_number east p l ≡ pos 1)) (sym e) (sd.counted (q *ℤ k) (plus-times q k hq ∙ hk) p (subst (λ l. All (IsOffEdge p) l) e off));
   }
 
   -- ---- round a point
@@ -158,26 +99,23 @@ module _ (k : ℤ) (hk : sign k ≡ Plus) where
   -- ---- a ring list
   edges-scaled : (rs : List (List Edge)) → edges_of (scaled_rings k rs) ≡ scaled_edges k (edges_of rs)
   edges-scaled [] = refl
-  edges-scaled (r ∷ rs) = ap (λ l. scaled_edges k r ++ l) (edges-scaled rs) ∙ sym (map-++ (scaled_edge k) r (edges_of rs))
+  edges-scaled (r ∷ rs) = ap (λ l. scaled_edges k r ++ l) (edges-scaled rs) ∙ sym (map-append (scaled_edge k) r (edges_of rs))
 
   free-scaled : (r s : List Edge) → DoNotCross (segments_of r) (segments_of s) → DoNotCross (segments_of (scaled_edges k r)) (segments_of (scaled_edges k s))
   free-scaled r s n =
-      subst (λ w. DoNotCross w (segments_of (scaled_edges k s))) (sym (segments-scaled r))
-      (subst (λ w. DoNotCross (scaled_edges k (segments_of r)) w) (sym (segments-scaled s)) (uncrossed-scaled (segments_of r) (segments_of s) n))
+      subst (λ w. DoNotCross w (segments_of (scaled_edges k s))) (sym (segments-scaled k hk r))
+      (subst (λ w. DoNotCross (scaled_edges k (segments_of r)) w) (sym (segments-scaled k hk s)) (uncrossed-scaled (segments_of r) (segments_of s) n))
 
   pub scaled_ring_list : (rs : List (List Edge)) → IsRingList rs → IsRingList (scaled_rings k rs)
   scaled_ring_list rs l = record {
     ring = λ r i. let q = in-map-out (scaled_edges k) rs r i in subst IsRing (sym q.2) (ring-scaled q.0 (l.ring q.0 q.1));
-    long = λ r i. let q = in-map-out (scaled_edges k) rs r i in subst (λ w. 3 ≤ length w) (sym q.2) (subst (λ n. 3 ≤ n) (sym (length-map (scaled_edge k) q.0)) (l.long q.0 q.1));
-    sided = subst IsSided (sym (edges-scaled rs)) (sided-scaled (edges_of rs) l.sided);
+    long = λ r i. let q = in-map-out (scaled_edges k) rs r i in subst (λ w. 3 ≤ length w) (sym q.2) (subst (λ n. 3 ≤ n) (sym (length-map q.0 (scaled_edge k))) (l.long q.0 q.1));
+    sided = subst IsSided (sym (edges-scaled rs)) (sided-scaled k hk (edges_of rs) l.sided);
     free = pairs-map (scaled_edges k) (λ (r s : List Edge). DoNotCross (segments_of r) (segments_of s) × DoNotCross (segments_of s) (segments_of r))
         (λ (r s : List Edge). DoNotCross (segments_of r) (segments_of s) × DoNotCross (segments_of s) (segments_of r)) rs (λ r s f. (free-scaled r s f.0, free-scaled s r f.1)) l.free;
   }
 
   -- ---- the anchor of a ring
-  point-back : (p q : Vector) → scaled_point k p ≡ scaled_point k q → p ≡ q
-  point-back p q e = same_point-true p q (sym (point-scaled k hk p q) ∙ subst (λ w. same_point (scaled_point k p) w ≡ true) e (same_point-refl (scaled_point k p)))
-
   anchor-scaled : (s : Edge) (es : List Edge) → IsAnchor s es → IsAnchor (scaled_edge k s) (scaled_edges k es)
   anchor-scaled s es a = record {
     member = in-map (scaled_edge k) es s a.member;
@@ -185,7 +123,7 @@ module _ (k : ℤ) (hk : sign k ≡ Plus) where
     leftmost = λ t i q.
         let r = in-map-out (scaled_edge k) (others s es) t (subst (λ l. In t l) (others-scaled k hk s es) i) in
         subst (λ (w : Edge). orient (scaled_point k s.from) (scaled_point k s.to) w.to ≡ Minus) (sym r.2)
-        (orient-scaled k hk s.from s.to r.0.to ∙ a.leftmost r.0 r.1 (point-back s.from r.0.from (q ∙ ap (λ (w : Edge). w.from) r.2)));
+        (orient-scaled k hk s.from s.to r.0.to ∙ a.leftmost r.0 r.1 (point-back k hk s.from r.0.from (q ∙ ap (λ (w : Edge). w.from) r.2)));
   }
 
   -- ---- what the rings and polygons count at p.x / k, p.y / k
@@ -202,16 +140,16 @@ module _ (k : ℤ) (hk : sign k ≡ Plus) where
     covered-is : (r : List Edge) → crossing_count east p (scaled_edges k r) % 2 ≡ bit (covers_at (segments_of r))
     covered-is r =
         odd-bit (crossing_count east p (scaled_edges k r))
-        ∙ ap (λ n. bit (not (is_even n))) (sym (segments-crossings east p (scaled_edges k r)) ∙ ap (λ (g : List Edge). crossing_count east p g) (segments-scaled r))
+        ∙ ap (λ n. bit (not (is_even n))) (sym (segments-crossings east p (scaled_edges k r)) ∙ ap (λ (g : List Edge). crossing_count east p g) (segments-scaled k hk r))
 
     wound-scaled : (r : List Edge) → (i : In r rs) →
         winding_number east p (scaled_edges k r) ≡ cond (not (outer (segments_of r))) (pos 0 -ℤ pos (crossing_count east p (scaled_edges k r) % 2)) (pos (crossing_count east p (scaled_edges k r) % 2))
     wound-scaled r i =
         let a = own-anchor rs l outer tells anchors p r i in
         ring_by_anchor (scaled_edge k a.0) (scaled_edges k r) (ring-scaled r (l.ring r i))
-        (subst IsConflictFree (sym (segments-scaled r)) (plain_scaled k hk (segments_of r) (plain-part (map segments_of rs) (segments_of r) (nest-plain rs l) (in-map segments_of rs r i))))
+        (subst IsConflictFree (sym (segments-scaled k hk r)) (plain_scaled k hk (segments_of r) (plain-part (map segments_of rs) (segments_of r) (nest-plain rs l) (in-map segments_of rs r i))))
         (in-map (scaled_edge k) r a.0 a.1)
-        (subst (λ g. IsAnchor (segment_of (scaled_edge k a.0)) g) (sym (segments-scaled r)) (subst (λ s. IsAnchor s (scaled_edges k (segments_of r))) (sym (segment-scaled a.0)) (anchor-scaled (segment_of a.0) (segments_of r) a.2))) p
+        (subst (λ g. IsAnchor (segment_of (scaled_edge k a.0)) g) (sym (segments-scaled k hk r)) (subst (λ s. IsAnchor s (scaled_edges k (segments_of r))) (sym (segment-scaled k hk a.0)) (anchor-scaled (segment_of a.0) (segments_of r) a.2))) p
         ∙ ap (λ b. cond b (pos 0 -ℤ pos (crossing_count east p (scaled_edges k r) % 2)) (pos (crossing_count east p (scaled_edges k r) % 2)))
         (ap is_plus (order-scaled k hk a.0.from a.0.to) ∙ not-back rs l outer tells anchors p (outer (segments_of r)) (is_plus (order a.0.from a.0.to)) (down-is rs l outer tells anchors p r i))
 
@@ -267,7 +205,7 @@ module _ (k : ℤ) (hk : sign k ≡ Plus) where
         let w : winding_number east p (scaled_edges k es) ≡ pos n = subst (λ (u : List Edge). winding_number east p (scaled_edges k u) ≡ pos n) q s in
         let a = total-is (up_seen east (from_to p)) (scaled_edges k es) in let b = total-is (down_seen east (from_to p)) (scaled_edges k es) in
         let e = total-map (up_seen east (from_to p)) (scaled_edge k) es in let f = total-map (down_seen east (from_to p)) (scaled_edge k) es in
-        let c = ap (λ (g : List Edge). crossing_count east p g) (sym (segments-scaled es)) ∙ segments-crossings east p (scaled_edges k es) in let o = odd-bit (crossing_count east p (scaled_edges k es)) in
+        let c = ap (λ (g : List Edge). crossing_count east p g) (sym (segments-scaled k hk es)) ∙ segments-crossings east p (scaled_edges k es) in let o = odd-bit (crossing_count east p (scaled_edges k es)) in
         let m : up_count east p (scaled_edges k es) ≡ down_count east p (scaled_edges k es) + n = omega (arith, ints) in
         omega arith
 

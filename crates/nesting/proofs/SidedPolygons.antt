@@ -11,7 +11,7 @@ use Rattle.plane.specs.Edge.{Edge, IsRising}
 use Rattle.plane.specs.Vector.{Vector, east, one_at}
 use Rattle.winding.specs.ConflictFree.{IsConflictFree}
 use Rattle.winding.specs.EdgeList.{IsBalanced, winding_number}
-use Rattle.winding.specs.Member.{EachPair, In}
+use Rattle.lists.specs.Member.{EachPair, In}
 use Rattle.winding.specs.Ring.{IsRing, segments_of}
 use Rattle.winding.specs.ScaledEdges.{scaled_edges}
 use Rattle.winding.specs.Sided.{IsSided}
@@ -21,9 +21,9 @@ use Rattle.nesting.proofs.Nests.{total-edges}
 use Rattle.nesting.proofs.RingLists.{edges-segments}
 use Rattle.nesting.proofs.ScaledRings.{polygon_winds_at_fractions}
 use Rattle.nesting.proofs.TwoLists.{plain-append}
-use Rattle.winding.proofs.Members.{all-in, in-all, in-map, in-map-out, pairs-weaker, total-same}
-use Rattle.winding.proofs.RingCounts.{path-ends}
-use Rattle.winding.proofs.Sums.{total, total-is}
+use Rattle.lists.proofs.Members.{all-in, in-all, in-map, in-map-out, pairs-weaker, total-same}
+use Rattle.winding.proofs.WindingKit.{path-ends}
+use Rattle.lists.proofs.Sums.{total, total-is}
 
 plain-rings : (rs : List (List Edge)) → ((r : List Edge) → In r rs → IsConflictFree (segments_of r)) → EachPair clear-rings rs → IsConflictFree (edges_of (map segments_of rs))
 plain-rings [] h p = record { rising = All-nil IsRising; clear = tt }

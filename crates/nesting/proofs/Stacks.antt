@@ -5,13 +5,14 @@ use Rattle.nesting.specs.Stack.{before_at, cut_all, cut_off, from_at, with_piece
 use Rattle.nesting.specs.Walk.{AreCuts, AreWalks, Cuts, Follow, IsSuccessor, IsWalk, last}
 use Rattle.plane.specs.Edge.{Edge}
 use Rattle.plane.specs.Vector.{Vector, same_point}
-use Rattle.winding.specs.Member.{EachPair, In}
+use Rattle.lists.specs.Member.{EachPair, In}
 use Rattle.winding.specs.Ring.{IsPath}
 use Rattle.winding.specs.Sided.{IsSided}
 use Rattle.nesting.proofs.Pieces.{append-assoc, last-in, ring_list}
 use Rattle.nesting.proofs.Successors.{next_leaves}
-use Rattle.plane.proofs.Points.{same_point-refl, same_point-true}
-use Rattle.winding.proofs.Members.{all-in, pairs-append, pairs-left, pairs-right}
+use Rattle.plane.proofs.PlaneKit.{same_point-refl, same_point-true}
+use Rattle.lists.proofs.Members.{all-in, pairs-append, pairs-left, pairs-right}
+use Rattle.winding.proofs.WindingKit.{path-join}
 
 abbrev Begin : List Edge → Type 0
 Begin xs = EachPair (λ (e f : Edge). same_point e.from f.from ≡ false) xs
@@ -51,10 +52,6 @@ none-by v x xs false h k y (inr i) = k y i
 none-before : (v : Vector) (xs : List Edge) → NoneAt v (before_at v xs)
 none-before v [] = λ y i. absurd i
 none-before v (x ∷ xs) = none-by v x xs (same_point v x.from) refl (none-before v xs)
-
-pub path-join : (a m b : Vector) (xs ys : List Edge) → IsPath a xs m → IsPath m ys b → IsPath a (xs ++ ys) b
-path-join a m b [] ys p q = subst (λ w. IsPath w ys b) (sym p) q
-path-join a m b (x ∷ xs) ys p q = (p.0, path-join x.to m b xs ys p.1 q)
 
 not-at : (p q r : Vector) → r ≡ q → (b : Bool) → same_point p r ≡ b → same_point q p ≡ false → b ≡ false
 not-at p q r e true h k = let g = same_point-true p r h ∙ e in absurd (cc (sym (same_point-refl p) ∙ ap (λ w. same_point w p) g ∙ k))

@@ -10,26 +10,19 @@ use Rattle.plane.specs.Sign.{Null, Plus, Sign, is_null, is_plus, negated, sign}
 use Rattle.plane.specs.Vector.{IsDirection, Vector, cross, dot, from_to, one_at, same_point}
 use Rattle.winding.specs.ConflictFree.{IsConflictFree, others}
 use Rattle.winding.specs.EdgeList.{IsEvenAtPoints}
-use Rattle.winding.specs.Member.{In}
+use Rattle.lists.specs.Member.{In}
 use Rattle.winding.specs.Node.{spokes_in}
 use Rattle.winding.specs.OddSide.{directed_edge}
 use Rattle.winding.specs.Parity.{is_even}
 use Rattle.winding.specs.Ring.{segments_of}
 use Rattle.winding.specs.Sided.{IsSided}
 use Rattle.nesting.proofs.CoveredEdges.{or-swap, same_in, segment-ends-by}
-use Rattle.plane.proofs.Bools.{not-not, not-true-out}
-use Rattle.plane.proofs.Edges.{ends_at-to, same_edge-refl, same_edge-true}
-use Rattle.plane.proofs.Points.{same_point-refl, same_point-true}
-use Rattle.plane.proofs.Products.{cross-negated, cross-self, frame-dot-agree}
-use Rattle.plane.proofs.Signs.{agree, all, all-out, all2-out, all4-out, imp, imp-out, times}
-use Rattle.winding.proofs.Balance.{bit-back, leaves, no-loop, out_count, way, way-direction, ways_apart}
-use Rattle.winding.proofs.ConflictFree.{clear_pair, off_away, rising_in, split_off}
-use Rattle.winding.proofs.Members.{all-in, in-filter, in-map, in-map-out, in-passes, total-same}
-use Rattle.winding.proofs.OddSides.{differ-parity, spokes-is}
-use Rattle.winding.proofs.Ranks.{odds}
-use Rattle.winding.proofs.RoundNode.{parity_round_node}
-use Rattle.winding.proofs.SidedLists.{sided-even, sided_direct}
-use Rattle.winding.proofs.Sums.{none-sum}
+use Rattle.lists.proofs.Bools.{not-not, not-true-out}
+use Rattle.plane.proofs.PlaneKit.{ends_at-to, same_edge-refl, same_edge-true, same_point-refl, same_point-true, cross-negated, cross-self, frame-dot-agree}
+use Rattle.plane.proofs.SignKit.{agree, all, all-out, all2-out, all4-out, imp, imp-out, times, bit-same}
+use Rattle.winding.proofs.WindingKit.{leaves, no-loop, out_count, way, way-direction, ways_apart, clear_pair, off_away, rising_in, split_off, differ-parity, spokes-is, odds, parity_round_node, sided-even, sided_direct}
+use Rattle.lists.proofs.Members.{all-in, in-filter, in-map, in-map-out, in-passes, total-same}
+use Rattle.lists.proofs.Sums.{none-sum}
 
 abbrev pub is_some : Sign → Sign → Bool
 is_some x y = agree (times x x) (times y y) Plus
@@ -103,7 +96,7 @@ pub unraised : (e g : Edge) → same_edge (segment_of e) (segment_of g) ≡ fals
 unraised e g n false h = refl
 unraised e g n true h = let k = same_edge-true e g h in absurd (cc (sym (same_edge-refl (segment_of g)) ∙ ap (λ w. same_edge (segment_of w) (segment_of g)) (sym k) ∙ n))
 
-not-member : (e g : Edge) (rs : List Edge) → (In e rs → ⊥) → In g rs → (b : Bool) → same_edge e g ≡ b → b ≡ false
+pub not-member : (e g : Edge) (rs : List Edge) → (In e rs → ⊥) → In g rs → (b : Bool) → same_edge e g ≡ b → b ≡ false
 not-member e g rs n i false h = refl
 not-member e g rs n i true h = absurd (n (subst (λ w. In w rs) (sym (same_edge-true e g h)) i))
 
@@ -128,7 +121,7 @@ module _ (es : List Edge) (sd : IsSided es) where
   leaves_where v g i h =
       let k = ap (λ (e : Edge). one_at v e.from) (sym (sided_direct es sd g i)) ∙ (leaves v (segment_of g) (segments_of es) sd.plain up-even (in-map segment_of es g i)).0
       ∙ ap (λ b. cond b (odds (out_count v (segments_of es) (segment_of g))) 0) (segment-ends v g h) in
-      bit-back (same_point v g.from) (not (is_even (out_count v (segments_of es) (segment_of g)))) k
+      bit-same (same_point v g.from) (not (is_even (out_count v (segments_of es) (segment_of g)))) k
 
   module _ (v : Vector) (e f : Edge) (i : In e es) (h : ends_at v e ≡ true) (n : IsNextClockwise v e f es) where
     abbrev we : Vector

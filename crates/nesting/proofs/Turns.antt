@@ -5,42 +5,29 @@ use Rattle.nesting.specs.Walk.{IsNextClockwise, IsSuccessor}
 use Rattle.plane.specs.Bit.{bit}
 use Rattle.plane.specs.Edge.{Edge, ends_at, other_end, same_edge, segment_of}
 use Rattle.plane.specs.Sector.{in_sector, sector_by}
-use Rattle.plane.specs.Sign.{Plus, Sign, is_null, is_plus, negated, sign, then_sign}
+use Rattle.plane.specs.Sign.{Sign, is_null, is_plus, negated, sign, then_sign}
 use Rattle.plane.specs.Vector.{IsDirection, Vector, cross, dot, from_to}
 use Rattle.winding.specs.ConflictFree.{others}
-use Rattle.winding.specs.Member.{In}
+use Rattle.lists.specs.Member.{In}
 use Rattle.winding.specs.Node.{spokes}
 use Rattle.winding.specs.Rank.{IsOrder}
 use Rattle.winding.specs.Ring.{segments_of}
 use Rattle.winding.specs.Sided.{IsSided}
 use Rattle.nesting.proofs.Parts.{differ, sided-once}
 use Rattle.nesting.proofs.Successors.{clear-two, is_some, none-between, rise, sector-either, sector-own, segment-back, segment-ends, some-signs, sym-differs, unraised, up-even, way-segment}
-use Rattle.plane.proofs.Bools.{and-out, not-true-out}
-use Rattle.plane.proofs.Edges.{ends_at-to, same_edge-refl, same_edge-true}
-use Rattle.plane.proofs.Products.{cross-negated, frame-agree, frame-dot-agree, plucker-agree, plucker-dot-agree}
-use Rattle.plane.proofs.Signs.{agree, all, all-out, all2, all2-out, all4, all4-out, imp, imp-out, same_bool-true, times, times-back, times-plus}
-use Rattle.winding.proofs.Anchors.{some_odd}
-use Rattle.winding.proofs.Balance.{chain_signs, crossed, degree-even, either_2, either_computes, length-total, way, way-direction, ways_apart}
-use Rattle.winding.proofs.ConflictFree.{split_off}
-use Rattle.winding.proofs.Members.{in-filter, in-map, in-map-out, in-passes, into-filter, pairs-filter, pairs-weaker, total-filter}
-use Rattle.winding.proofs.Ranks.{first_exists, odd-is}
-use Rattle.winding.proofs.SidedLists.{dot-swap}
-use Rattle.winding.proofs.Sums.{total}
+use Rattle.std.proofs.lemmas.Bool.{and_parts}
+use Rattle.lists.proofs.Bools.{not-true-out}
+use Rattle.plane.proofs.PlaneKit.{ends_at-to, same_edge-refl, same_edge-true, cross-negated, plucker-agree, plucker-dot-agree, dot-swap}
+use Rattle.plane.proofs.SignKit.{agree, all, all-out, all2, all2-out, all4, all4-out, imp, imp-out, same_bool-true, times}
+use Rattle.winding.proofs.WindingKit.{some_odd, crossed-at, dot-at, chain_signs, crossed, degree-even, either_2, either_computes, length-total, way, way-direction, ways_apart, split_off, first_exists, odd-is}
+use Rattle.lists.proofs.Members.{in-filter, in-map, in-map-out, in-passes, into-filter, pairs-filter, pairs-weaker, total-filter}
+use Rattle.lists.proofs.Sums.{total}
 
 -- a and b do not point the same way
 abbrev pub apart : Vector → Vector → Bool
 apart a b = not (is_null (sign (cross a b)) && is_plus (sign (dot a b)))
 
 -- ---- seen from any direction d
-crossed-at : (d a b : Vector) → IsDirection d → crossed (sign (dot d a)) (sign (cross d a)) (sign (dot d b)) (sign (cross d b)) (sign (cross a b)) ≡ true
-crossed-at d a b p =
-    let k = sign (cross a b) in let ay = sign (cross d a) in let bx = sign (dot d b) in
-    subst (λ s. agree s (times ay bx) (times (sign (dot d a)) (sign (cross d b))) ≡ true) (times-plus k)
-    (subst (λ s. agree (times Plus k) s (times (sign (dot d a)) (sign (cross d b))) ≡ true) (times-back bx ay) (frame-agree d a b p))
-
-dot-at : (d a b : Vector) → IsDirection d → agree (times (sign (dot d a)) (sign (dot d b))) (times (sign (cross d a)) (sign (cross d b))) (sign (dot a b)) ≡ true
-dot-at d a b p = subst (λ s. agree (times (sign (dot d a)) (sign (dot d b))) (times (sign (cross d a)) (sign (cross d b))) s ≡ true) (times-plus (sign (dot a b))) (frame-dot-agree d a b p)
-
 set-at : (d a : Vector) → IsDirection d → IsDirection a → not (is_null (then_sign (sign (cross d a)) (sign (dot d a)))) ≡ true
 set-at d a pd pa = imp-out _ _ (all2-out (λ x y. imp (is_some x y) λ _. not (is_null (then_sign y x))) refl (sign (dot d a)) (sign (cross d a))) (some-signs d a pd pa)
 
@@ -131,7 +118,7 @@ module _ (es : List Edge) (sd : IsSided es) (v : Vector) where
     rest-in g j = in-filter is_other es g j
 
     rest-is : (g : Edge) → In g rest → (ends_at v g ≡ true) × (not (same_edge e g) ≡ true)
-    rest-is g j = and-out (ends_at v g) (not (same_edge e g)) (in-passes is_other es g j)
+    rest-is g j = and_parts (ends_at v g) (not (same_edge e g)) (in-passes is_other es g j)
 
     rest-way : (g : Edge) → In g rest → IsDirection (w g)
     rest-way g j = w-way g (rest-in g j) (rest-is g j).0

@@ -8,25 +8,16 @@ use Rattle.plane.specs.Height.{is_in_span, is_left_of}
 use Rattle.plane.specs.Vector.{Vector, east, from_to}
 use Rattle.winding.specs.ConflictFree.{IsConflictFree}
 use Rattle.winding.specs.EdgeList.{IsEvenAtPoints, crossing_count}
-use Rattle.winding.specs.Member.{In}
+use Rattle.lists.specs.Member.{In}
 use Rattle.winding.specs.Node.{away}
 use Rattle.winding.specs.Parity.{is_even}
 use Rattle.winding.specs.Ring.{IsAnchor}
 use Rattle.nesting.proofs.CoveredEdges.{IsClearOfAll, beside, off-list}
-use Rattle.plane.proofs.Bools.{not-not}
-use Rattle.plane.proofs.Conflicts.{clear_back, clear_differs}
-use Rattle.plane.proofs.Edges.{ends_at-from, same_edge-refl}
-use Rattle.plane.proofs.Heights.{right_of}
-use Rattle.plane.proofs.PointOrder.{rising-direction}
-use Rattle.winding.proofs.Anchors.{all-right, anchor_right, some-anchor, west, west-direction, west-none}
-use Rattle.winding.proofs.Balance.{degree-even, length-total}
-use Rattle.winding.proofs.ConflictFree.{rising_in}
-use Rattle.winding.proofs.Levels.{crossing-order, crossing_by, kept-by, left-span, right_left, to_right}
-use Rattle.winding.proofs.Members.{all-either, all-in, in-either, in-filter, in-left, in-passes, in-right, into-filter, pairs-append, total-filter, total-same}
-use Rattle.winding.proofs.OddSides.{covers-crossings}
-use Rattle.winding.proofs.Ranks.{First, even-is, first_exists}
-use Rattle.winding.proofs.RoundNode.{parity_round_node}
-use Rattle.winding.proofs.Sums.{total}
+use Rattle.lists.proofs.Bools.{not-not}
+use Rattle.plane.proofs.PlaneKit.{clear_back, clear_differs, ends_at-from, same_edge-refl, right_of, rising-direction}
+use Rattle.winding.proofs.WindingKit.{all-right, anchor_right, some-anchor, west, west-direction, west-none, degree-even, length-total, rising_in, crossing-order, crossing_by, kept-by, left-span, right_left, to_right, covers-crossings, First, even-is, first_exists, parity_round_node}
+use Rattle.lists.proofs.Members.{all-either, all-in, in-either, in-filter, in-left, in-passes, in-right, into-filter, pairs-append, total-filter, total-same}
+use Rattle.lists.proofs.Sums.{total}
 
 pub plain-append : (cs bs : List Edge) → IsConflictFree cs → IsConflictFree bs → AreClear cs bs → IsConflictFree (cs ++ bs)
 plain-append cs bs p q c = record {

@@ -3,15 +3,15 @@ use Rattle.std.proofs.Common.{List, [], ap, arith, inl, inr, length, refl, subst
 use Rattle.nesting.specs.Nesting.{edges_of}
 use Rattle.nesting.specs.Walk.{AreWalks, Follow, HasSameEdges, IsCycle, IsSuccessor, last}
 use Rattle.plane.specs.Edge.{Edge}
-use Rattle.winding.specs.Member.{In}
+use Rattle.lists.specs.Member.{In}
 use Rattle.winding.specs.Sided.{IsSided}
 use Rattle.nesting.proofs.Nests.{in-edges}
 use Rattle.nesting.proofs.Parts.{Once, once-apart, same-back, same-in, same-once, sided-once}
 use Rattle.nesting.proofs.Pieces.{last-in}
 use Rattle.nesting.proofs.Successors.{next_one}
 use Rattle.nesting.proofs.Turns.{next_there}
-use Rattle.winding.proofs.Members.{in-all, in-either, in-left, in-right, pairs-left, pairs-right}
-use Rattle.winding.proofs.Sums.{total, total-++, total-is}
+use Rattle.lists.proofs.Members.{in-all, in-either, in-left, in-right, pairs-left, pairs-right}
+use Rattle.lists.proofs.Sums.{total, total-++, total-is}
 
 pub take : {X : Type 0} (y : X) (xs : List X) → In y xs → (a : List X) × (b : List X) × (xs ≡ a ++ (y ∷ b))
 take y [] i = absurd i

@@ -11,18 +11,17 @@ use Rattle.plane.specs.Order.{order}
 use Rattle.plane.specs.Sign.{is_plus}
 use Rattle.plane.specs.Vector.{Vector, east, from_to}
 use Rattle.winding.specs.EdgeList.{crossing_count, down_count, up_count, winding_number}
-use Rattle.winding.specs.Member.{In}
+use Rattle.lists.specs.Member.{In}
 use Rattle.winding.specs.OddSide.{directed_edge}
 use Rattle.winding.specs.Parity.{is_even}
 use Rattle.winding.specs.Ring.{IsAnchor, segments_of}
 use Rattle.nesting.proofs.Nests.{in-edges, odd-bit, plain-part, total-edges}
 use Rattle.nesting.proofs.OuterTests.{HasAnchors}
 use Rattle.nesting.proofs.RingLists.{nest-plain, outer_down}
-use Rattle.plane.proofs.RayCrossings.{down_seen, up_seen}
-use Rattle.winding.proofs.Anchors.{ring_by_anchor}
-use Rattle.winding.proofs.Members.{in-map, in-map-out, total-same}
-use Rattle.winding.proofs.RingCounts.{segments-crossings}
-use Rattle.winding.proofs.Sums.{total, total-+, total-++, total-is}
+use Rattle.plane.proofs.PlaneKit.{down_seen, up_seen}
+use Rattle.winding.proofs.WindingKit.{ring_by_anchor, segments-crossings}
+use Rattle.lists.proofs.Members.{in-map, in-map-out, total-same}
+use Rattle.lists.proofs.Sums.{total, total-+, total-++, total-is}
 
 small : (b : Bool) → bit b ≤ 1
 small true = omega arith

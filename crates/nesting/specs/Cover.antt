@@ -5,7 +5,7 @@ use Rattle.plane.specs.Edge.{Edge, ends_at, other_end}
 use Rattle.plane.specs.Vector.{Vector, east, from_to}
 use Rattle.winding.specs.ConflictFree.{IsConflictFree}
 use Rattle.winding.specs.EdgeList.{IsEvenAtPoints, crossing_count}
-use Rattle.winding.specs.Member.{In}
+use Rattle.lists.specs.Member.{In}
 use Rattle.winding.specs.Node.{away, spokes_in}
 use Rattle.winding.specs.Parity.{is_even}
 

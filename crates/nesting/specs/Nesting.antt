@@ -7,7 +7,7 @@ use Rattle.plane.specs.Height.{is_in_span, is_right_above, order_above}
 use Rattle.plane.specs.Sign.{is_plus}
 use Rattle.winding.specs.ConflictFree.{IsConflictFree}
 use Rattle.winding.specs.EdgeList.{IsEvenAtPoints}
-use Rattle.winding.specs.Member.{In}
+use Rattle.lists.specs.Member.{In}
 use Rattle.winding.specs.OddSide.{runs_up}
 use Rattle.winding.specs.Ring.{IsAnchor}
 

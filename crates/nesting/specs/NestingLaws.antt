@@ -6,7 +6,7 @@ use Rattle.nesting.specs.RingList.{IsRingList}
 use Rattle.plane.specs.Bit.{bit}
 use Rattle.plane.specs.Edge.{Edge, is_rising, segment_of}
 use Rattle.plane.specs.Height.{is_right_above}
-use Rattle.winding.specs.Member.{In}
+use Rattle.lists.specs.Member.{In}
 use Rattle.winding.specs.Parity.{is_even}
 use Rattle.winding.specs.Ring.{IsAnchor, segments_of}
 

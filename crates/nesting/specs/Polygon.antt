@@ -3,7 +3,7 @@ use Rattle.std.specs.Prelude.{List, map, ◌++◌, ◌≡◌}
 use Rattle.nesting.specs.Nesting.{EnclosesDirectly, IsInnerRing, IsOuterRing, edges_of}
 use Rattle.nesting.specs.Walk.{HasSameEdges}
 use Rattle.plane.specs.Edge.{Edge}
-use Rattle.winding.specs.Member.{EachPair, In}
+use Rattle.lists.specs.Member.{EachPair, In}
 use Rattle.winding.specs.Ring.{segments_of}
 
 pub record Polygon : Type 0 where

@@ -4,7 +4,7 @@ use lib.IntN.{ℤ}
 use Rattle.nesting.specs.Cover.{DoNotCross}
 use Rattle.nesting.specs.Nesting.{edges_of}
 use Rattle.plane.specs.Edge.{Edge}
-use Rattle.winding.specs.Member.{EachPair, In}
+use Rattle.lists.specs.Member.{EachPair, In}
 use Rattle.winding.specs.Ring.{IsRing, segments_of}
 use Rattle.winding.specs.ScaledEdges.{scaled_edges}
 use Rattle.winding.specs.Sided.{IsSided}

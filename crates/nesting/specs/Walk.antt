@@ -6,7 +6,7 @@ use Rattle.nesting.specs.Nesting.{edges_of}
 use Rattle.plane.specs.Edge.{Edge, ends_at, other_end, same_edge, segment_of}
 use Rattle.plane.specs.Sector.{in_sector}
 use Rattle.plane.specs.Vector.{Vector, from_to}
-use Rattle.winding.specs.Member.{In}
+use Rattle.lists.specs.Member.{In}
 use Rattle.winding.specs.Ring.{IsRing, segments_of}
 
 -- f is the first edge at v that is met on turning clockwise from e, an edge at v: no other is in the sector from f counterclockwise to e

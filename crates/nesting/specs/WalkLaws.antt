@@ -10,7 +10,7 @@ use Rattle.plane.specs.Edge.{Edge, ends_at, segment_of}
 use Rattle.plane.specs.Vector.{Vector, same_point}
 use Rattle.winding.specs.ConflictFree.{IsConflictFree}
 use Rattle.winding.specs.EdgeList.{IsEvenAtPoints}
-use Rattle.winding.specs.Member.{EachPair, In}
+use Rattle.lists.specs.Member.{EachPair, In}
 use Rattle.winding.specs.Ring.{IsPath, IsRing, segments_of}
 use Rattle.winding.specs.Sided.{IsSided}
 

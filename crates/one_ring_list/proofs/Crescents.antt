@@ -10,23 +10,24 @@ use Rattle.plane.specs.Bit.{bit}
 use Rattle.plane.specs.Conflict.{IsClearOf, conflicts}
 use Rattle.plane.specs.Edge.{Edge, IsRising, ends_at, other_end, same_edge}
 use Rattle.plane.specs.Order.{order}
-use Rattle.plane.specs.Sign.{Minus, Null, Plus, Sign, is_plus}
+use Rattle.plane.specs.Sign.{is_plus}
 use Rattle.plane.specs.Vector.{Vector, from_to, same_point}
 use Rattle.winding.specs.ConflictFree.{IsConflictFree}
 use Rattle.winding.specs.EdgeList.{IsEvenAtPoints}
-use Rattle.winding.specs.Member.{EachPair, In}
+use Rattle.lists.specs.Member.{EachPair, In}
 use Rattle.winding.specs.Node.{spokes_in}
 use Rattle.winding.specs.OddSide.{directed}
 use Rattle.winding.specs.Ring.{IsPath, IsRing, segments_of}
 use Rattle.winding.specs.Sided.{IsSided}
 use Rattle.one_ring_list.specs.RingListOf.{AreSameRings}
-use Rattle.nesting.proofs.Parts.{sided_same}
-use Rattle.plane.proofs.Bools.{and-left, and-out, and-right, not-true-out}
-use Rattle.plane.proofs.Points.{same_point-true}
-use Rattle.winding.proofs.SidedLists.{directed_sided, sided-even}
-use Rattle.winding.proofs.Sums.{total, total-is}
-use Rattle.nesting.proofs.Rotations.{rotated-total}
+use Rattle.nesting.proofs.NestingKit.{sided_same, rotated-total}
+use Rattle.lists.proofs.Bools.{and-left, and-right, not-true-out}
+use Rattle.std.proofs.lemmas.Bool.{and_parts}
+use Rattle.plane.proofs.PlaneKit.{same_point-true}
+use Rattle.winding.proofs.WindingKit.{directed_sided, sided-even}
+use Rattle.lists.proofs.Sums.{total, total-is}
 use Rattle.one_ring_list.proofs.Returns.{closed-balanced}
+use Rattle.plane.proofs.SignKit.{is_plus-true}
 
 -- ---- tests
 abbrev every : {X : Type 0} → (X → Bool) → List X → Bool
@@ -40,7 +41,7 @@ every-out q (x ∷ xs) h y (inr i) = every-out q xs (and-right (q x) (every q xs
 
 every-all : {X : Type 0} (q : X → Bool) (P : X → Type 0) → ((x : X) → q x ≡ true → P x) → (xs : List X) → every q xs ≡ true → All P xs
 every-all q P k [] h = All-nil P
-every-all q P k (x ∷ xs) h = let a = and-out (q x) (every q xs) h in All-cons P x xs (k x a.0) (every-all q P k xs a.1)
+every-all q P k (x ∷ xs) h = let a = and_parts (q x) (every q xs) h in All-cons P x xs (k x a.0) (every-all q P k xs a.1)
 
 abbrev each_pair : {X : Type 0} → (X → X → Bool) → List X → Bool
 each_pair q [] = true
@@ -48,16 +49,11 @@ each_pair q (x ∷ xs) = every (q x) xs && each_pair q xs
 
 pairs-out : {X : Type 0} (q : X → X → Bool) (R : X → X → Type 0) → ((x y : X) → q x y ≡ true → R x y) → (xs : List X) → each_pair q xs ≡ true → EachPair R xs
 pairs-out q R k [] h = tt
-pairs-out q R k (x ∷ xs) h = let a = and-out (every (q x) xs) (each_pair q xs) h in (every-all (q x) (R x) (k x) xs a.0, pairs-out q R k xs a.1)
-
-plus-out : (s : Sign) → is_plus s ≡ true → s ≡ Plus
-plus-out Plus h = refl
-plus-out Null h = cc
-plus-out Minus h = cc
+pairs-out q R k (x ∷ xs) h = let a = and_parts (every (q x) xs) (each_pair q xs) h in (every-all (q x) (R x) (k x) xs a.0, pairs-out q R k xs a.1)
 
 plain-out : (es : List Edge) → every (λ (e : Edge). is_plus (order e.from e.to)) es ≡ true → each_pair (λ (s t : Edge). not (conflicts s t)) es ≡ true → IsConflictFree es
 plain-out es h k = record {
-  rising = every-all (λ (e : Edge). is_plus (order e.from e.to)) IsRising (λ e p. plus-out (order e.from e.to) p) es h;
+  rising = every-all (λ (e : Edge). is_plus (order e.from e.to)) IsRising (λ e p. is_plus-true (order e.from e.to) p) es h;
   clear = pairs-out (λ (s t : Edge). not (conflicts s t)) IsClearOf (λ s t p. not-true-out (conflicts s t) p) es k;
 }
 
@@ -80,11 +76,11 @@ uncrossed-by : (es : List Edge) (v : Vector) (s t : Edge) → pair_by es s t ≡
     spokes_in (from_to v (other_end v s)) (from_to v (other_end v t)) v es % 2 ≡ 0
 uncrossed-by es v s t p ht true c h k o =
     let q = same_point-true v s.from h in
-    let a : at_by es v s t ≡ true = subst (λ w. at_by es w s t ≡ true) (sym q) (and-out (at_by es s.from s t) (at_by es s.to s t) p).0 in
+    let a : at_by es v s t ≡ true = subst (λ w. at_by es w s t ≡ true) (sym q) (and_parts (at_by es s.from s t) (at_by es s.to s t) p).0 in
     at-out es v s t (ends_at v t) refl a ht
 uncrossed-by es v s t p ht false true h k o =
     let q = same_point-true v s.to k in
-    let a : at_by es v s t ≡ true = subst (λ w. at_by es w s t ≡ true) (sym q) (and-out (at_by es s.from s t) (at_by es s.to s t) p).1 in
+    let a : at_by es v s t ≡ true = subst (λ w. at_by es w s t ≡ true) (sym q) (and_parts (at_by es s.from s t) (at_by es s.to s t) p).1 in
     at-out es v s t (ends_at v t) refl a ht
 uncrossed-by es v s t p ht false false h k o = cc
 

@@ -3,11 +3,9 @@ use Rattle.std.proofs.Common.{Bool, ap, arith, eqb, eqb-true, false, not, refl, 
 use Rattle.plane.specs.Sector.{in_sector}
 use Rattle.plane.specs.Sign.{Sign, is_null, is_plus, negated, sign}
 use Rattle.plane.specs.Vector.{IsDirection, Vector, cross, dot}
-use Rattle.nesting.proofs.Successors.{sector-either}
-use Rattle.nesting.proofs.Turns.{apart, one-eqb, sector-chain, sector-one, sector-rest, zero-of}
-use Rattle.plane.proofs.Products.{cross-negated}
-use Rattle.plane.proofs.Signs.{all2-out, imp, imp-out}
-use Rattle.winding.proofs.SidedLists.{dot-swap}
+use Rattle.nesting.proofs.NestingKit.{sector-either, apart, one-eqb, sector-chain, sector-one, sector-rest, zero-of}
+use Rattle.plane.proofs.PlaneKit.{cross-negated, dot-swap}
+use Rattle.plane.proofs.SignKit.{all2-out, imp, imp-out}
 
 flip : (b : Bool) → true ≡ not b → b ≡ false
 flip false h = refl

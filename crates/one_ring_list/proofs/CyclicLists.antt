@@ -1,11 +1,9 @@
 -- Lists parted, and cyclic lists begun elsewhere.
 use Rattle.std.proofs.Common.{List, [], ap, inl, inr, refl, subst, sym, ◌++◌, ◌∙◌, ◌∷◌, ◌≡◌, ◌⊎◌}
 use Rattle.nesting.specs.Walk.{Follow, IsCycle, last}
-use Rattle.winding.specs.Member.{EachPair, In}
-use Rattle.nesting.proofs.Walks.{take}
-use Rattle.nesting.proofs.Stretches.{follow-join, follow-left, follow-right, last-append}
-use Rattle.nesting.proofs.Pieces.{append-assoc}
-use Rattle.winding.proofs.Members.{in-either, in-left, in-right, pairs-across, pairs-append, pairs-left, pairs-right}
+use Rattle.lists.specs.Member.{EachPair, In}
+use Rattle.nesting.proofs.NestingKit.{take, follow-join, follow-left, follow-right, last-append, append-assoc}
+use Rattle.lists.proofs.Members.{in-either, in-left, in-right, pairs-across, pairs-append, pairs-left, pairs-right}
 
 -- the list, parted at two members
 abbrev pub Parted : {X : Type 0} → X → X → List X → Type 0

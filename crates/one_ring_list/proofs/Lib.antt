@@ -1,9 +1,9 @@
-pub mod Crescents
-pub mod Cyclic
+mod Crescents
+mod Cyclic
 pub mod CyclicLists
 pub mod OneRingList
-pub mod Returns
-pub mod RingsOfWalk
+mod Returns
+mod RingsOfWalk
 pub mod SameNests
-pub mod Sees
+mod Sees
 pub mod Uncrossed

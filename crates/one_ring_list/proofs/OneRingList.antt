@@ -5,18 +5,14 @@ use Rattle.nesting.specs.Nesting.{edges_of}
 use Rattle.nesting.specs.Rotated.{IsRotated}
 use Rattle.nesting.specs.Walk.{AreCuts, AreWalks, IsWalk}
 use Rattle.plane.specs.Edge.{Edge}
-use Rattle.winding.specs.Member.{In}
+use Rattle.lists.specs.Member.{In}
 use Rattle.winding.specs.Ring.{IsPath, IsRing}
 use Rattle.winding.specs.Sided.{IsSided}
 use Rattle.one_ring_list.specs.RingListOf.{AreSameRings, IsRingListOf, LiesInWalk}
-use Rattle.nesting.proofs.Nests.{in-edges}
-use Rattle.nesting.proofs.Parts.{Once, once-apart, same-back, same-in, same-once, sided-once}
-use Rattle.nesting.proofs.Pieces.{append-assoc, piece_walk, pieces_same, ring_list}
-use Rattle.nesting.proofs.Rotations.{path-split, rotated-total}
-use Rattle.nesting.proofs.Stacks.{walk_path}
-use Rattle.nesting.proofs.Walks.{take, walks_there}
-use Rattle.winding.proofs.Members.{in-either, in-left, in-right, pairs-left, pairs-right}
-use Rattle.winding.proofs.Sums.{total, total-++, total-is}
+use Rattle.nesting.proofs.NestingKit.{in-edges, Once, once-apart, same-back, same-in, same-once, sided-once, append-assoc, piece_walk, pieces_same, ring_list, rotated-total, walk_path, take, walks_there, in-edges-out}
+use Rattle.winding.proofs.WindingKit.{path-split}
+use Rattle.lists.proofs.Members.{in-either, in-left, in-right, pairs-left, pairs-right}
+use Rattle.lists.proofs.Sums.{total, total-++, total-is}
 use Rattle.one_ring_list.proofs.CyclicLists.{Turned, in-turned}
 use Rattle.one_ring_list.proofs.Returns.{share_one_point}
 use Rattle.one_ring_list.proofs.RingsOfWalk.{once-turned, rings-turned, walk-turned, walk-within}
@@ -137,21 +133,12 @@ same-rings (r ∷ rs) qs o l m h k =
           let u = ap (sum_by f) p.2 in let v = total-is f (a ++ (q ∷ b)) in omega arith;
     }
 
-ring-at-by : (q : List Edge) (qs : List (List Edge)) (e : Edge) → (In e q) ⊎ (In e (edges_of qs)) → (In e (edges_of qs) → (u : List Edge) × In u qs × In e u) → (u : List Edge) × In u (q ∷ qs) × In e u
-ring-at-by q qs e (inl i) h = (q, inl refl, i)
-ring-at-by q qs e (inr i) h = let r = h i in (r.0, inr r.1, r.2)
-
--- the ring that an edge lies in
-pub ring-at : (qs : List (List Edge)) (e : Edge) → In e (edges_of qs) → (q : List Edge) × In q qs × In e q
-ring-at [] e i = absurd i
-ring-at (q ∷ qs) e i = ring-at-by q qs e (in-either q (edges_of qs) e i) (λ j. ring-at qs e j)
-
 module _ (es : List Edge) (sd : IsSided es) where
   pub found : (rs qs : List (List Edge)) → IsRingListOf es rs → IsRingListOf es qs → Found rs qs
   found rs qs m n r i =
       let x = first-of r (m.some r i) in
       let j = same-in (edges_of rs) es m.edges x.0 (in-edges rs r x.0 i x.1) in
-      let q = ring-at qs x.0 (same-in es (edges_of qs) (same-back (edges_of qs) es n.edges) x.0 j) in
+      let q = in-edges-out qs x.0 (same-in es (edges_of qs) (same-back (edges_of qs) es n.edges) x.0 j) in
       (q.0, q.1, rings-one es sd r q.0 (m.ring r i) (n.ring q.0 q.1) (m.walks r i) (n.walks q.0 q.1) x.0 x.1 q.2)
 
   -- a sided list has one ring list

@@ -7,27 +7,18 @@ use Rattle.plane.specs.Sector.{in_sector}
 use Rattle.plane.specs.Vector.{IsDirection, Vector, one_at, same_point}
 use Rattle.winding.specs.ConflictFree.{IsConflictFree}
 use Rattle.winding.specs.EdgeList.{IsBalanced, IsEvenAtPoints, crossing_count}
-use Rattle.winding.specs.Member.{In}
+use Rattle.lists.specs.Member.{In}
 use Rattle.winding.specs.Node.{away}
 use Rattle.winding.specs.Parity.{is_even}
 use Rattle.winding.specs.Ring.{IsPath, segments_of}
 use Rattle.winding.specs.Sided.{IsSided}
-use Rattle.nesting.proofs.Parts.{Once, differ, once-apart, plain-of}
-use Rattle.nesting.proofs.Successors.{clear-two, next_leaves, no-loop-segments, none-between, rise, sector-either, sector-first, segment-back, segment-ends, sym-differs}
-use Rattle.plane.proofs.Bools.{false-if-never, or-right}
-use Rattle.plane.proofs.Edges.{same_edge-refl, same_edge-true}
-use Rattle.plane.proofs.Points.{same_point-refl, same_point-true}
-use Rattle.winding.proofs.Balance.{way, way-direction, ways_apart}
-use Rattle.winding.proofs.Members.{in-all, in-left, in-right, pairs-left, total-same}
-use Rattle.winding.proofs.OddSides.{spokes-is}
-use Rattle.winding.proofs.Ranks.{even-is, halves, odd-is}
-use Rattle.winding.proofs.RingCounts.{path-ends}
-use Rattle.winding.proofs.RoundNode.{parity_round_node}
-use Rattle.winding.proofs.SidedLists.{sided-even}
-use Rattle.winding.proofs.Sums.{total, total-is, total-map}
+use Rattle.nesting.proofs.NestingKit.{Once, differ, once-apart, plain-of, clear-two, next_leaves, no-loop-segments, none-between, rise, sector-either, sector-first, segment-back, segment-ends, sym-differs, apart, follow-left}
+use Rattle.std.proofs.lemmas.Bool.{false_from_ne_true, or_right}
+use Rattle.plane.proofs.PlaneKit.{same_edge-refl, same_edge-true, same_point-refl, same_point-true}
+use Rattle.winding.proofs.WindingKit.{way, way-direction, ways_apart, spokes-is, even-is, halves, odd-is, path-ends, parity_round_node, sided-even}
+use Rattle.lists.proofs.Members.{in-all, in-left, in-right, pairs-left, total-same}
+use Rattle.lists.proofs.Sums.{total, total-is, total-map}
 use Rattle.one_ring_list.proofs.Cyclic.{both_or_none}
-use Rattle.nesting.proofs.Turns.{apart}
-use Rattle.nesting.proofs.Stretches.{follow-left}
 use Rattle.one_ring_list.proofs.Sees.{off, walk_sees, way-from}
 
 same-even : (m n : ℕ) → is_even m ≡ is_even n → (m % 2 ≡ 0) ⊎ (m % 2 ≡ 1) → (n % 2 ≡ 0) ⊎ (n % 2 ≡ 1) → (m + n) % 2 ≡ 0
@@ -89,7 +80,7 @@ module _ (es : List Edge) (sd : IsSided es) (P : Vector) (f g : Edge) (fi : In f
   from-ends x q = ap (λ b. b || same_point P x.to) (at-point P x.from q)
 
   to-ends : (x : Edge) → P ≡ x.to → ends_at P x ≡ true
-  to-ends x q = or-right (same_point P x.from) (same_point P x.to) (at-point P x.to q)
+  to-ends x q = or_right (same_point P x.from) (same_point P x.to) (at-point P x.to q)
 
   hf : ends_at P f ≡ true
   hf = from-ends f qf
@@ -103,10 +94,10 @@ module _ (es : List Edge) (sd : IsSided es) (P : Vector) (f g : Edge) (fi : In f
       let e = segment-ends P x (ap (λ b. b || same_point P x.to) h) in
       let s : H (segment_of x) ≡ S x = ap (λ b. cond b (S x) 0) e in omega arith
   parts-by x i false true h k =
-      let e = segment-ends P x (or-right (same_point P x.from) (same_point P x.to) k) in
+      let e = segment-ends P x (or_right (same_point P x.from) (same_point P x.to) k) in
       let s : H (segment_of x) ≡ S x = ap (λ b. cond b (S x) 0) e in omega arith
   parts-by x i false false h k =
-      let n = false-if-never (ends_at P (segment_of x)) (λ t. cc (sym (ap (λ b. b || same_point P x.to) h ∙ k) ∙ segment-back P x t)) in
+      let n = false_from_ne_true (ends_at P (segment_of x)) (λ t. cc (sym (ap (λ b. b || same_point P x.to) h ∙ k) ∙ segment-back P x t)) in
       let s : H (segment_of x) ≡ 0 = ap (λ b. cond b (S x) 0) n in omega arith
 
   parts : (x : Edge) → In x es → H (segment_of x) ≡ A x + B x
@@ -118,7 +109,7 @@ module _ (es : List Edge) (sd : IsSided es) (P : Vector) (f g : Edge) (fi : In f
     at-next q = subst (λ v. IsNextClockwise v z x es) (sym q) n
 
     zf : P ≡ z.to → same_edge z f ≡ false
-    zf q = false-if-never (same_edge z f) (λ t.
+    zf q = false_from_ne_true (same_edge z f) (λ t.
         no-loop-segments P z (at-point P z.from (qf ∙ ap (λ (e : Edge). e.from) (sym (same_edge-true z f t)))) (at-point P z.to q) (rise es sd z zi))
 
     step-own : P ≡ z.to → same_edge f x ≡ true → S x + S z ≡ 1

@@ -3,18 +3,13 @@ use Rattle.std.proofs.Common.{Bool, List, [], ap, false, inl, inr, refl, subst, 
 use Rattle.nesting.specs.Walk.{Follow, IsSuccessor, IsWalk, last}
 use Rattle.plane.specs.Edge.{Edge, same_edge}
 use Rattle.plane.specs.Vector.{Vector, same_point}
-use Rattle.winding.specs.Member.{In}
+use Rattle.lists.specs.Member.{In}
 use Rattle.winding.specs.Ring.{IsPath, IsRing}
 use Rattle.winding.specs.Sided.{IsSided}
-use Rattle.nesting.proofs.Parts.{Once, once-apart}
-use Rattle.nesting.proofs.Pieces.{append-assoc, last-in}
-use Rattle.nesting.proofs.Rotations.{path-split, ring_rotated}
-use Rattle.nesting.proofs.Stacks.{walk_path}
-use Rattle.nesting.proofs.Stretches.{last-append}
-use Rattle.nesting.proofs.Turns.{next_alone}
-use Rattle.plane.proofs.Edges.{same_edge-true}
-use Rattle.plane.proofs.Points.{same_point-refl}
-use Rattle.winding.proofs.Members.{in-all, in-either, in-right, pairs-across}
+use Rattle.nesting.proofs.NestingKit.{Once, once-apart, append-assoc, last-in, ring_rotated, walk_path, last-append, next_alone}
+use Rattle.winding.proofs.WindingKit.{path-split}
+use Rattle.plane.proofs.PlaneKit.{same_edge-true, same_point-refl}
+use Rattle.lists.proofs.Members.{in-all, in-either, in-right, pairs-across}
 use Rattle.one_ring_list.proofs.CyclicLists.{Parted, Turned, cycle-turned, ends-at, in-turned, pairs-turned, part-two, same-following, turned-through}
 use Rattle.one_ring_list.proofs.Returns.{at-point, path-last, same-edge-of, share_one_point}
 

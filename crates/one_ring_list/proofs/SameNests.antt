@@ -8,15 +8,13 @@ use Rattle.plane.specs.Edge.{Edge, ends_at, same_edge, segment_of}
 use Rattle.plane.specs.RayCrossing.{down_crossing, up_crossing}
 use Rattle.plane.specs.Vector.{Vector, from_to}
 use Rattle.winding.specs.EdgeList.{crossing_count}
-use Rattle.winding.specs.Member.{In}
+use Rattle.lists.specs.Member.{In}
 use Rattle.winding.specs.Node.{away}
 use Rattle.winding.specs.Parity.{is_even}
 use Rattle.winding.specs.Ring.{IsAnchor, segments_of}
-use Rattle.nesting.proofs.Nests.{has-in, in-edges, in-has}
-use Rattle.nesting.proofs.Rotations.{rotated-total}
-use Rattle.nesting.proofs.RingLists.{outer_down}
-use Rattle.winding.proofs.Members.{in-filter, in-map, in-map-out, in-passes, into-filter, total-filter}
-use Rattle.winding.proofs.Sums.{total, total-is, total-map}
+use Rattle.nesting.proofs.NestingKit.{has-in, in-edges, in-has, rotated-total, outer_down}
+use Rattle.lists.proofs.Members.{in-filter, in-map, in-map-out, in-passes, into-filter, total-filter}
+use Rattle.lists.proofs.Sums.{total, total-is, total-map}
 use Rattle.one_ring_list.proofs.OneRingList.{Found, in-rotated, in-unrotated}
 
 pub turned-back : (r q : List Edge) → IsRotated r q → IsRotated q r

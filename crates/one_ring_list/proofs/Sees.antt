@@ -10,25 +10,18 @@ use Rattle.plane.specs.Sign.{is_plus}
 use Rattle.plane.specs.Vector.{IsDirection, Vector, from_to, same_point}
 use Rattle.winding.specs.ConflictFree.{IsConflictFree, others}
 use Rattle.winding.specs.EdgeList.{IsEvenAtPoints, crossing_count}
-use Rattle.winding.specs.Member.{In}
+use Rattle.lists.specs.Member.{In}
 use Rattle.winding.specs.Node.{away}
 use Rattle.winding.specs.Parity.{is_even}
 use Rattle.winding.specs.Ring.{segments_of}
 use Rattle.winding.specs.Sided.{IsSided}
 use Rattle.one_ring_list.specs.Sees.{sees_even}
-use Rattle.nesting.proofs.CoveredEdges.{IsClearOfAll, in-from-end}
-use Rattle.nesting.proofs.Pieces.{last-in}
-use Rattle.nesting.proofs.Stretches.{Keeps, follow-weaker, stretch_same}
-use Rattle.nesting.proofs.Successors.{F-none, clear-two, e-way, f-way, next_leaves, no-loop-segments, rise, sector-first, sector-own, segment-ends, sym-differs, unraised, way-segment}
-use Rattle.plane.proofs.Bools.{not-not, not-true-out}
-use Rattle.plane.proofs.Edges.{ends_at-from, ends_at-to, same_edge-refl, same_edge-true}
-use Rattle.plane.proofs.Points.{same_point-refl}
-use Rattle.winding.proofs.Balance.{way, ways_apart}
-use Rattle.winding.proofs.ConflictFree.{off_away, split_off}
-use Rattle.winding.proofs.Members.{all-in, in-all, in-filter, in-map, in-map-out, in-passes, into-filter, total-same}
-use Rattle.winding.proofs.OddSides.{differ-parity, runs_from, runs_to, same-parity, spokes-is}
-use Rattle.winding.proofs.RoundNode.{parity_round_node}
-use Rattle.winding.proofs.Sums.{none-sum, total}
+use Rattle.nesting.proofs.NestingKit.{IsClearOfAll, in-from-end, last-in, Keeps, follow-weaker, stretch_same, F-none, clear-two, e-way, f-way, next_leaves, no-loop-segments, rise, sector-first, sector-own, segment-ends, sym-differs, unraised, way-segment, not-member}
+use Rattle.lists.proofs.Bools.{not-not, not-true-out}
+use Rattle.plane.proofs.PlaneKit.{ends_at-from, ends_at-to, same_edge-refl, same_edge-true, same_point-refl}
+use Rattle.winding.proofs.WindingKit.{way, ways_apart, off_away, split_off, differ-parity, runs_from, runs_to, same-parity, spokes-is, parity_round_node}
+use Rattle.lists.proofs.Members.{all-in, in-all, in-filter, in-map, in-map-out, in-passes, into-filter, total-same}
+use Rattle.lists.proofs.Sums.{none-sum, total}
 
 decide-by : (e x : Edge) (xs : List Edge) → (b : Bool) → same_edge e x ≡ b → (In e xs) ⊎ (In e xs → ⊥) → (In e (x ∷ xs)) ⊎ (In e (x ∷ xs) → ⊥)
 decide-by e x xs true h d = inl (inl (same_edge-true e x h))
@@ -46,10 +39,6 @@ not-of a b h = sym (not-not a) ∙ ap not h
 other-by : (e : Edge) (b : Bool) → same_point e.to e.from ≡ b → (b ≡ true → ⊥) → cond b e.to e.from ≡ e.from
 other-by e true h n = absurd (n refl)
 other-by e false h n = refl
-
-different-by : (e g : Edge) (rs : List Edge) → (In e rs → ⊥) → In g rs → (b : Bool) → same_edge e g ≡ b → b ≡ false
-different-by e g rs n i false h = refl
-different-by e g rs n i true h = absurd (n (subst (λ w. In w rs) (sym (same_edge-true e g h)) i))
 
 module _ (es : List Edge) (sd : IsSided es) where
   pub way-from : (e : Edge) → In e es → way e.from (segment_of e) ≡ from_to e.from e.to
@@ -86,7 +75,7 @@ module _ (es : List Edge) (sd : IsSided es) where
 
     clear-of : (e : Edge) → In e es → (In e rs → ⊥) → IsClearOfAll (segment_of e) X
     clear-of e i n = all-in (IsClearOf (segment_of e)) X (λ t j.
-        let r = in-map-out segment_of rs t j in subst (IsClearOf (segment_of e)) (sym r.2) (clear-two es sd e r.0 i (sub r.0 r.1) (different-by e r.0 rs n r.1 (same_edge e r.0) refl)))
+        let r = in-map-out segment_of rs t j in subst (IsClearOf (segment_of e)) (sym r.2) (clear-two es sd e r.0 i (sub r.0 r.1) (not-member e r.0 rs n r.1 (same_edge e r.0) refl)))
 
     -- any other edge sees the same
     foreign : (e : Edge) → In e es → (In e rs → ⊥) → sees_even X e ≡ back_even e
@@ -134,7 +123,7 @@ module _ (es : List Edge) (sd : IsSided es) where
       none-counted m =
           let d = total-same F (λ t. 0) X (λ t j.
           let r = in-map-out segment_of rs t j in
-          subst (λ w. F w ≡ 0) (sym r.2) (F-other r.0 (sub r.0 r.1) (different-by e r.0 rs m r.1 (same_edge e r.0) refl))) in
+          subst (λ w. F w ≡ 0) (sym r.2) (F-other r.0 (sub r.0 r.1) (not-member e r.0 rs m r.1 (same_edge e r.0) refl))) in
           let z = none-sum X in omega arith
 
       F-own : F (segment_of e) ≡ 1

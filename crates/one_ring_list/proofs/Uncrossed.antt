@@ -8,20 +8,14 @@ use Rattle.nesting.specs.Stack.{cut_all}
 use Rattle.plane.specs.Edge.{Edge, ends_at, other_end}
 use Rattle.plane.specs.Sector.{in_sector}
 use Rattle.plane.specs.Vector.{Vector, from_to}
-use Rattle.winding.specs.Member.{EachPair, In}
+use Rattle.lists.specs.Member.{EachPair, In}
 use Rattle.winding.specs.Node.{spokes_in}
 use Rattle.winding.specs.Ring.{segments_of}
 use Rattle.winding.specs.Sided.{IsSided}
 use Rattle.one_ring_list.specs.RingListOf.{IsRingListOf}
-use Rattle.nesting.proofs.Nests.{in-edges}
-use Rattle.nesting.proofs.Parts.{Once, once-apart, same-once, sided-once, sided_same}
-use Rattle.nesting.proofs.Pieces.{ring_list}
-use Rattle.nesting.proofs.RingLists.{pairs-of}
-use Rattle.nesting.proofs.Rotations.{rotated-length}
-use Rattle.nesting.proofs.Stacks.{stack_cut_all}
-use Rattle.nesting.proofs.Walks.{walks_there}
-use Rattle.winding.proofs.Members.{all-in, pairs-right}
-use Rattle.winding.proofs.OddSides.{spokes-is}
+use Rattle.nesting.proofs.NestingKit.{in-edges, Once, once-apart, same-once, sided-once, sided_same, ring_list, pairs-of, rotated-length, stack_cut_all, walks_there}
+use Rattle.lists.proofs.Members.{all-in, pairs-right}
+use Rattle.winding.proofs.WindingKit.{spokes-is}
 use Rattle.one_ring_list.proofs.OneRingList.{Found, NoneEmpty, cuts-ring-list, first-of, found, in-rotated, in-unrotated}
 use Rattle.one_ring_list.proofs.SameNests.{turned-back, segment-in, segments-total}
 

@@ -8,7 +8,7 @@ use Rattle.plane.specs.Edge.{Edge}
 use Rattle.plane.specs.Vector.{Vector}
 use Rattle.winding.specs.ConflictFree.{IsConflictFree}
 use Rattle.winding.specs.EdgeList.{IsEvenAtPoints}
-use Rattle.winding.specs.Member.{EachPair, In}
+use Rattle.lists.specs.Member.{EachPair, In}
 use Rattle.winding.specs.Ring.{IsPath, IsRing, segments_of}
 use Rattle.winding.specs.Sided.{IsSided}
 use Rattle.one_ring_list.specs.RingListOf.{AreSameRings, IsRingListOf, LiesInWalk}

@@ -5,7 +5,7 @@ use Rattle.nesting.specs.Nesting.{edges_of}
 use Rattle.nesting.specs.Rotated.{AreRotated}
 use Rattle.nesting.specs.Walk.{HasSameEdges, IsWalk}
 use Rattle.plane.specs.Edge.{Edge}
-use Rattle.winding.specs.Member.{In}
+use Rattle.lists.specs.Member.{In}
 use Rattle.winding.specs.Ring.{IsRing}
 
 -- all edges of the ring lie in one walk of successors

@@ -1,9 +1,8 @@
 -- Every partial one-to-one map has orbits: on lists, with no memory.
 use Rattle.std.proofs.Common.{◌≡◌, ℕ, zero, suc, ◌+◌, ◌<◌, List, [], ◌∷◌, ◌++◌, length, get_or, set, take, replicate, Bool, true, false, refl, sym, ◌∙◌, arith, ⊎_elim, Option, Some, None}
 use Rattle.std.proofs.lemmas.List.{get_or-replicate, length-replicate, take_all}
-use Rattle.orbits.specs.OrbitSteps.{AreMarkedAlso}
+use Rattle.orbits.specs.OrbitSteps.{AreMarkedAlso, AreStarts, IsWholeWalk}
 use Rattle.orbits.specs.Orbits.{after, IsOneToOne, AreOrbits, AreInOrder}
-use Rattle.orbits.specs.OrbitSteps.{AreStarts, IsWholeWalk}
 use Rattle.orbits.proofs.Reading.{length_push}
 use Rattle.orbits.proofs.Walks.{IsWalkTo, walk_to_start, walk_to_more, walk_whole, walk_short}
 use Rattle.orbits.proofs.Marking.{marked_none, marked_more, AreStartsUpTo, starts_more, starts_pass, starts_all, same_or_not}

@@ -5,9 +5,8 @@ use Rattle.std.proofs.lemmas.List.{get_or_past, get_or_default, get_or-replicate
 use Rattle.std.proofs.lemmas.List.Sums.{sum_by_push}
 use Rattle.std.proofs.lemmas.List.Elements.{All-push}
 use Rattle.std.proofs.lemmas.List.Quantifiers.{all_pairs_push}
-use Rattle.orbits.specs.OrbitSteps.{AreMarkedAlso}
+use Rattle.orbits.specs.OrbitSteps.{AreMarkedAlso, IsWholeWalk, AreStarts}
 use Rattle.orbits.specs.Orbits.{after, IsOneToOne, IsOrbit, GoesOn, first, last, AreOrbits}
-use Rattle.orbits.specs.OrbitSteps.{IsWholeWalk, AreStarts}
 use Rattle.orbits.proofs.Reading.{ltb_yes, ltb_no}
 use Rattle.orbits.proofs.Members.{find, count_absent, count_present}
 use Rattle.orbits.proofs.Walks.{IsWalk, walk_back, walk_short}

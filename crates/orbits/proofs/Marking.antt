@@ -2,9 +2,8 @@
 use Rattle.std.proofs.Common.{◌≡◌, ◌≢◌, ◌⊎◌, inl, inr, ℕ, ◌+◌, ◌<◌, ◌≤◌, List, [], ◌∷◌, length, get_or, set, take, Bool, true, false, refl, sym, ap, ◌∙◌, arith, ⊎_elim, Option, Some, None}
 use Rattle.std.proofs.lemmas.Bool.{cases_lt}
 use Rattle.std.proofs.lemmas.List.{length-set, length-take-le, get_or-set_same, get_or-set_other}
-use Rattle.orbits.specs.OrbitSteps.{AreMarkedAlso}
+use Rattle.orbits.specs.OrbitSteps.{AreMarkedAlso, AreStarts}
 use Rattle.orbits.specs.Orbits.{after, IsOneToOne}
-use Rattle.orbits.specs.OrbitSteps.{AreStarts}
 use Rattle.orbits.proofs.Reading.{at_take}
 use Rattle.orbits.proofs.Members.{find}
 use Rattle.orbits.proofs.Walks.{has_place}

@@ -2,7 +2,7 @@
 ghost use Rattle.std.specs.Prelude.{◌<◌, length, All, IfOk, map};
 ghost use Rattle.orbits.specs.Cutting.{AreCutOff};
 
-use std::alloc::{AllocError, Global};
+use std::alloc::{AllocError as OutOfMemory, Global};
 
 /// Cuts a closed walk into closed walks that leave no key twice.
 ///
@@ -15,7 +15,7 @@ pub fn cut(
     walk: &[usize],
     keys: &[usize],
     depths: &mut [usize],
-) -> Result<Vec<Vec<usize>>, AllocError>
+) -> Result<Vec<Vec<usize>>, OutOfMemory>
     requires keyed { All (λ i. i < length keys.now) walk.now }
     requires room { All (λ k. k < length depths.old) keys.now }
     ensures { IfOk result (λ v. AreCutOff keys.now walk.now (map (λ p. p.items) v.items)) }

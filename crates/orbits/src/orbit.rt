@@ -3,13 +3,13 @@ ghost use Rattle.std.specs.Prelude.{◌≡◌, ◌<◌, length, All, IfOk, map};
 ghost use Rattle.orbits.specs.Orbits.{IsOneToOne, AreOrbits, AreInOrder};
 ghost use Rattle.orbits.specs.OrbitSteps.{IsWholeWalk, AreStarts, AreMarkedAlso};
 
-use std::alloc::{AllocError, Global};
+use std::alloc::{AllocError as OutOfMemory, Global};
 
 /// The orbits of a partial one-to-one map, in which i goes on to j where `next[i]` is `Some(j)`.
 ///
 /// They stand in order of their first numbers. An open one begins with the number that nothing goes
 /// on to, a closed one with its least. It takes time in proportion to the map. The error is want of memory.
-pub fn orbits(alloc: Global, next: &[Option<usize>]) -> Result<Vec<Vec<usize>>, AllocError>
+pub fn orbits(alloc: Global, next: &[Option<usize>]) -> Result<Vec<Vec<usize>>, OutOfMemory>
     requires { IsOneToOne next.now }
     ensures orbits { IfOk result (λ v. AreOrbits next.now (map (λ o. o.items) v.items)) }
     ensures order { IfOk result (λ v. AreInOrder next.now (map (λ o. o.items) v.items)) }
@@ -35,8 +35,8 @@ pub fn orbits(alloc: Global, next: &[Option<usize>]) -> Result<Vec<Vec<usize>>, 
     Ok(orbits)
 }
 
-// For each number whether nothing goes on to it.
-fn starts(alloc: Global, next: &[Option<usize>]) -> Result<Vec<bool>, AllocError>
+/// For each number whether nothing goes on to it.
+fn starts(alloc: Global, next: &[Option<usize>]) -> Result<Vec<bool>, OutOfMemory>
     requires { IsOneToOne next.now }
     ensures { IfOk result (λ v. AreStarts next.now v.items) }
 {
@@ -49,8 +49,8 @@ fn starts(alloc: Global, next: &[Option<usize>]) -> Result<Vec<bool>, AllocError
     Ok(starts)
 }
 
-// The numbers from `from` on, each going on to the one after it, up to where they end or close.
-fn walk(alloc: Global, next: &[Option<usize>], from: usize) -> Result<Vec<usize>, AllocError>
+/// The numbers from `from` on, each going on to the one after it, up to where they end or close.
+fn walk(alloc: Global, next: &[Option<usize>], from: usize) -> Result<Vec<usize>, OutOfMemory>
     requires map { IsOneToOne next.now }
     requires inside { from < length next.now }
     ensures { IfOk result (λ v. IsWholeWalk next.now from v.items) }
@@ -68,7 +68,7 @@ fn walk(alloc: Global, next: &[Option<usize>], from: usize) -> Result<Vec<usize>
     Ok(walk)
 }
 
-// Marks these places too.
+/// Marks these places too.
 fn mark(marks: &mut [bool], places: &[usize])
     requires { All (λ i. i < length marks.old) places.now }
     ensures { AreMarkedAlso marks.old places.now marks.new }

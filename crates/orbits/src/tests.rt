@@ -1,9 +1,9 @@
 use super::*;
-use std::alloc::AllocError;
+use std::alloc::AllocError as OutOfMemory;
 use std::test::*;
 
 #[test]
-fn chains_and_cycles(rt: HostRuntime) -> Result<(), AllocError> {
+fn chains_and_cycles(rt: HostRuntime) -> Result<(), OutOfMemory> {
     // 4 -> 0 -> 2 is open, 5 -> 3 -> 1 -> 5 is closed, 6 stands alone and 7 goes on to itself.
     let next = [
         Some(2),
@@ -25,7 +25,7 @@ fn chains_and_cycles(rt: HostRuntime) -> Result<(), AllocError> {
 }
 
 #[test]
-fn loops_within_loops(rt: HostRuntime) -> Result<(), AllocError> {
+fn loops_within_loops(rt: HostRuntime) -> Result<(), OutOfMemory> {
     // The items leave the keys P Q R Q S P T.
     let keys = [2, 1, 0, 4, 3];
     let walk = [2, 1, 0, 1, 4, 2, 3];

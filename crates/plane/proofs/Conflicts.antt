@@ -81,7 +81,7 @@ clear_signs a b c d us vs ut vt h k m n h1 h2 h3 h4 h5 h6 h7 h8 h9 h10 h11 =
     let g2 = all4-out (clear_3 a b c d us vs ut vt) (imp-out _ _ (imp-out _ _ (imp-out _ _ (imp-out _ _ g1 h1) h2) h3) h4) h k m n in
     imp-out _ _ (imp-out _ _ (imp-out _ _ (imp-out _ _ (imp-out _ _ (imp-out _ _ (imp-out _ _ g2 h5) h6) h7) h8) h9) h10) h11
 
-match-by : (a s t : Sign) → (a ≡ Null → s ≡ t) → match_when a s t ≡ true
+pub match-by : (a s t : Sign) → (a ≡ Null → s ≡ t) → match_when a s t ≡ true
 match-by Null s t h = rw (h refl) (same_sign-refl t)
 match-by Plus s t h = refl
 match-by Minus s t h = refl

@@ -8,12 +8,13 @@ use Rattle.plane.specs.Height.{distance_right, is_in_span, is_right_above, order
 use Rattle.plane.specs.Order.{order}
 use Rattle.plane.specs.Sign.{Minus, Null, Plus, Sign, is_null, is_plus, negated, sign, then_sign}
 use Rattle.plane.specs.Vector.{Vector, cross, east, from_to, orient}
-use Rattle.plane.proofs.Bools.{and-in, and-left, and-no, and-right, false-if-never}
+use Rattle.std.proofs.lemmas.Bool.{and_from, and_right, false_from_ne_true}
+use Rattle.lists.proofs.Bools.{and-left, and-right}
 use Rattle.plane.proofs.Conflicts.{conflict_by, conflicts-by}
 use Rattle.plane.proofs.Identities.{apart, lift, same, ◌⊞◌, ◌⊟◌, ◌⊠◌}
 use Rattle.plane.proofs.Products.{cross-from-here, cross-here, cross-negated, cross-self, dot-east, orient-round, plucker-agree, plucker-dot-agree, side-moves}
 use Rattle.plane.proofs.RayCrossings.{cross-east, rise-y}
-use Rattle.plane.proofs.Signs.{agree, agree-sum, all, all-out, all2, all2-out, all4-out, imp, imp-out, is_plus-true, plus-times, same_bool, same_bool-true, same_sign, same_sign-true, sign-*, sign-reversed, times, times-plus}
+use Rattle.plane.proofs.Signs.{agree, agree-sum, all, all-out, all2, all2-out, all4-out, imp, imp-out, is_plus-true, plus-times, same_bool, same_bool-true, same_sign, same_sign-true, sign-*, sign-reversed, times, times-plus, agree-back}
 
 abbrev pub step_of : Edge → Vector
 step_of t = from_to t.from t.to
@@ -35,9 +36,6 @@ tall-by p t h =
 -- ---- the order
 abbrev then_chain : Sign → Sign → Sign → Sign → Bool
 then_chain k l k' l' = all2 λ m m'. imp (agree k l m) λ _. imp (agree k' l' m') λ _. imp (is_plus (then_sign k k')) λ _. imp (is_plus (then_sign l l')) λ _. is_plus (then_sign m m')
-
-agree-back : (s t u : Sign) → agree s t u ≡ true → agree t s u ≡ true
-agree-back s t u h = imp-out _ _ (all-out (λ u. imp (agree s t u) λ _. agree t s u) (all2-out (λ s t. all (λ u. imp (agree s t u) λ _. agree t s u)) refl s t) u) h
 
 pub right_chain : (p : Vector) (a b c : Edge) → is_in_span p a ≡ true → is_in_span p b ≡ true → is_in_span p c ≡ true → right_of p a b ≡ true → right_of p b c ≡ true → right_of p a c ≡ true
 right_chain p a b c sa sb sc h g =
@@ -177,7 +175,7 @@ module _ (e f : Edge) (he : sign (e.to.y -ℤ e.from.y) ≡ Plus) (hf : sign (f.
     stays-above =
         let s = all-out (λ y. stays (distance_at p) slope y) (all2-out (λ x k. all (stays x k)) refl (distance_at p) slope) (distance_at q) in
         same_sign-true (order_above p e f) (order_above q e f)
-        (imp-out _ _ (imp-out _ _ s (subst (λ g. agree (distance_at p) (times g slope) (distance_at q) ≡ true) up (change-agrees p q))) (ap not (false-if-never (swaps (distance_at p) slope (distance_at q)) swaps-never)))
+        (imp-out _ _ (imp-out _ _ s (subst (λ g. agree (distance_at p) (times g slope) (distance_at q) ≡ true) up (change-agrees p q))) (ap not (false_from_ne_true (swaps (distance_at p) slope (distance_at q)) swaps-never)))
 
   same-height : (p q : Vector) → sign (q.y -ℤ p.y) ≡ Null → order_above p e f ≡ order_above q e f
   same-height p q h =
@@ -194,9 +192,9 @@ pub order_persists : (p q : Vector) (e f : Edge) → IsClearOf e f → is_in_spa
 order_persists p q e f c pe pf qe qf = persists-by e f (tall-by p e pe) (tall-by p f pf) c p q (sign (q.y -ℤ p.y)) refl pe pf qe qf
 
 pub not-right-itself : (p : Vector) (e : Edge) → is_right_above p e e ≡ false
-not-right-itself p e = and-no (is_in_span p e) (right_of p e e) (right_itself p e)
+not-right-itself p e = and_right (is_in_span p e) (right_of p e e) (right_itself p e)
 
 pub right-above-chain : (p : Vector) (e f g : Edge) → is_in_span p e ≡ true → is_right_above p e f ≡ true → is_right_above p f g ≡ true → is_right_above p e g ≡ true
 right-above-chain p e f g s h k =
     let sf = and-left (is_in_span p f) (right_of p e f) h in let sg = and-left (is_in_span p g) (right_of p f g) k in
-    and-in (is_in_span p g) (right_of p e g) sg (right_chain p e f g s sf sg (and-right (is_in_span p f) (right_of p e f) h) (and-right (is_in_span p g) (right_of p f g) k))
+    and_from (is_in_span p g) (right_of p e g) sg (right_chain p e f g s sf sg (and-right (is_in_span p f) (right_of p e f) h) (and-right (is_in_span p g) (right_of p f g) k))

@@ -1,15 +1,17 @@
-pub mod Bools
-pub mod Conflicts
-pub mod Edges
-pub mod Examples
-pub mod FreeSegments
-pub mod Heights
-pub mod Identities
-pub mod PointOrder
-pub mod Points
-pub mod Products
-pub mod RayCrossings
-pub mod Scaling
-pub mod Sectors
-pub mod Signs
-pub mod Views
+mod Bits
+mod Conflicts
+mod Edges
+mod Examples
+mod FreeSegments
+mod Heights
+mod Identities
+pub mod PlaneKit
+mod PointOrder
+mod Points
+mod Products
+mod RayCrossings
+mod Scaling
+mod Sectors
+pub mod SignKit
+mod Signs
+mod Views

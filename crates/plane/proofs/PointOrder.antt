@@ -6,8 +6,9 @@ use Rattle.plane.specs.Order.{order}
 use Rattle.plane.specs.Sign.{Minus, Null, Plus, Sign, is_null, negated, sign, then_sign}
 use Rattle.plane.specs.Vector.{IsDirection, Vector, cross, dot, from_to, same_point}
 use Rattle.plane.proofs.Identities.{apart, lift, same, ◌⊞◌, ◌⊟◌, ◌⊠◌}
+use Rattle.lists.proofs.Integers.{same_from_difference}
 use Rattle.plane.proofs.Points.{same_point-refl, same_vector}
-use Rattle.plane.proofs.Signs.{agree, agree-products, agree-sum, all, all-out, all2, all2-out, all4-out, imp, imp-out, not-null, null-zero, same-out, same_sign, same_sign-true, sign-reversed, times, times-plus}
+use Rattle.plane.proofs.Signs.{agree, agree-products, agree-sum, all, all-out, all2, all2-out, all4-out, imp, imp-out, not-null, null-zero, same-out, same_sign, same_sign-true, sign-reversed, times, times-plus, negated-then}
 
 -- ---- the order of points
 abbrev then_sums : Sign → Sign → Sign → Sign → Bool
@@ -20,11 +21,6 @@ order-sum p q r =
     let c = all2-out (λ y'' x''. imp (agree (sign (q.y -ℤ p.y)) (sign (r.y -ℤ q.y)) y'') λ _. imp (agree (sign (q.x -ℤ p.x)) (sign (r.x -ℤ q.x)) x'') λ _. agree (order p q) (order q r) (then_sign y'' x''))
     (all4-out then_sums refl (sign (q.y -ℤ p.y)) (sign (q.x -ℤ p.x)) (sign (r.y -ℤ q.y)) (sign (r.x -ℤ q.x))) (sign (r.y -ℤ p.y)) (sign (r.x -ℤ p.x)) in
     imp-out _ _ (imp-out _ _ c h) k
-
-negated-then : (s t : Sign) → then_sign (negated s) (negated t) ≡ negated (then_sign s t)
-negated-then Plus t = refl
-negated-then Null t = refl
-negated-then Minus t = refl
 
 pub order-reversed : (p q : Vector) → order q p ≡ negated (order p q)
 order-reversed p q =
@@ -42,13 +38,10 @@ then-null Null t h = (refl, h)
 then-null Plus t h = absurd (cc h)
 then-null Minus t h = absurd (cc h)
 
-zero-same : (a b : ℤ) → b -ℤ a ≡ pos 0 → a ≡ b
-zero-same a b h = omega (arith, ints)
-
 pub order-null : (p q : Vector) → order p q ≡ Null → p ≡ q
 order-null p q h =
     let k = then-null (sign (q.y -ℤ p.y)) (sign (q.x -ℤ p.x)) h in
-    same_vector p.x p.y q.x q.y (zero-same p.x q.x (null-zero (q.x -ℤ p.x) k.1)) (zero-same p.y q.y (null-zero (q.y -ℤ p.y) k.0))
+    same_vector p.x p.y q.x q.y (sym (same_from_difference q.x p.x (null-zero (q.x -ℤ p.x) k.1))) (sym (same_from_difference q.y p.y (null-zero (q.y -ℤ p.y) k.0)))
 
 -- points on a line are in the order in which the line runs
 abbrev then_dots : Sign → Sign → Sign → Sign → Bool

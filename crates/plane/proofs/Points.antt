@@ -4,13 +4,8 @@ use Rattle.std.proofs.lemmas.Bool.Decides.{Decides-int_eq}
 use Rattle.std.specs.Ordering.{int_eq}
 use lib.IntN.{ℤ}
 use Rattle.plane.specs.Vector.{Vector, same_point}
-use Rattle.plane.proofs.Bools.{and-out}
-
-pub int_eq-true : (a b : ℤ) → int_eq a b ≡ true → a ≡ b
-int_eq-true a b h = grind (arith, Decides-int_eq)
-
-pub int_eq-same : (a b : ℤ) → a ≡ b → int_eq a b ≡ true
-int_eq-same a b h = grind (arith, Decides-int_eq)
+use Rattle.lists.proofs.Integers.{int_eq-true}
+use Rattle.std.proofs.lemmas.Bool.{and_parts}
 
 int_eq-refl : (a : ℤ) → int_eq a a ≡ true
 int_eq-refl a = grind (arith, Decides-int_eq)
@@ -23,7 +18,7 @@ same_vector a b c d e f = cc
 
 pub same_point-true : (p q : Vector) → same_point p q ≡ true → p ≡ q
 same_point-true p q h =
-    let t = and-out (int_eq p.x q.x) (int_eq p.y q.y) h in
+    let t = and_parts (int_eq p.x q.x) (int_eq p.y q.y) h in
     let e = int_eq-true p.x q.x t.0 in let f = int_eq-true p.y q.y t.1 in same_vector p.x p.y q.x q.y e f
 
 pub same_point-refl : (p : Vector) → same_point p p ≡ true

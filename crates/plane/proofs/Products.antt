@@ -88,7 +88,7 @@ cross-here d v = let e = lift2 d in let w = lift2 v in same (cross2 e (from_to2 
 pub cross-from-here : (v w : Vector) → cross (from_to v v) w ≡ pos 0
 cross-from-here v w = let e = lift2 v in let f = lift2 w in same (cross2 (from_to2 e e) f) (lift (pos 0)) (omega arith)
 
-reversed-side : (s t w : Vector) → cross (from_to s t) (from_to s w) +ℤ cross (from_to t s) (from_to t w) ≡ pos 0
+pub reversed-side : (s t w : Vector) → cross (from_to s t) (from_to s w) +ℤ cross (from_to t s) (from_to t w) ≡ pos 0
 reversed-side s t w =
     let s' = lift2 s in let t' = lift2 t in let w' = lift2 w in
     same (cross2 (from_to2 s' t') (from_to2 s' w') ⊞ cross2 (from_to2 t' s') (from_to2 t' w')) (lift (pos 0)) (omega arith)
@@ -97,6 +97,14 @@ reversed-dot : (s t p w : Vector) → dot (from_to s t) (from_to p w) +ℤ dot (
 reversed-dot s t p w =
     let s' = lift2 s in let t' = lift2 t in let w' = lift2 w in let p' = lift2 p in
     same (dot2 (from_to2 s' t') (from_to2 p' w') ⊞ dot2 (from_to2 t' s') (from_to2 p' w')) (lift (pos 0)) (omega arith)
+
+pub dot-swap : (a b : Vector) → dot b a ≡ dot a b
+dot-swap a b = let e = lift2 a in let f = lift2 b in same (dot2 f e) (dot2 e f) (omega arith)
+
+pub dot-there_back : (u p q : Vector) → dot u (from_to p q) +ℤ dot u (from_to q p) ≡ pos 0
+dot-there_back u p q =
+    let u' = lift2 u in let p' = lift2 p in let q' = lift2 q in
+    same (dot2 u' (from_to2 p' q') ⊞ dot2 u' (from_to2 q' p')) (lift (pos 0)) (omega arith)
 
 pub side-reversed : (s t w : Vector) → sign (cross (from_to t s) (from_to t w)) ≡ negated (sign (cross (from_to s t) (from_to s w)))
 side-reversed s t w = sign-reversed (cross (from_to s t) (from_to s w)) (cross (from_to t s) (from_to t w)) (reversed-side s t w)

@@ -6,14 +6,26 @@ use lib.Signed.{◌<ℤ◌, ◌≤ℤ◌}
 use Rattle.plane.specs.Bit.{bit}
 use Rattle.plane.specs.Edge.{Edge, IsRising, ends_at}
 use Rattle.plane.specs.Height.{is_in_span, is_left_of}
-use Rattle.plane.specs.RayCrossing.{crosses_down, crosses_up, down_by, down_crossing, up_by, up_crossing}
+use Rattle.plane.specs.RayCrossing.{crosses_down, crosses_up, down_by, down_crossing, off_by, up_by, up_crossing}
 use Rattle.plane.specs.Sector.{in_sector, sector_by}
-use Rattle.plane.specs.Sign.{Minus, Null, Plus, Sign, is_minus, is_plus, sign}
+use Rattle.plane.specs.Sign.{Minus, Null, Plus, Sign, is_minus, is_null, is_plus, sign}
 use Rattle.plane.specs.Vector.{IsDirection, Vector, cross, east, from_to, orient, same_point}
 use Rattle.plane.proofs.Identities.{lift, same, ◌⊟◌, ◌⊠◌}
 use Rattle.plane.proofs.Points.{same_point-true}
 use Rattle.plane.proofs.Products.{cross-agree, cross-here, cross-self, dot-east, orient-round}
 use Rattle.plane.proofs.Signs.{Says, agree, agree-sum, all, all-out, all2-out, all4-out, both, imp, imp-out, left-out, not-minus-by, right-out, same_sign, same_sign-true, says, times}
+use Rattle.plane.proofs.Bits.{bit-and_no}
+
+-- ---- a point off an edge, by signs
+pub off_by-set : (c s : Sign) → not (is_null c) ≡ true → off_by c s ≡ true
+off_by-set Plus s h = refl
+off_by-set Minus s h = refl
+off_by-set Null s h = absurd (cc h)
+
+pub off_by-no : (c s : Sign) → off_by c s ≡ false → c ≡ Null
+off_by-no Null s h = refl
+off_by-no Plus s h = absurd (cc h)
+off_by-no Minus s h = absurd (cc h)
 
 -- ---- a hit, by orders
 up-out : (s t u : Sign) (x y z : ℤ) → Says s x → Says t y → Says u z → up_by s t u ≡ 1 → (x ≤ℤ pos 0) × (pos 0 <ℤ y) × (pos 0 <ℤ z)
@@ -93,10 +105,6 @@ level-side d w h k =
     let a = rw (h, k) at (cross-agree d w) in
     same_sign-true (sign (cross d w)) (sign w.y) (imp-out _ _ (all2-out (λ c y. imp (agree c Null (times Plus y)) λ _. same_sign c y) refl (sign (cross d w)) (sign w.y)) a)
 
-and-none : (x y : Bool) → y ≡ false → bit (x && y) ≡ 0
-and-none true y h = ap bit h
-and-none false y h = refl
-
 pub at-end-by : (p : Vector) (t : Edge) (b c : Bool) → same_point p t.from ≡ b → same_point p t.to ≡ c → (b || c) ≡ true → orient t.from t.to p ≡ Null
 at-end-by p t true c h k o = subst (λ w. orient w t.to p ≡ Null) (same_point-true p t.from h) (ap sign (cross-here (from_to p t.to) p))
 at-end-by p t false true h k o = subst (λ w. orient t.from w p ≡ Null) (same_point-true p t.to k) (ap sign (cross-self (from_to t.from p)))
@@ -104,7 +112,7 @@ at-end-by p t false false h k o = absurd (cc o)
 
 -- a point is not left of an edge that ends there
 pub not-left : (p : Vector) (t : Edge) → ends_at p t ≡ true → bit (is_left_of p t) ≡ 0
-not-left p t h = and-none (is_in_span p t) (is_plus (orient t.from t.to p)) (ap is_plus (at-end-by p t (same_point p t.from) (same_point p t.to) refl refl h))
+not-left p t h = bit-and_no (is_in_span p t) (is_plus (orient t.from t.to p)) (ap is_plus (at-end-by p t (same_point p t.from) (same_point p t.to) refl refl h))
 
 pub sector-east : (d w : Vector) → in_sector east d w ≡ sector_by (sign w.x) (sign w.y) (sign d.x) (sign d.y) (sign (cross d w))
 sector-east d w = rw (dot-east w, cross-east w, dot-east d, cross-east d)

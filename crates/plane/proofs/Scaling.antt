@@ -1,5 +1,5 @@
 -- No sign, crossing or sector changes where points and edges are multiplied by a positive number.
-use Rattle.std.proofs.Common.{Bool, ap, arith, false, not, refl, sym, true, ◌&&◌, ◌||◌, ◌∙◌, ◌≡◌}
+use Rattle.std.proofs.Common.{Bool, ap, arith, false, not, refl, subst, sym, true, ◌&&◌, ◌||◌, ◌∙◌, ◌≡◌}
 use Rattle.std.specs.Ordering.{int_eq}
 use borrow.Author.Differences.{ints}
 use lib.IntN.{pos, ℤ, ◌*ℤ◌, ◌+ℤ◌, ◌-ℤ◌}
@@ -13,8 +13,34 @@ use Rattle.plane.specs.Sector.{in_sector}
 use Rattle.plane.specs.Sign.{Plus, is_minus, is_null, is_plus, sign, then_sign}
 use Rattle.plane.specs.Vector.{Vector, cross, dot, from_to, orient, same_point}
 use Rattle.plane.proofs.Identities.{lift, same, ◌⊞◌, ◌⊟◌, ◌⊠◌}
-use Rattle.plane.proofs.Points.{int_eq-same, int_eq-true, same_vector}
+use Rattle.lists.proofs.Integers.{int_eq-same, int_eq-true}
+use Rattle.plane.proofs.Points.{same_point-refl, same_point-true, same_vector}
+use Rattle.plane.proofs.Products.{cross2, dot2, lift2}
 use Rattle.plane.proofs.Signs.{null-zero, plus-times}
+
+-- ---- multiplied twice
+pub times-twice : (q k z : ℤ) → q *ℤ (k *ℤ z) ≡ (q *ℤ k) *ℤ z
+times-twice q k z = let q' = lift q in let k' = lift k in let z' = lift z in same (q' ⊠ (k' ⊠ z')) ((q' ⊠ k') ⊠ z') (omega arith)
+
+pub times-turned : (q k z : ℤ) → q *ℤ (k *ℤ z) ≡ k *ℤ (q *ℤ z)
+times-turned q k z = let q' = lift q in let k' = lift k in let z' = lift z in same (q' ⊠ (k' ⊠ z')) (k' ⊠ (q' ⊠ z')) (omega arith)
+
+pub point-twice : (q k : ℤ) (p : Vector) → scaled_point q (scaled_point k p) ≡ scaled_point (q *ℤ k) p
+point-twice q k p = same_vector (q *ℤ (k *ℤ p.x)) (q *ℤ (k *ℤ p.y)) ((q *ℤ k) *ℤ p.x) ((q *ℤ k) *ℤ p.y) (times-twice q k p.x) (times-twice q k p.y)
+
+pub point-turned : (q k : ℤ) (p : Vector) → scaled_point q (scaled_point k p) ≡ scaled_point k (scaled_point q p)
+point-turned q k p = same_vector (q *ℤ (k *ℤ p.x)) (q *ℤ (k *ℤ p.y)) (k *ℤ (q *ℤ p.x)) (k *ℤ (q *ℤ p.y)) (times-turned q k p.x) (times-turned q k p.y)
+
+-- ---- products with a vector multiplied
+pub cross-times : (k : ℤ) (d a : Vector) → cross d (scaled_point k a) ≡ k *ℤ cross d a
+cross-times k d a =
+    let k' = lift k in let e = lift2 d in let u = lift2 a in
+    same (e.x2 ⊠ (k' ⊠ u.y2) ⊟ e.y2 ⊠ (k' ⊠ u.x2)) (k' ⊠ cross2 e u) (omega arith)
+
+pub dot-times : (k : ℤ) (d a : Vector) → dot d (scaled_point k a) ≡ k *ℤ dot d a
+dot-times k d a =
+    let k' = lift k in let e = lift2 d in let u = lift2 a in
+    same (e.x2 ⊠ (k' ⊠ u.x2) ⊞ e.y2 ⊠ (k' ⊠ u.y2)) (k' ⊠ dot2 e u) (omega arith)
 
 module _ (k : ℤ) (hk : sign k ≡ Plus) where
   minus-scaled : (a b : ℤ) → k *ℤ a -ℤ k *ℤ b ≡ k *ℤ (a -ℤ b)
@@ -112,7 +138,7 @@ module _ (k : ℤ) (hk : sign k ≡ Plus) where
       let k' = lift k in let a' = lift a in let b' = lift b in let c' = lift c in let d' = lift d in
       same ((k' ⊠ a') ⊠ (k' ⊠ c') ⊞ (k' ⊠ b') ⊠ (k' ⊠ d')) (k' ⊠ (k' ⊠ (a' ⊠ c' ⊞ b' ⊠ d'))) (omega arith)
 
-  dot-both : (a b : Vector) → sign (dot (scaled_point k a) (scaled_point k b)) ≡ sign (dot a b)
+  pub dot-both : (a b : Vector) → sign (dot (scaled_point k a) (scaled_point k b)) ≡ sign (dot a b)
   dot-both a b = ap sign (dot-by a.x a.y b.x b.y) ∙ plus-times k (k *ℤ dot a b) hk ∙ plus-times k (dot a b) hk
 
   pub crossing-scaled : (d a b : Vector) →
@@ -133,3 +159,6 @@ module _ (k : ℤ) (hk : sign k ≡ Plus) where
       ∙ ap (λ e. in_sector (scaled_point k (from_to v a)) e (from_to (scaled_point k v) (scaled_point k w))) (from_to-scaled v b)
       ∙ ap (in_sector (scaled_point k (from_to v a)) (scaled_point k (from_to v b))) (from_to-scaled v w)
       ∙ sector-scaled (from_to v a) (from_to v b) (from_to v w)
+
+  pub point-back : (p q : Vector) → scaled_point k p ≡ scaled_point k q → p ≡ q
+  point-back p q e = same_point-true p q (sym (point-scaled k hk p q) ∙ subst (λ w. same_point (scaled_point k p) w ≡ true) e (same_point-refl (scaled_point k p)))

@@ -1,5 +1,6 @@
 -- Signs of sums and products, and statements about all signs decided by computing.
-use Rattle.std.proofs.Common.{Bool, ap, arith, false, not, refl, subst, suc, sym, true, zero, ℕ, ◌*◌, ◌<◌, ◌↔◌, ◌∙◌, ◌≡◌}
+use Rattle.std.proofs.Common.{Bool, ap, arith, false, not, refl, subst, suc, sym, true, zero, ℕ, ◌*◌, ◌<◌, ◌||◌, ◌↔◌, ◌∙◌, ◌≡◌}
+use Rattle.std.proofs.lemmas.Bool.{not_from_false, or_parts}
 use borrow.Author.Differences.{down, ints, up}
 use lib.IntN.{neg_ℤ, negsuc, pos, ℤ, ◌*ℤ◌, ◌+ℤ◌, ◌-ℤ◌}
 use lib.Signed.{◌<ℤ◌}
@@ -25,7 +26,7 @@ agree Plus Minus u = true
 agree Minus Plus u = true
 agree s t u = false
 
-sign-pos : (k : ℕ) → 0 < k → sign (pos k) ≡ Plus
+pub sign-pos : (k : ℕ) → 0 < k → sign (pos k) ≡ Plus
 sign-pos zero h = absurd (omega arith)
 sign-pos (suc k) h = refl
 
@@ -103,6 +104,9 @@ all f = both (f Minus) (both (f Null) (f Plus))
 abbrev pub all2 : (Sign → Sign → Bool) → Bool
 all2 f = all (λ a. all (f a))
 
+abbrev pub all3 : (Sign → Sign → Sign → Bool) → Bool
+all3 f = all2 (λ a b. all (f a b))
+
 abbrev pub all4 : (Sign → Sign → Sign → Sign → Bool) → Bool
 all4 f = all2 (λ a b. all2 (f a b))
 
@@ -121,6 +125,9 @@ all-out f h Plus = right-out (f Null) (f Plus) (right-out (f Minus) (both (f Nul
 
 pub all2-out : (f : Sign → Sign → Bool) → all2 f ≡ true → (s t : Sign) → f s t ≡ true
 all2-out f h s t = all-out (f s) (all-out (λ a. all (f a)) h s) t
+
+pub all3-out : (f : Sign → Sign → Sign → Bool) → all3 f ≡ true → (s t u : Sign) → f s t u ≡ true
+all3-out f h s t u = all-out (f s t) (all2-out (λ a b. all (f a b)) h s t) u
 
 pub all4-out : (f : Sign → Sign → Sign → Sign → Bool) → all4 f ≡ true → (s t u v : Sign) → f s t u v ≡ true
 all4-out f h s t u v = all2-out (f s t) (all2-out (λ a b. all2 (f a b)) h s t) u v
@@ -190,6 +197,31 @@ is_plus-true Plus h = refl
 is_plus-true Null h = absurd (cc h)
 is_plus-true Minus h = absurd (cc h)
 
+pub is_null-true : (s : Sign) → is_null s ≡ true → s ≡ Null
+is_null-true Null h = refl
+is_null-true Plus h = absurd (cc h)
+is_null-true Minus h = absurd (cc h)
+
+pub minus-not-plus : (s : Sign) → s ≡ Minus → not (is_plus s) ≡ true
+minus-not-plus s h = ap (λ t. not (is_plus t)) h
+
+pub null-not-plus : (s : Sign) → s ≡ Null → not (is_plus s) ≡ true
+null-not-plus s h = ap (λ t. not (is_plus t)) h
+
+pub minus-not-null : (s : Sign) → s ≡ Minus → s ≡ Null → ⊥
+minus-not-null s h k = cc (sym h ∙ k)
+
+-- the sign of a difference turned
+pub difference_turned : (x y : ℤ) → sign (x -ℤ y) ≡ Minus → sign (y -ℤ x) ≡ Plus
+difference_turned x y h = let k = says-at Minus (x -ℤ y) h in sign-from Plus (y -ℤ x) (omega (arith, ints))
+
+-- no integer lies between 0 and 1, and none between -1 and 0
+pub less_one : (z : ℤ) → sign z ≡ Plus → sign (z -ℤ pos 1) ≡ Minus → ⊥
+less_one z h k = let a = says-at Plus z h in let b = says-at Minus (z -ℤ pos 1) k in omega (arith, ints)
+
+pub more_one : (z : ℤ) → sign z ≡ Minus → sign (z +ℤ pos 1) ≡ Plus → ⊥
+more_one z h k = let a = says-at Minus z h in let b = says-at Plus (z +ℤ pos 1) k in omega (arith, ints)
+
 -- ---- signs that are the same
 abbrev pub same_sign : Sign → Sign → Bool
 same_sign Minus Minus = true
@@ -250,8 +282,71 @@ abbrev pub same_bool : Bool → Bool → Bool
 same_bool true b = b
 same_bool false b = not b
 
+pub same_bool-refl : (b : Bool) → same_bool b b ≡ true
+same_bool-refl true = refl
+same_bool-refl false = refl
+
+pub same_bool-is : (a b : Bool) → a ≡ b → same_bool a b ≡ true
+same_bool-is a b h = subst (λ x. same_bool a x ≡ true) h (same_bool-refl a)
+
 pub same_bool-true : (a b : Bool) → same_bool a b ≡ true → a ≡ b
 same_bool-true true true h = refl
 same_bool-true false false h = refl
 same_bool-true true false h = absurd (cc h)
 same_bool-true false true h = absurd (cc h)
+
+-- ---- negated
+pub negated-then : (s t : Sign) → then_sign (negated s) (negated t) ≡ negated (then_sign s t)
+negated-then Plus t = refl
+negated-then Null t = refl
+negated-then Minus t = refl
+
+pub not-null-negated : (s : Sign) → not (is_null s) ≡ true → not (is_null (negated s)) ≡ true
+not-null-negated Plus h = refl
+not-null-negated Minus h = refl
+not-null-negated Null h = absurd (cc h)
+
+pub negated-not-plus : (s : Sign) → not (is_minus s) ≡ true → not (is_plus (negated s)) ≡ true
+negated-not-plus Plus h = refl
+negated-not-plus Null h = refl
+negated-not-plus Minus h = absurd (cc h)
+
+pub not-minus-back : (s t : Sign) → t ≡ negated s → is_plus s ≡ false → not (is_minus t) ≡ true
+not-minus-back Null t h k = ap (λ x. not (is_minus x)) h
+not-minus-back Minus t h k = ap (λ x. not (is_minus x)) h
+not-minus-back Plus t h k = absurd (cc k)
+
+-- ---- what the signs of two summands say of the sum, and of each other
+pub agree-back : (s t u : Sign) → agree s t u ≡ true → agree t s u ≡ true
+agree-back s t u h = imp-out _ _ (all3-out (λ s t u. imp (agree s t u) λ _. agree t s u) refl s t u) h
+
+pub plus-null : (s : Sign) → agree Plus Null s ≡ true → s ≡ Plus
+plus-null Plus h = refl
+plus-null Null h = absurd (cc h)
+plus-null Minus h = absurd (cc h)
+
+pub null-plus : (s : Sign) → agree Null Plus s ≡ true → s ≡ Plus
+null-plus Plus h = refl
+null-plus Null h = absurd (cc h)
+null-plus Minus h = absurd (cc h)
+
+pub null-first : (s t u : Sign) → agree s t u ≡ true → s ≡ Null → t ≡ u
+null-first s t u h k = same_sign-true t u (imp-out _ _ (all2-out (λ t u. imp (agree Null t u) λ _. same_sign t u) refl t u) (subst (λ x. agree x t u ≡ true) k h))
+
+pub plus-not-minus : (s t u : Sign) → agree s t u ≡ true → s ≡ Plus → (t ≡ Minus → ⊥) → u ≡ Plus
+plus-not-minus s Plus u h k n = plus-plus u (subst (λ x. agree x Plus u ≡ true) k h)
+plus-not-minus s Null u h k n = plus-null u (subst (λ x. agree x Null u ≡ true) k h)
+plus-not-minus s Minus u h k n = absurd (n refl)
+
+pub sum-not-minus : (s t u : Sign) → agree s t u ≡ true → not (is_minus s) ≡ true → not (is_minus t) ≡ true → not (is_minus u) ≡ true
+sum-not-minus s t u h k m = imp-out _ _ (imp-out _ _ (imp-out _ _ (all3-out (λ s t u. imp (agree s t u) λ _. imp (not (is_minus s)) λ _. imp (not (is_minus t)) λ _. not (is_minus u)) refl s t u) h) k) m
+
+pub sum-not-plus : (s t u : Sign) → agree s t u ≡ true → not (is_plus s) ≡ true → not (is_plus t) ≡ true → not (is_plus u) ≡ true
+sum-not-plus s t u h k m = imp-out _ _ (imp-out _ _ (imp-out _ _ (all3-out (λ s t u. imp (agree s t u) λ _. imp (not (is_plus s)) λ _. imp (not (is_plus t)) λ _. not (is_plus u)) refl s t u) h) k) m
+
+-- a summand behind, where the other is ahead and the sum isn't
+pub plus-behind : (s t u : Sign) → agree s t u ≡ true → s ≡ Plus → not (is_plus u) ≡ true → t ≡ Minus
+plus-behind s t u h k n = same_sign-true t Minus (imp-out _ _ (imp-out _ _ (all2-out (λ t u. imp (agree Plus t u) λ _. imp (not (is_plus u)) λ _. same_sign t Minus) refl t u) (subst (λ x. agree x t u ≡ true) k h)) n)
+
+pub neither-plus : (s t : Sign) → (is_plus s || is_plus t) ≡ false → (not (is_plus s) ≡ true) × (not (is_plus t) ≡ true)
+neither-plus s t h = let b = or_parts (is_plus s) (is_plus t) h in (not_from_false (is_plus s) b.0, not_from_false (is_plus t) b.1)

@@ -9,11 +9,11 @@ use Rattle.plane.specs.Conflict.{IsClearOf}
 use Rattle.plane.specs.Edge.{Edge, IsRising}
 use Rattle.plane.specs.Height.{is_in_span, is_right_above}
 use Rattle.plane.specs.Vector.{Vector}
-use Rattle.plane.proofs.Conflicts.{clear_back}
+use Rattle.plane.proofs.PlaneKit.{clear_back}
 use Rattle.winding.specs.ConflictFree.{IsConflictFree}
-use Rattle.winding.specs.Member.{EachPair, In}
-use Rattle.winding.proofs.ConflictFree.{rising_in}
-use Rattle.winding.proofs.Members.{all-in, in-filter, in-left, in-map, in-passes, in-right, into-filter, pairs-across, pairs-left}
+use Rattle.lists.specs.Member.{EachPair, In}
+use Rattle.winding.proofs.WindingKit.{rising_in}
+use Rattle.lists.proofs.Members.{all-in, in-filter, in-left, in-map, in-passes, in-right, into-filter, pairs-across, pairs-left}
 use Rattle.status.specs.Status.{IsStatus, spanning}
 use Rattle.status.proofs.Statuses.{enters, passes}
 

@@ -11,9 +11,9 @@ use Rattle.std.proofs.lemmas.List.Quantifiers.{all_pairs_remove}
 use Rattle.plane.specs.Edge.{Edge}
 use Rattle.plane.specs.Height.{is_in_span}
 use Rattle.plane.specs.Vector.{Vector}
-use Rattle.plane.proofs.Heights.{right_itself, right_of}
-use Rattle.winding.specs.Member.{In}
-use Rattle.winding.proofs.Members.{in-either, in-filter, in-passes}
+use Rattle.plane.proofs.PlaneKit.{right_itself, right_of}
+use Rattle.lists.specs.Member.{In}
+use Rattle.lists.proofs.Members.{in-either, in-filter, in-passes}
 use Rattle.status.specs.Leaving.{Remains}
 use Rattle.status.specs.Status.{IsStatus}
 

@@ -1,4 +1,5 @@
-pub mod Fronts
-pub mod Leaving
-pub mod Lists
-pub mod Statuses
+mod Fronts
+mod Leaving
+mod Lists
+pub mod StatusKit
+mod Statuses

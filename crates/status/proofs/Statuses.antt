@@ -2,7 +2,7 @@
 use Rattle.std.proofs.Common.{Bool, List, [], ap, arith, cond, count_by, eq-or-lt_of_le, false, get_or, inl, inr, length, map, not, refl, remove, subst, suc, sym, true, ℕ, ⊎_elim, ◌&&◌, ◌++◌, ◌+◌, ◌-◌, ◌<◌, ◌∙◌, ◌∷◌, ◌≡◌, ◌≢◌, ◌≤◌, ◌⊎◌}
 use Rattle.std.specs.List.{AllWithin, filter, insert, sum_by}
 use Rattle.std.specs.List.Sorted.{IsPartitionedBy}
-use Rattle.std.proofs.lemmas.Bool.{cases_eq, cases_lt}
+use Rattle.std.proofs.lemmas.Bool.{cases_eq, cases_lt, and_from}
 use Rattle.std.proofs.lemmas.List.Elements.{All-filter, filter_passes}
 use Rattle.std.proofs.lemmas.List.Kept.{AllPairs-filter}
 use Rattle.std.proofs.lemmas.List.Edits.{get_or-remove_above, get_or-remove_below, length-remove}
@@ -14,17 +14,15 @@ use Rattle.plane.specs.Edge.{Edge, same_edge}
 use Rattle.plane.specs.Height.{is_in_span, is_right_above}
 use Rattle.plane.specs.Sign.{is_plus}
 use Rattle.plane.specs.Vector.{Vector}
-use Rattle.plane.proofs.Bools.{and-in, and-left, and-right}
-use Rattle.plane.proofs.Conflicts.{clear_back}
-use Rattle.plane.proofs.Edges.{same_edge-refl, same_edge-true}
-use Rattle.plane.proofs.Heights.{order_persists, right_chain, right_either, right_itself, right_of}
+use Rattle.lists.proofs.Bools.{and-left, and-right}
+use Rattle.plane.proofs.PlaneKit.{clear_back, same_edge-refl, same_edge-true, order_persists, right_chain, right_either, right_itself, right_of}
 use Rattle.winding.specs.ConflictFree.{IsConflictFree}
-use Rattle.winding.specs.Member.{In}
-use Rattle.winding.proofs.ConflictFree.{clear_pair}
-use Rattle.winding.proofs.Levels.{right_apart}
-use Rattle.winding.proofs.Members.{in-all, in-filter, in-map, in-passes, into-filter}
+use Rattle.lists.specs.Member.{In}
+use Rattle.winding.proofs.WindingKit.{clear_pair, right_apart}
+use Rattle.lists.proofs.Members.{in-all, in-filter, in-map, in-passes, into-filter}
 use Rattle.status.specs.Status.{IsRight, IsStatus, spanning}
-use Rattle.status.proofs.Lists.{all_insert, pairs_insert, sum-filter, sum-same}
+use Rattle.lists.proofs.Insertions.{all_insert, pairs_insert}
+use Rattle.status.proofs.Lists.{sum-filter, sum-same}
 
 module _ {X : Type 0} (edge : X → Edge) where
   span : Vector → X → Bool
@@ -179,7 +177,7 @@ module _ {X : Type 0} (edge : X → Edge) where
       (λ (before : i < j).
       let st = member-spans p xs status is i d (omega arith) in let su = member-spans p xs status is j d l in
       parted-by (is_right_above p (edge x) (edge (get_or status i d))) refl k
-      (λ r. and-in (is_in_span p (edge (get_or status j d))) (right_of p (edge x) (edge (get_or status j d))) su
+      (λ r. and_from (is_in_span p (edge (get_or status j d))) (right_of p (edge x) (edge (get_or status j d))) su
       (right_chain p (edge x) (edge (get_or status i d)) (edge (get_or status j d)) sx st su (and-right (is_in_span p (edge (get_or status i d))) (right_of p (edge x) (edge (get_or status i d))) r) (is.order i j d before l))))
       (eq-or-lt_of_le h)
     where

@@ -4,7 +4,7 @@ use Rattle.std.specs.List.{AllWithin}
 use Rattle.plane.specs.Edge.{Edge}
 use Rattle.plane.specs.Height.{is_in_span}
 use Rattle.plane.specs.Vector.{Vector}
-use Rattle.winding.specs.Member.{In}
+use Rattle.lists.specs.Member.{In}
 use Rattle.status.specs.Status.{IsStatus}
 
 -- what remains of a status: it has the items of old that stay, each of its items once, and none of those before a place of the list

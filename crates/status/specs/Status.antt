@@ -4,7 +4,7 @@ use Rattle.plane.specs.Edge.{Edge}
 use Rattle.plane.specs.Height.{is_in_span, order_above}
 use Rattle.plane.specs.Sign.{is_plus}
 use Rattle.plane.specs.Vector.{Vector}
-use Rattle.winding.specs.Member.{In}
+use Rattle.lists.specs.Member.{In}
 
 -- those that span the height of p
 abbrev pub spanning : {X : Type 0} → (X → Edge) → Vector → List X → List X

@@ -6,7 +6,7 @@ use Rattle.plane.specs.Edge.{Edge}
 use Rattle.plane.specs.Height.{is_in_span, is_right_above}
 use Rattle.plane.specs.Vector.{Vector}
 use Rattle.winding.specs.ConflictFree.{IsConflictFree}
-use Rattle.winding.specs.Member.{In}
+use Rattle.lists.specs.Member.{In}
 use Rattle.status.specs.Status.{IsRight, IsStatus}
 
 -- an item that spans the height goes before those that are right of it, which stand last

@@ -9,14 +9,11 @@ use Rattle.plane.specs.Sign.{Sign}
 use Rattle.plane.specs.Vector.{IsDirection, Vector, from_to, same_point}
 use Rattle.winding.specs.EdgeList.{IsBalanced, IsEvenAtPoints, crossing_count, winding_number}
 use Rattle.winding.specs.Node.{away, spokes_in}
-use Rattle.plane.proofs.FreeSegments.{Sound, crossings-by, crossings_0, crossings_seen, down_compute, down_sound, misses_reversed, none_here, off_when_missed, past_edge, up_compute, up_sound}
-use Rattle.plane.proofs.Identities.{same}
-use Rattle.plane.proofs.RayCrossings.{down_seen, up_seen}
-use Rattle.plane.proofs.Signs.{all4}
-use Rattle.plane.proofs.Views.{View, mid, mid_reversed, view_at, view_mid}
+use Rattle.plane.proofs.PlaneKit.{Sound, crossings-by, crossings_0, crossings_seen, down_compute, down_sound, misses_reversed, none_here, off_when_missed, past_edge, up_compute, up_sound, down_seen, up_seen, View, mid, mid_reversed, view_at, view_mid}
+use Rattle.plane.proofs.SignKit.{same, all4}
 use Rattle.winding.proofs.Independence.{IsOffSeen, count-is, crossing_count_seen, parity_independent, winding_independent}
 use Rattle.winding.proofs.RoundNode.{parity_round_node}
-use Rattle.winding.proofs.Sums.{total, total-is}
+use Rattle.lists.proofs.Sums.{total, total-is}
 
 -- an edge that does not meet the segment is hit by the rays along it from everywhere inside it, or from nowhere
 pub same_crossings : (g : Sign → Sign → Sign → ℕ) → all4 (crossings_0 g) ≡ true → (s t : Vector) (r q : Vector → Vector) → View s t r → View s t q → (es : List Edge) → All (Misses s t) es →

@@ -13,29 +13,23 @@ use Rattle.plane.specs.Sign.{Minus, Null, Plus, Sign, is_minus, is_plus, negated
 use Rattle.plane.specs.Vector.{IsDirection, Vector, cross, dot, east, from_to, orient, same_point}
 use Rattle.winding.specs.ConflictFree.{IsConflictFree, others}
 use Rattle.winding.specs.EdgeList.{IsEvenAtPoints, crossing_count, winding_number}
-use Rattle.winding.specs.Member.{In}
+use Rattle.lists.specs.Member.{In}
 use Rattle.winding.specs.Node.{away, spokes, spokes_in}
 use Rattle.winding.specs.OddSide.{runs_up}
 use Rattle.winding.specs.Parity.{is_even}
 use Rattle.winding.specs.Ring.{IsAnchor, IsRing, segments_of}
-use Rattle.plane.proofs.Bools.{false-if-never}
-use Rattle.plane.proofs.Conflicts.{clear_misses}
-use Rattle.plane.proofs.Edges.{edge_of, ends_at-from, same_edge-refl, same_edge-true}
-use Rattle.plane.proofs.Identities.{lift, same, ◌⊞◌, ◌⊟◌, ◌⊠◌}
-use Rattle.plane.proofs.PointOrder.{line-order-up, order-null, order-reversed, order-self-null, order-sum, rising-direction}
-use Rattle.plane.proofs.Points.{same_point-true}
-use Rattle.plane.proofs.Products.{cross-agree, cross-negated, cross-self, dot-east, plucker-agree, plucker-dot-agree}
-use Rattle.plane.proofs.RayCrossings.{cross-east, crossings_at, level-side, rise-y}
-use Rattle.plane.proofs.Signs.{agree, all, all-out, all4, all4-out, imp, imp-out, plus-plus, same_bool, self-diff, sign-reversed, times}
+use Rattle.std.proofs.lemmas.Bool.{false_from_ne_true}
+use Rattle.plane.proofs.PlaneKit.{clear_misses, edge_of, ends_at-from, same_edge-refl, same_edge-true, line-order-up, order-null, order-reversed, order-self-null, order-sum, rising-direction, same_point-true, cross-agree, cross-negated, cross-self, dot-east, plucker-agree, plucker-dot-agree, cross-east, crossings_at, level-side, rise-y}
+use Rattle.plane.proofs.SignKit.{lift, same, ◌⊞◌, ◌⊟◌, ◌⊠◌, agree, all, all-out, all4, all4-out, imp, imp-out, plus-plus, same_bool, self-diff, sign-reversed, times, minus-not-plus, plus-null, null-plus}
 use Rattle.winding.proofs.Balance.{degree-even, length-total}
 use Rattle.winding.proofs.ConflictFree.{clear_of_others, off_away, rising_in, split_off}
-use Rattle.winding.proofs.Members.{in-filter, into-filter, total-filter, total-same}
+use Rattle.lists.proofs.Members.{in-filter, into-filter, total-filter, total-same}
 use Rattle.winding.proofs.OddSides.{no_same_way_from, runs_from, spokes-is}
 use Rattle.winding.proofs.OppositeEnds.{beyond, crossings-away}
 use Rattle.winding.proofs.Ranks.{even-is, odd-is}
 use Rattle.winding.proofs.RingCounts.{keeps, ring-even, ring_count, ring_keeps}
 use Rattle.winding.proofs.RoundNode.{parity_round_node}
-use Rattle.winding.proofs.Sums.{none-sum, total}
+use Rattle.lists.proofs.Sums.{none-sum, total}
 
 abbrev pub west : Vector
 west = record { x = negsuc 0; y = pos 0 }
@@ -117,9 +111,6 @@ all-right a d es hd r l n =
     let q = same_point-true a t.from b in
     ap (λ b. in_sector west d (from_to a (cond b t.to t.from))) b ∙ west-sector d (from_to a t.to) hd (subst (λ w. order w t.to ≡ Plus) (sym q) (r t i)) (n t i q)))
     ∙ sym (total-filter (ends_at a) (λ t. 1) es) ∙ length-total (spokes a es)
-
-minus-not-plus : (s : Sign) → s ≡ Minus → not (is_plus s) ≡ true
-minus-not-plus s h = ap (λ s. not (is_plus s)) h
 
 -- the anchor's direction has all edges at the point on its right
 anchor-right-by : (s t : Edge) (es : List Edge) → IsAnchor s es → In t es → s.from ≡ t.from → (b : Bool) → same_edge s t ≡ b → not (is_plus (sign (cross (from_to s.from s.to) (from_to s.from t.to)))) ≡ true
@@ -212,20 +203,10 @@ ok-of-plus o k h = ap (λ o. ok_by o k) h
 ok-of-null : (o k : Sign) → o ≡ Null → not (is_plus k) ≡ true → ok_by o k ≡ true
 ok-of-null o k h g = ap (λ o. ok_by o k) h ∙ g
 
-sum-plus-null : (s : Sign) → agree Plus Null s ≡ true → s ≡ Plus
-sum-plus-null Plus h = refl
-sum-plus-null Null h = absurd (cc h)
-sum-plus-null Minus h = absurd (cc h)
-
-sum-null-plus : (s : Sign) → agree Null Plus s ≡ true → s ≡ Plus
-sum-null-plus Plus h = refl
-sum-null-plus Null h = absurd (cc h)
-sum-null-plus Minus h = absurd (cc h)
-
 ok-chain-by : (s t u : Edge) → IsRising s → IsRising t → IsRising u → (o o' : Sign) → order s.from t.from ≡ o → order t.from u.from ≡ o' → ok_by o (orient s.from s.to t.to) ≡ true → ok_by o' (orient t.from t.to u.to) ≡ true → ok s u ≡ true
 ok-chain-by s t u rs rt ru Plus Plus h g a b = ok-of-plus (order s.from u.from) (orient s.from s.to u.to) (plus-plus (order s.from u.from) (let k = order-sum s.from t.from u.from in rw (h, g) at k))
-ok-chain-by s t u rs rt ru Plus Null h g a b = ok-of-plus (order s.from u.from) (orient s.from s.to u.to) (sum-plus-null (order s.from u.from) (let k = order-sum s.from t.from u.from in rw (h, g) at k))
-ok-chain-by s t u rs rt ru Null Plus h g a b = ok-of-plus (order s.from u.from) (orient s.from s.to u.to) (sum-null-plus (order s.from u.from) (let k = order-sum s.from t.from u.from in rw (h, g) at k))
+ok-chain-by s t u rs rt ru Plus Null h g a b = ok-of-plus (order s.from u.from) (orient s.from s.to u.to) (plus-null (order s.from u.from) (let k = order-sum s.from t.from u.from in rw (h, g) at k))
+ok-chain-by s t u rs rt ru Null Plus h g a b = ok-of-plus (order s.from u.from) (orient s.from s.to u.to) (null-plus (order s.from u.from) (let k = order-sum s.from t.from u.from in rw (h, g) at k))
 ok-chain-by s t u rs rt ru Null Null h g a b =
     let p = s.from in
     let q = order-null s.from t.from h in let q' = q ∙ order-null t.from u.from g in
@@ -378,7 +359,7 @@ anchor-one-by : (a b : Edge) (es : List Edge) → IsConflictFree es → IsAnchor
 anchor-one-by a b es p h k true e = same_edge-true a b e
 anchor-one-by a b es p h k false e =
     let i : In b (others a es) = into-filter (λ (t : Edge). not (same_edge a t)) es b k.member (ap not e) in
-    let f : same_edge b a ≡ false = false-if-never (same_edge b a) (λ z. let q = same_edge-true b a z in let r = ap (λ w. same_edge a w) q in let s = same_edge-refl a in cc (sym s ∙ sym r ∙ e)) in
+    let f : same_edge b a ≡ false = false_from_ne_true (same_edge b a) (λ z. let q = same_edge-true b a z in let r = ap (λ w. same_edge a w) q in let s = same_edge-refl a in cc (sym s ∙ sym r ∙ e)) in
     let j : In a (others b es) = into-filter (λ (t : Edge). not (same_edge b t)) es a h.member (ap not f) in
     let n = neither-way (order a.from b.from) (h.least b k.member) (λ z. k.least a h.member (order-reversed a.from b.from ∙ z)) in
     let q = order-null a.from b.from n in

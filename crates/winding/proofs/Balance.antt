@@ -11,27 +11,20 @@ use Rattle.plane.specs.Sign.{Minus, Null, Plus, Sign, is_null, is_plus, negated,
 use Rattle.plane.specs.Vector.{IsDirection, Vector, cross, dot, east, from_to, one_at, same_point}
 use Rattle.winding.specs.ConflictFree.{IsConflictFree, others}
 use Rattle.winding.specs.EdgeList.{IsBalanced, IsEvenAtPoints, crossing_count}
-use Rattle.winding.specs.Member.{In}
+use Rattle.lists.specs.Member.{In}
 use Rattle.winding.specs.Node.{away, spokes, spokes_in}
 use Rattle.winding.specs.OddSide.{directed, directed_edge, runs_up}
 use Rattle.winding.specs.Parity.{is_even}
 use Rattle.winding.specs.Rank.{IsOrder}
-use Rattle.plane.proofs.Bools.{not-not}
-use Rattle.plane.proofs.Conflicts.{clear_misses}
-use Rattle.plane.proofs.Edges.{edge_of}
-use Rattle.plane.proofs.FreeSegments.{misses_reversed}
-use Rattle.plane.proofs.Identities.{lift, same, ◌⊠◌}
-use Rattle.plane.proofs.PointOrder.{order-reversed, order-self-null, rising-direction}
-use Rattle.plane.proofs.Points.{same_point-true}
-use Rattle.plane.proofs.Products.{cross-agree, cross-reversed, cross-self, direction-back, dot-east, dot2, lift2, plucker-agree, plucker-dot-agree}
-use Rattle.plane.proofs.RayCrossings.{cross-east, east-direction, sector-east}
-use Rattle.plane.proofs.Signs.{agree, agree-products, all, all-out, all2, all2-out, all4, all4-out, imp, imp-out, same_bool, same_bool-true, sign-reversed, times, times-plus}
+use Rattle.lists.proofs.Bools.{not-not}
+use Rattle.plane.proofs.PlaneKit.{clear_misses, edge_of, misses_reversed, order-reversed, order-self-null, rising-direction, same_point-true, cross-agree, cross-reversed, cross-self, direction-back, dot-east, dot2, frame-agree, frame-dot-agree, lift2, plucker-agree, plucker-dot-agree, cross-east, east-direction, sector-east}
+use Rattle.plane.proofs.SignKit.{lift, same, ◌⊠◌, agree, agree-products, all, all-out, all2, all2-out, all4, all4-out, imp, imp-out, same_bool, same_bool-true, sign-reversed, times, times-back, times-plus, bit-same}
 use Rattle.winding.proofs.ConflictFree.{off_away, rising_in, split_off}
-use Rattle.winding.proofs.Members.{in-filter, in-passes, pairs-filter, pairs-weaker, total-filter, total-same}
+use Rattle.lists.proofs.Members.{in-filter, in-passes, pairs-filter, pairs-weaker, total-filter, total-same}
 use Rattle.winding.proofs.OddSides.{differ-parity, no_same_way_from, no_same_way_to, runs_from, runs_to, same-parity, spokes-is}
 use Rattle.winding.proofs.Ranks.{evens, halves, odds, rank', rank-parity-own}
 use Rattle.winding.proofs.RoundNode.{parity_round_node}
-use Rattle.winding.proofs.Sums.{total, total-is, total-map}
+use Rattle.lists.proofs.Sums.{total, total-is, total-map}
 
 -- ---- directions in the order of their angles, from east counterclockwise
 abbrev pub turns_to : Vector → Vector → Bool
@@ -47,6 +40,16 @@ turns-bit a b = eqb-true _ _ (all-out (λ e. eqb (bit (eqb (sector_by (sign (dot
 -- the signs of two vectors' coordinates and of their cross product
 abbrev pub crossed : Sign → Sign → Sign → Sign → Sign → Bool
 crossed ax ay bx by k = agree k (times ay bx) (times ax by)
+
+-- a turn is told by signs, seen from any direction d
+pub crossed-at : (d a b : Vector) → IsDirection d → crossed (sign (dot d a)) (sign (cross d a)) (sign (dot d b)) (sign (cross d b)) (sign (cross a b)) ≡ true
+crossed-at d a b p =
+    let k = sign (cross a b) in let ay = sign (cross d a) in let bx = sign (dot d b) in
+    subst (λ s. agree s (times ay bx) (times (sign (dot d a)) (sign (cross d b))) ≡ true) (times-plus k)
+    (subst (λ s. agree (times Plus k) s (times (sign (dot d a)) (sign (cross d b))) ≡ true) (times-back bx ay) (frame-agree d a b p))
+
+pub dot-at : (d a b : Vector) → IsDirection d → agree (times (sign (dot d a)) (sign (dot d b))) (times (sign (cross d a)) (sign (cross d b))) (sign (dot a b)) ≡ true
+dot-at d a b p = subst (λ s. agree (times (sign (dot d a)) (sign (dot d b))) (times (sign (cross d a)) (sign (cross d b))) s ≡ true) (times-plus (sign (dot a b))) (frame-dot-agree d a b p)
 
 abbrev chain_4 : Sign → Sign → Sign → Sign → Sign → Sign → Sign → Sign → Sign → Bool
 chain_4 ax ay bx by cx cy k l m =
@@ -333,12 +336,6 @@ own-way-by x y h = eqb-true _ _ (imp-out _ _ (all2-out (λ x y. imp (not (is_nul
 pub own-way : (a : Vector) → is_set a ≡ true → in_sector east a a ≡ 1
 own-way a s = sector-east a a ∙ ap (λ z. sector_by (sign a.x) (sign a.y) (sign a.x) (sign a.y) (sign z)) (cross-self a) ∙ own-way-by (sign a.x) (sign a.y) s
 
-pub bit-back : (b c : Bool) → bit b ≡ bit c → b ≡ c
-bit-back true true h = refl
-bit-back false false h = refl
-bit-back true false h = absurd (omega arith)
-bit-back false true h = absurd (omega arith)
-
 pub leaves_by_count : (v : Vector) (s : Edge) (es : List Edge) → IsConflictFree es → IsEvenAtPoints es → In s es → ends_at v s ≡ true →
     same_point v (directed_edge es s).from ≡ is_even (crossing_count east v (away v es) + spokes_in east (way v s) v (others s es))
 leaves_by_count v s es p even i h =
@@ -347,4 +344,4 @@ leaves_by_count v s es p even i h =
     let o : f s ≡ 1 = ap (λ b. cond b (in_sector east w w) 0) h ∙ own-way w (way-set v s h (rising_in es s p i)) in
     let l = parity_round_node east w v es east-direction (way-direction v s h (rising_in es s p i)) even (off_away v s es p i h) in
     let k = (leaves v s es p even i).0 ∙ ap (λ b. cond b (odds (out_count v es s)) 0) h in
-    bit-back _ _ k ∙ sym (differ-parity (crossing_count east v (away v es) + spokes_in east w v (others s es)) (out_count v es s) (omega arith))
+    bit-same _ _ k ∙ sym (differ-parity (crossing_count east v (away v es) + spokes_in east w v (others s es)) (out_count v es s) (omega arith))

@@ -6,14 +6,13 @@ use Rattle.plane.specs.FreeSegment.{Misses}
 use Rattle.plane.specs.RayCrossing.{IsOffEdge}
 use Rattle.plane.specs.Vector.{Vector, same_point}
 use Rattle.winding.specs.ConflictFree.{IsConflictFree, others}
-use Rattle.winding.specs.Member.{EachPair, In}
+use Rattle.lists.specs.Member.{EachPair, In}
 use Rattle.winding.specs.Node.{away}
-use Rattle.plane.proofs.Bools.{not-true-out}
-use Rattle.plane.proofs.Conflicts.{clear_back, clear_differs, clear_misses, clear_off_from, clear_off_to}
-use Rattle.plane.proofs.Edges.{same_edge-refl, same_edge-true}
-use Rattle.plane.proofs.Points.{same_point-true}
-use Rattle.winding.proofs.Members.{all-in, in-all, in-filter, in-passes, total-filter, total-same}
-use Rattle.winding.proofs.Sums.{total}
+use Rattle.lists.proofs.Bools.{not-true-out}
+use Rattle.plane.proofs.PlaneKit.{clear_back, clear_differs, clear_misses, clear_off_from, clear_off_to, same_edge-refl, same_edge-true, same_point-true}
+use Rattle.lists.proofs.Members.{all-in, in-all, in-filter, in-passes, total-filter, total-same}
+use Rattle.lists.proofs.Sums.{total}
+use Rattle.std.proofs.lemmas.Bool.{or_parts}
 
 one-of : (f : Edge → ℕ) (s : Edge) (b : Bool) → b ≡ false → cond (not b) (f s) 0 ≡ f s
 one-of f s b h = ap (λ b. cond (not b) (f s) 0) h
@@ -58,21 +57,16 @@ pub misses_others : (s : Edge) (es : List Edge) → IsConflictFree es → In s e
 misses_others s es p i = all-in (Misses s.from s.to) (others s es)
     (λ t j. clear_misses s t (rising_in es s p i) (rising_in es t p (in-filter (λ (t : Edge). not (same_edge s t)) es t j)) (clear_of_others s t es p i j))
 
--- an end of an edge is off the edges that do not end there
-pub or-false-out : (a b : Bool) → (a || b) ≡ false → (a ≡ false) × (b ≡ false)
-or-false-out true b h = absurd (cc h)
-or-false-out false b h = (refl, h)
-
 differ-at : (v : Vector) (s t : Edge) → ends_at v s ≡ true → ends_at v t ≡ false → (b : Bool) → same_edge s t ≡ b → b ≡ false
 differ-at v s t h k false e = refl
 differ-at v s t h k true e = let g = ap (ends_at v) (same_edge-true s t e) in absurd (cc (sym h ∙ g ∙ k))
 
 off-end : (v : Vector) (s t : Edge) (b c : Bool) → same_point v s.from ≡ b → same_point v s.to ≡ c → (b || c) ≡ true → IsRising t → IsClearOf s t → ends_at v t ≡ false → IsOffEdge v t
 off-end v s t true c h k o r n e =
-    let f = or-false-out (same_point v t.from) (same_point v t.to) e in let q = same_point-true v s.from h in
+    let f = or_parts (same_point v t.from) (same_point v t.to) e in let q = same_point-true v s.from h in
     subst (λ w. IsOffEdge w t) (sym q) (clear_off_from s t r n (ap (λ w. same_point w t.from) (sym q) ∙ f.0) (ap (λ w. same_point w t.to) (sym q) ∙ f.1))
 off-end v s t false true h k o r n e =
-    let f = or-false-out (same_point v t.from) (same_point v t.to) e in let q = same_point-true v s.to k in
+    let f = or_parts (same_point v t.from) (same_point v t.to) e in let q = same_point-true v s.to k in
     subst (λ w. IsOffEdge w t) (sym q) (clear_off_to s t r n (ap (λ w. same_point w t.from) (sym q) ∙ f.0) (ap (λ w. same_point w t.to) (sym q) ∙ f.1))
 off-end v s t false false h k o r n e = absurd (cc o)
 

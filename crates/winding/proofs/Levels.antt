@@ -15,31 +15,24 @@ use Rattle.plane.specs.Sign.{Minus, Null, Plus, Sign, is_minus, is_null, is_plus
 use Rattle.plane.specs.Vector.{IsDirection, Vector, cross, dot, east, from_to, orient, same_point}
 use Rattle.winding.specs.ConflictFree.{IsConflictFree, others}
 use Rattle.winding.specs.EdgeList.{IsEvenAtPoints, crossing_count, down_count, up_count, winding_number}
-use Rattle.winding.specs.Member.{In}
+use Rattle.lists.specs.Member.{In}
 use Rattle.winding.specs.Node.{away}
 use Rattle.winding.specs.OddSide.{directed, directed_edge, runs_up}
 use Rattle.winding.specs.Parity.{is_even}
 use Rattle.winding.specs.Rank.{IsOrder}
-use Rattle.plane.proofs.Bools.{and-in, and-out}
-use Rattle.plane.proofs.Conflicts.{clear_differs, clear_misses}
-use Rattle.plane.proofs.Edges.{edge_of, ends_at-from}
-use Rattle.plane.proofs.Heights.{right_chain, right_either, right_itself, right_of, step_of, tall-by, zero-part}
-use Rattle.plane.proofs.Identities.{apart, lift, same, ◌⊞◌, ◌⊟◌, ◌⊠◌}
-use Rattle.plane.proofs.PointOrder.{line-order-up, rising-direction}
-use Rattle.plane.proofs.Points.{same_point-true}
-use Rattle.plane.proofs.Products.{cross-agree, cross-negated, cross-self, cross2, from_to2, lift2, orient-round, side-moves}
-use Rattle.plane.proofs.RayCrossings.{at-end-by, crossings-left, crossings_at, down_seen, east-direction, east-side, left-signs, rise-y, sector-east, up_seen}
-use Rattle.plane.proofs.Signs.{agree, agree-sum, all, all-out, all2, all2-out, all4-out, both, imp, imp-out, is_plus-true, left-out, not-minus-by, not-null-by, null-zero, plus-times, right-out, same-out, self-diff, sign-reversed, times}
-use Rattle.plane.proofs.Views.{View, view_weighted, weigh}
+use Rattle.std.proofs.lemmas.Bool.{and_from, and_parts}
+use Rattle.plane.proofs.PlaneKit.{clear_differs, clear_misses, edge_of, ends_at-from, right_chain, right_either, right_itself, right_of, step_of, tall-by, zero-part, line-order-up, rising-direction, same_point-true, cross-agree, cross-negated, cross-self, cross2, from_to2, lift2, orient-round, side-moves, at-end-by, crossings-left, crossings_at, down_seen, east-direction, east-side, left-signs, rise-y, sector-east, up_seen, View, view_weighted, weigh}
+use Rattle.plane.proofs.SignKit.{apart, lift, same, ◌⊞◌, ◌⊟◌, ◌⊠◌, agree, agree-sum, all, all-out, all2, all2-out, all4-out, both, imp, imp-out, is_plus-true, left-out, not-minus-by, not-null-by, null-zero, plus-times, right-out, same-out, self-diff, sign-reversed, times, minus-not-null, not-null-negated, bit-and_no}
 use Rattle.winding.proofs.AlongSegment.{along_from, off_all}
 use Rattle.winding.proofs.Balance.{agree-dot, length-total}
 use Rattle.winding.proofs.ConflictFree.{misses_others, off_away, rising_in, split_off}
 use Rattle.winding.proofs.Independence.{IsOffSeen, count-is, even-at-ends, in_sector_seen, sector_sum, total-ends}
-use Rattle.winding.proofs.Members.{in-all, in-filter, in-passes, into-filter, pairs-filter, pairs-weaker, total-filter, total-same}
+use Rattle.lists.proofs.Members.{in-all, in-filter, in-passes, into-filter, pairs-filter, pairs-weaker, total-filter, total-same}
 use Rattle.winding.proofs.OddSides.{differ-parity, no_same_way_from, runs_from}
 use Rattle.winding.proofs.OppositeEnds.{away-others, off-others}
 use Rattle.winding.proofs.Ranks.{evens, odds, rank', rank-parity}
-use Rattle.winding.proofs.Sums.{total, total-+, total-is, total-map}
+use Rattle.lists.proofs.Sums.{total, total-+, total-is, total-map, cond_none}
+use Rattle.lists.proofs.Integers.{same_from_difference}
 
 -- ---- an edge whose lower end is below the height: seen from its point at the height
 module _ (p a b : Vector) (lo : sign (a.y -ℤ p.y) ≡ Minus) (hi : sign (b.y -ℤ p.y) ≡ Plus) where
@@ -201,9 +194,6 @@ level-mix D W x dy Z Cf Ce e f g =
       apart (D' ⊠ (W' ⊞ Z')) (D' ⊠ Cf') (ap (λ (k : ℤ). D *ℤ k) g),
     ))
 
-same-height : (a b : ℤ) → a -ℤ b ≡ pos 0 → a ≡ b
-same-height a b h = omega (arith, ints)
-
 no-and : (x : Bool) → (x && false) ≡ true → ⊥
 no-and true h = cc h
 no-and false h = cc h
@@ -223,12 +213,9 @@ plus-negated Plus = refl
 plus-negated Null = refl
 plus-negated Minus = refl
 
-minus-not-null : (s : Sign) → s ≡ Minus → s ≡ Null → ⊥
-minus-not-null s h k = cc (sym h ∙ k)
-
 module _ (p : Vector) (e : Edge) (es : List Edge) (pl : IsConflictFree es) (i : In e es) (lo : sign (e.from.y -ℤ p.y) ≡ Null) (hi : sign (e.to.y -ℤ p.y) ≡ Plus) where
   level : e.from.y ≡ p.y
-  level = same-height e.from.y p.y (null-zero (e.from.y -ℤ p.y) lo)
+  level = same_from_difference e.from.y p.y (null-zero (e.from.y -ℤ p.y) lo)
 
   pub e-tall : sign (e.to.y -ℤ e.from.y) ≡ Plus
   e-tall = subst (λ z. sign (e.to.y -ℤ z) ≡ Plus) (sym level) hi
@@ -314,11 +301,6 @@ set-second Plus l h = refl
 set-second Minus l h = refl
 set-second Null l h = h refl
 
-negated-null : (s : Sign) → not (is_null s) ≡ true → not (is_null (negated s)) ≡ true
-negated-null Plus h = refl
-negated-null Minus h = refl
-negated-null Null h = h
-
 module _ (p : Vector) (e f : Edge) (es : List Edge) (pl : IsConflictFree es) (i : In e es) (j : In f es) (n : IsClearOf e f) (s : is_in_span p f ≡ true) where
   other : In f (others e es)
   other = into-filter (λ (t : Edge). not (same_edge e t)) es f j (ap not (clear_differs e f (rising_in es e pl i) n))
@@ -340,7 +322,7 @@ module _ (p : Vector) (e f : Edge) (es : List Edge) (pl : IsConflictFree es) (i 
       let r : order a v ≡ Plus = subst (λ w. order w v ≡ Plus) (sym q) rf in
       let m : Misses a b (edge_of a v) = subst (λ w. Misses a b (edge_of w v)) (sym q) (clear_misses e f re rf n) in
       let g = not-null-by (sign (cross (from_to a b) (from_to a v))) (λ z. no_same_way_from a b v (rising-direction a b re) m z (line-order-up a b a v re z ∙ r)) in
-      subst (λ (w : Vector). not (is_null (sign (cross (from_to w v) (from_to a b)))) ≡ true) q (subst (λ z. not (is_null z) ≡ true) (sym (cross-negated (from_to a b) (from_to a v))) (negated-null _ g))
+      subst (λ (w : Vector). not (is_null (sign (cross (from_to w v) (from_to a b)))) ≡ true) q (subst (λ z. not (is_null z) ≡ true) (sym (cross-negated (from_to a b) (from_to a v))) (not-null-negated _ g))
   ends-cases false true h k lo hi o =
       let q = same_point-true e.from f.to k in
       let s' = span-level p e es pl i lo hi f ∙ s in
@@ -370,7 +352,7 @@ abbrev pub crossing_by : Vector → List Edge → List Edge
 crossing_by p es = filter (is_left_of p) es
 
 pub left-span : (p : Vector) (t : Edge) → is_left_of p t ≡ true → is_in_span p t ≡ true
-left-span p t h = (and-out (is_in_span p t) (is_plus (orient t.from t.to p)) h).0
+left-span p t h = (and_parts (is_in_span p t) (is_plus (orient t.from t.to p)) h).0
 
 abbrev still_left : Sign → Sign → Bool
 still_left k l = all λ c. imp (agree k (times Plus Plus) (times Plus c)) λ _. imp (is_plus (then_sign k l)) λ _. is_plus c
@@ -379,10 +361,10 @@ still_left k l = all λ c. imp (agree k (times Plus Plus) (times Plus c)) λ _. 
 pub right_left : (p : Vector) (e f : Edge) → is_left_of p e ≡ true → is_in_span p f ≡ true → right_of p e f ≡ true → is_left_of p f ≡ true
 right_left p e f h s r =
     let k = sign (cross (distance_right p e) (distance_right p f)) in let l = sign (cross (step_of f) (step_of e)) in
-    let ce : sign (cross (from_to p e.from) (from_to p e.to)) ≡ Plus = ap sign (sym (orient-round p e.from e.to)) ∙ is_plus-true (orient e.from e.to p) (and-out (is_in_span p e) (is_plus (orient e.from e.to p)) h).1 in
+    let ce : sign (cross (from_to p e.from) (from_to p e.to)) ≡ Plus = ap sign (sym (orient-round p e.from e.to)) ∙ is_plus-true (orient e.from e.to p) (and_parts (is_in_span p e) (is_plus (orient e.from e.to p)) h).1 in
     let a = rw (tall-by p e (left-span p e h), tall-by p f s, ce) at (cross-agree (distance_right p e) (distance_right p f)) in
     let c = all-out (λ c. imp (agree k (times Plus Plus) (times Plus c)) λ _. imp (is_plus (then_sign k l)) λ _. is_plus c) (all2-out still_left refl k l) (sign (cross (from_to p f.from) (from_to p f.to))) in
-    and-in (is_in_span p f) (is_plus (orient f.from f.to p)) s (ap (λ z. is_plus (sign z)) (orient-round p f.from f.to) ∙ imp-out _ _ (imp-out _ _ c a) r)
+    and_from (is_in_span p f) (is_plus (orient f.from f.to p)) s (ap (λ z. is_plus (sign z)) (orient-round p f.from f.to) ∙ imp-out _ _ (imp-out _ _ c a) r)
 
 pub kept-by : (x s r : Bool) → (x ≡ true → s ≡ true) → (s ≡ true → r ≡ true → x ≡ true) → cond x (bit r) 0 ≡ bit (s && r)
 kept-by true true r h k = refl
@@ -412,12 +394,8 @@ spanning-order p es pl = record {
       (pairs-filter IsClearOf (is_in_span p) es pl.clear);
 }
 
-own-by : (s r : Bool) → r ≡ false → bit (s && r) ≡ 0
-own-by true r h = ap bit h
-own-by false r h = refl
-
 own-right : (p : Vector) (e : Edge) → to_right p e e ≡ 0
-own-right p e = own-by (is_in_span p e) (right_of p e e) (right_itself p e)
+own-right p e = bit-and_no (is_in_span p e) (right_of p e e) (right_itself p e)
 
 crossing-rank : (p : Vector) (e : Edge) (es : List Edge) → IsConflictFree es → IsEvenAtPoints es → In e (crossing_by p es) → rank' (right_of p) (crossing_by p es) e ≡ total (to_right p e) (others e es)
 crossing-rank p e es pl even i =
@@ -448,10 +426,6 @@ fourth false b c d h = absurd (cc h)
 fourth true false c d h = absurd (cc h)
 fourth true true false d h = absurd (cc h)
 
-cond-same : (b : Bool) → cond {A = ℕ} b 0 0 ≡ 0
-cond-same true = refl
-cond-same false = refl
-
 module _ (p : Vector) (t : Edge) (r : IsRising t) where
   abbrev yu : Sign
   yu = sign (t.from.y -ℤ p.y)
@@ -478,12 +452,12 @@ module _ (p : Vector) (t : Edge) (r : IsRising t) where
   up-run true = rw (east-side (from_to p t.from), east-side (from_to p t.to)) (eqb-true _ _ (left-out _ _ run-out) ∙ left-is)
   up-run false =
       rw (east-side (from_to p t.from), east-side (from_to p t.to), turn-back)
-      (eqb-true _ _ (left-out _ _ (right-out _ _ (right-out _ _ run-out))) ∙ sym (cond-same (is_left_of p t)))
+      (eqb-true _ _ (left-out _ _ (right-out _ _ (right-out _ _ run-out))) ∙ sym (cond_none (is_left_of p t)))
 
   pub down-run : (b : Bool) → down_seen east (from_to p) (cond b t (reversed t)) ≡ cond (is_left_of p t) (bit (not b)) 0
   down-run true =
       rw (east-side (from_to p t.from), east-side (from_to p t.to))
-      (eqb-true _ _ (left-out _ _ (right-out _ _ run-out)) ∙ sym (cond-same (is_left_of p t)))
+      (eqb-true _ _ (left-out _ _ (right-out _ _ run-out)) ∙ sym (cond_none (is_left_of p t)))
   down-run false =
       rw (east-side (from_to p t.from), east-side (from_to p t.to), turn-back)
       (eqb-true _ _ (fourth (eqb (up_by yu yv turn) left') (eqb (down_by yu yv turn) 0) (eqb (up_by yv yu (negated turn)) 0) (eqb (down_by yv yu (negated turn)) left') run-out) ∙ left-is)

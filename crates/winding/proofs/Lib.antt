@@ -1,19 +1,21 @@
-pub mod AlongSegment
-pub mod Anchors
-pub mod Balance
-pub mod ConflictFree
-pub mod Counts
-pub mod Examples
-pub mod Independence
-pub mod Levels
-pub mod Members
-pub mod OddSides
-pub mod OppositeEnds
-pub mod OwnEdge
-pub mod Ranks
-pub mod RingCounts
-pub mod RoundNode
-pub mod ScaledLists
-pub mod Shifts
-pub mod SidedLists
-pub mod Sums
+mod AlongSegment
+mod Anchors
+mod Balance
+mod ConflictFree
+mod Counts
+mod Examples
+mod Independence
+mod Levels
+mod OddSides
+mod OppositeEnds
+mod OwnEdge
+mod Paths
+mod Ranks
+mod RingCounts
+mod RoundNode
+mod ScaledLists
+mod ScaledSides
+mod Shifts
+mod SidedLists
+mod Sums
+pub mod WindingKit

@@ -8,20 +8,14 @@ use Rattle.plane.specs.Sector.{in_sector}
 use Rattle.plane.specs.Vector.{Vector, from_to}
 use Rattle.winding.specs.ConflictFree.{IsConflictFree, others}
 use Rattle.winding.specs.EdgeList.{IsEvenAtPoints, crossing_count}
-use Rattle.winding.specs.Member.{In}
+use Rattle.lists.specs.Member.{In}
 use Rattle.winding.specs.Node.{away}
-use Rattle.plane.proofs.Edges.{ends_at-from, ends_at-to}
-use Rattle.plane.proofs.FreeSegments.{misses_reversed}
-use Rattle.plane.proofs.PointOrder.{rising-direction}
-use Rattle.plane.proofs.Products.{direction-back}
-use Rattle.plane.proofs.RayCrossings.{crossings_at}
-use Rattle.plane.proofs.Sectors.{opposite-in, own-out}
-use Rattle.plane.proofs.Views.{mid, mid-first, mid-last, mid_reversed, view_mid}
+use Rattle.plane.proofs.PlaneKit.{ends_at-from, ends_at-to, misses_reversed, rising-direction, direction-back, crossings_at, opposite-in, own-out, mid, mid-first, mid-last, mid_reversed, view_mid}
 use Rattle.winding.proofs.AlongSegment.{along_from, off_all}
 use Rattle.winding.proofs.ConflictFree.{misses_others, off_away, rising_in, split_off}
 use Rattle.winding.proofs.Independence.{count-is, crossing_count_seen, even-at-ends, in_sector_seen, sector_sum, total-ends}
-use Rattle.winding.proofs.Members.{all-in, in-all, in-filter, in-passes, into-filter, total-filter}
-use Rattle.winding.proofs.Sums.{total, total-+, total-is}
+use Rattle.lists.proofs.Members.{all-in, in-all, in-filter, in-passes, into-filter, total-filter}
+use Rattle.lists.proofs.Sums.{total, total-+, total-is}
 
 abbrev pub beyond : Vector → Vector → Edge → ℕ
 beyond d v t = cond (not (ends_at v t)) (crossings_at d (from_to v) t) 0

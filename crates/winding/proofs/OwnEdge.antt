@@ -8,16 +8,13 @@ use Rattle.plane.specs.Sign.{Minus, Null, Plus, Sign, negated, sign}
 use Rattle.plane.specs.Vector.{IsDirection, Vector, cross, dot, from_to}
 use Rattle.winding.specs.ConflictFree.{IsConflictFree, others}
 use Rattle.winding.specs.EdgeList.{IsEvenAtPoints, crossing_count}
-use Rattle.winding.specs.Member.{In}
-use Rattle.plane.proofs.FreeSegments.{down_compute, up_compute}
-use Rattle.plane.proofs.PointOrder.{rising-direction}
-use Rattle.plane.proofs.Products.{cross-here, cross-self, dot-chain, dot-here, frame-agree, frame-dot-agree}
-use Rattle.plane.proofs.Signs.{agree, all, all-out, all2-out, imp, imp-out, same_sign, same_sign-true, sign-reversed, times, times-plus}
-use Rattle.plane.proofs.Views.{view_at}
+use Rattle.lists.specs.Member.{In}
+use Rattle.plane.proofs.PlaneKit.{down_compute, up_compute, rising-direction, cross-here, cross-self, dot-chain, dot-here, frame-agree, frame-dot-agree, view_at}
+use Rattle.plane.proofs.SignKit.{agree, all, all-out, all2-out, imp, imp-out, same_sign, same_sign-true, sign-reversed, times, times-plus}
 use Rattle.winding.proofs.AlongSegment.{off_all, same_crossings}
 use Rattle.winding.proofs.ConflictFree.{misses_others, rising_in, split_off}
 use Rattle.winding.proofs.Independence.{count-is, even-at-ends, in_sector_seen, sector_sum, total-ends}
-use Rattle.winding.proofs.Sums.{total-+}
+use Rattle.lists.proofs.Sums.{total-+}
 
 agree-same : (c b m : Sign) → agree c m Null ≡ true → agree b m Null ≡ true → c ≡ b
 agree-same c b m h k =

@@ -3,12 +3,12 @@ use Rattle.std.proofs.Common.{Bool, List, [], ap, arith, eqb, false, inl, inr, l
 use Rattle.std.proofs.lemmas.Bool.{cases_lt, le-leb, lt-leb}
 use Rattle.std.specs.List.{count_by, sum_by}
 use Rattle.plane.specs.Bit.{bit}
-use Rattle.winding.specs.Member.{In}
+use Rattle.lists.specs.Member.{In}
 use Rattle.winding.specs.Parity.{is_even}
 use Rattle.winding.specs.Rank.{IsOrder, rank, sum_from}
-use Rattle.plane.proofs.Bools.{not-not}
-use Rattle.winding.proofs.Members.{in-all, total-below, total-less, total-same}
-use Rattle.winding.proofs.Sums.{total, total-is}
+use Rattle.lists.proofs.Bools.{not-not, true_from_not}
+use Rattle.lists.proofs.Members.{in-all, total-below, total-less, total-same}
+use Rattle.lists.proofs.Sums.{total, total-is}
 
 abbrev pub rank' : {X : Type 0} → (X → X → Bool) → List X → X → ℕ
 rank' above xs x = total (λ y. bit (above x y)) xs
@@ -196,14 +196,10 @@ first-tail : {X : Type 0} (above : X → X → Bool) (x : X) (xs : List X) (m : 
 first-tail above x xs m f h y (inl e) = inr (subst (λ w. above m w ≡ true) (sym e) h)
 first-tail above x xs m f h y (inr i) = f.first y i
 
-false-other : (a b : Bool) → a ≡ not b → a ≡ false → b ≡ true
-false-other a true h k = refl
-false-other a false h k = absurd (cc (sym h ∙ k))
-
 first-step : {X : Type 0} (above : X → X → Bool) (x : X) (xs : List X) (m : X) → IsOrder false above (x ∷ xs) → First above m xs → (b : Bool) → above x m ≡ b → (m : X) × First above m (x ∷ xs)
 first-step above x xs m o f true h = (x, record { here = inl refl; first = first-head above x xs m o f h })
 first-step above x xs m o f false h =
-    (m, record { here = inr f.here; first = first-tail above x xs m f (false-other (above x m) (above m x) (in-all (λ y. above x y ≡ not (above y x)) xs m o.either.0 f.here) h) })
+    (m, record { here = inr f.here; first = first-tail above x xs m f (true_from_not (above x m) (above m x) (in-all (λ y. above x y ≡ not (above y x)) xs m o.either.0 f.here) h) })
 
 strict-tail-order : {X : Type 0} (above : X → X → Bool) (x : X) (xs : List X) → IsOrder false above (x ∷ xs) → IsOrder false above xs
 strict-tail-order above x xs o = record {

@@ -8,17 +8,16 @@ use Rattle.plane.specs.Sign.{Null, Sign, is_plus, negated, sign}
 use Rattle.plane.specs.Vector.{Vector, cross, east, from_to, one_at, same_point}
 use Rattle.winding.specs.ConflictFree.{IsConflictFree}
 use Rattle.winding.specs.EdgeList.{IsEvenAtPoints, crossing_count, down_count, up_count}
-use Rattle.winding.specs.Member.{EachPair, In}
+use Rattle.lists.specs.Member.{EachPair, In}
 use Rattle.winding.specs.OddSide.{directed, directed_edge, runs_up}
 use Rattle.winding.specs.Ring.{IsPath, IsRing, segments_of}
-use Rattle.plane.proofs.Points.{same_point-true}
-use Rattle.plane.proofs.Products.{cross-negated}
-use Rattle.plane.proofs.RayCrossings.{crossings_at, down_seen, up_seen}
-use Rattle.plane.proofs.Signs.{all4-out, both, left-out, right-out, same_bool}
-use Rattle.winding.proofs.Balance.{bit-back, directed_balanced}
+use Rattle.plane.proofs.PlaneKit.{same_point-true, cross-negated, crossings_at, down_seen, up_seen}
+use Rattle.plane.proofs.SignKit.{all4-out, both, left-out, right-out, same_bool, bit-same}
+use Rattle.winding.proofs.Balance.{directed_balanced}
 use Rattle.winding.proofs.Levels.{signed_parity}
-use Rattle.winding.proofs.Members.{in-all, total-same}
-use Rattle.winding.proofs.Sums.{at-self, total, total-+, total-is, total-map}
+use Rattle.lists.proofs.Members.{in-all, total-same}
+use Rattle.lists.proofs.Sums.{total, total-+, total-is, total-map, both_conds}
+use Rattle.winding.proofs.Sums.{at-self}
 
 pub total-member : {X : Type 0} (g : X → ℕ) (xs : List X) (f : X) → In f xs → g f ≤ total g xs
 total-member g [] f i = absurd i
@@ -81,10 +80,6 @@ to-by : (v : Vector) (k : Bool) (e : Edge) → one_at v (cond k e (reversed e)).
 to-by v true e = omega arith
 to-by v false e = omega arith
 
-whole-by : (k : Bool) (n : ℕ) → cond k n 0 + cond k 0 n ≡ n
-whole-by true n = omega arith
-whole-by false n = omega arith
-
 one-by : (k : Bool) (n : ℕ) → n ≡ 1 → (cond k n 0 ≡ bit k) × (cond k 0 n ≡ bit (not k))
 one-by true n h = (h, refl)
 one-by false n h = (refl, h)
@@ -105,15 +100,15 @@ next-keeps es r p e f i j q =
     let a' = total-same (λ (x : Edge). one_at v (directed_edge (segments_of es) (segment_of x)).from) (λ x. A x + B x) es (λ x i. ap (λ (d : Edge). one_at v d.from) (direct-is es x) ∙ from-by v (k x) x) in
     let b' = total-same (λ (x : Edge). one_at v (directed_edge (segments_of es) (segment_of x)).to) (λ x. C x + D x) es (λ x i. ap (λ (d : Edge). one_at v d.to) (direct-is es x) ∙ to-by v (k x) x) in
     let s1 = total-+ A B es in let s2 = total-+ C D es in let s3 = total-+ A D es in let s4 = total-+ C B es in
-    let t1 = total-same (λ x. A x + D x) (λ (x : Edge). one_at v x.from) es (λ x i. whole-by (k x) (one_at v x.from)) in
-    let t2 = total-same (λ x. C x + B x) (λ (x : Edge). one_at v x.to) es (λ x i. whole-by (k x) (one_at v x.to)) in
+    let t1 = total-same (λ x. A x + D x) (λ (x : Edge). one_at v x.from) es (λ x i. both_conds (k x) (one_at v x.from)) in
+    let t2 = total-same (λ x. C x + B x) (λ (x : Edge). one_at v x.to) es (λ x i. both_conds (k x) (one_at v x.to)) in
     let most = once-most v es r.once in let same = ring-balanced es r v in
     let here : one_at v f.from ≡ 1 = ap (λ w. one_at v w) q ∙ at-self v in let there : one_at v e.to ≡ 1 = at-self v in
     let m1 = total-member A es f j in let m2 = total-member D es f j in let m3 = total-member C es e i in let m4 = total-member B es e i in
     let o = one-by (k f) (one_at v f.from) here in let u = one-by (k e) (one_at v e.to) there in
     let o0 = o.0 in let o1 = o.1 in let u0 = u.0 in let u1 = u.1 in
     let w = bit-sum (k f) in let w' = bit-sum (k e) in
-    bit-back (k f) (k e) (omega arith)
+    bit-same (k f) (k e) (omega arith)
 
 along : (es : List Edge) → IsRing es → IsConflictFree (segments_of es) → (e : Edge) → In e es → (a b : Vector) (xs : List Edge) → IsPath a xs b → e.to ≡ a → ((x : Edge) → In x xs → In x es) →
     (x : Edge) → In x xs → keeps es x ≡ keeps es e

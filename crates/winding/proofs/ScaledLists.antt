@@ -1,5 +1,5 @@
 -- Nothing changes where a list is multiplied by a positive number.
-use Rattle.std.proofs.Common.{Bool, List, [], ap, arith, cond, false, inl, inr, map, not, refl, subst, sym, true, ◌%◌, ◌+◌, ◌∙◌, ◌∷◌, ◌≡◌}
+use Rattle.std.proofs.Common.{Bool, List, [], ap, arith, cond, false, inl, inr, not, refl, subst, sym, true, ◌%◌, ◌+◌, ◌∙◌, ◌∷◌, ◌≡◌}
 use Rattle.std.specs.List.{count_by}
 use lib.IntN.{pos, ℤ}
 use Rattle.plane.specs.Bit.{bit}
@@ -11,25 +11,18 @@ use Rattle.plane.specs.Sign.{Plus, sign}
 use Rattle.plane.specs.Vector.{Vector, east, one_at}
 use Rattle.winding.specs.ConflictFree.{IsConflictFree, others}
 use Rattle.winding.specs.EdgeList.{IsEvenAtPoints, crossing_count, winding_number}
-use Rattle.winding.specs.Member.{EachPair, In}
+use Rattle.lists.specs.Member.{EachPair, In}
 use Rattle.winding.specs.OddSide.{directed, directed_edge, odd_side_count, runs_up}
 use Rattle.winding.specs.Parity.{is_even}
 use Rattle.winding.specs.ScaledEdges.{scaled_edges}
-use Rattle.plane.proofs.Scaling.{conflicts-scaled, edge-scaled, left-scaled, level-scaled, order-scaled, right-scaled}
+use Rattle.plane.proofs.PlaneKit.{conflicts-scaled, edge-scaled, left-scaled, level-scaled, order-scaled, right-scaled}
 use Rattle.winding.proofs.ConflictFree.{rising_in}
 use Rattle.winding.proofs.Independence.{even-at-ends, total-ends}
 use Rattle.winding.proofs.Levels.{signed_count}
-use Rattle.winding.proofs.Members.{all-in, in-all, total-same}
+use Rattle.lists.proofs.Members.{all-in, in-all, total-same}
 use Rattle.winding.proofs.OddSides.{covers-crossings}
-use Rattle.winding.proofs.Sums.{total-is, total-map}
-
-pub map-same : {X Y : Type 0} (f g : X → Y) (xs : List X) → ((x : X) → f x ≡ g x) → map f xs ≡ map g xs
-map-same f g [] h = refl
-map-same f g (x ∷ xs) h = ap (λ y. y ∷ map f xs) (h x) ∙ ap (λ l. g x ∷ l) (map-same f g xs h)
-
-pub map-map : {X Y Z : Type 0} (f : Y → Z) (g : X → Y) (xs : List X) → map f (map g xs) ≡ map (λ x. f (g x)) xs
-map-map f g [] = refl
-map-map f g (x ∷ xs) = ap (λ l. f (g x) ∷ l) (map-map f g xs)
+use Rattle.lists.proofs.Sums.{total-is, total-map}
+use Rattle.lists.proofs.Maps.{map-map, map-same}
 
 module _ (k : ℤ) (hk : sign k ≡ Plus) where
   filter-by : (b c : Bool) (x : Edge) (xs ys : List Edge) → b ≡ c → xs ≡ scaled_edges k ys → cond b (scaled_edge k x ∷ xs) xs ≡ scaled_edges k (cond c (x ∷ ys) ys)

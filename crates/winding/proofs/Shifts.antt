@@ -8,12 +8,8 @@ use Rattle.plane.specs.RayCrossing.{IsOff, IsOffEdge, off_by}
 use Rattle.plane.specs.Scale.{scaled_edge, scaled_point}
 use Rattle.plane.specs.Sign.{Minus, Null, Plus, Sign, is_minus, is_null, is_plus, sign}
 use Rattle.plane.specs.Vector.{Vector, cross, dot, from_to, orient}
-use Rattle.plane.proofs.Heights.{tall-by}
-use Rattle.plane.proofs.Identities.{lift, same, ◌⊞◌, ◌⊟◌, ◌⊠◌}
-use Rattle.plane.proofs.Products.{cross-agree, orient-round}
-use Rattle.plane.proofs.RayCrossings.{rise-y}
-use Rattle.plane.proofs.Scaling.{minus-sign, span-scaled}
-use Rattle.plane.proofs.Signs.{agree, agree-sum, all, all-out, all2, all2-out, all4, all4-out, imp, imp-out, not-minus-by, plus-times, says-at, sign-from, times}
+use Rattle.plane.proofs.PlaneKit.{tall-by, cross-agree, orient-round, rise-y, off_by-set, minus-sign, span-scaled}
+use Rattle.plane.proofs.SignKit.{lift, same, ◌⊞◌, ◌⊟◌, ◌⊠◌, agree, agree-sum, all, all-out, all2, all2-out, all4, all4-out, imp, imp-out, not-minus-by, plus-times, says-at, sign-from, times, less_one, more_one}
 use Rattle.winding.proofs.Balance.{agree-dot}
 
 -- ---- K * o - s, where s is small: between 0 and K
@@ -46,12 +42,6 @@ not-plus-minus Null Minus Minus h k e = refl
 not-plus-minus Minus Minus Minus h k e = refl
 not-plus-minus a b c h k e = absurd (cc (k, e))
 
-less-one : (z : ℤ) → sign z ≡ Plus → sign (z -ℤ pos 1) ≡ Minus → ⊥
-less-one z h k = let a = says-at Plus z h in let b = says-at Minus (z -ℤ pos 1) k in omega (arith, ints)
-
-more-one : (z : ℤ) → sign z ≡ Minus → sign (z +ℤ pos 1) ≡ Plus → ⊥
-more-one z h k = let a = says-at Minus z h in let b = says-at Plus (z +ℤ pos 1) k in omega (arith, ints)
-
 minus-of : (s : ℤ) → sign s ≡ Plus → sign (pos 0 -ℤ s) ≡ Minus
 minus-of s h = let a = says-at Plus s h in sign-from Minus (pos 0 -ℤ s) (omega (arith, ints))
 
@@ -62,7 +52,7 @@ module _ (k s : ℤ) (hk : sign k ≡ Plus) (hs : sign s ≡ Plus) (h : sign (k 
   sub-by : (z : ℤ) → (t : Sign) → sign z ≡ t → sign (k *ℤ z -ℤ s) ≡ sub_sign t
   sub-by z Plus e =
       let a = agree-sum (k *ℤ (z -ℤ pos 1)) (k -ℤ s) (k *ℤ z -ℤ s) (sym (down-by k z s)) in
-      not-minus-plus _ _ _ (λ m. less-one z e (sym (plus-times k (z -ℤ pos 1) hk) ∙ m)) h a
+      not-minus-plus _ _ _ (λ m. less_one z e (sym (plus-times k (z -ℤ pos 1) hk) ∙ m)) h a
   sub-by z Null e =
       let a = agree-sum (k *ℤ z) (pos 0 -ℤ s) (k *ℤ z -ℤ s) (sym (plain-by k z s)) in
       not-plus-minus _ _ _ (λ m. cc (sym e ∙ sym (plus-times k z hk) ∙ m)) (minus-of s hs) a
@@ -79,7 +69,7 @@ module _ (k s : ℤ) (hk : sign k ≡ Plus) (hs : sign s ≡ Plus) (h : sign (k 
       not-minus-plus _ _ _ (λ m. cc (sym e ∙ sym (plus-times k z hk) ∙ m)) hs a
   add-by z Minus e =
       let a = agree-sum (k *ℤ (z +ℤ pos 1)) (s -ℤ k) (k *ℤ z +ℤ s) (sym (up-by k z s)) in
-      not-plus-minus _ _ _ (λ m. more-one z e (sym (plus-times k (z +ℤ pos 1) hk) ∙ m)) (flip-of k s h) a
+      not-plus-minus _ _ _ (λ m. more_one z e (sym (plus-times k (z +ℤ pos 1) hk) ∙ m)) (flip-of k s h) a
 
   pub sub-sign : (z : ℤ) → sign (k *ℤ z -ℤ s) ≡ sub_sign (sign z)
   sub-sign z = sub-by z (sign z) refl
@@ -165,12 +155,7 @@ off-seen f computes a b u v ya yb xa xb dy h1 h2 h3 o =
     let p = rw (ya, yb, xa, xb) at (cross-agree a b) in let q = rw (ya, yb, xa, xb) at (agree-dot a b) in
     imp-out _ _ (imp-out _ _ g5 p) q
 
-set-off : (c s : Sign) → not (is_null c) ≡ true → off_by c s ≡ true
-set-off Plus s h = refl
-set-off Minus s h = refl
-set-off Null s h = absurd (cc h)
-
-sub-set : (s : Sign) → not (is_null (sub_sign s)) ≡ true
+pub sub-set : (s : Sign) → not (is_null (sub_sign s)) ≡ true
 sub-set Plus = refl
 sub-set Null = refl
 sub-set Minus = refl
@@ -180,7 +165,7 @@ add-set Plus = refl
 add-set Null = refl
 add-set Minus = refl
 
-sub-plus : (s : Sign) → is_plus (sub_sign s) ≡ is_plus s
+pub sub-plus : (s : Sign) → is_plus (sub_sign s) ≡ is_plus s
 sub-plus Plus = refl
 sub-plus Null = refl
 sub-plus Minus = refl
@@ -226,7 +211,7 @@ module _ (k : ℤ) (hk : sign k ≡ Plus) (h1 : sign (k -ℤ pos 1) ≡ Plus) (p
 
   right-off-by : (b : Bool) → is_in_span p t ≡ b → (b ≡ false → IsOffEdge p t) → IsOffEdge (right_point k p) (scaled_edge k t)
   right-off-by true s f =
-      set-off (sign (cross (from_to (right_point k p) (scaled_point k t.from)) (from_to (right_point k p) (scaled_point k t.to)))) _
+      off_by-set (sign (cross (from_to (right_point k p) (scaled_point k t.from)) (from_to (right_point k p) (scaled_point k t.to)))) _
       (subst (λ c. not (is_null c) ≡ true) (sym (right-side s) ∙ ap sign (orient-round (right_point k p) (scaled_point k t.from) (scaled_point k t.to))) (sub-set o))
   right-off-by false s f =
       off-seen sub_sign off_sub (from_to (right_point k p) (scaled_point k t.from)) (from_to (right_point k p) (scaled_point k t.to)) (from_to p t.from) (from_to p t.to)
@@ -236,7 +221,7 @@ module _ (k : ℤ) (hk : sign k ≡ Plus) (h1 : sign (k -ℤ pos 1) ≡ Plus) (p
 
   left-off-by : (b : Bool) → is_in_span p t ≡ b → (b ≡ false → IsOffEdge p t) → IsOffEdge (left_point k p) (scaled_edge k t)
   left-off-by true s f =
-      set-off (sign (cross (from_to (left_point k p) (scaled_point k t.from)) (from_to (left_point k p) (scaled_point k t.to)))) _
+      off_by-set (sign (cross (from_to (left_point k p) (scaled_point k t.from)) (from_to (left_point k p) (scaled_point k t.to)))) _
       (subst (λ c. not (is_null c) ≡ true) (sym (left-side s) ∙ ap sign (orient-round (left_point k p) (scaled_point k t.from) (scaled_point k t.to))) (add-set o))
   left-off-by false s f =
       off-seen add_sign off_add (from_to (left_point k p) (scaled_point k t.from)) (from_to (left_point k p) (scaled_point k t.to)) (from_to p t.from) (from_to p t.to)

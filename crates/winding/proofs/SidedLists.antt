@@ -15,34 +15,29 @@ use Rattle.plane.specs.Sign.{Minus, Null, Plus, Sign, is_minus, is_null, is_plus
 use Rattle.plane.specs.Vector.{Vector, cross, dot, east, from_to, one_at, orient, same_point}
 use Rattle.winding.specs.ConflictFree.{IsConflictFree, others}
 use Rattle.winding.specs.EdgeList.{IsBalanced, IsEvenAtPoints, crossing_count, up_count, winding_number}
-use Rattle.winding.specs.Member.{EachPair, In}
+use Rattle.lists.specs.Member.{EachPair, In}
 use Rattle.winding.specs.OddSide.{directed, directed_edge, runs_up}
 use Rattle.winding.specs.Parity.{is_even}
 use Rattle.winding.specs.Ring.{IsAnchor, segments_of}
 use Rattle.winding.specs.ScaledEdges.{scaled_edges}
 use Rattle.winding.specs.Sided.{IsSided}
-use Rattle.plane.proofs.Edges.{edge_of, ends_at-from, same_edge-true}
-use Rattle.plane.proofs.Heights.{step_of, tall-by}
-use Rattle.plane.proofs.Identities.{lift, same, ◌⊞◌, ◌⊟◌, ◌⊠◌}
-use Rattle.plane.proofs.PointOrder.{line-order-up, order-reversed}
-use Rattle.plane.proofs.Points.{same_point-true, same_vector}
-use Rattle.plane.proofs.Products.{cross-agree, cross-chain, cross-negated, cross-self, dot2, lift2, orient-round}
-use Rattle.plane.proofs.RayCrossings.{down_seen, level-side, up_seen}
-use Rattle.plane.proofs.Scaling.{order-scaled}
-use Rattle.plane.proofs.Signs.{agree, all2-out, imp, imp-out, null-zero, plus-times, same_bool, same_sign, same_sign-true, says-at, sign-from, sign-reversed, times}
-use Rattle.plane.proofs.Views.{view_at}
+use Rattle.plane.proofs.PlaneKit.{ends_at-from, same_edge-true, step_of, tall-by, line-order-up, order-reversed, same_point-true, cross-agree, cross-chain, cross-negated, cross-self, lift2, orient-round, dot-swap, down_seen, level-side, up_seen, order-scaled, view_at}
+use Rattle.plane.proofs.SignKit.{lift, same, ◌⊞◌, ◌⊟◌, ◌⊠◌, agree, all2-out, imp, imp-out, null-zero, plus-times, same_bool, same_sign, same_sign-true, says-at, sign-from, sign-reversed, times, same_bool-refl, minus-not-null}
 use Rattle.winding.proofs.AlongSegment.{off_all}
 use Rattle.winding.proofs.Anchors.{begins-by, level-plus, some-anchor}
 use Rattle.winding.proofs.Balance.{directed_balanced, ends-by}
 use Rattle.winding.proofs.ConflictFree.{misses_others, rising_in, split_off}
 use Rattle.winding.proofs.Levels.{down-run, first-tells, inner_runs, low-plus, off_not_null, to_right, up-run}
-use Rattle.winding.proofs.Members.{all-in, in-all, in-filter, in-map, in-map-out, in-passes, into-filter, total-filter, total-same}
+use Rattle.lists.proofs.Members.{all-in, in-all, in-filter, in-map, in-map-out, in-passes, into-filter, total-filter, total-same}
 use Rattle.winding.proofs.OddSides.{covers-crossings}
 use Rattle.winding.proofs.Ranks.{even-is, halves, odd-is}
 use Rattle.winding.proofs.RingCounts.{bit-sum, direct-is, ends-swap, keeps, total-member}
 use Rattle.winding.proofs.ScaledLists.{even_scaled, plain_scaled, rational_count, runs-scaled}
 use Rattle.winding.proofs.Shifts.{left-left, left-off, left_point, right-left, right-off, right_point}
-use Rattle.winding.proofs.Sums.{total, total-+, total-is, total-map}
+use Rattle.lists.proofs.Sums.{total, total-+, total-is, total-map, none-sum}
+use Rattle.winding.proofs.ScaledSides.{edges-twice, segment-scaled, segments-scaled}
+use Rattle.lists.proofs.Numbers.{none_or_one}
+use Rattle.lists.proofs.Integers.{rest_nothing}
 
 abbrev pub rises : Edge → Bool
 rises x = is_plus (order x.from x.to)
@@ -61,10 +56,6 @@ own-share : (s b : Bool) → cond s (bit b) 0 + cond s (bit (not b)) 0 ≡ bit s
 own-share true true = refl
 own-share true false = refl
 own-share false b = refl
-
-wind-nat : (u d : ℕ) → (pos u -ℤ pos d ≡ pos 0) ⊎ (pos u -ℤ pos d ≡ pos 1) → (u ≡ d) ⊎ (u ≡ d + 1)
-wind-nat u d (inl h) = inl (omega (arith, ints))
-wind-nat u d (inr h) = inr (omega (arith, ints))
 
 tells-up : (b : Bool) (u d o n : ℕ) → o ≡ bit b → n ≡ bit (not b) → (u ≡ d) ⊎ (u ≡ d + 1) → (u + o ≡ d + n) ⊎ (u + o ≡ (d + n) + 1) → is_even (u + d) ≡ b
 tells-up true u d o n h k (inl x) y = even-is (u + d) (omega arith)
@@ -91,17 +82,6 @@ both-false false c h = refl
 and-zero : (b : Bool) → bit (b && false) ≡ 0
 and-zero true = refl
 and-zero false = refl
-
-no-sum : {X : Type 0} (xs : List X) → total (λ x. 0) xs ≡ 0
-no-sum [] = refl
-no-sum (x ∷ xs) = let a = no-sum xs in omega arith
-
-same-self : (b : Bool) → same_bool b b ≡ true
-same-self true = refl
-same-self false = refl
-
-pub dot-swap : (a b : Vector) → dot b a ≡ dot a b
-dot-swap a b = let e = lift2 a in let f = lift2 b in same (dot2 f e) (dot2 e f) (omega arith)
 
 off-negated : (c s : Sign) → off_by c s ≡ true → off_by (negated c) s ≡ true
 off-negated Plus s h = refl
@@ -135,14 +115,11 @@ module _ (es : List Edge) (pl : IsConflictFree (segments_of es)) (even : IsEvenA
   s-span : is_in_span p s ≡ true
   s-span = ap (λ z. not (is_plus z) && is_plus (sign (s.to.y -ℤ p.y))) lo ∙ ap (λ z. true && is_plus z) hi
 
-  rest-zero : (x y z : ℤ) → x +ℤ y ≡ z → x ≡ pos 0 → z ≡ pos 0 → y ≡ pos 0
-  rest-zero x y z h a b = omega (arith, ints)
-
   inside-s : IsBetween s.from s.to p
   inside-s =
       let st = from_to s.from s.to in
       let low = low-plus p s.from s.to lo hi in
-      let z = rest-zero (cross st (from_to s.from p)) (cross st (from_to p s.to)) (cross st st) (cross-chain st s.from p s.to) (null-zero _ on) (cross-self st) in
+      let z = rest_nothing (cross st (from_to s.from p)) (cross st (from_to p s.to)) (cross st st) (cross-chain st s.from p s.to) (null-zero _ on) (cross-self st) in
       record {
         on_line = on;
         after_s = line-order-up s.from s.to s.from p rs on ∙ ap (λ z. then_sign z (sign (p.x -ℤ s.from.x))) low;
@@ -189,7 +166,7 @@ module _ (es : List Edge) (pl : IsConflictFree (segments_of es)) (even : IsEvenA
       let c : bit (own s) ≡ 1 = ap (λ z. bit (z && is_null (orient s.from s.to p))) s-span ∙ ap (λ z. bit (is_null z)) on in
       let d = total-same (λ t. bit (own t)) (λ t. 0) (others s U) (λ t j. ap bit (both-false (is_in_span p t) (is_null (orient t.from t.to p))
       (λ h. null-out (orient t.from t.to p) (subst (λ z. not (is_null z) ≡ true) (ap sign (sym (orient-round p t.from t.to))) (not-on t j h))))) in
-      let z = no-sum (others s U) in omega arith
+      let z = none-sum (others s U) in omega arith
 
   module _ (k : ℤ) (hk : sign k ≡ Plus) (h1 : sign (k -ℤ pos 1) ≡ Plus) (big : (t : Edge) → In t U → is_in_span p t ≡ true → sign (k -ℤ (t.to.y -ℤ t.from.y)) ≡ Plus) where
     rx : (x : Edge) → In x es → IsRising (segment_of x)
@@ -240,7 +217,7 @@ module _ (es : List Edge) (pl : IsConflictFree (segments_of es)) (even : IsEvenA
         let ab = sym (total-+ (λ x. cond (is_left_of p (segment_of x)) (bit (rises x)) 0) (λ x. cond (is_left_of p (segment_of x)) (bit (not (rises x))) 0) es)
         ∙ total-same (λ x. cond (is_left_of p (segment_of x)) (bit (rises x)) 0 + cond (is_left_of p (segment_of x)) (bit (not (rises x))) 0) (λ x. bit (is_left_of p (segment_of x))) es (λ x j. own-share (is_left_of p (segment_of x)) (rises x))
         ∙ sym (total-map (λ t. bit (is_left_of p t)) segment_of es) ∙ sym (covers-crossings p U pl) in
-        let x1 = wind-nat _ _ wr in let x2 = wind-nat _ _ wl in
+        let x1 = none_or_one _ _ wr in let x2 = none_or_one _ _ wl in
         ap is_even (sym ab)
         ∙ tells-up (rises e) A B O N ho hn
         (subst (λ u. (u ≡ B) ⊎ (u ≡ B + 1)) ru (subst (λ d. (up_count east R (scaled_edges k es) ≡ d) ⊎ (up_count east R (scaled_edges k es) ≡ d + 1)) rd x1))
@@ -249,7 +226,7 @@ module _ (es : List Edge) (pl : IsConflictFree (segments_of es)) (even : IsEvenA
     -- the odd side directs e as it is
     pub keeps-here : (winding_number east (right_point k p) (scaled_edges k es) ≡ pos 0) ⊎ (winding_number east (right_point k p) (scaled_edges k es) ≡ pos 1) →
         (winding_number east (left_point k p) (scaled_edges k es) ≡ pos 0) ⊎ (winding_number east (left_point k p) (scaled_edges k es) ≡ pos 1) → keeps es e ≡ true
-    keeps-here wr wl = ap (λ b. same_bool b (rises e)) (runs-here ∙ parity-here wr wl) ∙ same-self (rises e)
+    keeps-here wr wl = ap (λ b. same_bool b (rises e)) (runs-here ∙ parity-here wr wl) ∙ same_bool-refl (rises e)
 
     off-x : (x : Edge) → In x es → is_in_span p (segment_of x) ≡ false → IsOffEdge p (segment_of x)
     off-x x j h = in-all (IsOffEdge p) (others s U) (segment_of x) off-rest (into-filter (λ (t : Edge). not (same_edge s t)) U (segment_of x) (in-map segment_of es x j) (ap not (not-same x h (same_edge s (segment_of x)) refl)))
@@ -288,38 +265,12 @@ keeps-at es pl even counted e i p lo hi on =
     (counted k hk (left_point k p) (off-left es pl even e i p lo hi on k hk h1 big))
 
 -- ---- the doubled list has a point in the middle of each edge
-segment-scaled-by : (k : ℤ) (b c : Bool) (x : Edge) → b ≡ c → cond b (scaled_edge k x) (reversed (scaled_edge k x)) ≡ scaled_edge k (cond c x (reversed x))
-segment-scaled-by k true true x h = refl
-segment-scaled-by k false false x h = refl
-segment-scaled-by k true false x h = absurd (cc h)
-segment-scaled-by k false true x h = absurd (cc h)
-
-segment-scaled : (k : ℤ) (hk : sign k ≡ Plus) (x : Edge) → segment_of (scaled_edge k x) ≡ scaled_edge k (segment_of x)
-segment-scaled k hk x = segment-scaled-by k (rises (scaled_edge k x)) (rises x) x (ap is_plus (order-scaled k hk x.from x.to))
-
-segments-scaled : (k : ℤ) (hk : sign k ≡ Plus) (es : List Edge) → segments_of (scaled_edges k es) ≡ scaled_edges k (segments_of es)
-segments-scaled k hk [] = refl
-segments-scaled k hk (x ∷ xs) = ap (λ y. y ∷ segments_of (scaled_edges k xs)) (segment-scaled k hk x) ∙ ap (λ l. scaled_edge k (segment_of x) ∷ l) (segments-scaled k hk xs)
-
 keeps-scaled : (k : ℤ) (hk : sign k ≡ Plus) (es : List Edge) (e : Edge) → keeps (scaled_edges k es) (scaled_edge k e) ≡ keeps es e
 keeps-scaled k hk es e =
     ap (λ (l : List Edge). same_bool (runs_up l (segment_of (scaled_edge k e))) (rises (scaled_edge k e))) (segments-scaled k hk es)
     ∙ ap (λ (s : Edge). same_bool (runs_up (scaled_edges k (segments_of es)) s) (rises (scaled_edge k e))) (segment-scaled k hk e)
     ∙ ap (λ b. same_bool b (rises (scaled_edge k e))) (runs-scaled k hk (segment_of e) (segments_of es))
     ∙ ap (λ b. same_bool (runs_up (segments_of es) (segment_of e)) b) (ap is_plus (order-scaled k hk e.from e.to))
-
-times-times : (k m a : ℤ) → k *ℤ (m *ℤ a) ≡ (k *ℤ m) *ℤ a
-times-times k m a = let k' = lift k in let m' = lift m in let a' = lift a in same (k' ⊠ (m' ⊠ a')) ((k' ⊠ m') ⊠ a') (omega arith)
-
-point-twice : (k m : ℤ) (p : Vector) → scaled_point k (scaled_point m p) ≡ scaled_point (k *ℤ m) p
-point-twice k m p = same_vector (k *ℤ (m *ℤ p.x)) (k *ℤ (m *ℤ p.y)) ((k *ℤ m) *ℤ p.x) ((k *ℤ m) *ℤ p.y) (times-times k m p.x) (times-times k m p.y)
-
-edge-twice : (k m : ℤ) (e : Edge) → scaled_edge k (scaled_edge m e) ≡ scaled_edge (k *ℤ m) e
-edge-twice k m e = ap (λ u. edge_of u (scaled_point k (scaled_point m e.to))) (point-twice k m e.from) ∙ ap (λ v. edge_of (scaled_point (k *ℤ m) e.from) v) (point-twice k m e.to)
-
-list-twice : (k m : ℤ) (es : List Edge) → scaled_edges k (scaled_edges m es) ≡ scaled_edges (k *ℤ m) es
-list-twice k m [] = refl
-list-twice k m (x ∷ xs) = ap (λ y. y ∷ scaled_edges k (scaled_edges m xs)) (edge-twice k m x) ∙ ap (λ l. scaled_edge (k *ℤ m) x ∷ l) (list-twice k m xs)
 
 product-plus : (k m : ℤ) → sign k ≡ Plus → sign m ≡ Plus → sign (k *ℤ m) ≡ Plus
 product-plus k m h g = plus-times k m h ∙ g
@@ -349,8 +300,8 @@ keeps-sloping es d even e i h =
     let pl2 = subst IsConflictFree (sym (segments-scaled (pos 2) two es)) (plain_scaled (pos 2) two (segments_of es) d.plain) in
     let ev2 = subst IsEvenAtPoints (sym (segments-scaled (pos 2) two es)) (even_scaled (pos 2) two (segments_of es) even) in
     let c2 = λ (k : ℤ) (hk : sign k ≡ Plus) (w : Vector) (off : All (IsOffEdge w) (scaled_edges k es2)).
-    subst (λ l. (winding_number east w l ≡ pos 0) ⊎ (winding_number east w l ≡ pos 1)) (sym (list-twice k (pos 2) es))
-    (d.counted (k *ℤ pos 2) (product-plus k (pos 2) hk two) w (subst (λ l. All (IsOffEdge w) l) (list-twice k (pos 2) es) off)) in
+    subst (λ l. (winding_number east w l ≡ pos 0) ⊎ (winding_number east w l ≡ pos 1)) (sym (edges-twice k (pos 2) es))
+    (d.counted (k *ℤ pos 2) (product-plus k (pos 2) hk two) w (subst (λ l. All (IsOffEdge w) l) (edges-twice k (pos 2) es) off)) in
     sym (keeps-scaled (pos 2) two es e)
     ∙ keeps-at es2 pl2 ev2 c2 (scaled_edge (pos 2) e) (in-map (scaled_edge (pos 2)) es e i) p
     (subst (λ (t : Edge). sign (t.from.y -ℤ p.y) ≡ Minus) (sym q) (mid-low s.from.y s.to.y h))
@@ -434,9 +385,6 @@ module _ (es : List Edge) (d : IsSided es) where
   bad-plain : IsConflictFree (segments_of (bad es))
   bad-plain = plain-bad (λ e. not (keeps es e)) es d.plain
 
-  minus-null : (s : Sign) → s ≡ Minus → s ≡ Null → ⊥
-  minus-null s h k = cc (sym h ∙ k)
-
   alone : (m : Edge) → IsAnchor m (segments_of (bad es)) → (t : Edge) → In t (others m (segments_of (bad es))) → (b : Bool) → ends_at m.from t ≡ b → b ≡ false
   alone m a t i false h = refl
   alone m a t i true h =
@@ -449,7 +397,7 @@ module _ (es : List Edge) (d : IsSided es) where
       let lm = bad-level m a.member in
       let l = level-side (from_to m.from m.to) (from_to m.from t.to) lm (level-plus (sign (m.to.y -ℤ m.from.y)) (sign (m.to.x -ℤ m.from.x)) lm rm) in
       let lt : sign (t.to.y -ℤ m.from.y) ≡ Null = subst (λ (w : Vector). sign (t.to.y -ℤ w.y) ≡ Null) (sym q) (bad-level t j) in
-      absurd (minus-null _ o (l ∙ lt))
+      absurd (minus-not-null _ o (l ∙ lt))
 
   no-anchor : (m : Edge) → IsAnchor m (segments_of (bad es)) → ⊥
   no-anchor m a =
@@ -462,7 +410,7 @@ module _ (es : List Edge) (d : IsSided es) where
       let g = split_off (λ (t : Edge). bit (ends_at v t)) m B bad-plain a.member in
       let o : bit (ends_at v m) ≡ 1 = ap bit (ends_at-from m) in
       let z = total-same (λ (t : Edge). bit (ends_at v t)) (λ t. 0) (others m B) (λ t i. ap bit (alone m a t i (ends_at v t) refl)) in
-      let w = no-sum (others m B) in
+      let w = none-sum (others m B) in
       absurd (omega arith)
 
   keeps-by : (e : Edge) → In e es → (b : Bool) → keeps es e ≡ b → b ≡ true

@@ -1,14 +1,9 @@
 -- Sums over lists of points: they are determined by how often each point occurs.
-use Rattle.std.proofs.Common.{Bool, List, [], ap, arith, cond, false, length, map, refl, suc, sym, true, zero, ℕ, ◌*◌, ◌++◌, ◌+◌, ◌/◌, ◌∙◌, ◌∷◌, ◌≡◌, ◌≤◌}
-use Rattle.std.proofs.lemmas.List.Recursion.{is_sum_by}
-use Rattle.std.specs.List.{sum_by}
+use Rattle.std.proofs.Common.{Bool, List, [], ap, arith, cond, false, length, refl, suc, sym, true, zero, ℕ, ◌*◌, ◌+◌, ◌/◌, ◌∙◌, ◌∷◌, ◌≡◌, ◌≤◌}
 use Rattle.plane.specs.Vector.{Vector, one_at, same_point}
+use Rattle.lists.proofs.Sums.{total}
 use Rattle.winding.specs.Parity.{IsEven}
-use Rattle.plane.proofs.Points.{same_point-refl, same_point-true}
-
-abbrev pub total : {X : Type 0} → (X → ℕ) → List X → ℕ
-total f [] = 0
-total f (x ∷ xs) = f x + total f xs
+use Rattle.plane.proofs.PlaneKit.{same_point-refl, same_point-true}
 
 abbrev without : Vector → List Vector → List Vector
 without v [] = []
@@ -96,23 +91,3 @@ same-total-by (suc n) f (x ∷ xs) ys h same =
 -- if each point occurs as often in both, any sum over the points is the same
 pub same-total : (f : Vector → ℕ) (xs ys : List Vector) → ((v : Vector) → total (one_at v) xs ≡ total (one_at v) ys) → total f xs ≡ total f ys
 same-total f xs ys same = same-total-by (length xs) f xs ys (omega arith) same
-
-pub total-is : {X : Type 0} (f : X → ℕ) (xs : List X) → total f xs ≡ sum_by f xs
-total-is f xs = is_sum_by (total f) f refl (λ _ _. refl) xs
-
-pub total-map : {X Y : Type 0} (f : Y → ℕ) (g : X → Y) (xs : List X) → total f (map g xs) ≡ total (λ (x : X). f (g x)) xs
-total-map f g [] = refl
-total-map f g (x ∷ xs) = ap (λ (n : ℕ). f (g x) + n) (total-map f g xs)
-
-pub total-+ : {X : Type 0} (f g : X → ℕ) (xs : List X) → total (λ (x : X). f x + g x) xs ≡ total f xs + total g xs
-total-+ f g [] = refl
-total-+ f g (x ∷ xs) = let h = total-+ f g xs in omega arith
-
-pub none-sum : {X : Type 0} (xs : List X) → total (λ x. 0) xs ≡ 0
-none-sum [] = refl
-none-sum (x ∷ xs) = let a = none-sum xs in omega arith
-
--- ---- the parity of all rings along an edge
-pub total-++ : {X : Type 0} (f : X → ℕ) (xs ys : List X) → total f (xs ++ ys) ≡ total f xs + total f ys
-total-++ f [] ys = omega arith
-total-++ f (x ∷ xs) ys = let a = total-++ f xs ys in omega arith

@@ -6,7 +6,7 @@ use Rattle.plane.specs.RayCrossing.{IsOffEdge}
 use Rattle.plane.specs.Vector.{IsDirection, Vector, from_to}
 use Rattle.winding.specs.ConflictFree.{IsConflictFree, others}
 use Rattle.winding.specs.EdgeList.{IsBalanced, IsEvenAtPoints, crossing_count, winding_number}
-use Rattle.winding.specs.Member.{In}
+use Rattle.lists.specs.Member.{In}
 use Rattle.winding.specs.Node.{away}
 
 -- the parity is the same at all points inside the segment

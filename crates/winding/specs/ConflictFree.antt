@@ -3,7 +3,7 @@ use Rattle.std.specs.Prelude.{All, List, not}
 use Rattle.std.specs.List.{filter}
 use Rattle.plane.specs.Conflict.{IsClearOf}
 use Rattle.plane.specs.Edge.{Edge, IsRising, same_edge}
-use Rattle.winding.specs.Member.{EachPair}
+use Rattle.lists.specs.Member.{EachPair}
 
 -- the edges of the list that are not s
 abbrev pub others : Edge → List Edge → List Edge

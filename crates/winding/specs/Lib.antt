@@ -4,7 +4,6 @@ pub mod CountLaws
 pub mod DirectionLaws
 pub mod EdgeList
 pub mod LevelLaws
-pub mod Member
 pub mod Node
 pub mod OddSide
 pub mod OddSideLaws

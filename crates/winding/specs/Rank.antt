@@ -1,7 +1,7 @@
 -- Ranks of the elements of a list in an order.
 use Rattle.std.specs.Prelude.{Bool, List, not, suc, true, zero, ℕ, ◌+◌, ◌≡◌}
 use Rattle.std.specs.List.{count_by}
-use Rattle.winding.specs.Member.{EachPair, In}
+use Rattle.lists.specs.Member.{EachPair, In}
 
 -- how many elements are above x
 abbrev pub rank : {X : Type 0} → (X → X → Bool) → List X → X → ℕ

@@ -5,7 +5,7 @@ use Rattle.plane.specs.Order.{order}
 use Rattle.plane.specs.Sign.{Minus}
 use Rattle.plane.specs.Vector.{Vector, orient, same_point}
 use Rattle.winding.specs.ConflictFree.{others}
-use Rattle.winding.specs.Member.{EachPair, In}
+use Rattle.lists.specs.Member.{EachPair, In}
 
 -- each edge begins where the one before it ends
 abbrev pub IsPath : Vector → List Edge → Vector → Type 0

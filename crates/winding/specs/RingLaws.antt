@@ -5,7 +5,7 @@ use Rattle.plane.specs.Edge.{Edge, is_rising, segment_of}
 use Rattle.plane.specs.Vector.{Vector, east}
 use Rattle.winding.specs.ConflictFree.{IsConflictFree}
 use Rattle.winding.specs.EdgeList.{crossing_count, winding_number}
-use Rattle.winding.specs.Member.{In}
+use Rattle.lists.specs.Member.{In}
 use Rattle.winding.specs.Ring.{IsAnchor, IsRing, segments_of}
 
 -- a conflict-free list that isn't empty has an anchor

@@ -3,8 +3,7 @@ use Rattle.std.proofs.Common.{◌≡◌, ◌≢◌, ◌<◌, ◌≤◌, ◌++◌
 use Rattle.std.proofs.lemmas.List.{map-append, get_or_default, drop_all}
 use Rattle.orbits.proofs.CutSteps.{step_past, step_other, step_cut, cut_rest, cut_all}
 use Rattle.orbits.proofs.cutting.cut.Goals as goal
-use Rattle.orbits.proofs.cutting.cut.Goals.{then-depth-len+then-keys-index+in_ok-split_off+in_ok-push, else-depth-len, else-depth-len-via-then-depth-len+else-keys-index, else-depth-len-via-else-depth-len}
-use Rattle.orbits.proofs.cutting.cut.Goals.{then-not-is_empty+in_ok-push-3, else-not-is_empty}
+use Rattle.orbits.proofs.cutting.cut.Goals.{then-depth-len+then-keys-index+in_ok-split_off+in_ok-push, else-depth-len, else-depth-len-via-then-depth-len+else-keys-index, else-depth-len-via-else-depth-len, then-not-is_empty+in_ok-push-3, else-not-is_empty}
 
 pub loop-item-preserved : goal.loop-item-preserved
 loop-item-preserved c =

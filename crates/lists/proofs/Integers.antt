@@ -1,0 +1,23 @@
+-- Integers.
+use Rattle.std.proofs.Common.{arith, int_eq, pos, true, ℤ, ◌+ℤ◌, ◌-ℤ◌, ◌≡◌, ◌≤ℤ◌}
+use Rattle.std.proofs.lemmas.Bool.Decides.{Decides-int_eq}
+use Rattle.std.proofs.lemmas.Int.{ints}
+
+pub int_eq-true : (a b : ℤ) → int_eq a b ≡ true → a ≡ b
+int_eq-true a b h = grind (arith, Decides-int_eq)
+
+pub int_eq-same : (a b : ℤ) → a ≡ b → int_eq a b ≡ true
+int_eq-same a b h = grind (arith, Decides-int_eq)
+
+pub same_from_difference : (a b : ℤ) → a -ℤ b ≡ pos 0 → a ≡ b
+same_from_difference a b h = omega (arith, ints)
+
+pub less_nothing : (a b : ℤ) → b ≡ pos 0 → a -ℤ b ≡ a
+less_nothing a b h = omega (arith, ints)
+
+-- what is left of a sum of nothing
+pub rest_nothing : (a b c : ℤ) → a +ℤ b ≡ c → a ≡ pos 0 → c ≡ pos 0 → b ≡ pos 0
+rest_nothing a b c h k m = omega (arith, ints)
+
+pub least_trans : (a b c : ℤ) → a ≤ℤ b → b ≤ℤ c → a ≤ℤ c
+least_trans a b c h k = omega (arith, ints)

@@ -1,0 +1,17 @@
+pub mod Bools
+pub mod Counts
+pub mod EachOnce
+pub mod Insertions
+pub mod Integers
+pub mod Items
+pub mod Maps
+pub mod Members
+pub mod Numbers
+pub mod Options
+pub mod Orderings
+pub mod PickedItems
+pub mod Picks
+pub mod RisingLists
+pub mod Splits
+pub mod Sums
+mod TallySteps

@@ -1,0 +1,57 @@
+-- Lists in strict order.
+use Rattle.std.proofs.Common.{All, Equal, Greater, Less, List, [], Ordering, ap, arith, cond, get_or, is_eq, length, length-append, refl, subst, suc, ℕ, ◌++◌, ◌∙◌, ◌∷◌, ◌≡◌}
+use Rattle.std.specs.Cmp.{IsTotalOrder}
+use Rattle.std.specs.Ordering.{ordering_reverse}
+use Rattle.std.proofs.Math.ListN.{get_or-append}
+use Rattle.std.proofs.Math.Seq.{get_or-append_seam}
+use Rattle.std.proofs.lemmas.List.Elements.{All-cons}
+use Rattle.std.proofs.lemmas.List.Kept.{AllPairs-cons}
+use Rattle.lists.specs.Rising.{IsRising, count_of}
+use Rattle.lists.proofs.Counts.{count-cons, count_below, one_at_head}
+
+module _ {X : Type 0} (R : X → X → Ordering) where
+  pub rising-none : IsRising R []
+  rising-none i j d l m = absurd (omega arith)
+
+  pub rising-cons : (x : X) (xs : List X) → All (λ y. R x y ≡ Less) xs → IsRising R xs → IsRising R (x ∷ xs)
+  rising-cons x xs below up = AllPairs-cons (λ y z. R y z ≡ Less) x xs below up
+
+  pub rising-head : (x : X) (xs : List X) → IsRising R (x ∷ xs) → All (λ y. R x y ≡ Less) xs
+  rising-head x xs up k d l = up 0 (suc k) d (omega arith) (omega arith)
+
+  pub rising-tail : (x : X) (xs : List X) → IsRising R (x ∷ xs) → IsRising R xs
+  rising-tail x xs up i j d l m = up (suc i) (suc j) d (omega arith) (omega arith)
+
+  -- in a list in strict order the last item is above all before it
+  pub front_below : (xs : List X) (y : X) → IsRising R (xs ++ y ∷ []) → All (λ x. R x y ≡ Less) xs
+  front_below xs y rising k d h =
+      let P : X → Type 0 = λ x. R x y ≡ Less in
+      let Q : X → Type 0 = λ z. R (get_or (xs ++ y ∷ []) k d) z ≡ Less in
+      let at_end = subst Q (get_or-append_seam xs y [] d) (rising k (length xs) d h (omega (arith, length-append xs (y ∷ [])))) in
+      subst P (get_or-append xs (y ∷ []) d k h) at_end
+
+  pub front_rising : (xs : List X) (y : X) → IsRising R (xs ++ y ∷ []) → IsRising R xs
+  front_rising xs y rising i j d h l =
+      let P : X → Type 0 = λ x. R x (get_or xs j d) ≡ Less in
+      let Q : X → Type 0 = λ z. R (get_or (xs ++ y ∷ []) i d) z ≡ Less in
+      subst P (get_or-append xs (y ∷ []) d i (omega arith)) (subst Q (get_or-append xs (y ∷ []) d j l) (rising i j d h (omega (arith, length-append xs (y ∷ [])))))
+
+module _ {X : Type 0} {R : X → X → Ordering} (o : IsTotalOrder R) where
+  pub above-all : (x y : X) (ys : List X) → R x y ≡ Less → IsRising R (y ∷ ys) → All (λ z. R x z ≡ Less) (y ∷ ys)
+  above-all x y ys less up = All-cons (λ z. R x z ≡ Less) y ys less (λ k d l. o.trans x y _ less (rising-head R y ys up k d l))
+
+  pub less_turned : (x y : X) → R x y ≡ Greater → R y x ≡ Less
+  less_turned x y more = o.antisymm y x ∙ ap ordering_reverse more
+
+  -- a list in strict order is determined by how often each item stands in it
+  pub same_rising : ((x y : X) → R x y ≡ Equal → x ≡ y) → (xs ys : List X) → IsRising R xs → IsRising R ys → ((z : X) → count_of R z xs ≡ count_of R z ys) → xs ≡ ys
+  same_rising exact [] [] up down same = refl
+  same_rising exact [] (y ∷ ys) up down same = absurd (omega (arith, same y, one_at_head o y ys))
+  same_rising exact (x ∷ xs) [] up down same = absurd (omega (arith, same x, one_at_head o x xs))
+  same_rising exact (x ∷ xs) (y ∷ ys) up down same =
+      by_head (R x y) refl (λ heads. same_rising exact xs ys (rising-tail R x xs up) (rising-tail R y ys down) (λ z. let first : cond {A = ℕ} (is_eq (R x z)) 1 0 ≡ cond {A = ℕ} (is_eq (R y z)) 1 0 = ap (λ w. cond {A = ℕ} (is_eq (R w z)) 1 0) heads in omega (arith, same z, count-cons R z x xs, count-cons R z y ys)))
+    where
+      by_head : (r : Ordering) → R x y ≡ r → (x ≡ y → xs ≡ ys) → x ∷ xs ≡ y ∷ ys
+      by_head Less e tails = absurd (omega (arith, same x, one_at_head o x xs, count_below o x (y ∷ ys) (above-all x y ys e down)))
+      by_head Greater e tails = absurd (omega (arith, same y, one_at_head o y ys, count_below o y (x ∷ xs) (above-all y x xs (less_turned x y e) up)))
+      by_head Equal e tails = let heads = exact x y e in let rest = tails heads in cc

@@ -1,0 +1,4 @@
+pub mod Member
+pub mod Once
+pub mod Rising
+pub mod Tallied

@@ -1,0 +1,12 @@
+//! Lists: the list type, lists in strict order, and how often each item stands in a list.
+#![tactic(auto)]
+
+mod laws;
+mod list;
+mod tally;
+#[cfg(test)]
+mod tests;
+
+pub use laws::{counted_lists_exist, counts_determine};
+pub use list::List;
+pub use tally::{Tally, distinct_items, odd_items, repeated_items};

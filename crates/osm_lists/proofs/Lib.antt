@@ -1,3 +1,0 @@
-pub mod TallySteps
-pub mod Picks
-pub mod Unique
