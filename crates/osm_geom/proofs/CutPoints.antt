@@ -1,32 +1,29 @@
 -- The point in which a segment meets a line of whole coordinate.
-use Rattle.std.proofs.Common.{Bool, suc, zero, ap, arith, not, pos, refl, subst, sym, true, false, ℕ, ℤ, ◌*ℤ◌, ◌+ℤ◌, ◌-ℤ◌, ◌*◌, ◌+◌, ◌-◌, ◌∙◌, ◌≡◌, ◌≤◌, unsigned_abs}
+use Rattle.std.proofs.Common.{Bool, ap, arith, not, pos, refl, subst, sym, true, false, ℕ, ℤ, ◌*ℤ◌, ◌+ℤ◌, ◌-ℤ◌, ◌*◌, ◌+◌, ◌-◌, ◌∙◌, ◌≡◌, ◌≤◌, unsigned_abs}
 use Rattle.std.proofs.Math.Nat.{eq-one_of_dvd-one}
-use Rattle.plane.specs.RayCrossing.{is_off, off_by}
+use Rattle.plane.specs.RayCrossing.{is_off}
 use Rattle.plane.specs.Scale.{scaled_edge}
-use Rattle.plane.specs.Sign.{Minus, Null, Plus, Sign, is_plus, sign}
-use Rattle.plane.proofs.Identities.{Split, lift, same, ◌⊞◌, ◌⊟◌, ◌⊠◌}
-use Rattle.plane.proofs.Bools.{not-true-out}
-use Rattle.plane.proofs.Signs.{Says, agree, agree-sum, all4, all4-out, imp, imp-out, null-zero, plus-times, same-sign-is, same_sign, same_sign-true, says, self-diff, sign-*, times}
+use Rattle.plane.specs.Sign.{Minus, Null, Plus, Sign, sign}
+use Rattle.plane.proofs.SignKit.{Split, lift, same, ◌⊞◌, ◌⊟◌, ◌⊠◌, Says, agree, agree-sum, all4-out, imp, imp-out, plus-times, same_sign, same_sign-true, says, self-diff, sign-pos}
+use Rattle.lists.proofs.Bools.{not-true-out}
 use Rattle.osm_geom.specs.declared.cut.Axis.{Axis}
 use Rattle.osm_geom.specs.declared.cut.Axis.TheVariants.{X, Y}
 use Rattle.osm_geom.specs.declared.cut.Cut.{Cut}
-use Rattle.osm_geom.specs.declared.loc.Loc.{Loc}
+use Rattle.osm_lattice.specs.declared.loc.Loc.{Loc}
 use Rattle.osm_geom.specs.declared.point.Point.TheVariants.{Lattice, OnVertical, OnHorizontal}
 use Rattle.osm_geom.specs.declared.edge.Carrier.TheVariants.{OfSeg}
-use Rattle.osm_geom.specs.declared.frac.Frac.{Frac}
+use Rattle.osm_lattice.specs.declared.frac.Frac.{Frac}
 use Rattle.osm_geom.specs.declared.point.Point.{Point}
-use Rattle.osm_geom.specs.declared.seg.Seg.{Seg}
+use Rattle.osm_lattice.specs.declared.seg.Seg.{Seg}
 use Rattle.osm_geom.specs.Carrier.{is_on}
 use Rattle.osm_geom.specs.Cut.{coordinate_of, cut_order, fraction}
-use Rattle.osm_geom.specs.Lowest.{IsLowest}
-use Rattle.osm_geom.specs.Meeting.{IsOnSegment}
+use Rattle.osm_lattice.specs.Lowest.{IsLowest}
+use Rattle.osm_lattice.specs.Meeting.{IsOnSegment}
 use Rattle.osm_geom.specs.Point.{Fraction, IsInWorld, den_of, whole, whole_of, x_of, y_of}
-use Rattle.osm_geom.specs.Seg.{edge_of}
-use Rattle.osm_geom.specs.Share.{IsShare}
-use Rattle.osm_geom.proofs.CrossingMeets.{on_first}
-use Rattle.osm_geom.proofs.MeetingBounds.{on_segment_in}
+use Rattle.osm_lattice.specs.Seg.{edge_of}
+use Rattle.osm_lattice.specs.Share.{IsShare}
+use Rattle.osm_lattice.proofs.LatticeKit.{on_first, alike, apart_where_on, on_segment_in, signed}
 use Rattle.osm_geom.proofs.PointOrders.{den-sign, x_den-some, y_den-some}
-use Rattle.osm_geom.proofs.Sizes.{signed}
 
 -- ---- c between a and b, which differ
 module _ (a b c : ℤ) where
@@ -170,60 +167,17 @@ pub null-y : (cut : Cut) (p : Point) → cut.axis ≡ Y → y_of p ≡ whole cut
 null-y cut p e h = subst (λ axis. order_at axis cut.at p ≡ Null) (sym e) (whole-null (y_of p) cut.at h)
 
 -- ---- points of a segment stand where its ends stand
-abbrev alike : Sign → Sign → Bool
-alike Plus Plus = true
-alike Minus Minus = true
-alike s t = false
-
 abbrev stand_2 : Sign → Sign → Sign → Sign → Bool
 stand_2 t a b o = imp (agree t a o) λ _. imp (agree t b o) λ _. imp (not (alike a b)) λ _. same_sign o t
 
 stand : (t a b o : Sign) → agree t a o ≡ true → agree t b o ≡ true → not (alike a b) ≡ true → o ≡ t
 stand t a b o h k n = same_sign-true o t (imp-out _ _ (imp-out _ _ (imp-out _ _ (all4-out stand_2 refl t a b o) h) k) n)
 
-abbrev unalike_2 : Sign → Sign → Sign → Sign → Sign → Bool
-unalike_2 r a b c d = imp (same_sign (times a d) (times c b)) λ _. imp (agree (times a b) (times c d) r) λ _. imp (not (is_plus r)) λ _. not (alike a b)
-
-unalike_all : (r : Sign) → all4 (unalike_2 r) ≡ true
-unalike_all Minus = refl
-unalike_all Null = refl
-unalike_all Plus = refl
-
-flat-of : (c s : Sign) → off_by c s ≡ false → (c ≡ Null) × (not (is_plus s) ≡ true)
-flat-of Null Minus h = (refl, refl)
-flat-of Null Null h = (refl, refl)
-flat-of Null Plus h = absurd (cc h)
-flat-of Plus s h = absurd (cc h)
-flat-of Minus s h = absurd (cc h)
-
-equal-of : (x y : ℤ) → x -ℤ y ≡ pos 0 → x ≡ y
-equal-of x y h = omega (arith, signed)
-
-swap-sum : (x y : ℤ) → y +ℤ x ≡ x +ℤ y
-swap-sum x y = omega (arith, signed)
-
-unalike : (a b c d : ℤ) → off_by (sign (a *ℤ d -ℤ c *ℤ b)) (sign (a *ℤ b +ℤ c *ℤ d)) ≡ false → (not (alike (sign a) (sign b)) ≡ true) × (not (alike (sign c) (sign d)) ≡ true)
-unalike a b c d on =
-    let f = flat-of (sign (a *ℤ d -ℤ c *ℤ b)) (sign (a *ℤ b +ℤ c *ℤ d)) on in
-    let e = equal-of (a *ℤ d) (c *ℤ b) (null-zero (a *ℤ d -ℤ c *ℤ b) f.0) in
-    let r = sign (a *ℤ b +ℤ c *ℤ d) in
-    let lines : same_sign (times (sign a) (sign d)) (times (sign c) (sign b)) ≡ true = same-sign-is (times (sign a) (sign d)) (times (sign c) (sign b)) (sym (sign-* a d) ∙ ap sign e ∙ sign-* c b) in
-    let back : same_sign (times (sign c) (sign b)) (times (sign a) (sign d)) ≡ true = same-sign-is (times (sign c) (sign b)) (times (sign a) (sign d)) (sym (sign-* c b) ∙ ap sign (sym e) ∙ sign-* a d) in
-    let s1 : agree (times (sign a) (sign b)) (times (sign c) (sign d)) r ≡ true = rw (← sign-* a b, ← sign-* c d) (agree-sum (a *ℤ b) (c *ℤ d) (a *ℤ b +ℤ c *ℤ d) refl) in
-    let s2 : agree (times (sign c) (sign d)) (times (sign a) (sign b)) r ≡ true = rw (← sign-* a b, ← sign-* c d) (agree-sum (c *ℤ d) (a *ℤ b) (a *ℤ b +ℤ c *ℤ d) (swap-sum (a *ℤ b) (c *ℤ d))) in (
-      imp-out _ _ (imp-out _ _ (imp-out _ _ (all4-out (unalike_2 r) (unalike_all r) (sign a) (sign b) (sign c) (sign d)) lines) s1) f.1,
-      imp-out _ _ (imp-out _ _ (imp-out _ _ (all4-out (unalike_2 r) (unalike_all r) (sign c) (sign d) (sign a) (sign b)) back) s2) f.1,
-    )
-
 -- the same number, multiplied by a denominator
 scaled-order : (at n : ℤ) (d f : ℕ) → 1 ≤ f → sign (pos (d * f) *ℤ at -ℤ n *ℤ pos f) ≡ sign (at *ℤ pos d -ℤ n)
 scaled-order at n d f some =
     let at' = lift at in let n' = lift n in
-    ap sign (same (nat (d * f) ⊠ at' ⊟ n' ⊠ nat f) (nat f ⊠ (at' ⊠ nat d ⊟ n')) (omega arith)) ∙ plus-times (pos f) (at *ℤ pos d -ℤ n) (sign-some f some)
-  where
-    sign-some : (k : ℕ) → 1 ≤ k → sign (pos k) ≡ Plus
-    sign-some zero h = absurd (omega arith)
-    sign-some (suc k) h = refl
+    ap sign (same (nat (d * f) ⊠ at' ⊟ n' ⊠ nat f) (nat f ⊠ (at' ⊠ nat d ⊟ n')) (omega arith)) ∙ plus-times (pos f) (at *ℤ pos d -ℤ n) (sign-pos f some)
 
 moved-order : (k at a w : ℤ) → k *ℤ (at *ℤ pos 1 -ℤ a) +ℤ (k *ℤ a -ℤ w) ≡ k *ℤ at -ℤ w
 moved-order k at a w = let k' = lift k in let t = lift at in let a' = lift a in let w' = lift w in same (k' ⊠ (t ⊠ nat 1 ⊟ a') ⊞ (k' ⊠ a' ⊟ w')) (k' ⊠ t ⊟ w') (omega arith)
@@ -243,7 +197,7 @@ apart-of : (s : Seg) (p : Point) → is_on (OfSeg s) p ≡ true →
     × (not (alike (sign (pos (den_of p) *ℤ s.a.y -ℤ (whole_of p).y)) (sign (pos (den_of p) *ℤ s.b.y -ℤ (whole_of p).y))) ≡ true)
 apart-of s p h =
     let k = pos (den_of p) in let w = whole_of p in
-    unalike (k *ℤ s.a.x -ℤ w.x) (k *ℤ s.b.x -ℤ w.x) (k *ℤ s.a.y -ℤ w.y) (k *ℤ s.b.y -ℤ w.y) (located-is s p h)
+    apart_where_on (k *ℤ s.a.x -ℤ w.x) (k *ℤ s.b.x -ℤ w.x) (k *ℤ s.a.y -ℤ w.y) (k *ℤ s.b.y -ℤ w.y) (located-is s p h)
 
 turned-times : (m n : ℕ) → m * n ≡ n * m
 turned-times m n = omega arith

@@ -1,17 +1,16 @@
 -- How large the coordinates of carriers and of spanned heights are.
 use Rattle.std.proofs.Common.{◌≡◌, ℕ, suc, zero, ◌*◌, ◌<◌, ◌≤◌, ℤ, pos, negsuc, ◌*ℤ◌, ◌-ℤ◌, ◌<ℤ◌, ◌≤ℤ◌, Bool, true, false, not, cond, unsigned_abs, sym, arith, mul-le-mul, subst, ⊎_elim}
 use Rattle.std.proofs.lemmas.Int.{ints}
-use Rattle.std.proofs.lemmas.Bool.{cases_lt}
+use Rattle.std.proofs.lemmas.Bool.{cases_lt, and_parts}
 use Rattle.std.proofs.Math.Nat.{mul-lt-mul_of_pos_right}
 use Rattle.plane.specs.Sign.{Sign, Plus, Null, Minus, is_minus, is_plus}
-use Rattle.plane.proofs.Bools.{and-out}
-use Rattle.plane.proofs.Points.{int_eq-true}
-use Rattle.plane.proofs.Signs.{Says, says}
+use Rattle.lists.proofs.Integers.{int_eq-true}
+use Rattle.plane.proofs.SignKit.{Says, says}
 use Rattle.osm_geom.specs.declared.edge.Edge.{Edge}
 use Rattle.osm_geom.specs.declared.edge.Carrier.TheVariants.{Vertical, Horizontal}
 use Rattle.osm_geom.specs.declared.point.Point.{Point}
 use Rattle.osm_geom.specs.declared.point.Point.TheVariants.{Lattice, OnVertical, OnHorizontal}
-use Rattle.osm_geom.specs.Bounds.{IsLongitude, IsLatitude}
+use Rattle.osm_lattice.specs.Bounds.{IsLongitude, IsLatitude}
 use Rattle.osm_geom.specs.Carrier.{has_x, has_y, is_on}
 use Rattle.osm_geom.specs.Edge.{runs_up}
 use Rattle.osm_geom.specs.Level.{IsLevel}
@@ -96,7 +95,7 @@ upper_in false e = e.from_in
 pub spanned_level : (e : Edge) (at : Point) → spans e at ≡ true → IsLevel (y_of at).num (y_of at).den
 unfolding spans
 spanned_level e at h =
-    let both = and-out (not (is_minus (height_order (lower_end e) at))) (is_plus (height_order at (upper_end e))) h in
+    let both = and_parts (not (is_minus (height_order (lower_end e) at))) (is_plus (height_order at (upper_end e))) h in
     let low = lower_end e in let high = upper_end e in
     between (y_of at).num (y_of at).den (y_of low).num (y_of high).num (y_of low).den (y_of high).den 900_000_000 (y_den-some low) (y_den-some high)
     (end_in (runs_up e) e).1 (upper_in (runs_up e) e).1

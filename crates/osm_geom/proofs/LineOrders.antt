@@ -1,25 +1,24 @@
 -- The order of lines in the numbers that the code computes is the plane's order just above a height.
-use Rattle.std.proofs.Common.{◌≡◌, ℕ, suc, zero, ◌≤◌, ℤ, pos, ◌+ℤ◌, ◌-ℤ◌, ◌*ℤ◌, ap, refl, sym, ◌∙◌, arith}
+use Rattle.std.proofs.Common.{◌≡◌, ℤ, pos, ◌+ℤ◌, ◌-ℤ◌, ◌*ℤ◌, ap, refl, sym, ◌∙◌, arith}
 use Rattle.std.specs.Ordering.{int_cmp, ordering_then}
 use Rattle.plane.specs.Edge as plane
 use Rattle.plane.specs.Height.{distance_right, order_above}
 use Rattle.plane.specs.Scale.{scaled_edge}
 use Rattle.plane.specs.Sign.{Plus, sign}
 use Rattle.plane.specs.Vector.{Vector, cross, from_to}
-use Rattle.plane.proofs.Identities.{lift, same, ◌⊞◌, ◌⊟◌, ◌⊠◌}
-use Rattle.plane.proofs.Scaling.{cross-scaled}
-use Rattle.plane.proofs.Signs.{plus-times}
+use Rattle.plane.proofs.SignKit.{lift, same, ◌⊞◌, ◌⊟◌, ◌⊠◌, plus-times, sign-pos}
+use Rattle.plane.proofs.PlaneKit.{cross-scaled}
 use Rattle.osm_geom.specs.declared.level.Level.{Level}
 use Rattle.osm_geom.specs.declared.level.Line.{Line}
 use Rattle.osm_geom.specs.LineOrder.{start_of, step_of, x_num, line_cmp}
-use Rattle.osm_geom.specs.OrderLaws.{ordering_of}
-use Rattle.osm_geom.proofs.LocationOrder.{int_cmp-is, ordering_of-then}
+use Rattle.osm_lattice.specs.OrderLaws.{ordering_of}
+use Rattle.osm_lattice.proofs.LatticeKit.{int_cmp-is, ordering_of-then}
 
 -- the numbers of a line, of a plane's edge
 abbrev place : plane.Edge → ℤ → ℤ → ℤ
 place e y q = e.from.x *ℤ (e.to.y -ℤ e.from.y) *ℤ q +ℤ (y -ℤ e.from.y *ℤ q) *ℤ (e.to.x -ℤ e.from.x)
 
-rise_scaled : (q a b : ℤ) → q *ℤ b -ℤ q *ℤ a ≡ q *ℤ (b -ℤ a)
+pub rise_scaled : (q a b : ℤ) → q *ℤ b -ℤ q *ℤ a ≡ q *ℤ (b -ℤ a)
 rise_scaled q a b = same (lift q ⊠ lift b ⊟ lift q ⊠ lift a) (lift q ⊠ (lift b ⊟ lift a)) (omega arith)
 
 place_scaled : (q y a b c d : ℤ) → (q *ℤ a -ℤ pos 0) *ℤ (q *ℤ d -ℤ y) -ℤ (q *ℤ b -ℤ y) *ℤ (q *ℤ c -ℤ pos 0) ≡ q *ℤ (a *ℤ (d -ℤ b) *ℤ q +ℤ (y -ℤ b *ℤ q) *ℤ (c -ℤ a))
@@ -64,10 +63,6 @@ module _ (q y : ℤ) (hq : sign q ≡ Plus) (e f : plane.Edge) where
       ap (λ o. ordering_then o (int_cmp (run e *ℤ rise f) (run f *ℤ rise e))) (int_cmp-is (place e y q *ℤ rise f) (place f y q *ℤ rise e) ∙ ap ordering_of (sym place_sign))
       ∙ ap (λ o. ordering_then (ordering_of (sign (cross (distance_right at (scaled_edge q e)) (distance_right at (scaled_edge q f))))) o) (int_cmp-is (run e *ℤ rise f) (run f *ℤ rise e) ∙ ap ordering_of (sym slope_sign))
       ∙ ordering_of-then (sign (cross (distance_right at (scaled_edge q e)) (distance_right at (scaled_edge q f)))) (sign (cross (from_to (scaled_edge q f).from (scaled_edge q f).to) (from_to (scaled_edge q e).from (scaled_edge q e).to)))
-
-sign-pos : (n : ℕ) → 1 ≤ n → sign (pos n) ≡ Plus
-sign-pos zero h = absurd (omega arith)
-sign-pos (suc n) h = refl
 
 x_num-is : (l : Line) (h : Level) (e : plane.Edge) → start_of l ≡ e.from → step_of l ≡ from_to e.from e.to → x_num l h ≡ place e h.num (pos h.den)
 unfolding x_num

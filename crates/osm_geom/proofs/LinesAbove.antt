@@ -4,13 +4,10 @@ use Rattle.plane.specs.Conflict.{is_along}
 use Rattle.plane.specs.Edge.{Edge}
 use Rattle.plane.specs.Height.{distance_right, order_above}
 use Rattle.plane.specs.Scale.{scaled_edge}
-use Rattle.plane.specs.Sign.{Sign, Plus, Null, Minus, is_null, negated, sign, then_sign}
+use Rattle.plane.specs.Sign.{Sign, Plus, is_null, negated, sign, then_sign}
 use Rattle.plane.specs.Vector.{Vector, cross, east, from_to, orient}
-use Rattle.plane.proofs.Identities.{lift, same, ◌⊞◌, ◌⊟◌, ◌⊠◌}
-use Rattle.plane.proofs.Products.{cross-chain, cross-from-here, cross-negated, dot-east, orient-round, plucker-agree, plucker-dot-agree, side-moves}
-use Rattle.plane.proofs.RayCrossings.{cross-east}
-use Rattle.plane.proofs.Scaling.{cross-scaled}
-use Rattle.plane.proofs.Signs.{agree, agree-sum, all, all-out, all2, all2-out, all4, all4-out, imp, imp-out, same_bool, same_bool-true, sign-*, sum-zero-left, times, times-plus}
+use Rattle.plane.proofs.SignKit.{lift, same, ◌⊞◌, ◌⊟◌, ◌⊠◌, agree, agree-sum, all, all-out, all2, all2-out, all4, all4-out, imp, imp-out, same_bool, same_bool-true, sign-*, sum-zero-left, times, times-plus, agree-back, negated-then}
+use Rattle.plane.proofs.PlaneKit.{cross-chain, cross-from-here, cross-negated, dot-east, orient-round, plucker-agree, plucker-dot-agree, side-moves, cross-east, cross-scaled}
 
 abbrev pub IsTall : Edge → Type 0
 IsTall t = sign (t.to.y -ℤ t.from.y) ≡ Plus
@@ -22,9 +19,6 @@ step_of t = from_to t.from t.to
 abbrev then_sums : Sign → Sign → Sign → Sign → Bool
 then_sums k l k' l' = all2 λ m m'. imp (agree k l m) λ _. imp (agree k' l' m') λ _. agree (then_sign k k') (then_sign l l') (then_sign m m')
 
-swapped : (s t u : Sign) → agree s t u ≡ true → agree t s u ≡ true
-swapped s t u h = imp-out _ _ (all-out (λ u. imp (agree s t u) λ _. agree t s u) (all2-out (λ s t. all (λ u. imp (agree s t u) λ _. agree t s u)) refl s t) u) h
-
 pub order_above-sum : (p : Vector) (a b c : Edge) → IsTall a → IsTall b → IsTall c → agree (order_above p a b) (order_above p b c) (order_above p a c) ≡ true
 order_above-sum p a b c ta tb tc =
     let A = distance_right p a in let B = distance_right p b in let C = distance_right p c in
@@ -33,12 +27,7 @@ order_above-sum p a b c ta tb tc =
     let y = rw (cross-east G, cross-east F, cross-east E, ta, tb, tc, times-plus (sign (cross F E)), times-plus (sign (cross G F)), times-plus (sign (cross G E))) at (plucker-agree east G F E) in
     let k = all2-out (λ m m'. imp (agree (sign (cross A B)) (sign (cross B C)) m) λ _. imp (agree (sign (cross F E)) (sign (cross G F)) m') λ _. agree (order_above p a b) (order_above p b c) (then_sign m m'))
     (all4-out then_sums refl (sign (cross A B)) (sign (cross B C)) (sign (cross F E)) (sign (cross G F))) (sign (cross A C)) (sign (cross G E)) in
-    imp-out _ _ (imp-out _ _ k (swapped _ _ _ x)) y
-
-negated-then : (s t : Sign) → then_sign (negated s) (negated t) ≡ negated (then_sign s t)
-negated-then Plus t = refl
-negated-then Null t = refl
-negated-then Minus t = refl
+    imp-out _ _ (imp-out _ _ k (agree-back _ _ _ x)) y
 
 pub order_above-reversed : (p : Vector) (a b : Edge) → order_above p b a ≡ negated (order_above p a b)
 order_above-reversed p a b =

@@ -1,19 +1,19 @@
 -- The order of points by fractions is that of the plane once all is multiplied.
-use Rattle.std.proofs.Common.{◌≡◌, ℕ, suc, zero, ◌*◌, ◌≤◌, ℤ, pos, ◌*ℤ◌, ◌-ℤ◌, ap, refl, sym, ◌∙◌, arith}
+use Rattle.std.proofs.Common.{◌≡◌, ℕ, ◌*◌, ◌≤◌, ℤ, pos, ◌*ℤ◌, ◌-ℤ◌, ap, refl, sym, ◌∙◌, arith}
 use Rattle.std.specs.Ordering.{int_cmp, ordering_then}
 use Rattle.std.proofs.lemmas.Int.{ints}
 use Rattle.plane.specs.Sign.{Plus, sign}
-use Rattle.plane.proofs.Identities.{Split, lift, same, ◌⊟◌, ◌⊠◌}
-use Rattle.plane.proofs.Signs.{plus-times}
-use Rattle.osm_geom.specs.declared.loc.Loc.{Loc}
+use Rattle.plane.proofs.SignKit.{Split, lift, same, ◌⊟◌, ◌⊠◌, plus-times, sign-pos}
+use Rattle.osm_lattice.specs.declared.loc.Loc.{Loc}
 use Rattle.osm_geom.specs.declared.point.Point.{Point}
 use Rattle.osm_geom.specs.declared.point.Point.TheVariants.{Lattice, OnVertical, OnHorizontal}
-use Rattle.osm_geom.specs.Loc.{loc_cmp}
-use Rattle.osm_geom.specs.OrderLaws.{ordering_of}
+use Rattle.osm_lattice.specs.Loc.{loc_cmp}
+use Rattle.osm_lattice.specs.OrderLaws.{ordering_of}
 use Rattle.osm_geom.specs.Point.{Fraction, x_of, y_of, den_of, whole_of, point_cmp}
 use Rattle.osm_geom.specs.RatioOrder.{fraction_cmp, by_fractions}
 use Rattle.osm_geom.specs.Span.{height_order}
-use Rattle.osm_geom.proofs.LocationOrder.{int_cmp-is, ordering_of-then}
+use Rattle.osm_lattice.proofs.LatticeKit.{int_cmp-is, ordering_of-then}
+use Rattle.std.proofs.Math.Nat.{one-le-mul}
 
 pub x_den-some : (p : Point) → 1 ≤ (x_of p).den
 x_den-some (Lattice p) = omega arith
@@ -25,15 +25,6 @@ y_den-some (Lattice p) = omega arith
 y_den-some (OnVertical c y) = let some = y.den_in.0 in omega arith
 y_den-some (OnHorizontal x d) = omega arith
 
-sign-pos : (n : ℕ) → 1 ≤ n → sign (pos n) ≡ Plus
-sign-pos zero h = absurd (omega arith)
-sign-pos (suc n) h = refl
-
-product-some : (m n : ℕ) → 1 ≤ m → 1 ≤ n → 1 ≤ m * n
-product-some (suc m) (suc n) h k = omega arith
-product-some zero n h k = absurd (omega arith)
-product-some m zero h k = absurd (omega arith)
-
 -- two coordinates a / b and c / d, each multiplied by all denominators
 multiplied : (a c : ℤ) (b m d n : ℕ) → pos (b * m) *ℤ (c *ℤ pos n) -ℤ pos (d * n) *ℤ (a *ℤ pos m) ≡ pos (m * n) *ℤ (c *ℤ pos b -ℤ a *ℤ pos d)
 multiplied a c b m d n =
@@ -41,7 +32,7 @@ multiplied a c b m d n =
     same (nat (b * m) ⊠ (lift c ⊠ nat n) ⊟ nat (d * n) ⊠ (lift a ⊠ nat m)) (nat (m * n) ⊠ (lift c ⊠ nat b ⊟ lift a ⊠ nat d)) (omega arith)
 
 multiplied-sign : (a c : ℤ) (b m d n : ℕ) → 1 ≤ m → 1 ≤ n → sign (pos (b * m) *ℤ (c *ℤ pos n) -ℤ pos (d * n) *ℤ (a *ℤ pos m)) ≡ sign (c *ℤ pos b -ℤ a *ℤ pos d)
-multiplied-sign a c b m d n h k = ap sign (multiplied a c b m d n) ∙ plus-times (pos (m * n)) (c *ℤ pos b -ℤ a *ℤ pos d) (sign-pos (m * n) (product-some m n h k))
+multiplied-sign a c b m d n h k = ap sign (multiplied a c b m d n) ∙ plus-times (pos (m * n)) (c *ℤ pos b -ℤ a *ℤ pos d) (sign-pos (m * n) (one-le-mul h k))
 
 turned : (m n : ℕ) → m * n ≡ n * m
 turned m n = omega arith
@@ -67,7 +58,7 @@ pub height_cmp_is : (p q : Point) → fraction_cmp (y_of p) (y_of q) ≡ orderin
 height_cmp_is p q = int_cmp-is ((y_of p).num *ℤ pos (y_of q).den) ((y_of q).num *ℤ pos (y_of p).den)
 
 pub den-sign : (p : Point) → sign (pos (den_of p)) ≡ Plus
-den-sign p = sign-pos (den_of p) (product-some (x_of p).den (y_of p).den (x_den-some p) (y_den-some p))
+den-sign p = sign-pos (den_of p) (one-le-mul (x_den-some p) (y_den-some p))
 
 pub y_den-sign : (p : Point) → sign (pos (y_of p).den) ≡ Plus
 y_den-sign p = sign-pos (y_of p).den (y_den-some p)

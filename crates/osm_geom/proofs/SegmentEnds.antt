@@ -7,18 +7,17 @@ use Rattle.plane.specs.Edge.{Edge}
 use Rattle.plane.specs.RayCrossing.{is_off}
 use Rattle.plane.specs.Scale.{scaled_edge, scaled_point}
 use Rattle.plane.specs.Vector.{Vector, dot, from_to}
-use Rattle.plane.proofs.Identities.{lift, same, ◌⊞◌, ◌⊟◌, ◌⊠◌}
-use Rattle.plane.proofs.Points.{same_vector}
-use Rattle.plane.proofs.Products.{dot-here, cross-here, cross-from-here}
-use Rattle.osm_geom.specs.declared.loc.Loc.{Loc}
-use Rattle.osm_geom.specs.declared.seg.Seg.{Seg}
+use Rattle.plane.proofs.SignKit.{lift, same, ◌⊞◌, ◌⊟◌, ◌⊠◌}
+use Rattle.plane.proofs.PlaneKit.{same_vector, dot-here, cross-here, cross-from-here}
+use Rattle.osm_lattice.specs.declared.loc.Loc.{Loc}
+use Rattle.osm_lattice.specs.declared.seg.Seg.{Seg}
 use Rattle.osm_geom.specs.declared.point.Point.TheVariants.{Lattice}
 use Rattle.osm_geom.specs.declared.edge.Carrier.TheVariants.{OfSeg}
 use Rattle.osm_geom.specs.Carrier.{is_on}
-use Rattle.osm_geom.specs.Loc.{loc_cmp, vector_of}
+use Rattle.osm_lattice.specs.Loc.{loc_cmp, vector_of}
 use Rattle.osm_geom.specs.Point.{IsInWorld, whole_of}
-use Rattle.osm_geom.specs.Seg.{edge_of}
-use Rattle.osm_geom.proofs.LocationOrder.{loc_total}
+use Rattle.osm_lattice.specs.Seg.{edge_of}
+use Rattle.osm_lattice.proofs.LatticeKit.{loc_total}
 
 -- what a lattice point is once multiplied by 1, from either side
 once : (p : Loc) → whole_of (Lattice p) ≡ scaled_point (pos 1) (vector_of p)

@@ -3,8 +3,8 @@ use Rattle.std.proofs.Common.{◌≡◌, true, refl}
 use Rattle.std.specs.declared.cmp.Ordering.TheVariants.{Less, Equal}
 use Rattle.std.specs.Ordering.{ordering_reverse}
 use Rattle.plane.specs.Sign.{Sign, Plus, Null, Minus, negated}
-use Rattle.plane.proofs.Signs.{agree}
-use Rattle.osm_geom.specs.OrderLaws.{ordering_of}
+use Rattle.plane.proofs.SignKit.{agree}
+use Rattle.osm_lattice.specs.OrderLaws.{ordering_of}
 
 pub reverses : (s : Sign) → ordering_of (negated s) ≡ ordering_reverse (ordering_of s)
 reverses Plus = refl

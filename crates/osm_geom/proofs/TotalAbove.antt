@@ -10,27 +10,24 @@ use Rattle.plane.specs.RayCrossing.{off_by}
 use Rattle.plane.specs.Scale.{scaled_edge}
 use Rattle.plane.specs.Sign.{Sign, Plus, Null, Minus, is_minus, is_null, is_plus, negated, sign, then_sign}
 use Rattle.plane.specs.Vector.{cross, dot, from_to}
-use Rattle.plane.proofs.Identities.{lift, same, ◌⊟◌, ◌⊠◌}
-use Rattle.plane.proofs.Points.{int_eq-true}
-use Rattle.plane.proofs.Scaling.{minus-sign}
-use Rattle.plane.proofs.Signs.{agree, null-zero, plus-times, sign-reversed}
+use Rattle.plane.proofs.SignKit.{lift, same, ◌⊟◌, ◌⊠◌, agree, null-zero, plus-times, sign-reversed}
+use Rattle.lists.proofs.Integers.{int_eq-true, same_from_difference}
+use Rattle.plane.proofs.PlaneKit.{minus-sign}
 use Rattle.osm_geom.specs.declared.edge.Carrier.{Carrier}
 use Rattle.osm_geom.specs.declared.edge.Carrier.TheVariants.{OfSeg, Vertical, Horizontal}
 use Rattle.osm_geom.specs.declared.edge.Edge.{Edge}
 use Rattle.osm_geom.specs.declared.point.Point.{Point}
 use Rattle.osm_geom.specs.declared.point.Point.TheVariants.{Lattice, OnVertical, OnHorizontal}
-use Rattle.osm_geom.specs.declared.seg.Seg.{Seg}
+use Rattle.osm_lattice.specs.declared.seg.Seg.{Seg}
 use Rattle.osm_geom.specs.Carrier.{has_y, is_on}
 use Rattle.osm_geom.specs.Edge.{runs_up}
 use Rattle.osm_geom.specs.JustAbove.{height_of, just_above_cmp, piece_of}
-use Rattle.osm_geom.specs.OrderLaws.{ordering_of}
+use Rattle.osm_lattice.specs.OrderLaws.{ordering_of}
 use Rattle.osm_geom.specs.Point.{den_of, whole_of, x_of, y_of}
-use Rattle.osm_geom.specs.Seg.{edge_of}
+use Rattle.osm_lattice.specs.Seg.{edge_of}
 use Rattle.osm_geom.specs.Span.{height_order, lower_end, spans, upper_end}
-use Rattle.osm_geom.proofs.Factors.{cancel_factor, zero_other}
+use Rattle.osm_lattice.proofs.LatticeKit.{cancel_factor, some, zero_other, rising_edge}
 use Rattle.osm_geom.proofs.LinesAbove.{IsTall, along-scaled, order_above-reversed, order_above-sum, tie_along}
-use Rattle.osm_geom.proofs.LocationOrder.{rising_edge}
-use Rattle.osm_geom.proofs.MeetingPoint.{some}
 use Rattle.osm_geom.proofs.PointOrders.{den-sign, x_den-some, y_den-sign}
 use Rattle.osm_geom.proofs.SignOrders.{chains, reverses, tied, ties_alike}
 
@@ -94,9 +91,6 @@ flat_cross k a b d x y =
 plus-nonzero : (z : ℤ) → sign z ≡ Plus → z ≢ pos 0
 plus-nonzero z h e = let t = ap sign e in cc
 
-equal_by : (x y : ℤ) → x -ℤ y ≡ pos 0 → x ≡ y
-equal_by x y h = omega (arith, ints)
-
 flat_height : (n d : ℤ) (k m : ℕ) → 1 ≤ k → n *ℤ pos k ≡ pos (k * m) *ℤ d → n ≡ d *ℤ pos m
 flat_height n d k m h e = cancel_factor n (d *ℤ pos m) (pos k) (some k h) (turned n (pos k) ∙ (e ∙ regrouped d k m))
   where
@@ -115,12 +109,12 @@ on_flat_segment s p level wide on =
     let flat : (k *ℤ s.a.x -ℤ w.x) *ℤ (k *ℤ s.a.y -ℤ w.y) -ℤ (k *ℤ s.a.y -ℤ w.y) *ℤ (k *ℤ s.b.x -ℤ w.x) ≡ pos 0 = ap (λ z. (k *ℤ s.a.x -ℤ w.x) *ℤ (k *ℤ z -ℤ w.y) -ℤ (k *ℤ s.a.y -ℤ w.y) *ℤ (k *ℤ s.b.x -ℤ w.x)) (sym level) ∙ zero in
     let nonzero = plus-nonzero (k *ℤ (s.b.x -ℤ s.a.x)) (plus-times k (s.b.x -ℤ s.a.x) (den-sign p) ∙ wide) in
     let same_height = zero_other (k *ℤ (s.b.x -ℤ s.a.x)) (w.y -ℤ k *ℤ s.a.y) nonzero (sym (flat_cross k s.a.x s.b.x s.a.y w.x w.y) ∙ flat) in
-    flat_height (y_of p).num s.a.y (x_of p).den (y_of p).den (x_den-some p) (equal_by w.y (k *ℤ s.a.y) same_height)
+    flat_height (y_of p).num s.a.y (x_of p).den (y_of p).den (x_den-some p) (same_from_difference w.y (k *ℤ s.a.y) same_height)
 
 segment_rises : (e : Edge) (at : Point) (s : Seg) (t : Sign) → sign (s.b.y -ℤ s.a.y) ≡ t → is_on (OfSeg s) e.from ≡ true → is_on (OfSeg s) e.to ≡ true → spans e at ≡ true → t ≡ Plus
 segment_rises e at s Plus is from to h = refl
 segment_rises e at s Null is from to h =
-    let level = equal_by s.b.y s.a.y (null-zero (s.b.y -ℤ s.a.y) is) in
+    let level = same_from_difference s.b.y s.a.y (null-zero (s.b.y -ℤ s.a.y) is) in
     let wide : sign (s.b.x -ℤ s.a.x) ≡ Plus = subst (λ t. then_sign t (sign (s.b.x -ℤ s.a.x)) ≡ Plus) is (rising_edge s) in
     absurd (spans_flat e at s.a.y (on_flat_segment s e.from level wide from) (on_flat_segment s e.to level wide to) h)
 segment_rises e at s Minus is from to h =

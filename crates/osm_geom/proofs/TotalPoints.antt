@@ -1,33 +1,27 @@
 -- The order of points is total, and tells points apart.
-use Rattle.std.proofs.Common.{◌≡◌, ◌↔◌, ℕ, ◌*◌, ℤ, pos, ◌*ℤ◌, unsigned_abs, true, refl, sym, ap, ◌∙◌, subst, arith}
+use Rattle.std.proofs.Common.{◌≡◌, ◌↔◌, ℕ, ◌*◌, ℤ, pos, ◌*ℤ◌, unsigned_abs, true, sym, ap, ◌∙◌, subst, arith}
 use Rattle.std.proofs.Props.{props}
 use Rattle.std.proofs.Math.Nat.{dvd-mul_left}
 use Rattle.std.proofs.lemmas.Int.{ints, unsigned_abs-mul}
 use Rattle.std.proofs.lemmas.Nat.Gcd.{dvd_refl}
 use Rattle.std.proofs.lemmas.Cmp.{int_ranked, tied_itself}
 use Rattle.std.specs.Cmp.{IsTotalOrder}
-use Rattle.std.specs.Ordering.{ordering_then}
-use Rattle.std.specs.declared.cmp.Ordering.{Ordering}
-use Rattle.std.specs.declared.cmp.Ordering.TheVariants.{Less, Equal, Greater}
+use Rattle.std.specs.declared.cmp.Ordering.TheVariants.{Equal}
 use Prim.Native.Nat.{◌∣◌}
 use mathlib.Core.HLevel.{is_prop→PathP}
 use Rattle.plane.specs.Order.{order}
 use Rattle.plane.specs.Scale.{scaled_point}
 use Rattle.plane.specs.Vector.{Vector}
-use Rattle.plane.proofs.Identities.{lift, same, ◌⊠◌}
-use Rattle.plane.proofs.PointOrder.{order-reversed, order-sum}
-use Rattle.plane.proofs.Points.{same_vector}
-use Rattle.plane.proofs.Scaling.{order-scaled}
-use Rattle.plane.proofs.Signs.{agree}
+use Rattle.plane.proofs.SignKit.{lift, same, ◌⊠◌, agree}
+use Rattle.plane.proofs.PlaneKit.{order-reversed, order-sum, same_vector, order-scaled}
 use Rattle.osm_geom.specs.declared.point.Part.{Part}
 use Rattle.osm_geom.specs.declared.point.Point.{Point}
 use Rattle.osm_geom.specs.declared.point.Point.TheVariants.{Lattice, OnVertical, OnHorizontal}
-use Rattle.osm_geom.specs.OrderLaws.{ordering_of}
+use Rattle.osm_lattice.specs.OrderLaws.{ordering_of}
 use Rattle.osm_geom.specs.Part.{IsPartDen, IsPartNum}
 use Rattle.osm_geom.specs.Point.{x_of, y_of, den_of, whole_of, point_order, point_cmp}
 use Rattle.osm_geom.specs.RatioOrder.{fraction_cmp}
-use Rattle.osm_geom.proofs.LowestTerms.{frac_same}
-use Rattle.osm_geom.proofs.Orders.{loc_from_fields}
+use Rattle.osm_lattice.proofs.LatticeKit.{frac_same, loc_from_fields, then_equal}
 use Rattle.osm_geom.proofs.PointOrders.{den-sign, point_cmp_is}
 use Rattle.osm_geom.proofs.SignOrders.{reverses, chains, ties_alike}
 
@@ -89,12 +83,7 @@ part_whole n p e =
 whole_same : (m n : ℤ) → m *ℤ pos 1 ≡ n *ℤ pos 1 → m ≡ n
 whole_same m n e = omega (arith, ints)
 
-then_equal : (o p : Ordering) → ordering_then o p ≡ Equal → (o ≡ Equal) × (p ≡ Equal)
-then_equal Less p e = cc
-then_equal Equal p e = (refl, e)
-then_equal Greater p e = cc
-
-same_by : (p q : Point) → (x_of p).num *ℤ pos (x_of q).den ≡ (x_of q).num *ℤ pos (x_of p).den → (y_of p).num *ℤ pos (y_of q).den ≡ (y_of q).num *ℤ pos (y_of p).den → p ≡ q
+pub same_by : (p q : Point) → (x_of p).num *ℤ pos (x_of q).den ≡ (x_of q).num *ℤ pos (x_of p).den → (y_of p).num *ℤ pos (y_of q).den ≡ (y_of q).num *ℤ pos (y_of p).den → p ≡ q
 same_by (Lattice p) (Lattice q) ex ey = ap Lattice (loc_from_fields p q (whole_same p.x q.x ex) (whole_same p.y q.y ey))
 same_by (Lattice p) (OnVertical c y) ex ey = absurd (part_whole p.y y ey)
 same_by (Lattice p) (OnHorizontal x d) ex ey = absurd (part_whole p.x x ex)

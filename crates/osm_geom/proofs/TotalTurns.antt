@@ -7,13 +7,14 @@ use Rattle.std.specs.declared.cmp.Ordering.{Ordering}
 use Rattle.std.specs.declared.cmp.Ordering.TheVariants.{Less, Equal, Greater}
 use Rattle.plane.specs.Sign.{Sign, Plus, Null, Minus, is_null, is_plus, negated, sign}
 use Rattle.plane.specs.Vector.{IsDirection}
-use Rattle.plane.proofs.Bools.{and-in, and-out}
-use Rattle.plane.proofs.Products.{cross-negated, direction-from, frame-agree, frame-dot-agree, plucker-agree}
-use Rattle.plane.proofs.Signs.{agree, all, all-out, all4, all4-out, both, left-out, right-out, imp, imp-out, is_plus-true, same_bool, same_bool-true, times}
+use Rattle.std.proofs.lemmas.Bool.{and_from, and_parts}
+use Rattle.plane.proofs.PlaneKit.{cross-negated, direction-from, frame-agree, frame-dot-agree, plucker-agree}
+use Rattle.plane.proofs.SignKit.{agree, all, all-out, all4, all4-out, both, left-out, right-out, imp, imp-out, is_plus-true, same_bool, same_bool-true, times, is_null-true}
 use Rattle.osm_geom.specs.declared.dir.Dir.{Dir}
 use Rattle.osm_geom.specs.declared.turning.Turn.{Turn}
 use Rattle.osm_geom.specs.Dir.{vector_along, cross, dot, turn_by, rank_of, clockwise_cmp}
 use Rattle.osm_geom.specs.TotalOrders.{IsOneDirection}
+use Rattle.lists.proofs.Orderings.{equal_from, less_from}
 
 -- ---- the order as a function of signs: a, p, and b, q: of the cross and dot products of the first direction with d and with e; k: of cross d e
 abbrev against : Sign → Ordering
@@ -49,16 +50,6 @@ same_order-true Less Less h = refl
 same_order-true Equal Equal h = refl
 same_order-true Greater Greater h = refl
 same_order-true o p h = absurd (cc h)
-
-is_lt-less : (o : Ordering) → is_lt o ≡ true → o ≡ Less
-is_lt-less Less h = refl
-is_lt-less Equal h = absurd (cc h)
-is_lt-less Greater h = absurd (cc h)
-
-is_eq-equal : (o : Ordering) → is_eq o ≡ true → o ≡ Equal
-is_eq-equal Equal h = refl
-is_eq-equal Less h = absurd (cc h)
-is_eq-equal Greater h = absurd (cc h)
 
 -- ---- reversed
 abbrev reversed_1 : Sign → Sign → Sign → Sign → Bool
@@ -118,7 +109,7 @@ chain f d e g =
 
 less_chain : (o o' o'' : Ordering) → chained o o' o'' ≡ true → o ≡ Less → o' ≡ Less → o'' ≡ Less
 less_chain o o' o'' h e e' =
-    is_lt-less o'' (imp-out _ _ (imp-out _ _ (left-out (imp (is_lt o) λ _. imp (is_lt o') λ _. is_lt o'') (imp (is_eq o) λ _. same_order o'' o') h) (ap is_lt e)) (ap is_lt e'))
+    less_from o'' (imp-out _ _ (imp-out _ _ (left-out (imp (is_lt o) λ _. imp (is_lt o') λ _. is_lt o'') (imp (is_eq o) λ _. same_order o'' o') h) (ap is_lt e)) (ap is_lt e'))
 
 equal_chain : (o o' o'' : Ordering) → chained o o' o'' ≡ true → o ≡ Equal → o'' ≡ o'
 equal_chain o o' o'' h e =
@@ -162,16 +153,11 @@ tie f d e =
     let one = all-out (tie_1 a p b q k) (all-out (λ k. all (tie_1 a p b q k)) (all4-out tie_0 ties_compute a p b q) k) z in
     same_bool-true _ _ (imp-out _ _ (imp-out _ _ (imp-out _ _ (imp-out _ _ one (squared f d)) (squared f e)) (framed f d e)) (dotted f d e))
 
-is_null-null : (s : Sign) → is_null s ≡ true → s ≡ Null
-is_null-null Null h = refl
-is_null-null Plus h = absurd (cc h)
-is_null-null Minus h = absurd (cc h)
-
 one_way : (k z : Sign) → (is_null k && is_plus z) ≡ true → (k ≡ Null) × (z ≡ Plus)
-one_way k z h = let t = and-out (is_null k) (is_plus z) h in (is_null-null k t.0, is_plus-true z t.1)
+one_way k z h = let t = and_parts (is_null k) (is_plus z) h in (is_null-true k t.0, is_plus-true z t.1)
 
 pub clockwise_alone : (f d e : Dir) → (clockwise_cmp f d e ≡ Equal) ↔ IsOneDirection d e
 clockwise_alone f d e = (
   λ h. one_way (sign (cross d e)) (sign (dot d e)) (sym (tie f d e) ∙ ap is_eq (sym (order-is f d e) ∙ h)),
-  λ t. order-is f d e ∙ is_eq-equal (order_of f d e) (tie f d e ∙ and-in (is_null (sign (cross d e))) (is_plus (sign (dot d e))) (ap is_null t.0) (ap is_plus t.1)),
+  λ t. order-is f d e ∙ equal_from (order_of f d e) (tie f d e ∙ and_from (is_null (sign (cross d e))) (is_plus (sign (dot d e))) (ap is_null t.0) (ap is_plus t.1)),
 )

@@ -8,9 +8,9 @@ use Rattle.osm_geom.specs.declared.point.Point.{Point}
 use Rattle.osm_geom.specs.declared.point.Point.TheVariants.{Lattice, OnVertical, OnHorizontal}
 use Rattle.osm_geom.specs.declared.edge.Carrier.{Carrier}
 use Rattle.osm_geom.specs.declared.edge.Carrier.TheVariants.{OfSeg, Vertical, Horizontal}
-use Rattle.osm_geom.specs.Loc.{step}
+use Rattle.osm_lattice.specs.Loc.{step}
 use Rattle.osm_geom.specs.Point.{den_of, whole_of}
-use Rattle.osm_geom.specs.Seg.{edge_of}
+use Rattle.osm_lattice.specs.Seg.{edge_of}
 
 -- the x of p is c
 abbrev pub has_x : ℤ → Point → Bool

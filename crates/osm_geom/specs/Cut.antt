@@ -8,7 +8,7 @@ use Rattle.osm_geom.specs.declared.cut.Side.{Side}
 use Rattle.osm_geom.specs.declared.cut.Side.TheVariants.{Low, High}
 use Rattle.osm_geom.specs.declared.edge.Carrier.{Carrier}
 use Rattle.osm_geom.specs.declared.edge.Carrier.TheVariants.{Vertical, Horizontal}
-use Rattle.osm_geom.specs.declared.frac.Frac.{Frac}
+use Rattle.osm_lattice.specs.declared.frac.Frac.{Frac}
 use Rattle.osm_geom.specs.declared.point.Point.{Point}
 use Rattle.osm_geom.specs.Point.{Fraction, x_of, y_of}
 

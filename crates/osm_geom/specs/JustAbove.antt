@@ -1,6 +1,7 @@
 -- The order of edges from left to right just above the height of a point that they span.
-use Rattle.std.specs.Prelude.{pos}
+use Rattle.std.specs.Prelude.{Bool, pos, ◌&&◌}
 use Rattle.std.specs.declared.cmp.Ordering.{Ordering}
+use Rattle.std.specs.Ordering.{is_lt}
 use Rattle.plane.specs.Edge as plane
 use Rattle.plane.specs.Height.{order_above}
 use Rattle.plane.specs.Scale.{scaled_edge}
@@ -9,9 +10,10 @@ use Rattle.osm_geom.specs.declared.edge.Carrier.{Carrier}
 use Rattle.osm_geom.specs.declared.edge.Carrier.TheVariants.{OfSeg, Vertical, Horizontal}
 use Rattle.osm_geom.specs.declared.edge.Edge.{Edge}
 use Rattle.osm_geom.specs.declared.point.Point.{Point}
-use Rattle.osm_geom.specs.OrderLaws.{ordering_of}
+use Rattle.osm_lattice.specs.OrderLaws.{ordering_of}
 use Rattle.osm_geom.specs.Point.{y_of}
-use Rattle.osm_geom.specs.Seg.{edge_of}
+use Rattle.osm_lattice.specs.Seg.{edge_of}
+use Rattle.osm_geom.specs.Span.{spans}
 
 -- a piece of the carrier's line, between points of whole coordinates
 abbrev pub piece_of : Carrier → plane.Edge
@@ -26,3 +28,7 @@ height_of at = record { x = pos 0; y = (y_of at).num }
 -- by where the lines of e and f are at the height of the point, then by their slopes: Less where e is left of f
 unfoldable pub just_above_cmp : Edge → Edge → Point → Ordering
 just_above_cmp e f at = ordering_of (order_above (height_of at) (scaled_edge (pos (y_of at).den) (piece_of e.carrier)) (scaled_edge (pos (y_of at).den) (piece_of f.carrier)))
+
+-- f spans the height of the point too, and is right of e just above it
+abbrev pub is_right_of : Edge → Point → Edge → Bool
+is_right_of e at f = spans f at && is_lt (just_above_cmp e f at)

@@ -7,7 +7,7 @@ use Rattle.plane.specs.Sign.{Sign}
 use Rattle.plane.specs.Vector.{Vector}
 use Rattle.osm_geom.specs.declared.point.Point.{Point}
 use Rattle.osm_geom.specs.declared.point.Point.TheVariants.{Lattice, OnVertical, OnHorizontal}
-use Rattle.osm_geom.specs.OrderLaws.{ordering_of}
+use Rattle.osm_lattice.specs.OrderLaws.{ordering_of}
 
 -- num / den
 pub record Fraction : Type 0 where

@@ -2,21 +2,18 @@
 
 ghost use Rattle.std.specs.Prelude.{◌≡◌, ◌≢◌, ◌≤◌, ◌-◌, ◌*◌, true, pos, unsigned_abs, ◌-ℤ◌, ◌+ℤ◌, ◌*ℤ◌};
 ghost use Rattle.plane.specs.Sign.{Null, sign};
-ghost use Rattle.osm_geom.specs.Bounds.{IsLatitude, IsLongitude};
+ghost use Rattle.osm_lattice.specs.Bounds.{IsLatitude, IsLongitude};
 ghost use Rattle.osm_geom.specs.Carrier.{is_on};
 ghost use Rattle.osm_geom.specs.Cut.{cut_order, fraction};
-ghost use Rattle.osm_geom.specs.OrderLaws.{ordering_of};
+ghost use Rattle.osm_lattice.specs.OrderLaws.{ordering_of};
 ghost use Rattle.osm_geom.specs.Point.{x_of, y_of, whole};
 ghost use Rattle.osm_geom.specs.declared.edge.Carrier.TheVariants.{OfSeg};
 ghost use Rattle.osm_geom.specs.declared.point.Point.TheVariants.{Lattice};
 
-use crate::frac::Frac;
-use crate::loc::Loc;
-use crate::meetings::{Share, between};
 use crate::point::{Part, Point};
 use crate::point_order::{x_ratio, y_ratio};
 use crate::ratio::Ratio;
-use crate::seg::Seg;
+use osm_lattice::{Frac, Loc, Seg, Share, between};
 use std::cmp::Ordering;
 
 /// The axis whose coordinate is whole on a cut line.
@@ -53,14 +50,14 @@ pub fn compare_to_cut(p: &Point, cut: Cut) -> Ordering
     }
 }
 
-// How far apart two coordinates are.
+/// How far apart two coordinates are.
 fn distance(a: i32, b: i32) -> u64
     ensures { result ≡ unsigned_abs (b -ℤ a) }
 {
     (i64::from(b) - i64::from(a)).unsigned_abs()
 }
 
-// How far along from `start` to `end` the number `at`, which is not beyond them, lies.
+/// How far along from `start` to `end` the number `at`, which is not beyond them, lies.
 fn share_between(start: i32, end: i32, at: i32) -> Share
     requires { sign (at -ℤ start) ≢ sign (at -ℤ end) }
     ensures above { result.above ≡ unsigned_abs (at -ℤ start) }
@@ -72,7 +69,7 @@ fn share_between(start: i32, end: i32, at: i32) -> Share
     }
 }
 
-// The number that lies so far from `start` to `end`.
+/// The number that lies so far from `start` to `end`.
 fn number_at(start: i32, end: i32, at: Share) -> Frac
     requires start_in { unsigned_abs start ≤ 1_800_000_000 }
     requires end_in { unsigned_abs end ≤ 1_800_000_000 }
@@ -82,7 +79,7 @@ fn number_at(start: i32, end: i32, at: Share) -> Frac
     Frac::new(between(start, end, at), at.den)
 }
 
-// The point with these coordinates, the first of which is whole.
+/// The point with these coordinates, the first of which is whole.
 fn point_beside(c: i32, y: Frac) -> Point
     requires c_in { IsLongitude c }
     requires num_in { unsigned_abs y.num ≤ 900_000_000 * y.den }
@@ -102,7 +99,7 @@ fn point_beside(c: i32, y: Frac) -> Point
     }
 }
 
-// The point with these coordinates, the second of which is whole.
+/// The point with these coordinates, the second of which is whole.
 fn point_above(x: Frac, d: i32) -> Point
     requires num_in { unsigned_abs x.num ≤ 1_800_000_000 * x.den }
     requires den_in { x.den ≤ 3_600_000_000 }
@@ -122,7 +119,7 @@ fn point_above(x: Frac, d: i32) -> Point
     }
 }
 
-// The point of a segment with the x `c`.
+/// The point of a segment with the x `c`.
 fn point_with_x(s: Seg, c: i32) -> Point
     requires { sign (c -ℤ s.a.x) ≢ sign (c -ℤ s.b.x) }
     ensures on { is_on (OfSeg s) result ≡ true }
@@ -131,7 +128,7 @@ fn point_with_x(s: Seg, c: i32) -> Point
     point_beside(c, number_at(s.a.y, s.b.y, share_between(s.a.x, s.b.x, c)))
 }
 
-// The point of a segment with the y `d`.
+/// The point of a segment with the y `d`.
 fn point_with_y(s: Seg, d: i32) -> Point
     requires { sign (d -ℤ s.a.y) ≢ sign (d -ℤ s.b.y) }
     ensures on { is_on (OfSeg s) result ≡ true }

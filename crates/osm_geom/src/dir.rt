@@ -1,3 +1,4 @@
+//! Directions.
 ghost use Rattle.osm_geom.specs.Steps.{IsStep, IsNonzeroStep};
 
 /// A direction, as a step in units of 1e-7 degree. Longer steps the same way are the same direction.

@@ -1,3 +1,4 @@
+//! Directed edges, and what carries them.
 ghost use Rattle.std.specs.Prelude.{◌≡◌, ◌≢◌, true, if◌then◌else◌};
 ghost use Rattle.osm_geom.specs.Carrier.{is_on};
 ghost use Rattle.osm_geom.specs.Point.{IsInWorld};
@@ -5,7 +6,7 @@ ghost use Rattle.osm_geom.specs.declared.point.Point.TheVariants.{Lattice};
 ghost use Rattle.osm_geom.specs.declared.edge.Carrier.TheVariants.{OfSeg};
 
 use crate::point::Point;
-use crate::seg::Seg;
+use osm_lattice::Seg;
 
 /// What an edge is a part of.
 #[derive(Clone, Copy, Debug, PartialEq, Eq)]
@@ -19,6 +20,11 @@ pub enum Carrier {
 }
 
 /// A directed part of a carrier, between two different points of the world.
+///
+/// Valid where both ends lie on the carrier, differ, and are in the world; ghost fields hold these facts, so that every value of
+/// the type is valid. No end is rounded: it is a location, or the exact point where a segment meets a line of whole coordinate. An
+/// edge may be the whole of a segment or a part of it, and its direction is the carrier's or the opposite, whatever its ends are.
+/// In a sided list the area is on the left of each edge, as the right-hand rule of RFC 7946, section 3.1.6, has it for rings.
 #[derive(Clone, Copy, Debug, PartialEq, Eq)]
 pub struct Edge {
     pub from: Point,

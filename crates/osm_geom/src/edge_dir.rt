@@ -1,3 +1,4 @@
+//! The directions of edges.
 ghost use Rattle.std.specs.Prelude.{◌≡◌, pos};
 ghost use Rattle.osm_geom.specs.Carrier.{rising_of};
 ghost use Rattle.osm_geom.specs.Dir.{vector_along};
@@ -5,12 +6,12 @@ ghost use Rattle.osm_geom.specs.Edge.{opposite, direction_of};
 
 use crate::dir::Dir;
 use crate::edge::{Carrier, Edge};
-use crate::orientation::{step_x, step_y};
 use crate::point_order::compare_points;
+use osm_lattice::{step_x, step_y};
 use std::cmp::Ordering;
 
-// The direction in which a carrier rises in the order of points.
-#[tactic(auto, unfolding(crate::specs::Loc::step))]
+/// The direction in which a carrier rises in the order of points.
+#[tactic(auto, unfolding(osm_lattice::specs::Loc::step))]
 fn rising(carrier: Carrier) -> Dir
     ensures { vector_along result ≡ rising_of carrier }
 {

@@ -11,7 +11,7 @@ fn edge(ends: [i64; 4], forward: bool) -> Result<Edge, Fail> {
     Ok(Edge::of(seg.ok_or_else(|| Fail::new("no segment"))?, forward))
 }
 
-// The order of two edges where both span the height.
+/// The order of two edges where both span the height.
 fn just_above(e: &Edge, f: &Edge, at: &Point) -> Option<Ordering> {
     if spans_height(e, at) && spans_height(f, at) {
         Some(compare_just_above(e, f, at))

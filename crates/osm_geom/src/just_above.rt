@@ -1,6 +1,7 @@
+//! The order of edges just above a height.
 ghost use Rattle.std.specs.Prelude.{◌≡◌, true, ◌-ℤ◌};
 ghost use Rattle.plane.specs.Vector.{from_to};
-ghost use Rattle.osm_geom.specs.Bounds.{IsLongitude, IsLatitude};
+ghost use Rattle.osm_lattice.specs.Bounds.{IsLongitude, IsLatitude};
 ghost use Rattle.osm_geom.specs.Span.{spans};
 ghost use Rattle.osm_geom.specs.JustAbove.{piece_of, just_above_cmp};
 ghost use Rattle.osm_geom.specs.LineOrder.{start_of, step_of};
@@ -9,12 +10,11 @@ ghost use Rattle.osm_geom.specs.declared.edge.Carrier.TheVariants.{OfSeg, Vertic
 
 use crate::edge::{Carrier, Edge};
 use crate::level::{Level, Line};
-use crate::orientation::{step_x, step_y};
 use crate::point::Point;
-use crate::seg::Seg;
+use osm_lattice::{Seg, step_x, step_y};
 use std::cmp::Ordering;
 
-// The line of a segment.
+/// The line of a segment.
 fn segment_line(s: Seg) -> Line
     ensures start { start_of result ≡ (piece_of (OfSeg s)).from }
     ensures step { step_of result ≡ from_to (piece_of (OfSeg s)).from (piece_of (OfSeg s)).to }
@@ -53,7 +53,7 @@ fn horizontal_line(d: i32) -> Line
     }
 }
 
-// The line of an edge's carrier.
+/// The line of an edge's carrier.
 #[tactic(auto, using(crate::proofs::EdgeBounds::carrier_bounds))]
 fn line_of(e: &Edge) -> Line
     ensures start { start_of result ≡ (piece_of e.now.carrier).from }
@@ -66,7 +66,7 @@ fn line_of(e: &Edge) -> Line
     }
 }
 
-// The height of a point that an edge spans.
+/// The height of a point that an edge spans.
 #[tactic(auto, using(crate::proofs::EdgeBounds::spanned_level))]
 fn level_of(at: &Point, e: &Edge) -> Level
     requires { spans e.now at.now ≡ true }

@@ -1,5 +1,6 @@
+//! Where lines are at a height.
 ghost use Rattle.std.specs.Prelude.{◌≡◌, ◌≤◌, ◌*ℤ◌, ◌-ℤ◌, pos, unsigned_abs};
-ghost use Rattle.osm_geom.specs.Bounds.{IsLongitude, IsLatitude};
+ghost use Rattle.osm_lattice.specs.Bounds.{IsLongitude, IsLatitude};
 ghost use Rattle.osm_geom.specs.Level.{IsLevel, IsRun, IsRise};
 ghost use Rattle.osm_geom.specs.Ratio.{IsRatioDen};
 
@@ -30,7 +31,7 @@ pub struct Line {
 impl Line {
     ghost use Rattle.osm_geom.specs.LineOrder.{slope_cmp};
 
-    // The order of two lines that rise by how far each runs to the right while it rises.
+    /// The order of two lines that rise by how far each runs to the right while it rises.
     fn compare_slopes(self, other: Line) -> Ordering
         ensures { result ≡ slope_cmp self other }
     {
@@ -41,7 +42,7 @@ impl Line {
 impl Level {
     ghost use Rattle.osm_geom.specs.LineOrder.{x_num, place_cmp, line_cmp};
 
-    // How far the height is above the line's point, times its denominator.
+    /// How far the height is above the line's point, times its denominator.
     fn above(self, l: Line) -> i128
         ensures value { result ≡ self.num -ℤ l.y *ℤ pos self.den }
         ensures small { unsigned_abs result ≤ 6_480_000_000_000_000_000 }
@@ -49,7 +50,7 @@ impl Level {
         self.num - l.y * i128::from(self.den)
     }
 
-    // The numerator of the line's x here, over its rise times the denominator.
+    /// The numerator of the line's x here, over its rise times the denominator.
     #[tactic(auto, unfolding(crate::specs::LineOrder::x_num))]
     fn x_num(self, l: Line) -> i128
         ensures value { result ≡ x_num l self }
@@ -58,7 +59,7 @@ impl Level {
         l.x * l.rise * i128::from(self.den) + self.above(l) * l.run
     }
 
-    // The order of two lines that rise by where they are at this height.
+    /// The order of two lines that rise by where they are at this height.
     fn compare_places(self, l: Line, m: Line) -> Ordering
         ensures { result ≡ place_cmp l m self }
     {

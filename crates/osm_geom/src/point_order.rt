@@ -1,6 +1,7 @@
+//! The orders of points.
 ghost use Rattle.std.specs.Prelude.{◌≡◌};
 ghost use Rattle.osm_geom.specs.Point.{x_of, y_of, point_cmp};
-ghost use Rattle.osm_geom.specs.OrderLaws.{ordering_of};
+ghost use Rattle.osm_lattice.specs.OrderLaws.{ordering_of};
 ghost use Rattle.osm_geom.specs.Span.{height_order};
 ghost use Rattle.osm_geom.specs.RatioOrder.{fraction_of, by_fractions};
 

@@ -1,3 +1,4 @@
+//! Coordinates as fractions.
 ghost use Rattle.std.specs.Prelude.{◌≡◌};
 ghost use Rattle.osm_geom.specs.Ratio.{IsRatioDen, IsRatioNum};
 

@@ -1,3 +1,4 @@
+//! The heights that an edge spans.
 ghost use Rattle.std.specs.Prelude.{◌≡◌, not};
 ghost use Rattle.plane.specs.Sign.{is_minus, is_plus};
 ghost use Rattle.osm_geom.specs.Edge.{runs_up};

@@ -1,10 +1,11 @@
+//! Directions in clockwise order around one.
 ghost use Rattle.std.specs.Prelude.{◌≡◌};
 ghost use Rattle.osm_geom.specs.Dir.{cross, dot, turn_of, clockwise_cmp};
 
 use crate::dir::Dir;
 use std::cmp::Ordering;
 
-// A clockwise turn: below half a turn, half, above half, and a full one.
+/// A clockwise turn: below half a turn, half, above half, and a full one.
 #[derive(Clone, Copy, Debug, PartialEq, Eq, PartialOrd, Ord)]
 enum Turn {
     Right,

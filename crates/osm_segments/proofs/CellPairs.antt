@@ -5,12 +5,12 @@ use Rattle.std.specs.List.{cons_option, filter_map}
 use Rattle.std.proofs.lemmas.Int.{ints}
 use Rattle.std.proofs.lemmas.List.Elements.{Contains-append_cases, Contains-append_left, Contains-append_right}
 use lib.Signed.{lt_z}
-use Rattle.plane.proofs.Identities.{lift, same, ◌⊞◌, ◌⊟◌, ◌⊠◌}
-use Rattle.osm_geom.specs.declared.loc.Loc.{Loc}
-use Rattle.osm_geom.specs.declared.seg.Seg.{Seg}
-use Rattle.osm_geom.specs.Loc.{orientation}
-use Rattle.osm_geom.specs.Conflict.{conflict_of}
-use Rattle.osm_geom.specs.ConflictLaws.{ConflictIsSymmetric, SegmentsPartedAreClear, reach}
+use Rattle.plane.proofs.SignKit.{lift, same, ◌⊞◌, ◌⊟◌, ◌⊠◌}
+use Rattle.osm_lattice.specs.declared.loc.Loc.{Loc}
+use Rattle.osm_lattice.specs.declared.seg.Seg.{Seg}
+use Rattle.osm_lattice.specs.Loc.{orientation}
+use Rattle.osm_lattice.specs.Conflict.{conflict_of}
+use Rattle.osm_lattice.specs.ConflictLaws.{ConflictIsSymmetric, SegmentsPartedAreClear, reach}
 use Rattle.osm_segments.specs.declared.division.Direction.{Direction}
 use Rattle.osm_segments.specs.declared.division.Direction.TheVariants.{East, North, LeftOf}
 use Rattle.osm_segments.specs.declared.division.Line.{Line}

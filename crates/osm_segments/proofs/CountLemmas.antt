@@ -1,8 +1,8 @@
 -- Facts of two clauses put together, and the segments of repeats.
 use Rattle.std.proofs.Common.{◌≡◌, List, [], ◌∷◌, map, refl, ap, Result, Ok, Err}
 use Rattle.std.specs.Prelude.{IfOk}
-use Rattle.osm_geom.specs.declared.seg.Seg.{Seg}
-use Rattle.osm_lists.specs.declared.tally.Tally.{Tally}
+use Rattle.osm_lattice.specs.declared.seg.Seg.{Seg}
+use Rattle.lists.specs.declared.tally.Tally.{Tally}
 use Rattle.osm_segments.specs.Repeats.{repeat_of, segs_of}
 
 pub IfOk-both : {X E : Type 0} (r : Result X E) (P Q S : X → Type 0) → ((x : X) → P x → Q x → S x) → IfOk r P → IfOk r Q → IfOk r S

@@ -8,12 +8,8 @@ use Rattle.plane.specs.Height.{distance_right}
 use Rattle.plane.specs.Order.{order}
 use Rattle.plane.specs.Sign.{Minus, Null, Plus, Sign, is_minus, is_null, is_plus, negated, sign, then_sign}
 use Rattle.plane.specs.Vector.{Vector, cross, from_to, orient}
-use Rattle.plane.proofs.Conflicts.{conflict_by, conflicts-by}
-use Rattle.plane.proofs.Heights.{step_of, zero-part}
-use Rattle.plane.proofs.Identities.{apart, lift, same, ◌⊞◌, ◌⊟◌, ◌⊠◌}
-use Rattle.plane.proofs.Points.{same_vector}
-use Rattle.plane.proofs.Products.{cross-from-here, cross-here, orient-round, side-moves, side-there}
-use Rattle.plane.proofs.Signs.{agree, agree-sum, all, all-out, all2-out, all4-out, imp, imp-out, null-zero, plus-times, same_sign, same_sign-true, says-at, sign-*, sign-from, sign-reversed, times, times-back, times-plus}
+use Rattle.plane.proofs.PlaneKit.{conflict_by, conflicts-by, step_of, zero-part, same_vector, cross-from-here, cross-here, orient-round, side-moves, side-there}
+use Rattle.plane.proofs.SignKit.{apart, lift, same, ◌⊞◌, ◌⊟◌, ◌⊠◌, agree, agree-sum, all, all-out, all2-out, all4-out, imp, imp-out, null-zero, plus-times, same_sign, same_sign-true, says-at, sign-*, sign-from, sign-reversed, times, times-back, times-plus, not-null-negated}
 use Rattle.osm_segments.proofs.EdgePairs.{fans}
 
 -- ---- as in plane/proofs/Heights, where these are private
@@ -59,11 +55,6 @@ negated-twice : (s : Sign) → s ≡ negated (negated s)
 negated-twice Plus = refl
 negated-twice Null = refl
 negated-twice Minus = refl
-
-not-null-negated : (s : Sign) → not (is_null s) ≡ true → not (is_null (negated s)) ≡ true
-not-null-negated Plus h = refl
-not-null-negated Null h = h
-not-null-negated Minus h = refl
 
 touch-a : (b c d k n : Sign) → conflict_by Null b c d Plus k Minus n ≡ true
 touch-a b c d k n = all-out (λ n. conflict_by Null b c d Plus k Minus n) (all4-out (λ b c d k. all (λ n. conflict_by Null b c d Plus k Minus n)) refl b c d k) n

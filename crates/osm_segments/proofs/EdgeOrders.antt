@@ -8,13 +8,9 @@ use Rattle.plane.specs.Height.{distance_right, is_in_span}
 use Rattle.plane.specs.Order.{order}
 use Rattle.plane.specs.Sign.{Minus, Null, Plus, Sign, is_minus, is_null, is_plus, negated, sign, then_sign}
 use Rattle.plane.specs.Vector.{Vector, cross, east, from_to, orient}
-use Rattle.plane.proofs.Bools.{and-left, and-right}
-use Rattle.plane.proofs.Conflicts.{conflict_by, conflicts-by}
-use Rattle.plane.proofs.Heights.{right_of, step_of}
-use Rattle.plane.proofs.PointOrder.{order-null, order-self-null}
-use Rattle.plane.proofs.Products.{cross-here, cross-self, dot-east, plucker-agree, plucker-dot-agree}
-use Rattle.plane.proofs.RayCrossings.{cross-east}
-use Rattle.plane.proofs.Signs.{agree, all, all-out, all2-out, all4, all4-out, imp, imp-out, is_plus-true, same_sign, same_sign-true, says-at, sign-from, times, times-plus}
+use Rattle.lists.proofs.Bools.{and-left, and-right}
+use Rattle.plane.proofs.PlaneKit.{conflict_by, conflicts-by, right_of, step_of, order-null, order-self-null, cross-here, cross-self, dot-east, plucker-agree, plucker-dot-agree, cross-east}
+use Rattle.plane.proofs.SignKit.{agree, all, all-out, all2-out, all4, all4-out, imp, imp-out, is_plus-true, same_sign, same_sign-true, says-at, sign-from, times, times-plus, agree-back, plus-plus, plus-null, null-plus}
 use Rattle.osm_segments.proofs.EdgePairs.{BeginsLeft, EndsLeft, begin_by, end_by, fans}
 use Rattle.osm_segments.proofs.EdgeMeetings.{at-first-from, at-first-to, at-second-from, at-second-to, bottoms-by, change-agrees, no_swap, low-to, order-down, order-up, to-high, tops-by}
 
@@ -34,15 +30,12 @@ abbrev pub BottomsLeft : Vector → Edge → Edge → Type 0
 BottomsLeft w e f = (beside w e f ≡ Plus) ⊎ ((beside w e f ≡ Null) × (fans e f ≡ Plus) × (e.from ≡ f.from) × (sign (e.from.y -ℤ w.y) ≡ Null))
 
 -- ---- from neighbour to neighbour
-agree-turned : (s t u : Sign) → agree s t u ≡ true → agree t s u ≡ true
-agree-turned s t u h = imp-out _ _ (all-out (λ u. imp (agree s t u) λ _. agree t s u) (all2-out (λ s t. all (λ u. imp (agree s t u) λ _. agree t s u)) refl s t) u) h
-
 module _ (e f g : Edge) (te : IsTall e) (tf : IsTall f) (tg : IsTall g) where
   beside-chain : (w : Vector) → agree (beside w e f) (beside w f g) (beside w e g) ≡ true
   beside-chain w =
       let A = distance_right w e in let B = distance_right w f in let C = distance_right w g in
       let x = rw (dot-east A, dot-east B, dot-east C, te, tf, tg, times-plus (sign (cross B C)), times-plus (sign (cross A B)), times-plus (sign (cross A C))) at (plucker-dot-agree east A B C) in
-      agree-turned _ _ _ x
+      agree-back _ _ _ x
 
   fans-chain : agree (fans e f) (fans f g) (fans e g) ≡ true
   fans-chain =
@@ -51,21 +44,6 @@ module _ (e f g : Edge) (te : IsTall e) (tf : IsTall f) (tg : IsTall g) where
 
   beside-by : (w : Vector) (s t u : Sign) → beside w e f ≡ s → beside w f g ≡ t → ((v : Sign) → agree s t v ≡ true → v ≡ u) → beside w e g ≡ u
   beside-by w s t u x y k = k (beside w e g) (subst (λ s. agree s t (beside w e g) ≡ true) x (subst (λ t. agree (beside w e f) t (beside w e g) ≡ true) y (beside-chain w)))
-
-  plus-plus : (v : Sign) → agree Plus Plus v ≡ true → v ≡ Plus
-  plus-plus Plus h = refl
-  plus-plus Null h = absurd (cc h)
-  plus-plus Minus h = absurd (cc h)
-
-  plus-null : (v : Sign) → agree Plus Null v ≡ true → v ≡ Plus
-  plus-null Plus h = refl
-  plus-null Null h = absurd (cc h)
-  plus-null Minus h = absurd (cc h)
-
-  null-plus : (v : Sign) → agree Null Plus v ≡ true → v ≡ Plus
-  null-plus Plus h = refl
-  null-plus Null h = absurd (cc h)
-  null-plus Minus h = absurd (cc h)
 
   null-null : (v : Sign) → agree Null Null v ≡ true → v ≡ Null
   null-null Null h = refl
@@ -92,18 +70,10 @@ not-minus Null h = refl
 not-minus Plus h = refl
 
 pub low-of : (p : Vector) (t : Edge) → is_in_span p t ≡ true → not (is_plus (sign (t.from.y -ℤ p.y))) ≡ true
-low-of p t h = both-left (not (is_plus (sign (t.from.y -ℤ p.y)))) (is_plus (sign (t.to.y -ℤ p.y))) h
-  where
-    both-left : (a b : Bool) → a && b ≡ true → a ≡ true
-    both-left true b h = refl
-    both-left false b h = absurd (cc h)
+low-of p t h = and-left (not (is_plus (sign (t.from.y -ℤ p.y)))) (is_plus (sign (t.to.y -ℤ p.y))) h
 
 pub high-of : (p : Vector) (t : Edge) → is_in_span p t ≡ true → sign (t.to.y -ℤ p.y) ≡ Plus
-high-of p t h = is_plus-true (sign (t.to.y -ℤ p.y)) (both-right (not (is_plus (sign (t.from.y -ℤ p.y)))) (is_plus (sign (t.to.y -ℤ p.y))) h)
-  where
-    both-right : (a b : Bool) → a && b ≡ true → b ≡ true
-    both-right true b h = h
-    both-right false b h = absurd (cc h)
+high-of p t h = is_plus-true (sign (t.to.y -ℤ p.y)) (and-right (not (is_plus (sign (t.from.y -ℤ p.y)))) (is_plus (sign (t.to.y -ℤ p.y))) h)
 
 far-below-by : (a p q : ℤ) (s : Sign) → sign (a -ℤ p) ≡ s → not (is_plus s) ≡ true → sign (q -ℤ p) ≡ Plus → sign (a -ℤ q) ≡ Minus
 far-below-by a p q Minus h n up = let x = says-at Minus (a -ℤ p) h in let y = says-at Plus (q -ℤ p) up in sign-from Minus (a -ℤ q) (omega (arith, ints))

@@ -1,14 +1,13 @@
 -- Two edges, each with its lower end below its upper one: where they begin and end beside each other tells that they don't conflict, and the other way round.
-use Rattle.std.proofs.Common.{Bool, false, not, refl, subst, true, ◌&&◌, ◌∙◌, ◌≡◌}
+use Rattle.std.proofs.Common.{Bool, not, refl, subst, true, ◌&&◌, ◌∙◌, ◌≡◌}
 use Rattle.plane.specs.Conflict.{IsClearOf}
 use Rattle.plane.specs.Edge.{Edge}
 use Rattle.plane.specs.Order.{order}
 use Rattle.plane.specs.Sign.{Minus, Null, Plus, Sign, is_null, negated, sign}
 use Rattle.plane.specs.Vector.{cross, from_to, orient}
-use Rattle.plane.proofs.Conflicts.{conflict_by, conflicts-by}
-use Rattle.plane.proofs.Heights.{step_of}
-use Rattle.plane.proofs.Products.{cross-chain, cross-negated}
-use Rattle.plane.proofs.Signs.{agree, agree-sum, all, all-out, all4, all4-out, imp, imp-out, same_sign}
+use Rattle.plane.proofs.PlaneKit.{conflict_by, conflicts-by, step_of, cross-chain, cross-negated}
+use Rattle.plane.proofs.SignKit.{agree, agree-sum, all, all-out, all4, all4-out, imp, imp-out, same_sign}
+use Rattle.lists.proofs.Bools.{not-true-out}
 
 -- how e turns into f: Plus where f turns right of e on its way up
 abbrev pub fans : Edge → Edge → Sign
@@ -56,14 +55,10 @@ two_ends_1 s = all4 (two_ends_2 s)
 two_ends_compute : all two_ends_1 ≡ true
 two_ends_compute = refl
 
-false-from-not : (b : Bool) → not b ≡ true → b ≡ false
-false-from-not false h = refl
-false-from-not true h = absurd (cc h)
-
 -- edges that begin and end beside each other don't conflict
 pub two_ends : (e f : Edge) → BeginsLeft e f → EndsLeft e f → IsClearOf e f
 two_ends e f begins ends =
     let a = orient e.from e.to f.from in let b = orient e.from e.to f.to in let c = orient f.from f.to e.from in let d = orient f.from f.to e.to in let s = fans e f in
     let t = all4-out (two_ends_2 s) (all-out two_ends_1 two_ends_compute s) a b c d in
     let u = all4-out (two_ends_3 a b c d s) (imp-out _ _ (imp-out _ _ t (turn-first e f)) (turn-second e f)) (order e.from f.from) (order e.from f.to) (order e.to f.from) (order e.to f.to) in
-    conflicts-by e f ∙ false-from-not _ (imp-out _ _ (imp-out _ _ u begins.begins) ends.ends)
+    conflicts-by e f ∙ not-true-out _ (imp-out _ _ (imp-out _ _ u begins.begins) ends.ends)

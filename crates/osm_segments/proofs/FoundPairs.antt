@@ -6,13 +6,12 @@ use Rattle.std.specs.declared.cmp.Ordering.TheVariants.{Less, Equal, Greater}
 use Rattle.std.specs.Ordering.{is_eq, ordering_then}
 use Rattle.std.proofs.lemmas.Cmp.{tied_itself}
 use Rattle.std.proofs.lemmas.List.Sums.{sum_by-cons}
-use Rattle.osm_geom.specs.declared.conflicts.Kind.{Kind}
-use Rattle.osm_geom.specs.declared.conflicts.Kind.TheVariants.{Crossing, Overlap}
-use Rattle.osm_geom.specs.declared.seg.Seg.{Seg}
-use Rattle.osm_geom.specs.Seg.{seg_cmp}
-use Rattle.osm_geom.proofs.LocationOrder.{seg_total}
-use Rattle.osm_geom.proofs.Orders.{seg_same}
-use Rattle.osm_lists.specs.Rising.{CountsDetermine, IsRising, count_of}
+use Rattle.osm_lattice.specs.declared.conflicts.Kind.{Kind}
+use Rattle.osm_lattice.specs.declared.conflicts.Kind.TheVariants.{Crossing, Overlap}
+use Rattle.osm_lattice.specs.declared.seg.Seg.{Seg}
+use Rattle.osm_lattice.specs.Seg.{seg_cmp}
+use Rattle.osm_lattice.proofs.LatticeKit.{seg_total, seg_same}
+use Rattle.lists.specs.Rising.{CountsDetermine, IsRising, count_of}
 use Rattle.osm_segments.specs.declared.pairs.Pair.{Pair}
 use Rattle.osm_segments.specs.Cells.{AreAdded}
 use Rattle.osm_segments.specs.Pairs.{conflicts_of, pair_cmp}

@@ -2,7 +2,7 @@
 use Rattle.std.proofs.Common.{◌≡◌, ◌≤◌, ◌<◌, List, [], ◌∷◌, length, get_or, take, drop, ◌-◌, ◌++◌, ◌∙◌, sym, arith}
 use Rattle.std.specs.List.{filter_map}
 use Rattle.std.proofs.lemmas.List.{append-nil, append_assoc, take_all}
-use Rattle.osm_geom.specs.declared.seg.Seg.{Seg}
+use Rattle.osm_lattice.specs.declared.seg.Seg.{Seg}
 use Rattle.osm_segments.specs.declared.pairs.Pair.{Pair}
 use Rattle.osm_segments.specs.Pairs.{conflicts_of, pair_of}
 

@@ -1,12 +1,12 @@
-pub mod RisingPairs
+mod CellPairs
 pub mod CountLemmas
-pub mod LaterSegments
-pub mod CellPairs
-pub mod FoundPairs
-pub mod EdgePairs
-pub mod EdgeMeetings
-pub mod EdgeOrders
-pub mod SweptLists
-pub mod TiltedEdges
+mod EdgeMeetings
+mod EdgeOrders
+mod EdgePairs
+mod FoundPairs
+mod LaterSegments
+mod RisingPairs
 pub mod SegmentTests
-pub mod Sweeps
+mod Sweeps
+mod SweptLists
+mod TiltedEdges

@@ -7,12 +7,12 @@ use Rattle.std.specs.List.{filter_map, cons_option}
 use Rattle.std.proofs.lemmas.Cmp.{tied_itself}
 use Rattle.std.proofs.lemmas.List.Elements.{All-append, All-cons}
 use Rattle.std.proofs.lemmas.List.Kept.{AllPairs-cons}
-use Rattle.osm_geom.specs.declared.conflicts.Kind.{Kind}
-use Rattle.osm_geom.specs.declared.seg.Seg.{Seg}
-use Rattle.osm_geom.specs.Seg.{seg_cmp}
-use Rattle.osm_geom.specs.Conflict.{conflict_of}
-use Rattle.osm_geom.proofs.LocationOrder.{seg_total}
-use Rattle.osm_lists.specs.Rising.{IsRising}
+use Rattle.osm_lattice.specs.declared.conflicts.Kind.{Kind}
+use Rattle.osm_lattice.specs.declared.seg.Seg.{Seg}
+use Rattle.osm_lattice.specs.Seg.{seg_cmp}
+use Rattle.osm_lattice.specs.Conflict.{conflict_of}
+use Rattle.osm_lattice.proofs.LatticeKit.{seg_total}
+use Rattle.lists.specs.Rising.{IsRising}
 use Rattle.osm_segments.specs.declared.pairs.Pair.{Pair}
 use Rattle.osm_segments.specs.Pairs.{pair_of, conflicts_of, pair_cmp}
 

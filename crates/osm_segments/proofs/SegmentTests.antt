@@ -1,11 +1,11 @@
 -- Two segments with the same coordinates are one.
 use Rattle.std.proofs.Common.{List, [], arith, get_or, length, refl, suc, true, zero, ℕ, ◌&&◌, ◌<◌, ◌∷◌, ◌≡◌}
 use Rattle.std.specs.Ordering.{int_eq}
-use Rattle.plane.proofs.Bools.{and-left, and-right}
-use Rattle.plane.proofs.Points.{int_eq-true}
-use Rattle.osm_geom.specs.declared.loc.Loc.{Loc}
-use Rattle.osm_geom.specs.declared.seg.Seg.{Seg}
-use Rattle.osm_geom.proofs.Orders.{loc_from_fields, seg_from_ends}
+use Rattle.lists.proofs.Bools.{and-left, and-right}
+use Rattle.lists.proofs.Integers.{int_eq-true}
+use Rattle.osm_lattice.specs.declared.loc.Loc.{Loc}
+use Rattle.osm_lattice.specs.declared.seg.Seg.{Seg}
+use Rattle.osm_lattice.proofs.LatticeKit.{loc_from_fields, seg_from_ends}
 
 loc_by_tests : (p q : Loc) → (int_eq p.x q.x && int_eq p.y q.y) ≡ true → p ≡ q
 loc_by_tests p q h = loc_from_fields p q (int_eq-true p.x q.x (and-left (int_eq p.x q.x) (int_eq p.y q.y) h)) (int_eq-true p.y q.y (and-right (int_eq p.x q.x) (int_eq p.y q.y) h))

@@ -19,23 +19,22 @@ use Rattle.plane.specs.Height.{is_in_span}
 use Rattle.plane.specs.Order.{order}
 use Rattle.plane.specs.Sign.{Minus, Null, Plus, Sign, is_minus, is_plus, negated, sign, then_sign}
 use Rattle.plane.specs.Vector.{Vector, orient}
-use Rattle.plane.proofs.Conflicts.{clear_back}
-use Rattle.plane.proofs.Heights.{order_persists, right_chain, right_itself, right_of}
-use Rattle.plane.proofs.PointOrder.{order-reversed, order-self-null, order-sum}
-use Rattle.plane.proofs.Signs.{agree, all, all-out, all2-out, imp, imp-out, says-at, self-diff, sign-from}
-use Rattle.winding.specs.Member.{In}
-use Rattle.winding.proofs.Members.{in-either, in-left, in-right}
-use Rattle.osm_geom.specs.declared.loc.Loc.{Loc}
-use Rattle.osm_geom.specs.declared.seg.Seg.{Seg}
-use Rattle.osm_geom.specs.Conflict.{are_crossing, are_overlapping, conflict_of}
-use Rattle.osm_geom.specs.Loc.{loc_cmp, vector_of}
-use Rattle.osm_geom.specs.Seg.{seg_cmp}
-use Rattle.osm_geom.specs.declared.conflicts.Kind.{Kind}
-use Rattle.osm_geom.specs.declared.conflicts.Kind.TheVariants.{Crossing, Overlap}
-use Rattle.osm_geom.proofs.LocationOrder.{loc_cmp-is, loc_total, rising_edge, seg_total}
-use Rattle.osm_geom.proofs.Orders.{seg_same}
-use Rattle.osm_geom.specs.OrderLaws.{ordering_of}
-use Rattle.osm_lists.specs.Rising.{IsRising}
+use Rattle.plane.proofs.PlaneKit.{clear_back, order_persists, right_chain, right_itself, right_of, order-reversed, order-self-null, order-sum}
+use Rattle.plane.proofs.SignKit.{agree, all, all-out, all2-out, imp, imp-out, says-at, self-diff, sign-from, negated-not-plus, sum-not-minus, not-minus-back}
+use Rattle.lists.specs.Member.{In}
+use Rattle.lists.proofs.Members.{in-either, in-left, in-right}
+use Rattle.lists.proofs.Items.{at-in}
+use Rattle.lists.proofs.Insertions.{all_insert, pairs_insert}
+use Rattle.osm_lattice.specs.declared.loc.Loc.{Loc}
+use Rattle.osm_lattice.specs.declared.seg.Seg.{Seg}
+use Rattle.osm_lattice.specs.Conflict.{are_crossing, are_overlapping, conflict_of}
+use Rattle.osm_lattice.specs.Loc.{loc_cmp, vector_of}
+use Rattle.osm_lattice.specs.Seg.{seg_cmp}
+use Rattle.osm_lattice.specs.declared.conflicts.Kind.{Kind}
+use Rattle.osm_lattice.specs.declared.conflicts.Kind.TheVariants.{Crossing, Overlap}
+use Rattle.osm_lattice.proofs.LatticeKit.{loc_cmp-is, loc_total, rising_edge, seg_total, seg_same}
+use Rattle.osm_lattice.specs.OrderLaws.{ordering_of}
+use Rattle.lists.specs.Rising.{IsRising}
 use Rattle.osm_segments.specs.Pairs.{conflicts_of, pair_of}
 use Rattle.osm_segments.proofs.RisingPairs.{tail_rising}
 use Rattle.osm_segments.specs.Sweep.{EndsRise, IsAfter, HasLeft, IsEntered, left_of_line, lies_left, lies_right, right_of_line, side}
@@ -44,7 +43,7 @@ use Rattle.osm_segments.proofs.EdgePairs.{BeginsLeft, fans, turn-first, turn-sec
 use Rattle.osm_segments.proofs.EdgeMeetings.{at-first-from, at-second-from}
 use Rattle.osm_segments.proofs.EdgeOrders.{BottomsLeft, TopsLeft, begins_left, beside, bottoms-chain, bottoms_left, clear_apart, ends_left, high-of, low-of, same-level, tops-chain, tops_left}
 use Rattle.osm_segments.proofs.SegmentTests.{same_get}
-use Rattle.osm_segments.proofs.SweptLists.{Linked, all_insert, linked_insert, linked_remove, linked_weaker, pairs_from_linked, pairs_insert}
+use Rattle.osm_segments.proofs.SweptLists.{Linked, linked_insert, linked_remove, linked_weaker, pairs_from_linked}
 use Rattle.osm_segments.proofs.TiltedEdges.{conflicts-tilted, cross-tilted, height-tilted, order-tilted, tall-tilted}
 
 abbrev pub at_height : ℤ → Vector
@@ -80,11 +79,6 @@ in-index : {X : Type 0} (x : X) (xs : List X) (d : X) → In x xs → (m : ℕ) 
 in-index x [] d i = absurd i
 in-index x (y ∷ ys) d (inl e) = (0, omega arith, sym e)
 in-index x (y ∷ ys) d (inr i) = let r = in-index x ys d i in (suc r.0, (let h = r.1 in omega arith), r.2)
-
-pub in-place : {X : Type 0} (xs : List X) (k : ℕ) (d : X) → k < length xs → In (get_or xs k d) xs
-in-place [] k d h = absurd (omega arith)
-in-place (x ∷ xs) zero d h = inl refl
-in-place (x ∷ xs) (suc k) d h = inr (in-place xs k d (omega arith))
 
 in-remove : {X : Type 0} (x : X) (xs : List X) (i : ℕ) (d : X) → In x xs → i < length xs → (x ≡ get_or xs i d) ⊎ In x (remove xs i)
 in-remove x [] i d j h = absurd j
@@ -161,13 +155,8 @@ none_of_clear s t clear = clear_none (is_eq (seg_cmp s t)) (are_overlapping s t)
 after-height : (p q : Loc) → IsAfter p q → not (is_minus (sign ((tilted_point q).y -ℤ (tilted_point p).y))) ≡ true
 after-height p q h = subst (λ s. not (is_minus s) ≡ true) (sym (height-tilted p q)) h
 
-not-plus-back : (s : Sign) → not (is_minus s) ≡ true → not (is_plus (negated s)) ≡ true
-not-plus-back Plus h = refl
-not-plus-back Null h = refl
-not-plus-back Minus h = absurd (cc h)
-
 before-height : (p q : Loc) → IsAfter p q → not (is_plus (sign ((tilted_point p).y -ℤ (tilted_point q).y))) ≡ true
-before-height p q h = subst (λ s. not (is_plus s) ≡ true) (sym (height-tilted q p ∙ order-reversed (vector_of p) (vector_of q))) (not-plus-back (order (vector_of p) (vector_of q)) h)
+before-height p q h = subst (λ s. not (is_plus s) ≡ true) (sym (height-tilted q p ∙ order-reversed (vector_of p) (vector_of q))) (negated-not-plus (order (vector_of p) (vector_of q)) h)
 
 own-height : (y : ℤ) → sign (y -ℤ y) ≡ Null
 own-height y = self-diff y
@@ -446,7 +435,7 @@ module _ (segs ends : List Seg) (rising : IsRising seg_cmp segs) (rise : EndsRis
       let back : order (vector_of s.b) (vector_of s.a) ≡ Minus = order-reversed (vector_of s.a) (vector_of s.b) ∙ ap negated (rising_edge s) in
       absurd (cc (sym (ap (λ z. not (is_minus z)) back) ∙ after)))
       (λ (i : In s (drop left ends)). i)
-      (in-either (take left ends) (drop left ends) s (subst (In s) (sym (take-append-drop left ends)) (all-end s (subst (λ t. In t segs) (sym at) (in-place segs next s inside)))))
+      (in-either (take left ends) (drop left ends) s (subst (In s) (sym (take-append-drop left ends)) (all-end s (subst (λ t. In t segs) (sym at) (at-in segs next s inside)))))
 
   pub has_entered : IsSwept segs ends (next + 1) left new
   has_entered =
@@ -535,35 +524,19 @@ ends-rise ends sorted i j d h l =
 
 -- ---- a segment that doesn't begin before the next upper end, nor any later one
 after-chain : (p q r : Loc) → IsAfter p q → IsAfter q r → IsAfter p r
-after-chain p q r h k = by-signs (order (vector_of p) (vector_of q)) (order (vector_of q) (vector_of r)) (order (vector_of p) (vector_of r)) (order-sum (vector_of p) (vector_of q) (vector_of r)) h k
-  where
-    by-signs : (x y z : Sign) → agree x y z ≡ true → not (is_minus x) ≡ true → not (is_minus y) ≡ true → not (is_minus z) ≡ true
-    by-signs x y Plus a h k = refl
-    by-signs x y Null a h k = refl
-    by-signs Plus Plus Minus a h k = absurd (cc a)
-    by-signs Plus Null Minus a h k = absurd (cc a)
-    by-signs Null Plus Minus a h k = absurd (cc a)
-    by-signs Null Null Minus a h k = absurd (cc a)
-    by-signs Minus y Minus a h k = absurd (cc h)
-    by-signs Plus Minus Minus a h k = absurd (cc k)
-    by-signs Null Minus Minus a h k = absurd (cc k)
+after-chain p q r h k = sum-not-minus (order (vector_of p) (vector_of q)) (order (vector_of q) (vector_of r)) (order (vector_of p) (vector_of r)) (order-sum (vector_of p) (vector_of q) (vector_of r)) h k
 
 pub leaves-by : (segs : List Seg) → IsRising seg_cmp segs → (next : ℕ) (e : Loc) (s : Seg) → s ≡ get_or segs next s → next < length segs → is_plus (order (vector_of s.a) (vector_of e)) ≡ false →
     (i : ℕ) (d : Seg) → next ≤ i → i < length segs → IsAfter e (get_or segs i d).a
 leaves-by segs rising next e s at inside not-before i d h l =
-    let here : IsAfter e (get_or segs next d).a = subst (λ (t : Seg). IsAfter e t.a) (at ∙ same_get segs next s d inside) (turned (order (vector_of s.a) (vector_of e)) (order (vector_of e) (vector_of s.a)) (order-reversed (vector_of s.a) (vector_of e)) not-before) in
+    let here : IsAfter e (get_or segs next d).a = subst (λ (t : Seg). IsAfter e t.a) (at ∙ same_get segs next s d inside) (not-minus-back (order (vector_of s.a) (vector_of e)) (order (vector_of e) (vector_of s.a)) (order-reversed (vector_of s.a) (vector_of e)) not-before) in
     ⊎_elim
     (λ (same : i ≡ next). subst (λ m. IsAfter e (get_or segs m d).a) (sym same) here)
     (λ (other : i ≢ next). after-chain e (get_or segs next d).a (get_or segs i d).a here (begins-after (get_or segs next d) (get_or segs i d) (rising next i d (omega (arith, other)) l)))
     (cases_eq i next)
-  where
-    turned : (x y : Sign) → y ≡ negated x → is_plus x ≡ false → not (is_minus y) ≡ true
-    turned Plus y h n = absurd (cc n)
-    turned Null y h n = ap (λ s. not (is_minus s)) h
-    turned Minus y h n = ap (λ s. not (is_minus s)) h
 
 pub from-contains : (xs : List Seg) (x : Seg) → Contains xs x → In x xs
-from-contains xs x (m, inside, at) = subst (λ y. In y xs) at (in-place xs m x inside)
+from-contains xs x (m, inside, at) = subst (λ y. In y xs) at (at-in xs m x inside)
 
 pub to-contains : (xs : List Seg) (x : Seg) → In x xs → Contains xs x
 to-contains xs x i = in-index x xs x i

@@ -5,13 +5,12 @@ use Rattle.plane.specs.Conflict.{conflicts}
 use Rattle.plane.specs.Order.{order}
 use Rattle.plane.specs.Sign.{Minus, Null, Plus, Sign, sign, then_sign}
 use Rattle.plane.specs.Vector.{Vector, cross, from_to}
-use Rattle.plane.proofs.Identities.{lift, same, ◌⊞◌, ◌⊟◌, ◌⊠◌}
-use Rattle.plane.proofs.Signs.{plus-times, says-at, sign-from}
-use Rattle.osm_geom.specs.declared.loc.Loc.{Loc}
-use Rattle.osm_geom.specs.declared.seg.Seg.{Seg}
-use Rattle.osm_geom.specs.Loc.{vector_of}
-use Rattle.osm_geom.specs.Seg.{edge_of}
-use Rattle.osm_geom.proofs.LocationOrder.{rising_edge}
+use Rattle.plane.proofs.SignKit.{lift, same, ◌⊞◌, ◌⊟◌, ◌⊠◌, plus-times, says-at, sign-from}
+use Rattle.osm_lattice.specs.declared.loc.Loc.{Loc}
+use Rattle.osm_lattice.specs.declared.seg.Seg.{Seg}
+use Rattle.osm_lattice.specs.Loc.{vector_of}
+use Rattle.osm_lattice.specs.Seg.{edge_of}
+use Rattle.osm_lattice.proofs.LatticeKit.{rising_edge}
 use Rattle.osm_segments.specs.Tilted.{steep, tilt, tilted, tilted_point}
 
 -- ---- sides

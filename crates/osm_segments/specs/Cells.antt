@@ -1,9 +1,9 @@
 -- Cells of segments and the lines that divide them. No public contract cites it.
 use Rattle.std.specs.Prelude.{◌⊎◌, ◌||◌, ℤ, Bool, not, List, Contains}
 use lib.Signed.{lt_z}
-use Rattle.osm_geom.specs.declared.loc.Loc.{Loc}
-use Rattle.osm_geom.specs.declared.seg.Seg.{Seg}
-use Rattle.osm_geom.specs.Loc.{orientation}
+use Rattle.osm_lattice.specs.declared.loc.Loc.{Loc}
+use Rattle.osm_lattice.specs.declared.seg.Seg.{Seg}
+use Rattle.osm_lattice.specs.Loc.{orientation}
 use Rattle.osm_segments.specs.declared.division.Direction.{Direction}
 use Rattle.osm_segments.specs.declared.division.Direction.TheVariants.{East, North, LeftOf}
 use Rattle.osm_segments.specs.declared.division.Line.{Line}

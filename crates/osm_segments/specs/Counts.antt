@@ -1,11 +1,11 @@
 -- What counting tells of a list of segments. A strictly rising list is determined by how often each item stands in it.
 use Rattle.std.specs.Prelude.{◌≡◌, ◌%◌, List, [], ◌∷◌, min}
 use Rattle.std.specs.List.{flat_map}
-use Rattle.osm_geom.specs.declared.loc.Loc.{Loc}
-use Rattle.osm_geom.specs.declared.seg.Seg.{Seg}
-use Rattle.osm_geom.specs.Loc.{loc_cmp}
-use Rattle.osm_geom.specs.Seg.{seg_cmp}
-use Rattle.osm_lists.specs.Rising.{IsRising, count_of}
+use Rattle.osm_lattice.specs.declared.loc.Loc.{Loc}
+use Rattle.osm_lattice.specs.declared.seg.Seg.{Seg}
+use Rattle.osm_lattice.specs.Loc.{loc_cmp}
+use Rattle.osm_lattice.specs.Seg.{seg_cmp}
+use Rattle.lists.specs.Rising.{IsRising, count_of}
 
 -- the segments that stand an odd number of times in a list
 pub record AreSurvivors (segs survivors : List Seg) : Type 0 where

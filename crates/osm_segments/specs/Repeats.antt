@@ -1,9 +1,9 @@
 -- The segments that stand at least twice in a list.
 use Rattle.std.specs.Prelude.{◌≡◌, List, All, map, nat_le, if◌then◌else◌}
-use Rattle.osm_geom.specs.declared.seg.Seg.{Seg}
-use Rattle.osm_geom.specs.Seg.{seg_cmp}
-use Rattle.osm_lists.specs.Rising.{IsRising, count_of}
-use Rattle.osm_lists.specs.declared.tally.Tally.{Tally}
+use Rattle.osm_lattice.specs.declared.seg.Seg.{Seg}
+use Rattle.osm_lattice.specs.Seg.{seg_cmp}
+use Rattle.lists.specs.Rising.{IsRising, count_of}
+use Rattle.lists.specs.declared.tally.Tally.{Tally}
 use Rattle.osm_segments.specs.declared.counts.Repeat.{Repeat}
 
 abbrev pub segs_of : List Repeat → List Seg

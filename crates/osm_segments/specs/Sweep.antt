@@ -3,10 +3,10 @@ use Rattle.std.specs.Prelude.{Bool, List, None, insert, length, not, remove, sli
 use Rattle.plane.specs.Order.{order}
 use Rattle.plane.specs.Sign.{Sign, is_minus, is_plus}
 use Rattle.plane.specs.Vector.{orient}
-use Rattle.osm_geom.specs.declared.loc.Loc.{Loc}
-use Rattle.osm_geom.specs.declared.seg.Seg.{Seg}
-use Rattle.osm_geom.specs.Conflict.{conflict_of}
-use Rattle.osm_geom.specs.Loc.{vector_of}
+use Rattle.osm_lattice.specs.declared.loc.Loc.{Loc}
+use Rattle.osm_lattice.specs.declared.seg.Seg.{Seg}
+use Rattle.osm_lattice.specs.Conflict.{conflict_of}
+use Rattle.osm_lattice.specs.Loc.{vector_of}
 
 -- the side of the line of t on which p lies
 abbrev pub side : Loc → Seg → Sign

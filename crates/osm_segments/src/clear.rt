@@ -1,34 +1,34 @@
 //! Whether segments are free of conflicts, by one sweep upwards.
 ghost use Rattle.std.specs.Prelude.{◌≡◌, ◌<◌, ◌≤◌, ◌-◌, ◌+◌, ℕ, [], IfOk, IfSome, IsPermutation, None, false, length, slice_index_or, true};
-ghost use Rattle.osm_geom.specs.declared.seg.Seg.{Seg};
-ghost use Rattle.osm_geom.specs.Conflict.{conflict_of};
+ghost use Rattle.osm_lattice.specs.declared.seg.Seg.{Seg};
+ghost use Rattle.osm_lattice.specs.Conflict.{conflict_of};
 ghost use Rattle.plane.specs.Order.{order};
 ghost use Rattle.plane.specs.Sign.{Plus, is_plus};
-ghost use Rattle.osm_geom.specs.Loc.{vector_of};
-ghost use Rattle.osm_geom.specs.Seg.{seg_cmp};
-ghost use Rattle.osm_lists.specs.Rising.{IsRising};
+ghost use Rattle.osm_lattice.specs.Loc.{vector_of};
+ghost use Rattle.osm_lattice.specs.Seg.{seg_cmp};
+ghost use Rattle.lists.specs.Rising.{IsRising};
 ghost use Rattle.osm_segments.specs.Pairs.{conflicts_of};
 ghost use Rattle.osm_segments.specs.Sweep.{EndsRise, FitsAfter, FitsBefore, HasLeft, IsAfter, IsEntered, left_of_line, lies_left, lies_right, right_of_line};
 
 use chunked_list::ChunkedList;
-use osm_geom::{Loc, Seg, conflict, orient};
-use std::alloc::{AllocError, Global};
+use osm_lattice::{Loc, Seg, conflict, orient};
+use std::alloc::{AllocError as OutOfMemory, Global};
 
-#[tactic(auto, unfolding(crate::specs::Sweep::left_of_line, osm_geom::specs::Loc::orientation))]
+#[tactic(auto, unfolding(crate::specs::Sweep::left_of_line, osm_lattice::specs::Loc::orientation))]
 fn is_left_of_line(p: Loc, t: Seg) -> bool
     ensures { result ≡ left_of_line p t }
 {
     orient(t.a, t.b, p) > 0
 }
 
-#[tactic(auto, unfolding(crate::specs::Sweep::right_of_line, osm_geom::specs::Loc::orientation))]
+#[tactic(auto, unfolding(crate::specs::Sweep::right_of_line, osm_lattice::specs::Loc::orientation))]
 fn is_right_of_line(p: Loc, t: Seg) -> bool
     ensures { result ≡ right_of_line p t }
 {
     orient(t.a, t.b, p) < 0
 }
 
-// `t` is right of `s` just above the lower end of `s`, where both pass that height.
+/// `t` is right of `s` just above the lower end of `s`, where both pass that height.
 fn lies_right(s: Seg, t: Seg) -> bool
     ensures { result ≡ lies_right s t }
 {
@@ -59,7 +59,7 @@ fn fits_after(s: Seg, t: Seg) -> bool
     are_clear(s, t) && lies_right(s, t)
 }
 
-// Whether the two between which a place lies fit.
+/// Whether the two between which a place lies fit.
 fn fits_at(status: &ChunkedList<Seg>, place: usize, s: Seg) -> bool
     requires { place ≤ length status.now }
     ensures before { result ≡ true → 0 < place → FitsBefore s (slice_index_or status.now (place - 1) s) }
@@ -74,8 +74,8 @@ fn fits_at(status: &ChunkedList<Seg>, place: usize, s: Seg) -> bool
     true
 }
 
-// Puts a segment where it seems to belong, if it fits there.
-fn enter(status: &mut ChunkedList<Seg>, s: Seg) -> Result<bool, AllocError>
+/// Puts a segment where it seems to belong, if it fits there.
+fn enter(status: &mut ChunkedList<Seg>, s: Seg) -> Result<bool, OutOfMemory>
     ensures { IfOk result (λ fits. fits ≡ true → IsEntered s status.old status.new) }
 {
     let place = status.partition_point(|t| !lies_right(s, *t));
@@ -86,13 +86,13 @@ fn enter(status: &mut ChunkedList<Seg>, s: Seg) -> Result<bool, AllocError>
     Ok(true)
 }
 
-// Whether `t` is left of `s` just below the upper end of `s`, where both reach that height. Only speed rests on it.
+/// Whether `t` is left of `s` just below the upper end of `s`, where both reach that height. Only speed rests on it.
 fn is_left_below(t: Seg, s: Seg) -> bool {
     is_right_of_line(s.b, t) || !is_left_of_line(s.b, t) && is_right_of_line(s.a, t)
 }
 
-// The place of a segment, if it stands just behind those that are left of it.
-#[tactic(auto, using(osm_geom::proofs::Orders::seg_same))]
+/// The place of a segment, if it stands just behind those that are left of it.
+#[tactic(auto, using(osm_lattice::proofs::Orders::seg_same))]
 fn find(status: &ChunkedList<Seg>, s: Seg) -> Option<usize>
     ensures inside { IfSome result (λ place. place < length status.now) }
     ensures at { IfSome result (λ place. slice_index_or status.now place s ≡ s) }
@@ -104,7 +104,7 @@ fn find(status: &ChunkedList<Seg>, s: Seg) -> Option<usize>
     None
 }
 
-// Whether the two beside a place don't conflict.
+/// Whether the two beside a place don't conflict.
 fn closes(status: &ChunkedList<Seg>, place: usize) -> bool
     requires { place < length status.now }
     ensures { result ≡ true → (d : Seg) → 0 < place → place + 1 < length status.now → conflict_of (slice_index_or status.now (place - 1) d) (slice_index_or status.now (place + 1) d) ≡ None }
@@ -118,7 +118,7 @@ fn closes(status: &ChunkedList<Seg>, place: usize) -> bool
     true
 }
 
-// Takes a segment out, if it stands there and the two beside it don't conflict.
+/// Takes a segment out, if it stands there and the two beside it don't conflict.
 fn leave(status: &mut ChunkedList<Seg>, s: Seg) -> bool
     ensures { result ≡ true → HasLeft s status.old status.new }
 {
@@ -134,8 +134,8 @@ fn leave(status: &mut ChunkedList<Seg>, s: Seg) -> bool
     }
 }
 
-// The segments in order of their upper ends.
-fn by_ends(alloc: Global, segs: &[Seg]) -> Result<Vec<Seg>, AllocError>
+/// The segments in order of their upper ends.
+fn by_ends(alloc: Global, segs: &[Seg]) -> Result<Vec<Seg>, OutOfMemory>
     ensures moved { IfOk result (λ ends. IsPermutation segs.now ends.items) }
     ensures rise { IfOk result (λ ends. EndsRise ends.items) }
 {
@@ -144,14 +144,14 @@ fn by_ends(alloc: Global, segs: &[Seg]) -> Result<Vec<Seg>, AllocError>
     Ok(ends)
 }
 
-#[tactic(auto, using(osm_geom::proofs::LocationOrder::is_lt_before), unfolding(osm_geom::specs::ConflictTests::before))]
+#[tactic(auto, using(osm_lattice::proofs::LocationOrder::is_lt_before), unfolding(osm_lattice::specs::ConflictTests::before))]
 fn is_before(p: Loc, q: Loc) -> bool
     ensures { result ≡ is_plus (order (vector_of p) (vector_of q)) }
 {
     p < q
 }
 
-// Whether the next segment begins before the next upper end.
+/// Whether the next segment begins before the next upper end.
 fn next_enters(segs: &[Seg], next: usize, end: Seg) -> bool
     requires { IsRising seg_cmp segs.now }
     ensures inside { result ≡ true → next < length segs.now }
@@ -168,7 +168,7 @@ fn next_enters(segs: &[Seg], next: usize, end: Seg) -> bool
 ///
 /// Each enters between those of the status that are left and right of its lower end, and leaves at its upper end; who come to stand
 /// side by side are tried. No other pairs are.
-pub fn is_clear(alloc: Global, segs: &[Seg]) -> Result<bool, AllocError>
+pub fn is_clear(alloc: Global, segs: &[Seg]) -> Result<bool, OutOfMemory>
     requires { IsRising seg_cmp segs.now }
     ensures { IfOk result (λ clear. clear ≡ true → conflicts_of segs.now ≡ []) }
 {

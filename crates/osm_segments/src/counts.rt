@@ -2,9 +2,9 @@ ghost use Rattle.std.specs.Prelude.{◌≡◌, IfOk, map};
 ghost use Rattle.osm_segments.specs.Counts.{AreSurvivors, AreDistinct, AreOddNodes, ends_of};
 ghost use Rattle.osm_segments.specs.Repeats.{AreRepeats, repeat_of};
 
-use osm_geom::{Loc, Seg};
-use osm_lists::{Tally, distinct_items, odd_items, repeated_items};
-use std::alloc::{AllocError, Global};
+use lists::{Tally, distinct_items, odd_items, repeated_items};
+use osm_lattice::{Loc, Seg};
+use std::alloc::{AllocError as OutOfMemory, Global};
 
 /// A segment of a list, and how often it stands there.
 #[derive(Clone, Copy, Debug, PartialEq, Eq)]
@@ -14,20 +14,20 @@ pub struct Repeat {
 }
 
 /// The segments that stand an odd number of times in a list, each once, in strict order.
-pub fn survivors(alloc: Global, segs: &[Seg]) -> Result<Vec<Seg>, AllocError>
+pub fn survivors(alloc: Global, segs: &[Seg]) -> Result<Vec<Seg>, OutOfMemory>
     ensures { IfOk result (λ v. AreSurvivors segs.now v.items) }
 {
     odd_items(alloc, segs)
 }
 
 /// The segments of a list, each once, in strict order.
-pub fn distinct(alloc: Global, segs: &[Seg]) -> Result<Vec<Seg>, AllocError>
+pub fn distinct(alloc: Global, segs: &[Seg]) -> Result<Vec<Seg>, OutOfMemory>
     ensures { IfOk result (λ v. AreDistinct segs.now v.items) }
 {
     distinct_items(alloc, segs)
 }
 
-fn repeats_of(alloc: Global, tallies: &[Tally<Seg>]) -> Result<Vec<Repeat>, AllocError>
+fn repeats_of(alloc: Global, tallies: &[Tally<Seg>]) -> Result<Vec<Repeat>, OutOfMemory>
     ensures { IfOk result (λ v. v.items ≡ map repeat_of tallies.now) }
 {
     tallies
@@ -40,15 +40,15 @@ fn repeats_of(alloc: Global, tallies: &[Tally<Seg>]) -> Result<Vec<Repeat>, Allo
 }
 
 /// The segments that stand at least twice in a list, each once and with its number, in strict order.
-pub fn repeated(alloc: Global, segs: &[Seg]) -> Result<Vec<Repeat>, AllocError>
+pub fn repeated(alloc: Global, segs: &[Seg]) -> Result<Vec<Repeat>, OutOfMemory>
     ensures { IfOk result (λ v. AreRepeats segs.now v.items) }
 {
     let tallies = repeated_items(alloc, segs)?;
     repeats_of(alloc, &tallies)
 }
 
-// Both ends of each segment.
-fn ends(alloc: Global, segs: &[Seg]) -> Result<Vec<Loc>, AllocError>
+/// Both ends of each segment.
+fn ends(alloc: Global, segs: &[Seg]) -> Result<Vec<Loc>, OutOfMemory>
     ensures { IfOk result (λ v. v.items ≡ ends_of segs.now) }
 {
     let mut ends = Vec::with_capacity(alloc, 2 * segs.len())?;
@@ -60,7 +60,7 @@ fn ends(alloc: Global, segs: &[Seg]) -> Result<Vec<Loc>, AllocError>
 }
 
 /// The locations at which an odd number of segments end, in strict order.
-pub fn odd_nodes(alloc: Global, segs: &[Seg]) -> Result<Vec<Loc>, AllocError>
+pub fn odd_nodes(alloc: Global, segs: &[Seg]) -> Result<Vec<Loc>, OutOfMemory>
     ensures { IfOk result (λ v. AreOddNodes segs.now v.items) }
 {
     let ends = ends(alloc, segs)?;

@@ -5,8 +5,8 @@ ghost use Rattle.std.specs.Prelude.{◌≡◌, IfOk, OnOk, filter};
 ghost use Rattle.osm_segments.specs.Cells.{AreAdded, ends_beyond, is_beyond, reach_in, starts_before};
 
 use crate::pairs::{Pair, push_all_pairs};
-use osm_geom::{Loc, Seg, conflicts_are_symmetric, orient, segments_apart_are_clear};
-use std::alloc::{AllocError, Global};
+use osm_lattice::{Loc, Seg, conflicts_are_symmetric, orient, segments_apart_are_clear};
+use std::alloc::{AllocError as OutOfMemory, Global};
 
 /// A cell of so few segments is not divided.
 const FEW: usize = 24;
@@ -35,7 +35,7 @@ struct Line {
     at: i128,
 }
 
-// How far a point lies in a direction.
+/// How far a point lies in a direction.
 fn reach(direction: Direction, p: Loc) -> i128
     ensures { result ≡ reach_in direction p }
 {
@@ -67,8 +67,8 @@ fn ends_beyond(line: Line, s: Seg) -> bool
     is_beyond(line, s.a) || is_beyond(line, s.b)
 }
 
-// The part of a cell up to a line.
-fn before(alloc: Global, cell: &[Seg], line: Line) -> Result<Vec<Seg>, AllocError>
+/// The part of a cell up to a line.
+fn before(alloc: Global, cell: &[Seg], line: Line) -> Result<Vec<Seg>, OutOfMemory>
     ensures { IfOk result (λ v. v.items ≡ filter (starts_before line) cell.now) }
 {
     cell.iter()
@@ -77,8 +77,8 @@ fn before(alloc: Global, cell: &[Seg], line: Line) -> Result<Vec<Seg>, AllocErro
         .collect(alloc)
 }
 
-// The part of a cell beyond a line.
-fn beyond(alloc: Global, cell: &[Seg], line: Line) -> Result<Vec<Seg>, AllocError>
+/// The part of a cell beyond a line.
+fn beyond(alloc: Global, cell: &[Seg], line: Line) -> Result<Vec<Seg>, OutOfMemory>
     ensures { IfOk result (λ v. v.items ≡ filter (ends_beyond line) cell.now) }
 {
     cell.iter()
@@ -87,13 +87,13 @@ fn beyond(alloc: Global, cell: &[Seg], line: Line) -> Result<Vec<Seg>, AllocErro
         .collect(alloc)
 }
 
-// A place in a list, one of several that lie scattered evenly over it.
+/// A place in a list, one of several that lie scattered evenly over it.
 fn sample_place(k: usize, len: usize) -> usize {
     (k.wrapping_mul(GOLDEN) % WHOLE).wrapping_mul(len) / WHOLE
 }
 
-// A line with about as many segments on one side as on the other.
-fn middle_line(alloc: Global, cell: &[Seg], direction: Direction) -> Result<Line, AllocError> {
+/// A line with about as many segments on one side as on the other.
+fn middle_line(alloc: Global, cell: &[Seg], direction: Direction) -> Result<Line, OutOfMemory> {
     let mut samples = Vec::with_capacity(alloc, SAMPLES)?;
     for k in 0..SAMPLES {
         if let Some(s) = cell.get(sample_place(k, cell.len())) {
@@ -105,15 +105,15 @@ fn middle_line(alloc: Global, cell: &[Seg], direction: Direction) -> Result<Line
     Ok(Line { direction, at })
 }
 
-// How many pairs, each way round, are left to try in two cells.
+/// How many pairs, each way round, are left to try in two cells.
 fn pairs_left(first: usize, second: usize) -> usize {
     first
         .saturating_mul(first)
         .saturating_add(second.saturating_mul(second))
 }
 
-// The line that leaves the fewest pairs to try, if one takes off a quarter.
-fn best_line(alloc: Global, cell: &[Seg]) -> Result<Option<Line>, AllocError> {
+/// The line that leaves the fewest pairs to try, if one takes off a quarter.
+fn best_line(alloc: Global, cell: &[Seg]) -> Result<Option<Line>, OutOfMemory> {
     let Some(&along) = cell.get(cell.len() / 2) else {
         return Ok(None);
     };
@@ -140,7 +140,7 @@ pub fn add_conflicts(
     pairs: &mut Vec<Pair>,
     cell: &[Seg],
     depth: u32,
-) -> Result<(), AllocError>
+) -> Result<(), OutOfMemory>
     ensures { OnOk result (AreAdded cell.now pairs.old.items pairs.new.items) }
 {
     if depth == 0 || cell.len() <= FEW {

@@ -1,14 +1,14 @@
 ghost use Rattle.std.specs.Prelude.{◌≡◌, ◌++◌, [], IfOk, OnOk, true};
 ghost use Rattle.std.specs.List.{filter_map};
-ghost use Rattle.osm_geom.specs.Seg.{seg_cmp};
-ghost use Rattle.osm_lists.specs.Rising.{IsRising};
+ghost use Rattle.osm_lattice.specs.Seg.{seg_cmp};
+ghost use Rattle.lists.specs.Rising.{IsRising};
 ghost use Rattle.osm_segments.specs.Pairs.{pair_of, conflicts_of, pair_cmp};
 
 use crate::clear::is_clear;
 use crate::division::add_conflicts;
-use osm_geom::{Kind, Seg, conflict};
-use osm_lists::{counts_determine, distinct_items};
-use std::alloc::{AllocError, Global};
+use lists::{counts_determine, distinct_items};
+use osm_lattice::{Kind, Seg, conflict};
+use std::alloc::{AllocError as OutOfMemory, Global};
 
 /// How often a list of segments is divided in a row.
 const DEPTH: u32 = 64;
@@ -23,7 +23,7 @@ pub struct Pair {
     pub kind: Kind,
 }
 
-// Two segments, if they conflict.
+/// Two segments, if they conflict.
 #[tactic(auto, unfolding(crate::specs::Pairs::pair_of))]
 fn pair_of(first: Seg, second: Seg) -> Option<Pair>
     ensures { result ≡ pair_of first second }
@@ -38,8 +38,8 @@ fn pair_of(first: Seg, second: Seg) -> Option<Pair>
     }
 }
 
-// Adds each of `rest` that conflicts with `first`.
-fn push_conflicts(pairs: &mut Vec<Pair>, first: Seg, rest: &[Seg]) -> Result<(), AllocError>
+/// Adds each of `rest` that conflicts with `first`.
+fn push_conflicts(pairs: &mut Vec<Pair>, first: Seg, rest: &[Seg]) -> Result<(), OutOfMemory>
     ensures { OnOk result (pairs.new.items ≡ pairs.old.items ++ filter_map (pair_of first) rest.now) }
 {
     for &second in rest {
@@ -51,7 +51,7 @@ fn push_conflicts(pairs: &mut Vec<Pair>, first: Seg, rest: &[Seg]) -> Result<(),
 }
 
 /// Adds each conflict, each segment being tried with all later ones.
-pub fn push_all_pairs(pairs: &mut Vec<Pair>, segs: &[Seg]) -> Result<(), AllocError>
+pub fn push_all_pairs(pairs: &mut Vec<Pair>, segs: &[Seg]) -> Result<(), OutOfMemory>
     ensures { OnOk result (pairs.new.items ≡ pairs.old.items ++ conflicts_of segs.now) }
 {
     let mut rest = segs;
@@ -65,8 +65,8 @@ pub fn push_all_pairs(pairs: &mut Vec<Pair>, segs: &[Seg]) -> Result<(), AllocEr
 /// A list of so few segments isn't swept: all its pairs are tried sooner.
 const FEW: usize = 10;
 
-// Whether a sweep finds the segments free of conflicts.
-fn is_swept_clear(alloc: Global, segs: &[Seg]) -> Result<bool, AllocError>
+/// Whether a sweep finds the segments free of conflicts.
+fn is_swept_clear(alloc: Global, segs: &[Seg]) -> Result<bool, OutOfMemory>
     requires { IsRising seg_cmp segs.now }
     ensures { IfOk result (λ clear. clear ≡ true → conflicts_of segs.now ≡ []) }
 {
@@ -79,7 +79,7 @@ fn is_swept_clear(alloc: Global, segs: &[Seg]) -> Result<bool, AllocError>
 /// All conflicting pairs among segments in strict order: by the first segment, then by the second.
 ///
 /// One sweep finds most long lists free of them; only where it doesn't is the list divided.
-pub fn conflicts(alloc: Global, segs: &[Seg]) -> Result<Vec<Pair>, AllocError>
+pub fn conflicts(alloc: Global, segs: &[Seg]) -> Result<Vec<Pair>, OutOfMemory>
     requires { IsRising seg_cmp segs.now }
     ensures whole { IfOk result (λ v. v.items ≡ conflicts_of segs.now) }
     ensures rising { IfOk result (λ v. IsRising pair_cmp v.items) }

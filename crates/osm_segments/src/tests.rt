@@ -1,5 +1,5 @@
 use super::*;
-use osm_geom::{Kind, Loc, Seg};
+use osm_lattice::{Kind, Loc, Seg};
 use std::alloc::Global;
 use std::test::Fail;
 

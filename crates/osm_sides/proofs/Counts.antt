@@ -1,5 +1,5 @@
 -- Counts over lists.
-use Rattle.std.proofs.Common.{Bool, List, [], ap, arith, cond, count_by, false, length, not, refl, suc, true, zero, ℕ, ◌+◌, ◌∙◌, ◌∷◌, ◌≡◌, ◌≤◌}
+use Rattle.std.proofs.Common.{Bool, List, [], ap, arith, cond, count_by, false, length, refl, suc, true, zero, ℕ, ◌+◌, ◌∙◌, ◌∷◌, ◌≡◌, ◌≤◌}
 use Rattle.std.specs.List.{AllWithin}
 use Rattle.std.proofs.lemmas.List.Sums.{sum_by-cons}
 
@@ -18,7 +18,3 @@ count_from p (x ∷ xs) (suc i) none all within =
     let a = count_cons p x xs ∙ ap (λ b. cond {A = ℕ} b 1 0 + count_by p xs) (none 0 x (omega arith) (omega arith)) in
     let b = count_from p xs i (λ k d h l. none (suc k) d (omega arith) (omega arith)) (λ k d h l. all (suc k) d (omega arith) (omega arith)) (omega arith) in
     omega arith
-
-pub not-false-out : (b : Bool) → not b ≡ false → b ≡ true
-not-false-out true h = refl
-not-false-out false h = absurd (cc h)

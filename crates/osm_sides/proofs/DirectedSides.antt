@@ -3,22 +3,21 @@ use Rattle.std.proofs.Common.{List, [], pos, ◌*ℤ◌, ◌≡◌, ◌∙◌, a
 use Rattle.std.proofs.lemmas.Int.{ints}
 use Rattle.plane.specs.Scale.{scaled_point}
 use Rattle.plane.specs.Vector.{Vector, east}
-use Rattle.plane.proofs.Points.{same_vector}
+use Rattle.plane.proofs.PlaneKit.{same_vector}
 use Rattle.winding.specs.EdgeList.{winding_number}
 use Rattle.winding.specs.OddSide.{directed}
 use Rattle.winding.specs.ScaledEdges.{scaled_edges}
 use Rattle.winding.specs.Sided as winding
-use Rattle.winding.proofs.ScaledLists.{rational_count}
-use Rattle.winding.proofs.SidedLists.{directed_sided}
+use Rattle.winding.proofs.WindingKit.{rational_count, directed_sided}
 use Rattle.osm_geom.specs.declared.edge.Edge.{Edge}
-use Rattle.osm_geom.specs.declared.seg.Seg.{Seg}
-use Rattle.osm_geom.specs.Seg.{seg_cmp}
-use Rattle.osm_lists.specs.Rising.{IsRising}
+use Rattle.osm_lattice.specs.declared.seg.Seg.{Seg}
+use Rattle.osm_lattice.specs.Seg.{seg_cmp}
+use Rattle.lists.specs.Rising.{IsRising}
 use Rattle.osm_segments.specs.Pairs.{conflicts_of}
-use Rattle.sided.specs.Multiple.{whole_edges}
-use Rattle.sided.specs.Sided.{IsSided}
-use Rattle.sided.specs.SidedLaws.{IsLattice}
-use Rattle.sided.proofs.Multiples.{common-lattice, lattice_whole}
+use Rattle.plane_edges.specs.Multiple.{whole_edges}
+use Rattle.plane_edges.specs.Sided.{IsSided}
+use Rattle.plane_edges.specs.SidedLaws.{IsLattice}
+use Rattle.plane_edges.proofs.EdgesKit.{common-lattice, lattice_whole}
 use Rattle.osm_sides.specs.Directions.{AreDirected, CountsParity}
 use Rattle.osm_sides.specs.Survivors.{HasEvenNodes, edges_of}
 use Rattle.osm_sides.proofs.PlaneEdges.{lattice_edges, plane_edges}

@@ -7,12 +7,12 @@ use Rattle.std.specs.Ordering.{int_cmp, is_lt}
 use Rattle.std.proofs.lemmas.Cmp.{int_cmp_total}
 use Rattle.std.proofs.lemmas.Int.{ints}
 use Rattle.std.proofs.lemmas.List.Sorted.{Contains-permutation, ranks_by, sorted_far}
-use Rattle.winding.specs.Member.{In}
-use Rattle.winding.proofs.Members.{into-filter}
-use Rattle.osm_geom.specs.declared.seg.Seg.{Seg}
+use Rattle.lists.specs.Member.{In}
+use Rattle.lists.proofs.Members.{into-filter}
+use Rattle.lists.proofs.Items.{at-in}
+use Rattle.osm_lattice.specs.declared.seg.Seg.{Seg}
 use Rattle.osm_sides.specs.SideTests.{level}
 use Rattle.osm_sides.specs.Sweep.{AreEnds}
-use Rattle.osm_sides.proofs.Members.{in-place}
 
 to-contains : {X : Type 0} (xs : List X) (x : X) → In x xs → Contains xs x
 to-contains [] x i = absurd i
@@ -20,7 +20,7 @@ to-contains (y ∷ ys) x (inl e) = (0, omega arith, sym e)
 to-contains (y ∷ ys) x (inr i) = let r = to-contains ys x i in (suc r.0, (let s = r.1 in omega arith), r.2)
 
 from-contains : {X : Type 0} (xs : List X) (x : X) → Contains xs x → In x xs
-from-contains xs x (m, inside, at) = subst (λ y. In y xs) at (in-place xs m x inside)
+from-contains xs x (m, inside, at) = subst (λ y. In y xs) at (at-in xs m x inside)
 
 not-below : (a b : ℤ) → is_lt (int_cmp a b) ≡ false → lt_z a b ≡ false
 not-below a b h = grind (arith, ints)

@@ -1,14 +1,12 @@
-pub mod SegmentTests
-pub mod Counts
-pub mod NearCounts
-pub mod NearIndexes
-pub mod OddSideCounts
-pub mod PlaneEdges
-pub mod Survivors
+mod Counts
 pub mod DirectedSides
-pub mod Pushes
-pub mod StatusEdges
-pub mod SweptHeights
-pub mod Members
-pub mod Ends
-pub mod Statuses
+mod Ends
+mod OddSideCounts
+pub mod PlaneEdges
+mod Pushes
+mod SegmentTests
+mod StatusEdges
+mod Statuses
+mod Survivors
+mod SweptHeights
+mod WholeSegments

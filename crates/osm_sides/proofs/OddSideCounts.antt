@@ -6,10 +6,10 @@ use Rattle.plane.specs.Height.{is_left_of, starts_left_of}
 use Rattle.winding.specs.ConflictFree.{others}
 use Rattle.winding.specs.OddSide as odd_side
 use Rattle.winding.specs.Parity.{is_even}
-use Rattle.osm_geom.specs.declared.loc.Loc.{Loc}
-use Rattle.osm_geom.specs.declared.seg.Seg.{Seg}
-use Rattle.osm_geom.specs.Loc.{vector_of}
-use Rattle.osm_geom.specs.Seg.{edge_of}
+use Rattle.osm_lattice.specs.declared.loc.Loc.{Loc}
+use Rattle.osm_lattice.specs.declared.seg.Seg.{Seg}
+use Rattle.osm_lattice.specs.Loc.{vector_of}
+use Rattle.osm_lattice.specs.Seg.{edge_of}
 use Rattle.osm_sides.specs.Survivors.{edges_of}
 use Rattle.osm_sides.specs.SideTests.{left_of, counted, starts_left, level, left_count, right_count}
 use Rattle.osm_sides.proofs.Counts.{count_cons}

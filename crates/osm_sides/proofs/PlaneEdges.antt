@@ -2,20 +2,19 @@
 use Rattle.std.proofs.Common.{Bool, true, false, cond, List, [], ◌∷◌, map, pos, ◌*ℤ◌, ◌≡◌, ◌∙◌, refl, ap, arith, ⊎_elim}
 use Rattle.std.proofs.lemmas.Int.{ints}
 use Rattle.plane.specs.Edge as plane
-use Rattle.plane.proofs.Edges.{same_edge_by}
-use Rattle.plane.proofs.Points.{same_vector}
-use Rattle.winding.specs.Member.{In}
+use Rattle.plane.proofs.PlaneKit.{same_edge_by, same_vector}
+use Rattle.lists.specs.Member.{In}
 use Rattle.winding.specs.OddSide as odd_side
 use Rattle.osm_geom.specs.declared.edge.Edge.{Edge}
-use Rattle.osm_geom.specs.declared.loc.Loc.{Loc}
+use Rattle.osm_lattice.specs.declared.loc.Loc.{Loc}
 use Rattle.osm_geom.specs.declared.point.Point.{Point}
 use Rattle.osm_geom.specs.declared.point.Point.TheVariants.{Lattice}
-use Rattle.osm_geom.specs.declared.seg.Seg.{Seg}
-use Rattle.osm_geom.specs.Loc.{vector_of}
+use Rattle.osm_lattice.specs.declared.seg.Seg.{Seg}
+use Rattle.osm_lattice.specs.Loc.{vector_of}
 use Rattle.osm_geom.specs.Point.{den_of}
-use Rattle.osm_geom.specs.Seg.{edge_of}
-use Rattle.sided.specs.Multiple.{edge_times, edges_times, point_times}
-use Rattle.sided.specs.SidedLaws.{IsLattice}
+use Rattle.osm_lattice.specs.Seg.{edge_of}
+use Rattle.plane_edges.specs.Multiple.{edge_times, edges_times, point_times}
+use Rattle.plane_edges.specs.SidedLaws.{IsLattice}
 use Rattle.osm_sides.specs.Directions.{first_end, last_end}
 use Rattle.osm_sides.specs.Survivors.{edges_of}
 

@@ -5,16 +5,15 @@ use Rattle.std.specs.declared.cmp.Ordering.TheVariants.{Less, Equal, Greater}
 use Rattle.std.specs.Ordering.{is_eq}
 use lib.Signed.{lt_z}
 use Rattle.std.proofs.lemmas.Int.{ints}
-use Rattle.plane.proofs.Signs.{Says, says}
+use Rattle.plane.proofs.SignKit.{Says, says}
 use Rattle.std.proofs.lemmas.Cmp.{tied_itself}
 use Rattle.plane.specs.Sign.{Sign, Plus, Null, Minus, is_null, is_plus, sign, then_sign}
 use Rattle.plane.specs.Vector.{Vector, same_point}
-use Rattle.plane.proofs.Points.{same_point-refl, same_point-true}
-use Rattle.osm_geom.specs.declared.loc.Loc.{Loc}
-use Rattle.osm_geom.specs.declared.seg.Seg.{Seg}
-use Rattle.osm_geom.specs.Loc.{loc_cmp, vector_of}
-use Rattle.osm_geom.proofs.LocationOrder.{loc_total, rising_edge}
-use Rattle.osm_geom.proofs.Orders.{loc_from_fields, loc_same}
+use Rattle.plane.proofs.PlaneKit.{same_point-refl, same_point-true}
+use Rattle.osm_lattice.specs.declared.loc.Loc.{Loc}
+use Rattle.osm_lattice.specs.declared.seg.Seg.{Seg}
+use Rattle.osm_lattice.specs.Loc.{loc_cmp, vector_of}
+use Rattle.osm_lattice.proofs.LatticeKit.{loc_total, rising_edge, loc_from_fields, loc_same}
 use Rattle.osm_sides.specs.SideTests.{level, same}
 
 loc_from_vectors : (p q : Loc) → vector_of p ≡ vector_of q → p ≡ q
@@ -45,7 +44,7 @@ flat_by Null t h = refl
 flat_by Minus t h = cc
 
 -- one number is below another where the difference is positive
-lt_by : (x y : ℤ) (s : Sign) → Says s (y -ℤ x) → lt_z x y ≡ is_plus s
+pub lt_by : (x y : ℤ) (s : Sign) → Says s (y -ℤ x) → lt_z x y ≡ is_plus s
 lt_by x y Plus h = grind (arith, ints)
 lt_by x y Null h = grind (arith, ints)
 lt_by x y Minus h = grind (arith, ints)

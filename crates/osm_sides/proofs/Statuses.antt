@@ -9,34 +9,32 @@ use Rattle.plane.specs.Edge.{same_edge}
 use Rattle.plane.specs.Height.{is_in_span, is_right_above}
 use Rattle.plane.specs.Sign.{is_plus, sign}
 use Rattle.plane.specs.Vector.{Vector}
-use Rattle.plane.proofs.Heights.{right_of}
-use Rattle.plane.proofs.Bools.{and-left, and-right, not-true-out}
+use Rattle.plane.proofs.PlaneKit.{right_of}
+use Rattle.lists.proofs.Bools.{and-left, and-right, not-true-out, not-false-out}
 use Rattle.winding.specs.ConflictFree.{IsConflictFree}
-use Rattle.winding.specs.Member.{In}
+use Rattle.lists.specs.Member.{In}
 use Rattle.winding.specs.OddSide.{runs_up}
 use Rattle.winding.specs.Parity.{is_even}
-use Rattle.winding.proofs.Levels.{left-span, right_left}
-use Rattle.winding.proofs.Members.{in-filter, in-map, in-passes}
+use Rattle.winding.proofs.WindingKit.{left-span, right_left}
+use Rattle.lists.proofs.Members.{in-filter, in-map, in-passes}
+use Rattle.lists.proofs.Items.{at-in, in-take}
 use Rattle.status.specs.Leaving.{Remains}
 use Rattle.status.specs.Status.{IsStatus}
-use Rattle.status.proofs.Fronts.{all_is_front, front_is_all, next_enters, next_passes}
-use Rattle.status.proofs.Leaving.{all_remain, in-front}
-use Rattle.status.proofs.Statuses.{climbs, counts, parted, rises-among}
-use Rattle.osm_geom.specs.declared.loc.Loc.{Loc}
-use Rattle.osm_geom.specs.declared.seg.Seg.{Seg}
-use Rattle.osm_geom.specs.Loc.{vector_of}
-use Rattle.osm_geom.specs.Seg.{edge_of, seg_cmp}
-use Rattle.osm_lists.specs.Rising.{IsRising}
+use Rattle.status.proofs.StatusKit.{all_is_front, front_is_all, next_enters, next_passes, all_remain, in-front, climbs, counts, parted, rises-among}
+use Rattle.osm_lattice.specs.declared.loc.Loc.{Loc}
+use Rattle.osm_lattice.specs.declared.seg.Seg.{Seg}
+use Rattle.osm_lattice.specs.Loc.{vector_of}
+use Rattle.osm_lattice.specs.Seg.{edge_of, seg_cmp}
+use Rattle.lists.specs.Rising.{IsRising}
 use Rattle.osm_segments.specs.Pairs.{conflicts_of}
 use Rattle.osm_sides.specs.SideTests.{counted, left_count, left_of, level, right_count, starts_left}
 use Rattle.osm_sides.specs.Survivors.{edges_of}
-use Rattle.osm_sides.specs.Sweep.{AreDirectedTo, AreEnds, IsEntered, IsSwept, IsSweptTo, begins_by, ends_above}
-use Rattle.osm_sides.proofs.Counts.{not-false-out}
-use Rattle.osm_sides.proofs.Members.{in-place, in-take, same_get}
+use Rattle.osm_sides.specs.Sweep.{AreDirectedTo, AreEnds, IsEntered, IsSweptTo, begins_by, ends_above}
 use Rattle.osm_sides.proofs.OddSideCounts.{runs_up_is}
 use Rattle.osm_sides.proofs.StatusEdges.{counts-is}
 use Rattle.osm_sides.proofs.Survivors.{conflict_free}
-use Rattle.osm_sides.proofs.SweptHeights.{begins-later, begins-level, ended-away, ends-sooner, high-sign, later-away, level-sign, none-begun, span-ends, span-is, span-slopes, spans}
+use Rattle.osm_sides.proofs.SweptHeights.{begins-later, begins-level, ended-away, ends-sooner, high-sign, later-away, level-sign, none-begun, span-ends, span-is, span-slopes, spans, IsSwept}
+use Rattle.osm_segments.proofs.SegmentTests.{same_get}
 
 -- ---- lists
 -- tests that agree on the items of a list keep the same ones, and part it alike
@@ -76,7 +74,7 @@ module _ (segs : List Seg) (rising : IsRising seg_cmp segs) (clear : conflicts_o
     next-is d = same_get segs k d s inside ∙ sym at
 
     stands : In s segs
-    stands = subst (λ t. In t segs) (sym at) (in-place segs k s inside)
+    stands = subst (λ t. In t segs) (sym at) (at-in segs k s inside)
 
     pub next-parts : ends_above p.y s ≡ true → IsPartitionedBy (λ t. not (counted s t)) status
     next-parts high = counted-parts p s stands level high (take k segs) status (in-take k segs) is

@@ -1,5 +1,5 @@
 -- Survivors without conflicts and odd nodes, as edges of the plane.
-use Rattle.std.proofs.Common.{Bool, true, false, cond, List, [], ◌∷◌, ◌++◌, All, ℕ, suc, ◌+◌, ◌≡◌, ◌∙◌, Option, Some, None, refl, sym, ap, arith, inl, inr, ⊎_elim, ◌⊎◌, if◌then◌else◌, ◌||◌, ◌%◌, subst}
+use Rattle.std.proofs.Common.{Bool, true, false, cond, List, [], ◌∷◌, ◌++◌, All, ℕ, suc, ◌+◌, ◌≡◌, ◌∙◌, Option, Some, None, refl, sym, ap, arith, inl, inr, ⊎_elim, ◌⊎◌, ◌%◌, subst}
 use Rattle.std.specs.declared.cmp.Ordering.TheVariants.{Less}
 use Rattle.std.specs.List.{filter_map, cons_option, sum_by}
 use Rattle.std.specs.Ordering.{is_eq}
@@ -9,20 +9,19 @@ use Rattle.plane.specs.Bit.{bit}
 use Rattle.plane.specs.Conflict.{IsClearOf}
 use Rattle.plane.specs.Edge as plane
 use Rattle.plane.specs.Vector.{Vector, one_at, same_point}
-use Rattle.plane.proofs.Points.{same_point-refl, same_point-true}
+use Rattle.plane.proofs.PlaneKit.{same_point-refl, same_point-true}
 use Rattle.winding.specs.ConflictFree.{IsConflictFree}
 use Rattle.winding.specs.EdgeList.{IsEvenAtPoints}
-use Rattle.winding.specs.Member.{EachPair}
+use Rattle.lists.specs.Member.{EachPair}
 use Rattle.winding.specs.Parity.{IsEven}
-use Rattle.osm_geom.specs.declared.conflicts.Kind.{Kind}
-use Rattle.osm_geom.specs.declared.conflicts.Kind.TheVariants.{Crossing, Overlap}
-use Rattle.osm_geom.specs.declared.loc.Loc.{Loc}
-use Rattle.osm_geom.specs.declared.seg.Seg.{Seg}
-use Rattle.osm_geom.specs.Conflict.{are_crossing, are_overlapping, conflict_of}
-use Rattle.osm_geom.specs.Loc.{loc_cmp, vector_of}
-use Rattle.osm_geom.specs.Seg.{edge_of, seg_cmp}
-use Rattle.osm_geom.proofs.LocationOrder.{rising_edge}
-use Rattle.osm_lists.specs.Rising.{IsRising, count_of}
+use Rattle.osm_lattice.specs.declared.conflicts.Kind.{Kind}
+use Rattle.osm_lattice.specs.declared.loc.Loc.{Loc}
+use Rattle.osm_lattice.specs.declared.seg.Seg.{Seg}
+use Rattle.osm_lattice.specs.Conflict.{are_crossing, are_overlapping, conflict_of}
+use Rattle.osm_lattice.specs.Loc.{loc_cmp, vector_of}
+use Rattle.osm_lattice.specs.Seg.{edge_of, seg_cmp}
+use Rattle.osm_lattice.proofs.LatticeKit.{rising_edge, clear_by}
+use Rattle.lists.specs.Rising.{IsRising, count_of}
 use Rattle.osm_segments.specs.Counts.{ends_of}
 use Rattle.osm_segments.specs.Pairs.{conflicts_of, pair_of}
 use Rattle.osm_sides.specs.SideTests.{same}
@@ -30,12 +29,6 @@ use Rattle.osm_sides.specs.Survivors.{HasEvenNodes, edges_of}
 use Rattle.osm_sides.proofs.SegmentTests.{same_is}
 
 -- ---- no conflicts
-clear_by : (e o x : Bool) → e ≡ false → (if e then None else (if o then Some Overlap else (if x then Some Crossing else None))) ≡ None → (o || x) ≡ false
-clear_by true o x h k = cc
-clear_by false true x h k = cc
-clear_by false false true h k = cc
-clear_by false false false h k = refl
-
 clear_pair : (s t : Seg) → seg_cmp s t ≡ Less → conflict_of s t ≡ None → IsClearOf (edge_of s) (edge_of t)
 unfolding are_overlapping are_crossing
 clear_pair s t less none = clear_by (is_eq (seg_cmp s t)) (are_overlapping s t) (are_crossing s t) (rw less refl) none

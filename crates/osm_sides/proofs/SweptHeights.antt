@@ -7,35 +7,29 @@ use Rattle.std.specs.Ordering.{int_cmp, ordering_then}
 use Rattle.std.specs.List.{AllWithin}
 use Rattle.std.specs.List.Sorted.{IsPartitionedBy}
 use Rattle.std.specs.Prelude.{negsuc, unsigned_abs, ◌≤ℤ◌}
-use Rattle.std.proofs.lemmas.Bool.{cases_lt}
+use Rattle.std.proofs.lemmas.Bool.{cases_lt, and_from, and_right}
 use Rattle.std.proofs.lemmas.Int.{ints}
 use Rattle.plane.specs.Height.{is_in_span}
-use Rattle.plane.specs.Sign.{Minus, Null, Plus, Sign, is_plus, sign}
+use Rattle.plane.specs.Sign.{Null, Plus, is_plus, sign}
 use Rattle.plane.specs.Vector.{Vector}
-use Rattle.plane.proofs.Bools.{and-in, and-left, and-no, and-right}
-use Rattle.plane.proofs.Signs.{Says, is_plus-true, says, self-diff}
-use Rattle.osm_geom.specs.declared.seg.Seg.{Seg}
-use Rattle.osm_geom.specs.Seg.{edge_of, seg_cmp}
-use Rattle.osm_lists.specs.Rising.{IsRising}
+use Rattle.lists.proofs.Bools.{and-left, and-right, not-false-out}
+use Rattle.plane.proofs.SignKit.{is_plus-true, says, self-diff}
+use Rattle.osm_lattice.specs.declared.seg.Seg.{Seg}
+use Rattle.osm_lattice.specs.Seg.{edge_of, seg_cmp}
+use Rattle.lists.specs.Rising.{IsRising}
 use Rattle.osm_sides.specs.SideTests.{level}
-use Rattle.osm_sides.specs.Sweep.{EndsRise, begins_by, ends_above}
-use Rattle.osm_sides.proofs.Counts.{not-false-out}
-use Rattle.osm_sides.proofs.SegmentTests.{level_is}
-
-lt-by : (x y : ℤ) (s : Sign) → Says s (y -ℤ x) → lt_z x y ≡ is_plus s
-lt-by x y Plus h = grind (arith, ints)
-lt-by x y Null h = grind (arith, ints)
-lt-by x y Minus h = grind (arith, ints)
+use Rattle.osm_sides.specs.Sweep.{EndsRise, begins_by, ends_above, IsSweptTo}
+use Rattle.osm_sides.proofs.SegmentTests.{level_is, lt_by}
 
 lt-plus : (x y : ℤ) → lt_z x y ≡ is_plus (sign (y -ℤ x))
-lt-plus x y = lt-by x y (sign (y -ℤ x)) (says (y -ℤ x))
+lt-plus x y = lt_by x y (sign (y -ℤ x)) (says (y -ℤ x))
 
 -- ---- what spans a height
 pub span-is : (p : Vector) (t : Seg) → is_in_span p (edge_of t) ≡ (begins_by p.y t && ends_above p.y t)
 span-is p t = ap (λ b. not b && is_plus (sign (t.b.y -ℤ p.y))) (sym (lt-plus p.y t.a.y)) ∙ ap (λ b. not (lt_z p.y t.a.y) && b) (sym (lt-plus p.y t.b.y))
 
 pub spans : (p : Vector) (t : Seg) → begins_by p.y t ≡ true → ends_above p.y t ≡ true → is_in_span p (edge_of t) ≡ true
-spans p t low high = span-is p t ∙ and-in (begins_by p.y t) (ends_above p.y t) low high
+spans p t low high = span-is p t ∙ and_from (begins_by p.y t) (ends_above p.y t) low high
 
 pub span-begins : (p : Vector) (t : Seg) → is_in_span p (edge_of t) ≡ true → begins_by p.y t ≡ true
 span-begins p t h = and-left (begins_by p.y t) (ends_above p.y t) (sym (span-is p t) ∙ h)
@@ -44,7 +38,7 @@ pub span-ends : (p : Vector) (t : Seg) → is_in_span p (edge_of t) ≡ true →
 span-ends p t h = and-right (begins_by p.y t) (ends_above p.y t) (sym (span-is p t) ∙ h)
 
 pub ended-away : (p : Vector) (t : Seg) → ends_above p.y t ≡ false → is_in_span p (edge_of t) ≡ false
-ended-away p t h = span-is p t ∙ and-no (begins_by p.y t) (ends_above p.y t) h
+ended-away p t h = span-is p t ∙ and_right (begins_by p.y t) (ends_above p.y t) h
 
 pub later-away : (p : Vector) (t : Seg) → begins_by p.y t ≡ false → is_in_span p (edge_of t) ≡ false
 later-away p t h = span-is p t ∙ ap (λ b. b && ends_above p.y t) h
@@ -128,3 +122,10 @@ low_number z h = grind (arith, ints)
 
 pub none-begun : (t : Seg) → begins_by (negsuc 1_000_000_000) t ≡ false
 none-begun t = low_number t.a.y t.a.y_in
+
+-- ---- where the sweep stands
+-- before a row: the sweep has come to some height, and none of the ends before a place is above it
+pub record IsSwept (segs ends : List Seg) (k next : ℕ) (status : List Seg) : Type 0 where
+  pub height : Vector
+  pub swept : IsSweptTo height segs k status
+  pub ended : AllWithin (λ t. ends_above height.y t ≡ false) ends 0 next

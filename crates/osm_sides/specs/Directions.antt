@@ -9,9 +9,9 @@ use Rattle.osm_geom.specs.declared.edge.Carrier.TheVariants.{OfSeg}
 use Rattle.osm_geom.specs.declared.edge.Edge.{Edge}
 use Rattle.osm_geom.specs.declared.point.Point.{Point}
 use Rattle.osm_geom.specs.declared.point.Point.TheVariants.{Lattice}
-use Rattle.osm_geom.specs.declared.seg.Seg.{Seg}
-use Rattle.osm_geom.specs.Seg.{edge_of}
-use Rattle.sided.specs.Sided.{signed_count_at}
+use Rattle.osm_lattice.specs.declared.seg.Seg.{Seg}
+use Rattle.osm_lattice.specs.Seg.{edge_of}
+use Rattle.plane_edges.specs.Sided.{signed_count_at}
 use Rattle.osm_sides.specs.Survivors.{edges_of}
 
 -- where s begins and ends, directed by the odd side among segs

@@ -1,6 +1,5 @@
 pub mod Survivors
 pub mod SideTests
 pub mod Directions
-pub mod Stab
-pub mod PlainStab
+pub mod Laws
 pub mod Sweep

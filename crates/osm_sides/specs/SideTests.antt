@@ -5,10 +5,10 @@ use Rattle.plane.specs.Edge.{is_horizontal, same_edge}
 use Rattle.plane.specs.Height.{is_in_span, is_left_of, starts_left_of}
 use Rattle.plane.specs.Sign.{is_minus, is_plus}
 use Rattle.plane.specs.Vector.{orient, same_point}
-use Rattle.osm_geom.specs.declared.loc.Loc.{Loc}
-use Rattle.osm_geom.specs.declared.seg.Seg.{Seg}
-use Rattle.osm_geom.specs.Loc.{vector_of}
-use Rattle.osm_geom.specs.Seg.{edge_of}
+use Rattle.osm_lattice.specs.declared.loc.Loc.{Loc}
+use Rattle.osm_lattice.specs.declared.seg.Seg.{Seg}
+use Rattle.osm_lattice.specs.Loc.{vector_of}
+use Rattle.osm_lattice.specs.Seg.{edge_of}
 
 unfoldable pub span : Loc → Seg → Bool
 span p t = is_in_span (vector_of p) (edge_of t)

@@ -1,8 +1,8 @@
 -- Segments as edges of the plane, and the nodes of a list of segments.
 use Rattle.std.specs.Prelude.{List, [], map}
 use Rattle.plane.specs.Edge.{Edge}
-use Rattle.osm_geom.specs.declared.seg.Seg.{Seg}
-use Rattle.osm_geom.specs.Seg.{edge_of}
+use Rattle.osm_lattice.specs.declared.seg.Seg.{Seg}
+use Rattle.osm_lattice.specs.Seg.{edge_of}
 use Rattle.osm_segments.specs.Counts.{AreOddNodes}
 
 -- the plane's edges, each from its lesser end to its greater one

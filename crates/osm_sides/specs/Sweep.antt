@@ -3,13 +3,13 @@ use Rattle.std.specs.Prelude.{Bool, List, false, insert, length, map, not, slice
 use Rattle.std.specs.List.{AllWithin}
 use lib.Signed.{lt_z}
 use Rattle.plane.specs.Vector.{Vector}
-use Rattle.winding.specs.Member.{In}
+use Rattle.lists.specs.Member.{In}
 use Rattle.status.specs.Leaving.{Remains}
 use Rattle.status.specs.Status.{IsStatus}
 use Rattle.osm_geom.specs.declared.edge.Carrier.TheVariants.{OfSeg}
 use Rattle.osm_geom.specs.declared.edge.Edge.{Edge}
-use Rattle.osm_geom.specs.declared.seg.Seg.{Seg}
-use Rattle.osm_geom.specs.Seg.{edge_of}
+use Rattle.osm_lattice.specs.declared.seg.Seg.{Seg}
+use Rattle.osm_lattice.specs.Seg.{edge_of}
 use Rattle.osm_sides.specs.Directions.{first_end, last_end}
 use Rattle.osm_sides.specs.SideTests.{counted, level}
 
@@ -53,12 +53,6 @@ pub record IsRow (segs : List Seg) (from to : ℕ) (p : Vector) (status : List S
   pub within : to ≤ length segs
   pub level : AllWithin (λ t. t.a.y ≡ p.y) segs from to
   pub swept : IsSweptTo p segs to status
-
--- before a row: the sweep has come to some height, and none of the ends before a place is above it
-pub record IsSwept (segs ends : List Seg) (k next : ℕ) (status : List Seg) : Type 0 where
-  pub height : Vector
-  pub swept : IsSweptTo height segs k status
-  pub ended : AllWithin (λ t. ends_above height.y t ≡ false) ends 0 next
 
 -- one edge for each of the first k segments, in order, its odd side on the left
 pub record AreDirectedTo (segs : List Seg) (k : ℕ) (edges : List Edge) : Type 0 where

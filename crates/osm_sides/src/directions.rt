@@ -1,8 +1,9 @@
-ghost use Rattle.std.specs.Prelude.{◌≡◌, [], IfOk, length};
-ghost use Rattle.osm_geom.specs.Seg.{seg_cmp};
-ghost use Rattle.osm_lists.specs.Rising.{IsRising};
+ghost use Rattle.std.specs.Prelude.{◌≡◌, [], All, IfOk, length};
+ghost use Rattle.osm_lattice.specs.Seg.{seg_cmp};
+ghost use Rattle.osm_geom.specs.WholeSegment.{IsWholeSegment};
+ghost use Rattle.lists.specs.Rising.{IsRising};
 ghost use Rattle.osm_segments.specs.Pairs.{conflicts_of};
-ghost use Rattle.sided.specs.Sided.{IsSided};
+ghost use Rattle.plane_edges.specs.Sided.{IsSided};
 ghost use Rattle.osm_sides.specs.Survivors.{HasEvenNodes};
 ghost use Rattle.osm_geom.specs.declared.edge.Carrier.TheVariants.{OfSeg};
 ghost use Rattle.osm_sides.specs.Directions.{AreDirected, CountsParity, first_end, last_end};
@@ -13,10 +14,10 @@ use crate::rows::{direct_row, enter_row};
 use crate::sides::runs_up;
 use chunked_list::ChunkedList;
 use osm_geom::{Edge, Seg};
-use std::alloc::{AllocError, Global};
+use std::alloc::{AllocError as OutOfMemory, Global};
 
-// Each segment directed, in order: row by row of those that begin at one height, upwards, by their places in the status.
-fn direct_each(alloc: Global, segs: &[Seg]) -> Result<Vec<Edge>, AllocError>
+/// Each segment directed, in order: row by row of those that begin at one height, upwards, by their places in the status.
+fn direct_each(alloc: Global, segs: &[Seg]) -> Result<Vec<Edge>, OutOfMemory>
     requires rising { IsRising seg_cmp segs.now }
     requires clear { conflicts_of segs.now ≡ [] }
     ensures { IfOk result (λ v. AreDirectedTo segs.now (length segs.now) v.items) }
@@ -36,7 +37,7 @@ fn direct_each(alloc: Global, segs: &[Seg]) -> Result<Vec<Edge>, AllocError>
     Ok(edges)
 }
 
-// One segment, directed among all.
+/// One segment, directed among all.
 fn direct_one(segs: &[Seg], s: Seg) -> Edge
     ensures carrier { result.carrier ≡ OfSeg s }
     ensures from { result.from ≡ first_end segs.now s }
@@ -45,8 +46,8 @@ fn direct_one(segs: &[Seg], s: Seg) -> Edge
     Edge::of(s, runs_up(segs, s))
 }
 
-// Each segment directed, in order, by counting all of them for each.
-fn direct_few(alloc: Global, segs: &[Seg]) -> Result<Vec<Edge>, AllocError>
+/// Each segment directed, in order, by counting all of them for each.
+fn direct_few(alloc: Global, segs: &[Seg]) -> Result<Vec<Edge>, OutOfMemory>
     ensures { IfOk result (λ v. AreDirectedTo segs.now (length segs.now) v.items) }
 {
     let mut edges = Vec::with_capacity(alloc, segs.len())?;
@@ -59,7 +60,7 @@ fn direct_few(alloc: Global, segs: &[Seg]) -> Result<Vec<Edge>, AllocError>
 /// So few segments are directed sooner by counting than by a sweep.
 const FEW: usize = 12;
 
-fn direct_all(alloc: Global, segs: &[Seg]) -> Result<Vec<Edge>, AllocError>
+fn direct_all(alloc: Global, segs: &[Seg]) -> Result<Vec<Edge>, OutOfMemory>
     requires rising { IsRising seg_cmp segs.now }
     requires clear { conflicts_of segs.now ≡ [] }
     ensures { IfOk result (λ v. AreDirectedTo segs.now (length segs.now) v.items) }
@@ -73,11 +74,12 @@ fn direct_all(alloc: Global, segs: &[Seg]) -> Result<Vec<Edge>, AllocError>
 /// The survivors as edges, one for each and in their order, directed so that the odd side is on the left (the
 /// right-hand rule of RFC 7946): an edge runs up where the number of others right of it is even, and a horizontal
 /// one runs right where the number of those right of its left end is odd.
-pub fn direct(alloc: Global, survivors: &[Seg]) -> Result<Vec<Edge>, AllocError>
+pub fn direct(alloc: Global, survivors: &[Seg]) -> Result<Vec<Edge>, OutOfMemory>
     requires rising { IsRising seg_cmp survivors.now }
     requires clear { conflicts_of survivors.now ≡ [] }
     requires even { HasEvenNodes survivors.now }
     ensures odd_side { IfOk result (λ v. AreDirected survivors.now v.items) }
+    ensures whole { IfOk result (λ v. All IsWholeSegment v.items) }
     ensures sided { IfOk result (λ v. IsSided v.items) }
     ensures parity { IfOk result (λ v. CountsParity survivors.now v.items) }
 {

@@ -1,17 +1,17 @@
 //! How segments leave the status of a sweep: at the heights of their upper ends.
 ghost use Rattle.std.specs.Prelude.{◌≡◌, ◌<◌, ◌≤◌, ◌+◌, List, IfOk, IfSome, false, filter, length, slice_index_or, true};
 ghost use Rattle.std.specs.List.{AllWithin};
-ghost use Rattle.osm_geom.specs.declared.seg.Seg.{Seg};
+ghost use Rattle.osm_lattice.specs.declared.seg.Seg.{Seg};
 ghost use Rattle.status.specs.Leaving.{Remains};
 ghost use Rattle.osm_sides.specs.Sweep.{AreEnds, EndsRise, NextHasLeft, ends_above};
 
 use crate::sides::{is_above, is_horizontal};
 use chunked_list::ChunkedList;
 use osm_geom::{Loc, Seg, orient};
-use std::alloc::{AllocError, Global};
+use std::alloc::{AllocError as OutOfMemory, Global};
 
 /// The segments that aren't horizontal, in order of the heights of their upper ends.
-pub fn by_ends(alloc: Global, segs: &[Seg]) -> Result<Vec<Seg>, AllocError>
+pub fn by_ends(alloc: Global, segs: &[Seg]) -> Result<Vec<Seg>, OutOfMemory>
     ensures { IfOk result (λ ends. AreEnds segs.now ends.items) }
 {
     let mut ends = Vec::from_slice(alloc, segs)?;
@@ -20,13 +20,13 @@ pub fn by_ends(alloc: Global, segs: &[Seg]) -> Result<Vec<Seg>, AllocError>
     Ok(ends)
 }
 
-// Whether `t` is left of `s` just below the upper end of `s`, where both reach that height. Only how fast a segment is found rests on it.
+/// Whether `t` is left of `s` just below the upper end of `s`, where both reach that height. Only how fast a segment is found rests on it.
 fn is_left_below(t: Seg, s: Seg) -> bool {
     let side = orient(t.a, t.b, s.b);
     side < 0 || side == 0 && orient(t.a, t.b, s.a) < 0
 }
 
-// The place of a segment, if it stands just behind those that are left of it.
+/// The place of a segment, if it stands just behind those that are left of it.
 fn find(status: &ChunkedList<Seg>, s: Seg) -> Option<usize>
     ensures inside { IfSome result (λ place. place < length status.now) }
     ensures at { IfSome result (λ place. slice_index_or status.now place s ≡ s) }
@@ -38,14 +38,14 @@ fn find(status: &ChunkedList<Seg>, s: Seg) -> Option<usize>
     None
 }
 
-// Those that end above the height of `at` stay.
+/// Those that end above the height of `at` stay.
 fn leave_all(status: &mut ChunkedList<Seg>, at: Loc)
     ensures { status.new ≡ filter (ends_above at.y) status.old }
 {
     status.retain(|t| is_above(*t, at));
 }
 
-// Takes out the next one that has ended by the height of `at`; all that have, if it isn't found.
+/// Takes out the next one that has ended by the height of `at`; all that have, if it isn't found.
 fn leave_next(status: &mut ChunkedList<Seg>, ends: &[Seg], next: usize, at: Loc)
     requires inside { next < length ends.now }
     requires ended { (d : Seg) → ends_above at.y (slice_index_or ends.now next d) ≡ false }
@@ -61,7 +61,7 @@ fn leave_next(status: &mut ChunkedList<Seg>, ends: &[Seg], next: usize, at: Loc)
     }
 }
 
-// Takes out those from one place up to another.
+/// Takes out those from one place up to another.
 fn leave_each(status: &mut ChunkedList<Seg>, ends: &[Seg], from: usize, to: usize, at: Loc)
     requires within { to ≤ length ends.now }
     requires ended { AllWithin (λ t. ends_above at.y t ≡ false) ends.now from to }

@@ -2,16 +2,13 @@
 #![tactic(auto)]
 
 mod directions;
+mod laws;
 mod leaving;
-mod plain_stab;
 mod rows;
 mod sides;
-mod stab;
-#[cfg(test)]
-mod stab_tests;
 #[cfg(test)]
 mod tests;
 
 pub use directions::direct;
-pub use plain_stab::PlainStab;
-pub use stab::Stab;
+pub use laws::directing_is_sided;
+pub use osm_stab::{PlainStab, Stab};

@@ -5,10 +5,10 @@ ghost use Rattle.std.specs.List.Sorted.{IsPartitionedBy};
 ghost use Rattle.plane.specs.Vector.{Vector};
 ghost use Rattle.winding.specs.Parity.{is_even};
 ghost use Rattle.status.specs.Status.{IsStatus};
-ghost use Rattle.osm_geom.specs.declared.seg.Seg.{Seg};
-ghost use Rattle.osm_geom.specs.Loc.{vector_of};
-ghost use Rattle.osm_geom.specs.Seg.{edge_of, seg_cmp};
-ghost use Rattle.osm_lists.specs.Rising.{IsRising};
+ghost use Rattle.osm_lattice.specs.declared.seg.Seg.{Seg};
+ghost use Rattle.osm_lattice.specs.Loc.{vector_of};
+ghost use Rattle.osm_lattice.specs.Seg.{edge_of, seg_cmp};
+ghost use Rattle.lists.specs.Rising.{IsRising};
 ghost use Rattle.osm_segments.specs.Pairs.{conflicts_of};
 ghost use Rattle.osm_sides.specs.SideTests.{counted, left_count, left_of, level, right_count};
 ghost use Rattle.osm_sides.specs.Sweep.{AreDirectedTo, IsEntered, IsRow};
@@ -16,9 +16,9 @@ ghost use Rattle.osm_sides.specs.Sweep.{AreDirectedTo, IsEntered, IsRow};
 use crate::sides::{is_above, is_counted, is_horizontal, is_left_of};
 use chunked_list::ChunkedList;
 use osm_geom::{Edge, Loc, Seg};
-use std::alloc::AllocError;
+use std::alloc::AllocError as OutOfMemory;
 
-// How many of the status don't count as right of `s`: these stand first.
+/// How many of the status don't count as right of `s`: these stand first.
 fn place(status: &ChunkedList<Seg>, s: Seg) -> usize
     requires { IsPartitionedBy (λ t. not (counted s t)) status.now }
     ensures within { result ≤ length status.now }
@@ -28,8 +28,8 @@ fn place(status: &ChunkedList<Seg>, s: Seg) -> usize
     status.partition_point(|t| !is_counted(s, *t))
 }
 
-// Puts a segment where it belongs just above its lower end.
-fn enter(status: &mut ChunkedList<Seg>, s: Seg) -> Result<(), AllocError>
+/// Puts a segment where it belongs just above its lower end.
+fn enter(status: &mut ChunkedList<Seg>, s: Seg) -> Result<(), OutOfMemory>
     requires { IsPartitionedBy (λ t. not (counted s t)) status.old }
     ensures { OnOk result (IsEntered s status.old status.new) }
 {
@@ -38,15 +38,15 @@ fn enter(status: &mut ChunkedList<Seg>, s: Seg) -> Result<(), AllocError>
     Ok(())
 }
 
-// Puts in the segments from one place up to another, which begin at the height of `at`; a horizontal one doesn't span
-// it.
+/// Puts in the segments from one place up to another, which begin at the height of `at`; a horizontal one doesn't span
+/// it.
 fn enter_each(
     status: &mut ChunkedList<Seg>,
     segs: &[Seg],
     from: usize,
     to: usize,
     at: Loc,
-) -> Result<(), AllocError>
+) -> Result<(), OutOfMemory>
     requires rising { IsRising seg_cmp segs.now }
     requires clear { conflicts_of segs.now ≡ [] }
     requires status { IsStatus edge_of (vector_of at) (take from segs.now) status.old }
@@ -70,7 +70,7 @@ pub fn enter_row(
     segs: &[Seg],
     from: usize,
     at: Loc,
-) -> Result<usize, AllocError>
+) -> Result<usize, OutOfMemory>
     requires rising { IsRising seg_cmp segs.now }
     requires clear { conflicts_of segs.now ≡ [] }
     requires inside { from < length segs.now }
@@ -83,7 +83,7 @@ pub fn enter_row(
     Ok(to)
 }
 
-// How many of the status are right of `s` just above its lower end.
+/// How many of the status are right of `s` just above its lower end.
 fn right_in(status: &ChunkedList<Seg>, s: Seg) -> usize
     requires { IsPartitionedBy (λ t. not (counted s t)) status.now }
     ensures { result ≡ right_count s status.now }
@@ -91,7 +91,7 @@ fn right_in(status: &ChunkedList<Seg>, s: Seg) -> usize
     status.len() - place(status, s)
 }
 
-// How many of the status have `p` on their left.
+/// How many of the status have `p` on their left.
 fn left_in(status: &ChunkedList<Seg>, p: Loc) -> usize
     requires { IsPartitionedBy (λ t. not (left_of p t)) status.now }
     ensures { result ≡ left_count p status.now }
@@ -99,7 +99,7 @@ fn left_in(status: &ChunkedList<Seg>, p: Loc) -> usize
     status.len() - status.partition_point(|t| !is_left_of(p, *t))
 }
 
-// Whether the odd side makes `s` run up, by its place in the status at its lower end.
+/// Whether the odd side makes `s` run up, by its place in the status at its lower end.
 fn runs_up_in(status: &ChunkedList<Seg>, s: Seg) -> bool
     requires flat { level s ≡ true → IsPartitionedBy (λ t. not (left_of s.a t)) status.now }
     requires sloping { level s ≡ false → IsPartitionedBy (λ t. not (counted s t)) status.now }
@@ -119,7 +119,7 @@ pub fn direct_row(
     segs: &[Seg],
     from: usize,
     to: usize,
-) -> Result<(), AllocError>
+) -> Result<(), OutOfMemory>
     requires rising { IsRising seg_cmp segs.now }
     requires clear { conflicts_of segs.now ≡ [] }
     requires row { (p : Vector) × IsRow segs.now from to p status.now }

@@ -1,13 +1,13 @@
 ghost use Rattle.std.specs.Prelude.{◌≡◌};
 ghost use Rattle.winding.specs.OddSide.{runs_up};
-ghost use Rattle.osm_geom.specs.Seg.{edge_of};
+ghost use Rattle.osm_lattice.specs.Seg.{edge_of};
 ghost use Rattle.osm_sides.specs.Survivors.{edges_of};
 ghost use Rattle.osm_sides.specs.SideTests.{span, left_of, starts_left, level, same, left_side, forks_right, counted, left_count, right_count};
 ghost use Rattle.osm_sides.specs.Sweep.{ends_above};
 
 use osm_geom::{Loc, Seg, orient};
 
-// The height of `p` is at least that of the lower end and less than that of the upper end.
+/// The height of `p` is at least that of the lower end and less than that of the upper end.
 #[tactic(auto, unfolding(crate::specs::SideTests::span))]
 fn is_in_span(p: Loc, t: Seg) -> bool
     ensures { result ≡ span p t }
@@ -30,23 +30,23 @@ fn is_same(p: Loc, q: Loc) -> bool
     p == q
 }
 
-// `p` is left of the line of `t`.
-#[tactic(auto, unfolding(crate::specs::SideTests::left_side, osm_geom::specs::Loc::orientation))]
+/// `p` is left of the line of `t`.
+#[tactic(auto, unfolding(crate::specs::SideTests::left_side, osm_lattice::specs::Loc::orientation))]
 fn is_left_of_line(p: Loc, t: Seg) -> bool
     ensures { result ≡ left_side p t }
 {
     orient(t.a, t.b, p) > 0
 }
 
-// `t` begins where `s` does, and runs to the right of it.
-#[tactic(auto, unfolding(crate::specs::SideTests::forks_right, crate::specs::SideTests::same, osm_geom::specs::Loc::orientation))]
+/// `t` begins where `s` does, and runs to the right of it.
+#[tactic(auto, unfolding(crate::specs::SideTests::forks_right, crate::specs::SideTests::same, osm_lattice::specs::Loc::orientation))]
 fn forks_right(s: Seg, t: Seg) -> bool
     ensures { result ≡ forks_right s t }
 {
     is_same(s.a, t.a) && orient(s.a, s.b, t.b) < 0
 }
 
-// The lower end of `s` is left of `t`, or `t` begins there too and runs to the right of `s`.
+/// The lower end of `s` is left of `t`, or `t` begins there too and runs to the right of `s`.
 #[tactic(auto, unfolding(crate::specs::SideTests::starts_left, crate::specs::SideTests::span, crate::specs::SideTests::left_side, crate::specs::SideTests::forks_right))]
 fn starts_left_of(s: Seg, t: Seg) -> bool
     ensures { result ≡ starts_left s t }
@@ -77,14 +77,14 @@ pub fn is_above(t: Seg, at: Loc) -> bool
     at.y < t.b.y
 }
 
-// How many segments have `p` on their left.
+/// How many segments have `p` on their left.
 fn left_count(segs: &[Seg], p: Loc) -> usize
     ensures { result ≡ left_count p segs.now }
 {
     segs.iter().filter(|t| is_left_of(p, **t)).count()
 }
 
-// How many others are right of `s` just above its lower end.
+/// How many others are right of `s` just above its lower end.
 fn right_count(segs: &[Seg], s: Seg) -> usize
     ensures { result ≡ right_count s segs.now }
 {

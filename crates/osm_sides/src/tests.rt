@@ -12,7 +12,7 @@ fn loc(word: &str) -> Result<Loc, Fail> {
 }
 
 /// The steps between neighbouring locations of several closed lines, parted by `/`.
-pub(crate) fn steps(alloc: Global, lines: &str) -> Result<Vec<(Loc, Loc)>, Fail> {
+fn steps(alloc: Global, lines: &str) -> Result<Vec<(Loc, Loc)>, Fail> {
     let mut steps = Vec::new(alloc);
     for line in lines.split('/') {
         let mut last = None;

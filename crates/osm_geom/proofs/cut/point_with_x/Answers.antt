@@ -1,9 +1,9 @@
 use Rattle.std.proofs.Common.{rules, FitsSigned}
 use Rattle.std.specs.Int.{w32}
 use Rattle.std.proofs.lemmas.Int.{to_z-of_z}
-use Rattle.osm_geom.specs.Meeting.{IsOnSegment}
+use Rattle.osm_lattice.specs.Meeting.{IsOnSegment}
 use Rattle.osm_geom.proofs.CutPoints.{on-at, whole_frac, with-x, x-in}
-use Rattle.osm_geom.proofs.MeetingBounds.{on_segment_in}
+use Rattle.osm_lattice.proofs.LatticeKit.{on_segment_in}
 use Rattle.osm_geom.proofs.cut.point_with_x.Goals as goal
 
 on_is : (c : goal.After-number_at) → IsOnSegment c.args.s (whole_frac c.args.c) c.number_at.result

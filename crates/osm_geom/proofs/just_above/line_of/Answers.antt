@@ -1,8 +1,8 @@
 use Rattle.std.proofs.Common.{arith}
 use Rattle.std.specs.Int.{w32}
-use Rattle.osm_geom.specs.Bounds.{IsLongitude, IsLatitude}
+use Rattle.osm_lattice.specs.Bounds.{IsLongitude, IsLatitude}
 use Rattle.osm_geom.proofs.EdgeBounds.{vertical_bound, horizontal_bound}
-use Rattle.osm_geom.proofs.Sizes.{back}
+use Rattle.osm_lattice.proofs.LatticeKit.{back}
 use Rattle.osm_geom.proofs.just_above.line_of.Goals as goal
 
 pub vertical_line-requires : goal.vertical_line-requires

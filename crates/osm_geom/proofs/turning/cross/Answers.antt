@@ -1,6 +1,6 @@
 use Rattle.std.proofs.Common.{lit<}
 use Rattle.osm_geom.specs.Dir.{cross}
-use Rattle.osm_geom.proofs.Exact.{from_i64, times, minus, minus_fits, held_is}
+use Rattle.osm_lattice.proofs.LatticeKit.{from_i64, times, minus, minus_fits, held_is}
 use Rattle.osm_geom.proofs.turning.cross.Goals as goal
 
 pub overflow_sub-result : goal.overflow_sub-result

@@ -1,6 +1,6 @@
 use Rattle.std.proofs.Common.{lit<}
 use Rattle.osm_geom.specs.Dir.{dot}
-use Rattle.osm_geom.proofs.Exact.{from_i64, times, plus, plus_fits, held_is}
+use Rattle.osm_lattice.proofs.LatticeKit.{from_i64, times, plus, plus_fits, held_is}
 use Rattle.osm_geom.proofs.turning.dot.Goals as goal
 
 pub overflow_add-result : goal.overflow_add-result

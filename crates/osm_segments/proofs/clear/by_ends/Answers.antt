@@ -2,9 +2,9 @@ use Rattle.std.proofs.Common.{rules, ◌≡◌}
 use Rattle.std.specs.Ordering.{is_lt}
 use Rattle.std.proofs.lemmas.Fn.{always_returns_same}
 use Rattle.std.proofs.lemmas.List.MinMax.{ranks_by}
-use Rattle.osm_geom.specs.declared.seg.Seg.{Seg}
-use Rattle.osm_geom.specs.Loc.{loc_cmp}
-use Rattle.osm_geom.proofs.LocationOrder.{loc_total}
+use Rattle.osm_lattice.specs.declared.seg.Seg.{Seg}
+use Rattle.osm_lattice.specs.Loc.{loc_cmp}
+use Rattle.osm_lattice.proofs.LatticeKit.{loc_total}
 use Rattle.osm_segments.proofs.Sweeps.{ends-rise}
 use Rattle.osm_segments.proofs.clear.by_ends.Goals as goal
 

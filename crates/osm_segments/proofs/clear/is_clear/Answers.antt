@@ -3,8 +3,8 @@ use Rattle.std.proofs.lemmas.Bool.Decides.{nat_tests}
 use Rattle.std.proofs.lemmas.List.Sorted.{Contains-permutation}
 use Rattle.plane.specs.Order.{order}
 use Rattle.plane.specs.Sign.{Plus, is_minus}
-use Rattle.osm_geom.specs.declared.seg.Seg.{Seg}
-use Rattle.osm_geom.specs.Loc.{vector_of}
+use Rattle.osm_lattice.specs.declared.seg.Seg.{Seg}
+use Rattle.osm_lattice.specs.Loc.{vector_of}
 use Rattle.osm_segments.proofs.SegmentTests.{same_get}
 use Rattle.osm_segments.proofs.Sweeps.{IsSwept, all_clear, from-contains, has_entered, has_left, none_swept, to-contains}
 use Rattle.osm_segments.proofs.clear.is_clear.Goals as goal

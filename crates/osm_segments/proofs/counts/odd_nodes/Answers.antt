@@ -1,6 +1,6 @@
 use Rattle.std.proofs.Common.{◌%◌, ap, ◌∙◌}
-use Rattle.osm_geom.specs.Loc.{loc_cmp}
-use Rattle.osm_lists.specs.Rising.{count_of}
+use Rattle.osm_lattice.specs.Loc.{loc_cmp}
+use Rattle.lists.specs.Rising.{count_of}
 use Rattle.osm_segments.proofs.CountLemmas.{IfOk-both}
 use Rattle.osm_segments.proofs.counts.odd_nodes.Goals as goal
 

@@ -1,8 +1,8 @@
 use Rattle.std.proofs.Common.{◌≡◌, ap, ◌∙◌, map, sym, subst, All}
 use Rattle.std.proofs.lemmas.Result.{IfOk-weaker}
 use Rattle.std.proofs.lemmas.List.Elements.{All-map}
-use Rattle.osm_geom.specs.Seg.{seg_cmp}
-use Rattle.osm_lists.specs.Rising.{IsRising, count_of}
+use Rattle.osm_lattice.specs.Seg.{seg_cmp}
+use Rattle.lists.specs.Rising.{IsRising, count_of}
 use Rattle.osm_segments.specs.declared.counts.Repeat.{Repeat}
 use Rattle.osm_segments.specs.Repeats.{repeat_of, segs_of}
 use Rattle.osm_segments.proofs.CountLemmas.{segs_of-map}

@@ -1,13 +1,14 @@
 use Rattle.std.proofs.Common.{List, arith, get_or, subst, sym, take}
 use Rattle.status.specs.Leaving.{Remains}
 use Rattle.status.specs.Status.{IsStatus}
-use Rattle.osm_geom.specs.declared.seg.Seg.{Seg}
-use Rattle.osm_geom.specs.Loc.{vector_of}
-use Rattle.osm_geom.specs.Seg.{edge_of}
-use Rattle.osm_sides.specs.Sweep.{AreDirectedTo, IsSwept, ends_above}
-use Rattle.osm_sides.proofs.Counts.{not-false-out}
+use Rattle.osm_lattice.specs.declared.seg.Seg.{Seg}
+use Rattle.osm_lattice.specs.Loc.{vector_of}
+use Rattle.osm_lattice.specs.Seg.{edge_of}
+use Rattle.osm_sides.specs.Sweep.{AreDirectedTo, ends_above}
 use Rattle.osm_sides.proofs.Statuses.{none-directed, none-swept, remaining, risen}
 use Rattle.osm_sides.proofs.directions.direct_each.Goals as goal
+use Rattle.osm_sides.proofs.SweptHeights.{IsSwept}
+use Rattle.lists.proofs.Bools.{not-false-out}
 
 pub loop-done-init : goal.loop-done-init
 loop-done-init c =

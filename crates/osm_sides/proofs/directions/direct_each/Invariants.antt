@@ -1,6 +1,7 @@
 use Rattle.std.proofs.Common.{length, ◌-◌, ◌≤◌}
-use Rattle.osm_sides.specs.Sweep.{AreDirectedTo, IsSwept}
+use Rattle.osm_sides.specs.Sweep.{AreDirectedTo}
 use Rattle.osm_sides.proofs.directions.direct_each.Given as goal
+use Rattle.osm_sides.proofs.SweptHeights.{IsSwept}
 
 abbrev pub invariant-loop-done : goal.invariant-loop-done
 invariant-loop-done l = (l.done ≤ length l.segs) × IsSwept l.segs l.ends.items l.done l.next l.status × AreDirectedTo l.segs l.done l.edges.items

@@ -1,6 +1,6 @@
 use Rattle.std.proofs.Common.{ap, not, rules, ◌≡◌, ◌∙◌, filter}
 use Rattle.std.proofs.lemmas.Fn.{always_returns_same, filter_same}
-use Rattle.osm_geom.specs.declared.seg.Seg.{Seg}
+use Rattle.osm_lattice.specs.declared.seg.Seg.{Seg}
 use Rattle.osm_sides.specs.SideTests.{level}
 use Rattle.osm_sides.proofs.Ends.{are_ends}
 use Rattle.osm_sides.proofs.leaving.by_ends.Goals as goal

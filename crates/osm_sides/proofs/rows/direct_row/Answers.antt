@@ -1,19 +1,19 @@
 use Rattle.std.proofs.Common.{Bool, cond, false, true, refl, if◌then◌else◌, ◌≡◌, ◌<◌, arith, ap, length, subst, sym, ◌∙◌}
-use Rattle.winding.specs.Member.{In}
+use Rattle.lists.specs.Member.{In}
 use Rattle.winding.specs.OddSide as odd_side
 use Rattle.osm_geom.specs.declared.edge.Carrier.TheVariants.{OfSeg}
-use Rattle.osm_geom.specs.declared.loc.Loc.{Loc}
+use Rattle.osm_lattice.specs.declared.loc.Loc.{Loc}
 use Rattle.osm_geom.specs.declared.point.Point.TheVariants.{Lattice}
-use Rattle.osm_geom.specs.declared.seg.Seg.{Seg}
-use Rattle.osm_geom.specs.Seg.{edge_of}
+use Rattle.osm_lattice.specs.declared.seg.Seg.{Seg}
+use Rattle.osm_lattice.specs.Seg.{edge_of}
 use Rattle.osm_sides.specs.Directions.{first_end, last_end}
 use Rattle.osm_sides.specs.Sweep.{AreDirectedTo}
 use Rattle.osm_sides.specs.Survivors.{edges_of}
-use Rattle.osm_sides.proofs.Members.{in-place}
 use Rattle.osm_sides.proofs.Pushes.{map_more}
 use Rattle.osm_sides.proofs.Statuses.{counted-parts, left-parts, runs_up-whole}
 use Rattle.osm_sides.proofs.SweptHeights.{sloping-high}
 use Rattle.osm_sides.proofs.rows.direct_row.Goals as goal
+use Rattle.lists.proofs.Items.{at-in}
 
 pub runs_up_in-requires-clause-flat : goal.runs_up_in-requires-clause-flat
 runs_up_in-requires-clause-flat c flat =
@@ -26,7 +26,7 @@ runs_up_in-requires-clause-sloping c sloping =
     let segs = c.args.segs.now in let k = c.loop-i.i in let s = c.index-segs-i.result in let p = c.requires.row.0 in let r = c.requires.row.1 in
     let inside : k < length segs = omega (arith, r.within) in
     let level : s.a.y ≡ p.y = ap (λ (t : Seg). t.a.y) c.index-segs-i.is ∙ r.level k s c.loop-i.invariant.0 c.loop-i-test.true in
-    counted-parts segs c.requires.rising c.requires.clear p s (subst (λ t. In t segs) (sym c.index-segs-i.is) (in-place segs k s inside)) level (sloping-high s p.y level sloping) segs c.args.status.now (λ t i. i) r.swept.is
+    counted-parts segs c.requires.rising c.requires.clear p s (subst (λ t. In t segs) (sym c.index-segs-i.is) (at-in segs k s inside)) level (sloping-high s p.y level sloping) segs c.args.status.now (λ t i. i) r.swept.is
 
 ends_by : (b : Bool) (p q : Loc) → (if b then Lattice p else Lattice q) ≡ Lattice (cond b p q)
 ends_by true p q = refl

@@ -1,8 +1,8 @@
 use Rattle.std.proofs.Common.{◌≡◌, ◌<◌, ◌+◌, arith, ap, length, subst, sym, take, true, false, ◌∙◌}
 use Rattle.status.specs.Status.{IsStatus}
-use Rattle.osm_geom.specs.declared.seg.Seg.{Seg}
-use Rattle.osm_geom.specs.Loc.{vector_of}
-use Rattle.osm_geom.specs.Seg.{edge_of}
+use Rattle.osm_lattice.specs.declared.seg.Seg.{Seg}
+use Rattle.osm_lattice.specs.Loc.{vector_of}
+use Rattle.osm_lattice.specs.Seg.{edge_of}
 use Rattle.osm_sides.specs.Sweep.{ends_above}
 use Rattle.osm_sides.proofs.Statuses.{entered, next-parts, passed}
 use Rattle.osm_sides.proofs.rows.enter_each.Goals as goal

@@ -1,7 +1,7 @@
 use Rattle.std.proofs.Common.{take, ◌≤◌}
 use Rattle.status.specs.Status.{IsStatus}
-use Rattle.osm_geom.specs.Loc.{vector_of}
-use Rattle.osm_geom.specs.Seg.{edge_of}
+use Rattle.osm_lattice.specs.Loc.{vector_of}
+use Rattle.osm_lattice.specs.Seg.{edge_of}
 use Rattle.osm_sides.proofs.rows.enter_each.Given as goal
 
 abbrev pub invariant-loop-i : goal.invariant-loop-i

@@ -1,8 +1,8 @@
 use Rattle.std.proofs.Common.{arith, ap, rules}
 use Rattle.std.proofs.lemmas.List.Sorted.{IsPartitionPoint-from_clause}
-use Rattle.osm_geom.specs.declared.loc.Loc.{Loc}
-use Rattle.osm_geom.specs.declared.seg.Seg.{Seg}
-use Rattle.osm_geom.specs.Loc.{vector_of}
+use Rattle.osm_lattice.specs.declared.loc.Loc.{Loc}
+use Rattle.osm_lattice.specs.declared.seg.Seg.{Seg}
+use Rattle.osm_lattice.specs.Loc.{vector_of}
 use Rattle.osm_sides.specs.Sweep.{begins_by}
 use Rattle.osm_sides.proofs.Statuses.{whole_row}
 use Rattle.osm_sides.proofs.SweptHeights.{begins-parts, row-level, row-more}

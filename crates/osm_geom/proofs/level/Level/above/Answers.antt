@@ -1,7 +1,7 @@
 use Rattle.std.proofs.Common.{◌≡◌, ℤ, pos, ◌*ℤ◌, ◌-ℤ◌, unsigned_abs, ◌≤◌, ◌*◌, arith, FitsSigned}
 use Rattle.std.specs.Int.{w128}
 use Rattle.std.proofs.lemmas.Int.{ints, to_z-of_z, fits_signed_from_abs}
-use Rattle.osm_geom.proofs.Sizes.{signed, product_within}
+use Rattle.osm_lattice.proofs.LatticeKit.{signed, product_within}
 use Rattle.osm_geom.proofs.level.Level.above.Goals as goal
 
 pub returns-clause-value : goal.returns-clause-value

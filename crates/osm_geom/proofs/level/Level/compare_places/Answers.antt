@@ -1,5 +1,5 @@
 use Rattle.std.proofs.Common.{◌≡◌, ℤ, refl, lit<, unsigned_abs, ◌≤◌}
-use Rattle.osm_geom.proofs.Exact.{Is, given, times, times_fits, held_is}
+use Rattle.osm_lattice.proofs.LatticeKit.{Is, given, times, times_fits, held_is}
 use Rattle.osm_geom.proofs.level.Level.compare_places.Goals as goal
 
 x_is : (r z : ℤ) → r ≡ z → unsigned_abs r ≤ 34_992_000_000_000_000_000_000_000_000 → Is r z 34_992_000_000_000_000_000_000_000_000

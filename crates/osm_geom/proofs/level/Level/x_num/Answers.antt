@@ -1,6 +1,6 @@
 use Rattle.std.proofs.Common.{lit<, refl}
 use Rattle.osm_geom.specs.LineOrder.{x_num}
-use Rattle.osm_geom.proofs.Exact.{given, from_unsigned, times, times_fits, plus, plus_fits, held_is, held_within}
+use Rattle.osm_lattice.proofs.LatticeKit.{given, from_unsigned, times, times_fits, plus, plus_fits, held_is, held_within}
 use Rattle.osm_geom.proofs.level.Level.x_num.Goals as goal
 
 pub overflow_mul-result-2 : goal.overflow_mul-result-2

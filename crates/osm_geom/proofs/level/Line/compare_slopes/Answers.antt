@@ -1,5 +1,5 @@
 use Rattle.std.proofs.Common.{ℤ, refl, lit<, unsigned_abs, ◌≤◌}
-use Rattle.osm_geom.proofs.Exact.{Is, given, times, times_fits, held_is}
+use Rattle.osm_lattice.proofs.LatticeKit.{Is, given, times, times_fits, held_is}
 use Rattle.osm_geom.proofs.level.Line.compare_slopes.Goals as goal
 
 rise_is : (r : ℤ) → unsigned_abs r ≤ 1_800_000_000 → Is r r 1_800_000_000

@@ -1,5 +1,5 @@
 use Rattle.std.proofs.Common.{lit<, refl, arith}
-use Rattle.osm_geom.proofs.Exact.{given, from_unsigned, times, held_is}
+use Rattle.osm_lattice.proofs.LatticeKit.{given, from_unsigned, times, held_is}
 use Rattle.osm_geom.proofs.ratio.Ratio.compare.Goals as goal
 
 pub returns : goal.returns

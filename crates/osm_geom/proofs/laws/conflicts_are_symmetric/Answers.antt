@@ -1,5 +1,0 @@
-use Rattle.osm_geom.proofs.ConflictCases.{conflict_of-comm}
-use Rattle.osm_geom.proofs.laws.conflicts_are_symmetric.Goals as goal
-
-pub returns : goal.returns
-returns c = conflict_of-comm

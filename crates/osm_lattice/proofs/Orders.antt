@@ -1,0 +1,56 @@
+-- Two locations that compare as equal are one, and likewise segments.
+use Rattle.std.proofs.Common.{◌≡◌, ℤ, refl, sym}
+use Rattle.std.proofs.Props.{props}
+use Rattle.std.specs.declared.cmp.Ordering.{Ordering}
+use Rattle.std.specs.declared.cmp.Ordering.TheVariants.{Less, Equal, Greater}
+use Rattle.std.specs.Ordering.{int_cmp, ordering_then}
+use Rattle.std.proofs.lemmas.Cmp.{int_ranked}
+use Rattle.osm_lattice.specs.declared.loc.Loc.{Loc}
+use Rattle.osm_lattice.specs.declared.seg.Seg.{Seg}
+use Rattle.osm_lattice.specs.Bounds.{IsLongitude, IsLatitude}
+use Rattle.osm_lattice.specs.Loc.{loc_cmp, IsBefore}
+use Rattle.osm_lattice.specs.Seg.{seg_cmp}
+use mathlib.Core.HLevel.{is_prop→PathP}
+
+longitude_prop : (x : ℤ) → IsProp (IsLongitude x)
+longitude_prop x = hlevel props
+
+latitude_prop : (x : ℤ) → IsProp (IsLatitude x)
+latitude_prop x = hlevel props
+
+before_prop : (p q : Loc) → IsProp (IsBefore p q)
+before_prop p q = hlevel props
+
+-- the facts of a location have one proof each, so its coordinates make it
+pub loc_from_fields : (p q : Loc) → p.x ≡ q.x → p.y ≡ q.y → p ≡ q
+loc_from_fields p q ex ey = λ i. record {
+  x = ex i;
+  y = ey i;
+  x_in = is_prop→PathP (λ j. IsLongitude (ex j)) (λ j. longitude_prop (ex j)) p.x_in q.x_in i;
+  y_in = is_prop→PathP (λ j. IsLatitude (ey j)) (λ j. latitude_prop (ey j)) p.y_in q.y_in i;
+}
+
+pub seg_from_ends : (s t : Seg) → s.a ≡ t.a → s.b ≡ t.b → s ≡ t
+seg_from_ends s t ea eb = λ i. record {
+  a = ea i;
+  b = eb i;
+  rising = is_prop→PathP (λ j. IsBefore (ea j) (eb j)) (λ j. before_prop (ea j) (eb j)) s.rising t.rising i;
+}
+
+pub then_equal : (o p : Ordering) → ordering_then o p ≡ Equal → (o ≡ Equal) × (p ≡ Equal)
+then_equal Less p e = cc
+then_equal Equal p e = (refl, e)
+then_equal Greater p e = cc
+
+int_same : (x y : ℤ) → int_cmp x y ≡ Equal → x ≡ y
+int_same x y e = int_ranked x y Equal (sym e)
+
+pub loc_same : (p q : Loc) → loc_cmp p q ≡ Equal → p ≡ q
+loc_same p q e =
+    let both = then_equal (int_cmp p.y q.y) (int_cmp p.x q.x) e in
+    loc_from_fields p q (int_same p.x q.x both.1) (int_same p.y q.y both.0)
+
+pub seg_same : (s t : Seg) → seg_cmp s t ≡ Equal → s ≡ t
+seg_same s t e =
+    let both = then_equal (loc_cmp s.a t.a) (loc_cmp s.b t.b) e in
+    seg_from_ends s t (loc_same s.a t.a both.0) (loc_same s.b t.b both.1)

@@ -1,0 +1,28 @@
+-- The tests that conflicts are made of, on locations and segments: the plane's tests of their points and edges.
+use Rattle.std.specs.Prelude.{Bool}
+use Rattle.plane.specs.Conflict.{is_inside, is_along, is_touched_by, is_parted_by}
+use Rattle.plane.specs.Order.{order}
+use Rattle.plane.specs.Sign.{is_null, is_plus}
+use Rattle.plane.specs.Vector.{orient}
+use Rattle.osm_lattice.specs.declared.loc.Loc.{Loc}
+use Rattle.osm_lattice.specs.declared.seg.Seg.{Seg}
+use Rattle.osm_lattice.specs.Loc.{vector_of}
+use Rattle.osm_lattice.specs.Seg.{edge_of}
+
+unfoldable pub before : Loc → Loc → Bool
+before p q = is_plus (order (vector_of p) (vector_of q))
+
+unfoldable pub on_line : Loc → Seg → Bool
+on_line p s = is_null (orient (vector_of s.a) (vector_of s.b) (vector_of p))
+
+unfoldable pub inside : Loc → Seg → Bool
+inside p s = is_inside (vector_of p) (edge_of s)
+
+unfoldable pub along : Seg → Seg → Bool
+along s t = is_along (edge_of s) (edge_of t)
+
+unfoldable pub touched_by : Seg → Seg → Bool
+touched_by s t = is_touched_by (edge_of s) (edge_of t)
+
+unfoldable pub parted_by : Seg → Seg → Bool
+parted_by t s = is_parted_by (edge_of t) (edge_of s)

@@ -1,0 +1,13 @@
+pub mod Bounds
+pub mod Conflict
+pub mod ConflictLaws
+pub mod ConflictPoints
+pub mod ConflictTests
+pub mod Frac
+pub mod Loc
+pub mod Lowest
+pub mod Meeting
+pub mod MeetingLaws
+pub mod OrderLaws
+pub mod Seg
+pub mod Share

@@ -1,0 +1,38 @@
+//! Laws of the orders of locations and segments, of conflicts and of meeting points. Each function has an empty body; its contract is the law.
+ghost use Rattle.osm_lattice.specs.ConflictLaws.{ConflictIsSymmetric, SegmentsApartAreClear, SegmentsPartedAreClear};
+ghost use Rattle.osm_lattice.specs.ConflictPoints.{CrossingHasOnePoint, OverlapHasManyPoints, ClearSegmentsMeetAtEnds};
+ghost use Rattle.osm_lattice.specs.MeetingLaws.{CrossingSegmentsMeet};
+ghost use Rattle.osm_lattice.specs.OrderLaws.{LocationOrderIsPointOrder, LocationOrderTellsApart, SegmentOrderTellsApart};
+
+/// Locations are in the order of the plane's points. Two locations, and two segments, tie exactly
+/// where they are one.
+pub fn orders_are_exact()
+    ensures points { LocationOrderIsPointOrder }
+    ensures locations { LocationOrderTellsApart }
+    ensures segments { SegmentOrderTellsApart }
+{}
+
+/// How two segments conflict does not depend on which is named first.
+pub fn conflicts_are_symmetric()
+    ensures { ConflictIsSymmetric }
+{}
+
+/// Segments of which one begins above the other don't conflict, nor do those that any line parts.
+pub fn segments_apart_are_clear()
+    ensures heights { SegmentsApartAreClear }
+    ensures lines { SegmentsPartedAreClear }
+{}
+
+/// Two segments that cross have a point in common: the one that `meeting` gives is a value, whether it is called or not.
+pub fn meetings_exist()
+    ensures { CrossingSegmentsMeet }
+{}
+
+/// The points that two segments share tell how they conflict: they cross exactly where they share one point, which isn't
+/// an end of both; they overlap exactly where they are two and share more than one; two different ones have no conflict
+/// exactly where they share none but ends of both.
+pub fn conflicts_are_told_by_points()
+    ensures crossing { CrossingHasOnePoint }
+    ensures overlap { OverlapHasManyPoints }
+    ensures clear { ClearSegmentsMeetAtEnds }
+{}

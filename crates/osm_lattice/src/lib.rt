@@ -1,0 +1,26 @@
+//! Locations and segments of OpenStreetMap's coordinates, whole numbers in units of 1e-7 degree: their orders, how segments conflict,
+//! and the points in which they cross, exactly.
+#![tactic(auto)]
+
+mod conflicts;
+mod frac;
+mod laws;
+mod loc;
+mod location_lists;
+mod meetings;
+mod orientation;
+mod seg;
+#[cfg(test)]
+mod tests;
+
+pub use conflicts::{Kind, conflict};
+pub use frac::{Frac, round};
+pub use laws::{
+    conflicts_are_symmetric, conflicts_are_told_by_points, meetings_exist, orders_are_exact,
+    segments_apart_are_clear,
+};
+pub use loc::Loc;
+pub use location_lists::{Ids, Locs, Path, Segs};
+pub use meetings::{Share, between, meeting, overlap};
+pub use orientation::{orient, step_x, step_y};
+pub use seg::Seg;

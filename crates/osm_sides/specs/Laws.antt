@@ -1,0 +1,27 @@
+-- The laws of directed segments, as statements.
+use Rattle.std.specs.Prelude.{All, List, [], ◌≡◌}
+use Rattle.lists.specs.Rising.{IsRising}
+use Rattle.winding.specs.OddSide.{directed}
+use Rattle.osm_geom.specs.declared.edge.Edge.{Edge}
+use Rattle.osm_lattice.specs.declared.seg.Seg.{Seg}
+use Rattle.osm_lattice.specs.Seg.{seg_cmp}
+use Rattle.osm_geom.specs.WholeSegment.{IsWholeSegment}
+use Rattle.osm_segments.specs.Pairs.{conflicts_of}
+use Rattle.plane_edges.specs.Multiple.{edges_times}
+use Rattle.plane_edges.specs.Sided.{IsSided}
+use Rattle.osm_sides.specs.Directions.{AreDirected}
+use Rattle.osm_sides.specs.Survivors.{HasEvenNodes, edges_of}
+
+-- directed segments run along whole segments
+abbrev pub DirectedAreWhole : Type 0
+DirectedAreWhole = (segs : List Seg) (edges : List Edge) → AreDirected segs edges → All IsWholeSegment edges
+
+-- those of survivors are sided
+abbrev pub DirectedAreSided : Type 0
+DirectedAreSided =
+    (segs : List Seg) (edges : List Edge) → IsRising seg_cmp segs → conflicts_of segs ≡ [] → HasEvenNodes segs →
+    AreDirected segs edges → IsSided edges
+
+-- they are the edges that the odd side directs in the plane
+abbrev pub DirectedAreOfPlane : Type 0
+DirectedAreOfPlane = (segs : List Seg) (edges : List Edge) → AreDirected segs edges → edges_times 1 edges ≡ directed (edges_of segs)

@@ -1,0 +1,2 @@
+mod NearCounts
+mod NearIndexes

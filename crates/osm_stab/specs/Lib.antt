@@ -1,0 +1,2 @@
+pub mod PlainStab
+pub mod Stab

@@ -1,0 +1,10 @@
+//! How many edges are right of one at a height.
+#![tactic(auto)]
+
+mod plain_stab;
+mod stab;
+#[cfg(test)]
+mod tests;
+
+pub use plain_stab::PlainStab;
+pub use stab::Stab;
