@@ -6,21 +6,20 @@ use Rattle.std.specs.declared.cmp.Ordering.TheVariants.{Equal, Greater, Less}
 use Rattle.one_ring_list.proofs.CyclicLists.{Turned, pairs-turned, turned-through}
 use Rattle.plane.specs.Edge as plane
 use Rattle.plane.specs.Vector.{same_point}
-use Rattle.plane.proofs.Bools.{false-if-never}
-use Rattle.plane.proofs.Points.{same_point-refl, same_point-true}
-use Rattle.winding.specs.Member.{EachPair, In}
+use Rattle.std.proofs.lemmas.Bool.{false_from_ne_true}
+use Rattle.plane.proofs.PlaneKit.{same_point-refl, same_point-true}
+use Rattle.lists.specs.Member.{EachPair, In}
 use Rattle.winding.specs.Ring as winding
-use Rattle.winding.proofs.Members.{in-all, in-right}
+use Rattle.lists.proofs.Members.{in-all, in-right}
 use Rattle.osm_geom.specs.declared.edge.Edge.{Edge}
 use Rattle.osm_geom.specs.declared.point.Point.{Point}
 use Rattle.osm_geom.specs.Point.{point_cmp}
-use Rattle.osm_geom.proofs.TotalPoints.{point_same, point_total}
-use Rattle.osm_nest.specs.Nested.{IsBegun}
-use Rattle.osm_nest.proofs.Items.{in-at}
+use Rattle.osm_geom.proofs.GeometryKit.{point_same, point_total}
+use Rattle.osm_nest.specs.Nested.{IsFromLeast}
+use Rattle.lists.proofs.Items.{in-at}
 use Rattle.osm_rings.specs.Turned.{BeginsLeast, IsTurned}
-use Rattle.nesting.proofs.DirectRings.{pairs-unmap}
-use Rattle.nesting.proofs.Stretches.{append-nil}
-use Rattle.sided.specs.Multiple.{edge_times, edges_times, point_times}
+use Rattle.nesting.proofs.NestingKit.{pairs-unmap, append-nil}
+use Rattle.plane_edges.specs.Multiple.{edge_times, edges_times, point_times}
 
 -- no edge leaves a lesser point than the first
 least-first : (e : Edge) (es : List Edge) → BeginsLeast (e ∷ es) → (f : Edge) → In f (e ∷ es) → point_cmp f.from e.from ≢ Less
@@ -63,11 +62,11 @@ turned-sym p q t = (t.back, t.front, t.new, t.old)
 once-turned : (k : ℕ) (p q : List Edge) → IsTurned p q → LeavesOnce k p → LeavesOnce k q
 once-turned k p q t o =
     subst (LeavesOnce k) (sym t.new) (pairs-turned (λ (e f : Edge). same_point (point_times k e.from) (point_times k f.from) ≡ false)
-    (λ e f n. false-if-never (same_point (point_times k f.from) (point_times k e.from)) (λ h. cc (sym (ap (λ w. same_point w (point_times k f.from)) (sym (same_point-true (point_times k f.from) (point_times k e.from) h)) ∙ same_point-refl (point_times k f.from)) ∙ n)))
+    (λ e f n. false_from_ne_true (same_point (point_times k f.from) (point_times k e.from)) (λ h. cc (sym (ap (λ w. same_point w (point_times k f.from)) (sym (same_point-true (point_times k f.from) (point_times k e.from) h)) ∙ same_point-refl (point_times k f.from)) ∙ n)))
     t.front t.back (subst (LeavesOnce k) t.old o))
 
 -- one ring, begun at its least node in two ways
-pub begun-one : (k : ℕ) (r q x y : List Edge) → IsTurned r q → IsBegun r x → IsBegun q y → LeavesOnce k r → x ≡ y
+pub begun-one : (k : ℕ) (r q x y : List Edge) → IsTurned r q → IsFromLeast r x → IsFromLeast q y → LeavesOnce k r → x ≡ y
 begun-one k r q x y t b c o =
     let u = turned-trans x r y (turned-sym r x b.turned) (turned-trans r q y (turned-of r q t) (turned-of q y c.turned)) in
     same-by k x y u.0 u.1 u.2 u.3 b.least c.least (once-turned k r x b.turned o)

@@ -1,19 +1,18 @@
 -- The rings of a list of exact edges are the one ring list of the plane, and so one list themselves.
 use Rattle.std.proofs.Common.{List, [], ap, map, refl, subst, sym, ℕ, ◌++◌, ◌∙◌, ◌∷◌, ◌≡◌, ◌⊎◌, inl, inr}
 use Rattle.nesting.specs.Rotated.{IsRotated}
-use Rattle.nesting.proofs.DirectRings.{pairs-unmap}
-use Rattle.nesting.proofs.Parts.{sided-once}
-use Rattle.nesting.proofs.RingLists.{pairs-of}
+use Rattle.nesting.proofs.NestingKit.{pairs-unmap, sided-once, pairs-of}
 use Rattle.one_ring_list.proofs.OneRingList.{Found, found}
 use Rattle.plane.specs.Edge as plane
-use Rattle.winding.specs.Member.{In}
-use Rattle.winding.proofs.Members.{in-either, in-left, in-map, in-map-out, in-right}
+use Rattle.lists.specs.Member.{In}
+use Rattle.lists.proofs.Members.{in-either, in-left, in-map, in-map-out, in-right}
 use Rattle.osm_geom.specs.declared.edge.Edge.{Edge}
 use Rattle.osm_rings.specs.RingList.{AreRingsOf}
 use Rattle.osm_rings.specs.Turned.{IsTurned}
 use Rattle.osm_rings.proofs.UncrossedRings.{Within, held-within, in_plane, plane-list}
-use Rattle.sided.specs.Multiple.{common_den, edge_times, edges_times, whole_edges}
-use Rattle.sided.specs.Sided.{IsSided}
+use Rattle.plane_edges.specs.Multiple.{common_den, edge_times, edges_times, whole_edges}
+use Rattle.plane_edges.specs.Sided.{IsSided}
+use Rattle.std.proofs.lemmas.List.{map-append}
 
 map-split : {X Y : Type 0} (f : X → Y) (xs : List X) (a b : List Y) → map f xs ≡ a ++ b → (c : List X) × (d : List X) × (xs ≡ c ++ d) × (map f c ≡ a) × (map f d ≡ b)
 map-split f xs [] b h = ([], xs, refl, refl, h)
@@ -21,10 +20,6 @@ map-split f [] (y ∷ a) b h = cc
 map-split f (x ∷ xs) (y ∷ a) b h =
     let r = map-split f xs a b (cc) in
     (x ∷ r.0, r.1, ap (λ l. x ∷ l) r.2, ap (λ l. f x ∷ l) r.3 ∙ ap (λ z. z ∷ a) (cc), r.4)
-
-map-append : {X Y : Type 0} (f : X → Y) (xs ys : List X) → map f (xs ++ ys) ≡ map f xs ++ map f ys
-map-append f [] ys = refl
-map-append f (x ∷ xs) ys = ap (λ l. f x ∷ l) (map-append f xs ys)
 
 module _ (es : List Edge) (sd : IsSided es) where
   abbrev K : ℕ

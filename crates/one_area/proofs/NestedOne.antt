@@ -6,36 +6,35 @@ use Rattle.std.specs.declared.cmp.Ordering.TheVariants.{Equal, Greater, Less}
 use Rattle.nesting.specs.Nesting.{EnclosesDirectly, IsInnerRing, IsOuterRing}
 use Rattle.nesting.specs.Polygon.{IsPolygon}
 use Rattle.nesting.specs.RingList.{IsRingList}
-use Rattle.nesting.proofs.DirectRings.{encloser_one, inner-out, outer-out, ring-plain, same_or_clear}
+use Rattle.nesting.proofs.NestingKit.{encloser_one, inner-out, outer-out, ring-plain, same_or_clear, pairs-of}
 use Rattle.nesting.specs.Cover.{AreClear}
-use Rattle.nesting.proofs.RingLists.{pairs-of}
 use Rattle.one_ring_list.proofs.SameNests.{encloses-same, inner-same, outer-same}
 use Rattle.plane.specs.Edge as plane
 use Rattle.plane.specs.Edge.{segment_of}
-use Rattle.plane.proofs.Conflicts.{self_conflicts}
-use Rattle.winding.proofs.ConflictFree.{rising_in}
-use Rattle.winding.specs.Member.{EachPair, In}
+use Rattle.plane.proofs.PlaneKit.{self_conflicts}
+use Rattle.winding.proofs.WindingKit.{rising_in}
+use Rattle.lists.specs.Member.{EachPair, In}
 use Rattle.winding.specs.Ring.{segments_of}
-use Rattle.winding.proofs.Members.{in-all, in-either, in-left, in-map, in-right}
-use Rattle.winding.proofs.Sums.{total, total-is}
+use Rattle.lists.proofs.Members.{in-all, in-either, in-left, in-map, in-right, pairs-each}
+use Rattle.lists.proofs.Sums.{total, total-is}
 use Rattle.osm_geom.specs.declared.edge.Edge.{Edge}
 use Rattle.osm_geom.specs.Point.{point_cmp}
-use Rattle.osm_geom.proofs.TotalPoints.{point_total}
+use Rattle.osm_geom.proofs.GeometryKit.{point_total}
 use Rattle.osm_nest.specs.declared.polygon.Polygon.{Polygon}
 use Rattle.osm_nest.proofs.Listing.{turned-back, turned-in}
-use Rattle.osm_nest.specs.Nested.{AreBegun, AreNested, ArePolygonsBegun, IsBefore, IsBegun, IsPolygonBegun, edge_cmp}
+use Rattle.osm_nest.specs.Nested.{AreFromLeast, AreNested, ArePolygonsFromLeast, IsBefore, IsFromLeast, IsPolygonFromLeast, edge_cmp}
 use Rattle.osm_nest.specs.Polygons.{polygon_times, rings_of}
 use Rattle.osm_nest.specs.RingLists.{all_edges}
 use Rattle.osm_rings.specs.RingList.{AreRingsOf}
 use Rattle.osm_rings.specs.Turned.{IsTurned}
 use Rattle.osm_rings.proofs.UncrossedRings.{held-within, rings-do-not-cross}
-use Rattle.sided.specs.Multiple.{common_den, edge_times, edges_times}
-use Rattle.sided.specs.Sided.{IsSided}
+use Rattle.plane_edges.specs.Multiple.{common_den, edge_times, edges_times}
+use Rattle.plane_edges.specs.Sided.{IsSided}
 use Rattle.one_area.proofs.BegunOnce.{LeavesOnce, begun-one, leaves-once}
 use Rattle.osm_nest.proofs.NestedRings.{same-common}
 use Rattle.osm_rings.proofs.EdgeEquality.{exact-out, exact-own, list-out, list-own, same_exact, same_list, sum-in}
 use Rattle.one_area.proofs.ExactRings.{one-list, ring-turned, rings-found}
-use Rattle.one_area.proofs.SortedLists.{pairs-each, same-sorted}
+use Rattle.one_area.proofs.SortedLists.{same-sorted}
 
 -- ---- rings of polygons
 abbrev OfPolygon : List Polygon → List Edge → Type 0
@@ -58,30 +57,30 @@ into-rings (Q ∷ ps) P x (inl e) j = in-left (Q.outer ∷ Q.inners) (rings_of p
 into-rings (Q ∷ ps) P x (inr i) j = in-right (Q.outer ∷ Q.inners) (rings_of ps) x (into-rings ps P x i j)
 
 -- ---- begun rings and polygons
-begun-was : (rs bs : List (List Edge)) → AreBegun rs bs → (b : List Edge) → In b bs → (r : List Edge) × In r rs × IsBegun r b
+begun-was : (rs bs : List (List Edge)) → AreFromLeast rs bs → (b : List Edge) → In b bs → (r : List Edge) × In r rs × IsFromLeast r b
 begun-was [] bs k b i = absurd (subst (λ l. In b l) k i)
 begun-was (r ∷ rs) bs k b i = by (begun-was rs k.1 k.4 b) (subst (λ l. In b l) k.2 i)
   where
-    by : (In b k.1 → (u : List Edge) × In u rs × IsBegun u b) → (b ≡ k.0) ⊎ In b k.1 → (u : List Edge) × In u (r ∷ rs) × IsBegun u b
-    by h (inl e) = (r, inl refl, subst (IsBegun r) (sym e) k.3)
+    by : (In b k.1 → (u : List Edge) × In u rs × IsFromLeast u b) → (b ≡ k.0) ⊎ In b k.1 → (u : List Edge) × In u (r ∷ rs) × IsFromLeast u b
+    by h (inl e) = (r, inl refl, subst (IsFromLeast r) (sym e) k.3)
     by h (inr j) = let a = h j in (a.0, inr a.1, a.2)
 
-begun-is : (rs bs : List (List Edge)) → AreBegun rs bs → (r : List Edge) → In r rs → (b : List Edge) × In b bs × IsBegun r b
+begun-is : (rs bs : List (List Edge)) → AreFromLeast rs bs → (r : List Edge) → In r rs → (b : List Edge) × In b bs × IsFromLeast r b
 begun-is [] bs k r i = absurd i
-begun-is (s ∷ rs) bs k r (inl e) = (k.0, subst (λ l. In k.0 l) (sym k.2) (inl refl), subst (λ l. IsBegun l k.0) (sym e) k.3)
+begun-is (s ∷ rs) bs k r (inl e) = (k.0, subst (λ l. In k.0 l) (sym k.2) (inl refl), subst (λ l. IsFromLeast l k.0) (sym e) k.3)
 begun-is (s ∷ rs) bs k r (inr i) = let a = begun-is rs k.1 k.4 r i in (a.0, subst (λ l. In a.0 l) (sym k.2) (inr a.1), a.2)
 
-polygon-was : (ps bs : List Polygon) → ArePolygonsBegun ps bs → (b : Polygon) → In b bs → (P : Polygon) × In P ps × IsPolygonBegun P b
+polygon-was : (ps bs : List Polygon) → ArePolygonsFromLeast ps bs → (b : Polygon) → In b bs → (P : Polygon) × In P ps × IsPolygonFromLeast P b
 polygon-was [] bs k b i = absurd (subst (λ l. In b l) k i)
 polygon-was (P ∷ ps) bs k b i = by (polygon-was ps k.1 k.4 b) (subst (λ l. In b l) k.2 i)
   where
-    by : (In b k.1 → (Q : Polygon) × In Q ps × IsPolygonBegun Q b) → (b ≡ k.0) ⊎ In b k.1 → (Q : Polygon) × In Q (P ∷ ps) × IsPolygonBegun Q b
-    by h (inl e) = (P, inl refl, subst (IsPolygonBegun P) (sym e) k.3)
+    by : (In b k.1 → (Q : Polygon) × In Q ps × IsPolygonFromLeast Q b) → (b ≡ k.0) ⊎ In b k.1 → (Q : Polygon) × In Q (P ∷ ps) × IsPolygonFromLeast Q b
+    by h (inl e) = (P, inl refl, subst (IsPolygonFromLeast P) (sym e) k.3)
     by h (inr j) = let a = h j in (a.0, inr a.1, a.2)
 
-polygon-is : (ps bs : List Polygon) → ArePolygonsBegun ps bs → (P : Polygon) → In P ps → (b : Polygon) × In b bs × IsPolygonBegun P b
+polygon-is : (ps bs : List Polygon) → ArePolygonsFromLeast ps bs → (P : Polygon) → In P ps → (b : Polygon) × In b bs × IsPolygonFromLeast P b
 polygon-is [] bs k P i = absurd i
-polygon-is (Q ∷ ps) bs k P (inl e) = (k.0, subst (λ l. In k.0 l) (sym k.2) (inl refl), subst (λ R. IsPolygonBegun R k.0) (sym e) k.3)
+polygon-is (Q ∷ ps) bs k P (inl e) = (k.0, subst (λ l. In k.0 l) (sym k.2) (inl refl), subst (λ R. IsPolygonFromLeast R k.0) (sym e) k.3)
 polygon-is (Q ∷ ps) bs k P (inr i) = let a = polygon-is ps k.1 k.4 P i in (a.0, subst (λ l. In a.0 l) (sym k.2) (inr a.1), a.2)
 
 module _ (es : List Edge) (sd : IsSided es) (rs : List (List Edge)) (a : AreRingsOf es rs) where
@@ -130,9 +129,9 @@ module _ (es : List Edge) (sd : IsSided es) (rs : List (List Edge)) (a : AreRing
     pub record Comes (p : Polygon) : Type 0 where
       pub ring : List Edge
       pub here : In ring rs
-      pub begun : IsBegun ring p.outer
+      pub begun : IsFromLeast ring p.outer
       pub outer : Outer ring
-      pub inners : (i : List Edge) → In i p.inners → (h : List Edge) × In h rs × IsBegun h i × Inner h × Direct ring h
+      pub inners : (i : List Edge) → In i p.inners → (h : List Edge) × In h rs × IsFromLeast h i × Inner h × Direct ring h
 
     pub comes : (p : Polygon) → In p m → Comes p
     comes p i =
@@ -148,22 +147,22 @@ module _ (es : List Edge) (sd : IsSided es) (rs : List (List Edge)) (a : AreRing
               (h.0, ring-of P h.0 s.1 (inr h.1), h.2, inner-is P s.1 h.0 h.1, g.enclosed (E h.0) (in-map (edges_times (common_den es)) P.inners h.0 h.1));
         }
 
-    outer-by : (r : List Edge) → In r rs → Outer r → (P : Polygon) → In P ps → (r ≡ P.outer) ⊎ In r P.inners → (p : Polygon) × In p m × IsBegun r p.outer
-    outer-by r i o P k (inl e) = let b = polygon-is ps m n.begun P k in (b.0, b.1, subst (λ l. IsBegun l b.0.outer) (sym e) b.2.outer)
+    outer-by : (r : List Edge) → In r rs → Outer r → (P : Polygon) → In P ps → (r ≡ P.outer) ⊎ In r P.inners → (p : Polygon) × In p m × IsFromLeast r p.outer
+    outer-by r i o P k (inl e) = let b = polygon-is ps m n.begun P k in (b.0, b.1, subst (λ l. IsFromLeast l b.0.outer) (sym e) b.2.outer)
     outer-by r i o P k (inr j) = absurd (not-both r i o (inner-is P k r j))
 
     -- each outer ring begins a polygon
-    pub outer-there : (r : List Edge) → In r rs → Outer r → (p : Polygon) × In p m × IsBegun r p.outer
+    pub outer-there : (r : List Edge) → In r rs → Outer r → (p : Polygon) × In p m × IsFromLeast r p.outer
     outer-there r i o = let s = of-polygon r i in outer-by r i o s.0 s.1 s.2
 
-    inner-by : (h : List Edge) → In h rs → Inner h → (P : Polygon) → In P ps → (h ≡ P.outer) ⊎ In h P.inners → (p : Polygon) × In p m × (x : List Edge) × In x p.inners × IsBegun h x
+    inner-by : (h : List Edge) → In h rs → Inner h → (P : Polygon) → In P ps → (h ≡ P.outer) ⊎ In h P.inners → (p : Polygon) × In p m × (x : List Edge) × In x p.inners × IsFromLeast h x
     inner-by h i o P k (inl e) =
         let out : Outer h = subst Outer (sym e) (is-polygon P k).is_outer_ring in absurd (not-both h i out o)
     inner-by h i o P k (inr j) =
         let b = polygon-is ps m n.begun P k in let x = begun-is P.inners b.0.inners b.2.inners h j in (b.0, b.1, x.0, x.1, x.2)
 
     -- each inner ring stands in one
-    pub inner-there : (h : List Edge) → In h rs → Inner h → (p : Polygon) × In p m × (x : List Edge) × In x p.inners × IsBegun h x
+    pub inner-there : (h : List Edge) → In h rs → Inner h → (p : Polygon) × In p m × (x : List Edge) × In x p.inners × IsFromLeast h x
     inner-there h i o = let s = of-polygon h i in inner-by h i o s.0 s.1 s.2
 
 -- ---- order
@@ -209,7 +208,7 @@ module _ (es : List Edge) (sd : IsSided es) (qs : List (List Edge)) (b : AreRing
       absurd (cc (sym (self_conflicts t (rising_in (segments_of (edges_times k r)) t p it)) ∙ c t t it jt))
 
   -- two rings that are begun as one are one
-  shared : (r s x : List Edge) → In r qs → In s qs → IsBegun r x → IsBegun s x → r ≡ s
+  shared : (r s x : List Edge) → In r qs → In s qs → IsFromLeast r x → IsFromLeast s x → r ≡ s
   shared r s x i j m n =
       let e = some-edge r i in
       let k = common_den es in
@@ -226,7 +225,7 @@ module _ (es : List Edge) (sd : IsSided es) (rs qs : List (List Edge)) (a : AreR
   abbrev to : (r : List Edge) → In r qs → In (edges_times k r) (map (edges_times k) qs)
   to r i = in-map (edges_times k) qs r i
 
-  same-begun : (r q x y : List Edge) → In r rs → IsTurned r q → IsBegun r x → IsBegun q y → x ≡ y
+  same-begun : (r q x y : List Edge) → In r rs → IsTurned r q → IsFromLeast r x → IsFromLeast q y → x ≡ y
   same-begun r q x y i t c d = begun-one k r q x y t c d (once-in es sd rs a r i)
 
   outer-order : (p p' : Polygon) → Edge → (p ≡ p') ⊎ ((IsBefore p.outer p'.outer) ⊎ (IsBefore p'.outer p.outer)) → p.outer ≡ p'.outer → p ≡ p'
@@ -256,7 +255,7 @@ module _ (es : List Edge) (sd : IsSided es) (rs qs : List (List Edge)) (a : AreR
       let enc = encloser_one (map (edges_times k) qs) (uncrossed es sd qs b) (edges_times k u.0) (edges_times k d.ring) (edges_times k t.0) (to u.0 u.1) (to d.ring d.here) (to t.0 t.1) inner
       (subst (λ l. Direct es sd qs b d.ring l) one g.4) direct in
       let ring : d.ring ≡ t.0 = one-list es sd d.ring t.0 (held-within es qs b.edges d.ring d.here) (held-within es qs b.edges t.0 t.1) enc in
-      let outer : p.outer ≡ v.0.outer = same-begun c.ring t.0 p.outer v.0.outer c.here t.2 c.begun (subst (λ l. IsBegun l v.0.outer) ring d.begun) in
+      let outer : p.outer ≡ v.0.outer = same-begun c.ring t.0 p.outer v.0.outer c.here t.2 c.begun (subst (λ l. IsFromLeast l v.0.outer) ring d.begun) in
       let poly : v.0 ≡ p' = one-outer v.0 p' v.1 pn (some-edge es sd qs b u.0 u.1).0 (sym outer ∙ q) in
       subst (λ l. In l p'.inners) (sym same) (subst (λ (r : Polygon). In v.2 r.inners) poly v.3)
 

@@ -1,12 +1,11 @@
 -- A candidate has one outcome.
 use Rattle.std.proofs.Common.{All, List, [], ap, arith, map, refl, subst, sym, ℤ, ◌++◌, ◌∙◌, ◌∷◌, ◌≡◌}
 use Rattle.osm_geom.specs.declared.edge.Edge.{Edge}
-use Rattle.osm_geom.specs.declared.seg.Seg.{Seg}
-use Rattle.osm_geom.specs.Seg.{seg_cmp}
-use Rattle.osm_geom.proofs.LocationOrder.{seg_total}
-use Rattle.osm_geom.proofs.Orders.{seg_same}
-use Rattle.osm_lists.specs.Rising.{IsRising, count_of}
-use Rattle.osm_lists.proofs.Unique.{same_rising}
+use Rattle.osm_lattice.specs.declared.seg.Seg.{Seg}
+use Rattle.osm_lattice.specs.Seg.{seg_cmp}
+use Rattle.osm_lattice.proofs.LatticeKit.{seg_total, seg_same}
+use Rattle.lists.specs.Rising.{IsRising, count_of}
+use Rattle.lists.proofs.RisingLists.{same_rising}
 use Rattle.osm_segments.specs.Counts.{AreSurvivors}
 use Rattle.osm_segments.specs.Pairs.{conflicts_of}
 use Rattle.osm_segments.specs.Repeats.{AreRepeats, segs_of}

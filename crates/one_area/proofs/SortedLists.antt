@@ -1,15 +1,7 @@
 -- Lists in strict order are told by their members.
 use Rattle.std.proofs.Common.{AllPairs, List, [], ap, arith, inl, inr, refl, subst, suc, sym, ◌∙◌, ◌∷◌, ◌≡◌, ◌⊎◌}
-use Rattle.winding.specs.Member.{EachPair, In}
-use Rattle.winding.proofs.Members.{all-in, in-all}
-use Rattle.osm_nest.proofs.Items.{in-at}
-
-pub pairs-each : {X : Type 0} (R : X → X → Type 0) (xs : List X) → AllPairs R xs → EachPair R xs
-pairs-each R [] h = tt
-pairs-each R (x ∷ xs) h = (
-  all-in (R x) xs (λ y i. let p = in-at y xs i in subst (R x) (p.2 x) (h 0 (suc p.0) x (omega arith) (let l = p.1 in omega arith))),
-  pairs-each R xs (λ i j d l m. h (suc i) (suc j) d (omega arith) (omega arith)),
-)
+use Rattle.lists.specs.Member.{EachPair, In}
+use Rattle.lists.proofs.Members.{in-all}
 
 module _ {X : Type 0} (R : X → X → Type 0) (Good : X → Type 0) (apart : (x y : X) → Good x → R x y → R y x → ⊥) where
   heads : (x y : X) (xs ys : List X) → EachPair R (x ∷ xs) → EachPair R (y ∷ ys) → Good x → (x ≡ y) ⊎ In x ys → (y ≡ x) ⊎ In y xs → x ≡ y

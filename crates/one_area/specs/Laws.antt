@@ -1,6 +1,6 @@
 -- What is determined of an area, as statements.
 use Rattle.std.specs.Prelude.{List, ◌≡◌}
-use Rattle.winding.specs.Member.{In}
+use Rattle.lists.specs.Member.{In}
 use Rattle.osm_geom.specs.declared.edge.Edge.{Edge}
 use Rattle.opl_reader.specs.declared.object.Object.{Object}
 use Rattle.opl_reader.specs.declared.object.ObjectRef.{ObjectRef}
@@ -10,7 +10,7 @@ use Rattle.osm_nest.specs.declared.polygon.Polygon.{Polygon}
 use Rattle.osm_nest.specs.Nested.{AreNested}
 use Rattle.osm_rings.specs.RingList.{AreRingsOf}
 use Rattle.osm_rings.specs.Turned.{IsTurned}
-use Rattle.sided.specs.Sided.{IsSided}
+use Rattle.plane_edges.specs.Sided.{IsSided}
 
 -- each ring of one ring list of a sided list is a ring of each other one, begun at one of its edges
 abbrev pub RingListOfEdgesIsOne : Type 0

@@ -4,10 +4,10 @@ use Rattle.winding.specs.OddSide as odd_side
 use Rattle.osm_geom.specs.declared.edge.Carrier.TheVariants.{OfSeg}
 use Rattle.osm_geom.specs.declared.edge.Edge.{Edge}
 use Rattle.osm_geom.specs.declared.point.Point.TheVariants.{Lattice}
-use Rattle.osm_geom.specs.declared.seg.Seg.{Seg}
-use Rattle.osm_geom.specs.Seg.{edge_of, seg_cmp}
-use Rattle.osm_geom.proofs.SegmentEnds.{on_a, on_b, ends_apart, ends_apart_back, in_world}
-use Rattle.osm_lists.specs.Rising.{IsRising}
+use Rattle.osm_lattice.specs.declared.seg.Seg.{Seg}
+use Rattle.osm_lattice.specs.Seg.{edge_of, seg_cmp}
+use Rattle.osm_geom.proofs.GeometryKit.{on_a, on_b, ends_apart, ends_apart_back, in_world}
+use Rattle.lists.specs.Rising.{IsRising}
 use Rattle.osm_segments.specs.Pairs.{conflicts_of}
 use Rattle.osm_sides.specs.Directions.{AreDirected, first_end, last_end}
 use Rattle.osm_sides.specs.Survivors.{HasEvenNodes, edges_of}

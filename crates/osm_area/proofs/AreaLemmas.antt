@@ -7,18 +7,18 @@ use Rattle.plane.specs.Edge as plane
 use Rattle.plane.specs.RayCrossing.{up_crossing, down_crossing}
 use Rattle.plane.specs.Scale.{scaled_edge, scaled_point}
 use Rattle.plane.specs.Vector.{Vector, east, from_to}
-use Rattle.plane.proofs.Points.{same_vector}
+use Rattle.plane.proofs.PlaneKit.{same_vector}
 use Rattle.winding.specs.EdgeList.{crossing_count}
 use Rattle.winding.specs.OddSide.{directed_edge}
 use Rattle.winding.specs.ScaledEdges.{scaled_edges}
-use Rattle.winding.proofs.RingCounts.{reversed-crossings}
-use Rattle.sided.specs.Multiple.{edge_times, edges_times, whole_edges}
-use Rattle.sided.specs.Sided.{count_at}
-use Rattle.sided.specs.SidedLaws.{IsLattice}
-use Rattle.sided.proofs.Multiples.{common-lattice, lattice_whole}
+use Rattle.winding.proofs.WindingKit.{reversed-crossings}
+use Rattle.plane_edges.specs.Multiple.{edge_times, edges_times, whole_edges}
+use Rattle.plane_edges.specs.Sided.{count_at}
+use Rattle.plane_edges.specs.SidedLaws.{IsLattice}
+use Rattle.plane_edges.proofs.EdgesKit.{common-lattice, lattice_whole}
 use Rattle.osm_geom.specs.declared.edge.Carrier.TheVariants.{OfSeg}
 use Rattle.osm_geom.specs.declared.edge.Edge.{Edge}
-use Rattle.osm_geom.specs.declared.seg.Seg.{Seg}
+use Rattle.osm_lattice.specs.declared.seg.Seg.{Seg}
 use Rattle.osm_sides.specs.Directions.{AreDirected}
 use Rattle.osm_sides.specs.Survivors.{edges_of}
 use Rattle.osm_sides.proofs.PlaneEdges.{plane_edges}

@@ -1,14 +1,14 @@
 -- Every candidate has an outcome, whatever memory there is.
 use Rattle.std.proofs.Common.{◌≡◌, ◌∙◌, ◌%◌, ◌==◌, List, [], ◌∷◌, ◌++◌, map, nat_le, ℤ, refl, sym, ap, subst}
 use Rattle.std.proofs.lemmas.List.Elements.{All-map}
-use Rattle.osm_geom.specs.declared.loc.Loc.{Loc}
-use Rattle.osm_geom.specs.declared.seg.Seg.{Seg}
-use Rattle.osm_geom.specs.Loc.{loc_cmp}
-use Rattle.osm_geom.specs.Seg.{seg_cmp}
-use Rattle.osm_geom.proofs.LocationOrder.{loc_total, seg_total}
+use Rattle.osm_lattice.specs.declared.loc.Loc.{Loc}
+use Rattle.osm_lattice.specs.declared.seg.Seg.{Seg}
+use Rattle.osm_lattice.specs.Loc.{loc_cmp}
+use Rattle.osm_lattice.specs.Seg.{seg_cmp}
+use Rattle.osm_lattice.proofs.LatticeKit.{loc_total, seg_total}
 use Rattle.opl_reader.specs.declared.object.ObjectRef.{ObjectRef}
-use Rattle.osm_lists.specs.Rising.{IsRising, count_of}
-use Rattle.osm_lists.proofs.Picks.{odd_once, twice_once}
+use Rattle.lists.specs.Rising.{IsRising, count_of}
+use Rattle.lists.proofs.Picks.{odd_once, twice_once}
 use Rattle.osm_objects.specs.declared.problem.Note.{Note}
 use Rattle.osm_objects.specs.declared.problem.Problem.{Problem}
 use Rattle.osm_objects.specs.declared.problem.Problem.TheVariants.{Nothing}
@@ -30,7 +30,7 @@ use Rattle.osm_area.specs.Roles.{role_notes}
 use Rattle.osm_area.specs.Segments.{segments_of}
 use Rattle.osm_area.proofs.AreaExists.{area_exists}
 use Rattle.osm_area.proofs.ProblemKinds.{problems_of_kind}
-use Rattle.osm_area.proofs.RisingLists.{picked, rising-picked, count-picked}
+use Rattle.lists.proofs.PickedItems.{picked, rising-picked, count-picked}
 
 -- ---- what is counted
 

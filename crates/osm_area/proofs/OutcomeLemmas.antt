@@ -4,14 +4,14 @@ use Rattle.std.specs.Prelude.{◌↔◌, ◌==◌}
 use Rattle.std.proofs.lemmas.Bool.Decides.{Decides-eqb}
 use Rattle.std.proofs.lemmas.List.{nil_from_length}
 use Rattle.std.specs.List.{flat_map}
-use Rattle.osm_geom.specs.declared.seg.Seg.{Seg}
+use Rattle.osm_lattice.specs.declared.seg.Seg.{Seg}
 use Rattle.opl_reader.specs.declared.object.Object.{Object}
 use Rattle.opl_reader.specs.declared.object.ObjectRef.{ObjectRef}
 use Rattle.osm_objects.specs.declared.problem.Problem.{Problem}
 use Rattle.osm_objects.specs.declared.problem.Note.{Note}
 use Rattle.osm_area.specs.declared.outcome.Outcome.{Outcome}
 use Rattle.osm_area.specs.declared.outcome.Outcome.TheVariants as outcome
-use Rattle.osm_area.specs.Once.{each_once}
+use Rattle.lists.specs.Once.{each_once}
 use Rattle.osm_area.specs.MemberWays.{named_ways, member_ways, ways_named_twice}
 use Rattle.osm_area.specs.Missing.{same_ref, way_missing, missing}
 use Rattle.osm_area.specs.Segments.{way_segments, segments_of}

@@ -3,7 +3,7 @@ use Rattle.std.proofs.Common.{All}
 use Rattle.std.specs.Prelude.{List}
 use Rattle.opl_reader.specs.declared.object.Object.{Object}
 use Rattle.opl_reader.specs.declared.object.ObjectRef.{ObjectRef}
-use Rattle.osm_rings.specs.PlaneEdge.{IsWholeSegment}
+use Rattle.osm_geom.specs.WholeSegment.{IsWholeSegment}
 use Rattle.osm_nest.specs.Polygons.{rings_of}
 use Rattle.osm_area.specs.declared.outcome.Outcome.{Outcome}
 use Rattle.osm_area.specs.declared.outcome.Outcome.TheVariants as outcome

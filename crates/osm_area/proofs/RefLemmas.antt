@@ -6,7 +6,7 @@ use Rattle.opl_reader.specs.declared.object.ObjectRef.{ObjectRef}
 use Rattle.opl_reader.specs.contracts.object.ObjectRefPartialEq.TheImpl as ref_eq
 use Rattle.opl_reader.specs.contracts.object.ObjectKindPartialEq.TheImpl as kind_eq
 use Rattle.osm_objects.specs.Object.{same_kind}
-use Rattle.osm_area.specs.Once.{each_once}
+use Rattle.lists.specs.Once.{each_once}
 use Rattle.osm_area.specs.Missing.{same_ref}
 
 kinds : (a b : ObjectKind) → kind_eq.ghosts.eq a b ≡ same_kind a b

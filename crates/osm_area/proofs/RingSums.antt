@@ -6,7 +6,7 @@ use Rattle.osm_geom.specs.declared.edge.Edge.{Edge}
 use Rattle.osm_rings.specs.RingList.{AreRingsOf}
 use Rattle.osm_rings.specs.Turned.{IsTurned}
 use Rattle.osm_nest.specs.declared.polygon.Polygon.{Polygon}
-use Rattle.osm_nest.specs.Nested.{AreNested, AreBegun, ArePolygonsBegun}
+use Rattle.osm_nest.specs.Nested.{AreNested, AreFromLeast, ArePolygonsFromLeast}
 use Rattle.osm_nest.specs.Polygons.{rings_in, rings_of}
 use Rattle.osm_nest.specs.RingLists.{all_edges}
 
@@ -25,7 +25,7 @@ module _ (g : Edge → ℕ) where
       let c = sum_by-append g t.front t.back in
       let d = sum_by-append g t.back t.front in omega arith
 
-  begun : (rs ss : List (List Edge)) → AreBegun rs ss → sum_by (sum_by g) ss ≡ sum_by (sum_by g) rs
+  begun : (rs ss : List (List Edge)) → AreFromLeast rs ss → sum_by (sum_by g) ss ≡ sum_by (sum_by g) rs
   begun [] ss are = ap (sum_by (sum_by g)) are
   begun (r ∷ rs) ss are =
       let first = are.0 in
@@ -41,7 +41,7 @@ module _ (g : Edge → ℕ) where
       let a = sum_by-append (sum_by g) (rings_in p) rs in
       let b = sum_by-cons (sum_by g) p.outer p.inners in omega arith
 
-  polygons-begun : (ps qs : List Polygon) → ArePolygonsBegun ps qs → sum_by (sum_by g) (rings_of qs) ≡ sum_by (sum_by g) (rings_of ps)
+  polygons-begun : (ps qs : List Polygon) → ArePolygonsFromLeast ps qs → sum_by (sum_by g) (rings_of qs) ≡ sum_by (sum_by g) (rings_of ps)
   polygons-begun [] qs are = ap (λ (xs : List Polygon). sum_by (sum_by g) (rings_of xs)) are
   polygons-begun (p ∷ ps) qs are =
       let first = are.0 in

@@ -5,8 +5,8 @@ use Rattle.std.specs.Option.{option_map_or}
 use Rattle.std.proofs.lemmas.Slice.Eq.{bytes_eq-Decides}
 use Rattle.std.specs.BTreeSet.{BTreeSet, contains}
 use Rattle.osm_geom.specs.declared.edge.Edge.{Edge}
-use Rattle.osm_geom.specs.declared.seg.Seg.{Seg}
-use Rattle.osm_geom.specs.Seg.{seg_cmp}
+use Rattle.osm_lattice.specs.declared.seg.Seg.{Seg}
+use Rattle.osm_lattice.specs.Seg.{seg_cmp}
 use Rattle.osm_area.specs.Segments.{way_segments}
 use Rattle.opl_reader.specs.declared.object.Member.{Member}
 use Rattle.opl_reader.specs.declared.object.Object.{Object}
@@ -20,6 +20,7 @@ use Rattle.osm_area.specs.declared.roles.Role.{Role}
 use Rattle.osm_area.specs.declared.roles.Role.TheVariants.{Inner, Outer, Other}
 use Rattle.osm_area.specs.RoleKinds.{role_named, first_role, names_a_ring, note_on, note_by, note_from}
 use Rattle.osm_area.specs.Roles.{mentions, is_in_rings, lies_in, inners, outers, members_by, members_of, role_note, role_notes_of}
+use Rattle.std.proofs.lemmas.Bool.{or_parts}
 
 -- ---- lists
 
@@ -64,14 +65,10 @@ note_is objects members polygons way role in_outer in_inner r o i = rw (r, o, i)
 
 -- ---- no role of the two
 
-or-false : (a b : Bool) → (a || b) ≡ false → (a ≡ false) × (b ≡ false)
-or-false true b is = absurd (cc)
-or-false false b is = (refl, is)
-
 found-none : (p q : Member → Bool) (members : List Member) → list_any q members ≡ false → option_map_or q (find p members) false ≡ false
 found-none p q [] none = refl
 found-none p q (m ∷ ms) none =
-    let each = or-false (q m) (list_any q ms) none in
+    let each = or_parts (q m) (list_any q ms) none in
     by (p m) each.0 (found-none p q ms each.1)
   where
     by : (b : Bool) → q m ≡ false → option_map_or q (find p ms) false ≡ false → option_map_or q (cond b (Some m) (find p ms)) false ≡ false
@@ -83,7 +80,7 @@ note-none : (found : Option Member) (way : ℤ) (in_outer in_inner : Bool) → o
     else if option_map_or (λ (m : Member). bytes_eq m.role (codes "outer")) found false && in_inner then Some (OuterInInner way) else None) ≡ None
 note-none None way in_outer in_inner none = refl
 note-none (Some m) way in_outer in_inner none =
-    let each = or-false (bytes_eq m.role (codes "inner")) (bytes_eq m.role (codes "outer")) none in
+    let each = or_parts (bytes_eq m.role (codes "inner")) (bytes_eq m.role (codes "outer")) none in
     rw (each.0, each.1) refl
 
 pub notes_none : (objects : List Object) (members : List Member) (polygons : List Polygon) (ways : List ℤ) → list_any names_a_ring members ≡ false → filter_map (role_note objects members polygons) ways ≡ []

@@ -2,12 +2,12 @@
 use Rattle.std.proofs.Common.{◌≡◌, ◌∙◌, ℕ, ◌+◌, ◌<◌, Bool, true, false, cond, ◌||◌, List, [], ◌∷◌, ◌++◌, take, length, get_or, map, find, ℤ, Option, None, Some, option_map, append_assoc, append-nil, refl, sym, ap}
 use Rattle.std.specs.List.{cons_option, filter_map, list_any}
 use Rattle.std.specs.Option.{option_or}
-use Rattle.std.proofs.lemmas.List.{take_more}
+use Rattle.std.proofs.lemmas.List.{take_more, map-append}
 use Rattle.std.proofs.lemmas.List.Folds.{find-append, list_any-append}
 use Rattle.std.proofs.lemmas.List.Elements.{filter_map-append}
 use Rattle.std.proofs.lemmas.Grind.{flat_map-append}
 use Rattle.osm_geom.specs.declared.edge.Edge.{Edge}
-use Rattle.osm_geom.specs.declared.seg.Seg.{Seg}
+use Rattle.osm_lattice.specs.declared.seg.Seg.{Seg}
 use Rattle.opl_reader.specs.declared.object.Member.{Member}
 use Rattle.osm_objects.specs.declared.problem.Note.{Note}
 use Rattle.osm_nest.specs.declared.polygon.Polygon.{Polygon}
@@ -74,10 +74,6 @@ any_step p xs lent i x initial old new same h is inv after =
     ∙ (ap (λ b. initial || b) (sym (list_any-append p (take i lent) (x ∷ [])))
     ∙ (ap (λ ys. initial || list_any p ys) (sym taken)
     ∙ ap (λ ys. initial || list_any p (take (i + 1) ys)) same))))))
-
-map-append : {X Y : Type 0} (f : X → Y) (xs ys : List X) → map f (xs ++ ys) ≡ map f xs ++ map f ys
-map-append f [] ys = refl
-map-append f (x ∷ xs) ys = ap (λ zs. f x ∷ zs) (map-append f xs ys)
 
 pub outer_step : (polygons : List Polygon) (i : ℕ) (p : Polygon) (s : Seg) (old new : Bool) → i < length polygons → p ≡ get_or polygons i p → old ≡ is_in_rings (outers (take i polygons)) s
     → new ≡ (old || list_any (λ (e : Edge). carries s e.carrier) p.outer) → new ≡ is_in_rings (outers (take (i + 1) polygons)) s

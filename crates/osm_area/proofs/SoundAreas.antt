@@ -1,15 +1,14 @@
 -- A candidate has an area exactly where it is sound.
 use Rattle.std.proofs.Common.{◌≡◌, ◌↔◌, ◌∙◌, All, List, [], ◌∷◌, ◌++◌, map, refl, sym, ap, subst}
 use Rattle.std.proofs.lemmas.List.Elements.{All-nil}
-use Rattle.osm_geom.specs.declared.loc.Loc.{Loc}
-use Rattle.osm_geom.specs.declared.seg.Seg.{Seg}
-use Rattle.osm_geom.specs.Seg.{seg_cmp}
-use Rattle.osm_geom.proofs.LocationOrder.{loc_total, seg_total}
-use Rattle.osm_geom.proofs.Orders.{loc_same, seg_same}
+use Rattle.osm_lattice.specs.declared.loc.Loc.{Loc}
+use Rattle.osm_lattice.specs.declared.seg.Seg.{Seg}
+use Rattle.osm_lattice.specs.Seg.{seg_cmp}
+use Rattle.osm_lattice.proofs.LatticeKit.{loc_total, seg_total, loc_same, seg_same}
 use Rattle.opl_reader.specs.declared.object.Object.{Object}
 use Rattle.opl_reader.specs.declared.object.ObjectRef.{ObjectRef}
-use Rattle.osm_lists.specs.Rising.{IsRising}
-use Rattle.osm_lists.proofs.Unique.{same_rising}
+use Rattle.lists.specs.Rising.{IsRising}
+use Rattle.lists.proofs.RisingLists.{same_rising}
 use Rattle.osm_objects.specs.declared.problem.Problem.{Problem}
 use Rattle.osm_segments.specs.Counts.{AreOddNodes, AreSurvivors}
 use Rattle.osm_segments.specs.Pairs.{conflicts_of}

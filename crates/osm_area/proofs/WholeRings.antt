@@ -1,11 +1,11 @@
 -- Rings of whole segments pass lattice points alone.
 use Rattle.std.proofs.Common.{All, List, [], ◌∷◌, ap}
 use Rattle.std.proofs.lemmas.List.Elements.{All-nil, All-append, All-head, All-tail}
-use Rattle.winding.proofs.Members.{in-all}
-use Rattle.sided.specs.SidedLaws.{IsLattice}
+use Rattle.lists.proofs.Members.{in-all}
+use Rattle.plane_edges.specs.SidedLaws.{IsLattice}
 use Rattle.osm_geom.specs.declared.edge.Edge.{Edge}
 use Rattle.osm_geom.specs.Point.{den_of}
-use Rattle.osm_rings.specs.PlaneEdge.{IsWholeSegment}
+use Rattle.osm_geom.specs.WholeSegment.{IsWholeSegment}
 use Rattle.osm_rings.proofs.Whole.{from-lattice, to-lattice}
 use Rattle.osm_nest.specs.RingLists.{all_edges}
 

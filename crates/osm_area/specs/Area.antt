@@ -4,8 +4,8 @@ use Rattle.plane.specs.Sign.{Plus, sign}
 use Rattle.plane.specs.Vector.{Vector, east}
 use Rattle.winding.specs.EdgeList.{crossing_count}
 use Rattle.winding.specs.ScaledEdges.{scaled_edges}
-use Rattle.sided.specs.Sided.{count_at}
-use Rattle.osm_geom.specs.declared.seg.Seg.{Seg}
+use Rattle.plane_edges.specs.Sided.{count_at}
+use Rattle.osm_lattice.specs.declared.seg.Seg.{Seg}
 use Rattle.osm_geom.specs.declared.edge.Edge.{Edge}
 use Rattle.osm_sides.specs.Directions.{AreDirected}
 use Rattle.osm_sides.specs.Survivors.{edges_of}

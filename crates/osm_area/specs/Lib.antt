@@ -2,7 +2,6 @@ pub mod Area
 pub mod MemberWays
 pub mod Missing
 pub mod Notes
-pub mod Once
 pub mod Outcome
 pub mod Problems
 pub mod RoleKinds

@@ -9,7 +9,7 @@ use Rattle.opl_reader.specs.declared.object.ObjectKind.{ObjectKind}
 use Rattle.opl_reader.specs.declared.object.Object.{Object}
 use Rattle.osm_objects.specs.Object.{same_kind}
 use Rattle.osm_objects.specs.Objects.{relation_of}
-use Rattle.osm_area.specs.Once.{each_once}
+use Rattle.lists.specs.Once.{each_once}
 
 -- the ways among members, in order
 abbrev pub ways_among : List Member → List ℤ

@@ -7,7 +7,7 @@ use Rattle.opl_reader.specs.declared.object.ObjectRef.{ObjectRef}
 use Rattle.opl_reader.specs.declared.object.Object.{Object}
 use Rattle.osm_objects.specs.Object.{same_kind}
 use Rattle.osm_objects.specs.Objects.{WayParts, way_of, location_of}
-use Rattle.osm_area.specs.Once.{each_once}
+use Rattle.lists.specs.Once.{each_once}
 use Rattle.osm_area.specs.MemberWays.{member_ways}
 
 -- the same kind and id

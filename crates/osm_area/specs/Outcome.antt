@@ -1,6 +1,6 @@
 -- What comes of a candidate.
 use Rattle.std.specs.Prelude.{All, ◌≡◌, ◌≢◌, ◌↔◌, List, [], ℤ}
-use Rattle.osm_geom.specs.declared.seg.Seg.{Seg}
+use Rattle.osm_lattice.specs.declared.seg.Seg.{Seg}
 use Rattle.opl_reader.specs.declared.object.ObjectRef.{ObjectRef}
 use Rattle.opl_reader.specs.declared.object.Object.{Object}
 use Rattle.osm_objects.specs.declared.problem.Note.{Note}

@@ -1,26 +1,16 @@
 -- The segments of a candidate.
-use Rattle.std.specs.Prelude.{◌≡◌, List, [], ℤ, drop, refl, Option, None, Some}
+use Rattle.std.specs.Prelude.{List, [], ℤ, drop}
 use Rattle.std.specs.List.{filter_map, flat_map, zip}
 use Rattle.std.specs.Option.{option_map_or}
 use Rattle.std.specs.declared.cmp.Ordering.{Ordering}
 use Rattle.std.specs.declared.cmp.Ordering.TheVariants.{Less}
-use Rattle.osm_geom.specs.declared.loc.Loc.{Loc}
-use Rattle.osm_geom.specs.declared.seg.Seg.{Seg}
-use Rattle.osm_geom.specs.Loc.{loc_cmp}
+use Rattle.osm_lattice.specs.declared.loc.Loc.{Loc}
+use Rattle.osm_lattice.specs.declared.seg.Seg.{Seg}
+use Rattle.osm_lattice.specs.Seg.{segment_between}
 use Rattle.opl_reader.specs.declared.object.ObjectRef.{ObjectRef}
 use Rattle.opl_reader.specs.declared.object.Object.{Object}
 use Rattle.osm_objects.specs.Objects.{way_of, location_of}
 use Rattle.osm_area.specs.MemberWays.{member_ways}
-
--- p is before q or after it, and the lesser comes first; none if they are one
-abbrev pub segment_by : (p q : Loc) (forth back : Ordering) → loc_cmp p q ≡ forth → loc_cmp q p ≡ back → Option Seg
-segment_by p q Less back before after = Some (record { a = p; b = q; rising = before })
-segment_by p q forth Less before after = Some (record { a = q; b = p; rising = after })
-segment_by p q forth back before after = None
-
--- the segment between two locations
-unfoldable pub segment_between : Loc → Loc → Option Seg
-segment_between p q = segment_by p q (loc_cmp p q) (loc_cmp q p) refl refl
 
 -- each location of a line with the next
 abbrev pub neighbours : List Loc → List (Loc × Loc)

@@ -1,6 +1,6 @@
 -- What a candidate needs to have an area.
 use Rattle.std.specs.Prelude.{List, [], ◌≡◌, ◌≢◌}
-use Rattle.osm_geom.specs.declared.seg.Seg.{Seg}
+use Rattle.osm_lattice.specs.declared.seg.Seg.{Seg}
 use Rattle.opl_reader.specs.declared.object.Object.{Object}
 use Rattle.opl_reader.specs.declared.object.ObjectRef.{ObjectRef}
 use Rattle.osm_segments.specs.Counts.{AreSurvivors}

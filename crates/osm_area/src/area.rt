@@ -1,24 +1,24 @@
 //! The area of a candidate without problems.
 
 ghost use Rattle.std.specs.Prelude.{◌≡◌, ◌≢◌, [], All, IfOk};
-ghost use Rattle.osm_geom.specs.Seg.{seg_cmp};
-ghost use Rattle.osm_lists.specs.Rising.{IsRising};
+ghost use Rattle.osm_lattice.specs.Seg.{seg_cmp};
+ghost use Rattle.lists.specs.Rising.{IsRising};
 ghost use Rattle.osm_segments.specs.Pairs.{conflicts_of};
 ghost use Rattle.osm_sides.specs.Survivors.{HasEvenNodes};
-ghost use Rattle.osm_rings.specs.PlaneEdge.{IsWholeSegment};
+ghost use Rattle.osm_geom.specs.WholeSegment.{IsWholeSegment};
 ghost use Rattle.osm_nest.specs.Nested.{HasKinds};
 ghost use Rattle.osm_nest.specs.Polygons.{rings_of};
 ghost use Rattle.osm_area.specs.Area.{IsArea};
 
 use osm_geom::Seg;
 use osm_nest::{Polygons, nest, rings_may_be_nested};
-use osm_rings::{directed_segments_are_whole, rings};
+use osm_rings::rings;
 use osm_sides::direct;
-use std::alloc::{AllocError, Global};
+use std::alloc::{AllocError as OutOfMemory, Global};
 
 /// The polygons that these segments make: directed by the odd side, which is on their left, cut into rings, and each
 /// inner ring put under the outer one that directly encloses it.
-pub fn area(alloc: Global, survivors: &[Seg]) -> Result<Polygons, AllocError>
+pub fn area(alloc: Global, survivors: &[Seg]) -> Result<Polygons, OutOfMemory>
     requires some { survivors.now ≢ [] }
     requires rising { IsRising seg_cmp survivors.now }
     requires clear { conflicts_of survivors.now ≡ [] }
@@ -28,7 +28,6 @@ pub fn area(alloc: Global, survivors: &[Seg]) -> Result<Polygons, AllocError>
     ensures whole { IfOk result (λ polygons. All (All IsWholeSegment) (rings_of polygons)) }
 {
     let edges = direct(alloc, survivors)?;
-    directed_segments_are_whole();
     rings_may_be_nested();
     let rings = rings(alloc, &edges)?;
     nest(alloc, rings.as_slice())

@@ -5,12 +5,12 @@ mod area;
 #[cfg(test)]
 mod area_tests;
 mod laws;
-mod lists;
 mod member_ways;
 mod missing;
 mod notes;
 mod once;
 mod outcome;
+mod outcome_lists;
 mod problems;
 mod ring_segments;
 mod role_notes;
@@ -20,5 +20,5 @@ mod segments;
 mod tests;
 
 pub use laws::{areas_have_kinds, has_area_exactly, outcome_exists};
-pub use lists::{Notes, Problems};
 pub use outcome::{Outcome, assemble};
+pub use outcome_lists::{Notes, Problems};

@@ -7,7 +7,7 @@ ghost use Rattle.opl_reader.specs.declared.object.ObjectKind.TheVariants.{Way};
 
 use opl_reader::{Member, ObjectKind, ObjectRef};
 use osm_objects::Store;
-use std::alloc::{AllocError, Global};
+use std::alloc::{AllocError as OutOfMemory, Global};
 
 /// Whether it is that of ways.
 pub fn is_way(kind: ObjectKind) -> bool
@@ -19,7 +19,7 @@ pub fn is_way(kind: ObjectKind) -> bool
     }
 }
 
-fn ways_among(alloc: Global, members: &[Member]) -> Result<Vec<i64>, AllocError>
+fn ways_among(alloc: Global, members: &[Member]) -> Result<Vec<i64>, OutOfMemory>
     ensures { IfOk result (λ v. v.items ≡ ways_among members.now) }
 {
     members
@@ -34,7 +34,7 @@ pub fn named_ways(
     alloc: Global,
     store: &Store,
     candidate: ObjectRef,
-) -> Result<Vec<i64>, AllocError>
+) -> Result<Vec<i64>, OutOfMemory>
     ensures { IfOk result (λ v. v.items ≡ named_ways store.now candidate) }
 {
     match candidate.kind {

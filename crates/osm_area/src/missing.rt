@@ -2,21 +2,21 @@
 
 ghost use Rattle.std.specs.Prelude.{◌≡◌, ◌++◌, IfOk, OnOk};
 ghost use Rattle.std.specs.List.{flat_map};
-ghost use Rattle.osm_area.specs.Once.{each_once};
+ghost use Rattle.lists.specs.Once.{each_once};
 ghost use Rattle.osm_area.specs.Missing.{same_ref, nodes_missing, way_missing};
 
 use crate::once::each_once;
 use indexmap::IndexSet;
 use opl_reader::{ObjectKind, ObjectRef};
 use osm_objects::Store;
-use std::alloc::{AllocError, Global};
+use std::alloc::{AllocError as OutOfMemory, Global};
 
-// Adds each reference to a node that has no location.
+/// Adds each reference to a node that has no location.
 fn add_missing_nodes(
     missing: &mut Vec<ObjectRef>,
     store: &Store,
     refs: &[i64],
-) -> Result<(), AllocError>
+) -> Result<(), OutOfMemory>
     ensures { OnOk result (missing.new.items ≡ missing.old.items ++ nodes_missing store.now refs.now) }
 {
     for &id in refs {
@@ -28,8 +28,8 @@ fn add_missing_nodes(
     Ok(())
 }
 
-// Adds what a way lacks.
-fn add_missing(missing: &mut Vec<ObjectRef>, store: &Store, way: i64) -> Result<(), AllocError>
+/// Adds what a way lacks.
+fn add_missing(missing: &mut Vec<ObjectRef>, store: &Store, way: i64) -> Result<(), OutOfMemory>
     ensures { OnOk result (missing.new.items ≡ missing.old.items ++ way_missing store.now way) }
 {
     match store.way(way) {
@@ -42,7 +42,7 @@ fn add_missing(missing: &mut Vec<ObjectRef>, store: &Store, way: i64) -> Result<
     }
 }
 
-fn all_missing(alloc: Global, store: &Store, ways: &[i64]) -> Result<Vec<ObjectRef>, AllocError>
+fn all_missing(alloc: Global, store: &Store, ways: &[i64]) -> Result<Vec<ObjectRef>, OutOfMemory>
     ensures { IfOk result (λ v. v.items ≡ flat_map (way_missing store.now) ways.now) }
 {
     let mut missing = Vec::new(alloc);
@@ -58,7 +58,7 @@ pub fn missing(
     alloc: Global,
     store: &Store,
     ways: &[i64],
-) -> Result<IndexSet<ObjectRef>, AllocError>
+) -> Result<IndexSet<ObjectRef>, OutOfMemory>
     ensures { IfOk result (λ s. s.keys ≡ each_once same_ref (flat_map (way_missing store.now) ways.now)) }
 {
     let all = all_missing(alloc, store, ways)?;

@@ -5,14 +5,14 @@ ghost use Rattle.std.specs.Ordering.{int_eq};
 ghost use Rattle.indexmap.specs.IndexSet.{contains};
 ghost use Rattle.osm_area.specs.Notes.{named_twice_note, repeated_note};
 
-use crate::lists::Notes;
 use crate::once::repeated;
+use crate::outcome_lists::Notes;
 use indexmap::IndexSet;
 use osm_objects::Note;
 use osm_segments::Repeat;
-use std::alloc::{AllocError, Global};
+use std::alloc::{AllocError as OutOfMemory, Global};
 
-fn add_named(notes: &mut Notes, ways: &[i64], again: &IndexSet<i64>) -> Result<(), AllocError>
+fn add_named(notes: &mut Notes, ways: &[i64], again: &IndexSet<i64>) -> Result<(), OutOfMemory>
     ensures { OnOk result (notes.new ≡ notes.old ++ map named_twice_note (filter (λ way. contains int_eq again.now way) ways.now)) }
 {
     for &way in ways {
@@ -25,7 +25,7 @@ fn add_named(notes: &mut Notes, ways: &[i64], again: &IndexSet<i64>) -> Result<(
 
 /// A note for each of the ways, in order, that is named at least twice.
 #[tactic(auto, using(crate::proofs::RefLemmas::filter_same))]
-pub fn named_twice(alloc: Global, named: &[i64], ways: &[i64]) -> Result<Notes, AllocError>
+pub fn named_twice(alloc: Global, named: &[i64], ways: &[i64]) -> Result<Notes, OutOfMemory>
     ensures { IfOk result (λ notes. notes ≡ map named_twice_note (filter (λ way. nat_le 2 (count_by (int_eq way) named.now)) ways.now)) }
 {
     let again = repeated(alloc, named)?;
@@ -35,7 +35,7 @@ pub fn named_twice(alloc: Global, named: &[i64], ways: &[i64]) -> Result<Notes, 
 }
 
 /// Adds a note for each segment that stands at least twice.
-pub fn add_repeats(notes: &mut Notes, repeats: &[Repeat]) -> Result<(), AllocError>
+pub fn add_repeats(notes: &mut Notes, repeats: &[Repeat]) -> Result<(), OutOfMemory>
     ensures { OnOk result (notes.new ≡ notes.old ++ map repeated_note repeats.now) }
 {
     for repeat in repeats {

@@ -3,14 +3,17 @@
 ghost use Rattle.std.specs.Prelude.{◌≡◌, ℤ, IfOk, nat_le, count_by};
 ghost use Rattle.std.specs.Ordering.{int_eq};
 ghost use Rattle.indexmap.specs.IndexSet.{contains};
-ghost use Rattle.osm_area.specs.Once.{each_once};
+ghost use Rattle.lists.specs.Once.{each_once};
 
 use indexmap::IndexSet;
-use std::alloc::{AllocError, Global};
+use std::alloc::{AllocError as OutOfMemory, Global};
 use std::hash::Hash;
 
 /// Each item of a list once, at its first place.
-pub fn each_once<T: Eq + Hash + Copy>(alloc: Global, items: &[T]) -> Result<IndexSet<T>, AllocError>
+pub fn each_once<T: Eq + Hash + Copy>(
+    alloc: Global,
+    items: &[T],
+) -> Result<IndexSet<T>, OutOfMemory>
     ensures { IfOk result (λ s. s.keys ≡ each_once T.eq items.now) }
 {
     let mut seen = IndexSet::new(alloc);
@@ -21,7 +24,7 @@ pub fn each_once<T: Eq + Hash + Copy>(alloc: Global, items: &[T]) -> Result<Inde
 }
 
 /// The items that stand at least twice in a list.
-pub fn repeated<T: Eq + Hash + Copy>(alloc: Global, items: &[T]) -> Result<IndexSet<T>, AllocError>
+pub fn repeated<T: Eq + Hash + Copy>(alloc: Global, items: &[T]) -> Result<IndexSet<T>, OutOfMemory>
     ensures { IfOk result (λ s. (x : T) → contains T.eq s x ≡ nat_le 2 (count_by (T.eq x) items.now)) }
 {
     let mut seen = IndexSet::new(alloc);

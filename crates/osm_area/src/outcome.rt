@@ -2,7 +2,7 @@
 
 ghost use Rattle.std.specs.Prelude.{◌≡◌, List, [], ℤ, map, All, IfOk};
 ghost use Rattle.osm_objects.specs.Problem.{IsOfItsKind};
-ghost use Rattle.osm_rings.specs.PlaneEdge.{IsWholeSegment};
+ghost use Rattle.osm_geom.specs.WholeSegment.{IsWholeSegment};
 ghost use Rattle.osm_nest.specs.Nested.{HasKinds};
 ghost use Rattle.osm_nest.specs.Polygons.{rings_of};
 ghost use Rattle.osm_area.specs.Outcome.{IsOutcome, IsOutcomeGiven, KeepsParity, polygons_in, problems_in};
@@ -10,11 +10,11 @@ ghost use Rattle.osm_area.specs.Notes.{named_twice_note};
 ghost use Rattle.osm_area.specs.Roles.{role_notes_of};
 
 use crate::area::area;
-use crate::lists::{Notes, Problems};
 use crate::member_ways::named_ways;
 use crate::missing::missing;
 use crate::notes::{add_repeats, named_twice};
 use crate::once::each_once;
+use crate::outcome_lists::{Notes, Problems};
 use crate::problems::{missing_problems, problems_among};
 use crate::role_notes::add_role_notes;
 use crate::segments::segments;
@@ -23,7 +23,7 @@ use osm_geom::Seg;
 use osm_nest::Polygons;
 use osm_objects::Store;
 use osm_segments::{repeated, survivors};
-use std::alloc::{AllocError, Global};
+use std::alloc::{AllocError as OutOfMemory, Global};
 
 /// What comes of a candidate.
 #[derive(Drop)]
@@ -34,7 +34,7 @@ pub enum Outcome {
     Problems { list: Problems, notes: Notes },
 }
 
-// What comes of a candidate of which nothing is missing, and of which these segments and notes on ways are known.
+/// What comes of a candidate of which nothing is missing, and of which these segments and notes on ways are known.
 fn complete(
     alloc: Global,
     store: &Store,
@@ -42,7 +42,7 @@ fn complete(
     ways: &[i64],
     segs: &[Seg],
     mut notes: Notes,
-) -> Result<Outcome, AllocError>
+) -> Result<Outcome, OutOfMemory>
     ensures right { IfOk result (λ outcome. (twice : List ℤ) → notes ≡ map named_twice_note twice → IsOutcomeGiven [] twice segs.now (role_notes_of store.now candidate ways.now) outcome) }
     ensures rings { IfOk result (λ outcome. All HasKinds (polygons_in outcome)) }
     ensures whole { IfOk result (λ outcome. All (All IsWholeSegment) (rings_of (polygons_in outcome))) }
@@ -59,8 +59,8 @@ fn complete(
     Ok(Outcome::Area { polygons, notes })
 }
 
-// What comes of a candidate.
-fn outcome_of(alloc: Global, store: &Store, candidate: ObjectRef) -> Result<Outcome, AllocError>
+/// What comes of a candidate.
+fn outcome_of(alloc: Global, store: &Store, candidate: ObjectRef) -> Result<Outcome, OutOfMemory>
     ensures right { IfOk result (λ outcome. IsOutcome store.now candidate outcome) }
     ensures rings { IfOk result (λ outcome. All HasKinds (polygons_in outcome)) }
     ensures whole { IfOk result (λ outcome. All (All IsWholeSegment) (rings_of (polygons_in outcome))) }
@@ -87,7 +87,7 @@ fn outcome_of(alloc: Global, store: &Store, candidate: ObjectRef) -> Result<Outc
 /// found among the segments that stand an odd number of times in its ways together. Where there are none, these
 /// segments make the area: each is directed so that its odd side is on its left, they are cut into rings, and each
 /// inner ring is put under the outer one that directly encloses it. The error is want of memory.
-pub fn assemble(alloc: Global, store: &Store, candidate: ObjectRef) -> Result<Outcome, AllocError>
+pub fn assemble(alloc: Global, store: &Store, candidate: ObjectRef) -> Result<Outcome, OutOfMemory>
     ensures outcome { IfOk result (λ outcome. IsOutcome store.now candidate outcome) }
     ensures kinds { IfOk result (λ outcome. All IsOfItsKind (problems_in outcome)) }
     ensures rings { IfOk result (λ outcome. All HasKinds (polygons_in outcome)) }

@@ -1,16 +1,16 @@
 //! What keeps a candidate from having an area.
 
 ghost use Rattle.std.specs.Prelude.{◌≡◌, ◌++◌, [], OnOk, IfOk, map};
-ghost use Rattle.osm_geom.specs.Seg.{seg_cmp};
-ghost use Rattle.osm_lists.specs.Rising.{IsRising};
+ghost use Rattle.osm_lattice.specs.Seg.{seg_cmp};
+ghost use Rattle.lists.specs.Rising.{IsRising};
 ghost use Rattle.osm_area.specs.Problems.{missing_problem, conflict_problem, odd_problem, AreFaults, AreProblemsAmong};
 
-use crate::lists::Problems;
+use crate::outcome_lists::Problems;
 use opl_reader::{ObjectKind, ObjectRef};
 use osm_geom::{Loc, Seg};
 use osm_objects::Problem;
 use osm_segments::{Pair, conflicts, odd_nodes};
-use std::alloc::{AllocError, Global};
+use std::alloc::{AllocError as OutOfMemory, Global};
 
 fn missing_problem(missing: ObjectRef) -> Problem
     ensures { result ≡ missing_problem missing }
@@ -23,7 +23,7 @@ fn missing_problem(missing: ObjectRef) -> Problem
 }
 
 /// A problem for each missing way or node.
-pub fn missing_problems(alloc: Global, missing: &[ObjectRef]) -> Result<Problems, AllocError>
+pub fn missing_problems(alloc: Global, missing: &[ObjectRef]) -> Result<Problems, OutOfMemory>
     ensures { IfOk result (λ list. list ≡ map missing_problem missing.now) }
 {
     let mut list = Problems::new(alloc);
@@ -33,7 +33,7 @@ pub fn missing_problems(alloc: Global, missing: &[ObjectRef]) -> Result<Problems
     Ok(list)
 }
 
-fn add_conflicts(list: &mut Problems, pairs: &[Pair]) -> Result<(), AllocError>
+fn add_conflicts(list: &mut Problems, pairs: &[Pair]) -> Result<(), OutOfMemory>
     ensures { OnOk result (list.new ≡ list.old ++ map conflict_problem pairs.now) }
 {
     for pair in pairs {
@@ -46,7 +46,7 @@ fn add_conflicts(list: &mut Problems, pairs: &[Pair]) -> Result<(), AllocError>
     Ok(())
 }
 
-fn add_odd_nodes(list: &mut Problems, nodes: &[Loc]) -> Result<(), AllocError>
+fn add_odd_nodes(list: &mut Problems, nodes: &[Loc]) -> Result<(), OutOfMemory>
     ensures { OnOk result (list.new ≡ list.old ++ map odd_problem nodes.now) }
 {
     for &at in nodes {
@@ -55,8 +55,8 @@ fn add_odd_nodes(list: &mut Problems, nodes: &[Loc]) -> Result<(), AllocError>
     Ok(())
 }
 
-// Each conflicting pair in order, and then each odd node in order.
-fn faults(alloc: Global, survivors: &[Seg]) -> Result<Problems, AllocError>
+/// Each conflicting pair in order, and then each odd node in order.
+fn faults(alloc: Global, survivors: &[Seg]) -> Result<Problems, OutOfMemory>
     requires { IsRising seg_cmp survivors.now }
     ensures { IfOk result (λ list. AreFaults survivors.now list) }
 {
@@ -69,7 +69,7 @@ fn faults(alloc: Global, survivors: &[Seg]) -> Result<Problems, AllocError>
 }
 
 /// The problems among the surviving segments of a candidate of which nothing is missing.
-pub fn problems_among(alloc: Global, survivors: &[Seg]) -> Result<Problems, AllocError>
+pub fn problems_among(alloc: Global, survivors: &[Seg]) -> Result<Problems, OutOfMemory>
     requires { IsRising seg_cmp survivors.now }
     ensures { IfOk result (λ list. AreProblemsAmong survivors.now list) }
 {

@@ -7,7 +7,7 @@ ghost use Rattle.indexmap.specs.IndexMap.{get};
 ghost use Rattle.osm_area.specs.RoleKinds.{note_from};
 ghost use Rattle.osm_area.specs.Roles.{role_note, role_notes_of};
 
-use crate::lists::Notes;
+use crate::outcome_lists::Notes;
 use crate::ring_segments::{holds_some, inner_segments, outer_segments};
 use crate::roles::{Role, any_names_a_ring, first_roles};
 use indexmap::IndexMap;
@@ -15,24 +15,24 @@ use opl_reader::{Member, ObjectKind, ObjectRef};
 use osm_geom::Seg;
 use osm_nest::Polygons;
 use osm_objects::{Note, Store};
-use std::alloc::{AllocError, Global};
+use std::alloc::{AllocError as OutOfMemory, Global};
 use std::collections::BTreeSet;
 
-// The segments along which outer and inner rings run.
+/// The segments along which outer and inner rings run.
 #[derive(Drop)]
 struct RingSegments {
     outer: BTreeSet<Seg>,
     inner: BTreeSet<Seg>,
 }
 
-// The note on a way of which this is the role, if there is one.
+/// The note on a way of which this is the role, if there is one.
 fn note_on(
     alloc: Global,
     store: &Store,
     rings: &RingSegments,
     role: Option<Role>,
     way: i64,
-) -> Result<Option<Note>, AllocError>
+) -> Result<Option<Note>, OutOfMemory>
     ensures { IfOk result (λ note. note ≡ note_from store.now rings.now.outer rings.now.inner role way) }
 {
     match role {
@@ -48,7 +48,7 @@ fn note_on(
     }
 }
 
-// Adds the note on a way, if there is one, given the roles of all.
+/// Adds the note on a way, if there is one, given the roles of all.
 fn add_note(
     notes: &mut Notes,
     alloc: Global,
@@ -56,7 +56,7 @@ fn add_note(
     rings: &RingSegments,
     roles: &IndexMap<i64, Role>,
     way: i64,
-) -> Result<(), AllocError>
+) -> Result<(), OutOfMemory>
     ensures { OnOk result (notes.new ≡ notes.old ++ cons_option (note_from store.now rings.now.outer rings.now.inner (get int_eq roles.now way) way) []) }
 {
     let role = roles.get(&way).copied();
@@ -66,7 +66,7 @@ fn add_note(
     Ok(())
 }
 
-// Adds the notes on ways.
+/// Adds the notes on ways.
 fn add_all(
     notes: &mut Notes,
     alloc: Global,
@@ -74,7 +74,7 @@ fn add_all(
     rings: &RingSegments,
     roles: &IndexMap<i64, Role>,
     ways: &[i64],
-) -> Result<(), AllocError>
+) -> Result<(), OutOfMemory>
     ensures { OnOk result (notes.new ≡ notes.old ++ filter_map (λ (way : ℤ). note_from store.now rings.now.outer rings.now.inner (get int_eq roles.now way) way) ways.now) }
 {
     for &way in ways {
@@ -83,7 +83,7 @@ fn add_all(
     Ok(())
 }
 
-// Adds the notes on ways that are among these members.
+/// Adds the notes on ways that are among these members.
 fn add_notes_among(
     notes: &mut Notes,
     alloc: Global,
@@ -91,7 +91,7 @@ fn add_notes_among(
     members: &[Member],
     polygons: &Polygons,
     ways: &[i64],
-) -> Result<(), AllocError>
+) -> Result<(), OutOfMemory>
     ensures { OnOk result (notes.new ≡ notes.old ++ filter_map (role_note store.now members.now polygons.now) ways.now) }
 {
     if !any_names_a_ring(members) {
@@ -114,7 +114,7 @@ pub fn add_role_notes(
     candidate: ObjectRef,
     polygons: &Polygons,
     ways: &[i64],
-) -> Result<(), AllocError>
+) -> Result<(), OutOfMemory>
     ensures { OnOk result (notes.new ≡ notes.old ++ role_notes_of store.now candidate ways.now polygons.now) }
 {
     match candidate.kind {

@@ -10,7 +10,7 @@ ghost use Rattle.osm_area.specs.RoleKinds.{role_named, first_role, names_a_ring}
 use crate::member_ways::is_way;
 use indexmap::IndexMap;
 use opl_reader::{Member, Text};
-use std::alloc::{AllocError, Global};
+use std::alloc::{AllocError as OutOfMemory, Global};
 
 /// What a role tells of the rings that a way lies in.
 #[derive(Clone, Copy)]
@@ -46,8 +46,8 @@ pub fn any_names_a_ring(members: &[Member]) -> bool
     members.iter().any(|member| names_a_ring(member))
 }
 
-// Adds the role of a member, if it is a way that isn't there yet.
-fn add_role(roles: &mut IndexMap<i64, Role>, member: &Member) -> Result<(), AllocError>
+/// Adds the role of a member, if it is a way that isn't there yet.
+fn add_role(roles: &mut IndexMap<i64, Role>, member: &Member) -> Result<(), OutOfMemory>
     ensures { OnOk result ((way : ℤ) → get int_eq roles.new way ≡ option_or (get int_eq roles.old way) (first_role (member.now ∷ []) way)) }
 {
     if is_way(member.kind) && !roles.contains_key(&member.id) {
@@ -57,7 +57,7 @@ fn add_role(roles: &mut IndexMap<i64, Role>, member: &Member) -> Result<(), Allo
 }
 
 /// For each way its role where it is first mentioned.
-pub fn first_roles(alloc: Global, members: &[Member]) -> Result<IndexMap<i64, Role>, AllocError>
+pub fn first_roles(alloc: Global, members: &[Member]) -> Result<IndexMap<i64, Role>, OutOfMemory>
     ensures { IfOk result (λ roles. (way : ℤ) → get int_eq roles way ≡ first_role members.now way) }
 {
     let mut roles = IndexMap::new(alloc);

@@ -4,28 +4,22 @@ ghost use Rattle.std.specs.Prelude.{◌≡◌, ◌++◌, ◌↔◌, [], true, If
 ghost use Rattle.std.specs.List.{filter_map, flat_map};
 ghost use Rattle.osm_objects.specs.Objects.{location_of};
 ghost use Rattle.osm_area.specs.Missing.{nodes_missing, way_missing};
-ghost use Rattle.osm_area.specs.Segments.{segment_between, segments_along, path_of, way_segments};
+ghost use Rattle.osm_area.specs.Segments.{segments_along, path_of, way_segments};
 
 use osm_geom::{Loc, Seg};
 use osm_objects::Store;
-use std::alloc::{AllocError, Global};
+use std::alloc::{AllocError as OutOfMemory, Global};
 
-fn segment_between(p: Loc, q: Loc) -> Option<Seg>
-    ensures { result ≡ segment_between p q }
-{
-    Seg::new(p, q)
-}
-
-// Adds the segments that a line passes.
-fn add_along(segments: &mut Vec<Seg>, path: &[Loc]) -> Result<(), AllocError>
+/// Adds the segments that a line passes.
+fn add_along(segments: &mut Vec<Seg>, path: &[Loc]) -> Result<(), OutOfMemory>
     ensures { OnOk result (segments.new.items ≡ segments.old.items ++ segments_along path.now) }
 {
     let steps = path.iter().zip(path.iter().skip(1));
-    segments.extend(steps.filter_map(|(p, q)| segment_between(*p, *q)))
+    segments.extend(steps.filter_map(|(p, q)| Seg::new(*p, *q)))
 }
 
-// The locations of nodes, in order; a node that has none is passed over.
-fn located(alloc: Global, store: &Store, refs: &[i64]) -> Result<Vec<Loc>, AllocError>
+/// The locations of nodes, in order; a node that has none is passed over.
+fn located(alloc: Global, store: &Store, refs: &[i64]) -> Result<Vec<Loc>, OutOfMemory>
     ensures { IfOk result (λ v. v.items ≡ filter_map (location_of store.now) refs.now) }
 {
     let mut path = Vec::with_capacity(alloc, refs.len())?;
@@ -33,8 +27,8 @@ fn located(alloc: Global, store: &Store, refs: &[i64]) -> Result<Vec<Loc>, Alloc
     Ok(path)
 }
 
-// The locations of a way's nodes, in order.
-fn path_of(alloc: Global, store: &Store, way: i64) -> Result<Vec<Loc>, AllocError>
+/// The locations of a way's nodes, in order.
+fn path_of(alloc: Global, store: &Store, way: i64) -> Result<Vec<Loc>, OutOfMemory>
     ensures { IfOk result (λ v. v.items ≡ path_of store.now way) }
 {
     match store.way(way) {
@@ -45,7 +39,7 @@ fn path_of(alloc: Global, store: &Store, way: i64) -> Result<Vec<Loc>, AllocErro
 
 /// The segments of a way: the pairs of neighbouring different locations.
 #[tactic(auto, unfolding(crate::specs::Segments::way_segments))]
-pub fn way_segments(alloc: Global, store: &Store, way: i64) -> Result<Vec<Seg>, AllocError>
+pub fn way_segments(alloc: Global, store: &Store, way: i64) -> Result<Vec<Seg>, OutOfMemory>
     ensures { IfOk result (λ v. v.items ≡ way_segments store.now way) }
 {
     let path = path_of(alloc, store, way)?;
@@ -54,13 +48,13 @@ pub fn way_segments(alloc: Global, store: &Store, way: i64) -> Result<Vec<Seg>, 
     Ok(segments)
 }
 
-// Adds the segments along nodes. False where one of them has no location.
+/// Adds the segments along nodes. False where one of them has no location.
 fn add_along_nodes(
     segments: &mut Vec<Seg>,
     alloc: Global,
     store: &Store,
     refs: &[i64],
-) -> Result<bool, AllocError>
+) -> Result<bool, OutOfMemory>
     ensures whole { IfOk result (λ whole. IsTrue whole ↔ (nodes_missing store.now refs.now ≡ [])) }
     ensures added { IfOk result (λ whole. whole ≡ true → segments.new.items ≡ segments.old.items ++ segments_along (filter_map (location_of store.now) refs.now)) }
 {
@@ -72,13 +66,13 @@ fn add_along_nodes(
     Ok(true)
 }
 
-// Adds the segments of a way. False where it isn't held, or a node that it names has no location.
+/// Adds the segments of a way. False where it isn't held, or a node that it names has no location.
 fn add_segments(
     segments: &mut Vec<Seg>,
     alloc: Global,
     store: &Store,
     way: i64,
-) -> Result<bool, AllocError>
+) -> Result<bool, OutOfMemory>
     ensures whole { IfOk result (λ whole. IsTrue whole ↔ (way_missing store.now way ≡ [])) }
     ensures added { IfOk result (λ whole. whole ≡ true → segments.new.items ≡ segments.old.items ++ way_segments store.now way) }
 {
@@ -91,7 +85,7 @@ fn add_segments(
 /// The segments of ways, one way after the other.
 ///
 /// None where a way isn't held, or a node that one names has no location.
-pub fn segments(alloc: Global, store: &Store, ways: &[i64]) -> Result<Option<Vec<Seg>>, AllocError>
+pub fn segments(alloc: Global, store: &Store, ways: &[i64]) -> Result<Option<Vec<Seg>>, OutOfMemory>
     ensures some { IfOk result (λ found. IfSome found (λ v. v.items ≡ flat_map (way_segments store.now) ways.now)) }
     ensures whole { IfOk result (λ found. IsSome found ↔ (flat_map (way_missing store.now) ways.now ≡ [])) }
 {

@@ -4,10 +4,10 @@ use osm_geom::{Loc, Point, Seg};
 use osm_nest::Polygon;
 use osm_objects::{Note, Problem, Store};
 use osm_rings::Ring;
-use std::alloc::{AllocError, Global};
+use std::alloc::{AllocError as OutOfMemory, Global};
 use std::test::Fail;
 
-fn numbers_of(alloc: Global, words: &str) -> Result<Vec<i64>, AllocError> {
+fn numbers_of(alloc: Global, words: &str) -> Result<Vec<i64>, OutOfMemory> {
     let mut numbers = Vec::new(alloc);
     for word in words.split_whitespace() {
         if let Ok(number) = word.parse::<i64>() {
@@ -30,7 +30,7 @@ fn node_of(alloc: Global, id: i64, numbers: &[i64]) -> Object {
     }
 }
 
-fn way_of(alloc: Global, id: i64, numbers: &[i64]) -> Result<Object, AllocError> {
+fn way_of(alloc: Global, id: i64, numbers: &[i64]) -> Result<Object, OutOfMemory> {
     let mut refs = Refs::new(alloc);
     for number in numbers.iter().skip(1) {
         refs.push(*number)?;
@@ -54,7 +54,7 @@ fn role_number(word: &str) -> u8 {
     }
 }
 
-fn role_of(alloc: Global, number: u8) -> Result<Text, AllocError> {
+fn role_of(alloc: Global, number: u8) -> Result<Text, OutOfMemory> {
     match number {
         0 => Text::from_str(alloc, ""),
         1 => Text::from_str(alloc, "inner"),
@@ -64,7 +64,7 @@ fn role_of(alloc: Global, number: u8) -> Result<Text, AllocError> {
 }
 
 /// The members that words name: a word that is no number is the role of those after it.
-fn members_of(alloc: Global, kind: ObjectKind, words: &str) -> Result<Members, AllocError> {
+fn members_of(alloc: Global, kind: ObjectKind, words: &str) -> Result<Members, OutOfMemory> {
     let mut members = Members::new(alloc);
     let mut number = 0;
     for word in words.split_whitespace().skip(2) {
@@ -81,7 +81,7 @@ fn members_of(alloc: Global, kind: ObjectKind, words: &str) -> Result<Members, A
 
 /// The object of a line: `n` with its id, x and y; `w` with its id and its nodes; `r` with its id and its member
 /// ways, each role before those that have it; `s` with its id and its member relations.
-fn object_of(alloc: Global, line: &str) -> Result<Object, AllocError> {
+fn object_of(alloc: Global, line: &str) -> Result<Object, OutOfMemory> {
     let numbers = numbers_of(alloc, line)?;
     let id = numbers.first().copied().unwrap_or(0);
     if line.starts_with('n') {
@@ -113,11 +113,11 @@ fn add_lines(alloc: Global, store: &mut Store, lines: &str) -> Result<(), Fail> 
     Ok(())
 }
 
-fn seg_text(alloc: Global, s: Seg) -> Result<String, AllocError> {
+fn seg_text(alloc: Global, s: Seg) -> Result<String, OutOfMemory> {
     format!(in alloc; "{} {},{} {}", s.a.x, s.a.y, s.b.x, s.b.y)
 }
 
-fn problem_text(alloc: Global, problem: &Problem) -> Result<String, AllocError> {
+fn problem_text(alloc: Global, problem: &Problem) -> Result<String, OutOfMemory> {
     match problem {
         Problem::MissingWay { id } => format!(in alloc; "no way {id}"),
         Problem::MissingNode { id } => format!(in alloc; "no node {id}"),
@@ -135,7 +135,7 @@ fn problem_text(alloc: Global, problem: &Problem) -> Result<String, AllocError> 
     }
 }
 
-fn note_text(alloc: Global, note: &Note) -> Result<String, AllocError> {
+fn note_text(alloc: Global, note: &Note) -> Result<String, OutOfMemory> {
     match note {
         Note::NamedTwice { way } => format!(in alloc; "way {way} twice"),
         Note::Repeated { seg, times } => {
@@ -147,7 +147,7 @@ fn note_text(alloc: Global, note: &Note) -> Result<String, AllocError> {
     }
 }
 
-fn put_notes(alloc: Global, text: &mut String, notes: &Notes) -> Result<(), AllocError> {
+fn put_notes(alloc: Global, text: &mut String, notes: &Notes) -> Result<(), OutOfMemory> {
     for note in notes.as_slice() {
         text.push_str(note_text(alloc, note)?.as_str())?;
         text.push_str("\n")?;
@@ -156,7 +156,7 @@ fn put_notes(alloc: Global, text: &mut String, notes: &Notes) -> Result<(), Allo
 }
 
 /// The locations of a ring, in order.
-fn put_ring(alloc: Global, text: &mut String, name: &str, ring: &Ring) -> Result<(), AllocError> {
+fn put_ring(alloc: Global, text: &mut String, name: &str, ring: &Ring) -> Result<(), OutOfMemory> {
     text.push_str(name)?;
     for edge in ring.as_slice() {
         if let Point::Lattice(p) = edge.from {
@@ -167,7 +167,7 @@ fn put_ring(alloc: Global, text: &mut String, name: &str, ring: &Ring) -> Result
     Ok(())
 }
 
-fn put_polygon(alloc: Global, text: &mut String, polygon: &Polygon) -> Result<(), AllocError> {
+fn put_polygon(alloc: Global, text: &mut String, polygon: &Polygon) -> Result<(), OutOfMemory> {
     put_ring(alloc, text, "outer", &polygon.outer)?;
     for ring in polygon.inners.as_slice() {
         put_ring(alloc, text, "inner", ring)?;
@@ -176,7 +176,7 @@ fn put_polygon(alloc: Global, text: &mut String, polygon: &Polygon) -> Result<()
 }
 
 /// An outcome as lines: the area's rings or the problems, and then the notes.
-fn outcome_text(alloc: Global, outcome: &Outcome) -> Result<String, AllocError> {
+fn outcome_text(alloc: Global, outcome: &Outcome) -> Result<String, OutOfMemory> {
     let mut text = String::new(alloc);
     match outcome {
         Outcome::Area { polygons, notes } => {

@@ -5,7 +5,7 @@ use Rattle.osm_geom.specs.declared.edge.Edge.{Edge}
 use Rattle.osm_nest.specs.declared.ring_edges.RingEdge.{RingEdge}
 use Rattle.osm_nest.specs.declared.ring_anchors.Anchors.{Anchors}
 use Rattle.osm_nest.specs.Anchors.{AreAnchors, IsAnchorAt}
-use Rattle.osm_nest.specs.Homes.{TellsOuter}
+use Rattle.osm_nest.specs.Enclosers.{TellsOuter}
 use Rattle.osm_nest.specs.SweptEdges.{IsInnerAnchor}
 use Rattle.osm_nest.specs.Outer.{IsAnchorOf, IsInner}
 use Rattle.osm_nest.proofs.Filled.{IsFilled, all-told, filled-step, tells_at}

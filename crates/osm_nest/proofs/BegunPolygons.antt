@@ -7,10 +7,7 @@ use Rattle.nesting.specs.Nesting.{edges_of}
 use Rattle.nesting.specs.Polygon as nesting
 use Rattle.nesting.specs.Polygon.{ArePolygons, IsPolygon, polygon_edges}
 use Rattle.nesting.specs.Walk.{HasSameEdges}
-use Rattle.nesting.proofs.Nests.{odd-bit, total-edges}
-use Rattle.nesting.proofs.Parts.{sided_same}
-use Rattle.nesting.proofs.ScaledRings.{polygons_cover_at_fractions}
-use Rattle.nesting.proofs.SidedPolygons.{polygon_sided}
+use Rattle.nesting.proofs.NestingKit.{odd-bit, total-edges, sided_same, polygons_cover_at_fractions, polygon_sided}
 use Rattle.plane.specs.Bit.{bit}
 use Rattle.plane.specs.Edge as plane
 use Rattle.plane.specs.RayCrossing.{down_crossing, up_crossing}
@@ -18,23 +15,23 @@ use Rattle.plane.specs.Scale.{scaled_edge, scaled_point}
 use Rattle.plane.specs.Sign.{Plus, sign}
 use Rattle.plane.specs.Vector.{Vector, east, from_to}
 use Rattle.winding.specs.EdgeList.{crossing_count}
-use Rattle.winding.specs.Member.{In}
+use Rattle.lists.specs.Member.{In}
 use Rattle.winding.specs.Parity.{is_even}
 use Rattle.winding.specs.ScaledEdges.{scaled_edges}
-use Rattle.winding.proofs.Members.{all-either, all-in, in-all, in-either, in-left, in-map-out, in-right}
-use Rattle.winding.proofs.Sums.{total, total-++, total-is, total-map}
+use Rattle.lists.proofs.Members.{all-either, all-in, in-all, in-either, in-left, in-map-out, in-right}
+use Rattle.lists.proofs.Sums.{total, total-++, total-is, total-map}
 use Rattle.osm_geom.specs.declared.edge.Edge.{Edge}
 use Rattle.osm_geom.specs.Point.{den_of}
 use Rattle.osm_nest.specs.declared.polygon.Polygon.{Polygon}
 use Rattle.osm_nest.specs.Cover.{AreSided, covers_at}
-use Rattle.osm_nest.specs.Nested.{AreBegun, ArePolygonsBegun, ArePolygonsOf, IsPolygonBegun}
+use Rattle.osm_nest.specs.Nested.{AreFromLeast, ArePolygonsFromLeast, ArePolygonsOf, IsPolygonFromLeast}
 use Rattle.osm_nest.specs.Polygons.{edges_in, polygon_times, rings_in, rings_of}
 use Rattle.osm_nest.specs.RingLists.{AreRings, all_edges, whole_rings}
 use Rattle.osm_rings.specs.Turned.{IsTurned}
 use Prim.Native.Nat.{◌∣◌}
-use Rattle.sided.specs.Multiple.{IsCommon, IsWholeAt, common_den, edge_times, edges_times}
-use Rattle.sided.specs.Sided.{IsSided, count_at}
-use Rattle.sided.proofs.Commons.{common_is_common, count_at_each, sided_at_each}
+use Rattle.plane_edges.specs.Multiple.{IsCommon, IsWholeAt, common_den, edge_times, edges_times}
+use Rattle.plane_edges.specs.Sided.{IsSided, count_at}
+use Rattle.plane_edges.proofs.EdgesKit.{common_is_common, count_at_each, sided_at_each}
 
 -- ---- sums over edges in the multiplied plane
 module _ (k : ℕ) where
@@ -56,12 +53,12 @@ module _ (k : ℕ) where
       let c = ap (total g) t.old in let d = ap (total g) t.new in
       let e = total-++ g t.front t.back in let h = total-++ g t.back t.front in omega arith
 
-  begun-sum : (f : plane.Edge → ℕ) (rs bs : List (List Edge)) → AreBegun rs bs → total (ring-sum f) bs ≡ total (ring-sum f) rs
+  begun-sum : (f : plane.Edge → ℕ) (rs bs : List (List Edge)) → AreFromLeast rs bs → total (ring-sum f) bs ≡ total (ring-sum f) rs
   begun-sum f [] bs h = ap (total (ring-sum f)) h
   begun-sum f (r ∷ rs) bs h =
       let a = ap (total (ring-sum f)) h.2 in let b = turned-sum f r h.0 h.3.turned in let c = begun-sum f rs h.1 h.4 in omega arith
 
-  polygon-same : (g b : Polygon) → IsPolygonBegun g b → HasSameEdges (edges_times k (edges_in b)) (polygon_edges (polygon_times k g))
+  polygon-same : (g b : Polygon) → IsPolygonFromLeast g b → HasSameEdges (edges_times k (edges_in b)) (polygon_edges (polygon_times k g))
   polygon-same g b is f =
       let u = edges_times k (edges_in b) in let v = polygon_edges (polygon_times k g) in
       let a = rings-sum f (rings_in b) in let c = rings-sum f (rings_in g) in
@@ -71,11 +68,11 @@ module _ (k : ℕ) where
       sym (total-is f u) ∙ m ∙ total-is f v
 
 -- ---- the polygon that was begun elsewhere
-was-by : (p : Polygon) (ps : List Polygon) (f : Polygon) (others : List Polygon) → IsPolygonBegun p f → (b : Polygon) → (b ≡ f) ⊎ In b others → (In b others → (g : Polygon) × In g ps × IsPolygonBegun g b) → (g : Polygon) × In g (p ∷ ps) × IsPolygonBegun g b
-was-by p ps f others t b (inl e) h = (p, inl refl, subst (IsPolygonBegun p) (sym e) t)
+was-by : (p : Polygon) (ps : List Polygon) (f : Polygon) (others : List Polygon) → IsPolygonFromLeast p f → (b : Polygon) → (b ≡ f) ⊎ In b others → (In b others → (g : Polygon) × In g ps × IsPolygonFromLeast g b) → (g : Polygon) × In g (p ∷ ps) × IsPolygonFromLeast g b
+was-by p ps f others t b (inl e) h = (p, inl refl, subst (IsPolygonFromLeast p) (sym e) t)
 was-by p ps f others t b (inr i) h = let a = h i in (a.0, inr a.1, a.2)
 
-pub was : (ps bs : List Polygon) → ArePolygonsBegun ps bs → (b : Polygon) → In b bs → (g : Polygon) × In g ps × IsPolygonBegun g b
+pub was : (ps bs : List Polygon) → ArePolygonsFromLeast ps bs → (b : Polygon) → In b bs → (g : Polygon) × In g ps × IsPolygonFromLeast g b
 was [] bs h b i = absurd (subst (In b) h i)
 was (p ∷ ps) bs h b i = was-by p ps h.0 h.1 h.3 b (subst (In b) h.2 i) (was ps h.1 h.4 b)
 
@@ -94,7 +91,7 @@ pub rings-total : (F : List Edge → ℕ) (ps : List Polygon) → total F (rings
 rings-total F [] = refl
 rings-total F (p ∷ ps) = let a = total-++ F (rings_in p) (rings_of ps) in let b = rings-total F ps in omega arith
 
-module _ (rs : List (List Edge)) (are : AreRings rs) (ps bs : List Polygon) (of : ArePolygonsOf rs ps) (begun : ArePolygonsBegun ps bs) (whole : All (All (IsWholeAt (common_den (all_edges rs)))) (rings_of bs)) where
+module _ (rs : List (List Edge)) (are : AreRings rs) (ps bs : List Polygon) (of : ArePolygonsOf rs ps) (begun : ArePolygonsFromLeast ps bs) (whole : All (All (IsWholeAt (common_den (all_edges rs)))) (rings_of bs)) where
   abbrev k : ℕ
   k = common_den (all_edges rs)
 
@@ -152,7 +149,7 @@ module _ (rs : List (List Edge)) (are : AreRings rs) (ps bs : List Polygon) (of 
     abbrev at_k : Vector
     at_k = scaled_point (pos k) p
 
-    count-begun : (g b : Polygon) → In b bs → IsPolygonBegun g b → count_at q p (edges_in b) ≡ crossing_count east at_k (scaled_edges q (polygon_edges (polygon_times k g)))
+    count-begun : (g b : Polygon) → In b bs → IsPolygonFromLeast g b → count_at q p (edges_in b) ≡ crossing_count east at_k (scaled_edges q (polygon_edges (polygon_times k g)))
     count-begun g b i is =
         count_at_each k (edges_in b) (common-in b i) q p
         ∙ crossing-same q at_k (edges_times k (edges_in b)) (polygon_edges (polygon_times k g)) (polygon-same k g b is)
@@ -160,7 +157,7 @@ module _ (rs : List (List Edge)) (are : AreRings rs) (ps bs : List Polygon) (of 
     abbrev covered : nesting.Polygon → ℕ
     covered g = bit (covers (scaled_edges q (polygon_edges g)) at_k)
 
-    counts : (gs cs : List Polygon) → ((b : Polygon) → In b cs → In b bs) → ArePolygonsBegun gs cs → total (λ (b : Polygon). bit (covers_at q p b)) cs ≡ total (λ (g : Polygon). covered (polygon_times k g)) gs
+    counts : (gs cs : List Polygon) → ((b : Polygon) → In b cs → In b bs) → ArePolygonsFromLeast gs cs → total (λ (b : Polygon). bit (covers_at q p b)) cs ≡ total (λ (g : Polygon). covered (polygon_times k g)) gs
     counts [] cs sub h = ap (total (λ (b : Polygon). bit (covers_at q p b))) h
     counts (g ∷ gs) cs sub h =
         let a = ap (total (λ (b : Polygon). bit (covers_at q p b))) h.2 in

@@ -3,12 +3,13 @@ use Rattle.std.proofs.Common.{◌≡◌, inl, inr, true, false, ◌&&◌, ℕ, L
 use Rattle.std.specs.Ordering.{is_lt}
 use Rattle.plane.specs.Height.{is_in_span, is_right_above, order_above}
 use Rattle.plane.specs.Sign.{is_plus}
-use Rattle.plane.proofs.Bools.{and-left, false-if-never}
-use Rattle.plane.proofs.Heights.{right_chain, right_itself}
+use Rattle.lists.proofs.Bools.{and-left}
+use Rattle.std.proofs.lemmas.Bool.{false_from_ne_true}
+use Rattle.plane.proofs.PlaneKit.{right_chain, right_itself}
 use Rattle.osm_geom.specs.declared.edge.Edge.{Edge}
 use Rattle.osm_geom.specs.JustAbove.{just_above_cmp}
 use Rattle.osm_geom.specs.Span.{lower_end, spans}
-use Rattle.sided.specs.Multiple.{IsWholeAt, common_den}
+use Rattle.plane_edges.specs.Multiple.{IsWholeAt, common_den}
 use Rattle.osm_nest.specs.Beside.{IsRight, is_nearer, is_right_of}
 use Rattle.osm_nest.proofs.InPlane.{above-at, segment_at, spans-at, whole-at}
 
@@ -65,4 +66,4 @@ not-nearer-itself a f =
 
 -- what isn't nearer than g isn't nearer than what is nearer than g
 pub not-nearer : (a f g h : Edge) → is_right_of a f ≡ true → is_right_of a g ≡ true → is_right_of a h ≡ true → is_nearer a f g ≡ false → is_nearer a h g ≡ true → is_nearer a f h ≡ false
-not-nearer a f g h rf rg rh n m = false-if-never (is_nearer a f h) (λ k. let t = nearer-chain a f h g rf rh rg k m in cc (sym t ∙ n))
+not-nearer a f g h rf rg rh n m = false_from_ne_true (is_nearer a f h) (λ k. let t = nearer-chain a f h g rf rh rg k m in cc (sym t ∙ n))

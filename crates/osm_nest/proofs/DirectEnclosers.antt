@@ -3,35 +3,32 @@ use Rattle.std.proofs.Common.{◌≡◌, inl, inr, ◌⊎◌, true, false, not, 
 use Rattle.std.proofs.lemmas.List.{get_or_default, get_or-map, length-map}
 use Rattle.nesting.specs.Nesting.{EnclosesDirectly, IsInnerRing, IsOuterRing, edges_of, encloses, has_edge}
 use Rattle.nesting.specs.RingList.{IsRingList}
-use Rattle.nesting.proofs.DirectEnclosure.{encloses_law}
-use Rattle.nesting.proofs.DirectRings.{encloser_exists, inner-out, is_outer_by, outer-out}
-use Rattle.nesting.proofs.Nests.{encloses-not, in-edges, same-ring}
-use Rattle.nesting.proofs.RingLists.{nest-plain, ring_list_nest}
+use Rattle.nesting.proofs.NestingKit.{encloses_law, encloser_exists, inner-out, is_outer_by, outer-out, encloses-not, in-edges, same-ring, nest-plain, ring_list_nest}
 use Rattle.plane.specs.Edge as plane
 use Rattle.plane.specs.Edge.{segment_of}
 use Rattle.plane.specs.Height.{is_right_above, order_above}
 use Rattle.plane.specs.Sign.{is_plus}
-use Rattle.plane.proofs.Bools.{false-if-never}
+use Rattle.std.proofs.lemmas.Bool.{false_from_ne_true}
 use Rattle.winding.specs.ConflictFree.{IsConflictFree}
 use Rattle.winding.specs.EdgeList.{IsEvenAtPoints}
-use Rattle.winding.specs.Member.{In}
+use Rattle.lists.specs.Member.{In}
 use Rattle.winding.specs.Parity.{is_even}
 use Rattle.winding.specs.Ring.{IsAnchor, segments_of}
-use Rattle.winding.proofs.Anchors.{anchor_one, anchor_span}
-use Rattle.winding.proofs.Members.{in-map, in-map-out}
-use Rattle.winding.proofs.ScaledLists.{map-map}
+use Rattle.winding.proofs.WindingKit.{anchor_one, anchor_span}
+use Rattle.lists.proofs.Members.{in-map, in-map-out}
+use Rattle.lists.proofs.Maps.{map-map}
 use Rattle.osm_geom.specs.declared.edge.Edge.{Edge}
-use Rattle.sided.specs.Multiple.{IsWholeAt, common_den, edge_times, edges_times}
+use Rattle.plane_edges.specs.Multiple.{IsWholeAt, common_den, edge_times, edges_times}
 use Rattle.osm_nest.specs.declared.enclosers.Encloser.{Encloser}
 use Rattle.osm_nest.specs.Beside.{IsEncloser, IsNearestUpTo, IsSloping, is_around, is_nearer, is_right_of}
-use Rattle.osm_nest.specs.Homes.{segments_at}
-use Rattle.osm_nest.specs.Outer.{AreClear, IsAnchorOf, IsInner, IsOuter}
+use Rattle.osm_nest.specs.Enclosers.{segments_at}
+use Rattle.osm_nest.specs.Outer.{AreConflictFree, IsAnchorOf, IsInner, IsOuter}
 use Rattle.osm_nest.specs.RingLists.{AreRings, all_edges, whole_rings}
-use Rattle.osm_nest.proofs.Bools.{clash}
+use Rattle.lists.proofs.Bools.{clash}
 use Rattle.osm_nest.proofs.Beside.{nearer-at, right-at}
 use Rattle.osm_nest.proofs.Further.{part}
 use Rattle.osm_nest.proofs.InPlane.{segment_at, segments_times, spans-at}
-use Rattle.osm_nest.proofs.Items.{at-in, in-at}
+use Rattle.lists.proofs.Items.{at-in, in-at}
 use Rattle.osm_nest.proofs.MultipliedRings as rings
 use Rattle.osm_nest.proofs.Nearest.{nearer-either}
 
@@ -87,15 +84,15 @@ module _ (rs : List (List Edge)) (are : AreRings rs) where
   plain-at : (k : ℕ) → k < length rs → IsConflictFree (segments_times K (ring k))
   plain-at k h = rings.plain rs are (ring k) (ring-in k h) (part-at k h)
 
-  pub clear-at : (k : ℕ) → k < length rs → AreClear (ring k)
+  pub clear-at : (k : ℕ) → k < length rs → AreConflictFree (ring k)
   clear-at k h = rings.clear rs are (ring k) (ring-in k h) (part-at k h)
 
   -- the anchor of a ring is that of the ring multiplied further
   pub anchor-up : (k : ℕ) → k < length rs → (e : Edge) → IsAnchorOf e (ring k) → IsAnchor (segment_at K e) (segments_times K (ring k))
   anchor-up k h = rings.anchor-up rs are (ring k) (ring-in k h) (part-at k h)
 
-  pub clear-item : (k : ℕ) (r : List Edge) → k < length rs → r ≡ get_or rs k r → AreClear r
-  clear-item k r h is = subst AreClear (sym (is ∙ get_or_default rs k r [] h)) (clear-at k h)
+  pub clear-item : (k : ℕ) (r : List Edge) → k < length rs → r ≡ get_or rs k r → AreConflictFree r
+  clear-item k r h is = subst AreConflictFree (sym (is ∙ get_or_default rs k r [] h)) (clear-at k h)
 
   -- ---- outer and inner
   even-at : (k : ℕ) → k < length rs → IsEvenAtPoints (segments_times K (ring k))
@@ -136,7 +133,7 @@ module _ (rs : List (List Edge)) (are : AreRings rs) where
     module _ (inner : IsInner (ring h)) where
       -- an outer ring is another one
       not-own : (k : ℕ) → k < length rs → IsOuter (ring k) → has_edge (segments_times K (ring k)) (segment_at K a) ≡ false
-      not-own k hk o = false-if-never (has_edge (segments_times K (ring k)) (segment_at K a)) (λ e.
+      not-own k hk o = false_from_ne_true (has_edge (segments_times K (ring k)) (segment_at K a)) (λ e.
           let same = same-ring nest (ring_list_nest in_plane listed) (segments_times K (ring h)) (segments_times K (ring k)) (segment_at K a) (segments-in h hh) (segments-in k hk) along.member e in
           let out = outer-out in_plane listed (segments_times K (ring k)) (segments-in k hk) (outer-ring k hk o) in
           let inn = inner-out in_plane listed (segments_times K (ring h)) (segments-in h hh) (inner-ring h hh inner) in
@@ -186,11 +183,11 @@ module _ (rs : List (List Edge)) (are : AreRings rs) where
           }
 
   -- ---- in the multiplied plane
-  pub outer-home : (k : ℕ) → k < length rs → IsOuter (ring k) → IsOuterRing nest (segments_at rs k)
-  outer-home k h o = subst (IsOuterRing nest) (sym (segments-at k h)) (outer-ring k h o)
+  pub outer-encloser : (k : ℕ) → k < length rs → IsOuter (ring k) → IsOuterRing nest (segments_at rs k)
+  outer-encloser k h o = subst (IsOuterRing nest) (sym (segments-at k h)) (outer-ring k h o)
 
-  pub inner-home : (k : ℕ) → k < length rs → IsInner (ring k) → IsInnerRing nest (segments_at rs k)
-  inner-home k h o = subst (IsInnerRing nest) (sym (segments-at k h)) (inner-ring k h o)
+  pub inner-encloser : (k : ℕ) → k < length rs → IsInner (ring k) → IsInnerRing nest (segments_at rs k)
+  inner-encloser k h o = subst (IsInnerRing nest) (sym (segments-at k h)) (inner-ring k h o)
 
   module _ (h : ℕ) (r : List Edge) (hh : h < length rs) (is : r ≡ get_or rs h r) (a : Edge) (an : IsAnchorOf a r) where
     abbrev own : r ≡ ring h
@@ -202,18 +199,18 @@ module _ (rs : List (List Edge)) (are : AreRings rs) where
     pub sloping-of : IsSloping a
     sloping-of = sloping h hh a at-own
 
-    pub home-of : (c : Encloser) → IsInner (ring h) → IsNearestUpTo rs a (length rs) c →
+    pub direct-encloser-of : (c : Encloser) → IsInner (ring h) → IsNearestUpTo rs a (length rs) c →
         (c.place < length rs) × IsInnerRing (map segments_of (whole_rings rs)) (segments_at rs h) × EnclosesDirectly (map segments_of (whole_rings rs)) (segments_at rs c.place) (segments_at rs h)
-    home-of c inner best =
+    direct-encloser-of c inner best =
         let hk = best.is.candidate.inside in (
           hk,
-          inner-home h hh inner,
+          inner-encloser h hh inner,
           subst (λ g. EnclosesDirectly nest g (segments_of (get_or in_plane h []))) (sym (segments-at c.place hk))
               (subst (λ g. EnclosesDirectly nest (segments_times K (ring c.place)) g) (sym (segments-at h hh)) (encloses-directly h hh a at-own inner c best)),
         )
 
-    pub home-there : IsInner (ring h) → ((k : ℕ) → k < length rs → IsEncloser rs a k → ⊥) → ⊥
-    home-there inner none = some-encloser h hh a at-own inner none
+    pub encloser-there : IsInner (ring h) → ((k : ℕ) → k < length rs → IsEncloser rs a k → ⊥) → ⊥
+    encloser-there inner none = some-encloser h hh a at-own inner none
 
-pub each-clear : (rs : List (List Edge)) → AreRings rs → All AreClear rs
-each-clear rs are k r h = subst AreClear (get_or_default rs k [] r h) (clear-at rs are k h)
+pub each-clear : (rs : List (List Edge)) → AreRings rs → All AreConflictFree rs
+each-clear rs are k r h = subst AreConflictFree (get_or_default rs k [] r h) (clear-at rs are k h)

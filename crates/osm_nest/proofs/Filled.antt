@@ -1,10 +1,10 @@
--- Lists filled place by place: the answers whether rings are outer, and their homes.
+-- Lists filled place by place: the answers whether rings are outer, and their enclosers.
 use Rattle.std.proofs.Common.{Bool, List, [], ap, arith, false, get_or, length, subst, sym, true, ℕ, ◌++◌, ◌+◌, ◌<◌, ◌∙◌, ◌∷◌, ◌≡◌, ◌↔◌, ⊎_elim}
 use Rattle.std.proofs.lemmas.Bool.{cases_lt}
 use Rattle.std.proofs.lemmas.List.{get_or_append_left, get_or_default, length-append}
 use Rattle.std.proofs.Math.Seq.{get_or-append_seam}
 use Rattle.osm_geom.specs.declared.edge.Edge.{Edge}
-use Rattle.osm_nest.specs.Homes.{TellOuter, TellsOuter}
+use Rattle.osm_nest.specs.Enclosers.{TellOuter, TellsOuter}
 use Rattle.osm_nest.specs.Outer.{IsInner, IsOuter}
 
 module _ {X : Type 0} (P : ℕ → X → Type 0) (d : X) where

@@ -9,20 +9,18 @@ use Rattle.plane.specs.Order.{order}
 use Rattle.plane.specs.Scale.{scaled_edge, scaled_point}
 use Rattle.plane.specs.Sign.{Minus, Plus, is_plus, sign}
 use Rattle.plane.specs.Vector.{Vector, orient, same_point}
-use Rattle.plane.proofs.Points.{same_point-refl, same_point-true}
-use Rattle.plane.proofs.Scaling.{conflicts-scaled, order-scaled, orient-scaled, point-scaled}
+use Rattle.plane.proofs.PlaneKit.{same_point-refl, same_point-true, conflicts-scaled, order-scaled, orient-scaled, point-scaled}
 use Rattle.winding.specs.ConflictFree.{IsConflictFree, others}
-use Rattle.winding.specs.Member.{EachPair, In}
+use Rattle.lists.specs.Member.{EachPair, In}
 use Rattle.winding.specs.Ring.{IsAnchor, segments_of}
 use Rattle.winding.specs.ScaledEdges.{scaled_edges}
-use Rattle.winding.proofs.ConflictFree.{rising_in}
-use Rattle.winding.proofs.Members.{all-in, in-all, in-left, in-map, in-map-out, in-right}
-use Rattle.winding.proofs.ScaledLists.{direct-by, map-map, map-same, others-scaled, plain_scaled}
+use Rattle.winding.proofs.WindingKit.{rising_in, direct-by, others-scaled, plain_scaled}
+use Rattle.lists.proofs.Members.{all-in, in-all, in-left, in-map, in-map-out, in-right}
+use Rattle.lists.proofs.Maps.{map-map, map-same}
 use Rattle.osm_geom.specs.declared.edge.Edge.{Edge}
 use Rattle.osm_geom.specs.Point.{den_of}
-use Rattle.sided.specs.Multiple.{IsCommon, IsWholeAt, common_den, edge_times, edges_times}
-use Rattle.sided.proofs.Commons.{common_is_common, sign-some}
-use Rattle.sided.proofs.Multiples.{times_further}
+use Rattle.plane_edges.specs.Multiple.{IsCommon, IsWholeAt, common_den, edge_times, edges_times}
+use Rattle.plane_edges.proofs.EdgesKit.{common_is_common, sign-some, times_further}
 use Rattle.osm_nest.specs.RingLists.{all_edges}
 use Rattle.osm_nest.proofs.InPlane.{common-append, segment_at, segments_times, whole-at}
 

@@ -7,17 +7,15 @@ use Rattle.plane.specs.Edge as plane
 use Rattle.plane.specs.Height.{is_in_span, order_above}
 use Rattle.plane.specs.Order.{order}
 use Rattle.plane.specs.Sign.{Minus, Null, Plus, Sign, is_plus}
-use Rattle.winding.specs.Member.{In}
+use Rattle.lists.specs.Member.{In}
 use Rattle.osm_geom.specs.declared.edge.Edge.{Edge}
 use Rattle.osm_geom.specs.Edge.{runs_up}
 use Rattle.osm_geom.specs.JustAbove.{just_above_cmp}
-use Rattle.osm_geom.specs.OrderLaws.{ordering_of}
+use Rattle.osm_lattice.specs.OrderLaws.{ordering_of}
 use Rattle.osm_geom.specs.Point.{den_of, point_cmp}
 use Rattle.osm_geom.specs.Span.{lower_end, spans}
-use Rattle.sided.specs.Multiple.{IsWholeAt, common_den, edge_times, point_times}
-use Rattle.sided.proofs.Commons.{common_is_common}
-use Rattle.sided.proofs.MultipliedEdges.{each_whole, just_above_alike, rises_alike, spans_alike}
-use Rattle.sided.proofs.MultipliedPoints.{order_is}
+use Rattle.plane_edges.specs.Multiple.{IsWholeAt, common_den, edge_times, point_times}
+use Rattle.plane_edges.proofs.EdgesKit.{common_is_common, each_whole, just_above_alike, rises_alike, spans_alike, order_is}
 
 -- the segment of the multiplied plane along which e runs
 abbrev pub segment_at : ℕ → Edge → plane.Edge

@@ -11,23 +11,21 @@ use Rattle.plane.specs.Height.{is_in_span, order_above}
 use Rattle.plane.specs.Order.{order}
 use Rattle.plane.specs.Sign.{Minus, Null, Plus, Sign, is_plus, negated, sign, then_sign}
 use Rattle.plane.specs.Vector.{Vector, cross, from_to, orient}
-use Rattle.plane.proofs.Edges.{same_edge-true}
-use Rattle.plane.proofs.PointOrder.{order-null, order-reversed}
-use Rattle.plane.proofs.Products.{cross-agree, cross-from-here, cross-negated, cross-self}
-use Rattle.plane.proofs.Signs.{agree, all, all-out, all4-out, imp, imp-out, same_bool, same_bool-true, self-diff, times}
+use Rattle.plane.proofs.PlaneKit.{same_edge-true, order-null, order-reversed, cross-agree, cross-from-here, cross-negated, cross-self}
+use Rattle.plane.proofs.SignKit.{agree, all, all-out, all4-out, imp, imp-out, same_bool, same_bool-true, self-diff, times}
 use Rattle.winding.specs.ConflictFree.{IsConflictFree}
-use Rattle.winding.specs.Member.{In}
+use Rattle.lists.specs.Member.{In}
 use Rattle.winding.specs.Ring.{IsAnchor}
-use Rattle.winding.proofs.Anchors.{some-anchor}
-use Rattle.winding.proofs.Members.{in-map, in-map-out, into-filter}
+use Rattle.winding.proofs.WindingKit.{some-anchor}
+use Rattle.lists.proofs.Members.{in-map, in-map-out, into-filter}
 use Rattle.osm_geom.specs.declared.edge.Edge.{Edge}
 use Rattle.osm_geom.specs.JustAbove.{just_above_cmp}
-use Rattle.osm_geom.specs.OrderLaws.{ordering_of}
+use Rattle.osm_lattice.specs.OrderLaws.{ordering_of}
 use Rattle.osm_geom.specs.Span.{lower_end, spans}
-use Rattle.sided.specs.Multiple.{IsWholeAt, common_den}
-use Rattle.sided.proofs.MultipliedEdges.{segment_rises}
+use Rattle.plane_edges.specs.Multiple.{IsWholeAt, common_den}
+use Rattle.plane_edges.proofs.EdgesKit.{segment_rises}
 use Rattle.osm_nest.specs.Leftmost.{comes_first, first_of, forks_left}
-use Rattle.osm_nest.proofs.Items.{in-at, item-in}
+use Rattle.lists.proofs.Items.{in-at, item-in}
 use Rattle.osm_nest.proofs.InPlane.{above-at, order-at, segment_at, spans-at, whole-at}
 
 -- ---- two segments from one point: which runs to the left

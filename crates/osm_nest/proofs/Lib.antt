@@ -1,31 +1,30 @@
-pub mod AnchorLists
-pub mod BegunPolygons
-pub mod Beside
-pub mod Bools
-pub mod DirectEnclosers
-pub mod Filled
-pub mod FilteredLists
-pub mod Further
-pub mod GroupedRings
-pub mod Halves
-pub mod InPlane
-pub mod Items
-pub mod Joining
-pub mod KnownHomes
-pub mod LeftHomes
-pub mod Leftmost
+mod AnchorLists
+mod BegunPolygons
+mod Beside
+mod DirectEnclosers
+mod Filled
+mod FilteredLists
+mod Further
+mod GroupedRings
+mod Halves
+mod InPlane
+mod Joining
+mod KnownEnclosers
+mod LeftEnclosers
+mod Leftmost
 pub mod Listing
-pub mod MultipliedRings
-pub mod Nearest
-pub mod NestedKinds
+mod LoneRing
+mod MultipliedRings
+mod Nearest
+mod NestedKinds
 pub mod NestedRings
-pub mod NestingExists
-pub mod Parting
-pub mod Places
-pub mod RingAnchors
-pub mod RingEdges
-pub mod StatusSteps
-pub mod SweptHeights
-pub mod SweptRows
-pub mod TurnedAnchors
-pub mod Turns
+mod NestingExists
+mod Parting
+mod Places
+mod RingAnchors
+mod RingEdges
+mod StatusSteps
+mod SweptHeights
+mod SweptRows
+mod TurnedAnchors
+mod Turns

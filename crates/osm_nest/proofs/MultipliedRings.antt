@@ -1,43 +1,35 @@
 -- One of the rings in the plane multiplied by the common denominator of all: its anchor, whether it is outer, and the edges right of an anchor.
-use Rattle.std.proofs.Common.{◌≡◌, Bool, true, false, not, ℕ, ◌*◌, ◌≤◌, List, map, refl, sym, ap, subst, ◌∙◌}
+use Rattle.std.proofs.Common.{◌≡◌, Bool, true, false, not, ℕ, ◌*◌, ◌≤◌, List, map, sym, ap, subst, ◌∙◌}
 use Rattle.std.specs.List.{count_by}
 use Rattle.std.proofs.Math.Nat.{dvd-mul_right_of_dvd}
 use Prim.Native.Nat.{◌∣◌}
 use Rattle.nesting.specs.Nesting.{IsInnerRing, IsOuterRing, is_outer}
-use Rattle.nesting.proofs.DirectRings.{ring-plain}
-use Rattle.nesting.proofs.Nests.{in-edges}
-use Rattle.nesting.proofs.RingLists.{outer_down}
+use Rattle.nesting.proofs.NestingKit.{ring-plain, in-edges, outer_down}
 use Rattle.plane.specs.Bit.{bit}
 use Rattle.plane.specs.Edge as plane
 use Rattle.plane.specs.Edge.{segment_of}
 use Rattle.plane.specs.Height.{is_right_above}
 use Rattle.winding.specs.ConflictFree.{IsConflictFree}
 use Rattle.winding.specs.EdgeList.{IsEvenAtPoints}
-use Rattle.winding.specs.Member.{In}
+use Rattle.lists.specs.Member.{In}
 use Rattle.winding.specs.Ring.{IsAnchor, segments_of}
-use Rattle.winding.proofs.Members.{in-map, in-map-out, total-same}
-use Rattle.winding.proofs.RingCounts.{ring-even}
-use Rattle.winding.proofs.ScaledLists.{map-map}
-use Rattle.winding.proofs.Sums.{total-is, total-map}
+use Rattle.lists.proofs.Members.{in-map, in-map-out, total-same}
+use Rattle.winding.proofs.WindingKit.{ring-even}
+use Rattle.lists.proofs.Maps.{map-map}
+use Rattle.lists.proofs.Sums.{total-is, total-map}
 use Rattle.osm_geom.specs.declared.edge.Edge.{Edge}
 use Rattle.osm_geom.specs.Edge.{runs_up}
 use Rattle.osm_geom.specs.Point.{den_of}
-use Rattle.sided.specs.Multiple.{IsWholeAt, common_den, edge_times, edges_times}
-use Rattle.sided.proofs.Commons.{common_is_common}
-use Rattle.sided.proofs.MultipliedEdges.{rises_alike}
+use Rattle.plane_edges.specs.Multiple.{IsWholeAt, common_den, edge_times, edges_times}
+use Rattle.plane_edges.proofs.EdgesKit.{common_is_common, rises_alike}
 use Rattle.osm_nest.specs.Beside.{is_right_of}
-use Rattle.osm_nest.specs.Outer.{AnchorRuns, AreClear, IsAnchorOf, IsInner, IsOuter}
+use Rattle.osm_nest.specs.Outer.{AnchorRuns, AreConflictFree, IsAnchorOf, IsInner, IsOuter}
 use Rattle.osm_nest.specs.RingLists.{AreRings, all_edges, whole_rings}
 use Rattle.osm_nest.proofs.Beside.{right-at}
 use Rattle.osm_nest.proofs.Further.{anchor-further, anchor-nearer, plain-nearer}
 use Rattle.osm_nest.proofs.InPlane.{segment_at, segments_times, whole-at}
 use Rattle.osm_nest.proofs.RingAnchors.{anchor-along, anchor-of, segments-are}
-
-same-not : (b c : Bool) → not b ≡ not c → b ≡ c
-same-not true true h = refl
-same-not true false h = cc
-same-not false true h = cc
-same-not false false h = refl
+use Rattle.lists.proofs.Bools.{not-same}
 
 -- the common denominator of all rings is a multiple of that of r
 abbrev pub Divides : List (List Edge) → List Edge → Type 0
@@ -71,8 +63,8 @@ module _ (rs : List (List Edge)) (are : AreRings rs) (r : List Edge) (i : In (ed
   pub even : IsEvenAtPoints (segments_times K r)
   even = subst IsEvenAtPoints along-is (ring-even (edges_times K r) (are.ring_list.ring (edges_times K r) i))
 
-  pub clear : AreClear r
-  clear = record { clear = subst IsConflictFree (sym (segments-are r)) (plain-nearer r q.0 q.1 (subst (λ n. IsConflictFree (segments_times n r)) q.2 plain)) }
+  pub clear : AreConflictFree r
+  clear = subst IsConflictFree (sym (segments-are r)) (plain-nearer r q.0 q.1 (subst (λ n. IsConflictFree (segments_times n r)) q.2 plain))
 
   -- its anchor is that of the multiplied ring
   pub anchor-up : (e : Edge) → IsAnchorOf e r → IsAnchor (segment_at K e) (segments_times K r)
@@ -107,7 +99,7 @@ module _ (rs : List (List Edge)) (are : AreRings rs) (r : List Edge) (i : In (ed
       record {
         anchor = x.0;
         is_anchor = anchor-down x.0 x.1 (subst (λ s. IsAnchor s (segments_times K r)) x.2 an);
-        direction = same-not (runs_up x.0) up (sym (outer-is x.0 x.1) ∙ ap (is_outer nest) (sym x.2) ∙ tells);
+        direction = not-same (runs_up x.0) up (sym (outer-is x.0 x.1) ∙ ap (is_outer nest) (sym x.2) ∙ tells);
       }
 
   pub outer-down : IsOuterRing nest (segments_times K r) → IsOuter r

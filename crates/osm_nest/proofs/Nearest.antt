@@ -1,32 +1,29 @@
 -- Looking for the nearest edge right of an anchor, in one ring and among rings.
 use Rattle.std.proofs.Common.{◌≡◌, inl, inr, ◌⊎◌, Bool, true, false, not, ℕ, ◌+◌, ◌<◌, List, [], ◌∷◌, ◌++◌, length, get_or, take, Option, Some, None, IfSome, cond, refl, sym, ap, subst, ◌∙◌, ◌↔◌, arith, ⊎_elim}
-use Rattle.std.proofs.lemmas.Bool.{cases_lt}
+use Rattle.std.proofs.lemmas.Bool.{cases_lt, false_from_ne_true}
 use Rattle.std.proofs.lemmas.List.{get_or_default, take_more}
 use Rattle.plane.specs.Bit.{bit}
 use Rattle.plane.specs.Edge as plane
 use Rattle.plane.specs.Height.{is_right_above}
 use Rattle.plane.specs.Vector.{Vector}
-use Rattle.plane.proofs.Bools.{false-if-never}
-use Rattle.plane.proofs.Heights.{right_of}
+use Rattle.plane.proofs.PlaneKit.{right_of}
 use Rattle.winding.specs.ConflictFree.{IsConflictFree}
-use Rattle.winding.specs.Member.{In}
+use Rattle.lists.specs.Member.{In}
 use Rattle.winding.specs.Parity.{is_even}
-use Rattle.winding.proofs.Sums.{total-is}
-use Rattle.winding.proofs.Members.{in-either, in-left, in-map, in-right, into-filter}
-use Rattle.nesting.proofs.Nearest.{beyond-order}
-use Rattle.nesting.proofs.RingLists.{pairs-of}
+use Rattle.lists.proofs.Sums.{total-is}
+use Rattle.lists.proofs.Members.{in-either, in-left, in-map, in-right, into-filter, total_none}
+use Rattle.nesting.proofs.NestingKit.{beyond-order, pairs-of}
 use Rattle.std.specs.List.{count_by, filter}
 use Rattle.osm_geom.specs.declared.edge.Edge.{Edge}
 use Rattle.osm_nest.specs.declared.enclosers.Encloser.{Encloser}
-use Rattle.osm_nest.specs.Beside.{IsBestUpTo, IsEncloser, IsEncloserAt, IsEncloserBy, IsNearest, IsNearestRight, IsNearestUpTo, IsRight, better_of, closer_of, is_around, is_nearer, is_right_of, nearer_of}
-use Rattle.osm_nest.specs.Outer.{AreClear, IsOuter}
-use Rattle.osm_nest.proofs.Bools.{clash}
+use Rattle.osm_nest.specs.Beside.{IsBestUpTo, IsEncloser, IsEncloserAt, IsEncloserBy, IsNearest, IsNearestRight, IsNearestUpTo, IsRight, nearer_encloser, nearest_so_far, is_around, is_nearer, is_right_of, nearer_edge}
+use Rattle.osm_nest.specs.Outer.{AreConflictFree, IsOuter}
+use Rattle.lists.proofs.Bools.{clash, not-false-out}
 use Rattle.osm_nest.proofs.Beside.{nearer-at, nearer-chain, not-nearer, not-nearer-itself, right-at}
 use Rattle.osm_nest.proofs.Further.{one-more, plain-further}
 use Rattle.osm_nest.proofs.InPlane.{segment_at, segments_times, whole-at}
-use Rattle.osm_nest.proofs.NestedRings.{none-in}
 use Rattle.osm_nest.proofs.RingAnchors.{plain-along, same-along}
-use Rattle.sided.specs.Multiple.{IsWholeAt, common_den}
+use Rattle.plane_edges.specs.Multiple.{IsWholeAt, common_den}
 
 -- ---- in one ring
 in-more : (es : List Edge) (x f : Edge) → In f (es ++ x ∷ []) → (In f es) ⊎ (f ≡ x)
@@ -65,7 +62,7 @@ module _ (a : Edge) (es : List Edge) (x : Edge) where
         (in-more es x f i);
   }
 
-  taken : (best : Option Edge) → is_right_of a x ≡ true → IsNearestRight a es best → IsNearest a more (closer_of a best x)
+  taken : (best : Option Edge) → is_right_of a x ≡ true → IsNearestRight a es best → IsNearest a more (nearest_so_far a best x)
   taken None r inv = record {
     member = last-in es x;
     right = r;
@@ -76,15 +73,15 @@ module _ (a : Edge) (es : List Edge) (x : Edge) where
   }
   taken (Some e) r inv = closer-by e (is_nearer a x e) refl r inv
 
-  nearest-by : (best : Option Edge) (b : Bool) → is_right_of a x ≡ b → IsNearestRight a es best → IsNearestRight a more (cond b (Some (closer_of a best x)) best)
+  nearest-by : (best : Option Edge) (b : Bool) → is_right_of a x ≡ b → IsNearestRight a es best → IsNearestRight a more (cond b (Some (nearest_so_far a best x)) best)
   nearest-by best true r inv = taken best r inv
   nearest-by best false r inv = skipped best r inv
 
-pub nearest-step : (a : Edge) (es : List Edge) (n : ℕ) (best next : Option Edge) (x : Edge) → n < length es → x ≡ get_or es n x → next ≡ nearer_of a best x → IsNearestRight a (take n es) best → IsNearestRight a (take (n + 1) es) next
+pub nearest-step : (a : Edge) (es : List Edge) (n : ℕ) (best next : Option Edge) (x : Edge) → n < length es → x ≡ get_or es n x → next ≡ nearer_edge a best x → IsNearestRight a (take n es) best → IsNearestRight a (take (n + 1) es) next
 nearest-step a es n best next x h is be inv =
     let same : take (n + 1) es ≡ take n es ++ x ∷ [] = take_more es n x h ∙ ap (λ y. take n es ++ y ∷ []) (sym is) in
     subst (λ o. IsNearestRight a (take (n + 1) es) o) (sym be)
-    (subst (λ l. IsNearestRight a l (nearer_of a best x)) (sym same) (nearest-by a (take n es) x best (is_right_of a x) refl inv))
+    (subst (λ l. IsNearestRight a l (nearer_edge a best x)) (sym same) (nearest-by a (take n es) x best (is_right_of a x) refl inv))
 
 pub found-right : (a : Edge) (es : List Edge) (n : ℕ) (best : Option Edge) → IsNearestRight a (take n es) best → IfSome best (λ e. IsRight a e)
 found-right a es n None inv = tt
@@ -95,14 +92,10 @@ module _ (k : ℕ) (a f g : Edge) (wa : IsWholeAt k a) (wf : IsWholeAt k f) (wg 
   abbrev p : Vector
   p = (segment_at k a).from
 
-  turned : (b : Bool) → not b ≡ false → b ≡ true
-  turned true h = refl
-  turned false h = cc
-
   either-by : (s t : plane.Edge) → (s ≡ t) ⊎ ((right_of p s t ≡ not (right_of p t s)) ⊎ (right_of p t s ≡ not (right_of p s t))) → right_of p s t ≡ false → (s ≡ t) ⊎ (right_of p t s ≡ true)
   either-by s t (inl e) n = inl e
   either-by s t (inr (inr h)) n = inr (h ∙ ap not n)
-  either-by s t (inr (inl h)) n = inr (turned (right_of p t s) (sym h ∙ n))
+  either-by s t (inr (inl h)) n = inr (not-false-out (right_of p t s) (sym h ∙ n))
 
   back : (segment_at k f ≡ segment_at k g) ⊎ (right_of p (segment_at k g) (segment_at k f) ≡ true) → (segment_at k f ≡ segment_at k g) ⊎ (is_nearer a g f ≡ true)
   back (inl e) = inl e
@@ -118,7 +111,7 @@ module _ (k : ℕ) (a f g : Edge) (wa : IsWholeAt k a) (wf : IsWholeAt k f) (wg 
       (sym (nearer-at k a f g wa wf wg) ∙ n))
 
 -- the same in one ring
-module _ (a : Edge) (es : List Edge) (clear : AreClear es) (f g : Edge) (i : In f es) (j : In g es) where
+module _ (a : Edge) (es : List Edge) (clear : AreConflictFree es) (f g : Edge) (i : In f es) (j : In g es) where
   abbrev at_all : ℕ
   at_all = common_den (a ∷ es)
 
@@ -161,14 +154,14 @@ module _ (rs : List (List Edge)) (a : Edge) (n : ℕ) where
   behind-by : (b c : Encloser) (f : Edge) → IsEncloserBy rs a b → IsEncloserBy rs a c → is_right_of a f ≡ true → is_nearer a c.edge b.edge ≡ false → (f ≡ c.edge) ⊎ (is_nearer a c.edge f ≡ true) → is_nearer a f b.edge ≡ false
   behind-by b c f ib ic r n (inl e) = ap (λ x. is_nearer a x b.edge) e ∙ n
   behind-by b c f ib ic r n (inr m) =
-      false-if-never (is_nearer a f b.edge) (λ k. clash (is_nearer a c.edge b.edge) (nearer-chain a c.edge f b.edge ic.edge.right r ib.edge.right m k) n)
+      false_from_ne_true (is_nearer a f b.edge) (λ k. clash (is_nearer a c.edge b.edge) (nearer-chain a c.edge f b.edge ic.edge.right r ib.edge.right m k) n)
 
-  module _ (clear : AreClear (get_or rs n [])) where
+  module _ (clear : AreConflictFree (get_or rs n [])) where
     behind : (b c : Encloser) (f : Edge) → IsEncloserBy rs a b → c.place ≡ n → IsEncloserBy rs a c → In f (get_or rs n []) → is_right_of a f ≡ true → is_nearer a c.edge b.edge ≡ false → is_nearer a f b.edge ≡ false
     behind b c f ib at ic i r m =
         let ring = get_or rs c.place [] in
         let j : In f ring = subst (λ k. In f (get_or rs k [])) (sym at) i in
-        let clear_c : AreClear ring = subst (λ k. AreClear (get_or rs k [])) (sym at) clear in
+        let clear_c : AreConflictFree ring = subst (λ k. AreConflictFree (get_or rs k [])) (sym at) clear in
         behind-by b c f ib ic r m (in-ring a ring clear_c f c.edge j ic.edge.member r ic.edge.right (ic.edge.nearest f j r))
 
     chosen : (b c : Encloser) (d : Bool) → is_nearer a c.edge b.edge ≡ d → IsNearestUpTo rs a n b → c.place ≡ n → IsEncloserBy rs a c → IsBestUpTo rs a (n + 1) (cond d (Some c) (Some b))
@@ -187,7 +180,7 @@ module _ (rs : List (List Edge)) (a : Edge) (n : ℕ) where
           (cases_lt k n);
     }
 
-    pub better-step : (best next : Option Encloser) → IsBestUpTo rs a n best → IsEncloserAt rs a n next → IsBestUpTo rs a (n + 1) (better_of a best next)
+    pub better-step : (best next : Option Encloser) → IsBestUpTo rs a n best → IsEncloserAt rs a n next → IsBestUpTo rs a (n + 1) (nearer_encloser a best next)
     better-step None None inv at = none-more inv at
     better-step None (Some c) inv at = first-candidate c inv at.0 at.1
     better-step (Some b) None inv at = kept b inv at
@@ -204,7 +197,7 @@ next-right rs a n (Some c) at = at.1.edge.right
 -- ---- a candidate
 none-around : (a : Edge) (es : List Edge) → ((f : Edge) → In f es → is_right_of a f ≡ false) → is_around a es ≡ false
 none-around a es h =
-    let n : count_by (is_right_of a) es ≡ 0 = sym (total-is (λ f. bit (is_right_of a f)) es) ∙ none-in (λ f. bit (is_right_of a f)) es (λ f i. ap bit (h f i)) in
+    let n : count_by (is_right_of a) es ≡ 0 = sym (total-is (λ f. bit (is_right_of a f)) es) ∙ total_none (λ f. bit (is_right_of a f)) es (λ f i. ap bit (h f i)) in
     ap (λ k. not (is_even k)) n
 
 pub encloser-by : (rs : List (List Edge)) (a : Edge) (k : ℕ) (r : List Edge) (e : Edge) → k < length rs → r ≡ get_or rs k r → IsOuter (get_or rs k []) → is_around a r ≡ true → IsNearest a r e → (k ≡ k) × IsEncloserBy rs a (record { place = k; edge = e })

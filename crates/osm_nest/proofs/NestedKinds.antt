@@ -5,24 +5,22 @@ use Rattle.std.proofs.Math.Nat.{div-add-mod, mul-mod_right}
 use Rattle.std.proofs.lemmas.Bool.{eq-eqb, eqb-true}
 use Rattle.nesting.specs.Polygon.{IsPolygon}
 use Rattle.nesting.specs.Nesting.{EnclosesDirectly, IsInnerRing, IsOuterRing, encloses}
-use Rattle.nesting.proofs.DirectEnclosure.{encloses_law}
-use Rattle.nesting.proofs.Nests.{encloses-not}
-use Rattle.nesting.proofs.RingLists.{ring_list_nest}
+use Rattle.nesting.proofs.NestingKit.{encloses_law, encloses-not, ring_list_nest}
 use Rattle.plane.specs.Bit.{bit}
-use Rattle.winding.specs.Member.{In}
+use Rattle.lists.specs.Member.{In}
 use Rattle.winding.specs.Parity.{is_even}
 use Rattle.winding.specs.Ring.{segments_of}
-use Rattle.winding.proofs.Anchors.{anchor_one}
-use Rattle.winding.proofs.Members.{all-in, in-all, in-map}
-use Rattle.winding.proofs.Sums.{total, total-++, total-is}
+use Rattle.winding.proofs.WindingKit.{anchor_one}
+use Rattle.lists.proofs.Members.{all-in, in-all, in-map, total_none}
+use Rattle.lists.proofs.Sums.{total, total-++, total-is}
 use Rattle.osm_geom.specs.declared.edge.Edge.{Edge}
 use Rattle.osm_rings.specs.Turned.{IsTurned}
-use Rattle.sided.specs.Multiple.{common_den, edges_times}
-use Rattle.sided.proofs.Commons.{common_is_common}
+use Rattle.plane_edges.specs.Multiple.{common_den, edges_times}
+use Rattle.plane_edges.proofs.EdgesKit.{common_is_common}
 use Rattle.osm_nest.specs.declared.polygon.Polygon.{Polygon}
 use Rattle.osm_nest.specs.Beside.{is_around, is_right_of}
 use Rattle.osm_nest.specs.Laws.{IsAroundInners}
-use Rattle.osm_nest.specs.Nested.{AreBegun, AreNested, ArePolygonsOf, HasKinds, IsBegun, IsPolygonBegun}
+use Rattle.osm_nest.specs.Nested.{AreFromLeast, AreNested, ArePolygonsOf, HasKinds, IsFromLeast, IsPolygonFromLeast}
 use Rattle.osm_nest.specs.Outer.{IsAnchorOf, IsInner, IsOuter}
 use Rattle.osm_nest.specs.Polygons.{polygon_times, rings_of}
 use Rattle.osm_nest.specs.RingLists.{AreRings, all_edges, whole_rings}
@@ -30,21 +28,18 @@ use Rattle.osm_nest.proofs.BegunPolygons.{in-rings, was}
 use Rattle.osm_nest.proofs.Further.{factor-some, part}
 use Rattle.osm_nest.proofs.InPlane.{segment_at, segments_times}
 use Rattle.osm_nest.proofs.MultipliedRings as rings
-use Rattle.osm_nest.proofs.NestedRings.{none-in, none-out}
+use Rattle.osm_nest.proofs.NestedRings.{none-out}
 use Rattle.osm_nest.proofs.TurnedAnchors.{anchor-turned, runs-turned}
+use Rattle.plane.proofs.SignKit.{bit-yes}
 
 -- ---- the ring that was begun elsewhere
-begun-by : (r : List Edge) (rs : List (List Edge)) (f : List Edge) (others : List (List Edge)) → IsBegun r f → (b : List Edge) → (b ≡ f) ⊎ In b others → (In b others → (g : List Edge) × In g rs × IsBegun g b) → (g : List Edge) × In g (r ∷ rs) × IsBegun g b
-begun-by r rs f others t b (inl e) h = (r, inl refl, subst (IsBegun r) (sym e) t)
+begun-by : (r : List Edge) (rs : List (List Edge)) (f : List Edge) (others : List (List Edge)) → IsFromLeast r f → (b : List Edge) → (b ≡ f) ⊎ In b others → (In b others → (g : List Edge) × In g rs × IsFromLeast g b) → (g : List Edge) × In g (r ∷ rs) × IsFromLeast g b
+begun-by r rs f others t b (inl e) h = (r, inl refl, subst (IsFromLeast r) (sym e) t)
 begun-by r rs f others t b (inr i) h = let a = h i in (a.0, inr a.1, a.2)
 
-begun-from : (rs bs : List (List Edge)) → AreBegun rs bs → (b : List Edge) → In b bs → (g : List Edge) × In g rs × IsBegun g b
+begun-from : (rs bs : List (List Edge)) → AreFromLeast rs bs → (b : List Edge) → In b bs → (g : List Edge) × In g rs × IsFromLeast g b
 begun-from [] bs h b i = absurd (subst (In b) h i)
 begun-from (r ∷ rs) bs h b i = begun-by r rs h.0 h.1 h.3 b (subst (In b) h.2 i) (begun-from rs h.1 h.4 b)
-
-no-bit : (b : Bool) → bit (not b) ≡ 0 → b ≡ true
-no-bit true h = refl
-no-bit false h = cc
 
 turned-around : (a : Edge) (p q : List Edge) → IsTurned p q → is_around a q ≡ is_around a p
 turned-around a p q t =
@@ -81,11 +76,11 @@ module _ (rs : List (List Edge)) (are : AreRings rs) where
   divides : (ps : List Polygon) → ArePolygonsOf rs ps → (r : List Edge) → In r (rings_of ps) → rings.Divides rs r
   divides ps of r i =
       let f = λ (r : List Edge). bit (not (fits r)) in
-      let none : total f rs ≡ 0 = none-in f rs (λ x j. ap (λ b. bit (not b)) (fits-in x j)) in
+      let none : total f rs ≡ 0 = total_none f rs (λ x j. ap (λ b. bit (not b)) (fits-in x j)) in
       let all : total f (rings_of ps) ≡ 0 = total-is f (rings_of ps) ∙ of.once f ∙ sym (total-is f rs) ∙ none in
-      fits-out r (no-bit (fits r) (none-out f (rings_of ps) r all i))
+      fits-out r (bit-yes (fits r) (none-out f (rings_of ps) r all i))
 
-  module _ (ps : List Polygon) (of : ArePolygonsOf rs ps) (g b : Polygon) (ig : In g ps) (is : IsPolygonBegun g b) where
+  module _ (ps : List Polygon) (of : ArePolygonsOf rs ps) (g b : Polygon) (ig : In g ps) (is : IsPolygonFromLeast g b) where
     polygon : IsPolygon (whole_rings rs) (polygon_times K g)
     polygon = in-all (λ (g : Polygon). IsPolygon (whole_rings rs) (polygon_times K g)) ps g of.each ig
 

@@ -1,4 +1,4 @@
--- Each ring list has its polygons in order: homes, rings begun at their least nodes, and a sorted order of them exist.
+-- Each ring list has its polygons in order: enclosers, rings begun at their least nodes, and a sorted order of them exist.
 use Rattle.std.proofs.Common.{All, Bool, List, None, Option, Some, [], ap, arith, drop, false, get_or, inl, inr, length, map, refl, subst, suc, sym, take, true, zero, ℕ, ◌+◌, ◌++◌, ◌<◌, ◌∙◌, ◌∷◌, ◌≡◌, ◌≢◌, ◌≤◌}
 use Rattle.std.specs.Cmp.{IsStrictWeakOrder}
 use Rattle.std.specs.List.Sorted.{IsPermutation, IsSortedBy}
@@ -9,22 +9,22 @@ use Rattle.std.proofs.lemmas.List.{get_or-map, get_or_default, length-append, le
 use Rattle.std.proofs.lemmas.List.MinMax.{ranks_by}
 use Rattle.std.proofs.lemmas.List.Sorted.{IsPermutation-append_comm, IsPermutation-append_left, IsPermutation-cons, IsPermutation-refl, IsPermutation-trans}
 use Rattle.nesting.specs.Nesting.{EnclosesDirectly, IsInnerRing}
-use Rattle.nesting.proofs.DirectRings.{encloser_exists, is_outer_by, outer-in, rings-anchors, rings-tell}
+use Rattle.nesting.proofs.NestingKit.{encloser_exists, is_outer_by, outer-in, rings-anchors, rings-tell}
 use Rattle.plane.specs.Edge as plane
-use Rattle.winding.specs.Member.{In}
+use Rattle.lists.specs.Member.{In}
 use Rattle.winding.specs.Ring.{segments_of}
-use Rattle.winding.proofs.Members.{in-map}
+use Rattle.lists.proofs.Members.{in-map}
 use Rattle.osm_geom.specs.declared.edge.Edge.{Edge}
 use Rattle.osm_geom.specs.Point.{point_cmp}
-use Rattle.sided.specs.Multiple.{common_den, edge_times, edges_times}
-use Rattle.osm_nest.specs.declared.begun.Begun.{Begun}
+use Rattle.plane_edges.specs.Multiple.{common_den, edge_times, edges_times}
+use Rattle.osm_nest.specs.declared.rings_from_least.RingFromLeast.{RingFromLeast}
 use Rattle.osm_nest.specs.declared.polygon.Polygon.{Polygon}
-use Rattle.osm_nest.specs.Grouped.{AreInTurn, AreListed, IsBegunAt, grouped, start_cmp}
-use Rattle.osm_nest.specs.Homes.{AreHomes, IsHome, segments_at}
-use Rattle.osm_nest.specs.Nested.{AreNested, IsBegun}
+use Rattle.osm_nest.specs.Grouped.{AreSortedFromLeast, AreListed, IsFromLeastAt, polygons_of, start_cmp}
+use Rattle.osm_nest.specs.Enclosers.{AreDirectEnclosers, IsDirectEncloser, segments_at}
+use Rattle.osm_nest.specs.Nested.{AreNested, IsFromLeast}
 use Rattle.osm_nest.specs.RingLists.{AreRings, all_edges, whole_rings}
 use Rattle.osm_nest.proofs.GroupedRings.{nested}
-use Rattle.osm_nest.proofs.Items.{at-in, in-at}
+use Rattle.lists.proofs.Items.{at-in, in-at}
 use Rattle.osm_nest.proofs.Turns.{starts-total, turns}
 use Rattle.osm_rings.specs.LeastStart.{IsLesserStart}
 use Rattle.osm_rings.proofs.LeastStarts.{IsLeastUpTo, least-more, least-start}
@@ -43,43 +43,43 @@ chosen {X} P (suc n) h =
     each x xs p ps (suc k) d l = ps k d (omega arith)
 
 -- ---- a sorted order
-module _ (lt : Begun → Begun → Bool) (order : IsStrictWeakOrder lt) where
-  abbrev put_by : Bool → Begun → Begun → List Begun → List Begun → List Begun
+module _ (lt : RingFromLeast → RingFromLeast → Bool) (order : IsStrictWeakOrder lt) where
+  abbrev put_by : Bool → RingFromLeast → RingFromLeast → List RingFromLeast → List RingFromLeast → List RingFromLeast
   put_by true b c cs more = c ∷ more
   put_by false b c cs more = b ∷ c ∷ cs
 
   -- b put before the first that isn't less
-  abbrev put_in : Begun → List Begun → List Begun
+  abbrev put_in : RingFromLeast → List RingFromLeast → List RingFromLeast
   put_in b [] = b ∷ []
   put_in b (c ∷ cs) = put_by (lt c b) b c cs (put_in b cs)
 
-  abbrev sorted : List Begun → List Begun
+  abbrev sorted : List RingFromLeast → List RingFromLeast
   sorted [] = []
   sorted (b ∷ bs) = put_in b (sorted bs)
 
-  put-moves : (t : Bool) (b c : Begun) (cs more : List Begun) → IsPermutation (b ∷ cs) more → IsPermutation (b ∷ c ∷ cs) (put_by t b c cs more)
+  put-moves : (t : Bool) (b c : RingFromLeast) (cs more : List RingFromLeast) → IsPermutation (b ∷ cs) more → IsPermutation (b ∷ c ∷ cs) (put_by t b c cs more)
   put-moves true b c cs more h =
       IsPermutation-trans (b ∷ c ∷ cs) (c ∷ b ∷ cs) (c ∷ more) (IsPermutation-append_left cs (b ∷ c ∷ []) (c ∷ b ∷ []) (IsPermutation-append_comm (b ∷ []) (c ∷ []))) (IsPermutation-cons c (b ∷ cs) more h)
   put-moves false b c cs more h = IsPermutation-refl (b ∷ c ∷ cs)
 
-  put-in-moves : (b : Begun) (cs : List Begun) → IsPermutation (b ∷ cs) (put_in b cs)
+  put-in-moves : (b : RingFromLeast) (cs : List RingFromLeast) → IsPermutation (b ∷ cs) (put_in b cs)
   put-in-moves b [] = IsPermutation-refl (b ∷ [])
   put-in-moves b (c ∷ cs) = put-moves (lt c b) b c cs (put_in b cs) (put-in-moves b cs)
 
-  sorted-moves : (bs : List Begun) → IsPermutation bs (sorted bs)
+  sorted-moves : (bs : List RingFromLeast) → IsPermutation bs (sorted bs)
   sorted-moves [] = IsPermutation-refl []
   sorted-moves (b ∷ bs) = IsPermutation-trans (b ∷ bs) (b ∷ sorted bs) (put_in b (sorted bs)) (IsPermutation-cons b bs (sorted bs) (sorted-moves bs)) (put-in-moves b (sorted bs))
 
   -- the first of a list isn't less than b
-  abbrev Heads : Begun → List Begun → Type 0
+  abbrev Heads : RingFromLeast → List RingFromLeast → Type 0
   Heads b [] = Unit {0}
   Heads b (c ∷ cs) = lt c b ≡ false
 
-  abbrev Rises : List Begun → Type 0
+  abbrev Rises : List RingFromLeast → Type 0
   Rises [] = Unit {0}
   Rises (b ∷ bs) = Heads b bs × Rises bs
 
-  put-heads : (a b : Begun) (cs : List Begun) → lt b a ≡ false → Heads a cs → Heads a (put_in b cs)
+  put-heads : (a b : RingFromLeast) (cs : List RingFromLeast) → lt b a ≡ false → Heads a cs → Heads a (put_in b cs)
   put-heads a b [] h k = h
   put-heads a b (c ∷ cs) h k = by (lt c b)
     where
@@ -87,30 +87,30 @@ module _ (lt : Begun → Begun → Bool) (order : IsStrictWeakOrder lt) where
       by true = k
       by false = h
 
-  put-up : (b c : Begun) (cs : List Begun) (t : Bool) → lt c b ≡ t → Rises (c ∷ cs) → Rises (put_in b cs) → Rises (put_by t b c cs (put_in b cs))
+  put-up : (b c : RingFromLeast) (cs : List RingFromLeast) (t : Bool) → lt c b ≡ t → Rises (c ∷ cs) → Rises (put_in b cs) → Rises (put_by t b c cs (put_in b cs))
   put-up b c cs true e h more = (put-heads c b cs (order.one_way c b e) h.0, more)
   put-up b c cs false e h more = (e, h)
 
-  put-rises : (b : Begun) (cs : List Begun) → Rises cs → Rises (put_in b cs)
+  put-rises : (b : RingFromLeast) (cs : List RingFromLeast) → Rises cs → Rises (put_in b cs)
   put-rises b [] h = (tt, tt)
   put-rises b (c ∷ cs) h = put-up b c cs (lt c b) refl h (put-rises b cs h.1)
 
-  sorted-rises : (bs : List Begun) → Rises (sorted bs)
+  sorted-rises : (bs : List RingFromLeast) → Rises (sorted bs)
   sorted-rises [] = tt
   sorted-rises (b ∷ bs) = put-rises b (sorted bs) (sorted-rises bs)
 
-  rises-sorted : (bs : List Begun) → Rises bs → IsSortedBy lt bs
+  rises-sorted : (bs : List RingFromLeast) → Rises bs → IsSortedBy lt bs
   rises-sorted [] h = λ k d l m. absurd (omega arith)
   rises-sorted (b ∷ bs) h = by bs h.0 (rises-sorted bs h.1)
     where
-      by : (bs : List Begun) → Heads b bs → IsSortedBy lt bs → IsSortedBy lt (b ∷ bs)
+      by : (bs : List RingFromLeast) → Heads b bs → IsSortedBy lt bs → IsSortedBy lt (b ∷ bs)
       by [] h up k d l m = absurd (omega arith)
       by (c ∷ cs) h up zero d l m = h
       by (c ∷ cs) h up (suc k) d l m =
           let one : suc k + 1 ≡ suc (k + 1) = omega arith in
           subst (λ n. lt (get_or (b ∷ c ∷ cs) n d) (get_or (c ∷ cs) k d) ≡ false) (sym one) (up k d (omega arith) (omega arith))
 
-  sorted-order : (bs : List Begun) → IsSortedBy lt (sorted bs)
+  sorted-order : (bs : List RingFromLeast) → IsSortedBy lt (sorted bs)
   sorted-order bs = rises-sorted (sorted bs) (sorted-rises bs)
 
 -- ---- a ring begun at its least node
@@ -139,7 +139,7 @@ least-up-to es some (suc n) h =
     let one : n + 1 ≡ suc n = omega arith in
     (next.0, subst (λ m. IsLeastUpTo es m next.0) one (least-more es n before.0 next.0 (omega arith) before.1 next.1))
 
-begun-of : (es : List Edge) → 0 < length es → (r : List Edge) × IsBegun es r
+begun-of : (es : List Edge) → 0 < length es → (r : List Edge) × IsFromLeast es r
 begun-of es some =
     let n = least-up-to es some (length es) (omega arith) in
     let least : All (λ e. point_cmp e.from (get_or es n.0 e).from ≢ Less) es = λ k d l.
@@ -152,7 +152,7 @@ begun-of es some =
       },
     )
 
-begun-at : (es : List Edge) (place : ℕ) → 0 < length es → (b : Begun) × IsBegunAt es place b
+begun-at : (es : List Edge) (place : ℕ) → 0 < length es → (b : RingFromLeast) × IsFromLeastAt es place b
 begun-at es place some =
     let r = begun-of es some in
     let t = r.1.turned in
@@ -166,7 +166,7 @@ begun-at es place some =
       },
     )
 
--- ---- homes
+-- ---- enclosers
 module _ (rs : List (List Edge)) (are : AreRings rs) where
   abbrev k : ℕ
   k = common_den (all_edges rs)
@@ -183,18 +183,18 @@ module _ (rs : List (List Edge)) (are : AreRings rs) where
       let a = rings-anchors gs are.ring_list (segments_at rs n) i in
       record { anchor = a.0; anchors = a.1; up = sym (rings-tell gs are.ring_list (segments_at rs n) i a.0 a.1) ∙ e }
 
-  home-by : (n : ℕ) → n < length rs → (b : Bool) → is_outer_by gs are.ring_list (segments_at rs n) ≡ b → (o : Option ℕ) × IsHome rs n o
-  home-by n h true e = (None, outer-in gs are.ring_list (segments_at rs n) (in-map segments_of gs (get_or gs n []) (at-place n h)) e)
-  home-by n h false e =
+  encloser-by : (n : ℕ) → n < length rs → (b : Bool) → is_outer_by gs are.ring_list (segments_at rs n) ≡ b → (o : Option ℕ) × IsDirectEncloser rs n o
+  encloser-by n h true e = (None, outer-in gs are.ring_list (segments_at rs n) (in-map segments_of gs (get_or gs n []) (at-place n h)) e)
+  encloser-by n h false e =
       let o = inner-in n h e in
       let r = encloser_exists gs are.ring_list (get_or gs n []) (at-place n h) o in
       let p = in-at r.0 gs r.1 in
       let s = length-map rs (edges_times k) in
       (Some p.0, (omega arith, o, subst (λ g. EnclosesDirectly (map segments_of gs) (segments_of g) (segments_at rs n)) (sym (p.2 [])) r.2))
 
-  homes-exist : (homes : List (Option ℕ)) × AreHomes rs homes
-  homes-exist =
-      let c = chosen (λ n o. IsHome rs n o) (length rs) (λ n h. home-by n h (is_outer_by gs are.ring_list (segments_at rs n)) refl) in
+  enclosers-exist : (enclosers : List (Option ℕ)) × AreDirectEnclosers rs enclosers
+  enclosers-exist =
+      let c = chosen (λ n o. IsDirectEncloser rs n o) (length rs) (λ n h. encloser-by n h (is_outer_by gs are.ring_list (segments_at rs n)) refl) in
       (c.0, record { sized = c.1; right = λ n h. c.2 n None h })
 
   -- ---- begun rings, in order
@@ -204,21 +204,21 @@ module _ (rs : List (List Edge)) (are : AreRings rs) where
       let b = ap length (get_or-map (edges_times k) rs n [] [] h) in
       let c = length-map (get_or rs n []) (edge_times k) in omega arith
 
-  listed-exists : (listed : List Begun) × AreListed rs (length rs) listed
+  listed-exists : (listed : List RingFromLeast) × AreListed rs (length rs) listed
   listed-exists =
-      let c = chosen (λ n b. IsBegunAt (get_or rs n []) n b) (length rs) (λ n h. begun-at (get_or rs n []) n (some-edge n h)) in
+      let c = chosen (λ n b. IsFromLeastAt (get_or rs n []) n b) (length rs) (λ n h. begun-at (get_or rs n []) n (some-edge n h)) in
       (c.0, record { sized = c.1; each = c.2 })
 
-  abbrev before : Begun → Begun → Bool
+  abbrev before : RingFromLeast → RingFromLeast → Bool
   before b c = is_lt (start_cmp b.start c.start)
 
   before-ranks : IsStrictWeakOrder before
-  before-ranks = ranks_by starts-total (λ (b : Begun). b.start)
+  before-ranks = ranks_by starts-total (λ (b : RingFromLeast). b.start)
 
-  turn-exists : (bs : List Begun) × AreInTurn rs bs
+  turn-exists : (bs : List RingFromLeast) × AreSortedFromLeast rs bs
   turn-exists =
       let l = listed-exists in
       (sorted before before-ranks l.0, turns rs are l.0 (sorted before before-ranks l.0) l.1 (sorted-moves before before-ranks l.0) (sorted-order before before-ranks l.0))
 
   pub nesting_exists : (ps : List Polygon) × AreNested rs ps
-  nesting_exists = let h = homes-exist in let t = turn-exists in (grouped h.0 t.0, nested rs are h.0 h.1 t.0 t.1)
+  nesting_exists = let h = enclosers-exist in let t = turn-exists in (polygons_of h.0 t.0, nested rs are h.0 h.1 t.0 t.1)

@@ -1,5 +1,5 @@
 -- Anchors of rings: that there is one, that it is one alone, and how the ring winds.
-use Rattle.std.proofs.Common.{◌≡◌, inl, inr, Bool, true, false, not, ℕ, ◌%◌, ◌⊎◌, ◌↔◌, ◌-ℤ◌, ℤ, pos, List, [], ◌∷◌, length, map, cond, refl, sym, ap, subst, ◌∙◌}
+use Rattle.std.proofs.Common.{◌≡◌, inl, inr, Bool, true, false, not, ℕ, ◌%◌, ◌⊎◌, ◌↔◌, ◌-ℤ◌, ℤ, pos, List, [], ◌∷◌, length, cond, refl, sym, ap, subst, ◌∙◌}
 use Rattle.plane.specs.Conflict.{IsClearOf}
 use Rattle.plane.specs.Edge as plane
 use Rattle.plane.specs.Edge.{segment_of}
@@ -7,30 +7,28 @@ use Rattle.plane.specs.Order.{order}
 use Rattle.plane.specs.Scale.{scaled_edge, scaled_point}
 use Rattle.plane.specs.Sign.{Plus, is_plus, sign}
 use Rattle.plane.specs.Vector.{Vector, east, same_point}
-use Rattle.plane.proofs.Conflicts.{self_conflicts}
-use Rattle.plane.proofs.Scaling.{order-scaled, point-scaled}
+use Rattle.plane.proofs.PlaneKit.{self_conflicts, order-scaled, point-scaled}
 use Rattle.winding.specs.ConflictFree.{IsConflictFree}
 use Rattle.winding.specs.EdgeList.{crossing_count, winding_number}
-use Rattle.winding.specs.Member.{EachPair, In}
+use Rattle.lists.specs.Member.{In}
 use Rattle.winding.specs.Ring.{IsAnchor, IsPath, segments_of}
 use Rattle.winding.specs.Ring as winding
 use Rattle.winding.specs.ScaledEdges.{scaled_edges}
-use Rattle.winding.proofs.Anchors.{anchor_one, ring_by_anchor}
-use Rattle.winding.proofs.ConflictFree.{rising_in}
-use Rattle.winding.proofs.Members.{all-in, in-all, in-map, in-map-out}
-use Rattle.winding.proofs.ScaledLists.{map-map, plain_scaled}
-use Rattle.nesting.proofs.DirectRings.{pairs-unmap}
-use Rattle.nesting.proofs.RingLists.{pairs-of}
-use Rattle.sided.specs.Multiple.{common_den, edge_times, whole_edges}
-use Rattle.sided.proofs.MultipliedEdges.{rises_alike}
+use Rattle.winding.proofs.WindingKit.{anchor_one, ring_by_anchor, rising_in, plain_scaled}
+use Rattle.lists.proofs.Members.{in-map, pairs-map}
+use Rattle.lists.proofs.Maps.{map-map}
+use Rattle.nesting.proofs.NestingKit.{pairs-unmap, pairs-of}
+use Rattle.plane_edges.specs.Multiple.{common_den, edge_times, whole_edges}
+use Rattle.plane_edges.proofs.EdgesKit.{rises_alike}
 use Rattle.osm_geom.specs.declared.edge.Edge.{Edge}
 use Rattle.osm_geom.specs.Edge.{runs_up}
 use Rattle.osm_rings.specs.Ring.{IsRing}
 use Rattle.osm_rings.proofs.PlaneRings.{plane-ring}
-use Rattle.osm_nest.specs.Outer.{AnchorRuns, AreClear, IsAnchorOf, IsInner, IsOuter, WindsBySign}
+use Rattle.osm_nest.specs.Outer.{AnchorRuns, AreConflictFree, IsAnchorOf, IsInner, IsOuter, WindsBySign}
 use Rattle.osm_nest.proofs.Further.{anchor-scaled, segment-scaled, segments-scaled}
 use Rattle.osm_nest.proofs.InPlane.{segment_at, segments_times, whole-at}
 use Rattle.osm_nest.proofs.Leftmost.{IsFirstUpTo, along, first-is-anchor, segments_along}
+use Rattle.lists.proofs.Bools.{not-false-out, not-true-out}
 
 -- ---- the segments of the multiplied list
 pub segments-are : (es : List Edge) → segments_of (whole_edges es) ≡ segments_along es
@@ -51,9 +49,9 @@ module _ (k : ℕ) (es : List Edge) (plain : IsConflictFree (segments_times k es
   same-along e f i j s =
       one-by e f i s (pairs-of (λ x y. IsClearOf (segment_at k x) (segment_at k y)) es e f (pairs-unmap (segment_at k) IsClearOf es plain.clear) i j)
 
-module _ (es : List Edge) (clear : AreClear es) where
+module _ (es : List Edge) (clear : AreConflictFree es) where
   pub plain-along : IsConflictFree (segments_along es)
-  plain-along = subst IsConflictFree (segments-are es) clear.clear
+  plain-along = subst IsConflictFree (segments-are es) clear
 
   pub anchor-along : (e : Edge) → IsAnchorOf e es → IsAnchor (along es e) (segments_along es)
   anchor-along e a = subst (λ l. IsAnchor (along es e) l) (segments-are es) a.anchor
@@ -73,25 +71,11 @@ module _ (es : List Edge) (clear : AreClear es) where
   runs-out : (e : Edge) (up : Bool) → IsAnchorOf e es → AnchorRuns up es → runs_up e ≡ up
   runs-out e up a r = ap runs_up (one-anchor e r.anchor a r.is_anchor) ∙ r.direction
 
-  not-back : (b : Bool) → not b ≡ true → b ≡ false
-  not-back true h = cc
-  not-back false h = refl
-
-  not-back-false : (b : Bool) → not b ≡ false → b ≡ true
-  not-back-false true h = refl
-  not-back-false false h = cc
-
   pub outer-by : (e : Edge) → IsAnchorOf e es → (not (runs_up e) ≡ true) ↔ IsOuter es
-  outer-by e a = (λ h. runs-into e false a (not-back (runs_up e) h), λ r. ap not (runs-out e false a r))
+  outer-by e a = (λ h. runs-into e false a (not-true-out (runs_up e) h), λ r. ap not (runs-out e false a r))
 
   pub inner-by : (e : Edge) → IsAnchorOf e es → (not (runs_up e) ≡ false) ↔ IsInner es
-  inner-by e a = (λ h. runs-into e true a (not-back-false (runs_up e) h), λ r. ap not (runs-out e true a r))
-
--- ---- multiplied
-pairs-map : {X Y : Type 0} (f : X → Y) (R : X → X → Type 0) (S : Y → Y → Type 0) (xs : List X) → ((x y : X) → R x y → S (f x) (f y)) → EachPair R xs → EachPair S (map f xs)
-pairs-map f R S [] h p = tt
-pairs-map f R S (x ∷ xs) h p =
-    (all-in (S (f x)) (map f xs) (λ y i. let r = in-map-out f xs y i in subst (λ w. S (f x) w) (sym r.2) (h x r.0 (in-all (R x) xs r.0 p.0 r.1))), pairs-map f R S xs h p.1)
+  inner-by e a = (λ h. runs-into e true a (not-false-out (runs_up e) h), λ r. ap not (runs-out e true a r))
 
 module _ (k : ℤ) (hk : sign k ≡ Plus) where
   path-scaled : (a : Vector) (es : List plane.Edge) (b : Vector) → IsPath a es b → IsPath (scaled_point k a) (scaled_edges k es) (scaled_point k b)
@@ -117,13 +101,13 @@ swapped : {X : Type 0} (b : Bool) (x y : X) → cond b x y ≡ cond (not b) y x
 swapped true x y = refl
 swapped false x y = refl
 
-pub winds-by-sign : (es : List Edge) (e : Edge) → AreClear es → IsRing es → IsAnchorOf e es → WindsBySign (not (runs_up e)) es
+pub winds-by-sign : (es : List Edge) (e : Edge) → AreConflictFree es → IsRing es → IsAnchorOf e es → WindsBySign (not (runs_up e)) es
 winds-by-sign es e clear ring a q hq p =
     let k = common_den es in
     let at = scaled_point (pos k) p in
     let g = plane-ring k es e (whole-at es) ring in
     let i : In (edge_times k e) (whole_edges es) = in-map (edge_times k) es e a.member in
     let n = crossing_count east at (scaled_edges q (whole_edges es)) % 2 in
-    winds-scaled q hq (edge_times k e) (whole_edges es) g clear.clear i a.anchor at
+    winds-scaled q hq (edge_times k e) (whole_edges es) g clear i a.anchor at
     ∙ ap (λ b. cond b (pos 0 -ℤ pos n) (pos n)) (sym (rises_alike k e (whole-at es e a.member)))
     ∙ swapped (runs_up e) (pos 0 -ℤ pos n) (pos n)

@@ -1,13 +1,20 @@
 -- The edges of rings, listed as items.
-use Rattle.std.proofs.Common.{List, [], ap, arith, get_or, inl, inr, length, refl, subst, sym, take, ℕ, ◌++◌, ◌+◌, ◌<◌, ◌∙◌, ◌∷◌, ◌≡◌, ◌≤◌, ◌⊎◌, ⊎_elim}
-use Rattle.std.proofs.lemmas.Bool.{cases_lt}
+use Rattle.std.proofs.Common.{Bool, List, [], ap, arith, get_or, inl, inr, length, refl, subst, sym, take, not, true, false, ℕ, ◌++◌, ◌+◌, ◌<◌, ◌∙◌, ◌∷◌, ◌≡◌, ◌≤◌, ◌⊎◌, ⊎_elim}
+use Rattle.std.specs.List.{IsAllAdjacentAnswer}
+use Rattle.std.specs.Ordering.{is_lt}
+use Rattle.std.proofs.lemmas.Bool.{cases_lt, not-true}
+use Rattle.std.proofs.lemmas.List.MinMax.{ranks_by}
+use Rattle.std.proofs.lemmas.List.Sorted.{sorted_far}
+use Rattle.osm_geom.specs.Point.{point_cmp}
+use Rattle.osm_geom.specs.Span.{lower_end}
+use Rattle.osm_geom.proofs.GeometryKit.{point_total}
 use Rattle.std.proofs.lemmas.List.{get_or_default, take_all, take_more}
-use Rattle.winding.specs.Member.{In}
-use Rattle.winding.proofs.Members.{all-in, in-either, in-left, in-right}
+use Rattle.lists.specs.Member.{In}
+use Rattle.lists.proofs.Members.{all-in, in-either, in-left, in-right}
 use Rattle.osm_geom.specs.declared.edge.Edge.{Edge}
 use Rattle.osm_nest.specs.declared.ring_edges.RingEdge.{RingEdge}
 use Rattle.osm_nest.specs.Beside.{IsSloping}
-use Rattle.osm_nest.specs.SweptEdges.{AreSlopingEdges, AreSlopingUpTo, AreRingEdges, IsSlopingEdge}
+use Rattle.osm_nest.specs.SweptEdges.{AreSlopingEdges, AreSlopingUpTo, AreRingEdges, IsSlopingEdge, StartsRise}
 
 module _ (place n : ℕ) (ring : List Edge) (old so_far : List RingEdge) (e : Edge) (inside : n < length ring) (at : e ≡ get_or ring n e) (is : AreRingEdges place n ring old so_far) where
   more : take (n + 1) ring ≡ take n ring ++ e ∷ []
@@ -60,3 +67,10 @@ module _ (rs : List (List Edge)) (n : ℕ) (r : List Edge) (inside : n < length 
 
 pub all-items : (rs : List (List Edge)) (n : ℕ) (items : List RingEdge) → n ≡ length rs → AreSlopingUpTo rs n items → AreSlopingEdges rs items
 all-items rs n items e is = record { each = all-in (IsSlopingEdge rs) items is.each; whole = λ k h. is.whole k (omega arith) }
+
+-- no edge begins before the one that stands before it, and so none before an earlier one
+pub rise-by-neighbours : (items : List RingEdge) (r : Bool) → r ≡ true → IsAllAdjacentAnswer (λ i j b. b ≡ not (is_lt (point_cmp (lower_end j.edge.now) (lower_end i.edge.now)))) items r → StartsRise items
+rise-by-neighbours items true h told =
+    sorted_far (λ (i j : RingEdge). is_lt (point_cmp (lower_end i.edge.now) (lower_end j.edge.now))) (ranks_by point_total (λ (i : RingEdge). lower_end i.edge.now)) items
+    (λ k d from inside. not-true _ (sym (told k d inside)))
+rise-by-neighbours items false h told = absurd (cc)

@@ -2,36 +2,34 @@
 use Rattle.std.proofs.Common.{Bool, List, [], ap, arith, drop, false, filter, get_or, length, not, refl, subst, suc, sym, take, true, zero, ℕ, ℤ, ⊎_elim, ◌-◌, ◌&&◌, ◌+◌, ◌-ℤ◌, ◌<◌, ◌∙◌, ◌≡◌, ◌≤◌, ◌⊎◌}
 use borrow.Author.Differences.{ints}
 use Rattle.std.specs.Ordering.{is_lt}
-use Rattle.std.proofs.lemmas.Bool.{cases_lt}
+use Rattle.std.proofs.lemmas.Bool.{cases_lt, and_from}
 use Rattle.std.proofs.lemmas.List.{get_or-drop, get_or-take, length-drop, length-take-le, take-append-drop}
 use Rattle.nesting.specs.Nesting.{edges_of}
-use Rattle.nesting.proofs.Nests.{in-edges}
-use Rattle.nesting.proofs.RingLists.{nest-plain}
+use Rattle.nesting.proofs.NestingKit.{in-edges, nest-plain}
 use Rattle.plane.specs.Edge as plane
 use Rattle.plane.specs.Height.{is_in_span}
 use Rattle.plane.specs.Order.{order}
 use Rattle.plane.specs.Sign.{Minus, Null, Plus, Sign, is_plus, sign, then_sign}
 use Rattle.plane.specs.Vector.{Vector}
-use Rattle.plane.proofs.Bools.{and-in, and-left, and-right}
-use Rattle.plane.proofs.Heights.{tall-by}
-use Rattle.plane.proofs.Signs.{is_plus-true, says-at, sign-from}
-use Rattle.winding.specs.Member.{In}
-use Rattle.winding.proofs.Members.{in-all, in-filter, in-left, in-map}
+use Rattle.lists.proofs.Bools.{and-left, and-right, clash}
+use Rattle.plane.proofs.PlaneKit.{tall-by}
+use Rattle.plane.proofs.SignKit.{is_plus-true, says-at, sign-from}
+use Rattle.lists.specs.Member.{In}
+use Rattle.lists.proofs.Members.{in-all, in-filter, in-left, in-map}
 use Rattle.status.specs.Status.{IsStatus}
-use Rattle.status.proofs.Statuses.{rises-among}
+use Rattle.status.proofs.StatusKit.{rises-among}
 use Rattle.osm_geom.specs.declared.edge.Edge.{Edge}
 use Rattle.osm_geom.specs.declared.point.Point.{Point}
 use Rattle.osm_geom.specs.Span.{lower_end}
-use Rattle.sided.specs.Multiple.{common_den}
+use Rattle.plane_edges.specs.Multiple.{common_den}
 use Rattle.osm_nest.specs.declared.ring_edges.RingEdge.{RingEdge}
 use Rattle.osm_nest.specs.RingLists.{AreRings, all_edges, whole_rings}
 use Rattle.osm_nest.specs.SweptEdges.{AreSlopingEdges, IsSlopingEdge, IsRowPut, PutRow, StartsRise, is_within}
 use Rattle.osm_nest.proofs.DirectEnclosers.{listed, nest, segments-in}
 use Rattle.osm_nest.proofs.InPlane.{lt-plus, order-at, segment_at, segments_times, spans-at}
-use Rattle.osm_nest.proofs.Bools.{clash}
 use Rattle.osm_nest.proofs.FilteredLists.{filter-alike, filter-narrower, in-sooner}
-use Rattle.osm_nest.proofs.Items.{at-in, in-at}
-use Rattle.osm_nest.proofs.LeftHomes.{seg}
+use Rattle.lists.proofs.Items.{at-in, in-at}
+use Rattle.osm_nest.proofs.LeftEnclosers.{seg}
 use Rattle.osm_nest.proofs.SweptRows.{put-row, same_get, whole-of, whole-status, within-is}
 
 not-plus-first : (s t : Sign) → is_plus (then_sign s t) ≡ false → not (is_plus s) ≡ true
@@ -125,7 +123,7 @@ module _ (rs : List (List Edge)) (are : AreRings rs) (items : List RingEdge) (of
     both x i s =
         let t = segment_at K x.edge.now in
         let high = is_plus-true (sign (t.to.y -ℤ p'.y)) (and-right (not (is_plus (sign (t.from.y -ℤ p'.y)))) (is_plus (sign (t.to.y -ℤ p'.y))) s) in
-        and-in (not (is_plus (sign (t.from.y -ℤ swept.p.y)))) (is_plus (sign (t.to.y -ℤ swept.p.y))) (swept.begun x i) (ap is_plus (sum-plus t.to.y p'.y swept.p.y high up))
+        and_from (not (is_plus (sign (t.from.y -ℤ swept.p.y)))) (is_plus (sign (t.to.y -ℤ swept.p.y))) (swept.begun x i) (ap is_plus (sum-plus t.to.y p'.y swept.p.y high up))
       where
         sum-plus : (b c d : ℤ) → sign (b -ℤ c) ≡ Plus → sign (c -ℤ d) ≡ Plus → sign (b -ℤ d) ≡ Plus
         sum-plus b c d h k = let x = says-at Plus (b -ℤ c) h in let y = says-at Plus (c -ℤ d) k in sign-from Plus (b -ℤ d) (omega (arith, ints))
@@ -236,7 +234,7 @@ module _ (rs : List (List Edge)) (are : AreRings rs) (items : List RingEdge) (of
         let t = segment_at K x.edge.now in let p = (segment_at K a.edge.now).from in let q = (at j d).from in
         let s = sym (within-is rs are items of (get_or items j d) (at-in items j d l) x xi) ∙ on in
         within-is rs are items of a in-items x xi
-        ∙ and-in (not (is_plus (sign (t.from.y -ℤ p.y)))) (is_plus (sign (t.to.y -ℤ p.y)))
+        ∙ and_from (not (is_plus (sign (t.from.y -ℤ p.y)))) (is_plus (sign (t.to.y -ℤ p.y)))
         (row-begun next way.alive (filter w new) way.swept a inside is-a to row x (passed-members x i))
         (over-more t.to.y q.y p.y (and-right (not (is_plus (sign (t.from.y -ℤ q.y)))) (is_plus (sign (t.to.y -ℤ q.y))) s) (after next way.alive (filter w new) way.swept a inside is-a to row j d h l))
 

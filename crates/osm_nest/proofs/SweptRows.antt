@@ -2,32 +2,31 @@
 use Rattle.std.proofs.Common.{Bool, List, [], ap, arith, cond, drop, false, filter, get_or, inl, inr, length, refl, subst, suc, sym, take, true, zero, ℕ, ◌&&◌, ◌++◌, ◌+◌, ◌-◌, ◌<◌, ◌∙◌, ◌∷◌, ◌≡◌, ◌≢◌, ◌≤◌, ⊎_elim}
 use Rattle.std.specs.List.{sum_by}
 use Rattle.std.specs.Ordering.{is_lt}
-use Rattle.std.proofs.lemmas.Bool.{cases_eq, cases_lt}
+use Rattle.std.proofs.lemmas.Bool.{cases_eq, cases_lt, and_from}
 use Rattle.std.proofs.lemmas.List.{append-nil, take-append-drop, take_more}
 use Rattle.std.proofs.lemmas.List.Elements.{filter-append}
 use Rattle.std.proofs.lemmas.List.Sums.{sum_by-append, sum_by-cons}
 use Rattle.plane.specs.Edge as plane
 use Rattle.plane.specs.Height.{is_in_span}
 use Rattle.plane.specs.Vector.{Vector}
-use Rattle.plane.proofs.Bools.{and-in, and-right}
-use Rattle.plane.proofs.Heights.{right_chain, right_itself, right_of}
-use Rattle.winding.specs.Member.{In}
-use Rattle.winding.proofs.Members.{in-all, in-filter, in-left, in-passes, in-right, into-filter}
+use Rattle.lists.proofs.Bools.{and-right, clash}
+use Rattle.plane.proofs.PlaneKit.{right_chain, right_itself, right_of}
+use Rattle.lists.specs.Member.{In}
+use Rattle.lists.proofs.Members.{in-all, in-filter, in-left, in-passes, in-right, into-filter}
 use Rattle.status.specs.Status.{IsRight, IsStatus, spanning}
-use Rattle.status.proofs.Statuses.{fits, present}
+use Rattle.status.proofs.StatusKit.{fits, present}
 use Rattle.osm_geom.specs.declared.edge.Edge.{Edge}
 use Rattle.osm_geom.specs.JustAbove.{just_above_cmp}
 use Rattle.osm_geom.specs.Span.{lower_end, spans}
-use Rattle.sided.specs.Multiple.{IsWholeAt, common_den}
+use Rattle.plane_edges.specs.Multiple.{IsWholeAt, common_den}
 use Rattle.osm_nest.specs.declared.ring_edges.RingEdge.{RingEdge}
 use Rattle.osm_nest.specs.RingLists.{AreRings, all_edges}
 use Rattle.osm_nest.specs.SweptEdges.{AreSlopingEdges, HasNeighbour, IsSlopingEdge, PutRow, is_within, left_at}
 use Rattle.osm_nest.specs.Beside.{IsSloping}
-use Rattle.osm_nest.proofs.Bools.{clash}
 use Rattle.osm_nest.proofs.DirectEnclosers.{whole-in}
 use Rattle.osm_nest.proofs.InPlane.{above-at, segment_at, spans-at}
-use Rattle.osm_nest.proofs.Items.{at-in}
-use Rattle.osm_nest.proofs.LeftHomes.{seg}
+use Rattle.lists.proofs.Items.{at-in}
+use Rattle.osm_nest.proofs.LeftEnclosers.{seg}
 
 pub same_get : {X : Type 0} (xs : List X) (i : ℕ) (d e : X) → i < length xs → get_or xs i d ≡ get_or xs i e
 same_get [] i d e h = absurd (omega arith)
@@ -141,8 +140,8 @@ module _ (rs : List (List Edge)) (are : AreRings rs) (items : List RingEdge) (of
 
     not-right : (t : RingEdge) → In t items → is_in_span o (segment_at K t.edge.now) ≡ true → right_of o (segment_at K t.edge.now) (segment_at K a) ≡ true → left_at (lower_end a) t.edge.now a ≡ true
     not-right t it st r =
-        and-in (spans t.edge.now (lower_end a) && spans a (lower_end a)) (is_lt (just_above_cmp t.edge.now a (lower_end a)))
-        (and-in (spans t.edge.now (lower_end a)) (spans a (lower_end a)) (spans-at K a t.edge.now wa (whole-of t it) ∙ st) slopes) (above-at K a t.edge.now a wa (whole-of t it) wa ∙ r)
+        and_from (spans t.edge.now (lower_end a) && spans a (lower_end a)) (is_lt (just_above_cmp t.edge.now a (lower_end a)))
+        (and_from (spans t.edge.now (lower_end a)) (spans a (lower_end a)) (spans-at K a t.edge.now wa (whole-of t it) ∙ st) slopes) (above-at K a t.edge.now a wa (whole-of t it) wa ∙ r)
 
     pub stands-next : seg rs are items of (get_or status (has.place + 1) e) ≡ segment_at K a
     stands-next =

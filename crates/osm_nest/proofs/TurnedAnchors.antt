@@ -3,11 +3,11 @@ use Rattle.std.proofs.Common.{Bool, List, ap, not, subst, sym, ℕ, ◌∙◌, �
 use Rattle.std.proofs.Math.Nat.{mul_comm}
 use Rattle.plane.specs.Edge as plane
 use Rattle.plane.specs.Edge.{same_edge, segment_of}
-use Rattle.winding.specs.Member.{In}
+use Rattle.lists.specs.Member.{In}
 use Rattle.winding.specs.Ring.{IsAnchor, segments_of}
-use Rattle.winding.proofs.Members.{in-filter, in-map, in-map-out, in-passes, into-filter}
+use Rattle.lists.proofs.Members.{in-filter, in-map, in-map-out, in-passes, into-filter}
 use Rattle.osm_geom.specs.declared.edge.Edge.{Edge}
-use Rattle.sided.specs.Multiple.{common_den, edge_times, edges_times}
+use Rattle.plane_edges.specs.Multiple.{common_den, edge_times, edges_times}
 use Rattle.osm_rings.specs.Turned.{IsTurned}
 use Rattle.osm_nest.specs.Outer.{AnchorRuns, IsAnchorOf}
 use Rattle.osm_nest.proofs.InPlane.{common-append}

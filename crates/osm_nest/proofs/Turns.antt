@@ -1,4 +1,4 @@
--- Begun rings sorted by where they begin are in order, since no two begin with the same edge.
+-- RingFromLeast rings sorted by where they begin are in order, since no two begin with the same edge.
 use Rattle.std.proofs.Common.{AllPairs, List, [], ap, arith, false, get_or, length, refl, subst, sym, ℕ, ◌<◌, ◌∙◌, ◌≡◌, ◌≢◌, ◌≤◌}
 use Rattle.std.specs.List.Sorted.{IsPermutation, IsSortedBy}
 use Rattle.std.specs.Ordering.{is_lt, ordering_reverse, ordering_then}
@@ -8,25 +8,25 @@ use Rattle.std.proofs.lemmas.Cmp.{on_total, then_total, tied_itself}
 use Rattle.std.proofs.lemmas.List.{get_or-map, length-append, length-map}
 use Rattle.std.proofs.lemmas.List.MinMax.{ranks_by}
 use Rattle.std.proofs.lemmas.List.Sorted.{sorted_far}
-use Rattle.nesting.proofs.Parts.{sided-once}
+use Rattle.nesting.proofs.NestingKit.{sided-once}
 use Rattle.nesting.specs.Nesting.{edges_of}
-use Rattle.winding.specs.Member.{In}
-use Rattle.winding.proofs.Members.{in-map}
+use Rattle.lists.specs.Member.{In}
+use Rattle.lists.proofs.Members.{in-map}
 use Rattle.osm_geom.specs.declared.edge.Edge.{Edge}
 use Rattle.osm_geom.specs.declared.point.Point.{Point}
 use Rattle.osm_geom.specs.Point.{point_cmp}
-use Rattle.osm_geom.proofs.TotalPoints.{point_same, point_total}
+use Rattle.osm_geom.proofs.GeometryKit.{point_same, point_total}
 use Rattle.std.specs.Cmp.{IsTotalOrder}
-use Rattle.osm_nest.specs.declared.begun.Begun.{Begun}
-use Rattle.osm_nest.specs.declared.begun.Start.{Start}
-use Rattle.osm_nest.specs.Grouped.{AreInTurn, AreListed, IsBegunAt, start_cmp}
+use Rattle.osm_nest.specs.declared.rings_from_least.RingFromLeast.{RingFromLeast}
+use Rattle.osm_nest.specs.declared.rings_from_least.Start.{Start}
+use Rattle.osm_nest.specs.Grouped.{AreSortedFromLeast, AreListed, IsFromLeastAt, start_cmp}
 use Rattle.osm_nest.specs.Nested.{IsBefore}
 use Rattle.osm_nest.specs.RingLists.{AreRings, all_edges, whole_rings}
 use Rattle.osm_nest.proofs.Listing.{turned-in}
-use Rattle.osm_nest.proofs.Bools.{clash}
-use Rattle.osm_nest.proofs.Items.{at-in}
+use Rattle.lists.proofs.Bools.{clash}
+use Rattle.lists.proofs.Items.{at-in}
 use Rattle.osm_nest.proofs.Places.{placed, rings-apart, stand}
-use Rattle.sided.specs.Multiple.{common_den, edge_times, edges_times, point_times}
+use Rattle.plane_edges.specs.Multiple.{common_den, edge_times, edges_times, point_times}
 
 pub starts-total : IsTotalOrder start_cmp
 starts-total = then_total (on_total (λ (s : Start). s.from) point_total) (on_total (λ (s : Start). s.to) point_total)
@@ -54,11 +54,11 @@ module _ (s t : Start) (after : is_lt (start_cmp t s) ≡ false) (apart : s.from
   pub start-before : ordering_then (point_cmp s.from t.from) (point_cmp s.to t.to) ≡ Less
   start-before = by-from (point_cmp s.from t.from) refl
 
-module _ (rs : List (List Edge)) (are : AreRings rs) (listed bs : List Begun) (all : AreListed rs (length rs) listed) (moved : IsPermutation listed bs) (sorted : IsSortedBy (λ (b c : Begun). is_lt (start_cmp b.start c.start)) bs) where
+module _ (rs : List (List Edge)) (are : AreRings rs) (listed bs : List RingFromLeast) (all : AreListed rs (length rs) listed) (moved : IsPermutation listed bs) (sorted : IsSortedBy (λ (b c : RingFromLeast). is_lt (start_cmp b.start c.start)) bs) where
   abbrev k : ℕ
   k = common_den (all_edges rs)
 
-  first-in : (n : ℕ) (b : Begun) → n < length rs → IsBegunAt (get_or rs n []) n b → (d : Edge) → In (edge_times k (get_or b.ring 0 d)) (get_or (whole_rings rs) n [])
+  first-in : (n : ℕ) (b : RingFromLeast) → n < length rs → IsFromLeastAt (get_or rs n []) n b → (d : Edge) → In (edge_times k (get_or b.ring 0 d)) (get_or (whole_rings rs) n [])
   first-in n b h is d =
       let r = get_or rs n [] in
       let here : get_or (whole_rings rs) n [] ≡ edges_times k r = get_or-map (edges_times k) rs n [] [] h in
@@ -70,7 +70,7 @@ module _ (rs : List (List Edge)) (are : AreRings rs) (listed bs : List Begun) (a
       let d = ap length t.old in let e = ap length t.new in omega arith in
       subst (In (edge_times k (get_or b.ring 0 d))) (sym here) (in-map (edge_times k) r (get_or b.ring 0 d) (turned-in r b.ring t (get_or b.ring 0 d) (at-in b.ring 0 d some)))
 
-  starts-apart : (b c : Begun) → b.place ≢ c.place → (b.place < length rs) × IsBegunAt (get_or rs b.place []) b.place b → (c.place < length rs) × IsBegunAt (get_or rs c.place []) c.place c → (d : Edge) → b.start.from ≡ c.start.from → b.start.to ≡ c.start.to → ⊥
+  starts-apart : (b c : RingFromLeast) → b.place ≢ c.place → (b.place < length rs) × IsFromLeastAt (get_or rs b.place []) b.place b → (c.place < length rs) × IsFromLeastAt (get_or rs c.place []) c.place c → (d : Edge) → b.start.from ≡ c.start.from → b.start.to ≡ c.start.to → ⊥
   starts-apart b c n (h, is) (l, it) d f t =
       let from : (get_or b.ring 0 d).from ≡ (get_or c.ring 0 d).from = is.starts.from d ∙ (f ∙ sym (it.starts.from d)) in
       let to : (get_or b.ring 0 d).to ≡ (get_or c.ring 0 d).to = is.starts.to d ∙ (t ∙ sym (it.starts.to d)) in
@@ -80,12 +80,12 @@ module _ (rs : List (List Edge)) (are : AreRings rs) (listed bs : List Begun) (a
       rings-apart (whole_rings rs) (sided-once (edges_of (whole_rings rs)) are.ring_list.sided) b.place c.place e n (omega arith) (omega arith) (first-in b.place b h is d)
       (subst (λ x. In x (get_or (whole_rings rs) c.place [])) same (first-in c.place c l it d))
 
-  in-order : AllPairs (λ (b c : Begun). IsBefore b.ring c.ring) bs
+  in-order : AllPairs (λ (b c : RingFromLeast). IsBefore b.ring c.ring) bs
   in-order i j z h l d =
       let b = get_or bs i z in let c = get_or bs j z in
       let x = stand rs listed bs all moved i z (omega arith) in
       let y = stand rs listed bs all moved j z l in
-      let far = sorted_far (λ (b c : Begun). is_lt (start_cmp b.start c.start)) (ranks_by starts-total (λ (b : Begun). b.start)) bs sorted i j z (omega arith) l in
+      let far = sorted_far (λ (b c : RingFromLeast). is_lt (start_cmp b.start c.start)) (ranks_by starts-total (λ (b : RingFromLeast). b.start)) bs sorted i j z (omega arith) l in
       let apart = starts-apart b c ((placed rs listed bs all moved).once i j z h l) x y d in
       let before = start-before b.start c.start far apart in
       let from : point_cmp (get_or b.ring 0 d).from (get_or c.ring 0 d).from ≡ point_cmp b.start.from c.start.from =
@@ -94,5 +94,5 @@ module _ (rs : List (List Edge)) (are : AreRings rs) (listed bs : List Begun) (a
       ap (λ p. point_cmp p (get_or c.ring 0 d).to) (x.1.starts.to d) ∙ ap (λ p. point_cmp b.start.to p) (y.1.starts.to d) in
       ap (λ o. ordering_then o (point_cmp (get_or b.ring 0 d).to (get_or c.ring 0 d).to)) from ∙ (ap (λ o. ordering_then (point_cmp b.start.from c.start.from) o) to ∙ before)
 
-  pub turns : AreInTurn rs bs
+  pub turns : AreSortedFromLeast rs bs
   turns = record { listed = listed; are = all; moved = moved; order = in-order }

@@ -2,7 +2,7 @@
 use Rattle.std.specs.Prelude.{Bool, List, None, Option, Some, [], cond, false, get_or, length, not, true, ℕ, ◌&&◌, ◌<◌, ◌≡◌}
 use Rattle.std.specs.List.{count_by}
 use Rattle.std.specs.Ordering.{is_lt}
-use Rattle.winding.specs.Member.{In}
+use Rattle.lists.specs.Member.{In}
 use Rattle.winding.specs.Parity.{is_even}
 use Rattle.osm_geom.specs.declared.edge.Edge.{Edge}
 use Rattle.osm_geom.specs.JustAbove.{just_above_cmp}
@@ -40,13 +40,13 @@ IsNearestRight a es None = (f : Edge) → In f es → is_right_of a f ≡ false
 IsNearestRight a es (Some e) = IsNearest a es e
 
 -- the nearer of what was found and the next edge
-abbrev pub closer_of : Edge → Option Edge → Edge → Edge
-closer_of a None next = next
-closer_of a (Some e) next = cond (is_nearer a next e) next e
+abbrev pub nearest_so_far : Edge → Option Edge → Edge → Edge
+nearest_so_far a None next = next
+nearest_so_far a (Some e) next = cond (is_nearer a next e) next e
 
 -- the same, where the next edge counts only right of a
-abbrev pub nearer_of : Edge → Option Edge → Edge → Option Edge
-nearer_of a found next = cond (is_right_of a next) (Some (closer_of a found next)) found
+abbrev pub nearer_edge : Edge → Option Edge → Edge → Option Edge
+nearer_edge a found next = cond (is_right_of a next) (Some (nearest_so_far a found next)) found
 
 -- the ring at a place is outer, and around a
 pub record IsEncloser (rs : List (List Edge)) (a : Edge) (place : ℕ) : Type 0 where
@@ -63,10 +63,10 @@ abbrev pub IsEncloserAt : List (List Edge) → Edge → ℕ → Option Encloser 
 IsEncloserAt rs a place None = IsEncloser rs a place → ⊥
 IsEncloserAt rs a place (Some c) = (c.place ≡ place) × IsEncloserBy rs a c
 
-abbrev pub better_of : Edge → Option Encloser → Option Encloser → Option Encloser
-better_of a None next = next
-better_of a (Some b) None = Some b
-better_of a (Some b) (Some c) = cond (is_nearer a c.edge b.edge) (Some c) (Some b)
+abbrev pub nearer_encloser : Edge → Option Encloser → Option Encloser → Option Encloser
+nearer_encloser a None next = next
+nearer_encloser a (Some b) None = Some b
+nearer_encloser a (Some b) (Some c) = cond (is_nearer a c.edge b.edge) (Some c) (Some b)
 
 -- of the edges right of a of all candidates up to a place none is nearer
 pub record IsNearestUpTo (rs : List (List Edge)) (a : Edge) (place : ℕ) (c : Encloser) : Type 0 where

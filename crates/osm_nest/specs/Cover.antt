@@ -8,7 +8,7 @@ use Rattle.osm_geom.specs.declared.edge.Edge.{Edge}
 use Rattle.osm_nest.specs.declared.polygon.Polygon.{Polygon}
 use Rattle.osm_nest.specs.Polygons.{edges_in}
 use Rattle.osm_nest.specs.RingLists.{all_edges}
-use Rattle.sided.specs.Sided.{IsSided, count_at}
+use Rattle.plane_edges.specs.Sided.{IsSided, count_at}
 
 -- the polygon covers the point p.x / q, p.y / q: its parity there is odd
 abbrev pub covers_at : ℤ → Vector → Polygon → Bool

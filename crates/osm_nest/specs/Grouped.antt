@@ -1,15 +1,16 @@
--- Rings begun at their least nodes, in order, and grouped under the outer ones. No public contract cites it.
-use Rattle.std.specs.Prelude.{All, AllPairs, Bool, List, None, Option, Some, [], false, map, nat_eq, slice_index_or, true, ℕ, length, ◌<◌, ◌≡◌, ◌≢◌}
+-- Rings begun at their least nodes, in order, and gathered under the outer ones. No public contract cites it.
+use Rattle.std.specs.Prelude.{All, AllPairs, Bool, List, None, Option, Some, [], false, map, nat_eq, slice_index_or, true, ℕ, length, ◌<◌, ◌∷◌, ◌≡◌, ◌≢◌}
 use Rattle.std.specs.List.{filter}
 use Rattle.std.specs.List.Sorted.{IsPermutation}
 use Rattle.std.specs.Ordering.{ordering_then}
 use Rattle.std.specs.declared.cmp.Ordering.{Ordering}
 use Rattle.osm_geom.specs.declared.edge.Edge.{Edge}
 use Rattle.osm_geom.specs.Point.{point_cmp}
-use Rattle.osm_nest.specs.declared.begun.Begun.{Begun}
-use Rattle.osm_nest.specs.declared.begun.Start.{Start}
+use Rattle.osm_nest.specs.declared.rings_from_least.RingFromLeast.{RingFromLeast}
+use Rattle.osm_nest.specs.declared.rings_from_least.Start.{Start}
 use Rattle.osm_nest.specs.declared.polygon.Polygon.{Polygon}
-use Rattle.osm_nest.specs.Nested.{IsBefore, IsBegun}
+use Rattle.osm_nest.specs.Enclosers.{AreDirectEnclosers}
+use Rattle.osm_nest.specs.Nested.{IsBefore, IsFromLeast}
 
 -- the first edge of the ring has these ends
 pub record StartsAt (ring : List Edge) (start : Start) : Type 0 where
@@ -21,58 +22,70 @@ abbrev pub start_cmp : Start → Start → Ordering
 start_cmp s t = ordering_then (point_cmp s.from t.from) (point_cmp s.to t.to)
 
 -- the ring at a place, begun at its least node
-pub record IsBegunAt (ring : List Edge) (place : ℕ) (begun : Begun) : Type 0 where
+pub record IsFromLeastAt (ring : List Edge) (place : ℕ) (begun : RingFromLeast) : Type 0 where
   pub here : begun.place ≡ place
-  pub turned : IsBegun ring begun.ring
+  pub turned : IsFromLeast ring begun.ring
   pub starts : StartsAt begun.ring begun.start
 
 -- the first of the rings, each begun at its least node
-pub record AreListed (rs : List (List Edge)) (count : ℕ) (listed : List Begun) : Type 0 where
+pub record AreListed (rs : List (List Edge)) (count : ℕ) (listed : List RingFromLeast) : Type 0 where
   pub sized : length listed ≡ count
-  pub each : (place : ℕ) (d : Begun) → place < count → IsBegunAt (slice_index_or rs place []) place (slice_index_or listed place d)
+  pub each : (place : ℕ) (d : RingFromLeast) → place < count → IsFromLeastAt (slice_index_or rs place []) place (slice_index_or listed place d)
 
 -- all of the rings, each begun at its least node, in order
-pub record AreInTurn (rs : List (List Edge)) (begun : List Begun) : Type 0 where
-  pub listed : List Begun
+pub record AreSortedFromLeast (rs : List (List Edge)) (begun : List RingFromLeast) : Type 0 where
+  pub listed : List RingFromLeast
   pub are : AreListed rs (length rs) listed
   pub moved : IsPermutation listed begun
-  pub order : AllPairs (λ (b c : Begun). IsBefore b.ring c.ring) begun
+  pub order : AllPairs (λ (b c : RingFromLeast). IsBefore b.ring c.ring) begun
 
-abbrev pub has_no_home : Option ℕ → Bool
-has_no_home None = true
-has_no_home (Some home) = false
+abbrev pub has_no_encloser : Option ℕ → Bool
+has_no_encloser None = true
+has_no_encloser (Some encloser) = false
 
-abbrev pub has_home : ℕ → Option ℕ → Bool
-has_home place None = false
-has_home place (Some home) = nat_eq home place
+abbrev pub has_encloser : ℕ → Option ℕ → Bool
+has_encloser place None = false
+has_encloser place (Some encloser) = nat_eq encloser place
 
--- a ring without a home is outer
-abbrev pub stands_first : List (Option ℕ) → Begun → Bool
-stands_first homes b = has_no_home (slice_index_or homes b.place None)
+-- a ring without a encloser is outer
+abbrev pub stands_first : List (Option ℕ) → RingFromLeast → Bool
+stands_first enclosers b = has_no_encloser (slice_index_or enclosers b.place None)
 
--- one whose home is at the place stands under the ring there
-abbrev pub stands_under : List (Option ℕ) → ℕ → Begun → Bool
-stands_under homes place b = has_home place (slice_index_or homes b.place None)
+-- one whose encloser is at the place stands under the ring there
+abbrev pub stands_under : List (Option ℕ) → ℕ → RingFromLeast → Bool
+stands_under enclosers place b = has_encloser place (slice_index_or enclosers b.place None)
 
-abbrev pub rings_under : List (Option ℕ) → List Begun → ℕ → List (List Edge)
-rings_under homes bs place = map (λ (b : Begun). b.ring) (filter (stands_under homes place) bs)
+abbrev pub rings_under : List (Option ℕ) → List RingFromLeast → ℕ → List (List Edge)
+rings_under enclosers bs place = map (λ (b : RingFromLeast). b.ring) (filter (stands_under enclosers place) bs)
 
-abbrev pub polygon_at : List (Option ℕ) → List Begun → Begun → Polygon
-polygon_at homes bs b = record { outer = b.ring; inners = rings_under homes bs b.place }
+abbrev pub polygon_at : List (Option ℕ) → List RingFromLeast → RingFromLeast → Polygon
+polygon_at enclosers bs b = record { outer = b.ring; inners = rings_under enclosers bs b.place }
 
 -- each outer ring with the rings that stand under it
-abbrev pub grouped : List (Option ℕ) → List Begun → List Polygon
-grouped homes bs = map (polygon_at homes bs) (filter (stands_first homes) bs)
+abbrev pub polygons_of : List (Option ℕ) → List RingFromLeast → List Polygon
+polygons_of enclosers bs = map (polygon_at enclosers bs) (filter (stands_first enclosers) bs)
 
 -- an outer ring with what stands under its place
-abbrev pub with_under : List (List (List Edge)) → Begun → Polygon
+abbrev pub with_under : List (List (List Edge)) → RingFromLeast → Polygon
 with_under under b = record { outer = b.ring; inners = slice_index_or under b.place [] }
 
 -- each begun ring stands at a place of its own
-pub record ArePlaced (count : ℕ) (begun : List Begun) : Type 0 where
-  pub within : All (λ (b : Begun). b.place < count) begun
-  pub once : AllPairs (λ (b c : Begun). b.place ≢ c.place) begun
+pub record ArePlaced (count : ℕ) (begun : List RingFromLeast) : Type 0 where
+  pub within : All (λ (b : RingFromLeast). b.place < count) begun
+  pub once : AllPairs (λ (b c : RingFromLeast). b.place ≢ c.place) begun
 
--- homes are places
+-- enclosers are places
 abbrev pub AreWithin : List (Option ℕ) → Type 0
-AreWithin homes = (place home : ℕ) → slice_index_or homes place None ≡ Some home → home < length homes
+AreWithin enclosers = (place encloser : ℕ) → slice_index_or enclosers place None ≡ Some encloser → encloser < length enclosers
+
+-- each outer ring with those that it directly encloses, all begun at their least nodes and in order
+pub record IsGrouping (rs : List (List Edge)) (polygons : List Polygon) : Type 0 where
+  pub enclosers : List (Option ℕ)
+  pub begun : List RingFromLeast
+  pub right : AreDirectEnclosers rs enclosers
+  pub in_turn : AreSortedFromLeast rs begun
+  pub is : polygons ≡ polygons_of enclosers begun
+
+-- the polygon of one ring alone, begun at its least node
+abbrev pub IsLone : List Edge → List Polygon → Type 0
+IsLone ring polygons = (b : RingFromLeast) × IsFromLeastAt ring 0 b × (polygons ≡ record { outer = b.ring; inners = [] } ∷ [])

@@ -4,11 +4,11 @@ use Rattle.osm_geom.specs.declared.edge.Edge.{Edge}
 use Rattle.osm_nest.specs.declared.polygon.Polygon.{Polygon}
 use Rattle.osm_nest.specs.Beside.{is_around}
 use Rattle.osm_nest.specs.Nested.{AreNested, HasKinds}
-use Rattle.osm_nest.specs.Outer.{AreClear, IsAnchorOf}
+use Rattle.osm_nest.specs.Outer.{AreConflictFree, IsAnchorOf}
 use Rattle.osm_nest.specs.RingLists.{AreRings}
-use Rattle.osm_rings.specs.PlaneEdge.{IsWholeSegment}
+use Rattle.osm_geom.specs.WholeSegment.{IsWholeSegment}
 use Rattle.osm_rings.specs.RingList.{AreRingsOf}
-use Rattle.sided.specs.Sided.{IsSided}
+use Rattle.plane_edges.specs.Sided.{IsSided}
 
 -- the rings of a sided list of edges are rings to be nested
 abbrev pub RingsMayBeNested : Type 0
@@ -20,7 +20,7 @@ RingsRunAlongSegments = (es : List Edge) (rs : List (List Edge)) → All IsWhole
 
 -- of rings to be nested none has a conflict among its own edges, so that each is outer or inner
 abbrev pub RingsAreClear : Type 0
-RingsAreClear = (rs : List (List Edge)) → AreRings rs → All AreClear rs
+RingsAreClear = (rs : List (List Edge)) → AreRings rs → All AreConflictFree rs
 
 -- every list of rings to be nested has its polygons in order
 abbrev pub NestingExists : Type 0

@@ -2,12 +2,11 @@ pub mod Anchors
 pub mod Beside
 pub mod Cover
 pub mod Grouped
-pub mod Homes
+pub mod Enclosers
 pub mod Laws
 pub mod Leftmost
 pub mod Nested
 pub mod Outer
-pub mod Paths
 pub mod Polygons
 pub mod RingLists
 pub mod SweptEdges

@@ -11,7 +11,7 @@ use Rattle.osm_nest.specs.Outer.{IsInner, IsOuter}
 use Rattle.osm_nest.specs.Polygons.{polygon_times, rings_of}
 use Rattle.osm_nest.specs.RingLists.{all_edges, whole_rings}
 use Rattle.osm_rings.specs.Turned.{BeginsLeast, IsTurned}
-use Rattle.sided.specs.Multiple.{common_den}
+use Rattle.plane_edges.specs.Multiple.{common_den}
 
 -- each polygon is an outer ring of the list and inner rings that it directly encloses, and each ring stands in exactly one polygon, there once
 pub record ArePolygonsOf (rs : List (List Edge)) (polygons : List Polygon) : Type 0 where
@@ -24,21 +24,21 @@ pub record HasKinds (polygon : Polygon) : Type 0 where
   pub inners : All IsInner polygon.inners
 
 -- the cyclic list of edges begun with the one that leaves its least node
-pub record IsBegun (ring begun : List Edge) : Type 0 where
+pub record IsFromLeast (ring begun : List Edge) : Type 0 where
   pub turned : IsTurned ring begun
   pub least : BeginsLeast begun
 
-abbrev pub AreBegun : List (List Edge) → List (List Edge) → Type 0
-AreBegun [] begun = begun ≡ []
-AreBegun (r ∷ rs) begun = (first : List Edge) × (others : List (List Edge)) × (begun ≡ first ∷ others) × IsBegun r first × AreBegun rs others
+abbrev pub AreFromLeast : List (List Edge) → List (List Edge) → Type 0
+AreFromLeast [] begun = begun ≡ []
+AreFromLeast (r ∷ rs) begun = (first : List Edge) × (others : List (List Edge)) × (begun ≡ first ∷ others) × IsFromLeast r first × AreFromLeast rs others
 
-pub record IsPolygonBegun (polygon begun : Polygon) : Type 0 where
-  pub outer : IsBegun polygon.outer begun.outer
-  pub inners : AreBegun polygon.inners begun.inners
+pub record IsPolygonFromLeast (polygon begun : Polygon) : Type 0 where
+  pub outer : IsFromLeast polygon.outer begun.outer
+  pub inners : AreFromLeast polygon.inners begun.inners
 
-abbrev pub ArePolygonsBegun : List Polygon → List Polygon → Type 0
-ArePolygonsBegun [] begun = begun ≡ []
-ArePolygonsBegun (p ∷ ps) begun = (first : Polygon) × (others : List Polygon) × (begun ≡ first ∷ others) × IsPolygonBegun p first × ArePolygonsBegun ps others
+abbrev pub ArePolygonsFromLeast : List Polygon → List Polygon → Type 0
+ArePolygonsFromLeast [] begun = begun ≡ []
+ArePolygonsFromLeast (p ∷ ps) begun = (first : Polygon) × (others : List Polygon) × (begun ≡ first ∷ others) × IsPolygonFromLeast p first × ArePolygonsFromLeast ps others
 
 -- the order of rings: by the node that the first edge leaves, then by the node that it enters
 abbrev pub edge_cmp : Edge → Edge → Ordering
@@ -56,5 +56,5 @@ pub record AreInOrder (polygons : List Polygon) : Type 0 where
 pub record AreNested (rs : List (List Edge)) (nested : List Polygon) : Type 0 where
   pub polygons : List Polygon
   pub of_rings : ArePolygonsOf rs polygons
-  pub begun : ArePolygonsBegun polygons nested
+  pub begun : ArePolygonsFromLeast polygons nested
   pub in_order : AreInOrder nested

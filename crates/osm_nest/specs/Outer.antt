@@ -4,16 +4,16 @@ use Rattle.plane.specs.Edge.{segment_of}
 use Rattle.plane.specs.Sign.{Plus, sign}
 use Rattle.plane.specs.Vector.{Vector}
 use Rattle.winding.specs.ConflictFree.{IsConflictFree}
-use Rattle.winding.specs.Member.{In}
+use Rattle.lists.specs.Member.{In}
 use Rattle.winding.specs.Ring.{IsAnchor, segments_of}
 use Rattle.osm_geom.specs.declared.edge.Edge.{Edge}
 use Rattle.osm_geom.specs.Edge.{runs_up}
-use Rattle.sided.specs.Multiple.{common_den, edge_times, whole_edges}
-use Rattle.sided.specs.Sided.{count_at, signed_count_at}
+use Rattle.plane_edges.specs.Multiple.{common_den, edge_times, whole_edges}
+use Rattle.plane_edges.specs.Sided.{count_at, signed_count_at}
 
--- edges no two of which share a point that isn't an end of both
-pub record AreClear (es : List Edge) : Type 0 where
-  pub clear : IsConflictFree (segments_of (whole_edges es))
+-- no two edges share a point that isn't an end of both
+abbrev pub AreConflictFree : List Edge → Type 0
+AreConflictFree es = IsConflictFree (segments_of (whole_edges es))
 
 -- e stands at the least node of the ring and is the leftmost of the edges that rise from there
 pub record IsAnchorOf (e : Edge) (ring : List Edge) : Type 0 where

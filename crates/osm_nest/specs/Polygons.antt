@@ -5,7 +5,7 @@ use Rattle.nesting.specs.Polygon as nesting
 use Rattle.osm_geom.specs.declared.edge.Edge.{Edge}
 use Rattle.osm_nest.specs.declared.polygon.Polygon.{Polygon}
 use Rattle.osm_nest.specs.RingLists.{all_edges}
-use Rattle.sided.specs.Multiple.{edges_times}
+use Rattle.plane_edges.specs.Multiple.{edges_times}
 
 -- the rings of a polygon, the outer one first
 abbrev pub rings_in : Polygon → List (List Edge)

@@ -4,7 +4,7 @@ use Rattle.std.specs.List.{flat_map}
 use Rattle.nesting.specs.RingList.{IsRingList}
 use Rattle.plane.specs.Edge as plane
 use Rattle.osm_geom.specs.declared.edge.Edge.{Edge}
-use Rattle.sided.specs.Multiple.{common_den, edges_times}
+use Rattle.plane_edges.specs.Multiple.{common_den, edges_times}
 
 -- all edges of rings, one ring after the other
 abbrev pub all_edges : List (List Edge) → List Edge

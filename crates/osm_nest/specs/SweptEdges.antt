@@ -1,7 +1,7 @@
 -- The edges of rings in a sweep. No public contract cites it.
 use Rattle.std.specs.Prelude.{All, Bool, List, None, Option, Some, [], false, get_or, insert, length, slice_index_or, suc, take, true, zero, ℕ, ◌⊎◌, ◌&&◌, ◌+◌, ◌-◌, ◌<◌, ◌≡◌, ◌≤◌}
 use Rattle.std.specs.Ordering.{is_lt}
-use Rattle.winding.specs.Member.{In}
+use Rattle.lists.specs.Member.{In}
 use Rattle.osm_geom.specs.declared.edge.Edge.{Edge}
 use Rattle.osm_geom.specs.JustAbove.{just_above_cmp}
 use Rattle.osm_geom.specs.Span.{lower_end, spans}
@@ -9,7 +9,7 @@ use Rattle.osm_nest.specs.declared.ring_edges.RingEdge.{RingEdge}
 use Rattle.osm_geom.specs.declared.point.Point.{Point}
 use Rattle.osm_geom.specs.Point.{point_cmp}
 use Rattle.osm_nest.specs.Beside.{IsSloping}
-use Rattle.osm_nest.specs.Homes.{IsHome}
+use Rattle.osm_nest.specs.Enclosers.{IsDirectEncloser}
 use Rattle.osm_nest.specs.Outer.{IsAnchorOf, IsInner, IsOuter}
 
 -- an edge of the ring at its place, which isn't horizontal
@@ -86,17 +86,17 @@ pub record IsInnerAnchor (rs : List (List Edge)) (a : RingEdge) : Type 0 where
 abbrev pub begin_level : Edge → Edge → Bool
 begin_level e f = spans f (lower_end e) && spans e (lower_end f)
 
--- the homes that are known are right
+-- the enclosers that are known are right
 pub record AreKnown (rs : List (List Edge)) (known : List (Option ℕ)) : Type 0 where
   pub sized : length known ≡ length rs
-  pub right : (place home : ℕ) → place < length rs → get_or known place None ≡ Some home → IsHome rs place (Some home)
+  pub right : (place encloser : ℕ) → place < length rs → get_or known place None ≡ Some encloser → IsDirectEncloser rs place (Some encloser)
 
--- an edge tells the home of an anchor's ring: it is the edge's ring, if that is outer, else the home of that ring
+-- an edge tells the encloser of an anchor's ring: it is the edge's ring, if that is outer, else the encloser of that ring
 pub record IsTeller (rs : List (List Edge)) (a e : RingEdge) : Type 0 where
   pub inside : e.ring < length rs
-  pub outer : IsOuter (get_or rs e.ring []) → IsHome rs a.ring (Some e.ring)
-  pub inner : (home : ℕ) → IsHome rs e.ring (Some home) → IsHome rs a.ring (Some home)
+  pub outer : IsOuter (get_or rs e.ring []) → IsDirectEncloser rs a.ring (Some e.ring)
+  pub inner : (encloser : ℕ) → IsDirectEncloser rs e.ring (Some encloser) → IsDirectEncloser rs a.ring (Some encloser)
 
 -- the neighbour of an anchor in the status does
-abbrev pub TellsHome : List (List Edge) → List RingEdge → RingEdge → Type 0
-TellsHome rs status a = (e : RingEdge) → HasNeighbour a.edge.now status e → IsTeller rs a e
+abbrev pub TellsEncloser : List (List Edge) → List RingEdge → RingEdge → Type 0
+TellsEncloser rs status a = (e : RingEdge) → HasNeighbour a.edge.now status e → IsTeller rs a e

@@ -1,11 +1,10 @@
 //! Which ring directly encloses which.
 ghost use Rattle.std.specs.Prelude.{◌≡◌, ◌<◌, ◌&&◌, All, IfOk, IfSome, cond, length, true};
 ghost use Rattle.std.specs.Ordering.{is_lt};
-ghost use Rattle.osm_geom.specs.JustAbove.{just_above_cmp};
 ghost use Rattle.osm_geom.specs.Span.{lower_end, spans};
-ghost use Rattle.osm_nest.specs.Beside.{IsBestUpTo, IsEncloserAt, IsNearestRight, IsRight, IsSloping, better_of, is_around, is_nearer, is_right_of, nearer_of};
+ghost use Rattle.osm_nest.specs.Beside.{IsBestUpTo, IsEncloserAt, IsNearestRight, IsRight, IsSloping, nearer_encloser, is_around, is_nearer, is_right_of, nearer_edge};
 ghost use Rattle.osm_nest.specs.Anchors.{AreAnchors};
-ghost use Rattle.osm_nest.specs.Homes.{AreHomes, IsHome, TellOuter};
+ghost use Rattle.osm_nest.specs.Enclosers.{AreDirectEnclosers, IsDirectEncloser, TellOuter};
 ghost use Rattle.osm_nest.specs.RingLists.{AreRings};
 ghost use Rattle.osm_nest.specs.SweptEdges.{AreKnown};
 
@@ -14,7 +13,7 @@ use crate::ring_anchors::{Anchors, find_anchors};
 use crate::swept_enclosers::{none_known, swept_enclosers};
 use osm_geom::{Edge, compare_just_above, spans_height};
 use osm_rings::Ring;
-use std::alloc::{AllocError, Global};
+use std::alloc::{AllocError as OutOfMemory, Global};
 
 /// A ring that lies round an anchor, by its place, and the nearest of its edges right of the anchor.
 #[derive(Clone, Copy)]
@@ -27,9 +26,9 @@ pub(crate) struct Encloser {
 pub(crate) fn direct_enclosers(
     alloc: Global,
     rings: &[Ring],
-) -> Result<Vec<Option<usize>>, AllocError>
+) -> Result<Vec<Option<usize>>, OutOfMemory>
     requires { AreRings rings.now }
-    ensures { IfOk result (λ homes. AreHomes rings.now homes.items) }
+    ensures { IfOk result (λ enclosers. AreDirectEnclosers rings.now enclosers.items) }
 {
     let anchors = find_anchors(alloc, rings)?;
     let known = known_enclosers(alloc, rings, &anchors)?;
@@ -40,20 +39,20 @@ pub(crate) fn direct_enclosers(
     Ok(enclosers)
 }
 
-// With so few inner rings the plain search over all edges is faster than a sweep.
+/// With so few inner rings the plain search over all edges is faster than a sweep.
 const FEW: usize = 8;
 
-// Whether few of the rings are inner.
+/// Whether few of the rings are inner.
 fn are_few_inner(anchors: &Anchors) -> bool {
     anchors.outer.iter().filter(|outer| !**outer).count() <= FEW
 }
 
-// For each ring the place of its direct encloser, where it is found for all rings at once.
+/// For each ring the place of its direct encloser, where it is found for all rings at once.
 fn known_enclosers(
     alloc: Global,
     rings: &[Ring],
     anchors: &Anchors,
-) -> Result<Vec<Option<usize>>, AllocError>
+) -> Result<Vec<Option<usize>>, OutOfMemory>
     requires rings { AreRings rings.now }
     requires anchors { AreAnchors rings.now anchors.now }
     ensures { IfOk result (λ known. AreKnown rings.now known.items) }
@@ -64,7 +63,7 @@ fn known_enclosers(
     swept_enclosers(alloc, rings, anchors)
 }
 
-// The direct encloser that is known, else the one that the plain search finds.
+/// The direct encloser that is known, else the one that the plain search finds.
 fn direct_encloser(
     rings: &[Ring],
     anchors: &Anchors,
@@ -75,7 +74,7 @@ fn direct_encloser(
     requires anchors { AreAnchors rings.now anchors.now }
     requires known { AreKnown rings.now known.now }
     requires inside { place < length rings.now }
-    ensures { IsHome rings.now place result }
+    ensures { IsDirectEncloser rings.now place result }
 {
     match known[place] {
         Some(encloser) => Some(encloser),
@@ -83,12 +82,12 @@ fn direct_encloser(
     }
 }
 
-// The place of the ring that directly encloses the one at a place, found among all edges; None for an outer ring.
+/// The place of the ring that directly encloses the one at a place, found among all edges; None for an outer ring.
 fn searched_encloser(rings: &[Ring], anchors: &Anchors, place: usize) -> Option<usize>
     requires rings { AreRings rings.now }
     requires anchors { AreAnchors rings.now anchors.now }
     requires inside { place < length rings.now }
-    ensures { IsHome rings.now place result }
+    ensures { IsDirectEncloser rings.now place result }
 {
     if anchors.outer[place] {
         return None;
@@ -99,7 +98,7 @@ fn searched_encloser(rings: &[Ring], anchors: &Anchors, place: usize) -> Option<
     }
 }
 
-// Among the outer rings that have an odd number of edges right of the anchor, the one to which the nearest of these edges belongs.
+/// Among the outer rings that have an odd number of edges right of the anchor, the one to which the nearest of these edges belongs.
 fn nearest_encloser(rings: &[Ring], outer: &[bool], anchor: &Edge) -> Option<Encloser>
     requires rings { AreRings rings.now }
     requires sized { length outer.now ≡ length rings.now }
@@ -114,7 +113,7 @@ fn nearest_encloser(rings: &[Ring], outer: &[bool], anchor: &Edge) -> Option<Enc
     best
 }
 
-// The nearest edge right of the anchor of the ring at a place, if the ring is outer and has an odd number of such edges.
+/// The nearest edge right of the anchor of the ring at a place, if the ring is outer and has an odd number of such edges.
 fn encloser_at(rings: &[Ring], outer: &[bool], place: usize, anchor: &Edge) -> Option<Encloser>
     requires sized { length outer.now ≡ length rings.now }
     requires outer { TellOuter rings.now outer.now }
@@ -132,7 +131,7 @@ fn encloser_at(rings: &[Ring], outer: &[bool], place: usize, anchor: &Edge) -> O
     }
 }
 
-// Of two enclosers the one whose edge is nearer to the anchor.
+/// Of two enclosers the one whose edge is nearer to the anchor.
 fn nearer_encloser(
     best: Option<Encloser>,
     next: Option<Encloser>,
@@ -141,7 +140,7 @@ fn nearer_encloser(
     requires anchor { IsSloping anchor.now }
     requires first { IfSome best (λ c. IsRight anchor.now c.edge) }
     requires second { IfSome next (λ c. IsRight anchor.now c.edge) }
-    ensures { result ≡ better_of anchor.now best next }
+    ensures { result ≡ nearer_encloser anchor.now best next }
 {
     match (best, next) {
         (Some(found), Some(other)) => {
@@ -156,7 +155,7 @@ fn nearer_encloser(
     }
 }
 
-// Whether an odd number of edges are right of the anchor.
+/// Whether an odd number of edges are right of the anchor.
 pub(crate) fn is_around(edges: &[Edge], anchor: &Edge) -> bool
     requires anchor { IsSloping anchor.now }
     ensures { result ≡ is_around anchor.now edges.now }
@@ -168,7 +167,7 @@ pub(crate) fn is_around(edges: &[Edge], anchor: &Edge) -> bool
     odd
 }
 
-// The nearest of the edges right of the anchor.
+/// The nearest of the edges right of the anchor.
 pub(crate) fn nearest_right(edges: &[Edge], anchor: &Edge) -> Option<Edge>
     requires anchor { IsSloping anchor.now }
     ensures { IsNearestRight anchor.now edges.now result }
@@ -180,23 +179,23 @@ pub(crate) fn nearest_right(edges: &[Edge], anchor: &Edge) -> Option<Edge>
     nearest
 }
 
-// The next edge where it is right of the anchor and nearer than what was found, else that.
+/// The next edge where it is right of the anchor and nearer than what was found, else that.
 fn nearer_edge(found: Option<Edge>, next: Edge, anchor: &Edge) -> Option<Edge>
     requires anchor { IsSloping anchor.now }
     requires found { IfSome found (λ e. IsRight anchor.now e) }
-    ensures { result ≡ nearer_of anchor.now found next }
+    ensures { result ≡ nearer_edge anchor.now found next }
 {
     if !is_right_of(&next, anchor) {
         return found;
     }
     match found {
-        Some(edge) => Some(closer(edge, next, anchor)),
+        Some(edge) => Some(closer_edge(edge, next, anchor)),
         None => Some(next),
     }
 }
 
-// Of two edges right of the anchor the nearer.
-fn closer(edge: Edge, next: Edge, anchor: &Edge) -> Edge
+/// Of two edges right of the anchor the nearer.
+fn closer_edge(edge: Edge, next: Edge, anchor: &Edge) -> Edge
     requires anchor { IsSloping anchor.now }
     requires first { IsRight anchor.now edge }
     requires second { IsRight anchor.now next }
@@ -209,7 +208,7 @@ fn closer(edge: Edge, next: Edge, anchor: &Edge) -> Edge
     }
 }
 
-// Whether an edge spans the lower end of the anchor, and is right of the anchor just above it.
+/// Whether an edge spans the lower end of the anchor, and is right of the anchor just above it.
 #[tactic(auto, unfolding(crate::specs::Beside::is_right_of))]
 fn is_right_of(edge: &Edge, anchor: &Edge) -> bool
     requires anchor { IsSloping anchor.now }
@@ -219,7 +218,7 @@ fn is_right_of(edge: &Edge, anchor: &Edge) -> bool
     spans_height(edge, &at) && compare_just_above(anchor, edge, &at).is_lt()
 }
 
-// Of two edges right of the anchor, whether the first is left of the second.
+/// Of two edges right of the anchor, whether the first is left of the second.
 #[tactic(auto, using(crate::proofs::Beside::right_spans), unfolding(crate::specs::Beside::is_nearer))]
 fn is_nearer(edge: &Edge, other: &Edge, anchor: &Edge) -> bool
     requires anchor { IsSloping anchor.now }

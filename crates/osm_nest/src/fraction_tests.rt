@@ -1,6 +1,6 @@
-use crate::begun::{Start, compare_starts};
 use crate::enclosers::{is_around, nearest_right};
 use crate::outer::{first_of, lower_end};
+use crate::rings_from_least::{Start, compare_starts};
 use osm_geom::{Carrier, Edge, Frac, Loc, Part, Point, Seg, spans_height};
 use std::cmp::Ordering;
 use std::test::Fail;

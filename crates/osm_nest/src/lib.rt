@@ -1,18 +1,16 @@
 //! Which rings are outer and which inner, and which inner ring lies under which outer one: the polygons of a ring list.
 #![tactic(auto)]
 
-mod begun;
 mod enclosers;
 #[cfg(test)]
 mod fraction_tests;
 mod grouping;
 mod laws;
-#[cfg(test)]
-mod nest_tests;
 mod outer;
 mod polygon;
 mod ring_anchors;
 mod ring_edges;
+mod rings_from_least;
 mod sweep_status;
 mod swept_enclosers;
 #[cfg(test)]

@@ -3,11 +3,10 @@ ghost use Rattle.std.specs.Prelude.{◌≡◌, ◌&&◌, ◌||◌, ◌↔◌, co
 ghost use Rattle.std.specs.Ordering.{is_lt};
 ghost use Rattle.std.specs.declared.cmp.Ordering.TheVariants.{Equal};
 ghost use Rattle.osm_geom.specs.Edge.{runs_up};
-ghost use Rattle.osm_geom.specs.JustAbove.{just_above_cmp};
 ghost use Rattle.osm_geom.specs.Point.{point_cmp};
-ghost use Rattle.osm_geom.specs.Span.{lower_end, spans};
+ghost use Rattle.osm_geom.specs.Span.{lower_end};
 ghost use Rattle.osm_nest.specs.Leftmost.{comes_first, forks_left};
-ghost use Rattle.osm_nest.specs.Outer.{AreClear, IsAnchorOf, IsInner, IsOuter, WindsBySign};
+ghost use Rattle.osm_nest.specs.Outer.{AreConflictFree, IsAnchorOf, IsInner, IsOuter, WindsBySign};
 ghost use Rattle.osm_rings.specs.Ring.{IsRing};
 
 use osm_geom::{Edge, Point, compare_just_above, compare_points, spans_height};
@@ -19,7 +18,7 @@ use std::cmp::Ordering;
 /// The anchor stands at the ring's least node, and is the leftmost of the edges that rise from there. Round an outer ring
 /// the inside is on the left, so that it counts 1 at each point that it covers; an inner one counts -1.
 pub fn is_outer(ring: &Ring) -> bool
-    requires { AreClear ring.now }
+    requires { AreConflictFree ring.now }
     ensures anchor { (result ≡ true) ↔ IsOuter ring.now }
     ensures inner { (result ≡ false) ↔ IsInner ring.now }
     ensures sign { WindsBySign result ring.now }
@@ -29,7 +28,7 @@ pub fn is_outer(ring: &Ring) -> bool
 
 /// The anchor of a ring.
 pub(crate) fn anchor(ring: &Ring) -> &Edge
-    requires { AreClear ring.now }
+    requires { AreConflictFree ring.now }
     ensures anchor { IsAnchorOf result.now ring.now }
     ensures ring { IsRing ring.now }
 {
@@ -41,14 +40,14 @@ pub(crate) fn anchor(ring: &Ring) -> &Edge
     anchor
 }
 
-// Of two edges the one that comes first.
+/// Of two edges the one that comes first.
 pub(crate) fn first_of<'a>(e: &'a Edge, f: &'a Edge) -> &'a Edge
     ensures { result.now ≡ cond (comes_first e.now f.now) e.now f.now }
 {
     if comes_first(e, f) { e } else { f }
 }
 
-// Whether `e` has the lesser lower end, or the same as `f`, which doesn't run to the left of it.
+/// Whether `e` has the lesser lower end, or the same as `f`, which doesn't run to the left of it.
 #[tactic(auto, unfolding(crate::specs::Leftmost::comes_first))]
 fn comes_first(e: &Edge, f: &Edge) -> bool
     ensures { result ≡ comes_first e.now f.now }
@@ -60,7 +59,7 @@ fn comes_first(e: &Edge, f: &Edge) -> bool
     }
 }
 
-// Of two edges with one lower end, whether `f` runs to the left of `e`. A horizontal one runs to the right of all others.
+/// Of two edges with one lower end, whether `f` runs to the left of `e`. A horizontal one runs to the right of all others.
 #[tactic(auto, unfolding(crate::specs::Leftmost::forks_left))]
 fn forks_left(e: &Edge, f: &Edge) -> bool
     ensures { result ≡ forks_left e.now f.now }

@@ -1,55 +1,23 @@
 //! Polygons, and lists of them.
-ghost use Rattle.std.specs.Prelude.{◌≡◌, ◌++◌, ◌∷◌, [], OnErr, OnOk};
 
+use lists::List;
 use osm_rings::{Ring, Rings};
-use std::alloc::{AllocError, Global};
-use std::marker::Model;
 
-/// An outer ring, and the inner rings that it directly encloses.
+/// An outer ring, and the inner rings that it directly encloses: of all outer rings that have an inner one inside, the one
+/// with no other between.
+///
+/// As `nest` makes them, the outer ring runs counterclockwise and the inner ones clockwise, as in polygons of RFC 7946, and
+/// each begins at its least node. The rings may touch each other at nodes; they don't cross, and have no edge in common. A
+/// ring inside an inner one is the outer ring of another polygon. The polygon covers the points from which a ray to the east
+/// crosses an odd number of its edges.
 #[derive(Drop)]
 pub struct Polygon {
     pub outer: Ring,
     pub inners: Rings,
 }
 
-/// A list of polygons.
-#[derive(Drop)]
-pub struct Polygons {
-    items: Vec<Polygon>,
-}
-
-impl Model for Polygons {
-    ghost use Rattle.std.specs.Prelude.{List};
-    ghost use Rattle.osm_nest.specs.declared.polygon.Polygon.{Polygon};
-
-    ghost Value = { List Polygon };
-
-    ghost view = { λ list. list.items.items };
-}
-
-impl Polygons {
-    /// The empty list, which takes no memory.
-    pub fn new(alloc: Global) -> Polygons
-        ensures { result ≡ [] }
-    {
-        Polygons {
-            items: Vec::new(alloc),
-        }
-    }
-
-    /// Adds a polygon at the end. After an `Err` the list is unchanged.
-    pub fn push(&mut self, item: Polygon) -> Result<(), AllocError>
-        ensures ok { OnOk result (self.new ≡ self.old ++ item ∷ []) }
-        ensures err { OnErr result (self.new ≡ self.old) }
-    {
-        self.items.push(item)?;
-        Ok(())
-    }
-
-    /// The polygons, in order.
-    pub fn as_slice(&self) -> &[Polygon]
-        ensures { result.now ≡ self.now }
-    {
-        self.items.as_slice()
-    }
-}
+/// A list of polygons: the MultiPolygon of RFC 7946.
+///
+/// As `nest` makes it, each ring that was given stands in exactly one polygon, there once, and no point is covered by two of
+/// the polygons. They are in order of the least nodes of their outer rings, and then of the next nodes, and so are the inner rings of each.
+pub type Polygons = List<Polygon>;

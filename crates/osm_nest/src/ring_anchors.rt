@@ -6,7 +6,7 @@ ghost use Rattle.osm_nest.specs.RingLists.{AreRings};
 use crate::outer::{anchor, is_rising};
 use crate::ring_edges::RingEdge;
 use osm_rings::Ring;
-use std::alloc::{AllocError, Global};
+use std::alloc::{AllocError as OutOfMemory, Global};
 
 /// At the place of each ring its anchor, and whether the ring is outer.
 #[derive(Drop)]
@@ -16,7 +16,7 @@ pub(crate) struct Anchors<'a> {
 }
 
 /// The anchors of rings.
-pub(crate) fn find_anchors<'a>(alloc: Global, rings: &'a [Ring]) -> Result<Anchors<'a>, AllocError>
+pub(crate) fn find_anchors<'a>(alloc: Global, rings: &'a [Ring]) -> Result<Anchors<'a>, OutOfMemory>
     requires { AreRings rings.now }
     ensures { IfOk result (AreAnchors rings.now) }
 {

@@ -1,12 +1,14 @@
 //! The edges of rings as a sweep upwards lists them.
-ghost use Rattle.std.specs.Prelude.{◌≡◌, IfOk, IsPermutation, OnOk, length};
+ghost use Rattle.std.specs.Prelude.{◌≡◌, IfOk, IsPermutation, OnOk, length, not, true};
+ghost use Rattle.std.specs.Ordering.{is_lt};
+ghost use Rattle.osm_geom.specs.Point.{point_cmp};
 ghost use Rattle.osm_geom.specs.Span.{lower_end, spans};
 ghost use Rattle.osm_nest.specs.SweptEdges.{AreRingEdges, AreSlopingEdges, StartsRise};
 
 use crate::outer::{lower_end, upper_end};
 use osm_geom::{Edge, compare_points, spans_height};
-use osm_rings::Ring;
-use std::alloc::{AllocError, Global};
+use osm_rings::{Ring, sort_key};
+use std::alloc::{AllocError as OutOfMemory, Global};
 
 /// An edge of a ring, and the place of the ring.
 #[derive(Clone, Copy)]
@@ -15,19 +17,19 @@ pub(crate) struct RingEdge<'a> {
     pub ring: usize,
 }
 
-// Whether an edge isn't horizontal.
+/// Whether an edge isn't horizontal.
 fn is_sloping(edge: &Edge) -> bool
     ensures { result ≡ spans edge.now (lower_end edge.now) }
 {
     spans_height(edge, &lower_end(edge))
 }
 
-// Adds the edges of one ring that aren't horizontal.
+/// Adds the edges of one ring that aren't horizontal.
 fn push_ring<'a>(
     edges: &mut Vec<RingEdge<'a>>,
     ring: &'a [Edge],
     place: usize,
-) -> Result<(), AllocError>
+) -> Result<(), OutOfMemory>
     ensures { OnOk result (AreRingEdges place (length ring.now) ring.now edges.old.items edges.new.items) }
 {
     for edge in ring {
@@ -38,7 +40,7 @@ fn push_ring<'a>(
     Ok(())
 }
 
-// How many edges the rings have.
+/// How many edges the rings have.
 fn edge_count(rings: &[Ring]) -> usize {
     let mut count: usize = 0;
     for ring in rings {
@@ -47,8 +49,8 @@ fn edge_count(rings: &[Ring]) -> usize {
     count
 }
 
-// The edges of all rings that aren't horizontal.
-fn sloping_edges<'a>(alloc: Global, rings: &'a [Ring]) -> Result<Vec<RingEdge<'a>>, AllocError>
+/// The edges of all rings that aren't horizontal.
+fn sloping_edges<'a>(alloc: Global, rings: &'a [Ring]) -> Result<Vec<RingEdge<'a>>, OutOfMemory>
     ensures { IfOk result (λ v. AreSlopingEdges rings.now v.items) }
 {
     let mut edges = Vec::with_capacity(alloc, edge_count(rings))?;
@@ -58,8 +60,22 @@ fn sloping_edges<'a>(alloc: Global, rings: &'a [Ring]) -> Result<Vec<RingEdge<'a
     Ok(edges)
 }
 
-/// The edges in order of their lower ends.
-pub(crate) fn by_lower_ends<'a>(edges: Vec<RingEdge<'a>>) -> Result<Vec<RingEdge<'a>>, AllocError>
+/// Whether an edge doesn't begin before another.
+fn is_in_order(edge: &Edge, next: &Edge) -> bool
+    ensures { result ≡ not (is_lt (point_cmp (lower_end next.now) (lower_end edge.now))) }
+{
+    !compare_points(lower_end(next), lower_end(edge)).is_lt()
+}
+
+/// Whether no edge begins before an earlier one.
+fn starts_rise(edges: &[RingEdge]) -> bool
+    ensures { result ≡ true → StartsRise edges.now }
+{
+    edges.is_sorted_by(|edge, next| is_in_order(edge.edge, next.edge))
+}
+
+/// The edges sorted by their lower ends.
+fn sorted_by_lower_ends<'a>(edges: Vec<RingEdge<'a>>) -> Result<Vec<RingEdge<'a>>, OutOfMemory>
     ensures moved { IfOk result (λ v. IsPermutation edges.entry.items v.items) }
     ensures rise { IfOk result (λ v. StartsRise v.items) }
 {
@@ -68,11 +84,24 @@ pub(crate) fn by_lower_ends<'a>(edges: Vec<RingEdge<'a>>) -> Result<Vec<RingEdge
     Ok(edges)
 }
 
+/// The edges in order of their lower ends: by the sort keys of these, where that is their order.
+pub(crate) fn by_lower_ends<'a>(edges: Vec<RingEdge<'a>>) -> Result<Vec<RingEdge<'a>>, OutOfMemory>
+    ensures moved { IfOk result (λ v. IsPermutation edges.entry.items v.items) }
+    ensures rise { IfOk result (λ v. StartsRise v.items) }
+{
+    let mut edges = edges;
+    edges.sort_by_cached_key(|e| sort_key(lower_end(e.edge)))?;
+    if starts_rise(&edges) {
+        return Ok(edges);
+    }
+    sorted_by_lower_ends(edges)
+}
+
 /// The edges of all rings that aren't horizontal, in order of their lower ends.
 pub(crate) fn rising_edges<'a>(
     alloc: Global,
     rings: &'a [Ring],
-) -> Result<Vec<RingEdge<'a>>, AllocError>
+) -> Result<Vec<RingEdge<'a>>, OutOfMemory>
     ensures edges { IfOk result (λ v. AreSlopingEdges rings.now v.items) }
     ensures rise { IfOk result (λ v. StartsRise v.items) }
 {
@@ -81,12 +110,12 @@ pub(crate) fn rising_edges<'a>(
     Ok(edges)
 }
 
-/// The edges in order of their upper ends. Nothing rests on the order but speed.
+/// The edges in order of the sort keys of their upper ends. Nothing rests on the order but speed.
 pub(crate) fn by_upper_ends<'a>(
     alloc: Global,
     edges: &[RingEdge<'a>],
-) -> Result<Vec<RingEdge<'a>>, AllocError> {
+) -> Result<Vec<RingEdge<'a>>, OutOfMemory> {
     let mut edges = Vec::from_slice(alloc, edges)?;
-    edges.sort_by(|e, f| compare_points(upper_end(e.edge), upper_end(f.edge)))?;
+    edges.sort_by_cached_key(|e| sort_key(upper_end(e.edge)))?;
     Ok(edges)
 }

@@ -6,37 +6,69 @@ ghost use Rattle.std.specs.Prelude.{◌≡◌, ◌<◌, ◌≤◌, ◌⊎◌, �
 ghost use Rattle.osm_geom.specs.Span.{lower_end, spans};
 ghost use Rattle.osm_nest.specs.declared.ring_edges.RingEdge.{RingEdge};
 ghost use Rattle.osm_nest.specs.SweptEdges.{HasNeighbour, IsPut, IsRowPut, is_within, left_at};
-ghost use Rattle.winding.specs.Member.{In};
+ghost use Rattle.lists.specs.Member.{In};
 
 use crate::outer::lower_end;
 use crate::ring_edges::RingEdge;
 use chunked_list::ChunkedList;
 use osm_geom::{Edge, Point, compare_just_above, spans_height};
-use std::alloc::AllocError;
+use std::alloc::AllocError as OutOfMemory;
 
-// Whether both span the height of a point, and `f` is left of `g` just above it.
+/// Whether both span the height of a point, and `f` is left of `g` just above it.
 fn is_left(f: &Edge, g: &Edge, at: &Point) -> bool
     ensures { result ≡ left_at at.now f.now g.now }
 {
     spans_height(f, at) && spans_height(g, at) && compare_just_above(f, g, at).is_lt()
 }
 
-// The same where `g` is known to span the height.
+/// The same where `g` is known to span the height.
 fn is_left_of(f: &Edge, g: &Edge, at: &Point) -> bool
     requires { spans g.now at.now ≡ true }
+    ensures { result ≡ left_at at.now f.now g.now }
 {
     spans_height(f, at) && compare_just_above(f, g, at).is_lt()
 }
 
-// Where the search sees an edge that spans the height among those of the status.
+/// Whether `g` spans the height of a point, and is right just above it of `f`, which is known to span it.
+fn stands_right_of(g: &Edge, f: &Edge, at: &Point) -> bool
+    requires { spans f.now at.now ≡ true }
+    ensures { result ≡ left_at at.now f.now g.now }
+{
+    spans_height(g, at) && compare_just_above(f, g, at).is_lt()
+}
+
+/// The least and the greatest x of an edge between lattice points.
+fn width(edge: &Edge) -> Option<(i32, i32)> {
+    match (edge.from, edge.to) {
+        (Point::Lattice(from), Point::Lattice(to)) => Some((from.x.min(to.x), from.x.max(to.x))),
+        _ => None,
+    }
+}
+
+/// Whether `f` lies left of `g`, where no x parts them just above a height that `g` spans. Nothing rests on it but speed.
+fn seems_left(f: &Edge, g: &Edge, at: &Point) -> bool
+    requires { spans g.now at.now ≡ true }
+{
+    if let (Some(first), Some(second)) = (width(f), width(g)) {
+        if first.1 < second.0 {
+            return true;
+        }
+        if second.1 < first.0 {
+            return false;
+        }
+    }
+    is_left_of(f, g, at)
+}
+
+/// Where the search sees an edge that spans the height among those of the status.
 fn search(status: &ChunkedList<RingEdge>, edge: &Edge, at: &Point) -> usize
     requires { spans edge.now at.now ≡ true }
     ensures { result ≤ length status.now }
 {
-    status.partition_point(|other| is_left_of(other.edge, edge, at))
+    status.partition_point(|other| seems_left(other.edge, edge, at))
 }
 
-// Whether the edge at a place doesn't span the height.
+/// Whether the edge at a place doesn't span the height.
 fn is_past(status: &ChunkedList<RingEdge>, place: usize, at: &Point) -> bool
     ensures inside { result ≡ true → place < length status.now }
     ensures past { result ≡ true → (d : RingEdge) → is_within at.now (slice_index_or status.now place d) ≡ false }
@@ -47,7 +79,7 @@ fn is_past(status: &ChunkedList<RingEdge>, place: usize, at: &Point) -> bool
     !spans_height(status.get(place).edge, at)
 }
 
-// Takes out an edge that ended, where the search at the height of `below` finds one that did; else all that don't span the height of `at`.
+/// Takes out an edge that ended, where the search at the height of `below` finds one that did; else all that don't span the height of `at`.
 fn take_out(status: &mut ChunkedList<RingEdge>, edge: &Edge, below: &Point, at: &Point)
     requires { spans edge.now below.now ≡ true }
     ensures within { filter (is_within at.now) status.new ≡ filter (is_within at.now) status.old }
@@ -61,7 +93,7 @@ fn take_out(status: &mut ChunkedList<RingEdge>, edge: &Edge, below: &Point, at: 
     status.retain(|other| spans_height(other.edge, at));
 }
 
-// Whether the edge at a place spans the height of `below` and ends no higher than `at`.
+/// Whether the edge at a place spans the height of `below` and ends no higher than `at`.
 fn ends_between(tops: &[RingEdge], place: usize, below: &Point, at: &Point) -> bool
     ensures inside { result ≡ true → place < length tops.now }
     ensures below { result ≡ true → (d : RingEdge) → is_within below.now (slice_index_or tops.now place d) ≡ true }
@@ -93,27 +125,28 @@ pub(crate) fn leave(
     next
 }
 
-// Whether the two between which a place lies span the height, and are left and right of the edge.
+/// Whether the two between which a place lies span the height, and are left and right of the edge.
 fn fits_at(status: &ChunkedList<RingEdge>, place: usize, edge: &Edge, at: &Point) -> bool
-    requires { place ≤ length status.now }
+    requires within { spans edge.now at.now ≡ true }
+    requires inside { place ≤ length status.now }
     ensures before { result ≡ true → (d : RingEdge) → 0 < place → left_at at.now (slice_index_or status.now (place - 1) d).edge.now edge.now ≡ true }
     ensures after { result ≡ true → (d : RingEdge) → place < length status.now → left_at at.now edge.now (slice_index_or status.now place d).edge.now ≡ true }
 {
-    if place > 0 && !is_left(status.get(place - 1).edge, edge, at) {
+    if place > 0 && !is_left_of(status.get(place - 1).edge, edge, at) {
         return false;
     }
-    if place < status.len() && !is_left(edge, status.get(place).edge, at) {
+    if place < status.len() && !stands_right_of(status.get(place).edge, edge, at) {
         return false;
     }
     true
 }
 
-// Puts an edge where it seems to belong, if it fits there.
+/// Puts an edge where it seems to belong, if it fits there.
 fn enter<'a>(
     status: &mut ChunkedList<RingEdge<'a>>,
     item: &RingEdge<'a>,
     at: &Point,
-) -> Result<bool, AllocError>
+) -> Result<bool, OutOfMemory>
     requires { is_within at.now item.now ≡ true }
     ensures put { IfOk result (λ fits. fits ≡ true → IsPut at.now item.now (filter (is_within at.now) status.old) (filter (is_within at.now) status.new)) }
     ensures members { IfOk result (λ fits. (e : RingEdge) → In e status.new → (In e status.old) ⊎ (e ≡ item.now)) }
@@ -126,7 +159,7 @@ fn enter<'a>(
     Ok(true)
 }
 
-// Whether the next edge spans the height.
+/// Whether the next edge spans the height.
 fn goes_on(edges: &[RingEdge], next: usize, at: &Point) -> bool
     ensures inside { result ≡ true → next < length edges.now }
     ensures within { result ≡ true → (d : RingEdge) → is_within at.now (slice_index_or edges.now next d) ≡ true }
@@ -144,7 +177,7 @@ pub(crate) fn enter_row<'a>(
     edges: &[RingEdge<'a>],
     from: usize,
     at: &Point,
-) -> Result<Option<usize>, AllocError>
+) -> Result<Option<usize>, OutOfMemory>
     requires { from ≤ length edges.now }
     ensures put { IfOk result (λ row. IfSome row (λ to. IsRowPut at.now edges.now from to (filter (is_within at.now) status.old) (filter (is_within at.now) status.new))) }
     ensures members { IfOk result (λ row. IfSome row (λ to. (e : RingEdge) → In e status.new → (In e status.old) ⊎ In e (take to edges.now))) }
@@ -159,7 +192,7 @@ pub(crate) fn enter_row<'a>(
     Ok(Some(next))
 }
 
-// Whether an anchor stands between two edges: the first is left of it, and the second, which spans the height too, isn't.
+/// Whether an anchor stands between two edges: the first is left of it, and the second, which spans the height too, isn't.
 fn is_between(left: &Edge, next: &Edge, anchor: &Edge, at: &Point) -> bool
     ensures left { result ≡ true → left_at at.now left.now anchor.now ≡ true }
     ensures within { result ≡ true → spans next.now at.now ≡ true }

@@ -4,9 +4,9 @@ ghost use Rattle.std.specs.Prelude.{◌≡◌, ◌<◌, ◌≤◌, All, IfOk, If
 ghost use Rattle.osm_geom.specs.Span.{lower_end};
 ghost use Rattle.osm_nest.specs.declared.ring_edges.RingEdge.{RingEdge};
 ghost use Rattle.osm_nest.specs.Anchors.{AreAnchors};
-ghost use Rattle.osm_nest.specs.Homes.{IsHome};
+ghost use Rattle.osm_nest.specs.Enclosers.{IsDirectEncloser};
 ghost use Rattle.osm_nest.specs.RingLists.{AreRings};
-ghost use Rattle.osm_nest.specs.SweptEdges.{AreKnown, IsInnerAnchor, IsTeller, TellsHome, begin_level, is_within};
+ghost use Rattle.osm_nest.specs.SweptEdges.{AreKnown, IsInnerAnchor, IsTeller, TellsEncloser, begin_level, is_within};
 
 use crate::outer::lower_end;
 use crate::ring_anchors::Anchors;
@@ -15,14 +15,14 @@ use crate::sweep_status::{enter_row, leave, left_neighbour};
 use chunked_list::ChunkedList;
 use osm_geom::{Edge, spans_height};
 use osm_rings::Ring;
-use std::alloc::{AllocError, Global};
+use std::alloc::{AllocError as OutOfMemory, Global};
 
 /// For each ring the place of its direct encloser, where the sweep tells it.
 pub(crate) fn swept_enclosers(
     alloc: Global,
     rings: &[Ring],
     anchors: &Anchors,
-) -> Result<Vec<Option<usize>>, AllocError>
+) -> Result<Vec<Option<usize>>, OutOfMemory>
     requires rings { AreRings rings.now }
     requires anchors { AreAnchors rings.now anchors.now }
     ensures { IfOk result (λ known. AreKnown rings.now known.items) }
@@ -57,12 +57,12 @@ pub(crate) fn swept_enclosers(
     Ok(known)
 }
 
-// The anchors of the inner rings, in order of their lower ends.
+/// The anchors of the inner rings, in order of their lower ends.
 fn inner_anchors<'a>(
     alloc: Global,
     rings: &[Ring],
     anchors: &Anchors<'a>,
-) -> Result<Vec<RingEdge<'a>>, AllocError>
+) -> Result<Vec<RingEdge<'a>>, OutOfMemory>
     requires { AreAnchors rings.now anchors.now }
     ensures { IfOk result (λ v. All (IsInnerAnchor rings.now) v.items) }
 {
@@ -77,7 +77,7 @@ fn inner_anchors<'a>(
 }
 
 /// None for each ring.
-pub(crate) fn none_known(alloc: Global, rings: &[Ring]) -> Result<Vec<Option<usize>>, AllocError>
+pub(crate) fn none_known(alloc: Global, rings: &[Ring]) -> Result<Vec<Option<usize>>, OutOfMemory>
     ensures { IfOk result (λ known. AreKnown rings.now known.items) }
 {
     let mut known = Vec::with_capacity(alloc, rings.len())?;
@@ -87,7 +87,7 @@ pub(crate) fn none_known(alloc: Global, rings: &[Ring]) -> Result<Vec<Option<usi
     Ok(known)
 }
 
-// Whether the next anchor begins at the height at which `first` begins.
+/// Whether the next anchor begins at the height at which `first` begins.
 fn begins_there(inner: &[RingEdge], next: usize, first: &Edge) -> bool
     ensures inside { result ≡ true → next < length inner.now }
     ensures level { result ≡ true → (d : RingEdge) → begin_level first.now (slice_index_or inner.now next d).edge.now ≡ true }
@@ -99,7 +99,7 @@ fn begins_there(inner: &[RingEdge], next: usize, first: &Edge) -> bool
     spans_height(anchor, &lower_end(first)) && spans_height(first, &lower_end(anchor))
 }
 
-// Settles the direct enclosers of the inner rings whose anchors begin at the height at which `first` begins; gives the place of the next anchor.
+/// Settles the direct enclosers of the inner rings whose anchors begin at the height at which `first` begins; gives the place of the next anchor.
 fn settle_row(
     rings: &[Ring],
     anchors: &Anchors,
@@ -111,7 +111,7 @@ fn settle_row(
 ) -> usize
     requires anchors { AreAnchors rings.now anchors.now }
     requires inner { All (IsInnerAnchor rings.now) inner.now }
-    requires tells { (a : RingEdge) → IsInnerAnchor rings.now a → begin_level first.now a.edge.now ≡ true → TellsHome rings.now (filter (is_within (lower_end a.edge.now)) status.now) a }
+    requires tells { (a : RingEdge) → IsInnerAnchor rings.now a → begin_level first.now a.edge.now ≡ true → TellsEncloser rings.now (filter (is_within (lower_end a.edge.now)) status.now) a }
     requires from { from ≤ length inner.now }
     requires known { AreKnown rings.now known.old.items }
     ensures within { result ≤ length inner.now }
@@ -125,7 +125,7 @@ fn settle_row(
     next
 }
 
-// Settles the direct encloser of the ring of an anchor, where its neighbour in the status tells it.
+/// Settles the direct encloser of the ring of an anchor, where its neighbour in the status tells it.
 fn settle(
     rings: &[Ring],
     anchors: &Anchors,
@@ -135,7 +135,7 @@ fn settle(
 )
     requires anchors { AreAnchors rings.now anchors.now }
     requires inside { anchor.now.ring < length rings.now }
-    requires tells { TellsHome rings.now (filter (is_within (lower_end anchor.now.edge.now)) status.now) anchor.now }
+    requires tells { TellsEncloser rings.now (filter (is_within (lower_end anchor.now.edge.now)) status.now) anchor.now }
     requires known { AreKnown rings.now known.old.items }
     ensures { AreKnown rings.now known.new.items }
 {
@@ -148,7 +148,7 @@ fn settle(
     }
 }
 
-// The place of the neighbour's ring, if that is outer, else what directly encloses that ring, if it is known.
+/// The place of the neighbour's ring, if that is outer, else what directly encloses that ring, if it is known.
 fn encloser_by(
     rings: &[Ring],
     anchors: &Anchors,
@@ -159,7 +159,7 @@ fn encloser_by(
     requires anchors { AreAnchors rings.now anchors.now }
     requires tells { IsTeller rings.now anchor.now left.now }
     requires known { AreKnown rings.now known.now }
-    ensures { IfSome result (λ home. IsHome rings.now anchor.now.ring (Some home)) }
+    ensures { IfSome result (λ encloser. IsDirectEncloser rings.now anchor.now.ring (Some encloser)) }
 {
     if anchors.outer[left.ring] {
         return Some(left.ring);

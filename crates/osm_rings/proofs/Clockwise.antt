@@ -5,18 +5,17 @@ use Rattle.std.proofs.lemmas.Int.{ints}
 use Rattle.plane.specs.Sector.{in_sector, sector_by}
 use Rattle.plane.specs.Sign.{Plus, Sign, is_null, is_plus, negated, sign}
 use Rattle.plane.specs.Vector.{IsDirection, Vector, cross, dot}
-use Rattle.plane.proofs.Identities.{same}
-use Rattle.plane.proofs.Products.{cross-negated, dot2, frame-agree, frame-dot-agree, lift2}
-use Rattle.plane.proofs.Signs.{agree, all, all-out, all2, all2-out, all4, all4-out, imp, imp-out, same_bool, same_bool-true, sign-reversed, times, times-back, times-plus}
-use Rattle.winding.proofs.Balance.{crossed}
-use Rattle.nesting.proofs.Successors.{is_some, some-signs}
+use Rattle.plane.proofs.SignKit.{same, agree, all, all-out, all2, all2-out, all4, all4-out, imp, imp-out, same_bool, same_bool-true, sign-reversed, times, times-back, times-plus}
+use Rattle.plane.proofs.PlaneKit.{cross-negated, dot2, frame-agree, frame-dot-agree, lift2}
+use Rattle.winding.proofs.WindingKit.{crossed}
+use Rattle.nesting.proofs.NestingKit.{is_some, some-signs}
 use Rattle.osm_geom.specs.declared.dir.Dir.{Dir}
 use Rattle.osm_geom.specs.Dir as dir
 use Rattle.osm_geom.specs.Dir.{clockwise_cmp, rank_of, turn_by, vector_along}
-use Rattle.osm_geom.specs.OrderLaws.{ordering_of}
-use Rattle.osm_geom.proofs.LocationOrder.{int_cmp-is}
-use Rattle.sided.specs.OneDirection.{HaveOneDirection}
-use Rattle.sided.proofs.Directions.{along-cross, along-dot}
+use Rattle.osm_lattice.specs.OrderLaws.{ordering_of}
+use Rattle.osm_lattice.proofs.LatticeKit.{int_cmp-is}
+use Rattle.plane_edges.specs.OneDirection.{HaveOneDirection}
+use Rattle.plane_edges.proofs.EdgesKit.{along-cross, along-dot}
 use Rattle.osm_rings.specs.Clockwise.{earlier, is_met_before}
 
 -- a direction seen from d, and another one
@@ -70,7 +69,7 @@ held_computes = refl
 dot-back : (a b : Vector) → dot b a ≡ dot a b
 dot-back a b = let e = lift2 a in let f = lift2 b in same (dot2 f e) (dot2 e f) (omega arith)
 
--- a and b do not point the same way
+-- a and b do not point the same departure
 abbrev pub apart : Vector → Vector → Bool
 apart a b = not (is_null (sign (cross a b)) && is_plus (sign (dot a b)))
 

@@ -2,26 +2,24 @@
 use Rattle.std.proofs.Common.{Bool, List, [], ap, arith, false, inl, inr, refl, subst, sym, true, ℕ, ◌&&◌, ◌+◌, ◌∙◌, ◌∷◌, ◌≡◌, ◌≢◌, ◌≤◌}
 use Rattle.std.proofs.Props.{props}
 use Rattle.std.specs.Ordering.{int_eq, is_eq}
-use Rattle.std.specs.declared.cmp.Ordering.{Ordering}
-use Rattle.std.specs.declared.cmp.Ordering.TheVariants.{Equal, Greater, Less}
 use Rattle.std.proofs.lemmas.Cmp.{tied_itself}
 use Rattle.plane.specs.Bit.{bit}
-use Rattle.plane.proofs.Bools.{and-in, and-out}
-use Rattle.plane.proofs.Points.{int_eq-same, int_eq-true}
-use Rattle.winding.specs.Member.{In}
-use Rattle.winding.proofs.RingCounts.{total-member}
-use Rattle.winding.proofs.Sums.{total}
+use Rattle.std.proofs.lemmas.Bool.{and_from, and_parts}
+use Rattle.lists.proofs.Integers.{int_eq-same, int_eq-true}
+use Rattle.lists.specs.Member.{In}
+use Rattle.winding.proofs.WindingKit.{total-member}
+use Rattle.lists.proofs.Sums.{total}
 use Rattle.osm_geom.specs.Carrier.{is_on}
 use Rattle.osm_geom.specs.Point.{IsInWorld, point_cmp}
-use Rattle.osm_geom.specs.Seg.{seg_cmp}
+use Rattle.osm_lattice.specs.Seg.{seg_cmp}
 use Rattle.osm_geom.specs.declared.edge.Carrier.{Carrier}
 use Rattle.osm_geom.specs.declared.edge.Carrier.TheVariants.{Horizontal, OfSeg, Vertical}
 use Rattle.osm_geom.specs.declared.edge.Edge.{Edge}
 use Rattle.osm_geom.specs.declared.point.Point.{Point}
-use Rattle.osm_geom.proofs.LocationOrder.{seg_total}
-use Rattle.osm_geom.proofs.Orders.{seg_same}
-use Rattle.osm_geom.proofs.TotalPoints.{point_same, point_total}
+use Rattle.osm_lattice.proofs.LatticeKit.{seg_total, seg_same}
+use Rattle.osm_geom.proofs.GeometryKit.{point_same, point_total}
 use mathlib.Core.HLevel.{is_prop→PathP}
+use Rattle.lists.proofs.Orderings.{equal_from}
 
 on-prop : (c : Carrier) (p : Point) → IsProp (is_on c p ≡ true)
 on-prop c p = hlevel props
@@ -45,12 +43,6 @@ edge-from-fields e f a b c = λ i. record {
   to_in = is_prop→PathP (λ j. IsInWorld (b j)) (λ j. in-prop (b j)) e.to_in f.to_in i;
 }
 
--- ---- the same edge, as a test
-is-equal : (o : Ordering) → is_eq o ≡ true → o ≡ Equal
-is-equal Less h = cc
-is-equal Equal h = refl
-is-equal Greater h = cc
-
 abbrev pub same_carrier : Carrier → Carrier → Bool
 same_carrier (OfSeg s) (OfSeg t) = is_eq (seg_cmp s t)
 same_carrier (Vertical c) (Vertical d) = int_eq c d
@@ -58,7 +50,7 @@ same_carrier (Horizontal c) (Horizontal d) = int_eq c d
 same_carrier _ _ = false
 
 carrier-out : (c d : Carrier) → same_carrier c d ≡ true → c ≡ d
-carrier-out (OfSeg s) (OfSeg t) h = ap OfSeg (seg_same s t (is-equal (seg_cmp s t) h))
+carrier-out (OfSeg s) (OfSeg t) h = ap OfSeg (seg_same s t (equal_from (seg_cmp s t) h))
 carrier-out (OfSeg s) (Vertical d) h = cc
 carrier-out (OfSeg s) (Horizontal d) h = cc
 carrier-out (Vertical c) (OfSeg t) h = cc
@@ -78,14 +70,14 @@ same_exact e f = is_eq (point_cmp e.from f.from) && (is_eq (point_cmp e.to f.to)
 
 pub exact-out : (e f : Edge) → same_exact e f ≡ true → e ≡ f
 exact-out e f h =
-    let a = and-out (is_eq (point_cmp e.from f.from)) (is_eq (point_cmp e.to f.to) && same_carrier e.carrier f.carrier) h in
-    let b = and-out (is_eq (point_cmp e.to f.to)) (same_carrier e.carrier f.carrier) a.1 in
-    edge-from-fields e f (point_same e.from f.from (is-equal (point_cmp e.from f.from) a.0)) (point_same e.to f.to (is-equal (point_cmp e.to f.to) b.0)) (carrier-out e.carrier f.carrier b.1)
+    let a = and_parts (is_eq (point_cmp e.from f.from)) (is_eq (point_cmp e.to f.to) && same_carrier e.carrier f.carrier) h in
+    let b = and_parts (is_eq (point_cmp e.to f.to)) (same_carrier e.carrier f.carrier) a.1 in
+    edge-from-fields e f (point_same e.from f.from (equal_from (point_cmp e.from f.from) a.0)) (point_same e.to f.to (equal_from (point_cmp e.to f.to) b.0)) (carrier-out e.carrier f.carrier b.1)
 
 pub exact-own : (e : Edge) → same_exact e e ≡ true
 exact-own e =
-    and-in (is_eq (point_cmp e.from e.from)) (is_eq (point_cmp e.to e.to) && same_carrier e.carrier e.carrier) (ap is_eq (tied_itself point_total e.from))
-    (and-in (is_eq (point_cmp e.to e.to)) (same_carrier e.carrier e.carrier) (ap is_eq (tied_itself point_total e.to)) (carrier-own e.carrier))
+    and_from (is_eq (point_cmp e.from e.from)) (is_eq (point_cmp e.to e.to) && same_carrier e.carrier e.carrier) (ap is_eq (tied_itself point_total e.from))
+    (and_from (is_eq (point_cmp e.to e.to)) (same_carrier e.carrier e.carrier) (ap is_eq (tied_itself point_total e.to)) (carrier-own e.carrier))
 
 -- ---- the same list, as a test
 abbrev pub same_list : {X : Type 0} → (X → X → Bool) → List X → List X → Bool
@@ -99,11 +91,11 @@ module _ {X : Type 0} (eq : X → X → Bool) (exact : (x y : X) → eq x y ≡ 
   list-out [] [] h = refl
   list-out [] (y ∷ ys) h = cc
   list-out (x ∷ xs) [] h = cc
-  list-out (x ∷ xs) (y ∷ ys) h = let a = and-out (eq x y) (same_list eq xs ys) h in ap (λ z. z ∷ xs) (exact x y a.0) ∙ ap (λ l. y ∷ l) (list-out xs ys a.1)
+  list-out (x ∷ xs) (y ∷ ys) h = let a = and_parts (eq x y) (same_list eq xs ys) h in ap (λ z. z ∷ xs) (exact x y a.0) ∙ ap (λ l. y ∷ l) (list-out xs ys a.1)
 
   pub list-own : (xs : List X) → same_list eq xs xs ≡ true
   list-own [] = refl
-  list-own (x ∷ xs) = and-in (eq x x) (same_list eq xs xs) (own x) (list-own xs)
+  list-own (x ∷ xs) = and_from (eq x x) (same_list eq xs xs) (own x) (list-own xs)
 
   some-by : (p : X → Bool) (x : X) (xs : List X) → (b : Bool) → p x ≡ b → 1 ≤ bit b + total (λ y. bit (p y)) xs → (1 ≤ total (λ y. bit (p y)) xs → (y : X) × In y xs × (p y ≡ true)) → (y : X) × In y (x ∷ xs) × (p y ≡ true)
   some-by p x xs true e h k = (x, inl refl, e)

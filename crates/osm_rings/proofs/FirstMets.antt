@@ -11,21 +11,20 @@ use Rattle.orbits.specs.Orbits.{after}
 use Rattle.osm_geom.specs.declared.edge.Edge as geom
 use Rattle.osm_geom.specs.Dir.{vector_along}
 use Rattle.osm_geom.specs.Edge.{direction_of, opposite}
-use Rattle.sided.specs.Multiple.{IsWholeAt, common_den, edge_times, point_times, whole_edges}
-use Rattle.sided.specs.OneDirection.{HaveOneDirection}
-use Rattle.sided.proofs.MultipliedEdges.{back_along}
-use Rattle.sided.proofs.MultipliedPoints.{same_is_same}
-use Rattle.winding.specs.Member.{In}
-use Rattle.osm_rings.specs.declared.ways.Way.{Way}
+use Rattle.plane_edges.specs.Multiple.{IsWholeAt, common_den, edge_times, point_times, whole_edges}
+use Rattle.plane_edges.specs.OneDirection.{HaveOneDirection}
+use Rattle.plane_edges.proofs.EdgesKit.{back_along, same_is_same}
+use Rattle.lists.specs.Member.{In}
+use Rattle.osm_rings.specs.declared.departures.Departure.{Departure}
 use Rattle.osm_rings.specs.Clockwise.{is_met_before}
 use Rattle.osm_rings.specs.Numbered.{edge_at}
-use Rattle.osm_rings.specs.Ways.{AreFrom, AreWays, IsFirstFrom, IsFirstMet, IsWayOf, direction_at, start_at, way_at}
+use Rattle.osm_rings.specs.Departures.{AreFrom, AreDepartures, IsFirstFrom, IsFirstMet, IsDepartureOf, direction_at, start_at, step_at}
 use Rattle.osm_rings.proofs.Clockwise.{met-along}
-use Rattle.osm_rings.proofs.Multiplied.{pick, read-edge, size, way-along, whole-at, whole-in}
+use Rattle.osm_rings.proofs.Multiplied.{pick, read-edge, size, departure-along, whole-at, whole-in}
 use Rattle.osm_rings.proofs.Starts.{same-some, start-at}
 
 -- ---- the first of those that leave the end of an edge
-module _ (es : List geom.Edge) (ws : List Way) (are : AreWays es ws) (e : geom.Edge) (in_e : In e es) (back : Vector) (turned : back ≡ opposite (direction_of e)) (vs : List Way) (from : AreFrom ws e.to vs) where
+module _ (es : List geom.Edge) (ws : List Departure) (are : AreDepartures es ws) (e : geom.Edge) (in_e : In e es) (back : Vector) (turned : back ≡ opposite (direction_of e)) (vs : List Departure) (from : AreFrom ws e.to vs) where
   abbrev m : ℕ
   m = common_den es
 
@@ -35,11 +34,11 @@ module _ (es : List geom.Edge) (ws : List Way) (are : AreWays es ws) (e : geom.E
   we : IsWholeAt m e
   we = whole-in es e in_e
 
-  back-way : HaveOneDirection (from_to (point_times m e.to) (point_times m e.from)) back
-  back-way = subst (HaveOneDirection (from_to (point_times m e.to) (point_times m e.from))) (sym turned) (back_along m e we)
+  back-departure : HaveOneDirection (from_to (point_times m e.to) (point_times m e.from)) back
+  back-departure = subst (HaveOneDirection (from_to (point_times m e.to) (point_times m e.from))) (sym turned) (back_along m e we)
 
-  -- the way of an edge that leaves the end is among these
-  listed : (k : ℕ) → k < length es → (edge_at xs k).from ≡ point_times m e.to → (w : Way) × Contains vs w × (w.edge ≡ k) × (vector_along w.dir ≡ direction_at es k)
+  -- the departure of an edge that leaves the end is among these
+  listed : (k : ℕ) → k < length es → (edge_at xs k).from ≡ point_times m e.to → (w : Departure) × Contains vs w × (w.edge ≡ k) × (vector_along w.dir ≡ direction_at es k)
   listed k h leaves =
       let d = pick es (omega arith) in
       let f = get_or es k d in
@@ -47,7 +46,7 @@ module _ (es : List geom.Edge) (ws : List Way) (are : AreWays es ws) (e : geom.E
       let same : f.from ≡ e.to = same_is_same m f.from e.to we.some wf.first we.second (sym (ap (λ x. x.from) (read-edge m es k d h)) ∙ leaves) in
       let found = are.whole k h in
       let w = found.0 in
-      let right : IsWayOf es w = All-contains (IsWayOf es) ws w are.right found.1 in
+      let right : IsDepartureOf es w = All-contains (IsDepartureOf es) ws w are.right found.1 in
       let here : w.from ≡ e.to = same-some w.from e.to (sym right.from ∙ (ap (start_at es) found.2 ∙ (start-at es k d h ∙ ap Some same))) in
       (w, from.whole w found.1 here, found.2, right.along ∙ ap (direction_at es) found.2)
 
@@ -60,7 +59,7 @@ module _ (es : List geom.Edge) (ws : List Way) (are : AreWays es ws) (e : geom.E
         let l = at.1 in absurd (omega arith);
   }
 
-  pub met-some : (w : Way) → Contains vs w → All (λ v. is_met_before back (vector_along v.dir) (vector_along w.dir) ≡ false) vs → IsFirstMet xs (edge_times m e) (Some w.edge)
+  pub met-some : (w : Departure) → Contains vs w → All (λ v. is_met_before back (vector_along v.dir) (vector_along w.dir) ≡ false) vs → IsFirstMet xs (edge_times m e) (Some w.edge)
   met-some w member first = record {
     some = λ i is. subst (IsFirstFrom xs (edge_times m e)) (unwrap w.edge i is) (record {
       inside = let long = size es in let l = right.inside in omega arith;
@@ -70,7 +69,7 @@ module _ (es : List geom.Edge) (ws : List Way) (are : AreWays es ws) (e : geom.E
           let fits : k < length es = omega arith in
           let v = listed k fits out in
           let before : is_met_before back (vector_along v.0.dir) (vector_along w.dir) ≡ false = All-contains (λ u. is_met_before back (vector_along u.dir) (vector_along w.dir) ≡ false) vs v.0 first v.1 in
-          met-along (from_to (point_times m e.to) (point_times m e.from)) (way_at xs k) (way_at xs w.edge) back (direction_at es k) (direction_at es w.edge) back-way (way-along es k fits) (way-along es w.edge right.inside)
+          met-along (from_to (point_times m e.to) (point_times m e.from)) (step_at xs k) (step_at xs w.edge) back (direction_at es k) (direction_at es w.edge) back-departure (departure-along es k fits) (departure-along es w.edge right.inside)
           ∙ (ap (λ u. is_met_before back u (direction_at es w.edge)) (sym v.3) ∙ (ap (is_met_before back (vector_along v.0.dir)) (sym right.along) ∙ before));
     });
     none = λ is. absurd (cc);
@@ -82,8 +81,8 @@ module _ (es : List geom.Edge) (ws : List Way) (are : AreWays es ws) (e : geom.E
       found : Contains ws w × (w.from ≡ e.to)
       found = All-contains (λ v. Contains ws v × (v.from ≡ e.to)) vs w from.right member
 
-      right : IsWayOf es w
-      right = All-contains (IsWayOf es) ws w are.right found.0
+      right : IsDepartureOf es w
+      right = All-contains (IsDepartureOf es) ws w are.right found.0
 
       leaves : (edge_at xs w.edge).from ≡ point_times m e.to
       leaves =

@@ -5,15 +5,14 @@ use Rattle.std.specs.Ordering.{ordering_then}
 use Rattle.std.proofs.lemmas.Bool.{cases_lt}
 use Rattle.std.proofs.lemmas.Int.{ints}
 use Rattle.plane.specs.Sign.{Plus, Null, Minus, Sign, sign, then_sign}
-use Rattle.plane.proofs.Identities.{Split, lift, same, ◌⊞◌, ◌⊟◌, ◌⊠◌}
-use Rattle.plane.proofs.Signs.{agree, all2, all2-out, all4, all4-out, imp, imp-out, plus-plus, plus-times, weighted-agree}
+use Rattle.plane.proofs.SignKit.{Split, lift, same, ◌⊞◌, ◌⊟◌, ◌⊠◌, agree, all2, all2-out, all4, all4-out, imp, imp-out, plus-plus, plus-times, weighted-agree}
 use Rattle.osm_geom.specs.declared.edge.Edge.{Edge}
 use Rattle.osm_geom.specs.declared.point.Point.{Point}
-use Rattle.osm_geom.specs.OrderLaws.{ordering_of}
+use Rattle.osm_lattice.specs.OrderLaws.{ordering_of}
 use Rattle.osm_geom.specs.Point.{Fraction, x_of, y_of, point_cmp}
 use Rattle.osm_geom.specs.RatioOrder.{fraction_cmp}
-use Rattle.osm_geom.proofs.LocationOrder.{int_cmp-is, ordering_of-then}
-use Rattle.osm_geom.proofs.PointOrders.{point_cmp_is, x_den-some, y_den-some}
+use Rattle.osm_lattice.proofs.LatticeKit.{int_cmp-is, ordering_of-then}
+use Rattle.osm_geom.proofs.GeometryKit.{point_cmp_is, x_den-some, y_den-some}
 use Rattle.osm_rings.specs.LeastStart.{IsLesserStart}
 
 -- how far s is above r, multiplied by both denominators

@@ -1,20 +1,20 @@
-pub mod Clockwise
-pub mod Directed
+mod Clockwise
+mod DeparturesRound
 pub mod EdgeEquality
-pub mod FirstMets
-pub mod Halves
+mod FirstMets
+mod Halves
 pub mod LeastStarts
-pub mod Multiplied
-pub mod OrbitWalks
-pub mod Placed
+mod Multiplied
+mod OrbitWalks
+mod Placed
+mod PlaneNumbers
 pub mod PlaneRings
-pub mod RingListLifts
-pub mod RingLists
-pub mod Starts
-pub mod Succeed
-pub mod TurnedFrom
+mod RingListLifts
+mod RingLists
+mod Starts
+mod Succeed
+mod TurnedFrom
 pub mod TurnedRings
 pub mod UncrossedRings
-pub mod WalkCuts
-pub mod WaysRound
+mod WalkCuts
 pub mod Whole

@@ -2,19 +2,17 @@
 use Rattle.std.proofs.Common.{◌≡◌, ℕ, ◌<◌, List, [], ◌∷◌, Some, length, get_or, sym, ap, subst, ◌∙◌, arith}
 use Rattle.std.proofs.lemmas.List.{get_or-map, length-map}
 use Rattle.plane.specs.Vector.{east, from_to}
-use Rattle.winding.specs.Member.{In}
+use Rattle.lists.specs.Member.{In}
 use Rattle.osm_geom.specs.declared.edge.Edge.{Edge}
 use Rattle.osm_geom.specs.Edge.{direction_of}
-use Rattle.sided.specs.Multiple.{IsWholeAt, common_den, edge_times, edges_times, point_times, whole_edges}
-use Rattle.sided.specs.OneDirection.{HaveOneDirection}
-use Rattle.sided.proofs.Commons.{common_is_common}
-use Rattle.sided.proofs.MultipliedEdges.{each_whole, step_along}
-use Rattle.sided.proofs.MultipliedPoints.{same_is_same}
+use Rattle.plane_edges.specs.Multiple.{IsWholeAt, common_den, edge_times, edges_times, point_times, whole_edges}
+use Rattle.plane_edges.specs.OneDirection.{HaveOneDirection}
+use Rattle.plane_edges.proofs.EdgesKit.{common_is_common, each_whole, step_along, same_is_same}
 use Rattle.osm_rings.specs.Numbered.{edge_at, nowhere}
-use Rattle.osm_rings.specs.Pieces.{TellPoints}
-use Rattle.osm_rings.specs.Ways.{TellStarts, direction_at, way_at}
-use Rattle.osm_rings.proofs.OrbitWalks.{in-at}
+use Rattle.osm_rings.specs.Departures.{TellStarts, direction_at, step_at}
 use Rattle.osm_rings.proofs.Starts.{same-some, start-at}
+use Rattle.osm_rings.proofs.PlaneNumbers.{TellPoints}
+use Rattle.lists.proofs.Items.{at-in}
 
 -- an edge of a list, which has one
 pub pick : (es : List Edge) → 0 < length es → Edge
@@ -35,11 +33,11 @@ module _ (es : List Edge) where
   whole-in = each_whole (common_den es) es (common_is_common es)
 
   pub whole-at : (k : ℕ) (d : Edge) → k < length es → IsWholeAt (common_den es) (get_or es k d)
-  whole-at k d h = whole-in (get_or es k d) (in-at es k d h)
+  whole-at k d h = whole-in (get_or es k d) (at-in es k d h)
 
   -- an edge goes where it points
-  pub way-along : (k : ℕ) → k < length es → HaveOneDirection (way_at (whole_edges es) k) (direction_at es k)
-  way-along k h =
+  pub departure-along : (k : ℕ) → k < length es → HaveOneDirection (step_at (whole_edges es) k) (direction_at es k)
+  departure-along k h =
       let d = pick es (omega arith) in
       let e = get_or es k d in
       subst (λ v. HaveOneDirection v (direction_at es k)) (sym (ap (λ x. from_to x.from x.to) (read-edge (common_den es) es k d h)))
@@ -47,8 +45,8 @@ module _ (es : List Edge) where
       (step_along (common_den es) e (whole-at k d h)))
 
   -- what tells the starts apart does so in the plane
-  pub tell-plane : (keys : List ℕ) → TellStarts es keys → TellPoints (whole_edges es) keys
-  tell-plane keys tell i j hi hj =
+  pub tell-plane : (numbers : List ℕ) → TellStarts es numbers → TellPoints (whole_edges es) numbers
+  tell-plane numbers tell i j hi hj =
       let m = common_den es in
       let long = size in
       let d = pick es (omega arith) in

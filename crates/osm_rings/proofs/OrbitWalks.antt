@@ -5,21 +5,18 @@ use Rattle.std.proofs.lemmas.List.Sums.{sum_by-cons, sum_by-append, sum_by_more}
 use Rattle.nesting.specs.Nesting.{edges_of}
 use Rattle.nesting.specs.Walk.{AreWalks, Follow, IsSuccessor, IsWalk, last}
 use Rattle.plane.specs.Edge.{Edge}
-use Rattle.winding.specs.Member.{In}
-use Rattle.winding.proofs.Members.{in-map-out}
+use Rattle.lists.specs.Member.{In}
+use Rattle.lists.proofs.Members.{in-map-out}
 use Rattle.orbits.specs.Once.{HoldEachOnce}
 use Rattle.orbits.specs.OnceLaws.{SumsAgree, StandBelow, sum_below}
 use Rattle.orbits.specs.Orbits.{AreOrbits, IsOrbit, after, first}
 use Rattle.orbits.specs.Orbits as orbit
-use Rattle.osm_rings.specs.Numbered.{AreSuccessors, edge_at, nowhere}
-
-pub in-at : {X : Type 0} (xs : List X) (i : ℕ) (d : X) → i < length xs → In (get_or xs i d) xs
-in-at [] i d h = absurd (omega arith)
-in-at (x ∷ xs) zero d h = inl refl
-in-at (x ∷ xs) (suc i) d h = inr (in-at xs i d (omega arith))
+use Rattle.osm_rings.specs.Numbered.{edge_at, nowhere}
+use Rattle.osm_rings.proofs.PlaneNumbers.{AreSuccessors}
+use Rattle.lists.proofs.Items.{at-in}
 
 pub edge-in : (es : List Edge) (i : ℕ) → i < length es → In (edge_at es i) es
-edge-in es i h = in-at es i nowhere h
+edge-in es i h = at-in es i nowhere h
 
 -- the place of a member
 pub place-in : {X : Type 0} (xs : List X) (d x : X) → In x xs → (i : ℕ) × (i < length xs) × (get_or xs i d ≡ x)

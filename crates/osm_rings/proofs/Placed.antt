@@ -8,7 +8,7 @@ use Rattle.orbits.specs.OnceLaws.{sum_below}
 use Rattle.osm_geom.specs.declared.edge.Edge.{Edge}
 use Rattle.osm_rings.specs.Numbered.{edge_at}
 use Rattle.osm_rings.specs.Pieces.{AreAllCut, edges_at}
-use Rattle.sided.specs.Multiple.{IsWholeAt, edge_times, edges_times}
+use Rattle.plane_edges.specs.Multiple.{IsWholeAt, edge_times, edges_times}
 use Rattle.osm_rings.proofs.Multiplied.{pick, read-edge}
 
 pub one-at : (es : List Edge) (k : ℕ) (d : Edge) → k < length es → take 1 (drop k es) ≡ get_or es k d ∷ []
@@ -64,10 +64,10 @@ sum-front es f (suc n) h =
     only : (x : Edge) → sum_by f (x ∷ []) ≡ f x
     only x = let e = sum_by-cons f x [] in let none : sum_by f [] ≡ 0 = refl in omega arith
 
-sum-cut : (g : ℕ → ℕ) (keys w : List ℕ) (ps : List (List ℕ)) → AreCutOff keys w ps → sum_by (λ p. sum_by g p) ps ≡ sum_by g w
-sum-cut g keys w [] none = ap (sum_by g) (sym none)
-sum-cut g keys w (p ∷ ps) (a, b, is, piece, rest) =
-    let later = sum-cut g keys (a ++ b) ps rest in
+sum-cut : (g : ℕ → ℕ) (numbers w : List ℕ) (ps : List (List ℕ)) → AreCutOff numbers w ps → sum_by (λ p. sum_by g p) ps ≡ sum_by g w
+sum-cut g numbers w [] none = ap (sum_by g) (sym none)
+sum-cut g numbers w (p ∷ ps) (a, b, is, piece, rest) =
+    let later = sum-cut g numbers (a ++ b) ps rest in
     let left = sum_by-append g a b in
     let outer = sum_by-append g a (p ++ b) in
     let inner = sum_by-append g p b in
@@ -75,30 +75,30 @@ sum-cut g keys w (p ∷ ps) (a, b, is, piece, rest) =
     let whole = ap (sum_by g) is in
     omega arith
 
-sum-all : (g : ℕ → ℕ) (keys : List ℕ) (ws pieces : List (List ℕ)) → AreAllCut keys ws pieces → sum_by (λ p. sum_by g p) pieces ≡ sum_by (λ w. sum_by g w) ws
-sum-all g keys [] pieces none = ap (sum_by (λ p. sum_by g p)) none
-sum-all g keys (w ∷ ws) pieces (ps, qs, is, cut, rest) =
-    let here = sum-cut g keys w ps cut in
-    let later = sum-all g keys ws qs rest in
+sum-all : (g : ℕ → ℕ) (numbers : List ℕ) (ws pieces : List (List ℕ)) → AreAllCut numbers ws pieces → sum_by (λ p. sum_by g p) pieces ≡ sum_by (λ w. sum_by g w) ws
+sum-all g numbers [] pieces none = ap (sum_by (λ p. sum_by g p)) none
+sum-all g numbers (w ∷ ws) pieces (ps, qs, is, cut, rest) =
+    let here = sum-cut g numbers w ps cut in
+    let later = sum-all g numbers ws qs rest in
     let head = sum_by-cons (λ w. sum_by g w) w ws in
     let parts = sum_by-append (λ p. sum_by g p) ps qs in
     let whole = ap (sum_by (λ p. sum_by g p)) is in
     omega arith
 
 -- the pieces of walks that share out the edges hold each edge once
-pub sums-whole : (es : List Edge) (keys : List ℕ) (ws pieces : List (List ℕ)) → AreAllCut keys ws pieces → ((g : ℕ → ℕ) → sum_by (λ w. sum_by g w) ws ≡ sum_below g (length es)) → (f : Edge → ℕ) → sum_by (λ r. sum_by f r) (map (edges_at es) pieces) ≡ sum_by f es
-sums-whole es keys ws pieces cut sums f =
+pub sums-whole : (es : List Edge) (numbers : List ℕ) (ws pieces : List (List ℕ)) → AreAllCut numbers ws pieces → ((g : ℕ → ℕ) → sum_by (λ w. sum_by g w) ws ≡ sum_below g (length es)) → (f : Edge → ℕ) → sum_by (λ r. sum_by f r) (map (edges_at es) pieces) ≡ sum_by f es
+sums-whole es numbers ws pieces cut sums f =
     let g : ℕ → ℕ = λ k. sum_by f (take 1 (drop k es)) in
-    sums-placed es f pieces ∙ (sum-all g keys ws pieces cut ∙ (sums g ∙ (sum-front es f (length es) (omega arith) ∙ ap (sum_by f) (take_all (length es) es (omega arith)))))
+    sums-placed es f pieces ∙ (sum-all g numbers ws pieces cut ∙ (sums g ∙ (sum-front es f (length es) (omega arith) ∙ ap (sum_by f) (take_all (length es) es (omega arith)))))
 
 -- ---- the places of pieces are places of the walks
-cut-below : (n : ℕ) (keys w : List ℕ) (ps : List (List ℕ)) → AreCutOff keys w ps → All (λ k. k < n) w → All (λ p. All (λ k. k < n) p) ps
-cut-below n keys w [] cut low = All-nil (λ p. All (λ k. k < n) p)
-cut-below n keys w (p ∷ ps) (a, b, is, piece, rest) low =
+cut-below : (n : ℕ) (numbers w : List ℕ) (ps : List (List ℕ)) → AreCutOff numbers w ps → All (λ k. k < n) w → All (λ p. All (λ k. k < n) p) ps
+cut-below n numbers w [] cut low = All-nil (λ p. All (λ k. k < n) p)
+cut-below n numbers w (p ∷ ps) (a, b, is, piece, rest) low =
     let all : All (λ k. k < n) (a ++ (p ++ b)) = subst (λ xs. All (λ k. k < n) xs) is low in
     let low_a = left a (p ++ b) all in
     let low_pb = right a (p ++ b) all in
-    All-cons (λ p. All (λ k. k < n) p) p ps (left p b low_pb) (cut-below n keys (a ++ b) ps rest (All-append (λ k. k < n) a b low_a (right p b low_pb)))
+    All-cons (λ p. All (λ k. k < n) p) p ps (left p b low_pb) (cut-below n numbers (a ++ b) ps rest (All-append (λ k. k < n) a b low_a (right p b low_pb)))
   where
     left : (xs ys : List ℕ) → All (λ k. k < n) (xs ++ ys) → All (λ k. k < n) xs
     left xs ys h k d l = rw (get_or_append_left xs ys d k l) at (h k d (let e = length-append xs ys in omega arith))
@@ -107,16 +107,16 @@ cut-below n keys w (p ∷ ps) (a, b, is, piece, rest) low =
     right [] ys h = h
     right (x ∷ xs) ys h = right xs ys (λ k d l. h (suc k) d (omega arith))
 
-pub all-below : (n : ℕ) (keys : List ℕ) (ws pieces : List (List ℕ)) → AreAllCut keys ws pieces → All (λ w. All (λ k. k < n) w) ws → All (λ p. All (λ k. k < n) p) pieces
-all-below n keys [] pieces none low = subst (λ ps. All (λ p. All (λ k. k < n) p) ps) (sym none) (All-nil (λ p. All (λ k. k < n) p))
-all-below n keys (w ∷ ws) pieces (ps, qs, is, cut, rest) low =
-    subst (λ ps. All (λ p. All (λ k. k < n) p) ps) (sym is) (All-append (λ p. All (λ k. k < n) p) ps qs (cut-below n keys w ps cut (low 0 [] (omega arith))) (all-below n keys ws qs rest (λ k d l. low (suc k) d (omega arith))))
+pub all-below : (n : ℕ) (numbers : List ℕ) (ws pieces : List (List ℕ)) → AreAllCut numbers ws pieces → All (λ w. All (λ k. k < n) w) ws → All (λ p. All (λ k. k < n) p) pieces
+all-below n numbers [] pieces none low = subst (λ ps. All (λ p. All (λ k. k < n) p) ps) (sym none) (All-nil (λ p. All (λ k. k < n) p))
+all-below n numbers (w ∷ ws) pieces (ps, qs, is, cut, rest) low =
+    subst (λ ps. All (λ p. All (λ k. k < n) p) ps) (sym is) (All-append (λ p. All (λ k. k < n) p) ps qs (cut-below n numbers w ps cut (low 0 [] (omega arith))) (all-below n numbers ws qs rest (λ k d l. low (suc k) d (omega arith))))
 
 -- ---- the pieces of one more walk
-pub all-cut-more : (keys : List ℕ) (ws pieces : List (List ℕ)) (w : List ℕ) (ps : List (List ℕ)) → AreAllCut keys ws pieces → AreCutOff keys w ps → AreAllCut keys (ws ++ w ∷ []) (pieces ++ ps)
-all-cut-more keys [] pieces w ps none cut = (ps, [], ap (λ r. r ++ ps) none ∙ sym (append-nil ps), cut, refl)
-all-cut-more keys (v ∷ ws) pieces w ps (qs, ts, is, here, later) cut =
-    (qs, ts ++ ps, ap (λ r. r ++ ps) is ∙ append_assoc qs ts ps, here, all-cut-more keys ws ts w ps later cut)
+pub all-cut-more : (numbers : List ℕ) (ws pieces : List (List ℕ)) (w : List ℕ) (ps : List (List ℕ)) → AreAllCut numbers ws pieces → AreCutOff numbers w ps → AreAllCut numbers (ws ++ w ∷ []) (pieces ++ ps)
+all-cut-more numbers [] pieces w ps none cut = (ps, [], ap (λ r. r ++ ps) none ∙ sym (append-nil ps), cut, refl)
+all-cut-more numbers (v ∷ ws) pieces w ps (qs, ts, is, here, later) cut =
+    (qs, ts ++ ps, ap (λ r. r ++ ps) is ∙ append_assoc qs ts ps, here, all-cut-more numbers ws ts w ps later cut)
 
 -- ---- one step of a loop
 pub placed-more : (es : List Edge) (places : List ℕ) (n : ℕ) (found : List Edge) (x : Edge) → n < length places → found ≡ edges_at es (take n places) → x ≡ get_or es (get_or places n 0) x → get_or places n 0 < length es → found ++ x ∷ [] ≡ edges_at es (take (n + 1) places)

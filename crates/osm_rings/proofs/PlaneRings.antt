@@ -3,16 +3,17 @@ use Rattle.std.proofs.Common.{◌≡◌, ◌≢◌, inl, inr, ℕ, suc, zero, �
 use Rattle.std.proofs.lemmas.List.{length-map}
 use Rattle.plane.specs.Edge as plane
 use Rattle.plane.specs.Vector.{Vector, same_point}
-use Rattle.plane.proofs.Bools.{false-if-never}
-use Rattle.plane.proofs.Points.{same_point-refl, same_point-true}
-use Rattle.winding.specs.Member.{EachPair, In}
+use Rattle.std.proofs.lemmas.Bool.{false_from_ne_true}
+use Rattle.plane.proofs.PlaneKit.{same_point-refl, same_point-true}
+use Rattle.lists.specs.Member.{EachPair, In}
 use Rattle.winding.specs.Ring.{IsPath}
 use Rattle.winding.specs.Ring as winding
-use Rattle.winding.proofs.Members.{all-in, in-all, in-map-out}
+use Rattle.lists.proofs.Members.{all-in, in-all, in-map-out}
 use Rattle.osm_geom.specs.declared.edge.Edge.{Edge}
-use Rattle.sided.specs.Multiple.{IsWholeAt, edge_times, edges_times, point_times}
-use Rattle.sided.proofs.MultipliedPoints.{same_is_same}
+use Rattle.plane_edges.specs.Multiple.{IsWholeAt, edge_times, edges_times, point_times}
+use Rattle.plane_edges.proofs.EdgesKit.{same_is_same}
 use Rattle.osm_rings.specs.Ring.{IsRing}
+use Rattle.lists.proofs.Bools.{clash}
 
 -- ---- a ring of the plane is a ring
 path-joins : (q : ℕ) (x y : Vector) (r : List Edge) → IsPath x (edges_times q r) y → (k : ℕ) (d : Edge) → k + 1 < length r → point_times q (get_or r k d).to ≡ point_times q (get_or r (k + 1) d).from
@@ -37,9 +38,6 @@ path-begins q x y (e ∷ r) p h d = p.0
 
 from-apart : (p q : Vector) → same_point p q ≡ false → p ≡ q → ⊥
 from-apart p q n e = clash (same_point p q) (subst (λ w. same_point p w ≡ true) e (same_point-refl p)) n
-  where
-    clash : (b : Bool) → b ≡ true → b ≡ false → ⊥
-    clash b h k = cc
 
 simple-out : (q : ℕ) (r : List Edge) → EachPair (λ (e f : plane.Edge). same_point e.from f.from ≡ false) (edges_times q r) → (i j : ℕ) (d : Edge) → i < j → j < length r → (get_or r i d).from ≢ (get_or r j d).from
 simple-out q [] o i j d h l = absurd (omega arith)
@@ -86,7 +84,7 @@ module _ (k : ℕ) where
 
   apart-by : (e f : Edge) → IsWholeAt k e → IsWholeAt k f → e.from ≢ f.from → same_point (point_times k e.from) (point_times k f.from) ≡ false
   apart-by e f w v n =
-      false-if-never (same_point (point_times k e.from) (point_times k f.from)) (λ h. n (same_is_same k e.from f.from w.some w.first v.first (same_point-true (point_times k e.from) (point_times k f.from) h)))
+      false_from_ne_true (same_point (point_times k e.from) (point_times k f.from)) (λ h. n (same_is_same k e.from f.from w.some w.first v.first (same_point-true (point_times k e.from) (point_times k f.from) h)))
 
   once-of : (es : List Edge) → ((e : Edge) → In e es → IsWholeAt k e) → ((i j : ℕ) (d : Edge) → i < j → j < length es → (get_or es i d).from ≢ (get_or es j d).from) →
       EachPair (λ (e f : plane.Edge). same_point e.from f.from ≡ false) (edges_times k es)

@@ -3,20 +3,16 @@ use Rattle.std.proofs.Common.{◌≡◌, ◌+◌, ℕ, List, [], ◌∷◌, map,
 use Rattle.std.proofs.lemmas.List.Sums.{sum_by-append, sum_by-cons}
 use Rattle.nesting.specs.Nesting.{edges_of}
 use Rattle.nesting.specs.Stack.{cut_all}
-use Rattle.nesting.proofs.Parts.{sided-once}
-use Rattle.nesting.proofs.Pieces.{piece_walk, pieces_same}
-use Rattle.nesting.proofs.Stacks.{stack_cut_all, stack_rings}
-use Rattle.nesting.proofs.Walks.{walks_there}
+use Rattle.nesting.proofs.NestingKit.{sided-once, piece_walk, pieces_same, stack_cut_all, stack_rings, walks_there}
 use Rattle.plane.specs.Edge as plane
 use Rattle.plane.specs.Edge.{same_edge}
-use Rattle.plane.proofs.Edges.{same_edge-refl, same_edge-true}
-use Rattle.winding.specs.Member.{EachPair, In}
-use Rattle.winding.proofs.Members.{all-in, in-all, in-map, in-map-out}
+use Rattle.plane.proofs.PlaneKit.{same_edge-refl, same_edge-true}
+use Rattle.lists.specs.Member.{EachPair, In}
+use Rattle.lists.proofs.Members.{all-in, in-all, in-map, in-map-out}
 use Rattle.osm_geom.specs.declared.edge.Edge.{Edge}
-use Rattle.sided.specs.Multiple.{IsWholeAt, common_den, edge_times, edges_times, whole_edges}
-use Rattle.sided.specs.Sided.{IsSided}
-use Rattle.sided.proofs.Commons.{common_is_common}
-use Rattle.sided.proofs.MultipliedEdges.{each_whole}
+use Rattle.plane_edges.specs.Multiple.{IsWholeAt, common_den, edge_times, edges_times, whole_edges}
+use Rattle.plane_edges.specs.Sided.{IsSided}
+use Rattle.plane_edges.proofs.EdgesKit.{common_is_common, each_whole}
 use Rattle.osm_rings.specs.RingList.{AreRingsOf, HoldTheEdges}
 use Rattle.osm_rings.proofs.PlaneRings.{ring-of-plane}
 use Rattle.osm_rings.proofs.UncrossedRings.{held-within}

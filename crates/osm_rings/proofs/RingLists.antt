@@ -4,31 +4,31 @@ use Rattle.std.proofs.lemmas.List.{get_or-map, length-map, map-append}
 use Rattle.std.proofs.lemmas.List.Elements.{All-cons, All-nil}
 use Rattle.nesting.specs.RingList.{IsRingList}
 use Rattle.nesting.specs.Walk.{AreCuts, AreWalks}
-use Rattle.nesting.proofs.Pieces.{piece_walk, ring_list}
-use Rattle.nesting.proofs.Successors.{next_leaves}
+use Rattle.nesting.proofs.NestingKit.{piece_walk, ring_list, next_leaves}
 use Rattle.plane.specs.Edge as plane
-use Rattle.winding.specs.Member.{In}
+use Rattle.lists.specs.Member.{In}
 use Rattle.winding.specs.Ring.{IsPath}
 use Rattle.winding.specs.Ring as winding
-use Rattle.winding.proofs.Members.{in-all, in-map, in-map-out}
+use Rattle.lists.proofs.Members.{in-all, in-map, in-map-out}
 use Rattle.orbits.specs.Orbits.{AreOrbits, IsOrbit, after}
 use Rattle.orbits.specs.Once.{HoldEachOnce}
 use Rattle.orbits.specs.OnceLaws.{StandBelow, SumsAgree}
 use Rattle.osm_geom.specs.declared.edge.Edge.{Edge}
-use Rattle.sided.specs.Multiple.{IsWholeAt, common_den, edges_times, whole_edges}
-use Rattle.sided.specs.Sided.{IsSided}
-use Rattle.osm_rings.specs.Numbered.{AreSuccessors, edge_at}
-use Rattle.osm_rings.specs.Pieces.{AreAllCut, TellPoints, edges_at}
+use Rattle.plane_edges.specs.Multiple.{IsWholeAt, common_den, edges_times, whole_edges}
+use Rattle.plane_edges.specs.Sided.{IsSided}
+use Rattle.osm_rings.specs.Numbered.{edge_at}
+use Rattle.osm_rings.specs.Pieces.{AreAllCut, edges_at}
 use Rattle.osm_rings.specs.Ring.{IsRing}
 use Rattle.osm_rings.specs.RingList.{AreRingsOf}
 use Rattle.osm_rings.proofs.OrbitWalks.{edge-in, orbits-walks, round, end-is}
 use Rattle.osm_rings.proofs.Placed.{all-below, placed-map, placed-whole, sums-whole}
-use Rattle.osm_rings.specs.Ways.{IsFirstMet}
+use Rattle.osm_rings.specs.Departures.{IsFirstMet}
 use Rattle.osm_rings.proofs.Succeed.{are-successors}
 use Rattle.osm_rings.proofs.PlaneRings.{ring-of-plane}
 use Rattle.osm_rings.proofs.WalkCuts.{cut-pieces}
 use Rattle.osm_rings.proofs.Multiplied.{size, whole-at}
 use Rattle.orbits.specs.Orbits as orbit
+use Rattle.osm_rings.proofs.PlaneNumbers.{AreSuccessors, TellPoints}
 
 -- ---- orbits are paths
 module _ (es : List Edge) (sided : IsSided es) (next : List (Option ℕ)) (are : AreSuccessors (whole_edges es) next) where
@@ -55,8 +55,8 @@ module _ (es : List Edge) (sided : IsSided es) (next : List (Option ℕ)) (are :
       at zero d l = let some = w.some in low (length o - 1) 0 (omega arith)
       at (suc k) d l = low k d (omega arith)
 
-  module _ (keys : List ℕ) (tell : TellPoints edges keys) where
-    cuts-of : (os pieces : List (List ℕ)) → All (IsOrbit next) os → All (λ o. All (λ i. i < length edges) o) os → AreAllCut keys os pieces → AreCuts (map (map (edge_at edges)) os) (map (map (edge_at edges)) pieces)
+  module _ (numbers : List ℕ) (tell : TellPoints edges numbers) where
+    cuts-of : (os pieces : List (List ℕ)) → All (IsOrbit next) os → All (λ o. All (λ i. i < length edges) o) os → AreAllCut numbers os pieces → AreCuts (map (map (edge_at edges)) os) (map (map (edge_at edges)) pieces)
     cuts-of [] pieces orbits low none = ap (map (map (edge_at edges))) none
     cuts-of (o ∷ os) pieces orbits low (ps, qs, is, cut, rest) =
         let w = orbits 0 [] (omega arith) in
@@ -64,11 +64,11 @@ module _ (es : List Edge) (sided : IsSided es) (next : List (Option ℕ)) (are :
           map (map (edge_at edges)) ps,
           map (map (edge_at edges)) qs,
           ap (map (map (edge_at edges))) is ∙ map-append (map (edge_at edges)) ps qs,
-          cut-pieces edges keys tell (edge_at edges (orbit.last o)).to o ps low_o (orbit-path o w low_o) cut,
+          cut-pieces edges numbers tell (edge_at edges (orbit.last o)).to o ps low_o (orbit-path o w low_o) cut,
           cuts-of os qs (λ k d l. orbits (suc k) d (omega arith)) (λ k d l. low (suc k) d (omega arith)) rest,
         )
 
-    module _ (sums : SumsAgree) (stand : StandBelow) (os : List (List ℕ)) (orbits : AreOrbits next os) (pieces : List (List ℕ)) (cut : AreAllCut keys os pieces) where
+    module _ (sums : SumsAgree) (stand : StandBelow) (os : List (List ℕ)) (orbits : AreOrbits next os) (pieces : List (List ℕ)) (cut : AreAllCut numbers os pieces) where
       low : All (λ o. All (λ i. i < length edges) o) os
       low = stand (length edges) os (rw (← are.sized) orbits.once)
 
@@ -80,7 +80,7 @@ module _ (es : List Edge) (sided : IsSided es) (next : List (Option ℕ)) (are :
 
       -- the places of the pieces are places of edges
       pub pieces-inside : All (λ p. All (λ k. k < length es) p) pieces
-      pieces-inside = subst (λ n. All (λ p. All (λ k. k < n) p) pieces) (size es) (all-below (length edges) keys os pieces cut low)
+      pieces-inside = subst (λ n. All (λ p. All (λ k. k < n) p) pieces) (size es) (all-below (length edges) numbers os pieces cut low)
 
       same-pieces : (ps : List (List ℕ)) → All (λ p. All (λ k. k < length es) p) ps → map (edges_times m) (map (edges_at es) ps) ≡ map (map (edge_at edges)) ps
       same-pieces [] inside = refl
@@ -114,7 +114,7 @@ module _ (es : List Edge) (sided : IsSided es) (next : List (Option ℕ)) (are :
       -- the pieces are rings that hold each edge once, each in one walk
       pub pieces-are-rings : AreRingsOf es (map (edges_at es) pieces)
       pieces-are-rings = record {
-        edges = sums-whole es keys os pieces cut (λ g. sums (length es) os (subst (λ n. HoldEachOnce n os) (are.sized ∙ size es) orbits.once) g);
+        edges = sums-whole es numbers os pieces cut (λ g. sums (length es) os (subst (λ n. HoldEachOnce n os) (are.sized ∙ size es) orbits.once) g);
         walks = λ r i.
             let mapped : In (edges_times m r) (map (map (edge_at edges)) pieces) = subst (In (edges_times m r)) in-plane (in-map (edges_times m) (map (edges_at es) pieces) r i) in
             let found = (piece_walk edges sided (map (map (edge_at edges)) os) (map (map (edge_at edges)) pieces) walks cuts (edges_times m r) mapped).1 in

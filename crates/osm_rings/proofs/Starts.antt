@@ -1,11 +1,11 @@
--- The ways in order: where those that begin at a point stand.
-use Rattle.std.proofs.Common.{◌≡◌, ℕ, ◌+◌, ◌-◌, ◌<◌, ◌≤◌, List, [], ◌∷◌, ◌++◌, length, get_or, drop, All, Bool, true, false, not, Some, None, refl, sym, ap, subst, ◌∙◌, arith, ⊎_elim}
+-- The departures in order: where those that begin at a point stand.
+use Rattle.std.proofs.Common.{◌≡◌, ℕ, ◌+◌, ◌-◌, ◌<◌, ◌≤◌, List, [], ◌∷◌, ◌++◌, length, get_or, drop, All, Result, Ok, Err, IfOk, Bool, true, false, not, Some, None, refl, sym, ap, subst, ◌∙◌, arith, ⊎_elim}
 use Rattle.std.specs.List.{Contains, slice_range}
-use Rattle.std.specs.List.Sorted.{IsPartitionedBy, IsPermutation}
+use Rattle.std.specs.List.Sorted.{IsPartitionPoint, IsPartitionedBy, IsPermutation}
 use Rattle.std.specs.declared.cmp.Ordering.{Ordering}
 use Rattle.std.specs.declared.cmp.Ordering.TheVariants.{Less, Equal, Greater}
 use Rattle.std.specs.Ordering.{is_lt, ordering_reverse}
-use Rattle.std.proofs.lemmas.Bool.{cases_lt}
+use Rattle.std.proofs.lemmas.Bool.{cases_lt, false_from_ne_true}
 use Rattle.std.proofs.lemmas.Cmp.{tied_itself}
 use Rattle.std.proofs.lemmas.List.{get_or_default, get_or-map, get_or-take, get_or-drop, length-append, length-drop, length-take-le, get_or_append_left}
 use Rattle.std.proofs.lemmas.List.Elements.{All-contains, All-push}
@@ -18,9 +18,10 @@ use Rattle.osm_geom.specs.declared.point.Point.{Point}
 use Rattle.osm_geom.specs.Dir.{vector_along}
 use Rattle.osm_geom.specs.Edge.{direction_of}
 use Rattle.osm_geom.specs.Point.{point_cmp}
-use Rattle.osm_geom.proofs.TotalPoints.{point_same, point_total}
-use Rattle.osm_rings.specs.declared.ways.Way.{Way}
-use Rattle.osm_rings.specs.Ways.{AreClockwiseRound, AreFrom, AreRising, AreWays, IsEndAt, IsFirstAt, IsWayOf, TellStarts, start_at}
+use Rattle.osm_geom.proofs.GeometryKit.{point_same, point_total}
+use Rattle.osm_rings.specs.declared.departures.Departure.{Departure}
+use Rattle.osm_rings.specs.Departures.{AreClockwiseRound, AreFrom, AreRising, AreDepartures, IsEndAt, IsFirstAt, IsDepartureOf, TellStarts, start_at}
+use Rattle.lists.proofs.Bools.{clash, not-false-out, not-true-out}
 
 -- what an edge leaves
 pub start-at : (es : List Edge) (i : ℕ) (d : Edge) → i < length es → start_at es i ≡ Some (get_or es i d).from
@@ -41,17 +42,6 @@ ranked-chain = (ranks_by point_total (λ (p : Point). p)).chain
 lt-itself : (p : Point) → lt p p ≡ false
 lt-itself p = ap is_lt (tied_itself point_total p)
 
-clash : (b : Bool) → b ≡ true → b ≡ false → ⊥
-clash b p q = cc
-
-not-out : (b : Bool) → not b ≡ true → b ≡ false
-not-out true h = sym h
-not-out false h = refl
-
-not-in : (b : Bool) → not b ≡ false → b ≡ true
-not-in true h = refl
-not-in false h = sym h
-
 -- neither begins before the other
 same-from : (p q : Point) → lt p q ≡ false → lt q p ≡ false → p ≡ q
 same-from p q h g = decide (point_cmp p q) refl
@@ -61,7 +51,13 @@ same-from p q h g = decide (point_cmp p q) refl
     decide Equal e = point_same p q e
     decide Greater e = absurd (clash (lt q p) (ap is_lt (point_total.antisymm q p ∙ ap ordering_reverse e)) g)
 
-module _ (ws : List Way) where
+by-neighbours : (test : Departure → Bool) (ws : List Departure) (i : ℕ) → i ≤ length ws → IsPartitionedBy test ws → ((d : Departure) → 0 < i → test (get_or ws (i - 1) d) ≡ true) → ((d : Departure) → i < length ws → test (get_or ws i d) ≡ false) → IsPartitionPoint (λ w. test w ≡ true) (λ w. test w ≡ false) ws i
+by-neighbours test ws i within parted low high = (
+  λ k d from below. parted k (i - 1) d (omega arith) (omega arith) (low d (omega arith)),
+  λ k d from below. false_from_ne_true (test (get_or ws k d)) (λ passes. clash (test (get_or ws i d)) (parted i k d (omega arith) below passes) (high d (omega arith))),
+)
+
+module _ (ws : List Departure) where
   module _ (rising : AreRising ws) where
     pub before-parts : (p : Point) → IsPartitionedBy (λ w. lt w.from p) ws
     before-parts p i j d h l below = decide (lt (get_or ws i d).from p) refl
@@ -71,10 +67,17 @@ module _ (ws : List Way) where
         decide false e = absurd (clash (lt (get_or ws j d).from p) below (ranked-chain (get_or ws j d).from (get_or ws i d).from p (rising i j d h l) e))
 
     pub after-parts : (p : Point) → IsPartitionedBy (λ w. not (lt p w.from)) ws
-    after-parts p i j d h l upto = ap not (ranked-chain p (get_or ws j d).from (get_or ws i d).from (not-out (lt p (get_or ws j d).from) upto) (rising i j d h l))
+    after-parts p i j d h l upto = ap not (ranked-chain p (get_or ws j d).from (get_or ws i d).from (not-true-out (lt p (get_or ws j d).from) upto) (rising i j d h l))
 
-    -- a way that begins at p stands at the first place or later, and one begins there
-    pub found-at : (p : Point) (i : ℕ) (w : Way) → IsFirstAt ws p i → Contains ws w → w.from ≡ p → (i < length ws) × ((get_or ws i w).from ≡ p)
+    -- told by the departures on both sides of the place
+    pub first-by-neighbours : (p : Point) (i : ℕ) → i ≤ length ws → ((d : Departure) → 0 < i → lt (get_or ws (i - 1) d).from p ≡ true) → ((d : Departure) → i < length ws → lt (get_or ws i d).from p ≡ false) → IsFirstAt ws p i
+    first-by-neighbours p i within low high = by-neighbours (λ w. lt w.from p) ws i within (before-parts p) low high
+
+    pub end-by-neighbours : (p : Point) (i : ℕ) → i ≤ length ws → ((d : Departure) → 0 < i → lt p (get_or ws (i - 1) d).from ≡ false) → ((d : Departure) → i < length ws → lt p (get_or ws i d).from ≡ true) → IsEndAt ws p i
+    end-by-neighbours p i within low high = by-neighbours (λ w. not (lt p w.from)) ws i within (after-parts p) (λ d h. ap not (low d h)) (λ d h. ap not (high d h))
+
+    -- a departure that begins at p stands at the first place or later, and one begins there
+    pub found-at : (p : Point) (i : ℕ) (w : Departure) → IsFirstAt ws p i → Contains ws w → w.from ≡ p → (i < length ws) × ((get_or ws i w).from ≡ p)
     found-at p i w first (m, inside, is) at_p =
         let here : (get_or ws m w).from ≡ p = ap (λ v. v.from) is ∙ at_p in
         let late : i ≤ m = ⊎_elim
@@ -86,7 +89,7 @@ module _ (ws : List Way) where
         (fits, same-from (get_or ws i w).from p (first.1 i w (omega arith) fits) up)
 
     -- there is one first place
-    pub first-one : (p : Point) (i j : ℕ) (d : Way) → i < length ws → j < length ws → IsFirstAt ws p i → IsFirstAt ws p j → i ≡ j
+    pub first-one : (p : Point) (i j : ℕ) (d : Departure) → i < length ws → j < length ws → IsFirstAt ws p i → IsFirstAt ws p j → i ≡ j
     first-one p i j d hi hj f g = ⊎_elim
         (λ l. absurd (clash (lt (get_or ws i d).from p) (g.0 i d (omega arith) l) (f.1 i d (omega arith) hi)))
         (λ l. ⊎_elim
@@ -99,16 +102,16 @@ module _ (ws : List Way) where
   pub first-to-end : (p : Point) (a b : ℕ) → a ≤ length ws → IsFirstAt ws p a → IsEndAt ws p b → a ≤ b
   first-to-end p a b h first end = by-length ws refl
     where
-      before-end : (d : Way) → a ≤ b
+      before-end : (d : Departure) → a ≤ b
       before-end d = ⊎_elim
           (λ l.
           let low : lt (get_or ws b d).from p ≡ true = first.0 b d (omega arith) l in
-          let high : lt p (get_or ws b d).from ≡ true = not-in (lt p (get_or ws b d).from) (end.1 b d (omega arith) (omega arith)) in
+          let high : lt p (get_or ws b d).from ≡ true = not-false-out (lt p (get_or ws b d).from) (end.1 b d (omega arith) (omega arith)) in
           absurd (clash (lt (get_or ws b d).from p) low ((ranks_by point_total (λ (q : Point). q)).one_way p (get_or ws b d).from high)))
           (λ l. l)
           (cases_lt b a)
 
-      by-length : (xs : List Way) → ws ≡ xs → a ≤ b
+      by-length : (xs : List Departure) → ws ≡ xs → a ≤ b
       by-length [] e = let none : length ws ≡ 0 = ap length e in omega arith
       by-length (x ∷ xs) e = before-end x
 
@@ -118,11 +121,11 @@ module _ (ws : List Way) where
       let range = slice_range ws a b in
       let dropped : length (drop a ws) ≡ length ws - a = length-drop a ws in
       let long : length range ≡ b - a = length-take-le (b - a) (drop a ws) (omega arith) in
-      let read : (k : ℕ) (d : Way) → k < length range → get_or range k d ≡ get_or ws (a + k) d = λ k d m. get_or-take (b - a) (drop a ws) k d (omega arith) ∙ get_or-drop a ws k d in
-      let begins : (k : ℕ) (d : Way) → k < length range → (get_or range k d).from ≡ p = λ k d m.
+      let read : (k : ℕ) (d : Departure) → k < length range → get_or range k d ≡ get_or ws (a + k) d = λ k d m. get_or-take (b - a) (drop a ws) k d (omega arith) ∙ get_or-drop a ws k d in
+      let begins : (k : ℕ) (d : Departure) → k < length range → (get_or range k d).from ≡ p = λ k d m.
       let w = get_or ws (a + k) d in
       let low : lt w.from p ≡ false = first.1 (a + k) d (omega arith) (omega arith) in
-      let high : lt p w.from ≡ false = not-out (lt p w.from) (end.0 (a + k) d (omega arith) (omega arith)) in
+      let high : lt p w.from ≡ false = not-true-out (lt p w.from) (end.0 (a + k) d (omega arith) (omega arith)) in
       ap (λ v. v.from) (read k d m) ∙ same-from w.from p low high in
       record {
         right = λ k d m.
@@ -137,7 +140,7 @@ module _ (ws : List Way) where
             (cases_lt m a) in
             let early : m < b = ⊎_elim
             (λ early. early)
-            (λ late. absurd (clash (lt p (get_or ws m w).from) (not-in (lt p (get_or ws m w).from) (end.1 m w late inside)) (ap (λ q. lt p q) here ∙ lt-itself p)))
+            (λ late. absurd (clash (lt p (get_or ws m w).from) (not-false-out (lt p (get_or ws m w).from) (end.1 m w late inside)) (ap (λ q. lt p q) here ∙ lt-itself p)))
             (cases_lt m b) in
             let same : a + (m - a) ≡ m = omega arith in
             let fits : m - a < length range = omega arith in
@@ -149,20 +152,20 @@ module _ (ws : List Way) where
             rw (read j d m, read i d fits) (round (a + i) (a + j) d (omega arith) (omega arith) same);
       }
 
--- ---- the ways of the edges passed so far
-pub way-of : (es : List Edge) (w : Way) (e : Edge) → w.edge < length es → e ≡ get_or es w.edge e → w.from ≡ e.from → vector_along w.dir ≡ direction_of e → IsWayOf es w
-way-of es w e inside is from along = record {
+-- ---- the departures of the edges passed so far
+pub departure-of : (es : List Edge) (w : Departure) (e : Edge) → w.edge < length es → e ≡ get_or es w.edge e → w.from ≡ e.from → vector_along w.dir ≡ direction_of e → IsDepartureOf es w
+departure-of es w e inside is from along = record {
   inside = inside;
   from = start-read es w.edge e inside is ∙ ap Some (sym from);
   along = along ∙ sym (get_or-map direction_of es w.edge e east inside ∙ ap direction_of (sym is));
 }
 
-pub record AreListed (es : List Edge) (n : ℕ) (ws : List Way) : Type 0 where
+pub record AreListed (es : List Edge) (n : ℕ) (ws : List Departure) : Type 0 where
   pub sized : length ws ≡ n
-  pub edge : (i : ℕ) (d : Way) → i < n → (get_or ws i d).edge ≡ i
-  pub right : All (IsWayOf es) ws
+  pub edge : (i : ℕ) (d : Departure) → i < n → (get_or ws i d).edge ≡ i
+  pub right : All (IsDepartureOf es) ws
 
-pub listed-more : (es : List Edge) (n : ℕ) (ws : List Way) (w : Way) → AreListed es n ws → w.edge ≡ n → IsWayOf es w → AreListed es (n + 1) (ws ++ w ∷ [])
+pub listed-more : (es : List Edge) (n : ℕ) (ws : List Departure) (w : Departure) → AreListed es n ws → w.edge ≡ n → IsDepartureOf es w → AreListed es (n + 1) (ws ++ w ∷ [])
 listed-more es n ws w l is right =
     let sized = l.sized in
     record {
@@ -172,82 +175,86 @@ listed-more es n ws w l is right =
           (λ m. let e : i ≡ n = omega arith in
           ap (λ k. (get_or (ws ++ w ∷ []) k d).edge) (e ∙ sym sized) ∙ (ap (λ v. v.edge) (get_or-append_seam ws w [] d) ∙ (is ∙ sym e)))
           (cases_lt i n);
-      right = All-push (IsWayOf es) ws w l.right right;
+      right = All-push (IsDepartureOf es) ws w l.right right;
     }
 
--- sorted, they are the ways of all edges
-pub listed-sorted : (es : List Edge) (ws vs : List Way) (n : ℕ) → n ≡ length es → AreListed es n ws → IsPermutation ws vs → AreRising vs → AreClockwiseRound vs → AreWays es vs
+-- sorted, they are the departures of all edges
+pub listed-sorted : (es : List Edge) (ws vs : List Departure) (n : ℕ) → n ≡ length es → AreListed es n ws → IsPermutation ws vs → AreRising vs → AreClockwiseRound vs → AreDepartures es vs
 listed-sorted es ws vs n whole l moved rising round =
     let sized = l.sized in
     record {
       sized = length_permutation ws vs moved ∙ (sized ∙ whole);
       rising = rising;
       round = round;
-      right = All-permutation (IsWayOf es) ws vs moved l.right;
-      whole = λ k h. with-way ws refl (λ d.
+      right = All-permutation (IsDepartureOf es) ws vs moved l.right;
+      whole = λ k h. with-departure ws refl (λ d.
           let w = get_or ws k d in
           let fits : k < length ws = omega arith in
           (w, Contains-permutation ws vs w moved (k, fits, get_or_default ws k w d fits), l.edge k d (omega arith))) (omega arith);
     }
   where
-    with-way : {G : Type 0} (xs : List Way) → ws ≡ xs → (Way → G) → 0 < length ws → G
-    with-way [] e f h = let none : length ws ≡ 0 = ap length e in absurd (omega arith)
-    with-way (x ∷ xs) e f h = f x
+    with-departure : {G : Type 0} (xs : List Departure) → ws ≡ xs → (Departure → G) → 0 < length ws → G
+    with-departure [] e f h = let none : length ws ≡ 0 = ap length e in absurd (omega arith)
+    with-departure (x ∷ xs) e f h = f x
 
 -- ---- the numbers of the nodes
-pub record AreKeyed (es : List Edge) (ws : List Way) (n : ℕ) (keys : List ℕ) : Type 0 where
-  pub sized : length keys ≡ n
-  pub first : (i : ℕ) → i < n → (p : Point) × (start_at es i ≡ Some p) × IsFirstAt ws p (get_or keys i 0)
+pub record AreKeyed (es : List Edge) (ws : List Departure) (n : ℕ) (numbers : List ℕ) : Type 0 where
+  pub sized : length numbers ≡ n
+  pub first : (i : ℕ) → i < n → (p : Point) × (start_at es i ≡ Some p) × IsFirstAt ws p (get_or numbers i 0)
 
-pub keyed-more : (es : List Edge) (ws : List Way) (n : ℕ) (keys : List ℕ) (p : Point) (k : ℕ) → AreKeyed es ws n keys → start_at es n ≡ Some p → IsFirstAt ws p k → AreKeyed es ws (n + 1) (keys ++ k ∷ [])
-keyed-more es ws n keys p k inv from first =
+pub keyed-more : (es : List Edge) (ws : List Departure) (n : ℕ) (numbers : List ℕ) (p : Point) (k : ℕ) → AreKeyed es ws n numbers → start_at es n ≡ Some p → IsFirstAt ws p k → AreKeyed es ws (n + 1) (numbers ++ k ∷ [])
+keyed-more es ws n numbers p k inv from first =
     let sized = inv.sized in
     record {
-      sized = let e = length-append keys (k ∷ []) in omega arith;
+      sized = let e = length-append numbers (k ∷ []) in omega arith;
       first = λ i h. ⊎_elim
           (λ m. let old = inv.first i m in
-          let same : get_or (keys ++ k ∷ []) i 0 ≡ get_or keys i 0 = get_or_append_left keys (k ∷ []) 0 i (omega arith) in
+          let same : get_or (numbers ++ k ∷ []) i 0 ≡ get_or numbers i 0 = get_or_append_left numbers (k ∷ []) 0 i (omega arith) in
           (old.0, old.1, subst (IsFirstAt ws old.0) (sym same) old.2))
           (λ m. let e : i ≡ n = omega arith in
-          let same : get_or (keys ++ k ∷ []) i 0 ≡ k = ap (λ j. get_or (keys ++ k ∷ []) j 0) (e ∙ sym sized) ∙ get_or-append_seam keys k [] 0 in
+          let same : get_or (numbers ++ k ∷ []) i 0 ≡ k = ap (λ j. get_or (numbers ++ k ∷ []) j 0) (e ∙ sym sized) ∙ get_or-append_seam numbers k [] 0 in
           (p, ap (start_at es) e ∙ from, subst (IsFirstAt ws p) (sym same) first))
           (cases_lt i n);
     }
 
-module _ (es : List Edge) (ws : List Way) (are : AreWays es ws) (keys : List ℕ) (keyed : AreKeyed es ws (length es) keys) where
-  -- the way of an edge begins where the edge does
-  begins-there : (i : ℕ) (p : Point) → i < length es → start_at es i ≡ Some p → (w : Way) × Contains ws w × (w.from ≡ p)
+module _ (es : List Edge) (ws : List Departure) (are : AreDepartures es ws) (numbers : List ℕ) (keyed : AreKeyed es ws (length es) numbers) where
+  -- the departure of an edge begins where the edge does
+  begins-there : (i : ℕ) (p : Point) → i < length es → start_at es i ≡ Some p → (w : Departure) × Contains ws w × (w.from ≡ p)
   begins-there i p h from =
       let found = are.whole i h in
       let w = found.0 in
-      let right : IsWayOf es w = All-contains (IsWayOf es) ws w are.right found.1 in
+      let right : IsDepartureOf es w = All-contains (IsDepartureOf es) ws w are.right found.1 in
       (w, found.1, same-some w.from p (sym right.from ∙ (ap (start_at es) found.2 ∙ from)))
 
-  at-key : (i : ℕ) → i < length es → (p : Point) × (w : Way) × (start_at es i ≡ Some p) × IsFirstAt ws p (get_or keys i 0) × (get_or keys i 0 < length ws) × ((get_or ws (get_or keys i 0) w).from ≡ p)
+  at-key : (i : ℕ) → i < length es → (p : Point) × (w : Departure) × (start_at es i ≡ Some p) × IsFirstAt ws p (get_or numbers i 0) × (get_or numbers i 0 < length ws) × ((get_or ws (get_or numbers i 0) w).from ≡ p)
   at-key i h =
       let key = keyed.first i h in
       let w = begins-there i key.0 h key.1 in
-      let at = found-at ws are.rising key.0 (get_or keys i 0) w.0 key.2 w.1 w.2 in
+      let at = found-at ws are.rising key.0 (get_or numbers i 0) w.0 key.2 w.1 w.2 in
       (key.0, w.0, key.1, key.2, at.0, at.1)
 
-  pub keys-below : All (λ k. k < length es) keys
-  keys-below i d h =
+  pub numbers-below : All (λ k. k < length es) numbers
+  numbers-below i d h =
       let sized = keyed.sized in
       let at = at-key i (omega arith) in
       let fits = at.4 in
       let size = are.sized in
-      let read : get_or keys i d ≡ get_or keys i 0 = get_or_default keys i d 0 h in
+      let read : get_or numbers i d ≡ get_or numbers i 0 = get_or_default numbers i d 0 h in
       rw read (omega arith)
 
-  pub keys-tell : TellStarts es keys
-  keys-tell i j hi hj =
+  pub numbers-tell : TellStarts es numbers
+  numbers-tell i j hi hj =
       let a = at-key i hi in
       let b = at-key j hj in (
         λ same.
-            let here : (get_or ws (get_or keys j 0) b.1).from ≡ a.0 =
-            ap (λ w. w.from) (get_or_default ws (get_or keys j 0) b.1 a.1 b.4) ∙ (ap (λ k. (get_or ws k a.1).from) (sym same) ∙ a.5) in
+            let here : (get_or ws (get_or numbers j 0) b.1).from ≡ a.0 =
+            ap (λ w. w.from) (get_or_default ws (get_or numbers j 0) b.1 a.1 b.4) ∙ (ap (λ k. (get_or ws k a.1).from) (sym same) ∙ a.5) in
             a.2 ∙ (ap Some (sym here ∙ b.5) ∙ sym b.2),
         λ same.
             let one : a.0 ≡ b.0 = same-some a.0 b.0 (sym a.2 ∙ (same ∙ b.2)) in
-            first-one ws are.rising b.0 (get_or keys i 0) (get_or keys j 0) b.1 a.4 b.4 (subst (λ p. IsFirstAt ws p (get_or keys i 0)) one a.3) b.3,
+            first-one ws are.rising b.0 (get_or numbers i 0) (get_or numbers j 0) b.1 a.4 b.4 (subst (λ p. IsFirstAt ws p (get_or numbers i 0)) one a.3) b.3,
       )
+
+pub if-all-ok : {A E : Type 0} {P Q R S : A → Type 0} (r : Result A E) → IfOk r P → IfOk r Q → IfOk r R → ((v : A) → P v → Q v → R v → S v) → IfOk r S
+if-all-ok (Ok v) p q r f = f v p q r
+if-all-ok (Err e) p q r f = tt

@@ -3,23 +3,21 @@ use Rattle.std.proofs.Common.{◌≡◌, ℕ, suc, zero, ◌<◌, List, [], ◌�
 use Rattle.std.proofs.lemmas.Bool.{cases_lt}
 use Rattle.std.proofs.lemmas.List.{get_or_past}
 use Rattle.nesting.specs.Walk.{IsSuccessor}
-use Rattle.nesting.proofs.Parts.{sided-once}
-use Rattle.nesting.proofs.Successors.{clear-two, next_leaves, next_one, no-loop-segments, segment-ends, rise, sym-differs, way-segment}
-use Rattle.nesting.proofs.Turns.{next_there}
+use Rattle.nesting.proofs.NestingKit.{sided-once, clear-two, next_leaves, next_one, no-loop-segments, segment-ends, rise, sym-differs, way-segment, next_there}
 use Rattle.plane.specs.Edge.{Edge, ends_at, other_end, same_edge, segment_of}
 use Rattle.plane.specs.Sector.{in_sector}
 use Rattle.plane.specs.Vector.{IsDirection, Vector, from_to, same_point}
-use Rattle.plane.proofs.Edges.{ends_at-from, ends_at-to, same_edge-true}
-use Rattle.plane.proofs.Points.{same_point-refl}
-use Rattle.winding.specs.Member.{EachPair, In}
+use Rattle.plane.proofs.PlaneKit.{ends_at-from, ends_at-to, same_edge-true, same_point-refl}
+use Rattle.lists.specs.Member.{EachPair, In}
 use Rattle.winding.specs.Sided.{IsSided}
-use Rattle.winding.proofs.Balance.{way, way-direction, ways_apart}
+use Rattle.winding.proofs.WindingKit.{way, way-direction, ways_apart}
 use Rattle.orbits.specs.Orbits.{after}
 use Rattle.osm_rings.specs.Clockwise.{is_met_before}
-use Rattle.osm_rings.specs.Numbered.{AreSuccessors, edge_at, nowhere}
-use Rattle.osm_rings.specs.Ways.{IsFirstFrom, IsFirstMet, way_at}
+use Rattle.osm_rings.specs.Numbered.{edge_at, nowhere}
+use Rattle.osm_rings.specs.Departures.{IsFirstFrom, IsFirstMet, step_at}
 use Rattle.osm_rings.proofs.Clockwise.{apart, sector-holds}
 use Rattle.osm_rings.proofs.OrbitWalks.{edge-in, place-in}
+use Rattle.osm_rings.proofs.PlaneNumbers.{AreSuccessors}
 
 leaves-end : (v : Vector) (g : Edge) → g.from ≡ v → ends_at v g ≡ true
 leaves-end v g e = subst (λ w. ends_at w g ≡ true) e (ends_at-from g)
@@ -89,10 +87,10 @@ module _ (es : List Edge) (sd : IsSided es) where
         let out : f.from ≡ v = sym (next_leaves es sd e f in_e n) in
         let k = place-in es nowhere f in_f in
         let out_k : (edge_at es k.0).from ≡ v = ap (λ x. x.from) k.2 ∙ out in
-        let way_f : way_at es k.0 ≡ from_to v f.to = ap (λ x. from_to x.from x.to) k.2 ∙ ap (λ w. from_to w f.to) out in
-        let way_g : way_at es j ≡ from_to v g.to = ap (λ w. from_to w g.to) first.leaves in
+        let way_f : step_at es k.0 ≡ from_to v f.to = ap (λ x. from_to x.from x.to) k.2 ∙ ap (λ w. from_to w f.to) out in
+        let way_g : step_at es j ≡ from_to v g.to = ap (λ w. from_to w g.to) first.leaves in
         let later : is_met_before (from_to v e.from) (from_to v f.to) (from_to v g.to) ≡ false =
-        subst (λ w. is_met_before (from_to v e.from) (from_to v f.to) w ≡ false) way_g (subst (λ w. is_met_before (from_to v e.from) w (way_at es j) ≡ false) way_f (first.first k.0 k.1 out_k)) in
+        subst (λ w. is_met_before (from_to v e.from) (from_to v f.to) w ≡ false) way_g (subst (λ w. is_met_before (from_to v e.from) w (step_at es j) ≡ false) way_f (first.first k.0 k.1 out_k)) in
         let g_f : same_edge g f ≡ false = sym-differs g f s in
         let ways : apart (way v (segment_of g)) (way v (segment_of f)) ≡ true =
         ways_apart v (segment_of g) (segment_of f) (segment-ends v g (leaves-end v g first.leaves)) (segment-ends v f (leaves-end v f out)) (rise es sd g in_g) (rise es sd f in_f) (clear-two es sd g f in_g in_f g_f) in

@@ -5,21 +5,20 @@ use Rattle.std.proofs.lemmas.List.{length-map}
 use Rattle.nesting.specs.Nesting.{edges_of}
 use Rattle.nesting.specs.RingList.{IsRingList}
 use Rattle.nesting.specs.Walk.{HasSameEdges}
-use Rattle.nesting.proofs.Nests.{total-edges}
+use Rattle.nesting.proofs.NestingKit.{total-edges}
 use Rattle.one_ring_list.specs.RingListOf.{IsRingListOf, LiesInWalk}
 use Rattle.one_ring_list.proofs.Uncrossed.{rings-uncrossed}
 use Rattle.plane.specs.Edge as plane
 use Rattle.plane.specs.Bit.{bit}
-use Rattle.winding.specs.Member.{In}
+use Rattle.lists.specs.Member.{In}
 use Rattle.winding.specs.Ring as winding
-use Rattle.winding.proofs.Members.{in-map-out}
-use Rattle.winding.proofs.RingCounts.{total-member}
-use Rattle.winding.proofs.Sums.{total, total-is, total-map}
+use Rattle.lists.proofs.Members.{in-map-out}
+use Rattle.winding.proofs.WindingKit.{total-member}
+use Rattle.lists.proofs.Sums.{total, total-is, total-map}
 use Rattle.osm_geom.specs.declared.edge.Edge.{Edge}
-use Rattle.sided.specs.Multiple.{common_den, edge_times, edges_times, whole_edges}
-use Rattle.sided.specs.Sided.{IsSided}
-use Rattle.sided.proofs.Commons.{common_is_common}
-use Rattle.sided.proofs.MultipliedEdges.{each_whole}
+use Rattle.plane_edges.specs.Multiple.{common_den, edge_times, edges_times, whole_edges}
+use Rattle.plane_edges.specs.Sided.{IsSided}
+use Rattle.plane_edges.proofs.EdgesKit.{common_is_common, each_whole}
 use Rattle.osm_rings.specs.RingList.{AreRingsOf, HoldTheEdges}
 use Rattle.osm_rings.proofs.EdgeEquality.{counted-in, exact-out, exact-own, same_exact}
 use Rattle.osm_rings.proofs.PlaneRings.{plane-ring}

@@ -5,12 +5,12 @@ use Rattle.std.proofs.lemmas.List.Elements.{All-append}
 use Rattle.nesting.specs.Walk.{AreCuts, Cuts}
 use Rattle.plane.specs.Edge.{Edge}
 use Rattle.plane.specs.Vector.{Vector, same_point}
-use Rattle.plane.proofs.Points.{same_point-true}
-use Rattle.winding.specs.Member.{EachPair}
+use Rattle.plane.proofs.PlaneKit.{same_point-true}
+use Rattle.lists.specs.Member.{EachPair}
 use Rattle.winding.specs.Ring.{IsPath, IsRing}
 use Rattle.orbits.specs.Cutting.{AreCutOff}
 use Rattle.osm_rings.specs.Numbered.{edge_at}
-use Rattle.osm_rings.specs.Pieces.{TellPoints}
+use Rattle.osm_rings.proofs.PlaneNumbers.{TellPoints}
 
 -- paths one after the other
 pub path-join : (x y z : Vector) (xs ys : List Edge) → IsPath x xs y → IsPath y ys z → IsPath x (xs ++ ys) z
@@ -40,8 +40,8 @@ module _ (es : List Edge) where
   all-of P (i ∷ o) h zero d l = h 0 (omega arith)
   all-of P (i ∷ o) h (suc k) d l = all-of P o (λ j m. h (suc j) (omega arith)) k d (omega arith)
 
-  module _ (keys : List ℕ) (tell : TellPoints es keys) where
-    simple : (o : List ℕ) → ((k : ℕ) → k < length o → get_or o k 0 < length es) → ((i j : ℕ) → i < j → j < length o → get_or keys (get_or o i 0) 0 ≢ get_or keys (get_or o j 0) 0) → EachPair (λ (e f : Edge). same_point e.from f.from ≡ false) (map (edge_at es) o)
+  module _ (numbers : List ℕ) (tell : TellPoints es numbers) where
+    simple : (o : List ℕ) → ((k : ℕ) → k < length o → get_or o k 0 < length es) → ((i j : ℕ) → i < j → j < length o → get_or numbers (get_or o i 0) 0 ≢ get_or numbers (get_or o j 0) 0) → EachPair (λ (e f : Edge). same_point e.from f.from ≡ false) (map (edge_at es) o)
     simple [] low h = tt
     simple (i ∷ o) low h = (
       all-of (λ f. same_point (edge_at es i).from f.from ≡ false) o (λ k l.
@@ -62,7 +62,7 @@ module _ (es : List Edge) where
     first-low o some low = low 0 0 some
 
     -- what is cut off a closed path is a ring, and what is left is a closed path
-    pub cut-pieces : (x : Vector) (walk : List ℕ) (ps : List (List ℕ)) → All (λ i. i < length es) walk → IsPath x (map (edge_at es) walk) x → AreCutOff keys walk ps → Cuts (map (edge_at es) walk) (map (map (edge_at es)) ps)
+    pub cut-pieces : (x : Vector) (walk : List ℕ) (ps : List (List ℕ)) → All (λ i. i < length es) walk → IsPath x (map (edge_at es) walk) x → AreCutOff numbers walk ps → Cuts (map (edge_at es) walk) (map (map (edge_at es)) ps)
     cut-pieces x walk [] low path none = ap (map (edge_at es)) none
     cut-pieces x walk (p ∷ ps) low path (a, b, is, piece, rest) =
         let at = edge_at es in

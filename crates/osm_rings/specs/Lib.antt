@@ -3,9 +3,7 @@ pub mod Laws
 pub mod LeastStart
 pub mod Numbered
 pub mod Pieces
-pub mod PlaneEdge
 pub mod Ring
 pub mod RingList
-pub mod SidedEdges
 pub mod Turned
-pub mod Ways
+pub mod Departures

@@ -1,5 +1,5 @@
 //! Laws of successors and ring lists, for edges with any points. Each function has an empty body; its contract is the law.
-ghost use Rattle.osm_rings.specs.Laws.{DirectedAreWhole, RingListExists, RingListOfEdgesExists, RingsOfEdgesDoNotCross, SuccessorExists, SuccessorIsOneToOne, SuccessorLeaves};
+ghost use Rattle.osm_rings.specs.Laws.{RingListOfEdgesExists, RingsOfEdgesDoNotCross, SuccessorExists, SuccessorIsOneToOne, SuccessorLeaves};
 
 /// In a sided list each edge has a successor, which leaves the node that the edge enters, and no edge is the
 /// successor of two.
@@ -7,11 +7,6 @@ pub fn successors_are_one_to_one()
     ensures exists { SuccessorExists }
     ensures leaves { SuccessorLeaves }
     ensures one_to_one { SuccessorIsOneToOne }
-{}
-
-/// Every sided list has a ring list.
-pub fn ring_list_exists()
-    ensures { RingListExists }
 {}
 
 /// Every sided list has a ring list that is made of its own edges, as `rings` gives one.
@@ -23,9 +18,4 @@ pub fn ring_list_of_edges_exists()
 /// of the one don't alternate with those of the other.
 pub fn rings_do_not_cross()
     ensures { RingsOfEdgesDoNotCross }
-{}
-
-/// What the survivors' directions give may be cut into rings.
-pub fn directed_segments_are_whole()
-    ensures { DirectedAreWhole }
 {}

@@ -6,12 +6,18 @@ ghost use Rattle.osm_rings.specs.LeastStart.{IsLesserStart};
 ghost use Rattle.osm_rings.specs.Ring.{IsRing};
 ghost use Rattle.osm_rings.specs.Turned.{IsTurned, BeginsLeast};
 
+use lists::List;
 use osm_geom::{Edge, compare_points};
-use std::alloc::{AllocError, Global};
+use std::alloc::{AllocError as OutOfMemory, Global};
 use std::cmp::Ordering;
 use std::marker::Model;
 
-/// A closed chain of at least three edges that leaves no point twice. Contracts see it as the list of its edges.
+/// A closed chain of edges: a linear ring, as RFC 7946 has it, but without its first point again at the end.
+///
+/// It has at least three edges. Each ends where the next one begins, and the last where the first begins. No point is left
+/// twice: where an area touches itself at a node, there are two rings. Of the rings that `rings` gives no two cross, though
+/// they may touch at nodes, and the inside of the area is on the left of each edge: an outer ring runs counterclockwise, an
+/// inner one clockwise. Contracts see it as the list of its edges.
 #[derive(Drop)]
 pub struct Ring {
     edges: Vec<Edge>,
@@ -48,7 +54,7 @@ impl Ring {
 
     /// The same edges in the same cyclic order, begun with the one that leaves the ring's least node. The error is
     /// want of memory.
-    pub fn from_least(&self, alloc: Global) -> Result<Ring, AllocError>
+    pub fn from_least(&self, alloc: Global) -> Result<Ring, OutOfMemory>
         ensures turned { IfOk result (λ ring. IsTurned self.now ring) }
         ensures least { IfOk result (λ ring. BeginsLeast ring) }
     {
@@ -61,7 +67,7 @@ impl Ring {
     }
 }
 
-// The place of an edge that leaves the least point.
+/// The place of an edge that leaves the least point.
 fn least_start(edges: &[Edge]) -> usize
     requires { 0 < length edges.now }
     ensures inside { result < length edges.now }
@@ -74,7 +80,7 @@ fn least_start(edges: &[Edge]) -> usize
     least
 }
 
-// Of two places the one whose edge leaves the lesser point, the first of them where both leave one.
+/// Of two places the one whose edge leaves the lesser point, the first of them where both leave one.
 fn lesser_start(edges: &[Edge], least: usize, place: usize) -> usize
     requires first { least < length edges.now }
     requires second { place < length edges.now }
@@ -86,44 +92,5 @@ fn lesser_start(edges: &[Edge], least: usize, place: usize) -> usize
     }
 }
 
-/// A list of rings.
-#[derive(Drop)]
-pub struct Rings {
-    items: Vec<Ring>,
-}
-
-impl Model for Rings {
-    ghost use Rattle.std.specs.Prelude.{List};
-    ghost use Rattle.osm_geom.specs.declared.edge.Edge.{Edge};
-
-    ghost Value = { List (List Edge) };
-
-    ghost view = { λ list. list.items.items };
-}
-
-impl Rings {
-    /// The empty list, which takes no memory.
-    pub fn new(alloc: Global) -> Rings
-        ensures { result ≡ [] }
-    {
-        Rings {
-            items: Vec::new(alloc),
-        }
-    }
-
-    /// Adds a ring at the end. After an `Err` the list is unchanged.
-    pub fn push(&mut self, item: Ring) -> Result<(), AllocError>
-        ensures ok { OnOk result (self.new ≡ self.old ++ item ∷ []) }
-        ensures err { OnErr result (self.new ≡ self.old) }
-    {
-        self.items.push(item)?;
-        Ok(())
-    }
-
-    /// The rings, in order.
-    pub fn as_slice(&self) -> &[Ring]
-        ensures { result.now ≡ self.now }
-    {
-        self.items.as_slice()
-    }
-}
+/// A list of rings. As `rings` gives it, each edge of the area's boundary lies in exactly one of them, there once.
+pub type Rings = List<Ring>;

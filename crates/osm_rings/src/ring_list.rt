@@ -3,52 +3,52 @@ ghost use Rattle.std.specs.Prelude.{◌≡◌, ◌<◌, All, IfOk, length, map};
 ghost use Rattle.osm_rings.specs.Pieces.{AreAllCut, edges_at};
 ghost use Rattle.osm_rings.specs.Ring.{IsRing};
 ghost use Rattle.osm_rings.specs.RingList.{AreRingsOf};
-ghost use Rattle.sided.specs.Sided.{IsSided};
+ghost use Rattle.plane_edges.specs.Sided.{IsSided};
 
+use crate::departures::{departures, node_numbers};
 use crate::ring::{Ring, Rings};
 use crate::successors::successors;
-use crate::ways::{keys, ways};
 use orbits::{cut, orbits};
 use osm_geom::Edge;
-use std::alloc::{AllocError, Global};
+use std::alloc::{AllocError as OutOfMemory, Global};
 
 /// The rings of a sided list of edges, between any points.
 ///
 /// Each edge lies in exactly one ring, there once, and the edges of a ring lie in one walk of successors. By the law
 /// `rings_do_not_cross` no two rings cross. It takes time n log n, however many edges meet at a node. The error is want of memory.
-pub fn rings(alloc: Global, edges: &[Edge]) -> Result<Rings, AllocError>
+pub fn rings(alloc: Global, edges: &[Edge]) -> Result<Rings, OutOfMemory>
     requires { IsSided edges.now }
     ensures { IfOk result (λ v. AreRingsOf edges.now v) }
 {
-    let ways = ways(alloc, edges)?;
-    let keys = keys(alloc, edges, &ways)?;
-    let next = successors(alloc, edges, &ways)?;
+    let departures = departures(alloc, edges)?;
+    let numbers = node_numbers(alloc, edges, &departures)?;
+    let next = successors(alloc, edges, &departures)?;
     let walks = orbits(alloc, &next)?;
-    let pieces = pieces(alloc, &walks, &keys)?;
+    let pieces = pieces(alloc, &walks, &numbers)?;
     rings_of(alloc, edges, &pieces)
 }
 
-// The pieces that are cut off the walks.
+/// The pieces that are cut off the walks.
 fn pieces(
     alloc: Global,
     walks: &[Vec<usize>],
-    keys: &[usize],
-) -> Result<Vec<Vec<usize>>, AllocError>
-    requires keyed { All (λ w. All (λ i. i < length keys.now) w.items) walks.now }
-    requires room { All (λ k. k < length keys.now) keys.now }
-    ensures { IfOk result (λ v. AreAllCut keys.now (map (λ w. w.items) walks.now) (map (λ p. p.items) v.items)) }
+    numbers: &[usize],
+) -> Result<Vec<Vec<usize>>, OutOfMemory>
+    requires keyed { All (λ w. All (λ i. i < length numbers.now) w.items) walks.now }
+    requires room { All (λ k. k < length numbers.now) numbers.now }
+    ensures { IfOk result (λ v. AreAllCut numbers.now (map (λ w. w.items) walks.now) (map (λ p. p.items) v.items)) }
 {
-    let mut depths = vec![in alloc; 0; keys.len()]?;
+    let mut depths = vec![in alloc; 0; numbers.len()]?;
     let mut pieces = Vec::new(alloc);
     for walk in walks {
-        let mut cut = cut(alloc, walk, keys, &mut depths)?;
+        let mut cut = cut(alloc, walk, numbers, &mut depths)?;
         pieces.append(&mut cut)?;
     }
     Ok(pieces)
 }
 
-// The edges at these places.
-fn edges_at(alloc: Global, edges: &[Edge], places: &[usize]) -> Result<Vec<Edge>, AllocError>
+/// The edges at these places.
+fn edges_at(alloc: Global, edges: &[Edge], places: &[usize]) -> Result<Vec<Edge>, OutOfMemory>
     requires { All (λ k. k < length edges.now) places.now }
     ensures { IfOk result (λ v. v.items ≡ edges_at edges.now places.now) }
 {
@@ -59,8 +59,8 @@ fn edges_at(alloc: Global, edges: &[Edge], places: &[usize]) -> Result<Vec<Edge>
     Ok(found)
 }
 
-// The rings whose edges stand at these places.
-fn rings_of(alloc: Global, edges: &[Edge], pieces: &[Vec<usize>]) -> Result<Rings, AllocError>
+/// The rings whose edges stand at these places.
+fn rings_of(alloc: Global, edges: &[Edge], pieces: &[Vec<usize>]) -> Result<Rings, OutOfMemory>
     requires inside { All (λ p. All (λ k. k < length edges.now) p.items) pieces.now }
     requires rings { All (λ p. IsRing (edges_at edges.now p.items)) pieces.now }
     ensures { IfOk result (λ v. v ≡ map (λ p. edges_at edges.now p.items) pieces.now) }

@@ -5,17 +5,17 @@ ghost use Rattle.osm_geom.specs.declared.edge.Edge.{Edge};
 ghost use Rattle.osm_geom.specs.Dir.{vector_along};
 ghost use Rattle.osm_geom.specs.Edge.{direction_of, opposite};
 ghost use Rattle.orbits.specs.Orbits.{after};
-ghost use Rattle.sided.specs.Multiple.{common_den, edge_times, whole_edges};
-ghost use Rattle.winding.specs.Member.{In};
+ghost use Rattle.plane_edges.specs.Multiple.{common_den, edge_times, whole_edges};
+ghost use Rattle.lists.specs.Member.{In};
 ghost use Rattle.osm_rings.specs.Clockwise.{is_met_before};
 ghost use Rattle.osm_rings.specs.Numbered.{edge_at};
-ghost use Rattle.osm_rings.specs.Ways.{AreClockwise, AreClockwiseRound, AreRising, AreWays, IsFirstMet};
+ghost use Rattle.osm_rings.specs.Departures.{AreClockwise, AreClockwiseRound, AreRising, AreDepartures, IsFirstMet};
 
-use crate::ways::{EAST, Way, leaving};
+use crate::departures::{Departure, EAST, leaving};
 use osm_geom::{Dir, Edge, clockwise};
-use std::alloc::{AllocError, Global};
+use std::alloc::{AllocError as OutOfMemory, Global};
 
-// The direction back along an edge, from its end.
+/// The direction back along an edge, from its end.
 fn back(edge: &Edge) -> Dir
     ensures { vector_along result ≡ opposite (direction_of edge.now) }
 {
@@ -26,48 +26,48 @@ fn back(edge: &Edge) -> Dir
     }
 }
 
-// Whether `dir` is met after `from` on turning clockwise from the east.
+/// Whether `dir` is met after `from` on turning clockwise from the east.
 fn lies_after(dir: Dir, from: Dir) -> bool
     ensures { result ≡ is_met_before east (vector_along from) (vector_along dir) }
 {
     clockwise(EAST, from, dir).is_lt()
 }
 
-// The first of these ways that is met on turning clockwise from `from`: the first that lies after it, or where none
-// does, the first.
-fn first_met(ways: &[Way], from: Dir) -> Option<&Way>
-    requires { AreClockwise ways.now }
-    ensures none { IfNone result (ways.now ≡ []) }
-    ensures member { IfSome result (λ w. Contains ways.now w.now) }
-    ensures first { IfSome result (λ w. All (λ v. is_met_before (vector_along from) (vector_along v.dir) (vector_along w.now.dir) ≡ false) ways.now) }
+/// The first of these departures that is met on turning clockwise from `from`: the first that lies after it, or where none
+/// does, the first.
+fn first_met(departures: &[Departure], from: Dir) -> Option<&Departure>
+    requires { AreClockwise departures.now }
+    ensures none { IfNone result (departures.now ≡ []) }
+    ensures member { IfSome result (λ w. Contains departures.now w.now) }
+    ensures first { IfSome result (λ w. All (λ v. is_met_before (vector_along from) (vector_along v.dir) (vector_along w.now.dir) ≡ false) departures.now) }
 {
-    let after = ways.partition_point(|way| !lies_after(way.dir, from));
-    ways.get(after).or(ways.first())
+    let after = departures.partition_point(|departure| !lies_after(departure.dir, from));
+    departures.get(after).or(departures.first())
 }
 
-// The place of the successor of an edge, among those that the ways are of.
-fn successor(ways: &[Way], edge: &Edge) -> Option<usize>
-    requires rising { AreRising ways.now }
-    requires round { AreClockwiseRound ways.now }
-    ensures { (es : List Edge) → AreWays es ways.now → In edge.now es → IsFirstMet (whole_edges es) (edge_times (common_den es) edge.now) result }
+/// The place of the successor of an edge, among those that the departures are of.
+fn successor(departures: &[Departure], edge: &Edge) -> Option<usize>
+    requires rising { AreRising departures.now }
+    requires round { AreClockwiseRound departures.now }
+    ensures { (es : List Edge) → AreDepartures es departures.now → In edge.now es → IsFirstMet (whole_edges es) (edge_times (common_den es) edge.now) result }
 {
-    let way = first_met(leaving(ways, edge.to), back(edge))?;
-    Some(way.edge)
+    let departure = first_met(leaving(departures, edge.to), back(edge))?;
+    Some(departure.edge)
 }
 
 /// For each edge the place of its successor.
 pub fn successors(
     alloc: Global,
     edges: &[Edge],
-    ways: &[Way],
-) -> Result<Vec<Option<usize>>, AllocError>
-    requires { AreWays edges.now ways.now }
+    departures: &[Departure],
+) -> Result<Vec<Option<usize>>, OutOfMemory>
+    requires { AreDepartures edges.now departures.now }
     ensures sized { IfOk result (λ v. length v.items ≡ length edges.now) }
     ensures first { IfOk result (λ v. (i : ℕ) → i < length edges.now → IsFirstMet (whole_edges edges.now) (edge_at (whole_edges edges.now) i) (after v.items i)) }
 {
     let mut next = Vec::with_capacity(alloc, edges.len())?;
     for edge in edges {
-        next.push(successor(ways, edge))?;
+        next.push(successor(departures, edge))?;
     }
     Ok(next)
 }

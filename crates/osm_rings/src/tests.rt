@@ -1,9 +1,6 @@
-use super::*;
+use crate::departures::{departures, node_numbers};
 use crate::successors::successors;
-use crate::ways::ways;
 use osm_geom::{Carrier, Edge, Frac, Loc, Part, Point, Seg};
-use osm_segments::{conflicts, odd_nodes, survivors};
-use osm_sides::direct;
 use std::alloc::Global;
 use std::test::Fail;
 
@@ -18,103 +15,73 @@ fn nodes(alloc: Global, line: &str) -> Result<Vec<Loc>, Fail> {
     Ok(nodes)
 }
 
-/// The segments of closed lines, parted by `/`, each line without its first location at the end.
-fn segs(alloc: Global, lines: &str) -> Result<Vec<Seg>, Fail> {
-    let mut segs = Vec::new(alloc);
+/// The edge from one location to another.
+fn edge(from: Loc, to: Loc) -> Result<Edge, Fail> {
+    let segment = Seg::new(from, to).ok_or_else(|| Fail::new("no segment"))?;
+    let forward = Edge::of(segment, true);
+    if forward.from == Point::Lattice(from) {
+        return Ok(forward);
+    }
+    Ok(Edge::of(segment, false))
+}
+
+/// The edges of closed lines, parted by `/`, each without its first location at the end.
+fn edges(alloc: Global, lines: &str) -> Result<Vec<Edge>, Fail> {
+    let mut edges = Vec::new(alloc);
     for line in lines.split('/') {
         let nodes = nodes(alloc, line)?;
-        let mut last = nodes.last().copied();
-        for &node in &nodes {
-            if let Some(from) = last {
-                segs.push(Seg::new(from, node).ok_or_else(|| Fail::new("no segment"))?)?;
+        for (place, &from) in nodes.iter().enumerate() {
+            let next = nodes.get(place.saturating_add(1)).or(nodes.first());
+            if let Some(&to) = next {
+                edges.push(edge(from, to)?)?;
             }
-            last = Some(node);
         }
     }
-    Ok(segs)
-}
-
-/// The rings of the survivors of segments; none where there is a conflict or an odd node.
-#[tactic(auto, using(crate::proofs::Directed::sided_segments))]
-fn rings_of(alloc: Global, segs: &[Seg]) -> Result<Rings, Fail> {
-    let kept = survivors(alloc, segs)?;
-    let pairs = conflicts(alloc, &kept)?;
-    let odd = odd_nodes(alloc, &kept)?;
-    if !pairs.is_empty() || !odd.is_empty() {
-        return Err(Fail::new("not closed"));
-    }
-    let edges = direct(alloc, &kept)?;
-    Ok(rings(alloc, &edges)?)
-}
-
-/// Whether the ring passes these nodes in this order.
-fn passes(ring: &[Edge], nodes: &[Loc]) -> bool {
-    ring.len() == nodes.len()
-        && ring
-            .iter()
-            .zip(nodes)
-            .all(|(edge, node)| edge.from == Point::Lattice(*node))
-}
-
-/// Whether one of the rings, begun at its least node, passes the nodes of this line.
-fn holds(alloc: Global, rings: &Rings, line: &str) -> Result<bool, Fail> {
-    let nodes = nodes(alloc, line)?;
-    let mut seen = false;
-    for ring in rings.as_slice() {
-        let turned = ring.from_least(alloc)?;
-        seen |= passes(turned.as_slice(), &nodes);
-    }
-    Ok(seen)
+    Ok(edges)
 }
 
 #[test]
-fn rings_of_printed_areas(rt: HostRuntime) -> Result<(), Fail> {
+fn successors_round_touched_nodes(rt: HostRuntime) -> Result<(), Fail> {
     let alloc = rt.alloc();
-    // Each ring from its least node, outer ones counterclockwise, inner ones clockwise.
+    // Outer rings counterclockwise, inner ones clockwise; the numbers of the edges that follow, in the order of the lines.
     let rows = [
-        ("square", "0,0 1,0 1,1 0,1"),
-        ("touching triangle", "0,0 4,0 4,4 0,4 / 0,0 1,2 2,1"),
+        ("square", "0,0 1,0 1,1 0,1", "1 2 3 0"),
+        (
+            "touching triangle",
+            "0,0 4,0 4,4 0,4 / 0,0 1,2 2,1",
+            "1 2 3 4 5 6 0",
+        ),
         (
             "two crescents",
             "0,0 4,0 4,2 2,2 2,4 0,4 / 4,2 6,2 6,6 2,6 2,4 4,4",
+            "1 2 3 4 5 0 7 8 9 10 11 6",
         ),
-        // The half on the left of x = 4 of a polygon that touches itself at (4, 4).
-        ("broken at a touched node", "0,0 4,0 4,4 / 4,4 4,8 0,8"),
         (
             "three triangles round a node",
             "0,0 4,1 3,3 / 0,0 -1,4 -3,3 / -2,-4 2,-4 0,0",
+            "1 2 0 4 5 3 7 8 6",
         ),
     ];
-    for (name, lines) in rows {
-        let found = rings_of(alloc, &segs(alloc, lines)?)?;
-        assert_eq!(rt; found.as_slice().len(), lines.split('/').count(), "{name}");
-        for line in lines.split('/') {
-            assert!(rt; holds(alloc, &found, line)?, "{name}");
+    for (name, lines, wanted) in rows {
+        let edges = edges(alloc, lines)?;
+        let departures = departures(alloc, &edges)?;
+        let next = successors(alloc, &edges, &departures)?;
+        assert_eq!(rt; next.len(), wanted.split_whitespace().count(), "{name}");
+        for (found, word) in next.iter().zip(wanted.split_whitespace()) {
+            assert_eq!(rt; *found, word.parse::<usize>().ok(), "{name}");
         }
     }
     Ok(())
 }
 
 #[test]
-fn twenty_triangles_round_a_node(rt: HostRuntime) -> Result<(), Fail> {
+fn numbers_of_nodes(rt: HostRuntime) -> Result<(), Fail> {
     let alloc = rt.alloc();
-    let quarters = [
-        "0,0 10,0 10,1 / 0,0 10,2 10,3 / 0,0 10,4 10,5 / 0,0 10,6 10,7 / 0,0 10,8 10,9",
-        "0,0 0,10 -1,10 / 0,0 -2,10 -3,10 / 0,0 -4,10 -5,10 / 0,0 -6,10 -7,10 / 0,0 -8,10 -9,10",
-        "-10,-1 0,0 -10,0 / -10,-3 0,0 -10,-2 / -10,-5 0,0 -10,-4 / -10,-7 0,0 -10,-6 / -10,-9 0,0 -10,-8",
-        "0,-10 1,-10 0,0 / 2,-10 3,-10 0,0 / 4,-10 5,-10 0,0 / 6,-10 7,-10 0,0 / 8,-10 9,-10 0,0",
-    ];
-    let mut all = Vec::new(alloc);
-    for lines in quarters {
-        all.append(&mut segs(alloc, lines)?)?;
-    }
-    let found = rings_of(alloc, &all)?;
-    assert_eq!(rt; found.as_slice().len(), 20);
-    for lines in quarters {
-        for line in lines.split('/') {
-            assert!(rt; holds(alloc, &found, line)?, "{line}");
-        }
-    }
+    let edges = edges(alloc, "0,0 4,0 4,4 0,4 / 0,0 1,2 2,1")?;
+    let departures = departures(alloc, &edges)?;
+    let numbers = node_numbers(alloc, &edges, &departures)?;
+    // In the order of the nodes: (0, 0) twice, (4, 0), (2, 1), (1, 2), (0, 4), (4, 4).
+    assert_eq!(rt; numbers.as_slice(), [0, 2, 6, 5, 0, 4, 3].as_slice());
     Ok(())
 }
 
@@ -160,8 +127,8 @@ fn touching_triangles() -> [Edge; 6] {
 fn successors_at_fractional_point(rt: HostRuntime) -> Result<(), Fail> {
     let alloc = rt.alloc();
     let edges = touching_triangles();
-    let ways = ways(alloc, &edges)?;
-    let next = successors(alloc, &edges, &ways)?;
+    let departures = departures(alloc, &edges)?;
+    let next = successors(alloc, &edges, &departures)?;
     for (place, after) in [1, 2, 0, 4, 5, 3].into_iter().enumerate() {
         assert_eq!(rt; next.get(place).copied(), Some(Some(after)), "{place}");
     }

@@ -2,8 +2,8 @@
 use Rattle.std.proofs.Common.{All, List, sym, subst}
 use Rattle.std.proofs.lemmas.Result.{IfOk-weaker}
 use Rattle.osm_geom.specs.declared.edge.Edge.{Edge}
-use Rattle.sided.specs.Sided.{IsSided}
-use Rattle.osm_rings.specs.PlaneEdge.{IsWholeSegment}
+use Rattle.plane_edges.specs.Sided.{IsSided}
+use Rattle.osm_geom.specs.WholeSegment.{IsWholeSegment}
 use Rattle.osm_nest.specs.RingLists.{AreRings}
 use Rattle.osm_area.proofs.AreaLemmas.{is_area}
 use Rattle.osm_area.proofs.area.area.Goals as goal
@@ -18,6 +18,5 @@ returns-clause-area c =
 
 pub returns-clause-whole : goal.returns-clause-whole
 returns-clause-whole c =
-    let sided = c.directed_segments_are_whole.ensures c.args.survivors.now c.in_ok-edges.edges.items c.in_ok-edges.ensures.odd_side c.in_ok-edges.ensures.sided in
-    let edges = subst (λ (es : List Edge). All IsWholeSegment es) (sym c.deref.ensures.value) sided.whole in
+    let edges = subst (λ (es : List Edge). All IsWholeSegment es) (sym c.deref.ensures.value) c.in_ok-edges.ensures.whole in
     c.nest.ensures.whole (subst (λ (rs : List (List Edge)). All (All IsWholeSegment) rs) (sym c.as_slice.ensures) (c.rings_may_be_nested.ensures.whole c.deref.result.now c.in_ok-rings.rings edges c.in_ok-rings.ensures))

@@ -1,6 +1,7 @@
 use Rattle.std.proofs.Common.{true, false, refl}
 use Rattle.indexmap.specs.IndexSet.{contains}
-use Rattle.osm_area.proofs.OnceLemmas.{once_step, again_step, there_from, absent_from}
+use Rattle.lists.proofs.EachOnce.{once_step, again_step}
+use Rattle.lists.proofs.Bools.{true_from_not, false_from_not}
 use Rattle.osm_area.proofs.once.repeated.Goals as goal
 use Rattle.osm_area.proofs.once.repeated.Goals.{then-not-branch+in_ok-insert-2, else-not-branch}
 
@@ -12,7 +13,7 @@ loop-item-preserved g c =
     record {
       seen = once_step laws _ _ _ _ _ c.loop-item-test.true c.item-item.is c.in_ok-insert.ensures.keys inv.seen;
       again = elim c.if-not-branch.branch [
-        | then-not-branch+in_ok-insert-2 w ↦ again_step laws _ _ _ _ (contains eq c.loop-item.again) (contains eq c.if-not-branch.again) true c.loop-item-test.true c.item-item.is inv.seen inv.again (there_from _ _ c.in_ok-insert.ensures.added w.if-not-branch.true) (λ q. rw w.again-is (w.in_ok-insert-2.ensures.updates.0 q))
-        | else-not-branch w ↦ again_step laws _ _ _ _ (contains eq c.loop-item.again) (contains eq c.if-not-branch.again) false c.loop-item-test.true c.item-item.is inv.seen inv.again (absent_from _ _ c.in_ok-insert.ensures.added w.if-not-branch.false) (λ q. rw w.again-is refl)
+        | then-not-branch+in_ok-insert-2 w ↦ again_step laws _ _ _ _ (contains eq c.loop-item.again) (contains eq c.if-not-branch.again) true c.loop-item-test.true c.item-item.is inv.seen inv.again (true_from_not _ _ c.in_ok-insert.ensures.added w.if-not-branch.true) (λ q. rw w.again-is (w.in_ok-insert-2.ensures.updates.0 q))
+        | else-not-branch w ↦ again_step laws _ _ _ _ (contains eq c.loop-item.again) (contains eq c.if-not-branch.again) false c.loop-item-test.true c.item-item.is inv.seen inv.again (false_from_not _ _ c.in_ok-insert.ensures.added w.if-not-branch.false) (λ q. rw w.again-is refl)
       ];
     }

@@ -1,6 +1,6 @@
 use Rattle.std.proofs.Common.{◌≡◌, nat_le, count_by, take}
 use Rattle.indexmap.specs.IndexSet.{contains}
-use Rattle.osm_area.specs.Once.{each_once}
+use Rattle.lists.specs.Once.{each_once}
 use Rattle.osm_area.proofs.once.repeated.Given as goal
 
 abbrev pub invariant-loop-item : goal.invariant-loop-item

@@ -1,7 +1,7 @@
 -- The parts that `outcome_of` gathered, in the words of the definitions.
 use Rattle.std.proofs.Common.{◌≡◌, IfSome, Option, Vec, Global, flat_map, refl, subst}
 use Rattle.std.proofs.lemmas.Result.{IfOk-weaker}
-use Rattle.osm_geom.specs.declared.seg.Seg.{Seg}
+use Rattle.osm_lattice.specs.declared.seg.Seg.{Seg}
 use Rattle.osm_area.specs.Segments.{way_segments}
 use Rattle.osm_area.proofs.OutcomeLemmas.{gathered, missing_outcome, complete_outcome}
 use Rattle.osm_area.proofs.outcome.outcome_of.Goals as goal

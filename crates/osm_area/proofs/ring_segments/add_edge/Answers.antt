@@ -2,7 +2,7 @@
 use Rattle.std.proofs.Common.{◌∙◌, ◌||◌, sym, ap}
 use Rattle.std.specs.BTreeSet.{contains}
 use Rattle.std.specs.Ordering.{is_eq}
-use Rattle.osm_geom.specs.Seg.{seg_cmp}
+use Rattle.osm_lattice.specs.Seg.{seg_cmp}
 use Rattle.osm_area.specs.Roles.{carries}
 use Rattle.osm_area.proofs.RoleSteps.{or_turned}
 use Rattle.osm_area.proofs.ring_segments.add_edge.Goals as goal

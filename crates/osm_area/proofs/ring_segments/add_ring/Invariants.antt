@@ -1,9 +1,9 @@
 use Rattle.std.proofs.Common.{◌≡◌, ◌||◌, take}
 use Rattle.std.specs.BTreeSet.{contains}
 use Rattle.std.specs.List.{list_any}
-use Rattle.osm_geom.specs.declared.seg.Seg.{Seg}
+use Rattle.osm_lattice.specs.declared.seg.Seg.{Seg}
 use Rattle.osm_geom.specs.declared.edge.Edge.{Edge}
-use Rattle.osm_geom.specs.Seg.{seg_cmp}
+use Rattle.osm_lattice.specs.Seg.{seg_cmp}
 use Rattle.osm_area.specs.Roles.{carries}
 use Rattle.osm_area.proofs.ring_segments.add_ring.Given as goal
 

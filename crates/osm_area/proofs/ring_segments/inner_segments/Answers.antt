@@ -1,7 +1,7 @@
 -- One more polygon.
 use Rattle.std.proofs.Common.{◌∙◌, ◌||◌, ap}
 use Rattle.std.specs.BTreeSet.{contains}
-use Rattle.osm_geom.specs.Seg.{seg_cmp}
+use Rattle.osm_lattice.specs.Seg.{seg_cmp}
 use Rattle.osm_area.specs.Roles.{is_in_rings}
 use Rattle.osm_area.proofs.RoleSteps.{inner_step}
 use Rattle.osm_area.proofs.ring_segments.inner_segments.Goals as goal

@@ -3,8 +3,8 @@ use Rattle.std.proofs.Common.{rules, tests}
 use Rattle.std.proofs.lemmas.Iterator.{YieldsList-from_slice, YieldsList-from_zip}
 use Rattle.std.proofs.lemmas.Iterator.Adapters.{YieldsList-from_skip, items_from_extend}
 use Rattle.std.proofs.lemmas.Iterator.Consumers.{YieldsList-from_filter_map}
-use Rattle.osm_geom.specs.declared.loc.Loc.{Loc}
-use Rattle.osm_area.specs.Segments.{segment_between}
+use Rattle.osm_lattice.specs.declared.loc.Loc.{Loc}
+use Rattle.osm_lattice.specs.Seg.{segment_between}
 use Rattle.osm_area.proofs.segments.add_along.Goals as goal
 
 pub returns : goal.returns

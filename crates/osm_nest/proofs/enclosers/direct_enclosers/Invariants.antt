@@ -1,8 +1,8 @@
--- The homes of the rings passed.
+-- The enclosers of the rings passed.
 use Rattle.std.proofs.Common.{None}
-use Rattle.osm_nest.specs.Homes.{IsHome}
+use Rattle.osm_nest.specs.Enclosers.{IsDirectEncloser}
 use Rattle.osm_nest.proofs.Filled.{IsFilled}
 use Rattle.osm_nest.proofs.enclosers.direct_enclosers.Given as goal
 
 abbrev pub invariant-loop-place : goal.invariant-loop-place
-invariant-loop-place l = IsFilled (IsHome l.rings) None l.place l.enclosers.items
+invariant-loop-place l = IsFilled (IsDirectEncloser l.rings) None l.place l.enclosers.items

@@ -1,6 +1,6 @@
 -- The first of the edges passed and the next one.
 use Rattle.std.proofs.Common.{length, sym, subst, ◌≡◌, arith}
-use Rattle.osm_nest.specs.Outer.{AreClear, IsAnchorOf}
+use Rattle.osm_nest.specs.Outer.{AreConflictFree, IsAnchorOf}
 use Rattle.osm_nest.proofs.Leftmost.{IsFirstUpTo, first-step}
 use Rattle.osm_nest.proofs.RingAnchors.{found-anchor}
 use Rattle.osm_nest.proofs.outer.anchor.Goals as goal
@@ -12,6 +12,6 @@ loop-edge-preserved c =
 pub returns-clause-anchor : goal.returns-clause-anchor
 returns-clause-anchor c =
     let es = c.as_slice-edges.result.now in
-    let clear = subst AreClear (sym c.as_slice-edges.ensures.edges) c.requires in
+    let clear = subst AreConflictFree (sym c.as_slice-edges.ensures.edges) c.requires in
     let all : c.loop-edge.edge-index ≡ length es = omega arith in
     subst (IsAnchorOf c.loop-edge.anchor.now) c.as_slice-edges.ensures.edges (found-anchor es clear c.loop-edge.anchor.now (subst (λ n. IsFirstUpTo es n c.loop-edge.anchor.now) all c.loop-edge.invariant))

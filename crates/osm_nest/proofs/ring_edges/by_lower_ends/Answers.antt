@@ -1,17 +1,12 @@
-use Rattle.std.proofs.Common.{rules, ◌≡◌}
-use Rattle.std.specs.Ordering.{is_lt}
-use Rattle.std.proofs.lemmas.Fn.{always_returns_same}
-use Rattle.std.proofs.lemmas.List.MinMax.{ranks_by}
-use Rattle.std.proofs.lemmas.List.Sorted.{sorted_far}
-use Rattle.osm_geom.specs.Point.{point_cmp}
-use Rattle.osm_geom.specs.Span.{lower_end}
-use Rattle.osm_geom.proofs.TotalPoints.{point_total}
-use Rattle.osm_nest.specs.declared.ring_edges.RingEdge.{RingEdge}
+-- Sorted again, they are the same edges still.
+use Rattle.std.specs.List.Sorted.{IsPermutation}
+use Rattle.std.proofs.lemmas.List.Sorted.{IsPermutation-trans}
+use Rattle.std.proofs.lemmas.Result.{IfOk-weaker}
 use Rattle.osm_nest.proofs.ring_edges.by_lower_ends.Goals as goal
 
-pub returns-clause-rise : goal.returns-clause-rise
-returns-clause-rise c =
-    let o = ranks_by point_total (λ (i : RingEdge). lower_end i.edge.now) in
-    sorted_far (λ (i j : RingEdge). is_lt (point_cmp (lower_end i.edge.now) (lower_end j.edge.now))) o c.sort_by.new.self.items
-    (c.in_ok-sort_by.ensures.sorted (λ i j. is_lt (point_cmp (lower_end i.edge.now) (lower_end j.edge.now))) o
-    (always_returns_same _ (λ a r. is_lt r ≡ is_lt (point_cmp (lower_end a.0.now.edge.now) (lower_end a.1.0.now.edge.now))) _ (λ a r f' k. search rules)))
+pub returns-clause-moved : goal.returns-clause-moved
+returns-clause-moved c =
+    let given = c.args.edges.items in
+    let first = c.sort_by_cached_key.new.self.items in
+    IfOk-weaker c.sorted_by_lower_ends.result (λ v. IsPermutation first v.items) (λ v. IsPermutation given v.items)
+    (λ v again. IsPermutation-trans given first v.items c.in_ok-sort_by_cached_key.ensures.permutation again) c.sorted_by_lower_ends.ensures.moved

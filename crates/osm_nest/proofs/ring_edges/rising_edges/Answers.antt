@@ -1,5 +1,5 @@
 -- The edges in another order.
-use Rattle.osm_nest.proofs.KnownHomes.{items-permutation}
+use Rattle.osm_nest.proofs.KnownEnclosers.{items-permutation}
 use Rattle.osm_nest.proofs.ring_edges.rising_edges.Goals as goal
 
 pub returns-clause-edges : goal.returns-clause-edges

@@ -1,6 +1,6 @@
 -- By the neighbours at the place.
 use Rattle.std.proofs.Common.{inl, subst}
-use Rattle.winding.specs.Member.{In}
+use Rattle.lists.specs.Member.{In}
 use Rattle.osm_nest.proofs.FilteredLists.{in-insert}
 use Rattle.osm_nest.proofs.StatusSteps.{put-kept}
 use Rattle.osm_nest.proofs.sweep_status.enter.Goals as goal

@@ -1,7 +1,7 @@
 -- By the neighbour's ring.
 use Rattle.std.proofs.Common.{None, Option, Some, get_or, refl, ◌≡◌, ℕ}
 use Rattle.std.specs.Prelude.{IfSome}
-use Rattle.osm_nest.specs.Homes.{IsHome}
+use Rattle.osm_nest.specs.Enclosers.{IsDirectEncloser}
 use Rattle.osm_nest.proofs.AnchorLists.{outer-at}
 use Rattle.osm_nest.proofs.swept_enclosers.encloser_by.Goals as goal
 
@@ -14,6 +14,6 @@ returns-then-index c =
 pub returns : goal.returns
 returns c = by (get_or c.args.known.now c.args.left.now.ring None) refl
   where
-    by : (o : Option ℕ) → get_or c.args.known.now c.args.left.now.ring None ≡ o → IfSome o (λ home. IsHome c.args.rings.now c.args.anchor.now.ring (Some home))
-    by (Some home) e = c.requires.tells.inner home (c.requires.known.right c.args.left.now.ring home c.requires.tells.inside e)
+    by : (o : Option ℕ) → get_or c.args.known.now c.args.left.now.ring None ≡ o → IfSome o (λ encloser. IsDirectEncloser c.args.rings.now c.args.anchor.now.ring (Some encloser))
+    by (Some encloser) e = c.requires.tells.inner encloser (c.requires.known.right c.args.left.now.ring encloser c.requires.tells.inside e)
     by None e = tt

@@ -3,7 +3,7 @@ use Rattle.std.proofs.Common.{All, ap, subst, sym, ◌∙◌}
 use Rattle.std.proofs.lemmas.List.Sorted.{All-permutation}
 use Rattle.osm_nest.specs.SweptEdges.{IsInnerAnchor}
 use Rattle.osm_nest.proofs.AnchorLists.{inner-anchor, outer-at}
-use Rattle.osm_nest.proofs.KnownHomes.{one-anchor}
+use Rattle.osm_nest.proofs.KnownEnclosers.{one-anchor}
 use Rattle.osm_nest.proofs.swept_enclosers.inner_anchors.Goals as goal
 use Rattle.osm_nest.proofs.swept_enclosers.inner_anchors.Goals.{then-not-index+in_ok-push, else-not-index}
 

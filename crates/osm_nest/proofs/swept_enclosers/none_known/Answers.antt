@@ -5,7 +5,7 @@ use Rattle.osm_nest.proofs.swept_enclosers.none_known.Goals as goal
 pub returns : goal.returns
 returns c =
     let all : length c.loop.known.items ≡ length c.args.rings.now = (let s = c.loop.invariant.0 in let e = c.loop.auto.counter-end in let f = c.loop-test.false in omega (arith, s, e, f)) in
-    record { sized = all; right = λ place home h e. absurd (nothing home (sym (c.loop.invariant.1 place None (omega (arith, all, h))) ∙ e)) }
+    record { sized = all; right = λ place encloser h e. absurd (nothing encloser (sym (c.loop.invariant.1 place None (omega (arith, all, h))) ∙ e)) }
   where
-    nothing : (home : ℕ) → None ≡ Some home → ⊥
-    nothing home e = cc
+    nothing : (encloser : ℕ) → None ≡ Some encloser → ⊥
+    nothing encloser e = cc

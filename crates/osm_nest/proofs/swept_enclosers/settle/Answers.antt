@@ -1,6 +1,6 @@
--- One more home, or as many as before.
+-- One more encloser, or as many as before.
 use Rattle.std.proofs.Common.{refl}
-use Rattle.osm_nest.proofs.KnownHomes.{one-known}
+use Rattle.osm_nest.proofs.KnownEnclosers.{one-known}
 use Rattle.osm_nest.proofs.swept_enclosers.settle.Goals as goal
 
 pub returns-in-Some : goal.returns-in-Some

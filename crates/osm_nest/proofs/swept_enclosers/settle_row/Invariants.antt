@@ -1,4 +1,4 @@
--- The homes known so far are right.
+-- The enclosers known so far are right.
 use Rattle.std.proofs.Common.{length, ◌-◌, ◌≤◌}
 use Rattle.osm_nest.specs.SweptEdges.{AreKnown}
 use Rattle.osm_nest.proofs.swept_enclosers.settle_row.Given as goal

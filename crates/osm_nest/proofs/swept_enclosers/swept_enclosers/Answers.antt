@@ -1,15 +1,15 @@
 -- One more row.
 use Rattle.std.proofs.Common.{List, Option, Some, arith, filter, get_or, length, subst, sym, take, ℕ, ◌-◌, ◌<◌, ◌≡◌, ◌≤◌, ◌⊎◌}
 use Rattle.std.specs.Prelude.{IfSome}
-use Rattle.winding.specs.Member.{In}
+use Rattle.lists.specs.Member.{In}
 use Rattle.osm_geom.specs.declared.edge.Edge.{Edge}
 use Rattle.osm_geom.specs.declared.point.Point.{Point}
 use Rattle.osm_geom.specs.Span.{lower_end}
 use Rattle.osm_nest.specs.declared.ring_edges.RingEdge.{RingEdge}
 use Rattle.osm_nest.specs.RingLists.{AreRings}
 use Rattle.osm_nest.specs.SweptEdges.{AreSlopingEdges, IsRowPut, StartsRise, is_within}
-use Rattle.osm_nest.proofs.Items.{item-in}
-use Rattle.osm_nest.proofs.KnownHomes.{none-under-way, status-tells}
+use Rattle.lists.proofs.Items.{item-in}
+use Rattle.osm_nest.proofs.KnownEnclosers.{none-under-way, status-tells}
 use Rattle.osm_nest.proofs.SweptHeights.{IsRowPassed, IsUnderWay, passed-grows, passed-items, passed-on, passed-whole}
 use Rattle.osm_nest.proofs.swept_enclosers.swept_enclosers.Goals as goal
 

@@ -1,7 +1,6 @@
 -- The laws of the plane, for the multiplied list.
-use Rattle.nesting.proofs.Successors.{next_leaves, next_one}
-use Rattle.nesting.proofs.Turns.{next_there}
-use Rattle.sided.specs.Multiple.{whole_edges}
+use Rattle.nesting.proofs.NestingKit.{next_leaves, next_one, next_there}
+use Rattle.plane_edges.specs.Multiple.{whole_edges}
 use Rattle.osm_rings.proofs.laws.successors_are_one_to_one.Goals as goal
 
 pub returns-clause-exists : goal.returns-clause-exists

@@ -18,7 +18,7 @@ orbits-requires c =
 pub pieces-requires-clause-keyed : goal.pieces-requires-clause-keyed
 pieces-requires-clause-keyed c =
     let os = map (λ o. o.items) c.in_ok-walks.walks.items in
-    let size : length c.deref-3.result.now ≡ length c.deref-5.result.now = ap length c.deref-3.ensures.value ∙ (c.in_ok-next.ensures.sized ∙ (sym c.in_ok-keys.ensures.sized ∙ ap length (sym c.deref-5.ensures.value))) in
+    let size : length c.deref-3.result.now ≡ length c.deref-5.result.now = ap length c.deref-3.ensures.value ∙ (c.in_ok-next.ensures.sized ∙ (sym c.in_ok-numbers.ensures.sized ∙ ap length (sym c.deref-5.ensures.value))) in
     let once : HoldEachOnce (length c.deref-5.result.now) os = subst (λ n. HoldEachOnce n os) size c.in_ok-walks.ensures.orbits.once in
     let low = all_below (length c.deref-5.result.now) os once in
     subst (λ ws. All (λ w. All (λ i. i < length c.deref-5.result.now) w.items) ws) (sym c.deref-4.ensures.value) (all-unmapped (λ xs. All (λ i. i < length c.deref-5.result.now) xs) (λ o. o.items) c.in_ok-walks.walks.items low)
@@ -29,12 +29,12 @@ rings_of-requires-clause-inside c =
     let next = c.in_ok-next.next.items in
     let are = successors-of es c.requires next c.in_ok-next.ensures.sized c.in_ok-next.ensures.first in
     let os = map (λ o. o.items) c.in_ok-walks.walks.items in
-    let keys = c.in_ok-keys.keys.items in
+    let numbers = c.in_ok-numbers.numbers.items in
     let pieces = map (λ p. p.items) c.in_ok-pieces.pieces.items in
     let orbits : AreOrbits next os = subst (λ n. AreOrbits n os) c.deref-3.ensures.value c.in_ok-walks.ensures.orbits in
-    let cut : AreAllCut keys os pieces = subst (λ ks. AreAllCut ks os pieces) c.deref-5.ensures.value (subst (λ ws. AreAllCut c.deref-5.result.now (map (λ w. w.items) ws) pieces) c.deref-4.ensures.value c.in_ok-pieces.ensures) in
+    let cut : AreAllCut numbers os pieces = subst (λ ks. AreAllCut ks os pieces) c.deref-5.ensures.value (subst (λ ws. AreAllCut c.deref-5.result.now (map (λ w. w.items) ws) pieces) c.deref-4.ensures.value c.in_ok-pieces.ensures) in
     subst (λ ps. All (λ p. All (λ k. k < length es) p.items) ps) (sym c.deref-6.ensures.value)
-    (all-unmapped (λ xs. All (λ k. k < length es) xs) (λ p. p.items) c.in_ok-pieces.pieces.items (pieces-inside es c.requires next are keys (tell-plane c.args.edges.now c.in_ok-keys.keys.items c.in_ok-keys.ensures.tell) sums_agree all_below os orbits pieces cut))
+    (all-unmapped (λ xs. All (λ k. k < length es) xs) (λ p. p.items) c.in_ok-pieces.pieces.items (pieces-inside es c.requires next are numbers (tell-plane c.args.edges.now c.in_ok-numbers.numbers.items c.in_ok-numbers.ensures.tell) sums_agree all_below os orbits pieces cut))
 
 pub rings_of-requires-clause-rings : goal.rings_of-requires-clause-rings
 rings_of-requires-clause-rings c =
@@ -42,12 +42,12 @@ rings_of-requires-clause-rings c =
     let next = c.in_ok-next.next.items in
     let are = successors-of es c.requires next c.in_ok-next.ensures.sized c.in_ok-next.ensures.first in
     let os = map (λ o. o.items) c.in_ok-walks.walks.items in
-    let keys = c.in_ok-keys.keys.items in
+    let numbers = c.in_ok-numbers.numbers.items in
     let pieces = map (λ p. p.items) c.in_ok-pieces.pieces.items in
     let orbits : AreOrbits next os = subst (λ n. AreOrbits n os) c.deref-3.ensures.value c.in_ok-walks.ensures.orbits in
-    let cut : AreAllCut keys os pieces = subst (λ ks. AreAllCut ks os pieces) c.deref-5.ensures.value (subst (λ ws. AreAllCut c.deref-5.result.now (map (λ w. w.items) ws) pieces) c.deref-4.ensures.value c.in_ok-pieces.ensures) in
+    let cut : AreAllCut numbers os pieces = subst (λ ks. AreAllCut ks os pieces) c.deref-5.ensures.value (subst (λ ws. AreAllCut c.deref-5.result.now (map (λ w. w.items) ws) pieces) c.deref-4.ensures.value c.in_ok-pieces.ensures) in
     subst (λ ps. All (λ p. IsRing (edges_at es p.items)) ps) (sym c.deref-6.ensures.value)
-    (all-unmapped (λ p. IsRing (edges_at es p)) (λ p. p.items) c.in_ok-pieces.pieces.items (pieces-ring es c.requires next are keys (tell-plane c.args.edges.now c.in_ok-keys.keys.items c.in_ok-keys.ensures.tell) sums_agree all_below os orbits pieces cut))
+    (all-unmapped (λ p. IsRing (edges_at es p)) (λ p. p.items) c.in_ok-pieces.pieces.items (pieces-ring es c.requires next are numbers (tell-plane c.args.edges.now c.in_ok-numbers.numbers.items c.in_ok-numbers.ensures.tell) sums_agree all_below os orbits pieces cut))
 
 pub returns : goal.returns
 returns c =
@@ -55,11 +55,11 @@ returns c =
     let next = c.in_ok-next.next.items in
     let are = successors-of es c.requires next c.in_ok-next.ensures.sized c.in_ok-next.ensures.first in
     let os = map (λ o. o.items) c.in_ok-walks.walks.items in
-    let keys = c.in_ok-keys.keys.items in
+    let numbers = c.in_ok-numbers.numbers.items in
     let pieces = map (λ p. p.items) c.in_ok-pieces.pieces.items in
     let orbits : AreOrbits next os = subst (λ n. AreOrbits n os) c.deref-3.ensures.value c.in_ok-walks.ensures.orbits in
-    let cut : AreAllCut keys os pieces = subst (λ ks. AreAllCut ks os pieces) c.deref-5.ensures.value (subst (λ ws. AreAllCut c.deref-5.result.now (map (λ w. w.items) ws) pieces) c.deref-4.ensures.value c.in_ok-pieces.ensures) in
-    let whole : AreRingsOf es (map (edges_at es) pieces) = pieces-are-rings es c.requires next are keys (tell-plane es keys c.in_ok-keys.ensures.tell) sums_agree all_below os orbits pieces cut in
+    let cut : AreAllCut numbers os pieces = subst (λ ks. AreAllCut ks os pieces) c.deref-5.ensures.value (subst (λ ws. AreAllCut c.deref-5.result.now (map (λ w. w.items) ws) pieces) c.deref-4.ensures.value c.in_ok-pieces.ensures) in
+    let whole : AreRingsOf es (map (edges_at es) pieces) = pieces-are-rings es c.requires next are numbers (tell-plane es numbers c.in_ok-numbers.ensures.tell) sums_agree all_below os orbits pieces cut in
     if-ok (λ v. v ≡ map (λ p. edges_at es p.items) c.deref-6.result.now) (λ v. AreRingsOf es v) c.rings_of.result
     (λ v is. subst (AreRingsOf es) (sym (is ∙ (ap (map (λ p. edges_at es p.items)) c.deref-6.ensures.value ∙ sym (mapped-twice (λ p. p.items) (edges_at es) c.in_ok-pieces.pieces.items)))) whole)
     c.rings_of.ensures

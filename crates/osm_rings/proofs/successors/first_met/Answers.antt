@@ -1,14 +1,14 @@
--- The first way after the direction, else the first.
+-- The first departure after the direction, else the first.
 use Rattle.std.proofs.Common.{◌≡◌, false, rules, subst, sym, true}
 use Rattle.std.specs.List.Sorted.{IsPartitionPoint}
 use Rattle.std.proofs.lemmas.List.Sorted.{IsPartitionPoint-from_clause}
 use Rattle.osm_geom.specs.Dir.{vector_along}
-use Rattle.osm_rings.proofs.WaysRound.{IsPicked, is_passed, passed-parts, picked}
+use Rattle.osm_rings.proofs.DeparturesRound.{IsPicked, is_passed, passed-parts, picked}
 use Rattle.osm_rings.proofs.successors.first_met.Goals as goal
 
 pub returns : goal.returns
 returns c =
-    let ws = c.args.ways.now in
+    let ws = c.args.departures.now in
     let from = c.args.from in
     let after = c.partition_point-after.result in
     let test = is_passed ws c.requires from in

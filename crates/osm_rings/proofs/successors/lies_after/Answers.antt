@@ -1,6 +1,6 @@
 -- The comparison of the two directions.
 use Rattle.std.proofs.Common.{refl, ◌∙◌}
-use Rattle.osm_rings.proofs.WaysRound.{turns}
+use Rattle.osm_rings.proofs.DeparturesRound.{turns}
 use Rattle.osm_rings.proofs.successors.lies_after.Goals as goal
 
 pub returns : goal.returns

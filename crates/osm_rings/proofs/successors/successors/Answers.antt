@@ -2,14 +2,14 @@
 use Rattle.std.proofs.Common.{◌≡◌, ◌++◌, ◌∷◌, [], length, ap, subst, sym, ◌∙◌, arith}
 use Rattle.std.proofs.lemmas.List.{length-append}
 use Rattle.orbits.specs.Orbits.{after}
-use Rattle.sided.specs.Multiple.{common_den, edge_times, whole_edges}
-use Rattle.winding.specs.Member.{In}
+use Rattle.plane_edges.specs.Multiple.{common_den, edge_times, whole_edges}
+use Rattle.lists.specs.Member.{In}
 use Rattle.osm_rings.specs.Numbered.{edge_at}
-use Rattle.osm_rings.specs.Ways.{IsFirstMet}
+use Rattle.osm_rings.specs.Departures.{IsFirstMet}
 use Rattle.osm_rings.proofs.FirstMets.{met-more}
 use Rattle.osm_rings.proofs.Multiplied.{read-edge}
-use Rattle.osm_rings.proofs.OrbitWalks.{in-at}
 use Rattle.osm_rings.proofs.successors.successors.Goals as goal
+use Rattle.lists.proofs.Items.{at-in}
 
 pub loop-edge-preserved : goal.loop-edge-preserved
 loop-edge-preserved c =
@@ -20,7 +20,7 @@ loop-edge-preserved c =
     let edge = c.edge-item.result in
     let new = c.successor.result in
     let items : c.push.new.self.items ≡ next ++ new ∷ [] = c.in_ok-push.ensures.items in
-    let member : In edge es = subst (λ e. In e es) (sym c.edge-item.is) (in-at es n edge c.loop-edge-test.true) in
+    let member : In edge es = subst (λ e. In e es) (sym c.edge-item.is) (at-in es n edge c.loop-edge-test.true) in
     let here : edge_at xs n ≡ edge_times (common_den es) edge = read-edge (common_den es) es n edge c.loop-edge-test.true ∙ ap (edge_times (common_den es)) (sym c.edge-item.is) in
     let met : IsFirstMet xs (edge_at xs n) new = subst (λ e. IsFirstMet xs e new) (sym here) (c.successor.ensures es c.requires member) in
     record {

@@ -1,6 +1,0 @@
--- The rings passed are parted.
-use Rattle.osm_nest.proofs.Parting.{AreParted}
-use Rattle.osm_nest.proofs.grouping.grouped.Given as goal
-
-abbrev pub invariant-loop-ring : goal.invariant-loop-ring
-invariant-loop-ring l = AreParted l.homes l.yielded l.outers.items l.under.items

@@ -1,8 +1,0 @@
--- The comparison of the points, and then of the directions.
-use Rattle.std.proofs.Common.{ap, refl, ◌∙◌}
-use Rattle.std.specs.Ordering.{is_lt}
-use Rattle.osm_rings.proofs.WaysRound.{compared}
-use Rattle.osm_rings.proofs.ways.compare_ways.Goals as goal
-
-pub returns : goal.returns
-returns c = ap is_lt c.then.ensures ∙ compared c.args.way c.args.other c.compare_points.result c.clockwise.result _ c.compare_points.ensures c.clockwise.ensures refl

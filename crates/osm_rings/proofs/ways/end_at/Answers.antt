@@ -1,8 +1,0 @@
--- The ways that begin after a point stand after the others.
-use Rattle.std.proofs.Common.{not, rules}
-use Rattle.std.proofs.lemmas.List.Sorted.{IsPartitionPoint-from_clause}
-use Rattle.osm_rings.proofs.Starts.{after-parts, lt}
-use Rattle.osm_rings.proofs.ways.end_at.Goals as goal
-
-pub returns-clause-end : goal.returns-clause-end
-returns-clause-end c = IsPartitionPoint-from_clause (λ w. not (lt c.args.p w.from)) c.args.ways.now c.partition_point.result c.partition_point.ensures.partitioned (after-parts c.args.ways.now c.requires c.args.p) (λ a r f' k. search rules)

@@ -1,6 +1,0 @@
--- The first place is not after the end.
-use Rattle.osm_rings.proofs.Starts.{first-to-end}
-use Rattle.osm_rings.proofs.ways.range_at.Goals as goal
-
-pub returns-clause-ordered : goal.returns-clause-ordered
-returns-clause-ordered c = first-to-end c.args.ways.now c.args.p c.first_at.result c.end_at.result c.first_at.ensures.inside c.first_at.ensures.first c.end_at.ensures.end

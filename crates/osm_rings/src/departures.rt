@@ -1,0 +1,232 @@
+//! The edges of a list as they leave their points, in order; the numbers of these points; and the edges that leave one.
+//!
+//! Where departures belong is sought by whole numbers that stand for points, and then tested by the points themselves.
+ghost use Rattle.std.specs.Prelude.{◌≡◌, ◌<◌, ◌≤◌, ◌-◌, All, IfOk, IsPermutation, false, length, not, slice_index_or, true};
+ghost use Rattle.std.specs.Ordering.{is_lt};
+ghost use Rattle.osm_geom.specs.Dir.{vector_along};
+ghost use Rattle.osm_geom.specs.Edge.{direction_of};
+ghost use Rattle.osm_geom.specs.Point.{point_cmp};
+ghost use Rattle.osm_rings.specs.Departures.{AreClockwiseRound, AreDepartures, AreFrom, AreRising, IsEndAt, IsFirstAt, TellStarts, stands_before};
+
+use crate::sort_keys::sort_key;
+use osm_geom::{Dir, Edge, Point, clockwise, compare_points};
+use std::alloc::{AllocError as OutOfMemory, Global};
+use std::cmp::Ordering;
+
+/// The direction from which the departures round a point are told, clockwise.
+pub const EAST: Dir = Dir { dx: 1, dy: 0 };
+
+/// The point that an edge leaves, its direction, its place in the list, and the sort key of the point.
+#[derive(Clone, Copy, Debug, PartialEq, Eq)]
+pub struct Departure {
+    pub from: Point,
+    pub dir: Dir,
+    pub edge: usize,
+    pub key: i64,
+}
+
+/// The order of departures: by the points that they leave, and round one point clockwise from the east.
+fn compare_departures(departure: Departure, other: Departure) -> Ordering
+    ensures { is_lt result ≡ stands_before departure other }
+{
+    compare_points(departure.from, other.from).then(clockwise(EAST, departure.dir, other.dir))
+}
+
+/// The same by the sort keys of the points.
+fn compare_by_keys(departure: &Departure, other: &Departure) -> Ordering {
+    match departure.key.cmp(&other.key) {
+        Ordering::Equal => clockwise(EAST, departure.dir, other.dir),
+        order => order,
+    }
+}
+
+/// Whether the second doesn't belong before the first.
+fn is_in_order(departure: &Departure, next: &Departure) -> bool
+    ensures { result ≡ not (stands_before next.now departure.now) }
+{
+    !compare_departures(*next, *departure).is_lt()
+}
+
+/// Whether departures are in order.
+fn are_in_order(departures: &[Departure]) -> bool
+    ensures rising { result ≡ true → AreRising departures.now }
+    ensures round { result ≡ true → AreClockwiseRound departures.now }
+{
+    departures.is_sorted_by(|departure, next| is_in_order(departure, next))
+}
+
+/// The departures in order.
+fn sorted(departures: Vec<Departure>) -> Result<Vec<Departure>, OutOfMemory>
+    ensures moved { IfOk result (λ v. IsPermutation departures.items v.items) }
+    ensures rising { IfOk result (λ v. AreRising v.items) }
+    ensures round { IfOk result (λ v. AreClockwiseRound v.items) }
+{
+    let mut departures = departures;
+    departures.sort_by(|departure, other| compare_departures(*departure, *other))?;
+    Ok(departures)
+}
+
+/// The departures in order: by their sort keys, where that is their order.
+fn in_order(departures: Vec<Departure>) -> Result<Vec<Departure>, OutOfMemory>
+    ensures moved { IfOk result (λ v. IsPermutation departures.items v.items) }
+    ensures rising { IfOk result (λ v. AreRising v.items) }
+    ensures round { IfOk result (λ v. AreClockwiseRound v.items) }
+{
+    let mut departures = departures;
+    departures.sort_by(|departure, other| compare_by_keys(departure, other))?;
+    if are_in_order(&departures) {
+        return Ok(departures);
+    }
+    sorted(departures)
+}
+
+/// The departure of the edge at a place.
+fn departure_of(edge: Edge, place: usize) -> Departure
+    ensures from { result.from ≡ edge.from }
+    ensures along { vector_along result.dir ≡ direction_of edge }
+    ensures place { result.edge ≡ place }
+{
+    Departure {
+        from: edge.from,
+        dir: edge.dir(),
+        edge: place,
+        key: sort_key(edge.from),
+    }
+}
+
+/// The departures of the edges, in order.
+pub fn departures(alloc: Global, edges: &[Edge]) -> Result<Vec<Departure>, OutOfMemory>
+    ensures { IfOk result (λ v. AreDepartures edges.now v.items) }
+{
+    let mut departures = Vec::with_capacity(alloc, edges.len())?;
+    for (edge, &it) in edges.iter().enumerate() {
+        departures.push(departure_of(it, edge))?;
+    }
+    in_order(departures)
+}
+
+/// Whether the departure before a place leaves an earlier point than p, and the one at the place doesn't.
+fn parts_before(departures: &[Departure], p: Point, place: usize) -> bool
+    requires { place ≤ length departures.now }
+    ensures before { result ≡ true → (d : Departure) → 0 < place → is_lt (point_cmp (slice_index_or departures.now (place - 1) d).from p) ≡ true }
+    ensures from { result ≡ true → (d : Departure) → place < length departures.now → is_lt (point_cmp (slice_index_or departures.now place d).from p) ≡ false }
+{
+    if place > 0 && !compare_points(departures[place - 1].from, p).is_lt() {
+        return false;
+    }
+    if place < departures.len() && compare_points(departures[place].from, p).is_lt() {
+        return false;
+    }
+    true
+}
+
+/// Whether the departures that leave p or a later point begin at a place.
+fn is_first_at(departures: &[Departure], p: Point, place: usize) -> bool
+    requires { AreRising departures.now }
+    ensures inside { result ≡ true → place ≤ length departures.now }
+    ensures first { result ≡ true → IsFirstAt departures.now p place }
+{
+    if place > departures.len() {
+        return false;
+    }
+    parts_before(departures, p, place)
+}
+
+/// Where the sort keys tell that the departures from p begin.
+fn guess_first(departures: &[Departure], p: Point) -> usize {
+    let key = sort_key(p);
+    departures.partition_point(|departure| departure.key < key)
+}
+
+/// How many departures begin before p: where some begin at p, the place of the first of these, which numbers the node.
+fn first_at(departures: &[Departure], p: Point) -> usize
+    requires { AreRising departures.now }
+    ensures inside { result ≤ length departures.now }
+    ensures first { IsFirstAt departures.now p result }
+{
+    let guess = guess_first(departures, p);
+    if is_first_at(departures, p, guess) {
+        return guess;
+    }
+    departures.partition_point(|departure| compare_points(departure.from, p).is_lt())
+}
+
+/// Whether the departure at a place leaves a later point than p, and the one before it doesn't.
+fn parts_after(departures: &[Departure], p: Point, place: usize) -> bool
+    requires { place ≤ length departures.now }
+    ensures before { result ≡ true → (d : Departure) → 0 < place → is_lt (point_cmp p (slice_index_or departures.now (place - 1) d).from) ≡ false }
+    ensures from { result ≡ true → (d : Departure) → place < length departures.now → is_lt (point_cmp p (slice_index_or departures.now place d).from) ≡ true }
+{
+    if place > 0 && compare_points(p, departures[place - 1].from).is_lt() {
+        return false;
+    }
+    if place < departures.len() && !compare_points(p, departures[place].from).is_lt() {
+        return false;
+    }
+    true
+}
+
+/// Whether the departures that leave p or an earlier point end at a place.
+fn is_end_at(departures: &[Departure], p: Point, place: usize) -> bool
+    requires { AreRising departures.now }
+    ensures inside { result ≡ true → place ≤ length departures.now }
+    ensures end { result ≡ true → IsEndAt departures.now p place }
+{
+    if place > departures.len() {
+        return false;
+    }
+    parts_after(departures, p, place)
+}
+
+/// How many departures begin at p or before; mostly one begins there, the first of which stands at `first`.
+fn end_at(departures: &[Departure], p: Point, first: usize) -> usize
+    requires { AreRising departures.now }
+    ensures inside { result ≤ length departures.now }
+    ensures end { IsEndAt departures.now p result }
+{
+    let guess = first.saturating_add(1);
+    if is_end_at(departures, p, guess) {
+        return guess;
+    }
+    departures.partition_point(|departure| !compare_points(p, departure.from).is_lt())
+}
+
+/// For each edge the number of the node that it leaves.
+pub fn node_numbers(
+    alloc: Global,
+    edges: &[Edge],
+    departures: &[Departure],
+) -> Result<Vec<usize>, OutOfMemory>
+    requires { AreDepartures edges.now departures.now }
+    ensures sized { IfOk result (λ v. length v.items ≡ length edges.now) }
+    ensures below { IfOk result (λ v. All (λ k. k < length edges.now) v.items) }
+    ensures tell { IfOk result (λ v. TellStarts edges.now v.items) }
+{
+    let mut numbers = Vec::with_capacity(alloc, edges.len())?;
+    for &edge in edges {
+        numbers.push(first_at(departures, edge.from))?;
+    }
+    Ok(numbers)
+}
+
+/// The places between which the departures that begin at p stand.
+fn range_at(departures: &[Departure], p: Point) -> (usize, usize)
+    requires { AreRising departures.now }
+    ensures ordered { result.0 ≤ result.1 }
+    ensures inside { result.1 ≤ length departures.now }
+    ensures first { IsFirstAt departures.now p result.0 }
+    ensures end { IsEndAt departures.now p result.1 }
+{
+    let first = first_at(departures, p);
+    (first, end_at(departures, p, first))
+}
+
+/// The departures from p, clockwise from the east.
+pub fn leaving(departures: &[Departure], p: Point) -> &[Departure]
+    requires rising { AreRising departures.now }
+    requires round { AreClockwiseRound departures.now }
+    ensures { AreFrom departures.now p result.now }
+{
+    let range = range_at(departures, p);
+    &departures[range.0..range.1]
+}
