@@ -3,7 +3,7 @@ use Rattle.std.proofs.Common.{◌≡◌, ℕ, ◌+◌, ◌<◌, Bool, true, eqb,
 use Rattle.std.specs.Prelude.{option_map}
 use Rattle.std.specs.List.{slice_split, position_or_len, before_first, after_first}
 use Rattle.std.proofs.lemmas.Bool.{cases_eq, eqb-true, eqb-false, ltb-true, lt-ltb, ne_eqb, eq-eqb}
-use Rattle.std.proofs.lemmas.List.{take_at, drop_at, length-append, length-take, get_or-take, get_or_append_left}
+use Rattle.std.proofs.lemmas.List.{take_at, drop_at, length-append, length-take, get_or-take, get_or_append_left, nil_from_length}
 use Rattle.std.proofs.Math.Seq.{get_or-append_seam}
 use Rattle.std.proofs.lemmas.List.Sums.{position_or_len_is, split_at_first, passes_at_first, fails_before_first}
 use Rattle.std.proofs.lemmas.Option.{cond_some}
@@ -21,7 +21,6 @@ use Rattle.opl_reader.specs.Items.{kind_of, Each, IsItems, IsTag, IsRef, HasTarg
 use Rattle.opl_reader.specs.NumberReading.{id_of}
 use Rattle.opl_reader.specs.StringReading.{string_of, string_at}
 use Rattle.opl_reader.specs.ItemReading.{placed, is_comma, items, each, halves, tag_at, ref_of, ref_at, target_of, member_at}
-use Rattle.std.proofs.lemmas.List.{nil_from_length}
 use Rattle.opl_reader.proofs.PartedLaws.{commas, are_commas}
 use Rattle.opl_reader.proofs.SpellingLaws.{map_some, and_then_some, read_is_spelled, spelled_is_read}
 use Rattle.opl_reader.proofs.DecimalLaws.{id_is, is_id}

@@ -18,3 +18,8 @@ pub mod BadLaws
 pub mod FaultLaws
 pub mod AnswerLaws
 pub mod KeyLaws
+pub mod PackedLemmas
+pub mod LineSplits
+pub mod FeedSteps
+pub mod ChunkLaws
+pub mod BadLineLaws

@@ -6,6 +6,7 @@ use Rattle.std.specs.Str.{IsUtf8}
 use Rattle.opl_reader.specs.declared.fault.FaultKind.TheVariants.{BadEscape}
 use Rattle.opl_reader.specs.Reading.{no_reading}
 use Rattle.opl_reader.specs.StringReading.{code_point, joined, string_of, string_at}
+use Rattle.lists.proofs.Options.{is_some-map}
 
 abbrev pub parts : List ℕ → List (List ℕ)
 parts bytes = slice_split (λ b. b == 37) bytes
@@ -82,14 +83,10 @@ pub record TestedTo (rest text : List ℕ) : Type 0 where
   pub utf8 : IsUtf8 rest
   pub so_far : is_some (string_of rest) ≡ is_some (string_of text)
 
-some-map : {A B : Type 0} (f : A → B) (o : Option A) → is_some (option_map f o) ≡ is_some o
-some-map f None = refl
-some-map f (Some x) = refl
-
 pub tested-on : (text rest plain escape after more : List ℕ) (c : ℕ) → parts rest ≡ plain ∷ parts after → parts after ≡ escape ∷ parts more → Some c ≡ code_point escape
     → is_some (string_of rest) ≡ is_some (string_of text) → is_some (string_of more) ≡ is_some (string_of text)
 tested-on text rest plain escape after more c e f g so_far =
-    sym (ap is_some (string-step rest plain escape after more c e f (sym g)) ∙ some-map (λ (t : List ℕ). plain ++ encode_utf8 c ++ t) (string_of more)) ∙ so_far
+    sym (ap is_some (string-step rest plain escape after more c e f (sym g)) ∙ is_some-map (λ (t : List ℕ). plain ++ encode_utf8 c ++ t) (string_of more)) ∙ so_far
 
 pub tested-open : (text rest plain after : List ℕ) → parts rest ≡ plain ∷ parts after → parts after ≡ after ∷ [] → is_some (string_of rest) ≡ is_some (string_of text) → false ≡ is_some (string_of text)
 tested-open text rest plain after e f so_far = sym (ap is_some (string-open rest plain after e f)) ∙ so_far

@@ -1,5 +1,6 @@
 -- Of equal keys the first alone, one tag more at a time.
-use Rattle.std.proofs.Common.{◌≡◌, ℕ, ◌<◌, ◌≤◌, min, Bool, true, false, cond, not, ◌||◌, List, [], ◌∷◌, ◌++◌, length, take, drop, refl, sym, ap, subst, ◌∙◌, inl, inr, arith}
+use Rattle.std.proofs.Common.{◌≡◌, ℕ, ◌+◌, ◌<◌, ◌≤◌, min, Bool, true, false, cond, not, ◌||◌, List, [], ◌∷◌, ◌++◌, length, take, drop, refl, sym, ap, subst, ◌∙◌, inl, inr, arith}
+use native.Mathlib.Numerals.{unary_clauses}
 use Rattle.std.specs.BTreeSet.{BTreeSet, contains_text, IsEmpty}
 use Rattle.std.specs.List.{list_any, filter}
 use Rattle.std.specs.Str.{bytes_eq}
@@ -117,3 +118,28 @@ keys-more n old new tags t le has added = λ key.
     either-way true false = refl
     either-way false true = refl
     either-way false false = refl
+
+-- ---- the first few, one by one
+
+pub few_none : (key : List ℕ) (n : ℕ) (rest : List Tag) (b : Bool) → rest ≡ [] → list_any (has_this key) (take n rest) ≡ b → false ≡ b
+few_none key n rest b none is = sym (subst (λ (zs : List Tag). list_any (has_this key) zs ≡ false) (sym (ap (take n) none ∙ take_all n [] (omega arith))) refl) ∙ is
+
+few_cons : (n m : ℕ) (rest more : List Tag) (t : Tag) → m + 1 ≡ n → rest ≡ t ∷ more → take n rest ≡ t ∷ take m more
+few_cons n m rest more t one is = rw (← one, is) (simp unary_clauses refl)
+
+pub few_hit : (key : List ℕ) (n m : ℕ) (rest more : List Tag) (t : Tag) (b : Bool) → m + 1 ≡ n → rest ≡ t ∷ more → bytes_eq t.key key ≡ true → list_any (has_this key) (take n rest) ≡ b → true ≡ b
+few_hit key n m rest more t b one is here any = sym (rw (few_cons n m rest more t one is) (rw here refl)) ∙ any
+
+pub few_miss : (key : List ℕ) (n m : ℕ) (rest more : List Tag) (t : Tag) (b : Bool) → m + 1 ≡ n → rest ≡ t ∷ more → bytes_eq t.key key ≡ false → list_any (has_this key) (take n rest) ≡ b → list_any (has_this key) (take m more) ≡ b
+few_miss key n m rest more t b one is here any = sym (ap (λ (c : Bool). c || list_any (has_this key) (take m more)) here) ∙ (sym (ap (list_any (has_this key)) (few_cons n m rest more t one is)) ∙ any)
+
+pub few_end : (key : List ℕ) (n : ℕ) (rest : List Tag) (b : Bool) → n ≡ 0 → list_any (has_this key) (take n rest) ≡ b → false ≡ b
+few_end key n rest b none is = subst (λ (k : ℕ). list_any (has_this key) (take k rest) ≡ b) none is
+
+pub any-later-few : (n : ℕ) (key : List ℕ) (tags : List Tag) (found : Bool) → false ≡ list_any (has_this key) (take n tags) → found ≡ list_any (has_this key) (drop n tags) → found ≡ list_any (has_this key) tags
+any-later-few n key tags found none later =
+    later ∙ (ap (λ (b : Bool). b || list_any (has_this key) (drop n tags)) none ∙ (sym (list_any-append (has_this key) (take n tags) (drop n tags)) ∙ ap (list_any (has_this key)) (take-append-drop n tags)))
+
+pub any-early-few : (n : ℕ) (key : List ℕ) (tags : List Tag) → true ≡ list_any (has_this key) (take n tags) → true ≡ list_any (has_this key) tags
+any-early-few n key tags some =
+    ap (λ (b : Bool). b || list_any (has_this key) (drop n tags)) some ∙ (sym (list_any-append (has_this key) (take n tags) (drop n tags)) ∙ ap (list_any (has_this key)) (take-append-drop n tags))

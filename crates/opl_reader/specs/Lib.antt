@@ -14,3 +14,11 @@ pub mod Spells
 pub mod Faults
 pub mod OneAnswer
 pub mod Steps
+pub mod Packed
+pub mod Seen
+pub mod Lines
+pub mod Told
+pub mod Reader
+pub mod Feeding
+pub mod Chunking
+pub mod BadLines

@@ -11,6 +11,10 @@ use Rattle.opl_reader.specs.declared.object.ObjectKind.TheVariants.{Node, Way, R
 use Rattle.opl_reader.specs.declared.field.Meaning.{Meaning}
 use Rattle.opl_reader.specs.declared.field.Meaning.TheVariants.{Count, Flag, Anything, Name, X, Y, Tagged, Referring, Having}
 use Rattle.opl_reader.specs.declared.object.Tag.{Tag}
+use Rattle.opl_reader.specs.declared.fault.LineError.{LineError}
+use Rattle.opl_reader.specs.declared.fault.LineError.TheVariants as line
+use Rattle.opl_reader.specs.declared.feed.FeedError.{FeedError}
+use Rattle.opl_reader.specs.declared.feed.FeedError.TheVariants.{Line, OutOfMemory}
 use Rattle.opl_reader.specs.Parts.{Part, part}
 use Rattle.opl_reader.specs.ItemReading.{is_comma}
 use Rattle.opl_reader.specs.LineReading.{is_passed_over}
@@ -70,3 +74,10 @@ table_of Relation = RELATION_FIELDS
 -- what a code of the tables stands for; 0 for no field
 abbrev pub meaning_of : ℕ → Option Meaning
 meaning_of code = if code == 1 then Some Tagged else (if code == 2 || code == 4 || code == 7 then Some Count else (if code == 3 then Some Flag else (if code == 5 then Some Anything else (if code == 6 then Some Name else (if code == 8 then Some X else (if code == 9 then Some Y else (if code == 10 then Some Referring else (if code == 11 then Some Having else None))))))))
+
+-- ---- pieces
+
+-- the error of the line of this number
+abbrev pub of_line : ℕ → LineError → FeedError
+of_line number (line.Fault fault) = Line number fault
+of_line number line.OutOfMemory = OutOfMemory

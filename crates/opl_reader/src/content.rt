@@ -4,8 +4,9 @@ ghost use Rattle.std.specs.Prelude.{◌≡◌};
 ghost use Rattle.opl_reader.specs.Fields.{nothing, place_of, object_of};
 
 use crate::coordinate::{Latitude, Longitude};
-use crate::object::{Members, Object, ObjectKind, Refs, Tags};
-use osm_geom::Loc;
+use crate::object::{Members, Object, ObjectKind, Refs};
+use crate::tags::Tags;
+use osm_lattice::Loc;
 use std::alloc::Global;
 
 /// What the fields so far say. A field that isn't there is empty, and an object without a flag is live.

@@ -1,6 +1,6 @@
 //! Coordinates of a location, each within its range.
 
-ghost use Rattle.osm_geom.specs.Bounds.{IsLongitude, IsLatitude};
+ghost use Rattle.osm_lattice.specs.Bounds.{IsLongitude, IsLatitude};
 
 /// A longitude, in units of 1e-7 degree.
 #[derive(Clone, Copy, Debug, PartialEq, Eq)]

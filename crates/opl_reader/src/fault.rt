@@ -4,7 +4,7 @@ ghost use Rattle.std.specs.Prelude.{◌≡◌};
 ghost use Rattle.opl_reader.specs.declared.fault.LineError.TheVariants.{OutOfMemory};
 ghost use Rattle.opl_reader.specs.Fault.{text_of};
 
-use std::alloc::{AllocError, AllocFailed};
+use std::alloc::{AllocError as OutOfMemory, AllocFailed};
 
 /// What is wrong with a line.
 #[derive(Clone, Copy, Debug, PartialEq, Eq)]
@@ -69,10 +69,10 @@ pub enum LineError {
     OutOfMemory,
 }
 
-impl From<AllocError> for LineError {
+impl From<OutOfMemory> for LineError {
     ghost from_gives = { λ _ e. e ≡ OutOfMemory };
 
-    fn from(_e: AllocError) -> LineError {
+    fn from(_e: OutOfMemory) -> LineError {
         LineError::OutOfMemory
     }
 }

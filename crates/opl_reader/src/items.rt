@@ -1,6 +1,6 @@
 //! Values that are lists of items.
 
-ghost use Rattle.std.specs.Prelude.{◌≡◌, ◌+◌, ◌^◌, ◌<◌, ◌∷◌, ◌++◌, [], length, drop, IfSome, OnOk};
+ghost use Rattle.std.specs.Prelude.{◌≡◌, ◌+◌, ◌^◌, ◌<◌, ◌∷◌, ◌++◌, [], length, drop, take, IfSome, OnOk};
 ghost use Rattle.std.specs.List.{slice_split, list_any};
 ghost use Rattle.std.specs.Option.{option_copied};
 ghost use Rattle.std.specs.Str.{IsUtf8, bytes_eq};
@@ -13,9 +13,10 @@ use crate::cut::cut;
 use crate::escape::read_string;
 use crate::fault::{FaultKind, LineError, fault};
 use crate::number::read_id;
-use crate::object::{Member, Members, ObjectKind, Refs, Tag, Tags};
+use crate::object::{Member, Members, ObjectKind, Refs, Tag};
+use crate::tags::Tags;
 use memchr::memchr_iter;
-use std::alloc::{AllocError, Global};
+use std::alloc::{AllocError as OutOfMemory, Global};
 use std::collections::BTreeSet;
 
 /// The most items that a list has room for before they are read, so that a line of commas alone takes little memory.
@@ -67,12 +68,16 @@ fn read_tag(alloc: Global, item: &str, place: u64) -> Result<Tag, LineError>
     Ok(Tag { key, value })
 }
 
-/// Whether a tag of these has this key.
-fn is_key_among(tags: &[Tag], key: &str) -> bool
-    ensures { result ≡ list_any (λ t. bytes_eq t.key key.now) tags.now }
+/// Whether one of the first few tags has this key.
+fn is_key_among_few(tags: &Tags, key: &str) -> bool
+    ensures { result ≡ list_any (λ t. bytes_eq t.key key.now) (take 16 tags.now) }
 {
-    for tag in tags {
-        if tag.key.as_str() == key {
+    let mut rest = tags.iter();
+    for _ in 0..FEW_TAGS {
+        let Some(tag) = rest.next() else {
+            return false;
+        };
+        if tag.key == key {
             return true;
         }
     }
@@ -84,9 +89,7 @@ fn has_key(tags: &Tags, later_keys: &BTreeSet<String>, key: &str) -> bool
     requires { HasKeysOf later_keys.now (drop 16 tags.now) }
     ensures { result ≡ list_any (λ t. bytes_eq t.key key.now) tags.now }
 {
-    let tags = tags.as_slice();
-    let few = tags.len().min(FEW_TAGS);
-    is_key_among(&tags[..few], key) || later_keys.contains(key)
+    is_key_among_few(tags, key) || later_keys.contains(key)
 }
 
 /// Adds the key of the tag that is to stand behind these, where it is a later one.
@@ -95,11 +98,11 @@ fn add_later_key(
     tags: &Tags,
     later_keys: &mut BTreeSet<String>,
     tag: &Tag,
-) -> Result<(), AllocError>
+) -> Result<(), OutOfMemory>
     requires { HasKeysOf later_keys.old (drop 16 tags.now) }
     ensures { OnOk result (HasKeysOf later_keys.new (drop 16 (tags.now ++ tag.now ∷ []))) }
 {
-    if tags.as_slice().len() < FEW_TAGS {
+    if tags.len() < FEW_TAGS {
         return Ok(());
     }
     let key = String::from_str(alloc, tag.key.as_str())?;
@@ -113,7 +116,7 @@ fn keep(
     tags: &mut Tags,
     later_keys: &mut BTreeSet<String>,
     tag: Tag,
-) -> Result<(), AllocError>
+) -> Result<(), OutOfMemory>
     requires { HasKeysOf later_keys.old (drop 16 tags.old) }
     ensures kept { OnOk result (tags.new ≡ kept_with tags.old tag) }
     ensures keys { OnOk result (HasKeysOf later_keys.new (drop 16 tags.new)) }
@@ -122,7 +125,7 @@ fn keep(
         return Ok(());
     }
     add_later_key(alloc, tags, later_keys, &tag)?;
-    tags.push(tag)
+    tags.push(tag.key.as_str(), tag.value.as_str())
 }
 
 /// Tags, of equal keys the first alone.
@@ -131,7 +134,7 @@ pub fn read_tags(alloc: Global, text: &str, place: u64) -> Result<Tags, LineErro
     requires { place + length text.now < 2 ^ 63 }
     ensures { Gives result (tags_at place text.now) }
 {
-    let mut tags = Tags::with_capacity(alloc, item_room(text))?;
+    let mut tags = Tags::with_capacity(alloc, item_room(text), text.len())?;
     let mut later_keys = BTreeSet::new(alloc);
     let mut at = place;
     let mut left = all_items(text);

@@ -4,24 +4,38 @@
 //! as the OPL manual (<https://osmcode.org/opl-file-format/>) says; a line has to be right to its last byte.
 #![tactic(auto)]
 
+mod chunking;
 mod content;
 mod coordinate;
 mod cut;
 mod escape;
 mod fault;
+mod feed;
 mod field;
 mod items;
 mod line;
+mod lines;
 mod number;
 mod object;
+mod tags;
 mod text;
 
+pub use chunking::{
+    any_chunking_gives_the_objects, finish_gives_the_rest, first_fault_is_reported,
+    first_too_long_is_reported, last_fault_is_reported, nothing_is_fed_at_first,
+    one_more_piece_is_read,
+};
 pub use escape::strings_are_spelled;
 pub use fault::{FaultKind, LineError, LineFault, fault_text};
+pub use feed::{Fed, FeedError};
 pub use line::{lines_have_one_answer, read_line};
+pub use lines::Lines;
 pub use number::read_decimal;
-pub use object::{Member, Members, Object, ObjectKind, ObjectRef, Refs, Tag, Tags};
+pub use object::{Member, Members, Object, ObjectKind, ObjectRef, Refs, Tag};
+pub use tags::{TagIter, TagRef, Tags};
 pub use text::Text;
 
+#[cfg(test)]
+mod lines_tests;
 #[cfg(test)]
 mod tests;

@@ -4,7 +4,7 @@ ghost use Rattle.std.specs.Prelude.{◌≡◌, ◌+◌, ◌^◌, ◌<◌, ◌≤
 ghost use Rattle.opl_reader.specs.declared.object.ObjectKind.{ObjectKind};
 ghost use Rattle.opl_reader.specs.declared.fault.LineFault.{LineFault};
 ghost use Rattle.opl_reader.specs.Reading.{Gives, Leaves};
-ghost use Rattle.opl_reader.specs.Parts.{Part, without_cr};
+ghost use Rattle.opl_reader.specs.Parts.{without_cr};
 ghost use Rattle.opl_reader.specs.Fields.{nothing};
 ghost use Rattle.opl_reader.specs.FieldReading.{with_field, with_fields};
 ghost use Rattle.opl_reader.specs.LineReading.{fields_from, head_at, reading};

@@ -1,5 +1,5 @@
 use super::*;
-use osm_geom::Loc;
+use osm_lattice::Loc;
 use std::test::*;
 
 /// The report's words for the fault of a line, and its place.
@@ -54,10 +54,13 @@ fn bad_lines(rt: HostRuntime) {
 /// The value of the first tag, where the line is that of a node without faults.
 fn first_value(rt: &impl std::process::Abort, alloc: std::alloc::Global, line: &[u8], value: &str) {
     match read_line(alloc, line) {
-        Ok(Some(Object::Node { tags, .. })) => match tags.as_slice() {
-            [tag, ..] => assert_eq!(rt; tag.value.as_str(), value),
-            _other => assert!(rt; false),
-        },
+        Ok(Some(Object::Node { tags, .. })) => {
+            let mut rest = tags.iter();
+            match rest.next() {
+                Some(tag) => assert_eq!(rt; tag.value, value),
+                None => assert!(rt; false),
+            }
+        }
         _other => assert!(rt; false),
     }
 }
@@ -138,11 +141,12 @@ fn village_node_as_osmium_writes_it(rt: HostRuntime) {
             assert_eq!(rt; id, 9);
             assert!(rt; live);
             assert_eq!(rt; place, Loc::new(100_500_000, 500_500_000));
-            for tag in tags.as_slice() {
-                assert_eq!(rt; tag.key.as_str(), "place");
-                assert_eq!(rt; tag.value.as_str(), "village");
+            let mut rest = tags.iter();
+            if let Some(tag) = rest.next() {
+                assert_eq!(rt; tag.key, "place");
+                assert_eq!(rt; tag.value, "village");
             }
-            assert_eq!(rt; tags.as_slice().len(), 1);
+            assert_eq!(rt; tags.len(), 1);
         }
         _other => assert!(rt; false),
     }
@@ -166,7 +170,7 @@ fn village_relation_as_osmium_writes_it(rt: HostRuntime) {
         ) => {
             assert_eq!(rt; id, 1);
             assert!(rt; live);
-            assert_eq!(rt; tags.as_slice().len(), 3);
+            assert_eq!(rt; tags.len(), 3);
             match members.as_slice() {
                 [outer, _, label] => {
                     assert_eq!(rt; outer.kind, ObjectKind::Way);

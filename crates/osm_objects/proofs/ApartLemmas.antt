@@ -7,12 +7,12 @@ use Rattle.opl_reader.specs.declared.object.ObjectKind.TheVariants.{Way}
 use Rattle.opl_reader.specs.declared.object.ObjectRef.{ObjectRef}
 use Rattle.opl_reader.specs.declared.object.Object.{Object}
 use Rattle.opl_reader.specs.declared.object.Object.TheVariants as object
-use Rattle.osm_objects.specs.declared.held.Held.{Held}
+use Rattle.osm_objects.specs.declared.held.Placed.{Placed}
 use Rattle.osm_objects.specs.Object.{kind_of, id_of, ref_of, is_at}
 use Rattle.osm_objects.specs.Objects.{object_at, AreApart}
 use Rattle.osm_objects.specs.CoastWays.{is_coast_way, coast_ways}
 use Rattle.osm_objects.specs.Held.{object_from, objects_from, KindsAgree}
-use Rattle.osm_objects.proofs.StoreLemmas.{eq, id-from, object_at-from}
+use Rattle.osm_objects.proofs.StoreLemmas.{eq, id-from, object_at-from, kept_at}
 use Rattle.osm_objects.proofs.FoundLemmas.{passes}
 
 -- a key that is equal to none is not found
@@ -20,13 +20,13 @@ not_found : {V : Type 0} (k : ObjectRef) (es : List (ObjectRef × V)) → AllByR
 not_found k [] none = refl
 not_found k (e ∷ es) none = rw (none.0) (not_found k es none.1)
 
-ref-from : (e : ObjectRef × Held) → kind_of (object_from e.0.id e.1) ≡ e.0.kind → ref_of (object_from e.0.id e.1) ≡ e.0
-ref-from e agree = rw (agree, id-from e.0.id e.1) refl
+ref-from : (e : ObjectRef × Placed) → kind_of (object_from e.0.id e.1.held) ≡ e.0.kind → ref_of (object_from e.0.id e.1.held) ≡ e.0
+ref-from e agree = rw (agree, id-from e.0.id e.1.held) refl
 
-pub AreApart-from : (es : List (ObjectRef × Held)) → KindsAgree es → IsDistinct eq (keys_of es) → AreApart (objects_from es)
+pub AreApart-from : (es : List (ObjectRef × Placed)) → KindsAgree es → IsDistinct eq (keys_of es) → AreApart (objects_from es)
 AreApart-from [] agree distinct = tt
 AreApart-from (e ∷ es) agree distinct = (
-  ap (object_at (objects_from es)) (ref-from e agree.0) ∙ object_at-from e.0 es agree.1 ∙ ap (option_map (object_from e.0.id)) (not_found e.0 es (IsDistinct-head eq e.0 (keys_of es) distinct)),
+  ap (object_at (objects_from es)) (ref-from e agree.0) ∙ object_at-from e.0 es agree.1 ∙ ap (option_map (kept_at e.0.id)) (not_found e.0 es (IsDistinct-head eq e.0 (keys_of es) distinct)),
   AreApart-from es agree.1 (IsDistinct-tail eq e.0 (keys_of es) distinct),
 )
 

@@ -7,6 +7,7 @@ use Rattle.opl_reader.specs.declared.object.ObjectKind.TheVariants.{Node, Way, R
 use Rattle.opl_reader.specs.declared.object.ObjectRef.{ObjectRef}
 use Rattle.opl_reader.specs.declared.object.Object.{Object}
 use Rattle.osm_objects.specs.declared.held.Held.{Held}
+use Rattle.osm_objects.specs.declared.held.Placed.{Placed}
 use Rattle.osm_objects.specs.declared.held.Held.TheVariants as held
 use Rattle.osm_objects.specs.Object.{kind_of, id_of, is_live, ref_of, same_kind, is_at}
 use Rattle.osm_objects.specs.Objects.{object_at, AreApart}
@@ -33,7 +34,7 @@ same_kind-symmetric Relation Relation = refl
 is_at-itself : (o : Object) → is_at (ref_of o) o ≡ true
 is_at-itself o = rw (same_kind-itself (kind_of o), int_eq_equiv.refl (id_of o)) refl
 
-is_at-symmetric : (o u : Object) → is_at (ref_of o) u ≡ is_at (ref_of u) o
+pub is_at-symmetric : (o u : Object) → is_at (ref_of o) u ≡ is_at (ref_of u) o
 is_at-symmetric o u = rw (same_kind-symmetric (kind_of o) (kind_of u), int_eq_equiv.symm (id_of o) (id_of u)) refl
 
 -- what is not found first is not found later
@@ -93,6 +94,6 @@ live-from id (held.Tagged n) = refl
 live-from id (held.Way w) = refl
 live-from id (held.Relation r) = refl
 
-pub all_live : (es : List (ObjectRef × Held)) → AllByRecursion (λ o. IsTrue (is_live o)) (objects_from es)
+pub all_live : (es : List (ObjectRef × Placed)) → AllByRecursion (λ o. IsTrue (is_live o)) (objects_from es)
 all_live [] = tt
-all_live (e ∷ es) = (live-from e.0.id e.1, all_live es)
+all_live (e ∷ es) = (live-from e.0.id e.1.held, all_live es)

@@ -10,10 +10,13 @@ use Rattle.opl_reader.specs.declared.object.Object.{Object}
 use Rattle.opl_reader.specs.contracts.object.ObjectRefPartialEq.TheImpl as ref_eq
 use Rattle.opl_reader.specs.contracts.object.ObjectKindPartialEq.TheImpl as kind_eq
 use Rattle.osm_objects.specs.declared.held.Held.{Held}
+use Rattle.osm_objects.specs.declared.held.Placed.{Placed}
 use Rattle.osm_objects.specs.declared.held.Held.TheVariants as held
 use Rattle.osm_objects.specs.Object.{kind_of, id_of, is_live, ref_of, same_kind, is_at}
 use Rattle.osm_objects.specs.Objects.{object_at, is_duplicate, with_object}
 use Rattle.osm_objects.specs.Held.{object_from, objects_from, KindsAgree, live_ref}
+use Rattle.lists.proofs.Bools.{and-right}
+use Rattle.lists.proofs.Options.{is_some-map}
 
 abbrev pub eq : ObjectRef → ObjectRef → Bool
 eq = ref_eq.ghosts.eq
@@ -29,10 +32,6 @@ kinds Relation Node = refl
 kinds Relation Way = refl
 kinds Relation Relation = refl
 
-and-right : (a b : Bool) → (a && b) ≡ true → b ≡ true
-and-right true b both = both
-and-right false b both = absurd (true≢false (sym both))
-
 pub eq-is : (a b : ObjectRef) → eq a b ≡ (same_kind a.kind b.kind && int_eq a.id b.id)
 eq-is a b = ap (λ k. k && int_eq a.id b.id) (kinds a.kind b.kind)
 
@@ -47,38 +46,38 @@ same-id : (a b : ObjectRef) → eq a b ≡ true → a.id ≡ b.id
 same-id a b same = (Decides-int_eq a.id b.id).0 (and-right (same_kind a.kind b.kind) (int_eq a.id b.id) (sym (eq-is a b) ∙ same))
 
 -- the test of an object is that of its entry
-at-entry : (of : ObjectRef) (e : ObjectRef × Held) → kind_of (object_from e.0.id e.1) ≡ e.0.kind → is_at of (object_from e.0.id e.1) ≡ eq of e.0
-at-entry of e agree = rw (agree, id-from e.0.id e.1) (sym (eq-is of e.0))
+at-entry : (of : ObjectRef) (e : ObjectRef × Placed) → kind_of (object_from e.0.id e.1.held) ≡ e.0.kind → is_at of (object_from e.0.id e.1.held) ≡ eq of e.0
+at-entry of e agree = rw (agree, id-from e.0.id e.1.held) (sym (eq-is of e.0))
 
-pub object_at-from : (of : ObjectRef) (es : List (ObjectRef × Held)) → KindsAgree es → object_at (objects_from es) of ≡ option_map (object_from of.id) (lookup (eq of) es)
+-- the object of this id for which something is kept
+abbrev pub kept_at : ℤ → Placed → Object
+kept_at id e = object_from id e.held
+
+pub object_at-from : (of : ObjectRef) (es : List (ObjectRef × Placed)) → KindsAgree es → object_at (objects_from es) of ≡ option_map (kept_at of.id) (lookup (eq of) es)
 object_at-from of [] agree = refl
 object_at-from of (e ∷ es) agree = rw (at-entry of e agree.0) (by (eq of e.0) refl (object_at-from of es agree.1))
   where
-    by : (b : Bool) → eq of e.0 ≡ b → object_at (objects_from es) of ≡ option_map (object_from of.id) (lookup (eq of) es)
-        → cond b (Some (object_from e.0.id e.1)) (object_at (objects_from es) of) ≡ option_map (object_from of.id) (cond b (Some e.1) (lookup (eq of) es))
-    by true same rest = ap (λ (id : ℤ). Some (object_from id e.1)) (sym (same-id of e.0 same))
+    by : (b : Bool) → eq of e.0 ≡ b → object_at (objects_from es) of ≡ option_map (kept_at of.id) (lookup (eq of) es)
+        → cond b (Some (object_from e.0.id e.1.held)) (object_at (objects_from es) of) ≡ option_map (kept_at of.id) (cond b (Some e.1) (lookup (eq of) es))
+    by true same rest = ap (λ (id : ℤ). Some (object_from id e.1.held)) (sym (same-id of e.0 same))
     by false other rest = rest
 
 -- what `get` lends
-pub lent : (id : ℤ) (r : Option (Bor Held)) → option_map (λ (h : Bor Held). object_from id h.now) r ≡ option_map (object_from id) (option_copied r)
+pub lent : (id : ℤ) (r : Option (Bor Placed)) → option_map (λ (h : Bor Placed). object_from id h.now.held) r ≡ option_map (kept_at id) (option_copied r)
 lent id None = refl
 lent id (Some h) = refl
 
 -- ---- one more entry
 
-pub objects_from-push : (es : List (ObjectRef × Held)) (e : ObjectRef × Held) → objects_from (es ++ e ∷ []) ≡ objects_from es ++ object_from e.0.id e.1 ∷ []
+pub objects_from-push : (es : List (ObjectRef × Placed)) (e : ObjectRef × Placed) → objects_from (es ++ e ∷ []) ≡ objects_from es ++ object_from e.0.id e.1.held ∷ []
 objects_from-push [] e = refl
-objects_from-push (d ∷ es) e = ap (λ os. object_from d.0.id d.1 ∷ os) (objects_from-push es e)
+objects_from-push (d ∷ es) e = ap (λ os. object_from d.0.id d.1.held ∷ os) (objects_from-push es e)
 
-pub KindsAgree-push : (es : List (ObjectRef × Held)) (e : ObjectRef × Held) → KindsAgree es → kind_of (object_from e.0.id e.1) ≡ e.0.kind → KindsAgree (es ++ e ∷ [])
+pub KindsAgree-push : (es : List (ObjectRef × Placed)) (e : ObjectRef × Placed) → KindsAgree es → kind_of (object_from e.0.id e.1.held) ≡ e.0.kind → KindsAgree (es ++ e ∷ [])
 KindsAgree-push [] e agree one = (one, tt)
 KindsAgree-push (d ∷ es) e agree one = (agree.0, KindsAgree-push es e agree.1 one)
 
 -- ---- what `add` finds and leaves
-
-is_some-map : {A B : Type 0} (f : A → B) (o : Option A) → is_some (option_map f o) ≡ is_some o
-is_some-map f None = refl
-is_some-map f (Some x) = refl
 
 pub none-from : {A : Type 0} (o : Option A) → is_some o ≡ false → o ≡ None
 none-from None absent = refl
@@ -96,8 +95,8 @@ at-live_ref o of found = by (is_live o) refl found
     by true live some = record { live = live; is = cc }
     by false live none = absurd (cc)
 
-pub is_duplicate-from : (o : Object) (of : ObjectRef) (es : List (ObjectRef × Held)) (objects : List Object) → At o of → KindsAgree es → objects_from es ≡ objects → is_duplicate objects o ≡ is_some (lookup (eq of) es)
-is_duplicate-from o of es objects at agree view = rw (at.live, at.is, ← view, object_at-from of es agree) (is_some-map (object_from of.id) (lookup (eq of) es))
+pub is_duplicate-from : (o : Object) (of : ObjectRef) (es : List (ObjectRef × Placed)) (objects : List Object) → At o of → KindsAgree es → objects_from es ≡ objects → is_duplicate objects o ≡ is_some (lookup (eq of) es)
+is_duplicate-from o of es objects at agree view = rw (at.live, at.is, ← view, object_at-from of es agree) (is_some-map (kept_at of.id) (lookup (eq of) es))
 
 -- what is kept stands for the object
 pub object-kept : (o : Object) (of : ObjectRef) (h : Held) → At o of → object_from (id_of o) h ≡ o → object_from of.id h ≡ o

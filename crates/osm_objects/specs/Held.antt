@@ -4,7 +4,9 @@ use Rattle.opl_reader.specs.declared.object.ObjectRef.{ObjectRef}
 use Rattle.opl_reader.specs.declared.object.Object.{Object}
 use Rattle.opl_reader.specs.declared.object.Object.TheVariants as object
 use Rattle.osm_objects.specs.Object.{kind_of, is_live, ref_of}
+use Rattle.osm_objects.specs.Merged.{Other, other}
 use Rattle.osm_objects.specs.declared.held.Held.{Held}
+use Rattle.osm_objects.specs.declared.held.Placed.{Placed}
 use Rattle.osm_objects.specs.declared.held.Held.TheVariants.{Plain, Tagged, Way, Relation}
 
 -- the object of this id
@@ -14,13 +16,17 @@ object_from id (Tagged n) = object.Node id true n.value.tags n.value.place
 object_from id (Way w) = object.Way id true w.value.tags w.value.refs
 object_from id (Relation r) = object.Relation id true r.value.tags r.value.members
 
-abbrev pub objects_from : List (ObjectRef × Held) → List Object
-objects_from entries = map (λ e. object_from e.0.id e.1) entries
+abbrev pub objects_from : List (ObjectRef × Placed) → List Object
+objects_from entries = map (λ e. object_from e.0.id e.1.held) entries
+
+-- the objects, each with the count of plain nodes before it
+abbrev pub others_from : List (ObjectRef × Placed) → List (Other Object)
+others_from entries = map (λ e. other e.1.gap (object_from e.0.id e.1.held)) entries
 
 -- the kind of each reference is that of what is kept
-abbrev pub KindsAgree : List (ObjectRef × Held) → Type 0
+abbrev pub KindsAgree : List (ObjectRef × Placed) → Type 0
 KindsAgree [] = Unit {0}
-KindsAgree (e ∷ entries) = (kind_of (object_from e.0.id e.1) ≡ e.0.kind) × KindsAgree entries
+KindsAgree (e ∷ entries) = (kind_of (object_from e.0.id e.1.held) ≡ e.0.kind) × KindsAgree entries
 
 -- the reference under which an object is kept; none where it was deleted
 abbrev pub live_ref : Object → Option ObjectRef

@@ -8,3 +8,6 @@ pub mod Views
 pub mod AddErrors
 pub mod Held
 pub mod Problem
+pub mod Merged
+pub mod Plain
+pub mod Found

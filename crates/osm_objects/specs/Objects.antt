@@ -1,6 +1,6 @@
 -- The live objects of an input, in order, and what is found among them.
 use Rattle.std.specs.Prelude.{◌≡◌, Bool, ◌&&◌, if◌then◌else◌, List, [], ◌∷◌, ◌++◌, find, ℤ, Option, None, Some, option_and_then, is_some}
-use Rattle.osm_geom.specs.declared.loc.Loc.{Loc}
+use Rattle.osm_lattice.specs.declared.loc.Loc.{Loc}
 use Rattle.opl_reader.specs.declared.object.Tag.{Tag}
 use Rattle.opl_reader.specs.declared.object.Member.{Member}
 use Rattle.opl_reader.specs.declared.object.ObjectKind.TheVariants.{Node, Way, Relation}

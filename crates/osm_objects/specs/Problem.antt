@@ -1,6 +1,6 @@
 -- Problems as they are found.
 use Rattle.std.specs.Prelude.{◌≡◌, Some}
-use Rattle.osm_geom.specs.Conflict.{conflict_of}
+use Rattle.osm_lattice.specs.Conflict.{conflict_of}
 use Rattle.osm_objects.specs.declared.problem.Problem.{Problem}
 use Rattle.osm_objects.specs.declared.problem.Problem.TheVariants.{Conflict}
 

@@ -4,7 +4,7 @@ ghost use Rattle.std.specs.Prelude.{◌≡◌};
 ghost use Rattle.osm_objects.specs.declared.error.AddError.TheVariants.{OutOfMemory};
 
 use opl_reader::ObjectKind;
-use std::alloc::{AllocError, AllocFailed};
+use std::alloc::{AllocError as OutOfMemory, AllocFailed};
 
 /// Why `Store::add` refuses an object.
 #[derive(Debug, Drop)]
@@ -15,10 +15,10 @@ pub enum AddError {
     OutOfMemory,
 }
 
-impl From<AllocError> for AddError {
+impl From<OutOfMemory> for AddError {
     ghost from_gives = { λ _ e. e ≡ OutOfMemory };
 
-    fn from(_e: AllocError) -> AddError {
+    fn from(_e: OutOfMemory) -> AddError {
         AddError::OutOfMemory
     }
 }

@@ -8,11 +8,11 @@ ghost use Rattle.osm_objects.specs.CoastWays.{is_coast_way};
 ghost use Rattle.osm_objects.specs.Held.{object_from};
 ghost use Rattle.osm_objects.specs.Views.{way_seen, relation_seen};
 
-use crate::tags::{copy_all, copy_without, has_other_key, is_tagged};
+use crate::tags::{copy_without, has_other_key, is_tagged};
 use crate::view::{RelationView, WayView};
 use opl_reader::{Members, Object, ObjectKind, Refs, Tags};
-use osm_geom::Loc;
-use std::alloc::{AllocError, Global};
+use osm_lattice::Loc;
+use std::alloc::{AllocError as OutOfMemory, Global};
 
 /// A node that has tags.
 #[derive(Drop)]
@@ -43,16 +43,22 @@ pub(crate) enum Held {
     Relation(Box<HeldRelation>),
 }
 
+/// What is kept of an object that isn't a plain node, with how many of those stand between it and the other such object
+/// before it: so the order of all is kept.
+#[derive(Drop)]
+pub(crate) struct Placed {
+    pub(crate) gap: u64,
+    pub(crate) held: Held,
+}
+
 impl Held {
     /// What is kept of a live object.
-    pub(crate) fn of(alloc: Global, object: Object) -> Result<Held, AllocError>
+    pub(crate) fn of(alloc: Global, object: Object) -> Result<Held, OutOfMemory>
         requires { IsTrue (is_live object) }
         ensures { IfOk result (λ h. object_from (id_of object) h ≡ object) }
     {
         match object {
-            Object::Node { tags, place, .. } if tags.as_slice().is_empty() => {
-                Ok(Held::Plain(place))
-            }
+            Object::Node { tags, place, .. } if tags.is_empty() => { Ok(Held::Plain(place)) }
             Object::Node { tags, place, .. } => {
                 Ok(Held::Tagged(Box::new(alloc, TaggedNode { tags, place })?))
             }
@@ -100,7 +106,7 @@ impl Held {
     {
         match self {
             Held::Plain(_) | Held::Tagged(_) => false,
-            Held::Way(way) => !way.tags.as_slice().is_empty(),
+            Held::Way(way) => !way.tags.is_empty(),
             Held::Relation(relation) => has_other_key(&relation.tags, "type"),
         }
     }
@@ -124,12 +130,12 @@ impl Held {
 
     /// A copy of its area's tags.
     #[tactic(auto, unfolding(crate::specs::Candidates::area_tags))]
-    pub(crate) fn area_tags(&self, alloc: Global) -> Result<Tags, AllocError>
+    pub(crate) fn area_tags(&self, alloc: Global) -> Result<Tags, OutOfMemory>
         ensures { (id : ℤ) → IfOk result (λ tags. tags ≡ area_tags (object_from id self.now)) }
     {
         match self {
             Held::Plain(_) | Held::Tagged(_) => Ok(Tags::new(alloc)),
-            Held::Way(way) => copy_all(alloc, &way.tags),
+            Held::Way(way) => way.tags.copy(alloc),
             Held::Relation(relation) => copy_without(alloc, &relation.tags, "type"),
         }
     }

@@ -3,7 +3,9 @@
 
 mod area;
 mod error;
+mod found;
 mod held;
+mod plain;
 mod problem;
 mod store;
 mod tags;

@@ -1,6 +1,6 @@
 //! What keeps a candidate from having an area, and what is noted beside.
 
-use osm_geom::{Kind, Loc, Seg};
+use osm_lattice::{Kind, Loc, Seg};
 
 /// One thing that keeps a candidate from having an area.
 ///

@@ -9,35 +9,44 @@ ghost use Rattle.osm_objects.specs.Candidates.{area_tags, is_candidate, candidat
 ghost use Rattle.osm_objects.specs.CoastWays.{coast_ways};
 ghost use Rattle.osm_objects.specs.AddErrors.{Refuses};
 ghost use Rattle.osm_objects.specs.Views.{way_seen, relation_seen};
-ghost use Rattle.osm_objects.specs.Held.{object_from, live_ref};
+ghost use Rattle.osm_objects.specs.Held.{live_ref};
+ghost use Rattle.osm_objects.specs.Found.{object_found};
 
 use crate::error::AddError;
-use crate::held::Held;
+use crate::found::Found;
+use crate::held::{Held, Placed};
+use crate::plain::{PlainNode, is_above, node_of, plain_node};
 use crate::view::{RelationView, WayView};
 use indexmap::IndexMap;
 use opl_reader::{Object, ObjectKind, ObjectRef, Tags};
-use osm_geom::Loc;
-use std::alloc::{AllocError, Global};
+use osm_lattice::Loc;
+use std::alloc::{AllocError as OutOfMemory, Global};
 use std::marker::Model;
 
 /// The live objects of an input. Contracts see it as their list, in the order in which they were added.
 #[derive(Drop)]
 pub struct Store {
-    // One map for the three kinds, since candidates come in input order across them.
-    objects: IndexMap<ObjectRef, Held>,
+    // Nodes that have a location and no tags, as long as their ids rise, as they do in a sorted input.
+    nodes: Vec<PlainNode>,
+    // All others. One map for the three kinds, since candidates come in input order across them.
+    others: IndexMap<ObjectRef, Placed>,
+    // How many of the nodes came behind the last of the others.
+    since: u64,
 }
 
 impl Model for Store {
     ghost use Rattle.std.specs.Prelude.{List};
     ghost use Rattle.opl_reader.specs.declared.object.Object.{Object};
     ghost use Rattle.osm_objects.specs.Objects.{AreApart};
-    ghost use Rattle.osm_objects.specs.Held.{objects_from, KindsAgree};
+    ghost use Rattle.osm_objects.specs.Held.{others_from, KindsAgree};
+    ghost use Rattle.osm_objects.specs.Merged.{merged, Fit};
+    ghost use Rattle.osm_objects.specs.Plain.{nodes_from, AreRising};
 
     ghost Value = { List Object };
 
-    ghost view = { λ s. objects_from s.objects.entries };
+    ghost view = { λ s. merged (nodes_from s.nodes.items) (others_from s.others.entries) };
 
-    ghost invariant = { λ s. KindsAgree s.objects.entries × AreApart (objects_from s.objects.entries) };
+    ghost invariant = { λ s. AreRising s.nodes.items × KindsAgree s.others.entries × Fit (nodes_from s.nodes.items) (others_from s.others.entries) s.since × AreApart (merged (nodes_from s.nodes.items) (others_from s.others.entries)) };
 }
 
 /// The kind and id of an object that is live.
@@ -67,7 +76,9 @@ impl Store {
         ensures { result ≡ [] }
     {
         Store {
-            objects: IndexMap::new(alloc),
+            nodes: Vec::new(alloc),
+            others: IndexMap::new(alloc),
+            since: 0,
         }
     }
 
@@ -83,14 +94,23 @@ impl Store {
         let Some(of) = live_ref(&object) else {
             return Ok(());
         };
-        if self.objects.contains_key(&of) {
+        if self.find(of).is_held() {
             return Err(AddError::Duplicate {
                 kind: of.kind,
                 id: of.id,
             });
         }
-        let held = Held::of(*self.objects.allocator(), object)?;
-        self.objects.insert(of, held)?;
+        if let Some(node) = plain_node(&object) {
+            if is_above(self.nodes.as_slice(), &node) {
+                self.nodes.push(node)?;
+                self.since += 1;
+                return Ok(());
+            }
+        }
+        let held = Held::of(*self.others.allocator(), object)?;
+        let gap = self.since;
+        self.others.insert(of, Placed { gap, held })?;
+        self.since = 0;
         Ok(())
     }
 
@@ -103,14 +123,20 @@ impl Store {
         ensures candidates { (keep : Bool) → All (λ of. option_map (is_candidate keep) (object_at self.now of) ≡ Some true) (candidates keep self.now) }
     {
         // The invariant of the type says it.
-        let _ = &self.objects;
+        let _ = &self.others;
     }
 
-    /// What is held of an object.
-    fn held(&self, of: ObjectRef) -> Option<&Held>
-        ensures { option_map (λ h. object_from of.id h.now) result ≡ object_at self.now of }
+    /// Where an object is held.
+    fn find(&self, of: ObjectRef) -> Found<'_>
+        ensures { object_found of.id result ≡ object_at self.now of }
     {
-        self.objects.get(&of)
+        if let Some(node) = node_of(self.nodes.as_slice(), of) {
+            return Found::Plain(node);
+        }
+        match self.others.get(&of) {
+            Some(placed) => Found::Other(&placed.held),
+            None => Found::Nowhere,
+        }
     }
 
     /// The location of a node. None exactly where no node of this id is held, or it has no location.
@@ -118,7 +144,7 @@ impl Store {
         ensures { result ≡ location_of self.now id }
     {
         let kind = ObjectKind::Node;
-        self.held(ObjectRef { kind, id })?.place()
+        self.find(ObjectRef { kind, id }).place()
     }
 
     /// The way of this id. None exactly where none is held.
@@ -126,7 +152,7 @@ impl Store {
         ensures { option_map way_seen result ≡ way_of self.now id }
     {
         let kind = ObjectKind::Way;
-        self.held(ObjectRef { kind, id })?.way()
+        self.find(ObjectRef { kind, id }).way()
     }
 
     /// The relation of this id. None exactly where none is held.
@@ -134,25 +160,26 @@ impl Store {
         ensures { option_map relation_seen result ≡ relation_of self.now id }
     {
         let kind = ObjectKind::Relation;
-        self.held(ObjectRef { kind, id })?.relation()
+        self.find(ObjectRef { kind, id }).relation()
     }
 
     /// The objects that may have an area, in input order: closed ways that are not tagged `area=no`, and
     /// relations tagged `type=multipolygon` or `type=boundary` (OpenStreetMap wiki, Relation:multipolygon).
     /// One whose area would have no tag is among them only if `keep_untagged`.
+    #[tactic(auto, using(crate::proofs::LookupLemmas::candidates_others))]
     pub fn candidates(
         &self,
         alloc: Global,
         keep_untagged: bool,
-    ) -> Result<Vec<ObjectRef>, AllocError>
+    ) -> Result<Vec<ObjectRef>, OutOfMemory>
         ensures list { IfOk result (λ list. list.items ≡ candidates keep_untagged self.now) }
         ensures held { IfOk result (λ list. All (λ of. IsSome (object_at self.now of)) list.items) }
     {
         let mut list = Vec::new(alloc);
-        for (of, held) in &self.objects {
-            if held.is_candidate(keep_untagged) {
+        for (of, placed) in &self.others {
+            if placed.held.is_candidate(keep_untagged) {
                 list.push(ObjectRef {
-                    kind: held.kind(),
+                    kind: placed.held.kind(),
                     id: of.id,
                 })?;
             }
@@ -161,13 +188,14 @@ impl Store {
     }
 
     /// The ids of the ways tagged `natural=coastline`, in input order.
-    pub fn coast_ways(&self, alloc: Global) -> Result<Vec<i64>, AllocError>
+    #[tactic(auto, using(crate::proofs::LookupLemmas::coast_ways_others))]
+    pub fn coast_ways(&self, alloc: Global) -> Result<Vec<i64>, OutOfMemory>
         ensures list { IfOk result (λ list. list.items ≡ coast_ways self.now) }
         ensures distinct { IsDistinct int_eq (coast_ways self.now) }
     {
         let mut list = Vec::new(alloc);
-        for (of, held) in &self.objects {
-            if held.is_coast_way() {
+        for (of, placed) in &self.others {
+            if placed.held.is_coast_way() {
                 list.push(of.id)?;
             }
         }
@@ -175,10 +203,10 @@ impl Store {
     }
 
     /// A copy of the tags of an area: those of its way or relation, in order, without a relation's `type`.
-    pub fn area_tags(&self, alloc: Global, of: ObjectRef) -> Result<Tags, AllocError>
+    pub fn area_tags(&self, alloc: Global, of: ObjectRef) -> Result<Tags, OutOfMemory>
         requires { IsSome (object_at self.now of) }
         ensures { IfOk result (λ tags. Some tags ≡ option_map area_tags (object_at self.now of)) }
     {
-        self.held(of).unwrap().area_tags(alloc)
+        self.find(of).area_tags(alloc)
     }
 }

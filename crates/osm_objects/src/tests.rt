@@ -1,6 +1,6 @@
 use super::*;
-use opl_reader::{Member, Members, Object, ObjectKind, ObjectRef, Refs, Tag, Tags, Text};
-use osm_geom::Loc;
+use opl_reader::{Member, Members, Object, ObjectKind, ObjectRef, Refs, Tags, Text};
+use osm_lattice::Loc;
 use std::alloc::Global;
 use std::test::Fail;
 
@@ -25,23 +25,17 @@ fn numbers_of(alloc: Global, word: &str) -> Result<Vec<i64>, Fail> {
     Ok(numbers)
 }
 
-/// A tag from a word such as `area=no`.
-fn tag_of(alloc: Global, word: &str) -> Result<Tag, Fail> {
-    let (key, value) = word.split_once('=').unwrap_or((word, ""));
-    Ok(Tag {
-        key: Text::from_str(alloc, key)?,
-        value: Text::from_str(alloc, value)?,
-    })
-}
-
 /// Tags as words, a blank after each.
 fn words_of(alloc: Global, tags: &Tags) -> Result<String, Fail> {
     let mut words = String::new(alloc);
-    for tag in tags.as_slice() {
-        words.push_str(tag.key.as_str())?;
-        words.push_str("=")?;
-        words.push_str(tag.value.as_str())?;
-        words.push_str(" ")?;
+    let mut rest = tags.iter();
+    for _ in 0..tags.len() {
+        if let Some(tag) = rest.next() {
+            words.push_str(tag.key)?;
+            words.push_str("=")?;
+            words.push_str(tag.value)?;
+            words.push_str(" ")?;
+        }
     }
     Ok(words)
 }
@@ -86,7 +80,8 @@ fn object_of(alloc: Global, line: &str) -> Result<Object, Fail> {
     let numbers = numbers_of(alloc, words.next().unwrap_or(""))?;
     let mut tags = Tags::new(alloc);
     for word in words {
-        tags.push(tag_of(alloc, word)?)?;
+        let (key, value) = word.split_once('=').unwrap_or((word, ""));
+        tags.push(key, value)?;
     }
     match kind {
         "node" => Ok(Object::Node {

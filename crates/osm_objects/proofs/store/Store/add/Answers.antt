@@ -1,57 +1,100 @@
-use Rattle.std.proofs.Common.{◌∙◌, sym, ap, subst, refl, rules, w64}
+use Rattle.std.proofs.Common.{◌≡◌, ◌∙◌, sym, ap, subst, refl, rules, w64, is_some, true, false, None, List, ◌++◌, ◌∷◌, [], arith, length}
 use Rattle.std.specs.Prelude.{FitsSigned}
 use Rattle.std.specs.Map.{lookup}
 use Rattle.std.proofs.lemmas.Int.{to_z-of_z}
 use Rattle.std.proofs.lemmas.Result.{err_from_is_err_and}
 use Rattle.indexmap.proofs.CallerLemmas.{insert_entry-new}
 use Rattle.opl_reader.specs.declared.object.ObjectRef.{ObjectRef}
-use Rattle.osm_objects.proofs.StoreLemmas.{eq, At, at-live_ref, is_duplicate-from, none-from, object-kept, kind-kept, KindsAgree-push, objects_from-push, with_object-live}
-use Rattle.osm_objects.specs.Held.{KindsAgree}
-use Rattle.osm_objects.proofs.ApartLemmas.{AreApart-from}
+use Rattle.opl_reader.specs.declared.object.Object.{Object}
+use Rattle.osm_objects.specs.declared.held.Placed.{Placed}
+use Rattle.osm_objects.specs.Object.{ref_of}
+use Rattle.osm_objects.specs.Objects.{object_at, AreApart}
+use Rattle.osm_objects.specs.Held.{KindsAgree, object_from, others_from}
+use Rattle.osm_objects.specs.Plain.{node_from, nodes_from, AreRising}
+use Rattle.osm_objects.specs.Merged.{merged}
+use Rattle.osm_objects.proofs.MergedLemmas.{since_most}
+use Rattle.osm_objects.proofs.LookupLemmas.{lookup_none}
+use Rattle.osm_objects.proofs.StoreLemmas.{eq, At, at-live_ref, none-from, object-kept, kind-kept, KindsAgree-push, with_object-live}
+use Rattle.osm_objects.proofs.AddLemmas.{dup_from, one_more_apart, node_last, node_fits, held_last, held_fits, nodes_length}
 use Rattle.osm_objects.proofs.store.Store.add.Goals as goal
 
-pub returns-then-contains_key-clause-refusal : goal.returns-then-contains_key-clause-refusal
-returns-then-contains_key-clause-refusal c =
+pub returns-then-is_held-clause-refusal : goal.returns-then-is_held-clause-refusal
+returns-then-is_held-clause-refusal c =
     let of = c.in-Some.of in
     let fits : FitsSigned w64 c.in-Some.of.id = search rules in
     let at : At c.args.object of = at-live_ref c.args.object of (sym c.live_ref.ensures ∙ c.in-Some.is) in (
-      is_duplicate-from c.args.object of c.self.inside.objects.entries c.args.self.now at c.self.invariant.0 c.self.view_is ∙ sym c.contains_key.ensures ∙ c.if-contains_key.true,
+      dup_from c.args.object of c.args.self.now at ∙ sym (c.is_held.ensures of.id ∙ ap is_some c.find.ensures) ∙ c.if-is_held.true,
       ap (λ (r : ObjectRef). r.kind) (sym at.is),
       rw to_z-of_z (ap (λ (r : ObjectRef). r.id) (sym at.is)),
     )
 
-pub returns-in_err-held-clause-refusal : goal.returns-in_err-held-clause-refusal
-returns-in_err-held-clause-refusal c =
-    let p = err_from_is_err_and c.from_residual.result c.from_residual.ensures.1 in
-    let of = c.in-Some.of in
-    let at : At c.args.object of = at-live_ref c.args.object of (sym c.live_ref.ensures ∙ c.in-Some.is) in
-    rw (p.1, p.2) ((at.live, is_duplicate-from c.args.object of c.self.inside.objects.entries c.args.self.now at c.self.invariant.0 c.self.view_is ∙ sym c.contains_key.ensures ∙ c.if-contains_key.false))
+pub overflow_add-self : goal.overflow_add-self
+overflow_add-self c =
+    let most = since_most (nodes_from c.self.inside.nodes.items) (others_from c.self.inside.others.entries) c.self.inside.since c.self.invariant.2 in
+    let n = nodes_length c.self.inside.nodes.items in
+    let len = c.as_slice.ensures.len in
+    let same : length c.as_slice.result.now ≡ length c.self.inside.nodes.items = ap length c.as_slice.ensures.value in
+    omega arith
 
-pub returns-in_err-insert-clause-refusal : goal.returns-in_err-insert-clause-refusal
-returns-in_err-insert-clause-refusal c =
-    let p = err_from_is_err_and c.from_residual-in_err-insert.result c.from_residual-in_err-insert.ensures.1 in
+pub invariant_of-self-then-is_above : goal.invariant_of-self-then-is_above
+invariant_of-self-then-is_above c =
     let of = c.in-Some.of in
     let at : At c.args.object of = at-live_ref c.args.object of (sym c.live_ref.ensures ∙ c.in-Some.is) in
-    rw (p.1, p.2) ((at.live, is_duplicate-from c.args.object of c.self.inside.objects.entries c.args.self.now at c.self.invariant.0 c.self.view_is ∙ sym c.contains_key.ensures ∙ c.if-contains_key.false))
+    let nodes = c.self.inside.nodes.items in
+    let others = c.self.inside.others.entries in
+    let n = c.in-Some-plain_node.node in
+    let absent : object_at c.args.self.now of ≡ None = none-from (object_at c.args.self.now of) (sym (c.is_held.ensures of.id ∙ ap is_some c.find.ensures) ∙ c.if-is_held.false) in
+    let is : ref_of (node_from n) ≡ of = ap ref_of c.in-Some-plain_node.ensures ∙ at.is in
+    let here : object_at (merged (nodes_from nodes) (others_from others)) (ref_of (node_from n)) ≡ None = ap (object_at (merged (nodes_from nodes) (others_from others))) is ∙ ap (λ (objects : List Object). object_at objects of) c.self.view_is ∙ absent in
+    let pushed = c.in_ok-push.ensures.items in
+    let rise = rw c.as_slice.ensures.value at (c.is_above.ensures c.if-is_above.true) in (
+      subst AreRising (sym pushed) rise,
+      c.self.invariant.1,
+      node_fits nodes c.push.new.self.items n others c.self.inside.since pushed c.self.invariant.2,
+      subst AreApart (sym (node_last nodes c.push.new.self.items n others c.self.inside.since pushed c.self.invariant.2)) (one_more_apart (merged (nodes_from nodes) (others_from others)) (node_from n) c.self.invariant.3 here),
+    )
+
+pub returns-then-is_above-clause-added : goal.returns-then-is_above-clause-added
+returns-then-is_above-clause-added c =
+    let of = c.in-Some.of in
+    let at : At c.args.object of = at-live_ref c.args.object of (sym c.live_ref.ensures ∙ c.in-Some.is) in
+    let nodes = c.self.inside.nodes.items in
+    let others = c.self.inside.others.entries in
+    let n = c.in-Some-plain_node.node in
+    node_last nodes c.push.new.self.items n others c.self.inside.since c.in_ok-push.ensures.items c.self.invariant.2
+    ∙ ap (λ (objects : List Object). objects ++ node_from n ∷ []) c.self.view_is ∙ ap (λ (o : Object). c.args.self.now ++ o ∷ []) c.in-Some-plain_node.ensures ∙ sym (with_object-live c.args.self.now c.args.object at.live)
 
 pub invariant_of-self-2 : goal.invariant_of-self-2
 invariant_of-self-2 c =
     let of = c.in-Some.of in
     let at : At c.args.object of = at-live_ref c.args.object of (sym c.live_ref.ensures ∙ c.in-Some.is) in
-    let absent = none-from (lookup (eq of) c.self.inside.objects.entries) (sym c.contains_key.ensures ∙ c.if-contains_key.false) in
-    let entries = c.in_ok-insert.ensures.entries ∙ insert_entry-new eq c.self.inside.objects of c.in_ok-held.held absent in
-    let agree = subst KindsAgree (sym entries) (KindsAgree-push c.self.inside.objects.entries (of, c.in_ok-held.held) c.self.invariant.0 (kind-kept c.args.object of c.in_ok-held.held at c.in_ok-held.ensures)) in
-    (agree, AreApart-from _ agree c.in_ok-insert.ensures.unique)
+    let nodes = c.self.inside.nodes.items in
+    let others = c.self.inside.others.entries in
+    let placed : Placed = record { gap = c.self.inside.since; held = c.in_ok-held.held } in
+    let gone : object_at c.args.self.now of ≡ None = none-from (object_at c.args.self.now of) (sym (c.is_held.ensures of.id ∙ ap is_some c.find.ensures) ∙ c.if-is_held.false) in
+    let none : object_at (merged (nodes_from nodes) (others_from others)) of ≡ None = ap (λ (objects : List Object). object_at objects of) c.self.view_is ∙ gone in
+    let absent = lookup_none of nodes others c.self.invariant.1 c.self.invariant.3 none in
+    let entries = c.in_ok-insert.ensures.entries ∙ insert_entry-new eq c.self.inside.others of placed absent in
+    let kept = object-kept c.args.object of c.in_ok-held.held at c.in_ok-held.ensures in
+    let is : ref_of (object_from of.id c.in_ok-held.held) ≡ of = ap ref_of kept ∙ at.is in (
+      c.self.invariant.0,
+      subst KindsAgree (sym entries) (KindsAgree-push others (of, placed) c.self.invariant.1 (kind-kept c.args.object of c.in_ok-held.held at c.in_ok-held.ensures)),
+      held_fits nodes others c.insert.new.self.entries (of, placed) entries c.self.invariant.2,
+      subst AreApart (sym (held_last nodes others c.insert.new.self.entries (of, placed) entries c.self.invariant.2))
+          (one_more_apart (merged (nodes_from nodes) (others_from others)) (object_from of.id c.in_ok-held.held) c.self.invariant.3 (ap (object_at (merged (nodes_from nodes) (others_from others))) is ∙ none)),
+    )
 
 pub returns-clause-added : goal.returns-clause-added
 returns-clause-added c =
     let of = c.in-Some.of in
     let at : At c.args.object of = at-live_ref c.args.object of (sym c.live_ref.ensures ∙ c.in-Some.is) in
-    let absent = none-from (lookup (eq of) c.self.inside.objects.entries) (sym c.contains_key.ensures ∙ c.if-contains_key.false) in
-    rw (c.in_ok-insert.ensures.entries, insert_entry-new eq c.self.inside.objects of c.in_ok-held.held absent, objects_from-push c.self.inside.objects.entries (of, c.in_ok-held.held), object-kept c.args.object of c.in_ok-held.held at c.in_ok-held.ensures, with_object-live c.args.self.now c.args.object at.live, c.self.view_is) refl
-
-pub returns-clause-fresh : goal.returns-clause-fresh
-returns-clause-fresh c =
-    let of = c.in-Some.of in
-    let at : At c.args.object of = at-live_ref c.args.object of (sym c.live_ref.ensures ∙ c.in-Some.is) in
-    is_duplicate-from c.args.object of c.self.inside.objects.entries c.args.self.now at c.self.invariant.0 c.self.view_is ∙ sym c.contains_key.ensures ∙ c.if-contains_key.false
+    let nodes = c.self.inside.nodes.items in
+    let others = c.self.inside.others.entries in
+    let placed : Placed = record { gap = c.self.inside.since; held = c.in_ok-held.held } in
+    let gone : object_at c.args.self.now of ≡ None = none-from (object_at c.args.self.now of) (sym (c.is_held.ensures of.id ∙ ap is_some c.find.ensures) ∙ c.if-is_held.false) in
+    let none : object_at (merged (nodes_from nodes) (others_from others)) of ≡ None = ap (λ (objects : List Object). object_at objects of) c.self.view_is ∙ gone in
+    let absent = lookup_none of nodes others c.self.invariant.1 c.self.invariant.3 none in
+    let entries = c.in_ok-insert.ensures.entries ∙ insert_entry-new eq c.self.inside.others of placed absent in
+    let kept = object-kept c.args.object of c.in_ok-held.held at c.in_ok-held.ensures in
+    held_last nodes others c.insert.new.self.entries (of, placed) entries c.self.invariant.2
+    ∙ ap (λ (objects : List Object). objects ++ object_from of.id c.in_ok-held.held ∷ []) c.self.view_is ∙ ap (λ (o : Object). c.args.self.now ++ o ∷ []) kept ∙ sym (with_object-live c.args.self.now c.args.object at.live)

@@ -1,4 +1,4 @@
-use Rattle.std.proofs.Common.{◌≡◌, List, IsSome, subst, sym, rules}
+use Rattle.std.proofs.Common.{◌≡◌, ◌∙◌, ap, List, IsSome, subst, sym, rules}
 use Rattle.std.specs.Prelude.{All}
 use Rattle.std.proofs.lemmas.List.Elements.{All-from_recursion}
 use Rattle.opl_reader.specs.declared.object.ObjectRef.{ObjectRef}
@@ -13,4 +13,4 @@ returns-clause-held c =
     let keep = c.args.keep_untagged in
     let whole : c.loop-of.list.items ≡ candidates keep objects = search rules in
     let AllHeld : List ObjectRef → Type 0 = λ list. All (λ of. IsSome (object_at objects of)) list in
-    subst AllHeld (sym whole) (All-from_recursion (λ of. IsSome (object_at objects of)) (candidates keep objects) (filter-held (is_candidate keep) objects (subst AreApart c.self.view_is c.self.invariant.1)))
+    subst AllHeld (sym whole) (All-from_recursion (λ of. IsSome (object_at objects of)) (candidates keep objects) (filter-held (is_candidate keep) objects (subst AreApart c.self.view_is c.self.invariant.3)))

@@ -5,21 +5,26 @@ use Rattle.opl_reader.specs.declared.object.Object.{Object}
 use Rattle.osm_objects.specs.Object.{is_live, ref_of}
 use Rattle.osm_objects.specs.Objects.{object_at, AreApart}
 use Rattle.osm_objects.specs.Candidates.{candidates, is_candidate}
-use Rattle.osm_objects.specs.Held.{objects_from}
-use Rattle.osm_objects.proofs.FoundLemmas.{all_found, all_live, filter-found}
+use Rattle.osm_objects.specs.Held.{others_from}
+use Rattle.osm_objects.specs.Plain.{nodes_from}
+use Rattle.osm_objects.specs.Merged.{merged}
+use Rattle.osm_objects.proofs.LookupLemmas.{all_merged_live}
+use Rattle.osm_objects.proofs.FoundLemmas.{all_found, filter-found}
 use Rattle.osm_objects.proofs.store.Store.one_of_each.Goals as goal
 
 pub returns-clause-live : goal.returns-clause-live
 returns-clause-live c =
     let AllLive : List Object → Type 0 = λ objects. All (λ o. IsTrue (is_live o)) objects in
-    subst AllLive c.self.view_is (All-from_recursion (λ o. IsTrue (is_live o)) (objects_from c.self.inside.objects.entries) (all_live c.self.inside.objects.entries))
+    let nodes = c.self.inside.nodes.items in
+    let others = c.self.inside.others.entries in
+    subst AllLive c.self.view_is (All-from_recursion (λ o. IsTrue (is_live o)) (merged (nodes_from nodes) (others_from others)) (all_merged_live nodes others))
 
 pub returns-clause-found : goal.returns-clause-found
 returns-clause-found c =
     let objects = c.args.self.now in
-    All-from_recursion (λ o. object_at objects (ref_of o) ≡ Some o) objects (all_found objects (subst AreApart c.self.view_is c.self.invariant.1))
+    All-from_recursion (λ o. object_at objects (ref_of o) ≡ Some o) objects (all_found objects (subst AreApart c.self.view_is c.self.invariant.3))
 
 pub returns-clause-candidates : goal.returns-clause-candidates
 returns-clause-candidates c keep =
     let objects = c.args.self.now in
-    All-from_recursion (λ of. option_map (is_candidate keep) (object_at objects of) ≡ Some true) (candidates keep objects) (filter-found (is_candidate keep) objects objects (all_found objects (subst AreApart c.self.view_is c.self.invariant.1)))
+    All-from_recursion (λ of. option_map (is_candidate keep) (object_at objects of) ≡ Some true) (candidates keep objects) (filter-found (is_candidate keep) objects objects (all_found objects (subst AreApart c.self.view_is c.self.invariant.3)))

@@ -1,0 +1,170 @@
+-- A look-up among the nodes and the others is a look-up in the list of all objects.
+use Rattle.std.proofs.Common.{◌≡◌, ◌∙◌, Bool, true, false, cond, ◌&&◌, List, [], ◌∷◌, ◌++◌, refl, sym, ap, subst, ℤ, map, filter, Option, None, Some, option_map, is_some, int_eq, not, true≢false, IsTrue}
+use Rattle.std.specs.List.{AllByRecursion, find}
+use Rattle.std.specs.Map.{lookup}
+use Rattle.std.proofs.lemmas.Bool.Decides.{Decides-int_eq}
+use Rattle.opl_reader.specs.declared.object.ObjectKind.{ObjectKind}
+use Rattle.opl_reader.specs.declared.object.ObjectKind.TheVariants.{Node, Way, Relation}
+use Rattle.opl_reader.specs.declared.object.ObjectRef.{ObjectRef}
+use Rattle.opl_reader.specs.declared.object.Object.{Object}
+use Rattle.opl_reader.specs.contracts.object.ObjectKindPartialEq.TheImpl as kind_eq
+use Rattle.osm_objects.specs.declared.held.Placed.{Placed}
+use Rattle.osm_objects.specs.declared.plain.PlainNode.{PlainNode}
+use Rattle.osm_objects.specs.Object.{is_live, kind_of, id_of, ref_of, same_kind, is_at}
+use Rattle.osm_objects.specs.Objects.{object_at, AreApart}
+use Rattle.osm_objects.specs.Candidates.{is_candidate, may_have_area, candidates}
+use Rattle.osm_objects.specs.CoastWays.{is_coast_way, coast_ways}
+use Rattle.osm_objects.specs.Held.{object_from, objects_from, others_from, KindsAgree}
+use Rattle.osm_objects.specs.Plain.{node_from, nodes_from}
+use Rattle.osm_objects.specs.Merged.{items_of, merged}
+use Rattle.osm_objects.proofs.StoreLemmas.{eq, kept_at, object_at-from}
+use Rattle.osm_objects.proofs.FoundLemmas.{AllFound, all_found, all_live}
+use Rattle.osm_objects.proofs.MergedLemmas.{found_among_others, plain_of_all, all_merged, filter-merged}
+
+pub items-from : (es : List (ObjectRef × Placed)) → items_of (others_from es) ≡ objects_from es
+items-from [] = refl
+items-from (e ∷ es) = ap (λ (zs : List Object). object_from e.0.id e.1.held ∷ zs) (items-from es)
+
+-- ---- the nodes
+
+abbrev has_id : ℤ → PlainNode → Bool
+has_id id n = int_eq id n.id
+
+nodes-found : (id : ℤ) (nodes : List PlainNode) → find (is_at (record { kind = Node; id = id })) (nodes_from nodes) ≡ option_map node_from (find (has_id id) nodes)
+nodes-found id [] = refl
+nodes-found id (n ∷ nodes) = by (int_eq id n.id) (nodes-found id nodes)
+  where
+    by : (b : Bool) → find (is_at (record { kind = Node; id = id })) (nodes_from nodes) ≡ option_map node_from (find (has_id id) nodes)
+        → cond b (Some (node_from n)) (find (is_at (record { kind = Node; id = id })) (nodes_from nodes)) ≡ option_map node_from (cond b (Some n) (find (has_id id) nodes))
+    by true rest = refl
+    by false rest = rest
+
+no_node : (of : ObjectRef) (nodes : List PlainNode) → same_kind of.kind Node ≡ false → find (is_at of) (nodes_from nodes) ≡ None
+no_node of [] other = refl
+no_node of (n ∷ nodes) other = rw other (no_node of nodes other)
+
+-- ---- what is found
+
+-- no node of the row has this reference: the others tell
+pub found_other : (of : ObjectRef) (nodes : List PlainNode) (es : List (ObjectRef × Placed)) → KindsAgree es → find (is_at of) (nodes_from nodes) ≡ None →
+    object_at (merged (nodes_from nodes) (others_from es)) of ≡ option_map (kept_at of.id) (lookup (eq of) es)
+found_other of nodes es agree none = found_among_others (is_at of) (nodes_from nodes) (others_from es) none ∙ ap (find (is_at of)) (items-from es) ∙ object_at-from of es agree
+
+-- what is found in a list has the property of all
+found-has : {A : Type 0} (P : A → Type 0) (p : A → Bool) (xs : List A) (x : A) → AllByRecursion P xs → find p xs ≡ Some x → P x × (p x ≡ true)
+found-has P p [] x all found = absurd (cc)
+found-has {A} P p (y ∷ xs) x all found = by (p y) refl found (found-has P p xs x all.1)
+  where
+    by : (b : Bool) → p y ≡ b → cond b (Some y) (find p xs) ≡ Some x → (find p xs ≡ Some x → P x × (p x ≡ true)) → P x × (p x ≡ true)
+    by true is e rest = let same : y ≡ x = cc in (subst P same all.0, subst (λ (z : A). p z ≡ true) same is)
+    by false is e rest = rest e
+
+both : (p q : Bool) → (p && q) ≡ true → (p ≡ true) × (q ≡ true)
+both true q e = (refl, e)
+both false q e = absurd (cc)
+
+kind_is : (k : ObjectKind) → same_kind k Node ≡ true → k ≡ Node
+kind_is Node e = refl
+kind_is Way e = absurd (cc)
+kind_is Relation e = absurd (cc)
+
+-- a node of the row is what its reference finds
+pub found_node : (of : ObjectRef) (nodes : List PlainNode) (es : List (ObjectRef × Placed)) (n : PlainNode) → AreApart (merged (nodes_from nodes) (others_from es)) →
+    object_at (nodes_from nodes) of ≡ Some (node_from n) → object_at (merged (nodes_from nodes) (others_from es)) of ≡ Some (node_from n)
+found_node of nodes es n apart found =
+    let each : AllFound (merged (nodes_from nodes) (others_from es)) (nodes_from nodes) = plain_of_all (λ (o : Object). object_at (merged (nodes_from nodes) (others_from es)) (ref_of o) ≡ Some o) (nodes_from nodes) (others_from es) (all_found (merged (nodes_from nodes) (others_from es)) apart) in
+    let has = found-has (λ (o : Object). object_at (merged (nodes_from nodes) (others_from es)) (ref_of o) ≡ Some o) (is_at of) (nodes_from nodes) (node_from n) each found in
+    let parts = both (same_kind of.kind Node) (int_eq of.id n.id) has.1 in
+    let same : of.id ≡ n.id = (Decides-int_eq of.id n.id).0 parts.1 in
+    let is : of ≡ ref_of (node_from n) = ap (λ (k : ObjectKind). record { kind = k; id = of.id }) (kind_is of.kind parts.0) ∙ ap (λ (i : ℤ). record { kind = Node; id = i }) same in
+    ap (object_at (merged (nodes_from nodes) (others_from es))) is ∙ has.0
+
+-- a test of the kind, as the code makes it
+not_node : (k : ObjectKind) → not (kind_eq.ghosts.eq k Node) ≡ true → same_kind k Node ≡ false
+not_node Node e = absurd (cc)
+not_node Way e = refl
+not_node Relation e = refl
+
+is_node : (k : ObjectKind) → not (kind_eq.ghosts.eq k Node) ≡ false → k ≡ Node
+is_node Node e = refl
+is_node Way e = absurd (cc)
+is_node Relation e = absurd (cc)
+
+pub no_node_of : (of : ObjectRef) (nodes : List PlainNode) → not (kind_eq.ghosts.eq of.kind Node) ≡ true → object_at (nodes_from nodes) of ≡ None
+no_node_of of nodes e = no_node of nodes (not_node of.kind e)
+
+pub node_there : (of : ObjectRef) (nodes : List PlainNode) → not (kind_eq.ghosts.eq of.kind Node) ≡ false → option_map node_from (find (has_id of.id) nodes) ≡ object_at (nodes_from nodes) of
+node_there of nodes e = sym (ap (λ (k : ObjectKind). find (is_at (record { kind = k; id = of.id })) (nodes_from nodes)) (is_node of.kind e) ∙ nodes-found of.id nodes)
+
+-- ---- candidates and coast ways are others
+
+nodes_fail : (p : Object → Bool) → ((n : PlainNode) → p (node_from n) ≡ false) → (nodes : List PlainNode) → AllByRecursion (λ o. p o ≡ false) (nodes_from nodes)
+nodes_fail p fails [] = tt
+nodes_fail p fails (n ∷ nodes) = (fails n, nodes_fail p fails nodes)
+
+pub filter-others : (p : Object → Bool) → ((n : PlainNode) → p (node_from n) ≡ false) → (nodes : List PlainNode) (es : List (ObjectRef × Placed)) →
+    filter p (merged (nodes_from nodes) (others_from es)) ≡ filter p (objects_from es)
+filter-others p fails nodes es = filter-merged p (nodes_from nodes) (others_from es) (nodes_fail p fails nodes) ∙ ap (filter p) (items-from es)
+
+pub no_candidate : (keep : Bool) (n : PlainNode) → is_candidate keep (node_from n) ≡ false
+unfolding is_candidate may_have_area
+no_candidate keep n = refl
+
+pub no_coast_way : (n : PlainNode) → is_coast_way (node_from n) ≡ false
+unfolding is_coast_way
+no_coast_way n = refl
+
+-- ---- all are live
+
+nodes_live : (nodes : List PlainNode) → AllByRecursion (λ o. IsTrue (is_live o)) (nodes_from nodes)
+nodes_live [] = tt
+nodes_live (n ∷ nodes) = (refl, nodes_live nodes)
+
+pub all_merged_live : (nodes : List PlainNode) (es : List (ObjectRef × Placed)) → AllByRecursion (λ o. IsTrue (is_live o)) (merged (nodes_from nodes) (others_from es))
+all_merged_live nodes es =
+    all_merged (λ (o : Object). IsTrue (is_live o)) (nodes_from nodes) (others_from es) (nodes_live nodes)
+    (subst (λ (os : List Object). AllByRecursion (λ (o : Object). IsTrue (is_live o)) os) (sym (items-from es)) (all_live es))
+
+-- the lists, as the loops begin them
+pub candidates_others : (keep : Bool) (nodes : List PlainNode) (es : List (ObjectRef × Placed)) → candidates keep (merged (nodes_from nodes) (others_from es)) ≡ candidates keep (objects_from es)
+candidates_others keep nodes es = ap (map ref_of) (filter-others (is_candidate keep) (no_candidate keep) nodes es)
+
+pub coast_ways_others : (nodes : List PlainNode) (es : List (ObjectRef × Placed)) → coast_ways (merged (nodes_from nodes) (others_from es)) ≡ coast_ways (objects_from es)
+coast_ways_others nodes es = ap (map id_of) (filter-others is_coast_way no_coast_way nodes es)
+
+-- ---- what isn't held
+
+map-none : {A B : Type 0} (f : A → B) (o : Option A) → option_map f o ≡ None → o ≡ None
+map-none f None e = refl
+map-none f (Some x) e = absurd (cc)
+
+-- where nothing is found among all, the nodes have nothing
+nodes_none : (of : ObjectRef) (nodes : List PlainNode) (es : List (ObjectRef × Placed)) → AreApart (merged (nodes_from nodes) (others_from es)) → object_at (merged (nodes_from nodes) (others_from es)) of ≡ None →
+    (r : Option Object) → object_at (nodes_from nodes) of ≡ r → object_at (nodes_from nodes) of ≡ None
+nodes_none of nodes es apart none None e = e
+nodes_none of nodes es apart none (Some o) e =
+    let each : AllFound (merged (nodes_from nodes) (others_from es)) (nodes_from nodes) = plain_of_all (λ (o : Object). object_at (merged (nodes_from nodes) (others_from es)) (ref_of o) ≡ Some o) (nodes_from nodes) (others_from es) (all_found (merged (nodes_from nodes) (others_from es)) apart) in
+    let has = found-has (λ (o : Object). object_at (merged (nodes_from nodes) (others_from es)) (ref_of o) ≡ Some o) (is_at of) (nodes_from nodes) o each e in
+    let parts = both (same_kind of.kind (kind_of o)) (int_eq of.id (id_of o)) has.1 in
+    let same : of.id ≡ id_of o = (Decides-int_eq of.id (id_of o)).0 parts.1 in
+    let is : of ≡ ref_of o = ap (λ (k : ObjectKind). record { kind = k; id = of.id }) (kinds_are of.kind (kind_of o) parts.0) ∙ ap (λ (i : ℤ). record { kind = kind_of o; id = i }) same in
+    absurd (none_is_none (sym none ∙ ap (object_at (merged (nodes_from nodes) (others_from es))) is ∙ has.0))
+  where
+    none_is_none : {x : Object} → None ≡ Some x → ⊥
+    none_is_none h = absurd (cc)
+
+    kinds_are : (k j : ObjectKind) → same_kind k j ≡ true → k ≡ j
+    kinds_are Node Node h = refl
+    kinds_are Way Way h = refl
+    kinds_are Relation Relation h = refl
+    kinds_are Node Way h = absurd (cc)
+    kinds_are Node Relation h = absurd (cc)
+    kinds_are Way Node h = absurd (cc)
+    kinds_are Way Relation h = absurd (cc)
+    kinds_are Relation Node h = absurd (cc)
+    kinds_are Relation Way h = absurd (cc)
+
+pub lookup_none : (of : ObjectRef) (nodes : List PlainNode) (es : List (ObjectRef × Placed)) → KindsAgree es → AreApart (merged (nodes_from nodes) (others_from es)) →
+    object_at (merged (nodes_from nodes) (others_from es)) of ≡ None → lookup (eq of) es ≡ None
+lookup_none of nodes es agree apart none =
+    map-none (kept_at of.id) (lookup (eq of) es) (sym (found_other of nodes es agree (nodes_none of nodes es apart none (object_at (nodes_from nodes) of) refl)) ∙ none)

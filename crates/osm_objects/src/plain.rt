@@ -1,0 +1,75 @@
+//! Nodes that have a location and no tags: most objects of an input are such nodes, so each takes little room.
+
+ghost use Rattle.std.specs.Prelude.{◌≡◌, ◌++◌, ◌∷◌, [], true, IsTrue, IfSome, find, option_map};
+ghost use Rattle.std.specs.Ordering.{int_eq};
+ghost use Rattle.osm_objects.specs.Objects.{object_at};
+ghost use Rattle.osm_objects.specs.Plain.{node_from, nodes_from, AreRising};
+
+use opl_reader::{Object, ObjectKind, ObjectRef};
+use osm_lattice::Loc;
+use std::cmp::Ordering;
+
+/// A live node that has a location and no tags.
+#[derive(Clone, Copy, Debug)]
+pub(crate) struct PlainNode {
+    pub(crate) id: i64,
+    pub(crate) place: Loc,
+}
+
+/// The object as such a node, if it is one.
+pub(crate) fn plain_node(object: &Object) -> Option<PlainNode>
+    ensures { IfSome result (λ n. node_from n ≡ object.now) }
+{
+    match object {
+        Object::Node {
+            id,
+            live,
+            tags,
+            place: Some(place),
+        } if *live && tags.is_empty() => Some(PlainNode {
+            id: *id,
+            place: *place,
+        }),
+        _ => None,
+    }
+}
+
+/// Whether the node's id is above those of all of these.
+pub(crate) fn is_above(nodes: &[PlainNode], node: &PlainNode) -> bool
+    requires { AreRising nodes.now }
+    ensures { result ≡ true → AreRising (nodes.now ++ node.now ∷ []) }
+{
+    match nodes.last() {
+        Some(last) => last.id < node.id,
+        None => true,
+    }
+}
+
+/// The node of this kind and id among nodes whose ids rise.
+pub(crate) fn node_of(nodes: &[PlainNode], of: ObjectRef) -> Option<PlainNode>
+    requires { AreRising nodes.now }
+    ensures { option_map node_from result ≡ object_at (nodes_from nodes.now) of }
+{
+    if of.kind != ObjectKind::Node {
+        return None;
+    }
+    by_id(nodes, of)
+}
+
+/// The node of this id among nodes whose ids rise.
+fn by_id(nodes: &[PlainNode], of: ObjectRef) -> Option<PlainNode>
+    requires { AreRising nodes.now }
+    ensures { result ≡ find (λ n. int_eq of.id n.id) nodes.now }
+{
+    let mut rest = nodes;
+    while !rest.is_empty() {
+        let (before, from) = rest.split_at(rest.len() / 2);
+        let (node, behind) = from.split_first()?;
+        match of.id.cmp(&node.id) {
+            Ordering::Less => rest = before,
+            Ordering::Equal => return Some(*node),
+            Ordering::Greater => rest = behind,
+        }
+    }
+    None
+}
