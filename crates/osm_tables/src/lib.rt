@@ -77,37 +77,78 @@ pub const PROBLEM: u16 = 1;
 /// The code of a note: it is reported, and the area is made all the same.
 pub const NOTE: u16 = 2;
 
+// ---- kinds of report lines
+
+/// A way that the candidate names is missing.
+pub const MISSING_WAY: u8 = 1;
+
+/// A node that one of its ways names is missing.
+pub const MISSING_NODE: u8 = 2;
+
+/// No segment survives.
+pub const NOTHING_SURVIVES: u8 = 3;
+
+/// Two segments cross.
+pub const CROSSING: u8 = 4;
+
+/// Two segments overlap.
+pub const OVERLAP: u8 = 5;
+
+/// An odd number of segments end at a node.
+pub const ODD_NODE: u8 = 6;
+
+/// A way is named twice.
+pub const NAMED_TWICE: u8 = 7;
+
+/// A segment stands more than once.
+pub const REPEATED: u8 = 8;
+
+/// A way with role inner lies in an outer ring.
+pub const INNER_IN_OUTER: u8 = 9;
+
+/// A way with role outer lies in an inner ring.
+pub const OUTER_IN_INNER: u8 = 10;
+
 /// The kinds of report lines of an export, each a problem or a note.
 pub const PROBLEM_KINDS: [Row; 10] = [
     Row {
-        key: 1,
+        key: MISSING_WAY,
         code: PROBLEM,
     },
     Row {
-        key: 2,
+        key: MISSING_NODE,
         code: PROBLEM,
     },
     Row {
-        key: 3,
+        key: NOTHING_SURVIVES,
         code: PROBLEM,
     },
     Row {
-        key: 4,
+        key: CROSSING,
         code: PROBLEM,
     },
     Row {
-        key: 5,
+        key: OVERLAP,
         code: PROBLEM,
     },
     Row {
-        key: 6,
+        key: ODD_NODE,
         code: PROBLEM,
     },
-    Row { key: 7, code: NOTE },
-    Row { key: 8, code: NOTE },
-    Row { key: 9, code: NOTE },
     Row {
-        key: 10,
+        key: NAMED_TWICE,
+        code: NOTE,
+    },
+    Row {
+        key: REPEATED,
+        code: NOTE,
+    },
+    Row {
+        key: INNER_IN_OUTER,
+        code: NOTE,
+    },
+    Row {
+        key: OUTER_IN_INNER,
         code: NOTE,
     },
 ];
@@ -140,33 +181,24 @@ pub fn problem_code(kind: u8) -> Option<u16>
     look(&PROBLEM_KINDS, kind)
 }
 
-/// Writes a match from kinds to their words.
-macro_rules! words {
-    ($kind:expr; $($key:literal => $word:literal),*) => {
-        match $kind {
-            $($key => Some($word),)*
-            _ => None,
-        }
-    };
-}
-
 /// The words of a kind of report line, which stand behind the object's name; None where there is no such kind.
 pub fn problem_word(kind: u8) -> Option<&'static str>
     ensures listed { IsSome result ↔ IsSome (code_of PROBLEM_KINDS kind) }
     ensures word { option_copied result ≡ word_of kind }
 {
-    words!(kind;
-        1 => "missing way",
-        2 => "missing node",
-        3 => "nothing survives",
-        4 => "crossing",
-        5 => "overlap",
-        6 => "odd node",
-        7 => "named twice",
-        8 => "stands",
-        9 => "has role inner in an outer ring",
-        10 => "has role outer in an inner ring"
-    )
+    match kind {
+        MISSING_WAY => Some("missing way"),
+        MISSING_NODE => Some("missing node"),
+        NOTHING_SURVIVES => Some("nothing survives"),
+        CROSSING => Some("crossing"),
+        OVERLAP => Some("overlap"),
+        ODD_NODE => Some("odd node"),
+        NAMED_TWICE => Some("named twice"),
+        REPEATED => Some("stands"),
+        INNER_IN_OUTER => Some("has role inner in an outer ring"),
+        OUTER_IN_INNER => Some("has role outer in an inner ring"),
+        _ => None,
+    }
 }
 
 /// What stands in the tables.

@@ -1,12 +1,11 @@
 -- Rings through four corners.
-use Rattle.std.proofs.Common.{◌≡◌, ◌≢◌, ◌∙◌, ℕ, zero, suc, ◌+◌, ◌<◌, All, List, [], ◌∷◌, slice_index_or, sym, refl, arith}
+use Rattle.std.proofs.Common.{◌≡◌, ◌≢◌, ◌∙◌, ℕ, zero, suc, ◌+◌, ◌<◌, List, [], ◌∷◌, slice_index_or, sym, refl, arith}
 use Rattle.std.proofs.lemmas.List.Elements.{All-cons, All-nil}
 use Rattle.std.proofs.lemmas.List.Kept.{AllPairs-cons}
 use Rattle.osm_geom.specs.declared.edge.Edge.{Edge}
-use Rattle.osm_geom.specs.declared.loc.Loc.{Loc}
+use Rattle.osm_lattice.specs.declared.loc.Loc.{Loc}
 use Rattle.osm_geom.specs.declared.point.Point.TheVariants.{Lattice}
 use Rattle.osm_rings.specs.Ring.{IsRing}
-use Rattle.osm_text.specs.Lattice.{LeavesLattice}
 
 record Runs (e : Edge) (p q : Loc) : Type 0 where
   from : e.from ≡ Lattice p
@@ -23,9 +22,6 @@ apart e f p q u v at by differ same = differ (same-place p u (sym at.from ∙ (s
 
 ends-apart : (e : Edge) (p q : Loc) → Runs e p q → p ≢ q
 ends-apart e p q at same = e.apart (at.from ∙ (λ i. Lattice (same i)) ∙ sym at.to)
-
-leaves : (e : Edge) (p q : Loc) → Runs e p q → LeavesLattice e
-leaves e p q at = rw at.from refl
 
 module _ (a b c d : Loc) (e f g h : Edge) (ab : Runs e a b) (bc : Runs f b c) (cd : Runs g c d) (da : Runs h d a) where
   abbrev corners : List Edge
@@ -48,15 +44,12 @@ module _ (a b c d : Loc) (e f g h : Edge) (ab : Runs e a b) (bc : Runs f b c) (c
         (AllPairs-cons Apart h [] (All-nil (Apart h)) (λ i j o before inside. absurd (omega arith)))));
   }
 
-  corners-leave : All LeavesLattice corners
-  corners-leave = All-cons LeavesLattice e (f ∷ g ∷ h ∷ []) (leaves e a b ab) (All-cons LeavesLattice f (g ∷ h ∷ []) (leaves f b c bc) (All-cons LeavesLattice g (h ∷ []) (leaves g c d cd) (All-cons LeavesLattice h [] (leaves h d a da) (All-nil LeavesLattice))))
-
 -- edges from corner to corner, by the corners at which they begin and end
 pub corners_ring : (a b c d : Loc) (e f g h : Edge) → e.from ≡ Lattice a → e.to ≡ Lattice b → f.from ≡ Lattice b → f.to ≡ Lattice c → g.from ≡ Lattice c → g.to ≡ Lattice d → h.from ≡ Lattice d → h.to ≡ Lattice a
-    → a ≢ c → b ≢ d → IsRing (e ∷ f ∷ g ∷ h ∷ []) × All LeavesLattice (e ∷ f ∷ g ∷ h ∷ [])
+    → a ≢ c → b ≢ d → IsRing (e ∷ f ∷ g ∷ h ∷ [])
 corners_ring a b c d e f g h ea eb fb fc gc gd hd ha ac bd =
     let ab : Runs e a b = record { from = ea; to = eb } in
     let bc : Runs f b c = record { from = fb; to = fc } in
     let cd : Runs g c d = record { from = gc; to = gd } in
     let da : Runs h d a = record { from = hd; to = ha } in
-    (corners-ring a b c d e f g h ab bc cd da ac bd, corners-leave a b c d e f g h ab bc cd da)
+    corners-ring a b c d e f g h ab bc cd da ac bd

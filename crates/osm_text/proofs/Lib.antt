@@ -1,10 +1,7 @@
-mod DecimalLemmas
 mod EscapeLemmas
 mod FourCorners
 mod KeyLaws
-mod LatticeLemmas
-mod LineExists
 mod NotationLemmas
 mod PropertyLemmas
 mod RowLemmas
-mod StringLemmas
+mod WholePaths

@@ -1,13 +1,10 @@
 -- Rings and polygons from their parts, in either notation.
 use Rattle.std.proofs.Common.{◌≡◌, ◌∙◌, ◌<◌, ◌≤◌, suc, ℕ, All, List, [], ◌∷◌, ◌++◌, Option, None, Some, true, option_map, unwrap_or, is_some, map, take, length, true≢false, refl, sym, ap, append_assoc, arith}
 use Rattle.std.specs.List.{cons_option, join_with_byte}
-use Rattle.osm_geom.specs.declared.edge.Edge.{Edge}
-use Rattle.osm_geom.specs.declared.loc.Loc.{Loc}
-use Rattle.osm_nest.specs.Paths.{location_at, path_along}
+use Rattle.osm_lattice.specs.declared.loc.Loc.{Loc}
 use Rattle.osm_text.specs.declared.notation.Notation.{Notation}
 use Rattle.osm_text.specs.declared.notation.Notation.TheVariants.{WellKnown, Json}
-use Rattle.osm_text.specs.Lattice.{LeavesLattice}
-use Rattle.osm_text.specs.Notation.{close_of, open_of, point_in, polygon_in, polygons_in, ring_in, start_in}
+use Rattle.osm_text.specs.Notation.{close_of, open_of, point_in, polygon_in, polygons_in, ring_in}
 use Rattle.osm_text.specs.Rows.{led}
 use Rattle.osm_text.proofs.RowLemmas.{led-closed, led-list}
 
@@ -23,26 +20,14 @@ polygons_in-parts : (n : Notation) (polygons : List (List (List Loc))) → polyg
 polygons_in-parts WellKnown polygons = refl
 polygons_in-parts Json polygons = refl
 
--- what edges leave is the path, where all are lattice points
-starts : (n : Notation) (es : List Edge) → All LeavesLattice es → map (start_in n) es ≡ map (point_in n) (path_along es)
-starts n [] all = refl
-starts n (e ∷ es) all = one (location_at e.from) (all 0 e (omega arith)) (starts n es (λ k d inside. all (suc k) d (omega arith)))
-  where
-    one : (at : Option Loc) → is_some at ≡ true → map (start_in n) es ≡ map (point_in n) (path_along es)
-        → unwrap_or (option_map (point_in n) at) [] ∷ map (start_in n) es ≡ map (point_in n) (cons_option at (path_along es))
-    one None there rest = absurd (true≢false (sym there))
-    one (Some p) there rest = ap (λ (texts : List (List ℕ)). point_in n p ∷ texts) rest
+-- the ring along a path
+ring-whole : (n : Notation) (path : List Loc) → 0 < length path
+    → led (open_of n) (map (point_in n) path) ++ led 44 (map (point_in n) (take 1 path)) ++ close_of n ∷ [] ≡ ring_in n path
+ring-whole n [] some = absurd (omega arith)
+ring-whole n (p ∷ path) some = led-closed (open_of n) (close_of n) (point_in n) p path ∙ sym (ring_in-parts n (p ∷ path))
 
--- the ring of edges that leave lattice points
-ring-whole : (n : Notation) (es : List Edge) → All LeavesLattice es → 0 < length es
-    → led (open_of n) (map (start_in n) es) ++ led 44 (map (start_in n) (take 1 es)) ++ close_of n ∷ [] ≡ ring_in n (path_along es)
-ring-whole n [] all some = absurd (omega arith)
-ring-whole n (e ∷ es) all some = one (location_at e.from) (all 0 e (omega arith)) (starts n es (λ k d inside. all (suc k) d (omega arith)))
-  where
-    one : (at : Option Loc) → is_some at ≡ true → map (start_in n) es ≡ map (point_in n) (path_along es)
-        → led (open_of n) (unwrap_or (option_map (point_in n) at) [] ∷ map (start_in n) es) ++ led 44 (unwrap_or (option_map (point_in n) at) [] ∷ []) ++ close_of n ∷ [] ≡ ring_in n (cons_option at (path_along es))
-    one None there rest = absurd (true≢false (sym there))
-    one (Some p) there rest = rw rest (led-closed (open_of n) (close_of n) (point_in n) p (path_along es) ∙ sym (ring_in-parts n (p ∷ path_along es)))
+ring-none : (n : Notation) → open_of n ∷ close_of n ∷ [] ≡ ring_in n []
+ring-none n = sym (ring_in-parts n [])
 
 -- the polygon of an outer ring and inner rings
 polygon-whole : (n : Notation) (outer : List Loc) (inners : List (List Loc))
@@ -67,12 +52,18 @@ three text a b c = simp append_assoc
 four : (text a b c d : List ℕ) → text ++ a ++ b ++ c ++ d ≡ text ++ (a ++ b ++ c ++ d)
 four text a b c d = simp append_assoc
 
-pub ring-put : (n : Notation) (first last : ℕ) (es edges : List Edge) (text one two whole : List ℕ) → edges ≡ es → first ≡ open_of n → last ≡ close_of n
-    → one ≡ text ++ led first (map (start_in n) edges) → two ≡ one ++ led 44 (map (start_in n) (take 1 edges)) → whole ≡ two ++ last ∷ []
-    → All LeavesLattice es → 3 ≤ length es → whole ≡ text ++ ring_in n (path_along es)
-ring-put n first last es edges text one two whole same is_first is_last is_one is_two is_whole all long =
-    rw (is_whole, is_two, is_one, same, is_first, is_last)
-    (three text (led (open_of n) (map (start_in n) es)) (led 44 (map (start_in n) (take 1 es))) (close_of n ∷ []) ∙ ap (λ (xs : List ℕ). text ++ xs) (ring-whole n es all (omega arith)))
+pub ring-put : (n : Notation) (first last : ℕ) (path : List Loc) (text one two whole : List ℕ) → 0 < length path → first ≡ open_of n → last ≡ close_of n
+    → one ≡ text ++ led first (map (point_in n) path) → two ≡ one ++ led 44 (map (point_in n) (take 1 path)) → whole ≡ two ++ last ∷ []
+    → whole ≡ text ++ ring_in n path
+ring-put n first last path text one two whole some is_first is_last is_one is_two is_whole =
+    rw (is_whole, is_two, is_one, is_first, is_last)
+    (three text (led (open_of n) (map (point_in n) path)) (led 44 (map (point_in n) (take 1 path))) (close_of n ∷ []) ∙ ap (λ (xs : List ℕ). text ++ xs) (ring-whole n path some))
+
+pub empty-put : (n : Notation) (first last : ℕ) (path : List Loc) (text one whole : List ℕ) → length path ≡ 0 → first ≡ open_of n → last ≡ close_of n
+    → one ≡ text ++ first ∷ [] → whole ≡ one ++ last ∷ [] → whole ≡ text ++ ring_in n path
+empty-put n first last [] text one whole none is_first is_last is_one is_whole =
+    rw (is_whole, is_one, is_first, is_last) (append_assoc text (open_of n ∷ []) (close_of n ∷ []) ∙ ap (λ (xs : List ℕ). text ++ xs) (ring-none n))
+empty-put n first last (p ∷ path) text one whole none is_first is_last is_one is_whole = absurd (omega arith)
 
 pub polygon-put : (n : Notation) (first last : ℕ) (outer : List Loc) (inners : List (List Loc)) (text one two three whole : List ℕ) → first ≡ open_of n → last ≡ close_of n
     → one ≡ text ++ first ∷ [] → two ≡ one ++ ring_in n outer → three ≡ two ++ led 44 (map (ring_in n) inners) → whole ≡ three ++ last ∷ []

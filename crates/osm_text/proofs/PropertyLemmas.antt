@@ -21,6 +21,7 @@ use Rattle.osm_text.specs.Properties.{by_key, member_text, properties_text, put_
 use Rattle.osm_text.specs.Rows.{led}
 use Rattle.osm_text.proofs.EscapeLemmas.{quoted-string}
 use Rattle.osm_text.proofs.RowLemmas.{led-list}
+use Rattle.lists.proofs.Options.{is_some-map}
 
 -- ---- a key is there where a tag has it
 
@@ -33,10 +34,6 @@ is_some-member : (key : List ℕ) (tags : List Tag) → is_some (get_member key 
 is_some-member key [] = refl
 is_some-member key (u ∷ tags) =
     is_some-match (slice_cmp nat_cmp key u.key) (string u.value) (get_member key (members tags)) ∙ rw (is_eq-slice_cmp key u.key, is_some-member key tags) refl
-
-is_some-map : {A B : Type 0} (f : A → B) (o : Option A) → is_some (option_map f o) ≡ is_some o
-is_some-map f None = refl
-is_some-map f (Some x) = refl
 
 pub is_there : (key : List ℕ) (es : List Entry) (tags : List Tag) → members_view es ≡ members tags
     → is_some (lookup (is_at (λ k. slice_cmp nat_cmp key (string_bytes k))) es) ≡ list_any (λ u. bytes_eq key u.key) tags

@@ -2,11 +2,11 @@
 use Rattle.std.specs.Prelude.{ℕ, List, [], ◌∷◌, ◌++◌, Option, Some, None, map, codes}
 use Rattle.std.specs.List.{join_with_byte}
 use Rattle.opl_reader.specs.declared.object.Tag.{Tag}
-use Rattle.osm_geom.specs.declared.loc.Loc.{Loc}
+use Rattle.osm_lattice.specs.declared.loc.Loc.{Loc}
 use Rattle.osm_text.specs.declared.feature_id.FeatureId.{FeatureId}
 use Rattle.osm_text.specs.Id.{id_text}
 use Rattle.osm_text.specs.Wkt.{multipolygon_wkt}
-use Rattle.osm_text.specs.Written.{written}
+use Rattle.osm_notation.specs.Written.{written}
 
 -- where there is an id, the id and a space
 abbrev pub id_before : Option FeatureId → List ℕ

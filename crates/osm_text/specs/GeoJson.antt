@@ -2,10 +2,10 @@
 use Rattle.std.specs.Prelude.{ℕ, List, [], ◌++◌, Option, Some, None, map, take, codes}
 use Rattle.std.specs.List.{join_with_byte}
 use Rattle.opl_reader.specs.declared.object.Tag.{Tag}
-use Rattle.osm_geom.specs.declared.loc.Loc.{Loc}
+use Rattle.osm_lattice.specs.declared.loc.Loc.{Loc}
 use Rattle.osm_text.specs.declared.feature_id.FeatureId.{FeatureId}
 use Rattle.osm_text.specs.declared.feature_id.FeatureId.TheVariants.{Counter, Area}
-use Rattle.osm_text.specs.Decimal.{units_text}
+use Rattle.osm_notation.specs.Decimal.{units_text}
 use Rattle.osm_text.specs.Id.{id_text}
 use Rattle.osm_text.specs.Properties.{properties_text}
 

@@ -1,12 +1,9 @@
-pub mod Decimal
 pub mod Feature
 pub mod GeoJson
 pub mod Id
-pub mod Lattice
 pub mod Members
 pub mod Notation
+pub mod Paths
 pub mod Properties
-pub mod Report
 pub mod Rows
 pub mod Wkt
-pub mod Written

@@ -1,12 +1,11 @@
 -- The two notations of polygons, as the functions that print them see them. No public contract cites it.
 use Rattle.std.specs.Prelude.{ℕ, List, [], option_map, unwrap_or, map}
-use Rattle.osm_geom.specs.declared.edge.Edge.{Edge}
-use Rattle.osm_geom.specs.declared.loc.Loc.{Loc}
-use Rattle.osm_nest.specs.Paths.{location_at}
+use Rattle.osm_lattice.specs.declared.loc.Loc.{Loc}
 use Rattle.osm_text.specs.declared.notation.Notation.{Notation}
 use Rattle.osm_text.specs.declared.notation.Notation.TheVariants.{WellKnown, Json}
 use Rattle.osm_text.specs.GeoJson.{position_json, ring_json, polygon_json, multipolygon_json}
-use Rattle.osm_text.specs.Wkt.{in_parentheses, point_text, ring_wkt, polygon_wkt}
+use Rattle.osm_notation.specs.Coordinates.{point_text}
+use Rattle.osm_text.specs.Wkt.{in_parentheses, ring_wkt, polygon_wkt}
 
 -- the bytes around a list
 abbrev pub open_of : Notation → ℕ
@@ -20,10 +19,6 @@ close_of Json = 93
 abbrev pub point_in : Notation → Loc → List ℕ
 point_in WellKnown point = point_text point
 point_in Json point = position_json point
-
--- the point that an edge leaves, where it is a lattice point
-abbrev pub start_in : Notation → Edge → List ℕ
-start_in notation edge = unwrap_or (option_map (point_in notation) (location_at edge.from)) []
 
 abbrev pub ring_in : Notation → List Loc → List ℕ
 ring_in WellKnown ring = ring_wkt ring

@@ -1,19 +1,12 @@
--- Well-known text of points, rings and polygons, in degrees.
-use Rattle.std.specs.Prelude.{ℕ, ℤ, List, ◌++◌, map, take, codes}
+-- Well-known text of rings and polygons, in degrees.
+use Rattle.std.specs.Prelude.{ℕ, List, ◌++◌, map, take, codes}
 use Rattle.std.specs.List.{join_with_byte}
-use Rattle.osm_geom.specs.declared.loc.Loc.{Loc}
-use Rattle.osm_text.specs.Decimal.{units_text}
+use Rattle.osm_lattice.specs.declared.loc.Loc.{Loc}
+use Rattle.osm_notation.specs.Coordinates.{point_text}
 
 -- texts in parentheses, parted by commas
 abbrev pub in_parentheses : List (List ℕ) → List ℕ
 in_parentheses texts = codes "(" ++ join_with_byte 44 texts ++ codes ")"
-
--- a point by its coordinates: x, a space and y
-abbrev pub xy_text : ℤ → ℤ → List ℕ
-xy_text x y = units_text x ++ codes " " ++ units_text y
-
-abbrev pub point_text : Loc → List ℕ
-point_text p = xy_text p.x p.y
 
 -- a ring: its points in order, the first again at the end
 abbrev pub ring_wkt : List Loc → List ℕ

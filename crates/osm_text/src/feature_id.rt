@@ -4,8 +4,8 @@ ghost use Rattle.osm_text.specs.Feature.{id_before};
 ghost use Rattle.osm_text.specs.GeoJson.{id_member};
 ghost use Rattle.osm_text.specs.Id.{id_text};
 
-use crate::number::put_number;
-use std::alloc::AllocError;
+use osm_notation::put_number;
+use std::alloc::AllocError as OutOfMemory;
 
 /// What a feature is named by.
 #[derive(Clone, Copy, Debug, PartialEq, Eq)]
@@ -17,7 +17,7 @@ pub enum FeatureId {
 }
 
 /// Adds an id.
-fn put_id(text: &mut Vec<u8>, id: FeatureId) -> Result<(), AllocError>
+fn put_id(text: &mut Vec<u8>, id: FeatureId) -> Result<(), OutOfMemory>
     ensures { OnOk result (text.new.items ≡ text.old.items ++ id_text id) }
 {
     match id {
@@ -30,7 +30,7 @@ fn put_id(text: &mut Vec<u8>, id: FeatureId) -> Result<(), AllocError>
 }
 
 /// Adds the id and a space, where there is an id.
-pub(crate) fn put_id_before(text: &mut Vec<u8>, id: Option<FeatureId>) -> Result<(), AllocError>
+pub(crate) fn put_id_before(text: &mut Vec<u8>, id: Option<FeatureId>) -> Result<(), OutOfMemory>
     ensures { OnOk result (text.new.items ≡ text.old.items ++ id_before id) }
 {
     let Some(id) = id else {
@@ -42,7 +42,7 @@ pub(crate) fn put_id_before(text: &mut Vec<u8>, id: Option<FeatureId>) -> Result
 }
 
 /// Adds the member of the id and a comma, where there is an id.
-pub(crate) fn put_id_member(text: &mut Vec<u8>, id: Option<FeatureId>) -> Result<(), AllocError>
+pub(crate) fn put_id_member(text: &mut Vec<u8>, id: Option<FeatureId>) -> Result<(), OutOfMemory>
     ensures { OnOk result (text.new.items ≡ text.old.items ++ id_member id) }
 {
     let Some(id) = id else {

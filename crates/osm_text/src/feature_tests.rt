@@ -1,10 +1,9 @@
 //! Features against the values of the formats.
-ghost use Rattle.std.specs.Prelude.{◌≡◌, ◌≢◌, All, IfOk, OnOk};
+ghost use Rattle.std.specs.Prelude.{◌≡◌, ◌≢◌, IfOk, OnOk};
 ghost use Rattle.osm_geom.specs.declared.point.Point.TheVariants.{Lattice};
-ghost use Rattle.osm_text.specs.Lattice.{AreLattice, IsLattice, LeavesLattice};
 
 use super::*;
-use opl_reader::{Tag, Tags, Text};
+use opl_reader::Tags;
 use osm_geom::{Edge, Loc, Seg};
 use osm_nest::{Polygon, Polygons};
 use osm_rings::{Ring, Rings};
@@ -55,9 +54,7 @@ fn apart(p: Loc, q: Loc) -> Result<(), Fail>
 }
 
 /// The ring through four corners.
-fn ring(alloc: Global, corners: [Loc; 4]) -> Result<Ring, Fail>
-    ensures { IfOk result (λ ring. All LeavesLattice ring) }
-{
+fn ring(alloc: Global, corners: [Loc; 4]) -> Result<Ring, Fail> {
     let [a, b, c, d] = corners;
     apart(a, c)?;
     apart(b, d)?;
@@ -70,9 +67,7 @@ fn ring(alloc: Global, corners: [Loc; 4]) -> Result<Ring, Fail>
 }
 
 /// The ring along a rectangle's sides from its least corner, counterclockwise or clockwise.
-fn rectangle(alloc: Global, sides: Sides, clockwise: bool) -> Result<Ring, Fail>
-    ensures { IfOk result (λ ring. All LeavesLattice ring) }
-{
+fn rectangle(alloc: Global, sides: Sides, clockwise: bool) -> Result<Ring, Fail> {
     let [west, south, east, north] = sides;
     let (first, last) = (location(west, south)?, location(east, north)?);
     let (right, left) = (location(east, south)?, location(west, north)?);
@@ -84,9 +79,7 @@ fn rectangle(alloc: Global, sides: Sides, clockwise: bool) -> Result<Ring, Fail>
 }
 
 /// A rectangle, with a hole where there is one.
-fn polygon_of(alloc: Global, outer: Sides, hole: Option<Sides>) -> Result<Polygon, Fail>
-    ensures { IfOk result (λ polygon. IsLattice polygon) }
-{
+fn polygon_of(alloc: Global, outer: Sides, hole: Option<Sides>) -> Result<Polygon, Fail> {
     let outer = rectangle(alloc, outer, false)?;
     let mut inners = Rings::new(alloc);
     if let Some(hole) = hole {
@@ -96,9 +89,7 @@ fn polygon_of(alloc: Global, outer: Sides, hole: Option<Sides>) -> Result<Polygo
 }
 
 /// Rectangles, each with a hole where there is one.
-fn polygons_of(alloc: Global, list: &[(Sides, Option<Sides>)]) -> Result<Polygons, Fail>
-    ensures { IfOk result (λ polygons. AreLattice polygons) }
-{
+fn polygons_of(alloc: Global, list: &[(Sides, Option<Sides>)]) -> Result<Polygons, Fail> {
     let mut polygons = Polygons::new(alloc);
     for &(outer, hole) in list {
         polygons.push(polygon_of(alloc, outer, hole)?)?;
@@ -111,9 +102,7 @@ fn tags_of(alloc: Global, tags: &str) -> Result<Tags, Fail> {
     let mut list = Tags::new(alloc);
     for tag in tags.split('|') {
         if let Some((key, value)) = tag.split_once('=') {
-            let key = Text::from_str(alloc, key)?;
-            let value = Text::from_str(alloc, value)?;
-            list.push(Tag { key, value })?;
+            list.push(key, value)?;
         }
     }
     Ok(list)

@@ -1,17 +1,17 @@
 //! Polygons in well-known text and in GeoJSON: lists in parentheses or in brackets, a ring's first point again at its end.
-ghost use Rattle.std.specs.Prelude.{All, ◌≡◌, ◌++◌, map, OnOk};
-ghost use Rattle.osm_geom.specs.declared.edge.Edge.{Edge};
-ghost use Rattle.osm_nest.specs.Paths.{path_along, paths_in, paths_of};
+
+ghost use Rattle.std.specs.Prelude.{◌≡◌, ◌++◌, map, OnOk};
 ghost use Rattle.osm_text.specs.GeoJson.{position_json};
-ghost use Rattle.osm_text.specs.Lattice.{AreLattice, IsLattice, LeavesLattice};
-ghost use Rattle.osm_text.specs.Notation.{close_of, open_of, point_in, polygon_in, polygons_in, ring_in, start_in};
+ghost use Rattle.osm_text.specs.Notation.{close_of, open_of, point_in, polygon_in, polygons_in, ring_in};
+ghost use Rattle.osm_text.specs.Paths.{path_along, paths_in, paths_of};
 ghost use Rattle.osm_text.specs.Rows.{led};
 
-use crate::wkt::{put_coordinate, put_point};
-use osm_geom::{Edge, Loc, Point};
+use crate::paths::path_of;
+use osm_geom::Loc;
 use osm_nest::Polygon;
+use osm_notation::{put_coordinate, put_point};
 use osm_rings::Ring;
-use std::alloc::AllocError;
+use std::alloc::{AllocError as OutOfMemory, Global};
 
 /// How polygons are spelled.
 #[derive(Clone, Copy)]
@@ -45,7 +45,7 @@ impl Notation {
 }
 
 /// Adds a position of GeoJSON.
-fn put_position(text: &mut Vec<u8>, point: Loc) -> Result<(), AllocError>
+fn put_position(text: &mut Vec<u8>, point: Loc) -> Result<(), OutOfMemory>
     ensures { OnOk result (text.new.items ≡ text.old.items ++ position_json point) }
 {
     text.push(b'[')?;
@@ -57,7 +57,7 @@ fn put_position(text: &mut Vec<u8>, point: Loc) -> Result<(), AllocError>
 }
 
 /// Adds a point.
-fn put_location(text: &mut Vec<u8>, notation: Notation, point: Loc) -> Result<(), AllocError>
+fn put_location(text: &mut Vec<u8>, notation: Notation, point: Loc) -> Result<(), OutOfMemory>
     ensures { OnOk result (text.new.items ≡ text.old.items ++ point_in notation point) }
 {
     match notation {
@@ -66,84 +66,87 @@ fn put_location(text: &mut Vec<u8>, notation: Notation, point: Loc) -> Result<()
     }
 }
 
-/// Adds the point that an edge leaves, where it is a lattice point.
-fn put_start(text: &mut Vec<u8>, notation: Notation, edge: &Edge) -> Result<(), AllocError>
-    ensures { OnOk result (text.new.items ≡ text.old.items ++ start_in notation edge.now) }
-{
-    match edge.from {
-        Point::Lattice(at) => put_location(text, notation, at),
-        _ => Ok(()),
-    }
-}
-
-/// Adds the points that edges leave, the first behind `lead` and each other behind a comma.
-fn put_starts(
+/// Adds points, the first behind `lead` and each other behind a comma.
+fn put_points(
     text: &mut Vec<u8>,
     notation: Notation,
     lead: u8,
-    edges: &[Edge],
-) -> Result<(), AllocError>
-    ensures { OnOk result (text.new.items ≡ text.old.items ++ led lead (map (start_in notation) edges.now)) }
+    points: &[Loc],
+) -> Result<(), OutOfMemory>
+    ensures { OnOk result (text.new.items ≡ text.old.items ++ led lead (map (point_in notation) points.now)) }
 {
     let mut byte = lead;
-    for edge in edges {
+    for &point in points {
         text.push(byte)?;
-        put_start(text, notation, edge)?;
+        put_location(text, notation, point)?;
         byte = b',';
     }
     Ok(())
 }
 
-/// Adds a ring, whose first point stands again at its end.
-fn put_ring(text: &mut Vec<u8>, notation: Notation, ring: &Ring) -> Result<(), AllocError>
-    requires { All LeavesLattice ring.now }
-    ensures { OnOk result (text.new.items ≡ text.old.items ++ ring_in notation (path_along ring.now)) }
+/// Adds a ring by its path, whose first point stands again at its end.
+fn put_ring(text: &mut Vec<u8>, notation: Notation, path: &[Loc]) -> Result<(), OutOfMemory>
+    ensures { OnOk result (text.new.items ≡ text.old.items ++ ring_in notation path.now) }
 {
-    let edges = ring.as_slice();
-    put_starts(text, notation, notation.open(), edges)?;
-    put_starts(text, notation, b',', &edges[..1])?;
+    if path.is_empty() {
+        text.push(notation.open())?;
+        text.push(notation.close())?;
+        return Ok(());
+    }
+    put_points(text, notation, notation.open(), path)?;
+    put_points(text, notation, b',', &path[..1])?;
     text.push(notation.close())?;
     Ok(())
 }
 
 /// Adds rings, each behind a comma.
-fn put_inners(text: &mut Vec<u8>, notation: Notation, rings: &[Ring]) -> Result<(), AllocError>
-    requires { All (All LeavesLattice) rings.now }
+fn put_inners(
+    alloc: Global,
+    text: &mut Vec<u8>,
+    notation: Notation,
+    rings: &[Ring],
+) -> Result<(), OutOfMemory>
     ensures { OnOk result (text.new.items ≡ text.old.items ++ led 44 (map (ring_in notation) (map path_along rings.now))) }
 {
     for ring in rings {
+        let path = path_of(alloc, ring)?;
         text.push(b',')?;
-        put_ring(text, notation, ring)?;
+        put_ring(text, notation, &path)?;
     }
     Ok(())
 }
 
 /// Adds a polygon, its outer ring first.
-fn put_polygon(text: &mut Vec<u8>, notation: Notation, polygon: &Polygon) -> Result<(), AllocError>
-    requires { IsLattice polygon.now }
+fn put_polygon(
+    alloc: Global,
+    text: &mut Vec<u8>,
+    notation: Notation,
+    polygon: &Polygon,
+) -> Result<(), OutOfMemory>
     ensures { OnOk result (text.new.items ≡ text.old.items ++ polygon_in notation (paths_in polygon.now)) }
 {
+    let path = path_of(alloc, &polygon.outer)?;
     text.push(notation.open())?;
-    put_ring(text, notation, &polygon.outer)?;
-    put_inners(text, notation, polygon.inners.as_slice())?;
+    put_ring(text, notation, &path)?;
+    put_inners(alloc, text, notation, polygon.inners.as_slice())?;
     text.push(notation.close())?;
     Ok(())
 }
 
 /// Adds polygons, the first behind `lead` and each other behind a comma.
 fn put_each(
+    alloc: Global,
     text: &mut Vec<u8>,
     notation: Notation,
     lead: u8,
     polygons: &[Polygon],
-) -> Result<(), AllocError>
-    requires { AreLattice polygons.now }
+) -> Result<(), OutOfMemory>
     ensures { OnOk result (text.new.items ≡ text.old.items ++ led lead (map (polygon_in notation) (paths_of polygons.now))) }
 {
     let mut byte = lead;
     for polygon in polygons {
         text.push(byte)?;
-        put_polygon(text, notation, polygon)?;
+        put_polygon(alloc, text, notation, polygon)?;
         byte = b',';
     }
     Ok(())
@@ -151,11 +154,11 @@ fn put_each(
 
 /// Adds the list of polygons.
 pub(crate) fn put_polygons(
+    alloc: Global,
     text: &mut Vec<u8>,
     notation: Notation,
     polygons: &[Polygon],
-) -> Result<(), AllocError>
-    requires { AreLattice polygons.now }
+) -> Result<(), OutOfMemory>
     ensures { OnOk result (text.new.items ≡ text.old.items ++ polygons_in notation (paths_of polygons.now)) }
 {
     if polygons.is_empty() {
@@ -163,7 +166,7 @@ pub(crate) fn put_polygons(
         text.push(notation.close())?;
         return Ok(());
     }
-    put_each(text, notation, notation.open(), polygons)?;
+    put_each(alloc, text, notation, notation.open(), polygons)?;
     text.push(notation.close())?;
     Ok(())
 }

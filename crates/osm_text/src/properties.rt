@@ -2,33 +2,35 @@
 ghost use Rattle.std.specs.Prelude.{◌≡◌, List, ℕ, IfOk, OnOk, string_bytes};
 ghost use Rattle.serde_json.specs.View.{members_view};
 ghost use Rattle.opl_reader.specs.declared.object.Tag.{Tag};
+ghost use Rattle.opl_reader.specs.Seen.{tag_seen};
 ghost use Rattle.osm_text.specs.Members.{members};
 ghost use Rattle.osm_text.specs.Properties.{KeysRise, by_key, properties_text, tag_at, with_tag};
 
-use opl_reader::{Tag, Tags};
+use opl_reader::{TagRef, Tags};
 use serde_json::{Map, Value};
-use std::alloc::{AllocError, Global};
+use std::alloc::{AllocError as OutOfMemory, Global};
 
 /// Adds a tag, unless its key is there.
-fn put(alloc: Global, object: &mut Map<String, Value>, tag: &Tag) -> Result<(), AllocError>
-    ensures { (tags : List Tag) → members_view object.old.entries ≡ members tags → OnOk result (members_view object.new.entries ≡ members (with_tag tags tag.now)) }
+fn put(alloc: Global, object: &mut Map<String, Value>, tag: &TagRef<'_>) -> Result<(), OutOfMemory>
+    ensures { (tags : List Tag) → members_view object.old.entries ≡ members tags → OnOk result (members_view object.new.entries ≡ members (with_tag tags (tag_seen tag.now))) }
 {
-    let key = String::from_str(alloc, tag.key.as_str())?;
+    let key = String::from_str(alloc, tag.key)?;
     if object.contains_key(&key) {
         return Ok(());
     }
-    let value = String::from_str(alloc, tag.value.as_str())?;
+    let value = String::from_str(alloc, tag.value)?;
     object.insert(key, Value::String(value))?;
     Ok(())
 }
 
 /// The compact text of the object of tags: of equal keys the first alone, keys rising by their bytes.
-pub(crate) fn properties(alloc: Global, tags: &Tags) -> Result<String, AllocError>
+pub(crate) fn properties(alloc: Global, tags: &Tags) -> Result<String, OutOfMemory>
     ensures { IfOk result (λ text. string_bytes text ≡ properties_text tags.now) }
 {
     let mut object = Map::new(alloc);
-    for tag in tags.as_slice() {
-        put(alloc, &mut object, tag)?;
+    let mut rest = tags.iter();
+    while let Some(tag) = rest.next() {
+        put(alloc, &mut object, &tag)?;
     }
     Value::Object(object).to_string(alloc)
 }

@@ -1,5 +1,5 @@
 use Rattle.std.proofs.Common.{◌≡◌, ◌++◌, map, drop}
-use Rattle.osm_nest.specs.Paths.{paths_of}
+use Rattle.osm_text.specs.Paths.{paths_of}
 use Rattle.osm_text.specs.Notation.{polygon_in}
 use Rattle.osm_text.specs.Rows.{led}
 use Rattle.osm_text.proofs.notation.put_each.Given as goal

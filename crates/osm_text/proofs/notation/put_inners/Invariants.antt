@@ -1,5 +1,5 @@
 use Rattle.std.proofs.Common.{◌≡◌, ◌++◌, map, drop}
-use Rattle.osm_nest.specs.Paths.{path_along}
+use Rattle.osm_text.specs.Paths.{path_along}
 use Rattle.osm_text.specs.Notation.{ring_in}
 use Rattle.osm_text.specs.Rows.{led}
 use Rattle.osm_text.proofs.notation.put_inners.Given as goal

@@ -1,6 +1,6 @@
 use Rattle.std.proofs.Common.{◌<◌, ◌≡◌, length, arith}
 use Rattle.std.proofs.lemmas.Grind.{common_steps}
-use Rattle.osm_nest.specs.Paths.{paths_of}
+use Rattle.osm_text.specs.Paths.{paths_of}
 use Rattle.osm_text.proofs.NotationLemmas.{none-put, some-put}
 use Rattle.osm_text.proofs.notation.put_polygons.Goals as goal
 

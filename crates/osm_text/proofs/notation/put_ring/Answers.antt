@@ -1,7 +1,14 @@
-use Rattle.osm_text.proofs.NotationLemmas.{ring-put}
+use Rattle.std.proofs.Common.{◌<◌, ◌≡◌, length, arith}
+use Rattle.std.proofs.lemmas.Grind.{common_steps}
+use Rattle.osm_text.proofs.NotationLemmas.{empty-put, ring-put}
 use Rattle.osm_text.proofs.notation.put_ring.Goals as goal
+
+pub returns-then-is_empty : goal.returns-then-is_empty
+returns-then-is_empty c =
+    let none : length c.args.path.now ≡ 0 = grind (arith, common_steps, c.is_empty.ensures, c.if-is_empty.true) in
+    empty-put c.args.notation c.open.result c.close.result c.args.path.now _ _ _ none c.open.ensures c.close.ensures c.in_ok-push.ensures.items c.in_ok-push-2.ensures.items
 
 pub returns : goal.returns
 returns c =
-    ring-put c.args.notation c.open.result c.close.result c.args.ring.now c.as_slice-edges.result.now _ _ _ _
-    c.as_slice-edges.ensures.edges c.open.ensures c.close.ensures c.in_ok-put_starts.ensures c.in_ok-put_starts-2.ensures c.in_ok-push.ensures.items c.requires c.as_slice-edges.ensures.ring.long
+    let some : 0 < length c.args.path.now = grind (arith, common_steps, c.is_empty.ensures, c.if-is_empty.false) in
+    ring-put c.args.notation c.open-2.result c.close-2.result c.args.path.now _ _ _ _ some c.open-2.ensures c.close-2.ensures c.in_ok-put_points.ensures c.in_ok-put_points-2.ensures c.in_ok-push-3.ensures.items

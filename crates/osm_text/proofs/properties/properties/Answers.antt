@@ -1,18 +1,25 @@
-use Rattle.std.proofs.Common.{◌≡◌, ◌∙◌, ap, List, take}
-use Rattle.std.proofs.lemmas.List.{take_all}
+use Rattle.std.proofs.Common.{◌≡◌, ◌∙◌, ap, sym, rules, List, [], fold}
 use Rattle.std.proofs.lemmas.Result.{IfOk-weaker}
 use Rattle.serde_json.specs.Data.{object}
 use Rattle.serde_json.specs.Written.{compact_text, has_float}
 use Rattle.serde_json.proofs.Views.{view-Object}
-use Rattle.opl_reader.specs.declared.object.Tag.{Tag}
+use Rattle.opl_reader.specs.Seen.{tag_seen}
 use Rattle.osm_text.specs.Members.{members}
-use Rattle.osm_text.specs.Properties.{by_key}
+use Rattle.osm_text.specs.Properties.{by_key, with_tag}
 use Rattle.osm_text.proofs.PropertyLemmas.{no_float, text_is}
 use Rattle.osm_text.proofs.properties.properties.Goals as goal
 
+pub loop-tag-init : goal.loop-tag-init
+loop-tag-init c = ([], (search rules), ap (fold with_tag []) c.iter-rest.ensures)
+
+pub loop-tag-preserved : goal.loop-tag-preserved
+loop-tag-preserved c =
+    let i = c.loop-tag.invariant in
+    (with_tag i.0 (tag_seen c.in-Some.tag), c.in_ok-put.ensures i.0 i.1, sym (ap (fold with_tag i.0) c.in-Some.ensures.tag) ∙ i.2)
+
 pub returns : goal.returns
 returns c =
-    let all : take c.loop-tag.tag-index c.as_slice-tag-items.result.now ≡ c.args.tags.now =
-    take_all c.loop-tag.tag-index c.as_slice-tag-items.result.now c.loop-tag-test.false ∙ c.as_slice-tag-items.ensures in
-    let seen = view-Object c.loop-tag.object ∙ ap object (c.loop-tag.invariant ∙ ap (λ (tags : List Tag). members (by_key tags)) all) in
+    let i = c.loop-tag.invariant in
+    let all : i.0 ≡ by_key c.args.tags.now = sym (ap (fold with_tag i.0) c.in_default.ensures.tag) ∙ i.2 in
+    let seen = view-Object c.loop-tag.object ∙ ap object (i.1 ∙ ap members all) in
     IfOk-weaker c.to_string.result _ _ (λ s h. h (ap has_float seen ∙ no_float (by_key c.args.tags.now)) ∙ ap compact_text seen ∙ text_is c.args.tags.now) c.to_string.ensures.text

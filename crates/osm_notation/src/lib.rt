@@ -1,0 +1,14 @@
+//! How numbers, points and strings are spelled: decimals of coordinates, whole numbers, written strings.
+#![tactic(auto)]
+
+mod coordinates;
+mod decimal;
+mod number;
+mod strings;
+#[cfg(test)]
+mod tests;
+
+pub use coordinates::{put_coordinate, put_point, put_xy};
+pub use decimal::put_decimal;
+pub use number::put_number;
+pub use strings::{put_written, written};

@@ -1,0 +1,14 @@
+//! Whole numbers.
+ghost use Rattle.std.specs.Prelude.{◌≡◌, ◌++◌, OnOk};
+
+use itoa::{Buffer, Integer};
+use std::alloc::AllocError as OutOfMemory;
+
+/// Adds a whole number.
+pub fn put_number<I: Integer>(text: &mut Vec<u8>, number: I) -> Result<(), OutOfMemory>
+    ensures { OnOk result (text.new.items ≡ text.old.items ++ I.text number) }
+{
+    let mut digits = Buffer::new();
+    text.extend_from_slice(digits.format(number).as_bytes())?;
+    Ok(())
+}

@@ -1,9 +1,0 @@
-use Rattle.std.proofs.Common.{◌≡◌, ◌≤◌, length, take}
-use Rattle.osm_text.specs.Decimal.{without_end_zeros}
-use Rattle.osm_text.proofs.decimal.len_without_end_zeros.Given as goal
-
-abbrev pub invariant-loop-len : goal.invariant-loop-len
-invariant-loop-len l = (l.len ≤ length l.digits) × (without_end_zeros (take l.len l.digits) ≡ without_end_zeros l.digits)
-
-abbrev pub decreases-loop-len : goal.decreases-loop-len
-decreases-loop-len l = l.len
