@@ -4,14 +4,14 @@ use Rattle.std.specs.List.{flat_map}
 use Rattle.std.proofs.lemmas.List.Elements.{All-head, All-tail}
 use Rattle.opl_reader.specs.declared.object.Object.{Object}
 use Rattle.opl_reader.specs.declared.object.ObjectRef.{ObjectRef}
-use Rattle.osm_geom.specs.declared.conflicts.Kind.TheVariants.{Crossing, Overlap}
-use Rattle.osm_geom.specs.declared.frac.Frac.{Frac}
-use Rattle.osm_geom.specs.declared.seg.Seg.{Seg}
-use Rattle.osm_geom.specs.Conflict.{conflict_of}
-use Rattle.osm_geom.specs.ConflictPoints.{OnePoint}
-use Rattle.osm_geom.specs.Meeting.{CommonPoint}
-use Rattle.osm_geom.specs.Frac.{rounded}
-use Rattle.osm_geom.proofs.ToldByPoints.{crossing_is_one_point}
+use Rattle.osm_lattice.specs.declared.conflicts.Kind.TheVariants.{Crossing, Overlap}
+use Rattle.osm_lattice.specs.declared.frac.Frac.{Frac}
+use Rattle.osm_lattice.specs.declared.seg.Seg.{Seg}
+use Rattle.osm_lattice.specs.Conflict.{conflict_of}
+use Rattle.osm_lattice.specs.ConflictPoints.{OnePoint}
+use Rattle.osm_lattice.specs.Meeting.{CommonPoint}
+use Rattle.osm_lattice.specs.Frac.{rounded}
+use Rattle.osm_lattice.proofs.LatticeKit.{crossing_is_one_point}
 use Rattle.osm_objects.specs.Problem.{IsOfItsKind}
 use Rattle.osm_objects.specs.declared.problem.Problem.{Problem}
 use Rattle.osm_objects.specs.declared.problem.Problem.TheVariants.{Conflict, MissingNode, MissingWay, Nothing, Odd}
@@ -19,9 +19,9 @@ use Rattle.osm_area.specs.declared.outcome.Outcome.{Outcome}
 use Rattle.osm_area.specs.declared.outcome.Outcome.TheVariants.{Area, Problems}
 use Rattle.osm_area.specs.Outcome.{IsOutcome, problems_in}
 use Rattle.osm_area.proofs.ProblemKinds.{problems_of_kind}
-use Rattle.osm_text.specs.Report.{IsMeetingText, IsProblemLine, IsProblemText, note_line, pair_text, subject_text}
-use Rattle.osm_text.specs.Wkt.{xy_text}
-use Rattle.osm_cli.specs.Entry.{AreProblemLines, Entry, IsEntry, IsReport, IsReportShown}
+use Rattle.osm_report.specs.Report.{IsMeetingText, IsProblemLine, IsProblemText, note_line, pair_text, subject_text}
+use Rattle.osm_notation.specs.Coordinates.{xy_text}
+use Rattle.job_export.specs.Entry.{AreProblemLines, Entry, IsEntry, IsReport, IsReportShown}
 use Rattle.one_area.proofs.OutcomeOne.{candidate-one}
 use Rattle.std.specs.Prelude.{codes}
 

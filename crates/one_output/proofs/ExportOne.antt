@@ -4,11 +4,15 @@ use Rattle.std.proofs.lemmas.List.Elements.{All-head, All-tail}
 use Rattle.opl_reader.specs.declared.object.Object.{Object}
 use Rattle.opl_reader.specs.declared.object.ObjectRef.{ObjectRef}
 use Rattle.osm_words.specs.Job.{ExportSettings, Job, export}
-use Rattle.osm_cli.specs.Entry.{Entry, IsEntry, has_area}
-use Rattle.osm_cli.specs.Job.{Texts, inputs_of}
-use Rattle.osm_cli.specs.Reading.{IsReadAs}
-use Rattle.osm_cli.specs.Whole.{HaveAreas, IsAfter, IsExport, IsReadThen, IsWhole, Whole, finished, finished_whole, input_limit, longest_line, stopped, stopped_whole}
-use Rattle.osm_cli.specs.declared.reading.ReadError.{ReadError}
+use Rattle.job_export.specs.Entry.{Entry, IsEntry, has_area}
+use Rattle.osm_job.specs.Texts.{Texts}
+use Rattle.osm_cli.specs.Job.{inputs_of}
+use Rattle.osm_input.specs.Laws.{LinesCount}
+use Rattle.osm_input.specs.Reading.{IsReadAs}
+use Rattle.osm_job.specs.Whole.{IsAfter, IsReadThen, Whole, input_limit, longest_line}
+use Rattle.job_export.specs.Export.{HaveAreas, IsExport, finished, finished_whole, stopped, stopped_whole}
+use Rattle.osm_cli.specs.Whole.{IsWhole}
+use Rattle.osm_input.specs.declared.reading.ReadError.{ReadError}
 use Rattle.one_output.specs.Laws.{AreReadAlike}
 use Rattle.one_output.proofs.EntryOne.{entry-one}
 use Rattle.one_output.proofs.ReadingOne.{reading-one}
@@ -68,13 +72,13 @@ module _ (settings : ExportSettings) (objects : List Object) where
 -- ---- any job
 
 -- what is right over the bytes of an input is one, where what is right over its objects is
-module _ (IsRight : List Object → Whole → Type 0) (one : (objects : List Object) (v w : Whole) → IsRight objects v → IsRight objects w → v ≡ w) where
+module _ (count : LinesCount) (IsRight : List Object → Whole → Type 0) (one : (objects : List Object) (v w : Whole) → IsRight objects v → IsRight objects w → v ≡ w) where
   after-one : (r : Result (List Object) ReadError) (v w : Whole) → IsAfter IsRight r v → IsAfter IsRight r w → v ≡ w
   after-one (Ok objects) v w s t = one objects v w s t
   after-one (Err e) v w s t = s ∙ sym t
 
   read-after : (bytes : List ℕ) (r : Result (List Object) ReadError) (v : Whole) → IsReadAs input_limit longest_line bytes r → IsReadThen IsRight bytes v → IsAfter IsRight r v
-  read-after bytes r v is s = subst (λ x. IsAfter IsRight x v) (reading-one input_limit longest_line bytes s.read r s.is_read is) s.after
+  read-after bytes r v is s = subst (λ x. IsAfter IsRight x v) (reading-one count input_limit longest_line bytes s.read r s.is_read is) s.after
 
   -- and depends on what the input is read as alone
   pub alike-one : (bytes more : List ℕ) (r : Result (List Object) ReadError) (v w : Whole) → IsReadAs input_limit longest_line bytes r → IsReadAs input_limit longest_line more r →
@@ -85,10 +89,10 @@ module _ (IsRight : List Object → Whole → Type 0) (one : (objects : List Obj
   then-one bytes v w s t = alike-one bytes bytes s.read v w s.is_read s.is_read s t
 
 -- what is right for a job and its inputs is one
-pub whole-one : (job : Job) (texts : Texts (inputs_of job)) (v w : Whole) → IsWhole job texts v → IsWhole job texts w → v ≡ w
-whole-one (export settings) texts v w s t = then-one (IsExport settings) (export-one settings) texts.0 v w s t
+pub whole-one : LinesCount → (job : Job) (texts : Texts (inputs_of job)) (v w : Whole) → IsWhole job texts v → IsWhole job texts w → v ≡ w
+whole-one count (export settings) texts v w s t = then-one count (IsExport settings) (export-one settings) texts.0 v w s t
 
 -- and depends on what they are read as alone
-pub objects-tell : (job : Job) (texts more : Texts (inputs_of job)) (v w : Whole) → AreReadAlike (inputs_of job) texts more → IsWhole job texts v → IsWhole job more w → v ≡ w
-objects-tell (export settings) texts more v w alike s t =
-    alike-one (IsExport settings) (export-one settings) texts.0 more.0 alike.0.0 v w alike.0.1 alike.0.2 s t
+pub objects-tell : LinesCount → (job : Job) (texts more : Texts (inputs_of job)) (v w : Whole) → AreReadAlike (inputs_of job) texts more → IsWhole job texts v → IsWhole job more w → v ≡ w
+objects-tell count (export settings) texts more v w alike s t =
+    alike-one count (IsExport settings) (export-one settings) texts.0 more.0 alike.0.0 v w alike.0.1 alike.0.2 s t

@@ -1,13 +1,14 @@
 -- An input is read as one thing.
 use Rattle.std.proofs.Common.{Err, List, Ok, Result, Some, [], ap, arith, inl, inr, length, refl, subst, sym, take, ℕ, ◌++◌, ◌+◌, ◌∙◌, ◌∷◌, ◌≡◌, ◌⊎◌}
 use Rattle.opl_reader.specs.declared.object.Object.{Object}
-use Rattle.osm_cli.proofs.Answered.{beyond, within}
-use Rattle.osm_cli.specs.declared.ended.InputFault.{InputFault}
-use Rattle.osm_cli.specs.declared.reading.ReadError.{ReadError}
-use Rattle.osm_cli.specs.declared.reading.ReadError.TheVariants.{BadInput, OutOfMemory, ReadFault, TooMuchInput}
-use Rattle.osm_cli.specs.Input.{AreGood, IsBadPlace, line_fault, objects_told}
-use Rattle.osm_cli.specs.Lines.{lines_begun, lines_of}
-use Rattle.osm_cli.specs.Reading.{IsReadAs, lines_counted}
+use Rattle.osm_input.specs.declared.fault.InputFault.{InputFault}
+use Rattle.osm_input.specs.declared.reading.ReadError.{ReadError}
+use Rattle.osm_input.specs.declared.reading.ReadError.TheVariants.{BadInput, OutOfMemory, ReadFault, TooMuchInput}
+use Rattle.osm_input.specs.Input.{AreGood, IsBadPlace, line_fault, objects_told}
+use Rattle.opl_reader.specs.Lines.{lines_of}
+use Rattle.osm_input.specs.Lines.{lines_begun}
+use Rattle.osm_input.specs.Laws.{LinesCount}
+use Rattle.osm_input.specs.Reading.{IsReadAs, lines_counted}
 use Rattle.one_ring_list.proofs.CyclicLists.{Overlap, overlap}
 
 some-one : {X : Type 0} (x y : X) → Some x ≡ Some y → x ≡ y
@@ -49,15 +50,15 @@ bad-by longest lines n m f g p q (inr o) =
 pub bad-one : (longest : ℕ) (lines : List (List ℕ)) (n m : ℕ) (f g : InputFault) → IsBadPlace longest lines n f → IsBadPlace longest lines m g → (n ≡ m) × (f ≡ g)
 bad-one longest lines n m f g p q = bad-by longest lines n m f g p q (overlap p.before (p.line ∷ p.after) q.before (q.line ∷ q.after) (sym p.parted ∙ q.parted))
 
-module _ (limit longest : ℕ) (bytes : List ℕ) where
+module _ (count : LinesCount) (limit longest : ℕ) (bytes : List ℕ) where
   abbrev Reads : Result (List Object) ReadError → Type 0
   Reads r = IsReadAs limit longest bytes r
 
   ok-bad : (objects : List Object) (n : ℕ) (f : InputFault) → Reads (Ok objects) → Reads (Err (BadInput n f)) → ⊥
-  ok-bad objects n f s t = good-not-bad longest (lines_of bytes) n f s.1 (subst (λ l. IsBadPlace longest l n f) (within limit longest bytes s.0) t)
+  ok-bad objects n f s t = good-not-bad longest (lines_of bytes) n f s.1 (subst (λ l. IsBadPlace longest l n f) ((count limit longest bytes).within s.0) t)
 
   many-bad : (most n : ℕ) (f : InputFault) → Reads (Err (TooMuchInput most)) → Reads (Err (BadInput n f)) → ⊥
-  many-bad most n f s t = good-not-bad longest (lines_begun longest (take limit bytes)) n f s.2 (subst (λ l. IsBadPlace longest l n f) (beyond limit longest bytes s.1) t)
+  many-bad most n f s t = good-not-bad longest (lines_begun longest (take limit bytes)) n f s.2 (subst (λ l. IsBadPlace longest l n f) ((count limit longest bytes).beyond s.1) t)
 
   ok-many : (objects : List Object) (most : ℕ) → Reads (Ok objects) → Reads (Err (TooMuchInput most)) → ⊥
   ok-many objects most s t = let a = s.0 in let b = t.1 in absurd (omega arith)

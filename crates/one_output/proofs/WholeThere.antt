@@ -2,21 +2,22 @@
 use Rattle.std.proofs.Common.{Err, List, None, Ok, Option, Result, Some, [], ap, inl, inr, length, refl, subst, sym, take, ℕ, ◌++◌, ◌+◌, ◌<◌, ◌≤◌, ◌∙◌, ◌∷◌, ◌≡◌, ◌⊎◌}
 use Rattle.std.proofs.lemmas.Bool.{cases_lt}
 use Rattle.opl_reader.specs.declared.object.Object.{Object}
-use Rattle.osm_area.specs.Outcome.{OutcomeExists}
-use Rattle.osm_objects.specs.Candidates.{candidates}
-use Rattle.osm_text.specs.Report.{ProblemLineExists}
-use Rattle.osm_words.specs.Job.{ExportSettings, Job, export}
-use Rattle.osm_cli.specs.declared.ended.InputFault.{InputFault}
-use Rattle.osm_cli.specs.declared.reading.ReadError.{ReadError}
-use Rattle.osm_cli.specs.declared.reading.ReadError.TheVariants.{BadInput, TooMuchInput}
-use Rattle.osm_cli.specs.Input.{AreGood, IsBadPlace, line_fault, objects_told}
-use Rattle.osm_cli.specs.Job.{Texts, inputs_of}
-use Rattle.osm_cli.specs.Lines.{lines_begun, lines_of}
-use Rattle.osm_cli.specs.Reading.{IsReadAs}
-use Rattle.osm_cli.specs.Whole.{IsAfter, IsExport, IsReadThen, IsWhole, Whole, finished, finished_whole, input_limit, longest_line, read_ended, silent, stopped, stopped_whole}
+use Rattle.osm_words.specs.Job.{Job, export}
+use Rattle.osm_input.specs.declared.fault.InputFault.{InputFault}
+use Rattle.osm_input.specs.declared.reading.ReadError.{ReadError}
+use Rattle.osm_input.specs.declared.reading.ReadError.TheVariants.{BadInput, TooMuchInput}
+use Rattle.osm_input.specs.Input.{AreGood, IsBadPlace, line_fault, objects_told}
+use Rattle.osm_job.specs.Texts.{Texts}
+use Rattle.osm_cli.specs.Job.{inputs_of}
+use Rattle.opl_reader.specs.Lines.{lines_of}
+use Rattle.osm_input.specs.Lines.{lines_begun}
+use Rattle.osm_input.specs.Laws.{LinesCount}
+use Rattle.osm_input.specs.Reading.{IsReadAs}
+use Rattle.osm_job.specs.Whole.{IsAfter, IsReadThen, Whole, input_limit, longest_line, read_ended, silent}
+use Rattle.job_export.specs.Export.{IsExport}
+use Rattle.job_export.specs.Laws.{ExportExists}
+use Rattle.osm_cli.specs.Whole.{IsWhole}
 use Rattle.one_ring_list.proofs.CyclicLists.{Overlap, overlap}
-use Rattle.osm_cli.proofs.Answered.{beyond, within}
-use Rattle.osm_cli.proofs.Entries.{Rest, all_go, one_stops, rest_exists}
 
 append-nil : (xs : List (List ℕ)) → xs ++ [] ≡ xs
 append-nil [] = refl
@@ -70,17 +71,17 @@ module _ (longest : ℕ) where
   judged lines = judge [] lines none-good
 
 -- ---- an input is read as something
-module _ (limit longest : ℕ) (bytes : List ℕ) where
+module _ (count : LinesCount) (limit longest : ℕ) (bytes : List ℕ) where
   abbrev Found : Type 0
   Found = (r : Result (List Object) ReadError) × IsReadAs limit longest bytes r
 
   few-read : length bytes ≤ limit → Judged longest (lines_of bytes) → Found
   few-read h (inl good) = (Ok (objects_told (lines_of bytes)), (h, good, refl))
-  few-read h (inr bad) = (Err (BadInput bad.0 bad.1), subst (λ l. IsBadPlace longest l bad.0 bad.1) (sym (within limit longest bytes h)) bad.2)
+  few-read h (inr bad) = (Err (BadInput bad.0 bad.1), subst (λ l. IsBadPlace longest l bad.0 bad.1) (sym ((count limit longest bytes).within h)) bad.2)
 
   many-read : limit < length bytes → Judged longest (lines_begun longest (take limit bytes)) → Found
   many-read h (inl good) = (Err (TooMuchInput limit), (refl, h, good))
-  many-read h (inr bad) = (Err (BadInput bad.0 bad.1), subst (λ l. IsBadPlace longest l bad.0 bad.1) (sym (beyond limit longest bytes h)) bad.2)
+  many-read h (inr bad) = (Err (BadInput bad.0 bad.1), subst (λ l. IsBadPlace longest l bad.0 bad.1) (sym ((count limit longest bytes).beyond h)) bad.2)
 
   read-by : (limit < length bytes) ⊎ (length bytes ≤ limit) → Found
   read-by (inl h) = many-read h (judged longest (lines_begun longest (take limit bytes)))
@@ -92,24 +93,17 @@ module _ (limit longest : ℕ) (bytes : List ℕ) where
 -- ---- a whole
 
 -- there is one over the bytes of an input, where there is one over its objects
-module _ (IsRight : List Object → Whole → Type 0) (there : (objects : List Object) → (w : Whole) × IsRight objects w) where
+module _ (count : LinesCount) (IsRight : List Object → Whole → Type 0) (there : (objects : List Object) → (w : Whole) × IsRight objects w) where
   after-there : (r : Result (List Object) ReadError) → (w : Whole) × IsAfter IsRight r w
   after-there (Ok objects) = there objects
   after-there (Err e) = (silent (read_ended e), refl)
 
   pub then-there : (bytes : List ℕ) → (w : Whole) × IsReadThen IsRight bytes w
   then-there bytes =
-      let r = read-there input_limit longest_line bytes in
+      let r = read-there count input_limit longest_line bytes in
       let w = after-there r.0 in
       (w.0, record { read = r.0; is_read = r.1; after = w.1 })
 
-module _ (outcomes : OutcomeExists) (lines : ProblemLineExists) where
-  export-by : (settings : ExportSettings) (objects : List Object) → Rest settings objects (candidates settings.keep_untagged objects) → (w : Whole) × IsExport settings objects w
-  export-by settings objects (all_go es are) = (finished_whole settings objects es, finished es are.in_order are.right are.go_on refl)
-  export-by settings objects (one_stops es last at) = (stopped_whole settings objects es last, stopped es last at.later at.stops at.in_order at.right at.last_right at.areas at.problems refl)
-
-  export-there : (settings : ExportSettings) (objects : List Object) → (w : Whole) × IsExport settings objects w
-  export-there settings objects = export-by settings objects (rest_exists outcomes lines settings objects (candidates settings.keep_untagged objects))
-
+module _ (count : LinesCount) (export_exists : ExportExists) where
   pub whole-there : (job : Job) (texts : Texts (inputs_of job)) → (w : Whole) × IsWhole job texts w
-  whole-there (export settings) texts = then-there (IsExport settings) (export-there settings) texts.0
+  whole-there (export settings) texts = then-there count (IsExport settings) (export_exists settings) texts.0

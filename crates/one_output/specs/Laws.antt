@@ -4,14 +4,18 @@ use Rattle.opl_reader.specs.declared.object.Object.{Object}
 use Rattle.osm_words.specs.Job.{ExportSettings, Job}
 use Rattle.osm_words.specs.declared.fault.WordsFault.{WordsFault}
 use Rattle.osm_host.specs.Outside.{Outside}
-use Rattle.osm_cli.specs.Cause.{cause_of}
-use Rattle.osm_cli.specs.Entry.{Entry, IsEntry}
-use Rattle.osm_cli.specs.Job.{Texts, inputs_of}
-use Rattle.osm_cli.specs.Reading.{IsReadAs}
-use Rattle.osm_cli.specs.Run.{IsFront, Writes}
-use Rattle.osm_cli.specs.Whole.{IsExport, IsWhole, Whole, input_limit, longest_line}
-use Rattle.osm_cli.specs.declared.ended.Ended.{Ended}
-use Rattle.osm_cli.specs.declared.reading.ReadError.{ReadError}
+use Rattle.osm_job.specs.Cause.{cause_of}
+use Rattle.job_export.specs.Entry.{Entry, IsEntry}
+use Rattle.osm_job.specs.Texts.{Texts}
+use Rattle.osm_cli.specs.Job.{inputs_of}
+use Rattle.osm_input.specs.Reading.{IsReadAs}
+use Rattle.osm_job.specs.Prefix.{IsPrefix}
+use Rattle.osm_cli.specs.Run.{Writes}
+use Rattle.osm_job.specs.Whole.{Whole, input_limit, longest_line}
+use Rattle.job_export.specs.Export.{IsExport}
+use Rattle.osm_cli.specs.Whole.{IsWhole}
+use Rattle.osm_job.specs.declared.ended.Ended.{Ended}
+use Rattle.osm_input.specs.declared.reading.ReadError.{ReadError}
 use Rattle.one_output.specs.Right.{AllRunsKeepTo, AreTold, IsRight, TextsOf, is_unbroken}
 
 -- an input is read as one thing alone
@@ -87,4 +91,4 @@ RunsDontPart =
     (ended : Ended) (before after : Outside) (run : Writes words ended before after)
     (ended_2 : Ended) (before_2 after_2 : Outside) (run_2 : Writes words ended_2 before_2 after_2) →
     AreTold before words texts → AreTold before_2 words texts →
-    IsFront run.written run_2.written ⊎ IsFront run_2.written run.written
+    IsPrefix run.written run_2.written ⊎ IsPrefix run_2.written run.written

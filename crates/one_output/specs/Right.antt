@@ -3,13 +3,16 @@ use Rattle.std.specs.Prelude.{Bool, Err, List, Ok, Result, Some, false, true, �
 use Rattle.osm_host.specs.Outside.{Outside}
 use Rattle.osm_words.specs.Job.{Job}
 use Rattle.osm_words.specs.declared.fault.WordsFault.{WordsFault}
-use Rattle.osm_cli.specs.Cause.{Cause, by_input, by_itself, by_memory, by_open, by_read, by_words, by_write, cause_of}
-use Rattle.osm_cli.specs.Job.{Texts, inputs_of, told_texts}
-use Rattle.osm_cli.specs.Run.{IsFront, Writes}
-use Rattle.osm_cli.specs.Sent.{Sent}
-use Rattle.osm_cli.specs.Whole.{IsWhole, Whole, silent}
-use Rattle.osm_cli.specs.declared.ended.Ended.{Ended}
-use Rattle.osm_cli.specs.declared.ended.Ended.TheVariants.{BadWords}
+use Rattle.osm_job.specs.Cause.{Cause, by_input, by_itself, by_memory, by_open, by_read, by_words, by_write, cause_of}
+use Rattle.osm_job.specs.Texts.{Texts, told_texts}
+use Rattle.osm_cli.specs.Job.{inputs_of}
+use Rattle.osm_job.specs.Prefix.{IsPrefix}
+use Rattle.osm_cli.specs.Run.{Writes}
+use Rattle.osm_job.specs.Sent.{Sent}
+use Rattle.osm_job.specs.Whole.{Whole, silent}
+use Rattle.osm_cli.specs.Whole.{IsWhole}
+use Rattle.osm_job.specs.declared.ended.Ended.{Ended}
+use Rattle.osm_job.specs.declared.ended.Ended.TheVariants.{BadWords}
 
 -- a text for each input of the job that the words ask for; nothing where they are refused
 abbrev pub TextsOf : Result Job WordsFault → Type 0
@@ -39,7 +42,7 @@ is_unbroken by_memory = false
 -- a prefix of the whole was written, and unless the host or memory failed all of it, and the run
 -- ended as is right; only the last line of the report comes after it, which the ending tells
 pub record KeepsTo (whole : Whole) (ended : Ended) (written : List Sent) : Type 0 where
-  pub front : IsFront written whole.written
+  pub front : IsPrefix written whole.written
   pub all : is_unbroken (cause_of ended) ≡ true → (written ≡ whole.written) × (ended ≡ whole.ended)
 
 -- every run with these words over these texts, on whatever host that tells them, keeps to the whole

@@ -7,8 +7,8 @@
 
 ghost use Rattle.one_output.specs.Laws.{EntryIsOne, ExportIsOne, ObjectsTellTheWhole, ReadingIsOne, RunsAgree, RunsDontPart, RunsKeepToTheWhole, WholeIsOne};
 
-use osm_area::outcome_exists;
-use osm_text::problem_line_exists;
+use job_export::export_exists;
+use osm_input::limit_decides_the_lines;
 
 /// What is right for a job over the texts of its inputs is one list of what is written, and one
 /// ending, alone: each text is read as one thing, and each candidate adds one thing. It depends on
@@ -19,15 +19,19 @@ pub fn whole_is_one()
     ensures export { ExportIsOne }
     ensures whole { WholeIsOne }
     ensures objects { ObjectsTellTheWhole }
-{}
+{
+    // By law: the limit decides which lines count.
+    limit_decides_the_lines();
+}
 
 /// For each words and texts of their inputs there is exactly one right output, report and ending;
 /// and whatever a run writes is a prefix of it, and all of it unless the host or memory failed.
 pub fn runs_keep_to_the_whole()
     ensures { RunsKeepToTheWhole }
 {
-    outcome_exists();
-    problem_line_exists();
+    // By law: the limit decides which lines count, and an export of any objects has a whole.
+    limit_decides_the_lines();
+    export_exists();
 }
 
 /// Two runs with the same words over the same texts, on whatever hosts, write the same and end
@@ -37,6 +41,7 @@ pub fn runs_agree()
     ensures same { RunsAgree }
     ensures fronts { RunsDontPart }
 {
-    outcome_exists();
-    problem_line_exists();
+    // By law: the limit decides which lines count, and an export of any objects has a whole.
+    limit_decides_the_lines();
+    export_exists();
 }

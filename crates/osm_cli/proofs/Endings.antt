@@ -2,24 +2,31 @@
 use Rattle.osm_host.specs.declared.host.Failed.{Failed}
 use Rattle.std.proofs.Common.{◌≡◌, ◌∙◌, refl, ap, subst, ◌<◌, ℕ, List, length, take, arith, OnOk, OnErr, inl, inr, Option, None, Some, IfSome, Result, Ok, Err}
 use Rattle.osm_host.specs.Outside.{Outside, appended, risen, Counts, HasRisen, OnlyWritesReport}
-use Rattle.osm_host.proofs.Streams.{appended_twice}
+use Rattle.osm_host.specs.Laws.{StreamsAppend}
 use Rattle.osm_words.specs.declared.fault.WordsFault.{WordsFault}
-use Rattle.osm_cli.specs.declared.ended.Ended.{Ended}
-use Rattle.osm_cli.specs.declared.ended.Ended.TheVariants.{Done, BadWords, BadInput, Stopped, TooMuchInput, OpenFault, ReadFault, WriteFault, OutOfMemory}
+use Rattle.osm_job.specs.declared.ended.Ended.{Ended}
+use Rattle.osm_job.specs.declared.ended.Ended.TheVariants.{Done, BadWords, BadInput, Stopped, TooMuchInput, OpenFault, ReadFault, WriteFault, OutOfMemory}
 use Rattle.osm_words.specs.Job.{Job}
-use Rattle.osm_cli.specs.Cause.{Cause, by_itself, by_words, by_input, by_open, by_read, by_write, by_memory, cause_of}
-use Rattle.osm_cli.specs.Faults.{LastReadFailed, NoneOrLastReadFailed, ReadsFailed, NoFault}
-use Rattle.osm_cli.specs.Job.{Texts, inputs_of}
+use Rattle.osm_job.specs.Cause.{Cause, by_itself, by_words, by_input, by_open, by_read, by_write, by_memory, cause_of}
+use Rattle.osm_input.specs.ReadFaults.{LastReadFailed, NoneOrLastReadFailed}
+use Rattle.osm_job.specs.Faults.{ReadsFailed, NoFault, CountsFaults}
+use Rattle.osm_job.specs.Texts.{Texts}
+use Rattle.osm_cli.specs.Job.{TookAll, inputs_of}
 use Rattle.osm_cli.specs.LastLine.{last_line}
-use Rattle.osm_cli.specs.Sent.{Sent, report_of}
-use Rattle.osm_cli.specs.Whole.{Whole, IsWhole}
-use Rattle.osm_cli.specs.Run.{IsFront, WroteAll, IsLastLine, stands, is_cut, Writes, JudgesInput, Opens, CountsFaults, read_error, Completes, Ran}
+use Rattle.osm_job.specs.Sent.{Sent, report_of}
+use Rattle.osm_job.specs.Whole.{Whole}
+use Rattle.osm_cli.specs.Whole.{IsWhole}
+use Rattle.osm_job.specs.Prefix.{IsPrefix}
+use Rattle.osm_job.specs.Written.{WroteAll}
+use Rattle.osm_job.specs.Taken.{read_error}
+use Rattle.osm_cli.specs.Run.{IsLastLine, stands, is_cut, Writes, JudgesInput, Opens, Completes, Ran}
 use Rattle.osm_cli.specs.RunSteps.{Works}
-use Rattle.osm_cli.proofs.Keeping.{keeps_both, write_keeps}
-use Rattle.osm_cli.proofs.Taken.{all_kept, taken_kept, stopped_kept}
-use Rattle.osm_cli.proofs.Writes.{take_is_front}
+use Rattle.osm_job.proofs.Keeping.{keeps_both, write_keeps}
+use Rattle.osm_job.proofs.Taken.{taken_kept, stopped_kept}
+use Rattle.osm_cli.proofs.Jobs.{all_kept}
+use Rattle.osm_job.proofs.Prefixes.{take_is_prefix}
 
-module _ (words : Result Job WordsFault) (ended : Ended) (before middle now : Outside) (works : Works words ended before middle) (only : OnlyWritesReport middle now) where
+module _ (law : StreamsAppend) (words : Result Job WordsFault) (ended : Ended) (before middle now : Outside) (works : Works words ended before middle) (only : OnlyWritesReport middle now) where
   -- the last line or a prefix of it stands behind what was reported
   writes : (line : List ℕ) (r : Result (Unit {0}) Failed) → line ≡ last_line ended → OnOk r (now.report ≡ appended middle.report line) →
       OnErr r ((n : ℕ) × (now.report ≡ appended middle.report (take n line))) → OnErr r (0 < length line) → Counts middle.write_faults now.write_faults r → Writes words ended before now
@@ -27,7 +34,7 @@ module _ (words : Result Job WordsFault) (ended : Ended) (before middle now : Ou
     written = works.written;
     last = line;
     out = only.out ∙ works.out;
-    report = all ∙ ap (λ (o : Option (List ℕ)). appended o line) works.report ∙ appended_twice before.report (report_of works.written) line;
+    report = all ∙ ap (λ (o : Option (List ℕ)). appended o line) works.report ∙ law.bytes before.report (report_of works.written) line;
     right = works.right;
     line = stands is (counts.answered ∙ works.write_faults);
   }
@@ -35,9 +42,9 @@ module _ (words : Result Job WordsFault) (ended : Ended) (before middle now : Ou
     written = works.written;
     last = take front.0 line;
     out = only.out ∙ works.out;
-    report = front.1 ∙ ap (λ (o : Option (List ℕ)). appended o (take front.0 line)) works.report ∙ appended_twice before.report (report_of works.written) (take front.0 line);
+    report = front.1 ∙ ap (λ (o : Option (List ℕ)). appended o (take front.0 line)) works.report ∙ law.bytes before.report (report_of works.written) (take front.0 line);
     right = works.right;
-    line = is_cut (subst (λ (xs : List ℕ). IsFront (take front.0 line) xs) is (take_is_front front.0 line)) (subst (λ (xs : List ℕ). 0 < length xs) is some) (counts.failed ∙ ap risen works.write_faults);
+    line = is_cut (subst (λ (xs : List ℕ). IsPrefix (take front.0 line) xs) is (take_is_prefix front.0 line)) (subst (λ (xs : List ℕ). 0 < length xs) is some) (counts.failed ∙ ap risen works.write_faults);
   }
 
 opens_so_far : (words : Result Job WordsFault) (cause : Cause) (before middle now : Outside) → OnlyWritesReport middle now → Opens words cause before middle → Opens words cause before now
@@ -45,15 +52,15 @@ opens_so_far (Err fault) cause before middle now only opens = only.opens ∙ ope
 opens_so_far (Ok job) by_itself before middle now only opens = only.opens ∙ opens
 opens_so_far (Ok job) by_words before middle now only opens = opens
 opens_so_far (Ok job) by_input before middle now only opens = (opens.0, opens.1, opens.2, only.opens ∙ opens.3)
-opens_so_far (Ok job) by_open before middle now only opens = (opens.0, (only.opens ∙ opens.1.0, λ more. all_kept middle now only.left only.bytes_read before job (opens.1.1 more)))
+opens_so_far (Ok job) by_open before middle now only opens = (opens.0, (only.opens ∙ opens.1.0, λ more. all_kept job before middle now only.left only.bytes_read (opens.1.1 more)))
 opens_so_far (Ok job) by_read before middle now only opens = (opens.0, opens.1, opens.2, only.opens ∙ opens.3)
 opens_so_far (Ok job) by_write before middle now only opens = only.opens ∙ opens
-opens_so_far (Ok job) by_memory before middle now only opens = (opens.0, (only.opens ∙ opens.1.0, λ more. all_kept middle now only.left only.bytes_read before job (opens.1.1 more)))
+opens_so_far (Ok job) by_memory before middle now only opens = (opens.0, (only.opens ∙ opens.1.0, λ more. all_kept job before middle now only.left only.bytes_read (opens.1.1 more)))
 
 input_so_far : (words : Result Job WordsFault) (ended : Ended) (before middle now : Outside) → OnlyWritesReport middle now → JudgesInput words ended before middle → JudgesInput words ended before now
 input_so_far (Err fault) ended before middle now only input = (only.left ∙ input.0, only.bytes_read ∙ input.1)
 input_so_far (Ok job) ended before middle now only input =
-    (stopped_kept middle now only.left only.bytes_read before job (read_error ended) only.opens input.0, taken_kept middle now only.left only.bytes_read before (cause_of ended) job input.1)
+    (stopped_kept middle now only.left only.bytes_read before (inputs_of job) (read_error ended) only.opens input.0, taken_kept (TookAll job) before middle now (all_kept job before middle now only.left only.bytes_read) (cause_of ended) input.1)
 
 last_still : (before middle now : Outside) → now.read_faults ≡ middle.read_faults → now.read_failed ≡ middle.read_failed → NoneOrLastReadFailed before middle → NoneOrLastReadFailed before now
 last_still before middle now same failed (inl none) = inl (same ∙ none)
@@ -76,7 +83,7 @@ faults_still ended before middle now only faults = record {
   reads = reads_still ended before middle now only.read_faults only.read_failed faults.reads;
 }
 
-whole_of_all : (job : Job) (told : Option (Texts (inputs_of job))) (ended : Ended) (written : List Sent) → WroteAll job told ended written → IfSome told (λ texts. (whole : Whole) × IsWhole job texts whole × (ended ≡ whole.ended))
+whole_of_all : (job : Job) (told : Option (Texts (inputs_of job))) (ended : Ended) (written : List Sent) → WroteAll (IsWhole job) told ended written → IfSome told (λ texts. (whole : Whole) × IsWhole job texts whole × (ended ≡ whole.ended))
 whole_of_all job None ended written wrote = tt
 whole_of_all job (Some texts) ended written wrote = (record { written = written; ended = ended }, wrote, refl)
 
@@ -99,10 +106,10 @@ completes (Ok job) OutOfMemory before now writes faults none = inl refl
 
 -- ---- the whole run
 
-pub ran : (words : Result Job WordsFault) (ended : Ended) (before middle now : Outside) → Works words ended before middle → OnlyWritesReport middle now → (line : List ℕ) (r : Result (Unit {0}) Failed) → line ≡ last_line ended →
+pub ran : (law : StreamsAppend) (words : Result Job WordsFault) (ended : Ended) (before middle now : Outside) → Works words ended before middle → OnlyWritesReport middle now → (line : List ℕ) (r : Result (Unit {0}) Failed) → line ≡ last_line ended →
     OnOk r (now.report ≡ appended middle.report line) → OnErr r ((n : ℕ) × (now.report ≡ appended middle.report (take n line))) → OnErr r (0 < length line) → Counts middle.write_faults now.write_faults r → Ran words ended before now
-ran words ended before middle now works only line r is all front some counts =
-    let wrote : Writes words ended before now = writes words ended before middle now works only line r is all front some counts in
+ran law words ended before middle now works only line r is all front some counts =
+    let wrote : Writes words ended before now = writes law words ended before middle now works only line r is all front some counts in
     let faults : CountsFaults ended before now = faults_still ended before middle now only works.faults in
     record {
       writes = wrote;

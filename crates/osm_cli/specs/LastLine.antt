@@ -7,10 +7,10 @@ use Rattle.opl_reader.specs.declared.object.ObjectKind.TheVariants.{Node, Way, R
 use Rattle.opl_reader.specs.Fault.{text_of}
 use Rattle.osm_words.specs.declared.fault.WordsFault.{WordsFault}
 use Rattle.osm_words.specs.declared.fault.WordsFault.TheVariants.{NoCommand, UnknownCommand, Refused, OutOfRange}
-use Rattle.osm_cli.specs.declared.ended.InputFault.{InputFault}
-use Rattle.osm_cli.specs.declared.ended.InputFault.TheVariants.{Line, TooLong, Duplicate}
-use Rattle.osm_cli.specs.declared.ended.Ended.{Ended}
-use Rattle.osm_cli.specs.declared.ended.Ended.TheVariants.{Done, BadWords, BadInput, Stopped, TooMuchInput, OpenFault, ReadFault, WriteFault, OutOfMemory}
+use Rattle.osm_input.specs.declared.fault.InputFault.{InputFault}
+use Rattle.osm_input.specs.declared.fault.InputFault.TheVariants.{Line, TooLong, Duplicate}
+use Rattle.osm_job.specs.declared.ended.Ended.{Ended}
+use Rattle.osm_job.specs.declared.ended.Ended.TheVariants.{Done, BadWords, BadInput, Stopped, TooMuchInput, OpenFault, ReadFault, WriteFault, OutOfMemory}
 
 abbrev pub words_line : WordsFault → List ℕ
 words_line NoCommand = codes "osmpoly: no command\n"

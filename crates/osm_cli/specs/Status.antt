@@ -4,8 +4,8 @@ use Rattle.osm_host.specs.Outside.{Outside}
 use Rattle.osm_words.specs.Words.{command_named, job_asked}
 use Rattle.osm_words.specs.declared.words.Command.{Command}
 use Rattle.osm_words.specs.declared.words.Command.TheVariants.{Export, Unknown}
-use Rattle.osm_cli.specs.declared.ended.Ended.{Ended}
-use Rattle.osm_cli.specs.declared.ended.Ended.TheVariants.{Done, BadWords, BadInput, Stopped, TooMuchInput, OpenFault, ReadFault, WriteFault, OutOfMemory}
+use Rattle.osm_job.specs.declared.ended.Ended.{Ended}
+use Rattle.osm_job.specs.declared.ended.Ended.TheVariants.{Done, BadWords, BadInput, Stopped, TooMuchInput, OpenFault, ReadFault, WriteFault, OutOfMemory}
 use Rattle.osm_cli.specs.Run.{Ran}
 
 -- of `export`, and of words that name no command

@@ -2,12 +2,13 @@
 
 ghost use Rattle.std.specs.Prelude.{◌≡◌, ◌≤◌, length};
 ghost use Rattle.osm_words.specs.declared.fault.WordsFault.TheVariants.{OutOfRange};
-ghost use Rattle.osm_cli.specs.declared.ended.Ended.TheVariants.{Stopped};
+ghost use Rattle.osm_job.specs.declared.ended.Ended.TheVariants.{Stopped};
 ghost use Rattle.osm_cli.specs.LastLine.{last_line, fault_line, line_begun, bad_line, again_line, kind_word, words_line};
 
-use crate::ended::{Ended, InputFault};
-use crate::line::Line;
+use crate::fixed_line::Line;
 use opl_reader::{LineFault, ObjectKind, ObjectRef, fault_text};
+use osm_input::InputFault;
+use osm_job::Ended;
 use osm_words::WordsFault;
 
 /// The last line of a run that ended so; empty where no such line is written. It takes no memory.

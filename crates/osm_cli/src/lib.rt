@@ -1,18 +1,13 @@
-//! The words of a command line, and the run that they ask for.
+//! The run that the words of a command line ask for: its job, the last line of its report, and the status of the process.
 #![tactic(auto)]
 
-mod ended;
-mod entry;
-mod export;
-mod framing;
-mod gather;
+mod fixed_line;
 mod last_line;
-mod line;
-mod reading;
 mod running;
-mod writing;
+mod statuses;
 
-pub use ended::{Ended, InputFault, status};
+pub use osm_input::{InputFault, ReadError, read_all};
+pub use osm_job::Ended;
 pub use osm_words::{Command, WordsFault, command_of};
-pub use reading::{ReadError, read_all};
 pub use running::{run, run_for_status};
+pub use statuses::status;

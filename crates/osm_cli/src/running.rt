@@ -4,17 +4,18 @@ ghost use Rattle.std.specs.Prelude.{◌≡◌, ℕ, List, Ok, map, string_bytes}
 ghost use Rattle.osm_cli.specs.Run.{Ran};
 ghost use Rattle.osm_cli.specs.RunSteps.{Works, words_ended};
 ghost use Rattle.osm_cli.specs.Status.{EndsWith};
-ghost use Rattle.osm_words.specs.Answers.{job_seen};
+ghost use Rattle.osm_words.specs.Answers.{job_seen, settings_seen};
 ghost use Rattle.osm_words.specs.Job.{export};
 ghost use Rattle.osm_words.specs.PlainExport.{ArePlain, ExportOption, export_words, said};
 ghost use Rattle.osm_words.specs.PlainWords.{Form};
 ghost use Rattle.osm_words.specs.Words.{job_asked};
 
-use crate::ended::{Ended, status};
-use crate::export::export;
 use crate::last_line::last_line;
-use osm_host::{Host, write_all_report};
-use osm_words::{Job, WordsError, command_of, job_of, plain_words_are_taken};
+use crate::statuses::status;
+use job_export::export;
+use osm_host::{Host, streams_append, write_all_report};
+use osm_job::Ended;
+use osm_words::{ExportSettings, Job, WordsError, command_of, job_of, plain_words_are_taken};
 use std::alloc::Global;
 
 /// Does what the words behind the program's name ask for, and answers how it ended.
@@ -27,7 +28,9 @@ pub fn run<H: Host>(alloc: Global, words: &[String], host: &mut H) -> Ended
         → map string_bytes words.now ≡ export_words options file
         → job_asked (map string_bytes words.now) ≡ Ok (export (said options file)) }
 {
+    // By law: plain words ask for what they say, and what is reported adds up in turn.
     plain_words_are_taken();
+    streams_append();
     let ended = work(alloc, words, host);
     let line = last_line(&ended);
     let _ = write_all_report(host, line.as_slice());
@@ -46,6 +49,8 @@ pub fn run_for_status<H: Host>(alloc: Global, words: &[String], host: &mut H) ->
 fn work<H: Host>(alloc: Global, words: &[String], host: &mut H) -> Ended
     ensures { Works (job_asked (map string_bytes words.now)) result (H.seen host.old) (H.seen host.new) }
 {
+    // By law: nothing more is nothing changed.
+    streams_append();
     match job_of(alloc, words) {
         Ok(job) => work_on(alloc, &job, host),
         Err(error) => words_ended(error),
@@ -57,8 +62,15 @@ fn work_on<H: Host>(alloc: Global, job: &Job<'_>, host: &mut H) -> Ended
     ensures { Works (Ok (job_seen job.now)) result (H.seen host.old) (H.seen host.new) }
 {
     match job {
-        Job::Export(settings) => export(alloc, settings, host),
+        Job::Export(settings) => run_export(alloc, settings, host),
     }
+}
+
+/// As `export`, of which it says what it is for a run.
+fn run_export<H: Host>(alloc: Global, settings: &ExportSettings<'_>, host: &mut H) -> Ended
+    ensures { Works (Ok (export (settings_seen settings.now))) result (H.seen host.old) (H.seen host.new) }
+{
+    export(alloc, settings, host)
 }
 
 /// How a run ends whose words aren't taken.

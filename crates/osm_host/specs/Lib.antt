@@ -1,3 +1,4 @@
+pub mod Laws
 pub mod Memory
 pub mod MemoryHost
 pub mod Names

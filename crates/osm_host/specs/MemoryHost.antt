@@ -1,4 +1,4 @@
--- How a host over memory keeps what it means, and what holds of its lists.
+-- How a host over memory keeps what it means, and what holds of its lists. No public contract cites it.
 use Rattle.std.specs.Prelude.{◌≡◌, ◌+◌, ◌≤◌, ◌<◌, ℕ, List, [], length, drop, Option, None, Some, IfSome, map, get_or, vec_len, vec_capacity, string_bytes}
 use Rattle.osm_host.specs.Memory.{Memory}
 use Rattle.osm_host.specs.Names.{pair_of}

@@ -1,4 +1,4 @@
--- How a host over memory keeps its inputs.
+-- How a host over memory keeps its inputs. No public contract cites it.
 use Rattle.std.specs.Prelude.{ℕ, List, string_bytes}
 use Rattle.osm_host.specs.declared.names.NamedBytes.{NamedBytes}
 

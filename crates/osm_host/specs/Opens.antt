@@ -1,4 +1,4 @@
--- How a host over memory keeps its list of opens.
+-- How a host over memory keeps its list of opens. No public contract cites it.
 use Rattle.std.specs.Prelude.{◌+◌, ℕ, List, [], ◌∷◌, take, drop}
 use Rattle.osm_host.specs.Outside.{Opened, input, output}
 use Rattle.osm_host.specs.declared.opens.Entry.{Entry}

@@ -5,6 +5,7 @@
 #![tactic(auto)]
 
 mod host;
+mod laws;
 mod memory;
 mod names;
 mod opens;
@@ -14,6 +15,7 @@ mod tests;
 mod writing;
 
 pub use host::{Failed, Faults, Host};
+pub use laws::streams_append;
 pub use memory::MemoryHost;
 pub use standard::StdHost;
 pub use writing::{write_all_out, write_all_report};

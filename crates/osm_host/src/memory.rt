@@ -7,7 +7,7 @@ ghost use Rattle.osm_host.specs.Memory.{Memory, bytes_named, outside_of, is_list
 use crate::host::{Failed, Faults, Host, NO_FAULTS, note_fault};
 use crate::names::{NamedBytes, find, may_be_made};
 use crate::opens::{Entry, EntryKind, add_front, note_open};
-use std::alloc::{AllocError, Global};
+use std::alloc::{AllocError as OutOfMemory, Global};
 use std::marker::Model;
 
 /// A host over memory: named inputs, names of outputs that are there already, numbers of calls to fail, the most
@@ -92,7 +92,7 @@ impl MemoryHost {
     }
 
     /// Adds an input. Of two with one name the first counts.
-    pub fn add_input(&mut self, name: &str, bytes: &[u8]) -> Result<(), AllocError>
+    pub fn add_input(&mut self, name: &str, bytes: &[u8]) -> Result<(), OutOfMemory>
         ensures ok { OnOk result (self.new ≡ record self.old { inputs = self.old.inputs ++ (name.now, bytes.now) ∷ [] }) }
         ensures err { OnErr result (self.new ≡ self.old) }
     {
@@ -103,7 +103,7 @@ impl MemoryHost {
     }
 
     /// Adds the name of an output that is there already.
-    pub fn take_name(&mut self, name: &str) -> Result<(), AllocError>
+    pub fn take_name(&mut self, name: &str) -> Result<(), OutOfMemory>
         ensures ok { OnOk result (self.new ≡ record self.old { taken = self.old.taken ++ name.now ∷ [] }) }
         ensures err { OnErr result (self.new ≡ self.old) }
     {
@@ -113,7 +113,7 @@ impl MemoryHost {
     }
 
     /// Lets the call of this number fail, counted from 1.
-    pub fn fail_at(&mut self, call: u64) -> Result<(), AllocError>
+    pub fn fail_at(&mut self, call: u64) -> Result<(), OutOfMemory>
         ensures ok { OnOk result (self.new ≡ record self.old { fail = self.old.fail ++ call ∷ [] }) }
         ensures err { OnErr result (self.new ≡ self.old) }
     {
@@ -122,7 +122,7 @@ impl MemoryHost {
     }
 
     /// Makes room for so many bytes of names, output and report together, in place of the room before.
-    pub fn reserve(&mut self, bytes: usize) -> Result<(), AllocError>
+    pub fn reserve(&mut self, bytes: usize) -> Result<(), OutOfMemory>
         ensures ok { OnOk result (self.new ≡ record self.old { room = bytes }) }
         ensures err { OnErr result (self.new ≡ self.old) }
     {

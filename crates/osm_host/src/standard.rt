@@ -1,7 +1,6 @@
 //! The host over real files and standard streams. It tells nothing of what they hold.
 
 ghost use Rattle.std.specs.Prelude.{◌≡◌, None, false};
-ghost use Rattle.osm_host.specs.Outside.{Outside};
 
 use crate::host::{Failed, Faults, Host, NO_FAULTS, note_fault};
 use std::fs::{File, OpenOptions};

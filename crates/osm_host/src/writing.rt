@@ -1,7 +1,7 @@
 //! Whole pieces, by as many writes as they take.
 
 ghost use Rattle.std.specs.Prelude.{◌≡◌, ◌<◌, ◌≤◌, ◌++◌, ℕ, List, length, take, OnOk, OnErr};
-ghost use Rattle.osm_host.specs.Outside.{Outside, appended, Counts, OnlyWritesOut, OnlyWritesReport};
+ghost use Rattle.osm_host.specs.Outside.{appended, Counts, OnlyWritesOut, OnlyWritesReport};
 
 use crate::host::{Failed, Host};
 

@@ -1,11 +1,10 @@
 -- A command without subcommands, as it is built (`s`), takes the words over which its walk ends well, and finds what they gave. No public contract cites it.
-use Rattle.std.proofs.Common.{◌≡◌, ◌++◌, ◌∙◌, false, true, List, [], ◌∷◌, Option, Some, None, ap, ap₂}
+use Rattle.std.proofs.Common.{◌≡◌, ◌++◌, ◌∙◌, false, true, List, [], ◌∷◌, Option, Some, None, ap, ap₂, refl}
 use Rattle.std.specs.List.{fold}
 use Rattle.std.specs.Option.{option_map_or}
 use Rattle.std.specs.Prelude.{option_and_then, slice_get, if◌then◌else◌}
 use Rattle.std.specs.Str.{bytes_eq}
 use Rattle.std.proofs.lemmas.Slice.Eq.{bytes_eq-Decides}
-use Rattle.std.proofs.Common.{refl}
 use Rattle.clap.specs.Words.{Kinds, Row, Shape, Text, first_of}
 use Rattle.clap.specs.Kinds.{or_else}
 use Rattle.clap.specs.Facts.{explicit_source}

@@ -11,6 +11,7 @@ use Rattle.clap.specs.declared.builder.value_parser.Reading.TheVariants.{AsWritt
 use Rattle.clap.specs.declared.error.kind.ErrorKind.TheVariants.{ArgumentConflict}
 use Rattle.clap.specs.declared.parser.matches.ValueSource.TheVariants.{CommandLine}
 use Rattle.osm_words.specs.PlainWords.{Form, HavePlainValues, IsFileName, StandOnce, plain_words}
+use Rattle.std.proofs.lemmas.Bool.{or_parts}
 
 abbrev pub Pending : Type 0
 Pending = Option (Text × List Text)
@@ -186,10 +187,6 @@ fold_join : (f : Walk → Text → Walk) (start : Walk) (xs ys : List Text) → 
 fold_join f start [] ys = refl
 fold_join f start (x ∷ xs) ys = fold_join f (f start x) xs ys
 
-neither : (a b : Bool) → (a || b) ≡ false → (a ≡ false) × (b ≡ false)
-neither true b none = absurd (true≢false none)
-neither false b none = (refl, none)
-
 pub has_row_more : (id : Text) (rows : List Row) (r : Row) → has_row id rows ≡ false → bytes_eq r.id id ≡ false → has_row id (rows ++ r ∷ []) ≡ false
 has_row_more id [] r none other = ap (λ (b : Bool). b || false) other
 has_row_more id (x ∷ xs) r none other = go (bytes_eq x.id id) none (λ rest. has_row_more id xs r rest other)
@@ -227,7 +224,7 @@ module _ (s : Shape) (last : Text) (o : Options s last) where
       → list_any (λ other. bytes_eq (o.name_of c) (o.name_of other.1)) options ≡ false → AreNew (rows ++ row_of c ∷ []) options
   still_new c rows [] new once = tt
   still_new c rows (first ∷ others) new once =
-      let both = neither (bytes_eq (o.name_of c) (o.name_of first.1)) _ once in
+      let both = or_parts (bytes_eq (o.name_of c) (o.name_of first.1)) _ once in
       (has_row_more (o.name_of first.1) rows (row_of c) new.0 both.0, still_new c rows others new.1 both.1)
 
   all_new : (options : List (Form × o.Choice)) → AreNew [] options

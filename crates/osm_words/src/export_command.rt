@@ -5,7 +5,7 @@ ghost use Rattle.clap.specs.Words.{FailsBy, app_of, fault_of, found_of, matches_
 ghost use Rattle.osm_words.specs.ExportCommand.{export_app, file_rule, flag_rule, option_rule};
 
 use clap::{Arg, ArgAction, ArgMatches, Command, Error};
-use std::alloc::{AllocError, Global};
+use std::alloc::{AllocError as OutOfMemory, Global};
 
 /// An option with one value.
 fn option<'a>(alloc: Global, name: &'a str, letter: char, long: &'a str) -> Arg<'a>
@@ -40,7 +40,7 @@ fn file<'a>(alloc: Global) -> Arg<'a>
 }
 
 /// The command for which `clap` parses.
-fn export_command<'a>(alloc: Global) -> Result<Command<'a>, AllocError>
+fn export_command<'a>(alloc: Global) -> Result<Command<'a>, OutOfMemory>
     ensures { IfOk result (λ command. app_of command ≡ export_app) }
 {
     let command = Command::new(alloc, "export")

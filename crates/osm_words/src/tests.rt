@@ -4,11 +4,11 @@ use crate::{
     Command, ExportSettings, Format, Job, UniqueId, WordsError, WordsFault, command_of, job_of,
 };
 use clap::error::ErrorKind;
-use std::alloc::{AllocError, Global};
+use std::alloc::{AllocError as OutOfMemory, Global};
 use std::test::Fail;
 
 /// The words of a line; `''` stands for the empty word.
-fn words_of(alloc: Global, line: &str) -> Result<Vec<String>, AllocError> {
+fn words_of(alloc: Global, line: &str) -> Result<Vec<String>, OutOfMemory> {
     let mut words = Vec::new(alloc);
     for word in line.split_whitespace() {
         let word = if word == "''" { "" } else { word };

@@ -4,7 +4,7 @@ use Rattle.one_output.proofs.ExportOne.{export-one, objects-tell, whole-one}
 use Rattle.one_output.proofs.ReadingOne.{reading-one}
 
 pub returns-clause-reading : goal.returns-clause-reading
-returns-clause-reading c = reading-one
+returns-clause-reading c = reading-one c.limit_decides_the_lines.ensures
 
 pub returns-clause-entry : goal.returns-clause-entry
 returns-clause-entry c = entry-one
@@ -13,7 +13,7 @@ pub returns-clause-export : goal.returns-clause-export
 returns-clause-export c = export-one
 
 pub returns-clause-whole : goal.returns-clause-whole
-returns-clause-whole c = whole-one
+returns-clause-whole c = whole-one c.limit_decides_the_lines.ensures
 
 pub returns-clause-objects : goal.returns-clause-objects
-returns-clause-objects c = objects-tell
+returns-clause-objects c = objects-tell c.limit_decides_the_lines.ensures

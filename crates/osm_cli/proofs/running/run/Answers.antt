@@ -5,7 +5,7 @@ use Rattle.osm_cli.proofs.running.run.Goals as goal
 
 pub returns-clause-ran : goal.returns-clause-ran
 returns-clause-ran g c =
-    ran (job_asked (map string_bytes c.args.words.now)) c.work-ended.result (g.H.Host.seen c.args.host.now) (g.H.Host.seen c.work-ended.new.host) (g.H.Host.seen c.write_all_report.new.host)
+    ran c.streams_append.ensures (job_asked (map string_bytes c.args.words.now)) c.work-ended.result (g.H.Host.seen c.args.host.now) (g.H.Host.seen c.work-ended.new.host) (g.H.Host.seen c.write_all_report.new.host)
     c.work-ended.ensures c.write_all_report.ensures.rest c.as_slice.result.now c.write_all_report.result (c.as_slice.ensures ∙ c.last_line-line.ensures)
     c.write_all_report.ensures.all c.write_all_report.ensures.front c.write_all_report.ensures.some c.write_all_report.ensures.cause
 

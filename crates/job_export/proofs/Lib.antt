@@ -1,0 +1,5 @@
+mod Candidates
+mod Entries
+mod Exports
+mod ReportLines
+mod Wholes

@@ -1,0 +1,10 @@
+-- That an export of any objects has a whole, as a statement.
+use Rattle.std.specs.Prelude.{List}
+use Rattle.opl_reader.specs.declared.object.Object.{Object}
+use Rattle.osm_words.specs.Job.{ExportSettings}
+use Rattle.osm_job.specs.Whole.{Whole}
+use Rattle.job_export.specs.Export.{IsExport}
+
+-- for each settings and objects there is something that is right to be written
+abbrev pub ExportExists : Type 0
+ExportExists = (settings : ExportSettings) (objects : List Object) → (whole : Whole) × IsExport settings objects whole

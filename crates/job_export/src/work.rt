@@ -1,0 +1,155 @@
+//! The work: the areas of an input's candidates, each written as soon as it is assembled.
+
+ghost use Rattle.std.specs.Prelude.{◌≡◌, ◌+◌, ◌≤◌, All, IfOk, IsSome, Ok};
+ghost use Rattle.job_export.specs.ExportSteps.{WroteWhole, WroteCandidates, WroteCandidate, ended_by};
+ghost use Rattle.job_export.specs.Export.{Exports, IsExport};
+ghost use Rattle.osm_job.specs.Worked.{WroteOver};
+ghost use Rattle.osm_objects.specs.Candidates.{candidates as candidates_of};
+ghost use Rattle.osm_objects.specs.Objects.{object_at};
+ghost use Rattle.osm_words.specs.Answers.{settings_seen};
+
+use crate::entry::texts_of;
+use crate::framing::{footer, header};
+use crate::writing::write_texts;
+use opl_reader::ObjectRef;
+use osm_area::outcome_exists;
+use osm_host::{Host, streams_append};
+use osm_job::{Ended, read_input, write_out};
+use osm_objects::Store;
+use osm_text::problem_line_exists;
+use osm_words::ExportSettings;
+use std::alloc::Global;
+
+/// Why an export is broken off after its output was opened.
+#[derive(Clone, Copy, Debug, PartialEq, Eq)]
+pub(crate) enum Halt {
+    /// This candidate has problems, and the run is to stop at the first that has.
+    Stopped { candidate: ObjectRef },
+    /// A write failed.
+    WriteFault,
+    /// Memory ran out.
+    OutOfMemory,
+}
+
+/// Reads the input, opens the output and writes what the candidates add.
+pub fn export<H: Host>(alloc: Global, settings: &ExportSettings<'_>, host: &mut H) -> Ended
+    ensures { Exports (settings_seen settings.now) result (H.seen host.old) (H.seen host.new) }
+{
+    // By law: what is written and opened adds up in turn.
+    streams_append();
+    let store = match read_input(alloc, host, settings.file) {
+        Ok(store) => store,
+        Err(ended) => return ended,
+    };
+    let Ok(candidates) = store.candidates(alloc, settings.keep_untagged) else {
+        return Ended::OutOfMemory;
+    };
+    let Ok(()) = host.open_output(settings.output, settings.overwrite) else {
+        return Ended::OpenFault;
+    };
+    write_export(alloc, &store, settings, &candidates, host)
+}
+
+/// Writes all of it to the opened output, and says how the run ends.
+fn write_export<H: Host>(
+    alloc: Global,
+    store: &Store,
+    settings: &ExportSettings<'_>,
+    candidates: &[ObjectRef],
+    host: &mut H,
+) -> Ended
+    requires all { candidates.now ≡ candidates_of settings.now.keep_untagged store.now }
+    requires held { All (λ of. IsSome (object_at store.now of)) candidates.now }
+    ensures { WroteOver (IsExport (settings_seen settings.now) store.now) result (H.seen host.old) (H.seen host.new) }
+{
+    ended_by(write_whole(alloc, store, settings, candidates, host))
+}
+
+/// How a run ends whose output was opened.
+fn ended_by(written: Result<(), Halt>) -> Ended
+    ensures { result ≡ ended_by written }
+{
+    match written {
+        Ok(()) => Ended::Done,
+        Err(Halt::Stopped { candidate }) => Ended::Stopped { candidate },
+        Err(Halt::WriteFault) => Ended::WriteFault,
+        Err(Halt::OutOfMemory) => Ended::OutOfMemory,
+    }
+}
+
+/// Writes the header, what the candidates add, and the footer.
+fn write_whole<H: Host>(
+    alloc: Global,
+    store: &Store,
+    settings: &ExportSettings<'_>,
+    candidates: &[ObjectRef],
+    host: &mut H,
+) -> Result<(), Halt>
+    requires all { candidates.now ≡ candidates_of settings.now.keep_untagged store.now }
+    requires held { All (λ of. IsSome (object_at store.now of)) candidates.now }
+    ensures { WroteWhole (settings_seen settings.now) store.now (H.seen host.old) (H.seen host.new) result }
+{
+    outcome_exists();
+    problem_line_exists();
+    let Ok(()) = write_out(host, header(settings.format).as_bytes()) else {
+        return Err(Halt::WriteFault);
+    };
+    if let Err(halt) = write_candidates(alloc, store, settings, candidates, host) {
+        return Err(halt);
+    }
+    let Ok(()) = write_out(host, footer(settings.format).as_bytes()) else {
+        return Err(Halt::WriteFault);
+    };
+    Ok(())
+}
+
+/// Writes what each candidate adds, in order.
+fn write_candidates<H: Host>(
+    alloc: Global,
+    store: &Store,
+    settings: &ExportSettings<'_>,
+    candidates: &[ObjectRef],
+    host: &mut H,
+) -> Result<(), Halt>
+    requires { All (λ of. IsSome (object_at store.now of)) candidates.now }
+    ensures { WroteCandidates (settings_seen settings.now) store.now candidates.now (H.seen host.old) (H.seen host.new) result }
+{
+    let mut features = 0;
+    for &candidate in candidates {
+        match write_candidate(alloc, store, settings, candidate, features, host) {
+            Ok(count) => features += count,
+            Err(halt) => return Err(halt),
+        }
+    }
+    Ok(())
+}
+
+/// Assembles a candidate with `earlier` features before it and writes what it adds. It answers the number of its
+/// features, 1 or 0.
+fn write_candidate<H: Host>(
+    alloc: Global,
+    store: &Store,
+    settings: &ExportSettings<'_>,
+    candidate: ObjectRef,
+    earlier: u64,
+    host: &mut H,
+) -> Result<u64, Halt>
+    requires held { IsSome (object_at store.now candidate) }
+    requires room { earlier + 1 ≤ 18_446_744_073_709_551_615 }
+    ensures one { IfOk result (λ count. count ≤ 1) }
+    ensures wrote { WroteCandidate (settings_seen settings.now) store.now earlier candidate (H.seen host.old) (H.seen host.new) result }
+{
+    let Ok(texts) = texts_of(alloc, store, settings, candidate, earlier) else {
+        return Err(Halt::OutOfMemory);
+    };
+    let Ok(()) = write_texts(host, &texts) else {
+        return Err(Halt::WriteFault);
+    };
+    if texts.feature.is_some() {
+        return Ok(1);
+    }
+    if settings.stop_on_error {
+        return Err(Halt::Stopped { candidate });
+    }
+    Ok(0)
+}

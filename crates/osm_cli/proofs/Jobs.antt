@@ -1,0 +1,96 @@
+-- A run but for its last line: of a job, and of words that aren't taken.
+use Rattle.std.proofs.Common.{◌≡◌, refl, sym, subst, [], arith, Result, Ok, Err, inl, inr}
+use Rattle.osm_host.specs.Laws.{StreamsAppend}
+use Rattle.osm_host.specs.Outside.{Outside}
+use Rattle.osm_words.specs.declared.fault.WordsFault.{WordsFault}
+use Rattle.osm_words.specs.declared.fault.WordsError.{WordsError}
+use Rattle.osm_words.specs.declared.fault.WordsError.TheVariants as words
+use Rattle.osm_words.specs.Answers.{Answers}
+use Rattle.osm_words.specs.Job.{ExportSettings, Job, export}
+use Rattle.osm_job.proofs.Keeping.{nothing_changed}
+use Rattle.osm_job.specs.declared.ended.Ended.{Ended}
+use Rattle.osm_job.specs.declared.ended.Ended.TheVariants.{BadWords, OutOfMemory}
+use Rattle.osm_job.specs.Cause.{Cause}
+use Rattle.osm_job.specs.Texts.{told_texts}
+use Rattle.osm_job.specs.Worked.{Worked}
+use Rattle.osm_job.specs.Written.{IsWrittenBy}
+use Rattle.osm_job.proofs.Taken.{input_kept}
+use Rattle.job_export.specs.Export.{Exports}
+use Rattle.osm_cli.specs.Job.{TookAll, inputs_of, outputs_of}
+use Rattle.osm_cli.specs.RunSteps.{Works, words_ended}
+use Rattle.osm_cli.specs.Whole.{IsWhole}
+
+-- ---- a job
+
+-- what all inputs were taken for stays so behind calls that touch none
+pub all_kept : (job : Job) (before middle now : Outside) → now.left ≡ middle.left → now.bytes_read ≡ middle.bytes_read → TookAll job before middle → TookAll job before now
+all_kept (export settings) before middle now same counted took = input_kept middle now same counted before settings.file took
+
+of_job : (job : Job) (ended : Ended) (before after : Outside) → Worked (inputs_of job) (outputs_of job) (IsWhole job) (TookAll job) ended before after → Works (Ok job) ended before after
+of_job job ended before after w = record {
+  written = w.written;
+  out = w.out;
+  report = w.report;
+  right = w.right;
+  judged = λ is. subst (λ (c : Cause). IsWrittenBy (IsWhole job) c (told_texts before.named (inputs_of job)) ended w.written) is w.right;
+  judged_input = (w.refused, w.took);
+  opens = w.opens;
+  faults = w.faults;
+  write_faults = w.write_faults;
+  keeps = w.keeps;
+}
+
+pub of_export : (settings : ExportSettings) (ended : Ended) (before after : Outside) → Exports settings ended before after → Works (Ok (export settings)) ended before after
+of_export settings ended before after exported = of_job (export settings) ended before after exported
+
+-- of words that ask for the same
+pub works_alike : (x y : Result Job WordsFault) (ended : Ended) (before now : Outside) → Works x ended before now → x ≡ y → Works y ended before now
+works_alike x y ended before now works same = subst (λ (words : Result Job WordsFault). Works words ended before now) same works
+
+-- ---- words that aren't taken
+
+module _ (law : StreamsAppend) (o : Outside) where
+  refused : (cause : WordsFault) → Works (Err cause) (BadWords cause) o o
+  refused cause = record {
+    written = [];
+    out = sym (law.no_bytes o.out);
+    report = sym (law.no_bytes o.report);
+    right = (inr refl, refl);
+    judged = inr refl;
+    judged_input = (refl, refl);
+    opens = refl;
+    faults = record { opens = refl; reads = refl };
+    write_faults = refl;
+    keeps = nothing_changed o;
+  }
+
+  -- there was no memory to read the words
+  no_memory_for_words : (words : Result Job WordsFault) → Works words OutOfMemory o o
+  no_memory_for_words (Ok job) = record {
+    written = [];
+    out = sym (law.no_bytes o.out);
+    report = sym (law.no_bytes o.report);
+    right = inl refl;
+    judged = λ is. absurd (cc);
+    judged_input = (tt, tt);
+    opens = (0, (sym (law.no_opens o.opens), λ two. absurd (omega arith)));
+    faults = record { opens = refl; reads = inl refl };
+    write_faults = refl;
+    keeps = nothing_changed o;
+  }
+  no_memory_for_words (Err fault) = record {
+    written = [];
+    out = sym (law.no_bytes o.out);
+    report = sym (law.no_bytes o.report);
+    right = (inl refl, refl);
+    judged = inl refl;
+    judged_input = (refl, refl);
+    opens = refl;
+    faults = record { opens = refl; reads = inl refl };
+    write_faults = refl;
+    keeps = nothing_changed o;
+  }
+
+  pub not_taken : (asked_for : Result Job WordsFault) (error : WordsError) → Answers asked_for (Err error) → Works asked_for (words_ended error) o o
+  not_taken asked_for (words.BadWords cause) asked = subst (λ (w : Result Job WordsFault). Works w (BadWords cause) o o) (sym asked) (refused cause)
+  not_taken asked_for words.OutOfMemory asked = no_memory_for_words asked_for

@@ -1,7 +1,0 @@
-use Rattle.std.proofs.Common.{◌≤◌, take}
-use Rattle.osm_words.specs.Answers.{settings_seen}
-use Rattle.osm_cli.specs.RunSteps.{WroteFirst}
-use Rattle.osm_cli.proofs.export.write_candidates.Given as goal
-
-abbrev pub invariant-loop-candidate : goal.invariant-loop-candidate
-invariant-loop-candidate g l = (l.features ≤ l.candidate-index) × WroteFirst (settings_seen l.settings) l.store (take l.candidate-index l.candidates) l.features (g.H.Host.seen l.fn.host) (g.H.Host.seen l.host)

@@ -1,9 +1,0 @@
-use Rattle.std.proofs.Common.{map, take, Ok}
-use Rattle.osm_host.specs.declared.host.Failed.{Failed}
-use Rattle.osm_cli.specs.Entries.{lines_text}
-use Rattle.osm_cli.specs.RunSteps.{Wrote}
-use Rattle.osm_cli.specs.Sent.{to_report}
-use Rattle.osm_cli.proofs.writing.write_lines.Given as goal
-
-abbrev pub invariant-loop-line : goal.invariant-loop-line
-invariant-loop-line g l = Wrote {T = Unit {0}} {E = Failed} (map to_report (lines_text (take l.line-index l.lines))) (g.H.Host.seen l.fn.host) (g.H.Host.seen l.host) (Ok tt)

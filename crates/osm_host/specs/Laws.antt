@@ -1,0 +1,23 @@
+-- What more behind a stream, or before it, adds up to, as statements.
+use Rattle.std.specs.Prelude.{◌≡◌, ℕ, List, [], ◌++◌, Option}
+use Rattle.osm_host.specs.Outside.{Opened, appended, preceded}
+
+-- two pieces, one appended after the other, are appended as one
+abbrev pub AppendsInTurn : Type 0 → Type 0
+AppendsInTurn A = (stream : Option (List A)) (first second : List A) → appended (appended stream first) second ≡ appended stream (first ++ second)
+
+-- nothing appended changes nothing
+abbrev pub AppendsNothing : Type 0 → Type 0
+AppendsNothing A = (stream : Option (List A)) → appended stream [] ≡ stream
+
+-- two pieces, one taken off after the other, are taken off as one
+abbrev pub PrecedesInTurn : Type 0 → Type 0
+PrecedesInTurn A = (first second : List A) (stream : Option (List A)) → preceded first (preceded second stream) ≡ preceded (first ++ second) stream
+
+-- bytes and opens add up so
+pub record StreamsAppend : Type 0 where
+  pub bytes : AppendsInTurn ℕ
+  pub opens : AppendsInTurn Opened
+  pub no_bytes : AppendsNothing ℕ
+  pub no_opens : AppendsNothing Opened
+  pub taken : PrecedesInTurn ℕ

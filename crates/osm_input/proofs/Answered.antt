@@ -1,0 +1,200 @@
+-- What is answered of an input, from the bytes that were gathered and from what their lines were read as.
+use Rattle.std.proofs.Common.{◌≡◌, ◌∙◌, refl, sym, ap, subst, ℕ, ◌+◌, ◌-◌, ◌<◌, ◌≤◌, true, false, List, [], ◌++◌, length, take, append-nil, length-append, arith, Option, None, Some, IfSome, Result, Ok, Err, nat_lt, ◌⊎◌, inl, inr}
+use Rattle.std.proofs.lemmas.Bool.{cases_lt, lt-ltb, le-leb, lt-leb}
+use Rattle.std.proofs.lemmas.List.{take_all, take-append-le}
+use Rattle.std.proofs.Math.Seq.{take-append-add}
+use Rattle.opl_reader.specs.declared.object.Object.{Object}
+use Rattle.osm_host.specs.Outside.{Outside, preceded, risen, HasRisen}
+use Rattle.osm_input.specs.declared.fault.InputFault.{InputFault}
+use Rattle.osm_input.specs.declared.gather.Gathered.{Gathered}
+use Rattle.osm_input.specs.declared.gather.Stop.{Stop}
+use Rattle.osm_input.specs.declared.gather.Stop.TheVariants.{AtEnd, PastLimit}
+use Rattle.osm_input.specs.declared.gather.Stop.TheVariants as why
+use Rattle.osm_input.specs.declared.reading.ReadError.{ReadError}
+use Rattle.osm_input.specs.declared.reading.ReadError.TheVariants.{BadInput, TooMuchInput, ReadFault, OutOfMemory}
+use Rattle.osm_input.specs.ReadFaults.{LastReadFailed, NoneOrLastReadFailed}
+use Rattle.opl_reader.specs.Lines.{lines_of}
+use Rattle.osm_input.specs.Lines.{lines_begun}
+use Rattle.osm_input.specs.Input.{AreGood, IsBadPlace}
+use Rattle.osm_input.specs.Gathering.{IsStop, Gathers, StopCause}
+use Rattle.osm_input.specs.Reading.{HasEnded, lines_counted, IsReadOf, IsAnswer, Took, Reads, IsReadWhole, ReadsOnce}
+use Rattle.osm_input.specs.LineSteps.{lines_counting, IsRead}
+use Rattle.osm_input.proofs.Prefixes.{front_bad}
+
+-- ---- from what was gathered
+
+reads_of : (limit longest : ℕ) (before now : Outside) (r : Result (List Object) ReadError) → Took limit longest before now r → Reads limit longest before now r
+reads_of limit longest before now (Ok objects) t = t
+reads_of limit longest before now (Err (BadInput line fault)) t = t
+reads_of limit longest before now (Err (TooMuchInput most)) t = t
+reads_of limit longest before now (Err ReadFault) t = t
+reads_of limit longest before now (Err OutOfMemory) t = tt
+
+whole_answer : (limit longest : ℕ) (taken : List ℕ) (now : Outside) (r : Result (List Object) ReadError) → length taken ≤ limit → HasEnded now →
+    IsRead longest (lines_of taken) r → IsAnswer limit longest taken now r
+whole_answer limit longest taken now (Ok objects) few ended read = (ended, (few, read.0, read.1))
+whole_answer limit longest taken now (Err (BadInput line fault)) few ended read = inr (ended, few, read)
+whole_answer limit longest taken now (Err (TooMuchInput most)) few ended read = absurd read
+whole_answer limit longest taken now (Err ReadFault) few ended read = absurd read
+whole_answer limit longest taken now (Err OutOfMemory) few ended read = tt
+
+front_answer : (limit longest : ℕ) (taken : List ℕ) (now : Outside) (e : ReadError) → IsRead longest (lines_begun longest (take limit taken)) (Err e) → IsAnswer limit longest taken now (Err e)
+front_answer limit longest taken now (BadInput line fault) read = inl read
+front_answer limit longest taken now (TooMuchInput most) read = absurd read
+front_answer limit longest taken now ReadFault read = absurd read
+front_answer limit longest taken now OutOfMemory read = tt
+
+module _ (limit longest : ℕ) (before now : Outside) (g : Gathered) (bytes : List ℕ) (gathers : Gathers limit before now g) (same : bytes ≡ g.bytes.items) where
+  kept : bytes ≡ take limit gathers.taken
+  kept = same ∙ gathers.kept
+
+  -- the input ended
+  pub whole_read : (r : Result (List Object) ReadError) → g.stop ≡ AtEnd → IsRead longest (lines_counting true longest bytes) r → Reads limit longest before now r
+  whole_read r is read =
+      let stop : IsStop limit gathers.taken now AtEnd = subst (λ (s : Stop). IsStop limit gathers.taken now s) is gathers.stop in
+      let all : bytes ≡ gathers.taken = kept ∙ take_all limit gathers.taken stop.0 in
+      reads_of limit longest before now r (record {
+        taken = gathers.taken;
+        left = gathers.left;
+        counted = gathers.counted;
+        answer = whole_answer limit longest gathers.taken now r stop.0 stop.1 (subst (λ (xs : List ℕ). IsRead longest (lines_of xs) r) all read);
+      })
+
+  -- a line of the prefix is bad
+  pub front_refused : (e : ReadError) → IsRead longest (lines_counting false longest bytes) (Err e) → Reads limit longest before now (Err e)
+  front_refused e read =
+      reads_of limit longest before now (Err e) (record {
+        taken = gathers.taken;
+        left = gathers.left;
+        counted = gathers.counted;
+        answer = front_answer limit longest gathers.taken now e (subst (λ (xs : List ℕ). IsRead longest (lines_begun longest xs) (Err e)) kept read);
+      })
+
+  -- none is, and the limit was passed
+  pub limit_passed : (objects : List Object) → g.stop ≡ PastLimit → IsRead longest (lines_counting false longest bytes) (Ok objects) → Reads limit longest before now (Err (TooMuchInput limit))
+  limit_passed objects is read =
+      let stop : IsStop limit gathers.taken now PastLimit = subst (λ (s : Stop). IsStop limit gathers.taken now s) is gathers.stop in
+      record {
+        taken = gathers.taken;
+        left = gathers.left;
+        counted = gathers.counted;
+        answer = (refl, stop, subst (λ (xs : List ℕ). AreGood longest (lines_begun longest xs)) kept read.0);
+      }
+
+  -- none is, and a read failed
+  pub read_failed : (objects : List Object) → g.stop ≡ why.ReadFault → IsRead longest (lines_counting false longest bytes) (Ok objects) → Reads limit longest before now (Err ReadFault)
+  read_failed objects is read =
+      let few : IsStop limit gathers.taken now why.ReadFault = subst (λ (s : Stop). IsStop limit gathers.taken now s) is gathers.stop in
+      record {
+        taken = gathers.taken;
+        left = gathers.left;
+        counted = gathers.counted;
+        answer = (few, subst (λ (xs : List ℕ). AreGood longest (lines_begun longest xs)) kept read.0);
+      }
+
+-- ---- a failed read ends it
+
+-- none failed, and the lines are read
+pub none_failed : (longest : ℕ) (lines : List (List ℕ)) (before now : Outside) (r : Result (List Object) ReadError) → IsRead longest lines r → now.read_faults ≡ before.read_faults → ReadsOnce before now r
+none_failed longest lines before now (Ok objects) read same = same
+none_failed longest lines before now (Err (BadInput line fault)) read same = inl same
+none_failed longest lines before now (Err (TooMuchInput most)) read same = same
+none_failed longest lines before now (Err ReadFault) read same = absurd read
+none_failed longest lines before now (Err OutOfMemory) read same = inl same
+
+-- the last read may have failed, but a line that was read before is bad, or memory ran out
+pub bad_before : (longest : ℕ) (lines : List (List ℕ)) (before now : Outside) (e : ReadError) → IsRead longest lines (Err e) → NoneOrLastReadFailed before now → ReadsOnce before now (Err e)
+bad_before longest lines before now (BadInput line fault) read last = last
+bad_before longest lines before now (TooMuchInput most) read last = absurd read
+bad_before longest lines before now ReadFault read last = absurd read
+bad_before longest lines before now OutOfMemory read last = last
+
+-- the input ended or passed the limit
+pub stopped_at : (before now : Outside) (s t : Stop) → s ≡ t → StopCause before now s → StopCause before now t
+stopped_at before now s t is cause = subst (λ (u : Stop). StopCause before now u) is cause
+
+-- ---- of an input that is told
+
+pub within : (limit longest : ℕ) (bytes : List ℕ) → length bytes ≤ limit → lines_counted limit longest bytes ≡ lines_of bytes
+within limit longest bytes few = rw (le-leb (length bytes) limit few) refl
+
+pub beyond : (limit longest : ℕ) (bytes : List ℕ) → limit < length bytes → lines_counted limit longest bytes ≡ lines_begun longest (take limit bytes)
+beyond limit longest bytes many = rw (lt-leb (length bytes) limit many) refl
+
+-- a bad place among the lines begun counts
+take_front : (limit : ℕ) (taken rest : List ℕ) → (more : List ℕ) × (take limit (taken ++ rest) ≡ take limit taken ++ more)
+take_front limit taken rest = elim (cases_lt (length taken) limit) [
+  | inl less ↦
+      let n : ℕ = limit - length taken in
+      let sum : length taken + n ≡ limit = omega arith in
+      let all : take limit taken ≡ taken = take_all limit taken (omega arith) in
+      (take n rest, subst (λ (m : ℕ). take m (taken ++ rest) ≡ taken ++ take n rest) sum (take-append-add taken rest n) ∙ ap (λ (xs : List ℕ). xs ++ take n rest) (sym all))
+  | inr more ↦ ([], take-append-le limit taken rest more ∙ sym (append-nil (take limit taken)))
+]
+
+bad_counted : (limit longest : ℕ) (taken rest : List ℕ) (line : ℕ) (fault : InputFault) → IsBadPlace longest (lines_begun longest (take limit taken)) line fault →
+    (d : (limit < length (taken ++ rest)) ⊎ (length (taken ++ rest) ≤ limit)) → IsBadPlace longest (lines_counted limit longest (taken ++ rest)) line fault
+bad_counted limit longest taken rest line fault bad (inr few) =
+    let all : take limit taken ≡ taken = take_all limit taken (omega (arith, length-append taken rest)) in
+    subst (λ (ls : List (List ℕ)). IsBadPlace longest ls line fault) (sym (within limit longest (taken ++ rest) few))
+    (front_bad longest (λ part. nat_lt 0 (length part)) (λ part long. lt-ltb 0 (length part) (omega arith)) taken rest line fault
+    (subst (λ (xs : List ℕ). IsBadPlace longest (lines_begun longest xs) line fault) all bad))
+bad_counted limit longest taken rest line fault bad (inl many) =
+    let front : (more : List ℕ) × (take limit (taken ++ rest) ≡ take limit taken ++ more) = take_front limit taken rest in
+    subst (λ (ls : List (List ℕ)). IsBadPlace longest ls line fault)
+    (sym (beyond limit longest (taken ++ rest) many ∙ ap (lines_begun longest) front.1))
+    (front_bad longest (λ part. nat_lt longest (length part)) (λ part long. lt-ltb longest (length part) long) (take limit taken) front.0 line fault bad)
+
+told_of : (limit longest : ℕ) (taken rest : List ℕ) (now : Outside) (r : Result (List Object) ReadError) → now.left ≡ Some rest → IsAnswer limit longest taken now r → IsReadOf limit longest (taken ++ rest) r
+told_of limit longest taken rest now (Ok objects) left answer =
+    let none : rest ≡ [] = subst (λ (o : Option (List ℕ)). IfSome o (λ xs. xs ≡ [])) left answer.0 in
+    subst (λ (xs : List ℕ). IsReadOf limit longest xs (Ok objects)) (sym (ap (λ (ys : List ℕ). taken ++ ys) none ∙ append-nil taken)) answer.1
+told_of limit longest taken rest now (Err (BadInput line fault)) left (inl bad) = bad_counted limit longest taken rest line fault bad (cases_lt limit (length (taken ++ rest)))
+told_of limit longest taken rest now (Err (BadInput line fault)) left (inr bad) =
+    let none : rest ≡ [] = subst (λ (o : Option (List ℕ)). IfSome o (λ xs. xs ≡ [])) left bad.0 in
+    subst (λ (xs : List ℕ). IsReadOf limit longest xs (Err (BadInput line fault))) (sym (ap (λ (ys : List ℕ). taken ++ ys) none ∙ append-nil taken))
+    (subst (λ (ls : List (List ℕ)). IsBadPlace longest ls line fault) (sym (within limit longest taken bad.1)) bad.2)
+told_of limit longest taken rest now (Err (TooMuchInput most)) left answer =
+    let many : limit < length taken = answer.1 in (
+      answer.0,
+      omega (arith, length-append taken rest),
+      subst (λ (xs : List ℕ). AreGood longest (lines_begun longest xs)) (sym (take-append-le limit taken rest (omega arith))) answer.2,
+    )
+told_of limit longest taken rest now (Err ReadFault) left answer = tt
+told_of limit longest taken rest now (Err OutOfMemory) left answer = tt
+
+told_left : (limit longest : ℕ) (taken : List ℕ) (before : Option (List ℕ)) (left : Option (List ℕ)) (now : Outside) (r : Result (List Object) ReadError) → now.left ≡ left → before ≡ preceded taken left →
+    IsAnswer limit longest taken now r → IfSome before (λ bytes. IsReadOf limit longest bytes r)
+told_left limit longest taken before None now r is same answer = subst (λ (o : Option (List ℕ)). IfSome o (λ bytes. IsReadOf limit longest bytes r)) (sym same) tt
+told_left limit longest taken before (Some rest) now r is same answer = subst (λ (o : Option (List ℕ)). IfSome o (λ bytes. IsReadOf limit longest bytes r)) (sym same) (told_of limit longest taken rest now r is answer)
+
+told_by : (limit longest : ℕ) (before now : Outside) (r : Result (List Object) ReadError) → Took limit longest before now r → IfSome before.left (λ bytes. IsReadOf limit longest bytes r)
+told_by limit longest before now r t = told_left limit longest t.taken before.left now.left now r refl t.left t.answer
+
+none_told : (told : Option (List ℕ)) (limit longest : ℕ) → IfSome told (λ bytes. IsReadOf limit longest bytes (Err OutOfMemory))
+none_told None limit longest = tt
+none_told (Some bytes) limit longest = tt
+
+-- What is right for the bytes taken is right for the input, where the host tells it.
+pub told : (limit longest : ℕ) (before now : Outside) (r : Result (List Object) ReadError) → Reads limit longest before now r → IfSome before.left (λ bytes. IsReadOf limit longest bytes r)
+told limit longest before now (Ok objects) reads = told_by limit longest before now (Ok objects) reads
+told limit longest before now (Err (BadInput line fault)) reads = told_by limit longest before now (Err (BadInput line fault)) reads
+told limit longest before now (Err (TooMuchInput most)) reads = told_by limit longest before now (Err (TooMuchInput most)) reads
+told limit longest before now (Err ReadFault) reads = told_by limit longest before now (Err ReadFault) reads
+told limit longest before now (Err OutOfMemory) reads = none_told before.left limit longest
+
+-- Without a fault of the host, it is right for the whole input.
+whole_told : (told : Option (List ℕ)) (limit longest : ℕ) (r : Result (List Object) ReadError) → (r ≡ Err ReadFault → ⊥) → IfSome told (λ bytes. IsReadOf limit longest bytes r) → IfSome told (λ bytes. IsReadWhole limit longest bytes r)
+whole_told None limit longest r none read = tt
+whole_told (Some bytes) limit longest (Ok objects) none read = read
+whole_told (Some bytes) limit longest (Err (BadInput line fault)) none read = read
+whole_told (Some bytes) limit longest (Err (TooMuchInput most)) none read = read
+whole_told (Some bytes) limit longest (Err ReadFault) none read = absurd (none refl)
+whole_told (Some bytes) limit longest (Err OutOfMemory) none read = tt
+
+read_rose : (before now : Outside) (r : Result (List Object) ReadError) → ReadsOnce before now r → r ≡ Err ReadFault → HasRisen before.read_faults now.read_faults
+read_rose before now r once is = let failed : LastReadFailed before now = subst (λ (q : Result (List Object) ReadError). ReadsOnce before now q) is once in let one : now.read_faults ≡ risen before.read_faults = failed.0 in omega arith
+
+pub completes : (limit longest : ℕ) (before now : Outside) (r : Result (List Object) ReadError) → Reads limit longest before now r → ReadsOnce before now r →
+    (HasRisen before.read_faults now.read_faults → ⊥) → IfSome before.left (λ bytes. IsReadWhole limit longest bytes r)
+completes limit longest before now r reads once none = whole_told before.left limit longest r (λ is. none (read_rose before now r once is)) (told limit longest before now r reads)

@@ -1,0 +1,5 @@
+mod Answered
+mod Cuts
+mod Gathering
+mod Lines
+mod Prefixes

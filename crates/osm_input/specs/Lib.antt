@@ -1,0 +1,8 @@
+pub mod Gathering
+pub mod Input
+pub mod Keeps
+pub mod Laws
+pub mod LineSteps
+pub mod Lines
+pub mod ReadFaults
+pub mod Reading

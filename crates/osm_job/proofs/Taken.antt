@@ -1,0 +1,53 @@
+-- What was taken off an input, seen behind calls that touch none.
+use Rattle.std.proofs.Common.{◌≡◌, ◌∙◌, sym, ap, subst, ℕ, List, [], ◌∷◌, inl, inr, Option, None, Some, IfSome, Result, Ok, Err}
+use Rattle.opl_reader.specs.declared.object.Object.{Object}
+use Rattle.osm_host.specs.Outside.{Outside, preceded}
+use Rattle.osm_input.specs.declared.reading.ReadError.{ReadError}
+use Rattle.osm_input.specs.declared.reading.ReadError.TheVariants as read
+use Rattle.osm_job.specs.Cause.{Cause, by_itself, by_words, by_input, by_open, by_read, by_write, by_memory}
+use Rattle.osm_input.specs.Reading.{IsAnswer}
+use Rattle.osm_job.specs.Taken.{TookOff, IsStopped, TookInput, TookBy}
+use Rattle.osm_job.specs.Whole.{input_limit, longest_line}
+
+module _ (middle now : Outside) (same : now.left ≡ middle.left) where
+  nothing_left : IfSome middle.left (λ left. left ≡ []) → IfSome now.left (λ left. left ≡ [])
+  nothing_left ended = subst (λ (o : Option (List ℕ)). IfSome o (λ left. left ≡ [])) (sym same) ended
+
+  answer_kept : (limit longest : ℕ) (taken : List ℕ) (result : Result (List Object) ReadError) → IsAnswer limit longest taken middle result → IsAnswer limit longest taken now result
+  answer_kept limit longest taken (Ok objects) answer = (nothing_left answer.0, answer.1)
+  answer_kept limit longest taken (Err (read.BadInput line fault)) (inl bad) = inl bad
+  answer_kept limit longest taken (Err (read.BadInput line fault)) (inr bad) = inr (nothing_left bad.0, bad.1, bad.2)
+  answer_kept limit longest taken (Err (read.TooMuchInput most)) answer = answer
+  answer_kept limit longest taken (Err read.ReadFault) answer = answer
+  answer_kept limit longest taken (Err read.OutOfMemory) answer = tt
+
+  module _ (counted : now.bytes_read ≡ middle.bytes_read) (before : Outside) where
+    pub took_kept : (inputs : List (List ℕ)) (result : Result (List Object) ReadError) → TookOff inputs result before middle → TookOff inputs result before now
+    took_kept inputs result took = record {
+      earlier = took.earlier;
+      name = took.name;
+      later = took.later;
+      of_job = took.of_job;
+      taken = took.taken;
+      left = took.left ∙ ap (λ (o : Option (List ℕ)). preceded took.taken o) (sym same);
+      counted = counted ∙ took.counted;
+      answer = answer_kept input_limit longest_line took.taken result took.answer;
+    }
+
+    pub input_kept : (name : List ℕ) → TookInput name before middle → TookInput name before now
+    input_kept name took = (took.0, took_kept (name ∷ []) (Ok took.0) took.1)
+
+    pub stopped_kept : (inputs : List (List ℕ)) (error : Option ReadError) → now.opens ≡ middle.opens → IfSome error (λ e. IsStopped inputs e before middle) → IfSome error (λ e. IsStopped inputs e before now)
+    unfolding took_kept
+    stopped_kept inputs None opens stopped = tt
+    stopped_kept inputs (Some error) opens stopped = (took_kept inputs (Err error) stopped.0, opens ∙ stopped.1)
+
+-- where all inputs are taken still, they are so by each cause
+pub taken_kept : (TookAll : Outside → Outside → Type 0) (before middle now : Outside) → (TookAll before middle → TookAll before now) → (cause : Cause) → TookBy TookAll cause before middle → TookBy TookAll cause before now
+taken_kept TookAll before middle now still by_itself took = still took
+taken_kept TookAll before middle now still by_words took = took
+taken_kept TookAll before middle now still by_input took = tt
+taken_kept TookAll before middle now still by_open took = tt
+taken_kept TookAll before middle now still by_read took = tt
+taken_kept TookAll before middle now still by_write took = still took
+taken_kept TookAll before middle now still by_memory took = tt

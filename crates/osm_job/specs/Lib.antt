@@ -1,0 +1,12 @@
+pub mod Cause
+pub mod Faults
+pub mod InputRead
+pub mod Opens
+pub mod Prefix
+pub mod Sent
+pub mod Taken
+pub mod Texts
+pub mod Whole
+pub mod Worked
+pub mod Writes
+pub mod Written

@@ -1,0 +1,43 @@
+-- What a job is to write in all, and how it is to end.
+use Rattle.std.specs.Prelude.{◌≡◌, ◌^◌, ℕ, List, [], Result, Ok, Err}
+use Rattle.opl_reader.specs.declared.object.Object.{Object}
+use Rattle.osm_input.specs.declared.reading.ReadError.{ReadError}
+use Rattle.osm_input.specs.declared.reading.ReadError.TheVariants.{BadInput, TooMuchInput, ReadFault, OutOfMemory}
+use Rattle.osm_input.specs.Reading.{IsReadAs}
+use Rattle.osm_job.specs.declared.ended.Ended.{Ended}
+use Rattle.osm_job.specs.declared.ended.Ended.TheVariants as ended
+use Rattle.osm_job.specs.Sent.{Sent}
+
+-- the most bytes of an input
+abbrev pub input_limit : ℕ
+input_limit = 2 ^ 36
+
+-- the most bytes of a line
+abbrev pub longest_line : ℕ
+longest_line = 2 ^ 24
+
+pub record Whole : Type 0 where
+  -- all but the last line of the report, in order
+  pub written : List Sent
+  pub ended : Ended
+
+-- nothing is written but the last line
+abbrev pub silent : Ended → Whole
+silent ended = record { written = []; ended = ended }
+
+-- how a run ends whose input isn't read
+abbrev pub read_ended : ReadError → Ended
+read_ended (BadInput line fault) = ended.BadInput line fault
+read_ended (TooMuchInput limit) = ended.TooMuchInput limit
+read_ended ReadFault = ended.ReadFault
+read_ended OutOfMemory = ended.OutOfMemory
+
+abbrev pub IsAfter : (List Object → Whole → Type 0) → Result (List Object) ReadError → Whole → Type 0
+IsAfter IsRight (Ok objects) whole = IsRight objects whole
+IsAfter IsRight (Err error) whole = whole ≡ silent (read_ended error)
+
+-- What is right over the bytes of an input, from what is right over its objects.
+pub record IsReadThen (IsRight : List Object → Whole → Type 0) (bytes : List ℕ) (whole : Whole) : Type 0 where
+  pub read : Result (List Object) ReadError
+  pub is_read : IsReadAs input_limit longest_line bytes read
+  pub after : IsAfter IsRight read whole

@@ -1,0 +1,62 @@
+-- What a job did with its host.
+use Rattle.std.specs.Prelude.{◌≡◌, ℕ, List, [], ◌∷◌, IfSome}
+use Rattle.opl_reader.specs.declared.object.Object.{Object}
+use Rattle.osm_host.specs.Outside.{Outside, Opened, appended}
+use Rattle.osm_input.specs.Keeps.{Keeps}
+use Rattle.osm_job.specs.declared.ended.Ended.{Ended}
+use Rattle.osm_job.specs.Cause.{Cause, by_itself, by_words, by_input, by_open, by_read, by_write, by_memory, cause_of}
+use Rattle.osm_job.specs.Faults.{CountsFaults, writes_failed}
+use Rattle.osm_job.specs.Opens.{OpensBy}
+use Rattle.osm_job.specs.Prefix.{IsPrefix}
+use Rattle.osm_job.specs.Sent.{Sent, output_of, report_of}
+use Rattle.osm_job.specs.Taken.{IsStopped, TookBy, TookInput, read_error}
+use Rattle.osm_job.specs.Texts.{Texts, told_texts}
+use Rattle.osm_job.specs.Whole.{IsReadThen, Whole}
+use Rattle.osm_job.specs.Writes.{Added}
+use Rattle.osm_job.specs.Written.{IsWrittenBy}
+
+-- A job ended so, but for its last line: a job of these inputs and outputs, for which this is right over the texts of its
+-- inputs, and which has taken all of them where this holds.
+pub record Worked (inputs : List (List ℕ)) (outputs : List Opened) (IsRight : Texts inputs → Whole → Type 0) (TookAll : Outside → Outside → Type 0) (ended : Ended) (before after : Outside) : Type 0 where
+  pub written : List Sent
+  pub out : after.out ≡ appended before.out (output_of written)
+  pub report : after.report ≡ appended before.report (report_of written)
+  pub right : IsWrittenBy IsRight (cause_of ended) (told_texts before.named inputs) ended written
+  pub refused : IfSome (read_error ended) (λ error. IsStopped inputs error before after)
+  pub took : TookBy TookAll (cause_of ended) before after
+  pub opens : OpensBy inputs outputs TookAll (cause_of ended) before after
+  pub faults : CountsFaults ended before after
+  pub write_faults : after.write_faults ≡ writes_failed (cause_of ended) before.write_faults
+  pub keeps : Keeps before after
+
+-- ---- one input, then one output
+
+-- what is right over the text of the one input
+abbrev pub OverOne : (List Object → Whole → Type 0) → (name : List ℕ) → Texts (name ∷ []) → Whole → Type 0
+OverOne IsRight name texts whole = IsReadThen IsRight texts.0 whole
+
+-- A job ended so that reads one input and then opens one output, and for which this is right over the objects of the input.
+abbrev pub ReadThenWrote : List ℕ → Opened → (List Object → Whole → Type 0) → Ended → Outside → Outside → Type 0
+ReadThenWrote name opened IsRight ended before after =
+    Worked (name ∷ []) (opened ∷ []) (OverOne IsRight name) (TookInput name) ended before after
+
+-- a prefix of what is right
+abbrev pub IsBegun : (Whole → Type 0) → List Sent → Type 0
+IsBegun IsRight written = (whole : Whole) × IsRight whole × (cause_of whole.ended ≡ by_itself) × IsPrefix written whole.written
+
+-- What was written over the objects of an input is right, by what ended the job. Nothing is left to be opened or read.
+abbrev pub IsWrittenOver : (Whole → Type 0) → Cause → Ended → List Sent → Type 0
+IsWrittenOver IsRight by_itself ended written = IsRight (record { written = written; ended = ended })
+IsWrittenOver IsRight by_words ended written = ⊥
+IsWrittenOver IsRight by_input ended written = ⊥
+IsWrittenOver IsRight by_open ended written = ⊥
+IsWrittenOver IsRight by_read ended written = ⊥
+IsWrittenOver IsRight by_write ended written = IsBegun IsRight written
+IsWrittenOver IsRight by_memory ended written = IsBegun IsRight written
+
+-- A job whose output is open ended so.
+pub record WroteOver (IsRight : Whole → Type 0) (ended : Ended) (before after : Outside) : Type 0 where
+  pub written : List Sent
+  pub right : IsWrittenOver IsRight (cause_of ended) ended written
+  pub added : Added written before after
+  pub counts : after.write_faults ≡ writes_failed (cause_of ended) before.write_faults

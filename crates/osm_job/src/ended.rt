@@ -1,0 +1,28 @@
+//! How a run ends.
+
+use opl_reader::ObjectRef;
+use osm_input::InputFault;
+use osm_words::WordsFault;
+
+/// How a run ends.
+#[derive(Clone, Copy, Debug, PartialEq, Eq)]
+pub enum Ended {
+    /// The whole output and the whole report are written.
+    Done,
+    /// This candidate is the first that has problems, and the run was to stop there.
+    Stopped { candidate: ObjectRef },
+    /// The words aren't taken.
+    BadWords { cause: WordsFault },
+    /// A line of the input, counted from 1, is its bad place.
+    BadInput { line: u64, fault: InputFault },
+    /// The input has more bytes than this limit.
+    TooMuchInput { limit: u64 },
+    /// An open failed.
+    OpenFault,
+    /// A read failed.
+    ReadFault,
+    /// A write failed.
+    WriteFault,
+    /// Memory ran out.
+    OutOfMemory,
+}

@@ -1,0 +1,33 @@
+//! What a job writes, handed to the host piece by piece.
+
+ghost use Rattle.std.specs.Prelude.{◌≡◌, map};
+ghost use Rattle.osm_job.specs.Sent.{lines_text, to_output, to_report};
+ghost use Rattle.osm_job.specs.Writes.{Wrote};
+
+use osm_host::{Failed, Host, write_all_out, write_all_report};
+
+/// Writes a piece of the output; none where it is empty.
+pub fn write_out<H: Host>(host: &mut H, piece: &[u8]) -> Result<(), Failed>
+    ensures { Wrote (map to_output piece.now) (H.seen host.old) (H.seen host.new) result }
+{
+    write_all_out(host, piece)
+}
+
+/// Writes a piece of the report; none where it is empty.
+pub fn write_report<H: Host>(host: &mut H, piece: &[u8]) -> Result<(), Failed>
+    ensures { Wrote (map to_report piece.now) (H.seen host.old) (H.seen host.new) result }
+{
+    write_all_report(host, piece)
+}
+
+/// Writes report lines, each as a piece of its own. None is written behind one that couldn't be.
+pub fn write_lines<H: Host>(host: &mut H, lines: &[Vec<u8>]) -> Result<(), Failed>
+    ensures { Wrote (map to_report (lines_text lines.now)) (H.seen host.old) (H.seen host.new) result }
+{
+    for line in lines {
+        if let Err(failed) = write_report(host, line) {
+            return Err(failed);
+        }
+    }
+    Ok(())
+}

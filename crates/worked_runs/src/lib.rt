@@ -1,0 +1,17 @@
+//! Worked runs of the whole program over hosts in memory: tests that cross the crates.
+#![tactic(auto)]
+
+#[cfg(test)]
+mod areas;
+#[cfg(test)]
+mod faults;
+#[cfg(test)]
+mod formats;
+#[cfg(test)]
+mod inputs;
+#[cfg(test)]
+mod nested_areas;
+#[cfg(test)]
+mod run;
+#[cfg(test)]
+mod stops;
