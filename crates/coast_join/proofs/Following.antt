@@ -6,8 +6,8 @@ use Rattle.std.proofs.lemmas.Bool.{cases_lt, cases_eq, false≢true}
 use Rattle.std.proofs.lemmas.List.{append-nil, append_assoc, get_or-set_same, get_or-set_other, get_or_default, get_or_past, length-set, length-append, length-take-le, take_more, length_push, get_or-take, flat_map_more, take-append-drop}
 use Rattle.std.proofs.lemmas.List.Elements.{All-contains, All-cons, Contains-push, Contains-push_cases, Contains-append_left, Contains-get_or, filter_map-append}
 use Rattle.std.proofs.lemmas.Option.{same_Some, slice_get_within, slice_get_read}
-use Rattle.osm_geom.specs.declared.loc.Loc.{Loc}
-use Rattle.osm_geom.specs.OrderLaws.{LocationOrderTellsApart}
+use Rattle.osm_lattice.specs.declared.loc.Loc.{Loc}
+use Rattle.osm_lattice.specs.OrderLaws.{LocationOrderTellsApart}
 use Rattle.orbits.specs.Orbits.{after, AreOrbits, IsOneToOne}
 use Rattle.coast_join.specs.declared.chain.Chain.{Chain}
 use Rattle.coast_join.specs.declared.closing.OpenEnds.{OpenEnds}

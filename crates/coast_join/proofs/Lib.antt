@@ -1,11 +1,11 @@
-pub mod Following
-pub mod Inputs
-pub mod Joining
-pub mod NearPairs
-pub mod OnceLemmas
-pub mod NearestFirst
+mod Following
+mod Inputs
+mod Joining
+mod NearPairs
+mod NearestFirst
 pub mod Numbering
-pub mod OneTaken
-pub mod Rounding
-pub mod Sorting
+mod OnceLemmas
+mod OneTaken
+mod Rounding
+mod Sorting
 pub mod Stepping

@@ -9,7 +9,7 @@ use Rattle.std.proofs.lemmas.Cmp.{tied_itself, ranked}
 use Rattle.std.proofs.lemmas.List.Elements.{All-contains, Contains-get_or}
 use Rattle.std.proofs.lemmas.List.Sums.{sum_by-cons}
 use Rattle.std.proofs.lemmas.Option.{same_Some}
-use Rattle.osm_lists.specs.Rising.{count_of}
+use Rattle.lists.specs.Rising.{count_of}
 use Rattle.coast_join.specs.declared.chain.Chain.{Chain}
 use Rattle.coast_join.specs.declared.gap.Gap.{Gap}
 use Rattle.coast_join.specs.declared.closing.OpenEnds.{OpenEnds}

@@ -10,10 +10,10 @@ use Rattle.std.proofs.lemmas.Cmp.{tied_itself, int_cmp_total, on_total, then_tot
 use Rattle.std.proofs.lemmas.List.{take-append-le, take_all, length_push, take-take, length-map}
 use Rattle.std.proofs.lemmas.List.Sums.{sum_by_push, sum_by-take-le, sum_by_more}
 use Rattle.std.proofs.lemmas.Option.{slice_get_past, slice_get_within, same_Some, slice_get-get_or}
-use Rattle.osm_geom.specs.declared.loc.Loc.{Loc}
-use Rattle.osm_geom.specs.Loc.{loc_cmp}
-use Rattle.osm_geom.specs.OrderLaws.{LocationOrderTellsApart}
-use Rattle.osm_lists.specs.Rising.{count_of}
+use Rattle.osm_lattice.specs.declared.loc.Loc.{Loc}
+use Rattle.osm_lattice.specs.Loc.{loc_cmp}
+use Rattle.osm_lattice.specs.OrderLaws.{LocationOrderTellsApart}
+use Rattle.lists.specs.Rising.{count_of}
 use Rattle.orbits.specs.Orbits.{after, IsOneToOne}
 use Rattle.coast_join.specs.Links.{before, AreNumbered, AreLinks, GoesOn, key_cmp}
 

@@ -5,7 +5,7 @@ use Rattle.std.specs.declared.cmp.Ordering.TheVariants.{Less, Equal, Greater}
 use Rattle.std.specs.Ordering.{is_eq, ordering_reverse}
 use Rattle.std.proofs.lemmas.List.{append_assoc}
 use Rattle.std.proofs.lemmas.List.Elements.{All-contains, All-append, All-nil, All-cons, Contains-append_cases, Contains-append_left, Contains-append_right, Contains-get_or}
-use Rattle.osm_lists.specs.Rising.{IsRising}
+use Rattle.lists.specs.Rising.{IsRising}
 use Rattle.coast_join.specs.declared.gap.Gap.{Gap}
 use Rattle.coast_join.specs.Taken.{AreTaken, IsFree, gap_cmp}
 use Rattle.coast_join.proofs.NearestFirst.{gap_cmp_total, not_both, not_itself}

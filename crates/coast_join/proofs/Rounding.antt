@@ -8,9 +8,9 @@ use Rattle.std.specs.Ordering.{int_cmp, int_eq, is_eq, ordering_then}
 use Rattle.std.proofs.lemmas.Bool.{false≢true}
 use Rattle.std.proofs.lemmas.List.{get_or-take}
 use Rattle.std.proofs.lemmas.Option.{same_Some, slice_get-get_or}
-use Rattle.osm_geom.specs.declared.loc.Loc.{Loc}
-use Rattle.osm_geom.specs.Loc.{loc_cmp}
-use Rattle.osm_geom.specs.OrderLaws.{LocationOrderTellsApart}
+use Rattle.osm_lattice.specs.declared.loc.Loc.{Loc}
+use Rattle.osm_lattice.specs.Loc.{loc_cmp}
+use Rattle.osm_lattice.specs.OrderLaws.{LocationOrderTellsApart}
 use Rattle.coast_join.specs.Line.{IsLine, NeighboursDiffer, first_of, front_of, last_of, origin}
 use Rattle.coast_join.specs.Round.{IsRound, is_same, once, opened}
 use Rattle.coast_join.proofs.Joining.{closed_long, front_differ, front_last, front_length}

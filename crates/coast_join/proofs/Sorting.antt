@@ -13,7 +13,7 @@ use Rattle.std.proofs.lemmas.List.FromFn.{fill_by_all, map-range_with_len_more}
 use Rattle.std.proofs.lemmas.List.Elements.{All-map}
 use Rattle.std.proofs.lemmas.List.Sorted.{ranks_by, sorted_far, IsPermutation-map, All-permutation}
 use Rattle.std.proofs.lemmas.Map.Keys.{IsDistinct-IsPermutation, apart_from_distinct}
-use Rattle.osm_lists.specs.Rising.{IsRising}
+use Rattle.lists.specs.Rising.{IsRising}
 use Rattle.coast_join.specs.ById.{AreById, id_at, placed}
 
 abbrev pub pair_cmp : ℤ × ℕ → ℤ × ℕ → Ordering

@@ -3,7 +3,7 @@ use Rattle.std.specs.Prelude.{ℕ, ℤ, pos, List, length, map, slice_index_or}
 use Rattle.std.specs.List.{range_with_len}
 use Rattle.std.specs.List.Sorted.{IsPermutation}
 use Rattle.std.specs.Ordering.{int_cmp}
-use Rattle.osm_lists.specs.Rising.{IsRising}
+use Rattle.lists.specs.Rising.{IsRising}
 
 abbrev pub id_at : List ℤ → ℕ → ℤ
 id_at ids i = slice_index_or ids i (pos 0)

@@ -1,6 +1,6 @@
 -- What putting ways together goes by. No public contract cites it.
 use Rattle.std.specs.Prelude.{◌≡◌, ◌<◌, ◌-◌, ℕ, suc, Bool, true, All, List, [], length, map, slice_index_or}
-use Rattle.osm_geom.specs.declared.loc.Loc.{Loc}
+use Rattle.osm_lattice.specs.declared.loc.Loc.{Loc}
 use Rattle.coast_join.specs.declared.chain.Chain.{Chain}
 use Rattle.coast_join.specs.Line.{IsLine, first_of, last_of}
 use Rattle.coast_join.specs.declared.way.CoastWay.{CoastWay}

@@ -3,8 +3,8 @@ use Rattle.std.specs.Prelude.{◌≡◌, ◌++◌, ◌-◌, ℕ, ℤ, pos, Bool,
 use Rattle.std.specs.List.{AllZip, flat_map}
 use Rattle.std.specs.List.Sorted.{IsPermutation}
 use Rattle.std.specs.Ordering.{int_cmp}
-use Rattle.osm_geom.specs.declared.loc.Loc.{Loc}
-use Rattle.osm_lists.specs.Rising.{IsRising}
+use Rattle.osm_lattice.specs.declared.loc.Loc.{Loc}
+use Rattle.lists.specs.Rising.{IsRising}
 use Rattle.orbits.specs.Orbits.{AreInOrder, AreOrbits, after, last}
 use Rattle.coast_join.specs.declared.way.CoastWay.{CoastWay}
 use Rattle.coast_join.specs.declared.chain.Chain.{Chain}

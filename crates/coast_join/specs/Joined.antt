@@ -4,7 +4,7 @@ use Rattle.std.specs.List.{AllZip, filter_map, flat_map, list_any, slice_get}
 use Rattle.std.specs.List.Sorted.{IsPermutation, IsSortedByKey}
 use Rattle.std.specs.Ordering.{int_cmp}
 use Rattle.std.proofs.Common.{lit≤}
-use Rattle.osm_geom.specs.declared.loc.Loc.{Loc}
+use Rattle.osm_lattice.specs.declared.loc.Loc.{Loc}
 use Rattle.orbits.specs.Orbits.{AreInOrder, AreOrbits, after, last}
 use Rattle.coast_join.specs.declared.chain.Chain.{Chain}
 use Rattle.coast_join.specs.declared.gap.Closings.{Closings}

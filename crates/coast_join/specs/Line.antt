@@ -2,7 +2,7 @@
 use Rattle.std.specs.Prelude.{◌≡◌, ◌≢◌, ◌≤◌, ◌-◌, ℕ, suc, pos, List, length, slice_index_or, take, Some}
 use Rattle.std.specs.List.{slice_get}
 use Rattle.std.proofs.Common.{lit≤}
-use Rattle.osm_geom.specs.declared.loc.Loc.{Loc}
+use Rattle.osm_lattice.specs.declared.loc.Loc.{Loc}
 
 -- no location stands at two neighbouring places
 abbrev pub NeighboursDiffer : List Loc → Type 0

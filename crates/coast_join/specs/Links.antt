@@ -3,9 +3,9 @@ use Rattle.std.specs.Prelude.{◌≡◌, ◌↔◌, ℕ, List, length, take, Opt
 use Rattle.std.specs.declared.cmp.Ordering.{Ordering}
 use Rattle.std.specs.List.{slice_get}
 use Rattle.std.specs.Ordering.{nat_cmp, ordering_then}
-use Rattle.osm_geom.specs.declared.loc.Loc.{Loc}
-use Rattle.osm_geom.specs.Loc.{loc_cmp}
-use Rattle.osm_lists.specs.Rising.{count_of}
+use Rattle.osm_lattice.specs.declared.loc.Loc.{Loc}
+use Rattle.osm_lattice.specs.Loc.{loc_cmp}
+use Rattle.lists.specs.Rising.{count_of}
 use Rattle.orbits.specs.Orbits.{after}
 
 -- how many of the locations before place k are p

@@ -2,8 +2,8 @@
 use Rattle.std.specs.Prelude.{◌≢◌, Bool, List, if◌then◌else◌}
 use Rattle.std.specs.List.{dedup}
 use Rattle.std.specs.Ordering.{is_eq}
-use Rattle.osm_geom.specs.declared.loc.Loc.{Loc}
-use Rattle.osm_geom.specs.Loc.{loc_cmp}
+use Rattle.osm_lattice.specs.declared.loc.Loc.{Loc}
+use Rattle.osm_lattice.specs.Loc.{loc_cmp}
 use Rattle.coast_join.specs.Line.{IsLine, first_of, front_of, last_of}
 
 -- a line that doesn't end where it starts: the step from its last location to its first closes it

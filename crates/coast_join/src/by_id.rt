@@ -5,10 +5,10 @@ ghost use Rattle.std.specs.List.{IsDistinct};
 ghost use Rattle.std.specs.Ordering.{int_eq};
 ghost use Rattle.coast_join.specs.ById.{AreById, placed};
 
-use std::alloc::{AllocError, Global};
+use std::alloc::{AllocError as OutOfMemory, Global};
 
-// Each id with its place.
-fn placed(alloc: Global, ids: &[i64]) -> Result<Vec<(i64, usize)>, AllocError>
+/// Each id with its place.
+fn placed(alloc: Global, ids: &[i64]) -> Result<Vec<(i64, usize)>, OutOfMemory>
     ensures { IfOk result (λ v. v.items ≡ placed ids.now) }
 {
     let mut placed = Vec::with_capacity(alloc, ids.len())?;
@@ -18,15 +18,15 @@ fn placed(alloc: Global, ids: &[i64]) -> Result<Vec<(i64, usize)>, AllocError>
     Ok(placed)
 }
 
-// The places alone.
-fn places(alloc: Global, placed: &[(i64, usize)]) -> Result<Vec<usize>, AllocError>
+/// The places alone.
+fn places(alloc: Global, placed: &[(i64, usize)]) -> Result<Vec<usize>, OutOfMemory>
     ensures { IfOk result (λ v. v.items ≡ map (λ p. p.1) placed.now) }
 {
     placed.iter().map(|p| p.1).collect(alloc)
 }
 
 /// The places of ids in order of these, which differ.
-pub fn by_id(alloc: Global, ids: &[i64]) -> Result<Vec<usize>, AllocError>
+pub fn by_id(alloc: Global, ids: &[i64]) -> Result<Vec<usize>, OutOfMemory>
     requires { IsDistinct int_eq ids.now }
     ensures { IfOk result (λ v. AreById ids.now v.items) }
 {

@@ -1,10 +1,9 @@
 //! Coastline ways put together to chains.
 
 ghost use Rattle.std.specs.Prelude.{◌≡◌, ◌++◌, ◌<◌, ◌-◌, ◌∷◌, [], if◌then◌else◌, All, IfOk, OnOk, length, map, slice_index};
-ghost use Rattle.std.specs.List.{IsDistinct, flat_map};
+ghost use Rattle.std.specs.List.{IsDistinct, flat_map, AllZip};
 ghost use Rattle.std.specs.Ordering.{int_eq};
-ghost use Rattle.std.specs.List.{AllZip};
-ghost use Rattle.orbits.specs.Orbits.{AreOrbits, IsOrbit, last};
+ghost use Rattle.orbits.specs.Orbits.{IsOrbit, last};
 ghost use Rattle.coast_join.specs.declared.way.CoastWay.{CoastWay};
 ghost use Rattle.coast_join.specs.Chains.{AreChains, IsChain, Line, joined};
 ghost use Rattle.coast_join.specs.ChainSteps.{AreLinked, Makes, members};
@@ -17,17 +16,17 @@ use crate::links::links;
 use crate::way::CoastWay;
 use orbits::{each_stands_once, orbits};
 use osm_geom::{Ids, Loc, Path};
-use std::alloc::{AllocError, Global};
+use std::alloc::{AllocError as OutOfMemory, Global};
 
-// The ids of ways.
-fn ids(alloc: Global, ways: &[CoastWay]) -> Result<Vec<i64>, AllocError>
+/// The ids of ways.
+fn ids(alloc: Global, ways: &[CoastWay]) -> Result<Vec<i64>, OutOfMemory>
     ensures { IfOk result (λ v. v.items ≡ map (λ (w : CoastWay). w.id) ways.now) }
 {
     ways.iter().map(|way| way.id).collect(alloc)
 }
 
-// The locations at which the ways at these places start.
-fn starts(alloc: Global, ways: &[CoastWay], places: &[usize]) -> Result<Vec<Loc>, AllocError>
+/// The locations at which the ways at these places start.
+fn starts(alloc: Global, ways: &[CoastWay], places: &[usize]) -> Result<Vec<Loc>, OutOfMemory>
     requires { All (λ i. i < length ways.now) places.now }
     ensures { IfOk result (λ v. v.items ≡ map (λ (l : Line). first_of l.path) (members ways.now places.now)) }
 {
@@ -51,8 +50,8 @@ fn last(way: &CoastWay) -> Loc
     path[path.len() - 1]
 }
 
-// Those at which they end.
-fn ends(alloc: Global, ways: &[CoastWay], places: &[usize]) -> Result<Vec<Loc>, AllocError>
+/// Those at which they end.
+fn ends(alloc: Global, ways: &[CoastWay], places: &[usize]) -> Result<Vec<Loc>, OutOfMemory>
     requires { All (λ i. i < length ways.now) places.now }
     ensures { IfOk result (λ v. v.items ≡ map (λ (l : Line). last_of l.path) (members ways.now places.now)) }
 {
@@ -63,8 +62,8 @@ fn ends(alloc: Global, ways: &[CoastWay], places: &[usize]) -> Result<Vec<Loc>, 
     Ok(ends)
 }
 
-// The ids of the ways at these places.
-fn ids_at(alloc: Global, ways: &[CoastWay], places: &[usize]) -> Result<Ids, AllocError>
+/// The ids of the ways at these places.
+fn ids_at(alloc: Global, ways: &[CoastWay], places: &[usize]) -> Result<Ids, OutOfMemory>
     requires { All (λ i. i < length ways.now) places.now }
     ensures { IfOk result (λ ids. ids ≡ map (λ (l : Line). l.id) (members ways.now places.now)) }
 {
@@ -75,8 +74,8 @@ fn ids_at(alloc: Global, ways: &[CoastWay], places: &[usize]) -> Result<Ids, All
     Ok(ids)
 }
 
-// Adds the locations of a way but the last.
-fn add_front(path: &mut Path, way: &CoastWay) -> Result<(), AllocError>
+/// Adds the locations of a way but the last.
+fn add_front(path: &mut Path, way: &CoastWay) -> Result<(), OutOfMemory>
     ensures { OnOk result (path.new ≡ path.old ++ front_of way.now.path) }
 {
     let line = way.path.as_slice();
@@ -86,8 +85,8 @@ fn add_front(path: &mut Path, way: &CoastWay) -> Result<(), AllocError>
     Ok(())
 }
 
-// The locations of the ways at these places, of each but the last.
-fn fronts(alloc: Global, ways: &[CoastWay], places: &[usize]) -> Result<Path, AllocError>
+/// The locations of the ways at these places, of each but the last.
+fn fronts(alloc: Global, ways: &[CoastWay], places: &[usize]) -> Result<Path, OutOfMemory>
     requires { All (λ i. i < length ways.now) places.now }
     ensures { IfOk result (λ path. path ≡ flat_map (λ (l : Line). front_of l.path) (members ways.now places.now)) }
 {
@@ -98,13 +97,13 @@ fn fronts(alloc: Global, ways: &[CoastWay], places: &[usize]) -> Result<Path, Al
     Ok(path)
 }
 
-// The paths of the ways at these places one after the other, the location that two share once.
+/// The paths of the ways at these places one after the other, the location that two share once.
 fn path_of(
     alloc: Global,
     ways: &[CoastWay],
     places: &[usize],
     closed: bool,
-) -> Result<Path, AllocError>
+) -> Result<Path, OutOfMemory>
     requires some { 0 < length places.now }
     requires inside { All (λ i. i < length ways.now) places.now }
     ensures { IfOk result (λ path. path ≡ joined closed (map (λ (l : Line). l.path) (members ways.now places.now))) }
@@ -118,13 +117,13 @@ fn path_of(
     Ok(path)
 }
 
-// The chain of the ways at these places, of which each goes on to the next, and the last to the first if it is closed.
+/// The chain of the ways at these places, of which each goes on to the next, and the last to the first if it is closed.
 fn chain_of(
     alloc: Global,
     ways: &[CoastWay],
     places: &[usize],
     closed: bool,
-) -> Result<Chain, AllocError>
+) -> Result<Chain, OutOfMemory>
     requires inside { All (λ i. i < length ways.now) places.now }
     requires linked { AreLinked closed (map (λ (l : Line). l.path) (members ways.now places.now)) }
     ensures { IfOk result (λ chain. Makes (members ways.now places.now) closed chain) }
@@ -141,22 +140,22 @@ fn chain_of(
     })
 }
 
-// The numbers at these places.
-fn numbers_at(alloc: Global, numbers: &[usize], places: &[usize]) -> Result<Vec<usize>, AllocError>
+/// The numbers at these places.
+fn numbers_at(alloc: Global, numbers: &[usize], places: &[usize]) -> Result<Vec<usize>, OutOfMemory>
     requires { All (λ k. k < length numbers.now) places.now }
     ensures { IfOk result (λ v. v.items ≡ map (slice_index numbers.now) places.now) }
 {
     places.iter().map(|&place| numbers[place]).collect(alloc)
 }
 
-// The chain of an orbit of the ways in this order.
+/// The chain of an orbit of the ways in this order.
 fn chain_at(
     alloc: Global,
     ways: &[CoastWay],
     order: &[usize],
     next: &[Option<usize>],
     orbit: &[usize],
-) -> Result<Chain, AllocError>
+) -> Result<Chain, OutOfMemory>
     requires inside { All (λ i. i < length ways.now) order.now }
     requires links { AreLinks (map (λ (l : Line). last_of l.path) (members ways.now order.now)) (map (λ (l : Line). first_of l.path) (members ways.now order.now)) next.now }
     requires orbit { IsOrbit next.now orbit.now }
@@ -169,14 +168,14 @@ fn chain_at(
     chain_of(alloc, ways, &places, closed)
 }
 
-// The chains of orbits of the ways in this order.
+/// The chains of orbits of the ways in this order.
 fn chains_of(
     alloc: Global,
     ways: &[CoastWay],
     order: &[usize],
     next: &[Option<usize>],
     orbits: &[Vec<usize>],
-) -> Result<Vec<Chain>, AllocError>
+) -> Result<Vec<Chain>, OutOfMemory>
     requires inside { All (λ i. i < length ways.now) order.now }
     requires links { AreLinks (map (λ (l : Line). last_of l.path) (members ways.now order.now)) (map (λ (l : Line). first_of l.path) (members ways.now order.now)) next.now }
     requires orbits { All (λ o. IsOrbit next.now o) (map (λ o. o.items) orbits.now) }
@@ -195,7 +194,7 @@ fn chains_of(
 /// At each location the i-th way that ends there, by id, goes on to the i-th that starts there. A chain that goes
 /// round is closed, is named by its least way and begins with it; another is named by its first way. It takes time
 /// n log n. The error is want of memory.
-pub fn chains(alloc: Global, ways: &[CoastWay]) -> Result<Vec<Chain>, AllocError>
+pub fn chains(alloc: Global, ways: &[CoastWay]) -> Result<Vec<Chain>, OutOfMemory>
     requires { IsDistinct int_eq (map (λ (w : CoastWay). w.id) ways.now) }
     ensures { IfOk result (λ v. AreChains ways.now v.items) }
 {

@@ -3,15 +3,15 @@
 ghost use Rattle.std.specs.Prelude.{◌≡◌, ◌++◌, ◌+◌, ◌*◌, ◌<◌, ◌^◌, ◌&&◌, false, not, All, IfOk, OnOk, length};
 ghost use Rattle.std.specs.List.{enumerate_from, filter_map};
 ghost use Rattle.coast_join.specs.declared.chain.Chain.{Chain};
-ghost use Rattle.coast_join.specs.Closings.{AreClosings, gap_between, is_antarctic, is_open, near_pairs, open_ends, places_where, square_between, open_ends_at};
+ghost use Rattle.coast_join.specs.Closings.{AreClosings, gap_between, is_antarctic, is_open, near_pairs, open_ends, places_where, square_between};
 ghost use Rattle.coast_join.specs.Line.{first_of, last_of};
 
 use crate::chain::Chain;
 use crate::gap::{Closings, Gap, Indexes};
 use crate::greedy::taken;
+use lists::distinct_items;
 use osm_geom::Loc;
-use osm_lists::distinct_items;
-use std::alloc::{AllocError, Global};
+use std::alloc::{AllocError as OutOfMemory, Global};
 
 /// Where the chain at a place starts and ends.
 #[derive(Clone, Copy)]
@@ -34,7 +34,7 @@ fn last(chain: &Chain) -> Loc
     path[path.len() - 1]
 }
 
-// It is unclosed, and runs round Antarctica from the eastern edge of the world to the western one.
+/// It is unclosed, and runs round Antarctica from the eastern edge of the world to the western one.
 #[tactic(auto, unfolding(crate::specs::Closings::is_antarctic))]
 pub(crate) fn is_antarctic(chain: &Chain) -> bool
     ensures { result ≡ is_antarctic chain.now }
@@ -52,8 +52,8 @@ pub(crate) fn is_open(chain: &Chain) -> bool
     !chain.closed && !is_antarctic(chain)
 }
 
-// The places of the chains round Antarctica.
-fn antarctica(alloc: Global, chains: &[Chain]) -> Result<Indexes, AllocError>
+/// The places of the chains round Antarctica.
+fn antarctica(alloc: Global, chains: &[Chain]) -> Result<Indexes, OutOfMemory>
     ensures { IfOk result (λ v. v ≡ places_where is_antarctic chains.now) }
 {
     let mut places = Indexes::new(alloc);
@@ -65,8 +65,8 @@ fn antarctica(alloc: Global, chains: &[Chain]) -> Result<Indexes, AllocError>
     Ok(places)
 }
 
-// Where the chains that take part in gaps start and end.
-fn open_ends(alloc: Global, chains: &[Chain]) -> Result<Vec<OpenEnds>, AllocError>
+/// Where the chains that take part in gaps start and end.
+fn open_ends(alloc: Global, chains: &[Chain]) -> Result<Vec<OpenEnds>, OutOfMemory>
     ensures { IfOk result (λ v. v.items ≡ open_ends chains.now) }
 {
     let mut ends = Vec::new(alloc);
@@ -89,14 +89,14 @@ fn square(n: u32) -> u128
     u128::from(n) * u128::from(n)
 }
 
-// The square of the distance between two locations.
+/// The square of the distance between two locations.
 fn square_between(p: Loc, q: Loc) -> u128
     ensures { result ≡ square_between p q }
 {
     square(p.x.abs_diff(q.x)) + square(p.y.abs_diff(q.y))
 }
 
-// The pair of this end and start, if they are nearer than the limit.
+/// The pair of this end and start, if they are nearer than the limit.
 #[tactic(auto, unfolding(crate::specs::Closings::gap_between))]
 fn gap_between(limit: u32, from: OpenEnds, to: OpenEnds) -> Option<Gap>
     ensures { result ≡ gap_between limit from to }
@@ -113,13 +113,13 @@ fn gap_between(limit: u32, from: OpenEnds, to: OpenEnds) -> Option<Gap>
     }
 }
 
-// Adds the near pairs of one end.
+/// Adds the near pairs of one end.
 fn add_pairs(
     pairs: &mut Vec<Gap>,
     limit: u32,
     from: OpenEnds,
     ends: &[OpenEnds],
-) -> Result<(), AllocError>
+) -> Result<(), OutOfMemory>
     ensures { OnOk result (pairs.new.items ≡ pairs.old.items ++ filter_map (gap_between limit from) ends.now) }
 {
     for &to in ends {
@@ -130,8 +130,8 @@ fn add_pairs(
     Ok(())
 }
 
-// All near pairs.
-fn near_pairs(alloc: Global, limit: u32, ends: &[OpenEnds]) -> Result<Vec<Gap>, AllocError>
+/// All near pairs.
+fn near_pairs(alloc: Global, limit: u32, ends: &[OpenEnds]) -> Result<Vec<Gap>, OutOfMemory>
     ensures { IfOk result (λ v. v.items ≡ near_pairs limit ends.now) }
 {
     let mut pairs = Vec::new(alloc);
@@ -145,7 +145,7 @@ fn near_pairs(alloc: Global, limit: u32, ends: &[OpenEnds]) -> Result<Vec<Gap>, 
 /// are nearer than the limit, the nearest first, each end and start once. The limit is in units of 1e-7 degree.
 ///
 /// All pairs of unclosed chains are looked at. The error is want of memory.
-pub fn closings(alloc: Global, chains: &[Chain], limit: u32) -> Result<Closings, AllocError>
+pub fn closings(alloc: Global, chains: &[Chain], limit: u32) -> Result<Closings, OutOfMemory>
     ensures { IfOk result (λ v. AreClosings chains.now limit v) }
 {
     let antarctica = antarctica(alloc, chains)?;

@@ -1,9 +1,6 @@
 //! Gaps between chains, and which of them are closed.
 
-ghost use Rattle.std.specs.Prelude.{◌≡◌, ◌++◌, ◌∷◌, [], OnOk, OnErr};
-
-use std::alloc::{AllocError, Global};
-use std::marker::Model;
+use lists::List;
 
 /// A pair of the end of one unclosed chain and the start of one, told by their places in the list of chains, with
 /// the square of the distance between the two, in units of 1e-7 degree.
@@ -25,84 +22,7 @@ pub struct Closings {
 }
 
 /// Gaps, in order.
-#[derive(Debug, Drop)]
-pub struct Gaps {
-    items: Vec<Gap>,
-}
-
-impl Model for Gaps {
-    ghost use Rattle.std.specs.Prelude.{List};
-    ghost use Rattle.coast_join.specs.declared.gap.Gap.{Gap};
-
-    ghost Value = { List Gap };
-
-    ghost view = { λ list. list.items.items };
-}
-
-impl Gaps {
-    /// The empty list, which takes no memory.
-    pub fn new(alloc: Global) -> Gaps
-        ensures { result ≡ [] }
-    {
-        Gaps {
-            items: Vec::new(alloc),
-        }
-    }
-
-    /// Adds one at the end. After an `Err` the list is unchanged.
-    pub fn push(&mut self, item: Gap) -> Result<(), AllocError>
-        ensures ok { OnOk result (self.new ≡ self.old ++ item ∷ []) }
-        ensures err { OnErr result (self.new ≡ self.old) }
-    {
-        self.items.push(item)?;
-        Ok(())
-    }
-
-    /// The items, in order.
-    pub fn as_slice(&self) -> &[Gap]
-        ensures { result.now ≡ self.now }
-    {
-        self.items.as_slice()
-    }
-}
+pub type Gaps = List<Gap>;
 
 /// Places in a list, in order.
-#[derive(Debug, Drop)]
-pub struct Indexes {
-    items: Vec<usize>,
-}
-
-impl Model for Indexes {
-    ghost use Rattle.std.specs.Prelude.{List, ℕ};
-
-    ghost Value = { List ℕ };
-
-    ghost view = { λ list. list.items.items };
-}
-
-impl Indexes {
-    /// The empty list, which takes no memory.
-    pub fn new(alloc: Global) -> Indexes
-        ensures { result ≡ [] }
-    {
-        Indexes {
-            items: Vec::new(alloc),
-        }
-    }
-
-    /// Adds one at the end. After an `Err` the list is unchanged.
-    pub fn push(&mut self, item: usize) -> Result<(), AllocError>
-        ensures ok { OnOk result (self.new ≡ self.old ++ item ∷ []) }
-        ensures err { OnErr result (self.new ≡ self.old) }
-    {
-        self.items.push(item)?;
-        Ok(())
-    }
-
-    /// The items, in order.
-    pub fn as_slice(&self) -> &[usize]
-        ensures { result.now ≡ self.now }
-    {
-        self.items.as_slice()
-    }
-}
+pub type Indexes = List<usize>;

@@ -1,14 +1,14 @@
 //! The nearest gaps first.
 
 ghost use Rattle.std.specs.Prelude.{◌≡◌, ◌<◌, ◌&&◌, All, IfOk, false, length, not, slice_index_or, slice_set, true};
-ghost use Rattle.osm_lists.specs.Rising.{IsRising};
+ghost use Rattle.lists.specs.Rising.{IsRising};
 ghost use Rattle.coast_join.specs.declared.gap.Gap.{Gap};
 ghost use Rattle.coast_join.specs.Taken.{AreTaken, TakenAreOne, gap_cmp};
 
 use crate::gap::{Gap, Gaps};
-use std::alloc::{AllocError, Global};
+use std::alloc::{AllocError as OutOfMemory, Global};
 
-// Neither the end nor the start is taken.
+/// Neither the end nor the start is taken.
 fn is_free(ended: &[bool], started: &[bool], pair: Gap) -> bool
     requires from { pair.from_chain < length ended.now }
     requires to { pair.to_chain < length started.now }
@@ -17,7 +17,7 @@ fn is_free(ended: &[bool], started: &[bool], pair: Gap) -> bool
     !ended[pair.from_chain] && !started[pair.to_chain]
 }
 
-// Marks a place.
+/// Marks a place.
 fn mark(marks: &mut [bool], place: usize)
     requires { place < length marks.old }
     ensures { marks.new ≡ slice_set marks.old place true }
@@ -27,7 +27,7 @@ fn mark(marks: &mut [bool], place: usize)
 
 /// The pairs that are taken, of pairs in strict order: each that has no chain's end or start in common with a
 /// lesser one that is taken.
-pub fn taken(alloc: Global, pairs: &[Gap], chains: usize) -> Result<Gaps, AllocError>
+pub fn taken(alloc: Global, pairs: &[Gap], chains: usize) -> Result<Gaps, OutOfMemory>
     requires rising { IsRising gap_cmp pairs.now }
     requires from { All (λ (g : Gap). g.from_chain < chains) pairs.now }
     requires to { All (λ (g : Gap). g.to_chain < chains) pairs.now }

@@ -17,7 +17,7 @@ use crate::way::{Aside, Asides, CoastWay, CoastWays};
 use indexmap::IndexSet;
 use osm_geom::{Loc, Path, orders_are_exact};
 use osm_objects::Store;
-use std::alloc::{AllocError, Global};
+use std::alloc::{AllocError as OutOfMemory, Global};
 
 /// The coastline ways that take part, and what keeps the others from it, each in input order.
 #[derive(Debug, Drop)]
@@ -26,8 +26,8 @@ pub struct CoastInput {
     pub aside: Asides,
 }
 
-// The references to nodes that have no location.
-fn unlocated(alloc: Global, store: &Store, refs: &[i64]) -> Result<Vec<i64>, AllocError>
+/// The references to nodes that have no location.
+fn unlocated(alloc: Global, store: &Store, refs: &[i64]) -> Result<Vec<i64>, OutOfMemory>
     ensures { IfOk result (λ v. v.items ≡ filter (λ id. is_none (location_of store.now id)) refs.now) }
 {
     let mut ids = Vec::new(alloc);
@@ -39,15 +39,15 @@ fn unlocated(alloc: Global, store: &Store, refs: &[i64]) -> Result<Vec<i64>, All
     Ok(ids)
 }
 
-fn nodes_missing(alloc: Global, store: &Store, refs: &[i64]) -> Result<IndexSet<i64>, AllocError>
+fn nodes_missing(alloc: Global, store: &Store, refs: &[i64]) -> Result<IndexSet<i64>, OutOfMemory>
     ensures { IfOk result (λ s. s.keys ≡ nodes_missing store.now refs.now) }
 {
     let all = unlocated(alloc, store, refs)?;
     each_once(alloc, &all)
 }
 
-// The locations of references; one without a location is passed over.
-fn located(alloc: Global, store: &Store, refs: &[i64]) -> Result<Vec<Loc>, AllocError>
+/// The locations of references; one without a location is passed over.
+fn located(alloc: Global, store: &Store, refs: &[i64]) -> Result<Vec<Loc>, OutOfMemory>
     ensures { IfOk result (λ v. v.items ≡ filter_map (location_of store.now) refs.now) }
 {
     let mut locs = Vec::with_capacity(alloc, refs.len())?;
@@ -55,15 +55,15 @@ fn located(alloc: Global, store: &Store, refs: &[i64]) -> Result<Vec<Loc>, Alloc
     Ok(locs)
 }
 
-fn line_along(alloc: Global, store: &Store, refs: &[i64]) -> Result<Path, AllocError>
+fn line_along(alloc: Global, store: &Store, refs: &[i64]) -> Result<Path, OutOfMemory>
     ensures { IfOk result (λ path. path ≡ line_along store.now refs.now) }
 {
     let locs = located(alloc, store, refs)?;
     once_path(alloc, locs)
 }
 
-// Adds a missing node of each of these ids.
-fn add_missing(asides: &mut Asides, way: i64, nodes: &[i64]) -> Result<(), AllocError>
+/// Adds a missing node of each of these ids.
+fn add_missing(asides: &mut Asides, way: i64, nodes: &[i64]) -> Result<(), OutOfMemory>
     ensures { OnOk result (asides.new ≡ asides.old ++ map (Missing way) nodes.now) }
 {
     for &node in nodes {
@@ -72,13 +72,13 @@ fn add_missing(asides: &mut Asides, way: i64, nodes: &[i64]) -> Result<(), Alloc
     Ok(())
 }
 
-// Adds a way with these locations, if they are at least two, and else notes that they aren't.
+/// Adds a way with these locations, if they are at least two, and else notes that they aren't.
 fn add_line(
     ways: &mut CoastWays,
     asides: &mut Asides,
     way: i64,
     path: Path,
-) -> Result<(), AllocError>
+) -> Result<(), OutOfMemory>
     requires { NeighboursDiffer path }
     ensures ways { OnOk result (map line_of ways.new ≡ map line_of ways.old ++ lines_by way [] path) }
     ensures asides { OnOk result (asides.new ≡ asides.old ++ asides_by way [] path) }
@@ -91,7 +91,7 @@ fn add_line(
     Ok(())
 }
 
-// Adds a way with these references.
+/// Adds a way with these references.
 fn add_way(
     alloc: Global,
     store: &Store,
@@ -99,7 +99,7 @@ fn add_way(
     asides: &mut Asides,
     way: i64,
     refs: &[i64],
-) -> Result<(), AllocError>
+) -> Result<(), OutOfMemory>
     ensures ways { OnOk result (map line_of ways.new ≡ map line_of ways.old ++ lines_by way (nodes_missing store.now refs.now) (line_along store.now refs.now)) }
     ensures asides { OnOk result (asides.new ≡ asides.old ++ asides_by way (nodes_missing store.now refs.now) (line_along store.now refs.now)) }
 {
@@ -112,7 +112,7 @@ fn add_way(
     add_line(ways, asides, way, path)
 }
 
-// The references of a way.
+/// The references of a way.
 fn refs_of(store: &Store, way: i64) -> &[i64]
     ensures { result.now ≡ refs_of store.now way }
 {
@@ -126,7 +126,7 @@ fn refs_of(store: &Store, way: i64) -> &[i64]
 ///
 /// A way with a reference to a node that has no location is set aside with each such node; so is one of which fewer
 /// than two locations are left where equal neighbours are taken once. The error is want of memory.
-pub fn coast_input(alloc: Global, store: &Store) -> Result<CoastInput, AllocError>
+pub fn coast_input(alloc: Global, store: &Store) -> Result<CoastInput, OutOfMemory>
     ensures ways { IfOk result (λ input. map line_of input.ways ≡ flat_map (lines_of store.now) (coast_ways store.now)) }
     ensures aside { IfOk result (λ input. input.aside ≡ flat_map (asides_of store.now) (coast_ways store.now)) }
     ensures apart { IfOk result (λ input. IsDistinct int_eq (map (λ (w : CoastWay). w.id) input.ways)) }

@@ -3,15 +3,15 @@
 ghost use Rattle.std.specs.Prelude.{◌≡◌, ◌↔◌, ◌<◌, ◌^◌, ℕ, IfOk, Option, Some, length, map};
 ghost use Rattle.std.specs.List.{slice_get};
 ghost use Rattle.std.specs.BTreeMap.{get};
-ghost use Rattle.osm_geom.specs.declared.loc.Loc.{Loc};
+ghost use Rattle.osm_lattice.specs.declared.loc.Loc.{Loc};
 ghost use Rattle.coast_join.specs.Links.{before, AreNumbered, AreLinks, key_cmp};
 
 use osm_geom::{Loc, orders_are_exact};
-use std::alloc::{AllocError, Global};
+use std::alloc::{AllocError as OutOfMemory, Global};
 use std::collections::BTreeMap;
 
-// Each location, and how often it stands before.
-fn numbered(alloc: Global, locs: &[Loc]) -> Result<Vec<(Loc, usize)>, AllocError>
+/// Each location, and how often it stands before.
+fn numbered(alloc: Global, locs: &[Loc]) -> Result<Vec<(Loc, usize)>, OutOfMemory>
     ensures { IfOk result (λ v. AreNumbered locs.now v.items) }
 {
     orders_are_exact();
@@ -25,8 +25,8 @@ fn numbered(alloc: Global, locs: &[Loc]) -> Result<Vec<(Loc, usize)>, AllocError
     Ok(numbered)
 }
 
-// For each location, and how often it stands before, its place.
-fn places(alloc: Global, locs: &[Loc]) -> Result<BTreeMap<(Loc, usize), usize>, AllocError>
+/// For each location, and how often it stands before, its place.
+fn places(alloc: Global, locs: &[Loc]) -> Result<BTreeMap<(Loc, usize), usize>, OutOfMemory>
     ensures { IfOk result (λ m. (p : Loc) (r j : ℕ) → (get key_cmp m (p, r) ≡ Some j) ↔ ((slice_get locs.now j ≡ Some p) × (before p locs.now j ≡ r))) }
 {
     orders_are_exact();
@@ -38,12 +38,12 @@ fn places(alloc: Global, locs: &[Loc]) -> Result<BTreeMap<(Loc, usize), usize>, 
     Ok(places)
 }
 
-// What the map has at each key.
+/// What the map has at each key.
 fn found(
     alloc: Global,
     places: &BTreeMap<(Loc, usize), usize>,
     keys: &[(Loc, usize)],
-) -> Result<Vec<Option<usize>>, AllocError>
+) -> Result<Vec<Option<usize>>, OutOfMemory>
     ensures { IfOk result (λ v. v.items ≡ map (get key_cmp places.now) keys.now) }
 {
     keys.iter()
@@ -53,7 +53,7 @@ fn found(
 
 /// For each way the one that it goes on to: at each location the i-th that ends there goes on to the i-th that
 /// starts there. Told are the locations at which the ways end, and those at which they start.
-pub fn links(alloc: Global, ends: &[Loc], starts: &[Loc]) -> Result<Vec<Option<usize>>, AllocError>
+pub fn links(alloc: Global, ends: &[Loc], starts: &[Loc]) -> Result<Vec<Option<usize>>, OutOfMemory>
     ensures { IfOk result (λ v. AreLinks ends.now starts.now v.items) }
 {
     let places = places(alloc, starts)?;

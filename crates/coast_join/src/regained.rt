@@ -15,9 +15,9 @@ use crate::gap::Closings;
 use crate::ring::{CoastRing, CoastRings, Joined};
 use crate::ring_making::{gap_links, next_chains, ring_of, unclosed_of};
 use orbits::{each_stands_once, orbits};
-use std::alloc::{AllocError, Global};
+use std::alloc::{AllocError as OutOfMemory, Global};
 
-// Whether the last chain of an orbit goes on.
+/// Whether the last chain of an orbit goes on.
 fn is_closed(next: &[Option<usize>], orbit: &[usize]) -> bool
     requires some { 0 < length orbit.now }
     requires inside { All (λ k. k < length next.now) orbit.now }
@@ -27,13 +27,13 @@ fn is_closed(next: &[Option<usize>], orbit: &[usize]) -> bool
     next[end].is_some()
 }
 
-// The unclosed chains, in order of their first chains.
+/// The unclosed chains, in order of their first chains.
 fn unclosed(
     alloc: Global,
     chains: &[Chain],
     next: &[Option<usize>],
     orbits: &[Vec<usize>],
-) -> Result<Chains, AllocError>
+) -> Result<Chains, OutOfMemory>
     requires sized { length next.now ≡ length chains.now }
     requires inside { All (AreInside (length chains.now)) (map (λ o. o.items) orbits.now) }
     ensures { IfOk result (λ v. AllZip (λ o c. IsUnclosed (chains_at chains.now o) c) (filter (λ o. not (is_closed next.now o)) (map (λ o. o.items) orbits.now)) v) }
@@ -47,13 +47,13 @@ fn unclosed(
     Ok(unclosed)
 }
 
-// The rings, in order of their first chains.
+/// The rings, in order of their first chains.
 fn rings(
     alloc: Global,
     chains: &[Chain],
     next: &[Option<usize>],
     orbits: &[Vec<usize>],
-) -> Result<Vec<CoastRing>, AllocError>
+) -> Result<Vec<CoastRing>, OutOfMemory>
     requires sized { length next.now ≡ length chains.now }
     requires inside { All (AreInside (length chains.now)) (map (λ o. o.items) orbits.now) }
     ensures { IfOk result (λ v. AllZip (λ o r. IsRing (chains_at chains.now o) r) (filter (is_closed next.now) (map (λ o. o.items) orbits.now)) v.items) }
@@ -67,13 +67,13 @@ fn rings(
     Ok(rings)
 }
 
-// Rings in order of name.
-fn by_name(mut rings: Vec<CoastRing>) -> Result<CoastRings, AllocError>
+/// Rings in order of name.
+fn by_name(mut rings: Vec<CoastRing>) -> Result<CoastRings, OutOfMemory>
     ensures same { IfOk result (λ v. IsPermutation rings.items v) }
     ensures by_name { IfOk result (λ v. IsSortedByKey (λ (r : CoastRing). r.name) int_cmp v) }
 {
     rings.sort_by_key(|ring| ring.name)?;
-    Ok(CoastRings::of_vec(rings))
+    Ok(CoastRings::from_vec(rings))
 }
 
 /// What has become of chains once gaps are closed: the rings, and the chains that are still unclosed.
@@ -84,7 +84,7 @@ pub fn closed_rings(
     alloc: Global,
     chains: &[Chain],
     closings: &Closings,
-) -> Result<Joined, AllocError>
+) -> Result<Joined, OutOfMemory>
     requires { (limit : ℕ) × AreClosings chains.now limit closings.now }
     ensures { IfOk result (λ joined. AreJoined chains.now closings.now joined) }
 {

@@ -1,12 +1,10 @@
 //! Rings of coastline, and lists of them.
 
-ghost use Rattle.std.specs.Prelude.{◌≡◌, ◌++◌, ◌∷◌, [], OnOk, OnErr};
 ghost use Rattle.coast_join.specs.Round.{IsRound};
 
 use crate::chain::Chains;
+use lists::List;
 use osm_geom::Path;
-use std::alloc::{AllocError, Global};
-use std::marker::Model;
 
 /// A closed line of coast: its locations in order, at least two, no two equal ones next to each other, the last and
 /// the first included. It is named by the least id of its ways.
@@ -25,52 +23,4 @@ pub struct Joined {
 }
 
 /// Rings of coastline, in order.
-#[derive(Debug, Drop)]
-pub struct CoastRings {
-    items: Vec<CoastRing>,
-}
-
-impl Model for CoastRings {
-    ghost use Rattle.std.specs.Prelude.{List};
-    ghost use Rattle.coast_join.specs.declared.ring.CoastRing.{CoastRing};
-
-    ghost Value = { List CoastRing };
-
-    ghost view = { λ list. list.items.items };
-}
-
-impl CoastRings {
-    /// The empty list, which takes no memory.
-    pub fn new(alloc: Global) -> CoastRings
-        ensures { result ≡ [] }
-    {
-        CoastRings {
-            items: Vec::new(alloc),
-        }
-    }
-
-    /// Adds one at the end. After an `Err` the list is unchanged.
-    pub fn push(&mut self, item: CoastRing) -> Result<(), AllocError>
-        ensures ok { OnOk result (self.new ≡ self.old ++ item ∷ []) }
-        ensures err { OnErr result (self.new ≡ self.old) }
-    {
-        self.items.push(item)?;
-        Ok(())
-    }
-
-    /// The items, in order.
-    pub fn as_slice(&self) -> &[CoastRing]
-        ensures { result.now ≡ self.now }
-    {
-        self.items.as_slice()
-    }
-}
-
-impl CoastRings {
-    /// The rings of a vector.
-    pub(crate) fn of_vec(items: Vec<CoastRing>) -> CoastRings
-        ensures { result ≡ items.items }
-    {
-        CoastRings { items }
-    }
-}
+pub type CoastRings = List<CoastRing>;

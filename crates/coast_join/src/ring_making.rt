@@ -2,14 +2,12 @@
 
 ghost use Rattle.std.specs.Prelude.{◌≡◌, ◌≢◌, ◌<◌, ◌++◌, if◌then◌else◌, All, AllPairs, IfOk, OnOk, Some, length, ℤ};
 ghost use Rattle.std.specs.List.{list_any, range_with_len};
-ghost use Rattle.osm_geom.specs.declared.loc.Loc.{Loc};
+ghost use Rattle.osm_lattice.specs.declared.loc.Loc.{Loc};
 ghost use Rattle.coast_join.specs.declared.chain.Chain.{Chain};
 ghost use Rattle.coast_join.specs.declared.gap.Gap.{Gap};
 ghost use Rattle.coast_join.specs.Closings.{is_antarctic, is_open};
 ghost use Rattle.coast_join.specs.Joined.{IsLeast, IsRing, IsUnclosed, chains_at, corners, paths_of, south_east, south_west, ways_of};
 ghost use Rattle.coast_join.specs.JoinSteps.{AreGapLinks, AreNextBy};
-ghost use Rattle.coast_join.specs.Line.{IsLine};
-ghost use Rattle.coast_join.specs.Round.{once, once_round};
 
 use crate::chain::Chain;
 use crate::closing::{is_antarctic, is_open};
@@ -17,14 +15,14 @@ use crate::gap::Gap;
 use crate::ring::CoastRing;
 use crate::round::{once_path, round_path};
 use osm_geom::{Ids, Loc, orders_are_exact};
-use std::alloc::{AllocError, Global};
+use std::alloc::{AllocError as OutOfMemory, Global};
 
-// For each chain the one to which a gap leads from its end.
+/// For each chain the one to which a gap leads from its end.
 pub(crate) fn gap_links(
     alloc: Global,
     gaps: &[Gap],
     chains: usize,
-) -> Result<Vec<Option<usize>>, AllocError>
+) -> Result<Vec<Option<usize>>, OutOfMemory>
     requires from { All (λ (g : Gap). g.from_chain < chains) gaps.now }
     requires apart { AllPairs (λ (g : Gap) (h : Gap). g.from_chain ≢ h.from_chain) gaps.now }
     ensures { IfOk result (λ v. AreGapLinks gaps.now chains v.items) }
@@ -42,12 +40,12 @@ fn goes_on(chain: &Chain, link: Option<usize>, place: usize) -> Option<usize>
     if is_open(chain) { link } else { Some(place) }
 }
 
-// What each chain goes on to.
+/// What each chain goes on to.
 pub(crate) fn next_chains(
     alloc: Global,
     chains: &[Chain],
     links: &[Option<usize>],
-) -> Result<Vec<Option<usize>>, AllocError>
+) -> Result<Vec<Option<usize>>, OutOfMemory>
     requires { length links.now ≡ length chains.now }
     ensures { IfOk result (λ v. AreNextBy links.now chains.now v.items) }
 {
@@ -58,8 +56,8 @@ pub(crate) fn next_chains(
     Ok(next)
 }
 
-// Adds the ids of a chain's ways.
-fn add_ids(ids: &mut Ids, more: &[i64]) -> Result<(), AllocError>
+/// Adds the ids of a chain's ways.
+fn add_ids(ids: &mut Ids, more: &[i64]) -> Result<(), OutOfMemory>
     ensures { OnOk result (ids.new ≡ ids.old ++ more.now) }
 {
     for &id in more {
@@ -68,8 +66,8 @@ fn add_ids(ids: &mut Ids, more: &[i64]) -> Result<(), AllocError>
     Ok(())
 }
 
-// The ids of the ways of the chains at these places.
-fn ids_at(alloc: Global, chains: &[Chain], places: &[usize]) -> Result<Ids, AllocError>
+/// The ids of the ways of the chains at these places.
+fn ids_at(alloc: Global, chains: &[Chain], places: &[usize]) -> Result<Ids, OutOfMemory>
     requires { All (λ k. k < length chains.now) places.now }
     ensures { IfOk result (λ ids. ids ≡ ways_of (chains_at chains.now places.now)) }
 {
@@ -80,8 +78,8 @@ fn ids_at(alloc: Global, chains: &[Chain], places: &[usize]) -> Result<Ids, Allo
     Ok(ids)
 }
 
-// The paths of the chains at these places one after the other.
-fn paths_at(alloc: Global, chains: &[Chain], places: &[usize]) -> Result<Vec<Loc>, AllocError>
+/// The paths of the chains at these places one after the other.
+fn paths_at(alloc: Global, chains: &[Chain], places: &[usize]) -> Result<Vec<Loc>, OutOfMemory>
     requires { All (λ k. k < length chains.now) places.now }
     ensures { IfOk result (λ v. v.items ≡ paths_of (chains_at chains.now places.now)) }
 {
@@ -92,12 +90,12 @@ fn paths_at(alloc: Global, chains: &[Chain], places: &[usize]) -> Result<Vec<Loc
     Ok(locs)
 }
 
-// The unclosed chain of the chains at these places.
+/// The unclosed chain of the chains at these places.
 pub(crate) fn unclosed_of(
     alloc: Global,
     chains: &[Chain],
     places: &[usize],
-) -> Result<Chain, AllocError>
+) -> Result<Chain, OutOfMemory>
     requires some { 0 < length places.now }
     requires inside { All (λ k. k < length chains.now) places.now }
     ensures { IfOk result (λ chain. IsUnclosed (chains_at chains.now places.now) chain) }
@@ -115,7 +113,7 @@ pub(crate) fn unclosed_of(
     })
 }
 
-// The least id.
+/// The least id.
 fn least(ids: &[i64]) -> i64
     requires { 0 < length ids.now }
     ensures { IsLeast ids.now result }
@@ -129,7 +127,7 @@ fn least(ids: &[i64]) -> i64
     ids[best]
 }
 
-// Whether a chain at these places runs round Antarctica.
+/// Whether a chain at these places runs round Antarctica.
 fn any_antarctic(chains: &[Chain], places: &[usize]) -> bool
     requires { All (λ k. k < length chains.now) places.now }
     ensures { result ≡ list_any is_antarctic (chains_at chains.now places.now) }
@@ -162,8 +160,8 @@ fn south_east() -> Loc
     }
 }
 
-// The corners of the world by which a chain round Antarctica is closed.
-fn add_corners(locs: &mut Vec<Loc>) -> Result<(), AllocError>
+/// The corners of the world by which a chain round Antarctica is closed.
+fn add_corners(locs: &mut Vec<Loc>) -> Result<(), OutOfMemory>
     ensures { OnOk result (locs.new.items ≡ locs.old.items ++ corners) }
 {
     locs.push(south_west())?;
@@ -171,8 +169,8 @@ fn add_corners(locs: &mut Vec<Loc>) -> Result<(), AllocError>
     Ok(())
 }
 
-// The locations of the ring of the chains at these places.
-fn ring_locs(alloc: Global, chains: &[Chain], places: &[usize]) -> Result<Vec<Loc>, AllocError>
+/// The locations of the ring of the chains at these places.
+fn ring_locs(alloc: Global, chains: &[Chain], places: &[usize]) -> Result<Vec<Loc>, OutOfMemory>
     requires { All (λ k. k < length chains.now) places.now }
     ensures { IfOk result (λ v. v.items ≡ (if list_any is_antarctic (chains_at chains.now places.now) then paths_of (chains_at chains.now places.now) ++ corners else paths_of (chains_at chains.now places.now))) }
 {
@@ -184,12 +182,12 @@ fn ring_locs(alloc: Global, chains: &[Chain], places: &[usize]) -> Result<Vec<Lo
     Ok(locs)
 }
 
-// The ring of the chains at these places.
+/// The ring of the chains at these places.
 pub(crate) fn ring_of(
     alloc: Global,
     chains: &[Chain],
     places: &[usize],
-) -> Result<CoastRing, AllocError>
+) -> Result<CoastRing, OutOfMemory>
     requires some { 0 < length places.now }
     requires inside { All (λ k. k < length chains.now) places.now }
     ensures { IfOk result (λ ring. IsRing (chains_at chains.now places.now) ring) }

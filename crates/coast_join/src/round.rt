@@ -2,10 +2,9 @@
 
 ghost use Rattle.std.specs.Prelude.{◌≡◌, ◌≤◌, IfOk, length};
 ghost use Rattle.coast_join.specs.Round.{is_same, once, once_round, opened};
-ghost use Rattle.coast_join.specs.Line.{first_of, last_of};
 
 use osm_geom::{Loc, Path};
-use std::alloc::{AllocError, Global};
+use std::alloc::{AllocError as OutOfMemory, Global};
 
 fn is_same(p: Loc, q: Loc) -> bool
     ensures { result ≡ is_same p q }
@@ -13,7 +12,7 @@ fn is_same(p: Loc, q: Loc) -> bool
     p == q
 }
 
-fn path_of(alloc: Global, locs: &[Loc]) -> Result<Path, AllocError>
+fn path_of(alloc: Global, locs: &[Loc]) -> Result<Path, OutOfMemory>
     ensures { IfOk result (λ path. path ≡ locs.now) }
 {
     let mut path = Path::new(alloc);
@@ -23,7 +22,7 @@ fn path_of(alloc: Global, locs: &[Loc]) -> Result<Path, AllocError>
     Ok(path)
 }
 
-// Equal neighbours taken once.
+/// Equal neighbours taken once.
 fn once(mut locs: Vec<Loc>) -> Vec<Loc>
     ensures { result.items ≡ once locs.items }
 {
@@ -31,7 +30,7 @@ fn once(mut locs: Vec<Loc>) -> Vec<Loc>
     locs
 }
 
-// Without the last location, where it is the first again.
+/// Without the last location, where it is the first again.
 fn opened(locs: &[Loc]) -> &[Loc]
     requires { 1 ≤ length locs.now }
     ensures { result.now ≡ opened locs.now }
@@ -45,7 +44,7 @@ fn opened(locs: &[Loc]) -> &[Loc]
 }
 
 /// The line of locations with equal neighbours taken once.
-pub(crate) fn once_path(alloc: Global, locs: Vec<Loc>) -> Result<Path, AllocError>
+pub(crate) fn once_path(alloc: Global, locs: Vec<Loc>) -> Result<Path, OutOfMemory>
     ensures { IfOk result (λ path. path ≡ once locs.items) }
 {
     let line = once(locs);
@@ -53,7 +52,7 @@ pub(crate) fn once_path(alloc: Global, locs: Vec<Loc>) -> Result<Path, AllocErro
 }
 
 /// The closed line of locations with equal neighbours taken once, the last and the first included.
-pub(crate) fn round_path(alloc: Global, locs: Vec<Loc>) -> Result<Path, AllocError>
+pub(crate) fn round_path(alloc: Global, locs: Vec<Loc>) -> Result<Path, OutOfMemory>
     requires { 1 ≤ length (once locs.items) }
     ensures { IfOk result (λ path. path ≡ once_round locs.items) }
 {

@@ -12,19 +12,18 @@ use Rattle.plane.specs.Conflict.{is_along, is_inside, is_parted_by, is_touched_b
 use Rattle.plane.specs.Order.{order}
 use Rattle.plane.specs.Sign.{Minus, Null, Plus, Sign, are_opposite, is_null, is_plus, negated, sign, then_sign}
 use Rattle.plane.specs.Vector.{Vector, orient}
-use Rattle.plane.proofs.Points.{int_eq-same, int_eq-true}
-use Rattle.plane.proofs.Signs.{null-is, sign-*, times}
-use Rattle.osm_geom.specs.declared.loc.Loc.{Loc}
-use Rattle.osm_geom.specs.declared.seg.Seg.{Seg}
-use Rattle.osm_geom.specs.declared.conflicts.Kind.{Kind}
-use Rattle.osm_geom.specs.declared.conflicts.Kind.TheVariants.{Crossing, Overlap}
-use Rattle.osm_geom.specs.Conflict.{are_crossing, are_overlapping, conflict_of}
-use Rattle.osm_geom.specs.Loc.{loc_cmp, vector_of}
-use Rattle.osm_geom.specs.OrderLaws.{LocationOrderIsPointOrder, LocationOrderTellsApart, ordering_of}
-use Rattle.osm_geom.specs.Seg.{edge_of, seg_cmp, segment_between, segment_by}
-use Rattle.osm_geom.proofs.LocationOrder.{rising_edge}
-use Rattle.osm_geom.proofs.Orders.{seg_from_ends}
-use Rattle.osm_lists.specs.Rising.{IsRising}
+use Rattle.lists.proofs.Integers.{int_eq-same, int_eq-true}
+use Rattle.plane.proofs.SignKit.{null-is, sign-*, times}
+use Rattle.osm_lattice.specs.declared.loc.Loc.{Loc}
+use Rattle.osm_lattice.specs.declared.seg.Seg.{Seg}
+use Rattle.osm_lattice.specs.declared.conflicts.Kind.{Kind}
+use Rattle.osm_lattice.specs.declared.conflicts.Kind.TheVariants.{Crossing, Overlap}
+use Rattle.osm_lattice.specs.Conflict.{are_crossing, are_overlapping, conflict_of}
+use Rattle.osm_lattice.specs.Loc.{loc_cmp, vector_of}
+use Rattle.osm_lattice.specs.OrderLaws.{LocationOrderIsPointOrder, LocationOrderTellsApart, ordering_of}
+use Rattle.osm_lattice.specs.Seg.{edge_of, seg_cmp, segment_between, segment_by}
+use Rattle.osm_lattice.proofs.LatticeKit.{rising_edge, seg_from_ends}
+use Rattle.lists.specs.Rising.{IsRising}
 use Rattle.coast_sides.specs.Water.{IsClearOfSide, Meets, is_east, is_north, is_south, is_west, pieces}
 use Rattle.coast_sides.proofs.EvenRings.{loc_cmp_total, seg_cmp_total}
 use Rattle.coast_sides.proofs.WaterLaws.{upright}

@@ -10,17 +10,17 @@ use Rattle.std.proofs.lemmas.List.{get_or_default}
 use Rattle.std.proofs.lemmas.List.Elements.{Contains-append_cases, Contains-get_or}
 use Rattle.plane.specs.Conflict.{is_inside, is_touched_by, overlaps}
 use Rattle.plane.specs.Sign.{is_null}
-use Rattle.plane.proofs.Points.{int_eq-true}
-use Rattle.osm_geom.specs.declared.loc.Loc.{Loc}
-use Rattle.osm_geom.specs.declared.seg.Seg.{Seg}
-use Rattle.osm_geom.specs.declared.conflicts.Kind.{Kind}
-use Rattle.osm_geom.specs.declared.conflicts.Kind.TheVariants.{Crossing, Overlap}
-use Rattle.osm_geom.specs.Conflict.{are_crossing, are_overlapping, conflict_of}
-use Rattle.osm_geom.specs.ConflictLaws.{ConflictIsSymmetric}
-use Rattle.osm_geom.specs.Loc.{loc_cmp, vector_of}
-use Rattle.osm_geom.specs.OrderLaws.{LocationOrderIsPointOrder, LocationOrderTellsApart, SegmentOrderTellsApart}
-use Rattle.osm_geom.specs.Seg.{edge_of, seg_cmp}
-use Rattle.osm_lists.specs.Rising.{IsRising}
+use Rattle.lists.proofs.Integers.{int_eq-true}
+use Rattle.osm_lattice.specs.declared.loc.Loc.{Loc}
+use Rattle.osm_lattice.specs.declared.seg.Seg.{Seg}
+use Rattle.osm_lattice.specs.declared.conflicts.Kind.{Kind}
+use Rattle.osm_lattice.specs.declared.conflicts.Kind.TheVariants.{Crossing, Overlap}
+use Rattle.osm_lattice.specs.Conflict.{are_crossing, are_overlapping, conflict_of}
+use Rattle.osm_lattice.specs.ConflictLaws.{ConflictIsSymmetric}
+use Rattle.osm_lattice.specs.Loc.{loc_cmp, vector_of}
+use Rattle.osm_lattice.specs.OrderLaws.{LocationOrderIsPointOrder, LocationOrderTellsApart, SegmentOrderTellsApart}
+use Rattle.osm_lattice.specs.Seg.{edge_of, seg_cmp}
+use Rattle.lists.specs.Rising.{IsRising}
 use Rattle.osm_segments.specs.Counts.{AreSurvivors, ends_of}
 use Rattle.osm_segments.specs.Pairs.{conflicts_of}
 use Rattle.coast_join.specs.Joined.{south_east, south_west}

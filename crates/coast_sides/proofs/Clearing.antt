@@ -7,18 +7,17 @@ use Rattle.std.specs.Ordering.{is_eq}
 use Rattle.std.proofs.lemmas.Bool.{false≢true}
 use Rattle.std.proofs.lemmas.Cmp.{tied_itself}
 use Rattle.std.proofs.lemmas.List.Sums.{sum_by-cons}
-use Rattle.plane.specs.Vector.{Vector, east}
+use Rattle.plane.specs.Vector.{Vector, east, from_to}
 use Rattle.plane.specs.Edge as plane
 use Rattle.plane.specs.RayCrossing.{up_crossing, down_crossing}
 use Rattle.plane.specs.Scale.{scaled_edge}
-use Rattle.plane.specs.Vector.{from_to}
 use Rattle.winding.specs.EdgeList.{crossing_count}
 use Rattle.winding.specs.ScaledEdges.{scaled_edges}
-use Rattle.osm_geom.specs.declared.seg.Seg.{Seg}
-use Rattle.osm_geom.specs.Conflict.{conflict_of}
-use Rattle.osm_geom.specs.OrderLaws.{SegmentOrderTellsApart}
-use Rattle.osm_geom.specs.Seg.{edge_of, seg_cmp}
-use Rattle.osm_lists.specs.Rising.{count_of}
+use Rattle.osm_lattice.specs.declared.seg.Seg.{Seg}
+use Rattle.osm_lattice.specs.Conflict.{conflict_of}
+use Rattle.osm_lattice.specs.OrderLaws.{SegmentOrderTellsApart}
+use Rattle.osm_lattice.specs.Seg.{edge_of, seg_cmp}
+use Rattle.lists.specs.Rising.{count_of}
 use Rattle.osm_segments.specs.Counts.{AreSurvivors}
 use Rattle.osm_segments.specs.Pairs.{conflicts_of, pair_of}
 use Rattle.osm_segments.specs.declared.pairs.Pair.{Pair}

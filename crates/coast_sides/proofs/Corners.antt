@@ -10,13 +10,13 @@ use Rattle.plane.specs.Conflict.{is_inside}
 use Rattle.plane.specs.Order.{order}
 use Rattle.plane.specs.Sign.{Minus, Null, Plus, Sign, is_null, is_plus, negated, sign}
 use Rattle.plane.specs.Vector.{orient}
-use Rattle.plane.proofs.Products.{orient-round}
-use Rattle.plane.proofs.Signs.{minus-is, plus-is, sign-*, sign-reversed, times}
-use Rattle.osm_geom.specs.declared.loc.Loc.{Loc}
-use Rattle.osm_geom.specs.declared.seg.Seg.{Seg}
-use Rattle.osm_geom.specs.Loc.{loc_cmp, vector_of}
-use Rattle.osm_geom.specs.OrderLaws.{LocationOrderIsPointOrder}
-use Rattle.osm_geom.specs.Seg.{edge_of}
+use Rattle.plane.proofs.PlaneKit.{orient-round}
+use Rattle.plane.proofs.SignKit.{minus-is, plus-is, sign-*, sign-reversed, times}
+use Rattle.osm_lattice.specs.declared.loc.Loc.{Loc}
+use Rattle.osm_lattice.specs.declared.seg.Seg.{Seg}
+use Rattle.osm_lattice.specs.Loc.{loc_cmp, vector_of}
+use Rattle.osm_lattice.specs.OrderLaws.{LocationOrderIsPointOrder}
+use Rattle.osm_lattice.specs.Seg.{edge_of}
 use Rattle.coast_join.specs.Joined.{south_east, south_west}
 use Rattle.coast_sides.specs.Water.{north_east, north_west}
 use Rattle.coast_sides.proofs.ClearSides.{and_first, and_then, no_by, plus_less, within_abs}

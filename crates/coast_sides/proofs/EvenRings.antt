@@ -7,12 +7,12 @@ use Rattle.std.specs.List.{cons_option, filter_map, sum_by, zip}
 use Rattle.std.specs.Ordering.{is_eq, ordering_reverse}
 use Rattle.std.proofs.lemmas.Cmp.{tied_itself, int_cmp_total, on_total, then_total}
 use Rattle.std.proofs.lemmas.List.Sums.{sum_by-append, sum_by-cons}
-use Rattle.osm_geom.specs.declared.loc.Loc.{Loc}
-use Rattle.osm_geom.specs.declared.seg.Seg.{Seg}
-use Rattle.osm_geom.specs.Loc.{loc_cmp}
-use Rattle.osm_geom.specs.OrderLaws.{LocationOrderTellsApart, SegmentOrderTellsApart}
-use Rattle.osm_geom.specs.Seg.{seg_cmp, segment_between, segment_by}
-use Rattle.osm_lists.specs.Rising.{IsRising, count_of}
+use Rattle.osm_lattice.specs.declared.loc.Loc.{Loc}
+use Rattle.osm_lattice.specs.declared.seg.Seg.{Seg}
+use Rattle.osm_lattice.specs.Loc.{loc_cmp}
+use Rattle.osm_lattice.specs.OrderLaws.{LocationOrderTellsApart, SegmentOrderTellsApart}
+use Rattle.osm_lattice.specs.Seg.{seg_cmp, segment_between, segment_by}
+use Rattle.lists.specs.Rising.{IsRising, count_of}
 use Rattle.osm_segments.specs.Counts.{AreSurvivors, ends_of}
 use Rattle.osm_sides.specs.Survivors.{HasEvenNodes}
 use Rattle.coast_join.specs.declared.ring.CoastRing.{CoastRing}

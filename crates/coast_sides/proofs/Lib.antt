@@ -1,10 +1,10 @@
-pub mod Cancelling
-pub mod ClearSides
-pub mod ClearWater
-pub mod Clearing
-pub mod Corners
-pub mod EvenRings
-pub mod Pieces
-pub mod RoundSteps
-pub mod WaterLaws
-pub mod SideNodes
+mod Cancelling
+mod ClearSides
+mod ClearWater
+mod Clearing
+mod Corners
+mod EvenRings
+mod Pieces
+mod RoundSteps
+mod SideNodes
+mod WaterLaws

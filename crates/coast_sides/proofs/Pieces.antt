@@ -4,12 +4,12 @@ use Rattle.std.specs.declared.cmp.Ordering.{Ordering}
 use Rattle.std.specs.declared.cmp.Ordering.TheVariants.{Less, Equal, Greater}
 use Rattle.std.specs.List.{cons_option, sum_by}
 use Rattle.std.proofs.lemmas.List.Sums.{sum_by-cons}
-use Rattle.osm_geom.specs.declared.loc.Loc.{Loc}
-use Rattle.osm_geom.specs.declared.seg.Seg.{Seg}
-use Rattle.osm_geom.specs.Loc.{loc_cmp}
-use Rattle.osm_geom.specs.Seg.{segment_between, segment_by}
-use Rattle.osm_geom.proofs.Orders.{seg_from_ends}
-use Rattle.osm_lists.specs.Rising.{IsRising, count_of}
+use Rattle.osm_lattice.specs.declared.loc.Loc.{Loc}
+use Rattle.osm_lattice.specs.declared.seg.Seg.{Seg}
+use Rattle.osm_lattice.specs.Loc.{loc_cmp}
+use Rattle.osm_lattice.specs.Seg.{segment_between, segment_by}
+use Rattle.osm_lattice.proofs.LatticeKit.{seg_from_ends}
+use Rattle.lists.specs.Rising.{IsRising, count_of}
 use Rattle.coast_join.specs.Line.{last_of, origin}
 use Rattle.coast_sides.specs.Water.{pieces}
 use Rattle.coast_sides.proofs.EvenRings.{ends_at, one}

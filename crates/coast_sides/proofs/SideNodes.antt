@@ -9,12 +9,12 @@ use Rattle.std.proofs.lemmas.Int.{ints}
 use Rattle.std.proofs.lemmas.List.{append_assoc, flat_map_more, get_or_default, take_more}
 use Rattle.std.proofs.lemmas.List.Elements.{All-contains, Contains-get_or, filter-append, filter_passes}
 use Rattle.std.proofs.lemmas.List.Sums.{sum_by-cons}
-use Rattle.plane.proofs.Points.{int_eq-true}
-use Rattle.osm_geom.specs.declared.loc.Loc.{Loc}
-use Rattle.osm_geom.specs.declared.seg.Seg.{Seg}
-use Rattle.osm_geom.specs.Loc.{loc_cmp}
-use Rattle.osm_geom.specs.OrderLaws.{LocationOrderTellsApart}
-use Rattle.osm_lists.specs.Rising.{IsRising, count_of}
+use Rattle.lists.proofs.Integers.{int_eq-true}
+use Rattle.osm_lattice.specs.declared.loc.Loc.{Loc}
+use Rattle.osm_lattice.specs.declared.seg.Seg.{Seg}
+use Rattle.osm_lattice.specs.Loc.{loc_cmp}
+use Rattle.osm_lattice.specs.OrderLaws.{LocationOrderTellsApart}
+use Rattle.lists.specs.Rising.{IsRising, count_of}
 use Rattle.osm_segments.specs.Counts.{ends_of}
 use Rattle.coast_join.specs.Joined.{south_east, south_west}
 use Rattle.coast_join.specs.Line.{first_of, last_of, origin}

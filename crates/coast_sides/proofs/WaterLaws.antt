@@ -10,17 +10,17 @@ use Rattle.plane.specs.Height.{is_in_span, is_left_of}
 use Rattle.plane.specs.RayCrossing.{down_crossing, up_crossing}
 use Rattle.plane.specs.Sign.{Sign, is_minus, is_plus, negated, sign}
 use Rattle.plane.specs.Vector.{Vector, east, from_to, orient}
-use Rattle.plane.proofs.Points.{int_eq-true}
-use Rattle.plane.proofs.RayCrossings.{rightward_crossing, rise-y}
-use Rattle.plane.proofs.Signs.{agree, all4-out, imp, imp-out, minus-is, not-minus-by, plus-is, sign-*, sign-reversed, times}
+use Rattle.lists.proofs.Integers.{int_eq-true}
+use Rattle.plane.proofs.PlaneKit.{rightward_crossing, rise-y}
+use Rattle.plane.proofs.SignKit.{agree, all4-out, imp, imp-out, minus-is, not-minus-by, plus-is, sign-*, sign-reversed, times}
 use Rattle.winding.specs.EdgeList.{crossing_count}
-use Rattle.osm_geom.specs.declared.loc.Loc.{Loc}
-use Rattle.osm_geom.specs.declared.seg.Seg.{Seg}
-use Rattle.osm_geom.specs.Loc.{loc_cmp, vector_of}
-use Rattle.osm_geom.specs.Seg.{edge_of}
-use Rattle.osm_geom.specs.OrderLaws.{LocationOrderTellsApart, SegmentOrderTellsApart}
-use Rattle.osm_geom.proofs.LocationOrder.{rising_edge}
-use Rattle.osm_lists.specs.Rising.{count_of}
+use Rattle.osm_lattice.specs.declared.loc.Loc.{Loc}
+use Rattle.osm_lattice.specs.declared.seg.Seg.{Seg}
+use Rattle.osm_lattice.specs.Loc.{loc_cmp, vector_of}
+use Rattle.osm_lattice.specs.Seg.{edge_of}
+use Rattle.osm_lattice.specs.OrderLaws.{LocationOrderTellsApart, SegmentOrderTellsApart}
+use Rattle.osm_lattice.proofs.LatticeKit.{rising_edge}
+use Rattle.lists.specs.Rising.{count_of}
 use Rattle.osm_segments.specs.Counts.{AreSurvivors}
 use Rattle.osm_sides.specs.Survivors.{HasEvenNodes, edges_of}
 use Rattle.coast_join.specs.Joined.{south_east, south_west}

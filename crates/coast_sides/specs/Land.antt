@@ -5,12 +5,12 @@ use Rattle.plane.specs.Vector.{Vector, east}
 use Rattle.winding.specs.EdgeList.{crossing_count}
 use Rattle.winding.specs.ScaledEdges.{scaled_edges}
 use Rattle.osm_geom.specs.declared.edge.Edge.{Edge}
-use Rattle.osm_geom.specs.declared.seg.Seg.{Seg}
-use Rattle.osm_geom.specs.Conflict.{conflict_of}
+use Rattle.osm_lattice.specs.declared.seg.Seg.{Seg}
+use Rattle.osm_lattice.specs.Conflict.{conflict_of}
 use Rattle.osm_segments.specs.Counts.{AreSurvivors}
 use Rattle.osm_sides.specs.Directions.{AreDirected}
 use Rattle.osm_sides.specs.Survivors.{edges_of}
-use Rattle.sided.specs.Sided.{IsSided, signed_count_at}
+use Rattle.plane_edges.specs.Sided.{IsSided, signed_count_at}
 
 -- no two of the segments conflict
 abbrev pub AreClear : List Seg → Type 0

@@ -1,6 +1,6 @@
 -- Laws of closed lines, as statements.
 use Rattle.std.specs.Prelude.{List}
-use Rattle.osm_geom.specs.declared.seg.Seg.{Seg}
+use Rattle.osm_lattice.specs.declared.seg.Seg.{Seg}
 use Rattle.osm_segments.specs.Counts.{AreSurvivors}
 use Rattle.osm_sides.specs.Survivors.{HasEvenNodes}
 use Rattle.coast_join.specs.declared.ring.CoastRing.{CoastRing}

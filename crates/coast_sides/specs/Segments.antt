@@ -1,9 +1,9 @@
 -- The segments of coastline rings.
 use Rattle.std.specs.Prelude.{List, ◌++◌, drop, take}
 use Rattle.std.specs.List.{filter_map, flat_map, zip}
-use Rattle.osm_geom.specs.declared.loc.Loc.{Loc}
-use Rattle.osm_geom.specs.declared.seg.Seg.{Seg}
-use Rattle.osm_geom.specs.Seg.{segment_between}
+use Rattle.osm_lattice.specs.declared.loc.Loc.{Loc}
+use Rattle.osm_lattice.specs.declared.seg.Seg.{Seg}
+use Rattle.osm_lattice.specs.Seg.{segment_between}
 use Rattle.coast_join.specs.declared.ring.CoastRing.{CoastRing}
 
 -- the steps of a closed line: from each location to the next, and from the last to the first

@@ -7,17 +7,17 @@ use Rattle.plane.specs.Sign.{Plus, sign}
 use Rattle.plane.specs.Vector.{Vector, east}
 use Rattle.winding.specs.EdgeList.{crossing_count}
 use Rattle.osm_geom.specs.declared.edge.Edge.{Edge}
-use Rattle.osm_geom.specs.declared.loc.Loc.{Loc}
-use Rattle.osm_geom.specs.declared.seg.Seg.{Seg}
+use Rattle.osm_lattice.specs.declared.loc.Loc.{Loc}
+use Rattle.osm_lattice.specs.declared.seg.Seg.{Seg}
 use Rattle.plane.specs.Conflict.{is_inside}
-use Rattle.osm_geom.specs.Conflict.{conflict_of}
-use Rattle.osm_geom.specs.Loc.{loc_cmp, vector_of}
-use Rattle.osm_geom.specs.Seg.{edge_of, segment_between}
-use Rattle.osm_lists.specs.Rising.{IsRising}
+use Rattle.osm_lattice.specs.Conflict.{conflict_of}
+use Rattle.osm_lattice.specs.Loc.{loc_cmp, vector_of}
+use Rattle.osm_lattice.specs.Seg.{edge_of, segment_between}
+use Rattle.lists.specs.Rising.{IsRising}
 use Rattle.osm_segments.specs.Counts.{AreSurvivors, ends_of}
 use Rattle.osm_sides.specs.Directions.{AreDirected}
 use Rattle.osm_sides.specs.Survivors.{HasEvenNodes, edges_of}
-use Rattle.sided.specs.Sided.{IsSided, signed_count_at}
+use Rattle.plane_edges.specs.Sided.{IsSided, signed_count_at}
 use Rattle.coast_join.specs.Joined.{south_east, south_west}
 use Rattle.coast_join.specs.Line.{first_of, last_of}
 use Rattle.osm_segments.specs.Pairs.{conflicts_of}

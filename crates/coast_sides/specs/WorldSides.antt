@@ -1,6 +1,6 @@
 -- The sides of the world by name.
 use Rattle.std.specs.Prelude.{Bool}
-use Rattle.osm_geom.specs.declared.loc.Loc.{Loc}
+use Rattle.osm_lattice.specs.declared.loc.Loc.{Loc}
 use Rattle.coast_join.specs.Joined.{south_east, south_west}
 use Rattle.coast_sides.specs.declared.side_nodes.WorldSide.{WorldSide}
 use Rattle.coast_sides.specs.declared.side_nodes.WorldSide.TheVariants.{East, North, South, West}

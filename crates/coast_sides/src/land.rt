@@ -10,10 +10,10 @@ use coast_join::CoastRing;
 use osm_geom::{Edge, Edges, orders_are_exact};
 use osm_segments::survivors;
 use osm_sides::direct;
-use std::alloc::{AllocError, Global};
+use std::alloc::{AllocError as OutOfMemory, Global};
 
-// These edges as a list of their own.
-pub(crate) fn list_of(alloc: Global, edges: &[Edge]) -> Result<Edges, AllocError>
+/// These edges as a list of their own.
+pub(crate) fn list_of(alloc: Global, edges: &[Edge]) -> Result<Edges, OutOfMemory>
     ensures { IfOk result (λ list. list ≡ edges.now) }
 {
     let mut list = Edges::new(alloc);
@@ -26,7 +26,7 @@ pub(crate) fn list_of(alloc: Global, edges: &[Edge]) -> Result<Edges, AllocError
 /// The edges of land: what is left of the segments of rings, directed so that land is on the left.
 ///
 /// No two segments of the rings conflict. The error is want of memory.
-pub fn land_edges(alloc: Global, kept: &[CoastRing]) -> Result<Edges, AllocError>
+pub fn land_edges(alloc: Global, kept: &[CoastRing]) -> Result<Edges, OutOfMemory>
     requires { AreClear (all_segments kept.now) }
     ensures { IfOk result (λ edges. IsLand (all_segments kept.now) edges) }
 {

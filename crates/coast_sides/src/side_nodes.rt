@@ -5,9 +5,9 @@ ghost use Rattle.osm_segments.specs.Counts.{ends_of};
 ghost use Rattle.coast_sides.specs.Water.{IsSide};
 ghost use Rattle.coast_sides.specs.WorldSides.{greater_corner, lesser_corner, on_side};
 
+use lists::distinct_items;
 use osm_geom::{Loc, Seg, orders_are_exact};
-use osm_lists::distinct_items;
-use std::alloc::{AllocError, Global};
+use std::alloc::{AllocError as OutOfMemory, Global};
 
 /// A side of the world's rectangle.
 #[derive(Clone, Copy)]
@@ -59,8 +59,8 @@ fn greater_corner(side: WorldSide) -> Loc
     Loc { x, y }
 }
 
-// Adds a location if it is on the side.
-fn add_if_on(nodes: &mut Vec<Loc>, side: WorldSide, p: Loc) -> Result<(), AllocError>
+/// Adds a location if it is on the side.
+fn add_if_on(nodes: &mut Vec<Loc>, side: WorldSide, p: Loc) -> Result<(), OutOfMemory>
     ensures { OnOk result (nodes.new.items ≡ nodes.old.items ++ filter (on_side side) (p ∷ [])) }
 {
     if is_on(side, p) {
@@ -69,8 +69,8 @@ fn add_if_on(nodes: &mut Vec<Loc>, side: WorldSide, p: Loc) -> Result<(), AllocE
     Ok(())
 }
 
-// Adds the ends of segments that are on the side.
-fn add_ends(nodes: &mut Vec<Loc>, side: WorldSide, land: &[Seg]) -> Result<(), AllocError>
+/// Adds the ends of segments that are on the side.
+fn add_ends(nodes: &mut Vec<Loc>, side: WorldSide, land: &[Seg]) -> Result<(), OutOfMemory>
     ensures { OnOk result (nodes.new.items ≡ nodes.old.items ++ filter (on_side side) (ends_of land.now)) }
 {
     for seg in land {
@@ -81,7 +81,7 @@ fn add_ends(nodes: &mut Vec<Loc>, side: WorldSide, land: &[Seg]) -> Result<(), A
 }
 
 /// The nodes at which a side of the world is cut: its corners, and each node of land on it, in order.
-pub fn side_nodes(alloc: Global, side: WorldSide, land: &[Seg]) -> Result<Vec<Loc>, AllocError>
+pub fn side_nodes(alloc: Global, side: WorldSide, land: &[Seg]) -> Result<Vec<Loc>, OutOfMemory>
     ensures { IfOk result (λ v. IsSide (on_side side) (lesser_corner side) (greater_corner side) land.now v.items) }
 {
     orders_are_exact();

@@ -2,15 +2,14 @@
 
 ghost use Rattle.std.specs.Prelude.{◌≡◌, ◌<◌, ◌+◌, ◌++◌, if◌then◌else◌, nat_lt, IfOk, OnOk};
 ghost use Rattle.std.specs.Option.{option_to_list};
-ghost use Rattle.osm_geom.specs.Seg.{segment_between};
+ghost use Rattle.osm_lattice.specs.Seg.{segment_between};
 ghost use Rattle.coast_join.specs.declared.ring.CoastRing.{CoastRing};
 ghost use Rattle.coast_sides.specs.Segments.{all_segments, segments_round};
-ghost use Rattle.osm_geom.specs.OrderLaws.{LocationOrderTellsApart};
 ghost use Rattle.coast_sides.specs.Laws.{CancellingKeepsEven};
 
 use coast_join::CoastRing;
 use osm_geom::{Loc, Seg, orders_are_exact};
-use std::alloc::{AllocError, Global};
+use std::alloc::{AllocError as OutOfMemory, Global};
 
 /// A law: what is left of closed lines once pairs are cancelled is even at each location.
 pub fn closed_lines_are_even()
@@ -19,8 +18,8 @@ pub fn closed_lines_are_even()
     orders_are_exact();
 }
 
-// Adds the segment of a step.
-pub(crate) fn add_step(segs: &mut Vec<Seg>, from: Loc, to: Loc) -> Result<(), AllocError>
+/// Adds the segment of a step.
+pub(crate) fn add_step(segs: &mut Vec<Seg>, from: Loc, to: Loc) -> Result<(), OutOfMemory>
     ensures { OnOk result (segs.new.items ≡ segs.old.items ++ option_to_list (segment_between from to)) }
 {
     if let Some(seg) = Seg::new(from, to) {
@@ -29,7 +28,7 @@ pub(crate) fn add_step(segs: &mut Vec<Seg>, from: Loc, to: Loc) -> Result<(), Al
     Ok(())
 }
 
-// The place after this one, going round.
+/// The place after this one, going round.
 fn next_round(place: usize, places: usize) -> usize
     requires { place < places }
     ensures value { result ≡ (if nat_lt (place + 1) places then place + 1 else 0) }
@@ -38,8 +37,8 @@ fn next_round(place: usize, places: usize) -> usize
     if place + 1 < places { place + 1 } else { 0 }
 }
 
-// Adds the segments of a closed line.
-fn add_round(segs: &mut Vec<Seg>, path: &[Loc]) -> Result<(), AllocError>
+/// Adds the segments of a closed line.
+fn add_round(segs: &mut Vec<Seg>, path: &[Loc]) -> Result<(), OutOfMemory>
     ensures { OnOk result (segs.new.items ≡ segs.old.items ++ segments_round path.now) }
 {
     for place in 0..path.len() {
@@ -49,7 +48,7 @@ fn add_round(segs: &mut Vec<Seg>, path: &[Loc]) -> Result<(), AllocError>
 }
 
 /// The segments of rings, one ring after the other: from each location to the next, and from the last to the first.
-pub fn all_segments(alloc: Global, rings: &[CoastRing]) -> Result<Vec<Seg>, AllocError>
+pub fn all_segments(alloc: Global, rings: &[CoastRing]) -> Result<Vec<Seg>, OutOfMemory>
     ensures { IfOk result (λ v. v.items ≡ all_segments rings.now) }
 {
     let mut segs = Vec::new(alloc);

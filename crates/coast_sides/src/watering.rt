@@ -12,10 +12,10 @@ use crate::water::{water_is_clear, water_is_even};
 use osm_geom::{Edges, Loc, Seg, orders_are_exact};
 use osm_segments::survivors;
 use osm_sides::direct;
-use std::alloc::{AllocError, Global};
+use std::alloc::{AllocError as OutOfMemory, Global};
 
-// Adds the segments between neighbouring nodes.
-fn add_pieces(segs: &mut Vec<Seg>, nodes: &[Loc]) -> Result<(), AllocError>
+/// Adds the segments between neighbouring nodes.
+fn add_pieces(segs: &mut Vec<Seg>, nodes: &[Loc]) -> Result<(), OutOfMemory>
     requires { 0 < length nodes.now }
     ensures { OnOk result (segs.new.items ≡ segs.old.items ++ pieces nodes.now) }
 {
@@ -25,8 +25,8 @@ fn add_pieces(segs: &mut Vec<Seg>, nodes: &[Loc]) -> Result<(), AllocError>
     Ok(())
 }
 
-// The sides of the world, cut at the nodes of land.
-fn world_sides(alloc: Global, land: &[Seg]) -> Result<Vec<Seg>, AllocError>
+/// The sides of the world, cut at the nodes of land.
+fn world_sides(alloc: Global, land: &[Seg]) -> Result<Vec<Seg>, OutOfMemory>
     ensures { IfOk result (λ v. AreSides land.now v.items) }
 {
     let south = side_nodes(alloc, WorldSide::South, land)?;
@@ -45,7 +45,7 @@ fn world_sides(alloc: Global, land: &[Seg]) -> Result<Vec<Seg>, AllocError>
 /// every node of land on it, directed so that water is on the left.
 ///
 /// Land has no conflicts and is even at each location. The error is want of memory.
-pub fn water_edges(alloc: Global, land: &[Seg]) -> Result<Edges, AllocError>
+pub fn water_edges(alloc: Global, land: &[Seg]) -> Result<Edges, OutOfMemory>
     requires clear { AreClear land.now }
     requires even { HasEvenNodes land.now }
     ensures { IfOk result (λ edges. IsWater land.now edges) }

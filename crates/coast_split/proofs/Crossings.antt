@@ -1,25 +1,23 @@
 -- The point in which an edge meets a cut line, by its carrier.
-use Rattle.std.proofs.Common.{ap, arith, pos, refl, subst, sym, true, ℕ, suc, zero, ℤ, ◌*ℤ◌, ◌+ℤ◌, ◌-ℤ◌, ◌*◌, ◌∙◌, ◌≡◌, ◌≤◌, unsigned_abs}
+use Rattle.std.proofs.Common.{ap, arith, pos, refl, subst, sym, true, ℕ, ℤ, ◌*ℤ◌, ◌+ℤ◌, ◌-ℤ◌, ◌*◌, ◌∙◌, ◌≡◌, ◌≤◌, unsigned_abs}
 use Rattle.plane.specs.Sign.{Minus, Null, Plus, Sign, are_opposite, sign}
-use Rattle.plane.proofs.Identities.{lift, same, ◌⊞◌, ◌⊟◌, ◌⊠◌}
-use Rattle.plane.proofs.Points.{int_eq-same, int_eq-true}
-use Rattle.plane.proofs.Signs.{agree, agree-sum, plus-times, says-at, sign-from}
+use Rattle.plane.proofs.SignKit.{lift, same, ◌⊞◌, ◌⊟◌, ◌⊠◌, agree-sum, plus-times, says-at, plus-not-minus, sign-pos, difference_turned}
+use Rattle.lists.proofs.Integers.{int_eq-same, int_eq-true}
 use Rattle.osm_geom.specs.declared.cut.Axis.{Axis}
 use Rattle.osm_geom.specs.declared.cut.Axis.TheVariants.{X, Y}
 use Rattle.osm_geom.specs.declared.cut.Cut.{Cut}
 use Rattle.osm_geom.specs.declared.edge.Carrier.{Carrier}
 use Rattle.osm_geom.specs.declared.edge.Carrier.TheVariants.{OfSeg, Vertical, Horizontal}
 use Rattle.osm_geom.specs.declared.edge.Edge.{Edge}
-use Rattle.osm_geom.specs.declared.loc.Loc.{Loc}
+use Rattle.osm_lattice.specs.declared.loc.Loc.{Loc}
 use Rattle.osm_geom.specs.declared.point.Point.{Point}
 use Rattle.osm_geom.specs.declared.point.Point.TheVariants.{Lattice, OnVertical, OnHorizontal}
-use Rattle.osm_geom.specs.declared.seg.Seg.{Seg}
+use Rattle.osm_lattice.specs.declared.seg.Seg.{Seg}
 use Rattle.osm_geom.specs.Carrier.{has_x, has_y, is_on}
 use Rattle.osm_geom.specs.Cut.{cut_order}
 use Rattle.osm_geom.specs.Point.{IsInWorld, whole, x_of, y_of}
-use Rattle.osm_geom.proofs.CutPoints.{order_at, stands, whole-null}
-use Rattle.osm_geom.proofs.PointOrders.{x_den-some, y_den-some}
-use Rattle.osm_geom.proofs.Sizes.{signed}
+use Rattle.osm_geom.proofs.GeometryKit.{order_at, stands, whole-null, x_den-some, y_den-some}
+use Rattle.osm_lattice.proofs.LatticeKit.{signed}
 
 not-self : (t s u : Sign) → s ≡ t → u ≡ t → are_opposite s u ≡ true → ⊥
 not-self Plus s u h k o = cc (sym (ap (λ x. are_opposite x u) h ∙ ap (are_opposite Plus) k) ∙ o)
@@ -74,21 +72,6 @@ horizontal-axis cut e d h o =
 nat : ℕ → ℤ
 nat k = pos k
 
-not-less : (s t u : Sign) → agree s t u ≡ true → s ≡ Plus → (t ≡ Minus → ⊥) → u ≡ Plus
-not-less Plus Minus u h e n = absurd (n refl)
-not-less Plus Plus Plus h e n = refl
-not-less Plus Null Plus h e n = refl
-not-less Plus Plus Null h e n = absurd (cc h)
-not-less Plus Plus Minus h e n = absurd (cc h)
-not-less Plus Null Null h e n = absurd (cc h)
-not-less Plus Null Minus h e n = absurd (cc h)
-not-less Null t u h e n = absurd (cc e)
-not-less Minus t u h e n = absurd (cc e)
-
-sign-pos : (k : ℕ) → 1 ≤ k → sign (pos k) ≡ Plus
-sign-pos zero h = absurd (omega arith)
-sign-pos (suc k) h = refl
-
 reach-by : (at n : ℤ) (d m : ℕ) → (at *ℤ pos d -ℤ n) +ℤ (n +ℤ pos (m * d)) ≡ pos d *ℤ (at +ℤ pos m)
 reach-by at n d m =
     let at' = lift at in let n' = lift n in let d' = lift (pos d) in let m' = lift (pos m) in
@@ -108,15 +91,12 @@ not-beyond n k h e = let s = says-at Minus (pos k -ℤ n) e in omega (arith, sig
 above-least : (at n : ℤ) (d m : ℕ) → 1 ≤ d → unsigned_abs n ≤ m * d → sign (at *ℤ pos d -ℤ n) ≡ Plus → sign (at +ℤ pos m) ≡ Plus
 above-least at n d m some h e =
     sym (plus-times (pos d) (at +ℤ pos m) (sign-pos d some))
-    ∙ not-less (sign (at *ℤ pos d -ℤ n)) (sign (n +ℤ pos (m * d))) (sign (pos d *ℤ (at +ℤ pos m))) (agree-sum (at *ℤ pos d -ℤ n) (n +ℤ pos (m * d)) (pos d *ℤ (at +ℤ pos m)) (reach-by at n d m)) e (not-below n (m * d) h)
-
-turned-plus : (x y : ℤ) → sign (x -ℤ y) ≡ Minus → sign (y -ℤ x) ≡ Plus
-turned-plus x y e = let s = says-at Minus (x -ℤ y) e in sign-from Plus (y -ℤ x) (omega (arith, signed))
+    ∙ plus-not-minus (sign (at *ℤ pos d -ℤ n)) (sign (n +ℤ pos (m * d))) (sign (pos d *ℤ (at +ℤ pos m))) (agree-sum (at *ℤ pos d -ℤ n) (n +ℤ pos (m * d)) (pos d *ℤ (at +ℤ pos m)) (reach-by at n d m)) e (not-below n (m * d) h)
 
 below-most : (at n : ℤ) (d m : ℕ) → 1 ≤ d → unsigned_abs n ≤ m * d → sign (at *ℤ pos d -ℤ n) ≡ Minus → sign (pos m -ℤ at) ≡ Plus
 below-most at n d m some h e =
     sym (plus-times (pos d) (pos m -ℤ at) (sign-pos d some))
-    ∙ not-less (sign (n -ℤ at *ℤ pos d)) (sign (pos (m * d) -ℤ n)) (sign (pos d *ℤ (pos m -ℤ at))) (agree-sum (n -ℤ at *ℤ pos d) (pos (m * d) -ℤ n) (pos d *ℤ (pos m -ℤ at)) (back-by at n d m)) (turned-plus (at *ℤ pos d) n e) (not-beyond n (m * d) h)
+    ∙ plus-not-minus (sign (n -ℤ at *ℤ pos d)) (sign (pos (m * d) -ℤ n)) (sign (pos d *ℤ (pos m -ℤ at))) (agree-sum (n -ℤ at *ℤ pos d) (pos (m * d) -ℤ n) (pos d *ℤ (pos m -ℤ at)) (back-by at n d m)) (difference_turned (at *ℤ pos d) n e) (not-beyond n (m * d) h)
 
 in-range : (at : ℤ) (m : ℕ) → sign (at +ℤ pos m) ≡ Plus → sign (pos m -ℤ at) ≡ Plus → unsigned_abs at ≤ m
 in-range at m h k = let a = says-at Plus (at +ℤ pos m) h in let b = says-at Plus (pos m -ℤ at) k in omega (arith, signed)

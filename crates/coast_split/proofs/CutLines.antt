@@ -14,13 +14,11 @@ use Rattle.osm_geom.specs.declared.cut.Side.TheVariants.{Low, High}
 use Rattle.osm_geom.specs.declared.point.Point.{Point}
 use Rattle.osm_geom.specs.Cut.{coordinate_of, cut_order, side_by, side_of}
 use Rattle.osm_geom.specs.Point.{den_of, point_order, x_of, y_of}
-use Rattle.sided.specs.Multiple.{point_times}
+use Rattle.plane_edges.specs.Multiple.{point_times}
 use Rattle.coast_split.specs.Half.{line_by, line_of, line_order, runs_forward}
-use Rattle.plane.proofs.Identities.{lift, same, ◌⊞◌, ◌⊟◌, ◌⊠◌}
-use Rattle.plane.proofs.Signs.{null-zero, plus-times, sign-reversed}
-use Rattle.osm_geom.proofs.PointOrders.{x_den-some, y_den-some}
-use Rattle.sided.proofs.Commons.{product-some, sign-some}
-use Rattle.sided.proofs.MultipliedPoints.{factor, factor-some, nat, order_is, swapped}
+use Rattle.plane.proofs.SignKit.{lift, same, ◌⊞◌, ◌⊟◌, ◌⊠◌, null-zero, plus-times, sign-reversed}
+use Rattle.osm_geom.proofs.GeometryKit.{x_den-some, y_den-some}
+use Rattle.plane_edges.proofs.EdgesKit.{product-some, sign-some, factor, factor-some, nat, order_is, swapped}
 
 -- ---- the side: a number x = m * (n * f) against k * at, where k = m * (d * f)
 before-by : (at n : ℤ) (m d f k : ℕ) → m * (d * f) ≡ k → pos k *ℤ at -ℤ pos m *ℤ (n *ℤ pos f) ≡ pos (m * f) *ℤ (at *ℤ pos d -ℤ n)

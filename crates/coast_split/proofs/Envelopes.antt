@@ -1,9 +1,9 @@
 -- The envelope of a list: its points lie in it, and where all points lie between two numbers so does the envelope.
-use Rattle.std.proofs.Common.{Bool, List, [], ap, arith, cond, false, get_or, inl, inr, length, take, ◌+◌, ◌++◌, pos, negsuc, refl, subst, suc, sym, true, zero, ℕ, ℤ, ◌*ℤ◌, ◌+ℤ◌, ◌-ℤ◌, ◌<◌, ◌∙◌, ◌∷◌, ◌≡◌, ◌≤◌, ◌≤ℤ◌, ◌<ℤ◌}
+use Rattle.std.proofs.Common.{Bool, List, [], ap, arith, cond, false, get_or, inl, inr, length, take, ◌+◌, ◌++◌, pos, negsuc, refl, subst, sym, true, ℕ, ℤ, ◌*ℤ◌, ◌+ℤ◌, ◌-ℤ◌, ◌<◌, ◌∙◌, ◌∷◌, ◌≡◌, ◌≤◌, ◌≤ℤ◌, ◌<ℤ◌}
 use Rattle.std.specs.Int.{int_div_euclid}
 use Rattle.std.proofs.lemmas.Int.{ints}
 use Rattle.plane.specs.Sign.{Minus, Null, Plus, Sign, is_minus, sign}
-use Rattle.winding.specs.Member.{In}
+use Rattle.lists.specs.Member.{In}
 use Rattle.osm_geom.specs.declared.cut.Axis.{Axis}
 use Rattle.osm_geom.specs.declared.cut.Axis.TheVariants.{X, Y}
 use Rattle.osm_geom.specs.declared.edge.Edge.{Edge}
@@ -11,10 +11,10 @@ use Rattle.osm_geom.specs.declared.point.Point.{Point}
 use Rattle.osm_geom.specs.Cut.{coordinate_of}
 use Rattle.osm_geom.specs.Point.{Fraction}
 use Rattle.coast_split.specs.SplitTree.{ceiling_of, floor_of, greater, high_from, high_of, lesser, low_from, low_of}
-use Rattle.plane.proofs.Identities.{lift, same, ◌⊞◌, ◌⊟◌, ◌⊠◌}
-use Rattle.plane.proofs.Signs.{plus-is, plus-times, says-at}
-use Rattle.osm_geom.proofs.PointOrders.{x_den-some, y_den-some}
+use Rattle.plane.proofs.SignKit.{lift, same, ◌⊞◌, ◌⊟◌, ◌⊠◌, plus-is, plus-times, says-at, sign-pos}
+use Rattle.osm_geom.proofs.GeometryKit.{x_den-some, y_den-some}
 use Rattle.coast_split.proofs.Lists.{next-taken}
+use Rattle.lists.proofs.Integers.{least_trans}
 
 -- ---- fractions and whole numbers
 -- a whole number is at most a fraction, and a fraction at most a whole number
@@ -31,10 +31,6 @@ floor-below (negsuc a) k h = omega (arith, ints)
 pub floor-above : (z : ℤ) (k : ℕ) → 1 ≤ k → z <ℤ (int_div_euclid z (pos k) *ℤ pos k +ℤ pos k)
 floor-above (pos a) k h = omega (arith, ints)
 floor-above (negsuc a) k h = omega (arith, ints)
-
-pub sign-pos : (k : ℕ) → 1 ≤ k → sign (pos k) ≡ Plus
-sign-pos zero h = absurd (omega arith)
-sign-pos (suc k) h = refl
 
 factor-out : (k q a : ℤ) → (q *ℤ k +ℤ k) -ℤ a *ℤ k ≡ k *ℤ ((q +ℤ pos 1) -ℤ a)
 factor-out k q a = let k' = lift k in let q' = lift q in let a' = lift a in same ((q' ⊠ k' ⊞ k') ⊟ a' ⊠ k') (k' ⊠ ((q' ⊞ lift (pos 1)) ⊟ a')) (omega arith)
@@ -99,9 +95,6 @@ greater-from-by c a b false h k = h
 greater-from : (c a b : ℤ) → a ≤ℤ c → b ≤ℤ c → greater a b ≤ℤ c
 greater-from c a b h k = greater-from-by c a b (is_minus (sign (a -ℤ b))) h k
 
-trans : (a b c : ℤ) → a ≤ℤ b → b ≤ℤ c → a ≤ℤ c
-trans a b c h k = omega (arith, ints)
-
 -- ---- the ends of edges
 pub den-of : (axis : Axis) (p : Point) → 1 ≤ (coordinate_of axis p).den
 den-of X p = x_den-some p
@@ -130,8 +123,8 @@ module _ (axis : Axis) where
   low-least a [] = omega (arith, ints)
   low-least a (e ∷ es) =
       let x = floor_of (coordinate_of axis e.from) in let y = floor_of (coordinate_of axis e.to) in
-      trans (low_from axis (lesser (lesser a x) y) es) (lesser (lesser a x) y) a (low-least (lesser (lesser a x) y) es)
-      (trans (lesser (lesser a x) y) (lesser a x) a (lesser-is (lesser a x) y).0 (lesser-is a x).0)
+      least_trans (low_from axis (lesser (lesser a x) y) es) (lesser (lesser a x) y) a (low-least (lesser (lesser a x) y) es)
+      (least_trans (lesser (lesser a x) y) (lesser a x) a (lesser-is (lesser a x) y).0 (lesser-is a x).0)
 
   low-each : (a : ℤ) (es : List Edge) (e : Edge) → In e es → (low_from axis a es ≤ℤ floor_of (coordinate_of axis e.from)) × (low_from axis a es ≤ℤ floor_of (coordinate_of axis e.to))
   low-each a [] e i = absurd i
@@ -140,8 +133,8 @@ module _ (axis : Axis) where
       let l = low_from axis (lesser (lesser a x) y) es in
       let m = low-least (lesser (lesser a x) y) es in
       subst (λ (c : Edge). (l ≤ℤ floor_of (coordinate_of axis c.from)) × (l ≤ℤ floor_of (coordinate_of axis c.to))) (sym h) (
-        trans l (lesser (lesser a x) y) x m (trans (lesser (lesser a x) y) (lesser a x) x (lesser-is (lesser a x) y).0 (lesser-is a x).1),
-        trans l (lesser (lesser a x) y) y m (lesser-is (lesser a x) y).1,
+        least_trans l (lesser (lesser a x) y) x m (least_trans (lesser (lesser a x) y) (lesser a x) x (lesser-is (lesser a x) y).0 (lesser-is a x).1),
+        least_trans l (lesser (lesser a x) y) y m (lesser-is (lesser a x) y).1,
       )
   low-each a (d ∷ es) e (inr i) = low-each (lesser (lesser a (floor_of (coordinate_of axis d.from))) (floor_of (coordinate_of axis d.to))) es e i
 
@@ -149,8 +142,8 @@ module _ (axis : Axis) where
   high-most a [] = omega (arith, ints)
   high-most a (e ∷ es) =
       let x = ceiling_of (coordinate_of axis e.from) in let y = ceiling_of (coordinate_of axis e.to) in
-      trans a (greater (greater a x) y) (high_from axis (greater (greater a x) y) es)
-      (trans a (greater a x) (greater (greater a x) y) (greater-is a x).0 (greater-is (greater a x) y).0)
+      least_trans a (greater (greater a x) y) (high_from axis (greater (greater a x) y) es)
+      (least_trans a (greater a x) (greater (greater a x) y) (greater-is a x).0 (greater-is (greater a x) y).0)
       (high-most (greater (greater a x) y) es)
 
   high-each : (a : ℤ) (es : List Edge) (e : Edge) → In e es → (ceiling_of (coordinate_of axis e.from) ≤ℤ high_from axis a es) × (ceiling_of (coordinate_of axis e.to) ≤ℤ high_from axis a es)
@@ -160,8 +153,8 @@ module _ (axis : Axis) where
       let l = high_from axis (greater (greater a x) y) es in
       let m = high-most (greater (greater a x) y) es in
       subst (λ (c : Edge). (ceiling_of (coordinate_of axis c.from) ≤ℤ l) × (ceiling_of (coordinate_of axis c.to) ≤ℤ l)) (sym h) (
-        trans x (greater (greater a x) y) l (trans x (greater a x) (greater (greater a x) y) (greater-is a x).1 (greater-is (greater a x) y).0) m,
-        trans y (greater (greater a x) y) l (greater-is (greater a x) y).1 m,
+        least_trans x (greater (greater a x) y) l (least_trans x (greater a x) (greater (greater a x) y) (greater-is a x).1 (greater-is (greater a x) y).0) m,
+        least_trans y (greater (greater a x) y) l (greater-is (greater a x) y).1 m,
       )
   high-each a (d ∷ es) e (inr i) = high-each (greater (greater a (ceiling_of (coordinate_of axis d.from))) (ceiling_of (coordinate_of axis d.to))) es e i
 
@@ -169,10 +162,10 @@ module _ (axis : Axis) where
   scale a b k h = scale-by a b k h
 
   at-least : (a b : ℤ) (g : Fraction) → a ≤ℤ b → AtLeast b g → AtLeast a g
-  at-least a b g h k = trans (a *ℤ pos g.den) (b *ℤ pos g.den) g.num (scale a b g.den h) k
+  at-least a b g h k = least_trans (a *ℤ pos g.den) (b *ℤ pos g.den) g.num (scale a b g.den h) k
 
   at-most : (a b : ℤ) (g : Fraction) → a ≤ℤ b → AtMost g a → AtMost g b
-  at-most a b g h k = trans g.num (a *ℤ pos g.den) (b *ℤ pos g.den) k (scale a b g.den h)
+  at-most a b g h k = least_trans g.num (a *ℤ pos g.den) (b *ℤ pos g.den) k (scale a b g.den h)
 
   -- a list lies in its envelope
   in-envelope-by : (e0 : Edge) (es : List Edge) (p : Point) → low_of axis (e0 ∷ es) ≤ℤ floor_of (coordinate_of axis p) → ceiling_of (coordinate_of axis p) ≤ℤ high_of axis (e0 ∷ es) → IsIn axis (low_of axis (e0 ∷ es)) (high_of axis (e0 ∷ es)) p

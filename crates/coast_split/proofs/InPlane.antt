@@ -7,11 +7,12 @@ use Rattle.plane.specs.Edge as plane
 use Rattle.plane.specs.Edge.{ends_at}
 use Rattle.plane.specs.Sign.{Minus, Null, Plus, Sign, is_minus, is_null, is_plus, negated, sign}
 use Rattle.plane.specs.Vector.{IsDirection, Vector, cross, dot, from_to, orient, same_point}
-use Rattle.winding.specs.Member.{EachPair, In}
+use Rattle.lists.specs.Member.{EachPair, In}
 use Rattle.winding.specs.Parity.{is_even}
 use Rattle.winding.specs.Sided as winding
 use Rattle.halving.specs.Half as plane_half
-use Rattle.halving.specs.Half.{Cutting, IsCut, IsPart, IsPartEnd, closing, closing_from, ends_from, is_from, parts, wholes}
+use Rattle.halving.specs.Half.{Cutting, IsCut, IsPart, IsPartEnd, closing, closing_from, parts, wholes}
+use Rattle.halving.proofs.HalvingKit.{is_from, IsAfter, counted-either-way, IsApart, AllPlaced, all-placed, first-step, next-placed}
 use Rattle.halving.specs.HalfLaws.{IsHalved}
 use Rattle.halving.specs.Line.{Line, has_part, order_along, scaled_line, side}
 use Rattle.osm_geom.specs.declared.cut.Cut.{Cut}
@@ -23,21 +24,15 @@ use Rattle.osm_geom.specs.declared.point.Point.{Point}
 use Rattle.osm_geom.specs.Carrier.{is_on}
 use Rattle.osm_geom.specs.Cut.{cut_order, side_by, side_of}
 use Rattle.osm_geom.specs.Point.{den_of, point_order}
-use Rattle.sided.specs.Multiple.{edge_times, edges_times, point_times}
+use Rattle.plane_edges.specs.Multiple.{edge_times, edges_times, point_times}
 use Rattle.coast_split.specs.Half.{AreLinks, AreLinksFrom, AreMeetings, ArePortions, IsHalf, IsPortion, IsPortionEnd, NextLink, NextPortion, ends_up_to, has_portion, is_up_to, line_of, line_order, lower_of, runs_forward}
-use Rattle.plane.proofs.Edges.{same_edge_by}
-use Rattle.plane.proofs.PointOrder.{rising-direction}
-use Rattle.plane.proofs.Points.{same_point-refl, same_point-true}
-use Rattle.plane.proofs.Products.{cross-chain, frame-agree}
-use Rattle.plane.proofs.Signs.{agree, agree-sum, all, all-out, all2-out, imp, imp-out, same_sign, same_sign-true, times}
-use Rattle.winding.proofs.Members.{in-left, in-map, in-map-out, pairs-weaker, total-same}
-use Rattle.winding.proofs.Sums.{total, total-is, total-map}
-use Rattle.halving.proofs.AlongLine.{IsApart, null-first}
-use Rattle.halving.proofs.Balance.{IsAfter, counted-either-way}
-use Rattle.halving.proofs.Plain.{AllPlaced, all-placed, first-step, next-placed, pairs-into-map}
-use Rattle.sided.proofs.Carriers.{on_line, piece_times, piece_times-rises}
-use Rattle.sided.proofs.Lines.{step_of}
+use Rattle.plane.proofs.PlaneKit.{same_edge_by, rising-direction, same_point-refl, same_point-true, cross-chain, frame-agree}
+use Rattle.plane.proofs.SignKit.{agree, agree-sum, all, all-out, all2-out, imp, imp-out, same_sign, same_sign-true, times, is_null-true, null-first}
+use Rattle.lists.proofs.Members.{in-left, in-map, in-map-out, pairs-weaker, total-same, pairs-into-map}
+use Rattle.lists.proofs.Sums.{total, total-is, total-map}
+use Rattle.plane_edges.proofs.EdgesKit.{on_line, piece_times, piece_times-rises, step_of}
 use Rattle.coast_split.proofs.CutLines.{line-direction, order-times, side-times}
+use Rattle.std.proofs.lemmas.Bool.{or_right}
 
 -- ---- points of one carrier are on one line
 line-sign : (c y x : Sign) → agree (times Plus c) (times y Null) (times x Null) ≡ true → c ≡ Null
@@ -55,10 +50,6 @@ collinear k c a b w some da db dw ha hb hw =
     line-sign (orient A B W) (sign (dot d (from_to A W))) (sign (dot d (from_to A B)))
     (subst (λ z. agree (times Plus (orient A B W)) (times (sign (dot d (from_to A W))) Null) (times (sign (dot d (from_to A B))) z) ≡ true) aw
     (subst (λ z. agree (times Plus (orient A B W)) (times (sign (dot d (from_to A W))) z) (times (sign (dot d (from_to A B))) (sign (cross d (from_to A W)))) ≡ true) ab f))
-
-or-true : (a b : Bool) → b ≡ true → (a || b) ≡ true
-or-true true b h = refl
-or-true false b h = h
 
 -- ---- sides
 pub side-null-by : (s : Side) (o : Sign) → o ≡ Null → side_by s o ≡ Null
@@ -111,11 +102,6 @@ and-same true true x y h k = k refl
 and-same false false x y h k = refl
 and-same true false x y h k = absurd (cc h)
 and-same false true x y h k = absurd (cc h)
-
-null-out : (o : Sign) → is_null o ≡ true → o ≡ Null
-null-out Null h = refl
-null-out Plus h = absurd (cc h)
-null-out Minus h = absurd (cc h)
 
 cut-cons : (m : Line) (c : Cutting) (cs : List Cutting) (b : Bool) → has_part m c.whole ≡ b → (b ≡ true → IsPart m c.whole c.part) → IsCut m cs → IsCut m (c ∷ cs)
 cut-cons m c cs true h i rest x (inl e) p = subst (λ (y : Cutting). IsPart m y.whole y.part) (sym e) (i refl)
@@ -202,7 +188,7 @@ module _ (cut : Cut) (s : Side) (k : ℕ) (some : 1 ≤ k) where
 
     ends-by : (z : Point) (t : Edge) → (z ≡ t.from) ⊎ (z ≡ t.to) → ends_at (point_times k z) (edge_times k t) ≡ true
     ends-by z t (inl e) = ap (λ p. ends_at (point_times k p) (edge_times k t)) e ∙ ap (λ b. b || same_point (point_times k t.from) (point_times k t.to)) (same_point-refl (point_times k t.from))
-    ends-by z t (inr e) = ap (λ p. ends_at (point_times k p) (edge_times k t)) e ∙ or-true (same_point (point_times k t.to) (point_times k t.from)) (same_point (point_times k t.to) (point_times k t.to)) (same_point-refl (point_times k t.to))
+    ends-by z t (inr e) = ap (λ p. ends_at (point_times k p) (edge_times k t)) e ∙ or_right (same_point (point_times k t.to) (point_times k t.from)) (same_point (point_times k t.to) (point_times k t.to)) (same_point-refl (point_times k t.to))
 
     module _ (zs : List Point) (mt : AreMeetings cut s ts zs) where
       into-by : (t : Edge) → In t ts → (v : Vector) → (b c : Bool) → same_point v (point_times k t.from) ≡ b → same_point v (point_times k t.to) ≡ c → (b || c) ≡ true → side l v ≡ Null → In v (map (point_times k) zs)
@@ -242,12 +228,12 @@ module _ (cut : Cut) (s : Side) (k : ℕ) (some : 1 ≤ k) where
       up-to-is : (p : Point) → den_of p ∣ k → runs_forward cut.axis s ≡ true → plane_half.is_up_to l (point_times k z) (point_times k p) ≡ is_up_to cut z p
       up-to-is p dp h =
           and-same (is_null (side l (point_times k p))) (is_null (cut_order cut p)) _ _ (null-is p dp)
-          (λ n. ap (λ o. not (is_minus o)) (order-times k some p z dp dz cut s (null-out (cut_order cut p) n) hz ∙ ap (λ b. cond b (point_order p z) (point_order z p)) h))
+          (λ n. ap (λ o. not (is_minus o)) (order-times k some p z dp dz cut s (is_null-true (cut_order cut p) n) hz ∙ ap (λ b. cond b (point_order p z) (point_order z p)) h))
 
       from-is : (p : Point) → den_of p ∣ k → runs_forward cut.axis s ≡ false → is_from l (point_times k z) (point_times k p) ≡ is_up_to cut z p
       from-is p dp h =
           and-same (is_null (side l (point_times k p))) (is_null (cut_order cut p)) _ _ (null-is p dp)
-          (λ n. ap (λ o. not (is_minus o)) (order-times k some z p dz dp cut s hz (null-out (cut_order cut p) n) ∙ ap (λ b. cond b (point_order z p) (point_order p z)) h))
+          (λ n. ap (λ o. not (is_minus o)) (order-times k some z p dz dp cut s hz (is_null-true (cut_order cut p) n) ∙ ap (λ b. cond b (point_order z p) (point_order p z)) h))
 
     abbrev AllApart : Vector → Vector → Type 0
     AllApart Z W = (t : plane.Edge) → In t T → (side l t.from ≡ Null → IsApart l Z W t.from) × (side l t.to ≡ Null → IsApart l Z W t.to)

@@ -1,12 +1,12 @@
 -- Leaf cover: the leaves of a list cover what it covers.
-use Rattle.std.proofs.Common.{List, [], ap, arith, inl, inr, pos, refl, subst, sym, true, ℕ, ℤ, ◌%◌, ◌*◌, ◌*ℤ◌, ◌+ℤ◌, ◌-ℤ◌, ◌++◌, ◌+◌, ◌∙◌, ◌∷◌, ◌≡◌, ◌⊎◌}
+use Rattle.std.proofs.Common.{List, [], ap, arith, inl, inr, pos, refl, subst, sym, ℕ, ℤ, ◌%◌, ◌*◌, ◌*ℤ◌, ◌+ℤ◌, ◌-ℤ◌, ◌++◌, ◌+◌, ◌∙◌, ◌∷◌, ◌≡◌, ◌⊎◌}
 use borrow.Author.Differences.{ints}
 use Rattle.plane.specs.Edge as plane
 use Rattle.plane.specs.Scale.{scaled_point}
 use Rattle.plane.specs.Sign.{Minus, Null, Plus, Sign, sign}
 use Rattle.plane.specs.Vector.{Vector, east, from_to}
 use Rattle.winding.specs.EdgeList.{down_count, up_count}
-use Rattle.winding.specs.Member.{In}
+use Rattle.lists.specs.Member.{In}
 use Rattle.winding.specs.ScaledEdges.{scaled_edges}
 use Rattle.halving.specs.Line.{scaled_line, side}
 use Rattle.osm_geom.specs.declared.cut.Axis.{Axis}
@@ -15,16 +15,15 @@ use Rattle.osm_geom.specs.declared.cut.Cut.{Cut}
 use Rattle.osm_geom.specs.declared.cut.Side.{Side}
 use Rattle.osm_geom.specs.declared.cut.Side.TheVariants.{Low, High}
 use Rattle.osm_geom.specs.declared.edge.Edge.{Edge}
-use Rattle.sided.specs.Multiple.{common_den, whole_edges}
-use Rattle.sided.specs.Sided.{IsSided, count_at, signed_count_at}
+use Rattle.plane_edges.specs.Multiple.{common_den, whole_edges}
+use Rattle.plane_edges.specs.Sided.{IsSided, count_at, signed_count_at}
 use Rattle.coast_split.specs.Half.{IsHalf, line_by, line_of}
 use Rattle.coast_split.specs.SplitTree.{Covers, IsOffCuts, IsOffList, IsTree, Middle, SomeCovers, Tree, high_cut, leaves_of, low_cut, middle_of}
 use Rattle.coast_split.specs.SplitTree.Tree.{Fork, Whole}
-use Rattle.plane.proofs.Identities.{lift, same, ◌⊞◌, ◌⊟◌, ◌⊠◌}
-use Rattle.plane.proofs.RayCrossings.{down_seen, up_seen}
-use Rattle.plane.proofs.Signs.{agree, agree-sum, plus-times, says-at, sign-from}
-use Rattle.winding.proofs.Members.{in-either, in-left, in-right}
-use Rattle.winding.proofs.Sums.{total, total-+, total-is}
+use Rattle.plane.proofs.SignKit.{lift, same, ◌⊞◌, ◌⊟◌, ◌⊠◌, agree-sum, plus-times, says-at, plus-not-minus, difference_turned}
+use Rattle.plane.proofs.PlaneKit.{down_seen, up_seen}
+use Rattle.lists.proofs.Members.{in-either, in-left, in-right}
+use Rattle.lists.proofs.Sums.{total, total-+, total-is}
 use Rattle.coast_split.proofs.CutLines.{high-x, high-y, low-x, low-y}
 use Rattle.coast_split.proofs.SidedHalves.{half-beyond, half-kept, half-sided, off-beyond, off-kept}
 
@@ -57,20 +56,6 @@ module _ (q : ℤ) (hq : sign q ≡ Plus) (p : Vector) (es : List Edge) (sd : Is
   once-covers h = odd-by (count_at q p es) (up_count east P L) (down_count east P L) both-ways h
 
 -- ---- a point beyond the low half is in the high one
-less-of : (s t u : Sign) → agree s t u ≡ true → s ≡ Plus → (t ≡ Minus → ⊥) → u ≡ Plus
-less-of Plus Minus u h e n = absurd (n refl)
-less-of Plus Plus Plus h e n = refl
-less-of Plus Null Plus h e n = refl
-less-of Plus Plus Null h e n = absurd (cc h)
-less-of Plus Plus Minus h e n = absurd (cc h)
-less-of Plus Null Null h e n = absurd (cc h)
-less-of Plus Null Minus h e n = absurd (cc h)
-less-of Null t u h e n = absurd (cc e)
-less-of Minus t u h e n = absurd (cc e)
-
-turned-plus : (x y : ℤ) → sign (x -ℤ y) ≡ Minus → sign (y -ℤ x) ≡ Plus
-turned-plus x y e = let s = says-at Minus (x -ℤ y) e in sign-from Plus (y -ℤ x) (omega (arith, ints))
-
 wider : (q x c o : ℤ) → (x -ℤ q *ℤ (c +ℤ o)) +ℤ q *ℤ (o +ℤ o) ≡ x -ℤ q *ℤ (c -ℤ o)
 wider q x c o =
     let q' = lift q in let x' = lift x in let c' = lift c in let o' = lift o in
@@ -81,9 +66,9 @@ not-minus k h = let s = says-at Minus (pos k +ℤ pos k) h in omega (arith, ints
 
 in-high : (q x c : ℤ) (o : ℕ) → sign q ≡ Plus → sign (q *ℤ (c +ℤ pos o) -ℤ x) ≡ Minus → sign (x -ℤ q *ℤ (c -ℤ pos o)) ≡ Plus
 in-high q x c o hq h =
-    less-of (sign (x -ℤ q *ℤ (c +ℤ pos o))) (sign (q *ℤ (pos o +ℤ pos o))) (sign (x -ℤ q *ℤ (c -ℤ pos o)))
+    plus-not-minus (sign (x -ℤ q *ℤ (c +ℤ pos o))) (sign (q *ℤ (pos o +ℤ pos o))) (sign (x -ℤ q *ℤ (c -ℤ pos o)))
     (agree-sum (x -ℤ q *ℤ (c +ℤ pos o)) (q *ℤ (pos o +ℤ pos o)) (x -ℤ q *ℤ (c -ℤ pos o)) (wider q x c (pos o)))
-    (turned-plus (q *ℤ (c +ℤ pos o)) x h) (λ e. not-minus o (sym (plus-times q (pos o +ℤ pos o) hq) ∙ e))
+    (difference_turned (q *ℤ (c +ℤ pos o)) x h) (λ e. not-minus o (sym (plus-times q (pos o +ℤ pos o) hq) ∙ e))
 
 either-by : (axis : Axis) (q c : ℤ) (o : ℕ) (p : Vector) → sign q ≡ Plus →
     side (scaled_line q (line_by axis Low (record { axis = axis; at = c +ℤ pos o }))) p ≡ Minus → side (scaled_line q (line_by axis High (record { axis = axis; at = c -ℤ pos o }))) p ≡ Plus

@@ -9,7 +9,7 @@ mod MadeHalves
 mod OneHalf
 mod Shrinks
 mod SidedHalves
-pub mod Sizes
+mod Sizes
 mod SortedEnds
 mod Splitting
 mod Walks

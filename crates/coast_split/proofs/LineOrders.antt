@@ -5,18 +5,19 @@ use Rattle.std.proofs.Math.Nat.{dvd-mul_left, dvd-mul_left_of_dvd, dvd-mul_right
 use Rattle.std.specs.Cmp.{IsStrictWeakOrder}
 use Rattle.std.specs.Ordering.{is_lt}
 use Rattle.plane.specs.Order.{order}
-use Rattle.osm_geom.specs.OrderLaws.{ordering_of}
+use Rattle.osm_lattice.specs.OrderLaws.{ordering_of}
 use Rattle.plane.specs.Sign.{Minus, Null, Plus, Sign, is_minus, is_plus, negated}
 use Rattle.osm_geom.specs.declared.cut.Cut.{Cut}
 use Rattle.osm_geom.specs.declared.cut.Side.{Side}
 use Rattle.osm_geom.specs.declared.point.Point.{Point}
 use Rattle.osm_geom.specs.Point.{den_of, point_order}
-use Rattle.sided.specs.Multiple.{point_times}
+use Rattle.plane_edges.specs.Multiple.{point_times}
 use Rattle.coast_split.specs.Half.{line_order, runs_forward}
-use Rattle.plane.proofs.PointOrder.{order-null, order-reversed, order-sum}
-use Rattle.plane.proofs.Signs.{agree, all, all-out, all2, all2-out, imp, imp-out, same_sign, same_sign-true}
-use Rattle.sided.proofs.Commons.{den-some, product-some}
-use Rattle.sided.proofs.MultipliedPoints.{order_is, same_is_same}
+use Rattle.plane.proofs.PlaneKit.{order-null, order-reversed, order-sum}
+use Rattle.plane.proofs.SignKit.{agree, all, all-out, all2, all2-out, imp, imp-out, same_sign, same_sign-true, agree-back}
+use Rattle.plane_edges.proofs.EdgesKit.{den-some, product-some, order_is, same_is_same}
+use Rattle.lists.proofs.Bools.{not-true-out}
+use Rattle.std.proofs.lemmas.Bool.{not_from_false}
 
 abbrev common : Point → Point → Point → ℕ
 common p q r = den_of p * (den_of q * den_of r)
@@ -50,12 +51,9 @@ module _ (p q r : Point) where
   pub point-same : point_order p q ≡ Null → p ≡ q
   point-same h = same_is_same k p q some p-in q-in (order-null (point_times k p) (point_times k q) (sym (order_is k p q some p-in q-in) ∙ h))
 
-agree-turned : (a b c : Sign) → agree a b c ≡ true → agree b a c ≡ true
-agree-turned a b c h = imp-out _ _ (all-out (λ c. imp (agree a b c) λ _. agree b a c) (all2-out (λ a b. all λ c. imp (agree a b c) λ _. agree b a c) refl a b) c) h
-
 sum-by : (b : Bool) (p q r : Point) → agree (cond b (point_order p q) (point_order q p)) (cond b (point_order q r) (point_order r q)) (cond b (point_order p r) (point_order r p)) ≡ true
 sum-by true p q r = point-sum p q r
-sum-by false p q r = agree-turned (point_order r q) (point_order q p) (point_order r p) (point-sum r q p)
+sum-by false p q r = agree-back (point_order r q) (point_order q p) (point_order r p) (point-sum r q p)
 
 back-by : (b : Bool) (p q : Point) → cond b (point_order q p) (point_order p q) ≡ negated (cond b (point_order p q) (point_order q p))
 back-by true p q = point-back p q q
@@ -98,20 +96,13 @@ plus-minus Plus p e h = ap is_plus e
 plus-minus Null p e h = absurd (cc h)
 plus-minus Minus p e h = absurd (cc h)
 
-not-true : (b : Bool) → b ≡ false → not b ≡ true
-not-true b h = ap not h
-
-true-not : (b : Bool) → not b ≡ true → b ≡ false
-true-not false h = refl
-true-not true h = absurd (cc h)
-
 -- points are in a strict weak order along the line
 pub line-strict : (cut : Cut) (s : Side) → IsStrictWeakOrder (λ (p q : Point). is_plus (line_order cut s p q))
 line-strict cut s = record {
   one_way = λ p q h. plus-minus (R cut s p q) (R cut s q p) (line-back cut s p q) h;
   chain = λ p q r h g.
-      true-not (is_plus (R cut s p r)) (imp-out _ _ (imp-out _ _ (imp-out _ _ (all-out (λ c. imp (agree (R cut s p q) (R cut s q r) c) λ _. imp (not (is_plus (R cut s p q))) λ _. imp (not (is_plus (R cut s q r))) λ _. not (is_plus c))
-      (all2-out (λ a b. all λ c. imp (agree a b c) λ _. imp (not (is_plus a)) λ _. imp (not (is_plus b)) λ _. not (is_plus c)) refl (R cut s p q) (R cut s q r)) (R cut s p r)) (line-sum cut s p q r)) (not-true _ h)) (not-true _ g));
+      not-true-out (is_plus (R cut s p r)) (imp-out _ _ (imp-out _ _ (imp-out _ _ (all-out (λ c. imp (agree (R cut s p q) (R cut s q r) c) λ _. imp (not (is_plus (R cut s p q))) λ _. imp (not (is_plus (R cut s q r))) λ _. not (is_plus c))
+      (all2-out (λ a b. all λ c. imp (agree a b c) λ _. imp (not (is_plus a)) λ _. imp (not (is_plus b)) λ _. not (is_plus c)) refl (R cut s p q) (R cut s q r)) (R cut s p r)) (line-sum cut s p q r)) (not_from_false _ h)) (not_from_false _ g));
 }
 
 pub lt-of : (o : Sign) → is_lt (ordering_of o) ≡ is_plus o

@@ -4,7 +4,7 @@ use Rattle.std.specs.List.Sorted.{IsPermutation}
 use Rattle.std.proofs.lemmas.List.Sorted.{All-permutation, IsPermutation-sym, sum_by-IsPermutation}
 use Rattle.plane.specs.Bit.{bit}
 use Rattle.plane.specs.Sign.{Null, is_null}
-use Rattle.winding.specs.Member.{In}
+use Rattle.lists.specs.Member.{In}
 use Rattle.osm_geom.specs.declared.cut.Cut.{Cut}
 use Rattle.osm_geom.specs.declared.cut.Side.{Side}
 use Rattle.osm_geom.specs.declared.edge.Edge.{Edge}
@@ -13,9 +13,10 @@ use Rattle.osm_geom.specs.Cut.{cut_order}
 use Rattle.osm_geom.specs.Point.{IsInWorld}
 use Rattle.coast_split.specs.Half.{AreMeetings, ArePortions, IsHalf, ends_up_to, is_up_to}
 use Rattle.coast_split.specs.Walk.{AreSortedEnds, AreWalked, IsEnd, end_on, ends_on}
-use Rattle.winding.proofs.Members.{all-in, in-all, in-either, in-left, in-right}
-use Rattle.winding.proofs.Sums.{total, total-is}
-use Rattle.coast_split.proofs.SortedEnds.{Stands, chain-of, count-ends, different, different-in, into-different, links-of, null-of, portions-kept, rising, up_to}
+use Rattle.lists.proofs.Members.{all-in, in-all, in-either, in-left, in-right}
+use Rattle.lists.proofs.Sums.{total, total-is}
+use Rattle.coast_split.proofs.SortedEnds.{Stands, chain-of, count-ends, different, different-in, into-different, links-of, portions-kept, rising, up_to}
+use Rattle.plane.proofs.SignKit.{is_null-true}
 
 -- v is an end of an edge of the list, on the line
 pub record IsEndOf (cut : Cut) (ts : List Edge) (v : Point) : Type 0 where
@@ -24,12 +25,12 @@ pub record IsEndOf (cut : Cut) (ts : List Edge) (v : Point) : Type 0 where
   pub which : (v ≡ edge.from) ⊎ (v ≡ edge.to)
   pub end : IsEnd cut v
 
-module _ (cut : Cut) where
-  end-in : (p v : Point) (b : Bool) → is_null (cut_order cut p) ≡ b → In v (cond b (p ∷ []) []) → (v ≡ p) × (cut_order cut p ≡ Null)
-  end-in p v true h (inl e) = (e, null-of (cut_order cut p) h)
-  end-in p v true h (inr i) = absurd i
-  end-in p v false h i = absurd i
+end-in : (cut : Cut) (p v : Point) (b : Bool) → is_null (cut_order cut p) ≡ b → In v (cond b (p ∷ []) []) → (v ≡ p) × (cut_order cut p ≡ Null)
+end-in cut p v true h (inl e) = (e, is_null-true (cut_order cut p) h)
+end-in cut p v true h (inr i) = absurd i
+end-in cut p v false h i = absurd i
 
+module _ (cut : Cut) where
   end-at : (v p : Point) → v ≡ p → cut_order cut p ≡ Null → IsInWorld p → IsEnd cut v
   end-at v p e h w = subst (IsEnd cut) (sym e) (record { on_line = h; in_world = w })
 
@@ -37,10 +38,10 @@ module _ (cut : Cut) where
   further t ts v e = record { edge = e.edge; member = inr e.member; which = e.which; end = e.end }
 
   from-end : (t : Edge) (ts : List Edge) (v : Point) → In v (end_on cut t.from) → IsEndOf cut (t ∷ ts) v
-  from-end t ts v i = let r = end-in t.from v (is_null (cut_order cut t.from)) refl i in record { edge = t; member = inl refl; which = inl r.0; end = end-at v t.from r.0 r.1 t.from_in }
+  from-end t ts v i = let r = end-in cut t.from v (is_null (cut_order cut t.from)) refl i in record { edge = t; member = inl refl; which = inl r.0; end = end-at v t.from r.0 r.1 t.from_in }
 
   to-end : (t : Edge) (ts : List Edge) (v : Point) → In v (end_on cut t.to) → IsEndOf cut (t ∷ ts) v
-  to-end t ts v i = let r = end-in t.to v (is_null (cut_order cut t.to)) refl i in record { edge = t; member = inl refl; which = inr r.0; end = end-at v t.to r.0 r.1 t.to_in }
+  to-end t ts v i = let r = end-in cut t.to v (is_null (cut_order cut t.to)) refl i in record { edge = t; member = inl refl; which = inr r.0; end = end-at v t.to r.0 r.1 t.to_in }
 
   rest-end : (t : Edge) (ts : List Edge) (v : Point) → (In v (ends_on cut ts) → IsEndOf cut ts v) → (In v (end_on cut t.to)) ⊎ (In v (ends_on cut ts)) → IsEndOf cut (t ∷ ts) v
   rest-end t ts v f (inl i) = to-end t ts v i

@@ -6,7 +6,7 @@ use Rattle.std.proofs.Math.Nat.{dvd-mul_left, dvd-mul_left_of_dvd, dvd-mul_right
 use mathlib.Core.HLevel.{is_prop→PathP}
 use Rattle.plane.specs.Sign.{Minus, Null, Plus, Sign, is_plus, negated}
 use Rattle.plane.specs.Vector.{orient}
-use Rattle.winding.specs.Member.{EachPair, In}
+use Rattle.lists.specs.Member.{EachPair, In}
 use Rattle.winding.specs.Parity.{is_even}
 use Rattle.halving.specs.Line.{side}
 use Rattle.osm_geom.specs.declared.cut.Cut.{Cut}
@@ -17,19 +17,19 @@ use Rattle.osm_geom.specs.declared.point.Point.{Point}
 use Rattle.osm_geom.specs.Carrier.{is_on}
 use Rattle.osm_geom.specs.Cut.{cut_order, side_of}
 use Rattle.osm_geom.specs.Point.{IsInWorld, den_of}
-use Rattle.sided.specs.Multiple.{point_times}
+use Rattle.plane_edges.specs.Multiple.{point_times}
 use Rattle.coast_split.specs.Half.{AreLinks, AreLinksFrom, AreMeetings, ArePortions, IsHalf, IsPortion, IsPortionEnd, NextLink, NextPortion, ends_up_to, has_portion, line_order, lower_of}
 use Rattle.osm_geom.specs.declared.cut.Side.TheVariants.{Low, High}
 use Rattle.coast_split.specs.SplitTree.{IsTree, Tree, high_cut, is_split, low_cut, middle_of}
 use Rattle.coast_split.specs.SplitTree.Tree.{Fork, Whole}
-use Rattle.winding.proofs.Members.{in-all}
-use Rattle.halving.proofs.Means.{meeting-one, meeting-one-back}
-use Rattle.sided.proofs.Commons.{den-some, product-some}
-use Rattle.sided.proofs.MultipliedPoints.{same_is_same}
+use Rattle.lists.proofs.Members.{in-all}
+use Rattle.halving.proofs.HalvingKit.{meeting-one, meeting-one-back}
+use Rattle.plane_edges.proofs.EdgesKit.{den-some, product-some, same_is_same}
 use Rattle.coast_split.proofs.CutLines.{side-times}
 use Rattle.coast_split.proofs.InPlane.{collinear, line_times, side-null-by}
 use Rattle.coast_split.proofs.LineOrders.{line-back}
 use Rattle.coast_split.proofs.Walks.{line-self}
+use Rattle.lists.proofs.Bools.{clash}
 
 -- ---- edges with the same ends and carrier are one
 on_prop : (k : Carrier) (p : Point) → IsProp (is_on k p ≡ true)
@@ -189,13 +189,10 @@ module _ (cut : Cut) (s : Side) where
       h.whole ∙ ap (λ x. x ++ h.links) t ∙ ap (λ x. g.parts ++ x) l ∙ sym g.whole
 
 -- ---- one tree
-clash : (b : Bool) → b ≡ false → b ≡ true → ⊥
-clash b h k = cc (sym h ∙ k)
-
 pub one-tree : (m o : ℕ) (es : List Edge) (t u : Tree) → IsTree m o es t → IsTree m o es u → t ≡ u
 one-tree m o es Whole Whole h g = refl
-one-tree m o es Whole (Fork low high s t) h g = absurd (clash (is_split m o es) h g.0)
-one-tree m o es (Fork low high s t) Whole h g = absurd (clash (is_split m o es) g h.0)
+one-tree m o es Whole (Fork low high s t) h g = absurd (clash (is_split m o es) g.0 h)
+one-tree m o es (Fork low high s t) Whole h g = absurd (clash (is_split m o es) h.0 g)
 one-tree m o es (Fork low high s t) (Fork down up v w) h g =
     let x = middle_of es in
     let l = one-half (low_cut x o) Low es low down h.1 g.1 in let r = one-half (high_cut x o) High es high up h.2 g.2 in

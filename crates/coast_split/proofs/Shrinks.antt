@@ -5,7 +5,7 @@ use Rattle.std.proofs.lemmas.Int.{ints}
 use Rattle.std.proofs.Math.Nat.{dvd-mul_left, dvd-mul_right_of_dvd, dvd-mul_right}
 use Rattle.plane.specs.Sign.{Minus, Null, Plus, Sign, is_minus, is_plus, sign}
 use Rattle.plane.specs.Vector.{Vector, cross, from_to, orient}
-use Rattle.winding.specs.Member.{In}
+use Rattle.lists.specs.Member.{In}
 use Rattle.winding.specs.Parity.{is_even}
 use Rattle.halving.specs.Line.{side}
 use Rattle.osm_geom.specs.declared.cut.Axis.{Axis}
@@ -17,14 +17,13 @@ use Rattle.osm_geom.specs.declared.point.Point.{Point}
 use Rattle.osm_geom.specs.Carrier.{is_on}
 use Rattle.osm_geom.specs.Cut.{cut_order, side_of}
 use Rattle.osm_geom.specs.Point.{den_of}
-use Rattle.sided.specs.Multiple.{point_times}
+use Rattle.plane_edges.specs.Multiple.{point_times}
 use Rattle.coast_split.specs.Half.{AreLinks, AreLinksFrom, ArePortions, IsHalf, IsPortionEnd, NextLink, NextPortion, ends_up_to, has_portion, lower_of}
-use Rattle.plane.proofs.Identities.{lift, same, ◌⊟◌, ◌⊠◌}
-use Rattle.plane.proofs.Signs.{agree, all, all-out, all2, all2-out, imp, imp-out, says-at}
-use Rattle.winding.proofs.Members.{in-either}
-use Rattle.halving.proofs.Means.{IsMean, mean-cross, meeting-is-mean, meeting-is-mean-back}
-use Rattle.sided.proofs.Commons.{den-some, product-some}
-use Rattle.osm_geom.proofs.CutPoints.{order_at}
+use Rattle.plane.proofs.SignKit.{lift, same, ◌⊟◌, ◌⊠◌, agree, says-at, sum-not-plus, sum-not-minus}
+use Rattle.lists.proofs.Members.{in-either}
+use Rattle.halving.proofs.HalvingKit.{IsMean, mean-cross, meeting-is-mean, meeting-is-mean-back}
+use Rattle.plane_edges.proofs.EdgesKit.{den-some, product-some}
+use Rattle.osm_geom.proofs.GeometryKit.{order_at}
 use Rattle.coast_split.proofs.CutLines.{side-times, x-before, y-before}
 use Rattle.coast_split.proofs.Envelopes.{AllIn, IsIn}
 use Rattle.coast_split.proofs.InPlane.{collinear, line_times, side-null-by}
@@ -100,19 +99,10 @@ most-back x y Minus e h = absurd (cc h)
 most-back x y Null e h = let k = says-at Null (x -ℤ y) e in omega (arith, ints)
 most-back x y Plus e h = let k = says-at Plus (x -ℤ y) e in omega (arith, ints)
 
-at3 : (f : Sign → Sign → Sign → Bool) → all2 (λ a b. all (f a b)) ≡ true → (a b c : Sign) → f a b c ≡ true
-at3 f h a b c = all-out (f a b) (all2-out (λ a b. all (f a b)) h a b) c
-
-not-plus : (a b c : Sign) → agree a b c ≡ true → not (is_plus a) ≡ true → not (is_plus b) ≡ true → not (is_plus c) ≡ true
-not-plus a b c h k g = imp-out _ _ (imp-out _ _ (imp-out _ _ (at3 (λ a b c. imp (agree a b c) λ _. imp (not (is_plus a)) λ _. imp (not (is_plus b)) λ _. not (is_plus c)) refl a b c) h) k) g
-
-not-minus : (a b c : Sign) → agree a b c ≡ true → not (is_minus a) ≡ true → not (is_minus b) ≡ true → not (is_minus c) ≡ true
-not-minus a b c h k g = imp-out _ _ (imp-out _ _ (imp-out _ _ (at3 (λ a b c. imp (agree a b c) λ _. imp (not (is_minus a)) λ _. imp (not (is_minus b)) λ _. not (is_minus c)) refl a b c) h) k) g
-
 in-between : (axis : Axis) (a b : ℤ) (p q z : Point) → ((c : ℤ) → agree (order_at axis c p) (order_at axis c q) (order_at axis c z) ≡ true) → IsIn axis a b p → IsIn axis a b q → IsIn axis a b z
 in-between axis a b p q z g h k = record {
-  least = least-back _ _ (order_at axis a z) refl (not-plus _ _ _ (g a) (least-by _ _ (order_at axis a p) refl h.least) (least-by _ _ (order_at axis a q) refl k.least));
-  most = most-back _ _ (order_at axis b z) refl (not-minus _ _ _ (g b) (most-by _ _ (order_at axis b p) refl h.most) (most-by _ _ (order_at axis b q) refl k.most));
+  least = least-back _ _ (order_at axis a z) refl (sum-not-plus _ _ _ (g a) (least-by _ _ (order_at axis a p) refl h.least) (least-by _ _ (order_at axis a q) refl k.least));
+  most = most-back _ _ (order_at axis b z) refl (sum-not-minus _ _ _ (g b) (most-by _ _ (order_at axis b p) refl h.most) (most-by _ _ (order_at axis b q) refl k.most));
 }
 
 -- ---- points of a half

@@ -1,5 +1,5 @@
 -- The half of a sided list: sided, and with its counts.
-use Rattle.std.proofs.Common.{All, List, ap, arith, pos, refl, subst, sym, ℕ, ℤ, ◌*ℤ◌, ◌*◌, ◌∙◌, ◌≡◌, ◌≤◌}
+use Rattle.std.proofs.Common.{All, List, ap, arith, pos, refl, subst, sym, ℕ, ℤ, ◌*◌, ◌∙◌, ◌≡◌, ◌≤◌}
 use Prim.Native.Nat.{◌∣◌}
 use Rattle.std.proofs.Math.Nat.{dvd-mul_left_of_dvd, dvd-mul_right_of_dvd}
 use Rattle.plane.specs.RayCrossing.{IsOffEdge}
@@ -14,22 +14,15 @@ use Rattle.osm_geom.specs.declared.cut.Cut.{Cut}
 use Rattle.osm_geom.specs.declared.cut.Side.{Side}
 use Rattle.osm_geom.specs.declared.edge.Edge.{Edge}
 use Rattle.osm_geom.specs.Point.{den_of}
-use Rattle.sided.specs.Multiple.{IsCommon, common_den, edges_times, whole_edges}
-use Rattle.sided.specs.Sided.{IsSided, signed_count_at}
+use Rattle.plane_edges.specs.Multiple.{IsCommon, common_den, edges_times, whole_edges}
+use Rattle.plane_edges.specs.Sided.{IsSided, signed_count_at}
 use Rattle.coast_split.specs.Half.{IsHalf, line_of}
-use Rattle.plane.proofs.Identities.{lift, same, ◌⊠◌}
-use Rattle.winding.proofs.Members.{all-in, in-all}
-use Rattle.halving.proofs.Halves.{balanced, beyond-at, counted-at, kept-at, off-beyond-at, off-kept-at}
-use Rattle.halving.proofs.Plain.{half-plain}
-use Rattle.halving.proofs.ScaledHalves.{side-scaled}
-use Rattle.halving.proofs.ScaledSides.{all-off-back, all-off-scaled, edges-turned}
-use Rattle.sided.proofs.Carriers.{point-regained}
-use Rattle.sided.proofs.Commons.{common_is_common, product-some, sided_at_each, sign-some, signed_count_at_each}
-use Rattle.sided.proofs.Multiples.{times_further}
+use Rattle.lists.proofs.Members.{all-in, in-all}
+use Rattle.halving.proofs.HalvingKit.{balanced, beyond-at, counted-at, kept-at, off-beyond-at, off-kept-at, half-plain, side-scaled}
+use Rattle.winding.proofs.WindingKit.{all-off-back, all-off-scaled, edges-turned}
+use Rattle.plane_edges.proofs.EdgesKit.{point-regained, common_is_common, product-some, sided_at_each, sign-some, signed_count_at_each, times_further}
 use Rattle.coast_split.proofs.InPlane.{AllWhole, InPlane, in-plane, line_times}
-
-turned : (q k c : ℤ) → q *ℤ (k *ℤ c) ≡ k *ℤ (q *ℤ c)
-turned q k c = let q' = lift q in let k' = lift k in let c' = lift c in same (q' ⊠ (k' ⊠ c')) (k' ⊠ (q' ⊠ c')) (omega arith)
+use Rattle.plane.proofs.PlaneKit.{times-turned}
 
 back : (c m : ℕ) → m * c ≡ c * m
 back c m = omega arith
@@ -91,7 +84,7 @@ module _ (cut : Cut) (s : Side) (es hs : List Edge) (h : IsHalf cut s es hs) (sd
 
     side-at : (o : Sign) → side (scaled_line q (line_of cut s)) p ≡ o → side (scaled_line q (line_times cut s k)) P ≡ o
     side-at o e =
-        ap (λ n. side (record { along = (line_of cut s).along; level = n }) P) (turned q (pos k) (line_of cut s).level)
+        ap (λ n. side (record { along = (line_of cut s).along; level = n }) P) (times-turned q (pos k) (line_of cut s).level)
         ∙ side-scaled (pos k) (sign-some k some) (scaled_line q (line_of cut s)) p ∙ e
 
     off-at : All (IsOffEdge (scaled_point (pos c) p)) (scaled_edges q (whole_edges es)) → All (IsOffEdge P) (scaled_edges q (edges_times k es))

@@ -11,15 +11,15 @@ use Rattle.osm_geom.specs.declared.edge.Edge.{Edge}
 use Rattle.osm_geom.specs.declared.point.Point.{Point}
 use Rattle.osm_geom.specs.Cut.{coordinate_of}
 use Rattle.osm_geom.specs.Point.{IsInWorld, x_of, y_of}
-use Rattle.osm_geom.proofs.Sizes.{signed}
+use Rattle.osm_lattice.proofs.LatticeKit.{signed}
 use Rattle.coast_split.specs.Half.{IsHalf}
 use Rattle.coast_split.specs.SplitTree.{high_cut, high_of, is_split, longer_of, low_cut, low_of, middle_of, size_of, width_of}
-use Rattle.plane.proofs.Bools.{and-out}
-use Rattle.plane.proofs.Identities.{lift, same, ◌⊟◌, ◌⊠◌}
-use Rattle.plane.proofs.Signs.{plus-times, says-at}
-use Rattle.osm_geom.proofs.CutPoints.{order_at}
-use Rattle.coast_split.proofs.Envelopes.{AtLeast, AtMost, IsIn, den-of, envelope-in, floor-above, floor-below, in-envelope, sign-pos}
+use Rattle.std.proofs.lemmas.Bool.{and_parts}
+use Rattle.plane.proofs.SignKit.{lift, same, ◌⊟◌, ◌⊠◌, plus-times, says-at, sign-pos}
+use Rattle.osm_geom.proofs.GeometryKit.{order_at}
+use Rattle.coast_split.proofs.Envelopes.{AtLeast, AtMost, IsIn, den-of, envelope-in, floor-above, floor-below, in-envelope}
 use Rattle.coast_split.proofs.Shrinks.{half-holds, least-back, most-back}
+use Rattle.lists.proofs.Integers.{least_trans}
 
 difference : (a b k : ℤ) → b *ℤ k -ℤ a *ℤ k ≡ k *ℤ (b -ℤ a)
 difference a b k = let a' = lift a in let b' = lift b in let k' = lift k in same (b' ⊠ k' ⊟ a' ⊠ k') (k' ⊠ (b' ⊟ a')) (omega arith)
@@ -34,14 +34,11 @@ cancel-by a b k h g Plus e = let n = says-at Plus (b -ℤ a) e in omega (arith, 
 cancel : (a b : ℤ) (k : ℕ) → 1 ≤ k → (a *ℤ pos k) ≤ℤ (b *ℤ pos k) → a ≤ℤ b
 cancel a b k h g = cancel-by a b k h g (sign (b -ℤ a)) refl
 
-trans : (a b c : ℤ) → a ≤ℤ b → b ≤ℤ c → a ≤ℤ c
-trans a b c h k = omega (arith, ints)
-
 pub width-some : (axis : Axis) (es : List Edge) → low_of axis es ≤ℤ high_of axis es
 width-some axis [] = omega (arith, ints)
 width-some axis (e ∷ es) =
     let i = (in-envelope axis (e ∷ es) e (inl refl)).0 in let f = coordinate_of axis e.from in
-    cancel (low_of axis (e ∷ es)) (high_of axis (e ∷ es)) f.den (den-of axis e.from) (trans (low_of axis (e ∷ es) *ℤ pos f.den) f.num (high_of axis (e ∷ es) *ℤ pos f.den) i.least i.most)
+    cancel (low_of axis (e ∷ es)) (high_of axis (e ∷ es)) f.den (den-of axis e.from) (least_trans (low_of axis (e ∷ es) *ℤ pos f.den) f.num (high_of axis (e ∷ es) *ℤ pos f.den) i.least i.most)
 
 -- ---- a half is no wider on any axis, and narrower on that of the cut
 no-wider : (cut : Cut) (s : Side) (es hs : List Edge) → IsHalf cut s es hs → (axis : Axis) → width_of axis hs ≤ℤ width_of axis es
@@ -80,7 +77,7 @@ wide-of w k h = most-back w (pos k) (sign (w -ℤ pos k)) refl h
 pub wide : (m o : ℕ) (es : List Edge) → is_split m o es ≡ true → (pos (8 * o) ≤ℤ width_of (longer_of es) es) × (pos 4 ≤ℤ width_of (longer_of es) es)
 wide m o es h =
     let w = width_of (longer_of es) es in
-    let a = and-out _ _ h in let b = and-out _ _ a.1 in let c = and-out _ _ b.1 in
+    let a = and_parts _ _ h in let b = and_parts _ _ a.1 in let c = and_parts _ _ b.1 in
     (wide-of w (8 * o) c.0, wide-of w 4 c.1)
 
 low-number : (lo hi c l h : ℤ) (o : ℕ) → (c *ℤ pos 2) ≤ℤ (lo +ℤ hi) → pos (8 * o) ≤ℤ (hi -ℤ lo) → pos 4 ≤ℤ (hi -ℤ lo) → lo ≤ℤ l → h ≤ℤ (c +ℤ pos o) → (h -ℤ l) <ℤ (hi -ℤ lo)

@@ -3,7 +3,7 @@ use Rattle.std.proofs.Common.{All, Bool, List, [], ap, arith, cond, false, get_o
 use Rattle.std.specs.List.Sorted.{IsSortedBy}
 use Rattle.plane.specs.Bit.{bit}
 use Rattle.plane.specs.Sign.{Minus, Null, Plus, Sign, is_minus, is_null, is_plus, negated}
-use Rattle.winding.specs.Member.{EachPair, In}
+use Rattle.lists.specs.Member.{EachPair, In}
 use Rattle.winding.specs.Parity.{is_even}
 use Rattle.osm_geom.specs.declared.cut.Cut.{Cut}
 use Rattle.osm_geom.specs.declared.cut.Side.{Side}
@@ -14,15 +14,13 @@ use Rattle.osm_geom.specs.Cut.{cut_order, side_by, side_of}
 use Rattle.osm_geom.specs.Point.{point_order}
 use Rattle.coast_split.specs.Half.{AreLinksFrom, ArePortions, IsPortion, IsPortionEnd, NextLink, NextPortion, ends_up_to, has_portion, is_up_to, line_order, lower_of, runs_forward}
 use Rattle.coast_split.specs.Walk.{IsWalk, end_on, ends_on, is_skipped, up_to_lower}
-use Rattle.winding.proofs.Members.{all-in, in-all}
-use Rattle.winding.proofs.Sums.{total}
+use Rattle.lists.proofs.Members.{all-in, in-all}
+use Rattle.lists.proofs.Sums.{total}
 use Rattle.coast_split.proofs.LineOrders.{R, later, line-back, line-same, plus-then, then-plus}
 use Rattle.coast_split.proofs.Walks.{line-self}
-
-back-sign : (o p : Sign) → p ≡ negated o → is_plus o ≡ false → not (is_minus p) ≡ true
-back-sign Null p e h = ap (λ x. not (is_minus x)) e
-back-sign Minus p e h = ap (λ x. not (is_minus x)) e
-back-sign Plus p e h = absurd (cc h)
+use Rattle.plane.proofs.SignKit.{not-minus-back, is_plus-true}
+use Rattle.lists.proofs.Bools.{or-out}
+use Rattle.std.proofs.lemmas.Bool.{and_right, or_left, or_right}
 
 module _ (cut : Cut) (s : Side) where
   -- ---- sorted, from one to the next
@@ -34,7 +32,7 @@ module _ (cut : Cut) (s : Side) where
   tail-at x xs k d = let e : k + 1 ≡ suc k = omega arith in ap (λ j. get_or (x ∷ xs) j d) e
 
   not-plus-back : (z w : Point) → is_plus (R cut s w z) ≡ false → not (is_minus (R cut s z w)) ≡ true
-  not-plus-back z w h = back-sign (R cut s w z) (R cut s z w) (line-back cut s w z) h
+  not-plus-back z w h = not-minus-back (R cut s w z) (R cut s z w) (line-back cut s w z) h
 
   pub chain-of : (z : Point) (r : List Point) → IsSortedBy (λ (p q : Point). is_plus (line_order cut s p q)) (z ∷ r) → IsChain z r
   chain-of z [] h = tt
@@ -59,11 +57,6 @@ module _ (cut : Cut) (s : Side) where
   level Null h k = refl
   level Plus h k = absurd (cc k)
   level Minus h k = absurd (cc h)
-
-  pub plus-of : (o : Sign) → is_plus o ≡ true → o ≡ Plus
-  plus-of Plus h = refl
-  plus-of Null h = absurd (cc h)
-  plus-of Minus h = absurd (cc h)
 
   in-cond : (b : Bool) (w : Point) (xs : List Point) (v : Point) → In v (cond b (w ∷ xs) xs) → In v (w ∷ xs)
   in-cond true w xs v i = i
@@ -99,7 +92,7 @@ module _ (cut : Cut) (s : Side) where
 
   rising-by : (b : Bool) → (z w : Point) (xs : List Point) → is_plus (R cut s z w) ≡ b → not (is_minus (R cut s z w)) ≡ true → EachPair (λ p q. R cut s p q ≡ Plus) (w ∷ xs) → EachPair (λ p q. R cut s p q ≡ Plus) (z ∷ cond b (w ∷ xs) xs)
   rising-by true z w xs k h g = (
-    all-in (λ v. R cut s z v ≡ Plus) (w ∷ xs) (λ v i. all-after z w xs (plus-of (R cut s z w) k) g.0 v i),
+    all-in (λ v. R cut s z v ≡ Plus) (w ∷ xs) (λ v i. all-after z w xs (is_plus-true (R cut s z w) k) g.0 v i),
     g,
   )
   rising-by false z w xs k h g = subst (λ x. EachPair (λ p q. R cut s p q ≡ Plus) (x ∷ xs)) (sym (one-of z w h k)) g
@@ -211,7 +204,7 @@ module _ (cut : Cut) (s : Side) (ts : List Edge) where
   links-of n i front z [] ls st h = h
   links-of n i front z (w ∷ r) ls st h =
       links-by z w (different cut s w r) ls (IsWalk cut s n (i + 1) w r) (is_skipped cut s n i z w) (is_even (up_to_lower cut s n i)) true (is_plus (O z w)) refl st.chain.0 refl
-      (λ k. test n i front z w r st (plus-of cut s (O z w) k))
+      (λ k. test n i front z w r st (is_plus-true (O z w) k))
       (λ us u. links-of n (i + 1) (z ∷ front) w r us (next-stands n i front z w r st) u) h
 
 -- ---- the ends of the parts
@@ -223,27 +216,6 @@ plus-side High Minus h = refl
 plus-side High Null h = absurd (cc h)
 plus-side High Plus h = absurd (cc h)
 
-pub or-out : (a b : Bool) → (a || b) ≡ true → (a ≡ true) ⊎ (b ≡ true)
-or-out true b h = inl refl
-or-out false b h = inr h
-
-or-left : (a b : Bool) → a ≡ true → (a || b) ≡ true
-or-left true b h = refl
-or-left false b h = absurd (cc h)
-
-or-right : (a b : Bool) → b ≡ true → (a || b) ≡ true
-or-right true b h = refl
-or-right false b h = h
-
-and-false : (a : Bool) → (a && false) ≡ false
-and-false true = refl
-and-false false = refl
-
-pub null-of : (o : Sign) → is_null o ≡ true → o ≡ Null
-null-of Null h = refl
-null-of Plus h = absurd (cc h)
-null-of Minus h = absurd (cc h)
-
 module _ (cut : Cut) (s : Side) where
   kept-end : (e : Edge) (v w : Point) (o : Sign) → side_of cut s v ≡ o → is_plus o ≡ true → IsPortionEnd cut e.carrier v w o → is_plus (side_of cut s w) ≡ true
   kept-end e v w Plus h k i = ap (λ p. is_plus (side_of cut s p)) i ∙ ap is_plus h
@@ -251,8 +223,8 @@ module _ (cut : Cut) (s : Side) where
   kept-end e v w Minus h k i = absurd (cc k)
 
   portion-by : (e t : Edge) → IsPortion cut s e t → (is_plus (side_of cut s e.from) ≡ true) ⊎ (is_plus (side_of cut s e.to) ≡ true) → has_portion cut s t ≡ true
-  portion-by e t i (inl h) = or-left (is_plus (side_of cut s t.from)) (is_plus (side_of cut s t.to)) (kept-end e e.from t.from (side_of cut s e.from) refl h i.from)
-  portion-by e t i (inr h) = or-right (is_plus (side_of cut s t.from)) (is_plus (side_of cut s t.to)) (kept-end e e.to t.to (side_of cut s e.to) refl h i.to)
+  portion-by e t i (inl h) = or_left (is_plus (side_of cut s t.from)) (is_plus (side_of cut s t.to)) (kept-end e e.from t.from (side_of cut s e.from) refl h i.from)
+  portion-by e t i (inr h) = or_right (is_plus (side_of cut s t.from)) (is_plus (side_of cut s t.to)) (kept-end e e.to t.to (side_of cut s e.to) refl h i.to)
 
   kept-step : (e : Edge) (es : List Edge) (b : Bool) → has_portion cut s e ≡ b → (ts : List Edge) → ((us : List Edge) → ArePortions cut s es us → (t : Edge) → In t us → has_portion cut s t ≡ true) → NextPortion cut s e b (ArePortions cut s es) ts → (t : Edge) → In t ts → has_portion cut s t ≡ true
   kept-step e es false h ts f n t i = f ts n t i
@@ -266,7 +238,7 @@ module _ (cut : Cut) (s : Side) where
 
   never-both-by : (t : Edge) → (is_plus (side_of cut s t.from) ≡ true) ⊎ (is_plus (side_of cut s t.to) ≡ true) → (is_null (cut_order cut t.from) && is_null (cut_order cut t.to)) ≡ false
   never-both-by t (inl h) = ap (λ b. b && is_null (cut_order cut t.to)) (plus-side s (cut_order cut t.from) h)
-  never-both-by t (inr h) = ap (λ b. is_null (cut_order cut t.from) && b) (plus-side s (cut_order cut t.to) h) ∙ and-false (is_null (cut_order cut t.from))
+  never-both-by t (inr h) = ap (λ b. is_null (cut_order cut t.from) && b) (plus-side s (cut_order cut t.to) h) ∙ and_right (is_null (cut_order cut t.from)) false refl
 
   never-both : (t : Edge) → has_portion cut s t ≡ true → (is_null (cut_order cut t.from) && is_null (cut_order cut t.to)) ≡ false
   never-both t h = never-both-by t (or-out (is_plus (side_of cut s t.from)) (is_plus (side_of cut s t.to)) h)
@@ -290,9 +262,4 @@ module _ (cut : Cut) (s : Side) where
       let b = end-total f t.to (is_null (cut_order cut t.to)) (ends_on cut ts) in
       let c = or-bits (is_null (cut_order cut t.from)) (is_null (cut_order cut t.to)) (not (is_minus (point_order t.from p))) (not (is_minus (point_order t.to p))) (never-both t (h t (inl refl))) in
       let d = count-ends p ts (λ u i. h u (inr i)) in omega arith
-
   -- ---- what the ends are
-  end-in : (p v : Point) (b : Bool) → is_null (cut_order cut p) ≡ b → In v (cond b (p ∷ []) []) → (v ≡ p) × (cut_order cut p ≡ Null)
-  end-in p v true h (inl e) = (e, null-of (cut_order cut p) h)
-  end-in p v true h (inr i) = absurd i
-  end-in p v false h i = absurd i

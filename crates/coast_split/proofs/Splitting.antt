@@ -13,6 +13,7 @@ use Rattle.coast_split.specs.SplitTree.{HasTooMany, IsSplitOnto, IsTree, Tree, h
 use Rattle.coast_split.specs.SplitTree.Tree.{Fork, Whole}
 use Rattle.coast_split.proofs.OneHalf.{one-half, one-tree}
 use Rattle.coast_split.proofs.Sizes.{high-shrinks, low-shrinks, width-some}
+use Rattle.lists.proofs.Bools.{clash}
 
 abs-less : (a b : ℤ) → pos 0 ≤ℤ a → a <ℤ b → unsigned_abs a < unsigned_abs b
 abs-less a b h g = omega (arith, ints)
@@ -20,20 +21,17 @@ abs-less a b h g = omega (arith, ints)
 size-some : (es : List Edge) → pos 0 ≤ℤ size_of es
 size-some es = let x = width-some X es in let y = width-some Y es in omega (arith, ints)
 
-clash : (b : Bool) → b ≡ false → b ≡ true → ⊥
-clash b h k = cc (sym h ∙ k)
-
 module _ (m o most : ℕ) (es : List Edge) where
   pub leaf-many : (n : ℕ) → is_split m o es ≡ false → most < n + 1 → (t : Tree) → IsTree m o es t → most < n + length (leaves_of es t)
   leaf-many n w h Whole k = h
-  leaf-many n w h (Fork low high s t) k = absurd (clash (is_split m o es) w k.0)
+  leaf-many n w h (Fork low high s t) k = absurd (clash (is_split m o es) k.0 w)
 
 module _ (m o most : ℕ) (es : List Edge) (c : is_split m o es ≡ true) (low : List Edge) (g : IsHalf (low_cut (middle_of es) o) Low es low) where
   pub low-falls : unsigned_abs (size_of low) < unsigned_abs (size_of es)
   low-falls = abs-less (size_of low) (size_of es) (size-some low) (low-shrinks m o es c low g)
 
   pub low-many : (n : ℕ) → HasTooMany m o most low n → (t : Tree) → IsTree m o es t → most < n + length (leaves_of es t)
-  low-many n h Whole k = absurd (clash (is_split m o es) k c)
+  low-many n h Whole k = absurd (clash (is_split m o es) c k)
   low-many n h (Fork low' high' s t) k =
       let e : low' ≡ low = one-half (low_cut (middle_of es) o) Low es low' low k.1 g in
       let i = h s (subst (λ x. IsTree m o x s) e k.3) in
@@ -45,7 +43,7 @@ module _ (m o most : ℕ) (es : List Edge) (c : is_split m o es ≡ true) (low h
   high-falls = abs-less (size_of high) (size_of es) (size-some high) (high-shrinks m o es c high f)
 
   pub high-many : (old mid : List (List Edge)) → IsSplitOnto m o most low old mid → HasTooMany m o most high (length mid) → (t : Tree) → IsTree m o es t → most < length old + length (leaves_of es t)
-  high-many old mid b h Whole k = absurd (clash (is_split m o es) k c)
+  high-many old mid b h Whole k = absurd (clash (is_split m o es) c k)
   high-many old mid b h (Fork low' high' s t) k =
       let e : low' ≡ low = one-half (low_cut (middle_of es) o) Low es low' low k.1 g in
       let d : high' ≡ high = one-half (high_cut (middle_of es) o) High es high' high k.2 f in

@@ -18,12 +18,11 @@ use Rattle.osm_geom.specs.Point.{den_of, point_order, whole_of}
 use Rattle.plane.specs.Scale.{scaled_point}
 use Rattle.coast_split.specs.Half.{IsLink, NextLink, line_order, runs_forward}
 use Rattle.coast_split.specs.Walk.{AddsLink, IsEnd, IsWalk, is_skipped, last_of}
-use Rattle.plane.proofs.PointOrder.{order-self-null}
-use Rattle.plane.proofs.Points.{int_eq-same}
-use Rattle.plane.proofs.Signs.{null-zero}
-use Rattle.osm_geom.proofs.CutPoints.{order_at, whole_frac}
-use Rattle.osm_geom.proofs.LowestTerms.{frac_same}
-use Rattle.osm_geom.proofs.Sizes.{signed}
+use Rattle.plane.proofs.PlaneKit.{order-self-null}
+use Rattle.lists.proofs.Integers.{int_eq-same}
+use Rattle.plane.proofs.SignKit.{null-zero}
+use Rattle.osm_geom.proofs.GeometryKit.{order_at, whole_frac}
+use Rattle.osm_lattice.proofs.LatticeKit.{frac_same, signed}
 
 -- ---- a point on the line is on the line's carrier
 same-one : (at n : ℤ) → sign (at *ℤ pos 1 -ℤ n) ≡ Null → n ≡ at

@@ -2,7 +2,7 @@
 use Rattle.std.specs.Prelude.{Bool, List, [], cond, false, not, true, ℕ, pos, ◌&&◌, ◌++◌, ◌-ℤ◌, ◌||◌, ◌∷◌, ◌≡◌, ◌⊎◌}
 use Rattle.std.specs.List.{count_by}
 use Rattle.plane.specs.Sign.{Minus, Null, Plus, Sign, is_minus, is_null, is_plus}
-use Rattle.winding.specs.Member.{EachPair, In}
+use Rattle.lists.specs.Member.{EachPair, In}
 use Rattle.winding.specs.Parity.{is_even}
 use Rattle.halving.specs.Line.{Line}
 use Rattle.osm_geom.specs.declared.cut.Axis.{Axis}

@@ -1,6 +1,6 @@
 -- The laws of halves of exact edges, as statements.
 use Rattle.std.specs.Prelude.{All, List, true, ℕ, pos, ℤ, ◌<ℤ◌, ◌↔◌, ◌≡◌}
-use Rattle.winding.specs.Member.{In}
+use Rattle.lists.specs.Member.{In}
 use Rattle.plane.specs.RayCrossing.{IsOffEdge}
 use Rattle.plane.specs.Scale.{scaled_point}
 use Rattle.plane.specs.Sign.{Minus, Plus, sign}
@@ -11,8 +11,8 @@ use Rattle.osm_geom.specs.declared.cut.Cut.{Cut}
 use Rattle.osm_geom.specs.declared.cut.Side.{Side}
 use Rattle.osm_geom.specs.declared.cut.Side.TheVariants.{Low, High}
 use Rattle.osm_geom.specs.declared.edge.Edge.{Edge}
-use Rattle.sided.specs.Multiple.{common_den, whole_edges}
-use Rattle.sided.specs.Sided.{IsSided, signed_count_at}
+use Rattle.plane_edges.specs.Multiple.{common_den, whole_edges}
+use Rattle.plane_edges.specs.Sided.{IsSided, signed_count_at}
 use Rattle.coast_split.specs.Half.{IsHalf, line_of}
 use Rattle.coast_split.specs.SplitTree.{Covers, IsOffCuts, IsOffList, IsTree, SomeCovers, Tree, high_cut, is_split, leaves_of, low_cut, middle_of, size_of}
 

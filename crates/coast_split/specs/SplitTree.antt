@@ -5,7 +5,7 @@ use Rattle.plane.specs.Sign.{Null, is_minus, is_plus, sign}
 use Rattle.plane.specs.RayCrossing.{IsOffEdge}
 use Rattle.plane.specs.Scale.{scaled_point}
 use Rattle.plane.specs.Vector.{Vector}
-use Rattle.winding.specs.Member.{In}
+use Rattle.lists.specs.Member.{In}
 use Rattle.winding.specs.ScaledEdges.{scaled_edges}
 use Rattle.halving.specs.Line.{scaled_line, side}
 use Rattle.osm_geom.specs.declared.cut.Axis.{Axis}
@@ -15,8 +15,8 @@ use Rattle.osm_geom.specs.declared.cut.Side.TheVariants.{Low, High}
 use Rattle.osm_geom.specs.declared.edge.Edge.{Edge}
 use Rattle.osm_geom.specs.Cut.{coordinate_of}
 use Rattle.osm_geom.specs.Point.{Fraction}
-use Rattle.sided.specs.Multiple.{common_den, whole_edges}
-use Rattle.sided.specs.Sided.{count_at}
+use Rattle.plane_edges.specs.Multiple.{common_den, whole_edges}
+use Rattle.plane_edges.specs.Sided.{count_at}
 use Rattle.coast_split.specs.Half.{IsHalf, line_of}
 
 -- ---- the envelope

@@ -7,7 +7,7 @@ ghost use Rattle.coast_split.specs.SplitTree.{ceiling_of, floor_of, greater, hig
 
 use osm_geom::{Axis, Edge, Point};
 
-// The greatest whole number that is at most num / den.
+/// The greatest whole number that is at most num / den.
 fn floor_div(num: i128, den: u64) -> i64
     requires some { 1 ≤ den }
     requires small { unsigned_abs num ≤ 1_800_000_000 * den }
@@ -16,7 +16,7 @@ fn floor_div(num: i128, den: u64) -> i64
     num.div_euclid(i128::from(den)) as i64
 }
 
-// The least whole number that is at least num / den.
+/// The least whole number that is at least num / den.
 fn ceiling_div(num: i128, den: u64) -> i64
     requires some { 1 ≤ den }
     requires small { unsigned_abs num ≤ 1_800_000_000 * den }
@@ -25,7 +25,7 @@ fn ceiling_div(num: i128, den: u64) -> i64
     0 - floor_div(0 - num, den)
 }
 
-// The floor of a coordinate.
+/// The floor of a coordinate.
 fn floor_at(p: &Point, axis: Axis) -> i64
     requires { IsInWorld p.now }
     ensures { result ≡ floor_of (coordinate_of axis p.now) }
@@ -44,7 +44,7 @@ fn floor_at(p: &Point, axis: Axis) -> i64
     }
 }
 
-// The ceiling of a coordinate.
+/// The ceiling of a coordinate.
 fn ceiling_at(p: &Point, axis: Axis) -> i64
     requires { IsInWorld p.now }
     ensures { result ≡ ceiling_of (coordinate_of axis p.now) }
@@ -63,21 +63,21 @@ fn ceiling_at(p: &Point, axis: Axis) -> i64
     }
 }
 
-// The lesser of two numbers.
+/// The lesser of two numbers.
 fn lesser(a: i64, b: i64) -> i64
     ensures { result ≡ lesser a b }
 {
     if a < b { a } else { b }
 }
 
-// The greater of two numbers.
+/// The greater of two numbers.
 fn greater(a: i64, b: i64) -> i64
     ensures { result ≡ greater a b }
 {
     if a < b { b } else { a }
 }
 
-// Where the envelope begins on an axis.
+/// Where the envelope begins on an axis.
 pub(crate) fn low_of(edges: &[Edge], axis: Axis) -> i64
     ensures { result ≡ low_of axis edges.now }
 {
@@ -93,7 +93,7 @@ pub(crate) fn low_of(edges: &[Edge], axis: Axis) -> i64
     }
 }
 
-// Where it ends.
+/// Where it ends.
 pub(crate) fn high_of(edges: &[Edge], axis: Axis) -> i64
     ensures { result ≡ high_of axis edges.now }
 {

@@ -2,20 +2,19 @@
 ghost use Rattle.std.specs.Prelude.{◌≡◌, ◌≢◌, ◌++◌, ◌≤◌, ◌<◌, ◌+◌, ◌^◌, [], All, IfOk, OnOk, length};
 ghost use Rattle.std.specs.Ordering.{is_lt};
 ghost use Rattle.plane.specs.Sign.{is_plus};
-ghost use Rattle.osm_geom.specs.Cut.{carrier_of_cut, cut_order};
-ghost use Rattle.osm_geom.specs.OrderLaws.{ordering_of};
-ghost use Rattle.osm_geom.specs.Point.{IsInWorld};
-ghost use Rattle.sided.specs.Sided.{IsSided};
+ghost use Rattle.osm_geom.specs.Cut.{carrier_of_cut};
+ghost use Rattle.osm_lattice.specs.OrderLaws.{ordering_of};
+ghost use Rattle.plane_edges.specs.Sided.{IsSided};
 ghost use Rattle.coast_split.specs.Half.{ArePortions, IsHalf, IsLink, line_order, runs_forward};
 ghost use Rattle.coast_split.specs.Walk.{AddsLink, AreSortedEnds, AreWalked, IsEnd, IsWalk, end_on, ends_on, is_skipped};
 
 use crate::portion::portion;
 use osm_geom::{Axis, Carrier, Cut, Edge, Edges, Point, Side, compare_points, compare_to_cut};
-use std::alloc::{AllocError, Global};
+use std::alloc::{AllocError as OutOfMemory, Global};
 use std::cmp::Ordering;
 
-// The portions of those of the edges that have one.
-fn portions(alloc: Global, edges: &[Edge], cut: Cut, side: Side) -> Result<Vec<Edge>, AllocError>
+/// The portions of those of the edges that have one.
+fn portions(alloc: Global, edges: &[Edge], cut: Cut, side: Side) -> Result<Vec<Edge>, OutOfMemory>
     ensures { IfOk result (λ v. ArePortions cut side edges.now v.items) }
 {
     let mut portions = Vec::new(alloc);
@@ -27,8 +26,8 @@ fn portions(alloc: Global, edges: &[Edge], cut: Cut, side: Side) -> Result<Vec<E
     Ok(portions)
 }
 
-// Adds a point that is on the line.
-fn push_end(ends: &mut Vec<Point>, p: &Point, cut: Cut) -> Result<(), AllocError>
+/// Adds a point that is on the line.
+fn push_end(ends: &mut Vec<Point>, p: &Point, cut: Cut) -> Result<(), OutOfMemory>
     ensures { OnOk result (ends.new.items ≡ ends.old.items ++ end_on cut p.now) }
 {
     if compare_to_cut(p, cut) == Ordering::Equal {
@@ -37,8 +36,8 @@ fn push_end(ends: &mut Vec<Point>, p: &Point, cut: Cut) -> Result<(), AllocError
     Ok(())
 }
 
-// The ends of edges that are on the line.
-fn line_ends(alloc: Global, parts: &[Edge], cut: Cut) -> Result<Vec<Point>, AllocError>
+/// The ends of edges that are on the line.
+fn line_ends(alloc: Global, parts: &[Edge], cut: Cut) -> Result<Vec<Point>, OutOfMemory>
     ensures { IfOk result (λ v. v.items ≡ ends_on cut parts.now) }
 {
     let mut ends = Vec::new(alloc);
@@ -49,7 +48,7 @@ fn line_ends(alloc: Global, parts: &[Edge], cut: Cut) -> Result<Vec<Point>, Allo
     Ok(ends)
 }
 
-// Whether the side is on the left of the line where it runs in the order of points.
+/// Whether the side is on the left of the line where it runs in the order of points.
 fn runs_forward(axis: Axis, side: Side) -> bool
     ensures { result ≡ runs_forward axis side }
 {
@@ -65,7 +64,7 @@ fn runs_forward(axis: Axis, side: Side) -> bool
     }
 }
 
-// The order of points along the line.
+/// The order of points along the line.
 #[tactic(auto, unfolding(osm_geom::specs::Point::point_cmp))]
 fn compare_along(p: Point, q: Point, cut: Cut, side: Side) -> Ordering
     ensures { result ≡ ordering_of (line_order cut side p q) }
@@ -77,7 +76,7 @@ fn compare_along(p: Point, q: Point, cut: Cut, side: Side) -> Ordering
     }
 }
 
-// The line as what carries edges.
+/// The line as what carries edges.
 fn line_carrier(cut: Cut) -> Carrier
     ensures { result ≡ carrier_of_cut cut }
 {
@@ -87,7 +86,7 @@ fn line_carrier(cut: Cut) -> Carrier
     }
 }
 
-// The edge on the line from one end to the next.
+/// The edge on the line from one end to the next.
 fn link(z: Point, w: Point, cut: Cut) -> Edge
     requires z_end { IsEnd cut z }
     requires w_end { IsEnd cut w }
@@ -101,7 +100,7 @@ fn link(z: Point, w: Point, cut: Cut) -> Edge
     }
 }
 
-// Whether no edge stands between an end and the next, of which so many are passed.
+/// Whether no edge stands between an end and the next, of which so many are passed.
 fn is_skipped(z: Point, w: Point, passed: usize, count: usize, cut: Cut, side: Side) -> bool
     requires { passed ≤ count }
     ensures { result ≡ is_skipped cut side count passed z w }
@@ -114,7 +113,7 @@ fn is_skipped(z: Point, w: Point, passed: usize, count: usize, cut: Cut, side: S
     compare_along(z, w, cut, side) != Ordering::Less || up_to_lower % 2 == 0
 }
 
-// Adds the edge from an end to the next, if one stands there.
+/// Adds the edge from an end to the next, if one stands there.
 fn push_link(
     links: &mut Vec<Edge>,
     z: Point,
@@ -123,7 +122,7 @@ fn push_link(
     count: usize,
     cut: Cut,
     side: Side,
-) -> Result<(), AllocError>
+) -> Result<(), OutOfMemory>
     requires z_end { IsEnd cut z }
     requires w_end { IsEnd cut w }
     requires passed { passed ≤ count }
@@ -135,14 +134,14 @@ fn push_link(
     Ok(())
 }
 
-// The edges on the line from its first end on.
+/// The edges on the line from its first end on.
 fn links_from(
     alloc: Global,
     first: Point,
     rest: &[Point],
     cut: Cut,
     side: Side,
-) -> Result<Vec<Edge>, AllocError>
+) -> Result<Vec<Edge>, OutOfMemory>
     requires first_end { IsEnd cut first }
     requires rest_ends { All (IsEnd cut) rest.now }
     requires small { length rest.now + 1 < 2 ^ 64 }
@@ -158,20 +157,20 @@ fn links_from(
     Ok(links)
 }
 
-// The same, as what a sort asks.
+/// The same, as what a sort asks.
 fn compare_ends(p: Point, q: Point, cut: Cut, side: Side) -> Ordering
     ensures { is_lt result ≡ is_plus (line_order cut side p q) }
 {
     compare_along(p, q, cut, side)
 }
 
-// The ends of edges that are on the line, in order along it.
+/// The ends of edges that are on the line, in order along it.
 fn sorted_ends(
     alloc: Global,
     parts: &[Edge],
     cut: Cut,
     side: Side,
-) -> Result<Vec<Point>, AllocError>
+) -> Result<Vec<Point>, OutOfMemory>
     ensures { IfOk result (λ v. AreSortedEnds cut side parts.now v.items) }
 {
     let mut ends = line_ends(alloc, parts, cut)?;
@@ -179,8 +178,8 @@ fn sorted_ends(
     Ok(ends)
 }
 
-// The edges on the line.
-fn links(alloc: Global, ends: &[Point], cut: Cut, side: Side) -> Result<Vec<Edge>, AllocError>
+/// The edges on the line.
+fn links(alloc: Global, ends: &[Point], cut: Cut, side: Side) -> Result<Vec<Edge>, OutOfMemory>
     requires { All (IsEnd cut) ends.now }
     ensures { IfOk result (λ v. AreWalked cut side ends.now v.items) }
 {
@@ -190,8 +189,8 @@ fn links(alloc: Global, ends: &[Point], cut: Cut, side: Side) -> Result<Vec<Edge
     }
 }
 
-// The edges of two lists, one after the other.
-fn joined(alloc: Global, parts: &[Edge], links: &[Edge]) -> Result<Edges, AllocError>
+/// The edges of two lists, one after the other.
+fn joined(alloc: Global, parts: &[Edge], links: &[Edge]) -> Result<Edges, OutOfMemory>
     ensures { IfOk result (λ list. list ≡ parts.now ++ links.now) }
 {
     let mut edges = Edges::new(alloc);
@@ -206,7 +205,7 @@ fn joined(alloc: Global, parts: &[Edge], links: &[Edge]) -> Result<Edges, AllocE
 
 /// The half of a list of edges on one side of a cut line: the portions of its edges on that side, and edges on the
 /// line that close them, with the side on their left. It is sided.
-pub fn half(alloc: Global, edges: &Edges, cut: Cut, side: Side) -> Result<Edges, AllocError>
+pub fn half(alloc: Global, edges: &Edges, cut: Cut, side: Side) -> Result<Edges, OutOfMemory>
     requires { IsSided edges.now }
     ensures half { IfOk result (λ hs. IsHalf cut side edges.now hs) }
     ensures sided { IfOk result (λ hs. IsSided hs) }

@@ -2,7 +2,7 @@
 ghost use Rattle.std.specs.Prelude.{◌≡◌, ◌≤◌, ◌<◌, ◌+◌, ◌++◌, ◌∷◌, [], IfOk, IfErr, length, ℕ, ◌+ℤ◌, ◌-ℤ◌, pos, unsigned_abs};
 ghost use Rattle.std.specs.Int.{int_div_euclid};
 ghost use Rattle.plane.specs.Sign.{is_minus, is_plus, sign};
-ghost use Rattle.sided.specs.Sided.{IsSided};
+ghost use Rattle.plane_edges.specs.Sided.{IsSided};
 ghost use Rattle.coast_split.specs.declared.leaves.SplitError.TheVariants.{TooManyPieces, OutOfMemory};
 ghost use Rattle.coast_split.specs.Half.{IsHalf};
 ghost use Rattle.coast_split.specs.SplitTree.{HasTooMany, IsSplitOnto, high_cut, high_of, is_large, is_split, longer_of, low_cut, low_of, middle_of, width_of};
@@ -24,7 +24,7 @@ pub struct Settings {
     pub ghost overlap_in: { overlap ≤ 100_000_000 },
 }
 
-// Where the envelope begins, in the world.
+/// Where the envelope begins, in the world.
 fn low_end(edges: &[Edge], axis: Axis) -> i64
     ensures value { result ≡ low_of axis edges.now }
     ensures small { unsigned_abs result ≤ 1_800_000_000 }
@@ -32,7 +32,7 @@ fn low_end(edges: &[Edge], axis: Axis) -> i64
     low_of(edges, axis)
 }
 
-// Where it ends.
+/// Where it ends.
 fn high_end(edges: &[Edge], axis: Axis) -> i64
     ensures value { result ≡ high_of axis edges.now }
     ensures small { unsigned_abs result ≤ 1_800_000_000 }
@@ -40,7 +40,7 @@ fn high_end(edges: &[Edge], axis: Axis) -> i64
     high_of(edges, axis)
 }
 
-// How long a side of the envelope is.
+/// How long a side of the envelope is.
 fn width_of(edges: &[Edge], axis: Axis) -> i64
     ensures value { result ≡ width_of axis edges.now }
     ensures small { unsigned_abs result ≤ 3_600_000_000 }
@@ -48,14 +48,14 @@ fn width_of(edges: &[Edge], axis: Axis) -> i64
     high_end(edges, axis) - low_end(edges, axis)
 }
 
-// Whether one number is less than another.
+/// Whether one number is less than another.
 fn is_less(a: i64, b: i64) -> bool
     ensures { result ≡ is_minus (sign (a -ℤ b)) }
 {
     a < b
 }
 
-// The axis of the longer side, x where both are equal.
+/// The axis of the longer side, x where both are equal.
 fn longer_of(edges: &[Edge]) -> Axis
     ensures { result ≡ longer_of edges.now }
 {
@@ -66,7 +66,7 @@ fn longer_of(edges: &[Edge]) -> Axis
     }
 }
 
-// The middle of a side.
+/// The middle of a side.
 fn middle_at(edges: &[Edge], axis: Axis) -> i64
     ensures value { result ≡ int_div_euclid (low_of axis edges.now +ℤ high_of axis edges.now) (pos 2) }
     ensures small { unsigned_abs result ≤ 1_800_000_000 }
@@ -74,7 +74,7 @@ fn middle_at(edges: &[Edge], axis: Axis) -> i64
     (low_end(edges, axis) + high_end(edges, axis)).div_euclid(2)
 }
 
-// Where the low half ends.
+/// Where the low half ends.
 fn low_cut(edges: &[Edge], overlap: u32) -> Cut
     requires { overlap ≤ 100_000_000 }
     ensures { result ≡ low_cut (middle_of edges.now) overlap }
@@ -86,7 +86,7 @@ fn low_cut(edges: &[Edge], overlap: u32) -> Cut
     }
 }
 
-// Where the high half begins.
+/// Where the high half begins.
 fn high_cut(edges: &[Edge], overlap: u32) -> Cut
     requires { overlap ≤ 100_000_000 }
     ensures { result ≡ high_cut (middle_of edges.now) overlap }
@@ -98,14 +98,14 @@ fn high_cut(edges: &[Edge], overlap: u32) -> Cut
     }
 }
 
-// Whether one number of things is more than another.
+/// Whether one number of things is more than another.
 fn is_more(a: u64, b: u64) -> bool
     ensures { result ≡ is_plus (sign (pos a -ℤ pos b)) }
 {
     a > b
 }
 
-// Whether the list is cut.
+/// Whether the list is cut.
 fn is_split(edges: &[Edge], settings: &Settings) -> bool
     ensures { result ≡ is_split settings.now.most_points settings.now.overlap edges.now }
 {
@@ -128,7 +128,7 @@ pub enum SplitError {
     OutOfMemory,
 }
 
-// The half of a list, or its error.
+/// The half of a list, or its error.
 fn half_or(alloc: Global, edges: &Edges, cut: Cut, side: Side) -> Result<Edges, SplitError>
     requires { IsSided edges.now }
     ensures half { IfOk result (λ hs. IsHalf cut side edges.now hs) }
@@ -141,7 +141,7 @@ fn half_or(alloc: Global, edges: &Edges, cut: Cut, side: Side) -> Result<Edges, 
     }
 }
 
-// One more leaf.
+/// One more leaf.
 fn push_leaf(leaves: &mut Vec<Edges>, edges: Edges, most: u64) -> Result<(), SplitError>
     ensures leaf { IfOk result (λ _. (leaves.new.items ≡ leaves.old.items ++ (edges ∷ [])) × (length leaves.new.items ≤ most)) }
     ensures many { IfErr result (λ e. (m : ℕ) → e ≡ TooManyPieces m → (m ≡ most) × (most < length leaves.old.items + 1)) }
@@ -155,7 +155,7 @@ fn push_leaf(leaves: &mut Vec<Edges>, edges: Edges, most: u64) -> Result<(), Spl
     }
 }
 
-// Adds the leaves of a list.
+/// Adds the leaves of a list.
 fn split_into(
     alloc: Global,
     edges: Edges,

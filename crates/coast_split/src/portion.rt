@@ -1,7 +1,7 @@
 //! The portion of an edge on one side of a cut line.
 ghost use Rattle.std.specs.Prelude.{◌≡◌, true, false, MatchOption};
 ghost use Rattle.plane.specs.Sign.{Minus, Null, Plus, are_opposite};
-ghost use Rattle.osm_geom.specs.Bounds.{IsLatitude, IsLongitude};
+ghost use Rattle.osm_lattice.specs.Bounds.{IsLatitude, IsLongitude};
 ghost use Rattle.osm_geom.specs.Carrier.{is_on};
 ghost use Rattle.osm_geom.specs.Cut.{cut_order, side_of};
 ghost use Rattle.osm_geom.specs.Point.{IsInWorld};
@@ -38,7 +38,7 @@ pub fn place_of(p: &Point, cut: Cut, side: Side) -> Place
     }
 }
 
-// The location with these coordinates.
+/// The location with these coordinates.
 fn lattice_point(x: i32, y: i32) -> Loc
     requires x_in { IsLongitude x }
     requires y_in { IsLatitude y }
@@ -48,7 +48,7 @@ fn lattice_point(x: i32, y: i32) -> Loc
     Loc { x, y }
 }
 
-// The point in which an edge from one side of the line to the other meets it.
+/// The point in which an edge from one side of the line to the other meets it.
 fn crossing(e: &Edge, cut: Cut) -> Point
     requires { are_opposite (cut_order cut e.now.from) (cut_order cut e.now.to) ≡ true }
     ensures on_line { cut_order cut result ≡ Null }
@@ -62,7 +62,7 @@ fn crossing(e: &Edge, cut: Cut) -> Point
     }
 }
 
-// The portion of an edge that runs off the side.
+/// The portion of an edge that runs off the side.
 fn first_portion(e: &Edge, cut: Cut, side: Side) -> Edge
     requires kept { side_of cut side e.now.from ≡ Plus }
     requires beyond { side_of cut side e.now.to ≡ Minus }
@@ -75,7 +75,7 @@ fn first_portion(e: &Edge, cut: Cut, side: Side) -> Edge
     }
 }
 
-// The portion of an edge that runs onto the side.
+/// The portion of an edge that runs onto the side.
 fn last_portion(e: &Edge, cut: Cut, side: Side) -> Edge
     requires beyond { side_of cut side e.now.from ≡ Minus }
     requires kept { side_of cut side e.now.to ≡ Plus }

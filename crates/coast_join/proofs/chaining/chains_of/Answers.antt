@@ -1,11 +1,10 @@
 -- One more orbit.
 use Rattle.std.proofs.Common.{◌<◌, ℕ, All, List, length, map, sym, subst, arith}
 use Rattle.std.proofs.lemmas.List.{length-map}
-use Rattle.coast_join.proofs.Joining.{zip_more}
+use Rattle.coast_join.proofs.Joining.{zip_more, list_at, list_is}
 use Rattle.orbits.specs.Orbits.{IsOrbit}
 use Rattle.coast_join.specs.Chains.{IsChain}
 use Rattle.coast_join.specs.ChainSteps.{members}
-use Rattle.coast_join.proofs.Joining.{list_at, list_is}
 use Rattle.coast_join.proofs.chaining.chains_of.Goals as goal
 
 pub chain_at-requires-clause-orbit : goal.chain_at-requires-clause-orbit

@@ -1,6 +1,6 @@
 -- The near pairs, each once, the nearest first.
 use Rattle.std.proofs.Common.{◌≡◌, ◌<◌, ℕ, All, List, length, min, sym, ap, subst, ◌∙◌}
-use Rattle.osm_lists.specs.Rising.{count_of}
+use Rattle.lists.specs.Rising.{count_of}
 use Rattle.coast_join.specs.declared.chain.Chain.{Chain}
 use Rattle.coast_join.specs.declared.closing.OpenEnds.{OpenEnds}
 use Rattle.coast_join.specs.declared.gap.Gap.{Gap}

@@ -1,6 +1,6 @@
 -- One more chain.
 use Rattle.std.proofs.Common.{◌≡◌, ◌∙◌, ℕ, if◌then◌else◌, Option, Some, None, sym, ap}
-use Rattle.osm_geom.specs.declared.loc.Loc.{Loc}
+use Rattle.osm_lattice.specs.declared.loc.Loc.{Loc}
 use Rattle.coast_join.specs.declared.chain.Chain.{Chain}
 use Rattle.coast_join.specs.declared.closing.OpenEnds.{OpenEnds}
 use Rattle.coast_join.specs.Closings.{open_ends_at}

@@ -1,8 +1,8 @@
 use Rattle.std.proofs.Common.{◌≡◌, take, vec_len, unwrap_or}
 use Rattle.std.specs.BTreeMap.{get}
-use Rattle.osm_geom.specs.declared.loc.Loc.{Loc}
-use Rattle.osm_geom.specs.Loc.{loc_cmp}
-use Rattle.osm_lists.specs.Rising.{count_of}
+use Rattle.osm_lattice.specs.declared.loc.Loc.{Loc}
+use Rattle.osm_lattice.specs.Loc.{loc_cmp}
+use Rattle.lists.specs.Rising.{count_of}
 use Rattle.coast_join.specs.Links.{AreNumbered}
 use Rattle.coast_join.proofs.links.numbered.Given as goal
 

@@ -5,4 +5,4 @@ use Rattle.coast_join.specs.declared.ring.CoastRing.{CoastRing}
 use Rattle.coast_join.proofs.regained.by_name.Goals as goal
 
 pub returns-clause-by_name : goal.returns-clause-by_name
-returns-clause-by_name c = rw c.of_vec.ensures (c.in_ok-sort_by_key.ensures.sorted (λ (r : CoastRing). r.name) (answers_always _ (λ a r. r ≡ a.0.now.name) _ (λ f a r q k. search rules)))
+returns-clause-by_name c = rw c.from_vec.ensures (c.in_ok-sort_by_key.ensures.sorted (λ (r : CoastRing). r.name) (answers_always _ (λ a r. r ≡ a.0.now.name) _ (λ f a r q k. search rules)))

@@ -1,6 +1,6 @@
 -- One more chain.
 use Rattle.std.proofs.Common.{◌++◌, List, ap, sym, ◌∙◌}
-use Rattle.osm_geom.specs.declared.loc.Loc.{Loc}
+use Rattle.osm_lattice.specs.declared.loc.Loc.{Loc}
 use Rattle.coast_join.specs.declared.chain.Chain.{Chain}
 use Rattle.coast_join.proofs.Following.{chained}
 use Rattle.coast_join.proofs.ring_making.paths_at.Goals as goal

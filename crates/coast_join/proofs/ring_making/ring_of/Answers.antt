@@ -1,7 +1,7 @@
 -- The ring has a way, and is closed without equal neighbours.
 use Rattle.std.proofs.Common.{List, length, ap, sym, subst, ◌∙◌, arith}
 use Rattle.std.specs.List.{list_any}
-use Rattle.osm_geom.specs.declared.loc.Loc.{Loc}
+use Rattle.osm_lattice.specs.declared.loc.Loc.{Loc}
 use Rattle.coast_join.specs.Closings.{is_antarctic}
 use Rattle.coast_join.specs.Joined.{chains_at, corners}
 use Rattle.coast_join.specs.Line.{IsLine}

@@ -1,6 +1,6 @@
 use Rattle.std.proofs.Common.{◌≡◌, ◌++◌, take}
 use Rattle.std.specs.List.{filter_map}
-use Rattle.osm_geom.specs.Seg.{segment_between}
+use Rattle.osm_lattice.specs.Seg.{segment_between}
 use Rattle.coast_sides.specs.Segments.{steps_round}
 use Rattle.coast_sides.proofs.sorting.add_round.Given as goal
 

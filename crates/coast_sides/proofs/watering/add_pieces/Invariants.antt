@@ -1,6 +1,6 @@
 use Rattle.std.proofs.Common.{◌≡◌, ◌++◌, drop, take}
 use Rattle.std.specs.List.{filter_map, zip}
-use Rattle.osm_geom.specs.Seg.{segment_between}
+use Rattle.osm_lattice.specs.Seg.{segment_between}
 use Rattle.coast_sides.proofs.watering.add_pieces.Given as goal
 
 abbrev pub invariant-loop-place : goal.invariant-loop-place

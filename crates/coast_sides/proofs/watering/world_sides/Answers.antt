@@ -1,8 +1,8 @@
 -- The four sides, one after the other.
 use Rattle.std.proofs.Common.{◌≡◌, ◌++◌, [], List, ap, ◌∙◌}
 use Rattle.std.proofs.lemmas.List.{append_assoc}
-use Rattle.osm_geom.specs.declared.loc.Loc.{Loc}
-use Rattle.osm_geom.specs.declared.seg.Seg.{Seg}
+use Rattle.osm_lattice.specs.declared.loc.Loc.{Loc}
+use Rattle.osm_lattice.specs.declared.seg.Seg.{Seg}
 use Rattle.coast_sides.specs.Water.{pieces}
 use Rattle.coast_sides.proofs.watering.world_sides.Goals as goal
 

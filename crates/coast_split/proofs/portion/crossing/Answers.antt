@@ -1,7 +1,7 @@
 use Rattle.std.proofs.Common.{rules, FitsSigned}
 use Rattle.std.specs.Int.{w32}
 use Rattle.std.proofs.lemmas.Int.{to_z-of_z}
-use Rattle.osm_geom.proofs.CutPoints.{in-world}
+use Rattle.osm_geom.proofs.GeometryKit.{in-world}
 use Rattle.coast_split.proofs.Crossings.{horizontal-at-in, horizontal-d-in, horizontal-meets, horizontal-on, segment-crosses, vertical-at-in, vertical-c-in, vertical-meets, vertical-on}
 use Rattle.coast_split.proofs.portion.crossing.Goals as goal
 
