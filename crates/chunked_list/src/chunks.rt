@@ -40,8 +40,10 @@ pub(crate) fn item<T: Copy>(chunks: &[Vec<T>], place: usize) -> T
 fn put<T: Copy>(chunks: &mut Vec<Vec<T>>, place: usize, item: T) -> Result<(), OutOfMemory>
     requires some { 0 < length chunks.old.items }
     requires within { place ≤ length (flat_map (λ c. c.items) chunks.old.items) }
-    ensures done { OnOk result (flat_map (λ c. c.items) chunks.new.items ≡ insert (flat_map (λ c. c.items) chunks.old.items) place item) }
-    ensures kept { OnErr result (flat_map (λ c. c.items) chunks.new.items ≡ flat_map (λ c. c.items) chunks.old.items) }
+    ensures done { OnOk result (flat_map (λ c. c.items) chunks.new.items
+        ≡ insert (flat_map (λ c. c.items) chunks.old.items) place item) }
+    ensures kept { OnErr result (flat_map (λ c. c.items) chunks.new.items
+        ≡ flat_map (λ c. c.items) chunks.old.items) }
 {
     let (chunk, at) = locate(chunks, place);
     match chunks[chunk].insert(at, item) {
@@ -56,7 +58,8 @@ pub(crate) fn take_out<T: Copy>(chunks: &mut Vec<Vec<T>>, place: usize) -> T
     requires fits { place + 1 < 2 ^ 64 }
     requires inside { place < length (flat_map (λ c. c.items) chunks.old.items) }
     ensures item { result ≡ slice_index_or (flat_map (λ c. c.items) chunks.old.items) place result }
-    ensures others { flat_map (λ c. c.items) chunks.new.items ≡ remove (flat_map (λ c. c.items) chunks.old.items) place }
+    ensures others { flat_map (λ c. c.items) chunks.new.items
+        ≡ remove (flat_map (λ c. c.items) chunks.old.items) place }
 {
     let (chunk, end) = locate(chunks, place + 1);
     let item = chunks[chunk].remove(end - 1);
@@ -77,7 +80,8 @@ fn drop_if_empty<T: Copy>(chunks: &mut Vec<Vec<T>>, chunk: usize)
 /// Parts a chunk into two.
 fn part<T: Copy>(alloc: Global, chunks: &mut Vec<Vec<T>>, chunk: usize) -> Result<(), OutOfMemory>
     requires { chunk < length chunks.old.items }
-    ensures same { flat_map (λ c. c.items) chunks.new.items ≡ flat_map (λ c. c.items) chunks.old.items }
+    ensures same { flat_map (λ c. c.items) chunks.new.items
+        ≡ flat_map (λ c. c.items) chunks.old.items }
     ensures some { 0 < length chunks.new.items }
 {
     let half = chunks[chunk].len() / 2;
@@ -95,8 +99,10 @@ pub(crate) fn put_in<T: Copy>(
     item: T,
 ) -> Result<(), OutOfMemory>
     requires within { place ≤ length (flat_map (λ c. c.items) chunks.old.items) }
-    ensures done { OnOk result (flat_map (λ c. c.items) chunks.new.items ≡ insert (flat_map (λ c. c.items) chunks.old.items) place item) }
-    ensures kept { OnErr result (flat_map (λ c. c.items) chunks.new.items ≡ flat_map (λ c. c.items) chunks.old.items) }
+    ensures done { OnOk result (flat_map (λ c. c.items) chunks.new.items
+        ≡ insert (flat_map (λ c. c.items) chunks.old.items) place item) }
+    ensures kept { OnErr result (flat_map (λ c. c.items) chunks.new.items
+        ≡ flat_map (λ c. c.items) chunks.old.items) }
 {
     if chunks.is_empty() {
         chunks.push(Vec::new(alloc))?;

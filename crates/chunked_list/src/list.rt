@@ -1,3 +1,5 @@
+//! A list that is long and changes in its middle, kept in chunks.
+
 ghost use Rattle.std.specs.Prelude.{◌≡◌, ◌==◌, ◌<◌, ◌≤◌, ◌-◌, List, [], false, filter, insert, length, remove, slice_index_or, true, OnErr, OnOk, Bool};
 ghost use Rattle.std.specs.List.{flat_map};
 ghost use Rattle.std.specs.List.Sorted.{IsPartitionedBy, IsPartitionPoint};
@@ -91,7 +93,9 @@ impl<T: Copy> ChunkedList<T> {
     pub fn partition_point<F: Fn(&T) -> bool>(&self, test: F) -> usize
         requires { F.IsAlwaysCallable test }
         ensures within { result ≤ length self.now }
-        ensures point { (p : T → Bool) → ((x : T) (told : Bool) → FnReturnsAt F.Fn test x told → told ≡ p x) → IsPartitionedBy p self.now → IsPartitionPoint (λ x. p x ≡ true) (λ x. p x ≡ false) self.now result }
+        ensures point { (p : T → Bool) → ((x : T) (told : Bool) → FnReturnsAt F.Fn test x told
+            → told ≡ p x) → IsPartitionedBy p self.now
+            → IsPartitionPoint (λ x. p x ≡ true) (λ x. p x ≡ false) self.now result }
     {
         let guess = self.guess(&test);
         if self.passes_before(&test, guess) && self.fails_from(&test, guess) {
@@ -130,7 +134,8 @@ impl<T: Copy> ChunkedList<T> {
     fn passes_at<F: Fn(&T) -> bool>(&self, test: &F, place: usize) -> bool
         requires inside { place < length self.now }
         requires test { F.IsAlwaysCallable test.now }
-        ensures { (p : T → Bool) → ((x : T) (told : Bool) → FnReturnsAt F.Fn test.now x told → told ≡ p x) → (d : T) → result ≡ p (slice_index_or self.now place d) }
+        ensures { (p : T → Bool) → ((x : T) (told : Bool) → FnReturnsAt F.Fn test.now x told
+            → told ≡ p x) → (d : T) → result ≡ p (slice_index_or self.now place d) }
     {
         passes(test, &self.get(place))
     }
@@ -139,7 +144,9 @@ impl<T: Copy> ChunkedList<T> {
     fn passes_before<F: Fn(&T) -> bool>(&self, test: &F, place: usize) -> bool
         requires within { place ≤ length self.now }
         requires test { F.IsAlwaysCallable test.now }
-        ensures { result ≡ true → (p : T → Bool) → ((x : T) (told : Bool) → FnReturnsAt F.Fn test.now x told → told ≡ p x) → (d : T) → 0 < place → p (slice_index_or self.now (place - 1) d) ≡ true }
+        ensures { result ≡ true → (p : T → Bool)
+            → ((x : T) (told : Bool) → FnReturnsAt F.Fn test.now x told → told ≡ p x) → (d : T)
+            → 0 < place → p (slice_index_or self.now (place - 1) d) ≡ true }
     {
         if place == 0 {
             return true;
@@ -150,7 +157,9 @@ impl<T: Copy> ChunkedList<T> {
     /// Whether the item at a place doesn't pass, if there is one.
     fn fails_from<F: Fn(&T) -> bool>(&self, test: &F, place: usize) -> bool
         requires { F.IsAlwaysCallable test.now }
-        ensures { result ≡ true → (p : T → Bool) → ((x : T) (told : Bool) → FnReturnsAt F.Fn test.now x told → told ≡ p x) → (d : T) → place < length self.now → p (slice_index_or self.now place d) ≡ false }
+        ensures { result ≡ true → (p : T → Bool)
+            → ((x : T) (told : Bool) → FnReturnsAt F.Fn test.now x told → told ≡ p x) → (d : T)
+            → place < length self.now → p (slice_index_or self.now place d) ≡ false }
     {
         if place >= self.len {
             return true;
@@ -161,7 +170,8 @@ impl<T: Copy> ChunkedList<T> {
     /// Takes out the items that don't pass a test.
     pub fn retain<F: Fn(&T) -> bool>(&mut self, test: F)
         requires { F.IsAlwaysCallable test }
-        ensures { (p : T → Bool) → ((x : T) (told : Bool) → FnReturnsAt F.Fn test x told → told ≡ p x) → self.new ≡ filter p self.old }
+        ensures { (p : T → Bool) → ((x : T) (told : Bool) → FnReturnsAt F.Fn test x told
+            → told ≡ p x) → self.new ≡ filter p self.old }
     {
         let mut place = 0;
         while place < self.len {

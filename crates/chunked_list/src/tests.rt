@@ -1,3 +1,5 @@
+//! A chunked list does what a plain `Vec` does.
+
 use super::ChunkedList;
 use std::test::Fail;
 

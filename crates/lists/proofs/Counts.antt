@@ -9,6 +9,9 @@ use Rattle.std.specs.Ordering.{ordering_reverse}
 use Rattle.lists.specs.Rising.{count_of}
 use Rattle.lists.proofs.Orderings.{equal_from}
 
+pub count_by-cons : {X : Type 0} (f : X → Bool) (x : X) (xs : List X) → count_by f (x ∷ xs) ≡ cond {A = ℕ} (f x) 1 0 + count_by f xs
+count_by-cons f x xs = sum_by-cons (λ y. cond {A = ℕ} (f y) 1 0) x xs
+
 module _ {X : Type 0} (R : X → X → Ordering) where
   pub count-cons : (z x : X) (xs : List X) → count_of R z (x ∷ xs) ≡ cond (is_eq (R x z)) 1 0 + count_of R z xs
   count-cons z x xs = sum_by-cons (λ y. cond (is_eq (R y z)) 1 0) x xs

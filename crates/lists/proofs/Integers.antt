@@ -21,3 +21,6 @@ rest_nothing a b c h k m = omega (arith, ints)
 
 pub least_trans : (a b c : ℤ) → a ≤ℤ b → b ≤ℤ c → a ≤ℤ c
 least_trans a b c h k = omega (arith, ints)
+
+pub sum_none : (z : ℤ) → z +ℤ (pos 0 -ℤ z) ≡ pos 0
+sum_none z = omega (arith, ints)

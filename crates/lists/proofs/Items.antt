@@ -28,3 +28,9 @@ taken_more {X} xs i x h is = take_more xs i x h ∙ ap (λ (y : X). take i xs ++
 pub some_member : {X : Type 0} (xs : List X) → 0 < length xs → (x : X) × In x xs
 some_member [] h = absurd (omega arith)
 some_member (x ∷ xs) h = (x, inl refl)
+
+-- inside a list the default is not looked at
+pub same_get : {X : Type 0} (xs : List X) (i : ℕ) (d e : X) → i < length xs → get_or xs i d ≡ get_or xs i e
+same_get [] i d e h = absurd (omega arith)
+same_get (x ∷ xs) zero d e h = refl
+same_get (x ∷ xs) (suc i) d e h = same_get xs i d e (omega arith)

@@ -4,6 +4,7 @@ pub mod EachOnce
 pub mod Insertions
 pub mod Integers
 pub mod Items
+pub mod ListsKit
 pub mod Maps
 pub mod Members
 pub mod Numbers
@@ -12,6 +13,7 @@ pub mod Orderings
 pub mod PickedItems
 pub mod Picks
 pub mod RisingLists
+pub mod Rotations
 pub mod Splits
 pub mod Sums
 mod TallySteps

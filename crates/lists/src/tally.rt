@@ -1,3 +1,5 @@
+//! How often each item stands in a list, counted along the sorted list.
+
 ghost use Rattle.std.specs.Prelude.{◌≡◌, ◌+◌, ◌%◌, ◌==◌, ◌<◌, ◌^◌, ◌++◌, ◌∷◌, [], if◌then◌else◌, nat_le, All, List, IfOk, OnOk, count_by, filter, map, min};
 ghost use Rattle.std.specs.Ordering.{is_eq, on};
 ghost use Rattle.lists.specs.Rising.{IsRising, count_of};
@@ -15,7 +17,8 @@ pub struct Tally<T> {
 /// Counts one more item, which is not less than any before it.
 fn count_in<T: Ord + Copy>(tallies: &mut Vec<Tally<T>>, item: T) -> Result<(), OutOfMemory>
     requires room { All (λ t. t.times + 1 < 2 ^ 64) tallies.old.items }
-    ensures counted { OnOk result ((passed : List T) → IsTallied T.cmp passed tallies.old.items → UpTo T.cmp item passed → IsTallied T.cmp (passed ++ item ∷ []) tallies.new.items) }
+    ensures counted { OnOk result ((passed : List T) → IsTallied T.cmp passed tallies.old.items
+        → UpTo T.cmp item passed → IsTallied T.cmp (passed ++ item ∷ []) tallies.new.items) }
 {
     match tallies.last().copied() {
         Some(last) if last.item == item => {
@@ -33,8 +36,10 @@ fn count_in<T: Ord + Copy>(tallies: &mut Vec<Tally<T>>, item: T) -> Result<(), O
 /// Each different item of a list, in order, and how often it stands there.
 pub fn tallies<T: Ord + Copy>(alloc: Global, items: &[T]) -> Result<Vec<Tally<T>>, OutOfMemory>
     ensures rising { IfOk result (λ v. IsRising (on (λ t. t.item) T.cmp) v.items) }
-    ensures times { IfOk result (λ v. All (λ t. t.times ≡ count_of T.cmp t.item items.now) v.items) }
-    ensures each { IfOk result (λ v. (x : T) → count_by (λ t. is_eq (T.cmp t.item x)) v.items ≡ min 1 (count_of T.cmp x items.now)) }
+    ensures times { IfOk result (λ v. All (λ t. t.times ≡ count_of T.cmp t.item items.now)
+        v.items) }
+    ensures each { IfOk result (λ v. (x : T) → count_by (λ t. is_eq (T.cmp t.item x)) v.items
+        ≡ min 1 (count_of T.cmp x items.now)) }
 {
     let mut sorted = Vec::from_slice(alloc, items)?;
     sorted.sort()?;
@@ -47,7 +52,8 @@ pub fn tallies<T: Ord + Copy>(alloc: Global, items: &[T]) -> Result<Vec<Tally<T>
 
 /// The items of the tallies of an odd number.
 fn odd_of<T: Copy>(alloc: Global, tallies: &[Tally<T>]) -> Result<Vec<T>, OutOfMemory>
-    ensures { IfOk result (λ v. v.items ≡ map (λ t. t.item) (filter (λ t. t.times % 2 == 1) tallies.now)) }
+    ensures { IfOk result (λ v. v.items ≡ map (λ t. t.item)
+        (filter (λ t. t.times % 2 == 1) tallies.now)) }
 {
     tallies
         .iter()
@@ -76,7 +82,8 @@ fn repeated_of<T: Copy>(alloc: Global, tallies: &[Tally<T>]) -> Result<Vec<Tally
 
 /// The items that stand an odd number of times in a list, each once, in strict order.
 pub fn odd_items<T: Ord + Copy>(alloc: Global, items: &[T]) -> Result<Vec<T>, OutOfMemory>
-    ensures odd { IfOk result (λ v. (x : T) → count_of T.cmp x v.items ≡ count_of T.cmp x items.now % 2) }
+    ensures odd { IfOk result (λ v. (x : T) → count_of T.cmp x v.items
+        ≡ count_of T.cmp x items.now % 2) }
     ensures rising { IfOk result (λ v. IsRising T.cmp v.items) }
 {
     let tallies = tallies(alloc, items)?;
@@ -85,7 +92,8 @@ pub fn odd_items<T: Ord + Copy>(alloc: Global, items: &[T]) -> Result<Vec<T>, Ou
 
 /// The items of a list, each once, in strict order.
 pub fn distinct_items<T: Ord + Copy>(alloc: Global, items: &[T]) -> Result<Vec<T>, OutOfMemory>
-    ensures once { IfOk result (λ v. (x : T) → count_of T.cmp x v.items ≡ min 1 (count_of T.cmp x items.now)) }
+    ensures once { IfOk result (λ v. (x : T) → count_of T.cmp x v.items
+        ≡ min 1 (count_of T.cmp x items.now)) }
     ensures rising { IfOk result (λ v. IsRising T.cmp v.items) }
 {
     let tallies = tallies(alloc, items)?;
@@ -97,8 +105,11 @@ pub fn repeated_items<T: Ord + Copy>(
     alloc: Global,
     items: &[T],
 ) -> Result<Vec<Tally<T>>, OutOfMemory>
-    ensures repeated { IfOk result (λ v. (x : T) → count_of T.cmp x (map (λ t. t.item) v.items) ≡ (if nat_le 2 (count_of T.cmp x items.now) then 1 else 0)) }
-    ensures times { IfOk result (λ v. All (λ t. t.times ≡ count_of T.cmp t.item items.now) v.items) }
+    ensures repeated { IfOk result (λ v. (x : T)
+        → count_of T.cmp x (map (λ t. t.item) v.items)
+        ≡ (if nat_le 2 (count_of T.cmp x items.now) then 1 else 0)) }
+    ensures times { IfOk result (λ v. All (λ t. t.times ≡ count_of T.cmp t.item items.now)
+        v.items) }
     ensures rising { IfOk result (λ v. IsRising T.cmp (map (λ t. t.item) v.items)) }
 {
     let tallies = tallies(alloc, items)?;

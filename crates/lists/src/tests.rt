@@ -1,3 +1,5 @@
+//! Odd, distinct and repeated items of small lists.
+
 use super::*;
 use std::test::Fail;
 

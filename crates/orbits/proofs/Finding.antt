@@ -7,7 +7,7 @@ use Rattle.std.proofs.lemmas.List.Elements.{All-push}
 use Rattle.std.proofs.lemmas.List.Quantifiers.{all_pairs_push}
 use Rattle.orbits.specs.OrbitSteps.{AreMarkedAlso, IsWholeWalk, AreStarts}
 use Rattle.orbits.specs.Orbits.{after, IsOneToOne, IsOrbit, GoesOn, first, last, AreOrbits}
-use Rattle.orbits.proofs.Reading.{ltb_yes, ltb_no}
+use Rattle.orbits.proofs.Reading.{ltb_yes, ltb_no, unwrap, clash}
 use Rattle.orbits.proofs.Members.{find, count_absent, count_present}
 use Rattle.orbits.proofs.Walks.{IsWalk, walk_back, walk_short}
 
@@ -15,15 +15,9 @@ pub on_or_off : (b : Bool) → (b ≡ true) ⊎ (b ≡ false)
 on_or_off true = inl refl
 on_or_off false = inr refl
 
-pub clash : (b : Bool) → b ≡ true → b ≡ false → ⊥
-clash b p q = cc
-
 pub some_or_none : (r : Option ℕ) → ((j : ℕ) × (r ≡ Some j)) ⊎ (r ≡ None)
 some_or_none (Some j) = inl (j, refl)
 some_or_none None = inr refl
-
-unwrap : (x y : ℕ) → Some x ≡ Some y → x ≡ y
-unwrap x y p = cc
 
 abbrev pub IsMarked : List Bool → ℕ → Type 0
 IsMarked marks x = get_or marks x false ≡ true

@@ -4,7 +4,7 @@ use Rattle.std.proofs.lemmas.Bool.{cases_lt}
 use Rattle.std.proofs.lemmas.List.{length-set, length-take-le, get_or-set_same, get_or-set_other}
 use Rattle.orbits.specs.OrbitSteps.{AreMarkedAlso, AreStarts}
 use Rattle.orbits.specs.Orbits.{after, IsOneToOne}
-use Rattle.orbits.proofs.Reading.{at_take}
+use Rattle.orbits.proofs.Reading.{at_take, unwrap}
 use Rattle.orbits.proofs.Members.{find}
 use Rattle.orbits.proofs.Walks.{has_place}
 
@@ -60,9 +60,6 @@ module _ (next : List (Option ℕ)) (map : IsOneToOne next) where
             (λ d. s.some k h (sym (get_or-set_other starts j k false false (λ x. d (sym x))) ∙ f))
             (same_or_not j k);
       }
-    where
-      unwrap : (x y : ℕ) → Some x ≡ Some y → x ≡ y
-      unwrap x y p = cc
 
   pub starts_pass : (starts : List Bool) (n : ℕ) → AreStartsUpTo next n starts → after next n ≡ None → AreStartsUpTo next (n + 1) starts
   starts_pass starts n s e = record {

@@ -1,5 +1,5 @@
 -- What stands at a place of a list.
-use Rattle.std.proofs.Common.{◌≡◌, ℕ, ◌+◌, ◌<◌, ◌≤◌, List, [], ◌∷◌, ◌++◌, length, get_or, take, drop, true, false, arith, ltb}
+use Rattle.std.proofs.Common.{◌≡◌, ℕ, Bool, Some, ◌+◌, ◌<◌, ◌≤◌, List, [], ◌∷◌, ◌++◌, length, get_or, take, drop, true, false, arith, ltb}
 use Rattle.std.proofs.lemmas.List.{length-append, get_or-take, get_or-drop, get_or_append_left}
 use Rattle.std.proofs.lemmas.Bool.Decides.{nat_tests}
 use Rattle.std.proofs.Math.Seq.{get_or-append_seam}
@@ -25,3 +25,10 @@ at_new xs y i e = rw e (get_or-append_seam xs y [] 0)
 
 pub length_push : (xs : List ℕ) (y : ℕ) → length (xs ++ y ∷ []) ≡ length xs + 1
 length_push xs y = omega (arith, length-append xs (y ∷ []))
+
+pub unwrap : (x y : ℕ) → Some x ≡ Some y → x ≡ y
+unwrap x y p = cc
+
+-- a test has one answer
+pub clash : (b : Bool) → b ≡ true → b ≡ false → ⊥
+clash b p q = cc

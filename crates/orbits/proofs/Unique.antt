@@ -2,24 +2,13 @@
 use Rattle.std.proofs.Common.{◌≡◌, ◌≢◌, ◌⊎◌, inl, inr, ℕ, zero, suc, ◌+◌, ◌-◌, ◌<◌, ◌≤◌, List, [], ◌∷◌, length, get_or, replicate, All, AllPairs, false, refl, sym, ap, ◌∙◌, arith, ⊎_elim, Option, Some, None, count_by, sum_by, eqb}
 use Rattle.std.proofs.lemmas.Bool.{cases_lt}
 use Rattle.std.proofs.lemmas.List.{length-replicate}
+use Rattle.std.proofs.lemmas.Grind.{same_number_lists}
 use Rattle.std.proofs.lemmas.List.Sums.{sum_by-cons}
 use Rattle.orbits.specs.Orbits.{after, IsOneToOne, IsOrbit, AreOrbits, AreInOrder, first, last}
-use Rattle.orbits.proofs.Reading.{ltb_yes}
+use Rattle.orbits.proofs.Reading.{ltb_yes, clash, unwrap}
 use Rattle.orbits.proofs.Members.{Present, Distinct, find, count_absent, held_below, held_distinct}
-use Rattle.orbits.proofs.Finding.{none_marked, mark_orbit, back_to_first, clash, blank, some_or_none, IsMarked}
+use Rattle.orbits.proofs.Finding.{none_marked, mark_orbit, back_to_first, blank, some_or_none, IsMarked}
 use Rattle.orbits.proofs.Exists.{mark_exists}
-
-unwrap : (x y : ℕ) → Some x ≡ Some y → x ≡ y
-unwrap x y p = cc
-
-same_lists : (xs ys : List ℕ) → length xs ≡ length ys → ((k : ℕ) → k < length xs → get_or xs k 0 ≡ get_or ys k 0) → xs ≡ ys
-same_lists [] [] e each = refl
-same_lists [] (y ∷ ys) e each = absurd (omega arith)
-same_lists (x ∷ xs) [] e each = absurd (omega arith)
-same_lists (x ∷ xs) (y ∷ ys) e each =
-    let head : x ≡ y = each 0 (omega arith) in
-    let rest = same_lists xs ys (omega arith) (λ k h. each (suc k) (omega arith)) in
-    cc
 
 abbrev Rising : List (List ℕ) → Type 0
 Rising os = AllPairs (λ o p. first o < first p) os
@@ -120,7 +109,7 @@ module _ (next : List (Option ℕ)) (map : IsOneToOne next) where
       (λ l. absurd (not_shorter o p oo pp d_p e l))
       (λ l. ⊎_elim
       (λ m. absurd (not_shorter p o pp oo d_o (sym e) m))
-      (λ m. let long : length o ≡ length p = omega arith in same_lists o p long (λ k h. agree o p oo pp e k h (omega arith)))
+      (λ m. let long : length o ≡ length p = omega arith in same_number_lists o p long (λ k h. agree o p oo pp e k h (omega arith)))
       (cases_lt (length p) (length o)))
       (cases_lt (length o) (length p))
 

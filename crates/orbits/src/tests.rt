@@ -1,3 +1,5 @@
+//! Orbits and pieces of small maps and walks.
+
 use super::*;
 use std::alloc::AllocError as OutOfMemory;
 use std::test::*;

@@ -1,9 +1,10 @@
 use Rattle.std.proofs.Common.{◌≡◌, ◌<◌, ◌++◌, ◌∷◌, [], map, get_or, length, true, false, Bool, not, refl, sym, ap, ◌∙◌, arith}
 use Rattle.std.proofs.lemmas.List.{map-append, get_or_default, take_at}
 use Rattle.orbits.specs.OrbitSteps.{AreMarkedAlso, AreStarts}
-use Rattle.orbits.proofs.Finding.{chained_more, chained_pass, found_start, found_cycle, found_pass, found_all, clash, AreChained}
+use Rattle.orbits.proofs.Finding.{chained_more, chained_pass, found_start, found_cycle, found_pass, found_all, AreChained}
 use Rattle.orbits.proofs.orbit.orbits.Goals as goal
 use Rattle.orbits.proofs.orbit.orbits.Goals.{then-index+in_ok-orbit, else-index, then-index-2+in_ok-orbit-2+in_ok-push, then-index-2-via-then-index-2, then-index-2-via-else-index-2+then-not-index-2, then-not-index, else-not-index, else-index-2+else-not-index-2}
+use Rattle.orbits.proofs.Reading.{clash}
 
 not_true : (b : Bool) → not b ≡ true → b ≡ false
 not_true true e = sym e

@@ -1,4 +1,4 @@
-use Rattle.std.proofs.Common.{arith, filter, length, rules, take, ◌<◌, ◌≡◌, ◌≤◌}
+use Rattle.std.proofs.Common.{arith, filter, length, rules, take, ◌<◌, ◌≤◌}
 use Rattle.std.proofs.Math.Path.{ap, subst, sym, ◌∙◌}
 use Rattle.std.proofs.lemmas.List.Edits.{length-remove}
 use Rattle.chunked_list.proofs.Kept.{kept-more, same-without, take-without}
