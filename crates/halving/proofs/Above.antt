@@ -15,8 +15,7 @@ use Rattle.winding.specs.Sided.{IsSided}
 use Rattle.plane.proofs.PlaneKit.{crossings_seen, cross2, dot2, frame-agree, frame-dot-agree, from_to2, lift2, down_seen, east-direction, up_seen, off_by-set}
 use Rattle.plane.proofs.SignKit.{lift, same, ◌⊞◌, ◌⊟◌, ◌⊠◌, agree, agree-sum, all2, all2-out, all4, all4-out, imp, imp-out, plus-times, same_bool, sign-from, times, less_one, more_one, same_bool-is}
 use Rattle.winding.proofs.WindingKit.{winding_independent, total-member, sub-sign, sub_sign, sub-plus, sub-set, balanced-scaled}
-use Rattle.lists.proofs.Members.{all-in, in-map-out, total-same}
-use Rattle.lists.proofs.Sums.{total, total-is, total-map}
+use Rattle.lists.proofs.ListsKit.{all-in, in-map-out, total, total-is, total-map, total-same}
 use Rattle.halving.proofs.Sides.{Flat, down_flat, flat-from, flat-level, flat-to, off-level, up_flat}
 
 -- ---- k * z + d, where d is small: between -k and k

@@ -1,5 +1,5 @@
 -- The ends of parts on the line, in order along it.
-use Rattle.std.proofs.Common.{Bool, ap, arith, false, not, refl, subst, sym, true, ℕ, ◌&&◌, ◌||◌, ◌∙◌, ◌≡◌}
+use Rattle.std.proofs.Common.{Bool, ap, arith, not, refl, subst, sym, true, ℕ, ◌&&◌, ◌||◌, ◌∙◌, ◌≡◌}
 use borrow.Author.Differences.{ints}
 use lib.IntN.{pos, ℤ, ◌*ℤ◌, ◌+ℤ◌, ◌-ℤ◌}
 use Rattle.plane.specs.Bit.{bit}

@@ -17,15 +17,13 @@ use Rattle.halving.specs.Half.{AreMeetings, Cutting, IsCut, closing, closing_fro
 use Rattle.halving.specs.Line.{Line, has_part, order_along, scaled_line, side}
 use Rattle.plane.proofs.PlaneKit.{ends_at-from, ends_at-to, crossings_seen, same_point-refl, same_point-true, down_seen, up_seen}
 use Rattle.plane.proofs.SignKit.{all4-out, imp, imp-out, neither-plus, plus-behind, bit-no}
-use Rattle.lists.proofs.Members.{all-in, in-all, in-map-out, total-same}
+use Rattle.lists.proofs.ListsKit.{all-in, cond_by, in-all, in-map-out, none-sum, none_or_one, total, total-+, total-++, total-is, total-map, total-same}
 use Rattle.winding.proofs.WindingKit.{even-is, halves, odd-is, balanced-total, sided-scaled}
-use Rattle.lists.proofs.Sums.{none-sum, total, total-+, total-++, total-is, total-map, cond_by}
 use Rattle.halving.proofs.Above.{WindsOnce}
 use Rattle.halving.proofs.AlongLine.{IsApart, after, along-negated, along-self, along-sum, middle, middle-down, middle-off, middle-side, middle-up, one-place, two-plus}
 use Rattle.halving.proofs.Counts.{along-line, in-parts, over-parts, seen-parts}
 use Rattle.halving.proofs.ScaledHalves.{cut-scaled, parts-scaled, scaled_cuttings, side-scaled, wholes-scaled}
 use Rattle.halving.proofs.Sides.{IsCutFrom, IsCutTo, IsWholePart, down_flat, kinds, part-ends, up_flat}
-use Rattle.lists.proofs.Numbers.{none_or_one}
 
 -- v is on the line, at z or after it
 abbrev pub is_from : Line → Vector → Vector → Bool

@@ -12,7 +12,7 @@ use Rattle.plane.proofs.SignKit.{agree, agree-sum, all, all-out, all2, all2-out,
 use Rattle.halving.specs.Line.{Line}
 use Rattle.halving.proofs.Means.{IsMean, mean-back, mean-cross, mean-dot, mean-first, mean-second}
 use Rattle.halving.proofs.Sides.{IsCutFrom, IsCutTo, IsWholePart}
-use Rattle.lists.proofs.Bools.{not-true-out}
+use Rattle.lists.proofs.ListsKit.{not-true-out}
 
 -- neither has a point of the other strictly between its ends
 pub record AreClear (s t : Edge) : Type 0 where

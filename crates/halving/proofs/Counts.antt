@@ -14,8 +14,7 @@ use Rattle.halving.specs.Line.{Line, has_part, side}
 use Rattle.plane.proofs.PlaneKit.{crossings_seen, down_seen, east-direction, up_seen}
 use Rattle.plane.proofs.SignKit.{agree, all2-out, imp, imp-out, same_bool, same_sign, same_sign-true, plus-behind}
 use Rattle.winding.proofs.WindingKit.{winding_independent}
-use Rattle.lists.proofs.Members.{all-either, all-in, in-all, in-either, in-filter, in-left, in-map, in-map-out, in-passes, into-filter, total-filter, total-same}
-use Rattle.lists.proofs.Sums.{none-sum, total, total-++, total-is, total-map, cond_by}
+use Rattle.lists.proofs.ListsKit.{all-either, all-in, cond_by, in-all, in-either, in-filter, in-left, in-map, in-map-out, in-passes, into-filter, none-sum, total, total-++, total-filter, total-is, total-map, total-same}
 use Rattle.halving.proofs.Above.{WindsOnce, just-above}
 use Rattle.halving.proofs.Sides.{Flat, both-false, both-true, down_flat, flat-level, is-above, kinds, no-part, not-above, not-crossed, off-level, part-crossings, part-ends, part-off, rise, side-sum, up_flat}
 

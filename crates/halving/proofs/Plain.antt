@@ -1,5 +1,5 @@
 -- No two edges of a half share a point that isn't an end of both.
-use Rattle.std.proofs.Common.{All, Bool, List, [], ap, cond, false, inl, inr, map, not, refl, subst, sym, true, ◌++◌, ◌&&◌, ◌||◌, ◌∙◌, ◌∷◌, ◌≡◌, ◌⊎◌}
+use Rattle.std.proofs.Common.{All, Bool, List, [], ap, cond, false, inl, inr, not, refl, subst, sym, true, ◌++◌, ◌&&◌, ◌||◌, ◌∙◌, ◌∷◌, ◌≡◌, ◌⊎◌}
 use Rattle.plane.specs.Conflict.{IsClearOf}
 use Rattle.plane.specs.Edge.{Edge, IsRising, reversed, segment_of}
 use Rattle.plane.specs.FreeSegment.{Misses, misses_by}
@@ -16,7 +16,7 @@ use Rattle.halving.specs.Line.{Line, has_part, order_along, side}
 use Rattle.plane.proofs.PlaneKit.{ends_at-from, ends_at-to, order-null, order-reversed, rising-direction, direction-back, frame-agree, frame-dot-agree, orient-round, side-there}
 use Rattle.plane.proofs.SignKit.{agree, all4, all4-out, imp, imp-out, same_sign, same_sign-true, times, all3-out, negated-not-plus, null-first}
 use Rattle.winding.proofs.WindingKit.{rising_in}
-use Rattle.lists.proofs.Members.{all-in, in-all, in-either, in-filter, in-map, in-map-out, in-passes, pairs-append, pairs-filter, pairs-weaker, pairs-into-map, pairs-out-of-map}
+use Rattle.lists.proofs.ListsKit.{all-in, in-all, in-either, in-filter, in-map, in-map-out, in-passes, pairs-append, pairs-filter, pairs-into-map, pairs-out-of-map, pairs-weaker}
 use Rattle.halving.proofs.AlongLine.{IsApart, along-negated, along-self, along-sum, rise-null}
 use Rattle.halving.proofs.Balance.{AreKept, IsAfter, IsPlaced, kept-part, placed-apart, placed-next}
 use Rattle.halving.proofs.Clears.{AreClear, both-segments, clear-of, clear-swap, from-segments, of-clear, part-clear}

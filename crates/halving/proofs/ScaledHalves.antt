@@ -11,8 +11,7 @@ use Rattle.halving.specs.Half.{Cutting, IsCut, IsPart, IsPartEnd, parts, wholes}
 use Rattle.halving.specs.Line.{Line, has_part, scaled_line, side}
 use Rattle.plane.proofs.SignKit.{lift, same, ◌⊟◌, ◌⊠◌, plus-times}
 use Rattle.plane.proofs.PlaneKit.{cross2, lift2, orient-scaled}
-use Rattle.lists.proofs.Members.{in-map-out}
-use Rattle.lists.proofs.Maps.{map-map}
+use Rattle.lists.proofs.ListsKit.{in-map-out, map-map}
 use Rattle.halving.proofs.Counts.{AreOn}
 
 abbrev pub scaled_cutting : ℤ → Cutting → Cutting

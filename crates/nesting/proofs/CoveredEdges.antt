@@ -16,11 +16,9 @@ use Rattle.lists.specs.Member.{In}
 use Rattle.winding.specs.Node.{away, spokes_in}
 use Rattle.winding.specs.Parity.{is_even}
 use Rattle.winding.specs.Ring.{IsPath, IsRing, segments_of}
-use Rattle.lists.proofs.Bools.{not-not}
+use Rattle.lists.proofs.ListsKit.{all-in, from-map, in-all, in-filter, in-map, in-passes, into-filter, not-not, total, total-+, total-is, total-same}
 use Rattle.plane.proofs.PlaneKit.{clear_misses, ends_at-from, ends_at-to, rising-direction, same_point-true, direction-back, crossings_at, east-direction}
 use Rattle.winding.proofs.WindingKit.{along_from, off_all, parity_from_both_ends, way, way-direction, off_away, rising_in, IsOffSeen, parity_independent, crossings-right, e-tall, e-view, from_e, low-by, right-level, to_right, same-parity, share, share-is, spokes-is, beyond, crossings-away, parity_round_node}
-use Rattle.lists.proofs.Members.{all-in, from-map, in-all, in-filter, in-map, in-passes, into-filter, total-same}
-use Rattle.lists.proofs.Sums.{total, total-+, total-is}
 
 -- ---- an edge that is clear of a list, and the list: more of the edges of the list are right of it, or ..
 abbrev pub IsClearOfAll : Edge → List Edge → Type 0

@@ -14,14 +14,12 @@ use Rattle.winding.specs.Parity.{is_even}
 use Rattle.winding.specs.Ring.{IsAnchor}
 use Rattle.nesting.proofs.CoveredEdges.{beside}
 use Rattle.nesting.proofs.Nests.{alternate, and-make, clear-of, clear_rings, depth-total, encloses-in, encloses-not, has-not-by, has_same, in-edges, innermost, nearest_exists, nearest_in, not-both, outer_depth, plain-left, plain-part, plain-right, same-ring}
-use Rattle.lists.proofs.Bools.{clash, not-not}
+use Rattle.lists.proofs.ListsKit.{all-in, clash, in-all, in-either, in-filter, in-passes, into-filter, not-not, pairs-across, total, total-is}
 use Rattle.nesting.proofs.OuterTests.{IsDirectBy, IsNearest}
 use Rattle.nesting.proofs.TwoLists.{clear-reversed, contained, disjoint, plain-append}
 use Rattle.std.proofs.lemmas.Bool.{and_from, and_parts, false_from_ne_true}
 use Rattle.plane.proofs.PlaneKit.{right_of}
 use Rattle.winding.proofs.WindingKit.{anchor_span, some_odd, rising_in, First}
-use Rattle.lists.proofs.Members.{all-in, in-all, in-either, in-filter, in-passes, into-filter, pairs-across}
-use Rattle.lists.proofs.Sums.{total, total-is}
 
 -- ---- at most one
 none-of : {X : Type 0} (q : X → Bool) (xs : List X) → ((x : X) → In x xs → q x ≡ false) → total (λ x. bit (q x)) xs ≡ 0

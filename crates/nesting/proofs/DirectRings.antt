@@ -24,11 +24,9 @@ use Rattle.nesting.proofs.RingLists.{nest-plain, pairs-of, ring_anchor, ring_lis
 use Rattle.nesting.proofs.TwoLists.{clear-reversed}
 use Rattle.nesting.proofs.WoundRings.{area-sum}
 use Rattle.std.proofs.lemmas.Bool.{and_from, false_from_ne_true}
-use Rattle.lists.proofs.Bools.{and-left, and-right}
+use Rattle.lists.proofs.ListsKit.{all-in, and-left, and-right, in-all, in-filter, in-map, in-map-out, in-passes, into-filter, pairs-weaker, total, total-+, total-is, total-map, total-same}
 use Rattle.plane.proofs.PlaneKit.{self_conflicts, down_seen, up_seen}
 use Rattle.winding.proofs.WindingKit.{anchor_one, leftmost_anchor, leftmost_of, rising_in, count-is}
-use Rattle.lists.proofs.Members.{all-in, in-all, in-filter, in-map, in-map-out, in-passes, into-filter, pairs-weaker, total-same}
-use Rattle.lists.proofs.Sums.{total, total-+, total-is, total-map}
 
 abbrev pub outer_test : List (List Edge) → List Edge → Bool
 outer_test gs [] = false

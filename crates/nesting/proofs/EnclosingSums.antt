@@ -11,9 +11,8 @@ use Rattle.nesting.proofs.DirectEnclosure.{e-span, in-edges-out, plain-chosen}
 use Rattle.nesting.proofs.Nests.{alternate, cond-out, cond-times, depth-at, depth-total, depth_same, depth_step, encloses_same, has_once, in-edges, nearest_exists, outer_depth, same-ring}
 use Rattle.nesting.proofs.OuterTests.{HasAnchors}
 use Rattle.plane.proofs.PlaneKit.{right_of}
-use Rattle.lists.proofs.Members.{in-filter, in-passes, total-same}
+use Rattle.lists.proofs.ListsKit.{in-filter, in-passes, total, total-+, total-is, total-same}
 use Rattle.winding.proofs.WindingKit.{First, even-is}
-use Rattle.lists.proofs.Sums.{total, total-+, total-is}
 
 any-step : {X : Type 0} (q : X → Bool) (x : X) (xs : List X) → (b : Bool) → q x ≡ b → ((y : X) × In y xs × (q y ≡ true)) ⊎ (total (λ x. bit (q x)) xs ≡ 0) → ((y : X) × In y (x ∷ xs) × (q y ≡ true)) ⊎ (bit b + total (λ x. bit (q x)) xs ≡ 0)
 any-step q x xs true h k = inl (x, inl refl, h)

@@ -16,7 +16,7 @@ use Rattle.lists.specs.Member.{In}
 use Rattle.winding.specs.OddSide.{directed}
 use Rattle.winding.specs.Ring.{IsRing, segments_of}
 use Rattle.winding.specs.Sided.{IsSided}
-use Rattle.lists.proofs.Bools.{and-left, and-right}
+use Rattle.lists.proofs.ListsKit.{and-left, and-right}
 use Rattle.winding.proofs.WindingKit.{ring-even, directed_sided}
 
 abbrev point : ℕ → ℕ → Vector

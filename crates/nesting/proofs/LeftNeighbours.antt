@@ -19,14 +19,12 @@ use Rattle.nesting.proofs.CoveredEdges.{beside}
 use Rattle.nesting.proofs.DirectEnclosure.{direct_exists}
 use Rattle.nesting.proofs.Nearest.{beyond-right, beyond-span, bit-both, same_beside}
 use Rattle.nesting.proofs.Nests.{and-make, clear-of, cond-out, cond-times, depth-total, depth_same, encloses-in, encloses-not, encloses_same, has-in, has_once, in-edges, in-has, not-both, outer_depth, part, same-ring}
-use Rattle.lists.proofs.Bools.{clash, not-not, not-true-out}
+use Rattle.lists.proofs.ListsKit.{clash, in-filter, in-passes, into-filter, not-not, not-true-out, total, total-+, total-same}
 use Rattle.nesting.proofs.OuterTests.{HasAnchors, IsDirectBy}
 use Rattle.std.proofs.lemmas.Bool.{and_from, and_parts}
 use Rattle.plane.proofs.PlaneKit.{same_edge-refl, same_edge-true, right_chain, right_itself, right_of, tall-by, order-null, same_point-refl}
 use Rattle.plane.proofs.SignKit.{lift, same, ◌⊟◌, ◌⊠◌, null-zero, self-diff, sign-*, sign-reversed, times, bit-same}
 use Rattle.winding.proofs.WindingKit.{anchor_runs, anchor_span, rising_in, split_off, low-by, right-level, spanning_runs, to_right, even-next}
-use Rattle.lists.proofs.Members.{in-filter, in-passes, into-filter, total-same}
-use Rattle.lists.proofs.Sums.{total, total-+}
 
 -- ---- of the edges of a ring at the height of its anchor the anchor is the leftmost
 zero-end : (x y z w : ℤ) → z ≡ pos 0 → x *ℤ z -ℤ y *ℤ w ≡ pos 0 -ℤ w *ℤ y

@@ -15,10 +15,9 @@ use Rattle.winding.specs.Rank.{IsOrder}
 use Rattle.nesting.proofs.CoveredEdges.{IsClearOfAll, beside}
 use Rattle.nesting.proofs.TwoLists.{clear-list, clear-reversed, first-right, not_both_in, plain-append}
 use Rattle.std.proofs.lemmas.Bool.{and_from, and_parts}
-use Rattle.lists.proofs.Bools.{not-same}
+use Rattle.lists.proofs.ListsKit.{in-either, in-filter, in-left, in-passes, in-right, into-filter, not-same, pairs-filter, pairs-weaker, total-same}
 use Rattle.plane.proofs.PlaneKit.{clear_back, right_chain, right_either, right_itself, right_of}
 use Rattle.winding.proofs.WindingKit.{some_odd, rising_in, right_apart, to_right, First, first_exists}
-use Rattle.lists.proofs.Members.{in-either, in-filter, in-left, in-passes, in-right, into-filter, pairs-filter, pairs-weaker, total-same}
 
 pub beyond-span : (p : Vector) (e f : Edge) → is_right_above p e f ≡ true → is_in_span p f ≡ true
 beyond-span p e f h = (and_parts (is_in_span p f) (right_of p e f) h).0

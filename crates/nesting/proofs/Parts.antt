@@ -18,9 +18,8 @@ use Rattle.winding.specs.ScaledEdges.{scaled_edges}
 use Rattle.winding.specs.Sided.{IsSided}
 use Rattle.nesting.proofs.Successors.{clear-two, no-loop-segments, rise, segment-one}
 use Rattle.plane.proofs.PlaneKit.{clear_differs, same_edge-refl, same_edge-true, same_edge_by, same_point-refl}
-use Rattle.lists.proofs.Members.{all-in, in-all, in-either, in-left, in-map, in-map-out, in-right, pairs-across, pairs-left, pairs-right}
+use Rattle.lists.proofs.ListsKit.{all-in, in-all, in-either, in-left, in-map, in-map-out, in-right, pairs-across, pairs-left, pairs-right, total, total-is, total-map}
 use Rattle.winding.proofs.WindingKit.{total-member, segment-direct-by}
-use Rattle.lists.proofs.Sums.{total, total-is, total-map}
 
 abbrev pub Apart : List Edge → List Edge → Type 0
 Apart xs ys = (x : Edge) → In x xs → In x ys → ⊥

@@ -21,8 +21,7 @@ use Rattle.nesting.proofs.Successors.{clear-two, first_same}
 use Rattle.nesting.proofs.TwoLists.{clear-list}
 use Rattle.plane.proofs.PlaneKit.{ends_at-to}
 use Rattle.winding.proofs.WindingKit.{way, way-direction, rising_in, even-is, halves, odd-is, ring-even, parity_round_node}
-use Rattle.lists.proofs.Members.{all-in, in-either, in-map-out, pairs-append, pairs-left, pairs-right, pairs-weaker}
-use Rattle.lists.proofs.Sums.{total, total-++, total-is}
+use Rattle.lists.proofs.ListsKit.{all-in, in-either, in-map-out, pairs-append, pairs-left, pairs-right, pairs-weaker, total, total-++, total-is}
 
 -- ---- one parity along a list says that the other is not crossed
 even-sum : (m n : ℕ) → not (is_even m) ≡ not (is_even n) → (m % 2 ≡ 0) ⊎ (m % 2 ≡ 1) → (n % 2 ≡ 0) ⊎ (n % 2 ≡ 1) → (m + n) % 2 ≡ 0

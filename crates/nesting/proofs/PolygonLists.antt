@@ -15,11 +15,9 @@ use Rattle.nesting.proofs.DirectRings.{clear-rings, encloser_exists, is_outer_by
 use Rattle.nesting.proofs.Nests.{total-edges}
 use Rattle.nesting.proofs.RingLists.{nest-plain}
 use Rattle.std.proofs.lemmas.Bool.{and_from, false_from_ne_true}
-use Rattle.lists.proofs.Bools.{and-left, and-right}
+use Rattle.lists.proofs.ListsKit.{all-in, and-left, and-right, both_conds, cond-+, cond-total, cond_none, in-all, in-filter, in-map, in-map-out, in-passes, pairs-filter, pairs-weaker, swap-sums, total, total-*, total-+, total-++, total-filter, total-is, total-map, total-same, total_none}
 use Rattle.plane.proofs.PlaneKit.{self_conflicts, same_edge-refl, same_edge-true}
 use Rattle.winding.proofs.WindingKit.{rising_in}
-use Rattle.lists.proofs.Members.{all-in, in-all, in-filter, in-map, in-map-out, in-passes, pairs-filter, pairs-weaker, total-filter, total-same, total_none}
-use Rattle.lists.proofs.Sums.{total, total-+, total-++, total-is, total-map, swap-sums, cond-total, total-*, cond_none, both_conds, cond-+}
 
 abbrev same_list : List Edge → List Edge → Bool
 same_list [] [] = true

@@ -18,7 +18,7 @@ use Rattle.nesting.proofs.Nests.{odd-bit}
 use Rattle.nesting.proofs.WoundRings.{fold-direct, in-count, out-count}
 use Rattle.plane.proofs.PlaneKit.{down_seen, up_seen}
 use Rattle.winding.proofs.WindingKit.{signed_parity, segments-crossings, sided-even, sided_direct}
-use Rattle.lists.proofs.Sums.{total, total-is}
+use Rattle.lists.proofs.ListsKit.{total, total-is}
 
 -- ---- the laws at points of the lattice
 module _ (rs : List (List Edge)) (l : IsRingList rs) (p : Vector) where

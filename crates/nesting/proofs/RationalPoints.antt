@@ -19,9 +19,8 @@ use Rattle.nesting.proofs.Nests.{clear_rings, encloses-in, encloses-not, has-not
 use Rattle.nesting.proofs.OuterTests.{HasAnchors}
 use Rattle.nesting.proofs.TwoLists.{clear-reversed, contained, disjoint}
 use Rattle.plane.proofs.PlaneKit.{crossings_at, conflicts-scaled, cross-scaled, point-scaled}
-use Rattle.lists.proofs.Members.{in-map-out, total-same}
+use Rattle.lists.proofs.ListsKit.{in-map-out, total-map, total-same}
 use Rattle.winding.proofs.WindingKit.{beyond, crossings-away, even_scaled, plain_scaled}
-use Rattle.lists.proofs.Sums.{total-map}
 
 module _ (k : ℤ) (hk : sign k ≡ Plus) where
   beyond-by : (b c : Bool) (m n : ℕ) → b ≡ c → m ≡ n → cond (not b) m 0 ≡ cond (not c) n 0

@@ -16,7 +16,7 @@ use Rattle.nesting.proofs.Nests.{clear_rings, has-in, plain-part}
 use Rattle.nesting.proofs.TwoLists.{clear-list, clear-reversed}
 use Rattle.plane.proofs.PlaneKit.{order-reversed}
 use Rattle.winding.proofs.WindingKit.{some-anchor, rising_in, ring-even, sided_direct}
-use Rattle.lists.proofs.Members.{in-all, in-map, in-map-out}
+use Rattle.lists.proofs.ListsKit.{in-all, in-map, in-map-out}
 use Rattle.std.proofs.lemmas.List.{map-append}
 
 pub edges-segments : (rs : List (List Edge)) → edges_of (map segments_of rs) ≡ segments_of (edges_of rs)

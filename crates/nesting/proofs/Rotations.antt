@@ -3,7 +3,8 @@ use Rattle.std.proofs.Common.{Bool, List, [], ap, arith, cond, false, inl, inr, 
 use Rattle.nesting.specs.Cover.{DoNotCross}
 use Rattle.nesting.specs.Nesting.{edges_of}
 use Rattle.nesting.specs.RingList.{IsRingList}
-use Rattle.nesting.specs.Rotated.{AreRotated, IsRotated}
+use Rattle.lists.specs.Rotated.{IsRotated}
+use Rattle.nesting.specs.Rotated.{AreRotated}
 use Rattle.nesting.specs.Walk.{HasSameEdges}
 use Rattle.plane.specs.Edge.{Edge, ends_at, other_end, segment_of}
 use Rattle.plane.specs.Sector.{in_sector}
@@ -14,8 +15,7 @@ use Rattle.winding.specs.Ring.{IsRing, segments_of}
 use Rattle.nesting.proofs.Parts.{same-in, sided_same}
 use Rattle.winding.proofs.WindingKit.{path-join, path-split, spokes-is}
 use Rattle.plane.proofs.PlaneKit.{same_point-refl, same_point-true}
-use Rattle.lists.proofs.Members.{all-in, in-all, pairs-across, pairs-append, pairs-left, pairs-right}
-use Rattle.lists.proofs.Sums.{total, total-++, total-is, total-map}
+use Rattle.lists.proofs.ListsKit.{all-in, in-all, pairs-across, pairs-append, pairs-left, pairs-right, total, total-++, total-is, total-map}
 
 apart-back-by : (p q : Vector) → same_point p q ≡ false → (b : Bool) → same_point q p ≡ b → b ≡ false
 apart-back-by p q n false h = refl

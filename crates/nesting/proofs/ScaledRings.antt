@@ -31,8 +31,7 @@ use Rattle.nesting.proofs.RingLists.{nest-plain}
 use Rattle.nesting.proofs.WoundRings.{down-is, fold-direct, not-back, own-anchor}
 use Rattle.plane.proofs.PlaneKit.{same_point-true, down_seen, up_seen, order-scaled, orient-scaled, point-scaled, sector-seen-scaled, point-back}
 use Rattle.winding.proofs.WindingKit.{ring_by_anchor, spokes-is, segments-crossings, others-scaled, plain_scaled, rational_count, sided-even, sided_direct, segment-scaled, segments-scaled, sided-scaled}
-use Rattle.lists.proofs.Members.{in-map, in-map-out, total-same, pairs-map}
-use Rattle.lists.proofs.Sums.{total, total-is, total-map}
+use Rattle.lists.proofs.ListsKit.{in-map, in-map-out, pairs-map, total, total-is, total-map, total-same}
 
 module _ (k : ℤ) (hk : sign k ≡ Plus) where
   path-scaled : (a : Vector) (es : List Edge) (b : Vector) → IsPath a es b → IsPath (scaled_point k a) (scaled_edges k es) (scaled_point k b)

@@ -21,9 +21,8 @@ use Rattle.nesting.proofs.Nests.{total-edges}
 use Rattle.nesting.proofs.RingLists.{edges-segments}
 use Rattle.nesting.proofs.ScaledRings.{polygon_winds_at_fractions}
 use Rattle.nesting.proofs.TwoLists.{plain-append}
-use Rattle.lists.proofs.Members.{all-in, in-all, in-map, in-map-out, pairs-weaker, total-same}
+use Rattle.lists.proofs.ListsKit.{all-in, in-all, in-map, in-map-out, pairs-weaker, total, total-is, total-same}
 use Rattle.winding.proofs.WindingKit.{path-ends}
-use Rattle.lists.proofs.Sums.{total, total-is}
 
 plain-rings : (rs : List (List Edge)) → ((r : List Edge) → In r rs → IsConflictFree (segments_of r)) → EachPair clear-rings rs → IsConflictFree (edges_of (map segments_of rs))
 plain-rings [] h p = record { rising = All-nil IsRising; clear = tt }

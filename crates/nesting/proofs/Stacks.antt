@@ -11,7 +11,7 @@ use Rattle.winding.specs.Sided.{IsSided}
 use Rattle.nesting.proofs.Pieces.{append-assoc, last-in, ring_list}
 use Rattle.nesting.proofs.Successors.{next_leaves}
 use Rattle.plane.proofs.PlaneKit.{same_point-refl, same_point-true}
-use Rattle.lists.proofs.Members.{all-in, pairs-append, pairs-left, pairs-right}
+use Rattle.lists.proofs.ListsKit.{all-in, pairs-append, pairs-left, pairs-right}
 use Rattle.winding.proofs.WindingKit.{path-join}
 
 abbrev Begin : List Edge → Type 0

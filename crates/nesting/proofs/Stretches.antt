@@ -2,7 +2,7 @@
 use Rattle.std.proofs.Common.{Bool, List, [], ap, inl, inr, refl, subst, sym, ◌++◌, ◌∙◌, ◌∷◌, ◌≡◌, ◌⊎◌}
 use Rattle.nesting.specs.Walk.{Follow, IsCycle, last}
 use Rattle.lists.specs.Member.{In}
-use Rattle.lists.proofs.Members.{in-either, in-left, in-right}
+use Rattle.lists.proofs.ListsKit.{in-either, in-left, in-right}
 
 pub append-nil : {X : Type 0} (xs : List X) → xs ++ [] ≡ xs
 append-nil [] = refl

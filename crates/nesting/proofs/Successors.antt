@@ -17,12 +17,10 @@ use Rattle.winding.specs.Parity.{is_even}
 use Rattle.winding.specs.Ring.{segments_of}
 use Rattle.winding.specs.Sided.{IsSided}
 use Rattle.nesting.proofs.CoveredEdges.{or-swap, same_in, segment-ends-by}
-use Rattle.lists.proofs.Bools.{not-not, not-true-out}
+use Rattle.lists.proofs.ListsKit.{all-in, in-filter, in-map, in-map-out, in-passes, none-sum, not-not, not-true-out, total-same}
 use Rattle.plane.proofs.PlaneKit.{ends_at-to, same_edge-refl, same_edge-true, same_point-refl, same_point-true, cross-negated, cross-self, frame-dot-agree}
 use Rattle.plane.proofs.SignKit.{agree, all, all-out, all2-out, all4-out, imp, imp-out, times, bit-same}
 use Rattle.winding.proofs.WindingKit.{leaves, no-loop, out_count, way, way-direction, ways_apart, clear_pair, off_away, rising_in, split_off, differ-parity, spokes-is, odds, parity_round_node, sided-even, sided_direct}
-use Rattle.lists.proofs.Members.{all-in, in-filter, in-map, in-map-out, in-passes, total-same}
-use Rattle.lists.proofs.Sums.{none-sum}
 
 abbrev pub is_some : Sign → Sign → Bool
 is_some x y = agree (times x x) (times y y) Plus

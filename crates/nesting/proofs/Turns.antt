@@ -16,12 +16,10 @@ use Rattle.winding.specs.Sided.{IsSided}
 use Rattle.nesting.proofs.Parts.{differ, sided-once}
 use Rattle.nesting.proofs.Successors.{clear-two, is_some, none-between, rise, sector-either, sector-own, segment-back, segment-ends, some-signs, sym-differs, unraised, up-even, way-segment}
 use Rattle.std.proofs.lemmas.Bool.{and_parts}
-use Rattle.lists.proofs.Bools.{not-true-out}
+use Rattle.lists.proofs.ListsKit.{in-filter, in-map, in-map-out, in-passes, into-filter, not-true-out, pairs-filter, pairs-weaker, total, total-filter}
 use Rattle.plane.proofs.PlaneKit.{ends_at-to, same_edge-refl, same_edge-true, cross-negated, plucker-agree, plucker-dot-agree, dot-swap}
 use Rattle.plane.proofs.SignKit.{agree, all, all-out, all2, all2-out, all4, all4-out, imp, imp-out, same_bool-true, times}
 use Rattle.winding.proofs.WindingKit.{some_odd, crossed-at, dot-at, chain_signs, crossed, degree-even, either_2, either_computes, length-total, way, way-direction, ways_apart, split_off, first_exists, odd-is}
-use Rattle.lists.proofs.Members.{in-filter, in-map, in-map-out, in-passes, into-filter, pairs-filter, pairs-weaker, total-filter}
-use Rattle.lists.proofs.Sums.{total}
 
 -- a and b do not point the same way
 abbrev pub apart : Vector → Vector → Bool

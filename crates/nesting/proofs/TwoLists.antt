@@ -13,11 +13,9 @@ use Rattle.winding.specs.Node.{away}
 use Rattle.winding.specs.Parity.{is_even}
 use Rattle.winding.specs.Ring.{IsAnchor}
 use Rattle.nesting.proofs.CoveredEdges.{IsClearOfAll, beside, off-list}
-use Rattle.lists.proofs.Bools.{not-not}
+use Rattle.lists.proofs.ListsKit.{all-either, all-in, in-either, in-filter, in-left, in-passes, in-right, into-filter, not-not, pairs-append, total, total-filter, total-same}
 use Rattle.plane.proofs.PlaneKit.{clear_back, clear_differs, ends_at-from, same_edge-refl, right_of, rising-direction}
 use Rattle.winding.proofs.WindingKit.{all-right, anchor_right, some-anchor, west, west-direction, west-none, degree-even, length-total, rising_in, crossing-order, crossing_by, kept-by, left-span, right_left, to_right, covers-crossings, First, even-is, first_exists, parity_round_node}
-use Rattle.lists.proofs.Members.{all-either, all-in, in-either, in-filter, in-left, in-passes, in-right, into-filter, pairs-append, total-filter, total-same}
-use Rattle.lists.proofs.Sums.{total}
 
 pub plain-append : (cs bs : List Edge) → IsConflictFree cs → IsConflictFree bs → AreClear cs bs → IsConflictFree (cs ++ bs)
 plain-append cs bs p q c = record {

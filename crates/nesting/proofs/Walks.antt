@@ -10,8 +10,7 @@ use Rattle.nesting.proofs.Parts.{Once, once-apart, same-back, same-in, same-once
 use Rattle.nesting.proofs.Pieces.{last-in}
 use Rattle.nesting.proofs.Successors.{next_one}
 use Rattle.nesting.proofs.Turns.{next_there}
-use Rattle.lists.proofs.Members.{in-all, in-either, in-left, in-right, pairs-left, pairs-right}
-use Rattle.lists.proofs.Sums.{total, total-++, total-is}
+use Rattle.lists.proofs.ListsKit.{in-all, in-either, in-left, in-right, pairs-left, pairs-right, total, total-++, total-is}
 
 pub take : {X : Type 0} (y : X) (xs : List X) → In y xs → (a : List X) × (b : List X) × (xs ≡ a ++ (y ∷ b))
 take y [] i = absurd i

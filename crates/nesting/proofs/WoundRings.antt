@@ -20,8 +20,7 @@ use Rattle.nesting.proofs.OuterTests.{HasAnchors}
 use Rattle.nesting.proofs.RingLists.{nest-plain, outer_down}
 use Rattle.plane.proofs.PlaneKit.{down_seen, up_seen}
 use Rattle.winding.proofs.WindingKit.{ring_by_anchor, segments-crossings}
-use Rattle.lists.proofs.Members.{in-map, in-map-out, total-same}
-use Rattle.lists.proofs.Sums.{total, total-+, total-++, total-is}
+use Rattle.lists.proofs.ListsKit.{in-map, in-map-out, total, total-+, total-++, total-is, total-same}
 
 small : (b : Bool) → bit b ≤ 1
 small true = omega arith

@@ -21,11 +21,10 @@ use Rattle.winding.specs.Ring.{IsPath, IsRing, segments_of}
 use Rattle.winding.specs.Sided.{IsSided}
 use Rattle.one_ring_list.specs.RingListOf.{AreSameRings}
 use Rattle.nesting.proofs.NestingKit.{sided_same, rotated-total}
-use Rattle.lists.proofs.Bools.{and-left, and-right, not-true-out}
+use Rattle.lists.proofs.ListsKit.{and-left, and-right, not-true-out, total, total-is}
 use Rattle.std.proofs.lemmas.Bool.{and_parts}
 use Rattle.plane.proofs.PlaneKit.{same_point-true}
 use Rattle.winding.proofs.WindingKit.{directed_sided, sided-even}
-use Rattle.lists.proofs.Sums.{total, total-is}
 use Rattle.one_ring_list.proofs.Returns.{closed-balanced}
 use Rattle.plane.proofs.SignKit.{is_plus-true}
 

@@ -3,7 +3,7 @@ use Rattle.std.proofs.Common.{List, [], ap, inl, inr, refl, subst, sym, ◌++◌
 use Rattle.nesting.specs.Walk.{Follow, IsCycle, last}
 use Rattle.lists.specs.Member.{EachPair, In}
 use Rattle.nesting.proofs.NestingKit.{take, follow-join, follow-left, follow-right, last-append, append-assoc}
-use Rattle.lists.proofs.Members.{in-either, in-left, in-right, pairs-across, pairs-append, pairs-left, pairs-right}
+use Rattle.lists.proofs.ListsKit.{in-either, in-left, in-right, pairs-across, pairs-append, pairs-left, pairs-right}
 
 -- the list, parted at two members
 abbrev pub Parted : {X : Type 0} → X → X → List X → Type 0

@@ -2,7 +2,7 @@
 use Rattle.std.proofs.Common.{List, [], ap, arith, inl, inr, length, refl, subst, sym, ℕ, ◌++◌, ◌+◌, ◌<◌, ◌∙◌, ◌∷◌, ◌≡◌, ◌⊎◌}
 use Rattle.std.specs.List.{sum_by}
 use Rattle.nesting.specs.Nesting.{edges_of}
-use Rattle.nesting.specs.Rotated.{IsRotated}
+use Rattle.lists.specs.Rotated.{IsRotated}
 use Rattle.nesting.specs.Walk.{AreCuts, AreWalks, IsWalk}
 use Rattle.plane.specs.Edge.{Edge}
 use Rattle.lists.specs.Member.{In}
@@ -11,9 +11,8 @@ use Rattle.winding.specs.Sided.{IsSided}
 use Rattle.one_ring_list.specs.RingListOf.{AreSameRings, IsRingListOf, LiesInWalk}
 use Rattle.nesting.proofs.NestingKit.{in-edges, Once, once-apart, same-back, same-in, same-once, sided-once, append-assoc, piece_walk, pieces_same, ring_list, rotated-total, walk_path, take, walks_there, in-edges-out}
 use Rattle.winding.proofs.WindingKit.{path-split}
-use Rattle.lists.proofs.Members.{in-either, in-left, in-right, pairs-left, pairs-right}
-use Rattle.lists.proofs.Sums.{total, total-++, total-is}
-use Rattle.one_ring_list.proofs.CyclicLists.{Turned, in-turned}
+use Rattle.lists.proofs.ListsKit.{in-either, in-left, in-right, in-rotated, pairs-left, pairs-right, rotated-in, total, total-++, total-is}
+use Rattle.one_ring_list.proofs.CyclicLists.{Turned}
 use Rattle.one_ring_list.proofs.Returns.{share_one_point}
 use Rattle.one_ring_list.proofs.RingsOfWalk.{once-turned, rings-turned, walk-turned, walk-within}
 
@@ -64,11 +63,6 @@ module _ (es : List Edge) (sd : IsSided es) where
       rotated-of r s (rings-turned es sd w.0 w.1 w.2 r s hr hs (λ x k. walk-within es sd w.0 w.1 lr.0 lr.1 e (lr.2 e i) w.3 x (lr.2 x k)) (λ x k. walk-within es sd w.0 w.1 ls.0 ls.1 e (ls.2 e j) w.3 x (ls.2 x k)) e i j)
 
 -- ---- lists of rings
-pub in-rotated : (r q : List Edge) → IsRotated r q → (x : Edge) → In x r → In x q
-in-rotated r q t x i = subst (λ l. In x l) (sym t.new) (in-turned t.front t.back x (subst (λ l. In x l) t.old i))
-
-pub in-unrotated : (r q : List Edge) → IsRotated r q → (x : Edge) → In x q → In x r
-in-unrotated r q t x i = subst (λ l. In x l) (sym t.old) (in-turned t.back t.front x (subst (λ l. In x l) t.new i))
 
 edges-between : (f : Edge → ℕ) (a : List (List Edge)) (q : List Edge) (b : List (List Edge)) → total f (edges_of (a ++ (q ∷ b))) ≡ total f q + total f (edges_of (a ++ b))
 edges-between f [] q b = total-++ f q (edges_of b)
@@ -110,7 +104,7 @@ rest-found : (r : List Edge) (rs : List (List Edge)) (a : List (List Edge)) (q :
 rest-found r rs a q b o t s l i u v (inl e) =
     let x = first-of s l in
     let j : In x.0 q = subst (λ k. In x.0 k) e (in-rotated s u v x.0 x.1) in
-    absurd (once-apart r (edges_of rs) o x.0 (in-unrotated r q t x.0 j) (in-edges rs s x.0 i x.1))
+    absurd (once-apart r (edges_of rs) o x.0 (rotated-in r q t x.0 j) (in-edges rs s x.0 i x.1))
 rest-found r rs a q b o t s l i u v (inr j) = j
 
 pub same-rings : (rs qs : List (List Edge)) → Once (edges_of rs) → NoneEmpty rs → NoneEmpty qs → ((f : Edge → ℕ) → total f (edges_of rs) ≡ total f (edges_of qs)) → Found rs qs → AreSameRings rs qs

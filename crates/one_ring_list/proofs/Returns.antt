@@ -16,8 +16,7 @@ use Rattle.nesting.proofs.NestingKit.{Once, differ, once-apart, plain-of, clear-
 use Rattle.std.proofs.lemmas.Bool.{false_from_ne_true, or_right}
 use Rattle.plane.proofs.PlaneKit.{same_edge-refl, same_edge-true, same_point-refl, same_point-true}
 use Rattle.winding.proofs.WindingKit.{way, way-direction, ways_apart, spokes-is, even-is, halves, odd-is, path-ends, parity_round_node, sided-even}
-use Rattle.lists.proofs.Members.{in-all, in-left, in-right, pairs-left, total-same}
-use Rattle.lists.proofs.Sums.{total, total-is, total-map}
+use Rattle.lists.proofs.ListsKit.{in-all, in-left, in-right, pairs-left, total, total-is, total-map, total-same}
 use Rattle.one_ring_list.proofs.Cyclic.{both_or_none}
 use Rattle.one_ring_list.proofs.Sees.{off, walk_sees, way-from}
 

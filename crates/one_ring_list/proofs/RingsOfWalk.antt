@@ -9,7 +9,7 @@ use Rattle.winding.specs.Sided.{IsSided}
 use Rattle.nesting.proofs.NestingKit.{Once, once-apart, append-assoc, last-in, ring_rotated, walk_path, last-append, next_alone}
 use Rattle.winding.proofs.WindingKit.{path-split}
 use Rattle.plane.proofs.PlaneKit.{same_edge-true, same_point-refl}
-use Rattle.lists.proofs.Members.{in-all, in-either, in-right, pairs-across}
+use Rattle.lists.proofs.ListsKit.{in-all, in-either, in-right, pairs-across}
 use Rattle.one_ring_list.proofs.CyclicLists.{Parted, Turned, cycle-turned, ends-at, in-turned, pairs-turned, part-two, same-following, turned-through}
 use Rattle.one_ring_list.proofs.Returns.{at-point, path-last, same-edge-of, share_one_point}
 

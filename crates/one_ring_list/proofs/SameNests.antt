@@ -3,7 +3,7 @@ use Rattle.std.proofs.Common.{Bool, List, ap, cond, false, map, not, refl, subst
 use Rattle.nesting.specs.Cover.{covers_edge}
 use Rattle.nesting.specs.Nesting.{EnclosesDirectly, IsInnerRing, IsOuterRing, encloses, has_edge, is_outer}
 use Rattle.nesting.specs.RingList.{IsRingList}
-use Rattle.nesting.specs.Rotated.{IsRotated}
+use Rattle.lists.specs.Rotated.{IsRotated}
 use Rattle.plane.specs.Edge.{Edge, ends_at, same_edge, segment_of}
 use Rattle.plane.specs.RayCrossing.{down_crossing, up_crossing}
 use Rattle.plane.specs.Vector.{Vector, from_to}
@@ -13,19 +13,15 @@ use Rattle.winding.specs.Node.{away}
 use Rattle.winding.specs.Parity.{is_even}
 use Rattle.winding.specs.Ring.{IsAnchor, segments_of}
 use Rattle.nesting.proofs.NestingKit.{has-in, in-edges, in-has, rotated-total, outer_down}
-use Rattle.lists.proofs.Members.{in-filter, in-map, in-map-out, in-passes, into-filter, total-filter}
-use Rattle.lists.proofs.Sums.{total, total-is, total-map}
-use Rattle.one_ring_list.proofs.OneRingList.{Found, in-rotated, in-unrotated}
-
-pub turned-back : (r q : List Edge) → IsRotated r q → IsRotated q r
-turned-back r q t = record { front = t.back; back = t.front; old = t.new; new = t.old }
+use Rattle.lists.proofs.ListsKit.{in-filter, in-map, in-map-out, in-passes, in-rotated, into-filter, rotated-in, total, total-filter, total-is, total-map}
+use Rattle.one_ring_list.proofs.OneRingList.{Found}
 
 module _ (r q : List Edge) (t : IsRotated r q) where
   pub segment-in : (s : Edge) → In s (segments_of r) → In s (segments_of q)
   segment-in s i = let e = in-map-out segment_of r s i in subst (λ w. In w (segments_of q)) (sym e.2) (in-map segment_of q e.0 (in-rotated r q t e.0 e.1))
 
   segment-out : (s : Edge) → In s (segments_of q) → In s (segments_of r)
-  segment-out s i = let e = in-map-out segment_of q s i in subst (λ w. In w (segments_of r)) (sym e.2) (in-map segment_of r e.0 (in-unrotated r q t e.0 e.1))
+  segment-out s i = let e = in-map-out segment_of q s i in subst (λ w. In w (segments_of r)) (sym e.2) (in-map segment_of r e.0 (rotated-in r q t e.0 e.1))
 
   anchor-rotated : (s : Edge) → IsAnchor s (segments_of r) → IsAnchor s (segments_of q)
   anchor-rotated s a =

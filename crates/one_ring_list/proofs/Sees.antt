@@ -17,11 +17,9 @@ use Rattle.winding.specs.Ring.{segments_of}
 use Rattle.winding.specs.Sided.{IsSided}
 use Rattle.one_ring_list.specs.Sees.{sees_even}
 use Rattle.nesting.proofs.NestingKit.{IsClearOfAll, in-from-end, last-in, Keeps, follow-weaker, stretch_same, F-none, clear-two, e-way, f-way, next_leaves, no-loop-segments, rise, sector-first, sector-own, segment-ends, sym-differs, unraised, way-segment, not-member}
-use Rattle.lists.proofs.Bools.{not-not, not-true-out}
+use Rattle.lists.proofs.ListsKit.{all-in, in-all, in-filter, in-map, in-map-out, in-passes, into-filter, none-sum, not-not, not-true-out, total, total-same}
 use Rattle.plane.proofs.PlaneKit.{ends_at-from, ends_at-to, same_edge-refl, same_edge-true, same_point-refl}
 use Rattle.winding.proofs.WindingKit.{way, ways_apart, off_away, split_off, differ-parity, runs_from, runs_to, same-parity, spokes-is, parity_round_node}
-use Rattle.lists.proofs.Members.{all-in, in-all, in-filter, in-map, in-map-out, in-passes, into-filter, total-same}
-use Rattle.lists.proofs.Sums.{none-sum, total}
 
 decide-by : (e x : Edge) (xs : List Edge) → (b : Bool) → same_edge e x ≡ b → (In e xs) ⊎ (In e xs → ⊥) → (In e (x ∷ xs)) ⊎ (In e (x ∷ xs) → ⊥)
 decide-by e x xs true h d = inl (inl (same_edge-true e x h))

@@ -3,7 +3,7 @@ use Rattle.std.proofs.Common.{List, [], ap, cond, inl, inr, length, refl, subst,
 use Rattle.nesting.specs.Cover.{DoNotCross}
 use Rattle.nesting.specs.Nesting.{edges_of}
 use Rattle.nesting.specs.RingList.{AreUncrossed, IsRingList}
-use Rattle.nesting.specs.Rotated.{IsRotated}
+use Rattle.lists.specs.Rotated.{IsRotated}
 use Rattle.nesting.specs.Stack.{cut_all}
 use Rattle.plane.specs.Edge.{Edge, ends_at, other_end}
 use Rattle.plane.specs.Sector.{in_sector}
@@ -14,10 +14,10 @@ use Rattle.winding.specs.Ring.{segments_of}
 use Rattle.winding.specs.Sided.{IsSided}
 use Rattle.one_ring_list.specs.RingListOf.{IsRingListOf}
 use Rattle.nesting.proofs.NestingKit.{in-edges, Once, once-apart, same-once, sided-once, sided_same, ring_list, pairs-of, rotated-length, stack_cut_all, walks_there}
-use Rattle.lists.proofs.Members.{all-in, pairs-right}
+use Rattle.lists.proofs.ListsKit.{all-in, in-rotated, pairs-right, rotated-back, rotated-in}
 use Rattle.winding.proofs.WindingKit.{spokes-is}
-use Rattle.one_ring_list.proofs.OneRingList.{Found, NoneEmpty, cuts-ring-list, first-of, found, in-rotated, in-unrotated}
-use Rattle.one_ring_list.proofs.SameNests.{turned-back, segment-in, segments-total}
+use Rattle.one_ring_list.proofs.OneRingList.{Found, NoneEmpty, cuts-ring-list, first-of, found}
+use Rattle.one_ring_list.proofs.SameNests.{segment-in, segments-total}
 
 -- crossing is told by the edges
 spokes-rotated : (r q : List Edge) → IsRotated r q → (d c v : Vector) → spokes_in d c v (segments_of r) ≡ spokes_in d c v (segments_of q)
@@ -38,7 +38,7 @@ module _ (qs : List (List Edge)) (m : IsRingList qs) where
   differ r q s u rs o i l t w e =
       let x = first-of s l in
       let j : In x.0 q = subst (λ k. In x.0 k) (sym e) (in-rotated s u w x.0 x.1) in
-      once-apart r (edges_of rs) o x.0 (in-unrotated r q t x.0 j) (in-edges rs s x.0 i x.1)
+      once-apart r (edges_of rs) o x.0 (rotated-in r q t x.0 j) (in-edges rs s x.0 i x.1)
 
   pub free-of : (rs : List (List Edge)) → Once (edges_of rs) → NoneEmpty rs → Found rs qs → EachPair AreUncrossed rs
   free-of [] o l f = tt
@@ -60,7 +60,7 @@ rings-uncrossed es sd rs a =
     let f = found es sd rs qs a (cuts-ring-list es sd ws.0 qs ws.1 cut) in
     record {
       ring = a.ring;
-      long = λ r i. let q = f r i in rotated-length q.0 r (turned-back r q.0 q.2) (uncrossed.long q.0 q.1);
+      long = λ r i. let q = f r i in rotated-length q.0 r (rotated-back r q.0 q.2) (uncrossed.long q.0 q.1);
       sided = sided_same es sd (edges_of rs) a.edges;
       free = free-of qs uncrossed rs (same-once (edges_of rs) es a.edges (sided-once es sd)) a.some f;
     }

@@ -2,7 +2,7 @@
 use Rattle.std.specs.Prelude.{List, map, ◌++◌, ◌∷◌, ◌≡◌}
 use Rattle.nesting.specs.Nesting.{EnclosesDirectly, IsInnerRing, IsOuterRing, edges_of}
 use Rattle.nesting.specs.RingList.{IsRingList}
-use Rattle.nesting.specs.Rotated.{IsRotated}
+use Rattle.lists.specs.Rotated.{IsRotated}
 use Rattle.nesting.specs.Walk.{AreCuts, AreWalks, HasSameEdges, IsWalk}
 use Rattle.plane.specs.Edge.{Edge}
 use Rattle.plane.specs.Vector.{Vector}

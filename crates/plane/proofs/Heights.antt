@@ -9,7 +9,7 @@ use Rattle.plane.specs.Order.{order}
 use Rattle.plane.specs.Sign.{Minus, Null, Plus, Sign, is_null, is_plus, negated, sign, then_sign}
 use Rattle.plane.specs.Vector.{Vector, cross, east, from_to, orient}
 use Rattle.std.proofs.lemmas.Bool.{and_from, and_right, false_from_ne_true}
-use Rattle.lists.proofs.Bools.{and-left, and-right}
+use Rattle.lists.proofs.ListsKit.{and-left, and-right}
 use Rattle.plane.proofs.Conflicts.{conflict_by, conflicts-by}
 use Rattle.plane.proofs.Identities.{apart, lift, same, ◌⊞◌, ◌⊟◌, ◌⊠◌}
 use Rattle.plane.proofs.Products.{cross-from-here, cross-here, cross-negated, cross-self, dot-east, orient-round, plucker-agree, plucker-dot-agree, side-moves}
@@ -76,7 +76,7 @@ distance-by ey fy Cfp Cfw Cep Cew Xf Xe Z h k z =
     same ((a ⊠ c ⊟ u ⊠ b) ⊞ w) (a ⊠ d ⊟ v ⊠ b)
     (omega (arith, apart (a ⊠ (d ⊞ x)) (a ⊠ c) (ap (λ (t : ℤ). ey *ℤ t) h), apart ((v ⊞ y) ⊠ b) (u ⊠ b) (ap (λ (t : ℤ). t *ℤ fy) k), apart (a ⊠ x ⊟ y ⊠ b ⊞ w) (lift (pos 0)) z))
 
-distance-change : (p w : Vector) (e f : Edge) →
+pub distance-change : (p w : Vector) (e f : Edge) →
     cross (distance_right p e) (distance_right p f) +ℤ (w.y -ℤ p.y) *ℤ cross (step_of f) (step_of e) ≡ cross (distance_right w e) (distance_right w f)
 distance-change p w e f =
     let d = step_of e in let c = step_of f in
@@ -84,7 +84,7 @@ distance-change p w e f =
     (cross (from_to p w) c) (cross (from_to p w) d) ((w.y -ℤ p.y) *ℤ cross c d)
     (side-moves p w f.from f.to) (side-moves p w e.from e.to) (slope-by (w.x -ℤ p.x) (w.y -ℤ p.y) d.x d.y c.x c.y)
 
-zero-end : (x y z w d : ℤ) → z ≡ pos 0 → x *ℤ z -ℤ y *ℤ w ≡ pos 0 -ℤ w *ℤ y
+pub zero-end : (x y z w d : ℤ) → z ≡ pos 0 → x *ℤ z -ℤ y *ℤ w ≡ pos 0 -ℤ w *ℤ y
 zero-end x y z w d e =
     let x' = lift x in let y' = lift y in let w' = lift w in
     ap (λ k. x *ℤ k -ℤ y *ℤ w) e ∙ same (x' ⊠ lift (pos 0) ⊟ y' ⊠ w') (lift (pos 0) ⊟ w' ⊠ y') (omega arith)
@@ -102,7 +102,7 @@ low_stays x k g d = imp (not (is_null x)) λ _. imp (same_sign k (negated x)) λ
 abbrev high_swaps : Sign → Sign → Sign → Sign → Bool
 high_swaps x k y d = imp (not (is_null x)) λ _. imp (same_sign k (negated x)) λ _. imp (not (same_sign y x)) λ _. imp (agree y (times Plus k) d) λ _. same_sign d (negated x)
 
-crossed-by : (s : Sign) → not (is_null s) ≡ true → (h k m n : Sign) → conflict_by (negated s) (negated (negated s)) s (negated s) h k m n ≡ true
+pub crossed-by : (s : Sign) → not (is_null s) ≡ true → (h k m n : Sign) → conflict_by (negated s) (negated (negated s)) s (negated s) h k m n ≡ true
 crossed-by Plus c h k m n = refl
 crossed-by Minus c h k m n = refl
 crossed-by Null c h k m n = absurd (cc c)

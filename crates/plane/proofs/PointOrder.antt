@@ -6,7 +6,7 @@ use Rattle.plane.specs.Order.{order}
 use Rattle.plane.specs.Sign.{Minus, Null, Plus, Sign, is_null, negated, sign, then_sign}
 use Rattle.plane.specs.Vector.{IsDirection, Vector, cross, dot, from_to, same_point}
 use Rattle.plane.proofs.Identities.{apart, lift, same, ◌⊞◌, ◌⊟◌, ◌⊠◌}
-use Rattle.lists.proofs.Integers.{same_from_difference}
+use Rattle.lists.proofs.ListsKit.{same_from_difference}
 use Rattle.plane.proofs.Points.{same_point-refl, same_vector}
 use Rattle.plane.proofs.Signs.{agree, agree-products, agree-sum, all, all-out, all2, all2-out, all4-out, imp, imp-out, not-null, null-zero, same-out, same_sign, same_sign-true, sign-reversed, times, times-plus, negated-then}
 

@@ -4,7 +4,7 @@ use Rattle.std.proofs.lemmas.Bool.Decides.{Decides-int_eq}
 use Rattle.std.specs.Ordering.{int_eq}
 use lib.IntN.{ℤ}
 use Rattle.plane.specs.Vector.{Vector, same_point}
-use Rattle.lists.proofs.Integers.{int_eq-true}
+use Rattle.lists.proofs.ListsKit.{int_eq-true}
 use Rattle.std.proofs.lemmas.Bool.{and_parts}
 
 int_eq-refl : (a : ℤ) → int_eq a a ≡ true

@@ -13,7 +13,7 @@ use Rattle.plane.specs.Sector.{in_sector}
 use Rattle.plane.specs.Sign.{Plus, is_minus, is_null, is_plus, sign, then_sign}
 use Rattle.plane.specs.Vector.{Vector, cross, dot, from_to, orient, same_point}
 use Rattle.plane.proofs.Identities.{lift, same, ◌⊞◌, ◌⊟◌, ◌⊠◌}
-use Rattle.lists.proofs.Integers.{int_eq-same, int_eq-true}
+use Rattle.lists.proofs.ListsKit.{int_eq-same, int_eq-true}
 use Rattle.plane.proofs.Points.{same_point-refl, same_point-true, same_vector}
 use Rattle.plane.proofs.Products.{cross2, dot2, lift2}
 use Rattle.plane.proofs.Signs.{null-zero, plus-times}
@@ -27,6 +27,9 @@ times-turned q k z = let q' = lift q in let k' = lift k in let z' = lift z in sa
 
 pub point-twice : (q k : ℤ) (p : Vector) → scaled_point q (scaled_point k p) ≡ scaled_point (q *ℤ k) p
 point-twice q k p = same_vector (q *ℤ (k *ℤ p.x)) (q *ℤ (k *ℤ p.y)) ((q *ℤ k) *ℤ p.x) ((q *ℤ k) *ℤ p.y) (times-twice q k p.x) (times-twice q k p.y)
+
+pub point-once : (p : Vector) → scaled_point (pos 1) p ≡ p
+point-once p = same_vector (pos 1 *ℤ p.x) (pos 1 *ℤ p.y) p.x p.y (omega (arith, ints)) (omega (arith, ints))
 
 pub point-turned : (q k : ℤ) (p : Vector) → scaled_point q (scaled_point k p) ≡ scaled_point k (scaled_point q p)
 point-turned q k p = same_vector (q *ℤ (k *ℤ p.x)) (q *ℤ (k *ℤ p.y)) (k *ℤ (q *ℤ p.x)) (k *ℤ (q *ℤ p.y)) (times-turned q k p.x) (times-turned q k p.y)

@@ -13,7 +13,7 @@ use Rattle.plane.proofs.PlaneKit.{clear_back}
 use Rattle.winding.specs.ConflictFree.{IsConflictFree}
 use Rattle.lists.specs.Member.{EachPair, In}
 use Rattle.winding.proofs.WindingKit.{rising_in}
-use Rattle.lists.proofs.Members.{all-in, in-filter, in-left, in-map, in-passes, in-right, into-filter, pairs-across, pairs-left}
+use Rattle.lists.proofs.ListsKit.{all-in, in-filter, in-left, in-map, in-passes, in-right, into-filter, pairs-across, pairs-left}
 use Rattle.status.specs.Status.{IsStatus, spanning}
 use Rattle.status.proofs.Statuses.{enters, passes}
 

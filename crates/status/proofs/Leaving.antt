@@ -13,7 +13,7 @@ use Rattle.plane.specs.Height.{is_in_span}
 use Rattle.plane.specs.Vector.{Vector}
 use Rattle.plane.proofs.PlaneKit.{right_itself, right_of}
 use Rattle.lists.specs.Member.{In}
-use Rattle.lists.proofs.Members.{in-either, in-filter, in-passes}
+use Rattle.lists.proofs.ListsKit.{in-either, in-filter, in-passes}
 use Rattle.status.specs.Leaving.{Remains}
 use Rattle.status.specs.Status.{IsStatus}
 

@@ -14,14 +14,12 @@ use Rattle.plane.specs.Edge.{Edge, same_edge}
 use Rattle.plane.specs.Height.{is_in_span, is_right_above}
 use Rattle.plane.specs.Sign.{is_plus}
 use Rattle.plane.specs.Vector.{Vector}
-use Rattle.lists.proofs.Bools.{and-left, and-right}
+use Rattle.lists.proofs.ListsKit.{all_insert, and-left, and-right, in-all, in-filter, in-map, in-passes, into-filter, pairs_insert}
 use Rattle.plane.proofs.PlaneKit.{clear_back, same_edge-refl, same_edge-true, order_persists, right_chain, right_either, right_itself, right_of}
 use Rattle.winding.specs.ConflictFree.{IsConflictFree}
 use Rattle.lists.specs.Member.{In}
 use Rattle.winding.proofs.WindingKit.{clear_pair, right_apart}
-use Rattle.lists.proofs.Members.{in-all, in-filter, in-map, in-passes, into-filter}
 use Rattle.status.specs.Status.{IsRight, IsStatus, spanning}
-use Rattle.lists.proofs.Insertions.{all_insert, pairs_insert}
 use Rattle.status.proofs.Lists.{sum-filter, sum-same}
 
 module _ {X : Type 0} (edge : X → Edge) where

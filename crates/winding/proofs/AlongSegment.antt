@@ -13,7 +13,7 @@ use Rattle.plane.proofs.PlaneKit.{Sound, crossings-by, crossings_0, crossings_se
 use Rattle.plane.proofs.SignKit.{same, all4}
 use Rattle.winding.proofs.Independence.{IsOffSeen, count-is, crossing_count_seen, parity_independent, winding_independent}
 use Rattle.winding.proofs.RoundNode.{parity_round_node}
-use Rattle.lists.proofs.Sums.{total, total-is}
+use Rattle.lists.proofs.ListsKit.{total, total-is}
 
 -- an edge that does not meet the segment is hit by the rays along it from everywhere inside it, or from nowhere
 pub same_crossings : (g : Sign → Sign → Sign → ℕ) → all4 (crossings_0 g) ≡ true → (s t : Vector) (r q : Vector → Vector) → View s t r → View s t q → (es : List Edge) → All (Misses s t) es →

@@ -23,13 +23,12 @@ use Rattle.plane.proofs.PlaneKit.{clear_misses, edge_of, ends_at-from, same_edge
 use Rattle.plane.proofs.SignKit.{lift, same, ◌⊞◌, ◌⊟◌, ◌⊠◌, agree, all, all-out, all4, all4-out, imp, imp-out, plus-plus, same_bool, self-diff, sign-reversed, times, minus-not-plus, plus-null, null-plus}
 use Rattle.winding.proofs.Balance.{degree-even, length-total}
 use Rattle.winding.proofs.ConflictFree.{clear_of_others, off_away, rising_in, split_off}
-use Rattle.lists.proofs.Members.{in-filter, into-filter, total-filter, total-same}
+use Rattle.lists.proofs.ListsKit.{in-filter, into-filter, none-sum, total, total-filter, total-same}
 use Rattle.winding.proofs.OddSides.{no_same_way_from, runs_from, spokes-is}
 use Rattle.winding.proofs.OppositeEnds.{beyond, crossings-away}
 use Rattle.winding.proofs.Ranks.{even-is, odd-is}
 use Rattle.winding.proofs.RingCounts.{keeps, ring-even, ring_count, ring_keeps}
 use Rattle.winding.proofs.RoundNode.{parity_round_node}
-use Rattle.lists.proofs.Sums.{none-sum, total}
 
 abbrev pub west : Vector
 west = record { x = negsuc 0; y = pos 0 }

@@ -16,15 +16,13 @@ use Rattle.winding.specs.Node.{away, spokes, spokes_in}
 use Rattle.winding.specs.OddSide.{directed, directed_edge, runs_up}
 use Rattle.winding.specs.Parity.{is_even}
 use Rattle.winding.specs.Rank.{IsOrder}
-use Rattle.lists.proofs.Bools.{not-not}
+use Rattle.lists.proofs.ListsKit.{in-filter, in-passes, not-not, pairs-filter, pairs-weaker, total, total-filter, total-is, total-map, total-same}
 use Rattle.plane.proofs.PlaneKit.{clear_misses, edge_of, misses_reversed, order-reversed, order-self-null, rising-direction, same_point-true, cross-agree, cross-reversed, cross-self, direction-back, dot-east, dot2, frame-agree, frame-dot-agree, lift2, plucker-agree, plucker-dot-agree, cross-east, east-direction, sector-east}
 use Rattle.plane.proofs.SignKit.{lift, same, ◌⊠◌, agree, agree-products, all, all-out, all2, all2-out, all4, all4-out, imp, imp-out, same_bool, same_bool-true, sign-reversed, times, times-back, times-plus, bit-same}
 use Rattle.winding.proofs.ConflictFree.{off_away, rising_in, split_off}
-use Rattle.lists.proofs.Members.{in-filter, in-passes, pairs-filter, pairs-weaker, total-filter, total-same}
 use Rattle.winding.proofs.OddSides.{differ-parity, no_same_way_from, no_same_way_to, runs_from, runs_to, same-parity, spokes-is}
 use Rattle.winding.proofs.Ranks.{evens, halves, odds, rank', rank-parity-own}
 use Rattle.winding.proofs.RoundNode.{parity_round_node}
-use Rattle.lists.proofs.Sums.{total, total-is, total-map}
 
 -- ---- directions in the order of their angles, from east counterclockwise
 abbrev pub turns_to : Vector → Vector → Bool

@@ -8,10 +8,8 @@ use Rattle.plane.specs.Vector.{Vector, same_point}
 use Rattle.winding.specs.ConflictFree.{IsConflictFree, others}
 use Rattle.lists.specs.Member.{EachPair, In}
 use Rattle.winding.specs.Node.{away}
-use Rattle.lists.proofs.Bools.{not-true-out}
+use Rattle.lists.proofs.ListsKit.{all-in, in-all, in-filter, in-passes, not-true-out, total, total-filter, total-same}
 use Rattle.plane.proofs.PlaneKit.{clear_back, clear_differs, clear_misses, clear_off_from, clear_off_to, same_edge-refl, same_edge-true, same_point-true}
-use Rattle.lists.proofs.Members.{all-in, in-all, in-filter, in-passes, total-filter, total-same}
-use Rattle.lists.proofs.Sums.{total}
 use Rattle.std.proofs.lemmas.Bool.{or_parts}
 
 one-of : (f : Edge → ℕ) (s : Edge) (b : Bool) → b ≡ false → cond (not b) (f s) 0 ≡ f s

@@ -9,8 +9,7 @@ use Rattle.plane.specs.Sign.{sign}
 use Rattle.plane.specs.Vector.{Vector, cross, east, from_to}
 use Rattle.winding.specs.EdgeList.{crossing_count}
 use Rattle.plane.proofs.PlaneKit.{crossing-bit, crossings-left, crossings_at, east-side}
-use Rattle.lists.proofs.Members.{in-all, total-same}
-use Rattle.lists.proofs.Sums.{total-is}
+use Rattle.lists.proofs.ListsKit.{in-all, total-is, total-same}
 
 pub count-crossed : (d p : Vector) (es : List Edge) → crossing_count d p es ≡ count_by (is_crossed d p) es
 count-crossed d p es =

@@ -11,7 +11,7 @@ use Rattle.plane.specs.Vector.{IsDirection, Vector, from_to, one_at}
 use Rattle.winding.specs.EdgeList.{IsBalanced, IsEvenAtPoints, crossing_count, down_count, starts_in, stops_in, up_count, winding_number}
 use Rattle.winding.specs.Parity.{IsEven}
 use Rattle.plane.proofs.PlaneKit.{down_seen, up_seen, sector_lemma}
-use Rattle.lists.proofs.Sums.{total, total-+, total-is, total-map}
+use Rattle.lists.proofs.ListsKit.{total, total-+, total-is, total-map}
 use Rattle.winding.proofs.Sums.{even-total, same-total}
 
 -- the crossings of the ray from the origin in the direction d, where r places the points: `from_to p` places them as p sees them

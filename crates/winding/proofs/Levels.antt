@@ -27,12 +27,10 @@ use Rattle.winding.proofs.AlongSegment.{along_from, off_all}
 use Rattle.winding.proofs.Balance.{agree-dot, length-total}
 use Rattle.winding.proofs.ConflictFree.{misses_others, off_away, rising_in, split_off}
 use Rattle.winding.proofs.Independence.{IsOffSeen, count-is, even-at-ends, in_sector_seen, sector_sum, total-ends}
-use Rattle.lists.proofs.Members.{in-all, in-filter, in-passes, into-filter, pairs-filter, pairs-weaker, total-filter, total-same}
+use Rattle.lists.proofs.ListsKit.{cond_none, in-all, in-filter, in-passes, into-filter, pairs-filter, pairs-weaker, same_from_difference, total, total-+, total-filter, total-is, total-map, total-same}
 use Rattle.winding.proofs.OddSides.{differ-parity, no_same_way_from, runs_from}
 use Rattle.winding.proofs.OppositeEnds.{away-others, off-others}
 use Rattle.winding.proofs.Ranks.{evens, odds, rank', rank-parity}
-use Rattle.lists.proofs.Sums.{total, total-+, total-is, total-map, cond_none}
-use Rattle.lists.proofs.Integers.{same_from_difference}
 
 -- ---- an edge whose lower end is below the height: seen from its point at the height
 module _ (p a b : Vector) (lo : sign (a.y -ℤ p.y) ≡ Minus) (hi : sign (b.y -ℤ p.y) ≡ Plus) where

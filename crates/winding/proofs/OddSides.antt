@@ -17,15 +17,13 @@ use Rattle.lists.specs.Member.{In}
 use Rattle.winding.specs.Node.{away, spokes, spokes_in}
 use Rattle.winding.specs.OddSide.{runs_up}
 use Rattle.winding.specs.Parity.{is_even}
-use Rattle.lists.proofs.Bools.{not-not}
+use Rattle.lists.proofs.ListsKit.{in-filter, not-not, total, total-+, total-filter, total-is, total-same}
 use Rattle.plane.proofs.PlaneKit.{clear_misses, edge_of, ends_at-from, line-order-up, order-reversed, rising-direction, same_point-refl, same_point-true, cross-agree, cross-here, cross-self, direction-back, dot-here, dot-reversed, crossings-left, crossings_at, east-direction, east-side, level-side, not-left, sector-east}
 use Rattle.plane.proofs.SignKit.{agree, all, all-out, all4-out, imp, imp-out, not-null-by, same-sign-is, same_sign, self-diff, times}
 use Rattle.winding.proofs.ConflictFree.{clear_of_others, off_away, rising_in, split_off}
-use Rattle.lists.proofs.Members.{in-filter, total-filter, total-same}
 use Rattle.winding.proofs.OppositeEnds.{beyond, crossings-away, opposite_odd}
 use Rattle.winding.proofs.Ranks.{even-is, halves, odd-is}
 use Rattle.winding.proofs.RoundNode.{parity_round_node}
-use Rattle.lists.proofs.Sums.{total, total-+, total-is}
 
 beyond-left-by : (d p : Vector) (t : Edge) (b : Bool) → ends_at p t ≡ b → ((w : Vector) → sign (cross d w) ≡ sign w.y) → IsRising t → cond (not b) (crossings_at d (from_to p) t) 0 ≡ bit (is_left_of p t)
 beyond-left-by d p t true e h r = sym (not-left p t e)

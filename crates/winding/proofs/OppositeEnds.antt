@@ -14,8 +14,7 @@ use Rattle.plane.proofs.PlaneKit.{ends_at-from, ends_at-to, misses_reversed, ris
 use Rattle.winding.proofs.AlongSegment.{along_from, off_all}
 use Rattle.winding.proofs.ConflictFree.{misses_others, off_away, rising_in, split_off}
 use Rattle.winding.proofs.Independence.{count-is, crossing_count_seen, even-at-ends, in_sector_seen, sector_sum, total-ends}
-use Rattle.lists.proofs.Members.{all-in, in-all, in-filter, in-passes, into-filter, total-filter}
-use Rattle.lists.proofs.Sums.{total, total-+, total-is}
+use Rattle.lists.proofs.ListsKit.{all-in, in-all, in-filter, in-passes, into-filter, total, total-+, total-filter, total-is}
 
 abbrev pub beyond : Vector → Vector → Edge → ℕ
 beyond d v t = cond (not (ends_at v t)) (crossings_at d (from_to v) t) 0

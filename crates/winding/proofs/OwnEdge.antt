@@ -14,7 +14,7 @@ use Rattle.plane.proofs.SignKit.{agree, all, all-out, all2-out, imp, imp-out, sa
 use Rattle.winding.proofs.AlongSegment.{off_all, same_crossings}
 use Rattle.winding.proofs.ConflictFree.{misses_others, rising_in, split_off}
 use Rattle.winding.proofs.Independence.{count-is, even-at-ends, in_sector_seen, sector_sum, total-ends}
-use Rattle.lists.proofs.Sums.{total-+}
+use Rattle.lists.proofs.ListsKit.{total-+}
 
 agree-same : (c b m : Sign) → agree c m Null ≡ true → agree b m Null ≡ true → c ≡ b
 agree-same c b m h k =

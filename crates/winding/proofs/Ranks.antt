@@ -6,9 +6,7 @@ use Rattle.plane.specs.Bit.{bit}
 use Rattle.lists.specs.Member.{In}
 use Rattle.winding.specs.Parity.{is_even}
 use Rattle.winding.specs.Rank.{IsOrder, rank, sum_from}
-use Rattle.lists.proofs.Bools.{not-not, true_from_not}
-use Rattle.lists.proofs.Members.{in-all, total-below, total-less, total-same}
-use Rattle.lists.proofs.Sums.{total, total-is}
+use Rattle.lists.proofs.ListsKit.{in-all, not-not, total, total-below, total-is, total-less, total-same, true_from_not}
 
 abbrev pub rank' : {X : Type 0} → (X → X → Bool) → List X → X → ℕ
 rank' above xs x = total (λ y. bit (above x y)) xs

@@ -15,8 +15,7 @@ use Rattle.plane.proofs.PlaneKit.{same_point-true, cross-negated, crossings_at, 
 use Rattle.plane.proofs.SignKit.{all4-out, both, left-out, right-out, same_bool, bit-same}
 use Rattle.winding.proofs.Balance.{directed_balanced}
 use Rattle.winding.proofs.Levels.{signed_parity}
-use Rattle.lists.proofs.Members.{in-all, total-same}
-use Rattle.lists.proofs.Sums.{total, total-+, total-is, total-map, both_conds}
+use Rattle.lists.proofs.ListsKit.{both_conds, in-all, total, total-+, total-is, total-map, total-same}
 use Rattle.winding.proofs.Sums.{at-self}
 
 pub total-member : {X : Type 0} (g : X → ℕ) (xs : List X) (f : X) → In f xs → g f ≤ total g xs

@@ -10,7 +10,7 @@ use Rattle.winding.specs.EdgeList.{IsEvenAtPoints, crossing_count}
 use Rattle.winding.specs.Node.{away, edges_off, ends_in, spokes, spokes_in}
 use Rattle.plane.proofs.PlaneKit.{edge_of, same_point-refl, same_point-true, here-outside}
 use Rattle.winding.proofs.Independence.{count-is, even-at-ends, in_sector_seen, sector_sum, total-ends}
-use Rattle.lists.proofs.Sums.{total, total-+, total-is}
+use Rattle.lists.proofs.ListsKit.{total, total-+, total-is}
 
 -- at an edge that ends at v, the end at v is in no sector
 one-end : (d c v : Vector) (e : Edge) (b b' : Bool) → same_point v e.from ≡ b → same_point v e.to ≡ b' → (b || b') ≡ true →

@@ -19,10 +19,8 @@ use Rattle.plane.proofs.PlaneKit.{conflicts-scaled, edge-scaled, left-scaled, le
 use Rattle.winding.proofs.ConflictFree.{rising_in}
 use Rattle.winding.proofs.Independence.{even-at-ends, total-ends}
 use Rattle.winding.proofs.Levels.{signed_count}
-use Rattle.lists.proofs.Members.{all-in, in-all, total-same}
+use Rattle.lists.proofs.ListsKit.{all-in, in-all, map-map, map-same, total-is, total-map, total-same}
 use Rattle.winding.proofs.OddSides.{covers-crossings}
-use Rattle.lists.proofs.Sums.{total-is, total-map}
-use Rattle.lists.proofs.Maps.{map-map, map-same}
 
 module _ (k : ℤ) (hk : sign k ≡ Plus) where
   filter-by : (b c : Bool) (x : Edge) (xs ys : List Edge) → b ≡ c → xs ≡ scaled_edges k ys → cond b (scaled_edge k x ∷ xs) xs ≡ scaled_edges k (cond c (x ∷ ys) ys)

@@ -17,11 +17,9 @@ use Rattle.plane.proofs.PlaneKit.{same_edge_by, down_seen, up_seen, conflicts-sc
 use Rattle.plane.proofs.SignKit.{plus-times}
 use Rattle.plane.specs.Bit.{bit}
 use Rattle.winding.proofs.ConflictFree.{rising_in}
-use Rattle.lists.proofs.Members.{all-in, in-all, in-map, in-map-out, total-same}
+use Rattle.lists.proofs.ListsKit.{all-in, in-all, in-map, in-map-out, map-map, map-same, total, total-+, total-is, total-map, total-same}
 use Rattle.winding.proofs.ScaledLists.{direct-by, plain_scaled}
-use Rattle.lists.proofs.Sums.{total, total-+, total-is, total-map}
 use Rattle.winding.proofs.Sums.{same-total}
-use Rattle.lists.proofs.Maps.{map-map, map-same}
 
 pub balanced-total : (f : Vector → ℕ) (es : List Edge) → IsBalanced es → total (λ (e : Edge). f e.from) es ≡ total (λ (e : Edge). f e.to) es
 balanced-total f es b =

@@ -28,16 +28,13 @@ use Rattle.winding.proofs.Anchors.{begins-by, level-plus, some-anchor}
 use Rattle.winding.proofs.Balance.{directed_balanced, ends-by}
 use Rattle.winding.proofs.ConflictFree.{misses_others, rising_in, split_off}
 use Rattle.winding.proofs.Levels.{down-run, first-tells, inner_runs, low-plus, off_not_null, to_right, up-run}
-use Rattle.lists.proofs.Members.{all-in, in-all, in-filter, in-map, in-map-out, in-passes, into-filter, total-filter, total-same}
+use Rattle.lists.proofs.ListsKit.{all-in, in-all, in-filter, in-map, in-map-out, in-passes, into-filter, none-sum, none_or_one, rest_nothing, total, total-+, total-filter, total-is, total-map, total-same}
 use Rattle.winding.proofs.OddSides.{covers-crossings}
 use Rattle.winding.proofs.Ranks.{even-is, halves, odd-is}
 use Rattle.winding.proofs.RingCounts.{bit-sum, direct-is, ends-swap, keeps, total-member}
 use Rattle.winding.proofs.ScaledLists.{even_scaled, plain_scaled, rational_count, runs-scaled}
 use Rattle.winding.proofs.Shifts.{left-left, left-off, left_point, right-left, right-off, right_point}
-use Rattle.lists.proofs.Sums.{total, total-+, total-is, total-map, none-sum}
 use Rattle.winding.proofs.ScaledSides.{edges-twice, segment-scaled, segments-scaled}
-use Rattle.lists.proofs.Numbers.{none_or_one}
-use Rattle.lists.proofs.Integers.{rest_nothing}
 
 abbrev pub rises : Edge → Bool
 rises x = is_plus (order x.from x.to)

@@ -1,7 +1,7 @@
 -- Sums over lists of points: they are determined by how often each point occurs.
 use Rattle.std.proofs.Common.{Bool, List, [], ap, arith, cond, false, length, refl, suc, sym, true, zero, ℕ, ◌*◌, ◌+◌, ◌/◌, ◌∙◌, ◌∷◌, ◌≡◌, ◌≤◌}
 use Rattle.plane.specs.Vector.{Vector, one_at, same_point}
-use Rattle.lists.proofs.Sums.{total}
+use Rattle.lists.proofs.ListsKit.{total}
 use Rattle.winding.specs.Parity.{IsEven}
 use Rattle.plane.proofs.PlaneKit.{same_point-refl, same_point-true}
 
