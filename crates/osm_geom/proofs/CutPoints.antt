@@ -5,7 +5,7 @@ use Rattle.plane.specs.RayCrossing.{is_off}
 use Rattle.plane.specs.Scale.{scaled_edge}
 use Rattle.plane.specs.Sign.{Minus, Null, Plus, Sign, sign}
 use Rattle.plane.proofs.SignKit.{Split, lift, same, ◌⊞◌, ◌⊟◌, ◌⊠◌, Says, agree, agree-sum, all4-out, imp, imp-out, plus-times, same_sign, same_sign-true, says, self-diff, sign-pos}
-use Rattle.lists.proofs.Bools.{not-true-out}
+use Rattle.lists.proofs.ListsKit.{not-true-out}
 use Rattle.osm_geom.specs.declared.cut.Axis.{Axis}
 use Rattle.osm_geom.specs.declared.cut.Axis.TheVariants.{X, Y}
 use Rattle.osm_geom.specs.declared.cut.Cut.{Cut}

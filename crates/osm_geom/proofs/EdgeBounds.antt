@@ -4,7 +4,7 @@ use Rattle.std.proofs.lemmas.Int.{ints}
 use Rattle.std.proofs.lemmas.Bool.{cases_lt, and_parts}
 use Rattle.std.proofs.Math.Nat.{mul-lt-mul_of_pos_right}
 use Rattle.plane.specs.Sign.{Sign, Plus, Null, Minus, is_minus, is_plus}
-use Rattle.lists.proofs.Integers.{int_eq-true}
+use Rattle.lists.proofs.ListsKit.{int_eq-true}
 use Rattle.plane.proofs.SignKit.{Says, says}
 use Rattle.osm_geom.specs.declared.edge.Edge.{Edge}
 use Rattle.osm_geom.specs.declared.edge.Carrier.TheVariants.{Vertical, Horizontal}

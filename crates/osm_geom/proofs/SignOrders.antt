@@ -32,8 +32,3 @@ ties_alike Null Minus Null h k = absurd (cc h)
 ties_alike Null Minus Plus h k = absurd (cc h)
 ties_alike Plus t u h k = cc
 ties_alike Minus t u h k = cc
-
-pub tied : (s : Sign) → ordering_of s ≡ Equal → s ≡ Null
-tied Null h = refl
-tied Plus h = cc
-tied Minus h = cc

@@ -11,7 +11,7 @@ use Rattle.plane.specs.Scale.{scaled_edge}
 use Rattle.plane.specs.Sign.{Sign, Plus, Null, Minus, is_minus, is_null, is_plus, negated, sign, then_sign}
 use Rattle.plane.specs.Vector.{cross, dot, from_to}
 use Rattle.plane.proofs.SignKit.{lift, same, ◌⊟◌, ◌⊠◌, agree, null-zero, plus-times, sign-reversed}
-use Rattle.lists.proofs.Integers.{int_eq-true, same_from_difference}
+use Rattle.lists.proofs.ListsKit.{int_eq-true, same_from_difference}
 use Rattle.plane.proofs.PlaneKit.{minus-sign}
 use Rattle.osm_geom.specs.declared.edge.Carrier.{Carrier}
 use Rattle.osm_geom.specs.declared.edge.Carrier.TheVariants.{OfSeg, Vertical, Horizontal}
@@ -26,10 +26,10 @@ use Rattle.osm_lattice.specs.OrderLaws.{ordering_of}
 use Rattle.osm_geom.specs.Point.{den_of, whole_of, x_of, y_of}
 use Rattle.osm_lattice.specs.Seg.{edge_of}
 use Rattle.osm_geom.specs.Span.{height_order, lower_end, spans, upper_end}
-use Rattle.osm_lattice.proofs.LatticeKit.{cancel_factor, some, zero_other, rising_edge}
+use Rattle.osm_lattice.proofs.LatticeKit.{cancel_factor, some, zero_other, rising_edge, equal-null}
 use Rattle.osm_geom.proofs.LinesAbove.{IsTall, along-scaled, order_above-reversed, order_above-sum, tie_along}
 use Rattle.osm_geom.proofs.PointOrders.{den-sign, x_den-some, y_den-sign}
-use Rattle.osm_geom.proofs.SignOrders.{chains, reverses, tied, ties_alike}
+use Rattle.osm_geom.proofs.SignOrders.{chains, reverses, ties_alike}
 
 -- ---- an edge along one height spans no height
 abbrev IsAtHeight : ℤ → Point → Type 0
@@ -164,4 +164,4 @@ pub above_one_line : (e f : Edge) (at : Point) → spans e at ≡ true → spans
 unfolding just_above_cmp
 above_one_line e f at he hf =
     let s = order_above (height_of at) (piece_at e at) (piece_at f at) in
-    (λ h. sym (along_is e f at hf) ∙ ap is_null (tied s h), λ h. null_equal s (along_is e f at hf ∙ h))
+    (λ h. sym (along_is e f at hf) ∙ ap is_null (equal-null s h), λ h. null_equal s (along_is e f at hf ∙ h))

@@ -11,9 +11,8 @@ use Prim.Native.Nat.{◌∣◌}
 use mathlib.Core.HLevel.{is_prop→PathP}
 use Rattle.plane.specs.Order.{order}
 use Rattle.plane.specs.Scale.{scaled_point}
-use Rattle.plane.specs.Vector.{Vector}
-use Rattle.plane.proofs.SignKit.{lift, same, ◌⊠◌, agree}
-use Rattle.plane.proofs.PlaneKit.{order-reversed, order-sum, same_vector, order-scaled}
+use Rattle.plane.proofs.SignKit.{agree}
+use Rattle.plane.proofs.PlaneKit.{order-reversed, order-sum, order-scaled, point-turned}
 use Rattle.osm_geom.specs.declared.point.Part.{Part}
 use Rattle.osm_geom.specs.declared.point.Point.{Point}
 use Rattle.osm_geom.specs.declared.point.Point.TheVariants.{Lattice, OnVertical, OnHorizontal}
@@ -26,11 +25,6 @@ use Rattle.osm_geom.proofs.PointOrders.{den-sign, point_cmp_is}
 use Rattle.osm_geom.proofs.SignOrders.{reverses, chains, ties_alike}
 
 -- ---- three points, each multiplied by the denominators of the two others
-scaled_twice : (j k : ℤ) (v : Vector) → scaled_point j (scaled_point k v) ≡ scaled_point k (scaled_point j v)
-scaled_twice j k v = same_vector (j *ℤ (k *ℤ v.x)) (j *ℤ (k *ℤ v.y)) (k *ℤ (j *ℤ v.x)) (k *ℤ (j *ℤ v.y)) (turned j k v.x) (turned j k v.y)
-  where
-    turned : (j k z : ℤ) → j *ℤ (k *ℤ z) ≡ k *ℤ (j *ℤ z)
-    turned j k z = let a = lift j in let b = lift k in let c = lift z in same (a ⊠ (b ⊠ c)) (b ⊠ (a ⊠ c)) (omega arith)
 
 point_order-sum : (p q r : Point) → agree (point_order p q) (point_order q r) (point_order p r) ≡ true
 point_order-sum p q r =
@@ -39,8 +33,8 @@ point_order-sum p q r =
     let second = scaled_point c (scaled_point a (whole_of q)) in
     let third = scaled_point a (scaled_point b (whole_of r)) in
     let one : order first second ≡ point_order p q = order-scaled c (den-sign r) (scaled_point b (whole_of p)) (scaled_point a (whole_of q)) in
-    let two : order second third ≡ point_order q r = ap (λ v. order v third) (scaled_twice c a (whole_of q)) ∙ order-scaled a (den-sign p) (scaled_point c (whole_of q)) (scaled_point b (whole_of r)) in
-    let both : order first third ≡ point_order p r = ap (λ v. order v third) (scaled_twice c b (whole_of p)) ∙ (ap (λ v. order (scaled_point b (scaled_point c (whole_of p))) v) (scaled_twice a b (whole_of r)) ∙ order-scaled b (den-sign q) (scaled_point c (whole_of p)) (scaled_point a (whole_of r))) in
+    let two : order second third ≡ point_order q r = ap (λ v. order v third) (point-turned c a (whole_of q)) ∙ order-scaled a (den-sign p) (scaled_point c (whole_of q)) (scaled_point b (whole_of r)) in
+    let both : order first third ≡ point_order p r = ap (λ v. order v third) (point-turned c b (whole_of p)) ∙ (ap (λ v. order (scaled_point b (scaled_point c (whole_of p))) v) (point-turned a b (whole_of r)) ∙ order-scaled b (den-sign q) (scaled_point c (whole_of p)) (scaled_point a (whole_of r))) in
     subst (λ s. agree s (point_order q r) (point_order p r) ≡ true) one
     (subst (λ s. agree (order first second) s (point_order p r) ≡ true) two
     (subst (λ s. agree (order first second) (order second third) s ≡ true) both (order-sum first second third)))

@@ -14,7 +14,7 @@ use Rattle.osm_geom.specs.declared.dir.Dir.{Dir}
 use Rattle.osm_geom.specs.declared.turning.Turn.{Turn}
 use Rattle.osm_geom.specs.Dir.{vector_along, cross, dot, turn_by, rank_of, clockwise_cmp}
 use Rattle.osm_geom.specs.TotalOrders.{IsOneDirection}
-use Rattle.lists.proofs.Orderings.{equal_from, less_from}
+use Rattle.lists.proofs.ListsKit.{equal_from, less_from}
 
 -- ---- the order as a function of signs: a, p, and b, q: of the cross and dot products of the first direction with d and with e; k: of cross d e
 abbrev against : Sign → Ordering
@@ -85,12 +85,12 @@ chain_0 a p b q = all (chain_1 a p b q)
 chains_compute : all4 chain_0 ≡ true
 chains_compute = refl
 
-direction : (d : Dir) → IsDirection (vector_along d)
-direction d = direction-from (vector_along d) (λ x y. d.nonzero (x, y))
+pub along-direction : (d : Dir) → IsDirection (vector_along d)
+along-direction d = direction-from (vector_along d) (λ x y. d.nonzero (x, y))
 
 framed : (f d e : Dir) → agree (times Plus (sign (cross d e))) (times (sign (dot f e)) (sign (cross f d))) (times (sign (dot f d)) (sign (cross f e))) ≡ true
 unfolding cross dot
-framed f d e = frame-agree (vector_along f) (vector_along d) (vector_along e) (direction f)
+framed f d e = frame-agree (vector_along f) (vector_along d) (vector_along e) (along-direction f)
 
 spread : (f d e g : Dir) → agree (times (sign (cross f d)) (sign (cross e g))) (times (sign (cross f g)) (sign (cross d e))) (times (sign (cross f e)) (sign (cross d g))) ≡ true
 unfolding cross
@@ -140,12 +140,12 @@ ties_compute = refl
 squared : (f d : Dir) → agree (times (sign (dot f d)) (sign (dot f d))) (times (sign (cross f d)) (sign (cross f d))) Plus ≡ true
 unfolding cross dot
 squared f d =
-    subst (λ s. agree (times (sign (dot f d)) (sign (dot f d))) (times (sign (cross f d)) (sign (cross f d))) (times Plus s) ≡ true) (direction d)
-    (frame-dot-agree (vector_along f) (vector_along d) (vector_along d) (direction f))
+    subst (λ s. agree (times (sign (dot f d)) (sign (dot f d))) (times (sign (cross f d)) (sign (cross f d))) (times Plus s) ≡ true) (along-direction d)
+    (frame-dot-agree (vector_along f) (vector_along d) (vector_along d) (along-direction f))
 
 dotted : (f d e : Dir) → agree (times (sign (dot f d)) (sign (dot f e))) (times (sign (cross f d)) (sign (cross f e))) (times Plus (sign (dot d e))) ≡ true
 unfolding cross dot
-dotted f d e = frame-dot-agree (vector_along f) (vector_along d) (vector_along e) (direction f)
+dotted f d e = frame-dot-agree (vector_along f) (vector_along d) (vector_along e) (along-direction f)
 
 tie : (f d e : Dir) → is_eq (order_of f d e) ≡ (is_null (sign (cross d e)) && is_plus (sign (dot d e)))
 tie f d e =

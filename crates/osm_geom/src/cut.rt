@@ -73,7 +73,8 @@ fn share_between(start: i32, end: i32, at: i32) -> Share
 fn number_at(start: i32, end: i32, at: Share) -> Frac
     requires start_in { unsigned_abs start ≤ 1_800_000_000 }
     requires end_in { unsigned_abs end ≤ 1_800_000_000 }
-    ensures value { result.num *ℤ pos at.den ≡ (start *ℤ pos (at.den - at.above) +ℤ end *ℤ pos at.above) *ℤ pos result.den }
+    ensures value { result.num *ℤ pos at.den ≡ (start *ℤ pos (at.den - at.above)
+        +ℤ end *ℤ pos at.above) *ℤ pos result.den }
     ensures den_at_most { result.den ≤ at.den }
 {
     Frac::new(between(start, end, at), at.den)

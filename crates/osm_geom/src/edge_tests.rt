@@ -1,3 +1,5 @@
+//! Edges, their carriers and their cuts on numbers worked out by hand.
+
 use super::*;
 use std::cmp::Ordering;
 use std::test::Fail;

@@ -30,7 +30,8 @@ fn segment_line(s: Seg) -> Line
 fn vertical_line(c: i32) -> Line
     requires { IsLongitude c }
     ensures start { start_of result ≡ (piece_of (Vertical c)).from }
-    ensures step { step_of result ≡ from_to (piece_of (Vertical c)).from (piece_of (Vertical c)).to }
+    ensures step { step_of result ≡ from_to (piece_of (Vertical c)).from
+        (piece_of (Vertical c)).to }
 {
     Line {
         x: i128::from(c),
@@ -43,7 +44,8 @@ fn vertical_line(c: i32) -> Line
 fn horizontal_line(d: i32) -> Line
     requires { IsLatitude d }
     ensures start { start_of result ≡ (piece_of (Horizontal d)).from }
-    ensures step { step_of result ≡ from_to (piece_of (Horizontal d)).from (piece_of (Horizontal d)).to }
+    ensures step { step_of result ≡ from_to (piece_of (Horizontal d)).from
+        (piece_of (Horizontal d)).to }
 {
     Line {
         x: 0,
@@ -57,7 +59,8 @@ fn horizontal_line(d: i32) -> Line
 #[tactic(auto, using(crate::proofs::EdgeBounds::carrier_bounds))]
 fn line_of(e: &Edge) -> Line
     ensures start { start_of result ≡ (piece_of e.now.carrier).from }
-    ensures step { step_of result ≡ from_to (piece_of e.now.carrier).from (piece_of e.now.carrier).to }
+    ensures step { step_of result ≡ from_to (piece_of e.now.carrier).from
+        (piece_of e.now.carrier).to }
 {
     match e.carrier {
         Carrier::OfSeg(s) => segment_line(s),

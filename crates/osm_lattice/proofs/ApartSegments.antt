@@ -130,7 +130,8 @@ before_by y z x w Less e h = inl (grind (arith, ints))
 before_by y z x w Equal e h = inr (grind (arith, ints), grind (arith, ints))
 before_by y z x w Greater e h = absurd (cc h)
 
-before_where : (p q : Loc) → loc_cmp p q ≡ Less → (p.y <ℤ q.y) ⊎ ((p.y ≡ q.y) × (p.x <ℤ q.x))
+-- a location before another stands below it, or left of it at its height
+pub before_where : (p q : Loc) → loc_cmp p q ≡ Less → (p.y <ℤ q.y) ⊎ ((p.y ≡ q.y) × (p.x <ℤ q.x))
 before_where p q h = before_by p.y q.y p.x q.x (int_cmp p.y q.y) refl h
 
 -- a point of the line of a and b that comes after a and before b

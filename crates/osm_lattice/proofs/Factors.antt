@@ -2,7 +2,7 @@
 use Rattle.std.proofs.Common.{◌≡◌, ◌≢◌, ◌≤◌, ℕ, zero, suc, ℤ, pos, negsuc, ◌-ℤ◌, ◌*ℤ◌, refl, ◌∙◌, arith, inl, inr, ⊎_elim, ◌⊎◌}
 use Rattle.std.proofs.lemmas.Int.{ints}
 use Rattle.plane.proofs.SignKit.{lift, same, ◌⊟◌, ◌⊠◌}
-use Rattle.lists.proofs.Integers.{same_from_difference}
+use Rattle.lists.proofs.ListsKit.{same_from_difference}
 
 pub some : (n : ℕ) → 1 ≤ n → pos n ≢ pos 0
 some zero h e = absurd (omega arith)

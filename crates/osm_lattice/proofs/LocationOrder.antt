@@ -1,6 +1,6 @@
 -- The order of locations in Rust's words and in signs.
 use Rattle.std.proofs.Common.{◌≡◌, ℤ, ◌-ℤ◌, refl, sym, ◌∙◌, arith}
-use Rattle.std.specs.declared.cmp.Ordering.TheVariants.{Less}
+use Rattle.std.specs.declared.cmp.Ordering.TheVariants.{Equal, Less}
 use Rattle.std.specs.Ordering.{int_cmp, is_lt, ordering_then}
 use Rattle.std.specs.Cmp.{IsTotalOrder}
 use Rattle.std.proofs.lemmas.Int.{ints}
@@ -39,7 +39,7 @@ ordering_of-then Minus t = refl
 pub loc_cmp-is : (p q : Loc) → loc_cmp p q ≡ ordering_of (order (vector_of p) (vector_of q))
 loc_cmp-is p q = rw (int_cmp-is p.y q.y, int_cmp-is p.x q.x) (ordering_of-then (sign (q.y -ℤ p.y)) (sign (q.x -ℤ p.x)))
 
-is_lt-plus : (s : Sign) → is_lt (ordering_of s) ≡ is_plus s
+pub is_lt-plus : (s : Sign) → is_lt (ordering_of s) ≡ is_plus s
 is_lt-plus Plus = refl
 is_lt-plus Null = refl
 is_lt-plus Minus = refl
@@ -48,11 +48,16 @@ pub is_lt_before : (p q : Loc) → is_lt (loc_cmp p q) ≡ before p q
 unfolding before
 is_lt_before p q = rw (loc_cmp-is p q) (is_lt-plus (order (vector_of p) (vector_of q)))
 
--- a segment's edge runs from its lesser end
-less-plus : (s : Sign) → ordering_of s ≡ Less → s ≡ Plus
+pub equal-null : (s : Sign) → ordering_of s ≡ Equal → s ≡ Null
+equal-null Null h = refl
+equal-null Plus h = cc
+equal-null Minus h = cc
+
+pub less-plus : (s : Sign) → ordering_of s ≡ Less → s ≡ Plus
 less-plus Plus h = refl
 less-plus Null h = cc
 less-plus Minus h = cc
 
+-- a segment's edge runs from its lesser end
 pub rising_edge : (s : Seg) → IsRising (edge_of s)
 rising_edge s = less-plus (order (vector_of s.a) (vector_of s.b)) (sym (loc_cmp-is s.a s.b) ∙ s.rising)

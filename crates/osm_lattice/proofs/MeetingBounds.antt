@@ -5,12 +5,12 @@ use Rattle.std.proofs.Math.Nat.{le_of_mul-le-mul_right}
 use Rattle.plane.specs.RayCrossing.{off_by}
 use Rattle.plane.specs.Sign.{Sign, Minus, Null, Plus, sign, is_plus}
 use Rattle.plane.proofs.SignKit.{times, agree, sign-*, Says, says, agree-sum, all4, all4-out, imp, imp-out, null-zero, same_sign, same-sign-is}
-use Rattle.osm_lattice.proofs.PointsOnEdges.{line_where_on}
 use Rattle.osm_lattice.proofs.Sizes.{product_within, signed}
 use Rattle.osm_lattice.specs.declared.seg.Seg.{Seg}
 use Rattle.osm_lattice.specs.declared.frac.Frac.{Frac}
 use Rattle.osm_lattice.specs.Meeting.{IsOnSegment}
-use Rattle.lists.proofs.Integers.{same_from_difference}
+use Rattle.lists.proofs.ListsKit.{same_from_difference}
+use Rattle.plane.proofs.PlaneKit.{off_by-no}
 
 -- both are Plus, or both are Minus
 abbrev pub alike : Sign → Sign → Bool
@@ -39,7 +39,7 @@ unalike a b c d z line sum back =
 -- seen from a point on the segment between two others, these lie to opposite sides, in x and in y
 pub apart_where_on : (a b c d : ℤ) → off_by (sign (a *ℤ d -ℤ c *ℤ b)) (sign (a *ℤ b +ℤ c *ℤ d)) ≡ false → (not (alike (sign a) (sign b)) ≡ true) × (not (alike (sign c) (sign d)) ≡ true)
 apart_where_on a b c d on =
-    let line : a *ℤ d ≡ c *ℤ b = same_from_difference (a *ℤ d) (c *ℤ b) (null-zero (a *ℤ d -ℤ c *ℤ b) (line_where_on (sign (a *ℤ d -ℤ c *ℤ b)) (sign (a *ℤ b +ℤ c *ℤ d)) on)) in
+    let line : a *ℤ d ≡ c *ℤ b = same_from_difference (a *ℤ d) (c *ℤ b) (null-zero (a *ℤ d -ℤ c *ℤ b) (off_by-no (sign (a *ℤ d -ℤ c *ℤ b)) (sign (a *ℤ b +ℤ c *ℤ d)) on)) in
     let back = not_beside (sign (a *ℤ d -ℤ c *ℤ b)) (sign (a *ℤ b +ℤ c *ℤ d)) on in
     (unalike a b c d (a *ℤ b +ℤ c *ℤ d) line refl back, unalike c d a b (a *ℤ b +ℤ c *ℤ d) (sym line) (turned_sum (a *ℤ b) (c *ℤ d)) back)
   where

@@ -7,9 +7,9 @@ use Rattle.plane.specs.Scale.{scaled_point, scaled_edge}
 use Rattle.plane.specs.Sign.{Sign, Null, Plus, Minus, negated, sign}
 use Rattle.plane.specs.Vector.{Vector, cross, dot, from_to}
 use Rattle.plane.proofs.SignKit.{lift, same, apart, ◌⊞◌, ◌⊟◌, ◌⊠◌, times, sign-*, sign-reversed, null-zero, plus-times, sign-pos}
-use Rattle.plane.proofs.PlaneKit.{rising-direction, orient-round}
-use Rattle.osm_lattice.proofs.PointsOnEdges.{line_where_on}
+use Rattle.plane.proofs.PlaneKit.{rising-direction, orient-round, off_by-no}
 use Rattle.osm_lattice.proofs.Factors.{cancel_factor, some, zero_other}
+use Rattle.lists.proofs.ListsKit.{sum_none}
 
 -- ---- a point seen from a number p of parts before it and a number n of parts behind it, of a whole d: v and w are the steps to the ends, u is the step between them
 module _ (d m n : ℤ) (u v w : Vector) (vx : d *ℤ v.x ≡ m *ℤ u.x) (vy : d *ℤ v.y ≡ m *ℤ u.y) (wx : d *ℤ w.x ≡ n *ℤ u.x) (wy : d *ℤ w.y ≡ n *ℤ u.y) where
@@ -90,11 +90,8 @@ behind_parts (suc p) (suc q) = refl
 
 behind_by : (k : ℤ) (p q : ℕ) → sign k ≡ Plus → behind (sign (pos 0 -ℤ k *ℤ pos p)) (sign (k *ℤ pos q)) ≡ true
 behind_by k p q hk =
-    let back : sign (pos 0 -ℤ k *ℤ pos p) ≡ negated (sign (pos p)) = sign-reversed (k *ℤ pos p) (pos 0 -ℤ k *ℤ pos p) (gone (k *ℤ pos p)) ∙ ap negated (plus-times k (pos p) hk) in
+    let back : sign (pos 0 -ℤ k *ℤ pos p) ≡ negated (sign (pos p)) = sign-reversed (k *ℤ pos p) (pos 0 -ℤ k *ℤ pos p) (sum_none (k *ℤ pos p)) ∙ ap negated (plus-times k (pos p) hk) in
     rw (back, plus-times k (pos q) hk) (behind_parts p q)
-  where
-    gone : (z : ℤ) → z +ℤ (pos 0 -ℤ z) ≡ pos 0
-    gone z = omega (arith, ints)
 
 abbrev pub point_of : ℤ → ℤ → ℤ → ℤ → Vector
 point_of xn xd yn yd = record { x = xn *ℤ yd; y = yn *ℤ xd }
@@ -117,7 +114,7 @@ on_segment e xn yn xd yd d w rising xs ys ds le hx hy =
 pub line_of : (e : Edge) (k : ℤ) (p : Vector) → k ≢ pos 0 → is_off p (scaled_edge k e) ≡ false → cross (from_to e.from e.to) (from_to (scaled_point k e.from) p) ≡ pos 0
 line_of e k p nonzero h =
     let a = scaled_point k e.from in let b = scaled_point k e.to in
-    let none = null-zero (cross (from_to p a) (from_to p b)) (line_where_on (sign (cross (from_to p a) (from_to p b))) (sign (dot (from_to p a) (from_to p b))) h) in
+    let none = null-zero (cross (from_to p a) (from_to p b)) (off_by-no (sign (cross (from_to p a) (from_to p b))) (sign (dot (from_to p a) (from_to p b))) h) in
     zero_other k (cross (from_to e.from e.to) (from_to a p)) nonzero
     (sym (out e.from.x e.from.y e.to.x e.to.y (p.x -ℤ k *ℤ e.from.x) (p.y -ℤ k *ℤ e.from.y)) ∙ orient-round p a b ∙ none)
   where

@@ -1,14 +1,15 @@
 -- Two locations that compare as equal are one, and likewise segments.
-use Rattle.std.proofs.Common.{◌≡◌, ℤ, refl, sym}
+use Rattle.std.proofs.Common.{◌≡◌, ℤ, ap, refl, sym}
 use Rattle.std.proofs.Props.{props}
 use Rattle.std.specs.declared.cmp.Ordering.{Ordering}
 use Rattle.std.specs.declared.cmp.Ordering.TheVariants.{Less, Equal, Greater}
 use Rattle.std.specs.Ordering.{int_cmp, ordering_then}
 use Rattle.std.proofs.lemmas.Cmp.{int_ranked}
+use Rattle.plane.specs.Vector.{Vector}
 use Rattle.osm_lattice.specs.declared.loc.Loc.{Loc}
 use Rattle.osm_lattice.specs.declared.seg.Seg.{Seg}
 use Rattle.osm_lattice.specs.Bounds.{IsLongitude, IsLatitude}
-use Rattle.osm_lattice.specs.Loc.{loc_cmp, IsBefore}
+use Rattle.osm_lattice.specs.Loc.{loc_cmp, vector_of, IsBefore}
 use Rattle.osm_lattice.specs.Seg.{seg_cmp}
 use mathlib.Core.HLevel.{is_prop→PathP}
 
@@ -29,6 +30,10 @@ loc_from_fields p q ex ey = λ i. record {
   x_in = is_prop→PathP (λ j. IsLongitude (ex j)) (λ j. longitude_prop (ex j)) p.x_in q.x_in i;
   y_in = is_prop→PathP (λ j. IsLatitude (ey j)) (λ j. latitude_prop (ey j)) p.y_in q.y_in i;
 }
+
+-- the plane tells locations apart
+pub loc_from_vectors : (p q : Loc) → vector_of p ≡ vector_of q → p ≡ q
+loc_from_vectors p q e = loc_from_fields p q (ap (λ (v : Vector). v.x) e) (ap (λ (v : Vector). v.y) e)
 
 pub seg_from_ends : (s t : Seg) → s.a ≡ t.a → s.b ≡ t.b → s ≡ t
 seg_from_ends s t ea eb = λ i. record {

@@ -15,7 +15,7 @@ use Rattle.osm_lattice.specs.Conflict.{are_overlapping, conflict_of}
 use Rattle.osm_lattice.specs.ConflictTests.{before}
 use Rattle.osm_lattice.proofs.ConflictCases.{where_overlapping}
 use Rattle.osm_lattice.proofs.LocationOrder.{is_lt_before}
-use Rattle.lists.proofs.Orderings.{less_from}
+use Rattle.lists.proofs.ListsKit.{less_from}
 
 before_less : (p q : Loc) → is_plus (order (vector_of p) (vector_of q)) ≡ true → loc_cmp p q ≡ Less
 unfolding before

@@ -7,7 +7,7 @@ use Rattle.plane.specs.Order.{order}
 use Rattle.plane.specs.RayCrossing.{is_off, off_by}
 use Rattle.plane.specs.Sign.{Sign, Null, Plus, Minus, is_minus, is_null, is_plus, negated, sign}
 use Rattle.plane.specs.Vector.{Vector, cross, dot, from_to, orient, same_point}
-use Rattle.plane.proofs.PlaneKit.{clear_misses, inner_point_off, line-order, line-order-up, order-reversed, order-self, order-sum, cross-chain, cross-self, orient-round}
+use Rattle.plane.proofs.PlaneKit.{clear_misses, inner_point_off, line-order, line-order-up, order-reversed, order-self, order-sum, cross-chain, cross-self, orient-round, off_by-no}
 use Rattle.plane.proofs.SignKit.{agree, null-zero, sum-zero-left, times}
 
 -- ---- the signs: where an edge's two ends are in the order, seen from a point on its line
@@ -27,11 +27,6 @@ inner_signs Plus Plus h a b on = absurd (cc on)
 inner_signs Plus Minus h a b on = absurd (cc h)
 inner_signs Plus Null h a b on = absurd (cc b)
 
-pub line_where_on : (c s : Sign) → off_by c s ≡ false → c ≡ Null
-line_where_on Null s h = refl
-line_where_on Plus s h = absurd (cc h)
-line_where_on Minus s h = absurd (cc h)
-
 -- a point on the line of an edge, not before its first end and not after its second
 pub on_where : (p : Vector) (e : Edge) → orient e.from e.to p ≡ Null → not (is_plus (order p e.from)) ≡ true → not (is_minus (order p e.to)) ≡ true → is_off p e ≡ false
 on_where p e line after before =
@@ -43,7 +38,7 @@ on_where p e line after before =
 pub between_where : (p : Vector) (e : Edge) → IsRising e → is_off p e ≡ false → same_point p e.from ≡ false → same_point p e.to ≡ false → IsBetween e.from e.to p
 between_where p e rising on not_from not_to =
     let a = e.from in let b = e.to in let d = from_to a b in
-    let flat = line_where_on (sign (cross (from_to p a) (from_to p b))) (sign (dot (from_to p a) (from_to p b))) on in
+    let flat = off_by-no (sign (cross (from_to p a) (from_to p b))) (sign (dot (from_to p a) (from_to p b))) on in
     let line : sign (cross d (from_to a p)) ≡ Null = ap sign (orient-round p a b) ∙ flat in
     let rest : cross d (from_to p b) ≡ pos 0 = sum-zero-left (cross d (from_to a p)) (cross d (from_to p b)) (cross d d) (null-zero (cross d (from_to a p)) line) (cross-chain d a p b) ∙ cross-self d in
     let sum : agree (order p a) Plus (order p b) ≡ true = rw rising at (order-sum p a b) in

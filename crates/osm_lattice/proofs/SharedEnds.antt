@@ -5,7 +5,7 @@ use Rattle.plane.specs.Edge.{Edge, IsRising, ends_at}
 use Rattle.plane.specs.Order.{order}
 use Rattle.plane.specs.Sign.{Sign, Null, Plus, Minus, negated, sign}
 use Rattle.plane.specs.Vector.{Vector, from_to, orient, same_point}
-use Rattle.lists.proofs.Bools.{not-true-out}
+use Rattle.lists.proofs.ListsKit.{not-true-out}
 use Rattle.plane.proofs.PlaneKit.{cross_by, crosses-by, crosses_reversed, edge_of, order-reversed, order-self-null, same_point-true, cross-here, cross-negated, cross-self, orient-round}
 use Rattle.plane.proofs.SignKit.{all2, all2-out, all-out}
 

@@ -57,14 +57,16 @@ pub fn between(start: i32, end: i32, at: Share) -> i128
 }
 
 fn x_at(s: Seg, at: Share) -> Frac
-    ensures value { result.num *ℤ pos at.den ≡ (s.a.x *ℤ pos (at.den - at.above) +ℤ s.b.x *ℤ pos at.above) *ℤ pos result.den }
+    ensures value { result.num *ℤ pos at.den ≡ (s.a.x *ℤ pos (at.den - at.above)
+        +ℤ s.b.x *ℤ pos at.above) *ℤ pos result.den }
     ensures small { unsigned_abs result.num < 2 ^ 98 }
 {
     Frac::new(between(s.a.x, s.b.x, at), at.den)
 }
 
 fn y_at(s: Seg, at: Share) -> Frac
-    ensures value { result.num *ℤ pos at.den ≡ (s.a.y *ℤ pos (at.den - at.above) +ℤ s.b.y *ℤ pos at.above) *ℤ pos result.den }
+    ensures value { result.num *ℤ pos at.den ≡ (s.a.y *ℤ pos (at.den - at.above)
+        +ℤ s.b.y *ℤ pos at.above) *ℤ pos result.den }
     ensures small { unsigned_abs result.num < 2 ^ 98 }
 {
     Frac::new(between(s.a.y, s.b.y, at), at.den)
@@ -75,9 +77,11 @@ pub fn meeting(s: Seg, t: Seg) -> (Frac, Frac)
     requires { conflict_of s t ≡ Some Kind.Crossing }
     ensures first { IsOnSegment s result.0 result.1 }
     ensures second { IsOnSegment t result.0 result.1 }
-    ensures alone { (x y : Frac) → IsOnSegment s x y → IsOnSegment t x y → (x ≡ result.0) × (y ≡ result.1) }
+    ensures alone { (x y : Frac) → IsOnSegment s x y → IsOnSegment t x y
+        → (x ≡ result.0) × (y ≡ result.1) }
     ensures dens_small { (result.0.den < 2 ^ 64) × (result.1.den < 2 ^ 64) }
-    ensures nums_small { (unsigned_abs result.0.num < 2 ^ 98) × (unsigned_abs result.1.num < 2 ^ 98) }
+    ensures nums_small { (unsigned_abs result.0.num < 2 ^ 98)
+        × (unsigned_abs result.1.num < 2 ^ 98) }
     ensures x_in { unsigned_abs result.0.num ≤ 1_800_000_000 * result.0.den }
     ensures y_in { unsigned_abs result.1.num ≤ 900_000_000 * result.1.den }
 {

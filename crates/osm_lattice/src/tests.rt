@@ -1,3 +1,5 @@
+//! Locations, segments and fractions on numbers worked out by hand.
+
 use super::*;
 use std::test::Fail;
 

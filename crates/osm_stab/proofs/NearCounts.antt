@@ -2,7 +2,6 @@
 use Rattle.std.proofs.Common.{Bool, true, false, cond, List, [], ◌∷◌, ℕ, suc, zero, ◌+◌, ◌<◌, ◌≤◌, ◌≡◌, ◌∙◌, ◌≢◌, refl, sym, ap, subst, arith, get_or, length, ⊎_elim, All, AllPairs, Contains, count_by, is_lt}
 use Rattle.std.specs.List.Sorted.{IsStrictlyIncreasing}
 use Rattle.std.proofs.lemmas.Bool.{cases_eq}
-use Rattle.std.proofs.lemmas.List.Sums.{sum_by-cons}
 use Rattle.std.proofs.lemmas.List.Kept.{AllPairs-from_increasing}
 use Rattle.std.proofs.lemmas.Option.{slice_get-get_or}
 use Rattle.osm_geom.specs.declared.edge.Edge.{Edge}
@@ -10,10 +9,7 @@ use Rattle.osm_geom.specs.declared.point.Point.{Point}
 use Rattle.osm_geom.specs.JustAbove.{just_above_cmp, is_right_of}
 use Rattle.osm_geom.specs.Span.{spans}
 use Rattle.osm_stab.specs.Stab.{HoldsSpanning}
-use Rattle.lists.proofs.Bools.{and-left}
-
-count_cons : {X : Type 0} (f : X → Bool) (x : X) (xs : List X) → count_by f (x ∷ xs) ≡ cond {A = ℕ} (f x) 1 0 + count_by f xs
-count_cons f x xs = sum_by-cons (λ y. cond {A = ℕ} (f y) 1 0) x xs
+use Rattle.lists.proofs.ListsKit.{and-left, count_by-cons}
 
 -- what stands in a list and isn't its head stands in its tail
 later : (i : ℕ) (is : List ℕ) (n : ℕ) → i ≢ n → Contains (i ∷ is) n → Contains is n
@@ -21,7 +17,7 @@ later i is n apart (zero, inside, found) = absurd (apart found)
 later i is n apart (suc m, inside, found) = (m, omega arith, found)
 
 uncounted : {X : Type 0} (f : X → Bool) (x : X) (xs : List X) → f x ≡ false → count_by f xs ≡ count_by f (x ∷ xs)
-uncounted f x xs miss = let e : count_by f xs ≡ 0 + count_by f xs = omega arith in e ∙ ap (λ b. cond {A = ℕ} b 1 0 + count_by f xs) (sym miss) ∙ sym (count_cons f x xs)
+uncounted f x xs miss = let e : count_by f xs ≡ 0 + count_by f xs = omega arith in e ∙ ap (λ b. cond {A = ℕ} b 1 0 + count_by f xs) (sym miss) ∙ sym (count_by-cons f x xs)
 
 module _ {X : Type 0} (f : X → Bool) (g : ℕ → Bool) (d : X) where
   -- the places that are counted, the test there being that of the items from place k on
@@ -67,10 +63,10 @@ module _ {X : Type 0} (f : X → Bool) (g : ℕ → Bool) (d : X) where
   near_from k (x ∷ xs) (i ∷ is) n =
       ⊎_elim
       (λ (here : i ≡ k).
-      count_cons g i is
+      count_by-cons g i is
       ∙ ap (λ b. cond {A = ℕ} b 1 0 + count_by g is) (ap g (here ∙ omega arith) ∙ n.agrees 0 (omega arith))
       ∙ ap (λ m. cond {A = ℕ} (f x) 1 0 + m) (near_from (k + 1) xs is (taken k i x xs is here n))
-      ∙ sym (count_cons f x xs))
+      ∙ sym (count_by-cons f x xs))
       (λ (apart : i ≢ k).
       let above : All (λ j. k < j) (i ∷ is) = above_all apart in
       let miss : f x ≡ false = skips (f x) k x xs (i ∷ is) refl (λ h. let a = above h.0 k h.1 in omega (arith, a, h.2)) n in

@@ -21,7 +21,8 @@ fn is_right_of(e: &Edge, at: &Point, f: &Edge) -> bool
 fn count_at(edges: &[Edge], near: &[usize], e: &Edge, at: &Point) -> u64
     requires spanning { spans e.now at.now ≡ true }
     requires inside { All (λ i. i < length edges.now) near.now }
-    ensures { result ≡ count_by (λ i. is_right_of e.now at.now (get_or edges.now i e.now)) near.now }
+    ensures { result ≡ count_by (λ i. is_right_of e.now at.now (get_or edges.now i e.now))
+        near.now }
 {
     let mut count = 0;
     for &i in near {
@@ -68,8 +69,10 @@ pub trait Stab {
     /// How many of the edges at the height of `at` are right of the one at index `e`, just above that height.
     fn right_of(&self, at: &Point, e: usize) -> u64
         requires inside { e < length (held self.now) }
-        requires spanning { IfSome (slice_get (held self.now) e) (λ edge. spans edge at.now ≡ true) }
-        ensures { IfSome (slice_get (held self.now) e) (λ edge. result ≡ count_by (is_right_of edge at.now) (held self.now)) }
+        requires spanning { IfSome (slice_get (held self.now) e)
+            (λ edge. spans edge at.now ≡ true) }
+        ensures { IfSome (slice_get (held self.now) e)
+            (λ edge. result ≡ count_by (is_right_of edge at.now) (held self.now)) }
     {
         let edges = self.edges();
         count_right_of(edges, self.near(at), &edges[e], at)

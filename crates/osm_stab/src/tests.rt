@@ -1,3 +1,5 @@
+//! Edges at a height, counted to the right of one.
+
 use super::*;
 use osm_geom::{Edge, Edges, Frac, Loc, Part, Point, Seg, spans_height};
 use std::alloc::{AllocError as OutOfMemory, Global};

@@ -16,7 +16,8 @@ pub struct Row {
 /// The code of the row with this key, None where no row has it. The tables are short, so the rows are gone through.
 pub fn look<const N: usize>(rows: &[Row; N], key: u8) -> Option<u16>
     requires { HasRisingKeys rows.now }
-    ensures row { MatchOption result (All (λ r. r.key ≢ key) rows.now) (λ code. HasRow rows.now key code) }
+    ensures row { MatchOption result (All (λ r. r.key ≢ key) rows.now)
+        (λ code. HasRow rows.now key code) }
     ensures value { result ≡ code_of rows.now key }
 {
     for row in rows {

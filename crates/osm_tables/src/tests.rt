@@ -1,3 +1,5 @@
+//! What each table has, row by row.
+
 use super::*;
 use std::test::*;
 

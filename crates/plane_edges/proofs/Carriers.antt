@@ -7,10 +7,9 @@ use Rattle.plane.specs.RayCrossing.{is_off}
 use Rattle.plane.specs.Scale.{scaled_edge, scaled_point}
 use Rattle.plane.specs.Sign.{Null, Plus, sign, then_sign}
 use Rattle.plane.specs.Vector.{Vector, cross, dot, from_to}
-use Rattle.lists.proofs.Bools.{not-true-out}
+use Rattle.lists.proofs.ListsKit.{int_eq-true, not-true-out}
 use Rattle.plane.proofs.SignKit.{lift, same, ◌⊟◌, ◌⊠◌, self-diff}
-use Rattle.lists.proofs.Integers.{int_eq-true}
-use Rattle.plane.proofs.PlaneKit.{same_vector, vector_of, orient-round, cross-scaled, order-scaled}
+use Rattle.plane.proofs.PlaneKit.{same_vector, vector_of, orient-round, cross-scaled, order-scaled, off_by-no}
 use Rattle.osm_geom.specs.declared.edge.Carrier.{Carrier}
 use Rattle.osm_geom.specs.declared.edge.Carrier.TheVariants.{OfSeg, Vertical, Horizontal}
 use Rattle.osm_geom.specs.declared.point.Point.{Point}
@@ -21,7 +20,7 @@ use Rattle.osm_geom.specs.JustAbove.{piece_of}
 use Rattle.osm_lattice.specs.Loc.{step}
 use Rattle.osm_geom.specs.Point.{den_of, whole_of, x_of, y_of}
 use Rattle.osm_lattice.specs.Seg.{edge_of}
-use Rattle.osm_lattice.proofs.LatticeKit.{rising_edge, line_where_on}
+use Rattle.osm_lattice.proofs.LatticeKit.{rising_edge}
 use Rattle.plane_edges.specs.Multiple.{point_times}
 use Rattle.plane_edges.proofs.Commons.{sign-some}
 use Rattle.plane_edges.proofs.Lines.{step_of}
@@ -45,7 +44,7 @@ on_segment : (k : ℕ) (s : Seg) (p : Point) → 1 ≤ k → den_of p ∣ k → 
 on_segment k s p some divides h =
     let d = den_of p in let m = k / d in let w = whole_of p in let whole = factor k d divides in
     let a = scaled_point (pos d) (edge_of s).from in let b = scaled_point (pos d) (edge_of s).to in
-    let on : sign (cross (from_to w a) (from_to w b)) ≡ Null = line_where_on (sign (cross (from_to w a) (from_to w b))) (sign (dot (from_to w a) (from_to w b))) (not-true-out (is_off w (scaled_edge (pos d) (edge_of s))) h) in
+    let on : sign (cross (from_to w a) (from_to w b)) ≡ Null = off_by-no (sign (cross (from_to w a) (from_to w b))) (sign (dot (from_to w a) (from_to w b))) (not-true-out (is_off w (scaled_edge (pos d) (edge_of s))) h) in
     let there = cross-scaled (pos m) (sign-some m (factor-some k d some divides)) a b a w ∙ ap sign (orient-round w a b) ∙ on in
     let from = point-regained m d k (edge_of s).from whole in let to = point-regained m d k (edge_of s).to whole in
     subst (λ u. sign (cross (from_to (scaled_point (pos k) (edge_of s).from) u) (from_to (scaled_point (pos k) (edge_of s).from) (point_times k p))) ≡ Null) to

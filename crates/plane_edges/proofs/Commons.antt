@@ -9,7 +9,7 @@ use Rattle.plane.specs.Vector.{Vector, east}
 use Rattle.winding.specs.EdgeList.{crossing_count, winding_number}
 use Rattle.winding.specs.ScaledEdges.{scaled_edges}
 use Rattle.winding.specs.Sided as winding
-use Rattle.lists.proofs.Members.{all-in, in-all}
+use Rattle.lists.proofs.ListsKit.{all-in, in-all}
 use Rattle.osm_geom.specs.declared.edge.Edge.{Edge}
 use Rattle.osm_geom.specs.declared.point.Point.{Point}
 use Rattle.osm_geom.specs.Point.{den_of, x_of, y_of}

@@ -5,7 +5,7 @@ use Rattle.plane.specs.Sector.{in_sector}
 use Rattle.plane.specs.Sign.{Null, Plus, sign}
 use Rattle.plane.specs.Vector.{IsDirection, Vector, cross, dot}
 use Rattle.plane.proofs.SignKit.{lift, same, ◌⊞◌, ◌⊟◌, ◌⊠◌, null-zero, plus-times}
-use Rattle.plane.proofs.PlaneKit.{same_vector}
+use Rattle.plane.proofs.PlaneKit.{same_vector, cross-times}
 use Rattle.osm_geom.specs.Edge.{opposite}
 use Rattle.plane_edges.specs.OneDirection.{HaveOneDirection}
 
@@ -13,11 +13,6 @@ cross_left-by : (n a b c d : ℤ) → (n *ℤ a) *ℤ d -ℤ (n *ℤ b) *ℤ c �
 cross_left-by n a b c d =
     let n' = lift n in let a' = lift a in let b' = lift b in let c' = lift c in let d' = lift d in
     same ((n' ⊠ a') ⊠ d' ⊟ (n' ⊠ b') ⊠ c') (n' ⊠ (a' ⊠ d' ⊟ b' ⊠ c')) (omega arith)
-
-cross_right-by : (n a b c d : ℤ) → a *ℤ (n *ℤ d) -ℤ b *ℤ (n *ℤ c) ≡ n *ℤ (a *ℤ d -ℤ b *ℤ c)
-cross_right-by n a b c d =
-    let n' = lift n in let a' = lift a in let b' = lift b in let c' = lift c in let d' = lift d in
-    same (a' ⊠ (n' ⊠ d') ⊟ b' ⊠ (n' ⊠ c')) (n' ⊠ (a' ⊠ d' ⊟ b' ⊠ c')) (omega arith)
 
 dot_left-by : (n a b c d : ℤ) → (n *ℤ a) *ℤ c +ℤ (n *ℤ b) *ℤ d ≡ n *ℤ (a *ℤ c +ℤ b *ℤ d)
 dot_left-by n a b c d =
@@ -28,10 +23,6 @@ dot_right-by : (n a b c d : ℤ) → a *ℤ (n *ℤ c) +ℤ b *ℤ (n *ℤ d) �
 dot_right-by n a b c d =
     let n' = lift n in let a' = lift a in let b' = lift b in let c' = lift c in let d' = lift d in
     same (a' ⊠ (n' ⊠ c') ⊞ b' ⊠ (n' ⊠ d')) (n' ⊠ (a' ⊠ c' ⊞ b' ⊠ d')) (omega arith)
-
--- a product with a vector multiplied
-pub cross-times : (n : ℤ) (v w : Vector) → cross v (scaled_point n w) ≡ n *ℤ cross v w
-cross-times n v w = cross_right-by n v.x v.y w.x w.y
 
 pub cross-left : (n : ℤ) (v w : Vector) → sign n ≡ Plus → sign (cross (scaled_point n v) w) ≡ sign (cross v w)
 cross-left n v w h = ap sign (cross_left-by n v.x v.y w.x w.y) ∙ plus-times n (cross v w) h

@@ -7,11 +7,11 @@ use Rattle.plane.specs.Scale.{scaled_edge, scaled_point}
 use Rattle.plane.specs.Sign.{Null, Plus, sign, then_sign}
 use Rattle.plane.specs.Vector.{Vector, cross, from_to}
 use Rattle.plane.proofs.SignKit.{lift, same, ◌⊞◌, ◌⊟◌, ◌⊠◌, null-zero, plus-times}
-use Rattle.plane.proofs.PlaneKit.{same_vector, vector_of, cross2, from_to2, lift2, cross-scaled}
+use Rattle.plane.proofs.PlaneKit.{same_vector, vector_of, cross2, from_to2, lift2, cross-scaled, cross-times}
 use Rattle.osm_geom.proofs.GeometryKit.{rise_scaled}
 use Rattle.plane_edges.specs.OneDirection.{HaveOneDirection}
-use Rattle.plane_edges.proofs.Directions.{along-cross, cross-times}
-use Rattle.lists.proofs.Integers.{less_nothing}
+use Rattle.plane_edges.proofs.Directions.{along-cross}
+use Rattle.lists.proofs.ListsKit.{less_nothing}
 
 abbrev pub step_of : Edge → Vector
 step_of t = from_to t.from t.to

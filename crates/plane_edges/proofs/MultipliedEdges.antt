@@ -13,8 +13,7 @@ use Rattle.plane.specs.Vector.{Vector, cross, dot, from_to}
 use Rattle.plane.proofs.PlaneKit.{same_edge_by, line-order-up, order-null, order-reversed, rising-direction, same_vector, vector_of, cross-chain, from_to-scaled, point-twice}
 use Rattle.plane.proofs.SignKit.{lift, same, ◌⊠◌, null-zero, plus-times, sign-reversed}
 use Rattle.lists.specs.Member.{In}
-use Rattle.lists.proofs.Members.{in-all}
-use Rattle.lists.proofs.Integers.{rest_nothing}
+use Rattle.lists.proofs.ListsKit.{in-all, rest_nothing}
 use Rattle.osm_geom.specs.declared.edge.Carrier.{Carrier}
 use Rattle.osm_geom.specs.declared.edge.Edge.{Edge}
 use Rattle.osm_geom.specs.declared.point.Point.{Point}
