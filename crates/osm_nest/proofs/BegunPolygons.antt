@@ -18,8 +18,7 @@ use Rattle.winding.specs.EdgeList.{crossing_count}
 use Rattle.lists.specs.Member.{In}
 use Rattle.winding.specs.Parity.{is_even}
 use Rattle.winding.specs.ScaledEdges.{scaled_edges}
-use Rattle.lists.proofs.Members.{all-either, all-in, in-all, in-either, in-left, in-map-out, in-right}
-use Rattle.lists.proofs.Sums.{total, total-++, total-is, total-map}
+use Rattle.lists.proofs.ListsKit.{all-either, all-in, in-all, in-either, in-left, in-map-out, in-right, total, total-++, total-is, total-map}
 use Rattle.osm_geom.specs.declared.edge.Edge.{Edge}
 use Rattle.osm_geom.specs.Point.{den_of}
 use Rattle.osm_nest.specs.declared.polygon.Polygon.{Polygon}
@@ -27,7 +26,7 @@ use Rattle.osm_nest.specs.Cover.{AreSided, covers_at}
 use Rattle.osm_nest.specs.Nested.{AreFromLeast, ArePolygonsFromLeast, ArePolygonsOf, IsPolygonFromLeast}
 use Rattle.osm_nest.specs.Polygons.{edges_in, polygon_times, rings_in, rings_of}
 use Rattle.osm_nest.specs.RingLists.{AreRings, all_edges, whole_rings}
-use Rattle.osm_rings.specs.Turned.{IsTurned}
+use Rattle.lists.specs.Rotated.{IsRotated}
 use Prim.Native.Nat.{◌∣◌}
 use Rattle.plane_edges.specs.Multiple.{IsCommon, IsWholeAt, common_den, edge_times, edges_times}
 use Rattle.plane_edges.specs.Sided.{IsSided, count_at}
@@ -46,7 +45,7 @@ module _ (k : ℕ) where
   rings-sum : (f : plane.Edge → ℕ) (rs : List (List Edge)) → total f (edges_times k (all_edges rs)) ≡ total (ring-sum f) rs
   rings-sum f rs = ap (total f) (sym (whole-edges rs)) ∙ total-edges f (map (edges_times k) rs) ∙ total-map (total f) (edges_times k) rs
 
-  turned-sum : (f : plane.Edge → ℕ) (p q : List Edge) → IsTurned p q → ring-sum f q ≡ ring-sum f p
+  turned-sum : (f : plane.Edge → ℕ) (p q : List Edge) → IsRotated p q → ring-sum f q ≡ ring-sum f p
   turned-sum f p q t =
       let g = λ (e : Edge). f (edge_times k e) in
       let a = total-map f (edge_times k) p in let b = total-map f (edge_times k) q in

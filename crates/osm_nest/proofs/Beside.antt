@@ -3,7 +3,7 @@ use Rattle.std.proofs.Common.{◌≡◌, inl, inr, true, false, ◌&&◌, ℕ, L
 use Rattle.std.specs.Ordering.{is_lt}
 use Rattle.plane.specs.Height.{is_in_span, is_right_above, order_above}
 use Rattle.plane.specs.Sign.{is_plus}
-use Rattle.lists.proofs.Bools.{and-left}
+use Rattle.lists.proofs.ListsKit.{and-left}
 use Rattle.std.proofs.lemmas.Bool.{false_from_ne_true}
 use Rattle.plane.proofs.PlaneKit.{right_chain, right_itself}
 use Rattle.osm_geom.specs.declared.edge.Edge.{Edge}

@@ -15,8 +15,7 @@ use Rattle.lists.specs.Member.{In}
 use Rattle.winding.specs.Parity.{is_even}
 use Rattle.winding.specs.Ring.{IsAnchor, segments_of}
 use Rattle.winding.proofs.WindingKit.{anchor_one, anchor_span}
-use Rattle.lists.proofs.Members.{in-map, in-map-out}
-use Rattle.lists.proofs.Maps.{map-map}
+use Rattle.lists.proofs.ListsKit.{at-in, clash, in-at, in-map, in-map-out, map-map}
 use Rattle.osm_geom.specs.declared.edge.Edge.{Edge}
 use Rattle.plane_edges.specs.Multiple.{IsWholeAt, common_den, edge_times, edges_times}
 use Rattle.osm_nest.specs.declared.enclosers.Encloser.{Encloser}
@@ -24,11 +23,9 @@ use Rattle.osm_nest.specs.Beside.{IsEncloser, IsNearestUpTo, IsSloping, is_aroun
 use Rattle.osm_nest.specs.Enclosers.{segments_at}
 use Rattle.osm_nest.specs.Outer.{AreConflictFree, IsAnchorOf, IsInner, IsOuter}
 use Rattle.osm_nest.specs.RingLists.{AreRings, all_edges, whole_rings}
-use Rattle.lists.proofs.Bools.{clash}
 use Rattle.osm_nest.proofs.Beside.{nearer-at, right-at}
 use Rattle.osm_nest.proofs.Further.{part}
 use Rattle.osm_nest.proofs.InPlane.{segment_at, segments_times, spans-at}
-use Rattle.lists.proofs.Items.{at-in, in-at}
 use Rattle.osm_nest.proofs.MultipliedRings as rings
 use Rattle.osm_nest.proofs.Nearest.{nearer-either}
 

@@ -15,8 +15,7 @@ use Rattle.lists.specs.Member.{EachPair, In}
 use Rattle.winding.specs.Ring.{IsAnchor, segments_of}
 use Rattle.winding.specs.ScaledEdges.{scaled_edges}
 use Rattle.winding.proofs.WindingKit.{rising_in, direct-by, others-scaled, plain_scaled}
-use Rattle.lists.proofs.Members.{all-in, in-all, in-left, in-map, in-map-out, in-right}
-use Rattle.lists.proofs.Maps.{map-map, map-same}
+use Rattle.lists.proofs.ListsKit.{all-in, in-all, in-left, in-map, in-map-out, in-right, map-map, map-same}
 use Rattle.osm_geom.specs.declared.edge.Edge.{Edge}
 use Rattle.osm_geom.specs.Point.{den_of}
 use Rattle.plane_edges.specs.Multiple.{IsCommon, IsWholeAt, common_den, edge_times, edges_times}

@@ -11,8 +11,7 @@ use Rattle.nesting.proofs.NestingKit.{inner-out, is_outer_by, outer-out, sided-o
 use Rattle.plane.specs.Edge as plane
 use Rattle.lists.specs.Member.{EachPair, In}
 use Rattle.winding.specs.Ring.{segments_of}
-use Rattle.lists.proofs.Members.{all-in, in-all, in-either, in-filter, in-map, in-map-out, in-passes, pairs-each, pairs-into-map, pairs-weaker, total-filter, total-same}
-use Rattle.lists.proofs.Sums.{both_conds, cond-+, cond-total, cond_none, none-sum, swap-sums, total, total-+, total-is, total-map}
+use Rattle.lists.proofs.ListsKit.{all-in, at-in, both_conds, clash, cond-+, cond-total, cond_none, in-all, in-either, in-filter, in-map, in-map-out, in-passes, none-sum, pairs-each, pairs-into-map, pairs-weaker, some_member, swap-sums, total, total-+, total-filter, total-is, total-map, total-same}
 use Rattle.osm_geom.specs.declared.edge.Edge.{Edge}
 use Rattle.osm_nest.specs.declared.rings_from_least.RingFromLeast.{RingFromLeast}
 use Rattle.osm_nest.specs.declared.polygon.Polygon.{Polygon}
@@ -28,8 +27,6 @@ use Rattle.osm_nest.proofs.InPlane.{whole-at}
 use Rattle.osm_nest.proofs.DirectEnclosers.{inner-at, outer-at}
 use Rattle.osm_nest.proofs.TurnedAnchors.{runs-turned}
 use Rattle.osm_nest.proofs.BegunPolygons.{cover_begun, rings-total, sided_begun}
-use Rattle.lists.proofs.Bools.{clash}
-use Rattle.lists.proofs.Items.{at-in, some_member}
 use Rattle.osm_nest.proofs.Listing.{turned_all}
 use Rattle.osm_nest.proofs.Places.{placed, rings-apart, stand, sum-all, sum-one}
 use Rattle.plane_edges.specs.Multiple.{IsWholeAt, common_den, edges_times}

@@ -6,12 +6,13 @@ use Rattle.std.specs.Ordering.{is_lt}
 use Rattle.plane.specs.Edge as plane
 use Rattle.plane.specs.Height.{is_in_span, order_above}
 use Rattle.plane.specs.Order.{order}
-use Rattle.plane.specs.Sign.{Minus, Null, Plus, Sign, is_plus}
+use Rattle.plane.specs.Sign.{is_plus}
 use Rattle.lists.specs.Member.{In}
 use Rattle.osm_geom.specs.declared.edge.Edge.{Edge}
 use Rattle.osm_geom.specs.Edge.{runs_up}
 use Rattle.osm_geom.specs.JustAbove.{just_above_cmp}
 use Rattle.osm_lattice.specs.OrderLaws.{ordering_of}
+use Rattle.osm_lattice.proofs.LatticeKit.{is_lt-plus}
 use Rattle.osm_geom.specs.Point.{den_of, point_cmp}
 use Rattle.osm_geom.specs.Span.{lower_end, spans}
 use Rattle.plane_edges.specs.Multiple.{IsWholeAt, common_den, edge_times, point_times}
@@ -32,11 +33,6 @@ pub common-append : (xs ys : List Edge) → common_den (xs ++ ys) ≡ common_den
 common-append [] ys = let e : 1 * common_den ys ≡ common_den ys = omega arith in sym e
 common-append (x ∷ xs) ys =
     ap (λ n. den_of x.from * den_of x.to * n) (common-append xs ys) ∙ sym (mul_assoc (den_of x.from * den_of x.to) (common_den xs) (common_den ys))
-
-pub lt-plus : (s : Sign) → is_lt (ordering_of s) ≡ is_plus s
-lt-plus Plus = refl
-lt-plus Null = refl
-lt-plus Minus = refl
 
 module _ (k : ℕ) where
   lower-by : (e : Edge) (b : Bool) → point_times k (cond b e.from e.to) ≡ (cond b (edge_times k e) (plane.reversed (edge_times k e))).from
@@ -59,7 +55,7 @@ module _ (k : ℕ) where
 
   pub above-at : (a f g : Edge) → IsWholeAt k a → IsWholeAt k f → IsWholeAt k g → is_lt (just_above_cmp f g (lower_end a)) ≡ is_plus (order_above (segment_at k a).from (segment_at k f) (segment_at k g))
   above-at a f g w v u =
-      ap is_lt (just_above_alike k f g (lower_end a) v u (lower-den a w)) ∙ lt-plus (order_above (point_times k (lower_end a)) (segment_at k f) (segment_at k g))
+      ap is_lt (just_above_alike k f g (lower_end a) v u (lower-den a w)) ∙ is_lt-plus (order_above (point_times k (lower_end a)) (segment_at k f) (segment_at k g))
       ∙ ap (λ p. is_plus (order_above p (segment_at k f) (segment_at k g))) (lower-at a w)
 
   pub order-at : (e f : Edge) → IsWholeAt k e → IsWholeAt k f → point_cmp (lower_end e) (lower_end f) ≡ ordering_of (order (segment_at k e).from (segment_at k f).from)

@@ -12,10 +12,9 @@ use Rattle.plane.specs.Edge as plane
 use Rattle.plane.specs.Height.{is_in_span}
 use Rattle.plane.specs.Sign.{Minus, Null, Plus, Sign, is_plus, sign}
 use Rattle.plane.specs.Vector.{Vector}
-use Rattle.lists.proofs.Bools.{and-left, and-right}
+use Rattle.lists.proofs.ListsKit.{all-in, and-left, and-right, in-all, in-either, in-filter, in-map}
 use Rattle.plane.proofs.SignKit.{says-at, sign-from}
 use Rattle.lists.specs.Member.{In}
-use Rattle.lists.proofs.Members.{all-in, in-all, in-either, in-filter, in-map}
 use Rattle.status.specs.Status.{IsStatus}
 use Rattle.status.proofs.StatusKit.{climbs}
 use Rattle.osm_geom.specs.declared.edge.Edge.{Edge}

@@ -8,12 +8,11 @@ use Rattle.plane.specs.Height.{is_in_span, is_right_above}
 use Rattle.plane.specs.Sign.{is_plus, sign}
 use Rattle.plane.specs.Vector.{Vector}
 use Rattle.std.proofs.lemmas.Bool.{and_from}
-use Rattle.lists.proofs.Bools.{and-left}
+use Rattle.lists.proofs.ListsKit.{and-left, at-in, in-all, in-filter, in-map, in-map-out, in-passes}
 use Rattle.plane.proofs.PlaneKit.{right_of, tall-by}
 use Rattle.plane.proofs.SignKit.{self-diff}
 use Rattle.lists.specs.Member.{In}
 use Rattle.winding.specs.Ring.{IsAnchor}
-use Rattle.lists.proofs.Members.{in-all, in-filter, in-map, in-map-out, in-passes}
 use Rattle.status.specs.Status.{IsStatus}
 use Rattle.status.proofs.StatusKit.{nearest}
 use Rattle.osm_geom.specs.declared.edge.Edge.{Edge}
@@ -26,7 +25,6 @@ use Rattle.osm_nest.specs.Outer.{IsAnchorOf, IsInner, IsOuter}
 use Rattle.osm_nest.specs.RingLists.{AreRings, all_edges, whole_rings}
 use Rattle.osm_nest.proofs.DirectEnclosers.{anchor-up, inner-encloser, listed, nest, outer-encloser, place-of, segments-at, sized, whole-in}
 use Rattle.osm_nest.proofs.InPlane.{segment_at, spans-at}
-use Rattle.lists.proofs.Items.{at-in}
 
 module _ (rs : List (List Edge)) (are : AreRings rs) (items : List RingEdge) (of : AreSlopingEdges rs items) where
   abbrev K : ℕ

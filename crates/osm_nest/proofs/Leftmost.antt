@@ -1,6 +1,5 @@
 -- The edge that comes first of a list is its anchor.
 use Rattle.std.proofs.Common.{◌≡◌, Bool, true, false, not, ◌&&◌, ◌||◌, ℕ, ◌+◌, ◌<◌, ◌*ℤ◌, ◌-ℤ◌, ℤ, pos, List, length, get_or, map, refl, sym, ap, subst, ◌∙◌, arith, ⊎_elim, cond}
-use Rattle.std.specs.declared.cmp.Ordering.TheVariants.{Equal}
 use Rattle.std.specs.Ordering.{is_lt}
 use Rattle.std.proofs.lemmas.Bool.{cases_lt}
 use Rattle.std.proofs.lemmas.Int.{ints}
@@ -17,7 +16,7 @@ use Rattle.winding.specs.ConflictFree.{IsConflictFree}
 use Rattle.lists.specs.Member.{In}
 use Rattle.winding.specs.Ring.{IsAnchor}
 use Rattle.winding.proofs.WindingKit.{some-anchor}
-use Rattle.lists.proofs.Members.{in-map, in-map-out, into-filter}
+use Rattle.lists.proofs.ListsKit.{in-at, in-map, in-map-out, into-filter, item-in}
 use Rattle.osm_geom.specs.declared.edge.Edge.{Edge}
 use Rattle.osm_geom.specs.JustAbove.{just_above_cmp}
 use Rattle.osm_lattice.specs.OrderLaws.{ordering_of}
@@ -25,7 +24,6 @@ use Rattle.osm_geom.specs.Span.{lower_end, spans}
 use Rattle.plane_edges.specs.Multiple.{IsWholeAt, common_den}
 use Rattle.plane_edges.proofs.EdgesKit.{segment_rises}
 use Rattle.osm_nest.specs.Leftmost.{comes_first, first_of, forks_left}
-use Rattle.lists.proofs.Items.{in-at, item-in}
 use Rattle.osm_nest.proofs.InPlane.{above-at, order-at, segment_at, spans-at, whole-at}
 
 -- ---- two segments from one point: which runs to the left
@@ -64,11 +62,6 @@ fork-plane s t rs rt e =
     ∙ ap (λ b. b && (not (is_plus (sign (s.to.y -ℤ s.from.y))) || is_plus (orient s.from s.to t.to))) (sym span_t)
     ∙ ap (λ b. is_in_span s.from t && (not b || is_plus (orient s.from s.to t.to))) (sym (own-span s))
     ∙ ap (λ o. is_in_span s.from t && (not (is_in_span s.from s) || is_plus o)) (sym (above-fork s t e))
-
-equal-null : (s : Sign) → ordering_of s ≡ Equal → s ≡ Null
-equal-null Plus h = cc
-equal-null Null h = refl
-equal-null Minus h = cc
 
 -- ---- the code's tests in the plane's words
 abbrev first_by : Sign → Bool → Bool

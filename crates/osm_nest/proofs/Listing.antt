@@ -6,24 +6,12 @@ use Rattle.std.proofs.Math.Seq.{get_or-append_seam}
 use Rattle.osm_geom.specs.declared.edge.Edge.{Edge}
 use Rattle.osm_nest.specs.declared.rings_from_least.RingFromLeast.{RingFromLeast}
 use Rattle.osm_nest.specs.Grouped.{AreListed, IsFromLeastAt}
-use Rattle.osm_rings.specs.Turned.{IsTurned}
-use Rattle.lists.specs.Member.{In}
-use Rattle.lists.proofs.Members.{all-either, all-in, in-all, in-either, in-left, in-right}
-
--- what is begun elsewhere has the same edges
-pub turned-in : (p q : List Edge) → IsTurned p q → (e : Edge) → In e q → In e p
-turned-in p q t e i =
-    all-either (λ x. In x p) t.back t.front e
-    (λ x j. subst (In x) (sym t.old) (in-right t.front t.back x j))
-    (λ x j. subst (In x) (sym t.old) (in-left t.front t.back x j))
-    (in-either t.back t.front e (subst (In e) t.new i))
-
-pub turned-back : (p q : List Edge) → IsTurned p q → (e : Edge) → In e p → In e q
-turned-back p q t = turned-in q p (record { front = t.back; back = t.front; old = t.new; new = t.old })
+use Rattle.lists.specs.Rotated.{IsRotated}
+use Rattle.lists.proofs.ListsKit.{all-in, in-all, rotated-in}
 
 -- and what holds of all of them holds still
-pub turned_all : (P : Edge → Type 0) (p q : List Edge) → IsTurned p q → All P p → All P q
-turned_all P p q t all = all-in P q (λ e i. in-all P p e all (turned-in p q t e i))
+pub turned_all : (P : Edge → Type 0) (p q : List Edge) → IsRotated p q → All P p → All P q
+turned_all P p q t all = all-in P q (λ e i. in-all P p e all (rotated-in p q t e i))
 
 listed-more : (rs : List (List Edge)) (n : ℕ) (bs : List RingFromLeast) (b : RingFromLeast) → AreListed rs n bs → IsFromLeastAt (get_or rs n []) n b → AreListed rs (n + 1) (bs ++ b ∷ [])
 listed-more rs n bs b are one =

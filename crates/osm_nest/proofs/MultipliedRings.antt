@@ -13,10 +13,8 @@ use Rattle.winding.specs.ConflictFree.{IsConflictFree}
 use Rattle.winding.specs.EdgeList.{IsEvenAtPoints}
 use Rattle.lists.specs.Member.{In}
 use Rattle.winding.specs.Ring.{IsAnchor, segments_of}
-use Rattle.lists.proofs.Members.{in-map, in-map-out, total-same}
+use Rattle.lists.proofs.ListsKit.{in-map, in-map-out, map-map, not-same, total-is, total-map, total-same}
 use Rattle.winding.proofs.WindingKit.{ring-even}
-use Rattle.lists.proofs.Maps.{map-map}
-use Rattle.lists.proofs.Sums.{total-is, total-map}
 use Rattle.osm_geom.specs.declared.edge.Edge.{Edge}
 use Rattle.osm_geom.specs.Edge.{runs_up}
 use Rattle.osm_geom.specs.Point.{den_of}
@@ -29,7 +27,6 @@ use Rattle.osm_nest.proofs.Beside.{right-at}
 use Rattle.osm_nest.proofs.Further.{anchor-further, anchor-nearer, plain-nearer}
 use Rattle.osm_nest.proofs.InPlane.{segment_at, segments_times, whole-at}
 use Rattle.osm_nest.proofs.RingAnchors.{anchor-along, anchor-of, segments-are}
-use Rattle.lists.proofs.Bools.{not-same}
 
 -- the common denominator of all rings is a multiple of that of r
 abbrev pub Divides : List (List Edge) → List Edge → Type 0

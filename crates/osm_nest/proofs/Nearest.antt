@@ -10,15 +10,13 @@ use Rattle.plane.proofs.PlaneKit.{right_of}
 use Rattle.winding.specs.ConflictFree.{IsConflictFree}
 use Rattle.lists.specs.Member.{In}
 use Rattle.winding.specs.Parity.{is_even}
-use Rattle.lists.proofs.Sums.{total-is}
-use Rattle.lists.proofs.Members.{in-either, in-left, in-map, in-right, into-filter, total_none}
+use Rattle.lists.proofs.ListsKit.{clash, in-either, in-left, in-map, in-right, into-filter, not-false-out, total-is, total_none}
 use Rattle.nesting.proofs.NestingKit.{beyond-order, pairs-of}
 use Rattle.std.specs.List.{count_by, filter}
 use Rattle.osm_geom.specs.declared.edge.Edge.{Edge}
 use Rattle.osm_nest.specs.declared.enclosers.Encloser.{Encloser}
 use Rattle.osm_nest.specs.Beside.{IsBestUpTo, IsEncloser, IsEncloserAt, IsEncloserBy, IsNearest, IsNearestRight, IsNearestUpTo, IsRight, nearer_encloser, nearest_so_far, is_around, is_nearer, is_right_of, nearer_edge}
 use Rattle.osm_nest.specs.Outer.{AreConflictFree, IsOuter}
-use Rattle.lists.proofs.Bools.{clash, not-false-out}
 use Rattle.osm_nest.proofs.Beside.{nearer-at, nearer-chain, not-nearer, not-nearer-itself, right-at}
 use Rattle.osm_nest.proofs.Further.{one-more, plain-further}
 use Rattle.osm_nest.proofs.InPlane.{segment_at, segments_times, whole-at}

@@ -11,10 +11,9 @@ use Rattle.lists.specs.Member.{In}
 use Rattle.winding.specs.Parity.{is_even}
 use Rattle.winding.specs.Ring.{segments_of}
 use Rattle.winding.proofs.WindingKit.{anchor_one}
-use Rattle.lists.proofs.Members.{all-in, in-all, in-map, total_none}
-use Rattle.lists.proofs.Sums.{total, total-++, total-is}
+use Rattle.lists.proofs.ListsKit.{all-in, in-all, in-map, rotated-back, total, total-++, total-is, total_none}
 use Rattle.osm_geom.specs.declared.edge.Edge.{Edge}
-use Rattle.osm_rings.specs.Turned.{IsTurned}
+use Rattle.lists.specs.Rotated.{IsRotated}
 use Rattle.plane_edges.specs.Multiple.{common_den, edges_times}
 use Rattle.plane_edges.proofs.EdgesKit.{common_is_common}
 use Rattle.osm_nest.specs.declared.polygon.Polygon.{Polygon}
@@ -41,7 +40,7 @@ begun-from : (rs bs : List (List Edge)) → AreFromLeast rs bs → (b : List Edg
 begun-from [] bs h b i = absurd (subst (In b) h i)
 begun-from (r ∷ rs) bs h b i = begun-by r rs h.0 h.1 h.3 b (subst (In b) h.2 i) (begun-from rs h.1 h.4 b)
 
-turned-around : (a : Edge) (p q : List Edge) → IsTurned p q → is_around a q ≡ is_around a p
+turned-around : (a : Edge) (p q : List Edge) → IsRotated p q → is_around a q ≡ is_around a p
 turned-around a p q t =
     let f = λ (e : Edge). bit (is_right_of a e) in
     let x = ap (total f) t.old in let y = ap (total f) t.new in
@@ -49,9 +48,6 @@ turned-around a p q t =
     let s = total-is f p in let u = total-is f q in
     let same : count_by (is_right_of a) q ≡ count_by (is_right_of a) p = omega arith in
     ap (λ k. not (is_even k)) same
-
-back-turned : (p q : List Edge) → IsTurned p q → IsTurned q p
-back-turned p q t = record { front = t.back; back = t.front; old = t.new; new = t.old }
 
 module _ (rs : List (List Edge)) (are : AreRings rs) where
   abbrev K : ℕ
@@ -131,7 +127,7 @@ module _ (rs : List (List Edge)) (are : AreRings rs) where
     is-around : IsAroundInners b
     is-around = all-in (λ (inner : List Edge). (anchor : Edge) → IsAnchorOf anchor inner → is_around anchor b.outer ≡ true) b.inners (λ r i a an.
         let w = begun-from g.inners b.inners is.inners r i in
-        turned-around a g.outer b.outer is.outer.turned ∙ around w.0 w.1 a (anchor-turned r w.0 (back-turned w.0 r w.2.turned) a an))
+        turned-around a g.outer b.outer is.outer.turned ∙ around w.0 w.1 a (anchor-turned r w.0 (rotated-back w.0 r w.2.turned) a an))
 
 pub nested-kinds : (rs : List (List Edge)) (nested : List Polygon) → AreRings rs → AreNested rs nested → All HasKinds nested
 nested-kinds rs nested are is = all-in HasKinds nested (λ b i.

@@ -6,10 +6,9 @@ use Rattle.std.proofs.lemmas.Bool.{eq-eqb, eqb-true, and_from, and_parts}
 use Rattle.nesting.specs.RingList.{IsRingList}
 use Rattle.plane.specs.Bit.{bit}
 use Rattle.plane.specs.Vector.{same_point}
-use Rattle.plane.proofs.PlaneKit.{same_point-refl, same_point-true, order-self-null}
+use Rattle.plane.proofs.PlaneKit.{same_point-refl, same_point-true}
 use Rattle.lists.specs.Member.{In}
-use Rattle.lists.proofs.Members.{all-in, in-all, total_none}
-use Rattle.lists.proofs.Sums.{total, total-++, total-is}
+use Rattle.lists.proofs.ListsKit.{all-in, in-all, or-out, total, total-++, total-is, total_none}
 use Rattle.osm_geom.specs.declared.edge.Carrier.{Carrier}
 use Rattle.osm_geom.specs.declared.edge.Carrier.TheVariants.{OfSeg, Vertical, Horizontal}
 use Rattle.osm_geom.specs.declared.edge.Edge.{Edge}
@@ -23,16 +22,9 @@ use Rattle.plane_edges.specs.Sided.{IsSided}
 use Rattle.osm_geom.specs.WholeSegment.{IsWholeSegment}
 use Rattle.osm_rings.specs.Laws.{RingsOfEdgesDoNotCross}
 use Rattle.osm_rings.specs.RingList.{AreRingsOf}
-use Rattle.plane.specs.Order.{order}
-use Rattle.osm_lattice.specs.OrderLaws.{ordering_of}
-use Rattle.osm_lattice.proofs.LatticeKit.{loc_cmp-is, loc_same}
+use Rattle.osm_lattice.proofs.LatticeKit.{loc_from_vectors}
 use Rattle.osm_nest.specs.RingLists.{AreRings, all_edges}
-use Rattle.lists.proofs.Bools.{or-out}
 use Rattle.plane.proofs.SignKit.{bit-yes}
-
--- the plane tells locations apart
-same-location : (p q : Loc) → vector_of p ≡ vector_of q → p ≡ q
-same-location p q e = loc_same p q (loc_cmp-is p q ∙ ap ordering_of (ap (λ v. order v (vector_of q)) e ∙ order-self-null (vector_of q)))
 
 -- ---- whether an edge runs along a whole segment, as a test
 abbrev is_at : Point → Loc → Bool
@@ -44,7 +36,7 @@ at-own : (q : Loc) → is_at (Lattice q) q ≡ true
 at-own q = same_point-refl (vector_of q)
 
 at-out : (p : Point) (q : Loc) → is_at p q ≡ true → p ≡ Lattice q
-at-out (Lattice p) q h = ap (λ l. Lattice l) (same-location p q (same_point-true (vector_of p) (vector_of q) h))
+at-out (Lattice p) q h = ap (λ l. Lattice l) (loc_from_vectors p q (same_point-true (vector_of p) (vector_of q) h))
 at-out (OnVertical c y) q h = cc
 at-out (OnHorizontal x d) q h = cc
 

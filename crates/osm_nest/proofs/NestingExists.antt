@@ -13,7 +13,7 @@ use Rattle.nesting.proofs.NestingKit.{encloser_exists, is_outer_by, outer-in, ri
 use Rattle.plane.specs.Edge as plane
 use Rattle.lists.specs.Member.{In}
 use Rattle.winding.specs.Ring.{segments_of}
-use Rattle.lists.proofs.Members.{in-map}
+use Rattle.lists.proofs.ListsKit.{at-in, in-at, in-map}
 use Rattle.osm_geom.specs.declared.edge.Edge.{Edge}
 use Rattle.osm_geom.specs.Point.{point_cmp}
 use Rattle.plane_edges.specs.Multiple.{common_den, edge_times, edges_times}
@@ -24,7 +24,6 @@ use Rattle.osm_nest.specs.Enclosers.{AreDirectEnclosers, IsDirectEncloser, segme
 use Rattle.osm_nest.specs.Nested.{AreNested, IsFromLeast}
 use Rattle.osm_nest.specs.RingLists.{AreRings, all_edges, whole_rings}
 use Rattle.osm_nest.proofs.GroupedRings.{nested}
-use Rattle.lists.proofs.Items.{at-in, in-at}
 use Rattle.osm_nest.proofs.Turns.{starts-total, turns}
 use Rattle.osm_rings.specs.LeastStart.{IsLesserStart}
 use Rattle.osm_rings.proofs.LeastStarts.{IsLeastUpTo, least-more, least-start}

@@ -9,9 +9,8 @@ use Rattle.nesting.proofs.NestingKit.{Once, once-apart}
 use Rattle.plane.specs.Bit.{bit}
 use Rattle.plane.specs.Edge as plane
 use Rattle.lists.specs.Member.{In}
-use Rattle.lists.proofs.Members.{all-in, in-left, in-right, pairs-right}
+use Rattle.lists.proofs.ListsKit.{all-in, in-left, in-right, pairs-right, total, total-is}
 use Rattle.winding.proofs.WindingKit.{total-member}
-use Rattle.lists.proofs.Sums.{total, total-is}
 use Rattle.osm_geom.specs.declared.edge.Edge.{Edge}
 use Rattle.osm_nest.specs.declared.rings_from_least.RingFromLeast.{RingFromLeast}
 use Rattle.osm_nest.specs.Grouped.{AreListed, ArePlaced, IsFromLeastAt}

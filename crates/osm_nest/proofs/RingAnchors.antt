@@ -15,8 +15,7 @@ use Rattle.winding.specs.Ring.{IsAnchor, IsPath, segments_of}
 use Rattle.winding.specs.Ring as winding
 use Rattle.winding.specs.ScaledEdges.{scaled_edges}
 use Rattle.winding.proofs.WindingKit.{anchor_one, ring_by_anchor, rising_in, plain_scaled}
-use Rattle.lists.proofs.Members.{in-map, pairs-map}
-use Rattle.lists.proofs.Maps.{map-map}
+use Rattle.lists.proofs.ListsKit.{in-map, map-map, not-false-out, not-true-out, pairs-map}
 use Rattle.nesting.proofs.NestingKit.{pairs-unmap, pairs-of}
 use Rattle.plane_edges.specs.Multiple.{common_den, edge_times, whole_edges}
 use Rattle.plane_edges.proofs.EdgesKit.{rises_alike}
@@ -28,7 +27,6 @@ use Rattle.osm_nest.specs.Outer.{AnchorRuns, AreConflictFree, IsAnchorOf, IsInne
 use Rattle.osm_nest.proofs.Further.{anchor-scaled, segment-scaled, segments-scaled}
 use Rattle.osm_nest.proofs.InPlane.{segment_at, segments_times, whole-at}
 use Rattle.osm_nest.proofs.Leftmost.{IsFirstUpTo, along, first-is-anchor, segments_along}
-use Rattle.lists.proofs.Bools.{not-false-out, not-true-out}
 
 -- ---- the segments of the multiplied list
 pub segments-are : (es : List Edge) → segments_of (whole_edges es) ≡ segments_along es

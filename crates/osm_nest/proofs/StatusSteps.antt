@@ -3,7 +3,7 @@ use Rattle.std.proofs.Common.{List, arith, false, filter, get_or, length, subst,
 use Rattle.std.specs.List.{insert}
 use Rattle.std.specs.Ordering.{is_lt}
 use Rattle.std.proofs.lemmas.List.{get_or_default}
-use Rattle.lists.proofs.Bools.{and-left, and-right}
+use Rattle.lists.proofs.ListsKit.{and-left, and-right}
 use Rattle.osm_geom.specs.declared.edge.Edge.{Edge}
 use Rattle.osm_geom.specs.declared.point.Point.{Point}
 use Rattle.osm_geom.specs.JustAbove.{just_above_cmp}

@@ -11,11 +11,10 @@ use Rattle.plane.specs.Height.{is_in_span}
 use Rattle.plane.specs.Order.{order}
 use Rattle.plane.specs.Sign.{Minus, Null, Plus, Sign, is_plus, sign, then_sign}
 use Rattle.plane.specs.Vector.{Vector}
-use Rattle.lists.proofs.Bools.{and-left, and-right, clash}
+use Rattle.lists.proofs.ListsKit.{and-left, and-right, at-in, clash, in-all, in-at, in-filter, in-left, in-map, same_get}
 use Rattle.plane.proofs.PlaneKit.{tall-by}
 use Rattle.plane.proofs.SignKit.{is_plus-true, says-at, sign-from}
 use Rattle.lists.specs.Member.{In}
-use Rattle.lists.proofs.Members.{in-all, in-filter, in-left, in-map}
 use Rattle.status.specs.Status.{IsStatus}
 use Rattle.status.proofs.StatusKit.{rises-among}
 use Rattle.osm_geom.specs.declared.edge.Edge.{Edge}
@@ -26,11 +25,11 @@ use Rattle.osm_nest.specs.declared.ring_edges.RingEdge.{RingEdge}
 use Rattle.osm_nest.specs.RingLists.{AreRings, all_edges, whole_rings}
 use Rattle.osm_nest.specs.SweptEdges.{AreSlopingEdges, IsSlopingEdge, IsRowPut, PutRow, StartsRise, is_within}
 use Rattle.osm_nest.proofs.DirectEnclosers.{listed, nest, segments-in}
-use Rattle.osm_nest.proofs.InPlane.{lt-plus, order-at, segment_at, segments_times, spans-at}
+use Rattle.osm_lattice.proofs.LatticeKit.{is_lt-plus}
+use Rattle.osm_nest.proofs.InPlane.{order-at, segment_at, segments_times, spans-at}
 use Rattle.osm_nest.proofs.FilteredLists.{filter-alike, filter-narrower, in-sooner}
-use Rattle.lists.proofs.Items.{at-in, in-at}
 use Rattle.osm_nest.proofs.LeftEnclosers.{seg}
-use Rattle.osm_nest.proofs.SweptRows.{put-row, same_get, whole-of, whole-status, within-is}
+use Rattle.osm_nest.proofs.SweptRows.{put-row, whole-of, whole-status, within-is}
 
 not-plus-first : (s t : Sign) → is_plus (then_sign s t) ≡ false → not (is_plus s) ≡ true
 not-plus-first Plus t h = absurd (cc h)
@@ -78,7 +77,7 @@ module _ (rs : List (List Edge)) (are : AreRings rs) (items : List RingEdge) (of
   not-lower i j d h l =
       let wi = whole-of rs are items of (get_or items i d) (at-in items i d (omega arith)) in let wj = whole-of rs are items of (get_or items j d) (at-in items j d l) in
       not-plus-first (sign ((at i d).from.y -ℤ (at j d).from.y)) (sign ((at i d).from.x -ℤ (at j d).from.x))
-      (sym (ap is_lt (order-at K (get_or items j d).edge.now (get_or items i d).edge.now wj wi) ∙ lt-plus (order (at j d).from (at i d).from)) ∙ rise i j d h l)
+      (sym (ap is_lt (order-at K (get_or items j d).edge.now (get_or items i d).edge.now wj wi) ∙ is_lt-plus (order (at j d).from (at i d).from)) ∙ rise i j d h l)
 
   -- between rows: the status of those that were put, which all begin at a height or below it; the others begin above it
   pub record IsSweptTo (next : ℕ) (status : List RingEdge) : Type 0 where

@@ -9,10 +9,9 @@ use Rattle.std.proofs.lemmas.List.Sums.{sum_by-append, sum_by-cons}
 use Rattle.plane.specs.Edge as plane
 use Rattle.plane.specs.Height.{is_in_span}
 use Rattle.plane.specs.Vector.{Vector}
-use Rattle.lists.proofs.Bools.{and-right, clash}
+use Rattle.lists.proofs.ListsKit.{and-right, at-in, clash, in-all, in-filter, in-left, in-passes, in-right, into-filter, same_get}
 use Rattle.plane.proofs.PlaneKit.{right_chain, right_itself, right_of}
 use Rattle.lists.specs.Member.{In}
-use Rattle.lists.proofs.Members.{in-all, in-filter, in-left, in-passes, in-right, into-filter}
 use Rattle.status.specs.Status.{IsRight, IsStatus, spanning}
 use Rattle.status.proofs.StatusKit.{fits, present}
 use Rattle.osm_geom.specs.declared.edge.Edge.{Edge}
@@ -25,13 +24,7 @@ use Rattle.osm_nest.specs.SweptEdges.{AreSlopingEdges, HasNeighbour, IsSlopingEd
 use Rattle.osm_nest.specs.Beside.{IsSloping}
 use Rattle.osm_nest.proofs.DirectEnclosers.{whole-in}
 use Rattle.osm_nest.proofs.InPlane.{above-at, segment_at, spans-at}
-use Rattle.lists.proofs.Items.{at-in}
 use Rattle.osm_nest.proofs.LeftEnclosers.{seg}
-
-pub same_get : {X : Type 0} (xs : List X) (i : ℕ) (d e : X) → i < length xs → get_or xs i d ≡ get_or xs i e
-same_get [] i d e h = absurd (omega arith)
-same_get (x ∷ xs) zero d e h = refl
-same_get (x ∷ xs) (suc i) d e h = same_get xs i d e (omega arith)
 
 -- ---- an item at the end of the list instead of its front
 module _ {X : Type 0} (edge : X → plane.Edge) where

@@ -5,13 +5,12 @@ use Rattle.plane.specs.Edge as plane
 use Rattle.plane.specs.Edge.{same_edge, segment_of}
 use Rattle.lists.specs.Member.{In}
 use Rattle.winding.specs.Ring.{IsAnchor, segments_of}
-use Rattle.lists.proofs.Members.{in-filter, in-map, in-map-out, in-passes, into-filter}
+use Rattle.lists.proofs.ListsKit.{in-filter, in-map, in-map-out, in-passes, in-rotated, into-filter, rotated-in}
 use Rattle.osm_geom.specs.declared.edge.Edge.{Edge}
 use Rattle.plane_edges.specs.Multiple.{common_den, edge_times, edges_times}
-use Rattle.osm_rings.specs.Turned.{IsTurned}
+use Rattle.lists.specs.Rotated.{IsRotated}
 use Rattle.osm_nest.specs.Outer.{AnchorRuns, IsAnchorOf}
 use Rattle.osm_nest.proofs.InPlane.{common-append}
-use Rattle.osm_nest.proofs.Listing.{turned-back, turned-in}
 
 -- an anchor is told by what stands in the list
 anchor-same : (s : plane.Edge) (xs ys : List plane.Edge) → ((t : plane.Edge) → In t xs → In t ys) → ((t : plane.Edge) → In t ys → In t xs) → IsAnchor s xs → IsAnchor s ys
@@ -29,7 +28,7 @@ segments-in k p q into t i =
     let y = in-map-out (edge_times k) p x.0 x.1 in
     subst (λ s. In s (segments_of (edges_times k q))) (sym (x.2 ∙ ap segment_of y.2)) (in-map segment_of (edges_times k q) (edge_times k y.0) (in-map (edge_times k) q y.0 (into y.0 y.1)))
 
-module _ (p q : List Edge) (t : IsTurned p q) where
+module _ (p q : List Edge) (t : IsRotated p q) where
   same-den : common_den p ≡ common_den q
   same-den =
       ap common_den t.old ∙ common-append t.front t.back ∙ mul_comm (common_den t.front) (common_den t.back)
@@ -39,9 +38,9 @@ module _ (p q : List Edge) (t : IsTurned p q) where
   anchor-turned e a =
       let k = common_den p in
       record {
-        member = turned-back p q t e a.member;
+        member = in-rotated p q t e a.member;
         anchor = subst (λ n. IsAnchor (segment_of (edge_times n e)) (segments_of (edges_times n q))) same-den
-            (anchor-same (segment_of (edge_times k e)) (segments_of (edges_times k p)) (segments_of (edges_times k q)) (segments-in k p q (turned-back p q t)) (segments-in k q p (turned-in p q t)) a.anchor);
+            (anchor-same (segment_of (edge_times k e)) (segments_of (edges_times k p)) (segments_of (edges_times k q)) (segments-in k p q (in-rotated p q t)) (segments-in k q p (rotated-in p q t)) a.anchor);
       }
 
   pub runs-turned : (up : Bool) → AnchorRuns up p → AnchorRuns up q

@@ -11,7 +11,7 @@ use Rattle.std.proofs.lemmas.List.Sorted.{sorted_far}
 use Rattle.nesting.proofs.NestingKit.{sided-once}
 use Rattle.nesting.specs.Nesting.{edges_of}
 use Rattle.lists.specs.Member.{In}
-use Rattle.lists.proofs.Members.{in-map}
+use Rattle.lists.proofs.ListsKit.{at-in, clash, in-map, rotated-in}
 use Rattle.osm_geom.specs.declared.edge.Edge.{Edge}
 use Rattle.osm_geom.specs.declared.point.Point.{Point}
 use Rattle.osm_geom.specs.Point.{point_cmp}
@@ -22,9 +22,6 @@ use Rattle.osm_nest.specs.declared.rings_from_least.Start.{Start}
 use Rattle.osm_nest.specs.Grouped.{AreSortedFromLeast, AreListed, IsFromLeastAt, start_cmp}
 use Rattle.osm_nest.specs.Nested.{IsBefore}
 use Rattle.osm_nest.specs.RingLists.{AreRings, all_edges, whole_rings}
-use Rattle.osm_nest.proofs.Listing.{turned-in}
-use Rattle.lists.proofs.Bools.{clash}
-use Rattle.lists.proofs.Items.{at-in}
 use Rattle.osm_nest.proofs.Places.{placed, rings-apart, stand}
 use Rattle.plane_edges.specs.Multiple.{common_den, edge_times, edges_times, point_times}
 
@@ -68,7 +65,7 @@ module _ (rs : List (List Edge)) (are : AreRings rs) (listed bs : List RingFromL
       let some : 0 < length b.ring =
       let a = length-map r (edge_times k) in let b = length-append t.front t.back in let c = length-append t.back t.front in
       let d = ap length t.old in let e = ap length t.new in omega arith in
-      subst (In (edge_times k (get_or b.ring 0 d))) (sym here) (in-map (edge_times k) r (get_or b.ring 0 d) (turned-in r b.ring t (get_or b.ring 0 d) (at-in b.ring 0 d some)))
+      subst (In (edge_times k (get_or b.ring 0 d))) (sym here) (in-map (edge_times k) r (get_or b.ring 0 d) (rotated-in r b.ring t (get_or b.ring 0 d) (at-in b.ring 0 d some)))
 
   starts-apart : (b c : RingFromLeast) → b.place ≢ c.place → (b.place < length rs) × IsFromLeastAt (get_or rs b.place []) b.place b → (c.place < length rs) × IsFromLeastAt (get_or rs c.place []) c.place c → (d : Edge) → b.start.from ≡ c.start.from → b.start.to ≡ c.start.to → ⊥
   starts-apart b c n (h, is) (l, it) d f t =

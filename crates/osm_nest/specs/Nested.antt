@@ -10,7 +10,8 @@ use Rattle.osm_nest.specs.declared.polygon.Polygon.{Polygon}
 use Rattle.osm_nest.specs.Outer.{IsInner, IsOuter}
 use Rattle.osm_nest.specs.Polygons.{polygon_times, rings_of}
 use Rattle.osm_nest.specs.RingLists.{all_edges, whole_rings}
-use Rattle.osm_rings.specs.Turned.{BeginsLeast, IsTurned}
+use Rattle.lists.specs.Rotated.{IsRotated}
+use Rattle.osm_rings.specs.Turned.{BeginsLeast}
 use Rattle.plane_edges.specs.Multiple.{common_den}
 
 -- each polygon is an outer ring of the list and inner rings that it directly encloses, and each ring stands in exactly one polygon, there once
@@ -25,7 +26,7 @@ pub record HasKinds (polygon : Polygon) : Type 0 where
 
 -- the cyclic list of edges begun with the one that leaves its least node
 pub record IsFromLeast (ring begun : List Edge) : Type 0 where
-  pub turned : IsTurned ring begun
+  pub turned : IsRotated ring begun
   pub least : BeginsLeast begun
 
 abbrev pub AreFromLeast : List (List Edge) → List (List Edge) → Type 0

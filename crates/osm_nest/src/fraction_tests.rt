@@ -1,3 +1,5 @@
+//! Edges beside anchors, and the order of starts, where points are fractional.
+
 use crate::enclosers::{is_around, nearest_right};
 use crate::outer::{first_of, lower_end};
 use crate::rings_from_least::{Start, compare_starts};

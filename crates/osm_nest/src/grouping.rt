@@ -40,9 +40,11 @@ fn place_ring(
     requires place { begun.place < length enclosers.now }
     requires enclosers { AreWithin enclosers.now }
     requires room { length under.old.items ≡ length enclosers.now }
-    ensures outers { OnOk result (outers.new.items ≡ outers.old.items ++ filter (stands_first enclosers.now) (begun ∷ [])) }
+    ensures outers { OnOk result (outers.new.items
+        ≡ outers.old.items ++ filter (stands_first enclosers.now) (begun ∷ [])) }
     ensures room { OnOk result (length under.new.items ≡ length enclosers.now) }
-    ensures under { OnOk result ((place : ℕ) → slice_index_or under.new.items place [] ≡ slice_index_or under.old.items place [] ++ rings_under enclosers.now (begun ∷ []) place) }
+    ensures under { OnOk result ((place : ℕ) → slice_index_or under.new.items place []
+        ≡ slice_index_or under.old.items place [] ++ rings_under enclosers.now (begun ∷ []) place) }
 {
     match enclosers[begun.place] {
         None => outers.push(begun)?,
@@ -137,7 +139,8 @@ pub fn nest(alloc: Global, rings: &[Ring]) -> Result<Polygons, OutOfMemory>
     requires { AreRings rings.now }
     ensures nested { IfOk result (λ polygons. AreNested rings.now polygons) }
     ensures kinds { IfOk result (λ polygons. All HasKinds polygons) }
-    ensures whole { All (All IsWholeSegment) rings.now → IfOk result (λ polygons. All (All IsWholeSegment) (rings_of polygons)) }
+    ensures whole { All (All IsWholeSegment) rings.now
+        → IfOk result (λ polygons. All (All IsWholeSegment) (rings_of polygons)) }
     ensures sided { IfOk result (λ polygons. AreSided polygons) }
     ensures cover { IfOk result (λ polygons. CoverAsRings rings.now polygons) }
 {

@@ -30,7 +30,8 @@ fn push_ring<'a>(
     ring: &'a [Edge],
     place: usize,
 ) -> Result<(), OutOfMemory>
-    ensures { OnOk result (AreRingEdges place (length ring.now) ring.now edges.old.items edges.new.items) }
+    ensures { OnOk result (AreRingEdges place (length ring.now) ring.now edges.old.items
+        edges.new.items) }
 {
     for edge in ring {
         if is_sloping(edge) {

@@ -71,7 +71,8 @@ fn search(status: &ChunkedList<RingEdge>, edge: &Edge, at: &Point) -> usize
 /// Whether the edge at a place doesn't span the height.
 fn is_past(status: &ChunkedList<RingEdge>, place: usize, at: &Point) -> bool
     ensures inside { result ≡ true → place < length status.now }
-    ensures past { result ≡ true → (d : RingEdge) → is_within at.now (slice_index_or status.now place d) ≡ false }
+    ensures past { result ≡ true → (d : RingEdge)
+        → is_within at.now (slice_index_or status.now place d) ≡ false }
 {
     if place >= status.len() {
         return false;
@@ -96,7 +97,8 @@ fn take_out(status: &mut ChunkedList<RingEdge>, edge: &Edge, below: &Point, at: 
 /// Whether the edge at a place spans the height of `below` and ends no higher than `at`.
 fn ends_between(tops: &[RingEdge], place: usize, below: &Point, at: &Point) -> bool
     ensures inside { result ≡ true → place < length tops.now }
-    ensures below { result ≡ true → (d : RingEdge) → is_within below.now (slice_index_or tops.now place d) ≡ true }
+    ensures below { result ≡ true → (d : RingEdge)
+        → is_within below.now (slice_index_or tops.now place d) ≡ true }
 {
     if place >= tops.len() {
         return false;
@@ -129,8 +131,10 @@ pub(crate) fn leave(
 fn fits_at(status: &ChunkedList<RingEdge>, place: usize, edge: &Edge, at: &Point) -> bool
     requires within { spans edge.now at.now ≡ true }
     requires inside { place ≤ length status.now }
-    ensures before { result ≡ true → (d : RingEdge) → 0 < place → left_at at.now (slice_index_or status.now (place - 1) d).edge.now edge.now ≡ true }
-    ensures after { result ≡ true → (d : RingEdge) → place < length status.now → left_at at.now edge.now (slice_index_or status.now place d).edge.now ≡ true }
+    ensures before { result ≡ true → (d : RingEdge) → 0 < place
+        → left_at at.now (slice_index_or status.now (place - 1) d).edge.now edge.now ≡ true }
+    ensures after { result ≡ true → (d : RingEdge) → place < length status.now
+        → left_at at.now edge.now (slice_index_or status.now place d).edge.now ≡ true }
 {
     if place > 0 && !is_left_of(status.get(place - 1).edge, edge, at) {
         return false;
@@ -148,8 +152,11 @@ fn enter<'a>(
     at: &Point,
 ) -> Result<bool, OutOfMemory>
     requires { is_within at.now item.now ≡ true }
-    ensures put { IfOk result (λ fits. fits ≡ true → IsPut at.now item.now (filter (is_within at.now) status.old) (filter (is_within at.now) status.new)) }
-    ensures members { IfOk result (λ fits. (e : RingEdge) → In e status.new → (In e status.old) ⊎ (e ≡ item.now)) }
+    ensures put { IfOk result (λ fits. fits ≡ true
+        → IsPut at.now item.now (filter (is_within at.now) status.old)
+        (filter (is_within at.now) status.new)) }
+    ensures members { IfOk result (λ fits. (e : RingEdge) → In e status.new
+        → (In e status.old) ⊎ (e ≡ item.now)) }
 {
     let place = search(status, item.edge, at);
     if !fits_at(status, place, item.edge, at) {
@@ -162,8 +169,10 @@ fn enter<'a>(
 /// Whether the next edge spans the height.
 fn goes_on(edges: &[RingEdge], next: usize, at: &Point) -> bool
     ensures inside { result ≡ true → next < length edges.now }
-    ensures within { result ≡ true → (d : RingEdge) → is_within at.now (slice_index_or edges.now next d) ≡ true }
-    ensures ended { result ≡ false → (d : RingEdge) → next < length edges.now → is_within at.now (slice_index_or edges.now next d) ≡ false }
+    ensures within { result ≡ true → (d : RingEdge)
+        → is_within at.now (slice_index_or edges.now next d) ≡ true }
+    ensures ended { result ≡ false → (d : RingEdge) → next < length edges.now
+        → is_within at.now (slice_index_or edges.now next d) ≡ false }
 {
     if next >= edges.len() {
         return false;
@@ -179,8 +188,11 @@ pub(crate) fn enter_row<'a>(
     at: &Point,
 ) -> Result<Option<usize>, OutOfMemory>
     requires { from ≤ length edges.now }
-    ensures put { IfOk result (λ row. IfSome row (λ to. IsRowPut at.now edges.now from to (filter (is_within at.now) status.old) (filter (is_within at.now) status.new))) }
-    ensures members { IfOk result (λ row. IfSome row (λ to. (e : RingEdge) → In e status.new → (In e status.old) ⊎ In e (take to edges.now))) }
+    ensures put { IfOk result (λ row. IfSome row
+        (λ to. IsRowPut at.now edges.now from to (filter (is_within at.now) status.old)
+        (filter (is_within at.now) status.new))) }
+    ensures members { IfOk result (λ row. IfSome row
+        (λ to. (e : RingEdge) → In e status.new → (In e status.old) ⊎ In e (take to edges.now))) }
 {
     let mut next = from;
     while goes_on(edges, next, at) {
@@ -206,7 +218,8 @@ pub(crate) fn left_neighbour<'a>(
     status: &ChunkedList<RingEdge<'a>>,
     anchor: &Edge,
 ) -> Option<RingEdge<'a>>
-    ensures { IfSome result (λ e. HasNeighbour anchor.now (filter (is_within (lower_end anchor.now)) status.now) e) }
+    ensures { IfSome result (λ e. HasNeighbour anchor.now
+        (filter (is_within (lower_end anchor.now)) status.now) e) }
 {
     let at = lower_end(anchor);
     if !spans_height(anchor, &at) {

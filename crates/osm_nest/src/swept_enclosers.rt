@@ -90,7 +90,8 @@ pub(crate) fn none_known(alloc: Global, rings: &[Ring]) -> Result<Vec<Option<usi
 /// Whether the next anchor begins at the height at which `first` begins.
 fn begins_there(inner: &[RingEdge], next: usize, first: &Edge) -> bool
     ensures inside { result ≡ true → next < length inner.now }
-    ensures level { result ≡ true → (d : RingEdge) → begin_level first.now (slice_index_or inner.now next d).edge.now ≡ true }
+    ensures level { result ≡ true → (d : RingEdge)
+        → begin_level first.now (slice_index_or inner.now next d).edge.now ≡ true }
 {
     if next >= inner.len() {
         return false;
@@ -111,7 +112,9 @@ fn settle_row(
 ) -> usize
     requires anchors { AreAnchors rings.now anchors.now }
     requires inner { All (IsInnerAnchor rings.now) inner.now }
-    requires tells { (a : RingEdge) → IsInnerAnchor rings.now a → begin_level first.now a.edge.now ≡ true → TellsEncloser rings.now (filter (is_within (lower_end a.edge.now)) status.now) a }
+    requires tells { (a : RingEdge) → IsInnerAnchor rings.now a
+        → begin_level first.now a.edge.now ≡ true
+        → TellsEncloser rings.now (filter (is_within (lower_end a.edge.now)) status.now) a }
     requires from { from ≤ length inner.now }
     requires known { AreKnown rings.now known.old.items }
     ensures within { result ≤ length inner.now }
@@ -135,7 +138,8 @@ fn settle(
 )
     requires anchors { AreAnchors rings.now anchors.now }
     requires inside { anchor.now.ring < length rings.now }
-    requires tells { TellsEncloser rings.now (filter (is_within (lower_end anchor.now.edge.now)) status.now) anchor.now }
+    requires tells { TellsEncloser rings.now (filter (is_within (lower_end anchor.now.edge.now))
+        status.now) anchor.now }
     requires known { AreKnown rings.now known.old.items }
     ensures { AreKnown rings.now known.new.items }
 {
@@ -159,7 +163,8 @@ fn encloser_by(
     requires anchors { AreAnchors rings.now anchors.now }
     requires tells { IsTeller rings.now anchor.now left.now }
     requires known { AreKnown rings.now known.now }
-    ensures { IfSome result (λ encloser. IsDirectEncloser rings.now anchor.now.ring (Some encloser)) }
+    ensures { IfSome result (λ encloser. IsDirectEncloser rings.now anchor.now.ring
+        (Some encloser)) }
 {
     if anchors.outer[left.ring] {
         return Some(left.ring);

@@ -1,3 +1,5 @@
+//! Edges by their ends, the status of the sweep, and the polygons of rings.
+
 use crate::outer::lower_end;
 use crate::ring_edges::{RingEdge, by_lower_ends, by_upper_ends};
 use crate::sweep_status::{enter_row, leave, left_neighbour};

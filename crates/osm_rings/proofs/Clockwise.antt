@@ -1,13 +1,12 @@
 -- The clockwise order by signs: the same as that of directions, and what a sector holds.
-use Rattle.std.proofs.Common.{◌≡◌, Bool, true, false, not, ◌&&◌, eqb, eqb-true, ℤ, pos, ◌-ℤ◌, ◌+ℤ◌, refl, sym, ap, subst, ◌∙◌, arith}
+use Rattle.std.proofs.Common.{◌≡◌, Bool, true, false, not, ◌&&◌, eqb, eqb-true, ℤ, pos, ◌-ℤ◌, refl, sym, ap, ◌∙◌}
 use Rattle.std.specs.Ordering.{is_lt, int_cmp, nat_cmp, ordering_then}
-use Rattle.std.proofs.lemmas.Int.{ints}
 use Rattle.plane.specs.Sector.{in_sector, sector_by}
-use Rattle.plane.specs.Sign.{Plus, Sign, is_null, is_plus, negated, sign}
+use Rattle.plane.specs.Sign.{Sign, is_null, is_plus, negated, sign}
 use Rattle.plane.specs.Vector.{IsDirection, Vector, cross, dot}
-use Rattle.plane.proofs.SignKit.{same, agree, all, all-out, all2, all2-out, all4, all4-out, imp, imp-out, same_bool, same_bool-true, sign-reversed, times, times-back, times-plus}
-use Rattle.plane.proofs.PlaneKit.{cross-negated, dot2, frame-agree, frame-dot-agree, lift2}
-use Rattle.winding.proofs.WindingKit.{crossed}
+use Rattle.plane.proofs.SignKit.{agree, all, all-out, all2, all2-out, all4, all4-out, imp, imp-out, same_bool, same_bool-true, sign-reversed, times}
+use Rattle.plane.proofs.PlaneKit.{cross-negated, dot-swap}
+use Rattle.winding.proofs.WindingKit.{crossed, crossed-at, dot-at}
 use Rattle.nesting.proofs.NestingKit.{is_some, some-signs}
 use Rattle.osm_geom.specs.declared.dir.Dir.{Dir}
 use Rattle.osm_geom.specs.Dir as dir
@@ -17,16 +16,7 @@ use Rattle.osm_lattice.proofs.LatticeKit.{int_cmp-is}
 use Rattle.plane_edges.specs.OneDirection.{HaveOneDirection}
 use Rattle.plane_edges.proofs.EdgesKit.{along-cross, along-dot}
 use Rattle.osm_rings.specs.Clockwise.{earlier, is_met_before}
-
--- a direction seen from d, and another one
-pub crossed-at : (d a b : Vector) → IsDirection d → crossed (sign (dot d a)) (sign (cross d a)) (sign (dot d b)) (sign (cross d b)) (sign (cross a b)) ≡ true
-crossed-at d a b p =
-    let k = sign (cross a b) in let ay = sign (cross d a) in let bx = sign (dot d b) in
-    subst (λ s. agree s (times ay bx) (times (sign (dot d a)) (sign (cross d b))) ≡ true) (times-plus k)
-    (subst (λ s. agree (times Plus k) s (times (sign (dot d a)) (sign (cross d b))) ≡ true) (times-back bx ay) (frame-agree d a b p))
-
-pub dot-at : (d a b : Vector) → IsDirection d → agree (times (sign (dot d a)) (sign (dot d b))) (times (sign (cross d a)) (sign (cross d b))) (sign (dot a b)) ≡ true
-dot-at d a b p = subst (λ s. agree (times (sign (dot d a)) (sign (dot d b))) (times (sign (cross d a)) (sign (cross d b))) s ≡ true) (times-plus (sign (dot a b))) (frame-dot-agree d a b p)
+use Rattle.lists.proofs.ListsKit.{sum_none}
 
 -- the order goes by directions alone
 pub met-along : (u v w c d e : Vector) → HaveOneDirection u c → HaveOneDirection v d → HaveOneDirection w e → is_met_before u v w ≡ is_met_before c d e
@@ -42,10 +32,7 @@ ranked_computes : all4 (λ ax ay bx by. all (ranked_2 ax ay bx by)) ≡ true
 ranked_computes = refl
 
 below-zero : (z : ℤ) → int_cmp z (pos 0) ≡ ordering_of (negated (sign z))
-below-zero z = int_cmp-is z (pos 0) ∙ ap ordering_of (sign-reversed z (pos 0 -ℤ z) (sum-none z))
-  where
-    sum-none : (z : ℤ) → z +ℤ (pos 0 -ℤ z) ≡ pos 0
-    sum-none z = omega (arith, ints)
+below-zero z = int_cmp-is z (pos 0) ∙ ap ordering_of (sign-reversed z (pos 0 -ℤ z) (sum_none z))
 
 pub met-before-is : (d a b : Dir) → is_lt (clockwise_cmp d a b) ≡ is_met_before (vector_along d) (vector_along a) (vector_along b)
 unfolding dir.cross dir.dot
@@ -66,9 +53,6 @@ held_2 ax ay bx by k g =
 held_computes : all4 (λ ax ay bx by. all2 (held_2 ax ay bx by)) ≡ true
 held_computes = refl
 
-dot-back : (a b : Vector) → dot b a ≡ dot a b
-dot-back a b = let e = lift2 a in let f = lift2 b in same (dot2 f e) (dot2 e f) (omega arith)
-
 -- a and b do not point the same departure
 abbrev pub apart : Vector → Vector → Bool
 apart a b = not (is_null (sign (cross a b)) && is_plus (sign (dot a b)))
@@ -80,7 +64,7 @@ sector-holds d a b pd pa pb n h =
     let first : not (earlier bx by ax ay (negated k)) ≡ true = ap not (sym back ∙ h) in
     let c = all2-out (held_2 ax ay bx by) (all4-out (λ ax ay bx by. all2 (held_2 ax ay bx by)) held_computes ax ay bx by) k g in
     let r = eqb-true _ _ (imp-out _ _ (imp-out _ _ (imp-out _ _ (imp-out _ _ (imp-out _ _ (imp-out _ _ c (some-signs d a pd pa)) (some-signs d b pd pb)) (crossed-at d a b pd)) (dot-at d a b pd)) n) first) in
-    ap (λ s. sector_by s (sign (cross b a)) (sign (dot b d)) (sign (cross b d)) ay) (ap sign (dot-back a b))
+    ap (λ s. sector_by s (sign (cross b a)) (sign (dot b d)) (sign (cross b d)) ay) (ap sign (dot-swap a b))
     ∙ (ap (λ s. sector_by g s (sign (dot b d)) (sign (cross b d)) ay) (cross-negated a b)
-    ∙ (ap (λ s. sector_by g (negated k) s (sign (cross b d)) ay) (ap sign (dot-back d b))
+    ∙ (ap (λ s. sector_by g (negated k) s (sign (cross b d)) ay) (ap sign (dot-swap d b))
     ∙ (ap (λ s. sector_by g (negated k) bx s ay) (cross-negated d b) ∙ r)))

@@ -13,20 +13,16 @@ use Rattle.std.proofs.lemmas.Cmp.{on_total, then_total, tied_itself}
 use Rattle.std.proofs.lemmas.List.Elements.{All-from_get_or}
 use Rattle.std.proofs.lemmas.List.MinMax.{ranks_by}
 use Rattle.std.proofs.lemmas.List.Sorted.{sorted_far}
-use Rattle.plane.specs.Vector.{IsDirection, Vector, east}
-use Rattle.plane.proofs.PlaneKit.{direction-from}
+use Rattle.plane.specs.Vector.{Vector, east}
 use Rattle.osm_geom.specs.declared.dir.Dir.{Dir}
 use Rattle.osm_geom.specs.Dir.{clockwise_cmp, vector_along}
 use Rattle.osm_geom.specs.Point.{point_cmp}
-use Rattle.osm_geom.proofs.GeometryKit.{point_total, clockwise_total}
+use Rattle.osm_geom.proofs.GeometryKit.{point_total, clockwise_total, along-direction}
 use Rattle.osm_rings.specs.declared.departures.Departure.{Departure}
 use Rattle.osm_rings.specs.Clockwise.{is_met_before}
 use Rattle.osm_rings.specs.Departures.{AreClockwise, AreClockwiseRound, AreRising, points_before, stands_before}
 use Rattle.osm_rings.proofs.Clockwise.{met-before-is}
 use Rattle.osm_rings.proofs.TurnedFrom.{met-turned, turned}
-
-pub along-direction : (d : Dir) → IsDirection (vector_along d)
-along-direction d = direction-from (vector_along d) (λ x y. d.nonzero (x, y))
 
 east-nonzero : (pos 1 ≡ pos 0) × (pos 0 ≡ pos 0) → ⊥
 east-nonzero h = cc

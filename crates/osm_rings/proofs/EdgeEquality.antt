@@ -1,47 +1,19 @@
--- Edges with the same ends and carrier are one, and lists over which all sums are equal have the same members.
-use Rattle.std.proofs.Common.{Bool, List, [], ap, arith, false, inl, inr, refl, subst, sym, true, ℕ, ◌&&◌, ◌+◌, ◌∙◌, ◌∷◌, ◌≡◌, ◌≢◌, ◌≤◌}
-use Rattle.std.proofs.Props.{props}
+-- A test of edges for being one, and lists over which all sums are equal have the same members.
+use Rattle.std.proofs.Common.{Bool, List, [], ap, arith, false, inl, inr, refl, subst, sym, true, ℕ, ◌&&◌, ◌+◌, ◌∙◌, ◌∷◌, ◌≡◌, ◌≤◌}
 use Rattle.std.specs.Ordering.{int_eq, is_eq}
 use Rattle.std.proofs.lemmas.Cmp.{tied_itself}
 use Rattle.plane.specs.Bit.{bit}
 use Rattle.std.proofs.lemmas.Bool.{and_from, and_parts}
-use Rattle.lists.proofs.Integers.{int_eq-same, int_eq-true}
+use Rattle.lists.proofs.ListsKit.{equal_from, int_eq-same, int_eq-true, total}
 use Rattle.lists.specs.Member.{In}
 use Rattle.winding.proofs.WindingKit.{total-member}
-use Rattle.lists.proofs.Sums.{total}
-use Rattle.osm_geom.specs.Carrier.{is_on}
-use Rattle.osm_geom.specs.Point.{IsInWorld, point_cmp}
+use Rattle.osm_geom.specs.Point.{point_cmp}
 use Rattle.osm_lattice.specs.Seg.{seg_cmp}
 use Rattle.osm_geom.specs.declared.edge.Carrier.{Carrier}
 use Rattle.osm_geom.specs.declared.edge.Carrier.TheVariants.{Horizontal, OfSeg, Vertical}
 use Rattle.osm_geom.specs.declared.edge.Edge.{Edge}
-use Rattle.osm_geom.specs.declared.point.Point.{Point}
 use Rattle.osm_lattice.proofs.LatticeKit.{seg_total, seg_same}
-use Rattle.osm_geom.proofs.GeometryKit.{point_same, point_total}
-use mathlib.Core.HLevel.{is_prop→PathP}
-use Rattle.lists.proofs.Orderings.{equal_from}
-
-on-prop : (c : Carrier) (p : Point) → IsProp (is_on c p ≡ true)
-on-prop c p = hlevel props
-
-apart-prop : (p q : Point) → IsProp (p ≢ q)
-apart-prop p q = hlevel props
-
-in-prop : (p : Point) → IsProp (IsInWorld p)
-in-prop p = hlevel props
-
--- the facts of an edge have one proof each
-pub edge-from-fields : (e f : Edge) → e.from ≡ f.from → e.to ≡ f.to → e.carrier ≡ f.carrier → e ≡ f
-edge-from-fields e f a b c = λ i. record {
-  from = a i;
-  to = b i;
-  carrier = c i;
-  from_on = is_prop→PathP (λ j. is_on (c j) (a j) ≡ true) (λ j. on-prop (c j) (a j)) e.from_on f.from_on i;
-  to_on = is_prop→PathP (λ j. is_on (c j) (b j) ≡ true) (λ j. on-prop (c j) (b j)) e.to_on f.to_on i;
-  apart = is_prop→PathP (λ j. a j ≢ b j) (λ j. apart-prop (a j) (b j)) e.apart f.apart i;
-  from_in = is_prop→PathP (λ j. IsInWorld (a j)) (λ j. in-prop (a j)) e.from_in f.from_in i;
-  to_in = is_prop→PathP (λ j. IsInWorld (b j)) (λ j. in-prop (b j)) e.to_in f.to_in i;
-}
+use Rattle.osm_geom.proofs.GeometryKit.{edge-from-fields, point_same, point_total}
 
 abbrev pub same_carrier : Carrier → Carrier → Bool
 same_carrier (OfSeg s) (OfSeg t) = is_eq (seg_cmp s t)

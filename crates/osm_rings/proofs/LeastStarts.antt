@@ -1,19 +1,20 @@
 -- The order of points is transitive, and the steps of looking for the least start.
-use Rattle.std.proofs.Common.{◌≡◌, ◌≢◌, inl, inr, ℕ, suc, zero, ◌+◌, ◌<◌, ◌≤◌, List, length, get_or, ℤ, pos, ◌*ℤ◌, ◌-ℤ◌, ◌+ℤ◌, Bool, true, refl, sym, ap, subst, ◌∙◌, arith, ⊎_elim}
+use Rattle.std.proofs.Common.{◌≡◌, ◌≢◌, inl, inr, ℕ, ◌+◌, ◌<◌, ◌≤◌, List, length, get_or, ℤ, pos, ◌*ℤ◌, ◌-ℤ◌, ◌+ℤ◌, Bool, true, refl, sym, ap, subst, ◌∙◌, arith, ⊎_elim}
 use Rattle.std.specs.declared.cmp.Ordering.TheVariants.{Less}
 use Rattle.std.specs.Ordering.{ordering_then}
 use Rattle.std.proofs.lemmas.Bool.{cases_lt}
 use Rattle.std.proofs.lemmas.Int.{ints}
-use Rattle.plane.specs.Sign.{Plus, Null, Minus, Sign, sign, then_sign}
+use Rattle.plane.specs.Sign.{Plus, Null, Sign, sign, then_sign}
 use Rattle.plane.proofs.SignKit.{Split, lift, same, ◌⊞◌, ◌⊟◌, ◌⊠◌, agree, all2, all2-out, all4, all4-out, imp, imp-out, plus-plus, plus-times, weighted-agree}
 use Rattle.osm_geom.specs.declared.edge.Edge.{Edge}
 use Rattle.osm_geom.specs.declared.point.Point.{Point}
 use Rattle.osm_lattice.specs.OrderLaws.{ordering_of}
 use Rattle.osm_geom.specs.Point.{Fraction, x_of, y_of, point_cmp}
 use Rattle.osm_geom.specs.RatioOrder.{fraction_cmp}
-use Rattle.osm_lattice.proofs.LatticeKit.{int_cmp-is, ordering_of-then}
+use Rattle.osm_lattice.proofs.LatticeKit.{int_cmp-is, ordering_of-then, less-plus}
 use Rattle.osm_geom.proofs.GeometryKit.{point_cmp_is, x_den-some, y_den-some}
 use Rattle.osm_rings.specs.LeastStart.{IsLesserStart}
+use Rattle.plane_edges.proofs.EdgesKit.{sign-some}
 
 -- how far s is above r, multiplied by both denominators
 abbrev rise : Fraction → Fraction → ℤ
@@ -24,14 +25,10 @@ rise-sum a b c k m n =
     let nat : ℕ → Split = λ i. record { z = pos i; p = i; n = 0; is = omega arith } in
     same (nat n ⊠ (lift b ⊠ nat k ⊟ lift a ⊠ nat m) ⊞ nat k ⊠ (lift c ⊠ nat m ⊟ lift b ⊠ nat n)) (nat m ⊠ (lift c ⊠ nat k ⊟ lift a ⊠ nat n)) (omega arith)
 
-positive : (n : ℕ) → 1 ≤ n → sign (pos n) ≡ Plus
-positive zero h = absurd (omega arith)
-positive (suc n) h = refl
-
 rise-agree : (r s t : Fraction) → 1 ≤ r.den → 1 ≤ s.den → 1 ≤ t.den → agree (sign (rise r s)) (sign (rise s t)) (sign (rise r t)) ≡ true
 rise-agree r s t hr hs ht =
-    subst (λ u. agree (sign (rise r s)) (sign (rise s t)) u ≡ true) (plus-times (pos s.den) (rise r t) (positive s.den hs))
-    (weighted-agree (pos t.den) (pos r.den) (rise r s) (rise s t) (pos s.den *ℤ rise r t) (positive t.den ht) (positive r.den hr) (rise-sum r.num s.num t.num r.den s.den t.den))
+    subst (λ u. agree (sign (rise r s)) (sign (rise s t)) u ≡ true) (plus-times (pos s.den) (rise r t) (sign-some s.den hs))
+    (weighted-agree (pos t.den) (pos r.den) (rise r s) (rise s t) (pos s.den *ℤ rise r t) (sign-some t.den ht) (sign-some r.den hr) (rise-sum r.num s.num t.num r.den s.den t.den))
 
 abbrev both_2 : Sign → Sign → Sign → Sign → Sign → Sign → Bool
 both_2 s t u x y z = imp (agree s t u) λ _. imp (agree x y z) λ _. agree (then_sign s x) (then_sign t y) (then_sign u z)
@@ -56,11 +53,6 @@ place-is p q =
     ∙ (ap (λ o. ordering_then o (fraction_cmp (x_of p) (x_of q))) (int_cmp-is ((y_of p).num *ℤ pos (y_of q).den) ((y_of q).num *ℤ pos (y_of p).den))
     ∙ (ap (λ o. ordering_then (ordering_of (sign (rise (y_of p) (y_of q)))) o) (int_cmp-is ((x_of p).num *ℤ pos (x_of q).den) ((x_of q).num *ℤ pos (x_of p).den))
     ∙ ordering_of-then (sign (rise (y_of p) (y_of q))) (sign (rise (x_of p) (x_of q)))))
-
-less-plus : (s : Sign) → ordering_of s ≡ Less → s ≡ Plus
-less-plus Plus h = refl
-less-plus Null h = cc
-less-plus Minus h = cc
 
 pub point-chain : (p q r : Point) → point_cmp p q ≡ Less → point_cmp q r ≡ Less → point_cmp p r ≡ Less
 point-chain p q r h g =

@@ -1,3 +1,4 @@
+mod ApartEdges
 mod Clockwise
 mod DeparturesRound
 pub mod EdgeEquality

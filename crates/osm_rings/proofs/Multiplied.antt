@@ -12,7 +12,7 @@ use Rattle.osm_rings.specs.Numbered.{edge_at, nowhere}
 use Rattle.osm_rings.specs.Departures.{TellStarts, direction_at, step_at}
 use Rattle.osm_rings.proofs.Starts.{same-some, start-at}
 use Rattle.osm_rings.proofs.PlaneNumbers.{TellPoints}
-use Rattle.lists.proofs.Items.{at-in}
+use Rattle.lists.proofs.ListsKit.{at-in}
 
 -- an edge of a list, which has one
 pub pick : (es : List Edge) → 0 < length es → Edge

@@ -6,14 +6,13 @@ use Rattle.nesting.specs.Nesting.{edges_of}
 use Rattle.nesting.specs.Walk.{AreWalks, Follow, IsSuccessor, IsWalk, last}
 use Rattle.plane.specs.Edge.{Edge}
 use Rattle.lists.specs.Member.{In}
-use Rattle.lists.proofs.Members.{in-map-out}
+use Rattle.lists.proofs.ListsKit.{at-in, in-map-out}
 use Rattle.orbits.specs.Once.{HoldEachOnce}
 use Rattle.orbits.specs.OnceLaws.{SumsAgree, StandBelow, sum_below}
 use Rattle.orbits.specs.Orbits.{AreOrbits, IsOrbit, after, first}
 use Rattle.orbits.specs.Orbits as orbit
 use Rattle.osm_rings.specs.Numbered.{edge_at, nowhere}
 use Rattle.osm_rings.proofs.PlaneNumbers.{AreSuccessors}
-use Rattle.lists.proofs.Items.{at-in}
 
 pub edge-in : (es : List Edge) (i : ℕ) → i < length es → In (edge_at es i) es
 edge-in es i h = at-in es i nowhere h

@@ -1,5 +1,5 @@
 -- Rings of edges, and rings of the plane that is multiplied so that their points are whole.
-use Rattle.std.proofs.Common.{◌≡◌, ◌≢◌, inl, inr, ℕ, suc, zero, ◌+◌, ◌-◌, ◌<◌, ◌≤◌, List, [], ◌∷◌, length, get_or, All, Bool, true, false, refl, sym, ap, subst, ◌∙◌, arith}
+use Rattle.std.proofs.Common.{◌≡◌, ◌≢◌, inl, inr, ℕ, suc, zero, ◌+◌, ◌-◌, ◌<◌, ◌≤◌, List, [], ◌∷◌, length, get_or, All, true, false, refl, sym, ap, subst, ◌∙◌, arith}
 use Rattle.std.proofs.lemmas.List.{length-map}
 use Rattle.plane.specs.Edge as plane
 use Rattle.plane.specs.Vector.{Vector, same_point}
@@ -8,12 +8,11 @@ use Rattle.plane.proofs.PlaneKit.{same_point-refl, same_point-true}
 use Rattle.lists.specs.Member.{EachPair, In}
 use Rattle.winding.specs.Ring.{IsPath}
 use Rattle.winding.specs.Ring as winding
-use Rattle.lists.proofs.Members.{all-in, in-all, in-map-out}
+use Rattle.lists.proofs.ListsKit.{all-in, clash, in-all, in-map-out}
 use Rattle.osm_geom.specs.declared.edge.Edge.{Edge}
 use Rattle.plane_edges.specs.Multiple.{IsWholeAt, edge_times, edges_times, point_times}
 use Rattle.plane_edges.proofs.EdgesKit.{same_is_same}
 use Rattle.osm_rings.specs.Ring.{IsRing}
-use Rattle.lists.proofs.Bools.{clash}
 
 -- ---- a ring of the plane is a ring
 path-joins : (q : ℕ) (x y : Vector) (r : List Edge) → IsPath x (edges_times q r) y → (k : ℕ) (d : Edge) → k + 1 < length r → point_times q (get_or r k d).to ≡ point_times q (get_or r (k + 1) d).from

@@ -8,7 +8,7 @@ use Rattle.plane.specs.Edge as plane
 use Rattle.plane.specs.Edge.{same_edge}
 use Rattle.plane.proofs.PlaneKit.{same_edge-refl, same_edge-true}
 use Rattle.lists.specs.Member.{EachPair, In}
-use Rattle.lists.proofs.Members.{all-in, in-all, in-map, in-map-out}
+use Rattle.lists.proofs.ListsKit.{all-in, in-all, in-map, in-map-out}
 use Rattle.osm_geom.specs.declared.edge.Edge.{Edge}
 use Rattle.plane_edges.specs.Multiple.{IsWholeAt, common_den, edge_times, edges_times, whole_edges}
 use Rattle.plane_edges.specs.Sided.{IsSided}

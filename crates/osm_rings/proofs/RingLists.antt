@@ -9,7 +9,7 @@ use Rattle.plane.specs.Edge as plane
 use Rattle.lists.specs.Member.{In}
 use Rattle.winding.specs.Ring.{IsPath}
 use Rattle.winding.specs.Ring as winding
-use Rattle.lists.proofs.Members.{in-all, in-map, in-map-out}
+use Rattle.lists.proofs.ListsKit.{in-all, in-map, in-map-out}
 use Rattle.orbits.specs.Orbits.{AreOrbits, IsOrbit, after}
 use Rattle.orbits.specs.Once.{HoldEachOnce}
 use Rattle.orbits.specs.OnceLaws.{StandBelow, SumsAgree}

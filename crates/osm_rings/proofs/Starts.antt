@@ -21,7 +21,7 @@ use Rattle.osm_geom.specs.Point.{point_cmp}
 use Rattle.osm_geom.proofs.GeometryKit.{point_same, point_total}
 use Rattle.osm_rings.specs.declared.departures.Departure.{Departure}
 use Rattle.osm_rings.specs.Departures.{AreClockwiseRound, AreFrom, AreRising, AreDepartures, IsEndAt, IsFirstAt, IsDepartureOf, TellStarts, start_at}
-use Rattle.lists.proofs.Bools.{clash, not-false-out, not-true-out}
+use Rattle.lists.proofs.ListsKit.{clash, not-false-out, not-true-out}
 
 -- what an edge leaves
 pub start-at : (es : List Edge) (i : ℕ) (d : Edge) → i < length es → start_at es i ≡ Some (get_or es i d).from

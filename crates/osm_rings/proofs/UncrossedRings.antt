@@ -12,9 +12,8 @@ use Rattle.plane.specs.Edge as plane
 use Rattle.plane.specs.Bit.{bit}
 use Rattle.lists.specs.Member.{In}
 use Rattle.winding.specs.Ring as winding
-use Rattle.lists.proofs.Members.{in-map-out}
+use Rattle.lists.proofs.ListsKit.{in-map-out, total, total-is, total-map}
 use Rattle.winding.proofs.WindingKit.{total-member}
-use Rattle.lists.proofs.Sums.{total, total-is, total-map}
 use Rattle.osm_geom.specs.declared.edge.Edge.{Edge}
 use Rattle.plane_edges.specs.Multiple.{common_den, edge_times, edges_times, whole_edges}
 use Rattle.plane_edges.specs.Sided.{IsSided}

@@ -11,15 +11,7 @@ use Rattle.winding.specs.Ring.{IsPath, IsRing}
 use Rattle.orbits.specs.Cutting.{AreCutOff}
 use Rattle.osm_rings.specs.Numbered.{edge_at}
 use Rattle.osm_rings.proofs.PlaneNumbers.{TellPoints}
-
--- paths one after the other
-pub path-join : (x y z : Vector) (xs ys : List Edge) → IsPath x xs y → IsPath y ys z → IsPath x (xs ++ ys) z
-path-join x y z [] ys p q = subst (λ w. IsPath w ys z) (sym p) q
-path-join x y z (e ∷ es) ys p q = (p.0, path-join e.to y z es ys p.1 q)
-
-pub path-split : (x z : Vector) (xs ys : List Edge) → IsPath x (xs ++ ys) z → (y : Vector) × IsPath x xs y × IsPath y ys z
-path-split x z [] ys p = (x, refl, p)
-path-split x z (e ∷ es) ys p = let r = path-split e.to z es ys p.1 in (r.0, (p.0, r.1), r.2)
+use Rattle.winding.proofs.WindingKit.{path-join, path-split}
 
 module _ (es : List Edge) where
   -- the first edge of a path leaves its start

@@ -7,3 +7,4 @@ pub mod Ring
 pub mod RingList
 pub mod Turned
 pub mod Departures
+pub mod Apart

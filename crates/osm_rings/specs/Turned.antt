@@ -1,15 +1,8 @@
 -- Cyclic lists begun elsewhere.
-use Rattle.std.specs.Prelude.{All, List, slice_index_or, ◌++◌, ◌≡◌, ◌≢◌}
+use Rattle.std.specs.Prelude.{All, List, slice_index_or, ◌≢◌}
 use Rattle.std.specs.declared.cmp.Ordering.TheVariants.{Less}
 use Rattle.osm_geom.specs.declared.edge.Edge.{Edge}
 use Rattle.osm_geom.specs.Point.{point_cmp}
-
--- q is the cyclic list p begun at another of its edges
-pub record IsTurned (p q : List Edge) : Type 0 where
-  pub front : List Edge
-  pub back : List Edge
-  pub old : p ≡ front ++ back
-  pub new : q ≡ back ++ front
 
 -- no edge leaves a lesser point than the first one does
 abbrev pub BeginsLeast : List Edge → Type 0

@@ -108,8 +108,10 @@ pub fn departures(alloc: Global, edges: &[Edge]) -> Result<Vec<Departure>, OutOf
 /// Whether the departure before a place leaves an earlier point than p, and the one at the place doesn't.
 fn parts_before(departures: &[Departure], p: Point, place: usize) -> bool
     requires { place ≤ length departures.now }
-    ensures before { result ≡ true → (d : Departure) → 0 < place → is_lt (point_cmp (slice_index_or departures.now (place - 1) d).from p) ≡ true }
-    ensures from { result ≡ true → (d : Departure) → place < length departures.now → is_lt (point_cmp (slice_index_or departures.now place d).from p) ≡ false }
+    ensures before { result ≡ true → (d : Departure) → 0 < place
+        → is_lt (point_cmp (slice_index_or departures.now (place - 1) d).from p) ≡ true }
+    ensures from { result ≡ true → (d : Departure) → place < length departures.now
+        → is_lt (point_cmp (slice_index_or departures.now place d).from p) ≡ false }
 {
     if place > 0 && !compare_points(departures[place - 1].from, p).is_lt() {
         return false;
@@ -154,8 +156,10 @@ fn first_at(departures: &[Departure], p: Point) -> usize
 /// Whether the departure at a place leaves a later point than p, and the one before it doesn't.
 fn parts_after(departures: &[Departure], p: Point, place: usize) -> bool
     requires { place ≤ length departures.now }
-    ensures before { result ≡ true → (d : Departure) → 0 < place → is_lt (point_cmp p (slice_index_or departures.now (place - 1) d).from) ≡ false }
-    ensures from { result ≡ true → (d : Departure) → place < length departures.now → is_lt (point_cmp p (slice_index_or departures.now place d).from) ≡ true }
+    ensures before { result ≡ true → (d : Departure) → 0 < place
+        → is_lt (point_cmp p (slice_index_or departures.now (place - 1) d).from) ≡ false }
+    ensures from { result ≡ true → (d : Departure) → place < length departures.now
+        → is_lt (point_cmp p (slice_index_or departures.now place d).from) ≡ true }
 {
     if place > 0 && compare_points(p, departures[place - 1].from).is_lt() {
         return false;

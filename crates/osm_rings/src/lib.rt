@@ -1,6 +1,7 @@
 //! The rings that a sided list of edges is cut into: the walks of successors, cut where they come to a node again.
 #![tactic(auto)]
 
+mod apart_rings;
 mod departures;
 mod laws;
 mod ring;

@@ -4,7 +4,8 @@ ghost use Rattle.std.specs.declared.cmp.Ordering.TheVariants.{Less};
 ghost use Rattle.osm_geom.specs.Point.{point_cmp};
 ghost use Rattle.osm_rings.specs.LeastStart.{IsLesserStart};
 ghost use Rattle.osm_rings.specs.Ring.{IsRing};
-ghost use Rattle.osm_rings.specs.Turned.{IsTurned, BeginsLeast};
+ghost use Rattle.lists.specs.Rotated.{IsRotated};
+ghost use Rattle.osm_rings.specs.Turned.{BeginsLeast};
 
 use lists::List;
 use osm_geom::{Edge, compare_points};
@@ -55,7 +56,7 @@ impl Ring {
     /// The same edges in the same cyclic order, begun with the one that leaves the ring's least node. The error is
     /// want of memory.
     pub fn from_least(&self, alloc: Global) -> Result<Ring, OutOfMemory>
-        ensures turned { IfOk result (λ ring. IsTurned self.now ring) }
+        ensures turned { IfOk result (λ ring. IsRotated self.now ring) }
         ensures least { IfOk result (λ ring. BeginsLeast ring) }
     {
         let edges = self.as_slice();
@@ -71,7 +72,8 @@ impl Ring {
 fn least_start(edges: &[Edge]) -> usize
     requires { 0 < length edges.now }
     ensures inside { result < length edges.now }
-    ensures least { All (λ e. point_cmp e.from (slice_index_or edges.now result e).from ≢ Less) edges.now }
+    ensures least { All (λ e. point_cmp e.from (slice_index_or edges.now result e).from
+        ≢ Less) edges.now }
 {
     let mut least = 0;
     for place in 0..edges.len() {

@@ -5,6 +5,7 @@ ghost use Rattle.osm_rings.specs.Ring.{IsRing};
 ghost use Rattle.osm_rings.specs.RingList.{AreRingsOf};
 ghost use Rattle.plane_edges.specs.Sided.{IsSided};
 
+use crate::apart_rings::{apart_rings, are_few_apart};
 use crate::departures::{departures, node_numbers};
 use crate::ring::{Ring, Rings};
 use crate::successors::successors;
@@ -12,11 +13,8 @@ use orbits::{cut, orbits};
 use osm_geom::Edge;
 use std::alloc::{AllocError as OutOfMemory, Global};
 
-/// The rings of a sided list of edges, between any points.
-///
-/// Each edge lies in exactly one ring, there once, and the edges of a ring lie in one walk of successors. By the law
-/// `rings_do_not_cross` no two rings cross. It takes time n log n, however many edges meet at a node. The error is want of memory.
-pub fn rings(alloc: Global, edges: &[Edge]) -> Result<Rings, OutOfMemory>
+/// The rings of a sided list of edges, however many meet at a node.
+fn cut_rings(alloc: Global, edges: &[Edge]) -> Result<Rings, OutOfMemory>
     requires { IsSided edges.now }
     ensures { IfOk result (λ v. AreRingsOf edges.now v) }
 {
@@ -28,6 +26,20 @@ pub fn rings(alloc: Global, edges: &[Edge]) -> Result<Rings, OutOfMemory>
     rings_of(alloc, edges, &pieces)
 }
 
+/// The rings of a sided list of edges, between any points.
+///
+/// Each edge lies in exactly one ring, there once, and the edges of a ring lie in one walk of successors. By the law
+/// `rings_do_not_cross` no two rings cross. It takes time n log n, however many edges meet at a node. The error is want of memory.
+pub fn rings(alloc: Global, edges: &[Edge]) -> Result<Rings, OutOfMemory>
+    requires { IsSided edges.now }
+    ensures { IfOk result (λ v. AreRingsOf edges.now v) }
+{
+    if are_few_apart(edges) {
+        return apart_rings(alloc, edges);
+    }
+    cut_rings(alloc, edges)
+}
+
 /// The pieces that are cut off the walks.
 fn pieces(
     alloc: Global,
@@ -36,7 +48,8 @@ fn pieces(
 ) -> Result<Vec<Vec<usize>>, OutOfMemory>
     requires keyed { All (λ w. All (λ i. i < length numbers.now) w.items) walks.now }
     requires room { All (λ k. k < length numbers.now) numbers.now }
-    ensures { IfOk result (λ v. AreAllCut numbers.now (map (λ w. w.items) walks.now) (map (λ p. p.items) v.items)) }
+    ensures { IfOk result (λ v. AreAllCut numbers.now (map (λ w. w.items) walks.now)
+        (map (λ p. p.items) v.items)) }
 {
     let mut depths = vec![in alloc; 0; numbers.len()]?;
     let mut pieces = Vec::new(alloc);
@@ -60,7 +73,7 @@ fn edges_at(alloc: Global, edges: &[Edge], places: &[usize]) -> Result<Vec<Edge>
 }
 
 /// The rings whose edges stand at these places.
-fn rings_of(alloc: Global, edges: &[Edge], pieces: &[Vec<usize>]) -> Result<Rings, OutOfMemory>
+pub fn rings_of(alloc: Global, edges: &[Edge], pieces: &[Vec<usize>]) -> Result<Rings, OutOfMemory>
     requires inside { All (λ p. All (λ k. k < length edges.now) p.items) pieces.now }
     requires rings { All (λ p. IsRing (edges_at edges.now p.items)) pieces.now }
     ensures { IfOk result (λ v. v ≡ map (λ p. edges_at edges.now p.items) pieces.now) }

@@ -39,7 +39,9 @@ fn first_met(departures: &[Departure], from: Dir) -> Option<&Departure>
     requires { AreClockwise departures.now }
     ensures none { IfNone result (departures.now ≡ []) }
     ensures member { IfSome result (λ w. Contains departures.now w.now) }
-    ensures first { IfSome result (λ w. All (λ v. is_met_before (vector_along from) (vector_along v.dir) (vector_along w.now.dir) ≡ false) departures.now) }
+    ensures first { IfSome result
+        (λ w. All (λ v. is_met_before (vector_along from) (vector_along v.dir)
+        (vector_along w.now.dir) ≡ false) departures.now) }
 {
     let after = departures.partition_point(|departure| !lies_after(departure.dir, from));
     departures.get(after).or(departures.first())
@@ -49,7 +51,8 @@ fn first_met(departures: &[Departure], from: Dir) -> Option<&Departure>
 fn successor(departures: &[Departure], edge: &Edge) -> Option<usize>
     requires rising { AreRising departures.now }
     requires round { AreClockwiseRound departures.now }
-    ensures { (es : List Edge) → AreDepartures es departures.now → In edge.now es → IsFirstMet (whole_edges es) (edge_times (common_den es) edge.now) result }
+    ensures { (es : List Edge) → AreDepartures es departures.now → In edge.now es
+        → IsFirstMet (whole_edges es) (edge_times (common_den es) edge.now) result }
 {
     let departure = first_met(leaving(departures, edge.to), back(edge))?;
     Some(departure.edge)
@@ -63,7 +66,9 @@ pub fn successors(
 ) -> Result<Vec<Option<usize>>, OutOfMemory>
     requires { AreDepartures edges.now departures.now }
     ensures sized { IfOk result (λ v. length v.items ≡ length edges.now) }
-    ensures first { IfOk result (λ v. (i : ℕ) → i < length edges.now → IsFirstMet (whole_edges edges.now) (edge_at (whole_edges edges.now) i) (after v.items i)) }
+    ensures first { IfOk result (λ v. (i : ℕ) → i < length edges.now
+        → IsFirstMet (whole_edges edges.now) (edge_at (whole_edges edges.now) i)
+        (after v.items i)) }
 {
     let mut next = Vec::with_capacity(alloc, edges.len())?;
     for edge in edges {

@@ -1,3 +1,5 @@
+//! Departures, numbers of nodes and successors round nodes, and the rings that edges are cut into.
+
 use crate::departures::{departures, node_numbers};
 use crate::successors::successors;
 use osm_geom::{Carrier, Edge, Frac, Loc, Part, Point, Seg};

@@ -8,39 +8,9 @@ use Rattle.plane.specs.Height.{distance_right}
 use Rattle.plane.specs.Order.{order}
 use Rattle.plane.specs.Sign.{Minus, Null, Plus, Sign, is_minus, is_null, is_plus, negated, sign, then_sign}
 use Rattle.plane.specs.Vector.{Vector, cross, from_to, orient}
-use Rattle.plane.proofs.PlaneKit.{conflict_by, conflicts-by, step_of, zero-part, same_vector, cross-from-here, cross-here, orient-round, side-moves, side-there}
-use Rattle.plane.proofs.SignKit.{apart, lift, same, ◌⊞◌, ◌⊟◌, ◌⊠◌, agree, agree-sum, all, all-out, all2-out, all4-out, imp, imp-out, null-zero, plus-times, same_sign, same_sign-true, says-at, sign-*, sign-from, sign-reversed, times, times-back, times-plus, not-null-negated}
+use Rattle.plane.proofs.PlaneKit.{conflict_by, conflicts-by, step_of, zero-part, same_vector, cross-from-here, cross-here, orient-round, side-there, distance-change, zero-end, crossed-by}
+use Rattle.plane.proofs.SignKit.{agree, agree-sum, all, all-out, all2-out, all4-out, imp, imp-out, null-zero, plus-times, same_sign, same_sign-true, says-at, sign-*, sign-from, sign-reversed, times, times-back, times-plus, not-null-negated}
 use Rattle.osm_segments.proofs.EdgePairs.{fans}
-
--- ---- as in plane/proofs/Heights, where these are private
-slope-by : (px py ex ey fx fy : ℤ) → ey *ℤ (px *ℤ fy -ℤ py *ℤ fx) -ℤ (px *ℤ ey -ℤ py *ℤ ex) *ℤ fy +ℤ py *ℤ (fx *ℤ ey -ℤ fy *ℤ ex) ≡ pos 0
-slope-by px py ex ey fx fy =
-    let a = lift px in let b = lift py in let c = lift ex in let d = lift ey in let u = lift fx in let v = lift fy in
-    same (d ⊠ (a ⊠ v ⊟ b ⊠ u) ⊟ (a ⊠ d ⊟ b ⊠ c) ⊠ v ⊞ b ⊠ (u ⊠ d ⊟ v ⊠ c)) (lift (pos 0)) (omega arith)
-
-distance-by : (ey fy Cfp Cfw Cep Cew Xf Xe Z : ℤ) → Cfw +ℤ Xf ≡ Cfp → Cew +ℤ Xe ≡ Cep → ey *ℤ Xf -ℤ Xe *ℤ fy +ℤ Z ≡ pos 0 → (ey *ℤ Cfp -ℤ Cep *ℤ fy) +ℤ Z ≡ ey *ℤ Cfw -ℤ Cew *ℤ fy
-distance-by ey fy Cfp Cfw Cep Cew Xf Xe Z h k z =
-    let a = lift ey in let b = lift fy in let c = lift Cfp in let d = lift Cfw in let u = lift Cep in let v = lift Cew in let x = lift Xf in let y = lift Xe in let w = lift Z in
-    same ((a ⊠ c ⊟ u ⊠ b) ⊞ w) (a ⊠ d ⊟ v ⊠ b)
-    (omega (arith, apart (a ⊠ (d ⊞ x)) (a ⊠ c) (ap (λ (t : ℤ). ey *ℤ t) h), apart ((v ⊞ y) ⊠ b) (u ⊠ b) (ap (λ (t : ℤ). t *ℤ fy) k), apart (a ⊠ x ⊟ y ⊠ b ⊞ w) (lift (pos 0)) z))
-
-distance-change : (p w : Vector) (e f : Edge) →
-    cross (distance_right p e) (distance_right p f) +ℤ (w.y -ℤ p.y) *ℤ cross (step_of f) (step_of e) ≡ cross (distance_right w e) (distance_right w f)
-distance-change p w e f =
-    let d = step_of e in let c = step_of f in
-    distance-by d.y c.y (cross (from_to p f.from) (from_to p f.to)) (cross (from_to w f.from) (from_to w f.to)) (cross (from_to p e.from) (from_to p e.to)) (cross (from_to w e.from) (from_to w e.to))
-    (cross (from_to p w) c) (cross (from_to p w) d) ((w.y -ℤ p.y) *ℤ cross c d)
-    (side-moves p w f.from f.to) (side-moves p w e.from e.to) (slope-by (w.x -ℤ p.x) (w.y -ℤ p.y) d.x d.y c.x c.y)
-
-zero-end : (x y z w d : ℤ) → z ≡ pos 0 → x *ℤ z -ℤ y *ℤ w ≡ pos 0 -ℤ w *ℤ y
-zero-end x y z w d e =
-    let x' = lift x in let y' = lift y in let w' = lift w in
-    ap (λ k. x *ℤ k -ℤ y *ℤ w) e ∙ same (x' ⊠ lift (pos 0) ⊟ y' ⊠ w') (lift (pos 0) ⊟ w' ⊠ y') (omega arith)
-
-crossed-by : (s : Sign) → not (is_null s) ≡ true → (h k m n : Sign) → conflict_by (negated s) (negated (negated s)) s (negated s) h k m n ≡ true
-crossed-by Plus c h k m n = refl
-crossed-by Minus c h k m n = refl
-crossed-by Null c h k m n = absurd (cc c)
 
 -- ---- signs
 pub agree-null : (t u : Sign) → agree Null t u ≡ true → u ≡ t

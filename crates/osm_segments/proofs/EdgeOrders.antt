@@ -8,7 +8,7 @@ use Rattle.plane.specs.Height.{distance_right, is_in_span}
 use Rattle.plane.specs.Order.{order}
 use Rattle.plane.specs.Sign.{Minus, Null, Plus, Sign, is_minus, is_null, is_plus, negated, sign, then_sign}
 use Rattle.plane.specs.Vector.{Vector, cross, east, from_to, orient}
-use Rattle.lists.proofs.Bools.{and-left, and-right}
+use Rattle.lists.proofs.ListsKit.{and-left, and-right}
 use Rattle.plane.proofs.PlaneKit.{conflict_by, conflicts-by, right_of, step_of, order-null, order-self-null, cross-here, cross-self, dot-east, plucker-agree, plucker-dot-agree, cross-east}
 use Rattle.plane.proofs.SignKit.{agree, all, all-out, all2-out, all4, all4-out, imp, imp-out, is_plus-true, same_sign, same_sign-true, says-at, sign-from, times, times-plus, agree-back, plus-plus, plus-null, null-plus}
 use Rattle.osm_segments.proofs.EdgePairs.{BeginsLeft, EndsLeft, begin_by, end_by, fans}

@@ -7,7 +7,7 @@ use Rattle.plane.specs.Sign.{Minus, Null, Plus, Sign, is_null, negated, sign}
 use Rattle.plane.specs.Vector.{cross, from_to, orient}
 use Rattle.plane.proofs.PlaneKit.{conflict_by, conflicts-by, step_of, cross-chain, cross-negated}
 use Rattle.plane.proofs.SignKit.{agree, agree-sum, all, all-out, all4, all4-out, imp, imp-out, same_sign}
-use Rattle.lists.proofs.Bools.{not-true-out}
+use Rattle.lists.proofs.ListsKit.{not-true-out}
 
 -- how e turns into f: Plus where f turns right of e on its way up
 abbrev pub fans : Edge → Edge → Sign

@@ -5,7 +5,6 @@ use Rattle.std.specs.declared.cmp.Ordering.{Ordering}
 use Rattle.std.specs.declared.cmp.Ordering.TheVariants.{Less, Equal, Greater}
 use Rattle.std.specs.Ordering.{is_eq, ordering_then}
 use Rattle.std.proofs.lemmas.Cmp.{tied_itself}
-use Rattle.std.proofs.lemmas.List.Sums.{sum_by-cons}
 use Rattle.osm_lattice.specs.declared.conflicts.Kind.{Kind}
 use Rattle.osm_lattice.specs.declared.conflicts.Kind.TheVariants.{Crossing, Overlap}
 use Rattle.osm_lattice.specs.declared.seg.Seg.{Seg}
@@ -18,12 +17,10 @@ use Rattle.osm_segments.specs.Pairs.{conflicts_of, pair_cmp}
 use Rattle.osm_segments.specs.contracts.pairs.PairOrd.TheImpl.{cmp-value}
 use Rattle.osm_segments.proofs.CellPairs.{first_member, later_member, member_cases, no_member}
 use Rattle.osm_segments.proofs.RisingPairs.{conflicts_rising}
+use Rattle.lists.proofs.ListsKit.{count-cons}
 
 -- an order under which each item ties with itself alone
 module _ {X : Type 0} {R : X → X → Ordering} (itself : (x : X) → R x x ≡ Equal) (exact : (x y : X) → R x y ≡ Equal → x ≡ y) where
-  count-cons : (z x : X) (xs : List X) → count_of R z (x ∷ xs) ≡ cond (is_eq (R x z)) 1 0 + count_of R z xs
-  count-cons z x xs = sum_by-cons (λ y. cond (is_eq (R y z)) 1 0) x xs
-
   counts_itself : (y x : X) → y ≡ x → cond {A = ℕ} (is_eq (R y x)) 1 0 ≡ 1
   counts_itself y x e = rw (e, itself x) refl
 
@@ -32,8 +29,8 @@ module _ {X : Type 0} {R : X → X → Ordering} (itself : (x : X) → R x x ≡
   counted x [] c = absurd (no_member x c)
   counted x (y ∷ ys) c =
       ⊎_elim
-      (λ (e : y ≡ x). omega (arith, count-cons x y ys, counts_itself y x e))
-      (λ (c : Contains ys x). omega (arith, count-cons x y ys, counted x ys c))
+      (λ (e : y ≡ x). omega (arith, count-cons R x y ys, counts_itself y x e))
+      (λ (c : Contains ys x). omega (arith, count-cons R x y ys, counted x ys c))
       (member_cases y x ys c)
 
   member_by : (r : Ordering) (x y : X) (ys : List X) → R y x ≡ r → 0 < cond (is_eq r) 1 0 + count_of R x ys → (0 < count_of R x ys → Contains ys x) → Contains (y ∷ ys) x
@@ -44,7 +41,7 @@ module _ {X : Type 0} {R : X → X → Ordering} (itself : (x : X) → R x x ≡
   -- what stands there is a member
   member : (x : X) (xs : List X) → 0 < count_of R x xs → Contains xs x
   member x [] some = absurd (omega arith)
-  member x (y ∷ ys) some = member_by (R y x) x y ys refl (omega (arith, count-cons x y ys)) (member x ys)
+  member x (y ∷ ys) some = member_by (R y x) x y ys refl (omega (arith, count-cons R x y ys)) (member x ys)
 
   -- what is below all others doesn't stand among them
   not_above : (r : Ordering) (x y : X) → R y x ≡ r → R x y ≡ Less → is_eq r ≡ false
@@ -56,7 +53,7 @@ module _ {X : Type 0} {R : X → X → Ordering} (itself : (x : X) → R x x ≡
   none x [] below = refl
   none x (y ∷ ys) below =
       let first : cond {A = ℕ} (is_eq (R y x)) 1 0 ≡ 0 = rw (not_above (R y x) x y refl (below 0 y (omega arith))) refl in
-      omega (arith, count-cons x y ys, none x ys (λ k d h. below (suc k) d (omega arith)))
+      omega (arith, count-cons R x y ys, none x ys (λ k d h. below (suc k) d (omega arith)))
 
   once_by : (r : Ordering) (x y : X) (ys : List X) → R y x ≡ r → IsRising R (y ∷ ys) → count_of R x ys ≤ 1 → cond (is_eq r) 1 0 + count_of R x ys ≤ 1
   once_by Less x y ys e rising later = omega arith
@@ -69,7 +66,7 @@ module _ {X : Type 0} {R : X → X → Ordering} (itself : (x : X) → R x x ≡
   once : (x : X) (xs : List X) → IsRising R xs → count_of R x xs ≤ 1
   once x [] rising = omega arith
   once x (y ∷ ys) rising =
-      omega (arith, count-cons x y ys, once_by (R y x) x y ys refl rising (once x ys (λ i j d h l. rising (suc i) (suc j) d (omega arith) (omega arith))))
+      omega (arith, count-cons R x y ys, once_by (R y x) x y ys refl rising (once x ys (λ i j d h l. rising (suc i) (suc j) d (omega arith) (omega arith))))
 
   -- each once, in strict order, of lists with the same members
   same_once : (xs ys : List X) → IsRising R ys → ((x : X) → Contains xs x → Contains ys x) → ((x : X) → Contains ys x → Contains xs x) → (x : X) → min 1 (count_of R x xs) ≡ count_of R x ys

@@ -7,7 +7,7 @@ use Rattle.osm_segments.specs.declared.pairs.Pair.{Pair}
 use Rattle.osm_segments.specs.Pairs.{conflicts_of, pair_of}
 
 -- the segments after the first
-later_are : (t : Seg) (ts : List Seg) → take (length (t ∷ ts) - 1) (drop 1 (t ∷ ts)) ≡ ts
+pub later_are : (t : Seg) (ts : List Seg) → take (length (t ∷ ts) - 1) (drop 1 (t ∷ ts)) ≡ ts
 later_are t ts = take_all (length (t ∷ ts) - 1) ts (omega arith)
 
 -- one more segment, with the later ones, of those that are left

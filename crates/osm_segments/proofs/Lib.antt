@@ -7,6 +7,7 @@ mod FoundPairs
 mod LaterSegments
 mod RisingPairs
 pub mod SegmentTests
+mod StandOnce
 mod Sweeps
 mod SweptLists
 mod TiltedEdges

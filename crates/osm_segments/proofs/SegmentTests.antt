@@ -1,8 +1,7 @@
 -- Two segments with the same coordinates are one.
-use Rattle.std.proofs.Common.{List, [], arith, get_or, length, refl, suc, true, zero, ℕ, ◌&&◌, ◌<◌, ◌∷◌, ◌≡◌}
+use Rattle.std.proofs.Common.{true, ◌&&◌, ◌≡◌}
 use Rattle.std.specs.Ordering.{int_eq}
-use Rattle.lists.proofs.Bools.{and-left, and-right}
-use Rattle.lists.proofs.Integers.{int_eq-true}
+use Rattle.lists.proofs.ListsKit.{and-left, and-right, int_eq-true}
 use Rattle.osm_lattice.specs.declared.loc.Loc.{Loc}
 use Rattle.osm_lattice.specs.declared.seg.Seg.{Seg}
 use Rattle.osm_lattice.proofs.LatticeKit.{loc_from_fields, seg_from_ends}
@@ -14,8 +13,3 @@ pub seg_by_tests : (s t : Seg) → ((int_eq s.a.x t.a.x && int_eq s.a.y t.a.y) &
 seg_by_tests s t h =
     let a = int_eq s.a.x t.a.x && int_eq s.a.y t.a.y in let b = int_eq s.b.x t.b.x && int_eq s.b.y t.b.y in
     seg_from_ends s t (loc_by_tests s.a t.a (and-left a b h)) (loc_by_tests s.b t.b (and-right a b h))
-
-pub same_get : {X : Type 0} (xs : List X) (i : ℕ) (d e : X) → i < length xs → get_or xs i d ≡ get_or xs i e
-same_get [] i d e h = absurd (omega arith)
-same_get (x ∷ xs) zero d e h = refl
-same_get (x ∷ xs) (suc i) d e h = same_get xs i d e (omega arith)

@@ -62,8 +62,10 @@ fn fits_after(s: Seg, t: Seg) -> bool
 /// Whether the two between which a place lies fit.
 fn fits_at(status: &ChunkedList<Seg>, place: usize, s: Seg) -> bool
     requires { place ≤ length status.now }
-    ensures before { result ≡ true → 0 < place → FitsBefore s (slice_index_or status.now (place - 1) s) }
-    ensures after { result ≡ true → place < length status.now → FitsAfter s (slice_index_or status.now place s) }
+    ensures before { result ≡ true → 0 < place
+        → FitsBefore s (slice_index_or status.now (place - 1) s) }
+    ensures after { result ≡ true → place < length status.now
+        → FitsAfter s (slice_index_or status.now place s) }
 {
     if place > 0 && !fits_before(s, status.get(place - 1)) {
         return false;
@@ -107,7 +109,9 @@ fn find(status: &ChunkedList<Seg>, s: Seg) -> Option<usize>
 /// Whether the two beside a place don't conflict.
 fn closes(status: &ChunkedList<Seg>, place: usize) -> bool
     requires { place < length status.now }
-    ensures { result ≡ true → (d : Seg) → 0 < place → place + 1 < length status.now → conflict_of (slice_index_or status.now (place - 1) d) (slice_index_or status.now (place + 1) d) ≡ None }
+    ensures { result ≡ true → (d : Seg) → 0 < place → place + 1 < length status.now
+        → conflict_of (slice_index_or status.now (place - 1) d)
+        (slice_index_or status.now (place + 1) d) ≡ None }
 {
     if place > 0
         && place < status.len() - 1
@@ -155,8 +159,10 @@ fn is_before(p: Loc, q: Loc) -> bool
 fn next_enters(segs: &[Seg], next: usize, end: Seg) -> bool
     requires { IsRising seg_cmp segs.now }
     ensures inside { result ≡ true → next < length segs.now }
-    ensures enters { result ≡ true → (d : Seg) → order (vector_of (slice_index_or segs.now next d).a) (vector_of end.b) ≡ Plus }
-    ensures leaves { result ≡ false → (i : ℕ) (d : Seg) → next ≤ i → i < length segs.now → IsAfter end.b (slice_index_or segs.now i d).a }
+    ensures enters { result ≡ true → (d : Seg)
+        → order (vector_of (slice_index_or segs.now next d).a) (vector_of end.b) ≡ Plus }
+    ensures leaves { result ≡ false → (i : ℕ) (d : Seg) → next ≤ i → i < length segs.now
+        → IsAfter end.b (slice_index_or segs.now i d).a }
 {
     if next >= segs.len() {
         return false;

@@ -1,3 +1,5 @@
+//! The conflicting pairs among segments.
+
 ghost use Rattle.std.specs.Prelude.{◌≡◌, ◌++◌, [], IfOk, OnOk, true};
 ghost use Rattle.std.specs.List.{filter_map};
 ghost use Rattle.osm_lattice.specs.Seg.{seg_cmp};
@@ -40,7 +42,8 @@ fn pair_of(first: Seg, second: Seg) -> Option<Pair>
 
 /// Adds each of `rest` that conflicts with `first`.
 fn push_conflicts(pairs: &mut Vec<Pair>, first: Seg, rest: &[Seg]) -> Result<(), OutOfMemory>
-    ensures { OnOk result (pairs.new.items ≡ pairs.old.items ++ filter_map (pair_of first) rest.now) }
+    ensures { OnOk result (pairs.new.items ≡ pairs.old.items
+        ++ filter_map (pair_of first) rest.now) }
 {
     for &second in rest {
         if let Some(pair) = pair_of(first, second) {

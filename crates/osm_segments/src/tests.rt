@@ -1,3 +1,5 @@
+//! What survives, stands repeatedly, conflicts and ends oddly, on small lists of segments.
+
 use super::*;
 use osm_lattice::{Kind, Loc, Seg};
 use std::alloc::Global;

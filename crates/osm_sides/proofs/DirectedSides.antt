@@ -1,9 +1,8 @@
 -- What the odd side gives is sided, and counts the parity.
-use Rattle.std.proofs.Common.{List, [], pos, ◌*ℤ◌, ◌≡◌, ◌∙◌, ap, sym, subst, arith}
-use Rattle.std.proofs.lemmas.Int.{ints}
+use Rattle.std.proofs.Common.{List, [], pos, ◌≡◌, ◌∙◌, ap, sym, subst}
 use Rattle.plane.specs.Scale.{scaled_point}
-use Rattle.plane.specs.Vector.{Vector, east}
-use Rattle.plane.proofs.PlaneKit.{same_vector}
+use Rattle.plane.specs.Vector.{east}
+use Rattle.plane.proofs.PlaneKit.{point-once}
 use Rattle.winding.specs.EdgeList.{winding_number}
 use Rattle.winding.specs.OddSide.{directed}
 use Rattle.winding.specs.ScaledEdges.{scaled_edges}
@@ -19,26 +18,23 @@ use Rattle.plane_edges.specs.Sided.{IsSided}
 use Rattle.plane_edges.specs.SidedLaws.{IsLattice}
 use Rattle.plane_edges.proofs.EdgesKit.{common-lattice, lattice_whole}
 use Rattle.osm_sides.specs.Directions.{AreDirected, CountsParity}
-use Rattle.osm_sides.specs.Survivors.{HasEvenNodes, edges_of}
+use Rattle.osm_sides.specs.Survivors.{HasEvenNodes, plane_edges_of}
 use Rattle.osm_sides.proofs.PlaneEdges.{lattice_edges, plane_edges}
 use Rattle.osm_sides.proofs.Survivors.{conflict_free, even_points}
-
-point_once : (p : Vector) → scaled_point (pos 1) p ≡ p
-point_once p = same_vector (pos 1 *ℤ p.x) (pos 1 *ℤ p.y) p.x p.y (omega (arith, ints)) (omega (arith, ints))
 
 module _ (ss : List Seg) (es : List Edge) (rising : IsRising seg_cmp ss) (clear : conflicts_of ss ≡ []) (even : HasEvenNodes ss) (d : AreDirected ss es) where
   lattice : IsLattice es
   lattice = lattice_edges ss ss es d.firsts d.lasts
 
-  plane_is : whole_edges es ≡ directed (edges_of ss)
+  plane_is : whole_edges es ≡ directed (plane_edges_of ss)
   plane_is = lattice_whole es lattice ∙ plane_edges ss ss es d.firsts d.lasts
 
   pub directed_is_sided : IsSided es
-  directed_is_sided = subst winding.IsSided (sym plane_is) (directed_sided (edges_of ss) (conflict_free ss rising clear) (even_points ss even))
+  directed_is_sided = subst winding.IsSided (sym plane_is) (directed_sided (plane_edges_of ss) (conflict_free ss rising clear) (even_points ss even))
 
   pub directed_counts : CountsParity ss es
   directed_counts q some p =
       ap (λ k. winding_number east (scaled_point (pos k) p) (scaled_edges q (whole_edges es))) (common-lattice es lattice)
-      ∙ ap (λ v. winding_number east v (scaled_edges q (whole_edges es))) (point_once p)
+      ∙ ap (λ v. winding_number east v (scaled_edges q (whole_edges es))) (point-once p)
       ∙ ap (λ xs. winding_number east p (scaled_edges q xs)) plane_is
-      ∙ rational_count q some p (edges_of ss) (conflict_free ss rising clear) (even_points ss even)
+      ∙ rational_count q some p (plane_edges_of ss) (conflict_free ss rising clear) (even_points ss even)

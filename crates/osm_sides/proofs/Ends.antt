@@ -8,8 +8,7 @@ use Rattle.std.proofs.lemmas.Cmp.{int_cmp_total}
 use Rattle.std.proofs.lemmas.Int.{ints}
 use Rattle.std.proofs.lemmas.List.Sorted.{Contains-permutation, ranks_by, sorted_far}
 use Rattle.lists.specs.Member.{In}
-use Rattle.lists.proofs.Members.{into-filter}
-use Rattle.lists.proofs.Items.{at-in}
+use Rattle.lists.proofs.ListsKit.{at-in, into-filter}
 use Rattle.osm_lattice.specs.declared.seg.Seg.{Seg}
 use Rattle.osm_sides.specs.SideTests.{level}
 use Rattle.osm_sides.specs.Sweep.{AreEnds}

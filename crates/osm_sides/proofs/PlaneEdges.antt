@@ -16,7 +16,7 @@ use Rattle.osm_lattice.specs.Seg.{edge_of}
 use Rattle.plane_edges.specs.Multiple.{edge_times, edges_times, point_times}
 use Rattle.plane_edges.specs.SidedLaws.{IsLattice}
 use Rattle.osm_sides.specs.Directions.{first_end, last_end}
-use Rattle.osm_sides.specs.Survivors.{edges_of}
+use Rattle.osm_sides.specs.Survivors.{plane_edges_of}
 
 lattice_point : (p : Loc) → point_times 1 (Lattice p) ≡ vector_of p
 lattice_point p = same_vector (pos 1 *ℤ (p.x *ℤ pos 1)) (pos 1 *ℤ (p.y *ℤ pos 1)) p.x p.y (omega (arith, ints)) (omega (arith, ints))
@@ -26,10 +26,10 @@ plane_ends true s = (refl, refl)
 plane_ends false s = (refl, refl)
 
 module _ (all : List Seg) where
-  one_edge : (s : Seg) (e : Edge) → e.from ≡ first_end all s → e.to ≡ last_end all s → edge_times 1 e ≡ odd_side.directed_edge (edges_of all) (edge_of s)
+  one_edge : (s : Seg) (e : Edge) → e.from ≡ first_end all s → e.to ≡ last_end all s → edge_times 1 e ≡ odd_side.directed_edge (plane_edges_of all) (edge_of s)
   one_edge s e f t =
-      let up = odd_side.runs_up (edges_of all) (edge_of s) in
-      let directed = odd_side.directed_edge (edges_of all) (edge_of s) in
+      let up = odd_side.runs_up (plane_edges_of all) (edge_of s) in
+      let directed = odd_side.directed_edge (plane_edges_of all) (edge_of s) in
       same_edge_by (point_times 1 e.from) (point_times 1 e.to) directed.from directed.to
       (ap (point_times 1) f ∙ lattice_point (cond up s.a s.b) ∙ (plane_ends up s).0)
       (ap (point_times 1) t ∙ lattice_point (cond up s.b s.a) ∙ (plane_ends up s).1)
@@ -37,7 +37,7 @@ module _ (all : List Seg) where
   same_cons : {X : Type 0} {x y : X} {xs ys : List X} → x ≡ y → xs ≡ ys → x ∷ xs ≡ y ∷ ys
   same_cons e f = λ i. e i ∷ f i
 
-  pub plane_edges : (segs : List Seg) (es : List Edge) → map (λ (e : Edge). e.from) es ≡ map (first_end all) segs → map (λ (e : Edge). e.to) es ≡ map (last_end all) segs → edges_times 1 es ≡ map (odd_side.directed_edge (edges_of all)) (edges_of segs)
+  pub plane_edges : (segs : List Seg) (es : List Edge) → map (λ (e : Edge). e.from) es ≡ map (first_end all) segs → map (λ (e : Edge). e.to) es ≡ map (last_end all) segs → edges_times 1 es ≡ map (odd_side.directed_edge (plane_edges_of all)) (plane_edges_of segs)
   plane_edges [] [] f t = refl
   plane_edges [] (e ∷ es) f t = cc
   plane_edges (s ∷ segs) [] f t = cc

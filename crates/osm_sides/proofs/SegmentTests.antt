@@ -8,16 +8,13 @@ use Rattle.std.proofs.lemmas.Int.{ints}
 use Rattle.plane.proofs.SignKit.{Says, says}
 use Rattle.std.proofs.lemmas.Cmp.{tied_itself}
 use Rattle.plane.specs.Sign.{Sign, Plus, Null, Minus, is_null, is_plus, sign, then_sign}
-use Rattle.plane.specs.Vector.{Vector, same_point}
+use Rattle.plane.specs.Vector.{same_point}
 use Rattle.plane.proofs.PlaneKit.{same_point-refl, same_point-true}
 use Rattle.osm_lattice.specs.declared.loc.Loc.{Loc}
 use Rattle.osm_lattice.specs.declared.seg.Seg.{Seg}
 use Rattle.osm_lattice.specs.Loc.{loc_cmp, vector_of}
-use Rattle.osm_lattice.proofs.LatticeKit.{loc_total, rising_edge, loc_from_fields, loc_same}
+use Rattle.osm_lattice.proofs.LatticeKit.{loc_total, rising_edge, loc_same, loc_from_vectors}
 use Rattle.osm_sides.specs.SideTests.{level, same}
-
-loc_from_vectors : (p q : Loc) → vector_of p ≡ vector_of q → p ≡ q
-loc_from_vectors p q e = loc_from_fields p q (ap (λ (v : Vector). v.x) e) (ap (λ (v : Vector). v.y) e)
 
 -- a location ties with itself alone
 same_by : (p q : Loc) (b : Bool) (o : Ordering) → same_point (vector_of p) (vector_of q) ≡ b → loc_cmp p q ≡ o → is_eq o ≡ b

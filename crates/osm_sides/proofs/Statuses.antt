@@ -10,14 +10,12 @@ use Rattle.plane.specs.Height.{is_in_span, is_right_above}
 use Rattle.plane.specs.Sign.{is_plus, sign}
 use Rattle.plane.specs.Vector.{Vector}
 use Rattle.plane.proofs.PlaneKit.{right_of}
-use Rattle.lists.proofs.Bools.{and-left, and-right, not-true-out, not-false-out}
+use Rattle.lists.proofs.ListsKit.{and-left, and-right, at-in, in-filter, in-map, in-passes, in-take, not-false-out, not-true-out, same_get}
 use Rattle.winding.specs.ConflictFree.{IsConflictFree}
 use Rattle.lists.specs.Member.{In}
 use Rattle.winding.specs.OddSide.{runs_up}
 use Rattle.winding.specs.Parity.{is_even}
 use Rattle.winding.proofs.WindingKit.{left-span, right_left}
-use Rattle.lists.proofs.Members.{in-filter, in-map, in-passes}
-use Rattle.lists.proofs.Items.{at-in, in-take}
 use Rattle.status.specs.Leaving.{Remains}
 use Rattle.status.specs.Status.{IsStatus}
 use Rattle.status.proofs.StatusKit.{all_is_front, front_is_all, next_enters, next_passes, all_remain, in-front, climbs, counts, parted, rises-among}
@@ -28,13 +26,12 @@ use Rattle.osm_lattice.specs.Seg.{edge_of, seg_cmp}
 use Rattle.lists.specs.Rising.{IsRising}
 use Rattle.osm_segments.specs.Pairs.{conflicts_of}
 use Rattle.osm_sides.specs.SideTests.{counted, left_count, left_of, level, right_count, starts_left}
-use Rattle.osm_sides.specs.Survivors.{edges_of}
+use Rattle.osm_sides.specs.Survivors.{plane_edges_of}
 use Rattle.osm_sides.specs.Sweep.{AreDirectedTo, AreEnds, IsEntered, IsSweptTo, begins_by, ends_above}
 use Rattle.osm_sides.proofs.OddSideCounts.{runs_up_is}
 use Rattle.osm_sides.proofs.StatusEdges.{counts-is}
 use Rattle.osm_sides.proofs.Survivors.{conflict_free}
 use Rattle.osm_sides.proofs.SweptHeights.{begins-later, begins-level, ended-away, ends-sooner, high-sign, later-away, level-sign, none-begun, span-ends, span-is, span-slopes, spans, IsSwept}
-use Rattle.osm_segments.proofs.SegmentTests.{same_get}
 
 -- ---- lists
 -- tests that agree on the items of a list keep the same ones, and part it alike
@@ -47,14 +44,14 @@ parted-alike : {X : Type 0} (f g : X → Bool) (xs : List X) → All (λ x. f x 
 parted-alike f g xs all parted i j d h l k = all i d (omega arith) ∙ parted i j d h l (sym (all j d l) ∙ k)
 
 module _ (segs : List Seg) (rising : IsRising seg_cmp segs) (clear : conflicts_of segs ≡ []) where
-  free : IsConflictFree (edges_of segs)
+  free : IsConflictFree (plane_edges_of segs)
   free = conflict_free segs rising clear
 
   -- ---- those that are right of a segment at its lower end
   module _ (p : Vector) (s : Seg) (stands : In s segs) (level : s.a.y ≡ p.y) (high : ends_above p.y s ≡ true) where
     pub counted-is : (t : Seg) → In t segs → counted s t ≡ is_right_above p (edge_of s) (edge_of t)
     unfolding counted starts_left
-    counted-is t i = counts-is p (edges_of segs) free (edge_of s) (in-map edge_of segs s stands) (level-sign p.y s.a.y level) (high-sign p.y s high) (edge_of t) (in-map edge_of segs t i)
+    counted-is t i = counts-is p (plane_edges_of segs) free (edge_of s) (in-map edge_of segs s stands) (level-sign p.y s.a.y level) (high-sign p.y s high) (edge_of t) (in-map edge_of segs t i)
 
     own-span : is_in_span p (edge_of s) ≡ true
     own-span = spans p s (begins-level p.y s.a.y level) high
@@ -115,14 +112,14 @@ module _ (segs : List Seg) (rising : IsRising seg_cmp segs) (clear : conflicts_o
         (filter-alike (λ t. is_in_span q (edge_of t)) (ends_above q.y) status
         (λ i d h. let t = get_or status i d in
         span-is q t ∙ ap (λ b. b && ends_above q.y t) (begins-later p.y q.y t.a.y up (begun t (in-filter (λ (t : Seg). is_in_span p (edge_of t)) (take k segs) t (front.members i d h))))))
-        (rises-among edge_of p q (take k segs) status (edges_of segs) free (λ t i. in-map edge_of segs t (in-take k segs t i)) front
+        (rises-among edge_of p q (take k segs) status (plane_edges_of segs) free (λ t i. in-map edge_of segs t (in-take k segs t i)) front
         (λ t i h. spans p t (begun t i) (ends-sooner p.y q.y t.b.y up (span-ends q t h))))
 
   -- ---- the odd side by places in the status
   module _ (p : Vector) (status : List Seg) (is : IsStatus edge_of p segs status) where
     module _ (q : Loc) (level : q.y ≡ p.y) where
       at-point : IsStatus edge_of (vector_of q) segs status
-      at-point = climbs edge_of p (vector_of q) segs status (edges_of segs) free (in-map edge_of segs) is (λ t i. ap (λ (z : ℤ). not (is_plus (sign (t.a.y -ℤ z))) && is_plus (sign (t.b.y -ℤ z))) (sym level))
+      at-point = climbs edge_of p (vector_of q) segs status (plane_edges_of segs) free (in-map edge_of segs) is (λ t i. ap (λ (z : ℤ). not (is_plus (sign (t.a.y -ℤ z))) && is_plus (sign (t.b.y -ℤ z))) (sym level))
 
       left-on : (t u : Seg) → In u (filter (λ (t : Seg). is_in_span (vector_of q) (edge_of t)) segs) → right_of (vector_of q) (edge_of t) (edge_of u) ≡ true → left_of q t ≡ true → left_of q u ≡ true
       unfolding left_of
@@ -152,7 +149,7 @@ module _ (segs : List Seg) (rising : IsRising seg_cmp segs) (clear : conflicts_o
       unfolding counted starts_left
       counted-spans t h = spans-here t (and-left (is_in_span (vector_of s.a) (edge_of t)) _ (and-right (not (same_edge (edge_of s) (edge_of t))) _ h))
 
-      pub runs_up-whole : runs_up (edges_of segs) (edge_of s) ≡ cond (level s) (not (is_even (left_count s.a status))) (is_even (right_count s status))
+      pub runs_up-whole : runs_up (plane_edges_of segs) (edge_of s) ≡ cond (level s) (not (is_even (left_count s.a status))) (is_even (right_count s status))
       runs_up-whole =
           runs_up_is segs s
           ∙ ap (λ n. cond (level s) (not (is_even n)) (is_even (right_count s segs))) (sym (counts edge_of p segs status is (left_of s.a) left-spans))

@@ -12,7 +12,7 @@ use Rattle.std.proofs.lemmas.Int.{ints}
 use Rattle.plane.specs.Height.{is_in_span}
 use Rattle.plane.specs.Sign.{Null, Plus, is_plus, sign}
 use Rattle.plane.specs.Vector.{Vector}
-use Rattle.lists.proofs.Bools.{and-left, and-right, not-false-out}
+use Rattle.lists.proofs.ListsKit.{and-left, and-right, not-false-out}
 use Rattle.plane.proofs.SignKit.{is_plus-true, says, self-diff}
 use Rattle.osm_lattice.specs.declared.seg.Seg.{Seg}
 use Rattle.osm_lattice.specs.Seg.{edge_of, seg_cmp}

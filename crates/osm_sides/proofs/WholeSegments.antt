@@ -10,7 +10,7 @@ use Rattle.osm_lattice.specs.declared.seg.Seg.{Seg}
 use Rattle.osm_lattice.specs.Seg.{edge_of}
 use Rattle.osm_geom.specs.WholeSegment.{IsWholeSegment}
 use Rattle.osm_sides.specs.Directions.{AreDirected, first_end, last_end}
-use Rattle.osm_sides.specs.Survivors.{edges_of}
+use Rattle.osm_sides.specs.Survivors.{plane_edges_of}
 
 chosen : (b : Bool) (p q : Loc) → Lattice (cond b p q) ≡ cond b (Lattice p) (Lattice q)
 chosen true p q = refl
@@ -23,10 +23,10 @@ whole_by all (s ∷ segs) [] c f l = let n = ap length c in absurd (omega arith)
 whole_by all (s ∷ segs) (e ∷ es) c f l = All-cons IsWholeSegment e es
     (record {
       segment = s;
-      forward = odd_side.runs_up (edges_of all) (edge_of s);
+      forward = odd_side.runs_up (plane_edges_of all) (edge_of s);
       carrier = ap (λ xs. get_or xs 0 e.carrier) c;
-      from = ap (λ xs. get_or xs 0 e.from) f ∙ chosen (odd_side.runs_up (edges_of all) (edge_of s)) s.a s.b;
-      to = ap (λ xs. get_or xs 0 e.to) l ∙ chosen (odd_side.runs_up (edges_of all) (edge_of s)) s.b s.a;
+      from = ap (λ xs. get_or xs 0 e.from) f ∙ chosen (odd_side.runs_up (plane_edges_of all) (edge_of s)) s.a s.b;
+      to = ap (λ xs. get_or xs 0 e.to) l ∙ chosen (odd_side.runs_up (plane_edges_of all) (edge_of s)) s.b s.a;
     })
     (whole_by all segs es (ap (drop 1) c) (ap (drop 1) f) (ap (drop 1) l))
 

@@ -12,14 +12,14 @@ use Rattle.osm_geom.specs.declared.point.Point.TheVariants.{Lattice}
 use Rattle.osm_lattice.specs.declared.seg.Seg.{Seg}
 use Rattle.osm_lattice.specs.Seg.{edge_of}
 use Rattle.plane_edges.specs.Sided.{signed_count_at}
-use Rattle.osm_sides.specs.Survivors.{edges_of}
+use Rattle.osm_sides.specs.Survivors.{plane_edges_of}
 
 -- where s begins and ends, directed by the odd side among segs
 abbrev pub first_end : List Seg → Seg → Point
-first_end segs s = Lattice (cond (odd_side.runs_up (edges_of segs) (edge_of s)) s.a s.b)
+first_end segs s = Lattice (cond (odd_side.runs_up (plane_edges_of segs) (edge_of s)) s.a s.b)
 
 abbrev pub last_end : List Seg → Seg → Point
-last_end segs s = Lattice (cond (odd_side.runs_up (edges_of segs) (edge_of s)) s.b s.a)
+last_end segs s = Lattice (cond (odd_side.runs_up (plane_edges_of segs) (edge_of s)) s.b s.a)
 
 -- one edge for each segment, in order, its odd side on the left
 pub record AreDirected (segs : List Seg) (edges : List Edge) : Type 0 where
@@ -29,4 +29,4 @@ pub record AreDirected (segs : List Seg) (edges : List Edge) : Type 0 where
 
 -- at every point p.x / q, p.y / q the signed count of the edges is the parity of the segments
 abbrev pub CountsParity : List Seg → List Edge → Type 0
-CountsParity segs edges = (q : ℤ) → sign q ≡ Plus → (p : Vector) → signed_count_at q p edges ≡ pos (crossing_count east p (scaled_edges q (edges_of segs)) % 2)
+CountsParity segs edges = (q : ℤ) → sign q ≡ Plus → (p : Vector) → signed_count_at q p edges ≡ pos (crossing_count east p (scaled_edges q (plane_edges_of segs)) % 2)

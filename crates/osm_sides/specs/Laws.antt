@@ -10,7 +10,7 @@ use Rattle.osm_segments.specs.Pairs.{conflicts_of}
 use Rattle.plane_edges.specs.Multiple.{edges_times}
 use Rattle.plane_edges.specs.Sided.{IsSided}
 use Rattle.osm_sides.specs.Directions.{AreDirected}
-use Rattle.osm_sides.specs.Survivors.{HasEvenNodes, edges_of}
+use Rattle.osm_sides.specs.Survivors.{HasEvenNodes, plane_edges_of}
 
 -- directed segments run along whole segments
 abbrev pub DirectedAreWhole : Type 0
@@ -24,4 +24,4 @@ DirectedAreSided =
 
 -- they are the edges that the odd side directs in the plane
 abbrev pub DirectedAreOfPlane : Type 0
-DirectedAreOfPlane = (segs : List Seg) (edges : List Edge) → AreDirected segs edges → edges_times 1 edges ≡ directed (edges_of segs)
+DirectedAreOfPlane = (segs : List Seg) (edges : List Edge) → AreDirected segs edges → edges_times 1 edges ≡ directed (plane_edges_of segs)

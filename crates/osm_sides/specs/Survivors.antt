@@ -6,8 +6,8 @@ use Rattle.osm_lattice.specs.Seg.{edge_of}
 use Rattle.osm_segments.specs.Counts.{AreOddNodes}
 
 -- the plane's edges, each from its lesser end to its greater one
-abbrev pub edges_of : List Seg → List Edge
-edges_of segs = map edge_of segs
+abbrev pub plane_edges_of : List Seg → List Edge
+plane_edges_of segs = map edge_of segs
 
 -- an even number of segments end at each location
 abbrev pub HasEvenNodes : List Seg → Type 0

@@ -1,3 +1,5 @@
+//! The directions of survivors: by their places in the status of one sweep upwards.
+
 ghost use Rattle.std.specs.Prelude.{◌≡◌, [], All, IfOk, length};
 ghost use Rattle.osm_lattice.specs.Seg.{seg_cmp};
 ghost use Rattle.osm_geom.specs.WholeSegment.{IsWholeSegment};

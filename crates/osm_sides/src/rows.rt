@@ -23,7 +23,8 @@ fn place(status: &ChunkedList<Seg>, s: Seg) -> usize
     requires { IsPartitionedBy (λ t. not (counted s t)) status.now }
     ensures within { result ≤ length status.now }
     ensures before { AllWithin (λ t. not (counted s t) ≡ true) status.now 0 result }
-    ensures after { AllWithin (λ t. not (counted s t) ≡ false) status.now result (length status.now) }
+    ensures after { AllWithin (λ t. not (counted s t) ≡ false) status.now result
+        (length status.now) }
 {
     status.partition_point(|t| !is_counted(s, *t))
 }
@@ -103,7 +104,8 @@ fn left_in(status: &ChunkedList<Seg>, p: Loc) -> usize
 fn runs_up_in(status: &ChunkedList<Seg>, s: Seg) -> bool
     requires flat { level s ≡ true → IsPartitionedBy (λ t. not (left_of s.a t)) status.now }
     requires sloping { level s ≡ false → IsPartitionedBy (λ t. not (counted s t)) status.now }
-    ensures { result ≡ cond (level s) (not (is_even (left_count s.a status.now))) (is_even (right_count s status.now)) }
+    ensures { result ≡ cond (level s) (not (is_even (left_count s.a status.now)))
+        (is_even (right_count s status.now)) }
 {
     if is_horizontal(s) {
         left_in(status, s.a) % 2 != 0

@@ -1,3 +1,5 @@
+//! Directions of small lists of segments.
+
 use super::*;
 use osm_geom::{Edge, Loc, Point, Seg};
 use osm_segments::{conflicts, odd_nodes, survivors};

@@ -1,7 +1,7 @@
 use Rattle.std.proofs.Common.{ap, subst, sym, refl, ◌+◌, ◌∙◌}
 use Rattle.osm_geom.specs.Span.{lower_end, spans}
 use Rattle.osm_nest.specs.SweptEdges.{AreRingEdges}
-use Rattle.lists.proofs.Bools.{clash}
+use Rattle.lists.proofs.ListsKit.{clash}
 use Rattle.osm_nest.proofs.RingEdges.{one-added, one-passed}
 use Rattle.osm_nest.proofs.ring_edges.push_ring.Goals as goal
 use Rattle.osm_nest.proofs.ring_edges.push_ring.Goals.{then-is_sloping+in_ok-push, else-is_sloping}

@@ -1,7 +1,7 @@
 -- What is taken out doesn't span the height.
 use Rattle.std.proofs.Common.{ap, filter, rules, subst, sym, ◌∙◌}
 use Rattle.lists.specs.Member.{In}
-use Rattle.lists.proofs.Members.{in-filter}
+use Rattle.lists.proofs.ListsKit.{in-filter}
 use Rattle.osm_nest.specs.SweptEdges.{is_within}
 use Rattle.osm_nest.proofs.FilteredLists.{filter-narrower, filter-remove, in-remove}
 use Rattle.osm_nest.proofs.sweep_status.take_out.Goals as goal

@@ -8,7 +8,7 @@ use Rattle.osm_geom.specs.Span.{lower_end}
 use Rattle.osm_nest.specs.declared.ring_edges.RingEdge.{RingEdge}
 use Rattle.osm_nest.specs.RingLists.{AreRings}
 use Rattle.osm_nest.specs.SweptEdges.{AreSlopingEdges, IsRowPut, StartsRise, is_within}
-use Rattle.lists.proofs.Items.{item-in}
+use Rattle.lists.proofs.ListsKit.{item-in}
 use Rattle.osm_nest.proofs.KnownEnclosers.{none-under-way, status-tells}
 use Rattle.osm_nest.proofs.SweptHeights.{IsRowPassed, IsUnderWay, passed-grows, passed-items, passed-on, passed-whole}
 use Rattle.osm_nest.proofs.swept_enclosers.swept_enclosers.Goals as goal

@@ -9,7 +9,7 @@ use Rattle.osm_rings.specs.Departures.{IsFirstMet}
 use Rattle.osm_rings.proofs.FirstMets.{met-more}
 use Rattle.osm_rings.proofs.Multiplied.{read-edge}
 use Rattle.osm_rings.proofs.successors.successors.Goals as goal
-use Rattle.lists.proofs.Items.{at-in}
+use Rattle.lists.proofs.ListsKit.{at-in}
 
 pub loop-edge-preserved : goal.loop-edge-preserved
 loop-edge-preserved c =

@@ -5,9 +5,9 @@ use Rattle.plane.specs.Order.{order}
 use Rattle.plane.specs.Sign.{Plus, is_minus}
 use Rattle.osm_lattice.specs.declared.seg.Seg.{Seg}
 use Rattle.osm_lattice.specs.Loc.{vector_of}
-use Rattle.osm_segments.proofs.SegmentTests.{same_get}
 use Rattle.osm_segments.proofs.Sweeps.{IsSwept, all_clear, from-contains, has_entered, has_left, none_swept, to-contains}
 use Rattle.osm_segments.proofs.clear.is_clear.Goals as goal
+use Rattle.lists.proofs.ListsKit.{same_get}
 
 pub loop-left-init : goal.loop-left-init
 loop-left-init c = (omega arith, subst (IsSwept c.args.segs.now c.in_ok-ends.ends.items 0 0) (sym c.new-status.ensures) (none_swept c.args.segs.now c.in_ok-ends.ends.items))

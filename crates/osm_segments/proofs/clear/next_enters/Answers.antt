@@ -1,7 +1,7 @@
 use Rattle.std.proofs.Common.{arith, get_or, length, sym, ◌<◌, ◌∙◌}
-use Rattle.osm_segments.proofs.SegmentTests.{same_get}
 use Rattle.osm_segments.proofs.Sweeps.{leaves-by}
 use Rattle.osm_segments.proofs.clear.next_enters.Goals as goal
+use Rattle.lists.proofs.ListsKit.{same_get}
 
 pub returns-clause-leaves : goal.returns-clause-leaves
 returns-clause-leaves c unmet =

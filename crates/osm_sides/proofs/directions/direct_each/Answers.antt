@@ -8,7 +8,7 @@ use Rattle.osm_sides.specs.Sweep.{AreDirectedTo, ends_above}
 use Rattle.osm_sides.proofs.Statuses.{none-directed, none-swept, remaining, risen}
 use Rattle.osm_sides.proofs.directions.direct_each.Goals as goal
 use Rattle.osm_sides.proofs.SweptHeights.{IsSwept}
-use Rattle.lists.proofs.Bools.{not-false-out}
+use Rattle.lists.proofs.ListsKit.{not-false-out}
 
 pub loop-done-init : goal.loop-done-init
 loop-done-init c =

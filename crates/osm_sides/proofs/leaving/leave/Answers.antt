@@ -1,6 +1,6 @@
 use Rattle.std.proofs.Common.{arith, not, rules}
 use Rattle.std.proofs.lemmas.List.Sorted.{IsPartitionPoint-from_clause}
-use Rattle.lists.proofs.Bools.{not-true-out, not-false-out}
+use Rattle.lists.proofs.ListsKit.{not-false-out, not-true-out}
 use Rattle.osm_sides.specs.Sweep.{ends_above}
 use Rattle.osm_sides.proofs.SweptHeights.{ends-parts}
 use Rattle.osm_sides.proofs.leaving.leave.Goals as goal

@@ -3,7 +3,7 @@ use Rattle.status.specs.Leaving.{Remains}
 use Rattle.status.proofs.StatusKit.{all_are_taken_out, next_is_taken_out}
 use Rattle.osm_sides.specs.Sweep.{ends_above}
 use Rattle.osm_sides.proofs.leaving.leave_next.Goals as goal
-use Rattle.osm_segments.proofs.SegmentTests.{same_get}
+use Rattle.lists.proofs.ListsKit.{same_get}
 
 pub returns-in-Some : goal.returns-in-Some
 returns-in-Some c old remains =

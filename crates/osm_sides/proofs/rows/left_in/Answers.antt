@@ -1,6 +1,6 @@
 use Rattle.std.proofs.Common.{arith, not, rules}
 use Rattle.osm_sides.specs.SideTests.{left_of}
-use Rattle.lists.proofs.Bools.{not-true-out, not-false-out}
+use Rattle.lists.proofs.ListsKit.{not-false-out, not-true-out}
 use Rattle.osm_sides.proofs.Counts.{count_from}
 use Rattle.osm_sides.proofs.rows.left_in.Goals as goal
 

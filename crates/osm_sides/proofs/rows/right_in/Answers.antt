@@ -1,6 +1,6 @@
 use Rattle.std.proofs.Common.{arith}
 use Rattle.osm_sides.specs.SideTests.{counted}
-use Rattle.lists.proofs.Bools.{not-true-out, not-false-out}
+use Rattle.lists.proofs.ListsKit.{not-false-out, not-true-out}
 use Rattle.osm_sides.proofs.Counts.{count_from}
 use Rattle.osm_sides.proofs.rows.right_in.Goals as goal
 

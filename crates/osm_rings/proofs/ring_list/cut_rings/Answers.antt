@@ -8,7 +8,7 @@ use Rattle.osm_rings.specs.Ring.{IsRing}
 use Rattle.osm_rings.specs.RingList.{AreRingsOf}
 use Rattle.osm_rings.proofs.RingLists.{all-unmapped, if-ok, mapped-twice, pieces-are-rings, pieces-inside, pieces-ring, successors-of}
 use Rattle.osm_rings.proofs.Multiplied.{tell-plane}
-use Rattle.osm_rings.proofs.ring_list.rings.Goals as goal
+use Rattle.osm_rings.proofs.ring_list.cut_rings.Goals as goal
 
 pub orbits-requires : goal.orbits-requires
 orbits-requires c =
