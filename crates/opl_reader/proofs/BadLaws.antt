@@ -1,12 +1,10 @@
 -- A field has a fault exactly where its letter or its value is bad.
-use Rattle.std.proofs.Common.{◌≡◌, ℕ, ◌+◌, ◌<◌, Bool, true, cond, eqb, List, [], ◌∷◌, ◌++◌, ◌⊎◌, length, get_or, Option, Some, None, Result, Ok, Err, ℤ, refl, sym, ap, subst, ◌∙◌, inl, inr, arith}
+use Rattle.std.proofs.Common.{◌≡◌, ℕ, ◌+◌, Bool, true, cond, eqb, List, [], ◌∷◌, ◌++◌, ◌⊎◌, length, Option, Some, None, Result, Ok, Err, ℤ, refl, sym, ap, ◌∙◌, inl, inr, arith}
 use Rattle.std.specs.Prelude.{sum_by}
-use Rattle.std.specs.List.{slice_split, position_or_len, before_first, after_first, list_any}
-use Rattle.std.proofs.lemmas.Bool.{cases_eq, cases_lt, cases_Bool, eq-eqb, ne_eqb, eqb-false, lt-ltb, false_from_ne_true, false≢true}
-use Rattle.std.proofs.lemmas.List.{length-append}
-use Rattle.std.proofs.lemmas.List.Sums.{fails_before_first, sum_by-cons}
+use Rattle.std.specs.List.{slice_split, list_any}
+use Rattle.std.proofs.lemmas.Bool.{cases_eq, cases_Bool, eq-eqb, ne_eqb, false_from_ne_true, false≢true}
+use Rattle.std.proofs.lemmas.List.Sums.{sum_by-cons}
 use Rattle.std.proofs.lemmas.Option.{none-some}
-use Rattle.std.proofs.Math.Seq.{get_or-append_seam}
 use Rattle.opl_reader.specs.declared.fault.FaultKind.{FaultKind}
 use Rattle.opl_reader.specs.declared.fault.FaultKind.TheVariants.{UnknownField, RepeatedField, BadNumber, BadFlag, BadCoordinate, BadEscape, BadTag, BadReference, BadMember}
 use Rattle.opl_reader.specs.declared.fault.LineFault.{LineFault}
@@ -21,16 +19,19 @@ use Rattle.opl_reader.specs.Reading.{◌>>=◌, or_fault, no_reading}
 use Rattle.opl_reader.specs.Parts.{part, Lacks}
 use Rattle.opl_reader.specs.Strings.{IsString}
 use Rattle.opl_reader.specs.Items.{Each, IsTag, IsRef, HasTarget, IsMember, first_of_each}
-use Rattle.opl_reader.specs.Fields.{letter_of, IsFlag, IsX, IsY}
+use Rattle.opl_reader.specs.Coordinates.{IsX, IsY}
+use Rattle.opl_reader.specs.Fields.{letter_of, IsFlag}
 use Rattle.opl_reader.specs.NumberReading.{is_number}
 use Rattle.opl_reader.specs.StringReading.{string_of, string_at}
 use Rattle.opl_reader.specs.ItemReading.{placed, is_comma, items, each, halves, tag_at, tags_at, ref_of, ref_at, refs_at, target_of, member_at, members_at}
-use Rattle.opl_reader.specs.FieldReading.{flag_of, x_of, y_of, with_value, with_field}
+use Rattle.opl_reader.specs.CoordinateReading.{x_of, y_of}
+use Rattle.opl_reader.specs.FieldReading.{flag_of, with_value, with_field}
 use Rattle.opl_reader.specs.Faults.{fault_at, IsBadString, IsBadTag, IsBadRef, IsBadMember, FirstBad, HasBadItem, BadValue, BadField}
 use Rattle.opl_reader.proofs.PartedLaws.{commas, are_commas}
 use Rattle.opl_reader.proofs.SpellingLaws.{read_is_spelled, spelled_is_read}
-use Rattle.opl_reader.proofs.ItemLaws.{or_fault_ok, halves_are, are_halves, tag_is, is_tag, ref_is, is_ref, member_is, is_member, target_is, is_target}
-use Rattle.opl_reader.proofs.LineLaws.{number_is, is_number_from, flag_is, is_flag, x_is, is_x, y_is, is_y, lacks_is, is_lacks}
+use Rattle.opl_reader.proofs.ItemLaws.{or_fault_ok, none_of, halves_none, none_halves, halves_are, are_halves, tag_is, is_tag, ref_is, is_ref, member_is, is_member, target_is, is_target}
+use Rattle.opl_reader.proofs.CoordinateLaws.{x_is, is_x, y_is, is_y}
+use Rattle.opl_reader.proofs.LineLaws.{number_is, is_number_from, flag_is, is_flag, lacks_is, is_lacks}
 
 pub bind_err : {A B : Type 0} (r : Result A LineFault) (g : A → Result B LineFault) (x : LineFault) → (r >>= g) ≡ Err x → (r ≡ Err x) ⊎ ((y : A) × (r ≡ Ok y) × (g y ≡ Err x))
 bind_err (Ok y) g x e = inr (y, refl, e)
@@ -39,10 +40,6 @@ bind_err (Err f) g x e = inl (cc)
 pub or_fault_err : {A : Type 0} (kind : FaultKind) (place : ℕ) (o : Option A) (x : LineFault) → or_fault kind place o ≡ Err x → (o ≡ None) × (x ≡ fault_at kind place)
 or_fault_err kind place None x e = (refl, sym cc)
 or_fault_err kind place (Some y) x e = absurd cc
-
-pub none_of : {A : Type 0} (o : Option A) → ((x : A) → o ≡ Some x → ⊥) → o ≡ None
-none_of None h = refl
-none_of (Some x) h = absurd (h x refl)
 
 -- a value that isn't there is spelled by nothing
 never : {A : Type 0} (P : A → Type 0) (o : Option A) → ((x : A) → P x → o ≡ Some x) → o ≡ None → (x : A) → ¬ P x
@@ -62,22 +59,6 @@ string_bad place bytes x e =
 bad_string : (place : ℕ) (bytes : List ℕ) → IsBadString bytes → string_at place bytes ≡ Err (fault_at BadEscape place)
 unfolding string_at
 bad_string place bytes bad = ap (or_fault BadEscape place) (none_of (string_of bytes) (λ text e. bad text (read_is_spelled bytes text e)))
-
--- ---- halves
-
-halves_none : (b : ℕ) (bytes : List ℕ) → halves b bytes ≡ None → Lacks b bytes
-halves_none b bytes e =
-    let p : ℕ → Bool = λ x. eqb x b in
-    elim (cases_lt (position_or_len p bytes) (length bytes)) [
-      | inl lt ↦ let f : ◌≡◌ {A = Option (List ℕ × List ℕ)} (Some (before_first p bytes, after_first p bytes)) None = rw (lt-ltb (position_or_len p bytes) (length bytes) lt) at e in absurd cc
-      | inr le ↦ λ k d lt. eqb-false _ _ (fails_before_first p bytes k d (omega arith))
-    ]
-
-none_halves : (b : ℕ) (bytes : List ℕ) → Lacks b bytes → halves b bytes ≡ None
-none_halves b bytes lacks = none_of (halves b bytes) (λ parts e.
-    let h = halves_are b bytes parts e in
-    let inside : length parts.0 < length bytes = subst (λ (w : List ℕ). length parts.0 < length w) (sym h.0) (omega (arith, length-append parts.0 (b ∷ parts.1))) in
-    lacks (length parts.0) 0 inside (ap (λ (w : List ℕ). get_or w (length parts.0) 0) h.0 ∙ get_or-append_seam parts.0 b parts.1 0))
 
 -- ---- one item
 

@@ -19,10 +19,10 @@ use Rattle.opl_reader.specs.NumberReading.{id_of}
 use Rattle.opl_reader.specs.FieldReading.{with_field, with_fields}
 use Rattle.opl_reader.specs.LineReading.{fields_from, head_at, is_passed_over, object_at, reading_of, reading}
 use Rattle.opl_reader.specs.Faults.{FirstFault, seen_after, fault_at, BadField, IsKept, ObjectFault, HasFault}
-use Rattle.opl_reader.proofs.BadLaws.{bind_err, or_fault_err, none_of, field_bad, bad_field}
+use Rattle.opl_reader.proofs.BadLaws.{bind_err, or_fault_err, field_bad, bad_field}
 use Rattle.opl_reader.proofs.DecimalLaws.{id_is, is_id}
 use Rattle.opl_reader.proofs.PartedLaws.{parted, is_parted}
-use Rattle.opl_reader.proofs.ItemLaws.{or_fault_ok}
+use Rattle.opl_reader.proofs.ItemLaws.{or_fault_ok, none_of}
 use Rattle.opl_reader.proofs.LineLaws.{field_tells, tells_field, head_is}
 
 pub fault_is_first : (kind : ObjectKind) (seen : List ℕ) (fields : List Part) (c : Content) (x : LineFault) → with_fields kind seen fields c ≡ Err x → FirstFault kind seen fields c x

@@ -1,15 +1,17 @@
 -- Items are read as what they spell, and the other way round.
-use Rattle.std.proofs.Common.{◌≡◌, ℕ, ◌+◌, ◌<◌, Bool, true, eqb, ltb, List, [], ◌∷◌, ◌++◌, length, get_or, take, drop, Option, Some, None, Result, Ok, Err, ℤ, refl, sym, ap, subst, ◌∙◌, append_assoc, inl, inr, arith}
-use Rattle.std.specs.Prelude.{option_map}
+use Rattle.std.proofs.Common.{◌≡◌, ℕ, ◌+◌, ◌<◌, Bool, true, eqb, ltb, List, [], ◌∷◌, ◌++◌, length, get_or, take, drop, Option, Some, None, Result, Ok, Err, ℤ, refl, sym, ap, subst, ◌∙◌, append-nil, append_assoc, ◌⊎◌, inl, inr, arith}
+use Rattle.std.specs.Prelude.{option_map, option_and_then}
 use Rattle.std.specs.List.{slice_split, position_or_len, before_first, after_first}
-use Rattle.std.proofs.lemmas.Bool.{cases_eq, eqb-true, eqb-false, ltb-true, lt-ltb, ne_eqb, eq-eqb}
+use Rattle.std.proofs.lemmas.Bool.{cases_eq, eqb-true, eqb-false, cases_lt, ltb-true, lt-ltb, ne_eqb, eq-eqb}
 use Rattle.std.proofs.lemmas.List.{take_at, drop_at, length-append, length-take, get_or-take, get_or_append_left, nil_from_length}
 use Rattle.std.proofs.Math.Seq.{get_or-append_seam}
 use Rattle.std.proofs.lemmas.List.Sums.{position_or_len_is, split_at_first, passes_at_first, fails_before_first}
 use Rattle.std.proofs.lemmas.Option.{cond_some}
 use Rattle.opl_reader.specs.declared.fault.FaultKind.{FaultKind}
 use Rattle.opl_reader.specs.declared.fault.LineFault.{LineFault}
+use Rattle.osm_lattice.specs.declared.loc.Loc.{Loc}
 use Rattle.opl_reader.specs.declared.object.Tag.{Tag}
+use Rattle.opl_reader.specs.declared.object.Ref.{Ref}
 use Rattle.opl_reader.specs.declared.object.Member.{Member}
 use Rattle.opl_reader.specs.declared.object.ObjectKind.{ObjectKind}
 use Rattle.opl_reader.specs.declared.fault.FaultKind.TheVariants.{BadEscape, BadTag, BadReference, BadMember}
@@ -17,13 +19,16 @@ use Rattle.opl_reader.specs.Reading.{◌>>=◌, or_fault}
 use Rattle.opl_reader.specs.Parts.{Lacks}
 use Rattle.opl_reader.specs.Numbers.{IsId}
 use Rattle.opl_reader.specs.Strings.{IsString}
-use Rattle.opl_reader.specs.Items.{kind_of, Each, IsItems, IsTag, IsRef, HasTarget, IsMember}
+use Rattle.opl_reader.specs.Coordinates.{place_of}
+use Rattle.opl_reader.specs.Items.{kind_of, Each, IsItems, IsTag, IsOwnPlace, IsRef, HasTarget, IsMember}
 use Rattle.opl_reader.specs.NumberReading.{id_of}
+use Rattle.opl_reader.specs.CoordinateReading.{x_of, y_of}
 use Rattle.opl_reader.specs.StringReading.{string_of, string_at}
-use Rattle.opl_reader.specs.ItemReading.{placed, is_comma, items, each, halves, tag_at, ref_of, ref_at, target_of, member_at}
+use Rattle.opl_reader.specs.ItemReading.{placed, is_comma, items, each, halves, tag_at, own_place_of, ref_in, ref_behind, ref_of, ref_at, target_of, member_at}
 use Rattle.opl_reader.proofs.PartedLaws.{commas, are_commas}
 use Rattle.opl_reader.proofs.SpellingLaws.{map_some, and_then_some, read_is_spelled, spelled_is_read}
 use Rattle.opl_reader.proofs.DecimalLaws.{id_is, is_id}
+use Rattle.opl_reader.proofs.CoordinateLaws.{x_is, is_x, y_is, is_y}
 
 pub bind_ok : {A B : Type 0} (r : Result A LineFault) (f : A → Result B LineFault) (y : B) → (r >>= f) ≡ Ok y → (x : A) × (r ≡ Ok x) × (f x ≡ Ok y)
 bind_ok (Ok x) f y e = (x, refl, e)
@@ -70,6 +75,24 @@ are_halves b front back lacks =
     let f : after_first p all ≡ back = ap (λ (k : ℕ). drop (k + 1) all) at ∙ ap (drop (length front + 1)) grouped ∙ drop_at (front ++ b ∷ []) back (length front + 1) (omega (arith, length-append front (b ∷ []))) in
     let lt : ltb (position_or_len p all) (length all) ≡ true = lt-ltb _ _ (omega (arith, length-append front (b ∷ back))) in
     rw (lt, e, f) refl
+
+pub none_of : {A : Type 0} (o : Option A) → ((x : A) → o ≡ Some x → ⊥) → o ≡ None
+none_of None h = refl
+none_of (Some x) h = absurd (h x refl)
+
+pub halves_none : (b : ℕ) (bytes : List ℕ) → halves b bytes ≡ None → Lacks b bytes
+halves_none b bytes e =
+    let p : ℕ → Bool = λ x. eqb x b in
+    elim (cases_lt (position_or_len p bytes) (length bytes)) [
+      | inl lt ↦ let f : ◌≡◌ {A = Option (List ℕ × List ℕ)} (Some (before_first p bytes, after_first p bytes)) None = rw (lt-ltb (position_or_len p bytes) (length bytes) lt) at e in absurd cc
+      | inr le ↦ λ k d lt. eqb-false _ _ (fails_before_first p bytes k d (omega arith))
+    ]
+
+pub none_halves : (b : ℕ) (bytes : List ℕ) → Lacks b bytes → halves b bytes ≡ None
+none_halves b bytes lacks = none_of (halves b bytes) (λ parts e.
+    let h = halves_are b bytes parts e in
+    let inside : length parts.0 < length bytes = subst (λ (w : List ℕ). length parts.0 < length w) (sym h.0) (omega (arith, length-append parts.0 (b ∷ parts.1))) in
+    lacks (length parts.0) 0 inside (ap (λ (w : List ℕ). get_or w (length parts.0) 0) h.0 ∙ get_or-append_seam parts.0 b parts.1 0))
 
 -- ---- each item
 
@@ -125,21 +148,88 @@ is_tag place bytes t h =
     let cut : halves 61 bytes ≡ Some (h.key, h.value) = ap (halves 61) h.parts ∙ are_halves 61 h.key h.value h.first in
     rw (cut, ok_string place h.key t.key h.key_is, ok_string place h.value t.value h.value_is) refl
 
-pub ref_is : (place : ℕ) (bytes : List ℕ) (id : ℤ) → ref_at place bytes ≡ Ok id → IsRef bytes id
-unfolding ref_at ref_of
-ref_is place bytes id e = of_ref bytes (or_fault_ok BadReference place (ref_of bytes) id e)
+-- ---- references
+
+own_place_is : (bytes : List ℕ) (at : Option Loc) → own_place_of bytes ≡ Some at → IsOwnPlace (120 ∷ bytes) at
+unfolding own_place_of
+own_place_is bytes at e =
+    let a = and_then_some (halves 121 bytes) (λ parts. option_and_then (λ x. option_map (λ y. place_of x y) (y_of parts.1)) (x_of parts.0)) at e in
+    let b = and_then_some (x_of a.0.0) (λ x. option_map (λ y. place_of x y) (y_of a.0.1)) at a.2 in
+    let c = map_some (y_of a.0.1) (λ y. place_of b.0 y) at b.2 in
+    let h = halves_are 121 bytes a.0 a.1 in
+    record {
+      x_bytes = a.0.0;
+      y_bytes = a.0.1;
+      x = b.0;
+      y = c.0;
+      parts = ap (λ (z : List ℕ). 120 ∷ z) h.0;
+      first = h.1;
+      x_is = x_is a.0.0 b.0 b.1;
+      y_is = y_is a.0.1 c.0 c.1;
+      at_is = c.2;
+    }
+
+is_own_place : (bytes : List ℕ) (at : Option Loc) → IsOwnPlace bytes at → (behind : List ℕ) × (bytes ≡ 120 ∷ behind) × (own_place_of behind ≡ Some at)
+unfolding own_place_of
+is_own_place bytes at h = (
+  h.x_bytes ++ 121 ∷ h.y_bytes,
+  h.parts,
+  rw (are_halves 121 h.x_bytes h.y_bytes h.first, is_x h.x_bytes h.x h.x_is, is_y h.y_bytes h.y h.y_is) (ap (λ (o : Option Loc). Some o) h.at_is),
+)
+
+ref_behind_is : (bytes : List ℕ) (parts : Option (List ℕ × List ℕ)) (r : Ref) → halves 120 bytes ≡ parts → ref_in bytes parts ≡ Some r → IsRef (110 ∷ bytes) r
+ref_behind_is bytes None r cut e =
+    let a = map_some (id_of bytes) (λ id. record { node = id; at = None }) r e in
+    record {
+      digits = bytes;
+      behind = [];
+      parts = ap (λ (z : List ℕ). 110 ∷ z) (sym (append-nil bytes));
+      first = halves_none 120 bytes cut;
+      id_is = subst (IsId bytes) (ap (λ (q : Ref). q.node) a.2) (id_is bytes a.0 a.1);
+      at_is = inl (refl, ap (λ (q : Ref). q.at) (sym a.2));
+    }
+ref_behind_is bytes (Some parts) r cut e =
+    let a = and_then_some (id_of parts.0) (λ id. option_map (λ at. record { node = id; at = at }) (own_place_of parts.1)) r e in
+    let b = map_some (own_place_of parts.1) (λ at. record { node = a.0; at = at }) r a.2 in
+    let h = halves_are 120 bytes parts cut in
+    record {
+      digits = parts.0;
+      behind = 120 ∷ parts.1;
+      parts = ap (λ (z : List ℕ). 110 ∷ z) h.0;
+      first = h.1;
+      id_is = subst (IsId parts.0) (ap (λ (q : Ref). q.node) b.2) (id_is parts.0 a.0 a.1);
+      at_is = inr (subst (IsOwnPlace (120 ∷ parts.1)) (ap (λ (q : Ref). q.at) b.2) (own_place_is parts.1 b.0 b.1));
+    }
+
+pub ref_is : (place : ℕ) (bytes : List ℕ) (r : Ref) → ref_at place bytes ≡ Ok r → IsRef bytes r
+unfolding ref_at ref_of ref_behind
+ref_is place bytes r e = of_ref bytes (or_fault_ok BadReference place (ref_of bytes) r e)
   where
-    of_ref : (bytes : List ℕ) → ref_of bytes ≡ Some id → IsRef bytes id
+    of_ref : (bytes : List ℕ) → ref_of bytes ≡ Some r → IsRef bytes r
     of_ref [] e = absurd cc
-    of_ref (b ∷ digits) e =
+    of_ref (b ∷ behind) e =
         elim (cases_eq b 110) [
-          | inl is ↦ (digits, ap (λ (x : ℕ). x ∷ digits) is, id_is digits id (rw (eq-eqb b 110 is) at e))
-          | inr ne ↦ let f : ◌≡◌ {A = Option ℤ} None (Some id) = rw (ne_eqb b 110 ne) at e in absurd cc
+          | inl is ↦ subst (λ (z : List ℕ). IsRef z r) (ap (λ (x : ℕ). x ∷ behind) (sym is)) (ref_behind_is behind (halves 120 behind) r refl (rw (eq-eqb b 110 is) at e))
+          | inr ne ↦ let f : ◌≡◌ {A = Option Ref} None (Some r) = rw (ne_eqb b 110 ne) at e in absurd cc
         ]
 
-pub is_ref : (place : ℕ) (bytes : List ℕ) (id : ℤ) → IsRef bytes id → ref_at place bytes ≡ Ok id
+is_ref_behind : (digits behind : List ℕ) (r : Ref) → Lacks 120 digits → IsId digits r.node → ((behind ≡ []) × (r.at ≡ None)) ⊎ IsOwnPlace behind r.at → ref_behind (digits ++ behind) ≡ Some r
+unfolding ref_behind
+is_ref_behind digits behind r lacks id (inl none) =
+    let all : digits ++ behind ≡ digits = ap (λ (z : List ℕ). digits ++ z) none.0 ∙ append-nil digits in
+    let made : ref_behind digits ≡ Some (record { node = r.node; at = None }) = rw (none_halves 120 digits lacks, is_id digits r.node id) refl in
+    ap ref_behind all ∙ made ∙ ap (λ (o : Option Loc). Some (record { node = r.node; at = o })) (sym none.1)
+is_ref_behind digits behind r lacks id (inr own) =
+    let h = is_own_place behind r.at own in
+    let all : digits ++ behind ≡ digits ++ 120 ∷ h.0 = ap (λ (z : List ℕ). digits ++ z) h.1 in
+    let made : ref_behind (digits ++ 120 ∷ h.0) ≡ Some r = rw (are_halves 120 digits h.0 lacks, is_id digits r.node id, h.2) refl in
+    ap ref_behind all ∙ made
+
+pub is_ref : (place : ℕ) (bytes : List ℕ) (r : Ref) → IsRef bytes r → ref_at place bytes ≡ Ok r
 unfolding ref_at ref_of
-is_ref place bytes id h = ap (λ (b : List ℕ). or_fault BadReference place (ref_of b)) h.1 ∙ ap (or_fault BadReference place) (is_id h.0 id h.2)
+is_ref place bytes r h = ap (λ (b : List ℕ). or_fault BadReference place (ref_of b)) h.parts ∙ ap (or_fault BadReference place) (is_ref_behind h.digits h.behind r h.first h.id_is h.at_is)
+
+-- ---- members
 
 pub target_is : (bytes front role : List ℕ) (kind : ObjectKind) (id : ℤ) → bytes ≡ front ++ 64 ∷ role → Lacks 64 front → target_of front ≡ Some (kind, id) → HasTarget bytes role kind id
 unfolding target_of

@@ -12,6 +12,7 @@ pub mod PartedLaws
 pub mod SpellingLaws
 pub mod DecimalLaws
 pub mod PlaceLaws
+pub mod CoordinateLaws
 pub mod ItemLaws
 pub mod LineLaws
 pub mod BadLaws
@@ -19,7 +20,9 @@ pub mod FaultLaws
 pub mod AnswerLaws
 pub mod KeyLaws
 pub mod PackedLemmas
+pub mod HeldLemmas
 pub mod LineSplits
 pub mod FeedSteps
 pub mod ChunkLaws
 pub mod BadLineLaws
+pub mod KeysRead

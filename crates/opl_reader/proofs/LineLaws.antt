@@ -1,13 +1,11 @@
 -- A line is read as the object that it spells, and the other way round.
-use Rattle.std.proofs.Common.{◌≡◌, ◌≢◌, ℕ, ◌+◌, Bool, true, false, cond, eqb, ltb, leb, ◌&&◌, ◌||◌, ◌⊎◌, List, [], ◌∷◌, length, get_or, Option, Some, None, Result, Ok, Err, ℤ, pos, refl, sym, ap, subst, ◌∙◌, inl, inr, arith}
-use Rattle.std.specs.Prelude.{option_map, option_and_then}
+use Rattle.std.proofs.Common.{◌≡◌, ◌≢◌, ℕ, ◌+◌, Bool, true, false, cond, eqb, ltb, leb, ◌&&◌, ◌||◌, List, [], ◌∷◌, length, get_or, Option, Some, None, Result, Ok, Err, ℤ, refl, sym, ap, subst, ◌∙◌, inl, inr, arith}
 use Rattle.std.specs.List.{list_all, list_any}
 use Rattle.std.specs.Str.{is_utf8}
 use Rattle.std.specs.Str.Lossy.{utf8_valid_len}
 use Rattle.std.proofs.lemmas.Str.{IsUtf8-from_is_utf8}
 use Rattle.std.specs.Char.{is_ascii_digit}
 use Rattle.std.proofs.lemmas.Bool.{cases_eq, cases_Bool, and_parts, ltb-true, leb-true, lt-ltb, le-leb, eqb-true, eqb-false, ne_eqb, eq-eqb, or_parts, or_cases, or_left, or_right}
-use Rattle.std.proofs.lemmas.List.{nil_from_length}
 use Rattle.std.proofs.lemmas.List.Elements.{All-nil, All-cons, All-head, All-tail}
 use Rattle.std.proofs.lemmas.Option.{none-some}
 use Rattle.opl_reader.specs.declared.fault.FaultKind.TheVariants.{NotUtf8, UnknownObject, UnknownField, RepeatedField, BadNumber, BadFlag, BadCoordinate}
@@ -17,24 +15,22 @@ use Rattle.opl_reader.specs.declared.object.Object.{Object}
 use Rattle.opl_reader.specs.declared.field.Meaning.{Meaning}
 use Rattle.opl_reader.specs.declared.field.Meaning.TheVariants.{Count, Flag, Anything, Name, X, Y, Tagged, Referring, Having}
 use Rattle.opl_reader.specs.declared.content.Content.{Content}
-use Rattle.opl_reader.specs.declared.coordinate.Longitude.{Longitude}
-use Rattle.opl_reader.specs.declared.coordinate.Latitude.{Latitude}
-use Rattle.opl_reader.proofs.PlaceLaws.{longitude_is, latitude_is, is_longitude, is_latitude, some_decimal}
 use Rattle.opl_reader.specs.Reading.{◌>>=◌, no_reading, or_fault}
 use Rattle.opl_reader.specs.Parts.{Part, without_cr, Lacks, Parted}
 use Rattle.opl_reader.specs.Numbers.{IsId, IsCount, IsNumber}
 use Rattle.opl_reader.specs.Items.{first_of_each, kind_of, IsTag, IsRef, IsMember}
-use Rattle.opl_reader.specs.Fields.{letter_of, nothing, object_of, IsFlag, Tells, FieldTells, Told, IsX, IsY}
-use Rattle.opl_reader.specs.NumberReading.{id_of, decimal_of, is_count, is_number}
+use Rattle.opl_reader.specs.Fields.{letter_of, nothing, object_of, IsFlag, Tells, FieldTells, Told}
+use Rattle.opl_reader.specs.NumberReading.{id_of, is_count, is_number}
 use Rattle.opl_reader.specs.StringReading.{string_at}
 use Rattle.opl_reader.specs.ItemReading.{items, each, tag_at, ref_at, member_at, tags_at, refs_at, members_at}
-use Rattle.opl_reader.specs.FieldReading.{flag_of, with_value, with_field, with_fields, longitude, latitude, x_of, y_of}
+use Rattle.opl_reader.specs.CoordinateReading.{x_of, y_of}
+use Rattle.opl_reader.specs.FieldReading.{flag_of, with_value, with_field, with_fields}
 use Rattle.opl_reader.specs.LineReading.{head_at, object_at, fields_from, is_passed_over, reading_of, reading}
 use Rattle.opl_reader.specs.Spells.{Spells, IsPassedOver, IsAside}
 use Rattle.opl_reader.specs.Steps.{begins_passed}
 use Rattle.opl_reader.proofs.PartedLaws.{parted, is_parted}
-use Rattle.opl_reader.proofs.SpellingLaws.{map_some}
 use Rattle.opl_reader.proofs.DecimalLaws.{id_is, is_id, digits_are, are_digits}
+use Rattle.opl_reader.proofs.CoordinateLaws.{x_is, is_x, y_is, is_y}
 use Rattle.opl_reader.proofs.ReadingLemmas.{Begins, is_read}
 use Rattle.opl_reader.proofs.ItemLaws.{bind_ok, or_fault_ok, string_ok, ok_string, items_are, are_items, tag_is, is_tag, ref_is, is_ref, member_is, is_member}
 
@@ -88,43 +84,6 @@ pub is_flag : (bytes : List ℕ) (live : Bool) → IsFlag bytes live → flag_of
 unfolding flag_of
 is_flag bytes live (inl v) = ap flag_of v.0 ∙ ap (λ (b : Bool). Some b) (sym v.1)
 is_flag bytes live (inr d) = ap flag_of d.0 ∙ ap (λ (b : Bool). Some b) (sym d.1)
-
-coordinate_is : {A : Type 0} (bytes : List ℕ) (o : Option A) (x : Option A) → cond (eqb (length bytes) 0) (Some None) (option_map (λ l. Some l) o) ≡ Some x
-    → ((bytes ≡ []) × (x ≡ None)) ⊎ ((l : A) × (o ≡ Some l) × (x ≡ Some l))
-coordinate_is {A = A} bytes o x e =
-    elim (cases_eq (length bytes) 0) [
-      | inl none ↦ let f : ◌≡◌ {A = Option (Option A)} (Some None) (Some x) = rw (eq-eqb (length bytes) 0 none) at e in inl (nil_from_length bytes none, cc)
-      | inr some ↦
-          let f : option_map (λ (l : A). Some l) o ≡ Some x = rw (ne_eqb (length bytes) 0 some) at e in
-          let m = map_some o (λ (l : A). Some l) x f in
-          inr (m.0, m.1, sym m.2)
-    ]
-
-pub x_is : (bytes : List ℕ) (x : Option Longitude) → x_of bytes ≡ Some x → IsX bytes x
-unfolding x_of
-x_is bytes x e = elim (coordinate_is bytes (option_and_then longitude (decimal_of (pos 1800000000) bytes)) x e) [
-  | inl none ↦ inl none
-  | inr l ↦ inr (l.0, longitude_is bytes l.0 l.1, l.2)
-]
-
-pub y_is : (bytes : List ℕ) (y : Option Latitude) → y_of bytes ≡ Some y → IsY bytes y
-unfolding y_of
-y_is bytes y e = elim (coordinate_is bytes (option_and_then latitude (decimal_of (pos 900000000) bytes)) y e) [
-  | inl none ↦ inl none
-  | inr l ↦ inr (l.0, latitude_is bytes l.0 l.1, l.2)
-]
-
-pub is_x : (bytes : List ℕ) (x : Option Longitude) → IsX bytes x → x_of bytes ≡ Some x
-unfolding x_of
-is_x bytes x (inl none) = ap x_of none.0 ∙ ap (λ (y : Option Longitude). Some y) (sym none.1)
-is_x bytes x (inr l) =
-    rw (ne_eqb (length bytes) 0 (some_decimal bytes l.0.units l.1), is_longitude bytes l.0 l.1) (ap (λ (y : Option Longitude). Some y) (sym l.2))
-
-pub is_y : (bytes : List ℕ) (y : Option Latitude) → IsY bytes y → y_of bytes ≡ Some y
-unfolding y_of
-is_y bytes y (inl none) = ap y_of none.0 ∙ ap (λ (z : Option Latitude). Some z) (sym none.1)
-is_y bytes y (inr l) =
-    rw (ne_eqb (length bytes) 0 (some_decimal bytes l.0.units l.1), is_latitude bytes l.0 l.1) (ap (λ (z : Option Latitude). Some z) (sym l.2))
 
 pub value_tells : (meaning : Meaning) (place : ℕ) (value : List ℕ) (c d : Content) → with_value meaning place value c ≡ Ok d → Tells meaning value c d
 unfolding with_value tags_at refs_at members_at

@@ -1,40 +1,16 @@
--- One text, and the lengths of its parts.
-use Rattle.std.proofs.Common.{◌≡◌, ◌∙◌, refl, sym, ap, subst, ℕ, List, [], ◌∷◌, ◌++◌, length, take, drop, append-nil, append_assoc, length-append, length-drop, arith}
-use Rattle.std.specs.Str.{IsUtf8, IsCharBoundary}
-use Rattle.std.proofs.lemmas.Str.{IsUtf8-nil, IsUtf8-append, IsUtf8-drop, IsCharBoundary-from_take, IsCharBoundary-at_seam}
-use Rattle.std.proofs.lemmas.List.{take-append-drop, take-append-le, drop-append-le, take_all}
+-- Texts that stand behind their lengths.
+use Rattle.std.proofs.Common.{◌≡◌, ◌∙◌, refl, sym, ap, subst, ℕ, zero, suc, ◌+◌, ◌*◌, ◌/◌, ◌%◌, ◌<◌, ◌≤◌, false, ltb, List, [], ◌∷◌, ◌++◌, length, take, drop, append-nil, append_assoc, length-append, length-drop, inl, inr, arith}
+use Rattle.std.specs.Prelude.{slice_index}
+use Rattle.std.specs.Str.{IsUtf8}
+use Rattle.std.proofs.lemmas.Bool.{cases_lt, lt-ltb, ltb-true, false_from_ne_true}
+use Rattle.std.proofs.lemmas.List.{take-append-le, drop-append-le, take_all, get_or_append_left}
 use Rattle.std.proofs.Math.Seq.{drop-append_seam}
-use Rattle.opl_reader.specs.declared.tags.TagLen.{TagLen}
 use Rattle.opl_reader.specs.declared.object.Tag.{Tag}
-use Rattle.opl_reader.specs.Packed.{tags_in, Fits}
+use Rattle.opl_reader.specs.Packed.{length_bytes, packed_text, head_len, text_len, first_text, after_text, BeginsWithText, tags_in, Fits}
 
-pub is_text : (lens : List TagLen) (bytes : List ℕ) → Fits lens bytes → IsUtf8 bytes
-is_text [] bytes e = subst IsUtf8 (sym e) IsUtf8-nil
-is_text (len ∷ lens) bytes (b, rest) =
-    let behind : IsUtf8 (drop len.key bytes) = subst IsUtf8 (take-append-drop len.value (drop len.key bytes)) (IsUtf8-append (take len.value (drop len.key bytes)) (drop len.value (drop len.key bytes)) b.value (is_text lens (drop len.value (drop len.key bytes)) rest)) in
-    subst IsUtf8 (take-append-drop len.key bytes) (IsUtf8-append (take len.key bytes) (drop len.key bytes) b.key behind)
-
-pub key_ends : (len : TagLen) (lens : List TagLen) (bytes : List ℕ) → Fits (len ∷ lens) bytes → IsCharBoundary bytes len.key
-key_ends len lens bytes f = let room = f.0.room in IsCharBoundary-from_take bytes len.key (is_text (len ∷ lens) bytes f) (omega arith) f.0.key
-
-pub value_ends : (len : TagLen) (lens : List TagLen) (bytes : List ℕ) → Fits (len ∷ lens) bytes → IsCharBoundary (drop len.key bytes) len.value
-value_ends len lens bytes f =
-    let room = f.0.room in
-    let n = length-drop len.key bytes in
-    IsCharBoundary-from_take (drop len.key bytes) len.value (IsUtf8-drop bytes len.key (is_text (len ∷ lens) bytes f) (key_ends len lens bytes f)) (omega arith) f.0.value
-
-pub as_many : (lens : List TagLen) (bytes : List ℕ) → length (tags_in lens bytes) ≡ length lens
-as_many [] bytes = refl
-as_many (len ∷ lens) bytes = let e = as_many lens (drop len.value (drop len.key bytes)) in omega arith
-
--- ---- one more
-
--- what a key and a value of these lengths are
-pub record Are (len : TagLen) (key value : List ℕ) : Type 0 where
-  pub key_len : len.key ≡ length key
-  pub value_len : len.value ≡ length value
-  pub key_text : IsUtf8 key
-  pub value_text : IsUtf8 value
+pub as_many : (count : ℕ) (bytes : List ℕ) → length (tags_in count bytes) ≡ count
+as_many zero bytes = refl
+as_many (suc count) bytes = ap (λ (n : ℕ). suc n) (as_many count (after_text (after_text bytes)))
 
 take_front : (n : ℕ) (xs ys : List ℕ) → n ≡ length xs → take n (xs ++ ys) ≡ xs
 take_front n xs ys e = take-append-le n xs ys (omega arith) ∙ take_all n xs (omega arith)
@@ -42,73 +18,166 @@ take_front n xs ys e = take-append-le n xs ys (omega arith) ∙ take_all n xs (o
 drop_front : (n : ℕ) (xs ys : List ℕ) → n ≡ length xs → drop n (xs ++ ys) ≡ ys
 drop_front n xs ys e = rw e (drop-append_seam xs ys)
 
-drop_whole : (n : ℕ) (xs : List ℕ) → n ≡ length xs → drop n xs ≡ []
-drop_whole n xs e = subst (λ (zs : List ℕ). drop n zs ≡ []) (append-nil xs) (drop_front n xs [] e)
+not_less : (m n : ℕ) → n ≤ m → ltb m n ≡ false
+not_less m n le = false_from_ne_true _ (λ h. let lt = ltb-true m n h in absurd (omega arith))
 
-pub one_more_fits : (lens : List TagLen) (bytes : List ℕ) (len : TagLen) (key value : List ℕ) → Are len key value → Fits lens bytes → Fits (lens ++ len ∷ []) (bytes ++ (key ++ value))
-one_more_fits [] bytes len key value a e =
-    let k : take len.key (bytes ++ (key ++ value)) ≡ key = rw e (take_front len.key key value a.key_len) in
-    let d : drop len.key (bytes ++ (key ++ value)) ≡ value = rw e (drop_front len.key key value a.key_len) in
-    let kl = a.key_len in
-    let vl = a.value_len in
-    let n = length-append bytes (key ++ value) in
-    let m = length-append key value in (
-      record {
-        room = omega arith;
-        key = rw k a.key_text;
-        value = rw d (rw (take_all len.value value (omega arith)) a.value_text);
-      },
-      rw d (drop_whole len.value value a.value_len),
-    )
-one_more_fits (l ∷ lens) bytes len key value a (b, rest) =
-    let room = b.room in
-    let n = length-append bytes (key ++ value) in
-    let m = length-drop l.key bytes in
-    let k : take l.key (bytes ++ (key ++ value)) ≡ take l.key bytes = take-append-le l.key bytes (key ++ value) (omega arith) in
-    let d : drop l.key (bytes ++ (key ++ value)) ≡ drop l.key bytes ++ (key ++ value) = drop-append-le l.key bytes (key ++ value) (omega arith) in
-    let v : take l.value (drop l.key bytes ++ (key ++ value)) ≡ take l.value (drop l.key bytes) = take-append-le l.value (drop l.key bytes) (key ++ value) (omega arith) in
-    let r : drop l.value (drop l.key bytes ++ (key ++ value)) ≡ drop l.value (drop l.key bytes) ++ (key ++ value) = drop-append-le l.value (drop l.key bytes) (key ++ value) (omega arith) in (
-      record {
-        room = omega arith;
-        key = rw k b.key;
-        value = rw d (rw v b.value);
-      },
-      rw d (rw r (one_more_fits lens (drop l.value (drop l.key bytes)) len key value a rest)),
-    )
+-- ---- a text that was put behind its length
 
-pub one_more_tag : (lens : List TagLen) (bytes : List ℕ) (len : TagLen) (key value : List ℕ) → Are len key value → Fits lens bytes →
-    tags_in (lens ++ len ∷ []) (bytes ++ (key ++ value)) ≡ tags_in lens bytes ++ record { key = key; value = value } ∷ []
-one_more_tag [] bytes len key value a e =
-    let vl = a.value_len in
-    let k : take len.key (bytes ++ (key ++ value)) ≡ key = rw e (take_front len.key key value a.key_len) in
-    let d : drop len.key (bytes ++ (key ++ value)) ≡ value = rw e (drop_front len.key key value a.key_len) in
-    let v : take len.value value ≡ value = take_all len.value value (omega arith) in
-    rw k (rw d (rw v refl))
-one_more_tag (l ∷ lens) bytes len key value a (b, rest) =
+-- so many bytes in front tell this length
+pub record Tells (bytes : List ℕ) (count len : ℕ) : Type 0 where
+  pub head : head_len bytes ≡ count
+  pub text : text_len bytes ≡ len
+
+digits : (n : ℕ) → n % 256 + 256 * (n / 256 % 256) + 65536 * (n / 65536 % 256) + 16777216 * (n / 16777216) ≡ n
+digits n = omega arith
+
+length_told : (n : ℕ) (more : List ℕ) → Tells (length_bytes n ++ more) (length (length_bytes n)) n
+unfolding length_bytes head_len text_len
+length_told n more =
+    elim (cases_lt n 255) [
+      | inl lt ↦ rw (lt-ltb n 255 lt) (record { head = rw (lt-ltb n 255 lt) refl; text = rw (lt-ltb n 255 lt) refl })
+      | inr le ↦ rw (not_less n 255 le) (record { head = refl; text = digits n })
+    ]
+
+pub told : (text more : List ℕ) → Tells (packed_text text ++ more) (length (length_bytes (length text))) (length text)
+told text more = subst (λ (b : List ℕ). Tells b (length (length_bytes (length text))) (length text)) (sym (append_assoc (length_bytes (length text)) text more)) (length_told (length text) (text ++ more))
+
+behind_head : (text more : List ℕ) → drop (head_len (packed_text text ++ more)) (packed_text text ++ more) ≡ text ++ more
+behind_head text more =
+    ap (λ (n : ℕ). drop n (packed_text text ++ more)) (told text more).head
+    ∙ ap (drop (length (length_bytes (length text)))) (append_assoc (length_bytes (length text)) text more)
+    ∙ drop_front (length (length_bytes (length text))) (length_bytes (length text)) (text ++ more) refl
+
+pub first_is : (text more : List ℕ) → first_text (packed_text text ++ more) ≡ text
+first_is text more = ap (take (text_len (packed_text text ++ more))) (behind_head text more) ∙ take_front (text_len (packed_text text ++ more)) text more (told text more).text
+
+pub after_is : (text more : List ℕ) → after_text (packed_text text ++ more) ≡ more
+after_is text more = ap (drop (text_len (packed_text text ++ more))) (behind_head text more) ∙ drop_front (text_len (packed_text text ++ more)) text more (told text more).text
+
+pub begins : (text more : List ℕ) → IsUtf8 text → BeginsWithText (packed_text text ++ more)
+begins text more utf8 =
+    let t = told text more in
+    let h = t.head in
+    let l = t.text in
+    let a = length-append (packed_text text) more in
+    let b = length-append (length_bytes (length text)) text in
+    record { room = omega arith; utf8 = subst IsUtf8 (sym (first_is text more)) utf8 }
+
+-- ---- more bytes behind a text
+
+some_head : (bytes : List ℕ) → 0 < head_len bytes
+unfolding head_len
+some_head bytes = elim (cases_lt (slice_index bytes 0) 255) [
+  | inl lt ↦ rw (lt-ltb _ 255 lt) (omega arith)
+  | inr le ↦ rw (not_less _ 255 le) (omega arith)
+]
+
+told_by : (bytes more : List ℕ) → slice_index (bytes ++ more) 0 ≡ slice_index bytes 0 → head_len bytes ≤ length bytes → Tells (bytes ++ more) (head_len bytes) (text_len bytes)
+unfolding head_len text_len
+told_by bytes more e room =
+    elim (cases_lt (slice_index bytes 0) 255) [
+      | inl lt ↦ rw (lt-ltb _ 255 lt) (record { head = rw (e, lt-ltb _ 255 lt) refl; text = rw (e, lt-ltb _ 255 lt) refl })
+      | inr le ↦
+          let five : 5 ≤ length bytes = rw (not_less _ 255 le) at room in
+          let at : (k : ℕ) → k < 5 → slice_index (bytes ++ more) k ≡ slice_index bytes k = λ k lt. get_or_append_left bytes more 0 k (omega arith) in
+          let a = at 1 (omega arith) in
+          let b = at 2 (omega arith) in
+          let c = at 3 (omega arith) in
+          let d = at 4 (omega arith) in
+          record { head = rw (e, not_less _ 255 le) refl; text = rw (e, not_less _ 255 le, a, b, c, d) refl }
+    ]
+
+same_told : (bytes more : List ℕ) → BeginsWithText bytes → Tells (bytes ++ more) (head_len bytes) (text_len bytes)
+same_told bytes more b =
+    let some = some_head bytes in
     let room = b.room in
-    let m = length-drop l.key bytes in
-    let k : take l.key (bytes ++ (key ++ value)) ≡ take l.key bytes = take-append-le l.key bytes (key ++ value) (omega arith) in
-    let d : drop l.key (bytes ++ (key ++ value)) ≡ drop l.key bytes ++ (key ++ value) = drop-append-le l.key bytes (key ++ value) (omega arith) in
-    let v : take l.value (drop l.key bytes ++ (key ++ value)) ≡ take l.value (drop l.key bytes) = take-append-le l.value (drop l.key bytes) (key ++ value) (omega arith) in
-    let r : drop l.value (drop l.key bytes ++ (key ++ value)) ≡ drop l.value (drop l.key bytes) ++ (key ++ value) = drop-append-le l.value (drop l.key bytes) (key ++ value) (omega arith) in
-    rw k (rw d (rw v (rw r (ap (λ (zs : List Tag). record { key = take l.key bytes; value = take l.value (drop l.key bytes) } ∷ zs) (one_more_tag lens (drop l.value (drop l.key bytes)) len key value a rest)))))
+    told_by bytes more (get_or_append_left bytes more 0 0 (omega arith)) (omega arith)
+
+behind_more : (bytes more : List ℕ) → BeginsWithText bytes → drop (head_len (bytes ++ more)) (bytes ++ more) ≡ drop (head_len bytes) bytes ++ more
+behind_more bytes more b =
+    let room = b.room in
+    ap (λ (n : ℕ). drop n (bytes ++ more)) (same_told bytes more b).head ∙ drop-append-le (head_len bytes) bytes more (omega arith)
+
+first_more : (bytes more : List ℕ) → BeginsWithText bytes → first_text (bytes ++ more) ≡ first_text bytes
+first_more bytes more b =
+    let room = b.room in
+    let n = length-drop (head_len bytes) bytes in
+    ap (take (text_len (bytes ++ more))) (behind_more bytes more b)
+    ∙ ap (λ (k : ℕ). take k (drop (head_len bytes) bytes ++ more)) (same_told bytes more b).text
+    ∙ take-append-le (text_len bytes) (drop (head_len bytes) bytes) more (omega arith)
+
+after_more : (bytes more : List ℕ) → BeginsWithText bytes → after_text (bytes ++ more) ≡ after_text bytes ++ more
+after_more bytes more b =
+    let room = b.room in
+    let n = length-drop (head_len bytes) bytes in
+    ap (drop (text_len (bytes ++ more))) (behind_more bytes more b)
+    ∙ ap (λ (k : ℕ). drop k (drop (head_len bytes) bytes ++ more)) (same_told bytes more b).text
+    ∙ drop-append-le (text_len bytes) (drop (head_len bytes) bytes) more (omega arith)
+
+begins_more : (bytes more : List ℕ) → BeginsWithText bytes → BeginsWithText (bytes ++ more)
+begins_more bytes more b =
+    let room = b.room in
+    let t = same_told bytes more b in
+    let h = t.head in
+    let l = t.text in
+    let n = length-append bytes more in
+    record { room = omega arith; utf8 = subst IsUtf8 (sym (first_more bytes more b)) b.utf8 }
+
+-- ---- a tag more
+
+after_two : (bytes more : List ℕ) → BeginsWithText bytes → BeginsWithText (after_text bytes) → after_text (after_text (bytes ++ more)) ≡ after_text (after_text bytes) ++ more
+after_two bytes more a b = ap after_text (after_more bytes more a) ∙ after_more (after_text bytes) more b
+
+-- a key and a value in front
+abbrev tag_bytes : List ℕ → List ℕ → List ℕ
+tag_bytes key value = packed_text key ++ (packed_text value ++ [])
+
+after_tag : (key value : List ℕ) → after_text (after_text (tag_bytes key value)) ≡ []
+after_tag key value = ap after_text (after_is key (packed_text value ++ [])) ∙ after_is value []
+
+one_fits : (key value : List ℕ) → IsUtf8 key → IsUtf8 value → Fits 1 (tag_bytes key value)
+one_fits key value k v = (begins key (packed_text value ++ []) k, subst BeginsWithText (sym (after_is key (packed_text value ++ []))) (begins value [] v), after_tag key value)
+
+one_more_fits : (count : ℕ) (bytes key value : List ℕ) → IsUtf8 key → IsUtf8 value → Fits count bytes → Fits (suc count) (bytes ++ tag_bytes key value)
+one_more_fits zero bytes key value k v none = subst (λ (b : List ℕ). Fits 1 (b ++ tag_bytes key value)) (sym none) (one_fits key value k v)
+one_more_fits (suc count) bytes key value k v (a, b, rest) = (
+  begins_more bytes (tag_bytes key value) a,
+  subst BeginsWithText (sym (after_more bytes (tag_bytes key value) a)) (begins_more (after_text bytes) (tag_bytes key value) b),
+  subst (Fits (suc count)) (sym (after_two bytes (tag_bytes key value) a b)) (one_more_fits count (after_text (after_text bytes)) key value k v rest),
+)
+
+abbrev tag : List ℕ → List ℕ → Tag
+tag key value = record { key = key; value = value }
+
+one_tag : (key value : List ℕ) → tags_in 1 (tag_bytes key value) ≡ tag key value ∷ []
+one_tag key value =
+    let k = first_is key (packed_text value ++ []) in
+    let v : first_text (after_text (tag_bytes key value)) ≡ value = ap first_text (after_is key (packed_text value ++ [])) ∙ first_is value [] in
+    ap (λ (z : List ℕ). tag z (first_text (after_text (tag_bytes key value))) ∷ []) k ∙ ap (λ (z : List ℕ). tag key z ∷ []) v
+
+one_more_tag : (count : ℕ) (bytes key value : List ℕ) → Fits count bytes → tags_in (suc count) (bytes ++ tag_bytes key value) ≡ tags_in count bytes ++ tag key value ∷ []
+one_more_tag zero bytes key value none = ap (λ (b : List ℕ). tags_in 1 (b ++ tag_bytes key value)) none ∙ one_tag key value
+one_more_tag (suc count) bytes key value (a, b, rest) =
+    let more = tag_bytes key value in
+    let k = first_more bytes more a in
+    let v : first_text (after_text (bytes ++ more)) ≡ first_text (after_text bytes) = ap first_text (after_more bytes more a) ∙ first_more (after_text bytes) more b in
+    ap (λ (z : List ℕ). tag z (first_text (after_text (bytes ++ more))) ∷ tags_in (suc count) (after_text (after_text (bytes ++ more)))) k
+    ∙ ap (λ (z : List ℕ). tag (first_text bytes) z ∷ tags_in (suc count) (after_text (after_text (bytes ++ more)))) v
+    ∙ ap (λ (z : List ℕ). tag (first_text bytes) (first_text (after_text bytes)) ∷ tags_in (suc count) z) (after_two bytes more a b)
+    ∙ ap (λ (zs : List Tag). tag (first_text bytes) (first_text (after_text bytes)) ∷ zs) (one_more_tag count (after_text (after_text bytes)) key value rest)
 
 -- ---- as the functions know them
 
-pub key_splits : (lens : List TagLen) (bytes : List ℕ) (len : TagLen) (more : List TagLen) → lens ≡ len ∷ more → Fits lens bytes → IsCharBoundary bytes len.key
-key_splits lens bytes len more e f = key_ends len more bytes (subst (λ (z : List TagLen). Fits z bytes) e f)
+bytes_of_tag : (bytes new key value : List ℕ) → new ≡ bytes ++ (packed_text key ++ packed_text value) → new ≡ bytes ++ tag_bytes key value
+bytes_of_tag bytes new key value e = e ∙ ap (λ (z : List ℕ). bytes ++ (packed_text key ++ z)) (sym (append-nil (packed_text value)))
 
-pub value_splits : (lens : List TagLen) (bytes rest : List ℕ) (len : TagLen) (more : List TagLen) → lens ≡ len ∷ more → Fits lens bytes → rest ≡ drop len.key bytes → IsCharBoundary rest len.value
-value_splits lens bytes rest len more e f r =
-    subst (λ (z : List ℕ). IsCharBoundary z len.value) (sym r) (value_ends len more bytes (subst (λ (z : List TagLen). Fits z bytes) e f))
+pub pushed_fits : (count next : ℕ) (bytes new key value : List ℕ) → IsUtf8 key → IsUtf8 value → Fits count bytes → next ≡ suc count → new ≡ bytes ++ (packed_text key ++ packed_text value) → Fits next new
+pushed_fits count next bytes new key value k v fits n e =
+    subst (λ (m : ℕ). Fits m new) (sym n) (subst (Fits (suc count)) (sym (bytes_of_tag bytes new key value e)) (one_more_fits count bytes key value k v fits))
 
-pub pushed_fits : (lens new_lens : List TagLen) (bytes new_bytes : List ℕ) (len : TagLen) (key value : List ℕ) → Are len key value → Fits lens bytes →
-    new_lens ≡ lens ++ len ∷ [] → new_bytes ≡ (bytes ++ key) ++ value → Fits new_lens new_bytes
-pushed_fits lens new_lens bytes new_bytes len key value a f e d = rw e (rw (d ∙ append_assoc bytes key value) (one_more_fits lens bytes len key value a f))
-
-pub pushed_tag : (lens new_lens : List TagLen) (bytes new_bytes : List ℕ) (len : TagLen) (key value : List ℕ) (tags : List Tag) → Are len key value → Fits lens bytes →
-    new_lens ≡ lens ++ len ∷ [] → new_bytes ≡ (bytes ++ key) ++ value → tags_in lens bytes ≡ tags → tags_in new_lens new_bytes ≡ tags ++ record { key = key; value = value } ∷ []
-pushed_tag lens new_lens bytes new_bytes len key value tags a f e d t = rw e (rw (d ∙ append_assoc bytes key value) (one_more_tag lens bytes len key value a f ∙ ap (λ (zs : List Tag). zs ++ record { key = key; value = value } ∷ []) t))
-
-pub seam : (bytes front old key : List ℕ) → front ≡ old → bytes ≡ old ++ key → IsUtf8 key → IsCharBoundary bytes (length front)
-seam bytes front old key e is text = rw e (IsCharBoundary-at_seam bytes old key is text)
+pub pushed_tag : (count next : ℕ) (bytes new key value : List ℕ) (tags : List Tag) → Fits count bytes → next ≡ suc count → new ≡ bytes ++ (packed_text key ++ packed_text value) → tags_in count bytes ≡ tags → tags_in next new ≡ tags ++ tag key value ∷ []
+pushed_tag count next bytes new key value tags fits n e is =
+    ap (λ (m : ℕ). tags_in m new) n
+    ∙ ap (tags_in (suc count)) (bytes_of_tag bytes new key value e)
+    ∙ one_more_tag count bytes key value fits
+    ∙ ap (λ (zs : List Tag). zs ++ tag key value ∷ []) is

@@ -12,11 +12,11 @@ use Rattle.opl_reader.proofs.LineLemmas.{fields-none, fields-separator, fields-c
 
 -- ---- fields
 
-separator_is : (b : ℕ) → IsSeparator b → is_separator b ≡ true
+pub separator_is : (b : ℕ) → IsSeparator b → is_separator b ≡ true
 separator_is b (inl e) = or_left (eqb b 32) (eqb b 9) (eq-eqb b 32 e)
 separator_is b (inr e) = or_right (eqb b 32) (eqb b 9) (eq-eqb b 9 e)
 
-no_separator : (b : ℕ) → (IsSeparator b → ⊥) → is_separator b ≡ false
+pub no_separator : (b : ℕ) → (IsSeparator b → ⊥) → is_separator b ≡ false
 no_separator b no_sep = rw (ne_eqb b 32 (λ e. no_sep (inl e)), ne_eqb b 9 (λ e. no_sep (inr e))) refl
 
 field-first : (at : ℕ) (bytes text : List ℕ) → 0 < length bytes → LacksSeparators bytes → EndsField text → fields_from at (bytes ++ text) ≡ part at bytes ∷ fields_from (at + length bytes) text

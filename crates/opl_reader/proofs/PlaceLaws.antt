@@ -7,13 +7,13 @@ use Rattle.std.proofs.Props.{props}
 use mathlib.Core.HLevel.{is_prop→PathP}
 use Rattle.std.proofs.lemmas.Int.{to_z-of_z}
 use Rattle.osm_lattice.specs.declared.loc.Loc.{Loc}
-use Rattle.opl_reader.specs.Fields.{place_of}
+use Rattle.opl_reader.specs.Coordinates.{place_of}
 use Rattle.osm_lattice.specs.Bounds.{IsLongitude, IsLatitude}
 use Rattle.opl_reader.specs.declared.coordinate.Longitude.{Longitude}
 use Rattle.opl_reader.specs.declared.coordinate.Latitude.{Latitude}
 use Rattle.opl_reader.specs.Numbers.{IsDecimal}
 use Rattle.opl_reader.specs.NumberReading.{decimal_of, within, unsigned_of}
-use Rattle.opl_reader.specs.FieldReading.{where_true, longitude, latitude}
+use Rattle.opl_reader.specs.CoordinateReading.{where_true, longitude, latitude}
 use Rattle.opl_reader.proofs.SpellingLaws.{and_then_some}
 use Rattle.opl_reader.proofs.DecimalLaws.{decimal_is, is_decimal}
 

@@ -6,7 +6,7 @@ use Rattle.std.specs.Str.{IsUtf8}
 use Rattle.opl_reader.specs.declared.fault.FaultKind.TheVariants.{BadEscape}
 use Rattle.opl_reader.specs.Reading.{no_reading}
 use Rattle.opl_reader.specs.StringReading.{code_point, joined, string_of, string_at}
-use Rattle.lists.proofs.Options.{is_some-map}
+use Rattle.lists.proofs.ListsKit.{is_some-map}
 
 abbrev pub parts : List ℕ → List (List ℕ)
 parts bytes = slice_split (λ b. b == 37) bytes

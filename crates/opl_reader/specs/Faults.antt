@@ -8,6 +8,7 @@ use Rattle.opl_reader.specs.declared.fault.LineFault.{LineFault}
 use Rattle.opl_reader.specs.declared.fault.LineError.{LineError}
 use Rattle.opl_reader.specs.declared.fault.LineError.TheVariants.{Fault, OutOfMemory}
 use Rattle.opl_reader.specs.declared.object.ObjectKind.{ObjectKind}
+use Rattle.opl_reader.specs.declared.object.Ref.{Ref}
 use Rattle.opl_reader.specs.declared.field.Meaning.{Meaning}
 use Rattle.opl_reader.specs.declared.field.Meaning.TheVariants.{Count, Flag, Anything, Name, X, Y, Tagged, Referring, Having}
 use Rattle.opl_reader.specs.declared.content.Content.{Content}
@@ -17,7 +18,8 @@ use Rattle.opl_reader.specs.Parts.{Part, without_cr, Lacks, Parted, PartedByComm
 use Rattle.opl_reader.specs.Numbers.{IsId, IsNumber}
 use Rattle.opl_reader.specs.Strings.{IsString}
 use Rattle.opl_reader.specs.Items.{Each, IsTag, IsRef, kind_of, HasTarget, IsMember}
-use Rattle.opl_reader.specs.Fields.{letter_of, nothing, IsFlag, IsX, IsY, Told}
+use Rattle.opl_reader.specs.Coordinates.{IsX, IsY}
+use Rattle.opl_reader.specs.Fields.{letter_of, nothing, IsFlag, Told}
 
 -- a fault of this kind at this place
 abbrev pub fault_at : FaultKind → ℕ → LineFault
@@ -36,7 +38,7 @@ IsBadTag kind bytes = (Lacks 61 bytes × (kind ≡ BadTag))
 
 -- an item of N that is no reference
 abbrev pub IsBadRef : FaultKind → List ℕ → Type 0
-IsBadRef kind bytes = ((id : ℤ) → ¬ IsRef bytes id) × (kind ≡ BadReference)
+IsBadRef kind bytes = ((r : Ref) → ¬ IsRef bytes r) × (kind ≡ BadReference)
 
 -- an item of M that is no member: it has no target, or else a bad string as its role
 abbrev pub IsBadMember : FaultKind → List ℕ → Type 0

@@ -1,6 +1,5 @@
 -- Fields as functions of their bytes: the content that they make, or the first fault.
-use Rattle.std.specs.Prelude.{◌≡◌, ℕ, ◌+◌, Bool, true, false, ◌==◌, nat_le, if◌then◌else◌, List, [], ◌∷◌, length, slice_index, ℤ, pos, unsigned_abs, Option, Some, None, option_map, option_and_then, Result, Ok, refl}
-use Rattle.std.proofs.lemmas.Bool.{leb-true}
+use Rattle.std.specs.Prelude.{ℕ, ◌+◌, Bool, true, false, ◌==◌, if◌then◌else◌, List, [], ◌∷◌, slice_index, Option, Some, None, Result, Ok}
 use Rattle.std.specs.List.{list_any}
 use Rattle.opl_reader.specs.declared.fault.FaultKind.TheVariants.{UnknownField, RepeatedField, BadNumber, BadFlag, BadCoordinate}
 use Rattle.opl_reader.specs.declared.fault.LineFault.{LineFault}
@@ -8,12 +7,11 @@ use Rattle.opl_reader.specs.declared.object.ObjectKind.{ObjectKind}
 use Rattle.opl_reader.specs.declared.field.Meaning.{Meaning}
 use Rattle.opl_reader.specs.declared.field.Meaning.TheVariants.{Count, Flag, Anything, Name, X, Y, Tagged, Referring, Having}
 use Rattle.opl_reader.specs.declared.content.Content.{Content}
-use Rattle.opl_reader.specs.declared.coordinate.Longitude.{Longitude}
-use Rattle.opl_reader.specs.declared.coordinate.Latitude.{Latitude}
 use Rattle.opl_reader.specs.Reading.{◌>>=◌, no_reading, or_fault}
 use Rattle.opl_reader.specs.Parts.{Part}
 use Rattle.opl_reader.specs.Fields.{letter_of}
-use Rattle.opl_reader.specs.NumberReading.{is_number, decimal_of}
+use Rattle.opl_reader.specs.NumberReading.{is_number}
+use Rattle.opl_reader.specs.CoordinateReading.{x_of, y_of}
 use Rattle.opl_reader.specs.StringReading.{string_at}
 use Rattle.opl_reader.specs.ItemReading.{tags_at, refs_at, members_at}
 
@@ -24,27 +22,6 @@ unfoldable pub flag_of : List ℕ → Option Bool
 flag_of [] = None
 flag_of (b ∷ []) = if b == 86 then Some true else (if b == 68 then Some false else None)
 flag_of (b ∷ c ∷ bytes) = None
-
--- what a test that holds allows
-abbrev pub where_true : {A : Type 0} (b : Bool) → (b ≡ true → A) → Option A
-where_true true f = Some (f refl)
-where_true false f = None
-
--- a number of units, where it is a longitude
-abbrev pub longitude : ℤ → Option Longitude
-longitude z = where_true (nat_le (unsigned_abs z) 1_800_000_000) (λ h. record { units = z; in_range = leb-true (unsigned_abs z) 1_800_000_000 h })
-
--- a number of units, where it is a latitude
-abbrev pub latitude : ℤ → Option Latitude
-latitude z = where_true (nat_le (unsigned_abs z) 900_000_000) (λ h. record { units = z; in_range = leb-true (unsigned_abs z) 900_000_000 h })
-
--- empty, or the decimal of a longitude
-unfoldable pub x_of : List ℕ → Option (Option Longitude)
-x_of bytes = if length bytes == 0 then Some None else option_map (λ l. Some l) (option_and_then longitude (decimal_of (pos 1800000000) bytes))
-
--- empty, or the decimal of a latitude
-unfoldable pub y_of : List ℕ → Option (Option Latitude)
-y_of bytes = if length bytes == 0 then Some None else option_map (λ l. Some l) (option_and_then latitude (decimal_of (pos 900000000) bytes))
 
 -- The content with the value of a field whose letter stands at place.
 unfoldable pub with_value : Meaning → ℕ → List ℕ → Content → Result Content LineFault

@@ -1,7 +1,7 @@
 -- Fields: what a letter stands for, and what a field says of an object.
 use Rattle.std.specs.Prelude.{◌≡◌, ℕ, ◌⊎◌, Bool, true, false, ◌||◌, ◌==◌, if◌then◌else◌, List, [], ◌∷◌, ℤ, Option, Some, None, slice_index}
-use Rattle.osm_lattice.specs.declared.loc.Loc.{Loc}
 use Rattle.opl_reader.specs.declared.object.Tag.{Tag}
+use Rattle.opl_reader.specs.declared.object.Ref.{Ref}
 use Rattle.opl_reader.specs.declared.object.Member.{Member}
 use Rattle.opl_reader.specs.declared.object.ObjectKind.{ObjectKind}
 use Rattle.opl_reader.specs.declared.object.ObjectKind.TheVariants.{Node, Way, Relation}
@@ -13,7 +13,8 @@ use Rattle.opl_reader.specs.declared.content.Content.{Content}
 use Rattle.opl_reader.specs.declared.coordinate.Longitude.{Longitude}
 use Rattle.opl_reader.specs.declared.coordinate.Latitude.{Latitude}
 use Rattle.opl_reader.specs.Parts.{Part, Lacks}
-use Rattle.opl_reader.specs.Numbers.{IsNumber, IsDecimal}
+use Rattle.opl_reader.specs.Numbers.{IsNumber}
+use Rattle.opl_reader.specs.Coordinates.{place_of, IsX, IsY}
 use Rattle.opl_reader.specs.Strings.{IsString}
 use Rattle.opl_reader.specs.Items.{IsItems, IsTag, IsRef, IsMember, first_of_each}
 
@@ -40,12 +41,6 @@ letter_of Relation letter = if letter == 77 then Some Having else shared letter
 abbrev pub nothing : Content
 nothing = record { live = true; x = None; y = None; tags = []; refs = []; members = [] }
 
--- a location, where both coordinates are there
-abbrev pub place_of : Option Longitude → Option Latitude → Option Loc
-place_of None y = None
-place_of (Some x) None = None
-place_of (Some x) (Some y) = Some (record { x = x.units; y = y.units; x_in = x.in_range; y_in = y.in_range })
-
 -- the object of a kind, an id and a content
 abbrev pub object_of : ObjectKind → ℤ → Content → Object
 object_of Node id c = object.Node id c.live c.tags (place_of c.x c.y)
@@ -58,14 +53,6 @@ object_of Relation id c = object.Relation id c.live c.tags c.members
 abbrev pub IsFlag : List ℕ → Bool → Type 0
 IsFlag bytes live = ((bytes ≡ 86 ∷ []) × (live ≡ true)) ⊎ ((bytes ≡ 68 ∷ []) × (live ≡ false))
 
--- empty, or the decimal of a longitude
-abbrev pub IsX : List ℕ → Option Longitude → Type 0
-IsX bytes x = ((bytes ≡ []) × (x ≡ None)) ⊎ ((l : Longitude) × IsDecimal bytes l.units × (x ≡ Some l))
-
--- empty, or the decimal of a latitude
-abbrev pub IsY : List ℕ → Option Latitude → Type 0
-IsY bytes y = ((bytes ≡ []) × (y ≡ None)) ⊎ ((l : Latitude) × IsDecimal bytes l.units × (y ≡ Some l))
-
 -- a field of this meaning with this value makes d of the content c
 abbrev pub Tells : Meaning → List ℕ → Content → Content → Type 0
 Tells Count value c d = IsNumber value × (c ≡ d)
@@ -75,7 +62,7 @@ Tells Name value c d = (name : List ℕ) × IsString value name × (c ≡ d)
 Tells X value c d = (x : Option Longitude) × IsX value x × (record c { x = x } ≡ d)
 Tells Y value c d = (y : Option Latitude) × IsY value y × (record c { y = y } ≡ d)
 Tells Tagged value c d = (tags : List Tag) × IsItems IsTag value tags × (record c { tags = first_of_each tags } ≡ d)
-Tells Referring value c d = (refs : List ℤ) × IsItems IsRef value refs × (record c { refs = refs } ≡ d)
+Tells Referring value c d = (refs : List Ref) × IsItems IsRef value refs × (record c { refs = refs } ≡ d)
 Tells Having value c d = (members : List Member) × IsItems IsMember value members × (record c { members = members } ≡ d)
 
 -- ---- fields

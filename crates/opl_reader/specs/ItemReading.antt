@@ -3,13 +3,17 @@ use Rattle.std.specs.Prelude.{ℕ, ◌+◌, Bool, ◌==◌, nat_lt, if◌then◌
 use Rattle.std.specs.List.{slice_split, position_or_len, before_first, after_first}
 use Rattle.opl_reader.specs.declared.fault.FaultKind.TheVariants.{BadTag, BadReference, BadMember}
 use Rattle.opl_reader.specs.declared.fault.LineFault.{LineFault}
+use Rattle.osm_lattice.specs.declared.loc.Loc.{Loc}
 use Rattle.opl_reader.specs.declared.object.Tag.{Tag}
+use Rattle.opl_reader.specs.declared.object.Ref.{Ref}
 use Rattle.opl_reader.specs.declared.object.Member.{Member}
 use Rattle.opl_reader.specs.declared.object.ObjectKind.{ObjectKind}
 use Rattle.opl_reader.specs.Reading.{◌>>=◌, or_fault}
 use Rattle.opl_reader.specs.Parts.{Part, part}
 use Rattle.opl_reader.specs.Items.{kind_of, first_of_each}
+use Rattle.opl_reader.specs.Coordinates.{place_of}
 use Rattle.opl_reader.specs.NumberReading.{id_of}
+use Rattle.opl_reader.specs.CoordinateReading.{x_of, y_of}
 use Rattle.opl_reader.specs.StringReading.{string_at}
 
 -- the parts of a text that begins at a byte; one byte stands between two of them
@@ -48,15 +52,27 @@ tags_at place bytes = each tag_at (items place bytes) >>= λ tags. Ok (first_of_
 
 -- ---- references
 
--- n and an id
-unfoldable pub ref_of : List ℕ → Option ℤ
-ref_of [] = None
-ref_of (b ∷ bytes) = if b == 110 then id_of bytes else None
+-- Behind the x of an own location: a longitude or nothing, y, a latitude or nothing.
+unfoldable pub own_place_of : List ℕ → Option (Option Loc)
+own_place_of bytes = option_and_then (λ parts. option_and_then (λ x. option_map (λ y. place_of x y) (y_of parts.1)) (x_of parts.0)) (halves 121 bytes)
 
-unfoldable pub ref_at : ℕ → List ℕ → Result ℤ LineFault
+-- an id, and an own location where an x parts it from the id
+abbrev pub ref_in : List ℕ → Option (List ℕ × List ℕ) → Option Ref
+ref_in bytes None = option_map (λ id. record { node = id; at = None }) (id_of bytes)
+ref_in bytes (Some parts) = option_and_then (λ id. option_map (λ at. record { node = id; at = at }) (own_place_of parts.1)) (id_of parts.0)
+
+unfoldable pub ref_behind : List ℕ → Option Ref
+ref_behind bytes = ref_in bytes (halves 120 bytes)
+
+-- n, and a reference behind it
+unfoldable pub ref_of : List ℕ → Option Ref
+ref_of [] = None
+ref_of (b ∷ bytes) = if b == 110 then ref_behind bytes else None
+
+unfoldable pub ref_at : ℕ → List ℕ → Result Ref LineFault
 ref_at place bytes = or_fault BadReference place (ref_of bytes)
 
-unfoldable pub refs_at : ℕ → List ℕ → Result (List ℤ) LineFault
+unfoldable pub refs_at : ℕ → List ℕ → Result (List Ref) LineFault
 refs_at place bytes = each ref_at (items place bytes)
 
 -- ---- members

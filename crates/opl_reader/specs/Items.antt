@@ -2,12 +2,17 @@
 use Rattle.std.specs.Prelude.{◌≡◌, ◌≢◌, ℕ, ◌<◌, ◌⊎◌, not, ◌==◌, if◌then◌else◌, List, [], ◌∷◌, ◌++◌, length, ℤ, Option, Some, None}
 use Rattle.std.specs.List.{filter, AllByRecursion}
 use Rattle.std.specs.Str.{bytes_eq}
+use Rattle.osm_lattice.specs.declared.loc.Loc.{Loc}
+use Rattle.opl_reader.specs.declared.coordinate.Longitude.{Longitude}
+use Rattle.opl_reader.specs.declared.coordinate.Latitude.{Latitude}
 use Rattle.opl_reader.specs.declared.object.Tag.{Tag}
+use Rattle.opl_reader.specs.declared.object.Ref.{Ref}
 use Rattle.opl_reader.specs.declared.object.Member.{Member}
 use Rattle.opl_reader.specs.declared.object.ObjectKind.{ObjectKind}
 use Rattle.opl_reader.specs.declared.object.ObjectKind.TheVariants.{Node, Way, Relation}
 use Rattle.opl_reader.specs.Parts.{Lacks, PartedByCommas}
 use Rattle.opl_reader.specs.Numbers.{IsId}
+use Rattle.opl_reader.specs.Coordinates.{place_of, IsX, IsY}
 use Rattle.opl_reader.specs.Strings.{IsString}
 
 -- each part spells the value in its place
@@ -51,9 +56,26 @@ HaveDifferentKeys (t ∷ tags) = AllByRecursion (λ u. u.key ≢ t.key) tags × 
 
 -- ---- references
 
--- n and an id
-abbrev pub IsRef : List ℕ → ℤ → Type 0
-IsRef bytes id = (digits : List ℕ) × (bytes ≡ 110 ∷ digits) × IsId digits id
+-- x, a longitude or nothing, y, a latitude or nothing; a location where both are there
+pub record IsOwnPlace (bytes : List ℕ) (at : Option Loc) : Type 0 where
+  pub x_bytes : List ℕ
+  pub y_bytes : List ℕ
+  pub x : Option Longitude
+  pub y : Option Latitude
+  pub parts : bytes ≡ 120 ∷ (x_bytes ++ 121 ∷ y_bytes)
+  pub first : Lacks 121 x_bytes
+  pub x_is : IsX x_bytes x
+  pub y_is : IsY y_bytes y
+  pub at_is : place_of x y ≡ at
+
+-- n, an id, and behind the id either nothing or, from the first x on, an own location
+pub record IsRef (bytes : List ℕ) (r : Ref) : Type 0 where
+  pub digits : List ℕ
+  pub behind : List ℕ
+  pub parts : bytes ≡ 110 ∷ (digits ++ behind)
+  pub first : Lacks 120 digits
+  pub id_is : IsId digits r.node
+  pub at_is : ((behind ≡ []) × (r.at ≡ None)) ⊎ IsOwnPlace behind r.at
 
 -- ---- members
 

@@ -3,10 +3,12 @@ pub mod Fault
 pub mod Parts
 pub mod Numbers
 pub mod Strings
+pub mod Coordinates
 pub mod Items
 pub mod Fields
 pub mod NumberReading
 pub mod StringReading
+pub mod CoordinateReading
 pub mod ItemReading
 pub mod FieldReading
 pub mod LineReading
@@ -15,6 +17,7 @@ pub mod Faults
 pub mod OneAnswer
 pub mod Steps
 pub mod Packed
+pub mod Held
 pub mod Seen
 pub mod Lines
 pub mod Told
@@ -22,3 +25,4 @@ pub mod Reader
 pub mod Feeding
 pub mod Chunking
 pub mod BadLines
+pub mod Keys

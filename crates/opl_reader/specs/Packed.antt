@@ -1,21 +1,43 @@
--- Tags held as one text and the lengths of its parts.
-use Rattle.std.specs.Prelude.{◌≡◌, ◌≤◌, ◌+◌, ℕ, List, [], ◌∷◌, length, take, drop}
+-- Tags held in one block: keys and values by turns, each behind its length.
+use Rattle.std.specs.Prelude.{◌≡◌, ◌≤◌, ℕ, zero, suc, ◌+◌, ◌*◌, ◌/◌, ◌%◌, nat_lt, if◌then◌else◌, List, [], ◌∷◌, ◌++◌, length, take, drop, slice_index}
 use Rattle.std.specs.Str.{IsUtf8}
-use Rattle.opl_reader.specs.declared.tags.TagLen.{TagLen}
 use Rattle.opl_reader.specs.declared.object.Tag.{Tag}
 
--- the tags whose keys and values of these lengths stand one after the other
-abbrev pub tags_in : List TagLen → List ℕ → List Tag
-tags_in [] bytes = []
-tags_in (len ∷ lens) bytes = record { key = take len.key bytes; value = take len.value (drop len.key bytes) } ∷ tags_in lens (drop len.value (drop len.key bytes))
+-- A length below 255 is one byte; any other is the byte 255 and four digits in base 256, the lowest first.
+unfoldable pub length_bytes : ℕ → List ℕ
+length_bytes n = if nat_lt n 255 then n ∷ [] else 255 ∷ n % 256 ∷ n / 256 % 256 ∷ n / 65536 % 256 ∷ n / 16777216 ∷ []
 
--- a key and a value of these lengths stand in front, whole characters each, and whole characters behind them
-pub record BeginsWith (len : TagLen) (bytes : List ℕ) : Type 0 where
-  pub room : len.key + len.value ≤ length bytes
-  pub key : IsUtf8 (take len.key bytes)
-  pub value : IsUtf8 (take len.value (drop len.key bytes))
+-- a text behind its length
+abbrev pub packed_text : List ℕ → List ℕ
+packed_text text = length_bytes (length text) ++ text
 
--- the text is these keys and values, and no more
-abbrev pub Fits : List TagLen → List ℕ → Type 0
-Fits [] bytes = bytes ≡ []
-Fits (len ∷ lens) bytes = BeginsWith len bytes × Fits lens (drop len.value (drop len.key bytes))
+-- how many bytes in front tell a length
+unfoldable pub head_len : List ℕ → ℕ
+head_len bytes = if nat_lt (slice_index bytes 0) 255 then 1 else 5
+
+-- the length that they tell
+unfoldable pub text_len : List ℕ → ℕ
+text_len bytes = if nat_lt (slice_index bytes 0) 255 then slice_index bytes 0 else slice_index bytes 1 + 256 * slice_index bytes 2 + 65536 * slice_index bytes 3 + 16777216 * slice_index bytes 4
+
+-- the text in front
+abbrev pub first_text : List ℕ → List ℕ
+first_text bytes = take (text_len bytes) (drop (head_len bytes) bytes)
+
+-- what stands behind it
+abbrev pub after_text : List ℕ → List ℕ
+after_text bytes = drop (text_len bytes) (drop (head_len bytes) bytes)
+
+-- a whole text of characters stands in front, behind its length
+pub record BeginsWithText (bytes : List ℕ) : Type 0 where
+  pub room : head_len bytes + text_len bytes ≤ length bytes
+  pub utf8 : IsUtf8 (first_text bytes)
+
+-- so many tags, one after the other
+abbrev pub tags_in : ℕ → List ℕ → List Tag
+tags_in zero bytes = []
+tags_in (suc count) bytes = record { key = first_text bytes; value = first_text (after_text bytes) } ∷ tags_in count (after_text (after_text bytes))
+
+-- the bytes are so many keys and values, and no more
+abbrev pub Fits : ℕ → List ℕ → Type 0
+Fits zero bytes = bytes ≡ []
+Fits (suc count) bytes = BeginsWithText bytes × BeginsWithText (after_text bytes) × Fits count (after_text (after_text bytes))

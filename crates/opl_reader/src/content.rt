@@ -1,12 +1,13 @@
 //! What the fields of a line say of its object.
 
 ghost use Rattle.std.specs.Prelude.{◌≡◌};
-ghost use Rattle.opl_reader.specs.Fields.{nothing, place_of, object_of};
+ghost use Rattle.opl_reader.specs.Fields.{nothing, object_of};
 
 use crate::coordinate::{Latitude, Longitude};
-use crate::object::{Members, Object, ObjectKind, Refs};
+use crate::object::{Members, Object, ObjectKind};
+use crate::place::place_of;
+use crate::refs::Refs;
 use crate::tags::Tags;
-use osm_lattice::Loc;
 use std::alloc::Global;
 
 /// What the fields so far say. A field that isn't there is empty, and an object without a flag is live.
@@ -33,19 +34,6 @@ impl Content {
             refs: Refs::new(alloc),
             members: Members::new(alloc),
         }
-    }
-}
-
-/// A location, where both coordinates are there.
-fn place_of(x: Option<Longitude>, y: Option<Latitude>) -> Option<Loc>
-    ensures { result ≡ place_of x y }
-{
-    match (x, y) {
-        (Some(x), Some(y)) => Some(Loc {
-            x: x.units,
-            y: y.units,
-        }),
-        _ => None,
     }
 }
 

@@ -27,7 +27,7 @@ pub enum FaultKind {
     BadEscape,
     /// A tag has no `=`.
     BadTag,
-    /// A reference isn't n and an id.
+    /// A reference isn't n, an id, and maybe a location: x, a decimal or nothing, y, a decimal or nothing.
     BadReference,
     /// A member isn't a letter, an id, `@` and a role.
     BadMember,

@@ -1,20 +1,20 @@
 //! The fields of an object: a letter, and a value that is read by its letter.
 
-ghost use Rattle.std.specs.Prelude.{◌≡◌, ◌+◌, ◌^◌, ◌<◌, pos, length, option_and_then};
+ghost use Rattle.std.specs.Prelude.{◌≡◌, ◌+◌, ◌^◌, ◌<◌, length};
 ghost use Rattle.opl_reader.specs.Reading.{Leaves};
 ghost use Rattle.opl_reader.specs.Fields.{letter_of};
 ghost use Rattle.opl_reader.specs.Steps.{table_of, meaning_of};
 ghost use Rattle.osm_tables.specs.Tables.{code_of};
-ghost use Rattle.opl_reader.specs.NumberReading.{is_count, is_number, decimal_of};
-ghost use Rattle.opl_reader.specs.FieldReading.{flag_of, longitude, latitude, x_of, y_of, with_value};
+ghost use Rattle.opl_reader.specs.NumberReading.{is_count, is_number};
+ghost use Rattle.opl_reader.specs.FieldReading.{flag_of, with_value};
 
 use crate::content::Content;
-use crate::coordinate::{Latitude, Longitude};
 use crate::escape::is_string;
 use crate::fault::{FaultKind, LineError, fault};
 use crate::items::{read_members, read_refs, read_tags};
-use crate::number::{are_digits, decimal};
+use crate::number::are_digits;
 use crate::object::ObjectKind;
+use crate::place::{x_of, y_of};
 use osm_tables::{node_field, relation_field, way_field};
 use std::alloc::Global;
 
@@ -107,50 +107,6 @@ fn flag_of(bytes: &[u8]) -> Option<bool>
         [b'D'] => Some(false),
         _ => None,
     }
-}
-
-/// The longitude of a decimal.
-fn longitude(bytes: &[u8]) -> Option<Longitude>
-    ensures { result ≡ option_and_then longitude (decimal_of (pos 1800000000) bytes.now) }
-{
-    let units = decimal(bytes, 1_800_000_000)?;
-    Some(Longitude {
-        units: units as i32,
-    })
-}
-
-/// The latitude of a decimal.
-fn latitude(bytes: &[u8]) -> Option<Latitude>
-    ensures { result ≡ option_and_then latitude (decimal_of (pos 900000000) bytes.now) }
-{
-    let units = decimal(bytes, 900_000_000)?;
-    Some(Latitude {
-        units: units as i32,
-    })
-}
-
-/// Nothing, or a longitude.
-#[tactic(auto, unfolding(crate::specs::FieldReading::x_of))]
-fn x_of(bytes: &[u8]) -> Option<Option<Longitude>>
-    ensures { result ≡ x_of bytes.now }
-{
-    if bytes.is_empty() {
-        return Some(None);
-    }
-    let x = longitude(bytes)?;
-    Some(Some(x))
-}
-
-/// Nothing, or a latitude.
-#[tactic(auto, unfolding(crate::specs::FieldReading::y_of))]
-fn y_of(bytes: &[u8]) -> Option<Option<Latitude>>
-    ensures { result ≡ y_of bytes.now }
-{
-    if bytes.is_empty() {
-        return Some(None);
-    }
-    let y = latitude(bytes)?;
-    Some(Some(y))
 }
 
 /// Adds to the content the value of a field whose letter stands at this place.

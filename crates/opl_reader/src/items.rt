@@ -6,16 +6,19 @@ ghost use Rattle.std.specs.Option.{option_copied};
 ghost use Rattle.std.specs.Str.{IsUtf8, bytes_eq};
 ghost use Rattle.opl_reader.specs.Reading.{Gives};
 ghost use Rattle.opl_reader.specs.Items.{kind_of};
-ghost use Rattle.opl_reader.specs.ItemReading.{is_comma, tag_at, tags_at, ref_at, refs_at, target_of, member_at, members_at};
+ghost use Rattle.opl_reader.specs.ItemReading.{is_comma, tag_at, tags_at, own_place_of, ref_behind, ref_at, refs_at, target_of, member_at, members_at};
 ghost use Rattle.opl_reader.specs.Steps.{all_left, left_parts, left_len, kept_with, HasKeysOf};
 
-use crate::cut::cut;
+use crate::cut::{cut, cut_bytes};
 use crate::escape::read_string;
 use crate::fault::{FaultKind, LineError, fault};
 use crate::number::read_id;
-use crate::object::{Member, Members, ObjectKind, Refs, Tag};
+use crate::object::{Member, Members, ObjectKind, Ref, Tag};
+use crate::place::{place_of, x_of, y_of};
+use crate::refs::Refs;
 use crate::tags::Tags;
 use memchr::memchr_iter;
+use osm_lattice::Loc;
 use std::alloc::{AllocError as OutOfMemory, Global};
 use std::collections::BTreeSet;
 
@@ -27,8 +30,9 @@ const MOST_ROOM: usize = 2_000;
 const FEW_TAGS: usize = 16;
 
 /// The first item, and what is left behind its comma.
-fn next_item(rest: &str) -> (&str, Option<&str>)
-    ensures parts { slice_split is_comma rest.now ≡ result.0.now ∷ left_parts (option_copied result.1) }
+pub(crate) fn next_item(rest: &str) -> (&str, Option<&str>)
+    ensures parts { slice_split is_comma rest.now
+        ≡ result.0.now ∷ left_parts (option_copied result.1) }
     ensures utf8 { IfSome result.1 (λ left. IsUtf8 left.now) }
     ensures len { length result.0.now + left_len (option_copied result.1) ≡ length rest.now }
 {
@@ -53,6 +57,12 @@ fn item_room(text: &str) -> usize {
     }
     let commas = memchr_iter(b',', text.as_bytes()).count();
     commas.min(MOST_ROOM - 1) + 1
+}
+
+/// How many bytes tags are given room for. Where no escape stands in the text and each key and value is short, the two
+/// bytes that tell their lengths take the place of an equals sign and a comma.
+fn tag_room(text: &str) -> usize {
+    if text.is_empty() { 0 } else { text.len() + 1 }
 }
 
 /// A tag: key=value.
@@ -134,7 +144,7 @@ pub fn read_tags(alloc: Global, text: &str, place: u64) -> Result<Tags, LineErro
     requires { place + length text.now < 2 ^ 63 }
     ensures { Gives result (tags_at place text.now) }
 {
-    let mut tags = Tags::with_capacity(alloc, item_room(text), text.len())?;
+    let mut tags = Tags::with_capacity(alloc, tag_room(text))?;
     let mut later_keys = BTreeSet::new(alloc);
     let mut at = place;
     let mut left = all_items(text);
@@ -145,19 +155,49 @@ pub fn read_tags(alloc: Global, text: &str, place: u64) -> Result<Tags, LineErro
         at += item.len() as u64 + 1;
         left = more;
     }
+    tags.shrink_to_fit();
     Ok(tags)
 }
 
-/// A reference: n and an id.
+/// What stands behind the x of an own location: a longitude or nothing, y, a latitude or nothing.
+#[tactic(auto, unfolding(crate::specs::ItemReading::own_place_of))]
+fn own_place_of(bytes: &[u8]) -> Option<Option<Loc>>
+    ensures { result ≡ own_place_of bytes.now }
+{
+    let (x, y) = cut_bytes(bytes, b'y')?;
+    let x = x_of(x)?;
+    let y = y_of(y)?;
+    Some(place_of(x, y))
+}
+
+/// An id, and behind it an own location where an x stands there.
+#[tactic(auto, unfolding(crate::specs::ItemReading::ref_behind))]
+fn ref_behind(bytes: &[u8]) -> Option<Ref>
+    ensures { result ≡ ref_behind bytes.now }
+{
+    match cut_bytes(bytes, b'x') {
+        None => {
+            let node = read_id(bytes)?;
+            Some(Ref { node, at: None })
+        }
+        Some((id, place)) => {
+            let node = read_id(id)?;
+            let at = own_place_of(place)?;
+            Some(Ref { node, at })
+        }
+    }
+}
+
+/// A reference: n, an id, and maybe an own location.
 #[tactic(auto, unfolding(crate::specs::ItemReading::ref_of, crate::specs::ItemReading::ref_at))]
-fn read_ref(item: &str, place: u64) -> Result<i64, LineError>
+fn read_ref(item: &str, place: u64) -> Result<Ref, LineError>
     ensures { Gives result (ref_at place item.now) }
 {
-    let id = match item.as_bytes() {
-        [b'n', id @ ..] => read_id(id),
+    let reference = match item.as_bytes() {
+        [b'n', bytes @ ..] => ref_behind(bytes),
         _ => None,
     };
-    id.ok_or(fault(FaultKind::BadReference, place))
+    reference.ok_or(fault(FaultKind::BadReference, place))
 }
 
 /// References.
@@ -170,11 +210,12 @@ pub fn read_refs(alloc: Global, text: &str, place: u64) -> Result<Refs, LineErro
     let mut left = all_items(text);
     while let Some(rest) = left {
         let (item, more) = next_item(rest);
-        let id = read_ref(item, at)?;
-        refs.push(id)?;
+        let reference = read_ref(item, at)?;
+        refs.push(reference)?;
         at += item.len() as u64 + 1;
         left = more;
     }
+    refs.shrink_to_fit();
     Ok(refs)
 }
 

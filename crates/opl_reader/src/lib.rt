@@ -13,10 +13,13 @@ mod fault;
 mod feed;
 mod field;
 mod items;
+mod keys;
 mod line;
 mod lines;
 mod number;
 mod object;
+mod place;
+mod refs;
 mod tags;
 mod text;
 
@@ -28,13 +31,17 @@ pub use chunking::{
 pub use escape::strings_are_spelled;
 pub use fault::{FaultKind, LineError, LineFault, fault_text};
 pub use feed::{Fed, FeedError};
+pub use keys::{is_keys, keys_are_written, read_keys};
 pub use line::{lines_have_one_answer, read_line};
 pub use lines::Lines;
 pub use number::read_decimal;
-pub use object::{Member, Members, Object, ObjectKind, ObjectRef, Refs, Tag};
+pub use object::{Member, Members, Object, ObjectKind, ObjectRef, Ref, Tag};
+pub use refs::{RefIter, Refs};
 pub use tags::{TagIter, TagRef, Tags};
 pub use text::Text;
 
+#[cfg(test)]
+mod keys_tests;
 #[cfg(test)]
 mod lines_tests;
 #[cfg(test)]

@@ -28,11 +28,14 @@ use std::str;
 
 /// What stands before the first separator, and what stands behind it.
 fn next_part(text: &str) -> (&str, &str)
-    ensures fields { (place : ℕ) → fields_from place text.now ≡ with_part place result.0.now (fields_from (place + length result.0.now + 1) result.1.now) }
+    ensures fields { (place : ℕ) → fields_from place text.now
+        ≡ with_part place result.0.now
+        (fields_from (place + length result.0.now + 1) result.1.now) }
     ensures part_utf8 { IsUtf8 result.0.now }
     ensures left_utf8 { IsUtf8 result.1.now }
     ensures len { length result.0.now + length result.1.now ≤ length text.now }
-    ensures behind { 0 < length result.1.now → length result.0.now + 1 + length result.1.now ≤ length text.now }
+    ensures behind { 0 < length result.1.now
+        → length result.0.now + 1 + length result.1.now ≤ length text.now }
     ensures shorter { 0 < length text.now → length result.1.now < length text.now }
 {
     match memchr2(b' ', b'\t', text.as_bytes()) {
@@ -45,13 +48,16 @@ fn next_part(text: &str) -> (&str, &str)
 fn next_field(text: &str, place: u64) -> Option<(u64, &str, &str)>
     requires { place + length text.now < 2 ^ 64 }
     ensures fields { MatchOption result (fields_from place text.now ≡ [])
-        (λ f. fields_from place text.now ≡ record { at = f.0; bytes = f.1.now } ∷ fields_from (f.0 + length f.1.now + 1) f.2.now) }
+        (λ f. fields_from place text.now ≡ record { at = f.0; bytes = f.1.now }
+        ∷ fields_from (f.0 + length f.1.now + 1) f.2.now) }
     ensures field_utf8 { IfSome result (λ f. IsUtf8 f.1.now) }
     ensures left_utf8 { IfSome result (λ f. IsUtf8 f.2.now) }
     ensures some { IfSome result (λ f. 0 < length f.1.now) }
     ensures shorter { IfSome result (λ f. length f.2.now < length text.now) }
-    ensures room { IfSome result (λ f. f.0 + length f.1.now + length f.2.now ≤ place + length text.now) }
-    ensures behind { IfSome result (λ f. 0 < length f.2.now → f.0 + length f.1.now + 1 + length f.2.now ≤ place + length text.now) }
+    ensures room { IfSome result (λ f.
+        f.0 + length f.1.now + length f.2.now ≤ place + length text.now) }
+    ensures behind { IfSome result (λ f. 0 < length f.2.now
+        → f.0 + length f.1.now + 1 + length f.2.now ≤ place + length text.now) }
 {
     let mut at = place;
     let mut left = text;
@@ -89,7 +95,8 @@ fn add_field(
     content: &mut Content,
 ) -> Result<(), LineError>
     requires { place + length field.now < 2 ^ 63 }
-    ensures { (letters : List ℕ) → Marks seen.now letters → Leaves result content.new (with_field kind letters place field.now content.old) }
+    ensures { (letters : List ℕ) → Marks seen.now letters
+        → Leaves result content.new (with_field kind letters place field.now content.old) }
 {
     let Some((letter, value)) = field.split_at_checked(1) else {
         return Err(fault(FaultKind::UnknownField, place));

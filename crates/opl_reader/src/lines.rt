@@ -107,7 +107,8 @@ impl Lines {
         requires some { 0 < length piece.now }
         requires room { self.old.fed + length piece.now < 2 ^ 63 }
         ensures answer { Answers result self.new (feeding self.old piece.now) }
-        ensures used { IfOk result (λ fed. (1 ≤ fed.used) × (fed.used ≤ length piece.now) × (self.new.fed ≡ self.old.fed + fed.used)) }
+        ensures used { IfOk result (λ fed. (1 ≤ fed.used) × (fed.used ≤ length piece.now)
+            × (self.new.fed ≡ self.old.fed + fed.used)) }
         ensures goes_on { OnOk result (self.new.has_ended ≡ false) }
         ensures refused { OnErr result (HasEnded self.old self.new) }
     {

@@ -11,6 +11,7 @@ use std::test::*;
 const INPUT: &[u8] =
     b"n1 x0 y0\r\n# n9\n\nn2 dD x1.5 y1 Tname=a%20%b\n \t\nw3 Nn1,n2\nc4 k2\nr5 Mw3@outer\r\nn6";
 
+/// The id of an object, whose kind doesn't matter.
 fn id_of(object: Option<Object>) -> Option<i64> {
     match object? {
         Object::Node { id, .. } | Object::Way { id, .. } | Object::Relation { id, .. } => Some(id),
@@ -117,5 +118,21 @@ fn a_line_of_the_most_bytes_and_of_one_more(rt: HostRuntime) {
     assert_eq!(rt; fed(&mut lines, b"\n"), Ok((Some(2), 1)));
     assert_eq!(rt; fed(&mut lines, b"n3 x0 y0"), Ok((None, 8)));
     assert_eq!(rt; fed(&mut lines, b"0"), Err(FeedError::TooLong { line: 3 }));
+    assert_eq!(rt; fed(&mut lines, b"\n"), Err(FeedError::Ended));
+}
+
+#[test]
+fn a_line_of_16_777_216_bytes_and_of_one_more(rt: HostRuntime) {
+    let mut line = Vec::new(rt.alloc());
+    line.resize(16_777_216, b'#').expect(&rt, "memory");
+    let mut lines = Lines::new(rt.alloc(), 16_777_216);
+    assert_eq!(rt; fed(&mut lines, line.as_slice()), Ok((None, 16_777_216)));
+    assert_eq!(rt; fed(&mut lines, b"\n"), Ok((None, 1)));
+    assert_eq!(rt; lines.line(), 1);
+    assert_eq!(rt; fed(&mut lines, line.as_slice()), Ok((None, 16_777_216)));
+    assert_eq!(rt;
+        fed(&mut lines, b"#\n"),
+        Err(FeedError::TooLong { line: 2 })
+    );
     assert_eq!(rt; fed(&mut lines, b"\n"), Err(FeedError::Ended));
 }

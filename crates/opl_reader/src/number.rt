@@ -22,7 +22,8 @@ pub fn are_digits(bytes: &[u8]) -> bool
 
 /// The value of digits, at most 2^64 - 1; None where a byte is no digit.
 fn value(bytes: &[u8]) -> Option<u64>
-    ensures { result ≡ (if list_all is_ascii_digit bytes.now then Some (capped (digits_value 10 bytes.now)) else None) }
+    ensures { result ≡ (if list_all is_ascii_digit bytes.now
+        then Some (capped (digits_value 10 bytes.now)) else None) }
 {
     let mut value: u64 = 0;
     for byte in bytes {
@@ -98,7 +99,8 @@ fn cut_at_point(text: &[u8]) -> (&[u8], &[u8])
 
 /// The units of decimals, rounded at the eighth; None where a byte is no digit.
 fn fraction(decimals: &[u8]) -> Option<u64>
-    ensures value { result ≡ (if list_all is_ascii_digit decimals.now then Some ((digits_value 10 (first_eight decimals.now) + 5) / 10) else None) }
+    ensures value { result ≡ (if list_all is_ascii_digit decimals.now
+        then Some ((digits_value 10 (first_eight decimals.now) + 5) / 10) else None) }
     ensures bound { IfSome result (λ n. n ≤ 10000000) }
 {
     if !are_digits(decimals) {

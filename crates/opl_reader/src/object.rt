@@ -1,5 +1,6 @@
 //! What an OPL line tells: nodes, ways and relations with their tags.
 
+use crate::refs::Refs;
 use crate::tags::Tags;
 use crate::text::Text;
 use lists::List;
@@ -25,6 +26,15 @@ pub struct ObjectRef {
 pub struct Tag {
     pub key: Text,
     pub value: Text,
+}
+
+/// A reference of a way to a node.
+#[derive(Clone, Copy, Debug, PartialEq, Eq)]
+pub struct Ref {
+    /// The node's id.
+    pub node: i64,
+    /// The location that the reference itself carries, where it carries one.
+    pub at: Option<Loc>,
 }
 
 /// A member of a relation, with its role, which may be empty.
@@ -58,9 +68,6 @@ pub enum Object {
         members: Members,
     },
 }
-
-/// The ids of the nodes that a way passes, in order.
-pub type Refs = List<i64>;
 
 /// The members of a relation, in order.
 pub type Members = List<Member>;

@@ -1,18 +1,13 @@
-//! The tags of an object, held as one text and the lengths of its parts.
+//! The tags of an object, held in one block: keys and values by turns, each behind its length.
 
-ghost use Rattle.std.specs.Prelude.{◌≡◌, ◌++◌, ◌∷◌, ◌==◌, [], length, string_bytes, IfOk, OnOk, OnErr, MatchOption, IfSome, IfNone, option_map, find};
+ghost use Rattle.std.specs.Prelude.{◌≡◌, ◌≤◌, ◌<◌, ◌+◌, ◌^◌, ◌++◌, ◌∷◌, ◌==◌, [], length, drop, take, IfOk, OnOk, OnErr, MatchOption, IfNone, option_map, find};
 ghost use Rattle.std.specs.Str.{bytes_eq};
+ghost use Rattle.opl_reader.specs.Packed.{length_bytes, packed_text, head_len, text_len, first_text, after_text, BeginsWithText};
 ghost use Rattle.opl_reader.specs.Seen.{tag_seen};
 
 use std::alloc::{AllocError as OutOfMemory, Global};
 use std::marker::Model;
-
-/// How many bytes a key and its value have.
-#[derive(Clone, Copy, Debug)]
-pub(crate) struct TagLen {
-    key: u32,
-    value: u32,
-}
+use std::str;
 
 /// A tag that is lent.
 #[derive(Clone, Copy, Debug)]
@@ -21,31 +16,32 @@ pub struct TagRef<'a> {
     pub value: &'a str,
 }
 
-/// The tags of an object, in the order of its line: their texts in one block, and the lengths of these.
+/// The tags of an object, in the order of its line. They take one block of memory, with a byte or five for each key and
+/// value beside their texts, and none where there are none.
 #[derive(Debug, Drop)]
 pub struct Tags {
-    text: String,
-    lens: Vec<TagLen>,
+    texts: Vec<u8>,
+    count: usize,
 }
 
 impl Model for Tags {
-    ghost use Rattle.std.specs.Prelude.{List, string_bytes};
+    ghost use Rattle.std.specs.Prelude.{List};
     ghost use Rattle.opl_reader.specs.declared.object.Tag.{Tag};
 
     ghost Value = { List Tag };
 
     ghost use Rattle.opl_reader.specs.Packed.{tags_in, Fits};
 
-    ghost view = { λ t. tags_in t.lens.items (string_bytes t.text) };
+    ghost view = { λ t. tags_in t.count t.texts.items };
 
-    ghost invariant = { λ t. Fits t.lens.items (string_bytes t.text) };
+    ghost invariant = { λ t. Fits t.count t.texts.items };
 }
 
 /// Tags, gone through one by one.
 #[derive(Drop)]
 pub struct TagIter<'a> {
-    text: &'a str,
-    lens: &'a [TagLen],
+    texts: &'a [u8],
+    left: usize,
 }
 
 impl<'a> Model for TagIter<'a> {
@@ -56,33 +52,104 @@ impl<'a> Model for TagIter<'a> {
 
     ghost use Rattle.opl_reader.specs.Packed.{tags_in, Fits};
 
-    ghost view = { λ t. tags_in t.lens.now t.text.now };
+    ghost view = { λ t. tags_in t.left t.texts.now };
 
-    ghost invariant = { λ t. Fits t.lens.now t.text.now };
+    ghost invariant = { λ t. Fits t.left t.texts.now };
 }
 
-/// Adds a key and a value to a text. After an `Err` it is unchanged.
-fn push_both(text: &mut String, key: &str, value: &str) -> Result<(), OutOfMemory>
-    ensures ok { OnOk result (string_bytes text.new ≡ string_bytes text.old ++ key.now ++ value.now) }
-    ensures err { OnErr result (string_bytes text.new ≡ string_bytes text.old) }
+/// The bytes that stand for a length, and how many there are.
+#[tactic(auto, unfolding(crate::specs::Packed::length_bytes))]
+fn length_bytes(len: u32) -> ([u8; 5], usize)
+    ensures few { result.1 ≤ 5 }
+    ensures bytes { take result.1 result.0 ≡ length_bytes len }
 {
-    let len = text.as_str().len();
-    text.push_str(key)?;
-    if let Err(e) = text.push_str(value) {
-        text.truncate(len);
-        return Err(e);
+    if len < 255 {
+        return ([len as u8, 0, 0, 0, 0], 1);
+    }
+    let digits = [
+        len % 256,
+        len / 256 % 256,
+        len / 65_536 % 256,
+        len / 16_777_216,
+    ];
+    (
+        [
+            255,
+            digits[0] as u8,
+            digits[1] as u8,
+            digits[2] as u8,
+            digits[3] as u8,
+        ],
+        5,
+    )
+}
+
+/// Adds a text behind its length. After an `Err` nothing is added.
+fn push_text(texts: &mut Vec<u8>, text: &str) -> Result<(), OutOfMemory>
+    ensures ok { OnOk result (texts.new.items ≡ texts.old.items ++ packed_text text.now) }
+    ensures short { OnOk result (length text.now < 2 ^ 32) }
+    ensures err { OnErr result (texts.new.items ≡ texts.old.items) }
+{
+    let Ok(len) = u32::try_from(text.len()) else {
+        return Err(OutOfMemory);
+    };
+    let before = texts.len();
+    let (bytes, count) = length_bytes(len);
+    texts.extend_from_slice(&bytes[..count])?;
+    if texts.extend_from_slice(text.as_bytes()).is_err() {
+        texts.truncate(before);
+        return Err(OutOfMemory);
     }
     Ok(())
 }
 
-/// The lengths of a key and a value, if they have room.
-fn lens_of(key: &str, value: &str) -> Option<TagLen>
-    ensures { IfSome result (λ len. (len.key ≡ length key.now) × (len.value ≡ length value.now)) }
+/// Adds a key and a value. After an `Err` nothing is added.
+fn push_both(texts: &mut Vec<u8>, key: &str, value: &str) -> Result<(), OutOfMemory>
+    ensures ok { OnOk result (texts.new.items
+        ≡ texts.old.items ++ (packed_text key.now ++ packed_text value.now)) }
+    ensures short { OnOk result ((length key.now < 2 ^ 32) × (length value.now < 2 ^ 32)) }
+    ensures err { OnErr result (texts.new.items ≡ texts.old.items) }
 {
-    match (u32::try_from(key.len()), u32::try_from(value.len())) {
-        (Ok(key), Ok(value)) => Some(TagLen { key, value }),
-        _ => None,
+    let before = texts.len();
+    push_text(texts, key)?;
+    if push_text(texts, value).is_err() {
+        texts.truncate(before);
+        return Err(OutOfMemory);
     }
+    Ok(())
+}
+
+/// The length that stands in front of a text, and what stands behind it.
+#[tactic(auto, unfolding(crate::specs::Packed::head_len, crate::specs::Packed::text_len))]
+fn split_length(bytes: &[u8]) -> (usize, &[u8])
+    requires { head_len bytes.now ≤ length bytes.now }
+    ensures len { result.0 ≡ text_len bytes.now }
+    ensures behind { result.1.now ≡ drop (head_len bytes.now) bytes.now }
+{
+    let first = bytes[0];
+    if first < 255 {
+        let (_, behind) = bytes.split_at(1);
+        return (usize::from(first), behind);
+    }
+    let (digits, behind) = bytes.split_at(5);
+    let len = usize::from(digits[1])
+        + 256 * usize::from(digits[2])
+        + 65_536 * usize::from(digits[3])
+        + 16_777_216 * usize::from(digits[4]);
+    (len, behind)
+}
+
+/// The text in front, and what stands behind it.
+fn split_text(bytes: &[u8]) -> (&str, &[u8])
+    requires { BeginsWithText bytes.now }
+    ensures text { result.0.now ≡ first_text bytes.now }
+    ensures behind { result.1.now ≡ after_text bytes.now }
+{
+    let (len, behind) = split_length(bytes);
+    let (text, behind) = behind.split_at(len);
+    // These are the bytes of the text that was pushed, so they are proved to be UTF-8.
+    let text = unsafe { str::from_utf8_unchecked(text) };
+    (text, behind)
 }
 
 impl Tags {
@@ -91,38 +158,39 @@ impl Tags {
         ensures { result ≡ [] }
     {
         Tags {
-            text: String::new(alloc),
-            lens: Vec::new(alloc),
+            texts: Vec::new(alloc),
+            count: 0,
         }
     }
 
-    /// The empty list, with room for this many tags, whose texts have this many bytes together.
-    pub(crate) fn with_capacity(
-        alloc: Global,
-        tags: usize,
-        bytes: usize,
-    ) -> Result<Tags, OutOfMemory>
+    /// The empty list, with room for this many bytes: those of the texts, and one for each that has fewer than 255.
+    pub(crate) fn with_capacity(alloc: Global, bytes: usize) -> Result<Tags, OutOfMemory>
         ensures { IfOk result (λ tags. tags ≡ []) }
     {
         Ok(Tags {
-            text: String::with_capacity(alloc, bytes)?,
-            lens: Vec::with_capacity(alloc, tags)?,
+            texts: Vec::with_capacity(alloc, bytes)?,
+            count: 0,
         })
+    }
+
+    /// Gives up the room that isn't used.
+    pub(crate) fn shrink_to_fit(&mut self)
+        ensures { self.new ≡ self.old }
+    {
+        self.texts.shrink_to_fit();
     }
 
     /// Adds a copy of a tag at the end. After an `Err` the list is unchanged. Texts of 2^32 bytes and more find no room.
     pub fn push(&mut self, key: &str, value: &str) -> Result<(), OutOfMemory>
-        ensures ok { OnOk result (self.new ≡ self.old ++ record { key = key.now; value = value.now } ∷ []) }
+        ensures ok { OnOk result (self.new
+            ≡ self.old ++ record { key = key.now; value = value.now } ∷ []) }
         ensures err { OnErr result (self.new ≡ self.old) }
     {
-        let Some(len) = lens_of(key, value) else {
+        let Some(count) = self.count.checked_add(1) else {
             return Err(OutOfMemory);
         };
-        self.lens.push(len)?;
-        if let Err(e) = push_both(&mut self.text, key, value) {
-            self.lens.pop();
-            return Err(e);
-        }
+        push_both(&mut self.texts, key, value)?;
+        self.count = count;
         Ok(())
     }
 
@@ -130,18 +198,20 @@ impl Tags {
     pub fn len(&self) -> usize
         ensures { result ≡ length self.now }
     {
-        self.lens.len()
+        self.count
     }
 
+    /// Whether there are none.
     pub fn is_empty(&self) -> bool
         ensures { result ≡ (length self.now == 0) }
     {
-        self.lens.is_empty()
+        self.count == 0
     }
 
     /// The value of the first tag of this key. It takes no memory.
     pub fn value_of(&self, key: &str) -> Option<&str>
-        ensures { option_map (λ v. v.now) result ≡ option_map (λ t. t.value) (find (λ t. bytes_eq t.key key.now) self.now) }
+        ensures { option_map (λ v. v.now) result
+            ≡ option_map (λ t. t.value) (find (λ t. bytes_eq t.key key.now) self.now) }
     {
         let mut rest = self.iter();
         while let Some(tag) = rest.next() {
@@ -156,12 +226,10 @@ impl Tags {
     pub fn copy(&self, alloc: Global) -> Result<Tags, OutOfMemory>
         ensures { IfOk result (λ tags. tags ≡ self.now) }
     {
-        let mut copies = Tags::with_capacity(alloc, self.lens.len(), self.text.as_str().len())?;
-        let mut rest = self.iter();
-        while let Some(tag) = rest.next() {
-            copies.push(tag.key, tag.value)?;
-        }
-        Ok(copies)
+        Ok(Tags {
+            texts: Vec::from_slice(alloc, &self.texts)?,
+            count: self.count,
+        })
     }
 
     /// The tags, to be gone through. It takes no memory.
@@ -169,8 +237,8 @@ impl Tags {
         ensures { result ≡ self.now }
     {
         TagIter {
-            text: self.text.as_str(),
-            lens: self.lens.as_slice(),
+            texts: self.texts.as_slice(),
+            left: self.count,
         }
     }
 }
@@ -181,11 +249,11 @@ impl<'a> TagIter<'a> {
         ensures tag { MatchOption result (self.old ≡ []) (λ t. self.old ≡ tag_seen t ∷ self.new) }
         ensures ended { IfNone result (self.new ≡ []) }
     {
-        let (len, lens) = self.lens.split_first()?;
-        let (key, text) = self.text.split_at(len.key as usize);
-        let (value, text) = text.split_at(len.value as usize);
-        self.text = text;
-        self.lens = lens;
+        let left = self.left.checked_sub(1)?;
+        let (key, texts) = split_text(self.texts);
+        let (value, texts) = split_text(texts);
+        self.texts = texts;
+        self.left = left;
         Some(TagRef { key, value })
     }
 }

@@ -1,3 +1,5 @@
+//! Lines that are read, and lines that are bad.
+
 use super::*;
 use osm_lattice::Loc;
 use std::test::*;
@@ -21,7 +23,7 @@ fn faults(
 
 #[test]
 fn bad_lines(rt: HostRuntime) {
-    let lines: [(&[u8], &str, u64); 23] = [
+    let lines: [(&[u8], &str, u64); 22] = [
         (b"n1 x0 y0 Tname=%2", "bad escape", 10),
         (b"n1 x200 y0", "bad coordinate", 3),
         (b"x1", "unknown object", 0),
@@ -40,7 +42,6 @@ fn bad_lines(rt: HostRuntime) {
         (b"n1 x0 y0\r\r", "bad coordinate", 6),
         (b"\r\r", "unknown object", 0),
         (b"n4611686018427387904", "bad number", 0),
-        (b"w1 Nn1,n2x1y1", "bad reference", 7),
         (b"r1 Mw1@a,n2@%20", "bad escape", 9),
         (b"r1 Mx1@%20", "bad member", 4),
         (b"n1 ua%d800%", "bad escape", 3),
@@ -213,8 +214,10 @@ fn deleted_objects_and_empty_fields(rt: HostRuntime) {
     ) {
         Ok(Some(Object::Way { id, refs, .. })) => {
             assert_eq!(rt; id, 0);
-            let expected = [1, -4_611_686_018_427_387_903, 7];
-            assert_eq!(rt; refs.as_slice(), expected.as_slice());
+            for (reference, node) in refs.iter().zip([1, -4_611_686_018_427_387_903, 7]) {
+                assert_eq!(rt; reference, Ref { node, at: None });
+            }
+            assert_eq!(rt; refs.len(), 3);
         }
         _other => assert!(rt; false),
     }
@@ -228,7 +231,99 @@ fn one_megabyte_in_one_line(rt: HostRuntime) {
         line.extend_from_slice(b",n1234567").expect(&rt, "memory");
     }
     match read_line(rt.alloc(), line.as_slice()) {
-        Ok(Some(Object::Way { refs, .. })) => assert_eq!(rt; refs.as_slice().len(), 116_501),
+        Ok(Some(Object::Way { refs, .. })) => assert_eq!(rt; refs.len(), 116_501),
         _other => assert!(rt; false),
     }
+}
+
+/// Checks the references of a line, which is that of a way.
+fn references(
+    rt: &impl std::process::Abort,
+    alloc: std::alloc::Global,
+    line: &[u8],
+    expected: &[Ref],
+) {
+    match read_line(alloc, line) {
+        Ok(Some(Object::Way { refs, .. })) => {
+            assert_eq!(rt; refs.len(), expected.len());
+            assert_eq!(rt; refs.is_empty(), expected.is_empty());
+            assert_eq!(rt; refs.first(), expected.first().copied());
+            assert_eq!(rt; refs.last(), expected.last().copied());
+            for (index, reference) in refs.iter().enumerate() {
+                assert_eq!(rt; Some(reference), expected.get(index).copied());
+                assert_eq!(rt; refs.get(index), Some(reference));
+            }
+            assert_eq!(rt; refs.get(expected.len()), None);
+        }
+        _other => assert!(rt; false),
+    }
+}
+
+#[test]
+fn references_with_their_own_locations(rt: HostRuntime) {
+    let here = Ref {
+        node: 17,
+        at: Loc::new(15_000_000, 20_000_000),
+    };
+    let corner = Ref {
+        node: -17,
+        at: Loc::new(-1_800_000_000, 900_000_000),
+    };
+    let nowhere = Ref { node: 18, at: None };
+    references(&rt, rt.alloc(), b"w1 N", &[]);
+    references(&rt, rt.alloc(), b"w1 Nn17x1.5y2", &[here]);
+    references(
+        &rt,
+        rt.alloc(),
+        b"w1 Nn18xy,n18,n18x1.5y,n18xy2",
+        &[nowhere; 4],
+    );
+    references(
+        &rt,
+        rt.alloc(),
+        b"w1 Nn18,n18xy,n017x1.50y+2.,n18x180y,n-17x-180y90,n18",
+        &[nowhere, nowhere, here, nowhere, corner, nowhere],
+    );
+}
+
+#[test]
+fn bad_references(rt: HostRuntime) {
+    for item in [
+        "n1x200y0",
+        "n1x0y90.00000005",
+        "n1x1",
+        "n1y1",
+        "n1x1y1z",
+        "n1x1y1y",
+        "n1xx1y1",
+        "n1x1e1y1",
+        "nx1y1",
+        "n1x",
+        "n",
+        "1x1y1",
+        "w1x1y1",
+    ] {
+        let mut line = String::from_str(rt.alloc(), "w1 Nn1x1y1,").expect(&rt, "memory");
+        line.push_str(item).expect(&rt, "memory");
+        faults(&rt, rt.alloc(), line.as_bytes(), "bad reference", 11);
+    }
+}
+
+#[test]
+fn tags_with_short_and_long_texts(rt: HostRuntime) {
+    let long =
+        "0123456789abcdef0123456789abcdef0123456789abcdef0123456789abcdef0123456789abcdef0123456789abcdef0123456789abcdef0123456789abcdef0123456789abcdef0123456789abcdef0123456789abcdef0123456789abcdef0123456789abcdef0123456789abcdef0123456789abcdef0123456789abcde";
+    let mut tags = Tags::new(rt.alloc());
+    for (key, value) in [("", ""), ("a", long), ("b", "ü"), (long, "c")] {
+        tags.push(key, value).expect(&rt, "memory");
+        tags.push("key", long).expect(&rt, "memory");
+    }
+    assert_eq!(rt; tags.len(), 8);
+    assert_eq!(rt; tags.value_of(""), Some(""));
+    assert_eq!(rt; tags.value_of("a"), Some(long));
+    assert_eq!(rt; tags.value_of("b"), Some("ü"));
+    assert_eq!(rt; tags.value_of(long), Some("c"));
+    assert_eq!(rt; tags.value_of("c"), None);
+    let copied = tags.copy(rt.alloc()).expect(&rt, "memory");
+    assert_eq!(rt; copied.value_of(long), Some("c"));
 }

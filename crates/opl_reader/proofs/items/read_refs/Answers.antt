@@ -1,5 +1,7 @@
+use Rattle.std.proofs.Common.{◌∙◌, List, Ok, sym, ap}
 use Rattle.std.specs.Option.{option_copied}
 use Rattle.std.proofs.lemmas.Result.{err_from_is_err_and}
+use Rattle.opl_reader.specs.declared.object.Ref.{Ref}
 use Rattle.opl_reader.specs.ItemReading.{ref_at, refs_at}
 use Rattle.opl_reader.proofs.ItemLemmas.{begins-all, fails, is_read}
 use Rattle.opl_reader.proofs.items.read_refs.Goals as goal
@@ -7,12 +9,13 @@ use Rattle.opl_reader.proofs.items.read_refs.Goals as goal
 pub loop-left-init : goal.loop-left-init
 loop-left-init c = rw c.in_ok-refs.ensures (begins-all ref_at c.args.place c.args.text.now c.all_items-left.result c.all_items-left.ensures.value c.all_items-left.ensures.utf8)
 
-pub returns-in_err-id : goal.returns-in_err-id
+pub returns-in_err-reference : goal.returns-in_err-reference
 unfolding refs_at
-returns-in_err-id c =
-    let p = err_from_is_err_and c.from_residual-in_err-id.result c.from_residual-in_err-id.ensures.1 in
-    rw (p.1, p.2) (fails ref_at c.loop-left.refs c.loop-left.at c.in-Some.rest c.next_item.result.0.now (option_copied c.next_item.result.1) c.in_err-id.field-0.0 c.args.place c.args.text.now c.next_item.ensures.parts c.in_err-id.ensures (rw c.in-Some.is at c.loop-left.invariant))
+returns-in_err-reference c =
+    let p = err_from_is_err_and c.from_residual-in_err-reference.result c.from_residual-in_err-reference.ensures.1 in
+    rw (p.1, p.2) (fails ref_at c.loop-left.refs c.loop-left.at c.in-Some.rest c.next_item.result.0.now (option_copied c.next_item.result.1) c.in_err-reference.field-0.0 c.args.place c.args.text.now c.next_item.ensures.parts c.in_err-reference.ensures (rw c.in-Some.is at c.loop-left.invariant))
 
 pub returns : goal.returns
 unfolding refs_at
-returns c = is_read ref_at c.loop-left.refs c.loop-left.at c.args.place c.args.text.now (rw c.in_default.is at c.loop-left.invariant)
+returns c =
+    is_read ref_at c.loop-left.refs c.loop-left.at c.args.place c.args.text.now (rw c.in_default.is at c.loop-left.invariant) ∙ ap (λ (refs : List Ref). Ok refs) (sym c.shrink_to_fit.ensures)

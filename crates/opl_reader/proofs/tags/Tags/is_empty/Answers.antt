@@ -1,6 +1,6 @@
-use Rattle.std.proofs.Common.{rules, string_bytes}
+use Rattle.std.proofs.Common.{rules}
 use Rattle.opl_reader.proofs.PackedLemmas.{as_many}
 use Rattle.opl_reader.proofs.tags.Tags.is_empty.Goals as goal
 
 pub returns : goal.returns
-returns c = rw (← c.self.view_is, as_many c.self.inside.lens.items (string_bytes c.self.inside.text)) (search rules)
+returns c = rw (← c.self.view_is, as_many c.self.inside.count c.self.inside.texts.items) (search rules)

@@ -1,0 +1,20 @@
+-- Coordinates: what x and y spell, and the location that they make.
+use Rattle.std.specs.Prelude.{◌≡◌, ℕ, ◌⊎◌, List, [], Option, Some, None}
+use Rattle.osm_lattice.specs.declared.loc.Loc.{Loc}
+use Rattle.opl_reader.specs.declared.coordinate.Longitude.{Longitude}
+use Rattle.opl_reader.specs.declared.coordinate.Latitude.{Latitude}
+use Rattle.opl_reader.specs.Numbers.{IsDecimal}
+
+-- empty, or the decimal of a longitude
+abbrev pub IsX : List ℕ → Option Longitude → Type 0
+IsX bytes x = ((bytes ≡ []) × (x ≡ None)) ⊎ ((l : Longitude) × IsDecimal bytes l.units × (x ≡ Some l))
+
+-- empty, or the decimal of a latitude
+abbrev pub IsY : List ℕ → Option Latitude → Type 0
+IsY bytes y = ((bytes ≡ []) × (y ≡ None)) ⊎ ((l : Latitude) × IsDecimal bytes l.units × (y ≡ Some l))
+
+-- a location, where both coordinates are there
+abbrev pub place_of : Option Longitude → Option Latitude → Option Loc
+place_of None y = None
+place_of (Some x) None = None
+place_of (Some x) (Some y) = Some (record { x = x.units; y = y.units; x_in = x.in_range; y_in = y.in_range })
