@@ -11,8 +11,8 @@ use Rattle.osm_objects.specs.declared.held.Placed.{Placed}
 use Rattle.osm_objects.specs.Object.{kind_of, id_of, ref_of, is_at}
 use Rattle.osm_objects.specs.Objects.{object_at, AreApart}
 use Rattle.osm_objects.specs.CoastWays.{is_coast_way, coast_ways}
-use Rattle.osm_objects.specs.Held.{object_from, objects_from, KindsAgree}
-use Rattle.osm_objects.proofs.StoreLemmas.{eq, id-from, object_at-from, kept_at}
+use Rattle.osm_objects.specs.Held.{object_from, KindsAgree}
+use Rattle.osm_objects.proofs.StoreLemmas.{eq, id-from, object_at-from, kept_at, objects_from}
 use Rattle.osm_objects.proofs.FoundLemmas.{passes}
 
 -- a key that is equal to none is not found

@@ -11,7 +11,8 @@ use Rattle.osm_objects.specs.declared.held.Placed.{Placed}
 use Rattle.osm_objects.specs.declared.held.Held.TheVariants as held
 use Rattle.osm_objects.specs.Object.{kind_of, id_of, is_live, ref_of, same_kind, is_at}
 use Rattle.osm_objects.specs.Objects.{object_at, AreApart}
-use Rattle.osm_objects.specs.Held.{object_from, objects_from}
+use Rattle.osm_objects.specs.Held.{object_from}
+use Rattle.osm_objects.proofs.StoreLemmas.{objects_from}
 
 -- ---- the test of a kind and id
 

@@ -1,4 +1,5 @@
 pub mod TagLemmas
+mod ChoiceLemmas
 pub mod StoreLemmas
 pub mod ApartLemmas
 pub mod FoundLemmas

@@ -1,5 +1,5 @@
 -- A look-up among the nodes and the others is a look-up in the list of all objects.
-use Rattle.std.proofs.Common.{◌≡◌, ◌∙◌, Bool, true, false, cond, ◌&&◌, List, [], ◌∷◌, ◌++◌, refl, sym, ap, subst, ℤ, map, filter, Option, None, Some, option_map, is_some, int_eq, not, true≢false, IsTrue}
+use Rattle.std.proofs.Common.{◌≡◌, ◌∙◌, Bool, true, false, cond, ◌&&◌, List, [], ◌∷◌, refl, sym, ap, subst, ℤ, map, filter, Option, None, Some, option_map, int_eq, not, IsTrue}
 use Rattle.std.specs.List.{AllByRecursion, find}
 use Rattle.std.specs.Map.{lookup}
 use Rattle.std.proofs.lemmas.Bool.Decides.{Decides-int_eq}
@@ -8,18 +8,19 @@ use Rattle.opl_reader.specs.declared.object.ObjectKind.TheVariants.{Node, Way, R
 use Rattle.opl_reader.specs.declared.object.ObjectRef.{ObjectRef}
 use Rattle.opl_reader.specs.declared.object.Object.{Object}
 use Rattle.opl_reader.specs.contracts.object.ObjectKindPartialEq.TheImpl as kind_eq
+use Rattle.osm_objects.specs.declared.choice.Choice.{Choice}
 use Rattle.osm_objects.specs.declared.held.Placed.{Placed}
 use Rattle.osm_objects.specs.declared.plain.PlainNode.{PlainNode}
 use Rattle.osm_objects.specs.Object.{is_live, kind_of, id_of, ref_of, same_kind, is_at}
 use Rattle.osm_objects.specs.Objects.{object_at, AreApart}
 use Rattle.osm_objects.specs.Candidates.{is_candidate, may_have_area, candidates}
 use Rattle.osm_objects.specs.CoastWays.{is_coast_way, coast_ways}
-use Rattle.osm_objects.specs.Held.{object_from, objects_from, others_from, KindsAgree}
+use Rattle.osm_objects.specs.Held.{object_from, others_from, KindsAgree}
 use Rattle.osm_objects.specs.Plain.{node_from, nodes_from}
-use Rattle.osm_objects.specs.Merged.{items_of, merged}
-use Rattle.osm_objects.proofs.StoreLemmas.{eq, kept_at, object_at-from}
+use Rattle.osm_objects.specs.Merged.{merged}
+use Rattle.osm_objects.proofs.StoreLemmas.{eq, kept_at, object_at-from, objects_from}
 use Rattle.osm_objects.proofs.FoundLemmas.{AllFound, all_found, all_live}
-use Rattle.osm_objects.proofs.MergedLemmas.{found_among_others, plain_of_all, all_merged, filter-merged}
+use Rattle.osm_objects.proofs.MergedLemmas.{found_among_others, plain_of_all, all_merged, filter-merged, items_of}
 
 pub items-from : (es : List (ObjectRef × Placed)) → items_of (others_from es) ≡ objects_from es
 items-from [] = refl
@@ -106,9 +107,9 @@ pub filter-others : (p : Object → Bool) → ((n : PlainNode) → p (node_from 
     filter p (merged (nodes_from nodes) (others_from es)) ≡ filter p (objects_from es)
 filter-others p fails nodes es = filter-merged p (nodes_from nodes) (others_from es) (nodes_fail p fails nodes) ∙ ap (filter p) (items-from es)
 
-pub no_candidate : (keep : Bool) (n : PlainNode) → is_candidate keep (node_from n) ≡ false
+pub no_candidate : (choice : Choice) (n : PlainNode) → is_candidate choice (node_from n) ≡ false
 unfolding is_candidate may_have_area
-no_candidate keep n = refl
+no_candidate choice n = refl
 
 pub no_coast_way : (n : PlainNode) → is_coast_way (node_from n) ≡ false
 unfolding is_coast_way
@@ -126,8 +127,8 @@ all_merged_live nodes es =
     (subst (λ (os : List Object). AllByRecursion (λ (o : Object). IsTrue (is_live o)) os) (sym (items-from es)) (all_live es))
 
 -- the lists, as the loops begin them
-pub candidates_others : (keep : Bool) (nodes : List PlainNode) (es : List (ObjectRef × Placed)) → candidates keep (merged (nodes_from nodes) (others_from es)) ≡ candidates keep (objects_from es)
-candidates_others keep nodes es = ap (map ref_of) (filter-others (is_candidate keep) (no_candidate keep) nodes es)
+pub candidates_others : (choice : Choice) (nodes : List PlainNode) (es : List (ObjectRef × Placed)) → candidates choice (merged (nodes_from nodes) (others_from es)) ≡ candidates choice (objects_from es)
+candidates_others choice nodes es = ap (map ref_of) (filter-others (is_candidate choice) (no_candidate choice) nodes es)
 
 pub coast_ways_others : (nodes : List PlainNode) (es : List (ObjectRef × Placed)) → coast_ways (merged (nodes_from nodes) (others_from es)) ≡ coast_ways (objects_from es)
 coast_ways_others nodes es = ap (map id_of) (filter-others is_coast_way no_coast_way nodes es)

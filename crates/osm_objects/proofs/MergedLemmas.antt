@@ -1,9 +1,12 @@
 -- What is found in two lists as in the one list that they stand for.
-use Rattle.std.proofs.Common.{◌≡◌, ◌∙◌, refl, sym, ap, subst, ℕ, suc, zero, ◌+◌, ◌≤◌, Bool, true, false, cond, List, [], ◌∷◌, ◌++◌, length, take, drop, map, filter, Option, None, Some, append_assoc, length-append, length-drop, arith}
+use Rattle.std.proofs.Common.{◌≡◌, ◌∙◌, refl, sym, ap, subst, ℕ, suc, zero, ◌+◌, ◌≤◌, Bool, true, false, cond, List, [], ◌∷◌, ◌++◌, length, take, drop, map, filter, None, Some, append_assoc, length-append, length-drop, arith}
 use Rattle.std.specs.List.{AllByRecursion, find}
 use Rattle.std.proofs.lemmas.List.{take-append-le, drop-append-le, take_all, drop_all, take-append-drop}
 use Rattle.std.proofs.lemmas.List.Elements.{filter-append}
-use Rattle.osm_objects.specs.Merged.{Other, other, items_of, merged, Fit}
+use Rattle.osm_objects.specs.Merged.{Other, other, merged, Fit}
+
+abbrev pub items_of : {A : Type 0} → List (Other A) → List A
+items_of others = map (λ o. o.item) others
 
 -- ---- one more item comes last
 

@@ -1,5 +1,5 @@
 -- A look-up in the map is a look-up in the list of objects.
-use Rattle.std.proofs.Common.{◌≡◌, ◌∙◌, Bool, true, false, cond, ◌&&◌, List, [], ◌∷◌, ◌++◌, refl, sym, ap, ℤ, Option, None, Some, option_map, is_some, int_eq, true≢false, Bor, if◌then◌else◌}
+use Rattle.std.proofs.Common.{◌≡◌, ◌∙◌, Bool, true, false, cond, ◌&&◌, List, [], ◌∷◌, ◌++◌, refl, sym, ap, map, ℤ, Option, None, Some, option_map, is_some, int_eq, true≢false, Bor, if◌then◌else◌}
 use Rattle.std.specs.Option.{option_copied}
 use Rattle.std.specs.Map.{lookup}
 use Rattle.std.proofs.lemmas.Bool.Decides.{Decides-int_eq}
@@ -14,9 +14,12 @@ use Rattle.osm_objects.specs.declared.held.Placed.{Placed}
 use Rattle.osm_objects.specs.declared.held.Held.TheVariants as held
 use Rattle.osm_objects.specs.Object.{kind_of, id_of, is_live, ref_of, same_kind, is_at}
 use Rattle.osm_objects.specs.Objects.{object_at, is_duplicate, with_object}
-use Rattle.osm_objects.specs.Held.{object_from, objects_from, KindsAgree, live_ref}
-use Rattle.lists.proofs.Bools.{and-right}
-use Rattle.lists.proofs.Options.{is_some-map}
+use Rattle.osm_objects.specs.Held.{object_from, KindsAgree, live_ref}
+use Rattle.lists.proofs.ListsKit.{and-right, is_some-map}
+
+-- the objects that entries stand for
+abbrev pub objects_from : List (ObjectRef × Placed) → List Object
+objects_from entries = map (λ e. object_from e.0.id e.1.held) entries
 
 abbrev pub eq : ObjectRef → ObjectRef → Bool
 eq = ref_eq.ghosts.eq

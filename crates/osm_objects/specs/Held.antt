@@ -16,9 +16,6 @@ object_from id (Tagged n) = object.Node id true n.value.tags n.value.place
 object_from id (Way w) = object.Way id true w.value.tags w.value.refs
 object_from id (Relation r) = object.Relation id true r.value.tags r.value.members
 
-abbrev pub objects_from : List (ObjectRef × Placed) → List Object
-objects_from entries = map (λ e. object_from e.0.id e.1.held) entries
-
 -- the objects, each with the count of plain nodes before it
 abbrev pub others_from : List (ObjectRef × Placed) → List (Other Object)
 others_from entries = map (λ e. other e.1.gap (object_from e.0.id e.1.held)) entries

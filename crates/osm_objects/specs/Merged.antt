@@ -1,6 +1,6 @@
 -- One list kept as two: plain items apart, and with each other item how many plain ones stand since the other before it.
 -- Only private clauses cite it.
-use Rattle.std.specs.Prelude.{◌≡◌, ◌≤◌, ℕ, List, [], ◌∷◌, ◌++◌, length, take, drop, map}
+use Rattle.std.specs.Prelude.{◌≡◌, ◌≤◌, ℕ, List, [], ◌∷◌, ◌++◌, length, take, drop}
 
 -- an item with the count of plain ones before it
 pub record Other (A : Type 0) : Type 0 where
@@ -9,9 +9,6 @@ pub record Other (A : Type 0) : Type 0 where
 
 abbrev pub other : {A : Type 0} → ℕ → A → Other A
 other gap item = record { gap = gap; item = item }
-
-abbrev pub items_of : {A : Type 0} → List (Other A) → List A
-items_of others = map (λ o. o.item) others
 
 -- all items in order
 abbrev pub merged : {A : Type 0} → List A → List (Other A) → List A

@@ -1,8 +1,10 @@
 -- The live objects of an input, in order, and what is found among them.
 use Rattle.std.specs.Prelude.{◌≡◌, Bool, ◌&&◌, if◌then◌else◌, List, [], ◌∷◌, ◌++◌, find, ℤ, Option, None, Some, option_and_then, is_some}
+use Rattle.std.specs.Option.{option_or}
 use Rattle.osm_lattice.specs.declared.loc.Loc.{Loc}
 use Rattle.opl_reader.specs.declared.object.Tag.{Tag}
 use Rattle.opl_reader.specs.declared.object.Member.{Member}
+use Rattle.opl_reader.specs.declared.object.Ref.{Ref}
 use Rattle.opl_reader.specs.declared.object.ObjectKind.TheVariants.{Node, Way, Relation}
 use Rattle.opl_reader.specs.declared.object.ObjectRef.{ObjectRef}
 use Rattle.opl_reader.specs.declared.object.Object.{Object}
@@ -24,10 +26,14 @@ place_in (object.Relation id live tags members) = None
 abbrev pub location_of : List Object → ℤ → Option Loc
 location_of objects id = option_and_then place_in (object_at objects (record { kind = Node; id = id }))
 
+-- the location of a reference: its own where it has one, otherwise that of the node of its id
+abbrev pub place_of : List Object → Ref → Option Loc
+place_of objects reference = option_or reference.at (location_of objects reference.node)
+
 -- a way's tags and references
 pub record WayParts : Type 0 where
   pub tags : List Tag
-  pub refs : List ℤ
+  pub refs : List Ref
 
 abbrev pub way_in : Object → Option WayParts
 way_in (object.Node id live tags place) = None

@@ -1,5 +1,6 @@
 -- Tags by their keys. Of equal keys the first counts.
-use Rattle.std.specs.Prelude.{Bool, not, ℕ, List, filter, find, bytes_eq, Option, Some, option_map}
+use Rattle.std.specs.Prelude.{Bool, not, ℕ, List, filter, find, bytes_eq, Option, Some, option_map, is_some}
+use Rattle.std.specs.List.{list_any}
 use Rattle.std.specs.Option.{option_eq}
 use Rattle.opl_reader.specs.declared.object.Tag.{Tag}
 
@@ -10,6 +11,14 @@ value_of key tags = option_map (λ t. t.value) (find (λ t. bytes_eq t.key key) 
 -- tagged key=value
 abbrev pub is_tagged : List ℕ → List ℕ → List Tag → Bool
 is_tagged key value tags = option_eq bytes_eq (value_of key tags) (Some value)
+
+-- a tag has this key
+abbrev pub has_key : List ℕ → List Tag → Bool
+has_key key tags = is_some (value_of key tags)
+
+-- a tag has one of these keys
+abbrev pub has_one_of : List (List ℕ) → List Tag → Bool
+has_one_of keys tags = list_any (λ key. has_key key tags) keys
 
 -- the tags of every other key, in order
 abbrev pub without_key : List ℕ → List Tag → List Tag

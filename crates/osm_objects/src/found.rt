@@ -25,12 +25,14 @@ pub(crate) enum Found<'a> {
 }
 
 impl<'a> Found<'a> {
+    /// Whether anything was found.
     pub(crate) fn is_held(&self) -> bool
         ensures { (id : ℤ) → result ≡ is_some (object_found id self.now) }
     {
         !matches!(self, Found::Nowhere)
     }
 
+    /// The location of what was found.
     pub(crate) fn place(&self) -> Option<Loc>
         ensures { (id : ℤ) → result ≡ option_and_then place_in (object_found id self.now) }
     {
@@ -41,32 +43,39 @@ impl<'a> Found<'a> {
         }
     }
 
+    /// The way that was found.
     pub(crate) fn way(&self) -> Option<WayView<'a>>
-        ensures { (id : ℤ) → option_map way_seen result ≡ option_and_then way_in (object_found id self.now) }
+        ensures { (id : ℤ)
+            → option_map way_seen result ≡ option_and_then way_in (object_found id self.now) }
     {
         match self {
             Found::Other(held) => held.way(),
-            _ => None,
+            Found::Nowhere | Found::Plain(_) => None,
         }
     }
 
+    /// The relation that was found.
     pub(crate) fn relation(&self) -> Option<RelationView<'a>>
-        ensures { (id : ℤ) → option_map relation_seen result ≡ option_and_then relation_in (object_found id self.now) }
+        ensures { (id : ℤ)
+            → option_map relation_seen result
+            ≡ option_and_then relation_in (object_found id self.now) }
     {
         match self {
             Found::Other(held) => held.relation(),
-            _ => None,
+            Found::Nowhere | Found::Plain(_) => None,
         }
     }
 
     /// A copy of its area's tags.
     #[tactic(auto, unfolding(crate::specs::Candidates::area_tags))]
     pub(crate) fn area_tags(&self, alloc: Global) -> Result<Tags, OutOfMemory>
-        ensures { (id : ℤ) → IsSome (object_found id self.now) → IfOk result (λ tags. Some tags ≡ option_map area_tags (object_found id self.now)) }
+        ensures { (id : ℤ)
+            → IsSome (object_found id self.now)
+            → IfOk result (λ tags. Some tags ≡ option_map area_tags (object_found id self.now)) }
     {
         match self {
             Found::Other(held) => held.area_tags(alloc),
-            _ => Ok(Tags::new(alloc)),
+            Found::Nowhere | Found::Plain(_) => Ok(Tags::new(alloc)),
         }
     }
 }

@@ -3,14 +3,15 @@
 ghost use Rattle.std.specs.Prelude.{◌≡◌, [], ℤ, nat_lt, length, IsTrue, IfOk, option_map};
 ghost use Rattle.osm_objects.specs.Object.{is_live, id_of, kind_of};
 ghost use Rattle.osm_objects.specs.Objects.{place_in, way_in, relation_in};
-ghost use Rattle.osm_objects.specs.Candidates.{is_closed, may_have_area, area_tags, is_candidate};
+ghost use Rattle.osm_objects.specs.Candidates.{is_closed, node_named, may_have_area, area_tags, is_candidate};
 ghost use Rattle.osm_objects.specs.CoastWays.{is_coast_way};
 ghost use Rattle.osm_objects.specs.Held.{object_from};
 ghost use Rattle.osm_objects.specs.Views.{way_seen, relation_seen};
 
+use crate::choice::Choice;
 use crate::tags::{copy_without, has_other_key, is_tagged};
 use crate::view::{RelationView, WayView};
-use opl_reader::{Members, Object, ObjectKind, Refs, Tags};
+use opl_reader::{Members, Object, ObjectKind, Ref, Refs, Tags};
 use osm_lattice::Loc;
 use std::alloc::{AllocError as OutOfMemory, Global};
 
@@ -21,12 +22,14 @@ pub(crate) struct TaggedNode {
     pub(crate) place: Option<Loc>,
 }
 
+/// A way.
 #[derive(Drop)]
 pub(crate) struct HeldWay {
     pub(crate) tags: Tags,
     pub(crate) refs: Refs,
 }
 
+/// A relation.
 #[derive(Drop)]
 pub(crate) struct HeldRelation {
     pub(crate) tags: Tags,
@@ -71,6 +74,7 @@ impl Held {
         }
     }
 
+    /// The kind of the object.
     pub(crate) fn kind(&self) -> ObjectKind
         ensures { (id : ℤ) → result ≡ kind_of (object_from id self.now) }
     {
@@ -83,14 +87,13 @@ impl Held {
 
     /// Whether it may have an area, be that tagged or not.
     #[tactic(auto, unfolding(crate::specs::Candidates::may_have_area))]
-    fn may_have_area(&self) -> bool
-        ensures { (id : ℤ) → result ≡ may_have_area (object_from id self.now) }
+    fn may_have_area(&self, choice: &Choice) -> bool
+        ensures { (id : ℤ) → result ≡ may_have_area choice.now (object_from id self.now) }
     {
         match self {
             Held::Plain(_) | Held::Tagged(_) => false,
             Held::Way(way) => {
-                let refs = way.refs.as_slice();
-                refs.len() >= 4 && is_closed(refs) && !is_tagged(&way.tags, "area", "no")
+                way.refs.len() >= 4 && is_closed(&way.refs) && choice.is_area_way(&way.tags)
             }
             Held::Relation(relation) => {
                 is_tagged(&relation.tags, "type", "multipolygon")
@@ -111,20 +114,22 @@ impl Held {
         }
     }
 
+    /// Whether it is a candidate by this choice.
     #[tactic(auto, unfolding(crate::specs::Candidates::is_candidate))]
-    pub(crate) fn is_candidate(&self, keep_untagged: bool) -> bool
-        ensures { (id : ℤ) → result ≡ is_candidate keep_untagged (object_from id self.now) }
+    pub(crate) fn is_candidate(&self, choice: &Choice) -> bool
+        ensures { (id : ℤ) → result ≡ is_candidate choice.now (object_from id self.now) }
     {
-        self.may_have_area() && (keep_untagged || self.has_area_tags())
+        self.may_have_area(choice) && (choice.keep_untagged || self.has_area_tags())
     }
 
+    /// Whether it is a way of the coast.
     #[tactic(auto, unfolding(crate::specs::CoastWays::is_coast_way))]
     pub(crate) fn is_coast_way(&self) -> bool
         ensures { (id : ℤ) → result ≡ is_coast_way (object_from id self.now) }
     {
         match self {
             Held::Way(way) => is_tagged(&way.tags, "natural", "coastline"),
-            _ => false,
+            Held::Plain(_) | Held::Tagged(_) | Held::Relation(_) => false,
         }
     }
 
@@ -140,16 +145,18 @@ impl Held {
         }
     }
 
+    /// The location, if it is a node that has one.
     pub(crate) fn place(&self) -> Option<Loc>
         ensures { (id : ℤ) → result ≡ place_in (object_from id self.now) }
     {
         match self {
             Held::Plain(place) => *place,
             Held::Tagged(node) => node.place,
-            _ => None,
+            Held::Way(_) | Held::Relation(_) => None,
         }
     }
 
+    /// The way, if it is one.
     pub(crate) fn way(&self) -> Option<WayView<'_>>
         ensures { (id : ℤ) → option_map way_seen result ≡ way_in (object_from id self.now) }
     {
@@ -158,26 +165,35 @@ impl Held {
                 tags: &way.tags,
                 refs: &way.refs,
             }),
-            _ => None,
+            Held::Plain(_) | Held::Tagged(_) | Held::Relation(_) => None,
         }
     }
 
+    /// The relation, if it is one.
     pub(crate) fn relation(&self) -> Option<RelationView<'_>>
-        ensures { (id : ℤ) → option_map relation_seen result ≡ relation_in (object_from id self.now) }
+        ensures { (id : ℤ)
+            → option_map relation_seen result ≡ relation_in (object_from id self.now) }
     {
         match self {
             Held::Relation(relation) => Some(RelationView {
                 tags: &relation.tags,
                 members: &relation.members,
             }),
-            _ => None,
+            Held::Plain(_) | Held::Tagged(_) | Held::Way(_) => None,
         }
     }
 }
 
-/// Whether there is a reference, and the last is the first.
-fn is_closed(refs: &[i64]) -> bool
+/// The node of a reference, if there is one.
+fn node_named(reference: Option<Ref>) -> Option<i64>
+    ensures { result ≡ node_named reference }
+{
+    reference.map(|reference| reference.node)
+}
+
+/// Whether there is a reference, and the last is to the node of the first. Their own locations do not matter.
+fn is_closed(refs: &Refs) -> bool
     ensures { result ≡ is_closed refs.now }
 {
-    !refs.is_empty() && refs.first() == refs.last()
+    !refs.is_empty() && node_named(refs.first()) == node_named(refs.last())
 }

@@ -2,6 +2,7 @@
 #![tactic(auto)]
 
 mod area;
+mod choice;
 mod error;
 mod found;
 mod held;
@@ -14,6 +15,7 @@ mod tests;
 mod view;
 
 pub use area::area_id;
+pub use choice::{Choice, Keys};
 pub use error::AddError;
 pub use problem::{Note, Problem};
 pub use store::Store;

@@ -1,12 +1,13 @@
 //! Nodes that have a location and no tags: most objects of an input are such nodes, so each takes little room.
 
-ghost use Rattle.std.specs.Prelude.{◌≡◌, ◌++◌, ◌∷◌, [], true, IsTrue, IfSome, find, option_map};
+ghost use Rattle.std.specs.Prelude.{◌≡◌, ◌++◌, ◌∷◌, [], true, IsTrue, IfSome, OnOk, OnErr, find, option_map};
 ghost use Rattle.std.specs.Ordering.{int_eq};
 ghost use Rattle.osm_objects.specs.Objects.{object_at};
 ghost use Rattle.osm_objects.specs.Plain.{node_from, nodes_from, AreRising};
 
 use opl_reader::{Object, ObjectKind, ObjectRef};
 use osm_lattice::Loc;
+use std::alloc::AllocError as OutOfMemory;
 use std::cmp::Ordering;
 
 /// A live node that has a location and no tags.
@@ -30,7 +31,7 @@ pub(crate) fn plain_node(object: &Object) -> Option<PlainNode>
             id: *id,
             place: *place,
         }),
-        _ => None,
+        Object::Node { .. } | Object::Way { .. } | Object::Relation { .. } => None,
     }
 }
 
@@ -43,6 +44,21 @@ pub(crate) fn is_above(nodes: &[PlainNode], node: &PlainNode) -> bool
         Some(last) => last.id < node.id,
         None => true,
     }
+}
+
+/// How many nodes more there is room for at least, whenever the row grows.
+const LEAST_STEP: usize = 64;
+
+/// Adds a node at the end. After an `Err` the row is unchanged. It grows by an eighth, since it may hold most of an input.
+pub(crate) fn push_node(nodes: &mut Vec<PlainNode>, node: PlainNode) -> Result<(), OutOfMemory>
+    ensures ok { OnOk result (nodes.new.items ≡ nodes.old.items ++ node ∷ []) }
+    ensures err { OnErr result (nodes.new.items ≡ nodes.old.items) }
+{
+    if nodes.len() == nodes.capacity() {
+        nodes.reserve_exact(nodes.len() / 8 + LEAST_STEP)?;
+    }
+    nodes.push(node)?;
+    Ok(())
 }
 
 /// The node of this kind and id among nodes whose ids rise.

@@ -9,7 +9,7 @@ use osm_lattice::{Kind, Loc, Seg};
 pub enum Problem {
     /// A member way that isn't held.
     MissingWay { id: i64 },
-    /// A node that a member way names, and that isn't held or has no location.
+    /// A node of a member way's reference that has no location, neither of its own nor that of a node that is held.
     MissingNode { id: i64 },
     /// No segment is left.
     Nothing,

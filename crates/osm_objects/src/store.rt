@@ -1,24 +1,26 @@
 //! The store of objects.
 
-ghost use Rattle.std.specs.Prelude.{◌≡◌, [], Bool, true, All, IsTrue, IfOk, OnOk, OnErr, IfErr, IsSome, Some, option_map, false};
+ghost use Rattle.std.specs.Prelude.{◌≡◌, [], true, All, Contains, IsTrue, IfOk, OnOk, OnErr, IfErr, IsSome, Some, option_map, false};
 ghost use Rattle.std.specs.List.{IsDistinct};
 ghost use Rattle.std.specs.Ordering.{int_eq};
 ghost use Rattle.osm_objects.specs.Object.{is_live, ref_of};
-ghost use Rattle.osm_objects.specs.Objects.{object_at, location_of, way_of, relation_of, with_object, is_duplicate, AreApart};
-ghost use Rattle.osm_objects.specs.Candidates.{area_tags, is_candidate, candidates};
+ghost use Rattle.osm_objects.specs.Objects.{object_at, location_of, place_of, way_of, relation_of, with_object, is_duplicate, AreApart};
+ghost use Rattle.osm_objects.specs.declared.choice.Choice.{Choice};
+ghost use Rattle.osm_objects.specs.Candidates.{area_tags, is_candidate, candidates, without_lists};
 ghost use Rattle.osm_objects.specs.CoastWays.{coast_ways};
 ghost use Rattle.osm_objects.specs.AddErrors.{Refuses};
 ghost use Rattle.osm_objects.specs.Views.{way_seen, relation_seen};
 ghost use Rattle.osm_objects.specs.Held.{live_ref};
 ghost use Rattle.osm_objects.specs.Found.{object_found};
 
+use crate::choice::Choice;
 use crate::error::AddError;
 use crate::found::Found;
 use crate::held::{Held, Placed};
-use crate::plain::{PlainNode, is_above, node_of, plain_node};
+use crate::plain::{PlainNode, is_above, node_of, plain_node, push_node};
 use crate::view::{RelationView, WayView};
 use indexmap::IndexMap;
-use opl_reader::{Object, ObjectKind, ObjectRef, Tags};
+use opl_reader::{Object, ObjectKind, ObjectRef, Ref, Tags};
 use osm_lattice::Loc;
 use std::alloc::{AllocError as OutOfMemory, Global};
 use std::marker::Model;
@@ -46,7 +48,10 @@ impl Model for Store {
 
     ghost view = { λ s. merged (nodes_from s.nodes.items) (others_from s.others.entries) };
 
-    ghost invariant = { λ s. AreRising s.nodes.items × KindsAgree s.others.entries × Fit (nodes_from s.nodes.items) (others_from s.others.entries) s.since × AreApart (merged (nodes_from s.nodes.items) (others_from s.others.entries)) };
+    ghost invariant = { λ s. AreRising s.nodes.items
+        × KindsAgree s.others.entries
+        × Fit (nodes_from s.nodes.items) (others_from s.others.entries) s.since
+        × AreApart (merged (nodes_from s.nodes.items) (others_from s.others.entries)) };
 }
 
 /// The kind and id of an object that is live.
@@ -66,7 +71,7 @@ fn live_ref(object: &Object) -> Option<ObjectRef>
             kind: ObjectKind::Relation,
             id: *id,
         }),
-        _ => None,
+        Object::Node { .. } | Object::Way { .. } | Object::Relation { .. } => None,
     }
 }
 
@@ -102,7 +107,7 @@ impl Store {
         }
         if let Some(node) = plain_node(&object) {
             if is_above(self.nodes.as_slice(), &node) {
-                self.nodes.push(node)?;
+                push_node(&mut self.nodes, node)?;
                 self.since += 1;
                 return Ok(());
             }
@@ -115,12 +120,17 @@ impl Store {
     }
 
     /// A law: all objects of a store are live, no two have one kind and id, each is what a look-up of its kind
-    /// and id finds, and so a candidate's kind and id find a candidate.
+    /// and id finds, and so a candidate's kind and id find a candidate. The candidates of every choice are among
+    /// those of the choice that keeps the untagged and has no lists of keys.
     pub fn one_of_each(&self)
         ensures live { All (λ o. IsTrue (is_live o)) self.now }
         ensures apart { AreApart self.now }
         ensures found { All (λ o. object_at self.now (ref_of o) ≡ Some o) self.now }
-        ensures candidates { (keep : Bool) → All (λ of. option_map (is_candidate keep) (object_at self.now of) ≡ Some true) (candidates keep self.now) }
+        ensures candidates { (choice : Choice)
+            → All (λ of. option_map (is_candidate choice) (object_at self.now of) ≡ Some true)
+            (candidates choice self.now) }
+        ensures widest { (choice : Choice)
+            → All (Contains (candidates (without_lists true) self.now)) (candidates choice self.now) }
     {
         // The invariant of the type says it.
         let _ = &self.others;
@@ -147,6 +157,17 @@ impl Store {
         self.find(ObjectRef { kind, id }).place()
     }
 
+    /// The location of a reference: its own if it has one, and otherwise that of its node. None exactly where neither
+    /// is there. It takes no memory.
+    pub fn place_of(&self, reference: &Ref) -> Option<Loc>
+        ensures { result ≡ place_of self.now reference.now }
+    {
+        match reference.at {
+            Some(place) => Some(place),
+            None => self.location(reference.node),
+        }
+    }
+
     /// The way of this id. None exactly where none is held.
     pub fn way(&self, id: i64) -> Option<WayView<'_>>
         ensures { option_map way_seen result ≡ way_of self.now id }
@@ -163,21 +184,17 @@ impl Store {
         self.find(ObjectRef { kind, id }).relation()
     }
 
-    /// The objects that may have an area, in input order: closed ways that are not tagged `area=no`, and
+    /// The objects that may have an area, in input order: closed ways that are areas by the choice, and
     /// relations tagged `type=multipolygon` or `type=boundary` (OpenStreetMap wiki, Relation:multipolygon).
-    /// One whose area would have no tag is among them only if `keep_untagged`.
+    /// One whose area would have no tag is among them only if the choice keeps those.
     #[tactic(auto, using(crate::proofs::LookupLemmas::candidates_others))]
-    pub fn candidates(
-        &self,
-        alloc: Global,
-        keep_untagged: bool,
-    ) -> Result<Vec<ObjectRef>, OutOfMemory>
-        ensures list { IfOk result (λ list. list.items ≡ candidates keep_untagged self.now) }
+    pub fn candidates(&self, alloc: Global, choice: &Choice) -> Result<Vec<ObjectRef>, OutOfMemory>
+        ensures list { IfOk result (λ list. list.items ≡ candidates choice.now self.now) }
         ensures held { IfOk result (λ list. All (λ of. IsSome (object_at self.now of)) list.items) }
     {
         let mut list = Vec::new(alloc);
         for (of, placed) in &self.others {
-            if placed.held.is_candidate(keep_untagged) {
+            if placed.held.is_candidate(choice) {
                 list.push(ObjectRef {
                     kind: placed.held.kind(),
                     id: of.id,

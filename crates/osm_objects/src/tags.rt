@@ -2,9 +2,9 @@
 
 ghost use Rattle.std.specs.Prelude.{◌≡◌, not, bytes_eq, IfOk};
 ghost use Rattle.std.specs.List.{list_any};
-ghost use Rattle.osm_objects.specs.Tags.{is_tagged, without_key};
+ghost use Rattle.osm_objects.specs.Tags.{has_key, has_one_of, is_tagged, without_key};
 
-use opl_reader::Tags;
+use opl_reader::{Tags, Text};
 use std::alloc::{AllocError as OutOfMemory, Global};
 
 /// Whether the first tag of this key has this value.
@@ -15,6 +15,20 @@ pub(crate) fn is_tagged(tags: &Tags, key: &str, value: &str) -> bool
         Some(found) => found == value,
         None => false,
     }
+}
+
+/// Whether a tag has this key.
+fn has_key(key: &Text, tags: &Tags) -> bool
+    ensures { result ≡ has_key key.now tags.now }
+{
+    tags.value_of(key.as_str()).is_some()
+}
+
+/// Whether a tag has one of these keys.
+pub(crate) fn has_one_of(keys: &[Text], tags: &Tags) -> bool
+    ensures { result ≡ has_one_of keys.now tags.now }
+{
+    keys.iter().any(|key| has_key(key, tags))
 }
 
 /// Whether a tag has another key than this one.

@@ -1,5 +1,7 @@
+//! The store as its callers see it.
+
 use super::*;
-use opl_reader::{Member, Members, Object, ObjectKind, ObjectRef, Refs, Tags, Text};
+use opl_reader::{Member, Members, Object, ObjectKind, ObjectRef, Ref, Refs, Tags, Text};
 use osm_lattice::Loc;
 use std::alloc::Global;
 use std::test::Fail;
@@ -40,6 +42,7 @@ fn words_of(alloc: Global, tags: &Tags) -> Result<String, Fail> {
     Ok(words)
 }
 
+/// The location of a node, if it has coordinates.
 fn place_of(coordinates: &[i64]) -> Option<Loc> {
     match coordinates {
         [x, y] => Loc::new(*x, *y),
@@ -47,10 +50,27 @@ fn place_of(coordinates: &[i64]) -> Option<Loc> {
     }
 }
 
-fn refs_of(alloc: Global, ids: &[i64]) -> Result<Refs, Fail> {
+/// The location of a word such as `2/2`.
+fn loc_of(word: &str) -> Option<Loc> {
+    let (x, y) = word.split_once('/')?;
+    Loc::new(x.parse::<i64>().ok()?, y.parse::<i64>().ok()?)
+}
+
+/// The reference of a word such as `3`, or `3@2/2` where it has a location of its own.
+fn ref_of(word: &str) -> Option<Ref> {
+    let (node, at) = word.split_once('@').unwrap_or((word, ""));
+    let node = node.parse::<i64>().ok()?;
+    let at = loc_of(at);
+    Some(Ref { node, at })
+}
+
+/// The references of a word such as `1,2,3@2/2,1`.
+fn refs_of(alloc: Global, word: &str) -> Result<Refs, Fail> {
     let mut refs = Refs::new(alloc);
-    for id in ids {
-        refs.push(*id)?;
+    for part in word.split(',') {
+        if let Some(reference) = ref_of(part) {
+            refs.push(reference)?;
+        }
     }
     Ok(refs)
 }
@@ -77,7 +97,8 @@ fn object_of(alloc: Global, line: &str) -> Result<Object, Fail> {
     let mut words = deleted.unwrap_or(line).split_whitespace();
     let kind = words.next().unwrap_or("");
     let id = words.next().unwrap_or("").parse::<i64>().unwrap_or(0);
-    let numbers = numbers_of(alloc, words.next().unwrap_or(""))?;
+    let value = words.next().unwrap_or("");
+    let numbers = numbers_of(alloc, value)?;
     let mut tags = Tags::new(alloc);
     for word in words {
         let (key, value) = word.split_once('=').unwrap_or((word, ""));
@@ -94,7 +115,7 @@ fn object_of(alloc: Global, line: &str) -> Result<Object, Fail> {
             id,
             live,
             tags,
-            refs: refs_of(alloc, &numbers)?,
+            refs: refs_of(alloc, value)?,
         }),
         _ => Ok(Object::Relation {
             id,
@@ -176,6 +197,72 @@ fn locations_of_nodes(rt: HostRuntime) -> Result<(), Fail> {
 }
 
 #[test]
+fn places_of_references(rt: HostRuntime) -> Result<(), Fail> {
+    let store = store_of(rt.alloc(), "node 7 1,2\nnode 8 -\nnode 9 - a=b\nway 5 7,8")?;
+    for (word, place) in [
+        ("7", Loc::new(1, 2)),
+        ("7@3/4", Loc::new(3, 4)),
+        ("8@3/4", Loc::new(3, 4)),
+        ("6@3/4", Loc::new(3, 4)),
+        ("8", None),
+        ("9", None),
+        ("6", None),
+        ("5", None),
+        ("7@0/0", Loc::new(0, 0)),
+    ] {
+        let Some(reference) = ref_of(word) else {
+            return Err(Fail::new("no reference"));
+        };
+        assert_eq!(rt; store.place_of(&reference), place, "of {word}");
+    }
+    Ok(())
+}
+
+const LOCATED: &str = "node 1 0,0
+node 2 1,0
+node 3 1,1
+node 4 0,1
+way 7 1,2,3@2/2,4,1 a=b";
+
+#[test]
+fn its_own_location_wins(rt: HostRuntime) -> Result<(), Fail> {
+    let store = store_of(rt.alloc(), LOCATED)?;
+    let Some(way) = store.way(7) else {
+        return Err(Fail::new("no way 7"));
+    };
+    let places = [
+        Loc::new(0, 0),
+        Loc::new(1, 0),
+        Loc::new(2, 2),
+        Loc::new(0, 1),
+        Loc::new(0, 0),
+    ];
+    assert_eq!(rt; way.refs.len(), places.len());
+    for (index, place) in places.iter().enumerate() {
+        let found = way
+            .refs
+            .get(index)
+            .and_then(|reference| store.place_of(&reference));
+        assert_eq!(rt; found, *place, "at {index}");
+    }
+    Ok(())
+}
+
+const CLOSED: &str = "way 1 1@0/0,2@1/0,3@1/1,1@0/1 a=b
+way 2 1@0/0,2@1/0,3@1/1,4@0/1,5@0/0 a=b
+way 3 1@0/0,2@1/0,1@0/0 a=b
+way 4 1,2@1/0,3,1@7/7 a=b";
+
+#[test]
+fn ways_are_closed_by_ids(rt: HostRuntime) -> Result<(), Fail> {
+    let alloc = rt.alloc();
+    let store = store_of(alloc, CLOSED)?;
+    let found = candidates_of(alloc, &store, &Choice::without_lists(false))?;
+    assert_eq!(rt; found.as_str(), "w1 w4 ");
+    Ok(())
+}
+
+#[test]
 fn a_way_is_lent(rt: HostRuntime) -> Result<(), Fail> {
     let alloc = rt.alloc();
     let store = store_of(alloc, "node 7 -\nway 9 7,8 a=b c=d")?;
@@ -183,7 +270,7 @@ fn a_way_is_lent(rt: HostRuntime) -> Result<(), Fail> {
     match store.way(9) {
         Some(way) => {
             assert_eq!(rt; words_of(alloc, way.tags)?.as_str(), "a=b c=d ");
-            assert_eq!(rt; way.refs.as_slice(), [7, 8].as_slice());
+            assert!(rt; way.refs.iter().map(|reference| reference.node).eq([7, 8]));
             Ok(())
         }
         None => Err(Fail::new("no way 9")),
@@ -221,24 +308,76 @@ relation 5 9 a=b type=multipolygon
 relation 4 9 type=route type=boundary
 way 3 1,2,3,4,1";
 
+/// The candidates as words, `w` for a way and `r` for a relation, a blank after each.
+fn candidates_of(alloc: Global, store: &Store, choice: &Choice) -> Result<String, Fail> {
+    let mut words = String::new(alloc);
+    for of in &store.candidates(alloc, choice)? {
+        let letter = if of.kind == RELATION { "r" } else { "w" };
+        let word = format!(in alloc; "{letter}{} ", of.id)?;
+        words.push_str(word.as_str())?;
+    }
+    Ok(words)
+}
+
 #[test]
 fn candidates_in_input_order(rt: HostRuntime) -> Result<(), Fail> {
     let alloc = rt.alloc();
     let store = store_of(alloc, MIXED)?;
-    let tagged = [at(RELATION, 9), at(WAY, 9), at(WAY, 7), at(RELATION, 5)];
-    assert_eq!(rt;
-        store.candidates(alloc, false)?.as_slice(),
-        tagged.as_slice()
-    );
-    let all = [
-        at(RELATION, 9),
-        at(WAY, 9),
-        at(RELATION, 8),
-        at(WAY, 7),
-        at(RELATION, 5),
-        at(WAY, 3),
-    ];
-    assert_eq!(rt; store.candidates(alloc, true)?.as_slice(), all.as_slice());
+    let tagged = candidates_of(alloc, &store, &Choice::without_lists(false))?;
+    assert_eq!(rt; tagged.as_str(), "r9 w9 w7 r5 ");
+    let all = candidates_of(alloc, &store, &Choice::without_lists(true))?;
+    assert_eq!(rt; all.as_str(), "r9 w9 r8 w7 r5 w3 ");
+    Ok(())
+}
+
+const KEYED: &str = "way 1 1,2,3,4,1 highway=track
+way 2 1,2,3,4,1 building=yes highway=track
+way 3 1,2,3,4,1 building=yes
+way 4 1,2,3,4,1 highway=track area=yes
+way 5 1,2,3,4,1 building=yes area=no
+way 6 1,2,3,4 building=yes area=yes
+way 7 1,2,3,4,1 area=yes area=no
+way 8 1,2,3,4,1 area=no area=yes landuse=grass
+way 9 1,2,3,4,1 landuse=grass
+relation 1 1 type=boundary highway=track
+way 10 1,2,3,4,1";
+
+/// The keys of a word such as `building,landuse`.
+fn keys_of(alloc: Global, word: &str) -> Result<Keys, Fail> {
+    let mut keys = Keys::new(alloc);
+    for key in word.split(',') {
+        keys.push(Text::from_str(alloc, key)?)?;
+    }
+    Ok(keys)
+}
+
+#[test]
+fn keys_choose_closed_ways(rt: HostRuntime) -> Result<(), Fail> {
+    let alloc = rt.alloc();
+    let store = store_of(alloc, KEYED)?;
+    for (areas, lines, keep_untagged, words) in [
+        ("", "", false, "w1 w2 w3 w4 w7 w9 r1 "),
+        ("building", "highway", false, "w3 w4 w7 r1 "),
+        ("building", "", false, "w2 w3 w4 w7 r1 "),
+        ("", "highway", false, "w3 w4 w7 w9 r1 "),
+        ("", "highway", true, "w3 w4 w7 w9 r1 w10 "),
+        (
+            "landuse,building",
+            "natural,highway,highway",
+            true,
+            "w3 w4 w7 w9 r1 ",
+        ),
+    ] {
+        let mut choice = Choice::without_lists(keep_untagged);
+        if !areas.is_empty() {
+            choice.area_keys = Some(keys_of(alloc, areas)?);
+        }
+        if !lines.is_empty() {
+            choice.linear_keys = Some(keys_of(alloc, lines)?);
+        }
+        let found = candidates_of(alloc, &store, &choice)?;
+        assert_eq!(rt; found.as_str(), words, "by {areas} and {lines}");
+    }
     Ok(())
 }
 
@@ -262,7 +401,7 @@ fn tags_of_an_area(rt: HostRuntime) -> Result<(), Fail> {
     let alloc = rt.alloc();
     let text = "way 1 1,2,3,1 type=x name=y\nrelation 1 1 name=y type=boundary level=8";
     let store = store_of(alloc, text)?;
-    for of in &store.candidates(alloc, false)? {
+    for of in &store.candidates(alloc, &Choice::without_lists(false))? {
         let tags = store.area_tags(alloc, *of)?;
         let words = if of.kind == WAY {
             "type=x name=y "

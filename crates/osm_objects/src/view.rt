@@ -2,7 +2,7 @@
 
 use opl_reader::{Members, Refs, Tags};
 
-/// A way that is held: its tags, and the ids of the nodes that it passes, in order.
+/// A way that is held: its tags, and its references to the nodes that it passes, in order.
 #[derive(Clone, Copy)]
 pub struct WayView<'a> {
     pub tags: &'a Tags,

@@ -1,4 +1,3 @@
-use Rattle.std.proofs.Common.{◌≡◌, ◌++◌, ◌∷◌}
 use Rattle.osm_objects.proofs.RisingLemmas.{cut_rest, go_less, go_equal, go_greater}
 use Rattle.osm_objects.proofs.plain.by_id.Goals as goal
 

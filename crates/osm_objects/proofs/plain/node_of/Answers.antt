@@ -1,4 +1,4 @@
-use Rattle.std.proofs.Common.{◌≡◌, ◌∙◌, ap, sym, option_map, rules}
+use Rattle.std.proofs.Common.{◌∙◌, ap, sym, option_map}
 use Rattle.osm_objects.specs.Plain.{node_from}
 use Rattle.osm_objects.proofs.LookupLemmas.{no_node_of, node_there}
 use Rattle.osm_objects.proofs.plain.node_of.Goals as goal

@@ -1,8 +1,6 @@
-use Rattle.std.proofs.Common.{◌≡◌, ◌∙◌, sym, ap, subst, refl, rules, w64, is_some, true, false, None, List, ◌++◌, ◌∷◌, [], arith, length}
+use Rattle.std.proofs.Common.{◌≡◌, ◌∙◌, sym, ap, subst, rules, w64, is_some, None, List, ◌++◌, ◌∷◌, [], arith, length}
 use Rattle.std.specs.Prelude.{FitsSigned}
-use Rattle.std.specs.Map.{lookup}
 use Rattle.std.proofs.lemmas.Int.{to_z-of_z}
-use Rattle.std.proofs.lemmas.Result.{err_from_is_err_and}
 use Rattle.indexmap.proofs.CallerLemmas.{insert_entry-new}
 use Rattle.opl_reader.specs.declared.object.ObjectRef.{ObjectRef}
 use Rattle.opl_reader.specs.declared.object.Object.{Object}
@@ -46,12 +44,12 @@ invariant_of-self-then-is_above c =
     let absent : object_at c.args.self.now of ≡ None = none-from (object_at c.args.self.now of) (sym (c.is_held.ensures of.id ∙ ap is_some c.find.ensures) ∙ c.if-is_held.false) in
     let is : ref_of (node_from n) ≡ of = ap ref_of c.in-Some-plain_node.ensures ∙ at.is in
     let here : object_at (merged (nodes_from nodes) (others_from others)) (ref_of (node_from n)) ≡ None = ap (object_at (merged (nodes_from nodes) (others_from others))) is ∙ ap (λ (objects : List Object). object_at objects of) c.self.view_is ∙ absent in
-    let pushed = c.in_ok-push.ensures.items in
+    let pushed = c.in_ok-push_node.ensures.ok in
     let rise = rw c.as_slice.ensures.value at (c.is_above.ensures c.if-is_above.true) in (
       subst AreRising (sym pushed) rise,
       c.self.invariant.1,
-      node_fits nodes c.push.new.self.items n others c.self.inside.since pushed c.self.invariant.2,
-      subst AreApart (sym (node_last nodes c.push.new.self.items n others c.self.inside.since pushed c.self.invariant.2)) (one_more_apart (merged (nodes_from nodes) (others_from others)) (node_from n) c.self.invariant.3 here),
+      node_fits nodes c.push_node.new.nodes.items n others c.self.inside.since pushed c.self.invariant.2,
+      subst AreApart (sym (node_last nodes c.push_node.new.nodes.items n others c.self.inside.since pushed c.self.invariant.2)) (one_more_apart (merged (nodes_from nodes) (others_from others)) (node_from n) c.self.invariant.3 here),
     )
 
 pub returns-then-is_above-clause-added : goal.returns-then-is_above-clause-added
@@ -61,7 +59,7 @@ returns-then-is_above-clause-added c =
     let nodes = c.self.inside.nodes.items in
     let others = c.self.inside.others.entries in
     let n = c.in-Some-plain_node.node in
-    node_last nodes c.push.new.self.items n others c.self.inside.since c.in_ok-push.ensures.items c.self.invariant.2
+    node_last nodes c.push_node.new.nodes.items n others c.self.inside.since c.in_ok-push_node.ensures.ok c.self.invariant.2
     ∙ ap (λ (objects : List Object). objects ++ node_from n ∷ []) c.self.view_is ∙ ap (λ (o : Object). c.args.self.now ++ o ∷ []) c.in-Some-plain_node.ensures ∙ sym (with_object-live c.args.self.now c.args.object at.live)
 
 pub invariant_of-self-2 : goal.invariant_of-self-2

@@ -1,6 +1,5 @@
-use Rattle.std.proofs.Common.{◌≡◌, Option, Some, option_map, subst, sym, IfOk, IsSome}
+use Rattle.std.proofs.Common.{Option, subst, sym, IsSome}
 use Rattle.opl_reader.specs.declared.object.Object.{Object}
-use Rattle.osm_objects.specs.Candidates.{area_tags}
 use Rattle.osm_objects.proofs.store.Store.area_tags.Goals as goal
 
 pub returns : goal.returns

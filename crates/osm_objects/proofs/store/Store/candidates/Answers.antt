@@ -1,4 +1,4 @@
-use Rattle.std.proofs.Common.{◌≡◌, ◌∙◌, ap, List, IsSome, subst, sym, rules}
+use Rattle.std.proofs.Common.{◌≡◌, List, IsSome, subst, sym, rules}
 use Rattle.std.specs.Prelude.{All}
 use Rattle.std.proofs.lemmas.List.Elements.{All-from_recursion}
 use Rattle.opl_reader.specs.declared.object.ObjectRef.{ObjectRef}
@@ -10,7 +10,7 @@ use Rattle.osm_objects.proofs.store.Store.candidates.Goals as goal
 pub returns-clause-held : goal.returns-clause-held
 returns-clause-held c =
     let objects = c.args.self.now in
-    let keep = c.args.keep_untagged in
-    let whole : c.loop-of.list.items ≡ candidates keep objects = search rules in
+    let choice = c.args.choice.now in
+    let whole : c.loop-of.list.items ≡ candidates choice objects = search rules in
     let AllHeld : List ObjectRef → Type 0 = λ list. All (λ of. IsSome (object_at objects of)) list in
-    subst AllHeld (sym whole) (All-from_recursion (λ of. IsSome (object_at objects of)) (candidates keep objects) (filter-held (is_candidate keep) objects (subst AreApart c.self.view_is c.self.invariant.3)))
+    subst AllHeld (sym whole) (All-from_recursion (λ of. IsSome (object_at objects of)) (candidates choice objects) (filter-held (is_candidate choice) objects (subst AreApart c.self.view_is c.self.invariant.3)))

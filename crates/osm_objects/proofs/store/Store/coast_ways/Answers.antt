@@ -1,4 +1,4 @@
-use Rattle.std.proofs.Common.{◌∙◌, ap, sym, subst, List}
+use Rattle.std.proofs.Common.{subst}
 use Rattle.osm_objects.specs.Objects.{AreApart}
 use Rattle.osm_objects.proofs.ApartLemmas.{coast_ways-distinct}
 use Rattle.osm_objects.proofs.store.Store.coast_ways.Goals as goal

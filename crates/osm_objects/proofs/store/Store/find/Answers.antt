@@ -1,4 +1,4 @@
-use Rattle.std.proofs.Common.{◌≡◌, ◌∙◌, sym, ap, option_map, List, Some, None}
+use Rattle.std.proofs.Common.{◌∙◌, sym, ap, option_map, List}
 use Rattle.opl_reader.specs.declared.object.Object.{Object}
 use Rattle.osm_objects.specs.Objects.{object_at}
 use Rattle.osm_objects.specs.declared.plain.PlainNode.{PlainNode}

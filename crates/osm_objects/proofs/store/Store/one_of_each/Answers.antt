@@ -9,6 +9,7 @@ use Rattle.osm_objects.specs.Held.{others_from}
 use Rattle.osm_objects.specs.Plain.{nodes_from}
 use Rattle.osm_objects.specs.Merged.{merged}
 use Rattle.osm_objects.proofs.LookupLemmas.{all_merged_live}
+use Rattle.osm_objects.proofs.ChoiceLemmas.{widest}
 use Rattle.osm_objects.proofs.FoundLemmas.{all_found, filter-found}
 use Rattle.osm_objects.proofs.store.Store.one_of_each.Goals as goal
 
@@ -25,6 +26,11 @@ returns-clause-found c =
     All-from_recursion (λ o. object_at objects (ref_of o) ≡ Some o) objects (all_found objects (subst AreApart c.self.view_is c.self.invariant.3))
 
 pub returns-clause-candidates : goal.returns-clause-candidates
-returns-clause-candidates c keep =
+returns-clause-candidates c choice =
     let objects = c.args.self.now in
-    All-from_recursion (λ of. option_map (is_candidate keep) (object_at objects of) ≡ Some true) (candidates keep objects) (filter-found (is_candidate keep) objects objects (all_found objects (subst AreApart c.self.view_is c.self.invariant.3)))
+    let found = all_found objects (subst AreApart c.self.view_is c.self.invariant.3) in
+    All-from_recursion (λ of. option_map (is_candidate choice) (object_at objects of) ≡ Some true) (candidates choice objects)
+    (filter-found (is_candidate choice) objects objects found)
+
+pub returns-clause-widest : goal.returns-clause-widest
+returns-clause-widest c choice = widest choice c.args.self.now
