@@ -10,14 +10,14 @@ use Rattle.std.proofs.lemmas.Bool.{false_from_ne_true}
 use Rattle.plane.proofs.PlaneKit.{same_point-refl, same_point-true}
 use Rattle.lists.specs.Member.{EachPair, In}
 use Rattle.winding.specs.Ring as winding
-use Rattle.lists.proofs.Members.{in-all, in-right}
+use Rattle.lists.proofs.ListsKit.{in-all, in-at, in-right}
 use Rattle.osm_geom.specs.declared.edge.Edge.{Edge}
 use Rattle.osm_geom.specs.declared.point.Point.{Point}
 use Rattle.osm_geom.specs.Point.{point_cmp}
 use Rattle.osm_geom.proofs.GeometryKit.{point_same, point_total}
 use Rattle.osm_nest.specs.Nested.{IsFromLeast}
-use Rattle.lists.proofs.Items.{in-at}
-use Rattle.osm_rings.specs.Turned.{BeginsLeast, IsTurned}
+use Rattle.lists.specs.Rotated.{IsRotated}
+use Rattle.osm_rings.specs.Turned.{BeginsLeast}
 use Rattle.nesting.proofs.NestingKit.{pairs-unmap, append-nil}
 use Rattle.plane_edges.specs.Multiple.{edge_times, edges_times, point_times}
 
@@ -53,20 +53,20 @@ same-by k x y (e ∷ a) (f ∷ b) h j l m o =
 pub turned-trans : (p m q : List Edge) → Turned p m → Turned m q → Turned p q
 turned-trans p m q s t = turned-through p q s.0 s.1 t.1 t.0 s.2 t.3 (sym s.3 ∙ t.2)
 
-pub turned-of : (p q : List Edge) → IsTurned p q → Turned p q
+pub turned-of : (p q : List Edge) → IsRotated p q → Turned p q
 turned-of p q t = (t.front, t.back, t.old, t.new)
 
-pub turned-sym : (p q : List Edge) → IsTurned p q → Turned q p
+pub turned-sym : (p q : List Edge) → IsRotated p q → Turned q p
 turned-sym p q t = (t.back, t.front, t.new, t.old)
 
-once-turned : (k : ℕ) (p q : List Edge) → IsTurned p q → LeavesOnce k p → LeavesOnce k q
+once-turned : (k : ℕ) (p q : List Edge) → IsRotated p q → LeavesOnce k p → LeavesOnce k q
 once-turned k p q t o =
     subst (LeavesOnce k) (sym t.new) (pairs-turned (λ (e f : Edge). same_point (point_times k e.from) (point_times k f.from) ≡ false)
     (λ e f n. false_from_ne_true (same_point (point_times k f.from) (point_times k e.from)) (λ h. cc (sym (ap (λ w. same_point w (point_times k f.from)) (sym (same_point-true (point_times k f.from) (point_times k e.from) h)) ∙ same_point-refl (point_times k f.from)) ∙ n)))
     t.front t.back (subst (LeavesOnce k) t.old o))
 
 -- one ring, begun at its least node in two ways
-pub begun-one : (k : ℕ) (r q x y : List Edge) → IsTurned r q → IsFromLeast r x → IsFromLeast q y → LeavesOnce k r → x ≡ y
+pub begun-one : (k : ℕ) (r q x y : List Edge) → IsRotated r q → IsFromLeast r x → IsFromLeast q y → LeavesOnce k r → x ≡ y
 begun-one k r q x y t b c o =
     let u = turned-trans x r y (turned-sym r x b.turned) (turned-trans r q y (turned-of r q t) (turned-of q y c.turned)) in
     same-by k x y u.0 u.1 u.2 u.3 b.least c.least (once-turned k r x b.turned o)

@@ -1,14 +1,13 @@
 -- The rings of a list of exact edges are the one ring list of the plane, and so one list themselves.
 use Rattle.std.proofs.Common.{List, [], ap, map, refl, subst, sym, ℕ, ◌++◌, ◌∙◌, ◌∷◌, ◌≡◌, ◌⊎◌, inl, inr}
-use Rattle.nesting.specs.Rotated.{IsRotated}
 use Rattle.nesting.proofs.NestingKit.{pairs-unmap, sided-once, pairs-of}
 use Rattle.one_ring_list.proofs.OneRingList.{Found, found}
 use Rattle.plane.specs.Edge as plane
 use Rattle.lists.specs.Member.{In}
-use Rattle.lists.proofs.Members.{in-either, in-left, in-map, in-map-out, in-right}
+use Rattle.lists.proofs.ListsKit.{in-either, in-left, in-map, in-map-out, in-right}
 use Rattle.osm_geom.specs.declared.edge.Edge.{Edge}
 use Rattle.osm_rings.specs.RingList.{AreRingsOf}
-use Rattle.osm_rings.specs.Turned.{IsTurned}
+use Rattle.lists.specs.Rotated.{IsRotated}
 use Rattle.osm_rings.proofs.UncrossedRings.{Within, held-within, in_plane, plane-list}
 use Rattle.plane_edges.specs.Multiple.{common_den, edge_times, edges_times, whole_edges}
 use Rattle.plane_edges.specs.Sided.{IsSided}
@@ -43,7 +42,7 @@ module _ (es : List Edge) (sd : IsSided es) where
       let a = one-edge x y (i x (inl refl)) (j y (inl refl)) (cc) in
       ap (λ z. z ∷ r) a ∙ ap (λ l. y ∷ l) (one-list r q (λ e k. i e (inr k)) (λ e k. j e (inr k)) (cc))
 
-  unrotated : (r q : List Edge) → Within es r → Within es q → IsRotated (edges_times K r) (edges_times K q) → IsTurned r q
+  unrotated : (r q : List Edge) → Within es r → Within es q → IsRotated (edges_times K r) (edges_times K q) → IsRotated r q
   unrotated r q i j t =
       let s = map-split (edge_times K) r t.front t.back t.old in
       let c = s.0 in let d = s.1 in
@@ -63,7 +62,7 @@ module _ (es : List Edge) (sd : IsSided es) where
   rings-found rs qs a b = found (whole_edges es) sd (in_plane es rs) (in_plane es qs) (plane-list es rs a) (plane-list es qs b)
 
   -- a sided list of exact edges has one ring list
-  pub ring-turned : (rs qs : List (List Edge)) → AreRingsOf es rs → AreRingsOf es qs → (r : List Edge) → In r rs → (q : List Edge) × In q qs × IsTurned r q × IsRotated (edges_times K r) (edges_times K q)
+  pub ring-turned : (rs qs : List (List Edge)) → AreRingsOf es rs → AreRingsOf es qs → (r : List Edge) → In r rs → (q : List Edge) × In q qs × IsRotated r q × IsRotated (edges_times K r) (edges_times K q)
   ring-turned rs qs a b r i =
       let f = rings-found rs qs a b (edges_times K r) (in-map (edges_times K) rs r i) in
       let q = in-map-out (edges_times K) qs f.0 f.1 in

@@ -15,18 +15,16 @@ use Rattle.plane.proofs.PlaneKit.{self_conflicts}
 use Rattle.winding.proofs.WindingKit.{rising_in}
 use Rattle.lists.specs.Member.{EachPair, In}
 use Rattle.winding.specs.Ring.{segments_of}
-use Rattle.lists.proofs.Members.{in-all, in-either, in-left, in-map, in-right, pairs-each}
-use Rattle.lists.proofs.Sums.{total, total-is}
+use Rattle.lists.proofs.ListsKit.{in-all, in-either, in-left, in-map, in-right, in-rotated, pairs-each, rotated-in, total, total-is}
 use Rattle.osm_geom.specs.declared.edge.Edge.{Edge}
 use Rattle.osm_geom.specs.Point.{point_cmp}
 use Rattle.osm_geom.proofs.GeometryKit.{point_total}
 use Rattle.osm_nest.specs.declared.polygon.Polygon.{Polygon}
-use Rattle.osm_nest.proofs.Listing.{turned-back, turned-in}
 use Rattle.osm_nest.specs.Nested.{AreFromLeast, AreNested, ArePolygonsFromLeast, IsBefore, IsFromLeast, IsPolygonFromLeast, edge_cmp}
 use Rattle.osm_nest.specs.Polygons.{polygon_times, rings_of}
 use Rattle.osm_nest.specs.RingLists.{all_edges}
 use Rattle.osm_rings.specs.RingList.{AreRingsOf}
-use Rattle.osm_rings.specs.Turned.{IsTurned}
+use Rattle.lists.specs.Rotated.{IsRotated}
 use Rattle.osm_rings.proofs.UncrossedRings.{held-within, rings-do-not-cross}
 use Rattle.plane_edges.specs.Multiple.{common_den, edge_times, edges_times}
 use Rattle.plane_edges.specs.Sided.{IsSided}
@@ -212,7 +210,7 @@ module _ (es : List Edge) (sd : IsSided es) (qs : List (List Edge)) (b : AreRing
   shared r s x i j m n =
       let e = some-edge r i in
       let k = common_den es in
-      shared-by r s i j e.0 e.1 (turned-in s x n.turned e.0 (turned-back r x m.turned e.0 e.1))
+      shared-by r s i j e.0 e.1 (rotated-in s x n.turned e.0 (in-rotated r x m.turned e.0 e.1))
       (same_or_clear (map (edges_times k) qs) uncrossed (edges_times k r) (edges_times k s) (in-map (edges_times k) qs r i) (in-map (edges_times k) qs s j))
 
 module _ (es : List Edge) (sd : IsSided es) (rs qs : List (List Edge)) (a : AreRingsOf es rs) (b : AreRingsOf es qs) (m n : List Polygon) (M : AreNested rs m) (N : AreNested qs n) where
@@ -225,7 +223,7 @@ module _ (es : List Edge) (sd : IsSided es) (rs qs : List (List Edge)) (a : AreR
   abbrev to : (r : List Edge) → In r qs → In (edges_times k r) (map (edges_times k) qs)
   to r i = in-map (edges_times k) qs r i
 
-  same-begun : (r q x y : List Edge) → In r rs → IsTurned r q → IsFromLeast r x → IsFromLeast q y → x ≡ y
+  same-begun : (r q x y : List Edge) → In r rs → IsRotated r q → IsFromLeast r x → IsFromLeast q y → x ≡ y
   same-begun r q x y i t c d = begun-one k r q x y t c d (once-in es sd rs a r i)
 
   outer-order : (p p' : Polygon) → Edge → (p ≡ p') ⊎ ((IsBefore p.outer p'.outer) ⊎ (IsBefore p'.outer p.outer)) → p.outer ≡ p'.outer → p ≡ p'

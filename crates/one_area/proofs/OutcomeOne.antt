@@ -5,7 +5,7 @@ use Rattle.osm_lattice.specs.declared.seg.Seg.{Seg}
 use Rattle.osm_lattice.specs.Seg.{seg_cmp}
 use Rattle.osm_lattice.proofs.LatticeKit.{seg_total, seg_same}
 use Rattle.lists.specs.Rising.{IsRising, count_of}
-use Rattle.lists.proofs.RisingLists.{same_rising}
+use Rattle.lists.proofs.ListsKit.{same_rising}
 use Rattle.osm_segments.specs.Counts.{AreSurvivors}
 use Rattle.osm_segments.specs.Pairs.{conflicts_of}
 use Rattle.osm_segments.specs.Repeats.{AreRepeats, segs_of}
@@ -27,11 +27,11 @@ use Rattle.osm_area.specs.Notes.{AreNotesBefore, AreNotesGiven, named_twice_note
 use Rattle.osm_area.specs.Outcome.{IsOutcome, IsOutcomeGiven}
 use Rattle.osm_area.specs.Problems.{AreFaults, AreProblemsAmong, AreProblemsGiven, SurvivorsAre, conflict_problem, odd_problem}
 use Rattle.osm_area.specs.Roles.{role_notes}
-use Rattle.osm_area.specs.Segments.{segments_of}
+use Rattle.osm_area.specs.Segments.{candidate_segments}
 use Rattle.osm_area.specs.declared.outcome.Outcome.{Outcome}
 use Rattle.osm_area.specs.declared.outcome.Outcome.TheVariants as outcome
 use Rattle.osm_area.proofs.SoundAreas.{no-problems, odd-nodes-one, survivors-one}
-use Rattle.osm_rings.proofs.EdgeEquality.{edge-from-fields}
+use Rattle.osm_geom.proofs.GeometryKit.{edge-from-fields}
 use Rattle.one_area.proofs.NestedOne.{polygons-one}
 
 -- ---- lists told by counts
@@ -103,4 +103,4 @@ outcome-one missing ways segs roles (outcome.Problems l a) (outcome.Problems k b
 
 -- a candidate has one outcome
 pub candidate-one : (objects : List Object) (candidate : ObjectRef) (o p : Outcome) → IsOutcome objects candidate o → IsOutcome objects candidate p → o ≡ p
-candidate-one objects candidate o p s t = outcome-one (missing objects candidate) (ways_named_twice objects candidate) (segments_of objects candidate) (role_notes objects candidate) o p s t
+candidate-one objects candidate o p s t = outcome-one (missing objects candidate) (ways_named_twice objects candidate) (candidate_segments objects candidate) (role_notes objects candidate) o p s t

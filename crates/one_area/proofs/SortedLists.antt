@@ -1,7 +1,7 @@
 -- Lists in strict order are told by their members.
-use Rattle.std.proofs.Common.{AllPairs, List, [], ap, arith, inl, inr, refl, subst, suc, sym, ◌∙◌, ◌∷◌, ◌≡◌, ◌⊎◌}
+use Rattle.std.proofs.Common.{List, [], ap, inl, inr, refl, subst, sym, ◌∙◌, ◌∷◌, ◌≡◌, ◌⊎◌}
 use Rattle.lists.specs.Member.{EachPair, In}
-use Rattle.lists.proofs.Members.{in-all}
+use Rattle.lists.proofs.ListsKit.{in-all}
 
 module _ {X : Type 0} (R : X → X → Type 0) (Good : X → Type 0) (apart : (x y : X) → Good x → R x y → R y x → ⊥) where
   heads : (x y : X) (xs ys : List X) → EachPair R (x ∷ xs) → EachPair R (y ∷ ys) → Good x → (x ≡ y) ⊎ In x ys → (y ≡ x) ⊎ In y xs → x ≡ y

@@ -9,14 +9,14 @@ use Rattle.osm_area.specs.declared.outcome.Outcome.{Outcome}
 use Rattle.osm_nest.specs.declared.polygon.Polygon.{Polygon}
 use Rattle.osm_nest.specs.Nested.{AreNested}
 use Rattle.osm_rings.specs.RingList.{AreRingsOf}
-use Rattle.osm_rings.specs.Turned.{IsTurned}
+use Rattle.lists.specs.Rotated.{IsRotated}
 use Rattle.plane_edges.specs.Sided.{IsSided}
 
 -- each ring of one ring list of a sided list is a ring of each other one, begun at one of its edges
 abbrev pub RingListOfEdgesIsOne : Type 0
 RingListOfEdgesIsOne =
     (es : List Edge) → IsSided es → (rs qs : List (List Edge)) → AreRingsOf es rs → AreRingsOf es qs →
-    (r : List Edge) → In r rs → (q : List Edge) × In q qs × IsTurned r q
+    (r : List Edge) → In r rs → (q : List Edge) × In q qs × IsRotated r q
 
 -- so it has one list of polygons alone, rings begun at their least nodes and all in order
 abbrev pub PolygonsAreOne : Type 0

@@ -10,7 +10,7 @@ use Rattle.osm_geom.proofs.GeometryKit.{on_a, on_b, ends_apart, ends_apart_back,
 use Rattle.lists.specs.Rising.{IsRising}
 use Rattle.osm_segments.specs.Pairs.{conflicts_of}
 use Rattle.osm_sides.specs.Directions.{AreDirected, first_end, last_end}
-use Rattle.osm_sides.specs.Survivors.{HasEvenNodes, edges_of}
+use Rattle.osm_sides.specs.Survivors.{HasEvenNodes, plane_edges_of}
 use Rattle.osm_sides.proofs.DirectedSides.{directed_is_sided}
 use Rattle.osm_rings.specs.Laws.{RingListOfEdgesExists}
 use Rattle.osm_nest.specs.declared.polygon.Polygon.{Polygon}
@@ -42,13 +42,13 @@ map-through f g h same [] = refl
 map-through f g h same (x ∷ xs) = let first = same x in let rest = map-through f g h same xs in cc
 
 abbrev directed_of : List Seg → Seg → Edge
-directed_of segs s = run (odd_side.runs_up (edges_of segs) (edge_of s)) s
+directed_of segs s = run (odd_side.runs_up (plane_edges_of segs) (edge_of s)) s
 
 are_directed : (segs : List Seg) → AreDirected segs (map (directed_of segs) segs)
 are_directed segs = record {
-  whole = map-through (λ (e : Edge). e.carrier) (directed_of segs) OfSeg (λ s. carrier-is (odd_side.runs_up (edges_of segs) (edge_of s)) s) segs;
-  firsts = map-through (λ (e : Edge). e.from) (directed_of segs) (first_end segs) (λ s. from-is (odd_side.runs_up (edges_of segs) (edge_of s)) s) segs;
-  lasts = map-through (λ (e : Edge). e.to) (directed_of segs) (last_end segs) (λ s. to-is (odd_side.runs_up (edges_of segs) (edge_of s)) s) segs;
+  whole = map-through (λ (e : Edge). e.carrier) (directed_of segs) OfSeg (λ s. carrier-is (odd_side.runs_up (plane_edges_of segs) (edge_of s)) s) segs;
+  firsts = map-through (λ (e : Edge). e.from) (directed_of segs) (first_end segs) (λ s. from-is (odd_side.runs_up (plane_edges_of segs) (edge_of s)) s) segs;
+  lasts = map-through (λ (e : Edge). e.to) (directed_of segs) (last_end segs) (λ s. to-is (odd_side.runs_up (plane_edges_of segs) (edge_of s)) s) segs;
 }
 
 -- ---- rings and polygons, by the laws of the layers below

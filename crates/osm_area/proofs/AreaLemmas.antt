@@ -1,13 +1,12 @@
 -- The area of segments: it has polygons, and the parity of the segments.
-use Rattle.std.proofs.Common.{◌≡◌, ◌≢◌, ◌∙◌, ℕ, ◌+◌, ◌%◌, ℤ, pos, ◌*ℤ◌, Bool, true, false, cond, List, [], ◌∷◌, map, refl, sym, ap, subst, arith}
-use Rattle.std.proofs.lemmas.Int.{ints}
+use Rattle.std.proofs.Common.{◌≡◌, ◌≢◌, ◌∙◌, ℕ, ◌+◌, ◌%◌, ℤ, pos, Bool, true, false, cond, List, [], ◌∷◌, map, refl, sym, ap, subst, arith}
 use Rattle.std.specs.List.{sum_by}
 use Rattle.std.proofs.lemmas.List.Sums.{sum_by-cons}
 use Rattle.plane.specs.Edge as plane
 use Rattle.plane.specs.RayCrossing.{up_crossing, down_crossing}
 use Rattle.plane.specs.Scale.{scaled_edge, scaled_point}
 use Rattle.plane.specs.Vector.{Vector, east, from_to}
-use Rattle.plane.proofs.PlaneKit.{same_vector}
+use Rattle.plane.proofs.PlaneKit.{point-once}
 use Rattle.winding.specs.EdgeList.{crossing_count}
 use Rattle.winding.specs.OddSide.{directed_edge}
 use Rattle.winding.specs.ScaledEdges.{scaled_edges}
@@ -20,7 +19,7 @@ use Rattle.osm_geom.specs.declared.edge.Carrier.TheVariants.{OfSeg}
 use Rattle.osm_geom.specs.declared.edge.Edge.{Edge}
 use Rattle.osm_lattice.specs.declared.seg.Seg.{Seg}
 use Rattle.osm_sides.specs.Directions.{AreDirected}
-use Rattle.osm_sides.specs.Survivors.{edges_of}
+use Rattle.osm_sides.specs.Survivors.{plane_edges_of}
 use Rattle.osm_sides.proofs.PlaneEdges.{plane_edges}
 use Rattle.osm_rings.specs.RingList.{AreRingsOf}
 use Rattle.osm_nest.specs.declared.polygon.Polygon.{Polygon}
@@ -74,9 +73,6 @@ sum-same f g same (x ∷ xs) =
     let c = same x in
     let d = sum-same f g same xs in omega arith
 
-point-once : (p : Vector) → scaled_point (pos 1) p ≡ p
-point-once p = same_vector (pos 1 *ℤ p.x) (pos 1 *ℤ p.y) p.x p.y (omega (arith, ints)) (omega (arith, ints))
-
 turned : (m n : ℕ) → m + n ≡ n + m
 turned m n = omega arith
 
@@ -102,16 +98,16 @@ module _ (q : ℤ) (p : Vector) where
       ∙ (sum-map (λ (d : plane.Edge). up_crossing east (from_to p d.from) (from_to p d.to) + down_crossing east (from_to p d.from) (from_to p d.to)) (scaled_edge q) (edges_times 1 es)
       ∙ sum-map crossed (edge_times 1) es)))
 
-  directed-count : (survivors : List Seg) (es : List Edge) → AreDirected survivors es → sum_by (λ (e : Edge). crossed (edge_times 1 e)) es ≡ crossing_count east p (scaled_edges q (edges_of survivors))
+  directed-count : (survivors : List Seg) (es : List Edge) → AreDirected survivors es → sum_by (λ (e : Edge). crossed (edge_times 1 e)) es ≡ crossing_count east p (scaled_edges q (plane_edges_of survivors))
   directed-count survivors es d =
       sym (sum-map crossed (edge_times 1) es)
       ∙ (ap (sum_by crossed) (plane_edges survivors survivors es d.firsts d.lasts)
-      ∙ (sum-map crossed (directed_edge (edges_of survivors)) (edges_of survivors)
-      ∙ (sum-same (λ x. crossed (directed_edge (edges_of survivors) x)) crossed (λ x. crossed-by _ x) (edges_of survivors)
-      ∙ sym (sum-map (λ (x : plane.Edge). up_crossing east (from_to p x.from) (from_to p x.to) + down_crossing east (from_to p x.from) (from_to p x.to)) (scaled_edge q) (edges_of survivors)))))
+      ∙ (sum-map crossed (directed_edge (plane_edges_of survivors)) (plane_edges_of survivors)
+      ∙ (sum-same (λ x. crossed (directed_edge (plane_edges_of survivors) x)) crossed (λ x. crossed-by _ x) (plane_edges_of survivors)
+      ∙ sym (sum-map (λ (x : plane.Edge). up_crossing east (from_to p x.from) (from_to p x.to) + down_crossing east (from_to p x.from) (from_to p x.to)) (scaled_edge q) (plane_edges_of survivors)))))
 
   pub area_count : (survivors : List Seg) (polygons : List Polygon) → IsLattice (all_edges (rings_of polygons)) → IsArea survivors polygons
-      → count_at q p (all_edges (rings_of polygons)) ≡ crossing_count east p (scaled_edges q (edges_of survivors))
+      → count_at q p (all_edges (rings_of polygons)) ≡ crossing_count east p (scaled_edges q (plane_edges_of survivors))
   area_count survivors polygons lattice area =
       count-is (all_edges (rings_of polygons)) lattice
       ∙ (sum-all_edges (λ (e : Edge). crossed (edge_times 1 e)) (rings_of polygons)

@@ -1,5 +1,6 @@
 pub mod AreaExists
 pub mod AreaLemmas
+mod FewNames
 pub mod OutcomeExists
 pub mod OutcomeLemmas
 pub mod OutcomeParity

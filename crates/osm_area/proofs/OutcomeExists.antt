@@ -8,7 +8,7 @@ use Rattle.osm_lattice.specs.Seg.{seg_cmp}
 use Rattle.osm_lattice.proofs.LatticeKit.{loc_total, seg_total}
 use Rattle.opl_reader.specs.declared.object.ObjectRef.{ObjectRef}
 use Rattle.lists.specs.Rising.{IsRising, count_of}
-use Rattle.lists.proofs.Picks.{odd_once, twice_once}
+use Rattle.lists.proofs.ListsKit.{count-picked, odd_once, picked, rising-picked, twice_once}
 use Rattle.osm_objects.specs.declared.problem.Note.{Note}
 use Rattle.osm_objects.specs.declared.problem.Problem.{Problem}
 use Rattle.osm_objects.specs.declared.problem.Problem.TheVariants.{Nothing}
@@ -27,10 +27,9 @@ use Rattle.osm_area.specs.Notes.{named_twice_note, repeated_note}
 use Rattle.osm_area.specs.Outcome.{IsOutcomeGiven, OutcomeExists}
 use Rattle.osm_area.specs.Problems.{missing_problem, conflict_problem, odd_problem}
 use Rattle.osm_area.specs.Roles.{role_notes}
-use Rattle.osm_area.specs.Segments.{segments_of}
+use Rattle.osm_area.specs.Segments.{candidate_segments}
 use Rattle.osm_area.proofs.AreaExists.{area_exists}
 use Rattle.osm_area.proofs.ProblemKinds.{problems_of_kind}
-use Rattle.lists.proofs.PickedItems.{picked, rising-picked, count-picked}
 
 -- ---- what is counted
 
@@ -121,5 +120,5 @@ module _ (cut : RingListOfEdgesExists) (fit : RingsMayBeNested) (nest : NestingE
 
   pub exists : OutcomeExists
   exists objects candidate =
-      let found = by_missing (missing objects candidate) (ways_named_twice objects candidate) (segments_of objects candidate) (role_notes objects candidate) in
+      let found = by_missing (missing objects candidate) (ways_named_twice objects candidate) (candidate_segments objects candidate) (role_notes objects candidate) in
       (found.0, found.1, problems_of_kind objects candidate found.0 found.1)

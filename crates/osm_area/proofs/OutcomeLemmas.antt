@@ -14,7 +14,7 @@ use Rattle.osm_area.specs.declared.outcome.Outcome.TheVariants as outcome
 use Rattle.lists.specs.Once.{each_once}
 use Rattle.osm_area.specs.MemberWays.{named_ways, member_ways, ways_named_twice}
 use Rattle.osm_area.specs.Missing.{same_ref, way_missing, missing}
-use Rattle.osm_area.specs.Segments.{way_segments, segments_of}
+use Rattle.osm_area.specs.Segments.{way_segments, candidate_segments}
 use Rattle.osm_area.specs.Problems.{missing_problem, AreProblemsAmong, SurvivorsAre}
 use Rattle.osm_segments.specs.declared.counts.Repeat.{Repeat}
 use Rattle.osm_segments.specs.Counts.{AreSurvivors}
@@ -59,7 +59,7 @@ pub missing_outcome : {A : Type 0} (objects : List Object) (candidate : ObjectRe
     → IsOutcome objects candidate (outcome.Problems list notes)
 missing_outcome objects candidate ways parts lent notes list found g test absent p l e =
     let are : parts ≡ missing objects candidate = p ∙ ap (λ ids. each_once same_ref (flat_map (way_missing objects) ids)) g.ways_are in
-    given_missing (missing objects candidate) (ways_named_twice objects candidate) (segments_of objects candidate) (role_notes objects candidate) list notes
+    given_missing (missing objects candidate) (ways_named_twice objects candidate) (candidate_segments objects candidate) (role_notes objects candidate) list notes
     (λ none. let some : IsSome found = test.1 (none-once (flat_map (way_missing objects) ways) (sym p ∙ (are ∙ none))) in cc)
     (e ∙ ap (map missing_problem) (l ∙ are))
     g.notes_are
@@ -71,8 +71,8 @@ pub complete_outcome : {A : Type 0} (objects : List Object) (candidate : ObjectR
 complete_outcome objects candidate ways named notes segs passed found a outcome g test some s p h n =
     let held : IsSome found = ap is_some some in
     let nothing : [] ≡ missing objects candidate = sym (ap (each_once same_ref) (ap (flat_map (way_missing objects)) (sym g.ways_are) ∙ test.0 held)) in
-    let same : passed ≡ segments_of objects candidate = p ∙ (s ∙ ap (flat_map (way_segments objects)) g.ways_are) in
-    let Given : List ObjectRef → Type 0 = λ rs. IsOutcomeGiven rs (ways_named_twice objects candidate) (segments_of objects candidate) (role_notes objects candidate) outcome in
+    let same : passed ≡ candidate_segments objects candidate = p ∙ (s ∙ ap (flat_map (way_segments objects)) g.ways_are) in
+    let Given : List ObjectRef → Type 0 = λ rs. IsOutcomeGiven rs (ways_named_twice objects candidate) (candidate_segments objects candidate) (role_notes objects candidate) outcome in
     let With : List Seg → Type 0 = λ ss. IsOutcomeGiven [] (ways_named_twice objects candidate) ss (role_notes objects candidate) outcome in
     let Along : List ℤ → Type 0 = λ ws. IsOutcomeGiven [] (ways_named_twice objects candidate) passed (role_notes_of objects candidate ws) outcome in
     subst Given nothing (subst With same (subst Along (n ∙ g.ways_are) (h (ways_named_twice objects candidate) g.notes_are)))

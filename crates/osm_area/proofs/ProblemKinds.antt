@@ -19,7 +19,7 @@ use Rattle.osm_area.specs.declared.outcome.Outcome.TheVariants as outcome
 use Rattle.osm_area.specs.Outcome.{IsOutcome, problems_in}
 use Rattle.osm_area.specs.Problems.{missing_of, missing_problem, conflict_problem, odd_problem, AreProblemsAmong, AreProblemsGiven}
 use Rattle.osm_area.specs.Missing.{missing}
-use Rattle.osm_area.specs.Segments.{segments_of}
+use Rattle.osm_area.specs.Segments.{candidate_segments}
 
 abbrev IsPairOfItsKind : Pair → Type 0
 IsPairOfItsKind p = conflict_of p.first p.second ≡ Some p.kind
@@ -58,4 +58,4 @@ given-of_kind (r ∷ missing) segments list is =
 -- each conflict among a candidate's problems has the kind of its segments
 pub problems_of_kind : (objects : List Object) (candidate : ObjectRef) (o : Outcome) → IsOutcome objects candidate o → All IsOfItsKind (problems_in o)
 problems_of_kind objects candidate (outcome.Area polygons notes) is = All-nil IsOfItsKind
-problems_of_kind objects candidate (outcome.Problems list notes) is = given-of_kind (missing objects candidate) (segments_of objects candidate) list is.0
+problems_of_kind objects candidate (outcome.Problems list notes) is = given-of_kind (missing objects candidate) (candidate_segments objects candidate) list is.0

@@ -4,7 +4,7 @@ use Rattle.std.specs.List.{sum_by}
 use Rattle.std.proofs.lemmas.List.Sums.{sum_by-append, sum_by-cons}
 use Rattle.osm_geom.specs.declared.edge.Edge.{Edge}
 use Rattle.osm_rings.specs.RingList.{AreRingsOf}
-use Rattle.osm_rings.specs.Turned.{IsTurned}
+use Rattle.lists.specs.Rotated.{IsRotated}
 use Rattle.osm_nest.specs.declared.polygon.Polygon.{Polygon}
 use Rattle.osm_nest.specs.Nested.{AreNested, AreFromLeast, ArePolygonsFromLeast}
 use Rattle.osm_nest.specs.Polygons.{rings_in, rings_of}
@@ -18,7 +18,7 @@ sum-all_edges g (r ∷ rs) =
     let c = sum-all_edges g rs in omega arith
 
 module _ (g : Edge → ℕ) where
-  turned : (r s : List Edge) → IsTurned r s → sum_by g s ≡ sum_by g r
+  turned : (r s : List Edge) → IsRotated r s → sum_by g s ≡ sum_by g r
   turned r s t =
       let a = ap (sum_by g) t.old in
       let b = ap (sum_by g) t.new in

@@ -8,7 +8,7 @@ use Rattle.osm_lattice.proofs.LatticeKit.{loc_total, seg_total, loc_same, seg_sa
 use Rattle.opl_reader.specs.declared.object.Object.{Object}
 use Rattle.opl_reader.specs.declared.object.ObjectRef.{ObjectRef}
 use Rattle.lists.specs.Rising.{IsRising}
-use Rattle.lists.proofs.RisingLists.{same_rising}
+use Rattle.lists.proofs.ListsKit.{same_rising}
 use Rattle.osm_objects.specs.declared.problem.Problem.{Problem}
 use Rattle.osm_segments.specs.Counts.{AreOddNodes, AreSurvivors}
 use Rattle.osm_segments.specs.Pairs.{conflicts_of}
@@ -23,7 +23,7 @@ use Rattle.osm_area.specs.Area.{IsArea}
 use Rattle.osm_area.specs.Missing.{missing}
 use Rattle.osm_area.specs.Outcome.{AreasHaveKinds, HasAreaExactly, IsOutcome, polygons_in, problems_in}
 use Rattle.osm_area.specs.Problems.{AreFaults, AreProblemsAmong, AreProblemsGiven, SurvivorsAre, conflict_problem, odd_problem}
-use Rattle.osm_area.specs.Segments.{segments_of}
+use Rattle.osm_area.specs.Segments.{candidate_segments}
 use Rattle.osm_area.specs.Sound.{IsSound, IsSoundGiven}
 
 -- ---- lists told by counts
@@ -81,10 +81,10 @@ sound-none (r ∷ missing) segs list sound h = absurd (let none = sound.complete
 
 exactly : (objects : List Object) (candidate : ObjectRef) (o : Outcome) → IsOutcome objects candidate o → (problems_in o ≡ []) ↔ IsSound objects candidate
 exactly objects candidate (outcome.Area polygons notes) is =
-    (λ none. no-problems (missing objects candidate) (segments_of objects candidate) is.0, λ sound. refl)
+    (λ none. no-problems (missing objects candidate) (candidate_segments objects candidate) is.0, λ sound. refl)
 exactly objects candidate (outcome.Problems list notes) is = (
   λ none. absurd (is.1 none),
-  λ sound. sound-none (missing objects candidate) (segments_of objects candidate) list sound is.0,
+  λ sound. sound-none (missing objects candidate) (candidate_segments objects candidate) list sound is.0,
 )
 
 pub has-area-exactly : HasAreaExactly
@@ -104,7 +104,7 @@ module _ (fit : RingsMayBeNested) (kinds : NestedHaveKinds) where
 
   kinds-in : (objects : List Object) (candidate : ObjectRef) (o : Outcome) → IsOutcome objects candidate o → All HasKinds (polygons_in o)
   kinds-in objects candidate (outcome.Area polygons notes) is =
-      sound-kinds (missing objects candidate) (segments_of objects candidate) polygons (no-problems (missing objects candidate) (segments_of objects candidate) is.0) is.1
+      sound-kinds (missing objects candidate) (candidate_segments objects candidate) polygons (no-problems (missing objects candidate) (candidate_segments objects candidate) is.0) is.1
   kinds-in objects candidate (outcome.Problems list notes) is = All-nil HasKinds
 
   pub areas-have-kinds : AreasHaveKinds

@@ -1,7 +1,7 @@
 -- Rings of whole segments pass lattice points alone.
 use Rattle.std.proofs.Common.{All, List, [], ◌∷◌, ap}
 use Rattle.std.proofs.lemmas.List.Elements.{All-nil, All-append, All-head, All-tail}
-use Rattle.lists.proofs.Members.{in-all}
+use Rattle.lists.proofs.ListsKit.{in-all}
 use Rattle.plane_edges.specs.SidedLaws.{IsLattice}
 use Rattle.osm_geom.specs.declared.edge.Edge.{Edge}
 use Rattle.osm_geom.specs.Point.{den_of}

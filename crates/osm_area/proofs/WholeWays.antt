@@ -6,7 +6,8 @@ use Rattle.std.proofs.lemmas.Grind.{flat_map-append}
 use Rattle.std.proofs.lemmas.List.{nil_from_length, take_more}
 use Rattle.std.proofs.lemmas.List.Folds.{length-flat_map-take}
 use Rattle.opl_reader.specs.declared.object.Object.{Object}
-use Rattle.osm_objects.specs.Objects.{WayParts, location_of, way_of}
+use Rattle.opl_reader.specs.declared.object.Ref.{Ref}
+use Rattle.osm_objects.specs.Objects.{WayParts, place_of, way_of}
 use Rattle.osm_area.specs.Missing.{nodes_missing}
 use Rattle.osm_area.specs.Segments.{segments_along, way_segments}
 
@@ -22,25 +23,23 @@ length-passed {X} {Y} {Z} f g (x ∷ xs) = by (f x) (length-passed f g xs)
     by None rest = omega (arith, rest)
     by (Some y) rest = omega (arith, rest)
 
-module _ (objects : List Object) (refs : List ℤ) where
-  located-or-missing : length (filter_map (location_of objects) refs) + length (nodes_missing objects refs) ≡ length refs
-  located-or-missing = length-passed (location_of objects) _ refs
+module _ (objects : List Object) (refs : List Ref) where
+  located-or-missing : length (filter_map (place_of objects) refs) + length (nodes_missing objects refs) ≡ length refs
+  located-or-missing = length-passed (place_of objects) _ refs
 
-  pub some_missing : length (filter_map (location_of objects) refs) < length refs → nodes_missing objects refs ≢ []
+  pub some_missing : length (filter_map (place_of objects) refs) < length refs → nodes_missing objects refs ≢ []
   some_missing less none =
       let all = located-or-missing in
       let no : length (nodes_missing objects refs) ≡ 0 = ap length none in
       absurd (omega (arith, all, no, less))
 
-  pub none_missing : length refs ≤ length (filter_map (location_of objects) refs) → nodes_missing objects refs ≡ []
+  pub none_missing : length refs ≤ length (filter_map (place_of objects) refs) → nodes_missing objects refs ≡ []
   none_missing most = nil_from_length (nodes_missing objects refs) (let all = located-or-missing in omega (arith, all, most))
 
-pub segments_of_parts : (objects : List Object) (way : ℤ) (parts : WayParts) (refs : List ℤ) → way_of objects way ≡ Some parts → refs ≡ parts.refs
-    → segments_along (filter_map (location_of objects) refs) ≡ way_segments objects way
+pub segments_of_parts : (objects : List Object) (way : ℤ) (parts : WayParts) → way_of objects way ≡ Some parts
+    → segments_along (filter_map (place_of objects) parts.refs) ≡ way_segments objects way
 unfolding way_segments
-segments_of_parts objects way parts refs e r =
-    ap (λ ids. segments_along (filter_map (location_of objects) ids)) r
-    ∙ ap (λ found. segments_along (option_map_or (λ (w : WayParts). filter_map (location_of objects) w.refs) found [])) (sym e)
+segments_of_parts objects way parts e = ap (λ found. segments_along (option_map_or (λ (w : WayParts). filter_map (place_of objects) w.refs) found [])) (sym e)
 
 -- ---- one more way
 

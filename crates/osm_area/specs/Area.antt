@@ -8,7 +8,7 @@ use Rattle.plane_edges.specs.Sided.{count_at}
 use Rattle.osm_lattice.specs.declared.seg.Seg.{Seg}
 use Rattle.osm_geom.specs.declared.edge.Edge.{Edge}
 use Rattle.osm_sides.specs.Directions.{AreDirected}
-use Rattle.osm_sides.specs.Survivors.{edges_of}
+use Rattle.osm_sides.specs.Survivors.{plane_edges_of}
 use Rattle.osm_rings.specs.RingList.{AreRingsOf}
 use Rattle.osm_nest.specs.declared.polygon.Polygon.{Polygon}
 use Rattle.osm_nest.specs.Nested.{AreNested}
@@ -27,4 +27,4 @@ pub record IsArea (survivors : List Seg) (polygons : List Polygon) : Type 0 wher
 -- at every point p.x / q, p.y / q the rings of the polygons together have the parity of the segments
 abbrev pub HaveParityOf : List Seg → List Polygon → Type 0
 HaveParityOf survivors polygons =
-    (q : ℤ) → sign q ≡ Plus → (p : Vector) → count_at q p (all_edges (rings_of polygons)) % 2 ≡ crossing_count east p (scaled_edges q (edges_of survivors)) % 2
+    (q : ℤ) → sign q ≡ Plus → (p : Vector) → count_at q p (all_edges (rings_of polygons)) % 2 ≡ crossing_count east p (scaled_edges q (plane_edges_of survivors)) % 2

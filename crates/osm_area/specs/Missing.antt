@@ -3,10 +3,11 @@ use Rattle.std.specs.Prelude.{Bool, ◌&&◌, List, [], ◌∷◌, map, filter, 
 use Rattle.std.specs.List.{flat_map}
 use Rattle.std.specs.Ordering.{int_eq}
 use Rattle.opl_reader.specs.declared.object.ObjectKind.TheVariants.{Node, Way}
+use Rattle.opl_reader.specs.declared.object.Ref.{Ref}
 use Rattle.opl_reader.specs.declared.object.ObjectRef.{ObjectRef}
 use Rattle.opl_reader.specs.declared.object.Object.{Object}
 use Rattle.osm_objects.specs.Object.{same_kind}
-use Rattle.osm_objects.specs.Objects.{WayParts, way_of, location_of}
+use Rattle.osm_objects.specs.Objects.{WayParts, way_of, place_of}
 use Rattle.lists.specs.Once.{each_once}
 use Rattle.osm_area.specs.MemberWays.{member_ways}
 
@@ -14,9 +15,9 @@ use Rattle.osm_area.specs.MemberWays.{member_ways}
 abbrev pub same_ref : ObjectRef → ObjectRef → Bool
 same_ref r s = same_kind r.kind s.kind && int_eq r.id s.id
 
--- the references to nodes that have no location here, in order
-abbrev pub nodes_missing : List Object → List ℤ → List ObjectRef
-nodes_missing objects refs = map (λ id. record { kind = Node; id = id }) (filter (λ id. is_none (location_of objects id)) refs)
+-- the nodes of the references without a location, in order
+abbrev pub nodes_missing : List Object → List Ref → List ObjectRef
+nodes_missing objects refs = map (λ r. record { kind = Node; id = r.node }) (filter (λ r. is_none (place_of objects r)) refs)
 
 -- what a way lacks: itself, where it isn't here, and otherwise nodes
 abbrev pub missing_from : List Object → ℤ → Option WayParts → List ObjectRef

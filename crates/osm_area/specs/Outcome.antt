@@ -10,7 +10,7 @@ use Rattle.osm_nest.specs.declared.polygon.Polygon.{Polygon}
 use Rattle.osm_nest.specs.Nested.{HasKinds}
 use Rattle.osm_area.specs.declared.outcome.Outcome.{Outcome}
 use Rattle.osm_area.specs.declared.outcome.Outcome.TheVariants as outcome
-use Rattle.osm_area.specs.Segments.{segments_of}
+use Rattle.osm_area.specs.Segments.{candidate_segments}
 use Rattle.osm_area.specs.Problems.{AreProblemsGiven, SurvivorsAre}
 use Rattle.osm_area.specs.Notes.{AreNotesGiven, AreNotesBefore}
 use Rattle.osm_area.specs.MemberWays.{ways_named_twice}
@@ -39,11 +39,11 @@ IsOutcomeGiven missing ways segments roles (outcome.Area polygons notes) =
 
 abbrev pub IsOutcome : List Object → ObjectRef → Outcome → Type 0
 IsOutcome objects candidate outcome =
-    IsOutcomeGiven (missing objects candidate) (ways_named_twice objects candidate) (segments_of objects candidate) (role_notes objects candidate) outcome
+    IsOutcomeGiven (missing objects candidate) (ways_named_twice objects candidate) (candidate_segments objects candidate) (role_notes objects candidate) outcome
 
 -- at every point the rings of an area together have the parity of the segments that survive
 abbrev pub KeepsParity : List Object → ObjectRef → Outcome → Type 0
-KeepsParity objects candidate (outcome.Area polygons notes) = SurvivorsAre (segments_of objects candidate) (λ survivors. HaveParityOf survivors polygons)
+KeepsParity objects candidate (outcome.Area polygons notes) = SurvivorsAre (candidate_segments objects candidate) (λ survivors. HaveParityOf survivors polygons)
 KeepsParity objects candidate (outcome.Problems list notes) = Unit {0}
 
 -- every candidate has an outcome, whose conflicts are of the kinds that their segments have

@@ -7,7 +7,7 @@ use Rattle.osm_segments.specs.Counts.{AreSurvivors}
 use Rattle.osm_segments.specs.Pairs.{conflicts_of}
 use Rattle.osm_sides.specs.Survivors.{HasEvenNodes}
 use Rattle.osm_area.specs.Missing.{missing}
-use Rattle.osm_area.specs.Segments.{segments_of}
+use Rattle.osm_area.specs.Segments.{candidate_segments}
 
 -- no part is missing, and of the segments some survive, no two of which are in conflict and an even
 -- number of which end at each location
@@ -20,4 +20,4 @@ pub record IsSoundGiven (missing : List ObjectRef) (segments : List Seg) : Type 
   pub even : HasEvenNodes survivors
 
 abbrev pub IsSound : List Object → ObjectRef → Type 0
-IsSound objects candidate = IsSoundGiven (missing objects candidate) (segments_of objects candidate)
+IsSound objects candidate = IsSoundGiven (missing objects candidate) (candidate_segments objects candidate)

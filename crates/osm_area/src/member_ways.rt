@@ -15,10 +15,11 @@ pub fn is_way(kind: ObjectKind) -> bool
 {
     match kind {
         ObjectKind::Way => true,
-        _ => false,
+        ObjectKind::Node | ObjectKind::Relation => false,
     }
 }
 
+/// The ways among members, in order.
 fn ways_among(alloc: Global, members: &[Member]) -> Result<Vec<i64>, OutOfMemory>
     ensures { IfOk result (λ v. v.items ≡ ways_among members.now) }
 {

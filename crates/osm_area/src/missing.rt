@@ -1,4 +1,4 @@
-//! What a candidate lacks: member ways, and nodes with a location.
+//! What a candidate lacks: member ways, and locations of their references.
 
 ghost use Rattle.std.specs.Prelude.{◌≡◌, ◌++◌, IfOk, OnOk};
 ghost use Rattle.std.specs.List.{flat_map};
@@ -7,21 +7,23 @@ ghost use Rattle.osm_area.specs.Missing.{same_ref, nodes_missing, way_missing};
 
 use crate::once::each_once;
 use indexmap::IndexSet;
-use opl_reader::{ObjectKind, ObjectRef};
+use opl_reader::{ObjectKind, ObjectRef, Refs};
 use osm_objects::Store;
 use std::alloc::{AllocError as OutOfMemory, Global};
 
-/// Adds each reference to a node that has no location.
+/// Adds the node of each reference that has no location.
 fn add_missing_nodes(
     missing: &mut Vec<ObjectRef>,
     store: &Store,
-    refs: &[i64],
+    refs: &Refs,
 ) -> Result<(), OutOfMemory>
-    ensures { OnOk result (missing.new.items ≡ missing.old.items ++ nodes_missing store.now refs.now) }
+    ensures { OnOk result (missing.new.items
+        ≡ missing.old.items ++ nodes_missing store.now refs.now) }
 {
-    for &id in refs {
-        if store.location(id).is_none() {
+    for reference in refs.iter() {
+        if store.place_of(&reference).is_none() {
             let kind = ObjectKind::Node;
+            let id = reference.node;
             missing.push(ObjectRef { kind, id })?;
         }
     }
@@ -33,7 +35,7 @@ fn add_missing(missing: &mut Vec<ObjectRef>, store: &Store, way: i64) -> Result<
     ensures { OnOk result (missing.new.items ≡ missing.old.items ++ way_missing store.now way) }
 {
     match store.way(way) {
-        Some(found) => add_missing_nodes(missing, store, found.refs.as_slice()),
+        Some(found) => add_missing_nodes(missing, store, found.refs),
         None => {
             let kind = ObjectKind::Way;
             missing.push(ObjectRef { kind, id: way })?;
@@ -42,6 +44,7 @@ fn add_missing(missing: &mut Vec<ObjectRef>, store: &Store, way: i64) -> Result<
     }
 }
 
+/// What ways lack, one way after the other.
 fn all_missing(alloc: Global, store: &Store, ways: &[i64]) -> Result<Vec<ObjectRef>, OutOfMemory>
     ensures { IfOk result (λ v. v.items ≡ flat_map (way_missing store.now) ways.now) }
 {
@@ -59,7 +62,8 @@ pub fn missing(
     store: &Store,
     ways: &[i64],
 ) -> Result<IndexSet<ObjectRef>, OutOfMemory>
-    ensures { IfOk result (λ s. s.keys ≡ each_once same_ref (flat_map (way_missing store.now) ways.now)) }
+    ensures { IfOk result (λ s. s.keys
+        ≡ each_once same_ref (flat_map (way_missing store.now) ways.now)) }
 {
     let all = all_missing(alloc, store, ways)?;
     each_once(alloc, &all)

@@ -12,8 +12,10 @@ use osm_objects::Note;
 use osm_segments::Repeat;
 use std::alloc::{AllocError as OutOfMemory, Global};
 
+/// Adds a note for each of the ways, in order, that is among these.
 fn add_named(notes: &mut Notes, ways: &[i64], again: &IndexSet<i64>) -> Result<(), OutOfMemory>
-    ensures { OnOk result (notes.new ≡ notes.old ++ map named_twice_note (filter (λ way. contains int_eq again.now way) ways.now)) }
+    ensures { OnOk result (notes.new
+        ≡ notes.old ++ map named_twice_note (filter (λ way. contains int_eq again.now way) ways.now)) }
 {
     for &way in ways {
         if again.contains(&way) {
@@ -26,8 +28,12 @@ fn add_named(notes: &mut Notes, ways: &[i64], again: &IndexSet<i64>) -> Result<(
 /// A note for each of the ways, in order, that is named at least twice.
 #[tactic(auto, using(crate::proofs::RefLemmas::filter_same))]
 pub fn named_twice(alloc: Global, named: &[i64], ways: &[i64]) -> Result<Notes, OutOfMemory>
-    ensures { IfOk result (λ notes. notes ≡ map named_twice_note (filter (λ way. nat_le 2 (count_by (int_eq way) named.now)) ways.now)) }
+    ensures { IfOk result (λ notes. notes
+        ≡ map named_twice_note (filter (λ way. nat_le 2 (count_by (int_eq way) named.now)) ways.now)) }
 {
+    if named.len() < 2 {
+        return Ok(Notes::new(alloc));
+    }
     let again = repeated(alloc, named)?;
     let mut notes = Notes::new(alloc);
     add_named(&mut notes, ways, &again)?;

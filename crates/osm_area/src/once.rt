@@ -25,7 +25,8 @@ pub fn each_once<T: Eq + Hash + Copy>(
 
 /// The items that stand at least twice in a list.
 pub fn repeated<T: Eq + Hash + Copy>(alloc: Global, items: &[T]) -> Result<IndexSet<T>, OutOfMemory>
-    ensures { IfOk result (λ s. (x : T) → contains T.eq s x ≡ nat_le 2 (count_by (T.eq x) items.now)) }
+    ensures { IfOk result (λ s. (x : T)
+        → contains T.eq s x ≡ nat_le 2 (count_by (T.eq x) items.now)) }
 {
     let mut seen = IndexSet::new(alloc);
     let mut again = IndexSet::new(alloc);

@@ -43,9 +43,12 @@ fn complete(
     segs: &[Seg],
     mut notes: Notes,
 ) -> Result<Outcome, OutOfMemory>
-    ensures right { IfOk result (λ outcome. (twice : List ℤ) → notes ≡ map named_twice_note twice → IsOutcomeGiven [] twice segs.now (role_notes_of store.now candidate ways.now) outcome) }
+    ensures right { IfOk result (λ outcome. (twice : List ℤ)
+        → notes ≡ map named_twice_note twice
+        → IsOutcomeGiven [] twice segs.now (role_notes_of store.now candidate ways.now) outcome) }
     ensures rings { IfOk result (λ outcome. All HasKinds (polygons_in outcome)) }
-    ensures whole { IfOk result (λ outcome. All (All IsWholeSegment) (rings_of (polygons_in outcome))) }
+    ensures whole { IfOk result (λ outcome.
+        All (All IsWholeSegment) (rings_of (polygons_in outcome))) }
 {
     let repeats = repeated(alloc, segs)?;
     add_repeats(&mut notes, &repeats)?;
@@ -63,7 +66,8 @@ fn complete(
 fn outcome_of(alloc: Global, store: &Store, candidate: ObjectRef) -> Result<Outcome, OutOfMemory>
     ensures right { IfOk result (λ outcome. IsOutcome store.now candidate outcome) }
     ensures rings { IfOk result (λ outcome. All HasKinds (polygons_in outcome)) }
-    ensures whole { IfOk result (λ outcome. All (All IsWholeSegment) (rings_of (polygons_in outcome))) }
+    ensures whole { IfOk result (λ outcome.
+        All (All IsWholeSegment) (rings_of (polygons_in outcome))) }
 {
     let named = named_ways(alloc, store, candidate)?;
     let distinct = each_once(alloc, &named)?;
@@ -91,7 +95,8 @@ pub fn assemble(alloc: Global, store: &Store, candidate: ObjectRef) -> Result<Ou
     ensures outcome { IfOk result (λ outcome. IsOutcome store.now candidate outcome) }
     ensures kinds { IfOk result (λ outcome. All IsOfItsKind (problems_in outcome)) }
     ensures rings { IfOk result (λ outcome. All HasKinds (polygons_in outcome)) }
-    ensures whole { IfOk result (λ outcome. All (All IsWholeSegment) (rings_of (polygons_in outcome))) }
+    ensures whole { IfOk result (λ outcome.
+        All (All IsWholeSegment) (rings_of (polygons_in outcome))) }
     ensures parity { IfOk result (λ outcome. KeepsParity store.now candidate outcome) }
 {
     outcome_of(alloc, store, candidate)

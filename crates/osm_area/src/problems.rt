@@ -12,13 +12,14 @@ use osm_objects::Problem;
 use osm_segments::{Pair, conflicts, odd_nodes};
 use std::alloc::{AllocError as OutOfMemory, Global};
 
+/// The problem of a missing way or node.
 fn missing_problem(missing: ObjectRef) -> Problem
     ensures { result ≡ missing_problem missing }
 {
     let id = missing.id;
     match missing.kind {
         ObjectKind::Way => Problem::MissingWay { id },
-        _ => Problem::MissingNode { id },
+        ObjectKind::Node | ObjectKind::Relation => Problem::MissingNode { id },
     }
 }
 
@@ -33,6 +34,7 @@ pub fn missing_problems(alloc: Global, missing: &[ObjectRef]) -> Result<Problems
     Ok(list)
 }
 
+/// Adds a problem for each conflicting pair.
 fn add_conflicts(list: &mut Problems, pairs: &[Pair]) -> Result<(), OutOfMemory>
     ensures { OnOk result (list.new ≡ list.old ++ map conflict_problem pairs.now) }
 {
@@ -46,6 +48,7 @@ fn add_conflicts(list: &mut Problems, pairs: &[Pair]) -> Result<(), OutOfMemory>
     Ok(())
 }
 
+/// Adds a problem for each odd node.
 fn add_odd_nodes(list: &mut Problems, nodes: &[Loc]) -> Result<(), OutOfMemory>
     ensures { OnOk result (list.new ≡ list.old ++ map odd_problem nodes.now) }
 {

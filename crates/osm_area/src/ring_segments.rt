@@ -19,7 +19,9 @@ use std::collections::BTreeSet;
 
 /// Adds the segment of an edge.
 fn add_edge(segs: &mut BTreeSet<Seg>, edge: &Edge) -> Result<(), OutOfMemory>
-    ensures { OnOk result ((s : Seg) → contains seg_cmp segs.new s ≡ (contains seg_cmp segs.old s || carries s edge.now.carrier)) }
+    ensures { OnOk result ((s : Seg)
+        → contains seg_cmp segs.new s
+        ≡ (contains seg_cmp segs.old s || carries s edge.now.carrier)) }
 {
     if let Carrier::OfSeg(seg) = edge.carrier {
         segs.insert(seg)?;
@@ -29,7 +31,10 @@ fn add_edge(segs: &mut BTreeSet<Seg>, edge: &Edge) -> Result<(), OutOfMemory>
 
 /// Adds those of a ring.
 fn add_ring(segs: &mut BTreeSet<Seg>, ring: &Ring) -> Result<(), OutOfMemory>
-    ensures { OnOk result ((s : Seg) → contains seg_cmp segs.new s ≡ (contains seg_cmp segs.old s || list_any (λ (e : Edge). carries s e.carrier) ring.now)) }
+    ensures { OnOk result ((s : Seg)
+        → contains seg_cmp segs.new s
+        ≡ (contains seg_cmp segs.old s
+        || list_any (λ (e : Edge). carries s e.carrier) ring.now)) }
 {
     for edge in ring.as_slice() {
         add_edge(segs, edge)?;
@@ -39,7 +44,9 @@ fn add_ring(segs: &mut BTreeSet<Seg>, ring: &Ring) -> Result<(), OutOfMemory>
 
 /// Adds those of rings.
 fn add_rings(segs: &mut BTreeSet<Seg>, rings: &[Ring]) -> Result<(), OutOfMemory>
-    ensures { OnOk result ((s : Seg) → contains seg_cmp segs.new s ≡ (contains seg_cmp segs.old s || is_in_rings rings.now s)) }
+    ensures { OnOk result ((s : Seg)
+        → contains seg_cmp segs.new s
+        ≡ (contains seg_cmp segs.old s || is_in_rings rings.now s)) }
 {
     for ring in rings {
         add_ring(segs, ring)?;
@@ -49,7 +56,8 @@ fn add_rings(segs: &mut BTreeSet<Seg>, rings: &[Ring]) -> Result<(), OutOfMemory
 
 /// The segments along which the outer rings of polygons run.
 pub fn outer_segments(alloc: Global, polygons: &[Polygon]) -> Result<BTreeSet<Seg>, OutOfMemory>
-    ensures { IfOk result (λ segs. (s : Seg) → contains seg_cmp segs s ≡ is_in_rings (outers polygons.now) s) }
+    ensures { IfOk result (λ segs. (s : Seg)
+        → contains seg_cmp segs s ≡ is_in_rings (outers polygons.now) s) }
 {
     let mut segs = BTreeSet::new(alloc);
     for polygon in polygons {
@@ -60,7 +68,8 @@ pub fn outer_segments(alloc: Global, polygons: &[Polygon]) -> Result<BTreeSet<Se
 
 /// The segments along which the inner rings of polygons run.
 pub fn inner_segments(alloc: Global, polygons: &[Polygon]) -> Result<BTreeSet<Seg>, OutOfMemory>
-    ensures { IfOk result (λ segs. (s : Seg) → contains seg_cmp segs s ≡ is_in_rings (inners polygons.now) s) }
+    ensures { IfOk result (λ segs. (s : Seg)
+        → contains seg_cmp segs s ≡ is_in_rings (inners polygons.now) s) }
 {
     let mut segs = BTreeSet::new(alloc);
     for polygon in polygons {
@@ -76,7 +85,8 @@ pub fn holds_some(
     segs: &BTreeSet<Seg>,
     way: i64,
 ) -> Result<bool, OutOfMemory>
-    ensures { IfOk result (λ found. found ≡ list_any (contains seg_cmp segs.now) (way_segments store.now way)) }
+    ensures { IfOk result (λ found. found
+        ≡ list_any (contains seg_cmp segs.now) (way_segments store.now way)) }
 {
     let along = way_segments(alloc, store, way)?;
     Ok(along.iter().any(|seg| segs.contains(seg)))

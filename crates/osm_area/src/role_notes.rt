@@ -33,7 +33,8 @@ fn note_on(
     role: Option<Role>,
     way: i64,
 ) -> Result<Option<Note>, OutOfMemory>
-    ensures { IfOk result (λ note. note ≡ note_from store.now rings.now.outer rings.now.inner role way) }
+    ensures { IfOk result (λ note. note
+        ≡ note_from store.now rings.now.outer rings.now.inner role way) }
 {
     match role {
         Some(Role::Inner) => {
@@ -57,7 +58,8 @@ fn add_note(
     roles: &IndexMap<i64, Role>,
     way: i64,
 ) -> Result<(), OutOfMemory>
-    ensures { OnOk result (notes.new ≡ notes.old ++ cons_option (note_from store.now rings.now.outer rings.now.inner (get int_eq roles.now way) way) []) }
+    ensures { OnOk result (notes.new ≡ notes.old ++ cons_option
+        (note_from store.now rings.now.outer rings.now.inner (get int_eq roles.now way) way) []) }
 {
     let role = roles.get(&way).copied();
     if let Some(note) = note_on(alloc, store, rings, role, way)? {
@@ -75,7 +77,10 @@ fn add_all(
     roles: &IndexMap<i64, Role>,
     ways: &[i64],
 ) -> Result<(), OutOfMemory>
-    ensures { OnOk result (notes.new ≡ notes.old ++ filter_map (λ (way : ℤ). note_from store.now rings.now.outer rings.now.inner (get int_eq roles.now way) way) ways.now) }
+    ensures { OnOk result (notes.new ≡ notes.old ++ filter_map
+        (λ (way : ℤ).
+        note_from store.now rings.now.outer rings.now.inner (get int_eq roles.now way) way)
+        ways.now) }
 {
     for &way in ways {
         add_note(notes, alloc, store, rings, roles, way)?;
@@ -92,7 +97,8 @@ fn add_notes_among(
     polygons: &Polygons,
     ways: &[i64],
 ) -> Result<(), OutOfMemory>
-    ensures { OnOk result (notes.new ≡ notes.old ++ filter_map (role_note store.now members.now polygons.now) ways.now) }
+    ensures { OnOk result (notes.new
+        ≡ notes.old ++ filter_map (role_note store.now members.now polygons.now) ways.now) }
 {
     if !any_names_a_ring(members) {
         return Ok(());
@@ -115,7 +121,8 @@ pub fn add_role_notes(
     polygons: &Polygons,
     ways: &[i64],
 ) -> Result<(), OutOfMemory>
-    ensures { OnOk result (notes.new ≡ notes.old ++ role_notes_of store.now candidate ways.now polygons.now) }
+    ensures { OnOk result (notes.new
+        ≡ notes.old ++ role_notes_of store.now candidate ways.now polygons.now) }
 {
     match candidate.kind {
         ObjectKind::Node => Ok(()),

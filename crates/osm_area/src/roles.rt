@@ -20,6 +20,7 @@ pub enum Role {
     Other,
 }
 
+/// What a role is, by its name.
 #[tactic(auto, unfolding(crate::specs::RoleKinds::role_named))]
 fn role_named(role: &Text) -> Role
     ensures { result ≡ role_named role.now }
@@ -33,6 +34,7 @@ fn role_named(role: &Text) -> Role
     }
 }
 
+/// Whether a member has the role `inner` or `outer`.
 fn names_a_ring(member: &Member) -> bool
     ensures { result ≡ names_a_ring member.now }
 {
@@ -48,7 +50,9 @@ pub fn any_names_a_ring(members: &[Member]) -> bool
 
 /// Adds the role of a member, if it is a way that isn't there yet.
 fn add_role(roles: &mut IndexMap<i64, Role>, member: &Member) -> Result<(), OutOfMemory>
-    ensures { OnOk result ((way : ℤ) → get int_eq roles.new way ≡ option_or (get int_eq roles.old way) (first_role (member.now ∷ []) way)) }
+    ensures { OnOk result ((way : ℤ)
+        → get int_eq roles.new way
+        ≡ option_or (get int_eq roles.old way) (first_role (member.now ∷ []) way)) }
 {
     if is_way(member.kind) && !roles.contains_key(&member.id) {
         roles.insert(member.id, role_named(&member.role))?;

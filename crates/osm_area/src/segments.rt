@@ -2,10 +2,11 @@
 
 ghost use Rattle.std.specs.Prelude.{◌≡◌, ◌++◌, ◌↔◌, [], true, IfOk, IfSome, IsSome, IsTrue, OnOk};
 ghost use Rattle.std.specs.List.{filter_map, flat_map};
-ghost use Rattle.osm_objects.specs.Objects.{location_of};
+ghost use Rattle.osm_objects.specs.Objects.{place_of};
 ghost use Rattle.osm_area.specs.Missing.{nodes_missing, way_missing};
 ghost use Rattle.osm_area.specs.Segments.{segments_along, path_of, way_segments};
 
+use opl_reader::Refs;
 use osm_geom::{Loc, Seg};
 use osm_objects::Store;
 use std::alloc::{AllocError as OutOfMemory, Global};
@@ -18,21 +19,25 @@ fn add_along(segments: &mut Vec<Seg>, path: &[Loc]) -> Result<(), OutOfMemory>
     segments.extend(steps.filter_map(|(p, q)| Seg::new(*p, *q)))
 }
 
-/// The locations of nodes, in order; a node that has none is passed over.
-fn located(alloc: Global, store: &Store, refs: &[i64]) -> Result<Vec<Loc>, OutOfMemory>
-    ensures { IfOk result (λ v. v.items ≡ filter_map (location_of store.now) refs.now) }
+/// The locations of references, in order; one that has none is passed over.
+fn located(alloc: Global, store: &Store, refs: &Refs) -> Result<Vec<Loc>, OutOfMemory>
+    ensures { IfOk result (λ v. v.items ≡ filter_map (place_of store.now) refs.now) }
 {
     let mut path = Vec::with_capacity(alloc, refs.len())?;
-    path.extend(refs.iter().filter_map(|id| store.location(*id)))?;
+    for reference in refs.iter() {
+        if let Some(place) = store.place_of(&reference) {
+            path.push(place)?;
+        }
+    }
     Ok(path)
 }
 
-/// The locations of a way's nodes, in order.
+/// The locations of a way's references, in order.
 fn path_of(alloc: Global, store: &Store, way: i64) -> Result<Vec<Loc>, OutOfMemory>
     ensures { IfOk result (λ v. v.items ≡ path_of store.now way) }
 {
     match store.way(way) {
-        Some(found) => located(alloc, store, found.refs.as_slice()),
+        Some(found) => located(alloc, store, found.refs),
         None => Ok(Vec::new(alloc)),
     }
 }
@@ -48,15 +53,17 @@ pub fn way_segments(alloc: Global, store: &Store, way: i64) -> Result<Vec<Seg>, 
     Ok(segments)
 }
 
-/// Adds the segments along nodes. False where one of them has no location.
-fn add_along_nodes(
+/// Adds the segments along references. False where one of them has no location.
+fn add_along_refs(
     segments: &mut Vec<Seg>,
     alloc: Global,
     store: &Store,
-    refs: &[i64],
+    refs: &Refs,
 ) -> Result<bool, OutOfMemory>
     ensures whole { IfOk result (λ whole. IsTrue whole ↔ (nodes_missing store.now refs.now ≡ [])) }
-    ensures added { IfOk result (λ whole. whole ≡ true → segments.new.items ≡ segments.old.items ++ segments_along (filter_map (location_of store.now) refs.now)) }
+    ensures added { IfOk result (λ whole. whole ≡ true
+        → segments.new.items
+        ≡ segments.old.items ++ segments_along (filter_map (place_of store.now) refs.now)) }
 {
     let path = located(alloc, store, refs)?;
     if path.len() < refs.len() {
@@ -66,7 +73,7 @@ fn add_along_nodes(
     Ok(true)
 }
 
-/// Adds the segments of a way. False where it isn't held, or a node that it names has no location.
+/// Adds the segments of a way. False where it isn't held, or one of its references has no location.
 fn add_segments(
     segments: &mut Vec<Seg>,
     alloc: Global,
@@ -74,20 +81,23 @@ fn add_segments(
     way: i64,
 ) -> Result<bool, OutOfMemory>
     ensures whole { IfOk result (λ whole. IsTrue whole ↔ (way_missing store.now way ≡ [])) }
-    ensures added { IfOk result (λ whole. whole ≡ true → segments.new.items ≡ segments.old.items ++ way_segments store.now way) }
+    ensures added { IfOk result (λ whole. whole ≡ true
+        → segments.new.items ≡ segments.old.items ++ way_segments store.now way) }
 {
     match store.way(way) {
-        Some(found) => add_along_nodes(segments, alloc, store, found.refs.as_slice()),
+        Some(found) => add_along_refs(segments, alloc, store, found.refs),
         None => Ok(false),
     }
 }
 
 /// The segments of ways, one way after the other.
 ///
-/// None where a way isn't held, or a node that one names has no location.
+/// None where a way isn't held, or a reference of one has no location.
 pub fn segments(alloc: Global, store: &Store, ways: &[i64]) -> Result<Option<Vec<Seg>>, OutOfMemory>
-    ensures some { IfOk result (λ found. IfSome found (λ v. v.items ≡ flat_map (way_segments store.now) ways.now)) }
-    ensures whole { IfOk result (λ found. IsSome found ↔ (flat_map (way_missing store.now) ways.now ≡ [])) }
+    ensures some { IfOk result (λ found.
+        IfSome found (λ v. v.items ≡ flat_map (way_segments store.now) ways.now)) }
+    ensures whole { IfOk result (λ found.
+        IsSome found ↔ (flat_map (way_missing store.now) ways.now ≡ [])) }
 {
     let mut segments = Vec::new(alloc);
     for &way in ways {

@@ -1,5 +1,5 @@
 use super::*;
-use opl_reader::{Member, Members, Object, ObjectKind, ObjectRef, Refs, Tags, Text};
+use opl_reader::{Member, Members, Object, ObjectKind, ObjectRef, Ref, Refs, Tags, Text};
 use osm_geom::{Loc, Point, Seg};
 use osm_nest::Polygon;
 use osm_objects::{Note, Problem, Store};
@@ -30,10 +30,26 @@ fn node_of(alloc: Global, id: i64, numbers: &[i64]) -> Object {
     }
 }
 
-fn way_of(alloc: Global, id: i64, numbers: &[i64]) -> Result<Object, OutOfMemory> {
+/// The location of a word such as `2/2`.
+fn loc_of(word: &str) -> Option<Loc> {
+    let (x, y) = word.split_once('/')?;
+    Loc::new(x.parse::<i64>().ok()?, y.parse::<i64>().ok()?)
+}
+
+/// The reference of a word such as `3`, or `3@2/2` where it has a location of its own.
+fn ref_of(word: &str) -> Option<Ref> {
+    let (node, at) = word.split_once('@').unwrap_or((word, ""));
+    let node = node.parse::<i64>().ok()?;
+    let at = loc_of(at);
+    Some(Ref { node, at })
+}
+
+fn way_of(alloc: Global, id: i64, words: &str) -> Result<Object, OutOfMemory> {
     let mut refs = Refs::new(alloc);
-    for number in numbers.iter().skip(1) {
-        refs.push(*number)?;
+    for word in words.split_whitespace().skip(2) {
+        if let Some(reference) = ref_of(word) {
+            refs.push(reference)?;
+        }
     }
     Ok(Object::Way {
         id,
@@ -79,7 +95,7 @@ fn members_of(alloc: Global, kind: ObjectKind, words: &str) -> Result<Members, O
     Ok(members)
 }
 
-/// The object of a line: `n` with its id, x and y; `w` with its id and its nodes; `r` with its id and its member
+/// The object of a line: `n` with its id, x and y; `w` with its id and its references; `r` with its id and its member
 /// ways, each role before those that have it; `s` with its id and its member relations.
 fn object_of(alloc: Global, line: &str) -> Result<Object, OutOfMemory> {
     let numbers = numbers_of(alloc, line)?;
@@ -88,7 +104,7 @@ fn object_of(alloc: Global, line: &str) -> Result<Object, OutOfMemory> {
         return Ok(node_of(alloc, id, &numbers));
     }
     if line.starts_with('w') {
-        return way_of(alloc, id, &numbers);
+        return way_of(alloc, id, line);
     }
     let kind = if line.starts_with('r') {
         ObjectKind::Way
@@ -269,5 +285,23 @@ fn missing_parts(rt: HostRuntime) -> Result<(), Fail> {
     );
     let text = outcome_of(alloc, two, "w 1 1 2 1 2\nw 2 9\nr 5 2 1")?;
     assert_eq!(rt; text.as_str(), "no node 9\n");
+    Ok(())
+}
+
+#[test]
+fn references_with_their_own_locations(rt: HostRuntime) -> Result<(), Fail> {
+    let alloc = rt.alloc();
+    let whole = "w 7 1@0/0 2@1/0 3@1/1 4@0/1 1@0/0";
+    let text = outcome_of(alloc, "", whole)?;
+    assert_eq!(rt; text.as_str(), "outer 0 0 1 0 1 1 0 1\n");
+    let torn = "w 7 1@0/0 2@1/0 3@1/1 1@0/1";
+    let text = outcome_of(alloc, "", torn)?;
+    assert_eq!(rt; text.as_str(), "odd 0 0\nodd 0 1\n");
+    let moved = "w 7 1 2 3@2/2 4 1";
+    let text = outcome_of(alloc, SQUARE, moved)?;
+    assert_eq!(rt; text.as_str(), "outer 0 0 1 0 2 2 0 1\n");
+    let some = "w 1 1@0/0 2 3@1/1 1@0/0\nw 2 3 1@0/0 2 4 3\nr 5 1 2";
+    let text = outcome_of(alloc, "n 4 5 5", some)?;
+    assert_eq!(rt; text.as_str(), "no node 2\nno node 3\n");
     Ok(())
 }

@@ -1,4 +1,4 @@
-use Rattle.lists.proofs.EachOnce.{once_step}
+use Rattle.lists.proofs.ListsKit.{once_step}
 use Rattle.osm_area.proofs.once.each_once.Goals as goal
 
 pub loop-item-preserved : goal.loop-item-preserved

@@ -1,7 +1,6 @@
 use Rattle.std.proofs.Common.{true, false, refl}
 use Rattle.indexmap.specs.IndexSet.{contains}
-use Rattle.lists.proofs.EachOnce.{once_step, again_step}
-use Rattle.lists.proofs.Bools.{true_from_not, false_from_not}
+use Rattle.lists.proofs.ListsKit.{again_step, false_from_not, once_step, true_from_not}
 use Rattle.osm_area.proofs.once.repeated.Goals as goal
 use Rattle.osm_area.proofs.once.repeated.Goals.{then-not-branch+in_ok-insert-2, else-not-branch}
 

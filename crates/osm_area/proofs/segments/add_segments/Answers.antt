@@ -9,6 +9,5 @@ use Rattle.osm_area.proofs.segments.add_segments.Goals as goal
 pub returns-in-Some-clause-added : goal.returns-in-Some-clause-added
 returns-in-Some-clause-added c =
     let found : way_of c.args.store.now c.args.way ≡ Some (way_seen c.in-Some.found) = search rules in
-    let refs : c.as_slice.result.now ≡ (way_seen c.in-Some.found).refs = search rules in
-    let along = segments_of_parts c.args.store.now c.args.way (way_seen c.in-Some.found) c.as_slice.result.now found refs in
-    IfOk-weaker c.add_along_nodes.result _ _ (λ whole h yes. h yes ∙ ap (λ more. c.args.segments.now.items ++ more) along) c.add_along_nodes.ensures.added
+    let along = segments_of_parts c.args.store.now c.args.way (way_seen c.in-Some.found) found in
+    IfOk-weaker c.add_along_refs.result _ _ (λ whole h yes. h yes ∙ ap (λ more. c.args.segments.now.items ++ more) along) c.add_along_refs.ensures.added
