@@ -3,7 +3,7 @@ use Rattle.std.proofs.Common.{◌≡◌, ◌≢◌, ◌⊎◌, inl, inr, ℕ, ze
 use Rattle.std.specs.List.{enumerate_from, filter_map, flat_map, list_any, slice_get}
 use Rattle.std.proofs.lemmas.List.Folds.{list_any-append}
 use Rattle.std.proofs.lemmas.Bool.{cases_lt, cases_eq, false≢true}
-use Rattle.std.proofs.lemmas.List.{append-nil, append_assoc, get_or-set_same, get_or-set_other, get_or_default, get_or_past, length-set, length-append, length-take-le, take_more, length_push, get_or-take, flat_map_more, take-append-drop}
+use Rattle.std.proofs.lemmas.List.{append-nil, append_assoc, get_or-set_same, get_or-set_other, get_or_default, get_or_past, length-set, length-append, length-take-le, length_push, get_or-take, flat_map_more, take-append-drop}
 use Rattle.std.proofs.lemmas.List.Elements.{All-contains, All-cons, Contains-push, Contains-push_cases, Contains-append_left, Contains-get_or, filter_map-append}
 use Rattle.std.proofs.lemmas.Option.{same_Some, slice_get_within, slice_get_read}
 use Rattle.osm_lattice.specs.declared.loc.Loc.{Loc}
@@ -22,9 +22,7 @@ use Rattle.coast_join.proofs.Numbering.{get_old, get_new}
 use Rattle.coast_join.proofs.NearPairs.{ends_name, gap_names}
 use Rattle.coast_join.proofs.Rounding.{once_line}
 use Rattle.coast_join.proofs.Stepping.{All-filter_map, All-flat_map, filtered_more}
-
-taken_more : {X : Type 0} (xs : List X) (i : ℕ) (x : X) → i < length xs → x ≡ get_or xs i x → take (i + 1) xs ≡ take i xs ++ x ∷ []
-taken_more {X} xs i x h e = take_more xs i x h ∙ ap (λ (y : X). take i xs ++ y ∷ []) (sym e)
+use Rattle.lists.proofs.ListsKit.{taken_more}
 
 -- ---- where gaps lead
 

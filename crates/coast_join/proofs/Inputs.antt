@@ -4,23 +4,16 @@ use Rattle.std.specs.List.{AllByRecursion, IsDistinct, flat_map}
 use Rattle.std.specs.Ordering.{int_eq}
 use Rattle.std.proofs.lemmas.Map.Keys.{IsDistinct-cons, IsDistinct-head, IsDistinct-tail}
 use Rattle.coast_join.specs.declared.way.CoastWay.{CoastWay}
-use Rattle.coast_join.proofs.Sorting.{map-map}
+use Rattle.lists.proofs.ListsKit.{map-map}
 use Rattle.std.proofs.lemmas.List.{flat_map_more, take_more}
 use Rattle.opl_reader.specs.declared.object.Object.{Object}
-use Rattle.coast_join.specs.declared.way.Aside.{Aside}
 use Rattle.coast_join.specs.Chains.{Line, line_of}
-use Rattle.coast_join.specs.Input.{is_empty, asides_by, asides_of, line_along, lines_by, lines_of, nodes_missing, refs_of}
+use Rattle.coast_join.specs.Input.{is_empty, line_along, lines_of, nodes_missing, refs_of}
 
-flat_more : {A : Type 0} (f : ℤ → List A) (ways : List ℤ) (i : ℕ) (z : ℤ) (now new : List A) → i < length ways → z ≡ get_or ways i (pos 0) → now ≡ flat_map f (take i ways) → new ≡ now ++ f z → new ≡ flat_map f (take (i + 1) ways)
+pub flat_more : {A : Type 0} (f : ℤ → List A) (ways : List ℤ) (i : ℕ) (z : ℤ) (now new : List A) → i < length ways → z ≡ get_or ways i (pos 0) → now ≡ flat_map f (take i ways) → new ≡ now ++ f z → new ≡ flat_map f (take (i + 1) ways)
 flat_more {A} f ways i z now new h e was is =
     let more : take (i + 1) ways ≡ take i ways ++ z ∷ [] = take_more ways i (pos 0) h ∙ ap (λ (w : ℤ). take i ways ++ w ∷ []) (sym e) in
     is ∙ (ap (λ (xs : List A). xs ++ f z) was ∙ (flat_map_more f [] (take i ways) z ∙ ap (flat_map f) (sym more)))
-
-pub lines_more : (objects : List Object) (ways refs : List ℤ) (i : ℕ) (z : ℤ) (now new : List Line) → i < length ways → z ≡ get_or ways i (pos 0) → refs ≡ refs_of objects z → now ≡ flat_map (lines_of objects) (take i ways) → new ≡ now ++ lines_by z (nodes_missing objects refs) (line_along objects refs) → new ≡ flat_map (lines_of objects) (take (i + 1) ways)
-lines_more objects ways refs i z now new h e r was is = flat_more (lines_of objects) ways i z now new h e was (is ∙ ap (λ (rs : List ℤ). now ++ lines_by z (nodes_missing objects rs) (line_along objects rs)) r)
-
-pub asides_more : (objects : List Object) (ways refs : List ℤ) (i : ℕ) (z : ℤ) (now new : List Aside) → i < length ways → z ≡ get_or ways i (pos 0) → refs ≡ refs_of objects z → now ≡ flat_map (asides_of objects) (take i ways) → new ≡ now ++ asides_by z (nodes_missing objects refs) (line_along objects refs) → new ≡ flat_map (asides_of objects) (take (i + 1) ways)
-asides_more objects ways refs i z now new h e r was is = flat_more (asides_of objects) ways i z now new h e was (is ∙ ap (λ (rs : List ℤ). now ++ asides_by z (nodes_missing objects rs) (line_along objects rs)) r)
 
 -- ---- the ids of the ways that take part differ
 

@@ -14,7 +14,8 @@ use Rattle.coast_join.specs.ById.{AreById, id_at}
 use Rattle.orbits.specs.Orbits.{after, last, IsOrbit}
 use Rattle.coast_join.specs.declared.chain.Chain.{Chain}
 use Rattle.coast_join.specs.Links.{AreLinks}
-use Rattle.coast_join.proofs.Sorting.{map-map, map-same}
+use Rattle.lists.proofs.ListsKit.{map-map}
+use Rattle.coast_join.proofs.Sorting.{map-same}
 use Rattle.osm_lattice.specs.declared.loc.Loc.{Loc}
 use Rattle.coast_join.specs.declared.way.CoastWay.{CoastWay}
 use Rattle.coast_join.specs.Chains.{IsChain, Line, joined, line_at, line_of}

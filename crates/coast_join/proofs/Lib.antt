@@ -4,7 +4,6 @@ mod Joining
 mod NearPairs
 mod NearestFirst
 pub mod Numbering
-mod OnceLemmas
 mod OneTaken
 mod Rounding
 mod Sorting

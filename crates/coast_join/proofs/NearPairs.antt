@@ -18,6 +18,7 @@ use Rattle.coast_join.specs.Line.{first_of, last_of}
 use Rattle.coast_join.specs.Taken.{AreTaken, gap_cmp}
 use Rattle.coast_join.proofs.NearestFirst.{gap_cmp_total}
 use Rattle.coast_join.proofs.Stepping.{All-enumerated, All-filter_map, All-flat_map}
+use Rattle.lists.proofs.ListsKit.{min_some, some_min}
 
 -- ---- a pair stands in a list where it counts
 
@@ -66,12 +67,6 @@ counted g (x ∷ xs) zero h e =
     let all = count-cons g x xs in
     omega arith
 counted g (x ∷ xs) (suc k) h e = let r = counted g xs k (omega arith) e in let all = count-cons g x xs in omega arith
-
-some_min : (m n : ℕ) → m ≡ min 1 n → 0 < n → 0 < m
-some_min m n e h = omega arith
-
-min_some : (m n : ℕ) → m ≡ min 1 n → 0 < m → 0 < n
-min_some m n e h = omega arith
 
 module _ (ps ds : List Gap) (once : (g : Gap) → count_of gap_cmp g ds ≡ min 1 (count_of gap_cmp g ps)) where
   pub once_in : (g : Gap) → Contains ds g → Contains ps g

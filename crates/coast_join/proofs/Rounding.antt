@@ -14,6 +14,7 @@ use Rattle.osm_lattice.specs.OrderLaws.{LocationOrderTellsApart}
 use Rattle.coast_join.specs.Line.{IsLine, NeighboursDiffer, first_of, front_of, last_of, origin}
 use Rattle.coast_join.specs.Round.{IsRound, is_same, once, opened}
 use Rattle.coast_join.proofs.Joining.{closed_long, front_differ, front_last, front_length}
+use Rattle.lists.proofs.ListsKit.{equal_from}
 
 alike_from : {X : Type 0} (E F : X → X → Bool) → ((x y : X) → E x y ≡ F x y) → (k : X) (xs : List X) → dedup_from E k xs ≡ dedup_from F k xs
 alike_from E F h k [] = refl
@@ -65,13 +66,8 @@ some_from k (x ∷ xs) = by (is_same x k) (some_from k xs)
     by true h = h
     by false h = omega arith
 
-equal_of : (o : Ordering) → is_eq o ≡ true → o ≡ Equal
-equal_of Less e = absurd (false≢true e)
-equal_of Equal e = refl
-equal_of Greater e = absurd (false≢true e)
-
 pub same_is : LocationOrderTellsApart → (p q : Loc) → is_same p q ≡ true → p ≡ q
-same_is exact p q e = (exact p q).0 (equal_of (loc_cmp p q) e)
+same_is exact p q e = (exact p q).0 (equal_from (loc_cmp p q) e)
 
 pub differs_is : LocationOrderTellsApart → (p q : Loc) → p ≢ q → is_same p q ≡ false
 differs_is exact p q ne = by (is_same p q) refl

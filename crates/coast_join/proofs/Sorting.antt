@@ -1,5 +1,5 @@
 -- Places in order of the ids that stand there.
-use Rattle.std.proofs.Common.{◌≡◌, ℕ, ℤ, pos, suc, ◌+◌, true, false, List, [], ◌∷◌, ◌++◌, length, map, get_or, All, refl, sym, ap, subst, ◌∙◌, arith}
+use Rattle.std.proofs.Common.{◌≡◌, ℕ, ℤ, pos, suc, ◌+◌, false, List, [], ◌∷◌, ◌++◌, length, map, get_or, All, refl, sym, ap, subst, ◌∙◌, arith}
 use Rattle.std.specs.declared.cmp.Ordering.{Ordering}
 use Rattle.std.specs.declared.cmp.Ordering.TheVariants.{Less, Equal, Greater}
 use Rattle.std.specs.Ordering.{int_cmp, int_eq, nat_cmp, is_lt, ordering_then, ordering_reverse}
@@ -15,16 +15,13 @@ use Rattle.std.proofs.lemmas.List.Sorted.{ranks_by, sorted_far, IsPermutation-ma
 use Rattle.std.proofs.lemmas.Map.Keys.{IsDistinct-IsPermutation, apart_from_distinct}
 use Rattle.lists.specs.Rising.{IsRising}
 use Rattle.coast_join.specs.ById.{AreById, id_at, placed}
+use Rattle.lists.proofs.ListsKit.{int_eq-same, map-map}
 
 abbrev pub pair_cmp : ℤ × ℕ → ℤ × ℕ → Ordering
 pair_cmp a b = ordering_then (int_cmp a.0 b.0) (nat_cmp a.1 b.1)
 
 pub pair_cmp_total : IsTotalOrder pair_cmp
 pair_cmp_total = then_total (on_total (λ (p : ℤ × ℕ). p.0) int_cmp_total) (on_total (λ (p : ℤ × ℕ). p.1) nat_cmp_total)
-
-pub map-map : {A B C : Type 0} (f : B → C) (g : A → B) (xs : List A) → map f (map g xs) ≡ map (λ x. f (g x)) xs
-map-map f g [] = refl
-map-map f g (x ∷ xs) = ap (λ ys. f (g x) ∷ ys) (map-map f g xs)
 
 pub map-same : {A B : Type 0} (f g : A → B) (xs : List A) → All (λ x. f x ≡ g x) xs → map f xs ≡ map g xs
 map-same f g [] h = refl
@@ -51,15 +48,12 @@ placed_more ids i z xs e h =
     let f : ℕ → ℤ × ℕ = λ k. (id_at ids k, k) in
     ap (λ (w : ℤ). xs ++ (w, i) ∷ []) e ∙ (ap (λ (ys : List (ℤ × ℕ)). ys ++ (id_at ids i, i) ∷ []) h ∙ sym (map-range_with_len_more f 0 i i (omega arith)))
 
-int_eq_of : (a b : ℤ) → a ≡ b → int_eq a b ≡ true
-int_eq_of a b e = subst (λ (z : ℤ). int_eq a z ≡ true) e (int_eq_equiv.refl a)
-
 below : (a b : ℤ × ℕ) → is_lt (pair_cmp b a) ≡ false → int_eq a.0 b.0 ≡ false → int_cmp a.0 b.0 ≡ Less
 below a b up apart = by (int_cmp b.0 a.0) refl up
   where
     by : (o : Ordering) → int_cmp b.0 a.0 ≡ o → is_lt (ordering_then o (nat_cmp b.1 a.1)) ≡ false → int_cmp a.0 b.0 ≡ Less
     by Less e u = absurd (false≢true (sym u))
-    by Equal e u = absurd (false≢true (sym apart ∙ int_eq_of a.0 b.0 (sym (int_ranked b.0 a.0 Equal (sym e)))))
+    by Equal e u = absurd (false≢true (sym apart ∙ int_eq-same a.0 b.0 (sym (int_ranked b.0 a.0 Equal (sym e)))))
     by Greater e u = int_cmp_total.antisymm a.0 b.0 ∙ ap ordering_reverse e
 
 pub by_id_are : (ids : List ℤ) (s : List (ℤ × ℕ)) → IsDistinct int_eq ids → IsPermutation (placed ids) s → IsSorted pair_cmp s → AreById ids (map (λ p. p.1) s)

@@ -2,8 +2,9 @@
 use Rattle.std.proofs.Common.{◌≡◌, ℕ, suc, ◌+◌, ◌<◌, List, [], ◌∷◌, ◌++◌, length, take, get_or, All, Option, Some, None, refl, sym, ap, subst, ◌∙◌, arith}
 use Rattle.std.specs.List.{cons_option, enumerate_from, filter_map, flat_map}
 use Rattle.std.specs.Option.{option_to_list}
-use Rattle.std.proofs.lemmas.List.{take_more, append_assoc, append-nil, length-take-le}
+use Rattle.std.proofs.lemmas.List.{append_assoc, append-nil, length-take-le}
 use Rattle.std.proofs.lemmas.List.Elements.{All-append, All-cons, filter_map-append}
+use Rattle.lists.proofs.ListsKit.{taken_more}
 
 enumerate_push : {X : Type 0} (n : ℕ) (xs : List X) (x : X) (k : ℕ) → k ≡ n + length xs → enumerate_from n (xs ++ x ∷ []) ≡ enumerate_from n xs ++ (k, x) ∷ []
 enumerate_push n [] x k e = ap (λ m. (m, x) ∷ []) (omega arith)
@@ -12,9 +13,6 @@ enumerate_push n (y ∷ ys) x k e = ap (λ zs. (n, y) ∷ zs) (enumerate_push (n
 one_of : {X Y : Type 0} (f : X → Option Y) (x : X) (o : Option Y) → f x ≡ o → filter_map f (x ∷ []) ≡ option_to_list o
 one_of f x None e = rw e refl
 one_of f x (Some y) e = rw e refl
-
-taken_more : {X : Type 0} (xs : List X) (i : ℕ) (x : X) → i < length xs → x ≡ get_or xs i x → take (i + 1) xs ≡ take i xs ++ x ∷ []
-taken_more {X} xs i x h e = take_more xs i x h ∙ ap (λ (y : X). take i xs ++ y ∷ []) (sym e)
 
 pub filtered_more : {X Y : Type 0} (f : X → Option Y) (xs : List X) (i : ℕ) (x : X) (o : Option Y) → i < length xs → x ≡ get_or xs i x → f x ≡ o → filter_map f (take (i + 1) xs) ≡ filter_map f (take i xs) ++ option_to_list o
 filtered_more f xs i x o h e t = ap (filter_map f) (taken_more xs i x h e) ∙ (filter_map-append f (take i xs) (x ∷ []) ∙ ap (λ ys. filter_map f (take i xs) ++ ys) (one_of f x o t))

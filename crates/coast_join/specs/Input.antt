@@ -5,24 +5,25 @@ use Rattle.std.specs.Option.{option_map_or}
 use Rattle.std.specs.Ordering.{int_eq}
 use Rattle.osm_lattice.specs.declared.loc.Loc.{Loc}
 use Rattle.opl_reader.specs.declared.object.Object.{Object}
-use Rattle.osm_objects.specs.Objects.{location_of, way_of}
+use Rattle.opl_reader.specs.declared.object.Ref.{Ref}
+use Rattle.osm_objects.specs.Objects.{place_of, way_of}
 use Rattle.coast_join.specs.declared.way.Aside.{Aside}
 use Rattle.coast_join.specs.declared.way.Aside.TheVariants.{Missing, Short}
 use Rattle.coast_join.specs.Chains.{Line}
-use Rattle.coast_join.specs.Once.{each_once}
+use Rattle.lists.specs.Once.{each_once}
 use Rattle.coast_join.specs.Round.{once}
 
 -- the references of a way
-abbrev pub refs_of : List Object → ℤ → List ℤ
+abbrev pub refs_of : List Object → ℤ → List Ref
 refs_of objects way = option_map_or (λ w. w.refs) (way_of objects way) []
 
--- those to nodes without a location, each once
-abbrev pub nodes_missing : List Object → List ℤ → List ℤ
-nodes_missing objects refs = each_once int_eq (filter (λ id. is_none (location_of objects id)) refs)
+-- the nodes of those without a location, each once
+abbrev pub nodes_missing : List Object → List Ref → List ℤ
+nodes_missing objects refs = each_once int_eq (map (λ r. r.node) (filter (λ r. is_none (place_of objects r)) refs))
 
 -- the locations, equal neighbours taken once
-abbrev pub line_along : List Object → List ℤ → List Loc
-line_along objects refs = once (filter_map (location_of objects) refs)
+abbrev pub line_along : List Object → List Ref → List Loc
+line_along objects refs = once (filter_map (place_of objects) refs)
 
 abbrev pub is_empty : {X : Type 0} → List X → Bool
 is_empty xs = nat_le (length xs) 0

@@ -8,5 +8,4 @@ pub mod Closings
 pub mod Round
 pub mod Joined
 pub mod JoinSteps
-pub mod Once
 pub mod Input

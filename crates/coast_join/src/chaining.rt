@@ -28,7 +28,8 @@ fn ids(alloc: Global, ways: &[CoastWay]) -> Result<Vec<i64>, OutOfMemory>
 /// The locations at which the ways at these places start.
 fn starts(alloc: Global, ways: &[CoastWay], places: &[usize]) -> Result<Vec<Loc>, OutOfMemory>
     requires { All (λ i. i < length ways.now) places.now }
-    ensures { IfOk result (λ v. v.items ≡ map (λ (l : Line). first_of l.path) (members ways.now places.now)) }
+    ensures { IfOk result (λ v. v.items
+        ≡ map (λ (l : Line). first_of l.path) (members ways.now places.now)) }
 {
     let mut starts = Vec::with_capacity(alloc, places.len())?;
     for &place in places {
@@ -37,12 +38,14 @@ fn starts(alloc: Global, ways: &[CoastWay], places: &[usize]) -> Result<Vec<Loc>
     Ok(starts)
 }
 
+/// The first location of a way.
 fn first(way: &CoastWay) -> Loc
     ensures { result ≡ first_of way.now.path }
 {
     way.path.as_slice()[0]
 }
 
+/// The last location of a way.
 fn last(way: &CoastWay) -> Loc
     ensures { result ≡ last_of way.now.path }
 {
@@ -53,7 +56,8 @@ fn last(way: &CoastWay) -> Loc
 /// Those at which they end.
 fn ends(alloc: Global, ways: &[CoastWay], places: &[usize]) -> Result<Vec<Loc>, OutOfMemory>
     requires { All (λ i. i < length ways.now) places.now }
-    ensures { IfOk result (λ v. v.items ≡ map (λ (l : Line). last_of l.path) (members ways.now places.now)) }
+    ensures { IfOk result (λ v. v.items
+        ≡ map (λ (l : Line). last_of l.path) (members ways.now places.now)) }
 {
     let mut ends = Vec::with_capacity(alloc, places.len())?;
     for &place in places {
@@ -88,7 +92,8 @@ fn add_front(path: &mut Path, way: &CoastWay) -> Result<(), OutOfMemory>
 /// The locations of the ways at these places, of each but the last.
 fn fronts(alloc: Global, ways: &[CoastWay], places: &[usize]) -> Result<Path, OutOfMemory>
     requires { All (λ i. i < length ways.now) places.now }
-    ensures { IfOk result (λ path. path ≡ flat_map (λ (l : Line). front_of l.path) (members ways.now places.now)) }
+    ensures { IfOk result (λ path. path
+        ≡ flat_map (λ (l : Line). front_of l.path) (members ways.now places.now)) }
 {
     let mut path = Path::new(alloc);
     for &place in places {
@@ -106,7 +111,8 @@ fn path_of(
 ) -> Result<Path, OutOfMemory>
     requires some { 0 < length places.now }
     requires inside { All (λ i. i < length ways.now) places.now }
-    ensures { IfOk result (λ path. path ≡ joined closed (map (λ (l : Line). l.path) (members ways.now places.now))) }
+    ensures { IfOk result (λ path. path
+        ≡ joined closed (map (λ (l : Line). l.path) (members ways.now places.now))) }
 {
     let mut path = fronts(alloc, ways, places)?;
     if closed {
@@ -157,7 +163,10 @@ fn chain_at(
     orbit: &[usize],
 ) -> Result<Chain, OutOfMemory>
     requires inside { All (λ i. i < length ways.now) order.now }
-    requires links { AreLinks (map (λ (l : Line). last_of l.path) (members ways.now order.now)) (map (λ (l : Line). first_of l.path) (members ways.now order.now)) next.now }
+    requires links { AreLinks
+        (map (λ (l : Line). last_of l.path) (members ways.now order.now))
+        (map (λ (l : Line). first_of l.path) (members ways.now order.now))
+        next.now }
     requires orbit { IsOrbit next.now orbit.now }
     requires below { All (λ k. k < length order.now) orbit.now }
     ensures { IfOk result (λ chain. IsChain (members ways.now order.now) next.now orbit.now chain) }
@@ -177,10 +186,15 @@ fn chains_of(
     orbits: &[Vec<usize>],
 ) -> Result<Vec<Chain>, OutOfMemory>
     requires inside { All (λ i. i < length ways.now) order.now }
-    requires links { AreLinks (map (λ (l : Line). last_of l.path) (members ways.now order.now)) (map (λ (l : Line). first_of l.path) (members ways.now order.now)) next.now }
+    requires links { AreLinks
+        (map (λ (l : Line). last_of l.path) (members ways.now order.now))
+        (map (λ (l : Line). first_of l.path) (members ways.now order.now))
+        next.now }
     requires orbits { All (λ o. IsOrbit next.now o) (map (λ o. o.items) orbits.now) }
     requires below { All (λ o. All (λ k. k < length order.now) o) (map (λ o. o.items) orbits.now) }
-    ensures { IfOk result (λ v. AllZip (IsChain (members ways.now order.now) next.now) (map (λ o. o.items) orbits.now) v.items) }
+    ensures { IfOk result (λ v. AllZip (IsChain (members ways.now order.now) next.now)
+        (map (λ o. o.items) orbits.now)
+        v.items) }
 {
     let mut chains = Vec::with_capacity(alloc, orbits.len())?;
     for orbit in orbits {

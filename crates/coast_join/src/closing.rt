@@ -21,12 +21,14 @@ pub(crate) struct OpenEnds {
     pub(crate) end: Loc,
 }
 
+/// The first location of a chain.
 fn first(chain: &Chain) -> Loc
     ensures { result ≡ first_of chain.now.path }
 {
     chain.path.as_slice()[0]
 }
 
+/// The last location of a chain.
 fn last(chain: &Chain) -> Loc
     ensures { result ≡ last_of chain.now.path }
 {
@@ -46,6 +48,7 @@ pub(crate) fn is_antarctic(chain: &Chain) -> bool
         && (start.y < -600_000_000 && end.y < -600_000_000)
 }
 
+/// It is unclosed, and does not run round Antarctica.
 pub(crate) fn is_open(chain: &Chain) -> bool
     ensures { result ≡ is_open chain.now }
 {
@@ -82,6 +85,7 @@ fn open_ends(alloc: Global, chains: &[Chain]) -> Result<Vec<OpenEnds>, OutOfMemo
     Ok(ends)
 }
 
+/// The square of a number.
 fn square(n: u32) -> u128
     ensures value { result ≡ n * n }
     ensures small { result < 2 ^ 64 }
@@ -120,7 +124,8 @@ fn add_pairs(
     from: OpenEnds,
     ends: &[OpenEnds],
 ) -> Result<(), OutOfMemory>
-    ensures { OnOk result (pairs.new.items ≡ pairs.old.items ++ filter_map (gap_between limit from) ends.now) }
+    ensures { OnOk result (pairs.new.items
+        ≡ pairs.old.items ++ filter_map (gap_between limit from) ends.now) }
 {
     for &to in ends {
         if let Some(gap) = gap_between(limit, from, to) {

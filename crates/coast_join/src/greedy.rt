@@ -12,7 +12,9 @@ use std::alloc::{AllocError as OutOfMemory, Global};
 fn is_free(ended: &[bool], started: &[bool], pair: Gap) -> bool
     requires from { pair.from_chain < length ended.now }
     requires to { pair.to_chain < length started.now }
-    ensures { result ≡ (not (slice_index_or ended.now pair.from_chain false) && not (slice_index_or started.now pair.to_chain false)) }
+    ensures { result
+        ≡ (not (slice_index_or ended.now pair.from_chain false)
+        && not (slice_index_or started.now pair.to_chain false)) }
 {
     !ended[pair.from_chain] && !started[pair.to_chain]
 }

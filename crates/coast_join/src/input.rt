@@ -5,16 +5,17 @@ ghost use Rattle.std.specs.List.{IsDistinct, filter_map, flat_map};
 ghost use Rattle.std.specs.Ordering.{int_eq};
 ghost use Rattle.coast_join.specs.declared.way.CoastWay.{CoastWay};
 ghost use Rattle.osm_objects.specs.CoastWays.{coast_ways};
-ghost use Rattle.osm_objects.specs.Objects.{location_of};
+ghost use Rattle.osm_objects.specs.Objects.{place_of};
 ghost use Rattle.coast_join.specs.declared.way.Aside.TheVariants.{Missing};
 ghost use Rattle.coast_join.specs.Chains.{line_of};
 ghost use Rattle.coast_join.specs.Line.{NeighboursDiffer};
-ghost use Rattle.coast_join.specs.Input.{asides_by, asides_of, line_along, lines_by, lines_of, nodes_missing, refs_of};
+ghost use Rattle.coast_join.specs.Input.{asides_by, asides_of, line_along, lines_by, lines_of, nodes_missing};
 
 use crate::repeated::each_once;
 use crate::round::once_path;
 use crate::way::{Aside, Asides, CoastWay, CoastWays};
 use indexmap::IndexSet;
+use opl_reader::Refs;
 use osm_geom::{Loc, Path, orders_are_exact};
 use osm_objects::Store;
 use std::alloc::{AllocError as OutOfMemory, Global};
@@ -26,20 +27,22 @@ pub struct CoastInput {
     pub aside: Asides,
 }
 
-/// The references to nodes that have no location.
-fn unlocated(alloc: Global, store: &Store, refs: &[i64]) -> Result<Vec<i64>, OutOfMemory>
-    ensures { IfOk result (λ v. v.items ≡ filter (λ id. is_none (location_of store.now id)) refs.now) }
+/// The nodes of the references that have no location.
+fn unlocated(alloc: Global, store: &Store, refs: &Refs) -> Result<Vec<i64>, OutOfMemory>
+    ensures { IfOk result (λ v. v.items
+        ≡ map (λ r. r.node) (filter (λ r. is_none (place_of store.now r)) refs.now)) }
 {
     let mut ids = Vec::new(alloc);
-    for &id in refs {
-        if store.location(id).is_none() {
-            ids.push(id)?;
+    for reference in refs.iter() {
+        if store.place_of(&reference).is_none() {
+            ids.push(reference.node)?;
         }
     }
     Ok(ids)
 }
 
-fn nodes_missing(alloc: Global, store: &Store, refs: &[i64]) -> Result<IndexSet<i64>, OutOfMemory>
+/// Those nodes, each once.
+fn nodes_missing(alloc: Global, store: &Store, refs: &Refs) -> Result<IndexSet<i64>, OutOfMemory>
     ensures { IfOk result (λ s. s.keys ≡ nodes_missing store.now refs.now) }
 {
     let all = unlocated(alloc, store, refs)?;
@@ -47,15 +50,20 @@ fn nodes_missing(alloc: Global, store: &Store, refs: &[i64]) -> Result<IndexSet<
 }
 
 /// The locations of references; one without a location is passed over.
-fn located(alloc: Global, store: &Store, refs: &[i64]) -> Result<Vec<Loc>, OutOfMemory>
-    ensures { IfOk result (λ v. v.items ≡ filter_map (location_of store.now) refs.now) }
+fn located(alloc: Global, store: &Store, refs: &Refs) -> Result<Vec<Loc>, OutOfMemory>
+    ensures { IfOk result (λ v. v.items ≡ filter_map (place_of store.now) refs.now) }
 {
     let mut locs = Vec::with_capacity(alloc, refs.len())?;
-    locs.extend(refs.iter().filter_map(|id| store.location(*id)))?;
+    for reference in refs.iter() {
+        if let Some(place) = store.place_of(&reference) {
+            locs.push(place)?;
+        }
+    }
     Ok(locs)
 }
 
-fn line_along(alloc: Global, store: &Store, refs: &[i64]) -> Result<Path, OutOfMemory>
+/// The locations of references, equal neighbours taken once.
+fn line_along(alloc: Global, store: &Store, refs: &Refs) -> Result<Path, OutOfMemory>
     ensures { IfOk result (λ path. path ≡ line_along store.now refs.now) }
 {
     let locs = located(alloc, store, refs)?;
@@ -80,7 +88,8 @@ fn add_line(
     path: Path,
 ) -> Result<(), OutOfMemory>
     requires { NeighboursDiffer path }
-    ensures ways { OnOk result (map line_of ways.new ≡ map line_of ways.old ++ lines_by way [] path) }
+    ensures ways { OnOk result (map line_of ways.new
+        ≡ map line_of ways.old ++ lines_by way [] path) }
     ensures asides { OnOk result (asides.new ≡ asides.old ++ asides_by way [] path) }
 {
     if path.as_slice().len() < 2 {
@@ -98,10 +107,12 @@ fn add_way(
     ways: &mut CoastWays,
     asides: &mut Asides,
     way: i64,
-    refs: &[i64],
+    refs: &Refs,
 ) -> Result<(), OutOfMemory>
-    ensures ways { OnOk result (map line_of ways.new ≡ map line_of ways.old ++ lines_by way (nodes_missing store.now refs.now) (line_along store.now refs.now)) }
-    ensures asides { OnOk result (asides.new ≡ asides.old ++ asides_by way (nodes_missing store.now refs.now) (line_along store.now refs.now)) }
+    ensures ways { OnOk result (map line_of ways.new ≡ map line_of ways.old
+        ++ lines_by way (nodes_missing store.now refs.now) (line_along store.now refs.now)) }
+    ensures asides { OnOk result (asides.new ≡ asides.old
+        ++ asides_by way (nodes_missing store.now refs.now) (line_along store.now refs.now)) }
 {
     orders_are_exact();
     let missing = nodes_missing(alloc, store, refs)?;
@@ -112,37 +123,41 @@ fn add_way(
     add_line(ways, asides, way, path)
 }
 
-/// The references of a way.
-fn refs_of(store: &Store, way: i64) -> &[i64]
-    ensures { result.now ≡ refs_of store.now way }
+/// Adds the way of this id.
+fn add_held(
+    alloc: Global,
+    store: &Store,
+    ways: &mut CoastWays,
+    asides: &mut Asides,
+    way: i64,
+) -> Result<(), OutOfMemory>
+    ensures ways { OnOk result (map line_of ways.new
+        ≡ map line_of ways.old ++ lines_of store.now way) }
+    ensures asides { OnOk result (asides.new ≡ asides.old ++ asides_of store.now way) }
 {
     match store.way(way) {
-        Some(found) => found.refs.as_slice(),
-        None => &[],
+        Some(found) => add_way(alloc, store, ways, asides, way, found.refs),
+        None => add_way(alloc, store, ways, asides, way, &Refs::new(alloc)),
     }
 }
 
 /// The coastline ways of a store that take part, and what keeps the others from it, each in input order.
 ///
-/// A way with a reference to a node that has no location is set aside with each such node; so is one of which fewer
+/// A way with references that have no location is set aside with each of their nodes; so is one of which fewer
 /// than two locations are left where equal neighbours are taken once. The error is want of memory.
 pub fn coast_input(alloc: Global, store: &Store) -> Result<CoastInput, OutOfMemory>
-    ensures ways { IfOk result (λ input. map line_of input.ways ≡ flat_map (lines_of store.now) (coast_ways store.now)) }
-    ensures aside { IfOk result (λ input. input.aside ≡ flat_map (asides_of store.now) (coast_ways store.now)) }
-    ensures apart { IfOk result (λ input. IsDistinct int_eq (map (λ (w : CoastWay). w.id) input.ways)) }
+    ensures ways { IfOk result (λ input.
+        map line_of input.ways ≡ flat_map (lines_of store.now) (coast_ways store.now)) }
+    ensures aside { IfOk result (λ input.
+        input.aside ≡ flat_map (asides_of store.now) (coast_ways store.now)) }
+    ensures apart { IfOk result (λ input.
+        IsDistinct int_eq (map (λ (w : CoastWay). w.id) input.ways)) }
 {
     let mut ways = CoastWays::new(alloc);
     let mut aside = Asides::new(alloc);
     let coast = store.coast_ways(alloc)?;
     for &way in &coast {
-        add_way(
-            alloc,
-            store,
-            &mut ways,
-            &mut aside,
-            way,
-            refs_of(store, way),
-        )?;
+        add_held(alloc, store, &mut ways, &mut aside, way)?;
     }
     Ok(CoastInput { ways, aside })
 }

@@ -27,7 +27,9 @@ fn numbered(alloc: Global, locs: &[Loc]) -> Result<Vec<(Loc, usize)>, OutOfMemor
 
 /// For each location, and how often it stands before, its place.
 fn places(alloc: Global, locs: &[Loc]) -> Result<BTreeMap<(Loc, usize), usize>, OutOfMemory>
-    ensures { IfOk result (λ m. (p : Loc) (r j : ℕ) → (get key_cmp m (p, r) ≡ Some j) ↔ ((slice_get locs.now j ≡ Some p) × (before p locs.now j ≡ r))) }
+    ensures { IfOk result (λ m. (p : Loc) (r j : ℕ)
+        → (get key_cmp m (p, r) ≡ Some j)
+        ↔ ((slice_get locs.now j ≡ Some p) × (before p locs.now j ≡ r))) }
 {
     orders_are_exact();
     let keys = numbered(alloc, locs)?;

@@ -36,7 +36,9 @@ fn unclosed(
 ) -> Result<Chains, OutOfMemory>
     requires sized { length next.now ≡ length chains.now }
     requires inside { All (AreInside (length chains.now)) (map (λ o. o.items) orbits.now) }
-    ensures { IfOk result (λ v. AllZip (λ o c. IsUnclosed (chains_at chains.now o) c) (filter (λ o. not (is_closed next.now o)) (map (λ o. o.items) orbits.now)) v) }
+    ensures { IfOk result (λ v. AllZip (λ o c. IsUnclosed (chains_at chains.now o) c)
+        (filter (λ o. not (is_closed next.now o)) (map (λ o. o.items) orbits.now))
+        v) }
 {
     let mut unclosed = Chains::new(alloc);
     for orbit in orbits {
@@ -56,7 +58,9 @@ fn rings(
 ) -> Result<Vec<CoastRing>, OutOfMemory>
     requires sized { length next.now ≡ length chains.now }
     requires inside { All (AreInside (length chains.now)) (map (λ o. o.items) orbits.now) }
-    ensures { IfOk result (λ v. AllZip (λ o r. IsRing (chains_at chains.now o) r) (filter (is_closed next.now) (map (λ o. o.items) orbits.now)) v.items) }
+    ensures { IfOk result (λ v. AllZip (λ o r. IsRing (chains_at chains.now o) r)
+        (filter (is_closed next.now) (map (λ o. o.items) orbits.now))
+        v.items) }
 {
     let mut rings = Vec::new(alloc);
     for orbit in orbits {

@@ -1,7 +1,7 @@
 //! Lists without repetition, in the order of first places.
 
 ghost use Rattle.std.specs.Prelude.{◌≡◌, IfOk};
-ghost use Rattle.coast_join.specs.Once.{each_once};
+ghost use Rattle.lists.specs.Once.{each_once};
 
 use indexmap::IndexSet;
 use std::alloc::{AllocError as OutOfMemory, Global};

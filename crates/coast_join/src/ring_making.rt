@@ -34,6 +34,7 @@ pub(crate) fn gap_links(
     Ok(links)
 }
 
+/// What the chain at a place goes on to: where its link leads if it is open, and otherwise itself.
 fn goes_on(chain: &Chain, link: Option<usize>, place: usize) -> Option<usize>
     ensures { result ≡ (if is_open chain.now then link else Some place) }
 {
@@ -140,6 +141,7 @@ fn any_antarctic(chains: &[Chain], places: &[usize]) -> bool
     false
 }
 
+/// The south-western corner of the world.
 fn south_west() -> Loc
     ensures { result ≡ south_west }
 {
@@ -150,6 +152,7 @@ fn south_west() -> Loc
     }
 }
 
+/// The south-eastern corner of the world.
 fn south_east() -> Loc
     ensures { result ≡ south_east }
 {
@@ -172,7 +175,10 @@ fn add_corners(locs: &mut Vec<Loc>) -> Result<(), OutOfMemory>
 /// The locations of the ring of the chains at these places.
 fn ring_locs(alloc: Global, chains: &[Chain], places: &[usize]) -> Result<Vec<Loc>, OutOfMemory>
     requires { All (λ k. k < length chains.now) places.now }
-    ensures { IfOk result (λ v. v.items ≡ (if list_any is_antarctic (chains_at chains.now places.now) then paths_of (chains_at chains.now places.now) ++ corners else paths_of (chains_at chains.now places.now))) }
+    ensures { IfOk result (λ v. v.items
+        ≡ (if list_any is_antarctic (chains_at chains.now places.now)
+        then paths_of (chains_at chains.now places.now) ++ corners
+        else paths_of (chains_at chains.now places.now))) }
 {
     let mut locs = paths_at(alloc, chains, places)?;
     if !any_antarctic(chains, places) {

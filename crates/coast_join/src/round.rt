@@ -6,12 +6,14 @@ ghost use Rattle.coast_join.specs.Round.{is_same, once, once_round, opened};
 use osm_geom::{Loc, Path};
 use std::alloc::{AllocError as OutOfMemory, Global};
 
+/// Whether two locations are one.
 fn is_same(p: Loc, q: Loc) -> bool
     ensures { result ≡ is_same p q }
 {
     p == q
 }
 
+/// The path of locations.
 fn path_of(alloc: Global, locs: &[Loc]) -> Result<Path, OutOfMemory>
     ensures { IfOk result (λ path. path ≡ locs.now) }
 {

@@ -1,14 +1,14 @@
 -- What cancelling pairs leaves has the parity of the whole, whatever is summed.
 use Rattle.std.proofs.Common.{◌≡◌, ℕ, zero, suc, ◌+◌, ◌*◌, ◌/◌, ◌%◌, ◌≤◌, Bool, true, false, cond, not, List, [], ◌∷◌, ◌++◌, length, filter, refl, sym, ap, ◌∙◌, arith}
 use Rattle.std.specs.declared.cmp.Ordering.{Ordering}
-use Rattle.std.specs.declared.cmp.Ordering.TheVariants.{Less, Equal, Greater}
+use Rattle.std.specs.declared.cmp.Ordering.TheVariants.{Equal}
 use Rattle.std.specs.Cmp.{IsTotalOrder}
 use Rattle.std.specs.List.{sum_by}
 use Rattle.std.specs.Ordering.{is_eq}
-use Rattle.std.proofs.lemmas.Bool.{false≢true}
 use Rattle.std.proofs.lemmas.Cmp.{tied_itself}
 use Rattle.std.proofs.lemmas.List.Sums.{count_by-le-length, length-filter, sum_by-append, sum_by-cons}
 use Rattle.lists.specs.Rising.{count_of}
+use Rattle.lists.proofs.ListsKit.{count-cons, equal_from}
 
 even_times : (n m : ℕ) → n % 2 ≡ 0 → (n * m) % 2 ≡ 0
 even_times n m e =
@@ -18,22 +18,14 @@ even_times n m e =
     omega arith
 
 module _ {X : Type 0} {R : X → X → Ordering} (total : IsTotalOrder R) (exact : (x y : X) → R x y ≡ Equal → x ≡ y) where
-  equal_of : (o : Ordering) → is_eq o ≡ true → o ≡ Equal
-  equal_of Less e = absurd (false≢true e)
-  equal_of Equal e = refl
-  equal_of Greater e = absurd (false≢true e)
-
   tied_is : (x y : X) → is_eq (R x y) ≡ true → x ≡ y
-  tied_is x y e = exact x y (equal_of (R x y) e)
+  tied_is x y e = exact x y (equal_from (R x y) e)
 
   itself : (x : X) → is_eq (R x x) ≡ true
   itself x = rw (tied_itself total x) refl
 
   abbrev without : X → List X → List X
   without x zs = filter (λ y. not (is_eq (R y x))) zs
-
-  count-cons : (x y : X) (zs : List X) → count_of R x (y ∷ zs) ≡ cond {A = ℕ} (is_eq (R y x)) 1 0 + count_of R x zs
-  count-cons x y zs = sum_by-cons (λ z. cond {A = ℕ} (is_eq (R z x)) 1 0) y zs
 
   split : (f : X → ℕ) (x : X) (zs : List X) → sum_by f zs ≡ count_of R x zs * f x + sum_by f (without x zs)
   split f x [] = omega arith
@@ -43,13 +35,13 @@ module _ {X : Type 0} {R : X → X → Ordering} (total : IsTotalOrder R) (exact
       by true e rest =
           let same : f y ≡ f x = ap f (tied_is y x e) in
           let one : cond {A = ℕ} (is_eq (R y x)) 1 0 ≡ 1 = ap (λ b. cond {A = ℕ} b 1 0) e in
-          let n : count_of R x (y ∷ zs) ≡ 1 + count_of R x zs = count-cons x y zs ∙ ap (λ m. m + count_of R x zs) one in
+          let n : count_of R x (y ∷ zs) ≡ 1 + count_of R x zs = count-cons R x y zs ∙ ap (λ m. m + count_of R x zs) one in
           let times : count_of R x (y ∷ zs) * f x ≡ f x + count_of R x zs * f x = ap (λ m. m * f x) n ∙ (omega arith) in
           let head = sum_by-cons f y zs in
           omega arith
       by false e rest =
           let none : cond {A = ℕ} (is_eq (R y x)) 1 0 ≡ 0 = ap (λ b. cond {A = ℕ} b 1 0) e in
-          let n : count_of R x (y ∷ zs) ≡ count_of R x zs = count-cons x y zs ∙ (omega arith) in
+          let n : count_of R x (y ∷ zs) ≡ count_of R x zs = count-cons R x y zs ∙ (omega arith) in
           let times : count_of R x (y ∷ zs) * f x ≡ count_of R x zs * f x = ap (λ m. m * f x) n in
           let head = sum_by-cons f y zs in
           let kept = sum_by-cons f y (without x zs) in
@@ -61,7 +53,7 @@ module _ {X : Type 0} {R : X → X → Ordering} (total : IsTotalOrder R) (exact
     where
       by : (b : Bool) → is_eq (R y x) ≡ b → count_of R x (without x zs) ≡ 0 → count_of R x (cond (not b) (y ∷ without x zs) (without x zs)) ≡ 0
       by true e rest = rest
-      by false e rest = let none : cond {A = ℕ} (is_eq (R y x)) 1 0 ≡ 0 = ap (λ b. cond {A = ℕ} b 1 0) e in let n = count-cons x y (without x zs) in omega arith
+      by false e rest = let none : cond {A = ℕ} (is_eq (R y x)) 1 0 ≡ 0 = ap (λ b. cond {A = ℕ} b 1 0) e in let n = count-cons R x y (without x zs) in omega arith
 
   others_left : (x z : X) → is_eq (R x z) ≡ false → (zs : List X) → count_of R z (without x zs) ≡ count_of R z zs
   others_left x z apart [] = refl
@@ -70,9 +62,9 @@ module _ {X : Type 0} {R : X → X → Ordering} (total : IsTotalOrder R) (exact
       by : (b : Bool) → is_eq (R y x) ≡ b → count_of R z (without x zs) ≡ count_of R z zs → count_of R z (cond (not b) (y ∷ without x zs) (without x zs)) ≡ count_of R z (y ∷ zs)
       by true e rest =
           let none : cond {A = ℕ} (is_eq (R y z)) 1 0 ≡ 0 = ap (λ (w : X). cond {A = ℕ} (is_eq (R w z)) 1 0) (tied_is y x e) ∙ ap (λ b. cond {A = ℕ} b 1 0) apart in
-          let n = count-cons z y zs in
+          let n = count-cons R z y zs in
           omega arith
-      by false e rest = let m = count-cons z y (without x zs) in let n = count-cons z y zs in omega arith
+      by false e rest = let m = count-cons R z y (without x zs) in let n = count-cons R z y zs in omega arith
 
   even_left : (x : X) (zs : List X) → ((z : X) → count_of R z zs % 2 ≡ 0) → (z : X) → count_of R z (without x zs) % 2 ≡ 0
   even_left x zs even z = by (is_eq (R x z)) refl

@@ -4,7 +4,7 @@ use Rattle.std.specs.declared.cmp.Ordering.{Ordering}
 use Rattle.std.specs.declared.cmp.Ordering.TheVariants.{Less, Equal, Greater}
 use Rattle.std.specs.List.{cons_option}
 use Rattle.std.specs.Ordering.{is_eq, ordering_reverse}
-use Rattle.std.proofs.lemmas.Bool.{cases_eq, cases_lt, false≢true}
+use Rattle.std.proofs.lemmas.Bool.{and_right, cases_eq, cases_lt, false_from_ne_true, false≢true, or_from}
 use Rattle.std.proofs.lemmas.Cmp.{tied_itself}
 use Rattle.std.proofs.lemmas.Int.{ints}
 use Rattle.std.proofs.lemmas.List.Elements.{All-contains}
@@ -12,7 +12,7 @@ use Rattle.plane.specs.Conflict.{is_along, is_inside, is_parted_by, is_touched_b
 use Rattle.plane.specs.Order.{order}
 use Rattle.plane.specs.Sign.{Minus, Null, Plus, Sign, are_opposite, is_null, is_plus, negated, sign, then_sign}
 use Rattle.plane.specs.Vector.{Vector, orient}
-use Rattle.lists.proofs.Integers.{int_eq-same, int_eq-true}
+use Rattle.lists.proofs.ListsKit.{and-left, and-right, int_eq-same, int_eq-true, less_both, less_itself, less_nothing}
 use Rattle.plane.proofs.SignKit.{null-is, sign-*, times}
 use Rattle.osm_lattice.specs.declared.loc.Loc.{Loc}
 use Rattle.osm_lattice.specs.declared.seg.Seg.{Seg}
@@ -56,12 +56,6 @@ piece_of (a ∷ (b ∷ r)) t up c = ⊎_elim
     record { place = suc n.place; inside = omega arith; first = n.first; second = n.second })
     (made_of a b (pieces (b ∷ r)) t (up 0 1 a (omega arith) (omega arith)) c)
 
-less_both : (p q : Loc) → loc_cmp p q ≡ Less → loc_cmp q p ≡ Less → ⊥
-less_both p q e d = let t : loc_cmp p q ≡ Greater = loc_cmp_total.antisymm p q ∙ ap ordering_reverse d in let c : Less ≡ Greater = sym e ∙ t in absurd (cc)
-
-less_itself : (p : Loc) → loc_cmp p p ≡ Less → ⊥
-less_itself p e = let t = tied_itself loc_cmp_total p in let c : Less ≡ Equal = sym e ∙ t in absurd (cc)
-
 -- no node is strictly between neighbours
 pub none_between : (nodes : List Loc) (t : Seg) (n : Loc) → IsRising loc_cmp nodes → AreNeighbours nodes t → Contains nodes n → loc_cmp t.a n ≡ Less → loc_cmp n t.b ≡ Less → ⊥
 none_between nodes t n up next (k, l, e) low high =
@@ -69,12 +63,12 @@ none_between nodes t n up next (k, l, e) low high =
     let a = next.first n in
     let b = next.second n in
     ⊎_elim
-    (λ before. less_both t.a n low (subst (λ (p : Loc). loc_cmp p t.a ≡ Less) e (subst (λ (p : Loc). loc_cmp (get_or nodes k n) p ≡ Less) a (up k next.place n before (omega arith)))))
+    (λ before. less_both loc_cmp_total t.a n low (subst (λ (p : Loc). loc_cmp p t.a ≡ Less) e (subst (λ (p : Loc). loc_cmp (get_or nodes k n) p ≡ Less) a (up k next.place n before (omega arith)))))
     (λ rest. ⊎_elim
-    (λ after. less_both n t.b high (subst (λ (p : Loc). loc_cmp t.b p ≡ Less) e (subst (λ (p : Loc). loc_cmp p (get_or nodes k n) ≡ Less) b (up (suc next.place) k n after l))))
+    (λ after. less_both loc_cmp_total n t.b high (subst (λ (p : Loc). loc_cmp t.b p ≡ Less) e (subst (λ (p : Loc). loc_cmp p (get_or nodes k n) ≡ Less) b (up (suc next.place) k n after l))))
     (λ rest_2. ⊎_elim
-    (λ s. let same : n ≡ t.a = sym e ∙ (ap (λ m. get_or nodes m n) s ∙ a) in less_itself t.a (subst (λ (p : Loc). loc_cmp t.a p ≡ Less) same low))
-    (λ ne. let s : k ≡ suc next.place = omega arith in let same : n ≡ t.b = sym e ∙ (ap (λ m. get_or nodes m n) s ∙ b) in less_itself t.b (subst (λ (p : Loc). loc_cmp p t.b ≡ Less) same high))
+    (λ s. let same : n ≡ t.a = sym e ∙ (ap (λ m. get_or nodes m n) s ∙ a) in less_itself loc_cmp_total t.a (subst (λ (p : Loc). loc_cmp t.a p ≡ Less) same low))
+    (λ ne. let s : k ≡ suc next.place = omega arith in let same : n ≡ t.b = sym e ∙ (ap (λ m. get_or nodes m n) s ∙ b) in less_itself loc_cmp_total t.b (subst (λ (p : Loc). loc_cmp p t.b ≡ Less) same high))
     (cases_eq k next.place))
     (cases_lt (suc next.place) k))
     (cases_lt k next.place)
@@ -117,18 +111,6 @@ module _ (on : Loc → Bool) (t : Seg) (border : IsBorder on t) where
 
 -- ---- such a segment is clear of a piece
 
-pub and_first : (a b : Bool) → (a && b) ≡ true → a ≡ true
-and_first true b e = refl
-and_first false b e = absurd (false≢true e)
-
-pub and_then : (a b : Bool) → (a && b) ≡ true → b ≡ true
-and_then true b e = e
-and_then false b e = absurd (false≢true e)
-
-pub no_by : (b : Bool) → (b ≡ true → ⊥) → b ≡ false
-no_by true h = absurd (h refl)
-no_by false h = refl
-
 pub plus_less : (s : Sign) → is_plus s ≡ true → ordering_of s ≡ Less
 plus_less Minus e = absurd (false≢true e)
 plus_less Null e = absurd (false≢true e)
@@ -147,13 +129,6 @@ all_no : (o a b p : Bool) → a ≡ false → b ≡ false → p ≡ false → (n
 all_no true a b p e d c = refl
 all_no false a b p e d c = rw (e, d, c) refl
 
-or_no : (a b : Bool) → a ≡ false → b ≡ false → (a || b) ≡ false
-or_no a b e d = rw (e, d) refl
-
-second_no : (a b : Bool) → b ≡ false → (a && b) ≡ false
-second_no true b e = e
-second_no false b e = refl
-
 module _ (points : LocationOrderIsPointOrder) (exact : LocationOrderTellsApart) (on : Loc → Bool) (nodes : List Loc) (up : IsRising loc_cmp nodes) (s t : Seg) (meets : Meets on nodes s) (next : AreNeighbours nodes t) (border : IsBorder on t) where
   before : (p q : Loc) → is_plus (order (vector_of p) (vector_of q)) ≡ true → loc_cmp p q ≡ Less
   before p q e = points p q ∙ plus_less (order (vector_of p) (vector_of q)) e
@@ -163,11 +138,11 @@ module _ (points : LocationOrderIsPointOrder) (exact : LocationOrderTellsApart) 
 
   -- no end of s is strictly inside the piece
   end_outside : (q : Loc) → (on q ≡ true → Contains nodes q) → is_inside (vector_of q) (edge_of t) ≡ false
-  end_outside q node = no_by (is_inside (vector_of q) (edge_of t)) (λ e.
-      let line = and_first (is_null (orient (vector_of t.a) (vector_of t.b) (vector_of q))) (is_plus (order (vector_of t.a) (vector_of q)) && is_plus (order (vector_of q) (vector_of t.b))) e in
-      let rest = and_then (is_null (orient (vector_of t.a) (vector_of t.b) (vector_of q))) (is_plus (order (vector_of t.a) (vector_of q)) && is_plus (order (vector_of q) (vector_of t.b))) e in
-      let low = and_first (is_plus (order (vector_of t.a) (vector_of q))) (is_plus (order (vector_of q) (vector_of t.b))) rest in
-      let high = and_then (is_plus (order (vector_of t.a) (vector_of q))) (is_plus (order (vector_of q) (vector_of t.b))) rest in
+  end_outside q node = false_from_ne_true (is_inside (vector_of q) (edge_of t)) (λ e.
+      let line = and-left (is_null (orient (vector_of t.a) (vector_of t.b) (vector_of q))) (is_plus (order (vector_of t.a) (vector_of q)) && is_plus (order (vector_of q) (vector_of t.b))) e in
+      let rest = and-right (is_null (orient (vector_of t.a) (vector_of t.b) (vector_of q))) (is_plus (order (vector_of t.a) (vector_of q)) && is_plus (order (vector_of q) (vector_of t.b))) e in
+      let low = and-left (is_plus (order (vector_of t.a) (vector_of q))) (is_plus (order (vector_of q) (vector_of t.b))) rest in
+      let high = and-right (is_plus (order (vector_of t.a) (vector_of q))) (is_plus (order (vector_of q) (vector_of t.b))) rest in
       none_between nodes t q up next (node (on_line on t border q line)) (before t.a q low) (before q t.b high))
 
   first_node : Contains nodes t.a
@@ -181,17 +156,17 @@ module _ (points : LocationOrderIsPointOrder) (exact : LocationOrderTellsApart) 
 
   -- along one line the two are one
   not_overlapping : is_eq (seg_cmp s t) ≡ false → overlaps (edge_of s) (edge_of t) ≡ false
-  not_overlapping differ = no_by (overlaps (edge_of s) (edge_of t)) (λ e.
-      let line = and_first (is_along (edge_of s) (edge_of t) && is_along (edge_of t) (edge_of s)) (is_plus (order (vector_of s.a) (vector_of t.b)) && is_plus (order (vector_of t.a) (vector_of s.b))) e in
-      let rest = and_then (is_along (edge_of s) (edge_of t) && is_along (edge_of t) (edge_of s)) (is_plus (order (vector_of s.a) (vector_of t.b)) && is_plus (order (vector_of t.a) (vector_of s.b))) e in
-      let t_on_s = and_first (is_along (edge_of s) (edge_of t)) (is_along (edge_of t) (edge_of s)) line in
-      let s_on_t = and_then (is_along (edge_of s) (edge_of t)) (is_along (edge_of t) (edge_of s)) line in
-      let low = and_first (is_plus (order (vector_of s.a) (vector_of t.b))) (is_plus (order (vector_of t.a) (vector_of s.b))) rest in
-      let high = and_then (is_plus (order (vector_of s.a) (vector_of t.b))) (is_plus (order (vector_of t.a) (vector_of s.b))) rest in
-      let a_on = on_line on t border s.a (and_first _ (is_null (orient (vector_of t.a) (vector_of t.b) (vector_of s.b))) s_on_t) in
-      let b_on = on_line on t border s.b (and_then (is_null (orient (vector_of t.a) (vector_of t.b) (vector_of s.a))) _ s_on_t) in
-      let ta = and_first (is_null (orient (vector_of s.a) (vector_of s.b) (vector_of t.a))) (is_null (orient (vector_of s.a) (vector_of s.b) (vector_of t.b))) t_on_s in
-      let tb = and_then (is_null (orient (vector_of s.a) (vector_of s.b) (vector_of t.a))) (is_null (orient (vector_of s.a) (vector_of s.b) (vector_of t.b))) t_on_s in
+  not_overlapping differ = false_from_ne_true (overlaps (edge_of s) (edge_of t)) (λ e.
+      let line = and-left (is_along (edge_of s) (edge_of t) && is_along (edge_of t) (edge_of s)) (is_plus (order (vector_of s.a) (vector_of t.b)) && is_plus (order (vector_of t.a) (vector_of s.b))) e in
+      let rest = and-right (is_along (edge_of s) (edge_of t) && is_along (edge_of t) (edge_of s)) (is_plus (order (vector_of s.a) (vector_of t.b)) && is_plus (order (vector_of t.a) (vector_of s.b))) e in
+      let t_on_s = and-left (is_along (edge_of s) (edge_of t)) (is_along (edge_of t) (edge_of s)) line in
+      let s_on_t = and-right (is_along (edge_of s) (edge_of t)) (is_along (edge_of t) (edge_of s)) line in
+      let low = and-left (is_plus (order (vector_of s.a) (vector_of t.b))) (is_plus (order (vector_of t.a) (vector_of s.b))) rest in
+      let high = and-right (is_plus (order (vector_of s.a) (vector_of t.b))) (is_plus (order (vector_of t.a) (vector_of s.b))) rest in
+      let a_on = on_line on t border s.a (and-left _ (is_null (orient (vector_of t.a) (vector_of t.b) (vector_of s.b))) s_on_t) in
+      let b_on = on_line on t border s.b (and-right (is_null (orient (vector_of t.a) (vector_of t.b) (vector_of s.a))) _ s_on_t) in
+      let ta = and-left (is_null (orient (vector_of s.a) (vector_of s.b) (vector_of t.a))) (is_null (orient (vector_of s.a) (vector_of s.b) (vector_of t.b))) t_on_s in
+      let tb = and-right (is_null (orient (vector_of s.a) (vector_of s.b) (vector_of t.a))) (is_null (orient (vector_of s.a) (vector_of s.b) (vector_of t.b))) t_on_s in
       begins (loc_cmp s.a t.a) refl a_on b_on ta tb low high)
     where
       inside : (n : Loc) → is_null (orient (vector_of s.a) (vector_of s.b) (vector_of n)) ≡ true → is_plus (order (vector_of s.a) (vector_of n)) ≡ true → is_plus (order (vector_of n) (vector_of s.b)) ≡ true → is_inside (vector_of n) (edge_of s) ≡ true
@@ -211,9 +186,9 @@ module _ (points : LocationOrderIsPointOrder) (exact : LocationOrderTellsApart) 
   unfolding are_overlapping are_crossing
   clear_of_piece = none_by (is_eq (seg_cmp s t)) (overlaps (edge_of s) (edge_of t)) (are_crossing s t) not_overlapping
       (all_no (overlaps (edge_of s) (edge_of t)) (is_touched_by (edge_of s) (edge_of t)) (is_touched_by (edge_of t) (edge_of s)) (is_parted_by (edge_of t) (edge_of s) && is_parted_by (edge_of s) (edge_of t))
-      (or_no _ _ (node_outside t.a first_node) (node_outside t.b second_node))
-      (or_no _ _ (end_outside s.a meets.first) (end_outside s.b meets.second))
-      (second_no (is_parted_by (edge_of t) (edge_of s)) _ (not_parted on t border s.a s.b)))
+      (or_from _ _ (node_outside t.a first_node) (node_outside t.b second_node))
+      (or_from _ _ (end_outside s.a meets.first) (end_outside s.b meets.second))
+      (and_right (is_parted_by (edge_of t) (edge_of s)) _ (not_parted on t border s.a s.b)))
 
 -- ---- the four sides
 
@@ -242,13 +217,10 @@ level : (p : Vector) (t : Seg) → t.b.y ≡ t.a.y → orient (vector_of t.a) (v
 level p t e =
     let dy : t.b.y -ℤ t.a.y ≡ pos 0 = omega (arith, ints) in
     let none : (t.b.y -ℤ t.a.y) *ℤ (p.x -ℤ t.a.x) ≡ pos 0 = ap (λ z. z *ℤ (p.x -ℤ t.a.x)) dy ∙ zero_times (p.x -ℤ t.a.x) in
-    ap sign (less_none ((t.b.x -ℤ t.a.x) *ℤ (p.y -ℤ t.a.y)) ((t.b.y -ℤ t.a.y) *ℤ (p.x -ℤ t.a.x)) none) ∙ sign-* (t.b.x -ℤ t.a.x) (p.y -ℤ t.a.y)
+    ap sign (less_nothing ((t.b.x -ℤ t.a.x) *ℤ (p.y -ℤ t.a.y)) ((t.b.y -ℤ t.a.y) *ℤ (p.x -ℤ t.a.x)) none) ∙ sign-* (t.b.x -ℤ t.a.x) (p.y -ℤ t.a.y)
   where
     zero_times : (z : ℤ) → pos 0 *ℤ z ≡ pos 0
     zero_times z = omega (arith, ints)
-
-    less_none : (m z : ℤ) → z ≡ pos 0 → m -ℤ z ≡ m
-    less_none m z e = omega (arith, ints)
 
 at_or_beyond : (f : Sign → Sign) (z : ℤ) (side : Sign) (o : Sign) (P : Type 0) → o ≡ f (sign z) → f Null ≡ Null → (z ≡ pos 0 → P) → (sign z ≡ Null → ⊥) ⊎ (sign z ≡ Null) → ((sign z ≡ Null → ⊥) → f (sign z) ≡ side) → (o ≡ side) ⊎ ((o ≡ Null) × P)
 at_or_beyond f z side o P is null on (inl far) beyond = inl (is ∙ beyond far)

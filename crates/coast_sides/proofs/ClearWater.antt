@@ -1,16 +1,15 @@
 -- Land without conflicts and the sides of the world have no conflicts together.
 use Rattle.std.proofs.Common.{◌≡◌, ◌⊎◌, inl, inr, ⊎_elim, ℕ, ℤ, pos, neg_ℤ, zero, suc, ◌-◌, ◌<◌, Bool, true, false, not, ◌&&◌, ◌||◌, if◌then◌else◌, List, [], ◌∷◌, ◌++◌, length, get_or, All, Contains, Option, Some, None, refl, sym, ap, subst, ◌∙◌, arith}
-use Rattle.std.specs.declared.cmp.Ordering.{Ordering}
-use Rattle.std.specs.declared.cmp.Ordering.TheVariants.{Less, Equal, Greater}
+use Rattle.std.specs.declared.cmp.Ordering.TheVariants.{Less}
 use Rattle.std.specs.Ordering.{int_cmp, int_eq, is_eq, ordering_then}
-use Rattle.std.proofs.lemmas.Bool.{false≢true}
+use Rattle.std.proofs.lemmas.Bool.{false_from_ne_true, false≢true, or_left, or_right}
 use Rattle.std.proofs.lemmas.Cmp.{tied_itself}
 use Rattle.std.proofs.lemmas.Int.{ints}
 use Rattle.std.proofs.lemmas.List.{get_or_default}
 use Rattle.std.proofs.lemmas.List.Elements.{Contains-append_cases, Contains-get_or}
 use Rattle.plane.specs.Conflict.{is_inside, is_touched_by, overlaps}
 use Rattle.plane.specs.Sign.{is_null}
-use Rattle.lists.proofs.Integers.{int_eq-true}
+use Rattle.lists.proofs.ListsKit.{equal_from, int_eq-true, less_itself}
 use Rattle.osm_lattice.specs.declared.loc.Loc.{Loc}
 use Rattle.osm_lattice.specs.declared.seg.Seg.{Seg}
 use Rattle.osm_lattice.specs.declared.conflicts.Kind.{Kind}
@@ -27,7 +26,7 @@ use Rattle.coast_join.specs.Joined.{south_east, south_west}
 use Rattle.coast_join.specs.Line.{origin}
 use Rattle.coast_sides.specs.Land.{AreClear}
 use Rattle.coast_sides.specs.Water.{AreSides, IsSide, Meets, is_east, is_north, is_south, is_west, north_east, north_west, pieces}
-use Rattle.coast_sides.proofs.ClearSides.{IsBorder, clear_east, clear_north, clear_south, clear_west, east_border, no_by, none_between, north_border, on_line, piece_of, south_border, west_border}
+use Rattle.coast_sides.proofs.ClearSides.{IsBorder, clear_east, clear_north, clear_south, clear_west, east_border, none_between, north_border, on_line, piece_of, south_border, west_border}
 use Rattle.coast_sides.proofs.Clearing.{clear_left, none_conflict}
 use Rattle.coast_sides.proofs.Corners.{inside_means, north_east_outside, north_west_outside, south_east_outside, south_west_outside}
 use Rattle.coast_sides.proofs.EvenRings.{loc_cmp_total}
@@ -50,9 +49,6 @@ end_from (t ∷ land) n zero h e = (t, (0, omega arith, refl), inl (sym e))
 end_from (t ∷ land) n (suc zero) h e = (t, (0, omega arith, refl), inr (sym e))
 end_from (t ∷ land) n (suc (suc k)) h e = let r = end_from land n k (omega arith) e in (r.0, (suc r.1.0, (let l = r.1.1 in omega arith), r.1.2), r.2)
 
-pub less_itself : (p : Loc) → loc_cmp p p ≡ Less → ⊥
-less_itself p e = let t = tied_itself loc_cmp_total p in let c : Less ≡ Equal = sym e ∙ t in absurd (cc)
-
 -- ---- one location on two sides
 
 pub same_loc : LocationOrderTellsApart → (p q : Loc) → p.x ≡ q.x → p.y ≡ q.y → p ≡ q
@@ -67,17 +63,10 @@ module _ (points : LocationOrderIsPointOrder) (exact : LocationOrderTellsApart) 
   touched false false true y z s h e = absurd (cc)
   touched false false false y z s h e = absurd (false≢true h)
 
-  or_left : (a b : Bool) → a ≡ true → (a || b) ≡ true
-  or_left a b e = rw e refl
-
-  or_right : (a b : Bool) → b ≡ true → (a || b) ≡ true
-  or_right true b e = refl
-  or_right false b e = e
-
   -- no node of land is strictly inside a segment of it
   land_outside : (land : List Seg) → AreClear land → (s : Seg) → Contains land s → (n : Loc) → Contains (ends_of land) n → is_inside (vector_of n) (edge_of s) ≡ false
   unfolding are_overlapping are_crossing
-  land_outside land clear s c n (k, l, e) = no_by (is_inside (vector_of n) (edge_of s)) (λ inside.
+  land_outside land clear s c n (k, l, e) = false_from_ne_true (is_inside (vector_of n) (edge_of s)) (λ inside.
       let u = end_from land n k l e in
       let none = clear s u.0 c u.1 in
       let m = inside_means points n s inside in
@@ -87,13 +76,8 @@ module _ (points : LocationOrderIsPointOrder) (exact : LocationOrderTellsApart) 
       by u at false differ none inside low high = touched (is_eq (seg_cmp s u)) (overlaps (edge_of s) (edge_of u)) (is_touched_by (edge_of s) (edge_of u)) _ _ differ
           (⊎_elim (λ a. or_left _ _ (subst (λ (p : Loc). is_inside (vector_of p) (edge_of s) ≡ true) a inside)) (λ b. or_right _ _ (subst (λ (p : Loc). is_inside (vector_of p) (edge_of s) ≡ true) b inside)) at) none
       by u at true same none inside low high =
-          let is : s ≡ u = (exact_2 s u).0 (equal_of (seg_cmp s u) same) in
-          ⊎_elim (λ a. less_itself s.a (subst (λ (p : Loc). loc_cmp s.a p ≡ Less) (a ∙ ap (λ (v : Seg). v.a) (sym is)) low)) (λ b. less_itself s.b (subst (λ (p : Loc). loc_cmp p s.b ≡ Less) (b ∙ ap (λ (v : Seg). v.b) (sym is)) high)) at
-        where
-          equal_of : (o : Ordering) → is_eq o ≡ true → o ≡ Equal
-          equal_of Less e = absurd (false≢true e)
-          equal_of Equal e = refl
-          equal_of Greater e = absurd (false≢true e)
+          let is : s ≡ u = (exact_2 s u).0 (equal_from (seg_cmp s u) same) in
+          ⊎_elim (λ a. less_itself loc_cmp_total s.a (subst (λ (p : Loc). loc_cmp s.a p ≡ Less) (a ∙ ap (λ (v : Seg). v.a) (sym is)) low)) (λ b. less_itself loc_cmp_total s.b (subst (λ (p : Loc). loc_cmp p s.b ≡ Less) (b ∙ ap (λ (v : Seg). v.b) (sym is)) high)) at
 
   module _ (land : List Seg) (on : Loc → Bool) (from to : Loc) (nodes : List Loc) (side : IsSide on from to land nodes) (from_out : (s : Seg) → is_inside (vector_of from) (edge_of s) ≡ false) (to_out : (s : Seg) → is_inside (vector_of to) (edge_of s) ≡ false) where
     meets_land : AreClear land → (s : Seg) → Contains land s → Meets on nodes s
@@ -110,7 +94,7 @@ module _ (points : LocationOrderIsPointOrder) (exact : LocationOrderTellsApart) 
         record {
           first = λ h. (next.place, omega arith, next.first s.a);
           second = λ h. (suc next.place, i, next.second s.b);
-          none_inside = λ k d h. no_by (is_inside (vector_of (get_or nodes k d)) (edge_of s)) (λ inside. let m = inside_means points (get_or nodes k d) s inside in none_between nodes s (get_or nodes k d) side.rising next (Contains-get_or nodes k d h) m.1 m.2);
+          none_inside = λ k d h. false_from_ne_true (is_inside (vector_of (get_or nodes k d)) (edge_of s)) (λ inside. let m = inside_means points (get_or nodes k d) s inside in none_between nodes s (get_or nodes k d) side.rising next (Contains-get_or nodes k d h) m.1 m.2);
         }
 
     from_stands : Contains nodes from
@@ -130,7 +114,7 @@ module _ (points : LocationOrderIsPointOrder) (exact : LocationOrderTellsApart) 
         record {
           first = λ h. stands s.a (common s.a h a);
           second = λ h. stands s.b (common s.b h b);
-          none_inside = λ k d h. no_by (is_inside (vector_of (get_or nodes k d)) (edge_of s)) (λ inside.
+          none_inside = λ k d h. false_from_ne_true (is_inside (vector_of (get_or nodes k d)) (edge_of s)) (λ inside.
               let m = inside_means points (get_or nodes k d) s inside in
               let there = on_line on_2 s (border s a b) (get_or nodes k d) (ap is_null m.0) in
               ⊎_elim (λ e. false≢true (sym (from_out s) ∙ subst (λ (p : Loc). is_inside (vector_of p) (edge_of s) ≡ true) e inside)) (λ e. false≢true (sym (to_out s) ∙ subst (λ (p : Loc). is_inside (vector_of p) (edge_of s) ≡ true) e inside)) (common (get_or nodes k d) (side.within k d h) there));
@@ -154,9 +138,6 @@ module _ (points : LocationOrderIsPointOrder) (exact : LocationOrderTellsApart) 
     y_is : (q : Loc) (z : ℤ) → int_eq q.y z ≡ true → q.y ≡ z
     y_is q z e = int_eq-true q.y z e
 
-    corner : (q c : Loc) → q.x ≡ c.x → q.y ≡ c.y → q ≡ c
-    corner q c x y = same_loc exact q c x y
-
     west_of : ℤ
     west_of = neg_ℤ (pos 1800000000)
 
@@ -167,16 +148,16 @@ module _ (points : LocationOrderIsPointOrder) (exact : LocationOrderTellsApart) 
     opposite_x q a b = let e = x_is q (pos 1800000000) a in let w = x_is q (neg_ℤ (pos 1800000000)) b in omega (arith, ints)
 
     se : (q : Loc) → is_south q ≡ true → is_east q ≡ true → q ≡ south_east
-    se q a b = corner q south_east (x_is q (pos 1800000000) b) (y_is q (neg_ℤ (pos 900000000)) a)
+    se q a b = same_loc exact q south_east (x_is q (pos 1800000000) b) (y_is q (neg_ℤ (pos 900000000)) a)
 
     sw : (q : Loc) → is_south q ≡ true → is_west q ≡ true → q ≡ south_west
-    sw q a b = corner q south_west (x_is q (neg_ℤ (pos 1800000000)) b) (y_is q (neg_ℤ (pos 900000000)) a)
+    sw q a b = same_loc exact q south_west (x_is q (neg_ℤ (pos 1800000000)) b) (y_is q (neg_ℤ (pos 900000000)) a)
 
     ne : (q : Loc) → is_north q ≡ true → is_east q ≡ true → q ≡ north_east
-    ne q a b = corner q north_east (x_is q (pos 1800000000) b) (y_is q (pos 900000000) a)
+    ne q a b = same_loc exact q north_east (x_is q (pos 1800000000) b) (y_is q (pos 900000000) a)
 
     nw : (q : Loc) → is_north q ≡ true → is_west q ≡ true → q ≡ north_west
-    nw q a b = corner q north_west (x_is q (neg_ℤ (pos 1800000000)) b) (y_is q (pos 900000000) a)
+    nw q a b = same_loc exact q north_west (x_is q (neg_ℤ (pos 1800000000)) b) (y_is q (pos 900000000) a)
 
     meets_south : (s : Seg) → Contains (land ++ sides) s → Meets is_south are.on_south s
     meets_south s c =

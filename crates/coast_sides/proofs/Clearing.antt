@@ -1,11 +1,6 @@
 -- What is left of segments without conflicts has none.
-use Rattle.std.proofs.Common.{◌≡◌, ℕ, zero, suc, ◌+◌, ◌%◌, ◌<◌, Bool, true, false, cond, List, [], ◌∷◌, ◌++◌, length, get_or, Contains, None, Option, refl, sym, ap, ◌∙◌, arith}
-use Rattle.std.specs.declared.cmp.Ordering.{Ordering}
-use Rattle.std.specs.declared.cmp.Ordering.TheVariants.{Less, Equal, Greater}
+use Rattle.std.proofs.Common.{◌≡◌, ℕ, zero, suc, ◌+◌, ◌%◌, ◌<◌, List, [], ◌∷◌, ◌++◌, length, get_or, Contains, None, Option, refl, sym, ap, ◌∙◌, arith}
 use Rattle.std.specs.List.{cons_option, filter_map, sum_by}
-use Rattle.std.specs.Ordering.{is_eq}
-use Rattle.std.proofs.lemmas.Bool.{false≢true}
-use Rattle.std.proofs.lemmas.Cmp.{tied_itself}
 use Rattle.std.proofs.lemmas.List.Sums.{sum_by-cons}
 use Rattle.plane.specs.Vector.{Vector, east, from_to}
 use Rattle.plane.specs.Edge as plane
@@ -18,42 +13,21 @@ use Rattle.osm_lattice.specs.Conflict.{conflict_of}
 use Rattle.osm_lattice.specs.OrderLaws.{SegmentOrderTellsApart}
 use Rattle.osm_lattice.specs.Seg.{edge_of, seg_cmp}
 use Rattle.lists.specs.Rising.{count_of}
+use Rattle.lists.proofs.ListsKit.{count_some, count_stands}
 use Rattle.osm_segments.specs.Counts.{AreSurvivors}
 use Rattle.osm_segments.specs.Pairs.{conflicts_of, pair_of}
 use Rattle.osm_segments.specs.declared.pairs.Pair.{Pair}
-use Rattle.osm_sides.specs.Survivors.{edges_of}
+use Rattle.osm_sides.specs.Survivors.{plane_edges_of}
 use Rattle.coast_sides.specs.Land.{AreClear}
 use Rattle.coast_sides.proofs.Cancelling.{odd_parity}
 use Rattle.coast_sides.proofs.EvenRings.{seg_cmp_total}
 use lib.IntN.{ℤ}
 
-equal_of : (o : Ordering) → is_eq o ≡ true → o ≡ Equal
-equal_of Less e = absurd (false≢true e)
-equal_of Equal e = refl
-equal_of Greater e = absurd (false≢true e)
-
-count-cons : (s t : Seg) (segs : List Seg) → count_of seg_cmp s (t ∷ segs) ≡ cond {A = ℕ} (is_eq (seg_cmp t s)) 1 0 + count_of seg_cmp s segs
-count-cons s t segs = sum_by-cons (λ u. cond {A = ℕ} (is_eq (seg_cmp u s)) 1 0) t segs
-
 pub stands : SegmentOrderTellsApart → (s : Seg) (segs : List Seg) → 0 < count_of seg_cmp s segs → Contains segs s
-stands exact s [] h = absurd (omega arith)
-stands exact s (t ∷ segs) h = by (is_eq (seg_cmp t s)) refl (stands exact s segs)
-  where
-    by : (b : Bool) → is_eq (seg_cmp t s) ≡ b → (0 < count_of seg_cmp s segs → Contains segs s) → Contains (t ∷ segs) s
-    by true e later = (0, omega arith, (exact t s).0 (equal_of (seg_cmp t s) e))
-    by false e later =
-        let none : cond {A = ℕ} (is_eq (seg_cmp t s)) 1 0 ≡ 0 = ap (λ b. cond {A = ℕ} b 1 0) e in
-        let all = count-cons s t segs in
-        let r = later (omega arith) in
-        (suc r.0, (let l = r.1 in omega arith), r.2)
+stands exact = count_stands seg_cmp (λ s t. (exact s t).0)
 
 pub counted : (s : Seg) (segs : List Seg) (k : ℕ) → k < length segs → get_or segs k s ≡ s → 0 < count_of seg_cmp s segs
-counted s [] k h e = absurd (omega arith)
-counted s (t ∷ segs) zero h e =
-    let one : cond {A = ℕ} (is_eq (seg_cmp t s)) 1 0 ≡ 1 = ap (λ (u : Seg). cond {A = ℕ} (is_eq (seg_cmp u s)) 1 0) e ∙ ap (λ o. cond {A = ℕ} (is_eq o) 1 0) (tied_itself seg_cmp_total s) in
-    let all = count-cons s t segs in
-    omega arith
-counted s (t ∷ segs) (suc k) h e = let r = counted s segs k (omega arith) e in let all = count-cons s t segs in omega arith
+counted = count_some seg_cmp_total
 
 odd_some : (m n : ℕ) → m ≡ n % 2 → 0 < m → 0 < n
 odd_some m zero e h = absurd (omega arith)
@@ -88,14 +62,14 @@ none_conflict (s ∷ segs) clear =
 abbrev pub crossed : ℤ → Vector → Seg → ℕ
 crossed q p s = let e = scaled_edge q (edge_of s) in up_crossing east (from_to p e.from) (from_to p e.to) + down_crossing east (from_to p e.from) (from_to p e.to)
 
-pub crossings_are : (q : ℤ) (p : Vector) (segs : List Seg) → crossing_count east p (scaled_edges q (edges_of segs)) ≡ sum_by (crossed q p) segs
+pub crossings_are : (q : ℤ) (p : Vector) (segs : List Seg) → crossing_count east p (scaled_edges q (plane_edges_of segs)) ≡ sum_by (crossed q p) segs
 crossings_are q p [] = refl
 crossings_are q p (s ∷ segs) =
     let rest = crossings_are q p segs in
     let one = sum_by-cons (crossed q p) s segs in
-    let whole = sum_by-cons (λ (e : plane.Edge). up_crossing east (from_to p e.from) (from_to p e.to) + down_crossing east (from_to p e.from) (from_to p e.to)) (scaled_edge q (edge_of s)) (scaled_edges q (edges_of segs)) in
+    let whole = sum_by-cons (λ (e : plane.Edge). up_crossing east (from_to p e.from) (from_to p e.to) + down_crossing east (from_to p e.from) (from_to p e.to)) (scaled_edge q (edge_of s)) (scaled_edges q (plane_edges_of segs)) in
     omega arith
 
-pub left_parity : SegmentOrderTellsApart → (segs survivors : List Seg) → AreSurvivors segs survivors → (q : ℤ) (p : Vector) → crossing_count east p (scaled_edges q (edges_of survivors)) % 2 ≡ crossing_count east p (scaled_edges q (edges_of segs)) % 2
+pub left_parity : SegmentOrderTellsApart → (segs survivors : List Seg) → AreSurvivors segs survivors → (q : ℤ) (p : Vector) → crossing_count east p (scaled_edges q (plane_edges_of survivors)) % 2 ≡ crossing_count east p (scaled_edges q (plane_edges_of segs)) % 2
 left_parity exact segs survivors are q p =
     ap (λ n. n % 2) (crossings_are q p survivors) ∙ (odd_parity seg_cmp_total (λ s t. (exact s t).0) (crossed q p) survivors segs are.odd ∙ sym (ap (λ n. n % 2) (crossings_are q p segs)))

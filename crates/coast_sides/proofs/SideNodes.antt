@@ -1,15 +1,12 @@
 -- The nodes of a side, each once and in order.
 use Rattle.std.proofs.Common.{◌≡◌, ◌⊎◌, inl, inr, ⊎_elim, ℕ, pos, neg_ℤ, zero, suc, ◌+◌, ◌-◌, ◌<◌, Bool, true, false, cond, min, List, [], ◌∷◌, ◌++◌, length, filter, take, get_or, Contains, refl, sym, ap, subst, ◌∙◌, arith}
-use Rattle.std.specs.declared.cmp.Ordering.{Ordering}
-use Rattle.std.specs.declared.cmp.Ordering.TheVariants.{Less, Equal, Greater}
-use Rattle.std.specs.Ordering.{is_eq}
-use Rattle.std.proofs.lemmas.Bool.{cases_lt, false≢true}
-use Rattle.std.proofs.lemmas.Cmp.{tied_itself}
+use Rattle.std.specs.declared.cmp.Ordering.TheVariants.{Less}
+use Rattle.std.proofs.lemmas.Bool.{cases_lt}
 use Rattle.std.proofs.lemmas.Int.{ints}
 use Rattle.std.proofs.lemmas.List.{append_assoc, flat_map_more, get_or_default, take_more}
 use Rattle.std.proofs.lemmas.List.Elements.{All-contains, Contains-get_or, filter-append, filter_passes}
-use Rattle.std.proofs.lemmas.List.Sums.{sum_by-cons}
-use Rattle.lists.proofs.Integers.{int_eq-true}
+use Rattle.lists.proofs.ListsKit.{count_some, count_stands, int_eq-true, min_some, some_min}
+use Rattle.osm_lattice.proofs.LatticeKit.{before_where}
 use Rattle.osm_lattice.specs.declared.loc.Loc.{Loc}
 use Rattle.osm_lattice.specs.declared.seg.Seg.{Seg}
 use Rattle.osm_lattice.specs.Loc.{loc_cmp}
@@ -23,42 +20,10 @@ use Rattle.coast_sides.specs.declared.side_nodes.WorldSide.{WorldSide}
 use Rattle.coast_sides.specs.declared.side_nodes.WorldSide.TheVariants.{East, North, South, West}
 use Rattle.coast_sides.specs.WorldSides.{greater_corner, lesser_corner, on_side}
 use Rattle.coast_sides.proofs.ClearSides.{within_abs}
-use Rattle.coast_sides.proofs.Corners.{less_means}
 use Rattle.coast_sides.proofs.EvenRings.{loc_cmp_total}
 
-equal_of : (o : Ordering) → is_eq o ≡ true → o ≡ Equal
-equal_of Less e = absurd (false≢true e)
-equal_of Equal e = refl
-equal_of Greater e = absurd (false≢true e)
-
-count-cons : (p q : Loc) (xs : List Loc) → count_of loc_cmp p (q ∷ xs) ≡ cond {A = ℕ} (is_eq (loc_cmp q p)) 1 0 + count_of loc_cmp p xs
-count-cons p q xs = sum_by-cons (λ u. cond {A = ℕ} (is_eq (loc_cmp u p)) 1 0) q xs
-
 stands : LocationOrderTellsApart → (p : Loc) (xs : List Loc) → 0 < count_of loc_cmp p xs → Contains xs p
-stands exact p [] h = absurd (omega arith)
-stands exact p (q ∷ xs) h = by (is_eq (loc_cmp q p)) refl (stands exact p xs)
-  where
-    by : (b : Bool) → is_eq (loc_cmp q p) ≡ b → (0 < count_of loc_cmp p xs → Contains xs p) → Contains (q ∷ xs) p
-    by true e later = (0, omega arith, (exact q p).0 (equal_of (loc_cmp q p) e))
-    by false e later =
-        let none : cond {A = ℕ} (is_eq (loc_cmp q p)) 1 0 ≡ 0 = ap (λ b. cond {A = ℕ} b 1 0) e in
-        let all = count-cons p q xs in
-        let r = later (omega arith) in
-        (suc r.0, (let l = r.1 in omega arith), r.2)
-
-counted : (p : Loc) (xs : List Loc) (k : ℕ) → k < length xs → get_or xs k p ≡ p → 0 < count_of loc_cmp p xs
-counted p [] k h e = absurd (omega arith)
-counted p (q ∷ xs) zero h e =
-    let one : cond {A = ℕ} (is_eq (loc_cmp q p)) 1 0 ≡ 1 = ap (λ (u : Loc). cond {A = ℕ} (is_eq (loc_cmp u p)) 1 0) e ∙ ap (λ o. cond {A = ℕ} (is_eq o) 1 0) (tied_itself loc_cmp_total p) in
-    let all = count-cons p q xs in
-    omega arith
-counted p (q ∷ xs) (suc k) h e = let r = counted p xs k (omega arith) e in let all = count-cons p q xs in omega arith
-
-min_some : (m n : ℕ) → m ≡ min 1 n → 0 < m → 0 < n
-min_some m n e h = omega arith
-
-some_min : (m n : ℕ) → m ≡ min 1 n → 0 < n → 0 < m
-some_min m n e h = omega arith
+stands exact = count_stands loc_cmp (λ p q. (exact p q).0)
 
 -- what a filter keeps
 kept_in : (on : Loc → Bool) (xs : List Loc) (p : Loc) → on p ≡ true → Contains xs p → Contains (filter on xs) p
@@ -92,10 +57,10 @@ IsGreatestOn on c = (on c ≡ true) × ((q : Loc) → on q ≡ true → loc_cmp 
 
 module _ (exact : LocationOrderTellsApart) (on : Loc → Bool) (from to : Loc) (least : IsLeastOn on from) (greatest : IsGreatestOn on to) (land : List Seg) (nodes : List Loc) (rising : IsRising loc_cmp nodes) (once : (p : Loc) → count_of loc_cmp p nodes ≡ min 1 (count_of loc_cmp p (from ∷ (to ∷ filter on (ends_of land))))) where
   goes_in : (p : Loc) → Contains (from ∷ (to ∷ filter on (ends_of land))) p → Contains nodes p
-  goes_in p (k, l, e) = stands exact p nodes (some_min _ _ (once p) (counted p (from ∷ (to ∷ filter on (ends_of land))) k l e))
+  goes_in p (k, l, e) = stands exact p nodes (some_min _ _ (once p) (count_some loc_cmp_total p (from ∷ (to ∷ filter on (ends_of land))) k l e))
 
   comes_from : (p : Loc) → Contains nodes p → Contains (from ∷ (to ∷ filter on (ends_of land))) p
-  comes_from p (k, l, e) = stands exact p (from ∷ (to ∷ filter on (ends_of land))) (min_some _ _ (once p) (counted p nodes k l e))
+  comes_from p (k, l, e) = stands exact p (from ∷ (to ∷ filter on (ends_of land))) (min_some _ _ (once p) (count_some loc_cmp_total p nodes k l e))
 
   part : (p : Loc) → Contains (from ∷ (to ∷ filter on (ends_of land))) p → ((p ≡ from) ⊎ (p ≡ to)) ⊎ Contains (filter on (ends_of land)) p
   part p (zero, l, e) = inl (inl (sym e))
@@ -149,16 +114,16 @@ module _ (exact : LocationOrderTellsApart) (on : Loc → Bool) (from to : Loc) (
 -- ---- the corners of the four sides
 
 pub least_on : (side : WorldSide) → IsLeastOn (on_side side) (lesser_corner side)
-least_on South = (refl, λ q h e. let y = int_eq-true q.y (neg_ℤ (pos 900000000)) h in let w = within_abs q.x 1800000000 q.x_in in let w1 = w.1 in ⊎_elim (λ l. omega (arith, ints)) (λ l. let l1 = l.1 in omega (arith, ints)) (less_means q south_west e))
-least_on East = (refl, λ q h e. let x = int_eq-true q.x (pos 1800000000) h in let w = within_abs q.y 900000000 q.y_in in let w1 = w.1 in ⊎_elim (λ l. omega (arith, ints)) (λ l. let l1 = l.1 in omega (arith, ints)) (less_means q south_east e))
-least_on North = (refl, λ q h e. let y = int_eq-true q.y (pos 900000000) h in let w = within_abs q.x 1800000000 q.x_in in let w1 = w.1 in ⊎_elim (λ l. omega (arith, ints)) (λ l. let l1 = l.1 in omega (arith, ints)) (less_means q north_west e))
-least_on West = (refl, λ q h e. let x = int_eq-true q.x (neg_ℤ (pos 1800000000)) h in let w = within_abs q.y 900000000 q.y_in in let w1 = w.1 in ⊎_elim (λ l. omega (arith, ints)) (λ l. let l1 = l.1 in omega (arith, ints)) (less_means q south_west e))
+least_on South = (refl, λ q h e. let y = int_eq-true q.y (neg_ℤ (pos 900000000)) h in let w = within_abs q.x 1800000000 q.x_in in let w1 = w.1 in ⊎_elim (λ l. omega (arith, ints)) (λ l. let l1 = l.1 in omega (arith, ints)) (before_where q south_west e))
+least_on East = (refl, λ q h e. let x = int_eq-true q.x (pos 1800000000) h in let w = within_abs q.y 900000000 q.y_in in let w1 = w.1 in ⊎_elim (λ l. omega (arith, ints)) (λ l. let l1 = l.1 in omega (arith, ints)) (before_where q south_east e))
+least_on North = (refl, λ q h e. let y = int_eq-true q.y (pos 900000000) h in let w = within_abs q.x 1800000000 q.x_in in let w1 = w.1 in ⊎_elim (λ l. omega (arith, ints)) (λ l. let l1 = l.1 in omega (arith, ints)) (before_where q north_west e))
+least_on West = (refl, λ q h e. let x = int_eq-true q.x (neg_ℤ (pos 1800000000)) h in let w = within_abs q.y 900000000 q.y_in in let w1 = w.1 in ⊎_elim (λ l. omega (arith, ints)) (λ l. let l1 = l.1 in omega (arith, ints)) (before_where q south_west e))
 
 pub greatest_on : (side : WorldSide) → IsGreatestOn (on_side side) (greater_corner side)
-greatest_on South = (refl, λ q h e. let y = int_eq-true q.y (neg_ℤ (pos 900000000)) h in let w = within_abs q.x 1800000000 q.x_in in let w0 = w.0 in ⊎_elim (λ l. omega (arith, ints)) (λ l. let l1 = l.1 in omega (arith, ints)) (less_means south_east q e))
-greatest_on East = (refl, λ q h e. let x = int_eq-true q.x (pos 1800000000) h in let w = within_abs q.y 900000000 q.y_in in let w0 = w.0 in ⊎_elim (λ l. omega (arith, ints)) (λ l. let l1 = l.1 in omega (arith, ints)) (less_means north_east q e))
-greatest_on North = (refl, λ q h e. let y = int_eq-true q.y (pos 900000000) h in let w = within_abs q.x 1800000000 q.x_in in let w0 = w.0 in ⊎_elim (λ l. omega (arith, ints)) (λ l. let l1 = l.1 in omega (arith, ints)) (less_means north_east q e))
-greatest_on West = (refl, λ q h e. let x = int_eq-true q.x (neg_ℤ (pos 1800000000)) h in let w = within_abs q.y 900000000 q.y_in in let w0 = w.0 in ⊎_elim (λ l. omega (arith, ints)) (λ l. let l1 = l.1 in omega (arith, ints)) (less_means north_west q e))
+greatest_on South = (refl, λ q h e. let y = int_eq-true q.y (neg_ℤ (pos 900000000)) h in let w = within_abs q.x 1800000000 q.x_in in let w0 = w.0 in ⊎_elim (λ l. omega (arith, ints)) (λ l. let l1 = l.1 in omega (arith, ints)) (before_where south_east q e))
+greatest_on East = (refl, λ q h e. let x = int_eq-true q.x (pos 1800000000) h in let w = within_abs q.y 900000000 q.y_in in let w0 = w.0 in ⊎_elim (λ l. omega (arith, ints)) (λ l. let l1 = l.1 in omega (arith, ints)) (before_where north_east q e))
+greatest_on North = (refl, λ q h e. let y = int_eq-true q.y (pos 900000000) h in let w = within_abs q.x 1800000000 q.x_in in let w0 = w.0 in ⊎_elim (λ l. omega (arith, ints)) (λ l. let l1 = l.1 in omega (arith, ints)) (before_where north_east q e))
+greatest_on West = (refl, λ q h e. let x = int_eq-true q.x (neg_ℤ (pos 1800000000)) h in let w = within_abs q.y 900000000 q.y_in in let w0 = w.0 in ⊎_elim (λ l. omega (arith, ints)) (λ l. let l1 = l.1 in omega (arith, ints)) (before_where north_west q e))
 
 -- ---- steps
 

@@ -1,7 +1,7 @@
 -- What is left of land and the sides of the world.
 use Rattle.std.proofs.Common.{◌≡◌, ℕ, ℤ, pos, neg_ℤ, ◌+◌, ◌*◌, ◌%◌, ◌<ℤ◌, ◌+ℤ◌, ◌-ℤ◌, ◌*ℤ◌, Bool, true, false, not, ◌&&◌, eqb, List, [], ◌∷◌, ◌++◌, refl, sym, ap, ◌∙◌, arith}
 use Rattle.std.specs.List.{sum_by}
-use Rattle.std.proofs.lemmas.Bool.{eqb-true}
+use Rattle.std.proofs.lemmas.Bool.{and_right, eqb-true}
 use Rattle.std.proofs.lemmas.Int.{ints}
 use Rattle.std.proofs.lemmas.List.Sums.{sum_by-append, sum_by-cons}
 use Rattle.plane.specs.Bit.{bit}
@@ -10,7 +10,7 @@ use Rattle.plane.specs.Height.{is_in_span, is_left_of}
 use Rattle.plane.specs.RayCrossing.{down_crossing, up_crossing}
 use Rattle.plane.specs.Sign.{Sign, is_minus, is_plus, negated, sign}
 use Rattle.plane.specs.Vector.{Vector, east, from_to, orient}
-use Rattle.lists.proofs.Integers.{int_eq-true}
+use Rattle.lists.proofs.ListsKit.{int_eq-true}
 use Rattle.plane.proofs.PlaneKit.{rightward_crossing, rise-y}
 use Rattle.plane.proofs.SignKit.{agree, all4-out, imp, imp-out, minus-is, not-minus-by, plus-is, sign-*, sign-reversed, times}
 use Rattle.winding.specs.EdgeList.{crossing_count}
@@ -22,7 +22,7 @@ use Rattle.osm_lattice.specs.OrderLaws.{LocationOrderTellsApart, SegmentOrderTel
 use Rattle.osm_lattice.proofs.LatticeKit.{rising_edge}
 use Rattle.lists.specs.Rising.{count_of}
 use Rattle.osm_segments.specs.Counts.{AreSurvivors}
-use Rattle.osm_sides.specs.Survivors.{HasEvenNodes, edges_of}
+use Rattle.osm_sides.specs.Survivors.{HasEvenNodes, plane_edges_of}
 use Rattle.coast_join.specs.Joined.{south_east, south_west}
 use Rattle.coast_join.specs.Line.{last_of}
 use Rattle.coast_sides.specs.Water.{AreSides, IsSide, IsWithin, is_east, is_north, is_south, is_west, north_east, north_west, pieces}
@@ -69,12 +69,12 @@ water_even exact exact_2 land sides left even are left_are = survivors_even exac
 abbrev crossed : Vector → Seg → ℕ
 crossed p s = up_crossing east (from_to p (edge_of s).from) (from_to p (edge_of s).to) + down_crossing east (from_to p (edge_of s).from) (from_to p (edge_of s).to)
 
-crossings : (p : Vector) (segs : List Seg) → crossing_count east p (edges_of segs) ≡ sum_by (crossed p) segs
+crossings : (p : Vector) (segs : List Seg) → crossing_count east p (plane_edges_of segs) ≡ sum_by (crossed p) segs
 crossings p [] = refl
 crossings p (s ∷ segs) =
     let rest = crossings p segs in
     let one_more = sum_by-cons (crossed p) s segs in
-    let whole = sum_by-cons (λ (e : plane.Edge). up_crossing east (from_to p e.from) (from_to p e.to) + down_crossing east (from_to p e.from) (from_to p e.to)) (edge_of s) (edges_of segs) in
+    let whole = sum_by-cons (λ (e : plane.Edge). up_crossing east (from_to p e.from) (from_to p e.to) + down_crossing east (from_to p e.from) (from_to p e.to)) (edge_of s) (plane_edges_of segs) in
     omega arith
 
 crossed_is : (p : Vector) (s : Seg) → crossed p s ≡ bit (is_left_of p (edge_of s))
@@ -85,11 +85,7 @@ not_in b c e = rw e refl
 
 -- a side of one height is not crossed
 below_span : (p : Vector) (s : Seg) → is_plus (sign (s.b.y -ℤ p.y)) ≡ false → crossed p s ≡ 0
-below_span p s e = crossed_is p s ∙ not_in (is_in_span p (edge_of s)) _ (and_second (not (is_plus (sign (s.a.y -ℤ p.y)))) (is_plus (sign (s.b.y -ℤ p.y))) e)
-  where
-    and_second : (a b : Bool) → b ≡ false → (a && b) ≡ false
-    and_second true b e = e
-    and_second false b e = refl
+below_span p s e = crossed_is p s ∙ not_in (is_in_span p (edge_of s)) _ (and_right (not (is_plus (sign (s.a.y -ℤ p.y)))) (is_plus (sign (s.b.y -ℤ p.y))) e)
 
 above_span : (p : Vector) (s : Seg) → is_plus (sign (s.a.y -ℤ p.y)) ≡ true → crossed p s ≡ 0
 above_span p s e = crossed_is p s ∙ not_in (is_in_span p (edge_of s)) _ (ap (λ b. not b && is_plus (sign (s.b.y -ℤ p.y))) e)
@@ -201,7 +197,7 @@ module _ (land sides : List Seg) (are : AreSides land sides) (p : Vector) (insid
       let whole = ap (sum_by (crossed p)) are.whole in
       omega arith
 
-pub water_covers : SegmentOrderTellsApart → (land sides left : List Seg) → AreSides land sides → AreSurvivors (land ++ sides) left → (p : Vector) → IsWithin p → crossing_count east p (edges_of left) % 2 + crossing_count east p (edges_of land) % 2 ≡ 1
+pub water_covers : SegmentOrderTellsApart → (land sides left : List Seg) → AreSides land sides → AreSurvivors (land ++ sides) left → (p : Vector) → IsWithin p → crossing_count east p (plane_edges_of left) % 2 + crossing_count east p (plane_edges_of land) % 2 ≡ 1
 water_covers exact land sides left are left_are p inside =
     let parity = odd_parity seg_cmp_total (λ s t. (exact s t).0) (crossed p) left (land ++ sides) left_are.odd in
     let both = sum_by-append (crossed p) land sides in

@@ -9,7 +9,7 @@ use Rattle.osm_lattice.specs.declared.seg.Seg.{Seg}
 use Rattle.osm_lattice.specs.Conflict.{conflict_of}
 use Rattle.osm_segments.specs.Counts.{AreSurvivors}
 use Rattle.osm_sides.specs.Directions.{AreDirected}
-use Rattle.osm_sides.specs.Survivors.{edges_of}
+use Rattle.osm_sides.specs.Survivors.{plane_edges_of}
 use Rattle.plane_edges.specs.Sided.{IsSided, signed_count_at}
 
 -- no two of the segments conflict
@@ -18,7 +18,7 @@ AreClear segs = (s t : Seg) → Contains segs s → Contains segs t → conflict
 
 -- the parity of segments at the point p.x / q, p.y / q
 abbrev pub parity_at : ℤ → Vector → List Seg → ℤ
-parity_at q p segs = pos (crossing_count east p (scaled_edges q (edges_of segs)) % 2)
+parity_at q p segs = pos (crossing_count east p (scaled_edges q (plane_edges_of segs)) % 2)
 
 -- the edges are what is left of the segments once pairs are cancelled, directed by the odd side; they are sided, and their signed count is the parity of the segments, before cancelling, at every point
 pub record IsLand (segs : List Seg) (edges : List Edge) : Type 0 where

@@ -16,7 +16,7 @@ use Rattle.osm_lattice.specs.Seg.{edge_of, segment_between}
 use Rattle.lists.specs.Rising.{IsRising}
 use Rattle.osm_segments.specs.Counts.{AreSurvivors, ends_of}
 use Rattle.osm_sides.specs.Directions.{AreDirected}
-use Rattle.osm_sides.specs.Survivors.{HasEvenNodes, edges_of}
+use Rattle.osm_sides.specs.Survivors.{HasEvenNodes, plane_edges_of}
 use Rattle.plane_edges.specs.Sided.{IsSided, signed_count_at}
 use Rattle.coast_join.specs.Joined.{south_east, south_west}
 use Rattle.coast_join.specs.Line.{first_of, last_of}
@@ -88,7 +88,7 @@ pub record IsWithin (p : Vector) : Type 0 where
 abbrev pub WaterCoversTheRest : Type 0
 WaterCoversTheRest =
     (land sides left : List Seg) → AreSides land sides → AreSurvivors (land ++ sides) left → (p : Vector) → IsWithin p →
-    crossing_count east p (edges_of left) % 2 + crossing_count east p (edges_of land) % 2 ≡ 1
+    crossing_count east p (plane_edges_of left) % 2 + crossing_count east p (plane_edges_of land) % 2 ≡ 1
 
 -- and is even at each location where land is
 abbrev pub WaterIsEven : Type 0

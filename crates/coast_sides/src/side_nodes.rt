@@ -71,7 +71,8 @@ fn add_if_on(nodes: &mut Vec<Loc>, side: WorldSide, p: Loc) -> Result<(), OutOfM
 
 /// Adds the ends of segments that are on the side.
 fn add_ends(nodes: &mut Vec<Loc>, side: WorldSide, land: &[Seg]) -> Result<(), OutOfMemory>
-    ensures { OnOk result (nodes.new.items ≡ nodes.old.items ++ filter (on_side side) (ends_of land.now)) }
+    ensures { OnOk result (nodes.new.items ≡ nodes.old.items
+        ++ filter (on_side side) (ends_of land.now)) }
 {
     for seg in land {
         add_if_on(nodes, side, seg.a)?;
@@ -82,7 +83,8 @@ fn add_ends(nodes: &mut Vec<Loc>, side: WorldSide, land: &[Seg]) -> Result<(), O
 
 /// The nodes at which a side of the world is cut: its corners, and each node of land on it, in order.
 pub fn side_nodes(alloc: Global, side: WorldSide, land: &[Seg]) -> Result<Vec<Loc>, OutOfMemory>
-    ensures { IfOk result (λ v. IsSide (on_side side) (lesser_corner side) (greater_corner side) land.now v.items) }
+    ensures { IfOk result (λ v. IsSide (on_side side) (lesser_corner side) (greater_corner side)
+        land.now v.items) }
 {
     orders_are_exact();
     let mut nodes = Vec::new(alloc);

@@ -20,7 +20,8 @@ pub fn closed_lines_are_even()
 
 /// Adds the segment of a step.
 pub(crate) fn add_step(segs: &mut Vec<Seg>, from: Loc, to: Loc) -> Result<(), OutOfMemory>
-    ensures { OnOk result (segs.new.items ≡ segs.old.items ++ option_to_list (segment_between from to)) }
+    ensures { OnOk result (segs.new.items ≡ segs.old.items
+        ++ option_to_list (segment_between from to)) }
 {
     if let Some(seg) = Seg::new(from, to) {
         segs.push(seg)?;

@@ -2,7 +2,7 @@
 use Rattle.std.proofs.Common.{ap, arith, pos, refl, subst, sym, true, ℕ, ℤ, ◌*ℤ◌, ◌+ℤ◌, ◌-ℤ◌, ◌*◌, ◌∙◌, ◌≡◌, ◌≤◌, unsigned_abs}
 use Rattle.plane.specs.Sign.{Minus, Null, Plus, Sign, are_opposite, sign}
 use Rattle.plane.proofs.SignKit.{lift, same, ◌⊞◌, ◌⊟◌, ◌⊠◌, agree-sum, plus-times, says-at, plus-not-minus, sign-pos, difference_turned}
-use Rattle.lists.proofs.Integers.{int_eq-same, int_eq-true}
+use Rattle.lists.proofs.ListsKit.{int_eq-same, int_eq-true}
 use Rattle.osm_geom.specs.declared.cut.Axis.{Axis}
 use Rattle.osm_geom.specs.declared.cut.Axis.TheVariants.{X, Y}
 use Rattle.osm_geom.specs.declared.cut.Cut.{Cut}

@@ -14,7 +14,7 @@ use Rattle.coast_split.specs.SplitTree.{ceiling_of, floor_of, greater, high_from
 use Rattle.plane.proofs.SignKit.{lift, same, ◌⊞◌, ◌⊟◌, ◌⊠◌, plus-is, plus-times, says-at, sign-pos}
 use Rattle.osm_geom.proofs.GeometryKit.{x_den-some, y_den-some}
 use Rattle.coast_split.proofs.Lists.{next-taken}
-use Rattle.lists.proofs.Integers.{least_trans}
+use Rattle.lists.proofs.ListsKit.{least_trans}
 
 -- ---- fractions and whole numbers
 -- a whole number is at most a fraction, and a fraction at most a whole number

@@ -28,8 +28,7 @@ use Rattle.plane_edges.specs.Multiple.{edge_times, edges_times, point_times}
 use Rattle.coast_split.specs.Half.{AreLinks, AreLinksFrom, AreMeetings, ArePortions, IsHalf, IsPortion, IsPortionEnd, NextLink, NextPortion, ends_up_to, has_portion, is_up_to, line_of, line_order, lower_of, runs_forward}
 use Rattle.plane.proofs.PlaneKit.{same_edge_by, rising-direction, same_point-refl, same_point-true, cross-chain, frame-agree}
 use Rattle.plane.proofs.SignKit.{agree, agree-sum, all, all-out, all2-out, imp, imp-out, same_sign, same_sign-true, times, is_null-true, null-first}
-use Rattle.lists.proofs.Members.{in-left, in-map, in-map-out, pairs-weaker, total-same, pairs-into-map}
-use Rattle.lists.proofs.Sums.{total, total-is, total-map}
+use Rattle.lists.proofs.ListsKit.{in-left, in-map, in-map-out, pairs-into-map, pairs-weaker, total, total-is, total-map, total-same}
 use Rattle.plane_edges.proofs.EdgesKit.{on_line, piece_times, piece_times-rises, step_of}
 use Rattle.coast_split.proofs.CutLines.{line-direction, order-times, side-times}
 use Rattle.std.proofs.lemmas.Bool.{or_right}

@@ -22,8 +22,7 @@ use Rattle.coast_split.specs.SplitTree.{Covers, IsOffCuts, IsOffList, IsTree, Mi
 use Rattle.coast_split.specs.SplitTree.Tree.{Fork, Whole}
 use Rattle.plane.proofs.SignKit.{lift, same, ◌⊞◌, ◌⊟◌, ◌⊠◌, agree-sum, plus-times, says-at, plus-not-minus, difference_turned}
 use Rattle.plane.proofs.PlaneKit.{down_seen, up_seen}
-use Rattle.lists.proofs.Members.{in-either, in-left, in-right}
-use Rattle.lists.proofs.Sums.{total, total-+, total-is}
+use Rattle.lists.proofs.ListsKit.{in-either, in-left, in-right, total, total-+, total-is}
 use Rattle.coast_split.proofs.CutLines.{high-x, high-y, low-x, low-y}
 use Rattle.coast_split.proofs.SidedHalves.{half-beyond, half-kept, half-sided, off-beyond, off-kept}
 

@@ -3,9 +3,7 @@ use Rattle.std.proofs.Common.{Bool, ap, cond, false, not, refl, subst, sym, true
 use Prim.Native.Nat.{◌∣◌}
 use Rattle.std.proofs.Math.Nat.{dvd-mul_left, dvd-mul_left_of_dvd, dvd-mul_right}
 use Rattle.std.specs.Cmp.{IsStrictWeakOrder}
-use Rattle.std.specs.Ordering.{is_lt}
 use Rattle.plane.specs.Order.{order}
-use Rattle.osm_lattice.specs.OrderLaws.{ordering_of}
 use Rattle.plane.specs.Sign.{Minus, Null, Plus, Sign, is_minus, is_plus, negated}
 use Rattle.osm_geom.specs.declared.cut.Cut.{Cut}
 use Rattle.osm_geom.specs.declared.cut.Side.{Side}
@@ -16,7 +14,7 @@ use Rattle.coast_split.specs.Half.{line_order, runs_forward}
 use Rattle.plane.proofs.PlaneKit.{order-null, order-reversed, order-sum}
 use Rattle.plane.proofs.SignKit.{agree, all, all-out, all2, all2-out, imp, imp-out, same_sign, same_sign-true, agree-back}
 use Rattle.plane_edges.proofs.EdgesKit.{den-some, product-some, order_is, same_is_same}
-use Rattle.lists.proofs.Bools.{not-true-out}
+use Rattle.lists.proofs.ListsKit.{not-true-out}
 use Rattle.std.proofs.lemmas.Bool.{not_from_false}
 
 abbrev common : Point → Point → Point → ℕ
@@ -104,8 +102,3 @@ line-strict cut s = record {
       not-true-out (is_plus (R cut s p r)) (imp-out _ _ (imp-out _ _ (imp-out _ _ (all-out (λ c. imp (agree (R cut s p q) (R cut s q r) c) λ _. imp (not (is_plus (R cut s p q))) λ _. imp (not (is_plus (R cut s q r))) λ _. not (is_plus c))
       (all2-out (λ a b. all λ c. imp (agree a b c) λ _. imp (not (is_plus a)) λ _. imp (not (is_plus b)) λ _. not (is_plus c)) refl (R cut s p q) (R cut s q r)) (R cut s p r)) (line-sum cut s p q r)) (not_from_false _ h)) (not_from_false _ g));
 }
-
-pub lt-of : (o : Sign) → is_lt (ordering_of o) ≡ is_plus o
-lt-of Plus = refl
-lt-of Null = refl
-lt-of Minus = refl

@@ -13,8 +13,7 @@ use Rattle.osm_geom.specs.Cut.{cut_order}
 use Rattle.osm_geom.specs.Point.{IsInWorld}
 use Rattle.coast_split.specs.Half.{AreMeetings, ArePortions, IsHalf, ends_up_to, is_up_to}
 use Rattle.coast_split.specs.Walk.{AreSortedEnds, AreWalked, IsEnd, end_on, ends_on}
-use Rattle.lists.proofs.Members.{all-in, in-all, in-either, in-left, in-right}
-use Rattle.lists.proofs.Sums.{total, total-is}
+use Rattle.lists.proofs.ListsKit.{all-in, in-all, in-either, in-left, in-right, total, total-is}
 use Rattle.coast_split.proofs.SortedEnds.{Stands, chain-of, count-ends, different, different-in, into-different, links-of, portions-kept, rising, up_to}
 use Rattle.plane.proofs.SignKit.{is_null-true}
 

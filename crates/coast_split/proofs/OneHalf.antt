@@ -1,9 +1,7 @@
 -- A list has one half on a side of a line.
-use Rattle.std.proofs.Common.{Bool, List, [], ap, false, inl, inr, refl, subst, sym, true, ℕ, ◌*◌, ◌++◌, ◌||◌, ◌∙◌, ◌∷◌, ◌≡◌, ◌≢◌, ◌≤◌, ◌⊎◌}
-use Rattle.std.proofs.Props.{props}
+use Rattle.std.proofs.Common.{Bool, List, [], ap, false, inl, inr, refl, subst, sym, true, ℕ, ◌*◌, ◌++◌, ◌||◌, ◌∙◌, ◌∷◌, ◌≡◌, ◌≤◌, ◌⊎◌}
 use Prim.Native.Nat.{◌∣◌}
 use Rattle.std.proofs.Math.Nat.{dvd-mul_left, dvd-mul_left_of_dvd, dvd-mul_right, dvd-mul_right_of_dvd}
-use mathlib.Core.HLevel.{is_prop→PathP}
 use Rattle.plane.specs.Sign.{Minus, Null, Plus, Sign, is_plus, negated}
 use Rattle.plane.specs.Vector.{orient}
 use Rattle.lists.specs.Member.{EachPair, In}
@@ -11,47 +9,24 @@ use Rattle.winding.specs.Parity.{is_even}
 use Rattle.halving.specs.Line.{side}
 use Rattle.osm_geom.specs.declared.cut.Cut.{Cut}
 use Rattle.osm_geom.specs.declared.cut.Side.{Side}
-use Rattle.osm_geom.specs.declared.edge.Carrier.{Carrier}
 use Rattle.osm_geom.specs.declared.edge.Edge.{Edge}
 use Rattle.osm_geom.specs.declared.point.Point.{Point}
 use Rattle.osm_geom.specs.Carrier.{is_on}
 use Rattle.osm_geom.specs.Cut.{cut_order, side_of}
-use Rattle.osm_geom.specs.Point.{IsInWorld, den_of}
+use Rattle.osm_geom.specs.Point.{den_of}
 use Rattle.plane_edges.specs.Multiple.{point_times}
 use Rattle.coast_split.specs.Half.{AreLinks, AreLinksFrom, AreMeetings, ArePortions, IsHalf, IsPortion, IsPortionEnd, NextLink, NextPortion, ends_up_to, has_portion, line_order, lower_of}
 use Rattle.osm_geom.specs.declared.cut.Side.TheVariants.{Low, High}
 use Rattle.coast_split.specs.SplitTree.{IsTree, Tree, high_cut, is_split, low_cut, middle_of}
 use Rattle.coast_split.specs.SplitTree.Tree.{Fork, Whole}
-use Rattle.lists.proofs.Members.{in-all}
+use Rattle.lists.proofs.ListsKit.{clash, in-all}
 use Rattle.halving.proofs.HalvingKit.{meeting-one, meeting-one-back}
+use Rattle.osm_geom.proofs.GeometryKit.{edge-from-fields}
 use Rattle.plane_edges.proofs.EdgesKit.{den-some, product-some, same_is_same}
 use Rattle.coast_split.proofs.CutLines.{side-times}
 use Rattle.coast_split.proofs.InPlane.{collinear, line_times, side-null-by}
 use Rattle.coast_split.proofs.LineOrders.{line-back}
 use Rattle.coast_split.proofs.Walks.{line-self}
-use Rattle.lists.proofs.Bools.{clash}
-
--- ---- edges with the same ends and carrier are one
-on_prop : (k : Carrier) (p : Point) → IsProp (is_on k p ≡ true)
-on_prop k p = hlevel props
-
-apart_prop : (p q : Point) → IsProp (p ≢ q)
-apart_prop p q = hlevel props
-
-world_prop : (p : Point) → IsProp (IsInWorld p)
-world_prop p = hlevel props
-
-pub one-edge : (e f : Edge) → e.from ≡ f.from → e.to ≡ f.to → e.carrier ≡ f.carrier → e ≡ f
-one-edge e f p q r = λ i. record {
-  from = p i;
-  to = q i;
-  carrier = r i;
-  from_on = is_prop→PathP (λ j. is_on (r j) (p j) ≡ true) (λ j. on_prop (r j) (p j)) e.from_on f.from_on i;
-  to_on = is_prop→PathP (λ j. is_on (r j) (q j) ≡ true) (λ j. on_prop (r j) (q j)) e.to_on f.to_on i;
-  apart = is_prop→PathP (λ j. p j ≢ q j) (λ j. apart_prop (p j) (q j)) e.apart f.apart i;
-  from_in = is_prop→PathP (λ j. IsInWorld (p j)) (λ j. world_prop (p j)) e.from_in f.from_in i;
-  to_in = is_prop→PathP (λ j. IsInWorld (q j)) (λ j. world_prop (q j)) e.to_in f.to_in i;
-}
 
 -- ---- one portion
 module _ (cut : Cut) (s : Side) (e : Edge) (z w : Point) (oz : cut_order cut z ≡ Null) (hz : is_on e.carrier z ≡ true) (ow : cut_order cut w ≡ Null) (hw : is_on e.carrier w ≡ true) where
@@ -113,7 +88,7 @@ module _ (cut : Cut) (s : Side) where
   pub one-portion : (e t u : Edge) → has_portion cut s e ≡ true → IsPortion cut s e t → IsPortion cut s e u → t ≡ u
   one-portion e t u h p q =
       let ends = ends-by e t.from u.from t.to u.to (side_of cut s e.from) (side_of cut s e.to) refl refl h p.from q.from p.to q.to in
-      one-edge t u ends.0 ends.1 (p.carrier ∙ sym q.carrier)
+      edge-from-fields t u ends.0 ends.1 (p.carrier ∙ sym q.carrier)
 
   portions-step : (e : Edge) (b : Bool) → has_portion cut s e ≡ b → (P : List Edge → Type 0) → ((ts us : List Edge) → P ts → P us → ts ≡ us) → (ts us : List Edge) → NextPortion cut s e b P ts → NextPortion cut s e b P us → ts ≡ us
   portions-step e false h P f ts us p q = f ts us p q
@@ -169,7 +144,7 @@ module _ (cut : Cut) (s : Side) where
   links-step z w false P f [] ms p q = absurd p
   links-step z w false P f (e ∷ ls) [] p q = absurd q
   links-step z w false P f (e ∷ ls) (g ∷ ms) p q =
-      ap (λ l. e ∷ l) (f ls ms p.1 q.1) ∙ ap (λ x. x ∷ ms) (one-edge e g (p.0.from ∙ sym q.0.from) (p.0.to ∙ sym q.0.to) (p.0.carrier ∙ sym q.0.carrier))
+      ap (λ l. e ∷ l) (f ls ms p.1 q.1) ∙ ap (λ x. x ∷ ms) (edge-from-fields e g (p.0.from ∙ sym q.0.from) (p.0.to ∙ sym q.0.to) (p.0.carrier ∙ sym q.0.carrier))
 
   one-links-from : (ts : List Edge) (z : Point) (zs : List Point) (ls ms : List Edge) → AreLinksFrom cut s ts z zs ls → AreLinksFrom cut s ts z zs ms → ls ≡ ms
   one-links-from ts z [] ls ms p q = p ∙ sym q

@@ -20,7 +20,7 @@ use Rattle.osm_geom.specs.Point.{den_of}
 use Rattle.plane_edges.specs.Multiple.{point_times}
 use Rattle.coast_split.specs.Half.{AreLinks, AreLinksFrom, ArePortions, IsHalf, IsPortionEnd, NextLink, NextPortion, ends_up_to, has_portion, lower_of}
 use Rattle.plane.proofs.SignKit.{lift, same, ◌⊟◌, ◌⊠◌, agree, says-at, sum-not-plus, sum-not-minus}
-use Rattle.lists.proofs.Members.{in-either}
+use Rattle.lists.proofs.ListsKit.{in-either}
 use Rattle.halving.proofs.HalvingKit.{IsMean, mean-cross, meeting-is-mean, meeting-is-mean-back}
 use Rattle.plane_edges.proofs.EdgesKit.{den-some, product-some}
 use Rattle.osm_geom.proofs.GeometryKit.{order_at}

@@ -17,7 +17,7 @@ use Rattle.osm_geom.specs.Point.{den_of}
 use Rattle.plane_edges.specs.Multiple.{IsCommon, common_den, edges_times, whole_edges}
 use Rattle.plane_edges.specs.Sided.{IsSided, signed_count_at}
 use Rattle.coast_split.specs.Half.{IsHalf, line_of}
-use Rattle.lists.proofs.Members.{all-in, in-all}
+use Rattle.lists.proofs.ListsKit.{all-in, in-all}
 use Rattle.halving.proofs.HalvingKit.{balanced, beyond-at, counted-at, kept-at, off-beyond-at, off-kept-at, half-plain, side-scaled}
 use Rattle.winding.proofs.WindingKit.{all-off-back, all-off-scaled, edges-turned}
 use Rattle.plane_edges.proofs.EdgesKit.{point-regained, common_is_common, product-some, sided_at_each, sign-some, signed_count_at_each, times_further}

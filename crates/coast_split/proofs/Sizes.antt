@@ -19,7 +19,7 @@ use Rattle.plane.proofs.SignKit.{lift, same, ◌⊟◌, ◌⊠◌, plus-times, s
 use Rattle.osm_geom.proofs.GeometryKit.{order_at}
 use Rattle.coast_split.proofs.Envelopes.{AtLeast, AtMost, IsIn, den-of, envelope-in, floor-above, floor-below, in-envelope}
 use Rattle.coast_split.proofs.Shrinks.{half-holds, least-back, most-back}
-use Rattle.lists.proofs.Integers.{least_trans}
+use Rattle.lists.proofs.ListsKit.{least_trans}
 
 difference : (a b k : ℤ) → b *ℤ k -ℤ a *ℤ k ≡ k *ℤ (b -ℤ a)
 difference a b k = let a' = lift a in let b' = lift b in let k' = lift k in same (b' ⊠ k' ⊟ a' ⊠ k') (k' ⊠ (b' ⊟ a')) (omega arith)

@@ -14,12 +14,10 @@ use Rattle.osm_geom.specs.Cut.{cut_order, side_by, side_of}
 use Rattle.osm_geom.specs.Point.{point_order}
 use Rattle.coast_split.specs.Half.{AreLinksFrom, ArePortions, IsPortion, IsPortionEnd, NextLink, NextPortion, ends_up_to, has_portion, is_up_to, line_order, lower_of, runs_forward}
 use Rattle.coast_split.specs.Walk.{IsWalk, end_on, ends_on, is_skipped, up_to_lower}
-use Rattle.lists.proofs.Members.{all-in, in-all}
-use Rattle.lists.proofs.Sums.{total}
+use Rattle.lists.proofs.ListsKit.{all-in, in-all, or-out, total}
 use Rattle.coast_split.proofs.LineOrders.{R, later, line-back, line-same, plus-then, then-plus}
 use Rattle.coast_split.proofs.Walks.{line-self}
 use Rattle.plane.proofs.SignKit.{not-minus-back, is_plus-true}
-use Rattle.lists.proofs.Bools.{or-out}
 use Rattle.std.proofs.lemmas.Bool.{and_right, or_left, or_right}
 
 module _ (cut : Cut) (s : Side) where

@@ -13,7 +13,7 @@ use Rattle.coast_split.specs.SplitTree.{HasTooMany, IsSplitOnto, IsTree, Tree, h
 use Rattle.coast_split.specs.SplitTree.Tree.{Fork, Whole}
 use Rattle.coast_split.proofs.OneHalf.{one-half, one-tree}
 use Rattle.coast_split.proofs.Sizes.{high-shrinks, low-shrinks, width-some}
-use Rattle.lists.proofs.Bools.{clash}
+use Rattle.lists.proofs.ListsKit.{clash}
 
 abs-less : (a b : ℤ) → pos 0 ≤ℤ a → a <ℤ b → unsigned_abs a < unsigned_abs b
 abs-less a b h g = omega (arith, ints)

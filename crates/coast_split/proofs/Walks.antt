@@ -19,7 +19,7 @@ use Rattle.plane.specs.Scale.{scaled_point}
 use Rattle.coast_split.specs.Half.{IsLink, NextLink, line_order, runs_forward}
 use Rattle.coast_split.specs.Walk.{AddsLink, IsEnd, IsWalk, is_skipped, last_of}
 use Rattle.plane.proofs.PlaneKit.{order-self-null}
-use Rattle.lists.proofs.Integers.{int_eq-same}
+use Rattle.lists.proofs.ListsKit.{int_eq-same}
 use Rattle.plane.proofs.SignKit.{null-zero}
 use Rattle.osm_geom.proofs.GeometryKit.{order_at, whole_frac}
 use Rattle.osm_lattice.proofs.LatticeKit.{frac_same, signed}

@@ -126,7 +126,8 @@ fn push_link(
     requires z_end { IsEnd cut z }
     requires w_end { IsEnd cut w }
     requires passed { passed ≤ count }
-    ensures { OnOk result (AddsLink cut z w (is_skipped cut side count passed z w) links.old.items links.new.items) }
+    ensures { OnOk result (AddsLink cut z w (is_skipped cut side count passed z w) links.old.items
+        links.new.items) }
 {
     if !is_skipped(z, w, passed, count, cut, side) {
         links.push(link(z, w, cut))?;

@@ -68,7 +68,8 @@ fn longer_of(edges: &[Edge]) -> Axis
 
 /// The middle of a side.
 fn middle_at(edges: &[Edge], axis: Axis) -> i64
-    ensures value { result ≡ int_div_euclid (low_of axis edges.now +ℤ high_of axis edges.now) (pos 2) }
+    ensures value { result ≡ int_div_euclid (low_of axis edges.now +ℤ high_of axis edges.now)
+        (pos 2) }
     ensures small { unsigned_abs result ≤ 1_800_000_000 }
 {
     (low_end(edges, axis) + high_end(edges, axis)).div_euclid(2)
@@ -143,8 +144,10 @@ fn half_or(alloc: Global, edges: &Edges, cut: Cut, side: Side) -> Result<Edges, 
 
 /// One more leaf.
 fn push_leaf(leaves: &mut Vec<Edges>, edges: Edges, most: u64) -> Result<(), SplitError>
-    ensures leaf { IfOk result (λ _. (leaves.new.items ≡ leaves.old.items ++ (edges ∷ [])) × (length leaves.new.items ≤ most)) }
-    ensures many { IfErr result (λ e. (m : ℕ) → e ≡ TooManyPieces m → (m ≡ most) × (most < length leaves.old.items + 1)) }
+    ensures leaf { IfOk result (λ _. (leaves.new.items ≡ leaves.old.items ++ (edges ∷ []))
+        × (length leaves.new.items ≤ most)) }
+    ensures many { IfErr result (λ e. (m : ℕ) → e ≡ TooManyPieces m
+        → (m ≡ most) × (most < length leaves.old.items + 1)) }
 {
     if leaves.len() as u64 >= most {
         return Err(SplitError::TooManyPieces { most });
@@ -163,8 +166,11 @@ fn split_into(
     leaves: &mut Vec<Edges>,
 ) -> Result<(), SplitError>
     requires { IsSided edges }
-    ensures leaves { IfOk result (λ _. IsSplitOnto settings.now.most_points settings.now.overlap settings.now.most_leaves edges leaves.old.items leaves.new.items) }
-    ensures many { IfErr result (λ e. (m : ℕ) → e ≡ TooManyPieces m → (m ≡ settings.now.most_leaves) × HasTooMany settings.now.most_points settings.now.overlap settings.now.most_leaves edges (length leaves.old.items)) }
+    ensures leaves { IfOk result (λ _. IsSplitOnto settings.now.most_points settings.now.overlap
+        settings.now.most_leaves edges leaves.old.items leaves.new.items) }
+    ensures many { IfErr result (λ e. (m : ℕ) → e ≡ TooManyPieces m
+        → (m ≡ settings.now.most_leaves) × HasTooMany settings.now.most_points settings.now.overlap
+        settings.now.most_leaves edges (length leaves.old.items)) }
 {
     if !is_split(edges.as_slice(), settings) {
         return push_leaf(leaves, edges, settings.most_leaves);
@@ -200,8 +206,11 @@ pub fn is_large(edges: &Edges, settings: &Settings) -> bool
 /// the settings allow.
 pub fn split(alloc: Global, edges: Edges, settings: &Settings) -> Result<Vec<Edges>, SplitError>
     requires { IsSided edges }
-    ensures leaves { IfOk result (λ v. IsSplitOnto settings.now.most_points settings.now.overlap settings.now.most_leaves edges [] v.items) }
-    ensures many { IfErr result (λ e. (m : ℕ) → e ≡ TooManyPieces m → (m ≡ settings.now.most_leaves) × HasTooMany settings.now.most_points settings.now.overlap settings.now.most_leaves edges 0) }
+    ensures leaves { IfOk result (λ v. IsSplitOnto settings.now.most_points settings.now.overlap
+        settings.now.most_leaves edges [] v.items) }
+    ensures many { IfErr result (λ e. (m : ℕ) → e ≡ TooManyPieces m
+        → (m ≡ settings.now.most_leaves) × HasTooMany settings.now.most_points settings.now.overlap
+        settings.now.most_leaves edges 0) }
 {
     let mut leaves = Vec::new(alloc);
     split_into(alloc, edges, settings, &mut leaves)?;

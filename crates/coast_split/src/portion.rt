@@ -90,7 +90,8 @@ fn last_portion(e: &Edge, cut: Cut, side: Side) -> Edge
 
 /// The portion of an edge on the closed side, if it has a point strictly on the side.
 pub fn portion(e: &Edge, cut: Cut, side: Side) -> Option<Edge>
-    ensures { MatchOption result (has_portion cut side e.now ≡ false) (λ t. (has_portion cut side e.now ≡ true) × IsPortion cut side e.now t) }
+    ensures { MatchOption result (has_portion cut side e.now ≡ false)
+        (λ t. (has_portion cut side e.now ≡ true) × IsPortion cut side e.now t) }
 {
     match (place_of(&e.from, cut, side), place_of(&e.to, cut, side)) {
         (Place::Kept, Place::Beyond) => Some(first_portion(e, cut, side)),

@@ -3,9 +3,9 @@ use Rattle.std.proofs.Common.{◌≡◌, FitsSigned, w64, ℤ, get_or, pos, take
 use Rattle.std.specs.List.{IsDistinct, flat_map}
 use Rattle.std.specs.Ordering.{int_eq}
 use Rattle.std.proofs.lemmas.List.{take_all}
-use Rattle.coast_join.specs.Input.{lines_of}
+use Rattle.coast_join.specs.Input.{asides_of, lines_of}
 use Rattle.std.proofs.lemmas.Int.{to_z-of_z}
-use Rattle.coast_join.proofs.Inputs.{asides_more, lines_more, ways_apart}
+use Rattle.coast_join.proofs.Inputs.{flat_more, ways_apart}
 use Rattle.coast_join.proofs.input.coast_input.Goals as goal
 
 pub loop-way-preserved : goal.loop-way-preserved
@@ -16,8 +16,8 @@ loop-way-preserved c =
     let fits : FitsSigned w64 (get_or items i (pos 0)) = search rules in
     let same = to_z-of_z w64 way fits in
     record {
-      ways = lines_more c.args.store.now items c.refs_of.result.now i _ _ _ c.loop-way-test.true same c.refs_of.ensures c.loop-way.invariant.ways c.in_ok-add_way.ensures.ways;
-      aside = asides_more c.args.store.now items c.refs_of.result.now i _ _ _ c.loop-way-test.true same c.refs_of.ensures c.loop-way.invariant.aside c.in_ok-add_way.ensures.asides;
+      ways = flat_more (lines_of c.args.store.now) items i _ _ _ c.loop-way-test.true same c.loop-way.invariant.ways c.in_ok-add_held.ensures.ways;
+      aside = flat_more (asides_of c.args.store.now) items i _ _ _ c.loop-way-test.true same c.loop-way.invariant.aside c.in_ok-add_held.ensures.asides;
     }
 
 pub returns-clause-apart : goal.returns-clause-apart

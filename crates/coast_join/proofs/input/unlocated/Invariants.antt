@@ -1,6 +1,9 @@
-use Rattle.std.proofs.Common.{◌≡◌, filter, is_none, take}
-use Rattle.osm_objects.specs.Objects.{location_of}
+use Rattle.std.proofs.Common.{◌≡◌, ◌++◌, filter, is_none, map}
+use Rattle.opl_reader.specs.declared.object.Ref.{Ref}
+use Rattle.osm_objects.specs.Objects.{place_of}
 use Rattle.coast_join.proofs.input.unlocated.Given as goal
 
-abbrev pub invariant-loop-id : goal.invariant-loop-id
-invariant-loop-id l = l.ids.items ≡ filter (λ id. is_none (location_of l.store id)) (take l.id-index l.refs)
+-- what is there and what the others to come give are all
+abbrev pub invariant-loop-reference : goal.invariant-loop-reference
+invariant-loop-reference l =
+    l.ids.items ++ map (λ (r : Ref). r.node) (filter (λ r. is_none (place_of l.store r)) l.reference-iterator) ≡ map (λ (r : Ref). r.node) (filter (λ r. is_none (place_of l.store r)) l.refs)

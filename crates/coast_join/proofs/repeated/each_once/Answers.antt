@@ -1,4 +1,4 @@
-use Rattle.coast_join.proofs.OnceLemmas.{once_step}
+use Rattle.lists.proofs.ListsKit.{once_step}
 use Rattle.coast_join.proofs.repeated.each_once.Goals as goal
 
 pub loop-item-preserved : goal.loop-item-preserved

@@ -1,5 +1,5 @@
 use Rattle.std.proofs.Common.{◌≡◌, take}
-use Rattle.coast_join.specs.Once.{each_once}
+use Rattle.lists.specs.Once.{each_once}
 use Rattle.coast_join.proofs.repeated.each_once.Given as goal
 
 abbrev pub invariant-loop-item : goal.invariant-loop-item
