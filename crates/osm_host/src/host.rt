@@ -46,8 +46,10 @@ pub trait Host {
     ///
     /// From then on what is left is what the name stands for. A failed open is listed or isn't.
     fn open_input(&mut self, name: &str) -> Result<(), Failed>
-        ensures listed { OnOk result ((seen self.new).opens ≡ appended (seen self.old).opens (input name.now ∷ [])) }
-        ensures listed_or_not { OnErr result (((seen self.new).opens ≡ appended (seen self.old).opens (input name.now ∷ []))
+        ensures listed { OnOk result ((seen self.new).opens
+            ≡ appended (seen self.old).opens (input name.now ∷ [])) }
+        ensures listed_or_not { OnErr result (((seen self.new).opens
+            ≡ appended (seen self.old).opens (input name.now ∷ []))
             ⊎ ((seen self.new).opens ≡ (seen self.old).opens)) }
         ensures begins { OnOk result ((seen self.new).left ≡ (seen self.old).named name.now) }
         ensures none_read { OnOk result ((seen self.new).bytes_read ≡ 0) }
@@ -61,14 +63,18 @@ pub trait Host {
     /// 0 for a buffer that isn't empty means that nothing was left. A failed read takes nothing.
     fn read(&mut self, buf: &mut [u8]) -> Result<usize, Failed>
         ensures count { IfOk result (λ n. n ≤ length buf.old) }
-        ensures taken { IfOk result (λ n. (seen self.old).left ≡ preceded (take n buf.new) (seen self.new).left) }
-        ensures ended { result ≡ Ok 0 → 0 < length buf.old → IfSome (seen self.old).left (λ left. left ≡ []) }
+        ensures taken { IfOk result
+            (λ n. (seen self.old).left ≡ preceded (take n buf.new) (seen self.new).left) }
+        ensures ended { result ≡ Ok 0 → 0 < length buf.old
+            → IfSome (seen self.old).left (λ left. left ≡ []) }
         ensures failed { OnErr result ((seen self.new).left ≡ (seen self.old).left) }
         ensures empty { length buf.old ≡ 0 → result ≡ Ok 0 }
         // Whether it failed is kept until the next read.
         ensures last { (seen self.new).read_failed ≡ not (is_ok result) }
-        ensures counted { IfOk result (λ n. (seen self.new).bytes_read ≡ grown (seen self.old).bytes_read n) }
-        ensures none_counted { OnErr result ((seen self.new).bytes_read ≡ (seen self.old).bytes_read) }
+        ensures counted { IfOk result
+            (λ n. (seen self.new).bytes_read ≡ grown (seen self.old).bytes_read n) }
+        ensures none_counted { OnErr result ((seen self.new).bytes_read
+            ≡ (seen self.old).bytes_read) }
         ensures cause { Counts (seen self.old).read_faults (seen self.new).read_faults result }
         ensures rest { OnlyReads (seen self.old) (seen self.new) };
 
@@ -76,8 +82,10 @@ pub trait Host {
     ///
     /// Without `overwrite` the output has to be new. A failed open is listed or isn't.
     fn open_output(&mut self, name: &str, overwrite: bool) -> Result<(), Failed>
-        ensures listed { OnOk result ((seen self.new).opens ≡ appended (seen self.old).opens (output name.now overwrite ∷ [])) }
-        ensures listed_or_not { OnErr result (((seen self.new).opens ≡ appended (seen self.old).opens (output name.now overwrite ∷ []))
+        ensures listed { OnOk result ((seen self.new).opens
+            ≡ appended (seen self.old).opens (output name.now overwrite ∷ [])) }
+        ensures listed_or_not { OnErr result (((seen self.new).opens
+            ≡ appended (seen self.old).opens (output name.now overwrite ∷ []))
             ⊎ ((seen self.new).opens ≡ (seen self.old).opens)) }
         ensures left { (seen self.new).left ≡ (seen self.old).left }
         ensures bytes_read { (seen self.new).bytes_read ≡ (seen self.old).bytes_read }
@@ -89,7 +97,8 @@ pub trait Host {
     fn write_out(&mut self, bytes: &[u8]) -> Result<usize, Failed>
         ensures count { IfOk result (λ n. n ≤ length bytes.now) }
         ensures some { 0 < length bytes.now → IfOk result (λ n. 0 < n) }
-        ensures written { IfOk result (λ n. (seen self.new).out ≡ appended (seen self.old).out (take n bytes.now)) }
+        ensures written { IfOk result
+            (λ n. (seen self.new).out ≡ appended (seen self.old).out (take n bytes.now)) }
         ensures failed { OnErr result ((seen self.new).out ≡ (seen self.old).out) }
         ensures empty { length bytes.now ≡ 0 → result ≡ Ok 0 }
         ensures cause { Counts (seen self.old).write_faults (seen self.new).write_faults result }
@@ -100,7 +109,8 @@ pub trait Host {
     fn write_report(&mut self, bytes: &[u8]) -> Result<usize, Failed>
         ensures count { IfOk result (λ n. n ≤ length bytes.now) }
         ensures some { 0 < length bytes.now → IfOk result (λ n. 0 < n) }
-        ensures written { IfOk result (λ n. (seen self.new).report ≡ appended (seen self.old).report (take n bytes.now)) }
+        ensures written { IfOk result
+            (λ n. (seen self.new).report ≡ appended (seen self.old).report (take n bytes.now)) }
         ensures failed { OnErr result ((seen self.new).report ≡ (seen self.old).report) }
         ensures empty { length bytes.now ≡ 0 → result ≡ Ok 0 }
         ensures cause { Counts (seen self.old).write_faults (seen self.new).write_faults result }

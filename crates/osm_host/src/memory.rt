@@ -93,7 +93,8 @@ impl MemoryHost {
 
     /// Adds an input. Of two with one name the first counts.
     pub fn add_input(&mut self, name: &str, bytes: &[u8]) -> Result<(), OutOfMemory>
-        ensures ok { OnOk result (self.new ≡ record self.old { inputs = self.old.inputs ++ (name.now, bytes.now) ∷ [] }) }
+        ensures ok { OnOk result (self.new
+            ≡ record self.old { inputs = self.old.inputs ++ (name.now, bytes.now) ∷ [] }) }
         ensures err { OnErr result (self.new ≡ self.old) }
     {
         let name = String::from_str(self.alloc, name)?;
@@ -104,7 +105,8 @@ impl MemoryHost {
 
     /// Adds the name of an output that is there already.
     pub fn take_name(&mut self, name: &str) -> Result<(), OutOfMemory>
-        ensures ok { OnOk result (self.new ≡ record self.old { taken = self.old.taken ++ name.now ∷ [] }) }
+        ensures ok { OnOk result (self.new
+            ≡ record self.old { taken = self.old.taken ++ name.now ∷ [] }) }
         ensures err { OnErr result (self.new ≡ self.old) }
     {
         let name = String::from_str(self.alloc, name)?;
@@ -114,7 +116,8 @@ impl MemoryHost {
 
     /// Lets the call of this number fail, counted from 1.
     pub fn fail_at(&mut self, call: u64) -> Result<(), OutOfMemory>
-        ensures ok { OnOk result (self.new ≡ record self.old { fail = self.old.fail ++ call ∷ [] }) }
+        ensures ok { OnOk result (self.new
+            ≡ record self.old { fail = self.old.fail ++ call ∷ [] }) }
         ensures err { OnErr result (self.new ≡ self.old) }
     {
         self.fail.push(call)?;
@@ -172,18 +175,24 @@ impl Host for MemoryHost {
     ghost seen = { outside_of };
 
     fn open_input(&mut self, name: &str) -> Result<(), Failed>
-        ensures listed { OnOk result ((outside_of self.new).opens ≡ appended (outside_of self.old).opens (input name.now ∷ [])) }
-        ensures listed_or_not { OnErr result (((outside_of self.new).opens ≡ appended (outside_of self.old).opens (input name.now ∷ []))
+        ensures listed { OnOk result ((outside_of self.new).opens
+            ≡ appended (outside_of self.old).opens (input name.now ∷ [])) }
+        ensures listed_or_not { OnErr result (((outside_of self.new).opens
+            ≡ appended (outside_of self.old).opens (input name.now ∷ []))
             ⊎ ((outside_of self.new).opens ≡ (outside_of self.old).opens)) }
-        ensures begins { OnOk result ((outside_of self.new).left ≡ (outside_of self.old).named name.now) }
+        ensures begins { OnOk result ((outside_of self.new).left
+            ≡ (outside_of self.old).named name.now) }
         ensures none_read { OnOk result ((outside_of self.new).bytes_read ≡ 0) }
         ensures told { is_some (outside_of self.new).left ≡ is_some (outside_of self.old).left }
-        ensures cause { Counts (outside_of self.old).open_faults (outside_of self.new).open_faults result }
+        ensures cause { Counts (outside_of self.old).open_faults
+            (outside_of self.new).open_faults result }
         ensures rest { OnlyOpens (outside_of self.old) (outside_of self.new) }
         ensures exact { is_ok result ≡ input_opens self.old name.now }
-        ensures after { OnOk result (self.new ≡ record (with_open self.old (input name.now) (length name.now))
+        ensures after { OnOk result (self.new
+            ≡ record (with_open self.old (input name.now) (length name.now))
             { left = unwrap_or (bytes_named self.old.inputs name.now) []; bytes_read = 0 }) }
-        ensures after_fault { OnErr result (self.new ≡ with_open_fault (with_open self.old (input name.now) (length name.now))) }
+        ensures after_fault { OnErr result (self.new
+            ≡ with_open_fault (with_open self.old (input name.now) (length name.now))) }
     {
         let fails = take_number(&mut self.call, &self.fail);
         let has_room = note_open(
@@ -206,17 +215,23 @@ impl Host for MemoryHost {
 
     fn read(&mut self, buf: &mut [u8]) -> Result<usize, Failed>
         ensures count { IfOk result (λ n. n ≤ length buf.old) }
-        ensures taken { IfOk result (λ n. (outside_of self.old).left ≡ preceded (take n buf.new) (outside_of self.new).left) }
-        ensures ended { result ≡ Ok 0 → 0 < length buf.old → IfSome (outside_of self.old).left (λ left. left ≡ []) }
+        ensures taken { IfOk result (λ n. (outside_of self.old).left
+            ≡ preceded (take n buf.new) (outside_of self.new).left) }
+        ensures ended { result ≡ Ok 0 → 0 < length buf.old
+            → IfSome (outside_of self.old).left (λ left. left ≡ []) }
         ensures failed { OnErr result ((outside_of self.new).left ≡ (outside_of self.old).left) }
         ensures empty { length buf.old ≡ 0 → result ≡ Ok 0 }
         ensures last { (outside_of self.new).read_failed ≡ not (is_ok result) }
-        ensures counted { IfOk result (λ n. (outside_of self.new).bytes_read ≡ grown (outside_of self.old).bytes_read n) }
-        ensures none_counted { OnErr result ((outside_of self.new).bytes_read ≡ (outside_of self.old).bytes_read) }
-        ensures cause { Counts (outside_of self.old).read_faults (outside_of self.new).read_faults result }
+        ensures counted { IfOk result
+            (λ n. (outside_of self.new).bytes_read ≡ grown (outside_of self.old).bytes_read n) }
+        ensures none_counted { OnErr result ((outside_of self.new).bytes_read
+            ≡ (outside_of self.old).bytes_read) }
+        ensures cause { Counts (outside_of self.old).read_faults
+            (outside_of self.new).read_faults result }
         ensures rest { OnlyReads (outside_of self.old) (outside_of self.new) }
         ensures exact { is_ok result ≡ reads self.old (length buf.old) }
-        ensures amount { IfOk result (λ n. n ≡ min (min (length self.old.left) (length buf.old)) self.old.most) }
+        ensures amount { IfOk result
+            (λ n. n ≡ min (min (length self.old.left) (length buf.old)) self.old.most) }
         ensures after { IfOk result (λ n. self.new ≡ record self.old {
           call = risen self.old.call;
           left = drop n self.old.left;
@@ -252,16 +267,21 @@ impl Host for MemoryHost {
     }
 
     fn open_output(&mut self, name: &str, overwrite: bool) -> Result<(), Failed>
-        ensures listed { OnOk result ((outside_of self.new).opens ≡ appended (outside_of self.old).opens (output name.now overwrite ∷ [])) }
-        ensures listed_or_not { OnErr result (((outside_of self.new).opens ≡ appended (outside_of self.old).opens (output name.now overwrite ∷ []))
+        ensures listed { OnOk result ((outside_of self.new).opens
+            ≡ appended (outside_of self.old).opens (output name.now overwrite ∷ [])) }
+        ensures listed_or_not { OnErr result (((outside_of self.new).opens
+            ≡ appended (outside_of self.old).opens (output name.now overwrite ∷ []))
             ⊎ ((outside_of self.new).opens ≡ (outside_of self.old).opens)) }
         ensures left { (outside_of self.new).left ≡ (outside_of self.old).left }
         ensures bytes_read { (outside_of self.new).bytes_read ≡ (outside_of self.old).bytes_read }
-        ensures cause { Counts (outside_of self.old).open_faults (outside_of self.new).open_faults result }
+        ensures cause { Counts (outside_of self.old).open_faults
+            (outside_of self.new).open_faults result }
         ensures rest { OnlyOpens (outside_of self.old) (outside_of self.new) }
         ensures exact { is_ok result ≡ output_opens self.old name.now overwrite }
-        ensures after { OnOk result (self.new ≡ with_open self.old (output name.now overwrite) (length name.now)) }
-        ensures after_fault { OnErr result (self.new ≡ with_open_fault (with_open self.old (output name.now overwrite) (length name.now))) }
+        ensures after { OnOk result (self.new
+            ≡ with_open self.old (output name.now overwrite) (length name.now)) }
+        ensures after_fault { OnErr result (self.new
+            ≡ with_open_fault (with_open self.old (output name.now overwrite) (length name.now))) }
     {
         let fails = take_number(&mut self.call, &self.fail);
         let has_room = note_open(
@@ -280,13 +300,16 @@ impl Host for MemoryHost {
     fn write_out(&mut self, bytes: &[u8]) -> Result<usize, Failed>
         ensures count { IfOk result (λ n. n ≤ length bytes.now) }
         ensures some { 0 < length bytes.now → IfOk result (λ n. 0 < n) }
-        ensures written { IfOk result (λ n. (outside_of self.new).out ≡ appended (outside_of self.old).out (take n bytes.now)) }
+        ensures written { IfOk result (λ n. (outside_of self.new).out
+            ≡ appended (outside_of self.old).out (take n bytes.now)) }
         ensures failed { OnErr result ((outside_of self.new).out ≡ (outside_of self.old).out) }
         ensures empty { length bytes.now ≡ 0 → result ≡ Ok 0 }
-        ensures cause { Counts (outside_of self.old).write_faults (outside_of self.new).write_faults result }
+        ensures cause { Counts (outside_of self.old).write_faults
+            (outside_of self.new).write_faults result }
         ensures rest { OnlyWritesOut (outside_of self.old) (outside_of self.new) }
         ensures exact { is_ok result ≡ writes self.old (length bytes.now) }
-        ensures amount { IfOk result (λ n. n ≡ min (min (length bytes.now) self.old.most) self.old.room) }
+        ensures amount { IfOk result
+            (λ n. n ≡ min (min (length bytes.now) self.old.most) self.old.room) }
         ensures after { IfOk result (λ n. self.new ≡ record self.old {
           call = risen self.old.call;
           room = self.old.room - n;
@@ -310,13 +333,17 @@ impl Host for MemoryHost {
     fn write_report(&mut self, bytes: &[u8]) -> Result<usize, Failed>
         ensures count { IfOk result (λ n. n ≤ length bytes.now) }
         ensures some { 0 < length bytes.now → IfOk result (λ n. 0 < n) }
-        ensures written { IfOk result (λ n. (outside_of self.new).report ≡ appended (outside_of self.old).report (take n bytes.now)) }
-        ensures failed { OnErr result ((outside_of self.new).report ≡ (outside_of self.old).report) }
+        ensures written { IfOk result (λ n. (outside_of self.new).report
+            ≡ appended (outside_of self.old).report (take n bytes.now)) }
+        ensures failed { OnErr result ((outside_of self.new).report
+            ≡ (outside_of self.old).report) }
         ensures empty { length bytes.now ≡ 0 → result ≡ Ok 0 }
-        ensures cause { Counts (outside_of self.old).write_faults (outside_of self.new).write_faults result }
+        ensures cause { Counts (outside_of self.old).write_faults
+            (outside_of self.new).write_faults result }
         ensures rest { OnlyWritesReport (outside_of self.old) (outside_of self.new) }
         ensures exact { is_ok result ≡ writes self.old (length bytes.now) }
-        ensures amount { IfOk result (λ n. n ≡ min (min (length bytes.now) self.old.most) self.old.room) }
+        ensures amount { IfOk result
+            (λ n. n ≡ min (min (length bytes.now) self.old.most) self.old.room) }
         ensures after { IfOk result (λ n. self.new ≡ record self.old {
           call = risen self.old.call;
           room = self.old.room - n;

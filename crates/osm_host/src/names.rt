@@ -16,7 +16,8 @@ pub(crate) struct NamedBytes {
 /// The index of the first input of this name.
 pub(crate) fn find(inputs: &[NamedBytes], name: &str) -> Option<usize>
     ensures within { IfSome result (λ index. index < length inputs.now) }
-    ensures found { option_map (λ index. (get_or (map pair_of inputs.now) index ([], [])).1) result ≡ bytes_named (map pair_of inputs.now) name.now }
+    ensures found { option_map (λ index. (get_or (map pair_of inputs.now) index ([], [])).1) result
+        ≡ bytes_named (map pair_of inputs.now) name.now }
 {
     for (index, input) in inputs.iter().enumerate() {
         if input.name.as_str() == name {
@@ -36,7 +37,8 @@ fn is_taken(taken: &[String], name: &str) -> bool
 /// Whether an output of this name may be made: standard output, a new one, or one to write over.
 #[tactic(auto, using(crate::proofs::NameLemmas::any_map))]
 pub(crate) fn may_be_made(taken: &[String], name: &str, overwrite: bool) -> bool
-    ensures { result ≡ (overwrite || bytes_eq name.now (codes "-") || not (list_any (λ one. bytes_eq one name.now) (map string_bytes taken.now))) }
+    ensures { result ≡ (overwrite || bytes_eq name.now (codes "-")
+        || not (list_any (λ one. bytes_eq one name.now) (map string_bytes taken.now))) }
 {
     overwrite || name == "-" || !is_taken(taken, name)
 }

@@ -39,9 +39,11 @@ pub(crate) fn note_open(
     requires entries_room { vec_len entries.old + room.old ≤ vec_capacity entries.old }
     requires all_names { names_len entries.old.items ≡ length names.old.items }
     ensures noted { result ≡ nat_lt (length name.now) room.old }
-    ensures room { room.new ≡ (if nat_lt (length name.now) room.old then room.old - (length name.now + 1) else room.old) }
+    ensures room { room.new ≡ (if nat_lt (length name.now) room.old
+        then room.old - (length name.now + 1) else room.old) }
     ensures opens { opens_of entries.new.items names.new.items
-        ≡ (if nat_lt (length name.now) room.old then opens_of entries.old.items names.old.items ++ opened_by kind name.now ∷ []
+        ≡ (if nat_lt (length name.now) room.old
+        then opens_of entries.old.items names.old.items ++ opened_by kind name.now ∷ []
         else opens_of entries.old.items names.old.items) }
     ensures names_room_stays { vec_len names.new + room.new ≤ vec_capacity names.new }
     ensures entries_room_stays { vec_len entries.new + room.new ≤ vec_capacity entries.new }

@@ -10,7 +10,8 @@ use crate::host::{Failed, Host};
 /// It makes only writes to the output, and takes no memory.
 pub fn write_all_out<H: Host>(host: &mut H, bytes: &[u8]) -> Result<(), Failed>
     ensures all { OnOk result ((H.seen host.new).out ≡ appended (H.seen host.old).out bytes.now) }
-    ensures front { OnErr result ((n : ℕ) × ((H.seen host.new).out ≡ appended (H.seen host.old).out (take n bytes.now))) }
+    ensures front { OnErr result ((n : ℕ)
+        × ((H.seen host.new).out ≡ appended (H.seen host.old).out (take n bytes.now))) }
     ensures some { OnErr result (0 < length bytes.now) }
     ensures cause { Counts (H.seen host.old).write_faults (H.seen host.new).write_faults result }
     ensures rest { OnlyWritesOut (H.seen host.old) (H.seen host.new) }
@@ -26,8 +27,10 @@ pub fn write_all_out<H: Host>(host: &mut H, bytes: &[u8]) -> Result<(), Failed>
 ///
 /// It makes only writes to the report, and takes no memory.
 pub fn write_all_report<H: Host>(host: &mut H, bytes: &[u8]) -> Result<(), Failed>
-    ensures all { OnOk result ((H.seen host.new).report ≡ appended (H.seen host.old).report bytes.now) }
-    ensures front { OnErr result ((n : ℕ) × ((H.seen host.new).report ≡ appended (H.seen host.old).report (take n bytes.now))) }
+    ensures all { OnOk result ((H.seen host.new).report
+        ≡ appended (H.seen host.old).report bytes.now) }
+    ensures front { OnErr result ((n : ℕ)
+        × ((H.seen host.new).report ≡ appended (H.seen host.old).report (take n bytes.now))) }
     ensures some { OnErr result (0 < length bytes.now) }
     ensures cause { Counts (H.seen host.old).write_faults (H.seen host.new).write_faults result }
     ensures rest { OnlyWritesReport (H.seen host.old) (H.seen host.new) }

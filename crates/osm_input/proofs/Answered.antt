@@ -1,119 +1,19 @@
--- What is answered of an input, from the bytes that were gathered and from what their lines were read as.
-use Rattle.std.proofs.Common.{◌≡◌, ◌∙◌, refl, sym, ap, subst, ℕ, ◌+◌, ◌-◌, ◌<◌, ◌≤◌, true, false, List, [], ◌++◌, length, take, append-nil, length-append, arith, Option, None, Some, IfSome, Result, Ok, Err, nat_lt, ◌⊎◌, inl, inr}
+-- What is answered of an input that is told, from what is answered of the bytes taken off it.
+use Rattle.std.proofs.Common.{◌≡◌, ◌∙◌, refl, sym, ap, subst, ℕ, ◌+◌, ◌-◌, ◌<◌, ◌≤◌, List, [], ◌++◌, length, take, append-nil, length-append, arith, Option, None, Some, IfSome, Result, Ok, Err, nat_lt, ◌⊎◌, inl, inr}
 use Rattle.std.proofs.lemmas.Bool.{cases_lt, lt-ltb, le-leb, lt-leb}
 use Rattle.std.proofs.lemmas.List.{take_all, take-append-le}
 use Rattle.std.proofs.Math.Seq.{take-append-add}
 use Rattle.opl_reader.specs.declared.object.Object.{Object}
 use Rattle.osm_host.specs.Outside.{Outside, preceded, risen, HasRisen}
 use Rattle.osm_input.specs.declared.fault.InputFault.{InputFault}
-use Rattle.osm_input.specs.declared.gather.Gathered.{Gathered}
-use Rattle.osm_input.specs.declared.gather.Stop.{Stop}
-use Rattle.osm_input.specs.declared.gather.Stop.TheVariants.{AtEnd, PastLimit}
-use Rattle.osm_input.specs.declared.gather.Stop.TheVariants as why
 use Rattle.osm_input.specs.declared.reading.ReadError.{ReadError}
 use Rattle.osm_input.specs.declared.reading.ReadError.TheVariants.{BadInput, TooMuchInput, ReadFault, OutOfMemory}
-use Rattle.osm_input.specs.ReadFaults.{LastReadFailed, NoneOrLastReadFailed}
+use Rattle.osm_input.specs.ReadFaults.{LastReadFailed}
 use Rattle.opl_reader.specs.Lines.{lines_of}
 use Rattle.osm_input.specs.Lines.{lines_begun}
 use Rattle.osm_input.specs.Input.{AreGood, IsBadPlace}
-use Rattle.osm_input.specs.Gathering.{IsStop, Gathers, StopCause}
-use Rattle.osm_input.specs.Reading.{HasEnded, lines_counted, IsReadOf, IsAnswer, Took, Reads, IsReadWhole, ReadsOnce}
-use Rattle.osm_input.specs.LineSteps.{lines_counting, IsRead}
+use Rattle.osm_input.specs.Reading.{lines_counted, IsReadOf, IsAnswer, Took, Reads, IsReadWhole, ReadsOnce}
 use Rattle.osm_input.proofs.Prefixes.{front_bad}
-
--- ---- from what was gathered
-
-reads_of : (limit longest : ℕ) (before now : Outside) (r : Result (List Object) ReadError) → Took limit longest before now r → Reads limit longest before now r
-reads_of limit longest before now (Ok objects) t = t
-reads_of limit longest before now (Err (BadInput line fault)) t = t
-reads_of limit longest before now (Err (TooMuchInput most)) t = t
-reads_of limit longest before now (Err ReadFault) t = t
-reads_of limit longest before now (Err OutOfMemory) t = tt
-
-whole_answer : (limit longest : ℕ) (taken : List ℕ) (now : Outside) (r : Result (List Object) ReadError) → length taken ≤ limit → HasEnded now →
-    IsRead longest (lines_of taken) r → IsAnswer limit longest taken now r
-whole_answer limit longest taken now (Ok objects) few ended read = (ended, (few, read.0, read.1))
-whole_answer limit longest taken now (Err (BadInput line fault)) few ended read = inr (ended, few, read)
-whole_answer limit longest taken now (Err (TooMuchInput most)) few ended read = absurd read
-whole_answer limit longest taken now (Err ReadFault) few ended read = absurd read
-whole_answer limit longest taken now (Err OutOfMemory) few ended read = tt
-
-front_answer : (limit longest : ℕ) (taken : List ℕ) (now : Outside) (e : ReadError) → IsRead longest (lines_begun longest (take limit taken)) (Err e) → IsAnswer limit longest taken now (Err e)
-front_answer limit longest taken now (BadInput line fault) read = inl read
-front_answer limit longest taken now (TooMuchInput most) read = absurd read
-front_answer limit longest taken now ReadFault read = absurd read
-front_answer limit longest taken now OutOfMemory read = tt
-
-module _ (limit longest : ℕ) (before now : Outside) (g : Gathered) (bytes : List ℕ) (gathers : Gathers limit before now g) (same : bytes ≡ g.bytes.items) where
-  kept : bytes ≡ take limit gathers.taken
-  kept = same ∙ gathers.kept
-
-  -- the input ended
-  pub whole_read : (r : Result (List Object) ReadError) → g.stop ≡ AtEnd → IsRead longest (lines_counting true longest bytes) r → Reads limit longest before now r
-  whole_read r is read =
-      let stop : IsStop limit gathers.taken now AtEnd = subst (λ (s : Stop). IsStop limit gathers.taken now s) is gathers.stop in
-      let all : bytes ≡ gathers.taken = kept ∙ take_all limit gathers.taken stop.0 in
-      reads_of limit longest before now r (record {
-        taken = gathers.taken;
-        left = gathers.left;
-        counted = gathers.counted;
-        answer = whole_answer limit longest gathers.taken now r stop.0 stop.1 (subst (λ (xs : List ℕ). IsRead longest (lines_of xs) r) all read);
-      })
-
-  -- a line of the prefix is bad
-  pub front_refused : (e : ReadError) → IsRead longest (lines_counting false longest bytes) (Err e) → Reads limit longest before now (Err e)
-  front_refused e read =
-      reads_of limit longest before now (Err e) (record {
-        taken = gathers.taken;
-        left = gathers.left;
-        counted = gathers.counted;
-        answer = front_answer limit longest gathers.taken now e (subst (λ (xs : List ℕ). IsRead longest (lines_begun longest xs) (Err e)) kept read);
-      })
-
-  -- none is, and the limit was passed
-  pub limit_passed : (objects : List Object) → g.stop ≡ PastLimit → IsRead longest (lines_counting false longest bytes) (Ok objects) → Reads limit longest before now (Err (TooMuchInput limit))
-  limit_passed objects is read =
-      let stop : IsStop limit gathers.taken now PastLimit = subst (λ (s : Stop). IsStop limit gathers.taken now s) is gathers.stop in
-      record {
-        taken = gathers.taken;
-        left = gathers.left;
-        counted = gathers.counted;
-        answer = (refl, stop, subst (λ (xs : List ℕ). AreGood longest (lines_begun longest xs)) kept read.0);
-      }
-
-  -- none is, and a read failed
-  pub read_failed : (objects : List Object) → g.stop ≡ why.ReadFault → IsRead longest (lines_counting false longest bytes) (Ok objects) → Reads limit longest before now (Err ReadFault)
-  read_failed objects is read =
-      let few : IsStop limit gathers.taken now why.ReadFault = subst (λ (s : Stop). IsStop limit gathers.taken now s) is gathers.stop in
-      record {
-        taken = gathers.taken;
-        left = gathers.left;
-        counted = gathers.counted;
-        answer = (few, subst (λ (xs : List ℕ). AreGood longest (lines_begun longest xs)) kept read.0);
-      }
-
--- ---- a failed read ends it
-
--- none failed, and the lines are read
-pub none_failed : (longest : ℕ) (lines : List (List ℕ)) (before now : Outside) (r : Result (List Object) ReadError) → IsRead longest lines r → now.read_faults ≡ before.read_faults → ReadsOnce before now r
-none_failed longest lines before now (Ok objects) read same = same
-none_failed longest lines before now (Err (BadInput line fault)) read same = inl same
-none_failed longest lines before now (Err (TooMuchInput most)) read same = same
-none_failed longest lines before now (Err ReadFault) read same = absurd read
-none_failed longest lines before now (Err OutOfMemory) read same = inl same
-
--- the last read may have failed, but a line that was read before is bad, or memory ran out
-pub bad_before : (longest : ℕ) (lines : List (List ℕ)) (before now : Outside) (e : ReadError) → IsRead longest lines (Err e) → NoneOrLastReadFailed before now → ReadsOnce before now (Err e)
-bad_before longest lines before now (BadInput line fault) read last = last
-bad_before longest lines before now (TooMuchInput most) read last = absurd read
-bad_before longest lines before now ReadFault read last = absurd read
-bad_before longest lines before now OutOfMemory read last = last
-
--- the input ended or passed the limit
-pub stopped_at : (before now : Outside) (s t : Stop) → s ≡ t → StopCause before now s → StopCause before now t
-stopped_at before now s t is cause = subst (λ (u : Stop). StopCause before now u) is cause
-
--- ---- of an input that is told
 
 pub within : (limit longest : ℕ) (bytes : List ℕ) → length bytes ≤ limit → lines_counted limit longest bytes ≡ lines_of bytes
 within limit longest bytes few = rw (le-leb (length bytes) limit few) refl

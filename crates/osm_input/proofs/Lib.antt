@@ -1,5 +1,6 @@
 mod Answered
-mod Cuts
-mod Gathering
+mod Begun
 mod Lines
 mod Prefixes
+mod Steps
+mod Taking

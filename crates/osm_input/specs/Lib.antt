@@ -1,4 +1,3 @@
-pub mod Gathering
 pub mod Input
 pub mod Keeps
 pub mod Laws
@@ -6,3 +5,4 @@ pub mod LineSteps
 pub mod Lines
 pub mod ReadFaults
 pub mod Reading
+pub mod Shown

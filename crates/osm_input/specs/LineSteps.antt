@@ -1,12 +1,22 @@
--- Words of private clauses on the lines of an input. No public contract cites it.
-use Rattle.std.specs.Prelude.{◌≡◌, ℕ, Bool, nat_lt, List, length, Option, Some, Result, Ok, Err, if◌then◌else◌}
-use Rattle.std.specs.List.{slice_split}
+-- Words of private clauses on the lines of an input that comes in pieces. No public contract cites it.
+use Rattle.std.specs.Prelude.{◌≡◌, ◌<◌, ℕ, List, ◌++◌, length, take, Option, None, Some, Result, Ok, Err}
+use Rattle.std.specs.List.{filter_map}
+use Rattle.opl_reader.specs.declared.feed.FeedError.{FeedError}
+use Rattle.opl_reader.specs.declared.feed.FeedError.TheVariants as feed
 use Rattle.opl_reader.specs.declared.object.Object.{Object}
+use Rattle.opl_reader.specs.Chunking.{HandsOut}
+use Rattle.opl_reader.specs.Lines.{whole_lines, lines_of}
+use Rattle.opl_reader.specs.Reader.{Reader}
+use Rattle.opl_reader.specs.Told.{object_told}
+use Rattle.osm_objects.specs.Objects.{with_object}
 use Rattle.osm_input.specs.declared.fault.InputFault.{InputFault}
+use Rattle.osm_input.specs.declared.fault.InputFault.TheVariants as fault
 use Rattle.osm_input.specs.declared.reading.ReadError.{ReadError}
 use Rattle.osm_input.specs.declared.reading.ReadError.TheVariants.{BadInput, TooMuchInput, ReadFault, OutOfMemory}
-use Rattle.opl_reader.specs.Lines.{is_newline, with_last}
 use Rattle.osm_input.specs.Input.{objects_told, AreGood, IsBadPlace}
+use Rattle.osm_input.specs.Lines.{lines_begun}
+
+-- ---- one line
 
 -- the error names this line and what is wrong with it, or memory ran out
 abbrev pub IsLineError : ℕ → Option InputFault → ReadError → Type 0
@@ -15,18 +25,56 @@ IsLineError number found (TooMuchInput limit) = ⊥
 IsLineError number found ReadFault = ⊥
 IsLineError number found OutOfMemory = Unit {0}
 
--- whether the bytes behind the last newline are a line that counts, in a whole input or in a prefix of one
-abbrev pub last_counts : Bool → ℕ → List ℕ → Bool
-last_counts is_whole longest line = if is_whole then nat_lt 0 (length line) else nat_lt longest (length line)
+-- the error of an input whose lines were refused so
+abbrev pub IsRefusal : FeedError → ReadError → Type 0
+IsRefusal (feed.Line number found) error = error ≡ BadInput number (fault.Line found)
+IsRefusal (feed.TooLong number) error = error ≡ BadInput number fault.TooLong
+IsRefusal feed.Ended error = ⊥
+IsRefusal feed.OutOfMemory error = error ≡ OutOfMemory
 
--- the lines that count
-abbrev pub lines_counting : Bool → ℕ → List ℕ → List (List ℕ)
-lines_counting is_whole longest bytes = with_last (last_counts is_whole longest) (slice_split is_newline bytes)
+-- objects and that of a further line, where it is live
+abbrev pub with_live : List Object → Option Object → List Object
+with_live objects None = objects
+with_live objects (Some object) = with_object objects object
 
--- the objects of lines of which none is bad, or the bad place among them, or memory ran out
-abbrev pub IsRead : ℕ → List (List ℕ) → Result (List Object) ReadError → Type 0
-IsRead longest lines (Ok objects) = AreGood longest lines × (objects ≡ objects_told lines)
-IsRead longest lines (Err (BadInput line fault)) = IsBadPlace longest lines line fault
-IsRead longest lines (Err (TooMuchInput limit)) = ⊥
-IsRead longest lines (Err ReadFault) = ⊥
-IsRead longest lines (Err OutOfMemory) = Unit {0}
+-- ---- pieces
+
+-- The whole lines of these bytes were read, and none is bad; these are their objects, and the reader goes on behind them.
+pub record Holds (longest : ℕ) (bytes : List ℕ) (r : Reader) (objects : List Object) : Type 0 where
+  pub fed : HandsOut longest bytes (filter_map object_told (whole_lines bytes)) r
+  pub good : AreGood longest (whole_lines bytes)
+  pub told : objects ≡ objects_told (whole_lines bytes)
+
+-- The bad place of bytes with a piece behind them is a line that the bytes alone don't have yet.
+pub record IsBadBehind (longest : ℕ) (bytes piece : List ℕ) (number : ℕ) (found : InputFault) : Type 0 where
+  pub bad : IsBadPlace longest (lines_begun longest (bytes ++ piece)) number found
+  pub behind : length (lines_begun longest bytes) < number
+
+-- why a piece behind these bytes is refused
+abbrev pub IsRefusedBy : ℕ → List ℕ → List ℕ → ReadError → Type 0
+IsRefusedBy longest bytes piece (BadInput number found) = IsBadBehind longest bytes piece number found
+IsRefusedBy longest bytes piece (TooMuchInput limit) = ⊥
+IsRefusedBy longest bytes piece ReadFault = ⊥
+IsRefusedBy longest bytes piece OutOfMemory = Unit {0}
+
+-- so many bytes of a piece were read behind these, or it is refused
+abbrev pub ReadsSome : ℕ → List ℕ → List ℕ → Reader → List Object → Result ℕ ReadError → Type 0
+ReadsSome longest bytes piece r objects (Ok used) = Holds longest (bytes ++ take used piece) r objects
+ReadsSome longest bytes piece r objects (Err error) = IsRefusedBy longest bytes piece error
+
+-- a piece was read behind these bytes, or it is refused
+abbrev pub ReadsPiece : {A : Type 0} → ℕ → List ℕ → List ℕ → Reader → List Object → Result A ReadError → Type 0
+ReadsPiece longest bytes piece r objects (Ok done) = Holds longest (bytes ++ piece) r objects
+ReadsPiece longest bytes piece r objects (Err error) = IsRefusedBy longest bytes piece error
+
+-- ---- all lines
+
+-- The objects of all lines of these bytes, of which none is bad; or their bad place, a line that doesn't count before the input
+-- ends; or memory ran out.
+abbrev pub ReadsAll : ℕ → List ℕ → Result (List Object) ReadError → Type 0
+ReadsAll longest bytes (Ok objects) = AreGood longest (lines_of bytes) × (objects ≡ objects_told (lines_of bytes))
+ReadsAll longest bytes (Err (BadInput number found)) =
+    IsBadPlace longest (lines_of bytes) number found × (length (lines_begun longest bytes) < number)
+ReadsAll longest bytes (Err (TooMuchInput limit)) = ⊥
+ReadsAll longest bytes (Err ReadFault) = ⊥
+ReadsAll longest bytes (Err OutOfMemory) = Unit {0}

@@ -1,5 +1,5 @@
 -- The lines of an input: its bytes parted at LF.
-use Rattle.std.specs.Prelude.{ℕ, Bool, ◌==◌, nat_lt, List, [], ◌∷◌, length, if◌then◌else◌}
+use Rattle.std.specs.Prelude.{ℕ, nat_lt, List, length}
 use Rattle.std.specs.List.{slice_split}
 use Rattle.opl_reader.specs.Lines.{is_newline, with_last}
 

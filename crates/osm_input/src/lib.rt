@@ -1,9 +1,10 @@
-//! An opened input, read to its end into a store of its objects: the lines of its bytes, its bad place, and its limit.
+//! An opened input, read piece by piece into a store of its objects: the lines of its bytes, its bad
+//! place, and its limit.
 #![tactic(auto)]
 
 mod fault;
-mod gather;
 mod laws;
+mod pieces;
 mod reading;
 
 pub use fault::InputFault;

@@ -22,7 +22,8 @@ pub fn write_report<H: Host>(host: &mut H, piece: &[u8]) -> Result<(), Failed>
 
 /// Writes report lines, each as a piece of its own. None is written behind one that couldn't be.
 pub fn write_lines<H: Host>(host: &mut H, lines: &[Vec<u8>]) -> Result<(), Failed>
-    ensures { Wrote (map to_report (lines_text lines.now)) (H.seen host.old) (H.seen host.new) result }
+    ensures { Wrote (map to_report (lines_text lines.now)) (H.seen host.old) (H.seen host.new)
+        result }
 {
     for line in lines {
         if let Err(failed) = write_report(host, line) {

@@ -1,13 +1,12 @@
-use Rattle.std.proofs.Common.{◌≡◌, ◌+◌, length}
-use Rattle.osm_host.specs.Outside.{preceded, grown, OnlyReads}
+use Rattle.std.proofs.Common.{◌≡◌}
+use Rattle.osm_host.specs.Outside.{OnlyReads}
 use Rattle.osm_input.specs.Keeps.{Keeps}
-use Rattle.osm_input.proofs.gather.gather.Given as goal
+use Rattle.osm_input.proofs.Taking.{Taken}
+use Rattle.osm_input.proofs.reading.read_pieces.Given as goal
 
 abbrev pub invariant-loop-count : goal.invariant-loop-count
 invariant-loop-count g l = record {
-  size : length l.bytes.items + l.room ≡ l.limit;
-  taken : (g.H.Host.seen l.fn.host).left ≡ preceded l.bytes.items (g.H.Host.seen l.host).left;
-  counted : (g.H.Host.seen l.host).bytes_read ≡ grown (g.H.Host.seen l.fn.host).bytes_read (length l.bytes.items);
+  taken : Taken l.limit l.longest (g.H.Host.seen l.fn.host) (g.H.Host.seen l.host) l.lines l.store l.room;
   no_fault : (g.H.Host.seen l.host).read_faults ≡ (g.H.Host.seen l.fn.host).read_faults;
   keeps : Keeps (g.H.Host.seen l.fn.host) (g.H.Host.seen l.host);
   rest : OnlyReads (g.H.Host.seen l.fn.host) (g.H.Host.seen l.host);

@@ -1,0 +1,217 @@
+-- The bytes that are taken off an input, piece by piece, and what is answered of them.
+use Rattle.std.proofs.Common.{◌≡◌, ◌∙◌, refl, sym, ap, subst, ℕ, ◌+◌, ◌-◌, ◌<◌, ◌≤◌, min, List, [], ◌++◌, length, take, append-nil, length-append, length-take, arith, Option, None, Some, IfSome, Result, Ok, Err, inl, inr}
+use Rattle.std.proofs.lemmas.Bool.{cases_lt}
+use Rattle.std.proofs.lemmas.List.{take_all, take-take, take-append-le}
+use Rattle.std.proofs.Math.Seq.{take-append-add}
+use Rattle.opl_reader.specs.declared.object.Object.{Object}
+use Rattle.opl_reader.specs.Lines.{whole_lines}
+use Rattle.opl_reader.specs.Reader.{Reader, new_reader}
+use Rattle.osm_host.specs.Outside.{Outside, preceded, grown, OnlyReads}
+use Rattle.osm_host.specs.Laws.{PrecedesInTurn}
+use Rattle.osm_input.specs.declared.fault.InputFault.{InputFault}
+use Rattle.osm_input.specs.declared.reading.ReadError.{ReadError}
+use Rattle.osm_input.specs.declared.reading.ReadError.TheVariants.{BadInput, TooMuchInput, ReadFault, OutOfMemory}
+use Rattle.osm_input.specs.Input.{AreGood, IsBadPlace}
+use Rattle.osm_input.specs.Keeps.{Keeps}
+use Rattle.osm_input.specs.Lines.{lines_begun}
+use Rattle.osm_input.specs.LineSteps.{Holds, IsRefusedBy, ReadsAll}
+use Rattle.osm_input.specs.Reading.{HasEnded, IsAnswer, Took, Reads, ReadsOnce}
+use Rattle.osm_input.specs.Shown.{IsShownLast, StopsThere}
+use Rattle.osm_input.proofs.Begun.{begun_whole, fewer_before}
+use Rattle.osm_input.proofs.Steps.{nothing_read}
+
+-- These bytes were taken off the input, no more than the limit, and are read.
+pub record Taken (limit longest : ℕ) (before now : Outside) (r : Reader) (objects : List Object) (room : ℕ) : Type 0 where
+  pub bytes : List ℕ
+  pub holds : Holds longest bytes r objects
+  pub size : length bytes + room ≡ limit
+  pub left : before.left ≡ preceded bytes now.left
+  pub counted : now.bytes_read ≡ grown before.bytes_read (length bytes)
+
+grown_twice : (first a b c middle now : ℕ) → middle ≡ grown first a → now ≡ grown middle b → c ≡ a + b → now ≡ grown first c
+grown_twice first a b c middle now was is sum = omega arith
+
+-- no bytes before a stream change nothing
+nothing_preceded : (stream : Option (List ℕ)) → preceded [] stream ≡ stream
+nothing_preceded None = refl
+nothing_preceded (Some bytes) = refl
+
+pub nothing_taken : (limit longest : ℕ) (now : Outside) (r : Reader) (objects : List Object) → r ≡ new_reader longest → objects ≡ [] → Taken limit longest now now r objects limit
+nothing_taken limit longest now r objects new none = record {
+  bytes = [];
+  holds = subst (λ (z : Reader). Holds longest [] z objects) (sym new) (subst (λ (os : List Object). Holds longest [] (new_reader longest) os) (sym none) (nothing_read longest));
+  size = omega arith;
+  left = sym (nothing_preceded now.left);
+  counted = omega arith;
+}
+
+pub keeps_all : (now : Outside) → Keeps now now
+keeps_all now = record { named = refl; told = refl; opens = omega arith; reads = omega arith; writes = omega arith }
+
+pub no_reads : (now : Outside) → OnlyReads now now
+no_reads now = record { named = refl; out = refl; report = refl; opens = refl; open_faults = refl; write_faults = refl }
+
+none_begun : (longest : ℕ) (bytes : List ℕ) (r : Reader) (objects : List Object) → Holds longest bytes r objects → lines_begun longest bytes ≡ whole_lines bytes
+none_begun longest bytes r objects h = begun_whole longest bytes (subst (λ (zs : List ℕ). length zs ≤ longest) h.fed.unfinished h.fed.short)
+
+-- what is left of two lists that are one, where the second part of the one isn't longer than that of the other
+front_of : (front behind bytes piece : List ℕ) → bytes ++ piece ≡ front ++ behind → length piece ≤ length behind → (more : List ℕ) × (bytes ≡ front ++ more)
+front_of front behind bytes piece is less =
+    let n : ℕ = length bytes - length front in
+    let sizes : length (bytes ++ piece) ≡ length (front ++ behind) = ap length is in
+    let sum : length front + n ≡ length bytes = omega (arith, length-append bytes piece, length-append front behind) in (
+      take n behind,
+      sym (take_all (length bytes) bytes (omega arith))
+          ∙ (sym (take-append-le (length bytes) bytes piece (omega arith))
+          ∙ (ap (take (length bytes)) is
+          ∙ subst (λ (m : ℕ). take m (front ++ behind) ≡ front ++ take n behind) sum (take-append-add front behind n))),
+    )
+
+-- a line that the bytes before the last piece don't have is shown by that piece
+shown_last : (longest : ℕ) (bytes piece : List ℕ) (number : ℕ) → length (lines_begun longest bytes) < number → length piece ≤ 65536 → IsShownLast longest (bytes ++ piece) number
+shown_last longest bytes piece number new most front behind is many =
+    let more = front_of front behind bytes piece is (omega arith) in
+    let fewer : length (lines_begun longest front) ≤ length (lines_begun longest bytes) =
+    subst (λ (zs : List ℕ). length (lines_begun longest front) ≤ length (lines_begun longest zs)) (sym more.1) (fewer_before longest front more.0) in
+    omega arith
+
+module _ (limit longest : ℕ) (before middle : Outside) (r : Reader) (objects : List Object) (room : ℕ) (t : Taken limit longest before middle r objects room) (now : Outside) where
+  -- ---- a read failed
+
+  pub read_failed : now.left ≡ middle.left → now.bytes_read ≡ middle.bytes_read → Took limit longest before now (Err ReadFault)
+  read_failed left counted =
+      let size = t.size in
+      let all : take limit t.bytes ≡ t.bytes = take_all limit t.bytes (omega arith) in
+      record {
+        taken = t.bytes;
+        left = t.left ∙ ap (preceded t.bytes) (sym left);
+        counted = counted ∙ t.counted;
+        answer = (omega arith, subst (λ (ls : List (List ℕ)). AreGood longest ls) (sym (ap (lines_begun longest) all ∙ none_begun longest t.bytes r objects t.holds)) t.holds.good);
+      }
+
+  -- ---- the input ended
+
+  module _ (buffer : List ℕ) (count : ℕ) (none : count ≡ 0) (left : middle.left ≡ preceded (take count buffer) now.left) (counted : now.bytes_read ≡ grown middle.bytes_read count)
+      (nothing : IfSome middle.left (λ left. left ≡ [])) where
+    still_left : middle.left ≡ now.left
+    still_left = left ∙ (ap (λ (n : ℕ). preceded (take n buffer) now.left) none ∙ nothing_preceded now.left)
+
+    has_ended : HasEnded now
+    has_ended = subst (λ (o : Option (List ℕ)). IfSome o (λ left. left ≡ [])) still_left nothing
+
+    took : (result : Result (List Object) ReadError) → IsAnswer limit longest t.bytes now result → Took limit longest before now result
+    took result answer = record {
+      taken = t.bytes;
+      left = t.left ∙ ap (preceded t.bytes) still_left;
+      counted = grown_twice before.bytes_read (length t.bytes) count (length t.bytes) _ _ t.counted counted (omega arith);
+      answer = answer;
+    }
+
+    pub end_reads : (result : Result (List Object) ReadError) → ReadsAll longest t.bytes result → Reads limit longest before now result
+    end_reads (Ok all) read = let size = t.size in took (Ok all) (has_ended, (omega arith, read.0, read.1))
+    end_reads (Err (BadInput line fault)) read = let size = t.size in took (Err (BadInput line fault)) (inr (has_ended, omega arith, read.0))
+    end_reads (Err (TooMuchInput most)) read = absurd read
+    end_reads (Err ReadFault) read = absurd read
+    end_reads (Err OutOfMemory) read = tt
+
+    pub end_there : (result : Result (List Object) ReadError) → ReadsAll longest t.bytes result → StopsThere limit longest before now result
+    unfolding took
+    end_there (Ok all) read = tt
+    end_there (Err (BadInput line fault)) read =
+        let size = t.size in (
+          took (Err (BadInput line fault)) (inr (has_ended, omega arith, read.0)),
+          subst (λ (zs : List ℕ). IsShownLast longest zs line) (append-nil t.bytes) (shown_last longest t.bytes [] line read.1 (omega arith)),
+        )
+    end_there (Err (TooMuchInput most)) read = tt
+    end_there (Err ReadFault) read = tt
+    end_there (Err OutOfMemory) read = tt
+
+    pub end_at_once : (result : Result (List Object) ReadError) → ReadsAll longest t.bytes result → now.read_faults ≡ before.read_faults → ReadsOnce before now result
+    end_at_once (Ok all) read same = same
+    end_at_once (Err (BadInput line fault)) read same = inl same
+    end_at_once (Err (TooMuchInput most)) read same = absurd read
+    end_at_once (Err ReadFault) read same = absurd read
+    end_at_once (Err OutOfMemory) read same = inl same
+
+  -- ---- a piece was taken
+
+  module _ (buffer : List ℕ) (count within : ℕ) (in_buffer : count ≤ length buffer) (left : middle.left ≡ preceded (take count buffer) now.left)
+      (counted : now.bytes_read ≡ grown middle.bytes_read count) (in_turn : PrecedesInTurn ℕ) (least : within ≡ min room count) where
+    abbrev all_taken : List ℕ
+    all_taken = t.bytes ++ take count buffer
+
+    taken_left : before.left ≡ preceded all_taken now.left
+    taken_left = t.left ∙ (ap (preceded t.bytes) left ∙ in_turn t.bytes (take count buffer) now.left)
+
+    taken_size : length all_taken ≡ length t.bytes + count
+    taken_size = omega (arith, length-append t.bytes (take count buffer), length-take count buffer)
+
+    taken_counted : now.bytes_read ≡ grown before.bytes_read (length all_taken)
+    taken_counted = grown_twice before.bytes_read (length t.bytes) count (length all_taken) _ _ t.counted counted taken_size
+
+    took_piece : (e : ReadError) → IsAnswer limit longest all_taken now (Err e) → Took limit longest before now (Err e)
+    took_piece e answer = record { taken = all_taken; left = taken_left; counted = taken_counted; answer = answer }
+
+    -- what of them is within the limit
+    room_taken : take room (take count buffer) ≡ take within buffer
+    room_taken = elim (cases_lt room count) [
+      | inl less ↦
+          let same : room ≡ within = omega arith in
+          take-take room count buffer (omega arith) ∙ ap (λ (n : ℕ). take n buffer) same
+      | inr more ↦
+          let same : count ≡ within = omega arith in
+          take_all room (take count buffer) (omega (arith, length-take count buffer)) ∙ ap (λ (n : ℕ). take n buffer) same
+    ]
+
+    within_limit : take limit all_taken ≡ t.bytes ++ take within buffer
+    within_limit =
+        subst (λ (n : ℕ). take n all_taken ≡ t.bytes ++ take within buffer) t.size
+        (take-append-add t.bytes (take count buffer) room ∙ ap (λ (xs : List ℕ). t.bytes ++ xs) room_taken)
+
+    bad_answer : (line : ℕ) (fault : InputFault) → IsBadPlace longest (lines_begun longest (t.bytes ++ take within buffer)) line fault → Took limit longest before now (Err (BadInput line fault))
+    bad_answer line fault bad = took_piece (BadInput line fault) (inl (subst (λ (zs : List ℕ). IsBadPlace longest (lines_begun longest zs) line fault) (sym within_limit) bad))
+
+    -- it is refused
+    pub piece_reads : (e : ReadError) → IsRefusedBy longest t.bytes (take within buffer) e → Reads limit longest before now (Err e)
+    piece_reads (BadInput line fault) refused = bad_answer line fault refused.bad
+    piece_reads (TooMuchInput most) refused = absurd refused
+    piece_reads ReadFault refused = absurd refused
+    piece_reads OutOfMemory refused = tt
+
+    pub piece_there : count ≤ 65536 → (e : ReadError) → IsRefusedBy longest t.bytes (take within buffer) e → StopsThere limit longest before now (Err e)
+    unfolding bad_answer took_piece
+    piece_there few (BadInput line fault) refused =
+        (bad_answer line fault refused.bad, shown_last longest t.bytes (take count buffer) line refused.behind (omega (arith, length-take count buffer)))
+    piece_there few (TooMuchInput most) refused = tt
+    piece_there few ReadFault refused = tt
+    piece_there few OutOfMemory refused = tt
+
+    pub piece_at_once : (e : ReadError) → IsRefusedBy longest t.bytes (take within buffer) e → now.read_faults ≡ before.read_faults → ReadsOnce before now (Err e)
+    piece_at_once (BadInput line fault) refused same = inl same
+    piece_at_once (TooMuchInput most) refused same = absurd refused
+    piece_at_once ReadFault refused same = absurd refused
+    piece_at_once OutOfMemory refused same = inl same
+
+    module _ (next : Reader) (more : List Object) (holds : Holds longest (t.bytes ++ take within buffer) next more) where
+      -- there is more than the limit
+      pub limit_passed : within < count → Took limit longest before now (Err (TooMuchInput limit))
+      limit_passed less =
+          let size = t.size in
+          let sum = taken_size in
+          let lines : lines_begun longest (take limit all_taken) ≡ whole_lines (t.bytes ++ take within buffer) =
+          ap (lines_begun longest) within_limit ∙ none_begun longest (t.bytes ++ take within buffer) next more holds in
+          took_piece (TooMuchInput limit) (refl, omega arith, subst (λ (ls : List (List ℕ)). AreGood longest ls) (sym lines) holds.good)
+
+      -- all of it is within the limit
+      pub piece_taken : (rest : ℕ) → count ≤ within → rest ≡ room - within → Taken limit longest before now next more rest
+      piece_taken rest all is =
+          let size = t.size in
+          let sum = taken_size in
+          let same : within ≡ count = omega arith in
+          record {
+            bytes = all_taken;
+            holds = subst (λ (n : ℕ). Holds longest (t.bytes ++ take n buffer) next more) same holds;
+            size = omega arith;
+            left = taken_left;
+            counted = taken_counted;
+          }
