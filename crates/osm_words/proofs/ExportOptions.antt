@@ -6,7 +6,7 @@ use Rattle.clap.specs.Walk.{has_row}
 use Rattle.clap.proofs.OnLiterals.{clap_on_literals}
 use Rattle.osm_words.specs.ExportCommand.{export_app}
 use Rattle.osm_words.specs.PlainWords.{Form, IsFileName, begins_with_dash, letter, long}
-use Rattle.osm_words.specs.PlainExport.{ExportOption, HasPlainValue, format_text, ids_text, format, output, overwrite, keep_untagged, ids, omit_rs, show_errors, stop_on_error, name_of, option_words}
+use Rattle.osm_words.specs.PlainExport.{ExportOption, HasPlainValue, format_text, ids_text, format, output, overwrite, keep_untagged, ids, omit_rs, show_errors, stop_on_error, area_keys, linear_keys, name_of, option_words}
 use Rattle.osm_words.specs.declared.settings.Format.{Format}
 use Rattle.osm_words.specs.declared.settings.Format.TheVariants.{GeoJson, GeoJsonSeq, Text as PlainText}
 use Rattle.osm_words.specs.declared.settings.UniqueId.{UniqueId}
@@ -22,7 +22,13 @@ abbrev pub value_text : ExportOption → Text
 value_text (format f) = format_text f
 value_text (output name) = name
 value_text (ids i) = ids_text i
-value_text _ = codes "true"
+value_text overwrite = codes "true"
+value_text keep_untagged = codes "true"
+value_text omit_rs = codes "true"
+value_text show_errors = codes "true"
+value_text stop_on_error = codes "true"
+value_text (area_keys written keys) = written
+value_text (linear_keys written keys) = written
 
 format_plain : (f : Format) → begins_with_dash (format_text f) ≡ false
 format_plain GeoJson = refl
@@ -48,6 +54,16 @@ unfolding clap_on_literals
 ids_takes [] plain = record { walks = λ used. refl; passes = λ used. refl; ready = λ used new. ready_value top (codes "ids") [] used new refl refl }
 ids_takes (a ∷ value) plain = record { walks = λ used. simp plain; passes = λ used. simp plain; ready = λ used new. ready_value top (codes "ids") (a ∷ value) used new refl refl }
 
+area_takes : (value : Text) → begins_with_dash value ≡ false → TakesValue top (codes "area-keys") value
+unfolding clap_on_literals
+area_takes [] plain = record { walks = λ used. refl; passes = λ used. refl; ready = λ used new. ready_value top (codes "area-keys") [] used new refl refl }
+area_takes (a ∷ value) plain = record { walks = λ used. simp plain; passes = λ used. simp plain; ready = λ used new. ready_value top (codes "area-keys") (a ∷ value) used new refl refl }
+
+linear_takes : (value : Text) → begins_with_dash value ≡ false → TakesValue top (codes "linear-keys") value
+unfolding clap_on_literals
+linear_takes [] plain = record { walks = λ used. refl; passes = λ used. refl; ready = λ used new. ready_value top (codes "linear-keys") [] used new refl refl }
+linear_takes (a ∷ value) plain = record { walks = λ used. simp plain; passes = λ used. simp plain; ready = λ used new. ready_value top (codes "linear-keys") (a ∷ value) used new refl refl }
+
 pub moves : (form : Form) (c : ExportOption) (rows : List Row) (pending : Pending) (used : List Row) → Ready top rows pending used → has_row (name_of c) used ≡ false
     → HasPlainValue c → Moves top (option_words form c) (row_for (name_of c) (value_text c)) rows pending used
 unfolding clap_on_literals
@@ -67,6 +83,10 @@ moves letter show_errors rows pending used ready new plain = flag_moves top (cod
 moves long show_errors rows pending used ready new plain = flag_moves top (codes "--show-errors") (codes "show-errors") by_long rows pending used ready new refl refl refl
 moves letter stop_on_error rows pending used ready new plain = flag_moves top (codes "-E") (codes "stop-on-error") by_letter rows pending used ready new refl refl refl
 moves long stop_on_error rows pending used ready new plain = flag_moves top (codes "--stop-on-error") (codes "stop-on-error") by_long rows pending used ready new refl refl refl
+moves letter (area_keys written keys) rows pending used ready new plain = option_moves top (codes "--area-keys") (codes "area-keys") written rows pending used ready new (area_takes written plain.0) refl refl
+moves long (area_keys written keys) rows pending used ready new plain = option_moves top (codes "--area-keys") (codes "area-keys") written rows pending used ready new (area_takes written plain.0) refl refl
+moves letter (linear_keys written keys) rows pending used ready new plain = option_moves top (codes "--linear-keys") (codes "linear-keys") written rows pending used ready new (linear_takes written plain.0) refl refl
+moves long (linear_keys written keys) rows pending used ready new plain = option_moves top (codes "--linear-keys") (codes "linear-keys") written rows pending used ready new (linear_takes written plain.0) refl refl
 
 pub not_file : (c : ExportOption) → bytes_eq (name_of c) (codes "file") ≡ false
 not_file (format f) = refl
@@ -77,6 +97,8 @@ not_file (ids i) = refl
 not_file omit_rs = refl
 not_file show_errors = refl
 not_file stop_on_error = refl
+not_file (area_keys written keys) = refl
+not_file (linear_keys written keys) = refl
 
 takes_dash : TakesLast top (codes "file") (codes "-")
 unfolding clap_on_literals
@@ -104,6 +126,6 @@ export_options = record {
 pub export_ends_well : EndsWell top (codes "file")
 export_ends_well = record {
   ready = λ file rows new. ready_value top (codes "file") file rows new refl refl;
-  defaults = (refl, (refl, (refl, (refl, (refl, (refl, (refl, (refl, (refl, tt)))))))));
+  defaults = (refl, (refl, (refl, (refl, (refl, (refl, (refl, (refl, (refl, (refl, (refl, tt)))))))))));
   checks = λ rows given. ap (λ (is : Bool). check_kinds false false (not is || false)) given;
 }

@@ -1,16 +1,16 @@
 -- Plain words are taken, and give what they say. No public contract cites it.
 use Rattle.std.proofs.Common.{◌≡◌, ◌++◌, ◌∙◌, Bool, true, false, List, [], ◌∷◌, Option, Some, None, Result, Ok, Err, codes, refl, sym, ap, ap₂, true≢false}
 use Rattle.std.specs.Option.{option_map_or}
-use Rattle.std.specs.Prelude.{unwrap_or}
+use Rattle.std.specs.Prelude.{option_map, unwrap_or}
 use Rattle.std.specs.Str.{bytes_eq}
 use Rattle.clap.specs.Words.{Row, Text, first_of, matches_of}
 use Rattle.osm_words.specs.ExportCommand.{export_app}
 use Rattle.osm_words.specs.Job.{ExportSettings, Job, export}
-use Rattle.osm_words.specs.ExportWords.{export_asked, format_named, format_said, ids_said, in_range, is_set, settings_said, settings_with, unless_refused}
+use Rattle.osm_words.specs.ExportWords.{export_asked, format_named, format_said, ids_said, in_range, is_set, keys_asked, settings_said, settings_with, unless_refused}
 use Rattle.osm_words.specs.Words.{as_job, job_asked}
 use Rattle.osm_words.specs.Answers.{Answers, Gives}
-use Rattle.osm_words.specs.PlainWords.{Form, plain_words}
-use Rattle.osm_words.specs.PlainExport.{ArePlain, ExportOption, export_words, format_text, ids_text, format, output, overwrite, keep_untagged, ids, omit_rs, show_errors, stop_on_error, name_of, option_words, said, with_option}
+use Rattle.osm_words.specs.PlainWords.{Form, HavePlainValues, plain_words}
+use Rattle.osm_words.specs.PlainExport.{ArePlain, ExportOption, export_words, format_text, ids_text, format, output, overwrite, keep_untagged, ids, omit_rs, show_errors, stop_on_error, area_keys, linear_keys, HasPlainValue, name_of, option_words, said, with_option}
 use Rattle.osm_words.specs.declared.settings.Format.{Format}
 use Rattle.osm_words.specs.declared.settings.Format.TheVariants.{GeoJson, GeoJsonSeq, Text as PlainText}
 use Rattle.osm_words.specs.declared.settings.UniqueId.{UniqueId}
@@ -40,6 +40,8 @@ record Say (rows : List Row) (s : ExportSettings) : Type 0 where
   omit_rs : flag_said (value_in top (codes "omit-rs") rows) ≡ s.omit_rs
   show_errors : flag_said (value_in top (codes "show-errors") rows) ≡ s.show_errors
   stop_on_error : flag_said (value_in top (codes "stop-on-error") rows) ≡ s.stop_on_error
+  area_keys : keys_asked (value_in top (codes "area-keys") rows) ≡ Some s.area_keys
+  linear_keys : keys_asked (value_in top (codes "linear-keys") rows) ≡ Some s.linear_keys
   file : unwrap_or (value_in top (codes "file") rows) [] ≡ s.file
 
 format_read : (f : Format) → format_named (format_text f) ≡ Some f
@@ -51,19 +53,21 @@ ids_read : (i : UniqueId) → ids_said (Some (ids_text i)) ≡ Some (Some i)
 ids_read Counter = refl
 ids_read TypeId = refl
 
-say_more : (c : ExportOption) (rows : List Row) (s : ExportSettings) → Say rows s → Say (row_for (name_of c) (value_text c) ∷ rows) (with_option c s)
-say_more (format f) rows s more = record { format = format_read f; output = more.output; overwrite = more.overwrite; keep_untagged = more.keep_untagged; ids = more.ids; omit_rs = more.omit_rs; show_errors = more.show_errors; stop_on_error = more.stop_on_error; file = more.file }
-say_more (output name) rows s more = record { format = more.format; output = refl; overwrite = more.overwrite; keep_untagged = more.keep_untagged; ids = more.ids; omit_rs = more.omit_rs; show_errors = more.show_errors; stop_on_error = more.stop_on_error; file = more.file }
-say_more overwrite rows s more = record { format = more.format; output = more.output; overwrite = refl; keep_untagged = more.keep_untagged; ids = more.ids; omit_rs = more.omit_rs; show_errors = more.show_errors; stop_on_error = more.stop_on_error; file = more.file }
-say_more keep_untagged rows s more = record { format = more.format; output = more.output; overwrite = more.overwrite; keep_untagged = refl; ids = more.ids; omit_rs = more.omit_rs; show_errors = more.show_errors; stop_on_error = more.stop_on_error; file = more.file }
-say_more (ids i) rows s more = record { format = more.format; output = more.output; overwrite = more.overwrite; keep_untagged = more.keep_untagged; ids = ids_read i; omit_rs = more.omit_rs; show_errors = more.show_errors; stop_on_error = more.stop_on_error; file = more.file }
-say_more omit_rs rows s more = record { format = more.format; output = more.output; overwrite = more.overwrite; keep_untagged = more.keep_untagged; ids = more.ids; omit_rs = refl; show_errors = more.show_errors; stop_on_error = more.stop_on_error; file = more.file }
-say_more show_errors rows s more = record { format = more.format; output = more.output; overwrite = more.overwrite; keep_untagged = more.keep_untagged; ids = more.ids; omit_rs = more.omit_rs; show_errors = refl; stop_on_error = more.stop_on_error; file = more.file }
-say_more stop_on_error rows s more = record { format = more.format; output = more.output; overwrite = more.overwrite; keep_untagged = more.keep_untagged; ids = more.ids; omit_rs = more.omit_rs; show_errors = more.show_errors; stop_on_error = refl; file = more.file }
+say_more : (c : ExportOption) (rows : List Row) (s : ExportSettings) → HasPlainValue c → Say rows s → Say (row_for (name_of c) (value_text c) ∷ rows) (with_option c s)
+say_more (format f) rows s plain more = record { format = format_read f; output = more.output; overwrite = more.overwrite; keep_untagged = more.keep_untagged; ids = more.ids; omit_rs = more.omit_rs; show_errors = more.show_errors; stop_on_error = more.stop_on_error; area_keys = more.area_keys; linear_keys = more.linear_keys; file = more.file }
+say_more (output name) rows s plain more = record { format = more.format; output = refl; overwrite = more.overwrite; keep_untagged = more.keep_untagged; ids = more.ids; omit_rs = more.omit_rs; show_errors = more.show_errors; stop_on_error = more.stop_on_error; area_keys = more.area_keys; linear_keys = more.linear_keys; file = more.file }
+say_more overwrite rows s plain more = record { format = more.format; output = more.output; overwrite = refl; keep_untagged = more.keep_untagged; ids = more.ids; omit_rs = more.omit_rs; show_errors = more.show_errors; stop_on_error = more.stop_on_error; area_keys = more.area_keys; linear_keys = more.linear_keys; file = more.file }
+say_more keep_untagged rows s plain more = record { format = more.format; output = more.output; overwrite = more.overwrite; keep_untagged = refl; ids = more.ids; omit_rs = more.omit_rs; show_errors = more.show_errors; stop_on_error = more.stop_on_error; area_keys = more.area_keys; linear_keys = more.linear_keys; file = more.file }
+say_more (ids i) rows s plain more = record { format = more.format; output = more.output; overwrite = more.overwrite; keep_untagged = more.keep_untagged; ids = ids_read i; omit_rs = more.omit_rs; show_errors = more.show_errors; stop_on_error = more.stop_on_error; area_keys = more.area_keys; linear_keys = more.linear_keys; file = more.file }
+say_more omit_rs rows s plain more = record { format = more.format; output = more.output; overwrite = more.overwrite; keep_untagged = more.keep_untagged; ids = more.ids; omit_rs = refl; show_errors = more.show_errors; stop_on_error = more.stop_on_error; area_keys = more.area_keys; linear_keys = more.linear_keys; file = more.file }
+say_more show_errors rows s plain more = record { format = more.format; output = more.output; overwrite = more.overwrite; keep_untagged = more.keep_untagged; ids = more.ids; omit_rs = more.omit_rs; show_errors = refl; stop_on_error = more.stop_on_error; area_keys = more.area_keys; linear_keys = more.linear_keys; file = more.file }
+say_more stop_on_error rows s plain more = record { format = more.format; output = more.output; overwrite = more.overwrite; keep_untagged = more.keep_untagged; ids = more.ids; omit_rs = more.omit_rs; show_errors = more.show_errors; stop_on_error = refl; area_keys = more.area_keys; linear_keys = more.linear_keys; file = more.file }
+say_more (area_keys written keys) rows s plain more = record { format = more.format; output = more.output; overwrite = more.overwrite; keep_untagged = more.keep_untagged; ids = more.ids; omit_rs = more.omit_rs; show_errors = more.show_errors; stop_on_error = more.stop_on_error; area_keys = ap (option_map (λ (ks : List Text). Some ks)) plain.1; linear_keys = more.linear_keys; file = more.file }
+say_more (linear_keys written keys) rows s plain more = record { format = more.format; output = more.output; overwrite = more.overwrite; keep_untagged = more.keep_untagged; ids = more.ids; omit_rs = more.omit_rs; show_errors = more.show_errors; stop_on_error = more.stop_on_error; area_keys = more.area_keys; linear_keys = ap (option_map (λ (ks : List Text). Some ks)) plain.1; file = more.file }
 
-say : (options : List (Form × ExportOption)) (file : Text) → Say (option_rows options ++ row_for (codes "file") file ∷ []) (said options file)
-say [] file = record { format = refl; output = refl; overwrite = refl; keep_untagged = refl; ids = refl; omit_rs = refl; show_errors = refl; stop_on_error = refl; file = refl }
-say (option ∷ others) file = say_more option.1 (option_rows others ++ row_for (codes "file") file ∷ []) (said others file) (say others file)
+say : (options : List (Form × ExportOption)) (file : Text) → HavePlainValues HasPlainValue options → Say (option_rows options ++ row_for (codes "file") file ∷ []) (said options file)
+say [] file plain = record { format = refl; output = refl; overwrite = refl; keep_untagged = refl; ids = refl; omit_rs = refl; show_errors = refl; stop_on_error = refl; area_keys = refl; linear_keys = refl; file = refl }
+say (option ∷ others) file plain = say_more option.1 (option_rows others ++ row_for (codes "file") file ∷ []) (said others file) plain.0 (say others file plain.1)
 
 -- rows in which each name has the value of `found` give what `found` says
 read_by : (rows found : List Row) (s : ExportSettings) → Say found s → ((name : Text) → first_of name rows ≡ value_in top name found) → settings_said rows ≡ Ok s
@@ -76,8 +80,10 @@ read_by rows found s says same =
     let omit_is : is_set (codes "omit-rs") rows ≡ s.omit_rs = ap flag_said (same (codes "omit-rs")) ∙ says.omit_rs in
     let show_is : is_set (codes "show-errors") rows ≡ s.show_errors = ap flag_said (same (codes "show-errors")) ∙ says.show_errors in
     let stop_is : is_set (codes "stop-on-error") rows ≡ s.stop_on_error = ap flag_said (same (codes "stop-on-error")) ∙ says.stop_on_error in
+    let area_is : keys_asked (first_of (codes "area-keys") rows) ≡ Some s.area_keys = ap keys_asked (same (codes "area-keys")) ∙ says.area_keys in
+    let linear_is : keys_asked (first_of (codes "linear-keys") rows) ≡ Some s.linear_keys = ap keys_asked (same (codes "linear-keys")) ∙ says.linear_keys in
     let file_is : unwrap_or (first_of (codes "file") rows) [] ≡ s.file = ap (λ (o : Option Text). unwrap_or o []) (same (codes "file")) ∙ says.file in
-    let all : settings_with s.format s.ids rows ≡ s = (λ i. record {
+    let all : settings_with s.format s.ids s.area_keys s.linear_keys rows ≡ s = (λ i. record {
       format = s.format;
       output = output_is i;
       overwrite = overwrite_is i;
@@ -86,9 +92,12 @@ read_by rows found s says same =
       omit_rs = omit_is i;
       show_errors = show_is i;
       stop_on_error = stop_is i;
+      area_keys = s.area_keys;
+      linear_keys = s.linear_keys;
       file = file_is i;
     }) in
-    ap₂ (λ (f : Option Format) (i : Option (Option UniqueId)). in_range f i rows) format_is ids_are ∙ ap Ok all
+    ap₂ (λ (f : Option Format) (i : Option (Option UniqueId)). in_range f i (keys_asked (first_of (codes "area-keys") rows)) (keys_asked (first_of (codes "linear-keys") rows)) rows) format_is ids_are
+    ∙ ap₂ (λ (a l : Option (Option (List Text))). in_range (Some s.format) (Some s.ids) a l rows) area_is linear_is ∙ ap Ok all
 
 -- plain words of `export` are taken with what they say
 plain_export : (options : List (Form × ExportOption)) (file : Text) → ArePlain options file → export_asked (export_words options file) ≡ Ok (said options file)
@@ -98,7 +107,7 @@ plain_export options file plain =
     let end : Ends top (codes "file") words [] None used file = ends top (codes "file") export_options options file plain.once plain.values plain.file_name in
     let rows = matches_of export_app (export_words options file) in
     let found : settings_said rows ≡ Ok (said options file) =
-    read_by rows (used ++ row_for (codes "file") file ∷ []) (said options file) (say options file) (given top (codes "file") export_ends_well words used file end) in
+    read_by rows (used ++ row_for (codes "file") file ∷ []) (said options file) (say options file plain.values) (given top (codes "file") export_ends_well words used file end) in
     ap₂ unless_refused (taken top (codes "file") export_ends_well words used file end) found
 
 pub plain_words_asked : (options : List (Form × ExportOption)) (file : Text) → ArePlain options file → job_asked (export_words options file) ≡ Ok (export (said options file))

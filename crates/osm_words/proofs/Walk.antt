@@ -11,6 +11,7 @@ use Rattle.clap.specs.declared.builder.value_parser.Reading.TheVariants.{AsWritt
 use Rattle.clap.specs.declared.error.kind.ErrorKind.TheVariants.{ArgumentConflict}
 use Rattle.clap.specs.declared.parser.matches.ValueSource.TheVariants.{CommandLine}
 use Rattle.osm_words.specs.PlainWords.{Form, HavePlainValues, IsFileName, StandOnce, plain_words}
+use Rattle.std.proofs.Math.Bool.{and-false}
 use Rattle.std.proofs.lemmas.Bool.{or_parts}
 
 abbrev pub Pending : Type 0
@@ -151,10 +152,6 @@ option_moves s word name value rows pending used ready new takes walks turn = re
 abbrev pub at_end : Text → List Row → Text → Walk
 at_end name rows file = record { held = held_at rows (Some (name, file ∷ [])); waiting = idle; position = 2; is_trailing = false; stopped = None }
 
-and_false : (b : Bool) → (b && false) ≡ false
-and_false true = refl
-and_false false = refl
-
 abbrev pub asks_settled : Shape → List Row → Pending → Bool → Kinds
 asks_settled s rows pending several = if several then [] else settle_fault s.rules s.args_override_self (held_at rows pending)
 
@@ -238,10 +235,10 @@ module _ (s : Shape) (last : Text) (o : Options s last) where
   ends_from [] file rows pending used ready new once plain none named =
       let takes = o.takes_last file named in
       let at_once : walked s.rules [] (at rows pending) file ≡ at_end last used file =
-      takes.walks rows pending ∙ ap (last_pushed s last rows pending file) (and_false (is_pending_for last pending))
+      takes.walks rows pending ∙ ap (last_pushed s last rows pending file) (and-false (is_pending_for last pending))
       ∙ ap (λ (r : List Row). at_end last r file) ready.settles in
       let passes : turn_fault s [] (at rows pending) file ≡ [] =
-      takes.asks rows pending ∙ ap (asks_settled s rows pending) (and_false (is_pending_for last pending)) ∙ ready.passes in
+      takes.asks rows pending ∙ ap (asks_settled s rows pending) (and-false (is_pending_for last pending)) ∙ ready.passes in
       record {
         walks = at_once ∙ ap (λ (r : List Row). at_end last r file) (sym (append-nil used));
         passes = ap (λ (k : Kinds). or_else k []) passes;

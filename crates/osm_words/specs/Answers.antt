@@ -1,5 +1,7 @@
 -- What a call that reads words answers. Want of memory is free.
-use Rattle.std.specs.Prelude.{◌≡◌, Result, Ok, Err, ⊤}
+use Rattle.std.specs.Prelude.{◌≡◌, ℕ, List, Option, Some, None, Result, Ok, Err, ⊤}
+use Rattle.std.specs.Borrow.{Bor}
+use Rattle.opl_reader.specs.Keys.{keys_said}
 use Rattle.osm_words.specs.Job.{ExportSettings, Job, export}
 use Rattle.osm_words.specs.declared.settings.ExportSettings.{ExportSettings as CodeSettings}
 use Rattle.osm_words.specs.declared.settings.Job.{Job as CodeJob}
@@ -7,6 +9,11 @@ use Rattle.osm_words.specs.declared.settings.Job.TheVariants.{Export as code_exp
 use Rattle.osm_words.specs.declared.fault.WordsFault.{WordsFault}
 use Rattle.osm_words.specs.declared.fault.WordsError.{WordsError}
 use Rattle.osm_words.specs.declared.fault.WordsError.TheVariants.{BadWords, OutOfMemory}
+
+-- the keys that are written so; a text that isn't KEYS counts as no list, and no words give one
+abbrev pub keys_seen : Option (Bor (List ℕ)) → Option (List (List ℕ))
+keys_seen None = None
+keys_seen (Some written) = keys_said written.now
 
 -- what was read, without where it lies in memory
 abbrev pub settings_seen : CodeSettings → ExportSettings
@@ -20,6 +27,8 @@ settings_seen s = record {
   omit_rs = s.omit_rs;
   show_errors = s.show_errors;
   stop_on_error = s.stop_on_error;
+  area_keys = keys_seen s.area_keys;
+  linear_keys = keys_seen s.linear_keys;
 }
 
 abbrev pub job_seen : CodeJob → Job

@@ -3,6 +3,7 @@ use Rattle.std.specs.Prelude.{ℕ, Bool, false, List, [], ◌∷◌, Option, Som
 use Rattle.std.specs.Str.{bytes_eq}
 use Rattle.std.specs.Option.{option_map_or}
 use Rattle.clap.specs.Words.{Kinds, Row, Text, fault_of, first_of, matches_of}
+use Rattle.opl_reader.specs.Keys.{keys_said}
 use Rattle.osm_words.specs.Job.{ExportSettings}
 use Rattle.osm_words.specs.ExportCommand.{export_app}
 use Rattle.osm_words.specs.declared.settings.Format.{Format}
@@ -35,14 +36,19 @@ abbrev pub ids_said : Option (List ℕ) → Option (Option UniqueId)
 ids_said None = Some None
 ids_said (Some word) = option_map (λ ids. Some ids) (ids_named word)
 
+-- the keys of a value; where there is none, no list is given
+abbrev pub keys_asked : Option (List ℕ) → Option (Option (List (List ℕ)))
+keys_asked None = Some None
+keys_asked (Some written) = option_map (λ keys. Some keys) (keys_said written)
+
 -- ---- what was found
 
 abbrev pub is_set : Text → List Row → Bool
 is_set name rows = option_map_or (λ word. bytes_eq word (codes "true")) (first_of name rows) false
 
 -- The output is `-` where none was found. The parser asks for a file, so there is always one.
-abbrev pub settings_with : Format → Option UniqueId → List Row → ExportSettings
-settings_with format ids rows = record {
+abbrev pub settings_with : Format → Option UniqueId → Option (List (List ℕ)) → Option (List (List ℕ)) → List Row → ExportSettings
+settings_with format ids area_keys linear_keys rows = record {
   file = unwrap_or (first_of (codes "file") rows) [];
   format = format;
   output = unwrap_or (first_of (codes "output") rows) (codes "-");
@@ -52,16 +58,23 @@ settings_with format ids rows = record {
   omit_rs = is_set (codes "omit-rs") rows;
   show_errors = is_set (codes "show-errors") rows;
   stop_on_error = is_set (codes "stop-on-error") rows;
+  area_keys = area_keys;
+  linear_keys = linear_keys;
 }
 
--- The first value out of its range refuses the words: `f`, of the code 102, before `u`, of the code 117.
-abbrev pub in_range : Option Format → Option (Option UniqueId) → List Row → Result ExportSettings WordsFault
-in_range None ids rows = Err (OutOfRange 102)
-in_range (Some format) None rows = Err (OutOfRange 117)
-in_range (Some format) (Some ids) rows = Ok (settings_with format ids rows)
+-- The first value out of its range refuses the words: `f`, `u`, `a`, `l` in this order, of the codes 102, 117, 97, 108.
+abbrev pub in_range : Option Format → Option (Option UniqueId) → Option (Option (List (List ℕ))) → Option (Option (List (List ℕ))) → List Row →
+    Result ExportSettings WordsFault
+in_range None ids area_keys linear_keys rows = Err (OutOfRange 102)
+in_range (Some format) None area_keys linear_keys rows = Err (OutOfRange 117)
+in_range (Some format) (Some ids) None linear_keys rows = Err (OutOfRange 97)
+in_range (Some format) (Some ids) (Some area_keys) None rows = Err (OutOfRange 108)
+in_range (Some format) (Some ids) (Some area_keys) (Some linear_keys) rows = Ok (settings_with format ids area_keys linear_keys rows)
 
 abbrev pub settings_said : List Row → Result ExportSettings WordsFault
-settings_said rows = in_range (format_said (first_of (codes "format") rows)) (ids_said (first_of (codes "ids") rows)) rows
+settings_said rows =
+    in_range (format_said (first_of (codes "format") rows)) (ids_said (first_of (codes "ids") rows))
+    (keys_asked (first_of (codes "area-keys") rows)) (keys_asked (first_of (codes "linear-keys") rows)) rows
 
 -- ---- the words
 

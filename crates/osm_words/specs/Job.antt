@@ -17,6 +17,9 @@ pub record ExportSettings : Type 0 where
   pub omit_rs : Bool
   pub show_errors : Bool
   pub stop_on_error : Bool
+  -- None where no such list is given
+  pub area_keys : Option (List (List ℕ))
+  pub linear_keys : Option (List (List ℕ))
 
 pub data Job : Type 0 where
   export : ExportSettings → Job

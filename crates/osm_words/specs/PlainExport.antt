@@ -1,5 +1,6 @@
 -- Plain words of `export`, and what they say.
 use Rattle.std.specs.Prelude.{◌≡◌, ℕ, true, false, List, [], ◌∷◌, Some, None, codes, ⊤}
+use Rattle.opl_reader.specs.Keys.{keys_said}
 use Rattle.osm_words.specs.PlainWords.{Form, letter, long, plain_words, begins_with_dash, StandOnce, HavePlainValues, IsFileName}
 use Rattle.osm_words.specs.Job.{ExportSettings}
 use Rattle.osm_words.specs.declared.settings.Format.{Format}
@@ -7,7 +8,7 @@ use Rattle.osm_words.specs.declared.settings.Format.TheVariants.{GeoJson, GeoJso
 use Rattle.osm_words.specs.declared.settings.UniqueId.{UniqueId}
 use Rattle.osm_words.specs.declared.settings.UniqueId.TheVariants.{Counter, TypeId}
 
--- an option, with its value in range
+-- an option, with its value in range; keys as they are written, and what they are
 pub data ExportOption : Type 0 where
   format : Format → ExportOption
   output : List ℕ → ExportOption
@@ -17,6 +18,8 @@ pub data ExportOption : Type 0 where
   omit_rs : ExportOption
   show_errors : ExportOption
   stop_on_error : ExportOption
+  area_keys : List ℕ → List (List ℕ) → ExportOption
+  linear_keys : List ℕ → List (List ℕ) → ExportOption
 
 -- ---- how options are written
 
@@ -29,7 +32,7 @@ abbrev pub ids_text : UniqueId → List ℕ
 ids_text Counter = codes "counter"
 ids_text TypeId = codes "type_id"
 
--- A value stands in the next word.
+-- A value stands in the next word. The options of keys have no letter and are written by their long forms.
 abbrev pub option_words : Form → ExportOption → List (List ℕ)
 option_words letter (format f) = codes "-f" ∷ format_text f ∷ []
 option_words letter (output name) = codes "-o" ∷ name ∷ []
@@ -39,6 +42,8 @@ option_words letter (ids i) = codes "-u" ∷ ids_text i ∷ []
 option_words letter omit_rs = codes "-r" ∷ []
 option_words letter show_errors = codes "-e" ∷ []
 option_words letter stop_on_error = codes "-E" ∷ []
+option_words letter (area_keys written keys) = codes "--area-keys" ∷ written ∷ []
+option_words letter (linear_keys written keys) = codes "--linear-keys" ∷ written ∷ []
 option_words long (format f) = codes "--output-format" ∷ format_text f ∷ []
 option_words long (output name) = codes "--output" ∷ name ∷ []
 option_words long overwrite = codes "--overwrite" ∷ []
@@ -47,6 +52,8 @@ option_words long (ids i) = codes "--add-unique-id" ∷ ids_text i ∷ []
 option_words long omit_rs = codes "--omit-rs" ∷ []
 option_words long show_errors = codes "--show-errors" ∷ []
 option_words long stop_on_error = codes "--stop-on-error" ∷ []
+option_words long (area_keys written keys) = codes "--area-keys" ∷ written ∷ []
+option_words long (linear_keys written keys) = codes "--linear-keys" ∷ written ∷ []
 
 -- the words of a run
 abbrev pub export_words : List (Form × ExportOption) → List ℕ → List (List ℕ)
@@ -63,12 +70,22 @@ name_of (ids i) = codes "ids"
 name_of omit_rs = codes "omit-rs"
 name_of show_errors = codes "show-errors"
 name_of stop_on_error = codes "stop-on-error"
+name_of (area_keys written keys) = codes "area-keys"
+name_of (linear_keys written keys) = codes "linear-keys"
 
 abbrev pub HasPlainValue : ExportOption → Type 0
+HasPlainValue (format f) = ⊤
 HasPlainValue (output name) = begins_with_dash name ≡ false
-HasPlainValue option = ⊤
+HasPlainValue overwrite = ⊤
+HasPlainValue keep_untagged = ⊤
+HasPlainValue (ids i) = ⊤
+HasPlainValue omit_rs = ⊤
+HasPlainValue show_errors = ⊤
+HasPlainValue stop_on_error = ⊤
+HasPlainValue (area_keys written keys) = (begins_with_dash written ≡ false) × (keys_said written ≡ Some keys)
+HasPlainValue (linear_keys written keys) = (begins_with_dash written ≡ false) × (keys_said written ≡ Some keys)
 
--- Each option stands at most once, no value begins with a dash, and the file's name doesn't either or is a lone dash.
+-- Each option stands at most once, keys are what is written, no value begins with a dash, and the file's name doesn't either or is a lone dash.
 pub record ArePlain (options : List (Form × ExportOption)) (file : List ℕ) : Type 0 where
   pub once : StandOnce name_of options
   pub values : HavePlainValues HasPlainValue options
@@ -88,6 +105,8 @@ default_settings file = record {
   omit_rs = false;
   show_errors = false;
   stop_on_error = false;
+  area_keys = None;
+  linear_keys = None;
 }
 
 abbrev pub with_option : ExportOption → ExportSettings → ExportSettings
@@ -99,6 +118,8 @@ with_option (ids i) s = record s { ids = Some i }
 with_option omit_rs s = record s { omit_rs = true }
 with_option show_errors s = record s { show_errors = true }
 with_option stop_on_error s = record s { stop_on_error = true }
+with_option (area_keys written keys) s = record s { area_keys = Some keys }
+with_option (linear_keys written keys) s = record s { linear_keys = Some keys }
 
 abbrev pub said : List (Form × ExportOption) → List ℕ → ExportSettings
 said [] file = default_settings file

@@ -2,7 +2,7 @@
 
 ghost use Rattle.std.specs.Prelude.{◌≡◌, false, IfOk, map, string_bytes};
 ghost use Rattle.clap.specs.Words.{FailsBy, app_of, fault_of, found_of, matches_of, rows_of, rule_of};
-ghost use Rattle.osm_words.specs.ExportCommand.{export_app, file_rule, flag_rule, option_rule};
+ghost use Rattle.osm_words.specs.ExportCommand.{export_app, file_rule, flag_rule, long_option_rule, option_rule};
 
 use clap::{Arg, ArgAction, ArgMatches, Command, Error};
 use std::alloc::{AllocError as OutOfMemory, Global};
@@ -16,6 +16,14 @@ fn option<'a>(alloc: Global, name: &'a str, letter: char, long: &'a str) -> Arg<
         .short(letter)
         .long(long)
         .action(ArgAction::Set)
+}
+
+/// An option with one value and without a short form, which is written by its name.
+fn long_option<'a>(alloc: Global, name: &'a str) -> Arg<'a>
+    ensures rule { rule_of result ≡ long_option_rule name.now }
+    ensures local { result.global ≡ false }
+{
+    Arg::new(alloc, name).long(name).action(ArgAction::Set)
 }
 
 /// An option without a value.
@@ -52,6 +60,8 @@ fn export_command<'a>(alloc: Global) -> Result<Command<'a>, OutOfMemory>
         .arg(flag(alloc, "omit-rs", 'r', "omit-rs"))?
         .arg(flag(alloc, "show-errors", 'e', "show-errors"))?
         .arg(flag(alloc, "stop-on-error", 'E', "stop-on-error"))?
+        .arg(long_option(alloc, "area-keys"))?
+        .arg(long_option(alloc, "linear-keys"))?
         .arg(file(alloc))?;
     Ok(command.disable_help_flag(true))
 }
@@ -62,7 +72,8 @@ pub(crate) fn export_matches<'a>(
     words: &'a [String],
 ) -> Result<ArgMatches<'a>, Error>
     ensures kinds { FailsBy (fault_of export_app (map string_bytes words.now)) result }
-    ensures rows { IfOk result (λ matches. rows_of (found_of matches) ≡ matches_of export_app (map string_bytes words.now)) }
+    ensures rows { IfOk result (λ matches.
+        rows_of (found_of matches) ≡ matches_of export_app (map string_bytes words.now)) }
 {
     let command = export_command(alloc)?;
     command.try_get_matches_from(words)

@@ -2,7 +2,8 @@
 
 ghost use Rattle.std.specs.Prelude.{◌≡◌, codes, map, option_map, string_bytes};
 ghost use Rattle.clap.specs.Words.{first_of, found_of, rows_of};
-ghost use Rattle.osm_words.specs.ExportWords.{export_asked, format_named, format_said, ids_named, ids_said, is_set, settings_said};
+ghost use Rattle.osm_words.specs.ExportWords.{export_asked, format_named, format_said, ids_named, ids_said, is_set, keys_asked, settings_said};
+ghost use Rattle.osm_words.specs.Answers.{keys_seen};
 ghost use Rattle.osm_words.specs.Private.{AnswersExport, export_seen};
 
 use crate::export_command::export_matches;
@@ -10,6 +11,7 @@ use crate::fault::{WordsError, WordsFault};
 use crate::settings::{ExportSettings, Format, UniqueId};
 use clap::ArgMatches;
 use clap::error::ErrorKind;
+use opl_reader::is_keys;
 use std::alloc::Global;
 
 /// The format that a word names.
@@ -37,7 +39,8 @@ fn ids_named(word: &str) -> Option<UniqueId>
 
 /// The value of an argument.
 fn value_of<'a>(matches: &ArgMatches<'a>, name: &str) -> Option<&'a str>
-    ensures { option_map (λ value. value.now) result ≡ first_of name.now (rows_of (found_of matches.now)) }
+    ensures { option_map (λ value. value.now) result
+        ≡ first_of name.now (rows_of (found_of matches.now)) }
 {
     matches.get_str(name)
 }
@@ -75,6 +78,18 @@ fn ids_said(matches: &ArgMatches<'_>) -> Option<Option<UniqueId>>
     }
 }
 
+/// The keys of an option, as they are written; None where its value is out of range.
+fn keys_said<'a>(matches: &ArgMatches<'a>, name: &str) -> Option<Option<&'a str>>
+    ensures { option_map keys_seen result
+        ≡ keys_asked (first_of name.now (rows_of (found_of matches.now))) }
+{
+    match value_of(matches, name) {
+        Some(word) if is_keys(word) => Some(Some(word)),
+        Some(_) => None,
+        None => Some(None),
+    }
+}
+
 /// The settings, once `clap` has taken the words.
 fn settings_said<'a>(matches: &ArgMatches<'a>) -> Result<ExportSettings<'a>, WordsFault>
     ensures { export_seen result ≡ settings_said (rows_of (found_of matches.now)) }
@@ -84,6 +99,12 @@ fn settings_said<'a>(matches: &ArgMatches<'a>) -> Result<ExportSettings<'a>, Wor
     };
     let Some(ids) = ids_said(matches) else {
         return Err(WordsFault::OutOfRange { option: 'u' });
+    };
+    let Some(area_keys) = keys_said(matches, "area-keys") else {
+        return Err(WordsFault::OutOfRange { option: 'a' });
+    };
+    let Some(linear_keys) = keys_said(matches, "linear-keys") else {
+        return Err(WordsFault::OutOfRange { option: 'l' });
     };
     Ok(ExportSettings {
         file: value_of(matches, "file").unwrap_or(""),
@@ -95,6 +116,8 @@ fn settings_said<'a>(matches: &ArgMatches<'a>) -> Result<ExportSettings<'a>, Wor
         omit_rs: is_set(matches, "omit-rs"),
         show_errors: is_set(matches, "show-errors"),
         stop_on_error: is_set(matches, "stop-on-error"),
+        area_keys,
+        linear_keys,
     })
 }
 

@@ -40,6 +40,12 @@ pub struct ExportSettings<'a> {
     pub show_errors: bool,
     /// Whether the run stops at the first candidate with problems.
     pub stop_on_error: bool,
+    /// The keys of areas as they are written, `building,landuse`: a closed way has an area only by one of them or by
+    /// `area=yes`. None where no such list is given, as which a text that isn't KEYS counts, too.
+    pub area_keys: Option<&'a str>,
+    /// The keys of lines as they are written, in the same way: a closed way with one of them has an area only by
+    /// `area=yes`.
+    pub linear_keys: Option<&'a str>,
 }
 
 /// What the words of a run ask for.

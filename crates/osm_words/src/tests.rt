@@ -27,6 +27,8 @@ const PLAIN: ExportSettings<'static> = ExportSettings {
     omit_rs: false,
     show_errors: false,
     stop_on_error: false,
+    area_keys: None,
+    linear_keys: None,
 };
 
 const ALL: ExportSettings<'static> = ExportSettings {
@@ -39,6 +41,8 @@ const ALL: ExportSettings<'static> = ExportSettings {
     omit_rs: true,
     show_errors: true,
     stop_on_error: true,
+    area_keys: Some("building,landuse"),
+    linear_keys: Some("highway"),
 };
 
 /// The settings of plain words with a format.
@@ -107,6 +111,26 @@ fn each_option_with_a_value_has_two_forms(rt: HostRuntime) -> Result<(), Fail> {
 }
 
 #[test]
+fn keys_have_one_form(rt: HostRuntime) -> Result<(), Fail> {
+    let alloc = rt.alloc();
+    for keys in ["building", "a,b,a", "a%20%b", "k=,@"] {
+        let area = ExportSettings {
+            area_keys: Some(keys),
+            ..PLAIN
+        };
+        let words = words_of(alloc, &format!(in alloc; "export --area-keys {keys} -")?)?;
+        assert_eq!(rt; job_of(alloc, &words), Ok(Job::Export(area)), "{keys}");
+        let linear = ExportSettings {
+            linear_keys: Some(keys),
+            ..PLAIN
+        };
+        let words = words_of(alloc, &format!(in alloc; "export - --linear-keys={keys}")?)?;
+        assert_eq!(rt; job_of(alloc, &words), Ok(Job::Export(linear)), "{keys}");
+    }
+    Ok(())
+}
+
+#[test]
 fn each_flag_has_two_forms(rt: HostRuntime) -> Result<(), Fail> {
     let alloc = rt.alloc();
     let cases = [
@@ -157,10 +181,16 @@ fn words_are_taken_as_clap_takes_them(rt: HostRuntime) -> Result<(), Fail> {
         ("export - -o -", PLAIN),
         ("export -o '' ''", no_name),
         ("export -- -O", dashed),
-        ("export -OnreE -f geojsonseq -o out -u type_id in.opl", ALL),
-        ("export -OnreEfgeojsonseq -oout in.opl -utype_id", ALL),
         (
-            "export -E in.opl -e -r -n -O --add-unique-id=type_id --output=out --output-format=geojsonseq",
+            "export -OnreE -f geojsonseq -o out -u type_id --area-keys building,landuse --linear-keys highway in.opl",
+            ALL,
+        ),
+        (
+            "export -OnreEfgeojsonseq --linear-keys=highway -oout in.opl -utype_id --area-keys=building,landuse",
+            ALL,
+        ),
+        (
+            "export -E in.opl -e -r -n -O --add-unique-id=type_id --linear-keys highway --output=out --area-keys building,landuse --output-format=geojsonseq",
             ALL,
         ),
     ];
@@ -182,6 +212,13 @@ fn refused_words(rt: HostRuntime) -> Result<(), Fail> {
         ("export --version -", ErrorKind::UnknownArgument),
         ("export --output-form text -", ErrorKind::UnknownArgument),
         ("export -o -x -", ErrorKind::UnknownArgument),
+        ("export -a building -", ErrorKind::UnknownArgument),
+        ("export -l highway -", ErrorKind::UnknownArgument),
+        ("export - --area-keys", ErrorKind::InvalidValue),
+        (
+            "export --area-keys a --area-keys a -",
+            ErrorKind::ArgumentConflict,
+        ),
         ("export - -", ErrorKind::UnknownArgument),
         ("export - -o", ErrorKind::InvalidValue),
         ("export --overwrite=yes -", ErrorKind::TooManyValues),
@@ -235,6 +272,60 @@ fn commands_and_values_out_of_range(rt: HostRuntime) -> Result<(), Fail> {
             Err(WordsError::BadWords { cause }),
             "{line}"
         );
+    }
+    Ok(())
+}
+
+/// The first of the options counts, in the order f, u, a, l.
+#[test]
+fn keys_out_of_range(rt: HostRuntime) -> Result<(), Fail> {
+    let alloc = rt.alloc();
+    let cases = [
+        ("export --area-keys a,,b -", 'a'),
+        ("export --linear-keys '' -", 'l'),
+        ("export --linear-keys a%20 --area-keys , -", 'a'),
+        ("export --linear-keys , --area-keys a -", 'l'),
+        ("export --linear-keys , --area-keys , -u area -", 'u'),
+        ("export --area-keys a, -f osm -", 'f'),
+    ];
+    for (line, option) in cases {
+        let words = words_of(alloc, line)?;
+        let cause = WordsFault::OutOfRange { option };
+        assert_eq!(rt;
+            job_of(alloc, &words),
+            Err(WordsError::BadWords { cause }),
+            "{line}"
+        );
+    }
+    Ok(())
+}
+
+#[test]
+fn raw_spaces_and_too_many_keys(rt: HostRuntime) -> Result<(), Fail> {
+    let alloc = rt.alloc();
+    let many = "a,".repeat(alloc, 64)?;
+    let most = &many[..many.len() - 1];
+    let too_many = format!(in alloc; "{many}a")?;
+    let cases = [
+        ("a b", false),
+        ("a\tb", false),
+        (most, true),
+        (too_many.as_str(), false),
+    ];
+    for (keys, taken) in cases {
+        let mut words = words_of(alloc, "export - --area-keys")?;
+        words.push(String::from_str(alloc, keys)?)?;
+        let settings = ExportSettings {
+            area_keys: Some(keys),
+            ..PLAIN
+        };
+        let cause = WordsFault::OutOfRange { option: 'a' };
+        let answer = if taken {
+            Ok(Job::Export(settings))
+        } else {
+            Err(WordsError::BadWords { cause })
+        };
+        assert_eq!(rt; job_of(alloc, &words), answer, "{keys}");
     }
     Ok(())
 }

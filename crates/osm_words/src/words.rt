@@ -59,13 +59,14 @@ fn answer<'a>(alloc: Global, words: &'a [String]) -> Result<Job<'a>, WordsError>
 /// `answers` says that it is what `job_asked` says, want of memory aside. So NoCommand comes exactly where there are no words, and UnknownCommand
 /// exactly where the first word names no command. Refused comes exactly where the command's parser doesn't take the words behind its name, with the
 /// one kind that `clap` states for them. OutOfRange comes exactly where it takes them and a value isn't one of its option's: the first such
-/// option in the order `f`, `u`.
+/// option in the order `f`, `u`, `a` (`--area-keys`), `l` (`--linear-keys`).
 ///
 /// `plain` says that options in any order, each in its short or its long form and at most once, and a file behind them are taken with what they say.
 pub fn job_of<'a>(alloc: Global, words: &'a [String]) -> Result<Job<'a>, WordsError>
     ensures answers { Answers (job_asked (map string_bytes words.now)) result }
     ensures plain { (options : List (Form × ExportOption)) (file : List ℕ) → ArePlain options file
-        → map string_bytes words.now ≡ export_words options file → Gives (export (said options file)) result }
+        → map string_bytes words.now ≡ export_words options file
+        → Gives (export (said options file)) result }
 {
     answer(alloc, words)
 }
