@@ -70,10 +70,12 @@ fn put_escape(bytes: &mut Vec<u8>, c: char) -> Result<(), OutOfMemory>
 /// Adds the first character of a text, which doesn't stand for itself, and gives the text behind it.
 fn put_first<'a>(bytes: &mut Vec<u8>, text: &'a str) -> Result<&'a str, OutOfMemory>
     requires { 0 < length text.now → is_plain (slice_index text.now 0) ≡ false }
-    ensures text { IfOk result (λ rest. bytes.new.items ++ written rest.now ≡ bytes.old.items ++ written text.now) }
+    ensures text { IfOk result (λ rest. bytes.new.items ++ written rest.now
+        ≡ bytes.old.items ++ written text.now) }
     ensures utf8 { IfOk result (λ rest. IsUtf8 rest.now) }
     ensures bound { IfOk result (λ rest. length rest.now ≤ length text.now) }
-    ensures shorter { IfOk result (λ rest. 0 < length text.now → length rest.now < length text.now) }
+    ensures shorter { IfOk result (λ rest. 0 < length text.now
+        → length rest.now < length text.now) }
 {
     let mut chars = text.chars();
     let Some(c) = chars.next() else {

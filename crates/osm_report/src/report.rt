@@ -64,7 +64,8 @@ fn put_pair(line: &mut Vec<u8>, first: Seg, second: Seg) -> Result<(), OutOfMemo
 fn put_rounded(line: &mut Vec<u8>, x: Frac, y: Frac) -> Result<(), OutOfMemory>
     requires x_in { unsigned_abs x.num ≤ 3_600_000_000 * x.den }
     requires y_in { unsigned_abs y.num ≤ 3_600_000_000 * y.den }
-    ensures { OnOk result (line.new.items ≡ line.old.items ++ xy_text (rounded x.num x.den) (rounded y.num y.den)) }
+    ensures { OnOk result (line.new.items ≡ line.old.items
+        ++ xy_text (rounded x.num x.den) (rounded y.num y.den)) }
 {
     put_xy(line, round(x), round(y))
 }
@@ -72,7 +73,8 @@ fn put_rounded(line: &mut Vec<u8>, x: Frac, y: Frac) -> Result<(), OutOfMemory>
 /// Adds the point in which two segments cross, rounded to whole units.
 fn put_meeting(line: &mut Vec<u8>, first: Seg, second: Seg) -> Result<(), OutOfMemory>
     requires { conflict_of first second ≡ Some Kind.Crossing }
-    ensures { OnOk result ((text : List ℕ) × IsMeetingText first second text × (line.new.items ≡ line.old.items ++ text)) }
+    ensures { OnOk result ((text : List ℕ) × IsMeetingText first second text
+        × (line.new.items ≡ line.old.items ++ text)) }
 {
     let (x, y) = meeting(first, second);
     put_rounded(line, x, y)?;
@@ -90,7 +92,8 @@ fn put_shared(line: &mut Vec<u8>, first: Seg, second: Seg) -> Result<(), OutOfMe
 
 /// Adds words that an id follows.
 fn put_missing(line: &mut Vec<u8>, kind: u8, id: i64) -> Result<(), OutOfMemory>
-    ensures { OnOk result (line.new.items ≡ line.old.items ++ (unwrap_or (word_of kind) [] ++ codes " " ++ signed_decimal id)) }
+    ensures { OnOk result (line.new.items ≡ line.old.items
+        ++ (unwrap_or (word_of kind) [] ++ codes " " ++ signed_decimal id)) }
 {
     line.extend_from_slice(word(kind).as_bytes())?;
     line.push(b' ')?;
@@ -112,7 +115,8 @@ fn put_crossing(line: &mut Vec<u8>, first: Seg, second: Seg) -> Result<(), OutOf
 /// Adds an overlap: the stretch that is shared, and its segments.
 fn put_overlap(line: &mut Vec<u8>, first: Seg, second: Seg) -> Result<(), OutOfMemory>
     requires { conflict_of first second ≡ Some Kind.Overlap }
-    ensures { OnOk result (line.new.items ≡ line.old.items ++ (codes "overlap " ++ shared_text first second ++ pair_text first second)) }
+    ensures { OnOk result (line.new.items ≡ line.old.items
+        ++ (codes "overlap " ++ shared_text first second ++ pair_text first second)) }
 {
     line.extend_from_slice(word(OVERLAP).as_bytes())?;
     line.push(b' ')?;
@@ -123,7 +127,8 @@ fn put_overlap(line: &mut Vec<u8>, first: Seg, second: Seg) -> Result<(), OutOfM
 /// Adds what a line says of a problem.
 fn put_problem(line: &mut Vec<u8>, problem: &Problem) -> Result<(), OutOfMemory>
     requires { IsOfItsKind problem.now }
-    ensures { OnOk result ((text : List ℕ) × IsProblemText problem.now text × (line.new.items ≡ line.old.items ++ text)) }
+    ensures { OnOk result ((text : List ℕ) × IsProblemText problem.now text
+        × (line.new.items ≡ line.old.items ++ text)) }
 {
     match *problem {
         Problem::MissingWay { id } => put_missing(line, MISSING_WAY, id),
@@ -150,7 +155,9 @@ fn put_problem(line: &mut Vec<u8>, problem: &Problem) -> Result<(), OutOfMemory>
 
 /// Adds a note on a way.
 fn put_way_note(line: &mut Vec<u8>, way: i64, kind: u8) -> Result<(), OutOfMemory>
-    ensures { OnOk result (line.new.items ≡ line.old.items ++ (codes "note way " ++ signed_decimal way ++ (codes " " ++ unwrap_or (word_of kind) []))) }
+    ensures { OnOk result (line.new.items ≡ line.old.items
+        ++ (codes "note way " ++ signed_decimal way
+        ++ (codes " " ++ unwrap_or (word_of kind) []))) }
 {
     line.extend_from_slice(b"note way ")?;
     put_number(line, way)?;
@@ -161,7 +168,8 @@ fn put_way_note(line: &mut Vec<u8>, way: i64, kind: u8) -> Result<(), OutOfMemor
 
 /// Adds the note on a segment that stands more than once.
 fn put_repeated(line: &mut Vec<u8>, seg: Seg, times: u64) -> Result<(), OutOfMemory>
-    ensures { OnOk result (line.new.items ≡ line.old.items ++ codes "note segment " ++ segment_text seg ++ codes " stands " ++ decimal times ++ codes " times") }
+    ensures { OnOk result (line.new.items ≡ line.old.items ++ codes "note segment "
+        ++ segment_text seg ++ codes " stands " ++ decimal times ++ codes " times") }
 {
     line.extend_from_slice(b"note segment ")?;
     put_stretch(line, seg.a, seg.b)?;

@@ -21,7 +21,7 @@ use Rattle.osm_text.specs.Properties.{by_key, member_text, properties_text, put_
 use Rattle.osm_text.specs.Rows.{led}
 use Rattle.osm_text.proofs.EscapeLemmas.{quoted-string}
 use Rattle.osm_text.proofs.RowLemmas.{led-list}
-use Rattle.lists.proofs.Options.{is_some-map}
+use Rattle.lists.proofs.ListsKit.{is_some-map}
 
 -- ---- a key is there where a tag has it
 

@@ -73,7 +73,8 @@ fn put_points(
     lead: u8,
     points: &[Loc],
 ) -> Result<(), OutOfMemory>
-    ensures { OnOk result (text.new.items ≡ text.old.items ++ led lead (map (point_in notation) points.now)) }
+    ensures { OnOk result (text.new.items ≡ text.old.items
+        ++ led lead (map (point_in notation) points.now)) }
 {
     let mut byte = lead;
     for &point in points {
@@ -106,7 +107,8 @@ fn put_inners(
     notation: Notation,
     rings: &[Ring],
 ) -> Result<(), OutOfMemory>
-    ensures { OnOk result (text.new.items ≡ text.old.items ++ led 44 (map (ring_in notation) (map path_along rings.now))) }
+    ensures { OnOk result (text.new.items ≡ text.old.items
+        ++ led 44 (map (ring_in notation) (map path_along rings.now))) }
 {
     for ring in rings {
         let path = path_of(alloc, ring)?;
@@ -123,7 +125,8 @@ fn put_polygon(
     notation: Notation,
     polygon: &Polygon,
 ) -> Result<(), OutOfMemory>
-    ensures { OnOk result (text.new.items ≡ text.old.items ++ polygon_in notation (paths_in polygon.now)) }
+    ensures { OnOk result (text.new.items ≡ text.old.items
+        ++ polygon_in notation (paths_in polygon.now)) }
 {
     let path = path_of(alloc, &polygon.outer)?;
     text.push(notation.open())?;
@@ -141,7 +144,8 @@ fn put_each(
     lead: u8,
     polygons: &[Polygon],
 ) -> Result<(), OutOfMemory>
-    ensures { OnOk result (text.new.items ≡ text.old.items ++ led lead (map (polygon_in notation) (paths_of polygons.now))) }
+    ensures { OnOk result (text.new.items ≡ text.old.items
+        ++ led lead (map (polygon_in notation) (paths_of polygons.now))) }
 {
     let mut byte = lead;
     for polygon in polygons {
@@ -159,7 +163,8 @@ pub(crate) fn put_polygons(
     notation: Notation,
     polygons: &[Polygon],
 ) -> Result<(), OutOfMemory>
-    ensures { OnOk result (text.new.items ≡ text.old.items ++ polygons_in notation (paths_of polygons.now)) }
+    ensures { OnOk result (text.new.items ≡ text.old.items
+        ++ polygons_in notation (paths_of polygons.now)) }
 {
     if polygons.is_empty() {
         text.push(notation.open())?;

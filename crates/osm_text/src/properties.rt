@@ -12,7 +12,9 @@ use std::alloc::{AllocError as OutOfMemory, Global};
 
 /// Adds a tag, unless its key is there.
 fn put(alloc: Global, object: &mut Map<String, Value>, tag: &TagRef<'_>) -> Result<(), OutOfMemory>
-    ensures { (tags : List Tag) → members_view object.old.entries ≡ members tags → OnOk result (members_view object.new.entries ≡ members (with_tag tags (tag_seen tag.now))) }
+    ensures { (tags : List Tag) → members_view object.old.entries ≡ members tags
+        → OnOk result (members_view object.new.entries
+        ≡ members (with_tag tags (tag_seen tag.now))) }
 {
     let key = String::from_str(alloc, tag.key)?;
     if object.contains_key(&key) {
