@@ -4,6 +4,7 @@ use Rattle.opl_reader.specs.declared.object.Object.{Object}
 use Rattle.opl_reader.specs.declared.object.ObjectRef.{ObjectRef}
 use Rattle.osm_area.specs.Outcome.{OutcomeExists}
 use Rattle.osm_objects.specs.Candidates.{candidates}
+use Rattle.job_export.specs.Choice.{choice_of}
 use Rattle.osm_report.specs.Report.{ProblemLineExists}
 use Rattle.osm_words.specs.Job.{ExportSettings}
 use Rattle.job_export.specs.declared.work.Halt.{Halt}
@@ -21,7 +22,7 @@ use Rattle.osm_job.proofs.Prefixes.{whole_prefix, prefix_behind, prefix_of_longe
 
 module _ (settings : ExportSettings) (objects : List Object) where
   abbrev all : List ObjectRef
-  all = candidates settings.keep_untagged objects
+  all = candidates (choice_of settings) objects
 
   abbrev head : List Sent
   head = map to_output (header settings.format)

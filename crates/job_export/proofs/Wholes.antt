@@ -6,6 +6,7 @@ use Rattle.osm_area.specs.Outcome.{OutcomeExists}
 use Rattle.osm_host.specs.Outside.{Outside}
 use Rattle.osm_host.specs.declared.host.Failed.{Failed}
 use Rattle.osm_objects.specs.Candidates.{candidates}
+use Rattle.job_export.specs.Choice.{choice_of}
 use Rattle.osm_report.specs.Report.{ProblemLineExists}
 use Rattle.osm_words.specs.Job.{ExportSettings}
 use Rattle.job_export.specs.declared.work.Halt.{Halt}
@@ -39,7 +40,7 @@ module _ (settings : ExportSettings) (objects : List Object) where
   }
 
   module _ (bytes : List ℕ) (is : bytes ≡ header settings.format) (before middle : Outside) (u : Unit {0}) (top : Wrote {T = Unit {0}} {E = Failed} (map to_output bytes) before middle (Ok u))
-      (cs : List ObjectRef) (all : cs ≡ candidates settings.keep_untagged objects) (next : Outside) where
+      (cs : List ObjectRef) (all : cs ≡ candidates (choice_of settings) objects) (next : Outside) where
     top_sent : top.written ≡ head
     top_sent = top.sent ∙ ap (map to_output) is
 
@@ -64,7 +65,7 @@ module _ (settings : ExportSettings) (objects : List Object) where
       abbrev es : List Entry
       es = body.right.0
 
-      are : AreEntriesOf settings objects (candidates settings.keep_untagged objects) es
+      are : AreEntriesOf settings objects (candidates (choice_of settings) objects) es
       are = subst (λ (xs : List ObjectRef). AreEntriesOf settings objects xs es) all body.right.1
 
       behind : (written : List Sent) → Added written next last → Added (head ++ body.written ++ written) before last

@@ -4,6 +4,7 @@ use Rattle.opl_reader.specs.declared.object.Object.{Object}
 use Rattle.opl_reader.specs.declared.object.ObjectRef.{ObjectRef}
 use Rattle.osm_host.specs.Outside.{Outside, output}
 use Rattle.osm_objects.specs.Candidates.{candidates}
+use Rattle.job_export.specs.Choice.{choice_of}
 use Rattle.osm_words.specs.Job.{ExportSettings}
 use Rattle.osm_job.specs.declared.ended.Ended.{Ended}
 use Rattle.osm_job.specs.declared.ended.Ended.TheVariants as ended
@@ -35,12 +36,12 @@ HaveAreas entries = All (λ entry. has_area entry ≡ true) entries
 -- Each candidate has its entry, in order; or the run is to stop at the first candidate with problems.
 pub data IsExport (settings : ExportSettings) (objects : List Object) (whole : Whole) : Type 0 where
   finished : (entries : List Entry) →
-      map (λ entry. entry.candidate) entries ≡ candidates settings.keep_untagged objects →
+      map (λ entry. entry.candidate) entries ≡ candidates (choice_of settings) objects →
       All (IsEntry settings.show_errors objects) entries →
       (settings.stop_on_error ≡ true → HaveAreas entries) →
       whole ≡ finished_whole settings objects entries → IsExport settings objects whole
   stopped : (entries : List Entry) (last : Entry) (later : List ObjectRef) → settings.stop_on_error ≡ true →
-      candidates settings.keep_untagged objects ≡ map (λ entry. entry.candidate) entries ++ last.candidate ∷ later →
+      candidates (choice_of settings) objects ≡ map (λ entry. entry.candidate) entries ++ last.candidate ∷ later →
       All (IsEntry settings.show_errors objects) entries → IsEntry settings.show_errors objects last →
       HaveAreas entries → has_area last ≡ false →
       whole ≡ stopped_whole settings objects entries last → IsExport settings objects whole

@@ -1,3 +1,4 @@
+pub mod Choice
 pub mod Entries
 pub mod Entry
 pub mod Export

@@ -68,7 +68,10 @@ fn feature_of(
 ) -> Result<Vec<u8>, OutOfMemory>
     requires held { IsSome (object_at store.now candidate) }
     requires room { earlier + 1 ≤ 18_446_744_073_709_551_615 }
-    ensures { IfOk result (λ text. text.items ≡ framed (settings_seen settings.now) earlier (feature_in settings.now.format (feature_id settings.now.ids earlier candidate) polygons.now (tags_of (object_at store.now candidate)))) }
+    ensures { IfOk result (λ text. text.items
+        ≡ framed (settings_seen settings.now) earlier
+        (feature_in settings.now.format (feature_id settings.now.ids earlier candidate)
+        polygons.now (tags_of (object_at store.now candidate)))) }
 {
     let tags = store.area_tags(alloc, candidate)?;
     let id = feature_id(settings.ids, earlier, candidate);
@@ -115,7 +118,8 @@ fn push_problems(
     show_errors: bool,
 ) -> Result<(), OutOfMemory>
     requires { All IsOfItsKind problems.now }
-    ensures { OnOk result (AddsProblems show_errors of problems.now (lines_text lines.old.items) (lines_text lines.new.items)) }
+    ensures { OnOk result (AddsProblems show_errors of problems.now
+        (lines_text lines.old.items) (lines_text lines.new.items)) }
 {
     if !show_errors {
         return Ok(());
@@ -134,7 +138,8 @@ fn push_notes(
     notes: &[Note],
     show_errors: bool,
 ) -> Result<(), OutOfMemory>
-    ensures { OnOk result (lines_text lines.new.items ≡ lines_text lines.old.items ++ shown show_errors (flat_map (note_line of) notes.now)) }
+    ensures { OnOk result (lines_text lines.new.items
+        ≡ lines_text lines.old.items ++ shown show_errors (flat_map (note_line of) notes.now)) }
 {
     if !show_errors {
         return Ok(());

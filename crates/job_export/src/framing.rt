@@ -63,7 +63,8 @@ pub(crate) fn framed(
     earlier: u64,
     feature: Vec<u8>,
 ) -> Result<Vec<u8>, OutOfMemory>
-    ensures { IfOk result (λ text. text.items ≡ framed (settings_seen settings.now) earlier feature.items) }
+    ensures { IfOk result (λ text. text.items
+        ≡ framed (settings_seen settings.now) earlier feature.items) }
 {
     let before = before_feature(settings.format, settings.omit_rs, earlier);
     let after = after_feature(settings.format);

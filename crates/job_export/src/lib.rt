@@ -4,6 +4,7 @@
 //! then its report lines, and a footer; or all up to the first candidate with problems, where the run is to stop there.
 #![tactic(auto)]
 
+mod choice;
 mod entry;
 mod framing;
 mod laws;

@@ -2,12 +2,14 @@
 
 ghost use Rattle.std.specs.Prelude.{◌≡◌, ◌+◌, ◌≤◌, All, IfOk, IsSome, Ok};
 ghost use Rattle.job_export.specs.ExportSteps.{WroteWhole, WroteCandidates, WroteCandidate, ended_by};
+ghost use Rattle.job_export.specs.Choice.{choice_of};
 ghost use Rattle.job_export.specs.Export.{Exports, IsExport};
 ghost use Rattle.osm_job.specs.Worked.{WroteOver};
-ghost use Rattle.osm_objects.specs.Candidates.{candidates as candidates_of};
+ghost use Rattle.osm_objects.specs.Candidates.{candidates as all_candidates};
 ghost use Rattle.osm_objects.specs.Objects.{object_at};
 ghost use Rattle.osm_words.specs.Answers.{settings_seen};
 
+use crate::choice::candidates_of;
 use crate::entry::texts_of;
 use crate::framing::{footer, header};
 use crate::writing::write_texts;
@@ -41,7 +43,7 @@ pub fn export<H: Host>(alloc: Global, settings: &ExportSettings<'_>, host: &mut 
         Ok(store) => store,
         Err(ended) => return ended,
     };
-    let Ok(candidates) = store.candidates(alloc, settings.keep_untagged) else {
+    let Ok(candidates) = candidates_of(alloc, &store, settings) else {
         return Ended::OutOfMemory;
     };
     let Ok(()) = host.open_output(settings.output, settings.overwrite) else {
@@ -58,9 +60,11 @@ fn write_export<H: Host>(
     candidates: &[ObjectRef],
     host: &mut H,
 ) -> Ended
-    requires all { candidates.now ≡ candidates_of settings.now.keep_untagged store.now }
+    requires all { candidates.now
+        ≡ all_candidates (choice_of (settings_seen settings.now)) store.now }
     requires held { All (λ of. IsSome (object_at store.now of)) candidates.now }
-    ensures { WroteOver (IsExport (settings_seen settings.now) store.now) result (H.seen host.old) (H.seen host.new) }
+    ensures { WroteOver (IsExport (settings_seen settings.now) store.now) result
+        (H.seen host.old) (H.seen host.new) }
 {
     ended_by(write_whole(alloc, store, settings, candidates, host))
 }
@@ -85,9 +89,11 @@ fn write_whole<H: Host>(
     candidates: &[ObjectRef],
     host: &mut H,
 ) -> Result<(), Halt>
-    requires all { candidates.now ≡ candidates_of settings.now.keep_untagged store.now }
+    requires all { candidates.now
+        ≡ all_candidates (choice_of (settings_seen settings.now)) store.now }
     requires held { All (λ of. IsSome (object_at store.now of)) candidates.now }
-    ensures { WroteWhole (settings_seen settings.now) store.now (H.seen host.old) (H.seen host.new) result }
+    ensures { WroteWhole (settings_seen settings.now) store.now
+        (H.seen host.old) (H.seen host.new) result }
 {
     outcome_exists();
     problem_line_exists();
@@ -112,7 +118,8 @@ fn write_candidates<H: Host>(
     host: &mut H,
 ) -> Result<(), Halt>
     requires { All (λ of. IsSome (object_at store.now of)) candidates.now }
-    ensures { WroteCandidates (settings_seen settings.now) store.now candidates.now (H.seen host.old) (H.seen host.new) result }
+    ensures { WroteCandidates (settings_seen settings.now) store.now candidates.now
+        (H.seen host.old) (H.seen host.new) result }
 {
     let mut features = 0;
     for &candidate in candidates {
@@ -137,7 +144,8 @@ fn write_candidate<H: Host>(
     requires held { IsSome (object_at store.now candidate) }
     requires room { earlier + 1 ≤ 18_446_744_073_709_551_615 }
     ensures one { IfOk result (λ count. count ≤ 1) }
-    ensures wrote { WroteCandidate (settings_seen settings.now) store.now earlier candidate (H.seen host.old) (H.seen host.new) result }
+    ensures wrote { WroteCandidate (settings_seen settings.now) store.now earlier candidate
+        (H.seen host.old) (H.seen host.new) result }
 {
     let Ok(texts) = texts_of(alloc, store, settings, candidate, earlier) else {
         return Err(Halt::OutOfMemory);

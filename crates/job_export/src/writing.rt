@@ -21,7 +21,8 @@ pub(crate) fn write_texts<H: Host>(host: &mut H, texts: &Texts) -> Result<(), Fa
 
 /// Writes a feature, where there is one.
 fn write_feature<H: Host>(host: &mut H, feature: &Option<Vec<u8>>) -> Result<(), Failed>
-    ensures { Wrote (map to_output (feature_text_of feature.now)) (H.seen host.old) (H.seen host.new) result }
+    ensures { Wrote (map to_output (feature_text_of feature.now))
+        (H.seen host.old) (H.seen host.new) result }
 {
     match feature {
         Some(feature) => write_out(host, feature),

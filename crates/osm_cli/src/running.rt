@@ -22,7 +22,8 @@ use std::alloc::Global;
 ///
 /// Every ending but Done writes a last line to the report. A failed write of that line doesn't change the answer.
 pub fn run<H: Host>(alloc: Global, words: &[String], host: &mut H) -> Ended
-    ensures ran { Ran (job_asked (map string_bytes words.now)) result (H.seen host.old) (H.seen host.new) }
+    ensures ran { Ran (job_asked (map string_bytes words.now)) result (H.seen host.old)
+        (H.seen host.new) }
     // Plain words are taken with what they say, so that all of this is said of that.
     ensures plain { (options : List (Form × ExportOption)) (file : List ℕ) → ArePlain options file
         → map string_bytes words.now ≡ export_words options file
@@ -47,7 +48,8 @@ pub fn run_for_status<H: Host>(alloc: Global, words: &[String], host: &mut H) ->
 
 /// The run but for its last line.
 fn work<H: Host>(alloc: Global, words: &[String], host: &mut H) -> Ended
-    ensures { Works (job_asked (map string_bytes words.now)) result (H.seen host.old) (H.seen host.new) }
+    ensures { Works (job_asked (map string_bytes words.now)) result (H.seen host.old)
+        (H.seen host.new) }
 {
     // By law: nothing more is nothing changed.
     streams_append();
@@ -68,7 +70,8 @@ fn work_on<H: Host>(alloc: Global, job: &Job<'_>, host: &mut H) -> Ended
 
 /// As `export`, of which it says what it is for a run.
 fn run_export<H: Host>(alloc: Global, settings: &ExportSettings<'_>, host: &mut H) -> Ended
-    ensures { Works (Ok (export (settings_seen settings.now))) result (H.seen host.old) (H.seen host.new) }
+    ensures { Works (Ok (export (settings_seen settings.now))) result (H.seen host.old)
+        (H.seen host.new) }
 {
     export(alloc, settings, host)
 }
