@@ -1,9 +1,10 @@
-// Areas: one line of text for each, with the notes and the problems of candidates in the report.
+//! Areas: one line of text for each, with the notes and the problems of candidates in the report.
 
 use crate::run::{HOLE, SQUARE, run_over};
 use osm_cli::Ended;
 use std::test::Fail;
 
+/// Each ring of an area once, cut at nodes that it touches, and nested.
 #[test]
 fn rings_are_nested_and_touch_at_nodes(rt: HostRuntime) -> Result<(), Fail> {
     let alloc = rt.alloc();
@@ -43,6 +44,7 @@ fn rings_are_nested_and_touch_at_nodes(rt: HostRuntime) -> Result<(), Fail> {
     Ok(())
 }
 
+/// What is odd about an area that can be built is noted in the report.
 #[test]
 fn notes_stand_beside_areas(rt: HostRuntime) -> Result<(), Fail> {
     let alloc = rt.alloc();
@@ -81,6 +83,7 @@ fn notes_stand_beside_areas(rt: HostRuntime) -> Result<(), Fail> {
     Ok(())
 }
 
+/// A candidate with problems gives no area, and all its problems are told.
 #[test]
 fn candidates_have_their_problems(rt: HostRuntime) -> Result<(), Fail> {
     let alloc = rt.alloc();
@@ -125,6 +128,7 @@ fn candidates_have_their_problems(rt: HostRuntime) -> Result<(), Fail> {
     Ok(())
 }
 
+/// From each of its nodes, in both directions.
 #[test]
 fn a_square_is_written_whichever_way_it_is_drawn(rt: HostRuntime) -> Result<(), Fail> {
     let alloc = rt.alloc();

@@ -1,9 +1,10 @@
-// Words that aren't taken, and calls on the host that fail.
+//! Words that aren't taken, and calls on the host that fail.
 
 use crate::run::{HOLE, SQUARE, run_over};
 use osm_cli::Ended;
 use std::test::Fail;
 
+/// The last line tells why, and nothing is written out.
 #[test]
 fn words_are_refused_by_their_cause(rt: HostRuntime) -> Result<(), Fail> {
     let alloc = rt.alloc();
@@ -26,8 +27,8 @@ fn words_are_refused_by_their_cause(rt: HostRuntime) -> Result<(), Fail> {
     Ok(())
 }
 
-/// The calls are open_input, read, read, open_output, the writes of the header, the feature and the footer, and where one failed that of the
-/// last line.
+/// The calls are open_input, read, read, open_output, the writes of the header, the feature and the
+/// footer, and where one failed that of the last line.
 #[test]
 fn each_write_of_geojson_may_fail(rt: HostRuntime) -> Result<(), Fail> {
     let alloc = rt.alloc();

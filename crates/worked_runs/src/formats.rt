@@ -1,15 +1,17 @@
-// Formats of the output, and the ids of its features.
+//! Formats of the output, and the ids of its features.
 
 use crate::run::{HOLE, SQUARE, run_over};
 use osm_cli::Ended;
 use std::test::Fail;
 
+/// A collection without features.
 const NOTHING: &str = "{\"type\":\"FeatureCollection\",\"features\":[\n]}\n";
 
 /// As a tool that writes OPL gives a village: its boundary and its place.
 const VILLAGE: &str =
     "n1 v1 dV c11 t2020-01-01T00:00:00Z i7 uAnna%20%B T x10 y50\nn2 v1 dV c11 t2020-01-01T00:00:00Z i7 uAnna%20%B T x10.1 y50\nn3 v1 dV c11 t2020-01-01T00:00:00Z i7 uAnna%20%B T x10.1 y50.1\nn4 v1 dV c11 t2020-01-01T00:00:00Z i7 uAnna%20%B T x10 y50.1\nn8 v2 dD c12 t2020-01-03T00:00:00Z i7 uAnna%20%B T x y\nn9 v1 dV c11 t2020-01-01T00:00:00Z i7 uAnna%20%B Tplace=village x10.05 y50.05\nw1 v2 dV c12 t2020-01-03T00:00:00Z i7 uAnna%20%B T Nn1,n2,n3\nw2 v1 dV c11 t2020-01-01T00:00:00Z i7 uAnna%20%B T Nn1,n4,n3\nr1 v4 dV c12 t2020-01-03T00:00:00Z i7 uAnna%20%B Ttype=boundary,boundary=administrative,admin_level=8 Mw1@outer,w2@outer,n9@label\n";
 
+/// Formats without a header and a footer write nothing.
 #[test]
 fn without_candidates_header_and_footer_alone_are_written(rt: HostRuntime) -> Result<(), Fail> {
     let alloc = rt.alloc();
@@ -28,6 +30,7 @@ fn without_candidates_header_and_footer_alone_are_written(rt: HostRuntime) -> Re
     Ok(())
 }
 
+/// The id of an area of a relation is twice the relation's and one more.
 #[test]
 fn areas_have_their_ids(rt: HostRuntime) -> Result<(), Fail> {
     let alloc = rt.alloc();
@@ -54,6 +57,7 @@ fn areas_have_their_ids(rt: HostRuntime) -> Result<(), Fail> {
     Ok(())
 }
 
+/// Deleted objects and fields that nothing is made of are read and left.
 #[test]
 fn a_village_is_a_sequence_of_one_feature(rt: HostRuntime) -> Result<(), Fail> {
     let alloc = rt.alloc();
@@ -68,8 +72,8 @@ fn a_village_is_a_sequence_of_one_feature(rt: HostRuntime) -> Result<(), Fail> {
     Ok(())
 }
 
-/// A candidate with problems adds no feature: no comma stands for it, and the counter doesn't count it. One without tags is left out, unless
-/// those are kept.
+/// A candidate with problems adds no feature: no comma stands for it, and the counter doesn't count
+/// it. One without tags is left out, unless those are kept.
 #[test]
 fn features_are_counted_and_parted(rt: HostRuntime) -> Result<(), Fail> {
     let alloc = rt.alloc();
@@ -98,6 +102,7 @@ fn features_are_counted_and_parted(rt: HostRuntime) -> Result<(), Fail> {
     Ok(())
 }
 
+/// A character that is no ASCII is written by its code point.
 #[test]
 fn a_name_is_escaped(rt: HostRuntime) -> Result<(), Fail> {
     let input =

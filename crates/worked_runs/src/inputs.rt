@@ -1,12 +1,13 @@
-// Bad places of an input, and the limits of reading.
+//! Bad places of an input, and the limits of reading.
 
 use crate::run::{host_of, run_on, run_over};
-use opl_reader::ObjectKind;
+use opl_reader::{FaultKind, LineFault, ObjectKind};
 use osm_cli::{InputFault, ReadError, read_all};
 use osm_host::{Host, MemoryHost};
 use std::alloc::Global;
 use std::test::Fail;
 
+/// The last line names the line, the fault and its place, and nothing is written out.
 #[test]
 fn a_bad_line_ends_a_run(rt: HostRuntime) -> Result<(), Fail> {
     let alloc = rt.alloc();
@@ -52,6 +53,7 @@ fn a_bad_line_ends_a_run(rt: HostRuntime) -> Result<(), Fail> {
     Ok(())
 }
 
+/// Bytes that are no UTF-8 stand at their place in the line.
 #[test]
 fn a_line_that_is_no_text_is_bad(rt: HostRuntime) -> Result<(), Fail> {
     let alloc = rt.alloc();
@@ -76,10 +78,12 @@ fn read_error(alloc: Global, host: &mut MemoryHost, limit: u32, longest: u64) ->
     }
 }
 
+/// The bad place of an input.
 fn bad(line: u64, fault: InputFault) -> Option<ReadError> {
     Some(ReadError::BadInput { line, fault })
 }
 
+/// More bytes than the limit.
 fn too_much(limit: u64) -> Option<ReadError> {
     Some(ReadError::TooMuchInput { limit })
 }
@@ -91,6 +95,10 @@ fn limits_are_met_exactly(rt: HostRuntime) -> Result<(), Fail> {
     let kind = ObjectKind::Node;
     let again = InputFault::Duplicate { kind, id: 1 };
     let long = InputFault::TooLong;
+    let unknown = InputFault::Line(LineFault {
+        kind: FaultKind::UnknownObject,
+        place: 0,
+    });
     let cases = [
         ("# 345678901234567890\n", 20, 100, 0, too_much(20)),
         ("# 345678901234567890\n", 21, 100, 0, None),
@@ -98,6 +106,11 @@ fn limits_are_met_exactly(rt: HostRuntime) -> Result<(), Fail> {
         ("n1 x0 y00\n", 100, 8, 0, bad(1, long)),
         ("n1\nn1\nx", 100, 8, 0, bad(2, again)),
         ("n1\nn1\n", 3, 8, 0, too_much(3)),
+        // only lines within the limit are read, and they before it is passed
+        ("n1\nx1\n", 3, 8, 0, too_much(3)),
+        ("n1\nx1\nn2\n", 6, 8, 0, bad(2, unknown)),
+        ("n1\nxxxxxxxx", 8, 8, 0, too_much(8)),
+        ("n1\nxxxxxxxxxx\n", 12, 8, 0, bad(2, long)),
         ("n1\nn1\n", 6, 8, 3, bad(2, again)),
         ("n1\nx", 6, 8, 3, Some(ReadError::ReadFault)),
         ("n1\nxxxxxxxxx", 100, 8, 3, bad(2, long)),

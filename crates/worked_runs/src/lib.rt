@@ -2,6 +2,8 @@
 #![tactic(auto)]
 
 #[cfg(test)]
+mod area_keys;
+#[cfg(test)]
 mod areas;
 #[cfg(test)]
 mod faults;
@@ -10,7 +12,11 @@ mod formats;
 #[cfg(test)]
 mod inputs;
 #[cfg(test)]
+mod located_references;
+#[cfg(test)]
 mod nested_areas;
+#[cfg(test)]
+mod pieces;
 #[cfg(test)]
 mod run;
 #[cfg(test)]

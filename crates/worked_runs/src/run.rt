@@ -1,4 +1,4 @@
-// A run over a host in memory, and what it wrote.
+//! A run over a host in memory, and what it wrote.
 
 use osm_cli::{Ended, command_of, run, status};
 use osm_host::MemoryHost;
@@ -30,6 +30,7 @@ pub(crate) fn host_of(alloc: Global, input: &str, fail: u64) -> Result<MemoryHos
     Ok(host)
 }
 
+/// The words of a command line.
 fn words_of(alloc: Global, text: &str) -> Result<Vec<String>, OutOfMemory> {
     let mut words = Vec::new(alloc);
     for word in text.split_whitespace() {
@@ -38,6 +39,7 @@ fn words_of(alloc: Global, text: &str) -> Result<Vec<String>, OutOfMemory> {
     Ok(words)
 }
 
+/// Bytes as text.
 fn text_of(alloc: Global, bytes: &[u8]) -> Result<String, OutOfMemory> {
     String::from_str(alloc, str::from_utf8(bytes).unwrap_or("not text"))
 }

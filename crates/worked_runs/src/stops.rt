@@ -1,13 +1,15 @@
-// Runs that stop at the first candidate with problems, and files as outputs.
+//! Runs that stop at the first candidate with problems, and files as outputs.
 
 use crate::run::{HOLE, host_of, run_on, run_over};
 use opl_reader::{ObjectKind, ObjectRef};
 use osm_cli::Ended;
 use std::test::Fail;
 
+/// A relation that lacks a node and a way.
 const MISSING: &str =
     "n1 x0 y0\nn2 x1 y0\nw1 Nn1,n2,n4,n1\nr5 Ttype=multipolygon,a=b Mw1@outer,w9@outer\n";
 
+/// With the flag for it, and with the report of the problems or without.
 #[test]
 fn it_stops_at_the_first_candidate_with_problems(rt: HostRuntime) -> Result<(), Fail> {
     let alloc = rt.alloc();
@@ -63,6 +65,7 @@ fn it_writes_what_stands_before(rt: HostRuntime) -> Result<(), Fail> {
     Ok(())
 }
 
+/// As the flag for it says.
 #[test]
 fn an_output_that_is_there_is_kept_or_overwritten(rt: HostRuntime) -> Result<(), Fail> {
     let alloc = rt.alloc();
