@@ -31,3 +31,23 @@ text_in (w ∷ words) kind = if w.kind == kind then Some w.text else text_in wor
 -- the words of a problem or a note
 abbrev pub word_of : ℕ → Option (List ℕ)
 word_of kind = text_in problem_words kind
+
+abbrev pub coast_words : List Word
+coast_words =
+    word 1 (codes "missing node")
+    ∷ word 2 (codes "short")
+    ∷ word 3 (codes "antarctica closed on way")
+    ∷ word 4 (codes "gap closed from")
+    ∷ word 5 (codes "is not closed, from")
+    ∷ word 6 (codes "is left out")
+    ∷ word 7 (codes "crossing")
+    ∷ word 8 (codes "overlap")
+    ∷ word 9 (codes "stands")
+    ∷ word 10 (codes "runs the wrong way")
+    ∷ word 11 (codes "piece of")
+    ∷ word 12 (codes "vanished")
+    ∷ []
+
+-- the words of a line of a coastline report
+abbrev pub coast_word_of : ℕ → Option (List ℕ)
+coast_word_of kind = text_in coast_words kind

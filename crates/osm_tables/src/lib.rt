@@ -3,8 +3,12 @@
 
 ghost use Rattle.std.specs.Prelude.{◌≡◌, ◌≢◌, ◌↔◌, All, MatchOption, IsSome};
 ghost use Rattle.std.specs.Option.{option_copied};
-ghost use Rattle.osm_tables.specs.Tables.{HasRisingKeys, HasRow, code_of, node_fields, way_fields, relation_fields, problem_kinds};
+ghost use Rattle.osm_tables.specs.Tables.{HasRisingKeys, HasRow, code_of, coast_kinds, node_fields, way_fields, relation_fields, problem_kinds};
 ghost use Rattle.osm_tables.specs.Words.{word_of};
+
+pub mod coast;
+
+use crate::coast::COAST_KINDS;
 
 /// A key and its code.
 #[derive(Clone, Copy, Debug, PartialEq, Eq)]
@@ -208,6 +212,7 @@ pub fn tables_are()
     ensures way { WAY_FIELDS ≡ way_fields }
     ensures relation { RELATION_FIELDS ≡ relation_fields }
     ensures problem { PROBLEM_KINDS ≡ problem_kinds }
+    ensures coast { COAST_KINDS ≡ coast_kinds }
 {}
 
 /// The keys of each table rise strictly, which `look` asks for.
@@ -216,6 +221,7 @@ pub fn tables_rise()
     ensures way { HasRisingKeys WAY_FIELDS }
     ensures relation { HasRisingKeys RELATION_FIELDS }
     ensures problem { HasRisingKeys PROBLEM_KINDS }
+    ensures coast { HasRisingKeys COAST_KINDS }
 {}
 
 #[cfg(test)]

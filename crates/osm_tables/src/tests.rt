@@ -1,5 +1,6 @@
 //! What each table has, row by row.
 
+use super::coast::{coast_code, coast_word};
 use super::*;
 use std::test::*;
 
@@ -30,4 +31,20 @@ fn words_of_problems_and_notes(rt: HostRuntime) {
     assert_eq!(rt; problem_code(6), Some(PROBLEM));
     assert_eq!(rt; problem_code(7), Some(NOTE));
     assert_eq!(rt; problem_code(0), None);
+}
+
+#[test]
+fn words_of_coast_lines(rt: HostRuntime) {
+    assert_eq!(rt; coast_word(1), Some("missing node"));
+    assert_eq!(rt; coast_word(5), Some("is not closed, from"));
+    assert_eq!(rt; coast_word(12), Some("vanished"));
+    assert_eq!(rt; coast_word(0), None);
+    assert_eq!(rt; coast_word(13), None);
+    for error in [1, 5, 6, 7, 8] {
+        assert_eq!(rt; coast_code(error), Some(coast::ERROR));
+    }
+    for warning in [2, 3, 4, 9, 10, 11, 12] {
+        assert_eq!(rt; coast_code(warning), Some(coast::WARNING));
+    }
+    assert_eq!(rt; coast_code(13), None);
 }
