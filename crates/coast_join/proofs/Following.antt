@@ -1,20 +1,21 @@
 -- What chains go on to.
 use Rattle.std.proofs.Common.{◌≡◌, ◌≢◌, ◌⊎◌, inl, inr, ℕ, zero, suc, ◌+◌, ◌<◌, ◌≤◌, Bool, true, false, if◌then◌else◌, List, [], ◌∷◌, ◌++◌, length, drop, take, get_or, set, ◌||◌, All, AllPairs, Contains, Option, Some, None, refl, sym, ap, subst, ◌∙◌, arith, ⊎_elim}
+use Rattle.std.specs.declared.cmp.Ordering.{Ordering}
 use Rattle.std.specs.List.{enumerate_from, filter_map, flat_map, list_any, slice_get}
 use Rattle.std.proofs.lemmas.List.Folds.{list_any-append}
 use Rattle.std.proofs.lemmas.Bool.{cases_lt, cases_eq, false≢true}
-use Rattle.std.proofs.lemmas.List.{append-nil, append_assoc, get_or-set_same, get_or-set_other, get_or_default, get_or_past, length-set, length-append, length-take-le, length_push, get_or-take, flat_map_more, take-append-drop}
+use Rattle.std.proofs.lemmas.List.{append_assoc, get_or-set_same, get_or-set_other, get_or_default, get_or_past, length-set, length-append, length-take-le, length_push, get_or-take, flat_map_more, take-append-drop}
 use Rattle.std.proofs.lemmas.List.Elements.{All-contains, All-cons, Contains-push, Contains-push_cases, Contains-append_left, Contains-get_or, filter_map-append}
 use Rattle.std.proofs.lemmas.Option.{same_Some, slice_get_within, slice_get_read}
 use Rattle.osm_lattice.specs.declared.loc.Loc.{Loc}
 use Rattle.osm_lattice.specs.OrderLaws.{LocationOrderTellsApart}
-use Rattle.orbits.specs.Orbits.{after, AreOrbits, IsOneToOne}
+use Rattle.orbits.specs.Orbits.{after, IsOneToOne}
 use Rattle.coast_join.specs.declared.chain.Chain.{Chain}
 use Rattle.coast_join.specs.declared.closing.OpenEnds.{OpenEnds}
 use Rattle.coast_join.specs.declared.gap.Gap.{Gap}
 use Rattle.coast_join.specs.Closings.{gap_between, is_antarctic, is_open, near_pairs, open_ends, open_ends_at}
 use Rattle.coast_join.specs.Joined.{AreNext, Leads, chains_at, paths_of, ways_of}
-use Rattle.coast_join.specs.JoinSteps.{AreGapLinks, AreInside, AreNextBy}
+use Rattle.coast_join.specs.JoinSteps.{AreGapLinks, AreNextBy}
 use Rattle.coast_join.specs.Line.{IsLine}
 use Rattle.coast_join.specs.Round.{once}
 use Rattle.coast_join.specs.Taken.{AreTaken}
@@ -29,7 +30,7 @@ use Rattle.lists.proofs.ListsKit.{taken_more}
 pub links_none : (n : ℕ) (links : List (Option ℕ)) → length links ≡ n → ((k : ℕ) → after links k ≡ None) → AreGapLinks [] n links
 links_none n links sized none = record { sized = sized; exact = λ i j. ((λ e. let z = none i in absurd (cc)), (λ (g, c, f, t). let l = c.1 in absurd (omega arith))) }
 
-links_push : (gaps : List Gap) (n : ℕ) (links : List (Option ℕ)) (g : Gap) → g.from_chain < n → All (λ (h : Gap). h.from_chain ≢ g.from_chain) gaps → AreGapLinks gaps n links → AreGapLinks (gaps ++ g ∷ []) n (set links g.from_chain (Some g.to_chain))
+pub links_push : (gaps : List Gap) (n : ℕ) (links : List (Option ℕ)) (g : Gap) → g.from_chain < n → All (λ (h : Gap). h.from_chain ≢ g.from_chain) gaps → AreGapLinks gaps n links → AreGapLinks (gaps ++ g ∷ []) n (set links g.from_chain (Some g.to_chain))
 links_push gaps n links g inside apart are = record { sized = length-set links g.from_chain (Some g.to_chain) ∙ are.sized; exact = λ i j. (forth i j, back i j) }
   where
     forth : (i j : ℕ) → after (set links g.from_chain (Some g.to_chain)) i ≡ Some j → Leads (gaps ++ g ∷ []) i j
@@ -72,7 +73,7 @@ after_new (x ∷ next) o (suc i) h = after_new next o i (omega arith)
 pub next_none : (links : List (Option ℕ)) → AreNextBy links [] []
 next_none links = record { sized = refl; each = λ i c e. absurd (cc) }
 
-next_push : (links : List (Option ℕ)) (chains : List Chain) (next : List (Option ℕ)) (c : Chain) (o : Option ℕ) → o ≡ (if is_open c then after links (length chains) else Some (length chains)) → AreNextBy links chains next → AreNextBy links (chains ++ c ∷ []) (next ++ o ∷ [])
+pub next_push : (links : List (Option ℕ)) (chains : List Chain) (next : List (Option ℕ)) (c : Chain) (o : Option ℕ) → o ≡ (if is_open c then after links (length chains) else Some (length chains)) → AreNextBy links chains next → AreNextBy links (chains ++ c ∷ []) (next ++ o ∷ [])
 next_push links chains next c o is are = record { sized = length_push next o ∙ (ap (λ n. n + 1) are.sized ∙ sym (length_push chains c)); each = each }
   where
     each : (i : ℕ) (d : Chain) → slice_get (chains ++ c ∷ []) i ≡ Some d → after (next ++ o ∷ []) i ≡ (if is_open d then after links i else Some i)
@@ -131,7 +132,7 @@ pairs_are_open limit chains = All-flat_map (λ (g : Gap). IsOpenAt chains g.from
     let is = gap_names limit (get_or (open_ends chains) k d) (get_or (open_ends chains) j e) g s in
     (subst (IsOpenAt chains) (sym is.0) (ends_are_open chains k d h), subst (IsOpenAt chains) (sym is.1) (ends_are_open chains j e l))))
 
-module _ (limit : ℕ) (chains : List Chain) (gaps : List Gap) (are : AreTaken (near_pairs limit (open_ends chains)) gaps) where
+module _ (cmp : Gap → Gap → Ordering) (limit : ℕ) (chains : List Chain) (gaps : List Gap) (are : AreTaken cmp (near_pairs limit (open_ends chains)) gaps) where
   gap_open : (g : Gap) → Contains gaps g → IsOpenAt chains g.from_chain × IsOpenAt chains g.to_chain
   gap_open g c = All-contains (λ (g : Gap). IsOpenAt chains g.from_chain × IsOpenAt chains g.to_chain) (near_pairs limit (open_ends chains)) g (pairs_are_open limit chains) ((are.exact g).0 c).0
 
@@ -251,10 +252,3 @@ pub any_front : (chains : List Chain) (places : List ℕ) (i : ℕ) → i ≤ le
 any_front chains places i l h =
     let split : chains_at chains places ≡ chains_at chains (take i places) ++ chains_at chains (drop i places) = ap (chains_at chains) (sym (take-append-drop i places)) ∙ filter_map-append (slice_get chains) (take i places) (drop i places) in
     ap (list_any is_antarctic) split ∙ (list_any-append is_antarctic (chains_at chains (take i places)) (chains_at chains (drop i places)) ∙ ap (λ b. b || list_any is_antarctic (chains_at chains (drop i places))) h)
-
-pub ring_line : LocationOrderTellsApart → (chains : List Chain) (places : List ℕ) (more : List Loc) → 0 < length places → All (λ k. k < length chains) places → (b : Bool) → IsLine (once (if b then paths_of (chains_at chains places) ++ more else paths_of (chains_at chains places)))
-ring_line exact chains places more h inside true = line_of_chains exact chains places more h inside
-ring_line exact chains places more h inside false = subst (λ (xs : List Loc). IsLine (once xs)) (append-nil (paths_of (chains_at chains places))) (line_of_chains exact chains places [] h inside)
-
-pub orbits_inside : (next : List (Option ℕ)) (os : List (List ℕ)) (n : ℕ) → length next ≡ n → AreOrbits next os → All (λ (o : List ℕ). All (λ k. k < length next) o) os → All (AreInside n) os
-orbits_inside next os n sized are below k d h = record { some = (are.each k d h).some; inside = subst (λ m. All (λ i. i < m) (get_or os k d)) sized (below k d h) }

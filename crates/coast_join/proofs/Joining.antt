@@ -84,7 +84,7 @@ whole_one p h = rw (append-nil (front_of p)) (front_last p h)
 whole_cons : (p q : List Loc) (r : List (List Loc)) → joined false (p ∷ (q ∷ r)) ≡ front_of p ++ joined false (q ∷ r)
 whole_cons p q r = rw (last_path p q r) (append_assoc (front_of p) (flat (q ∷ r)) (last_of (path_at (q ∷ r) (length (q ∷ r) - 1)) ∷ []))
 
-whole_first : (q : List Loc) (r : List (List Loc)) → 2 ≤ length q → (rest : List Loc) × (joined false (q ∷ r) ≡ first_of q ∷ rest)
+pub whole_first : (q : List Loc) (r : List (List Loc)) → 2 ≤ length q → (rest : List Loc) × (joined false (q ∷ r) ≡ first_of q ∷ rest)
 whole_first q r h =
     let f = front_first q h in
     (f.0 ++ flat r ++ last_of (path_at (q ∷ r) (length (q ∷ r) - 1)) ∷ [], ap (λ xs. xs ++ flat r ++ last_of (path_at (q ∷ r) (length (q ∷ r) - 1)) ∷ []) f.1)

@@ -8,3 +8,17 @@ mod OneTaken
 mod Rounding
 mod Sorting
 pub mod Stepping
+mod Slants
+mod NameOrder
+mod Parts
+mod ClosedEnds
+mod RingNames
+mod ChainEnds
+mod ChainNames
+mod OneChains
+mod SomeChains
+mod OneJoined
+mod SomeJoined
+mod ChainWays
+mod RingStarts
+mod SomeWays

@@ -15,7 +15,8 @@ use Rattle.coast_join.specs.declared.gap.Gap.{Gap}
 use Rattle.coast_join.specs.declared.closing.OpenEnds.{OpenEnds}
 use Rattle.coast_join.specs.Closings.{gap_between, is_open, near_pairs, open_ends, open_ends_at, square_between}
 use Rattle.coast_join.specs.Line.{first_of, last_of}
-use Rattle.coast_join.specs.Taken.{AreTaken, gap_cmp}
+use Rattle.coast_join.specs.GapSteps.{gap_cmp}
+use Rattle.coast_join.specs.Taken.{AreTaken}
 use Rattle.coast_join.proofs.NearestFirst.{gap_cmp_total}
 use Rattle.coast_join.proofs.Stepping.{All-enumerated, All-filter_map, All-flat_map}
 use Rattle.lists.proofs.ListsKit.{min_some, some_min}
@@ -75,7 +76,7 @@ module _ (ps ds : List Gap) (once : (g : Gap) → count_of gap_cmp g ds ≡ min 
   once_out : (g : Gap) → Contains ps g → Contains ds g
   once_out g (k, h, e) = stands g ds (some_min _ _ (once g) (counted g ps k h e))
 
-  pub taken_once : (taken : List Gap) → AreTaken ds taken → AreTaken ps taken
+  pub taken_once : (taken : List Gap) → AreTaken gap_cmp ds taken → AreTaken gap_cmp ps taken
   taken_once taken are = record {
     rising = are.rising;
     exact = λ g. ((λ c. let w = (are.exact g).0 c in (once_in g w.0, w.1)), (λ p. (are.exact g).1 (once_out g p.0, p.1)));

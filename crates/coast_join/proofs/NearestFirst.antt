@@ -12,7 +12,8 @@ use Rattle.std.proofs.lemmas.List.Folds.{list_any-append}
 use Rattle.std.proofs.lemmas.List.Quantifiers.{all_pairs_push}
 use Rattle.lists.specs.Rising.{IsRising}
 use Rattle.coast_join.specs.declared.gap.Gap.{Gap}
-use Rattle.coast_join.specs.Taken.{AreTaken, IsFree, gap_cmp}
+use Rattle.coast_join.specs.GapSteps.{gap_cmp}
+use Rattle.coast_join.specs.Taken.{AreTaken, IsFree}
 
 pub gap_cmp_total : IsTotalOrder gap_cmp
 gap_cmp_total = then_total (on_total (λ (g : Gap). g.square) nat_cmp_total) (then_total (on_total (λ (g : Gap). g.from_chain) nat_cmp_total) (on_total (λ (g : Gap). g.to_chain) nat_cmp_total))
@@ -57,7 +58,7 @@ marks_push place taken n marks g h (sized, is) = (length-set marks (place g) tru
         (λ ne. get_or-set_other marks (place g) c true false ne ∙ (is c l ∙ sym (split c ∙ (ap (λ b. list_any (λ x. nat_eq (place x) c) taken || b) (eq_false (place g) c (λ e. ne (sym e))) ∙ or_false (list_any (λ x. nat_eq (place x) c) taken)))))
         (cases_eq c (place g))
 
-none_marked : (place : Gap → ℕ) (c : ℕ) (taken : List Gap) → list_any (λ g. nat_eq (place g) c) taken ≡ false → All (λ g. place g ≢ c) taken
+pub none_marked : (place : Gap → ℕ) (c : ℕ) (taken : List Gap) → list_any (λ g. nat_eq (place g) c) taken ≡ false → All (λ g. place g ≢ c) taken
 none_marked place c [] e k d h = absurd (omega arith)
 none_marked place c (g ∷ gs) e zero d h = λ s. absurd (false≢true (sym e ∙ ap (λ b. b || list_any (λ g. nat_eq (place g) c) gs) (eq-eqb (place g) c s)))
 none_marked place c (g ∷ gs) e (suc k) d h = none_marked place c gs (rest (nat_eq (place g) c) e) k d (omega arith)
@@ -66,7 +67,7 @@ none_marked place c (g ∷ gs) e (suc k) d h = none_marked place c gs (rest (nat
     rest true e = absurd (false≢true (sym e))
     rest false e = e
 
-some_marked : (place : Gap → ℕ) (c : ℕ) (taken : List Gap) → list_any (λ g. nat_eq (place g) c) taken ≡ true → (g : Gap) × Contains taken g × (place g ≡ c)
+pub some_marked : (place : Gap → ℕ) (c : ℕ) (taken : List Gap) → list_any (λ g. nat_eq (place g) c) taken ≡ true → (g : Gap) × Contains taken g × (place g ≡ c)
 some_marked place c [] e = absurd (false≢true e)
 some_marked place c (g ∷ gs) e = by (nat_eq (place g) c) refl e (some_marked place c gs)
   where
@@ -76,7 +77,7 @@ some_marked place c (g ∷ gs) e = by (nat_eq (place g) c) refl e (some_marked p
 
 -- how far the choice has come
 pub record AreTakenOf (passed : List Gap) (n : ℕ) (ended started : List Bool) (taken : List Gap) : Type 0 where
-  pub are : AreTaken passed taken
+  pub are : AreTaken gap_cmp passed taken
   pub ends : AreMarks (λ g. g.from_chain) taken n ended
   pub starts : AreMarks (λ g. g.to_chain) taken n started
 
@@ -87,7 +88,7 @@ taken_none n ended started a b = record {
   starts = b;
 }
 
-module _ (passed : List Gap) (g : Gap) (above : All (λ h. gap_cmp h g ≡ Less) passed) (taken : List Gap) (are : AreTaken passed taken) where
+module _ (passed : List Gap) (g : Gap) (above : All (λ h. gap_cmp h g ≡ Less) passed) (taken : List Gap) (are : AreTaken gap_cmp passed taken) where
   all_passed : (h : Gap) → Contains taken h → Contains passed h
   all_passed h c = ((are.exact h).0 c).0
 
@@ -98,35 +99,35 @@ module _ (passed : List Gap) (g : Gap) (above : All (λ h. gap_cmp h g ≡ Less)
   below_at k d h = below (get_or taken k d) (Contains-get_or taken k d h)
 
   -- a lesser one that is taken touches it
-  pub skip : (h : Gap) → Contains taken h → (h.from_chain ≡ g.from_chain) ⊎ (h.to_chain ≡ g.to_chain) → AreTaken (passed ++ g ∷ []) taken
+  pub skip : (h : Gap) → Contains taken h → (h.from_chain ≡ g.from_chain) ⊎ (h.to_chain ≡ g.to_chain) → AreTaken gap_cmp (passed ++ g ∷ []) taken
   skip h c touches = record { rising = are.rising; exact = λ x. ((λ t. let w = (are.exact x).0 t in (Contains-append_left passed (g ∷ []) x w.0, w.1)), back x) }
     where
-      back : (x : Gap) → Contains (passed ++ g ∷ []) x × IsFree taken x → Contains taken x
+      back : (x : Gap) → Contains (passed ++ g ∷ []) x × IsFree gap_cmp taken x → Contains taken x
       back x (p, f) = ⊎_elim (λ old. (are.exact x).1 (old, f))
-          (λ e. let free : IsFree taken g = subst (IsFree taken) (sym e) f in
+          (λ e. let free : IsFree gap_cmp taken g = subst (IsFree gap_cmp taken) (sym e) f in
           let apart = All-contains (λ y. gap_cmp y g ≡ Less → (y.from_chain ≢ g.from_chain) × (y.to_chain ≢ g.to_chain)) taken h free c (below h c) in
           absurd (⊎_elim (λ s. apart.0 s) (λ s. apart.1 s) touches))
           (Contains-push_cases passed g x p)
 
-  pub choose : All (λ h. h.from_chain ≢ g.from_chain) taken → All (λ h. h.to_chain ≢ g.to_chain) taken → AreTaken (passed ++ g ∷ []) (taken ++ g ∷ [])
+  pub choose : All (λ h. h.from_chain ≢ g.from_chain) taken → All (λ h. h.to_chain ≢ g.to_chain) taken → AreTaken gap_cmp (passed ++ g ∷ []) (taken ++ g ∷ [])
   choose ends starts = record {
     rising = all_pairs_push (λ x y. gap_cmp x y ≡ Less) taken g are.rising below_at;
     exact = λ x. (forth x, back x);
   }
     where
-      free_of : (x : Gap) → IsFree taken x → (gap_cmp g x ≡ Less → ⊥) → IsFree (taken ++ g ∷ []) x
+      free_of : (x : Gap) → IsFree gap_cmp taken x → (gap_cmp g x ≡ Less → ⊥) → IsFree gap_cmp (taken ++ g ∷ []) x
       free_of x f never = All-push (λ h. gap_cmp h x ≡ Less → (h.from_chain ≢ x.from_chain) × (h.to_chain ≢ x.to_chain)) taken g f (λ l. absurd (never l))
 
-      free_itself : IsFree taken g
+      free_itself : IsFree gap_cmp taken g
       free_itself k d h = λ _. (ends k d h, starts k d h)
 
-      forth : (x : Gap) → Contains (taken ++ g ∷ []) x → Contains (passed ++ g ∷ []) x × IsFree (taken ++ g ∷ []) x
+      forth : (x : Gap) → Contains (taken ++ g ∷ []) x → Contains (passed ++ g ∷ []) x × IsFree gap_cmp (taken ++ g ∷ []) x
       forth x c = ⊎_elim
           (λ old. let w = (are.exact x).0 old in (Contains-append_left passed (g ∷ []) x w.0, free_of x w.1 (λ l. not_both g x l (below x old))))
-          (λ e. (subst (Contains (passed ++ g ∷ [])) e (Contains-push passed g), subst (IsFree (taken ++ g ∷ [])) e (free_of g free_itself (not_itself g))))
+          (λ e. (subst (Contains (passed ++ g ∷ [])) e (Contains-push passed g), subst (IsFree gap_cmp (taken ++ g ∷ [])) e (free_of g free_itself (not_itself g))))
           (Contains-push_cases taken g x c)
 
-      back : (x : Gap) → Contains (passed ++ g ∷ []) x × IsFree (taken ++ g ∷ []) x → Contains (taken ++ g ∷ []) x
+      back : (x : Gap) → Contains (passed ++ g ∷ []) x × IsFree gap_cmp (taken ++ g ∷ []) x → Contains (taken ++ g ∷ []) x
       back x (p, f) = ⊎_elim
           (λ old. Contains-append_left taken (g ∷ []) x ((are.exact x).1 (old, λ k d h. front k d h)))
           (λ e. subst (Contains (taken ++ g ∷ [])) e (Contains-push taken g))
@@ -148,7 +149,7 @@ module _ (pairs : List Gap) (rising : IsRising gap_cmp pairs) (n i : ℕ) (g : G
 
   pub take_step : get_or ended g.from_chain false ≡ false → get_or started g.to_chain false ≡ false → AreTakenOf (take (i + 1) pairs) n (set ended g.from_chain true) (set started g.to_chain true) (taken ++ g ∷ [])
   take_step a b = record {
-    are = subst (λ xs. AreTaken xs (taken ++ g ∷ [])) (sym more) (choose (take i pairs) g (rising_front pairs i g rising l e) taken so_far.are
+    are = subst (λ xs. AreTaken gap_cmp xs (taken ++ g ∷ [])) (sym more) (choose (take i pairs) g (rising_front pairs i g rising l e) taken so_far.are
         (none_marked (λ h. h.from_chain) g.from_chain taken (sym (so_far.ends.1 g.from_chain from_in) ∙ a))
         (none_marked (λ h. h.to_chain) g.to_chain taken (sym (so_far.starts.1 g.to_chain to_in) ∙ b)));
     ends = marks_push (λ h. h.from_chain) taken n ended g from_in so_far.ends;
@@ -157,7 +158,7 @@ module _ (pairs : List Gap) (rising : IsRising gap_cmp pairs) (n i : ℕ) (g : G
 
   pub skip_step : (get_or ended g.from_chain false ≡ true) ⊎ (get_or started g.to_chain false ≡ true) → AreTakenOf (take (i + 1) pairs) n ended started taken
   skip_step t = record {
-    are = subst (λ xs. AreTaken xs taken) (sym more) (⊎_elim
+    are = subst (λ xs. AreTaken gap_cmp xs taken) (sym more) (⊎_elim
         (λ a. let w = some_marked (λ h. h.from_chain) g.from_chain taken (sym (so_far.ends.1 g.from_chain from_in) ∙ a) in skip (take i pairs) g (rising_front pairs i g rising l e) taken so_far.are w.0 w.1 (inl w.2))
         (λ b. let w = some_marked (λ h. h.to_chain) g.to_chain taken (sym (so_far.starts.1 g.to_chain to_in) ∙ b) in skip (take i pairs) g (rising_front pairs i g rising l e) taken so_far.are w.0 w.1 (inr w.2))
         t);

@@ -7,7 +7,8 @@ use Rattle.std.proofs.lemmas.List.{append_assoc}
 use Rattle.std.proofs.lemmas.List.Elements.{All-contains, All-append, All-nil, All-cons, Contains-append_cases, Contains-append_left, Contains-append_right, Contains-get_or}
 use Rattle.lists.specs.Rising.{IsRising}
 use Rattle.coast_join.specs.declared.gap.Gap.{Gap}
-use Rattle.coast_join.specs.Taken.{AreTaken, IsFree, gap_cmp}
+use Rattle.coast_join.specs.GapSteps.{gap_cmp}
+use Rattle.coast_join.specs.Taken.{AreTaken, IsFree}
 use Rattle.coast_join.proofs.NearestFirst.{gap_cmp_total, not_both, not_itself}
 use Rattle.coast_join.proofs.NearPairs.{tied_gaps}
 
@@ -33,28 +34,28 @@ after_less (x ∷ c) g r up = after_less c g r (λ i j d h l. up (suc i) (suc j)
 -- an item that stands in a list with c in front and is less than g, which comes next, stands in c
 module _ (pairs : List Gap) where
   -- g stands in t right after c, and is less than what comes after c in u, if anything does: then it stands in u
-  moved : (t u c : List Gap) (g : Gap) (r rest : List Gap) → AreTaken pairs t → AreTaken pairs u → t ≡ c ++ g ∷ r → u ≡ c ++ rest → All (λ h. Less_than g h) rest → Contains u g → ⊥
+  moved : (t u c : List Gap) (g : Gap) (r rest : List Gap) → AreTaken gap_cmp pairs t → AreTaken gap_cmp pairs u → t ≡ c ++ g ∷ r → u ≡ c ++ rest → All (λ h. Less_than g h) rest → Contains u g → ⊥
   moved t u c g r rest at au te ue above inside = ⊎_elim
       (λ in_c. not_itself g (All-contains (λ h. Less_than h g) c g (before_less c g r (subst (IsRising gap_cmp) te at.rising)) in_c))
       (λ in_rest. not_itself g (All-contains (λ h. Less_than g h) rest g above in_rest))
       (Contains-append_cases c rest g (subst (λ xs. Contains xs g) ue inside))
 
-  taken_too : (t u c : List Gap) (g : Gap) (r rest : List Gap) → AreTaken pairs t → AreTaken pairs u → t ≡ c ++ g ∷ r → u ≡ c ++ rest → All (λ h. Less_than g h) rest → Contains u g
+  taken_too : (t u c : List Gap) (g : Gap) (r rest : List Gap) → AreTaken gap_cmp pairs t → AreTaken gap_cmp pairs u → t ≡ c ++ g ∷ r → u ≡ c ++ rest → All (λ h. Less_than g h) rest → Contains u g
   taken_too t u c g r rest at au te ue above =
       let here : Contains t g = subst (λ xs. Contains xs g) (sym te) (Contains-append_right c (g ∷ r) g (0, omega arith, refl)) in
       let w = (at.exact g).0 here in
-      let free_c : IsFree c g = λ k d h. let f = All-contains (λ x. gap_cmp x g ≡ Less → (x.from_chain ≢ g.from_chain) × (x.to_chain ≢ g.to_chain)) t (get_or c k d) w.1 (subst (λ xs. Contains xs (get_or c k d)) (sym te) (Contains-append_left c (g ∷ r) (get_or c k d) (Contains-get_or c k d h))) in f in
-      let free_rest : IsFree rest g = λ k d h less. absurd (not_both (get_or rest k d) g less (above k d h)) in
-      let free : IsFree u g = subst (λ xs. IsFree xs g) (sym ue) (All-append (λ x. gap_cmp x g ≡ Less → (x.from_chain ≢ g.from_chain) × (x.to_chain ≢ g.to_chain)) c rest free_c free_rest) in
+      let free_c : IsFree gap_cmp c g = λ k d h. let f = All-contains (λ x. gap_cmp x g ≡ Less → (x.from_chain ≢ g.from_chain) × (x.to_chain ≢ g.to_chain)) t (get_or c k d) w.1 (subst (λ xs. Contains xs (get_or c k d)) (sym te) (Contains-append_left c (g ∷ r) (get_or c k d) (Contains-get_or c k d h))) in f in
+      let free_rest : IsFree gap_cmp rest g = λ k d h less. absurd (not_both (get_or rest k d) g less (above k d h)) in
+      let free : IsFree gap_cmp u g = subst (λ xs. IsFree gap_cmp xs g) (sym ue) (All-append (λ x. gap_cmp x g ≡ Less → (x.from_chain ≢ g.from_chain) × (x.to_chain ≢ g.to_chain)) c rest free_c free_rest) in
       (au.exact g).1 (w.0, free)
 
-  clash : (t u c : List Gap) (g : Gap) (r rest : List Gap) → AreTaken pairs t → AreTaken pairs u → t ≡ c ++ g ∷ r → u ≡ c ++ rest → All (λ h. Less_than g h) rest → ⊥
+  clash : (t u c : List Gap) (g : Gap) (r rest : List Gap) → AreTaken gap_cmp pairs t → AreTaken gap_cmp pairs u → t ≡ c ++ g ∷ r → u ≡ c ++ rest → All (λ h. Less_than g h) rest → ⊥
   clash t u c g r rest at au te ue above = moved t u c g r rest at au te ue above (taken_too t u c g r rest at au te ue above)
 
-  next_above : (u c : List Gap) (g h : Gap) (s : List Gap) → AreTaken pairs u → u ≡ c ++ h ∷ s → Less_than g h → All (λ x. Less_than g x) (h ∷ s)
+  next_above : (u c : List Gap) (g h : Gap) (s : List Gap) → AreTaken gap_cmp pairs u → u ≡ c ++ h ∷ s → Less_than g h → All (λ x. Less_than g x) (h ∷ s)
   next_above u c g h s au ue less = All-cons (λ x. Less_than g x) h s less (λ k d l. gap_cmp_total.trans g h (get_or s k d) less (after_less c h s (subst (IsRising gap_cmp) ue au.rising) k d l))
 
-  same_from : (t u : List Gap) → AreTaken pairs t → AreTaken pairs u → (c r s : List Gap) → t ≡ c ++ r → u ≡ c ++ s → r ≡ s
+  same_from : (t u : List Gap) → AreTaken gap_cmp pairs t → AreTaken gap_cmp pairs u → (c r s : List Gap) → t ≡ c ++ r → u ≡ c ++ s → r ≡ s
   same_from t u at au c [] [] te ue = refl
   same_from t u at au c [] (h ∷ s) te ue = absurd (clash u t c h s [] au at ue te (All-nil (λ x. Less_than h x)))
   same_from t u at au c (g ∷ r) [] te ue = absurd (clash t u c g r [] at au te ue (All-nil (λ x. Less_than g x)))
@@ -65,5 +66,5 @@ module _ (pairs : List Gap) where
       by Greater e rest = absurd (clash u t c h s (g ∷ r) au at ue te (next_above t c h g r at te (gap_cmp_total.antisymm h g ∙ ap ordering_reverse e)))
       by Equal e rest = let heads : g ≡ h = tied_gaps g h (ap is_eq e) in let tails = rest heads in cc
 
-  pub one_taken : (t u : List Gap) → AreTaken pairs t → AreTaken pairs u → t ≡ u
+  pub one_taken : (t u : List Gap) → AreTaken gap_cmp pairs t → AreTaken gap_cmp pairs u → t ≡ u
   one_taken t u at au = same_from t u at au [] t u refl refl

@@ -1,5 +1,5 @@
 -- Which unclosed chains are closed.
-use Rattle.std.specs.Prelude.{◌≡◌, ℕ, ◌+◌, ◌*◌, pos, neg_ℤ, ◌-ℤ◌, unsigned_abs, Bool, not, ◌&&◌, nat_lt, int_lt, if◌then◌else◌, List, Option, None, Some}
+use Rattle.std.specs.Prelude.{◌≡◌, ℕ, ℤ, map, ◌+◌, ◌*◌, pos, neg_ℤ, ◌-ℤ◌, unsigned_abs, Bool, not, ◌&&◌, nat_lt, int_lt, if◌then◌else◌, List, Option, None, Some}
 use Rattle.std.specs.List.{enumerate_from, filter_map, flat_map}
 use Rattle.std.specs.Ordering.{int_eq}
 use Rattle.osm_lattice.specs.declared.loc.Loc.{Loc}
@@ -8,7 +8,7 @@ use Rattle.coast_join.specs.declared.gap.Gap.{Gap}
 use Rattle.coast_join.specs.declared.gap.Closings.{Closings}
 use Rattle.coast_join.specs.declared.closing.OpenEnds.{OpenEnds}
 use Rattle.coast_join.specs.Line.{first_of, last_of}
-use Rattle.coast_join.specs.Taken.{AreTaken}
+use Rattle.coast_join.specs.Taken.{AreTaken, pair_cmp}
 
 -- the places of a list at which a test holds, in order
 abbrev pub places_where : {X : Type 0} → (X → Bool) → List X → List ℕ
@@ -44,7 +44,10 @@ gap_between limit from to =
 abbrev pub near_pairs : ℕ → List OpenEnds → List Gap
 near_pairs limit ends = flat_map (λ from. filter_map (gap_between limit from) ends) ends
 
+abbrev pub names_of : List Chain → List ℤ
+names_of chains = map (λ c. c.name) chains
+
 -- the chains round Antarctica, and of the other unclosed ones the near pairs that are taken
 pub record AreClosings (chains : List Chain) (limit : ℕ) (closings : Closings) : Type 0 where
   pub antarctica : closings.antarctica ≡ places_where is_antarctic chains
-  pub gaps : AreTaken (near_pairs limit (open_ends chains)) closings.gaps
+  pub gaps : AreTaken (pair_cmp (names_of chains)) (near_pairs limit (open_ends chains)) closings.gaps

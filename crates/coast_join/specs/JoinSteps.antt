@@ -1,11 +1,12 @@
 -- What joining chains goes by. No public contract cites it.
-use Rattle.std.specs.Prelude.{◌≡◌, ◌↔◌, ◌<◌, ℕ, All, if◌then◌else◌, List, length, Option, Some}
+use Rattle.std.specs.Prelude.{◌≡◌, ◌≢◌, ◌↔◌, ◌<◌, ℕ, All, Contains, if◌then◌else◌, List, length, Option, Some}
 use Rattle.std.specs.List.{slice_get}
 use Rattle.orbits.specs.Orbits.{after}
 use Rattle.coast_join.specs.declared.chain.Chain.{Chain}
 use Rattle.coast_join.specs.declared.gap.Gap.{Gap}
 use Rattle.coast_join.specs.Closings.{is_open}
-use Rattle.coast_join.specs.Joined.{Leads}
+use Rattle.coast_join.specs.Joined.{Leads, chains_at}
+use Rattle.coast_join.specs.Line.{first_of, last_of}
 
 -- for each chain the one to which a gap leads
 pub record AreGapLinks (gaps : List Gap) (n : ℕ) (links : List (Option ℕ)) : Type 0 where
@@ -17,7 +18,12 @@ pub record AreNextBy (links : List (Option ℕ)) (chains : List Chain) (next : L
   pub sized : length next ≡ length chains
   pub each : (i : ℕ) (c : Chain) → slice_get chains i ≡ Some c → after next i ≡ (if is_open c then after links i else Some i)
 
--- places of chains, at least one
-pub record AreInside (n : ℕ) (places : List ℕ) : Type 0 where
+-- no chain ends where one starts
+abbrev pub AreApart : List Chain → Type 0
+AreApart parts = (c d : Chain) → Contains parts c → Contains parts d → last_of c.path ≢ first_of d.path
+
+-- at least one place of a chain, and no chain there ends where one there starts
+pub record AreParts (chains : List Chain) (places : List ℕ) : Type 0 where
   pub some : 0 < length places
-  pub inside : All (λ k. k < n) places
+  pub inside : All (λ k. k < length chains) places
+  pub apart : AreApart (chains_at chains places)

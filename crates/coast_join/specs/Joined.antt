@@ -1,10 +1,11 @@
 -- Chains joined to rings.
 use Rattle.std.specs.Prelude.{◌≡◌, ◌↔◌, ◌++◌, ◌≤ℤ◌, ℕ, ℤ, pos, neg_ℤ, Bool, false, true, not, if◌then◌else◌, List, [], ◌∷◌, length, filter, All, Contains, Option, Some, is_some}
 use Rattle.std.specs.List.{AllZip, filter_map, flat_map, list_any, slice_get}
-use Rattle.std.specs.List.Sorted.{IsPermutation, IsSortedByKey}
-use Rattle.std.specs.Ordering.{int_cmp}
+use Rattle.std.specs.List.Sorted.{IsPermutation}
+use Rattle.std.specs.Ordering.{int_cmp, on}
 use Rattle.std.proofs.Common.{lit≤}
 use Rattle.osm_lattice.specs.declared.loc.Loc.{Loc}
+use Rattle.lists.specs.Rising.{IsRising}
 use Rattle.orbits.specs.Orbits.{AreInOrder, AreOrbits, after, last}
 use Rattle.coast_join.specs.declared.chain.Chain.{Chain}
 use Rattle.coast_join.specs.declared.gap.Closings.{Closings}
@@ -13,7 +14,7 @@ use Rattle.coast_join.specs.declared.ring.CoastRing.{CoastRing}
 use Rattle.coast_join.specs.declared.ring.Joined.{Joined}
 use Rattle.coast_join.specs.ById.{id_at}
 use Rattle.coast_join.specs.Closings.{is_antarctic, is_open}
-use Rattle.coast_join.specs.Round.{once, once_round}
+use Rattle.coast_join.specs.Round.{once_round}
 
 -- a gap leads from the end of chain i to the start of chain j
 abbrev pub Leads : List Gap → ℕ → ℕ → Type 0
@@ -49,7 +50,7 @@ corners = south_west ∷ (south_east ∷ [])
 pub record IsUnclosed (parts : List Chain) (chain : Chain) : Type 0 where
   pub ways : chain.ways ≡ ways_of parts
   pub name : chain.name ≡ id_at chain.ways 0
-  pub path : chain.path ≡ once (paths_of parts)
+  pub path : chain.path ≡ paths_of parts
   pub closed : chain.closed ≡ false
 
 -- the least id
@@ -57,15 +58,19 @@ pub record IsLeast (ids : List ℤ) (id : ℤ) : Type 0 where
   pub stands : Contains ids id
   pub least : All (λ other. id ≤ℤ other) ids
 
--- a ring of chains one after the other, that round Antarctica by the corners
+-- the path of the ring of chains: their paths one after the other; round Antarctica the corners after them, equal neighbours taken once
+abbrev pub ring_path : List Chain → List Loc
+ring_path parts = if list_any is_antarctic parts then once_round (paths_of parts ++ corners) else paths_of parts
+
+-- a ring of chains one after the other
 pub record IsRing (parts : List Chain) (ring : CoastRing) : Type 0 where
   pub name : IsLeast (ways_of parts) ring.name
-  pub path : ring.path ≡ once_round (if list_any is_antarctic parts then paths_of parts ++ corners else paths_of parts)
+  pub path : ring.path ≡ ring_path parts
 
 abbrev pub is_closed : List (Option ℕ) → List ℕ → Bool
 is_closed next orbit = is_some (after next (last orbit))
 
--- what has become of chains: each orbit of what they go on to is a ring or an unclosed chain; rings stand in order of name, unclosed chains in order of their first chains
+-- what has become of chains: each orbit of what they go on to is a ring or an unclosed chain; both stand in strict order of name
 pub record AreJoined (chains : List Chain) (closings : Closings) (joined : Joined) : Type 0 where
   pub next : List (Option ℕ)
   pub are_next : AreNext chains closings.gaps next
@@ -75,5 +80,6 @@ pub record AreJoined (chains : List Chain) (closings : Closings) (joined : Joine
   pub rings : List CoastRing
   pub each_ring : AllZip (λ o r. IsRing (chains_at chains o) r) (filter (is_closed next) orbits) rings
   pub same : IsPermutation rings joined.rings
-  pub by_name : IsSortedByKey (λ (r : CoastRing). r.name) int_cmp joined.rings
+  pub rings_rise : IsRising (on (λ (r : CoastRing). r.name) int_cmp) joined.rings
   pub each_unclosed : AllZip (λ o c. IsUnclosed (chains_at chains o) c) (filter (λ o. not (is_closed next o)) orbits) joined.unclosed
+  pub unclosed_rise : IsRising (on (λ (c : Chain). c.name) int_cmp) joined.unclosed

@@ -9,3 +9,7 @@ pub mod Round
 pub mod Joined
 pub mod JoinSteps
 pub mod Input
+pub mod GapSteps
+pub mod ChainLaws
+pub mod RingLaws
+pub mod InputLaws

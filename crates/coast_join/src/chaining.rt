@@ -203,11 +203,11 @@ fn chains_of(
     Ok(chains)
 }
 
-/// The chains of coastline ways, in order of name.
+/// The chains of coastline ways whose ids differ, in order of name.
 ///
 /// At each location the i-th way that ends there, by id, goes on to the i-th that starts there. A chain that goes
-/// round is closed, is named by its least way and begins with it; another is named by its first way. It takes time
-/// n log n. The error is want of memory.
+/// round is closed, is named by its least way and begins with it; another is named by its first way, to which none
+/// goes on. It takes time n log n. The error is want of memory.
 pub fn chains(alloc: Global, ways: &[CoastWay]) -> Result<Vec<Chain>, OutOfMemory>
     requires { IsDistinct int_eq (map (λ (w : CoastWay). w.id) ways.now) }
     ensures { IfOk result (λ v. AreChains ways.now v.items) }

@@ -1,14 +1,17 @@
 //! Which unclosed chains are closed, and how.
 
-ghost use Rattle.std.specs.Prelude.{◌≡◌, ◌++◌, ◌+◌, ◌*◌, ◌<◌, ◌^◌, ◌&&◌, false, not, All, IfOk, OnOk, length};
-ghost use Rattle.std.specs.List.{enumerate_from, filter_map};
+ghost use Rattle.std.specs.Prelude.{◌≡◌, IfOk, List};
 ghost use Rattle.coast_join.specs.declared.chain.Chain.{Chain};
-ghost use Rattle.coast_join.specs.Closings.{AreClosings, gap_between, is_antarctic, is_open, near_pairs, open_ends, places_where, square_between};
+ghost use Rattle.coast_join.specs.declared.way.CoastWay.{CoastWay};
+ghost use Rattle.coast_join.specs.Chains.{AreChains};
+ghost use Rattle.coast_join.specs.Closings.{AreClosings, is_antarctic, is_open, open_ends, places_where};
 ghost use Rattle.coast_join.specs.Line.{first_of, last_of};
 
 use crate::chain::Chain;
-use crate::gap::{Closings, Gap, Indexes};
+use crate::gap::{Closings, Indexes};
 use crate::greedy::taken;
+use crate::laws::names_rise;
+use crate::near::near_pairs;
 use lists::distinct_items;
 use osm_geom::Loc;
 use std::alloc::{AllocError as OutOfMemory, Global};
@@ -85,74 +88,16 @@ fn open_ends(alloc: Global, chains: &[Chain]) -> Result<Vec<OpenEnds>, OutOfMemo
     Ok(ends)
 }
 
-/// The square of a number.
-fn square(n: u32) -> u128
-    ensures value { result ≡ n * n }
-    ensures small { result < 2 ^ 64 }
-{
-    u128::from(n) * u128::from(n)
-}
-
-/// The square of the distance between two locations.
-fn square_between(p: Loc, q: Loc) -> u128
-    ensures { result ≡ square_between p q }
-{
-    square(p.x.abs_diff(q.x)) + square(p.y.abs_diff(q.y))
-}
-
-/// The pair of this end and start, if they are nearer than the limit.
-#[tactic(auto, unfolding(crate::specs::Closings::gap_between))]
-fn gap_between(limit: u32, from: OpenEnds, to: OpenEnds) -> Option<Gap>
-    ensures { result ≡ gap_between limit from to }
-{
-    let distance = square_between(from.end, to.start);
-    if distance < square(limit) {
-        Some(Gap {
-            square: distance,
-            from_chain: from.chain,
-            to_chain: to.chain,
-        })
-    } else {
-        None
-    }
-}
-
-/// Adds the near pairs of one end.
-fn add_pairs(
-    pairs: &mut Vec<Gap>,
-    limit: u32,
-    from: OpenEnds,
-    ends: &[OpenEnds],
-) -> Result<(), OutOfMemory>
-    ensures { OnOk result (pairs.new.items
-        ≡ pairs.old.items ++ filter_map (gap_between limit from) ends.now) }
-{
-    for &to in ends {
-        if let Some(gap) = gap_between(limit, from, to) {
-            pairs.push(gap)?;
-        }
-    }
-    Ok(())
-}
-
-/// All near pairs.
-fn near_pairs(alloc: Global, limit: u32, ends: &[OpenEnds]) -> Result<Vec<Gap>, OutOfMemory>
-    ensures { IfOk result (λ v. v.items ≡ near_pairs limit ends.now) }
-{
-    let mut pairs = Vec::new(alloc);
-    for &from in ends {
-        add_pairs(&mut pairs, limit, from, ends)?;
-    }
-    Ok(pairs)
-}
-
 /// Which unclosed chains are closed: each round Antarctica, and of the others the pairs of an end and a start that
 /// are nearer than the limit, the nearest first, each end and start once. The limit is in units of 1e-7 degree.
 ///
-/// All pairs of unclosed chains are looked at. The error is want of memory.
+/// It takes time n log n for n chains, and that of the pairs of unclosed chains that are near in slant, a few where
+/// chains lie far apart. The chains are what `chains` gives. The error is want of memory.
 pub fn closings(alloc: Global, chains: &[Chain], limit: u32) -> Result<Closings, OutOfMemory>
+    requires { (ways : List CoastWay) × AreChains ways chains.now }
     ensures { IfOk result (λ v. AreClosings chains.now limit v) }
 {
+    names_rise();
     let antarctica = antarctica(alloc, chains)?;
     let ends = open_ends(alloc, chains)?;
     let pairs = near_pairs(alloc, limit, &ends)?;

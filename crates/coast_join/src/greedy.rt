@@ -3,7 +3,8 @@
 ghost use Rattle.std.specs.Prelude.{◌≡◌, ◌<◌, ◌&&◌, All, IfOk, false, length, not, slice_index_or, slice_set, true};
 ghost use Rattle.lists.specs.Rising.{IsRising};
 ghost use Rattle.coast_join.specs.declared.gap.Gap.{Gap};
-ghost use Rattle.coast_join.specs.Taken.{AreTaken, TakenAreOne, gap_cmp};
+ghost use Rattle.coast_join.specs.GapSteps.{gap_cmp};
+ghost use Rattle.coast_join.specs.Taken.{AreTaken, TakenAreOne};
 
 use crate::gap::{Gap, Gaps};
 use std::alloc::{AllocError as OutOfMemory, Global};
@@ -33,7 +34,7 @@ pub fn taken(alloc: Global, pairs: &[Gap], chains: usize) -> Result<Gaps, OutOfM
     requires rising { IsRising gap_cmp pairs.now }
     requires from { All (λ (g : Gap). g.from_chain < chains) pairs.now }
     requires to { All (λ (g : Gap). g.to_chain < chains) pairs.now }
-    ensures { IfOk result (λ v. AreTaken pairs.now v) }
+    ensures { IfOk result (λ v. AreTaken gap_cmp pairs.now v) }
 {
     let mut ended = vec![in alloc; false; chains]?;
     let mut started = vec![in alloc; false; chains]?;
@@ -48,7 +49,7 @@ pub fn taken(alloc: Global, pairs: &[Gap], chains: usize) -> Result<Gaps, OutOfM
     Ok(taken)
 }
 
-/// A law: of pairs there is one list of those that are taken.
+/// A law: of pairs of chains whose names rise there is one list of those that are taken.
 pub fn taken_pairs_are_determined()
     ensures { TakenAreOne }
 {}

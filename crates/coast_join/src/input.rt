@@ -143,8 +143,10 @@ fn add_held(
 
 /// The coastline ways of a store that take part, and what keeps the others from it, each in input order.
 ///
-/// A way with references that have no location is set aside with each of their nodes; so is one of which fewer
-/// than two locations are left where equal neighbours are taken once. The error is want of memory.
+/// A coastline way is a live way tagged `natural=coastline`. One with references that have no location is set aside
+/// with the nodes of these, each once, in order of their first places. Of any other, equal neighbouring locations are
+/// taken once, and it is set aside where fewer than two are left. The ids of the ways differ, as `chains` asks. The
+/// error is want of memory.
 pub fn coast_input(alloc: Global, store: &Store) -> Result<CoastInput, OutOfMemory>
     ensures ways { IfOk result (λ input.
         map line_of input.ways ≡ flat_map (lines_of store.now) (coast_ways store.now)) }

@@ -5,15 +5,25 @@ mod by_id;
 mod chain;
 mod chaining;
 mod closing;
+#[cfg(test)]
+mod closing_tests;
 mod gap;
 mod greedy;
 mod input;
+mod input_laws;
+mod laws;
 mod links;
+mod near;
 mod regained;
 mod repeated;
 mod ring;
+mod ring_laws;
 mod ring_making;
 mod round;
+#[cfg(test)]
+mod test_input;
+#[cfg(test)]
+mod tests;
 mod way;
 
 pub use chain::{Chain, Chains};
@@ -22,6 +32,15 @@ pub use closing::closings;
 pub use gap::{Closings, Gap, Gaps, Indexes};
 pub use greedy::taken_pairs_are_determined;
 pub use input::{CoastInput, coast_input};
+pub use input_laws::coast_ways_exist;
+pub use laws::{
+    chains_are_determined, chains_exist, closed_names_are_least, names_rise, unclosed_ends_differ,
+    ways_stand_once,
+};
 pub use regained::closed_rings;
 pub use ring::{CoastRing, CoastRings, Joined};
+pub use ring_laws::{
+    closed_ends_differ, closings_are_determined, closings_exist, joined_exists,
+    joined_is_determined, rings_begin_at_least_names,
+};
 pub use way::{Aside, Asides, CoastWay, CoastWays};

@@ -1,18 +1,22 @@
 //! What has become of chains once gaps are closed.
 
-ghost use Rattle.std.specs.Prelude.{◌≡◌, ◌<◌, not, All, IfOk, OnOk, filter, length, map, ℕ};
+ghost use Rattle.std.specs.Prelude.{◌≡◌, ◌<◌, not, All, IfOk, filter, length, map, List, ℕ};
 ghost use Rattle.std.specs.List.{AllZip};
 ghost use Rattle.std.specs.List.Sorted.{IsPermutation, IsSortedByKey};
 ghost use Rattle.std.specs.Ordering.{int_cmp};
 ghost use Rattle.coast_join.specs.declared.chain.Chain.{Chain};
 ghost use Rattle.coast_join.specs.declared.ring.CoastRing.{CoastRing};
+ghost use Rattle.coast_join.specs.declared.way.CoastWay.{CoastWay};
+ghost use Rattle.coast_join.specs.Chains.{AreChains};
 ghost use Rattle.coast_join.specs.Closings.{AreClosings};
 ghost use Rattle.coast_join.specs.Joined.{AreJoined, IsRing, IsUnclosed, chains_at, is_closed};
-ghost use Rattle.coast_join.specs.JoinSteps.{AreInside};
+ghost use Rattle.coast_join.specs.JoinSteps.{AreParts};
 
 use crate::chain::{Chain, Chains};
 use crate::gap::Closings;
+use crate::laws::{names_rise, unclosed_ends_differ};
 use crate::ring::{CoastRing, CoastRings, Joined};
+use crate::ring_laws::closed_ends_differ;
 use crate::ring_making::{gap_links, next_chains, ring_of, unclosed_of};
 use orbits::{each_stands_once, orbits};
 use std::alloc::{AllocError as OutOfMemory, Global};
@@ -35,7 +39,7 @@ fn unclosed(
     orbits: &[Vec<usize>],
 ) -> Result<Chains, OutOfMemory>
     requires sized { length next.now ≡ length chains.now }
-    requires inside { All (AreInside (length chains.now)) (map (λ o. o.items) orbits.now) }
+    requires parts { All (AreParts chains.now) (map (λ o. o.items) orbits.now) }
     ensures { IfOk result (λ v. AllZip (λ o c. IsUnclosed (chains_at chains.now o) c)
         (filter (λ o. not (is_closed next.now o)) (map (λ o. o.items) orbits.now))
         v) }
@@ -57,7 +61,7 @@ fn rings(
     orbits: &[Vec<usize>],
 ) -> Result<Vec<CoastRing>, OutOfMemory>
     requires sized { length next.now ≡ length chains.now }
-    requires inside { All (AreInside (length chains.now)) (map (λ o. o.items) orbits.now) }
+    requires parts { All (AreParts chains.now) (map (λ o. o.items) orbits.now) }
     ensures { IfOk result (λ v. AllZip (λ o r. IsRing (chains_at chains.now o) r)
         (filter (is_closed next.now) (map (λ o. o.items) orbits.now))
         v.items) }
@@ -83,23 +87,26 @@ fn by_name(mut rings: Vec<CoastRing>) -> Result<CoastRings, OutOfMemory>
 /// What has become of chains once gaps are closed: the rings, and the chains that are still unclosed.
 ///
 /// A ring is named by the least of its ways and begins with the chain of the least name; one round Antarctica ends
-/// with the two corners. The error is want of memory.
+/// with the two corners. The chains are what `chains` gives, and the closings what `closings` gives of them for some
+/// limit. The error is want of memory.
 pub fn closed_rings(
     alloc: Global,
     chains: &[Chain],
     closings: &Closings,
 ) -> Result<Joined, OutOfMemory>
-    requires { (limit : ℕ) × AreClosings chains.now limit closings.now }
+    requires are_chains { (ways : List CoastWay) × AreChains ways chains.now }
+    requires are_closings { (limit : ℕ) × AreClosings chains.now limit closings.now }
     ensures { IfOk result (λ joined. AreJoined chains.now closings.now joined) }
 {
     each_stands_once();
+    names_rise();
+    unclosed_ends_differ();
+    closed_ends_differ();
     let links = gap_links(alloc, closings.gaps.as_slice(), chains.len())?;
     let next = next_chains(alloc, chains, &links)?;
     let orbits = orbits(alloc, &next)?;
     let unclosed = unclosed(alloc, chains, &next, &orbits)?;
     let rings = rings(alloc, chains, &next, &orbits)?;
-    Ok(Joined {
-        rings: by_name(rings)?,
-        unclosed,
-    })
+    let rings = by_name(rings)?;
+    Ok(Joined { rings, unclosed })
 }

@@ -1,20 +1,21 @@
 //! Chains joined to rings.
 
-ghost use Rattle.std.specs.Prelude.{◌≡◌, ◌≢◌, ◌<◌, ◌++◌, if◌then◌else◌, All, AllPairs, IfOk, OnOk, Some, length, ℤ};
-ghost use Rattle.std.specs.List.{list_any, range_with_len};
+ghost use Rattle.std.specs.Prelude.{◌≡◌, ◌≢◌, ◌<◌, ◌++◌, if◌then◌else◌, All, AllPairs, IfOk, OnOk, Some, length};
+ghost use Rattle.std.specs.List.{list_any};
 ghost use Rattle.osm_lattice.specs.declared.loc.Loc.{Loc};
 ghost use Rattle.coast_join.specs.declared.chain.Chain.{Chain};
 ghost use Rattle.coast_join.specs.declared.gap.Gap.{Gap};
 ghost use Rattle.coast_join.specs.Closings.{is_antarctic, is_open};
-ghost use Rattle.coast_join.specs.Joined.{IsLeast, IsRing, IsUnclosed, chains_at, corners, paths_of, south_east, south_west, ways_of};
-ghost use Rattle.coast_join.specs.JoinSteps.{AreGapLinks, AreNextBy};
+ghost use Rattle.coast_join.specs.Joined.{IsLeast, IsRing, IsUnclosed, chains_at, corners, paths_of, ring_path, south_east, south_west, ways_of};
+ghost use Rattle.coast_join.specs.JoinSteps.{AreGapLinks, AreNextBy, AreParts};
+ghost use Rattle.coast_join.specs.Round.{IsRound};
 
 use crate::chain::Chain;
 use crate::closing::{is_antarctic, is_open};
 use crate::gap::Gap;
 use crate::ring::CoastRing;
-use crate::round::{once_path, round_path};
-use osm_geom::{Ids, Loc, orders_are_exact};
+use crate::round::round_path;
+use osm_geom::{Ids, Loc, Path, orders_are_exact};
 use std::alloc::{AllocError as OutOfMemory, Global};
 
 /// For each chain the one to which a gap leads from its end.
@@ -97,14 +98,11 @@ pub(crate) fn unclosed_of(
     chains: &[Chain],
     places: &[usize],
 ) -> Result<Chain, OutOfMemory>
-    requires some { 0 < length places.now }
-    requires inside { All (λ k. k < length chains.now) places.now }
+    requires { AreParts chains.now places.now }
     ensures { IfOk result (λ chain. IsUnclosed (chains_at chains.now places.now) chain) }
 {
-    orders_are_exact();
     let ways = ids_at(alloc, chains, places)?;
-    let locs = paths_at(alloc, chains, places)?;
-    let path = once_path(alloc, locs)?;
+    let path = Path::from_vec(paths_at(alloc, chains, places)?);
     let name = ways.as_slice()[0];
     Ok(Chain {
         name,
@@ -172,20 +170,20 @@ fn add_corners(locs: &mut Vec<Loc>) -> Result<(), OutOfMemory>
     Ok(())
 }
 
-/// The locations of the ring of the chains at these places.
-fn ring_locs(alloc: Global, chains: &[Chain], places: &[usize]) -> Result<Vec<Loc>, OutOfMemory>
-    requires { All (λ k. k < length chains.now) places.now }
-    ensures { IfOk result (λ v. v.items
-        ≡ (if list_any is_antarctic (chains_at chains.now places.now)
-        then paths_of (chains_at chains.now places.now) ++ corners
-        else paths_of (chains_at chains.now places.now))) }
+/// The path of the ring of the chains at these places.
+fn ring_path(alloc: Global, chains: &[Chain], places: &[usize]) -> Result<Path, OutOfMemory>
+    requires { AreParts chains.now places.now }
+    ensures path { IfOk result (λ path. path ≡ ring_path (chains_at chains.now places.now)) }
+    ensures round { IfOk result (λ path. IsRound path) }
 {
+    orders_are_exact();
     let mut locs = paths_at(alloc, chains, places)?;
     if !any_antarctic(chains, places) {
-        return Ok(locs);
+        return Ok(Path::from_vec(locs));
     }
     add_corners(&mut locs)?;
-    Ok(locs)
+    let path = round_path(alloc, locs)?;
+    Ok(path)
 }
 
 /// The ring of the chains at these places.
@@ -194,14 +192,11 @@ pub(crate) fn ring_of(
     chains: &[Chain],
     places: &[usize],
 ) -> Result<CoastRing, OutOfMemory>
-    requires some { 0 < length places.now }
-    requires inside { All (λ k. k < length chains.now) places.now }
+    requires { AreParts chains.now places.now }
     ensures { IfOk result (λ ring. IsRing (chains_at chains.now places.now) ring) }
 {
-    orders_are_exact();
     let ways = ids_at(alloc, chains, places)?;
-    let locs = ring_locs(alloc, chains, places)?;
-    let path = round_path(alloc, locs)?;
+    let path = ring_path(alloc, chains, places)?;
     let name = least(ways.as_slice());
     Ok(CoastRing { name, path })
 }

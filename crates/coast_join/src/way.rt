@@ -5,7 +5,8 @@ ghost use Rattle.coast_join.specs.Line.{IsLine};
 use lists::List;
 use osm_geom::Path;
 
-/// A coastline way that takes part: its locations in order, at least two, without equal neighbours.
+/// A coastline way that takes part: its id, and the locations of its references in order, equal neighbours taken
+/// once. They are at least two; a way that ends where it starts holds that location at both ends.
 #[derive(Debug, Drop)]
 pub struct CoastWay {
     pub id: i64,
@@ -16,7 +17,7 @@ pub struct CoastWay {
 /// What keeps a coastline way from taking part.
 #[derive(Clone, Copy, Debug, PartialEq, Eq)]
 pub enum Aside {
-    /// A node that the way names and that has no location.
+    /// The node of a reference that has no location.
     Missing { way: i64, node: i64 },
     /// Fewer than two locations are left where equal neighbours are taken once.
     Short { way: i64 },

@@ -3,30 +3,25 @@ use Rattle.std.proofs.Common.{◌≡◌, ◌<◌, ℕ, All, List, length, map, n
 use Rattle.std.proofs.lemmas.List.{length-map}
 use Rattle.coast_join.specs.declared.chain.Chain.{Chain}
 use Rattle.coast_join.specs.Joined.{IsUnclosed, chains_at, is_closed}
-use Rattle.coast_join.specs.JoinSteps.{AreInside}
+use Rattle.coast_join.specs.JoinSteps.{AreParts}
 use Rattle.coast_join.proofs.Joining.{list_at, list_is, zip_kept, zip_passed}
 use Rattle.coast_join.proofs.regained.unclosed.Goals as goal
 use Rattle.coast_join.proofs.regained.unclosed.Goals.{then-not-is_closed+in_ok-unclosed_of+in_ok-push, else-not-is_closed}
 
 pub is_closed-requires-clause-some : goal.is_closed-requires-clause-some
 is_closed-requires-clause-some c =
-    let here = list_at (AreInside (length c.args.chains.now)) c.args.orbits.now c.loop-orbit.orbit-index c.orbit-item.result c.requires.inside c.loop-orbit-test.true c.orbit-item.is in
+    let here = list_at (AreParts c.args.chains.now) c.args.orbits.now c.loop-orbit.orbit-index c.orbit-item.result c.requires.parts c.loop-orbit-test.true c.orbit-item.is in
     subst (λ (o : List ℕ). 0 < length o) (sym c.deref.ensures.value) here.some
 
 pub is_closed-requires-clause-inside : goal.is_closed-requires-clause-inside
 is_closed-requires-clause-inside c =
-    let here = list_at (AreInside (length c.args.chains.now)) c.args.orbits.now c.loop-orbit.orbit-index c.orbit-item.result c.requires.inside c.loop-orbit-test.true c.orbit-item.is in
+    let here = list_at (AreParts c.args.chains.now) c.args.orbits.now c.loop-orbit.orbit-index c.orbit-item.result c.requires.parts c.loop-orbit-test.true c.orbit-item.is in
     subst (λ (o : List ℕ). All (λ k. k < length c.args.next.now) o) (sym c.deref.ensures.value) (subst (λ m. All (λ k. k < m) c.orbit-item.result.items) (sym c.requires.sized) here.inside)
 
-pub unclosed_of-requires-clause-some : goal.unclosed_of-requires-clause-some
-unclosed_of-requires-clause-some c =
-    let here = list_at (AreInside (length c.args.chains.now)) c.args.orbits.now c.loop-orbit.orbit-index c.orbit-item.result c.requires.inside c.loop-orbit-test.true c.orbit-item.is in
-    subst (λ (o : List ℕ). 0 < length o) (sym c.deref-then-not-is_closed.ensures.value) here.some
-
-pub unclosed_of-requires-clause-inside : goal.unclosed_of-requires-clause-inside
-unclosed_of-requires-clause-inside c =
-    let here = list_at (AreInside (length c.args.chains.now)) c.args.orbits.now c.loop-orbit.orbit-index c.orbit-item.result c.requires.inside c.loop-orbit-test.true c.orbit-item.is in
-    subst (λ (o : List ℕ). All (λ k. k < length c.args.chains.now) o) (sym c.deref-then-not-is_closed.ensures.value) here.inside
+pub unclosed_of-requires : goal.unclosed_of-requires
+unclosed_of-requires c =
+    let here = list_at (AreParts c.args.chains.now) c.args.orbits.now c.loop-orbit.orbit-index c.orbit-item.result c.requires.parts c.loop-orbit-test.true c.orbit-item.is in
+    subst (AreParts c.args.chains.now) (sym c.deref-then-not-is_closed.ensures.value) here
 
 pub loop-orbit-preserved : goal.loop-orbit-preserved
 loop-orbit-preserved c =
