@@ -1,10 +1,17 @@
+mod AllExist
+mod AllOne
 mod Cancelling
 mod ClearSides
 mod ClearWater
 mod Clearing
+mod Conflicts
 mod Corners
+mod Covering
 mod EvenRings
+mod ListSteps
 mod Pieces
 mod RoundSteps
 mod SideNodes
+mod SidedSegments
+mod SomeMember
 mod WaterLaws

@@ -1,24 +1,35 @@
 -- The steps of a closed line, one after the other.
-use Rattle.std.proofs.Common.{◌≡◌, ℕ, zero, suc, ◌+◌, ◌-◌, ◌<◌, ◌≤◌, true, false, nat_lt, if◌then◌else◌, List, [], ◌∷◌, ◌++◌, length, drop, take, get_or, Some, Option, refl, sym, ap, ◌∙◌, arith, ⊎_elim}
-use Rattle.std.specs.List.{filter_map, slice_get, zip}
+use Rattle.std.proofs.Common.{◌≡◌, ℕ, zero, suc, ◌+◌, ◌-◌, ◌<◌, ◌≤◌, ◌||◌, Bool, true, false, nat_lt, if◌then◌else◌, List, [], ◌∷◌, ◌++◌, length, drop, take, get_or, Some, Option, refl, sym, ap, ◌∙◌, arith, ⊎_elim}
+use Rattle.std.specs.List.{filter_map, list_any, slice_get, zip}
 use Rattle.std.specs.Option.{option_to_list}
 use Rattle.std.proofs.lemmas.Bool.{cases_lt}
 use Rattle.std.proofs.lemmas.Bool.Decides.{nat_tests}
-use Rattle.std.proofs.lemmas.List.{append_assoc, length-drop, take_all}
+use Rattle.std.proofs.lemmas.List.{append_assoc, get_or_append_left, length-drop, length_push, take-append-drop, take_all}
+use Rattle.std.proofs.Math.Seq.{get_or-append_seam}
+use Rattle.std.proofs.lemmas.List.Folds.{list_any-append, list_any_more}
 use Rattle.std.proofs.lemmas.Option.{get_or_from_slice_get, same_Some, slice_get_read, slice_get_within}
 use Rattle.osm_lattice.specs.declared.loc.Loc.{Loc}
 use Rattle.osm_lattice.specs.declared.seg.Seg.{Seg}
 use Rattle.osm_lattice.specs.Seg.{segment_between}
-use Rattle.coast_join.proofs.Numbering.{get_old, get_new}
-use Rattle.coast_join.proofs.Stepping.{filtered_more}
 use Rattle.coast_sides.specs.Segments.{segments_round, steps_round}
 use Rattle.coast_sides.specs.Water.{pieces}
+use Rattle.coast_sides.proofs.ListSteps.{given_step}
 
 zip_get : (xs ys : List Loc) (i : ℕ) (p q : Loc) → slice_get xs i ≡ Some p → slice_get ys i ≡ Some q → slice_get (zip xs ys) i ≡ Some (p, q)
 zip_get [] ys i p q e d = absurd (cc)
 zip_get (x ∷ xs) [] i p q e d = absurd (cc)
 zip_get (x ∷ xs) (y ∷ ys) zero p q e d = let a = same_Some x p e in let b = same_Some y q d in ap (λ (w : Loc). Some (w, y)) a ∙ ap (λ (w : Loc). Some (p, w)) b
 zip_get (x ∷ xs) (y ∷ ys) (suc i) p q e d = zip_get xs ys i p q e d
+
+turned_old : (r : List Loc) (a q : Loc) (i : ℕ) → i < length r → slice_get r i ≡ Some q → slice_get (r ++ a ∷ []) i ≡ Some q
+turned_old r a q i l at =
+    let long = length_push r a in
+    slice_get_read (r ++ a ∷ []) (length (r ++ a ∷ [])) i q refl (omega arith) (sym (get_or_append_left r (a ∷ []) q i l ∙ get_or_from_slice_get r i q q at))
+
+turned_new : (r : List Loc) (a : Loc) (i : ℕ) → i ≡ length r → slice_get (r ++ a ∷ []) i ≡ Some a
+turned_new r a i e =
+    let long = length_push r a in
+    slice_get_read (r ++ a ∷ []) (length (r ++ a ∷ [])) i a refl (omega arith) (sym (ap (λ n. get_or (r ++ a ∷ []) n a) e ∙ get_or-append_seam r a [] a))
 
 zip_short : (xs ys : List Loc) → length (zip xs ys) ≤ length xs
 zip_short [] ys = omega arith
@@ -45,9 +56,9 @@ steps_at (a ∷ r) i p q e d = zip_get (a ∷ r) (r ++ a ∷ []) i p q e next
         (λ l. let yes = test_yes (i + 1) (length (a ∷ r)) (omega arith) in
         let at : slice_get (a ∷ r) (i + 1) ≡ Some q = ap (λ b. slice_get (a ∷ r) (if b then i + 1 else 0)) (sym yes) ∙ d in
         let one : suc i ≡ i + 1 = omega arith in
-        get_old r a i l ∙ (ap (slice_get (a ∷ r)) one ∙ at))
+        turned_old r a q i l (ap (slice_get (a ∷ r)) one ∙ at))
         (λ l. let fails = test_no (i + 1) (length (a ∷ r)) (omega arith) in
-        get_new r a i (omega arith) ∙ (ap (λ b. slice_get (a ∷ r) (if b then i + 1 else 0)) (sym fails) ∙ d))
+        turned_new r a i (omega arith) ∙ (ap (λ b. slice_get (a ∷ r) (if b then i + 1 else 0)) (sym fails) ∙ d))
         (cases_lt i (length r))
 
 pub step_more : (path : List Loc) (i j : ℕ) (p q : Loc) (old now new : List Seg) → i < length path → j < length path → j ≡ after_round i (length path) → p ≡ get_or path i p → q ≡ get_or path j q
@@ -60,13 +71,36 @@ step_more path i j p q old now new hi hj next ep eq was is =
     let inside = slice_get_within (steps_round path) i (p, q) at in
     let step : Loc × Loc = (p, q) in
     let f : Loc × Loc → Option Seg = λ s. segment_between s.0 s.1 in
-    let more = filtered_more f (steps_round path) i step (segment_between p q) inside (sym (get_or_from_slice_get (steps_round path) i step step at)) refl in
+    let more = sym (given_step f (steps_round path) i step (filter_map f (take i (steps_round path))) _ inside (sym (get_or_from_slice_get (steps_round path) i step step at)) refl refl) in
     is ∙ (ap (λ (ss : List Seg). ss ++ option_to_list (segment_between p q)) was ∙ (append_assoc old (filter_map f (take i (steps_round path))) (option_to_list (segment_between p q)) ∙ ap (λ (ss : List Seg). old ++ ss) (sym more)))
 
 pub steps_all : (path : List Loc) (i : ℕ) (old now : List Seg) → length path ≤ i → now ≡ old ++ filter_map (λ (step : Loc × Loc). segment_between step.0 step.1) (take i (steps_round path)) → now ≡ old ++ segments_round path
 steps_all path i old now h was =
     let short = zip_short path (drop 1 path ++ take 1 path) in
     was ∙ ap (λ (ss : List (Loc × Loc)). old ++ filter_map (λ (step : Loc × Loc). segment_between step.0 step.1) ss) (take_all i (steps_round path) (omega arith))
+
+-- ---- a test of the steps, one after the other
+
+pub tested_more : (f : Loc × Loc → Bool) (path : List Loc) (i j : ℕ) (p q : Loc) (b : Bool) → i < length path → j < length path → j ≡ after_round i (length path) → p ≡ get_or path i p → q ≡ get_or path j q
+    → f (p, q) ≡ b → list_any f (take i (steps_round path)) ≡ false → list_any f (take (i + 1) (steps_round path)) ≡ b
+tested_more f path i j p q b hi hj next ep eq is none =
+    let at_p = slice_get_read path (length path) i p refl hi ep in
+    let at_q = slice_get_read path (length path) j q refl hj eq in
+    let at = steps_at path i p q at_p (ap (slice_get path) (sym next) ∙ at_q) in
+    let inside = slice_get_within (steps_round path) i (p, q) at in
+    let step : Loc × Loc = (p, q) in
+    let here = get_or_from_slice_get (steps_round path) i step step at in
+    list_any_more f (steps_round path) i step inside ∙ (ap (λ (c : Bool). c || f (get_or (steps_round path) i step)) none ∙ (ap f here ∙ is))
+
+pub tested_front : (f : Loc × Loc → Bool) (path : List Loc) (i : ℕ) → list_any f (take i (steps_round path)) ≡ true → list_any f (steps_round path) ≡ true
+tested_front f path i h =
+    let split = sym (take-append-drop i (steps_round path)) in
+    ap (list_any f) split ∙ (list_any-append f (take i (steps_round path)) (drop i (steps_round path)) ∙ ap (λ b. b || list_any f (drop i (steps_round path))) h)
+
+pub tested_all : (f : Loc × Loc → Bool) (path : List Loc) (i : ℕ) → length path ≤ i → list_any f (take i (steps_round path)) ≡ false → list_any f (steps_round path) ≡ false
+tested_all f path i h none =
+    let short = zip_short path (drop 1 path ++ take 1 path) in
+    ap (list_any f) (sym (take_all i (steps_round path) (omega arith))) ∙ none
 
 -- ---- the pieces of a side, one after the other
 
@@ -86,7 +120,7 @@ piece_more nodes i p q old now new h ep eq was is =
     let inside = slice_get_within steps i (p, q) at in
     let step : Loc × Loc = (p, q) in
     let f : Loc × Loc → Option Seg = λ s. segment_between s.0 s.1 in
-    let more = filtered_more f steps i step (segment_between p q) inside (sym (get_or_from_slice_get steps i step step at)) refl in
+    let more = sym (given_step f steps i step (filter_map f (take i steps)) _ inside (sym (get_or_from_slice_get steps i step step at)) refl refl) in
     is ∙ (ap (λ (ss : List Seg). ss ++ option_to_list (segment_between p q)) was ∙ (append_assoc old (filter_map f (take i steps)) (option_to_list (segment_between p q)) ∙ ap (λ (ss : List Seg). old ++ ss) (sym more)))
 
 zip_shorter : (xs ys : List Loc) → length (zip xs ys) ≤ length ys

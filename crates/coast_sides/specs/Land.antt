@@ -1,10 +1,11 @@
 -- Land.
-use Rattle.std.specs.Prelude.{◌≡◌, ◌%◌, List, Contains, None, ℤ, pos}
+use Rattle.std.specs.Prelude.{◌≡◌, ◌%◌, List, All, Contains, None, ℤ, pos}
 use Rattle.plane.specs.Sign.{Plus, sign}
 use Rattle.plane.specs.Vector.{Vector, east}
 use Rattle.winding.specs.EdgeList.{crossing_count}
 use Rattle.winding.specs.ScaledEdges.{scaled_edges}
 use Rattle.osm_geom.specs.declared.edge.Edge.{Edge}
+use Rattle.osm_geom.specs.WholeSegment.{IsWholeSegment}
 use Rattle.osm_lattice.specs.declared.seg.Seg.{Seg}
 use Rattle.osm_lattice.specs.Conflict.{conflict_of}
 use Rattle.osm_segments.specs.Counts.{AreSurvivors}
@@ -20,10 +21,12 @@ AreClear segs = (s t : Seg) → Contains segs s → Contains segs t → conflict
 abbrev pub parity_at : ℤ → Vector → List Seg → ℤ
 parity_at q p segs = pos (crossing_count east p (scaled_edges q (plane_edges_of segs)) % 2)
 
--- the edges are what is left of the segments once pairs are cancelled, directed by the odd side; they are sided, and their signed count is the parity of the segments, before cancelling, at every point
+-- the edges are what is left of the segments once pairs are cancelled, directed by the odd side; each runs along a whole segment,
+-- they are sided, and their signed count is the parity of the segments, before cancelling, at every point
 pub record IsLand (segs : List Seg) (edges : List Edge) : Type 0 where
   pub survivors : List Seg
   pub left : AreSurvivors segs survivors
   pub directed : AreDirected survivors edges
+  pub whole : All IsWholeSegment edges
   pub sided : IsSided edges
   pub parity : (q : ℤ) → sign q ≡ Plus → (p : Vector) → signed_count_at q p edges ≡ parity_at q p segs

@@ -1,5 +1,10 @@
 pub mod Segments
 pub mod Laws
 pub mod Land
+pub mod Sorting
 pub mod Water
 pub mod WorldSides
+pub mod WrongWays
+pub mod RingLand
+pub mod ExistenceLaws
+pub mod OnenessLaws

@@ -1,12 +1,15 @@
 -- Water: what is left of land's segments together with the world's rectangle.
-use Rattle.std.specs.Prelude.{◌≡◌, ◌<◌, ◌<ℤ◌, ◌⊎◌, ◌%◌, ◌+◌, ◌++◌, ℤ, pos, neg_ℤ, None, Bool, true, false, All, Contains, List, [], drop, length}
+use Rattle.std.specs.Prelude.{◌≡◌, ◌<◌, ◌<ℤ◌, ◌⊎◌, ◌%◌, ◌+◌, ◌++◌, ℤ, pos, neg_ℤ, None, Option, Some, Bool, true, false, All, Contains, List, [], drop, length}
 use Rattle.std.specs.List.{filter_map, zip}
 use Rattle.std.specs.Ordering.{int_eq}
 use Rattle.std.proofs.Common.{lit≤}
 use Rattle.plane.specs.Sign.{Plus, sign}
 use Rattle.plane.specs.Vector.{Vector, east}
 use Rattle.winding.specs.EdgeList.{crossing_count}
+use Rattle.osm_geom.specs.declared.edge.Carrier.{Carrier}
+use Rattle.osm_geom.specs.declared.edge.Carrier.TheVariants.{Horizontal, OfSeg, Vertical}
 use Rattle.osm_geom.specs.declared.edge.Edge.{Edge}
+use Rattle.osm_geom.specs.WholeSegment.{IsWholeSegment}
 use Rattle.osm_lattice.specs.declared.loc.Loc.{Loc}
 use Rattle.osm_lattice.specs.declared.seg.Seg.{Seg}
 use Rattle.plane.specs.Conflict.{is_inside}
@@ -21,7 +24,7 @@ use Rattle.plane_edges.specs.Sided.{IsSided, signed_count_at}
 use Rattle.coast_join.specs.Joined.{south_east, south_west}
 use Rattle.coast_join.specs.Line.{first_of, last_of}
 use Rattle.osm_segments.specs.Pairs.{conflicts_of}
-use Rattle.coast_sides.specs.Land.{AreClear, parity_at}
+use Rattle.coast_sides.specs.Land.{AreClear, IsLand, parity_at}
 
 abbrev pub north_west : Loc
 north_west = record { x = neg_ℤ (pos 1800000000); y = pos 900000000; x_in = lit≤ tt; y_in = lit≤ tt }
@@ -67,13 +70,15 @@ pub record AreSides (land sides : List Seg) : Type 0 where
   pub west : IsSide is_west south_west north_west land on_west
   pub whole : sides ≡ pieces on_south ++ (pieces on_east ++ (pieces on_north ++ pieces on_west))
 
--- the edges are what is left of land's segments together with the sides, directed by the odd side; they are sided, and their signed count is its parity
+-- the edges are what is left of land's segments together with the sides, directed by the odd side; each runs along a whole segment,
+-- they are sided, and their signed count is its parity, before cancelling, at every point
 pub record IsWater (land : List Seg) (edges : List Edge) : Type 0 where
   pub sides : List Seg
   pub are_sides : AreSides land sides
   pub survivors : List Seg
   pub left : AreSurvivors (land ++ sides) survivors
   pub directed : AreDirected survivors edges
+  pub whole : All IsWholeSegment edges
   pub sided : IsSided edges
   pub parity : (q : ℤ) → sign q ≡ Plus → (p : Vector) → signed_count_at q p edges ≡ parity_at q p (land ++ sides)
 
@@ -107,3 +112,22 @@ IsClearOfSide on = (nodes : List Loc) (s t : Seg) → IsRising loc_cmp nodes →
 -- what is left of land without conflicts and the sides has none
 abbrev pub WaterIsClear : Type 0
 WaterIsClear = (land sides left : List Seg) → AreClear land → AreSides land sides → AreSurvivors (land ++ sides) left → conflicts_of left ≡ []
+
+-- the segments along which edges run, in order
+abbrev pub segment_of : Carrier → Option Seg
+segment_of (OfSeg s) = Some s
+segment_of (Vertical c) = None
+segment_of (Horizontal d) = None
+
+abbrev pub segments_along : List Edge → List Seg
+segments_along edges = filter_map (λ (e : Edge). segment_of e.carrier) edges
+
+-- at a point land counts once and water doesn't, or the other way round
+abbrev pub IsCoveredOnce : ℤ → ℤ → Type 0
+IsCoveredOnce land water = ((land ≡ pos 1) × (water ≡ pos 0)) ⊎ ((land ≡ pos 0) × (water ≡ pos 1))
+
+-- land and water together cover each point of whole coordinates strictly within the world once
+abbrev pub LandAndWaterCover : Type 0
+LandAndWaterCover =
+    (segs : List Seg) (land water : List Edge) → IsLand segs land → IsWater (segments_along land) water → (p : Vector) → IsWithin p →
+    IsCoveredOnce (signed_count_at (pos 1) p land) (signed_count_at (pos 1) p water)

@@ -1,13 +1,29 @@
 //! Coastline rings sorted out, and land and water.
 #![tactic(auto)]
 
-mod land;
+mod conflicting;
+mod existence;
+mod land_parts;
+mod landing;
+mod oneness;
+mod ring_segments;
 mod side_nodes;
+mod sorted;
 mod sorting;
-mod water;
+#[cfg(test)]
+mod tests;
+mod water_laws;
 mod watering;
+mod wrong_ways;
 
-pub use land::land_edges;
-pub use sorting::{all_segments, closed_lines_are_even};
-pub use water::{sides_are_clear, water_covers_the_rest, water_is_clear, water_is_even};
-pub use watering::water_edges;
+pub use existence::{land_exists, sorting_exists, water_exists};
+pub use land_parts::{Land, Repeats};
+pub use landing::land;
+pub use oneness::{land_is_one, sorting_is_one, water_is_one};
+pub use ring_segments::closed_lines_are_even;
+pub use sorted::{Pairs, Sorted};
+pub use sorting::sort_out;
+pub use water_laws::{
+    land_and_water_cover, sides_are_clear, water_covers_the_rest, water_is_clear, water_is_even,
+};
+pub use watering::water;

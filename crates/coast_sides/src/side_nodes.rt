@@ -35,11 +35,11 @@ fn lesser_corner(side: WorldSide) -> Loc
     orders_are_exact();
     let x = match side {
         WorldSide::East => 1_800_000_000,
-        _ => -1_800_000_000,
+        WorldSide::South | WorldSide::North | WorldSide::West => -1_800_000_000,
     };
     let y = match side {
         WorldSide::North => 900_000_000,
-        _ => -900_000_000,
+        WorldSide::South | WorldSide::East | WorldSide::West => -900_000_000,
     };
     Loc { x, y }
 }
@@ -50,11 +50,11 @@ fn greater_corner(side: WorldSide) -> Loc
     orders_are_exact();
     let x = match side {
         WorldSide::West => -1_800_000_000,
-        _ => 1_800_000_000,
+        WorldSide::South | WorldSide::East | WorldSide::North => 1_800_000_000,
     };
     let y = match side {
         WorldSide::South => -900_000_000,
-        _ => 900_000_000,
+        WorldSide::East | WorldSide::North | WorldSide::West => 900_000_000,
     };
     Loc { x, y }
 }

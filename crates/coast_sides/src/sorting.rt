@@ -1,60 +1,88 @@
-//! The segments of coastline rings.
+//! Rings sorted out: kept, or left out for a conflict.
 
-ghost use Rattle.std.specs.Prelude.{◌≡◌, ◌<◌, ◌+◌, ◌++◌, if◌then◌else◌, nat_lt, IfOk, OnOk};
-ghost use Rattle.std.specs.Option.{option_to_list};
-ghost use Rattle.osm_lattice.specs.Seg.{segment_between};
-ghost use Rattle.coast_join.specs.declared.ring.CoastRing.{CoastRing};
+ghost use Rattle.std.specs.Prelude.{◌≡◌, ◌++◌, ◌∷◌, [], if◌then◌else◌, IfOk, OnOk, filter, not};
+ghost use Rattle.std.specs.List.{list_any};
+ghost use Rattle.std.specs.BTreeSet.{contains};
+ghost use Rattle.osm_lattice.specs.Seg.{seg_cmp};
+ghost use Rattle.coast_sides.specs.Land.{AreClear};
 ghost use Rattle.coast_sides.specs.Segments.{all_segments, segments_round};
-ghost use Rattle.coast_sides.specs.Laws.{CancellingKeepsEven};
+ghost use Rattle.coast_sides.specs.Sorting.{IsSorted};
 
-use coast_join::CoastRing;
-use osm_geom::{Loc, Seg, orders_are_exact};
+use crate::conflicting::{distinct_conflicts, runs_along, segments_of};
+use crate::ring_segments::all_segments;
+use crate::sorted::{Pairs, Sorted};
+use coast_join::{CoastRing, CoastRings};
+use osm_geom::{Path, Seg, conflicts_are_symmetric, orders_are_exact};
 use std::alloc::{AllocError as OutOfMemory, Global};
+use std::collections::BTreeSet;
 
-/// A law: what is left of closed lines once pairs are cancelled is even at each location.
-pub fn closed_lines_are_even()
-    ensures { CancellingKeepsEven }
+/// A copy of a ring.
+fn copy_of(alloc: Global, ring: &CoastRing) -> Result<CoastRing, OutOfMemory>
+    ensures { IfOk result (λ copy. copy ≡ ring.now) }
+{
+    let path = Path::from_vec(Vec::from_slice(alloc, ring.path.as_slice())?);
+    Ok(CoastRing {
+        name: ring.name,
+        path,
+    })
+}
+
+/// Puts a ring at the end of one of two lists.
+fn put(
+    free: &mut CoastRings,
+    along: &mut CoastRings,
+    ring: CoastRing,
+    is_along: bool,
+) -> Result<(), OutOfMemory>
+    ensures free { OnOk result (free.new ≡ free.old ++ (if is_along then [] else ring ∷ [])) }
+    ensures along { OnOk result (along.new ≡ along.old ++ (if is_along then ring ∷ [] else [])) }
+{
+    if is_along {
+        along.push(ring)?;
+        return Ok(());
+    }
+    free.push(ring)?;
+    Ok(())
+}
+
+/// The rings none of whose segments is among these, and then the others.
+fn parted(
+    alloc: Global,
+    rings: &[CoastRing],
+    segs: &BTreeSet<Seg>,
+) -> Result<(CoastRings, CoastRings), OutOfMemory>
+    ensures free { IfOk result (λ parts. parts.0 ≡ filter (λ ring. not (list_any
+        (contains seg_cmp segs.now) (segments_round ring.path))) rings.now) }
+    ensures along { IfOk result (λ parts. parts.1 ≡ filter (λ ring. list_any
+        (contains seg_cmp segs.now) (segments_round ring.path)) rings.now) }
+{
+    let mut free = CoastRings::new(alloc);
+    let mut along = CoastRings::new(alloc);
+    for ring in rings {
+        let copy = copy_of(alloc, ring)?;
+        let is_along = runs_along(alloc, segs, ring)?;
+        put(&mut free, &mut along, copy, is_along)?;
+    }
+    Ok((free, along))
+}
+
+/// Rings sorted out: one is left out where one of its segments conflicts with a segment of any ring, itself included, and
+/// kept otherwise. Nothing cancels before segments are compared.
+///
+/// No two segments of kept rings conflict. The error is want of memory.
+pub fn sort_out(alloc: Global, rings: &[CoastRing]) -> Result<Sorted, OutOfMemory>
+    ensures sorted { IfOk result (λ sorted. IsSorted rings.now sorted) }
+    ensures clear { IfOk result (λ sorted. AreClear (all_segments sorted.kept)) }
 {
     orders_are_exact();
-}
-
-/// Adds the segment of a step.
-pub(crate) fn add_step(segs: &mut Vec<Seg>, from: Loc, to: Loc) -> Result<(), OutOfMemory>
-    ensures { OnOk result (segs.new.items ≡ segs.old.items
-        ++ option_to_list (segment_between from to)) }
-{
-    if let Some(seg) = Seg::new(from, to) {
-        segs.push(seg)?;
-    }
-    Ok(())
-}
-
-/// The place after this one, going round.
-fn next_round(place: usize, places: usize) -> usize
-    requires { place < places }
-    ensures value { result ≡ (if nat_lt (place + 1) places then place + 1 else 0) }
-    ensures inside { result < places }
-{
-    if place + 1 < places { place + 1 } else { 0 }
-}
-
-/// Adds the segments of a closed line.
-fn add_round(segs: &mut Vec<Seg>, path: &[Loc]) -> Result<(), OutOfMemory>
-    ensures { OnOk result (segs.new.items ≡ segs.old.items ++ segments_round path.now) }
-{
-    for place in 0..path.len() {
-        add_step(segs, path[place], path[next_round(place, path.len())])?;
-    }
-    Ok(())
-}
-
-/// The segments of rings, one ring after the other: from each location to the next, and from the last to the first.
-pub fn all_segments(alloc: Global, rings: &[CoastRing]) -> Result<Vec<Seg>, OutOfMemory>
-    ensures { IfOk result (λ v. v.items ≡ all_segments rings.now) }
-{
-    let mut segs = Vec::new(alloc);
-    for ring in rings {
-        add_round(&mut segs, ring.path.as_slice())?;
-    }
-    Ok(segs)
+    conflicts_are_symmetric();
+    let segs = all_segments(alloc, rings)?;
+    let pairs = distinct_conflicts(alloc, &segs)?;
+    let conflicting = segments_of(alloc, &pairs)?;
+    let (kept, left_out) = parted(alloc, rings, &conflicting)?;
+    Ok(Sorted {
+        kept,
+        left_out,
+        pairs: Pairs::from_vec(pairs),
+    })
 }

@@ -1,17 +1,21 @@
 //! Water: what is left of land and the sides of the world, directed.
 
-ghost use Rattle.std.specs.Prelude.{◌≡◌, ◌<◌, ◌++◌, IfOk, OnOk, length};
+ghost use Rattle.std.specs.Prelude.{◌≡◌, ◌<◌, ◌++◌, All, IfOk, OnOk, length};
+ghost use Rattle.std.specs.Option.{option_to_list};
+ghost use Rattle.osm_geom.specs.WholeSegment.{IsWholeSegment};
 ghost use Rattle.osm_sides.specs.Survivors.{HasEvenNodes};
+ghost use Rattle.plane_edges.specs.Sided.{IsSided};
 ghost use Rattle.coast_sides.specs.Land.{AreClear};
-ghost use Rattle.coast_sides.specs.Water.{AreSides, IsWater, pieces};
+ghost use Rattle.coast_sides.specs.Water.{AreSides, IsWater, pieces, segment_of, segments_along};
 
-use crate::land::list_of;
+use crate::landing::list_of;
+use crate::ring_segments::add_step;
 use crate::side_nodes::{WorldSide, side_nodes};
-use crate::sorting::add_step;
-use crate::water::{water_is_clear, water_is_even};
-use osm_geom::{Edges, Loc, Seg, orders_are_exact};
+use crate::water_laws::{water_is_clear, water_is_even};
+use osm_geom::{Carrier, Edge, Edges, Loc, Seg, conflicts_are_symmetric, orders_are_exact};
 use osm_segments::survivors;
 use osm_sides::direct;
+use plane_edges::lattice::lattice_edges_are_whole;
 use std::alloc::{AllocError as OutOfMemory, Global};
 
 /// Adds the segments between neighbouring nodes.
@@ -41,11 +45,33 @@ fn world_sides(alloc: Global, land: &[Seg]) -> Result<Vec<Seg>, OutOfMemory>
     Ok(sides)
 }
 
-/// The edges of water: what is left of land's segments together with the sides of the world's rectangle, each cut at
-/// every node of land on it, directed so that water is on the left.
-///
-/// Land has no conflicts and is even at each location. The error is want of memory.
-pub fn water_edges(alloc: Global, land: &[Seg]) -> Result<Edges, OutOfMemory>
+/// Adds the segment along which an edge runs.
+fn add_segment(segs: &mut Vec<Seg>, edge: &Edge) -> Result<(), OutOfMemory>
+    ensures { OnOk result (segs.new.items ≡ segs.old.items
+        ++ option_to_list (segment_of edge.now.carrier)) }
+{
+    match edge.carrier {
+        Carrier::OfSeg(seg) => {
+            segs.push(seg)?;
+            Ok(())
+        }
+        Carrier::Vertical(_) | Carrier::Horizontal(_) => Ok(()),
+    }
+}
+
+/// The segments along which edges run.
+fn segments_along(alloc: Global, edges: &[Edge]) -> Result<Vec<Seg>, OutOfMemory>
+    ensures { IfOk result (λ v. v.items ≡ segments_along edges.now) }
+{
+    let mut segs = Vec::with_capacity(alloc, edges.len())?;
+    for edge in edges {
+        add_segment(&mut segs, edge)?;
+    }
+    Ok(segs)
+}
+
+/// The edges of water about segments of land that have no conflicts and are even at each location.
+fn water_edges(alloc: Global, land: &[Seg]) -> Result<Edges, OutOfMemory>
     requires clear { AreClear land.now }
     requires even { HasEvenNodes land.now }
     ensures { IfOk result (λ edges. IsWater land.now edges) }
@@ -59,4 +85,20 @@ pub fn water_edges(alloc: Global, land: &[Seg]) -> Result<Edges, OutOfMemory>
     let left = survivors(alloc, &segs)?;
     let edges = direct(alloc, &left)?;
     list_of(alloc, &edges)
+}
+
+/// Water: what is left of land's segments together with the sides of the world's rectangle, each cut at every node of land
+/// on it, directed so that water is on the left. Where there is no land it is the world.
+///
+/// The edges of land are sided, each along a whole segment, as `land` gives them. The error is want of memory.
+pub fn water(alloc: Global, land: &Edges) -> Result<Edges, OutOfMemory>
+    requires whole { All IsWholeSegment land.now }
+    requires sided { IsSided land.now }
+    ensures { IfOk result (λ edges. IsWater (segments_along land.now) edges) }
+{
+    orders_are_exact();
+    conflicts_are_symmetric();
+    lattice_edges_are_whole();
+    let segs = segments_along(alloc, land.as_slice())?;
+    water_edges(alloc, &segs)
 }

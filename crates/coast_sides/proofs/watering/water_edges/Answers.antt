@@ -1,7 +1,8 @@
 -- What is left may be directed.
-use Rattle.std.proofs.Common.{◌≡◌, ◌++◌, List, ap, sym, subst, ◌∙◌, pos}
+use Rattle.std.proofs.Common.{◌≡◌, ◌++◌, All, List, ap, sym, subst, ◌∙◌, pos}
 use Rattle.std.proofs.lemmas.Result.{IfOk-weaker}
 use Rattle.osm_geom.specs.declared.edge.Edge.{Edge}
+use Rattle.osm_geom.specs.WholeSegment.{IsWholeSegment}
 use Rattle.osm_lattice.specs.declared.seg.Seg.{Seg}
 use Rattle.osm_segments.specs.Counts.{AreSurvivors}
 use Rattle.osm_sides.specs.Directions.{AreDirected, CountsParity}
@@ -39,6 +40,7 @@ returns c =
       survivors = left;
       left = are;
       directed = subst (λ (es : List Edge). AreDirected left es) same directed;
+      whole = subst (λ (es : List Edge). All IsWholeSegment es) same c.in_ok-edges.ensures.whole;
       sided = subst IsSided same c.in_ok-edges.ensures.sided;
       parity = λ q h p. subst (λ (es : List Edge). signed_count_at q p es ≡ parity_at q p left) same (counts q h p) ∙ ap pos (left_parity c.orders_are_exact.ensures.segments (land ++ sides) left are q p);
     }) c.list_of.ensures

@@ -1,0 +1,153 @@
+-- What rings are sorted out to, their land, and the water about it: there is one of each.
+use Rattle.std.proofs.Common.{◌≡◌, ◌⊎◌, ⊎_elim, ℕ, zero, suc, ◌-◌, ◌%◌, ◌<◌, ◌≤◌, Bool, true, false, cond, List, [], ◌∷◌, ◌++◌, All, Contains, filter, get_or, length, map, refl, sym, ap, subst, ◌∙◌, arith}
+use Rattle.std.specs.declared.cmp.Ordering.{Ordering}
+use Rattle.std.specs.declared.cmp.Ordering.TheVariants.{Equal, Greater, Less}
+use Rattle.std.specs.Cmp.{IsTotalOrder}
+use Rattle.std.specs.Ordering.{is_eq, ordering_reverse}
+use Rattle.std.proofs.lemmas.List.{get_or_default}
+use Rattle.std.proofs.lemmas.List.Elements.{All-contains, All-tail}
+use Rattle.lists.specs.Rising.{IsRising, count_of}
+use Rattle.lists.proofs.ListsKit.{count-cons, count_some, count_stands, equal_from, same_rising}
+use Rattle.osm_geom.specs.declared.edge.Edge.{Edge}
+use Rattle.osm_geom.proofs.GeometryKit.{edge-from-fields}
+use Rattle.osm_lattice.specs.OrderLaws.{LocationOrderTellsApart, SegmentOrderTellsApart}
+use Rattle.osm_lattice.specs.Seg.{seg_cmp}
+use Rattle.osm_lattice.specs.declared.loc.Loc.{Loc}
+use Rattle.osm_lattice.specs.declared.seg.Seg.{Seg}
+use Rattle.osm_segments.specs.Counts.{ends_of}
+use Rattle.osm_segments.specs.Pairs.{conflicts_of}
+use Rattle.osm_segments.specs.Repeats.{segs_of}
+use Rattle.osm_segments.specs.declared.counts.Repeat.{Repeat}
+use Rattle.osm_segments.specs.declared.pairs.Pair.{Pair}
+use Rattle.osm_sides.specs.Directions.{AreDirected}
+use Rattle.coast_join.specs.declared.ring.CoastRing.{CoastRing}
+use Rattle.coast_join.specs.Line.{origin}
+use Rattle.coast_sides.specs.Land.{IsLand}
+use Rattle.coast_sides.specs.OnenessLaws.{LandIsOne, SortedIsOne, WaterIsOne}
+use Rattle.coast_sides.specs.Segments.{all_segments}
+use Rattle.coast_sides.specs.Sorting.{AreConflicts}
+use Rattle.coast_sides.specs.Water.{AreSides, IsSide, is_east, is_north, is_south, is_west, north_east, north_west, pieces}
+use Rattle.coast_sides.specs.WrongWays.{runs_against}
+use Rattle.coast_join.specs.Joined.{south_east, south_west}
+use Rattle.coast_sides.proofs.EvenRings.{loc_cmp_total, seg_cmp_total}
+
+-- ---- lists in strict order with the same members
+
+module _ {X : Type 0} {R : X → X → Ordering} (total : IsTotalOrder R) (exact : (x y : X) → R x y ≡ Equal → x ≡ y) where
+  none_below : (z : X) (xs : List X) → All (λ y. R z y ≡ Less) xs → count_of R z xs ≡ 0
+  none_below z [] below = refl
+  none_below z (y ∷ ys) below =
+      let more : R y z ≡ Greater = total.antisymm y z ∙ ap ordering_reverse (below 0 y (omega arith)) in
+      let here : cond {A = ℕ} (is_eq (R y z)) 1 0 ≡ 0 = ap (λ r. cond {A = ℕ} (is_eq r) 1 0) more in
+      let rest = none_below z ys (λ k d h. below (suc k) d (omega arith)) in
+      let n = count-cons R z y ys in
+      omega arith
+
+  once : (z : X) (xs : List X) → IsRising R xs → count_of R z xs ≤ 1
+  once z [] up = omega arith
+  once z (y ∷ ys) up = by (is_eq (R y z)) refl (once z ys (λ i j d h l. up (suc i) (suc j) d (omega arith) (omega arith)))
+    where
+      by : (b : Bool) → is_eq (R y z) ≡ b → count_of R z ys ≤ 1 → count_of R z (y ∷ ys) ≤ 1
+      by true e rest =
+          let same : y ≡ z = exact y z (equal_from (R y z) e) in
+          let none = none_below z ys (λ k d h. subst (λ w. R w (get_or ys k d) ≡ Less) same (up 0 (suc k) d (omega arith) (omega arith))) in
+          let here : cond {A = ℕ} (is_eq (R y z)) 1 0 ≡ 1 = ap (λ b. cond {A = ℕ} b 1 0) e in
+          let n = count-cons R z y ys in
+          omega arith
+      by false e rest =
+          let here : cond {A = ℕ} (is_eq (R y z)) 1 0 ≡ 0 = ap (λ b. cond {A = ℕ} b 1 0) e in
+          let n = count-cons R z y ys in
+          omega arith
+
+  counts_agree : (m n : ℕ) → (0 < m → 0 < n) → (0 < n → 0 < m) → m ≤ 1 → n ≤ 1 → m ≡ n
+  counts_agree zero zero there back h l = refl
+  counts_agree zero (suc n) there back h l = let c = back (omega arith) in absurd (omega arith)
+  counts_agree (suc m) zero there back h l = let c = there (omega arith) in absurd (omega arith)
+  counts_agree (suc m) (suc n) there back h l = omega arith
+
+  same_members : (xs ys : List X) → IsRising R xs → IsRising R ys → ((x : X) → Contains xs x → Contains ys x) → ((x : X) → Contains ys x → Contains xs x) → xs ≡ ys
+  same_members xs ys up down there back = same_rising total exact xs ys up down (λ z.
+      counts_agree (count_of R z xs) (count_of R z ys)
+      (λ h. let c = there z (count_stands R exact z xs h) in count_some total z ys c.0 c.1 c.2)
+      (λ h. let c = back z (count_stands R exact z ys h) in count_some total z xs c.0 c.1 c.2)
+      (once z xs up) (once z ys down))
+
+-- ---- the sides of the world
+
+side_holds : (on : Loc → Bool) (from to : Loc) (land : List Seg) (a b : List Loc) → IsSide on from to land a → IsSide on from to land b → (p : Loc) → Contains a p → Contains b p
+side_holds on from to land a b s t p c =
+    let some = t.some in
+    let first : Contains b from = (0, some, sym (get_or_default b 0 origin from some) ∙ t.begins) in
+    let last : Contains b to = (length b - 1, omega arith, sym (get_or_default b (length b - 1) origin to (omega arith)) ∙ t.ends) in
+    ⊎_elim
+    (λ corner. ⊎_elim (λ (e : p ≡ from). subst (Contains b) (sym e) first) (λ (e : p ≡ to). subst (Contains b) (sym e) last) corner)
+    (λ node. t.cut p (All-contains (λ q. on q ≡ true) a p s.within c) node)
+    (All-contains (λ q. ((q ≡ from) ⊎ (q ≡ to)) ⊎ Contains (ends_of land) q) a p s.only c)
+
+side_one : LocationOrderTellsApart → (on : Loc → Bool) (from to : Loc) (land : List Seg) (a b : List Loc) → IsSide on from to land a → IsSide on from to land b → a ≡ b
+side_one exact on from to land a b s t =
+    same_members loc_cmp_total (λ p q. (exact p q).0) a b s.rising t.rising (side_holds on from to land a b s t) (side_holds on from to land b a t s)
+
+sides_one : LocationOrderTellsApart → (land a b : List Seg) → AreSides land a → AreSides land b → a ≡ b
+sides_one exact land a b s t =
+    let south = ap pieces (side_one exact is_south south_west south_east land s.on_south t.on_south s.south t.south) in
+    let east = ap pieces (side_one exact is_east south_east north_east land s.on_east t.on_east s.east t.east) in
+    let north = ap pieces (side_one exact is_north north_west north_east land s.on_north t.on_north s.north t.north) in
+    let west = ap pieces (side_one exact is_west south_west north_west land s.on_west t.on_west s.west t.west) in
+    s.whole ∙ ((λ i. south i ++ (east i ++ (north i ++ west i))) ∙ sym t.whole)
+
+-- ---- edges and repeats told by their parts
+
+edges_same : (a b : List Edge) → map (λ (e : Edge). e.carrier) a ≡ map (λ (e : Edge). e.carrier) b → map (λ (e : Edge). e.from) a ≡ map (λ (e : Edge). e.from) b → map (λ (e : Edge). e.to) a ≡ map (λ (e : Edge). e.to) b → a ≡ b
+edges_same [] [] h k l = refl
+edges_same [] (y ∷ b) h k l = cc
+edges_same (x ∷ a) [] h k l = cc
+edges_same (x ∷ a) (y ∷ b) h k l = ap (λ z. z ∷ a) (edge-from-fields x y (cc) (cc) (cc)) ∙ ap (λ l. y ∷ l) (edges_same a b (cc) (cc) (cc))
+
+directed_one : (segs : List Seg) (a b : List Edge) → AreDirected segs a → AreDirected segs b → a ≡ b
+directed_one segs a b s t = edges_same a b (s.whole ∙ sym t.whole) (s.firsts ∙ sym t.firsts) (s.lasts ∙ sym t.lasts)
+
+repeats_same : (segs : List Seg) (a b : List Repeat) → segs_of a ≡ segs_of b → All (λ r. r.times ≡ count_of seg_cmp r.seg segs) a → All (λ r. r.times ≡ count_of seg_cmp r.seg segs) b → a ≡ b
+repeats_same segs [] [] h s t = refl
+repeats_same segs [] (y ∷ b) h s t = cc
+repeats_same segs (x ∷ a) [] h s t = cc
+repeats_same segs (x ∷ a) (y ∷ b) h s t =
+    let e : x.seg ≡ y.seg = cc in
+    let f : x.times ≡ y.times = s 0 x (omega arith) ∙ ap (λ q. count_of seg_cmp q segs) e ∙ sym (t 0 y (omega arith)) in
+    let g : x ≡ y = λ i. record { seg = e i; times = f i } in
+    ap (λ z. z ∷ a) g ∙ ap (λ l. y ∷ l) (repeats_same segs a b (cc) (All-tail (λ (r : Repeat). r.times ≡ count_of seg_cmp r.seg segs) x a s) (All-tail (λ (r : Repeat). r.times ≡ count_of seg_cmp r.seg segs) y b t))
+
+module _ (exact : SegmentOrderTellsApart) where
+  told_by_counts : (a b : List Seg) → IsRising seg_cmp a → IsRising seg_cmp b → ((s : Seg) → count_of seg_cmp s a ≡ count_of seg_cmp s b) → a ≡ b
+  told_by_counts = same_rising seg_cmp_total (λ s t. (exact s t).0)
+
+  conflicts_one : (segs : List Seg) (a b : List Pair) → AreConflicts segs a → AreConflicts segs b → a ≡ b
+  conflicts_one segs a b s t =
+      let distinct = told_by_counts s.distinct t.distinct s.once.rising t.once.rising (λ z. s.once.once z ∙ sym (t.once.once z)) in
+      s.are ∙ (ap conflicts_of distinct ∙ sym t.are)
+
+  pub sorted_one : SortedIsOne
+  sorted_one rings a b s t =
+      let kept = s.kept ∙ sym t.kept in
+      let left = s.left_out ∙ sym t.left_out in
+      let pairs = conflicts_one (all_segments rings) a.pairs b.pairs s.pairs t.pairs in
+      λ i. record { kept = kept i; left_out = left i; pairs = pairs i }
+
+  land_edges_one : (segs : List Seg) (a b : List Edge) → IsLand segs a → IsLand segs b → a ≡ b
+  land_edges_one segs a b s t =
+      let left = told_by_counts s.survivors t.survivors s.left.rising t.left.rising (λ z. s.left.odd z ∙ sym (t.left.odd z)) in
+      directed_one t.survivors a b (subst (λ (l : List Seg). AreDirected l a) left s.directed) t.directed
+
+  pub land_one : LandIsOne
+  land_one rings a b s t =
+      let segs = all_segments rings in
+      let edges = land_edges_one segs a.edges b.edges s.edges t.edges in
+      let repeats = repeats_same segs a.repeats b.repeats (told_by_counts (segs_of a.repeats) (segs_of b.repeats) s.repeats.rising t.repeats.rising (λ z. s.repeats.twice z ∙ sym (t.repeats.twice z))) s.repeats.times t.repeats.times in
+      let wrong = s.wrong_way ∙ (ap (λ (es : List Edge). map (λ (ring : CoastRing). ring.name) (filter (runs_against es) rings)) edges ∙ sym t.wrong_way) in
+      λ i. record { edges = edges i; repeats = repeats i; wrong_way = wrong i }
+
+  pub water_one : LocationOrderTellsApart → WaterIsOne
+  water_one places land a b s t =
+      let sides = sides_one places land s.sides t.sides s.are_sides t.are_sides in
+      let left = told_by_counts s.survivors t.survivors s.left.rising t.left.rising (λ z. s.left.odd z ∙ (ap (λ (ss : List Seg). count_of seg_cmp z (land ++ ss) % 2) sides ∙ sym (t.left.odd z))) in
+      directed_one t.survivors a b (subst (λ (l : List Seg). AreDirected l a) left s.directed) t.directed

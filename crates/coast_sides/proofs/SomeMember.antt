@@ -1,0 +1,125 @@
+-- Tests that some member of a list passes.
+use Rattle.std.proofs.Common.{◌≡◌, ◌⊎◌, inl, inr, ⊎_elim, ◌||◌, zero, suc, Bool, true, false, cond, List, [], ◌∷◌, filter, Option, Some, None, Contains, refl, sym, ap, ◌∙◌, arith}
+use Rattle.std.specs.List.{cons_option, filter_map, flat_map, list_any}
+use Rattle.std.proofs.lemmas.Bool.{false≢true}
+use Rattle.std.proofs.lemmas.List.Elements.{Contains-append_cases, Contains-append_left, Contains-append_right}
+use Rattle.std.proofs.lemmas.List.Folds.{list_any_at}
+
+-- two truths that follow from each other are one
+pub same_truth : (a b : Bool) → (a ≡ true → b ≡ true) → (b ≡ true → a ≡ true) → a ≡ b
+same_truth true b there back = sym (there refl)
+same_truth false true there back = back refl
+same_truth false false there back = refl
+
+module _ {X : Type 0} where
+  pub first_member : (x : X) (xs : List X) → Contains (x ∷ xs) x
+  first_member x xs = (0, omega arith, refl)
+
+  pub later_member : (x y : X) (xs : List X) → Contains xs y → Contains (x ∷ xs) y
+  later_member x y xs (k, h, e) = (suc k, omega arith, e)
+
+  pub no_member : (x : X) → Contains [] x → ⊥
+  no_member x (k, h, e) = absurd (omega arith)
+
+  pub member_cases : (x y : X) (xs : List X) → Contains (x ∷ xs) y → (x ≡ y) ⊎ Contains xs y
+  member_cases x y xs (zero, h, e) = inl e
+  member_cases x y xs (suc k, h, e) = inr (k, omega arith, e)
+
+  -- a member that passes
+  pub record Passes (p : X → Bool) (xs : List X) : Type 0 where
+    pub item : X
+    pub member : Contains xs item
+    pub passes : p item ≡ true
+
+  pub some_passes : (p : X → Bool) (xs : List X) → list_any p xs ≡ true → Passes p xs
+  some_passes p [] e = absurd (false≢true e)
+  some_passes p (x ∷ xs) e = by (p x) refl e (some_passes p xs)
+    where
+      by : (b : Bool) → p x ≡ b → (b || list_any p xs) ≡ true → (list_any p xs ≡ true → Passes p xs) → Passes p (x ∷ xs)
+      by true h e later = record { item = x; member = first_member x xs; passes = h }
+      by false h e later = let r = later e in record { item = r.item; member = later_member x r.item xs r.member; passes = r.passes }
+
+  pub any_from : (p : X → Bool) (xs : List X) (x : X) → Contains xs x → p x ≡ true → list_any p xs ≡ true
+  any_from p xs x (k, h, e) passes = list_any_at p xs k x h (ap p e ∙ passes)
+
+  -- tests that agree at each member
+  pub any_same : (p q : X → Bool) (xs : List X) → ((x : X) → Contains xs x → p x ≡ q x) → list_any p xs ≡ list_any q xs
+  any_same p q [] same = refl
+  any_same p q (x ∷ xs) same =
+      let rest = any_same p q xs (λ y c. same y (later_member x y xs c)) in
+      ap (λ b. b || list_any p xs) (same x (first_member x xs)) ∙ ap (λ b. q x || b) rest
+
+  pub filter_alike : (p q : X → Bool) (xs : List X) → ((x : X) → Contains xs x → p x ≡ q x) → filter p xs ≡ filter q xs
+  filter_alike p q [] same = refl
+  filter_alike p q (x ∷ xs) same =
+      let rest = filter_alike p q xs (λ y c. same y (later_member x y xs c)) in
+      ap (λ (b : Bool). cond b (x ∷ filter p xs) (filter p xs)) (same x (first_member x xs)) ∙ ap (λ (ys : List X). cond (q x) (x ∷ ys) ys) rest
+
+  -- what a filter keeps
+  pub kept_is : (p : X → Bool) (xs : List X) (y : X) → Contains (filter p xs) y → Contains xs y × (p y ≡ true)
+  kept_is p [] y c = absurd (no_member y c)
+  kept_is p (x ∷ xs) y c = by (p x) refl c (kept_is p xs y)
+    where
+      by : (b : Bool) → p x ≡ b → Contains (cond b (x ∷ filter p xs) (filter p xs)) y → (Contains (filter p xs) y → Contains xs y × (p y ≡ true)) → Contains (x ∷ xs) y × (p y ≡ true)
+      by true h c later =
+          ⊎_elim
+          (λ (e : x ≡ y). ((0, omega arith, e), ap p (sym e) ∙ h))
+          (λ (c : Contains (filter p xs) y). let r = later c in (later_member x y xs r.0, r.1))
+          (member_cases x y (filter p xs) c)
+      by false h c later = let r = later c in (later_member x y xs r.0, r.1)
+
+module _ {X Y : Type 0} where
+  -- an item of xs that gives y
+  pub record Gives (h : X → Option Y) (xs : List X) (y : Y) : Type 0 where
+    pub item : X
+    pub member : Contains xs item
+    pub gives : h item ≡ Some y
+
+  pub filter_map_from : (h : X → Option Y) (xs : List X) (y : Y) → Contains (filter_map h xs) y → Gives h xs y
+  filter_map_from h [] y c = absurd (no_member y c)
+  filter_map_from h (x ∷ xs) y c = by (h x) refl c (filter_map_from h xs y)
+    where
+      by : (o : Option Y) → h x ≡ o → Contains (cons_option o (filter_map h xs)) y → (Contains (filter_map h xs) y → Gives h xs y) → Gives h (x ∷ xs) y
+      by None e c later = let r = later c in record { item = r.item; member = later_member x r.item xs r.member; gives = r.gives }
+      by (Some z) e c later =
+          ⊎_elim
+          (λ (d : z ≡ y). record { item = x; member = first_member x xs; gives = e ∙ ap (λ w. Some w) d })
+          (λ (c : Contains (filter_map h xs) y). let r = later c in record { item = r.item; member = later_member x r.item xs r.member; gives = r.gives })
+          (member_cases z y (filter_map h xs) c)
+
+  pub filter_map_has : (h : X → Option Y) (xs : List X) (x : X) (y : Y) → Contains xs x → h x ≡ Some y → Contains (filter_map h xs) y
+  filter_map_has h [] x y c e = absurd (no_member x c)
+  filter_map_has h (z ∷ zs) x y c e =
+      ⊎_elim
+      (λ (q : z ≡ x). first_option (h z) (ap h q ∙ e))
+      (λ (c : Contains zs x). later_option (h z) (filter_map_has h zs x y c e))
+      (member_cases z x zs c)
+    where
+      first_option : (o : Option Y) → o ≡ Some y → Contains (cons_option o (filter_map h zs)) y
+      first_option o e = rw e (first_member y (filter_map h zs))
+
+      later_option : (o : Option Y) → Contains (filter_map h zs) y → Contains (cons_option o (filter_map h zs)) y
+      later_option None c = c
+      later_option (Some w) c = later_member w y (filter_map h zs) c
+
+  -- an item of xs whose list has y
+  pub record Holds (f : X → List Y) (xs : List X) (y : Y) : Type 0 where
+    pub item : X
+    pub member : Contains xs item
+    pub holds : Contains (f item) y
+
+  pub flat_map_from : (f : X → List Y) (xs : List X) (y : Y) → Contains (flat_map f xs) y → Holds f xs y
+  flat_map_from f [] y c = absurd (no_member y c)
+  flat_map_from f (x ∷ xs) y c =
+      ⊎_elim
+      (λ (c : Contains (f x) y). record { item = x; member = first_member x xs; holds = c })
+      (λ (c : Contains (flat_map f xs) y). let r = flat_map_from f xs y c in record { item = r.item; member = later_member x r.item xs r.member; holds = r.holds })
+      (Contains-append_cases (f x) (flat_map f xs) y c)
+
+  pub flat_map_has : (f : X → List Y) (xs : List X) (x : X) (y : Y) → Contains xs x → Contains (f x) y → Contains (flat_map f xs) y
+  flat_map_has f [] x y c d = absurd (no_member x c)
+  flat_map_has f (z ∷ zs) x y c d =
+      ⊎_elim
+      (λ (e : z ≡ x). Contains-append_left (f z) (flat_map f zs) y (rw e d))
+      (λ (c : Contains zs x). Contains-append_right (f z) (flat_map f zs) y (flat_map_has f zs x y c d))
+      (member_cases z x zs c)

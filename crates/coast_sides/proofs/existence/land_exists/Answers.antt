@@ -1,0 +1,5 @@
+use Rattle.coast_sides.proofs.AllExist.{counted_segments, rings_have_land}
+use Rattle.coast_sides.proofs.existence.land_exists.Goals as goal
+
+pub returns : goal.returns
+returns c = rings_have_land counted_segments c.orders_are_exact.ensures.segments c.directing_is_sided.ensures.whole c.closed_lines_are_even.ensures

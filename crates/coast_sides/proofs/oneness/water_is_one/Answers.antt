@@ -1,0 +1,5 @@
+use Rattle.coast_sides.proofs.AllOne.{water_one}
+use Rattle.coast_sides.proofs.oneness.water_is_one.Goals as goal
+
+pub returns : goal.returns
+returns c = water_one c.orders_are_exact.ensures.segments c.orders_are_exact.ensures.locations

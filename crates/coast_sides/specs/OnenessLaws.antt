@@ -1,0 +1,22 @@
+-- The laws that there is one of what the crate gives, as statements.
+use Rattle.std.specs.Prelude.{◌≡◌, List}
+use Rattle.osm_geom.specs.declared.edge.Edge.{Edge}
+use Rattle.osm_lattice.specs.declared.seg.Seg.{Seg}
+use Rattle.coast_join.specs.declared.ring.CoastRing.{CoastRing}
+use Rattle.coast_sides.specs.declared.land_parts.Land.{Land}
+use Rattle.coast_sides.specs.declared.sorted.Sorted.{Sorted}
+use Rattle.coast_sides.specs.RingLand.{IsLandOf}
+use Rattle.coast_sides.specs.Sorting.{IsSorted}
+use Rattle.coast_sides.specs.Water.{IsWater}
+
+-- rings are sorted out in one way
+abbrev pub SortedIsOne : Type 0
+SortedIsOne = (rings : List CoastRing) (a b : Sorted) → IsSorted rings a → IsSorted rings b → a ≡ b
+
+-- rings have one land
+abbrev pub LandIsOne : Type 0
+LandIsOne = (rings : List CoastRing) (a b : Land) → IsLandOf rings a → IsLandOf rings b → a ≡ b
+
+-- segments of land have one water
+abbrev pub WaterIsOne : Type 0
+WaterIsOne = (land : List Seg) (a b : List Edge) → IsWater land a → IsWater land b → a ≡ b

@@ -1,0 +1,35 @@
+-- Rings that run the wrong way.
+use Rattle.std.specs.Prelude.{◌&&◌, Bool, false, List}
+use Rattle.std.specs.declared.cmp.Ordering.{Ordering}
+use Rattle.std.specs.List.{list_any}
+use Rattle.std.specs.Ordering.{is_eq, on, then_cmp}
+use Rattle.osm_lattice.specs.declared.loc.Loc.{Loc}
+use Rattle.osm_lattice.specs.Loc.{loc_cmp}
+use Rattle.osm_geom.specs.declared.edge.Edge.{Edge}
+use Rattle.osm_geom.specs.declared.point.Point.{Point}
+use Rattle.osm_geom.specs.declared.point.Point.TheVariants.{Lattice, OnHorizontal, OnVertical}
+use Rattle.coast_join.specs.declared.ring.CoastRing.{CoastRing}
+use Rattle.coast_sides.specs.declared.wrong_ways.Step.{Step}
+use Rattle.coast_sides.specs.Segments.{steps_round}
+
+-- a point is this location
+abbrev pub is_at : Loc → Point → Bool
+is_at p (Lattice q) = is_eq (loc_cmp q p)
+is_at p (OnVertical c y) = false
+is_at p (OnHorizontal x d) = false
+
+-- an edge runs from p to q
+abbrev pub runs_between : Loc → Loc → Edge → Bool
+runs_between p q edge = is_at p edge.from && is_at q edge.to
+
+-- one of a ring's steps runs against an edge
+abbrev pub runs_against : List Edge → CoastRing → Bool
+runs_against edges ring = list_any (λ step. list_any (runs_between step.1 step.0) edges) (steps_round ring.path)
+
+-- the order of steps, to look them up: by where they begin, then by where they end
+abbrev pub step_cmp : Step → Step → Ordering
+step_cmp = then_cmp (on (λ s. s.from) loc_cmp) (on (λ s. s.to) loc_cmp)
+
+-- an edge runs along a step
+abbrev pub runs_along : Step → Edge → Bool
+runs_along step = runs_between step.from step.to

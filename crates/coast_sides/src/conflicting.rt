@@ -1,0 +1,59 @@
+//! The segments that conflict, to be looked up.
+
+ghost use Rattle.std.specs.Prelude.{◌≡◌, ◌||◌, IfOk, OnOk};
+ghost use Rattle.std.specs.List.{list_any};
+ghost use Rattle.std.specs.BTreeSet.{contains};
+ghost use Rattle.osm_lattice.specs.declared.seg.Seg.{Seg};
+ghost use Rattle.osm_lattice.specs.Seg.{seg_cmp};
+ghost use Rattle.coast_sides.specs.Segments.{segments_round};
+ghost use Rattle.coast_sides.specs.Sorting.{AreConflicts, is_in_pair};
+
+use crate::ring_segments::segments_round;
+use coast_join::CoastRing;
+use osm_geom::Seg;
+use osm_segments::{Pair, conflicts, distinct};
+use std::alloc::{AllocError as OutOfMemory, Global};
+use std::collections::BTreeSet;
+
+/// The conflicts of segments, each of which is taken once.
+pub(crate) fn distinct_conflicts(alloc: Global, segs: &[Seg]) -> Result<Vec<Pair>, OutOfMemory>
+    ensures { IfOk result (λ v. AreConflicts segs.now v.items) }
+{
+    let once = distinct(alloc, segs)?;
+    conflicts(alloc, &once)
+}
+
+/// Adds both segments of a pair.
+fn add_pair(segs: &mut BTreeSet<Seg>, pair: &Pair) -> Result<(), OutOfMemory>
+    ensures { OnOk result ((s : Seg) → contains seg_cmp segs.new s
+        ≡ (contains seg_cmp segs.old s || is_in_pair s pair.now)) }
+{
+    segs.insert(pair.first)?;
+    segs.insert(pair.second)?;
+    Ok(())
+}
+
+/// The segments of pairs.
+pub(crate) fn segments_of(alloc: Global, pairs: &[Pair]) -> Result<BTreeSet<Seg>, OutOfMemory>
+    ensures { IfOk result (λ segs. (s : Seg) → contains seg_cmp segs s
+        ≡ list_any (is_in_pair s) pairs.now) }
+{
+    let mut segs = BTreeSet::new(alloc);
+    for pair in pairs {
+        add_pair(&mut segs, pair)?;
+    }
+    Ok(segs)
+}
+
+/// Whether some segment of a ring is among these.
+pub(crate) fn runs_along(
+    alloc: Global,
+    segs: &BTreeSet<Seg>,
+    ring: &CoastRing,
+) -> Result<bool, OutOfMemory>
+    ensures { IfOk result (λ along. along
+        ≡ list_any (contains seg_cmp segs.now) (segments_round ring.now.path)) }
+{
+    let round = segments_round(alloc, ring.path.as_slice())?;
+    Ok(round.iter().any(|seg| segs.contains(seg)))
+}

@@ -1,0 +1,25 @@
+//! Laws that there is one of what this crate gives. The contract of each function is the law.
+ghost use Rattle.coast_sides.specs.OnenessLaws.{LandIsOne, SortedIsOne, WaterIsOne};
+
+use osm_geom::orders_are_exact;
+
+/// Rings are sorted out in one way.
+pub fn sorting_is_one()
+    ensures { SortedIsOne }
+{
+    orders_are_exact();
+}
+
+/// Rings have one land.
+pub fn land_is_one()
+    ensures { LandIsOne }
+{
+    orders_are_exact();
+}
+
+/// The segments of land have one water.
+pub fn water_is_one()
+    ensures { WaterIsOne }
+{
+    orders_are_exact();
+}
