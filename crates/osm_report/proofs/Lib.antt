@@ -1,1 +1,4 @@
+mod CoastLineExists
 mod LineExists
+mod LineOne
+mod PhraseLemmas

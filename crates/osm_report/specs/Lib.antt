@@ -1,1 +1,2 @@
+pub mod Coast
 pub mod Report

@@ -70,6 +70,12 @@ IsProblemLine of problem line = (text : List ℕ) × IsProblemText problem text 
 abbrev pub ProblemLineExists : Type 0
 ProblemLineExists = (of : ObjectRef) (problem : Problem) → IsOfItsKind problem → (line : List ℕ) × IsProblemLine of problem line
 
+-- and one line alone
+abbrev pub ProblemLineIsOne : Type 0
+ProblemLineIsOne =
+    (of : ObjectRef) (problem : Problem) → IsOfItsKind problem → (a b : List ℕ) →
+    IsProblemLine of problem a → IsProblemLine of problem b → a ≡ b
+
 -- what a line says of a note
 abbrev pub note_text : Note → List ℕ
 note_text (NamedTwice way) = codes "note way " ++ signed_decimal way ++ codes " named twice"

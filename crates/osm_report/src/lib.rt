@@ -1,10 +1,18 @@
-//! Lines of an export's report: what keeps a candidate from having an area, and what is noted of it.
+//! Lines of reports: what keeps a candidate of an export from having an area and what is noted of it, and what is
+//! told of a coastline.
 #![tactic(auto)]
 
+mod coast;
+mod coast_lines;
+#[cfg(test)]
+mod coast_tests;
 mod laws;
+mod phrases;
 mod report;
 #[cfg(test)]
 mod tests;
 
-pub use laws::problem_line_exists;
+pub use coast::CoastLine;
+pub use coast_lines::{coast_line, is_error};
+pub use laws::{coast_line_exists, coast_line_is_one, problem_line_exists, problem_line_is_one};
 pub use report::{note_line, problem_line};

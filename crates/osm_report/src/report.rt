@@ -1,17 +1,15 @@
 //! Lines of an export's report: what keeps a candidate from having an area, and what is noted of it.
 
-ghost use Rattle.std.specs.Prelude.{◌≡◌, ◌*◌, ◌≤◌, ◌++◌, ℕ, List, [], Some, unsigned_abs, unwrap_or, IfOk, OnOk, codes, decimal};
+ghost use Rattle.std.specs.Prelude.{◌≡◌, ◌++◌, ℕ, List, [], unwrap_or, IfOk, OnOk, codes, decimal};
 ghost use Rattle.std.specs.Fmt.{signed_decimal};
-ghost use Rattle.osm_lattice.specs.Conflict.{conflict_of};
-ghost use Rattle.osm_lattice.specs.Frac.{rounded};
 ghost use Rattle.osm_tables.specs.Words.{word_of};
-ghost use Rattle.osm_notation.specs.Coordinates.{xy_text};
 ghost use Rattle.osm_objects.specs.Problem.{IsOfItsKind};
-ghost use Rattle.osm_report.specs.Report.{subject_text, segment_text, stretch_text, pair_text, shared_text, IsMeetingText, IsProblemText, IsProblemLine, note_text, note_line};
+ghost use Rattle.osm_report.specs.Report.{subject_text, segment_text, IsProblemText, IsProblemLine, note_text, note_line};
 
+use crate::phrases::{put_crossing, put_overlap, put_repeated, put_with_id};
 use opl_reader::{ObjectKind, ObjectRef};
-use osm_geom::{Frac, Kind, Loc, Seg, meeting, overlap, round};
-use osm_notation::{put_number, put_point, put_xy};
+use osm_geom::{Kind, Seg};
+use osm_notation::{put_number, put_point};
 use osm_objects::{Note, Problem};
 use osm_tables::{
     CROSSING, INNER_IN_OUTER, MISSING_NODE, MISSING_WAY, NAMED_TWICE, NOTHING_SURVIVES, ODD_NODE,
@@ -41,89 +39,6 @@ fn put_subject(line: &mut Vec<u8>, of: ObjectRef) -> Result<(), OutOfMemory>
     Ok(())
 }
 
-/// Adds a stretch between two points.
-fn put_stretch(line: &mut Vec<u8>, from: Loc, to: Loc) -> Result<(), OutOfMemory>
-    ensures { OnOk result (line.new.items ≡ line.old.items ++ stretch_text from to) }
-{
-    put_point(line, from)?;
-    line.push(b',')?;
-    put_point(line, to)
-}
-
-/// Adds the two segments of a conflict.
-fn put_pair(line: &mut Vec<u8>, first: Seg, second: Seg) -> Result<(), OutOfMemory>
-    ensures { OnOk result (line.new.items ≡ line.old.items ++ pair_text first second) }
-{
-    line.extend_from_slice(b" of ")?;
-    put_stretch(line, first.a, first.b)?;
-    line.extend_from_slice(b" and ")?;
-    put_stretch(line, second.a, second.b)
-}
-
-/// Adds a point, its coordinates rounded to whole units.
-fn put_rounded(line: &mut Vec<u8>, x: Frac, y: Frac) -> Result<(), OutOfMemory>
-    requires x_in { unsigned_abs x.num ≤ 3_600_000_000 * x.den }
-    requires y_in { unsigned_abs y.num ≤ 3_600_000_000 * y.den }
-    ensures { OnOk result (line.new.items ≡ line.old.items
-        ++ xy_text (rounded x.num x.den) (rounded y.num y.den)) }
-{
-    put_xy(line, round(x), round(y))
-}
-
-/// Adds the point in which two segments cross, rounded to whole units.
-fn put_meeting(line: &mut Vec<u8>, first: Seg, second: Seg) -> Result<(), OutOfMemory>
-    requires { conflict_of first second ≡ Some Kind.Crossing }
-    ensures { OnOk result ((text : List ℕ) × IsMeetingText first second text
-        × (line.new.items ≡ line.old.items ++ text)) }
-{
-    let (x, y) = meeting(first, second);
-    put_rounded(line, x, y)?;
-    Ok(())
-}
-
-/// Adds the stretch that two overlapping segments share.
-fn put_shared(line: &mut Vec<u8>, first: Seg, second: Seg) -> Result<(), OutOfMemory>
-    requires { conflict_of first second ≡ Some Kind.Overlap }
-    ensures { OnOk result (line.new.items ≡ line.old.items ++ shared_text first second) }
-{
-    let shared = overlap(first, second);
-    put_stretch(line, shared.a, shared.b)
-}
-
-/// Adds words that an id follows.
-fn put_missing(line: &mut Vec<u8>, kind: u8, id: i64) -> Result<(), OutOfMemory>
-    ensures { OnOk result (line.new.items ≡ line.old.items
-        ++ (unwrap_or (word_of kind) [] ++ codes " " ++ signed_decimal id)) }
-{
-    line.extend_from_slice(word(kind).as_bytes())?;
-    line.push(b' ')?;
-    put_number(line, id)
-}
-
-/// Adds a crossing: its point and its segments.
-fn put_crossing(line: &mut Vec<u8>, first: Seg, second: Seg) -> Result<(), OutOfMemory>
-    requires { conflict_of first second ≡ Some Kind.Crossing }
-    ensures { OnOk result ((point : List ℕ) × IsMeetingText first second point
-        × (line.new.items ≡ line.old.items ++ (codes "crossing " ++ point ++ pair_text first second))) }
-{
-    line.extend_from_slice(word(CROSSING).as_bytes())?;
-    line.push(b' ')?;
-    put_meeting(line, first, second)?;
-    put_pair(line, first, second)
-}
-
-/// Adds an overlap: the stretch that is shared, and its segments.
-fn put_overlap(line: &mut Vec<u8>, first: Seg, second: Seg) -> Result<(), OutOfMemory>
-    requires { conflict_of first second ≡ Some Kind.Overlap }
-    ensures { OnOk result (line.new.items ≡ line.old.items
-        ++ (codes "overlap " ++ shared_text first second ++ pair_text first second)) }
-{
-    line.extend_from_slice(word(OVERLAP).as_bytes())?;
-    line.push(b' ')?;
-    put_shared(line, first, second)?;
-    put_pair(line, first, second)
-}
-
 /// Adds what a line says of a problem.
 fn put_problem(line: &mut Vec<u8>, problem: &Problem) -> Result<(), OutOfMemory>
     requires { IsOfItsKind problem.now }
@@ -131,8 +46,8 @@ fn put_problem(line: &mut Vec<u8>, problem: &Problem) -> Result<(), OutOfMemory>
         × (line.new.items ≡ line.old.items ++ text)) }
 {
     match *problem {
-        Problem::MissingWay { id } => put_missing(line, MISSING_WAY, id),
-        Problem::MissingNode { id } => put_missing(line, MISSING_NODE, id),
+        Problem::MissingWay { id } => put_with_id(line, word(MISSING_WAY), id),
+        Problem::MissingNode { id } => put_with_id(line, word(MISSING_NODE), id),
         Problem::Nothing => {
             line.extend_from_slice(word(NOTHING_SURVIVES).as_bytes())?;
             Ok(())
@@ -142,8 +57,8 @@ fn put_problem(line: &mut Vec<u8>, problem: &Problem) -> Result<(), OutOfMemory>
             first,
             second,
         } => match kind {
-            Kind::Crossing => put_crossing(line, first, second),
-            Kind::Overlap => put_overlap(line, first, second),
+            Kind::Crossing => put_crossing(line, word(CROSSING), first, second),
+            Kind::Overlap => put_overlap(line, word(OVERLAP), first, second),
         },
         Problem::Odd { at } => {
             line.extend_from_slice(word(ODD_NODE).as_bytes())?;
@@ -167,18 +82,12 @@ fn put_way_note(line: &mut Vec<u8>, way: i64, kind: u8) -> Result<(), OutOfMemor
 }
 
 /// Adds the note on a segment that stands more than once.
-fn put_repeated(line: &mut Vec<u8>, seg: Seg, times: u64) -> Result<(), OutOfMemory>
+fn put_repeated_note(line: &mut Vec<u8>, seg: Seg, times: u64) -> Result<(), OutOfMemory>
     ensures { OnOk result (line.new.items ≡ line.old.items ++ codes "note segment "
         ++ segment_text seg ++ codes " stands " ++ decimal times ++ codes " times") }
 {
-    line.extend_from_slice(b"note segment ")?;
-    put_stretch(line, seg.a, seg.b)?;
-    line.push(b' ')?;
-    line.extend_from_slice(word(REPEATED).as_bytes())?;
-    line.push(b' ')?;
-    put_number(line, times)?;
-    line.extend_from_slice(b" times")?;
-    Ok(())
+    line.extend_from_slice(b"note ")?;
+    put_repeated(line, word(REPEATED), seg, times)
 }
 
 /// Adds what a line says of a note.
@@ -187,7 +96,7 @@ fn put_note(line: &mut Vec<u8>, note: &Note) -> Result<(), OutOfMemory>
 {
     match *note {
         Note::NamedTwice { way } => put_way_note(line, way, NAMED_TWICE),
-        Note::Repeated { seg, times } => put_repeated(line, seg, times),
+        Note::Repeated { seg, times } => put_repeated_note(line, seg, times),
         Note::InnerInOuter { way } => put_way_note(line, way, INNER_IN_OUTER),
         Note::OuterInInner { way } => put_way_note(line, way, OUTER_IN_INNER),
     }

@@ -1,7 +1,7 @@
 use Rattle.std.proofs.Common.{refl, arith}
 use Rattle.osm_lattice.specs.Frac.{rounded}
 use Rattle.osm_notation.specs.Coordinates.{xy_text}
-use Rattle.osm_report.proofs.report.put_meeting.Goals as goal
+use Rattle.osm_report.proofs.phrases.put_meeting.Goals as goal
 
 pub put_rounded-requires : goal.put_rounded-requires
 put_rounded-requires c = record { x_in = omega (arith, c.meeting.ensures.x_in); y_in = omega (arith, c.meeting.ensures.y_in) }
