@@ -1,6 +1,6 @@
 -- Rings and polygons from their parts, in either notation.
-use Rattle.std.proofs.Common.{◌≡◌, ◌∙◌, ◌<◌, ◌≤◌, suc, ℕ, All, List, [], ◌∷◌, ◌++◌, Option, None, Some, true, option_map, unwrap_or, is_some, map, take, length, true≢false, refl, sym, ap, append_assoc, arith}
-use Rattle.std.specs.List.{cons_option, join_with_byte}
+use Rattle.std.proofs.Common.{◌≡◌, ◌∙◌, ◌<◌, ℕ, List, [], ◌∷◌, ◌++◌, map, take, length, refl, sym, ap, append_assoc, arith}
+use Rattle.std.specs.List.{join_with_byte}
 use Rattle.osm_lattice.specs.declared.loc.Loc.{Loc}
 use Rattle.osm_text.specs.declared.notation.Notation.{Notation}
 use Rattle.osm_text.specs.declared.notation.Notation.TheVariants.{WellKnown, Json}

@@ -1,5 +1,5 @@
 -- The members of a map beside the tags that they stand for.
-use Rattle.std.proofs.Common.{◌≡◌, ◌∙◌, ℕ, Bool, true, false, ◌||◌, List, [], ◌∷◌, ◌++◌, Option, None, Some, option_map, map, is_some, String, Global, string_bytes, string_cmp, nat_cmp, Ordering, Less, Equal, Greater, is_eq, bytes_eq, true≢false, refl, sym, ap, append_assoc, rules}
+use Rattle.std.proofs.Common.{◌≡◌, ◌∙◌, ℕ, Bool, true, false, ◌||◌, List, [], ◌∷◌, ◌++◌, Option, Some, map, is_some, String, Global, string_bytes, string_cmp, nat_cmp, Ordering, Less, Equal, Greater, is_eq, bytes_eq, true≢false, refl, sym, ap, append_assoc, rules}
 use Rattle.std.specs.List.{join_with_byte, list_any}
 use Rattle.std.specs.Map.{lookup}
 use Rattle.std.specs.Ordering.{match_ordering}

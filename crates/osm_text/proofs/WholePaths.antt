@@ -1,5 +1,5 @@
 -- The path along whole segments passes each point that an edge leaves.
-use Rattle.std.proofs.Common.{◌≡◌, ◌∙◌, All, Bool, List, [], ◌∷◌, Option, None, Some, true, false, cond, map, refl, sym, ap}
+use Rattle.std.proofs.Common.{◌≡◌, All, Bool, List, [], ◌∷◌, true, false, cond, map, refl, ap}
 use Rattle.std.specs.List.{cons_option}
 use Rattle.std.proofs.lemmas.List.Elements.{All-head, All-tail}
 use Rattle.osm_geom.specs.declared.edge.Edge.{Edge}

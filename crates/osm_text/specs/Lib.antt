@@ -4,6 +4,7 @@ pub mod Id
 pub mod Members
 pub mod Notation
 pub mod Paths
+pub mod Piece
 pub mod Properties
 pub mod Rows
 pub mod Wkt

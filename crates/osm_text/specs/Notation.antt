@@ -1,5 +1,5 @@
 -- The two notations of polygons, as the functions that print them see them. No public contract cites it.
-use Rattle.std.specs.Prelude.{ℕ, List, [], option_map, unwrap_or, map}
+use Rattle.std.specs.Prelude.{ℕ, List, map}
 use Rattle.osm_lattice.specs.declared.loc.Loc.{Loc}
 use Rattle.osm_text.specs.declared.notation.Notation.{Notation}
 use Rattle.osm_text.specs.declared.notation.Notation.TheVariants.{WellKnown, Json}

@@ -1,4 +1,4 @@
-//! Features against the values of the formats.
+//! Features and pieces against the values of the formats.
 ghost use Rattle.std.specs.Prelude.{◌≡◌, ◌≢◌, IfOk, OnOk};
 ghost use Rattle.osm_geom.specs.declared.point.Point.TheVariants.{Lattice};
 
@@ -209,5 +209,19 @@ fn properties_of_tags(rt: HostRuntime) -> Result<(), Fail> {
         let expected = format!(in alloc; "{before}{printed}}}")?;
         assert_eq!(rt; json.as_slice(), expected.as_bytes());
     }
+    Ok(())
+}
+
+#[test]
+fn pieces_of_land_and_water(rt: HostRuntime) -> Result<(), Fail> {
+    let alloc = rt.alloc();
+    let island = polygon_of(alloc, [0, 0, 10, 10], None)?;
+    let land = piece_text(alloc, PieceKind::Land, &island)?;
+    let line = "land POLYGON((0 0,1 0,1 1,0 1,0 0))\n";
+    assert_eq!(rt; land.as_slice(), line.as_bytes());
+    let sea = polygon_of(alloc, [-1800, -900, 1800, 900], Some([0, 0, 10, 10]))?;
+    let water = piece_text(alloc, PieceKind::Water, &sea)?;
+    let line = "water POLYGON((-180 -90,180 -90,180 90,-180 90,-180 -90),(0 0,0 1,1 1,1 0,0 0))\n";
+    assert_eq!(rt; water.as_slice(), line.as_bytes());
     Ok(())
 }

@@ -1,4 +1,4 @@
-//! Features in text and in GeoJSON, polygons by the paths of their rings.
+//! Features in text and in GeoJSON, and pieces of land and water: polygons by the paths of their rings.
 #![tactic(auto)]
 
 mod feature;
@@ -7,11 +7,16 @@ mod feature_id;
 mod feature_tests;
 mod notation;
 mod paths;
+mod piece;
 mod properties;
 
 pub use feature::{feature_json, feature_text};
 pub use feature_id::FeatureId;
 pub use osm_notation::{put_decimal, written};
-pub use osm_report::{note_line, problem_line, problem_line_exists};
+pub use osm_report::{
+    CoastLine, coast_line, coast_line_exists, is_error, note_line, problem_line,
+    problem_line_exists,
+};
 pub use paths::whole_segments_have_paths;
+pub use piece::{PieceKind, piece_text};
 pub use properties::tags_by_key;

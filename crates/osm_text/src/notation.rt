@@ -119,7 +119,7 @@ fn put_inners(
 }
 
 /// Adds a polygon, its outer ring first.
-fn put_polygon(
+pub(crate) fn put_polygon(
     alloc: Global,
     text: &mut Vec<u8>,
     notation: Notation,

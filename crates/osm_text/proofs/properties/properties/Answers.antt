@@ -1,4 +1,4 @@
-use Rattle.std.proofs.Common.{◌≡◌, ◌∙◌, ap, sym, rules, List, [], fold}
+use Rattle.std.proofs.Common.{◌≡◌, ◌∙◌, ap, sym, rules, [], fold}
 use Rattle.std.proofs.lemmas.Result.{IfOk-weaker}
 use Rattle.serde_json.specs.Data.{object}
 use Rattle.serde_json.specs.Written.{compact_text, has_float}
