@@ -3,5 +3,8 @@ pub mod Walk
 pub mod Lookups
 pub mod Taken
 pub mod ExportOptions
-pub mod PlainWords
+pub mod CoastlineOptions
+pub mod PlainAnswers
+pub mod PlainExport
+pub mod PlainCoastline
 pub mod OneKind

@@ -1,9 +1,9 @@
 -- A parse by a command without subcommands fails by one kind of error alone. No public contract cites it.
-use Rattle.std.proofs.Common.{◌≡◌, ◌+◌, ◌==◌, ◌&&◌, ◌||◌, ℕ, Bool, cond, subst, true, false, not, zero, suc, List, [], ◌∷◌, Option, Some, None, Result, Err, inl, inr, refl, sym, ap, ◌∙◌, min, length, drop, nat_lt, is_some}
+use Rattle.std.proofs.Common.{◌≡◌, ◌+◌, ◌==◌, ◌&&◌, ◌||◌, ℕ, Bool, cond, subst, true, false, not, zero, suc, List, [], ◌∷◌, Option, Some, None, Result, Err, inl, inr, sym, ap, ◌∙◌, min, length, drop, nat_lt, is_some}
 use Rattle.std.specs.Option.{option_map_or}
 use Rattle.std.specs.Prelude.{encode_utf8, slice_get}
 use Rattle.std.specs.Str.{bytes_eq, chars}
-use Rattle.clap.specs.Words.{App, Kinds, Row, Rule, Shape, Text, built, fault_of, matches_of}
+use Rattle.clap.specs.Words.{App, Kinds, Row, Rule, Shape, Text, built, fault_of}
 use Rattle.clap.specs.Kinds.{HasKind, IsAmong, check_kinds, or_else, range_kinds, request_kinds, value_kinds, values_kinds}
 use Rattle.clap.specs.Facts.{parser_of_value, unwrap_or_range}
 use Rattle.clap.specs.Faults.{action_fault, bundle_fault, bundle_step_fault, check_fault, count_fault, default_fault, defaults_fault, flag_word_fault, flags_fault, given_default_fault, level_fault, long_fault, option_fault, other_fault, positional_fault, react_fault, repeat_fault, set_fault, settle_fault, short_fault, step_fault, turn_fault, use_fault, values_fault, walk_fault, word_fault}
@@ -19,11 +19,12 @@ use Rattle.clap.specs.declared.builder.action.ArgAction.TheVariants.{Set, Append
 use Rattle.clap.specs.declared.builder.value_parser.ValueParser.{ValueParser}
 use Rattle.clap.specs.declared.error.kind.ErrorKind.{ErrorKind}
 use Rattle.clap.specs.declared.error.kind.ErrorKind.TheVariants as fault
-use Rattle.osm_words.specs.ExportCommand.{export_app}
-use Rattle.osm_words.specs.Job.{ExportSettings}
-use Rattle.osm_words.specs.ExportWords.{export_asked, settings_said, unless_refused}
+use Rattle.osm_words.specs.Parsed.{unless_refused}
+use Rattle.osm_words.specs.Private.{AnswersBy, IsRefusal}
 use Rattle.osm_words.specs.declared.fault.WordsFault.{WordsFault}
 use Rattle.osm_words.specs.declared.fault.WordsFault.TheVariants.{Refused}
+use Rattle.osm_words.specs.declared.fault.WordsError.{WordsError}
+use Rattle.osm_words.specs.declared.fault.WordsError.TheVariants.{BadWords, OutOfMemory}
 use Rattle.clap.proofs.FaultLemmas.{leaf_fault}
 
 abbrev pub AtMostOne : Kinds → Type 0
@@ -209,17 +210,18 @@ pub one_kind : (a : App) (words : List Text) → (built a).subs ≡ [] → (buil
 one_kind a words none leaf =
     subst AtMostOne (sym (leaf_fault (built a) nothing_held (argument_words a words) none)) (of_level (built a).top nothing_held (argument_words a words) leaf)
 
-refused_by : (kinds : Kinds) (kind : ErrorKind) (said : Result ExportSettings WordsFault) → AtMostOne kinds → IsAmong kind kinds → unless_refused kinds said ≡ Err (Refused kind)
+refused_by : {S : Type 0} (kinds : Kinds) (kind : ErrorKind) (said : Result S WordsFault) → AtMostOne kinds → IsAmong kind kinds → unless_refused kinds said ≡ Err (Refused kind)
 refused_by [] kind said one among = absurd among
 refused_by (k ∷ []) kind said one (inl same) = ap (λ (x : ErrorKind). Err (Refused x)) (sym same)
 refused_by (k ∷ []) kind said one (inr none) = absurd none
 refused_by (k ∷ l ∷ ks) kind said one among = absurd one
 
--- a kind that `clap` states at the words of `export` is the one that refuses them
-pub refuses : (words : List Text) (kind : ErrorKind) → IsAmong kind (fault_of export_app words) → export_asked words ≡ Err (Refused kind)
-refuses words kind among = refused_by (fault_of export_app words) kind (settings_said (matches_of export_app words)) (one_kind export_app words refl refl) among
-
-pub refuses_by : (words : List Text) (kind : ErrorKind) (e : Error) → HasKind (fault_of export_app words) e → kind ≡ kind_of e → (kind ≡ fault.OutOfMemory → ⊥)
-    → export_asked words ≡ Err (Refused kind)
-refuses_by words kind e (inl wanting) is not_wanting = absurd (not_wanting (is ∙ wanting))
-refuses_by words kind e (inr among) is not_wanting = refuses words kind (subst (λ (k : ErrorKind). IsAmong k (fault_of export_app words)) (sym is) among)
+-- the kind of the error with which a command without subcommands fails is the one that refuses the words
+pub refuses_by : {S C : Type 0} (seen : C → S) (a : App) (words : List Text) (said : Result S WordsFault) (e : Error) (kind : ErrorKind) (error : WordsError)
+    → (built a).subs ≡ [] → (built a).top.is_leaf ≡ true → HasKind (fault_of a words) e → kind ≡ kind_of e → IsRefusal kind error
+    → AnswersBy seen (unless_refused (fault_of a words) said) (Err error)
+refuses_by seen a words said e kind OutOfMemory none leaf has is refusal = tt
+refuses_by seen a words said e kind (BadWords cause) none leaf (inl wanting) is refusal = absurd (refusal.1 (is ∙ wanting))
+refuses_by seen a words said e kind (BadWords cause) none leaf (inr among) is refusal =
+    refused_by (fault_of a words) kind said (one_kind a words none leaf) (subst (λ (k : ErrorKind). IsAmong k (fault_of a words)) (sym is) among)
+    ∙ ap Err (sym refusal.0)

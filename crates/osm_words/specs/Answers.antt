@@ -2,10 +2,11 @@
 use Rattle.std.specs.Prelude.{◌≡◌, ℕ, List, Option, Some, None, Result, Ok, Err, ⊤}
 use Rattle.std.specs.Borrow.{Bor}
 use Rattle.opl_reader.specs.Keys.{keys_said}
-use Rattle.osm_words.specs.Job.{ExportSettings, Job, export}
+use Rattle.osm_words.specs.Job.{CoastlineSettings, ExportSettings, Job, coastline, export}
+use Rattle.osm_words.specs.declared.settings.CoastlineSettings.{CoastlineSettings as CodeCoastline}
 use Rattle.osm_words.specs.declared.settings.ExportSettings.{ExportSettings as CodeSettings}
 use Rattle.osm_words.specs.declared.settings.Job.{Job as CodeJob}
-use Rattle.osm_words.specs.declared.settings.Job.TheVariants.{Export as code_export}
+use Rattle.osm_words.specs.declared.settings.Job.TheVariants.{Coastline as code_coastline, Export as code_export}
 use Rattle.osm_words.specs.declared.fault.WordsFault.{WordsFault}
 use Rattle.osm_words.specs.declared.fault.WordsError.{WordsError}
 use Rattle.osm_words.specs.declared.fault.WordsError.TheVariants.{BadWords, OutOfMemory}
@@ -31,8 +32,18 @@ settings_seen s = record {
   linear_keys = keys_seen s.linear_keys;
 }
 
+abbrev pub coastline_seen : CodeCoastline → CoastlineSettings
+coastline_seen s = record {
+  file = s.file.now;
+  output = s.output.now;
+  overwrite = s.overwrite;
+  close_distance = s.close_distance;
+  polygons = s.polygons;
+}
+
 abbrev pub job_seen : CodeJob → Job
 job_seen (code_export settings) = export (settings_seen settings)
+job_seen (code_coastline settings) = coastline (coastline_seen settings)
 
 -- the answer is what was asked
 abbrev pub Answers : Result Job WordsFault → Result CodeJob WordsError → Type 0

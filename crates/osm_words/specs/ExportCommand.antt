@@ -1,23 +1,8 @@
 -- The command `export` as `clap` is told of it: ten options and a file.
-use Rattle.std.specs.Prelude.{ℕ, true, Some, codes}
-use Rattle.clap.specs.Words.{App, Rule, Text, new_app, new_rule, with_rule}
+use Rattle.std.specs.Prelude.{true, codes}
+use Rattle.clap.specs.Words.{App, new_app, with_rule}
 use Rattle.clap.specs.Simple.{on_top}
-use Rattle.clap.specs.declared.builder.action.ArgAction.TheVariants.{Set, SetTrue}
-
--- an option with one value, by its letter's code and its long form
-abbrev pub option_rule : Text → ℕ → Text → Rule
-option_rule name letter long = record (new_rule name) { short = Some letter; long = Some long; action = Some Set }
-
--- an option with one value and without a letter, which is written by its name
-abbrev pub long_option_rule : Text → Rule
-long_option_rule name = record (new_rule name) { long = Some name; action = Some Set }
-
--- an option without a value
-abbrev pub flag_rule : Text → ℕ → Text → Rule
-flag_rule name letter long = record (new_rule name) { short = Some letter; long = Some long; action = Some SetTrue }
-
-abbrev pub file_rule : Rule
-file_rule = record (new_rule (codes "file")) { required = true; action = Some Set }
+use Rattle.osm_words.specs.Arguments.{file_rule, flag_rule, long_option_rule, option_rule}
 
 -- in turn: f, o, O, n, u, r, e, E, the keys of areas, those of lines, and the file
 abbrev pub export_rules : App → App

@@ -1,17 +1,17 @@
 -- What the words of `export` ask for: what `clap` finds in them, and then the ranges of the values.
-use Rattle.std.specs.Prelude.{ℕ, Bool, false, List, [], ◌∷◌, Option, Some, None, Result, Ok, Err, codes, if◌then◌else◌, option_map, unwrap_or}
+use Rattle.std.specs.Prelude.{ℕ, List, [], Option, Some, None, Result, Ok, Err, codes, if◌then◌else◌, option_map, unwrap_or}
 use Rattle.std.specs.Str.{bytes_eq}
-use Rattle.std.specs.Option.{option_map_or}
-use Rattle.clap.specs.Words.{Kinds, Row, Text, fault_of, first_of, matches_of}
+use Rattle.clap.specs.Words.{Row, fault_of, first_of, matches_of}
 use Rattle.opl_reader.specs.Keys.{keys_said}
 use Rattle.osm_words.specs.Job.{ExportSettings}
 use Rattle.osm_words.specs.ExportCommand.{export_app}
+use Rattle.osm_words.specs.Parsed.{is_set, unless_refused}
 use Rattle.osm_words.specs.declared.settings.Format.{Format}
 use Rattle.osm_words.specs.declared.settings.Format.TheVariants.{GeoJson, GeoJsonSeq, Text as PlainText}
 use Rattle.osm_words.specs.declared.settings.UniqueId.{UniqueId}
 use Rattle.osm_words.specs.declared.settings.UniqueId.TheVariants.{Counter, TypeId}
 use Rattle.osm_words.specs.declared.fault.WordsFault.{WordsFault}
-use Rattle.osm_words.specs.declared.fault.WordsFault.TheVariants.{Refused, OutOfRange}
+use Rattle.osm_words.specs.declared.fault.WordsFault.TheVariants.{OutOfRange}
 
 -- ---- the ranges of the values
 
@@ -42,9 +42,6 @@ keys_asked None = Some None
 keys_asked (Some written) = option_map (λ keys. Some keys) (keys_said written)
 
 -- ---- what was found
-
-abbrev pub is_set : Text → List Row → Bool
-is_set name rows = option_map_or (λ word. bytes_eq word (codes "true")) (first_of name rows) false
 
 -- The output is `-` where none was found. The parser asks for a file, so there is always one.
 abbrev pub settings_with : Format → Option UniqueId → Option (List (List ℕ)) → Option (List (List ℕ)) → List Row → ExportSettings
@@ -77,11 +74,6 @@ settings_said rows =
     (keys_asked (first_of (codes "area-keys") rows)) (keys_asked (first_of (codes "linear-keys") rows)) rows
 
 -- ---- the words
-
--- Of a command without subcommands `clap` states one kind at most.
-abbrev pub unless_refused : {T : Type 0} → Kinds → Result T WordsFault → Result T WordsFault
-unless_refused [] asked = asked
-unless_refused (kind ∷ others) asked = Err (Refused kind)
 
 -- what the words ask of `export`, its name first, or why they aren't taken
 abbrev pub export_asked : List (List ℕ) → Result ExportSettings WordsFault

@@ -1,6 +1,7 @@
 -- What the words of a run ask for.
 use Rattle.std.specs.Prelude.{ℕ, Bool, List, Option}
 use Rattle.osm_words.specs.declared.settings.Format.{Format}
+use Rattle.osm_words.specs.declared.settings.OutputPolygons.{OutputPolygons}
 use Rattle.osm_words.specs.declared.settings.UniqueId.{UniqueId}
 
 -- of `export`
@@ -21,5 +22,17 @@ pub record ExportSettings : Type 0 where
   pub area_keys : Option (List (List ℕ))
   pub linear_keys : Option (List (List ℕ))
 
+-- of `coastline`
+pub record CoastlineSettings : Type 0 where
+  -- the name of the input
+  pub file : List ℕ
+  -- the name of the output
+  pub output : List ℕ
+  pub overwrite : Bool
+  -- in units of 1e-7 degree: a gap is closed where it is shorter
+  pub close_distance : ℕ
+  pub polygons : OutputPolygons
+
 pub data Job : Type 0 where
   export : ExportSettings → Job
+  coastline : CoastlineSettings → Job

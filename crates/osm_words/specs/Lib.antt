@@ -1,8 +1,14 @@
 pub mod Job
+pub mod Arguments
+pub mod Parsed
+pub mod Degrees
 pub mod ExportCommand
 pub mod ExportWords
+pub mod CoastlineCommand
+pub mod CoastlineWords
 pub mod Words
 pub mod Answers
 pub mod PlainWords
 pub mod PlainExport
+pub mod PlainCoastline
 pub mod Private

@@ -1,51 +1,12 @@
 //! The words of `export`, as `clap` parses them.
 
-ghost use Rattle.std.specs.Prelude.{◌≡◌, false, IfOk, map, string_bytes};
-ghost use Rattle.clap.specs.Words.{FailsBy, app_of, fault_of, found_of, matches_of, rows_of, rule_of};
-ghost use Rattle.osm_words.specs.ExportCommand.{export_app, file_rule, flag_rule, long_option_rule, option_rule};
+ghost use Rattle.std.specs.Prelude.{◌≡◌, IfOk, map, string_bytes};
+ghost use Rattle.clap.specs.Words.{FailsBy, app_of, fault_of, found_of, matches_of, rows_of};
+ghost use Rattle.osm_words.specs.ExportCommand.{export_app};
 
-use clap::{Arg, ArgAction, ArgMatches, Command, Error};
+use crate::arguments::{file, flag, long_option, option};
+use clap::{ArgMatches, Command, Error};
 use std::alloc::{AllocError as OutOfMemory, Global};
-
-/// An option with one value.
-fn option<'a>(alloc: Global, name: &'a str, letter: char, long: &'a str) -> Arg<'a>
-    ensures rule { rule_of result ≡ option_rule name.now letter long.now }
-    ensures local { result.global ≡ false }
-{
-    Arg::new(alloc, name)
-        .short(letter)
-        .long(long)
-        .action(ArgAction::Set)
-}
-
-/// An option with one value and without a short form, which is written by its name.
-fn long_option<'a>(alloc: Global, name: &'a str) -> Arg<'a>
-    ensures rule { rule_of result ≡ long_option_rule name.now }
-    ensures local { result.global ≡ false }
-{
-    Arg::new(alloc, name).long(name).action(ArgAction::Set)
-}
-
-/// An option without a value.
-fn flag<'a>(alloc: Global, name: &'a str, letter: char, long: &'a str) -> Arg<'a>
-    ensures rule { rule_of result ≡ flag_rule name.now letter long.now }
-    ensures local { result.global ≡ false }
-{
-    Arg::new(alloc, name)
-        .short(letter)
-        .long(long)
-        .action(ArgAction::SetTrue)
-}
-
-/// The one word that is no option.
-fn file<'a>(alloc: Global) -> Arg<'a>
-    ensures rule { rule_of result ≡ file_rule }
-    ensures local { result.global ≡ false }
-{
-    Arg::new(alloc, "file")
-        .required(true)
-        .action(ArgAction::Set)
-}
 
 /// The command for which `clap` parses.
 fn export_command<'a>(alloc: Global) -> Result<Command<'a>, OutOfMemory>

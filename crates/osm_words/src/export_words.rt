@@ -2,15 +2,15 @@
 
 ghost use Rattle.std.specs.Prelude.{◌≡◌, codes, map, option_map, string_bytes};
 ghost use Rattle.clap.specs.Words.{first_of, found_of, rows_of};
-ghost use Rattle.osm_words.specs.ExportWords.{export_asked, format_named, format_said, ids_named, ids_said, is_set, keys_asked, settings_said};
-ghost use Rattle.osm_words.specs.Answers.{keys_seen};
-ghost use Rattle.osm_words.specs.Private.{AnswersExport, export_seen};
+ghost use Rattle.osm_words.specs.ExportWords.{export_asked, format_named, format_said, ids_named, ids_said, keys_asked, settings_said};
+ghost use Rattle.osm_words.specs.Answers.{keys_seen, settings_seen};
+ghost use Rattle.osm_words.specs.Private.{AnswersBy, seen_by};
 
 use crate::export_command::export_matches;
 use crate::fault::{WordsError, WordsFault};
+use crate::parsed::{is_set, refusal, value_of};
 use crate::settings::{ExportSettings, Format, UniqueId};
 use clap::ArgMatches;
-use clap::error::ErrorKind;
 use opl_reader::is_keys;
 use std::alloc::Global;
 
@@ -34,24 +34,6 @@ fn ids_named(word: &str) -> Option<UniqueId>
         "counter" => Some(UniqueId::Counter),
         "type_id" => Some(UniqueId::TypeId),
         _ => None,
-    }
-}
-
-/// The value of an argument.
-fn value_of<'a>(matches: &ArgMatches<'a>, name: &str) -> Option<&'a str>
-    ensures { option_map (λ value. value.now) result
-        ≡ first_of name.now (rows_of (found_of matches.now)) }
-{
-    matches.get_str(name)
-}
-
-/// Whether a flag is set. `get_flag` would say nothing of a text that is neither `true` nor `false`.
-fn is_set(matches: &ArgMatches<'_>, name: &str) -> bool
-    ensures { result ≡ is_set name.now (rows_of (found_of matches.now)) }
-{
-    match value_of(matches, name) {
-        Some(word) => word == "true",
-        None => false,
     }
 }
 
@@ -92,7 +74,7 @@ fn keys_said<'a>(matches: &ArgMatches<'a>, name: &str) -> Option<Option<&'a str>
 
 /// The settings, once `clap` has taken the words.
 fn settings_said<'a>(matches: &ArgMatches<'a>) -> Result<ExportSettings<'a>, WordsFault>
-    ensures { export_seen result ≡ settings_said (rows_of (found_of matches.now)) }
+    ensures { seen_by settings_seen result ≡ settings_said (rows_of (found_of matches.now)) }
 {
     let Some(format) = format_said(matches) else {
         return Err(WordsFault::OutOfRange { option: 'f' });
@@ -126,18 +108,13 @@ pub(crate) fn export_settings<'a>(
     alloc: Global,
     words: &'a [String],
 ) -> Result<ExportSettings<'a>, WordsError>
-    ensures { AnswersExport (export_asked (map string_bytes words.now)) result }
+    ensures { AnswersBy settings_seen (export_asked (map string_bytes words.now)) result }
 {
     match export_matches(alloc, words) {
         Ok(matches) => match settings_said(&matches) {
             Ok(settings) => Ok(settings),
             Err(cause) => Err(WordsError::BadWords { cause }),
         },
-        Err(error) => match error.kind() {
-            ErrorKind::OutOfMemory => Err(WordsError::OutOfMemory),
-            kind => Err(WordsError::BadWords {
-                cause: WordsFault::Refused { kind },
-            }),
-        },
+        Err(error) => Err(refusal(error.kind())),
     }
 }

@@ -48,8 +48,33 @@ pub struct ExportSettings<'a> {
     pub linear_keys: Option<&'a str>,
 }
 
+/// Which polygons `coastline` writes.
+#[derive(Clone, Copy, Debug, PartialEq, Eq)]
+pub enum OutputPolygons {
+    Land,
+    Water,
+    /// Those of land, and behind them those of water.
+    Both,
+    Neither,
+}
+
+/// What the words of `coastline` ask for.
+#[derive(Clone, Copy, Debug, PartialEq, Eq)]
+pub struct CoastlineSettings<'a> {
+    /// The name of the input, `-` for standard input.
+    pub file: &'a str,
+    /// The name of the output, `-` for standard output.
+    pub output: &'a str,
+    /// Whether an output file that is there already may be overwritten.
+    pub overwrite: bool,
+    /// In units of 1e-7 degree, up to 360 degrees: a gap of the coast is closed where it is shorter, so 0 closes none.
+    pub close_distance: u32,
+    pub polygons: OutputPolygons,
+}
+
 /// What the words of a run ask for.
 #[derive(Clone, Copy, Debug, PartialEq, Eq)]
 pub enum Job<'a> {
     Export(ExportSettings<'a>),
+    Coastline(CoastlineSettings<'a>),
 }

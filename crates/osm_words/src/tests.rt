@@ -8,7 +8,7 @@ use std::alloc::{AllocError as OutOfMemory, Global};
 use std::test::Fail;
 
 /// The words of a line; `''` stands for the empty word.
-fn words_of(alloc: Global, line: &str) -> Result<Vec<String>, OutOfMemory> {
+pub(crate) fn words_of(alloc: Global, line: &str) -> Result<Vec<String>, OutOfMemory> {
     let mut words = Vec::new(alloc);
     for word in line.split_whitespace() {
         let word = if word == "''" { "" } else { word };
@@ -336,6 +336,10 @@ fn the_first_word_names_the_command(rt: HostRuntime) -> Result<(), Fail> {
     let cases = [
         ("export", Command::Export),
         ("export -x", Command::Export),
+        ("coastline", Command::Coastline),
+        ("coastline export", Command::Coastline),
+        ("coastlines -", Command::Unknown),
+        ("coast -", Command::Unknown),
         ("polish export", Command::Unknown),
         ("", Command::Unknown),
     ];

@@ -2,11 +2,13 @@
 
 ghost use Rattle.std.specs.Prelude.{◌≡◌, ℕ, List, Ok, map, string_bytes};
 ghost use Rattle.osm_words.specs.Answers.{Answers, Gives};
-ghost use Rattle.osm_words.specs.Job.{export};
+ghost use Rattle.osm_words.specs.Job.{coastline, export};
+ghost use Rattle.osm_words.specs.PlainCoastline.{ArePlainCoastline, CoastlineOption, coastline_words, said_coastline};
 ghost use Rattle.osm_words.specs.PlainExport.{ArePlain, ExportOption, export_words, said};
 ghost use Rattle.osm_words.specs.PlainWords.{Form};
 ghost use Rattle.osm_words.specs.Words.{command_named, job_asked, unnamed_cause};
 
+use crate::coastline_words::coastline_settings;
 use crate::export_words::export_settings;
 use crate::fault::{WordsError, WordsFault};
 use crate::settings::Job;
@@ -16,6 +18,7 @@ use std::alloc::Global;
 #[derive(Clone, Copy, Debug, PartialEq, Eq)]
 pub enum Command {
     Export,
+    Coastline,
     Unknown,
 }
 
@@ -25,6 +28,7 @@ pub fn command_of(words: &[String]) -> Command
 {
     match words.first() {
         Some(word) if word.as_str() == "export" => Command::Export,
+        Some(word) if word.as_str() == "coastline" => Command::Coastline,
         _ => Command::Unknown,
     }
 }
@@ -48,6 +52,10 @@ fn answer<'a>(alloc: Global, words: &'a [String]) -> Result<Job<'a>, WordsError>
             Ok(settings) => Ok(Job::Export(settings)),
             Err(error) => Err(error),
         },
+        Command::Coastline => match coastline_settings(alloc, words) {
+            Ok(settings) => Ok(Job::Coastline(settings)),
+            Err(error) => Err(error),
+        },
         Command::Unknown => Err(WordsError::BadWords {
             cause: unnamed_cause(words),
         }),
@@ -59,20 +67,32 @@ fn answer<'a>(alloc: Global, words: &'a [String]) -> Result<Job<'a>, WordsError>
 /// `answers` says that it is what `job_asked` says, want of memory aside. So NoCommand comes exactly where there are no words, and UnknownCommand
 /// exactly where the first word names no command. Refused comes exactly where the command's parser doesn't take the words behind its name, with the
 /// one kind that `clap` states for them. OutOfRange comes exactly where it takes them and a value isn't one of its option's: the first such
-/// option in the order `f`, `u`, `a` (`--area-keys`), `l` (`--linear-keys`).
+/// option in the order `f`, `u`, `a` (`--area-keys`), `l` (`--linear-keys`) of `export`, and `c`, `p` of `coastline`.
 ///
-/// `plain` says that options in any order, each in its short or its long form and at most once, and a file behind them are taken with what they say.
+/// `plain` and `plain_coastline` say that options in any order, each in its short or its long form and at most once, and a file behind them are
+/// taken with what they say.
 pub fn job_of<'a>(alloc: Global, words: &'a [String]) -> Result<Job<'a>, WordsError>
     ensures answers { Answers (job_asked (map string_bytes words.now)) result }
     ensures plain { (options : List (Form × ExportOption)) (file : List ℕ) → ArePlain options file
         → map string_bytes words.now ≡ export_words options file
         → Gives (export (said options file)) result }
+    ensures plain_coastline { (options : List (Form × CoastlineOption)) (file : List ℕ)
+        → ArePlainCoastline options file
+        → map string_bytes words.now ≡ coastline_words options file
+        → Gives (coastline (said_coastline options file)) result }
 {
     answer(alloc, words)
 }
 
-/// The law that plain words are taken with what they say.
+/// The law that plain words of `export` are taken with what they say.
 pub fn plain_words_are_taken()
     ensures { (options : List (Form × ExportOption)) (file : List ℕ) → ArePlain options file
         → job_asked (export_words options file) ≡ Ok (export (said options file)) }
+{}
+
+/// The law that plain words of `coastline` are taken with what they say.
+pub fn plain_coastline_words_are_taken()
+    ensures { (options : List (Form × CoastlineOption)) (file : List ℕ)
+        → ArePlainCoastline options file
+        → job_asked (coastline_words options file) ≡ Ok (coastline (said_coastline options file)) }
 {}

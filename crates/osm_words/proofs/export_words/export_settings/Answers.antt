@@ -1,6 +1,13 @@
-use Rattle.std.proofs.Common.{map, string_bytes}
+use Rattle.std.proofs.Common.{map, refl, string_bytes}
+use Rattle.clap.specs.Words.{matches_of}
+use Rattle.osm_words.specs.Answers.{settings_seen}
+use Rattle.osm_words.specs.ExportCommand.{export_app}
+use Rattle.osm_words.specs.ExportWords.{settings_said}
 use Rattle.osm_words.proofs.OneKind.{refuses_by}
 use Rattle.osm_words.proofs.export_words.export_settings.Goals as goal
 
 pub returns : goal.returns
-returns c = refuses_by (map string_bytes c.args.words.now) c.kind.result c.in-Err.error c.in-Err.ensures.kinds c.kind.ensures c.in_default.not-OutOfMemory
+returns c =
+    let words = map string_bytes c.args.words.now in
+    refuses_by settings_seen export_app words (settings_said (matches_of export_app words)) c.in-Err.error c.kind.result c.refusal.result refl refl
+    c.in-Err.ensures.kinds c.kind.ensures c.refusal.ensures

@@ -1,35 +1,27 @@
--- Plain words are taken, and give what they say. No public contract cites it.
-use Rattle.std.proofs.Common.{◌≡◌, ◌++◌, ◌∙◌, Bool, true, false, List, [], ◌∷◌, Option, Some, None, Result, Ok, Err, codes, refl, sym, ap, ap₂, true≢false}
-use Rattle.std.specs.Option.{option_map_or}
+-- Plain words of `export` are taken, and give what they say. No public contract cites it.
+use Rattle.std.proofs.Common.{◌≡◌, ◌++◌, ◌∙◌, List, [], ◌∷◌, Option, Some, None, Ok, codes, refl, ap, ap₂}
 use Rattle.std.specs.Prelude.{option_map, unwrap_or}
-use Rattle.std.specs.Str.{bytes_eq}
 use Rattle.clap.specs.Words.{Row, Text, first_of, matches_of}
 use Rattle.osm_words.specs.ExportCommand.{export_app}
-use Rattle.osm_words.specs.Job.{ExportSettings, Job, export}
-use Rattle.osm_words.specs.ExportWords.{export_asked, format_named, format_said, ids_said, in_range, is_set, keys_asked, settings_said, settings_with, unless_refused}
+use Rattle.osm_words.specs.Job.{ExportSettings, export}
+use Rattle.osm_words.specs.ExportWords.{export_asked, format_named, format_said, ids_said, in_range, keys_asked, settings_said, settings_with}
+use Rattle.osm_words.specs.Parsed.{is_set, unless_refused}
 use Rattle.osm_words.specs.Words.{as_job, job_asked}
-use Rattle.osm_words.specs.Answers.{Answers, Gives}
 use Rattle.osm_words.specs.PlainWords.{Form, HavePlainValues, plain_words}
 use Rattle.osm_words.specs.PlainExport.{ArePlain, ExportOption, export_words, format_text, ids_text, format, output, overwrite, keep_untagged, ids, omit_rs, show_errors, stop_on_error, area_keys, linear_keys, HasPlainValue, name_of, option_words, said, with_option}
 use Rattle.osm_words.specs.declared.settings.Format.{Format}
 use Rattle.osm_words.specs.declared.settings.Format.TheVariants.{GeoJson, GeoJsonSeq, Text as PlainText}
 use Rattle.osm_words.specs.declared.settings.UniqueId.{UniqueId}
 use Rattle.osm_words.specs.declared.settings.UniqueId.TheVariants.{Counter, TypeId}
-use Rattle.osm_words.specs.declared.fault.WordsFault.{WordsFault}
-use Rattle.osm_words.specs.declared.fault.WordsError.{WordsError}
-use Rattle.osm_words.specs.declared.fault.WordsError.TheVariants.{BadWords, OutOfMemory}
-use Rattle.osm_words.specs.declared.settings.Job.{Job as CodeJob}
 use Rattle.osm_words.proofs.Walk.{Ends, ends, row_for, rows_with}
 use Rattle.osm_words.proofs.Taken.{given, taken, value_in}
+use Rattle.osm_words.proofs.PlainAnswers.{flag_said}
 use Rattle.osm_words.proofs.ExportOptions.{export_ends_well, export_options, top, value_text}
 
 abbrev option_rows : List (Form × ExportOption) → List Row
 option_rows options = rows_with top (codes "file") export_options options
 
 -- ---- what the words say
-
-abbrev flag_said : Option Text → Bool
-flag_said value = option_map_or (λ word. bytes_eq word (codes "true")) value false
 
 record Say (rows : List Row) (s : ExportSettings) : Type 0 where
   format : format_said (value_in top (codes "format") rows) ≡ Some s.format
@@ -111,20 +103,4 @@ plain_export options file plain =
     ap₂ unless_refused (taken top (codes "file") export_ends_well words used file end) found
 
 pub plain_words_asked : (options : List (Form × ExportOption)) (file : Text) → ArePlain options file → job_asked (export_words options file) ≡ Ok (export (said options file))
-plain_words_asked options file plain = ap as_job (plain_export options file plain)
-
--- ---- what a call answers to plain words
-
-abbrev job_or : Job → Result Job WordsFault → Job
-job_or job (Ok given) = given
-job_or job (Err fault) = job
-
-abbrev is_job : Result Job WordsFault → Bool
-is_job (Ok given) = true
-is_job (Err fault) = false
-
--- an answer that is what was asked gives the job, where a job was asked
-pub answers_give : (asked : Result Job WordsFault) (job : Job) (r : Result CodeJob WordsError) → asked ≡ Ok job → Answers asked r → Gives job r
-answers_give asked job (Ok found) is answers = ap (job_or job) (sym answers ∙ is)
-answers_give asked job (Err OutOfMemory) is answers = refl
-answers_give asked job (Err (BadWords fault)) is answers = absurd (true≢false (ap is_job (sym is ∙ answers)))
+plain_words_asked options file plain = ap (as_job export) (plain_export options file plain)

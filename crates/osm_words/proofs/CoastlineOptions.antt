@@ -1,0 +1,92 @@
+-- The options of `coastline`: its command of `clap` takes each. No public contract cites it.
+use Rattle.std.proofs.Common.{◌≡◌, Bool, not, ◌||◌, ap, inl, inr, subst, sym, false, [], ◌∷◌, codes, refl, List}
+use Rattle.std.specs.Str.{bytes_eq}
+use Rattle.clap.specs.Words.{Row, Shape, Text, built}
+use Rattle.clap.specs.Kinds.{check_kinds}
+use Rattle.clap.specs.Walk.{has_row}
+use Rattle.clap.proofs.OnLiterals.{clap_on_literals}
+use Rattle.osm_words.specs.CoastlineCommand.{coastline_app}
+use Rattle.osm_words.specs.PlainWords.{Form, IsFileName, begins_with_dash, letter, long}
+use Rattle.osm_words.specs.PlainCoastline.{CoastlineOption, HasPlainValue, polygons_text, close_distance, polygons, output, overwrite, name_of, option_words}
+use Rattle.osm_words.specs.declared.settings.OutputPolygons.{OutputPolygons}
+use Rattle.osm_words.specs.declared.settings.OutputPolygons.TheVariants.{Land, Water, Both, Neither}
+use Rattle.osm_words.proofs.Taken.{EndsWell}
+use Rattle.osm_words.proofs.Walk.{Moves, Options, Pending, Ready, TakesLast, TakesValue, by_letter, by_long, flag_moves, option_moves, ready_value, row_for}
+
+abbrev pub top : Shape
+top = (built coastline_app).top
+
+abbrev pub value_text : CoastlineOption → Text
+value_text (close_distance written units) = written
+value_text (polygons p) = polygons_text p
+value_text (output name) = name
+value_text overwrite = codes "true"
+
+polygons_plain : (p : OutputPolygons) → begins_with_dash (polygons_text p) ≡ false
+polygons_plain Land = refl
+polygons_plain Water = refl
+polygons_plain Both = refl
+polygons_plain Neither = refl
+
+distance_takes : (value : Text) → begins_with_dash value ≡ false → TakesValue top (codes "close-distance") value
+unfolding clap_on_literals
+distance_takes [] plain = record { walks = λ used. refl; passes = λ used. refl; ready = λ used new. ready_value top (codes "close-distance") [] used new refl refl }
+distance_takes (a ∷ value) plain = record { walks = λ used. simp plain; passes = λ used. simp plain; ready = λ used new. ready_value top (codes "close-distance") (a ∷ value) used new refl refl }
+
+polygons_takes : (value : Text) → begins_with_dash value ≡ false → TakesValue top (codes "polygons") value
+unfolding clap_on_literals
+polygons_takes [] plain = record { walks = λ used. refl; passes = λ used. refl; ready = λ used new. ready_value top (codes "polygons") [] used new refl refl }
+polygons_takes (a ∷ value) plain = record { walks = λ used. simp plain; passes = λ used. simp plain; ready = λ used new. ready_value top (codes "polygons") (a ∷ value) used new refl refl }
+
+output_takes : (value : Text) → begins_with_dash value ≡ false → TakesValue top (codes "output") value
+unfolding clap_on_literals
+output_takes [] plain = record { walks = λ used. refl; passes = λ used. refl; ready = λ used new. ready_value top (codes "output") [] used new refl refl }
+output_takes (a ∷ value) plain = record { walks = λ used. simp plain; passes = λ used. simp plain; ready = λ used new. ready_value top (codes "output") (a ∷ value) used new refl refl }
+
+pub moves : (form : Form) (c : CoastlineOption) (rows : List Row) (pending : Pending) (used : List Row) → Ready top rows pending used → has_row (name_of c) used ≡ false
+    → HasPlainValue c → Moves top (option_words form c) (row_for (name_of c) (value_text c)) rows pending used
+unfolding clap_on_literals
+moves letter (close_distance written units) rows pending used ready new plain = option_moves top (codes "-c") (codes "close-distance") written rows pending used ready new (distance_takes written plain.0) refl refl
+moves long (close_distance written units) rows pending used ready new plain = option_moves top (codes "--close-distance") (codes "close-distance") written rows pending used ready new (distance_takes written plain.0) refl refl
+moves letter (polygons p) rows pending used ready new plain = option_moves top (codes "-p") (codes "polygons") (polygons_text p) rows pending used ready new (polygons_takes (polygons_text p) (polygons_plain p)) refl refl
+moves long (polygons p) rows pending used ready new plain = option_moves top (codes "--output-polygons") (codes "polygons") (polygons_text p) rows pending used ready new (polygons_takes (polygons_text p) (polygons_plain p)) refl refl
+moves letter (output name) rows pending used ready new plain = option_moves top (codes "--output") (codes "output") name rows pending used ready new (output_takes name plain) refl refl
+moves long (output name) rows pending used ready new plain = option_moves top (codes "--output") (codes "output") name rows pending used ready new (output_takes name plain) refl refl
+moves letter overwrite rows pending used ready new plain = flag_moves top (codes "-f") (codes "overwrite") by_letter rows pending used ready new refl refl refl
+moves long overwrite rows pending used ready new plain = flag_moves top (codes "--overwrite") (codes "overwrite") by_long rows pending used ready new refl refl refl
+
+pub not_file : (c : CoastlineOption) → bytes_eq (name_of c) (codes "file") ≡ false
+not_file (close_distance written units) = refl
+not_file (polygons p) = refl
+not_file (output name) = refl
+not_file overwrite = refl
+
+takes_dash : TakesLast top (codes "file") (codes "-")
+unfolding clap_on_literals
+takes_dash = record { walks = λ rows pending. refl; asks = λ rows pending. refl }
+
+pub takes_file : (file : Text) → IsFileName file → TakesLast top (codes "file") file
+unfolding clap_on_literals
+takes_file file (inl dash) = subst (TakesLast top (codes "file")) (sym dash) takes_dash
+takes_file [] (inr plain) = record { walks = λ rows pending. refl; asks = λ rows pending. refl }
+takes_file (a ∷ file) (inr plain) = record { walks = λ rows pending. simp plain; asks = λ rows pending. simp plain }
+
+abbrev pub coastline_options : Options top (codes "file")
+coastline_options = record {
+  Choice = CoastlineOption;
+  name_of = name_of;
+  value_of = value_text;
+  words_of = option_words;
+  HasPlainValue = HasPlainValue;
+  not_last = not_file;
+  moves = moves;
+  takes_last = takes_file;
+}
+
+-- the command asks for nothing but the file
+pub coastline_ends_well : EndsWell top (codes "file")
+coastline_ends_well = record {
+  ready = λ file rows new. ready_value top (codes "file") file rows new refl refl;
+  defaults = (refl, (refl, (refl, (refl, (refl, tt)))));
+  checks = λ rows given. ap (λ (is : Bool). check_kinds false false (not is || false)) given;
+}

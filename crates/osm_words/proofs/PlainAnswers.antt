@@ -1,0 +1,28 @@
+-- What a call answers to plain words, and what a flag's value says. No public contract cites it.
+use Rattle.std.proofs.Common.{◌≡◌, ◌∙◌, Bool, true, false, Option, Result, Ok, Err, codes, refl, sym, ap, true≢false}
+use Rattle.std.specs.Option.{option_map_or}
+use Rattle.std.specs.Str.{bytes_eq}
+use Rattle.clap.specs.Words.{Text}
+use Rattle.osm_words.specs.Job.{Job}
+use Rattle.osm_words.specs.Answers.{Answers, Gives}
+use Rattle.osm_words.specs.declared.fault.WordsFault.{WordsFault}
+use Rattle.osm_words.specs.declared.fault.WordsError.{WordsError}
+use Rattle.osm_words.specs.declared.fault.WordsError.TheVariants.{BadWords, OutOfMemory}
+use Rattle.osm_words.specs.declared.settings.Job.{Job as CodeJob}
+
+abbrev pub flag_said : Option Text → Bool
+flag_said value = option_map_or (λ word. bytes_eq word (codes "true")) value false
+
+abbrev job_or : Job → Result Job WordsFault → Job
+job_or job (Ok given) = given
+job_or job (Err fault) = job
+
+abbrev is_job : Result Job WordsFault → Bool
+is_job (Ok given) = true
+is_job (Err fault) = false
+
+-- an answer that is what was asked gives the job, where a job was asked
+pub answers_give : (asked : Result Job WordsFault) (job : Job) (r : Result CodeJob WordsError) → asked ≡ Ok job → Answers asked r → Gives job r
+answers_give asked job (Ok found) is answers = ap (job_or job) (sym answers ∙ is)
+answers_give asked job (Err OutOfMemory) is answers = refl
+answers_give asked job (Err (BadWords fault)) is answers = absurd (true≢false (ap is_job (sym is ∙ answers)))

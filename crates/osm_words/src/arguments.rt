@@ -1,0 +1,48 @@
+//! The arguments of commands, as `clap` is told of them.
+
+ghost use Rattle.std.specs.Prelude.{◌≡◌, false};
+ghost use Rattle.clap.specs.Words.{rule_of};
+ghost use Rattle.osm_words.specs.Arguments.{file_rule, flag_rule, long_option_rule, option_rule};
+
+use clap::{Arg, ArgAction};
+use std::alloc::Global;
+
+/// An option with one value.
+pub(crate) fn option<'a>(alloc: Global, name: &'a str, letter: char, long: &'a str) -> Arg<'a>
+    ensures rule { rule_of result ≡ option_rule name.now letter long.now }
+    ensures local { result.global ≡ false }
+{
+    Arg::new(alloc, name)
+        .short(letter)
+        .long(long)
+        .action(ArgAction::Set)
+}
+
+/// An option with one value and without a short form, which is written by its name.
+pub(crate) fn long_option<'a>(alloc: Global, name: &'a str) -> Arg<'a>
+    ensures rule { rule_of result ≡ long_option_rule name.now }
+    ensures local { result.global ≡ false }
+{
+    Arg::new(alloc, name).long(name).action(ArgAction::Set)
+}
+
+/// An option without a value.
+pub(crate) fn flag<'a>(alloc: Global, name: &'a str, letter: char, long: &'a str) -> Arg<'a>
+    ensures rule { rule_of result ≡ flag_rule name.now letter long.now }
+    ensures local { result.global ≡ false }
+{
+    Arg::new(alloc, name)
+        .short(letter)
+        .long(long)
+        .action(ArgAction::SetTrue)
+}
+
+/// The one word that is no option.
+pub(crate) fn file<'a>(alloc: Global) -> Arg<'a>
+    ensures rule { rule_of result ≡ file_rule }
+    ensures local { result.global ≡ false }
+{
+    Arg::new(alloc, "file")
+        .required(true)
+        .action(ArgAction::Set)
+}
