@@ -9,7 +9,7 @@ use Rattle.osm_input.specs.Keeps.{Keeps}
 use Rattle.osm_input.specs.Reading.{IsReadAs}
 use Rattle.osm_job.proofs.Keeping.{keeps_both, open_keeps, write_keeps}
 use Rattle.osm_job.specs.declared.ended.Ended.{Ended}
-use Rattle.osm_job.specs.declared.ended.Ended.TheVariants.{Done, Stopped, BadWords, BadInput, TooMuchInput, OpenFault, ReadFault, WriteFault, OutOfMemory}
+use Rattle.osm_job.specs.declared.ended.Ended.TheVariants.{Done, Warnings, Errors, Stopped, BadWords, BadInput, TooMuchInput, OpenFault, ReadFault, WriteFault, OutOfMemory}
 use Rattle.osm_job.specs.Cause.{cause_of}
 use Rattle.osm_job.specs.Faults.{CountsFaults, writes_failed}
 use Rattle.osm_job.specs.InputRead.{IsSilent, OpensOne, HasInput, LacksInput}
@@ -59,6 +59,8 @@ module _ (law : StreamsAppend) (name : List ℕ) (second : Opened) (IsRight : Li
   -- the input isn't opened, isn't read, or is refused
   pub lacks_input : (ended : Ended) (now : Outside) → LacksInput name ended before now → Does ended now
   lacks_input Done now l = absurd l.lack
+  lacks_input Warnings now l = absurd l.lack
+  lacks_input Errors now l = absurd l.lack
   lacks_input (Stopped candidate) now l = absurd l.lack
   lacks_input (BadWords cause) now l = absurd l.lack
   lacks_input (BadInput line fault) now l =
@@ -159,6 +161,10 @@ module _ (law : StreamsAppend) (name : List ℕ) (second : Opened) (IsRight : Li
           over : (ended : Ended) → IsWrittenOver (IsRight objects) (cause_of ended) ended written → last.write_faults ≡ writes_failed (cause_of ended) opened.write_faults → Does ended last
           over Done right counts =
               works Done (all_told (before.named name) Done written has.right right) tt took_all all_opens (record { opens = opens_same; reads = reads_same }) (counts ∙ writes_so_far)
+          over Warnings right counts =
+              works Warnings (all_told (before.named name) Warnings written has.right right) tt took_all all_opens (record { opens = opens_same; reads = reads_same }) (counts ∙ writes_so_far)
+          over Errors right counts =
+              works Errors (all_told (before.named name) Errors written has.right right) tt took_all all_opens (record { opens = opens_same; reads = reads_same }) (counts ∙ writes_so_far)
           over (Stopped candidate) right counts =
               works (Stopped candidate) (all_told (before.named name) (Stopped candidate) written has.right right) tt took_all all_opens (record { opens = opens_same; reads = reads_same }) (counts ∙ writes_so_far)
           over (BadWords cause) right counts = absurd right

@@ -1,6 +1,6 @@
 -- What ends a run.
 use Rattle.osm_job.specs.declared.ended.Ended.{Ended}
-use Rattle.osm_job.specs.declared.ended.Ended.TheVariants.{Done, Stopped, BadWords, BadInput, TooMuchInput, OpenFault, ReadFault, WriteFault, OutOfMemory}
+use Rattle.osm_job.specs.declared.ended.Ended.TheVariants.{Done, Warnings, Errors, Stopped, BadWords, BadInput, TooMuchInput, OpenFault, ReadFault, WriteFault, OutOfMemory}
 
 pub data Cause : Type 0 where
   -- it came to its end
@@ -18,6 +18,8 @@ pub data Cause : Type 0 where
 
 abbrev pub cause_of : Ended → Cause
 cause_of Done = by_itself
+cause_of Warnings = by_itself
+cause_of Errors = by_itself
 cause_of (Stopped candidate) = by_itself
 cause_of (BadWords cause) = by_words
 cause_of (BadInput line fault) = by_input

@@ -3,7 +3,7 @@ use Rattle.std.specs.Prelude.{◌≡◌, ℕ}
 use Rattle.osm_host.specs.Outside.{Outside, risen, HasRisen}
 use Rattle.osm_input.specs.ReadFaults.{LastReadFailed, NoneOrLastReadFailed}
 use Rattle.osm_job.specs.declared.ended.Ended.{Ended}
-use Rattle.osm_job.specs.declared.ended.Ended.TheVariants.{Done, Stopped, BadWords, BadInput, TooMuchInput, OpenFault, ReadFault, WriteFault, OutOfMemory}
+use Rattle.osm_job.specs.declared.ended.Ended.TheVariants.{Done, Warnings, Errors, Stopped, BadWords, BadInput, TooMuchInput, OpenFault, ReadFault, WriteFault, OutOfMemory}
 use Rattle.osm_job.specs.Cause.{Cause, by_itself, by_words, by_input, by_open, by_read, by_write, by_memory, cause_of}
 
 -- the count of opens that failed, one up where that ends the run
@@ -30,6 +30,8 @@ writes_failed by_memory count = count
 -- failed.
 abbrev pub ReadsFailed : Ended → Outside → Outside → Type 0
 ReadsFailed Done before after = after.read_faults ≡ before.read_faults
+ReadsFailed Warnings before after = after.read_faults ≡ before.read_faults
+ReadsFailed Errors before after = after.read_faults ≡ before.read_faults
 ReadsFailed (Stopped candidate) before after = after.read_faults ≡ before.read_faults
 ReadsFailed (BadWords cause) before after = after.read_faults ≡ before.read_faults
 ReadsFailed (BadInput line fault) before after = NoneOrLastReadFailed before after

@@ -7,7 +7,7 @@ use Rattle.osm_input.specs.declared.reading.ReadError.TheVariants as read
 use Rattle.osm_input.specs.Keeps.{Keeps}
 use Rattle.osm_input.specs.Reading.{IsReadAs}
 use Rattle.osm_job.specs.declared.ended.Ended.{Ended}
-use Rattle.osm_job.specs.declared.ended.Ended.TheVariants.{Done, Stopped, BadWords, BadInput, TooMuchInput, OpenFault, ReadFault, WriteFault, OutOfMemory}
+use Rattle.osm_job.specs.declared.ended.Ended.TheVariants.{Done, Warnings, Errors, Stopped, BadWords, BadInput, TooMuchInput, OpenFault, ReadFault, WriteFault, OutOfMemory}
 use Rattle.osm_job.specs.Faults.{CountsFaults}
 use Rattle.osm_job.specs.Taken.{TookOff, IsStopped}
 use Rattle.osm_job.specs.Whole.{input_limit, longest_line}
@@ -41,6 +41,8 @@ pub record Refuses (name : List ℕ) (error : ReadError) (before now : Outside) 
 -- why there are no objects, by how the run ends
 abbrev pub IsLack : List ℕ → Ended → Outside → Outside → Type 0
 IsLack name Done before now = ⊥
+IsLack name Warnings before now = ⊥
+IsLack name Errors before now = ⊥
 IsLack name (Stopped candidate) before now = ⊥
 IsLack name (BadWords cause) before now = ⊥
 IsLack name (BadInput line fault) before now = Refuses name (read.BadInput line fault) before now

@@ -6,7 +6,7 @@ use Rattle.osm_input.specs.declared.reading.ReadError.{ReadError}
 use Rattle.osm_input.specs.declared.reading.ReadError.TheVariants as read
 use Rattle.osm_input.specs.Reading.{IsAnswer}
 use Rattle.osm_job.specs.declared.ended.Ended.{Ended}
-use Rattle.osm_job.specs.declared.ended.Ended.TheVariants.{Done, Stopped, BadWords, BadInput, TooMuchInput, OpenFault, ReadFault, WriteFault, OutOfMemory}
+use Rattle.osm_job.specs.declared.ended.Ended.TheVariants.{Done, Warnings, Errors, Stopped, BadWords, BadInput, TooMuchInput, OpenFault, ReadFault, WriteFault, OutOfMemory}
 use Rattle.osm_job.specs.Cause.{Cause, by_itself, by_words, by_input, by_open, by_read, by_write, by_memory}
 use Rattle.osm_job.specs.Whole.{input_limit, longest_line}
 
@@ -34,6 +34,8 @@ TookInput name before after = (objects : List Object) × TookOff (name ∷ []) (
 -- the error of a reader that ends a run so
 abbrev pub read_error : Ended → Option ReadError
 read_error Done = None
+read_error Warnings = None
+read_error Errors = None
 read_error (Stopped candidate) = None
 read_error (BadWords cause) = None
 read_error (BadInput line fault) = Some (read.BadInput line fault)

@@ -9,6 +9,10 @@ use osm_words::WordsFault;
 pub enum Ended {
     /// The whole output and the whole report are written.
     Done,
+    /// As Done, and the report has warnings, but no errors.
+    Warnings,
+    /// As Done, and the report has errors.
+    Errors,
     /// This candidate is the first that has problems, and the run was to stop there.
     Stopped { candidate: ObjectRef },
     /// The words aren't taken.
