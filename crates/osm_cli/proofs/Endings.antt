@@ -5,7 +5,7 @@ use Rattle.osm_host.specs.Outside.{Outside, appended, risen, Counts, HasRisen, O
 use Rattle.osm_host.specs.Laws.{StreamsAppend}
 use Rattle.osm_words.specs.declared.fault.WordsFault.{WordsFault}
 use Rattle.osm_job.specs.declared.ended.Ended.{Ended}
-use Rattle.osm_job.specs.declared.ended.Ended.TheVariants.{Done, BadWords, BadInput, Stopped, TooMuchInput, OpenFault, ReadFault, WriteFault, OutOfMemory}
+use Rattle.osm_job.specs.declared.ended.Ended.TheVariants.{Done, Warnings, Errors, BadWords, BadInput, Stopped, TooMuchInput, OpenFault, ReadFault, WriteFault, OutOfMemory}
 use Rattle.osm_words.specs.Job.{Job}
 use Rattle.osm_job.specs.Cause.{Cause, by_itself, by_words, by_input, by_open, by_read, by_write, by_memory, cause_of}
 use Rattle.osm_input.specs.ReadFaults.{LastReadFailed, NoneOrLastReadFailed}
@@ -71,6 +71,8 @@ reads_still OpenFault before middle now same failed reads = same ∙ reads
 reads_still ReadFault before middle now same failed reads = (same ∙ reads.0, failed ∙ reads.1)
 reads_still WriteFault before middle now same failed reads = same ∙ reads
 reads_still Done before middle now same failed reads = same ∙ reads
+reads_still Warnings before middle now same failed reads = same ∙ reads
+reads_still Errors before middle now same failed reads = same ∙ reads
 reads_still OutOfMemory before middle now same failed reads = last_still before middle now same failed reads
 reads_still (BadWords fault) before middle now same failed reads = same ∙ reads
 reads_still (BadInput line fault) before middle now same failed reads = last_still before middle now same failed reads
@@ -95,6 +97,8 @@ write_rose last before after (is_cut front some counted) = let two : after ≡ r
 completes : (words : Result Job WordsFault) (ended : Ended) (before now : Outside) (writes : Writes words ended before now) → CountsFaults ended before now → NoFault before now → Completes words before ended
 completes (Err fault) ended before now writes faults none = writes.right.0
 completes (Ok job) Done before now writes faults none = inr (whole_of_all job _ Done writes.written writes.right)
+completes (Ok job) Warnings before now writes faults none = inr (whole_of_all job _ Warnings writes.written writes.right)
+completes (Ok job) Errors before now writes faults none = inr (whole_of_all job _ Errors writes.written writes.right)
 completes (Ok job) (Stopped candidate) before now writes faults none = inr (whole_of_all job _ (Stopped candidate) writes.written writes.right)
 completes (Ok job) (BadWords cause) before now writes faults none = absurd writes.right
 completes (Ok job) (BadInput line fault) before now writes faults none = inr (whole_of_all job _ (BadInput line fault) writes.written writes.right.1)

@@ -6,7 +6,7 @@ use Rattle.osm_words.specs.declared.fault.WordsFault.{WordsFault}
 use Rattle.osm_words.specs.declared.fault.WordsError.{WordsError}
 use Rattle.osm_words.specs.declared.fault.WordsError.TheVariants as words
 use Rattle.osm_words.specs.Answers.{Answers}
-use Rattle.osm_words.specs.Job.{ExportSettings, Job, export}
+use Rattle.osm_words.specs.Job.{CoastlineSettings, ExportSettings, Job, coastline, export}
 use Rattle.osm_job.proofs.Keeping.{nothing_changed}
 use Rattle.osm_job.specs.declared.ended.Ended.{Ended}
 use Rattle.osm_job.specs.declared.ended.Ended.TheVariants.{BadWords, OutOfMemory}
@@ -15,6 +15,7 @@ use Rattle.osm_job.specs.Texts.{told_texts}
 use Rattle.osm_job.specs.Worked.{Worked}
 use Rattle.osm_job.specs.Written.{IsWrittenBy}
 use Rattle.osm_job.proofs.Taken.{input_kept}
+use Rattle.job_coastline.specs.Coastline.{Coastlines}
 use Rattle.job_export.specs.Export.{Exports}
 use Rattle.osm_cli.specs.Job.{TookAll, inputs_of, outputs_of}
 use Rattle.osm_cli.specs.RunSteps.{Works, words_ended}
@@ -25,6 +26,7 @@ use Rattle.osm_cli.specs.Whole.{IsWhole}
 -- what all inputs were taken for stays so behind calls that touch none
 pub all_kept : (job : Job) (before middle now : Outside) → now.left ≡ middle.left → now.bytes_read ≡ middle.bytes_read → TookAll job before middle → TookAll job before now
 all_kept (export settings) before middle now same counted took = input_kept middle now same counted before settings.file took
+all_kept (coastline settings) before middle now same counted took = input_kept middle now same counted before settings.file took
 
 of_job : (job : Job) (ended : Ended) (before after : Outside) → Worked (inputs_of job) (outputs_of job) (IsWhole job) (TookAll job) ended before after → Works (Ok job) ended before after
 of_job job ended before after w = record {
@@ -42,6 +44,9 @@ of_job job ended before after w = record {
 
 pub of_export : (settings : ExportSettings) (ended : Ended) (before after : Outside) → Exports settings ended before after → Works (Ok (export settings)) ended before after
 of_export settings ended before after exported = of_job (export settings) ended before after exported
+
+pub of_coastline : (settings : CoastlineSettings) (ended : Ended) (before after : Outside) → Coastlines settings ended before after → Works (Ok (coastline settings)) ended before after
+of_coastline settings ended before after done = of_job (coastline settings) ended before after done
 
 -- of words that ask for the same
 pub works_alike : (x y : Result Job WordsFault) (ended : Ended) (before now : Outside) → Works x ended before now → x ≡ y → Works y ended before now

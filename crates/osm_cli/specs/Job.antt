@@ -2,17 +2,20 @@
 use Rattle.std.specs.Prelude.{ℕ, List, [], ◌∷◌, Ok}
 use Rattle.opl_reader.specs.declared.object.Object.{Object}
 use Rattle.osm_host.specs.Outside.{Outside, Opened, output}
-use Rattle.osm_words.specs.Job.{Job, export}
+use Rattle.osm_words.specs.Job.{Job, coastline, export}
 use Rattle.osm_job.specs.Taken.{TookOff}
 
 -- the names of the inputs that a job reads, in order
 abbrev pub inputs_of : Job → List (List ℕ)
 inputs_of (export settings) = settings.file ∷ []
+inputs_of (coastline settings) = settings.file ∷ []
 
 -- the outputs that it opens
 abbrev pub outputs_of : Job → List Opened
 outputs_of (export settings) = output settings.output settings.overwrite ∷ []
+outputs_of (coastline settings) = output settings.output settings.overwrite ∷ []
 
 -- The inputs of a job were taken to their ends and are read.
 abbrev pub TookAll : Job → Outside → Outside → Type 0
 TookAll (export settings) before after = (objects : List Object) × TookOff (inputs_of (export settings)) (Ok objects) before after
+TookAll (coastline settings) before after = (objects : List Object) × TookOff (inputs_of (coastline settings)) (Ok objects) before after

@@ -10,7 +10,7 @@ use Rattle.osm_words.specs.declared.fault.WordsFault.TheVariants.{NoCommand, Unk
 use Rattle.osm_input.specs.declared.fault.InputFault.{InputFault}
 use Rattle.osm_input.specs.declared.fault.InputFault.TheVariants.{Line, TooLong, Duplicate}
 use Rattle.osm_job.specs.declared.ended.Ended.{Ended}
-use Rattle.osm_job.specs.declared.ended.Ended.TheVariants.{Done, BadWords, BadInput, Stopped, TooMuchInput, OpenFault, ReadFault, WriteFault, OutOfMemory}
+use Rattle.osm_job.specs.declared.ended.Ended.TheVariants.{Done, Warnings, Errors, BadWords, BadInput, Stopped, TooMuchInput, OpenFault, ReadFault, WriteFault, OutOfMemory}
 
 abbrev pub words_line : WordsFault → List ℕ
 words_line NoCommand = codes "osmpoly: no command\n"
@@ -44,6 +44,8 @@ fault_line line (Duplicate kind id) = again_line line kind id
 
 abbrev pub last_line : Ended → List ℕ
 last_line Done = []
+last_line Warnings = []
+last_line Errors = []
 last_line (BadWords cause) = words_line cause
 last_line (BadInput line fault) = fault_line line fault
 last_line (Stopped candidate) =

@@ -3,14 +3,16 @@ use Rattle.std.specs.Prelude.{◌≡◌, ℕ, List}
 use Rattle.osm_host.specs.Outside.{Outside}
 use Rattle.osm_words.specs.Words.{command_named, job_asked}
 use Rattle.osm_words.specs.declared.words.Command.{Command}
-use Rattle.osm_words.specs.declared.words.Command.TheVariants.{Export, Unknown}
+use Rattle.osm_words.specs.declared.words.Command.TheVariants.{Coastline, Export, Unknown}
 use Rattle.osm_job.specs.declared.ended.Ended.{Ended}
-use Rattle.osm_job.specs.declared.ended.Ended.TheVariants.{Done, BadWords, BadInput, Stopped, TooMuchInput, OpenFault, ReadFault, WriteFault, OutOfMemory}
+use Rattle.osm_job.specs.declared.ended.Ended.TheVariants.{Done, Warnings, Errors, BadWords, BadInput, Stopped, TooMuchInput, OpenFault, ReadFault, WriteFault, OutOfMemory}
 use Rattle.osm_cli.specs.Run.{Ran}
 
 -- of `export`, and of words that name no command
 abbrev pub export_status : Ended → ℕ
 export_status Done = 0
+export_status Warnings = 1
+export_status Errors = 1
 export_status (BadWords cause) = 2
 export_status (BadInput line fault) = 1
 export_status (Stopped candidate) = 1
@@ -20,8 +22,23 @@ export_status ReadFault = 1
 export_status WriteFault = 1
 export_status OutOfMemory = 5
 
+-- of `coastline`, as osmcoastline has them: 1 for warnings, 2 for errors, 3 where nothing came of it, 4 for the words
+abbrev pub coastline_status : Ended → ℕ
+coastline_status Done = 0
+coastline_status Warnings = 1
+coastline_status Errors = 2
+coastline_status (BadWords cause) = 4
+coastline_status (BadInput line fault) = 3
+coastline_status (Stopped candidate) = 3
+coastline_status (TooMuchInput limit) = 3
+coastline_status OpenFault = 3
+coastline_status ReadFault = 3
+coastline_status WriteFault = 3
+coastline_status OutOfMemory = 5
+
 abbrev pub status_of : Command → Ended → ℕ
 status_of Export ended = export_status ended
+status_of Coastline ended = coastline_status ended
 status_of Unknown ended = export_status ended
 
 -- A run of words ended, and this is the status for it.

@@ -16,7 +16,7 @@ pub(crate) fn last_line(ended: &Ended) -> Line
     ensures { result ≡ last_line ended.now }
 {
     match ended {
-        Ended::Done => Line::new(),
+        Ended::Done | Ended::Warnings | Ended::Errors => Line::new(),
         Ended::BadWords { cause } => words_line(*cause),
         Ended::BadInput { line, fault } => fault_line(*line, fault),
         Ended::Stopped { candidate } => stopped_line(*candidate),

@@ -4,23 +4,28 @@ ghost use Rattle.std.specs.Prelude.{◌≡◌, ℕ, List, Ok, map, string_bytes}
 ghost use Rattle.osm_cli.specs.Run.{Ran};
 ghost use Rattle.osm_cli.specs.RunSteps.{Works, words_ended};
 ghost use Rattle.osm_cli.specs.Status.{EndsWith};
-ghost use Rattle.osm_words.specs.Answers.{job_seen, settings_seen};
-ghost use Rattle.osm_words.specs.Job.{export};
+ghost use Rattle.osm_words.specs.Answers.{coastline_seen, job_seen, settings_seen};
+ghost use Rattle.osm_words.specs.Job.{coastline, export};
+ghost use Rattle.osm_words.specs.PlainCoastline.{ArePlainCoastline, CoastlineOption, coastline_words, said_coastline};
 ghost use Rattle.osm_words.specs.PlainExport.{ArePlain, ExportOption, export_words, said};
 ghost use Rattle.osm_words.specs.PlainWords.{Form};
 ghost use Rattle.osm_words.specs.Words.{job_asked};
 
 use crate::last_line::last_line;
 use crate::statuses::status;
+use job_coastline::coastline;
 use job_export::export;
 use osm_host::{Host, streams_append, write_all_report};
 use osm_job::Ended;
-use osm_words::{ExportSettings, Job, WordsError, command_of, job_of, plain_words_are_taken};
+use osm_words::{
+    CoastlineSettings, ExportSettings, Job, WordsError, command_of, job_of,
+    plain_coastline_words_are_taken, plain_words_are_taken,
+};
 use std::alloc::Global;
 
 /// Does what the words behind the program's name ask for, and answers how it ended.
 ///
-/// Every ending but Done writes a last line to the report. A failed write of that line doesn't change the answer.
+/// Every ending but Done, Warnings and Errors writes a last line to the report. A failed write of that line doesn't change the answer.
 pub fn run<H: Host>(alloc: Global, words: &[String], host: &mut H) -> Ended
     ensures ran { Ran (job_asked (map string_bytes words.now)) result (H.seen host.old)
         (H.seen host.new) }
@@ -28,9 +33,14 @@ pub fn run<H: Host>(alloc: Global, words: &[String], host: &mut H) -> Ended
     ensures plain { (options : List (Form × ExportOption)) (file : List ℕ) → ArePlain options file
         → map string_bytes words.now ≡ export_words options file
         → job_asked (map string_bytes words.now) ≡ Ok (export (said options file)) }
+    ensures plain_coastline { (options : List (Form × CoastlineOption)) (file : List ℕ)
+        → ArePlainCoastline options file
+        → map string_bytes words.now ≡ coastline_words options file
+        → job_asked (map string_bytes words.now) ≡ Ok (coastline (said_coastline options file)) }
 {
     // By law: plain words ask for what they say, and what is reported adds up in turn.
     plain_words_are_taken();
+    plain_coastline_words_are_taken();
     streams_append();
     let ended = work(alloc, words, host);
     let line = last_line(&ended);
@@ -65,6 +75,7 @@ fn work_on<H: Host>(alloc: Global, job: &Job<'_>, host: &mut H) -> Ended
 {
     match job {
         Job::Export(settings) => run_export(alloc, settings, host),
+        Job::Coastline(settings) => run_coastline(alloc, settings, host),
     }
 }
 
@@ -74,6 +85,14 @@ fn run_export<H: Host>(alloc: Global, settings: &ExportSettings<'_>, host: &mut 
         (H.seen host.new) }
 {
     export(alloc, settings, host)
+}
+
+/// As `coastline`, of which it says what it is for a run.
+fn run_coastline<H: Host>(alloc: Global, settings: &CoastlineSettings<'_>, host: &mut H) -> Ended
+    ensures { Works (Ok (coastline (coastline_seen settings.now))) result (H.seen host.old)
+        (H.seen host.new) }
+{
+    coastline(alloc, settings, host)
 }
 
 /// How a run ends whose words aren't taken.

@@ -11,3 +11,6 @@ returns-clause-ran g c =
 
 pub returns-clause-plain : goal.returns-clause-plain
 returns-clause-plain g c = λ options file plain same. ap job_asked same ∙ c.plain_words_are_taken.ensures options file plain
+
+pub returns-clause-plain_coastline : goal.returns-clause-plain_coastline
+returns-clause-plain_coastline g c = λ options file plain same. ap job_asked same ∙ c.plain_coastline_words_are_taken.ensures options file plain

@@ -1,0 +1,4 @@
+pub mod Fronts
+pub mod LineKinds
+pub mod LineTexts
+pub mod FoundWrites

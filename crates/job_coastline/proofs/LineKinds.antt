@@ -1,0 +1,79 @@
+-- The conflicts of a report are of the kinds that their segments have.
+use Rattle.std.proofs.Common.{◌≡◌, refl, sym, subst, get_or, ℕ, List, [], ◌∷◌, ◌++◌, All, Option, None, Some, option_map}
+use Rattle.std.specs.List.{filter_map, slice_get}
+use Rattle.std.proofs.lemmas.Option.{same_Some}
+use Rattle.std.proofs.lemmas.List.Elements.{All-nil, All-cons, All-append, All-map}
+use Rattle.coast_join.specs.declared.chain.Chain.{Chain}
+use Rattle.coast_join.specs.declared.way.Aside.{Aside}
+use Rattle.coast_join.specs.declared.way.Aside.TheVariants.{Missing, Short}
+use Rattle.coast_sides.specs.Sorting.{AreConflicts}
+use Rattle.osm_lattice.specs.Conflict.{conflict_of}
+use Rattle.osm_lattice.specs.declared.conflicts.Kind.{Kind}
+use Rattle.osm_lattice.specs.declared.seg.Seg.{Seg}
+use Rattle.osm_report.specs.Coast.{HasItsKind}
+use Rattle.osm_report.specs.declared.coast.CoastLine.{CoastLine}
+use Rattle.osm_report.specs.declared.coast.CoastLine.TheVariants as line
+use Rattle.osm_segments.specs.Pairs.{conflicts_of, pair_of}
+use Rattle.osm_segments.specs.declared.pairs.Pair.{Pair}
+use Rattle.job_coastline.specs.Coast.{Coast}
+use Rattle.job_coastline.specs.Report.{antarctica_line, aside_line, coast_lines, conflict_line, gap_between, gap_line, left_out_line, repeated_line, unclosed_line, wrong_way_line}
+
+-- ---- conflicts
+
+abbrev IsPairOfItsKind : Pair → Type 0
+IsPairOfItsKind p = conflict_of p.first p.second ≡ Some p.kind
+
+pair_first : (s t : Seg) (ts : List Seg) (found : Option Kind) → conflict_of s t ≡ found → All IsPairOfItsKind (filter_map (pair_of s) ts) → All IsPairOfItsKind (filter_map (pair_of s) (t ∷ ts))
+unfolding pair_of
+pair_first s t ts None is all = rw is all
+pair_first s t ts (Some kind) is all = rw is (All-cons IsPairOfItsKind (record { kind = kind; first = s; second = t }) (filter_map (pair_of s) ts) is all)
+
+pairs_of_kind : (s : Seg) (ts : List Seg) → All IsPairOfItsKind (filter_map (pair_of s) ts)
+pairs_of_kind s [] = All-nil IsPairOfItsKind
+pairs_of_kind s (t ∷ ts) = pair_first s t ts (conflict_of s t) refl (pairs_of_kind s ts)
+
+conflicts_of_kind : (ss : List Seg) → All IsPairOfItsKind (conflicts_of ss)
+conflicts_of_kind [] = All-nil IsPairOfItsKind
+conflicts_of_kind (s ∷ ss) = All-append IsPairOfItsKind (filter_map (pair_of s) ss) (conflicts_of ss) (pairs_of_kind s ss) (conflicts_of_kind ss)
+
+-- ---- the other lines
+
+aside_of_kind : (aside : Aside) → HasItsKind (aside_line aside)
+aside_of_kind (Missing way node) = tt
+aside_of_kind (Short way) = tt
+
+listed_first : {X : Type 0} (f : X → Option CoastLine) (x : X) (xs : List X) (found : Option CoastLine) → f x ≡ found → ((l : CoastLine) → f x ≡ Some l → HasItsKind l) → All HasItsKind (filter_map f xs) → All HasItsKind (filter_map f (x ∷ xs))
+listed_first f x xs None is kind all = rw is all
+listed_first f x xs (Some l) is kind all = rw is (All-cons HasItsKind l (filter_map f xs) (kind l is) all)
+
+listed_of_kind : {X : Type 0} (f : X → Option CoastLine) (xs : List X) → ((x : X) (l : CoastLine) → f x ≡ Some l → HasItsKind l) → All HasItsKind (filter_map f xs)
+listed_of_kind f [] kind = All-nil HasItsKind
+listed_of_kind f (x ∷ xs) kind = listed_first f x xs (f x) refl (kind x) (listed_of_kind f xs kind)
+
+antarctica_of_kind : (chains : List Chain) (place : ℕ) (l : CoastLine) → antarctica_line chains place ≡ Some l → HasItsKind l
+antarctica_of_kind chains place l is = by (slice_get chains place) is
+  where
+    by : (found : Option Chain) → option_map (λ (chain : Chain). line.Antarctica chain.name) found ≡ Some l → HasItsKind l
+    by None is = absurd (cc)
+    by (Some chain) is = subst HasItsKind (same_Some _ _ is) tt
+
+between_of_kind : (from to : Option Chain) (l : CoastLine) → gap_between from to ≡ Some l → HasItsKind l
+between_of_kind (Some from) (Some to) l is = subst HasItsKind (same_Some _ _ is) tt
+between_of_kind (Some from) None l is = absurd (cc)
+between_of_kind None to l is = absurd (cc)
+
+-- ---- all of them
+
+pub lines_of_kind : (segs : List Seg) (coast : Coast) → AreConflicts segs coast.sorted.pairs → All HasItsKind (coast_lines coast)
+lines_of_kind segs coast conflicts =
+    both _ _ (All-map HasItsKind aside_line coast.asides (λ k d lt. aside_of_kind (get_or coast.asides k d)))
+    (both _ _ (listed_of_kind (antarctica_line coast.chains) coast.closings.antarctica (antarctica_of_kind coast.chains))
+    (both _ _ (listed_of_kind (gap_line coast.chains) coast.closings.gaps (λ gap l is. between_of_kind (slice_get coast.chains gap.from_chain) (slice_get coast.chains gap.to_chain) l is))
+    (both _ _ (All-map HasItsKind unclosed_line coast.joined.unclosed (λ k d lt. tt))
+    (both _ _ (All-map HasItsKind left_out_line coast.sorted.left_out (λ k d lt. tt))
+    (both _ _ (All-map HasItsKind conflict_line coast.sorted.pairs (subst (All IsPairOfItsKind) (sym conflicts.are) (conflicts_of_kind conflicts.distinct)))
+    (both _ _ (All-map HasItsKind repeated_line coast.land.repeats (λ k d lt. tt))
+    (All-map HasItsKind wrong_way_line coast.land.wrong_way (λ k d lt. tt))))))))
+  where
+    both : (xs ys : List CoastLine) → All HasItsKind xs → All HasItsKind ys → All HasItsKind (xs ++ ys)
+    both xs ys h k = All-append HasItsKind xs ys h k

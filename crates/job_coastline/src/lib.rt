@@ -1,0 +1,17 @@
+//! The coastline job: the coastline ways of an input joined to rings, land and water as pieces of an output, and a report of
+//! all that is amiss.
+//!
+//! What it is to write in all is a definition over the objects of the input (specs/Coastline): what comes of the coastline
+//! ways, the polygons that are asked for, and the lines of the report, which tell how the run ends.
+#![tactic(auto)]
+
+mod coast;
+mod found;
+mod line_laws;
+mod lines;
+mod polygons;
+mod work;
+mod writing;
+
+pub use line_laws::lines_have_kinds;
+pub use work::coastline;

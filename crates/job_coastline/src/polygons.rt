@@ -1,0 +1,21 @@
+//! The polygons of land or water.
+
+ghost use Rattle.std.specs.Prelude.{IfOk};
+ghost use Rattle.job_coastline.specs.Coastline.{AreLand, AreWater};
+ghost use Rattle.job_coastline.specs.Pieces.{ArePolygons, has_land, has_water};
+ghost use Rattle.plane_edges.specs.Sided.{IsSided};
+
+use osm_geom::Edge;
+use osm_nest::{Polygons, nest, rings_may_be_nested};
+use osm_rings::rings;
+use std::alloc::{AllocError as OutOfMemory, Global};
+
+/// The polygons of sided edges: cut into rings, each inner ring put under the outer one that directly encloses it.
+pub(crate) fn polygons(alloc: Global, edges: &[Edge]) -> Result<Polygons, OutOfMemory>
+    requires { IsSided edges.now }
+    ensures { IfOk result (λ polygons. ArePolygons edges.now polygons) }
+{
+    rings_may_be_nested();
+    let rings = rings(alloc, edges)?;
+    nest(alloc, rings.as_slice())
+}
