@@ -3,24 +3,24 @@ use Rattle.std.proofs.Common.{All, List, [], ap, false, map, refl, subst, sym, t
 use Rattle.std.proofs.lemmas.List.Elements.{All-head, All-tail}
 use Rattle.opl_reader.specs.declared.object.Object.{Object}
 use Rattle.opl_reader.specs.declared.object.ObjectRef.{ObjectRef}
-use Rattle.osm_words.specs.Job.{ExportSettings, Job, export}
+use Rattle.osm_words.specs.Job.{ExportSettings, coastline, export}
 use Rattle.job_export.specs.Entry.{Entry, IsEntry, has_area}
-use Rattle.osm_job.specs.Texts.{Texts}
-use Rattle.osm_cli.specs.Job.{inputs_of}
 use Rattle.osm_input.specs.Laws.{LinesCount}
 use Rattle.osm_input.specs.Reading.{IsReadAs}
 use Rattle.osm_job.specs.Whole.{IsAfter, IsReadThen, Whole, input_limit, longest_line}
 use Rattle.job_export.specs.Export.{HaveAreas, IsExport, finished, finished_whole, stopped, stopped_whole}
-use Rattle.osm_cli.specs.Whole.{IsWhole}
 use Rattle.osm_input.specs.declared.reading.ReadError.{ReadError}
-use Rattle.one_output.specs.Laws.{AreReadAlike}
+use Rattle.job_coastline.specs.Coastline.{IsCoastline}
+use Rattle.one_coast.specs.Laws.{CoastlineIsOne}
+use Rattle.osm_report.specs.Report.{ProblemLineIsOne}
+use Rattle.one_output.specs.Laws.{ObjectsTellTheWhole, WholeIsOne}
 use Rattle.one_output.proofs.EntryOne.{entry-one}
 use Rattle.one_output.proofs.ReadingOne.{reading-one}
 
 abbrev named : List Entry → List ObjectRef
 named es = map (λ (entry : Entry). entry.candidate) es
 
-module _ (settings : ExportSettings) (objects : List Object) where
+module _ (line : ProblemLineIsOne) (settings : ExportSettings) (objects : List Object) where
   abbrev Is : Entry → Type 0
   Is e = IsEntry settings.show_errors objects e
 
@@ -28,7 +28,7 @@ module _ (settings : ExportSettings) (objects : List Object) where
   HasArea e = has_area e ≡ true
 
   one : (e f : Entry) → e.candidate ≡ f.candidate → Is e → Is f → e ≡ f
-  one e f q s t = entry-one settings.show_errors objects e f q s t
+  one e f q s t = entry-one line settings.show_errors objects e f q s t
 
   -- the entries of all candidates
   all-one : (es fs : List Entry) → named es ≡ named fs → All Is es → All Is fs → es ≡ fs
@@ -88,11 +88,15 @@ module _ (count : LinesCount) (IsRight : List Object → Whole → Type 0) (one 
   pub then-one : (bytes : List ℕ) (v w : Whole) → IsReadThen IsRight bytes v → IsReadThen IsRight bytes w → v ≡ w
   then-one bytes v w s t = alike-one bytes bytes s.read v w s.is_read s.is_read s t
 
--- what is right for a job and its inputs is one
-pub whole-one : LinesCount → (job : Job) (texts : Texts (inputs_of job)) (v w : Whole) → IsWhole job texts v → IsWhole job texts w → v ≡ w
-whole-one count (export settings) texts v w s t = then-one count (IsExport settings) (export-one settings) texts.0 v w s t
+module _ (count : LinesCount) (line : ProblemLineIsOne) (coastline-one : CoastlineIsOne) where
+  -- what is right for a job and its inputs is one
+  pub whole-one : WholeIsOne
+  whole-one (export settings) texts v w s t = then-one count (IsExport settings) (export-one line settings) texts.0 v w s t
+  whole-one (coastline settings) texts v w s t = then-one count (IsCoastline settings) (coastline-one settings) texts.0 v w s t
 
--- and depends on what they are read as alone
-pub objects-tell : LinesCount → (job : Job) (texts more : Texts (inputs_of job)) (v w : Whole) → AreReadAlike (inputs_of job) texts more → IsWhole job texts v → IsWhole job more w → v ≡ w
-objects-tell count (export settings) texts more v w alike s t =
-    alike-one count (IsExport settings) (export-one settings) texts.0 more.0 alike.0.0 v w alike.0.1 alike.0.2 s t
+  -- and depends on what they are read as alone
+  pub objects-tell : ObjectsTellTheWhole
+  objects-tell (export settings) texts more v w alike s t =
+      alike-one count (IsExport settings) (export-one line settings) texts.0 more.0 alike.0.0 v w alike.0.1 alike.0.2 s t
+  objects-tell (coastline settings) texts more v w alike s t =
+      alike-one count (IsCoastline settings) (coastline-one settings) texts.0 more.0 alike.0.0 v w alike.0.1 alike.0.2 s t

@@ -1,5 +1,6 @@
 pub mod EntryOne
 pub mod ExportOne
+pub mod ObjectsApart
 pub mod ReadingOne
 pub mod RunOne
 pub mod WholeThere

@@ -2,7 +2,7 @@
 use Rattle.std.proofs.Common.{Err, List, None, Ok, Option, Result, Some, [], ap, inl, inr, length, refl, subst, sym, take, ℕ, ◌++◌, ◌+◌, ◌<◌, ◌≤◌, ◌∙◌, ◌∷◌, ◌≡◌, ◌⊎◌}
 use Rattle.std.proofs.lemmas.Bool.{cases_lt}
 use Rattle.opl_reader.specs.declared.object.Object.{Object}
-use Rattle.osm_words.specs.Job.{Job, export}
+use Rattle.osm_words.specs.Job.{Job, coastline, export}
 use Rattle.osm_input.specs.declared.fault.InputFault.{InputFault}
 use Rattle.osm_input.specs.declared.reading.ReadError.{ReadError}
 use Rattle.osm_input.specs.declared.reading.ReadError.TheVariants.{BadInput, TooMuchInput}
@@ -14,10 +14,15 @@ use Rattle.osm_input.specs.Lines.{lines_begun}
 use Rattle.osm_input.specs.Laws.{LinesCount}
 use Rattle.osm_input.specs.Reading.{IsReadAs}
 use Rattle.osm_job.specs.Whole.{IsAfter, IsReadThen, Whole, input_limit, longest_line, read_ended, silent}
+use Rattle.job_coastline.specs.Coastline.{IsCoastline}
 use Rattle.job_export.specs.Export.{IsExport}
+use Rattle.one_coast.specs.Laws.{CoastlineExists}
+use Rattle.osm_objects.specs.Objects.{AreApart}
+use Rattle.osm_objects.proofs.ApartLemmas.{coast_ways-distinct}
 use Rattle.job_export.specs.Laws.{ExportExists}
 use Rattle.osm_cli.specs.Whole.{IsWhole}
 use Rattle.one_ring_list.proofs.CyclicLists.{Overlap, overlap}
+use Rattle.one_output.proofs.ObjectsApart.{good-apart}
 
 append-nil : (xs : List (List ℕ)) → xs ++ [] ≡ xs
 append-nil [] = refl
@@ -92,18 +97,20 @@ module _ (count : LinesCount) (limit longest : ℕ) (bytes : List ℕ) where
 
 -- ---- a whole
 
--- there is one over the bytes of an input, where there is one over its objects
-module _ (count : LinesCount) (IsRight : List Object → Whole → Type 0) (there : (objects : List Object) → (w : Whole) × IsRight objects w) where
-  after-there : (r : Result (List Object) ReadError) → (w : Whole) × IsAfter IsRight r w
-  after-there (Ok objects) = there objects
-  after-there (Err e) = (silent (read_ended e), refl)
+-- there is one over the bytes of an input, where there is one over objects of which no two have one kind and id
+module _ (count : LinesCount) (IsRight : List Object → Whole → Type 0) (there : (objects : List Object) → AreApart objects → (w : Whole) × IsRight objects w) where
+  after-there : (bytes : List ℕ) (r : Result (List Object) ReadError) → IsReadAs input_limit longest_line bytes r → (w : Whole) × IsAfter IsRight r w
+  after-there bytes (Ok objects) is = there objects (subst AreApart (sym is.2) (good-apart longest_line (lines_of bytes) is.1))
+  after-there bytes (Err e) is = (silent (read_ended e), refl)
 
   pub then-there : (bytes : List ℕ) → (w : Whole) × IsReadThen IsRight bytes w
   then-there bytes =
       let r = read-there count input_limit longest_line bytes in
-      let w = after-there r.0 in
+      let w = after-there bytes r.0 r.1 in
       (w.0, record { read = r.0; is_read = r.1; after = w.1 })
 
-module _ (count : LinesCount) (export_exists : ExportExists) where
+module _ (count : LinesCount) (export_exists : ExportExists) (coastline_exists : CoastlineExists) where
   pub whole-there : (job : Job) (texts : Texts (inputs_of job)) → (w : Whole) × IsWhole job texts w
-  whole-there (export settings) texts = then-there count (IsExport settings) (export_exists settings) texts.0
+  whole-there (coastline settings) texts =
+      then-there count (IsCoastline settings) (λ objects apart. coastline_exists settings objects (coast_ways-distinct objects apart)) texts.0
+  whole-there (export settings) texts = then-there count (IsExport settings) (λ objects apart. export_exists settings objects) texts.0

@@ -8,7 +8,9 @@
 ghost use Rattle.one_output.specs.Laws.{EntryIsOne, ExportIsOne, ObjectsTellTheWhole, ReadingIsOne, RunsAgree, RunsDontPart, RunsKeepToTheWhole, WholeIsOne};
 
 use job_export::export_exists;
+use one_coast::{coastline_exists, coastline_is_one};
 use osm_input::limit_decides_the_lines;
+use osm_report::problem_line_is_one;
 
 /// What is right for a job over the texts of its inputs is one list of what is written, and one
 /// ending, alone: each text is read as one thing, and each candidate adds one thing. It depends on
@@ -20,8 +22,11 @@ pub fn whole_is_one()
     ensures whole { WholeIsOne }
     ensures objects { ObjectsTellTheWhole }
 {
-    // By law: the limit decides which lines count.
+    // By law: the limit decides which lines count, a problem has one line, and a coastline has one
+    // whole.
     limit_decides_the_lines();
+    problem_line_is_one();
+    coastline_is_one();
 }
 
 /// For each words and texts of their inputs there is exactly one right output, report and ending;
@@ -29,9 +34,12 @@ pub fn whole_is_one()
 pub fn runs_keep_to_the_whole()
     ensures { RunsKeepToTheWhole }
 {
-    // By law: the limit decides which lines count, and an export of any objects has a whole.
+    // By law: what is right is one, an export of any objects has a whole, and so has a coastline job
+    // where no two coastline ways have one id.
+    whole_is_one();
     limit_decides_the_lines();
     export_exists();
+    coastline_exists();
 }
 
 /// Two runs with the same words over the same texts, on whatever hosts, write the same and end
@@ -41,7 +49,6 @@ pub fn runs_agree()
     ensures same { RunsAgree }
     ensures fronts { RunsDontPart }
 {
-    // By law: the limit decides which lines count, and an export of any objects has a whole.
-    limit_decides_the_lines();
-    export_exists();
+    // By law: what is right is one.
+    whole_is_one();
 }

@@ -1,0 +1,110 @@
+-- What comes of the coastline ways of objects is one, and so is the whole of a coastline job.
+use Rattle.std.proofs.Common.{List, [], ap, map, refl, subst, sym, ◌∙◌, ◌∷◌, ◌≡◌}
+use Rattle.std.proofs.Props.{props}
+use Rattle.opl_reader.specs.declared.object.Object.{Object}
+use Rattle.osm_lattice.specs.declared.loc.Loc.{Loc}
+use Rattle.osm_job.specs.Whole.{Whole}
+use Rattle.osm_report.specs.Coast.{CoastLineIsOne}
+use Rattle.osm_words.specs.Job.{CoastlineSettings}
+use Rattle.coast_join.specs.declared.chain.Chain.{Chain}
+use Rattle.coast_join.specs.declared.gap.Closings.{Closings}
+use Rattle.coast_join.specs.declared.ring.Joined.{Joined}
+use Rattle.coast_join.specs.declared.way.CoastWay.{CoastWay}
+use Rattle.coast_join.specs.ChainLaws.{ChainsAreOne}
+use Rattle.coast_join.specs.Chains.{AreChains, Line, line_at, line_of}
+use Rattle.coast_join.specs.Closings.{AreClosings}
+use Rattle.coast_join.specs.Joined.{AreJoined}
+use Rattle.coast_join.specs.Line.{IsLine}
+use Rattle.coast_join.specs.RingLaws.{ClosingsAreOne, JoinedIsOne}
+use Rattle.coast_sides.specs.declared.sorted.Sorted.{Sorted}
+use Rattle.coast_sides.specs.OnenessLaws.{LandIsOne, SortedIsOne, WaterIsOne}
+use Rattle.coast_sides.specs.RingLand.{IsLandOf}
+use Rattle.coast_sides.specs.Sorting.{IsSorted}
+use Rattle.job_coastline.specs.Coast.{Coast, IsCoast}
+use Rattle.job_coastline.specs.Coastline.{AreLand, AreWater, IsCoastline, all_sent}
+use Rattle.job_coastline.specs.LineLaws.{LinesHaveKinds}
+use Rattle.job_coastline.specs.Pieces.{has_land, has_water}
+use Rattle.job_coastline.specs.Report.{ArePrinted, coast_lines, ending_of}
+use Rattle.one_area.specs.Laws.{PolygonsAreOne}
+use Rattle.one_coast.proofs.PolygonsOne.{land_polygons_one, water_polygons_one}
+use Rattle.one_coast.proofs.PrintedOne.{printed_one}
+use mathlib.Core.HLevel.{is_prop→PathP}
+
+-- ---- ways told by their lines
+line_prop : (path : List Loc) → IsProp (IsLine path)
+line_prop path = hlevel props
+
+way_same : (v w : CoastWay) → v.id ≡ w.id → v.path ≡ w.path → v ≡ w
+way_same v w a b = λ i. record { id = a i; path = b i; line = is_prop→PathP (λ j. IsLine (b j)) (λ j. line_prop (b j)) v.line w.line i }
+
+ways_one : (vs ws : List CoastWay) → map line_of vs ≡ map line_of ws → vs ≡ ws
+ways_one [] [] h = refl
+ways_one [] (w ∷ ws) h = cc
+ways_one (v ∷ vs) [] h = cc
+ways_one (v ∷ vs) (w ∷ ws) h =
+    let first : line_of v ≡ line_of w = ap (λ (lines : List Line). line_at lines 0) h in
+    let same = way_same v w (ap (λ (line : Line). line.id) first) (ap (λ (line : Line). line.path) first) in
+    ap (λ x. x ∷ vs) same ∙ ap (λ l. w ∷ l) (ways_one vs ws (cc))
+
+-- ---- the coast
+coast_same : (c d : Coast) → c.asides ≡ d.asides → c.chains ≡ d.chains → c.closings ≡ d.closings → c.joined ≡ d.joined → c.sorted ≡ d.sorted → c.land ≡ d.land → c ≡ d
+coast_same c d p q r s t u = λ i. record { asides = p i; chains = q i; closings = r i; joined = s i; sorted = t i; land = u i }
+
+module _ (chains_one : ChainsAreOne) (closings_one : ClosingsAreOne) (joined_one : JoinedIsOne) (sorted_one : SortedIsOne) (land_one : LandIsOne) where
+  pub coast_one : (settings : CoastlineSettings) (objects : List Object) (c d : Coast) → IsCoast settings objects c → IsCoast settings objects d → c ≡ d
+  coast_one settings objects c d s t = coast_same c d (s.asides ∙ sym t.asides) chains closings joined sorted land
+    where
+      ways : s.ways ≡ t.ways
+      ways = ways_one s.ways t.ways (s.taking_part ∙ sym t.taking_part)
+
+      chains : c.chains ≡ d.chains
+      chains = chains_one s.ways c.chains d.chains s.chains (subst (λ (ws : List CoastWay). AreChains ws d.chains) (sym ways) t.chains)
+
+      closings : c.closings ≡ d.closings
+      closings =
+          closings_one s.ways c.chains s.chains settings.close_distance c.closings d.closings s.closings
+          (subst (λ (cs : List Chain). AreClosings cs settings.close_distance d.closings) (sym chains) t.closings)
+
+      joined_here : AreJoined c.chains c.closings d.joined
+      joined_here = subst (λ (cs : List Chain). AreJoined cs c.closings d.joined) (sym chains) (subst (λ (x : Closings). AreJoined d.chains x d.joined) (sym closings) t.joined)
+
+      joined : c.joined ≡ d.joined
+      joined = joined_one c.chains settings.close_distance c.closings s.closings c.joined d.joined s.joined joined_here
+
+      sorted : c.sorted ≡ d.sorted
+      sorted = sorted_one c.joined.rings c.sorted d.sorted s.sorted (subst (λ (x : Joined). IsSorted x.rings d.sorted) (sym joined) t.sorted)
+
+      land : c.land ≡ d.land
+      land = land_one c.sorted.kept c.land d.land s.land (subst (λ (x : Sorted). IsLandOf x.kept d.land) (sym sorted) t.land)
+
+-- ---- the whole
+whole_same : (v w : Whole) → v.written ≡ w.written → v.ended ≡ w.ended → v ≡ w
+whole_same v w p q = λ i. record { written = p i; ended = q i }
+
+module _ (one : (settings : CoastlineSettings) (objects : List Object) (c d : Coast) → IsCoast settings objects c → IsCoast settings objects d → c ≡ d) (kinds : LinesHaveKinds) (line : CoastLineIsOne)
+    (polygons : PolygonsAreOne) (water_one : WaterIsOne) where
+  pub coastline_one : (settings : CoastlineSettings) (objects : List Object) (v w : Whole) → IsCoastline settings objects v → IsCoastline settings objects w → v ≡ w
+  coastline_one settings objects v w s t =
+      whole_same v w (s.written ∙ sent ∙ sym t.written) (s.ended ∙ ap (λ (c : Coast). ending_of (coast_lines c)) coast ∙ sym t.ended)
+    where
+      coast : s.coast ≡ t.coast
+      coast = one settings objects s.coast t.coast s.right t.right
+
+      land : s.land ≡ t.land
+      land =
+          land_polygons_one polygons (has_land settings.polygons) s.coast.land.edges s.right.land.edges.sided s.land t.land s.land_right
+          (subst (λ (c : Coast). AreLand (has_land settings.polygons) c.land.edges t.land) (sym coast) t.land_right)
+
+      water : s.water ≡ t.water
+      water =
+          water_polygons_one polygons water_one (has_water settings.polygons) s.coast.land.edges s.water t.water s.water_right
+          (subst (λ (c : Coast). AreWater (has_water settings.polygons) c.land.edges t.water) (sym coast) t.water_right)
+
+      report : s.report ≡ t.report
+      report =
+          printed_one line (coast_lines s.coast) (kinds settings objects s.coast s.right) s.report t.report s.printed
+          (subst (λ (c : Coast). ArePrinted (coast_lines c) t.report) (sym coast) t.printed)
+
+      sent : all_sent s.land s.water s.report ≡ all_sent t.land t.water t.report
+      sent =
+          ap (λ l. all_sent l s.water s.report) land ∙ ap (λ l. all_sent t.land l s.report) water ∙ ap (λ l. all_sent t.land t.water l) report

@@ -1,0 +1,4 @@
+pub mod PolygonsOne
+pub mod PrintedOne
+pub mod CoastOne
+pub mod CoastThere

@@ -1,0 +1,24 @@
+-- The polygons of land and of water are one list each.
+use Rattle.std.proofs.Common.{Bool, List, false, subst, sym, true, ◌∙◌, ◌≡◌}
+use Rattle.osm_geom.specs.declared.edge.Edge.{Edge}
+use Rattle.osm_nest.specs.declared.polygon.Polygon.{Polygon}
+use Rattle.plane_edges.specs.Sided.{IsSided}
+use Rattle.coast_sides.specs.OnenessLaws.{WaterIsOne}
+use Rattle.coast_sides.specs.Water.{segments_along}
+use Rattle.job_coastline.specs.Coastline.{AreLand, AreWater}
+use Rattle.job_coastline.specs.Pieces.{ArePolygons}
+use Rattle.one_area.specs.Laws.{PolygonsAreOne}
+
+module _ (one : PolygonsAreOne) where
+  polygons_one : (edges : List Edge) → IsSided edges → (m n : List Polygon) → ArePolygons edges m → ArePolygons edges n → m ≡ n
+  polygons_one edges sided m n a b = one edges sided a.rings b.rings a.cut b.cut m n a.nested b.nested
+
+  pub land_polygons_one : (asked : Bool) (edges : List Edge) → IsSided edges → (m n : List Polygon) → AreLand asked edges m → AreLand asked edges n → m ≡ n
+  land_polygons_one true edges sided m n a b = polygons_one edges sided m n a b
+  land_polygons_one false edges sided m n a b = a ∙ sym b
+
+  pub water_polygons_one : WaterIsOne → (asked : Bool) (land : List Edge) (m n : List Polygon) → AreWater asked land m → AreWater asked land n → m ≡ n
+  water_polygons_one water true land m n a b =
+      let q = water (segments_along land) a.0 b.0 a.1 b.1 in
+      polygons_one a.0 a.1.sided m n a.2 (subst (λ (es : List Edge). ArePolygons es n) (sym q) b.2)
+  water_polygons_one water false land m n a b = a ∙ sym b

@@ -1,0 +1,69 @@
+//! What a coastline job is to write is a function of its settings and of the objects of its input: it is
+//! there, and it is one.
+//!
+//! There is no code to run here. The contract of each function is a law about the definitions of
+//! `job_coastline`.
+#![tactic(auto)]
+
+ghost use Rattle.one_coast.specs.Laws.{CoastExists, CoastIsOne, CoastlineExists, CoastlineIsOne};
+
+use coast_join::{
+    chains_are_determined, chains_exist, closings_are_determined, closings_exist, coast_ways_exist,
+    joined_exists, joined_is_determined,
+};
+use coast_sides::{
+    land_exists, land_is_one, sorting_exists, sorting_is_one, water_exists, water_is_one,
+};
+use job_coastline::lines_have_kinds;
+use one_area::polygons_are_one;
+use osm_nest::{nesting_exists, rings_may_be_nested};
+use osm_report::{coast_line_exists, coast_line_is_one};
+use osm_rings::ring_list_of_edges_exists;
+
+/// What comes of the coastline ways of objects is one thing alone: chains, closings, rings, what is
+/// sorted out, and land.
+pub fn coast_is_one()
+    ensures { CoastIsOne }
+{
+    chains_are_determined();
+    closings_are_determined();
+    joined_is_determined();
+    sorting_is_one();
+    land_is_one();
+}
+
+/// So what a coastline job is to write, and how it is to end, is one thing alone.
+pub fn coastline_is_one()
+    ensures { CoastlineIsOne }
+{
+    coast_is_one();
+    lines_have_kinds();
+    coast_line_is_one();
+    polygons_are_one();
+    water_is_one();
+}
+
+/// Where no two coastline ways have one id, there is what comes of them.
+pub fn coast_exists()
+    ensures { CoastExists }
+{
+    coast_ways_exist();
+    chains_exist();
+    closings_exist();
+    joined_exists();
+    sorting_exists();
+    land_exists();
+}
+
+/// And there is something that a coastline job is to write.
+pub fn coastline_exists()
+    ensures { CoastlineExists }
+{
+    coast_exists();
+    lines_have_kinds();
+    coast_line_exists();
+    ring_list_of_edges_exists();
+    rings_may_be_nested();
+    nesting_exists();
+    water_exists();
+}
