@@ -6,6 +6,10 @@ mod area_keys;
 #[cfg(test)]
 mod areas;
 #[cfg(test)]
+mod coast_faults;
+#[cfg(test)]
+mod coast_runs;
+#[cfg(test)]
 mod faults;
 #[cfg(test)]
 mod formats;
