@@ -41,7 +41,7 @@ module _ (a b c : ℤ) where
   pub share : (sign (c -ℤ a) ≡ sign (c -ℤ b) → ⊥) → IsShare (unsigned_abs (c -ℤ a)) (unsigned_abs (b -ℤ a))
   share n = share-by (sign (c -ℤ a)) (sign (c -ℤ b)) (says (c -ℤ a)) (says (c -ℤ b)) n
 
-abbrev nat : ℕ → Split
+abbrev pub nat : ℕ → Split
 nat k = record { z = pos k; p = k; n = 0; is = omega arith }
 
 forward : (a : ℤ) (w r : ℕ) → (a +ℤ pos w) *ℤ pos (w + r) ≡ (a *ℤ pos r +ℤ (a +ℤ pos (w + r)) *ℤ pos w) *ℤ pos 1
@@ -188,7 +188,7 @@ stands-by k at a b w hk e n =
     let g = subst (λ s. agree s (sign (k *ℤ b -ℤ w)) (sign (k *ℤ at -ℤ w)) ≡ true) (plus-times k (at *ℤ pos 1 -ℤ b) hk ∙ sym e) (agree-sum (k *ℤ (at *ℤ pos 1 -ℤ b)) (k *ℤ b -ℤ w) (k *ℤ at -ℤ w) (moved-order k at b w)) in
     stand (sign (at *ℤ pos 1 -ℤ a)) (sign (k *ℤ a -ℤ w)) (sign (k *ℤ b -ℤ w)) (sign (k *ℤ at -ℤ w)) h g n
 
-located-is : (s : Seg) (p : Point) → is_on (OfSeg s) p ≡ true → is_off (whole_of p) (scaled_edge (pos (den_of p)) (edge_of s)) ≡ false
+pub located-is : (s : Seg) (p : Point) → is_on (OfSeg s) p ≡ true → is_off (whole_of p) (scaled_edge (pos (den_of p)) (edge_of s)) ≡ false
 unfolding is_on
 located-is s p h = not-true-out (is_off (whole_of p) (scaled_edge (pos (den_of p)) (edge_of s))) h
 

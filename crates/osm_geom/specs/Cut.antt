@@ -1,15 +1,17 @@
 -- Cut lines: where points stand against them.
-use Rattle.std.specs.Prelude.{pos, ◌*ℤ◌, ◌-ℤ◌}
-use Rattle.plane.specs.Sign.{Sign, negated, sign}
+use Rattle.std.specs.Prelude.{true, pos, ◌*ℤ◌, ◌-ℤ◌, ◌≡◌}
+use Rattle.plane.specs.Sign.{Null, Sign, negated, sign}
 use Rattle.osm_geom.specs.declared.cut.Axis.{Axis}
 use Rattle.osm_geom.specs.declared.cut.Axis.TheVariants.{X, Y}
 use Rattle.osm_geom.specs.declared.cut.Cut.{Cut}
 use Rattle.osm_geom.specs.declared.cut.Side.{Side}
 use Rattle.osm_geom.specs.declared.cut.Side.TheVariants.{Low, High}
 use Rattle.osm_geom.specs.declared.edge.Carrier.{Carrier}
-use Rattle.osm_geom.specs.declared.edge.Carrier.TheVariants.{Vertical, Horizontal}
+use Rattle.osm_geom.specs.declared.edge.Carrier.TheVariants.{OfSeg, Vertical, Horizontal}
 use Rattle.osm_lattice.specs.declared.frac.Frac.{Frac}
+use Rattle.osm_lattice.specs.declared.seg.Seg.{Seg}
 use Rattle.osm_geom.specs.declared.point.Point.{Point}
+use Rattle.osm_geom.specs.Carrier.{is_on}
 use Rattle.osm_geom.specs.Point.{Fraction, x_of, y_of}
 
 -- a number as a coordinate
@@ -40,3 +42,7 @@ carrier_by Y cut = Horizontal cut.at
 
 abbrev pub carrier_of_cut : Cut → Carrier
 carrier_of_cut cut = carrier_by cut.axis cut
+
+-- p is the only point of the segment that is on the line
+abbrev pub IsOnlyMeeting : Seg → Cut → Point → Type 0
+IsOnlyMeeting s cut p = (q : Point) → is_on (OfSeg s) q ≡ true → cut_order cut q ≡ Null → q ≡ p

@@ -1,4 +1,5 @@
 pub mod Carrier
+pub mod Coordinate
 pub mod Cut
 pub mod Dir
 pub mod Edge

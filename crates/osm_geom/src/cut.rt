@@ -4,14 +4,14 @@ ghost use Rattle.std.specs.Prelude.{◌≡◌, ◌≢◌, ◌≤◌, ◌-◌, �
 ghost use Rattle.plane.specs.Sign.{Null, sign};
 ghost use Rattle.osm_lattice.specs.Bounds.{IsLatitude, IsLongitude};
 ghost use Rattle.osm_geom.specs.Carrier.{is_on};
-ghost use Rattle.osm_geom.specs.Cut.{cut_order, fraction};
+ghost use Rattle.osm_geom.specs.Cut.{IsOnlyMeeting, cut_order, fraction};
 ghost use Rattle.osm_lattice.specs.OrderLaws.{ordering_of};
 ghost use Rattle.osm_geom.specs.Point.{x_of, y_of, whole};
 ghost use Rattle.osm_geom.specs.declared.edge.Carrier.TheVariants.{OfSeg};
 ghost use Rattle.osm_geom.specs.declared.point.Point.TheVariants.{Lattice};
 
+use crate::coordinate::{Coordinate, coordinate_at};
 use crate::point::{Part, Point};
-use crate::point_order::{x_ratio, y_ratio};
 use crate::ratio::Ratio;
 use osm_lattice::{Frac, Loc, Seg, Share, between};
 use std::cmp::Ordering;
@@ -43,10 +43,9 @@ pub struct Cut {
 pub fn compare_to_cut(p: &Point, cut: Cut) -> Ordering
     ensures { result ≡ ordering_of (cut_order cut p.now) }
 {
-    let at = Ratio::of_whole(cut.at);
-    match cut.axis {
-        Axis::X => x_ratio(*p).compare(at),
-        Axis::Y => y_ratio(*p).compare(at),
+    match coordinate_at(p, cut.axis) {
+        Coordinate::Whole(n) => n.cmp(&cut.at),
+        Coordinate::OfPart(x) => Ratio::of_part(x).compare(Ratio::of_whole(cut.at)),
     }
 }
 
@@ -138,11 +137,12 @@ fn point_with_y(s: Seg, d: i32) -> Point
     point_above(number_at(s.a.x, s.b.x, share_between(s.a.y, s.b.y, d)), d)
 }
 
-/// The point in which a segment meets a cut line that it isn't parallel to.
+/// The one point in which a segment meets a cut line that it isn't parallel to: in lowest terms, and whole where it is a location.
 pub fn cut_point(s: Seg, cut: Cut) -> Point
     requires { cut_order cut (Lattice s.a) ≢ cut_order cut (Lattice s.b) }
     ensures on_segment { is_on (OfSeg s) result ≡ true }
     ensures on_line { cut_order cut result ≡ Null }
+    ensures alone { IsOnlyMeeting s cut result }
 {
     match cut.axis {
         Axis::X => point_with_x(s, cut.at),

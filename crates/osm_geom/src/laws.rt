@@ -1,4 +1,5 @@
-//! Laws of the orders of points, of edges and of directions. Each function has an empty body; its contract is the law.
+//! Laws of the orders of points, of edges and of directions, and of floors. Each function has an empty body; its contract is the law.
+ghost use Rattle.osm_geom.specs.Coordinate.{CeilingIsLeast, FloorIsGreatest};
 ghost use Rattle.osm_geom.specs.TotalOrders.{PointOrderIsTotal, PointOrderTellsApart, OrderAboveReverses, OrderAboveIsTransitive, OrderAboveTiesAlike, OrderAboveTellsLinesApart, ClockwiseOrderIsTotal, ClockwiseOrderTellsApart};
 
 /// The order of `compare_points` is total, and `Equal` for one point alone.
@@ -20,4 +21,11 @@ pub fn order_above_is_total()
 pub fn clockwise_order_is_total()
     ensures total { ClockwiseOrderIsTotal }
     ensures apart { ClockwiseOrderTellsApart }
+{}
+
+/// The floor of a fraction is the greatest whole number that is at most the fraction, its ceiling the least that is
+/// at least it.
+pub fn floors_are_next()
+    ensures floor { FloorIsGreatest }
+    ensures ceiling { CeilingIsLeast }
 {}

@@ -2,7 +2,10 @@
 //! one coordinate need not be whole, their orders, and cut lines. Locations and segments are those of `osm_lattice`.
 #![tactic(auto)]
 
+mod coordinate;
 mod cut;
+#[cfg(test)]
+mod cut_tests;
 mod dir;
 mod edge;
 mod edge_dir;
@@ -18,12 +21,15 @@ mod ratio;
 mod span;
 mod turning;
 
+pub use coordinate::{ceiling_at, floor_at};
 pub use cut::{Axis, Cut, Side, compare_to_cut, cut_point};
 pub use dir::Dir;
 pub use edge::{Carrier, Edge};
 pub use edge_lists::{Edges, Points};
 pub use just_above::compare_just_above;
-pub use laws::{clockwise_order_is_total, order_above_is_total, point_order_is_total};
+pub use laws::{
+    clockwise_order_is_total, floors_are_next, order_above_is_total, point_order_is_total,
+};
 pub use osm_lattice::{
     Frac, Ids, Kind, Loc, Locs, Path, Seg, Segs, conflict, conflicts_are_symmetric,
     conflicts_are_told_by_points, meeting, meetings_exist, orders_are_exact, orient, overlap,

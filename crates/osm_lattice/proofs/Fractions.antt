@@ -1,6 +1,7 @@
 -- Every quotient of whole numbers is that of a fraction in lowest terms.
 use Rattle.std.proofs.Common.{◌≡◌, ℕ, zero, suc, ◌*◌, ◌/◌, ◌%◌, ◌≤◌, ℤ, pos, ◌*ℤ◌, unsigned_abs, int_div, arith, refl, subst}
 use Rattle.std.specs.Int.{IsGcd}
+use Rattle.std.proofs.Math.Nat.{div-le_self}
 use Rattle.std.proofs.lemmas.Nat.{le-div}
 use Rattle.std.proofs.lemmas.Nat.Gcd.{IsGcd-from_zero, IsGcd-from_mod}
 use Prim.Native.Nat.{◌∣◌}
@@ -23,6 +24,7 @@ gcd_by (suc fuel) a (suc b) h =
 pub record FracOf (num : ℤ) (den : ℕ) : Type 0 where
   pub frac : Frac
   pub value : frac.num *ℤ pos den ≡ num *ℤ pos frac.den
+  pub at_most : frac.den ≤ den
 
 pub frac_of : (num : ℤ) (den : ℕ) → 1 ≤ den → FracOf num den
 frac_of num den some =
@@ -38,6 +40,7 @@ frac_of num den some =
         lowest = λ d in_num in_den. low d (subst (λ n. d ∣ n) (unsigned_abs-int_div num g) in_num) in_den;
       };
       value = same_fraction num den g common.is.0 common.is.1;
+      at_most = div-le_self den g;
     }
   where
     at_least : (den g : ℕ) → g ≤ den → 1 * g ≤ den

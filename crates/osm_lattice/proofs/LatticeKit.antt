@@ -4,6 +4,7 @@ pub use Rattle.osm_lattice.proofs.CommonPoints.{clear_by}
 pub use Rattle.osm_lattice.proofs.CrossingMeets.{on_first}
 pub use Rattle.osm_lattice.proofs.Exact.{Is, from_i64, from_unsigned, given, held_is, held_within, minus, minus_fits, plus, plus_fits, times, times_fits}
 pub use Rattle.osm_lattice.proofs.Factors.{cancel_factor, some, zero_other}
+pub use Rattle.osm_lattice.proofs.Fractions.{FracOf, frac_of}
 pub use Rattle.osm_lattice.proofs.LocationOrder.{equal-null, int_cmp-is, is_lt-plus, less-plus, loc_cmp-is, loc_total, ordering_of-then, rising_edge, seg_total}
 pub use Rattle.osm_lattice.proofs.LowestTerms.{frac_same}
 pub use Rattle.osm_lattice.proofs.MeetingBounds.{alike, apart_where_on, on_segment_in}
