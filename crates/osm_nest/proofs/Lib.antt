@@ -16,6 +16,7 @@ pub mod Listing
 mod LoneRing
 mod MultipliedRings
 mod Nearest
+mod NestedCover
 mod NestedKinds
 pub mod NestedRings
 mod NestingExists

@@ -36,7 +36,7 @@ begun-by : (r : List Edge) (rs : List (List Edge)) (f : List Edge) (others : Lis
 begun-by r rs f others t b (inl e) h = (r, inl refl, subst (IsFromLeast r) (sym e) t)
 begun-by r rs f others t b (inr i) h = let a = h i in (a.0, inr a.1, a.2)
 
-begun-from : (rs bs : List (List Edge)) → AreFromLeast rs bs → (b : List Edge) → In b bs → (g : List Edge) × In g rs × IsFromLeast g b
+pub begun-from : (rs bs : List (List Edge)) → AreFromLeast rs bs → (b : List Edge) → In b bs → (g : List Edge) × In g rs × IsFromLeast g b
 begun-from [] bs h b i = absurd (subst (In b) h i)
 begun-from (r ∷ rs) bs h b i = begun-by r rs h.0 h.1 h.3 b (subst (In b) h.2 i) (begun-from rs h.1 h.4 b)
 
@@ -69,7 +69,7 @@ module _ (rs : List (List Edge)) (are : AreRings rs) where
       (m, factor-some K d m (common_is_common (all_edges rs)).some e, e)
 
   -- so it does for the rings of the polygons
-  divides : (ps : List Polygon) → ArePolygonsOf rs ps → (r : List Edge) → In r (rings_of ps) → rings.Divides rs r
+  pub divides : (ps : List Polygon) → ArePolygonsOf rs ps → (r : List Edge) → In r (rings_of ps) → rings.Divides rs r
   divides ps of r i =
       let f = λ (r : List Edge). bit (not (fits r)) in
       let none : total f rs ≡ 0 = total_none f rs (λ x j. ap (λ b. bit (not b)) (fits-in x j)) in

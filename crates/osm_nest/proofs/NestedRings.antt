@@ -145,7 +145,7 @@ common-is : (es : List Edge) → common_den es ≡ product dens es
 common-is [] = refl
 common-is (e ∷ es) = ap (λ n. den_of e.from * den_of e.to * n) (common-is es)
 
-all-sum : (f : Edge → ℕ) (rs : List (List Edge)) → total f (all_edges rs) ≡ total (λ r. sum_by f r) rs
+pub all-sum : (f : Edge → ℕ) (rs : List (List Edge)) → total f (all_edges rs) ≡ total (λ r. sum_by f r) rs
 all-sum f [] = refl
 all-sum f (r ∷ rs) = let a = total-++ f r (all_edges rs) in let b = total-is f r in let c = all-sum f rs in omega arith
 

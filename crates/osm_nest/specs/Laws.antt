@@ -1,14 +1,16 @@
 -- What may be nested, as a statement.
-use Rattle.std.specs.Prelude.{All, List, true, ◌≡◌}
+use Rattle.std.specs.Prelude.{All, List, true, ℤ, ◌≡◌}
+use Rattle.plane.specs.Vector.{Vector}
 use Rattle.osm_geom.specs.declared.edge.Edge.{Edge}
 use Rattle.osm_nest.specs.declared.polygon.Polygon.{Polygon}
 use Rattle.osm_nest.specs.Beside.{is_around}
+use Rattle.osm_nest.specs.Cover.{AreSided, CoverAsRings}
 use Rattle.osm_nest.specs.Nested.{AreNested, HasKinds}
 use Rattle.osm_nest.specs.Outer.{AreConflictFree, IsAnchorOf}
-use Rattle.osm_nest.specs.RingLists.{AreRings}
+use Rattle.osm_nest.specs.RingLists.{AreRings, all_edges}
 use Rattle.osm_geom.specs.WholeSegment.{IsWholeSegment}
 use Rattle.osm_rings.specs.RingList.{AreRingsOf}
-use Rattle.plane_edges.specs.Sided.{IsSided}
+use Rattle.plane_edges.specs.Sided.{IsSided, count_at}
 
 -- the rings of a sided list of edges are rings to be nested
 abbrev pub RingsMayBeNested : Type 0
@@ -36,3 +38,15 @@ IsAroundInners polygon = All (λ (inner : List Edge). (anchor : Edge) → IsAnch
 
 abbrev pub NestedAreAround : Type 0
 NestedAreAround = (rs : List (List Edge)) (polygons : List Polygon) → AreRings rs → AreNested rs polygons → All IsAroundInners polygons
+
+-- the edges of each polygon of nested rings are sided
+abbrev pub NestedAreSided : Type 0
+NestedAreSided = (rs : List (List Edge)) (polygons : List Polygon) → AreRings rs → AreNested rs polygons → AreSided polygons
+
+-- and at every point one polygon covers it where the parity of the rings is odd there, and none where it is even
+abbrev pub NestedCoverAsRings : Type 0
+NestedCoverAsRings = (rs : List (List Edge)) (polygons : List Polygon) → AreRings rs → AreNested rs polygons → CoverAsRings rs polygons
+
+-- the rings that a list of edges is cut into count as the list, at every point
+abbrev pub RingsCountAsEdges : Type 0
+RingsCountAsEdges = (es : List Edge) (rs : List (List Edge)) → AreRingsOf es rs → (q : ℤ) (p : Vector) → count_at q p (all_edges rs) ≡ count_at q p es

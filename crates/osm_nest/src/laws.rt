@@ -1,5 +1,5 @@
 //! Laws of nesting. Each function has an empty body; its contract is the law.
-ghost use Rattle.osm_nest.specs.Laws.{NestedAreAround, NestedHaveKinds, NestingExists, RingsAreClear, RingsMayBeNested, RingsRunAlongSegments};
+ghost use Rattle.osm_nest.specs.Laws.{NestedAreAround, NestedAreSided, NestedCoverAsRings, NestedHaveKinds, NestingExists, RingsAreClear, RingsCountAsEdges, RingsMayBeNested, RingsRunAlongSegments};
 
 use osm_rings::rings_do_not_cross;
 
@@ -26,4 +26,12 @@ pub fn nesting_exists()
 pub fn nested_have_kinds()
     ensures kinds { NestedHaveKinds }
     ensures around { NestedAreAround }
+{}
+
+/// The edges of each polygon of nested rings are sided, and at every point exactly one polygon covers it where the parity of the
+/// rings is odd there, and none where it is even. That parity is that of the list of edges which was cut into the rings.
+pub fn nested_cover_as_rings()
+    ensures sided { NestedAreSided }
+    ensures cover { NestedCoverAsRings }
+    ensures edges { RingsCountAsEdges }
 {}

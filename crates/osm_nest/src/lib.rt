@@ -17,6 +17,8 @@ mod swept_enclosers;
 mod tests;
 
 pub use grouping::nest;
-pub use laws::{nested_have_kinds, nesting_exists, rings_are_clear, rings_may_be_nested};
+pub use laws::{
+    nested_cover_as_rings, nested_have_kinds, nesting_exists, rings_are_clear, rings_may_be_nested,
+};
 pub use outer::is_outer;
 pub use polygon::{Polygon, Polygons};
