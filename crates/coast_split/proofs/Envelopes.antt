@@ -1,6 +1,5 @@
 -- The envelope of a list: its points lie in it, and where all points lie between two numbers so does the envelope.
-use Rattle.std.proofs.Common.{Bool, List, [], ap, arith, cond, false, get_or, inl, inr, length, take, ◌+◌, ◌++◌, pos, negsuc, refl, subst, sym, true, ℕ, ℤ, ◌*ℤ◌, ◌+ℤ◌, ◌-ℤ◌, ◌<◌, ◌∙◌, ◌∷◌, ◌≡◌, ◌≤◌, ◌≤ℤ◌, ◌<ℤ◌}
-use Rattle.std.specs.Int.{int_div_euclid}
+use Rattle.std.proofs.Common.{Bool, List, [], arith, cond, false, inl, inr, pos, negsuc, refl, subst, sym, true, ℕ, ℤ, ◌*ℤ◌, ◌-ℤ◌, ◌∷◌, ◌≡◌, ◌≤◌, ◌≤ℤ◌}
 use Rattle.std.proofs.lemmas.Int.{ints}
 use Rattle.plane.specs.Sign.{Minus, Null, Plus, Sign, is_minus, sign}
 use Rattle.lists.specs.Member.{In}
@@ -9,60 +8,12 @@ use Rattle.osm_geom.specs.declared.cut.Axis.TheVariants.{X, Y}
 use Rattle.osm_geom.specs.declared.edge.Edge.{Edge}
 use Rattle.osm_geom.specs.declared.point.Point.{Point}
 use Rattle.osm_geom.specs.Cut.{coordinate_of}
+use Rattle.osm_geom.specs.Coordinate.{AtLeast, AtMost, ceiling_of, floor_of}
 use Rattle.osm_geom.specs.Point.{Fraction}
-use Rattle.coast_split.specs.SplitTree.{ceiling_of, floor_of, greater, high_from, high_of, lesser, low_from, low_of}
-use Rattle.plane.proofs.SignKit.{lift, same, ◌⊞◌, ◌⊟◌, ◌⊠◌, plus-is, plus-times, says-at, sign-pos}
-use Rattle.osm_geom.proofs.GeometryKit.{x_den-some, y_den-some}
-use Rattle.coast_split.proofs.Lists.{next-taken}
+use Rattle.coast_split.specs.SplitTree.{greater, high_from, high_of, lesser, low_from, low_of}
+use Rattle.plane.proofs.SignKit.{lift, same, ◌⊟◌, ◌⊠◌, says-at}
+use Rattle.osm_geom.proofs.GeometryKit.{ceiling-from, ceiling-is, floor-from, floor-is, x_den-some, y_den-some}
 use Rattle.lists.proofs.ListsKit.{least_trans}
-
--- ---- fractions and whole numbers
--- a whole number is at most a fraction, and a fraction at most a whole number
-abbrev pub AtLeast : ℤ → Fraction → Type 0
-AtLeast a f = (a *ℤ pos f.den) ≤ℤ f.num
-
-abbrev pub AtMost : Fraction → ℤ → Type 0
-AtMost f b = f.num ≤ℤ (b *ℤ pos f.den)
-
-pub floor-below : (z : ℤ) (k : ℕ) → 1 ≤ k → (int_div_euclid z (pos k) *ℤ pos k) ≤ℤ z
-floor-below (pos a) k h = omega (arith, ints)
-floor-below (negsuc a) k h = omega (arith, ints)
-
-pub floor-above : (z : ℤ) (k : ℕ) → 1 ≤ k → z <ℤ (int_div_euclid z (pos k) *ℤ pos k +ℤ pos k)
-floor-above (pos a) k h = omega (arith, ints)
-floor-above (negsuc a) k h = omega (arith, ints)
-
-factor-out : (k q a : ℤ) → (q *ℤ k +ℤ k) -ℤ a *ℤ k ≡ k *ℤ ((q +ℤ pos 1) -ℤ a)
-factor-out k q a = let k' = lift k in let q' = lift q in let a' = lift a in same ((q' ⊠ k' ⊞ k') ⊟ a' ⊠ k') (k' ⊠ ((q' ⊞ lift (pos 1)) ⊟ a')) (omega arith)
-
--- a whole number that is at most the fraction is at most its floor
-floor-most : (a z : ℤ) (k : ℕ) → 1 ≤ k → (a *ℤ pos k) ≤ℤ z → a ≤ℤ int_div_euclid z (pos k)
-floor-most a z k h g =
-    let q = int_div_euclid z (pos k) in
-    let u = floor-above z k h in
-    let p : sign ((q *ℤ pos k +ℤ pos k) -ℤ a *ℤ pos k) ≡ Plus = (plus-is _).1 (omega (arith, ints)) in
-    let r : sign ((q +ℤ pos 1) -ℤ a) ≡ Plus = sym (plus-times (pos k) ((q +ℤ pos 1) -ℤ a) (sign-pos k h)) ∙ ap sign (sym (factor-out (pos k) q a)) ∙ p in
-    let s = (plus-is _).0 r in omega (arith, ints)
-
-pub floor-is : (f : Fraction) → 1 ≤ f.den → AtLeast (floor_of f) f
-floor-is f h = floor-below f.num f.den h
-
-pub floor-from : (a : ℤ) (f : Fraction) → 1 ≤ f.den → AtLeast a f → a ≤ℤ floor_of f
-floor-from a f h g = floor-most a f.num f.den h g
-
-turned : (b k : ℤ) → (pos 0 -ℤ b) *ℤ k ≡ pos 0 -ℤ b *ℤ k
-turned b k = let b' = lift b in let k' = lift k in same ((lift (pos 0) ⊟ b') ⊠ k') (lift (pos 0) ⊟ b' ⊠ k') (omega arith)
-
-pub ceiling-is : (f : Fraction) → 1 ≤ f.den → AtMost f (ceiling_of f)
-ceiling-is f h =
-    let q = int_div_euclid (pos 0 -ℤ f.num) (pos f.den) in
-    let a = floor-below (pos 0 -ℤ f.num) f.den h in let t = turned q (pos f.den) in omega (arith, ints)
-
-pub ceiling-from : (b : ℤ) (f : Fraction) → 1 ≤ f.den → AtMost f b → ceiling_of f ≤ℤ b
-ceiling-from b f h g =
-    let t = turned b (pos f.den) in
-    let m : ((pos 0 -ℤ b) *ℤ pos f.den) ≤ℤ (pos 0 -ℤ f.num) = omega (arith, ints) in
-    let a = floor-most (pos 0 -ℤ b) (pos 0 -ℤ f.num) f.den h m in omega (arith, ints)
 
 -- ---- the lesser and the greater of two
 lesser-by : (a b : ℤ) (s : Sign) → sign (a -ℤ b) ≡ s → ((cond (is_minus s) a b) ≤ℤ a) × ((cond (is_minus s) a b) ≤ℤ b)
@@ -203,23 +154,3 @@ module _ (axis : Axis) where
         low-bound a (floor_of (coordinate_of axis e.from)) (e ∷ es) (floor-from a (coordinate_of axis e.from) (den-of axis e.from) g.0.least) (λ d i. ((h d i).0.least, (h d i).1.least)),
         high-bound b (ceiling_of (coordinate_of axis e.from)) (e ∷ es) (ceiling-from b (coordinate_of axis e.from) (den-of axis e.from) g.0.most) (λ d i. ((h d i).0.most, (h d i).1.most)),
       )
-
--- ---- one edge more
-low-more : (axis : Axis) (a : ℤ) (es : List Edge) (e : Edge) → low_from axis a (es ++ e ∷ []) ≡ lesser (lesser (low_from axis a es) (floor_of (coordinate_of axis e.from))) (floor_of (coordinate_of axis e.to))
-low-more axis a [] e = refl
-low-more axis a (d ∷ es) e = low-more axis (lesser (lesser a (floor_of (coordinate_of axis d.from))) (floor_of (coordinate_of axis d.to))) es e
-
-high-more : (axis : Axis) (a : ℤ) (es : List Edge) (e : Edge) → high_from axis a (es ++ e ∷ []) ≡ greater (greater (high_from axis a es) (ceiling_of (coordinate_of axis e.from))) (ceiling_of (coordinate_of axis e.to))
-high-more axis a [] e = refl
-high-more axis a (d ∷ es) e = high-more axis (greater (greater a (ceiling_of (coordinate_of axis d.from))) (ceiling_of (coordinate_of axis d.to))) es e
-
-module _ (axis : Axis) (a : ℤ) (es : List Edge) (i : ℕ) (e : Edge) (is : e ≡ get_or es i e) (inside : i < length es) (l x y m n : ℤ) where
-  pub low-step : l ≡ low_from axis a (take i es) → x ≡ floor_of (coordinate_of axis e.from) → y ≡ floor_of (coordinate_of axis e.to) → m ≡ lesser l x → n ≡ lesser m y → n ≡ low_from axis a (take (i + 1) es)
-  low-step hl hx hy hm hn =
-      hn ∙ ap (λ z. lesser z y) (hm ∙ ap (λ z. lesser z x) hl ∙ ap (lesser (low_from axis a (take i es))) hx) ∙ ap (lesser (lesser (low_from axis a (take i es)) (floor_of (coordinate_of axis e.from)))) hy
-      ∙ sym (low-more axis a (take i es) e) ∙ ap (low_from axis a) (sym (next-taken es i e is inside))
-
-  pub high-step : l ≡ high_from axis a (take i es) → x ≡ ceiling_of (coordinate_of axis e.from) → y ≡ ceiling_of (coordinate_of axis e.to) → m ≡ greater l x → n ≡ greater m y → n ≡ high_from axis a (take (i + 1) es)
-  high-step hl hx hy hm hn =
-      hn ∙ ap (λ z. greater z y) (hm ∙ ap (λ z. greater z x) hl ∙ ap (greater (high_from axis a (take i es))) hx) ∙ ap (greater (greater (high_from axis a (take i es)) (ceiling_of (coordinate_of axis e.from)))) hy
-      ∙ sym (high-more axis a (take i es) e) ∙ ap (high_from axis a) (sym (next-taken es i e is inside))

@@ -18,7 +18,7 @@ use Rattle.osm_geom.specs.declared.edge.Edge.{Edge}
 use Rattle.plane_edges.specs.Multiple.{common_den, whole_edges}
 use Rattle.plane_edges.specs.Sided.{IsSided, count_at, signed_count_at}
 use Rattle.coast_split.specs.Half.{IsHalf, line_by, line_of}
-use Rattle.coast_split.specs.SplitTree.{Covers, IsOffCuts, IsOffList, IsTree, Middle, SomeCovers, Tree, high_cut, leaves_of, low_cut, middle_of}
+use Rattle.coast_split.specs.SplitTree.{Covers, IsOffCuts, IsOffList, IsTree, SomeCovers, Tree, high_cut, leaves_of, low_cut, middle_of}
 use Rattle.coast_split.specs.SplitTree.Tree.{Fork, Whole}
 use Rattle.plane.proofs.SignKit.{lift, same, ◌⊞◌, ◌⊟◌, ◌⊠◌, agree-sum, plus-times, says-at, plus-not-minus, difference_turned}
 use Rattle.plane.proofs.PlaneKit.{down_seen, up_seen}
@@ -74,7 +74,7 @@ either-by : (axis : Axis) (q c : ℤ) (o : ℕ) (p : Vector) → sign q ≡ Plus
 either-by X q c o p hq h = ap sign (high-x q (c -ℤ pos o) p.x p.y) ∙ in-high q p.x c o hq (sym (ap sign (low-x q (c +ℤ pos o) p.x p.y)) ∙ h)
 either-by Y q c o p hq h = ap sign (high-y q (c -ℤ pos o) p.x p.y) ∙ in-high q p.y c o hq (sym (ap sign (low-y q (c +ℤ pos o) p.x p.y)) ∙ h)
 
-pub either-half : (x : Middle) (o : ℕ) (q : ℤ) (p : Vector) → sign q ≡ Plus → side (scaled_line q (line_of (low_cut x o) Low)) p ≡ Minus → side (scaled_line q (line_of (high_cut x o) High)) p ≡ Plus
+pub either-half : (x : Cut) (o : ℕ) (q : ℤ) (p : Vector) → sign q ≡ Plus → side (scaled_line q (line_of (low_cut x o) Low)) p ≡ Minus → side (scaled_line q (line_of (high_cut x o) High)) p ≡ Plus
 either-half x o q p hq h = either-by x.axis q x.at o p hq h
 
 -- ---- one half at a point off its line

@@ -1,9 +1,12 @@
 mod Crossings
 mod CutLines
+mod Depths
 mod Envelopes
+mod HalvesExist
 mod InPlane
 mod LeafCover
 mod LineOrders
+mod LinePoints
 mod Lists
 mod MadeHalves
 mod OneHalf
@@ -12,4 +15,6 @@ mod SidedHalves
 mod Sizes
 mod SortedEnds
 mod Splitting
+mod Trees
 mod Walks
+mod WholeEnvelopes

@@ -1,5 +1,6 @@
 -- The halves of a list that is split are smaller.
-use Rattle.std.proofs.Common.{List, [], ap, arith, inl, not, pos, refl, true, ℕ, ℤ, ◌*ℤ◌, ◌+ℤ◌, ◌-ℤ◌, ◌*◌, ◌∙◌, ◌∷◌, ◌≡◌, ◌≤◌, ◌≤ℤ◌, ◌<ℤ◌, unsigned_abs}
+use Rattle.std.proofs.Common.{List, [], ap, arith, inl, negsuc, not, pos, refl, true, ℕ, ℤ, ◌*ℤ◌, ◌+ℤ◌, ◌-ℤ◌, ◌*◌, ◌∙◌, ◌∷◌, ◌≡◌, ◌≤◌, ◌≤ℤ◌, ◌<ℤ◌, unsigned_abs}
+use Rattle.std.specs.Int.{int_div_euclid}
 use Rattle.std.proofs.lemmas.Int.{ints}
 use Rattle.plane.specs.Sign.{Minus, Null, Plus, Sign, is_minus, is_plus, negated, sign}
 use Rattle.osm_geom.specs.declared.cut.Axis.{Axis}
@@ -9,6 +10,7 @@ use Rattle.osm_geom.specs.declared.cut.Side.{Side}
 use Rattle.osm_geom.specs.declared.cut.Side.TheVariants.{Low, High}
 use Rattle.osm_geom.specs.declared.edge.Edge.{Edge}
 use Rattle.osm_geom.specs.declared.point.Point.{Point}
+use Rattle.osm_geom.specs.Coordinate.{AtLeast, AtMost}
 use Rattle.osm_geom.specs.Cut.{coordinate_of}
 use Rattle.osm_geom.specs.Point.{IsInWorld, x_of, y_of}
 use Rattle.osm_lattice.proofs.LatticeKit.{signed}
@@ -17,7 +19,7 @@ use Rattle.coast_split.specs.SplitTree.{high_cut, high_of, is_split, longer_of, 
 use Rattle.std.proofs.lemmas.Bool.{and_parts}
 use Rattle.plane.proofs.SignKit.{lift, same, ◌⊟◌, ◌⊠◌, plus-times, says-at, sign-pos}
 use Rattle.osm_geom.proofs.GeometryKit.{order_at}
-use Rattle.coast_split.proofs.Envelopes.{AtLeast, AtMost, IsIn, den-of, envelope-in, floor-above, floor-below, in-envelope}
+use Rattle.coast_split.proofs.Envelopes.{IsIn, den-of, envelope-in, in-envelope}
 use Rattle.coast_split.proofs.Shrinks.{half-holds, least-back, most-back}
 use Rattle.lists.proofs.ListsKit.{least_trans}
 
@@ -41,7 +43,7 @@ width-some axis (e ∷ es) =
     cancel (low_of axis (e ∷ es)) (high_of axis (e ∷ es)) f.den (den-of axis e.from) (least_trans (low_of axis (e ∷ es) *ℤ pos f.den) f.num (high_of axis (e ∷ es) *ℤ pos f.den) i.least i.most)
 
 -- ---- a half is no wider on any axis, and narrower on that of the cut
-no-wider : (cut : Cut) (s : Side) (es hs : List Edge) → IsHalf cut s es hs → (axis : Axis) → width_of axis hs ≤ℤ width_of axis es
+pub no-wider : (cut : Cut) (s : Side) (es hs : List Edge) → IsHalf cut s es hs → (axis : Axis) → width_of axis hs ≤ℤ width_of axis es
 no-wider cut s es [] h axis = let w = width-some axis es in omega (arith, ints)
 no-wider cut s es (e ∷ hs) h axis =
     let b = half-holds cut s axis (low_of axis es) (high_of axis es) es (e ∷ hs) (in-envelope axis es) h in
@@ -58,27 +60,35 @@ kept-plus Minus h = refl
 high-least : (axis : Axis) (at : ℤ) (p : Point) → not (is_minus (negated (order_at axis at p))) ≡ true → AtLeast at (coordinate_of axis p)
 high-least axis at p h = least-back _ _ (order_at axis at p) refl (kept-plus (order_at axis at p) h)
 
-low-narrow : (axis : Axis) (at : ℤ) (es : List Edge) (e : Edge) (hs : List Edge) → IsHalf (record { axis = axis; at = at }) Low es (e ∷ hs) → (low_of axis es ≤ℤ low_of axis (e ∷ hs)) × (high_of axis (e ∷ hs) ≤ℤ at)
+pub low-narrow : (axis : Axis) (at : ℤ) (es : List Edge) (e : Edge) (hs : List Edge) → IsHalf (record { axis = axis; at = at }) Low es (e ∷ hs) → (low_of axis es ≤ℤ low_of axis (e ∷ hs)) × (high_of axis (e ∷ hs) ≤ℤ at)
 low-narrow axis at es e hs h =
     let b = half-holds (record { axis = axis; at = at }) Low axis (low_of axis es) (high_of axis es) es (e ∷ hs) (in-envelope axis es) h in
     envelope-in axis (low_of axis es) at e hs (λ d i. let g = b d i in
     (record { least = g.0.0.least; most = low-most axis at d.from g.0.1 }, record { least = g.1.0.least; most = low-most axis at d.to g.1.1 }))
 
-high-narrow : (axis : Axis) (at : ℤ) (es : List Edge) (e : Edge) (hs : List Edge) → IsHalf (record { axis = axis; at = at }) High es (e ∷ hs) → (at ≤ℤ low_of axis (e ∷ hs)) × (high_of axis (e ∷ hs) ≤ℤ high_of axis es)
+pub high-narrow : (axis : Axis) (at : ℤ) (es : List Edge) (e : Edge) (hs : List Edge) → IsHalf (record { axis = axis; at = at }) High es (e ∷ hs) → (at ≤ℤ low_of axis (e ∷ hs)) × (high_of axis (e ∷ hs) ≤ℤ high_of axis es)
 high-narrow axis at es e hs h =
     let b = half-holds (record { axis = axis; at = at }) High axis (low_of axis es) (high_of axis es) es (e ∷ hs) (in-envelope axis es) h in
     envelope-in axis at (high_of axis es) e hs (λ d i. let g = b d i in
     (record { least = high-least axis at d.from g.0.1; most = g.0.0.most }, record { least = high-least axis at d.to g.1.1; most = g.1.0.most }))
 
 -- ---- the numbers
+pub middle-below : (z : ℤ) → (int_div_euclid z (pos 2) *ℤ pos 2) ≤ℤ z
+middle-below (pos a) = omega (arith, ints)
+middle-below (negsuc a) = omega (arith, ints)
+
+pub middle-above : (z : ℤ) → z <ℤ (int_div_euclid z (pos 2) *ℤ pos 2 +ℤ pos 2)
+middle-above (pos a) = omega (arith, ints)
+middle-above (negsuc a) = omega (arith, ints)
+
 wide-of : (w : ℤ) (k : ℕ) → not (is_minus (sign (w -ℤ pos k))) ≡ true → pos k ≤ℤ w
 wide-of w k h = most-back w (pos k) (sign (w -ℤ pos k)) refl h
 
 pub wide : (m o : ℕ) (es : List Edge) → is_split m o es ≡ true → (pos (8 * o) ≤ℤ width_of (longer_of es) es) × (pos 4 ≤ℤ width_of (longer_of es) es)
 wide m o es h =
     let w = width_of (longer_of es) es in
-    let a = and_parts _ _ h in let b = and_parts _ _ a.1 in let c = and_parts _ _ b.1 in
-    (wide-of w (8 * o) c.0, wide-of w 4 c.1)
+    let a = and_parts _ _ h in let b = and_parts _ _ a.1 in
+    (wide-of w (8 * o) b.0, wide-of w 4 b.1)
 
 low-number : (lo hi c l h : ℤ) (o : ℕ) → (c *ℤ pos 2) ≤ℤ (lo +ℤ hi) → pos (8 * o) ≤ℤ (hi -ℤ lo) → pos 4 ≤ℤ (hi -ℤ lo) → lo ≤ℤ l → h ≤ℤ (c +ℤ pos o) → (h -ℤ l) <ℤ (hi -ℤ lo)
 low-number lo hi c l h o f a b g k = omega (arith, ints)
@@ -100,13 +110,13 @@ module _ (m o : ℕ) (es : List Edge) (split : is_split m o es ≡ true) where
   low-less [] h = let w = wide m o es split in let b = w.1 in omega (arith, ints)
   low-less (e ∷ hs) h =
       let w = wide m o es split in let n = low-narrow A ((middle_of es).at +ℤ pos o) es e hs h in
-      low-number lo hi (middle_of es).at (low_of A (e ∷ hs)) (high_of A (e ∷ hs)) o (floor-below (lo +ℤ hi) 2 (omega arith)) w.0 w.1 n.0 n.1
+      low-number lo hi (middle_of es).at (low_of A (e ∷ hs)) (high_of A (e ∷ hs)) o (middle-below (lo +ℤ hi)) w.0 w.1 n.0 n.1
 
   high-less : (hs : List Edge) → IsHalf (high_cut (middle_of es) o) High es hs → width_of A hs <ℤ width_of A es
   high-less [] h = let w = wide m o es split in let b = w.1 in omega (arith, ints)
   high-less (e ∷ hs) h =
       let w = wide m o es split in let n = high-narrow A ((middle_of es).at -ℤ pos o) es e hs h in
-      high-number lo hi (middle_of es).at (low_of A (e ∷ hs)) (high_of A (e ∷ hs)) o (floor-above (lo +ℤ hi) 2 (omega arith)) w.0 w.1 n.0 n.1
+      high-number lo hi (middle_of es).at (low_of A (e ∷ hs)) (high_of A (e ∷ hs)) o (middle-above (lo +ℤ hi)) w.0 w.1 n.0 n.1
 
   sum-by : (hs : List Edge) (axis : Axis) → width_of axis hs <ℤ width_of axis es → ((b : Axis) → width_of b hs ≤ℤ width_of b es) → size_of hs <ℤ size_of es
   sum-by hs X h g = let y = g Y in omega (arith, ints)

@@ -1,6 +1,6 @@
 -- A walk along the line, one end after the other.
 use Rattle.std.proofs.Common.{All, Bool, List, [], ap, arith, cond, false, get_or, length, not, pos, refl, subst, sym, take, true, ℕ, ℤ, ◌*ℤ◌, ◌-ℤ◌, ◌++◌, ◌+◌, ◌<◌, ◌∙◌, ◌∷◌, ◌≡◌, ◌||◌}
-use Rattle.std.proofs.lemmas.List.{length-take-le, take_more}
+use Rattle.std.proofs.lemmas.List.{append-nil, append_assoc, length-take-le, take_more}
 use Rattle.plane.specs.Sign.{Minus, Null, Plus, Sign, is_plus, sign}
 use Rattle.osm_geom.specs.declared.cut.Axis.{Axis}
 use Rattle.osm_geom.specs.declared.cut.Axis.TheVariants.{X, Y}
@@ -17,7 +17,7 @@ use Rattle.osm_geom.specs.Cut.{carrier_by, carrier_of_cut, cut_order}
 use Rattle.osm_geom.specs.Point.{den_of, point_order, whole_of}
 use Rattle.plane.specs.Scale.{scaled_point}
 use Rattle.coast_split.specs.Half.{IsLink, NextLink, line_order, runs_forward}
-use Rattle.coast_split.specs.Walk.{AddsLink, IsEnd, IsWalk, is_skipped, last_of}
+use Rattle.coast_split.specs.Walk.{AddsLink, AddsWalk, IsEnd, IsWalk, is_skipped, last_of}
 use Rattle.plane.proofs.PlaneKit.{order-self-null}
 use Rattle.lists.proofs.ListsKit.{int_eq-same}
 use Rattle.plane.proofs.SignKit.{null-zero}
@@ -130,3 +130,19 @@ module _ (cut : Cut) (s : Side) (n : ℕ) (first : Point) (rest : List Point) (i
         sym (ap (last_of first) t ∙ last-more first (take i rest) w),
         subst (IsEnd cut) (sym is) (ends i w inside),
       )
+
+-- ---- the same behind another list
+link-behind : (cut : Cut) (z w : Point) (b : Bool) (old ls now new : List Edge) → now ≡ old ++ ls → AddsLink cut z w b now new → (ms : List Edge) × AddsLink cut z w b ls ms × (new ≡ old ++ ms)
+link-behind cut z w true old ls now new e a = (ls, refl, a ∙ e)
+link-behind cut z w false old ls now new e a = (ls ++ a.0 ∷ [], (a.0, a.1, refl), a.2 ∙ ap (λ l. l ++ a.0 ∷ []) e ∙ append_assoc old ls (a.0 ∷ []))
+
+pub added-none : (cut : Cut) (s : Side) (n : ℕ) (first : Point) (old : List Edge) → AddsWalk cut s n first [] old old
+added-none cut s n first old = ([], refl, sym (append-nil old))
+
+pub added-step : (cut : Cut) (s : Side) (n : ℕ) (first : Point) (rest : List Point) (i : ℕ) (old now new : List Edge) (before w : Point) →
+    AddsWalk cut s n first (take i rest) old now → before ≡ last_of first (take i rest) → w ≡ get_or rest i w → i < length rest →
+    AddsLink cut before w (is_skipped cut s n (i + 1) before w) now new → All (IsEnd cut) rest →
+    AddsWalk cut s n first (take (i + 1) rest) old new × (w ≡ last_of first (take (i + 1) rest)) × IsEnd cut w
+added-step cut s n first rest i old now new before w so_far b is inside a ends =
+    let r = link-behind cut before w (is_skipped cut s n (i + 1) before w) old so_far.0 now new so_far.2 a in
+    let t = walk-step cut s n first rest i so_far.0 r.0 before w so_far.1 b is inside r.1 ends in ((r.0, t.0, r.2), t.1, t.2)

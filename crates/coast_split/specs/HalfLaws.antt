@@ -1,37 +1,32 @@
 -- The laws of halves of exact edges, as statements.
-use Rattle.std.specs.Prelude.{All, List, true, ℕ, pos, ℤ, ◌<ℤ◌, ◌↔◌, ◌≡◌}
+use Rattle.std.specs.Prelude.{List, true, ℕ, ℤ, ◌<ℤ◌, ◌↔◌, ◌≡◌}
 use Rattle.lists.specs.Member.{In}
-use Rattle.plane.specs.RayCrossing.{IsOffEdge}
-use Rattle.plane.specs.Scale.{scaled_point}
-use Rattle.plane.specs.Sign.{Minus, Plus, sign}
+use Rattle.plane.specs.Sign.{Plus, sign}
 use Rattle.plane.specs.Vector.{Vector}
-use Rattle.winding.specs.ScaledEdges.{scaled_edges}
-use Rattle.halving.specs.Line.{scaled_line, side}
 use Rattle.osm_geom.specs.declared.cut.Cut.{Cut}
 use Rattle.osm_geom.specs.declared.cut.Side.{Side}
 use Rattle.osm_geom.specs.declared.cut.Side.TheVariants.{Low, High}
 use Rattle.osm_geom.specs.declared.edge.Edge.{Edge}
-use Rattle.plane_edges.specs.Multiple.{common_den, whole_edges}
-use Rattle.plane_edges.specs.Sided.{IsSided, signed_count_at}
-use Rattle.coast_split.specs.Half.{IsHalf, line_of}
+use Rattle.plane_edges.specs.Sided.{IsSided}
+use Rattle.coast_split.specs.Half.{IsHalf}
+use Rattle.coast_split.specs.HalfCount.{CountsAsKept, CountsNothingBeyond}
 use Rattle.coast_split.specs.SplitTree.{Covers, IsOffCuts, IsOffList, IsTree, SomeCovers, Tree, high_cut, is_split, leaves_of, low_cut, middle_of, size_of}
 
 -- the half of a sided list is sided
 abbrev pub HalfIsSided : Type 0
 HalfIsSided = (cut : Cut) (s : Side) (es hs : List Edge) → IsHalf cut s es hs → IsSided es → IsSided hs
 
--- at points p.x / q, p.y / q strictly on the kept side and off the list it has the list's signed count
+-- strictly on the kept side it has the list's signed count
 abbrev pub HalfKeepsCount : Type 0
-HalfKeepsCount =
-    (cut : Cut) (s : Side) (es hs : List Edge) → IsHalf cut s es hs → IsSided es → (q : ℤ) → sign q ≡ Plus → (p : Vector) →
-    side (scaled_line q (line_of cut s)) p ≡ Plus →
-    All (IsOffEdge (scaled_point (pos (common_den es)) p)) (scaled_edges q (whole_edges es)) → signed_count_at q p hs ≡ signed_count_at q p es
+HalfKeepsCount = (cut : Cut) (s : Side) (es hs : List Edge) → IsHalf cut s es hs → IsSided es → CountsAsKept cut s es hs
 
--- at points strictly on the other side it has 0
+-- strictly on the other side it has 0
 abbrev pub HalfIsEmptyBeyond : Type 0
-HalfIsEmptyBeyond =
-    (cut : Cut) (s : Side) (es hs : List Edge) → IsHalf cut s es hs → IsSided es → (q : ℤ) → sign q ≡ Plus → (p : Vector) →
-    side (scaled_line q (line_of cut s)) p ≡ Minus → signed_count_at q p hs ≡ pos 0
+HalfIsEmptyBeyond = (cut : Cut) (s : Side) (es hs : List Edge) → IsHalf cut s es hs → IsSided es → CountsNothingBeyond cut s hs
+
+-- each list, sided or not, has a half on each side of each line
+abbrev pub HalvesExist : Type 0
+HalvesExist = (cut : Cut) (s : Side) (es : List Edge) → (hs : List Edge) × IsHalf cut s es hs
 
 -- at each point off the list and off the cuts some leaf covers it exactly where the list does
 abbrev pub LeafCover : Type 0

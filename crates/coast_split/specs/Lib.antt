@@ -1,5 +1,9 @@
+pub mod Envelope
 pub mod Half
+pub mod HalfCount
 pub mod HalfLaws
 pub mod Place
 pub mod SplitTree
+pub mod Splitting
+pub mod TreeLaws
 pub mod Walk

@@ -1,5 +1,5 @@
 -- How a list of edges is split: the tree of its halves, and its leaves in order.
-use Rattle.std.specs.Prelude.{All, Bool, List, [], cond, length, not, false, true, ℕ, pos, ℤ, ◌%◌, ◌&&◌, ◌++◌, ◌*◌, ◌+ℤ◌, ◌-ℤ◌, ◌+◌, ◌<◌, ◌≤◌, ◌∷◌, ◌≡◌}
+use Rattle.std.specs.Prelude.{All, Bool, List, [], cond, length, map, max, not, suc, false, true, ℕ, pos, ℤ, ◌%◌, ◌&&◌, ◌++◌, ◌*◌, ◌+ℤ◌, ◌-ℤ◌, ◌<◌, ◌∷◌, ◌≡◌}
 use Rattle.std.specs.Int.{int_div_euclid}
 use Rattle.plane.specs.Sign.{Null, is_minus, is_plus, sign}
 use Rattle.plane.specs.RayCrossing.{IsOffEdge}
@@ -13,19 +13,14 @@ use Rattle.osm_geom.specs.declared.cut.Axis.TheVariants.{X, Y}
 use Rattle.osm_geom.specs.declared.cut.Cut.{Cut}
 use Rattle.osm_geom.specs.declared.cut.Side.TheVariants.{Low, High}
 use Rattle.osm_geom.specs.declared.edge.Edge.{Edge}
+use Rattle.osm_geom.specs.Coordinate.{ceiling_of, floor_of}
 use Rattle.osm_geom.specs.Cut.{coordinate_of}
-use Rattle.osm_geom.specs.Point.{Fraction}
 use Rattle.plane_edges.specs.Multiple.{common_den, whole_edges}
 use Rattle.plane_edges.specs.Sided.{count_at}
+use Rattle.coast_split.specs.declared.leaves.Leaf.{Leaf}
 use Rattle.coast_split.specs.Half.{IsHalf, line_of}
 
 -- ---- the envelope
-abbrev pub floor_of : Fraction → ℤ
-floor_of f = int_div_euclid f.num (pos f.den)
-
-abbrev pub ceiling_of : Fraction → ℤ
-ceiling_of f = pos 0 -ℤ int_div_euclid (pos 0 -ℤ f.num) (pos f.den)
-
 abbrev pub lesser : ℤ → ℤ → ℤ
 lesser a b = cond (is_minus (sign (a -ℤ b))) a b
 
@@ -57,30 +52,29 @@ abbrev pub longer_of : List Edge → Axis
 longer_of es = cond (is_minus (sign (width_of X es -ℤ width_of Y es))) Y X
 
 -- ---- the cut
--- where a list is cut, before the overlap
-pub record Middle : Type 0 where
-  pub axis : Axis
-  pub at : ℤ
+abbrev pub middle_by : Axis → List Edge → Cut
+middle_by axis es = record { axis = axis; at = int_div_euclid (low_of axis es +ℤ high_of axis es) (pos 2) }
 
-abbrev pub middle_of : List Edge → Middle
-middle_of es =
-    let axis = longer_of es in record { axis = axis; at = int_div_euclid (low_of axis es +ℤ high_of axis es) (pos 2) }
+-- where a list is cut, before the overlap: the middle of the longer side
+abbrev pub middle_of : List Edge → Cut
+middle_of es = middle_by (longer_of es) es
 
 -- a list with more than m edges, where m isn't 0; a leaf with more is large
 abbrev pub is_large : ℕ → List Edge → Bool
 is_large m es = not (is_plus (sign (pos 1 -ℤ pos m))) && is_plus (sign (pos (length es) -ℤ pos m))
 
--- with m as the maximum of points and o as the overlap
-abbrev pub is_split : ℕ → ℕ → List Edge → Bool
-is_split m o es =
-    not (is_plus (sign (pos 1 -ℤ pos m)))
-    && (is_plus (sign (pos (length es) -ℤ pos m))
-    && (not (is_minus (sign (width_of (longer_of es) es -ℤ pos (8 * o)))) && not (is_minus (sign (width_of (longer_of es) es -ℤ pos 4)))))
+-- a side of at least 8 * o and at least 4 units can be cut with the overlap o
+abbrev pub is_wide : ℕ → ℤ → Bool
+is_wide o width = not (is_minus (sign (width -ℤ pos (8 * o)))) && not (is_minus (sign (width -ℤ pos 4)))
 
-abbrev pub low_cut : Middle → ℕ → Cut
+-- with m as the maximum of points and o as the overlap, a list of more than m edges is cut where its longer side is wide
+abbrev pub is_split : ℕ → ℕ → List Edge → Bool
+is_split m o es = is_large m es && is_wide o (width_of (longer_of es) es)
+
+abbrev pub low_cut : Cut → ℕ → Cut
 low_cut x o = record { axis = x.axis; at = x.at +ℤ pos o }
 
-abbrev pub high_cut : Middle → ℕ → Cut
+abbrev pub high_cut : Cut → ℕ → Cut
 high_cut x o = record { axis = x.axis; at = x.at -ℤ pos o }
 
 -- ---- the tree: a list that is cut has its low half and its high half
@@ -98,6 +92,27 @@ IsTree m o es (Fork low high s t) =
 abbrev pub leaves_of : List Edge → Tree → List (List Edge)
 leaves_of es Whole = es ∷ []
 leaves_of es (Fork low high s t) = leaves_of low s ++ leaves_of high t
+
+-- the longest chain of cuts, each in a half that the one before left
+abbrev pub depth_of : Tree → ℕ
+depth_of Whole = 0
+depth_of (Fork low high s t) = suc (max (depth_of s) (depth_of t))
+
+-- a leaf with more than m edges is large
+abbrev pub leaf_of : ℕ → List Edge → Leaf
+leaf_of m es = record { edges = es; large = is_large m es }
+
+-- the leaves of the split tree, in order
+pub record AreLeaves (m o : ℕ) (es : List Edge) (ls : List Leaf) : Type 0 where
+  pub tree : Tree
+  pub is_tree : IsTree m o es tree
+  pub leaves : ls ≡ map (leaf_of m) (leaves_of es tree)
+
+-- the split tree has more leaves than most
+pub record HasMoreLeaves (m o most : ℕ) (es : List Edge) : Type 0 where
+  pub tree : Tree
+  pub is_tree : IsTree m o es tree
+  pub more : most < length (leaves_of es tree)
 
 -- ---- cover, at the point p.x / q, p.y / q
 abbrev pub Covers : ℤ → Vector → List Edge → Type 0
@@ -121,14 +136,3 @@ pub record SomeCovers (q : ℤ) (p : Vector) (leaves : List (List Edge)) : Type 
 -- both sides of the envelope together
 abbrev pub size_of : List Edge → ℤ
 size_of es = width_of X es +ℤ width_of Y es
-
--- the leaves ls, after those of old, are those of a split tree with no more than most leaves together
-pub record IsSplitOnto (m o most : ℕ) (es : List Edge) (old ls : List (List Edge)) : Type 0 where
-  pub tree : Tree
-  pub is_tree : IsTree m o es tree
-  pub leaves : ls ≡ old ++ leaves_of es tree
-  pub few : length ls ≤ most
-
--- each split tree has, with those of old, more than most leaves
-abbrev pub HasTooMany : ℕ → ℕ → ℕ → List Edge → ℕ → Type 0
-HasTooMany m o most es old = (t : Tree) → IsTree m o es t → most < old + length (leaves_of es t)

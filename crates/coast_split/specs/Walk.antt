@@ -48,6 +48,14 @@ abbrev pub AddsLink : Cut → Point → Point → Bool → List Edge → List Ed
 AddsLink cut z w true old new = new ≡ old
 AddsLink cut z w false old new = (e : Edge) × IsLink cut z w e × (new ≡ old ++ e ∷ [])
 
+-- the list with the edges of a walk from the first of n ends through those that follow
+abbrev pub AddsWalk : Cut → Side → ℕ → Point → List Point → List Edge → List Edge → Type 0
+AddsWalk cut side n z r old new = (ls : List Edge) × IsWalk cut side n 1 z r ls × (new ≡ old ++ ls)
+
+-- the list with the edges of the walk over a whole list
+abbrev pub AddsWalked : Cut → Side → List Point → List Edge → List Edge → Type 0
+AddsWalked cut side zs old new = (ls : List Edge) × AreWalked cut side zs ls × (new ≡ old ++ ls)
+
 -- an end on the line
 pub record IsEnd (cut : Cut) (p : Point) : Type 0 where
   pub on_line : cut_order cut p ≡ Null

@@ -1,66 +1,19 @@
 //! The envelope of a list of edges, and where it is cut.
-ghost use Rattle.std.specs.Prelude.{◌≡◌, ◌≤◌, ◌*◌, ◌-ℤ◌, pos, unsigned_abs};
+ghost use Rattle.std.specs.Prelude.{◌≡◌, ◌≤◌, ◌*◌, ◌+ℤ◌, ◌-ℤ◌, pos, unsigned_abs};
 ghost use Rattle.std.specs.Int.{int_div_euclid};
-ghost use Rattle.osm_geom.specs.Cut.{coordinate_of};
-ghost use Rattle.osm_geom.specs.Point.{IsInWorld};
-ghost use Rattle.coast_split.specs.SplitTree.{ceiling_of, floor_of, greater, high_of, lesser, low_of};
+ghost use Rattle.plane.specs.Sign.{is_minus, sign};
+ghost use Rattle.coast_split.specs.Envelope.{IsSmall, envelope_at, envelope_of, joined, longer_in, middle_in, width_in};
+ghost use Rattle.coast_split.specs.SplitTree.{greater, is_wide, lesser};
 
-use osm_geom::{Axis, Edge, Point};
+use osm_geom::{Axis, Edge, Point, ceiling_at, floor_at};
 
-/// The greatest whole number that is at most num / den.
-fn floor_div(num: i128, den: u64) -> i64
-    requires some { 1 ≤ den }
-    requires small { unsigned_abs num ≤ 1_800_000_000 * den }
-    ensures { result ≡ int_div_euclid num (pos den) }
-{
-    num.div_euclid(i128::from(den)) as i64
-}
-
-/// The least whole number that is at least num / den.
-fn ceiling_div(num: i128, den: u64) -> i64
-    requires some { 1 ≤ den }
-    requires small { unsigned_abs num ≤ 1_800_000_000 * den }
-    ensures { result ≡ pos 0 -ℤ int_div_euclid (pos 0 -ℤ num) (pos den) }
-{
-    0 - floor_div(0 - num, den)
-}
-
-/// The floor of a coordinate.
-fn floor_at(p: &Point, axis: Axis) -> i64
-    requires { IsInWorld p.now }
-    ensures { result ≡ floor_of (coordinate_of axis p.now) }
-{
-    match axis {
-        Axis::X => match p {
-            Point::Lattice(at) => floor_div(i128::from(at.x), 1),
-            Point::OnVertical { c, .. } => floor_div(i128::from(*c), 1),
-            Point::OnHorizontal { x, .. } => floor_div(x.frac.num, x.frac.den),
-        },
-        Axis::Y => match p {
-            Point::Lattice(at) => floor_div(i128::from(at.y), 1),
-            Point::OnVertical { y, .. } => floor_div(y.frac.num, y.frac.den),
-            Point::OnHorizontal { d, .. } => floor_div(i128::from(*d), 1),
-        },
-    }
-}
-
-/// The ceiling of a coordinate.
-fn ceiling_at(p: &Point, axis: Axis) -> i64
-    requires { IsInWorld p.now }
-    ensures { result ≡ ceiling_of (coordinate_of axis p.now) }
-{
-    match axis {
-        Axis::X => match p {
-            Point::Lattice(at) => ceiling_div(i128::from(at.x), 1),
-            Point::OnVertical { c, .. } => ceiling_div(i128::from(*c), 1),
-            Point::OnHorizontal { x, .. } => ceiling_div(x.frac.num, x.frac.den),
-        },
-        Axis::Y => match p {
-            Point::Lattice(at) => ceiling_div(i128::from(at.y), 1),
-            Point::OnVertical { y, .. } => ceiling_div(y.frac.num, y.frac.den),
-            Point::OnHorizontal { d, .. } => ceiling_div(i128::from(*d), 1),
-        },
-    }
+/// The least rectangle of whole coordinates in which a list of edges lies.
+#[derive(Clone, Copy)]
+pub(crate) struct Envelope {
+    pub low_x: i64,
+    pub high_x: i64,
+    pub low_y: i64,
+    pub high_y: i64,
 }
 
 /// The lesser of two numbers.
@@ -77,37 +30,109 @@ fn greater(a: i64, b: i64) -> i64
     if a < b { b } else { a }
 }
 
-/// Where the envelope begins on an axis.
-pub(crate) fn low_of(edges: &[Edge], axis: Axis) -> i64
-    ensures { result ≡ low_of axis edges.now }
+/// Whether one number is less than another.
+fn is_less(a: i64, b: i64) -> bool
+    ensures { result ≡ is_minus (sign (a -ℤ b)) }
 {
-    match edges.first() {
-        None => 0,
-        Some(first) => {
-            let mut low = floor_at(&first.from, axis);
-            for e in edges {
-                low = lesser(lesser(low, floor_at(&e.from, axis)), floor_at(&e.to, axis));
-            }
-            low
+    a < b
+}
+
+/// The whole number in the middle of two, the lesser of two such.
+fn between(a: i64, b: i64) -> i64
+    requires first { unsigned_abs a ≤ 1_800_000_000 }
+    requires second { unsigned_abs b ≤ 1_800_000_000 }
+    ensures value { result ≡ int_div_euclid (a +ℤ b) (pos 2) }
+    ensures small { unsigned_abs result ≤ 1_800_000_000 }
+{
+    (a + b).div_euclid(2)
+}
+
+/// The envelope of one point.
+fn envelope_at(p: &Point) -> Envelope
+    ensures { result ≡ envelope_at p.now }
+{
+    Envelope {
+        low_x: floor_at(p, Axis::X),
+        high_x: ceiling_at(p, Axis::X),
+        low_y: floor_at(p, Axis::Y),
+        high_y: ceiling_at(p, Axis::Y),
+    }
+}
+
+impl Envelope {
+    /// The least that holds both.
+    fn joined(self, other: Envelope) -> Envelope
+        ensures { result ≡ joined self other }
+    {
+        Envelope {
+            low_x: lesser(self.low_x, other.low_x),
+            high_x: greater(self.high_x, other.high_x),
+            low_y: lesser(self.low_y, other.low_y),
+            high_y: greater(self.high_y, other.high_y),
+        }
+    }
+
+    /// How long its side on an axis is.
+    pub(crate) fn width(&self, axis: Axis) -> i64
+        requires { IsSmall self.now }
+        ensures { result ≡ width_in axis self.now }
+    {
+        match axis {
+            Axis::X => self.high_x - self.low_x,
+            Axis::Y => self.high_y - self.low_y,
+        }
+    }
+
+    /// The axis of its longer side, x where both are equal.
+    pub(crate) fn longer(&self) -> Axis
+        requires { IsSmall self.now }
+        ensures { result ≡ longer_in self.now }
+    {
+        if is_less(self.width(Axis::X), self.width(Axis::Y)) {
+            Axis::Y
+        } else {
+            Axis::X
+        }
+    }
+
+    /// The middle of its side on an axis.
+    pub(crate) fn middle(&self, axis: Axis) -> i64
+        requires { IsSmall self.now }
+        ensures value { result ≡ middle_in axis self.now }
+        ensures small { unsigned_abs result ≤ 1_800_000_000 }
+    {
+        match axis {
+            Axis::X => between(self.low_x, self.high_x),
+            Axis::Y => between(self.low_y, self.high_y),
         }
     }
 }
 
-/// Where it ends.
-pub(crate) fn high_of(edges: &[Edge], axis: Axis) -> i64
-    ensures { result ≡ high_of axis edges.now }
+/// Whether a side is long enough to be cut.
+pub(crate) fn is_wide(width: i64, overlap: u32) -> bool
+    ensures { result ≡ is_wide overlap width }
 {
-    match edges.first() {
-        None => 0,
-        Some(first) => {
-            let mut high = ceiling_at(&first.from, axis);
-            for e in edges {
-                high = greater(
-                    greater(high, ceiling_at(&e.from, axis)),
-                    ceiling_at(&e.to, axis),
-                );
-            }
-            high
-        }
+    !is_less(width, 8 * i64::from(overlap)) && !is_less(width, 4)
+}
+
+/// The least rectangle of whole coordinates in which the edges lie, in one pass.
+pub(crate) fn envelope_of(edges: &[Edge]) -> Envelope
+    ensures value { result ≡ envelope_of edges.now }
+    ensures small { IsSmall result }
+{
+    let Some(first) = edges.first() else {
+        return Envelope {
+            low_x: 0,
+            high_x: 0,
+            low_y: 0,
+            high_y: 0,
+        };
+    };
+    let mut envelope = envelope_at(&first.from);
+    for e in edges {
+        envelope = envelope
+            .joined(envelope_at(&e.from))
+            .joined(envelope_at(&e.to));
     }
+    envelope
 }

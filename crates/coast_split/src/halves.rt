@@ -6,7 +6,8 @@ ghost use Rattle.osm_geom.specs.Cut.{carrier_of_cut};
 ghost use Rattle.osm_lattice.specs.OrderLaws.{ordering_of};
 ghost use Rattle.plane_edges.specs.Sided.{IsSided};
 ghost use Rattle.coast_split.specs.Half.{ArePortions, IsHalf, IsLink, line_order, runs_forward};
-ghost use Rattle.coast_split.specs.Walk.{AddsLink, AreSortedEnds, AreWalked, IsEnd, IsWalk, end_on, ends_on, is_skipped};
+ghost use Rattle.coast_split.specs.HalfCount.{CountsAsKept, CountsNothingBeyond};
+ghost use Rattle.coast_split.specs.Walk.{AddsLink, AddsWalk, AddsWalked, AreSortedEnds, IsEnd, end_on, ends_on, is_skipped};
 
 use crate::portion::portion;
 use osm_geom::{Axis, Carrier, Cut, Edge, Edges, Point, Side, compare_points, compare_to_cut};
@@ -14,10 +15,10 @@ use std::alloc::{AllocError as OutOfMemory, Global};
 use std::cmp::Ordering;
 
 /// The portions of those of the edges that have one.
-fn portions(alloc: Global, edges: &[Edge], cut: Cut, side: Side) -> Result<Vec<Edge>, OutOfMemory>
-    ensures { IfOk result (λ v. ArePortions cut side edges.now v.items) }
+fn portions(alloc: Global, edges: &[Edge], cut: Cut, side: Side) -> Result<Edges, OutOfMemory>
+    ensures { IfOk result (λ list. ArePortions cut side edges.now list) }
 {
-    let mut portions = Vec::new(alloc);
+    let mut portions = Edges::new(alloc);
     for e in edges {
         if let Some(t) = portion(e, cut, side) {
             portions.push(t)?;
@@ -115,7 +116,7 @@ fn is_skipped(z: Point, w: Point, passed: usize, count: usize, cut: Cut, side: S
 
 /// Adds the edge from an end to the next, if one stands there.
 fn push_link(
-    links: &mut Vec<Edge>,
+    edges: &mut Edges,
     z: Point,
     w: Point,
     passed: usize,
@@ -126,36 +127,36 @@ fn push_link(
     requires z_end { IsEnd cut z }
     requires w_end { IsEnd cut w }
     requires passed { passed ≤ count }
-    ensures { OnOk result (AddsLink cut z w (is_skipped cut side count passed z w) links.old.items
-        links.new.items) }
+    ensures { OnOk result (AddsLink cut z w (is_skipped cut side count passed z w) edges.old
+        edges.new) }
 {
     if !is_skipped(z, w, passed, count, cut, side) {
-        links.push(link(z, w, cut))?;
+        edges.push(link(z, w, cut))?;
     }
     Ok(())
 }
 
-/// The edges on the line from its first end on.
-fn links_from(
-    alloc: Global,
+/// Adds the edges on the line from its first end on.
+fn push_links_from(
+    edges: &mut Edges,
     first: Point,
     rest: &[Point],
     cut: Cut,
     side: Side,
-) -> Result<Vec<Edge>, OutOfMemory>
+) -> Result<(), OutOfMemory>
     requires first_end { IsEnd cut first }
     requires rest_ends { All (IsEnd cut) rest.now }
     requires small { length rest.now + 1 < 2 ^ 64 }
-    ensures { IfOk result (λ v. IsWalk cut side (length rest.now + 1) 1 first rest.now v.items) }
+    ensures { OnOk result (AddsWalk cut side (length rest.now + 1) first rest.now edges.old
+        edges.new) }
 {
-    let mut links = Vec::new(alloc);
     let count = rest.len() + 1;
     let mut before = first;
     for (place, &end) in rest.iter().enumerate() {
-        push_link(&mut links, before, end, place + 1, count, cut, side)?;
+        push_link(edges, before, end, place + 1, count, cut, side)?;
         before = end;
     }
-    Ok(links)
+    Ok(())
 }
 
 /// The same, as what a sort asks.
@@ -179,40 +180,30 @@ fn sorted_ends(
     Ok(ends)
 }
 
-/// The edges on the line.
-fn links(alloc: Global, ends: &[Point], cut: Cut, side: Side) -> Result<Vec<Edge>, OutOfMemory>
+/// Adds the edges on the line.
+fn push_links(edges: &mut Edges, ends: &[Point], cut: Cut, side: Side) -> Result<(), OutOfMemory>
     requires { All (IsEnd cut) ends.now }
-    ensures { IfOk result (λ v. AreWalked cut side ends.now v.items) }
+    ensures { OnOk result (AddsWalked cut side ends.now edges.old edges.new) }
 {
     match ends.split_first() {
-        None => Ok(Vec::new(alloc)),
-        Some((first, rest)) => links_from(alloc, *first, rest, cut, side),
+        None => Ok(()),
+        Some((first, rest)) => push_links_from(edges, *first, rest, cut, side),
     }
-}
-
-/// The edges of two lists, one after the other.
-fn joined(alloc: Global, parts: &[Edge], links: &[Edge]) -> Result<Edges, OutOfMemory>
-    ensures { IfOk result (λ list. list ≡ parts.now ++ links.now) }
-{
-    let mut edges = Edges::new(alloc);
-    for &e in parts {
-        edges.push(e)?;
-    }
-    for &e in links {
-        edges.push(e)?;
-    }
-    Ok(edges)
 }
 
 /// The half of a list of edges on one side of a cut line: the portions of its edges on that side, and edges on the
-/// line that close them, with the side on their left. It is sided.
+/// line that close them, with the side on their left.
+///
+/// It is sided. Strictly on the side and off the list it counts what the list counts, and strictly on the other side nothing.
 pub fn half(alloc: Global, edges: &Edges, cut: Cut, side: Side) -> Result<Edges, OutOfMemory>
     requires { IsSided edges.now }
     ensures half { IfOk result (λ hs. IsHalf cut side edges.now hs) }
     ensures sided { IfOk result (λ hs. IsSided hs) }
+    ensures kept { IfOk result (λ hs. CountsAsKept cut side edges.now hs) }
+    ensures beyond { IfOk result (λ hs. CountsNothingBeyond cut side hs) }
 {
-    let parts = portions(alloc, edges.as_slice(), cut, side)?;
-    let ends = sorted_ends(alloc, parts.as_slice(), cut, side)?;
-    let links = links(alloc, ends.as_slice(), cut, side)?;
-    Ok(joined(alloc, parts.as_slice(), links.as_slice())?)
+    let mut half = portions(alloc, edges.as_slice(), cut, side)?;
+    let ends = sorted_ends(alloc, half.as_slice(), cut, side)?;
+    push_links(&mut half, ends.as_slice(), cut, side)?;
+    Ok(half)
 }

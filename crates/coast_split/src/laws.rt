@@ -1,5 +1,6 @@
 //! What a half is to the list that it is cut from.
-ghost use Rattle.coast_split.specs.HalfLaws.{HalfIsSided, HalfKeepsCount, HalfIsEmptyBeyond, HalfIsOne, LeafCover, LeavesAreSided, SplitShrinks, TreeIsOne};
+ghost use Rattle.coast_split.specs.HalfLaws.{HalfIsSided, HalfKeepsCount, HalfIsEmptyBeyond, HalfIsOne, HalvesExist, LeafCover, LeavesAreSided, SplitShrinks, TreeIsOne};
+ghost use Rattle.coast_split.specs.TreeLaws.{SplitNarrows, SplitTreesAreShallow, SplitTreesExist};
 
 /// The half of a sided list is sided.
 pub fn half_of_sided_list_is_sided()
@@ -11,6 +12,11 @@ pub fn half_of_sided_list_is_sided()
 pub fn half_counts_as_list()
     ensures kept { HalfKeepsCount }
     ensures beyond { HalfIsEmptyBeyond }
+{}
+
+/// Each list has a half on each side of each line, whether or not there is memory for it.
+pub fn halves_exist()
+    ensures { HalvesExist }
 {}
 
 /// Leaf cover: however often a sided list is split, its leaves are sided, and at each point off the list and off the cut
@@ -25,4 +31,18 @@ pub fn halves_are_determined()
     ensures half { HalfIsOne }
     ensures tree { TreeIsOne }
     ensures shrinks { SplitShrinks }
+{}
+
+/// A list has a split tree, so that its leaves are there to be told of.
+pub fn split_trees_exist()
+    ensures { SplitTreesExist }
+{
+    halves_exist();
+}
+
+/// Each cut leaves halves that have at most five eighths of the longer side and one unit, and are no longer on the other. So
+/// no branch of a split tree has 120 cuts.
+pub fn split_trees_are_shallow()
+    ensures narrows { SplitNarrows }
+    ensures depth { SplitTreesAreShallow }
 {}

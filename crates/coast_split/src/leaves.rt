@@ -1,16 +1,18 @@
 //! Areas split into pieces.
-ghost use Rattle.std.specs.Prelude.{◌≡◌, ◌≤◌, ◌<◌, ◌+◌, ◌++◌, ◌∷◌, [], IfOk, IfErr, length, ℕ, ◌+ℤ◌, ◌-ℤ◌, pos, unsigned_abs};
-ghost use Rattle.std.specs.Int.{int_div_euclid};
-ghost use Rattle.plane.specs.Sign.{is_minus, is_plus, sign};
+ghost use Rattle.std.specs.Prelude.{◌≡◌, ◌≤◌, ◌<◌, ◌+◌, ◌++◌, ◌∷◌, [], All, IfOk, IfErr, OnOk, length, ℕ, ◌-ℤ◌, pos, unsigned_abs};
+ghost use Rattle.plane.specs.Sign.{is_plus, sign};
 ghost use Rattle.plane_edges.specs.Sided.{IsSided};
+ghost use Rattle.coast_split.specs.declared.leaves.Leaf.{Leaf};
 ghost use Rattle.coast_split.specs.declared.leaves.SplitError.TheVariants.{TooManyPieces, OutOfMemory};
-ghost use Rattle.coast_split.specs.Half.{IsHalf};
-ghost use Rattle.coast_split.specs.SplitTree.{HasTooMany, IsSplitOnto, high_cut, high_of, is_large, is_split, longer_of, low_cut, low_of, middle_of, width_of};
+ghost use Rattle.coast_split.specs.SplitTree.{AreLeaves, HasMoreLeaves, high_cut, is_large, leaf_of, low_cut};
+ghost use Rattle.coast_split.specs.Splitting.{HasTooMany, IsMiddle, IsSplitOnto};
 
-use crate::envelope::{high_of, low_of};
+use crate::envelope::{envelope_of, is_wide};
 use crate::halves::half;
-use osm_geom::{Axis, Cut, Edge, Edges, Side};
-use std::alloc::Global;
+use crate::laws::split_trees_exist;
+use osm_geom::{Cut, Edge, Edges, Side};
+use std::alloc::{AllocError, AllocFailed, Global};
+use std::mem;
 
 /// How areas are split.
 #[derive(Clone, Copy, Debug, PartialEq, Eq)]
@@ -24,97 +26,12 @@ pub struct Settings {
     pub ghost overlap_in: { overlap ≤ 100_000_000 },
 }
 
-/// Where the envelope begins, in the world.
-fn low_end(edges: &[Edge], axis: Axis) -> i64
-    ensures value { result ≡ low_of axis edges.now }
-    ensures small { unsigned_abs result ≤ 1_800_000_000 }
-{
-    low_of(edges, axis)
-}
-
-/// Where it ends.
-fn high_end(edges: &[Edge], axis: Axis) -> i64
-    ensures value { result ≡ high_of axis edges.now }
-    ensures small { unsigned_abs result ≤ 1_800_000_000 }
-{
-    high_of(edges, axis)
-}
-
-/// How long a side of the envelope is.
-fn width_of(edges: &[Edge], axis: Axis) -> i64
-    ensures value { result ≡ width_of axis edges.now }
-    ensures small { unsigned_abs result ≤ 3_600_000_000 }
-{
-    high_end(edges, axis) - low_end(edges, axis)
-}
-
-/// Whether one number is less than another.
-fn is_less(a: i64, b: i64) -> bool
-    ensures { result ≡ is_minus (sign (a -ℤ b)) }
-{
-    a < b
-}
-
-/// The axis of the longer side, x where both are equal.
-fn longer_of(edges: &[Edge]) -> Axis
-    ensures { result ≡ longer_of edges.now }
-{
-    if is_less(width_of(edges, Axis::X), width_of(edges, Axis::Y)) {
-        Axis::Y
-    } else {
-        Axis::X
-    }
-}
-
-/// The middle of a side.
-fn middle_at(edges: &[Edge], axis: Axis) -> i64
-    ensures value { result ≡ int_div_euclid (low_of axis edges.now +ℤ high_of axis edges.now)
-        (pos 2) }
-    ensures small { unsigned_abs result ≤ 1_800_000_000 }
-{
-    (low_end(edges, axis) + high_end(edges, axis)).div_euclid(2)
-}
-
-/// Where the low half ends.
-fn low_cut(edges: &[Edge], overlap: u32) -> Cut
-    requires { overlap ≤ 100_000_000 }
-    ensures { result ≡ low_cut (middle_of edges.now) overlap }
-{
-    let axis = longer_of(edges);
-    Cut {
-        axis,
-        at: (middle_at(edges, axis) + i64::from(overlap)) as i32,
-    }
-}
-
-/// Where the high half begins.
-fn high_cut(edges: &[Edge], overlap: u32) -> Cut
-    requires { overlap ≤ 100_000_000 }
-    ensures { result ≡ high_cut (middle_of edges.now) overlap }
-{
-    let axis = longer_of(edges);
-    Cut {
-        axis,
-        at: (middle_at(edges, axis) - i64::from(overlap)) as i32,
-    }
-}
-
-/// Whether one number of things is more than another.
-fn is_more(a: u64, b: u64) -> bool
-    ensures { result ≡ is_plus (sign (pos a -ℤ pos b)) }
-{
-    a > b
-}
-
-/// Whether the list is cut.
-fn is_split(edges: &[Edge], settings: &Settings) -> bool
-    ensures { result ≡ is_split settings.now.most_points settings.now.overlap edges.now }
-{
-    let width = width_of(edges, longer_of(edges));
-    !is_more(1, u64::from(settings.most_points))
-        && is_more(edges.len() as u64, u64::from(settings.most_points))
-        && !is_less(width, 8 * i64::from(settings.overlap))
-        && !is_less(width, 4)
+/// A list of edges that isn't cut further.
+#[derive(Debug, Drop)]
+pub struct Leaf {
+    pub edges: Edges,
+    /// Whether it has more edges than are wanted, and is too short to be cut.
+    pub large: bool,
 }
 
 /// Why an area was not split.
@@ -129,41 +46,107 @@ pub enum SplitError {
     OutOfMemory,
 }
 
-/// The half of a list, or its error.
-fn half_or(alloc: Global, edges: &Edges, cut: Cut, side: Side) -> Result<Edges, SplitError>
-    requires { IsSided edges.now }
-    ensures half { IfOk result (λ hs. IsHalf cut side edges.now hs) }
-    ensures sided { IfOk result (λ hs. IsSided hs) }
-    ensures memory { IfErr result (λ e. e ≡ OutOfMemory) }
+impl From<AllocError> for SplitError {
+    ghost from_gives = { λ _ e. e ≡ OutOfMemory };
+
+    /// Want of memory is an answer of its own.
+    fn from(_error: AllocError) -> Self {
+        SplitError::OutOfMemory
+    }
+}
+
+impl<T: Drop> From<AllocFailed<T>> for SplitError {
+    ghost from_gives = { λ _ e. e ≡ OutOfMemory };
+
+    /// Want of memory is an answer of its own; what was to be stored is dropped.
+    fn from(_failed: AllocFailed<T>) -> Self {
+        SplitError::OutOfMemory
+    }
+}
+
+/// Whether one number of things is more than another.
+fn is_more(a: u64, b: u64) -> bool
+    ensures { result ≡ is_plus (sign (pos a -ℤ pos b)) }
 {
-    match half(alloc, edges, cut, side) {
-        Ok(hs) => Ok(hs),
-        Err(_) => Err(SplitError::OutOfMemory),
+    a > b
+}
+
+/// Whether there are more edges than are wanted.
+fn is_large(edges: &[Edge], settings: &Settings) -> bool
+    ensures { result ≡ is_large settings.now.most_points edges.now }
+{
+    let most = u64::from(settings.most_points);
+    !is_more(1, most) && is_more(edges.len() as u64, most)
+}
+
+/// The middle of the longer side of a list that is cut; None for a leaf.
+fn middle_of(edges: &[Edge], settings: &Settings) -> Option<Cut>
+    ensures { IsMiddle settings.now.most_points settings.now.overlap edges.now result }
+{
+    if !is_large(edges, settings) {
+        return None;
+    }
+    let envelope = envelope_of(edges);
+    let axis = envelope.longer();
+    if !is_wide(envelope.width(axis), settings.overlap) {
+        return None;
+    }
+    Some(Cut {
+        axis,
+        at: envelope.middle(axis) as i32,
+    })
+}
+
+/// Where the low half ends.
+fn low_cut(middle: Cut, overlap: u32) -> Cut
+    requires middle { unsigned_abs middle.at ≤ 1_800_000_000 }
+    requires overlap { overlap ≤ 100_000_000 }
+    ensures { result ≡ low_cut middle overlap }
+{
+    Cut {
+        axis: middle.axis,
+        at: middle.at + overlap as i32,
+    }
+}
+
+/// Where the high half begins.
+fn high_cut(middle: Cut, overlap: u32) -> Cut
+    requires middle { unsigned_abs middle.at ≤ 1_800_000_000 }
+    requires overlap { overlap ≤ 100_000_000 }
+    ensures { result ≡ high_cut middle overlap }
+{
+    Cut {
+        axis: middle.axis,
+        at: middle.at - overlap as i32,
     }
 }
 
 /// One more leaf.
-fn push_leaf(leaves: &mut Vec<Edges>, edges: Edges, most: u64) -> Result<(), SplitError>
-    ensures leaf { IfOk result (λ _. (leaves.new.items ≡ leaves.old.items ++ (edges ∷ []))
-        × (length leaves.new.items ≤ most)) }
+fn push_leaf(leaves: &mut Vec<Leaf>, edges: Edges, settings: &Settings) -> Result<(), SplitError>
+    ensures leaf { IfOk result (λ _. (leaves.new.items ≡ leaves.old.items
+        ++ leaf_of settings.now.most_points edges ∷ [])
+        × (length leaves.new.items ≤ settings.now.most_leaves)) }
     ensures many { IfErr result (λ e. (m : ℕ) → e ≡ TooManyPieces m
-        → (m ≡ most) × (most < length leaves.old.items + 1)) }
+        → (m ≡ settings.now.most_leaves)
+        × (settings.now.most_leaves < length leaves.old.items + 1)) }
 {
-    if leaves.len() as u64 >= most {
-        return Err(SplitError::TooManyPieces { most });
+    if leaves.len() as u64 >= settings.most_leaves {
+        return Err(SplitError::TooManyPieces {
+            most: settings.most_leaves,
+        });
     }
-    match leaves.push(edges) {
-        Ok(()) => Ok(()),
-        Err(_) => Err(SplitError::OutOfMemory),
-    }
+    let large = is_large(edges.as_slice(), settings);
+    leaves.push(Leaf { edges, large })?;
+    Ok(())
 }
 
-/// Adds the leaves of a list.
+/// Adds the leaves of a list. The list goes before its high half is split: besides the leaves no more is held than the branch
+/// that is being cut.
 fn split_into(
     alloc: Global,
     edges: Edges,
     settings: &Settings,
-    leaves: &mut Vec<Edges>,
+    leaves: &mut Vec<Leaf>,
 ) -> Result<(), SplitError>
     requires { IsSided edges }
     ensures leaves { IfOk result (λ _. IsSplitOnto settings.now.most_points settings.now.overlap
@@ -172,47 +155,70 @@ fn split_into(
         → (m ≡ settings.now.most_leaves) × HasTooMany settings.now.most_points settings.now.overlap
         settings.now.most_leaves edges (length leaves.old.items)) }
 {
-    if !is_split(edges.as_slice(), settings) {
-        return push_leaf(leaves, edges, settings.most_leaves);
-    }
-    let low = half_or(
+    let Some(middle) = middle_of(edges.as_slice(), settings) else {
+        return push_leaf(leaves, edges, settings);
+    };
+    let low = half(alloc, &edges, low_cut(middle, settings.overlap), Side::Low)?;
+    split_into(alloc, low, settings, leaves)?;
+    let high = half(
         alloc,
         &edges,
-        low_cut(edges.as_slice(), settings.overlap),
-        Side::Low,
-    )?;
-    let high = half_or(
-        alloc,
-        &edges,
-        high_cut(edges.as_slice(), settings.overlap),
+        high_cut(middle, settings.overlap),
         Side::High,
     )?;
-    split_into(alloc, low, settings, leaves)?;
+    mem::drop(edges);
     split_into(alloc, high, settings, leaves)
 }
 
-/// Whether a list has more edges than are wanted; a leaf that has is one that could not be cut.
-pub fn is_large(edges: &Edges, settings: &Settings) -> bool
-    ensures { result ≡ is_large settings.now.most_points edges.now }
+/// The same edges again.
+fn copied(alloc: Global, edges: &[Edge]) -> Result<Edges, AllocError>
+    ensures { IfOk result (λ copy. copy ≡ edges.now) }
 {
-    !is_more(1, u64::from(settings.most_points))
-        && is_more(
-            edges.as_slice().len() as u64,
-            u64::from(settings.most_points),
-        )
+    let mut copy = Edges::with_capacity(alloc, edges.len())?;
+    for e in edges {
+        copy.push(*e)?;
+    }
+    Ok(copy)
 }
 
-/// The leaves of the split tree of a sided list, in order. There are too many pieces exactly where it has more leaves than
-/// the settings allow.
-pub fn split(alloc: Global, edges: Edges, settings: &Settings) -> Result<Vec<Edges>, SplitError>
-    requires { IsSided edges }
+/// The leaves of a list. It is copied only where it isn't cut.
+fn leaves_of(alloc: Global, edges: &Edges, settings: &Settings) -> Result<Vec<Leaf>, SplitError>
+    requires { IsSided edges.now }
     ensures leaves { IfOk result (λ v. IsSplitOnto settings.now.most_points settings.now.overlap
-        settings.now.most_leaves edges [] v.items) }
+        settings.now.most_leaves edges.now [] v.items) }
     ensures many { IfErr result (λ e. (m : ℕ) → e ≡ TooManyPieces m
         → (m ≡ settings.now.most_leaves) × HasTooMany settings.now.most_points settings.now.overlap
-        settings.now.most_leaves edges 0) }
+        settings.now.most_leaves edges.now 0) }
 {
     let mut leaves = Vec::new(alloc);
-    split_into(alloc, edges, settings, &mut leaves)?;
+    let Some(middle) = middle_of(edges.as_slice(), settings) else {
+        push_leaf(&mut leaves, copied(alloc, edges.as_slice())?, settings)?;
+        return Ok(leaves);
+    };
+    let low = half(alloc, edges, low_cut(middle, settings.overlap), Side::Low)?;
+    split_into(alloc, low, settings, &mut leaves)?;
+    let high = half(alloc, edges, high_cut(middle, settings.overlap), Side::High)?;
+    split_into(alloc, high, settings, &mut leaves)?;
     Ok(leaves)
+}
+
+/// The leaves of the split tree of a sided list, in order, low halves first.
+///
+/// A list with more edges than `most_points` is cut across the middle of the longer side of its envelope, where that side is at
+/// least 4 units and 8 overlaps long. With `most_points` 0 the list itself is the one leaf, and isn't large. There are too many
+/// pieces exactly where the tree has more leaves than `most_leaves`. The list is only read; what is held besides is one branch of
+/// the tree and the leaves.
+pub fn split(alloc: Global, edges: &Edges, settings: &Settings) -> Result<Vec<Leaf>, SplitError>
+    requires { IsSided edges.now }
+    ensures leaves { IfOk result (λ v. AreLeaves settings.now.most_points settings.now.overlap
+        edges.now v.items) }
+    ensures few { IfOk result (λ v. length v.items ≤ settings.now.most_leaves) }
+    ensures sided { IfOk result (λ v. All (λ (leaf : Leaf). IsSided leaf.edges) v.items) }
+    ensures many { IfErr result (λ e. (m : ℕ) → e ≡ TooManyPieces m
+        → (m ≡ settings.now.most_leaves) × HasMoreLeaves settings.now.most_points
+        settings.now.overlap settings.now.most_leaves edges.now) }
+{
+    // By law: there is a tree, so that "each tree has more" says something.
+    split_trees_exist();
+    leaves_of(alloc, edges, settings)
 }

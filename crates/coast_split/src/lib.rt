@@ -2,13 +2,18 @@
 #![tactic(auto)]
 
 mod envelope;
+#[cfg(test)]
+mod half_tests;
 mod halves;
 mod laws;
 mod leaves;
+#[cfg(test)]
+mod leaves_tests;
 mod portion;
 
 pub use halves::half;
 pub use laws::{
-    half_counts_as_list, half_of_sided_list_is_sided, halves_are_determined, leaves_cover_as_list,
+    half_counts_as_list, half_of_sided_list_is_sided, halves_are_determined, halves_exist,
+    leaves_cover_as_list, split_trees_are_shallow, split_trees_exist,
 };
-pub use leaves::{Settings, SplitError, is_large, split};
+pub use leaves::{Leaf, Settings, SplitError, split};

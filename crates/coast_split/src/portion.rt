@@ -96,8 +96,8 @@ pub fn portion(e: &Edge, cut: Cut, side: Side) -> Option<Edge>
     match (place_of(&e.from, cut, side), place_of(&e.to, cut, side)) {
         (Place::Kept, Place::Beyond) => Some(first_portion(e, cut, side)),
         (Place::Beyond, Place::Kept) => Some(last_portion(e, cut, side)),
-        (Place::Kept, _) => Some(*e),
-        (_, Place::Kept) => Some(*e),
-        _ => None,
+        (Place::Kept, Place::Kept | Place::OnLine) | (Place::OnLine, Place::Kept) => Some(*e),
+        (Place::OnLine, Place::OnLine) => None,
+        (Place::OnLine | Place::Beyond, Place::Beyond) | (Place::Beyond, Place::OnLine) => None,
     }
 }

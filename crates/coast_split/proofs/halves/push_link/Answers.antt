@@ -8,4 +8,4 @@ link-requires-clause-apart c =
 
 pub returns-in_ok-push : goal.returns-in_ok-push
 returns-in_ok-push c =
-    adds-link c.args.cut c.args.z c.args.w _ c.link.result c.args.links.now.items c.push.new.self.items (sym c.is_skipped.ensures ∙ c.if-not-is_skipped.true) c.link.ensures c.in_ok-push.ensures.items
+    adds-link c.args.cut c.args.z c.args.w _ c.link.result c.args.edges.now c.push.new.self (sym c.is_skipped.ensures ∙ c.if-not-is_skipped.true) c.link.ensures c.in_ok-push.ensures.ok

@@ -1,8 +1,0 @@
-use Rattle.std.proofs.Common.{length, ◌+◌}
-use Rattle.coast_split.proofs.Walks.{walk-step}
-use Rattle.coast_split.proofs.halves.links_from.Goals as goal
-
-pub loop-place-preserved : goal.loop-place-preserved
-loop-place-preserved c =
-    walk-step c.args.cut c.args.side (length c.args.rest.now + 1) c.args.first c.args.rest.now c.loop-place.place c.loop-place.links.items c.push_link.new.links.items c.loop-place.before c.index-rest-place.result
-    c.loop-place.invariant.0 c.loop-place.invariant.1 c.index-rest-place.is c.loop-place-test.true c.in_ok-push_link.ensures c.requires.rest_ends
