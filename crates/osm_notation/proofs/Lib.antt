@@ -1,2 +1,3 @@
 mod DecimalLemmas
+pub mod RoundedRange
 mod StringLemmas

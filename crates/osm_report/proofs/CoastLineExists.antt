@@ -6,7 +6,7 @@ use Rattle.osm_lattice.specs.MeetingLaws.{CrossingSegmentsMeet}
 use Rattle.osm_notation.specs.Coordinates.{xy_text}
 use Rattle.osm_report.specs.Report.{IsMeetingText}
 use Rattle.osm_report.specs.Coast.{CoastLineExists}
-use Rattle.osm_report.specs.declared.coast.CoastLine.TheVariants.{Missing, Short, Antarctica, Gap, Unclosed, LeftOut, Conflict, Repeated, WrongWay}
+use Rattle.osm_report.specs.declared.coast.CoastLine.TheVariants.{Missing, Short, Antarctica, Gap, Unclosed, LeftOut, Conflict, Repeated, WrongWay, Large, Vanished}
 
 pub coast_line_there : CrossingSegmentsMeet → CoastLineExists
 coast_line_there meet (Missing way node) h = (_, (_, refl, refl))
@@ -23,3 +23,5 @@ coast_line_there meet (Conflict Crossing s t) h =
 coast_line_there meet (Conflict Overlap s t) h = (_, (_, refl, refl))
 coast_line_there meet (Repeated seg times) h = (_, (_, refl, refl))
 coast_line_there meet (WrongWay ring) h = (_, (_, refl, refl))
+coast_line_there meet (Large points) h = (_, (_, refl, refl))
+coast_line_there meet (Vanished at) h = (_, (_, refl, refl))

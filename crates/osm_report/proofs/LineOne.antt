@@ -54,6 +54,8 @@ module _ (one_point : CrossingHasOnePoint) where
   coast_text_one (line.Conflict Overlap x y) k a b s t = s ∙ sym t
   coast_text_one (line.Repeated seg times) k a b s t = s ∙ sym t
   coast_text_one (line.WrongWay ring) k a b s t = s ∙ sym t
+  coast_text_one (line.Large points) k a b s t = s ∙ sym t
+  coast_text_one (line.Vanished at) k a b s t = s ∙ sym t
 
   pub coast_line_one : CoastLineIsOne
   coast_line_one l k a b s t =

@@ -8,7 +8,7 @@ use Rattle.osm_tables.specs.Tables.{code_of, coast_kinds}
 use Rattle.osm_notation.specs.Coordinates.{point_text}
 use Rattle.osm_report.specs.Report.{segment_text, pair_text, shared_text, IsMeetingText}
 use Rattle.osm_report.specs.declared.coast.CoastLine.{CoastLine}
-use Rattle.osm_report.specs.declared.coast.CoastLine.TheVariants.{Missing, Short, Antarctica, Gap, Unclosed, LeftOut, Conflict, Repeated, WrongWay}
+use Rattle.osm_report.specs.declared.coast.CoastLine.TheVariants.{Missing, Short, Antarctica, Gap, Unclosed, LeftOut, Conflict, Repeated, WrongWay, Large, Vanished}
 
 -- the key of a line's kind in the table
 abbrev pub key_of : CoastLine → ℕ
@@ -22,6 +22,8 @@ key_of (Conflict Crossing s t) = 7
 key_of (Conflict Overlap s t) = 8
 key_of (Repeated seg times) = 9
 key_of (WrongWay ring) = 10
+key_of (Large points) = 11
+key_of (Vanished at) = 12
 
 -- a line is an error where the table has the code 2 beside its key, and otherwise a warning
 abbrev pub is_error : CoastLine → Bool
@@ -44,6 +46,10 @@ ring_text ring = codes "ring of way " ++ signed_decimal ring ++ codes " "
 abbrev pub ends_text : Loc → Loc → List ℕ
 ends_text from to = point_text from ++ codes " to " ++ point_text to
 
+-- the ring whose least node is rounded to this point
+abbrev pub vanished_text : Loc → List ℕ
+vanished_text at = codes "ring at " ++ point_text at ++ codes " vanished"
+
 -- a conflict is of the kind that its segments have
 abbrev pub HasItsKind : CoastLine → Type 0
 HasItsKind (Missing way node) = Unit {0}
@@ -55,6 +61,8 @@ HasItsKind (LeftOut ring) = Unit {0}
 HasItsKind (Conflict kind s t) = conflict_of s t ≡ Some kind
 HasItsKind (Repeated seg times) = Unit {0}
 HasItsKind (WrongWay ring) = Unit {0}
+HasItsKind (Large points) = Unit {0}
+HasItsKind (Vanished at) = Unit {0}
 
 -- what a line says
 abbrev pub IsCoastText : CoastLine → List ℕ → Type 0
@@ -70,6 +78,8 @@ IsCoastText (Conflict Overlap s t) text = text ≡ codes "overlap " ++ shared_te
 IsCoastText (Repeated seg times) text =
     text ≡ codes "segment " ++ segment_text seg ++ codes " stands " ++ decimal times ++ codes " times"
 IsCoastText (WrongWay ring) text = text ≡ ring_text ring ++ codes "runs the wrong way"
+IsCoastText (Large points) text = text ≡ codes "piece of " ++ decimal points ++ codes " points"
+IsCoastText (Vanished at) text = text ≡ vanished_text at
 
 -- a line as it is printed
 abbrev pub IsCoastLine : CoastLine → List ℕ → Type 0

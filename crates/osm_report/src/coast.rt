@@ -50,4 +50,13 @@ pub enum CoastLine {
     WrongWay {
         ring: i64,
     },
+    /// A piece is left with so many points, more than asked for, since it is too small to be cut again: a warning.
+    Large {
+        points: u64,
+    },
+    /// A ring of a piece isn't printed, since fewer than three points are left of it once they are rounded; its least
+    /// node, rounded, is here: a warning.
+    Vanished {
+        at: Loc,
+    },
 }

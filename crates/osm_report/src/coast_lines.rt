@@ -1,17 +1,17 @@
 //! Lines of a coastline report, as they are printed.
 
-ghost use Rattle.std.specs.Prelude.{◌≡◌, ◌++◌, ℕ, List, [], unwrap_or, IfOk, OnOk, codes};
+ghost use Rattle.std.specs.Prelude.{◌≡◌, ◌++◌, ℕ, List, [], unwrap_or, IfOk, OnOk, codes, decimal};
 ghost use Rattle.std.specs.Fmt.{signed_decimal};
 ghost use Rattle.osm_tables.specs.Words.{coast_word_of};
-ghost use Rattle.osm_report.specs.Coast.{key_of, is_error, severity_text, way_text, chain_text, ring_text, ends_text, HasItsKind, IsCoastText, IsCoastLine};
+ghost use Rattle.osm_report.specs.Coast.{key_of, is_error, severity_text, way_text, chain_text, ring_text, ends_text, vanished_text, HasItsKind, IsCoastText, IsCoastLine};
 
 use crate::coast::CoastLine;
 use crate::phrases::{put_crossing, put_overlap, put_repeated, put_with_id};
 use osm_geom::{Kind, Loc};
 use osm_notation::{put_number, put_point};
 use osm_tables::coast::{
-    ANTARCTICA, CROSSING, ERROR, GAP, LEFT_OUT, MISSING_NODE, OVERLAP, REPEATED, SHORT, UNCLOSED,
-    WRONG_WAY, coast_code, coast_word,
+    ANTARCTICA, CROSSING, ERROR, GAP, LARGE, LEFT_OUT, MISSING_NODE, OVERLAP, REPEATED, SHORT,
+    UNCLOSED, VANISHED, WRONG_WAY, coast_code, coast_word,
 };
 use std::alloc::{AllocError as OutOfMemory, Global};
 
@@ -39,6 +39,8 @@ fn key(line: &CoastLine) -> u8
         },
         CoastLine::Repeated { .. } => REPEATED,
         CoastLine::WrongWay { .. } => WRONG_WAY,
+        CoastLine::Large { .. } => LARGE,
+        CoastLine::Vanished { .. } => VANISHED,
     }
 }
 
@@ -163,6 +165,29 @@ fn put_wrong_way(text: &mut Vec<u8>, ring: i64) -> Result<(), OutOfMemory>
     Ok(())
 }
 
+/// Adds how many points a piece has that has too many.
+fn put_large(text: &mut Vec<u8>, points: u64) -> Result<(), OutOfMemory>
+    ensures { OnOk result (text.new.items ≡ text.old.items
+        ++ (codes "piece of " ++ decimal points ++ codes " points")) }
+{
+    text.extend_from_slice(word(LARGE).as_bytes())?;
+    text.push(b' ')?;
+    put_number(text, points)?;
+    text.extend_from_slice(b" points")?;
+    Ok(())
+}
+
+/// Adds where a ring has vanished.
+fn put_vanished(text: &mut Vec<u8>, at: Loc) -> Result<(), OutOfMemory>
+    ensures { OnOk result (text.new.items ≡ text.old.items ++ vanished_text at) }
+{
+    text.extend_from_slice(b"ring at ")?;
+    put_point(text, at)?;
+    text.push(b' ')?;
+    text.extend_from_slice(word(VANISHED).as_bytes())?;
+    Ok(())
+}
+
 /// Adds what a line says.
 fn put_text(text: &mut Vec<u8>, line: &CoastLine) -> Result<(), OutOfMemory>
     requires { HasItsKind line.now }
@@ -190,6 +215,8 @@ fn put_text(text: &mut Vec<u8>, line: &CoastLine) -> Result<(), OutOfMemory>
         },
         CoastLine::Repeated { seg, times } => put_repeated(text, word(REPEATED), seg, times),
         CoastLine::WrongWay { ring } => put_wrong_way(text, ring),
+        CoastLine::Large { points } => put_large(text, points),
+        CoastLine::Vanished { at } => put_vanished(text, at),
     }
 }
 

@@ -94,6 +94,35 @@ fn lines_of_rings_and_segments(rt: HostRuntime) -> Result<(), Fail> {
 }
 
 #[test]
+fn lines_of_pieces(rt: HostRuntime) -> Result<(), Fail> {
+    let alloc = rt.alloc();
+    for (points, printed) in [
+        (5, "warning piece of 5 points\n"),
+        (u64::MAX, "warning piece of 18446744073709551615 points\n"),
+    ] {
+        assert!(rt;
+            prints(alloc, &CoastLine::Large { points }, printed)?,
+            "{printed}"
+        );
+    }
+    for (x, y, printed) in [
+        (4, 4, "warning ring at 0.0000004 0.0000004 vanished\n"),
+        (
+            -1_800_000_000,
+            -1,
+            "warning ring at -180 -0.0000001 vanished\n",
+        ),
+    ] {
+        let at = Loc::new(x, y).expect(&rt, "a location");
+        assert!(rt;
+            prints(alloc, &CoastLine::Vanished { at }, printed)?,
+            "{printed}"
+        );
+    }
+    Ok(())
+}
+
+#[test]
 fn lines_of_conflicts(rt: HostRuntime) -> Result<(), Fail> {
     let rows = [
         (

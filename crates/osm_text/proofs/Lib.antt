@@ -1,7 +1,11 @@
+mod Corners
 mod EscapeLemmas
-mod FourCorners
+mod Halves
 mod KeyLaws
+mod LeastNodes
 mod NotationLemmas
+mod PieceLemmas
 mod PropertyLemmas
+mod RingRounding
 mod RowLemmas
 mod WholePaths

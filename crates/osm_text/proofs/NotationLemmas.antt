@@ -30,7 +30,7 @@ ring-none : (n : Notation) → open_of n ∷ close_of n ∷ [] ≡ ring_in n []
 ring-none n = sym (ring_in-parts n [])
 
 -- the polygon of an outer ring and inner rings
-polygon-whole : (n : Notation) (outer : List Loc) (inners : List (List Loc))
+pub polygon-whole : (n : Notation) (outer : List Loc) (inners : List (List Loc))
     → open_of n ∷ ring_in n outer ++ led 44 (map (ring_in n) inners) ++ close_of n ∷ [] ≡ polygon_in n (outer ∷ inners)
 polygon-whole n outer inners =
     led-list (open_of n) (close_of n) (ring_in n outer) (map (ring_in n) inners) ∙ sym (polygon_in-parts n (outer ∷ inners))

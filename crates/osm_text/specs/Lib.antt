@@ -5,6 +5,9 @@ pub mod Members
 pub mod Notation
 pub mod Paths
 pub mod Piece
+pub mod PieceSteps
 pub mod Properties
+pub mod Rounded
+pub mod RoundedSteps
 pub mod Rows
 pub mod Wkt

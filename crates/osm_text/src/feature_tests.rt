@@ -1,20 +1,20 @@
-//! Features and pieces against the values of the formats.
-ghost use Rattle.std.specs.Prelude.{◌≡◌, ◌≢◌, IfOk, OnOk};
-ghost use Rattle.osm_geom.specs.declared.point.Point.TheVariants.{Lattice};
+//! Features against the values of the formats.
+ghost use Rattle.std.specs.Prelude.{◌≡◌, ◌≢◌, OnOk};
 
 use super::*;
 use opl_reader::Tags;
-use osm_geom::{Edge, Loc, Seg};
+use osm_geom::{Edge, Loc, Seg, compare_points};
 use osm_nest::{Polygon, Polygons};
 use osm_rings::{Ring, Rings};
 use std::alloc::Global;
+use std::cmp::Ordering;
 use std::test::Fail;
 
 /// Units of a tenth of a degree.
 const TENTH: i64 = 1_000_000;
 
 /// The west, south, east and north sides of a rectangle, in tenths of a degree.
-type Sides = [i64; 4];
+pub(crate) type Sides = [i64; 4];
 
 /// A square, and a hole in it.
 const HOLED: (Sides, Option<Sides>) = ([0, 0, 40, 40], Some([10, 10, 20, 20]));
@@ -30,10 +30,7 @@ fn location(x: i64, y: i64) -> Result<Loc, Fail> {
 }
 
 /// The edge from one location to another.
-fn edge(from: Loc, to: Loc) -> Result<Edge, Fail>
-    ensures from { IfOk result (λ edge. edge.from ≡ Lattice from) }
-    ensures to { IfOk result (λ edge. edge.to ≡ Lattice to) }
-{
+fn edge(from: Loc, to: Loc) -> Result<Edge, Fail> {
     if from < to {
         return Ok(Edge::of(Seg { a: from, b: to }, true));
     }
@@ -43,31 +40,58 @@ fn edge(from: Loc, to: Loc) -> Result<Edge, Fail>
     Err(Fail::new("no edge"))
 }
 
-/// Refuses two corners at one location.
-fn apart(p: Loc, q: Loc) -> Result<(), Fail>
-    ensures { OnOk result (p ≢ q) }
+/// Refuses an edge that doesn't start where another one ends.
+#[tactic(auto, using(osm_geom::proofs::GeometryKit::point_same))]
+fn meet(edge: Edge, next: Edge) -> Result<(), Fail>
+    ensures { OnOk result (edge.to ≡ next.from) }
 {
-    if p == q {
+    match compare_points(edge.to, next.from) {
+        Ordering::Equal => Ok(()),
+        Ordering::Less | Ordering::Greater => Err(Fail::new("edges apart")),
+    }
+}
+
+/// Refuses two edges that start at one point.
+fn apart(edge: Edge, other: Edge) -> Result<(), Fail>
+    ensures { OnOk result (edge.from ≢ other.from) }
+{
+    if edge.from == other.from {
         return Err(Fail::new("a corner twice"));
     }
     Ok(())
 }
 
-/// The ring through four corners.
-fn ring(alloc: Global, corners: [Loc; 4]) -> Result<Ring, Fail> {
-    let [a, b, c, d] = corners;
-    apart(a, c)?;
-    apart(b, d)?;
-    let first = edge(a, b)?;
-    let second = edge(b, c)?;
-    let third = edge(c, d)?;
-    let last = edge(d, a)?;
+/// The ring along three edges.
+pub(crate) fn triangle(alloc: Global, edges: [Edge; 3]) -> Result<Ring, Fail> {
+    let [first, second, last] = edges;
+    meet(first, second)?;
+    meet(second, last)?;
+    meet(last, first)?;
+    let edges = Vec::from_array(alloc, [first, second, last])?;
+    Ok(Ring::of_edges(edges))
+}
+
+/// The ring along four edges.
+pub(crate) fn quadrilateral(alloc: Global, edges: [Edge; 4]) -> Result<Ring, Fail> {
+    let [first, second, third, last] = edges;
+    meet(first, second)?;
+    meet(second, third)?;
+    meet(third, last)?;
+    meet(last, first)?;
+    apart(first, third)?;
+    apart(second, last)?;
     let edges = Vec::from_array(alloc, [first, second, third, last])?;
     Ok(Ring::of_edges(edges))
 }
 
+/// The ring through four corners.
+fn ring(alloc: Global, corners: [Loc; 4]) -> Result<Ring, Fail> {
+    let [a, b, c, d] = corners;
+    quadrilateral(alloc, [edge(a, b)?, edge(b, c)?, edge(c, d)?, edge(d, a)?])
+}
+
 /// The ring along a rectangle's sides from its least corner, counterclockwise or clockwise.
-fn rectangle(alloc: Global, sides: Sides, clockwise: bool) -> Result<Ring, Fail> {
+pub(crate) fn rectangle(alloc: Global, sides: Sides, clockwise: bool) -> Result<Ring, Fail> {
     let [west, south, east, north] = sides;
     let (first, last) = (location(west, south)?, location(east, north)?);
     let (right, left) = (location(east, south)?, location(west, north)?);
@@ -79,7 +103,11 @@ fn rectangle(alloc: Global, sides: Sides, clockwise: bool) -> Result<Ring, Fail>
 }
 
 /// A rectangle, with a hole where there is one.
-fn polygon_of(alloc: Global, outer: Sides, hole: Option<Sides>) -> Result<Polygon, Fail> {
+pub(crate) fn polygon_of(
+    alloc: Global,
+    outer: Sides,
+    hole: Option<Sides>,
+) -> Result<Polygon, Fail> {
     let outer = rectangle(alloc, outer, false)?;
     let mut inners = Rings::new(alloc);
     if let Some(hole) = hole {
@@ -209,19 +237,5 @@ fn properties_of_tags(rt: HostRuntime) -> Result<(), Fail> {
         let expected = format!(in alloc; "{before}{printed}}}")?;
         assert_eq!(rt; json.as_slice(), expected.as_bytes());
     }
-    Ok(())
-}
-
-#[test]
-fn pieces_of_land_and_water(rt: HostRuntime) -> Result<(), Fail> {
-    let alloc = rt.alloc();
-    let island = polygon_of(alloc, [0, 0, 10, 10], None)?;
-    let land = piece_text(alloc, PieceKind::Land, &island)?;
-    let line = "land POLYGON((0 0,1 0,1 1,0 1,0 0))\n";
-    assert_eq!(rt; land.as_slice(), line.as_bytes());
-    let sea = polygon_of(alloc, [-1800, -900, 1800, 900], Some([0, 0, 10, 10]))?;
-    let water = piece_text(alloc, PieceKind::Water, &sea)?;
-    let line = "water POLYGON((-180 -90,180 -90,180 90,-180 90,-180 -90),(0 0,0 1,1 1,1 0,0 0))\n";
-    assert_eq!(rt; water.as_slice(), line.as_bytes());
     Ok(())
 }

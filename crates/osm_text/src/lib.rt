@@ -8,7 +8,10 @@ mod feature_tests;
 mod notation;
 mod paths;
 mod piece;
+#[cfg(test)]
+mod piece_tests;
 mod properties;
+mod rounded;
 
 pub use feature::{feature_json, feature_text};
 pub use feature_id::FeatureId;
@@ -18,5 +21,5 @@ pub use osm_report::{
     problem_line_exists,
 };
 pub use paths::whole_segments_have_paths;
-pub use piece::{PieceKind, piece_text};
+pub use piece::{Piece, PieceKind, piece_text};
 pub use properties::tags_by_key;

@@ -86,7 +86,11 @@ fn put_points(
 }
 
 /// Adds a ring by its path, whose first point stands again at its end.
-fn put_ring(text: &mut Vec<u8>, notation: Notation, path: &[Loc]) -> Result<(), OutOfMemory>
+pub(crate) fn put_ring(
+    text: &mut Vec<u8>,
+    notation: Notation,
+    path: &[Loc],
+) -> Result<(), OutOfMemory>
     ensures { OnOk result (text.new.items ≡ text.old.items ++ ring_in notation path.now) }
 {
     if path.is_empty() {

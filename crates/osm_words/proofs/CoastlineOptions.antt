@@ -7,7 +7,7 @@ use Rattle.clap.specs.Walk.{has_row}
 use Rattle.clap.proofs.OnLiterals.{clap_on_literals}
 use Rattle.osm_words.specs.CoastlineCommand.{coastline_app}
 use Rattle.osm_words.specs.PlainWords.{Form, IsFileName, begins_with_dash, letter, long}
-use Rattle.osm_words.specs.PlainCoastline.{CoastlineOption, HasPlainValue, polygons_text, close_distance, polygons, output, overwrite, name_of, option_words}
+use Rattle.osm_words.specs.PlainCoastline.{CoastlineOption, HasPlainValue, polygons_text, close_distance, max_points, bbox_overlap, polygons, output, overwrite, name_of, option_words}
 use Rattle.osm_words.specs.declared.settings.OutputPolygons.{OutputPolygons}
 use Rattle.osm_words.specs.declared.settings.OutputPolygons.TheVariants.{Land, Water, Both, Neither}
 use Rattle.osm_words.proofs.Taken.{EndsWell}
@@ -18,6 +18,8 @@ top = (built coastline_app).top
 
 abbrev pub value_text : CoastlineOption → Text
 value_text (close_distance written units) = written
+value_text (max_points written points) = written
+value_text (bbox_overlap written units) = written
 value_text (polygons p) = polygons_text p
 value_text (output name) = name
 value_text overwrite = codes "true"
@@ -32,6 +34,16 @@ distance_takes : (value : Text) → begins_with_dash value ≡ false → TakesVa
 unfolding clap_on_literals
 distance_takes [] plain = record { walks = λ used. refl; passes = λ used. refl; ready = λ used new. ready_value top (codes "close-distance") [] used new refl refl }
 distance_takes (a ∷ value) plain = record { walks = λ used. simp plain; passes = λ used. simp plain; ready = λ used new. ready_value top (codes "close-distance") (a ∷ value) used new refl refl }
+
+points_takes : (value : Text) → begins_with_dash value ≡ false → TakesValue top (codes "max-points") value
+unfolding clap_on_literals
+points_takes [] plain = record { walks = λ used. refl; passes = λ used. refl; ready = λ used new. ready_value top (codes "max-points") [] used new refl refl }
+points_takes (a ∷ value) plain = record { walks = λ used. simp plain; passes = λ used. simp plain; ready = λ used new. ready_value top (codes "max-points") (a ∷ value) used new refl refl }
+
+overlap_takes : (value : Text) → begins_with_dash value ≡ false → TakesValue top (codes "bbox-overlap") value
+unfolding clap_on_literals
+overlap_takes [] plain = record { walks = λ used. refl; passes = λ used. refl; ready = λ used new. ready_value top (codes "bbox-overlap") [] used new refl refl }
+overlap_takes (a ∷ value) plain = record { walks = λ used. simp plain; passes = λ used. simp plain; ready = λ used new. ready_value top (codes "bbox-overlap") (a ∷ value) used new refl refl }
 
 polygons_takes : (value : Text) → begins_with_dash value ≡ false → TakesValue top (codes "polygons") value
 unfolding clap_on_literals
@@ -48,6 +60,10 @@ pub moves : (form : Form) (c : CoastlineOption) (rows : List Row) (pending : Pen
 unfolding clap_on_literals
 moves letter (close_distance written units) rows pending used ready new plain = option_moves top (codes "-c") (codes "close-distance") written rows pending used ready new (distance_takes written plain.0) refl refl
 moves long (close_distance written units) rows pending used ready new plain = option_moves top (codes "--close-distance") (codes "close-distance") written rows pending used ready new (distance_takes written plain.0) refl refl
+moves letter (max_points written points) rows pending used ready new plain = option_moves top (codes "-m") (codes "max-points") written rows pending used ready new (points_takes written plain.0) refl refl
+moves long (max_points written points) rows pending used ready new plain = option_moves top (codes "--max-points") (codes "max-points") written rows pending used ready new (points_takes written plain.0) refl refl
+moves letter (bbox_overlap written units) rows pending used ready new plain = option_moves top (codes "-b") (codes "bbox-overlap") written rows pending used ready new (overlap_takes written plain.0) refl refl
+moves long (bbox_overlap written units) rows pending used ready new plain = option_moves top (codes "--bbox-overlap") (codes "bbox-overlap") written rows pending used ready new (overlap_takes written plain.0) refl refl
 moves letter (polygons p) rows pending used ready new plain = option_moves top (codes "-p") (codes "polygons") (polygons_text p) rows pending used ready new (polygons_takes (polygons_text p) (polygons_plain p)) refl refl
 moves long (polygons p) rows pending used ready new plain = option_moves top (codes "--output-polygons") (codes "polygons") (polygons_text p) rows pending used ready new (polygons_takes (polygons_text p) (polygons_plain p)) refl refl
 moves letter (output name) rows pending used ready new plain = option_moves top (codes "--output") (codes "output") name rows pending used ready new (output_takes name plain) refl refl
@@ -57,6 +73,8 @@ moves long overwrite rows pending used ready new plain = flag_moves top (codes "
 
 pub not_file : (c : CoastlineOption) → bytes_eq (name_of c) (codes "file") ≡ false
 not_file (close_distance written units) = refl
+not_file (max_points written points) = refl
+not_file (bbox_overlap written units) = refl
 not_file (polygons p) = refl
 not_file (output name) = refl
 not_file overwrite = refl
@@ -87,6 +105,6 @@ coastline_options = record {
 pub coastline_ends_well : EndsWell top (codes "file")
 coastline_ends_well = record {
   ready = λ file rows new. ready_value top (codes "file") file rows new refl refl;
-  defaults = (refl, (refl, (refl, (refl, (refl, tt)))));
+  defaults = (refl, (refl, (refl, (refl, (refl, (refl, (refl, tt)))))));
   checks = λ rows given. ap (λ (is : Bool). check_kinds false false (not is || false)) given;
 }

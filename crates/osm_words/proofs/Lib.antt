@@ -1,6 +1,7 @@
 pub mod Rows
 pub mod Walk
 pub mod Lookups
+pub mod Numbers
 pub mod Taken
 pub mod ExportOptions
 pub mod CoastlineOptions

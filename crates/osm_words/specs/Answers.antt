@@ -38,6 +38,8 @@ coastline_seen s = record {
   output = s.output.now;
   overwrite = s.overwrite;
   close_distance = s.close_distance;
+  max_points = s.max_points;
+  bbox_overlap = s.bbox_overlap;
   polygons = s.polygons;
 }
 

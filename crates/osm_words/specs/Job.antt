@@ -31,6 +31,10 @@ pub record CoastlineSettings : Type 0 where
   pub overwrite : Bool
   -- in units of 1e-7 degree: a gap is closed where it is shorter
   pub close_distance : ℕ
+  -- a piece with more points is cut again; 0 cuts none
+  pub max_points : ℕ
+  -- in units of 1e-7 degree: how far each half reaches beyond a cut
+  pub bbox_overlap : ℕ
   pub polygons : OutputPolygons
 
 pub data Job : Type 0 where

@@ -2,6 +2,7 @@ pub mod Job
 pub mod Arguments
 pub mod Parsed
 pub mod Degrees
+pub mod Number
 pub mod ExportCommand
 pub mod ExportWords
 pub mod CoastlineCommand

@@ -14,6 +14,8 @@ fn coastline_command<'a>(alloc: Global) -> Result<Command<'a>, OutOfMemory>
 {
     let command = Command::new(alloc, "coastline")
         .arg(option(alloc, "close-distance", 'c', "close-distance"))?
+        .arg(option(alloc, "max-points", 'm', "max-points"))?
+        .arg(option(alloc, "bbox-overlap", 'b', "bbox-overlap"))?
         .arg(option(alloc, "polygons", 'p', "output-polygons"))?
         .arg(long_option(alloc, "output"))?
         .arg(flag(alloc, "overwrite", 'f', "overwrite"))?

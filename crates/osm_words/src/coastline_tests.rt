@@ -1,15 +1,22 @@
 //! What the words of `coastline` say, and why they aren't taken.
 
+ghost use Rattle.std.specs.Prelude.{◌≤◌};
+
 use crate::tests::words_of;
 use crate::{CoastlineSettings, Job, OutputPolygons, WordsError, WordsFault, job_of};
 use clap::error::ErrorKind;
 use std::test::Fail;
 
+/// A degree, in units of 1e-7.
+const DEGREE: u32 = 10_000_000;
+
 const PLAIN: CoastlineSettings<'static> = CoastlineSettings {
     file: "-",
     output: "-",
     overwrite: false,
-    close_distance: 10_000_000,
+    close_distance: DEGREE,
+    max_points: 1_000,
+    bbox_overlap: 1_000,
     polygons: OutputPolygons::Land,
 };
 
@@ -18,34 +25,90 @@ const ALL: CoastlineSettings<'static> = CoastlineSettings {
     output: "out",
     overwrite: true,
     close_distance: 5_000_000,
+    max_points: 2_000,
+    bbox_overlap: 5_000,
     polygons: OutputPolygons::Both,
 };
 
+/// The settings of plain words but for these.
+fn plain_but(
+    close_distance: u32,
+    max_points: u32,
+    bbox_overlap: u32,
+    polygons: OutputPolygons,
+) -> CoastlineSettings<'static>
+    requires max_points_in { max_points ≤ 1_000_000 }
+    requires bbox_overlap_in { bbox_overlap ≤ 100_000_000 }
+{
+    CoastlineSettings {
+        file: "-",
+        output: "-",
+        overwrite: false,
+        close_distance,
+        max_points,
+        bbox_overlap,
+        polygons,
+    }
+}
+
+/// The settings of plain words but for their output.
+fn plain_to(output: &'static str, overwrite: bool) -> CoastlineSettings<'static> {
+    CoastlineSettings {
+        file: "-",
+        output,
+        overwrite,
+        close_distance: DEGREE,
+        max_points: 1_000,
+        bbox_overlap: 1_000,
+        polygons: OutputPolygons::Land,
+    }
+}
+
+/// The settings of plain words with a close distance.
+fn with_distance(close_distance: u32) -> CoastlineSettings<'static> {
+    plain_but(close_distance, 1_000, 1_000, OutputPolygons::Land)
+}
+
+/// The settings of plain words with a number of points.
+fn with_points(max_points: u32) -> CoastlineSettings<'static>
+    requires { max_points ≤ 1_000_000 }
+{
+    plain_but(DEGREE, max_points, 1_000, OutputPolygons::Land)
+}
+
+/// The settings of plain words with an overlap.
+fn with_overlap(bbox_overlap: u32) -> CoastlineSettings<'static>
+    requires { bbox_overlap ≤ 100_000_000 }
+{
+    plain_but(DEGREE, 1_000, bbox_overlap, OutputPolygons::Land)
+}
+
 /// The settings of plain words with polygons.
 fn with_polygons(polygons: OutputPolygons) -> CoastlineSettings<'static> {
-    CoastlineSettings { polygons, ..PLAIN }
+    plain_but(DEGREE, 1_000, 1_000, polygons)
 }
 
 #[test]
 fn each_option_by_itself(rt: HostRuntime) -> Result<(), Fail> {
     let alloc = rt.alloc();
-    let half = CoastlineSettings {
-        close_distance: 5_000_000,
-        ..PLAIN
-    };
-    let output = CoastlineSettings {
-        output: "out",
-        ..PLAIN
-    };
-    let overwrite = CoastlineSettings {
-        overwrite: true,
-        ..PLAIN
-    };
+    let half = with_distance(DEGREE / 2);
+    let output = plain_to("out", false);
+    let overwrite = plain_to("-", true);
     let cases = [
         ("-c 0.5", half),
         ("--close-distance 0.5", half),
         ("--close-distance=0.5", half),
         ("-c0.5", half),
+        ("-m 0", with_points(0)),
+        ("-m 4", with_points(4)),
+        ("-m0000004", with_points(4)),
+        ("--max-points 1000000", with_points(1_000_000)),
+        ("--max-points=999999", with_points(999_999)),
+        ("-b 0", with_overlap(0)),
+        ("-b 10", with_overlap(100_000_000)),
+        ("-b.00000005", with_overlap(1)),
+        ("--bbox-overlap 10.00000004", with_overlap(100_000_000)),
+        ("--bbox-overlap=0.00000004", with_overlap(0)),
         ("-p land", PLAIN),
         ("-p water", with_polygons(OutputPolygons::Water)),
         ("-p both", with_polygons(OutputPolygons::Both)),
@@ -80,13 +143,22 @@ fn options_in_any_order(rt: HostRuntime) -> Result<(), Fail> {
     let alloc = rt.alloc();
     let cases = [
         ("coastline -", PLAIN),
-        ("coastline -c .5 -p both --output out -f in.opl", ALL),
-        ("coastline in.opl -f --output=out -pboth -c=0.50", ALL),
         (
-            "coastline --overwrite --output-polygons=both in.opl --output out --close-distance 000.5",
+            "coastline -c .5 -m 2000 -b 0.0005 -p both --output out -f in.opl",
             ALL,
         ),
-        ("coastline -fpboth --output out -c.5 in.opl", ALL),
+        (
+            "coastline in.opl -b=.0005 -f --output=out -pboth -m2000 -c=0.50",
+            ALL,
+        ),
+        (
+            "coastline --max-points 2000 --overwrite --output-polygons=both in.opl --output out --close-distance 000.5 --bbox-overlap=0.0005",
+            ALL,
+        ),
+        (
+            "coastline -fpboth -b.0005 --output out -m=2000 -c.5 in.opl",
+            ALL,
+        ),
     ];
     for (line, settings) in cases {
         let words = words_of(alloc, line)?;
@@ -114,10 +186,7 @@ fn degrees_in_range(rt: HostRuntime) -> Result<(), Fail> {
         ("360.00000004", 3_600_000_000),
     ];
     for (degrees, close_distance) in cases {
-        let settings = CoastlineSettings {
-            close_distance,
-            ..PLAIN
-        };
+        let settings = with_distance(close_distance);
         let words = words_of(alloc, &format!(in alloc; "coastline -c {degrees} -")?)?;
         assert_eq!(rt;
             job_of(alloc, &words),
@@ -128,7 +197,7 @@ fn degrees_in_range(rt: HostRuntime) -> Result<(), Fail> {
     Ok(())
 }
 
-/// The first of the options counts, in the order c, p.
+/// The first of the options counts, in the order c, m, b, p.
 #[test]
 fn values_out_of_range(rt: HostRuntime) -> Result<(), Fail> {
     let alloc = rt.alloc();
@@ -146,6 +215,25 @@ fn values_out_of_range(rt: HostRuntime) -> Result<(), Fail> {
         ("coastline -c . -", 'c'),
         ("coastline -c '' -", 'c'),
         ("coastline -c - -", 'c'),
+        ("coastline -m 3 -", 'm'),
+        ("coastline -m 1 -", 'm'),
+        ("coastline -m 1000001 -", 'm'),
+        ("coastline -m 00000004 -", 'm'),
+        ("coastline -m 4294967296 -", 'm'),
+        ("coastline -m +4 -", 'm'),
+        ("coastline --max-points=-4 -", 'm'),
+        ("coastline -m 4. -", 'm'),
+        ("coastline -m 1e3 -", 'm'),
+        ("coastline -m '' -", 'm'),
+        ("coastline -m - -", 'm'),
+        ("coastline -b 10.0000001 -", 'b'),
+        ("coastline -b 10.00000005 -", 'b'),
+        ("coastline --bbox-overlap=-0 -", 'b'),
+        ("coastline -b +1 -", 'b'),
+        ("coastline -b '' -", 'b'),
+        ("coastline -p sea -b 11 -m 3 -c 361 -", 'c'),
+        ("coastline -p sea -b 11 -m 3 -c 360 -", 'm'),
+        ("coastline -p sea -b 11 -m 4 -", 'b'),
         ("coastline -p sea -", 'p'),
         ("coastline -p Land -", 'p'),
         ("coastline -p '' -", 'p'),
@@ -173,6 +261,10 @@ fn refused_words(rt: HostRuntime) -> Result<(), Fail> {
         ("coastline -c -1 -", ErrorKind::UnknownArgument),
         ("coastline -c 1 -c 1 -", ErrorKind::ArgumentConflict),
         ("coastline -c 361 -f -f -", ErrorKind::ArgumentConflict),
+        ("coastline -m 3 -m 3 -", ErrorKind::ArgumentConflict),
+        ("coastline -m -4 -", ErrorKind::UnknownArgument),
+        ("coastline - -b", ErrorKind::InvalidValue),
+        ("coastline --max 4 -", ErrorKind::UnknownArgument),
         ("coastline -o out -", ErrorKind::UnknownArgument),
         ("coastline -O -", ErrorKind::UnknownArgument),
         ("coastline -e -", ErrorKind::UnknownArgument),

@@ -10,6 +10,7 @@ mod degrees;
 mod export_command;
 mod export_words;
 mod fault;
+mod number;
 mod parsed;
 mod settings;
 #[cfg(test)]

@@ -1,5 +1,7 @@
 //! What the words of a run ask for.
 
+ghost use Rattle.std.specs.Prelude.{◌≤◌};
+
 /// How areas are written.
 #[derive(Clone, Copy, Debug, PartialEq, Eq)]
 pub enum Format {
@@ -69,7 +71,13 @@ pub struct CoastlineSettings<'a> {
     pub overwrite: bool,
     /// In units of 1e-7 degree, up to 360 degrees: a gap of the coast is closed where it is shorter, so 0 closes none.
     pub close_distance: u32,
+    /// How many points a piece may have that isn't cut again; 0 cuts none.
+    pub max_points: u32,
+    /// In units of 1e-7 degree, up to 10 degrees: how far each half of a piece reaches beyond the line of a cut.
+    pub bbox_overlap: u32,
     pub polygons: OutputPolygons,
+    pub ghost max_points_in: { max_points ≤ 1_000_000 },
+    pub ghost bbox_overlap_in: { bbox_overlap ≤ 100_000_000 },
 }
 
 /// What the words of a run ask for.

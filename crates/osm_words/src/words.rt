@@ -67,7 +67,7 @@ fn answer<'a>(alloc: Global, words: &'a [String]) -> Result<Job<'a>, WordsError>
 /// `answers` says that it is what `job_asked` says, want of memory aside. So NoCommand comes exactly where there are no words, and UnknownCommand
 /// exactly where the first word names no command. Refused comes exactly where the command's parser doesn't take the words behind its name, with the
 /// one kind that `clap` states for them. OutOfRange comes exactly where it takes them and a value isn't one of its option's: the first such
-/// option in the order `f`, `u`, `a` (`--area-keys`), `l` (`--linear-keys`) of `export`, and `c`, `p` of `coastline`.
+/// option in the order `f`, `u`, `a` (`--area-keys`), `l` (`--linear-keys`) of `export`, and `c`, `m`, `b`, `p` of `coastline`.
 ///
 /// `plain` and `plain_coastline` say that options in any order, each in its short or its long form and at most once, and a file behind them are
 /// taken with what they say.
