@@ -1,6 +1,6 @@
 -- The conflicts of a report are of the kinds that their segments have.
-use Rattle.std.proofs.Common.{◌≡◌, refl, sym, subst, get_or, ℕ, List, [], ◌∷◌, ◌++◌, All, Option, None, Some, option_map}
-use Rattle.std.specs.List.{filter_map, slice_get}
+use Rattle.std.proofs.Common.{◌≡◌, refl, sym, subst, get_or, if◌then◌else◌, length, Bool, true, false, ℕ, List, [], ◌∷◌, ◌++◌, All, Option, None, Some, option_map}
+use Rattle.std.specs.List.{filter_map, flat_map, slice_get}
 use Rattle.std.proofs.lemmas.Option.{same_Some}
 use Rattle.std.proofs.lemmas.List.Elements.{All-nil, All-cons, All-append, All-map}
 use Rattle.coast_join.specs.declared.chain.Chain.{Chain}
@@ -16,6 +16,10 @@ use Rattle.osm_report.specs.declared.coast.CoastLine.TheVariants as line
 use Rattle.osm_segments.specs.Pairs.{conflicts_of, pair_of}
 use Rattle.osm_segments.specs.declared.pairs.Pair.{Pair}
 use Rattle.job_coastline.specs.Coast.{Coast}
+use Rattle.osm_nest.specs.declared.polygon.Polygon.{Polygon}
+use Rattle.osm_text.specs.Piece.{vanished_in}
+use Rattle.job_coastline.specs.Coastline.{all_lines}
+use Rattle.job_coastline.specs.Pieces.{Tile, large_lines, tile_lines, vanished_line, vanished_lines}
 use Rattle.job_coastline.specs.Report.{antarctica_line, aside_line, coast_lines, conflict_line, gap_between, gap_line, left_out_line, repeated_line, unclosed_line, wrong_way_line}
 
 -- ---- conflicts
@@ -77,3 +81,26 @@ lines_of_kind segs coast conflicts =
   where
     both : (xs ys : List CoastLine) → All HasItsKind xs → All HasItsKind ys → All HasItsKind (xs ++ ys)
     both xs ys h k = All-append HasItsKind xs ys h k
+
+-- ---- those of leaves
+
+large_of_kind : (points : ℕ) (large : Bool) → All HasItsKind (if large then line.Large points ∷ [] else [])
+large_of_kind points true = All-cons HasItsKind (line.Large points) [] tt (All-nil HasItsKind)
+large_of_kind points false = All-nil HasItsKind
+
+vanished_of_kind : (polygons : List Polygon) → All HasItsKind (flat_map vanished_lines polygons)
+vanished_of_kind [] = All-nil HasItsKind
+vanished_of_kind (polygon ∷ polygons) =
+    All-append HasItsKind (vanished_lines polygon) (flat_map vanished_lines polygons) (All-map HasItsKind vanished_line (vanished_in polygon) (λ k d lt. tt)) (vanished_of_kind polygons)
+
+pub tiles_of_kind : (tiles : List Tile) → All HasItsKind (flat_map tile_lines tiles)
+tiles_of_kind [] = All-nil HasItsKind
+tiles_of_kind (tile ∷ tiles) =
+    All-append HasItsKind (tile_lines tile) (flat_map tile_lines tiles)
+    (All-append HasItsKind (large_lines tile.leaf) (flat_map vanished_lines tile.polygons) (large_of_kind (length tile.leaf.edges) tile.leaf.large) (vanished_of_kind tile.polygons))
+    (tiles_of_kind tiles)
+
+pub all_of_kind : (segs : List Seg) (coast : Coast) → AreConflicts segs coast.sorted.pairs → (land water : List Tile) → All HasItsKind (all_lines coast land water)
+all_of_kind segs coast conflicts land water =
+    All-append HasItsKind (coast_lines coast) (flat_map tile_lines land ++ flat_map tile_lines water) (lines_of_kind segs coast conflicts)
+    (All-append HasItsKind (flat_map tile_lines land) (flat_map tile_lines water) (tiles_of_kind land) (tiles_of_kind water))

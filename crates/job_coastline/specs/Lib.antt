@@ -1,8 +1,8 @@
 pub mod Coast
 pub mod Report
 pub mod Pieces
+pub mod PieceSteps
 pub mod Coastline
 pub mod Found
-pub mod Fronts
 pub mod WorkSteps
 pub mod LineLaws

@@ -4,10 +4,11 @@ use Rattle.opl_reader.specs.declared.object.Object.{Object}
 use Rattle.osm_report.specs.Coast.{HasItsKind}
 use Rattle.osm_words.specs.Job.{CoastlineSettings}
 use Rattle.job_coastline.specs.Coast.{Coast, IsCoast}
-use Rattle.job_coastline.specs.Report.{coast_lines}
+use Rattle.job_coastline.specs.Coastline.{all_lines}
+use Rattle.job_coastline.specs.Pieces.{Tile}
 
 -- the conflicts of a report are of the kinds that their segments have
 abbrev pub LinesHaveKinds : Type 0
 LinesHaveKinds =
     (settings : CoastlineSettings) (objects : List Object) (coast : Coast) → IsCoast settings objects coast →
-    All HasItsKind (coast_lines coast)
+    (land water : List Tile) → All HasItsKind (all_lines coast land water)

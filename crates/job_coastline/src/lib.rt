@@ -1,14 +1,16 @@
-//! The coastline job: the coastline ways of an input joined to rings, land and water as pieces of an output, and a report of
-//! all that is amiss.
+//! The coastline job: the coastline ways of an input joined to rings, land and water split into pieces of an output, and a
+//! report of all that is amiss.
 //!
 //! What it is to write in all is a definition over the objects of the input (specs/Coastline): what comes of the coastline
-//! ways, the polygons that are asked for, and the lines of the report, which tell how the run ends.
+//! ways, the polygons that are asked for, the leaves that they are split into, what is printed of those, and the lines of the
+//! report, which tell how the run ends. Too many leaves end it before anything is written.
 #![tactic(auto)]
 
 mod coast;
 mod found;
 mod line_laws;
 mod lines;
+mod pieces;
 mod polygons;
 mod work;
 mod writing;

@@ -1,8 +1,8 @@
 //! The polygons of land or water.
 
 ghost use Rattle.std.specs.Prelude.{IfOk};
-ghost use Rattle.job_coastline.specs.Coastline.{AreLand, AreWater};
-ghost use Rattle.job_coastline.specs.Pieces.{ArePolygons, has_land, has_water};
+ghost use Rattle.job_coastline.specs.Pieces.{ArePolygons};
+ghost use Rattle.osm_nest.specs.Cover.{AreSided};
 ghost use Rattle.plane_edges.specs.Sided.{IsSided};
 
 use osm_geom::Edge;
@@ -13,7 +13,8 @@ use std::alloc::{AllocError as OutOfMemory, Global};
 /// The polygons of sided edges: cut into rings, each inner ring put under the outer one that directly encloses it.
 pub(crate) fn polygons(alloc: Global, edges: &[Edge]) -> Result<Polygons, OutOfMemory>
     requires { IsSided edges.now }
-    ensures { IfOk result (λ polygons. ArePolygons edges.now polygons) }
+    ensures polygons { IfOk result (λ polygons. ArePolygons edges.now polygons) }
+    ensures sided { IfOk result (λ polygons. AreSided polygons) }
 {
     rings_may_be_nested();
     let rings = rings(alloc, edges)?;

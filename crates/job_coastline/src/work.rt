@@ -8,14 +8,17 @@ ghost use Rattle.osm_job.specs.Worked.{WroteOver};
 ghost use Rattle.osm_words.specs.Answers.{coastline_seen};
 
 use crate::found::{Found, found_in};
-use crate::writing::{Halt, write_found};
-use osm_host::{Host, streams_append};
+use crate::writing::write_found;
+use coast_split::SplitError;
+use osm_host::{Failed, Host, streams_append};
 use osm_job::{Ended, read_input};
 use osm_objects::Store;
 use osm_words::CoastlineSettings;
 use std::alloc::Global;
 
-/// Reads the input, joins its coastline ways, opens the output and writes what comes of them.
+/// Reads the input, joins its coastline ways, splits land and water, opens the output and writes what comes of them.
+///
+/// The output isn't opened where there are too many pieces.
 pub fn coastline<H: Host>(alloc: Global, settings: &CoastlineSettings<'_>, host: &mut H) -> Ended
     ensures { Coastlines (coastline_seen settings.now) result
         (H.seen host.old) (H.seen host.new) }
@@ -26,18 +29,19 @@ pub fn coastline<H: Host>(alloc: Global, settings: &CoastlineSettings<'_>, host:
         Ok(store) => store,
         Err(ended) => return ended,
     };
-    let Ok(found) = found_in(alloc, &store, settings) else {
-        return Ended::OutOfMemory;
+    let found = match found_in(alloc, &store, settings) {
+        Ok(found) => found,
+        Err(SplitError::TooManyPieces { most }) => return Ended::TooManyPieces { most },
+        Err(SplitError::OutOfMemory) => return Ended::OutOfMemory,
     };
     let Ok(()) = host.open_output(settings.output, settings.overwrite) else {
         return Ended::OpenFault;
     };
-    write_all(alloc, &store, settings, &found, host)
+    write_all(&store, settings, &found, host)
 }
 
 /// Writes all of it to the opened output, and says how the run ends.
 fn write_all<H: Host>(
-    alloc: Global,
     store: &Store,
     settings: &CoastlineSettings<'_>,
     found: &Found,
@@ -47,16 +51,15 @@ fn write_all<H: Host>(
     ensures { WroteOver (IsCoastline (coastline_seen settings.now) store.now) result
         (H.seen host.old) (H.seen host.new) }
 {
-    ended_by(found.ended, write_found(alloc, found, host))
+    ended_by(found.ended, write_found(found, host))
 }
 
 /// How a run ends whose output was opened.
-fn ended_by(ended: Ended, written: Result<(), Halt>) -> Ended
+fn ended_by(ended: Ended, written: Result<(), Failed>) -> Ended
     ensures { result ≡ ended_by ended written }
 {
     match written {
         Ok(()) => ended,
-        Err(Halt::WriteFault) => Ended::WriteFault,
-        Err(Halt::OutOfMemory) => Ended::OutOfMemory,
+        Err(_) => Ended::WriteFault,
     }
 }

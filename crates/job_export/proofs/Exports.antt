@@ -11,11 +11,13 @@ use Rattle.job_export.specs.declared.work.Halt.{Halt}
 use Rattle.job_export.specs.declared.work.Halt.TheVariants.{Stopped, WriteFault, OutOfMemory}
 use Rattle.job_export.specs.Entry.{Entry, entries_sent}
 use Rattle.job_export.specs.Framing.{footer, header}
+use Rattle.osm_job.specs.Cause.{by_itself, cause_of}
 use Rattle.osm_job.specs.Prefix.{IsPrefix}
 use Rattle.job_export.specs.ExportSteps.{AreEntriesOf, StopsAt, IsPrefixOf, going, stopping, AreAddedBy, IsExported}
 use Rattle.osm_job.specs.Sent.{Sent, to_output}
 use Rattle.osm_job.specs.Whole.{Whole}
 use Rattle.osm_job.specs.Worked.{IsBegun}
+use Rattle.job_export.specs.Laws.{ExportExists}
 use Rattle.job_export.specs.Export.{IsExport, finished, stopped, finished_whole, stopped_whole}
 use Rattle.job_export.proofs.Entries.{features_of, sent_behind, both_entries, stops_behind, no_entries, Rest, all_go, one_stops, rest_exists}
 use Rattle.osm_job.proofs.Prefixes.{whole_prefix, prefix_behind, prefix_of_longer, prefix_again}
@@ -100,3 +102,12 @@ module _ (settings : ExportSettings) (objects : List Object) where
 
     pub export_there : (whole : Whole) × IsExport settings objects whole
     export_there = whole_by (rest_exists outcome_exists line_exists settings objects all)
+
+-- ---- an export comes to its end
+export_ends : (settings : ExportSettings) (objects : List Object) (whole : Whole) → IsExport settings objects whole → cause_of whole.ended ≡ by_itself
+export_ends settings objects whole (finished entries of are all is) = ap (λ (w : Whole). cause_of w.ended) is
+export_ends settings objects whole (stopped entries last later stops of are at areas none is) = ap (λ (w : Whole). cause_of w.ended) is
+
+pub export_goes_out : ExportExists → (settings : ExportSettings) (objects : List Object) → (whole : Whole) × IsExport settings objects whole × (cause_of whole.ended ≡ by_itself)
+export_goes_out exists settings objects =
+    let whole = exists settings objects in (whole.0, whole.1, export_ends settings objects whole.0 whole.1)

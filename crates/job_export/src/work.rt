@@ -12,6 +12,7 @@ ghost use Rattle.osm_words.specs.Answers.{settings_seen};
 use crate::choice::candidates_of;
 use crate::entry::texts_of;
 use crate::framing::{footer, header};
+use crate::laws::export_exists;
 use crate::writing::write_texts;
 use opl_reader::ObjectRef;
 use osm_area::outcome_exists;
@@ -37,8 +38,9 @@ pub(crate) enum Halt {
 pub fn export<H: Host>(alloc: Global, settings: &ExportSettings<'_>, host: &mut H) -> Ended
     ensures { Exports (settings_seen settings.now) result (H.seen host.old) (H.seen host.new) }
 {
-    // By law: what is written and opened adds up in turn.
+    // By law: what is written and opened adds up in turn, and something is right to be written.
     streams_append();
+    export_exists();
     let store = match read_input(alloc, host, settings.file) {
         Ok(store) => store,
         Err(ended) => return ended,

@@ -10,7 +10,7 @@ use Rattle.osm_words.specs.declared.fault.WordsFault.TheVariants.{NoCommand, Unk
 use Rattle.osm_input.specs.declared.fault.InputFault.{InputFault}
 use Rattle.osm_input.specs.declared.fault.InputFault.TheVariants.{Line, TooLong, Duplicate}
 use Rattle.osm_job.specs.declared.ended.Ended.{Ended}
-use Rattle.osm_job.specs.declared.ended.Ended.TheVariants.{Done, Warnings, Errors, BadWords, BadInput, Stopped, TooMuchInput, OpenFault, ReadFault, WriteFault, OutOfMemory}
+use Rattle.osm_job.specs.declared.ended.Ended.TheVariants.{Done, Warnings, Errors, BadWords, BadInput, Stopped, TooMuchInput, TooManyPieces, OpenFault, ReadFault, WriteFault, OutOfMemory}
 
 abbrev pub words_line : WordsFault → List ℕ
 words_line NoCommand = codes "osmpoly: no command\n"
@@ -51,6 +51,7 @@ last_line (BadInput line fault) = fault_line line fault
 last_line (Stopped candidate) =
     codes "osmpoly: stopped at " ++ kind_word candidate.kind ++ codes " " ++ signed_decimal candidate.id ++ codes "\n"
 last_line (TooMuchInput limit) = codes "osmpoly: too much input\n"
+last_line (TooManyPieces most) = codes "osmpoly: too many pieces\n"
 last_line OpenFault = codes "osmpoly: open fault\n"
 last_line ReadFault = codes "osmpoly: read fault\n"
 last_line WriteFault = codes "osmpoly: write fault\n"

@@ -14,6 +14,7 @@ use Rattle.osm_job.specs.Sent.{Sent, output_of, report_of}
 use Rattle.osm_job.specs.Taken.{IsStopped, TookBy, read_error}
 use Rattle.osm_job.specs.Texts.{told_texts}
 use Rattle.osm_job.specs.Whole.{Whole}
+use Rattle.osm_job.specs.Worked.{IsReady}
 use Rattle.osm_job.specs.Written.{IsWrittenBy}
 use Rattle.osm_cli.specs.Job.{TookAll, inputs_of, outputs_of}
 use Rattle.osm_cli.specs.LastLine.{last_line}
@@ -59,9 +60,10 @@ JudgesInput (Err fault) ended before after = (after.left ≡ before.left) × (af
 
 -- ---- what was opened
 
--- The opens are those of the job, as far as the run came.
+-- The opens are those of the job, as far as the run came, its output only where what is right for it goes out.
 abbrev pub Opens : Result Job WordsFault → Cause → Outside → Outside → Type 0
-Opens (Ok job) cause before after = OpensBy (inputs_of job) (outputs_of job) (TookAll job) cause before after
+Opens (Ok job) cause before after =
+    OpensBy (inputs_of job) (outputs_of job) (IsReady (inputs_of job) (IsWhole job) (TookAll job)) cause before after
 Opens (Err fault) cause before after = after.opens ≡ before.opens
 
 -- ---- why it ended so
@@ -90,7 +92,7 @@ pub record Ran (words : Result Job WordsFault) (ended : Ended) (before after : O
   pub judges : JudgesWords words ended
   -- An input is refused only for what was taken off it, and only a whole one is written of.
   pub reads : JudgesInput words ended before after
-  -- No name is opened that the words don't give, and no output before the inputs are read.
+  -- No name is opened that the words don't give, and no output before the inputs are read, nor one for too many pieces.
   pub opens : Opens words (cause_of ended) before after
   -- OpenFault comes with one open that failed, ReadFault with one read, the last; the others with none, but for a read
   -- behind a bad line or before memory ran out.

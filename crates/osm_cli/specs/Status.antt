@@ -5,7 +5,7 @@ use Rattle.osm_words.specs.Words.{command_named, job_asked}
 use Rattle.osm_words.specs.declared.words.Command.{Command}
 use Rattle.osm_words.specs.declared.words.Command.TheVariants.{Coastline, Export, Unknown}
 use Rattle.osm_job.specs.declared.ended.Ended.{Ended}
-use Rattle.osm_job.specs.declared.ended.Ended.TheVariants.{Done, Warnings, Errors, BadWords, BadInput, Stopped, TooMuchInput, OpenFault, ReadFault, WriteFault, OutOfMemory}
+use Rattle.osm_job.specs.declared.ended.Ended.TheVariants.{Done, Warnings, Errors, BadWords, BadInput, Stopped, TooMuchInput, TooManyPieces, OpenFault, ReadFault, WriteFault, OutOfMemory}
 use Rattle.osm_cli.specs.Run.{Ran}
 
 -- of `export`, and of words that name no command
@@ -17,6 +17,7 @@ export_status (BadWords cause) = 2
 export_status (BadInput line fault) = 1
 export_status (Stopped candidate) = 1
 export_status (TooMuchInput limit) = 1
+export_status (TooManyPieces most) = 1
 export_status OpenFault = 1
 export_status ReadFault = 1
 export_status WriteFault = 1
@@ -31,6 +32,7 @@ coastline_status (BadWords cause) = 4
 coastline_status (BadInput line fault) = 3
 coastline_status (Stopped candidate) = 3
 coastline_status (TooMuchInput limit) = 3
+coastline_status (TooManyPieces most) = 3
 coastline_status OpenFault = 3
 coastline_status ReadFault = 3
 coastline_status WriteFault = 3

@@ -21,6 +21,7 @@ pub(crate) fn last_line(ended: &Ended) -> Line
         Ended::BadInput { line, fault } => fault_line(*line, fault),
         Ended::Stopped { candidate } => stopped_line(*candidate),
         Ended::TooMuchInput { .. } => line_of("osmpoly: too much input\n"),
+        Ended::TooManyPieces { .. } => line_of("osmpoly: too many pieces\n"),
         Ended::OpenFault => line_of("osmpoly: open fault\n"),
         Ended::ReadFault => line_of("osmpoly: read fault\n"),
         Ended::WriteFault => line_of("osmpoly: write fault\n"),

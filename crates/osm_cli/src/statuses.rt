@@ -30,6 +30,7 @@ fn coastline_status(ended: &Ended) -> u8
         Ended::Stopped { .. }
         | Ended::BadInput { .. }
         | Ended::TooMuchInput { .. }
+        | Ended::TooManyPieces { .. }
         | Ended::OpenFault
         | Ended::ReadFault
         | Ended::WriteFault => 3,
@@ -49,6 +50,7 @@ fn export_status(ended: &Ended) -> u8
         | Ended::Stopped { .. }
         | Ended::BadInput { .. }
         | Ended::TooMuchInput { .. }
+        | Ended::TooManyPieces { .. }
         | Ended::OpenFault
         | Ended::ReadFault
         | Ended::WriteFault => 1,

@@ -9,18 +9,18 @@ use Rattle.osm_input.specs.Keeps.{Keeps}
 use Rattle.osm_input.specs.Reading.{IsReadAs}
 use Rattle.osm_job.proofs.Keeping.{keeps_both, open_keeps, write_keeps}
 use Rattle.osm_job.specs.declared.ended.Ended.{Ended}
-use Rattle.osm_job.specs.declared.ended.Ended.TheVariants.{Done, Warnings, Errors, Stopped, BadWords, BadInput, TooMuchInput, OpenFault, ReadFault, WriteFault, OutOfMemory}
-use Rattle.osm_job.specs.Cause.{cause_of}
+use Rattle.osm_job.specs.declared.ended.Ended.TheVariants.{Done, Warnings, Errors, Stopped, BadWords, BadInput, TooMuchInput, TooManyPieces, OpenFault, ReadFault, WriteFault, OutOfMemory}
+use Rattle.osm_job.specs.Cause.{by_itself, cause_of}
 use Rattle.osm_job.specs.Faults.{CountsFaults, writes_failed}
 use Rattle.osm_job.specs.InputRead.{IsSilent, OpensOne, HasInput, LacksInput}
 use Rattle.osm_job.specs.Opens.{OpensBy, OpensInputs, opens_of}
 use Rattle.osm_job.specs.Sent.{Sent, output_of, report_of}
 use Rattle.osm_job.specs.Taken.{IsStopped, TookBy, TookInput, read_error}
 use Rattle.osm_job.specs.Texts.{Texts, both, told_texts}
-use Rattle.osm_job.specs.Whole.{Whole, read_ended, input_limit, longest_line}
-use Rattle.osm_job.specs.Worked.{IsBegun, IsWrittenOver, OverOne, ReadThenWrote, WroteOver}
+use Rattle.osm_job.specs.Whole.{Whole, read_ended, silent, input_limit, longest_line}
+use Rattle.osm_job.specs.Worked.{IsBegun, IsReady, IsWrittenOver, OverOne, ReadThenWrote, WroteOver}
 use Rattle.osm_job.specs.Writes.{Added}
-use Rattle.osm_job.specs.Written.{IsWrittenBy, WroteAll, WrotePrefix}
+use Rattle.osm_job.specs.Written.{GoesOut, IsWrittenBy, WroteAll, WrotePrefix}
 use Rattle.osm_job.proofs.Taken.{took_kept}
 
 module _ (law : StreamsAppend) (name : List ℕ) (second : Opened) (IsRight : List Object → Whole → Type 0) (before : Outside) where
@@ -30,11 +30,14 @@ module _ (law : StreamsAppend) (name : List ℕ) (second : Opened) (IsRight : Li
   abbrev Does : Ended → Outside → Type 0
   Does ended now = ReadThenWrote name second IsRight ended before now
 
+  abbrev Ready : Outside → Outside → Type 0
+  Ready = IsReady (name ∷ []) Right (TookInput name)
+
   -- ---- no output was opened
 
   -- nothing was written
   silent_work : (ended : Ended) (now : Outside) → IsSilent before now → IsWrittenBy Right (cause_of ended) (told_texts before.named (name ∷ [])) ended [] → IfSome (read_error ended) (λ error. IsStopped (name ∷ []) error before now) →
-      TookBy (TookInput name) (cause_of ended) before now → OpensBy (name ∷ []) (second ∷ []) (TookInput name) (cause_of ended) before now → CountsFaults ended before now →
+      TookBy (TookInput name) (cause_of ended) before now → OpensBy (name ∷ []) (second ∷ []) Ready (cause_of ended) before now → CountsFaults ended before now →
       now.write_faults ≡ writes_failed (cause_of ended) before.write_faults → Does ended now
   silent_work ended now silent right refused took opens faults write_faults = record {
     written = [];
@@ -67,6 +70,7 @@ module _ (law : StreamsAppend) (name : List ℕ) (second : Opened) (IsRight : Li
       silent_work (BadInput line fault) now l.silent (refl, all_silent (before.named name) (read.BadInput line fault) l.lack.right) l.lack.stopped tt (opens_input now l.lack.opens) l.faults l.silent.write_faults
   lacks_input (TooMuchInput limit) now l =
       silent_work (TooMuchInput limit) now l.silent (refl, all_silent (before.named name) (read.TooMuchInput limit) l.lack.right) l.lack.stopped tt (opens_input now l.lack.opens) l.faults l.silent.write_faults
+  lacks_input (TooManyPieces most) now l = absurd l.lack
   lacks_input OpenFault now l =
       silent_work OpenFault now l.silent refl tt tt (elim l.lack [
         | inl one ↦ (1, (one, λ two. absurd (omega arith)))
@@ -77,10 +81,31 @@ module _ (law : StreamsAppend) (name : List ℕ) (second : Opened) (IsRight : Li
   lacks_input OutOfMemory now l = silent_work OutOfMemory now l.silent (inl refl) tt tt (1, (l.lack, λ two. absurd (omega arith))) l.faults l.silent.write_faults
 
   module _ (objects : List Object) (now : Outside) (has : HasInput name objects before now) where
+    all_told : (left : Option (List ℕ)) (ended : Ended) (written : List Sent) → IfSome left (λ bytes. IsReadAs input_limit longest_line bytes (Ok objects)) → IsRight objects (record { written = written; ended = ended }) →
+        WroteAll Right (both left (Some tt)) ended written
+    all_told None ended written is right = tt
+    all_told (Some bytes) ended written is right = record { read = Ok objects; is_read = is; after = right }
+
+    prefix_told : (left : Option (List ℕ)) (written : List Sent) → IfSome left (λ bytes. IsReadAs input_limit longest_line bytes (Ok objects)) → IsBegun (IsRight objects) written →
+        WrotePrefix Right (both left (Some tt)) written
+    prefix_told None written is begun = tt
+    prefix_told (Some bytes) written is begun = (begun.0, record { read = Ok objects; is_read = is; after = begun.1 }, begun.2, begun.3)
+
+    goes_told : (left : Option (List ℕ)) → IfSome left (λ bytes. IsReadAs input_limit longest_line bytes (Ok objects)) → (whole : Whole) × IsRight objects whole × (cause_of whole.ended ≡ by_itself) →
+        GoesOut Right (both left (Some tt))
+    goes_told None is goes = tt
+    goes_told (Some bytes) is goes = (goes.0, record { read = Ok objects; is_read = is; after = goes.1 }, goes.2)
+
     -- memory ran out behind the reading
     pub no_memory : Does OutOfMemory now
     no_memory =
         silent_work OutOfMemory now has.silent (inl refl) tt tt (1, (has.opens, λ two. absurd (omega arith))) (record { opens = has.open_faults; reads = inl has.read_faults }) has.silent.write_faults
+
+    -- there are too many pieces
+    pub too_many : (most : ℕ) → IsRight objects (silent (TooManyPieces most)) → Does (TooManyPieces most) now
+    too_many most right =
+        silent_work (TooManyPieces most) now has.silent (refl, all_told (before.named name) (TooManyPieces most) [] has.right right) tt (objects, has.took) has.opens
+        (record { opens = has.open_faults; reads = has.read_faults }) has.silent.write_faults
 
     -- ---- the output is asked for
 
@@ -95,8 +120,8 @@ module _ (law : StreamsAppend) (name : List ℕ) (second : Opened) (IsRight : Li
       took_so_far = (objects, took_kept now opened still_left still_counted before (name ∷ []) (Ok objects) has.took)
 
       -- it isn't opened
-      pub output_not_opened : opened.open_faults ≡ risen now.open_faults → ((opened.opens ≡ appended now.opens (second ∷ [])) ⊎ (opened.opens ≡ now.opens)) → Does OpenFault opened
-      output_not_opened failed listed_or_not = record {
+      pub output_not_opened : (whole : Whole) × IsRight objects whole × (cause_of whole.ended ≡ by_itself) → opened.open_faults ≡ risen now.open_faults → ((opened.opens ≡ appended now.opens (second ∷ [])) ⊎ (opened.opens ≡ now.opens)) → Does OpenFault opened
+      output_not_opened goes failed listed_or_not = record {
         written = [];
         out = opens_only.out ∙ has.silent.out ∙ sym (law.no_bytes before.out);
         report = opens_only.report ∙ has.silent.report ∙ sym (law.no_bytes before.report);
@@ -104,7 +129,7 @@ module _ (law : StreamsAppend) (name : List ℕ) (second : Opened) (IsRight : Li
         refused = tt;
         took = tt;
         opens = elim listed_or_not [
-          | inl two ↦ (2, (both_opens opened two, λ _. took_so_far))
+          | inl two ↦ (2, (both_opens opened two, λ _. (took_so_far, goes_told (before.named name) has.right goes)))
           | inr one ↦ (1, (one ∙ has.opens, λ two. absurd (omega arith)))
         ];
         faults = record {
@@ -116,16 +141,6 @@ module _ (law : StreamsAppend) (name : List ℕ) (second : Opened) (IsRight : Li
       }
 
       module _ (lists : opened.opens ≡ appended now.opens (second ∷ [])) (same : opened.open_faults ≡ now.open_faults) (last : Outside) where
-        all_told : (left : Option (List ℕ)) (ended : Ended) (written : List Sent) → IfSome left (λ bytes. IsReadAs input_limit longest_line bytes (Ok objects)) → IsRight objects (record { written = written; ended = ended }) →
-            WroteAll Right (both left (Some tt)) ended written
-        all_told None ended written is right = tt
-        all_told (Some bytes) ended written is right = record { read = Ok objects; is_read = is; after = right }
-
-        prefix_told : (left : Option (List ℕ)) (written : List Sent) → IfSome left (λ bytes. IsReadAs input_limit longest_line bytes (Ok objects)) → IsBegun (IsRight objects) written →
-            WrotePrefix Right (both left (Some tt)) written
-        prefix_told None written is begun = tt
-        prefix_told (Some bytes) written is begun = (begun.0, record { read = Ok objects; is_read = is; after = begun.1 }, begun.2, begun.3)
-
         module _ (written : List Sent) (added : Added written opened last) where
           all_opens : last.opens ≡ appended before.opens (opens_of (name ∷ []) (second ∷ []))
           all_opens = both_opens last (added.rest.opens ∙ lists)
@@ -143,7 +158,7 @@ module _ (law : StreamsAppend) (name : List ℕ) (second : Opened) (IsRight : Li
           writes_so_far = opens_only.write_faults ∙ has.silent.write_faults
 
           works : (ended : Ended) → IsWrittenBy Right (cause_of ended) (told_texts before.named (name ∷ [])) ended written → IfSome (read_error ended) (λ error. IsStopped (name ∷ []) error before last) →
-              TookBy (TookInput name) (cause_of ended) before last → OpensBy (name ∷ []) (second ∷ []) (TookInput name) (cause_of ended) before last → CountsFaults ended before last →
+              TookBy (TookInput name) (cause_of ended) before last → OpensBy (name ∷ []) (second ∷ []) Ready (cause_of ended) before last → CountsFaults ended before last →
               last.write_faults ≡ writes_failed (cause_of ended) before.write_faults → Does ended last
           works ended right refused took opens faults write_faults = record {
             written = written;
@@ -170,12 +185,13 @@ module _ (law : StreamsAppend) (name : List ℕ) (second : Opened) (IsRight : Li
           over (BadWords cause) right counts = absurd right
           over (BadInput line fault) right counts = absurd right
           over (TooMuchInput limit) right counts = absurd right
+          over (TooManyPieces most) right counts = absurd right
           over OpenFault right counts = absurd right
           over ReadFault right counts = absurd right
           over WriteFault right counts =
               works WriteFault (prefix_told (before.named name) written has.right right) tt took_all all_opens (record { opens = opens_same; reads = reads_same }) (counts ∙ ap risen writes_so_far)
           over OutOfMemory right counts =
-              works OutOfMemory (inr (prefix_told (before.named name) written has.right right)) tt tt (2, (all_opens, λ _. took_all)) (record { opens = opens_same; reads = inl reads_same }) (counts ∙ writes_so_far)
+              works OutOfMemory (inr (prefix_told (before.named name) written has.right right)) tt tt (2, (all_opens, λ _. (took_all, goes_told (before.named name) has.right (right.0, right.1, right.2)))) (record { opens = opens_same; reads = inl reads_same }) (counts ∙ writes_so_far)
 
         -- it was written, as far as the job came
         pub output_written : (ended : Ended) → WroteOver (IsRight objects) ended opened last → Does ended last

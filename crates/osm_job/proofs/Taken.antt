@@ -4,7 +4,7 @@ use Rattle.opl_reader.specs.declared.object.Object.{Object}
 use Rattle.osm_host.specs.Outside.{Outside, preceded}
 use Rattle.osm_input.specs.declared.reading.ReadError.{ReadError}
 use Rattle.osm_input.specs.declared.reading.ReadError.TheVariants as read
-use Rattle.osm_job.specs.Cause.{Cause, by_itself, by_words, by_input, by_open, by_read, by_write, by_memory}
+use Rattle.osm_job.specs.Cause.{Cause, by_itself, by_words, by_input, by_pieces, by_open, by_read, by_write, by_memory}
 use Rattle.osm_input.specs.Reading.{IsAnswer}
 use Rattle.osm_job.specs.Taken.{TookOff, IsStopped, TookInput, TookBy}
 use Rattle.osm_job.specs.Whole.{input_limit, longest_line}
@@ -47,6 +47,7 @@ pub taken_kept : (TookAll : Outside → Outside → Type 0) (before middle now :
 taken_kept TookAll before middle now still by_itself took = still took
 taken_kept TookAll before middle now still by_words took = took
 taken_kept TookAll before middle now still by_input took = tt
+taken_kept TookAll before middle now still by_pieces took = still took
 taken_kept TookAll before middle now still by_open took = tt
 taken_kept TookAll before middle now still by_read took = tt
 taken_kept TookAll before middle now still by_write took = still took

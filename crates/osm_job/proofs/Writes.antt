@@ -138,47 +138,47 @@ wrote_report bytes before now (Err e) all front counts rest = record {
   counts = counts;
 }
 
--- ---- report lines, of which the first k are written
+-- ---- lines that go to one place, of which the first k are written
 
-module _ {X : Type 0} (g : X → List ℕ) (xs : List X) (k : ℕ) (d : X) (lt : k < length xs) where
+module _ (to : ℕ → Sent) {X : Type 0} (g : X → List ℕ) (xs : List X) (k : ℕ) (d : X) (lt : k < length xs) where
   abbrev first_lines : List Sent
-  first_lines = map to_report (flat_map g (take k xs))
+  first_lines = map to (flat_map g (take k xs))
 
   abbrev next_line : List Sent
-  next_line = map to_report (g (get_or xs k d))
+  next_line = map to (g (get_or xs k d))
 
   lines_next : flat_map g (take (k + 1) xs) ≡ flat_map g (take k xs) ++ g (get_or xs k d)
   lines_next = ap (flat_map g) (take_more xs k d lt) ∙ flat_map-append g (take k xs) (get_or xs k d ∷ []) ∙ ap (λ (zs : List ℕ). flat_map g (take k xs) ++ zs) (append-nil (g (get_or xs k d)))
 
-  sent_next : map to_report (flat_map g (take (k + 1) xs)) ≡ first_lines ++ next_line
-  sent_next = ap (map to_report) lines_next ∙ map-append to_report (flat_map g (take k xs)) (g (get_or xs k d))
+  sent_next : map to (flat_map g (take (k + 1) xs)) ≡ first_lines ++ next_line
+  sent_next = ap (map to) lines_next ∙ map-append to (flat_map g (take k xs)) (g (get_or xs k d))
 
-  sent_whole : map to_report (flat_map g xs) ≡ (first_lines ++ next_line) ++ map to_report (flat_map g (drop (k + 1) xs))
-  sent_whole = ap (λ (zs : List X). map to_report (flat_map g zs)) (sym (take-append-drop (k + 1) xs))
-      ∙ ap (map to_report) (flat_map-append g (take (k + 1) xs) (drop (k + 1) xs))
-      ∙ map-append to_report (flat_map g (take (k + 1) xs)) (flat_map g (drop (k + 1) xs))
-      ∙ ap (λ (zs : List Sent). zs ++ map to_report (flat_map g (drop (k + 1) xs))) sent_next
+  sent_whole : map to (flat_map g xs) ≡ (first_lines ++ next_line) ++ map to (flat_map g (drop (k + 1) xs))
+  sent_whole = ap (λ (zs : List X). map to (flat_map g zs)) (sym (take-append-drop (k + 1) xs))
+      ∙ ap (map to) (flat_map-append g (take (k + 1) xs) (drop (k + 1) xs))
+      ∙ map-append to (flat_map g (take (k + 1) xs)) (flat_map g (drop (k + 1) xs))
+      ∙ ap (λ (zs : List Sent). zs ++ map to (flat_map g (drop (k + 1) xs))) sent_next
 
   -- the next one is written
-  pub next_wrote : {E : Type 0} (before middle now : Outside) → Wrote {T = Unit {0}} {E = E} (map to_report (flat_map g (take k xs))) before middle (Ok tt) →
-      Wrote {T = Unit {0}} {E = E} (map to_report (g (get_or xs k d))) middle now (Ok tt) → Wrote {T = Unit {0}} {E = E} (map to_report (flat_map g (take (k + 1) xs))) before now (Ok tt)
+  pub next_wrote : {E : Type 0} (before middle now : Outside) → Wrote {T = Unit {0}} {E = E} (map to (flat_map g (take k xs))) before middle (Ok tt) →
+      Wrote {T = Unit {0}} {E = E} (map to (g (get_or xs k d))) middle now (Ok tt) → Wrote {T = Unit {0}} {E = E} (map to (flat_map g (take (k + 1) xs))) before now (Ok tt)
   next_wrote {E} before middle now first then =
       subst (λ (all : List Sent). Wrote {T = Unit {0}} {E = E} all before now (Ok tt)) (sym sent_next) (then_more first_lines next_line before middle now tt (Ok tt) first then)
 
   -- the next one isn't
-  pub next_failed : {E T : Type 0} (before middle now : Outside) (e : E) → Wrote {T = Unit {0}} {E = E} (map to_report (flat_map g (take k xs))) before middle (Ok tt) →
-      Wrote {T = Unit {0}} {E = E} (map to_report (g (get_or xs k d))) middle now (Err e) → Wrote {T = T} (map to_report (flat_map g xs)) before now (Err e)
+  pub next_failed : {E T : Type 0} (before middle now : Outside) (e : E) → Wrote {T = Unit {0}} {E = E} (map to (flat_map g (take k xs))) before middle (Ok tt) →
+      Wrote {T = Unit {0}} {E = E} (map to (g (get_or xs k d))) middle now (Err e) → Wrote {T = T} (map to (flat_map g xs)) before now (Err e)
   next_failed {E} {T} before middle now e first then =
       subst (λ (all : List Sent). Wrote {T = T} {E = E} all before now (Err e)) (sym sent_whole)
-      (of_longer {T = Unit {0}} {T' = T} (first_lines ++ next_line) (map to_report (flat_map g (drop (k + 1) xs))) before now e
+      (of_longer {T = Unit {0}} {T' = T} (first_lines ++ next_line) (map to (flat_map g (drop (k + 1) xs))) before now e
       (then_more first_lines next_line before middle now tt (Err e) first then))
 
 -- the line is the same, seen as a slice
-pub same_line : (line item : Vec ℕ Global) (bytes : List ℕ) (before now : Outside) (r : Result (Unit {0}) Failed) → line ≡ item → bytes ≡ line.items → Wrote (map to_report bytes) before now r → Wrote (map to_report item.items) before now r
-same_line line item bytes before now r is same wrote =
-    subst (λ (l : Vec ℕ Global). Wrote (map to_report l.items) before now r) is (subst (λ (xs : List ℕ). Wrote (map to_report xs) before now r) same wrote)
+pub same_line : (to : ℕ → Sent) (line item : Vec ℕ Global) (bytes : List ℕ) (before now : Outside) (r : Result (Unit {0}) Failed) → line ≡ item → bytes ≡ line.items → Wrote (map to bytes) before now r → Wrote (map to item.items) before now r
+same_line to line item bytes before now r is same wrote =
+    subst (λ (l : Vec ℕ Global). Wrote (map to l.items) before now r) is (subst (λ (xs : List ℕ). Wrote (map to xs) before now r) same wrote)
 
 -- all are written
-pub all_wrote : {X E : Type 0} (g : X → List ℕ) (xs : List X) (n : ℕ) (before now : Outside) → length xs ≤ n → Wrote {T = Unit {0}} {E = E} (map to_report (flat_map g (take n xs))) before now (Ok tt) →
-    Wrote {T = Unit {0}} {E = E} (map to_report (flat_map g xs)) before now (Ok tt)
-all_wrote {X} {E} g xs n before now all w = let e = take_all n xs all in subst (λ zs. Wrote {T = Unit {0}} {E = E} (map to_report (flat_map g zs)) before now (Ok tt)) e w
+pub all_wrote : (to : ℕ → Sent) {X E : Type 0} (g : X → List ℕ) (xs : List X) (n : ℕ) (before now : Outside) → length xs ≤ n → Wrote {T = Unit {0}} {E = E} (map to (flat_map g (take n xs))) before now (Ok tt) →
+    Wrote {T = Unit {0}} {E = E} (map to (flat_map g xs)) before now (Ok tt)
+all_wrote to {X} {E} g xs n before now all w = let e = take_all n xs all in subst (λ zs. Wrote {T = Unit {0}} {E = E} (map to (flat_map g zs)) before now (Ok tt)) e w

@@ -7,7 +7,7 @@ use Rattle.osm_input.specs.declared.reading.ReadError.TheVariants as read
 use Rattle.osm_input.specs.Keeps.{Keeps}
 use Rattle.osm_input.specs.Reading.{IsReadAs}
 use Rattle.osm_job.specs.declared.ended.Ended.{Ended}
-use Rattle.osm_job.specs.declared.ended.Ended.TheVariants.{Done, Warnings, Errors, Stopped, BadWords, BadInput, TooMuchInput, OpenFault, ReadFault, WriteFault, OutOfMemory}
+use Rattle.osm_job.specs.declared.ended.Ended.TheVariants.{Done, Warnings, Errors, Stopped, BadWords, BadInput, TooMuchInput, TooManyPieces, OpenFault, ReadFault, WriteFault, OutOfMemory}
 use Rattle.osm_job.specs.Faults.{CountsFaults}
 use Rattle.osm_job.specs.Taken.{TookOff, IsStopped}
 use Rattle.osm_job.specs.Whole.{input_limit, longest_line}
@@ -47,6 +47,7 @@ IsLack name (Stopped candidate) before now = ⊥
 IsLack name (BadWords cause) before now = ⊥
 IsLack name (BadInput line fault) before now = Refuses name (read.BadInput line fault) before now
 IsLack name (TooMuchInput limit) before now = Refuses name (read.TooMuchInput limit) before now
+IsLack name (TooManyPieces most) before now = ⊥
 IsLack name OpenFault before now = OpensOne name before now ⊎ (now.opens ≡ before.opens)
 IsLack name ReadFault before now = IsStopped (name ∷ []) read.ReadFault before now × OpensOne name before now
 IsLack name WriteFault before now = ⊥

@@ -6,8 +6,8 @@ use Rattle.osm_input.specs.declared.reading.ReadError.{ReadError}
 use Rattle.osm_input.specs.declared.reading.ReadError.TheVariants as read
 use Rattle.osm_input.specs.Reading.{IsAnswer}
 use Rattle.osm_job.specs.declared.ended.Ended.{Ended}
-use Rattle.osm_job.specs.declared.ended.Ended.TheVariants.{Done, Warnings, Errors, Stopped, BadWords, BadInput, TooMuchInput, OpenFault, ReadFault, WriteFault, OutOfMemory}
-use Rattle.osm_job.specs.Cause.{Cause, by_itself, by_words, by_input, by_open, by_read, by_write, by_memory}
+use Rattle.osm_job.specs.declared.ended.Ended.TheVariants.{Done, Warnings, Errors, Stopped, BadWords, BadInput, TooMuchInput, TooManyPieces, OpenFault, ReadFault, WriteFault, OutOfMemory}
+use Rattle.osm_job.specs.Cause.{Cause, by_itself, by_words, by_input, by_pieces, by_open, by_read, by_write, by_memory}
 use Rattle.osm_job.specs.Whole.{input_limit, longest_line}
 
 -- These bytes were taken off one of the inputs and counted, and this is answered of them.
@@ -40,16 +40,18 @@ read_error (Stopped candidate) = None
 read_error (BadWords cause) = None
 read_error (BadInput line fault) = Some (read.BadInput line fault)
 read_error (TooMuchInput limit) = Some (read.TooMuchInput limit)
+read_error (TooManyPieces most) = None
 read_error OpenFault = None
 read_error ReadFault = Some read.ReadFault
 read_error WriteFault = None
 read_error OutOfMemory = None
 
--- Where a run came to its end or a write failed, the inputs were taken to their ends.
+-- Where a run came to its end, has too many pieces or a write failed, the inputs were taken to their ends.
 abbrev pub TookBy : (Outside → Outside → Type 0) → Cause → Outside → Outside → Type 0
 TookBy TookAll by_itself before after = TookAll before after
 TookBy TookAll by_words before after = ⊥
 TookBy TookAll by_input before after = Unit {0}
+TookBy TookAll by_pieces before after = TookAll before after
 TookBy TookAll by_open before after = Unit {0}
 TookBy TookAll by_read before after = Unit {0}
 TookBy TookAll by_write before after = TookAll before after

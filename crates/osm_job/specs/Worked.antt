@@ -4,7 +4,7 @@ use Rattle.opl_reader.specs.declared.object.Object.{Object}
 use Rattle.osm_host.specs.Outside.{Outside, Opened, appended}
 use Rattle.osm_input.specs.Keeps.{Keeps}
 use Rattle.osm_job.specs.declared.ended.Ended.{Ended}
-use Rattle.osm_job.specs.Cause.{Cause, by_itself, by_words, by_input, by_open, by_read, by_write, by_memory, cause_of}
+use Rattle.osm_job.specs.Cause.{Cause, by_itself, by_words, by_input, by_pieces, by_open, by_read, by_write, by_memory, cause_of}
 use Rattle.osm_job.specs.Faults.{CountsFaults, writes_failed}
 use Rattle.osm_job.specs.Opens.{OpensBy}
 use Rattle.osm_job.specs.Prefix.{IsPrefix}
@@ -13,7 +13,11 @@ use Rattle.osm_job.specs.Taken.{IsStopped, TookBy, TookInput, read_error}
 use Rattle.osm_job.specs.Texts.{Texts, told_texts}
 use Rattle.osm_job.specs.Whole.{IsReadThen, Whole}
 use Rattle.osm_job.specs.Writes.{Added}
-use Rattle.osm_job.specs.Written.{IsWrittenBy}
+use Rattle.osm_job.specs.Written.{GoesOut, IsWrittenBy}
+
+-- An output may be asked for: the inputs of these names were taken, and what is right for them goes out.
+abbrev pub IsReady : (inputs : List (List ℕ)) → (Texts inputs → Whole → Type 0) → (Outside → Outside → Type 0) → Outside → Outside → Type 0
+IsReady inputs IsRight TookAll before after = TookAll before after × GoesOut IsRight (told_texts before.named inputs)
 
 -- A job ended so, but for its last line: a job of these inputs and outputs, for which this is right over the texts of its
 -- inputs, and which has taken all of them where this holds.
@@ -24,7 +28,7 @@ pub record Worked (inputs : List (List ℕ)) (outputs : List Opened) (IsRight : 
   pub right : IsWrittenBy IsRight (cause_of ended) (told_texts before.named inputs) ended written
   pub refused : IfSome (read_error ended) (λ error. IsStopped inputs error before after)
   pub took : TookBy TookAll (cause_of ended) before after
-  pub opens : OpensBy inputs outputs TookAll (cause_of ended) before after
+  pub opens : OpensBy inputs outputs (IsReady inputs IsRight TookAll) (cause_of ended) before after
   pub faults : CountsFaults ended before after
   pub write_faults : after.write_faults ≡ writes_failed (cause_of ended) before.write_faults
   pub keeps : Keeps before after
@@ -49,6 +53,7 @@ abbrev pub IsWrittenOver : (Whole → Type 0) → Cause → Ended → List Sent 
 IsWrittenOver IsRight by_itself ended written = IsRight (record { written = written; ended = ended })
 IsWrittenOver IsRight by_words ended written = ⊥
 IsWrittenOver IsRight by_input ended written = ⊥
+IsWrittenOver IsRight by_pieces ended written = ⊥
 IsWrittenOver IsRight by_open ended written = ⊥
 IsWrittenOver IsRight by_read ended written = ⊥
 IsWrittenOver IsRight by_write ended written = IsBegun IsRight written

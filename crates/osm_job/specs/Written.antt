@@ -1,7 +1,7 @@
 -- What a job wrote, against what is right for it over its inputs.
 use Rattle.std.specs.Prelude.{◌≡◌, ◌⊎◌, List, [], Option, IfSome}
 use Rattle.osm_job.specs.declared.ended.Ended.{Ended}
-use Rattle.osm_job.specs.Cause.{Cause, by_itself, by_words, by_input, by_open, by_read, by_write, by_memory, cause_of}
+use Rattle.osm_job.specs.Cause.{Cause, by_itself, by_words, by_input, by_pieces, by_open, by_read, by_write, by_memory, cause_of}
 use Rattle.osm_job.specs.Prefix.{IsPrefix}
 use Rattle.osm_job.specs.Sent.{Sent}
 use Rattle.osm_job.specs.Whole.{Whole}
@@ -11,17 +11,22 @@ abbrev pub WroteAll : {T : Type 0} → (T → Whole → Type 0) → Option T →
 WroteAll IsRight told ended written =
     IfSome told (λ texts. IsRight texts (record { written = written; ended = ended }))
 
--- a prefix of it; the inputs aren't refused
+-- a prefix of it, where it comes to its end
 abbrev pub WrotePrefix : {T : Type 0} → (T → Whole → Type 0) → Option T → List Sent → Type 0
 WrotePrefix IsRight told written =
     IfSome told (λ texts. (whole : Whole) × IsRight texts whole
     × (cause_of whole.ended ≡ by_itself) × IsPrefix written whole.written)
+
+-- What is right over them comes to its end, so that an output is opened for it.
+abbrev pub GoesOut : {T : Type 0} → (T → Whole → Type 0) → Option T → Type 0
+GoesOut IsRight told = IfSome told (λ texts. (whole : Whole) × IsRight texts whole × (cause_of whole.ended ≡ by_itself))
 
 -- What was written but for the last line is right for the inputs of a job, by what ended the run.
 abbrev pub IsWrittenBy : {T : Type 0} → (T → Whole → Type 0) → Cause → Option T → Ended → List Sent → Type 0
 IsWrittenBy IsRight by_itself told ended written = WroteAll IsRight told ended written
 IsWrittenBy IsRight by_words told ended written = ⊥
 IsWrittenBy IsRight by_input told ended written = (written ≡ []) × WroteAll IsRight told ended written
+IsWrittenBy IsRight by_pieces told ended written = (written ≡ []) × WroteAll IsRight told ended written
 IsWrittenBy IsRight by_open told ended written = written ≡ []
 IsWrittenBy IsRight by_read told ended written = written ≡ []
 IsWrittenBy IsRight by_write told ended written = WrotePrefix IsRight told written

@@ -21,6 +21,8 @@ pub enum Ended {
     BadInput { line: u64, fault: InputFault },
     /// The input has more bytes than this limit.
     TooMuchInput { limit: u64 },
+    /// What is asked for has more pieces than this: leaves are counted, before the output is opened.
+    TooManyPieces { most: u64 },
     /// An open failed.
     OpenFault,
     /// A read failed.

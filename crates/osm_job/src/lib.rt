@@ -11,4 +11,4 @@ mod writing;
 
 pub use ended::Ended;
 pub use input::read_input;
-pub use writing::{write_lines, write_out, write_report};
+pub use writing::{write_lines, write_out, write_pieces, write_report};

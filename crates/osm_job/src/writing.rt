@@ -20,6 +20,19 @@ pub fn write_report<H: Host>(host: &mut H, piece: &[u8]) -> Result<(), Failed>
     write_all_report(host, piece)
 }
 
+/// Writes pieces of the output, one after the other. None is written behind one that couldn't be.
+pub fn write_pieces<H: Host>(host: &mut H, pieces: &[Vec<u8>]) -> Result<(), Failed>
+    ensures { Wrote (map to_output (lines_text pieces.now)) (H.seen host.old) (H.seen host.new)
+        result }
+{
+    for piece in pieces {
+        if let Err(fault) = write_out(host, piece) {
+            return Err(fault);
+        }
+    }
+    Ok(())
+}
+
 /// Writes report lines, each as a piece of its own. None is written behind one that couldn't be.
 pub fn write_lines<H: Host>(host: &mut H, lines: &[Vec<u8>]) -> Result<(), Failed>
     ensures { Wrote (map to_report (lines_text lines.now)) (H.seen host.old) (H.seen host.new)

@@ -1,12 +1,51 @@
--- The lines of a report can be printed.
-use Rattle.std.proofs.Common.{◌∙◌, sym, subst, All}
-use Rattle.coast_sides.specs.Segments.{all_segments}
+-- What was found is right, by the steps; or there are too many leaves.
+use Rattle.std.proofs.Common.{◌∙◌, ◌++◌, All, Bool, List, ap₂, ap, subst, sym}
+use Rattle.osm_job.specs.declared.ended.Ended.{Ended}
 use Rattle.osm_report.specs.Coast.{HasItsKind}
+use Rattle.osm_report.specs.declared.coast.CoastLine.{CoastLine}
+use Rattle.osm_job.specs.Sent.{lines_text}
+use Rattle.osm_nest.specs.declared.polygon.Polygon.{Polygon}
+use Rattle.osm_words.specs.Answers.{coastline_seen}
 use Rattle.job_coastline.specs.Coast.{coast_seen}
-use Rattle.job_coastline.proofs.LineKinds.{lines_of_kind}
+use Rattle.job_coastline.specs.Coastline.{AreLand, AreWater}
+use Rattle.job_coastline.specs.Found.{IsFound}
+use Rattle.job_coastline.specs.Report.{ArePrinted, coast_lines, ending_of}
+use Rattle.job_coastline.proofs.Together.{found_right, told_of_kind, too_many_right}
 use Rattle.job_coastline.proofs.found.found_in.Goals as goal
+
+pub returns-in-Err-clause-many : goal.returns-in-Err-clause-many
+returns-in-Err-clause-many c m is =
+    let edges = c.in_ok-coast.coast.land.edges in
+    let both = c.in-Err.ensures.many m is in
+    too_many_right (coastline_seen c.args.settings.now) c.args.store.now (coast_seen c.in_ok-coast.coast) c.in_ok-coast.ensures
+    c.as_slice.result.now
+    (subst (λ (asked : Bool). AreLand asked edges c.as_slice.result.now) c.has_land.ensures (subst (λ (ps : List Polygon). AreLand c.has_land.result edges ps) (sym c.as_slice.ensures) c.in_ok-land.ensures.land))
+    c.as_slice-2.result.now
+    (subst (λ (asked : Bool). AreWater asked edges c.as_slice-2.result.now) c.has_water.ensures (subst (λ (ps : List Polygon). AreWater c.has_water.result edges ps) (sym c.as_slice-2.ensures) c.in_ok-water.ensures.water))
+    both.1 m both.0
 
 pub printed-requires : goal.printed-requires
 printed-requires c =
-    subst (All HasItsKind) (sym (c.deref-2.ensures.value ∙ c.in_ok-lines.ensures))
-    (lines_of_kind (all_segments c.in_ok-coast.coast.joined.rings) (coast_seen c.in_ok-coast.coast) c.in_ok-coast.ensures.sorted.pairs)
+    let edges = c.in_ok-coast.coast.land.edges in
+    subst (All HasItsKind) (sym c.deref-4.ensures.value)
+    (told_of_kind (coastline_seen c.args.settings.now) c.args.store.now (coast_seen c.in_ok-coast.coast) c.in_ok-coast.ensures
+    c.as_slice.result.now
+    (subst (λ (asked : Bool). AreLand asked edges c.as_slice.result.now) c.has_land.ensures (subst (λ (ps : List Polygon). AreLand c.has_land.result edges ps) (sym c.as_slice.ensures) c.in_ok-land.ensures.land))
+    c.as_slice-2.result.now
+    (subst (λ (asked : Bool). AreWater asked edges c.as_slice-2.result.now) c.has_water.ensures (subst (λ (ps : List Polygon). AreWater c.has_water.result edges ps) (sym c.as_slice-2.ensures) c.in_ok-water.ensures.water))
+    c.in-Ok.land c.in-Ok.water c.in-Ok.ensures.land c.in-Ok.ensures.water c.in_ok-lines.lines.items
+    (c.in_ok-lines.ensures ∙ ap (λ (ls : List CoastLine). coast_lines (coast_seen c.in_ok-coast.coast) ++ ls) (ap₂ (λ (a b : List CoastLine). a ++ b) c.deref.ensures.value c.deref-2.ensures.value)))
+
+pub returns-clause-found : goal.returns-clause-found
+returns-clause-found c =
+    let edges = c.in_ok-coast.coast.land.edges in
+    subst (λ (e : Ended). IsFound (coastline_seen c.args.settings.now) c.args.store.now (record { land = c.in-Ok.land.texts; water = c.in-Ok.water.texts; lines = c.in_ok-printed.field-0; ended = e }))
+    (sym (c.ending_of.ensures ∙ ap ending_of c.deref-3.ensures.value))
+    (found_right (coastline_seen c.args.settings.now) c.args.store.now (coast_seen c.in_ok-coast.coast) c.in_ok-coast.ensures
+    c.as_slice.result.now
+    (subst (λ (asked : Bool). AreLand asked edges c.as_slice.result.now) c.has_land.ensures (subst (λ (ps : List Polygon). AreLand c.has_land.result edges ps) (sym c.as_slice.ensures) c.in_ok-land.ensures.land))
+    c.as_slice-2.result.now
+    (subst (λ (asked : Bool). AreWater asked edges c.as_slice-2.result.now) c.has_water.ensures (subst (λ (ps : List Polygon). AreWater c.has_water.result edges ps) (sym c.as_slice-2.ensures) c.in_ok-water.ensures.water))
+    c.in-Ok.land c.in-Ok.water c.in-Ok.ensures.land c.in-Ok.ensures.water c.in_ok-lines.lines.items
+    (c.in_ok-lines.ensures ∙ ap (λ (ls : List CoastLine). coast_lines (coast_seen c.in_ok-coast.coast) ++ ls) (ap₂ (λ (a b : List CoastLine). a ++ b) c.deref.ensures.value c.deref-2.ensures.value))
+    c.in_ok-printed.field-0 (subst (λ (ls : List CoastLine). ArePrinted ls (lines_text c.in_ok-printed.field-0.items)) c.deref-4.ensures.value c.in_ok-printed.ensures) c.in-Ok.ensures.few)

@@ -1,6 +1,6 @@
 use Rattle.coast_sides.specs.Segments.{all_segments}
-use Rattle.job_coastline.proofs.LineKinds.{lines_of_kind}
+use Rattle.job_coastline.proofs.LineKinds.{all_of_kind}
 use Rattle.job_coastline.proofs.line_laws.lines_have_kinds.Goals as goal
 
 pub returns : goal.returns
-returns c settings objects coast is = lines_of_kind (all_segments coast.joined.rings) coast is.sorted.pairs
+returns c settings objects coast is land water = all_of_kind (all_segments coast.joined.rings) coast is.sorted.pairs land water

@@ -1,7 +1,9 @@
+-- Each ending by its lemma on a job that reads an input and then opens an output.
 use Rattle.osm_host.specs.Outside.{output}
 use Rattle.osm_words.specs.Answers.{coastline_seen}
-use Rattle.osm_job.proofs.InputThenOutput.{lacks_input, no_memory, output_not_opened, output_written}
+use Rattle.osm_job.proofs.InputThenOutput.{lacks_input, no_memory, output_not_opened, output_written, too_many}
 use Rattle.job_coastline.specs.Coastline.{IsCoastline}
+use Rattle.job_coastline.specs.Found.{whole_of}
 use Rattle.job_coastline.proofs.work.coastline.Goals as goal
 
 pub returns-in-Err : goal.returns-in-Err
@@ -9,16 +11,23 @@ returns-in-Err g c =
     lacks_input c.streams_append.ensures c.args.settings.now.file.now (output c.args.settings.now.output.now c.args.settings.now.overwrite) (IsCoastline (coastline_seen c.args.settings.now))
     (g.H.Host.seen c.args.host.now) c.in-Err.ended (g.H.Host.seen c.read_input.new.host) c.in-Err.ensures
 
-pub returns-in_default : goal.returns-in_default
-returns-in_default g c =
+pub returns-in-Err-OutOfMemory : goal.returns-in-Err-OutOfMemory
+returns-in-Err-OutOfMemory g c =
     no_memory c.streams_append.ensures c.args.settings.now.file.now (output c.args.settings.now.output.now c.args.settings.now.overwrite) (IsCoastline (coastline_seen c.args.settings.now))
     (g.H.Host.seen c.args.host.now) c.in-Ok.store (g.H.Host.seen c.read_input.new.host) c.in-Ok.ensures
 
-pub returns-in_default-open_output : goal.returns-in_default-open_output
-returns-in_default-open_output g c =
-    let e = c.in_default-open_output.ensures in
+pub returns-in-Err-TooManyPieces : goal.returns-in-Err-TooManyPieces
+returns-in-Err-TooManyPieces g c =
+    too_many c.streams_append.ensures c.args.settings.now.file.now (output c.args.settings.now.output.now c.args.settings.now.overwrite) (IsCoastline (coastline_seen c.args.settings.now))
+    (g.H.Host.seen c.args.host.now) c.in-Ok.store (g.H.Host.seen c.read_input.new.host) c.in-Ok.ensures c.in-Err-TooManyPieces.most (c.in-Err-TooManyPieces.ensures.many c.in-Err-TooManyPieces.most c.in-Err-TooManyPieces.field-0-is)
+
+pub returns-in_default : goal.returns-in_default
+returns-in_default g c =
+    let e = c.in_default.ensures in
+    let found = c.in-Ok-found_in.ensures.found in
     output_not_opened c.streams_append.ensures c.args.settings.now.file.now (output c.args.settings.now.output.now c.args.settings.now.overwrite) (IsCoastline (coastline_seen c.args.settings.now))
-    (g.H.Host.seen c.args.host.now) c.in-Ok.store (g.H.Host.seen c.read_input.new.host) c.in-Ok.ensures (g.H.Host.seen c.open_output.new.self) e.rest e.left e.cause.never_falls e.bytes_read e.cause.failed e.listed_or_not
+    (g.H.Host.seen c.args.host.now) c.in-Ok.store (g.H.Host.seen c.read_input.new.host) c.in-Ok.ensures (g.H.Host.seen c.open_output.new.self) e.rest e.left e.cause.never_falls e.bytes_read
+    (whole_of c.in-Ok-found_in.found, found.right, found.itself) e.cause.failed e.listed_or_not
 
 pub returns : goal.returns
 returns g c =

@@ -1,0 +1,118 @@
+-- Land and water together: what is right where they have too many leaves, and where they haven't.
+use Rattle.std.proofs.Common.{◌≡◌, ◌∙◌, refl, sym, ap, ap₂, subst, ℕ, ◌+◌, ◌-◌, ◌≤◌, All, List, ◌++◌, length, arith, map, inl, inr, Vec}
+use Rattle.std.specs.declared.alloc.Global.{Global}
+use Rattle.opl_reader.specs.declared.object.Object.{Object}
+use Rattle.coast_split.specs.TreeLaws.{SplitTreesExist}
+use Rattle.coast_split.specs.declared.leaves.SplitError.{SplitError}
+use Rattle.coast_split.specs.declared.leaves.SplitError.TheVariants.{TooManyPieces, OutOfMemory}
+use Rattle.coast_sides.specs.Segments.{all_segments}
+use Rattle.osm_nest.specs.declared.polygon.Polygon.{Polygon}
+use Rattle.osm_report.specs.Coast.{HasItsKind}
+use Rattle.osm_report.specs.declared.coast.CoastLine.{CoastLine}
+use Rattle.osm_text.specs.declared.piece.PieceKind.{PieceKind}
+use Rattle.osm_text.specs.declared.piece.PieceKind.TheVariants as kind
+use Rattle.osm_words.specs.Job.{CoastlineSettings}
+use Rattle.osm_job.specs.Sent.{lines_text, to_output, to_report}
+use Rattle.osm_job.specs.Whole.{silent}
+use Rattle.osm_job.specs.declared.ended.Ended.TheVariants as ended
+use Rattle.job_coastline.specs.Coast.{Coast, IsCoast}
+use Rattle.job_coastline.specs.Coastline.{AreLand, AreWater, AreWritten, IsCoastline, all_lines, most_leaves}
+use Rattle.job_coastline.specs.Found.{IsFound, whole_of}
+use Rattle.job_coastline.specs.Pieces.{has_land, has_water}
+use Rattle.job_coastline.specs.PieceSteps.{ArePieces, HaveMoreLeaves, HaveMoreTogether, whole_error}
+use Rattle.job_coastline.specs.Report.{ArePrinted, coast_lines, ending_of}
+use Rattle.job_coastline.specs.declared.found.Found.{Found}
+use Rattle.job_coastline.specs.declared.pieces.Pieces.{Pieces}
+use Rattle.job_coastline.proofs.FoundWrites.{ends_by_itself}
+use Rattle.job_coastline.proofs.Leaves.{leaves_there}
+use Rattle.job_coastline.proofs.LineKinds.{all_of_kind}
+
+-- ---- too many leaves
+
+most_told : SplitError → ℕ
+most_told (TooManyPieces most) = most
+most_told OutOfMemory = 0
+
+-- the error of a part tells of too many pieces only where that part has more than it may
+pub whole_many : (e : SplitError) (Part All : Type 0) → ((m : ℕ) → e ≡ TooManyPieces m → Part) → (Part → All) → (m : ℕ) → whole_error e ≡ TooManyPieces m → (m ≡ most_leaves) × All
+unfolding most_told
+whole_many (TooManyPieces k) Part All part all m is = (sym (ap most_told is), all (part k refl))
+whole_many OutOfMemory Part All part all m is = absurd (cc)
+
+module _ (settings : CoastlineSettings) (trees : SplitTreesExist) (most : ℕ) (land water : List Polygon) where
+  pub more_of_land : HaveMoreLeaves settings most land → HaveMoreTogether settings most land water
+  more_of_land more =
+      let rest = leaves_there settings trees water in
+      record { land_leaves = more.leaves; land_split = more.split; water_leaves = rest.0; water_split = rest.1; more = let m = more.more in omega arith }
+
+  pub more_of_water : (kind : PieceKind) (pieces : Pieces) → ArePieces settings kind land pieces → pieces.leaves ≤ most → HaveMoreLeaves settings (most - pieces.leaves) water → HaveMoreTogether settings most land water
+  more_of_water kind pieces are few more =
+      record { land_leaves = are.leaves; land_split = are.split; water_leaves = more.leaves; water_split = more.split; more = let m = more.more in let n = are.counted in omega arith }
+
+-- ---- the whole
+
+module _ (settings : CoastlineSettings) (objects : List Object) (coast : Coast) (is : IsCoast settings objects coast) (land : List Polygon) (land_right : AreLand (has_land settings.polygons) coast.land.edges land) (water : List Polygon)
+    (water_right : AreWater (has_water settings.polygons) coast.land.edges water) where
+  pub too_many_right : HaveMoreTogether settings most_leaves land water → (m : ℕ) → m ≡ most_leaves → IsCoastline settings objects (silent (ended.TooManyPieces m))
+  too_many_right more m same = record {
+    coast = coast;
+    right = is;
+    land = land;
+    land_right = land_right;
+    land_leaves = more.land_leaves;
+    land_split = more.land_split;
+    water = water;
+    water_right = water_right;
+    water_leaves = more.water_leaves;
+    water_split = more.water_split;
+    written = inr (more.more, ap (λ (n : ℕ). silent (ended.TooManyPieces n)) same);
+  }
+
+  module _ (first second : Pieces) (of_land : ArePieces settings kind.Land land first) (of_water : ArePieces settings kind.Water water second) (lines : List CoastLine)
+      (all : lines ≡ coast_lines coast ++ (first.lines.items ++ second.lines.items)) where
+    abbrev told : List CoastLine
+    told = all_lines coast of_land.tiles of_water.tiles
+
+    told_lines : lines ≡ told
+    told_lines = all ∙ ap (λ (ls : List CoastLine). coast_lines coast ++ ls) (ap₂ (λ (a b : List CoastLine). a ++ b) of_land.told of_water.told)
+
+    pub told_of_kind : All HasItsKind lines
+    told_of_kind = subst (All HasItsKind) (sym told_lines) (all_of_kind (all_segments coast.joined.rings) coast is.sorted.pairs of_land.tiles of_water.tiles)
+
+    module _ (printed : Vec (Vec ℕ Global) Global) (are : ArePrinted lines (lines_text printed.items)) (few : first.leaves + second.leaves ≤ most_leaves) where
+      abbrev found : Found
+      found = record { land = first.texts; water = second.texts; lines = printed; ended = ending_of lines }
+
+      few_leaves : length of_land.leaves + length of_water.leaves ≤ most_leaves
+      few_leaves = let a = of_land.counted in let b = of_water.counted in omega arith
+
+      are_written : AreWritten coast of_land.leaves of_water.leaves (whole_of found)
+      are_written = record {
+        land_tiles = of_land.tiles;
+        land_made = of_land.made;
+        water_tiles = of_water.tiles;
+        water_made = of_water.made;
+        report = lines_text printed.items;
+        printed = subst (λ (ls : List CoastLine). ArePrinted ls (lines_text printed.items)) told_lines are;
+        written =
+            ap₂ (λ (a b : List ℕ). map to_output a ++ (map to_output b ++ map to_report (lines_text printed.items))) of_land.written of_water.written;
+        ended = ap ending_of told_lines;
+      }
+
+      pub found_right : IsFound settings objects found
+      found_right = record {
+        right = record {
+          coast = coast;
+          right = is;
+          land = land;
+          land_right = land_right;
+          land_leaves = of_land.leaves;
+          land_split = of_land.split;
+          water = water;
+          water_right = water_right;
+          water_leaves = of_water.leaves;
+          water_split = of_water.split;
+          written = inl (few_leaves, are_written);
+        };
+        itself = ends_by_itself lines;
+      }
