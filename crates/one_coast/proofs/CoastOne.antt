@@ -1,10 +1,13 @@
 -- What comes of the coastline ways of objects is one, and so is the whole of a coastline job.
-use Rattle.std.proofs.Common.{List, [], ap, map, refl, subst, sym, ◌∙◌, ◌∷◌, ◌≡◌}
+use Rattle.std.proofs.Common.{All, List, [], ap, ap₂, arith, inl, inr, map, refl, subst, sym, ◌∙◌, ◌∷◌, ◌≡◌}
 use Rattle.std.proofs.Props.{props}
 use Rattle.opl_reader.specs.declared.object.Object.{Object}
 use Rattle.osm_lattice.specs.declared.loc.Loc.{Loc}
 use Rattle.osm_job.specs.Whole.{Whole}
-use Rattle.osm_report.specs.Coast.{CoastLineIsOne}
+use Rattle.osm_nest.specs.Laws.{NestedAreSided, RingsMayBeNested}
+use Rattle.osm_nest.specs.declared.polygon.Polygon.{Polygon}
+use Rattle.osm_report.specs.Coast.{CoastLineIsOne, HasItsKind}
+use Rattle.osm_report.specs.declared.coast.CoastLine.{CoastLine}
 use Rattle.osm_words.specs.Job.{CoastlineSettings}
 use Rattle.coast_join.specs.declared.chain.Chain.{Chain}
 use Rattle.coast_join.specs.declared.gap.Closings.{Closings}
@@ -16,17 +19,20 @@ use Rattle.coast_join.specs.Closings.{AreClosings}
 use Rattle.coast_join.specs.Joined.{AreJoined}
 use Rattle.coast_join.specs.Line.{IsLine}
 use Rattle.coast_join.specs.RingLaws.{ClosingsAreOne, JoinedIsOne}
+use Rattle.coast_split.specs.HalfLaws.{LeavesAreSided, TreeIsOne}
+use Rattle.coast_split.specs.declared.leaves.Leaf.{Leaf}
 use Rattle.coast_sides.specs.declared.sorted.Sorted.{Sorted}
 use Rattle.coast_sides.specs.OnenessLaws.{LandIsOne, SortedIsOne, WaterIsOne}
 use Rattle.coast_sides.specs.RingLand.{IsLandOf}
 use Rattle.coast_sides.specs.Sorting.{IsSorted}
 use Rattle.job_coastline.specs.Coast.{Coast, IsCoast}
-use Rattle.job_coastline.specs.Coastline.{AreLand, AreWater, IsCoastline, all_sent}
+use Rattle.job_coastline.specs.Coastline.{AreLand, AreWater, AreWritten, AreWrittenOrTooMany, IsCoastline, all_lines, all_sent}
 use Rattle.job_coastline.specs.LineLaws.{LinesHaveKinds}
-use Rattle.job_coastline.specs.Pieces.{has_land, has_water}
-use Rattle.job_coastline.specs.Report.{ArePrinted, coast_lines, ending_of}
+use Rattle.job_coastline.specs.Pieces.{AreLeavesOf, Tile, has_land, has_water}
+use Rattle.job_coastline.specs.Report.{ArePrinted, ending_of}
 use Rattle.one_area.specs.Laws.{PolygonsAreOne}
-use Rattle.one_coast.proofs.PolygonsOne.{land_polygons_one, water_polygons_one}
+use Rattle.one_coast.proofs.LeavesOne.{AreSidedLeaves, leaves_one, leaves_sided, tiles_one}
+use Rattle.one_coast.proofs.PolygonsOne.{land_polygons_one, land_sided, water_polygons_one, water_sided}
 use Rattle.one_coast.proofs.PrintedOne.{printed_one}
 use mathlib.Core.HLevel.{is_prop→PathP}
 
@@ -81,11 +87,42 @@ module _ (chains_one : ChainsAreOne) (closings_one : ClosingsAreOne) (joined_one
 whole_same : (v w : Whole) → v.written ≡ w.written → v.ended ≡ w.ended → v ≡ w
 whole_same v w p q = λ i. record { written = p i; ended = q i }
 
+-- what is written of leaves is one
+module _ (coast : Coast) (kinds : (land water : List Tile) → All HasItsKind (all_lines coast land water)) (line : CoastLineIsOne) (polygons : PolygonsAreOne) (land water : List Leaf) (land_sided : AreSidedLeaves land)
+    (water_sided : AreSidedLeaves water) where
+  written_one : (v w : Whole) → AreWritten coast land water v → AreWritten coast land water w → v ≡ w
+  written_one v w s t = whole_same v w (s.written ∙ sent ∙ sym t.written) (s.ended ∙ ap ending_of lines ∙ sym t.ended)
+    where
+      same_land : s.land_tiles ≡ t.land_tiles
+      same_land = tiles_one polygons land land_sided s.land_tiles t.land_tiles s.land_made t.land_made
+
+      same_water : s.water_tiles ≡ t.water_tiles
+      same_water = tiles_one polygons water water_sided s.water_tiles t.water_tiles s.water_made t.water_made
+
+      lines : all_lines coast s.land_tiles s.water_tiles ≡ all_lines coast t.land_tiles t.water_tiles
+      lines = ap₂ (λ (x y : List Tile). all_lines coast x y) same_land same_water
+
+      report : s.report ≡ t.report
+      report =
+          printed_one line (all_lines coast s.land_tiles s.water_tiles) (kinds s.land_tiles s.water_tiles) s.report t.report s.printed
+          (subst (λ (ls : List CoastLine). ArePrinted ls t.report) (sym lines) t.printed)
+
+      sent : all_sent s.land_tiles s.water_tiles s.report ≡ all_sent t.land_tiles t.water_tiles t.report
+      sent =
+          ap (λ l. all_sent l s.water_tiles s.report) same_land ∙ ap (λ l. all_sent t.land_tiles l s.report) same_water
+          ∙ ap (λ l. all_sent t.land_tiles t.water_tiles l) report
+
+  pub written_or_too_many_one : (v w : Whole) → AreWrittenOrTooMany coast land water v → AreWrittenOrTooMany coast land water w → v ≡ w
+  written_or_too_many_one v w (inl s) (inl t) = written_one v w s.1 t.1
+  written_or_too_many_one v w (inl s) (inr t) = absurd (let few = s.0 in let many = t.0 in omega arith)
+  written_or_too_many_one v w (inr s) (inl t) = absurd (let many = s.0 in let few = t.0 in omega arith)
+  written_or_too_many_one v w (inr s) (inr t) = s.1 ∙ sym t.1
+
 module _ (one : (settings : CoastlineSettings) (objects : List Object) (c d : Coast) → IsCoast settings objects c → IsCoast settings objects d → c ≡ d) (kinds : LinesHaveKinds) (line : CoastLineIsOne)
-    (polygons : PolygonsAreOne) (water_one : WaterIsOne) where
+    (polygons : PolygonsAreOne) (water_one : WaterIsOne) (fit : RingsMayBeNested) (nesting : NestedAreSided) (tree_one : TreeIsOne) (leaves_are_sided : LeavesAreSided) where
   pub coastline_one : (settings : CoastlineSettings) (objects : List Object) (v w : Whole) → IsCoastline settings objects v → IsCoastline settings objects w → v ≡ w
   coastline_one settings objects v w s t =
-      whole_same v w (s.written ∙ sent ∙ sym t.written) (s.ended ∙ ap (λ (c : Coast). ending_of (coast_lines c)) coast ∙ sym t.ended)
+      written_or_too_many_one s.coast (kinds settings objects s.coast s.right) line polygons s.land_leaves s.water_leaves land_is_sided water_is_sided v w s.written written_here
     where
       coast : s.coast ≡ t.coast
       coast = one settings objects s.coast t.coast s.right t.right
@@ -100,11 +137,25 @@ module _ (one : (settings : CoastlineSettings) (objects : List Object) (c d : Co
           water_polygons_one polygons water_one (has_water settings.polygons) s.coast.land.edges s.water t.water s.water_right
           (subst (λ (c : Coast). AreWater (has_water settings.polygons) c.land.edges t.water) (sym coast) t.water_right)
 
-      report : s.report ≡ t.report
-      report =
-          printed_one line (coast_lines s.coast) (kinds settings objects s.coast s.right) s.report t.report s.printed
-          (subst (λ (c : Coast). ArePrinted (coast_lines c) t.report) (sym coast) t.printed)
+      land_leaves : s.land_leaves ≡ t.land_leaves
+      land_leaves =
+          leaves_one settings tree_one s.land s.land_leaves t.land_leaves s.land_split (subst (λ (ps : List Polygon). AreLeavesOf settings ps t.land_leaves) (sym land) t.land_split)
 
-      sent : all_sent s.land s.water s.report ≡ all_sent t.land t.water t.report
-      sent =
-          ap (λ l. all_sent l s.water s.report) land ∙ ap (λ l. all_sent t.land l s.report) water ∙ ap (λ l. all_sent t.land t.water l) report
+      water_leaves : s.water_leaves ≡ t.water_leaves
+      water_leaves =
+          leaves_one settings tree_one s.water s.water_leaves t.water_leaves s.water_split (subst (λ (ps : List Polygon). AreLeavesOf settings ps t.water_leaves) (sym water) t.water_split)
+
+      land_is_sided : AreSidedLeaves s.land_leaves
+      land_is_sided =
+          leaves_sided settings leaves_are_sided s.land
+          (land_sided fit nesting (has_land settings.polygons) s.coast.land.edges s.right.land.edges.sided s.land s.land_right) s.land_leaves s.land_split
+
+      water_is_sided : AreSidedLeaves s.water_leaves
+      water_is_sided =
+          leaves_sided settings leaves_are_sided s.water (water_sided fit nesting (has_water settings.polygons) s.coast.land.edges s.water s.water_right) s.water_leaves s.water_split
+
+      written_here : AreWrittenOrTooMany s.coast s.land_leaves s.water_leaves w
+      written_here =
+          subst (λ (c : Coast). AreWrittenOrTooMany c s.land_leaves s.water_leaves w) (sym coast)
+          (subst (λ (a : List Leaf). AreWrittenOrTooMany t.coast a s.water_leaves w) (sym land_leaves)
+          (subst (λ (b : List Leaf). AreWrittenOrTooMany t.coast t.land_leaves b w) (sym water_leaves) t.written))

@@ -1,12 +1,22 @@
 -- A coastline job over objects has a whole.
-use Rattle.std.proofs.Common.{All, Bool, List, [], false, refl, true, ℕ, ◌++◌, ◌∷◌}
+use Rattle.std.proofs.Common.{All, Bool, List, [], ap, false, inl, inr, length, map, refl, true, ℕ, ◌+◌, ◌++◌, ◌<◌, ◌≤◌, ◌⊎◌, ◌∷◌}
+use Rattle.std.proofs.lemmas.Bool.{cases_lt}
 use Rattle.std.specs.List.{flat_map}
-use Rattle.std.proofs.lemmas.List.Elements.{All-head, All-tail}
+use Rattle.std.proofs.lemmas.List.Elements.{All-cons, All-head, All-nil, All-tail}
+use Rattle.opl_reader.specs.declared.object.Object.{Object}
+use Rattle.osm_words.specs.Job.{CoastlineSettings}
+use Rattle.osm_job.specs.Whole.{Whole, silent}
+use Rattle.osm_job.specs.declared.ended.Ended.TheVariants as ended
+use Rattle.coast_split.specs.HalfLaws.{LeavesAreSided}
+use Rattle.coast_split.specs.SplitTree.{leaf_of, leaves_of}
+use Rattle.coast_split.specs.TreeLaws.{SplitTreesExist}
+use Rattle.coast_split.specs.declared.leaves.Leaf.{Leaf}
 use Rattle.osm_objects.specs.CoastWays.{coast_ways}
 use Rattle.osm_geom.specs.declared.edge.Edge.{Edge}
 use Rattle.osm_geom.specs.WholeSegment.{IsWholeSegment}
 use Rattle.osm_nest.specs.declared.polygon.Polygon.{Polygon}
-use Rattle.osm_nest.specs.Laws.{NestingExists, RingsMayBeNested}
+use Rattle.osm_nest.specs.Laws.{NestedAreSided, NestingExists, RingsMayBeNested}
+use Rattle.osm_nest.specs.Polygons.{edges_in}
 use Rattle.osm_report.specs.Coast.{CoastLineExists, HasItsKind}
 use Rattle.osm_report.specs.declared.coast.CoastLine.{CoastLine}
 use Rattle.osm_rings.specs.Laws.{RingListOfEdgesExists}
@@ -16,10 +26,13 @@ use Rattle.coast_join.specs.Input.{asides_of}
 use Rattle.coast_join.specs.InputLaws.{CoastWaysExist}
 use Rattle.coast_join.specs.RingLaws.{ClosingsExist, JoinedExists}
 use Rattle.coast_sides.specs.ExistenceLaws.{LandExists, SortedExists, WaterExists}
-use Rattle.job_coastline.specs.Coastline.{AreLand, AreWater, all_sent}
+use Rattle.job_coastline.specs.Coast.{Coast, IsCoast}
+use Rattle.job_coastline.specs.Coastline.{AreLand, AreWater, AreWritten, AreWrittenOrTooMany, all_lines, all_sent, most_leaves}
 use Rattle.job_coastline.specs.LineLaws.{LinesHaveKinds}
-use Rattle.job_coastline.specs.Pieces.{ArePolygons, has_land, has_water}
-use Rattle.job_coastline.specs.Report.{ArePrinted, coast_lines, ending_of}
+use Rattle.job_coastline.specs.Pieces.{AreLeavesOf, ArePolygons, AreTiles, IsTile, Tile, has_land, has_water}
+use Rattle.job_coastline.specs.Report.{ArePrinted, ending_of}
+use Rattle.one_coast.proofs.LeavesOne.{AreSidedLeaves, leaves_sided}
+use Rattle.one_coast.proofs.PolygonsOne.{land_sided, water_sided}
 use Rattle.one_coast.specs.Laws.{CoastExists, CoastlineExists}
 
 -- ---- the coast
@@ -78,26 +91,70 @@ printed_there one (line ∷ lines) kinds =
     let rest = printed_there one lines (All-tail HasItsKind line lines kinds) in
     (first.0 ++ rest.0, (first.0, rest.0, first.1, rest.1, refl))
 
+-- ---- leaves
+module _ (settings : CoastlineSettings) (some_tree : SplitTreesExist) where
+  leaves_there : (polygons : List Polygon) → (leaves : List Leaf) × AreLeavesOf settings polygons leaves
+  leaves_there [] = ([], refl)
+  leaves_there (polygon ∷ polygons) =
+      let tree = some_tree settings.max_points settings.bbox_overlap (edges_in polygon) in
+      let first = map (leaf_of settings.max_points) (leaves_of (edges_in polygon) tree.0) in
+      let rest = leaves_there polygons in
+      (first ++ rest.0, (first, rest.0, record { tree = tree.0; is_tree = tree.1; leaves = refl }, rest.1, refl))
+
+-- and what each makes
+module _ (some_rings : RingListOfEdgesExists) (fit : RingsMayBeNested) (some_nesting : NestingExists) where
+  tiles_there : (leaves : List Leaf) → AreSidedLeaves leaves → (tiles : List Tile) × AreTiles leaves tiles
+  tiles_there [] sided = ([], record { of_leaves = refl; made = All-nil IsTile })
+  tiles_there (leaf ∷ leaves) sided =
+      let polygons = polygons_there some_rings fit some_nesting leaf.edges (All-head (λ (l : Leaf). IsSided l.edges) leaf leaves sided) in
+      let rest = tiles_there leaves (All-tail (λ (l : Leaf). IsSided l.edges) leaf leaves sided) in
+      let first : Tile = record { leaf = leaf; polygons = polygons.0 } in
+      (first ∷ rest.0, record { of_leaves = ap (λ (ls : List Leaf). leaf ∷ ls) rest.1.of_leaves; made = All-cons IsTile first rest.0 polygons.1 rest.1.made })
+
 -- ---- the whole
-module _ (some_coast : CoastExists) (kinds : LinesHaveKinds) (some_line : CoastLineExists) (some_rings : RingListOfEdgesExists) (fit : RingsMayBeNested) (some_nesting : NestingExists) (some_water : WaterExists) where
+module _ (kinds : LinesHaveKinds) (some_line : CoastLineExists) (some_rings : RingListOfEdgesExists) (fit : RingsMayBeNested) (some_nesting : NestingExists) (settings : CoastlineSettings) (objects : List Object) (coast : Coast)
+    (is : IsCoast settings objects coast) (land water : List Leaf) (land_sided : AreSidedLeaves land) (water_sided : AreSidedLeaves water) where
+  written_there : (whole : Whole) × AreWritten coast land water whole
+  written_there =
+      let l = tiles_there some_rings fit some_nesting land land_sided in
+      let w = tiles_there some_rings fit some_nesting water water_sided in
+      let report = printed_there some_line (all_lines coast l.0 w.0) (kinds settings objects coast is l.0 w.0) in (
+        record { written = all_sent l.0 w.0 report.0; ended = ending_of (all_lines coast l.0 w.0) },
+        record { land_tiles = l.0; land_made = l.1; water_tiles = w.0; water_made = w.1; report = report.0; printed = report.1; written = refl; ended = refl },
+      )
+
+  written_by : (most_leaves < length land + length water) ⊎ (length land + length water ≤ most_leaves) → (whole : Whole) × AreWrittenOrTooMany coast land water whole
+  written_by (inl many) = (silent (ended.TooManyPieces most_leaves), inr (many, refl))
+  written_by (inr few) = let whole = written_there in (whole.0, inl (few, whole.1))
+
+  written_or_too_many_there : (whole : Whole) × AreWrittenOrTooMany coast land water whole
+  written_or_too_many_there = written_by (cases_lt most_leaves (length land + length water))
+
+module _ (some_coast : CoastExists) (kinds : LinesHaveKinds) (some_line : CoastLineExists) (some_rings : RingListOfEdgesExists) (fit : RingsMayBeNested) (some_nesting : NestingExists) (some_water : WaterExists)
+    (nesting : NestedAreSided) (some_tree : SplitTreesExist) (leaves_are_sided : LeavesAreSided) where
   pub coastline_there : CoastlineExists
   coastline_there settings objects apart =
       let coast = some_coast settings objects apart in
       let edges = coast.1.land.edges in
       let land = land_there some_rings fit some_nesting (has_land settings.polygons) coast.0.land.edges edges.sided in
       let water = water_there some_rings fit some_nesting some_water (has_water settings.polygons) coast.0.land.edges edges.whole edges.sided in
-      let report = printed_there some_line (coast_lines coast.0) (kinds settings objects coast.0 coast.1) in (
-        record { written = all_sent land.0 water.0 report.0; ended = ending_of (coast_lines coast.0) },
+      let land_leaves = leaves_there settings some_tree land.0 in
+      let water_leaves = leaves_there settings some_tree water.0 in
+      let land_is = leaves_sided settings leaves_are_sided land.0 (land_sided fit nesting (has_land settings.polygons) coast.0.land.edges edges.sided land.0 land.1) land_leaves.0 land_leaves.1 in
+      let water_is = leaves_sided settings leaves_are_sided water.0 (water_sided fit nesting (has_water settings.polygons) coast.0.land.edges water.0 water.1) water_leaves.0 water_leaves.1 in
+      let whole = written_or_too_many_there kinds some_line some_rings fit some_nesting settings objects coast.0 coast.1 land_leaves.0 water_leaves.0 land_is water_is in (
+        whole.0,
         record {
           coast = coast.0;
           right = coast.1;
           land = land.0;
           land_right = land.1;
+          land_leaves = land_leaves.0;
+          land_split = land_leaves.1;
           water = water.0;
           water_right = water.1;
-          report = report.0;
-          printed = report.1;
-          written = refl;
-          ended = refl;
+          water_leaves = water_leaves.0;
+          water_split = water_leaves.1;
+          written = whole.1;
         },
       )

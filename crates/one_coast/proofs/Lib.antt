@@ -1,4 +1,7 @@
 pub mod PolygonsOne
+pub mod LeavesOne
 pub mod PrintedOne
 pub mod CoastOne
 pub mod CoastThere
+mod SignedParity
+mod LeavesTogether

@@ -5,6 +5,7 @@
 //! `job_coastline`.
 #![tactic(auto)]
 
+ghost use Rattle.one_coast.specs.Cover.{LandLeavesCover, WaterLeavesCover};
 ghost use Rattle.one_coast.specs.Laws.{CoastExists, CoastIsOne, CoastlineExists, CoastlineIsOne};
 
 use coast_join::{
@@ -12,11 +13,13 @@ use coast_join::{
     joined_exists, joined_is_determined,
 };
 use coast_sides::{
-    land_exists, land_is_one, sorting_exists, sorting_is_one, water_exists, water_is_one,
+    land_and_water_cover, land_exists, land_is_one, sorting_exists, sorting_is_one, water_exists,
+    water_is_one,
 };
+use coast_split::{halves_are_determined, leaves_cover_as_list, split_trees_exist};
 use job_coastline::lines_have_kinds;
 use one_area::polygons_are_one;
-use osm_nest::{nesting_exists, rings_may_be_nested};
+use osm_nest::{nested_cover_as_rings, nesting_exists, rings_may_be_nested};
 use osm_report::{coast_line_exists, coast_line_is_one};
 use osm_rings::ring_list_of_edges_exists;
 
@@ -41,6 +44,10 @@ pub fn coastline_is_one()
     coast_line_is_one();
     polygons_are_one();
     water_is_one();
+    rings_may_be_nested();
+    nested_cover_as_rings();
+    halves_are_determined();
+    leaves_cover_as_list();
 }
 
 /// Where no two coastline ways have one id, there is what comes of them.
@@ -66,4 +73,20 @@ pub fn coastline_exists()
     rings_may_be_nested();
     nesting_exists();
     water_exists();
+    nested_cover_as_rings();
+    split_trees_exist();
+    leaves_cover_as_list();
+}
+
+/// What the leaves cover together. Where land is asked for, some leaf of land covers a point off the polygons of
+/// land and their cuts exactly where the parity of the kept rings' segments is 1; where water is asked for, some leaf
+/// of water covers such a whole point strictly within the world exactly where it is 0.
+pub fn leaves_cover_the_coast()
+    ensures land { LandLeavesCover }
+    ensures water { WaterLeavesCover }
+{
+    leaves_cover_as_list();
+    rings_may_be_nested();
+    nested_cover_as_rings();
+    land_and_water_cover();
 }
