@@ -1,0 +1,9 @@
+mod RowLemmas
+mod Bytes
+mod StringLemmas
+mod NumberLemmas
+mod ItemLemmas
+mod FieldLemmas
+mod LineLemmas
+mod TextLemmas
+mod SoundLemmas

@@ -1,0 +1,63 @@
+//! Fields of a line. Each stands behind a space, and only where something stands in it.
+
+ghost use Rattle.std.specs.Prelude.{◌≡◌, ◌++◌, OnOk};
+ghost use Rattle.opl_writer.specs.Written.{members_field, place_fields, refs_field, tags_field};
+
+use crate::items::{put_member, put_ref, put_tag};
+use opl_reader::{Members, Refs, Tags};
+use osm_lattice::Loc;
+use osm_notation::put_coordinate;
+use std::alloc::AllocError as OutOfMemory;
+
+/// Adds the field of tags, where there are any.
+pub(crate) fn put_tags(text: &mut Vec<u8>, tags: &Tags) -> Result<(), OutOfMemory>
+    ensures { OnOk result (text.new.items ≡ text.old.items ++ tags_field tags.now) }
+{
+    let mut mark: &[u8] = b" T";
+    let mut rest = tags.iter();
+    while let Some(tag) = rest.next() {
+        text.extend_from_slice(mark)?;
+        put_tag(text, &tag)?;
+        mark = b",";
+    }
+    Ok(())
+}
+
+/// Adds the field of references, where there are any.
+pub(crate) fn put_refs(text: &mut Vec<u8>, refs: &Refs) -> Result<(), OutOfMemory>
+    ensures { OnOk result (text.new.items ≡ text.old.items ++ refs_field refs.now) }
+{
+    let mut mark: &[u8] = b" N";
+    for reference in refs.iter() {
+        text.extend_from_slice(mark)?;
+        put_ref(text, reference)?;
+        mark = b",";
+    }
+    Ok(())
+}
+
+/// Adds the field of members, where there are any.
+pub(crate) fn put_members(text: &mut Vec<u8>, members: &Members) -> Result<(), OutOfMemory>
+    ensures { OnOk result (text.new.items ≡ text.old.items ++ members_field members.now) }
+{
+    let mut mark: &[u8] = b" M";
+    for member in members.as_slice() {
+        text.extend_from_slice(mark)?;
+        put_member(text, member)?;
+        mark = b",";
+    }
+    Ok(())
+}
+
+/// Adds the two fields of a location, where there is one.
+pub(crate) fn put_place(text: &mut Vec<u8>, place: Option<Loc>) -> Result<(), OutOfMemory>
+    ensures { OnOk result (text.new.items ≡ text.old.items ++ place_fields place) }
+{
+    let Some(place) = place else {
+        return Ok(());
+    };
+    text.extend_from_slice(b" x")?;
+    put_coordinate(text, i64::from(place.x))?;
+    text.extend_from_slice(b" y")?;
+    put_coordinate(text, i64::from(place.y))
+}

@@ -1,0 +1,62 @@
+//! Items of a field: tags, references and members.
+
+ghost use Rattle.std.specs.Prelude.{◌≡◌, ◌++◌, OnOk};
+ghost use Rattle.opl_reader.specs.Seen.{tag_seen};
+ghost use Rattle.opl_writer.specs.Written.{kind_letter, member_text, own_place_text, ref_text, tag_text};
+
+use opl_reader::{Member, ObjectKind, Ref, TagRef};
+use osm_lattice::Loc;
+use osm_notation::{put_coordinate, put_number, put_written};
+use std::alloc::AllocError as OutOfMemory;
+
+/// Adds a tag: its key, an equals sign and its value.
+pub(crate) fn put_tag(text: &mut Vec<u8>, tag: &TagRef<'_>) -> Result<(), OutOfMemory>
+    ensures { OnOk result (text.new.items ≡ text.old.items ++ tag_text (tag_seen tag.now)) }
+{
+    put_written(text, tag.key)?;
+    text.push(b'=')?;
+    put_written(text, tag.value)
+}
+
+/// Adds the location that a reference carries, where it carries one.
+fn put_own_place(text: &mut Vec<u8>, at: Option<Loc>) -> Result<(), OutOfMemory>
+    ensures { OnOk result (text.new.items ≡ text.old.items ++ own_place_text at) }
+{
+    let Some(at) = at else {
+        return Ok(());
+    };
+    text.push(b'x')?;
+    put_coordinate(text, i64::from(at.x))?;
+    text.push(b'y')?;
+    put_coordinate(text, i64::from(at.y))
+}
+
+/// Adds a reference: the letter of nodes, the node's id and the reference's own location.
+pub(crate) fn put_ref(text: &mut Vec<u8>, reference: Ref) -> Result<(), OutOfMemory>
+    ensures { OnOk result (text.new.items ≡ text.old.items ++ ref_text reference) }
+{
+    text.push(b'n')?;
+    put_number(text, reference.node)?;
+    put_own_place(text, reference.at)
+}
+
+/// The letter of a kind of object.
+fn letter(kind: ObjectKind) -> &'static [u8]
+    ensures { result.now ≡ kind_letter kind }
+{
+    match kind {
+        ObjectKind::Node => b"n",
+        ObjectKind::Way => b"w",
+        ObjectKind::Relation => b"r",
+    }
+}
+
+/// Adds a member: its letter, its id, an at sign and its role, which may be empty.
+pub(crate) fn put_member(text: &mut Vec<u8>, member: &Member) -> Result<(), OutOfMemory>
+    ensures { OnOk result (text.new.items ≡ text.old.items ++ member_text member.now) }
+{
+    text.extend_from_slice(letter(member.kind))?;
+    put_number(text, member.id)?;
+    text.push(b'@')?;
+    put_written(text, member.role.as_str())
+}

@@ -1,0 +1,61 @@
+//! Lines of objects, each ended by LF.
+
+ghost use Rattle.std.specs.Prelude.{◌≡◌, ◌++◌, OnOk};
+ghost use Rattle.opl_writer.specs.Written.{ended, node_line, relation_line, way_line};
+
+use crate::fields::{put_members, put_place, put_refs, put_tags};
+use opl_reader::{Members, Refs, Tags};
+use osm_lattice::Loc;
+use osm_notation::put_number;
+use std::alloc::AllocError as OutOfMemory;
+
+/// Adds the line of a node: `n` and its id, ` T` and its tags where it has any, ` x`, the longitude, ` y` and the
+/// latitude where it has a location, and LF. The error is want of memory.
+pub fn put_node(
+    text: &mut Vec<u8>,
+    id: i64,
+    tags: &Tags,
+    place: Option<Loc>,
+) -> Result<(), OutOfMemory>
+    ensures { OnOk result (text.new.items ≡ text.old.items ++ ended (node_line id tags.now place)) }
+{
+    text.push(b'n')?;
+    put_number(text, id)?;
+    put_tags(text, tags)?;
+    put_place(text, place)?;
+    text.push(b'\n')?;
+    Ok(())
+}
+
+/// Adds the line of a way: `w` and its id, ` T` and its tags where it has any, ` N` and its references where it has
+/// any, and LF. A reference that carries a location keeps it. The error is want of memory.
+pub fn put_way(text: &mut Vec<u8>, id: i64, tags: &Tags, refs: &Refs) -> Result<(), OutOfMemory>
+    ensures { OnOk result (text.new.items
+        ≡ text.old.items ++ ended (way_line id tags.now refs.now)) }
+{
+    text.push(b'w')?;
+    put_number(text, id)?;
+    put_tags(text, tags)?;
+    put_refs(text, refs)?;
+    text.push(b'\n')?;
+    Ok(())
+}
+
+/// Adds the line of a relation: `r` and its id, ` T` and its tags where it has any, ` M` and its members where it has
+/// any, and LF. The error is want of memory.
+pub fn put_relation(
+    text: &mut Vec<u8>,
+    id: i64,
+    tags: &Tags,
+    members: &Members,
+) -> Result<(), OutOfMemory>
+    ensures { OnOk result (text.new.items
+        ≡ text.old.items ++ ended (relation_line id tags.now members.now)) }
+{
+    text.push(b'r')?;
+    put_number(text, id)?;
+    put_tags(text, tags)?;
+    put_members(text, members)?;
+    text.push(b'\n')?;
+    Ok(())
+}

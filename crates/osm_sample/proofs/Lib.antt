@@ -1,0 +1,6 @@
+mod Places
+mod Counted
+mod Rising
+mod Short
+mod Sampled
+mod Good

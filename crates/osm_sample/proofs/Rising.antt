@@ -1,0 +1,105 @@
+-- Objects by rising kinds and ids: no two have one kind and id.
+use Rattle.std.proofs.Common.{◌≡◌, ◌∙◌, refl, sym, ap, subst, ℕ, zero, suc, ◌+◌, ◌<◌, ◌≤◌, ◌&&◌, arith, Bool, true, false, cond, ℤ, Option, None, Some, List, [], ◌∷◌, ◌++◌, map, All}
+use Rattle.std.specs.Prelude.{find, unsigned_abs}
+use Rattle.std.specs.List.{flat_map}
+use Rattle.std.specs.Ordering.{int_eq}
+use Rattle.std.proofs.lemmas.List.Elements.{All-cons, All-head, All-nil, All-tail}
+use Rattle.opl_reader.specs.declared.object.Object.{Object}
+use Rattle.opl_reader.specs.declared.object.ObjectKind.{ObjectKind}
+use Rattle.opl_reader.specs.declared.object.ObjectKind.TheVariants.{Node, Way, Relation}
+use Rattle.osm_objects.specs.Object.{id_of, is_at, kind_of, ref_of, same_kind}
+use Rattle.osm_objects.specs.Objects.{object_at}
+use Rattle.lists.proofs.ListsKit.{int_eq-true}
+use Rattle.osm_sample.specs.Numbers.{numbers}
+use Rattle.osm_sample.proofs.Counted.{flat_map-suc, map-suc}
+
+-- ---- ranks
+
+abbrev pub rank_of : ObjectKind → ℕ → ℕ
+rank_of Node id = id
+rank_of Way id = 1_000_000 + id
+rank_of Relation id = 2_000_000 + id
+
+-- nodes before ways before relations, each by id
+abbrev pub rank : Object → ℕ
+rank o = rank_of (kind_of o) (unsigned_abs (id_of o))
+
+both_true : (a b : Bool) → (a && b) ≡ true → (a ≡ true) × (b ≡ true)
+both_true true true e = (refl, refl)
+both_true true false e = absurd (cc)
+both_true false b e = absurd (cc)
+
+kinds_same : (a b : ObjectKind) → same_kind a b ≡ true → a ≡ b
+kinds_same Node Node e = refl
+kinds_same Node Way e = absurd (cc)
+kinds_same Node Relation e = absurd (cc)
+kinds_same Way Node e = absurd (cc)
+kinds_same Way Way e = refl
+kinds_same Way Relation e = absurd (cc)
+kinds_same Relation Node e = absurd (cc)
+kinds_same Relation Way e = absurd (cc)
+kinds_same Relation Relation e = refl
+
+one_rank : (o u : Object) → is_at (ref_of o) u ≡ true → rank o ≡ rank u
+one_rank o u e =
+    let parts = both_true (same_kind (kind_of o) (kind_of u)) (int_eq (id_of o) (id_of u)) e in
+    ap (λ (k : ObjectKind). rank_of k (unsigned_abs (id_of o))) (kinds_same (kind_of o) (kind_of u) parts.0)
+    ∙ ap (λ (z : ℤ). rank_of (kind_of u) (unsigned_abs z)) (int_eq-true (id_of o) (id_of u) parts.1)
+
+apart : (o u : Object) → rank u < rank o → is_at (ref_of o) u ≡ false
+apart o u less = by (is_at (ref_of o) u) refl
+  where
+    by : (b : Bool) → is_at (ref_of o) u ≡ b → b ≡ false
+    by true e = let same = one_rank o u e in absurd (omega arith)
+    by false e = refl
+
+-- none of lower rank is found in its place
+pub none_below : (o : Object) (us : List Object) → All (λ u. rank u < rank o) us → object_at us (ref_of o) ≡ None
+none_below o [] all = refl
+none_below o (u ∷ us) all =
+    ap (λ (b : Bool). cond b (Some u) (object_at us (ref_of o))) (apart o u (All-head (λ v. rank v < rank o) u us all))
+    ∙ none_below o us (All-tail (λ v. rank v < rank o) u us all)
+
+-- ---- rising lists
+
+-- their ranks rise, from low on and below high
+abbrev pub RisesIn : ℕ → ℕ → List Object → Type 0
+RisesIn low high [] = low ≤ high
+RisesIn low high (o ∷ os) = (low ≤ rank o) × RisesIn (rank o + 1) high os
+
+pub rises_from : (less low high : ℕ) (os : List Object) → less ≤ low → RisesIn low high os → RisesIn less high os
+rises_from less low high [] l rises = omega arith
+rises_from less low high (o ∷ os) l rises = (let first = rises.0 in omega arith, rises.1)
+
+pub rises_both : (low middle high : ℕ) (os us : List Object) → RisesIn low middle os → RisesIn middle high us → RisesIn low high (os ++ us)
+rises_both low middle high [] us first second = rises_from low middle high us first second
+rises_both low middle high (o ∷ os) us first second = (first.0, rises_both (rank o + 1) middle high os us first.1 second)
+
+pub rises-of_flat_map : (f : ℕ → List Object) (g : ℕ → ℕ) (n : ℕ) → ((i : ℕ) → i < n → RisesIn (g i) (g (suc i)) (f i)) → RisesIn (g 0) (g n) (flat_map f (numbers n))
+rises-of_flat_map f g zero each = omega arith
+rises-of_flat_map f g (suc n) each =
+    subst (RisesIn (g 0) (g (suc n))) (sym (flat_map-suc f n))
+    (rises_both (g 0) (g n) (g (suc n)) (flat_map f (numbers n)) (f n) (rises-of_flat_map f g n (λ i low. each i (omega arith))) (each n (omega arith)))
+
+pub rises-of_map : (f : ℕ → Object) (g : ℕ → ℕ) (n : ℕ) → ((i : ℕ) → i < n → RisesIn (g i) (g (suc i)) (f i ∷ [])) → RisesIn (g 0) (g n) (map f (numbers n))
+rises-of_map f g zero each = omega arith
+rises-of_map f g (suc n) each =
+    subst (RisesIn (g 0) (g (suc n))) (sym (map-suc f n))
+    (rises_both (g 0) (g n) (g (suc n)) (map f (numbers n)) (f n ∷ []) (rises-of_map f g n (λ i low. each i (omega arith))) (each n (omega arith)))
+
+pub all_from : (low high : ℕ) (os : List Object) → RisesIn low high os → All (λ o. low ≤ rank o) os
+all_from low high [] rises = All-nil (λ o. low ≤ rank o)
+all_from low high (o ∷ os) rises =
+    let more = all_from low high os (rises_from low (rank o + 1) high os (let first = rises.0 in omega arith) rises.1) in
+    All-cons (λ u. low ≤ rank u) o os rises.0 more
+
+-- those before one of them are of lower rank
+pub lower_before : (low high : ℕ) (us : List Object) (o : Object) (vs : List Object) → RisesIn low high (us ++ o ∷ vs) → All (λ u. rank u < rank o) us
+lower_before low high [] o vs rises = All-nil (λ u. rank u < rank o)
+lower_before low high (u ∷ us) o vs rises =
+    let here = all_from (rank u + 1) high (us ++ o ∷ vs) rises.1 in
+    All-cons (λ v. rank v < rank o) u us (let least = last_of us (rank u + 1) here in omega arith) (lower_before (rank u + 1) high us o vs rises.1)
+  where
+    last_of : (ws : List Object) (m : ℕ) → All (λ v. m ≤ rank v) (ws ++ o ∷ vs) → m ≤ rank o
+    last_of [] m all = All-head (λ v. m ≤ rank v) o vs all
+    last_of (w ∷ ws) m all = last_of ws m (All-tail (λ v. m ≤ rank v) w (ws ++ o ∷ vs) all)

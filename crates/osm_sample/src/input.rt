@@ -1,0 +1,53 @@
+//! The bytes of the sample input.
+
+ghost use Rattle.std.specs.Prelude.{◌≡◌, ◌≤◌, ◌++◌, IfOk, OnOk};
+ghost use Rattle.opl_writer.specs.Written.{ended, line_of, text_of};
+ghost use Rattle.osm_sample.specs.Input.{sample_text};
+
+use crate::objects::sample_objects;
+use opl_reader::Object;
+use opl_writer::{put_node, put_relation, put_way};
+use std::alloc::{AllocError as OutOfMemory, Global};
+
+/// Adds the line of an object.
+fn put_object(text: &mut Vec<u8>, object: &Object) -> Result<(), OutOfMemory>
+    ensures { OnOk result (text.new.items ≡ text.old.items ++ ended (line_of object.now)) }
+{
+    match object {
+        Object::Node {
+            id,
+            tags,
+            place,
+            ..
+        } => put_node(text, *id, tags, *place),
+        Object::Way { id, tags, refs, .. } => put_way(text, *id, tags, refs),
+        Object::Relation {
+            id,
+            tags,
+            members,
+            ..
+        } => put_relation(text, *id, tags, members),
+    }
+}
+
+/// The lines of objects, in order.
+fn text_of(alloc: Global, objects: &[Object]) -> Result<Vec<u8>, OutOfMemory>
+    ensures { IfOk result (λ text. text.items ≡ text_of objects.now) }
+{
+    let mut text = Vec::new(alloc);
+    for object in objects {
+        put_object(&mut text, object)?;
+    }
+    Ok(text)
+}
+
+/// The bytes of the sample input of `count` times `count` cells: each with a hole, its two ways and a multipolygon, all of them
+/// in one more multipolygon, and a closed coastline around them. The error is want of memory.
+pub fn sample_input(alloc: Global, count: u8) -> Result<Vec<u8>, OutOfMemory>
+    requires some { 1 ≤ count }
+    requires few { count ≤ 100 }
+    ensures { IfOk result (λ text. text.items ≡ sample_text count) }
+{
+    let objects = sample_objects(alloc, count)?;
+    text_of(alloc, &objects)
+}

@@ -1,0 +1,19 @@
+//! The sample input: a square of cells, each with a hole, and a coast around all of them, made in memory.
+//!
+//! Its objects are a definition (specs/Objects, specs/Input), and so are its bytes, the lines of these objects. A law says
+//! that they are read as these objects.
+#![tactic(auto)]
+
+mod cells;
+mod coast;
+mod input;
+mod laws;
+mod nodes;
+mod objects;
+#[cfg(test)]
+mod tests;
+mod ways;
+
+pub use input::sample_input;
+pub use laws::sample_is_read;
+pub use objects::sample_store;
