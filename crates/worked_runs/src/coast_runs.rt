@@ -74,7 +74,7 @@ fn a_chain_is_closed_with_itself(rt: HostRuntime) -> Result<(), Fail> {
 fn antarctica_is_closed_along_the_edge(rt: HostRuntime) -> Result<(), Fail> {
     let input =
         "n1 x180 y-70\nn2 x0 y-65\nn3 x-180 y-70\nn4 x180 y0\nn5 x180 y1\nn6 x179 y0.5\nw1 Tnatural=coastline Nn1,n2,n3\nw2 Tnatural=coastline Nn4,n5,n6,n4\n";
-    let got = run_over(rt.alloc(), "coastline -p water -", input, 0)?;
+    let got = run_over(rt.alloc(), "coastline -p water -m 0 -", input, 0)?;
     assert_eq!(rt; got.ended, Ended::Warnings);
     assert_eq!(rt; got.status, 1);
     assert_eq!(rt;

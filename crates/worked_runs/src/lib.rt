@@ -8,7 +8,11 @@ mod areas;
 #[cfg(test)]
 mod coast_faults;
 #[cfg(test)]
+mod coast_pieces;
+#[cfg(test)]
 mod coast_runs;
+#[cfg(test)]
+mod every_call;
 #[cfg(test)]
 mod faults;
 #[cfg(test)]

@@ -6,7 +6,7 @@ use osm_cli::Ended;
 use std::test::Fail;
 
 /// A relation that lacks a node and a way.
-const MISSING: &str =
+pub(crate) const MISSING: &str =
     "n1 x0 y0\nn2 x1 y0\nw1 Nn1,n2,n4,n1\nr5 Ttype=multipolygon,a=b Mw1@outer,w9@outer\n";
 
 /// With the flag for it, and with the report of the problems or without.
