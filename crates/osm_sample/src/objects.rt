@@ -8,7 +8,7 @@ ghost use Rattle.osm_sample.specs.Input.{sample_objects};
 use crate::cells::{add_cell_nodes, add_cell_relations, add_cell_ways};
 use crate::coast::{add_coast_nodes, coast_way, forest};
 use opl_reader::Object;
-use osm_objects::Store;
+use osm_objects::{AddError, Store};
 use std::alloc::{AllocError as OutOfMemory, Global};
 
 /// The objects of the sample of `count` times `count` cells.
@@ -36,7 +36,7 @@ fn add(store: &mut Store, object: Object) -> Result<(), OutOfMemory>
     // be wanting.
     match store.add(object) {
         Ok(()) => Ok(()),
-        Err(_) => Err(OutOfMemory),
+        Err(AddError::Duplicate { .. } | AddError::OutOfMemory) => Err(OutOfMemory),
     }
 }
 

@@ -36,7 +36,7 @@ fn sample_of_one_cell_is_spelled(rt: HostRuntime) -> Result<(), Fail> {
     Ok(())
 }
 
-/// Of four cells the third stands in column 0 of row 1. The second way of the last cell is way 8.
+/// Of four cells the third stands on the left above the first, and its nodes come behind those of the second.
 #[test]
 fn cells_are_counted_row_by_row(rt: HostRuntime) -> Result<(), Fail> {
     let alloc = rt.alloc();
