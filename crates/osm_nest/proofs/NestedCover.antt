@@ -1,5 +1,5 @@
 -- The polygons of nested rings are sided and cover what the rings cover, which count as the list that was cut into them.
-use Rattle.std.proofs.Common.{All, List, [], ap, inl, inr, pos, refl, subst, sym, ℕ, ℤ, ◌*◌, ◌∙◌, ◌∷◌, ◌≡◌, ◌⊎◌, ◌+◌}
+use Rattle.std.proofs.Common.{All, List, [], ap, inl, inr, pos, refl, subst, sym, ℕ, ℤ, ◌∙◌, ◌∷◌, ◌≡◌, ◌⊎◌, ◌+◌}
 use Rattle.std.specs.List.{sum_by}
 use Rattle.std.proofs.Math.Nat.{dvd-mul_right_of_dvd}
 use Prim.Native.Nat.{◌∣◌}
