@@ -6,4 +6,5 @@ pub mod FoundLemmas
 mod MergedLemmas
 mod RisingLemmas
 mod LookupLemmas
+mod NodeLemmas
 mod AddLemmas

@@ -3,6 +3,7 @@ pub mod Tags
 pub mod Objects
 pub mod Candidates
 pub mod CoastWays
+pub mod Nodes
 pub mod AreaIds
 pub mod Views
 pub mod AddErrors

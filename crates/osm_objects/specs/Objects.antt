@@ -30,6 +30,20 @@ location_of objects id = option_and_then place_in (object_at objects (record { k
 abbrev pub place_of : List Object → Ref → Option Loc
 place_of objects reference = option_or reference.at (location_of objects reference.node)
 
+-- a node's tags and location
+pub record NodeParts : Type 0 where
+  pub tags : List Tag
+  pub place : Option Loc
+
+abbrev pub node_in : Object → Option NodeParts
+node_in (object.Node id live tags place) = Some (record { tags = tags; place = place })
+node_in (object.Way id live tags refs) = None
+node_in (object.Relation id live tags members) = None
+
+-- the node of this id
+abbrev pub node_of : List Object → ℤ → Option NodeParts
+node_of objects id = option_and_then node_in (object_at objects (record { kind = Node; id = id }))
+
 -- a way's tags and references
 pub record WayParts : Type 0 where
   pub tags : List Tag

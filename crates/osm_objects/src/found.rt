@@ -1,15 +1,15 @@
 //! What the store finds under a kind and id.
 
-ghost use Rattle.std.specs.Prelude.{◌≡◌, ℤ, Some, IsSome, IfOk, option_map, is_some};
+ghost use Rattle.std.specs.Prelude.{◌≡◌, [], ℤ, Some, IsSome, IfOk, option_map, is_some};
 ghost use Rattle.std.specs.Option.{option_and_then};
-ghost use Rattle.osm_objects.specs.Objects.{place_in, way_in, relation_in};
+ghost use Rattle.osm_objects.specs.Objects.{place_in, node_in, way_in, relation_in};
 ghost use Rattle.osm_objects.specs.Candidates.{area_tags};
 ghost use Rattle.osm_objects.specs.Found.{object_found};
-ghost use Rattle.osm_objects.specs.Views.{way_seen, relation_seen};
+ghost use Rattle.osm_objects.specs.Views.{node_seen, way_seen, relation_seen};
 
 use crate::held::Held;
 use crate::plain::PlainNode;
-use crate::view::{RelationView, WayView};
+use crate::view::{NodeView, RelationView, WayView};
 use opl_reader::Tags;
 use osm_lattice::Loc;
 use std::alloc::{AllocError as OutOfMemory, Global};
@@ -40,6 +40,22 @@ impl<'a> Found<'a> {
             Found::Nowhere => None,
             Found::Plain(node) => Some(node.place),
             Found::Other(held) => held.place(),
+        }
+    }
+
+    /// The node that was found. Of one without tags these are lent.
+    pub(crate) fn node(&self, no_tags: &'a Tags) -> Option<NodeView<'a>>
+        requires { no_tags.now ≡ [] }
+        ensures { (id : ℤ)
+            → option_map node_seen result ≡ option_and_then node_in (object_found id self.now) }
+    {
+        match self {
+            Found::Nowhere => None,
+            Found::Plain(node) => Some(NodeView {
+                tags: no_tags,
+                place: Some(node.place),
+            }),
+            Found::Other(held) => held.node(no_tags),
         }
     }
 

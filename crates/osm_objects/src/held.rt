@@ -2,15 +2,16 @@
 
 ghost use Rattle.std.specs.Prelude.{◌≡◌, [], ℤ, nat_lt, length, IsTrue, IfOk, option_map};
 ghost use Rattle.osm_objects.specs.Object.{is_live, id_of, kind_of};
-ghost use Rattle.osm_objects.specs.Objects.{place_in, way_in, relation_in};
+ghost use Rattle.osm_objects.specs.Objects.{place_in, node_in, way_in, relation_in};
 ghost use Rattle.osm_objects.specs.Candidates.{is_closed, node_named, may_have_area, area_tags, is_candidate};
 ghost use Rattle.osm_objects.specs.CoastWays.{is_coast_way};
 ghost use Rattle.osm_objects.specs.Held.{object_from};
-ghost use Rattle.osm_objects.specs.Views.{way_seen, relation_seen};
+ghost use Rattle.osm_objects.specs.Nodes.{is_node};
+ghost use Rattle.osm_objects.specs.Views.{node_seen, way_seen, relation_seen};
 
 use crate::choice::Choice;
 use crate::tags::{copy_without, has_other_key, is_tagged};
-use crate::view::{RelationView, WayView};
+use crate::view::{NodeView, RelationView, WayView};
 use opl_reader::{Members, Object, ObjectKind, Ref, Refs, Tags};
 use osm_lattice::Loc;
 use std::alloc::{AllocError as OutOfMemory, Global};
@@ -152,6 +153,34 @@ impl Held {
         match self {
             Held::Plain(place) => *place,
             Held::Tagged(node) => node.place,
+            Held::Way(_) | Held::Relation(_) => None,
+        }
+    }
+
+    /// Whether it is a node.
+    pub(crate) fn is_node(&self) -> bool
+        ensures { (id : ℤ) → result ≡ is_node (object_from id self.now) }
+    {
+        match self {
+            Held::Plain(_) | Held::Tagged(_) => true,
+            Held::Way(_) | Held::Relation(_) => false,
+        }
+    }
+
+    /// The node, if it is one. Of one without tags these are lent.
+    pub(crate) fn node<'a>(&'a self, no_tags: &'a Tags) -> Option<NodeView<'a>>
+        requires { no_tags.now ≡ [] }
+        ensures { (id : ℤ) → option_map node_seen result ≡ node_in (object_from id self.now) }
+    {
+        match self {
+            Held::Plain(place) => Some(NodeView {
+                tags: no_tags,
+                place: *place,
+            }),
+            Held::Tagged(node) => Some(NodeView {
+                tags: &node.tags,
+                place: node.place,
+            }),
             Held::Way(_) | Held::Relation(_) => None,
         }
     }

@@ -19,4 +19,4 @@ pub use choice::{Choice, Keys};
 pub use error::AddError;
 pub use problem::{Note, Problem};
 pub use store::Store;
-pub use view::{RelationView, WayView};
+pub use view::{NodeView, RelationView, WayView};

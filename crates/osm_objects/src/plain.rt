@@ -1,8 +1,9 @@
 //! Nodes that have a location and no tags: most objects of an input are such nodes, so each takes little room.
 
-ghost use Rattle.std.specs.Prelude.{◌≡◌, ◌++◌, ◌∷◌, [], true, IsTrue, IfSome, OnOk, OnErr, find, option_map};
+ghost use Rattle.std.specs.Prelude.{◌≡◌, ◌++◌, ◌∷◌, [], true, IsTrue, IfSome, OnOk, OnErr, find, map, option_map};
 ghost use Rattle.std.specs.Ordering.{int_eq};
 ghost use Rattle.osm_objects.specs.Objects.{object_at};
+ghost use Rattle.osm_objects.specs.declared.plain.PlainNode.{PlainNode};
 ghost use Rattle.osm_objects.specs.Plain.{node_from, nodes_from, AreRising};
 
 use opl_reader::{Object, ObjectKind, ObjectRef};
@@ -58,6 +59,16 @@ pub(crate) fn push_node(nodes: &mut Vec<PlainNode>, node: PlainNode) -> Result<(
         nodes.reserve_exact(nodes.len() / 8 + LEAST_STEP)?;
     }
     nodes.push(node)?;
+    Ok(())
+}
+
+/// Adds the ids of these nodes.
+pub(crate) fn push_ids(ids: &mut Vec<i64>, nodes: &[PlainNode]) -> Result<(), OutOfMemory>
+    ensures { OnOk result (ids.new.items ≡ ids.old.items ++ map (λ (n : PlainNode). n.id) nodes.now) }
+{
+    for node in nodes {
+        ids.push(node.id)?;
+    }
     Ok(())
 }
 

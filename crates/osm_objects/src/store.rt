@@ -4,12 +4,13 @@ ghost use Rattle.std.specs.Prelude.{◌≡◌, [], true, All, Contains, IsTrue, 
 ghost use Rattle.std.specs.List.{IsDistinct};
 ghost use Rattle.std.specs.Ordering.{int_eq};
 ghost use Rattle.osm_objects.specs.Object.{is_live, ref_of};
-ghost use Rattle.osm_objects.specs.Objects.{object_at, location_of, place_of, way_of, relation_of, with_object, is_duplicate, AreApart};
+ghost use Rattle.osm_objects.specs.Objects.{object_at, location_of, place_of, node_of, way_of, relation_of, with_object, is_duplicate, AreApart};
 ghost use Rattle.osm_objects.specs.declared.choice.Choice.{Choice};
 ghost use Rattle.osm_objects.specs.Candidates.{area_tags, is_candidate, candidates, without_lists};
 ghost use Rattle.osm_objects.specs.CoastWays.{coast_ways};
+ghost use Rattle.osm_objects.specs.Nodes.{node_ids};
 ghost use Rattle.osm_objects.specs.AddErrors.{Refuses};
-ghost use Rattle.osm_objects.specs.Views.{way_seen, relation_seen};
+ghost use Rattle.osm_objects.specs.Views.{node_seen, way_seen, relation_seen};
 ghost use Rattle.osm_objects.specs.Held.{live_ref};
 ghost use Rattle.osm_objects.specs.Found.{object_found};
 
@@ -17,8 +18,8 @@ use crate::choice::Choice;
 use crate::error::AddError;
 use crate::found::Found;
 use crate::held::{Held, Placed};
-use crate::plain::{PlainNode, is_above, node_of, plain_node, push_node};
-use crate::view::{RelationView, WayView};
+use crate::plain::{PlainNode, is_above, node_of, plain_node, push_ids, push_node};
+use crate::view::{NodeView, RelationView, WayView};
 use indexmap::IndexMap;
 use opl_reader::{Object, ObjectKind, ObjectRef, Ref, Tags};
 use osm_lattice::Loc;
@@ -34,10 +35,12 @@ pub struct Store {
     others: IndexMap<ObjectRef, Placed>,
     // How many of the nodes came behind the last of the others.
     since: u64,
+    // No tags: those of a node that has none, to be lent.
+    no_tags: Tags,
 }
 
 impl Model for Store {
-    ghost use Rattle.std.specs.Prelude.{List};
+    ghost use Rattle.std.specs.Prelude.{◌≡◌, List, []};
     ghost use Rattle.opl_reader.specs.declared.object.Object.{Object};
     ghost use Rattle.osm_objects.specs.Objects.{AreApart};
     ghost use Rattle.osm_objects.specs.Held.{others_from, KindsAgree};
@@ -51,7 +54,8 @@ impl Model for Store {
     ghost invariant = { λ s. AreRising s.nodes.items
         × KindsAgree s.others.entries
         × Fit (nodes_from s.nodes.items) (others_from s.others.entries) s.since
-        × AreApart (merged (nodes_from s.nodes.items) (others_from s.others.entries)) };
+        × AreApart (merged (nodes_from s.nodes.items) (others_from s.others.entries))
+        × (s.no_tags ≡ []) };
 }
 
 /// The kind and id of an object that is live.
@@ -84,6 +88,7 @@ impl Store {
             nodes: Vec::new(alloc),
             others: IndexMap::new(alloc),
             since: 0,
+            no_tags: Tags::new(alloc),
         }
     }
 
@@ -168,6 +173,14 @@ impl Store {
         }
     }
 
+    /// The node of this id. None exactly where none is held. It takes no memory.
+    pub fn node(&self, id: i64) -> Option<NodeView<'_>>
+        ensures { option_map node_seen result ≡ node_of self.now id }
+    {
+        let kind = ObjectKind::Node;
+        self.find(ObjectRef { kind, id }).node(&self.no_tags)
+    }
+
     /// The way of this id. None exactly where none is held.
     pub fn way(&self, id: i64) -> Option<WayView<'_>>
         ensures { option_map way_seen result ≡ way_of self.now id }
@@ -202,6 +215,24 @@ impl Store {
             }
         }
         Ok(list)
+    }
+
+    /// The ids of the nodes, in input order.
+    pub fn nodes(&self, alloc: Global) -> Result<Vec<i64>, OutOfMemory>
+        ensures { IfOk result (λ ids. ids.items ≡ node_ids self.now) }
+    {
+        let mut ids = Vec::with_capacity(alloc, self.nodes.len())?;
+        let mut plain = self.nodes.as_slice();
+        for (of, placed) in &self.others {
+            let (before, behind) = plain.split_at(placed.gap as usize);
+            push_ids(&mut ids, before)?;
+            if placed.held.is_node() {
+                ids.push(of.id)?;
+            }
+            plain = behind;
+        }
+        push_ids(&mut ids, plain)?;
+        Ok(ids)
     }
 
     /// The ids of the ways tagged `natural=coastline`, in input order.

@@ -262,6 +262,56 @@ fn ways_are_closed_by_ids(rt: HostRuntime) -> Result<(), Fail> {
     Ok(())
 }
 
+const NODES: &str = "node 5 0,0
+way 9 5,7 a=b
+node 7 -
+node 3 1,1
+node 8 2,2 place=village name=x
+node 6 3,3
+deleted node 4 4,4
+relation 5 9 a=b
+node -9 - a=b
+node 10 5,5";
+
+#[test]
+fn nodes_in_input_order(rt: HostRuntime) -> Result<(), Fail> {
+    let alloc = rt.alloc();
+    for (text, ids) in [
+        (NODES, [5, 7, 3, 8, 6, -9, 10].as_slice()),
+        ("", [].as_slice()),
+        ("way 1 1\nnode 1 0,0", [1].as_slice()),
+        ("node 2 - a=b\nnode 1 0,0\nnode 3 0,0", [2, 1, 3].as_slice()),
+    ] {
+        let store = store_of(alloc, text)?;
+        assert_eq!(rt; store.nodes(alloc)?.as_slice(), ids);
+    }
+    Ok(())
+}
+
+#[test]
+fn a_node_is_lent(rt: HostRuntime) -> Result<(), Fail> {
+    let alloc = rt.alloc();
+    let store = store_of(alloc, NODES)?;
+    for (id, tags, place) in [
+        (5, "", Loc::new(0, 0)),
+        (7, "", None),
+        (3, "", Loc::new(1, 1)),
+        (8, "place=village name=x ", Loc::new(2, 2)),
+        (-9, "a=b ", None),
+        (10, "", Loc::new(5, 5)),
+    ] {
+        let Some(node) = store.node(id) else {
+            return Err(Fail::new("a node that isn't held"));
+        };
+        assert_eq!(rt; words_of(alloc, node.tags)?.as_str(), tags, "of {id}");
+        assert_eq!(rt; node.place, place, "of {id}");
+    }
+    for id in [4, 9, 1] {
+        assert!(rt; store.node(id).is_none(), "no node {id}");
+    }
+    Ok(())
+}
+
 #[test]
 fn a_way_is_lent(rt: HostRuntime) -> Result<(), Fail> {
     let alloc = rt.alloc();

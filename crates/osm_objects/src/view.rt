@@ -1,6 +1,14 @@
 //! What the store lends.
 
 use opl_reader::{Members, Refs, Tags};
+use osm_lattice::Loc;
+
+/// A node that is held: its tags, and its location if it has one.
+#[derive(Clone, Copy)]
+pub struct NodeView<'a> {
+    pub tags: &'a Tags,
+    pub place: Option<Loc>,
+}
 
 /// A way that is held: its tags, and its references to the nodes that it passes, in order.
 #[derive(Clone, Copy)]

@@ -50,6 +50,7 @@ invariant_of-self-then-is_above c =
       c.self.invariant.1,
       node_fits nodes c.push_node.new.nodes.items n others c.self.inside.since pushed c.self.invariant.2,
       subst AreApart (sym (node_last nodes c.push_node.new.nodes.items n others c.self.inside.since pushed c.self.invariant.2)) (one_more_apart (merged (nodes_from nodes) (others_from others)) (node_from n) c.self.invariant.3 here),
+      c.self.invariant.4,
     )
 
 pub returns-then-is_above-clause-added : goal.returns-then-is_above-clause-added
@@ -80,6 +81,7 @@ invariant_of-self-2 c =
       held_fits nodes others c.insert.new.self.entries (of, placed) entries c.self.invariant.2,
       subst AreApart (sym (held_last nodes others c.insert.new.self.entries (of, placed) entries c.self.invariant.2))
           (one_more_apart (merged (nodes_from nodes) (others_from others)) (object_from of.id c.in_ok-held.held) c.self.invariant.3 (ap (object_at (merged (nodes_from nodes) (others_from others))) is ∙ none)),
+      c.self.invariant.4,
     )
 
 pub returns-clause-added : goal.returns-clause-added
