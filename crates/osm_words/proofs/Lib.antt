@@ -5,7 +5,10 @@ pub mod Numbers
 pub mod Taken
 pub mod ExportOptions
 pub mod CoastlineOptions
+pub mod FilterOptions
 pub mod PlainAnswers
 pub mod PlainExport
 pub mod PlainCoastline
+pub mod PlainSample
+pub mod PlainFilter
 pub mod OneKind

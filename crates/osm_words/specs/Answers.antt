@@ -2,11 +2,13 @@
 use Rattle.std.specs.Prelude.{◌≡◌, ℕ, List, Option, Some, None, Result, Ok, Err, ⊤}
 use Rattle.std.specs.Borrow.{Bor}
 use Rattle.opl_reader.specs.Keys.{keys_said}
-use Rattle.osm_words.specs.Job.{CoastlineSettings, ExportSettings, Job, coastline, export}
+use Rattle.osm_words.specs.Job.{CoastlineSettings, ExportSettings, FilterSettings, Job, coastline, export, filter, sample}
 use Rattle.osm_words.specs.declared.settings.CoastlineSettings.{CoastlineSettings as CodeCoastline}
 use Rattle.osm_words.specs.declared.settings.ExportSettings.{ExportSettings as CodeSettings}
+use Rattle.osm_words.specs.declared.settings.FilterSettings.{FilterSettings as CodeFilter}
 use Rattle.osm_words.specs.declared.settings.Job.{Job as CodeJob}
-use Rattle.osm_words.specs.declared.settings.Job.TheVariants.{Coastline as code_coastline, Export as code_export}
+use Rattle.osm_words.specs.declared.settings.Job.TheVariants.{Coastline as code_coastline, Export as code_export, Filter as code_filter, Sample as code_sample}
+use Rattle.osm_words.specs.declared.settings.SampleSettings.{SampleSettings as CodeSample}
 use Rattle.osm_words.specs.declared.fault.WordsFault.{WordsFault}
 use Rattle.osm_words.specs.declared.fault.WordsError.{WordsError}
 use Rattle.osm_words.specs.declared.fault.WordsError.TheVariants.{BadWords, OutOfMemory}
@@ -43,9 +45,17 @@ coastline_seen s = record {
   polygons = s.polygons;
 }
 
+abbrev pub sample_seen : CodeSample → ℕ
+sample_seen s = s.count
+
+abbrev pub filter_seen : CodeFilter → FilterSettings
+filter_seen s = record { file = s.file.now; output = s.output.now; overwrite = s.overwrite }
+
 abbrev pub job_seen : CodeJob → Job
 job_seen (code_export settings) = export (settings_seen settings)
 job_seen (code_coastline settings) = coastline (coastline_seen settings)
+job_seen (code_sample settings) = sample (sample_seen settings)
+job_seen (code_filter settings) = filter (filter_seen settings)
 
 -- the answer is what was asked
 abbrev pub Answers : Result Job WordsFault → Result CodeJob WordsError → Type 0

@@ -15,5 +15,9 @@ long_option_rule name = record (new_rule name) { long = Some name; action = Some
 abbrev pub flag_rule : Text → ℕ → Text → Rule
 flag_rule name letter long = record (new_rule name) { short = Some letter; long = Some long; action = Some SetTrue }
 
+-- the one word that is no option, which has to be there
+abbrev pub positional_rule : Text → Rule
+positional_rule name = record (new_rule name) { required = true; action = Some Set }
+
 abbrev pub file_rule : Rule
-file_rule = record (new_rule (codes "file")) { required = true; action = Some Set }
+file_rule = positional_rule (codes "file")

@@ -37,6 +37,17 @@ pub record CoastlineSettings : Type 0 where
   pub bbox_overlap : ℕ
   pub polygons : OutputPolygons
 
+-- of `coast-filter`
+pub record FilterSettings : Type 0 where
+  -- the name of the input
+  pub file : List ℕ
+  -- the name of the output
+  pub output : List ℕ
+  pub overwrite : Bool
+
 pub data Job : Type 0 where
   export : ExportSettings → Job
   coastline : CoastlineSettings → Job
+  -- of a square of so many cells a side
+  sample : ℕ → Job
+  filter : FilterSettings → Job

@@ -7,9 +7,15 @@ pub mod ExportCommand
 pub mod ExportWords
 pub mod CoastlineCommand
 pub mod CoastlineWords
+pub mod SampleCommand
+pub mod SampleWords
+pub mod FilterCommand
+pub mod FilterWords
 pub mod Words
 pub mod Answers
 pub mod PlainWords
 pub mod PlainExport
 pub mod PlainCoastline
+pub mod PlainSample
+pub mod PlainFilter
 pub mod Private

@@ -1,6 +1,6 @@
 -- Plain words of `coastline`, and what they say.
 use Rattle.std.specs.Prelude.{◌≡◌, ℕ, true, false, List, [], ◌∷◌, Some, codes, ⊤}
-use Rattle.osm_words.specs.PlainWords.{Form, letter, long, plain_words, begins_with_dash, StandOnce, HavePlainValues, IsFileName}
+use Rattle.osm_words.specs.PlainWords.{Form, letter, long, plain_words, begins_with_dash, ArePlainWords, said_with}
 use Rattle.osm_words.specs.Job.{CoastlineSettings}
 use Rattle.osm_words.specs.CoastlineWords.{distance_named, overlap_named, points_named}
 use Rattle.osm_words.specs.declared.settings.OutputPolygons.{OutputPolygons}
@@ -61,10 +61,8 @@ HasPlainValue (output name) = begins_with_dash name ≡ false
 HasPlainValue overwrite = ⊤
 
 -- Each option stands at most once, numbers and units are those of what is written, no value begins with a dash, and the file's name doesn't either or is a lone dash.
-pub record ArePlainCoastline (options : List (Form × CoastlineOption)) (file : List ℕ) : Type 0 where
-  pub once : StandOnce name_of options
-  pub values : HavePlainValues HasPlainValue options
-  pub file_name : IsFileName file
+abbrev pub ArePlainCoastline : List (Form × CoastlineOption) → List ℕ → Type 0
+ArePlainCoastline options file = ArePlainWords name_of HasPlainValue options file
 
 -- ---- what they say
 
@@ -89,5 +87,4 @@ with_option (output name) s = record s { output = name }
 with_option overwrite s = record s { overwrite = true }
 
 abbrev pub said_coastline : List (Form × CoastlineOption) → List ℕ → CoastlineSettings
-said_coastline [] file = default_settings file
-said_coastline (option ∷ others) file = with_option option.1 (said_coastline others file)
+said_coastline options file = said_with with_option (default_settings file) options

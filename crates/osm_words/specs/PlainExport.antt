@@ -1,7 +1,7 @@
 -- Plain words of `export`, and what they say.
 use Rattle.std.specs.Prelude.{◌≡◌, ℕ, true, false, List, [], ◌∷◌, Some, None, codes, ⊤}
 use Rattle.opl_reader.specs.Keys.{keys_said}
-use Rattle.osm_words.specs.PlainWords.{Form, letter, long, plain_words, begins_with_dash, StandOnce, HavePlainValues, IsFileName}
+use Rattle.osm_words.specs.PlainWords.{Form, letter, long, plain_words, begins_with_dash, ArePlainWords, said_with}
 use Rattle.osm_words.specs.Job.{ExportSettings}
 use Rattle.osm_words.specs.declared.settings.Format.{Format}
 use Rattle.osm_words.specs.declared.settings.Format.TheVariants.{GeoJson, GeoJsonSeq, Text}
@@ -86,10 +86,8 @@ HasPlainValue (area_keys written keys) = (begins_with_dash written ≡ false) ×
 HasPlainValue (linear_keys written keys) = (begins_with_dash written ≡ false) × (keys_said written ≡ Some keys)
 
 -- Each option stands at most once, keys are what is written, no value begins with a dash, and the file's name doesn't either or is a lone dash.
-pub record ArePlain (options : List (Form × ExportOption)) (file : List ℕ) : Type 0 where
-  pub once : StandOnce name_of options
-  pub values : HavePlainValues HasPlainValue options
-  pub file_name : IsFileName file
+abbrev pub ArePlain : List (Form × ExportOption) → List ℕ → Type 0
+ArePlain options file = ArePlainWords name_of HasPlainValue options file
 
 -- ---- what they say
 
@@ -122,5 +120,4 @@ with_option (area_keys written keys) s = record s { area_keys = Some keys }
 with_option (linear_keys written keys) s = record s { linear_keys = Some keys }
 
 abbrev pub said : List (Form × ExportOption) → List ℕ → ExportSettings
-said [] file = default_settings file
-said (option ∷ others) file = with_option option.1 (said others file)
+said options file = said_with with_option (default_settings file) options

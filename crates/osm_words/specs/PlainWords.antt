@@ -32,3 +32,14 @@ HavePlainValues HasPlainValue (option ∷ others) = HasPlainValue option.1 × Ha
 -- It is a lone dash, or doesn't begin with one. So the empty word is one too.
 abbrev pub IsFileName : List ℕ → Type 0
 IsFileName file = (file ≡ codes "-") ⊎ (begins_with_dash file ≡ false)
+
+-- Each option stands at most once and has a plain value or none, and the file's name is one.
+pub record ArePlainWords {C : Type 0} (name_of : C → List ℕ) (HasPlainValue : C → Type 0) (options : List (Form × C)) (file : List ℕ) : Type 0 where
+  pub once : StandOnce name_of options
+  pub values : HavePlainValues HasPlainValue options
+  pub file_name : IsFileName file
+
+-- what options say, from what is said without them
+abbrev pub said_with : {C S : Type 0} → (C → S → S) → S → List (Form × C) → S
+said_with with_option settings [] = settings
+said_with with_option settings (option ∷ others) = with_option option.1 (said_with with_option settings others)

@@ -1,11 +1,13 @@
 -- Which command the words of a run name, and what they ask for.
 use Rattle.std.specs.Prelude.{ℕ, List, [], ◌∷◌, Result, Ok, Err, codes, if◌then◌else◌}
 use Rattle.std.specs.Str.{bytes_eq}
-use Rattle.osm_words.specs.Job.{Job, coastline, export}
+use Rattle.osm_words.specs.Job.{Job, coastline, export, filter, sample}
 use Rattle.osm_words.specs.CoastlineWords.{coastline_asked}
 use Rattle.osm_words.specs.ExportWords.{export_asked}
+use Rattle.osm_words.specs.FilterWords.{filter_asked}
+use Rattle.osm_words.specs.SampleWords.{sample_asked}
 use Rattle.osm_words.specs.declared.words.Command.{Command}
-use Rattle.osm_words.specs.declared.words.Command.TheVariants.{Coastline, Export, Unknown}
+use Rattle.osm_words.specs.declared.words.Command.TheVariants.{Coastline, Export, Filter, Sample, Unknown}
 use Rattle.osm_words.specs.declared.fault.WordsFault.{WordsFault}
 use Rattle.osm_words.specs.declared.fault.WordsFault.TheVariants.{NoCommand, UnknownCommand}
 
@@ -14,7 +16,9 @@ abbrev pub command_named : List (List ℕ) → Command
 command_named [] = Unknown
 command_named (first ∷ words) =
     if bytes_eq first (codes "export") then Export
-    else if bytes_eq first (codes "coastline") then Coastline else Unknown
+    else if bytes_eq first (codes "coastline") then Coastline
+    else if bytes_eq first (codes "sample") then Sample
+    else if bytes_eq first (codes "coast-filter") then Filter else Unknown
 
 -- why words that name no command aren't taken
 abbrev pub unnamed_cause : List (List ℕ) → WordsFault
@@ -29,6 +33,8 @@ as_job job (Err fault) = Err fault
 abbrev pub asked_of : Command → List (List ℕ) → Result Job WordsFault
 asked_of Export words = as_job export (export_asked words)
 asked_of Coastline words = as_job coastline (coastline_asked words)
+asked_of Sample words = as_job sample (sample_asked words)
+asked_of Filter words = as_job filter (filter_asked words)
 asked_of Unknown words = Err (unnamed_cause words)
 
 -- what the words of a run ask for, or why they aren't taken

@@ -2,7 +2,7 @@
 
 ghost use Rattle.std.specs.Prelude.{◌≡◌, false};
 ghost use Rattle.clap.specs.Words.{rule_of};
-ghost use Rattle.osm_words.specs.Arguments.{file_rule, flag_rule, long_option_rule, option_rule};
+ghost use Rattle.osm_words.specs.Arguments.{flag_rule, long_option_rule, option_rule, positional_rule};
 
 use clap::{Arg, ArgAction};
 use std::alloc::Global;
@@ -38,11 +38,9 @@ pub(crate) fn flag<'a>(alloc: Global, name: &'a str, letter: char, long: &'a str
 }
 
 /// The one word that is no option.
-pub(crate) fn file<'a>(alloc: Global) -> Arg<'a>
-    ensures rule { rule_of result ≡ file_rule }
+pub(crate) fn positional<'a>(alloc: Global, name: &'a str) -> Arg<'a>
+    ensures rule { rule_of result ≡ positional_rule name.now }
     ensures local { result.global ≡ false }
 {
-    Arg::new(alloc, "file")
-        .required(true)
-        .action(ArgAction::Set)
+    Arg::new(alloc, name).required(true).action(ArgAction::Set)
 }

@@ -4,7 +4,7 @@ ghost use Rattle.std.specs.Prelude.{◌≡◌, IfOk, map, string_bytes};
 ghost use Rattle.clap.specs.Words.{FailsBy, app_of, fault_of, found_of, matches_of, rows_of};
 ghost use Rattle.osm_words.specs.CoastlineCommand.{coastline_app};
 
-use crate::arguments::{file, flag, long_option, option};
+use crate::arguments::{flag, long_option, option, positional};
 use clap::{ArgMatches, Command, Error};
 use std::alloc::{AllocError as OutOfMemory, Global};
 
@@ -19,7 +19,7 @@ fn coastline_command<'a>(alloc: Global) -> Result<Command<'a>, OutOfMemory>
         .arg(option(alloc, "polygons", 'p', "output-polygons"))?
         .arg(long_option(alloc, "output"))?
         .arg(flag(alloc, "overwrite", 'f', "overwrite"))?
-        .arg(file(alloc))?;
+        .arg(positional(alloc, "file"))?;
     Ok(command.disable_help_flag(true))
 }
 

@@ -11,7 +11,7 @@ pub enum WordsFault {
     UnknownCommand,
     /// The command's parser refuses the words behind its name, with this kind of `clap`'s.
     Refused { kind: ErrorKind },
-    /// The option with this letter has a value that isn't one of its own.
+    /// The option with this letter has a value that isn't one of its own. The number of `sample` counts as one with `N`.
     OutOfRange { option: char },
 }
 

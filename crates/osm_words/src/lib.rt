@@ -10,15 +10,27 @@ mod degrees;
 mod export_command;
 mod export_words;
 mod fault;
+mod filter_command;
+#[cfg(test)]
+mod filter_tests;
+mod filter_words;
 mod number;
 mod parsed;
+mod sample_command;
+#[cfg(test)]
+mod sample_tests;
+mod sample_words;
 mod settings;
 #[cfg(test)]
 mod tests;
 mod words;
 
 pub use fault::{WordsError, WordsFault};
-pub use settings::{CoastlineSettings, ExportSettings, Format, Job, OutputPolygons, UniqueId};
+pub use settings::{
+    CoastlineSettings, ExportSettings, FilterSettings, Format, Job, OutputPolygons, SampleSettings,
+    UniqueId,
+};
 pub use words::{
-    Command, command_of, job_of, plain_coastline_words_are_taken, plain_words_are_taken,
+    Command, command_of, job_of, plain_coastline_words_are_taken, plain_filter_words_are_taken,
+    plain_sample_words_are_taken, plain_words_are_taken,
 };

@@ -80,9 +80,30 @@ pub struct CoastlineSettings<'a> {
     pub ghost bbox_overlap_in: { bbox_overlap ≤ 100_000_000 },
 }
 
+/// What the words of `sample` ask for.
+#[derive(Clone, Copy, Debug, PartialEq, Eq)]
+pub struct SampleSettings {
+    /// How many cells the sample has along each side of its square, from 1 to 100.
+    pub count: u8,
+    pub ghost count_in: { (1 ≤ count) × (count ≤ 100) },
+}
+
+/// What the words of `coast-filter` ask for.
+#[derive(Clone, Copy, Debug, PartialEq, Eq)]
+pub struct FilterSettings<'a> {
+    /// The name of the input, `-` for standard input.
+    pub file: &'a str,
+    /// The name of the output, `-` for standard output.
+    pub output: &'a str,
+    /// Whether an output file that is there already may be overwritten.
+    pub overwrite: bool,
+}
+
 /// What the words of a run ask for.
 #[derive(Clone, Copy, Debug, PartialEq, Eq)]
 pub enum Job<'a> {
     Export(ExportSettings<'a>),
     Coastline(CoastlineSettings<'a>),
+    Sample(SampleSettings),
+    Filter(FilterSettings<'a>),
 }

@@ -2,15 +2,19 @@
 
 ghost use Rattle.std.specs.Prelude.{◌≡◌, ℕ, List, Ok, map, string_bytes};
 ghost use Rattle.osm_words.specs.Answers.{Answers, Gives};
-ghost use Rattle.osm_words.specs.Job.{coastline, export};
+ghost use Rattle.osm_words.specs.Job.{coastline, export, filter, sample};
 ghost use Rattle.osm_words.specs.PlainCoastline.{ArePlainCoastline, CoastlineOption, coastline_words, said_coastline};
 ghost use Rattle.osm_words.specs.PlainExport.{ArePlain, ExportOption, export_words, said};
+ghost use Rattle.osm_words.specs.PlainFilter.{ArePlainFilter, FilterOption, filter_words, said_filter};
+ghost use Rattle.osm_words.specs.PlainSample.{IsPlainCount, sample_words};
 ghost use Rattle.osm_words.specs.PlainWords.{Form};
 ghost use Rattle.osm_words.specs.Words.{command_named, job_asked, unnamed_cause};
 
 use crate::coastline_words::coastline_settings;
 use crate::export_words::export_settings;
 use crate::fault::{WordsError, WordsFault};
+use crate::filter_words::filter_settings;
+use crate::sample_words::sample_settings;
 use crate::settings::Job;
 use std::alloc::Global;
 
@@ -19,6 +23,8 @@ use std::alloc::Global;
 pub enum Command {
     Export,
     Coastline,
+    Sample,
+    Filter,
     Unknown,
 }
 
@@ -29,6 +35,8 @@ pub fn command_of(words: &[String]) -> Command
     match words.first() {
         Some(word) if word.as_str() == "export" => Command::Export,
         Some(word) if word.as_str() == "coastline" => Command::Coastline,
+        Some(word) if word.as_str() == "sample" => Command::Sample,
+        Some(word) if word.as_str() == "coast-filter" => Command::Filter,
         _ => Command::Unknown,
     }
 }
@@ -56,6 +64,14 @@ fn answer<'a>(alloc: Global, words: &'a [String]) -> Result<Job<'a>, WordsError>
             Ok(settings) => Ok(Job::Coastline(settings)),
             Err(error) => Err(error),
         },
+        Command::Sample => match sample_settings(alloc, words) {
+            Ok(settings) => Ok(Job::Sample(settings)),
+            Err(error) => Err(error),
+        },
+        Command::Filter => match filter_settings(alloc, words) {
+            Ok(settings) => Ok(Job::Filter(settings)),
+            Err(error) => Err(error),
+        },
         Command::Unknown => Err(WordsError::BadWords {
             cause: unnamed_cause(words),
         }),
@@ -67,10 +83,11 @@ fn answer<'a>(alloc: Global, words: &'a [String]) -> Result<Job<'a>, WordsError>
 /// `answers` says that it is what `job_asked` says, want of memory aside. So NoCommand comes exactly where there are no words, and UnknownCommand
 /// exactly where the first word names no command. Refused comes exactly where the command's parser doesn't take the words behind its name, with the
 /// one kind that `clap` states for them. OutOfRange comes exactly where it takes them and a value isn't one of its option's: the first such
-/// option in the order `f`, `u`, `a` (`--area-keys`), `l` (`--linear-keys`) of `export`, and `c`, `m`, `b`, `p` of `coastline`.
+/// option in the order `f`, `u`, `a` (`--area-keys`), `l` (`--linear-keys`) of `export`, and `c`, `m`, `b`, `p` of `coastline`; the one
+/// value of `sample` is named `N`, and `coast-filter` has none with a range.
 ///
-/// `plain` and `plain_coastline` say that options in any order, each in its short or its long form and at most once, and a file behind them are
-/// taken with what they say.
+/// `plain`, `plain_coastline` and `plain_filter` say that options in any order, each in its short or its long form and at most once, and a file
+/// behind them are taken with what they say; `plain_sample` says so of a number in range alone.
 pub fn job_of<'a>(alloc: Global, words: &'a [String]) -> Result<Job<'a>, WordsError>
     ensures answers { Answers (job_asked (map string_bytes words.now)) result }
     ensures plain { (options : List (Form × ExportOption)) (file : List ℕ) → ArePlain options file
@@ -80,6 +97,13 @@ pub fn job_of<'a>(alloc: Global, words: &'a [String]) -> Result<Job<'a>, WordsEr
         → ArePlainCoastline options file
         → map string_bytes words.now ≡ coastline_words options file
         → Gives (coastline (said_coastline options file)) result }
+    ensures plain_sample { (written : List ℕ) (count : ℕ) → IsPlainCount written count
+        → map string_bytes words.now ≡ sample_words written
+        → Gives (sample count) result }
+    ensures plain_filter { (options : List (Form × FilterOption)) (file : List ℕ)
+        → ArePlainFilter options file
+        → map string_bytes words.now ≡ filter_words options file
+        → Gives (filter (said_filter options file)) result }
 {
     answer(alloc, words)
 }
@@ -95,4 +119,16 @@ pub fn plain_coastline_words_are_taken()
     ensures { (options : List (Form × CoastlineOption)) (file : List ℕ)
         → ArePlainCoastline options file
         → job_asked (coastline_words options file) ≡ Ok (coastline (said_coastline options file)) }
+{}
+
+/// The law that plain words of `sample` are taken with the number that they say.
+pub fn plain_sample_words_are_taken()
+    ensures { (written : List ℕ) (count : ℕ) → IsPlainCount written count
+        → job_asked (sample_words written) ≡ Ok (sample count) }
+{}
+
+/// The law that plain words of `coast-filter` are taken with what they say.
+pub fn plain_filter_words_are_taken()
+    ensures { (options : List (Form × FilterOption)) (file : List ℕ) → ArePlainFilter options file
+        → job_asked (filter_words options file) ≡ Ok (filter (said_filter options file)) }
 {}

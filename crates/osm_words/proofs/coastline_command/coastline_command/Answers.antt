@@ -7,7 +7,7 @@ use Rattle.osm_words.proofs.coastline_command.coastline_command.Goals as goal
 pub returns : goal.returns
 returns c =
     let all : app_of c.in_ok-command.command ≡ coastline_rules (new_app (codes "coastline")) =
-    c.in_ok-command.ensures.shape c.file.ensures.local
+    c.in_ok-command.ensures.shape c.positional.ensures.local
     ∙ ap₂ with_rule (c.in_ok-arg-6.ensures.shape c.flag.ensures.local
     ∙ ap₂ with_rule (c.in_ok-arg-5.ensures.shape c.long_option.ensures.local
     ∙ ap₂ with_rule (c.in_ok-arg-4.ensures.shape c.option-4.ensures.local
@@ -16,5 +16,5 @@ returns c =
     ∙ ap₂ with_rule (c.in_ok-arg.ensures.shape c.option.ensures.local
     ∙ ap₂ with_rule c.new.ensures.app c.option.ensures.rule)
     c.option-2.ensures.rule) c.option-3.ensures.rule) c.option-4.ensures.rule) c.long_option.ensures.rule) c.flag.ensures.rule)
-    c.file.ensures.rule in
+    c.positional.ensures.rule in
     ap app_of_fields c.disable_help_flag.ensures ∙ ap (λ (a : App). on_top (λ s. record s { disable_help_flag = true }) a) all

@@ -7,7 +7,7 @@ use Rattle.osm_words.proofs.export_command.export_command.Goals as goal
 pub returns : goal.returns
 returns c =
     let all : app_of c.in_ok-command.command ≡ export_rules (new_app (codes "export")) =
-    c.in_ok-command.ensures.shape c.file.ensures.local
+    c.in_ok-command.ensures.shape c.positional.ensures.local
     ∙ ap₂ with_rule (c.in_ok-arg-10.ensures.shape c.long_option-2.ensures.local
     ∙ ap₂ with_rule (c.in_ok-arg-9.ensures.shape c.long_option.ensures.local
     ∙ ap₂ with_rule (c.in_ok-arg-8.ensures.shape c.flag-5.ensures.local
@@ -21,5 +21,5 @@ returns c =
     ∙ ap₂ with_rule c.new.ensures.app c.option.ensures.rule)
     c.option-2.ensures.rule) c.flag.ensures.rule) c.flag-2.ensures.rule) c.option-3.ensures.rule) c.flag-3.ensures.rule) c.flag-4.ensures.rule) c.flag-5.ensures.rule)
     c.long_option.ensures.rule) c.long_option-2.ensures.rule)
-    c.file.ensures.rule in
+    c.positional.ensures.rule in
     ap app_of_fields c.disable_help_flag.ensures ∙ ap (λ (a : App). on_top (λ s. record s { disable_help_flag = true }) a) all

@@ -3,6 +3,8 @@ use Rattle.osm_words.specs.Words.{job_asked}
 use Rattle.osm_words.proofs.PlainAnswers.{answers_give}
 use Rattle.osm_words.proofs.PlainCoastline.{plain_coastline_asked}
 use Rattle.osm_words.proofs.PlainExport.{plain_words_asked}
+use Rattle.osm_words.proofs.PlainFilter.{plain_filter_asked}
+use Rattle.osm_words.proofs.PlainSample.{plain_sample_asked}
 use Rattle.osm_words.proofs.words.job_of.Goals as goal
 
 pub returns-clause-plain : goal.returns-clause-plain
@@ -14,3 +16,13 @@ pub returns-clause-plain_coastline : goal.returns-clause-plain_coastline
 returns-clause-plain_coastline c = λ options file plain are.
     answers_give (job_asked (map string_bytes c.args.words.now)) _ c.answer.result
     (ap job_asked are ∙ plain_coastline_asked options file plain) c.answer.ensures
+
+pub returns-clause-plain_sample : goal.returns-clause-plain_sample
+returns-clause-plain_sample c = λ written count plain are.
+    answers_give (job_asked (map string_bytes c.args.words.now)) _ c.answer.result
+    (ap job_asked are ∙ plain_sample_asked written count plain) c.answer.ensures
+
+pub returns-clause-plain_filter : goal.returns-clause-plain_filter
+returns-clause-plain_filter c = λ options file plain are.
+    answers_give (job_asked (map string_bytes c.args.words.now)) _ c.answer.result
+    (ap job_asked are ∙ plain_filter_asked options file plain) c.answer.ensures
