@@ -1,5 +1,5 @@
 -- A job that reads one input and then writes one output: each way in which it ends.
-use Rattle.std.proofs.Common.{◌≡◌, ◌∙◌, refl, sym, ap, ℕ, ◌≤◌, ◌⊎◌, List, [], ◌∷◌, arith, Option, None, Some, IfSome, is_some, Ok, Err, inl, inr}
+use Rattle.std.proofs.Common.{◌≡◌, ◌∙◌, refl, sym, ap, ℕ, ◌≤◌, ◌⊎◌, List, [], ◌∷◌, length, arith, Option, None, Some, IfSome, is_some, Ok, Err, inl, inr}
 use Rattle.opl_reader.specs.declared.object.Object.{Object}
 use Rattle.osm_host.specs.Laws.{StreamsAppend}
 use Rattle.osm_host.specs.Outside.{Outside, Opened, input, appended, risen, OnlyOpens}
@@ -33,6 +33,9 @@ module _ (law : StreamsAppend) (name : List ℕ) (second : Opened) (IsRight : Li
   abbrev Ready : Outside → Outside → Type 0
   Ready = IsReady (name ∷ []) Right (TookInput name)
 
+  reads_one : name ∷ [] ≡ [] → ⊥
+  reads_one none = omega (arith, ap length none)
+
   -- ---- no output was opened
 
   -- nothing was written
@@ -46,6 +49,7 @@ module _ (law : StreamsAppend) (name : List ℕ) (second : Opened) (IsRight : Li
     right = right;
     refused = refused;
     took = took;
+    untouched = λ none. absurd (reads_one none);
     opens = opens;
     faults = faults;
     write_faults = write_faults;
@@ -128,6 +132,7 @@ module _ (law : StreamsAppend) (name : List ℕ) (second : Opened) (IsRight : Li
         right = refl;
         refused = tt;
         took = tt;
+        untouched = λ none. absurd (reads_one none);
         opens = elim listed_or_not [
           | inl two ↦ (2, (both_opens opened two, λ _. (took_so_far, goes_told (before.named name) has.right goes)))
           | inr one ↦ (1, (one ∙ has.opens, λ two. absurd (omega arith)))
@@ -167,6 +172,7 @@ module _ (law : StreamsAppend) (name : List ℕ) (second : Opened) (IsRight : Li
             right = right;
             refused = refused;
             took = took;
+            untouched = λ none. absurd (reads_one none);
             opens = opens;
             faults = faults;
             write_faults = write_faults;

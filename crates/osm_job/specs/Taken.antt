@@ -31,6 +31,11 @@ IsStopped inputs error before after =
 abbrev pub TookInput : List ℕ → Outside → Outside → Type 0
 TookInput name before after = (objects : List Object) × TookOff (name ∷ []) (Ok objects) before after
 
+-- Nothing was taken off any input.
+pub record TookNothing (before after : Outside) : Type 0 where
+  pub left : after.left ≡ before.left
+  pub bytes_read : after.bytes_read ≡ before.bytes_read
+
 -- the error of a reader that ends a run so
 abbrev pub read_error : Ended → Option ReadError
 read_error Done = None

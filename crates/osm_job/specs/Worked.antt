@@ -9,7 +9,7 @@ use Rattle.osm_job.specs.Faults.{CountsFaults, writes_failed}
 use Rattle.osm_job.specs.Opens.{OpensBy}
 use Rattle.osm_job.specs.Prefix.{IsPrefix}
 use Rattle.osm_job.specs.Sent.{Sent, output_of, report_of}
-use Rattle.osm_job.specs.Taken.{IsStopped, TookBy, TookInput, read_error}
+use Rattle.osm_job.specs.Taken.{IsStopped, TookBy, TookInput, TookNothing, read_error}
 use Rattle.osm_job.specs.Texts.{Texts, told_texts}
 use Rattle.osm_job.specs.Whole.{IsReadThen, Whole}
 use Rattle.osm_job.specs.Writes.{Added}
@@ -20,7 +20,7 @@ abbrev pub IsReady : (inputs : List (List ℕ)) → (Texts inputs → Whole → 
 IsReady inputs IsRight TookAll before after = TookAll before after × GoesOut IsRight (told_texts before.named inputs)
 
 -- A job ended so, but for its last line: a job of these inputs and outputs, for which this is right over the texts of its
--- inputs, and which has taken all of them where this holds.
+-- inputs, and which has taken all of them where this holds. One without inputs takes nothing, however it ends.
 pub record Worked (inputs : List (List ℕ)) (outputs : List Opened) (IsRight : Texts inputs → Whole → Type 0) (TookAll : Outside → Outside → Type 0) (ended : Ended) (before after : Outside) : Type 0 where
   pub written : List Sent
   pub out : after.out ≡ appended before.out (output_of written)
@@ -28,6 +28,7 @@ pub record Worked (inputs : List (List ℕ)) (outputs : List Opened) (IsRight : 
   pub right : IsWrittenBy IsRight (cause_of ended) (told_texts before.named inputs) ended written
   pub refused : IfSome (read_error ended) (λ error. IsStopped inputs error before after)
   pub took : TookBy TookAll (cause_of ended) before after
+  pub untouched : inputs ≡ [] → TookNothing before after
   pub opens : OpensBy inputs outputs (IsReady inputs IsRight TookAll) (cause_of ended) before after
   pub faults : CountsFaults ended before after
   pub write_faults : after.write_faults ≡ writes_failed (cause_of ended) before.write_faults
@@ -44,11 +45,19 @@ abbrev pub ReadThenWrote : List ℕ → Opened → (List Object → Whole → Ty
 ReadThenWrote name opened IsRight ended before after =
     Worked (name ∷ []) (opened ∷ []) (OverOne IsRight name) (TookInput name) ended before after
 
+-- ---- an output alone
+
+-- A job ended so that reads nothing and opens one output, and for which this is right.
+abbrev pub WroteAlone : Opened → (Whole → Type 0) → Ended → Outside → Outside → Type 0
+WroteAlone opened IsRight ended before after = Worked [] (opened ∷ []) (λ texts whole. IsRight whole) TookNothing ended before after
+
+-- ---- once the output is open
+
 -- a prefix of what is right
 abbrev pub IsBegun : (Whole → Type 0) → List Sent → Type 0
 IsBegun IsRight written = (whole : Whole) × IsRight whole × (cause_of whole.ended ≡ by_itself) × IsPrefix written whole.written
 
--- What was written over the objects of an input is right, by what ended the job. Nothing is left to be opened or read.
+-- What was written is right, by what ended the job. Nothing is left to be opened or read.
 abbrev pub IsWrittenOver : (Whole → Type 0) → Cause → Ended → List Sent → Type 0
 IsWrittenOver IsRight by_itself ended written = IsRight (record { written = written; ended = ended })
 IsWrittenOver IsRight by_words ended written = ⊥
