@@ -4,3 +4,4 @@ mod Rising
 mod Short
 mod Sampled
 mod Good
+mod OneCoast

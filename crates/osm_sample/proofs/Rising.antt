@@ -1,6 +1,6 @@
 -- Objects by rising kinds and ids: no two have one kind and id.
-use Rattle.std.proofs.Common.{◌≡◌, ◌∙◌, refl, sym, ap, subst, ℕ, zero, suc, ◌+◌, ◌<◌, ◌≤◌, ◌&&◌, arith, Bool, true, false, cond, ℤ, Option, None, Some, List, [], ◌∷◌, ◌++◌, map, All}
-use Rattle.std.specs.Prelude.{find, unsigned_abs}
+use Rattle.std.proofs.Common.{◌≡◌, ◌∙◌, refl, sym, ap, subst, ℕ, zero, suc, ◌+◌, ◌<◌, ◌≤◌, ◌&&◌, arith, Bool, true, false, cond, ℤ, None, Some, List, [], ◌∷◌, ◌++◌, map, All}
+use Rattle.std.specs.Prelude.{unsigned_abs}
 use Rattle.std.specs.List.{flat_map}
 use Rattle.std.specs.Ordering.{int_eq}
 use Rattle.std.proofs.lemmas.List.Elements.{All-cons, All-head, All-nil, All-tail}
@@ -8,7 +8,7 @@ use Rattle.opl_reader.specs.declared.object.Object.{Object}
 use Rattle.opl_reader.specs.declared.object.ObjectKind.{ObjectKind}
 use Rattle.opl_reader.specs.declared.object.ObjectKind.TheVariants.{Node, Way, Relation}
 use Rattle.osm_objects.specs.Object.{id_of, is_at, kind_of, ref_of, same_kind}
-use Rattle.osm_objects.specs.Objects.{object_at}
+use Rattle.osm_objects.specs.Objects.{AreApart, object_at}
 use Rattle.lists.proofs.ListsKit.{int_eq-true}
 use Rattle.osm_sample.specs.Numbers.{numbers}
 use Rattle.osm_sample.proofs.Counted.{flat_map-suc, map-suc}
@@ -46,19 +46,19 @@ one_rank o u e =
     ap (λ (k : ObjectKind). rank_of k (unsigned_abs (id_of o))) (kinds_same (kind_of o) (kind_of u) parts.0)
     ∙ ap (λ (z : ℤ). rank_of (kind_of u) (unsigned_abs z)) (int_eq-true (id_of o) (id_of u) parts.1)
 
-apart : (o u : Object) → rank u < rank o → is_at (ref_of o) u ≡ false
+apart : (o u : Object) → rank o < rank u → is_at (ref_of o) u ≡ false
 apart o u less = by (is_at (ref_of o) u) refl
   where
     by : (b : Bool) → is_at (ref_of o) u ≡ b → b ≡ false
     by true e = let same = one_rank o u e in absurd (omega arith)
     by false e = refl
 
--- none of lower rank is found in its place
-pub none_below : (o : Object) (us : List Object) → All (λ u. rank u < rank o) us → object_at us (ref_of o) ≡ None
-none_below o [] all = refl
-none_below o (u ∷ us) all =
-    ap (λ (b : Bool). cond b (Some u) (object_at us (ref_of o))) (apart o u (All-head (λ v. rank v < rank o) u us all))
-    ∙ none_below o us (All-tail (λ v. rank v < rank o) u us all)
+-- none of higher rank is found in its place
+none_above : (o : Object) (us : List Object) → All (λ u. rank o + 1 ≤ rank u) us → object_at us (ref_of o) ≡ None
+none_above o [] all = refl
+none_above o (u ∷ us) all =
+    ap (λ (b : Bool). cond b (Some u) (object_at us (ref_of o))) (apart o u (let more = All-head (λ v. rank o + 1 ≤ rank v) u us all in omega arith))
+    ∙ none_above o us (All-tail (λ v. rank o + 1 ≤ rank v) u us all)
 
 -- ---- rising lists
 
@@ -87,19 +87,13 @@ rises-of_map f g (suc n) each =
     subst (RisesIn (g 0) (g (suc n))) (sym (map-suc f n))
     (rises_both (g 0) (g n) (g (suc n)) (map f (numbers n)) (f n ∷ []) (rises-of_map f g n (λ i low. each i (omega arith))) (each n (omega arith)))
 
-pub all_from : (low high : ℕ) (os : List Object) → RisesIn low high os → All (λ o. low ≤ rank o) os
+all_from : (low high : ℕ) (os : List Object) → RisesIn low high os → All (λ o. low ≤ rank o) os
 all_from low high [] rises = All-nil (λ o. low ≤ rank o)
 all_from low high (o ∷ os) rises =
     let more = all_from low high os (rises_from low (rank o + 1) high os (let first = rises.0 in omega arith) rises.1) in
     All-cons (λ u. low ≤ rank u) o os rises.0 more
 
--- those before one of them are of lower rank
-pub lower_before : (low high : ℕ) (us : List Object) (o : Object) (vs : List Object) → RisesIn low high (us ++ o ∷ vs) → All (λ u. rank u < rank o) us
-lower_before low high [] o vs rises = All-nil (λ u. rank u < rank o)
-lower_before low high (u ∷ us) o vs rises =
-    let here = all_from (rank u + 1) high (us ++ o ∷ vs) rises.1 in
-    All-cons (λ v. rank v < rank o) u us (let least = last_of us (rank u + 1) here in omega arith) (lower_before (rank u + 1) high us o vs rises.1)
-  where
-    last_of : (ws : List Object) (m : ℕ) → All (λ v. m ≤ rank v) (ws ++ o ∷ vs) → m ≤ rank o
-    last_of [] m all = All-head (λ v. m ≤ rank v) o vs all
-    last_of (w ∷ ws) m all = last_of ws m (All-tail (λ v. m ≤ rank v) w (ws ++ o ∷ vs) all)
+-- so no two have one kind and id
+pub rises_apart : (low high : ℕ) (os : List Object) → RisesIn low high os → AreApart os
+rises_apart low high [] rises = tt
+rises_apart low high (o ∷ os) rises = (none_above o os (all_from (rank o + 1) high os rises.1), rises_apart (rank o + 1) high os rises.1)

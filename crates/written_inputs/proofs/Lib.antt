@@ -1,0 +1,4 @@
+mod Apart
+mod ReadAlone
+mod ReadBack
+mod ReadSound
