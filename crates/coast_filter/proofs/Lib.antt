@@ -1,0 +1,7 @@
+mod Apart
+mod Kept
+mod Lookups
+mod Naming
+mod Part
+mod SameCoast
+mod Told

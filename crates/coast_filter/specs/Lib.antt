@@ -1,0 +1,3 @@
+pub mod CoastPart
+pub mod ByIds
+pub mod Laws

@@ -1,0 +1,34 @@
+//! Laws of the coast part of an input. Each function's contract is the law; the body calls the laws that
+//! it rests on.
+
+ghost use Rattle.coast_filter.specs.Laws.{CoastInputStays, CoastPartIsApart, CoastPartIsWritable, CoastPartStays, CoastTextTellsCoast};
+
+use written_inputs::written_inputs_are_read;
+
+/// The coast part of an input has its coast input: the same coast ways take part, with the same paths, and the same are set
+/// aside, in the same order, for the same reasons.
+pub fn coast_input_stays()
+    ensures { CoastInputStays }
+{}
+
+/// The coast part of a coast part is that coast part.
+pub fn coast_part_stays()
+    ensures { CoastPartStays }
+{}
+
+/// The objects of a coast part are apart where those of the input are, and can be written where those can.
+pub fn coast_part_is_sound()
+    ensures apart { CoastPartIsApart }
+    ensures writable { CoastPartIsWritable }
+{}
+
+/// The text of a coast part tells this part and no more, and nothing is wrong with it but that a line may be too long. So as an
+/// input it has the coast input of the whole.
+pub fn coast_text_tells_the_coast()
+    ensures { CoastTextTellsCoast }
+{
+    coast_input_stays();
+    coast_part_is_sound();
+    // By law: objects that are written are read back.
+    written_inputs_are_read();
+}
