@@ -1,8 +1,9 @@
 -- What is written of lists of things, seen one thing after the other.
-use Rattle.std.proofs.Common.{◌≡◌, ◌∙◌, refl, sym, ap, ap₂, subst, Result, Ok, Err, OnOk, ℕ, ◌+◌, ◌<◌, ◌≤◌, List, [], ◌∷◌, ◌++◌, length, take, get_or, append-nil, append_assoc}
-use Rattle.std.specs.List.{flat_map}
+use Rattle.std.proofs.Common.{◌≡◌, ◌∙◌, refl, sym, ap, ap₂, subst, Result, Ok, Err, OnOk, ℕ, ◌+◌, ◌<◌, ◌≤◌, List, [], ◌∷◌, ◌++◌, length, take, get_or, append-nil, append_assoc, arith}
+use Rattle.std.specs.List.{flat_map, sum_by}
 use Rattle.std.proofs.lemmas.List.{take_more, take_all}
 use Rattle.std.proofs.lemmas.Grind.{flat_map-append}
+use Rattle.std.proofs.lemmas.List.Sums.{sum_by_more}
 use Rattle.osm_geom.specs.declared.edge.Edge.{Edge}
 use Rattle.osm_job.specs.Sent.{lines_text}
 use Rattle.osm_nest.specs.RingLists.{all_edges}
@@ -20,28 +21,40 @@ flat_map-all g xs n all = ap (flat_map g) (take_all n xs all)
 
 -- ---- pieces
 
-pub adds_nothing : (pieces : Pieces) → Adds pieces pieces [] []
-adds_nothing pieces = record { written = sym (append-nil (lines_text pieces.texts.items)); told = sym (append-nil pieces.lines.items); uncounted = refl }
+pub adds_nothing : (pieces : Pieces) → Adds pieces pieces [] 0 []
+adds_nothing pieces = record {
+  written = sym (append-nil (lines_text pieces.texts.items));
+  printed = omega arith;
+  told = sym (append-nil pieces.lines.items);
+  uncounted = refl;
+}
 
-pub adds_both : (before middle after : Pieces) (t u : List ℕ) (k l : List CoastLine) → Adds before middle t k → Adds middle after u l → Adds before after (t ++ u) (k ++ l)
-adds_both before middle after t u k l first then = record {
+pub adds_both : (before middle after : Pieces) (t u : List ℕ) (m n : ℕ) (k l : List CoastLine) → Adds before middle t m k → Adds middle after u n l → Adds before after (t ++ u) (m + n) (k ++ l)
+adds_both before middle after t u m n k l first then = record {
   written = then.written ∙ ap (λ (xs : List ℕ). xs ++ u) first.written ∙ append_assoc (lines_text before.texts.items) t u;
+  printed = let p = first.printed in let q = then.printed in omega arith;
   told = then.told ∙ ap (λ (xs : List CoastLine). xs ++ l) first.told ∙ append_assoc before.lines.items k l;
   uncounted = then.uncounted ∙ first.uncounted;
 }
 
-module _ {X : Type 0} (text : X → List ℕ) (lines : X → List CoastLine) (xs : List X) where
-  -- what one more adds
-  pub adds_next : (k : ℕ) (x : X) → k < length xs → x ≡ get_or xs k x → (before middle after : Pieces) → Adds before middle (flat_map text (take k xs)) (flat_map lines (take k xs)) → Adds middle after (text x) (lines x) →
-      Adds before after (flat_map text (take (k + 1) xs)) (flat_map lines (take (k + 1) xs))
-  adds_next k x lt is before middle after first then =
-      subst (λ (t : List ℕ). Adds before after t (flat_map lines (take (k + 1) xs))) (sym (flat_map-next text xs k x lt is))
-      (subst (λ (l : List CoastLine). Adds before after (flat_map text (take k xs) ++ text x) l) (sym (flat_map-next lines xs k x lt is))
-      (adds_both before middle after (flat_map text (take k xs)) (text x) (flat_map lines (take k xs)) (lines x) first then))
+module _ {X : Type 0} (text : X → List ℕ) (count : X → ℕ) (lines : X → List CoastLine) (xs : List X) where
+  sum_next : (k : ℕ) (x : X) → k < length xs → x ≡ get_or xs k x → sum_by count (take (k + 1) xs) ≡ sum_by count (take k xs) + count x
+  sum_next k x lt is = sum_by_more count xs k x lt ∙ ap (λ (z : X). sum_by count (take k xs) + count z) (sym is)
 
-  pub adds_all : (n : ℕ) → length xs ≤ n → (before after : Pieces) → Adds before after (flat_map text (take n xs)) (flat_map lines (take n xs)) → Adds before after (flat_map text xs) (flat_map lines xs)
+  -- what one more adds
+  pub adds_next : (k : ℕ) (x : X) → k < length xs → x ≡ get_or xs k x → (before middle after : Pieces) →
+      Adds before middle (flat_map text (take k xs)) (sum_by count (take k xs)) (flat_map lines (take k xs)) → Adds middle after (text x) (count x) (lines x) →
+      Adds before after (flat_map text (take (k + 1) xs)) (sum_by count (take (k + 1) xs)) (flat_map lines (take (k + 1) xs))
+  adds_next k x lt is before middle after first then =
+      subst (λ (t : List ℕ). Adds before after t (sum_by count (take (k + 1) xs)) (flat_map lines (take (k + 1) xs))) (sym (flat_map-next text xs k x lt is))
+      (subst (λ (n : ℕ). Adds before after (flat_map text (take k xs) ++ text x) n (flat_map lines (take (k + 1) xs))) (sym (sum_next k x lt is))
+      (subst (λ (l : List CoastLine). Adds before after (flat_map text (take k xs) ++ text x) (sum_by count (take k xs) + count x) l) (sym (flat_map-next lines xs k x lt is))
+      (adds_both before middle after (flat_map text (take k xs)) (text x) (sum_by count (take k xs)) (count x) (flat_map lines (take k xs)) (lines x) first then)))
+
+  pub adds_all : (n : ℕ) → length xs ≤ n → (before after : Pieces) → Adds before after (flat_map text (take n xs)) (sum_by count (take n xs)) (flat_map lines (take n xs)) →
+      Adds before after (flat_map text xs) (sum_by count xs) (flat_map lines xs)
   adds_all n all before after adds =
-      subst (λ (zs : List X). Adds before after (flat_map text zs) (flat_map lines zs)) (take_all n xs all) adds
+      subst (λ (zs : List X). Adds before after (flat_map text zs) (sum_by count zs) (flat_map lines zs)) (take_all n xs all) adds
 
 -- ---- the edges of rings
 

@@ -1,13 +1,15 @@
 -- Land and water together: what is right where they have too many leaves, and where they haven't.
-use Rattle.std.proofs.Common.{◌≡◌, ◌∙◌, refl, sym, ap, ap₂, subst, ℕ, ◌+◌, ◌-◌, ◌≤◌, All, List, ◌++◌, length, arith, map, inl, inr, Vec}
+use Rattle.std.proofs.Common.{◌≡◌, ◌∙◌, refl, sym, ap, ap₂, subst, ℕ, ◌+◌, ◌-◌, ◌≤◌, All, List, not, ◌++◌, length, arith, map, inl, inr, Vec}
+use Rattle.std.specs.List.{count_by}
 use Rattle.std.specs.declared.alloc.Global.{Global}
 use Rattle.opl_reader.specs.declared.object.Object.{Object}
 use Rattle.coast_split.specs.TreeLaws.{SplitTreesExist}
+use Rattle.coast_split.specs.declared.leaves.Leaf.{Leaf}
 use Rattle.coast_split.specs.declared.leaves.SplitError.{SplitError}
 use Rattle.coast_split.specs.declared.leaves.SplitError.TheVariants.{TooManyPieces, OutOfMemory}
 use Rattle.coast_sides.specs.Segments.{all_segments}
 use Rattle.osm_nest.specs.declared.polygon.Polygon.{Polygon}
-use Rattle.osm_report.specs.Coast.{HasItsKind}
+use Rattle.osm_report.specs.Coast.{HasItsKind, is_error}
 use Rattle.osm_report.specs.declared.coast.CoastLine.{CoastLine}
 use Rattle.osm_text.specs.declared.piece.PieceKind.{PieceKind}
 use Rattle.osm_text.specs.declared.piece.PieceKind.TheVariants as kind
@@ -16,11 +18,13 @@ use Rattle.osm_job.specs.Sent.{lines_text, to_output, to_report}
 use Rattle.osm_job.specs.Whole.{silent}
 use Rattle.osm_job.specs.declared.ended.Ended.TheVariants as ended
 use Rattle.job_coastline.specs.Coast.{Coast, IsCoast}
-use Rattle.job_coastline.specs.Coastline.{AreLand, AreWater, AreWritten, IsCoastline, all_lines, most_leaves}
+use Rattle.job_coastline.specs.Coastline.{AreAreas, AreLand, AreWater, AreWritten, Areas, IsCoastline, all_lines, most_leaves}
+use Rattle.job_coastline.specs.Counts.{AreCoastCounts}
 use Rattle.job_coastline.specs.Found.{IsFound, whole_of}
-use Rattle.job_coastline.specs.Pieces.{has_land, has_water}
+use Rattle.job_coastline.specs.Pieces.{AreLeavesOf, has_land, has_water}
 use Rattle.job_coastline.specs.PieceSteps.{ArePieces, HaveMoreLeaves, HaveMoreTogether, whole_error}
 use Rattle.job_coastline.specs.Report.{ArePrinted, coast_lines, ending_of}
+use Rattle.job_coastline.specs.declared.counts.CoastCounts.{CoastCounts}
 use Rattle.job_coastline.specs.declared.found.Found.{Found}
 use Rattle.job_coastline.specs.declared.pieces.Pieces.{Pieces}
 use Rattle.job_coastline.proofs.FoundWrites.{ends_by_itself}
@@ -53,18 +57,16 @@ module _ (settings : CoastlineSettings) (trees : SplitTreesExist) (most : ℕ) (
 
 module _ (settings : CoastlineSettings) (objects : List Object) (coast : Coast) (is : IsCoast settings objects coast) (land : List Polygon) (land_right : AreLand (has_land settings.polygons) coast.land.edges land) (water : List Polygon)
     (water_right : AreWater (has_water settings.polygons) coast.land.edges water) where
+  abbrev split_into : List Leaf → List Leaf → Areas
+  split_into land_leaves water_leaves = record { coast = coast; land = land; land_leaves = land_leaves; water = water; water_leaves = water_leaves }
+
+  split_right : (a b : List Leaf) → AreLeavesOf settings land a → AreLeavesOf settings water b → AreAreas settings objects (split_into a b)
+  split_right a b land_split water_split = record { coast = is; land = land_right; land_leaves = land_split; water = water_right; water_leaves = water_split }
+
   pub too_many_right : HaveMoreTogether settings most_leaves land water → (m : ℕ) → m ≡ most_leaves → IsCoastline settings objects (silent (ended.TooManyPieces m))
   too_many_right more m same = record {
-    coast = coast;
-    right = is;
-    land = land;
-    land_right = land_right;
-    land_leaves = more.land_leaves;
-    land_split = more.land_split;
-    water = water;
-    water_right = water_right;
-    water_leaves = more.water_leaves;
-    water_split = more.water_split;
+    areas = split_into more.land_leaves more.water_leaves;
+    right = split_right more.land_leaves more.water_leaves more.land_split more.water_split;
     written = inr (more.more, ap (λ (n : ℕ). silent (ended.TooManyPieces n)) same);
   }
 
@@ -78,6 +80,30 @@ module _ (settings : CoastlineSettings) (objects : List Object) (coast : Coast) 
 
     pub told_of_kind : All HasItsKind lines
     told_of_kind = subst (All HasItsKind) (sym told_lines) (all_of_kind (all_segments coast.joined.rings) coast is.sorted.pairs of_land.tiles of_water.tiles)
+
+    abbrev counted : CoastCounts
+    counted = record {
+      land = length first.texts.items;
+      water = length second.texts.items;
+      warnings = count_by (λ line. not (is_error line)) lines;
+      errors = count_by is_error lines;
+    }
+
+    pub counts_right : AreCoastCounts settings objects counted
+    counts_right = record {
+      areas = split_into of_land.leaves of_water.leaves;
+      right = split_right of_land.leaves of_water.leaves of_land.split of_water.split;
+      land = of_land.tiles;
+      land_made = of_land.made;
+      water = of_water.tiles;
+      water_made = of_water.made;
+      counted = λ i. record {
+        land = of_land.printed i;
+        water = of_water.printed i;
+        warnings = count_by (λ line. not (is_error line)) (told_lines i);
+        errors = count_by is_error (told_lines i);
+      };
+    }
 
     module _ (printed : Vec (Vec ℕ Global) Global) (are : ArePrinted lines (lines_text printed.items)) (few : first.leaves + second.leaves ≤ most_leaves) where
       abbrev found : Found
@@ -102,16 +128,8 @@ module _ (settings : CoastlineSettings) (objects : List Object) (coast : Coast) 
       pub found_right : IsFound settings objects found
       found_right = record {
         right = record {
-          coast = coast;
-          right = is;
-          land = land;
-          land_right = land_right;
-          land_leaves = of_land.leaves;
-          land_split = of_land.split;
-          water = water;
-          water_right = water_right;
-          water_leaves = of_water.leaves;
-          water_split = of_water.split;
+          areas = split_into of_land.leaves of_water.leaves;
+          right = split_right of_land.leaves of_water.leaves of_land.split of_water.split;
           written = inl (few_leaves, are_written);
         };
         itself = ends_by_itself lines;

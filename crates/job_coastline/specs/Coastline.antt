@@ -29,6 +29,24 @@ abbrev pub AreWater : Bool → List Edge → List Polygon → Type 0
 AreWater true land polygons = (water : List Edge) × IsWater (segments_along land) water × ArePolygons water polygons
 AreWater false land polygons = polygons ≡ []
 
+-- ---- what is split
+
+-- What comes of the coastline ways, the polygons that are asked for, and the leaves of those.
+pub record Areas : Type 0 where
+  pub coast : Coast
+  pub land : List Polygon
+  pub land_leaves : List Leaf
+  pub water : List Polygon
+  pub water_leaves : List Leaf
+
+-- They come of the coastline ways of these objects, each polygon split into its leaves.
+pub record AreAreas (settings : CoastlineSettings) (objects : List Object) (areas : Areas) : Type 0 where
+  pub coast : IsCoast settings objects areas.coast
+  pub land : AreLand (has_land settings.polygons) areas.coast.land.edges areas.land
+  pub land_leaves : AreLeavesOf settings areas.land areas.land_leaves
+  pub water : AreWater (has_water settings.polygons) areas.coast.land.edges areas.water
+  pub water_leaves : AreLeavesOf settings areas.water areas.water_leaves
+
 -- ---- what is written of leaves
 
 -- the most leaves of a run, of land and of water together
@@ -61,19 +79,11 @@ AreWrittenOrTooMany coast land water whole =
     ((length land + length water ≤ most_leaves) × AreWritten coast land water whole)
     ⊎ ((most_leaves < length land + length water) × (whole ≡ silent (ended.TooManyPieces most_leaves)))
 
--- What comes of the coastline ways: the polygons that are asked for, each split into its leaves, and what is written of those.
+-- What comes of the coastline ways and is split, and what is written of it.
 pub record IsCoastline (settings : CoastlineSettings) (objects : List Object) (whole : Whole) : Type 0 where
-  pub coast : Coast
-  pub right : IsCoast settings objects coast
-  pub land : List Polygon
-  pub land_right : AreLand (has_land settings.polygons) coast.land.edges land
-  pub land_leaves : List Leaf
-  pub land_split : AreLeavesOf settings land land_leaves
-  pub water : List Polygon
-  pub water_right : AreWater (has_water settings.polygons) coast.land.edges water
-  pub water_leaves : List Leaf
-  pub water_split : AreLeavesOf settings water water_leaves
-  pub written : AreWrittenOrTooMany coast land_leaves water_leaves whole
+  pub areas : Areas
+  pub right : AreAreas settings objects areas
+  pub written : AreWrittenOrTooMany areas.coast areas.land_leaves areas.water_leaves whole
 
 -- A coastline job ended so: it reads its input, joins, opens its output, and writes what is right over the objects of the input.
 abbrev pub Coastlines : CoastlineSettings → Ended → Outside → Outside → Type 0

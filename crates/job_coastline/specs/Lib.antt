@@ -4,5 +4,6 @@ pub mod Pieces
 pub mod PieceSteps
 pub mod Coastline
 pub mod Found
+pub mod Counts
 pub mod WorkSteps
 pub mod LineLaws

@@ -1,6 +1,6 @@
 -- Words of private clauses on the pieces of land or water. No public contract cites it.
-use Rattle.std.specs.Prelude.{◌≡◌, ◌<◌, ◌+◌, ◌++◌, ℕ, List, length}
-use Rattle.std.specs.List.{flat_map}
+use Rattle.std.specs.Prelude.{◌≡◌, ◌<◌, ◌+◌, ◌++◌, not, ℕ, List, length}
+use Rattle.std.specs.List.{count_by, flat_map}
 use Rattle.coast_split.specs.SplitTree.{AreLeaves}
 use Rattle.coast_split.specs.declared.leaves.Leaf.{Leaf}
 use Rattle.coast_split.specs.declared.leaves.SplitError.{SplitError}
@@ -8,16 +8,19 @@ use Rattle.coast_split.specs.declared.leaves.SplitError.TheVariants.{TooManyPiec
 use Rattle.osm_job.specs.Sent.{lines_text}
 use Rattle.osm_nest.specs.Polygons.{edges_in}
 use Rattle.osm_nest.specs.declared.polygon.Polygon.{Polygon}
+use Rattle.osm_report.specs.Coast.{is_error}
 use Rattle.osm_report.specs.declared.coast.CoastLine.{CoastLine}
 use Rattle.osm_text.specs.declared.piece.PieceKind.{PieceKind}
 use Rattle.osm_words.specs.Job.{CoastlineSettings}
 use Rattle.job_coastline.specs.Coastline.{most_leaves}
-use Rattle.job_coastline.specs.Pieces.{AreLeavesOf, AreTiles, Tile, pieces_text, tile_lines}
+use Rattle.job_coastline.specs.Pieces.{AreLeavesOf, AreTiles, Tile, pieces_count, pieces_text, tile_lines}
+use Rattle.job_coastline.specs.declared.counts.CoastCounts.{CoastCounts}
 use Rattle.job_coastline.specs.declared.pieces.Pieces.{Pieces}
 
--- This was added to what is to be written, and these lines to the report.
-pub record Adds (before after : Pieces) (text : List ℕ) (lines : List CoastLine) : Type 0 where
+-- This was added to what is to be written, as so many lines, and these lines to the report.
+pub record Adds (before after : Pieces) (text : List ℕ) (count : ℕ) (lines : List CoastLine) : Type 0 where
   pub written : lines_text after.texts.items ≡ lines_text before.texts.items ++ text
+  pub printed : length after.texts.items ≡ length before.texts.items + count
   pub told : after.lines.items ≡ before.lines.items ++ lines
   pub uncounted : after.leaves ≡ before.leaves
 
@@ -25,7 +28,7 @@ pub record Adds (before after : Pieces) (text : List ℕ) (lines : List CoastLin
 pub record AddsTiles (kind : PieceKind) (leaves : List Leaf) (before after : Pieces) : Type 0 where
   pub tiles : List Tile
   pub made : AreTiles leaves tiles
-  pub added : Adds before after (pieces_text kind tiles) (flat_map tile_lines tiles)
+  pub added : Adds before after (pieces_text kind tiles) (pieces_count kind tiles) (flat_map tile_lines tiles)
 
 -- These are the pieces of polygons.
 pub record ArePieces (settings : CoastlineSettings) (kind : PieceKind) (polygons : List Polygon) (pieces : Pieces) : Type 0 where
@@ -34,6 +37,7 @@ pub record ArePieces (settings : CoastlineSettings) (kind : PieceKind) (polygons
   pub tiles : List Tile
   pub made : AreTiles leaves tiles
   pub written : lines_text pieces.texts.items ≡ pieces_text kind tiles
+  pub printed : length pieces.texts.items ≡ pieces_count kind tiles
   pub told : pieces.lines.items ≡ flat_map tile_lines tiles
   pub counted : pieces.leaves ≡ length leaves
 
@@ -44,6 +48,7 @@ pub record AddsPolygon (settings : CoastlineSettings) (kind : PieceKind) (polygo
   pub tiles : List Tile
   pub made : AreTiles leaves tiles
   pub written : lines_text after.texts.items ≡ lines_text before.texts.items ++ pieces_text kind tiles
+  pub printed : length after.texts.items ≡ length before.texts.items + pieces_count kind tiles
   pub told : after.lines.items ≡ before.lines.items ++ flat_map tile_lines tiles
   pub counted : after.leaves ≡ before.leaves + length leaves
 
@@ -65,3 +70,12 @@ pub record HaveMoreTogether (settings : CoastlineSettings) (most : ℕ) (land wa
 abbrev pub whole_error : SplitError → SplitError
 whole_error (TooManyPieces most) = TooManyPieces most_leaves
 whole_error OutOfMemory = OutOfMemory
+
+-- how many lines were found
+abbrev pub counts_found : Pieces → Pieces → List CoastLine → CoastCounts
+counts_found land water lines = record {
+  land = length land.texts.items;
+  water = length water.texts.items;
+  warnings = count_by (λ line. not (is_error line)) lines;
+  errors = count_by is_error lines;
+}

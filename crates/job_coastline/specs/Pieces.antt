@@ -1,6 +1,6 @@
 -- The polygons of land or water, the leaves that they are split into, and the pieces of the output that those make.
 use Rattle.std.specs.Prelude.{◌≡◌, ℕ, Bool, true, false, List, [], ◌∷◌, ◌++◌, All, if◌then◌else◌, length, map, Option, Some, None}
-use Rattle.std.specs.List.{flat_map}
+use Rattle.std.specs.List.{flat_map, sum_by}
 use Rattle.osm_geom.specs.declared.edge.Edge.{Edge}
 use Rattle.osm_rings.specs.RingList.{AreRingsOf}
 use Rattle.osm_lattice.specs.declared.loc.Loc.{Loc}
@@ -62,6 +62,22 @@ tile_text kind tile = flat_map (polygon_text kind) tile.polygons
 -- the pieces of all of them, in order
 abbrev pub pieces_text : PieceKind → List Tile → List ℕ
 pieces_text kind tiles = flat_map (tile_text kind) tiles
+
+-- ---- how many they are
+
+abbrev pub text_count : Option (List ℕ) → ℕ
+text_count (Some text) = 1
+text_count None = 0
+
+abbrev pub polygon_count : PieceKind → Polygon → ℕ
+polygon_count kind polygon = text_count (piece_text kind polygon)
+
+abbrev pub tile_count : PieceKind → Tile → ℕ
+tile_count kind tile = sum_by (polygon_count kind) tile.polygons
+
+-- the number of their pieces
+abbrev pub pieces_count : PieceKind → List Tile → ℕ
+pieces_count kind tiles = sum_by (tile_count kind) tiles
 
 -- ---- what is reported of them
 

@@ -49,7 +49,7 @@ pub(crate) struct Found {
 }
 
 /// Whether the polygons of land are asked for.
-fn has_land(asked: OutputPolygons) -> bool
+pub(crate) fn has_land(asked: OutputPolygons) -> bool
     ensures { result ≡ has_land asked }
 {
     match asked {
@@ -59,7 +59,7 @@ fn has_land(asked: OutputPolygons) -> bool
 }
 
 /// Whether those of water are.
-fn has_water(asked: OutputPolygons) -> bool
+pub(crate) fn has_water(asked: OutputPolygons) -> bool
     ensures { result ≡ has_water asked }
 {
     match asked {
@@ -69,7 +69,11 @@ fn has_water(asked: OutputPolygons) -> bool
 }
 
 /// The polygons of land, if they are asked for.
-fn land_polygons(alloc: Global, asked: bool, land: &Edges) -> Result<Polygons, OutOfMemory>
+pub(crate) fn land_polygons(
+    alloc: Global,
+    asked: bool,
+    land: &Edges,
+) -> Result<Polygons, OutOfMemory>
     requires { IsSided land.now }
     ensures land { IfOk result (λ polygons. AreLand asked land.now polygons) }
     ensures sided { IfOk result (λ polygons. AreSided polygons) }
@@ -82,7 +86,11 @@ fn land_polygons(alloc: Global, asked: bool, land: &Edges) -> Result<Polygons, O
 }
 
 /// The polygons of water, if they are asked for.
-fn water_polygons(alloc: Global, asked: bool, land: &Edges) -> Result<Polygons, OutOfMemory>
+pub(crate) fn water_polygons(
+    alloc: Global,
+    asked: bool,
+    land: &Edges,
+) -> Result<Polygons, OutOfMemory>
     requires whole { All IsWholeSegment land.now }
     requires sided { IsSided land.now }
     ensures water { IfOk result (λ polygons. AreWater asked land.now polygons) }
@@ -158,7 +166,7 @@ fn whole_error(error: SplitError) -> SplitError
 }
 
 /// The lines of the report, those of the leaves behind the others.
-fn all_lines(
+pub(crate) fn all_lines(
     alloc: Global,
     coast: &Coast,
     land: &[CoastLine],

@@ -7,6 +7,7 @@
 #![tactic(auto)]
 
 mod coast;
+mod counts;
 mod found;
 mod line_laws;
 mod lines;
@@ -15,5 +16,6 @@ mod polygons;
 mod work;
 mod writing;
 
+pub use counts::{CoastCounts, coast_counts};
 pub use line_laws::lines_have_kinds;
 pub use work::coastline;

@@ -1,12 +1,12 @@
 //! The pieces of land or of water: each polygon is split into leaves, the edges of each leaf make polygons again, and those
 //! are printed.
 
-ghost use Rattle.std.specs.Prelude.{◌≡◌, ◌≤◌, ◌-◌, ◌++◌, [], All, IfErr, IfOk, OnOk, ℕ, map, option_map};
-ghost use Rattle.std.specs.List.{flat_map};
+ghost use Rattle.std.specs.Prelude.{◌≡◌, ◌≤◌, ◌-◌, ◌+◌, ◌++◌, [], All, IfErr, IfOk, OnOk, ℕ, length, map, option_map};
+ghost use Rattle.std.specs.List.{flat_map, sum_by};
 ghost use Rattle.coast_split.specs.SplitTree.{HasMoreLeaves};
 ghost use Rattle.coast_split.specs.declared.leaves.Leaf.{Leaf};
 ghost use Rattle.coast_split.specs.declared.leaves.SplitError.TheVariants.{TooManyPieces};
-ghost use Rattle.job_coastline.specs.Pieces.{IsTile, Tile, large_lines, polygon_text, text_or_nothing, tile_lines, tile_text, vanished_line, vanished_lines};
+ghost use Rattle.job_coastline.specs.Pieces.{IsTile, Tile, large_lines, polygon_count, polygon_text, text_count, text_or_nothing, tile_count, tile_lines, tile_text, vanished_line, vanished_lines};
 ghost use Rattle.job_coastline.specs.PieceSteps.{Adds, AddsPolygon, AddsTiles, ArePieces, HaveMoreLeaves};
 ghost use Rattle.osm_job.specs.Sent.{lines_text};
 ghost use Rattle.osm_nest.specs.Cover.{AreSided};
@@ -46,8 +46,10 @@ fn vanished_lines(alloc: Global, rings: &[Loc]) -> Result<Vec<CoastLine>, OutOfM
 
 /// Adds a line of the output, if there is one.
 fn add_text(texts: &mut Vec<Vec<u8>>, text: Option<Vec<u8>>) -> Result<(), OutOfMemory>
-    ensures { OnOk result (lines_text texts.new.items ≡ lines_text texts.old.items
+    ensures written { OnOk result (lines_text texts.new.items ≡ lines_text texts.old.items
         ++ text_or_nothing (option_map (λ text. text.items) text)) }
+    ensures printed { OnOk result (length texts.new.items ≡ length texts.old.items
+        + text_count (option_map (λ text. text.items) text)) }
 {
     if let Some(text) = text {
         texts.push(text)?;
@@ -63,7 +65,7 @@ fn add_polygon(
     pieces: &mut Pieces,
 ) -> Result<(), OutOfMemory>
     ensures { OnOk result (Adds pieces.old pieces.new (polygon_text kind polygon.now)
-        (vanished_lines polygon.now)) }
+        (polygon_count kind polygon.now) (vanished_lines polygon.now)) }
 {
     let piece = piece_text(alloc, kind, polygon)?;
     let vanished = vanished_lines(alloc, piece.vanished.as_slice())?;
@@ -79,7 +81,7 @@ fn add_polygons(
     pieces: &mut Pieces,
 ) -> Result<(), OutOfMemory>
     ensures { OnOk result (Adds pieces.old pieces.new (flat_map (polygon_text kind) polygons.now)
-        (flat_map vanished_lines polygons.now)) }
+        (sum_by (polygon_count kind) polygons.now) (flat_map vanished_lines polygons.now)) }
 {
     for polygon in polygons {
         add_polygon(alloc, kind, polygon, pieces)?;
@@ -89,7 +91,7 @@ fn add_polygons(
 
 /// Tells of a leaf that is large.
 fn add_large(leaf: &Leaf, pieces: &mut Pieces) -> Result<(), OutOfMemory>
-    ensures { OnOk result (Adds pieces.old pieces.new [] (large_lines leaf.now)) }
+    ensures { OnOk result (Adds pieces.old pieces.new [] 0 (large_lines leaf.now)) }
 {
     if leaf.large {
         pieces.lines.push(CoastLine::Large {
@@ -108,7 +110,8 @@ fn add_leaf(
 ) -> Result<(), OutOfMemory>
     requires { IsSided leaf.now.edges }
     ensures { OnOk result ((tile : Tile) × (tile.leaf ≡ leaf.now) × IsTile tile
-        × Adds pieces.old pieces.new (tile_text kind tile) (tile_lines tile)) }
+        × Adds pieces.old pieces.new (tile_text kind tile) (tile_count kind tile)
+        (tile_lines tile)) }
 {
     add_large(leaf, pieces)?;
     let polygons = polygons(alloc, leaf.edges.as_slice())?;

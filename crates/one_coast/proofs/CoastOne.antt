@@ -1,11 +1,10 @@
--- What comes of the coastline ways of objects is one, and so is the whole of a coastline job.
+-- What comes of the coastline ways of objects is one, and so are the whole of a coastline job and its counts.
 use Rattle.std.proofs.Common.{All, List, [], ap, ap₂, arith, inl, inr, map, refl, subst, sym, ◌∙◌, ◌∷◌, ◌≡◌}
 use Rattle.std.proofs.Props.{props}
 use Rattle.opl_reader.specs.declared.object.Object.{Object}
 use Rattle.osm_lattice.specs.declared.loc.Loc.{Loc}
 use Rattle.osm_job.specs.Whole.{Whole}
 use Rattle.osm_nest.specs.Laws.{NestedAreSided, RingsMayBeNested}
-use Rattle.osm_nest.specs.declared.polygon.Polygon.{Polygon}
 use Rattle.osm_report.specs.Coast.{CoastLineIsOne, HasItsKind}
 use Rattle.osm_report.specs.declared.coast.CoastLine.{CoastLine}
 use Rattle.osm_words.specs.Job.{CoastlineSettings}
@@ -26,14 +25,17 @@ use Rattle.coast_sides.specs.OnenessLaws.{LandIsOne, SortedIsOne, WaterIsOne}
 use Rattle.coast_sides.specs.RingLand.{IsLandOf}
 use Rattle.coast_sides.specs.Sorting.{IsSorted}
 use Rattle.job_coastline.specs.Coast.{Coast, IsCoast}
-use Rattle.job_coastline.specs.Coastline.{AreLand, AreWater, AreWritten, AreWrittenOrTooMany, IsCoastline, all_lines, all_sent}
+use Rattle.job_coastline.specs.Coastline.{Areas, AreWritten, AreWrittenOrTooMany, IsCoastline, all_lines, all_sent}
+use Rattle.job_coastline.specs.Counts.{AreCoastCounts, counts_of}
+use Rattle.job_coastline.specs.declared.counts.CoastCounts.{CoastCounts}
 use Rattle.job_coastline.specs.LineLaws.{LinesHaveKinds}
-use Rattle.job_coastline.specs.Pieces.{AreLeavesOf, Tile, has_land, has_water}
+use Rattle.job_coastline.specs.Pieces.{AreTiles, Tile}
 use Rattle.job_coastline.specs.Report.{ArePrinted, ending_of}
 use Rattle.one_area.specs.Laws.{PolygonsAreOne}
-use Rattle.one_coast.proofs.LeavesOne.{AreSidedLeaves, leaves_one, leaves_sided, tiles_one}
-use Rattle.one_coast.proofs.PolygonsOne.{land_polygons_one, land_sided, water_polygons_one, water_sided}
+use Rattle.one_coast.proofs.AreasOne.{areas_one, land_leaves_sided, water_leaves_sided}
+use Rattle.one_coast.proofs.LeavesOne.{AreSidedLeaves, tiles_one}
 use Rattle.one_coast.proofs.PrintedOne.{printed_one}
+use Rattle.one_coast.specs.Laws.{CoastIsOne}
 use mathlib.Core.HLevel.{is_prop→PathP}
 
 -- ---- ways told by their lines
@@ -118,44 +120,30 @@ module _ (coast : Coast) (kinds : (land water : List Tile) → All HasItsKind (a
   written_or_too_many_one v w (inr s) (inl t) = absurd (let many = s.0 in let few = t.0 in omega arith)
   written_or_too_many_one v w (inr s) (inr t) = s.1 ∙ sym t.1
 
-module _ (one : (settings : CoastlineSettings) (objects : List Object) (c d : Coast) → IsCoast settings objects c → IsCoast settings objects d → c ≡ d) (kinds : LinesHaveKinds) (line : CoastLineIsOne)
-    (polygons : PolygonsAreOne) (water_one : WaterIsOne) (fit : RingsMayBeNested) (nesting : NestedAreSided) (tree_one : TreeIsOne) (leaves_are_sided : LeavesAreSided) where
+module _ (one : CoastIsOne) (kinds : LinesHaveKinds) (line : CoastLineIsOne) (polygons : PolygonsAreOne) (water_one : WaterIsOne) (fit : RingsMayBeNested) (nesting : NestedAreSided) (tree_one : TreeIsOne)
+    (leaves_are_sided : LeavesAreSided) where
   pub coastline_one : (settings : CoastlineSettings) (objects : List Object) (v w : Whole) → IsCoastline settings objects v → IsCoastline settings objects w → v ≡ w
   coastline_one settings objects v w s t =
-      written_or_too_many_one s.coast (kinds settings objects s.coast s.right) line polygons s.land_leaves s.water_leaves land_is_sided water_is_sided v w s.written written_here
+      written_or_too_many_one s.areas.coast (kinds settings objects s.areas.coast s.right.coast) line polygons s.areas.land_leaves s.areas.water_leaves
+      (land_leaves_sided fit nesting leaves_are_sided settings objects s.areas s.right) (water_leaves_sided fit nesting leaves_are_sided settings objects s.areas s.right) v w s.written
+      (subst (λ (areas : Areas). AreWrittenOrTooMany areas.coast areas.land_leaves areas.water_leaves w) (sym (areas_one one polygons water_one tree_one settings objects s.areas t.areas s.right t.right)) t.written)
+
+-- ---- the counts
+
+module _ (one : CoastIsOne) (polygons : PolygonsAreOne) (water_one : WaterIsOne) (fit : RingsMayBeNested) (nesting : NestedAreSided) (tree_one : TreeIsOne) (leaves_are_sided : LeavesAreSided) where
+  pub counts_one : (settings : CoastlineSettings) (objects : List Object) (c d : CoastCounts) → AreCoastCounts settings objects c → AreCoastCounts settings objects d → c ≡ d
+  counts_one settings objects c d s t =
+      s.counted ∙ ap (λ (areas : Areas). counts_of areas.coast s.land s.water) areas ∙ ap₂ (λ (x y : List Tile). counts_of t.areas.coast x y) land water ∙ sym t.counted
     where
-      coast : s.coast ≡ t.coast
-      coast = one settings objects s.coast t.coast s.right t.right
+      areas : s.areas ≡ t.areas
+      areas = areas_one one polygons water_one tree_one settings objects s.areas t.areas s.right t.right
 
       land : s.land ≡ t.land
       land =
-          land_polygons_one polygons (has_land settings.polygons) s.coast.land.edges s.right.land.edges.sided s.land t.land s.land_right
-          (subst (λ (c : Coast). AreLand (has_land settings.polygons) c.land.edges t.land) (sym coast) t.land_right)
+          tiles_one polygons s.areas.land_leaves (land_leaves_sided fit nesting leaves_are_sided settings objects s.areas s.right) s.land t.land s.land_made
+          (subst (λ (a : Areas). AreTiles a.land_leaves t.land) (sym areas) t.land_made)
 
       water : s.water ≡ t.water
       water =
-          water_polygons_one polygons water_one (has_water settings.polygons) s.coast.land.edges s.water t.water s.water_right
-          (subst (λ (c : Coast). AreWater (has_water settings.polygons) c.land.edges t.water) (sym coast) t.water_right)
-
-      land_leaves : s.land_leaves ≡ t.land_leaves
-      land_leaves =
-          leaves_one settings tree_one s.land s.land_leaves t.land_leaves s.land_split (subst (λ (ps : List Polygon). AreLeavesOf settings ps t.land_leaves) (sym land) t.land_split)
-
-      water_leaves : s.water_leaves ≡ t.water_leaves
-      water_leaves =
-          leaves_one settings tree_one s.water s.water_leaves t.water_leaves s.water_split (subst (λ (ps : List Polygon). AreLeavesOf settings ps t.water_leaves) (sym water) t.water_split)
-
-      land_is_sided : AreSidedLeaves s.land_leaves
-      land_is_sided =
-          leaves_sided settings leaves_are_sided s.land
-          (land_sided fit nesting (has_land settings.polygons) s.coast.land.edges s.right.land.edges.sided s.land s.land_right) s.land_leaves s.land_split
-
-      water_is_sided : AreSidedLeaves s.water_leaves
-      water_is_sided =
-          leaves_sided settings leaves_are_sided s.water (water_sided fit nesting (has_water settings.polygons) s.coast.land.edges s.water s.water_right) s.water_leaves s.water_split
-
-      written_here : AreWrittenOrTooMany s.coast s.land_leaves s.water_leaves w
-      written_here =
-          subst (λ (c : Coast). AreWrittenOrTooMany c s.land_leaves s.water_leaves w) (sym coast)
-          (subst (λ (a : List Leaf). AreWrittenOrTooMany t.coast a s.water_leaves w) (sym land_leaves)
-          (subst (λ (b : List Leaf). AreWrittenOrTooMany t.coast t.land_leaves b w) (sym water_leaves) t.written))
+          tiles_one polygons s.areas.water_leaves (water_leaves_sided fit nesting leaves_are_sided settings objects s.areas s.right) s.water t.water s.water_made
+          (subst (λ (a : Areas). AreTiles a.water_leaves t.water) (sym areas) t.water_made)

@@ -1,7 +1,8 @@
--- A coastline job over objects has a whole.
+-- A coastline job over objects has a whole, and counts.
 use Rattle.std.proofs.Common.{All, Bool, List, [], ap, false, inl, inr, length, map, refl, true, ℕ, ◌+◌, ◌++◌, ◌<◌, ◌≤◌, ◌⊎◌, ◌∷◌}
 use Rattle.std.proofs.lemmas.Bool.{cases_lt}
-use Rattle.std.specs.List.{flat_map}
+use Rattle.std.specs.List.{IsDistinct, flat_map}
+use Rattle.std.specs.Ordering.{int_eq}
 use Rattle.std.proofs.lemmas.List.Elements.{All-cons, All-head, All-nil, All-tail}
 use Rattle.opl_reader.specs.declared.object.Object.{Object}
 use Rattle.osm_words.specs.Job.{CoastlineSettings}
@@ -27,13 +28,14 @@ use Rattle.coast_join.specs.InputLaws.{CoastWaysExist}
 use Rattle.coast_join.specs.RingLaws.{ClosingsExist, JoinedExists}
 use Rattle.coast_sides.specs.ExistenceLaws.{LandExists, SortedExists, WaterExists}
 use Rattle.job_coastline.specs.Coast.{Coast, IsCoast}
-use Rattle.job_coastline.specs.Coastline.{AreLand, AreWater, AreWritten, AreWrittenOrTooMany, all_lines, all_sent, most_leaves}
+use Rattle.job_coastline.specs.Coastline.{AreAreas, AreLand, AreWater, Areas, AreWritten, AreWrittenOrTooMany, all_lines, all_sent, most_leaves}
+use Rattle.job_coastline.specs.Counts.{counts_of}
 use Rattle.job_coastline.specs.LineLaws.{LinesHaveKinds}
 use Rattle.job_coastline.specs.Pieces.{AreLeavesOf, ArePolygons, AreTiles, IsTile, Tile, has_land, has_water}
 use Rattle.job_coastline.specs.Report.{ArePrinted, ending_of}
-use Rattle.one_coast.proofs.LeavesOne.{AreSidedLeaves, leaves_sided}
-use Rattle.one_coast.proofs.PolygonsOne.{land_sided, water_sided}
-use Rattle.one_coast.specs.Laws.{CoastExists, CoastlineExists}
+use Rattle.one_coast.proofs.AreasOne.{land_leaves_sided, water_leaves_sided}
+use Rattle.one_coast.proofs.LeavesOne.{AreSidedLeaves}
+use Rattle.one_coast.specs.Laws.{CoastCountsExist, CoastExists, CoastlineExists}
 
 -- ---- the coast
 pub coast_there : CoastWaysExist → ChainsExist → ClosingsExist → JoinedExists → SortedExists → LandExists → CoastExists
@@ -130,31 +132,37 @@ module _ (kinds : LinesHaveKinds) (some_line : CoastLineExists) (some_rings : Ri
   written_or_too_many_there : (whole : Whole) × AreWrittenOrTooMany coast land water whole
   written_or_too_many_there = written_by (cases_lt most_leaves (length land + length water))
 
-module _ (some_coast : CoastExists) (kinds : LinesHaveKinds) (some_line : CoastLineExists) (some_rings : RingListOfEdgesExists) (fit : RingsMayBeNested) (some_nesting : NestingExists) (some_water : WaterExists)
-    (nesting : NestedAreSided) (some_tree : SplitTreesExist) (leaves_are_sided : LeavesAreSided) where
-  pub coastline_there : CoastlineExists
-  coastline_there settings objects apart =
+-- ---- what is split
+module _ (some_coast : CoastExists) (some_rings : RingListOfEdgesExists) (fit : RingsMayBeNested) (some_nesting : NestingExists) (some_water : WaterExists) (some_tree : SplitTreesExist) (settings : CoastlineSettings)
+    (objects : List Object) (apart : IsDistinct int_eq (coast_ways objects)) where
+  areas_there : (areas : Areas) × AreAreas settings objects areas
+  areas_there =
       let coast = some_coast settings objects apart in
       let edges = coast.1.land.edges in
       let land = land_there some_rings fit some_nesting (has_land settings.polygons) coast.0.land.edges edges.sided in
       let water = water_there some_rings fit some_nesting some_water (has_water settings.polygons) coast.0.land.edges edges.whole edges.sided in
       let land_leaves = leaves_there settings some_tree land.0 in
-      let water_leaves = leaves_there settings some_tree water.0 in
-      let land_is = leaves_sided settings leaves_are_sided land.0 (land_sided fit nesting (has_land settings.polygons) coast.0.land.edges edges.sided land.0 land.1) land_leaves.0 land_leaves.1 in
-      let water_is = leaves_sided settings leaves_are_sided water.0 (water_sided fit nesting (has_water settings.polygons) coast.0.land.edges water.0 water.1) water_leaves.0 water_leaves.1 in
-      let whole = written_or_too_many_there kinds some_line some_rings fit some_nesting settings objects coast.0 coast.1 land_leaves.0 water_leaves.0 land_is water_is in (
-        whole.0,
-        record {
-          coast = coast.0;
-          right = coast.1;
-          land = land.0;
-          land_right = land.1;
-          land_leaves = land_leaves.0;
-          land_split = land_leaves.1;
-          water = water.0;
-          water_right = water.1;
-          water_leaves = water_leaves.0;
-          water_split = water_leaves.1;
-          written = whole.1;
-        },
+      let water_leaves = leaves_there settings some_tree water.0 in (
+        record { coast = coast.0; land = land.0; land_leaves = land_leaves.0; water = water.0; water_leaves = water_leaves.0 },
+        record { coast = coast.1; land = land.1; land_leaves = land_leaves.1; water = water.1; water_leaves = water_leaves.1 },
+      )
+
+module _ (some_coast : CoastExists) (some_rings : RingListOfEdgesExists) (fit : RingsMayBeNested) (some_nesting : NestingExists) (some_water : WaterExists) (nesting : NestedAreSided) (some_tree : SplitTreesExist)
+    (leaves_are_sided : LeavesAreSided) where
+  pub coastline_there : LinesHaveKinds → CoastLineExists → CoastlineExists
+  coastline_there kinds some_line settings objects apart =
+      let split = areas_there some_coast some_rings fit some_nesting some_water some_tree settings objects apart in
+      let areas = split.0 in
+      let whole = written_or_too_many_there kinds some_line some_rings fit some_nesting settings objects areas.coast split.1.coast areas.land_leaves areas.water_leaves
+      (land_leaves_sided fit nesting leaves_are_sided settings objects areas split.1) (water_leaves_sided fit nesting leaves_are_sided settings objects areas split.1) in
+      (whole.0, record { areas = areas; right = split.1; written = whole.1 })
+
+  pub counts_there : CoastCountsExist
+  counts_there settings objects apart =
+      let split = areas_there some_coast some_rings fit some_nesting some_water some_tree settings objects apart in
+      let areas = split.0 in
+      let land = tiles_there some_rings fit some_nesting areas.land_leaves (land_leaves_sided fit nesting leaves_are_sided settings objects areas split.1) in
+      let water = tiles_there some_rings fit some_nesting areas.water_leaves (water_leaves_sided fit nesting leaves_are_sided settings objects areas split.1) in (
+        counts_of areas.coast land.0 water.0,
+        record { areas = areas; right = split.1; land = land.0; land_made = land.1; water = water.0; water_made = water.1; counted = refl },
       )

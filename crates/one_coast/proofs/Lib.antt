@@ -1,6 +1,7 @@
 pub mod PolygonsOne
 pub mod LeavesOne
 pub mod PrintedOne
+pub mod AreasOne
 pub mod CoastOne
 pub mod CoastThere
 mod SignedParity

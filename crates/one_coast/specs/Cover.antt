@@ -32,13 +32,13 @@ pub record IsOffPolygonAndCuts (settings : CoastlineSettings) (q : ℤ) (p : Vec
 abbrev pub LandLeavesCover : Type 0
 LandLeavesCover =
     (settings : CoastlineSettings) (objects : List Object) (whole : Whole) (right : IsCoastline settings objects whole) → has_land settings.polygons ≡ true →
-    (q : ℤ) → sign q ≡ Plus → (p : Vector) → All (IsOffPolygonAndCuts settings q p) right.land →
-    SomeLeafCovers q p right.land_leaves ↔ (parity_at q p (all_segments right.coast.sorted.kept) ≡ pos 1)
+    (q : ℤ) → sign q ≡ Plus → (p : Vector) → All (IsOffPolygonAndCuts settings q p) right.areas.land →
+    SomeLeafCovers q p right.areas.land_leaves ↔ (parity_at q p (all_segments right.areas.coast.sorted.kept) ≡ pos 1)
 
 -- Where water is asked for: at each whole point strictly within the world, off its polygons and the lines that they are cut along, some leaf
 -- of water covers the point exactly where that number is even.
 abbrev pub WaterLeavesCover : Type 0
 WaterLeavesCover =
     (settings : CoastlineSettings) (objects : List Object) (whole : Whole) (right : IsCoastline settings objects whole) → has_water settings.polygons ≡ true →
-    (p : Vector) → IsWithin p → All (IsOffPolygonAndCuts settings (pos 1) p) right.water →
-    SomeLeafCovers (pos 1) p right.water_leaves ↔ (parity_at (pos 1) p (all_segments right.coast.sorted.kept) ≡ pos 0)
+    (p : Vector) → IsWithin p → All (IsOffPolygonAndCuts settings (pos 1) p) right.areas.water →
+    SomeLeafCovers (pos 1) p right.areas.water_leaves ↔ (parity_at (pos 1) p (all_segments right.areas.coast.sorted.kept) ≡ pos 0)

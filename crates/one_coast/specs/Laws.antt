@@ -8,6 +8,8 @@ use Rattle.osm_words.specs.Job.{CoastlineSettings}
 use Rattle.osm_job.specs.Whole.{Whole}
 use Rattle.job_coastline.specs.Coast.{Coast, IsCoast}
 use Rattle.job_coastline.specs.Coastline.{IsCoastline}
+use Rattle.job_coastline.specs.Counts.{AreCoastCounts}
+use Rattle.job_coastline.specs.declared.counts.CoastCounts.{CoastCounts}
 
 -- of objects there is one coast: its chains, closings, rings and land are told by the coastline ways
 abbrev pub CoastIsOne : Type 0
@@ -18,6 +20,12 @@ abbrev pub CoastlineIsOne : Type 0
 CoastlineIsOne =
     (settings : CoastlineSettings) (objects : List Object) (v w : Whole) → IsCoastline settings objects v →
     IsCoastline settings objects w → v ≡ w
+
+-- and it has one number of lines of each kind
+abbrev pub CoastCountsAreOne : Type 0
+CoastCountsAreOne =
+    (settings : CoastlineSettings) (objects : List Object) (c d : CoastCounts) → AreCoastCounts settings objects c →
+    AreCoastCounts settings objects d → c ≡ d
 
 -- where no two coastline ways have one id, there is a coast
 abbrev pub CoastExists : Type 0
@@ -30,3 +38,9 @@ abbrev pub CoastlineExists : Type 0
 CoastlineExists =
     (settings : CoastlineSettings) (objects : List Object) → IsDistinct int_eq (coast_ways objects) →
     (whole : Whole) × IsCoastline settings objects whole
+
+-- and the numbers of its lines
+abbrev pub CoastCountsExist : Type 0
+CoastCountsExist =
+    (settings : CoastlineSettings) (objects : List Object) → IsDistinct int_eq (coast_ways objects) →
+    (counts : CoastCounts) × AreCoastCounts settings objects counts

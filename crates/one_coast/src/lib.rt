@@ -6,7 +6,7 @@
 #![tactic(auto)]
 
 ghost use Rattle.one_coast.specs.Cover.{LandLeavesCover, WaterLeavesCover};
-ghost use Rattle.one_coast.specs.Laws.{CoastExists, CoastIsOne, CoastlineExists, CoastlineIsOne};
+ghost use Rattle.one_coast.specs.Laws.{CoastCountsAreOne, CoastCountsExist, CoastExists, CoastIsOne, CoastlineExists, CoastlineIsOne};
 
 use coast_join::{
     chains_are_determined, chains_exist, closings_are_determined, closings_exist, coast_ways_exist,
@@ -50,6 +50,19 @@ pub fn coastline_is_one()
     leaves_cover_as_list();
 }
 
+/// So are the numbers of lines that it writes, whatever the number of leaves.
+pub fn coast_counts_are_one()
+    ensures { CoastCountsAreOne }
+{
+    coast_is_one();
+    polygons_are_one();
+    water_is_one();
+    rings_may_be_nested();
+    nested_cover_as_rings();
+    halves_are_determined();
+    leaves_cover_as_list();
+}
+
 /// Where no two coastline ways have one id, there is what comes of them.
 pub fn coast_exists()
     ensures { CoastExists }
@@ -69,6 +82,20 @@ pub fn coastline_exists()
     coast_exists();
     lines_have_kinds();
     coast_line_exists();
+    ring_list_of_edges_exists();
+    rings_may_be_nested();
+    nesting_exists();
+    water_exists();
+    nested_cover_as_rings();
+    split_trees_exist();
+    leaves_cover_as_list();
+}
+
+/// And there are the numbers of lines that it writes.
+pub fn coast_counts_exist()
+    ensures { CoastCountsExist }
+{
+    coast_exists();
     ring_list_of_edges_exists();
     rings_may_be_nested();
     nesting_exists();
