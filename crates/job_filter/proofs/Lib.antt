@@ -1,0 +1,2 @@
+mod Coastlines
+mod Written

@@ -1,0 +1,49 @@
+-- The text of the coast is written.
+use Rattle.std.proofs.Common.{◌≡◌, refl, sym, ap, subst, ℕ, List, map, Ok, Err}
+use Rattle.opl_reader.specs.declared.object.Object.{Object}
+use Rattle.osm_host.specs.Outside.{Outside}
+use Rattle.osm_host.specs.declared.host.Failed.{Failed}
+use Rattle.osm_job.specs.Cause.{Cause, by_input, by_itself, by_memory, by_open, by_pieces, by_read, by_words, by_write, cause_of}
+use Rattle.osm_job.specs.InputRead.{HasInput}
+use Rattle.osm_job.specs.Sent.{Sent, to_output}
+use Rattle.osm_job.specs.Whole.{Whole, input_limit, longest_line}
+use Rattle.osm_job.specs.Worked.{IsWrittenOver, WroteOver}
+use Rattle.osm_job.specs.Writes.{Wrote}
+use Rattle.osm_job.specs.declared.ended.Ended.{Ended}
+use Rattle.osm_job.specs.declared.ended.Ended.TheVariants as ended
+use Rattle.job_filter.specs.Filter.{IsFilter, coast_text}
+use Rattle.job_filter.specs.Laws.{FiltersExist}
+use Rattle.job_filter.specs.WorkSteps.{IsText, whole_of}
+
+module _ (text : List ℕ) (before now : Outside) where
+  pub all_written : (done : Unit {0}) → Wrote {T = Unit {0}} {E = Failed} (map to_output text) before now (Ok done) → WroteOver (IsText text) ended.Done before now
+  all_written done w = record {
+    written = w.written;
+    right = ap (λ (sent : List Sent). record { written = sent; ended = ended.Done }) w.sent;
+    added = w.added;
+    counts = w.counts.answered;
+  }
+
+  pub front_written : (failed : Failed) → Wrote {T = Unit {0}} {E = Failed} (map to_output text) before now (Err failed) → WroteOver (IsText text) ended.WriteFault before now
+  front_written failed w = record { written = w.written; right = (whole_of text, refl, refl, w.sent); added = w.added; counts = w.counts.failed }
+
+-- what is right for a text is right, where the whole of that text is
+module _ (IsRight : Whole → Type 0) (text : List ℕ) (right : IsRight (whole_of text)) where
+  over : (cause : Cause) (ended : Ended) (written : List Sent) → IsWrittenOver (IsText text) cause ended written → IsWrittenOver IsRight cause ended written
+  over by_itself ended written is = subst IsRight (sym is) right
+  over by_words ended written is = is
+  over by_input ended written is = is
+  over by_pieces ended written is = is
+  over by_open ended written is = is
+  over by_read ended written is = is
+  over by_write ended written is = (is.0, subst IsRight (sym is.1) right, is.2, is.3)
+  over by_memory ended written is = (is.0, subst IsRight (sym is.1) right, is.2, is.3)
+
+  pub right_written : (ended : Ended) (before now : Outside) → WroteOver (IsText text) ended before now → WroteOver IsRight ended before now
+  right_written ended before now w = record { written = w.written; right = over (cause_of ended) ended w.written w.right; added = w.added; counts = w.counts }
+
+-- the text that is made of the objects of an input is what the job is to write
+module _ (name : List ℕ) (objects : List Object) (before now : Outside) where
+  pub text_right : (text : List ℕ) → HasInput name objects before now → FiltersExist → text ≡ coast_text objects → IsFilter objects (whole_of text)
+  text_right text has there is =
+      let all = there input_limit longest_line has.took.taken objects has.took.answer.1 in record { written = ap (map to_output) is; ended = refl; same = all.1.same }

@@ -1,0 +1,12 @@
+-- Words of private clauses on the work of a filter job. No public contract cites it.
+use Rattle.std.specs.Prelude.{◌≡◌, ℕ, List, map}
+use Rattle.osm_job.specs.declared.ended.Ended.TheVariants as ended
+use Rattle.osm_job.specs.Sent.{to_output}
+use Rattle.osm_job.specs.Whole.{Whole}
+
+-- a text goes to the output, and that is all
+abbrev pub whole_of : List ℕ → Whole
+whole_of text = record { written = map to_output text; ended = ended.Done }
+
+abbrev pub IsText : List ℕ → Whole → Type 0
+IsText text whole = whole ≡ whole_of text
