@@ -1,0 +1,7 @@
+mod ChosenItems
+mod ClearTexts
+mod LineCuts
+mod RightLines
+mod ToldLemmas
+mod Verdicts
+mod WholeTexts

@@ -1,0 +1,16 @@
+-- The candidates that have an area.
+use Rattle.std.specs.Prelude.{◌≡◌, ◌⊎◌, List, [], ◌∷◌}
+use Rattle.opl_reader.specs.declared.object.Object.{Object}
+use Rattle.opl_reader.specs.declared.object.ObjectRef.{ObjectRef}
+use Rattle.osm_area.specs.Sound.{IsSound}
+
+-- those of a list of which P holds, in order
+abbrev pub AreThose : {X : Type 0} → (X → Type 0) → List X → List X → Type 0
+AreThose P [] those = those ≡ []
+AreThose {X} P (x ∷ xs) those =
+    (P x × (others : List X) × AreThose P xs others × (those ≡ x ∷ others)) ⊎ ((P x → ⊥) × AreThose P xs those)
+
+-- A candidate has an area where it is sound: nothing that it names is missing, and of its segments some survive,
+-- no two of them in conflict and an even number of them at each location.
+abbrev pub HaveAreas : List Object → List ObjectRef → List ObjectRef → Type 0
+HaveAreas objects candidates areas = AreThose (IsSound objects) candidates areas

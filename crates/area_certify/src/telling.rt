@@ -1,0 +1,52 @@
+//! What a candidate tells of the lines that are left.
+
+ghost use Rattle.std.specs.Prelude.{IfOk, IsSome};
+ghost use Rattle.osm_objects.specs.Objects.{object_at};
+ghost use Rattle.area_certify.specs.Lines.{text_lines};
+ghost use Rattle.area_certify.specs.Telling.{IsTold};
+
+use crate::area::area_of;
+use crate::feature::is_feature;
+use crate::lines::first_line;
+use crate::verdict::IdChoice;
+use one_area::outcome_is_one;
+use opl_reader::ObjectRef;
+use osm_objects::Store;
+use std::alloc::{AllocError as OutOfMemory, Global};
+
+/// What a candidate tells.
+#[derive(Clone, Copy)]
+pub(crate) enum Told<'a> {
+    /// It has no area, so none of the lines is its.
+    NoArea,
+    /// The next line is its feature, and this is left behind it.
+    Right { rest: &'a [u8] },
+    /// It has an area, and the next line isn't its feature, or there is none.
+    Wrong,
+}
+
+/// Assembles a candidate and compares its feature with the next line.
+pub(crate) fn tell<'a>(
+    alloc: Global,
+    store: &Store,
+    ids: IdChoice,
+    counter: u64,
+    candidate: ObjectRef,
+    text: &'a [u8],
+) -> Result<Told<'a>, OutOfMemory>
+    requires held { IsSome (object_at store.now candidate) }
+    ensures { IfOk result (IsTold ids store.now counter candidate (text_lines text.now)) }
+{
+    // By law: it has one outcome alone.
+    outcome_is_one();
+    let Some(polygons) = area_of(alloc, store, candidate)? else {
+        return Ok(Told::NoArea);
+    };
+    let Some((line, rest)) = first_line(text) else {
+        return Ok(Told::Wrong);
+    };
+    if is_feature(alloc, store, ids, counter, candidate, &polygons, line)? {
+        return Ok(Told::Right { rest });
+    }
+    Ok(Told::Wrong)
+}
