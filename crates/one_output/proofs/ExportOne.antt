@@ -3,7 +3,7 @@ use Rattle.std.proofs.Common.{All, List, [], ap, false, map, refl, subst, sym, t
 use Rattle.std.proofs.lemmas.List.Elements.{All-head, All-tail}
 use Rattle.opl_reader.specs.declared.object.Object.{Object}
 use Rattle.opl_reader.specs.declared.object.ObjectRef.{ObjectRef}
-use Rattle.osm_words.specs.Job.{ExportSettings, coastline, export}
+use Rattle.osm_words.specs.Job.{ExportSettings, coastline, export, filter, sample}
 use Rattle.job_export.specs.Entry.{Entry, IsEntry, has_area}
 use Rattle.osm_input.specs.Laws.{LinesCount}
 use Rattle.osm_input.specs.Reading.{IsReadAs}
@@ -11,11 +11,15 @@ use Rattle.osm_job.specs.Whole.{IsAfter, IsReadThen, Whole, input_limit, longest
 use Rattle.job_export.specs.Export.{HaveAreas, IsExport, finished, finished_whole, stopped, stopped_whole}
 use Rattle.osm_input.specs.declared.reading.ReadError.{ReadError}
 use Rattle.job_coastline.specs.Coastline.{IsCoastline}
-use Rattle.one_coast.specs.Laws.{CoastlineIsOne}
+use Rattle.job_filter.specs.Filter.{IsFilter}
+use Rattle.job_filter.specs.Laws.{FilterIsOne}
+use Rattle.one_area.specs.Laws.{OutcomeIsOne}
+use Rattle.one_coast.specs.Laws.{CoastCountsAreOne, CoastlineIsOne}
 use Rattle.osm_report.specs.Report.{ProblemLineIsOne}
 use Rattle.one_output.specs.Laws.{ObjectsTellTheWhole, WholeIsOne}
 use Rattle.one_output.proofs.EntryOne.{entry-one}
 use Rattle.one_output.proofs.ReadingOne.{reading-one}
+use Rattle.one_output.proofs.SampleOne.{sample_one}
 
 abbrev named : List Entry → List ObjectRef
 named es = map (λ (entry : Entry). entry.candidate) es
@@ -88,11 +92,13 @@ module _ (count : LinesCount) (IsRight : List Object → Whole → Type 0) (one 
   pub then-one : (bytes : List ℕ) (v w : Whole) → IsReadThen IsRight bytes v → IsReadThen IsRight bytes w → v ≡ w
   then-one bytes v w s t = alike-one bytes bytes s.read v w s.is_read s.is_read s t
 
-module _ (count : LinesCount) (line : ProblemLineIsOne) (coastline-one : CoastlineIsOne) where
+module _ (count : LinesCount) (line : ProblemLineIsOne) (coastline-one : CoastlineIsOne) (filter-one : FilterIsOne) (outcome-one : OutcomeIsOne) (counts-one : CoastCountsAreOne) where
   -- what is right for a job and its inputs is one
   pub whole-one : WholeIsOne
   whole-one (export settings) texts v w s t = then-one count (IsExport settings) (export-one line settings) texts.0 v w s t
   whole-one (coastline settings) texts v w s t = then-one count (IsCoastline settings) (coastline-one settings) texts.0 v w s t
+  whole-one (sample cells) texts v w s t = sample_one outcome-one counts-one cells v w s t
+  whole-one (filter settings) texts v w s t = then-one count IsFilter filter-one texts.0 v w s t
 
   -- and depends on what they are read as alone
   pub objects-tell : ObjectsTellTheWhole
@@ -100,3 +106,5 @@ module _ (count : LinesCount) (line : ProblemLineIsOne) (coastline-one : Coastli
       alike-one count (IsExport settings) (export-one line settings) texts.0 more.0 alike.0.0 v w alike.0.1 alike.0.2 s t
   objects-tell (coastline settings) texts more v w alike s t =
       alike-one count (IsCoastline settings) (coastline-one settings) texts.0 more.0 alike.0.0 v w alike.0.1 alike.0.2 s t
+  objects-tell (sample cells) texts more v w alike s t = sample_one outcome-one counts-one cells v w s t
+  objects-tell (filter settings) texts more v w alike s t = alike-one count IsFilter filter-one texts.0 more.0 alike.0.0 v w alike.0.1 alike.0.2 s t

@@ -3,4 +3,5 @@ pub mod ExportOne
 pub mod ObjectsApart
 pub mod ReadingOne
 pub mod RunOne
+mod SampleOne
 pub mod WholeThere

@@ -2,7 +2,6 @@
 use Rattle.std.proofs.Common.{Bool, Err, List, Ok, Option, Result, Some, [], ap, append-nil, false, inl, inr, refl, subst, sym, true, ◌++◌, ◌∙◌, ◌≡◌, ◌⊎◌}
 use Rattle.osm_host.specs.Outside.{Outside}
 use Rattle.osm_input.specs.Laws.{LinesCount}
-use Rattle.job_export.specs.Laws.{ExportExists}
 use Rattle.osm_words.specs.Job.{Job}
 use Rattle.osm_words.specs.declared.fault.WordsFault.{WordsFault}
 use Rattle.osm_job.specs.Cause.{Cause, by_input, by_itself, by_memory, by_open, by_pieces, by_read, by_words, by_write, cause_of}
@@ -19,8 +18,7 @@ use Rattle.osm_cli.specs.Whole.{IsWhole}
 use Rattle.one_output.specs.Laws.{RunsAgree, RunsDontPart, RunsKeepToTheWhole, WholeIsOne}
 use Rattle.one_output.specs.Right.{AllRunsKeepTo, AreTold, IsRight, TextsOf, is_unbroken}
 use Rattle.one_ring_list.proofs.CyclicLists.{Overlap, overlap}
-use Rattle.one_coast.specs.Laws.{CoastlineExists}
-use Rattle.one_output.proofs.WholeThere.{whole-there}
+use Rattle.one_output.proofs.WholeThere.{AreThere, whole-there}
 
 abbrev whole-by : List Sent → Ended → Whole
 whole-by written ended = record { written = written; ended = ended }
@@ -165,9 +163,9 @@ module _ (whole-one : WholeIsOne) where
       part-by words texts e b a v f c d w told told_2 (none-or-whole words texts e b a v told)
 
 -- ---- the one whole of words and texts
-module _ (whole-one : WholeIsOne) (count : LinesCount) (export_exists : ExportExists) (coastline_exists : CoastlineExists) where
+module _ (whole-one : WholeIsOne) (count : LinesCount) (are : AreThere) where
   right-there : (words : Result Job WordsFault) (texts : TextsOf words) → Wholes words texts
-  right-there (Ok job) texts = whole-there count export_exists coastline_exists job texts
+  right-there (Ok job) texts = whole-there count are job texts
   right-there (Err fault) texts = (silent (BadWords fault), refl)
 
   pub keep-to-the-whole : RunsKeepToTheWhole

@@ -2,7 +2,7 @@
 use Rattle.std.proofs.Common.{Err, List, None, Ok, Option, Result, Some, [], ap, inl, inr, length, refl, subst, sym, take, ℕ, ◌++◌, ◌+◌, ◌<◌, ◌≤◌, ◌∙◌, ◌∷◌, ◌≡◌, ◌⊎◌}
 use Rattle.std.proofs.lemmas.Bool.{cases_lt}
 use Rattle.opl_reader.specs.declared.object.Object.{Object}
-use Rattle.osm_words.specs.Job.{Job, coastline, export}
+use Rattle.osm_words.specs.Job.{CoastlineSettings, Job, coastline, export, filter, sample}
 use Rattle.osm_input.specs.declared.fault.InputFault.{InputFault}
 use Rattle.osm_input.specs.declared.reading.ReadError.{ReadError}
 use Rattle.osm_input.specs.declared.reading.ReadError.TheVariants.{BadInput, TooMuchInput}
@@ -16,13 +16,18 @@ use Rattle.osm_input.specs.Reading.{IsReadAs}
 use Rattle.osm_job.specs.Whole.{IsAfter, IsReadThen, Whole, input_limit, longest_line, read_ended, silent}
 use Rattle.job_coastline.specs.Coastline.{IsCoastline}
 use Rattle.job_export.specs.Export.{IsExport}
-use Rattle.one_coast.specs.Laws.{CoastlineExists}
+use Rattle.job_filter.specs.Filter.{IsFilter}
+use Rattle.job_filter.specs.Laws.{FiltersExist}
+use Rattle.one_coast.specs.Laws.{CoastCountsExist, CoastlineExists}
+use Rattle.osm_area.specs.Outcome.{OutcomeExists}
+use Rattle.osm_sample.specs.Laws.{SampleHasOneCoast}
 use Rattle.osm_objects.specs.Objects.{AreApart}
 use Rattle.osm_objects.proofs.ApartLemmas.{coast_ways-distinct}
 use Rattle.job_export.specs.Laws.{ExportExists}
 use Rattle.osm_cli.specs.Whole.{IsWhole}
 use Rattle.one_ring_list.proofs.CyclicLists.{Overlap, overlap}
 use Rattle.one_output.proofs.ObjectsApart.{good-apart}
+use Rattle.one_output.proofs.SampleOne.{sample_there}
 
 append-nil : (xs : List (List ℕ)) → xs ++ [] ≡ xs
 append-nil [] = refl
@@ -97,10 +102,14 @@ module _ (count : LinesCount) (limit longest : ℕ) (bytes : List ℕ) where
 
 -- ---- a whole
 
--- there is one over the bytes of an input, where there is one over objects of which no two have one kind and id
-module _ (count : LinesCount) (IsRight : List Object → Whole → Type 0) (there : (objects : List Object) → AreApart objects → (w : Whole) × IsRight objects w) where
+-- something is right over the objects that the bytes of an input are read as
+abbrev ThereOf : (List Object → Whole → Type 0) → Type 0
+ThereOf IsRight = (bytes : List ℕ) (objects : List Object) → IsReadAs input_limit longest_line bytes (Ok objects) → (w : Whole) × IsRight objects w
+
+-- then there is one over the bytes
+module _ (count : LinesCount) (IsRight : List Object → Whole → Type 0) (there : ThereOf IsRight) where
   after-there : (bytes : List ℕ) (r : Result (List Object) ReadError) → IsReadAs input_limit longest_line bytes r → (w : Whole) × IsAfter IsRight r w
-  after-there bytes (Ok objects) is = there objects (subst AreApart (sym is.2) (good-apart longest_line (lines_of bytes) is.1))
+  after-there bytes (Ok objects) is = there bytes objects is
   after-there bytes (Err e) is = (silent (read_ended e), refl)
 
   pub then-there : (bytes : List ℕ) → (w : Whole) × IsReadThen IsRight bytes w
@@ -109,8 +118,25 @@ module _ (count : LinesCount) (IsRight : List Object → Whole → Type 0) (ther
       let w = after-there bytes r.0 r.1 in
       (w.0, record { read = r.0; is_read = r.1; after = w.1 })
 
-module _ (count : LinesCount) (export_exists : ExportExists) (coastline_exists : CoastlineExists) where
+-- no two objects of an input have one kind and id
+read-apart : (bytes : List ℕ) (objects : List Object) → IsReadAs input_limit longest_line bytes (Ok objects) → AreApart objects
+read-apart bytes objects is = subst AreApart (sym is.2) (good-apart longest_line (lines_of bytes) is.1)
+
+-- what is there for each job
+pub record AreThere : Type 0 where
+  pub exports : ExportExists
+  pub coastlines : CoastlineExists
+  pub filters : FiltersExist
+  pub outcomes : OutcomeExists
+  pub counts : CoastCountsExist
+  pub one_coast : SampleHasOneCoast
+
+module _ (count : LinesCount) (are : AreThere) where
+  coastline-there : (settings : CoastlineSettings) → ThereOf (IsCoastline settings)
+  coastline-there settings bytes objects is = are.coastlines settings objects (coast_ways-distinct objects (read-apart bytes objects is))
+
   pub whole-there : (job : Job) (texts : Texts (inputs_of job)) → (w : Whole) × IsWhole job texts w
-  whole-there (coastline settings) texts =
-      then-there count (IsCoastline settings) (λ objects apart. coastline_exists settings objects (coast_ways-distinct objects apart)) texts.0
-  whole-there (export settings) texts = then-there count (IsExport settings) (λ objects apart. export_exists settings objects) texts.0
+  whole-there (export settings) texts = then-there count (IsExport settings) (λ bytes objects is. are.exports settings objects) texts.0
+  whole-there (coastline settings) texts = then-there count (IsCoastline settings) (coastline-there settings) texts.0
+  whole-there (sample cells) texts = sample_there are.outcomes are.counts are.one_coast cells
+  whole-there (filter settings) texts = then-there count IsFilter (are.filters input_limit longest_line) texts.0

@@ -8,9 +8,13 @@
 ghost use Rattle.one_output.specs.Laws.{EntryIsOne, ExportIsOne, ObjectsTellTheWhole, ReadingIsOne, RunsAgree, RunsDontPart, RunsKeepToTheWhole, WholeIsOne};
 
 use job_export::export_exists;
-use one_coast::{coastline_exists, coastline_is_one};
+use job_filter::{filter_is_one, filters_exist};
+use one_area::outcome_is_one;
+use one_coast::{coast_counts_are_one, coast_counts_exist, coastline_exists, coastline_is_one};
+use osm_area::outcome_exists;
 use osm_input::limit_decides_the_lines;
 use osm_report::problem_line_is_one;
+use osm_sample::sample_has_one_coast;
 
 /// What is right for a job over the texts of its inputs is one list of what is written, and one
 /// ending, alone: each text is read as one thing, and each candidate adds one thing. It depends on
@@ -22,11 +26,14 @@ pub fn whole_is_one()
     ensures whole { WholeIsOne }
     ensures objects { ObjectsTellTheWhole }
 {
-    // By law: the limit decides which lines count, a problem has one line, and a coastline has one
-    // whole.
+    // By law: the limit decides which lines count, a problem has one line, a coastline and a filter
+    // have one whole, and a candidate has one outcome and a coast one number of lines.
     limit_decides_the_lines();
     problem_line_is_one();
     coastline_is_one();
+    filter_is_one();
+    outcome_is_one();
+    coast_counts_are_one();
 }
 
 /// For each words and texts of their inputs there is exactly one right output, report and ending;
@@ -34,12 +41,17 @@ pub fn whole_is_one()
 pub fn runs_keep_to_the_whole()
     ensures { RunsKeepToTheWhole }
 {
-    // By law: what is right is one, an export of any objects has a whole, and so has a coastline job
-    // where no two coastline ways have one id.
+    // By law: what is right is one. An export of any objects has a whole, so has a coastline job where
+    // no two coastline ways have one id, and a filter of an input; and a sample, each of whose candidates
+    // has an outcome, and which has one coastline way.
     whole_is_one();
     limit_decides_the_lines();
     export_exists();
     coastline_exists();
+    filters_exist();
+    outcome_exists();
+    coast_counts_exist();
+    sample_has_one_coast();
 }
 
 /// Two runs with the same words over the same texts, on whatever hosts, write the same and end

@@ -23,7 +23,7 @@ use Rattle.osm_cli.specs.Run.{IsLastLine, stands, is_cut, Writes, JudgesInput, O
 use Rattle.osm_cli.specs.RunSteps.{Works}
 use Rattle.osm_job.proofs.Keeping.{keeps_both, write_keeps}
 use Rattle.osm_job.proofs.Taken.{taken_kept, stopped_kept}
-use Rattle.osm_cli.proofs.Jobs.{all_kept}
+use Rattle.osm_cli.proofs.Jobs.{all_kept, nothing_kept}
 use Rattle.osm_job.proofs.Prefixes.{take_is_prefix}
 
 module _ (law : StreamsAppend) (words : Result Job WordsFault) (ended : Ended) (before middle now : Outside) (works : Works words ended before middle) (only : OnlyWritesReport middle now) where
@@ -59,9 +59,12 @@ opens_so_far (Ok job) by_write before middle now only opens = only.opens ∙ ope
 opens_so_far (Ok job) by_memory before middle now only opens = (opens.0, (only.opens ∙ opens.1.0, λ more. (all_kept job before middle now only.left only.bytes_read (opens.1.1 more).0, (opens.1.1 more).1)))
 
 input_so_far : (words : Result Job WordsFault) (ended : Ended) (before middle now : Outside) → OnlyWritesReport middle now → JudgesInput words ended before middle → JudgesInput words ended before now
-input_so_far (Err fault) ended before middle now only input = (only.left ∙ input.0, only.bytes_read ∙ input.1)
-input_so_far (Ok job) ended before middle now only input =
-    (stopped_kept middle now only.left only.bytes_read before (inputs_of job) (read_error ended) only.opens input.0, taken_kept (TookAll job) before middle now (all_kept job before middle now only.left only.bytes_read) (cause_of ended) input.1)
+input_so_far (Err fault) ended before middle now only input = nothing_kept before middle now only.left only.bytes_read input
+input_so_far (Ok job) ended before middle now only input = (
+  stopped_kept middle now only.left only.bytes_read before (inputs_of job) (read_error ended) only.opens input.0,
+  taken_kept (TookAll job) before middle now (all_kept job before middle now only.left only.bytes_read) (cause_of ended) input.1,
+  λ none. nothing_kept before middle now only.left only.bytes_read (input.2 none),
+)
 
 last_still : (before middle now : Outside) → now.read_faults ≡ middle.read_faults → now.read_failed ≡ middle.read_failed → NoneOrLastReadFailed before middle → NoneOrLastReadFailed before now
 last_still before middle now same failed (inl none) = inl (same ∙ none)

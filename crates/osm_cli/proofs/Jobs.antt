@@ -1,32 +1,41 @@
 -- A run but for its last line: of a job, and of words that aren't taken.
-use Rattle.std.proofs.Common.{◌≡◌, refl, sym, subst, [], arith, Result, Ok, Err, inl, inr}
+use Rattle.std.proofs.Common.{◌≡◌, ◌∙◌, refl, sym, subst, ℕ, [], arith, Result, Ok, Err, inl, inr}
 use Rattle.osm_host.specs.Laws.{StreamsAppend}
 use Rattle.osm_host.specs.Outside.{Outside}
 use Rattle.osm_words.specs.declared.fault.WordsFault.{WordsFault}
 use Rattle.osm_words.specs.declared.fault.WordsError.{WordsError}
 use Rattle.osm_words.specs.declared.fault.WordsError.TheVariants as words
 use Rattle.osm_words.specs.Answers.{Answers}
-use Rattle.osm_words.specs.Job.{CoastlineSettings, ExportSettings, Job, coastline, export}
+use Rattle.osm_words.specs.Job.{CoastlineSettings, ExportSettings, FilterSettings, Job, coastline, export, filter, sample}
 use Rattle.osm_job.proofs.Keeping.{nothing_changed}
 use Rattle.osm_job.specs.declared.ended.Ended.{Ended}
 use Rattle.osm_job.specs.declared.ended.Ended.TheVariants.{BadWords, OutOfMemory}
 use Rattle.osm_job.specs.Cause.{Cause}
+use Rattle.osm_job.specs.Taken.{TookNothing}
 use Rattle.osm_job.specs.Texts.{told_texts}
 use Rattle.osm_job.specs.Worked.{Worked}
 use Rattle.osm_job.specs.Written.{IsWrittenBy}
 use Rattle.osm_job.proofs.Taken.{input_kept}
 use Rattle.job_coastline.specs.Coastline.{Coastlines}
 use Rattle.job_export.specs.Export.{Exports}
+use Rattle.job_filter.specs.Filter.{Filters}
+use Rattle.job_sample.specs.Sample.{Samples}
 use Rattle.osm_cli.specs.Job.{TookAll, inputs_of, outputs_of}
 use Rattle.osm_cli.specs.RunSteps.{Works, words_ended}
 use Rattle.osm_cli.specs.Whole.{IsWhole}
 
 -- ---- a job
 
--- what all inputs were taken for stays so behind calls that touch none
+-- nothing was taken behind calls that touch no input, where nothing was before
+pub nothing_kept : (before middle now : Outside) → now.left ≡ middle.left → now.bytes_read ≡ middle.bytes_read → TookNothing before middle → TookNothing before now
+nothing_kept before middle now same counted took = record { left = same ∙ took.left; bytes_read = counted ∙ took.bytes_read }
+
+-- what all inputs were taken for stays so behind such calls
 pub all_kept : (job : Job) (before middle now : Outside) → now.left ≡ middle.left → now.bytes_read ≡ middle.bytes_read → TookAll job before middle → TookAll job before now
 all_kept (export settings) before middle now same counted took = input_kept middle now same counted before settings.file took
 all_kept (coastline settings) before middle now same counted took = input_kept middle now same counted before settings.file took
+all_kept (sample count) before middle now same counted took = nothing_kept before middle now same counted took
+all_kept (filter settings) before middle now same counted took = input_kept middle now same counted before settings.file took
 
 of_job : (job : Job) (ended : Ended) (before after : Outside) → Worked (inputs_of job) (outputs_of job) (IsWhole job) (TookAll job) ended before after → Works (Ok job) ended before after
 of_job job ended before after w = record {
@@ -35,7 +44,7 @@ of_job job ended before after w = record {
   report = w.report;
   right = w.right;
   judged = λ is. subst (λ (c : Cause). IsWrittenBy (IsWhole job) c (told_texts before.named (inputs_of job)) ended w.written) is w.right;
-  judged_input = (w.refused, w.took);
+  judged_input = (w.refused, w.took, w.untouched);
   opens = w.opens;
   faults = w.faults;
   write_faults = w.write_faults;
@@ -48,6 +57,12 @@ of_export settings ended before after exported = of_job (export settings) ended 
 pub of_coastline : (settings : CoastlineSettings) (ended : Ended) (before after : Outside) → Coastlines settings ended before after → Works (Ok (coastline settings)) ended before after
 of_coastline settings ended before after done = of_job (coastline settings) ended before after done
 
+pub of_sample : (count : ℕ) (ended : Ended) (before after : Outside) → Samples count ended before after → Works (Ok (sample count)) ended before after
+of_sample count ended before after done = of_job (sample count) ended before after done
+
+pub of_filter : (settings : FilterSettings) (ended : Ended) (before after : Outside) → Filters settings ended before after → Works (Ok (filter settings)) ended before after
+of_filter settings ended before after done = of_job (filter settings) ended before after done
+
 -- of words that ask for the same
 pub works_alike : (x y : Result Job WordsFault) (ended : Ended) (before now : Outside) → Works x ended before now → x ≡ y → Works y ended before now
 works_alike x y ended before now works same = subst (λ (words : Result Job WordsFault). Works words ended before now) same works
@@ -55,6 +70,9 @@ works_alike x y ended before now works same = subst (λ (words : Result Job Word
 -- ---- words that aren't taken
 
 module _ (law : StreamsAppend) (o : Outside) where
+  nothing_taken : TookNothing o o
+  nothing_taken = record { left = refl; bytes_read = refl }
+
   refused : (cause : WordsFault) → Works (Err cause) (BadWords cause) o o
   refused cause = record {
     written = [];
@@ -62,7 +80,7 @@ module _ (law : StreamsAppend) (o : Outside) where
     report = sym (law.no_bytes o.report);
     right = (inr refl, refl);
     judged = inr refl;
-    judged_input = (refl, refl);
+    judged_input = nothing_taken;
     opens = refl;
     faults = record { opens = refl; reads = refl };
     write_faults = refl;
@@ -77,7 +95,7 @@ module _ (law : StreamsAppend) (o : Outside) where
     report = sym (law.no_bytes o.report);
     right = inl refl;
     judged = λ is. absurd (cc);
-    judged_input = (tt, tt);
+    judged_input = (tt, tt, λ none. nothing_taken);
     opens = (0, (sym (law.no_opens o.opens), λ two. absurd (omega arith)));
     faults = record { opens = refl; reads = inl refl };
     write_faults = refl;
@@ -89,7 +107,7 @@ module _ (law : StreamsAppend) (o : Outside) where
     report = sym (law.no_bytes o.report);
     right = (inl refl, refl);
     judged = inl refl;
-    judged_input = (refl, refl);
+    judged_input = nothing_taken;
     opens = refl;
     faults = record { opens = refl; reads = inl refl };
     write_faults = refl;

@@ -11,7 +11,7 @@ use Rattle.osm_job.specs.Faults.{CountsFaults, NoFault, writes_failed}
 use Rattle.osm_job.specs.Opens.{OpensBy}
 use Rattle.osm_job.specs.Prefix.{IsPrefix}
 use Rattle.osm_job.specs.Sent.{Sent, output_of, report_of}
-use Rattle.osm_job.specs.Taken.{IsStopped, TookBy, read_error}
+use Rattle.osm_job.specs.Taken.{IsStopped, TookBy, TookNothing, read_error}
 use Rattle.osm_job.specs.Texts.{told_texts}
 use Rattle.osm_job.specs.Whole.{Whole}
 use Rattle.osm_job.specs.Worked.{IsReady}
@@ -52,11 +52,13 @@ pub record Writes (words : Result Job WordsFault) (ended : Ended) (before after 
 -- ---- what was read
 
 -- An input is refused only for what was taken off it: its bad place stands in the lines that count there, or they have
--- none and it passes the limit. Where a read failed, they have none either. With words that are refused nothing is taken.
+-- none and it passes the limit. Where a read failed, they have none either. A job without inputs takes nothing, and nothing
+-- is taken with words that are refused.
 abbrev pub JudgesInput : Result Job WordsFault → Ended → Outside → Outside → Type 0
 JudgesInput (Ok job) ended before after =
     IfSome (read_error ended) (λ error. IsStopped (inputs_of job) error before after) × TookBy (TookAll job) (cause_of ended) before after
-JudgesInput (Err fault) ended before after = (after.left ≡ before.left) × (after.bytes_read ≡ before.bytes_read)
+    × (inputs_of job ≡ [] → TookNothing before after)
+JudgesInput (Err fault) ended before after = TookNothing before after
 
 -- ---- what was opened
 

@@ -3,12 +3,12 @@ use Rattle.std.specs.Prelude.{◌≡◌, ℕ, List}
 use Rattle.osm_host.specs.Outside.{Outside}
 use Rattle.osm_words.specs.Words.{command_named, job_asked}
 use Rattle.osm_words.specs.declared.words.Command.{Command}
-use Rattle.osm_words.specs.declared.words.Command.TheVariants.{Coastline, Export, Unknown}
+use Rattle.osm_words.specs.declared.words.Command.TheVariants.{Coastline, Export, Filter, Sample, Unknown}
 use Rattle.osm_job.specs.declared.ended.Ended.{Ended}
 use Rattle.osm_job.specs.declared.ended.Ended.TheVariants.{Done, Warnings, Errors, BadWords, BadInput, Stopped, TooMuchInput, TooManyPieces, OpenFault, ReadFault, WriteFault, OutOfMemory}
 use Rattle.osm_cli.specs.Run.{Ran}
 
--- of `export`, and of words that name no command
+-- of `export`, `sample` and `coast-filter`, and of words that name no command
 abbrev pub export_status : Ended → ℕ
 export_status Done = 0
 export_status Warnings = 1
@@ -41,6 +41,8 @@ coastline_status OutOfMemory = 5
 abbrev pub status_of : Command → Ended → ℕ
 status_of Export ended = export_status ended
 status_of Coastline ended = coastline_status ended
+status_of Sample ended = export_status ended
+status_of Filter ended = export_status ended
 status_of Unknown ended = export_status ended
 
 -- A run of words ended, and this is the status for it.

@@ -1,12 +1,16 @@
 -- What a run is to write in all, and how it is to end, by its job.
-use Rattle.osm_words.specs.Job.{Job, coastline, export}
+use Rattle.osm_words.specs.Job.{Job, coastline, export, filter, sample}
 use Rattle.osm_job.specs.Texts.{Texts}
 use Rattle.osm_job.specs.Whole.{IsReadThen, Whole}
 use Rattle.job_coastline.specs.Coastline.{IsCoastline}
 use Rattle.job_export.specs.Export.{IsExport}
+use Rattle.job_filter.specs.Filter.{IsFilter}
+use Rattle.job_sample.specs.Sample.{IsSample}
 use Rattle.osm_cli.specs.Job.{inputs_of}
 
 -- What is right for a job over the texts of its inputs.
 abbrev pub IsWhole : (job : Job) → Texts (inputs_of job) → Whole → Type 0
 IsWhole (export settings) texts whole = IsReadThen (IsExport settings) texts.0 whole
 IsWhole (coastline settings) texts whole = IsReadThen (IsCoastline settings) texts.0 whole
+IsWhole (sample count) texts whole = IsSample count whole
+IsWhole (filter settings) texts whole = IsReadThen IsFilter texts.0 whole

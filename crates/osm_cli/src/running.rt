@@ -4,10 +4,12 @@ ghost use Rattle.std.specs.Prelude.{◌≡◌, ℕ, List, Ok, map, string_bytes}
 ghost use Rattle.osm_cli.specs.Run.{Ran};
 ghost use Rattle.osm_cli.specs.RunSteps.{Works, words_ended};
 ghost use Rattle.osm_cli.specs.Status.{EndsWith};
-ghost use Rattle.osm_words.specs.Answers.{coastline_seen, job_seen, settings_seen};
-ghost use Rattle.osm_words.specs.Job.{coastline, export};
+ghost use Rattle.osm_words.specs.Answers.{coastline_seen, filter_seen, job_seen, sample_seen, settings_seen};
+ghost use Rattle.osm_words.specs.Job.{coastline, export, filter, sample};
 ghost use Rattle.osm_words.specs.PlainCoastline.{ArePlainCoastline, CoastlineOption, coastline_words, said_coastline};
 ghost use Rattle.osm_words.specs.PlainExport.{ArePlain, ExportOption, export_words, said};
+ghost use Rattle.osm_words.specs.PlainFilter.{ArePlainFilter, FilterOption, filter_words, said_filter};
+ghost use Rattle.osm_words.specs.PlainSample.{IsPlainCount, sample_words};
 ghost use Rattle.osm_words.specs.PlainWords.{Form};
 ghost use Rattle.osm_words.specs.Words.{job_asked};
 
@@ -15,11 +17,14 @@ use crate::last_line::last_line;
 use crate::statuses::status;
 use job_coastline::coastline;
 use job_export::export;
+use job_filter::filter_coast;
+use job_sample::sample;
 use osm_host::{Host, streams_append, write_all_report};
 use osm_job::Ended;
 use osm_words::{
-    CoastlineSettings, ExportSettings, Job, WordsError, command_of, job_of,
-    plain_coastline_words_are_taken, plain_words_are_taken,
+    CoastlineSettings, ExportSettings, FilterSettings, Job, SampleSettings, WordsError, command_of,
+    job_of, plain_coastline_words_are_taken, plain_filter_words_are_taken,
+    plain_sample_words_are_taken, plain_words_are_taken,
 };
 use std::alloc::Global;
 
@@ -37,10 +42,19 @@ pub fn run<H: Host>(alloc: Global, words: &[String], host: &mut H) -> Ended
         → ArePlainCoastline options file
         → map string_bytes words.now ≡ coastline_words options file
         → job_asked (map string_bytes words.now) ≡ Ok (coastline (said_coastline options file)) }
+    ensures plain_sample { (written : List ℕ) (count : ℕ) → IsPlainCount written count
+        → map string_bytes words.now ≡ sample_words written
+        → job_asked (map string_bytes words.now) ≡ Ok (sample count) }
+    ensures plain_filter { (options : List (Form × FilterOption)) (file : List ℕ)
+        → ArePlainFilter options file
+        → map string_bytes words.now ≡ filter_words options file
+        → job_asked (map string_bytes words.now) ≡ Ok (filter (said_filter options file)) }
 {
     // By law: plain words ask for what they say, and what is reported adds up in turn.
     plain_words_are_taken();
     plain_coastline_words_are_taken();
+    plain_sample_words_are_taken();
+    plain_filter_words_are_taken();
     streams_append();
     let ended = work(alloc, words, host);
     let line = last_line(&ended);
@@ -76,6 +90,8 @@ fn work_on<H: Host>(alloc: Global, job: &Job<'_>, host: &mut H) -> Ended
     match job {
         Job::Export(settings) => run_export(alloc, settings, host),
         Job::Coastline(settings) => run_coastline(alloc, settings, host),
+        Job::Sample(settings) => run_sample(alloc, settings, host),
+        Job::Filter(settings) => run_filter(alloc, settings, host),
     }
 }
 
@@ -93,6 +109,22 @@ fn run_coastline<H: Host>(alloc: Global, settings: &CoastlineSettings<'_>, host:
         (H.seen host.new) }
 {
     coastline(alloc, settings, host)
+}
+
+/// As `sample`, of which it says what it is for a run.
+fn run_sample<H: Host>(alloc: Global, settings: &SampleSettings, host: &mut H) -> Ended
+    ensures { Works (Ok (sample (sample_seen settings.now))) result (H.seen host.old)
+        (H.seen host.new) }
+{
+    sample(alloc, settings, host)
+}
+
+/// As `filter_coast`, of which it says what it is for a run.
+fn run_filter<H: Host>(alloc: Global, settings: &FilterSettings<'_>, host: &mut H) -> Ended
+    ensures { Works (Ok (filter (filter_seen settings.now))) result (H.seen host.old)
+        (H.seen host.new) }
+{
+    filter_coast(alloc, settings, host)
 }
 
 /// How a run ends whose words aren't taken.

@@ -11,7 +11,9 @@ pub fn status(command: Command, ended: &Ended) -> u8
     ensures { result ≡ status_of command ended.now }
 {
     match command {
-        Command::Export | Command::Unknown => export_status(ended),
+        Command::Export | Command::Sample | Command::Filter | Command::Unknown => {
+            export_status(ended)
+        }
         Command::Coastline => coastline_status(ended),
     }
 }

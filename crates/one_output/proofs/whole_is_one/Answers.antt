@@ -13,7 +13,7 @@ pub returns-clause-export : goal.returns-clause-export
 returns-clause-export c = export-one c.problem_line_is_one.ensures
 
 pub returns-clause-whole : goal.returns-clause-whole
-returns-clause-whole c = whole-one c.limit_decides_the_lines.ensures c.problem_line_is_one.ensures c.coastline_is_one.ensures
+returns-clause-whole c = whole-one c.limit_decides_the_lines.ensures c.problem_line_is_one.ensures c.coastline_is_one.ensures c.filter_is_one.ensures c.outcome_is_one.ensures c.coast_counts_are_one.ensures
 
 pub returns-clause-objects : goal.returns-clause-objects
-returns-clause-objects c = objects-tell c.limit_decides_the_lines.ensures c.problem_line_is_one.ensures c.coastline_is_one.ensures
+returns-clause-objects c = objects-tell c.limit_decides_the_lines.ensures c.problem_line_is_one.ensures c.coastline_is_one.ensures c.filter_is_one.ensures c.outcome_is_one.ensures c.coast_counts_are_one.ensures

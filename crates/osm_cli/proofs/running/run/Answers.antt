@@ -14,3 +14,9 @@ returns-clause-plain g c = λ options file plain same. ap job_asked same ∙ c.p
 
 pub returns-clause-plain_coastline : goal.returns-clause-plain_coastline
 returns-clause-plain_coastline g c = λ options file plain same. ap job_asked same ∙ c.plain_coastline_words_are_taken.ensures options file plain
+
+pub returns-clause-plain_sample : goal.returns-clause-plain_sample
+returns-clause-plain_sample g c = λ written count plain same. ap job_asked same ∙ c.plain_sample_words_are_taken.ensures written count plain
+
+pub returns-clause-plain_filter : goal.returns-clause-plain_filter
+returns-clause-plain_filter g c = λ options file plain same. ap job_asked same ∙ c.plain_filter_words_are_taken.ensures options file plain

@@ -7,3 +7,9 @@ returns-in-Export g c = works_alike _ _ c.run_export.result (g.H.Host.seen c.arg
 
 pub returns-in-Coastline : goal.returns-in-Coastline
 returns-in-Coastline g c = works_alike _ _ c.run_coastline.result (g.H.Host.seen c.args.host.now) (g.H.Host.seen c.run_coastline.new.host) c.run_coastline.ensures (search rules)
+
+pub returns-in-Sample : goal.returns-in-Sample
+returns-in-Sample g c = works_alike _ _ c.run_sample.result (g.H.Host.seen c.args.host.now) (g.H.Host.seen c.run_sample.new.host) c.run_sample.ensures (search rules)
+
+pub returns-in-Filter : goal.returns-in-Filter
+returns-in-Filter g c = works_alike _ _ c.run_filter.result (g.H.Host.seen c.args.host.now) (g.H.Host.seen c.run_filter.new.host) c.run_filter.ensures (search rules)
