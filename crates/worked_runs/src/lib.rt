@@ -16,6 +16,8 @@ mod every_call;
 #[cfg(test)]
 mod faults;
 #[cfg(test)]
+mod filter_runs;
+#[cfg(test)]
 mod formats;
 #[cfg(test)]
 mod inputs;
@@ -27,5 +29,7 @@ mod nested_areas;
 mod pieces;
 #[cfg(test)]
 mod run;
+#[cfg(test)]
+mod sample_runs;
 #[cfg(test)]
 mod stops;
