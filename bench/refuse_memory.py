@@ -88,7 +88,7 @@ def main():
                 os.close(told)
 
         whole, _ = run(0)
-        ended = without = 0
+        ended = unbegun = without = 0
         for number in range(1, 1_000_000):
             ran, came = run(number)
             if not came:
@@ -96,12 +96,14 @@ def main():
             is_front = whole.stdout.startswith(ran.stdout) and ran.stderr.endswith(LAST_LINE) and whole.stderr.startswith(ran.stderr[: -len(LAST_LINE)])
             if ran.returncode == 5 and is_front:
                 ended += 1
+            elif (ran.returncode, ran.stdout, ran.stderr) == (5, b"", b""):
+                unbegun += 1
             elif (ran.returncode, ran.stdout, ran.stderr) == (whole.returncode, whole.stdout, whole.stderr):
                 without += 1
             else:
                 print(f"allocation {number}: status {ran.returncode}, report {ran.stderr[-200:]!r}")
                 sys.exit(1)
-    print(f"{ended + without} allocations refused: {ended} runs ended for want of memory, {without} did without")
+    print(f"{ended + unbegun + without} allocations refused: {ended} runs ended for want of memory, {unbegun} never began, {without} did without")
 
 
 if __name__ == "__main__":
