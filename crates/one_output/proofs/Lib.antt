@@ -1,6 +1,5 @@
 pub mod EntryOne
 pub mod ExportOne
-pub mod ObjectsApart
 pub mod ReadingOne
 pub mod RunOne
 mod SampleOne

@@ -21,12 +21,11 @@ use Rattle.job_filter.specs.Laws.{FiltersExist}
 use Rattle.one_coast.specs.Laws.{CoastCountsExist, CoastlineExists}
 use Rattle.osm_area.specs.Outcome.{OutcomeExists}
 use Rattle.osm_sample.specs.Laws.{SampleHasOneCoast}
-use Rattle.osm_objects.specs.Objects.{AreApart}
+use Rattle.written_inputs.specs.Laws.{ReadObjectsCanBeWritten}
 use Rattle.osm_objects.proofs.ApartLemmas.{coast_ways-distinct}
 use Rattle.job_export.specs.Laws.{ExportExists}
 use Rattle.osm_cli.specs.Whole.{IsWhole}
 use Rattle.one_ring_list.proofs.CyclicLists.{Overlap, overlap}
-use Rattle.one_output.proofs.ObjectsApart.{good-apart}
 use Rattle.one_output.proofs.SampleOne.{sample_there}
 
 append-nil : (xs : List (List ℕ)) → xs ++ [] ≡ xs
@@ -118,22 +117,19 @@ module _ (count : LinesCount) (IsRight : List Object → Whole → Type 0) (ther
       let w = after-there bytes r.0 r.1 in
       (w.0, record { read = r.0; is_read = r.1; after = w.1 })
 
--- no two objects of an input have one kind and id
-read-apart : (bytes : List ℕ) (objects : List Object) → IsReadAs input_limit longest_line bytes (Ok objects) → AreApart objects
-read-apart bytes objects is = subst AreApart (sym is.2) (good-apart longest_line (lines_of bytes) is.1)
-
 -- what is there for each job
 pub record AreThere : Type 0 where
   pub exports : ExportExists
   pub coastlines : CoastlineExists
   pub filters : FiltersExist
+  pub read : ReadObjectsCanBeWritten
   pub outcomes : OutcomeExists
   pub counts : CoastCountsExist
   pub one_coast : SampleHasOneCoast
 
 module _ (count : LinesCount) (are : AreThere) where
   coastline-there : (settings : CoastlineSettings) → ThereOf (IsCoastline settings)
-  coastline-there settings bytes objects is = are.coastlines settings objects (coast_ways-distinct objects (read-apart bytes objects is))
+  coastline-there settings bytes objects is = are.coastlines settings objects (coast_ways-distinct objects (are.read input_limit longest_line bytes objects is).apart)
 
   pub whole-there : (job : Job) (texts : Texts (inputs_of job)) → (w : Whole) × IsWhole job texts w
   whole-there (export settings) texts = then-there count (IsExport settings) (λ bytes objects is. are.exports settings objects) texts.0

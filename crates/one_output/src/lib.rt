@@ -15,6 +15,7 @@ use osm_area::outcome_exists;
 use osm_input::limit_decides_the_lines;
 use osm_report::problem_line_is_one;
 use osm_sample::sample_has_one_coast;
+use written_inputs::read_inputs_can_be_written;
 
 /// What is right for a job over the texts of its inputs is one list of what is written, and one
 /// ending, alone: each text is read as one thing, and each candidate adds one thing. It depends on
@@ -42,12 +43,13 @@ pub fn runs_keep_to_the_whole()
     ensures { RunsKeepToTheWhole }
 {
     // By law: what is right is one. An export of any objects has a whole, so has a coastline job where
-    // no two coastline ways have one id, and a filter of an input; and a sample, each of whose candidates
-    // has an outcome, and which has one coastline way.
+    // no two coastline ways have one id, as reading sees to, and a filter of an input; and a sample,
+    // each of whose candidates has an outcome, and which has one coastline way.
     whole_is_one();
     limit_decides_the_lines();
     export_exists();
     coastline_exists();
+    read_inputs_can_be_written();
     filters_exist();
     outcome_exists();
     coast_counts_exist();

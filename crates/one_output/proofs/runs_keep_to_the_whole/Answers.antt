@@ -7,6 +7,7 @@ returns c =
       exports = c.export_exists.ensures;
       coastlines = c.coastline_exists.ensures;
       filters = c.filters_exist.ensures;
+      read = c.read_inputs_can_be_written.ensures.written;
       outcomes = c.outcome_exists.ensures;
       counts = c.coast_counts_exist.ensures;
       one_coast = c.sample_has_one_coast.ensures;
