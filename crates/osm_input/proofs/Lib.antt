@@ -4,3 +4,5 @@ mod Lines
 mod Prefixes
 mod Steps
 mod Taking
+mod TextAnswered
+mod TextTaken

@@ -28,11 +28,11 @@ pub record Taken (limit longest : ℕ) (before now : Outside) (r : Reader) (obje
   pub left : before.left ≡ preceded bytes now.left
   pub counted : now.bytes_read ≡ grown before.bytes_read (length bytes)
 
-grown_twice : (first a b c middle now : ℕ) → middle ≡ grown first a → now ≡ grown middle b → c ≡ a + b → now ≡ grown first c
+pub grown_twice : (first a b c middle now : ℕ) → middle ≡ grown first a → now ≡ grown middle b → c ≡ a + b → now ≡ grown first c
 grown_twice first a b c middle now was is sum = omega arith
 
 -- no bytes before a stream change nothing
-nothing_preceded : (stream : Option (List ℕ)) → preceded [] stream ≡ stream
+pub nothing_preceded : (stream : Option (List ℕ)) → preceded [] stream ≡ stream
 nothing_preceded None = refl
 nothing_preceded (Some bytes) = refl
 

@@ -6,3 +6,4 @@ pub mod Lines
 pub mod ReadFaults
 pub mod Reading
 pub mod Shown
+pub mod Text

@@ -1,12 +1,16 @@
-//! An opened input, read piece by piece into a store of its objects: the lines of its bytes, its bad
-//! place, and its limit.
+//! An opened input, read piece by piece: into a store of its objects, with the lines of its bytes, its
+//! bad place and its limit; or as one text, with its limit.
 #![tactic(auto)]
 
 mod fault;
 mod laws;
 mod pieces;
 mod reading;
+#[cfg(test)]
+mod tests;
+mod text;
 
 pub use fault::InputFault;
 pub use laws::limit_decides_the_lines;
 pub use reading::{ReadError, read_all};
+pub use text::{TextError, read_text};

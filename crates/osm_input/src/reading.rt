@@ -14,7 +14,7 @@ use osm_objects::Store;
 use std::alloc::Global;
 
 /// How many bytes are read at a time.
-const PIECE: usize = 65536;
+pub(crate) const PIECE: usize = 65536;
 
 /// Why an input isn't read into a store.
 #[derive(Clone, Copy, Debug, PartialEq, Eq)]

@@ -1,0 +1,75 @@
+-- The bytes that are taken off an input as one text, piece by piece, and what is answered of them.
+use Rattle.std.proofs.Common.{◌≡◌, ◌∙◌, refl, sym, ap, subst, ℕ, ◌+◌, ◌-◌, ◌<◌, ◌≤◌}
+use Rattle.std.proofs.Common.{List, [], ◌++◌, length, take, length-append, length-take, arith, Option, IfSome, Ok, Err}
+use Rattle.osm_host.specs.Outside.{Outside, preceded, grown}
+use Rattle.osm_host.specs.Laws.{PrecedesInTurn}
+use Rattle.osm_input.specs.declared.text.TextError.TheVariants.{TooMuchInput, ReadFault}
+use Rattle.osm_input.specs.Text.{TookWhole}
+use Rattle.osm_input.proofs.Taking.{grown_twice, nothing_preceded}
+
+-- These bytes were taken off the input, no more than the limit.
+pub record TextTaken (limit : ℕ) (before now : Outside) (bytes : List ℕ) (room : ℕ) : Type 0 where
+  pub size : length bytes + room ≡ limit
+  pub left : before.left ≡ preceded bytes now.left
+  pub counted : now.bytes_read ≡ grown before.bytes_read (length bytes)
+
+no_bytes_taken : (limit : ℕ) (now : Outside) → TextTaken limit now now [] limit
+no_bytes_taken limit now = record { size = omega arith; left = sym (nothing_preceded now.left); counted = omega arith }
+
+pub no_text_taken : (limit : ℕ) (now : Outside) (bytes : List ℕ) → bytes ≡ [] → TextTaken limit now now bytes limit
+no_text_taken limit now bytes none = subst (λ (xs : List ℕ). TextTaken limit now now xs limit) (sym none) (no_bytes_taken limit now)
+
+module _ (limit : ℕ) (before middle : Outside) (bytes : List ℕ) (room : ℕ) (t : TextTaken limit before middle bytes room) (now : Outside) where
+  -- a read failed
+  pub text_failed : now.left ≡ middle.left → now.bytes_read ≡ middle.bytes_read → TookWhole limit before now (Err ReadFault)
+  text_failed left counted =
+      let size = t.size in
+      record {
+        taken = bytes;
+        left = t.left ∙ ap (preceded bytes) (sym left);
+        counted = counted ∙ t.counted;
+        answer = omega arith;
+      }
+
+  module _ (buffer : List ℕ) (count : ℕ) (left : middle.left ≡ preceded (take count buffer) now.left) (counted : now.bytes_read ≡ grown middle.bytes_read count)
+    where
+      -- the input ended
+      pub text_whole : count ≡ 0 → IfSome middle.left (λ left. left ≡ []) → TookWhole limit before now (Ok bytes)
+      text_whole none nothing =
+          let size = t.size in
+          let still : middle.left ≡ now.left = left ∙ (ap (λ (n : ℕ). preceded (take n buffer) now.left) none ∙ nothing_preceded now.left) in
+          record {
+            taken = bytes;
+            left = t.left ∙ ap (preceded bytes) still;
+            counted = grown_twice before.bytes_read (length bytes) count (length bytes) _ _ t.counted counted (omega arith);
+            answer = (subst (λ (o : Option (List ℕ)). IfSome o (λ left. left ≡ [])) still nothing, (omega arith, refl));
+          }
+
+      -- ---- a piece was taken
+
+      module _ (in_buffer : count ≤ length buffer) (in_turn : PrecedesInTurn ℕ) where
+        abbrev all_taken : List ℕ
+        all_taken = bytes ++ take count buffer
+
+        taken_left : before.left ≡ preceded all_taken now.left
+        taken_left = t.left ∙ (ap (preceded bytes) left ∙ in_turn bytes (take count buffer) now.left)
+
+        taken_size : length all_taken ≡ length bytes + count
+        taken_size = omega (arith, length-append bytes (take count buffer), length-take count buffer)
+
+        taken_counted : now.bytes_read ≡ grown before.bytes_read (length all_taken)
+        taken_counted = grown_twice before.bytes_read (length bytes) count (length all_taken) _ _ t.counted counted taken_size
+
+        -- there is more than the limit
+        pub text_passed : room < count → TookWhole limit before now (Err (TooMuchInput limit))
+        text_passed less =
+            let size = t.size in
+            let sum = taken_size in
+            record { taken = all_taken; left = taken_left; counted = taken_counted; answer = (refl, omega arith) }
+
+        -- all of it is within the limit
+        pub text_more : (longer : List ℕ) (rest : ℕ) → longer ≡ all_taken → count ≤ room → rest ≡ room - count → TextTaken limit before now longer rest
+        text_more longer rest same within is =
+            let size = t.size in
+            let sum = taken_size in
+            subst (λ (xs : List ℕ). TextTaken limit before now xs rest) (sym same) (record { size = omega arith; left = taken_left; counted = taken_counted })
