@@ -1,6 +1,5 @@
 -- Words of private clauses on the texts of candidates. No public contract cites it.
 use Rattle.std.specs.Prelude.{◌≡◌, ℕ, Bool, true, false, List, [], ◌++◌, Option, Some, None, Vec, if◌then◌else◌, is_some, map}
-use Rattle.std.specs.List.{flat_map}
 use Rattle.std.specs.declared.alloc.Global.{Global}
 use Rattle.opl_reader.specs.declared.object.Object.{Object}
 use Rattle.opl_reader.specs.declared.object.ObjectRef.{ObjectRef}

@@ -1,5 +1,5 @@
 -- An input that is opened and read: what was taken off it.
-use Rattle.std.proofs.Common.{◌≡◌, ◌∙◌, refl, sym, ap, subst, ℕ, ◌≤◌, ◌⊎◌, List, [], ◌∷◌, length, Option, IfSome, is_some, Result, Ok, Err, inl, inr}
+use Rattle.std.proofs.Common.{◌≡◌, ◌∙◌, sym, ap, subst, ℕ, ◌≤◌, ◌⊎◌, List, [], ◌∷◌, length, Option, IfSome, is_some, Result, Ok, Err, inl, inr}
 use Rattle.opl_reader.specs.declared.object.Object.{Object}
 use Rattle.osm_host.specs.Outside.{Outside, input, appended, grown, risen, OnlyOpens, OnlyReads}
 use Rattle.osm_input.specs.declared.reading.ReadError.{ReadError}
@@ -10,22 +10,25 @@ use Rattle.osm_input.specs.Reading.{IsReadAs, IsReadOf, Reads, Took, ReadsOnce}
 use Rattle.osm_job.proofs.Keeping.{keeps_both, open_keeps}
 use Rattle.osm_job.specs.declared.ended.Ended.TheVariants.{OpenFault}
 use Rattle.osm_job.specs.InputRead.{IsSilent, OpensOne, HasInput, Refuses, LacksInput}
-use Rattle.osm_job.specs.Taken.{TookOff, IsStopped}
+use Rattle.osm_job.specs.Taken.{TookOff, IsFileStopped}
 use Rattle.osm_job.specs.Whole.{read_ended, input_limit, longest_line}
 
-module _ (name : List ℕ) (before middle : Outside) (only : OnlyOpens before middle) (told_still : is_some middle.left ≡ is_some before.left) (rises : before.open_faults ≤ middle.open_faults) where
+module _ (name : List ℕ) (before middle : Outside) (only : OnlyOpens before middle) (told_still : is_some middle.left ≡ is_some before.left)
+    (rises : before.open_faults ≤ middle.open_faults) where
   opening_keeps : Keeps before middle
   opening_keeps = open_keeps before middle only told_still rises
 
   -- it isn't opened
-  pub input_not_opened : middle.open_faults ≡ risen before.open_faults → ((middle.opens ≡ appended before.opens (input name ∷ [])) ⊎ (middle.opens ≡ before.opens)) → LacksInput name OpenFault before middle
+  pub input_not_opened : middle.open_faults ≡ risen before.open_faults →
+      ((middle.opens ≡ appended before.opens (input name ∷ [])) ⊎ (middle.opens ≡ before.opens)) → LacksInput name OpenFault before middle
   input_not_opened failed listed_or_not = record {
     lack = listed_or_not;
     faults = record { opens = failed; reads = only.read_faults };
     silent = record { out = only.out; report = only.report; write_faults = only.write_faults; keeps = opening_keeps };
   }
 
-  module _ (listed : middle.opens ≡ appended before.opens (input name ∷ [])) (begins : middle.left ≡ before.named name) (none_read : middle.bytes_read ≡ 0) (answered : middle.open_faults ≡ before.open_faults)
+  module _ (listed : middle.opens ≡ appended before.opens (input name ∷ [])) (begins : middle.left ≡ before.named name) (none_read : middle.bytes_read ≡ 0)
+      (answered : middle.open_faults ≡ before.open_faults)
       (now : Outside) (reads_only : OnlyReads middle now) (read_keeps : Keeps middle now) where
     reading_silent : IsSilent before now
     reading_silent = record {
@@ -41,23 +44,20 @@ module _ (name : List ℕ) (before middle : Outside) (only : OnlyOpens before mi
     no_open_failed : now.open_faults ≡ before.open_faults
     no_open_failed = reads_only.open_faults ∙ answered
 
-    took_off : (result : Result (List Object) ReadError) → Took input_limit longest_line middle now result → TookOff (name ∷ []) result before now
+    took_off : (result : Result (List Object) ReadError) → Took input_limit longest_line middle now result → TookOff name result before now
     took_off result took = record {
-      earlier = [];
-      name = name;
-      later = [];
-      of_job = refl;
       taken = took.taken;
       left = sym begins ∙ took.left;
       counted = took.counted ∙ ap (λ (n : ℕ). grown n (length took.taken)) none_read;
       answer = took.answer;
     }
 
-    is_stopped : (error : ReadError) → Took input_limit longest_line middle now (Err error) → IsStopped (name ∷ []) error before now
+    is_stopped : (error : ReadError) → Took input_limit longest_line middle now (Err error) → IsFileStopped name error before now
     unfolding took_off
     is_stopped error took = (took_off (Err error) took, opens_one)
 
-    of_named : (result : Result (List Object) ReadError) → IfSome middle.left (λ bytes. IsReadAs input_limit longest_line bytes result) → IfSome (before.named name) (λ bytes. IsReadAs input_limit longest_line bytes result)
+    of_named : (result : Result (List Object) ReadError) → IfSome middle.left (λ bytes. IsReadAs input_limit longest_line bytes result) →
+        IfSome (before.named name) (λ bytes. IsReadAs input_limit longest_line bytes result)
     of_named result told = subst (λ (o : Option (List ℕ)). IfSome o (λ bytes. IsReadAs input_limit longest_line bytes result)) begins told
 
     last_failed : LastReadFailed middle now → LastReadFailed before now
@@ -68,7 +68,8 @@ module _ (name : List ℕ) (before middle : Outside) (only : OnlyOpens before mi
     none_or_last (inr last) = inr (last_failed last)
 
     -- it is read
-    pub input_read : (objects : List Object) → Reads input_limit longest_line middle now (Ok objects) → IfSome middle.left (λ bytes. IsReadOf input_limit longest_line bytes (Ok objects)) →
+    pub input_read : (objects : List Object) → Reads input_limit longest_line middle now (Ok objects) →
+        IfSome middle.left (λ bytes. IsReadOf input_limit longest_line bytes (Ok objects)) →
         ReadsOnce middle now (Ok objects) → HasInput name objects before now
     input_read objects reads told once = record {
       right = of_named (Ok objects) told;
@@ -79,11 +80,13 @@ module _ (name : List ℕ) (before middle : Outside) (only : OnlyOpens before mi
       silent = reading_silent;
     }
 
-    refuses : (error : ReadError) → IfSome middle.left (λ bytes. IsReadAs input_limit longest_line bytes (Err error)) → Took input_limit longest_line middle now (Err error) → Refuses name error before now
+    refuses : (error : ReadError) → IfSome middle.left (λ bytes. IsReadAs input_limit longest_line bytes (Err error)) →
+        Took input_limit longest_line middle now (Err error) → Refuses name error before now
     refuses error told took = record { right = of_named (Err error) told; stopped = is_stopped error took; opens = opens_one }
 
     -- it isn't read
-    pub input_not_read : (error : ReadError) → Reads input_limit longest_line middle now (Err error) → IfSome middle.left (λ bytes. IsReadOf input_limit longest_line bytes (Err error)) →
+    pub input_not_read : (error : ReadError) → Reads input_limit longest_line middle now (Err error) →
+        IfSome middle.left (λ bytes. IsReadOf input_limit longest_line bytes (Err error)) →
         ReadsOnce middle now (Err error) → LacksInput name (read_ended error) before now
     input_not_read (read.BadInput line fault) reads told once = record {
       lack = refuses (read.BadInput line fault) told reads;

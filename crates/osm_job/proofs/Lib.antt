@@ -1,7 +1,13 @@
+mod BothRead
+pub mod BothThenOutput
+mod InputLacks
 mod InputRead
 pub mod InputThenOutput
 pub mod Keeping
+mod OnceRead
 pub mod OutputAlone
 pub mod Prefixes
 pub mod Taken
+mod TextRead
+pub mod Weaker
 pub mod Writes

@@ -1,6 +1,7 @@
 -- What ends a run.
 use Rattle.osm_job.specs.declared.ended.Ended.{Ended}
-use Rattle.osm_job.specs.declared.ended.Ended.TheVariants.{Done, Warnings, Errors, Stopped, BadWords, BadInput, TooMuchInput, TooManyPieces, OpenFault, ReadFault, WriteFault, OutOfMemory}
+use Rattle.osm_job.specs.declared.ended.Ended.TheVariants.{Done, Warnings, Errors, Stopped, BadWords, BadInput, TooMuchInput, TooManyPieces, Refuted, BadPoint}
+use Rattle.osm_job.specs.declared.ended.Ended.TheVariants.{OpenFault, ReadFault, WriteFault, OutOfMemory}
 
 pub data Cause : Type 0 where
   -- it came to its end
@@ -9,8 +10,8 @@ pub data Cause : Type 0 where
   by_words : Cause
   -- its input is refused, for what it holds
   by_input : Cause
-  -- what comes of its inputs has too many pieces
-  by_pieces : Cause
+  -- its inputs are read to their ends, and what they hold allows no output
+  by_verdict : Cause
   -- an open failed, a read, a write
   by_open : Cause
   by_read : Cause
@@ -26,7 +27,9 @@ cause_of (Stopped candidate) = by_itself
 cause_of (BadWords cause) = by_words
 cause_of (BadInput line fault) = by_input
 cause_of (TooMuchInput limit) = by_input
-cause_of (TooManyPieces most) = by_pieces
+cause_of (TooManyPieces most) = by_verdict
+cause_of (Refuted line) = by_verdict
+cause_of (BadPoint line) = by_verdict
 cause_of OpenFault = by_open
 cause_of ReadFault = by_read
 cause_of WriteFault = by_write

@@ -3,15 +3,16 @@ use Rattle.std.specs.Prelude.{◌≡◌, ℕ}
 use Rattle.osm_host.specs.Outside.{Outside, risen, HasRisen}
 use Rattle.osm_input.specs.ReadFaults.{LastReadFailed, NoneOrLastReadFailed}
 use Rattle.osm_job.specs.declared.ended.Ended.{Ended}
-use Rattle.osm_job.specs.declared.ended.Ended.TheVariants.{Done, Warnings, Errors, Stopped, BadWords, BadInput, TooMuchInput, TooManyPieces, OpenFault, ReadFault, WriteFault, OutOfMemory}
-use Rattle.osm_job.specs.Cause.{Cause, by_itself, by_words, by_input, by_pieces, by_open, by_read, by_write, by_memory, cause_of}
+use Rattle.osm_job.specs.declared.ended.Ended.TheVariants.{Done, Warnings, Errors, Stopped, BadWords, BadInput, TooMuchInput, TooManyPieces, Refuted, BadPoint}
+use Rattle.osm_job.specs.declared.ended.Ended.TheVariants.{OpenFault, ReadFault, WriteFault, OutOfMemory}
+use Rattle.osm_job.specs.Cause.{Cause, by_itself, by_words, by_input, by_verdict, by_open, by_read, by_write, by_memory, cause_of}
 
 -- the count of opens that failed, one up where that ends the run
 abbrev pub opens_failed : Cause → ℕ → ℕ
 opens_failed by_itself count = count
 opens_failed by_words count = count
 opens_failed by_input count = count
-opens_failed by_pieces count = count
+opens_failed by_verdict count = count
 opens_failed by_open count = risen count
 opens_failed by_read count = count
 opens_failed by_write count = count
@@ -22,7 +23,7 @@ abbrev pub writes_failed : Cause → ℕ → ℕ
 writes_failed by_itself count = count
 writes_failed by_words count = count
 writes_failed by_input count = count
-writes_failed by_pieces count = count
+writes_failed by_verdict count = count
 writes_failed by_open count = count
 writes_failed by_read count = count
 writes_failed by_write count = risen count
@@ -39,6 +40,8 @@ ReadsFailed (BadWords cause) before after = after.read_faults ≡ before.read_fa
 ReadsFailed (BadInput line fault) before after = NoneOrLastReadFailed before after
 ReadsFailed (TooMuchInput limit) before after = after.read_faults ≡ before.read_faults
 ReadsFailed (TooManyPieces most) before after = after.read_faults ≡ before.read_faults
+ReadsFailed (Refuted line) before after = after.read_faults ≡ before.read_faults
+ReadsFailed (BadPoint line) before after = after.read_faults ≡ before.read_faults
 ReadsFailed OpenFault before after = after.read_faults ≡ before.read_faults
 ReadsFailed ReadFault before after = LastReadFailed before after
 ReadsFailed WriteFault before after = after.read_faults ≡ before.read_faults

@@ -5,6 +5,7 @@ pub mod Opens
 pub mod Prefix
 pub mod Sent
 pub mod Taken
+pub mod TextRead
 pub mod Texts
 pub mod Whole
 pub mod Worked

@@ -3,7 +3,10 @@ use Rattle.std.specs.Prelude.{◌≡◌, ◌^◌, ℕ, List, [], Result, Ok, Err
 use Rattle.opl_reader.specs.declared.object.Object.{Object}
 use Rattle.osm_input.specs.declared.reading.ReadError.{ReadError}
 use Rattle.osm_input.specs.declared.reading.ReadError.TheVariants.{BadInput, TooMuchInput, ReadFault, OutOfMemory}
+use Rattle.osm_input.specs.declared.text.TextError.{TextError}
+use Rattle.osm_input.specs.declared.text.TextError.TheVariants as text_fault
 use Rattle.osm_input.specs.Reading.{IsReadAs}
+use Rattle.osm_input.specs.Text.{IsTextAs}
 use Rattle.osm_job.specs.declared.ended.Ended.{Ended}
 use Rattle.osm_job.specs.declared.ended.Ended.TheVariants as ended
 use Rattle.osm_job.specs.Sent.{Sent}
@@ -41,3 +44,21 @@ pub record IsReadThen (IsRight : List Object → Whole → Type 0) (bytes : List
   pub read : Result (List Object) ReadError
   pub is_read : IsReadAs input_limit longest_line bytes read
   pub after : IsAfter IsRight read whole
+
+-- ---- an input that is read as one text
+
+-- how a run ends whose text isn't read
+abbrev pub text_ended : TextError → Ended
+text_ended (text_fault.TooMuchInput limit) = ended.TooMuchInput limit
+text_ended text_fault.ReadFault = ended.ReadFault
+text_ended text_fault.OutOfMemory = ended.OutOfMemory
+
+abbrev pub IsAfterText : (List ℕ → Whole → Type 0) → Result (List ℕ) TextError → Whole → Type 0
+IsAfterText IsRight (Ok found) whole = IsRight found whole
+IsAfterText IsRight (Err error) whole = whole ≡ silent (text_ended error)
+
+-- What is right over the bytes of an input, from what is right over its text.
+pub record IsTextThen (IsRight : List ℕ → Whole → Type 0) (bytes : List ℕ) (whole : Whole) : Type 0 where
+  pub read : Result (List ℕ) TextError
+  pub is_read : IsTextAs input_limit bytes read
+  pub after : IsAfterText IsRight read whole

@@ -4,14 +4,14 @@ use Rattle.opl_reader.specs.declared.object.Object.{Object}
 use Rattle.osm_host.specs.Outside.{Outside, Opened, appended}
 use Rattle.osm_input.specs.Keeps.{Keeps}
 use Rattle.osm_job.specs.declared.ended.Ended.{Ended}
-use Rattle.osm_job.specs.Cause.{Cause, by_itself, by_words, by_input, by_pieces, by_open, by_read, by_write, by_memory, cause_of}
+use Rattle.osm_job.specs.Cause.{Cause, by_itself, by_words, by_input, by_verdict, by_open, by_read, by_write, by_memory, cause_of}
 use Rattle.osm_job.specs.Faults.{CountsFaults, writes_failed}
 use Rattle.osm_job.specs.Opens.{OpensBy}
 use Rattle.osm_job.specs.Prefix.{IsPrefix}
 use Rattle.osm_job.specs.Sent.{Sent, output_of, report_of}
-use Rattle.osm_job.specs.Taken.{IsStopped, TookBy, TookInput, TookNothing, read_error}
+use Rattle.osm_job.specs.Taken.{IsStopped, TookBoth, TookBy, TookInput, TookNothing, read_error}
 use Rattle.osm_job.specs.Texts.{Texts, told_texts}
-use Rattle.osm_job.specs.Whole.{IsReadThen, Whole}
+use Rattle.osm_job.specs.Whole.{IsReadThen, IsTextThen, Whole}
 use Rattle.osm_job.specs.Writes.{Added}
 use Rattle.osm_job.specs.Written.{GoesOut, IsWrittenBy}
 
@@ -21,7 +21,8 @@ IsReady inputs IsRight TookAll before after = TookAll before after × GoesOut Is
 
 -- A job ended so, but for its last line: a job of these inputs and outputs, for which this is right over the texts of its
 -- inputs, and which has taken all of them where this holds. One without inputs takes nothing, however it ends.
-pub record Worked (inputs : List (List ℕ)) (outputs : List Opened) (IsRight : Texts inputs → Whole → Type 0) (TookAll : Outside → Outside → Type 0) (ended : Ended) (before after : Outside) : Type 0 where
+pub record Worked (inputs : List (List ℕ)) (outputs : List Opened) (IsRight : Texts inputs → Whole → Type 0) (TookAll : Outside → Outside → Type 0)
+    (ended : Ended) (before after : Outside) : Type 0 where
   pub written : List Sent
   pub out : after.out ≡ appended before.out (output_of written)
   pub report : after.report ≡ appended before.report (report_of written)
@@ -45,6 +46,17 @@ abbrev pub ReadThenWrote : List ℕ → Opened → (List Object → Whole → Ty
 ReadThenWrote name opened IsRight ended before after =
     Worked (name ∷ []) (opened ∷ []) (OverOne IsRight name) (TookInput name) ended before after
 
+-- ---- an input and a text, then any outputs
+
+-- what is right over the objects of the one and the text of the other
+abbrev pub OverBoth : (List Object → List ℕ → Whole → Type 0) → (file text : List ℕ) → Texts (file ∷ text ∷ []) → Whole → Type 0
+OverBoth IsRight file text texts whole = IsReadThen (λ objects right. IsTextThen (IsRight objects) texts.1.0 right) texts.0 whole
+
+-- A job ended so that reads an input and then a text, and for which this is right over its objects and the text.
+abbrev pub ReadBoth : List ℕ → List ℕ → List Opened → (List Object → List ℕ → Whole → Type 0) → Ended → Outside → Outside → Type 0
+ReadBoth file text outputs IsRight ended before after =
+    Worked (file ∷ text ∷ []) outputs (OverBoth IsRight file text) (TookBoth file text) ended before after
+
 -- ---- an output alone
 
 -- A job ended so that reads nothing and opens one output, and for which this is right.
@@ -62,7 +74,7 @@ abbrev pub IsWrittenOver : (Whole → Type 0) → Cause → Ended → List Sent 
 IsWrittenOver IsRight by_itself ended written = IsRight (record { written = written; ended = ended })
 IsWrittenOver IsRight by_words ended written = ⊥
 IsWrittenOver IsRight by_input ended written = ⊥
-IsWrittenOver IsRight by_pieces ended written = ⊥
+IsWrittenOver IsRight by_verdict ended written = ⊥
 IsWrittenOver IsRight by_open ended written = ⊥
 IsWrittenOver IsRight by_read ended written = ⊥
 IsWrittenOver IsRight by_write ended written = IsBegun IsRight written

@@ -1,7 +1,7 @@
 -- What a job wrote, against what is right for it over its inputs.
 use Rattle.std.specs.Prelude.{◌≡◌, ◌⊎◌, List, [], Option, IfSome}
 use Rattle.osm_job.specs.declared.ended.Ended.{Ended}
-use Rattle.osm_job.specs.Cause.{Cause, by_itself, by_words, by_input, by_pieces, by_open, by_read, by_write, by_memory, cause_of}
+use Rattle.osm_job.specs.Cause.{Cause, by_itself, by_words, by_input, by_verdict, by_open, by_read, by_write, by_memory, cause_of}
 use Rattle.osm_job.specs.Prefix.{IsPrefix}
 use Rattle.osm_job.specs.Sent.{Sent}
 use Rattle.osm_job.specs.Whole.{Whole}
@@ -26,7 +26,7 @@ abbrev pub IsWrittenBy : {T : Type 0} → (T → Whole → Type 0) → Cause →
 IsWrittenBy IsRight by_itself told ended written = WroteAll IsRight told ended written
 IsWrittenBy IsRight by_words told ended written = ⊥
 IsWrittenBy IsRight by_input told ended written = (written ≡ []) × WroteAll IsRight told ended written
-IsWrittenBy IsRight by_pieces told ended written = (written ≡ []) × WroteAll IsRight told ended written
+IsWrittenBy IsRight by_verdict told ended written = (written ≡ []) × WroteAll IsRight told ended written
 IsWrittenBy IsRight by_open told ended written = written ≡ []
 IsWrittenBy IsRight by_read told ended written = written ≡ []
 IsWrittenBy IsRight by_write told ended written = WrotePrefix IsRight told written

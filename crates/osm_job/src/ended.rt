@@ -23,6 +23,10 @@ pub enum Ended {
     TooMuchInput { limit: u64 },
     /// What is asked for has more pieces than this: leaves are counted, before the output is opened.
     TooManyPieces { most: u64 },
+    /// This line of the text, counted from 1, is the first that isn't right.
+    Refuted { line: u64 },
+    /// This line of the text, counted from 1, is the first that isn't a point.
+    BadPoint { line: u64 },
     /// An open failed.
     OpenFault,
     /// A read failed.
