@@ -11,7 +11,8 @@ use Rattle.osm_words.specs.PlainCoastline.{CoastlineOption, HasPlainValue, polyg
 use Rattle.osm_words.specs.declared.settings.OutputPolygons.{OutputPolygons}
 use Rattle.osm_words.specs.declared.settings.OutputPolygons.TheVariants.{Land, Water, Both, Neither}
 use Rattle.osm_words.proofs.Taken.{EndsWell}
-use Rattle.osm_words.proofs.Walk.{Moves, Options, Pending, Ready, TakesLast, TakesValue, by_letter, by_long, flag_moves, option_moves, ready_value, row_for}
+use Rattle.osm_words.proofs.Walk.{Moves, Named, Options, Pending, Ready, TakesValue, TakesWord}
+use Rattle.osm_words.proofs.Walk.{by_letter, by_long, flag_moves, option_moves, ready_value, row_for}
 
 abbrev pub top : Shape
 top = (built coastline_app).top
@@ -71,7 +72,19 @@ moves long (output name) rows pending used ready new plain = option_moves top (c
 moves letter overwrite rows pending used ready new plain = flag_moves top (codes "-f") (codes "overwrite") by_letter rows pending used ready new refl refl refl
 moves long overwrite rows pending used ready new plain = flag_moves top (codes "--overwrite") (codes "overwrite") by_long rows pending used ready new refl refl refl
 
-pub not_file : (c : CoastlineOption) → bytes_eq (name_of c) (codes "file") ≡ false
+abbrev pub coastline_options : Options top
+coastline_options = record {
+  Choice = CoastlineOption;
+  name_of = name_of;
+  value_of = value_text;
+  words_of = option_words;
+  HasPlainValue = HasPlainValue;
+  moves = moves;
+}
+
+-- ---- the file
+
+not_file : (c : CoastlineOption) → bytes_eq (name_of c) (codes "file") ≡ false
 not_file (close_distance written units) = refl
 not_file (max_points written points) = refl
 not_file (bbox_overlap written units) = refl
@@ -79,32 +92,27 @@ not_file (polygons p) = refl
 not_file (output name) = refl
 not_file overwrite = refl
 
-takes_dash : TakesLast top (codes "file") (codes "-")
+takes_dash : TakesWord top 1 (codes "file") (codes "-")
 unfolding clap_on_literals
 takes_dash = record { walks = λ rows pending. refl; asks = λ rows pending. refl }
 
-pub takes_file : (file : Text) → IsFileName file → TakesLast top (codes "file") file
+takes_file : (file : Text) → IsFileName file → TakesWord top 1 (codes "file") file
 unfolding clap_on_literals
-takes_file file (inl dash) = subst (TakesLast top (codes "file")) (sym dash) takes_dash
+takes_file file (inl dash) = subst (TakesWord top 1 (codes "file")) (sym dash) takes_dash
 takes_file [] (inr plain) = record { walks = λ rows pending. refl; asks = λ rows pending. refl }
 takes_file (a ∷ file) (inr plain) = record { walks = λ rows pending. simp plain; asks = λ rows pending. simp plain }
 
-abbrev pub coastline_options : Options top (codes "file")
-coastline_options = record {
-  Choice = CoastlineOption;
-  name_of = name_of;
-  value_of = value_text;
-  words_of = option_words;
-  HasPlainValue = HasPlainValue;
-  not_last = not_file;
-  moves = moves;
-  takes_last = takes_file;
+pub coastline_file : Named top coastline_options 1 (codes "file")
+coastline_file = record {
+  no_option = not_file;
+  takes = takes_file;
+  ready = λ file rows new. ready_value top (codes "file") file rows new refl refl;
 }
 
 -- the command asks for nothing but the file
-pub coastline_ends_well : EndsWell top (codes "file")
+pub coastline_ends_well : EndsWell top [] (codes "file")
 coastline_ends_well = record {
-  ready = λ file rows new. ready_value top (codes "file") file rows new refl refl;
+  ready = coastline_file.ready;
   defaults = (refl, (refl, (refl, (refl, (refl, (refl, (refl, tt)))))));
-  checks = λ rows given. ap (λ (is : Bool). check_kinds false false (not is || false)) given;
+  checks = λ rows before given. ap (λ (is : Bool). check_kinds false false (not is || false)) given;
 }

@@ -13,7 +13,8 @@ use Rattle.osm_words.specs.declared.settings.UniqueId.{UniqueId}
 use Rattle.osm_words.specs.declared.settings.UniqueId.TheVariants.{Counter, TypeId}
 use Rattle.clap.specs.Kinds.{check_kinds}
 use Rattle.osm_words.proofs.Taken.{EndsWell}
-use Rattle.osm_words.proofs.Walk.{Moves, Options, Pending, Ready, TakesLast, TakesValue, by_letter, by_long, flag_moves, option_moves, ready_value, row_for}
+use Rattle.osm_words.proofs.Walk.{Moves, Named, Options, Pending, Ready, TakesValue, TakesWord}
+use Rattle.osm_words.proofs.Walk.{by_letter, by_long, flag_moves, option_moves, ready_value, row_for}
 
 abbrev pub top : Shape
 top = (built export_app).top
@@ -35,7 +36,7 @@ format_plain GeoJson = refl
 format_plain GeoJsonSeq = refl
 format_plain PlainText = refl
 
-ids_plain : (i : UniqueId) → begins_with_dash (ids_text i) ≡ false
+pub ids_plain : (i : UniqueId) → begins_with_dash (ids_text i) ≡ false
 ids_plain Counter = refl
 ids_plain TypeId = refl
 
@@ -88,7 +89,19 @@ moves long (area_keys written keys) rows pending used ready new plain = option_m
 moves letter (linear_keys written keys) rows pending used ready new plain = option_moves top (codes "--linear-keys") (codes "linear-keys") written rows pending used ready new (linear_takes written plain.0) refl refl
 moves long (linear_keys written keys) rows pending used ready new plain = option_moves top (codes "--linear-keys") (codes "linear-keys") written rows pending used ready new (linear_takes written plain.0) refl refl
 
-pub not_file : (c : ExportOption) → bytes_eq (name_of c) (codes "file") ≡ false
+abbrev pub export_options : Options top
+export_options = record {
+  Choice = ExportOption;
+  name_of = name_of;
+  value_of = value_text;
+  words_of = option_words;
+  HasPlainValue = HasPlainValue;
+  moves = moves;
+}
+
+-- ---- the file
+
+not_file : (c : ExportOption) → bytes_eq (name_of c) (codes "file") ≡ false
 not_file (format f) = refl
 not_file (output name) = refl
 not_file overwrite = refl
@@ -100,32 +113,27 @@ not_file stop_on_error = refl
 not_file (area_keys written keys) = refl
 not_file (linear_keys written keys) = refl
 
-takes_dash : TakesLast top (codes "file") (codes "-")
+takes_dash : TakesWord top 1 (codes "file") (codes "-")
 unfolding clap_on_literals
 takes_dash = record { walks = λ rows pending. refl; asks = λ rows pending. refl }
 
-pub takes_file : (file : Text) → IsFileName file → TakesLast top (codes "file") file
+takes_file : (file : Text) → IsFileName file → TakesWord top 1 (codes "file") file
 unfolding clap_on_literals
-takes_file file (inl dash) = subst (TakesLast top (codes "file")) (sym dash) takes_dash
+takes_file file (inl dash) = subst (TakesWord top 1 (codes "file")) (sym dash) takes_dash
 takes_file [] (inr plain) = record { walks = λ rows pending. refl; asks = λ rows pending. refl }
 takes_file (a ∷ file) (inr plain) = record { walks = λ rows pending. simp plain; asks = λ rows pending. simp plain }
 
-abbrev pub export_options : Options top (codes "file")
-export_options = record {
-  Choice = ExportOption;
-  name_of = name_of;
-  value_of = value_text;
-  words_of = option_words;
-  HasPlainValue = HasPlainValue;
-  not_last = not_file;
-  moves = moves;
-  takes_last = takes_file;
+pub export_file : Named top export_options 1 (codes "file")
+export_file = record {
+  no_option = not_file;
+  takes = takes_file;
+  ready = λ file rows new. ready_value top (codes "file") file rows new refl refl;
 }
 
 -- the command asks for nothing but the file
-pub export_ends_well : EndsWell top (codes "file")
+pub export_ends_well : EndsWell top [] (codes "file")
 export_ends_well = record {
-  ready = λ file rows new. ready_value top (codes "file") file rows new refl refl;
+  ready = export_file.ready;
   defaults = (refl, (refl, (refl, (refl, (refl, (refl, (refl, (refl, (refl, (refl, (refl, tt)))))))))));
-  checks = λ rows given. ap (λ (is : Bool). check_kinds false false (not is || false)) given;
+  checks = λ rows before given. ap (λ (is : Bool). check_kinds false false (not is || false)) given;
 }

@@ -9,7 +9,8 @@ use Rattle.osm_words.specs.FilterCommand.{filter_app}
 use Rattle.osm_words.specs.PlainWords.{Form, IsFileName, begins_with_dash, letter, long}
 use Rattle.osm_words.specs.PlainFilter.{FilterOption, HasPlainValue, output, overwrite, name_of, option_words}
 use Rattle.osm_words.proofs.Taken.{EndsWell}
-use Rattle.osm_words.proofs.Walk.{Moves, Options, Pending, Ready, TakesLast, TakesValue, by_letter, by_long, flag_moves, option_moves, ready_value, row_for}
+use Rattle.osm_words.proofs.Walk.{Moves, Named, Options, Pending, Ready, TakesValue, TakesWord}
+use Rattle.osm_words.proofs.Walk.{by_letter, by_long, flag_moves, option_moves, ready_value, row_for}
 
 abbrev pub top : Shape
 top = (built filter_app).top
@@ -43,36 +44,43 @@ moves letter overwrite rows pending used ready new plain =
 moves long overwrite rows pending used ready new plain =
     flag_moves top (codes "--overwrite") (codes "overwrite") by_long rows pending used ready new refl refl refl
 
-pub not_file : (c : FilterOption) → bytes_eq (name_of c) (codes "file") ≡ false
-not_file (output name) = refl
-not_file overwrite = refl
-
-takes_dash : TakesLast top (codes "file") (codes "-")
-unfolding clap_on_literals
-takes_dash = record { walks = λ rows pending. refl; asks = λ rows pending. refl }
-
-pub takes_file : (file : Text) → IsFileName file → TakesLast top (codes "file") file
-unfolding clap_on_literals
-takes_file file (inl dash) = subst (TakesLast top (codes "file")) (sym dash) takes_dash
-takes_file [] (inr plain) = record { walks = λ rows pending. refl; asks = λ rows pending. refl }
-takes_file (a ∷ file) (inr plain) = record { walks = λ rows pending. simp plain; asks = λ rows pending. simp plain }
-
-abbrev pub filter_options : Options top (codes "file")
+abbrev pub filter_options : Options top
 filter_options = record {
   Choice = FilterOption;
   name_of = name_of;
   value_of = value_text;
   words_of = option_words;
   HasPlainValue = HasPlainValue;
-  not_last = not_file;
   moves = moves;
-  takes_last = takes_file;
+}
+
+-- ---- the file
+
+not_file : (c : FilterOption) → bytes_eq (name_of c) (codes "file") ≡ false
+not_file (output name) = refl
+not_file overwrite = refl
+
+takes_dash : TakesWord top 1 (codes "file") (codes "-")
+unfolding clap_on_literals
+takes_dash = record { walks = λ rows pending. refl; asks = λ rows pending. refl }
+
+takes_file : (file : Text) → IsFileName file → TakesWord top 1 (codes "file") file
+unfolding clap_on_literals
+takes_file file (inl dash) = subst (TakesWord top 1 (codes "file")) (sym dash) takes_dash
+takes_file [] (inr plain) = record { walks = λ rows pending. refl; asks = λ rows pending. refl }
+takes_file (a ∷ file) (inr plain) = record { walks = λ rows pending. simp plain; asks = λ rows pending. simp plain }
+
+pub filter_file : Named top filter_options 1 (codes "file")
+filter_file = record {
+  no_option = not_file;
+  takes = takes_file;
+  ready = λ file rows new. ready_value top (codes "file") file rows new refl refl;
 }
 
 -- the command asks for nothing but the file
-pub filter_ends_well : EndsWell top (codes "file")
+pub filter_ends_well : EndsWell top [] (codes "file")
 filter_ends_well = record {
-  ready = λ file rows new. ready_value top (codes "file") file rows new refl refl;
+  ready = filter_file.ready;
   defaults = (refl, (refl, (refl, tt)));
-  checks = λ rows given. ap (λ (is : Bool). check_kinds false false (not is || false)) given;
+  checks = λ rows before given. ap (λ (is : Bool). check_kinds false false (not is || false)) given;
 }

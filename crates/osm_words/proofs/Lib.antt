@@ -6,9 +6,13 @@ pub mod Taken
 pub mod ExportOptions
 pub mod CoastlineOptions
 pub mod FilterOptions
+pub mod CertifyOptions
+pub mod LocateOptions
 pub mod PlainAnswers
 pub mod PlainExport
 pub mod PlainCoastline
 pub mod PlainSample
 pub mod PlainFilter
+pub mod PlainCertify
+pub mod PlainLocate
 pub mod OneKind

@@ -1,17 +1,35 @@
--- What a call answers to plain words, and what a flag's value says. No public contract cites it.
-use Rattle.std.proofs.Common.{◌≡◌, ◌∙◌, Bool, true, false, Option, Result, Ok, Err, codes, refl, sym, ap, true≢false}
+-- What a call answers to plain words, and what values and names say. No public contract cites it.
+use Rattle.std.proofs.Common.{◌≡◌, ◌&&◌, ◌∙◌, Bool, true, false, Option, Some, Result, Ok, Err, codes, refl, sym, ap, true≢false}
 use Rattle.std.specs.Option.{option_map_or}
 use Rattle.std.specs.Str.{bytes_eq}
+use Rattle.std.proofs.lemmas.Slice.Eq.{bytes_eq-Decides}
 use Rattle.clap.specs.Words.{Text}
 use Rattle.osm_words.specs.Job.{Job}
 use Rattle.osm_words.specs.Answers.{Answers, Gives}
+use Rattle.osm_words.specs.PlainExport.{ids_text}
+use Rattle.osm_words.specs.Ranges.{are_both_dashes, ids_said}
 use Rattle.osm_words.specs.declared.fault.WordsFault.{WordsFault}
 use Rattle.osm_words.specs.declared.fault.WordsError.{WordsError}
 use Rattle.osm_words.specs.declared.fault.WordsError.TheVariants.{BadWords, OutOfMemory}
 use Rattle.osm_words.specs.declared.settings.Job.{Job as CodeJob}
+use Rattle.osm_words.specs.declared.settings.UniqueId.{UniqueId}
+use Rattle.osm_words.specs.declared.settings.UniqueId.TheVariants.{Counter, TypeId}
 
 abbrev pub flag_said : Option Text → Bool
 flag_said value = option_map_or (λ word. bytes_eq word (codes "true")) value false
+
+pub ids_read : (i : UniqueId) → ids_said (Some (ids_text i)) ≡ Some (Some i)
+ids_read Counter = refl
+ids_read TypeId = refl
+
+-- two names that aren't both a lone dash, as the test sees them
+pub not_both_dashes : (file second : Text) → ¬ ((file ≡ codes "-") × (second ≡ codes "-")) → are_both_dashes file second ≡ false
+not_both_dashes file second not_both = go (bytes_eq file (codes "-")) (bytes_eq second (codes "-")) refl refl
+  where
+    go : (a b : Bool) → bytes_eq file (codes "-") ≡ a → bytes_eq second (codes "-") ≡ b → (a && b) ≡ false
+    go true true first other = absurd (not_both ((bytes_eq-Decides file (codes "-")).0 first, (bytes_eq-Decides second (codes "-")).0 other))
+    go true false first other = refl
+    go false b first other = refl
 
 abbrev job_or : Job → Result Job WordsFault → Job
 job_or job (Ok given) = given

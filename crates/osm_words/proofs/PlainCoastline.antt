@@ -1,5 +1,5 @@
 -- Plain words of `coastline` are taken, and give what they say. No public contract cites it.
-use Rattle.std.proofs.Common.{◌≡◌, ◌++◌, ◌∙◌, List, [], ◌∷◌, Option, Some, None, Ok, codes, refl, ap, ap₂}
+use Rattle.std.proofs.Common.{◌≡◌, ◌++◌, ◌∙◌, List, [], ◌∷◌, Option, Some, Ok, codes, refl, ap, ap₂}
 use Rattle.std.specs.Prelude.{unwrap_or}
 use Rattle.clap.specs.Words.{Row, Text, first_of, matches_of}
 use Rattle.osm_words.specs.CoastlineCommand.{coastline_app}
@@ -14,10 +14,10 @@ use Rattle.osm_words.specs.declared.settings.OutputPolygons.TheVariants.{Land, W
 use Rattle.osm_words.proofs.Walk.{Ends, ends, row_for, rows_with}
 use Rattle.osm_words.proofs.Taken.{given, taken, value_in}
 use Rattle.osm_words.proofs.PlainAnswers.{flag_said}
-use Rattle.osm_words.proofs.CoastlineOptions.{coastline_ends_well, coastline_options, top, value_text}
+use Rattle.osm_words.proofs.CoastlineOptions.{coastline_ends_well, coastline_file, coastline_options, top, value_text}
 
 abbrev option_rows : List (Form × CoastlineOption) → List Row
-option_rows options = rows_with top (codes "file") coastline_options options
+option_rows options = rows_with top coastline_options options
 
 -- ---- what the words say
 
@@ -74,11 +74,11 @@ plain_coastline : (options : List (Form × CoastlineOption)) (file : Text) → A
 plain_coastline options file plain =
     let words = plain_words option_words options file in
     let used = option_rows options in
-    let end : Ends top (codes "file") words [] None used file = ends top (codes "file") coastline_options options file plain.once plain.values plain.file_name in
+    let end : Ends top (codes "file") words used file = ends top coastline_options (codes "file") coastline_file options file plain.once plain.values plain.file_name in
     let rows = matches_of coastline_app (coastline_words options file) in
     let found : settings_said rows ≡ Ok (said_coastline options file) =
-    read_by rows (used ++ row_for (codes "file") file ∷ []) (said_coastline options file) (say options file plain.values) (given top (codes "file") coastline_ends_well words used file end) in
-    ap₂ unless_refused (taken top (codes "file") coastline_ends_well words used file end) found
+    read_by rows (used ++ row_for (codes "file") file ∷ []) (said_coastline options file) (say options file plain.values) (given top [] (codes "file") coastline_ends_well words used file end) in
+    ap₂ unless_refused (taken top [] (codes "file") coastline_ends_well words used file tt end) found
 
 pub plain_coastline_asked : (options : List (Form × CoastlineOption)) (file : Text) → ArePlainCoastline options file
     → job_asked (coastline_words options file) ≡ Ok (coastline (said_coastline options file))

@@ -1,25 +1,25 @@
 -- Plain words of `export` are taken, and give what they say. No public contract cites it.
-use Rattle.std.proofs.Common.{◌≡◌, ◌++◌, ◌∙◌, List, [], ◌∷◌, Option, Some, None, Ok, codes, refl, ap, ap₂}
+use Rattle.std.proofs.Common.{◌≡◌, ◌++◌, ◌∙◌, List, [], ◌∷◌, Option, Some, Ok, codes, refl, ap, ap₂}
 use Rattle.std.specs.Prelude.{option_map, unwrap_or}
 use Rattle.clap.specs.Words.{Row, Text, first_of, matches_of}
 use Rattle.osm_words.specs.ExportCommand.{export_app}
 use Rattle.osm_words.specs.Job.{ExportSettings, export}
-use Rattle.osm_words.specs.ExportWords.{export_asked, format_named, format_said, ids_said, in_range, keys_asked, settings_said, settings_with}
+use Rattle.osm_words.specs.ExportWords.{export_asked, format_named, format_said, in_range, settings_said, settings_with}
+use Rattle.osm_words.specs.Ranges.{ids_said, keys_asked}
 use Rattle.osm_words.specs.Parsed.{is_set, unless_refused}
 use Rattle.osm_words.specs.Words.{as_job, job_asked}
 use Rattle.osm_words.specs.PlainWords.{Form, HavePlainValues, plain_words}
-use Rattle.osm_words.specs.PlainExport.{ArePlain, ExportOption, export_words, format_text, ids_text, format, output, overwrite, keep_untagged, ids, omit_rs, show_errors, stop_on_error, area_keys, linear_keys, HasPlainValue, name_of, option_words, said, with_option}
+use Rattle.osm_words.specs.PlainExport.{ArePlain, ExportOption, export_words, format_text, format, output, overwrite, keep_untagged, ids, omit_rs, show_errors, stop_on_error, area_keys, linear_keys, HasPlainValue, name_of, option_words, said, with_option}
 use Rattle.osm_words.specs.declared.settings.Format.{Format}
 use Rattle.osm_words.specs.declared.settings.Format.TheVariants.{GeoJson, GeoJsonSeq, Text as PlainText}
 use Rattle.osm_words.specs.declared.settings.UniqueId.{UniqueId}
-use Rattle.osm_words.specs.declared.settings.UniqueId.TheVariants.{Counter, TypeId}
 use Rattle.osm_words.proofs.Walk.{Ends, ends, row_for, rows_with}
 use Rattle.osm_words.proofs.Taken.{given, taken, value_in}
-use Rattle.osm_words.proofs.PlainAnswers.{flag_said}
-use Rattle.osm_words.proofs.ExportOptions.{export_ends_well, export_options, top, value_text}
+use Rattle.osm_words.proofs.PlainAnswers.{flag_said, ids_read}
+use Rattle.osm_words.proofs.ExportOptions.{export_ends_well, export_file, export_options, top, value_text}
 
 abbrev option_rows : List (Form × ExportOption) → List Row
-option_rows options = rows_with top (codes "file") export_options options
+option_rows options = rows_with top export_options options
 
 -- ---- what the words say
 
@@ -40,10 +40,6 @@ format_read : (f : Format) → format_named (format_text f) ≡ Some f
 format_read GeoJson = refl
 format_read GeoJsonSeq = refl
 format_read PlainText = refl
-
-ids_read : (i : UniqueId) → ids_said (Some (ids_text i)) ≡ Some (Some i)
-ids_read Counter = refl
-ids_read TypeId = refl
 
 say_more : (c : ExportOption) (rows : List Row) (s : ExportSettings) → HasPlainValue c → Say rows s → Say (row_for (name_of c) (value_text c) ∷ rows) (with_option c s)
 say_more (format f) rows s plain more = record { format = format_read f; output = more.output; overwrite = more.overwrite; keep_untagged = more.keep_untagged; ids = more.ids; omit_rs = more.omit_rs; show_errors = more.show_errors; stop_on_error = more.stop_on_error; area_keys = more.area_keys; linear_keys = more.linear_keys; file = more.file }
@@ -96,11 +92,11 @@ plain_export : (options : List (Form × ExportOption)) (file : Text) → ArePlai
 plain_export options file plain =
     let words = plain_words option_words options file in
     let used = option_rows options in
-    let end : Ends top (codes "file") words [] None used file = ends top (codes "file") export_options options file plain.once plain.values plain.file_name in
+    let end : Ends top (codes "file") words used file = ends top export_options (codes "file") export_file options file plain.once plain.values plain.file_name in
     let rows = matches_of export_app (export_words options file) in
     let found : settings_said rows ≡ Ok (said options file) =
-    read_by rows (used ++ row_for (codes "file") file ∷ []) (said options file) (say options file plain.values) (given top (codes "file") export_ends_well words used file end) in
-    ap₂ unless_refused (taken top (codes "file") export_ends_well words used file end) found
+    read_by rows (used ++ row_for (codes "file") file ∷ []) (said options file) (say options file plain.values) (given top [] (codes "file") export_ends_well words used file end) in
+    ap₂ unless_refused (taken top [] (codes "file") export_ends_well words used file tt end) found
 
 pub plain_words_asked : (options : List (Form × ExportOption)) (file : Text) → ArePlain options file → job_asked (export_words options file) ≡ Ok (export (said options file))
 plain_words_asked options file plain = ap (as_job export) (plain_export options file plain)

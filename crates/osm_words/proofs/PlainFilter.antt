@@ -1,5 +1,5 @@
 -- Plain words of `coast-filter` are taken, and give what they say. No public contract cites it.
-use Rattle.std.proofs.Common.{◌≡◌, ◌++◌, ◌∙◌, List, [], ◌∷◌, Option, None, Ok, codes, refl, ap, ap₂}
+use Rattle.std.proofs.Common.{◌≡◌, ◌++◌, ◌∙◌, List, [], ◌∷◌, Option, Ok, codes, refl, ap, ap₂}
 use Rattle.std.specs.Prelude.{unwrap_or}
 use Rattle.clap.specs.Words.{Row, Text, first_of, matches_of}
 use Rattle.osm_words.specs.FilterCommand.{filter_app}
@@ -12,10 +12,10 @@ use Rattle.osm_words.specs.PlainFilter.{ArePlainFilter, FilterOption, filter_wor
 use Rattle.osm_words.proofs.Walk.{Ends, ends, row_for, rows_with}
 use Rattle.osm_words.proofs.Taken.{given, taken, value_in}
 use Rattle.osm_words.proofs.PlainAnswers.{flag_said}
-use Rattle.osm_words.proofs.FilterOptions.{filter_ends_well, filter_options, top, value_text}
+use Rattle.osm_words.proofs.FilterOptions.{filter_ends_well, filter_file, filter_options, top, value_text}
 
 abbrev option_rows : List (Form × FilterOption) → List Row
-option_rows options = rows_with top (codes "file") filter_options options
+option_rows options = rows_with top filter_options options
 
 -- ---- what the words say
 
@@ -47,12 +47,12 @@ plain_filter : (options : List (Form × FilterOption)) (file : Text) → ArePlai
 plain_filter options file plain =
     let words = plain_words option_words options file in
     let used = option_rows options in
-    let end : Ends top (codes "file") words [] None used file = ends top (codes "file") filter_options options file plain.once plain.values plain.file_name in
+    let end : Ends top (codes "file") words used file = ends top filter_options (codes "file") filter_file options file plain.once plain.values plain.file_name in
     let rows = matches_of filter_app (filter_words options file) in
     let found : settings_said rows ≡ said_filter options file =
     read_by rows (used ++ row_for (codes "file") file ∷ []) (said_filter options file) (say options file)
-    (given top (codes "file") filter_ends_well words used file end) in
-    ap₂ unless_refused (taken top (codes "file") filter_ends_well words used file end) (ap Ok found)
+    (given top [] (codes "file") filter_ends_well words used file end) in
+    ap₂ unless_refused (taken top [] (codes "file") filter_ends_well words used file tt end) (ap Ok found)
 
 pub plain_filter_asked : (options : List (Form × FilterOption)) (file : Text) → ArePlainFilter options file
     → job_asked (filter_words options file) ≡ Ok (filter (said_filter options file))

@@ -7,6 +7,7 @@ use Rattle.std.proofs.lemmas.Bool.Decides.{nat_tests}
 use Rattle.clap.specs.Words.{Kinds, Shape, Text, built, first_of, matches_of}
 use Rattle.clap.specs.Kinds.{check_kinds, or_else}
 use Rattle.clap.specs.Faults.{walk_fault}
+use Rattle.clap.specs.Walk.{Walk}
 use Rattle.clap.proofs.OnLiterals.{clap_on_literals}
 use Rattle.osm_words.specs.Job.{sample}
 use Rattle.osm_words.specs.Parsed.{unless_refused}
@@ -15,7 +16,7 @@ use Rattle.osm_words.specs.PlainWords.{begins_with_dash}
 use Rattle.osm_words.specs.SampleCommand.{sample_app}
 use Rattle.osm_words.specs.SampleWords.{count_named, count_said, in_range, sample_asked, where_count}
 use Rattle.osm_words.specs.Words.{as_job, job_asked}
-use Rattle.osm_words.proofs.Walk.{Ends, TakesLast, ready_value}
+use Rattle.osm_words.proofs.Walk.{Ends, TakesWord, ready_none, ready_value, word_passes, word_walks}
 use Rattle.osm_words.proofs.Taken.{EndsWell, given, taken}
 
 abbrev top : Shape
@@ -45,36 +46,36 @@ no_dash (a ∷ rest) count is = go (a == 45) refl
 
 -- ---- the command takes it
 
-takes_word : (word : Text) → begins_with_dash word ≡ false → TakesLast top (codes "count") word
+takes_word : (word : Text) → begins_with_dash word ≡ false → TakesWord top 1 (codes "count") word
 unfolding clap_on_literals
 takes_word [] plain = record { walks = λ rows pending. refl; asks = λ rows pending. refl }
 takes_word (a ∷ word) plain = record { walks = λ rows pending. simp plain; asks = λ rows pending. simp plain }
 
 -- the last word is the only one
-alone : (s : Shape) (name word : Text) → TakesLast s name word → Ends s name (word ∷ []) [] None [] word
+alone : (s : Shape) (name word : Text) → TakesWord s 1 name word → Ends s name (word ∷ []) [] word
 unfolding walk_fault
 alone s name word takes = record {
-  walks = takes.walks [] None;
-  passes = ap (λ (k : Kinds). or_else k []) (takes.asks [] None);
+  holds = ap (λ (w : Walk). w.held) (word_walks s 1 name word takes [] None [] (ready_none s []));
+  passes = ap (λ (k : Kinds). or_else k []) (word_passes s 1 name word takes [] None [] (ready_none s []));
   new = refl;
 }
 
 -- the command asks for nothing else
-ends_well : EndsWell top (codes "count")
+ends_well : EndsWell top [] (codes "count")
 ends_well = record {
   ready = λ word rows new. ready_value top (codes "count") word rows new refl refl;
   defaults = (refl, tt);
-  checks = λ rows given. ap (λ (is : Bool). check_kinds false false (not is || false)) given;
+  checks = λ rows before given. ap (λ (is : Bool). check_kinds false false (not is || false)) given;
 }
 
 plain_sample : (written : Text) (count : ℕ) → IsPlainCount written count → sample_asked (sample_words written) ≡ Ok count
 plain_sample written count plain =
     let end = alone top (codes "count") written (takes_word written (no_dash written count plain)) in
     let word_is : first_of (codes "count") (matches_of sample_app (sample_words written)) ≡ Some written =
-    given top (codes "count") ends_well (written ∷ []) [] written end (codes "count") in
+    given top [] (codes "count") ends_well (written ∷ []) [] written end (codes "count") in
     let found : count_said (matches_of sample_app (sample_words written)) ≡ Ok count =
     ap (λ (o : Option Text). in_range (count_named (unwrap_or o []))) word_is ∙ ap in_range plain in
-    ap₂ unless_refused (taken top (codes "count") ends_well (written ∷ []) [] written end) found
+    ap₂ unless_refused (taken top [] (codes "count") ends_well (written ∷ []) [] written tt end) found
 
 pub plain_sample_asked : (written : Text) (count : ℕ) → IsPlainCount written count → job_asked (sample_words written) ≡ Ok (sample count)
 plain_sample_asked written count plain = ap (as_job sample) (plain_sample written count plain)

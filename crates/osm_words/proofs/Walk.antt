@@ -1,5 +1,6 @@
 -- The walk of `clap` over plain words, of any command without subcommands (`s`, as it is built). No public contract cites it.
-use Rattle.std.proofs.Common.{◌≡◌, ◌&&◌, ◌||◌, ◌++◌, ◌∙◌, if◌then◌else◌, Bool, cond, true, false, List, [], ◌∷◌, Option, Some, None, codes, refl, sym, ap, ap₂, append-nil, append_assoc, true≢false}
+use Rattle.std.proofs.Common.{◌≡◌, ◌&&◌, ◌||◌, ◌++◌, ◌∙◌, if◌then◌else◌, ℕ, suc, Bool, cond, true, false, List, [], ◌∷◌, Option, Some, None, codes}
+use Rattle.std.proofs.Common.{refl, sym, ap, ap₂, append-nil, append_assoc, subst, true≢false}
 use Rattle.std.specs.List.{fold, list_any}
 use Rattle.std.specs.Option.{option_map_or}
 use Rattle.std.specs.Str.{bytes_eq}
@@ -10,7 +11,7 @@ use Rattle.clap.specs.Walk.{Held, Walk, at_row, has_row, idle, more_values, opti
 use Rattle.clap.specs.declared.builder.value_parser.Reading.TheVariants.{AsWritten}
 use Rattle.clap.specs.declared.error.kind.ErrorKind.TheVariants.{ArgumentConflict}
 use Rattle.clap.specs.declared.parser.matches.ValueSource.TheVariants.{CommandLine}
-use Rattle.osm_words.specs.PlainWords.{Form, HavePlainValues, IsFileName, StandOnce, plain_words}
+use Rattle.osm_words.specs.PlainWords.{Form, HavePlainValues, IsFileName, StandOnce, plain_words, plain_words_of_two, words_of_options}
 use Rattle.std.proofs.Math.Bool.{and-false}
 use Rattle.std.proofs.lemmas.Bool.{or_parts}
 
@@ -20,9 +21,13 @@ Pending = Option (Text × List Text)
 abbrev pub held_at : List Row → Pending → Held
 held_at rows pending = record { rows = rows; pending = pending; skip = 0 }
 
--- the walk between two options
+-- the walk between two words, where the next word that is no option goes to the positional of this place
+abbrev pub at_place : ℕ → List Row → Pending → Walk
+at_place position rows pending = record { held = held_at rows pending; waiting = idle; position = position; is_trailing = false; stopped = None }
+
+-- and between two options, which stand before all names
 abbrev pub at : List Row → Pending → Walk
-at rows pending = record { held = held_at rows pending; waiting = idle; position = 1; is_trailing = false; stopped = None }
+at = at_place 1
 
 -- the walk between an option and its value
 abbrev pub before_value : Text → List Row → Walk
@@ -77,12 +82,16 @@ pub record Steps (s : Shape) (words : List Text) (rows : List Row) (pending : Pe
   pub walks : fold (walked s.rules []) (at rows pending) words ≡ at later left
   pub faults : (rest : List Text) → walk_fault s [] (at rows pending) (words ++ rest) ≡ walk_fault s [] (at later left) rest
 
--- and so with one more row used
-pub record Moves (s : Shape) (words : List Text) (row : Row) (rows : List Row) (pending : Pending) (used : List Row) : Type 0 where
+-- and so, where what is pending then may be used, and gives the rows `used`
+pub record Leads (s : Shape) (words : List Text) (rows : List Row) (pending : Pending) (used : List Row) : Type 0 where
   pub later : List Row
   pub left : Pending
   pub steps : Steps s words rows pending later left
-  pub ready : Ready s later left (used ++ row ∷ [])
+  pub ready : Ready s later left used
+
+-- and so with one more row used
+abbrev pub Moves : Shape → List Text → Row → List Row → Pending → List Row → Type 0
+Moves s words row rows pending used = Leads s words rows pending (used ++ row ∷ [])
 
 one_word : (s : Shape) (word : Text) (rows : List Row) (pending : Pending) (later : List Row) (left : Pending)
     → walked s.rules [] (at rows pending) word ≡ at later left → turn_fault s [] (at rows pending) word ≡ [] → Steps s (word ∷ []) rows pending later left
@@ -146,11 +155,7 @@ option_moves s word name value rows pending used ready new takes walks turn = re
   ready = takes.ready used new;
 }
 
--- ---- the last word, of a positional
-
--- the walk after it
-abbrev pub at_end : Text → List Row → Text → Walk
-at_end name rows file = record { held = held_at rows (Some (name, file ∷ [])); waiting = idle; position = 2; is_trailing = false; stopped = None }
+-- ---- a word of a positional
 
 abbrev pub asks_settled : Shape → List Row → Pending → Bool → Kinds
 asks_settled s rows pending several = if several then [] else settle_fault s.rules s.args_override_self (held_at rows pending)
@@ -158,27 +163,42 @@ asks_settled s rows pending several = if several then [] else settle_fault s.rul
 abbrev pub is_pending_for : Text → Pending → Bool
 is_pending_for name pending = option_map_or (λ q. bytes_eq q.0 name) pending false
 
-abbrev pub last_pushed : Shape → Text → List Row → Pending → Text → Bool → Walk
-last_pushed s name rows pending file several = record {
-  held = pushed name file (if several then held_at rows pending else settled s.rules (held_at rows pending));
+abbrev pub name_pushed : Shape → ℕ → Text → List Row → Pending → Text → Bool → Walk
+name_pushed s position name rows pending word several = record {
+  held = pushed name word (if several then held_at rows pending else settled s.rules (held_at rows pending));
   waiting = idle;
-  position = 2;
+  position = suc position;
   is_trailing = false;
   stopped = None;
 }
 
--- the command's one positional takes the word
-pub record TakesLast (s : Shape) (name file : Text) : Type 0 where
-  pub walks : (rows : List Row) (pending : Pending) → walked s.rules [] (at rows pending) file ≡ last_pushed s name rows pending file (is_pending_for name pending && false)
-  pub asks : (rows : List Row) (pending : Pending) → turn_fault s [] (at rows pending) file ≡ asks_settled s rows pending (is_pending_for name pending && false)
+-- the positional of this place and name takes the word
+pub record TakesWord (s : Shape) (position : ℕ) (name word : Text) : Type 0 where
+  pub walks : (rows : List Row) (pending : Pending)
+      → walked s.rules [] (at_place position rows pending) word ≡ name_pushed s position name rows pending word (is_pending_for name pending && false)
+  pub asks : (rows : List Row) (pending : Pending)
+      → turn_fault s [] (at_place position rows pending) word ≡ asks_settled s rows pending (is_pending_for name pending && false)
+
+module _ (s : Shape) (position : ℕ) (name word : Text) (takes : TakesWord s position name word) where
+  -- what was pending is used, and the word is pending
+  pub word_walks : (rows : List Row) (pending : Pending) (used : List Row) → Ready s rows pending used
+      → walked s.rules [] (at_place position rows pending) word ≡ at_place (suc position) used (Some (name, word ∷ []))
+  word_walks rows pending used ready =
+      takes.walks rows pending ∙ ap (name_pushed s position name rows pending word) (and-false (is_pending_for name pending))
+      ∙ ap (λ (r : List Row). at_place (suc position) r (Some (name, word ∷ []))) ready.settles
+
+  pub word_passes : (rows : List Row) (pending : Pending) (used : List Row) → Ready s rows pending used
+      → turn_fault s [] (at_place position rows pending) word ≡ []
+  word_passes rows pending used ready =
+      takes.asks rows pending ∙ ap (asks_settled s rows pending) (and-false (is_pending_for name pending)) ∙ ready.passes
 
 -- ---- all words
 
--- the walk over the words ends with these rows and the file, and without a fault
-pub record Ends (s : Shape) (name : Text) (words : List Text) (rows : List Row) (pending : Pending) (used : List Row) (file : Text) : Type 0 where
-  pub walks : fold (walked s.rules []) (at rows pending) words ≡ at_end name used file
-  pub passes : walk_fault s [] (at rows pending) words ≡ []
-  pub new : has_row name used ≡ false
+-- the walk over the words ends with these rows and the last name pending, and without a fault
+pub record Ends (s : Shape) (last : Text) (words : List Text) (used : List Row) (word : Text) : Type 0 where
+  pub holds : (fold (walked s.rules []) (at [] None) words).held ≡ held_at used (Some (last, word ∷ []))
+  pub passes : walk_fault s [] (at [] None) words ≡ []
+  pub new : has_row last used ≡ false
 
 fold_join : (f : Walk → Text → Walk) (start : Walk) (xs ys : List Text) → fold f start (xs ++ ys) ≡ fold f (fold f start xs) ys
 fold_join f start [] ys = refl
@@ -193,18 +213,22 @@ has_row_more id (x ∷ xs) r none other = go (bytes_eq x.id id) none (λ rest. h
     go false rest more = more rest
 
 -- what a command's options are, and that its walk takes each
-pub record Options (s : Shape) (last : Text) : Type 1 where
+pub record Options (s : Shape) : Type 1 where
   pub Choice : Type 0
   pub name_of : Choice → Text
   pub value_of : Choice → Text
   pub words_of : Form → Choice → List Text
   pub HasPlainValue : Choice → Type 0
-  pub not_last : (c : Choice) → bytes_eq (name_of c) last ≡ false
   pub moves : (form : Form) (c : Choice) (rows : List Row) (pending : Pending) (used : List Row) → Ready s rows pending used → has_row (name_of c) used ≡ false
       → HasPlainValue c → Moves s (words_of form c) (row_for (name_of c) (value_of c)) rows pending used
-  pub takes_last : (file : Text) → IsFileName file → TakesLast s last file
 
-module _ (s : Shape) (last : Text) (o : Options s last) where
+-- a name behind the options: no option has the name of its positional, which takes each name of a file and may be used then
+pub record Named (s : Shape) (o : Options s) (position : ℕ) (name : Text) : Type 0 where
+  pub no_option : (c : o.Choice) → bytes_eq (o.name_of c) name ≡ false
+  pub takes : (word : Text) → IsFileName word → TakesWord s position name word
+  pub ready : (word : Text) (rows : List Row) → has_row name rows ≡ false → Ready s rows (Some (name, word ∷ [])) (rows ++ row_for name word ∷ [])
+
+module _ (s : Shape) (o : Options s) where
   abbrev pub row_of : o.Choice → Row
   row_of c = row_for (o.name_of c) (o.value_of c)
 
@@ -228,36 +252,88 @@ module _ (s : Shape) (last : Text) (o : Options s last) where
   all_new [] = tt
   all_new (first ∷ others) = (refl, all_new others)
 
-  ends_from : (options : List (Form × o.Choice)) (file : Text) (rows : List Row) (pending : Pending) (used : List Row) → Ready s rows pending used
-      → AreNew used options → StandOnce o.name_of options → HavePlainValues o.HasPlainValue options → has_row last used ≡ false → IsFileName file
-      → Ends s last (plain_words o.words_of options file) rows pending (used ++ rows_with options) file
-  unfolding walk_fault
-  ends_from [] file rows pending used ready new once plain none named =
-      let takes = o.takes_last file named in
-      let at_once : walked s.rules [] (at rows pending) file ≡ at_end last used file =
-      takes.walks rows pending ∙ ap (last_pushed s last rows pending file) (and-false (is_pending_for last pending))
-      ∙ ap (λ (r : List Row). at_end last r file) ready.settles in
-      let passes : turn_fault s [] (at rows pending) file ≡ [] =
-      takes.asks rows pending ∙ ap (asks_settled s rows pending) (and-false (is_pending_for last pending)) ∙ ready.passes in
-      record {
-        walks = at_once ∙ ap (λ (r : List Row). at_end last r file) (sym (append-nil used));
-        passes = ap (λ (k : Kinds). or_else k []) passes;
-        new = ap (has_row last) (append-nil used) ∙ none;
-      }
-  ends_from (first ∷ others) file rows pending used ready new once plain none named =
+  -- the options lead on, with a row for each in their order
+  leads_from : (options : List (Form × o.Choice)) (rows : List Row) (pending : Pending) (used : List Row) → Ready s rows pending used
+      → AreNew used options → StandOnce o.name_of options → HavePlainValues o.HasPlainValue options
+      → Leads s (words_of_options o.words_of options) rows pending (used ++ rows_with options)
+  leads_from [] rows pending used ready new once plain = record {
+    later = rows;
+    left = pending;
+    steps = record { walks = refl; faults = λ rest. refl };
+    ready = subst (Ready s rows pending) (sym (append-nil used)) ready;
+  }
+  leads_from (first ∷ others) rows pending used ready new once plain =
+      let words = o.words_of first.0 first.1 in
+      let more = words_of_options o.words_of others in
       let moved = o.moves first.0 first.1 rows pending used ready new.0 plain.0 in
-      let rest = ends_from others file moved.later moved.left (used ++ row_of first.1 ∷ []) moved.ready (still_new first.1 used others new.1 once.0) once.1 plain.1
-      (has_row_more last used (row_of first.1) none (o.not_last first.1)) named in
-      let joined : (used ++ row_of first.1 ∷ []) ++ rows_with others ≡ used ++ row_of first.1 ∷ rows_with others = append_assoc used (row_of first.1 ∷ []) (rows_with others) in
+      let others_new = still_new first.1 used others new.1 once.0 in
+      let rest = leads_from others moved.later moved.left (used ++ row_of first.1 ∷ []) moved.ready others_new once.1 plain.1 in
       record {
-        walks = fold_join (walked s.rules []) (at rows pending) (o.words_of first.0 first.1) (plain_words o.words_of others file)
-            ∙ ap (λ (from : Walk). fold (walked s.rules []) from (plain_words o.words_of others file)) moved.steps.walks
-            ∙ rest.walks ∙ ap (λ (r : List Row). at_end last r file) joined;
-        passes = moved.steps.faults (plain_words o.words_of others file) ∙ rest.passes;
-        new = ap (has_row last) (sym joined) ∙ rest.new;
+        later = rest.later;
+        left = rest.left;
+        steps = record {
+          walks = fold_join (walked s.rules []) (at rows pending) words more
+              ∙ ap (λ (from : Walk). fold (walked s.rules []) from more) moved.steps.walks ∙ rest.steps.walks;
+          faults = λ behind. ap (walk_fault s [] (at rows pending)) (append_assoc words more behind) ∙ moved.steps.faults (more ++ behind)
+              ∙ rest.steps.faults behind;
+        };
+        ready = subst (Ready s rest.later rest.left) (append_assoc used (row_of first.1 ∷ []) (rows_with others)) rest.ready;
       }
 
-  -- plain words end with a row for each option, in their order, and one for the file
-  pub ends : (options : List (Form × o.Choice)) (file : Text) → StandOnce o.name_of options → HavePlainValues o.HasPlainValue options → IsFileName file
-      → Ends s last (plain_words o.words_of options file) [] None (rows_with options) file
-  ends options file once plain named = ends_from options file [] None [] (ready_none s []) (all_new options) once plain refl named
+  leads : (options : List (Form × o.Choice)) → StandOnce o.name_of options → HavePlainValues o.HasPlainValue options
+      → Leads s (words_of_options o.words_of options) [] None (rows_with options)
+  leads options once plain = leads_from options [] None [] (ready_none s []) (all_new options) once plain
+
+  pub no_row : (name : Text) → ((c : o.Choice) → bytes_eq (o.name_of c) name ≡ false)
+      → (options : List (Form × o.Choice)) → has_row name (rows_with options) ≡ false
+  no_row name other [] = refl
+  no_row name other (first ∷ others) = ap₂ (λ (a b : Bool). a || b) (other first.1) (no_row name other others)
+
+  -- plain words end with a row for each option, in their order, and the file pending
+  pub ends : (last : Text) → Named s o 1 last → (options : List (Form × o.Choice)) (file : Text) → StandOnce o.name_of options
+      → HavePlainValues o.HasPlainValue options → IsFileName file → Ends s last (plain_words o.words_of options file) (rows_with options) file
+  unfolding walk_fault
+  ends last named options file once plain is_name =
+      let words = words_of_options o.words_of options in
+      let led = leads options once plain in
+      let takes = named.takes file is_name in
+      let walks : walked s.rules [] (at led.later led.left) file ≡ at_place 2 (rows_with options) (Some (last, file ∷ [])) =
+      word_walks s 1 last file takes led.later led.left (rows_with options) led.ready in
+      let passes : turn_fault s [] (at led.later led.left) file ≡ [] = word_passes s 1 last file takes led.later led.left (rows_with options) led.ready in
+      record {
+        holds = ap (λ (w : Walk). w.held) (fold_join (walked s.rules []) (at [] None) words (file ∷ [])
+            ∙ ap (λ (from : Walk). walked s.rules [] from file) led.steps.walks ∙ walks);
+        passes = led.steps.faults (file ∷ []) ∙ ap (λ (k : Kinds). or_else k []) passes;
+        new = no_row last named.no_option options;
+      }
+
+  -- and so with two names: the first has its row too, and the second is pending
+  pub ends_of_two : (first last : Text) → Named s o 1 first → Named s o 2 last → bytes_eq first last ≡ false
+      → (options : List (Form × o.Choice)) (file second : Text) → StandOnce o.name_of options
+      → HavePlainValues o.HasPlainValue options → IsFileName file → IsFileName second
+      → Ends s last (plain_words_of_two o.words_of options file second) (rows_with options ++ row_for first file ∷ []) second
+  unfolding walk_fault
+  ends_of_two first last file_named second_named other options file second once plain is_file is_second =
+      let words = words_of_options o.words_of options in
+      let used = rows_with options in
+      let both = used ++ row_for first file ∷ [] in
+      let led = leads options once plain in
+      let takes = file_named.takes file is_file in
+      let takes_second = second_named.takes second is_second in
+      let ready : Ready s used (Some (first, file ∷ [])) both = file_named.ready file used (no_row first file_named.no_option options) in
+      let walks : walked s.rules [] (at led.later led.left) file ≡ at_place 2 used (Some (first, file ∷ [])) =
+      word_walks s 1 first file takes led.later led.left used led.ready in
+      let passes : turn_fault s [] (at led.later led.left) file ≡ [] = word_passes s 1 first file takes led.later led.left used led.ready in
+      let walks_on : walked s.rules [] (at_place 2 used (Some (first, file ∷ []))) second ≡ at_place 3 both (Some (last, second ∷ [])) =
+      word_walks s 2 last second takes_second used (Some (first, file ∷ [])) both ready in
+      let passes_on : turn_fault s [] (at_place 2 used (Some (first, file ∷ []))) second ≡ [] =
+      word_passes s 2 last second takes_second used (Some (first, file ∷ [])) both ready in
+      record {
+        holds = ap (λ (w : Walk). w.held) (fold_join (walked s.rules []) (at [] None) words (file ∷ second ∷ [])
+            ∙ ap (λ (from : Walk). walked s.rules [] (walked s.rules [] from file) second) led.steps.walks
+            ∙ ap (λ (from : Walk). walked s.rules [] from second) walks ∙ walks_on);
+        passes = led.steps.faults (file ∷ second ∷ [])
+            ∙ ap₂ (λ (k : Kinds) (w : Walk). or_else k (or_else (turn_fault s [] w second) [])) passes walks
+            ∙ ap (λ (k : Kinds). or_else k []) passes_on;
+        new = has_row_more last used (row_for first file) (no_row last second_named.no_option options) other;
+      }

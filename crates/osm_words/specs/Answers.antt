@@ -2,12 +2,16 @@
 use Rattle.std.specs.Prelude.{◌≡◌, ℕ, List, Option, Some, None, Result, Ok, Err, ⊤}
 use Rattle.std.specs.Borrow.{Bor}
 use Rattle.opl_reader.specs.Keys.{keys_said}
-use Rattle.osm_words.specs.Job.{CoastlineSettings, ExportSettings, FilterSettings, Job, coastline, export, filter, sample}
+use Rattle.osm_words.specs.Job.{CertifySettings, CoastlineSettings, ExportSettings, FilterSettings, Job, LocateSettings}
+use Rattle.osm_words.specs.Job.{certify, coastline, export, filter, locate, sample}
+use Rattle.osm_words.specs.declared.settings.CertifySettings.{CertifySettings as CodeCertify}
 use Rattle.osm_words.specs.declared.settings.CoastlineSettings.{CoastlineSettings as CodeCoastline}
 use Rattle.osm_words.specs.declared.settings.ExportSettings.{ExportSettings as CodeSettings}
 use Rattle.osm_words.specs.declared.settings.FilterSettings.{FilterSettings as CodeFilter}
 use Rattle.osm_words.specs.declared.settings.Job.{Job as CodeJob}
 use Rattle.osm_words.specs.declared.settings.Job.TheVariants.{Coastline as code_coastline, Export as code_export, Filter as code_filter, Sample as code_sample}
+use Rattle.osm_words.specs.declared.settings.Job.TheVariants.{Certify as code_certify, Locate as code_locate}
+use Rattle.osm_words.specs.declared.settings.LocateSettings.{LocateSettings as CodeLocate}
 use Rattle.osm_words.specs.declared.settings.SampleSettings.{SampleSettings as CodeSample}
 use Rattle.osm_words.specs.declared.fault.WordsFault.{WordsFault}
 use Rattle.osm_words.specs.declared.fault.WordsError.{WordsError}
@@ -51,11 +55,34 @@ sample_seen s = s.count
 abbrev pub filter_seen : CodeFilter → FilterSettings
 filter_seen s = record { file = s.file.now; output = s.output.now; overwrite = s.overwrite }
 
+abbrev pub certify_seen : CodeCertify → CertifySettings
+certify_seen s = record {
+  file = s.file.now;
+  text = s.text.now;
+  keep_untagged = s.keep_untagged;
+  ids = s.ids;
+  area_keys = keys_seen s.area_keys;
+  linear_keys = keys_seen s.linear_keys;
+}
+
+abbrev pub locate_seen : CodeLocate → LocateSettings
+locate_seen s = record {
+  file = s.file.now;
+  points = s.points.now;
+  output = s.output.now;
+  overwrite = s.overwrite;
+  keep_untagged = s.keep_untagged;
+  area_keys = keys_seen s.area_keys;
+  linear_keys = keys_seen s.linear_keys;
+}
+
 abbrev pub job_seen : CodeJob → Job
 job_seen (code_export settings) = export (settings_seen settings)
 job_seen (code_coastline settings) = coastline (coastline_seen settings)
 job_seen (code_sample settings) = sample (sample_seen settings)
 job_seen (code_filter settings) = filter (filter_seen settings)
+job_seen (code_certify settings) = certify (certify_seen settings)
+job_seen (code_locate settings) = locate (locate_seen settings)
 
 -- the answer is what was asked
 abbrev pub Answers : Result Job WordsFault → Result CodeJob WordsError → Type 0

@@ -15,7 +15,7 @@ long_option_rule name = record (new_rule name) { long = Some name; action = Some
 abbrev pub flag_rule : Text → ℕ → Text → Rule
 flag_rule name letter long = record (new_rule name) { short = Some letter; long = Some long; action = Some SetTrue }
 
--- the one word that is no option, which has to be there
+-- a word that is no option, which has to be there; the first that `clap` is told of takes the first such word
 abbrev pub positional_rule : Text → Rule
 positional_rule name = record (new_rule name) { required = true; action = Some Set }
 

@@ -1,19 +1,18 @@
 -- What the words of `export` ask for: what `clap` finds in them, and then the ranges of the values.
-use Rattle.std.specs.Prelude.{ℕ, List, [], Option, Some, None, Result, Ok, Err, codes, if◌then◌else◌, option_map, unwrap_or}
+use Rattle.std.specs.Prelude.{ℕ, List, [], Option, Some, None, Result, Ok, Err, codes, if◌then◌else◌, unwrap_or}
 use Rattle.std.specs.Str.{bytes_eq}
 use Rattle.clap.specs.Words.{Row, fault_of, first_of, matches_of}
-use Rattle.opl_reader.specs.Keys.{keys_said}
 use Rattle.osm_words.specs.Job.{ExportSettings}
 use Rattle.osm_words.specs.ExportCommand.{export_app}
 use Rattle.osm_words.specs.Parsed.{is_set, unless_refused}
+use Rattle.osm_words.specs.Ranges.{ids_said, keys_asked}
 use Rattle.osm_words.specs.declared.settings.Format.{Format}
 use Rattle.osm_words.specs.declared.settings.Format.TheVariants.{GeoJson, GeoJsonSeq, Text as PlainText}
 use Rattle.osm_words.specs.declared.settings.UniqueId.{UniqueId}
-use Rattle.osm_words.specs.declared.settings.UniqueId.TheVariants.{Counter, TypeId}
 use Rattle.osm_words.specs.declared.fault.WordsFault.{WordsFault}
 use Rattle.osm_words.specs.declared.fault.WordsFault.TheVariants.{OutOfRange}
 
--- ---- the ranges of the values
+-- ---- the range of the format
 
 abbrev pub format_named : List ℕ → Option Format
 format_named word =
@@ -21,25 +20,10 @@ format_named word =
     else if bytes_eq word (codes "geojsonseq") then Some GeoJsonSeq
     else if bytes_eq word (codes "text") then Some PlainText else None
 
-abbrev pub ids_named : List ℕ → Option UniqueId
-ids_named word =
-    if bytes_eq word (codes "counter") then Some Counter
-    else if bytes_eq word (codes "type_id") then Some TypeId else None
-
 -- the format of a value; geojson where there is none
 abbrev pub format_said : Option (List ℕ) → Option Format
 format_said None = Some GeoJson
 format_said (Some word) = format_named word
-
--- the ids of a value; where there is none, areas get none
-abbrev pub ids_said : Option (List ℕ) → Option (Option UniqueId)
-ids_said None = Some None
-ids_said (Some word) = option_map (λ ids. Some ids) (ids_named word)
-
--- the keys of a value; where there is none, no list is given
-abbrev pub keys_asked : Option (List ℕ) → Option (Option (List (List ℕ)))
-keys_asked None = Some None
-keys_asked (Some written) = option_map (λ keys. Some keys) (keys_said written)
 
 -- ---- what was found
 

@@ -45,9 +45,38 @@ pub record FilterSettings : Type 0 where
   pub output : List ℕ
   pub overwrite : Bool
 
+-- of `certify`
+pub record CertifySettings : Type 0 where
+  -- the name of the input
+  pub file : List ℕ
+  -- the name of the text that is certified
+  pub text : List ℕ
+  pub keep_untagged : Bool
+  -- None where areas get no ids
+  pub ids : Option UniqueId
+  -- None where no such list is given
+  pub area_keys : Option (List (List ℕ))
+  pub linear_keys : Option (List (List ℕ))
+
+-- of `locate`
+pub record LocateSettings : Type 0 where
+  -- the name of the input
+  pub file : List ℕ
+  -- the name of the points
+  pub points : List ℕ
+  -- the name of the output
+  pub output : List ℕ
+  pub overwrite : Bool
+  pub keep_untagged : Bool
+  -- None where no such list is given
+  pub area_keys : Option (List (List ℕ))
+  pub linear_keys : Option (List (List ℕ))
+
 pub data Job : Type 0 where
   export : ExportSettings → Job
   coastline : CoastlineSettings → Job
   -- of a square of so many cells a side
   sample : ℕ → Job
   filter : FilterSettings → Job
+  certify : CertifySettings → Job
+  locate : LocateSettings → Job

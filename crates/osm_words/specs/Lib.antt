@@ -1,6 +1,7 @@
 pub mod Job
 pub mod Arguments
 pub mod Parsed
+pub mod Ranges
 pub mod Degrees
 pub mod Number
 pub mod ExportCommand
@@ -11,6 +12,10 @@ pub mod SampleCommand
 pub mod SampleWords
 pub mod FilterCommand
 pub mod FilterWords
+pub mod CertifyCommand
+pub mod CertifyWords
+pub mod LocateCommand
+pub mod LocateWords
 pub mod Words
 pub mod Answers
 pub mod PlainWords
@@ -18,4 +23,6 @@ pub mod PlainExport
 pub mod PlainCoastline
 pub mod PlainSample
 pub mod PlainFilter
+pub mod PlainCertify
+pub mod PlainLocate
 pub mod Private

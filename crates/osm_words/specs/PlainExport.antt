@@ -73,6 +73,10 @@ name_of stop_on_error = codes "stop-on-error"
 name_of (area_keys written keys) = codes "area-keys"
 name_of (linear_keys written keys) = codes "linear-keys"
 
+-- keys as they are written, and what they are
+abbrev pub ArePlainKeys : List ℕ → List (List ℕ) → Type 0
+ArePlainKeys written keys = (begins_with_dash written ≡ false) × (keys_said written ≡ Some keys)
+
 abbrev pub HasPlainValue : ExportOption → Type 0
 HasPlainValue (format f) = ⊤
 HasPlainValue (output name) = begins_with_dash name ≡ false
@@ -82,8 +86,8 @@ HasPlainValue (ids i) = ⊤
 HasPlainValue omit_rs = ⊤
 HasPlainValue show_errors = ⊤
 HasPlainValue stop_on_error = ⊤
-HasPlainValue (area_keys written keys) = (begins_with_dash written ≡ false) × (keys_said written ≡ Some keys)
-HasPlainValue (linear_keys written keys) = (begins_with_dash written ≡ false) × (keys_said written ≡ Some keys)
+HasPlainValue (area_keys written keys) = ArePlainKeys written keys
+HasPlainValue (linear_keys written keys) = ArePlainKeys written keys
 
 -- Each option stands at most once, keys are what is written, no value begins with a dash, and the file's name doesn't either or is a lone dash.
 abbrev pub ArePlain : List (Form × ExportOption) → List ℕ → Type 0

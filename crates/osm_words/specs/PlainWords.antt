@@ -1,4 +1,4 @@
--- Plain words of a command: options, each at most once, and behind them a file.
+-- Plain words of a command: options, each at most once, and behind them a file, or a file and a second input.
 use Rattle.std.specs.Prelude.{◌≡◌, ◌==◌, ◌⊎◌, ℕ, Bool, false, List, [], ◌∷◌, ◌++◌, codes, ⊤}
 use Rattle.std.specs.List.{list_any}
 use Rattle.std.specs.Str.{bytes_eq}
@@ -8,10 +8,18 @@ pub data Form : Type 0 where
   letter : Form
   long : Form
 
--- the words of options and a file, where `words` writes one option
+-- the words of options, where `words` writes one of them
+abbrev pub words_of_options : {C : Type 0} → (Form → C → List (List ℕ)) → List (Form × C) → List (List ℕ)
+words_of_options words [] = []
+words_of_options words (option ∷ others) = words option.0 option.1 ++ words_of_options words others
+
+-- the words of options and a file
 abbrev pub plain_words : {C : Type 0} → (Form → C → List (List ℕ)) → List (Form × C) → List ℕ → List (List ℕ)
-plain_words words [] file = file ∷ []
-plain_words words (option ∷ others) file = words option.0 option.1 ++ plain_words words others file
+plain_words words options file = words_of_options words options ++ file ∷ []
+
+-- the words of options, a file and a second input
+abbrev pub plain_words_of_two : {C : Type 0} → (Form → C → List (List ℕ)) → List (Form × C) → List ℕ → List ℕ → List (List ℕ)
+plain_words_of_two words options file second = words_of_options words options ++ file ∷ second ∷ []
 
 -- its first byte is that of `-`, 45
 abbrev pub begins_with_dash : List ℕ → Bool
@@ -38,6 +46,15 @@ pub record ArePlainWords {C : Type 0} (name_of : C → List ℕ) (HasPlainValue 
   pub once : StandOnce name_of options
   pub values : HavePlainValues HasPlainValue options
   pub file_name : IsFileName file
+
+-- The same with two names: one of them at most is a lone dash, since standard input is read once.
+pub record ArePlainWordsOfTwo {C : Type 0} (name_of : C → List ℕ) (HasPlainValue : C → Type 0) (options : List (Form × C)) (file second : List ℕ)
+    : Type 0 where
+  pub once : StandOnce name_of options
+  pub values : HavePlainValues HasPlainValue options
+  pub file_name : IsFileName file
+  pub second_name : IsFileName second
+  pub not_both : ¬ ((file ≡ codes "-") × (second ≡ codes "-"))
 
 -- what options say, from what is said without them
 abbrev pub said_with : {C S : Type 0} → (C → S → S) → S → List (Form × C) → S

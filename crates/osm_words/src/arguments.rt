@@ -37,7 +37,7 @@ pub(crate) fn flag<'a>(alloc: Global, name: &'a str, letter: char, long: &'a str
         .action(ArgAction::SetTrue)
 }
 
-/// The one word that is no option.
+/// A word that is no option and has to be there. Such words come in the order in which `clap` is told of them.
 pub(crate) fn positional<'a>(alloc: Global, name: &'a str) -> Arg<'a>
     ensures rule { rule_of result ≡ positional_rule name.now }
     ensures local { result.global ≡ false }

@@ -2,9 +2,10 @@
 
 ghost use Rattle.std.specs.Prelude.{◌≤◌};
 
-use crate::tests::words_of;
-use crate::{CoastlineSettings, Job, OutputPolygons, WordsError, WordsFault, job_of};
+use crate::tests::{assert_out_of_range, assert_refused, words_of};
+use crate::{CoastlineSettings, Job, OutputPolygons, job_of};
 use clap::error::ErrorKind;
+use std::alloc::AllocError as OutOfMemory;
 use std::test::Fail;
 
 /// A degree, in units of 1e-7.
@@ -199,8 +200,7 @@ fn degrees_in_range(rt: HostRuntime) -> Result<(), Fail> {
 
 /// The first of the options counts, in the order c, m, b, p.
 #[test]
-fn values_out_of_range(rt: HostRuntime) -> Result<(), Fail> {
-    let alloc = rt.alloc();
+fn values_out_of_range(rt: HostRuntime) -> Result<(), OutOfMemory> {
     let cases = [
         ("coastline -c 360.0000001 -", 'c'),
         ("coastline -c 360.00000005 -", 'c'),
@@ -240,21 +240,11 @@ fn values_out_of_range(rt: HostRuntime) -> Result<(), Fail> {
         ("coastline -c 360 -p neither -", 'p'),
         ("coastline -p sea -c 361 -", 'c'),
     ];
-    for (line, option) in cases {
-        let words = words_of(alloc, line)?;
-        let cause = WordsFault::OutOfRange { option };
-        assert_eq!(rt;
-            job_of(alloc, &words),
-            Err(WordsError::BadWords { cause }),
-            "{line}"
-        );
-    }
-    Ok(())
+    assert_out_of_range(&rt, rt.alloc(), &cases)
 }
 
 #[test]
-fn refused_words(rt: HostRuntime) -> Result<(), Fail> {
-    let alloc = rt.alloc();
+fn refused_words(rt: HostRuntime) -> Result<(), OutOfMemory> {
     let cases = [
         ("coastline", ErrorKind::MissingRequiredArgument),
         ("coastline -c 1", ErrorKind::MissingRequiredArgument),
@@ -275,14 +265,5 @@ fn refused_words(rt: HostRuntime) -> Result<(), Fail> {
         ("coastline - -p", ErrorKind::InvalidValue),
         ("coastline --overwrite=yes -", ErrorKind::TooManyValues),
     ];
-    for (line, kind) in cases {
-        let words = words_of(alloc, line)?;
-        let cause = WordsFault::Refused { kind };
-        assert_eq!(rt;
-            job_of(alloc, &words),
-            Err(WordsError::BadWords { cause }),
-            "{line}"
-        );
-    }
-    Ok(())
+    assert_refused(&rt, rt.alloc(), &cases)
 }

@@ -1,17 +1,17 @@
 //! What the words of `export` say, read from what `clap` found in them.
 
-ghost use Rattle.std.specs.Prelude.{◌≡◌, codes, map, option_map, string_bytes};
+ghost use Rattle.std.specs.Prelude.{◌≡◌, codes, map, string_bytes};
 ghost use Rattle.clap.specs.Words.{first_of, found_of, rows_of};
-ghost use Rattle.osm_words.specs.ExportWords.{export_asked, format_named, format_said, ids_named, ids_said, keys_asked, settings_said};
-ghost use Rattle.osm_words.specs.Answers.{keys_seen, settings_seen};
+ghost use Rattle.osm_words.specs.ExportWords.{export_asked, format_named, format_said, settings_said};
+ghost use Rattle.osm_words.specs.Answers.{settings_seen};
 ghost use Rattle.osm_words.specs.Private.{AnswersBy, seen_by};
 
 use crate::export_command::export_matches;
 use crate::fault::{WordsError, WordsFault};
 use crate::parsed::{is_set, refusal, value_of};
-use crate::settings::{ExportSettings, Format, UniqueId};
+use crate::ranges::{ids_said, keys_said};
+use crate::settings::{ExportSettings, Format};
 use clap::ArgMatches;
-use opl_reader::is_keys;
 use std::alloc::Global;
 
 /// The format that a word names.
@@ -26,17 +26,6 @@ fn format_named(word: &str) -> Option<Format>
     }
 }
 
-/// The ids that a word names.
-fn ids_named(word: &str) -> Option<UniqueId>
-    ensures { result ≡ ids_named word.now }
-{
-    match word {
-        "counter" => Some(UniqueId::Counter),
-        "type_id" => Some(UniqueId::TypeId),
-        _ => None,
-    }
-}
-
 /// The format; None where its value is out of range.
 fn format_said(matches: &ArgMatches<'_>) -> Option<Format>
     ensures { result ≡ format_said (first_of (codes "format") (rows_of (found_of matches.now))) }
@@ -44,31 +33,6 @@ fn format_said(matches: &ArgMatches<'_>) -> Option<Format>
     match value_of(matches, "format") {
         Some(word) => format_named(word),
         None => Some(Format::GeoJson),
-    }
-}
-
-/// The ids; None where their value is out of range.
-fn ids_said(matches: &ArgMatches<'_>) -> Option<Option<UniqueId>>
-    ensures { result ≡ ids_said (first_of (codes "ids") (rows_of (found_of matches.now))) }
-{
-    match value_of(matches, "ids") {
-        Some(word) => match ids_named(word) {
-            Some(ids) => Some(Some(ids)),
-            None => None,
-        },
-        None => Some(None),
-    }
-}
-
-/// The keys of an option, as they are written; None where its value is out of range.
-fn keys_said<'a>(matches: &ArgMatches<'a>, name: &str) -> Option<Option<&'a str>>
-    ensures { option_map keys_seen result
-        ≡ keys_asked (first_of name.now (rows_of (found_of matches.now))) }
-{
-    match value_of(matches, name) {
-        Some(word) if is_keys(word) => Some(Some(word)),
-        Some(_) => None,
-        None => Some(None),
     }
 }
 

@@ -11,7 +11,8 @@ pub enum WordsFault {
     UnknownCommand,
     /// The command's parser refuses the words behind its name, with this kind of `clap`'s.
     Refused { kind: ErrorKind },
-    /// The option with this letter has a value that isn't one of its own. The number of `sample` counts as one with `N`.
+    /// The option with this letter has a value that isn't one of its own. The number of `sample` counts as one with `N`,
+    /// and two names of `certify` or `locate` that are both `-` count as one with `t`.
     OutOfRange { option: char },
 }
 

@@ -1,8 +1,9 @@
 //! What the words of `coast-filter` say, and why they aren't taken.
 
-use crate::tests::words_of;
-use crate::{FilterSettings, Job, WordsError, WordsFault, job_of};
+use crate::tests::{assert_refused, words_of};
+use crate::{FilterSettings, Job, job_of};
 use clap::error::ErrorKind;
+use std::alloc::AllocError as OutOfMemory;
 use std::test::Fail;
 
 /// Settings of a file, an output, and whether it may be overwritten.
@@ -51,8 +52,7 @@ fn options_in_any_order_and_form(rt: HostRuntime) -> Result<(), Fail> {
 }
 
 #[test]
-fn refused_words(rt: HostRuntime) -> Result<(), Fail> {
-    let alloc = rt.alloc();
+fn refused_words(rt: HostRuntime) -> Result<(), OutOfMemory> {
     let cases = [
         ("coast-filter", ErrorKind::MissingRequiredArgument),
         ("coast-filter -O", ErrorKind::MissingRequiredArgument),
@@ -73,14 +73,5 @@ fn refused_words(rt: HostRuntime) -> Result<(), Fail> {
         ),
         ("coast-filter --overwrite=yes -", ErrorKind::TooManyValues),
     ];
-    for (line, kind) in cases {
-        let words = words_of(alloc, line)?;
-        let cause = WordsFault::Refused { kind };
-        assert_eq!(rt;
-            job_of(alloc, &words),
-            Err(WordsError::BadWords { cause }),
-            "{line}"
-        );
-    }
-    Ok(())
+    assert_refused(&rt, rt.alloc(), &cases)
 }

@@ -2,6 +2,10 @@
 #![tactic(auto)]
 
 mod arguments;
+mod certify_command;
+#[cfg(test)]
+mod certify_tests;
+mod certify_words;
 mod coastline_command;
 #[cfg(test)]
 mod coastline_tests;
@@ -14,8 +18,13 @@ mod filter_command;
 #[cfg(test)]
 mod filter_tests;
 mod filter_words;
+mod locate_command;
+#[cfg(test)]
+mod locate_tests;
+mod locate_words;
 mod number;
 mod parsed;
+mod ranges;
 mod sample_command;
 #[cfg(test)]
 mod sample_tests;
@@ -27,10 +36,11 @@ mod words;
 
 pub use fault::{WordsError, WordsFault};
 pub use settings::{
-    CoastlineSettings, ExportSettings, FilterSettings, Format, Job, OutputPolygons, SampleSettings,
-    UniqueId,
+    CertifySettings, CoastlineSettings, ExportSettings, FilterSettings, Format, Job,
+    LocateSettings, OutputPolygons, SampleSettings, UniqueId,
 };
 pub use words::{
-    Command, command_of, job_of, plain_coastline_words_are_taken, plain_filter_words_are_taken,
-    plain_sample_words_are_taken, plain_words_are_taken,
+    Command, command_of, job_of, plain_certify_words_are_taken, plain_coastline_words_are_taken,
+    plain_filter_words_are_taken, plain_locate_words_are_taken, plain_sample_words_are_taken,
+    plain_words_are_taken,
 };

@@ -1,8 +1,9 @@
 //! What the words of `sample` say, and why they aren't taken.
 
-use crate::tests::words_of;
+use crate::tests::{assert_refused, words_of};
 use crate::{Job, WordsError, WordsFault, job_of};
 use clap::error::ErrorKind;
+use std::alloc::AllocError as OutOfMemory;
 use std::test::Fail;
 
 #[test]
@@ -65,8 +66,7 @@ fn numbers_out_of_range(rt: HostRuntime) -> Result<(), Fail> {
 }
 
 #[test]
-fn refused_words(rt: HostRuntime) -> Result<(), Fail> {
-    let alloc = rt.alloc();
+fn refused_words(rt: HostRuntime) -> Result<(), OutOfMemory> {
     let cases = [
         ("sample", ErrorKind::MissingRequiredArgument),
         ("sample --", ErrorKind::MissingRequiredArgument),
@@ -79,14 +79,5 @@ fn refused_words(rt: HostRuntime) -> Result<(), Fail> {
         ("sample -o out 1", ErrorKind::UnknownArgument),
         ("sample --count=1", ErrorKind::UnknownArgument),
     ];
-    for (line, kind) in cases {
-        let words = words_of(alloc, line)?;
-        let cause = WordsFault::Refused { kind };
-        assert_eq!(rt;
-            job_of(alloc, &words),
-            Err(WordsError::BadWords { cause }),
-            "{line}"
-        );
-    }
-    Ok(())
+    assert_refused(&rt, rt.alloc(), &cases)
 }

@@ -99,6 +99,40 @@ pub struct FilterSettings<'a> {
     pub overwrite: bool,
 }
 
+/// What the words of `certify` ask for.
+#[derive(Clone, Copy, Debug, PartialEq, Eq)]
+pub struct CertifySettings<'a> {
+    /// The name of the input, `-` for standard input.
+    pub file: &'a str,
+    /// The name of the text that is certified, `-` for standard input.
+    pub text: &'a str,
+    /// Whether candidates without tags are kept.
+    pub keep_untagged: bool,
+    /// The ids of the written areas; None where they have none.
+    pub ids: Option<UniqueId>,
+    /// The keys of areas and those of lines as they are written, with the meanings that they have in `ExportSettings`.
+    pub area_keys: Option<&'a str>,
+    pub linear_keys: Option<&'a str>,
+}
+
+/// What the words of `locate` ask for.
+#[derive(Clone, Copy, Debug, PartialEq, Eq)]
+pub struct LocateSettings<'a> {
+    /// The name of the input, `-` for standard input.
+    pub file: &'a str,
+    /// The name of the points, `-` for standard input.
+    pub points: &'a str,
+    /// The name of the output, `-` for standard output.
+    pub output: &'a str,
+    /// Whether an output file that is there already may be overwritten.
+    pub overwrite: bool,
+    /// Whether candidates without tags are kept.
+    pub keep_untagged: bool,
+    /// The keys of areas and those of lines as they are written, with the meanings that they have in `ExportSettings`.
+    pub area_keys: Option<&'a str>,
+    pub linear_keys: Option<&'a str>,
+}
+
 /// What the words of a run ask for.
 #[derive(Clone, Copy, Debug, PartialEq, Eq)]
 pub enum Job<'a> {
@@ -106,4 +140,6 @@ pub enum Job<'a> {
     Coastline(CoastlineSettings<'a>),
     Sample(SampleSettings),
     Filter(FilterSettings<'a>),
+    Certify(CertifySettings<'a>),
+    Locate(LocateSettings<'a>),
 }

@@ -5,6 +5,7 @@ use crate::{
 };
 use clap::error::ErrorKind;
 use std::alloc::{AllocError as OutOfMemory, Global};
+use std::process::Abort;
 use std::test::Fail;
 
 /// The words of a line; `''` stands for the empty word.
@@ -15,6 +16,46 @@ pub(crate) fn words_of(alloc: Global, line: &str) -> Result<Vec<String>, OutOfMe
         words.push(String::from_str(alloc, word)?)?;
     }
     Ok(words)
+}
+
+/// Asserts that the words of a line aren't taken, by this cause.
+fn assert_bad_words(
+    rt: &impl Abort,
+    alloc: Global,
+    line: &str,
+    cause: WordsFault,
+) -> Result<(), OutOfMemory> {
+    let words = words_of(alloc, line)?;
+    assert_eq!(rt;
+        job_of(alloc, &words),
+        Err(WordsError::BadWords { cause }),
+        "{line}"
+    );
+    Ok(())
+}
+
+/// Asserts that the parser refuses the words of each line, by the kind beside it.
+pub(crate) fn assert_refused(
+    rt: &impl Abort,
+    alloc: Global,
+    cases: &[(&str, ErrorKind)],
+) -> Result<(), OutOfMemory> {
+    for case in cases {
+        assert_bad_words(rt, alloc, case.0, WordsFault::Refused { kind: case.1 })?;
+    }
+    Ok(())
+}
+
+/// Asserts that the words of each line have a value out of range, that of the option beside it.
+pub(crate) fn assert_out_of_range(
+    rt: &impl Abort,
+    alloc: Global,
+    cases: &[(&str, char)],
+) -> Result<(), OutOfMemory> {
+    for case in cases {
+        assert_bad_words(rt, alloc, case.0, WordsFault::OutOfRange { option: case.1 })?;
+    }
+    Ok(())
 }
 
 const PLAIN: ExportSettings<'static> = ExportSettings {
@@ -202,8 +243,7 @@ fn words_are_taken_as_clap_takes_them(rt: HostRuntime) -> Result<(), Fail> {
 }
 
 #[test]
-fn refused_words(rt: HostRuntime) -> Result<(), Fail> {
-    let alloc = rt.alloc();
+fn refused_words(rt: HostRuntime) -> Result<(), OutOfMemory> {
     let cases = [
         ("export", ErrorKind::MissingRequiredArgument),
         ("export -e", ErrorKind::MissingRequiredArgument),
@@ -229,16 +269,7 @@ fn refused_words(rt: HostRuntime) -> Result<(), Fail> {
         ),
         ("export -f osm -O -O -", ErrorKind::ArgumentConflict),
     ];
-    for (line, kind) in cases {
-        let words = words_of(alloc, line)?;
-        let cause = WordsFault::Refused { kind };
-        assert_eq!(rt;
-            job_of(alloc, &words),
-            Err(WordsError::BadWords { cause }),
-            "{line}"
-        );
-    }
-    Ok(())
+    assert_refused(&rt, rt.alloc(), &cases)
 }
 
 #[test]
@@ -278,8 +309,7 @@ fn commands_and_values_out_of_range(rt: HostRuntime) -> Result<(), Fail> {
 
 /// The first of the options counts, in the order f, u, a, l.
 #[test]
-fn keys_out_of_range(rt: HostRuntime) -> Result<(), Fail> {
-    let alloc = rt.alloc();
+fn keys_out_of_range(rt: HostRuntime) -> Result<(), OutOfMemory> {
     let cases = [
         ("export --area-keys a,,b -", 'a'),
         ("export --linear-keys '' -", 'l'),
@@ -288,16 +318,7 @@ fn keys_out_of_range(rt: HostRuntime) -> Result<(), Fail> {
         ("export --linear-keys , --area-keys , -u area -", 'u'),
         ("export --area-keys a, -f osm -", 'f'),
     ];
-    for (line, option) in cases {
-        let words = words_of(alloc, line)?;
-        let cause = WordsFault::OutOfRange { option };
-        assert_eq!(rt;
-            job_of(alloc, &words),
-            Err(WordsError::BadWords { cause }),
-            "{line}"
-        );
-    }
-    Ok(())
+    assert_out_of_range(&rt, rt.alloc(), &cases)
 }
 
 #[test]
@@ -342,6 +363,12 @@ fn the_first_word_names_the_command(rt: HostRuntime) -> Result<(), Fail> {
         ("sample coast-filter", Command::Sample),
         ("coast-filter", Command::Filter),
         ("coast-filter sample", Command::Filter),
+        ("certify", Command::Certify),
+        ("certify locate", Command::Certify),
+        ("locate", Command::Locate),
+        ("locate certify", Command::Locate),
+        ("certifies - t", Command::Unknown),
+        ("location - p", Command::Unknown),
         ("coastlines -", Command::Unknown),
         ("coast -", Command::Unknown),
         ("samples 1", Command::Unknown),

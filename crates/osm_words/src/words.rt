@@ -2,18 +2,22 @@
 
 ghost use Rattle.std.specs.Prelude.{◌≡◌, ℕ, List, Ok, map, string_bytes};
 ghost use Rattle.osm_words.specs.Answers.{Answers, Gives};
-ghost use Rattle.osm_words.specs.Job.{coastline, export, filter, sample};
+ghost use Rattle.osm_words.specs.Job.{certify, coastline, export, filter, locate, sample};
+ghost use Rattle.osm_words.specs.PlainCertify.{ArePlainCertify, CertifyOption, certify_words, said_certify};
 ghost use Rattle.osm_words.specs.PlainCoastline.{ArePlainCoastline, CoastlineOption, coastline_words, said_coastline};
 ghost use Rattle.osm_words.specs.PlainExport.{ArePlain, ExportOption, export_words, said};
 ghost use Rattle.osm_words.specs.PlainFilter.{ArePlainFilter, FilterOption, filter_words, said_filter};
+ghost use Rattle.osm_words.specs.PlainLocate.{ArePlainLocate, LocateOption, locate_words, said_locate};
 ghost use Rattle.osm_words.specs.PlainSample.{IsPlainCount, sample_words};
 ghost use Rattle.osm_words.specs.PlainWords.{Form};
 ghost use Rattle.osm_words.specs.Words.{command_named, job_asked, unnamed_cause};
 
+use crate::certify_words::certify_settings;
 use crate::coastline_words::coastline_settings;
 use crate::export_words::export_settings;
 use crate::fault::{WordsError, WordsFault};
 use crate::filter_words::filter_settings;
+use crate::locate_words::locate_settings;
 use crate::sample_words::sample_settings;
 use crate::settings::Job;
 use std::alloc::Global;
@@ -25,6 +29,8 @@ pub enum Command {
     Coastline,
     Sample,
     Filter,
+    Certify,
+    Locate,
     Unknown,
 }
 
@@ -37,6 +43,8 @@ pub fn command_of(words: &[String]) -> Command
         Some(word) if word.as_str() == "coastline" => Command::Coastline,
         Some(word) if word.as_str() == "sample" => Command::Sample,
         Some(word) if word.as_str() == "coast-filter" => Command::Filter,
+        Some(word) if word.as_str() == "certify" => Command::Certify,
+        Some(word) if word.as_str() == "locate" => Command::Locate,
         _ => Command::Unknown,
     }
 }
@@ -72,6 +80,14 @@ fn answer<'a>(alloc: Global, words: &'a [String]) -> Result<Job<'a>, WordsError>
             Ok(settings) => Ok(Job::Filter(settings)),
             Err(error) => Err(error),
         },
+        Command::Certify => match certify_settings(alloc, words) {
+            Ok(settings) => Ok(Job::Certify(settings)),
+            Err(error) => Err(error),
+        },
+        Command::Locate => match locate_settings(alloc, words) {
+            Ok(settings) => Ok(Job::Locate(settings)),
+            Err(error) => Err(error),
+        },
         Command::Unknown => Err(WordsError::BadWords {
             cause: unnamed_cause(words),
         }),
@@ -80,14 +96,21 @@ fn answer<'a>(alloc: Global, words: &'a [String]) -> Result<Job<'a>, WordsError>
 
 /// What the words of a run ask for, where they are the program's arguments without its name.
 ///
-/// `answers` says that it is what `job_asked` says, want of memory aside. So NoCommand comes exactly where there are no words, and UnknownCommand
-/// exactly where the first word names no command. Refused comes exactly where the command's parser doesn't take the words behind its name, with the
-/// one kind that `clap` states for them. OutOfRange comes exactly where it takes them and a value isn't one of its option's: the first such
-/// option in the order `f`, `u`, `a` (`--area-keys`), `l` (`--linear-keys`) of `export`, and `c`, `m`, `b`, `p` of `coastline`; the one
-/// value of `sample` is named `N`, and `coast-filter` has none with a range.
+/// `answers` says that it is what `job_asked` says, want of memory aside. So NoCommand comes exactly where there are no
+/// words, and UnknownCommand exactly where the first word names no command. Refused comes exactly where the command's
+/// parser doesn't take the words behind its name, with the one kind that `clap` states for them. OutOfRange comes exactly
+/// where it takes them and a value isn't one of its option's. It names the first such option in the command's order:
 ///
-/// `plain`, `plain_coastline` and `plain_filter` say that options in any order, each in its short or its long form and at most once, and a file
-/// behind them are taken with what they say; `plain_sample` says so of a number in range alone.
+/// - `export`: `f`, `u`, `a` (`--area-keys`), `l` (`--linear-keys`);
+/// - `coastline`: `c`, `m`, `b`, `p`;
+/// - `sample`: `N`, as its one value is named;
+/// - `coast-filter`: none, since no value of its options has a range;
+/// - `certify`: `u`, `a`, `l`, and behind them `t` where both names are `-`, since standard input is read once;
+/// - `locate`: `a`, `l`, and `t` in the same way.
+///
+/// `plain` and the clauses that are named after other commands say that options in any order, each in its short or its
+/// long form and at most once, and behind them a file, or a file and a second input, are taken with what they say;
+/// `plain_sample` says so of a number in range alone.
 pub fn job_of<'a>(alloc: Global, words: &'a [String]) -> Result<Job<'a>, WordsError>
     ensures answers { Answers (job_asked (map string_bytes words.now)) result }
     ensures plain { (options : List (Form × ExportOption)) (file : List ℕ) → ArePlain options file
@@ -104,6 +127,14 @@ pub fn job_of<'a>(alloc: Global, words: &'a [String]) -> Result<Job<'a>, WordsEr
         → ArePlainFilter options file
         → map string_bytes words.now ≡ filter_words options file
         → Gives (filter (said_filter options file)) result }
+    ensures plain_certify { (options : List (Form × CertifyOption)) (file text : List ℕ)
+        → ArePlainCertify options file text
+        → map string_bytes words.now ≡ certify_words options file text
+        → Gives (certify (said_certify options file text)) result }
+    ensures plain_locate { (options : List (Form × LocateOption)) (file points : List ℕ)
+        → ArePlainLocate options file points
+        → map string_bytes words.now ≡ locate_words options file points
+        → Gives (locate (said_locate options file points)) result }
 {
     answer(alloc, words)
 }
@@ -131,4 +162,20 @@ pub fn plain_sample_words_are_taken()
 pub fn plain_filter_words_are_taken()
     ensures { (options : List (Form × FilterOption)) (file : List ℕ) → ArePlainFilter options file
         → job_asked (filter_words options file) ≡ Ok (filter (said_filter options file)) }
+{}
+
+/// The law that plain words of `certify` are taken with what they say.
+pub fn plain_certify_words_are_taken()
+    ensures { (options : List (Form × CertifyOption)) (file text : List ℕ)
+        → ArePlainCertify options file text
+        → job_asked (certify_words options file text)
+        ≡ Ok (certify (said_certify options file text)) }
+{}
+
+/// The law that plain words of `locate` are taken with what they say.
+pub fn plain_locate_words_are_taken()
+    ensures { (options : List (Form × LocateOption)) (file points : List ℕ)
+        → ArePlainLocate options file points
+        → job_asked (locate_words options file points)
+        ≡ Ok (locate (said_locate options file points)) }
 {}
