@@ -1,0 +1,5 @@
+mod Extents
+mod HeightBands
+mod IndexedSpans
+mod SpanRows
+mod SpannedHeights

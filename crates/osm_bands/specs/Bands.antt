@@ -1,0 +1,9 @@
+-- The spans that reach a height.
+use Rattle.std.specs.Prelude.{Contains, List, Some, ℕ, ℤ, ◌≡◌, ◌≤ℤ◌}
+use Rattle.std.specs.List.{slice_get}
+use Rattle.osm_bands.specs.declared.bands.Span.{Span}
+
+-- among the indexes is that of every span that reaches the height
+abbrev pub HoldsReaching : List Span → ℤ → List ℕ → Type 0
+HoldsReaching spans height indexes =
+    (i : ℕ) (span : Span) → slice_get spans i ≡ Some span → span.low ≤ℤ height → height ≤ℤ span.high → Contains indexes i

@@ -1,0 +1,5 @@
+pub mod BandStab
+pub mod Bands
+pub mod Heights
+pub mod Rows
+pub mod Scale

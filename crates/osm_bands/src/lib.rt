@@ -1,0 +1,12 @@
+//! Which spans of heights reach a height, and which edges are at one, by bands of heights.
+#![tactic(auto)]
+
+mod band_stab;
+mod bands;
+mod rows;
+mod scale;
+#[cfg(test)]
+mod tests;
+
+pub use band_stab::BandStab;
+pub use bands::{Bands, Span};
