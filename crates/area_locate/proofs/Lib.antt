@@ -1,0 +1,10 @@
+mod Enclosing
+mod EvenEnds
+mod Founds
+mod NearAreas
+mod NearItems
+mod NearSides
+mod OnSegments
+mod OutsideSides
+mod Places
+mod SideSums

@@ -1,0 +1,17 @@
+//! The locator: which areas of an input hold a location, and which have it on them.
+#![tactic(auto)]
+
+mod against_segment;
+mod area;
+mod areas;
+mod envelope;
+mod found;
+mod laws;
+mod locating;
+mod sides;
+#[cfg(test)]
+mod tests;
+
+pub use found::{Found, FoundList, Hit, Hits};
+pub use laws::{found_exists, found_is_one};
+pub use locating::locate;
