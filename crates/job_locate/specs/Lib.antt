@@ -1,0 +1,4 @@
+pub mod Laws
+pub mod Lines
+pub mod Locate
+pub mod WorkSteps

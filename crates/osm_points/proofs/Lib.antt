@@ -1,0 +1,4 @@
+mod FirstBad
+mod Places
+mod ReadLines
+mod Words
