@@ -1,0 +1,3 @@
+pub mod Certify
+pub mod Exported
+pub mod Laws

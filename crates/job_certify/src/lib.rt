@@ -1,0 +1,13 @@
+//! The certifying job: whether a text is what an export in format text writes over an input, whoever made it.
+//!
+//! How it is to end is a definition over the objects of the input and the text (specs/Certify): as done where the text has no
+//! wrong line, and refuted with the first one where it has. It opens no output and writes nothing.
+#![tactic(auto)]
+
+mod laws;
+#[cfg(test)]
+mod tests;
+mod work;
+
+pub use laws::{certified_texts_are_exports, certify_exists, certify_is_one};
+pub use work::certify_text;
