@@ -3,11 +3,11 @@ use Rattle.std.proofs.Common.{◌≡◌, refl, sym, ap, subst, ℕ, List, map, O
 use Rattle.opl_reader.specs.declared.object.Object.{Object}
 use Rattle.osm_host.specs.Outside.{Outside}
 use Rattle.osm_host.specs.declared.host.Failed.{Failed}
-use Rattle.osm_job.specs.Cause.{Cause, by_input, by_itself, by_memory, by_open, by_pieces, by_read, by_words, by_write, cause_of}
+use Rattle.osm_job.proofs.Weaker.{wrote_weaker}
 use Rattle.osm_job.specs.InputRead.{HasInput}
 use Rattle.osm_job.specs.Sent.{Sent, to_output}
 use Rattle.osm_job.specs.Whole.{Whole, input_limit, longest_line}
-use Rattle.osm_job.specs.Worked.{IsWrittenOver, WroteOver}
+use Rattle.osm_job.specs.Worked.{WroteOver}
 use Rattle.osm_job.specs.Writes.{Wrote}
 use Rattle.osm_job.specs.declared.ended.Ended.{Ended}
 use Rattle.osm_job.specs.declared.ended.Ended.TheVariants as ended
@@ -28,19 +28,8 @@ module _ (text : List ℕ) (before now : Outside) where
   front_written failed w = record { written = w.written; right = (whole_of text, refl, refl, w.sent); added = w.added; counts = w.counts.failed }
 
 -- what is right for a text is right, where the whole of that text is
-module _ (IsRight : Whole → Type 0) (text : List ℕ) (right : IsRight (whole_of text)) where
-  over : (cause : Cause) (ended : Ended) (written : List Sent) → IsWrittenOver (IsText text) cause ended written → IsWrittenOver IsRight cause ended written
-  over by_itself ended written is = subst IsRight (sym is) right
-  over by_words ended written is = is
-  over by_input ended written is = is
-  over by_pieces ended written is = is
-  over by_open ended written is = is
-  over by_read ended written is = is
-  over by_write ended written is = (is.0, subst IsRight (sym is.1) right, is.2, is.3)
-  over by_memory ended written is = (is.0, subst IsRight (sym is.1) right, is.2, is.3)
-
-  pub right_written : (ended : Ended) (before now : Outside) → WroteOver (IsText text) ended before now → WroteOver IsRight ended before now
-  right_written ended before now w = record { written = w.written; right = over (cause_of ended) ended w.written w.right; added = w.added; counts = w.counts }
+pub right_written : (IsRight : Whole → Type 0) (text : List ℕ) → IsRight (whole_of text) → (ended : Ended) (before now : Outside) → WroteOver (IsText text) ended before now → WroteOver IsRight ended before now
+right_written IsRight text right = wrote_weaker (IsText text) IsRight (λ whole is. subst IsRight (sym is) right)
 
 -- the text that is made of the objects of an input is what the job is to write
 module _ (name : List ℕ) (objects : List Object) (before now : Outside) where

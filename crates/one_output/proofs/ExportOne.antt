@@ -1,25 +1,14 @@
 -- An export is one whole.
-use Rattle.std.proofs.Common.{All, List, [], ap, false, map, refl, subst, sym, true, ℕ, ◌++◌, ◌∙◌, ◌∷◌, ◌≡◌, Ok, Err, Result}
+use Rattle.std.proofs.Common.{All, List, [], ap, false, map, refl, sym, true, ◌++◌, ◌∙◌, ◌∷◌, ◌≡◌}
 use Rattle.std.proofs.lemmas.List.Elements.{All-head, All-tail}
 use Rattle.opl_reader.specs.declared.object.Object.{Object}
 use Rattle.opl_reader.specs.declared.object.ObjectRef.{ObjectRef}
-use Rattle.osm_words.specs.Job.{ExportSettings, coastline, export, filter, sample}
+use Rattle.osm_words.specs.Job.{ExportSettings}
 use Rattle.job_export.specs.Entry.{Entry, IsEntry, has_area}
-use Rattle.osm_input.specs.Laws.{LinesCount}
-use Rattle.osm_input.specs.Reading.{IsReadAs}
-use Rattle.osm_job.specs.Whole.{IsAfter, IsReadThen, Whole, input_limit, longest_line}
+use Rattle.osm_job.specs.Whole.{Whole}
 use Rattle.job_export.specs.Export.{HaveAreas, IsExport, finished, finished_whole, stopped, stopped_whole}
-use Rattle.osm_input.specs.declared.reading.ReadError.{ReadError}
-use Rattle.job_coastline.specs.Coastline.{IsCoastline}
-use Rattle.job_filter.specs.Filter.{IsFilter}
-use Rattle.job_filter.specs.Laws.{FilterIsOne}
-use Rattle.one_area.specs.Laws.{OutcomeIsOne}
-use Rattle.one_coast.specs.Laws.{CoastCountsAreOne, CoastlineIsOne}
 use Rattle.osm_report.specs.Report.{ProblemLineIsOne}
-use Rattle.one_output.specs.Laws.{ObjectsTellTheWhole, WholeIsOne}
 use Rattle.one_output.proofs.EntryOne.{entry-one}
-use Rattle.one_output.proofs.ReadingOne.{reading-one}
-use Rattle.one_output.proofs.SampleOne.{sample_one}
 
 abbrev named : List Entry → List ObjectRef
 named es = map (λ (entry : Entry). entry.candidate) es
@@ -72,39 +61,3 @@ module _ (line : ProblemLineIsOne) (settings : ExportSettings) (objects : List O
   export-one v w (stopped es x l k c s sx a nx p) (stopped fs y m j d t ty b ny q) =
       let r = stops-one es fs x y l m (sym c ∙ d) s t sx ty a b nx ny in
       p ∙ ap (λ (z : List Entry). stopped_whole settings objects z x) r.0 ∙ ap (stopped_whole settings objects fs) r.1 ∙ sym q
-
--- ---- any job
-
--- what is right over the bytes of an input is one, where what is right over its objects is
-module _ (count : LinesCount) (IsRight : List Object → Whole → Type 0) (one : (objects : List Object) (v w : Whole) → IsRight objects v → IsRight objects w → v ≡ w) where
-  after-one : (r : Result (List Object) ReadError) (v w : Whole) → IsAfter IsRight r v → IsAfter IsRight r w → v ≡ w
-  after-one (Ok objects) v w s t = one objects v w s t
-  after-one (Err e) v w s t = s ∙ sym t
-
-  read-after : (bytes : List ℕ) (r : Result (List Object) ReadError) (v : Whole) → IsReadAs input_limit longest_line bytes r → IsReadThen IsRight bytes v → IsAfter IsRight r v
-  read-after bytes r v is s = subst (λ x. IsAfter IsRight x v) (reading-one count input_limit longest_line bytes s.read r s.is_read is) s.after
-
-  -- and depends on what the input is read as alone
-  pub alike-one : (bytes more : List ℕ) (r : Result (List Object) ReadError) (v w : Whole) → IsReadAs input_limit longest_line bytes r → IsReadAs input_limit longest_line more r →
-      IsReadThen IsRight bytes v → IsReadThen IsRight more w → v ≡ w
-  alike-one bytes more r v w is also s t = after-one r v w (read-after bytes r v is s) (read-after more r w also t)
-
-  pub then-one : (bytes : List ℕ) (v w : Whole) → IsReadThen IsRight bytes v → IsReadThen IsRight bytes w → v ≡ w
-  then-one bytes v w s t = alike-one bytes bytes s.read v w s.is_read s.is_read s t
-
-module _ (count : LinesCount) (line : ProblemLineIsOne) (coastline-one : CoastlineIsOne) (filter-one : FilterIsOne) (outcome-one : OutcomeIsOne) (counts-one : CoastCountsAreOne) where
-  -- what is right for a job and its inputs is one
-  pub whole-one : WholeIsOne
-  whole-one (export settings) texts v w s t = then-one count (IsExport settings) (export-one line settings) texts.0 v w s t
-  whole-one (coastline settings) texts v w s t = then-one count (IsCoastline settings) (coastline-one settings) texts.0 v w s t
-  whole-one (sample cells) texts v w s t = sample_one outcome-one counts-one cells v w s t
-  whole-one (filter settings) texts v w s t = then-one count IsFilter filter-one texts.0 v w s t
-
-  -- and depends on what they are read as alone
-  pub objects-tell : ObjectsTellTheWhole
-  objects-tell (export settings) texts more v w alike s t =
-      alike-one count (IsExport settings) (export-one line settings) texts.0 more.0 alike.0.0 v w alike.0.1 alike.0.2 s t
-  objects-tell (coastline settings) texts more v w alike s t =
-      alike-one count (IsCoastline settings) (coastline-one settings) texts.0 more.0 alike.0.0 v w alike.0.1 alike.0.2 s t
-  objects-tell (sample cells) texts more v w alike s t = sample_one outcome-one counts-one cells v w s t
-  objects-tell (filter settings) texts more v w alike s t = alike-one count IsFilter filter-one texts.0 more.0 alike.0.0 v w alike.0.1 alike.0.2 s t

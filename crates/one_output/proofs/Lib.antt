@@ -3,4 +3,5 @@ pub mod ExportOne
 pub mod ReadingOne
 pub mod RunOne
 mod SampleOne
+mod WholeOne
 pub mod WholeThere

@@ -1,14 +1,17 @@
--- An input is read as one thing.
+-- An input is read as one thing, and a text is.
 use Rattle.std.proofs.Common.{Err, List, Ok, Result, Some, [], ap, arith, inl, inr, length, refl, subst, sym, take, ℕ, ◌++◌, ◌+◌, ◌∙◌, ◌∷◌, ◌≡◌, ◌⊎◌}
 use Rattle.opl_reader.specs.declared.object.Object.{Object}
 use Rattle.osm_input.specs.declared.fault.InputFault.{InputFault}
 use Rattle.osm_input.specs.declared.reading.ReadError.{ReadError}
 use Rattle.osm_input.specs.declared.reading.ReadError.TheVariants.{BadInput, OutOfMemory, ReadFault, TooMuchInput}
+use Rattle.osm_input.specs.declared.text.TextError.{TextError}
+use Rattle.osm_input.specs.declared.text.TextError.TheVariants as text
 use Rattle.osm_input.specs.Input.{AreGood, IsBadPlace, line_fault, objects_told}
 use Rattle.opl_reader.specs.Lines.{lines_of}
 use Rattle.osm_input.specs.Lines.{lines_begun}
 use Rattle.osm_input.specs.Laws.{LinesCount}
 use Rattle.osm_input.specs.Reading.{IsReadAs, lines_counted}
+use Rattle.osm_input.specs.Text.{IsTextAs}
 use Rattle.one_ring_list.proofs.CyclicLists.{Overlap, overlap}
 
 some-one : {X : Type 0} (x y : X) → Some x ≡ Some y → x ≡ y
@@ -87,3 +90,27 @@ module _ (count : LinesCount) (limit longest : ℕ) (bytes : List ℕ) where
   reading-one (Ok a) (Err e) s t = absurd (ok-error a e s t)
   reading-one (Err e) (Ok a) s t = absurd (ok-error a e t s)
   reading-one (Err d) (Err e) s t = ap Err (errors-one d e s t)
+
+-- ---- a text
+
+module _ (limit : ℕ) (bytes : List ℕ) where
+  abbrev IsText : Result (List ℕ) TextError → Type 0
+  IsText r = IsTextAs limit bytes r
+
+  text-errors-one : (d e : TextError) → IsText (Err d) → IsText (Err e) → d ≡ e
+  text-errors-one (text.TooMuchInput k) (text.TooMuchInput l) s t = ap text.TooMuchInput (s.0 ∙ sym t.0)
+  text-errors-one (text.TooMuchInput k) text.ReadFault s t = absurd t
+  text-errors-one (text.TooMuchInput k) text.OutOfMemory s t = absurd t
+  text-errors-one text.ReadFault e s t = absurd s
+  text-errors-one text.OutOfMemory e s t = absurd s
+
+  text-or-error : (found : List ℕ) (e : TextError) → IsText (Ok found) → IsText (Err e) → ⊥
+  text-or-error found (text.TooMuchInput most) s t = let a = s.0 in let b = t.1 in omega arith
+  text-or-error found text.ReadFault s t = t
+  text-or-error found text.OutOfMemory s t = t
+
+  pub text-one : (r s : Result (List ℕ) TextError) → IsText r → IsText s → r ≡ s
+  text-one (Ok a) (Ok b) s t = ap Ok (s.1 ∙ sym t.1)
+  text-one (Ok a) (Err e) s t = absurd (text-or-error a e s t)
+  text-one (Err e) (Ok a) s t = absurd (text-or-error a e t s)
+  text-one (Err d) (Err e) s t = ap Err (text-errors-one d e s t)

@@ -4,7 +4,7 @@ use Rattle.osm_host.specs.Outside.{Outside}
 use Rattle.osm_input.specs.Laws.{LinesCount}
 use Rattle.osm_words.specs.Job.{Job}
 use Rattle.osm_words.specs.declared.fault.WordsFault.{WordsFault}
-use Rattle.osm_job.specs.Cause.{Cause, by_input, by_itself, by_memory, by_open, by_pieces, by_read, by_words, by_write, cause_of}
+use Rattle.osm_job.specs.Cause.{Cause, by_input, by_itself, by_memory, by_open, by_verdict, by_read, by_words, by_write, cause_of}
 use Rattle.osm_job.specs.declared.ended.Ended.{Ended}
 use Rattle.osm_job.specs.declared.ended.Ended.TheVariants.{BadWords}
 use Rattle.osm_job.specs.Texts.{Texts}
@@ -54,7 +54,7 @@ module _ (whole-one : WholeIsOne) (job : Job) (texts : Texts (inputs_of job)) (w
   written-is by_itself ended written w = all-is ended written w
   written-is by_words ended written w = absurd w
   written-is by_input ended written w = all-is ended written w.1
-  written-is by_pieces ended written w = all-is ended written w.1
+  written-is by_verdict ended written w = all-is ended written w.1
   written-is by_open ended written w = none-is ended written w
   written-is by_read ended written w = none-is ended written w
   written-is by_write ended written w = prefix-is ended written w
@@ -96,7 +96,7 @@ module _ (job : Job) (texts : Texts (inputs_of job)) (ended : Ended) (written : 
   unbroken-by by_itself u w = (whole-by written ended, w)
   unbroken-by by_words u w = absurd w
   unbroken-by by_input u w = (whole-by written ended, w.1)
-  unbroken-by by_pieces u w = (whole-by written ended, w.1)
+  unbroken-by by_verdict u w = (whole-by written ended, w.1)
   unbroken-by by_open u w = absurd (cc)
   unbroken-by by_read u w = absurd (cc)
   unbroken-by by_write u w = absurd (cc)
@@ -113,7 +113,7 @@ module _ (job : Job) (texts : Texts (inputs_of job)) (ended : Ended) (written : 
   found-by by_itself w = inr (whole-by written ended, w)
   found-by by_words w = absurd w
   found-by by_input w = inl w.0
-  found-by by_pieces w = inl w.0
+  found-by by_verdict w = inl w.0
   found-by by_open w = inl w
   found-by by_read w = inl w
   found-by by_write w = inr (prefix-of w)

@@ -2,7 +2,7 @@
 use Rattle.std.proofs.Common.{Err, List, None, Ok, Option, Result, Some, [], ap, inl, inr, length, refl, subst, sym, take, ℕ, ◌++◌, ◌+◌, ◌<◌, ◌≤◌, ◌∙◌, ◌∷◌, ◌≡◌, ◌⊎◌}
 use Rattle.std.proofs.lemmas.Bool.{cases_lt}
 use Rattle.opl_reader.specs.declared.object.Object.{Object}
-use Rattle.osm_words.specs.Job.{CoastlineSettings, Job, coastline, export, filter, sample}
+use Rattle.osm_words.specs.Job.{CoastlineSettings, Job, certify, coastline, export, filter, locate, sample}
 use Rattle.osm_input.specs.declared.fault.InputFault.{InputFault}
 use Rattle.osm_input.specs.declared.reading.ReadError.{ReadError}
 use Rattle.osm_input.specs.declared.reading.ReadError.TheVariants.{BadInput, TooMuchInput}
@@ -13,11 +13,16 @@ use Rattle.opl_reader.specs.Lines.{lines_of}
 use Rattle.osm_input.specs.Lines.{lines_begun}
 use Rattle.osm_input.specs.Laws.{LinesCount}
 use Rattle.osm_input.specs.Reading.{IsReadAs}
-use Rattle.osm_job.specs.Whole.{IsAfter, IsReadThen, Whole, input_limit, longest_line, read_ended, silent}
+use Rattle.osm_input.specs.declared.text.TextError.TheVariants as text
+use Rattle.osm_job.specs.Whole.{IsAfter, IsReadThen, IsTextThen, Whole, input_limit, longest_line, read_ended, silent, text_ended}
+use Rattle.job_certify.specs.Certify.{IsCertify}
+use Rattle.job_certify.specs.Laws.{CertifyExists}
 use Rattle.job_coastline.specs.Coastline.{IsCoastline}
 use Rattle.job_export.specs.Export.{IsExport}
 use Rattle.job_filter.specs.Filter.{IsFilter}
 use Rattle.job_filter.specs.Laws.{FiltersExist}
+use Rattle.job_locate.specs.Laws.{LocatesExist}
+use Rattle.job_locate.specs.Locate.{IsLocate}
 use Rattle.one_coast.specs.Laws.{CoastCountsExist, CoastlineExists}
 use Rattle.osm_area.specs.Outcome.{OutcomeExists}
 use Rattle.osm_sample.specs.Laws.{SampleHasOneCoast}
@@ -117,11 +122,25 @@ module _ (count : LinesCount) (IsRight : List Object → Whole → Type 0) (ther
       let w = after-there bytes r.0 r.1 in
       (w.0, record { read = r.0; is_read = r.1; after = w.1 })
 
+-- ---- a text behind it
+
+-- there is one over the bytes of a text, where there is over each text
+module _ (IsRight : List ℕ → Whole → Type 0) (there : (text : List ℕ) → (w : Whole) × IsRight text w) (bytes : List ℕ) where
+  text-by : (input_limit < length bytes) ⊎ (length bytes ≤ input_limit) → (w : Whole) × IsTextThen IsRight bytes w
+  text-by (inl h) = (silent (text_ended (text.TooMuchInput input_limit)), record { read = Err (text.TooMuchInput input_limit); is_read = (refl, h); after = refl })
+  text-by (inr h) =
+      let w = there bytes in (w.0, record { read = Ok bytes; is_read = (h, refl); after = w.1 })
+
+  pub text-there : (w : Whole) × IsTextThen IsRight bytes w
+  text-there = text-by (cases_lt input_limit (length bytes))
+
 -- what is there for each job
 pub record AreThere : Type 0 where
   pub exports : ExportExists
   pub coastlines : CoastlineExists
   pub filters : FiltersExist
+  pub verdicts : CertifyExists
+  pub locates : LocatesExist
   pub read : ReadObjectsCanBeWritten
   pub outcomes : OutcomeExists
   pub counts : CoastCountsExist
@@ -136,3 +155,9 @@ module _ (count : LinesCount) (are : AreThere) where
   whole-there (coastline settings) texts = then-there count (IsCoastline settings) (coastline-there settings) texts.0
   whole-there (sample cells) texts = sample_there are.outcomes are.counts are.one_coast cells
   whole-there (filter settings) texts = then-there count IsFilter (are.filters input_limit longest_line) texts.0
+  whole-there (certify settings) texts =
+      then-there count (λ objects right. IsTextThen (IsCertify settings objects) texts.1.0 right)
+      (λ bytes objects is. text-there (IsCertify settings objects) (are.verdicts settings objects) texts.1.0) texts.0
+  whole-there (locate settings) texts =
+      then-there count (λ objects right. IsTextThen (IsLocate settings objects) texts.1.0 right)
+      (λ bytes objects is. text-there (IsLocate settings objects) (are.locates settings objects) texts.1.0) texts.0

@@ -16,6 +16,8 @@ use Rattle.job_export.specs.Export.{IsExport}
 use Rattle.osm_cli.specs.Whole.{IsWhole}
 use Rattle.osm_job.specs.declared.ended.Ended.{Ended}
 use Rattle.osm_input.specs.declared.reading.ReadError.{ReadError}
+use Rattle.osm_input.specs.Text.{IsTextAs}
+use Rattle.osm_input.specs.declared.text.TextError.{TextError}
 use Rattle.one_output.specs.Right.{AllRunsKeepTo, AreTold, IsRight, TextsOf, is_unbroken}
 
 -- an input is read as one thing alone
@@ -49,14 +51,28 @@ IsReadAlike text more =
     (r : Result (List Object) ReadError)
     × IsReadAs input_limit longest_line text r × IsReadAs input_limit longest_line more r
 
--- each of these texts is read as the other one of its name is
+-- both are one text within the limit, or both pass it
+abbrev pub IsTakenAlike : List ℕ → List ℕ → Type 0
+IsTakenAlike text more =
+    (r : Result (List ℕ) TextError)
+    × IsTextAs input_limit text r × IsTextAs input_limit more r
+
+-- each of these texts, which tell no objects, is taken as the other one of its name is
+abbrev pub AreTakenAlike : (names : List (List ℕ)) → Texts names → Texts names → Type 0
+AreTakenAlike [] texts more = Unit {0}
+AreTakenAlike (name ∷ names) texts more =
+    IsTakenAlike texts.0 more.0 × AreTakenAlike names texts.1 more.1
+
+-- each of these texts is read as the other one of its name is: the first as objects, a second as
+-- the text that it is
 abbrev pub AreReadAlike : (names : List (List ℕ)) → Texts names → Texts names → Type 0
 AreReadAlike [] texts more = Unit {0}
 AreReadAlike (name ∷ names) texts more =
-    IsReadAlike texts.0 more.0 × AreReadAlike names texts.1 more.1
+    IsReadAlike texts.0 more.0 × AreTakenAlike names texts.1 more.1
 
--- it depends on the objects of the inputs alone: it is the same for inputs that are read as the
--- same objects, however they are spelled, and for inputs that are refused alike
+-- it depends on the objects of the input alone, and on the bytes of a second one: it is the same for
+-- inputs that are read as the same objects, however they are spelled, and for inputs that are refused
+-- alike
 abbrev pub ObjectsTellTheWhole : Type 0
 ObjectsTellTheWhole =
     (job : Job) (texts more : Texts (inputs_of job)) (v w : Whole) →

@@ -3,7 +3,7 @@ use Rattle.std.specs.Prelude.{Bool, Err, List, Ok, Result, Some, false, true, â—
 use Rattle.osm_host.specs.Outside.{Outside}
 use Rattle.osm_words.specs.Job.{Job}
 use Rattle.osm_words.specs.declared.fault.WordsFault.{WordsFault}
-use Rattle.osm_job.specs.Cause.{Cause, by_input, by_itself, by_memory, by_open, by_pieces, by_read, by_words, by_write, cause_of}
+use Rattle.osm_job.specs.Cause.{Cause, by_input, by_itself, by_memory, by_open, by_verdict, by_read, by_words, by_write, cause_of}
 use Rattle.osm_job.specs.Texts.{Texts, told_texts}
 use Rattle.osm_cli.specs.Job.{inputs_of}
 use Rattle.osm_job.specs.Prefix.{IsPrefix}
@@ -34,7 +34,7 @@ abbrev pub is_unbroken : Cause â†’ Bool
 is_unbroken by_itself = true
 is_unbroken by_words = true
 is_unbroken by_input = true
-is_unbroken by_pieces = true
+is_unbroken by_verdict = true
 is_unbroken by_open = false
 is_unbroken by_read = false
 is_unbroken by_write = false

@@ -7,8 +7,10 @@
 
 ghost use Rattle.one_output.specs.Laws.{EntryIsOne, ExportIsOne, ObjectsTellTheWhole, ReadingIsOne, RunsAgree, RunsDontPart, RunsKeepToTheWhole, WholeIsOne};
 
+use job_certify::{certify_exists, certify_is_one};
 use job_export::export_exists;
 use job_filter::{filter_is_one, filters_exist};
+use job_locate::{locate_is_one, locates_exist};
 use one_area::outcome_is_one;
 use one_coast::{coast_counts_are_one, coast_counts_exist, coastline_exists, coastline_is_one};
 use osm_area::outcome_exists;
@@ -19,7 +21,7 @@ use written_inputs::read_inputs_can_be_written;
 
 /// What is right for a job over the texts of its inputs is one list of what is written, and one
 /// ending, alone: each text is read as one thing, and each candidate adds one thing. It depends on
-/// the objects of the inputs alone.
+/// the objects of the input alone, and on the bytes of a second one.
 pub fn whole_is_one()
     ensures reading { ReadingIsOne }
     ensures entry { EntryIsOne }
@@ -27,12 +29,15 @@ pub fn whole_is_one()
     ensures whole { WholeIsOne }
     ensures objects { ObjectsTellTheWhole }
 {
-    // By law: the limit decides which lines count, a problem has one line, a coastline and a filter
-    // have one whole, and a candidate has one outcome and a coast one number of lines.
+    // By law: the limit decides which lines count, a problem has one line, a coastline, a filter, a
+    // certified text and located points have one whole, and a candidate has one outcome and a coast
+    // one number of lines.
     limit_decides_the_lines();
     problem_line_is_one();
     coastline_is_one();
     filter_is_one();
+    certify_is_one();
+    locate_is_one();
     outcome_is_one();
     coast_counts_are_one();
 }
@@ -43,14 +48,17 @@ pub fn runs_keep_to_the_whole()
     ensures { RunsKeepToTheWhole }
 {
     // By law: what is right is one. An export of any objects has a whole, so has a coastline job where
-    // no two coastline ways have one id, as reading sees to, and a filter of an input; and a sample,
-    // each of whose candidates has an outcome, and which has one coastline way.
+    // no two coastline ways have one id, as reading sees to, and a filter of an input; a text has a
+    // verdict, and points have areas or none; and a sample, each of whose candidates has an outcome,
+    // and which has one coastline way.
     whole_is_one();
     limit_decides_the_lines();
     export_exists();
     coastline_exists();
     read_inputs_can_be_written();
     filters_exist();
+    certify_exists();
+    locates_exist();
     outcome_exists();
     coast_counts_exist();
     sample_has_one_coast();

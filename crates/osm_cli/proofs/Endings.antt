@@ -5,9 +5,9 @@ use Rattle.osm_host.specs.Outside.{Outside, appended, risen, Counts, HasRisen, O
 use Rattle.osm_host.specs.Laws.{StreamsAppend}
 use Rattle.osm_words.specs.declared.fault.WordsFault.{WordsFault}
 use Rattle.osm_job.specs.declared.ended.Ended.{Ended}
-use Rattle.osm_job.specs.declared.ended.Ended.TheVariants.{Done, Warnings, Errors, BadWords, BadInput, Stopped, TooMuchInput, TooManyPieces, OpenFault, ReadFault, WriteFault, OutOfMemory}
+use Rattle.osm_job.specs.declared.ended.Ended.TheVariants.{Done, Warnings, Errors, BadWords, BadInput, Stopped, TooMuchInput, TooManyPieces, Refuted, BadPoint, OpenFault, ReadFault, WriteFault, OutOfMemory}
 use Rattle.osm_words.specs.Job.{Job}
-use Rattle.osm_job.specs.Cause.{Cause, by_itself, by_words, by_input, by_pieces, by_open, by_read, by_write, by_memory, cause_of}
+use Rattle.osm_job.specs.Cause.{Cause, by_itself, by_words, by_input, by_verdict, by_open, by_read, by_write, by_memory, cause_of}
 use Rattle.osm_input.specs.ReadFaults.{LastReadFailed, NoneOrLastReadFailed}
 use Rattle.osm_job.specs.Faults.{ReadsFailed, NoFault, CountsFaults}
 use Rattle.osm_job.specs.Texts.{Texts}
@@ -52,10 +52,10 @@ opens_so_far (Err fault) cause before middle now only opens = only.opens ∙ ope
 opens_so_far (Ok job) by_itself before middle now only opens = only.opens ∙ opens
 opens_so_far (Ok job) by_words before middle now only opens = opens
 opens_so_far (Ok job) by_input before middle now only opens = (opens.0, opens.1, opens.2, only.opens ∙ opens.3)
-opens_so_far (Ok job) by_pieces before middle now only opens = only.opens ∙ opens
+opens_so_far (Ok job) by_verdict before middle now only opens = only.opens ∙ opens
 opens_so_far (Ok job) by_open before middle now only opens = (opens.0, (only.opens ∙ opens.1.0, λ more. (all_kept job before middle now only.left only.bytes_read (opens.1.1 more).0, (opens.1.1 more).1)))
 opens_so_far (Ok job) by_read before middle now only opens = (opens.0, opens.1, opens.2, only.opens ∙ opens.3)
-opens_so_far (Ok job) by_write before middle now only opens = only.opens ∙ opens
+opens_so_far (Ok job) by_write before middle now only opens = (opens.0, only.opens ∙ opens.1)
 opens_so_far (Ok job) by_memory before middle now only opens = (opens.0, (only.opens ∙ opens.1.0, λ more. (all_kept job before middle now only.left only.bytes_read (opens.1.1 more).0, (opens.1.1 more).1)))
 
 input_so_far : (words : Result Job WordsFault) (ended : Ended) (before middle now : Outside) → OnlyWritesReport middle now → JudgesInput words ended before middle → JudgesInput words ended before now
@@ -83,6 +83,8 @@ reads_still (BadInput line fault) before middle now same failed reads = last_sti
 reads_still (Stopped candidate) before middle now same failed reads = same ∙ reads
 reads_still (TooMuchInput limit) before middle now same failed reads = same ∙ reads
 reads_still (TooManyPieces most) before middle now same failed reads = same ∙ reads
+reads_still (Refuted line) before middle now same failed reads = same ∙ reads
+reads_still (BadPoint line) before middle now same failed reads = same ∙ reads
 
 faults_still : (ended : Ended) (before middle now : Outside) → OnlyWritesReport middle now → CountsFaults ended before middle → CountsFaults ended before now
 faults_still ended before middle now only faults = record {
@@ -109,6 +111,8 @@ completes (Ok job) (BadWords cause) before now writes faults none = absurd write
 completes (Ok job) (BadInput line fault) before now writes faults none = inr (whole_of_all job _ (BadInput line fault) writes.written writes.right.1)
 completes (Ok job) (TooMuchInput limit) before now writes faults none = inr (whole_of_all job _ (TooMuchInput limit) writes.written writes.right.1)
 completes (Ok job) (TooManyPieces most) before now writes faults none = inr (whole_of_all job _ (TooManyPieces most) writes.written writes.right.1)
+completes (Ok job) (Refuted line) before now writes faults none = inr (whole_of_all job _ (Refuted line) writes.written writes.right.1)
+completes (Ok job) (BadPoint line) before now writes faults none = inr (whole_of_all job _ (BadPoint line) writes.written writes.right.1)
 completes (Ok job) OpenFault before now writes faults none = absurd (none.opens (let one : now.open_faults ≡ risen before.open_faults = faults.opens in omega arith))
 completes (Ok job) ReadFault before now writes faults none = absurd (none.reads (let last : LastReadFailed before now = faults.reads in let one : now.read_faults ≡ risen before.read_faults = last.0 in omega arith))
 completes (Ok job) WriteFault before now writes faults none = absurd (none.writes (write_rose writes.last before.write_faults now.write_faults writes.line))

@@ -6,7 +6,7 @@ use Rattle.osm_words.specs.declared.fault.WordsFault.{WordsFault}
 use Rattle.osm_words.specs.declared.fault.WordsError.{WordsError}
 use Rattle.osm_words.specs.declared.fault.WordsError.TheVariants as words
 use Rattle.osm_words.specs.Answers.{Answers}
-use Rattle.osm_words.specs.Job.{CoastlineSettings, ExportSettings, FilterSettings, Job, coastline, export, filter, sample}
+use Rattle.osm_words.specs.Job.{CertifySettings, CoastlineSettings, ExportSettings, FilterSettings, Job, LocateSettings, certify, coastline, export, filter, locate, sample}
 use Rattle.osm_job.proofs.Keeping.{nothing_changed}
 use Rattle.osm_job.specs.declared.ended.Ended.{Ended}
 use Rattle.osm_job.specs.declared.ended.Ended.TheVariants.{BadWords, OutOfMemory}
@@ -15,10 +15,12 @@ use Rattle.osm_job.specs.Taken.{TookNothing}
 use Rattle.osm_job.specs.Texts.{told_texts}
 use Rattle.osm_job.specs.Worked.{Worked}
 use Rattle.osm_job.specs.Written.{IsWrittenBy}
-use Rattle.osm_job.proofs.Taken.{input_kept}
+use Rattle.osm_job.proofs.Taken.{both_kept, input_kept}
+use Rattle.job_certify.specs.Certify.{Certifies}
 use Rattle.job_coastline.specs.Coastline.{Coastlines}
 use Rattle.job_export.specs.Export.{Exports}
 use Rattle.job_filter.specs.Filter.{Filters}
+use Rattle.job_locate.specs.Locate.{Locates}
 use Rattle.job_sample.specs.Sample.{Samples}
 use Rattle.osm_cli.specs.Job.{TookAll, inputs_of, outputs_of}
 use Rattle.osm_cli.specs.RunSteps.{Works, words_ended}
@@ -36,6 +38,8 @@ all_kept (export settings) before middle now same counted took = input_kept midd
 all_kept (coastline settings) before middle now same counted took = input_kept middle now same counted before settings.file took
 all_kept (sample count) before middle now same counted took = nothing_kept before middle now same counted took
 all_kept (filter settings) before middle now same counted took = input_kept middle now same counted before settings.file took
+all_kept (certify settings) before middle now same counted took = both_kept middle now same counted before settings.file settings.text took
+all_kept (locate settings) before middle now same counted took = both_kept middle now same counted before settings.file settings.points took
 
 of_job : (job : Job) (ended : Ended) (before after : Outside) → Worked (inputs_of job) (outputs_of job) (IsWhole job) (TookAll job) ended before after → Works (Ok job) ended before after
 of_job job ended before after w = record {
@@ -62,6 +66,12 @@ of_sample count ended before after done = of_job (sample count) ended before aft
 
 pub of_filter : (settings : FilterSettings) (ended : Ended) (before after : Outside) → Filters settings ended before after → Works (Ok (filter settings)) ended before after
 of_filter settings ended before after done = of_job (filter settings) ended before after done
+
+pub of_certify : (settings : CertifySettings) (ended : Ended) (before after : Outside) → Certifies settings ended before after → Works (Ok (certify settings)) ended before after
+of_certify settings ended before after done = of_job (certify settings) ended before after done
+
+pub of_locate : (settings : LocateSettings) (ended : Ended) (before after : Outside) → Locates settings ended before after → Works (Ok (locate settings)) ended before after
+of_locate settings ended before after done = of_job (locate settings) ended before after done
 
 -- of words that ask for the same
 pub works_alike : (x y : Result Job WordsFault) (ended : Ended) (before now : Outside) → Works x ended before now → x ≡ y → Works y ended before now

@@ -10,7 +10,7 @@ use Rattle.osm_words.specs.declared.fault.WordsFault.TheVariants.{NoCommand, Unk
 use Rattle.osm_input.specs.declared.fault.InputFault.{InputFault}
 use Rattle.osm_input.specs.declared.fault.InputFault.TheVariants.{Line, TooLong, Duplicate}
 use Rattle.osm_job.specs.declared.ended.Ended.{Ended}
-use Rattle.osm_job.specs.declared.ended.Ended.TheVariants.{Done, Warnings, Errors, BadWords, BadInput, Stopped, TooMuchInput, TooManyPieces, OpenFault, ReadFault, WriteFault, OutOfMemory}
+use Rattle.osm_job.specs.declared.ended.Ended.TheVariants.{Done, Warnings, Errors, BadWords, BadInput, Stopped, TooMuchInput, TooManyPieces, Refuted, BadPoint, OpenFault, ReadFault, WriteFault, OutOfMemory}
 
 abbrev pub words_line : WordsFault → List ℕ
 words_line NoCommand = codes "osmpoly: no command\n"
@@ -23,7 +23,7 @@ kind_word Node = codes "node"
 kind_word Way = codes "way"
 kind_word Relation = codes "relation"
 
--- the beginning of a line about a line of the input
+-- the beginning of a line about a line of an input
 abbrev pub line_begun : ℕ → List ℕ
 line_begun line = codes "osmpoly: line " ++ decimal line ++ codes ": "
 
@@ -52,6 +52,8 @@ last_line (Stopped candidate) =
     codes "osmpoly: stopped at " ++ kind_word candidate.kind ++ codes " " ++ signed_decimal candidate.id ++ codes "\n"
 last_line (TooMuchInput limit) = codes "osmpoly: too much input\n"
 last_line (TooManyPieces most) = codes "osmpoly: too many pieces\n"
+last_line (Refuted line) = codes "osmpoly: line " ++ decimal line ++ codes " is not right\n"
+last_line (BadPoint line) = line_begun line ++ codes "bad point\n"
 last_line OpenFault = codes "osmpoly: open fault\n"
 last_line ReadFault = codes "osmpoly: read fault\n"
 last_line WriteFault = codes "osmpoly: write fault\n"

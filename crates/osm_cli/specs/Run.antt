@@ -94,7 +94,8 @@ pub record Ran (words : Result Job WordsFault) (ended : Ended) (before after : O
   pub judges : JudgesWords words ended
   -- An input is refused only for what was taken off it, and only a whole one is written of.
   pub reads : JudgesInput words ended before after
-  -- No name is opened that the words don't give, and no output before the inputs are read, nor one for too many pieces.
+  -- No name is opened that the words don't give, and no output before the inputs are read, nor one where what they hold
+  -- allows none.
   pub opens : Opens words (cause_of ended) before after
   -- OpenFault comes with one open that failed, ReadFault with one read, the last; the others with none, but for a read
   -- behind a bad line or before memory ran out.

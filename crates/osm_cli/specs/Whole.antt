@@ -1,10 +1,13 @@
 -- What a run is to write in all, and how it is to end, by its job.
-use Rattle.osm_words.specs.Job.{Job, coastline, export, filter, sample}
+use Rattle.osm_words.specs.Job.{Job, certify, coastline, export, filter, locate, sample}
 use Rattle.osm_job.specs.Texts.{Texts}
 use Rattle.osm_job.specs.Whole.{IsReadThen, Whole}
+use Rattle.osm_job.specs.Worked.{OverBoth}
+use Rattle.job_certify.specs.Certify.{IsCertify}
 use Rattle.job_coastline.specs.Coastline.{IsCoastline}
 use Rattle.job_export.specs.Export.{IsExport}
 use Rattle.job_filter.specs.Filter.{IsFilter}
+use Rattle.job_locate.specs.Locate.{IsLocate}
 use Rattle.job_sample.specs.Sample.{IsSample}
 use Rattle.osm_cli.specs.Job.{inputs_of}
 
@@ -14,3 +17,5 @@ IsWhole (export settings) texts whole = IsReadThen (IsExport settings) texts.0 w
 IsWhole (coastline settings) texts whole = IsReadThen (IsCoastline settings) texts.0 whole
 IsWhole (sample count) texts whole = IsSample count whole
 IsWhole (filter settings) texts whole = IsReadThen IsFilter texts.0 whole
+IsWhole (certify settings) texts whole = OverBoth (IsCertify settings) settings.file settings.text texts whole
+IsWhole (locate settings) texts whole = OverBoth (IsLocate settings) settings.file settings.points texts whole

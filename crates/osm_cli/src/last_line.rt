@@ -2,7 +2,7 @@
 
 ghost use Rattle.std.specs.Prelude.{◌≡◌, ◌≤◌, length};
 ghost use Rattle.osm_words.specs.declared.fault.WordsFault.TheVariants.{OutOfRange};
-ghost use Rattle.osm_job.specs.declared.ended.Ended.TheVariants.{Stopped};
+ghost use Rattle.osm_job.specs.declared.ended.Ended.TheVariants.{BadPoint, Refuted, Stopped};
 ghost use Rattle.osm_cli.specs.LastLine.{last_line, fault_line, line_begun, bad_line, again_line, kind_word, words_line};
 
 use crate::fixed_line::Line;
@@ -22,6 +22,8 @@ pub(crate) fn last_line(ended: &Ended) -> Line
         Ended::Stopped { candidate } => stopped_line(*candidate),
         Ended::TooMuchInput { .. } => line_of("osmpoly: too much input\n"),
         Ended::TooManyPieces { .. } => line_of("osmpoly: too many pieces\n"),
+        Ended::Refuted { line } => refuted_line(*line),
+        Ended::BadPoint { line } => bad_point_line(*line),
         Ended::OpenFault => line_of("osmpoly: open fault\n"),
         Ended::ReadFault => line_of("osmpoly: read fault\n"),
         Ended::WriteFault => line_of("osmpoly: write fault\n"),
@@ -60,6 +62,23 @@ fn stopped_line(candidate: ObjectRef) -> Line
     whole
 }
 
+fn refuted_line(line: u64) -> Line
+    ensures { result ≡ last_line (Refuted line) }
+{
+    let mut whole = line_of("osmpoly: line ");
+    whole.put_number(line);
+    whole.put(" is not right\n");
+    whole
+}
+
+fn bad_point_line(line: u64) -> Line
+    ensures { result ≡ last_line (BadPoint line) }
+{
+    let mut whole = line_begun(line);
+    whole.put("bad point\n");
+    whole
+}
+
 fn fault_line(line: u64, fault: &InputFault) -> Line
     ensures { result ≡ fault_line line fault.now }
 {
@@ -74,7 +93,7 @@ fn fault_line(line: u64, fault: &InputFault) -> Line
     }
 }
 
-/// The beginning of a line about a line of the input.
+/// The beginning of a line about a line of an input.
 fn line_begun(line: u64) -> Line
     ensures text { result ≡ line_begun line }
     ensures short { length result ≤ 36 }

@@ -4,26 +4,31 @@ ghost use Rattle.std.specs.Prelude.{◌≡◌, ℕ, List, Ok, map, string_bytes}
 ghost use Rattle.osm_cli.specs.Run.{Ran};
 ghost use Rattle.osm_cli.specs.RunSteps.{Works, words_ended};
 ghost use Rattle.osm_cli.specs.Status.{EndsWith};
-ghost use Rattle.osm_words.specs.Answers.{coastline_seen, filter_seen, job_seen, sample_seen, settings_seen};
-ghost use Rattle.osm_words.specs.Job.{coastline, export, filter, sample};
+ghost use Rattle.osm_words.specs.Answers.{certify_seen, coastline_seen, filter_seen, job_seen, locate_seen, sample_seen, settings_seen};
+ghost use Rattle.osm_words.specs.Job.{certify, coastline, export, filter, locate, sample};
+ghost use Rattle.osm_words.specs.PlainCertify.{ArePlainCertify, CertifyOption, certify_words, said_certify};
 ghost use Rattle.osm_words.specs.PlainCoastline.{ArePlainCoastline, CoastlineOption, coastline_words, said_coastline};
 ghost use Rattle.osm_words.specs.PlainExport.{ArePlain, ExportOption, export_words, said};
 ghost use Rattle.osm_words.specs.PlainFilter.{ArePlainFilter, FilterOption, filter_words, said_filter};
+ghost use Rattle.osm_words.specs.PlainLocate.{ArePlainLocate, LocateOption, locate_words, said_locate};
 ghost use Rattle.osm_words.specs.PlainSample.{IsPlainCount, sample_words};
 ghost use Rattle.osm_words.specs.PlainWords.{Form};
 ghost use Rattle.osm_words.specs.Words.{job_asked};
 
 use crate::last_line::last_line;
 use crate::statuses::status;
+use job_certify::certify_text;
 use job_coastline::coastline;
 use job_export::export;
 use job_filter::filter_coast;
+use job_locate::locate_points;
 use job_sample::sample;
 use osm_host::{Host, streams_append, write_all_report};
 use osm_job::Ended;
 use osm_words::{
-    CoastlineSettings, ExportSettings, FilterSettings, Job, SampleSettings, WordsError, command_of,
-    job_of, plain_coastline_words_are_taken, plain_filter_words_are_taken,
+    CertifySettings, CoastlineSettings, ExportSettings, FilterSettings, Job, LocateSettings,
+    SampleSettings, WordsError, command_of, job_of, plain_certify_words_are_taken,
+    plain_coastline_words_are_taken, plain_filter_words_are_taken, plain_locate_words_are_taken,
     plain_sample_words_are_taken, plain_words_are_taken,
 };
 use std::alloc::Global;
@@ -49,12 +54,22 @@ pub fn run<H: Host>(alloc: Global, words: &[String], host: &mut H) -> Ended
         → ArePlainFilter options file
         → map string_bytes words.now ≡ filter_words options file
         → job_asked (map string_bytes words.now) ≡ Ok (filter (said_filter options file)) }
+    ensures plain_certify { (options : List (Form × CertifyOption)) (file text : List ℕ)
+        → ArePlainCertify options file text
+        → map string_bytes words.now ≡ certify_words options file text
+        → job_asked (map string_bytes words.now) ≡ Ok (certify (said_certify options file text)) }
+    ensures plain_locate { (options : List (Form × LocateOption)) (file points : List ℕ)
+        → ArePlainLocate options file points
+        → map string_bytes words.now ≡ locate_words options file points
+        → job_asked (map string_bytes words.now) ≡ Ok (locate (said_locate options file points)) }
 {
     // By law: plain words ask for what they say, and what is reported adds up in turn.
     plain_words_are_taken();
     plain_coastline_words_are_taken();
     plain_sample_words_are_taken();
     plain_filter_words_are_taken();
+    plain_certify_words_are_taken();
+    plain_locate_words_are_taken();
     streams_append();
     let ended = work(alloc, words, host);
     let line = last_line(&ended);
@@ -92,6 +107,8 @@ fn work_on<H: Host>(alloc: Global, job: &Job<'_>, host: &mut H) -> Ended
         Job::Coastline(settings) => run_coastline(alloc, settings, host),
         Job::Sample(settings) => run_sample(alloc, settings, host),
         Job::Filter(settings) => run_filter(alloc, settings, host),
+        Job::Certify(settings) => run_certify(alloc, settings, host),
+        Job::Locate(settings) => run_locate(alloc, settings, host),
     }
 }
 
@@ -125,6 +142,22 @@ fn run_filter<H: Host>(alloc: Global, settings: &FilterSettings<'_>, host: &mut 
         (H.seen host.new) }
 {
     filter_coast(alloc, settings, host)
+}
+
+/// As `certify_text`, of which it says what it is for a run.
+fn run_certify<H: Host>(alloc: Global, settings: &CertifySettings<'_>, host: &mut H) -> Ended
+    ensures { Works (Ok (certify (certify_seen settings.now))) result (H.seen host.old)
+        (H.seen host.new) }
+{
+    certify_text(alloc, settings, host)
+}
+
+/// As `locate_points`, of which it says what it is for a run.
+fn run_locate<H: Host>(alloc: Global, settings: &LocateSettings<'_>, host: &mut H) -> Ended
+    ensures { Works (Ok (locate (locate_seen settings.now))) result (H.seen host.old)
+        (H.seen host.new) }
+{
+    locate_points(alloc, settings, host)
 }
 
 /// How a run ends whose words aren't taken.

@@ -11,9 +11,12 @@ pub fn status(command: Command, ended: &Ended) -> u8
     ensures { result ≡ status_of command ended.now }
 {
     match command {
-        Command::Export | Command::Sample | Command::Filter | Command::Unknown => {
-            export_status(ended)
-        }
+        Command::Export
+        | Command::Sample
+        | Command::Filter
+        | Command::Certify
+        | Command::Locate
+        | Command::Unknown => export_status(ended),
         Command::Coastline => coastline_status(ended),
     }
 }
@@ -33,6 +36,8 @@ fn coastline_status(ended: &Ended) -> u8
         | Ended::BadInput { .. }
         | Ended::TooMuchInput { .. }
         | Ended::TooManyPieces { .. }
+        | Ended::Refuted { .. }
+        | Ended::BadPoint { .. }
         | Ended::OpenFault
         | Ended::ReadFault
         | Ended::WriteFault => 3,
@@ -53,6 +58,8 @@ fn export_status(ended: &Ended) -> u8
         | Ended::BadInput { .. }
         | Ended::TooMuchInput { .. }
         | Ended::TooManyPieces { .. }
+        | Ended::Refuted { .. }
+        | Ended::BadPoint { .. }
         | Ended::OpenFault
         | Ended::ReadFault
         | Ended::WriteFault => 1,

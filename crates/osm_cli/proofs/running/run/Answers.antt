@@ -20,3 +20,9 @@ returns-clause-plain_sample g c = λ written count plain same. ap job_asked same
 
 pub returns-clause-plain_filter : goal.returns-clause-plain_filter
 returns-clause-plain_filter g c = λ options file plain same. ap job_asked same ∙ c.plain_filter_words_are_taken.ensures options file plain
+
+pub returns-clause-plain_certify : goal.returns-clause-plain_certify
+returns-clause-plain_certify g c = λ options file text plain same. ap job_asked same ∙ c.plain_certify_words_are_taken.ensures options file text plain
+
+pub returns-clause-plain_locate : goal.returns-clause-plain_locate
+returns-clause-plain_locate g c = λ options file points plain same. ap job_asked same ∙ c.plain_locate_words_are_taken.ensures options file points plain

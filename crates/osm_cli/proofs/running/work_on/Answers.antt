@@ -13,3 +13,9 @@ returns-in-Sample g c = works_alike _ _ c.run_sample.result (g.H.Host.seen c.arg
 
 pub returns-in-Filter : goal.returns-in-Filter
 returns-in-Filter g c = works_alike _ _ c.run_filter.result (g.H.Host.seen c.args.host.now) (g.H.Host.seen c.run_filter.new.host) c.run_filter.ensures (search rules)
+
+pub returns-in-Certify : goal.returns-in-Certify
+returns-in-Certify g c = works_alike _ _ c.run_certify.result (g.H.Host.seen c.args.host.now) (g.H.Host.seen c.run_certify.new.host) c.run_certify.ensures (search rules)
+
+pub returns-in-Locate : goal.returns-in-Locate
+returns-in-Locate g c = works_alike _ _ c.run_locate.result (g.H.Host.seen c.args.host.now) (g.H.Host.seen c.run_locate.new.host) c.run_locate.ensures (search rules)
