@@ -1,41 +1,137 @@
 #!/usr/bin/env python3
-"""Draws the areas of a GeoJSON feature collection as SVG.  Usage: osmpoly export FILE | draw.py >FILE.svg"""
+"""Draws a map as SVG.  Usage: draw.py [FILE ..] >FILE.svg
+
+Each FILE, standard input where there is none or for `-`, is one of these, the first at the bottom:
+- GeoJSON: areas as `osmpoly export` writes them, problems as problems.py does (red; warnings orange, notes violet)
+- pieces of land and water, the output of `osmpoly coastline`; the picture's edges are those of all else
+- points, the output of `osmpoly locate`: full in an area, ringed on a boundary, empty outside
+- OPL: its ways as thin lines
+A line that isn't drawn, as one of a report, is passed over."""
+import collections
 import json
+import re
 import sys
+from xml.sax.saxutils import escape
 
-SCALE = 40
-MARGIN = 1
+SIDE = 640  # of the longer side, in pixels
+SHARE = 14  # of that side's length to a margin
+FEW = 200  # corners of areas that are marked; where there are more, areas have fine lines and no marks
 COLOURS = ["#9ecae1", "#a1d99b", "#fdd0a2", "#dadaeb"]
+SEVERITIES = {"problem": "#d7301f", "error": "#d7301f", "warning": "#fd8d3c", "note": "#756bb1"}
+LAND = 'fill="#f2e6c7" stroke="#8c7b50" stroke-width="1" fill-rule="evenodd"'
+WATER = 'fill="#c6dbef" stroke="#6baed6" stroke-width="1" fill-rule="evenodd"'
+WAY = 'fill="none" stroke="#888888" stroke-width="1.5"'
+# of located points
+POINTS = {"in": "#238b45", "on": "#ffffff", "none": "none"}
+
+# `rings` are closed; with `nodes` their corners are marked
+Polygon = collections.namedtuple("Polygon", "rings style nodes")
+Line = collections.namedtuple("Line", "points style title")
+Point = collections.namedtuple("Point", "place style title")
 
 
-def bounds(features):
-    points = [p for f in features for polygon in f["geometry"]["coordinates"] for ring in polygon for p in ring]
-    xs, ys = [p[0] for p in points], [p[1] for p in points]
-    return min(xs) - MARGIN, min(ys) - MARGIN, max(xs) + MARGIN, max(ys) + MARGIN
+def of_features(features):
+    shapes = [feature["geometry"] or {"type": None} for feature in features]
+    few = sum(len(ring) for shape in shapes if shape["type"] == "MultiPolygon" for rings in shape["coordinates"] for ring in rings) <= FEW
+    for number, (feature, shape) in enumerate(zip(features, shapes)):
+        colour = SEVERITIES.get(feature["properties"].get("severity"))
+        title = feature["properties"].get("text")
+        if shape["type"] == "MultiPolygon":
+            style = f'fill="{COLOURS[number % len(COLOURS)]}" stroke="#333333" stroke-width="{2 if few else 0.5}" fill-rule="evenodd"'
+            yield from (Polygon(rings, style, few) for rings in shape["coordinates"])
+        elif shape["type"] == "LineString":
+            yield Line(shape["coordinates"], f'fill="none" stroke="{colour}" stroke-width="5"', title)
+        elif shape["type"] == "Point":
+            yield Point(shape["coordinates"], f'r="8" fill="{colour}" fill-opacity="0.4" stroke="{colour}" stroke-width="3"', title)
 
 
-def path(polygon, west, north):
-    rings = []
-    for ring in polygon:
-        at = [f"{(x - west) * SCALE:.1f},{(north - y) * SCALE:.1f}" for x, y in ring[:-1]]
-        rings.append("M" + " L".join(at) + "Z")
-    return " ".join(rings)
+def of_piece(kind, text):
+    rings = [[tuple(map(float, point.split(" "))) for point in ring.split(",")] for ring in re.findall(r"\(([^()]+)\)", text)]
+    return Polygon(rings, LAND if kind == "land" else WATER, False)
 
 
-def draw(features):
-    west, south, east, north = bounds(features)
-    width, height = (east - west) * SCALE, (north - south) * SCALE
-    yield f'<svg xmlns="http://www.w3.org/2000/svg" viewBox="0 0 {width:.0f} {height:.0f}" width="{width:.0f}" height="{height:.0f}">'
-    yield f'<rect width="{width:.0f}" height="{height:.0f}" fill="#ffffff"/>'
-    for number, feature in enumerate(features):
-        for polygon in feature["geometry"]["coordinates"]:
-            colour = COLOURS[number % len(COLOURS)]
-            yield f'<path d="{path(polygon, west, north)}" fill="{colour}" stroke="#333333" stroke-width="2" fill-rule="evenodd"/>'
-            for ring in polygon:
-                for x, y in ring[:-1]:
-                    yield f'<circle cx="{(x - west) * SCALE:.1f}" cy="{(north - y) * SCALE:.1f}" r="4" fill="#333333"/>'
-    yield "</svg>"
+def of_located(line, x, y, answer):
+    where = "on" if " on " in answer else answer.split()[0]
+    return Point((float(x), float(y)), f'r="7" fill="{POINTS[where]}" stroke="#238b45" stroke-width="3"', line)
+
+
+def of_ways(lines):
+    """The ways of OPL, by their references' own locations or those of their nodes."""
+    objects = [line.split() for line in lines if re.match(r"[nw]-?\d", line)]
+    values = [(fields[0], {field[0]: field[1:] for field in fields[1:]}) for fields in objects]
+    places = {node: (value["x"], value["y"]) for node, value in values if value.get("x") and value.get("y")}
+    for way, value in values:
+        references = re.findall(r"(n-?\d+)(?:x([^,y]*)y([^,]*))?", value.get("N", ""))
+        points = [(x, y) if x and y else places.get(node) for node, x, y in references]
+        yield Line([(float(point[0]), float(point[1])) for point in points if point], WAY, f"way {way[1:]}")
+
+
+def shapes_of(text):
+    if text.startswith("{"):
+        yield from of_features(json.loads(text)["features"])
+        return
+    lines = text.splitlines()
+    for line in lines:
+        if piece := re.match(r"(land|water) POLYGON(\(.*\))$", line):
+            yield of_piece(*piece.groups())
+        elif point := re.match(r"(-?[\d.]+) (-?[\d.]+):( none| in .*| on .*)$", line):
+            yield of_located(line, *point.groups())
+    yield from of_ways(lines)
+
+
+def points_of(shape):
+    if isinstance(shape, Polygon):
+        return [point for ring in shape.rings for point in ring]
+    return shape.points if isinstance(shape, Line) else [shape.place]
+
+
+class Sheet:
+    """Where a place stands in the picture, in pixels from its upper left corner."""
+
+    def __init__(self, shapes):
+        framing = [shape for shape in shapes if shape.style != WATER] or shapes
+        points = [point for shape in framing for point in points_of(shape)] or [(0, 0)]
+        xs, ys = [point[0] for point in points], [point[1] for point in points]
+        side = max(max(xs) - min(xs), max(ys) - min(ys)) or 1
+        margin = side / SHARE
+        self.scale = SIDE / (side + 2 * margin)
+        self.west, self.north = min(xs) - margin, max(ys) + margin
+        self.width, self.height = self.at((max(xs) + margin, min(ys) - margin))
+
+    def at(self, point):
+        return (point[0] - self.west) * self.scale, (self.north - point[1]) * self.scale
+
+    def path(self, points):
+        return "M" + " L".join("{:.1f},{:.1f}".format(*self.at(point)) for point in points)
+
+    def circle(self, place):
+        return 'cx="{:.1f}" cy="{:.1f}"'.format(*self.at(place))
+
+    def elements(self, shape):
+        if isinstance(shape, Polygon):
+            yield f'<path d="{" ".join(self.path(ring[:-1]) + "Z" for ring in shape.rings)}" {shape.style}/>'
+            for place in [place for ring in shape.rings for place in ring[:-1] if shape.nodes]:
+                yield f'<circle {self.circle(place)} r="4" fill="#333333"/>'
+        elif isinstance(shape, Line) and shape.points:
+            yield f'<path d="{self.path(shape.points)}" {shape.style}><title>{escape(shape.title)}</title></path>'
+        elif isinstance(shape, Point):
+            yield f'<circle {self.circle(shape.place)} {shape.style}><title>{escape(shape.title)}</title></circle>'
+
+    def drawing(self, shapes):
+        size = f"{self.width:.0f} {self.height:.0f}"
+        yield f'<svg xmlns="http://www.w3.org/2000/svg" viewBox="0 0 {size}" width="{self.width:.0f}" height="{self.height:.0f}">'
+        yield f'<rect width="{self.width:.0f}" height="{self.height:.0f}" fill="#ffffff"/>'
+        for shape in shapes:
+            yield from self.elements(shape)
+        yield "</svg>"
+
+
+def main():
+    files = sys.argv[1:] or ["-"]
+    texts = [sys.stdin.read() if file == "-" else open(file, encoding="utf-8").read() for file in files]
+    shapes = [shape for text in texts for shape in shapes_of(text)]
+    print("\n".join(Sheet(shapes).drawing(shapes)))
 
 
 if __name__ == "__main__":
-    print("\n".join(draw(json.load(sys.stdin)["features"])))
+    main()
