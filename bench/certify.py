@@ -1,7 +1,7 @@
 #!/usr/bin/env python3
 """Certifies what `osmpoly export -f text` writes over an OPL file: as it is, and with one digit changed at each of twenty places, where the
 line of the change has to be named; and compares the time of `certify` with that of `export`, the middle one of five runs each.
-Usage: certify.py FILE  (after a first `./osmpoly`)"""
+Usage: certify.py FILE  (after `./prove`)"""
 import pathlib
 import random
 import resource

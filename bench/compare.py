@@ -1,6 +1,6 @@
 #!/usr/bin/env python3
 """Compares the areas that osmpoly and osmium make of one OPL file, ring by ring: where a ring begins and which way it runs is nothing
-to it, nor the order of polygons.  Usage: compare.py FILE  (after a first `./osmpoly`; it needs osmium)"""
+to it, nor the order of polygons.  Usage: compare.py FILE  (after `./prove`; it needs osmium)"""
 import collections
 import pathlib
 import re

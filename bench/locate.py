@@ -1,7 +1,7 @@
-#!/usr/bin/env python3
+#!/usr/bin/python3
 """Locates N random points in the areas of an OPL file by `osmpoly locate` and by shapely's STRtree, and compares the answers: which areas
-hold a point or have it on them, in the same order.  A tenth of the points are nodes of areas.  Usage: locate.py FILE N  (after a first
-`./osmpoly`; it needs python3-shapely and osmium's coordinates in degrees)"""
+hold a point or have it on them, in the same order.  A tenth of the points are nodes of areas.  Usage: locate.py FILE N  (after
+`./prove`; it needs Debian's python3-shapely, so it runs by Debian's python3)"""
 import pathlib
 import random
 import re
