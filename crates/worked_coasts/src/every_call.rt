@@ -161,6 +161,8 @@ fn ends_at_its_last_line(alloc: Global, bytes: &[u8]) -> Result<bool, OutOfMemor
         | Ended::BadWords { .. }
         | Ended::TooMuchInput { .. }
         | Ended::TooManyPieces { .. }
+        | Ended::Refuted { .. }
+        | Ended::BadPoint { .. }
         | Ended::OpenFault
         | Ended::ReadFault
         | Ended::WriteFault
