@@ -1,5 +1,5 @@
 -- Nodes whose ids rise: one more at the end, and where a search by halves goes on.
-use Rattle.std.proofs.Common.{◌≡◌, ◌∙◌, refl, sym, ap, subst, ℕ, suc, zero, T, ℤ, Bool, true, false, cond, List, [], ◌∷◌, ◌++◌, length, get_or, take, drop, ◌-◌, slice_get, None, Some, arith}
+use Rattle.std.proofs.Common.{◌≡◌, ◌∙◌, refl, sym, ap, subst, ℕ, suc, zero, T, ℤ, Bool, true, false, cond, List, [], ◌∷◌, ◌++◌, length, get_or, take, drop, ◌-◌, slice_get, None, Some, ◌<◌, arith}
 use Rattle.std.specs.Int.Signed.{◌<ℤ◌, <ℤ_irrefl, lt_z, lt_z_yes}
 use Rattle.std.specs.List.{AllByRecursion, find}
 use Rattle.std.specs.Prelude.{int_lt}
@@ -9,6 +9,7 @@ use Rattle.std.proofs.lemmas.Int.{ints}
 use Rattle.std.proofs.lemmas.Bool.{false_from_ne_true}
 use Rattle.std.proofs.lemmas.Bool.Decides.{Decides-int_eq}
 use Rattle.std.proofs.lemmas.List.{take-append-drop}
+use Rattle.std.proofs.lemmas.Option.{same_Some}
 use Rattle.osm_objects.specs.declared.plain.PlainNode.{PlainNode}
 use Rattle.osm_objects.specs.Plain.{AreRising}
 
@@ -155,3 +156,42 @@ pub go_equal : (id : ℤ) (rest nodes before : List PlainNode) (n : PlainNode) (
 go_equal id rest nodes before n behind cut rise found e =
     let all : AreRising (before ++ n ∷ behind) = subst AreRising cut rise in
     sym (stands_here id before n behind all (equal_is id n.id e)) ∙ (ap (find (has_id id)) (sym cut) ∙ found)
+
+-- ---- above all, and at a place
+
+at_place : (P : PlainNode → Type 0) (nodes : List PlainNode) (k : ℕ) (n : PlainNode) → AllByRecursion P nodes → slice_get nodes k ≡ Some n → P n
+at_place P [] k n all is = absurd (cc)
+at_place P (m ∷ nodes) zero n all is = subst P (same_Some _ _ is) all.0
+at_place P (m ∷ nodes) (suc k) n all is = at_place P nodes k n all.1 is
+
+none_beyond : (id : ℤ) (nodes : List PlainNode) (k : ℕ) (last : PlainNode) → AreRising nodes → length nodes ≡ suc k → slice_get nodes k ≡ Some last → last.id <ℤ id → find (has_id id) nodes ≡ None
+none_beyond id [] k last rise many is l = absurd (omega arith)
+none_beyond id (m ∷ []) zero last rise many is l = rw (above-differs m.id id (subst (λ (n : PlainNode). n.id <ℤ id) (sym (same_Some _ _ is)) l)) refl
+none_beyond id (m ∷ []) (suc k) last rise many is l = absurd (omega arith)
+none_beyond id (m ∷ (p ∷ nodes)) zero last rise many is l = absurd (omega arith)
+none_beyond id (m ∷ (p ∷ nodes)) (suc k) last rise many is l =
+    let below : m.id <ℤ last.id = at_place (λ (q : PlainNode). m.id <ℤ q.id) (p ∷ nodes) k last rise.0 is in
+    rw (above-differs m.id id (below-trans m.id last.id id below l)) (none_beyond id (p ∷ nodes) k last rise.1 (omega arith) is l)
+
+-- nothing is found where the last id is below
+pub none_above_last : (id : ℤ) (nodes : List PlainNode) (last : PlainNode) → AreRising nodes → Some last ≡ slice_get nodes (length nodes - 1) → lt_z last.id id ≡ true → find (has_id id) nodes ≡ None
+none_above_last id [] last rise is l = refl
+none_above_last id (m ∷ nodes) last rise is l =
+    let e : length nodes ≡ length (m ∷ nodes) - 1 = omega arith in
+    none_beyond id (m ∷ nodes) (length nodes) last rise refl (ap (slice_get (m ∷ nodes)) e ∙ sym is) (below_from last.id id l)
+
+-- a node of this id at any place is the one that is found
+found_where : (id : ℤ) (nodes : List PlainNode) (k : ℕ) (n : PlainNode) → AreRising nodes → slice_get nodes k ≡ Some n → id ≡ n.id → find (has_id id) nodes ≡ Some n
+found_where id [] k n rise is e = absurd (cc)
+found_where id (m ∷ nodes) zero n rise is e = rw ((Decides-int_eq id m.id).1 (e ∙ ap (λ (q : PlainNode). q.id) (sym (same_Some _ _ is)))) is
+found_where id (m ∷ nodes) (suc k) n rise is e =
+    let below : m.id <ℤ n.id = at_place (λ (q : PlainNode). m.id <ℤ q.id) nodes k n rise.0 is in
+    rw (subst (λ (z : ℤ). int_eq z m.id ≡ false) (sym e) (above-differs m.id n.id below)) (found_where id nodes k n rise.1 is e)
+
+stands_at : (nodes : List PlainNode) (k : ℕ) (n : PlainNode) → k < length nodes → ((d : PlainNode) → n ≡ get_or nodes k d) → slice_get nodes k ≡ Some n
+stands_at [] k n inside is = absurd (omega arith)
+stands_at (m ∷ nodes) zero n inside is = ap Some (sym (is m))
+stands_at (m ∷ nodes) (suc k) n inside is = stands_at nodes k n (omega arith) is
+
+pub found_at : (id : ℤ) (nodes : List PlainNode) (k : ℕ) (n : PlainNode) → AreRising nodes → k < length nodes → ((d : PlainNode) → n ≡ get_or nodes k d) → id ≡ n.id → find (has_id id) nodes ≡ Some n
+found_at id nodes k n rise inside is e = found_where id nodes k n rise (stands_at nodes k n inside is) e

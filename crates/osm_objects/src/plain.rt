@@ -1,6 +1,6 @@
 //! Nodes that have a location and no tags: most objects of an input are such nodes, so each takes little room.
 
-ghost use Rattle.std.specs.Prelude.{◌≡◌, ◌++◌, ◌∷◌, [], true, IsTrue, IfSome, OnOk, OnErr, find, map, option_map};
+ghost use Rattle.std.specs.Prelude.{◌≡◌, ◌++◌, ◌∷◌, [], None, Some, true, IsTrue, IfSome, OnOk, OnErr, find, map, option_map};
 ghost use Rattle.std.specs.Ordering.{int_eq};
 ghost use Rattle.osm_objects.specs.Objects.{object_at};
 ghost use Rattle.osm_objects.specs.declared.plain.PlainNode.{PlainNode};
@@ -83,8 +83,56 @@ pub(crate) fn node_of(nodes: &[PlainNode], of: ObjectRef) -> Option<PlainNode>
     by_id(nodes, of)
 }
 
+/// Whether the id lies above those of all of these nodes, as that of a node does that is added in order.
+fn lies_above(nodes: &[PlainNode], of: ObjectRef) -> bool
+    requires { AreRising nodes.now }
+    ensures { result ≡ true → find (λ n. int_eq of.id n.id) nodes.now ≡ None }
+{
+    match nodes.last() {
+        Some(last) => last.id < of.id,
+        None => true,
+    }
+}
+
+/// Where the id would stand if ids rose evenly. Only how soon a node is found rests on it.
+fn likely_place(nodes: &[PlainNode], of: ObjectRef) -> usize {
+    let (Some(first), Some(last)) = (nodes.first(), nodes.last()) else {
+        return 0;
+    };
+    let whole = last.id.wrapping_sub(first.id).unsigned_abs();
+    let part = of.id.wrapping_sub(first.id).unsigned_abs();
+    let steps = nodes.len() as u64 - 1;
+    (part.wrapping_mul(steps) / whole.max(1)) as usize
+}
+
+/// The node at a place, if it has this id.
+fn node_at(nodes: &[PlainNode], place: usize, of: ObjectRef) -> Option<PlainNode>
+    requires { AreRising nodes.now }
+    ensures { IfSome result (λ node. find (λ n. int_eq of.id n.id) nodes.now ≡ Some node) }
+{
+    match nodes.get(place) {
+        Some(node) if node.id == of.id => Some(*node),
+        _ => None,
+    }
+}
+
 /// The node of this id among nodes whose ids rise.
 fn by_id(nodes: &[PlainNode], of: ObjectRef) -> Option<PlainNode>
+    requires { AreRising nodes.now }
+    ensures { result ≡ find (λ n. int_eq of.id n.id) nodes.now }
+{
+    if lies_above(nodes, of) {
+        return None;
+    }
+    let likely = node_at(nodes, likely_place(nodes, of), of);
+    if likely.is_some() {
+        return likely;
+    }
+    by_halves(nodes, of)
+}
+
+/// The same by halves.
+fn by_halves(nodes: &[PlainNode], of: ObjectRef) -> Option<PlainNode>
     requires { AreRising nodes.now }
     ensures { result ≡ find (λ n. int_eq of.id n.id) nodes.now }
 {

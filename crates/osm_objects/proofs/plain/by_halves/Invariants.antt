@@ -3,7 +3,7 @@ use Rattle.std.specs.List.{find}
 use Rattle.std.specs.Ordering.{int_eq}
 use Rattle.osm_objects.specs.declared.plain.PlainNode.{PlainNode}
 use Rattle.osm_objects.specs.Plain.{AreRising}
-use Rattle.osm_objects.proofs.plain.by_id.Given as goal
+use Rattle.osm_objects.proofs.plain.by_halves.Given as goal
 
 -- what is found among all is found in the rest
 abbrev pub invariant-loop-rest : goal.invariant-loop-rest

@@ -1,5 +1,5 @@
 use Rattle.osm_objects.proofs.RisingLemmas.{cut_rest, go_less, go_equal, go_greater}
-use Rattle.osm_objects.proofs.plain.by_id.Goals as goal
+use Rattle.osm_objects.proofs.plain.by_halves.Goals as goal
 
 pub loop-rest-preserved-in-Less : goal.loop-rest-preserved-in-Less
 loop-rest-preserved-in-Less c =
