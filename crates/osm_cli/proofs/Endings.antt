@@ -53,10 +53,10 @@ opens_so_far (Ok job) by_itself before middle now only opens = only.opens ∙ op
 opens_so_far (Ok job) by_words before middle now only opens = opens
 opens_so_far (Ok job) by_input before middle now only opens = (opens.0, opens.1, opens.2, only.opens ∙ opens.3)
 opens_so_far (Ok job) by_verdict before middle now only opens = only.opens ∙ opens
-opens_so_far (Ok job) by_open before middle now only opens = (opens.0, (only.opens ∙ opens.1.0, λ more. (all_kept job before middle now only.left only.bytes_read (opens.1.1 more).0, (opens.1.1 more).1)))
+opens_so_far (Ok job) by_open before middle now only opens = (opens.0, (only.opens ∙ opens.1.0, λ more. (all_kept job before middle now only.left only.bytes_read (opens.1.1 more).0, (opens.1.1 more).1), opens.1.2))
 opens_so_far (Ok job) by_read before middle now only opens = (opens.0, opens.1, opens.2, only.opens ∙ opens.3)
 opens_so_far (Ok job) by_write before middle now only opens = (opens.0, only.opens ∙ opens.1)
-opens_so_far (Ok job) by_memory before middle now only opens = (opens.0, (only.opens ∙ opens.1.0, λ more. (all_kept job before middle now only.left only.bytes_read (opens.1.1 more).0, (opens.1.1 more).1)))
+opens_so_far (Ok job) by_memory before middle now only opens = (opens.0, (only.opens ∙ opens.1.0, λ more. (all_kept job before middle now only.left only.bytes_read (opens.1.1 more).0, (opens.1.1 more).1), opens.1.2))
 
 input_so_far : (words : Result Job WordsFault) (ended : Ended) (before middle now : Outside) → OnlyWritesReport middle now → JudgesInput words ended before middle → JudgesInput words ended before now
 input_so_far (Err fault) ended before middle now only input = nothing_kept before middle now only.left only.bytes_read input

@@ -106,7 +106,7 @@ module _ (law : StreamsAppend) (o : Outside) where
     right = inl refl;
     judged = λ is. absurd (cc);
     judged_input = (tt, tt, λ none. nothing_taken);
-    opens = (0, (sym (law.no_opens o.opens), λ two. absurd (omega arith)));
+    opens = (0, (sym (law.no_opens o.opens), λ more. absurd (omega arith), λ two. absurd (omega arith)));
     faults = record { opens = refl; reads = inl refl };
     write_faults = refl;
     keeps = nothing_changed o;

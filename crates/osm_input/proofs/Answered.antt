@@ -12,7 +12,7 @@ use Rattle.osm_input.specs.ReadFaults.{LastReadFailed}
 use Rattle.opl_reader.specs.Lines.{lines_of}
 use Rattle.osm_input.specs.Lines.{lines_begun}
 use Rattle.osm_input.specs.Input.{AreGood, IsBadPlace}
-use Rattle.osm_input.specs.Reading.{lines_counted, IsReadOf, IsAnswer, Took, Reads, IsReadWhole, ReadsOnce}
+use Rattle.osm_input.specs.Reading.{lines_counted, HasEnded, IsReadOf, IsAnswer, Took, Reads, IsReadWhole, ReadsOnce}
 use Rattle.osm_input.proofs.Prefixes.{front_bad}
 
 pub within : (limit longest : ℕ) (bytes : List ℕ) → length bytes ≤ limit → lines_counted limit longest bytes ≡ lines_of bytes
@@ -45,20 +45,26 @@ bad_counted limit longest taken rest line fault bad (inl many) =
     (sym (beyond limit longest (taken ++ rest) many ∙ ap (lines_begun longest) front.1))
     (front_bad longest (λ part. nat_lt longest (length part)) (λ part long. lt-ltb longest (length part) long) (take limit taken) front.0 line fault bad)
 
+bad_told : (limit longest : ℕ) (taken rest : List ℕ) (now : Outside) (line : ℕ) (fault : InputFault) → now.left ≡ Some rest →
+    (IsBadPlace longest (lines_begun longest (take limit taken)) line fault
+    ⊎ (HasEnded now × (length taken ≤ limit) × IsBadPlace longest (lines_of taken) line fault)) →
+    IsReadOf limit longest (taken ++ rest) (Err (BadInput line fault))
+bad_told limit longest taken rest now line fault left (inl bad) = bad_counted limit longest taken rest line fault bad (cases_lt limit (length (taken ++ rest)))
+bad_told limit longest taken rest now line fault left (inr bad) =
+    let none : rest ≡ [] = subst (λ (o : Option (List ℕ)). IfSome o (λ xs. xs ≡ [])) left bad.0 in
+    subst (λ (xs : List ℕ). IsReadOf limit longest xs (Err (BadInput line fault))) (sym (ap (λ (ys : List ℕ). taken ++ ys) none ∙ append-nil taken))
+    (subst (λ (ls : List (List ℕ)). IsBadPlace longest ls line fault) (sym (within limit longest taken bad.1)) bad.2)
+
 told_of : (limit longest : ℕ) (taken rest : List ℕ) (now : Outside) (r : Result (List Object) ReadError) → now.left ≡ Some rest → IsAnswer limit longest taken now r → IsReadOf limit longest (taken ++ rest) r
 told_of limit longest taken rest now (Ok objects) left answer =
     let none : rest ≡ [] = subst (λ (o : Option (List ℕ)). IfSome o (λ xs. xs ≡ [])) left answer.0 in
     subst (λ (xs : List ℕ). IsReadOf limit longest xs (Ok objects)) (sym (ap (λ (ys : List ℕ). taken ++ ys) none ∙ append-nil taken)) answer.1
-told_of limit longest taken rest now (Err (BadInput line fault)) left (inl bad) = bad_counted limit longest taken rest line fault bad (cases_lt limit (length (taken ++ rest)))
-told_of limit longest taken rest now (Err (BadInput line fault)) left (inr bad) =
-    let none : rest ≡ [] = subst (λ (o : Option (List ℕ)). IfSome o (λ xs. xs ≡ [])) left bad.0 in
-    subst (λ (xs : List ℕ). IsReadOf limit longest xs (Err (BadInput line fault))) (sym (ap (λ (ys : List ℕ). taken ++ ys) none ∙ append-nil taken))
-    (subst (λ (ls : List (List ℕ)). IsBadPlace longest ls line fault) (sym (within limit longest taken bad.1)) bad.2)
+told_of limit longest taken rest now (Err (BadInput line fault)) left answer = bad_told limit longest taken rest now line fault left answer.0
 told_of limit longest taken rest now (Err (TooMuchInput most)) left answer =
-    let many : limit < length taken = answer.1 in (
-      answer.0,
+    let many : limit < length taken = answer.0.1 in (
+      answer.0.0,
       omega (arith, length-append taken rest),
-      subst (λ (xs : List ℕ). AreGood longest (lines_begun longest xs)) (sym (take-append-le limit taken rest (omega arith))) answer.2,
+      subst (λ (xs : List ℕ). AreGood longest (lines_begun longest xs)) (sym (take-append-le limit taken rest (omega arith))) answer.0.2,
     )
 told_of limit longest taken rest now (Err ReadFault) left answer = tt
 told_of limit longest taken rest now (Err OutOfMemory) left answer = tt

@@ -16,7 +16,7 @@ use Rattle.osm_input.specs.Keeps.{Keeps}
 use Rattle.osm_input.specs.Lines.{lines_begun}
 use Rattle.osm_input.specs.LineSteps.{Holds, IsRefusedBy, ReadsAll}
 use Rattle.osm_input.specs.Reading.{HasEnded, IsAnswer, Took, Reads, ReadsOnce}
-use Rattle.osm_input.specs.Shown.{IsShownLast, StopsThere}
+use Rattle.osm_input.specs.Shown.{IsShownLast}
 use Rattle.osm_input.proofs.Begun.{begun_whole, fewer_before}
 use Rattle.osm_input.proofs.Steps.{nothing_read}
 
@@ -109,22 +109,15 @@ module _ (limit longest : ℕ) (before middle : Outside) (r : Reader) (objects :
 
     pub end_reads : (result : Result (List Object) ReadError) → ReadsAll longest t.bytes result → Reads limit longest before now result
     end_reads (Ok all) read = let size = t.size in took (Ok all) (has_ended, (omega arith, read.0, read.1))
-    end_reads (Err (BadInput line fault)) read = let size = t.size in took (Err (BadInput line fault)) (inr (has_ended, omega arith, read.0))
+    end_reads (Err (BadInput line fault)) read =
+        let size = t.size in
+        took (Err (BadInput line fault)) (
+          inr (has_ended, omega arith, read.0),
+          subst (λ (zs : List ℕ). IsShownLast longest zs line) (append-nil t.bytes) (shown_last longest t.bytes [] line read.1 (omega arith)),
+        )
     end_reads (Err (TooMuchInput most)) read = absurd read
     end_reads (Err ReadFault) read = absurd read
     end_reads (Err OutOfMemory) read = tt
-
-    pub end_there : (result : Result (List Object) ReadError) → ReadsAll longest t.bytes result → StopsThere limit longest before now result
-    unfolding took
-    end_there (Ok all) read = tt
-    end_there (Err (BadInput line fault)) read =
-        let size = t.size in (
-          took (Err (BadInput line fault)) (inr (has_ended, omega arith, read.0)),
-          subst (λ (zs : List ℕ). IsShownLast longest zs line) (append-nil t.bytes) (shown_last longest t.bytes [] line read.1 (omega arith)),
-        )
-    end_there (Err (TooMuchInput most)) read = tt
-    end_there (Err ReadFault) read = tt
-    end_there (Err OutOfMemory) read = tt
 
     pub end_at_once : (result : Result (List Object) ReadError) → ReadsAll longest t.bytes result → now.read_faults ≡ before.read_faults → ReadsOnce before now result
     end_at_once (Ok all) read same = same
@@ -168,23 +161,20 @@ module _ (limit longest : ℕ) (before middle : Outside) (r : Reader) (objects :
         subst (λ (n : ℕ). take n all_taken ≡ t.bytes ++ take within buffer) t.size
         (take-append-add t.bytes (take count buffer) room ∙ ap (λ (xs : List ℕ). t.bytes ++ xs) room_taken)
 
-    bad_answer : (line : ℕ) (fault : InputFault) → IsBadPlace longest (lines_begun longest (t.bytes ++ take within buffer)) line fault → Took limit longest before now (Err (BadInput line fault))
-    bad_answer line fault bad = took_piece (BadInput line fault) (inl (subst (λ (zs : List ℕ). IsBadPlace longest (lines_begun longest zs) line fault) (sym within_limit) bad))
+    bad_answer : (line : ℕ) (fault : InputFault) → IsBadPlace longest (lines_begun longest (t.bytes ++ take within buffer)) line fault →
+        IsShownLast longest all_taken line → Took limit longest before now (Err (BadInput line fault))
+    bad_answer line fault bad shown =
+        took_piece (BadInput line fault)
+        (inl (subst (λ (zs : List ℕ). IsBadPlace longest (lines_begun longest zs) line fault) (sym within_limit) bad), shown)
 
     -- it is refused
-    pub piece_reads : (e : ReadError) → IsRefusedBy longest t.bytes (take within buffer) e → Reads limit longest before now (Err e)
-    piece_reads (BadInput line fault) refused = bad_answer line fault refused.bad
-    piece_reads (TooMuchInput most) refused = absurd refused
-    piece_reads ReadFault refused = absurd refused
-    piece_reads OutOfMemory refused = tt
-
-    pub piece_there : count ≤ 65536 → (e : ReadError) → IsRefusedBy longest t.bytes (take within buffer) e → StopsThere limit longest before now (Err e)
-    unfolding bad_answer took_piece
-    piece_there few (BadInput line fault) refused =
-        (bad_answer line fault refused.bad, shown_last longest t.bytes (take count buffer) line refused.behind (omega (arith, length-take count buffer)))
-    piece_there few (TooMuchInput most) refused = tt
-    piece_there few ReadFault refused = tt
-    piece_there few OutOfMemory refused = tt
+    pub piece_reads : count ≤ 65536 → (e : ReadError) → IsRefusedBy longest t.bytes (take within buffer) e → Reads limit longest before now (Err e)
+    piece_reads few (BadInput line fault) refused =
+        bad_answer line fault refused.bad
+        (shown_last longest t.bytes (take count buffer) line refused.behind (omega (arith, length-take count buffer)))
+    piece_reads few (TooMuchInput most) refused = absurd refused
+    piece_reads few ReadFault refused = absurd refused
+    piece_reads few OutOfMemory refused = tt
 
     pub piece_at_once : (e : ReadError) → IsRefusedBy longest t.bytes (take within buffer) e → now.read_faults ≡ before.read_faults → ReadsOnce before now (Err e)
     piece_at_once (BadInput line fault) refused same = inl same
@@ -194,13 +184,13 @@ module _ (limit longest : ℕ) (before middle : Outside) (r : Reader) (objects :
 
     module _ (next : Reader) (more : List Object) (holds : Holds longest (t.bytes ++ take within buffer) next more) where
       -- there is more than the limit
-      pub limit_passed : within < count → Took limit longest before now (Err (TooMuchInput limit))
-      limit_passed less =
+      pub limit_passed : count ≤ 65536 → within < count → Took limit longest before now (Err (TooMuchInput limit))
+      limit_passed few less =
           let size = t.size in
           let sum = taken_size in
           let lines : lines_begun longest (take limit all_taken) ≡ whole_lines (t.bytes ++ take within buffer) =
           ap (lines_begun longest) within_limit ∙ none_begun longest (t.bytes ++ take within buffer) next more holds in
-          took_piece (TooMuchInput limit) (refl, omega arith, subst (λ (ls : List (List ℕ)). AreGood longest ls) (sym lines) holds.good)
+          took_piece (TooMuchInput limit) ((refl, omega arith, subst (λ (ls : List (List ℕ)). AreGood longest ls) (sym lines) holds.good), omega arith)
 
       -- all of it is within the limit
       pub piece_taken : (rest : ℕ) → count ≤ within → rest ≡ room - within → Taken limit longest before now next more rest

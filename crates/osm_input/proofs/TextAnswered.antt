@@ -13,7 +13,7 @@ told_of limit taken rest now (Ok text) left answer =
     let none : rest ≡ [] = subst (λ (o : Option (List ℕ)). IfSome o (λ xs. xs ≡ [])) left answer.0 in
     subst (λ (xs : List ℕ). IsTextOf limit xs (Ok text)) (sym (ap (λ (ys : List ℕ). taken ++ ys) none ∙ append-nil taken)) answer.1
 told_of limit taken rest now (Err (TooMuchInput most)) left answer =
-    let many : limit < length taken = answer.1 in (answer.0, omega (arith, length-append taken rest))
+    let many : limit < length taken = answer.0.1 in (answer.0.0, omega (arith, length-append taken rest))
 told_of limit taken rest now (Err ReadFault) left answer = tt
 told_of limit taken rest now (Err OutOfMemory) left answer = tt
 

@@ -61,11 +61,11 @@ module _ (limit : ℕ) (before middle : Outside) (bytes : List ℕ) (room : ℕ)
         taken_counted = grown_twice before.bytes_read (length bytes) count (length all_taken) _ _ t.counted counted taken_size
 
         -- there is more than the limit
-        pub text_passed : room < count → TookWhole limit before now (Err (TooMuchInput limit))
-        text_passed less =
+        pub text_passed : count ≤ 65536 → room < count → TookWhole limit before now (Err (TooMuchInput limit))
+        text_passed few less =
             let size = t.size in
             let sum = taken_size in
-            record { taken = all_taken; left = taken_left; counted = taken_counted; answer = (refl, omega arith) }
+            record { taken = all_taken; left = taken_left; counted = taken_counted; answer = ((refl, omega arith), omega arith) }
 
         -- all of it is within the limit
         pub text_more : (longer : List ℕ) (rest : ℕ) → longer ≡ all_taken → count ≤ room → rest ≡ room - count → TextTaken limit before now longer rest

@@ -5,6 +5,7 @@ use Rattle.osm_host.specs.Outside.{Outside, preceded, grown}
 use Rattle.osm_input.specs.declared.reading.ReadError.{ReadError}
 use Rattle.osm_input.specs.declared.reading.ReadError.TheVariants.{BadInput, TooMuchInput, ReadFault, OutOfMemory}
 use Rattle.osm_input.specs.ReadFaults.{LastReadFailed, NoneOrLastReadFailed}
+use Rattle.osm_input.specs.Shown.{IsShownLast, PassesLast}
 use Rattle.opl_reader.specs.Lines.{lines_of}
 use Rattle.osm_input.specs.Lines.{lines_begun}
 use Rattle.osm_input.specs.Input.{objects_told, AreGood, IsBadPlace}
@@ -46,13 +47,16 @@ abbrev pub HasEnded : Outside → Type 0
 HasEnded now = IfSome now.left (λ left. left ≡ [])
 
 -- What is answered of the bytes that were taken off an input. With a bad place, it stands in their lines, the last one
--- counting only where the input ended there or it is too long already.
+-- counting only where the input ended there or it is too long already; and no further piece was taken behind what shows it, or that
+-- the limit is passed.
 abbrev pub IsAnswer : ℕ → ℕ → List ℕ → Outside → Result (List Object) ReadError → Type 0
 IsAnswer limit longest taken now (Ok objects) = HasEnded now × IsReadAs limit longest taken (Ok objects)
 IsAnswer limit longest taken now (Err (BadInput line fault)) =
-    IsBadPlace longest (lines_begun longest (take limit taken)) line fault
-    ⊎ (HasEnded now × (length taken ≤ limit) × IsBadPlace longest (lines_of taken) line fault)
-IsAnswer limit longest taken now (Err (TooMuchInput most)) = IsReadAs limit longest taken (Err (TooMuchInput most))
+    (IsBadPlace longest (lines_begun longest (take limit taken)) line fault
+    ⊎ (HasEnded now × (length taken ≤ limit) × IsBadPlace longest (lines_of taken) line fault))
+    × IsShownLast longest taken line
+IsAnswer limit longest taken now (Err (TooMuchInput most)) =
+    IsReadAs limit longest taken (Err (TooMuchInput most)) × PassesLast limit taken
 IsAnswer limit longest taken now (Err ReadFault) =
     (length taken ≤ limit) × AreGood longest (lines_begun longest (take limit taken))
 IsAnswer limit longest taken now (Err OutOfMemory) = Unit {0}

@@ -4,7 +4,6 @@ ghost use Rattle.std.specs.Prelude.{◌≡◌, ◌<◌, ◌^◌, IfSome};
 ghost use Rattle.osm_host.specs.Outside.{HasRisen, OnlyReads};
 ghost use Rattle.osm_input.specs.Keeps.{Keeps};
 ghost use Rattle.osm_input.specs.Reading.{IsReadOf, IsReadWhole, Reads, ReadsOnce};
-ghost use Rattle.osm_input.specs.Shown.{StopsThere};
 
 use crate::fault::InputFault;
 use crate::pieces::{finish, read_piece};
@@ -43,7 +42,9 @@ pub fn read_all<H: Host>(
     longest: u64,
 ) -> Result<Store, ReadError>
     requires { limit < 2 ^ 63 }
-    // What is answered is right for the bytes that were taken off the input.
+    // What is answered is right for the bytes that were taken off the input: with a bad line fewer than
+    // 65,536 beyond the byte that ended it or made it too long, with TooMuchInput at most so many beyond
+    // the limit.
     ensures reads { Reads limit longest (H.seen host.old) (H.seen host.new) result }
     // Where the host tells the input, it is right for the input.
     ensures told { IfSome (H.seen host.old).left (λ bytes. IsReadOf limit longest bytes result) }
@@ -53,8 +54,6 @@ pub fn read_all<H: Host>(
     // Where no read failed, the whole of it was read, or memory ran out.
     ensures complete { ¬ HasRisen (H.seen host.old).read_faults (H.seen host.new).read_faults
         → IfSome (H.seen host.old).left (λ bytes. IsReadWhole limit longest bytes result) }
-    // Fewer than 65,536 bytes are taken beyond the byte that ended the bad line or made it too long.
-    ensures there { StopsThere limit longest (H.seen host.old) (H.seen host.new) result }
     // What no run changes stays as it was.
     ensures keeps { Keeps (H.seen host.old) (H.seen host.new) }
     ensures rest { OnlyReads (H.seen host.old) (H.seen host.new) }
@@ -71,7 +70,6 @@ fn read_pieces<H: Host>(
 ) -> Result<Store, ReadError>
     requires { limit < 2 ^ 63 }
     ensures reads { Reads limit longest (H.seen host.old) (H.seen host.new) result }
-    ensures there { StopsThere limit longest (H.seen host.old) (H.seen host.new) result }
     ensures at_once { ReadsOnce (H.seen host.old) (H.seen host.new) result }
     ensures keeps { Keeps (H.seen host.old) (H.seen host.new) }
     ensures rest { OnlyReads (H.seen host.old) (H.seen host.new) }

@@ -23,10 +23,11 @@ pub enum TextError {
 /// Reads the opened input to its end, in pieces of at most 65,536 bytes, and hands over its bytes.
 ///
 /// Ok comes only where that end was reached within `limit` bytes, and TooMuchInput exactly where so
-/// many were taken and the host gave one more. No more of the input is held than the text and a piece.
+/// many were taken and the host gave at least one more. No more of the input is held than the text and a piece.
 pub fn read_text<H: Host>(alloc: Global, host: &mut H, limit: u64) -> Result<Vec<u8>, TextError>
     requires { limit < 2 ^ 63 }
-    // What is answered is right for the bytes that were taken off the input.
+    // What is answered is right for the bytes that were taken off the input: with TooMuchInput at most
+    // 65,536 beyond the limit.
     ensures reads { ReadsText limit (H.seen host.old) (H.seen host.new) (text_seen result) }
     // Where the host tells the input, it is right for the input.
     ensures told { IfSome (H.seen host.old).left

@@ -76,6 +76,7 @@ module _ (law : StreamsAppend) (file name : List ℕ) (objects : List Object) (b
   no_text (BadWords cause) l = absurd l.lack
   no_text (BadInput line fault) l = absurd l.lack
   no_text (TooMuchInput limit) l = record {
+    readable = is_readable;
     lack = record {
       right = of_named (Err (text_fault.TooMuchInput limit)) l.lack.right;
       stopped = stopped_by (read.TooMuchInput limit) (text_fault.TooMuchInput limit) refl l.lack.took l.lack.opens;
@@ -88,6 +89,7 @@ module _ (law : StreamsAppend) (file name : List ℕ) (objects : List Object) (b
   no_text (Refuted line) l = absurd l.lack
   no_text (BadPoint line) l = absurd l.lack
   no_text OpenFault l = record {
+    readable = is_readable;
     lack = elim l.lack [
       | inl one ↦ inl (opens_both one)
       | inr none ↦ inr (none ∙ has.opens)
@@ -96,12 +98,14 @@ module _ (law : StreamsAppend) (file name : List ℕ) (objects : List Object) (b
     silent = all_silent l.silent;
   }
   no_text ReadFault l = record {
+    readable = is_readable;
     lack = (stopped_by read.ReadFault text_fault.ReadFault refl l.lack.0 l.lack.1, opens_both l.lack.1);
     faults = record { opens = l.faults.opens ∙ has.open_faults; reads = last_failed l.faults.reads };
     silent = all_silent l.silent;
   }
   no_text WriteFault l = absurd l.lack
   no_text OutOfMemory l = record {
+    readable = is_readable;
     lack = opens_both l.lack;
     faults = record { opens = l.faults.opens ∙ has.open_faults; reads = none_or_last l.faults.reads };
     silent = all_silent l.silent;

@@ -93,8 +93,8 @@ module _ (law : StreamsAppend) (file name : List ℕ) (outputs : List Opened) (I
   lacks_text (BadPoint line) now l = absurd l.lack
   lacks_text OpenFault now l =
       once.silent_work law (file ∷ name ∷ []) outputs Right (TookBoth file name) before OpenFault now l.silent refl tt tt (untouched now) (elim l.lack [
-        | inl two ↦ (2, (both_opened now two, λ behind. absurd (omega arith)))
-        | inr one ↦ (1, (first_of file (name ∷ []) outputs before now one, λ behind. absurd (omega arith)))
+        | inl two ↦ (2, (both_opened now two, λ behind. absurd (omega arith), λ second. l.readable))
+        | inr one ↦ (1, (first_of file (name ∷ []) outputs before now one, λ behind. absurd (omega arith), λ second. l.readable))
       ]) l.faults l.silent.write_faults
   lacks_text ReadFault now l =
       once.silent_work law (file ∷ name ∷ []) outputs Right (TookBoth file name) before ReadFault now l.silent refl (inr l.lack.0) tt (untouched now)
@@ -102,7 +102,7 @@ module _ (law : StreamsAppend) (file name : List ℕ) (outputs : List Opened) (I
   lacks_text WriteFault now l = absurd l.lack
   lacks_text OutOfMemory now l =
       once.silent_work law (file ∷ name ∷ []) outputs Right (TookBoth file name) before OutOfMemory now l.silent (inl refl) tt tt (untouched now)
-      (2, (both_opened now l.lack, λ behind. absurd (omega arith))) l.faults l.silent.write_faults
+      (2, (both_opened now l.lack, λ behind. absurd (omega arith), λ second. l.readable)) l.faults l.silent.write_faults
 
   -- the input or the text isn't opened, isn't read, or is refused
   pub lacks_both : (ended : Ended) (now : Outside) → LacksBoth file name ended before now → Does ended now
@@ -123,6 +123,7 @@ module _ (file name : List ℕ) (IsRight : List Object → List ℕ → Whole �
     read_faults = has.read_faults;
     took = λ later left counted. ((objects, has.right), content, text_kept now later left counted before name (Ok content) has.took);
     untouched = λ none. absurd (some_input file (name ∷ []) none);
+    first = (objects, has.right);
     right = λ whole right. both_right file name IsRight (before.named file) (before.named name) objects content has.right has.right_text whole right;
   }
 

@@ -55,13 +55,13 @@ module _ (law : StreamsAppend) (file : List ℕ) (more : List (List ℕ)) (outpu
   lacks_first (BadPoint line) l = absurd l.lack
   lacks_first OpenFault l =
       silent_work law (file ∷ more) outputs IsRight TookAll before OpenFault now l.silent refl tt tt untouched (elim l.lack [
-        | inl one ↦ (1, (first_of file more outputs before now one, λ behind. absurd (omega arith)))
+        | inl one ↦ (1, (first_of file more outputs before now one, λ behind. absurd (omega arith), λ second. absurd (omega arith)))
         | inr none ↦ (
           0,
           (
             none ∙ sym (law.no_opens before.opens) ∙ ap (appended before.opens) (sym (inputs_first [] (opens_of (file ∷ more) outputs))),
-            λ
-                behind. absurd (omega arith),
+            λ behind. absurd (omega arith),
+            λ second. absurd (omega arith),
           ),
         )
       ]) l.faults l.silent.write_faults
@@ -71,4 +71,4 @@ module _ (law : StreamsAppend) (file : List ℕ) (more : List (List ℕ)) (outpu
   lacks_first WriteFault l = absurd l.lack
   lacks_first OutOfMemory l =
       silent_work law (file ∷ more) outputs IsRight TookAll before OutOfMemory now l.silent (inl refl) tt tt untouched
-      (1, (first_of file more outputs before now l.lack, λ behind. absurd (omega arith))) l.faults l.silent.write_faults
+      (1, (first_of file more outputs before now l.lack, λ behind. absurd (omega arith), λ second. absurd (omega arith))) l.faults l.silent.write_faults

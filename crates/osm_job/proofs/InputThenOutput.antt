@@ -50,6 +50,7 @@ module _ (law : StreamsAppend) (name : List ℕ) (second : Opened) (IsRight : Li
       read_faults = has.read_faults;
       took = λ later left counted. (objects, took_kept now later left counted before name (Ok objects) has.took);
       untouched = λ none. absurd (some_input name [] none);
+      first = tt;
       right = λ whole right. right_told (before.named name) has.right whole right;
     }
 

@@ -15,7 +15,7 @@ use Rattle.osm_job.specs.InputRead.{IsSilent}
 use Rattle.osm_job.specs.Opens.{OpensBy, opens_of}
 use Rattle.osm_job.specs.Prefix.{IsPrefix}
 use Rattle.osm_job.specs.Sent.{Sent, output_of, report_of}
-use Rattle.osm_job.specs.Taken.{IsStopped, TookBy, TookNothing, read_error}
+use Rattle.osm_job.specs.Taken.{IsFirstRead, IsStopped, TookBy, TookNothing, read_error}
 use Rattle.osm_job.specs.Texts.{Texts, told_texts}
 use Rattle.osm_job.specs.Whole.{Whole, silent}
 use Rattle.osm_job.specs.Worked.{IsReady, IsWrittenOver, Worked, WroteOver}
@@ -32,6 +32,7 @@ pub record HasRead (inputs : List (List ℕ)) (IsRight : Texts inputs → Whole 
   pub read_faults : now.read_faults ≡ before.read_faults
   pub took : (later : Outside) → later.left ≡ now.left → later.bytes_read ≡ now.bytes_read → TookAll before later
   pub untouched : inputs ≡ [] → TookNothing before now
+  pub first : IsFirstRead inputs before
   pub right : (whole : Whole) → Over whole → IfSome (told_texts before.named inputs) (λ texts. IsRight texts whole)
 
 -- ---- what is right, where the texts are told
@@ -95,7 +96,7 @@ module _ (law : StreamsAppend) (inputs : List (List ℕ)) (outputs : List Opened
     pub no_memory : Does OutOfMemory now
     no_memory =
         silent_work OutOfMemory now has.silent (inl refl) tt tt has.untouched
-        (length inputs, (has.opens ∙ ap (appended before.opens) (sym (inputs_first inputs outputs)), λ more. absurd (omega arith)))
+        (length inputs, (has.opens ∙ ap (appended before.opens) (sym (inputs_first inputs outputs)), λ more. absurd (omega arith), λ second. has.first))
         (record { opens = has.open_faults; reads = inl has.read_faults }) has.silent.write_faults
 
     -- what the inputs hold allows no output
@@ -169,8 +170,9 @@ module _ (law : StreamsAppend) (inputs : List (List ℕ)) (output : Opened) (IsR
     took = tt;
     untouched = none_touched opened still_left still_counted;
     opens = elim listed_or_not [
-      | inl all ↦ (length inputs + 1, (first_opens opened all, λ more. (has.took opened still_left still_counted, comes_out goes.0 goes.1 goes.2)))
-      | inr none ↦ (length inputs, (none ∙ has.opens ∙ ap (appended before.opens) (sym (inputs_first inputs (output ∷ []))), λ more. absurd (omega arith)))
+      | inl all ↦
+          (length inputs + 1, (first_opens opened all, λ more. (has.took opened still_left still_counted, comes_out goes.0 goes.1 goes.2), λ second. has.first))
+      | inr none ↦ (length inputs, (none ∙ has.opens ∙ ap (appended before.opens) (sym (inputs_first inputs (output ∷ []))), λ more. absurd (omega arith), λ second. has.first))
     ];
     faults = record { opens = failed ∙ ap risen has.open_faults; reads = opens_only.read_faults ∙ has.read_faults };
     write_faults = opens_only.write_faults ∙ has.silent.write_faults;
@@ -251,7 +253,7 @@ module _ (law : StreamsAppend) (inputs : List (List ℕ)) (output : Opened) (IsR
           (record { opens = opens_same; reads = reads_same }) (counts ∙ ap risen writes_so_far)
       over_all OutOfMemory right counts =
           works OutOfMemory (inr (begun right.0 right.1 right.2 right.3)) tt tt
-          (length inputs + 1, (first_opens last (added.rest.opens ∙ lists), λ more. (took_all, comes_out right.0 right.1 right.2)))
+          (length inputs + 1, (first_opens last (added.rest.opens ∙ lists), λ more. (took_all, comes_out right.0 right.1 right.2), λ second. has.first))
           (record { opens = opens_same; reads = inl reads_same }) (counts ∙ writes_so_far)
 
     -- it was written, as far as the job came

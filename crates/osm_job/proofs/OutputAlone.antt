@@ -27,6 +27,7 @@ module _ (law : StreamsAppend) (output : Opened) (IsRight : Whole → Type 0) (b
     read_faults = refl;
     took = λ later left counted. record { left = left; bytes_read = counted };
     untouched = λ none. record { left = refl; bytes_read = refl };
+    first = tt;
     right = λ whole right. right;
   }
 

@@ -19,8 +19,13 @@ module _ (middle now : Outside) (same : now.left ≡ middle.left) where
   answer_kept : (limit longest : ℕ) (taken : List ℕ) (result : Result (List Object) ReadError) → IsAnswer limit longest taken middle result →
       IsAnswer limit longest taken now result
   answer_kept limit longest taken (Ok objects) answer = (nothing_left answer.0, answer.1)
-  answer_kept limit longest taken (Err (read.BadInput line fault)) (inl bad) = inl bad
-  answer_kept limit longest taken (Err (read.BadInput line fault)) (inr bad) = inr (nothing_left bad.0, bad.1, bad.2)
+  answer_kept limit longest taken (Err (read.BadInput line fault)) answer = (
+    elim answer.0 [
+      | inl bad ↦ inl bad
+      | inr bad ↦ inr (nothing_left bad.0, bad.1, bad.2)
+    ],
+    answer.1,
+  )
   answer_kept limit longest taken (Err (read.TooMuchInput most)) answer = answer
   answer_kept limit longest taken (Err read.ReadFault) answer = answer
   answer_kept limit longest taken (Err read.OutOfMemory) answer = tt

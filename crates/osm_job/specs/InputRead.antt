@@ -14,7 +14,7 @@ use Rattle.osm_job.specs.declared.ended.Ended.{Ended}
 use Rattle.osm_job.specs.declared.ended.Ended.TheVariants.{Done, Warnings, Errors, Stopped, BadWords, BadInput, TooMuchInput, TooManyPieces, Refuted, BadPoint}
 use Rattle.osm_job.specs.declared.ended.Ended.TheVariants.{OpenFault, ReadFault, WriteFault, OutOfMemory}
 use Rattle.osm_job.specs.Faults.{CountsFaults}
-use Rattle.osm_job.specs.Taken.{TookOff, TookText, IsFileStopped, IsTextStopped}
+use Rattle.osm_job.specs.Taken.{TookOff, TookText, IsFileStopped, IsReadable, IsTextStopped}
 use Rattle.osm_job.specs.Whole.{input_limit, longest_line}
 
 -- Nothing was written, and no write failed.
@@ -111,6 +111,7 @@ IsTextLack file text OutOfMemory before now = OpensBoth file text before now
 
 -- The input is read, and there is no text of this name: it isn't opened, isn't read, or has too many bytes.
 pub record LacksText (file text : List ℕ) (ended : Ended) (before now : Outside) : Type 0 where
+  pub readable : IsReadable file before
   pub lack : IsTextLack file text ended before now
   pub faults : CountsFaults ended before now
   pub silent : IsSilent before now

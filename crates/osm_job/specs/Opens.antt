@@ -2,16 +2,17 @@
 use Rattle.std.specs.Prelude.{◌≡◌, ◌<◌, ◌≤◌, ℕ, List, [], ◌++◌, length, map, take}
 use Rattle.osm_host.specs.Outside.{Outside, Opened, input, appended}
 use Rattle.osm_job.specs.Cause.{Cause, by_itself, by_words, by_input, by_verdict, by_open, by_read, by_write, by_memory}
+use Rattle.osm_job.specs.Taken.{IsFirstRead}
 
 -- the opens of a job, in order
 abbrev pub opens_of : List (List ℕ) → List Opened → List Opened
 opens_of inputs outputs = map input inputs ++ outputs
 
--- The first n opens of a job were asked for, an output only once this holds.
+-- The first n opens of a job were asked for, a second input only where the first is read, an output only once this holds.
 abbrev pub OpensFirst : List (List ℕ) → List Opened → (Outside → Outside → Type 0) → ℕ → Outside → Outside → Type 0
 OpensFirst inputs outputs IsReady n before after =
     (after.opens ≡ appended before.opens (take n (opens_of inputs outputs)))
-    × (length inputs < n → IsReady before after)
+    × (length inputs < n → IsReady before after) × (1 < n → IsFirstRead inputs before)
 
 -- Inputs of a job were opened, and no output.
 abbrev pub OpensInputs : List (List ℕ) → List Opened → Outside → Outside → Type 0

@@ -39,6 +39,12 @@ IsFileStopped file error before after =
 abbrev pub IsReadable : List ℕ → Outside → Type 0
 IsReadable file before = (objects : List Object) × IfSome (before.named file) (λ bytes. IsReadAs input_limit longest_line bytes (Ok objects))
 
+-- Where a second input stands behind it, the first of these tells objects.
+abbrev pub IsFirstRead : List (List ℕ) → Outside → Type 0
+IsFirstRead [] before = Unit {0}
+IsFirstRead (file ∷ []) before = Unit {0}
+IsFirstRead (file ∷ text ∷ more) before = IsReadable file before
+
 -- the error of a reader of a text that ends a run as this one does
 abbrev pub text_error : ReadError → Option TextError
 text_error (read.BadInput line fault) = None

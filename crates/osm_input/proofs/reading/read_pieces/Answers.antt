@@ -1,5 +1,5 @@
 use Rattle.std.proofs.Common.{rules, refl, ap, Ok}
-use Rattle.osm_input.proofs.Taking.{nothing_taken, keeps_all, no_reads, read_failed, end_reads, end_there, end_at_once, piece_reads, piece_there, piece_at_once, limit_passed, piece_taken}
+use Rattle.osm_input.proofs.Taking.{nothing_taken, keeps_all, no_reads, read_failed, end_reads, end_at_once, piece_reads, piece_at_once, limit_passed, piece_taken}
 use Rattle.osm_input.proofs.reading.read_pieces.Goals as goal
 
 pub loop-count-init : goal.loop-count-init
@@ -22,13 +22,6 @@ returns-then-count-eq0-clause-reads g c =
     c.read.new.buf c.in-Ok.count c.if-count-eq0.true c.in-Ok.ensures.taken c.in-Ok.ensures.counted (c.in-Ok.ensures.ended (ap Ok c.if-count-eq0.true) (search rules))
     c.finish.result (c.finish.ensures c.args.longest t.bytes t.holds)
 
-pub returns-then-count-eq0-clause-there : goal.returns-then-count-eq0-clause-there
-returns-then-count-eq0-clause-there g c =
-    let t = c.loop-count.invariant.taken in
-    end_there c.args.limit c.args.longest (g.H.Host.seen c.args.host.now) (g.H.Host.seen c.loop-count.host) c.loop-count.lines c.loop-count.store c.loop-count.room t (g.H.Host.seen c.read.new.self)
-    c.read.new.buf c.in-Ok.count c.if-count-eq0.true c.in-Ok.ensures.taken c.in-Ok.ensures.counted (c.in-Ok.ensures.ended (ap Ok c.if-count-eq0.true) (search rules))
-    c.finish.result (c.finish.ensures c.args.longest t.bytes t.holds)
-
 pub returns-then-count-eq0-clause-at_once : goal.returns-then-count-eq0-clause-at_once
 returns-then-count-eq0-clause-at_once g c =
     let t = c.loop-count.invariant.taken in
@@ -40,13 +33,6 @@ pub returns-in-Err-clause-reads : goal.returns-in-Err-clause-reads
 returns-in-Err-clause-reads g c =
     let t = c.loop-count.invariant.taken in
     piece_reads c.args.limit c.args.longest (g.H.Host.seen c.args.host.now) (g.H.Host.seen c.loop-count.host) c.loop-count.lines c.loop-count.store c.loop-count.room t (g.H.Host.seen c.read.new.self)
-    c.read.new.buf c.in-Ok.count c.min-within.result (search rules) c.in-Ok.ensures.taken c.in-Ok.ensures.counted c.streams_append.ensures.taken (search rules)
-    c.in-Err.error (c.in-Err.ensures.holds c.args.longest t.bytes t.holds)
-
-pub returns-in-Err-clause-there : goal.returns-in-Err-clause-there
-returns-in-Err-clause-there g c =
-    let t = c.loop-count.invariant.taken in
-    piece_there c.args.limit c.args.longest (g.H.Host.seen c.args.host.now) (g.H.Host.seen c.loop-count.host) c.loop-count.lines c.loop-count.store c.loop-count.room t (g.H.Host.seen c.read.new.self)
     c.read.new.buf c.in-Ok.count c.min-within.result (search rules) c.in-Ok.ensures.taken c.in-Ok.ensures.counted c.streams_append.ensures.taken (search rules)
     (search rules) c.in-Err.error (c.in-Err.ensures.holds c.args.longest t.bytes t.holds)
 
@@ -62,7 +48,7 @@ returns-then-within-count-clause-reads g c =
     let t = c.loop-count.invariant.taken in
     limit_passed c.args.limit c.args.longest (g.H.Host.seen c.args.host.now) (g.H.Host.seen c.loop-count.host) c.loop-count.lines c.loop-count.store c.loop-count.room t (g.H.Host.seen c.read.new.self)
     c.read.new.buf c.in-Ok.count c.min-within.result (search rules) c.in-Ok.ensures.taken c.in-Ok.ensures.counted c.streams_append.ensures.taken (search rules)
-    c.read_piece.new.lines c.read_piece.new.store (c.in_default-read_piece.ensures.holds c.args.longest t.bytes t.holds) (search rules)
+    c.read_piece.new.lines c.read_piece.new.store (c.in_default-read_piece.ensures.holds c.args.longest t.bytes t.holds) (search rules) (search rules)
 
 pub loop-count-preserved : goal.loop-count-preserved
 loop-count-preserved g c =

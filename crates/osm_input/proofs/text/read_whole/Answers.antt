@@ -26,7 +26,7 @@ pub returns-then-room-count-clause-reads : goal.returns-then-room-count-clause-r
 returns-then-room-count-clause-reads g c =
     text_passed c.args.limit (g.H.Host.seen c.args.host.now) (g.H.Host.seen c.loop-count.host) c.loop-count.text.items c.loop-count.room c.loop-count.invariant.taken
     (g.H.Host.seen c.read.new.self) c.read.new.buf c.in-Ok.count c.in-Ok.ensures.taken c.in-Ok.ensures.counted
-    (search rules) c.streams_append.ensures.taken (search rules)
+    (search rules) c.streams_append.ensures.taken (search rules) (search rules)
 
 pub loop-count-preserved : goal.loop-count-preserved
 loop-count-preserved g c = record {
