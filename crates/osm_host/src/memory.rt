@@ -124,7 +124,7 @@ impl MemoryHost {
         Ok(())
     }
 
-    /// Makes room for so many bytes of names, output and report together, in place of the room before.
+    /// Makes room for so many bytes of names (each with one byte more), output and report together, in place of the room before.
     pub fn reserve(&mut self, bytes: usize) -> Result<(), OutOfMemory>
         ensures ok { OnOk result (self.new ≡ record self.old { room = bytes }) }
         ensures err { OnErr result (self.new ≡ self.old) }
