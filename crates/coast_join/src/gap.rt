@@ -3,7 +3,7 @@
 use lists::List;
 
 /// A pair of the end of one unclosed chain and the start of one, told by their places in the list of chains, with
-/// the square of the distance between the two, in units of 1e-7 degree.
+/// the square of the distance between the two, the distance in units of 1e-7 degree.
 ///
 /// Pairs are ordered by this square, then by the ending chain, then by the starting chain: by their names, since
 /// chains stand in order of name.

@@ -86,8 +86,8 @@ fn by_name(mut rings: Vec<CoastRing>) -> Result<CoastRings, OutOfMemory>
 
 /// What has become of chains once gaps are closed: the rings, and the chains that are still unclosed.
 ///
-/// A ring is named by the least of its ways and begins with the chain of the least name; one round Antarctica ends
-/// with the two corners. The chains are what `chains` gives, and the closings what `closings` gives of them for some
+/// A ring is named by the least of its ways and begins with the chain of the least name; one round Antarctica goes on
+/// to the two southern corners. Of equal neighbours one is taken, the last and the first included. The chains are what `chains` gives, and the closings what `closings` gives of them for some
 /// limit. The error is want of memory.
 pub fn closed_rings(
     alloc: Global,

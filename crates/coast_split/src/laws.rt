@@ -26,7 +26,8 @@ pub fn leaves_cover_as_list()
     ensures cover { LeafCover }
 {}
 
-/// A list has one half on a side of a line, and so one split tree: its leaves are determined.
+/// A list has one half on a side of a line, and so one split tree: its leaves are determined. The halves of a list that is cut
+/// have a smaller envelope, by the sum of its sides.
 pub fn halves_are_determined()
     ensures half { HalfIsOne }
     ensures tree { TreeIsOne }

@@ -11,7 +11,7 @@ use Rattle.job_coastline.specs.Coastline.{IsCoastline}
 use Rattle.job_coastline.specs.Counts.{AreCoastCounts}
 use Rattle.job_coastline.specs.declared.counts.CoastCounts.{CoastCounts}
 
--- of objects there is one coast: its chains, closings, rings and land are told by the coastline ways
+-- of objects there is one coast: what keeps ways from taking part, its chains, closings, rings and land are told by the coastline ways
 abbrev pub CoastIsOne : Type 0
 CoastIsOne = (settings : CoastlineSettings) (objects : List Object) (c d : Coast) → IsCoast settings objects c → IsCoast settings objects d → c ≡ d
 

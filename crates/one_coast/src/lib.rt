@@ -23,8 +23,8 @@ use osm_nest::{nested_cover_as_rings, nesting_exists, rings_may_be_nested};
 use osm_report::{coast_line_exists, coast_line_is_one};
 use osm_rings::ring_list_of_edges_exists;
 
-/// What comes of the coastline ways of objects is one thing alone: chains, closings, rings, what is
-/// sorted out, and land.
+/// What comes of the coastline ways of objects is one thing alone: what keeps ways from taking part, chains,
+/// closings, rings, what is sorted out, and land.
 pub fn coast_is_one()
     ensures { CoastIsOne }
 {

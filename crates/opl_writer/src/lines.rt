@@ -10,7 +10,7 @@ use osm_notation::put_number;
 use std::alloc::AllocError as OutOfMemory;
 
 /// Adds the line of a node: `n` and its id, ` T` and its tags where it has any, ` x`, the longitude, ` y` and the
-/// latitude where it has a location, and LF. The error is want of memory.
+/// latitude where it has a location, and LF. The error is want of memory: the text may then have a part of the line.
 pub fn put_node(
     text: &mut Vec<u8>,
     id: i64,
@@ -28,7 +28,7 @@ pub fn put_node(
 }
 
 /// Adds the line of a way: `w` and its id, ` T` and its tags where it has any, ` N` and its references where it has
-/// any, and LF. A reference that carries a location keeps it. The error is want of memory.
+/// any, and LF. A reference that carries a location keeps it. The error is want of memory: the text may then have a part of the line.
 pub fn put_way(text: &mut Vec<u8>, id: i64, tags: &Tags, refs: &Refs) -> Result<(), OutOfMemory>
     ensures { OnOk result (text.new.items
         ≡ text.old.items ++ ended (way_line id tags.now refs.now)) }
@@ -42,7 +42,7 @@ pub fn put_way(text: &mut Vec<u8>, id: i64, tags: &Tags, refs: &Refs) -> Result<
 }
 
 /// Adds the line of a relation: `r` and its id, ` T` and its tags where it has any, ` M` and its members where it has
-/// any, and LF. The error is want of memory.
+/// any, and LF. The error is want of memory: the text may then have a part of the line.
 pub fn put_relation(
     text: &mut Vec<u8>,
     id: i64,

@@ -13,8 +13,8 @@ pub fn outcome_exists()
     nesting_exists();
 }
 
-/// A candidate has an area exactly where nothing that it names is missing, some segment survives, no two survivors are
-/// in conflict, and an even number of them end at each location.
+/// A candidate has an area exactly where it lacks no member way and no location of one of their nodes, some segment survives,
+/// no two survivors are in conflict, and an even number of them end at each location.
 pub fn has_area_exactly()
     ensures { HasAreaExactly }
 {}

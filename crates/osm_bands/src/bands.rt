@@ -51,7 +51,8 @@ impl Bands {
 
     /// Indexes of spans in rising order, among them that of every span that reaches the height.
     ///
-    /// The others reach into the band of the height. Below and above all spans there are none.
+    /// Which others, no clause says: they reach into the band of the height, and below and above all spans there are none
+    /// (tests show it).
     pub fn at(&self, height: i64) -> &[usize]
         ensures rising { IsStrictlyIncreasing result.now }
         ensures inside { All (λ i. i < length self.now) result.now }

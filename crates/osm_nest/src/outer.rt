@@ -13,7 +13,7 @@ use osm_geom::{Edge, Point, compare_just_above, compare_points, spans_height};
 use osm_rings::Ring;
 use std::cmp::Ordering;
 
-/// Whether a ring is outer: its anchor runs down. Else it is inner.
+/// Whether a ring, of whose edges no two conflict, is outer: its anchor runs down. Else it is inner.
 ///
 /// The anchor stands at the ring's least node, and is the leftmost of the edges that rise from there. Round an outer ring
 /// the inside is on the left, so that it counts 1 at each point that it covers; an inner one counts -1.

@@ -1,4 +1,6 @@
 //! How numbers, points and strings are spelled: decimals of coordinates, whole numbers, written strings.
+//!
+//! What adds to a text may have added a part of it where memory runs out.
 #![tactic(auto)]
 
 mod coordinates;

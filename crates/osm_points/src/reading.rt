@@ -33,8 +33,8 @@ fn next_line(text: &[u8]) -> (&[u8], Option<&[u8]>)
 
 /// The points that the lines of a text tell, in order.
 ///
-/// A line is a longitude and a latitude in degrees, each a decimal, with spaces or tabs between, before and behind them. An
-/// empty line and one whose first word begins with `#` are passed over, and a CR at a line's end doesn't count. `BadPoint` comes
+/// A line is a longitude and a latitude in degrees, each a decimal, with spaces or tabs between, before and behind them, within
+/// 180 and 90 degrees once the eighth digit behind the point has rounded. An empty line and one whose first word begins with `#` are passed over, and a CR at a line's end doesn't count. `BadPoint` comes
 /// exactly where some other line isn't so, and names the first. No line is copied.
 pub fn read_points(alloc: Global, text: &[u8]) -> Result<Vec<Loc>, PointsError>
     ensures points { IfOk result (λ points. ArePoints text.now points.items) }

@@ -81,7 +81,7 @@ fn is_swept_clear(alloc: Global, segs: &[Seg]) -> Result<bool, OutOfMemory>
 
 /// All conflicting pairs among segments in strict order: by the first segment, then by the second.
 ///
-/// One sweep finds most long lists free of them; only where it doesn't is the list divided.
+/// The segments stand in strict order. One sweep finds most long lists free of conflicts; only where it doesn't is the list divided.
 pub fn conflicts(alloc: Global, segs: &[Seg]) -> Result<Vec<Pair>, OutOfMemory>
     requires { IsRising seg_cmp segs.now }
     ensures whole { IfOk result (λ v. v.items ≡ conflicts_of segs.now) }
