@@ -1,7 +1,7 @@
 #!/usr/bin/env python3
-"""Attacks the built program from outside: mutated inputs through every command, inputs cut after each byte, and outputs that fail. A run that
+"""Attacks the built program from outside: mutated inputs through every command, mutated lines, inputs cut after each byte, and outputs that fail. A run that
 crashes, hangs, ends with a status that the manual doesn't name, or whose last line isn't one of the manual's is told, and kept as a file.
-Usage: attack.py PROGRAM [INPUTS]  (10,000 inputs where no number is given; the number seeds the mutations)"""
+Usage: attack.py PROGRAM [INPUTS [LINES]]  (10,000 inputs and no lines where no numbers are given; the numbers seed the mutations)"""
 import os
 import pathlib
 import random
@@ -18,6 +18,7 @@ STATUSES = {"export": {0, 1, 5}, "coastline": {0, 1, 2, 3, 5}, "coast-filter": {
 ODD_LINES = [
     b"n17 v2 dV c11 t2020-01-01T00:00:00Z i7 uAnna%20%B Tplace=village,name=H%fc%tte x10.05 y50.05", b"w-3 Nn1x0.5y2,n2x-1y0,n4", b"r9 Ttype=boundary Mn1@label,w2@inner,r9@",
     b"n901 x180 y-90", b"n902 x1.00000005 y-.5", b"w903 dD", b"c3", b"# a comment", b""]
+BAD_LINE = re.compile(rb"osmpoly: line (\d+): .+\n$")
 EXTREMES = [b"9223372036854775807", b"-9223372036854775809", b"4611686018427387904", b"180.00000005", b"-0", b"1e5", b"", b"00000000000000000000001"]
 POINTS = b"0.5 0.5\n1 1\n# no\n180 90\n"
 
@@ -86,6 +87,7 @@ class Attack:
             kept = pathlib.Path(f"attack{self.found}.opl")
             kept.write_bytes(data)
             print(f"{' '.join(map(str, words))}: status {status}, {report[-80:]!r}, over {kept}")
+        return report
 
     def every_command(self, data):
         points, text = self.work / "points.txt", self.work / "text.txt"
@@ -116,6 +118,16 @@ class Attack:
         for command in ("export", "coastline", "coast-filter"):
             self.run([command, self.work], b"", {1, 3})
 
+    def mutated_lines(self, whole, count):
+        """So many mutated lines, each read: after a bad one the run begins anew behind it."""
+        while count > 0:
+            lines = random.choice(whole)
+            left = [mutated(line).replace(b"\n", b" ") for line in random.sample(lines, min(len(lines), count))]
+            count -= len(left)
+            while left:
+                bad = BAD_LINE.search(self.run(["export", "-n", "-"], b"\n".join(left) + b"\n", {0, 1}))
+                left = left[int(bad[1]):] if bad else []
+
     def longest_lines(self):
         most = 16_777_216
         for length in (most, most + 1):
@@ -125,7 +137,8 @@ class Attack:
 
 def main():
     inputs = int(sys.argv[2]) if len(sys.argv) > 2 else 10_000
-    random.seed(inputs)
+    lines = int(sys.argv[3]) if len(sys.argv) > 3 else 0
+    random.seed(inputs + lines)
     with tempfile.TemporaryDirectory() as work:
         attack = Attack(pathlib.Path(sys.argv[1]).resolve(), pathlib.Path(work))
         attack.outputs_that_fail()
@@ -134,8 +147,9 @@ def main():
         whole = list(seeds())
         for _ in range(inputs):
             attack.every_command(input_of(random.choice(whole)))
+        attack.mutated_lines([*whole, ODD_LINES], lines)
     ends = ", ".join(f"{status}: {count}" for status, count in sorted(attack.ends.items(), key=str))
-    print(f"{attack.runs} runs over {inputs} mutated inputs; statuses {ends}; {attack.found} ended as no run may")
+    print(f"{attack.runs} runs over {inputs} mutated inputs and {lines} mutated lines; statuses {ends}; {attack.found} ended as no run may")
     sys.exit(1 if attack.found else 0)
 
 
