@@ -145,7 +145,7 @@ mean_of a b p line after before = by (before_where a p after) (before_where p b 
     by (inr l) (inr h) = mean_at_height a b p l.0 h.0 l.1 h.1
 
 -- ---- segments that a line parts
-clear_where : (e o x : Bool) → let kind = if e then None else (if o then Some Overlap else (if x then Some Crossing else None)) in (kind ≡ Some Overlap → ⊥) → (kind ≡ Some Crossing → ⊥) → kind ≡ None
+pub clear_where : (e o x : Bool) → let kind = if e then None else (if o then Some Overlap else (if x then Some Crossing else None)) in (kind ≡ Some Overlap → ⊥) → (kind ≡ Some Crossing → ⊥) → kind ≡ None
 clear_where true o x h k = refl
 clear_where false true x h k = absurd (h refl)
 clear_where false false true h k = absurd (k refl)

@@ -1,4 +1,5 @@
 mod ApartSegments
+mod ClearAtOnce
 mod CommonPoints
 mod ConflictCases
 mod CrossingMeets

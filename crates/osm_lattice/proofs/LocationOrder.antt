@@ -1,11 +1,11 @@
 -- The order of locations in Rust's words and in signs.
 use Rattle.std.proofs.Common.{◌≡◌, ℤ, ◌-ℤ◌, refl, sym, ◌∙◌, arith}
 use Rattle.std.specs.declared.cmp.Ordering.TheVariants.{Equal, Less}
-use Rattle.std.specs.Ordering.{int_cmp, is_lt, ordering_then}
+use Rattle.std.specs.Ordering.{int_cmp, is_eq, is_gt, is_lt, ordering_then}
 use Rattle.std.specs.Cmp.{IsTotalOrder}
 use Rattle.std.proofs.lemmas.Int.{ints}
 use Rattle.std.proofs.lemmas.Cmp.{int_cmp_total, then_total, on_total}
-use Rattle.plane.specs.Sign.{Sign, Plus, Null, Minus, sign, then_sign, is_plus}
+use Rattle.plane.specs.Sign.{Sign, Plus, Null, Minus, sign, then_sign, is_minus, is_null, is_plus}
 use Rattle.plane.specs.Order.{order}
 use Rattle.plane.specs.Edge.{IsRising}
 use Rattle.plane.proofs.SignKit.{Says, says}
@@ -43,6 +43,20 @@ pub is_lt-plus : (s : Sign) → is_lt (ordering_of s) ≡ is_plus s
 is_lt-plus Plus = refl
 is_lt-plus Null = refl
 is_lt-plus Minus = refl
+
+-- the same tests of an order, named for `using`
+pub is_lt_plus : (s : Sign) → is_lt (ordering_of s) ≡ is_plus s
+is_lt_plus s = is_lt-plus s
+
+pub is_eq_null : (s : Sign) → is_eq (ordering_of s) ≡ is_null s
+is_eq_null Plus = refl
+is_eq_null Null = refl
+is_eq_null Minus = refl
+
+pub is_gt_minus : (s : Sign) → is_gt (ordering_of s) ≡ is_minus s
+is_gt_minus Plus = refl
+is_gt_minus Null = refl
+is_gt_minus Minus = refl
 
 pub is_lt_before : (p q : Loc) → is_lt (loc_cmp p q) ≡ before p q
 unfolding before

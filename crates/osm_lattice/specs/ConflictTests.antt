@@ -1,11 +1,13 @@
 -- The tests that conflicts are made of, on locations and segments: the plane's tests of their points and edges.
-use Rattle.std.specs.Prelude.{Bool}
+use Rattle.std.specs.Prelude.{Bool, ◌&&◌, ◌||◌}
 use Rattle.plane.specs.Conflict.{is_inside, is_along, is_touched_by, is_parted_by}
+use Rattle.plane.specs.Edge.{ends_at}
 use Rattle.plane.specs.Order.{order}
-use Rattle.plane.specs.Sign.{is_null, is_plus}
+use Rattle.plane.specs.Sign.{is_minus, is_null, is_plus}
 use Rattle.plane.specs.Vector.{orient}
 use Rattle.osm_lattice.specs.declared.loc.Loc.{Loc}
 use Rattle.osm_lattice.specs.declared.seg.Seg.{Seg}
+use Rattle.osm_lattice.specs.Line.{side_of_line}
 use Rattle.osm_lattice.specs.Loc.{vector_of}
 use Rattle.osm_lattice.specs.Seg.{edge_of}
 
@@ -26,3 +28,11 @@ touched_by s t = is_touched_by (edge_of s) (edge_of t)
 
 unfoldable pub parted_by : Seg → Seg → Bool
 parted_by t s = is_parted_by (edge_of t) (edge_of s)
+
+-- both ends of t are strictly on one side of the line of s
+unfoldable pub beside : Seg → Seg → Bool
+beside t s = (is_plus (side_of_line t.a s) && is_plus (side_of_line t.b s)) || (is_minus (side_of_line t.a s) && is_minus (side_of_line t.b s))
+
+-- an end of s is one of t
+unfoldable pub meet_at_end : Seg → Seg → Bool
+meet_at_end s t = ends_at (vector_of s.a) (edge_of t) || ends_at (vector_of s.b) (edge_of t)

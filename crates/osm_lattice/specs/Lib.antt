@@ -4,6 +4,7 @@ pub mod ConflictLaws
 pub mod ConflictPoints
 pub mod ConflictTests
 pub mod Frac
+pub mod Line
 pub mod Loc
 pub mod Lowest
 pub mod Meeting

@@ -1,11 +1,15 @@
 //! How two segments conflict.
-ghost use Rattle.std.specs.Prelude.{◌≡◌};
-ghost use Rattle.plane.specs.Sign.{sign, are_opposite};
+ghost use Rattle.std.specs.Prelude.{◌≡◌, None, true};
+ghost use Rattle.plane.specs.Edge.{ends_at};
+ghost use Rattle.plane.specs.Sign.{sign, are_opposite, is_minus, is_plus};
 ghost use Rattle.osm_lattice.specs.Conflict.{are_overlapping, are_crossing, conflict_of};
-ghost use Rattle.osm_lattice.specs.ConflictTests.{before, on_line, inside, along, touched_by, parted_by};
+ghost use Rattle.osm_lattice.specs.ConflictTests.{before, beside, on_line, inside, along, meet_at_end, touched_by, parted_by};
+ghost use Rattle.osm_lattice.specs.Line.{side_of_line};
+ghost use Rattle.osm_lattice.specs.Loc.{vector_of};
+ghost use Rattle.osm_lattice.specs.Seg.{edge_of};
 
 use crate::loc::Loc;
-use crate::orientation::orient;
+use crate::orientation::{compare_to_line, orient};
 use crate::seg::Seg;
 
 /// How two segments conflict.
@@ -24,11 +28,25 @@ fn is_before(p: Loc, q: Loc) -> bool
     p < q
 }
 
-#[tactic(auto, unfolding(crate::specs::ConflictTests::on_line, crate::specs::Loc::orientation))]
+#[tactic(auto, using(crate::proofs::LocationOrder::is_eq_null), unfolding(crate::specs::ConflictTests::on_line))]
 fn is_on_line(p: Loc, s: Seg) -> bool
     ensures { result ≡ on_line p s }
 {
-    orient(s.a, s.b, p) == 0
+    compare_to_line(p, s).is_eq()
+}
+
+#[tactic(auto, using(crate::proofs::LocationOrder::is_lt_plus))]
+fn is_left_of_line(p: Loc, s: Seg) -> bool
+    ensures { result ≡ is_plus (side_of_line p s) }
+{
+    compare_to_line(p, s).is_lt()
+}
+
+#[tactic(auto, using(crate::proofs::LocationOrder::is_gt_minus))]
+fn is_right_of_line(p: Loc, s: Seg) -> bool
+    ensures { result ≡ is_minus (side_of_line p s) }
+{
+    compare_to_line(p, s).is_gt()
 }
 
 /// One number is positive and the other negative.
@@ -84,10 +102,55 @@ fn are_crossing(s: Seg, t: Seg) -> bool
         && (is_touched_by(s, t) || is_touched_by(t, s) || is_parted_by(t, s) && is_parted_by(s, t))
 }
 
+/// Both ends of `t` lie strictly on one side of the line of `s`.
+#[tactic(auto, unfolding(crate::specs::ConflictTests::beside))]
+fn is_beside(t: Seg, s: Seg) -> bool
+    ensures { result ≡ beside t s }
+{
+    is_left_of_line(t.a, s) && is_left_of_line(t.b, s)
+        || is_right_of_line(t.a, s) && is_right_of_line(t.b, s)
+}
+
+fn is_end_of(p: Loc, s: Seg) -> bool
+    ensures { result ≡ ends_at (vector_of p) (edge_of s) }
+{
+    p == s.a || p == s.b
+}
+
+#[tactic(auto, unfolding(crate::specs::ConflictTests::meet_at_end))]
+fn meet_at_end(s: Seg, t: Seg) -> bool
+    ensures { result ≡ meet_at_end s t }
+{
+    is_end_of(s.a, t) || is_end_of(s.b, t)
+}
+
+/// One of the two begins above the other.
+fn are_at_other_heights(s: Seg, t: Seg) -> bool
+    ensures { result ≡ true → conflict_of s t ≡ None }
+{
+    s.b.y < t.a.y || t.b.y < s.a.y
+}
+
+/// Whether few tests tell that two segments have no conflict: of most that have none they do.
+fn are_clear_at_once(s: Seg, t: Seg) -> bool
+    ensures { result ≡ true → conflict_of s t ≡ None }
+{
+    if are_at_other_heights(s, t) || is_beside(t, s) {
+        return true;
+    }
+    if meet_at_end(s, t) {
+        return !is_along(s, t);
+    }
+    is_beside(s, t)
+}
+
 /// How two segments conflict, if they do. Two equal ones do not.
 pub fn conflict(s: Seg, t: Seg) -> Option<Kind>
     ensures { result ≡ conflict_of s t }
 {
+    if are_clear_at_once(s, t) {
+        return None;
+    }
     if s == t {
         None
     } else if are_overlapping(s, t) {

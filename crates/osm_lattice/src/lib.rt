@@ -22,5 +22,5 @@ pub use laws::{
 pub use loc::Loc;
 pub use location_lists::{Ids, Locs, Path, Segs};
 pub use meetings::{Share, between, meeting, overlap};
-pub use orientation::{orient, step_x, step_y};
+pub use orientation::{compare_to_line, orient, step_x, step_y};
 pub use seg::Seg;

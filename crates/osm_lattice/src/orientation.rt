@@ -1,8 +1,12 @@
 //! On which side of a line a location lies.
 ghost use Rattle.std.specs.Prelude.{◌≡◌, ◌^◌, ◌<◌, ◌≤◌, ◌*◌, ◌*ℤ◌, ◌-ℤ◌, unsigned_abs};
+ghost use Rattle.osm_lattice.specs.Line.{side_of_line};
 ghost use Rattle.osm_lattice.specs.Loc.{orientation};
+ghost use Rattle.osm_lattice.specs.OrderLaws.{ordering_of};
 
 use crate::loc::Loc;
+use crate::seg::Seg;
+use std::cmp::Ordering;
 
 /// How far `to` lies to the right of `from`, in units of 1e-7 degree.
 pub fn step_x(from: Loc, to: Loc) -> i64
@@ -48,4 +52,23 @@ pub fn orient(a: Loc, b: Loc, c: Loc) -> i128
     ensures small { unsigned_abs result < 2 ^ 64 }
 {
     cross(step_x(a, b), step_y(a, b), step_x(a, c), step_y(a, c))
+}
+
+/// A product that fits 64 bits.
+fn short_product(a: i64, b: i64) -> i64
+    requires { unsigned_abs a * unsigned_abs b < 2 ^ 63 }
+    ensures { result ≡ a *ℤ b }
+{
+    a * b
+}
+
+/// Where `p` stands against the line of `s`: `Less` left of it, `Equal` on it, `Greater` right of it.
+///
+/// Each of the two products whose difference is the orientation fits 64 bits, and comparing them needs no more.
+pub fn compare_to_line(p: Loc, s: Seg) -> Ordering
+    ensures { result ≡ ordering_of (side_of_line p s) }
+{
+    let leftwards = short_product(step_x(s.a, s.b), step_y(s.a, p));
+    let rightwards = short_product(step_y(s.a, s.b), step_x(s.a, p));
+    rightwards.cmp(&leftwards)
 }

@@ -1,6 +1,7 @@
 //! Locations, segments and fractions on numbers worked out by hand.
 
 use super::*;
+use std::cmp::Ordering;
 use std::test::Fail;
 
 /// The longitude of the antimeridian and the latitude of a pole, in units of 1e-7 degree.
@@ -65,6 +66,23 @@ fn orientations(rt: HostRuntime) -> Result<(), Fail> {
     for (at, want) in rows {
         let (a, b, c) = (loc(at[0], at[1])?, loc(at[2], at[3])?, loc(at[4], at[5])?);
         assert_eq!(rt; orient(a, b, c), want, "at {at:?}");
+    }
+    Ok(())
+}
+
+#[test]
+fn sides_of_lines(rt: HostRuntime) -> Result<(), Fail> {
+    let rows = [
+        ([0, 0, 4, 2], [2, 2], Ordering::Less),
+        ([0, 0, 4, 2], [8, 4], Ordering::Equal),
+        ([0, 0, 4, 2], [2, 0], Ordering::Greater),
+        ([WEST, SOUTH, EAST, NORTH], [WEST, NORTH], Ordering::Less),
+        ([EAST, SOUTH, WEST, NORTH], [0, 0], Ordering::Equal),
+        ([WEST, SOUTH, EAST, NORTH], [EAST, SOUTH], Ordering::Greater),
+    ];
+    for (ends, at, side) in rows {
+        let p = loc(at[0], at[1])?;
+        assert_eq!(rt; compare_to_line(p, seg(ends)?), side, "{at:?} of {ends:?}");
     }
     Ok(())
 }
