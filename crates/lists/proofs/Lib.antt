@@ -1,4 +1,5 @@
 pub mod Bools
+mod CancelSteps
 pub mod Counts
 pub mod EachOnce
 pub mod Insertions

@@ -41,13 +41,13 @@ turned_equal : (r t : Ordering) → t ≡ ordering_reverse r → r ≡ Equal →
 turned_equal r t e h = rw h at e
 
 -- ---- lists with one more item at the end
-front_and_last : {X : Type 0} (xs : List X) (d : X) → 0 < length xs → xs ≡ take (length xs - 1) xs ++ get_or xs (length xs - 1) d ∷ []
+pub front_and_last : {X : Type 0} (xs : List X) (d : X) → 0 < length xs → xs ≡ take (length xs - 1) xs ++ get_or xs (length xs - 1) d ∷ []
 front_and_last xs d h = grind (arith, common_steps, take_more xs (length xs - 1) d)
 
-All-front : {X : Type 0} (P : X → Type 0) (xs : List X) (y : X) → All P (xs ++ y ∷ []) → All P xs
+pub All-front : {X : Type 0} (P : X → Type 0) (xs : List X) (y : X) → All P (xs ++ y ∷ []) → All P xs
 All-front P xs y all k d h = subst P (get_or-append xs (y ∷ []) d k h) (all k d (omega (arith, length-append xs (y ∷ []))))
 
-All-last : {X : Type 0} (P : X → Type 0) (xs : List X) (y : X) → All P (xs ++ y ∷ []) → P y
+pub All-last : {X : Type 0} (P : X → Type 0) (xs : List X) (y : X) → All P (xs ++ y ∷ []) → P y
 All-last P xs y all = subst P (get_or-append_seam xs y [] y) (all (length xs) y (omega (arith, length-append xs (y ∷ []))))
 
 -- ---- the steps

@@ -3,10 +3,12 @@
 
 mod laws;
 mod list;
+mod odd;
 mod tally;
 #[cfg(test)]
 mod tests;
 
 pub use laws::{counted_lists_exist, counts_determine};
 pub use list::List;
-pub use tally::{Tally, distinct_items, odd_items, repeated_items};
+pub use odd::{odd_items, odd_items_of};
+pub use tally::{Tally, distinct_items, repeated_items};

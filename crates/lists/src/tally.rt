@@ -50,18 +50,6 @@ pub fn tallies<T: Ord + Copy>(alloc: Global, items: &[T]) -> Result<Vec<Tally<T>
     Ok(tallies)
 }
 
-/// The items of the tallies of an odd number.
-fn odd_of<T: Copy>(alloc: Global, tallies: &[Tally<T>]) -> Result<Vec<T>, OutOfMemory>
-    ensures { IfOk result (λ v. v.items ≡ map (λ t. t.item)
-        (filter (λ t. t.times % 2 == 1) tallies.now)) }
-{
-    tallies
-        .iter()
-        .filter(|t| t.times % 2 == 1)
-        .map(|t| t.item)
-        .collect(alloc)
-}
-
 /// The items of the tallies.
 fn items_of<T: Copy>(alloc: Global, tallies: &[Tally<T>]) -> Result<Vec<T>, OutOfMemory>
     ensures { IfOk result (λ v. v.items ≡ map (λ t. t.item) tallies.now) }
@@ -78,16 +66,6 @@ fn repeated_of<T: Copy>(alloc: Global, tallies: &[Tally<T>]) -> Result<Vec<Tally
         .filter(|t| t.times >= 2)
         .copied()
         .collect(alloc)
-}
-
-/// The items that stand an odd number of times in a list, each once, in strict order.
-pub fn odd_items<T: Ord + Copy>(alloc: Global, items: &[T]) -> Result<Vec<T>, OutOfMemory>
-    ensures odd { IfOk result (λ v. (x : T) → count_of T.cmp x v.items
-        ≡ count_of T.cmp x items.now % 2) }
-    ensures rising { IfOk result (λ v. IsRising T.cmp v.items) }
-{
-    let tallies = tallies(alloc, items)?;
-    odd_of(alloc, &tallies)
 }
 
 /// The items of a list, each once, in strict order.
