@@ -11,21 +11,21 @@ ghost use Rattle.osm_segments.specs.Pairs.{conflicts_of};
 ghost use Rattle.osm_segments.specs.Sweep.{EndsRise, FitsAfter, FitsBefore, HasLeft, IsAfter, IsEntered, left_of_line, lies_left, lies_right, right_of_line};
 
 use chunked_list::ChunkedList;
-use osm_lattice::{Loc, Seg, conflict, orient};
+use osm_lattice::{Loc, Seg, compare_to_line, conflict};
 use std::alloc::{AllocError as OutOfMemory, Global};
 
-#[tactic(auto, unfolding(crate::specs::Sweep::left_of_line, osm_lattice::specs::Loc::orientation))]
+#[tactic(auto, using(osm_lattice::proofs::LocationOrder::is_lt_plus), unfolding(crate::specs::Sweep::left_of_line))]
 fn is_left_of_line(p: Loc, t: Seg) -> bool
     ensures { result ≡ left_of_line p t }
 {
-    orient(t.a, t.b, p) > 0
+    compare_to_line(p, t).is_lt()
 }
 
-#[tactic(auto, unfolding(crate::specs::Sweep::right_of_line, osm_lattice::specs::Loc::orientation))]
+#[tactic(auto, using(osm_lattice::proofs::LocationOrder::is_gt_minus), unfolding(crate::specs::Sweep::right_of_line))]
 fn is_right_of_line(p: Loc, t: Seg) -> bool
     ensures { result ≡ right_of_line p t }
 {
-    orient(t.a, t.b, p) < 0
+    compare_to_line(p, t).is_gt()
 }
 
 /// `t` is right of `s` just above the lower end of `s`, where both pass that height.

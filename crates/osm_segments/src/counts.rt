@@ -1,13 +1,10 @@
 //! What counting tells of a list of segments: survivors, repeats, and nodes at which an odd number end.
 
-ghost use Rattle.std.specs.Prelude.{◌≡◌, IfOk, map, true};
-ghost use Rattle.std.specs.List.{list_any};
-ghost use Rattle.std.specs.Ordering.{is_eq};
-ghost use Rattle.osm_lattice.specs.Seg.{seg_cmp};
+ghost use Rattle.std.specs.Prelude.{◌≡◌, IfOk, length, map};
 ghost use Rattle.osm_segments.specs.Counts.{AreSurvivors, AreDistinct, AreOddNodes, ends_of};
 ghost use Rattle.osm_segments.specs.Repeats.{AreRepeats, StandOnce, repeat_of};
 
-use lists::{Tally, distinct_items, odd_items, repeated_items};
+use lists::{Tally, distinct_items, odd_items, odd_items_of, repeated_items};
 use osm_lattice::{Loc, Seg};
 use std::alloc::{AllocError as OutOfMemory, Global};
 
@@ -16,6 +13,15 @@ use std::alloc::{AllocError as OutOfMemory, Global};
 pub struct Repeat {
     pub seg: Seg,
     pub times: u64,
+}
+
+/// What cancelling makes of a list of segments.
+#[derive(Drop)]
+pub struct Cancelled {
+    /// The segments that stand an odd number of times, each once, in strict order.
+    pub survivors: Vec<Seg>,
+    /// Those that stand at least twice, each once, in strict order.
+    pub repeats: Vec<Repeat>,
 }
 
 /// The segments that stand an odd number of times in a list, each once, in strict order.
@@ -44,46 +50,33 @@ fn repeats_of(alloc: Global, tallies: &[Tally<Seg>]) -> Result<Vec<Repeat>, OutO
         .collect(alloc)
 }
 
-/// Each of so few segments is compared with all later ones sooner than they are sorted.
-const FEW: usize = 16;
-
-/// Whether a segment stands in a list.
-fn stands_among(segs: &[Seg], s: Seg) -> bool
-    ensures { result ≡ list_any (λ t. is_eq (seg_cmp t s)) segs.now }
-{
-    segs.iter().any(|t| t.cmp(&s).is_eq())
-}
-
-/// Whether no segment stands twice in a list.
-fn stand_once(segs: &[Seg]) -> bool
-    ensures { result ≡ true → StandOnce segs.now }
-{
-    let mut rest = segs;
-    while let [first, later @ ..] = rest {
-        if stands_among(later, *first) {
-            return false;
-        }
-        rest = later;
-    }
-    true
-}
-
-/// Whether these are few segments, of which none stands twice.
-fn are_few_once(segs: &[Seg]) -> bool
-    ensures { result ≡ true → StandOnce segs.now }
-{
-    segs.len() <= FEW && stand_once(segs)
-}
-
 /// The segments that stand at least twice in a list, each once and with its number, in strict order.
 pub fn repeated(alloc: Global, segs: &[Seg]) -> Result<Vec<Repeat>, OutOfMemory>
     ensures { IfOk result (λ v. AreRepeats segs.now v.items) }
 {
-    if are_few_once(segs) {
-        return Ok(Vec::new(alloc));
-    }
     let tallies = repeated_items(alloc, segs)?;
     repeats_of(alloc, &tallies)
+}
+
+/// The repeats of a list of which so many segments survive: none, where all do.
+fn repeats_beside(alloc: Global, segs: &[Seg], survivors: usize) -> Result<Vec<Repeat>, OutOfMemory>
+    requires { survivors ≡ length segs.now → StandOnce segs.now }
+    ensures { IfOk result (λ v. AreRepeats segs.now v.items) }
+{
+    if survivors == segs.len() {
+        return Ok(Vec::new(alloc));
+    }
+    repeated(alloc, segs)
+}
+
+/// Cancels the segments of a list that stand there repeatedly: what survives and what was repeated.
+pub fn cancel(alloc: Global, segs: &[Seg]) -> Result<Cancelled, OutOfMemory>
+    ensures survivors { IfOk result (λ c. AreSurvivors segs.now c.survivors.items) }
+    ensures repeats { IfOk result (λ c. AreRepeats segs.now c.repeats.items) }
+{
+    let survivors = odd_items(alloc, segs)?;
+    let repeats = repeats_beside(alloc, segs, survivors.len())?;
+    Ok(Cancelled { survivors, repeats })
 }
 
 /// Both ends of each segment.
@@ -102,6 +95,5 @@ fn ends(alloc: Global, segs: &[Seg]) -> Result<Vec<Loc>, OutOfMemory>
 pub fn odd_nodes(alloc: Global, segs: &[Seg]) -> Result<Vec<Loc>, OutOfMemory>
     ensures { IfOk result (λ v. AreOddNodes segs.now v.items) }
 {
-    let ends = ends(alloc, segs)?;
-    odd_items(alloc, &ends)
+    odd_items_of(alloc, ends(alloc, segs)?)
 }

@@ -9,5 +9,5 @@ mod pairs;
 #[cfg(test)]
 mod tests;
 
-pub use counts::{Repeat, distinct, odd_nodes, repeated, survivors};
+pub use counts::{Cancelled, Repeat, cancel, distinct, odd_nodes, repeated, survivors};
 pub use pairs::{Pair, conflicts};

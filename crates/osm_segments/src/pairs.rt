@@ -65,18 +65,16 @@ pub fn push_all_pairs(pairs: &mut Vec<Pair>, segs: &[Seg]) -> Result<(), OutOfMe
     Ok(())
 }
 
-/// A list of so few segments isn't swept: all its pairs are tried sooner.
-const FEW: usize = 10;
+/// All pairs of so few segments are tried sooner than they are swept.
+const FEW: usize = 32;
 
-/// Whether a sweep finds the segments free of conflicts.
-fn is_swept_clear(alloc: Global, segs: &[Seg]) -> Result<bool, OutOfMemory>
-    requires { IsRising seg_cmp segs.now }
-    ensures { IfOk result (λ clear. clear ≡ true → conflicts_of segs.now ≡ []) }
+/// The conflicts among few segments: each pair is tried.
+fn conflicts_of_few(alloc: Global, segs: &[Seg]) -> Result<Vec<Pair>, OutOfMemory>
+    ensures { IfOk result (λ v. v.items ≡ conflicts_of segs.now) }
 {
-    if segs.len() <= FEW {
-        return Ok(false);
-    }
-    is_clear(alloc, segs)
+    let mut pairs = Vec::new(alloc);
+    push_all_pairs(&mut pairs, segs)?;
+    Ok(pairs)
 }
 
 /// All conflicting pairs among segments in strict order: by the first segment, then by the second.
@@ -87,7 +85,10 @@ pub fn conflicts(alloc: Global, segs: &[Seg]) -> Result<Vec<Pair>, OutOfMemory>
     ensures whole { IfOk result (λ v. v.items ≡ conflicts_of segs.now) }
     ensures rising { IfOk result (λ v. IsRising pair_cmp v.items) }
 {
-    if is_swept_clear(alloc, segs)? {
+    if segs.len() <= FEW {
+        return conflicts_of_few(alloc, segs);
+    }
+    if is_clear(alloc, segs)? {
         return Ok(Vec::new(alloc));
     }
     let mut pairs = Vec::new(alloc);

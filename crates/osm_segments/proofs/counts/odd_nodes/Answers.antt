@@ -5,4 +5,4 @@ use Rattle.osm_segments.proofs.CountLemmas.{IfOk-both}
 use Rattle.osm_segments.proofs.counts.odd_nodes.Goals as goal
 
 pub returns : goal.returns
-returns c = IfOk-both c.odd_items.result _ _ _ (λ v odd rising. record { odd = λ p. odd p ∙ ap (λ ps. count_of loc_cmp p ps % 2) (c.deref.ensures.value ∙ c.in_ok-ends.ensures); rising = rising }) c.odd_items.ensures.odd c.odd_items.ensures.rising
+returns c = IfOk-both c.odd_items_of.result _ _ _ (λ v odd rising. record { odd = λ p. odd p ∙ ap (λ ps. count_of loc_cmp p ps % 2) c.in_ok-ends.ensures; rising = rising }) c.odd_items_of.ensures.odd c.odd_items_of.ensures.rising

@@ -1,4 +1,4 @@
--- None where each stands once; else the tallies of at least two.
+-- The tallies of at least two.
 use Rattle.std.proofs.Common.{◌≡◌, ap, ◌∙◌, map, sym, subst, All}
 use Rattle.std.proofs.lemmas.Result.{IfOk-weaker}
 use Rattle.std.proofs.lemmas.List.Elements.{All-map}
@@ -7,11 +7,7 @@ use Rattle.lists.specs.Rising.{IsRising, count_of}
 use Rattle.osm_segments.specs.declared.counts.Repeat.{Repeat}
 use Rattle.osm_segments.specs.Repeats.{AreRepeats, repeat_of, segs_of}
 use Rattle.osm_segments.proofs.CountLemmas.{segs_of-map}
-use Rattle.osm_segments.proofs.StandOnce.{none-repeated}
 use Rattle.osm_segments.proofs.counts.repeated.Goals as goal
-
-pub returns-then-are_few_once : goal.returns-then-are_few_once
-returns-then-are_few_once c = subst (AreRepeats c.args.segs.now) (sym c.new.ensures.items) (none-repeated c.args.segs.now (c.are_few_once.ensures c.if-are_few_once.true))
 
 pub returns : goal.returns
 returns c = IfOk-weaker c.repeats_of.result _ _ (λ v e.

@@ -11,3 +11,6 @@ returns-clause-whole c =
 
 pub returns-clause-rising : goal.returns-clause-rising
 returns-clause-rising c = IfOk-weaker c.distinct_items.result _ _ (λ v e. pairs_rise c.args.segs.now v.items c.requires e) (returns-clause-whole c)
+
+pub returns-then-segs-le-FEW-clause-rising : goal.returns-then-segs-le-FEW-clause-rising
+returns-then-segs-le-FEW-clause-rising c = IfOk-weaker c.conflicts_of_few.result _ _ (λ v e. pairs_rise c.args.segs.now v.items c.requires e) c.conflicts_of_few.ensures
