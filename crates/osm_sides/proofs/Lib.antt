@@ -1,6 +1,7 @@
 mod Counts
 pub mod DirectedSides
 mod Ends
+mod Followers
 mod OddSideCounts
 pub mod PlaneEdges
 mod Pushes

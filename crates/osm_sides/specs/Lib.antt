@@ -3,3 +3,4 @@ pub mod SideTests
 pub mod Directions
 pub mod Laws
 pub mod Sweep
+pub mod Following

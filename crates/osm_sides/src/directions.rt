@@ -1,6 +1,6 @@
 //! The directions of survivors: by their places in the status of one sweep upwards.
 
-ghost use Rattle.std.specs.Prelude.{◌≡◌, [], All, IfOk, length};
+ghost use Rattle.std.specs.Prelude.{◌≡◌, ◌≤◌, [], All, IfOk, length};
 ghost use Rattle.osm_lattice.specs.Seg.{seg_cmp};
 ghost use Rattle.osm_geom.specs.WholeSegment.{IsWholeSegment};
 ghost use Rattle.lists.specs.Rising.{IsRising};
@@ -8,12 +8,12 @@ ghost use Rattle.osm_segments.specs.Pairs.{conflicts_of};
 ghost use Rattle.plane_edges.specs.Sided.{IsSided};
 ghost use Rattle.osm_sides.specs.Survivors.{HasEvenNodes};
 ghost use Rattle.osm_geom.specs.declared.edge.Carrier.TheVariants.{OfSeg};
-ghost use Rattle.osm_sides.specs.Directions.{AreDirected, CountsParity, first_end, last_end};
+ghost use Rattle.osm_sides.specs.Directions.{AreDirected, CountsParity};
 ghost use Rattle.osm_sides.specs.Sweep.{AreDirectedTo};
 
+use crate::following::direction;
 use crate::leaving::{by_ends, leave};
 use crate::rows::{direct_row, enter_row};
-use crate::sides::runs_up;
 use chunked_list::ChunkedList;
 use osm_geom::{Edge, Seg};
 use std::alloc::{AllocError as OutOfMemory, Global};
@@ -39,32 +39,29 @@ fn direct_each(alloc: Global, segs: &[Seg]) -> Result<Vec<Edge>, OutOfMemory>
     Ok(edges)
 }
 
-/// One segment, directed among all.
-fn direct_one(segs: &[Seg], s: Seg) -> Edge
-    ensures carrier { result.carrier ≡ OfSeg s }
-    ensures from { result.from ≡ first_end segs.now s }
-    ensures to { result.to ≡ last_end segs.now s }
-{
-    Edge::of(s, runs_up(segs, s))
-}
-
-/// Each segment directed, in order, by counting all of them for each.
+/// Each segment directed, in order: the first of a ring by counting all of them, the others along the ring.
 fn direct_few(alloc: Global, segs: &[Seg]) -> Result<Vec<Edge>, OutOfMemory>
+    requires rising { IsRising seg_cmp segs.now }
+    requires clear { conflicts_of segs.now ≡ [] }
+    requires even { HasEvenNodes segs.now }
+    requires few { length segs.now ≤ 32 }
     ensures { IfOk result (λ v. AreDirectedTo segs.now (length segs.now) v.items) }
 {
+    let mut known = [None; FEW];
     let mut edges = Vec::with_capacity(alloc, segs.len())?;
-    for &s in segs {
-        edges.push(direct_one(segs, s))?;
+    for (place, &s) in segs.iter().enumerate() {
+        edges.push(Edge::of(s, direction(segs, place, &mut known)))?;
     }
     Ok(edges)
 }
 
-/// So few segments are directed sooner by counting than by a sweep.
-const FEW: usize = 12;
+/// So few segments are directed sooner along their rings than by a sweep.
+const FEW: usize = 32;
 
 fn direct_all(alloc: Global, segs: &[Seg]) -> Result<Vec<Edge>, OutOfMemory>
     requires rising { IsRising seg_cmp segs.now }
     requires clear { conflicts_of segs.now ≡ [] }
+    requires even { HasEvenNodes segs.now }
     ensures { IfOk result (λ v. AreDirectedTo segs.now (length segs.now) v.items) }
 {
     if segs.len() <= FEW {

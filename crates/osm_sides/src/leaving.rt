@@ -7,7 +7,8 @@ ghost use Rattle.osm_sides.specs.Sweep.{AreEnds, EndsRise, NextHasLeft, ends_abo
 
 use crate::sides::{is_above, is_horizontal};
 use chunked_list::ChunkedList;
-use osm_geom::{Loc, Seg, orient};
+use osm_geom::{Loc, Seg};
+use osm_lattice::compare_to_line;
 use std::alloc::{AllocError as OutOfMemory, Global};
 
 /// The segments that aren't horizontal, in order of the heights of their upper ends.
@@ -22,8 +23,8 @@ pub fn by_ends(alloc: Global, segs: &[Seg]) -> Result<Vec<Seg>, OutOfMemory>
 
 /// Whether `t` is left of `s` just below the upper end of `s`, where both reach that height. Only how fast a segment is found rests on it.
 fn is_left_below(t: Seg, s: Seg) -> bool {
-    let side = orient(t.a, t.b, s.b);
-    side < 0 || side == 0 && orient(t.a, t.b, s.a) < 0
+    let end = compare_to_line(s.b, t);
+    end.is_gt() || end.is_eq() && compare_to_line(s.a, t).is_gt()
 }
 
 /// The place of a segment, if it stands just behind those that are left of it.

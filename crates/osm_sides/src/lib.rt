@@ -2,6 +2,7 @@
 #![tactic(auto)]
 
 mod directions;
+mod following;
 mod laws;
 mod leaving;
 mod rows;

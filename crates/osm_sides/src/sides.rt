@@ -7,7 +7,8 @@ ghost use Rattle.osm_sides.specs.Survivors.{plane_edges_of};
 ghost use Rattle.osm_sides.specs.SideTests.{span, left_of, starts_left, level, same, left_side, forks_right, counted, left_count, right_count};
 ghost use Rattle.osm_sides.specs.Sweep.{ends_above};
 
-use osm_geom::{Loc, Seg, orient};
+use osm_geom::{Loc, Seg};
+use osm_lattice::compare_to_line;
 
 /// The height of `p` is at least that of the lower end and less than that of the upper end.
 #[tactic(auto, unfolding(crate::specs::SideTests::span))]
@@ -26,26 +27,26 @@ pub fn is_left_of(p: Loc, t: Seg) -> bool
 }
 
 #[tactic(auto, unfolding(crate::specs::SideTests::same))]
-fn is_same(p: Loc, q: Loc) -> bool
+pub fn is_same(p: Loc, q: Loc) -> bool
     ensures { result ≡ same p q }
 {
     p == q
 }
 
 /// `p` is left of the line of `t`.
-#[tactic(auto, unfolding(crate::specs::SideTests::left_side, osm_lattice::specs::Loc::orientation))]
+#[tactic(auto, using(osm_lattice::proofs::LocationOrder::is_lt_plus), unfolding(crate::specs::SideTests::left_side))]
 fn is_left_of_line(p: Loc, t: Seg) -> bool
     ensures { result ≡ left_side p t }
 {
-    orient(t.a, t.b, p) > 0
+    compare_to_line(p, t).is_lt()
 }
 
 /// `t` begins where `s` does, and runs to the right of it.
-#[tactic(auto, unfolding(crate::specs::SideTests::forks_right, crate::specs::SideTests::same, osm_lattice::specs::Loc::orientation))]
+#[tactic(auto, using(osm_lattice::proofs::LocationOrder::is_gt_minus), unfolding(crate::specs::SideTests::forks_right, crate::specs::SideTests::same))]
 fn forks_right(s: Seg, t: Seg) -> bool
     ensures { result ≡ forks_right s t }
 {
-    is_same(s.a, t.a) && orient(s.a, s.b, t.b) < 0
+    is_same(s.a, t.a) && compare_to_line(t.b, s).is_gt()
 }
 
 /// The lower end of `s` is left of `t`, or `t` begins there too and runs to the right of `s`.

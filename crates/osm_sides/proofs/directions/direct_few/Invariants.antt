@@ -1,5 +1,6 @@
+use Rattle.osm_sides.specs.Following.{AreKnown}
 use Rattle.osm_sides.specs.Sweep.{AreDirectedTo}
 use Rattle.osm_sides.proofs.directions.direct_few.Given as goal
 
-abbrev pub invariant-loop-s : goal.invariant-loop-s
-invariant-loop-s l = AreDirectedTo l.segs l.s-index l.edges.items
+abbrev pub invariant-loop-place : goal.invariant-loop-place
+invariant-loop-place l = AreKnown l.segs l.known × AreDirectedTo l.segs l.place l.edges.items
