@@ -37,7 +37,7 @@ multiplied-sign a c b m d n h k = ap sign (multiplied a c b m d n) ∙ plus-time
 turned : (m n : ℕ) → m * n ≡ n * m
 turned m n = omega arith
 
-y_sign : (p q : Point) → sign (pos (den_of p) *ℤ (whole_of q).y -ℤ pos (den_of q) *ℤ (whole_of p).y) ≡ sign ((y_of q).num *ℤ pos (y_of p).den -ℤ (y_of p).num *ℤ pos (y_of q).den)
+pub y_sign : (p q : Point) → sign (pos (den_of p) *ℤ (whole_of q).y -ℤ pos (den_of q) *ℤ (whole_of p).y) ≡ sign ((y_of q).num *ℤ pos (y_of p).den -ℤ (y_of p).num *ℤ pos (y_of q).den)
 y_sign p q =
     let a = (y_of p).num in let c = (y_of q).num in let b = (y_of p).den in let d = (y_of q).den in let m = (x_of p).den in let n = (x_of q).den in
     ap (λ k. sign (pos k *ℤ (c *ℤ pos n) -ℤ pos (n * d) *ℤ (a *ℤ pos m))) (turned m b)

@@ -38,12 +38,12 @@ fn compare_by_fractions(p: Point, q: Point) -> Ordering
 }
 
 /// The order of two points by y alone.
-pub fn compare_heights(p: Point, q: Point) -> Ordering
-    ensures { result ≡ ordering_of (height_order p q) }
+pub fn compare_heights(p: &Point, q: &Point) -> Ordering
+    ensures { result ≡ ordering_of (height_order p.now q.now) }
 {
     match (p, q) {
         (Point::Lattice(p), Point::Lattice(q)) => p.y.cmp(&q.y),
-        _ => y_ratio(p).compare(y_ratio(q)),
+        _ => y_ratio(*p).compare(y_ratio(*q)),
     }
 }
 

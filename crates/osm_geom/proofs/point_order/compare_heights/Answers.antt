@@ -8,5 +8,5 @@ returns-in-Lattice-Lattice c = rw (c.in-Lattice-Lattice.is-0, c.in-Lattice-Latti
 
 pub returns-in_default : goal.returns-in_default
 returns-in_default c =
-    let by = height_cmp_by (fraction_of c.y_ratio.result) (fraction_of c.y_ratio-in_default.result) c.args.p c.args.q c.y_ratio.ensures c.y_ratio-in_default.ensures in
+    let by = height_cmp_by (fraction_of c.y_ratio.result) (fraction_of c.y_ratio-in_default.result) c.args.p.now c.args.q.now c.y_ratio.ensures c.y_ratio-in_default.ensures in
     c.compare.ensures ∙ by
