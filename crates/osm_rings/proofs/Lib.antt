@@ -5,6 +5,7 @@ pub mod EdgeEquality
 mod FirstMets
 mod Halves
 pub mod LeastStarts
+mod LoneRings
 mod Multiplied
 mod OrbitWalks
 mod Placed

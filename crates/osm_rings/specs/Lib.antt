@@ -8,3 +8,4 @@ pub mod RingList
 pub mod Turned
 pub mod Departures
 pub mod Apart
+pub mod Round

@@ -6,24 +6,22 @@ ghost use Rattle.plane_edges.specs.Sided.{IsSided};
 ghost use Rattle.osm_rings.specs.Apart.{AreFollowers, IsFirstLeaving, LeaveApart};
 ghost use Rattle.osm_rings.specs.RingList.{AreRingsOf};
 
+use crate::lone_rings::FEW;
 use crate::ring::Rings;
 use crate::ring_list::rings_of;
 use orbits::orbits;
 use osm_geom::{Edge, Point, compare_points};
 use std::alloc::{AllocError as OutOfMemory, Global};
 
-/// So few edges are looked through for each sooner than they are sorted.
-const FEW: usize = 32;
-
 /// Whether two points are one.
-fn is_same_point(p: &Point, q: &Point) -> bool
+pub fn is_same_point(p: &Point, q: &Point) -> bool
     ensures { result ≡ is_eq (point_cmp p.now q.now) }
 {
     compare_points(*p, *q).is_eq()
 }
 
 /// The place of the first edge that leaves a point.
-fn place_leaving(edges: &[Edge], p: &Point) -> Option<usize>
+pub fn place_leaving(edges: &[Edge], p: &Point) -> Option<usize>
     ensures { IsFirstLeaving edges.now p.now result }
 {
     for (place, edge) in edges.iter().enumerate() {

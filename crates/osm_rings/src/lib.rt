@@ -4,6 +4,7 @@
 mod apart_rings;
 mod departures;
 mod laws;
+mod lone_rings;
 mod ring;
 mod ring_list;
 mod sort_keys;

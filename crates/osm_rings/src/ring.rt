@@ -53,6 +53,15 @@ impl Ring {
         self.edges.as_slice()
     }
 
+    /// The place of the edge that leaves the ring's least node.
+    pub fn least_place(&self) -> usize
+        ensures inside { result < length self.now }
+        ensures least { All (λ e. point_cmp e.from (slice_index_or self.now result e).from
+            ≢ Less) self.now }
+    {
+        least_start(self.as_slice())
+    }
+
     /// The same edges in the same cyclic order, begun with the one that leaves the ring's least node. The error is
     /// want of memory.
     pub fn from_least(&self, alloc: Global) -> Result<Ring, OutOfMemory>

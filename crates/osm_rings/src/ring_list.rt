@@ -1,5 +1,5 @@
 //! The ring list of a sided list of edges.
-ghost use Rattle.std.specs.Prelude.{◌≡◌, ◌<◌, All, IfOk, length, map};
+ghost use Rattle.std.specs.Prelude.{◌≡◌, ◌<◌, ◌∷◌, [], All, IfOk, length, map};
 ghost use Rattle.osm_rings.specs.Pieces.{AreAllCut, edges_at};
 ghost use Rattle.osm_rings.specs.Ring.{IsRing};
 ghost use Rattle.osm_rings.specs.RingList.{AreRingsOf};
@@ -7,6 +7,7 @@ ghost use Rattle.plane_edges.specs.Sided.{IsSided};
 
 use crate::apart_rings::{apart_rings, are_few_apart};
 use crate::departures::{departures, node_numbers};
+use crate::lone_rings::lone_ring;
 use crate::ring::{Ring, Rings};
 use crate::successors::successors;
 use orbits::{cut, orbits};
@@ -26,6 +27,16 @@ fn cut_rings(alloc: Global, edges: &[Edge]) -> Result<Rings, OutOfMemory>
     rings_of(alloc, edges, &pieces)
 }
 
+/// A list of one ring, of these edges.
+fn ring_alone(alloc: Global, edges: Vec<Edge>) -> Result<Rings, OutOfMemory>
+    requires { IsRing edges.items }
+    ensures { IfOk result (λ v. v ≡ edges.items ∷ []) }
+{
+    let mut rings = Rings::with_capacity(alloc, 1)?;
+    rings.push(Ring::of_edges(edges))?;
+    Ok(rings)
+}
+
 /// The rings of a sided list of edges, between any points.
 ///
 /// Each edge lies in exactly one ring, there once, and the edges of a ring lie in one walk of successors. By the law
@@ -34,6 +45,9 @@ pub fn rings(alloc: Global, edges: &[Edge]) -> Result<Rings, OutOfMemory>
     requires { IsSided edges.now }
     ensures { IfOk result (λ v. AreRingsOf edges.now v) }
 {
+    if let Some(ring) = lone_ring(alloc, edges)? {
+        return ring_alone(alloc, ring);
+    }
     if are_few_apart(edges) {
         return apart_rings(alloc, edges);
     }
