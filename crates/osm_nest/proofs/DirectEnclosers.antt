@@ -52,7 +52,7 @@ module _ (rs : List (List Edge)) (are : AreRings rs) where
   ring-at : (k : ℕ) → k < length rs → get_or in_plane k [] ≡ edges_times K (ring k)
   ring-at k h = get_or-map (edges_times K) rs k [] [] h
 
-  ring-in : (k : ℕ) → k < length rs → In (edges_times K (ring k)) in_plane
+  pub ring-in : (k : ℕ) → k < length rs → In (edges_times K (ring k)) in_plane
   ring-in k h = let s = sized in subst (λ r. In r in_plane) (ring-at k h) (at-in in_plane k [] (omega arith))
 
   along-is : (r : List Edge) → segments_of (edges_times K r) ≡ segments_times K r

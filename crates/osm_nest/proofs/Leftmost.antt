@@ -1,9 +1,7 @@
--- The edge that comes first of a list is its anchor.
-use Rattle.std.proofs.Common.{◌≡◌, Bool, true, false, not, ◌&&◌, ◌||◌, ℕ, ◌+◌, ◌<◌, ◌*ℤ◌, ◌-ℤ◌, ℤ, pos, List, length, get_or, map, refl, sym, ap, subst, ◌∙◌, arith, ⊎_elim, cond}
+-- The anchor of a list comes first of its edges.
+use Rattle.std.proofs.Common.{◌≡◌, ◌⊎◌, inl, inr, Bool, true, false, not, ◌&&◌, ◌||◌, ℕ, ◌*ℤ◌, ◌-ℤ◌, ℤ, pos, List, map, refl, sym, ap, subst, ◌∙◌, arith, cond}
 use Rattle.std.specs.Ordering.{is_lt}
-use Rattle.std.proofs.lemmas.Bool.{cases_lt}
 use Rattle.std.proofs.lemmas.Int.{ints}
-use Rattle.std.proofs.lemmas.List.{get_or_default}
 use Rattle.plane.specs.Edge as plane
 use Rattle.plane.specs.Edge.{IsRising, same_edge}
 use Rattle.plane.specs.Height.{is_in_span, order_above}
@@ -12,11 +10,9 @@ use Rattle.plane.specs.Sign.{Minus, Null, Plus, Sign, is_plus, negated, sign, th
 use Rattle.plane.specs.Vector.{Vector, cross, from_to, orient}
 use Rattle.plane.proofs.PlaneKit.{same_edge-true, order-null, order-reversed, cross-agree, cross-from-here, cross-negated, cross-self}
 use Rattle.plane.proofs.SignKit.{agree, all, all-out, all4-out, imp, imp-out, same_bool, same_bool-true, self-diff, times}
-use Rattle.winding.specs.ConflictFree.{IsConflictFree}
 use Rattle.lists.specs.Member.{In}
 use Rattle.winding.specs.Ring.{IsAnchor}
-use Rattle.winding.proofs.WindingKit.{some-anchor}
-use Rattle.lists.proofs.ListsKit.{in-at, in-map, in-map-out, into-filter, item-in}
+use Rattle.lists.proofs.ListsKit.{in-map, into-filter}
 use Rattle.osm_geom.specs.declared.edge.Edge.{Edge}
 use Rattle.osm_geom.specs.JustAbove.{just_above_cmp}
 use Rattle.osm_lattice.specs.OrderLaws.{ordering_of}
@@ -142,7 +138,7 @@ module _ (es : List plane.Edge) (m : plane.Edge) (a : IsAnchor m es) where
   pub only-anchor : (s : plane.Edge) → In s es → comes_by s m ≡ true → s ≡ m
   only-anchor s i f = one-by s i (order s.from m.from) refl f (same_edge m s) refl
 
--- ---- looking for it
+-- ---- among exact edges
 -- the segments in the plane multiplied by the common denominator
 abbrev pub along : List Edge → Edge → plane.Edge
 along es = segment_at (common_den es)
@@ -150,47 +146,12 @@ along es = segment_at (common_den es)
 abbrev pub segments_along : List Edge → List plane.Edge
 segments_along es = map (along es) es
 
--- the edge is one of the list, and runs along its anchor where that is among those up to the place
-pub record IsFirstUpTo (es : List Edge) (place : ℕ) (e : Edge) : Type 0 where
-  pub member : In e es
-  pub found : (m : plane.Edge) → IsAnchor m (segments_along es) → (k : ℕ) (d : Edge) → k < place → k < length es → (along es) (get_or es k d) ≡ m → (along es) e ≡ m
-
-pub first-begins : (es : List Edge) (e : Edge) → In e es → IsFirstUpTo es 0 e
-first-begins es e i = record { member = i; found = λ m a k d h l s. absurd (omega arith) }
-
-pub first-more : (es : List Edge) (n : ℕ) (e f : Edge) (b : Bool) → In f es → ((d : Edge) → get_or es n d ≡ f) → comes_first e f ≡ b → IsFirstUpTo es n e → IsFirstUpTo es (n + 1) (cond b e f)
-first-more es n e f true i at h inv = record {
-  member = inv.member;
-  found = λ m a k d l lt s. ⊎_elim
-      (λ before. inv.found m a k d before lt s)
-      (λ past.
-      let here : k ≡ n = omega arith in
-      let is : (along es) f ≡ m = sym (ap (along es) (ap (λ j. get_or es j d) here ∙ at d)) ∙ s in
-      only-anchor (segments_along es) m a (along es e) (in-map (along es) es e inv.member) (subst (λ t. comes_by (along es e) t ≡ true) is (sym (comes-is (common_den es) e f (whole-at es e inv.member) (whole-at es f i)) ∙ h)))
-      (cases_lt k n);
-}
-first-more es n e f false i at h inv = record {
-  member = i;
-  found = λ m a k d l lt s. ⊎_elim
-      (λ before.
-      let is = inv.found m a k d before lt s in
-      let t = anchor-first (segments_along es) m a (along es f) (in-map (along es) es f i) in
-      let g : comes_by m (along es f) ≡ false = subst (λ u. comes_by u (along es f) ≡ false) is (sym (comes-is (common_den es) e f (whole-at es e inv.member) (whole-at es f i)) ∙ h) in
-      absurd (cc (sym t ∙ g)))
-      (λ past.
-      let here : k ≡ n = omega arith in
-      sym (ap (along es) (ap (λ j. get_or es j d) here ∙ at d)) ∙ s)
-      (cases_lt k n);
-}
-
-pub first-is-anchor : (es : List Edge) (e : Edge) → IsConflictFree (segments_along es) → IsFirstUpTo es (length es) e → IsAnchor (along es e) (segments_along es)
-first-is-anchor es e plain inv =
-    let m = some-anchor (segments_along es) (along es e) (in-map (along es) es e inv.member) plain in
-    let x = in-map-out (along es) es m.0 m.1.member in
-    let k = in-at x.0 es x.1 in
-    let is = inv.found m.0 m.1 k.0 x.0 k.1 k.1 (ap (along es) (k.2 x.0) ∙ sym x.2) in
-    subst (λ s. IsAnchor s (segments_along es)) (sym is) m.1
-
-pub first-step : (es : List Edge) (n : ℕ) (e f next : Edge) → n < length es → f ≡ get_or es n f → next ≡ cond (comes_first e f) e f → IsFirstUpTo es n e → IsFirstUpTo es (n + 1) next
-first-step es n e f next h is be inv =
-    subst (λ x. IsFirstUpTo es (n + 1) x) (sym be) (first-more es n e f (comes_first e f) (item-in es n f h is) (λ d. get_or_default es n d f h ∙ sym is) refl inv)
+-- of two edges of which one runs along the anchor, the one that comes first does
+pub first-of-two : (es : List Edge) (f e : Edge) → In f es → In e es → (m : plane.Edge) → IsAnchor m (segments_along es) → (along es e ≡ m) ⊎ (along es f ≡ m) → (b : Bool) → comes_first f e ≡ b → along es (cond b f e) ≡ m
+first-of-two es f e i j m a (inl is) true h =
+    only-anchor (segments_along es) m a (along es f) (in-map (along es) es f i) (subst (λ t. comes_by (along es f) t ≡ true) is (sym (comes-is (common_den es) f e (whole-at es f i) (whole-at es e j)) ∙ h))
+first-of-two es f e i j m a (inl is) false h = is
+first-of-two es f e i j m a (inr is) true h = is
+first-of-two es f e i j m a (inr is) false h =
+    let t : comes_by (along es f) (along es e) ≡ true = subst (λ s. comes_by s (along es e) ≡ true) (sym is) (anchor-first (segments_along es) m a (along es e) (in-map (along es) es e j)) in
+    absurd (cc (sym t ∙ (sym (comes-is (common_den es) f e (whole-at es f i) (whole-at es e j)) ∙ h)))

@@ -10,6 +10,7 @@ mod Halves
 mod InPlane
 mod Joining
 mod KnownEnclosers
+mod LeastAnchors
 mod LeftEnclosers
 mod Leftmost
 pub mod Listing

@@ -1,5 +1,5 @@
 -- Anchors of rings: that there is one, that it is one alone, and how the ring winds.
-use Rattle.std.proofs.Common.{◌≡◌, inl, inr, Bool, true, false, not, ℕ, ◌%◌, ◌⊎◌, ◌↔◌, ◌-ℤ◌, ℤ, pos, List, [], ◌∷◌, length, cond, refl, sym, ap, subst, ◌∙◌}
+use Rattle.std.proofs.Common.{◌≡◌, inl, inr, Bool, true, false, not, ℕ, ◌%◌, ◌⊎◌, ◌↔◌, ◌-ℤ◌, ℤ, pos, List, [], ◌∷◌, cond, refl, sym, ap, subst, ◌∙◌}
 use Rattle.plane.specs.Conflict.{IsClearOf}
 use Rattle.plane.specs.Edge as plane
 use Rattle.plane.specs.Edge.{segment_of}
@@ -26,7 +26,7 @@ use Rattle.osm_rings.proofs.PlaneRings.{plane-ring}
 use Rattle.osm_nest.specs.Outer.{AnchorRuns, AreConflictFree, IsAnchorOf, IsInner, IsOuter, WindsBySign}
 use Rattle.osm_nest.proofs.Further.{anchor-scaled, segment-scaled, segments-scaled}
 use Rattle.osm_nest.proofs.InPlane.{segment_at, segments_times, whole-at}
-use Rattle.osm_nest.proofs.Leftmost.{IsFirstUpTo, along, first-is-anchor, segments_along}
+use Rattle.osm_nest.proofs.Leftmost.{along, segments_along}
 
 -- ---- the segments of the multiplied list
 pub segments-are : (es : List Edge) → segments_of (whole_edges es) ≡ segments_along es
@@ -56,9 +56,6 @@ module _ (es : List Edge) (clear : AreConflictFree es) where
 
   pub anchor-of : (e : Edge) → In e es → IsAnchor (along es e) (segments_along es) → IsAnchorOf e es
   anchor-of e i a = record { member = i; anchor = subst (λ l. IsAnchor (along es e) l) (sym (segments-are es)) a }
-
-  pub found-anchor : (e : Edge) → IsFirstUpTo es (length es) e → IsAnchorOf e es
-  found-anchor e inv = anchor-of e inv.member (first-is-anchor es e plain-along inv)
 
   pub one-anchor : (e f : Edge) → IsAnchorOf e es → IsAnchorOf f es → e ≡ f
   one-anchor e f a b = same-along (common_den es) es plain-along e f a.member b.member (anchor_one (along es e) (along es f) (segments_along es) plain-along (anchor-along e a) (anchor-along f b))

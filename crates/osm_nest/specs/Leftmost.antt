@@ -1,5 +1,5 @@
--- Which of two edges comes first as the anchor of a ring. No public contract cites it.
-use Rattle.std.specs.Prelude.{Bool, false, not, true, ◌&&◌, ◌||◌}
+-- Which of two edges comes first as the anchor of a ring, and places round a ring. No public contract cites it.
+use Rattle.std.specs.Prelude.{Bool, false, not, true, ℕ, ◌&&◌, ◌||◌, ◌+◌, ◌<◌, ◌≡◌}
 use Rattle.std.specs.declared.cmp.Ordering.{Ordering}
 use Rattle.std.specs.declared.cmp.Ordering.TheVariants.{Equal, Greater, Less}
 use Rattle.std.specs.Ordering.{is_lt}
@@ -21,3 +21,9 @@ first_of Greater left = false
 -- the lower end of e is lesser than that of f, or the same and f doesn't run to the left of e
 unfoldable pub comes_first : Edge → Edge → Bool
 comes_first e f = first_of (point_cmp (lower_end e) (lower_end f)) (forks_left e f)
+
+-- the place before another one, round a list
+pub record IsPlaceBefore (size place before : ℕ) : Type 0 where
+  pub inside : before < size
+  pub first : place ≡ 0 → before + 1 ≡ size
+  pub later : 0 < place → before + 1 ≡ place

@@ -5,13 +5,11 @@ ghost use Rattle.osm_geom.specs.declared.edge.Edge.{Edge};
 ghost use Rattle.osm_nest.specs.Cover.{AreSided, CoverAsRings};
 ghost use Rattle.osm_nest.specs.Grouped.{ArePlaced, AreWithin, IsGrouping, IsLone, polygons_of, rings_under, stands_first, with_under};
 ghost use Rattle.osm_nest.specs.Nested.{AreNested, HasKinds};
-ghost use Rattle.osm_nest.specs.Outer.{IsOuter};
 ghost use Rattle.osm_nest.specs.Polygons.{rings_of};
 ghost use Rattle.osm_nest.specs.RingLists.{AreRings};
 ghost use Rattle.osm_geom.specs.WholeSegment.{IsWholeSegment};
 
 use crate::enclosers::direct_enclosers;
-use crate::outer::is_outer;
 use crate::polygon::{Polygon, Polygons};
 use crate::rings_from_least::{RingFromLeast, ring_from_least, sorted_from_least};
 use osm_rings::{Ring, Rings};
@@ -92,18 +90,6 @@ fn polygons_of(
     with_inner_rings(alloc, outers, under)
 }
 
-/// Whether there is one ring alone, and that is outer.
-fn is_lone_outer(rings: &[Ring]) -> bool
-    requires { AreRings rings.now }
-    ensures one { result ≡ true → length rings.now ≡ 1 }
-    ensures outer { result ≡ true → IsOuter (slice_index_or rings.now 0 []) }
-{
-    if rings.len() != 1 {
-        return false;
-    }
-    is_outer(&rings[0])
-}
-
 /// The polygon of one outer ring.
 fn lone_polygon(alloc: Global, ring: &Ring) -> Result<Polygons, OutOfMemory>
     ensures { IfOk result (λ v. IsLone ring.now v) }
@@ -117,12 +103,12 @@ fn lone_polygon(alloc: Global, ring: &Ring) -> Result<Polygons, OutOfMemory>
     Ok(polygons)
 }
 
-/// Each outer ring with those that it directly encloses. Most areas have one ring.
+/// Each outer ring with those that it directly encloses. Most areas have one ring, which is outer, as nothing encloses it.
 fn group(alloc: Global, rings: &[Ring]) -> Result<Polygons, OutOfMemory>
     requires { AreRings rings.now }
     ensures { IfOk result (λ v. IsGrouping rings.now v) }
 {
-    if is_lone_outer(rings) {
+    if rings.len() == 1 {
         return lone_polygon(alloc, &rings[0]);
     }
     let enclosers = direct_enclosers(alloc, rings)?;

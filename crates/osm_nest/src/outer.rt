@@ -1,11 +1,11 @@
 //! Outer and inner rings, told by their anchors.
-ghost use Rattle.std.specs.Prelude.{◌≡◌, ◌&&◌, ◌||◌, ◌↔◌, cond, false, not, true};
+ghost use Rattle.std.specs.Prelude.{◌≡◌, ◌<◌, ◌&&◌, ◌||◌, ◌↔◌, cond, false, not, true};
 ghost use Rattle.std.specs.Ordering.{is_lt};
 ghost use Rattle.std.specs.declared.cmp.Ordering.TheVariants.{Equal};
 ghost use Rattle.osm_geom.specs.Edge.{runs_up};
 ghost use Rattle.osm_geom.specs.Point.{point_cmp};
 ghost use Rattle.osm_geom.specs.Span.{lower_end};
-ghost use Rattle.osm_nest.specs.Leftmost.{comes_first, forks_left};
+ghost use Rattle.osm_nest.specs.Leftmost.{IsPlaceBefore, comes_first, forks_left};
 ghost use Rattle.osm_nest.specs.Outer.{AreConflictFree, IsAnchorOf, IsInner, IsOuter, WindsBySign};
 ghost use Rattle.osm_rings.specs.Ring.{IsRing};
 
@@ -26,18 +26,24 @@ pub fn is_outer(ring: &Ring) -> bool
     !is_rising(anchor(ring))
 }
 
-/// The anchor of a ring.
+/// The place before another one, round a list of so many items.
+fn place_before(place: usize, size: usize) -> usize
+    requires { place < size }
+    ensures { IsPlaceBefore size place result }
+{
+    if place == 0 { size - 1 } else { place - 1 }
+}
+
+/// The anchor of a ring: of the two edges at its least node the one that comes first.
 pub(crate) fn anchor(ring: &Ring) -> &Edge
     requires { AreConflictFree ring.now }
     ensures anchor { IsAnchorOf result.now ring.now }
     ensures ring { IsRing ring.now }
 {
     let edges = ring.as_slice();
-    let mut anchor = &edges[0];
-    for edge in edges {
-        anchor = first_of(anchor, edge);
-    }
-    anchor
+    let least = ring.least_place();
+    let before = place_before(least, edges.len());
+    first_of(&edges[before], &edges[least])
 }
 
 /// Of two edges the one that comes first.

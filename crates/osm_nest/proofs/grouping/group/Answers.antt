@@ -1,16 +1,16 @@
 -- The polygon of a lone ring; else the rings under their enclosers.
-use Rattle.std.proofs.Common.{ap, length, subst, sym, ◌∙◌, ◌≡◌}
+use Rattle.std.proofs.Common.{ap, arith, length, subst, sym, ◌∙◌, ◌≡◌}
 use Rattle.std.proofs.lemmas.Result.{IfOk-weaker}
 use Rattle.osm_nest.specs.Grouped.{ArePlaced, AreWithin, IsGrouping, IsLone, polygons_of}
 use Rattle.osm_nest.proofs.GroupedRings.{placed_in, within_homes}
 use Rattle.osm_nest.proofs.LoneRing.{lone-grouping}
 use Rattle.osm_nest.proofs.grouping.group.Goals as goal
 
-pub returns-then-is_lone_outer : goal.returns-then-is_lone_outer
-returns-then-is_lone_outer c =
+pub returns-then-rings-eq1 : goal.returns-then-rings-eq1
+returns-then-rings-eq1 c =
     let rs = c.args.rings.now in let r = c.index-rings-0.result in
     IfOk-weaker c.lone_polygon.result (IsLone r) (IsGrouping rs)
-    (λ v is. lone-grouping rs c.requires (c.is_lone_outer.ensures.one c.if-is_lone_outer.true) (c.is_lone_outer.ensures.outer c.if-is_lone_outer.true) r c.index-rings-0.is v is) c.lone_polygon.ensures
+    (λ v is. lone-grouping rs c.requires (omega arith) r c.index-rings-0.is v is) c.lone_polygon.ensures
 
 pub polygons_of-requires-clause-placed : goal.polygons_of-requires-clause-placed
 polygons_of-requires-clause-placed c =

@@ -1,17 +1,20 @@
--- The first of the edges passed and the next one.
-use Rattle.std.proofs.Common.{length, sym, subst, ◌≡◌, arith}
+-- Of the two edges at the least point the one that comes first.
+use Rattle.std.proofs.Common.{All, get_or, length, subst, sym, ◌<◌, ◌≢◌}
+use Rattle.std.specs.declared.cmp.Ordering.TheVariants.{Less}
+use Rattle.osm_geom.specs.declared.edge.Edge.{Edge}
+use Rattle.osm_geom.specs.Point.{point_cmp}
+use Rattle.osm_rings.specs.Ring.{IsRing}
 use Rattle.osm_nest.specs.Outer.{AreConflictFree, IsAnchorOf}
-use Rattle.osm_nest.proofs.Leftmost.{IsFirstUpTo, first-step}
-use Rattle.osm_nest.proofs.RingAnchors.{found-anchor}
+use Rattle.osm_nest.proofs.LeastAnchors.{least-anchor}
 use Rattle.osm_nest.proofs.outer.anchor.Goals as goal
-
-pub loop-edge-preserved : goal.loop-edge-preserved
-loop-edge-preserved c =
-    first-step c.as_slice-edges.result.now c.loop-edge.edge-index c.loop-edge.anchor.now c.edge-item.result c.first_of-anchor.result.now c.loop-edge-test.true c.edge-item.is c.first_of-anchor.ensures c.loop-edge.invariant
 
 pub returns-clause-anchor : goal.returns-clause-anchor
 returns-clause-anchor c =
-    let es = c.as_slice-edges.result.now in
-    let clear = subst AreConflictFree (sym c.as_slice-edges.ensures.edges) c.requires in
-    let all : c.loop-edge.edge-index ≡ length es = omega arith in
-    subst (IsAnchorOf c.loop-edge.anchor.now) c.as_slice-edges.ensures.edges (found-anchor es clear c.loop-edge.anchor.now (subst (λ n. IsFirstUpTo es n c.loop-edge.anchor.now) all c.loop-edge.invariant))
+    let es = c.as_slice-edges.result.now in let n = c.least_place-least.result in
+    let own = sym c.as_slice-edges.ensures.edges in
+    let clear = subst AreConflictFree own c.requires in
+    let ring = subst IsRing own c.as_slice-edges.ensures.ring in
+    let inside = subst (λ r. n < length r) own c.least_place-least.ensures.inside in
+    let least = subst (λ r. All (λ (e : Edge). point_cmp e.from (get_or r n e).from ≢ Less) r) own c.least_place-least.ensures.least in
+    subst (IsAnchorOf c.first_of.result.now) c.as_slice-edges.ensures.edges
+    (least-anchor es clear ring n c.place_before-before.result inside least c.place_before-before.ensures c.index-edges-least.result c.index-edges-before.result c.first_of.result.now c.index-edges-least.is c.index-edges-before.is c.first_of.ensures)
