@@ -1,5 +1,6 @@
 pub mod NumberLemmas
 pub mod CutLemmas
+pub mod SearchLemmas
 pub mod EscapeLemmas
 pub mod StringLemmas
 pub mod ItemLemmas

@@ -1,8 +1,8 @@
 -- Fields, one part more at a time.
-use Rattle.std.proofs.Common.{◌≡◌, ℕ, ◌+◌, ◌<◌, ◌≤◌, true, false, eqb, ◌||◌, List, [], ◌∷◌, length, get_or, drop, refl, sym, ap, ◌∙◌, arith}
+use Rattle.std.proofs.Common.{◌≡◌, ℕ, ◌+◌, ◌<◌, ◌≤◌, true, false, eqb, ◌||◌, List, [], ◌∷◌, length, get_or, drop, refl, sym, ap, ◌∙◌, inl, inr, arith}
 use Rattle.std.specs.List.{slice_split, onto_first}
 use Rattle.std.specs.Str.{IsUtf8}
-use Rattle.std.proofs.lemmas.Bool.{lt-ltb, or_left, eq-eqb, ne_eqb}
+use Rattle.std.proofs.lemmas.Bool.{lt-ltb, or_left, or_cases, eq-eqb, eqb-true, ne_eqb}
 use Rattle.std.proofs.lemmas.List.{at_drop_more, at_drop_all}
 use Rattle.opl_reader.specs.Parts.{Part}
 use Rattle.opl_reader.specs.ItemReading.{placed}
@@ -22,6 +22,13 @@ pub fields-last : (place : ℕ) (text : List ℕ) → slice_split is_separator t
 unfolding fields_from
 fields-last place [] e = refl
 fields-last place (b ∷ text) e = rw (e, lt-ltb 0 (length (b ∷ text)) (omega arith)) refl
+
+pub separator_ascii : (b : ℕ) → is_separator b ≡ true → b < 128
+separator_ascii b e =
+    elim (or_cases (eqb b 32) (eqb b 9) e) [
+      | inl k ↦ let is : b ≡ 32 = eqb-true b 32 k in omega arith
+      | inr k ↦ let is : b ≡ 9 = eqb-true b 9 k in omega arith
+    ]
 
 -- no field stands before what is left at a place of the text that begins at start
 pub record FieldsTo (at : ℕ) (left : List ℕ) (start : ℕ) (text : List ℕ) : Type 0 where

@@ -1,15 +1,17 @@
 -- Digits, one more at a time.
-use Rattle.std.proofs.Common.{◌≡◌, ℕ, ◌+◌, ◌*◌, ◌-◌, ◌^◌, ◌<◌, ◌≤◌, min, Bool, true, false, cond, List, [], ◌∷◌, length, get_or, take, drop, replicate, leb, ◌++◌, Some, None, option_map, refl, sym, ap, inl, inr, ◌∙◌, arith}
+use Rattle.std.proofs.Common.{◌≡◌, ℕ, zero, suc, ◌+◌, ◌*◌, ◌-◌, ◌^◌, ◌<◌, ◌≤◌, min, Bool, true, false, cond, ◌&&◌, List, [], ◌∷◌, length, get_or, take, drop, replicate, leb, ◌++◌, Some, None, option_map, refl, sym, ap, inl, inr, append-nil, append_assoc, ◌∙◌, arith}
 use Rattle.std.specs.List.{list_all, after_first}
 use Rattle.std.specs.Char.{is_ascii_digit, digit_value}
 use Rattle.std.specs.Str.Parse.{digits_value, AllDigits}
-use Rattle.std.proofs.lemmas.Int.Digits.{digits_value_more, digits_value-lt}
+use Rattle.std.proofs.lemmas.Int.Digits.{digits_value_more, digits_value_push, digits_value-lt}
+use Rattle.std.proofs.Math.Nat.{pow-suc, pow-le-pow_right}
 use Rattle.std.proofs.lemmas.Str.{digit_value_digit}
 use Rattle.std.proofs.lemmas.List.Folds.{list_all_more, list_all-append}
-use Rattle.std.proofs.lemmas.List.{take_all, drop-replicate, length-append, length-take, length-replicate}
+use Rattle.std.proofs.lemmas.List.{take_all, take-append-drop, length-append, length-take, length-replicate}
 use Rattle.std.proofs.lemmas.List.Sums.{AllPass-from_list_all, list_all-from_AllPass}
 use Rattle.std.proofs.lemmas.List.Elements.{All-take, All-replicate}
-use Rattle.std.proofs.lemmas.Bool.{and_from, and_parts, and_right, cond-false, leb-true, cases_lt}
+use Rattle.std.proofs.lemmas.Bool.{and_from, and_parts, and_left, and_right, cases_Bool, cond-false, leb-true, cases_lt}
+use Rattle.opl_reader.specs.declared.number.TheConstants.{TENTHS}
 use Rattle.opl_reader.specs.Numbers.{first_eight}
 use Rattle.opl_reader.specs.NumberReading.{is_point, unsigned_of}
 use Rattle.opl_reader.specs.Steps.{capped}
@@ -35,6 +37,20 @@ read-more bytes i v w lt low high is so_far next = record {
       next ∙ rw (so_far.worth) (rw (e, d) (step (digits_value 10 (take i bytes)) (get_or bytes i 0 - 48) (2 ^ 64 - 1)));
 }
 
+-- ---- few digits, whose value a u64 holds
+
+-- the digits so far are digits, and v is their value
+pub record ReadFew (bytes : List ℕ) (i v : ℕ) : Type 0 where
+  pub digits : list_all is_ascii_digit (take i bytes) ≡ true
+  pub worth : v ≡ digits_value 10 (take i bytes)
+
+pub few-more : (bytes : List ℕ) (i v d : ℕ) → i < length bytes → 48 ≤ get_or bytes i 0 → get_or bytes i 0 ≤ 57 → is_ascii_digit (get_or bytes i 0) ≡ true
+    → ReadFew bytes i v → d ≡ get_or bytes i 0 - 48 → ReadFew bytes (i + 1) (v * 10 + d)
+few-more bytes i v d lt low high is so_far e = record {
+  digits = list_all_more is_ascii_digit bytes i 0 lt ∙ and_from _ _ so_far.digits is;
+  worth = omega (arith, so_far.worth, digit (get_or bytes i 0) low high, digits_value_more 10 bytes i lt);
+}
+
 -- ---- eight decimals
 
 AllPass-take-digits : (d : List ℕ) → list_all is_ascii_digit d ≡ true → list_all is_ascii_digit (take 8 d) ≡ true
@@ -58,23 +74,48 @@ all_digits (b ∷ bs) h =
     digit_below : (b : ℕ) → is_ascii_digit b ≡ true → digit_value b < 10
     digit_below b h = let r = and_parts (leb 48 b) (leb b 57) h in omega (arith, digit_value_digit b (leb-true 48 b r.0, leb-true b 57 r.1), leb-true b 57 r.1)
 
+pub few-small : (bytes : List ℕ) (i v : ℕ) → i < length bytes → length bytes ≤ 19 → ReadFew bytes i v → v < 10 ^ 18
+few-small bytes i v lt few so_far =
+    let long : length (take i bytes) ≡ i = omega (arith, length-take i bytes) in
+    let less : digits_value 10 (take i bytes) < 10 ^ i = rw long at (digits_value-lt 10 (take i bytes) (all_digits (take i bytes) so_far.digits)) in
+    let most : 10 ^ i ≤ 10 ^ 18 = pow-le-pow_right (omega arith) (let h : i ≤ 18 = omega arith in h) in
+    omega (arith, so_far.worth)
+
 pub first_eight-bound : (d : List ℕ) → list_all is_ascii_digit d ≡ true → digits_value 10 (first_eight d) < 100000000
 first_eight-bound d h = rw length-first_eight at (digits_value-lt 10 (first_eight d) (all_digits (first_eight d) (first_eight-digits d h)))
 
-pub eight-made : (d new : List ℕ) (m : ℕ) → m ≡ min (length d) 8 → new ≡ take m d → new ++ drop m (replicate 8 48) ≡ first_eight d
-eight-made d new m e f =
-    let front : take m d ≡ take 8 d = elim (cases_lt (length d) 8) [
+-- so many zeros behind digits
+with_zeros : (k : ℕ) (xs : List ℕ) → digits_value 10 (xs ++ replicate k 48) ≡ digits_value 10 xs * 10 ^ k
+with_zeros zero xs = ap (digits_value 10) (append-nil xs) ∙ omega arith
+with_zeros (suc k) xs =
+    let more : digits_value 10 (xs ++ 48 ∷ []) ≡ digits_value 10 xs * 10 = digits_value_push 10 xs 48 ∙ omega arith in
+    ap (digits_value 10) (sym (append_assoc xs (48 ∷ []) (replicate k 48))) ∙ with_zeros k (xs ++ 48 ∷ []) ∙ ap (λ v. v * 10 ^ k) more ∙ regroup (digits_value 10 xs) (10 ^ k) ∙ ap (λ p. digits_value 10 xs * p) (sym (pow-suc 10 k))
+  where
+    regroup : (v p : ℕ) → v * 10 * p ≡ v * (p * 10)
+    regroup v p = omega arith
+
+tenth : (n : ℕ) → n ≤ 8 → get_or TENTHS n 0 ≡ 10 ^ (8 - n)
+tenth zero le = refl
+tenth (suc zero) le = refl
+tenth (suc (suc zero)) le = refl
+tenth (suc (suc (suc zero))) le = refl
+tenth (suc (suc (suc (suc zero)))) le = refl
+tenth (suc (suc (suc (suc (suc zero))))) le = refl
+tenth (suc (suc (suc (suc (suc (suc zero)))))) le = refl
+tenth (suc (suc (suc (suc (suc (suc (suc zero))))))) le = refl
+tenth (suc (suc (suc (suc (suc (suc (suc (suc zero)))))))) le = refl
+tenth (suc (suc (suc (suc (suc (suc (suc (suc (suc n))))))))) le = absurd (omega arith)
+
+-- the first decimals, eight at most, and the tenths that they are worth
+pub tenths_are : (d first : List ℕ) (m v : ℕ) → m ≡ min (length d) 8 → first ≡ take m d → v ≡ digits_value 10 first → v * get_or TENTHS (length first) 0 ≡ digits_value 10 (first_eight d)
+tenths_are d first m v e f worth =
+    let front : first ≡ take 8 d = f ∙ (elim (cases_lt (length d) 8) [
       | inl lt ↦ take_all m d (omega arith) ∙ sym (take_all 8 d (omega arith))
       | inr le ↦ let k : m ≡ 8 = omega arith in rw k refl
-    ] in
-    let k : 8 - m ≡ 8 - length d = omega arith in
-    rw (f, front, drop-replicate {X = ℕ} m 8 48, k) refl
-
-pub capped_units : (n d : ℕ) → min (min (capped n * 10000000) (2 ^ 64 - 1) + d) (2 ^ 64 - 1) ≡ capped (n * 10000000 + d)
-capped_units n d = step_by n d (2 ^ 64 - 1)
-  where
-    step_by : (n d m : ℕ) → min (min (min n m * 10000000) m + d) m ≡ min (n * 10000000 + d) m
-    step_by n d m = omega arith
+    ]) in
+    let long : length first ≡ m = ap length f ∙ omega (arith, length-take m d) in
+    let zeros : 8 - length first ≡ 8 - length d = omega arith in
+    ap (λ t. v * t) (tenth (length first) (omega arith)) ∙ ap (λ k. v * 10 ^ k) zeros ∙ ap (λ u. u * 10 ^ (8 - length d)) (worth ∙ ap (digits_value 10) front) ∙ sym (with_zeros (8 - length d) (take 8 d))
 
 -- ---- values that came back
 
@@ -86,18 +127,51 @@ pub none_if : {A : Type 0} (b : Bool) (x : A) → None ≡ cond b (Some x) None 
 none_if true x e = absurd cc
 none_if false x e = refl
 
-pub tenths_are : (d e : List ℕ) (t : ℕ) → list_all is_ascii_digit d ≡ true → e ≡ first_eight d → Some t ≡ cond (list_all is_ascii_digit e) (Some (capped (digits_value 10 e))) None → (t ≡ digits_value 10 (first_eight d)) × (t < 100000000)
-tenths_are d e t h is given =
-    let s = some_if (list_all is_ascii_digit e) (capped (digits_value 10 e)) t given in
-    let same : digits_value 10 e ≡ digits_value 10 (first_eight d) = ap (digits_value 10) is in
-    let bound : digits_value 10 (first_eight d) < 100000000 = first_eight-bound d h in
-    (omega (arith, s.1), omega (arith, s.1))
+-- ---- the first decimals and the others
 
-pub tenths_come : {P : Type 0} (d e : List ℕ) → list_all is_ascii_digit d ≡ true → e ≡ first_eight d → None ≡ cond (list_all is_ascii_digit e) (Some (capped (digits_value 10 e))) None → P
-tenths_come d e h is given =
-    let f = none_if (list_all is_ascii_digit e) (capped (digits_value 10 e)) given in
-    let t : list_all is_ascii_digit e ≡ true = ap (list_all is_ascii_digit) is ∙ first_eight-digits d h in
-    absurd cc
+all_parts : (m : ℕ) (d : List ℕ) → list_all is_ascii_digit d ≡ (list_all is_ascii_digit (take m d) && list_all is_ascii_digit (drop m d))
+all_parts m d = ap (list_all is_ascii_digit) (sym (take-append-drop m d)) ∙ list_all-append is_ascii_digit (take m d) (drop m d)
+
+pub first_lack : (m : ℕ) (d : List ℕ) → list_all is_ascii_digit (take m d) ≡ false → list_all is_ascii_digit d ≡ false
+first_lack m d e = all_parts m d ∙ and_left _ _ e
+
+pub others_lack : (m : ℕ) (d : List ℕ) → list_all is_ascii_digit (drop m d) ≡ false → list_all is_ascii_digit d ≡ false
+others_lack m d e = all_parts m d ∙ and_right (list_all is_ascii_digit (take m d)) _ e
+
+pub both_digits : (m : ℕ) (d : List ℕ) → list_all is_ascii_digit (take m d) ≡ true → list_all is_ascii_digit (drop m d) ≡ true → list_all is_ascii_digit d ≡ true
+both_digits m d e f = all_parts m d ∙ and_from _ _ e f
+
+-- what the first decimals are worth, in tenths
+pub record Tenths (d : List ℕ) (t : ℕ) : Type 0 where
+  pub digits : list_all is_ascii_digit d ≡ true
+  pub worth : t ≡ digits_value 10 (first_eight d)
+  pub bound : t < 100000000
+
+pub tenths_read : (d first others : List ℕ) (m v : ℕ) → m ≡ min (length d) 8 → first ≡ take m d → others ≡ drop m d
+    → Some v ≡ cond (list_all is_ascii_digit first) (Some (digits_value 10 first)) None → true ≡ list_all is_ascii_digit others → Tenths d (v * get_or TENTHS (length first) 0)
+tenths_read d first others m v e f o given all =
+    let s = some_if (list_all is_ascii_digit first) (digits_value 10 first) v given in
+    let digits = both_digits m d (sym (ap (list_all is_ascii_digit) f) ∙ s.0) (sym (ap (list_all is_ascii_digit) o) ∙ sym all) in
+    let worth = tenths_are d first m v e f s.1 in
+    record { digits = digits; worth = worth; bound = omega (arith, worth, first_eight-bound d digits) }
+
+pub few-capped : (bytes : List ℕ) → length bytes ≤ 19
+    → cond (list_all is_ascii_digit bytes) (Some (digits_value 10 bytes)) None ≡ cond (list_all is_ascii_digit bytes) (Some (capped (digits_value 10 bytes))) None
+few-capped bytes few =
+    elim (cases_Bool (list_all is_ascii_digit bytes)) [
+      | inl h ↦
+          let less = digits_value-lt 10 bytes (all_digits bytes h) in
+          let most : 10 ^ length bytes ≤ 10 ^ 19 = pow-le-pow_right (omega arith) few in
+          let same : digits_value 10 bytes ≡ capped (digits_value 10 bytes) = omega arith in
+          ap (λ v. cond (list_all is_ascii_digit bytes) (Some v) None) same
+      | inr h ↦ rw h refl
+    ]
+
+pub capped_units : (n d : ℕ) → min (min (capped n * 10000000) (2 ^ 64 - 1) + d) (2 ^ 64 - 1) ≡ capped (n * 10000000 + d)
+capped_units n d = step_by n d (2 ^ 64 - 1)
+  where
+    step_by : (n d m : ℕ) → min (min (min n m * 10000000) m + d) m ≡ min (n * 10000000 + d) m
+    step_by n d m = omega arith
 
 pub no_decimals : (text : List ℕ) → list_all is_ascii_digit (after_first is_point text) ≡ false → None ≡ option_map capped (unsigned_of text)
 unfolding unsigned_of

@@ -15,7 +15,7 @@ parts bytes = slice_split (λ b. b == 37) bytes
 abbrev pub with_front : List ℕ → Option (List ℕ) → Option (List ℕ)
 with_front front read = option_map (λ t. front ++ t) read
 
-string-plain : (bytes : List ℕ) → parts bytes ≡ bytes ∷ [] → string_of bytes ≡ Some bytes
+pub string-plain : (bytes : List ℕ) → parts bytes ≡ bytes ∷ [] → string_of bytes ≡ Some bytes
 unfolding string_of joined
 string-plain bytes e = rw e refl
 

@@ -1,5 +1,5 @@
 -- Of equal keys the first alone, one tag more at a time.
-use Rattle.std.proofs.Common.{◌≡◌, ℕ, ◌+◌, ◌<◌, ◌≤◌, min, Bool, true, false, cond, not, ◌||◌, List, [], ◌∷◌, ◌++◌, length, take, drop, refl, sym, ap, subst, ◌∙◌, inl, inr, arith}
+use Rattle.std.proofs.Common.{◌≡◌, ℕ, ◌+◌, ◌<◌, ◌≤◌, min, Bool, true, false, cond, not, ◌||◌, List, [], ◌∷◌, ◌++◌, length, take, drop, Some, refl, sym, ap, subst, Result, Ok, Err, ◌∙◌, inl, inr, arith}
 use native.Mathlib.Numerals.{unary_clauses}
 use Rattle.std.specs.BTreeSet.{BTreeSet, contains_text, IsEmpty}
 use Rattle.std.specs.List.{list_any, filter}
@@ -10,8 +10,14 @@ use Rattle.std.proofs.lemmas.List.{take_all, drop_all, take-append-drop, drop-ap
 use Rattle.std.proofs.lemmas.List.Folds.{list_any-append}
 use Rattle.std.proofs.lemmas.Slice.Eq.{bytes_eq-Decides}
 use Rattle.opl_reader.specs.declared.object.Tag.{Tag}
+use Rattle.opl_reader.specs.declared.fault.LineFault.{LineFault}
+use Rattle.opl_reader.specs.declared.fault.LineError.{LineError}
+use Rattle.opl_reader.specs.declared.fault.LineError.TheVariants.{Fault, OutOfMemory}
+use Rattle.opl_reader.specs.Reading.{◌>>=◌, Fails}
 use Rattle.opl_reader.specs.Items.{first_of_each}
-use Rattle.opl_reader.specs.Steps.{kept_with, HasKeysOf}
+use Rattle.opl_reader.specs.StringReading.{string_of, string_at}
+use Rattle.opl_reader.specs.ItemReading.{halves, tag_at}
+use Rattle.opl_reader.specs.Steps.{tag, kept_with, kept_at, HasKeysOf}
 
 -- a tag has this key
 abbrev pub has_this : List ℕ → Tag → Bool
@@ -143,3 +149,24 @@ any-later-few n key tags found none later =
 pub any-early-few : (n : ℕ) (key : List ℕ) (tags : List Tag) → true ≡ list_any (has_this key) (take n tags) → true ≡ list_any (has_this key) tags
 any-early-few n key tags some =
     ap (λ (b : Bool). b || list_any (has_this key) (drop n tags)) some ∙ (sym (list_any-append (has_this key) (take n tags) (drop n tags)) ∙ ap (list_any (has_this key)) (take-append-drop n tags))
+
+-- ---- the tag of an item
+
+pub kept_from : (r : Result Tag LineFault) (tags new : List Tag) → (r >>= λ t. Ok (kept_with tags t)) ≡ Ok new → (t : Tag) × (r ≡ Ok t) × (kept_with tags t ≡ new)
+kept_from (Ok t) tags new e = (t, refl, cc)
+kept_from (Err f) tags new e = absurd cc
+
+pub not_kept : (r : Result Tag LineFault) (tags : List Tag) (err : LineError) → Fails err (r >>= λ t. Ok (kept_with tags t)) → Fails err r
+not_kept (Ok t) tags OutOfMemory h = tt
+not_kept (Err g) tags OutOfMemory h = tt
+not_kept (Ok t) tags (Fault f) h = absurd cc
+not_kept (Err g) tags (Fault f) h = cc
+
+plain_tag : (place : ℕ) (item key value : List ℕ) → Some (key, value) ≡ halves 61 item → string_of key ≡ Some key → string_of value ≡ Some value → tag_at place item ≡ Ok (tag key value)
+unfolding tag_at string_at
+plain_tag place item key value cut k v = rw (sym cut, k, v) refl
+
+-- a key and a value that stand for themselves
+pub plain_kept : (tags : List Tag) (place : ℕ) (item key value : List ℕ) → Some (key, value) ≡ halves 61 item → string_of key ≡ Some key → string_of value ≡ Some value
+    → kept_at tags place item ≡ Ok (kept_with tags (tag key value))
+plain_kept tags place item key value cut k v = ap (λ (r : Result Tag LineFault). r >>= λ t. Ok (kept_with tags t)) (plain_tag place item key value cut k v)

@@ -1,5 +1,5 @@
 -- Words that contracts of private functions alone cite: one step of a reading.
-use Rattle.std.specs.Prelude.{◌≡◌, ℕ, ◌+◌, ◌-◌, ◌^◌, ◌<◌, min, Bool, true, false, ◌||◌, ◌==◌, if◌then◌else◌, List, [], ◌∷◌, ◌++◌, length, slice_index_or, Option, Some, None}
+use Rattle.std.specs.Prelude.{◌≡◌, ℕ, ◌+◌, ◌-◌, ◌^◌, ◌<◌, min, Bool, true, false, ◌||◌, ◌==◌, if◌then◌else◌, List, [], ◌∷◌, ◌++◌, length, slice_index_or, Option, Some, None, Result, Ok}
 use Rattle.std.specs.BTreeSet.{BTreeSet, contains_text}
 use Rattle.std.specs.List.{slice_split, list_any}
 use Rattle.std.specs.Str.{bytes_eq}
@@ -11,12 +11,14 @@ use Rattle.opl_reader.specs.declared.object.ObjectKind.TheVariants.{Node, Way, R
 use Rattle.opl_reader.specs.declared.field.Meaning.{Meaning}
 use Rattle.opl_reader.specs.declared.field.Meaning.TheVariants.{Count, Flag, Anything, Name, X, Y, Tagged, Referring, Having}
 use Rattle.opl_reader.specs.declared.object.Tag.{Tag}
+use Rattle.opl_reader.specs.declared.fault.LineFault.{LineFault}
 use Rattle.opl_reader.specs.declared.fault.LineError.{LineError}
 use Rattle.opl_reader.specs.declared.fault.LineError.TheVariants as line
 use Rattle.opl_reader.specs.declared.feed.FeedError.{FeedError}
 use Rattle.opl_reader.specs.declared.feed.FeedError.TheVariants.{Line, OutOfMemory}
 use Rattle.opl_reader.specs.Parts.{Part, part}
-use Rattle.opl_reader.specs.ItemReading.{is_comma}
+use Rattle.opl_reader.specs.Reading.{◌>>=◌}
+use Rattle.opl_reader.specs.ItemReading.{is_comma, tag_at}
 use Rattle.opl_reader.specs.LineReading.{is_passed_over}
 
 -- a value as far as the machine counts
@@ -42,6 +44,14 @@ left_len (Some rest) = length rest + 1
 -- the tags with one more, unless one with its key is there
 abbrev pub kept_with : List Tag → Tag → List Tag
 kept_with tags t = if list_any (λ u. bytes_eq u.key t.key) tags then tags else tags ++ t ∷ []
+
+-- the tag with this key and this value
+abbrev pub tag : List ℕ → List ℕ → Tag
+tag key value = record { key = key; value = value }
+
+-- the tags with the one that an item spells, or the item's fault
+abbrev pub kept_at : List Tag → ℕ → List ℕ → Result (List Tag) LineFault
+kept_at tags place item = tag_at place item >>= λ t. Ok (kept_with tags t)
 
 -- the set has the keys of these tags
 abbrev pub HasKeysOf : {Y : Type 0} → BTreeSet (String Y) → List Tag → Type 0

@@ -5,7 +5,7 @@ ghost use Rattle.opl_reader.specs.ItemReading.{halves};
 ghost use Rattle.std.specs.Str.{IsUtf8};
 ghost use Rattle.std.specs.List.{slice_split, position_or_len, before_first, after_first};
 
-use memchr::memchr;
+use crate::search::first_cut;
 
 /// The text before the first such character, and that behind it.
 pub fn cut(text: &str, at: char) -> Option<(&str, &str)>
@@ -20,13 +20,20 @@ pub fn cut(text: &str, at: char) -> Option<(&str, &str)>
     ensures utf8 { IfSome result (λ x. IsUtf8 x.1.now) }
     ensures len { IfSome result (λ x. length x.0.now + length x.1.now + 1 ≡ length text.now) }
 {
-    text.split_once(at)
+    let place = first_cut(text.as_bytes(), at as u8);
+    if place == text.len() {
+        return None;
+    }
+    Some((&text[..place], &text[place + 1..]))
 }
 
 /// The bytes before the first such byte, and those behind it.
 pub fn cut_bytes(bytes: &[u8], at: u8) -> Option<(&[u8], &[u8])>
     ensures { option_map (λ x. (x.0.now, x.1.now)) result ≡ halves at bytes.now }
 {
-    let place = memchr(at, bytes)?;
+    let place = first_cut(bytes, at);
+    if place == bytes.len() {
+        return None;
+    }
     Some((&bytes[..place], &bytes[place + 1..]))
 }

@@ -1,12 +1,13 @@
 //! Strings with escapes.
 
-ghost use Rattle.std.specs.Prelude.{◌≡◌, List, ℕ, Some, is_some};
+ghost use Rattle.std.specs.Prelude.{◌≡◌, List, ℕ, IsTrue, Some, is_some};
 ghost use Rattle.opl_reader.specs.Reading.{Gives};
 ghost use Rattle.opl_reader.specs.Strings.{IsString};
 ghost use Rattle.opl_reader.specs.StringReading.{code_point, string_of, string_at};
 
 use crate::cut::cut;
 use crate::fault::{FaultKind, LineError, fault};
+use crate::search::first_cut;
 use crate::text::Text;
 use std::alloc::Global;
 
@@ -23,6 +24,13 @@ fn code_point(digits: &str) -> Option<char>
         code = code.saturating_mul(16).saturating_add(digit);
     }
     char::from_u32(code)
+}
+
+/// Whether no escape begins in a text, so that it is a string that stands for itself.
+pub fn is_plain(text: &str) -> bool
+    ensures { IsTrue result → string_of text.now ≡ Some text.now }
+{
+    first_cut(text.as_bytes(), b'%') == text.len()
 }
 
 /// The string that stands in a field or an item at this place, its escapes read.

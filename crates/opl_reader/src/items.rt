@@ -1,19 +1,19 @@
 //! Values that are lists of items.
 
-ghost use Rattle.std.specs.Prelude.{◌≡◌, ◌+◌, ◌^◌, ◌<◌, ◌∷◌, ◌++◌, [], length, drop, take, IfSome, OnOk};
+ghost use Rattle.std.specs.Prelude.{◌≡◌, ℕ, List, ◌+◌, ◌^◌, ◌<◌, ◌∷◌, ◌++◌, [], length, drop, take, IfSome, OnOk};
 ghost use Rattle.std.specs.List.{slice_split, list_any};
 ghost use Rattle.std.specs.Option.{option_copied};
 ghost use Rattle.std.specs.Str.{IsUtf8, bytes_eq};
-ghost use Rattle.opl_reader.specs.Reading.{Gives};
+ghost use Rattle.opl_reader.specs.Reading.{Gives, Leaves};
 ghost use Rattle.opl_reader.specs.Items.{kind_of};
-ghost use Rattle.opl_reader.specs.ItemReading.{is_comma, tag_at, tags_at, own_place_of, ref_behind, ref_at, refs_at, target_of, member_at, members_at};
-ghost use Rattle.opl_reader.specs.Steps.{all_left, left_parts, left_len, kept_with, HasKeysOf};
+ghost use Rattle.opl_reader.specs.ItemReading.{is_comma, tags_at, own_place_of, ref_behind, ref_at, refs_at, target_of, member_at, members_at};
+ghost use Rattle.opl_reader.specs.Steps.{all_left, left_parts, left_len, tag, kept_with, kept_at, HasKeysOf};
 
 use crate::cut::{cut, cut_bytes};
-use crate::escape::read_string;
+use crate::escape::{is_plain, read_string};
 use crate::fault::{FaultKind, LineError, fault};
 use crate::number::read_id;
-use crate::object::{Member, Members, ObjectKind, Ref, Tag};
+use crate::object::{Member, Members, ObjectKind, Ref};
 use crate::place::{place_of, x_of, y_of};
 use crate::refs::Refs;
 use crate::tags::Tags;
@@ -65,19 +65,6 @@ fn tag_room(text: &str) -> usize {
     if text.is_empty() { 0 } else { text.len() + 1 }
 }
 
-/// A tag: key=value.
-#[tactic(auto, unfolding(crate::specs::ItemReading::tag_at))]
-fn read_tag(alloc: Global, item: &str, place: u64) -> Result<Tag, LineError>
-    ensures { Gives result (tag_at place item.now) }
-{
-    let Some((key, value)) = cut(item, '=') else {
-        return Err(fault(FaultKind::BadTag, place));
-    };
-    let key = read_string(alloc, key, place)?;
-    let value = read_string(alloc, value, place)?;
-    Ok(Tag { key, value })
-}
-
 /// Whether one of the first few tags has this key.
 fn is_key_among_few(tags: &Tags, key: &str) -> bool
     ensures { result ≡ list_any (λ t. bytes_eq t.key key.now) (take 16 tags.now) }
@@ -107,15 +94,16 @@ fn add_later_key(
     alloc: Global,
     tags: &Tags,
     later_keys: &mut BTreeSet<String>,
-    tag: &Tag,
+    key: &str,
 ) -> Result<(), OutOfMemory>
     requires { HasKeysOf later_keys.old (drop 16 tags.now) }
-    ensures { OnOk result (HasKeysOf later_keys.new (drop 16 (tags.now ++ tag.now ∷ []))) }
+    ensures { OnOk result ((value : List ℕ)
+        → HasKeysOf later_keys.new (drop 16 (tags.now ++ tag key.now value ∷ []))) }
 {
     if tags.len() < FEW_TAGS {
         return Ok(());
     }
-    let key = String::from_str(alloc, tag.key.as_str())?;
+    let key = String::from_str(alloc, key)?;
     later_keys.insert(key)?;
     Ok(())
 }
@@ -125,17 +113,45 @@ fn keep(
     alloc: Global,
     tags: &mut Tags,
     later_keys: &mut BTreeSet<String>,
-    tag: Tag,
+    key: &str,
+    value: &str,
 ) -> Result<(), OutOfMemory>
     requires { HasKeysOf later_keys.old (drop 16 tags.old) }
-    ensures kept { OnOk result (tags.new ≡ kept_with tags.old tag) }
+    ensures kept { OnOk result (tags.new ≡ kept_with tags.old (tag key.now value.now)) }
     ensures keys { OnOk result (HasKeysOf later_keys.new (drop 16 tags.new)) }
 {
-    if has_key(tags, later_keys, tag.key.as_str()) {
+    if has_key(tags, later_keys, key) {
         return Ok(());
     }
-    add_later_key(alloc, tags, later_keys, &tag)?;
-    tags.push(tag.key.as_str(), tag.value.as_str())
+    add_later_key(alloc, tags, later_keys, key)?;
+    tags.push(key, value)
+}
+
+/// Adds the tag that an item spells, key=value, unless one with its key is there.
+#[tactic(auto, unfolding(crate::specs::ItemReading::tag_at))]
+fn add_tag(
+    alloc: Global,
+    tags: &mut Tags,
+    later_keys: &mut BTreeSet<String>,
+    item: &str,
+    place: u64,
+) -> Result<(), LineError>
+    requires { HasKeysOf later_keys.old (drop 16 tags.old) }
+    ensures tags { Leaves result tags.new (kept_at tags.old place item.now) }
+    ensures keys { OnOk result (HasKeysOf later_keys.new (drop 16 tags.new)) }
+{
+    let Some((key, value)) = cut(item, '=') else {
+        return Err(fault(FaultKind::BadTag, place));
+    };
+    // Most stand for themselves, and are kept without a copy in between.
+    if is_plain(key) && is_plain(value) {
+        keep(alloc, tags, later_keys, key, value)?;
+        return Ok(());
+    }
+    let key = read_string(alloc, key, place)?;
+    let value = read_string(alloc, value, place)?;
+    keep(alloc, tags, later_keys, key.as_str(), value.as_str())?;
+    Ok(())
 }
 
 /// Tags, of equal keys the first alone.
@@ -150,8 +166,7 @@ pub fn read_tags(alloc: Global, text: &str, place: u64) -> Result<Tags, LineErro
     let mut left = all_items(text);
     while let Some(rest) = left {
         let (item, more) = next_item(rest);
-        let tag = read_tag(alloc, item, at)?;
-        keep(alloc, &mut tags, &mut later_keys, tag)?;
+        add_tag(alloc, &mut tags, &mut later_keys, item, at)?;
         at += item.len() as u64 + 1;
         left = more;
     }

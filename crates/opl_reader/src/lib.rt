@@ -20,6 +20,7 @@ mod number;
 mod object;
 mod place;
 mod refs;
+mod search;
 mod tags;
 mod text;
 

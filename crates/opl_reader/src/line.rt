@@ -22,7 +22,7 @@ use crate::field::{add_value, letter_of};
 use crate::items::kind_of;
 use crate::number::read_id;
 use crate::object::{Object, ObjectKind};
-use memchr::memchr2;
+use crate::search::first_separator;
 use std::alloc::Global;
 use std::str;
 
@@ -38,10 +38,11 @@ fn next_part(text: &str) -> (&str, &str)
         → length result.0.now + 1 + length result.1.now ≤ length text.now }
     ensures shorter { 0 < length text.now → length result.1.now < length text.now }
 {
-    match memchr2(b' ', b'\t', text.as_bytes()) {
-        None => (text, ""),
-        Some(at) => (&text[..at], &text[at + 1..]),
+    let len = first_separator(text.as_bytes());
+    if len == text.len() {
+        return (text, "");
     }
+    (&text[..len], &text[len + 1..])
 }
 
 /// The next field with its place, and what is left behind it.

@@ -8,7 +8,7 @@ ghost use Rattle.opl_reader.specs.Numbers.{IsWithin, IsId, IsDecimal, first_eigh
 ghost use Rattle.opl_reader.specs.NumberReading.{magnitude_of, id_of, is_point, unsigned_of, within, decimal_of};
 ghost use Rattle.opl_reader.specs.Steps.{capped};
 
-use memchr::memchr;
+use crate::search::first_cut;
 
 /// The greatest magnitude of an id, 2^62 - 1.
 pub const MAX_ID: u64 = 4_611_686_018_427_387_903;
@@ -20,8 +20,27 @@ pub fn are_digits(bytes: &[u8]) -> bool
     bytes.iter().all(|b| b.is_ascii_digit())
 }
 
-/// The value of digits, at most 2^64 - 1; None where a byte is no digit.
-fn value(bytes: &[u8]) -> Option<u64>
+/// How many digits a u64 holds, whichever they are.
+const HELD_DIGITS: usize = 19;
+
+/// The value of few digits; None where a byte is no digit.
+fn short_value(bytes: &[u8]) -> Option<u64>
+    requires { length bytes.now ≤ 19 }
+    ensures { result ≡ (if list_all is_ascii_digit bytes.now
+        then Some (digits_value 10 bytes.now) else None) }
+{
+    let mut value: u64 = 0;
+    for byte in bytes {
+        if !byte.is_ascii_digit() {
+            return None;
+        }
+        value = value * 10 + u64::from(*byte - b'0');
+    }
+    Some(value)
+}
+
+/// The value of any number of digits, at most 2^64 - 1; None where a byte is no digit.
+fn long_value(bytes: &[u8]) -> Option<u64>
     ensures { result ≡ (if list_all is_ascii_digit bytes.now
         then Some (capped (digits_value 10 bytes.now)) else None) }
 {
@@ -35,6 +54,17 @@ fn value(bytes: &[u8]) -> Option<u64>
             .saturating_add(u64::from(*byte - b'0'));
     }
     Some(value)
+}
+
+/// The value of digits, at most 2^64 - 1; None where a byte is no digit.
+fn value(bytes: &[u8]) -> Option<u64>
+    ensures { result ≡ (if list_all is_ascii_digit bytes.now
+        then Some (capped (digits_value 10 bytes.now)) else None) }
+{
+    if bytes.len() > HELD_DIGITS {
+        return long_value(bytes);
+    }
+    short_value(bytes)
 }
 
 /// One or more digits, up to the greatest magnitude of an id.
@@ -76,26 +106,30 @@ pub fn read_id(text: &[u8]) -> Option<i64>
     id(text)
 }
 
-/// The first eight decimals, with zeros for those that are not there.
-fn eight(decimals: &[u8]) -> [u8; 8]
-    ensures { result ≡ first_eight decimals.now }
-{
-    let mut eight = [b'0'; 8];
-    let len = decimals.len().min(8);
-    eight[..len].copy_from_slice(&decimals[..len]);
-    eight
-}
-
 /// The digits before the first point, and those behind it.
 fn cut_at_point(text: &[u8]) -> (&[u8], &[u8])
     ensures whole { result.0.now ≡ before_first is_point text.now }
     ensures decimals { result.1.now ≡ after_first is_point text.now }
 {
-    match memchr(b'.', text) {
-        None => (text, &text[text.len()..]),
-        Some(at) => (&text[..at], &text[at + 1..]),
+    let len = first_cut(text, b'.');
+    if len == text.len() {
+        return (text, &text[len..]);
     }
+    (&text[..len], &text[len + 1..])
 }
+
+/// What the last of so many decimals counts, in tenths of a unit.
+const TENTHS: [u64; 9] = [
+    100_000_000,
+    10_000_000,
+    1_000_000,
+    100_000,
+    10_000,
+    1_000,
+    100,
+    10,
+    1,
+];
 
 /// The units of decimals, rounded at the eighth; None where a byte is no digit.
 fn fraction(decimals: &[u8]) -> Option<u64>
@@ -103,10 +137,12 @@ fn fraction(decimals: &[u8]) -> Option<u64>
         then Some ((digits_value 10 (first_eight decimals.now) + 5) / 10) else None) }
     ensures bound { IfSome result (λ n. n ≤ 10000000) }
 {
-    if !are_digits(decimals) {
+    let (first, others) = decimals.split_at(decimals.len().min(8));
+    let value = short_value(first)?;
+    if !are_digits(others) {
         return None;
     }
-    let tenths = value(&eight(decimals))?;
+    let tenths = value * TENTHS[first.len()];
     Some((tenths + 5) / 10)
 }
 

@@ -1,9 +1,9 @@
-use Rattle.std.proofs.Common.{◌∙◌, ◌++◌, ◌∷◌, [], List, ap}
+use Rattle.std.proofs.Common.{◌∙◌, ◌++◌, ◌∷◌, [], List, sym, ap}
 use Rattle.opl_reader.specs.declared.object.Tag.{Tag}
 use Rattle.opl_reader.specs.ItemReading.{tag_at}
 use Rattle.opl_reader.specs.Steps.{kept_with}
 use Rattle.opl_reader.proofs.ItemLemmas.{begins-all, goes_on}
-use Rattle.opl_reader.proofs.TagLemmas.{push-kept, no-keys}
+use Rattle.opl_reader.proofs.TagLemmas.{push-kept, no-keys, kept_from}
 use Rattle.opl_reader.proofs.items.read_tags.Goals as goal
 
 pub loop-left-init : goal.loop-left-init
@@ -17,9 +17,9 @@ loop-left-init c = (
 pub loop-left-preserved : goal.loop-left-preserved
 loop-left-preserved c =
     let front = c.loop-left.invariant.0 in
-    let tag = c.in_ok-tag.tag in (
-      front ++ tag ∷ [],
-      c.in_ok-keep.ensures.kept ∙ ap (λ (tags : List Tag). kept_with tags tag) c.loop-left.invariant.1 ∙ push-kept front tag,
-      goes_on tag_at front c.loop-left.at c.in-Some.rest c.next_item.result.0.now c.next_item.result.1 tag c.args.place c.args.text.now c.next_item.ensures.parts c.next_item.ensures.len c.next_item.ensures.utf8 c.in_ok-tag.ensures (rw c.in-Some.is at c.loop-left.invariant.2),
-      c.in_ok-keep.ensures.keys,
+    let kept = kept_from (tag_at c.loop-left.at c.next_item.result.0.now) c.loop-left.tags c.add_tag.new.tags c.in_ok-add_tag.ensures.tags in (
+      front ++ kept.0 ∷ [],
+      sym kept.2 ∙ ap (λ (tags : List Tag). kept_with tags kept.0) c.loop-left.invariant.1 ∙ push-kept front kept.0,
+      goes_on tag_at front c.loop-left.at c.in-Some.rest c.next_item.result.0.now c.next_item.result.1 kept.0 c.args.place c.args.text.now c.next_item.ensures.parts c.next_item.ensures.len c.next_item.ensures.utf8 kept.1 (rw c.in-Some.is at c.loop-left.invariant.2),
+      c.in_ok-add_tag.ensures.keys,
     )

@@ -1,0 +1,6 @@
+use Rattle.std.proofs.Common.{◌==◌}
+use Rattle.opl_reader.proofs.SearchLemmas.{SearchedTo}
+use Rattle.opl_reader.proofs.search.first_cut.Given as goal
+
+abbrev pub invariant-loop-place : goal.invariant-loop-place
+invariant-loop-place l = SearchedTo (λ b. b == l.byte) l.text l.place

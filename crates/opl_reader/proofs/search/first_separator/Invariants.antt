@@ -1,0 +1,6 @@
+use Rattle.opl_reader.specs.LineReading.{is_separator}
+use Rattle.opl_reader.proofs.SearchLemmas.{SearchedTo}
+use Rattle.opl_reader.proofs.search.first_separator.Given as goal
+
+abbrev pub invariant-loop-place : goal.invariant-loop-place
+invariant-loop-place l = SearchedTo is_separator l.text l.place
