@@ -1,10 +1,10 @@
 -- The decimals behind the point.
-use Rattle.std.proofs.Common.{◌≡◌, ◌≢◌, ◌∙◌, ℕ, suc, ◌-◌, ◌/◌, ◌^◌, ◌<◌, ◌≤◌, ◌==◌, ◌&&◌, if◌then◌else◌, Bool, false, List, [], ◌∷◌, ◌++◌, get_or, take, refl, sym, ap, subst, append_assoc, length, arith}
+use Rattle.std.proofs.Common.{◌≡◌, ◌≢◌, ◌∙◌, ℕ, suc, ◌+◌, ◌-◌, ◌/◌, ◌^◌, ◌<◌, ◌≤◌, ◌==◌, ◌&&◌, if◌then◌else◌, Bool, false, List, [], ◌∷◌, ◌++◌, drop, get_or, take, refl, sym, ap, subst, append_assoc, length, arith}
 use Rattle.std.specs.Prelude.{decimal}
 use Rattle.std.proofs.Math.Seq.{take-suc}
 use Rattle.std.proofs.lemmas.Bool.{ne_eqb}
 use Rattle.std.proofs.lemmas.Fmt.{length-decimal-le}
-use Rattle.std.proofs.lemmas.List.{get_or-take, length-take-le}
+use Rattle.std.proofs.lemmas.List.{get_or-take, length-append, length-take-le, take-append-drop, take-take, take_at}
 use Rattle.std.proofs.lemmas.List.Folds.{list_all_at}
 use Rattle.std.proofs.lemmas.Nat.{div_below}
 use Rattle.std.specs.List.{list_all}
@@ -70,8 +70,19 @@ fraction-put rest digits len before point after some is le same last put_point p
     ∙ append_assoc before (46 ∷ []) (take len digits)
     ∙ ap (λ (xs : List ℕ). before ++ xs) (sym (fraction-some rest digits len some is le same last))
 
+-- of digits that are put, the first are to stand
+pub front_stands : (new before digits : List ℕ) (at len end : ℕ) → take end new ≡ before ++ digits → end ≡ at + length digits → length before ≡ at → len ≤ length digits → take (at + len) new ≡ before ++ take len digits
+front_stands new before digits at len end put is size few =
+    let long : length (before ++ take len digits) ≡ at + len = omega (arith, length-append before (take len digits), length-take-le len digits few, size) in
+    sym (take-take (at + len) end new (omega arith))
+    ∙ ap (take (at + len)) (put ∙ ap (λ (xs : List ℕ). before ++ xs) (sym (take-append-drop len digits)) ∙ sym (append_assoc before (take len digits) (drop len digits)))
+    ∙ take_at (before ++ take len digits) (drop len digits) (at + len) long
+
+-- ---- whole degrees
+
 -- the digits of the degrees of a u64 are at most 13
-pub short_degrees : (m : ℕ) → m < 2 ^ 64 → length (decimal (m / 10 ^ 7)) ≤ 13
-short_degrees m small =
-    let below : m / 10 ^ 7 < 10 ^ 13 = div_below m (10 ^ 7) (10 ^ 13) (omega arith) (omega arith) in
-    length-decimal-le 13 (m / 10 ^ 7) (omega arith) below (omega arith)
+pub few_degrees : (m : ℕ) → m < 2 ^ 64 → m / 10 ^ 7 < 10 ^ 13
+few_degrees m small = div_below m (10 ^ 7) (10 ^ 13) (omega arith) (omega arith)
+
+pub short_degrees : (n : ℕ) → n < 10 ^ 13 → length (decimal n) ≤ 13
+short_degrees n below = length-decimal-le 13 n (omega arith) below (omega arith)

@@ -1,12 +1,15 @@
 //! Coordinates and points.
 
-ghost use Rattle.std.specs.Prelude.{◌≡◌, ◌++◌, OnOk};
+ghost use Rattle.std.specs.Prelude.{◌≡◌, ◌∷◌, ◌++◌, OnOk};
 ghost use Rattle.osm_notation.specs.Decimal.{units_text};
 ghost use Rattle.osm_notation.specs.Coordinates.{xy_text, point_text};
 
-use crate::decimal::put_decimal;
+use crate::decimal::{put_byte, put_decimal, put_units};
 use osm_geom::Loc;
 use std::alloc::AllocError as OutOfMemory;
+
+/// Room for two coordinates and a byte between them.
+const ROOM: usize = 45;
 
 /// Adds a coordinate of `v` units of 1e-7 degree.
 pub fn put_coordinate(text: &mut Vec<u8>, v: i64) -> Result<(), OutOfMemory>
@@ -18,13 +21,24 @@ pub fn put_coordinate(text: &mut Vec<u8>, v: i64) -> Result<(), OutOfMemory>
     Ok(())
 }
 
+/// Adds two coordinates and what stands between them.
+pub fn put_both(text: &mut Vec<u8>, x: i64, between: u8, y: i64) -> Result<(), OutOfMemory>
+    ensures { OnOk result (text.new.items
+        ≡ text.old.items ++ units_text x ++ between ∷ units_text y) }
+{
+    let mut buf = [0; ROOM];
+    let first = put_units(&mut buf, 0, x);
+    let second = put_byte(&mut buf, first, between);
+    let len = put_units(&mut buf, second, y);
+    text.extend_from_slice(&buf[..len])?;
+    Ok(())
+}
+
 /// Adds the point of these coordinates.
 pub fn put_xy(text: &mut Vec<u8>, x: i64, y: i64) -> Result<(), OutOfMemory>
     ensures { OnOk result (text.new.items ≡ text.old.items ++ xy_text x y) }
 {
-    put_coordinate(text, x)?;
-    text.push(b' ')?;
-    put_coordinate(text, y)
+    put_both(text, x, b' ', y)
 }
 
 /// Adds a point.

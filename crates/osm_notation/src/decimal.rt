@@ -1,6 +1,6 @@
 //! Decimals of coordinates.
 
-ghost use Rattle.std.specs.Prelude.{◌≡◌, ◌≢◌, ℕ, ◌+◌, ◌-◌, ◌^◌, ◌<◌, ◌≤◌, ◌++◌, length, take, slice_index};
+ghost use Rattle.std.specs.Prelude.{◌≡◌, ◌≢◌, ℕ, ◌+◌, ◌-◌, ◌^◌, ◌<◌, ◌≤◌, ◌∷◌, ◌++◌, [], length, take, slice_index, decimal};
 ghost use Rattle.osm_notation.specs.Decimal.{units_text, magnitude_text, fraction, last_digits, without_end_zeros};
 
 use itoa::Buffer;
@@ -8,9 +8,19 @@ use itoa::Buffer;
 /// The units of a degree.
 const UNITS: u64 = 10_000_000;
 
+/// Puts a byte at a place of the buffer, and gives the place behind it.
+pub(crate) fn put_byte(buf: &mut [u8], at: usize, byte: u8) -> usize
+    requires { at < length buf.old }
+    ensures end { result ≡ at + 1 }
+    ensures text { take result buf.new ≡ take at buf.old ++ byte ∷ [] }
+{
+    buf[at] = byte;
+    at + 1
+}
+
 /// Puts bytes at a place of the buffer, and gives the place behind them.
-fn put(buf: &mut [u8; 24], at: usize, bytes: &[u8]) -> usize
-    requires { at + length bytes.now ≤ 24 }
+fn put(buf: &mut [u8], at: usize, bytes: &[u8]) -> usize
+    requires { at + length bytes.now ≤ length buf.old }
     ensures end { result ≡ at + length bytes.now }
     ensures text { take result buf.new ≡ take at buf.old ++ bytes.now }
 {
@@ -63,10 +73,22 @@ fn len_without_end_zeros(digits: &[u8]) -> usize
     len
 }
 
+/// Puts all seven decimals, of which the first `len` are to stand, and gives the place behind these: so the compiler
+/// knows how many bytes it copies.
+fn put_front(buf: &mut [u8], at: usize, decimals: [u8; 7], len: usize) -> usize
+    requires room { at + 7 ≤ length buf.old }
+    requires few { len ≤ 7 }
+    ensures end { result ≡ at + len }
+    ensures text { take result buf.new ≡ take at buf.old ++ take len decimals }
+{
+    put(buf, at, &decimals);
+    at + len
+}
+
 /// Puts a point and decimals, where a rest stands.
 #[tactic(auto, unfolding(crate::specs::Decimal::fraction))]
-fn put_fraction(buf: &mut [u8; 24], at: usize, rest: u64) -> usize
-    requires room { at + 8 ≤ 24 }
+fn put_fraction(buf: &mut [u8], at: usize, rest: u64) -> usize
+    requires room { at + 8 ≤ length buf.old }
     requires rest { rest < 10 ^ 7 }
     ensures short { result ≤ at + 8 }
     ensures text { take result buf.new ≡ take at buf.old ++ fraction rest }
@@ -74,23 +96,46 @@ fn put_fraction(buf: &mut [u8; 24], at: usize, rest: u64) -> usize
     if rest == 0 {
         return at;
     }
-    let point = put(buf, at, b".");
+    let point = put_byte(buf, at, b'.');
     let decimals = decimals(rest);
     let len = len_without_end_zeros(&decimals);
-    put(buf, point, &decimals[..len])
+    put_front(buf, point, decimals, len)
+}
+
+/// Puts whole degrees.
+#[tactic(auto, using(crate::proofs::DecimalLemmas::short_degrees))]
+fn put_degrees(buf: &mut [u8], at: usize, degrees: u64) -> usize
+    requires room { at + 13 ≤ length buf.old }
+    requires few { degrees < 10 ^ 13 }
+    ensures short { result ≤ at + 13 }
+    ensures text { take result buf.new ≡ take at buf.old ++ decimal degrees }
+{
+    let mut digits = Buffer::new();
+    put(buf, at, digits.format(degrees).as_bytes())
 }
 
 /// Puts the decimal of a magnitude.
-#[tactic(auto, using(crate::proofs::DecimalLemmas::short_degrees), unfolding(crate::specs::Decimal::magnitude_text))]
-fn put_magnitude(buf: &mut [u8; 24], at: usize, magnitude: u64) -> usize
-    requires { at ≤ 1 }
-    ensures short { result ≤ 24 }
+#[tactic(auto, using(crate::proofs::DecimalLemmas::few_degrees), unfolding(crate::specs::Decimal::magnitude_text))]
+fn put_magnitude(buf: &mut [u8], at: usize, magnitude: u64) -> usize
+    requires { at + 21 ≤ length buf.old }
+    ensures short { result ≤ at + 21 }
     ensures text { take result buf.new ≡ take at buf.old ++ magnitude_text magnitude }
 {
-    let mut digits = Buffer::new();
-    let degrees = digits.format(magnitude / UNITS);
-    let point = put(buf, at, degrees.as_bytes());
+    let point = put_degrees(buf, at, magnitude / UNITS);
     put_fraction(buf, point, magnitude % UNITS)
+}
+
+/// Puts the decimal of a number of units at a place of the buffer, and gives the place behind it.
+pub(crate) fn put_units(buf: &mut [u8], at: usize, v: i64) -> usize
+    requires { at + 22 ≤ length buf.old }
+    ensures short { result ≤ at + 22 }
+    ensures text { take result buf.new ≡ take at buf.old ++ units_text v }
+{
+    if v < 0 {
+        let at = put_byte(buf, at, b'-');
+        return put_magnitude(buf, at, v.unsigned_abs());
+    }
+    put_magnitude(buf, at, v.unsigned_abs())
 }
 
 /// Puts the decimal of a number of units at the front of the buffer, and gives its length.
@@ -98,9 +143,5 @@ pub fn put_decimal(buf: &mut [u8; 24], v: i64) -> usize
     ensures short { result ≤ 24 }
     ensures text { take result buf.new ≡ units_text v }
 {
-    if v < 0 {
-        let at = put(buf, 0, b"-");
-        return put_magnitude(buf, at, v.unsigned_abs());
-    }
-    put_magnitude(buf, 0, v.unsigned_abs())
+    put_units(buf, 0, v)
 }

@@ -10,7 +10,7 @@ mod strings;
 #[cfg(test)]
 mod tests;
 
-pub use coordinates::{put_coordinate, put_point, put_xy};
+pub use coordinates::{put_both, put_coordinate, put_point, put_xy};
 pub use decimal::put_decimal;
 pub use number::put_number;
 pub use strings::{put_written, written};
