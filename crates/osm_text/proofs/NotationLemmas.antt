@@ -1,5 +1,5 @@
 -- Rings and polygons from their parts, in either notation.
-use Rattle.std.proofs.Common.{◌≡◌, ◌∙◌, ◌<◌, ℕ, List, [], ◌∷◌, ◌++◌, map, take, length, refl, sym, ap, append_assoc, arith}
+use Rattle.std.proofs.Common.{◌≡◌, ◌∙◌, ◌<◌, ℕ, List, [], ◌∷◌, ◌++◌, map, take, length, Option, None, Some, slice_get, refl, sym, ap, append_assoc, arith}
 use Rattle.std.specs.List.{join_with_byte}
 use Rattle.osm_lattice.specs.declared.loc.Loc.{Loc}
 use Rattle.osm_text.specs.declared.notation.Notation.{Notation}
@@ -82,3 +82,16 @@ pub some-put : (n : Notation) (first last : ℕ) (polygons : List (List (List Lo
     → one ≡ text ++ led first (map (polygon_in n) polygons) → whole ≡ one ++ last ∷ [] → whole ≡ text ++ polygons_in n polygons
 some-put n first last polygons text one whole some is_first is_last is_one is_whole =
     rw (is_whole, is_one, is_first, is_last) (append_assoc text (led (open_of n) (map (polygon_in n) polygons)) (close_of n ∷ []) ∙ ap (λ (xs : List ℕ). text ++ xs) (polygons-whole n polygons some))
+
+-- ---- a ring along edges, by the first location that they leave
+
+pub along-put : (n : Notation) (first last : ℕ) (path : List Loc) (start : Loc) (text one two whole : List ℕ) → Some start ≡ slice_get path 0 → first ≡ open_of n → last ≡ close_of n
+    → one ≡ text ++ led first (map (point_in n) path) → two ≡ one ++ led 44 (map (point_in n) (start ∷ [])) → whole ≡ two ++ last ∷ [] → whole ≡ text ++ ring_in n path
+along-put n first last [] start text one two whole from is_first is_last is_one is_two is_whole = absurd (cc)
+along-put n first last (p ∷ path) start text one two whole from is_first is_last is_one is_two is_whole =
+    let same : start ≡ p = cc in
+    ring-put n first last (p ∷ path) text one two whole (omega arith) is_first is_last is_one (is_two ∙ ap (λ (at : Loc). one ++ led 44 (map (point_in n) (at ∷ []))) same) is_whole
+
+pub nowhere-put : (n : Notation) (path : List Loc) (text whole : List ℕ) → None ≡ slice_get path 0 → whole ≡ text ++ ring_in n [] → whole ≡ text ++ ring_in n path
+nowhere-put n [] text whole none is = is
+nowhere-put n (p ∷ path) text whole none is = absurd (cc)

@@ -1,14 +1,14 @@
 //! Features of the formats text and GeoJSON.
 
 ghost use Rattle.opl_reader.specs.Seen.{tag_seen};
-ghost use Rattle.std.specs.Prelude.{◌≡◌, ◌++◌, map, IfOk, OnOk};
+ghost use Rattle.std.specs.Prelude.{◌≡◌, ◌++◌, codes, map, IfOk, OnOk};
 ghost use Rattle.osm_text.specs.Paths.{paths_of};
 ghost use Rattle.osm_text.specs.Feature.{tag_text, tags_text, feature_text};
-ghost use Rattle.osm_text.specs.GeoJson.{feature_json};
+ghost use Rattle.osm_text.specs.GeoJson.{feature_json, id_member, multipolygon_json};
 
 use crate::feature_id::{FeatureId, put_id_before, put_id_member};
 use crate::notation::{Notation, put_polygons};
-use crate::properties::properties;
+use crate::properties::put_properties;
 use opl_reader::{TagRef, Tags};
 use osm_nest::Polygons;
 use osm_notation::put_written;
@@ -40,12 +40,30 @@ fn put_tags(text: &mut Vec<u8>, tags: &Tags) -> Result<(), OutOfMemory>
     Ok(())
 }
 
-/// The feature of the format text, a line: the id and a space where there is an id, the polygons in well-known text,
+/// Adds the feature of the format text, a line: the id and a space where there is an id, the polygons in well-known text,
 /// then where there are tags a space and the tags, and LF.
 ///
 /// Each ring runs through the locations that its edges leave, the first again at the end (by law all its points where
 /// its edges run along whole segments). Coordinates are in degrees. The
 /// error is want of memory.
+pub fn put_feature_text(
+    text: &mut Vec<u8>,
+    polygons: &Polygons,
+    tags: &Tags,
+    id: Option<FeatureId>,
+) -> Result<(), OutOfMemory>
+    ensures { OnOk result (text.new.items
+        ≡ text.old.items ++ feature_text id (paths_of polygons.now) tags.now) }
+{
+    put_id_before(text, id)?;
+    text.extend_from_slice(b"MULTIPOLYGON")?;
+    put_polygons(text, Notation::WellKnown, polygons.as_slice())?;
+    put_tags(text, tags)?;
+    text.push(b'\n')?;
+    Ok(())
+}
+
+/// The same by itself.
 pub fn feature_text(
     alloc: Global,
     polygons: &Polygons,
@@ -55,20 +73,51 @@ pub fn feature_text(
     ensures { IfOk result (λ text. text.items ≡ feature_text id (paths_of polygons.now) tags.now) }
 {
     let mut text = Vec::with_capacity(alloc, FIRST_ROOM)?;
-    put_id_before(&mut text, id)?;
-    text.extend_from_slice(b"MULTIPOLYGON")?;
-    put_polygons(alloc, &mut text, Notation::WellKnown, polygons.as_slice())?;
-    put_tags(&mut text, tags)?;
-    text.push(b'\n')?;
+    put_feature_text(&mut text, polygons, tags, id)?;
     Ok(text)
 }
 
-/// The feature of GeoJSON (RFC 7946), without what parts features and without LF.
+/// Adds a feature of GeoJSON up to its coordinates.
+fn put_geometry(
+    text: &mut Vec<u8>,
+    polygons: &Polygons,
+    id: Option<FeatureId>,
+) -> Result<(), OutOfMemory>
+    ensures { OnOk result (text.new.items ≡ text.old.items
+        ++ codes "{\"type\":\"Feature\"," ++ id_member id
+        ++ codes "\"geometry\":{\"type\":\"MultiPolygon\",\"coordinates\":"
+        ++ multipolygon_json (paths_of polygons.now)) }
+{
+    text.extend_from_slice(b"{\"type\":\"Feature\",")?;
+    put_id_member(text, id)?;
+    text.extend_from_slice(b"\"geometry\":{\"type\":\"MultiPolygon\",\"coordinates\":")?;
+    put_polygons(text, Notation::Json, polygons.as_slice())
+}
+
+/// Adds the feature of GeoJSON (RFC 7946), without what parts features and without LF.
 ///
 /// Each ring runs through the locations that its edges leave, the first again at the end (by law all its points where
 /// its edges run along whole segments). Coordinates are in degrees. The
 /// properties are the tags as strings, their keys rising by their bytes, of equal keys the first alone. The error is
 /// want of memory.
+pub fn put_feature_json(
+    alloc: Global,
+    text: &mut Vec<u8>,
+    polygons: &Polygons,
+    tags: &Tags,
+    id: Option<FeatureId>,
+) -> Result<(), OutOfMemory>
+    ensures { OnOk result (text.new.items
+        ≡ text.old.items ++ feature_json id (paths_of polygons.now) tags.now) }
+{
+    put_geometry(text, polygons, id)?;
+    text.extend_from_slice(b"},\"properties\":")?;
+    put_properties(alloc, text, tags)?;
+    text.push(b'}')?;
+    Ok(())
+}
+
+/// The same by itself.
 pub fn feature_json(
     alloc: Global,
     polygons: &Polygons,
@@ -78,12 +127,6 @@ pub fn feature_json(
     ensures { IfOk result (λ text. text.items ≡ feature_json id (paths_of polygons.now) tags.now) }
 {
     let mut text = Vec::with_capacity(alloc, FIRST_ROOM)?;
-    text.extend_from_slice(b"{\"type\":\"Feature\",")?;
-    put_id_member(&mut text, id)?;
-    text.extend_from_slice(b"\"geometry\":{\"type\":\"MultiPolygon\",\"coordinates\":")?;
-    put_polygons(alloc, &mut text, Notation::Json, polygons.as_slice())?;
-    text.extend_from_slice(b"},\"properties\":")?;
-    text.extend_from_slice(properties(alloc, tags)?.as_bytes())?;
-    text.push(b'}')?;
+    put_feature_json(alloc, &mut text, polygons, tags, id)?;
     Ok(text)
 }

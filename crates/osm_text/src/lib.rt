@@ -13,7 +13,7 @@ mod piece_tests;
 mod properties;
 mod rounded;
 
-pub use feature::{feature_json, feature_text};
+pub use feature::{feature_json, feature_text, put_feature_json, put_feature_text};
 pub use feature_id::FeatureId;
 pub use osm_notation::{put_decimal, written};
 pub use osm_report::{

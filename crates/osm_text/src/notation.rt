@@ -6,12 +6,12 @@ ghost use Rattle.osm_text.specs.Notation.{close_of, open_of, point_in, polygon_i
 ghost use Rattle.osm_text.specs.Paths.{path_along, paths_in, paths_of};
 ghost use Rattle.osm_text.specs.Rows.{led};
 
-use crate::paths::path_of;
-use osm_geom::Loc;
+use crate::paths::{first_along, location_at};
+use osm_geom::{Edge, Loc};
 use osm_nest::Polygon;
-use osm_notation::{put_coordinate, put_point};
+use osm_notation::{put_both, put_point};
 use osm_rings::Ring;
-use std::alloc::{AllocError as OutOfMemory, Global};
+use std::alloc::AllocError as OutOfMemory;
 
 /// How polygons are spelled.
 #[derive(Clone, Copy)]
@@ -49,9 +49,7 @@ fn put_position(text: &mut Vec<u8>, point: Loc) -> Result<(), OutOfMemory>
     ensures { OnOk result (text.new.items ≡ text.old.items ++ position_json point) }
 {
     text.push(b'[')?;
-    put_coordinate(text, i64::from(point.x))?;
-    text.push(b',')?;
-    put_coordinate(text, i64::from(point.y))?;
+    put_both(text, i64::from(point.x), b',', i64::from(point.y))?;
     text.push(b']')?;
     Ok(())
 }
@@ -104,45 +102,67 @@ pub(crate) fn put_ring(
     Ok(())
 }
 
-/// Adds rings, each behind a comma.
-fn put_inners(
-    alloc: Global,
+/// Adds the locations that edges leave, the first behind `lead` and each other behind a comma.
+fn put_starts(
     text: &mut Vec<u8>,
     notation: Notation,
-    rings: &[Ring],
+    lead: u8,
+    edges: &[Edge],
 ) -> Result<(), OutOfMemory>
+    ensures { OnOk result (text.new.items ≡ text.old.items
+        ++ led lead (map (point_in notation) (path_along edges.now))) }
+{
+    let mut byte = lead;
+    for edge in edges {
+        if let Some(at) = location_at(edge.from) {
+            text.push(byte)?;
+            put_location(text, notation, at)?;
+            byte = b',';
+        }
+    }
+    Ok(())
+}
+
+/// Adds a ring by the locations that its edges leave, the first again at the end.
+fn put_ring_along(text: &mut Vec<u8>, notation: Notation, edges: &[Edge]) -> Result<(), OutOfMemory>
+    ensures { OnOk result (text.new.items
+        ≡ text.old.items ++ ring_in notation (path_along edges.now)) }
+{
+    let Some(first) = first_along(edges) else {
+        return put_ring(text, notation, &[]);
+    };
+    put_starts(text, notation, notation.open(), edges)?;
+    put_points(text, notation, b',', &[first])?;
+    text.push(notation.close())?;
+    Ok(())
+}
+
+/// Adds rings, each behind a comma.
+fn put_inners(text: &mut Vec<u8>, notation: Notation, rings: &[Ring]) -> Result<(), OutOfMemory>
     ensures { OnOk result (text.new.items ≡ text.old.items
         ++ led 44 (map (ring_in notation) (map path_along rings.now))) }
 {
     for ring in rings {
-        let path = path_of(alloc, ring)?;
         text.push(b',')?;
-        put_ring(text, notation, &path)?;
+        put_ring_along(text, notation, ring.as_slice())?;
     }
     Ok(())
 }
 
 /// Adds a polygon, its outer ring first.
-pub(crate) fn put_polygon(
-    alloc: Global,
-    text: &mut Vec<u8>,
-    notation: Notation,
-    polygon: &Polygon,
-) -> Result<(), OutOfMemory>
+fn put_polygon(text: &mut Vec<u8>, notation: Notation, polygon: &Polygon) -> Result<(), OutOfMemory>
     ensures { OnOk result (text.new.items ≡ text.old.items
         ++ polygon_in notation (paths_in polygon.now)) }
 {
-    let path = path_of(alloc, &polygon.outer)?;
     text.push(notation.open())?;
-    put_ring(text, notation, &path)?;
-    put_inners(alloc, text, notation, polygon.inners.as_slice())?;
+    put_ring_along(text, notation, polygon.outer.as_slice())?;
+    put_inners(text, notation, polygon.inners.as_slice())?;
     text.push(notation.close())?;
     Ok(())
 }
 
 /// Adds polygons, the first behind `lead` and each other behind a comma.
 fn put_each(
-    alloc: Global,
     text: &mut Vec<u8>,
     notation: Notation,
     lead: u8,
@@ -154,7 +174,7 @@ fn put_each(
     let mut byte = lead;
     for polygon in polygons {
         text.push(byte)?;
-        put_polygon(alloc, text, notation, polygon)?;
+        put_polygon(text, notation, polygon)?;
         byte = b',';
     }
     Ok(())
@@ -162,7 +182,6 @@ fn put_each(
 
 /// Adds the list of polygons.
 pub(crate) fn put_polygons(
-    alloc: Global,
     text: &mut Vec<u8>,
     notation: Notation,
     polygons: &[Polygon],
@@ -175,7 +194,7 @@ pub(crate) fn put_polygons(
         text.push(notation.close())?;
         return Ok(());
     }
-    put_each(alloc, text, notation, notation.open(), polygons)?;
+    put_each(text, notation, notation.open(), polygons)?;
     text.push(notation.close())?;
     Ok(())
 }

@@ -1,17 +1,15 @@
 //! The paths along which rings run.
 
-ghost use Rattle.std.specs.Prelude.{◌≡◌, All, IfOk};
+ghost use Rattle.std.specs.Prelude.{◌≡◌, All, slice_get};
 ghost use Rattle.osm_geom.specs.WholeSegment.{IsWholeSegment};
 ghost use Rattle.osm_nest.specs.Polygons.{rings_of};
 ghost use Rattle.osm_text.specs.Paths.{PathsPassAll, location_at, path_along};
 
-use osm_geom::{Loc, Point};
+use osm_geom::{Edge, Loc, Point};
 use osm_nest::Polygons;
-use osm_rings::Ring;
-use std::alloc::{AllocError as OutOfMemory, Global};
 
 /// The location that a point is, where it is one.
-fn location_at(point: Point) -> Option<Loc>
+pub(crate) fn location_at(point: Point) -> Option<Loc>
     ensures { result ≡ location_at point }
 {
     match point {
@@ -20,14 +18,16 @@ fn location_at(point: Point) -> Option<Loc>
     }
 }
 
-/// The locations that the edges of a ring leave, in order.
-pub(crate) fn path_of(alloc: Global, ring: &Ring) -> Result<Vec<Loc>, OutOfMemory>
-    ensures { IfOk result (λ path. path.items ≡ path_along ring.now) }
+/// The first location that edges leave.
+pub(crate) fn first_along(edges: &[Edge]) -> Option<Loc>
+    ensures { result ≡ slice_get (path_along edges.now) 0 }
 {
-    let edges = ring.as_slice();
-    let mut path = Vec::with_capacity(alloc, edges.len())?;
-    path.extend(edges.iter().filter_map(|edge| location_at(edge.from)))?;
-    Ok(path)
+    for edge in edges {
+        if let Some(at) = location_at(edge.from) {
+            return Some(at);
+        }
+    }
+    None
 }
 
 /// The law that the paths of rings along whole segments leave no point out.

@@ -1,5 +1,5 @@
 //! The object of an area's tags in GeoJSON.
-ghost use Rattle.std.specs.Prelude.{◌≡◌, List, ℕ, IfOk, OnOk, string_bytes};
+ghost use Rattle.std.specs.Prelude.{◌≡◌, ◌++◌, List, ℕ, IfOk, OnOk, string_bytes};
 ghost use Rattle.serde_json.specs.View.{members_view};
 ghost use Rattle.opl_reader.specs.declared.object.Tag.{Tag};
 ghost use Rattle.opl_reader.specs.Seen.{tag_seen};
@@ -26,7 +26,7 @@ fn put(alloc: Global, object: &mut Map<String, Value>, tag: &TagRef<'_>) -> Resu
 }
 
 /// The compact text of the object of tags: of equal keys the first alone, keys rising by their bytes.
-pub(crate) fn properties(alloc: Global, tags: &Tags) -> Result<String, OutOfMemory>
+fn properties(alloc: Global, tags: &Tags) -> Result<String, OutOfMemory>
     ensures { IfOk result (λ text. string_bytes text ≡ properties_text tags.now) }
 {
     let mut object = Map::new(alloc);
@@ -35,6 +35,18 @@ pub(crate) fn properties(alloc: Global, tags: &Tags) -> Result<String, OutOfMemo
         put(alloc, &mut object, &tag)?;
     }
     Value::Object(object).to_string(alloc)
+}
+
+/// Adds this text.
+pub(crate) fn put_properties(
+    alloc: Global,
+    text: &mut Vec<u8>,
+    tags: &Tags,
+) -> Result<(), OutOfMemory>
+    ensures { OnOk result (text.new.items ≡ text.old.items ++ properties_text tags.now) }
+{
+    text.extend_from_slice(properties(alloc, tags)?.as_bytes())?;
+    Ok(())
 }
 
 /// The laws of the tags that the object has as members: their keys rise by their bytes, and with each key stands the
