@@ -1,19 +1,64 @@
--- A list of fewer than two names has none twice.
-use Rattle.std.proofs.Common.{Bool, List, [], arith, cond, count_by, false, filter, get_or, int_eq, length, nat_le, refl, suc, true, zero, ℕ, ℤ, ◌<◌, ◌∷◌, ◌≡◌, ◌≤◌}
-use Rattle.std.proofs.lemmas.List.Sums.{sum_by-le}
+-- Names of which no two are the same: each once they are what they were, and none stands twice.
+use Rattle.std.proofs.Common.{Bool, List, [], ap, arith, count_by, false, filter, int_eq, nat_le, not, refl, suc, true, true≢false, zero, ℕ, ℤ, ◌+◌, ◌||◌, ◌<◌, ◌∙◌, ◌∷◌, ◌≡◌}
+use Rattle.std.specs.List.{list_any}
+use Rattle.std.proofs.lemmas.Bool.{and_parts}
+use Rattle.std.proofs.lemmas.Cmp.{int_eq_equiv}
+use Rattle.lists.proofs.ListsKit.{count_by-cons, int_eq-true, not-true-out}
+use Rattle.lists.specs.Once.{each_once}
+use Rattle.osm_area.specs.Names.{differ}
 
 below-two : (n : ℕ) → n < 2 → nat_le 2 n ≡ false
 below-two zero h = refl
 below-two (suc zero) h = refl
 below-two (suc (suc n)) h = absurd (omega arith)
 
-bit-at-most : (b : Bool) → cond {A = ℕ} b 1 0 ≤ 1
-bit-at-most true = omega arith
-bit-at-most false = omega arith
+or-false : (a b : Bool) → (a || b) ≡ false → (a ≡ false) × (b ≡ false)
+or-false true b h = absurd (true≢false h)
+or-false false b h = (refl, h)
 
-count-at-most : (p : ℤ → Bool) (xs : List ℤ) → count_by p xs ≤ length xs
-count-at-most p xs = let most = sum_by-le (λ x. cond (p x) 1 0) 1 xs (λ k d h. bit-at-most (p (get_or xs k d))) in omega arith
+-- those that aren't the name
+kept : (name : ℤ) (names : List ℤ) → list_any (λ other. int_eq other name) names ≡ false → filter (λ other. not (int_eq name other)) names ≡ names
+kept name [] none = refl
+kept name (n ∷ names) none =
+    let parts = or-false (int_eq n name) (list_any (λ other. int_eq other name) names) none in
+    rw (int_eq_equiv.symm name n ∙ parts.0) (ap (λ (ns : List ℤ). n ∷ ns) (kept name names parts.1))
 
-pub none-twice : (named ways : List ℤ) → length named < 2 → filter (λ way. nat_le 2 (count_by (int_eq way) named)) ways ≡ []
-none-twice named [] h = refl
-none-twice named (w ∷ ways) h = rw (below-two (count_by (int_eq w) named) (let most = count-at-most (int_eq w) named in omega arith), none-twice named ways h) refl
+pub once-same : (names : List ℤ) → differ names ≡ true → each_once int_eq names ≡ names
+once-same [] apart = refl
+once-same (n ∷ names) apart =
+    let parts = and_parts (not (list_any (λ other. int_eq other n) names)) (differ names) apart in
+    ap (λ (ns : List ℤ). n ∷ filter (λ other. not (int_eq n other)) ns) (once-same names parts.1)
+    ∙ ap (λ (ns : List ℤ). n ∷ ns) (kept n names (not-true-out (list_any (λ other. int_eq other n) names) parts.0))
+
+-- a name that isn't among others is counted nowhere
+uncounted : (name : ℤ) (names : List ℤ) → list_any (λ other. int_eq other name) names ≡ false → count_by (int_eq name) names ≡ 0
+uncounted name [] none = refl
+uncounted name (n ∷ names) none =
+    let parts = or-false (int_eq n name) (list_any (λ other. int_eq other name) names) none in
+    let other : int_eq name n ≡ false = int_eq_equiv.symm name n ∙ parts.0 in
+    let all : count_by (int_eq name) (n ∷ names) ≡ 0 + count_by (int_eq name) names = count_by-cons (int_eq name) n names ∙ rw other refl in
+    omega (arith, uncounted name names parts.1, all)
+
+counted-once : (name : ℤ) (names : List ℤ) → differ names ≡ true → count_by (int_eq name) names < 2
+counted-once name [] apart = omega arith
+counted-once name (n ∷ names) apart =
+    let parts = and_parts (not (list_any (λ other. int_eq other n) names)) (differ names) apart in
+    by (not-true-out (list_any (λ other. int_eq other n) names) parts.0) (counted-once name names parts.1) (int_eq name n) refl
+  where
+    by : list_any (λ other. int_eq other n) names ≡ false → count_by (int_eq name) names < 2 → (b : Bool) → int_eq name n ≡ b → count_by (int_eq name) (n ∷ names) < 2
+    by absent once true is =
+        let one : name ≡ n = int_eq-true name n is in
+        let none : count_by (int_eq n) names ≡ 0 = uncounted n names absent in
+        let rest : count_by (int_eq name) names ≡ 0 = ap (λ (m : ℤ). count_by (int_eq m) names) one ∙ none in
+        let all : count_by (int_eq name) (n ∷ names) ≡ 1 + count_by (int_eq name) names = count_by-cons (int_eq name) n names ∙ rw is refl in
+        omega (arith, rest, all)
+    by absent once false other =
+        let all : count_by (int_eq name) (n ∷ names) ≡ 0 + count_by (int_eq name) names = count_by-cons (int_eq name) n names ∙ rw other refl in
+        omega (arith, once, all)
+
+none-counted : (named ways : List ℤ) → ((name : ℤ) → count_by (int_eq name) named < 2) → filter (λ way. nat_le 2 (count_by (int_eq way) named)) ways ≡ []
+none-counted named [] once = refl
+none-counted named (w ∷ ways) once = rw (below-two (count_by (int_eq w) named) (once w)) (none-counted named ways once)
+
+pub none-twice : (named ways : List ℤ) → differ named ≡ true → filter (λ way. nat_le 2 (count_by (int_eq way) named)) ways ≡ []
+none-twice named ways apart = none-counted named ways (λ (name : ℤ). counted-once name named apart)

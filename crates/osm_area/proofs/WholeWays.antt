@@ -1,40 +1,37 @@
 -- Ways of which nothing is missing.
-use Rattle.std.proofs.Common.{◌≡◌, ◌≢◌, ◌∙◌, ℕ, ◌+◌, ◌<◌, ◌≤◌, cond, suc, List, [], ◌∷◌, ◌++◌, length, get_or, take, map, filter, ℤ, Option, None, Some, is_none, append-nil, refl, sym, ap, arith}
+use Rattle.std.proofs.Common.{◌≡◌, ◌≢◌, ◌∙◌, ℕ, ◌+◌, ◌<◌, List, [], ◌∷◌, ◌++◌, length, get_or, take, ℤ, Option, None, Some, append-nil, refl, sym, ap, arith}
 use Rattle.std.specs.List.{filter_map, flat_map, cons_option}
 use Rattle.std.specs.Option.{option_map_or}
 use Rattle.std.proofs.lemmas.Grind.{flat_map-append}
 use Rattle.std.proofs.lemmas.List.{nil_from_length, take_more}
 use Rattle.std.proofs.lemmas.List.Folds.{length-flat_map-take}
 use Rattle.opl_reader.specs.declared.object.Object.{Object}
-use Rattle.opl_reader.specs.declared.object.Ref.{Ref}
 use Rattle.osm_objects.specs.Objects.{WayParts, place_of, way_of}
-use Rattle.osm_area.specs.Missing.{nodes_missing}
+use Rattle.osm_lattice.specs.declared.loc.Loc.{Loc}
+use Rattle.osm_lattice.specs.declared.seg.Seg.{Seg}
+use Rattle.osm_lattice.specs.Seg.{segment_between}
 use Rattle.osm_area.specs.Segments.{segments_along, way_segments}
+use Rattle.osm_area.specs.SegmentSteps.{step_from}
 
 -- ---- the nodes of a way
 
--- what f gives, and what it passes over, are all
-length-passed : {X Y Z : Type 0} (f : X → Option Y) (g : X → Z) (xs : List X) → length (filter_map f xs) + length (map g (filter (λ x. is_none (f x)) xs)) ≡ length xs
-length-passed f g [] = refl
-length-passed {X} {Y} {Z} f g (x ∷ xs) = by (f x) (length-passed f g xs)
+-- the segments along a path, from the location before on, if there is one
+abbrev pub segments_from : Option Loc → List Loc → List Seg
+segments_from None path = segments_along path
+segments_from (Some before) path = segments_along (before ∷ path)
+
+-- one more location
+pub one-step : (before : Option Loc) (at : Loc) (path : List Loc) → step_from before at ++ segments_from (Some at) path ≡ segments_from before (at ∷ path)
+one-step None at path = refl
+one-step (Some p) at path = by (segment_between p at)
   where
-    by : (o : Option Y) → length (filter_map f xs) + length (map g (filter (λ y. is_none (f y)) xs)) ≡ length xs
-        → length (cons_option o (filter_map f xs)) + length (map g (cond (is_none o) (x ∷ filter (λ y. is_none (f y)) xs) (filter (λ y. is_none (f y)) xs))) ≡ suc (length xs)
-    by None rest = omega (arith, rest)
-    by (Some y) rest = omega (arith, rest)
+    by : (o : Option Seg) → cons_option o [] ++ segments_along (at ∷ path) ≡ cons_option o (segments_along (at ∷ path))
+    by None = refl
+    by (Some s) = refl
 
-module _ (objects : List Object) (refs : List Ref) where
-  located-or-missing : length (filter_map (place_of objects) refs) + length (nodes_missing objects refs) ≡ length refs
-  located-or-missing = length-passed (place_of objects) _ refs
-
-  pub some_missing : length (filter_map (place_of objects) refs) < length refs → nodes_missing objects refs ≢ []
-  some_missing less none =
-      let all = located-or-missing in
-      let no : length (nodes_missing objects refs) ≡ 0 = ap length none in
-      absurd (omega (arith, all, no, less))
-
-  pub none_missing : length refs ≤ length (filter_map (place_of objects) refs) → nodes_missing objects refs ≡ []
-  none_missing most = nil_from_length (nodes_missing objects refs) (let all = located-or-missing in omega (arith, all, most))
+pub no-more : (before : Option Loc) → segments_from before [] ≡ []
+no-more None = refl
+no-more (Some p) = refl
 
 pub segments_of_parts : (objects : List Object) (way : ℤ) (parts : WayParts) → way_of objects way ≡ Some parts
     → segments_along (filter_map (place_of objects) parts.refs) ≡ way_segments objects way

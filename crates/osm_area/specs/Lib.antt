@@ -1,10 +1,12 @@
 pub mod Area
 pub mod MemberWays
 pub mod Missing
+pub mod Names
 pub mod Notes
 pub mod Outcome
 pub mod Problems
 pub mod RoleKinds
 pub mod Roles
 pub mod Segments
+pub mod SegmentSteps
 pub mod Sound

@@ -31,9 +31,6 @@ pub fn named_twice(alloc: Global, named: &[i64], ways: &[i64]) -> Result<Notes, 
     ensures { IfOk result (λ notes. notes
         ≡ map named_twice_note (filter (λ way. nat_le 2 (count_by (int_eq way) named.now)) ways.now)) }
 {
-    if named.len() < 2 {
-        return Ok(Notes::new(alloc));
-    }
     let again = repeated(alloc, named)?;
     let mut notes = Notes::new(alloc);
     add_named(&mut notes, ways, &again)?;

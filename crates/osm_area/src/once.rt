@@ -1,13 +1,38 @@
 //! Lists without repetition, in the order of first places.
 
-ghost use Rattle.std.specs.Prelude.{◌≡◌, ℤ, IfOk, nat_le, count_by};
+ghost use Rattle.std.specs.Prelude.{◌≡◌, true, ℤ, IfOk, nat_le, count_by};
 ghost use Rattle.std.specs.Ordering.{int_eq};
 ghost use Rattle.indexmap.specs.IndexSet.{contains};
 ghost use Rattle.lists.specs.Once.{each_once};
+ghost use Rattle.osm_area.specs.Names.{differ};
 
 use indexmap::IndexSet;
 use std::alloc::{AllocError as OutOfMemory, Global};
 use std::hash::Hash;
+
+/// So many names are compared each with each other; more are looked up.
+const FEW: usize = 8;
+
+/// Whether no two of these names are the same.
+fn differ(names: &[i64]) -> bool
+    ensures { result ≡ differ names.now }
+{
+    let mut rest = names;
+    while let [first, behind @ ..] = rest {
+        if behind.contains(first) {
+            return false;
+        }
+        rest = behind;
+    }
+    true
+}
+
+/// Whether these names are few, and no two of them the same.
+pub fn are_few_and_differ(names: &[i64]) -> bool
+    ensures { result ≡ true → differ names.now ≡ true }
+{
+    names.len() <= FEW && differ(names)
+}
 
 /// Each item of a list once, at its first place.
 pub fn each_once<T: Eq + Hash + Copy>(

@@ -6,6 +6,7 @@ ghost use Rattle.osm_geom.specs.WholeSegment.{IsWholeSegment};
 ghost use Rattle.osm_nest.specs.Nested.{HasKinds};
 ghost use Rattle.osm_nest.specs.Polygons.{rings_of};
 ghost use Rattle.osm_area.specs.Outcome.{IsOutcome, IsOutcomeGiven, KeepsParity, polygons_in, problems_in};
+ghost use Rattle.osm_area.specs.MemberWays.{member_ways, ways_named_twice};
 ghost use Rattle.osm_area.specs.Notes.{named_twice_note};
 ghost use Rattle.osm_area.specs.Roles.{role_notes_of};
 
@@ -13,16 +14,16 @@ use crate::area::area;
 use crate::member_ways::named_ways;
 use crate::missing::missing;
 use crate::notes::{add_repeats, named_twice};
-use crate::once::each_once;
+use crate::once::{are_few_and_differ, each_once};
 use crate::outcome_lists::{Notes, Problems};
 use crate::problems::{missing_problems, problems_among};
 use crate::role_notes::add_role_notes;
 use crate::segments::segments;
-use opl_reader::ObjectRef;
+use opl_reader::{ObjectKind, ObjectRef};
 use osm_geom::Seg;
 use osm_nest::Polygons;
 use osm_objects::Store;
-use osm_segments::{repeated, survivors};
+use osm_segments::cancel;
 use std::alloc::{AllocError as OutOfMemory, Global};
 
 /// What comes of a candidate.
@@ -50,29 +51,32 @@ fn complete(
     ensures whole { IfOk result (λ outcome.
         All (All IsWholeSegment) (rings_of (polygons_in outcome))) }
 {
-    let repeats = repeated(alloc, segs)?;
-    add_repeats(&mut notes, &repeats)?;
-    let survivors = survivors(alloc, segs)?;
-    let list = problems_among(alloc, &survivors)?;
+    let cancelled = cancel(alloc, segs)?;
+    add_repeats(&mut notes, &cancelled.repeats)?;
+    let list = problems_among(alloc, &cancelled.survivors)?;
     if !list.as_slice().is_empty() {
         return Ok(Outcome::Problems { list, notes });
     }
-    let polygons = area(alloc, &survivors)?;
+    let polygons = area(alloc, &cancelled.survivors)?;
     add_role_notes(&mut notes, alloc, store, candidate, &polygons, ways)?;
     Ok(Outcome::Area { polygons, notes })
 }
 
-/// What comes of a candidate.
-fn outcome_of(alloc: Global, store: &Store, candidate: ObjectRef) -> Result<Outcome, OutOfMemory>
+/// What comes of a candidate by its ways, each of them once, and by the notes on those that it names twice.
+fn outcome_by(
+    alloc: Global,
+    store: &Store,
+    candidate: ObjectRef,
+    ways: &[i64],
+    notes: Notes,
+) -> Result<Outcome, OutOfMemory>
+    requires ways { ways.now ≡ member_ways store.now candidate }
+    requires notes { notes ≡ map named_twice_note (ways_named_twice store.now candidate) }
     ensures right { IfOk result (λ outcome. IsOutcome store.now candidate outcome) }
     ensures rings { IfOk result (λ outcome. All HasKinds (polygons_in outcome)) }
     ensures whole { IfOk result (λ outcome.
         All (All IsWholeSegment) (rings_of (polygons_in outcome))) }
 {
-    let named = named_ways(alloc, store, candidate)?;
-    let distinct = each_once(alloc, &named)?;
-    let ways = distinct.as_slice();
-    let notes = named_twice(alloc, &named, ways)?;
     match segments(alloc, store, ways)? {
         Some(segs) => complete(alloc, store, candidate, ways, &segs, notes),
         // What is missing is looked up only where something is.
@@ -81,6 +85,43 @@ fn outcome_of(alloc: Global, store: &Store, candidate: ObjectRef) -> Result<Outc
             let list = missing_problems(alloc, missing.as_slice())?;
             Ok(Outcome::Problems { list, notes })
         }
+    }
+}
+
+/// What comes of a candidate by the ways that it names. Most name few, and each once.
+fn outcome_by_names(
+    alloc: Global,
+    store: &Store,
+    candidate: ObjectRef,
+) -> Result<Outcome, OutOfMemory>
+    ensures right { IfOk result (λ outcome. IsOutcome store.now candidate outcome) }
+    ensures rings { IfOk result (λ outcome. All HasKinds (polygons_in outcome)) }
+    ensures whole { IfOk result (λ outcome.
+        All (All IsWholeSegment) (rings_of (polygons_in outcome))) }
+{
+    let named = named_ways(alloc, store, candidate)?;
+    if are_few_and_differ(&named) {
+        return outcome_by(alloc, store, candidate, &named, Notes::new(alloc));
+    }
+    let distinct = each_once(alloc, &named)?;
+    let ways = distinct.as_slice();
+    let notes = named_twice(alloc, &named, ways)?;
+    outcome_by(alloc, store, candidate, ways, notes)
+}
+
+/// What comes of a candidate. A way names itself alone.
+fn outcome_of(alloc: Global, store: &Store, candidate: ObjectRef) -> Result<Outcome, OutOfMemory>
+    ensures right { IfOk result (λ outcome. IsOutcome store.now candidate outcome) }
+    ensures rings { IfOk result (λ outcome. All HasKinds (polygons_in outcome)) }
+    ensures whole { IfOk result (λ outcome.
+        All (All IsWholeSegment) (rings_of (polygons_in outcome))) }
+{
+    match candidate.kind {
+        ObjectKind::Way => {
+            let ways = [candidate.id];
+            outcome_by(alloc, store, candidate, &ways, Notes::new(alloc))
+        }
+        ObjectKind::Node | ObjectKind::Relation => outcome_by_names(alloc, store, candidate),
     }
 }
 

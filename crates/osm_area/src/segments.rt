@@ -5,6 +5,7 @@ ghost use Rattle.std.specs.List.{filter_map, flat_map};
 ghost use Rattle.osm_objects.specs.Objects.{place_of};
 ghost use Rattle.osm_area.specs.Missing.{nodes_missing, way_missing};
 ghost use Rattle.osm_area.specs.Segments.{segments_along, path_of, way_segments};
+ghost use Rattle.osm_area.specs.SegmentSteps.{step_from};
 
 use opl_reader::Refs;
 use osm_geom::{Loc, Seg};
@@ -53,39 +54,46 @@ pub fn way_segments(alloc: Global, store: &Store, way: i64) -> Result<Vec<Seg>, 
     Ok(segments)
 }
 
+/// Adds the segment from the location before, where there is one that is another.
+fn add_step(segments: &mut Vec<Seg>, before: Option<Loc>, at: Loc) -> Result<(), OutOfMemory>
+    ensures { OnOk result (segments.new.items ≡ segments.old.items ++ step_from before at) }
+{
+    let Some(before) = before else {
+        return Ok(());
+    };
+    if let Some(seg) = Seg::new(before, at) {
+        segments.push(seg)?;
+    }
+    Ok(())
+}
+
 /// Adds the segments along references. False where one of them has no location.
-fn add_along_refs(
-    segments: &mut Vec<Seg>,
-    alloc: Global,
-    store: &Store,
-    refs: &Refs,
-) -> Result<bool, OutOfMemory>
+fn add_along_refs(segments: &mut Vec<Seg>, store: &Store, refs: &Refs) -> Result<bool, OutOfMemory>
     ensures whole { IfOk result (λ whole. IsTrue whole ↔ (nodes_missing store.now refs.now ≡ [])) }
     ensures added { IfOk result (λ whole. whole ≡ true
         → segments.new.items
         ≡ segments.old.items ++ segments_along (filter_map (place_of store.now) refs.now)) }
 {
-    let path = located(alloc, store, refs)?;
-    if path.len() < refs.len() {
-        return Ok(false);
+    segments.reserve(refs.len())?;
+    let mut before = None;
+    for reference in refs.iter() {
+        let Some(at) = store.place_of(&reference) else {
+            return Ok(false);
+        };
+        add_step(segments, before, at)?;
+        before = Some(at);
     }
-    add_along(segments, &path)?;
     Ok(true)
 }
 
 /// Adds the segments of a way. False where it isn't held, or one of its references has no location.
-fn add_segments(
-    segments: &mut Vec<Seg>,
-    alloc: Global,
-    store: &Store,
-    way: i64,
-) -> Result<bool, OutOfMemory>
+fn add_segments(segments: &mut Vec<Seg>, store: &Store, way: i64) -> Result<bool, OutOfMemory>
     ensures whole { IfOk result (λ whole. IsTrue whole ↔ (way_missing store.now way ≡ [])) }
     ensures added { IfOk result (λ whole. whole ≡ true
         → segments.new.items ≡ segments.old.items ++ way_segments store.now way) }
 {
     match store.way(way) {
-        Some(found) => add_along_refs(segments, alloc, store, found.refs),
+        Some(found) => add_along_refs(segments, store, found.refs),
         None => Ok(false),
     }
 }
@@ -101,7 +109,7 @@ pub fn segments(alloc: Global, store: &Store, ways: &[i64]) -> Result<Option<Vec
 {
     let mut segments = Vec::new(alloc);
     for &way in ways {
-        if !add_segments(&mut segments, alloc, store, way)? {
+        if !add_segments(&mut segments, store, way)? {
             return Ok(None);
         }
     }
