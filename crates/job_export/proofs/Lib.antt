@@ -1,5 +1,6 @@
 mod Candidates
 mod Entries
 mod Exports
+mod Lent
 mod ReportLines
 mod Wholes

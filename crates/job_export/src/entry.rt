@@ -1,6 +1,6 @@
 //! What a candidate adds to the output and to the report.
 
-ghost use Rattle.std.specs.Prelude.{◌≡◌, All, IfOk, IsSome, OnOk, ◌++◌, ◌+◌, ◌≤◌, map};
+ghost use Rattle.std.specs.Prelude.{◌≡◌, All, IfOk, IfSome, IsSome, OnOk, ◌++◌, ◌+◌, ◌≤◌, map};
 ghost use Rattle.std.specs.List.{flat_map};
 ghost use Rattle.job_export.specs.Entries.{shown, IsTextsOf, AddsProblems};
 ghost use Rattle.osm_job.specs.Sent.{lines_text};
@@ -11,14 +11,17 @@ ghost use Rattle.osm_objects.specs.Problem.{IsOfItsKind};
 ghost use Rattle.osm_report.specs.Report.{note_line};
 ghost use Rattle.osm_words.specs.Answers.{settings_seen};
 
-use crate::framing::framed;
-use opl_reader::{ObjectRef, Tags};
+use crate::framing::{after_feature, before_feature};
+use opl_reader::{ObjectKind, ObjectRef, Tags};
 use osm_area::{Outcome, assemble};
 use osm_nest::Polygons;
 use osm_objects::{Note, Problem, Store, area_id};
-use osm_text::{FeatureId, feature_json, feature_text, note_line, problem_line};
+use osm_text::{FeatureId, note_line, problem_line, put_feature_json, put_feature_text};
 use osm_words::{ExportSettings, Format, UniqueId};
 use std::alloc::{AllocError as OutOfMemory, Global};
+
+/// Room for an ordinary feature and what stands around it, so that it seldom grows.
+const FIRST_ROOM: usize = 1_024;
 
 /// What a candidate adds, each text a piece that is written by itself.
 #[derive(Drop)]
@@ -41,20 +44,56 @@ fn feature_id(ids: Option<UniqueId>, earlier: u64, candidate: ObjectRef) -> Opti
     }
 }
 
-/// The feature of an area in a format.
-fn feature_in(
+/// Adds the feature of an area in a format.
+fn put_feature(
     alloc: Global,
+    text: &mut Vec<u8>,
     format: Format,
     polygons: &Polygons,
     tags: &Tags,
     id: Option<FeatureId>,
-) -> Result<Vec<u8>, OutOfMemory>
-    ensures { IfOk result (λ text. text.items ≡ feature_in format id polygons.now tags.now) }
+) -> Result<(), OutOfMemory>
+    ensures { OnOk result (text.new.items
+        ≡ text.old.items ++ feature_in format id polygons.now tags.now) }
 {
     match format {
-        Format::Text => feature_text(alloc, polygons, tags, id),
-        Format::GeoJson | Format::GeoJsonSeq => feature_json(alloc, polygons, tags, id),
+        Format::Text => put_feature_text(text, polygons, tags, id),
+        Format::GeoJson | Format::GeoJsonSeq => put_feature_json(alloc, text, polygons, tags, id),
     }
+}
+
+/// The tags of a candidate that is a way, lent.
+fn lent_tags<'a>(store: &'a Store, candidate: ObjectRef) -> Option<&'a Tags>
+    ensures { IfSome result (λ tags. tags.now ≡ tags_of (object_at store.now candidate)) }
+{
+    match candidate.kind {
+        ObjectKind::Way => match store.way(candidate.id) {
+            Some(way) => Some(way.tags),
+            None => None,
+        },
+        ObjectKind::Node | ObjectKind::Relation => None,
+    }
+}
+
+/// Adds the feature of a candidate's area.
+fn put_feature_of(
+    alloc: Global,
+    text: &mut Vec<u8>,
+    store: &Store,
+    format: Format,
+    candidate: ObjectRef,
+    polygons: &Polygons,
+    id: Option<FeatureId>,
+) -> Result<(), OutOfMemory>
+    requires { IsSome (object_at store.now candidate) }
+    ensures { OnOk result (text.new.items ≡ text.old.items
+        ++ feature_in format id polygons.now (tags_of (object_at store.now candidate))) }
+{
+    if let Some(tags) = lent_tags(store, candidate) {
+        return put_feature(alloc, text, format, polygons, tags, id);
+    }
+    let tags = store.area_tags(alloc, candidate)?;
+    put_feature(alloc, text, format, polygons, &tags, id)
 }
 
 /// The feature of a candidate's area with `earlier` features before it, and what stands around it.
@@ -73,10 +112,21 @@ fn feature_of(
         (feature_in settings.now.format (feature_id settings.now.ids earlier candidate)
         polygons.now (tags_of (object_at store.now candidate)))) }
 {
-    let tags = store.area_tags(alloc, candidate)?;
     let id = feature_id(settings.ids, earlier, candidate);
-    let feature = feature_in(alloc, settings.format, polygons, &tags, id)?;
-    framed(alloc, settings, earlier, feature)
+    let before = before_feature(settings.format, settings.omit_rs, earlier);
+    let mut text = Vec::with_capacity(alloc, FIRST_ROOM)?;
+    text.extend_from_slice(before.as_bytes())?;
+    put_feature_of(
+        alloc,
+        &mut text,
+        store,
+        settings.format,
+        candidate,
+        polygons,
+        id,
+    )?;
+    text.extend_from_slice(after_feature(settings.format).as_bytes())?;
+    Ok(text)
 }
 
 /// What a candidate with `earlier` features before it adds.
