@@ -26,6 +26,7 @@ pub fn is_left_of(p: Loc, t: Seg) -> bool
     is_in_span(p, t) && is_left_of_line(p, t)
 }
 
+/// The two locations are one.
 #[tactic(auto, unfolding(crate::specs::SideTests::same))]
 pub fn is_same(p: Loc, q: Loc) -> bool
     ensures { result ≡ same p q }
