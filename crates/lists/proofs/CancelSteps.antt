@@ -1,16 +1,12 @@
 -- One more item of a sorted list cancels the last one left, or is left too.
-use Rattle.std.proofs.Common.{◌≡◌, ℕ, ◌+◌, ◌-◌, ◌<◌, ◌≤◌, ◌%◌, List, [], ◌∷◌, ◌++◌, length, get_or, take, All, Bool, true, false, cond, refl, sym, ap, ◌∙◌, subst, arith, ⊎_elim, Some, None}
+use Rattle.std.proofs.Common.{◌≡◌, ℕ, ◌+◌, ◌-◌, ◌<◌, ◌≤◌, ◌%◌, List, [], ◌∷◌, ◌++◌, length, get_or, take, All, Bool, true, false, cond, refl, sym, ap, ◌∙◌, set, subst, arith, ⊎_elim}
 use Rattle.std.specs.declared.cmp.Ordering.{Ordering}
-use Rattle.std.specs.declared.cmp.Ordering.TheVariants.{Less, Equal, Greater}
+use Rattle.std.specs.declared.cmp.Ordering.TheVariants.{Less, Equal}
 use Rattle.std.specs.Ordering.{is_gt, is_eq, eq_by_cmp}
 use Rattle.std.specs.Cmp.{IsTotalOrder}
-use Rattle.std.specs.List.{slice_get}
-use Rattle.std.proofs.lemmas.Option.{slice_get-get_or}
-use Rattle.std.proofs.lemmas.Cmp.{alike_right, tied_itself}
+use Rattle.std.proofs.lemmas.Cmp.{alike_right}
 use Rattle.std.proofs.lemmas.Bool.{cases_lt}
-use Rattle.std.proofs.lemmas.List.{length-append, length-take}
-use Rattle.std.specs.List.Sorted.{IsPermutation}
-use Rattle.std.proofs.lemmas.List.Sorted.{length_permutation}
+use Rattle.std.proofs.lemmas.List.{get_or-take, length-append, length-take, length-take-le, take-take, take_more_set}
 use Rattle.std.proofs.lemmas.List.Elements.{All-push}
 use Rattle.std.proofs.lemmas.List.Quantifiers.{all_pairs_push}
 use Rattle.lists.specs.Rising.{IsRising, count_of}
@@ -76,28 +72,25 @@ module _ {X : Type 0} {R : X → X → Ordering} (o : IsTotalOrder R) where
       one_less k n false e = omega arith
 
   module _ {E : X → X → Bool} (ties : (x y : X) → E x y ≡ eq_by_cmp R x y) where
-    last_is : (left : List X) (y d : X) → slice_get left (length left - 1) ≡ Some y → 0 < length left → y ≡ get_or left (length left - 1) d
-    last_is left y d last some = of_some (sym last ∙ slice_get-get_or left (length left - 1) d (omega arith))
-      where
-        of_some : {a b : X} → Some a ≡ Some b → a ≡ b
-        of_some e = cc
-
     -- the last one left ties with x
-    pub cancel_if : (passed left left' : List X) (x y : X) → slice_get left (length left - 1) ≡ Some y → E y x ≡ true → left' ≡ take (length left - 1) left → IsCancelled R passed left → IsCancelled R (passed ++ x ∷ []) left'
-    cancel_if passed [] left' x y last test f inv = cc
-    cancel_if passed (s ∷ ss) left' x y last test f inv =
-        let left = s ∷ ss in
-        rw f (both_cancel passed left x y (omega arith) (last_is left y y last (omega arith)) (equal_from (R y x) (sym (ties y x) ∙ test)) inv)
+    pub cancel_at : (items : List X) (left : ℕ) (passed : List X) (x y : X) → left ≤ length items → 0 < left → y ≡ get_or items (left - 1) y → E y x ≡ true → IsCancelled R passed (take left items) → IsCancelled R (passed ++ x ∷ []) (take (left - 1) items)
+    cancel_at items left passed x y within some is test inv =
+        let kept = take left items in
+        let long : length kept ≡ left = length-take-le left items within in
+        let last : y ≡ get_or kept (length kept - 1) y = is ∙ (sym (get_or-take left items (left - 1) y (omega arith)) ∙ ap (λ n. get_or kept (n - 1) y) (sym long)) in
+        let shorter : take (length kept - 1) kept ≡ take (left - 1) items = ap (λ n. take (n - 1) kept) long ∙ take-take (left - 1) left items (omega arith) in
+        subst (IsCancelled R (passed ++ x ∷ [])) shorter (both_cancel passed kept x y (omega arith) last (equal_from (R y x) (sym (ties y x) ∙ test)) inv)
 
-    -- it doesn't
-    pub left_if : (passed left left' : List X) (x y : X) → slice_get left (length left - 1) ≡ Some y → E y x ≡ false → left' ≡ left ++ x ∷ [] → IsCancelled R passed left → UpTo R x passed → IsCancelled R (passed ++ x ∷ []) left'
-    left_if passed left left' x y last test f inv upto =
-        rw f (left_too passed left x inv upto (λ d some. let B : X → Type 0 = λ z. is_eq (R z x) ≡ false in subst B (last_is left y d last some) (sym (ties y x) ∙ test)))
-
-    -- none is left
-    pub left_first : (passed left left' : List X) (x : X) → slice_get left (length left - 1) ≡ None → left' ≡ left ++ x ∷ [] → IsCancelled R passed left → UpTo R x passed → IsCancelled R (passed ++ x ∷ []) left'
-    left_first passed left left' x last f inv upto =
-        rw f (left_too passed left x inv upto (λ d some. let is = sym last ∙ slice_get-get_or left (length left - 1) d (omega arith) in cc))
+    -- it doesn't, or none is left
+    pub left_at : (items : List X) (left : ℕ) (passed : List X) (x : X) → left < length items → ((d : X) → 0 < left → E (get_or items (left - 1) d) x ≡ false) → IsCancelled R passed (take left items) → UpTo R x passed → IsCancelled R (passed ++ x ∷ []) (take (left + 1) (set items left x))
+    left_at items left passed x within other inv upto =
+        let kept = take left items in
+        let long : length kept ≡ left = length-take-le left items (omega arith) in
+        let last : (d : X) → 0 < length kept → is_eq (R (get_or kept (length kept - 1) d) x) ≡ false = λ d some.
+        let at : get_or kept (length kept - 1) d ≡ get_or items (left - 1) d = ap (λ n. get_or kept (n - 1) d) long ∙ get_or-take left items (left - 1) d (omega arith) in
+        let B : X → Type 0 = λ z. is_eq (R z x) ≡ false in
+        subst B (sym at) (sym (ties (get_or items (left - 1) d) x) ∙ other d (omega arith)) in
+        subst (IsCancelled R (passed ++ x ∷ [])) (sym (take_more_set items left x within)) (left_too passed kept x inv upto last)
 
   pub cancel_step : (xs : List X) (i : ℕ) (x : X) {left : List X} → i < length xs → x ≡ get_or xs i x → IsCancelled R (take i xs ++ x ∷ []) left → IsCancelled R (take (i + 1) xs) left
   cancel_step xs i x {left} h is t =
@@ -107,7 +100,3 @@ module _ {X : Type 0} {R : X → X → Ordering} (o : IsTotalOrder R) where
 -- what stands as often as it is left stands once at most
 pub once_at_most : (n : ℕ) → n ≡ n % 2 → n ≤ 1
 once_at_most n e = omega arith
-
--- a list in another order is as long
-pub same_length : {X : Type 0} (xs ys zs : List X) → IsPermutation xs ys → zs ≡ ys → length xs ≡ length zs
-same_length xs ys zs moved same = sym (ap length same ∙ length_permutation xs ys moved)

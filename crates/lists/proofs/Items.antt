@@ -34,3 +34,9 @@ pub same_get : {X : Type 0} (xs : List X) (i : ℕ) (d e : X) → i < length xs 
 same_get [] i d e h = absurd (omega arith)
 same_get (x ∷ xs) zero d e h = refl
 same_get (x ∷ xs) (suc i) d e h = same_get xs i d e (omega arith)
+
+-- at each place inside a list stands an item
+pub item_at : {X : Type 0} (xs : List X) (k : ℕ) → k < length xs → (x : X) × (x ≡ get_or xs k x)
+item_at [] k h = absurd (omega arith)
+item_at (y ∷ ys) zero h = (y, refl)
+item_at (y ∷ ys) (suc k) h = item_at ys k (omega arith)

@@ -95,5 +95,5 @@ fn ends(alloc: Global, segs: &[Seg]) -> Result<Vec<Loc>, OutOfMemory>
 pub fn odd_nodes(alloc: Global, segs: &[Seg]) -> Result<Vec<Loc>, OutOfMemory>
     ensures { IfOk result (λ v. AreOddNodes segs.now v.items) }
 {
-    odd_items_of(alloc, ends(alloc, segs)?)
+    odd_items_of(ends(alloc, segs)?)
 }

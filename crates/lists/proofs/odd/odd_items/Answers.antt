@@ -1,4 +1,4 @@
-use Rattle.std.proofs.Common.{List, ap, length, sym, ◌%◌, ◌∙◌, ◌≤◌}
+use Rattle.std.proofs.Common.{ap, ◌%◌, ◌∙◌}
 use Rattle.std.proofs.lemmas.Result.{IfOk-weaker}
 use Rattle.lists.specs.Rising.{count_of}
 use Rattle.lists.proofs.odd.odd_items.Goals as goal
