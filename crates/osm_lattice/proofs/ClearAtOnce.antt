@@ -1,22 +1,24 @@
 -- Segments that few tests tell to be clear: one is on one side of the line of the other, or leaves it at an end of both.
-use Rattle.std.proofs.Common.{◌≡◌, Bool, true, false, not, ◌&&◌, ◌||◌, Some, None, refl, arith, ◌∙◌}
+use Rattle.std.proofs.Common.{◌≡◌, pos, Bool, true, false, not, ◌&&◌, ◌||◌, Some, None, refl, arith, ◌∙◌}
+use Rattle.std.specs.Prelude.{◌<ℤ◌, ◌≤ℤ◌}
 use Rattle.std.specs.Ordering.{is_eq}
 use Rattle.std.proofs.lemmas.Int.{ints}
 use lib.Signed.{lt_z}
 use Rattle.plane.specs.Conflict.{crosses}
 use Rattle.plane.specs.Edge.{ends_at}
-use Rattle.plane.specs.Sign.{Sign, Minus, Null, Plus, is_minus, is_null, is_plus}
+use Rattle.plane.specs.Sign.{Sign, Minus, Null, Plus, is_minus, is_plus}
 use Rattle.plane.proofs.PlaneKit.{ends_at-from, ends_at-to}
 use Rattle.plane.proofs.SignKit.{same_sign}
 use Rattle.osm_lattice.specs.declared.loc.Loc.{Loc}
 use Rattle.osm_lattice.specs.declared.seg.Seg.{Seg}
 use Rattle.osm_lattice.specs.declared.conflicts.Kind.TheVariants.{Crossing, Overlap}
 use Rattle.osm_lattice.specs.Conflict.{are_overlapping, are_crossing, conflict_of}
-use Rattle.osm_lattice.specs.ConflictTests.{along, beside, meet_at_end}
+use Rattle.osm_lattice.specs.ConflictTests.{along, beside, meet_at_end, west}
+use Rattle.osm_lattice.specs.ConflictLaws.{reach}
 use Rattle.osm_lattice.specs.Line.{side_of_line}
 use Rattle.osm_lattice.specs.Loc.{vector_of}
 use Rattle.osm_lattice.specs.Seg.{seg_cmp, edge_of}
-use Rattle.osm_lattice.proofs.ApartSegments.{apart_clear, clear_where}
+use Rattle.osm_lattice.proofs.ApartSegments.{apart_clear, clear_where, parted_clear}
 use Rattle.osm_lattice.proofs.ConflictCases.{conflict_of-comm, where_crossing}
 use Rattle.osm_lattice.proofs.Crossings.{sides_differ_back}
 use Rattle.osm_lattice.proofs.LocationOrder.{rising_edge}
@@ -83,3 +85,37 @@ higher_clear s t h = apart_clear s t (grind (arith, ints))
 
 pub lower_clear : (s t : Seg) → lt_z t.b.y s.a.y ≡ true → conflict_of s t ≡ None
 lower_clear s t h = conflict_of-comm s t ∙ higher_clear t s h
+
+-- ---- one beside the other
+-- the reach eastwards is the longitude
+reach_east : (p : Loc) → reach (pos 1) (pos 0) p ≡ p.x
+reach_east p = omega (arith, ints)
+
+both : (b c : Bool) → (b && c) ≡ true → (b ≡ true) × (c ≡ true)
+both true c h = (refl, h)
+both false c h = absurd (cc h)
+
+-- the end of s that is farther right parts them
+pub west_clear : (s t : Seg) → west s t ≡ true → conflict_of s t ≡ None
+west_clear s t h =
+    let (aa, rest) = both (lt_z s.a.x t.a.x) (lt_z s.a.x t.b.x && (lt_z s.b.x t.a.x && lt_z s.b.x t.b.x)) h in
+    let (ab, more) = both (lt_z s.a.x t.b.x) (lt_z s.b.x t.a.x && lt_z s.b.x t.b.x) rest in
+    let (ba, bb) = both (lt_z s.b.x t.a.x) (lt_z s.b.x t.b.x) more in
+    let aa' : s.a.x <ℤ t.a.x = grind (arith, ints) in
+    let ab' : s.a.x <ℤ t.b.x = grind (arith, ints) in
+    let ba' : s.b.x <ℤ t.a.x = grind (arith, ints) in
+    let bb' : s.b.x <ℤ t.b.x = grind (arith, ints) in
+    by (lt_z s.a.x s.b.x) refl aa' ab' ba' bb'
+  where
+    by : (b : Bool) → lt_z s.a.x s.b.x ≡ b → s.a.x <ℤ t.a.x → s.a.x <ℤ t.b.x → s.b.x <ℤ t.a.x → s.b.x <ℤ t.b.x → conflict_of s t ≡ None
+    by true e aa ab ba bb =
+        let less : s.a.x <ℤ s.b.x = grind (arith, ints) in
+        let sa = reach_east s.a in let sb = reach_east s.b in let ta = reach_east t.a in let tb = reach_east t.b in
+        parted_clear (pos 1) (pos 0) s.b.x s t (omega (arith, ints)) (omega (arith, ints)) (omega (arith, ints)) (omega (arith, ints))
+    by false e aa ab ba bb =
+        let most : s.b.x ≤ℤ s.a.x = grind (arith, ints) in
+        let sa = reach_east s.a in let sb = reach_east s.b in let ta = reach_east t.a in let tb = reach_east t.b in
+        parted_clear (pos 1) (pos 0) s.a.x s t (omega (arith, ints)) (omega (arith, ints)) (omega (arith, ints)) (omega (arith, ints))
+
+pub east_clear : (s t : Seg) → west t s ≡ true → conflict_of s t ≡ None
+east_clear s t h = conflict_of-comm s t ∙ west_clear t s h

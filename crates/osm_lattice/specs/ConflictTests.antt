@@ -1,5 +1,6 @@
 -- The tests that conflicts are made of, on locations and segments: the plane's tests of their points and edges.
 use Rattle.std.specs.Prelude.{Bool, ◌&&◌, ◌||◌}
+use lib.Signed.{lt_z}
 use Rattle.plane.specs.Conflict.{is_inside, is_along, is_touched_by, is_parted_by}
 use Rattle.plane.specs.Edge.{ends_at}
 use Rattle.plane.specs.Order.{order}
@@ -36,3 +37,7 @@ beside t s = (is_plus (side_of_line t.a s) && is_plus (side_of_line t.b s)) || (
 -- an end of s is one of t
 unfoldable pub meet_at_end : Seg → Seg → Bool
 meet_at_end s t = ends_at (vector_of s.a) (edge_of t) || ends_at (vector_of s.b) (edge_of t)
+
+-- each end of s is left of both ends of t
+abbrev pub west : Seg → Seg → Bool
+west s t = lt_z s.a.x t.a.x && (lt_z s.a.x t.b.x && (lt_z s.b.x t.a.x && lt_z s.b.x t.b.x))

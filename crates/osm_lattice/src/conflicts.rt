@@ -1,9 +1,10 @@
 //! How two segments conflict.
 ghost use Rattle.std.specs.Prelude.{◌≡◌, None, true};
+ghost use lib.Signed.{lt_z};
 ghost use Rattle.plane.specs.Edge.{ends_at};
 ghost use Rattle.plane.specs.Sign.{sign, are_opposite, is_minus, is_plus};
 ghost use Rattle.osm_lattice.specs.Conflict.{are_overlapping, are_crossing, conflict_of};
-ghost use Rattle.osm_lattice.specs.ConflictTests.{before, beside, on_line, inside, along, meet_at_end, touched_by, parted_by};
+ghost use Rattle.osm_lattice.specs.ConflictTests.{before, beside, on_line, inside, along, meet_at_end, touched_by, parted_by, west};
 ghost use Rattle.osm_lattice.specs.Line.{side_of_line};
 ghost use Rattle.osm_lattice.specs.Loc.{vector_of};
 ghost use Rattle.osm_lattice.specs.Seg.{edge_of};
@@ -131,11 +132,37 @@ fn are_at_other_heights(s: Seg, t: Seg) -> bool
     s.b.y < t.a.y || t.b.y < s.a.y
 }
 
+fn is_west_of(p: Loc, q: Loc) -> bool
+    ensures { result ≡ lt_z p.x q.x }
+{
+    p.x < q.x
+}
+
+/// Each end of the first is left of both ends of the second.
+fn is_left_of(s: Seg, t: Seg) -> bool
+    ensures { result ≡ west s t }
+{
+    is_west_of(s.a, t.a) && is_west_of(s.a, t.b) && is_west_of(s.b, t.a) && is_west_of(s.b, t.b)
+}
+
+/// Whether one of two segments lies above the other or beside it, as most do of which neither comes near the other: they have no conflict.
+pub fn are_apart(s: Seg, t: Seg) -> bool
+    ensures { result ≡ true → conflict_of s t ≡ None }
+{
+    if are_at_other_heights(s, t) {
+        return true;
+    }
+    if is_left_of(s, t) {
+        return true;
+    }
+    is_left_of(t, s)
+}
+
 /// Whether few tests tell that two segments have no conflict: of most that have none they do.
 fn are_clear_at_once(s: Seg, t: Seg) -> bool
     ensures { result ≡ true → conflict_of s t ≡ None }
 {
-    if are_at_other_heights(s, t) || is_beside(t, s) {
+    if are_apart(s, t) || is_beside(t, s) {
         return true;
     }
     if meet_at_end(s, t) {

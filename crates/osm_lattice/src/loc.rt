@@ -1,5 +1,5 @@
 //! Locations.
-ghost use Rattle.std.specs.Prelude.{◌≡◌, ◌^◌, ◌<◌, ◌≤◌, ◌↔◌, unsigned_abs, IsSome, IfSome};
+ghost use Rattle.std.specs.Prelude.{◌≡◌, ◌^◌, ◌<◌, ◌≤◌, ◌↔◌, ◌*ℤ◌, ◌+ℤ◌, pos, unsigned_abs, IsSome, IfSome};
 ghost use Rattle.std.proofs.Common.{rules};
 ghost use Rattle.std.specs.Cmp.{partial_order_from_own_ties};
 ghost use Rattle.std.specs.Cmp.Rules.{comparing};
@@ -31,6 +31,13 @@ impl Loc {
             y: y as i32,
         })
     }
+
+    /// A number that grows in the order of locations: two of them are compared in one step.
+    fn rank(&self) -> i64
+        ensures { result ≡ self.now.y *ℤ pos 4_294_967_296 +ℤ self.now.x }
+    {
+        i64::from(self.y) * 4_294_967_296 + i64::from(self.x)
+    }
 }
 
 impl Ord for Loc {
@@ -45,7 +52,7 @@ impl Ord for Loc {
     ghost matches_eq = { Prim.search (comparing, rules) };
 
     fn cmp(&self, other: &Loc) -> Ordering {
-        self.y.cmp(&other.y).then(self.x.cmp(&other.x))
+        self.rank().cmp(&other.rank())
     }
 }
 

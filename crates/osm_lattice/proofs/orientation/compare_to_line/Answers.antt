@@ -1,8 +1,6 @@
-use Rattle.std.proofs.Common.{◌*ℤ◌, ◌-ℤ◌, ◌∙◌, ◌≡◌, FitsSigned, ap, arith, mul-le-mul, refl, rules}
+use Rattle.std.proofs.Common.{◌∙◌, FitsSigned, arith, mul-le-mul, refl, rules}
 use Rattle.std.specs.Int.{w64}
 use Rattle.std.proofs.lemmas.Int.{to_z-of_z}
-use Rattle.plane.specs.Sign.{sign}
-use Rattle.osm_lattice.specs.OrderLaws.{ordering_of}
 use Rattle.osm_lattice.proofs.LocationOrder.{int_cmp-is}
 use Rattle.osm_lattice.proofs.Sizes.{back}
 use Rattle.osm_lattice.proofs.orientation.compare_to_line.Goals as goal
