@@ -1,14 +1,13 @@
 -- Where the items that pass a test end, told by the items on both sides of the place.
-use Rattle.std.proofs.Common.{arith, Bool, List, ◌-◌, ◌<◌, ◌≡◌, ◌≤◌, false, length, slice_index_or, true, ℕ}
+use Rattle.std.proofs.Common.{arith, Bool, List, ◌-◌, ◌≡◌, ◌≤◌, false, length, slice_index_or, true, ℕ}
 use Rattle.std.proofs.Math.Path.{sym, ◌∙◌}
 use Rattle.std.specs.List.Sorted.{IsPartitionPoint, IsPartitionedBy}
+use Rattle.chunked_list.specs.Parted.{IsParted}
 use Rattle.std.proofs.lemmas.Bool.{false_from_ne_true, false≢true}
 
-pub found : {X : Type 0} (p : X → Bool) (xs : List X) (low high : ℕ) → high ≡ low → IsPartitionedBy p xs →
-    ((d : X) → (0 < low → p (slice_index_or xs (low - 1) d) ≡ true) × (high < length xs → p (slice_index_or xs high d) ≡ false)) →
-    low ≤ length xs → IsPartitionPoint (λ x. p x ≡ true) (λ x. p x ≡ false) xs low
-found p xs low high end parted told within = (
-  λ k d from below. parted k (low - 1) d (omega arith) (omega arith) ((told d).0 (omega arith)),
+pub found : {X : Type 0} (p : X → Bool) (xs : List X) (place : ℕ) → IsPartitionedBy p xs → IsParted p xs place → place ≤ length xs → IsPartitionPoint (λ x. p x ≡ true) (λ x. p x ≡ false) xs place
+found p xs place parted told within = (
+  λ k d from below. parted k (place - 1) d (omega arith) (omega arith) ((told d).0 (omega arith)),
   λ k d from below. false_from_ne_true (p (slice_index_or xs k d)) (λ passes.
-      false≢true (sym ((told d).1 (omega arith)) ∙ parted high k d (omega arith) below passes)),
+      false≢true (sym ((told d).1 (omega arith)) ∙ parted place k d (omega arith) below passes)),
 )

@@ -4,8 +4,16 @@ ghost use Rattle.std.specs.List.{flat_map};
 
 use std::alloc::{AllocError as OutOfMemory, Global};
 
-/// The most items of a chunk.
-const LONGEST: usize = 512;
+/// A chunk of fewer items isn't parted.
+const SHORT: usize = 128;
+
+/// Nor is one of fewer items for each chunk of the list: where there are many, they are long, since they are walked past one by one.
+const SHORT_BESIDE_ONE: usize = 32;
+
+/// The most items of a chunk, beside so many chunks.
+fn longest(chunks: usize) -> usize {
+    SHORT.max(chunks.saturating_mul(SHORT_BESIDE_ONE))
+}
 
 /// The first chunk that reaches so far, and how much of it that is.
 fn locate<T>(chunks: &[Vec<T>], count: usize) -> (usize, usize)
@@ -108,7 +116,7 @@ pub(crate) fn put_in<T: Copy>(
         chunks.push(Vec::new(alloc))?;
     }
     let (chunk, _) = locate(chunks, place);
-    if chunks[chunk].len() >= LONGEST {
+    if chunks[chunk].len() >= longest(chunks.len()) {
         part(alloc, chunks, chunk)?;
     }
     put(chunks, place, item)

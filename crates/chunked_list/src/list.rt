@@ -1,13 +1,17 @@
 //! A list that is long and changes in its middle, kept in chunks.
 
-ghost use Rattle.std.specs.Prelude.{◌≡◌, ◌==◌, ◌<◌, ◌≤◌, ◌-◌, List, [], false, filter, insert, length, remove, slice_index_or, true, OnErr, OnOk, Bool};
+ghost use Rattle.std.specs.Prelude.{IfSome, ◌+◌, ◌^◌, ◌≡◌, ◌==◌, ◌<◌, ◌≤◌, ◌-◌, List, [], false, filter, insert, length, remove, slice_index_or, true, OnErr, OnOk, Bool};
 ghost use Rattle.std.specs.List.{flat_map};
 ghost use Rattle.std.specs.List.Sorted.{IsPartitionedBy, IsPartitionPoint};
 ghost use Rattle.std.specs.Fn.{FnReturnsAt};
+ghost use Rattle.chunked_list.specs.Parted.{IsParted};
 
 use crate::chunks::{item, put_in, take_out};
 use std::alloc::{AllocError as OutOfMemory, Global};
 use std::marker::Model;
+
+/// How many steps from a place are tried before all items are searched.
+const STEPS: usize = 4;
 
 /// A list of items.
 #[derive(Drop)]
@@ -15,6 +19,8 @@ pub struct ChunkedList<T> {
     alloc: Global,
     chunks: Vec<Vec<T>>,
     len: usize,
+    /// Where an item was last put in or taken out. Only speed rests on it.
+    changed: usize,
 }
 
 impl<T> Model for ChunkedList<T> {
@@ -34,6 +40,7 @@ impl<T: Copy> ChunkedList<T> {
             alloc,
             chunks: Vec::new(alloc),
             len: 0,
+            changed: 0,
         }
     }
 
@@ -73,6 +80,7 @@ impl<T: Copy> ChunkedList<T> {
         match put_in(self.alloc, &mut self.chunks, place, item) {
             Ok(()) => {
                 self.len = len;
+                self.changed = place;
                 Ok(())
             }
             Err(error) => Err(error),
@@ -86,10 +94,17 @@ impl<T: Copy> ChunkedList<T> {
         ensures removed { self.new ≡ remove self.old place }
     {
         self.len -= 1;
+        self.changed = place;
         take_out(&mut self.chunks, place)
     }
 
-    /// Where the items that pass a test end, if those that pass it stand before those that don't.
+    /// Where an item was last put in or taken out: a place to begin a search at. Only speed rests on it.
+    pub fn last_changed(&self) -> usize {
+        self.changed
+    }
+
+    /// Where the items that pass a test end, if those that pass it stand before those that don't. It is looked for first where the
+    /// list was changed last.
     pub fn partition_point<F: Fn(&T) -> bool>(&self, test: F) -> usize
         requires { F.IsAlwaysCallable test }
         ensures within { result ≤ length self.now }
@@ -97,15 +112,100 @@ impl<T: Copy> ChunkedList<T> {
             → told ≡ p x) → IsPartitionedBy p self.now
             → IsPartitionPoint (λ x. p x ≡ true) (λ x. p x ≡ false) self.now result }
     {
-        let guess = self.guess(&test);
-        if self.passes_before(&test, guess) && self.fails_from(&test, guess) {
+        self.partition_point_near(self.changed, test)
+    }
+
+    /// What `partition_point` gives, looked for near a place first.
+    pub fn partition_point_near<F: Fn(&T) -> bool>(&self, near: usize, test: F) -> usize
+        requires { F.IsAlwaysCallable test }
+        ensures within { result ≤ length self.now }
+        ensures point { (p : T → Bool) → ((x : T) (told : Bool) → FnReturnsAt F.Fn test x told
+            → told ≡ p x) → IsPartitionedBy p self.now
+            → IsPartitionPoint (λ x. p x ≡ true) (λ x. p x ≡ false) self.now result }
+    {
+        match self.point_close_to(near, &test) {
+            Some(point) => point,
+            None => self.point_anywhere(&test),
+        }
+    }
+
+    /// The place where the items that pass end, if it is few steps from another.
+    fn point_close_to<F: Fn(&T) -> bool>(&self, near: usize, test: &F) -> Option<usize>
+        requires { F.IsAlwaysCallable test.now }
+        ensures within { IfSome result (λ place. place ≤ length self.now) }
+        ensures point { IfSome result (λ place. (p : T → Bool)
+            → ((x : T) (told : Bool) → FnReturnsAt F.Fn test.now x told → told ≡ p x)
+            → IsParted p self.now place) }
+    {
+        if near > self.len {
+            return None;
+        }
+        if self.passes_before(test, near) {
+            self.point_above(test, near)
+        } else {
+            self.point_below(test, near)
+        }
+    }
+
+    /// The place where the items that pass end, if it is few steps above one before which an item passes.
+    fn point_above<F: Fn(&T) -> bool>(&self, test: &F, near: usize) -> Option<usize>
+        requires within { near ≤ length self.now }
+        requires test { F.IsAlwaysCallable test.now }
+        requires before { (p : T → Bool) → ((x : T) (told : Bool) → FnReturnsAt F.Fn test.now x told
+            → told ≡ p x) → (d : T) → 0 < near → p (slice_index_or self.now (near - 1) d) ≡ true }
+        ensures within { IfSome result (λ place. place ≤ length self.now) }
+        ensures point { IfSome result (λ place. (p : T → Bool)
+            → ((x : T) (told : Bool) → FnReturnsAt F.Fn test.now x told → told ≡ p x)
+            → IsParted p self.now place) }
+    {
+        let mut place = near;
+        for _ in 0..STEPS {
+            if self.fails_from(test, place) {
+                return Some(place);
+            }
+            place += 1;
+        }
+        None
+    }
+
+    /// The place where the items that pass end, if it is few steps below another.
+    fn point_below<F: Fn(&T) -> bool>(&self, test: &F, near: usize) -> Option<usize>
+        requires within { near ≤ length self.now }
+        requires test { F.IsAlwaysCallable test.now }
+        ensures within { IfSome result (λ place. place ≤ length self.now) }
+        ensures point { IfSome result (λ place. (p : T → Bool)
+            → ((x : T) (told : Bool) → FnReturnsAt F.Fn test.now x told → told ≡ p x)
+            → IsParted p self.now place) }
+    {
+        let mut place = near;
+        for _ in 0..STEPS {
+            if place == 0 {
+                return None;
+            }
+            place -= 1;
+            if self.passes_before(test, place) && self.fails_from(test, place) {
+                return Some(place);
+            }
+        }
+        None
+    }
+
+    /// The place where the items that pass end, looked for by chunks first.
+    fn point_anywhere<F: Fn(&T) -> bool>(&self, test: &F) -> usize
+        requires { F.IsAlwaysCallable test.now }
+        ensures within { result ≤ length self.now }
+        ensures point { (p : T → Bool) → ((x : T) (told : Bool) → FnReturnsAt F.Fn test.now x told
+            → told ≡ p x) → IsParted p self.now result }
+    {
+        let guess = self.guess(test);
+        if self.passes_before(test, guess) && self.fails_from(test, guess) {
             return guess;
         }
         let mut low = 0;
         let mut high = self.len;
         while low < high {
             let middle = low + (high - low) / 2;
-            if passes(&test, &self.get(middle)) {
+            if passes(test, &self.get(middle)) {
                 low = middle + 1;
             } else {
                 high = middle;
@@ -157,9 +257,14 @@ impl<T: Copy> ChunkedList<T> {
     /// Whether the item at a place doesn't pass, if there is one.
     fn fails_from<F: Fn(&T) -> bool>(&self, test: &F, place: usize) -> bool
         requires { F.IsAlwaysCallable test.now }
-        ensures { result ≡ true → (p : T → Bool)
+        ensures fails { result ≡ true → (p : T → Bool)
             → ((x : T) (told : Bool) → FnReturnsAt F.Fn test.now x told → told ≡ p x) → (d : T)
             → place < length self.now → p (slice_index_or self.now place d) ≡ false }
+        ensures inside { result ≡ false → place < length self.now }
+        ensures fits { result ≡ false → place + 1 < 2 ^ 64 }
+        ensures passes { result ≡ false → (p : T → Bool)
+            → ((x : T) (told : Bool) → FnReturnsAt F.Fn test.now x told → told ≡ p x) → (d : T)
+            → p (slice_index_or self.now place d) ≡ true }
     {
         if place >= self.len {
             return true;

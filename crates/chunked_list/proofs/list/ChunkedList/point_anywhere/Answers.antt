@@ -1,7 +1,6 @@
-use Rattle.std.proofs.Common.{arith, ◌≡◌, ◌<◌, ◌+◌, ◌-◌, ◌/◌, length, slice_index_or, true}
-use Rattle.std.proofs.Math.Path.{refl, ap, sym, subst, ◌∙◌}
-use Rattle.chunked_list.proofs.Searched.{found}
-use Rattle.chunked_list.proofs.list.ChunkedList.partition_point.Goals as goal
+use Rattle.std.proofs.Common.{arith, ◌≡◌, ◌<◌, ◌+◌, ◌-◌, ◌/◌, false, length, slice_index_or, true}
+use Rattle.std.proofs.Math.Path.{ap, sym, subst, ◌∙◌}
+use Rattle.chunked_list.proofs.list.ChunkedList.point_anywhere.Goals as goal
 
 pub loop-low-init : goal.loop-low-init
 loop-low-init g c =
@@ -38,11 +37,11 @@ loop-low-preserved g c =
     )
 
 pub returns-clause-point : goal.returns-clause-point
-returns-clause-point g c = λ p told parted.
+returns-clause-point g c = λ p told d.
     let end : c.loop-low.high ≡ c.loop-low.low = omega arith in
-    found p c.args.self.now c.loop-low.low c.loop-low.high end parted (c.loop-low.invariant.2 p told) (omega arith)
+    let (before, after) = c.loop-low.invariant.2 p told d in
+    (before, subst (λ n. n < length c.args.self.now → p (slice_index_or c.args.self.now n d) ≡ false) end after)
 
 pub returns-then-fails_from-clause-point : goal.returns-then-fails_from-clause-point
-returns-then-fails_from-clause-point g c = λ p told parted.
-    found p c.args.self.now c.guess-guess.result c.guess-guess.result refl parted
-    (λ d. (c.passes_before.ensures c.if-passes_before.true p told d, c.fails_from.ensures c.if-fails_from.true p told d)) c.guess-guess.ensures
+returns-then-fails_from-clause-point g c = λ p told d.
+    (c.passes_before.ensures c.if-passes_before.true p told d, c.fails_from.ensures.fails c.if-fails_from.true p told d)
