@@ -1,7 +1,7 @@
 -- Two edges without conflict, each with its lower end below its upper one: at a height that both reach they are beside each other, or have a common end there.
 use Rattle.std.proofs.Common.{ap, arith, not, refl, subst, sym, true, ◌∙◌, ◌≡◌}
 use borrow.Author.Differences.{ints}
-use lib.IntN.{pos, ℤ, ◌*ℤ◌, ◌+ℤ◌, ◌-ℤ◌}
+use lib.IntN.{pos, ℤ, ◌*ℤ◌, ◌-ℤ◌}
 use Rattle.plane.specs.Conflict.{IsClearOf}
 use Rattle.plane.specs.Edge.{Edge}
 use Rattle.plane.specs.Height.{distance_right}

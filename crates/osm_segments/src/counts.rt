@@ -1,7 +1,7 @@
 //! What counting tells of a list of segments: survivors, repeats, and nodes at which an odd number end.
 
-ghost use Rattle.std.specs.Prelude.{◌≡◌, IfOk, length, map};
-ghost use Rattle.osm_segments.specs.Counts.{AreSurvivors, AreDistinct, AreOddNodes, ends_of};
+ghost use Rattle.std.specs.Prelude.{◌≡◌, ◌++◌, IfOk, OnOk, length, map};
+ghost use Rattle.osm_segments.specs.Counts.{AreSurvivors, AreDistinct, AreOddNodes};
 ghost use Rattle.osm_segments.specs.Repeats.{AreRepeats, StandOnce, repeat_of};
 
 use lists::{Tally, distinct_items, odd_items, odd_items_of, repeated_items};
@@ -79,15 +79,33 @@ pub fn cancel(alloc: Global, segs: &[Seg]) -> Result<Cancelled, OutOfMemory>
     Ok(Cancelled { survivors, repeats })
 }
 
-/// Both ends of each segment.
-fn ends(alloc: Global, segs: &[Seg]) -> Result<Vec<Loc>, OutOfMemory>
-    ensures { IfOk result (λ v. v.items ≡ ends_of segs.now) }
+/// Adds the lesser end of each segment.
+fn add_lesser_ends(ends: &mut Vec<Loc>, segs: &[Seg]) -> Result<(), OutOfMemory>
+    ensures { OnOk result (ends.new.items ≡ ends.old.items ++ map (λ s. s.a) segs.now) }
 {
-    let mut ends = Vec::with_capacity(alloc, 2 * segs.len())?;
     for seg in segs {
         ends.push(seg.a)?;
+    }
+    Ok(())
+}
+
+/// Adds the greater end of each segment.
+fn add_greater_ends(ends: &mut Vec<Loc>, segs: &[Seg]) -> Result<(), OutOfMemory>
+    ensures { OnOk result (ends.new.items ≡ ends.old.items ++ map (λ s. s.b) segs.now) }
+{
+    for seg in segs {
         ends.push(seg.b)?;
     }
+    Ok(())
+}
+
+/// Both ends of each segment: all lesser ones, which are in order where the segments are, and then all greater ones.
+fn ends(alloc: Global, segs: &[Seg]) -> Result<Vec<Loc>, OutOfMemory>
+    ensures { IfOk result (λ v. v.items ≡ map (λ s. s.a) segs.now ++ map (λ s. s.b) segs.now) }
+{
+    let mut ends = Vec::with_capacity(alloc, 2 * segs.len())?;
+    add_lesser_ends(&mut ends, segs)?;
+    add_greater_ends(&mut ends, segs)?;
     Ok(ends)
 }
 

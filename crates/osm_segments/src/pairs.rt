@@ -9,7 +9,7 @@ ghost use Rattle.osm_segments.specs.Pairs.{pair_of, conflicts_of, pair_cmp};
 use crate::clear::is_clear;
 use crate::division::add_conflicts;
 use lists::{counts_determine, distinct_items};
-use osm_lattice::{Kind, Seg, conflict};
+use osm_lattice::{Kind, Seg, are_apart, conflict};
 use std::alloc::{AllocError as OutOfMemory, Global};
 
 /// How often a list of segments is divided in a row.
@@ -30,6 +30,9 @@ pub struct Pair {
 fn pair_of(first: Seg, second: Seg) -> Option<Pair>
     ensures { result ≡ pair_of first second }
 {
+    if are_apart(first, second) {
+        return None;
+    }
     match conflict(first, second) {
         Some(kind) => Some(Pair {
             first,

@@ -5,7 +5,7 @@ use Rattle.std.proofs.lemmas.List.Elements.{All-map}
 use Rattle.osm_lattice.specs.Seg.{seg_cmp}
 use Rattle.lists.specs.Rising.{IsRising, count_of}
 use Rattle.osm_segments.specs.declared.counts.Repeat.{Repeat}
-use Rattle.osm_segments.specs.Repeats.{AreRepeats, repeat_of, segs_of}
+use Rattle.osm_segments.specs.Repeats.{repeat_of, segs_of}
 use Rattle.osm_segments.proofs.CountLemmas.{segs_of-map}
 use Rattle.osm_segments.proofs.counts.repeated.Goals as goal
 

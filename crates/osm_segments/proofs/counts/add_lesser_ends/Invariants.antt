@@ -1,0 +1,5 @@
+use Rattle.std.proofs.Common.{◌≡◌, ◌++◌, map, take}
+use Rattle.osm_segments.proofs.counts.add_lesser_ends.Given as goal
+
+abbrev pub invariant-loop-seg : goal.invariant-loop-seg
+invariant-loop-seg l = l.ends.items ≡ l.initial.ends.items ++ map (λ s. s.a) (take l.seg-index l.segs)
