@@ -27,13 +27,38 @@ fn is_left_below(t: Seg, s: Seg) -> bool {
     end.is_gt() || end.is_eq() && compare_to_line(s.a, t).is_gt()
 }
 
+/// Whether a segment stands at a place.
+fn is_at(status: &ChunkedList<Seg>, place: usize, s: Seg) -> bool
+    ensures inside { result ≡ true → place < length status.now }
+    ensures at { result ≡ true → slice_index_or status.now place s ≡ s }
+{
+    place < status.len() && status.get(place) == s
+}
+
+/// The place of a segment, if it is where the status changed last, or beside that.
+fn find_near(status: &ChunkedList<Seg>, s: Seg) -> Option<usize>
+    ensures inside { IfSome result (λ place. place < length status.now) }
+    ensures at { IfSome result (λ place. slice_index_or status.now place s ≡ s) }
+{
+    let first = status.last_changed().saturating_sub(1);
+    for place in first..first.saturating_add(4) {
+        if is_at(status, place, s) {
+            return Some(place);
+        }
+    }
+    None
+}
+
 /// The place of a segment, if it stands just behind those that are left of it.
 fn find(status: &ChunkedList<Seg>, s: Seg) -> Option<usize>
     ensures inside { IfSome result (λ place. place < length status.now) }
     ensures at { IfSome result (λ place. slice_index_or status.now place s ≡ s) }
 {
+    if let Some(place) = find_near(status, s) {
+        return Some(place);
+    }
     let place = status.partition_point(|t| is_left_below(*t, s));
-    if place < status.len() && status.get(place) == s {
+    if is_at(status, place, s) {
         return Some(place);
     }
     None

@@ -1,5 +1,5 @@
 //! Rows of segments that begin at one height: they enter the status of the sweep, and are directed by it.
-ghost use Rattle.std.specs.Prelude.{◌≡◌, ◌<◌, ◌≤◌, [], IfOk, OnOk, cond, false, length, not, slice_index_or, take, true};
+ghost use Rattle.std.specs.Prelude.{◌≡◌, ◌<◌, ◌≤◌, ◌-◌, [], IfOk, OnOk, cond, false, length, not, slice_index_or, take, true};
 ghost use Rattle.std.specs.List.{AllWithin};
 ghost use Rattle.std.specs.List.Sorted.{IsPartitionedBy};
 ghost use Rattle.plane.specs.Vector.{Vector};
@@ -84,33 +84,52 @@ pub fn enter_row(
     Ok(to)
 }
 
-/// How many of the status are right of `s` just above its lower end.
-fn right_in(status: &ChunkedList<Seg>, s: Seg) -> usize
+/// Where those of the status begin that are right of `s` just above its lower end: they stand last. It is looked for near a place first.
+fn right_from(status: &ChunkedList<Seg>, near: usize, s: Seg) -> usize
     requires { IsPartitionedBy (λ t. not (counted s t)) status.now }
-    ensures { result ≡ right_count s status.now }
+    ensures within { result ≤ length status.now }
+    ensures count { length status.now - result ≡ right_count s status.now }
 {
-    status.len() - place(status, s)
+    status.partition_point_near(near, |t| !is_counted(s, *t))
 }
 
-/// How many of the status have `p` on their left.
-fn left_in(status: &ChunkedList<Seg>, p: Loc) -> usize
+/// Where those of the status begin that have `p` on their left: they stand last.
+fn left_from(status: &ChunkedList<Seg>, near: usize, p: Loc) -> usize
     requires { IsPartitionedBy (λ t. not (left_of p t)) status.now }
-    ensures { result ≡ left_count p status.now }
+    ensures within { result ≤ length status.now }
+    ensures count { length status.now - result ≡ left_count p status.now }
 {
-    status.len() - status.partition_point(|t| !is_left_of(p, *t))
+    status.partition_point_near(near, |t| !is_left_of(p, *t))
+}
+
+/// Where those of the status begin that tell the direction of `s`.
+fn place_of(status: &ChunkedList<Seg>, near: usize, s: Seg) -> usize
+    requires flat { level s ≡ true → IsPartitionedBy (λ t. not (left_of s.a t)) status.now }
+    requires sloping { level s ≡ false → IsPartitionedBy (λ t. not (counted s t)) status.now }
+    ensures within { result ≤ length status.now }
+    ensures flat { level s ≡ true → length status.now - result ≡ left_count s.a status.now }
+    ensures sloping { level s ≡ false → length status.now - result ≡ right_count s status.now }
+{
+    if is_horizontal(s) {
+        left_from(status, near, s.a)
+    } else {
+        right_from(status, near, s)
+    }
 }
 
 /// Whether the odd side makes `s` run up, by its place in the status at its lower end.
-fn runs_up_in(status: &ChunkedList<Seg>, s: Seg) -> bool
-    requires flat { level s ≡ true → IsPartitionedBy (λ t. not (left_of s.a t)) status.now }
-    requires sloping { level s ≡ false → IsPartitionedBy (λ t. not (counted s t)) status.now }
+fn runs_up_at(status: &ChunkedList<Seg>, s: Seg, place: usize) -> bool
+    requires within { place ≤ length status.now }
+    requires flat { level s ≡ true → length status.now - place ≡ left_count s.a status.now }
+    requires sloping { level s ≡ false → length status.now - place ≡ right_count s status.now }
     ensures { result ≡ cond (level s) (not (is_even (left_count s.a status.now)))
         (is_even (right_count s status.now)) }
 {
+    let count = status.len() - place;
     if is_horizontal(s) {
-        left_in(status, s.a) % 2 != 0
+        count % 2 != 0
     } else {
-        right_in(status, s) % 2 == 0
+        count % 2 == 0
     }
 }
 
@@ -128,9 +147,11 @@ pub fn direct_row(
     requires so_far { AreDirectedTo segs.now from edges.old.items }
     ensures { OnOk result (AreDirectedTo segs.now to edges.new.items) }
 {
+    let mut place = status.last_changed();
     for i in from..to {
         let s = segs[i];
-        edges.push(Edge::of(s, runs_up_in(status, s)))?;
+        place = place_of(status, place, s);
+        edges.push(Edge::of(s, runs_up_at(status, s, place)))?;
     }
     Ok(())
 }
