@@ -1,5 +1,5 @@
 -- The departures in order: where those that begin at a point stand.
-use Rattle.std.proofs.Common.{◌≡◌, ℕ, ◌+◌, ◌-◌, ◌<◌, ◌≤◌, List, [], ◌∷◌, ◌++◌, length, get_or, drop, All, Result, Ok, Err, IfOk, Bool, true, false, not, Some, None, refl, sym, ap, subst, ◌∙◌, arith, ⊎_elim}
+use Rattle.std.proofs.Common.{◌≡◌, ◌≢◌, ℕ, ◌+◌, ◌-◌, ◌<◌, ◌≤◌, List, [], ◌∷◌, ◌++◌, length, get_or, drop, All, Result, Ok, Err, IfOk, Bool, true, false, not, set, Some, None, refl, sym, ap, subst, ◌∙◌, arith, ⊎_elim}
 use Rattle.std.specs.List.{Contains, slice_range}
 use Rattle.std.specs.List.Sorted.{IsPartitionPoint, IsPartitionedBy, IsPermutation}
 use Rattle.std.specs.declared.cmp.Ordering.{Ordering}
@@ -7,7 +7,8 @@ use Rattle.std.specs.declared.cmp.Ordering.TheVariants.{Less, Equal, Greater}
 use Rattle.std.specs.Ordering.{is_lt, ordering_reverse}
 use Rattle.std.proofs.lemmas.Bool.{cases_lt, false_from_ne_true}
 use Rattle.std.proofs.lemmas.Cmp.{tied_itself}
-use Rattle.std.proofs.lemmas.List.{get_or_default, get_or-map, get_or-take, get_or-drop, length-append, length-drop, length-take-le, get_or_append_left}
+use Rattle.std.proofs.lemmas.Grind.{get_or-set_at}
+use Rattle.std.proofs.lemmas.List.{get_or_default, get_or-set_other, get_or-map, get_or-take, get_or-drop, length-append, length-drop, length-take-le, get_or_append_left}
 use Rattle.std.proofs.lemmas.List.Elements.{All-contains, All-push}
 use Rattle.std.proofs.lemmas.List.MinMax.{ranks_by}
 use Rattle.std.proofs.lemmas.List.Sorted.{All-permutation, Contains-permutation, length_permutation}
@@ -75,6 +76,28 @@ module _ (ws : List Departure) where
 
     pub end-by-neighbours : (p : Point) (i : ℕ) → i ≤ length ws → ((d : Departure) → 0 < i → lt p (get_or ws (i - 1) d).from ≡ false) → ((d : Departure) → i < length ws → lt p (get_or ws i d).from ≡ true) → IsEndAt ws p i
     end-by-neighbours p i within low high = by-neighbours (λ w. not (lt p w.from)) ws i within (after-parts p) (λ d h. ap not (low d h)) (λ d h. ap not (high d h))
+
+    at-itself : (i : ℕ) (d e : Departure) → i < length ws → lt (get_or ws i e).from (get_or ws i d).from ≡ false
+    at-itself i d e inside = ap (λ (w : Departure). lt w.from (get_or ws i d).from) (get_or_default ws i e d inside) ∙ lt-itself (get_or ws i d).from
+
+    pub first-of-all : (i : ℕ) → i ≡ 0 → i < length ws → (d : Departure) → IsFirstAt ws (get_or ws i d).from i
+    first-of-all i none inside d = first-by-neighbours (get_or ws i d).from i (omega arith) (λ e some. absurd (omega arith)) (λ e h. at-itself i d e inside)
+
+    -- one that begins later than the one before it is the first of its point
+    pub first-there : (i : ℕ) (v w : Departure) → i ≢ 0 → i < length ws → lt (get_or ws (i - 1) v).from (get_or ws i w).from ≡ true → (d : Departure) → IsFirstAt ws (get_or ws i d).from i
+    first-there i v w some inside up d =
+        let before : i - 1 < length ws = omega arith in
+        first-by-neighbours (get_or ws i d).from i (omega arith)
+        (λ e h. ap (λ (x : Departure). lt x.from (get_or ws i d).from) (get_or_default ws (i - 1) e v before) ∙ (ap (λ (x : Departure). lt (get_or ws (i - 1) v).from x.from) (get_or_default ws i d w inside) ∙ up))
+        (λ e h. at-itself i d e inside)
+
+    -- else both begin at one point
+    pub same-there : (i : ℕ) (v w : Departure) → i ≢ 0 → i < length ws → lt (get_or ws (i - 1) v).from (get_or ws i w).from ≡ false → (d : Departure) → (get_or ws (i - 1) d).from ≡ (get_or ws i d).from
+    same-there i v w some inside level d =
+        let before : i - 1 < length ws = omega arith in
+        same-from (get_or ws (i - 1) d).from (get_or ws i d).from
+        (ap (λ (x : Departure). lt x.from (get_or ws i d).from) (get_or_default ws (i - 1) d v before) ∙ (ap (λ (x : Departure). lt (get_or ws (i - 1) v).from x.from) (get_or_default ws i d w inside) ∙ level))
+        (rising (i - 1) i d (omega arith) inside)
 
     -- a departure that begins at p stands at the first place or later, and one begins there
     pub found-at : (p : Point) (i : ℕ) (w : Departure) → IsFirstAt ws p i → Contains ws w → w.from ≡ p → (i < length ws) × ((get_or ws i w).from ≡ p)
@@ -198,24 +221,72 @@ listed-sorted es ws vs n whole l moved rising round =
     with-departure (x ∷ xs) e f h = f x
 
 -- ---- the numbers of the nodes
+
+-- the edges passed have as their numbers the places of the first departures from their points
 pub record AreKeyed (es : List Edge) (ws : List Departure) (n : ℕ) (numbers : List ℕ) : Type 0 where
   pub sized : length numbers ≡ n
   pub first : (i : ℕ) → i < n → (p : Point) × (start_at es i ≡ Some p) × IsFirstAt ws p (get_or numbers i 0)
 
-pub keyed-more : (es : List Edge) (ws : List Departure) (n : ℕ) (numbers : List ℕ) (p : Point) (k : ℕ) → AreKeyed es ws n numbers → start_at es n ≡ Some p → IsFirstAt ws p k → AreKeyed es ws (n + 1) (numbers ++ k ∷ [])
-keyed-more es ws n numbers p k inv from first =
-    let sized = inv.sized in
-    record {
-      sized = let e = length-append numbers (k ∷ []) in omega arith;
-      first = λ i h. ⊎_elim
-          (λ m. let old = inv.first i m in
-          let same : get_or (numbers ++ k ∷ []) i 0 ≡ get_or numbers i 0 = get_or_append_left numbers (k ∷ []) 0 i (omega arith) in
-          (old.0, old.1, subst (IsFirstAt ws old.0) (sym same) old.2))
-          (λ m. let e : i ≡ n = omega arith in
-          let same : get_or (numbers ++ k ∷ []) i 0 ≡ k = ap (λ j. get_or (numbers ++ k ∷ []) j 0) (e ∙ sym sized) ∙ get_or-append_seam numbers k [] 0 in
-          (p, ap (start_at es) e ∙ from, subst (IsFirstAt ws p) (sym same) first))
-          (cases_lt i n);
-    }
+-- those of the edges of the first n departures, of which the last one's is `number`
+pub record AreNumbered (ws : List Departure) (n number : ℕ) (numbers : List ℕ) : Type 0 where
+  pub last : (d : Departure) → 0 < n → IsFirstAt ws (get_or ws (n - 1) d).from number
+  pub each : (k : ℕ) (d : Departure) → k < n → IsFirstAt ws (get_or ws k d).from (get_or numbers (get_or ws k d).edge 0)
+
+module _ (es : List Edge) (ws : List Departure) (right : All (IsDepartureOf es) ws) where
+  -- departures of one edge begin at one point
+  one-edge : (i j : ℕ) (d : Departure) → i < length ws → j < length ws → (get_or ws i d).edge ≡ (get_or ws j d).edge → (get_or ws i d).from ≡ (get_or ws j d).from
+  one-edge i j d hi hj same = same-some (get_or ws i d).from (get_or ws j d).from (sym (right i d hi).from ∙ (ap (start_at es) same ∙ (right j d hj).from))
+
+  pub numbered-more : (n number next : ℕ) (numbers after : List ℕ) (w : Departure) → n < length ws → w ≡ get_or ws n w → length numbers ≡ length es → after ≡ set numbers (get_or ws n w).edge next
+      → ((d : Departure) → IsFirstAt ws (get_or ws n d).from next) → AreNumbered ws n number numbers → AreNumbered ws (n + 1) next after
+  numbered-more n number next numbers after w inside is sized made first so_far = record {
+    last = λ d h. let same : n ≡ n + 1 - 1 = omega arith in subst (λ k. IsFirstAt ws (get_or ws k d).from next) same (first d);
+    each = λ k d h. subst (λ ns. IsFirstAt ws (get_or ws k d).from (get_or ns (get_or ws k d).edge 0)) (sym (made ∙ ap (λ (v : Departure). set numbers v.edge next) (sym is))) (at k d h);
+  }
+    where
+      here : (d : Departure) → get_or ws n d ≡ w
+      here d = get_or_default ws n d w inside ∙ sym is
+
+      room : w.edge < length numbers
+      room = let e = (right n w inside).inside in let i = ap (λ (v : Departure). v.edge) is in omega (arith, e, i, sized)
+
+      changed : (k : ℕ) (d : Departure) → k < length ws → (get_or ws k d).edge ≡ w.edge → IsFirstAt ws (get_or ws k d).from (get_or (set numbers w.edge next) (get_or ws k d).edge 0)
+      changed k d h same =
+          let there : (get_or ws k d).from ≡ (get_or ws n d).from = one-edge k n d h inside (same ∙ ap (λ (v : Departure). v.edge) (sym (here d))) in
+          subst (IsFirstAt ws (get_or ws k d).from) (sym (get_or-set_at numbers w.edge (get_or ws k d).edge next 0 same room))
+          (subst (λ p. IsFirstAt ws p next) (sym there) (first d))
+
+      kept : (k : ℕ) (d : Departure) → k < n + 1 → (get_or ws k d).edge ≢ w.edge → IsFirstAt ws (get_or ws k d).from (get_or (set numbers w.edge next) (get_or ws k d).edge 0)
+      kept k d h other = ⊎_elim
+          (λ early. subst (IsFirstAt ws (get_or ws k d).from) (sym (get_or-set_other numbers w.edge (get_or ws k d).edge next 0 other)) (so_far.each k d early))
+          (λ late. absurd (other (ap (λ (v : Departure). v.edge) (ap (λ j. get_or ws j d) (let e : k ≡ n = omega arith in e) ∙ here d))))
+          (cases_lt k n)
+
+      at : (k : ℕ) (d : Departure) → k < n + 1 → IsFirstAt ws (get_or ws k d).from (get_or (set numbers w.edge next) (get_or ws k d).edge 0)
+      at k d h = ⊎_elim
+          (λ below. kept k d h (λ e. absurd (omega arith)))
+          (λ from. ⊎_elim
+          (λ above. kept k d h (λ e. absurd (omega arith)))
+          (λ upto. changed k d (omega arith) (omega arith))
+          (cases_lt w.edge (get_or ws k d).edge))
+          (cases_lt (get_or ws k d).edge w.edge)
+
+-- the numbers of all edges
+pub numbered-all : (es : List Edge) (ws : List Departure) → AreDepartures es ws → (n number : ℕ) (numbers : List ℕ) → n ≡ length ws → length numbers ≡ length es → AreNumbered ws n number numbers → AreKeyed es ws (length es) numbers
+numbered-all es ws are n number numbers all sized told = record {
+  sized = sized;
+  first = λ i h.
+      let found = are.whole i h in
+      let w = found.0 in
+      let right : IsDepartureOf es w = All-contains (IsDepartureOf es) ws w are.right found.1 in
+      let k = found.1.0 in
+      let inside : k < length ws = found.1.1 in (
+        w.from,
+        ap (start_at es) (sym found.2) ∙ right.from,
+        subst (λ j. IsFirstAt ws w.from (get_or numbers j 0)) found.2
+            (subst (λ (v : Departure). IsFirstAt ws v.from (get_or numbers v.edge 0)) found.1.2 (told.each k w (omega arith))),
+      );
+}
 
 module _ (es : List Edge) (ws : List Departure) (are : AreDepartures es ws) (numbers : List ℕ) (keyed : AreKeyed es ws (length es) numbers) where
   -- the departure of an edge begins where the edge does

@@ -26,10 +26,13 @@ pub struct Departure {
 }
 
 /// The order of departures: by the points that they leave, and round one point clockwise from the east.
-fn compare_departures(departure: Departure, other: Departure) -> Ordering
-    ensures { is_lt result ≡ stands_before departure other }
+fn compare_departures(departure: &Departure, other: &Departure) -> Ordering
+    ensures { is_lt result ≡ stands_before departure.now other.now }
 {
-    compare_points(departure.from, other.from).then(clockwise(EAST, departure.dir, other.dir))
+    match compare_points(departure.from, other.from) {
+        Ordering::Equal => clockwise(EAST, departure.dir, other.dir),
+        order => order,
+    }
 }
 
 /// The same by the sort keys of the points.
@@ -44,7 +47,7 @@ fn compare_by_keys(departure: &Departure, other: &Departure) -> Ordering {
 fn is_in_order(departure: &Departure, next: &Departure) -> bool
     ensures { result ≡ not (stands_before next.now departure.now) }
 {
-    !compare_departures(*next, *departure).is_lt()
+    !compare_departures(next, departure).is_lt()
 }
 
 /// Whether departures are in order.
@@ -62,12 +65,12 @@ fn sorted(departures: Vec<Departure>) -> Result<Vec<Departure>, OutOfMemory>
     ensures round { IfOk result (λ v. AreClockwiseRound v.items) }
 {
     let mut departures = departures;
-    departures.sort_by(|departure, other| compare_departures(*departure, *other))?;
+    departures.sort_by(|departure, other| compare_departures(departure, other))?;
     Ok(departures)
 }
 
-/// The departures in order: by their sort keys, where that is their order.
-fn in_order(departures: Vec<Departure>) -> Result<Vec<Departure>, OutOfMemory>
+/// The departures in order: by their sort keys and round each point, where that is their order.
+fn in_order_round(departures: Vec<Departure>) -> Result<Vec<Departure>, OutOfMemory>
     ensures moved { IfOk result (λ v. IsPermutation departures.items v.items) }
     ensures rising { IfOk result (λ v. AreRising v.items) }
     ensures round { IfOk result (λ v. AreClockwiseRound v.items) }
@@ -78,6 +81,20 @@ fn in_order(departures: Vec<Departure>) -> Result<Vec<Departure>, OutOfMemory>
         return Ok(departures);
     }
     sorted(departures)
+}
+
+/// The departures in order: by their sort keys alone, where that is their order, as where no two leave one point.
+fn in_order(departures: Vec<Departure>) -> Result<Vec<Departure>, OutOfMemory>
+    ensures moved { IfOk result (λ v. IsPermutation departures.items v.items) }
+    ensures rising { IfOk result (λ v. AreRising v.items) }
+    ensures round { IfOk result (λ v. AreClockwiseRound v.items) }
+{
+    let mut departures = departures;
+    departures.sort_by_cached_key(|departure| departure.key)?;
+    if are_in_order(&departures) {
+        return Ok(departures);
+    }
+    in_order_round(departures)
 }
 
 /// The departure of the edge at a place.
@@ -134,19 +151,28 @@ fn is_first_at(departures: &[Departure], p: Point, place: usize) -> bool
     parts_before(departures, p, place)
 }
 
-/// Where the sort keys tell that the departures from p begin.
-fn guess_first(departures: &[Departure], p: Point) -> usize {
-    let key = sort_key(p);
-    departures.partition_point(|departure| departure.key < key)
+/// The sort keys of the points that departures leave, side by side, so that a search passes few bytes.
+pub fn keys_of(alloc: Global, departures: &[Departure]) -> Result<Vec<i64>, OutOfMemory> {
+    let mut keys = Vec::with_capacity(alloc, departures.len())?;
+    for departure in departures {
+        keys.push(departure.key)?;
+    }
+    Ok(keys)
 }
 
-/// How many departures begin before p: where some begin at p, the place of the first of these, which numbers the node.
-fn first_at(departures: &[Departure], p: Point) -> usize
+/// Where the sort keys tell that the departures from p begin.
+fn guess_first(keys: &[i64], p: Point) -> usize {
+    let key = sort_key(p);
+    keys.partition_point(|other| *other < key)
+}
+
+/// How many departures begin before p: where some begin at p, the place of the first of these.
+fn first_at(departures: &[Departure], keys: &[i64], p: Point) -> usize
     requires { AreRising departures.now }
     ensures inside { result ≤ length departures.now }
     ensures first { IsFirstAt departures.now p result }
 {
-    let guess = guess_first(departures, p);
+    let guess = guess_first(keys, p);
     if is_first_at(departures, p, guess) {
         return guess;
     }
@@ -195,7 +221,36 @@ fn end_at(departures: &[Departure], p: Point, first: usize) -> usize
     departures.partition_point(|departure| !compare_points(p, departure.from).is_lt())
 }
 
-/// For each edge the number of the node that it leaves.
+/// Whether the departure at a place is the first that leaves its point.
+fn is_first_there(departures: &[Departure], place: usize) -> bool
+    requires rising { AreRising departures.now }
+    requires inside { place < length departures.now }
+    ensures first { result ≡ true → (d : Departure)
+        → IsFirstAt departures.now (slice_index_or departures.now place d).from place }
+    ensures later { result ≡ false → (d : Departure)
+        → (slice_index_or departures.now (place - 1) d).from
+        ≡ (slice_index_or departures.now place d).from }
+    ensures some { result ≡ false → 0 < place }
+{
+    place == 0 || compare_points(departures[place - 1].from, departures[place].from).is_lt()
+}
+
+/// The number of the node that the departure at a place leaves, by that of the one before it.
+fn number_at(departures: &[Departure], before: usize, place: usize) -> usize
+    requires rising { AreRising departures.now }
+    requires inside { place < length departures.now }
+    requires before { (d : Departure) → 0 < place
+        → IsFirstAt departures.now (slice_index_or departures.now (place - 1) d).from before }
+    ensures { (d : Departure)
+        → IsFirstAt departures.now (slice_index_or departures.now place d).from result }
+{
+    if is_first_there(departures, place) {
+        return place;
+    }
+    before
+}
+
+/// For each edge the number of the node that it leaves: the place of the first departure from there.
 pub fn node_numbers(
     alloc: Global,
     edges: &[Edge],
@@ -206,31 +261,33 @@ pub fn node_numbers(
     ensures below { IfOk result (λ v. All (λ k. k < length edges.now) v.items) }
     ensures tell { IfOk result (λ v. TellStarts edges.now v.items) }
 {
-    let mut numbers = Vec::with_capacity(alloc, edges.len())?;
-    for &edge in edges {
-        numbers.push(first_at(departures, edge.from))?;
+    let mut numbers = vec![in alloc; 0; edges.len()]?;
+    let mut number = 0;
+    for place in 0..departures.len() {
+        number = number_at(departures, number, place);
+        numbers[departures[place].edge] = number;
     }
     Ok(numbers)
 }
 
 /// The places between which the departures that begin at p stand.
-fn range_at(departures: &[Departure], p: Point) -> (usize, usize)
+fn range_at(departures: &[Departure], keys: &[i64], p: Point) -> (usize, usize)
     requires { AreRising departures.now }
     ensures ordered { result.0 ≤ result.1 }
     ensures inside { result.1 ≤ length departures.now }
     ensures first { IsFirstAt departures.now p result.0 }
     ensures end { IsEndAt departures.now p result.1 }
 {
-    let first = first_at(departures, p);
+    let first = first_at(departures, keys, p);
     (first, end_at(departures, p, first))
 }
 
-/// The departures from p, clockwise from the east.
-pub fn leaving(departures: &[Departure], p: Point) -> &[Departure]
+/// The departures from p, clockwise from the east. The keys are those of `keys_of`, else it takes longer.
+pub fn leaving<'a>(departures: &'a [Departure], keys: &[i64], p: Point) -> &'a [Departure]
     requires rising { AreRising departures.now }
     requires round { AreClockwiseRound departures.now }
     ensures { AreFrom departures.now p result.now }
 {
-    let range = range_at(departures, p);
+    let range = range_at(departures, keys, p);
     &departures[range.0..range.1]
 }

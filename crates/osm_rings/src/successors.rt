@@ -11,7 +11,7 @@ ghost use Rattle.osm_rings.specs.Clockwise.{is_met_before};
 ghost use Rattle.osm_rings.specs.Numbered.{edge_at};
 ghost use Rattle.osm_rings.specs.Departures.{AreClockwise, AreClockwiseRound, AreRising, AreDepartures, IsFirstMet};
 
-use crate::departures::{Departure, EAST, leaving};
+use crate::departures::{Departure, EAST, keys_of, leaving};
 use osm_geom::{Dir, Edge, clockwise};
 use std::alloc::{AllocError as OutOfMemory, Global};
 
@@ -47,14 +47,29 @@ fn first_met(departures: &[Departure], from: Dir) -> Option<&Departure>
     departures.get(after).or(departures.first())
 }
 
+/// The same for the direction back along an edge. Mostly one departure is there.
+fn first_met_back<'a>(departures: &'a [Departure], edge: &Edge) -> Option<&'a Departure>
+    requires { AreClockwise departures.now }
+    ensures none { IfNone result (departures.now ≡ []) }
+    ensures member { IfSome result (λ w. Contains departures.now w.now) }
+    ensures first { IfSome result
+        (λ w. All (λ v. is_met_before (opposite (direction_of edge.now)) (vector_along v.dir)
+        (vector_along w.now.dir) ≡ false) departures.now) }
+{
+    if departures.len() == 1 {
+        return departures.first();
+    }
+    first_met(departures, back(edge))
+}
+
 /// The place of the successor of an edge, among those that the departures are of.
-fn successor(departures: &[Departure], edge: &Edge) -> Option<usize>
+fn successor(departures: &[Departure], keys: &[i64], edge: &Edge) -> Option<usize>
     requires rising { AreRising departures.now }
     requires round { AreClockwiseRound departures.now }
     ensures { (es : List Edge) → AreDepartures es departures.now → In edge.now es
         → IsFirstMet (whole_edges es) (edge_times (common_den es) edge.now) result }
 {
-    let departure = first_met(leaving(departures, edge.to), back(edge))?;
+    let departure = first_met_back(leaving(departures, keys, edge.to), edge)?;
     Some(departure.edge)
 }
 
@@ -70,9 +85,10 @@ pub fn successors(
         → IsFirstMet (whole_edges edges.now) (edge_at (whole_edges edges.now) i)
         (after v.items i)) }
 {
+    let keys = keys_of(alloc, departures)?;
     let mut next = Vec::with_capacity(alloc, edges.len())?;
     for edge in edges {
-        next.push(successor(departures, edge))?;
+        next.push(successor(departures, &keys, edge))?;
     }
     Ok(next)
 }

@@ -1,8 +1,8 @@
--- The comparison of the points, and then of the directions.
-use Rattle.std.proofs.Common.{ap, refl, ◌∙◌}
-use Rattle.std.specs.Ordering.{is_lt}
+-- Where the points are one, the directions decide.
+use Rattle.std.proofs.Common.{refl, sym, ◌∙◌}
+use Rattle.std.specs.declared.cmp.Ordering.TheVariants.{Equal}
 use Rattle.osm_rings.proofs.DeparturesRound.{compared}
 use Rattle.osm_rings.proofs.departures.compare_departures.Goals as goal
 
-pub returns : goal.returns
-returns c = ap is_lt c.then.ensures ∙ compared c.args.departure c.args.other c.compare_points.result c.clockwise.result _ c.compare_points.ensures c.clockwise.ensures refl
+pub returns-in-Equal : goal.returns-in-Equal
+returns-in-Equal c = compared c.args.departure.now c.args.other.now Equal c.clockwise.result _ (sym c.in-Equal.is ∙ c.compare_points.ensures) c.clockwise.ensures refl

@@ -1,6 +1,10 @@
--- The numbers for the edges passed.
-use Rattle.osm_rings.proofs.Starts.{AreKeyed}
+-- The numbers for the departures passed.
+use Rattle.std.proofs.Common.{length, ◌≡◌}
+use Rattle.osm_rings.proofs.Starts.{AreNumbered}
 use Rattle.osm_rings.proofs.departures.node_numbers.Given as goal
 
-abbrev pub invariant-loop-edge : goal.invariant-loop-edge
-invariant-loop-edge l = AreKeyed l.edges l.departures l.edge-index l.numbers.items
+abbrev pub invariant-loop-place : goal.invariant-loop-place
+invariant-loop-place l = record {
+  sized : length l.numbers.items ≡ length l.edges;
+  numbered : AreNumbered l.departures l.place l.number l.numbers.items;
+}
