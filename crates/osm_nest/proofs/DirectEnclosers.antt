@@ -152,6 +152,17 @@ module _ (rs : List (List Edge)) (are : AreRings rs) where
           let c = encloser-of (segments_of d.0) (in-map segments_of in_plane d.0 d.1) d.2.outer (subst (λ s. encloses (segments_of d.0) s ≡ true) same d.2.around) in
           none c.0 c.1 c.3
 
+      -- some outer ring encloses directly
+      pub some-direct : (k : ℕ) × (k < length rs) × IsOuter (ring k) × EnclosesDirectly nest (segments_times K (ring k)) (segments_times K (ring h))
+      some-direct =
+          let d = encloser_exists in_plane listed (edges_times K (ring h)) (ring-in h hh) (subst (IsInnerRing nest) (sym (along-is (ring h))) (inner-ring h hh inner)) in
+          let k = place-of (segments_of d.0) (in-map segments_of in_plane d.0 d.1) in (
+            k.0,
+            k.1,
+            is-outer-at k.0 k.1 (subst (IsOuterRing nest) k.2 d.2.outer),
+            subst (λ g. EnclosesDirectly nest g (segments_times K (ring h))) k.2 (subst (EnclosesDirectly nest (segments_of d.0)) (along-is (ring h)) d.2),
+          )
+
       -- the one with the nearest edge encloses directly
       nearest-by : (c : Encloser) (f : Edge) → IsWholeAt K c.edge → IsWholeAt K f → (segment_at K f ≡ segment_at K c.edge) ⊎ (is_nearer a c.edge f ≡ true) → (segment_at K f ≡ segment_at K c.edge) ⊎ (is_plus (order_above (segment_at K a).from (segment_at K c.edge) (segment_at K f)) ≡ true)
       nearest-by c f wc wf (inl e) = inl e

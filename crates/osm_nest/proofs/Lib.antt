@@ -21,6 +21,7 @@ mod NestedCover
 mod NestedKinds
 pub mod NestedRings
 mod NestingExists
+mod OneOuter
 mod Parting
 mod Places
 mod RingAnchors

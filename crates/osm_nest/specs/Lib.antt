@@ -6,6 +6,7 @@ pub mod Enclosers
 pub mod Laws
 pub mod Leftmost
 pub mod Nested
+pub mod OneOuter
 pub mod Outer
 pub mod Polygons
 pub mod RingLists

@@ -6,6 +6,7 @@ mod enclosers;
 mod fraction_tests;
 mod grouping;
 mod laws;
+mod one_outer;
 mod outer;
 mod polygon;
 mod ring_anchors;

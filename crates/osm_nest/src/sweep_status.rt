@@ -37,35 +37,25 @@ fn stands_right_of(g: &Edge, f: &Edge, at: &Point) -> bool
     spans_height(g, at) && compare_just_above(f, g, at).is_lt()
 }
 
-/// The least and the greatest x of an edge between lattice points.
-fn width(edge: &Edge) -> Option<(i32, i32)> {
-    match (edge.from, edge.to) {
-        (Point::Lattice(from), Point::Lattice(to)) => Some((from.x.min(to.x), from.x.max(to.x))),
-        _ => None,
-    }
-}
-
 /// Whether `f` lies left of `g`, where no x parts them just above a height that `g` spans. Nothing rests on it but speed.
-fn seems_left(f: &Edge, g: &Edge, at: &Point) -> bool
-    requires { spans g.now at.now ≡ true }
+fn seems_left(f: &RingEdge, g: &RingEdge, at: &Point) -> bool
+    requires { is_within at.now g.now ≡ true }
 {
-    if let (Some(first), Some(second)) = (width(f), width(g)) {
-        if first.1 < second.0 {
-            return true;
-        }
-        if second.1 < first.0 {
-            return false;
-        }
+    if f.reach.east < g.reach.west {
+        return true;
     }
-    is_left_of(f, g, at)
+    if g.reach.east < f.reach.west {
+        return false;
+    }
+    is_left_of(f.edge, g.edge, at)
 }
 
 /// Where the search sees an edge that spans the height among those of the status.
-fn search(status: &ChunkedList<RingEdge>, edge: &Edge, at: &Point) -> usize
-    requires { spans edge.now at.now ≡ true }
+fn search(status: &ChunkedList<RingEdge>, edge: &RingEdge, at: &Point) -> usize
+    requires { is_within at.now edge.now ≡ true }
     ensures { result ≤ length status.now }
 {
-    status.partition_point(|other| seems_left(other.edge, edge, at))
+    status.partition_point(|other| seems_left(other, edge, at))
 }
 
 /// Whether the edge at a place doesn't span the height.
@@ -81,8 +71,8 @@ fn is_past(status: &ChunkedList<RingEdge>, place: usize, at: &Point) -> bool
 }
 
 /// Takes out an edge that ended, where the search at the height of `below` finds one that did; else all that don't span the height of `at`.
-fn take_out(status: &mut ChunkedList<RingEdge>, edge: &Edge, below: &Point, at: &Point)
-    requires { spans edge.now below.now ≡ true }
+fn take_out(status: &mut ChunkedList<RingEdge>, edge: &RingEdge, below: &Point, at: &Point)
+    requires { is_within below.now edge.now ≡ true }
     ensures within { filter (is_within at.now) status.new ≡ filter (is_within at.now) status.old }
     ensures members { (e : RingEdge) → In e status.new → In e status.old }
 {
@@ -121,7 +111,7 @@ pub(crate) fn leave(
 {
     let mut next = from;
     while ends_between(tops, next, below, at) {
-        take_out(status, tops[next].edge, below, at);
+        take_out(status, &tops[next], below, at);
         next += 1;
     }
     next
@@ -158,7 +148,7 @@ fn enter<'a>(
     ensures members { IfOk result (λ fits. (e : RingEdge) → In e status.new
         → (In e status.old) ⊎ (e ≡ item.now)) }
 {
-    let place = search(status, item.edge, at);
+    let place = search(status, item, at);
     if !fits_at(status, place, item.edge, at) {
         return Ok(false);
     }
@@ -216,13 +206,13 @@ fn is_between(left: &Edge, next: &Edge, anchor: &Edge, at: &Point) -> bool
 /// The edge just before an anchor in the status, if the anchor seems to stand there.
 pub(crate) fn left_neighbour<'a>(
     status: &ChunkedList<RingEdge<'a>>,
-    anchor: &Edge,
+    anchor: &RingEdge,
 ) -> Option<RingEdge<'a>>
-    ensures { IfSome result (λ e. HasNeighbour anchor.now
-        (filter (is_within (lower_end anchor.now)) status.now) e) }
+    ensures { IfSome result (λ e. HasNeighbour anchor.now.edge.now
+        (filter (is_within (lower_end anchor.now.edge.now)) status.now) e) }
 {
-    let at = lower_end(anchor);
-    if !spans_height(anchor, &at) {
+    let at = lower_end(anchor.edge);
+    if !spans_height(anchor.edge, &at) {
         return None;
     }
     let place = search(status, anchor, &at);
@@ -231,7 +221,7 @@ pub(crate) fn left_neighbour<'a>(
     }
     let left = status.get(place - 1);
     let next = status.get(place);
-    if is_between(left.edge, next.edge, anchor, &at) {
+    if is_between(left.edge, next.edge, anchor.edge, &at) {
         return Some(left);
     }
     None

@@ -143,7 +143,7 @@ fn settle(
     requires known { AreKnown rings.now known.old.items }
     ensures { AreKnown rings.now known.new.items }
 {
-    match left_neighbour(status, anchor.edge) {
+    match left_neighbour(status, anchor) {
         Some(left) => {
             let encloser = encloser_by(rings, anchors, known, &left, anchor);
             known[anchor.ring] = encloser;

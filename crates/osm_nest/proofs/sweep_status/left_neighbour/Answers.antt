@@ -7,7 +7,7 @@ use Rattle.osm_nest.proofs.sweep_status.left_neighbour.Goals as goal
 
 pub returns-then-is_between : goal.returns-then-is_between
 returns-then-is_between c =
-    let a = c.args.anchor.now in let xs = c.args.status.now in let place = c.search-place.result in
+    let a = c.args.anchor.now.edge.now in let xs = c.args.status.now in let place = c.search-place.result in
     let e = c.get-left.result in let n = c.get-next.result in
     let low = c.lower_end-at.ensures in
     let back : place - 1 + 1 ≡ place = omega arith in
