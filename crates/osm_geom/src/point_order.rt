@@ -29,6 +29,9 @@ pub(crate) fn y_ratio(p: Point) -> Ratio
     }
 }
 
+// Nearly all points are whole: what compares the others is kept out of the callers.
+#[cold]
+#[inline(never)]
 fn compare_by_fractions(p: Point, q: Point) -> Ordering
     ensures { result ≡ by_fractions p q }
 {
@@ -37,18 +40,29 @@ fn compare_by_fractions(p: Point, q: Point) -> Ordering
         .then(x_ratio(p).compare(x_ratio(q)))
 }
 
+/// The order of two points by y, where one of them need not be whole.
+#[cold]
+#[inline(never)]
+fn compare_heights_by_fractions(p: &Point, q: &Point) -> Ordering
+    ensures { result ≡ ordering_of (height_order p.now q.now) }
+{
+    y_ratio(*p).compare(y_ratio(*q))
+}
+
 /// The order of two points by y alone.
+#[inline]
 pub fn compare_heights(p: &Point, q: &Point) -> Ordering
     ensures { result ≡ ordering_of (height_order p.now q.now) }
 {
     match (p, q) {
         (Point::Lattice(p), Point::Lattice(q)) => p.y.cmp(&q.y),
-        _ => y_ratio(*p).compare(y_ratio(*q)),
+        _ => compare_heights_by_fractions(p, q),
     }
 }
 
 /// The order of two points: by y, then by x. `point_order_is_total` says that it is total, and `Equal` for one
 /// point alone.
+#[inline]
 pub fn compare_points(p: Point, q: Point) -> Ordering
     ensures { result ≡ point_cmp p q }
 {
