@@ -1,9 +1,11 @@
 -- What an index by bands answers for a height.
-use Rattle.std.proofs.Common.{All, List, [], arith, get_or, length, ℕ, ℤ, ◌<◌, ◌∙◌, ◌≡◌, ◌≤ℤ◌, ◌<ℤ◌}
+use Rattle.std.proofs.Common.{All, List, [], ap, arith, get_or, length, ℕ, ℤ, ⊎_elim, ◌<◌, ◌≤◌, ◌∙◌, ◌≡◌, ◌≤ℤ◌, ◌<ℤ◌}
 use Rattle.std.specs.List.Sorted.{IsStrictlyIncreasing}
+use Rattle.std.proofs.lemmas.Bool.{cases_lt}
+use Rattle.std.proofs.lemmas.Int.{ints}
 use Rattle.lists.proofs.Items.{same_get}
 use Rattle.osm_bands.specs.declared.bands.Bands.TheInside.{Inside}
-use Rattle.osm_bands.specs.Bands.{HoldsReaching}
+use Rattle.osm_bands.specs.Bands.{HoldsReaching, IsAboveAll, IsBelowAll}
 use Rattle.osm_bands.specs.Rows.{IsIndexed, band_in, row_of}
 use Rattle.osm_bands.proofs.HeightBands.{bands_rise}
 use Rattle.osm_bands.proofs.SpanRows.{none_above, none_below, row_inside, row_rising, row_whole}
@@ -33,3 +35,17 @@ module _ (bands : Inside) (height : ℤ) where
 
   pub nothing_below : IsIndexed bands → height <ℤ bands.scale.low → HoldsReaching bands.spans.items height []
   nothing_below index below = none_below bands.scale bands.spans.items bands.scale.low height [] index.low below
+
+  -- where there are no spans, none is named
+  none_of_none : length bands.spans.items ≤ 0 → row_at bands height ≡ []
+  none_of_none none =
+      let zero : length bands.spans.items ≡ 0 = omega arith in
+      ap (λ n. row_of bands.scale bands.spans.items n (band_in bands.scale height)) zero
+
+  pub none_below_all : IsIndexed bands → bands.scale.low ≤ℤ height → IsBelowAll bands.spans.items height → row_at bands height ≡ []
+  none_below_all index low below =
+      ⊎_elim (λ some. let under = index.lowest height some below in absurd (omega (arith, ints))) none_of_none (cases_lt 0 (length bands.spans.items))
+
+  pub none_above_all : IsIndexed bands → height ≤ℤ bands.scale.high → IsAboveAll bands.spans.items height → row_at bands height ≡ []
+  none_above_all index high above =
+      ⊎_elim (λ some. let over = index.highest height some above in absurd (omega (arith, ints))) none_of_none (cases_lt 0 (length bands.spans.items))

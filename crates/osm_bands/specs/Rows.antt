@@ -4,7 +4,7 @@ use Rattle.std.specs.List.{range_with_len}
 use Rattle.osm_bands.specs.declared.bands.Bands.TheInside.{Inside}
 use Rattle.osm_bands.specs.declared.bands.Span.{Span}
 use Rattle.osm_bands.specs.declared.scale.Scale.{Scale}
-use Rattle.osm_bands.specs.Scale.{band_of}
+use Rattle.osm_bands.specs.Scale.{IsHighest, IsLowest, band_of}
 
 abbrev pub band_in : Scale → ℤ → ℕ
 band_in scale height = band_of scale.low scale.step height
@@ -34,9 +34,11 @@ row_of scale spans n band = filter (λ i. reaches_into scale (get_or spans i no_
 abbrev pub AreRows : Scale → List Span → ℕ → List (List ℕ) → Type 0
 AreRows scale spans n rows = (band : ℕ) → band < length rows → get_or rows band [] ≡ row_of scale spans n band
 
--- no span has a height below or above the bands, and the rows are those of all spans
+-- no span has a height below or above the bands, some span begins at the lowest and some ends at the highest, and the rows are those of all spans
 pub record IsIndexed (bands : Inside) : Type 0 where
   pub low : All (λ span. bands.scale.low ≤ℤ span.low) bands.spans.items
   pub high : All (λ span. span.high ≤ℤ bands.scale.high) bands.spans.items
+  pub lowest : IsLowest bands.spans.items bands.scale.low
+  pub highest : IsHighest bands.spans.items bands.scale.high
   pub all : length bands.rows.items ≡ band_in bands.scale bands.scale.high + 1
   pub each : AreRows bands.scale bands.spans.items (length bands.spans.items) bands.rows.items

@@ -1,7 +1,7 @@
 //! Spans of heights, listed by the bands of heights that they reach into.
-ghost use Rattle.std.specs.Prelude.{◌≡◌, ◌<◌, All, IfOk, length};
+ghost use Rattle.std.specs.Prelude.{◌≡◌, ◌<◌, [], All, IfOk, length};
 ghost use Rattle.std.specs.List.Sorted.{IsStrictlyIncreasing};
-ghost use Rattle.osm_bands.specs.Bands.{HoldsReaching};
+ghost use Rattle.osm_bands.specs.Bands.{HoldsReaching, IsAboveAll, IsBelowAll};
 
 use crate::rows::{Row, rows_of};
 use crate::scale::Scale;
@@ -51,12 +51,14 @@ impl Bands {
 
     /// Indexes of spans in rising order, among them that of every span that reaches the height.
     ///
-    /// Which others, no clause says: they reach into the band of the height, and below and above all spans there are none
-    /// (tests show it).
+    /// Below all spans and above all of them there are none. Which others there are, no clause says: they reach into the band of
+    /// the height.
     pub fn at(&self, height: i64) -> &[usize]
         ensures rising { IsStrictlyIncreasing result.now }
         ensures inside { All (λ i. i < length self.now) result.now }
         ensures whole { HoldsReaching self.now height result.now }
+        ensures below { IsBelowAll self.now height → result.now ≡ [] }
+        ensures above { IsAboveAll self.now height → result.now ≡ [] }
     {
         if self.scale.low <= height && height <= self.scale.high {
             return self.rows[self.scale.band(height)].as_slice();

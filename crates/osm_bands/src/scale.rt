@@ -1,6 +1,7 @@
 //! The bands of heights: how high each is, and in which of them a height is.
-ghost use Rattle.std.specs.Prelude.{◌≡◌, ◌<◌, ◌≤◌, ◌≤ℤ◌, All, length, max};
-ghost use Rattle.osm_bands.specs.Scale.{band_of};
+ghost use Rattle.std.specs.Prelude.{◌≡◌, ◌<◌, ◌≤◌, ◌≤ℤ◌, ◌^◌, ◌-◌, All, length, max, pos, negsuc};
+ghost use Rattle.std.specs.Int.{int_max, int_min};
+ghost use Rattle.osm_bands.specs.Scale.{IsHighest, IsLowest, band_of};
 
 use crate::bands::Span;
 
@@ -25,10 +26,10 @@ struct Extent {
 impl Extent {
     /// The extent with one span more.
     fn and(self, span: &Span) -> Extent
-        ensures low { result.low ≤ℤ self.low }
-        ensures below { result.low ≤ℤ span.now.low }
-        ensures high { self.high ≤ℤ result.high }
-        ensures above { span.now.high ≤ℤ result.high }
+        ensures low { result.low ≡ int_min self.low span.now.low }
+        ensures high { result.high ≡ int_max self.high span.now.high }
+        ensures low_fits { span.now.low ≤ℤ pos (2 ^ 63 - 1) }
+        ensures high_fits { negsuc (2 ^ 63 - 1) ≤ℤ span.now.high }
     {
         Extent {
             low: self.low.min(span.low),
@@ -41,6 +42,8 @@ impl Extent {
 fn extent_of(spans: &[Span]) -> Extent
     ensures low { All (λ span. result.low ≤ℤ span.low) spans.now }
     ensures high { All (λ span. span.high ≤ℤ result.high) spans.now }
+    ensures lowest { IsLowest spans.now result.low }
+    ensures highest { IsHighest spans.now result.high }
 {
     let mut extent = Extent {
         low: i64::MAX,
@@ -61,6 +64,8 @@ impl Scale {
     pub(crate) fn of(spans: &[Span]) -> Scale
         ensures low { All (λ span. result.low ≤ℤ span.low) spans.now }
         ensures high { All (λ span. span.high ≤ℤ result.high) spans.now }
+        ensures lowest { IsLowest spans.now result.low }
+        ensures highest { IsHighest spans.now result.high }
         ensures few { band_of result.low result.step result.high ≤ max 1 (length spans.now) }
     {
         let Extent { low, high, sum } = extent_of(spans);

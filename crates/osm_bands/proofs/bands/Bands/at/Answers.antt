@@ -2,9 +2,9 @@
 use Rattle.std.proofs.Common.{All, List, [], ap, arith, get_or, length, rules, subst, sym, to_z, of_z, w64, ◌<◌, ◌∙◌, ◌≡◌}
 use Rattle.std.specs.List.Sorted.{IsStrictlyIncreasing}
 use Rattle.std.proofs.lemmas.Int.{ints, to_z-of_z}
-use Rattle.osm_bands.specs.Bands.{HoldsReaching}
+use Rattle.osm_bands.specs.Bands.{HoldsReaching, IsAboveAll, IsBelowAll}
 use Rattle.osm_bands.specs.Rows.{band_in}
-use Rattle.osm_bands.proofs.IndexedSpans.{answer_inside, answer_rising, answer_whole, nothing_above, nothing_below, row_at, stands}
+use Rattle.osm_bands.proofs.IndexedSpans.{answer_inside, answer_rising, answer_whole, none_above_all, none_below_all, nothing_above, nothing_below, row_at, stands}
 use Rattle.osm_bands.proofs.bands.Bands.at.Goals as goal
 use Rattle.osm_bands.proofs.bands.Bands.at.Goals.{else-self-height-via-then-self-height+else-height-self, else-self-height-via-else-self-height}
 
@@ -30,6 +30,18 @@ pub returns-then-height-self-clause-whole : goal.returns-then-height-self-clause
 returns-then-height-self-clause-whole c =
     subst (λ spans. HoldsReaching spans c.args.height c.as_slice.result.now) c.self.view_is
     (subst (HoldsReaching c.self.inside.spans.items c.args.height) (sym (is_row c)) (answer_whole c.self.inside c.args.height c.self.invariant))
+
+pub returns-then-height-self-clause-below : goal.returns-then-height-self-clause-below
+returns-then-height-self-clause-below c = λ below.
+    is_row c
+    ∙ none_below_all c.self.inside c.args.height c.self.invariant (omega (arith, ints))
+    (subst (λ spans. IsBelowAll spans c.args.height) (sym c.self.view_is) below)
+
+pub returns-then-height-self-clause-above : goal.returns-then-height-self-clause-above
+returns-then-height-self-clause-above c = λ above.
+    is_row c
+    ∙ none_above_all c.self.inside c.args.height c.self.invariant (omega (arith, ints))
+    (subst (λ spans. IsAboveAll spans c.args.height) (sym c.self.view_is) above)
 
 pub returns-clause-whole : goal.returns-clause-whole
 returns-clause-whole c =
