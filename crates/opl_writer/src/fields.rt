@@ -1,6 +1,7 @@
 //! Fields of a line. Each stands behind a space, and only where something stands in it.
 
-ghost use Rattle.std.specs.Prelude.{◌≡◌, ◌++◌, OnOk};
+ghost use Rattle.std.specs.Prelude.{◌≡◌, ◌++◌, OnOk, OnErr};
+ghost use Rattle.osm_notation.specs.Kept.{Keeps};
 ghost use Rattle.opl_writer.specs.Written.{members_field, place_fields, refs_field, tags_field};
 
 use crate::items::{put_member, put_ref, put_tag};
@@ -11,7 +12,8 @@ use std::alloc::AllocError as OutOfMemory;
 
 /// Adds the field of tags, where there are any.
 pub(crate) fn put_tags(text: &mut Vec<u8>, tags: &Tags) -> Result<(), OutOfMemory>
-    ensures { OnOk result (text.new.items ≡ text.old.items ++ tags_field tags.now) }
+    ensures text { OnOk result (text.new.items ≡ text.old.items ++ tags_field tags.now) }
+    ensures kept { OnErr result (Keeps text.old.items text.new.items) }
 {
     let mut mark: &[u8] = b" T";
     let mut rest = tags.iter();
@@ -25,7 +27,8 @@ pub(crate) fn put_tags(text: &mut Vec<u8>, tags: &Tags) -> Result<(), OutOfMemor
 
 /// Adds the field of references, where there are any.
 pub(crate) fn put_refs(text: &mut Vec<u8>, refs: &Refs) -> Result<(), OutOfMemory>
-    ensures { OnOk result (text.new.items ≡ text.old.items ++ refs_field refs.now) }
+    ensures text { OnOk result (text.new.items ≡ text.old.items ++ refs_field refs.now) }
+    ensures kept { OnErr result (Keeps text.old.items text.new.items) }
 {
     let mut mark: &[u8] = b" N";
     for reference in refs.iter() {
@@ -38,7 +41,8 @@ pub(crate) fn put_refs(text: &mut Vec<u8>, refs: &Refs) -> Result<(), OutOfMemor
 
 /// Adds the field of members, where there are any.
 pub(crate) fn put_members(text: &mut Vec<u8>, members: &Members) -> Result<(), OutOfMemory>
-    ensures { OnOk result (text.new.items ≡ text.old.items ++ members_field members.now) }
+    ensures text { OnOk result (text.new.items ≡ text.old.items ++ members_field members.now) }
+    ensures kept { OnErr result (Keeps text.old.items text.new.items) }
 {
     let mut mark: &[u8] = b" M";
     for member in members.as_slice() {
@@ -51,7 +55,8 @@ pub(crate) fn put_members(text: &mut Vec<u8>, members: &Members) -> Result<(), O
 
 /// Adds the two fields of a location, where there is one.
 pub(crate) fn put_place(text: &mut Vec<u8>, place: Option<Loc>) -> Result<(), OutOfMemory>
-    ensures { OnOk result (text.new.items ≡ text.old.items ++ place_fields place) }
+    ensures text { OnOk result (text.new.items ≡ text.old.items ++ place_fields place) }
+    ensures kept { OnErr result (Keeps text.old.items text.new.items) }
 {
     let Some(place) = place else {
         return Ok(());

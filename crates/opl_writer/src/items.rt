@@ -1,7 +1,8 @@
 //! Items of a field: tags, references and members.
 
-ghost use Rattle.std.specs.Prelude.{◌≡◌, ◌++◌, OnOk};
+ghost use Rattle.std.specs.Prelude.{◌≡◌, ◌++◌, OnOk, OnErr};
 ghost use Rattle.opl_reader.specs.Seen.{tag_seen};
+ghost use Rattle.osm_notation.specs.Kept.{Keeps};
 ghost use Rattle.opl_writer.specs.Written.{kind_letter, member_text, own_place_text, ref_text, tag_text};
 
 use opl_reader::{Member, ObjectKind, Ref, TagRef};
@@ -11,7 +12,8 @@ use std::alloc::AllocError as OutOfMemory;
 
 /// Adds a tag: its key, an equals sign and its value.
 pub(crate) fn put_tag(text: &mut Vec<u8>, tag: &TagRef<'_>) -> Result<(), OutOfMemory>
-    ensures { OnOk result (text.new.items ≡ text.old.items ++ tag_text (tag_seen tag.now)) }
+    ensures text { OnOk result (text.new.items ≡ text.old.items ++ tag_text (tag_seen tag.now)) }
+    ensures kept { OnErr result (Keeps text.old.items text.new.items) }
 {
     put_written(text, tag.key)?;
     text.push(b'=')?;
@@ -20,7 +22,8 @@ pub(crate) fn put_tag(text: &mut Vec<u8>, tag: &TagRef<'_>) -> Result<(), OutOfM
 
 /// Adds the location that a reference carries, where it carries one.
 fn put_own_place(text: &mut Vec<u8>, at: Option<Loc>) -> Result<(), OutOfMemory>
-    ensures { OnOk result (text.new.items ≡ text.old.items ++ own_place_text at) }
+    ensures text { OnOk result (text.new.items ≡ text.old.items ++ own_place_text at) }
+    ensures kept { OnErr result (Keeps text.old.items text.new.items) }
 {
     let Some(at) = at else {
         return Ok(());
@@ -33,7 +36,8 @@ fn put_own_place(text: &mut Vec<u8>, at: Option<Loc>) -> Result<(), OutOfMemory>
 
 /// Adds a reference: the letter of nodes, the node's id and the reference's own location.
 pub(crate) fn put_ref(text: &mut Vec<u8>, reference: Ref) -> Result<(), OutOfMemory>
-    ensures { OnOk result (text.new.items ≡ text.old.items ++ ref_text reference) }
+    ensures text { OnOk result (text.new.items ≡ text.old.items ++ ref_text reference) }
+    ensures kept { OnErr result (Keeps text.old.items text.new.items) }
 {
     text.push(b'n')?;
     put_number(text, reference.node)?;
@@ -53,7 +57,8 @@ fn letter(kind: ObjectKind) -> &'static [u8]
 
 /// Adds a member: its letter, its id, an at sign and its role, which may be empty.
 pub(crate) fn put_member(text: &mut Vec<u8>, member: &Member) -> Result<(), OutOfMemory>
-    ensures { OnOk result (text.new.items ≡ text.old.items ++ member_text member.now) }
+    ensures text { OnOk result (text.new.items ≡ text.old.items ++ member_text member.now) }
+    ensures kept { OnErr result (Keeps text.old.items text.new.items) }
 {
     text.extend_from_slice(letter(member.kind))?;
     put_number(text, member.id)?;

@@ -1,6 +1,7 @@
 //! Lines of objects, each ended by LF.
 
-ghost use Rattle.std.specs.Prelude.{◌≡◌, ◌++◌, OnOk};
+ghost use Rattle.std.specs.Prelude.{◌≡◌, ◌++◌, OnOk, OnErr};
+ghost use Rattle.osm_notation.specs.Kept.{Keeps};
 ghost use Rattle.opl_writer.specs.Written.{ended, node_line, relation_line, way_line};
 
 use crate::fields::{put_members, put_place, put_refs, put_tags};
@@ -10,14 +11,16 @@ use osm_notation::put_number;
 use std::alloc::AllocError as OutOfMemory;
 
 /// Adds the line of a node: `n` and its id, ` T` and its tags where it has any, ` x`, the longitude, ` y` and the
-/// latitude where it has a location, and LF. The error is want of memory: the text may then have a part of the line.
+/// latitude where it has a location, and LF. The error is want of memory: what was there still stands in front, and a part
+/// of the line may stand behind it.
 pub fn put_node(
     text: &mut Vec<u8>,
     id: i64,
     tags: &Tags,
     place: Option<Loc>,
 ) -> Result<(), OutOfMemory>
-    ensures { OnOk result (text.new.items ≡ text.old.items ++ ended (node_line id tags.now place)) }
+    ensures text { OnOk result (text.new.items ≡ text.old.items ++ ended (node_line id tags.now place)) }
+    ensures kept { OnErr result (Keeps text.old.items text.new.items) }
 {
     text.push(b'n')?;
     put_number(text, id)?;
@@ -28,10 +31,12 @@ pub fn put_node(
 }
 
 /// Adds the line of a way: `w` and its id, ` T` and its tags where it has any, ` N` and its references where it has
-/// any, and LF. A reference that carries a location keeps it. The error is want of memory: the text may then have a part of the line.
+/// any, and LF. A reference that carries a location keeps it. The error is want of memory: what was there still stands in
+/// front, and a part of the line may stand behind it.
 pub fn put_way(text: &mut Vec<u8>, id: i64, tags: &Tags, refs: &Refs) -> Result<(), OutOfMemory>
-    ensures { OnOk result (text.new.items
+    ensures text { OnOk result (text.new.items
         ≡ text.old.items ++ ended (way_line id tags.now refs.now)) }
+    ensures kept { OnErr result (Keeps text.old.items text.new.items) }
 {
     text.push(b'w')?;
     put_number(text, id)?;
@@ -42,15 +47,16 @@ pub fn put_way(text: &mut Vec<u8>, id: i64, tags: &Tags, refs: &Refs) -> Result<
 }
 
 /// Adds the line of a relation: `r` and its id, ` T` and its tags where it has any, ` M` and its members where it has
-/// any, and LF. The error is want of memory: the text may then have a part of the line.
+/// any, and LF. The error is want of memory: what was there still stands in front, and a part of the line may stand behind it.
 pub fn put_relation(
     text: &mut Vec<u8>,
     id: i64,
     tags: &Tags,
     members: &Members,
 ) -> Result<(), OutOfMemory>
-    ensures { OnOk result (text.new.items
+    ensures text { OnOk result (text.new.items
         ≡ text.old.items ++ ended (relation_line id tags.now members.now)) }
+    ensures kept { OnErr result (Keeps text.old.items text.new.items) }
 {
     text.push(b'r')?;
     put_number(text, id)?;

@@ -1,3 +1,4 @@
 mod DecimalLemmas
+pub mod KeptTexts
 pub mod RoundedRange
 mod StringLemmas

@@ -1,3 +1,4 @@
 pub mod Coordinates
 pub mod Decimal
+pub mod Kept
 pub mod Written

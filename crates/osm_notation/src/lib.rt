@@ -1,6 +1,6 @@
 //! How numbers, points and strings are spelled: decimals of coordinates, whole numbers, written strings.
 //!
-//! What adds to a text may have added a part of it where memory runs out.
+//! What adds to a text may have added a part where memory runs out: what was there still stands in front.
 #![tactic(auto)]
 
 mod coordinates;

@@ -1,0 +1,6 @@
+-- What a text has where memory ran out before all was added to it.
+use Rattle.std.specs.Prelude.{ℕ, List, length, take, ◌≡◌}
+
+-- what was there still stands in front
+abbrev pub Keeps : List ℕ → List ℕ → Type 0
+Keeps before now = take (length before) now ≡ before
