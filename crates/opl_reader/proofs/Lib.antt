@@ -21,6 +21,7 @@ pub mod FaultLaws
 pub mod AnswerLaws
 pub mod KeyLaws
 pub mod PackedLemmas
+pub mod CompactLemmas
 pub mod HeldLemmas
 pub mod LineSplits
 pub mod FeedSteps

@@ -1,6 +1,6 @@
 -- Coordinates: a number of units in range, and the decimal that spells it.
-use Rattle.std.proofs.Common.{◌≡◌, ℕ, ◌≤◌, Bool, true, false, leb, List, [], ◌∷◌, length, Some, None, ℤ, pos, nat_abs, ◌≤ℤ◌, refl, sym, ap, subst, ◌∙◌, arith, rules, w32, to_z, of_z}
-use Rattle.std.specs.Prelude.{option_and_then, unsigned_abs, FitsSigned}
+use Rattle.std.proofs.Common.{◌≡◌, ℕ, ◌≤◌, Bool, true, false, leb, List, [], ◌∷◌, length, Option, Some, None, ℤ, pos, nat_abs, ◌≤ℤ◌, refl, sym, ap, subst, ◌∙◌, arith, rules, w32, to_z, of_z}
+use Rattle.std.specs.Prelude.{option_and_then, unsigned_abs, FitsSigned, IsSome, IfSome, ◌↔◌}
 use Rattle.std.proofs.lemmas.Bool.{le-leb, leb-true}
 use Rattle.std.proofs.lemmas.Option.{none-some}
 use Rattle.std.proofs.Props.{props}
@@ -104,3 +104,21 @@ longitude-held l = to_z-of_z w32 l.units (longitude_fits l.units l.in_range)
 
 pub latitude-held : (l : Latitude) → to_z w32 (of_z w32 l.units) ≡ l.units
 latitude-held l = to_z-of_z w32 l.units (latitude_fits l.units l.in_range)
+
+-- ---- of two numbers
+
+none_placed : (x y : ℤ) (l : Option Longitude) (m : Option Latitude) → longitude x ≡ l → latitude y ≡ m → (IsLongitude x → IsLatitude y → ⊥) → None ≡ place_of l m
+none_placed x y None m e f outside = refl
+none_placed x y (Some l) None e f outside = refl
+none_placed x y (Some l) (Some m) e f outside = absurd (outside (subst IsLongitude (sym (longitude-units x l e)) l.in_range) (subst IsLatitude (sym (latitude-units y m f)) m.in_range))
+
+pub placed : (x y : ℤ) (r : Option Loc) → (IsSome r ↔ (IsLongitude x × IsLatitude y)) → IfSome r (λ p. (p.x ≡ x) × (p.y ≡ y)) → r ≡ place_of (longitude x) (latitude y)
+placed x y (Some at) valid value =
+    let l : Longitude = record { units = at.x; in_range = at.x_in } in
+    let m : Latitude = record { units = at.y; in_range = at.y_in } in
+    place-at l m at refl refl ∙ sym (ap (λ (k : Option Longitude). place_of k (Some m)) (longitude-at x l value.0)) ∙ sym (ap (place_of (longitude x)) (latitude-at y m value.1))
+placed x y None valid value = none_placed x y (longitude x) (latitude y) refl refl (λ a b. let some : IsSome {T = Loc} None = valid.1 (a, b) in absurd cc)
+
+-- a location's own coordinates make it
+pub own_place : (at : Loc) → place_of (longitude at.x) (latitude at.y) ≡ Some at
+own_place at = sym (placed at.x at.y (Some at) (λ _. (at.x_in, at.y_in), λ _. refl) (refl, refl))

@@ -17,6 +17,7 @@ pub mod Faults
 pub mod OneAnswer
 pub mod Steps
 pub mod Packed
+pub mod Compact
 pub mod Held
 pub mod Seen
 pub mod Lines

@@ -221,12 +221,14 @@ pub fn read_refs(alloc: Global, text: &str, place: u64) -> Result<Refs, LineErro
     ensures { Gives result (refs_at place text.now) }
 {
     let mut refs = Refs::with_capacity(alloc, item_room(text))?;
+    let mut first = None;
     let mut at = place;
     let mut left = all_items(text);
     while let Some(rest) = left {
         let (item, more) = next_item(rest);
         let reference = read_ref(item, at)?;
-        refs.push(reference)?;
+        refs.push_behind(first, reference)?;
+        first = Some(first.unwrap_or(reference));
         at += item.len() as u64 + 1;
         left = more;
     }

@@ -5,6 +5,7 @@
 #![tactic(auto)]
 
 mod chunking;
+mod compact;
 mod content;
 mod coordinate;
 mod cut;

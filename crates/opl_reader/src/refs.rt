@@ -1,130 +1,151 @@
-//! The references of a way, held as the ids of their nodes and, where some reference carries its own, locations.
+//! The references of a way, held in one block of bytes: each by how it differs from the first of them.
 
-ghost use Rattle.std.specs.Prelude.{◌≡◌, ◌≤◌, ◌-◌, ◌++◌, ◌∷◌, ◌==◌, [], length, replicate, slice_get, Some, None, IfOk, OnOk, OnErr, MatchOption};
+ghost use Rattle.std.specs.Prelude.{◌≡◌, ◌++◌, ◌∷◌, ◌==◌, ◌+◌, ◌-◌, [], length, take, slice_get, IfOk, OnOk, OnErr};
+ghost use Rattle.opl_reader.specs.Coordinates.{place_of};
+ghost use Rattle.opl_reader.specs.CoordinateReading.{longitude, latitude};
+ghost use Rattle.opl_reader.specs.Compact.{difference};
+ghost use Rattle.opl_reader.specs.Held.{node_from, place_from, x_from, y_from, place_bytes, ref_bytes, first_place, after_place, first_ref, after_ref};
 
+use crate::compact::{difference, first_number, moved, push_number};
 use crate::object::Ref;
 use osm_lattice::Loc;
 use std::alloc::{AllocError as OutOfMemory, Global};
 use std::marker::Model;
 
-/// The places of the first references. Those behind have none. Where no reference has one, this takes no memory.
-#[derive(Debug, Drop)]
-struct Places {
-    held: Option<Box<Vec<Option<Loc>>>>,
-}
-
-impl Model for Places {
-    ghost use Rattle.std.specs.Prelude.{List, Option, [], option_map};
-    ghost use Rattle.std.specs.Option.{unwrap_or};
-    ghost use Rattle.osm_lattice.specs.declared.loc.Loc.{Loc};
-
-    ghost Value = { List (Option Loc) };
-
-    ghost view = { λ p. unwrap_or (option_map (λ b. b.value.items) p.held) [] };
-}
-
-/// The references of a way, in order: 8 bytes each where none of them carries its own location.
+/// The references of a way, in order. Each takes two bytes or so where its id is near that of the first, and some five
+/// where it carries a location near that of the first; the first itself takes up to some fifteen.
 #[derive(Debug, Drop)]
 pub struct Refs {
-    nodes: Vec<i64>,
-    places: Places,
+    bytes: Vec<u8>,
 }
 
 impl Model for Refs {
-    ghost use Rattle.std.specs.Prelude.{List, ◌≤◌, length};
+    ghost use Rattle.std.specs.Prelude.{List, None};
     ghost use Rattle.opl_reader.specs.declared.object.Ref.{Ref};
-    ghost use Rattle.opl_reader.specs.Held.{refs_in};
+    ghost use Rattle.opl_reader.specs.Held.{refs_behind, AreRefs};
 
     ghost Value = { List Ref };
 
-    ghost view = { λ r. refs_in r.nodes.items r.places };
+    ghost view = { λ r. refs_behind None r.bytes.items };
 
-    ghost invariant = { λ r. length r.places ≤ length r.nodes.items };
+    ghost invariant = { λ r. AreRefs r.bytes.items };
 }
 
 /// References, gone through one by one.
 #[derive(Drop)]
 pub struct RefIter<'a> {
-    nodes: &'a [i64],
-    places: &'a [Option<Loc>],
+    bytes: &'a [u8],
+    // The first of all, once it is gone through.
+    first: Option<Ref>,
 }
 
 impl<'a> Model for RefIter<'a> {
     ghost use Rattle.std.specs.Prelude.{List};
     ghost use Rattle.opl_reader.specs.declared.object.Ref.{Ref};
-    ghost use Rattle.opl_reader.specs.Held.{refs_in};
+    ghost use Rattle.opl_reader.specs.Held.{refs_behind};
 
     ghost Value = { List Ref };
 
-    ghost view = { λ r. refs_in r.nodes.now r.places.now };
+    ghost view = { λ r. refs_behind r.first r.bytes.now };
 }
 
-/// A copy of the item of this index.
-fn item_at<T: Copy>(items: &[T], index: usize) -> Option<T>
-    ensures { result ≡ slice_get items.now index }
+/// The id that ids are compared with.
+fn node_from(first: Option<Ref>) -> i64
+    ensures { result ≡ node_from first }
 {
-    items.get(index).copied()
-}
-
-/// Adds a place for the reference of this index, behind those that have none. After an `Err` the places are unchanged.
-fn put_at(places: &mut Vec<Option<Loc>>, index: usize, at: Loc) -> Result<(), OutOfMemory>
-    requires { length places.old.items ≤ index }
-    ensures ok { OnOk result (places.new.items ≡ places.old.items
-        ++ replicate (index - length places.old.items) None ++ Some at ∷ []) }
-    ensures err { OnErr result (places.new.items ≡ places.old.items) }
-{
-    let len = places.len();
-    places.resize(index, None)?;
-    if places.push(Some(at)).is_err() {
-        places.truncate(len);
-        return Err(OutOfMemory);
+    match first {
+        None => 0,
+        Some(first) => first.node,
     }
+}
+
+/// The location that locations are compared with.
+fn place_from(first: Option<Ref>) -> Option<Loc>
+    ensures { result ≡ place_from first }
+{
+    match first {
+        None => None,
+        Some(first) => first.at,
+    }
+}
+
+/// The coordinates that those of locations are compared with.
+fn coordinates_from(from: Option<Loc>) -> (i64, i64)
+    ensures x { result.0 ≡ x_from from }
+    ensures y { result.1 ≡ y_from from }
+{
+    match from {
+        None => (0, 0),
+        Some(at) => (i64::from(at.x), i64::from(at.y)),
+    }
+}
+
+/// The location with these coordinates, if they are in range.
+fn place_at(x: i64, y: i64) -> Option<Loc>
+    ensures { result ≡ place_of (longitude x) (latitude y) }
+{
+    Loc::new(x, y)
+}
+
+/// By how much x differs, and one more, and by how much y does.
+fn differences(from: Option<Loc>, at: Loc) -> (u64, u64)
+    ensures along { result.0 ≡ 1 + difference (x_from from) at.x }
+    ensures up { result.1 ≡ difference (y_from from) at.y }
+{
+    let (x, y) = coordinates_from(from);
+    let along = difference(x, i64::from(at.x));
+    let up = difference(y, i64::from(at.y));
+    (1 + along, up)
+}
+
+/// Adds a location, or that there is none. After an `Err` a part of it may have been added.
+fn push_place(bytes: &mut Vec<u8>, from: Option<Loc>, at: Option<Loc>) -> Result<(), OutOfMemory>
+    ensures ok { OnOk result (bytes.new.items ≡ bytes.old.items ++ place_bytes from at) }
+    ensures err { OnErr result (take (length bytes.old.items) bytes.new.items ≡ bytes.old.items) }
+{
+    let Some(at) = at else {
+        return push_number(bytes, 0);
+    };
+    let (along, up) = differences(from, at);
+    push_number(bytes, along)?;
+    push_number(bytes, up)?;
     Ok(())
 }
 
-impl Places {
-    /// No places.
-    fn none() -> Places
-        ensures { result ≡ [] }
-    {
-        Places { held: None }
-    }
+/// Adds a reference. After an `Err` a part of it may have been added.
+fn push_ref(bytes: &mut Vec<u8>, first: Option<Ref>, reference: Ref) -> Result<(), OutOfMemory>
+    ensures ok { OnOk result (bytes.new.items ≡ bytes.old.items ++ ref_bytes first reference) }
+    ensures err { OnErr result (take (length bytes.old.items) bytes.new.items ≡ bytes.old.items) }
+{
+    push_number(bytes, difference(node_from(first), reference.node))?;
+    push_place(bytes, place_from(first), reference.at)?;
+    Ok(())
+}
 
-    /// Adds a place for the reference of this index, behind those that have none. The first place makes room for so
-    /// many references. After an `Err` the places are unchanged.
-    fn put(&mut self, alloc: Global, room: usize, index: usize, at: Loc) -> Result<(), OutOfMemory>
-        requires { length self.old ≤ index }
-        ensures ok { OnOk result (self.new ≡ self.old
-            ++ replicate (index - length self.old) None ++ Some at ∷ []) }
-        ensures err { OnErr result (self.new ≡ self.old) }
-    {
-        if let Some(held) = &mut self.held {
-            return put_at(held, index, at);
-        }
-        let mut held = Vec::with_capacity(alloc, room)?;
-        put_at(&mut held, index, at)?;
-        self.held = Some(Box::new(alloc, held)?);
-        Ok(())
+/// The location in front, and what stands behind it.
+#[tactic(auto, unfolding(crate::specs::Held::first_place, crate::specs::Held::after_place))]
+fn first_place(from: Option<Loc>, bytes: &[u8]) -> (Option<Loc>, &[u8])
+    ensures place { result.0 ≡ first_place from bytes.now }
+    ensures behind { result.1.now ≡ after_place bytes.now }
+{
+    let (along, behind) = first_number(bytes);
+    if along == 0 {
+        return (None, behind);
     }
+    let (x, y) = coordinates_from(from);
+    let (up, behind) = first_number(behind);
+    (place_at(moved(x, along - 1), moved(y, up)), behind)
+}
 
-    /// Gives up the room that isn't used.
-    fn shrink_to_fit(&mut self)
-        ensures { self.new ≡ self.old }
-    {
-        if let Some(held) = &mut self.held {
-            held.shrink_to_fit();
-        }
-    }
-
-    /// The places.
-    fn as_slice(&self) -> &[Option<Loc>]
-        ensures { result.now ≡ self.now }
-    {
-        match &self.held {
-            None => &[],
-            Some(held) => held.as_slice(),
-        }
-    }
+/// The reference in front, and what stands behind it.
+fn first_ref(first: Option<Ref>, bytes: &[u8]) -> (Ref, &[u8])
+    ensures reference { result.0 ≡ first_ref first bytes.now }
+    ensures behind { result.1.now ≡ after_ref bytes.now }
+{
+    let (by, behind) = first_number(bytes);
+    let (at, behind) = first_place(place_from(first), behind);
+    let node = moved(node_from(first), by);
+    (Ref { node, at }, behind)
 }
 
 impl Refs {
@@ -133,18 +154,16 @@ impl Refs {
         ensures { result ≡ [] }
     {
         Refs {
-            nodes: Vec::new(alloc),
-            places: Places::none(),
+            bytes: Vec::new(alloc),
         }
     }
 
-    /// The empty list, with room for so many references.
+    /// The empty list, with room for so many references whose ids are near each other.
     pub fn with_capacity(alloc: Global, room: usize) -> Result<Refs, OutOfMemory>
         ensures { IfOk result (λ refs. refs ≡ []) }
     {
         Ok(Refs {
-            nodes: Vec::with_capacity(alloc, room)?,
-            places: Places::none(),
+            bytes: Vec::with_capacity(alloc, room.saturating_mul(2))?,
         })
     }
 
@@ -152,8 +171,7 @@ impl Refs {
     pub(crate) fn shrink_to_fit(&mut self)
         ensures { self.new ≡ self.old }
     {
-        self.nodes.shrink_to_fit();
-        self.places.shrink_to_fit();
+        self.bytes.shrink_to_fit();
     }
 
     /// Adds a reference at the end. After an `Err` the list is unchanged.
@@ -161,56 +179,78 @@ impl Refs {
         ensures ok { OnOk result (self.new ≡ self.old ++ reference ∷ []) }
         ensures err { OnErr result (self.new ≡ self.old) }
     {
-        let index = self.nodes.len();
-        self.nodes.push(reference.node)?;
-        let Some(at) = reference.at else {
-            return Ok(());
-        };
-        let alloc = *self.nodes.allocator();
-        let room = self.nodes.capacity();
-        if let Err(e) = self.places.put(alloc, room, index, at) {
-            self.nodes.pop();
-            return Err(e);
+        let first = self.first();
+        self.push_behind(first, reference)
+    }
+
+    /// The same where the first reference is known, so that it isn't read again for each.
+    pub(crate) fn push_behind(
+        &mut self,
+        first: Option<Ref>,
+        reference: Ref,
+    ) -> Result<(), OutOfMemory>
+        requires { first ≡ slice_get self.old 0 }
+        ensures ok { OnOk result (self.new ≡ self.old ++ reference ∷ []) }
+        ensures err { OnErr result (self.new ≡ self.old) }
+    {
+        let len = self.bytes.len();
+        if push_ref(&mut self.bytes, first, reference).is_err() {
+            self.bytes.truncate(len);
+            return Err(OutOfMemory);
         }
         Ok(())
     }
 
-    /// How many references there are.
+    /// How many references there are. It goes through all of them.
     pub fn len(&self) -> usize
         ensures { result ≡ length self.now }
     {
-        self.nodes.len()
+        let mut len = 0;
+        let bytes = self.bytes.as_slice();
+        let mut rest = RefIter { bytes, first: None };
+        while rest.next().is_some() {
+            len += 1;
+        }
+        len
     }
 
     /// Whether there are none.
     pub fn is_empty(&self) -> bool
         ensures { result ≡ (length self.now == 0) }
     {
-        self.nodes.is_empty()
+        self.bytes.is_empty()
     }
 
-    /// The reference of this index, from 0. None where there are fewer.
+    /// The reference of this index, from 0. None where there are fewer. It goes through those before it.
     pub fn get(&self, index: usize) -> Option<Ref>
         ensures { result ≡ slice_get self.now index }
     {
-        let node = item_at(self.nodes.as_slice(), index)?;
-        let at = item_at(self.places.as_slice(), index).flatten();
-        Some(Ref { node, at })
+        let mut rest = self.iter();
+        let mut before = index;
+        while before > 0 {
+            rest.next()?;
+            before -= 1;
+        }
+        rest.next()
     }
 
     /// The first reference. None where there is none.
     pub fn first(&self) -> Option<Ref>
         ensures { result ≡ slice_get self.now 0 }
     {
-        self.get(0)
+        self.iter().next()
     }
 
-    /// The last reference. None where there is none.
+    /// The last reference. None where there is none. It goes through all of them.
     pub fn last(&self) -> Option<Ref>
         ensures { result ≡ slice_get self.now (length self.now - 1) }
     {
-        let last = self.len().checked_sub(1)?;
-        self.get(last)
+        let mut last = None;
+        let mut rest = self.iter();
+        while let Some(reference) = rest.next() {
+            last = Some(reference);
+        }
+        last
     }
 
     /// The references, to be gone through. It takes no memory.
@@ -218,20 +258,9 @@ impl Refs {
         ensures { result ≡ self.now }
     {
         RefIter {
-            nodes: self.nodes.as_slice(),
-            places: self.places.as_slice(),
+            bytes: self.bytes.as_slice(),
+            first: None,
         }
-    }
-}
-
-/// The first place and those behind it. There may be none left.
-fn first_place(places: &[Option<Loc>]) -> (Option<Loc>, &[Option<Loc>])
-    ensures { MatchOption (slice_get places.now 0) ((result.0 ≡ None) × (result.1.now ≡ []))
-        (λ at. places.now ≡ result.0 ∷ result.1.now) }
-{
-    match places {
-        [] => (None, &[]),
-        [at, more @ ..] => (*at, more),
     }
 }
 
@@ -246,10 +275,12 @@ impl<'a> Iterator for RefIter<'a> {
 
     /// The next reference. None exactly where none is left.
     fn next(&mut self) -> Option<Ref> {
-        let (node, nodes) = self.nodes.split_first()?;
-        let (at, places) = first_place(self.places);
-        self.nodes = nodes;
-        self.places = places;
-        Some(Ref { node: *node, at })
+        if self.bytes.is_empty() {
+            return None;
+        }
+        let (reference, behind) = first_ref(self.first, self.bytes);
+        self.first = Some(self.first.unwrap_or(reference));
+        self.bytes = behind;
+        Some(reference)
     }
 }

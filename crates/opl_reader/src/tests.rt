@@ -236,6 +236,19 @@ fn one_megabyte_in_one_line(rt: HostRuntime) {
     }
 }
 
+/// Checks references by each of the ways to ask for them.
+fn compare(rt: &impl std::process::Abort, refs: &Refs, expected: &[Ref]) {
+    assert_eq!(rt; refs.len(), expected.len());
+    assert_eq!(rt; refs.is_empty(), expected.is_empty());
+    assert_eq!(rt; refs.first(), expected.first().copied());
+    assert_eq!(rt; refs.last(), expected.last().copied());
+    for (index, reference) in refs.iter().enumerate() {
+        assert_eq!(rt; Some(reference), expected.get(index).copied());
+        assert_eq!(rt; refs.get(index), Some(reference));
+    }
+    assert_eq!(rt; refs.get(expected.len()), None);
+}
+
 /// Checks the references of a line, which is that of a way.
 fn references(
     rt: &impl std::process::Abort,
@@ -244,18 +257,36 @@ fn references(
     expected: &[Ref],
 ) {
     match read_line(alloc, line) {
-        Ok(Some(Object::Way { refs, .. })) => {
-            assert_eq!(rt; refs.len(), expected.len());
-            assert_eq!(rt; refs.is_empty(), expected.is_empty());
-            assert_eq!(rt; refs.first(), expected.first().copied());
-            assert_eq!(rt; refs.last(), expected.last().copied());
-            for (index, reference) in refs.iter().enumerate() {
-                assert_eq!(rt; Some(reference), expected.get(index).copied());
-                assert_eq!(rt; refs.get(index), Some(reference));
-            }
-            assert_eq!(rt; refs.get(expected.len()), None);
-        }
+        Ok(Some(Object::Way { refs, .. })) => compare(rt, &refs, expected),
         _other => assert!(rt; false),
+    }
+}
+
+#[test]
+fn references_far_apart(rt: HostRuntime) {
+    let west = Loc::new(-1_800_000_000, -900_000_000);
+    let east = Loc::new(1_800_000_000, 900_000_000);
+    let all = [
+        (i64::MIN, None),
+        (i64::MAX, west),
+        (0, east),
+        (-1, None),
+        (63, Loc::new(0, 0)),
+        (64, Loc::new(63, -64)),
+        (i64::MAX, Loc::new(-65, 64)),
+        (i64::MIN, Loc::new(8_191, -8_192)),
+        (8_192, None),
+        (8_191, west),
+    ];
+    // Each of them is the first once.
+    for start in 0..all.len() {
+        let mut refs = Refs::new(rt.alloc());
+        let mut expected = Vec::new(rt.alloc());
+        for (node, at) in all[start..].iter().chain(&all[..start]).copied() {
+            refs.push(Ref { node, at }).expect(&rt, "memory");
+            expected.push(Ref { node, at }).expect(&rt, "memory");
+            compare(&rt, &refs, expected.as_slice());
+        }
     }
 }
 

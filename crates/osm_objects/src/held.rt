@@ -1,6 +1,6 @@
 //! What the store keeps of an object, beside its kind and id.
 
-ghost use Rattle.std.specs.Prelude.{◌≡◌, [], ℤ, nat_lt, length, IsTrue, IfOk, option_map};
+ghost use Rattle.std.specs.Prelude.{◌≡◌, [], ℤ, nat_lt, nat_le, length, IsTrue, IfOk, option_map};
 ghost use Rattle.osm_objects.specs.Object.{is_live, id_of, kind_of};
 ghost use Rattle.osm_objects.specs.Objects.{place_in, node_in, way_in, relation_in};
 ghost use Rattle.osm_objects.specs.Candidates.{is_closed, node_named, may_have_area, area_tags, is_candidate};
@@ -94,7 +94,7 @@ impl Held {
         match self {
             Held::Plain(_) | Held::Tagged(_) => false,
             Held::Way(way) => {
-                way.refs.len() >= 4 && is_closed(&way.refs) && choice.is_area_way(&way.tags)
+                has_four(&way.refs) && is_closed(&way.refs) && choice.is_area_way(&way.tags)
             }
             Held::Relation(relation) => {
                 is_tagged(&relation.tags, "type", "multipolygon")
@@ -218,6 +218,13 @@ fn node_named(reference: Option<Ref>) -> Option<i64>
     ensures { result ≡ node_named reference }
 {
     reference.map(|reference| reference.node)
+}
+
+/// Whether there are four references or more. These few are gone through, and not all.
+fn has_four(refs: &Refs) -> bool
+    ensures { result ≡ nat_le 4 (length refs.now) }
+{
+    refs.get(3).is_some()
 }
 
 /// Whether there is a reference, and the last is to the node of the first. Their own locations do not matter.

@@ -1,0 +1,38 @@
+-- Numbers below 2^64 in few bytes where they are small, and signed numbers by how they differ from others.
+use Rattle.std.specs.Prelude.{ℕ, zero, suc, ◌+◌, ◌-◌, ◌*◌, ◌/◌, ◌%◌, ◌^◌, ◌==◌, nat_lt, if◌then◌else◌, List, [], ◌∷◌, ℤ}
+use Rattle.std.specs.Int.{w64, cast_unsigned, cast_signed}
+
+-- The digits in base 128, the lowest first, each but the last with 128 added. No more than so many stand before the last.
+abbrev pub digits_within : ℕ → ℕ → List ℕ
+digits_within zero n = n ∷ []
+digits_within (suc more) n = if nat_lt n 128 then n ∷ [] else (128 + n % 128) ∷ digits_within more (n / 128)
+
+-- a number by its digits, of which there are never more than it
+unfoldable pub number_bytes : ℕ → List ℕ
+number_bytes n = digits_within n n
+
+-- the number that the digits in front tell, in 64 bits
+abbrev pub number_in : List ℕ → ℕ
+number_in [] = 0
+number_in (byte ∷ bytes) = if nat_lt byte 128 then byte else (number_in bytes * 128 % 2 ^ 64 + (byte - 128)) % 2 ^ 64
+
+-- what stands behind them
+abbrev pub after_number : List ℕ → List ℕ
+after_number [] = []
+after_number (byte ∷ bytes) = if nat_lt byte 128 then bytes else after_number bytes
+
+-- The bits of a signed number, folded so that small numbers of either sign are small: 0, -1, 1, -2, 2 and so on.
+unfoldable pub folded : ℕ → ℕ
+folded bits = if nat_lt bits (2 ^ 63) then 2 * bits else 2 * (2 ^ 64 - 1 - bits) + 1
+
+-- the bits that were folded
+unfoldable pub unfolded : ℕ → ℕ
+unfolded n = if n % 2 == 0 then n / 2 else 2 ^ 64 - 1 - n / 2
+
+-- how the second number differs from the first
+unfoldable pub difference : ℤ → ℤ → ℕ
+difference from to = folded ((cast_unsigned w64 to + (2 ^ 64 - cast_unsigned w64 from)) % 2 ^ 64)
+
+-- the number that differs so from this one
+unfoldable pub moved : ℤ → ℕ → ℤ
+moved from by = cast_signed w64 ((cast_unsigned w64 from + unfolded by) % 2 ^ 64)
