@@ -170,8 +170,8 @@ pub fn read_tags(alloc: Global, text: &str, place: u64) -> Result<Tags, LineErro
         at += item.len() as u64 + 1;
         left = more;
     }
-    tags.shrink_to_fit();
-    Ok(tags)
+    // A block that is made smaller may stay as large as it was, so what is held is a copy.
+    Ok(tags.copy(alloc)?)
 }
 
 /// What stands behind the x of an own location: a longitude or nothing, y, a latitude or nothing.
@@ -232,8 +232,8 @@ pub fn read_refs(alloc: Global, text: &str, place: u64) -> Result<Refs, LineErro
         at += item.len() as u64 + 1;
         left = more;
     }
-    refs.shrink_to_fit();
-    Ok(refs)
+    // As for tags, a copy is held.
+    Ok(refs.copy(alloc)?)
 }
 
 /// The kind of object that a letter names.

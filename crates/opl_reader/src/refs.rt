@@ -12,6 +12,9 @@ use osm_lattice::Loc;
 use std::alloc::{AllocError as OutOfMemory, Global};
 use std::marker::Model;
 
+/// How many bytes a reference is given room for: enough for one that carries a location, where it is near the first.
+const ROOM: usize = 8;
+
 /// The references of a way, in order. Each takes two bytes or so where its id is near that of the first, and some five
 /// where it carries a location near that of the first; the first itself takes up to some fifteen.
 #[derive(Debug, Drop)]
@@ -158,20 +161,13 @@ impl Refs {
         }
     }
 
-    /// The empty list, with room for so many references whose ids are near each other.
+    /// The empty list, with room for so many references that are near each other.
     pub fn with_capacity(alloc: Global, room: usize) -> Result<Refs, OutOfMemory>
         ensures { IfOk result (λ refs. refs ≡ []) }
     {
         Ok(Refs {
-            bytes: Vec::with_capacity(alloc, room.saturating_mul(2))?,
+            bytes: Vec::with_capacity(alloc, room.saturating_mul(ROOM))?,
         })
-    }
-
-    /// Gives up the room that isn't used.
-    pub(crate) fn shrink_to_fit(&mut self)
-        ensures { self.new ≡ self.old }
-    {
-        self.bytes.shrink_to_fit();
     }
 
     /// Adds a reference at the end. After an `Err` the list is unchanged.
@@ -251,6 +247,15 @@ impl Refs {
             last = Some(reference);
         }
         last
+    }
+
+    /// A copy, which takes no more memory than it needs.
+    pub(crate) fn copy(&self, alloc: Global) -> Result<Refs, OutOfMemory>
+        ensures { IfOk result (λ refs. refs ≡ self.now) }
+    {
+        Ok(Refs {
+            bytes: Vec::from_slice(alloc, &self.bytes)?,
+        })
     }
 
     /// The references, to be gone through. It takes no memory.

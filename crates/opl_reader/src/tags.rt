@@ -173,13 +173,6 @@ impl Tags {
         })
     }
 
-    /// Gives up the room that isn't used.
-    pub(crate) fn shrink_to_fit(&mut self)
-        ensures { self.new ≡ self.old }
-    {
-        self.texts.shrink_to_fit();
-    }
-
     /// Adds a copy of a tag at the end. After an `Err` the list is unchanged. Texts of 2^32 bytes and more find no room.
     pub fn push(&mut self, key: &str, value: &str) -> Result<(), OutOfMemory>
         ensures ok { OnOk result (self.new
@@ -222,7 +215,7 @@ impl Tags {
         None
     }
 
-    /// A copy.
+    /// A copy, which takes no more memory than it needs.
     pub fn copy(&self, alloc: Global) -> Result<Tags, OutOfMemory>
         ensures { IfOk result (λ tags. tags ≡ self.now) }
     {
