@@ -1,23 +1,23 @@
 -- Fields of an object, one more at a time.
-use Rattle.std.proofs.Common.{◌≡◌, ℕ, ◌+◌, ◌^◌, ◌<◌, ◌≤◌, Bool, true, false, eqb, ltb, ◌||◌, List, [], ◌∷◌, length, get_or, set, replicate, None, Ok, refl, sym, ap, ◌∙◌, inl, inr, arith}
+use Rattle.std.proofs.Common.{◌≡◌, ℕ, ◌+◌, ◌^◌, ◌<◌, ◌≤◌, Bool, true, false, eqb, ltb, ◌||◌, List, [], ◌∷◌, length, get_or, set, replicate, Some, None, Ok, refl, sym, ap, ◌∙◌, inl, inr, arith}
 use Rattle.std.specs.List.{list_all, list_any}
-use Rattle.std.specs.Str.{IsUtf8, IsCharBoundary}
+use Rattle.std.specs.Str.{IsUtf8}
 use Rattle.std.proofs.lemmas.Bool.{cases_lt, cases_eq, and_parts, ltb-true, ne_eqb, eq-eqb, or_left}
 use Rattle.std.proofs.lemmas.List.{get_or-set_same, get_or-set_other, length-set, length-replicate, get_or-replicate}
-use Rattle.std.proofs.lemmas.Str.{IsCharBoundary-after_ascii}
 use Rattle.osm_tables.specs.declared.Row.{Row}
 use Rattle.osm_tables.specs.Tables.{code_of}
-use Rattle.opl_reader.specs.declared.fault.FaultKind.TheVariants.{UnknownField}
 use Rattle.opl_reader.specs.declared.fault.LineError.{LineError}
 use Rattle.opl_reader.specs.declared.fault.LineError.TheVariants.{Fault, OutOfMemory}
 use Rattle.opl_reader.specs.declared.object.ObjectKind.{ObjectKind}
 use Rattle.opl_reader.specs.declared.object.ObjectKind.TheVariants.{Node, Way, Relation}
+use Rattle.opl_reader.specs.declared.field.Meaning.{Meaning}
 use Rattle.opl_reader.specs.declared.content.Content.{Content}
-use Rattle.opl_reader.specs.Reading.{Fails, no_reading}
+use Rattle.opl_reader.specs.Reading.{Fails}
 use Rattle.opl_reader.specs.Fields.{letter_of, nothing}
 use Rattle.opl_reader.specs.FieldReading.{with_field, with_fields}
 use Rattle.opl_reader.specs.LineReading.{fields_from}
-use Rattle.opl_reader.specs.Steps.{Marks, table_of}
+use Rattle.opl_reader.specs.Letters.{table_of}
+use Rattle.opl_reader.specs.Steps.{Marks}
 use Rattle.opl_reader.proofs.LetterLaws.{by_table}
 
 -- ---- letters of the tables are ASCII
@@ -37,14 +37,16 @@ tables_small Relation = refl
 far_letter : (kind : ObjectKind) (letter : ℕ) → 128 ≤ letter → letter_of kind letter ≡ None
 far_letter kind letter far = by_table kind letter ∙ rw (far_code (table_of kind) letter (tables_small kind) far) refl
 
-pub no_letter : (kind : ObjectKind) (letters : List ℕ) (place : ℕ) (field : List ℕ) (c : Content) → IsUtf8 field → (IsCharBoundary field 1 → ⊥) → with_field kind letters place field c ≡ no_reading UnknownField place
-unfolding with_field
-no_letter kind letters place [] c utf8 no_cut = refl
-no_letter kind letters place (b ∷ bytes) c utf8 no_cut =
-    elim (cases_lt b 128) [
-      | inl ascii ↦ absurd (no_cut (IsCharBoundary-after_ascii (b ∷ bytes) 0 utf8 (omega arith) ascii))
-      | inr far ↦ rw (far_letter kind b far) refl
+-- a letter that means something is ASCII
+pub letter_ascii : (kind : ObjectKind) (letter : ℕ) (meaning : Meaning) → Some meaning ≡ letter_of kind letter → letter < 128
+letter_ascii kind letter meaning is =
+    elim (cases_lt letter 128) [
+      | inl ascii ↦ ascii
+      | inr far ↦ absurd (some≢none (is ∙ far_letter kind letter far))
     ]
+  where
+    some≢none : Some meaning ≡ None → ⊥
+    some≢none e = cc
 
 -- ---- letters that were seen
 
@@ -73,17 +75,17 @@ pub record Fields (kind : ObjectKind) (seen : List Bool) (content : Content) (at
   pub marks : Marks seen letters
   pub so_far : with_fields kind letters (fields_from at left) content ≡ with_fields kind [] (fields_from place text) nothing
 
-pub goes_on : (kind : ObjectKind) (seen : List Bool) (content next : Content) (at : ℕ) (left : List ℕ) (place : ℕ) (text : List ℕ) (start : ℕ) (field more : List ℕ)
+pub goes_on : (kind : ObjectKind) (seen seen_now : List Bool) (content next : Content) (at : ℕ) (left : List ℕ) (place : ℕ) (text : List ℕ) (start : ℕ) (field more : List ℕ)
     → fields_from at left ≡ record { at = start; bytes = field } ∷ fields_from (start + length field + 1) more → IsUtf8 more → length more < length left
-    → start + length field + length more ≤ at + length left → (0 < length more → start + length field + 1 + length more ≤ at + length left) → get_or field 0 0 < 256 → (fields : Fields kind seen content at left place text)
-    → with_field kind fields.letters start field content ≡ Ok next → Fields kind (set seen (get_or field 0 0) true) next (start + length field + 1) more place text
+    → start + length field + length more ≤ at + length left → (0 < length more → start + length field + 1 + length more ≤ at + length left) → (fields : Fields kind seen content at left place text)
+    → with_field kind fields.letters start field content ≡ Ok next → Marks seen_now (get_or field 0 0 ∷ fields.letters) → Fields kind seen_now next (start + length field + 1) more place text
 unfolding with_fields
-goes_on kind seen content next at left place text start field more e utf8 shorter within behind small fields r = record {
+goes_on kind seen seen_now content next at left place text start field more e utf8 shorter within behind fields r marks = record {
   utf8 = utf8;
   small = let room = fields.room (omega arith) in omega arith;
   room = λ some. let room = fields.room (omega arith) in let b = behind some in omega arith;
   letters = get_or field 0 0 ∷ fields.letters;
-  marks = marks-more seen fields.letters (get_or field 0 0) small fields.marks;
+  marks = marks;
   so_far = sym (rw (e, r) refl) ∙ fields.so_far;
 }
 

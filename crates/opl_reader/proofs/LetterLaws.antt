@@ -9,7 +9,7 @@ use Rattle.opl_reader.specs.declared.object.ObjectKind.{ObjectKind}
 use Rattle.opl_reader.specs.declared.object.ObjectKind.TheVariants.{Node, Way, Relation}
 use Rattle.opl_reader.specs.declared.field.Meaning.{Meaning}
 use Rattle.opl_reader.specs.Fields.{letter_of}
-use Rattle.opl_reader.specs.Steps.{table_of, meaning_of}
+use Rattle.opl_reader.specs.Letters.{table_of, meaning_of}
 
 -- the next row has the key, or the other rows decide
 row : (f : ℕ → Option Meaning) (key k c : ℕ) (rows : List Row) → f k ≡ meaning_of c → (key ≢ k → f key ≡ option_and_then meaning_of (code_of rows key))

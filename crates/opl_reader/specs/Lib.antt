@@ -6,6 +6,7 @@ pub mod Strings
 pub mod Coordinates
 pub mod Items
 pub mod Fields
+pub mod Letters
 pub mod NumberReading
 pub mod StringReading
 pub mod CoordinateReading

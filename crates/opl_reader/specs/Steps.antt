@@ -1,15 +1,9 @@
 -- Words that contracts of private functions alone cite: one step of a reading.
-use Rattle.std.specs.Prelude.{◌≡◌, ℕ, ◌+◌, ◌-◌, ◌^◌, ◌<◌, min, Bool, true, false, ◌||◌, ◌==◌, if◌then◌else◌, List, [], ◌∷◌, ◌++◌, length, slice_index_or, Option, Some, None, Result, Ok}
+use Rattle.std.specs.Prelude.{◌≡◌, ℕ, ◌+◌, ◌-◌, ◌^◌, ◌<◌, nat_le, min, Bool, true, false, ◌==◌, if◌then◌else◌, List, [], ◌∷◌, ◌++◌, length, slice_index_or, Option, Some, None, Result, Ok}
 use Rattle.std.specs.BTreeSet.{BTreeSet, contains_text}
 use Rattle.std.specs.List.{slice_split, list_any}
 use Rattle.std.specs.Str.{bytes_eq}
 use Rattle.std.specs.declared.string.String.{String}
-use Rattle.osm_tables.specs.declared.Row.{Row}
-use Rattle.osm_tables.specs.declared.TheConstants.{NODE_FIELDS, WAY_FIELDS, RELATION_FIELDS}
-use Rattle.opl_reader.specs.declared.object.ObjectKind.{ObjectKind}
-use Rattle.opl_reader.specs.declared.object.ObjectKind.TheVariants.{Node, Way, Relation}
-use Rattle.opl_reader.specs.declared.field.Meaning.{Meaning}
-use Rattle.opl_reader.specs.declared.field.Meaning.TheVariants.{Count, Flag, Anything, Name, X, Y, Tagged, Referring, Having}
 use Rattle.opl_reader.specs.declared.object.Tag.{Tag}
 use Rattle.opl_reader.specs.declared.fault.LineFault.{LineFault}
 use Rattle.opl_reader.specs.declared.fault.LineError.{LineError}
@@ -24,6 +18,10 @@ use Rattle.opl_reader.specs.LineReading.{is_passed_over}
 -- a value as far as the machine counts
 abbrev pub capped : ℕ → ℕ
 capped n = min n (2 ^ 64 - 1)
+
+-- at most a space, as a separator is
+abbrev pub is_low : ℕ → Bool
+is_low b = nat_le b 32
 
 -- ---- items
 
@@ -72,18 +70,6 @@ with_part place (b ∷ bytes) fields = part place (b ∷ bytes) ∷ fields
 abbrev pub begins_passed : List Part → Bool
 begins_passed [] = true
 begins_passed (first ∷ others) = is_passed_over first
-
--- ---- letters
-
--- the table of a kind of object
-abbrev pub table_of : ObjectKind → List Row
-table_of Node = NODE_FIELDS
-table_of Way = WAY_FIELDS
-table_of Relation = RELATION_FIELDS
-
--- what a code of the tables stands for; 0 for no field
-abbrev pub meaning_of : ℕ → Option Meaning
-meaning_of code = if code == 1 then Some Tagged else (if code == 2 || code == 4 || code == 7 then Some Count else (if code == 3 then Some Flag else (if code == 5 then Some Anything else (if code == 6 then Some Name else (if code == 8 then Some X else (if code == 9 then Some Y else (if code == 10 then Some Referring else (if code == 11 then Some Having else None))))))))
 
 -- ---- pieces
 

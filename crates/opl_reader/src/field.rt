@@ -2,9 +2,8 @@
 
 ghost use Rattle.std.specs.Prelude.{◌≡◌, ◌+◌, ◌^◌, ◌<◌, length};
 ghost use Rattle.opl_reader.specs.Reading.{Leaves};
-ghost use Rattle.opl_reader.specs.Fields.{letter_of};
-ghost use Rattle.opl_reader.specs.Steps.{table_of, meaning_of};
-ghost use Rattle.osm_tables.specs.Tables.{code_of};
+ghost use Rattle.opl_reader.specs.Fields.{letter_of, shared};
+ghost use Rattle.opl_reader.specs.Letters.{TablesHaveTheLetters};
 ghost use Rattle.opl_reader.specs.NumberReading.{is_count, is_number};
 ghost use Rattle.opl_reader.specs.FieldReading.{flag_of, with_value};
 
@@ -15,7 +14,6 @@ use crate::items::{read_members, read_refs, read_tags};
 use crate::number::are_digits;
 use crate::object::ObjectKind;
 use crate::place::{x_of, y_of};
-use osm_tables::{node_field, relation_field, way_field};
 use std::alloc::Global;
 
 /// What a field's letter stands for.
@@ -41,42 +39,47 @@ pub enum Meaning {
     Having,
 }
 
-/// What a code of the field tables stands for, None for no field.
-fn meaning_of(code: u16) -> Option<Meaning>
-    ensures { result ≡ meaning_of code }
+/// What a letter means that every kind of object may have, None where it is no such letter.
+fn shared(letter: u8) -> Option<Meaning>
+    ensures { result ≡ shared letter }
 {
-    match code {
-        1 => Some(Meaning::Tagged),
-        2 | 4 | 7 => Some(Meaning::Count),
-        3 => Some(Meaning::Flag),
-        5 => Some(Meaning::Anything),
-        6 => Some(Meaning::Name),
-        8 => Some(Meaning::X),
-        9 => Some(Meaning::Y),
-        10 => Some(Meaning::Referring),
-        11 => Some(Meaning::Having),
+    match letter {
+        b'T' => Some(Meaning::Tagged),
+        b'v' | b'c' | b'i' => Some(Meaning::Count),
+        b'd' => Some(Meaning::Flag),
+        b't' => Some(Meaning::Anything),
+        b'u' => Some(Meaning::Name),
         _ => None,
     }
 }
 
-/// The code of a letter in the table of a kind of object.
-fn field_code(kind: ObjectKind, letter: u8) -> Option<u16>
-    ensures { result ≡ code_of (table_of kind) letter }
-{
-    match kind {
-        ObjectKind::Node => node_field(letter),
-        ObjectKind::Way => way_field(letter),
-        ObjectKind::Relation => relation_field(letter),
-    }
-}
-
-/// What a letter means for a kind of object, None where it means nothing.
+/// What a letter means for a kind of object, None where it means nothing. It is what the field tables say, by
+/// `tables_have_the_letters`, without a search in them.
+#[tactic(auto, unfolding(crate::specs::Fields::letter_of))]
 pub fn letter_of(kind: ObjectKind, letter: u8) -> Option<Meaning>
     ensures { result ≡ letter_of kind letter }
 {
-    let code = field_code(kind, letter)?;
-    meaning_of(code)
+    match kind {
+        ObjectKind::Node => match letter {
+            b'x' => Some(Meaning::X),
+            b'y' => Some(Meaning::Y),
+            _ => shared(letter),
+        },
+        ObjectKind::Way => match letter {
+            b'N' => Some(Meaning::Referring),
+            _ => shared(letter),
+        },
+        ObjectKind::Relation => match letter {
+            b'M' => Some(Meaning::Having),
+            _ => shared(letter),
+        },
+    }
 }
+
+/// The field tables say what each letter means.
+pub fn tables_have_the_letters()
+    ensures { TablesHaveTheLetters }
+{}
 
 /// 1 to 19 digits.
 fn is_count(digits: &[u8]) -> bool

@@ -33,6 +33,7 @@ pub use chunking::{
 pub use escape::strings_are_spelled;
 pub use fault::{FaultKind, LineError, LineFault, fault_text};
 pub use feed::{Fed, FeedError};
+pub use field::tables_have_the_letters;
 pub use keys::{is_keys, keys_are_written, read_keys};
 pub use line::{lines_have_one_answer, read_line};
 pub use lines::Lines;

@@ -1,6 +1,6 @@
 //! Lines.
 
-ghost use Rattle.std.specs.Prelude.{◌≡◌, ◌+◌, ◌^◌, ◌<◌, ◌≤◌, ◌∷◌, [], List, ℕ, length, IfSome, MatchOption, Some, None, Ok, IfOk, IfErr, IfNone, Err};
+ghost use Rattle.std.specs.Prelude.{◌≡◌, ◌+◌, ◌^◌, ◌<◌, ◌≤◌, ◌∷◌, [], List, ℕ, length, slice_index, IfSome, MatchOption, Some, None, Ok, IfOk, OnOk, IfErr, IfNone, Err};
 ghost use Rattle.opl_reader.specs.declared.object.ObjectKind.{ObjectKind};
 ghost use Rattle.opl_reader.specs.declared.fault.LineFault.{LineFault};
 ghost use Rattle.opl_reader.specs.Reading.{Gives, Leaves};
@@ -27,6 +27,7 @@ use std::alloc::Global;
 use std::str;
 
 /// What stands before the first separator, and what stands behind it.
+#[inline(always)]
 fn next_part(text: &str) -> (&str, &str)
     ensures fields { (place : ℕ) → fields_from place text.now
         ≡ with_part place result.0.now
@@ -46,6 +47,7 @@ fn next_part(text: &str) -> (&str, &str)
 }
 
 /// The next field with its place, and what is left behind it.
+#[inline(always)]
 fn next_field(text: &str, place: u64) -> Option<(u64, &str, &str)>
     requires { place + length text.now < 2 ^ 64 }
     ensures fields { MatchOption result (fields_from place text.now ≡ [])
@@ -85,31 +87,36 @@ fn is_passed_over(text: &[u8]) -> bool
     true
 }
 
-/// Adds a field to the content, where letters are seen.
+/// Adds a field to the content, where letters are seen, and its own from then on.
 #[tactic(auto, unfolding(crate::specs::FieldReading::with_field))]
 fn add_field(
     alloc: Global,
     kind: ObjectKind,
-    seen: &[bool; 256],
+    seen: &mut [bool; 256],
     place: u64,
     field: &str,
     content: &mut Content,
 ) -> Result<(), LineError>
-    requires { place + length field.now < 2 ^ 63 }
-    ensures { (letters : List ℕ) → Marks seen.now letters
+    requires some { 0 < length field.now }
+    requires small { place + length field.now < 2 ^ 63 }
+    ensures content { (letters : List ℕ) → Marks seen.old letters
         → Leaves result content.new (with_field kind letters place field.now content.old) }
+    ensures seen { OnOk result ((letters : List ℕ) → Marks seen.old letters
+        → Marks seen.new (slice_index field.now 0 ∷ letters)) }
 {
-    let Some((letter, value)) = field.split_at_checked(1) else {
-        return Err(fault(FaultKind::UnknownField, place));
-    };
-    let letter = letter.as_bytes()[0];
+    let letter = field.as_bytes()[0];
+    // Asked first, so that what a letter means leads to its value at once.
+    if seen[letter as usize] {
+        if letter_of(kind, letter).is_none() {
+            return Err(fault(FaultKind::UnknownField, place));
+        }
+        return Err(fault(FaultKind::RepeatedField, place));
+    }
+    seen[letter as usize] = true;
     let Some(meaning) = letter_of(kind, letter) else {
         return Err(fault(FaultKind::UnknownField, place));
     };
-    if seen[letter as usize] {
-        return Err(fault(FaultKind::RepeatedField, place));
-    }
-    add_value(alloc, meaning, place, value, content)
+    add_value(alloc, meaning, place, &field[1..], content)
 }
 
 /// The content of the fields from a place on.
@@ -128,8 +135,7 @@ fn with_fields(
     let mut at = place;
     let mut left = text;
     while let Some((start, field, more)) = next_field(left, at) {
-        add_field(alloc, kind, &seen, start, field, &mut content)?;
-        seen[field.as_bytes()[0] as usize] = true;
+        add_field(alloc, kind, &mut seen, start, field, &mut content)?;
         at = start + field.len() as u64 + 1;
         left = more;
     }

@@ -1,6 +1,9 @@
-use Rattle.std.proofs.lemmas.Bool.{false≢true}
-use Rattle.opl_reader.proofs.FieldLemmas.{no_letter}
+use Rattle.std.proofs.Common.{◌<◌, get_or}
+use Rattle.std.proofs.lemmas.Str.{IsCharBoundary-after_ascii}
+use Rattle.opl_reader.proofs.FieldLemmas.{letter_ascii}
 use Rattle.opl_reader.proofs.line.add_field.Goals as goal
 
-pub returns-in_default : goal.returns-in_default
-returns-in_default c = λ letters marks. rw c.fault.ensures (no_letter c.args.kind letters c.args.place c.args.field.now c.args.content.now c.utf8.field (λ cut. false≢true (c.in_default.ensures.variant.1 cut)))
+pub range_from-requires : goal.range_from-requires
+range_from-requires c =
+    let ascii : get_or c.args.field.now 0 0 < 128 = letter_ascii c.args.kind (get_or c.args.field.now 0 0) c.in-Some.meaning (rw c.as_bytes.ensures.value at c.in-Some.ensures) in
+    λ _. IsCharBoundary-after_ascii c.args.field.now 0 c.utf8.field c.requires.some ascii
