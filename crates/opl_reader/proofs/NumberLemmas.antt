@@ -1,20 +1,20 @@
 -- Digits, one more at a time.
-use Rattle.std.proofs.Common.{◌≡◌, ℕ, zero, suc, ◌+◌, ◌*◌, ◌-◌, ◌^◌, ◌<◌, ◌≤◌, min, Bool, true, false, cond, ◌&&◌, List, [], ◌∷◌, length, get_or, take, drop, replicate, leb, ◌++◌, Some, None, option_map, refl, sym, ap, inl, inr, append-nil, append_assoc, ◌∙◌, arith}
-use Rattle.std.specs.List.{list_all, after_first}
+use Rattle.std.proofs.Common.{◌≡◌, ℕ, zero, suc, ◌+◌, ◌*◌, ◌-◌, ◌/◌, ◌^◌, ◌<◌, ◌≤◌, ◌⊎◌, eqb, min, Bool, true, false, cond, ◌&&◌, List, [], ◌∷◌, length, get_or, take, drop, replicate, leb, ◌++◌, Some, None, option_map, refl, sym, ap, inl, inr, append-nil, append_assoc, ◌∙◌, arith}
+use Rattle.std.specs.List.{list_all, before_first, after_first, position_or_len}
 use Rattle.std.specs.Char.{is_ascii_digit, digit_value}
 use Rattle.std.specs.Str.Parse.{digits_value, AllDigits}
 use Rattle.std.proofs.lemmas.Int.Digits.{digits_value_more, digits_value_push, digits_value-lt}
 use Rattle.std.proofs.Math.Nat.{pow-suc, pow-le-pow_right}
 use Rattle.std.proofs.lemmas.Str.{digit_value_digit}
 use Rattle.std.proofs.lemmas.List.Folds.{list_all_more, list_all-append}
-use Rattle.std.proofs.lemmas.List.{take_all, take-append-drop, length-append, length-take, length-replicate}
-use Rattle.std.proofs.lemmas.List.Sums.{AllPass-from_list_all, list_all-from_AllPass}
+use Rattle.std.proofs.lemmas.List.{get_or-take, take_all, take-append-drop, length-append, length-take, length-replicate}
+use Rattle.std.proofs.lemmas.List.Sums.{AllPass-from_list_all, list_all-from_AllPass, position_or_len_is}
 use Rattle.std.proofs.lemmas.List.Elements.{All-take, All-replicate}
-use Rattle.std.proofs.lemmas.Bool.{and_from, and_parts, and_left, and_right, cases_Bool, cond-false, leb-true, cases_lt}
-use Rattle.opl_reader.specs.declared.number.TheConstants.{TENTHS}
+use Rattle.std.proofs.lemmas.Bool.{lt-ltb, ne_eqb, eq-eqb, and_from, and_parts, and_left, and_right, cases_Bool, cond-false, leb-true, cases_lt}
+use Rattle.opl_reader.specs.declared.number.TheConstants.{TENTHS, UNITS}
 use Rattle.opl_reader.specs.Numbers.{first_eight}
 use Rattle.opl_reader.specs.NumberReading.{is_point, unsigned_of}
-use Rattle.opl_reader.specs.Steps.{capped}
+use Rattle.opl_reader.specs.Steps.{capped, LeadingDigits}
 
 step : (n d m : ℕ) → min (min (min n m * 10) m + d) m ≡ min (n * 10 + d) m
 step n d m = omega arith
@@ -79,6 +79,13 @@ few-small bytes i v lt few so_far =
     let long : length (take i bytes) ≡ i = omega (arith, length-take i bytes) in
     let less : digits_value 10 (take i bytes) < 10 ^ i = rw long at (digits_value-lt 10 (take i bytes) (all_digits (take i bytes) so_far.digits)) in
     let most : 10 ^ i ≤ 10 ^ 18 = pow-le-pow_right (omega arith) (let h : i ≤ 18 = omega arith in h) in
+    omega (arith, so_far.worth)
+
+pub front-small : (bytes : List ℕ) (i v : ℕ) → i ≤ length bytes → i ≤ 18 → ReadFew bytes i v → v < 10 ^ 18
+front-small bytes i v inside few so_far =
+    let long : length (take i bytes) ≡ i = omega (arith, length-take i bytes) in
+    let less : digits_value 10 (take i bytes) < 10 ^ i = rw long at (digits_value-lt 10 (take i bytes) (all_digits (take i bytes) so_far.digits)) in
+    let most : 10 ^ i ≤ 10 ^ 18 = pow-le-pow_right (omega arith) few in
     omega (arith, so_far.worth)
 
 pub first_eight-bound : (d : List ℕ) → list_all is_ascii_digit d ≡ true → digits_value 10 (first_eight d) < 100000000
@@ -176,3 +183,60 @@ capped_units n d = step_by n d (2 ^ 64 - 1)
 pub no_decimals : (text : List ℕ) → list_all is_ascii_digit (after_first is_point text) ≡ false → None ≡ option_map capped (unsigned_of text)
 unfolding unsigned_of
 no_decimals text h = sym (ap (option_map capped) (cond-false _ _ None (and_right _ (list_all is_ascii_digit (after_first is_point text)) h)))
+
+-- ---- a coordinate as most are written
+
+-- a digit among the first few
+digit-at : (text : List ℕ) (count k : ℕ) → count ≤ length text → k < count → list_all is_ascii_digit (take count text) ≡ true → (48 ≤ get_or text k 0) × (get_or text k 0 ≤ 57)
+digit-at text count k inside lt h =
+    let at = get_or-take count text k 0 lt in
+    let is = rw at at (AllPass-from_list_all is_ascii_digit (take count text) h k 0 (omega (arith, length-take count text))) in
+    let p = and_parts (leb 48 (get_or text k 0)) (leb (get_or text k 0) 57) is in
+    (leb-true _ _ p.0, leb-true _ _ p.1)
+
+-- what no digit is stands first behind the digits in front
+pub first_behind : (b : ℕ) (text : List ℕ) (count : ℕ) → (b < 48) ⊎ (57 < b) → count ≤ length text → list_all is_ascii_digit (take count text) ≡ true → (count < length text → get_or text count 0 ≡ b)
+    → position_or_len (λ x. eqb x b) text ≡ count
+first_behind b text count no_digit inside digits here =
+    position_or_len_is (λ x. eqb x b) text count 0 inside (λ k lt. let d = digit-at text count k inside lt digits in ne_eqb (get_or text k 0) b (λ e. elim no_digit [ inl low ↦ absurd (omega arith) | inr high ↦ absurd (omega arith) ])) (λ lt. eq-eqb (get_or text count 0) b (here lt))
+
+unit : (n : ℕ) → n ≤ 7 → get_or TENTHS n 0 ≡ get_or UNITS n 0 * 10
+unit zero le = refl
+unit (suc zero) le = refl
+unit (suc (suc zero)) le = refl
+unit (suc (suc (suc zero))) le = refl
+unit (suc (suc (suc (suc zero)))) le = refl
+unit (suc (suc (suc (suc (suc zero))))) le = refl
+unit (suc (suc (suc (suc (suc (suc zero)))))) le = refl
+unit (suc (suc (suc (suc (suc (suc (suc zero))))))) le = refl
+unit (suc (suc (suc (suc (suc (suc (suc (suc n)))))))) le = absurd (omega arith)
+
+-- up to seven decimals count so many units, and none rounds
+pub few_units : (d : List ℕ) (v : ℕ) → length d ≤ 7 → v ≡ digits_value 10 d → (digits_value 10 (first_eight d) + 5) / 10 ≡ v * get_or UNITS (length d) 0
+few_units d v few worth =
+    let tenths = tenths_are d d (length d) v (omega arith) (sym (take_all (length d) d (omega arith))) worth in
+    let e : digits_value 10 (first_eight d) ≡ v * (get_or UNITS (length d) 0 * 10) = sym tenths ∙ ap (λ t. v * t) (unit (length d) few) in
+    ap (λ n. (n + 5) / 10) e ∙ rounds v (get_or UNITS (length d) 0)
+  where
+    rounds : (v u : ℕ) → (v * (u * 10) + 5) / 10 ≡ v * u
+    rounds v u = let p = v * u in let e : v * (u * 10) ≡ (v * u) * 10 = omega arith in rw e (whole (v * u))
+      where
+        whole : (p : ℕ) → (p * 10 + 5) / 10 ≡ p
+        whole p = omega arith
+
+pub few_bound : (d : List ℕ) (v : ℕ) → length d ≤ 7 → list_all is_ascii_digit d ≡ true → v ≡ digits_value 10 d → v * get_or UNITS (length d) 0 ≤ 10000000
+few_bound d v few digits worth = omega (arith, few_units d v few worth, first_eight-bound d digits)
+
+pub usual_units : (text decimals : List ℕ) (count degrees n : ℕ) → 0 < count → count < length text → LeadingDigits text degrees count → get_or text count 0 ≡ 46 → decimals ≡ drop (count + 1) text
+    → Some n ≡ cond (list_all is_ascii_digit decimals) (Some ((digits_value 10 (first_eight decimals) + 5) / 10)) None → unsigned_of text ≡ Some (degrees * 10000000 + n)
+unfolding unsigned_of
+usual_units text decimals count degrees n some inside lead here behind given =
+    let point : position_or_len is_point text ≡ count = first_behind 46 text count (inl (omega arith)) (omega arith) lead.digits (λ _. here) in
+    let before : before_first is_point text ≡ take count text = ap (λ k. take k text) point in
+    let after : after_first is_point text ≡ decimals = ap (λ k. drop (k + 1) text) point ∙ sym behind in
+    let whole : 0 < length (take count text) + length decimals = omega (arith, length-take count text) in
+    let read = some_if (list_all is_ascii_digit decimals) ((digits_value 10 (first_eight decimals) + 5) / 10) n given in
+    rw (before, after, lt-ltb 0 (length (take count text) + length decimals) whole, lead.digits, read.0) (same (digits_value 10 (take count text)) degrees ((digits_value 10 (first_eight decimals) + 5) / 10) n lead.worth read.1)
+  where
+    same : (d degrees e n : ℕ) → degrees ≡ d → n ≡ e → Some (d * 10000000 + e) ≡ Some (degrees * 10000000 + n)
+    same d degrees e n p q = rw (p, q) refl

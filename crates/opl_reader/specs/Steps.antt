@@ -1,9 +1,12 @@
 -- Words that contracts of private functions alone cite: one step of a reading.
-use Rattle.std.specs.Prelude.{◌≡◌, ℕ, ◌+◌, ◌-◌, ◌^◌, ◌<◌, nat_le, min, Bool, true, false, ◌==◌, if◌then◌else◌, List, [], ◌∷◌, ◌++◌, length, slice_index_or, Option, Some, None, Result, Ok}
+use Rattle.std.specs.Prelude.{◌≡◌, ℕ, ◌+◌, ◌-◌, ◌^◌, ◌<◌, ◌≤◌, nat_le, min, Bool, true, false, ◌==◌, if◌then◌else◌, List, [], ◌∷◌, ◌++◌, length, take, slice_index_or, Option, Some, None, Result, Ok}
 use Rattle.std.specs.BTreeSet.{BTreeSet, contains_text}
-use Rattle.std.specs.List.{slice_split, list_any}
+use Rattle.std.specs.Char.{is_ascii_digit}
+use Rattle.std.specs.List.{slice_split, position_or_len, list_all, list_any}
+use Rattle.std.specs.Str.Parse.{digits_value}
 use Rattle.std.specs.Str.{bytes_eq}
 use Rattle.std.specs.declared.string.String.{String}
+use Rattle.opl_reader.specs.declared.object.Ref.{Ref}
 use Rattle.opl_reader.specs.declared.object.Tag.{Tag}
 use Rattle.opl_reader.specs.declared.fault.LineFault.{LineFault}
 use Rattle.opl_reader.specs.declared.fault.LineError.{LineError}
@@ -12,12 +15,18 @@ use Rattle.opl_reader.specs.declared.feed.FeedError.{FeedError}
 use Rattle.opl_reader.specs.declared.feed.FeedError.TheVariants.{Line, OutOfMemory}
 use Rattle.opl_reader.specs.Parts.{Part, part}
 use Rattle.opl_reader.specs.Reading.{◌>>=◌}
-use Rattle.opl_reader.specs.ItemReading.{is_comma, tag_at}
+use Rattle.opl_reader.specs.ItemReading.{is_comma, tag_at, ref_of}
 use Rattle.opl_reader.specs.LineReading.{is_passed_over}
 
 -- a value as far as the machine counts
 abbrev pub capped : ℕ → ℕ
 capped n = min n (2 ^ 64 - 1)
+
+-- so many digits stand in front, and this is their value
+pub record LeadingDigits (bytes : List ℕ) (value count : ℕ) : Type 0 where
+  pub digits : list_all is_ascii_digit (take count bytes) ≡ true
+  pub worth : value ≡ digits_value 10 (take count bytes)
+  pub few : count ≤ 18
 
 -- at most a space, as a separator is
 abbrev pub is_low : ℕ → Bool
@@ -38,6 +47,20 @@ left_parts (Some rest) = slice_split is_comma rest
 abbrev pub left_len : Option (List ℕ) → ℕ
 left_len None = 0
 left_len (Some rest) = length rest + 1
+
+-- so many bytes are the first item, and this reference
+pub record BeginsWithRef (rest : List ℕ) (reference : Ref) (len : ℕ) : Type 0 where
+  pub inside : len ≤ length rest
+  pub ends : position_or_len is_comma rest ≡ len
+  pub read : ref_of (take len rest) ≡ Some reference
+
+-- so many bytes are the first item, which is read as this, and this is left behind its comma
+pub record IsFirstRef (rest : List ℕ) (reference : Option Ref) (len : ℕ) (left : Option (List ℕ)) : Type 0 where
+  pub item : List ℕ
+  pub parts : slice_split is_comma rest ≡ item ∷ left_parts left
+  pub read : reference ≡ ref_of item
+  pub long : length item ≡ len
+  pub whole : len + left_len left ≡ length rest
 
 -- the tags with one more, unless one with its key is there
 abbrev pub kept_with : List Tag → Tag → List Tag

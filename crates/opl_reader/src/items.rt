@@ -1,18 +1,18 @@
 //! Values that are lists of items.
 
-ghost use Rattle.std.specs.Prelude.{◌≡◌, ℕ, List, ◌+◌, ◌^◌, ◌<◌, ◌∷◌, ◌++◌, [], length, drop, take, IfSome, OnOk};
+ghost use Rattle.std.specs.Prelude.{◌≡◌, ℕ, List, ◌+◌, ◌^◌, ◌<◌, ◌≤◌, ◌∷◌, ◌++◌, [], length, drop, take, IfSome, OnOk};
 ghost use Rattle.std.specs.List.{slice_split, list_any};
 ghost use Rattle.std.specs.Option.{option_copied};
 ghost use Rattle.std.specs.Str.{IsUtf8, bytes_eq};
 ghost use Rattle.opl_reader.specs.Reading.{Gives, Leaves};
 ghost use Rattle.opl_reader.specs.Items.{kind_of};
-ghost use Rattle.opl_reader.specs.ItemReading.{is_comma, tags_at, own_place_of, ref_behind, ref_at, refs_at, target_of, member_at, members_at};
-ghost use Rattle.opl_reader.specs.Steps.{all_left, left_parts, left_len, tag, kept_with, kept_at, HasKeysOf};
+ghost use Rattle.opl_reader.specs.ItemReading.{is_comma, tags_at, own_place_of, ref_behind, ref_of, ref_at, refs_at, target_of, member_at, members_at};
+ghost use Rattle.opl_reader.specs.Steps.{BeginsWithRef, IsFirstRef, all_left, left_parts, left_len, tag, kept_with, kept_at, HasKeysOf};
 
 use crate::cut::{cut, cut_bytes};
 use crate::escape::{is_plain, read_string};
 use crate::fault::{FaultKind, LineError, fault};
-use crate::number::read_id;
+use crate::number::{leading_digits, read_id};
 use crate::object::{Member, Members, ObjectKind, Ref};
 use crate::place::{place_of, x_of, y_of};
 use crate::refs::Refs;
@@ -204,18 +204,52 @@ fn ref_behind(bytes: &[u8]) -> Option<Ref>
 }
 
 /// A reference: n, an id, and maybe an own location.
-#[tactic(auto, unfolding(crate::specs::ItemReading::ref_of, crate::specs::ItemReading::ref_at))]
-fn read_ref(item: &str, place: u64) -> Result<Ref, LineError>
-    ensures { Gives result (ref_at place item.now) }
+#[tactic(auto, unfolding(crate::specs::ItemReading::ref_of))]
+fn read_ref(item: &[u8]) -> Option<Ref>
+    ensures { result ≡ ref_of item.now }
 {
-    let reference = match item.as_bytes() {
+    match item {
         [b'n', bytes @ ..] => ref_behind(bytes),
         _ => None,
-    };
-    reference.ok_or(fault(FaultKind::BadReference, place))
+    }
+}
+
+/// A first item as most are written, n and a few digits, and how many bytes it has. None says nothing.
+fn usual_ref(rest: &[u8]) -> Option<(Ref, usize)>
+    ensures { IfSome result (λ r. BeginsWithRef rest.now r.0 r.1) }
+{
+    if rest.is_empty() || rest[0] != b'n' {
+        return None;
+    }
+    let (_, digits) = rest.split_at(1);
+    let (node, len) = leading_digits(digits);
+    if len == 0 {
+        return None;
+    }
+    if len < digits.len() && digits[len] != b',' {
+        return None;
+    }
+    let node = node as i64;
+    Some((Ref { node, at: None }, len + 1))
+}
+
+/// The reference that the first item is, how many bytes the item has, and what is left behind its comma.
+fn next_ref(rest: &str) -> (Option<Ref>, usize, Option<&str>)
+    ensures first { IsFirstRef rest.now result.0 result.1 (option_copied result.2) }
+    ensures utf8 { IfSome result.2 (λ left. IsUtf8 left.now) }
+{
+    if let Some((reference, len)) = usual_ref(rest.as_bytes()) {
+        if len == rest.len() {
+            return (Some(reference), len, None);
+        }
+        return (Some(reference), len, Some(&rest[len + 1..]));
+    }
+    let (item, left) = next_item(rest);
+    (read_ref(item.as_bytes()), item.len(), left)
 }
 
 /// References.
+#[tactic(auto, unfolding(crate::specs::ItemReading::ref_at))]
 pub fn read_refs(alloc: Global, text: &str, place: u64) -> Result<Refs, LineError>
     requires { place + length text.now < 2 ^ 63 }
     ensures { Gives result (refs_at place text.now) }
@@ -225,11 +259,13 @@ pub fn read_refs(alloc: Global, text: &str, place: u64) -> Result<Refs, LineErro
     let mut at = place;
     let mut left = all_items(text);
     while let Some(rest) = left {
-        let (item, more) = next_item(rest);
-        let reference = read_ref(item, at)?;
+        let (reference, len, more) = next_ref(rest);
+        let Some(reference) = reference else {
+            return Err(fault(FaultKind::BadReference, at));
+        };
         refs.push_behind(first, reference)?;
         first = Some(first.unwrap_or(reference));
-        at += item.len() as u64 + 1;
+        at += len as u64 + 1;
         left = more;
     }
     // As for tags, a copy is held.

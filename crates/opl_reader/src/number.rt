@@ -1,12 +1,12 @@
 //! Ids and decimals.
 
-ghost use Rattle.std.specs.Prelude.{◌≡◌, ◌+◌, ◌*◌, ◌/◌, ◌^◌, if◌then◌else◌, ◌≤◌, ◌≤ℤ◌, pos, neg_ℤ, min, option_map, length, IsTrue, IfSome, IfNone, ℤ, nat_abs, Some, None};
+ghost use Rattle.std.specs.Prelude.{◌≡◌, ◌+◌, ◌*◌, ◌/◌, ◌^◌, if◌then◌else◌, ◌<◌, ◌≤◌, ◌≤ℤ◌, pos, neg_ℤ, min, option_map, length, IsTrue, IfSome, IfNone, ℤ, nat_abs, Some, None};
 ghost use Rattle.std.specs.List.{list_all, before_first, after_first};
 ghost use Rattle.std.specs.Char.{is_ascii_digit};
 ghost use Rattle.std.specs.Str.Parse.{digits_value};
 ghost use Rattle.opl_reader.specs.Numbers.{IsWithin, IsId, IsDecimal, first_eight};
 ghost use Rattle.opl_reader.specs.NumberReading.{magnitude_of, id_of, is_point, unsigned_of, within, decimal_of};
-ghost use Rattle.opl_reader.specs.Steps.{capped};
+ghost use Rattle.opl_reader.specs.Steps.{capped, LeadingDigits};
 
 use crate::search::first_cut;
 
@@ -37,6 +37,27 @@ fn short_value(bytes: &[u8]) -> Option<u64>
         value = value * 10 + u64::from(*byte - b'0');
     }
     Some(value)
+}
+
+/// How many digits are read at once, whose value is that of an id.
+const FEW_DIGITS: usize = 18;
+
+/// The value of the digits in front, at most 18, and how many they are.
+pub fn leading_digits(bytes: &[u8]) -> (u64, usize)
+    ensures digits { LeadingDigits bytes.now result.0 result.1 }
+    ensures inside { result.1 ≤ length bytes.now }
+    ensures small { result.0 < 10 ^ 18 }
+{
+    let most = bytes.len().min(FEW_DIGITS);
+    let mut value: u64 = 0;
+    for place in 0..most {
+        let byte = bytes[place];
+        if !byte.is_ascii_digit() {
+            return (value, place);
+        }
+        value = value * 10 + u64::from(byte - b'0');
+    }
+    (value, most)
 }
 
 /// The value of any number of digits, at most 2^64 - 1; None where a byte is no digit.
@@ -131,8 +152,22 @@ const TENTHS: [u64; 9] = [
     1,
 ];
 
-/// The units of decimals, rounded at the eighth; None where a byte is no digit.
-fn fraction(decimals: &[u8]) -> Option<u64>
+/// What the last of so many decimals counts, in units.
+const UNITS: [u64; 8] = [10_000_000, 1_000_000, 100_000, 10_000, 1_000, 100, 10, 1];
+
+/// The units of at most seven decimals, which nothing rounds; None where a byte is no digit.
+fn few_decimals(decimals: &[u8]) -> Option<u64>
+    requires { length decimals.now ≤ 7 }
+    ensures value { result ≡ (if list_all is_ascii_digit decimals.now
+        then Some ((digits_value 10 (first_eight decimals.now) + 5) / 10) else None) }
+    ensures bound { IfSome result (λ n. n ≤ 10000000) }
+{
+    let value = short_value(decimals)?;
+    Some(value * UNITS[decimals.len()])
+}
+
+/// The units of any number of decimals, rounded at the eighth; None where a byte is no digit.
+fn many_decimals(decimals: &[u8]) -> Option<u64>
     ensures value { result ≡ (if list_all is_ascii_digit decimals.now
         then Some ((digits_value 10 (first_eight decimals.now) + 5) / 10) else None) }
     ensures bound { IfSome result (λ n. n ≤ 10000000) }
@@ -146,11 +181,46 @@ fn fraction(decimals: &[u8]) -> Option<u64>
     Some((tenths + 5) / 10)
 }
 
+/// The units of decimals, rounded at the eighth; None where a byte is no digit.
+fn fraction(decimals: &[u8]) -> Option<u64>
+    ensures value { result ≡ (if list_all is_ascii_digit decimals.now
+        then Some ((digits_value 10 (first_eight decimals.now) + 5) / 10) else None) }
+    ensures bound { IfSome result (λ n. n ≤ 10000000) }
+{
+    if decimals.len() <= 7 {
+        return few_decimals(decimals);
+    }
+    many_decimals(decimals)
+}
+
+/// The degrees that no coordinate passes.
+const MOST_DEGREES: u64 = 180;
+
+/// The units of a coordinate as most are written, with a few degrees and a point. None says nothing.
+fn usual(text: &[u8]) -> Option<u64>
+    ensures units { IfSome result (λ n. unsigned_of text.now ≡ Some n) }
+    ensures small { IfSome result (λ n. n < 2 ^ 64) }
+{
+    let (degrees, len) = leading_digits(text);
+    if len == 0 || degrees > MOST_DEGREES {
+        return None;
+    }
+    if len == text.len() || text[len] != b'.' {
+        return None;
+    }
+    let (_, decimals) = text.split_at(len + 1);
+    let fraction = fraction(decimals)?;
+    Some(degrees * 10_000_000 + fraction)
+}
+
 /// The units of digits with a point, as far as the machine counts.
 #[tactic(auto, unfolding(crate::specs::NumberReading::unsigned_of))]
 fn unsigned(text: &[u8]) -> Option<u64>
     ensures { result ≡ option_map capped (unsigned_of text.now) }
 {
+    if let Some(units) = usual(text) {
+        return Some(units);
+    }
     let (whole, decimals) = cut_at_point(text);
     if whole.is_empty() && decimals.is_empty() {
         return None;
