@@ -5,6 +5,7 @@ pub mod EscapeLemmas
 pub mod StringLemmas
 pub mod ItemLemmas
 pub mod TagLemmas
+pub mod MemberLemmas
 pub mod LineLemmas
 pub mod LetterLaws
 pub mod FieldLemmas

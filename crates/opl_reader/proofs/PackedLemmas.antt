@@ -6,7 +6,10 @@ use Rattle.std.proofs.lemmas.Bool.{cases_lt, lt-ltb, ltb-true, false_from_ne_tru
 use Rattle.std.proofs.lemmas.List.{take-append-le, drop-append-le, take_all, get_or_append_left}
 use Rattle.std.proofs.Math.Seq.{drop-append_seam}
 use Rattle.opl_reader.specs.declared.object.Tag.{Tag}
-use Rattle.opl_reader.specs.Packed.{length_bytes, packed_text, head_len, text_len, first_text, after_text, BeginsWithText, tags_in, Fits}
+use Rattle.opl_reader.specs.declared.object.Member.{Member}
+use Rattle.opl_reader.specs.declared.object.ObjectRef.{ObjectRef}
+use Rattle.opl_reader.specs.Seen.{member_of}
+use Rattle.opl_reader.specs.Packed.{length_bytes, packed_text, head_len, text_len, first_text, after_text, BeginsWithText, tags_in, Fits, members_in, HaveRoles}
 
 pub as_many : (count : ℕ) (bytes : List ℕ) → length (tags_in count bytes) ≡ count
 as_many zero bytes = refl
@@ -181,3 +184,44 @@ pushed_tag count next bytes new key value tags fits n e is =
     ∙ ap (tags_in (suc count)) (bytes_of_tag bytes new key value e)
     ∙ one_more_tag count bytes key value fits
     ∙ ap (λ (zs : List Tag). zs ++ tag key value ∷ []) is
+
+-- ---- roles
+
+pub as_many_members : (targets : List ObjectRef) (bytes : List ℕ) → length (members_in targets bytes) ≡ length targets
+as_many_members [] bytes = refl
+as_many_members (target ∷ targets) bytes = ap (λ (n : ℕ). suc n) (as_many_members targets (after_text bytes))
+
+-- a role in front
+abbrev role_bytes : List ℕ → List ℕ
+role_bytes role = packed_text role ++ []
+
+one_more_role : (targets : List ObjectRef) (target : ObjectRef) (bytes role : List ℕ) → IsUtf8 role → HaveRoles targets bytes → HaveRoles (targets ++ target ∷ []) (bytes ++ role_bytes role)
+one_more_role [] target bytes role utf8 none = subst (λ (b : List ℕ). HaveRoles (target ∷ []) (b ++ role_bytes role)) (sym none) (begins role [] utf8, after_is role [])
+one_more_role (t ∷ targets) target bytes role utf8 (a, rest) = (
+  begins_more bytes (role_bytes role) a,
+  subst (HaveRoles (targets ++ target ∷ [])) (sym (after_more bytes (role_bytes role) a)) (one_more_role targets target (after_text bytes) role utf8 rest),
+)
+
+one_more_member : (targets : List ObjectRef) (target : ObjectRef) (bytes role : List ℕ) → HaveRoles targets bytes → members_in (targets ++ target ∷ []) (bytes ++ role_bytes role) ≡ members_in targets bytes ++ member_of target role ∷ []
+one_more_member [] target bytes role none =
+    ap (λ (b : List ℕ). members_in (target ∷ []) (b ++ role_bytes role)) none ∙ ap (λ (z : List ℕ). member_of target z ∷ []) (first_is role [])
+one_more_member (t ∷ targets) target bytes role (a, rest) =
+    let more = role_bytes role in
+    ap (λ (z : List ℕ). member_of t z ∷ members_in (targets ++ target ∷ []) (after_text (bytes ++ more))) (first_more bytes more a)
+    ∙ ap (λ (z : List ℕ). member_of t (first_text bytes) ∷ members_in (targets ++ target ∷ []) z) (after_more bytes more a)
+    ∙ ap (λ (ms : List Member). member_of t (first_text bytes) ∷ ms) (one_more_member targets target (after_text bytes) role rest)
+
+bytes_of_role : (bytes new role : List ℕ) → new ≡ bytes ++ packed_text role → new ≡ bytes ++ role_bytes role
+bytes_of_role bytes new role e = e ∙ ap (λ (z : List ℕ). bytes ++ z) (sym (append-nil (packed_text role)))
+
+pub pushed_role : (targets after : List ObjectRef) (target : ObjectRef) (bytes new role : List ℕ) → IsUtf8 role → HaveRoles targets bytes → after ≡ targets ++ target ∷ [] → new ≡ bytes ++ packed_text role → HaveRoles after new
+pushed_role targets after target bytes new role utf8 fits a e =
+    subst (λ (ts : List ObjectRef). HaveRoles ts new) (sym a) (subst (HaveRoles (targets ++ target ∷ [])) (sym (bytes_of_role bytes new role e)) (one_more_role targets target bytes role utf8 fits))
+
+pub pushed_member : (targets after : List ObjectRef) (target : ObjectRef) (bytes new role : List ℕ) (members : List Member) → HaveRoles targets bytes → after ≡ targets ++ target ∷ [] → new ≡ bytes ++ packed_text role → members_in targets bytes ≡ members
+    → members_in after new ≡ members ++ member_of target role ∷ []
+pushed_member targets after target bytes new role members fits a e is =
+    ap (λ (ts : List ObjectRef). members_in ts new) a
+    ∙ ap (members_in (targets ++ target ∷ [])) (bytes_of_role bytes new role e)
+    ∙ one_more_member targets target bytes role fits
+    ∙ ap (λ (ms : List Member). ms ++ member_of target role ∷ []) is

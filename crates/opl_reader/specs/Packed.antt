@@ -1,7 +1,10 @@
--- Tags held in one block: keys and values by turns, each behind its length.
+-- Texts held in one block, each behind its length: the keys and values of tags by turns, and the roles of members.
 use Rattle.std.specs.Prelude.{◌≡◌, ◌≤◌, ℕ, zero, suc, ◌+◌, ◌*◌, ◌/◌, ◌%◌, nat_lt, if◌then◌else◌, List, [], ◌∷◌, ◌++◌, length, take, drop, slice_index}
 use Rattle.std.specs.Str.{IsUtf8}
 use Rattle.opl_reader.specs.declared.object.Tag.{Tag}
+use Rattle.opl_reader.specs.declared.object.Member.{Member}
+use Rattle.opl_reader.specs.declared.object.ObjectRef.{ObjectRef}
+use Rattle.opl_reader.specs.Seen.{member_of}
 
 -- A length below 255 is one byte; any other is the byte 255 and four digits in base 256, the lowest first.
 unfoldable pub length_bytes : ℕ → List ℕ
@@ -41,3 +44,13 @@ tags_in (suc count) bytes = record { key = first_text bytes; value = first_text 
 abbrev pub Fits : ℕ → List ℕ → Type 0
 Fits zero bytes = bytes ≡ []
 Fits (suc count) bytes = BeginsWithText bytes × BeginsWithText (after_text bytes) × Fits count (after_text (after_text bytes))
+
+-- members of these kinds and ids, with the roles that stand one after the other
+abbrev pub members_in : List ObjectRef → List ℕ → List Member
+members_in [] bytes = []
+members_in (target ∷ targets) bytes = member_of target (first_text bytes) ∷ members_in targets (after_text bytes)
+
+-- the bytes are a role for each of these, and no more
+abbrev pub HaveRoles : List ObjectRef → List ℕ → Type 0
+HaveRoles [] bytes = bytes ≡ []
+HaveRoles (target ∷ targets) bytes = BeginsWithText bytes × HaveRoles targets (after_text bytes)

@@ -8,6 +8,7 @@ use Rattle.std.specs.Str.{bytes_eq}
 use Rattle.std.specs.declared.string.String.{String}
 use Rattle.opl_reader.specs.declared.object.Ref.{Ref}
 use Rattle.opl_reader.specs.declared.object.Tag.{Tag}
+use Rattle.opl_reader.specs.declared.object.Member.{Member}
 use Rattle.opl_reader.specs.declared.fault.LineFault.{LineFault}
 use Rattle.opl_reader.specs.declared.fault.LineError.{LineError}
 use Rattle.opl_reader.specs.declared.fault.LineError.TheVariants as line
@@ -15,7 +16,7 @@ use Rattle.opl_reader.specs.declared.feed.FeedError.{FeedError}
 use Rattle.opl_reader.specs.declared.feed.FeedError.TheVariants.{Line, OutOfMemory}
 use Rattle.opl_reader.specs.Parts.{Part, part}
 use Rattle.opl_reader.specs.Reading.{◌>>=◌}
-use Rattle.opl_reader.specs.ItemReading.{is_comma, tag_at, ref_of}
+use Rattle.opl_reader.specs.ItemReading.{is_comma, tag_at, ref_of, member_at}
 use Rattle.opl_reader.specs.LineReading.{is_passed_over}
 
 -- a value as far as the machine counts
@@ -73,6 +74,10 @@ tag key value = record { key = key; value = value }
 -- the tags with the one that an item spells, or the item's fault
 abbrev pub kept_at : List Tag → ℕ → List ℕ → Result (List Tag) LineFault
 kept_at tags place item = tag_at place item >>= λ t. Ok (kept_with tags t)
+
+-- the members with the one that an item spells, or the item's fault
+abbrev pub with_member_at : List Member → ℕ → List ℕ → Result (List Member) LineFault
+with_member_at members place item = member_at place item >>= λ m. Ok (members ++ m ∷ [])
 
 -- the set has the keys of these tags
 abbrev pub HasKeysOf : {Y : Type 0} → BTreeSet (String Y) → List Tag → Type 0

@@ -4,7 +4,8 @@ ghost use Rattle.std.specs.Prelude.{◌≡◌};
 ghost use Rattle.opl_reader.specs.Fields.{nothing, object_of};
 
 use crate::coordinate::{Latitude, Longitude};
-use crate::object::{Members, Object, ObjectKind};
+use crate::members::Members;
+use crate::object::{Object, ObjectKind};
 use crate::place::place_of;
 use crate::refs::Refs;
 use crate::tags::Tags;

@@ -1,19 +1,20 @@
 //! Values that are lists of items.
 
-ghost use Rattle.std.specs.Prelude.{◌≡◌, ℕ, List, ◌+◌, ◌^◌, ◌<◌, ◌≤◌, ◌∷◌, ◌++◌, [], length, drop, take, IfSome, OnOk};
+ghost use Rattle.std.specs.Prelude.{◌≡◌, ℕ, List, ◌+◌, ◌^◌, ◌<◌, ◌≤◌, ◌∷◌, ◌++◌, [], length, drop, take, IfSome, OnOk, option_map};
 ghost use Rattle.std.specs.List.{slice_split, list_any};
 ghost use Rattle.std.specs.Option.{option_copied};
 ghost use Rattle.std.specs.Str.{IsUtf8, bytes_eq};
 ghost use Rattle.opl_reader.specs.Reading.{Gives, Leaves};
 ghost use Rattle.opl_reader.specs.Items.{kind_of};
-ghost use Rattle.opl_reader.specs.ItemReading.{is_comma, tags_at, own_place_of, ref_behind, ref_of, ref_at, refs_at, target_of, member_at, members_at};
-ghost use Rattle.opl_reader.specs.Steps.{BeginsWithRef, IsFirstRef, all_left, left_parts, left_len, tag, kept_with, kept_at, HasKeysOf};
+ghost use Rattle.opl_reader.specs.ItemReading.{is_comma, tags_at, own_place_of, ref_behind, ref_of, ref_at, refs_at, target_of, members_at};
+ghost use Rattle.opl_reader.specs.Steps.{BeginsWithRef, IsFirstRef, all_left, left_parts, left_len, tag, kept_with, kept_at, with_member_at, HasKeysOf};
 
 use crate::cut::{cut, cut_bytes};
 use crate::escape::{is_plain, read_string};
 use crate::fault::{FaultKind, LineError, fault};
+use crate::members::Members;
 use crate::number::{leading_digits, read_id};
-use crate::object::{Member, Members, ObjectKind, Ref};
+use crate::object::{ObjectKind, ObjectRef, Ref};
 use crate::place::{place_of, x_of, y_of};
 use crate::refs::Refs;
 use crate::tags::Tags;
@@ -286,32 +287,38 @@ pub fn kind_of(letter: u8) -> Option<ObjectKind>
 
 /// A letter and an id.
 #[tactic(auto, unfolding(crate::specs::ItemReading::target_of))]
-fn read_target(text: &str) -> Option<(ObjectKind, i64)>
-    ensures { result ≡ target_of text.now }
+fn read_target(text: &str) -> Option<ObjectRef>
+    ensures { option_map (λ target. (target.kind, target.id)) result ≡ target_of text.now }
 {
     match text.as_bytes() {
         [] => None,
         [letter, id @ ..] => {
             let kind = kind_of(*letter)?;
             let id = read_id(id)?;
-            Some((kind, id))
+            Some(ObjectRef { kind, id })
         }
     }
 }
 
-/// A member: a target, @ and a role.
+/// Adds the member that an item spells: a target, @ and a role.
 #[tactic(auto, unfolding(crate::specs::ItemReading::member_at))]
-fn read_member(alloc: Global, item: &str, place: u64) -> Result<Member, LineError>
-    ensures { Gives result (member_at place item.now) }
+fn add_member(alloc: Global, members: &mut Members, item: &str, place: u64) -> Result<(), LineError>
+    ensures { Leaves result members.new (with_member_at members.old place item.now) }
 {
     let Some((target, role)) = cut(item, '@') else {
         return Err(fault(FaultKind::BadMember, place));
     };
-    let Some((kind, id)) = read_target(target) else {
+    let Some(target) = read_target(target) else {
         return Err(fault(FaultKind::BadMember, place));
     };
+    // Most roles stand for themselves, and are kept without a copy in between.
+    if is_plain(role) {
+        members.push(target, role)?;
+        return Ok(());
+    }
     let role = read_string(alloc, role, place)?;
-    Ok(Member { kind, id, role })
+    members.push(target, role.as_str())?;
+    Ok(())
 }
 
 /// Members.
@@ -319,15 +326,15 @@ pub fn read_members(alloc: Global, text: &str, place: u64) -> Result<Members, Li
     requires { place + length text.now < 2 ^ 63 }
     ensures { Gives result (members_at place text.now) }
 {
-    let mut members = Members::with_capacity(alloc, item_room(text))?;
+    let mut members = Members::with_capacity(alloc, item_room(text), text.len())?;
     let mut at = place;
     let mut left = all_items(text);
     while let Some(rest) = left {
         let (item, more) = next_item(rest);
-        let member = read_member(alloc, item, at)?;
-        members.push(member)?;
+        add_member(alloc, &mut members, item, at)?;
         at += item.len() as u64 + 1;
         left = more;
     }
-    Ok(members)
+    // As for tags, a copy is held.
+    Ok(members.copy(alloc)?)
 }

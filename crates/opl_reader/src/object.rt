@@ -1,9 +1,9 @@
 //! What an OPL line tells: nodes, ways and relations with their tags.
 
+use crate::members::Members;
 use crate::refs::Refs;
 use crate::tags::Tags;
 use crate::text::Text;
-use lists::List;
 use osm_lattice::Loc;
 
 /// The kinds of OpenStreetMap objects.
@@ -68,6 +68,3 @@ pub enum Object {
         members: Members,
     },
 }
-
-/// The members of a relation, in order.
-pub type Members = List<Member>;

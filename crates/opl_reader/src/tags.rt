@@ -1,13 +1,13 @@
 //! The tags of an object, held in one block: keys and values by turns, each behind its length.
 
-ghost use Rattle.std.specs.Prelude.{◌≡◌, ◌≤◌, ◌<◌, ◌+◌, ◌^◌, ◌++◌, ◌∷◌, ◌==◌, [], length, drop, take, IfOk, OnOk, OnErr, MatchOption, IfNone, option_map, find};
+ghost use Rattle.std.specs.Prelude.{◌≡◌, ◌<◌, ◌^◌, ◌++◌, ◌∷◌, ◌==◌, [], length, IfOk, OnOk, OnErr, MatchOption, IfNone, option_map, find};
 ghost use Rattle.std.specs.Str.{bytes_eq};
-ghost use Rattle.opl_reader.specs.Packed.{length_bytes, packed_text, head_len, text_len, first_text, after_text, BeginsWithText};
+ghost use Rattle.opl_reader.specs.Packed.{packed_text};
 ghost use Rattle.opl_reader.specs.Seen.{tag_seen};
 
+use crate::packed::{push_text, split_text};
 use std::alloc::{AllocError as OutOfMemory, Global};
 use std::marker::Model;
-use std::str;
 
 /// A tag that is lent.
 #[derive(Clone, Copy, Debug)]
@@ -57,52 +57,6 @@ impl<'a> Model for TagIter<'a> {
     ghost invariant = { λ t. Fits t.left t.texts.now };
 }
 
-/// The bytes that stand for a length, and how many there are.
-#[tactic(auto, unfolding(crate::specs::Packed::length_bytes))]
-fn length_bytes(len: u32) -> ([u8; 5], usize)
-    ensures few { result.1 ≤ 5 }
-    ensures bytes { take result.1 result.0 ≡ length_bytes len }
-{
-    if len < 255 {
-        return ([len as u8, 0, 0, 0, 0], 1);
-    }
-    let digits = [
-        len % 256,
-        len / 256 % 256,
-        len / 65_536 % 256,
-        len / 16_777_216,
-    ];
-    (
-        [
-            255,
-            digits[0] as u8,
-            digits[1] as u8,
-            digits[2] as u8,
-            digits[3] as u8,
-        ],
-        5,
-    )
-}
-
-/// Adds a text behind its length. After an `Err` nothing is added.
-fn push_text(texts: &mut Vec<u8>, text: &str) -> Result<(), OutOfMemory>
-    ensures ok { OnOk result (texts.new.items ≡ texts.old.items ++ packed_text text.now) }
-    ensures short { OnOk result (length text.now < 2 ^ 32) }
-    ensures err { OnErr result (texts.new.items ≡ texts.old.items) }
-{
-    let Ok(len) = u32::try_from(text.len()) else {
-        return Err(OutOfMemory);
-    };
-    let before = texts.len();
-    let (bytes, count) = length_bytes(len);
-    texts.extend_from_slice(&bytes[..count])?;
-    if texts.extend_from_slice(text.as_bytes()).is_err() {
-        texts.truncate(before);
-        return Err(OutOfMemory);
-    }
-    Ok(())
-}
-
 /// Adds a key and a value. After an `Err` nothing is added.
 fn push_both(texts: &mut Vec<u8>, key: &str, value: &str) -> Result<(), OutOfMemory>
     ensures ok { OnOk result (texts.new.items
@@ -117,39 +71,6 @@ fn push_both(texts: &mut Vec<u8>, key: &str, value: &str) -> Result<(), OutOfMem
         return Err(OutOfMemory);
     }
     Ok(())
-}
-
-/// The length that stands in front of a text, and what stands behind it.
-#[tactic(auto, unfolding(crate::specs::Packed::head_len, crate::specs::Packed::text_len))]
-fn split_length(bytes: &[u8]) -> (usize, &[u8])
-    requires { head_len bytes.now ≤ length bytes.now }
-    ensures len { result.0 ≡ text_len bytes.now }
-    ensures behind { result.1.now ≡ drop (head_len bytes.now) bytes.now }
-{
-    let first = bytes[0];
-    if first < 255 {
-        let (_, behind) = bytes.split_at(1);
-        return (usize::from(first), behind);
-    }
-    let (digits, behind) = bytes.split_at(5);
-    let len = usize::from(digits[1])
-        + 256 * usize::from(digits[2])
-        + 65_536 * usize::from(digits[3])
-        + 16_777_216 * usize::from(digits[4]);
-    (len, behind)
-}
-
-/// The text in front, and what stands behind it.
-fn split_text(bytes: &[u8]) -> (&str, &[u8])
-    requires { BeginsWithText bytes.now }
-    ensures text { result.0.now ≡ first_text bytes.now }
-    ensures behind { result.1.now ≡ after_text bytes.now }
-{
-    let (len, behind) = split_length(bytes);
-    let (text, behind) = behind.split_at(len);
-    // These are the bytes of the text that was pushed, so they are proved to be UTF-8.
-    let text = unsafe { str::from_utf8_unchecked(text) };
-    (text, behind)
 }
 
 impl Tags {

@@ -45,9 +45,10 @@ pub(crate) fn put_members(text: &mut Vec<u8>, members: &Members) -> Result<(), O
     ensures kept { OnErr result (Keeps text.old.items text.new.items) }
 {
     let mut mark: &[u8] = b" M";
-    for member in members.as_slice() {
+    let mut rest = members.iter();
+    while let Some(member) = rest.next() {
         text.extend_from_slice(mark)?;
-        put_member(text, member)?;
+        put_member(text, &member)?;
         mark = b",";
     }
     Ok(())

@@ -1,11 +1,11 @@
 //! Items of a field: tags, references and members.
 
 ghost use Rattle.std.specs.Prelude.{◌≡◌, ◌++◌, OnOk, OnErr};
-ghost use Rattle.opl_reader.specs.Seen.{tag_seen};
+ghost use Rattle.opl_reader.specs.Seen.{member_seen, tag_seen};
 ghost use Rattle.osm_notation.specs.Kept.{Keeps};
 ghost use Rattle.opl_writer.specs.Written.{kind_letter, member_text, own_place_text, ref_text, tag_text};
 
-use opl_reader::{Member, ObjectKind, Ref, TagRef};
+use opl_reader::{MemberRef, ObjectKind, Ref, TagRef};
 use osm_lattice::Loc;
 use osm_notation::{put_coordinate, put_number, put_written};
 use std::alloc::AllocError as OutOfMemory;
@@ -56,12 +56,13 @@ fn letter(kind: ObjectKind) -> &'static [u8]
 }
 
 /// Adds a member: its letter, its id, an at sign and its role, which may be empty.
-pub(crate) fn put_member(text: &mut Vec<u8>, member: &Member) -> Result<(), OutOfMemory>
-    ensures text { OnOk result (text.new.items ≡ text.old.items ++ member_text member.now) }
+pub(crate) fn put_member(text: &mut Vec<u8>, member: &MemberRef<'_>) -> Result<(), OutOfMemory>
+    ensures text { OnOk result (text.new.items
+        ≡ text.old.items ++ member_text (member_seen member.now)) }
     ensures kept { OnErr result (Keeps text.old.items text.new.items) }
 {
     text.extend_from_slice(letter(member.kind))?;
     put_number(text, member.id)?;
     text.push(b'@')?;
-    put_written(text, member.role.as_str())
+    put_written(text, member.role)
 }

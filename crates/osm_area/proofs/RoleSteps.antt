@@ -1,9 +1,10 @@
 -- One more member, edge or ring.
-use Rattle.std.proofs.Common.{◌≡◌, ◌∙◌, ℕ, ◌+◌, ◌<◌, Bool, true, false, cond, ◌||◌, List, [], ◌∷◌, ◌++◌, take, length, get_or, find, ℤ, Option, None, Some, option_map, append_assoc, append-nil, refl, sym, ap}
+use Rattle.std.proofs.Common.{◌≡◌, ◌∙◌, ℕ, ◌+◌, ◌<◌, Bool, true, false, cond, ◌||◌, List, [], ◌∷◌, ◌++◌, take, length, get_or, find, ℤ, Option, None, Some, option_map, append_assoc, append-nil, refl, sym, ap, inl, inr}
 use Rattle.std.specs.List.{cons_option, filter_map, list_any}
 use Rattle.std.specs.Option.{option_or}
+use Rattle.std.proofs.lemmas.Bool.{cases_Bool}
 use Rattle.std.proofs.lemmas.List.{take_more, map-append}
-use Rattle.std.proofs.lemmas.List.Folds.{find-append, list_any-append}
+use Rattle.std.proofs.lemmas.List.Folds.{list_any-append}
 use Rattle.std.proofs.lemmas.List.Elements.{filter_map-append}
 use Rattle.std.proofs.lemmas.Grind.{flat_map-append}
 use Rattle.osm_geom.specs.declared.edge.Edge.{Edge}
@@ -12,25 +13,29 @@ use Rattle.opl_reader.specs.declared.object.Member.{Member}
 use Rattle.osm_objects.specs.declared.problem.Note.{Note}
 use Rattle.osm_nest.specs.declared.polygon.Polygon.{Polygon}
 use Rattle.osm_area.specs.declared.roles.Role.{Role}
-use Rattle.osm_area.specs.RoleKinds.{role_named, first_role}
+use Rattle.osm_area.specs.RoleKinds.{first_role}
 use Rattle.osm_area.specs.Roles.{mentions, carries, is_in_rings, inners, outers}
 
 -- ---- roles
 
-map-or : {X Y : Type 0} (f : X → Y) (o p : Option X) → option_map f (option_or o p) ≡ option_or (option_map f o) (option_map f p)
-map-or f None p = refl
-map-or f (Some x) p = refl
+or-grouped : {X : Type 0} (a b c : Option X) → option_or (option_or a b) c ≡ option_or a (option_or b c)
+or-grouped None b c = refl
+or-grouped (Some x) b c = refl
 
-pub role_step : (members : List Member) (i : ℕ) (m : Member) (old new : ℤ → Option Role) → i < length members → m ≡ get_or members i m → ((way : ℤ) → old way ≡ first_role (take i members) way)
-    → ((way : ℤ) → new way ≡ option_or (old way) (first_role (m ∷ []) way)) → (way : ℤ) → new way ≡ first_role (take (i + 1) members) way
-role_step members i m old new h is inv after way =
-    let f : Member → Role = λ m. role_named m.role in
-    let taken : take (i + 1) members ≡ take i members ++ m ∷ [] = take_more members i m h ∙ ap (λ y. take i members ++ y ∷ []) (sym is) in
-    after way
-    ∙ (ap (λ o. option_or o (first_role (m ∷ []) way)) (inv way)
-    ∙ (sym (map-or f (find (mentions way) (take i members)) (find (mentions way) (m ∷ [])))
-    ∙ (sym (ap (option_map f) (find-append (mentions way) (take i members) (m ∷ [])))
-    ∙ sym (ap (λ ms. first_role ms way) taken))))
+first-then-others : (m : Member) (others : List Member) (way : ℤ) → option_or (first_role (m ∷ []) way) (first_role others way) ≡ first_role (m ∷ others) way
+first-then-others m others way = elim (cases_Bool (mentions way m)) [
+  | inl named ↦ rw named refl
+  | inr other ↦ rw other refl
+]
+
+pub role_step : (members before others : List Member) (m : Member) (old new : ℤ → Option Role) → before ≡ m ∷ others → ((way : ℤ) → option_or (old way) (first_role before way) ≡ first_role members way)
+    → ((way : ℤ) → new way ≡ option_or (old way) (first_role (m ∷ []) way)) → (way : ℤ) → option_or (new way) (first_role others way) ≡ first_role members way
+role_step members before others m old new is inv after way =
+    ap (λ o. option_or o (first_role others way)) (after way)
+    ∙ or-grouped (old way) (first_role (m ∷ []) way) (first_role others way)
+    ∙ ap (option_or (old way)) (first-then-others m others way)
+    ∙ ap (λ ms. option_or (old way) (first_role ms way)) (sym is)
+    ∙ inv way
 
 -- ---- notes
 

@@ -5,7 +5,7 @@ ghost use Rattle.osm_objects.specs.Object.{same_kind};
 ghost use Rattle.osm_area.specs.MemberWays.{ways_among, named_ways};
 ghost use Rattle.opl_reader.specs.declared.object.ObjectKind.TheVariants.{Way};
 
-use opl_reader::{Member, ObjectKind, ObjectRef};
+use opl_reader::{Members, ObjectKind, ObjectRef};
 use osm_objects::Store;
 use std::alloc::{AllocError as OutOfMemory, Global};
 
@@ -20,14 +20,17 @@ pub fn is_way(kind: ObjectKind) -> bool
 }
 
 /// The ways among members, in order.
-fn ways_among(alloc: Global, members: &[Member]) -> Result<Vec<i64>, OutOfMemory>
+fn ways_among(alloc: Global, members: &Members) -> Result<Vec<i64>, OutOfMemory>
     ensures { IfOk result (λ v. v.items ≡ ways_among members.now) }
 {
-    members
-        .iter()
-        .filter(|m| is_way(m.kind))
-        .map(|m| m.id)
-        .collect(alloc)
+    let mut ways = Vec::with_capacity(alloc, members.len())?;
+    let mut rest = members.iter();
+    while let Some(member) = rest.next() {
+        if is_way(member.kind) {
+            ways.push(member.id)?;
+        }
+    }
+    Ok(ways)
 }
 
 /// The ways that a candidate names, in order: a way names itself, and a relation its way members of every role.
@@ -42,7 +45,7 @@ pub fn named_ways(
         ObjectKind::Node => Ok(Vec::new(alloc)),
         ObjectKind::Way => Vec::from_slice(alloc, &[candidate.id]),
         ObjectKind::Relation => match store.relation(candidate.id) {
-            Some(relation) => ways_among(alloc, relation.members.as_slice()),
+            Some(relation) => ways_among(alloc, relation.members),
             None => Ok(Vec::new(alloc)),
         },
     }

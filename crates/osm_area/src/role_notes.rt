@@ -11,7 +11,7 @@ use crate::outcome_lists::Notes;
 use crate::ring_segments::{holds_some, inner_segments, outer_segments};
 use crate::roles::{Role, any_names_a_ring, first_roles};
 use indexmap::IndexMap;
-use opl_reader::{Member, ObjectKind, ObjectRef};
+use opl_reader::{Members, ObjectKind, ObjectRef};
 use osm_geom::Seg;
 use osm_nest::Polygons;
 use osm_objects::{Note, Store};
@@ -93,7 +93,7 @@ fn add_notes_among(
     notes: &mut Notes,
     alloc: Global,
     store: &Store,
-    members: &[Member],
+    members: &Members,
     polygons: &Polygons,
     ways: &[i64],
 ) -> Result<(), OutOfMemory>
@@ -129,8 +129,7 @@ pub fn add_role_notes(
         ObjectKind::Way => Ok(()),
         ObjectKind::Relation => match store.relation(candidate.id) {
             Some(relation) => {
-                let members = relation.members.as_slice();
-                add_notes_among(notes, alloc, store, members, polygons, ways)
+                add_notes_among(notes, alloc, store, relation.members, polygons, ways)
             }
             None => Ok(()),
         },

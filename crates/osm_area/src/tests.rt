@@ -1,5 +1,5 @@
 use super::*;
-use opl_reader::{Member, Members, Object, ObjectKind, ObjectRef, Ref, Refs, Tags, Text};
+use opl_reader::{Members, Object, ObjectKind, ObjectRef, Ref, Refs, Tags};
 use osm_geom::{Loc, Point, Seg};
 use osm_nest::Polygon;
 use osm_objects::{Note, Problem, Store};
@@ -70,12 +70,12 @@ fn role_number(word: &str) -> u8 {
     }
 }
 
-fn role_of(alloc: Global, number: u8) -> Result<Text, OutOfMemory> {
+fn role_of(number: u8) -> &'static str {
     match number {
-        0 => Text::from_str(alloc, ""),
-        1 => Text::from_str(alloc, "inner"),
-        2 => Text::from_str(alloc, "outer"),
-        _ => Text::from_str(alloc, "Inner"),
+        0 => "",
+        1 => "inner",
+        2 => "outer",
+        _ => "Inner",
     }
 }
 
@@ -86,8 +86,7 @@ fn members_of(alloc: Global, kind: ObjectKind, words: &str) -> Result<Members, O
     for word in words.split_whitespace().skip(2) {
         match word.parse::<i64>() {
             Ok(id) => {
-                let role = role_of(alloc, number)?;
-                members.push(Member { kind, id, role })?;
+                members.push(ObjectRef { kind, id }, role_of(number))?;
             }
             Err(_) => number = role_number(word),
         }

@@ -1,7 +1,7 @@
 //! The store as its callers see it.
 
 use super::*;
-use opl_reader::{Member, Members, Object, ObjectKind, ObjectRef, Ref, Refs, Tags, Text};
+use opl_reader::{Members, Object, ObjectKind, ObjectRef, Ref, Refs, Tags, Text};
 use osm_lattice::Loc;
 use std::alloc::Global;
 use std::test::Fail;
@@ -79,12 +79,8 @@ fn refs_of(alloc: Global, word: &str) -> Result<Refs, Fail> {
 fn members_of(alloc: Global, ids: &[i64]) -> Result<Members, Fail> {
     let mut members = Members::new(alloc);
     for id in ids {
-        let role = Text::from_str(alloc, "outer")?;
-        members.push(Member {
-            kind: WAY,
-            id: *id,
-            role,
-        })?;
+        let target = ObjectRef { kind: WAY, id: *id };
+        members.push(target, "outer")?;
     }
     Ok(members)
 }
@@ -335,8 +331,9 @@ fn a_relation_is_lent(rt: HostRuntime) -> Result<(), Fail> {
     match store.relation(5) {
         Some(relation) => {
             assert_eq!(rt; words_of(alloc, relation.tags)?.as_str(), "type=route ");
-            let ids = relation.members.as_slice().iter().map(|member| member.id);
-            assert!(rt; ids.eq([-3]));
+            let mut members = relation.members.iter();
+            assert_eq!(rt; members.next().map(|member| member.id), Some(-3));
+            assert!(rt; members.next().is_none());
             Ok(())
         }
         None => Err(Fail::new("no relation 5")),

@@ -6,7 +6,7 @@ ghost use Rattle.osm_sample.specs.Numbers.{numbers};
 ghost use Rattle.osm_sample.specs.Objects.{cell_nodes, cell_relation, cell_ways, corner_node, square_nodes};
 
 use crate::nodes::node_at;
-use crate::ways::{closed_way, multipolygon, way_member};
+use crate::ways::{add_way, closed_way, multipolygon};
 use opl_reader::{Members, Object, Tags};
 use std::alloc::{AllocError as OutOfMemory, Global};
 
@@ -118,8 +118,8 @@ fn cell_relation(alloc: Global, k: u32) -> Result<Object, OutOfMemory>
     ensures { IfOk result (λ relation. relation ≡ cell_relation k) }
 {
     let mut members = Members::new(alloc);
-    members.push(way_member(alloc, 2 * k + 1, "outer")?)?;
-    members.push(way_member(alloc, 2 * k + 2, "inner")?)?;
+    add_way(&mut members, 2 * k + 1, "outer")?;
+    add_way(&mut members, 2 * k + 2, "inner")?;
     multipolygon(alloc, k + 1, "grass", members)
 }
 

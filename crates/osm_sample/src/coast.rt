@@ -6,7 +6,7 @@ ghost use Rattle.osm_sample.specs.Objects.{cells_end, coast_nodes, coast_way, fo
 
 use crate::cells::cell_count;
 use crate::nodes::node_at;
-use crate::ways::{closed_way, multipolygon, one_tag, way_member};
+use crate::ways::{add_way, closed_way, multipolygon, one_tag};
 use opl_reader::{Members, Object};
 use std::alloc::{AllocError as OutOfMemory, Global};
 
@@ -97,7 +97,7 @@ pub(crate) fn forest(alloc: Global, n: u32) -> Result<Object, OutOfMemory>
 {
     let mut members = Members::new(alloc);
     for i in 0..2 * cell_count(n) {
-        members.push(way_member(alloc, i + 1, "")?)?;
+        add_way(&mut members, i + 1, "")?;
     }
     multipolygon(alloc, cell_count(n) + 1, "forest", members)
 }

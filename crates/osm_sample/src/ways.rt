@@ -4,7 +4,7 @@ ghost use Rattle.std.specs.Prelude.{◌≡◌, ◌≤◌, ◌+◌, ◌++◌, IfO
 ghost use Rattle.osm_sample.specs.Numbers.{numbers};
 ghost use Rattle.osm_sample.specs.Objects.{closed_refs, closed_way, multipolygon, ref_to, tag_of, way_member};
 
-use opl_reader::{Member, Members, Object, ObjectKind, Ref, Refs, Tags, Text};
+use opl_reader::{Members, Object, ObjectKind, ObjectRef, Ref, Refs, Tags};
 use std::alloc::{AllocError as OutOfMemory, Global};
 
 /// A reference to a node.
@@ -58,15 +58,15 @@ pub(crate) fn one_tag(alloc: Global, key: &str, value: &str) -> Result<Tags, Out
     Ok(tags)
 }
 
-/// A way as a member with a role, which may be empty.
-pub(crate) fn way_member(alloc: Global, id: u32, role: &str) -> Result<Member, OutOfMemory>
-    ensures { IfOk result (λ member. member ≡ way_member id role.now) }
+/// Adds a way as a member with a role, which may be empty.
+pub(crate) fn add_way(members: &mut Members, id: u32, role: &str) -> Result<(), OutOfMemory>
+    ensures { OnOk result (members.new ≡ members.old ++ way_member id role.now ∷ []) }
 {
-    Ok(Member {
+    let target = ObjectRef {
         kind: ObjectKind::Way,
         id: i64::from(id),
-        role: Text::from_str(alloc, role)?,
-    })
+    };
+    members.push(target, role)
 }
 
 /// A multipolygon with a use of its land.

@@ -8,7 +8,7 @@ use Rattle.opl_writer.proofs.fields.put_members.Goals as goal
 
 pub loop-member-init : goal.loop-member-init
 loop-member-init c = record {
-  whole = ap (λ (members : List Member). c.args.text.now.items ++ led (32 ∷ 77 ∷ []) (map member_text members)) c.as_slice-member-items.ensures ∙ ap (λ (xs : List ℕ). c.args.text.now.items ++ xs) (led-field 77 (map member_text c.args.members.now));
+  whole = ap (λ (members : List Member). c.args.text.now.items ++ led (32 ∷ 77 ∷ []) (map member_text members)) c.iter-rest.ensures ∙ ap (λ (xs : List ℕ). c.args.text.now.items ++ xs) (led-field 77 (map member_text c.args.members.now));
   kept = kept_as_is c.args.text.now.items c.args.text.now.items refl;
 }
 
