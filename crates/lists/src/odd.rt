@@ -40,7 +40,8 @@ fn cancel_each<T: Ord + Copy>(items: &mut Vec<T>)
     items.truncate(left);
 }
 
-/// What `odd_items` gives of a list that isn't needed any more: it is sorted, and its items cancel, where they stand.
+/// What `odd_items` gives of a list that isn't needed any more, and that mostly is in order in parts: it is sorted, and its items cancel,
+/// where they stand.
 pub fn odd_items_of<T: Ord + Copy>(mut items: Vec<T>) -> Result<Vec<T>, OutOfMemory>
     ensures odd { IfOk result (λ v. (x : T) → count_of T.cmp x v.items
         ≡ count_of T.cmp x items.items % 2) }
@@ -62,5 +63,8 @@ pub fn odd_items<T: Ord + Copy>(alloc: Global, items: &[T]) -> Result<Vec<T>, Ou
     ensures once { IfOk result (λ v. length v.items ≡ length items.now
         → (x : T) → count_of T.cmp x items.now ≤ 1) }
 {
-    odd_items_of(Vec::from_slice(alloc, items)?)
+    let mut odd = Vec::from_slice(alloc, items)?;
+    odd.sort_unstable();
+    cancel_each(&mut odd);
+    Ok(odd)
 }

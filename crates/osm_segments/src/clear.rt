@@ -168,7 +168,7 @@ fn by_ends(alloc: Global, segs: &[Seg]) -> Result<Vec<Seg>, OutOfMemory>
     ensures rise { IfOk result (λ ends. EndsRise ends.items) }
 {
     let mut ends = Vec::from_slice(alloc, segs)?;
-    ends.sort_by(|s, t| s.b.cmp(&t.b))?;
+    ends.sort_unstable_by(|s, t| s.b.cmp(&t.b));
     Ok(ends)
 }
 
