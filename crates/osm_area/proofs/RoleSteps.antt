@@ -1,19 +1,23 @@
 -- One more member, edge or ring.
-use Rattle.std.proofs.Common.{◌≡◌, ◌∙◌, ℕ, ◌+◌, ◌<◌, Bool, true, false, cond, ◌||◌, List, [], ◌∷◌, ◌++◌, take, length, get_or, find, ℤ, Option, None, Some, option_map, append_assoc, append-nil, refl, sym, ap, inl, inr}
+use Rattle.std.proofs.Common.{◌≡◌, ◌∙◌, ℕ, ◌+◌, ◌<◌, Bool, true, false, ◌||◌, List, [], ◌∷◌, ◌++◌, take, length, get_or, find, ℤ, Option, None, Some, option_map, append_assoc, append-nil, refl, sym, ap, inl, inr}
 use Rattle.std.specs.List.{cons_option, filter_map, list_any}
 use Rattle.std.specs.Option.{option_or}
+use Rattle.std.specs.Ordering.{is_eq}
 use Rattle.std.proofs.lemmas.Bool.{cases_Bool}
 use Rattle.std.proofs.lemmas.List.{take_more, map-append}
 use Rattle.std.proofs.lemmas.List.Folds.{list_any-append}
 use Rattle.std.proofs.lemmas.List.Elements.{filter_map-append}
 use Rattle.std.proofs.lemmas.Grind.{flat_map-append}
+use Rattle.osm_geom.specs.declared.edge.Carrier.{Carrier}
+use Rattle.osm_geom.specs.declared.edge.Carrier.TheVariants.{OfSeg}
 use Rattle.osm_geom.specs.declared.edge.Edge.{Edge}
 use Rattle.osm_lattice.specs.declared.seg.Seg.{Seg}
+use Rattle.osm_lattice.specs.Seg.{seg_cmp}
 use Rattle.opl_reader.specs.declared.object.Member.{Member}
 use Rattle.osm_objects.specs.declared.problem.Note.{Note}
 use Rattle.osm_nest.specs.declared.polygon.Polygon.{Polygon}
 use Rattle.osm_area.specs.declared.roles.Role.{Role}
-use Rattle.osm_area.specs.RoleKinds.{first_role}
+use Rattle.osm_area.specs.RoleKinds.{first_role, has_segment}
 use Rattle.osm_area.specs.Roles.{mentions, carries, is_in_rings, inners, outers}
 
 -- ---- roles
@@ -60,11 +64,13 @@ or-assoc : (a b c : Bool) → ((a || b) || c) ≡ (a || (b || c))
 or-assoc true b c = refl
 or-assoc false b c = refl
 
-pub or_turned : (b old : Bool) → cond b true old ≡ (old || b)
-or_turned true true = refl
-or_turned true false = refl
-or_turned false true = refl
-or_turned false false = refl
+-- one more segment
+pub one-segment : (segs : List Seg) (t s : Seg) (new : List Seg) (carrier : Carrier) → new ≡ segs ++ t ∷ [] → carrier ≡ OfSeg t → has_segment new s ≡ (has_segment segs s || carries s carrier)
+one-segment segs t s new carrier made is =
+    ap (λ xs. has_segment xs s) made
+    ∙ (list_any-append (λ u. is_eq (seg_cmp u s)) segs (t ∷ [])
+    ∙ (ap (λ b. has_segment segs s || b) (or-false (is_eq (seg_cmp t s)))
+    ∙ ap (λ k. has_segment segs s || carries s k) (sym is)))
 
 -- one more element of a list, as it was lent
 pub any_step : {X : Type 0} (p : X → Bool) (xs lent : List X) (i : ℕ) (x : X) (initial old new : Bool) → lent ≡ xs → i < length lent → x ≡ get_or lent i x → old ≡ (initial || list_any p (take i xs)) → new ≡ (old || p x)

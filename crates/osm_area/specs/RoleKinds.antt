@@ -1,7 +1,7 @@
 -- Roles, as far as they tell of rings. No public contract cites it.
 use Rattle.std.specs.Prelude.{Bool, ◌||◌, if◌then◌else◌, List, find, bytes_eq, codes, ℕ, ℤ, Option, None, Some, option_map}
-use Rattle.std.specs.BTreeSet.{BTreeSet, contains}
 use Rattle.std.specs.List.{list_any}
+use Rattle.std.specs.Ordering.{is_eq}
 use Rattle.osm_lattice.specs.declared.seg.Seg.{Seg}
 use Rattle.osm_lattice.specs.Seg.{seg_cmp}
 use Rattle.opl_reader.specs.declared.object.Member.{Member}
@@ -33,6 +33,10 @@ abbrev pub note_by : Option Role → ℤ → (in_outer in_inner : Bool) → Opti
 note_by None way in_outer in_inner = None
 note_by (Some role) way in_outer in_inner = note_on role way in_outer in_inner
 
+-- the segment is one of these
+abbrev pub has_segment : List Seg → Seg → Bool
+has_segment segs s = list_any (λ t. is_eq (seg_cmp t s)) segs
+
 -- the same, by the segments along which outer and inner rings run
-abbrev pub note_from : List Object → (outer inner : BTreeSet Seg) → Option Role → ℤ → Option Note
-note_from objects outer inner role way = note_by role way (list_any (contains seg_cmp outer) (way_segments objects way)) (list_any (contains seg_cmp inner) (way_segments objects way))
+abbrev pub note_from : List Object → (outer inner : List Seg) → Option Role → ℤ → Option Note
+note_from objects outer inner role way = note_by role way (list_any (has_segment outer) (way_segments objects way)) (list_any (has_segment inner) (way_segments objects way))

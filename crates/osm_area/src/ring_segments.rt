@@ -1,11 +1,12 @@
-//! The segments along which rings run, to be looked up.
+//! The segments along which rings run, in order, to be looked up by halves.
 
 ghost use Rattle.std.specs.Prelude.{◌≡◌, ◌||◌, IfOk, OnOk};
 ghost use Rattle.std.specs.List.{list_any};
-ghost use Rattle.std.specs.BTreeSet.{contains};
+ghost use Rattle.std.specs.List.Sorted.{IsSorted};
 ghost use Rattle.osm_lattice.specs.declared.seg.Seg.{Seg};
 ghost use Rattle.osm_geom.specs.declared.edge.Edge.{Edge};
 ghost use Rattle.osm_lattice.specs.Seg.{seg_cmp};
+ghost use Rattle.osm_area.specs.RoleKinds.{has_segment};
 ghost use Rattle.osm_area.specs.Roles.{carries, is_in_rings, outers, inners};
 ghost use Rattle.osm_area.specs.Segments.{way_segments};
 
@@ -15,25 +16,24 @@ use osm_nest::Polygon;
 use osm_objects::Store;
 use osm_rings::Ring;
 use std::alloc::{AllocError as OutOfMemory, Global};
-use std::collections::BTreeSet;
 
 /// Adds the segment of an edge.
-fn add_edge(segs: &mut BTreeSet<Seg>, edge: &Edge) -> Result<(), OutOfMemory>
+fn add_edge(segs: &mut Vec<Seg>, edge: &Edge) -> Result<(), OutOfMemory>
     ensures { OnOk result ((s : Seg)
-        → contains seg_cmp segs.new s
-        ≡ (contains seg_cmp segs.old s || carries s edge.now.carrier)) }
+        → has_segment segs.new.items s
+        ≡ (has_segment segs.old.items s || carries s edge.now.carrier)) }
 {
     if let Carrier::OfSeg(seg) = edge.carrier {
-        segs.insert(seg)?;
+        segs.push(seg)?;
     }
     Ok(())
 }
 
 /// Adds those of a ring.
-fn add_ring(segs: &mut BTreeSet<Seg>, ring: &Ring) -> Result<(), OutOfMemory>
+fn add_ring(segs: &mut Vec<Seg>, ring: &Ring) -> Result<(), OutOfMemory>
     ensures { OnOk result ((s : Seg)
-        → contains seg_cmp segs.new s
-        ≡ (contains seg_cmp segs.old s
+        → has_segment segs.new.items s
+        ≡ (has_segment segs.old.items s
         || list_any (λ (e : Edge). carries s e.carrier) ring.now)) }
 {
     for edge in ring.as_slice() {
@@ -43,10 +43,10 @@ fn add_ring(segs: &mut BTreeSet<Seg>, ring: &Ring) -> Result<(), OutOfMemory>
 }
 
 /// Adds those of rings.
-fn add_rings(segs: &mut BTreeSet<Seg>, rings: &[Ring]) -> Result<(), OutOfMemory>
+fn add_rings(segs: &mut Vec<Seg>, rings: &[Ring]) -> Result<(), OutOfMemory>
     ensures { OnOk result ((s : Seg)
-        → contains seg_cmp segs.new s
-        ≡ (contains seg_cmp segs.old s || is_in_rings rings.now s)) }
+        → has_segment segs.new.items s
+        ≡ (has_segment segs.old.items s || is_in_rings rings.now s)) }
 {
     for ring in rings {
         add_ring(segs, ring)?;
@@ -54,40 +54,56 @@ fn add_rings(segs: &mut BTreeSet<Seg>, rings: &[Ring]) -> Result<(), OutOfMemory
     Ok(())
 }
 
-/// The segments along which the outer rings of polygons run.
-pub fn outer_segments(alloc: Global, polygons: &[Polygon]) -> Result<BTreeSet<Seg>, OutOfMemory>
-    ensures { IfOk result (λ segs. (s : Seg)
-        → contains seg_cmp segs s ≡ is_in_rings (outers polygons.now) s) }
+/// Segments in order.
+fn in_order(segs: Vec<Seg>) -> Vec<Seg>
+    ensures held { (s : Seg) → has_segment result.items s ≡ has_segment segs.items s }
+    ensures sorted { IsSorted seg_cmp result.items }
 {
-    let mut segs = BTreeSet::new(alloc);
+    let mut segs = segs;
+    segs.sort_unstable();
+    segs
+}
+
+/// The segments along which the outer rings of polygons run, in order.
+pub fn outer_segments(alloc: Global, polygons: &[Polygon]) -> Result<Vec<Seg>, OutOfMemory>
+    ensures held { IfOk result (λ segs. (s : Seg)
+        → has_segment segs.items s ≡ is_in_rings (outers polygons.now) s) }
+    ensures sorted { IfOk result (λ segs. IsSorted seg_cmp segs.items) }
+{
+    let mut segs = Vec::new(alloc);
     for polygon in polygons {
         add_ring(&mut segs, &polygon.outer)?;
     }
-    Ok(segs)
+    Ok(in_order(segs))
 }
 
-/// The segments along which the inner rings of polygons run.
-pub fn inner_segments(alloc: Global, polygons: &[Polygon]) -> Result<BTreeSet<Seg>, OutOfMemory>
-    ensures { IfOk result (λ segs. (s : Seg)
-        → contains seg_cmp segs s ≡ is_in_rings (inners polygons.now) s) }
+/// The segments along which the inner rings of polygons run, in order.
+pub fn inner_segments(alloc: Global, polygons: &[Polygon]) -> Result<Vec<Seg>, OutOfMemory>
+    ensures held { IfOk result (λ segs. (s : Seg)
+        → has_segment segs.items s ≡ is_in_rings (inners polygons.now) s) }
+    ensures sorted { IfOk result (λ segs. IsSorted seg_cmp segs.items) }
 {
-    let mut segs = BTreeSet::new(alloc);
+    let mut segs = Vec::new(alloc);
     for polygon in polygons {
         add_rings(&mut segs, polygon.inners.as_slice())?;
     }
-    Ok(segs)
+    Ok(in_order(segs))
 }
 
-/// Whether some segment of a way is among these.
-pub fn holds_some(
-    alloc: Global,
-    store: &Store,
-    segs: &BTreeSet<Seg>,
-    way: i64,
-) -> Result<bool, OutOfMemory>
+/// Whether a segment is among these, which are in order.
+fn holds(segs: &[Seg], seg: &Seg) -> bool
+    requires { IsSorted seg_cmp segs.now }
+    ensures { result ≡ has_segment segs.now seg.now }
+{
+    segs.binary_search(seg).is_ok()
+}
+
+/// Whether some segment of a way is among these, which are in order.
+pub fn holds_some(alloc: Global, store: &Store, segs: &[Seg], way: i64) -> Result<bool, OutOfMemory>
+    requires { IsSorted seg_cmp segs.now }
     ensures { IfOk result (λ found. found
-        ≡ list_any (contains seg_cmp segs.now) (way_segments store.now way)) }
+        ≡ list_any (has_segment segs.now) (way_segments store.now way)) }
 {
     let along = way_segments(alloc, store, way)?;
-    Ok(along.iter().any(|seg| segs.contains(seg)))
+    Ok(along.iter().any(|seg| holds(segs, seg)))
 }

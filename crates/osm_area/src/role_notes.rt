@@ -2,7 +2,9 @@
 
 ghost use Rattle.std.specs.Prelude.{◌≡◌, ◌++◌, [], ℤ, IfOk, OnOk};
 ghost use Rattle.std.specs.List.{cons_option, filter_map};
+ghost use Rattle.std.specs.List.Sorted.{IsSorted};
 ghost use Rattle.std.specs.Ordering.{int_eq};
+ghost use Rattle.osm_lattice.specs.Seg.{seg_cmp};
 ghost use Rattle.indexmap.specs.IndexMap.{get};
 ghost use Rattle.osm_area.specs.RoleKinds.{note_from};
 ghost use Rattle.osm_area.specs.Roles.{role_note, role_notes_of};
@@ -16,13 +18,12 @@ use osm_geom::Seg;
 use osm_nest::Polygons;
 use osm_objects::{Note, Store};
 use std::alloc::{AllocError as OutOfMemory, Global};
-use std::collections::BTreeSet;
 
-/// The segments along which outer and inner rings run.
+/// The segments along which outer and inner rings run, in order.
 #[derive(Drop)]
 struct RingSegments {
-    outer: BTreeSet<Seg>,
-    inner: BTreeSet<Seg>,
+    outer: Vec<Seg>,
+    inner: Vec<Seg>,
 }
 
 /// The note on a way of which this is the role, if there is one.
@@ -33,8 +34,10 @@ fn note_on(
     role: Option<Role>,
     way: i64,
 ) -> Result<Option<Note>, OutOfMemory>
+    requires outer { IsSorted seg_cmp rings.now.outer.items }
+    requires inner { IsSorted seg_cmp rings.now.inner.items }
     ensures { IfOk result (λ note. note
-        ≡ note_from store.now rings.now.outer rings.now.inner role way) }
+        ≡ note_from store.now rings.now.outer.items rings.now.inner.items role way) }
 {
     match role {
         Some(Role::Inner) => {
@@ -58,8 +61,10 @@ fn add_note(
     roles: &IndexMap<i64, Role>,
     way: i64,
 ) -> Result<(), OutOfMemory>
+    requires outer { IsSorted seg_cmp rings.now.outer.items }
+    requires inner { IsSorted seg_cmp rings.now.inner.items }
     ensures { OnOk result (notes.new ≡ notes.old ++ cons_option
-        (note_from store.now rings.now.outer rings.now.inner (get int_eq roles.now way) way) []) }
+        (note_from store.now rings.now.outer.items rings.now.inner.items (get int_eq roles.now way) way) []) }
 {
     let role = roles.get(&way).copied();
     if let Some(note) = note_on(alloc, store, rings, role, way)? {
@@ -77,9 +82,11 @@ fn add_all(
     roles: &IndexMap<i64, Role>,
     ways: &[i64],
 ) -> Result<(), OutOfMemory>
+    requires outer { IsSorted seg_cmp rings.now.outer.items }
+    requires inner { IsSorted seg_cmp rings.now.inner.items }
     ensures { OnOk result (notes.new ≡ notes.old ++ filter_map
         (λ (way : ℤ).
-        note_from store.now rings.now.outer rings.now.inner (get int_eq roles.now way) way)
+        note_from store.now rings.now.outer.items rings.now.inner.items (get int_eq roles.now way) way)
         ways.now) }
 {
     for &way in ways {

@@ -43,17 +43,6 @@ fn path_of(alloc: Global, store: &Store, way: i64) -> Result<Vec<Loc>, OutOfMemo
     }
 }
 
-/// The segments of a way: the pairs of neighbouring different locations.
-#[tactic(auto, unfolding(crate::specs::Segments::way_segments))]
-pub fn way_segments(alloc: Global, store: &Store, way: i64) -> Result<Vec<Seg>, OutOfMemory>
-    ensures { IfOk result (λ v. v.items ≡ way_segments store.now way) }
-{
-    let path = path_of(alloc, store, way)?;
-    let mut segments = Vec::with_capacity(alloc, path.len())?;
-    add_along(&mut segments, &path)?;
-    Ok(segments)
-}
-
 /// Adds the segment from the location before, where there is one that is another.
 fn add_step(segments: &mut Vec<Seg>, before: Option<Loc>, at: Loc) -> Result<(), OutOfMemory>
     ensures { OnOk result (segments.new.items ≡ segments.old.items ++ step_from before at) }
@@ -96,6 +85,28 @@ fn add_segments(segments: &mut Vec<Seg>, store: &Store, way: i64) -> Result<bool
         Some(found) => add_along_refs(segments, store, found.refs),
         None => Ok(false),
     }
+}
+
+/// The segments of a way, of which a reference may have no location.
+#[tactic(auto, unfolding(crate::specs::Segments::way_segments))]
+fn segments_where_located(alloc: Global, store: &Store, way: i64) -> Result<Vec<Seg>, OutOfMemory>
+    ensures { IfOk result (λ v. v.items ≡ way_segments store.now way) }
+{
+    let path = path_of(alloc, store, way)?;
+    let mut segments = Vec::with_capacity(alloc, path.len())?;
+    add_along(&mut segments, &path)?;
+    Ok(segments)
+}
+
+/// The segments of a way: the pairs of neighbouring different locations. Mostly all have one.
+pub fn way_segments(alloc: Global, store: &Store, way: i64) -> Result<Vec<Seg>, OutOfMemory>
+    ensures { IfOk result (λ v. v.items ≡ way_segments store.now way) }
+{
+    let mut segments = Vec::new(alloc);
+    if add_segments(&mut segments, store, way)? {
+        return Ok(segments);
+    }
+    segments_where_located(alloc, store, way)
 }
 
 /// The segments of ways, one way after the other.

@@ -1,9 +1,8 @@
 use Rattle.std.proofs.Common.{◌≡◌, take}
-use Rattle.std.specs.BTreeSet.{contains}
+use Rattle.osm_area.specs.RoleKinds.{has_segment}
 use Rattle.osm_lattice.specs.declared.seg.Seg.{Seg}
-use Rattle.osm_lattice.specs.Seg.{seg_cmp}
 use Rattle.osm_area.specs.Roles.{is_in_rings, inners}
 use Rattle.osm_area.proofs.ring_segments.inner_segments.Given as goal
 
 abbrev pub invariant-loop-polygon : goal.invariant-loop-polygon
-invariant-loop-polygon l = (s : Seg) → contains seg_cmp l.segs s ≡ is_in_rings (inners (take l.polygon-index l.polygons)) s
+invariant-loop-polygon l = (s : Seg) → has_segment l.segs.items s ≡ is_in_rings (inners (take l.polygon-index l.polygons)) s

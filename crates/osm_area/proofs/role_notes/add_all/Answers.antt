@@ -11,7 +11,7 @@ use Rattle.osm_area.proofs.role_notes.add_all.Goals as goal
 
 pub loop-way-preserved : goal.loop-way-preserved
 loop-way-preserved c =
-    let note : ℤ → Option Note = λ way. note_from c.args.store.now c.args.rings.now.outer c.args.rings.now.inner (get int_eq c.args.roles.now way) way in
+    let note : ℤ → Option Note = λ way. note_from c.args.store.now c.args.rings.now.outer.items c.args.rings.now.inner.items (get int_eq c.args.roles.now way) way in
     let way : ℤ = get_or c.args.ways.now c.loop-way.way-index (pos 0) in
     let fits : FitsSigned w64 (get_or c.args.ways.now c.loop-way.way-index (pos 0)) = search rules in
     note_step note c.args.ways.now c.loop-way.way-index (pos 0) (note way) c.args.notes.now c.loop-way.notes c.add_note.new.notes

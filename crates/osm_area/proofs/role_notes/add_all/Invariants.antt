@@ -6,4 +6,4 @@ use Rattle.osm_area.specs.RoleKinds.{note_from}
 use Rattle.osm_area.proofs.role_notes.add_all.Given as goal
 
 abbrev pub invariant-loop-way : goal.invariant-loop-way
-invariant-loop-way l = l.notes ≡ l.initial.notes ++ filter_map (λ (way : ℤ). note_from l.store l.rings.outer l.rings.inner (get int_eq l.roles way) way) (take l.way-index l.ways)
+invariant-loop-way l = l.notes ≡ l.initial.notes ++ filter_map (λ (way : ℤ). note_from l.store l.rings.outer.items l.rings.inner.items (get int_eq l.roles way) way) (take l.way-index l.ways)

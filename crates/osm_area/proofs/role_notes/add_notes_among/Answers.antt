@@ -14,8 +14,8 @@ returns-then-not-any_names_a_ring c =
 pub returns : goal.returns
 returns c =
     subst (λ ns. OnOk c.add_all.result (c.add_all.new.notes ≡ c.args.notes.now ++ ns))
-    (notes_are c.args.store.now c.args.members.now c.args.polygons.now c.in_ok-outer_segments.field-0 c.in_ok-inner_segments.field-0 (λ way. get int_eq c.in_ok-roles.roles way) c.args.ways.now
-    (λ s. c.in_ok-outer_segments.ensures s ∙ ap (λ ps. is_in_rings (outers ps) s) c.as_slice.ensures)
-    (λ s. c.in_ok-inner_segments.ensures s ∙ ap (λ ps. is_in_rings (inners ps) s) c.as_slice-2.ensures)
+    (notes_are c.args.store.now c.args.members.now c.args.polygons.now c.in_ok-outer_segments.field-0.items c.in_ok-inner_segments.field-0.items (λ way. get int_eq c.in_ok-roles.roles way) c.args.ways.now
+    (λ s. c.in_ok-outer_segments.ensures.held s ∙ ap (λ ps. is_in_rings (outers ps) s) c.as_slice.ensures)
+    (λ s. c.in_ok-inner_segments.ensures.held s ∙ ap (λ ps. is_in_rings (inners ps) s) c.as_slice-2.ensures)
     c.in_ok-roles.ensures)
     c.add_all.ensures
