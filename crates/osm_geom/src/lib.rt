@@ -36,6 +36,6 @@ pub use osm_lattice::{
     round, segments_apart_are_clear,
 };
 pub use point::{Part, Point};
-pub use point_order::compare_points;
+pub use point_order::{compare_points, order_points};
 pub use span::spans_height;
 pub use turning::clockwise;

@@ -71,3 +71,14 @@ pub fn compare_points(p: Point, q: Point) -> Ordering
         _ => compare_by_fractions(p, q),
     }
 }
+
+/// As `compare_points`, for points that stay where they are: of whole ones only the coordinates are read.
+#[inline]
+pub fn order_points(p: &Point, q: &Point) -> Ordering
+    ensures { result ≡ point_cmp p.now q.now }
+{
+    match (p, q) {
+        (Point::Lattice(p), Point::Lattice(q)) => p.cmp(q),
+        _ => compare_points(*p, *q),
+    }
+}
