@@ -10,14 +10,14 @@ use crate::lone_rings::FEW;
 use crate::ring::Rings;
 use crate::ring_list::rings_of;
 use orbits::orbits;
-use osm_geom::{Edge, Point, compare_points};
+use osm_geom::{Edge, Point, order_points};
 use std::alloc::{AllocError as OutOfMemory, Global};
 
 /// Whether two points are one.
 pub fn is_same_point(p: &Point, q: &Point) -> bool
     ensures { result ≡ is_eq (point_cmp p.now q.now) }
 {
-    compare_points(*p, *q).is_eq()
+    order_points(p, q).is_eq()
 }
 
 /// The place of the first edge that leaves a point.

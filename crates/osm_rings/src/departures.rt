@@ -9,7 +9,7 @@ ghost use Rattle.osm_geom.specs.Point.{point_cmp};
 ghost use Rattle.osm_rings.specs.Departures.{AreClockwiseRound, AreDepartures, AreFrom, AreRising, IsEndAt, IsFirstAt, TellStarts, stands_before};
 
 use crate::sort_keys::sort_key;
-use osm_geom::{Dir, Edge, Point, clockwise, compare_points};
+use osm_geom::{Dir, Edge, Point, clockwise, compare_points, order_points};
 use std::alloc::{AllocError as OutOfMemory, Global};
 use std::cmp::Ordering;
 
@@ -29,7 +29,7 @@ pub struct Departure {
 fn compare_departures(departure: &Departure, other: &Departure) -> Ordering
     ensures { is_lt result ≡ stands_before departure.now other.now }
 {
-    match compare_points(departure.from, other.from) {
+    match order_points(&departure.from, &other.from) {
         Ordering::Equal => clockwise(EAST, departure.dir, other.dir),
         order => order,
     }
@@ -130,10 +130,10 @@ fn parts_before(departures: &[Departure], p: Point, place: usize) -> bool
     ensures from { result ≡ true → (d : Departure) → place < length departures.now
         → is_lt (point_cmp (slice_index_or departures.now place d).from p) ≡ false }
 {
-    if place > 0 && !compare_points(departures[place - 1].from, p).is_lt() {
+    if place > 0 && !order_points(&departures[place - 1].from, &p).is_lt() {
         return false;
     }
-    if place < departures.len() && compare_points(departures[place].from, p).is_lt() {
+    if place < departures.len() && order_points(&departures[place].from, &p).is_lt() {
         return false;
     }
     true
@@ -187,10 +187,10 @@ fn parts_after(departures: &[Departure], p: Point, place: usize) -> bool
     ensures from { result ≡ true → (d : Departure) → place < length departures.now
         → is_lt (point_cmp p (slice_index_or departures.now place d).from) ≡ true }
 {
-    if place > 0 && compare_points(p, departures[place - 1].from).is_lt() {
+    if place > 0 && order_points(&p, &departures[place - 1].from).is_lt() {
         return false;
     }
-    if place < departures.len() && !compare_points(p, departures[place].from).is_lt() {
+    if place < departures.len() && !order_points(&p, &departures[place].from).is_lt() {
         return false;
     }
     true
@@ -232,7 +232,7 @@ fn is_first_there(departures: &[Departure], place: usize) -> bool
         ≡ (slice_index_or departures.now place d).from }
     ensures some { result ≡ false → 0 < place }
 {
-    place == 0 || compare_points(departures[place - 1].from, departures[place].from).is_lt()
+    place == 0 || order_points(&departures[place - 1].from, &departures[place].from).is_lt()
 }
 
 /// The number of the node that the departure at a place leaves, by that of the one before it.

@@ -8,7 +8,7 @@ ghost use Rattle.lists.specs.Rotated.{IsRotated};
 ghost use Rattle.osm_rings.specs.Turned.{BeginsLeast};
 
 use lists::List;
-use osm_geom::{Edge, compare_points};
+use osm_geom::{Edge, order_points};
 use std::alloc::{AllocError as OutOfMemory, Global};
 use std::cmp::Ordering;
 use std::marker::Model;
@@ -97,7 +97,7 @@ fn lesser_start(edges: &[Edge], least: usize, place: usize) -> usize
     requires second { place < length edges.now }
     ensures { IsLesserStart edges.now least place result }
 {
-    match compare_points(edges[place].from, edges[least].from) {
+    match order_points(&edges[place].from, &edges[least].from) {
         Ordering::Less => place,
         _ => least,
     }
