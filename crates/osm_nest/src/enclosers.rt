@@ -219,7 +219,7 @@ fn is_right_of(edge: &Edge, anchor: &Edge) -> bool
     ensures { result ≡ is_right_of anchor.now edge.now }
 {
     let at = lower_end(anchor);
-    spans_height(edge, &at) && compare_just_above(anchor, edge, &at).is_lt()
+    spans_height(edge, at) && compare_just_above(anchor, edge, at).is_lt()
 }
 
 /// Of two edges right of the anchor, whether the first is left of the second.
@@ -230,5 +230,5 @@ fn is_nearer(edge: &Edge, other: &Edge, anchor: &Edge) -> bool
     requires second { IsRight anchor.now other.now }
     ensures { result ≡ is_nearer anchor.now edge.now other.now }
 {
-    compare_just_above(edge, other, &lower_end(anchor)).is_lt()
+    compare_just_above(edge, other, lower_end(anchor)).is_lt()
 }

@@ -80,7 +80,7 @@ fn anchors_at_fractional_points(rt: HostRuntime) -> Result<(), Fail> {
 
 /// The edges right of the hole's anchor: whether their number is odd, and the nearest.
 fn beside(edges: &[Edge], anchor: &Edge) -> (bool, Option<Edge>) {
-    if spans_height(anchor, &lower_end(anchor)) {
+    if spans_height(anchor, lower_end(anchor)) {
         (is_around(edges, anchor), nearest_right(edges, anchor))
     } else {
         (false, None)
@@ -127,7 +127,7 @@ fn rings_begun_at_fractional_points(rt: HostRuntime) -> Result<(), Fail> {
         (6, 1, Ordering::Equal),
     ];
     for (first, second, order) in rows {
-        let found = compare_starts(start(edges[first]), start(edges[second]));
+        let found = compare_starts(&start(edges[first]), &start(edges[second]));
         assert_eq!(rt; found, order, "{first} and {second}");
     }
     Ok(())

@@ -9,7 +9,7 @@ ghost use Rattle.osm_nest.specs.Leftmost.{IsPlaceBefore, comes_first, forks_left
 ghost use Rattle.osm_nest.specs.Outer.{AreConflictFree, IsAnchorOf, IsInner, IsOuter, WindsBySign};
 ghost use Rattle.osm_rings.specs.Ring.{IsRing};
 
-use osm_geom::{Edge, Point, compare_just_above, compare_points, spans_height};
+use osm_geom::{Edge, Point, compare_just_above, order_points, spans_height};
 use osm_rings::Ring;
 use std::cmp::Ordering;
 
@@ -58,7 +58,7 @@ pub(crate) fn first_of<'a>(e: &'a Edge, f: &'a Edge) -> &'a Edge
 fn comes_first(e: &Edge, f: &Edge) -> bool
     ensures { result ≡ comes_first e.now f.now }
 {
-    match compare_points(lower_end(e), lower_end(f)) {
+    match order_points(lower_end(e), lower_end(f)) {
         Ordering::Less => true,
         Ordering::Equal => !forks_left(e, f),
         Ordering::Greater => false,
@@ -71,19 +71,27 @@ fn forks_left(e: &Edge, f: &Edge) -> bool
     ensures { result ≡ forks_left e.now f.now }
 {
     let at = lower_end(e);
-    spans_height(f, &at) && (!spans_height(e, &at) || compare_just_above(f, e, &at).is_lt())
+    spans_height(f, at) && (!spans_height(e, at) || compare_just_above(f, e, at).is_lt())
 }
 
 /// The lower end of an edge, or the left one of a horizontal edge.
-pub(crate) fn lower_end(edge: &Edge) -> Point
-    ensures { result ≡ lower_end edge.now }
+pub(crate) fn lower_end(edge: &Edge) -> &Point
+    ensures { result.now ≡ lower_end edge.now }
 {
-    if is_rising(edge) { edge.from } else { edge.to }
+    if is_rising(edge) {
+        &edge.from
+    } else {
+        &edge.to
+    }
 }
 
 /// The upper end of an edge, or the right one of a horizontal edge.
-pub(crate) fn upper_end(edge: &Edge) -> Point {
-    if is_rising(edge) { edge.to } else { edge.from }
+pub(crate) fn upper_end(edge: &Edge) -> &Point {
+    if is_rising(edge) {
+        &edge.to
+    } else {
+        &edge.from
+    }
 }
 
 /// Whether an edge runs up, or to the right.
@@ -91,5 +99,5 @@ pub(crate) fn upper_end(edge: &Edge) -> Point {
 pub(crate) fn is_rising(edge: &Edge) -> bool
     ensures { result ≡ runs_up edge.now }
 {
-    compare_points(edge.from, edge.to).is_lt()
+    order_points(&edge.from, &edge.to).is_lt()
 }

@@ -6,7 +6,7 @@ ghost use Rattle.osm_geom.specs.Span.{lower_end, spans};
 ghost use Rattle.osm_nest.specs.SweptEdges.{AreRingEdges, AreSlopingEdges, StartsRise};
 
 use crate::outer::{lower_end, upper_end};
-use osm_geom::{Edge, Point, compare_points, spans_height};
+use osm_geom::{Edge, Point, order_points, spans_height};
 use osm_rings::{Ring, sort_key};
 use std::alloc::{AllocError as OutOfMemory, Global};
 
@@ -43,7 +43,7 @@ pub(crate) struct RingEdge<'a> {
 fn is_sloping(edge: &Edge) -> bool
     ensures { result ≡ spans edge.now (lower_end edge.now) }
 {
-    spans_height(edge, &lower_end(edge))
+    spans_height(edge, lower_end(edge))
 }
 
 /// Adds the edges of one ring that aren't horizontal.
@@ -91,7 +91,7 @@ fn sloping_edges<'a>(alloc: Global, rings: &'a [Ring]) -> Result<Vec<RingEdge<'a
 fn is_in_order(edge: &Edge, next: &Edge) -> bool
     ensures { result ≡ not (is_lt (point_cmp (lower_end next.now) (lower_end edge.now))) }
 {
-    !compare_points(lower_end(next), lower_end(edge)).is_lt()
+    !order_points(lower_end(next), lower_end(edge)).is_lt()
 }
 
 /// Whether no edge begins before an earlier one.
@@ -107,7 +107,7 @@ fn sorted_by_lower_ends<'a>(edges: Vec<RingEdge<'a>>) -> Result<Vec<RingEdge<'a>
     ensures rise { IfOk result (λ v. StartsRise v.items) }
 {
     let mut edges = edges;
-    edges.sort_by(|e, f| compare_points(lower_end(e.edge), lower_end(f.edge)))?;
+    edges.sort_by(|e, f| order_points(lower_end(e.edge), lower_end(f.edge)))?;
     Ok(edges)
 }
 
@@ -117,7 +117,7 @@ pub(crate) fn by_lower_ends<'a>(edges: Vec<RingEdge<'a>>) -> Result<Vec<RingEdge
     ensures rise { IfOk result (λ v. StartsRise v.items) }
 {
     let mut edges = edges;
-    edges.sort_by_cached_key(|e| sort_key(lower_end(e.edge)))?;
+    edges.sort_by_cached_key(|e| sort_key(*lower_end(e.edge)))?;
     if starts_rise(&edges) {
         return Ok(edges);
     }
@@ -143,6 +143,6 @@ pub(crate) fn by_upper_ends<'a>(
     edges: &[RingEdge<'a>],
 ) -> Result<Vec<RingEdge<'a>>, OutOfMemory> {
     let mut edges = Vec::from_slice(alloc, edges)?;
-    edges.sort_by_cached_key(|e| sort_key(upper_end(e.edge)))?;
+    edges.sort_by_cached_key(|e| sort_key(*upper_end(e.edge)))?;
     Ok(edges)
 }

@@ -3,7 +3,7 @@ ghost use Rattle.std.specs.Prelude.{IfOk, length, ◌≡◌};
 ghost use Rattle.osm_nest.specs.Grouped.{AreSortedFromLeast, AreListed, IsFromLeastAt, StartsAt, start_cmp};
 ghost use Rattle.osm_nest.specs.RingLists.{AreRings};
 
-use osm_geom::{Point, compare_points};
+use osm_geom::{Point, order_points};
 use osm_rings::Ring;
 use std::alloc::{AllocError as OutOfMemory, Global};
 use std::cmp::Ordering;
@@ -24,10 +24,10 @@ pub struct RingFromLeast {
 }
 
 /// The order of starts.
-pub(crate) fn compare_starts(s: Start, t: Start) -> Ordering
-    ensures { result ≡ start_cmp s t }
+pub(crate) fn compare_starts(s: &Start, t: &Start) -> Ordering
+    ensures { result ≡ start_cmp s.now t.now }
 {
-    compare_points(s.from, t.from).then(compare_points(s.to, t.to))
+    order_points(&s.from, &t.from).then(order_points(&s.to, &t.to))
 }
 
 /// Where a ring begins.
@@ -77,6 +77,6 @@ pub(crate) fn sorted_from_least(
     ensures { IfOk result (λ v. AreSortedFromLeast rings.now v.items) }
 {
     let mut begun = listed_from_least(alloc, rings)?;
-    begun.sort_by(|ring, other| compare_starts(ring.start, other.start))?;
+    begun.sort_by(|ring, other| compare_starts(&ring.start, &other.start))?;
     Ok(begun)
 }

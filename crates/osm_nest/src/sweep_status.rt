@@ -212,16 +212,16 @@ pub(crate) fn left_neighbour<'a>(
         (filter (is_within (lower_end anchor.now.edge.now)) status.now) e) }
 {
     let at = lower_end(anchor.edge);
-    if !spans_height(anchor.edge, &at) {
+    if !spans_height(anchor.edge, at) {
         return None;
     }
-    let place = search(status, anchor, &at);
+    let place = search(status, anchor, at);
     if place == 0 || place >= status.len() {
         return None;
     }
     let left = status.get(place - 1);
     let next = status.get(place);
-    if is_between(left.edge, next.edge, anchor.edge, &at) {
+    if is_between(left.edge, next.edge, anchor.edge, at) {
         return Some(left);
     }
     None

@@ -42,8 +42,8 @@ pub(crate) fn swept_enclosers(
         let first = edges[next];
         let at = lower_end(first.edge);
         let below = lower_end(edges[next.saturating_sub(1)].edge);
-        gone = leave(&mut status, &tops, gone, &below, &at);
-        let Some(to) = enter_row(&mut status, &edges, next, &at)? else {
+        gone = leave(&mut status, &tops, gone, below, at);
+        let Some(to) = enter_row(&mut status, &edges, next, at)? else {
             return Ok(known);
         };
         settled = settle_row(
@@ -97,7 +97,7 @@ fn begins_there(inner: &[RingEdge], next: usize, first: &Edge) -> bool
         return false;
     }
     let anchor = inner[next].edge;
-    spans_height(anchor, &lower_end(first)) && spans_height(first, &lower_end(anchor))
+    spans_height(anchor, lower_end(first)) && spans_height(first, lower_end(anchor))
 }
 
 /// Settles the direct enclosers of the inner rings whose anchors begin at the height at which `first` begins; gives the place of the next anchor.

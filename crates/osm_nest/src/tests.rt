@@ -1,7 +1,7 @@
 //! Edges by their ends, the status of the sweep, and the polygons of rings.
 
 use crate::outer::lower_end;
-use crate::ring_edges::{RingEdge, by_lower_ends, by_upper_ends};
+use crate::ring_edges::{RingEdge, by_lower_ends, by_upper_ends, reach_of};
 use crate::sweep_status::{enter_row, leave, left_neighbour};
 use chunked_list::ChunkedList;
 use osm_geom::{Edge, Loc, Point, Seg, spans_height};
@@ -36,12 +36,21 @@ fn edges(alloc: Global, lines: &str) -> Result<Vec<Edge>, Fail> {
     Ok(edges)
 }
 
+/// An edge of the ring at a place.
+fn ring_edge(edge: &Edge, ring: usize) -> RingEdge<'_> {
+    RingEdge {
+        edge,
+        ring,
+        reach: reach_of(edge),
+    }
+}
+
 /// Those that aren't horizontal, in order of their lower ends.
 fn rising<'a>(alloc: Global, edges: &'a [Edge]) -> Result<Vec<RingEdge<'a>>, Fail> {
     let mut sloping = Vec::new(alloc);
     for (place, edge) in edges.iter().enumerate() {
-        if spans_height(edge, &lower_end(edge)) {
-            sloping.push(RingEdge { edge, ring: place })?;
+        if spans_height(edge, lower_end(edge)) {
+            sloping.push(ring_edge(edge, place))?;
         }
     }
     Ok(by_lower_ends(sloping)?)
@@ -68,12 +77,12 @@ fn sweep_keeps_up(alloc: Global, lines: &str) -> Result<bool, Fail> {
         }
         let at = lower_end(rising[next].edge);
         let below = lower_end(rising[next.saturating_sub(1)].edge);
-        gone = leave(&mut status, &tops, gone, &below, &at);
-        next = match enter_row(&mut status, &rising, next, &at)? {
+        gone = leave(&mut status, &tops, gone, below, at);
+        next = match enter_row(&mut status, &rising, next, at)? {
             Some(to) => to,
             None => return Ok(false),
         };
-        if status.len() != count_at(&rising, &at) {
+        if status.len() != count_at(&rising, at) {
             return Ok(false);
         }
     }
@@ -119,11 +128,12 @@ fn left_of(alloc: Global, edges: &[Edge], place: usize) -> Result<Option<usize>,
     let at = lower_end(anchor);
     let mut status = ChunkedList::new(alloc);
     for item in rising(alloc, edges)? {
-        if spans_height(item.edge, &at) {
-            enter_row(&mut status, &[item], 0, &at)?;
+        if spans_height(item.edge, at) {
+            enter_row(&mut status, &[item], 0, at)?;
         }
     }
-    Ok(left_neighbour(&status, anchor).map(|left| left.ring))
+    let anchor = ring_edge(anchor, place);
+    Ok(left_neighbour(&status, &anchor).map(|left| left.ring))
 }
 
 #[test]
