@@ -37,13 +37,17 @@ fn long_number(bytes: &[u8]) -> (u64, &[u8])
     }
 }
 
-/// The number in front, and what stands behind it. Most have one digit.
+/// The number in front, and what stands behind it. Most have one digit or two.
 pub(crate) fn first_number(bytes: &[u8]) -> (u64, &[u8])
     ensures number { result.0 ≡ number_in bytes.now }
     ensures behind { result.1.now ≡ after_number bytes.now }
 {
     match bytes {
         [last, behind @ ..] if *last < 128 => (u64::from(*last), behind),
+        [first, last, behind @ ..] if *last < 128 => (
+            u64::from(*last) * 128 + u64::from(*first - 128),
+            behind,
+        ),
         _ => long_number(bytes),
     }
 }
