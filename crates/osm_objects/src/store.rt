@@ -205,7 +205,8 @@ impl Store {
         ensures list { IfOk result (λ list. list.items ≡ candidates choice.now self.now) }
         ensures held { IfOk result (λ list. All (λ of. IsSome (object_at self.now of)) list.items) }
     {
-        let mut list = Vec::new(alloc);
+        // There is room for all at once: a list that grows leaves holes behind, and room that isn't used takes no memory.
+        let mut list = Vec::with_capacity(alloc, self.others.len())?;
         for (of, placed) in &self.others {
             if placed.held.is_candidate(choice) {
                 list.push(ObjectRef {
