@@ -8,7 +8,7 @@ use Rattle.opl_reader.specs.declared.object.Ref.{Ref}
 use Rattle.opl_reader.specs.Coordinates.{place_of}
 use Rattle.opl_reader.specs.CoordinateReading.{longitude, latitude}
 use Rattle.opl_reader.specs.Compact.{number_bytes, number_in, after_number, difference, moved}
-use Rattle.opl_reader.specs.Held.{node_from, place_from, x_from, y_from, place_bytes, ref_bytes, refs_bytes, first_place, after_place, first_ref, after_ref, refs_within, refs_behind, AreRefs}
+use Rattle.opl_reader.specs.Held.{node_from, place_from, x_from, y_from, place_bytes, ref_bytes, refs_bytes, first_place, after_place, first_ref, after_ref, refs_within, refs_behind, last_behind, AreRefs}
 use Rattle.opl_reader.proofs.CompactLemmas.{last_digit, more_digits, near_small, number_told, behind_told, difference_small, moved_back, moved_fits, after_first, after_shorter}
 use Rattle.opl_reader.proofs.PlaceLaws.{own_place}
 
@@ -119,7 +119,7 @@ after_place_shorter bytes =
     by_mark true bytes once twice = once
     by_mark false bytes once twice = twice
 
-after_ref_shorter : (byte : ℕ) (bytes : List ℕ) → length (after_ref (byte ∷ bytes)) ≤ length bytes
+pub after_ref_shorter : (byte : ℕ) (bytes : List ℕ) → length (after_ref (byte ∷ bytes)) ≤ length bytes
 after_ref_shorter byte bytes =
     let a = after_first byte bytes in
     let b = after_place_shorter (after_number (byte ∷ bytes)) in
@@ -255,11 +255,6 @@ next_told first bytes after refs r f is some ref behind from =
     ∙ ap (λ (s : Ref). r ∷ refs_behind (Some s) (after_ref bytes)) (sym from)
     ∙ ap (λ (b : List ℕ). r ∷ refs_behind (Some f) b) (sym behind)
 
--- the last of some references, where this one stands before them
-abbrev pub last_behind : Option Ref → List Ref → Option Ref
-last_behind last [] = last
-last_behind last (r ∷ refs) = last_behind (Some r) refs
-
 last_of : (r : Ref) (refs : List Ref) → last_behind (Some r) refs ≡ slice_get (r ∷ refs) (length refs)
 last_of r [] = refl
 last_of r (s ∷ refs) = last_of s refs
@@ -274,3 +269,46 @@ last_is (r ∷ refs) =
 pub first_more : (refs : List Ref) (r : Ref) → slice_get (refs ++ r ∷ []) 0 ≡ Some (unwrap_or (slice_get refs 0) r)
 first_more [] r = refl
 first_more (s ∷ refs) r = refl
+
+-- ---- gone through without being read
+
+-- whichever is the first, there are as many
+as_many_within : (most : ℕ) (f g : Option Ref) (bytes : List ℕ) → length (refs_within most f bytes) ≡ length (refs_within most g bytes)
+as_many_within zero f g bytes = refl
+as_many_within (suc more) f g [] = refl
+as_many_within (suc more) f g (byte ∷ bytes) =
+    ap (λ (n : ℕ). suc n) (as_many_within more (Some (unwrap_or f (first_ref f (byte ∷ bytes)))) (Some (unwrap_or g (first_ref g (byte ∷ bytes)))) (after_ref (byte ∷ bytes)))
+
+pub one_fewer : (bytes : List ℕ) → 0 < length bytes → length (refs_behind None bytes) ≡ suc (length (refs_behind None (after_ref bytes)))
+one_fewer bytes some =
+    let r = first_ref None bytes in
+    ap (λ (rs : List Ref). length rs) (next_is None bytes some) ∙ ap (λ (n : ℕ). suc n) (as_many_within (length (after_ref bytes)) (Some r) None (after_ref bytes))
+
+pub fewer_bytes : (bytes : List ℕ) → 0 < length bytes → length (after_ref bytes) < length bytes
+fewer_bytes [] some = absurd (omega arith)
+fewer_bytes (byte ∷ bytes) some =
+    let n = after_ref_shorter byte bytes in
+    omega arith
+
+-- the reference in front, and where nothing is in front the first
+abbrev pub last_at : Ref → List ℕ → Ref
+last_at first [] = first
+last_at first (byte ∷ bytes) = first_ref (Some first) (byte ∷ bytes)
+
+pub last_goes_on : (first : Ref) (last : Option Ref) (bytes : List ℕ) → 0 < length bytes
+    → last_behind (Some (last_at first bytes)) (refs_behind (Some first) (after_ref bytes)) ≡ last_behind last (refs_behind (Some first) bytes)
+last_goes_on first last [] some = absurd (omega arith)
+last_goes_on first last (byte ∷ bytes) some = ap (last_behind last) (sym (next_is (Some first) (byte ∷ bytes) some))
+
+-- of all references
+pub last_of_all : (bytes : List ℕ) (refs : List Ref) (first : Ref) → refs_behind None bytes ≡ refs → slice_get refs 0 ≡ Some first
+    → last_behind (Some first) (refs_behind (Some first) (after_ref bytes)) ≡ slice_get refs (length refs - 1)
+last_of_all [] refs first is some = absurd (let e : None ≡ Some first = ap (λ (rs : List Ref). slice_get rs 0) is ∙ some in cc)
+last_of_all (byte ∷ bytes) refs first is some =
+    let r = first_ref None (byte ∷ bytes) in
+    let next = next_is None (byte ∷ bytes) (omega arith) in
+    let e : Some r ≡ Some first = ap (λ (rs : List Ref). slice_get rs 0) (sym next ∙ is) ∙ some in
+    let same : r ≡ first = cc in
+    ap (λ (f : Ref). last_behind (Some f) (refs_behind (Some f) (after_ref (byte ∷ bytes)))) (sym same)
+    ∙ ap (λ (rs : List Ref). last_behind None rs) (sym next ∙ is)
+    ∙ last_is refs

@@ -70,6 +70,11 @@ refs_within (suc more) first (byte ∷ bytes) = first_ref first (byte ∷ bytes)
 abbrev pub refs_behind : Option Ref → List ℕ → List Ref
 refs_behind first bytes = refs_within (length bytes) first bytes
 
+-- the last of some references, where this one stands before them
+abbrev pub last_behind : Option Ref → List Ref → Option Ref
+last_behind last [] = last
+last_behind last (r ∷ refs) = last_behind (Some r) refs
+
 -- The bytes are those of references, and no more.
 abbrev pub AreRefs : List ℕ → Type 0
 AreRefs bytes = refs_bytes None (refs_behind None bytes) ≡ bytes

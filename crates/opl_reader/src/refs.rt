@@ -1,10 +1,10 @@
 //! The references of a way, held in one block of bytes: each by how it differs from the first of them.
 
-ghost use Rattle.std.specs.Prelude.{◌≡◌, ◌++◌, ◌∷◌, ◌==◌, ◌+◌, ◌-◌, [], length, take, slice_get, IfOk, OnOk, OnErr};
+ghost use Rattle.std.specs.Prelude.{◌≡◌, ◌++◌, ◌∷◌, ◌==◌, ◌+◌, ◌-◌, [], Some, length, take, slice_get, IfOk, OnOk, OnErr};
 ghost use Rattle.opl_reader.specs.Coordinates.{place_of};
 ghost use Rattle.opl_reader.specs.CoordinateReading.{longitude, latitude};
 ghost use Rattle.opl_reader.specs.Compact.{difference};
-ghost use Rattle.opl_reader.specs.Held.{node_from, place_from, x_from, y_from, place_bytes, ref_bytes, first_place, after_place, first_ref, after_ref};
+ghost use Rattle.opl_reader.specs.Held.{refs_behind, last_behind, node_from, place_from, x_from, y_from, place_bytes, ref_bytes, first_place, after_place, first_ref, after_ref};
 
 use crate::compact::{difference, first_number, moved, push_number};
 use crate::object::Ref;
@@ -151,6 +151,35 @@ fn first_ref(first: Option<Ref>, bytes: &[u8]) -> (Ref, &[u8])
     (Ref { node, at }, behind)
 }
 
+/// What stands behind the reference in front, which isn't asked for.
+#[tactic(auto, unfolding(crate::specs::Held::after_place))]
+fn after_ref(bytes: &[u8]) -> &[u8]
+    ensures { result.now ≡ after_ref bytes.now }
+{
+    let (_, behind) = first_number(bytes);
+    let (along, behind) = first_number(behind);
+    if along == 0 {
+        return behind;
+    }
+    first_number(behind).1
+}
+
+/// The last of the references that stand behind a first one. It is that one where there are none.
+fn last_behind(first: Ref, bytes: &[u8]) -> Ref
+    ensures { Some result ≡ last_behind (Some first) (refs_behind (Some first) bytes.now) }
+{
+    let mut last: &[u8] = &[];
+    let mut rest = bytes;
+    while !rest.is_empty() {
+        last = rest;
+        rest = after_ref(rest);
+    }
+    if last.is_empty() {
+        return first;
+    }
+    first_ref(Some(first), last).0
+}
+
 impl Refs {
     /// The empty list, which takes no memory.
     pub fn new(alloc: Global) -> Refs
@@ -197,15 +226,15 @@ impl Refs {
         Ok(())
     }
 
-    /// How many references there are. It goes through all of them.
+    /// How many references there are. It goes through all of them, and reads none.
     pub fn len(&self) -> usize
         ensures { result ≡ length self.now }
     {
         let mut len = 0;
-        let bytes = self.bytes.as_slice();
-        let mut rest = RefIter { bytes, first: None };
-        while rest.next().is_some() {
+        let mut rest = self.bytes.as_slice();
+        while !rest.is_empty() {
             len += 1;
+            rest = after_ref(rest);
         }
         len
     }
@@ -237,16 +266,12 @@ impl Refs {
         self.iter().next()
     }
 
-    /// The last reference. None where there is none. It goes through all of them.
+    /// The last reference. None where there is none. It goes through all of them, and reads the first and the last.
     pub fn last(&self) -> Option<Ref>
         ensures { result ≡ slice_get self.now (length self.now - 1) }
     {
-        let mut last = None;
-        let mut rest = self.iter();
-        while let Some(reference) = rest.next() {
-            last = Some(reference);
-        }
-        last
+        let first = self.first()?;
+        Some(last_behind(first, after_ref(self.bytes.as_slice())))
     }
 
     /// A copy, which takes no more memory than it needs.

@@ -1,5 +1,11 @@
-use Rattle.opl_reader.proofs.HeldLemmas.{last_is}
+use Rattle.std.proofs.Common.{◌∙◌, List, ℕ, Some, sym, ap}
+use Rattle.opl_reader.specs.Held.{refs_behind, last_behind, after_ref}
+use Rattle.opl_reader.proofs.HeldLemmas.{last_of_all}
 use Rattle.opl_reader.proofs.refs.Refs.last.Goals as goal
 
-pub loop-reference-init : goal.loop-reference-init
-loop-reference-init c = rw c.iter-rest.ensures (last_is c.args.self.now)
+pub returns : goal.returns
+returns c =
+    let first = c.in_ok-first.first in
+    c.last_behind.ensures
+    ∙ ap (λ (bytes : List ℕ). last_behind (Some first) (refs_behind (Some first) bytes)) (c.after_ref.ensures ∙ ap (λ (bytes : List ℕ). after_ref bytes) c.as_slice.ensures.value)
+    ∙ last_of_all c.self.inside.bytes.items c.args.self.now first c.self.view_is (sym c.in_ok-first.ensures)
