@@ -10,8 +10,8 @@ use Rattle.std.proofs.lemmas.List.Folds.{list_all_more, list_all-append}
 use Rattle.std.proofs.lemmas.List.{get_or-take, take_all, take-append-drop, length-append, length-take, length-replicate}
 use Rattle.std.proofs.lemmas.List.Sums.{AllPass-from_list_all, list_all-from_AllPass, position_or_len_is}
 use Rattle.std.proofs.lemmas.List.Elements.{All-take, All-replicate}
-use Rattle.std.proofs.lemmas.Bool.{lt-ltb, ne_eqb, eq-eqb, and_from, and_parts, and_left, and_right, cases_Bool, cond-false, leb-true, cases_lt}
-use Rattle.opl_reader.specs.declared.number.TheConstants.{TENTHS, UNITS}
+use Rattle.std.proofs.lemmas.Bool.{lt-ltb, ne_eqb, eq-eqb, and_from, and_parts, and_left, and_right, cases_Bool, cond-false, leb-true}
+use Rattle.opl_reader.specs.declared.number.TheConstants.{UNITS}
 use Rattle.opl_reader.specs.Numbers.{first_eight}
 use Rattle.opl_reader.specs.NumberReading.{is_point, unsigned_of}
 use Rattle.opl_reader.specs.Steps.{capped, LeadingDigits}
@@ -101,28 +101,9 @@ with_zeros (suc k) xs =
     regroup : (v p : ℕ) → v * 10 * p ≡ v * (p * 10)
     regroup v p = omega arith
 
-tenth : (n : ℕ) → n ≤ 8 → get_or TENTHS n 0 ≡ 10 ^ (8 - n)
-tenth zero le = refl
-tenth (suc zero) le = refl
-tenth (suc (suc zero)) le = refl
-tenth (suc (suc (suc zero))) le = refl
-tenth (suc (suc (suc (suc zero)))) le = refl
-tenth (suc (suc (suc (suc (suc zero))))) le = refl
-tenth (suc (suc (suc (suc (suc (suc zero)))))) le = refl
-tenth (suc (suc (suc (suc (suc (suc (suc zero))))))) le = refl
-tenth (suc (suc (suc (suc (suc (suc (suc (suc zero)))))))) le = refl
-tenth (suc (suc (suc (suc (suc (suc (suc (suc (suc n))))))))) le = absurd (omega arith)
-
--- the first decimals, eight at most, and the tenths that they are worth
-pub tenths_are : (d first : List ℕ) (m v : ℕ) → m ≡ min (length d) 8 → first ≡ take m d → v ≡ digits_value 10 first → v * get_or TENTHS (length first) 0 ≡ digits_value 10 (first_eight d)
-tenths_are d first m v e f worth =
-    let front : first ≡ take 8 d = f ∙ (elim (cases_lt (length d) 8) [
-      | inl lt ↦ take_all m d (omega arith) ∙ sym (take_all 8 d (omega arith))
-      | inr le ↦ let k : m ≡ 8 = omega arith in rw k refl
-    ]) in
-    let long : length first ≡ m = ap length f ∙ omega (arith, length-take m d) in
-    let zeros : 8 - length first ≡ 8 - length d = omega arith in
-    ap (λ t. v * t) (tenth (length first) (omega arith)) ∙ ap (λ k. v * 10 ^ k) zeros ∙ ap (λ u. u * 10 ^ (8 - length d)) (worth ∙ ap (digits_value 10) front) ∙ sym (with_zeros (8 - length d) (take 8 d))
+-- eight decimals and more
+eight : (d : List ℕ) → 8 ≤ length d → first_eight d ≡ take 8 d
+eight d le = let none : 8 - length d ≡ 0 = omega arith in ap (λ k. take 8 d ++ replicate k 48) none ∙ append-nil (take 8 d)
 
 -- ---- values that came back
 
@@ -154,12 +135,12 @@ pub record Tenths (d : List ℕ) (t : ℕ) : Type 0 where
   pub worth : t ≡ digits_value 10 (first_eight d)
   pub bound : t < 100000000
 
-pub tenths_read : (d first others : List ℕ) (m v : ℕ) → m ≡ min (length d) 8 → first ≡ take m d → others ≡ drop m d
-    → Some v ≡ cond (list_all is_ascii_digit first) (Some (digits_value 10 first)) None → true ≡ list_all is_ascii_digit others → Tenths d (v * get_or TENTHS (length first) 0)
-tenths_read d first others m v e f o given all =
+pub tenths_read : (d first others : List ℕ) (v : ℕ) → 8 ≤ length d → first ≡ take 8 d → others ≡ drop 8 d
+    → Some v ≡ cond (list_all is_ascii_digit first) (Some (digits_value 10 first)) None → true ≡ list_all is_ascii_digit others → Tenths d v
+tenths_read d first others v le f o given all =
     let s = some_if (list_all is_ascii_digit first) (digits_value 10 first) v given in
-    let digits = both_digits m d (sym (ap (list_all is_ascii_digit) f) ∙ s.0) (sym (ap (list_all is_ascii_digit) o) ∙ sym all) in
-    let worth = tenths_are d first m v e f s.1 in
+    let digits = both_digits 8 d (sym (ap (list_all is_ascii_digit) f) ∙ s.0) (sym (ap (list_all is_ascii_digit) o) ∙ sym all) in
+    let worth = s.1 ∙ ap (digits_value 10) (f ∙ sym (eight d le)) in
     record { digits = digits; worth = worth; bound = omega (arith, worth, first_eight-bound d digits) }
 
 pub few-capped : (bytes : List ℕ) → length bytes ≤ 19
@@ -200,7 +181,7 @@ pub first_behind : (b : ℕ) (text : List ℕ) (count : ℕ) → (b < 48) ⊎ (5
 first_behind b text count no_digit inside digits here =
     position_or_len_is (λ x. eqb x b) text count 0 inside (λ k lt. let d = digit-at text count k inside lt digits in ne_eqb (get_or text k 0) b (λ e. elim no_digit [ inl low ↦ absurd (omega arith) | inr high ↦ absurd (omega arith) ])) (λ lt. eq-eqb (get_or text count 0) b (here lt))
 
-unit : (n : ℕ) → n ≤ 7 → get_or TENTHS n 0 ≡ get_or UNITS n 0 * 10
+unit : (n : ℕ) → n ≤ 7 → get_or UNITS n 0 * 10 ≡ 10 ^ (8 - n)
 unit zero le = refl
 unit (suc zero) le = refl
 unit (suc (suc zero)) le = refl
@@ -214,8 +195,8 @@ unit (suc (suc (suc (suc (suc (suc (suc (suc n)))))))) le = absurd (omega arith)
 -- up to seven decimals count so many units, and none rounds
 pub few_units : (d : List ℕ) (v : ℕ) → length d ≤ 7 → v ≡ digits_value 10 d → (digits_value 10 (first_eight d) + 5) / 10 ≡ v * get_or UNITS (length d) 0
 few_units d v few worth =
-    let tenths = tenths_are d d (length d) v (omega arith) (sym (take_all (length d) d (omega arith))) worth in
-    let e : digits_value 10 (first_eight d) ≡ v * (get_or UNITS (length d) 0 * 10) = sym tenths ∙ ap (λ t. v * t) (unit (length d) few) in
+    let all : take 8 d ≡ d = take_all 8 d (omega arith) in
+    let e : digits_value 10 (first_eight d) ≡ v * (get_or UNITS (length d) 0 * 10) = with_zeros (8 - length d) (take 8 d) ∙ ap (λ n. n * 10 ^ (8 - length d)) (ap (digits_value 10) all ∙ sym worth) ∙ ap (λ t. v * t) (sym (unit (length d) few)) in
     ap (λ n. (n + 5) / 10) e ∙ rounds v (get_or UNITS (length d) 0)
   where
     rounds : (v u : ℕ) → (v * (u * 10) + 5) / 10 ≡ v * u

@@ -139,19 +139,6 @@ fn cut_at_point(text: &[u8]) -> (&[u8], &[u8])
     (&text[..len], &text[len + 1..])
 }
 
-/// What the last of so many decimals counts, in tenths of a unit.
-const TENTHS: [u64; 9] = [
-    100_000_000,
-    10_000_000,
-    1_000_000,
-    100_000,
-    10_000,
-    1_000,
-    100,
-    10,
-    1,
-];
-
 /// What the last of so many decimals counts, in units.
 const UNITS: [u64; 8] = [10_000_000, 1_000_000, 100_000, 10_000, 1_000, 100, 10, 1];
 
@@ -166,18 +153,18 @@ fn few_decimals(decimals: &[u8]) -> Option<u64>
     Some(value * UNITS[decimals.len()])
 }
 
-/// The units of any number of decimals, rounded at the eighth; None where a byte is no digit.
+/// The units of eight decimals and more, rounded at the eighth; None where a byte is no digit.
 fn many_decimals(decimals: &[u8]) -> Option<u64>
+    requires { 8 ≤ length decimals.now }
     ensures value { result ≡ (if list_all is_ascii_digit decimals.now
         then Some ((digits_value 10 (first_eight decimals.now) + 5) / 10) else None) }
     ensures bound { IfSome result (λ n. n ≤ 10000000) }
 {
-    let (first, others) = decimals.split_at(decimals.len().min(8));
-    let value = short_value(first)?;
+    let (first, others) = decimals.split_at(8);
+    let tenths = short_value(first)?;
     if !are_digits(others) {
         return None;
     }
-    let tenths = value * TENTHS[first.len()];
     Some((tenths + 5) / 10)
 }
 
