@@ -39,6 +39,7 @@ impl Content {
 }
 
 /// The object with this content.
+#[inline(always)]
 pub fn object_of(kind: ObjectKind, id: i64, content: Content) -> Object
     ensures { result ≡ object_of kind id content }
 {

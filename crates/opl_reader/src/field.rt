@@ -40,6 +40,7 @@ pub enum Meaning {
 }
 
 /// What a letter means that every kind of object may have, None where it is no such letter.
+#[inline(always)]
 fn shared(letter: u8) -> Option<Meaning>
     ensures { result ≡ shared letter }
 {
@@ -56,6 +57,7 @@ fn shared(letter: u8) -> Option<Meaning>
 /// What a letter means for a kind of object, None where it means nothing. It is what the field tables say, by
 /// `tables_have_the_letters`, without a search in them.
 #[tactic(auto, unfolding(crate::specs::Fields::letter_of))]
+#[inline(always)]
 pub fn letter_of(kind: ObjectKind, letter: u8) -> Option<Meaning>
     ensures { result ≡ letter_of kind letter }
 {
