@@ -37,10 +37,10 @@ same-some p q e = cc
 abbrev pub lt : Point → Point → Bool
 lt p q = is_lt (point_cmp p q)
 
-ranked-chain : (p q r : Point) → lt p q ≡ false → lt q r ≡ false → lt p r ≡ false
+pub ranked-chain : (p q r : Point) → lt p q ≡ false → lt q r ≡ false → lt p r ≡ false
 ranked-chain = (ranks_by point_total (λ (p : Point). p)).chain
 
-lt-itself : (p : Point) → lt p p ≡ false
+pub lt-itself : (p : Point) → lt p p ≡ false
 lt-itself p = ap is_lt (tied_itself point_total p)
 
 -- neither begins before the other

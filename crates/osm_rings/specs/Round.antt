@@ -1,5 +1,5 @@
 -- Walks along edges from the first on, that pass all of them and come to it again. No public contract cites it.
-use Rattle.std.specs.Prelude.{All, List, [], length, slice_index, slice_index_or, ℕ, ◌++◌, ◌+◌, ◌-◌, ◌<◌, ◌∷◌, ◌≡◌, ◌≢◌}
+use Rattle.std.specs.Prelude.{All, List, length, slice_index, slice_index_or, ℕ, ◌+◌, ◌-◌, ◌<◌, ◌≡◌, ◌≢◌}
 use Rattle.osm_geom.specs.declared.edge.Edge.{Edge}
 use Rattle.osm_rings.specs.Apart.{LeavesFirst}
 use Rattle.osm_rings.specs.Pieces.{edges_at}

@@ -1,9 +1,13 @@
 //! The rings of a few edges of which no two leave one point, as most areas have: the walks of the edges themselves.
-ghost use Rattle.std.specs.Prelude.{◌≡◌, IfOk, true};
+ghost use Rattle.std.specs.Prelude.{◌≡◌, ◌<◌, IfOk, length, true, ℕ};
+ghost use Rattle.orbits.specs.Orbits.{after};
 ghost use Rattle.std.specs.Ordering.{is_eq};
 ghost use Rattle.osm_geom.specs.Point.{point_cmp};
+ghost use Rattle.plane_edges.specs.Multiple.{whole_edges};
 ghost use Rattle.plane_edges.specs.Sided.{IsSided};
 ghost use Rattle.osm_rings.specs.Apart.{AreFollowers, IsFirstLeaving, LeaveApart};
+ghost use Rattle.osm_rings.specs.Departures.{IsFirstMet};
+ghost use Rattle.osm_rings.specs.Numbered.{edge_at};
 ghost use Rattle.osm_rings.specs.RingList.{AreRingsOf};
 
 use crate::lone_rings::FEW;
@@ -62,6 +66,24 @@ fn followers(alloc: Global, edges: &[Edge]) -> Result<Vec<Option<usize>>, OutOfM
     Ok(next)
 }
 
+/// The rings that successors make where no two edges leave one point: no walk is cut.
+pub fn walked_rings(
+    alloc: Global,
+    edges: &[Edge],
+    next: &[Option<usize>],
+) -> Result<Rings, OutOfMemory>
+    requires sided { IsSided edges.now }
+    requires apart { LeaveApart edges.now }
+    requires sized { length next.now ≡ length edges.now }
+    requires first { (i : ℕ) → i < length edges.now
+        → IsFirstMet (whole_edges edges.now) (edge_at (whole_edges edges.now) i)
+        (after next.now i) }
+    ensures { IfOk result (λ v. AreRingsOf edges.now v) }
+{
+    let walks = orbits(alloc, next)?;
+    rings_of(alloc, edges, &walks)
+}
+
 /// The rings of a sided list of edges of which no two leave one point: each walk from an edge to the one that leaves its end.
 pub fn apart_rings(alloc: Global, edges: &[Edge]) -> Result<Rings, OutOfMemory>
     requires sided { IsSided edges.now }
@@ -69,6 +91,5 @@ pub fn apart_rings(alloc: Global, edges: &[Edge]) -> Result<Rings, OutOfMemory>
     ensures { IfOk result (λ v. AreRingsOf edges.now v) }
 {
     let next = followers(alloc, edges)?;
-    let walks = orbits(alloc, &next)?;
-    rings_of(alloc, edges, &walks)
+    walked_rings(alloc, edges, &next)
 }

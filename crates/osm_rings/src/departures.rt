@@ -1,11 +1,13 @@
 //! The edges of a list as they leave their points, in order; the numbers of these points; and the edges that leave one.
 //!
 //! Where departures belong is sought by whole numbers that stand for points, and then tested by the points themselves.
-ghost use Rattle.std.specs.Prelude.{◌≡◌, ◌<◌, ◌≤◌, ◌-◌, All, IfOk, IsPermutation, false, length, not, slice_index_or, true};
+ghost use Rattle.std.specs.Prelude.{◌≡◌, ◌<◌, ◌≤◌, ◌-◌, All, IfOk, IsPermutation, List, false, length, not, slice_index_or, true};
 ghost use Rattle.std.specs.Ordering.{is_lt};
+ghost use Rattle.osm_geom.specs.declared.edge.Edge.{Edge};
 ghost use Rattle.osm_geom.specs.Dir.{vector_along};
 ghost use Rattle.osm_geom.specs.Edge.{direction_of};
 ghost use Rattle.osm_geom.specs.Point.{point_cmp};
+ghost use Rattle.osm_rings.specs.Apart.{LeaveApart};
 ghost use Rattle.osm_rings.specs.Departures.{AreClockwiseRound, AreDepartures, AreFrom, AreRising, IsEndAt, IsFirstAt, TellStarts, stands_before};
 
 use crate::sort_keys::sort_key;
@@ -219,6 +221,20 @@ fn end_at(departures: &[Departure], p: Point, first: usize) -> usize
         return guess;
     }
     departures.partition_point(|departure| !compare_points(p, departure.from).is_lt())
+}
+
+/// Whether each departure leaves a later point than the one before it, so that no two leave one.
+pub fn are_apart(departures: &[Departure]) -> bool
+    ensures { result ≡ true → (es : List Edge) → AreDepartures es departures.now → LeaveApart es }
+{
+    departures.is_sorted_by(|departure, next| leaves_before(departure, next))
+}
+
+/// Whether a departure leaves an earlier point than the next.
+fn leaves_before(departure: &Departure, next: &Departure) -> bool
+    ensures { result ≡ is_lt (point_cmp departure.now.from next.now.from) }
+{
+    order_points(&departure.from, &next.from).is_lt()
 }
 
 /// Whether the departure at a place is the first that leaves its point.

@@ -1,12 +1,16 @@
 //! The ring list of a sided list of edges.
-ghost use Rattle.std.specs.Prelude.{◌≡◌, ◌<◌, ◌∷◌, [], All, IfOk, length, map};
+ghost use Rattle.std.specs.Prelude.{◌≡◌, ◌<◌, ◌∷◌, [], All, IfOk, length, map, ℕ};
+ghost use Rattle.orbits.specs.Orbits.{after};
+ghost use Rattle.osm_rings.specs.Departures.{AreDepartures, IsFirstMet};
+ghost use Rattle.osm_rings.specs.Numbered.{edge_at};
 ghost use Rattle.osm_rings.specs.Pieces.{AreAllCut, edges_at};
 ghost use Rattle.osm_rings.specs.Ring.{IsRing};
 ghost use Rattle.osm_rings.specs.RingList.{AreRingsOf};
+ghost use Rattle.plane_edges.specs.Multiple.{whole_edges};
 ghost use Rattle.plane_edges.specs.Sided.{IsSided};
 
-use crate::apart_rings::{apart_rings, are_few_apart};
-use crate::departures::{departures, node_numbers};
+use crate::apart_rings::{apart_rings, are_few_apart, walked_rings};
+use crate::departures::{Departure, are_apart, departures, node_numbers};
 use crate::lone_rings::lone_ring;
 use crate::ring::{Ring, Rings};
 use crate::successors::successors;
@@ -14,17 +18,38 @@ use orbits::{cut, orbits};
 use osm_geom::Edge;
 use std::alloc::{AllocError as OutOfMemory, Global};
 
-/// The rings of a sided list of edges, however many meet at a node.
+/// The rings that are cut off the walks of successors, however many edges meet at a node.
+fn cut_walks(
+    alloc: Global,
+    edges: &[Edge],
+    departures: &[Departure],
+    next: &[Option<usize>],
+) -> Result<Rings, OutOfMemory>
+    requires sided { IsSided edges.now }
+    requires departures { AreDepartures edges.now departures.now }
+    requires sized { length next.now ≡ length edges.now }
+    requires first { (i : ℕ) → i < length edges.now
+        → IsFirstMet (whole_edges edges.now) (edge_at (whole_edges edges.now) i)
+        (after next.now i) }
+    ensures { IfOk result (λ v. AreRingsOf edges.now v) }
+{
+    let numbers = node_numbers(alloc, edges, departures)?;
+    let walks = orbits(alloc, next)?;
+    let pieces = pieces(alloc, &walks, &numbers)?;
+    rings_of(alloc, edges, &pieces)
+}
+
+/// The rings of a sided list of edges. Where no two edges leave one point, no walk needs to be cut.
 fn cut_rings(alloc: Global, edges: &[Edge]) -> Result<Rings, OutOfMemory>
     requires { IsSided edges.now }
     ensures { IfOk result (λ v. AreRingsOf edges.now v) }
 {
     let departures = departures(alloc, edges)?;
-    let numbers = node_numbers(alloc, edges, &departures)?;
     let next = successors(alloc, edges, &departures)?;
-    let walks = orbits(alloc, &next)?;
-    let pieces = pieces(alloc, &walks, &numbers)?;
-    rings_of(alloc, edges, &pieces)
+    if are_apart(&departures) {
+        return walked_rings(alloc, edges, &next);
+    }
+    cut_walks(alloc, edges, &departures, &next)
 }
 
 /// A list of one ring, of these edges.

@@ -1,7 +1,7 @@
 -- The numbers tell the points apart.
 use Rattle.std.proofs.Common.{arith, get_or, length, refl, ◌∙◌, ◌≡◌}
-use Rattle.std.proofs.lemmas.List.{get_or_default, length-set}
-use Rattle.osm_rings.proofs.Starts.{AreKeyed, numbered-all, numbered-more, numbers-below, numbers-tell}
+use Rattle.std.proofs.lemmas.List.{length-set}
+use Rattle.osm_rings.proofs.Starts.{numbered-all, numbered-more, numbers-below, numbers-tell}
 use Rattle.osm_rings.proofs.departures.node_numbers.Goals as goal
 
 pub loop-place-init : goal.loop-place-init

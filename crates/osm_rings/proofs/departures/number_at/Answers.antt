@@ -1,5 +1,5 @@
 -- A first departure gives its place, another the number of the one before it.
-use Rattle.std.proofs.Common.{get_or, subst}
+use Rattle.std.proofs.Common.{subst}
 use Rattle.osm_rings.specs.Departures.{IsFirstAt}
 use Rattle.osm_rings.proofs.departures.number_at.Goals as goal
 

@@ -1,65 +1,9 @@
--- What is cut off the walks is a ring list.
-use Rattle.std.proofs.Common.{◌≡◌, ◌<◌, All, length, map, ap, subst, sym, ◌∙◌}
-use Rattle.orbits.specs.Once.{HoldEachOnce}
-use Rattle.orbits.specs.Orbits.{AreOrbits, IsOneToOne}
-use Rattle.orbits.proofs.Sums.{all_below, sums_agree}
-use Rattle.osm_rings.specs.Pieces.{AreAllCut, edges_at}
-use Rattle.osm_rings.specs.Ring.{IsRing}
-use Rattle.osm_rings.specs.RingList.{AreRingsOf}
-use Rattle.osm_rings.proofs.RingLists.{all-unmapped, if-ok, mapped-twice, pieces-are-rings, pieces-inside, pieces-ring, successors-of}
-use Rattle.osm_rings.proofs.Multiplied.{tell-plane}
+-- The departures leave later and later points.
+use Rattle.std.proofs.Common.{subst, sym}
+use Rattle.osm_rings.specs.Departures.{AreDepartures}
 use Rattle.osm_rings.proofs.ring_list.cut_rings.Goals as goal
 
-pub orbits-requires : goal.orbits-requires
-orbits-requires c =
-    let are = successors-of c.args.edges.now c.requires c.in_ok-next.next.items c.in_ok-next.ensures.sized c.in_ok-next.ensures.first in
-    subst IsOneToOne (sym c.deref-3.ensures.value) are.map
-
-pub pieces-requires-clause-keyed : goal.pieces-requires-clause-keyed
-pieces-requires-clause-keyed c =
-    let os = map (λ o. o.items) c.in_ok-walks.walks.items in
-    let size : length c.deref-3.result.now ≡ length c.deref-5.result.now = ap length c.deref-3.ensures.value ∙ (c.in_ok-next.ensures.sized ∙ (sym c.in_ok-numbers.ensures.sized ∙ ap length (sym c.deref-5.ensures.value))) in
-    let once : HoldEachOnce (length c.deref-5.result.now) os = subst (λ n. HoldEachOnce n os) size c.in_ok-walks.ensures.orbits.once in
-    let low = all_below (length c.deref-5.result.now) os once in
-    subst (λ ws. All (λ w. All (λ i. i < length c.deref-5.result.now) w.items) ws) (sym c.deref-4.ensures.value) (all-unmapped (λ xs. All (λ i. i < length c.deref-5.result.now) xs) (λ o. o.items) c.in_ok-walks.walks.items low)
-
-pub rings_of-requires-clause-inside : goal.rings_of-requires-clause-inside
-rings_of-requires-clause-inside c =
+pub walked_rings-requires-clause-apart : goal.walked_rings-requires-clause-apart
+walked_rings-requires-clause-apart c =
     let es = c.args.edges.now in
-    let next = c.in_ok-next.next.items in
-    let are = successors-of es c.requires next c.in_ok-next.ensures.sized c.in_ok-next.ensures.first in
-    let os = map (λ o. o.items) c.in_ok-walks.walks.items in
-    let numbers = c.in_ok-numbers.numbers.items in
-    let pieces = map (λ p. p.items) c.in_ok-pieces.pieces.items in
-    let orbits : AreOrbits next os = subst (λ n. AreOrbits n os) c.deref-3.ensures.value c.in_ok-walks.ensures.orbits in
-    let cut : AreAllCut numbers os pieces = subst (λ ks. AreAllCut ks os pieces) c.deref-5.ensures.value (subst (λ ws. AreAllCut c.deref-5.result.now (map (λ w. w.items) ws) pieces) c.deref-4.ensures.value c.in_ok-pieces.ensures) in
-    subst (λ ps. All (λ p. All (λ k. k < length es) p.items) ps) (sym c.deref-6.ensures.value)
-    (all-unmapped (λ xs. All (λ k. k < length es) xs) (λ p. p.items) c.in_ok-pieces.pieces.items (pieces-inside es c.requires next are numbers (tell-plane c.args.edges.now c.in_ok-numbers.numbers.items c.in_ok-numbers.ensures.tell) sums_agree all_below os orbits pieces cut))
-
-pub rings_of-requires-clause-rings : goal.rings_of-requires-clause-rings
-rings_of-requires-clause-rings c =
-    let es = c.args.edges.now in
-    let next = c.in_ok-next.next.items in
-    let are = successors-of es c.requires next c.in_ok-next.ensures.sized c.in_ok-next.ensures.first in
-    let os = map (λ o. o.items) c.in_ok-walks.walks.items in
-    let numbers = c.in_ok-numbers.numbers.items in
-    let pieces = map (λ p. p.items) c.in_ok-pieces.pieces.items in
-    let orbits : AreOrbits next os = subst (λ n. AreOrbits n os) c.deref-3.ensures.value c.in_ok-walks.ensures.orbits in
-    let cut : AreAllCut numbers os pieces = subst (λ ks. AreAllCut ks os pieces) c.deref-5.ensures.value (subst (λ ws. AreAllCut c.deref-5.result.now (map (λ w. w.items) ws) pieces) c.deref-4.ensures.value c.in_ok-pieces.ensures) in
-    subst (λ ps. All (λ p. IsRing (edges_at es p.items)) ps) (sym c.deref-6.ensures.value)
-    (all-unmapped (λ p. IsRing (edges_at es p)) (λ p. p.items) c.in_ok-pieces.pieces.items (pieces-ring es c.requires next are numbers (tell-plane c.args.edges.now c.in_ok-numbers.numbers.items c.in_ok-numbers.ensures.tell) sums_agree all_below os orbits pieces cut))
-
-pub returns : goal.returns
-returns c =
-    let es = c.args.edges.now in
-    let next = c.in_ok-next.next.items in
-    let are = successors-of es c.requires next c.in_ok-next.ensures.sized c.in_ok-next.ensures.first in
-    let os = map (λ o. o.items) c.in_ok-walks.walks.items in
-    let numbers = c.in_ok-numbers.numbers.items in
-    let pieces = map (λ p. p.items) c.in_ok-pieces.pieces.items in
-    let orbits : AreOrbits next os = subst (λ n. AreOrbits n os) c.deref-3.ensures.value c.in_ok-walks.ensures.orbits in
-    let cut : AreAllCut numbers os pieces = subst (λ ks. AreAllCut ks os pieces) c.deref-5.ensures.value (subst (λ ws. AreAllCut c.deref-5.result.now (map (λ w. w.items) ws) pieces) c.deref-4.ensures.value c.in_ok-pieces.ensures) in
-    let whole : AreRingsOf es (map (edges_at es) pieces) = pieces-are-rings es c.requires next are numbers (tell-plane es numbers c.in_ok-numbers.ensures.tell) sums_agree all_below os orbits pieces cut in
-    if-ok (λ v. v ≡ map (λ p. edges_at es p.items) c.deref-6.result.now) (λ v. AreRingsOf es v) c.rings_of.result
-    (λ v is. subst (AreRingsOf es) (sym (is ∙ (ap (map (λ p. edges_at es p.items)) c.deref-6.ensures.value ∙ sym (mapped-twice (λ p. p.items) (edges_at es) c.in_ok-pieces.pieces.items)))) whole)
-    c.rings_of.ensures
+    c.are_apart.ensures c.if-are_apart.true es (subst (AreDepartures es) (sym c.deref-2.ensures.value) c.in_ok-departures.ensures)
