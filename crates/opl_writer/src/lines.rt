@@ -19,7 +19,8 @@ pub fn put_node(
     tags: &Tags,
     place: Option<Loc>,
 ) -> Result<(), OutOfMemory>
-    ensures text { OnOk result (text.new.items ≡ text.old.items ++ ended (node_line id tags.now place)) }
+    ensures text { OnOk result (text.new.items
+        ≡ text.old.items ++ ended (node_line id tags.now place)) }
     ensures kept { OnErr result (Keeps text.old.items text.new.items) }
 {
     text.push(b'n')?;

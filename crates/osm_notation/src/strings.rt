@@ -61,7 +61,8 @@ fn put_hexadecimal(bytes: &mut Vec<u8>, number: u32) -> Result<(), OutOfMemory>
 
 /// Adds a character that doesn't stand for itself: its code point between percent signs.
 fn put_escape(bytes: &mut Vec<u8>, c: char) -> Result<(), OutOfMemory>
-    ensures text { OnOk result (bytes.new.items ≡ bytes.old.items ++ 37 ∷ digits 16 false c ++ 37 ∷ []) }
+    ensures text { OnOk result (bytes.new.items
+        ≡ bytes.old.items ++ 37 ∷ digits 16 false c ++ 37 ∷ []) }
     ensures kept { OnErr result (Keeps bytes.old.items bytes.new.items) }
 {
     bytes.push(b'%')?;
