@@ -1,6 +1,7 @@
 mod Corners
 mod EscapeLemmas
 mod Halves
+mod KeptLemmas
 mod KeyLaws
 mod LeastNodes
 mod NotationLemmas

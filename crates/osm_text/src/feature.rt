@@ -1,7 +1,8 @@
 //! Features of the formats text and GeoJSON.
 
 ghost use Rattle.opl_reader.specs.Seen.{tag_seen};
-ghost use Rattle.std.specs.Prelude.{◌≡◌, ◌++◌, codes, map, IfOk, OnOk};
+ghost use Rattle.std.specs.Prelude.{◌≡◌, ◌++◌, codes, map, IfOk, OnOk, OnErr};
+ghost use Rattle.osm_notation.specs.Kept.{Keeps};
 ghost use Rattle.osm_text.specs.Paths.{paths_of};
 ghost use Rattle.osm_text.specs.Feature.{tag_text, tags_text, feature_text};
 ghost use Rattle.osm_text.specs.GeoJson.{feature_json, id_member, multipolygon_json};
@@ -19,7 +20,8 @@ const FIRST_ROOM: usize = 1_024;
 
 /// Adds a tag.
 fn put_tag(text: &mut Vec<u8>, tag: &TagRef<'_>) -> Result<(), OutOfMemory>
-    ensures { OnOk result (text.new.items ≡ text.old.items ++ tag_text (tag_seen tag.now)) }
+    ensures text { OnOk result (text.new.items ≡ text.old.items ++ tag_text (tag_seen tag.now)) }
+    ensures kept { OnErr result (Keeps text.old.items text.new.items) }
 {
     put_written(text, tag.key)?;
     text.push(b'=')?;
@@ -28,7 +30,8 @@ fn put_tag(text: &mut Vec<u8>, tag: &TagRef<'_>) -> Result<(), OutOfMemory>
 
 /// Adds tags, the first behind a space and each other behind a comma.
 fn put_tags(text: &mut Vec<u8>, tags: &Tags) -> Result<(), OutOfMemory>
-    ensures { OnOk result (text.new.items ≡ text.old.items ++ tags_text tags.now) }
+    ensures text { OnOk result (text.new.items ≡ text.old.items ++ tags_text tags.now) }
+    ensures kept { OnErr result (Keeps text.old.items text.new.items) }
 {
     let mut byte = b' ';
     let mut rest = tags.iter();
@@ -45,15 +48,16 @@ fn put_tags(text: &mut Vec<u8>, tags: &Tags) -> Result<(), OutOfMemory>
 ///
 /// Each ring runs through the locations that its edges leave, the first again at the end (by law all its points where
 /// its edges run along whole segments). Coordinates are in degrees. The
-/// error is want of memory.
+/// error is want of memory: what was there still stands in front, and a part of the feature may stand behind it.
 pub fn put_feature_text(
     text: &mut Vec<u8>,
     polygons: &Polygons,
     tags: &Tags,
     id: Option<FeatureId>,
 ) -> Result<(), OutOfMemory>
-    ensures { OnOk result (text.new.items
+    ensures text { OnOk result (text.new.items
         ≡ text.old.items ++ feature_text id (paths_of polygons.now) tags.now) }
+    ensures kept { OnErr result (Keeps text.old.items text.new.items) }
 {
     put_id_before(text, id)?;
     text.extend_from_slice(b"MULTIPOLYGON")?;
@@ -83,10 +87,11 @@ fn put_geometry(
     polygons: &Polygons,
     id: Option<FeatureId>,
 ) -> Result<(), OutOfMemory>
-    ensures { OnOk result (text.new.items ≡ text.old.items
+    ensures text { OnOk result (text.new.items ≡ text.old.items
         ++ codes "{\"type\":\"Feature\"," ++ id_member id
         ++ codes "\"geometry\":{\"type\":\"MultiPolygon\",\"coordinates\":"
         ++ multipolygon_json (paths_of polygons.now)) }
+    ensures kept { OnErr result (Keeps text.old.items text.new.items) }
 {
     text.extend_from_slice(b"{\"type\":\"Feature\",")?;
     put_id_member(text, id)?;
@@ -99,7 +104,7 @@ fn put_geometry(
 /// Each ring runs through the locations that its edges leave, the first again at the end (by law all its points where
 /// its edges run along whole segments). Coordinates are in degrees. The
 /// properties are the tags as strings, their keys rising by their bytes, of equal keys the first alone. The error is
-/// want of memory.
+/// want of memory: what was there still stands in front, and a part of the feature may stand behind it.
 pub fn put_feature_json(
     alloc: Global,
     text: &mut Vec<u8>,
@@ -107,8 +112,9 @@ pub fn put_feature_json(
     tags: &Tags,
     id: Option<FeatureId>,
 ) -> Result<(), OutOfMemory>
-    ensures { OnOk result (text.new.items
+    ensures text { OnOk result (text.new.items
         ≡ text.old.items ++ feature_json id (paths_of polygons.now) tags.now) }
+    ensures kept { OnErr result (Keeps text.old.items text.new.items) }
 {
     put_geometry(text, polygons, id)?;
     text.extend_from_slice(b"},\"properties\":")?;

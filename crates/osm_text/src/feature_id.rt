@@ -1,5 +1,6 @@
 //! Ids of features.
-ghost use Rattle.std.specs.Prelude.{◌≡◌, ◌++◌, OnOk};
+ghost use Rattle.std.specs.Prelude.{◌≡◌, ◌++◌, OnOk, OnErr};
+ghost use Rattle.osm_notation.specs.Kept.{Keeps};
 ghost use Rattle.osm_text.specs.Feature.{id_before};
 ghost use Rattle.osm_text.specs.GeoJson.{id_member};
 ghost use Rattle.osm_text.specs.Id.{id_text};
@@ -19,7 +20,8 @@ pub enum FeatureId {
 
 /// Adds an id.
 fn put_id(text: &mut Vec<u8>, id: FeatureId) -> Result<(), OutOfMemory>
-    ensures { OnOk result (text.new.items ≡ text.old.items ++ id_text id) }
+    ensures text { OnOk result (text.new.items ≡ text.old.items ++ id_text id) }
+    ensures kept { OnErr result (Keeps text.old.items text.new.items) }
 {
     match id {
         FeatureId::Counter(number) => put_number(text, number),
@@ -32,7 +34,8 @@ fn put_id(text: &mut Vec<u8>, id: FeatureId) -> Result<(), OutOfMemory>
 
 /// Adds the id and a space, where there is an id.
 pub(crate) fn put_id_before(text: &mut Vec<u8>, id: Option<FeatureId>) -> Result<(), OutOfMemory>
-    ensures { OnOk result (text.new.items ≡ text.old.items ++ id_before id) }
+    ensures text { OnOk result (text.new.items ≡ text.old.items ++ id_before id) }
+    ensures kept { OnErr result (Keeps text.old.items text.new.items) }
 {
     let Some(id) = id else {
         return Ok(());
@@ -44,7 +47,8 @@ pub(crate) fn put_id_before(text: &mut Vec<u8>, id: Option<FeatureId>) -> Result
 
 /// Adds the member of the id and a comma, where there is an id.
 pub(crate) fn put_id_member(text: &mut Vec<u8>, id: Option<FeatureId>) -> Result<(), OutOfMemory>
-    ensures { OnOk result (text.new.items ≡ text.old.items ++ id_member id) }
+    ensures text { OnOk result (text.new.items ≡ text.old.items ++ id_member id) }
+    ensures kept { OnErr result (Keeps text.old.items text.new.items) }
 {
     let Some(id) = id else {
         return Ok(());

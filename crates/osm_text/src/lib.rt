@@ -1,4 +1,6 @@
 //! Features in text and in GeoJSON, and pieces of land and water: polygons by the paths of their rings.
+//!
+//! What adds to a text may have added a part where memory runs out: what was there still stands in front.
 #![tactic(auto)]
 
 mod feature;

@@ -1,6 +1,7 @@
 //! Polygons in well-known text and in GeoJSON: lists in parentheses or in brackets, a ring's first point again at its end.
 
-ghost use Rattle.std.specs.Prelude.{◌≡◌, ◌++◌, map, OnOk};
+ghost use Rattle.std.specs.Prelude.{◌≡◌, ◌++◌, map, OnOk, OnErr};
+ghost use Rattle.osm_notation.specs.Kept.{Keeps};
 ghost use Rattle.osm_text.specs.GeoJson.{position_json};
 ghost use Rattle.osm_text.specs.Notation.{close_of, open_of, point_in, polygon_in, polygons_in, ring_in};
 ghost use Rattle.osm_text.specs.Paths.{path_along, paths_in, paths_of};
@@ -46,7 +47,8 @@ impl Notation {
 
 /// Adds a position of GeoJSON.
 fn put_position(text: &mut Vec<u8>, point: Loc) -> Result<(), OutOfMemory>
-    ensures { OnOk result (text.new.items ≡ text.old.items ++ position_json point) }
+    ensures text { OnOk result (text.new.items ≡ text.old.items ++ position_json point) }
+    ensures kept { OnErr result (Keeps text.old.items text.new.items) }
 {
     text.push(b'[')?;
     put_both(text, i64::from(point.x), b',', i64::from(point.y))?;
@@ -56,7 +58,8 @@ fn put_position(text: &mut Vec<u8>, point: Loc) -> Result<(), OutOfMemory>
 
 /// Adds a point.
 fn put_location(text: &mut Vec<u8>, notation: Notation, point: Loc) -> Result<(), OutOfMemory>
-    ensures { OnOk result (text.new.items ≡ text.old.items ++ point_in notation point) }
+    ensures text { OnOk result (text.new.items ≡ text.old.items ++ point_in notation point) }
+    ensures kept { OnErr result (Keeps text.old.items text.new.items) }
 {
     match notation {
         Notation::WellKnown => put_point(text, point),
@@ -71,8 +74,9 @@ fn put_points(
     lead: u8,
     points: &[Loc],
 ) -> Result<(), OutOfMemory>
-    ensures { OnOk result (text.new.items ≡ text.old.items
+    ensures text { OnOk result (text.new.items ≡ text.old.items
         ++ led lead (map (point_in notation) points.now)) }
+    ensures kept { OnErr result (Keeps text.old.items text.new.items) }
 {
     let mut byte = lead;
     for &point in points {
@@ -89,7 +93,8 @@ pub(crate) fn put_ring(
     notation: Notation,
     path: &[Loc],
 ) -> Result<(), OutOfMemory>
-    ensures { OnOk result (text.new.items ≡ text.old.items ++ ring_in notation path.now) }
+    ensures text { OnOk result (text.new.items ≡ text.old.items ++ ring_in notation path.now) }
+    ensures kept { OnErr result (Keeps text.old.items text.new.items) }
 {
     if path.is_empty() {
         text.push(notation.open())?;
@@ -109,8 +114,9 @@ fn put_starts(
     lead: u8,
     edges: &[Edge],
 ) -> Result<(), OutOfMemory>
-    ensures { OnOk result (text.new.items ≡ text.old.items
+    ensures text { OnOk result (text.new.items ≡ text.old.items
         ++ led lead (map (point_in notation) (path_along edges.now))) }
+    ensures kept { OnErr result (Keeps text.old.items text.new.items) }
 {
     let mut byte = lead;
     for edge in edges {
@@ -125,8 +131,9 @@ fn put_starts(
 
 /// Adds a ring by the locations that its edges leave, the first again at the end.
 fn put_ring_along(text: &mut Vec<u8>, notation: Notation, edges: &[Edge]) -> Result<(), OutOfMemory>
-    ensures { OnOk result (text.new.items
+    ensures text { OnOk result (text.new.items
         ≡ text.old.items ++ ring_in notation (path_along edges.now)) }
+    ensures kept { OnErr result (Keeps text.old.items text.new.items) }
 {
     let Some(first) = first_along(edges) else {
         return put_ring(text, notation, &[]);
@@ -139,8 +146,9 @@ fn put_ring_along(text: &mut Vec<u8>, notation: Notation, edges: &[Edge]) -> Res
 
 /// Adds rings, each behind a comma.
 fn put_inners(text: &mut Vec<u8>, notation: Notation, rings: &[Ring]) -> Result<(), OutOfMemory>
-    ensures { OnOk result (text.new.items ≡ text.old.items
+    ensures text { OnOk result (text.new.items ≡ text.old.items
         ++ led 44 (map (ring_in notation) (map path_along rings.now))) }
+    ensures kept { OnErr result (Keeps text.old.items text.new.items) }
 {
     for ring in rings {
         text.push(b',')?;
@@ -151,8 +159,9 @@ fn put_inners(text: &mut Vec<u8>, notation: Notation, rings: &[Ring]) -> Result<
 
 /// Adds a polygon, its outer ring first.
 fn put_polygon(text: &mut Vec<u8>, notation: Notation, polygon: &Polygon) -> Result<(), OutOfMemory>
-    ensures { OnOk result (text.new.items ≡ text.old.items
+    ensures text { OnOk result (text.new.items ≡ text.old.items
         ++ polygon_in notation (paths_in polygon.now)) }
+    ensures kept { OnErr result (Keeps text.old.items text.new.items) }
 {
     text.push(notation.open())?;
     put_ring_along(text, notation, polygon.outer.as_slice())?;
@@ -168,8 +177,9 @@ fn put_each(
     lead: u8,
     polygons: &[Polygon],
 ) -> Result<(), OutOfMemory>
-    ensures { OnOk result (text.new.items ≡ text.old.items
+    ensures text { OnOk result (text.new.items ≡ text.old.items
         ++ led lead (map (polygon_in notation) (paths_of polygons.now))) }
+    ensures kept { OnErr result (Keeps text.old.items text.new.items) }
 {
     let mut byte = lead;
     for polygon in polygons {
@@ -186,8 +196,9 @@ pub(crate) fn put_polygons(
     notation: Notation,
     polygons: &[Polygon],
 ) -> Result<(), OutOfMemory>
-    ensures { OnOk result (text.new.items ≡ text.old.items
+    ensures text { OnOk result (text.new.items ≡ text.old.items
         ++ polygons_in notation (paths_of polygons.now)) }
+    ensures kept { OnErr result (Keeps text.old.items text.new.items) }
 {
     if polygons.is_empty() {
         text.push(notation.open())?;

@@ -1,8 +1,9 @@
 //! The object of an area's tags in GeoJSON.
-ghost use Rattle.std.specs.Prelude.{◌≡◌, ◌++◌, List, ℕ, IfOk, OnOk, string_bytes};
+ghost use Rattle.std.specs.Prelude.{◌≡◌, ◌++◌, List, ℕ, IfOk, OnOk, OnErr, string_bytes};
 ghost use Rattle.serde_json.specs.View.{members_view};
 ghost use Rattle.opl_reader.specs.declared.object.Tag.{Tag};
 ghost use Rattle.opl_reader.specs.Seen.{tag_seen};
+ghost use Rattle.osm_notation.specs.Kept.{Keeps};
 ghost use Rattle.osm_text.specs.Members.{members};
 ghost use Rattle.osm_text.specs.Properties.{KeysRise, by_key, properties_text, tag_at, with_tag};
 
@@ -43,7 +44,8 @@ pub(crate) fn put_properties(
     text: &mut Vec<u8>,
     tags: &Tags,
 ) -> Result<(), OutOfMemory>
-    ensures { OnOk result (text.new.items ≡ text.old.items ++ properties_text tags.now) }
+    ensures text { OnOk result (text.new.items ≡ text.old.items ++ properties_text tags.now) }
+    ensures kept { OnErr result (Keeps text.old.items text.new.items) }
 {
     text.extend_from_slice(properties(alloc, tags)?.as_bytes())?;
     Ok(())

@@ -1,11 +1,15 @@
 use Rattle.std.proofs.Common.{◌≡◌, ◌++◌, map, length}
+use Rattle.osm_notation.specs.Kept.{Keeps}
 use Rattle.osm_text.specs.Feature.{tag_text, tags_text}
 use Rattle.osm_text.specs.Rows.{led}
 use Rattle.osm_text.proofs.feature.put_tags.Given as goal
 
--- what stands and what is to come are the whole
+-- what stands and what is to come are the whole, and what was there stands in front
 abbrev pub invariant-loop-tag : goal.invariant-loop-tag
-invariant-loop-tag l = l.text.items ++ led l.byte (map tag_text l.rest) ≡ l.fn.text.items ++ tags_text l.tags
+invariant-loop-tag l = record {
+  whole : l.text.items ++ led l.byte (map tag_text l.rest) ≡ l.fn.text.items ++ tags_text l.tags;
+  kept : Keeps l.fn.text.items l.text.items;
+}
 
 abbrev pub decreases-loop-tag : goal.decreases-loop-tag
 decreases-loop-tag l = length l.rest

@@ -6,10 +6,10 @@ use Rattle.osm_text.specs.Rows.{led}
 use Rattle.osm_text.proofs.NotationLemmas.{polygon-put}
 use Rattle.osm_text.proofs.notation.put_polygon.Goals as goal
 
-pub returns : goal.returns
-returns c =
+pub returns-clause-text : goal.returns-clause-text
+returns-clause-text c =
     polygon-put c.args.notation c.open.result c.close.result (path_along c.args.polygon.now.outer) (map path_along c.args.polygon.now.inners) _ _ _ _ _
     c.open.ensures c.close.ensures c.in_ok-push.ensures.items
-    (c.in_ok-put_ring_along.ensures ∙ ap (λ (edges : List Edge). c.push.new.self.items ++ ring_in c.args.notation (path_along edges)) c.as_slice.ensures.edges)
-    (c.in_ok-put_inners.ensures ∙ ap (λ (rings : List (List Edge)). c.put_ring_along.new.text.items ++ led 44 (map (ring_in c.args.notation) (map path_along rings))) c.as_slice-2.ensures)
+    (c.in_ok-put_ring_along.ensures.text ∙ ap (λ (edges : List Edge). c.push.new.self.items ++ ring_in c.args.notation (path_along edges)) c.as_slice.ensures.edges)
+    (c.in_ok-put_inners.ensures.text ∙ ap (λ (rings : List (List Edge)). c.put_ring_along.new.text.items ++ led 44 (map (ring_in c.args.notation) (map path_along rings))) c.as_slice-2.ensures)
     c.in_ok-push-2.ensures.items

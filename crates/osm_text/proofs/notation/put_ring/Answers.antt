@@ -3,12 +3,12 @@ use Rattle.std.proofs.lemmas.Grind.{common_steps}
 use Rattle.osm_text.proofs.NotationLemmas.{empty-put, ring-put}
 use Rattle.osm_text.proofs.notation.put_ring.Goals as goal
 
-pub returns-then-is_empty : goal.returns-then-is_empty
-returns-then-is_empty c =
+pub returns-then-is_empty-clause-text : goal.returns-then-is_empty-clause-text
+returns-then-is_empty-clause-text c =
     let none : length c.args.path.now ≡ 0 = grind (arith, common_steps, c.is_empty.ensures, c.if-is_empty.true) in
     empty-put c.args.notation c.open.result c.close.result c.args.path.now _ _ _ none c.open.ensures c.close.ensures c.in_ok-push.ensures.items c.in_ok-push-2.ensures.items
 
-pub returns : goal.returns
-returns c =
+pub returns-clause-text : goal.returns-clause-text
+returns-clause-text c =
     let some : 0 < length c.args.path.now = grind (arith, common_steps, c.is_empty.ensures, c.if-is_empty.false) in
-    ring-put c.args.notation c.open-2.result c.close-2.result c.args.path.now _ _ _ _ some c.open-2.ensures c.close-2.ensures c.in_ok-put_points.ensures c.in_ok-put_points-2.ensures c.in_ok-push-3.ensures.items
+    ring-put c.args.notation c.open-2.result c.close-2.result c.args.path.now _ _ _ _ some c.open-2.ensures c.close-2.ensures c.in_ok-put_points.ensures.text c.in_ok-put_points-2.ensures.text c.in_ok-push-3.ensures.items

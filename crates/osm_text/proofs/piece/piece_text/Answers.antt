@@ -15,9 +15,9 @@ returns-clause-text c =
     let polygon = c.args.polygon.now in
     let stays : has_vanished polygon.outer ≡ false = sym c.in_ok-has_vanished.ensures.has ∙ c.if-has_vanished.false in
     let line = line-put c.args.kind (rounded_ring polygon.outer) polygon.inners _ _ _ _ _
-    (c.in_ok-put_kind.ensures ∙ ap (λ (xs : List ℕ). xs ++ kind_text c.args.kind) c.in_ok-text.ensures.items)
+    (c.in_ok-put_kind.ensures.text ∙ ap (λ (xs : List ℕ). xs ++ kind_text c.args.kind) c.in_ok-text.ensures.items)
     c.in_ok-extend_from_slice.ensures.items
-    (c.in_ok-put_ring.ensures ∙ ap (λ (path : List Loc). c.extend_from_slice.new.self.items ++ ring_wkt path) (c.deref-2.ensures.value ∙ c.in_ok-outer.ensures))
+    (c.in_ok-put_ring.ensures.text ∙ ap (λ (path : List Loc). c.extend_from_slice.new.self.items ++ ring_wkt path) (c.deref-2.ensures.value ∙ c.in_ok-outer.ensures))
     (c.in_ok-put_holes.ensures.text ∙ ap (λ (rings : List (List Edge)). c.put_ring.new.text.items ++ flat_map hole_text rings) c.as_slice.ensures)
     c.in_ok-extend_from_slice-2.ensures.items in
     ap Some line ∙ ap (λ (b : Bool). cond b None (Some (piece_line c.args.kind (rounded_ring polygon.outer ∷ holes_left polygon.inners)))) (sym stays)
