@@ -1,11 +1,12 @@
 //! What a candidate adds to the output and to the report.
 
-ghost use Rattle.std.specs.Prelude.{◌≡◌, All, IfOk, IfSome, IsSome, OnOk, ◌++◌, ◌+◌, ◌≤◌, map};
+ghost use Rattle.std.specs.Prelude.{◌≡◌, All, IfOk, IfSome, IsSome, OnErr, OnOk, ◌++◌, ◌+◌, ◌≤◌, map};
 ghost use Rattle.std.specs.List.{flat_map};
 ghost use Rattle.job_export.specs.Entries.{shown, IsTextsOf, AddsProblems};
 ghost use Rattle.osm_job.specs.Sent.{lines_text};
 ghost use Rattle.job_export.specs.Entry.{feature_id, feature_in, tags_of};
 ghost use Rattle.job_export.specs.Framing.{framed};
+ghost use Rattle.osm_notation.specs.Kept.{Keeps};
 ghost use Rattle.osm_objects.specs.Objects.{object_at};
 ghost use Rattle.osm_objects.specs.Problem.{IsOfItsKind};
 ghost use Rattle.osm_report.specs.Report.{note_line};
@@ -44,7 +45,7 @@ fn feature_id(ids: Option<UniqueId>, earlier: u64, candidate: ObjectRef) -> Opti
     }
 }
 
-/// Adds the feature of an area in a format.
+/// Adds the feature of an area in a format. Where memory runs out, what was there still stands in front.
 fn put_feature(
     alloc: Global,
     text: &mut Vec<u8>,
@@ -53,8 +54,9 @@ fn put_feature(
     tags: &Tags,
     id: Option<FeatureId>,
 ) -> Result<(), OutOfMemory>
-    ensures { OnOk result (text.new.items
+    ensures text { OnOk result (text.new.items
         ≡ text.old.items ++ feature_in format id polygons.now tags.now) }
+    ensures kept { OnErr result (Keeps text.old.items text.new.items) }
 {
     match format {
         Format::Text => put_feature_text(text, polygons, tags, id),
@@ -75,7 +77,7 @@ fn lent_tags<'a>(store: &'a Store, candidate: ObjectRef) -> Option<&'a Tags>
     }
 }
 
-/// Adds the feature of a candidate's area.
+/// Adds the feature of a candidate's area. Where memory runs out, what was there still stands in front.
 fn put_feature_of(
     alloc: Global,
     text: &mut Vec<u8>,
@@ -86,8 +88,9 @@ fn put_feature_of(
     id: Option<FeatureId>,
 ) -> Result<(), OutOfMemory>
     requires { IsSome (object_at store.now candidate) }
-    ensures { OnOk result (text.new.items ≡ text.old.items
+    ensures text { OnOk result (text.new.items ≡ text.old.items
         ++ feature_in format id polygons.now (tags_of (object_at store.now candidate))) }
+    ensures kept { OnErr result (Keeps text.old.items text.new.items) }
 {
     if let Some(tags) = lent_tags(store, candidate) {
         return put_feature(alloc, text, format, polygons, tags, id);
