@@ -15,6 +15,7 @@ use osm_nest::{Polygons, nest, rings_may_be_nested};
 use osm_rings::rings;
 use osm_sides::direct;
 use std::alloc::{AllocError as OutOfMemory, Global};
+use std::mem;
 
 /// The polygons that these segments make: directed by the odd side, which is on their left, cut into rings, and each
 /// inner ring put under the outer one that directly encloses it.
@@ -30,5 +31,7 @@ pub fn area(alloc: Global, survivors: &[Seg]) -> Result<Polygons, OutOfMemory>
     let edges = direct(alloc, survivors)?;
     rings_may_be_nested();
     let rings = rings(alloc, &edges)?;
+    // Edges are large: those of a long boundary don't stand beside its polygons.
+    mem::drop(edges);
     nest(alloc, rings.as_slice())
 }

@@ -17,6 +17,7 @@ use crate::successors::successors;
 use orbits::{cut, orbits};
 use osm_geom::Edge;
 use std::alloc::{AllocError as OutOfMemory, Global};
+use std::mem;
 
 /// The rings that are cut off the walks of successors, however many edges meet at a node.
 fn cut_walks(
@@ -47,6 +48,8 @@ fn cut_rings(alloc: Global, edges: &[Edge]) -> Result<Rings, OutOfMemory>
     let departures = departures(alloc, edges)?;
     let next = successors(alloc, edges, &departures)?;
     if are_apart(&departures) {
+        // Departures are as large as edges, and the rings are about to be made.
+        mem::drop(departures);
         return walked_rings(alloc, edges, &next);
     }
     cut_walks(alloc, edges, &departures, &next)
