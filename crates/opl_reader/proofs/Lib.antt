@@ -21,6 +21,7 @@ pub mod BadLaws
 pub mod FaultLaws
 pub mod AnswerLaws
 pub mod KeyLaws
+pub mod UsualLemmas
 pub mod PackedLemmas
 pub mod CompactLemmas
 pub mod HeldLemmas

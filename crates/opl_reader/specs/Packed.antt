@@ -1,34 +1,57 @@
--- Texts held in one block, each behind its length: the keys and values of tags by turns, and the roles of members.
-use Rattle.std.specs.Prelude.{◌≡◌, ◌≤◌, ℕ, zero, suc, ◌+◌, ◌*◌, ◌/◌, ◌%◌, nat_lt, if◌then◌else◌, List, [], ◌∷◌, ◌++◌, length, take, drop, slice_index}
+-- Texts held in one block, each behind its length, or as one byte where it is usual: the keys and values of tags by turns, and the roles of members.
+use Rattle.std.specs.Prelude.{◌≡◌, ◌≤◌, ℕ, zero, suc, ◌+◌, ◌-◌, ◌*◌, ◌/◌, ◌%◌, nat_lt, if◌then◌else◌, List, [], ◌∷◌, ◌++◌, length, take, drop, slice_index, slice_index_or, map}
 use Rattle.std.specs.Str.{IsUtf8}
 use Rattle.opl_reader.specs.declared.object.Tag.{Tag}
 use Rattle.opl_reader.specs.declared.object.Member.{Member}
 use Rattle.opl_reader.specs.declared.object.ObjectRef.{ObjectRef}
 use Rattle.opl_reader.specs.Seen.{member_of}
+use Rattle.opl_reader.specs.declared.usual.TheConstants.{USUAL}
 
--- A length below 255 is one byte; any other is the byte 255 and four digits in base 256, the lowest first.
+-- the usual text that a byte from 192 to 254 tells
+unfoldable pub usual_text : ℕ → List ℕ
+usual_text code = slice_index_or (map (λ t. t.now) USUAL) (code - 192) []
+
+-- A length below 192 is one byte; any other is the byte 255 and four digits in base 256, the lowest first.
 unfoldable pub length_bytes : ℕ → List ℕ
-length_bytes n = if nat_lt n 255 then n ∷ [] else 255 ∷ n % 256 ∷ n / 256 % 256 ∷ n / 65536 % 256 ∷ n / 16777216 ∷ []
+length_bytes n = if nat_lt n 192 then n ∷ [] else 255 ∷ n % 256 ∷ n / 256 % 256 ∷ n / 65536 % 256 ∷ n / 16777216 ∷ []
 
--- a text behind its length
-abbrev pub packed_text : List ℕ → List ℕ
-packed_text text = length_bytes (length text) ++ text
-
--- how many bytes in front tell a length
+-- how many bytes in front tell a length, or a text
 unfoldable pub head_len : List ℕ → ℕ
 head_len bytes = if nat_lt (slice_index bytes 0) 255 then 1 else 5
 
--- the length that they tell
+-- how many bytes of the text stand behind them: none where a byte from 192 on tells it
 unfoldable pub text_len : List ℕ → ℕ
-text_len bytes = if nat_lt (slice_index bytes 0) 255 then slice_index bytes 0 else slice_index bytes 1 + 256 * slice_index bytes 2 + 65536 * slice_index bytes 3 + 16777216 * slice_index bytes 4
+text_len bytes = if nat_lt (slice_index bytes 0) 192 then slice_index bytes 0 else if nat_lt (slice_index bytes 0) 255 then 0 else slice_index bytes 1 + 256 * slice_index bytes 2 + 65536 * slice_index bytes 3 + 16777216 * slice_index bytes 4
+
+-- the text behind a first byte, or that which this byte tells
+unfoldable pub text_by : ℕ → List ℕ → List ℕ
+text_by first behind = if nat_lt first 192 then behind else if nat_lt first 255 then usual_text first else behind
 
 -- the text in front
 abbrev pub first_text : List ℕ → List ℕ
-first_text bytes = take (text_len bytes) (drop (head_len bytes) bytes)
+first_text bytes = text_by (slice_index bytes 0) (take (text_len bytes) (drop (head_len bytes) bytes))
 
 -- what stands behind it
 abbrev pub after_text : List ℕ → List ℕ
 after_text bytes = drop (text_len bytes) (drop (head_len bytes) bytes)
+
+-- whatever stands behind these bytes, they tell the text and no more
+pub record Tell (text bytes : List ℕ) : Type 0 where
+  pub first : (more : List ℕ) → first_text (bytes ++ more) ≡ text
+  pub after : (more : List ℕ) → after_text (bytes ++ more) ≡ more
+  pub room : (more : List ℕ) → head_len (bytes ++ more) + text_len (bytes ++ more) ≤ length (bytes ++ more)
+
+-- bytes that tell the text were added
+pub record Added (before text after : List ℕ) : Type 0 where
+  pub bytes : List ℕ
+  pub is : after ≡ before ++ bytes
+  pub tell : Tell text bytes
+
+-- a key was added, and a value behind it
+pub record BothAdded (before key value after : List ℕ) : Type 0 where
+  pub between : List ℕ
+  pub of_key : Added before key between
+  pub of_value : Added between value after
 
 -- a whole text of characters stands in front, behind its length
 pub record BeginsWithText (bytes : List ℕ) : Type 0 where

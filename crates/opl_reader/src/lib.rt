@@ -26,6 +26,7 @@ mod refs;
 mod search;
 mod tags;
 mod text;
+mod usual;
 
 pub use chunking::{
     any_chunking_gives_the_objects, finish_gives_the_rest, first_fault_is_reported,

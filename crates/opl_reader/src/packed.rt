@@ -1,8 +1,10 @@
-//! Texts in one block, each behind its length: a byte, or five where there are 255 bytes and more.
+//! Texts in one block. A usual text is one byte; any other stands behind its length, which takes a byte, or five where
+//! there are 192 bytes and more.
 
 ghost use Rattle.std.specs.Prelude.{◌≡◌, ◌≤◌, ◌<◌, ◌^◌, ◌++◌, length, drop, take, OnOk, OnErr};
-ghost use Rattle.opl_reader.specs.Packed.{length_bytes, packed_text, head_len, text_len, first_text, after_text, BeginsWithText};
+ghost use Rattle.opl_reader.specs.Packed.{length_bytes, head_len, text_len, first_text, after_text, BeginsWithText, Added};
 
+use crate::usual::{FIRST_CODE, usual_code, usual_text};
 use std::alloc::AllocError as OutOfMemory;
 use std::str;
 
@@ -12,7 +14,7 @@ fn length_bytes(len: u32) -> ([u8; 5], usize)
     ensures few { result.1 ≤ 5 }
     ensures bytes { take result.1 result.0 ≡ length_bytes len }
 {
-    if len < 255 {
+    if len < 192 {
         return ([len as u8, 0, 0, 0, 0], 1);
     }
     let digits = [
@@ -34,14 +36,12 @@ fn length_bytes(len: u32) -> ([u8; 5], usize)
 }
 
 /// Adds a text behind its length. After an `Err` nothing is added.
-pub(crate) fn push_text(texts: &mut Vec<u8>, text: &str) -> Result<(), OutOfMemory>
-    ensures ok { OnOk result (texts.new.items ≡ texts.old.items ++ packed_text text.now) }
-    ensures short { OnOk result (length text.now < 2 ^ 32) }
+fn push_whole(texts: &mut Vec<u8>, len: u32, text: &str) -> Result<(), OutOfMemory>
+    requires { len ≡ length text.now }
+    ensures ok { OnOk result (texts.new.items
+        ≡ texts.old.items ++ (length_bytes (length text.now) ++ text.now)) }
     ensures err { OnErr result (texts.new.items ≡ texts.old.items) }
 {
-    let Ok(len) = u32::try_from(text.len()) else {
-        return Err(OutOfMemory);
-    };
     let before = texts.len();
     let (bytes, count) = length_bytes(len);
     texts.extend_from_slice(&bytes[..count])?;
@@ -52,7 +52,23 @@ pub(crate) fn push_text(texts: &mut Vec<u8>, text: &str) -> Result<(), OutOfMemo
     Ok(())
 }
 
-/// The length that stands in front of a text, and what stands behind it.
+/// Adds a text. After an `Err` nothing is added.
+pub(crate) fn push_text(texts: &mut Vec<u8>, text: &str) -> Result<(), OutOfMemory>
+    ensures ok { OnOk result (Added texts.old.items text.now texts.new.items) }
+    ensures short { OnOk result (length text.now < 2 ^ 32) }
+    ensures err { OnErr result (texts.new.items ≡ texts.old.items) }
+{
+    let Ok(len) = u32::try_from(text.len()) else {
+        return Err(OutOfMemory);
+    };
+    if let Some(code) = usual_code(text) {
+        texts.push(code)?;
+        return Ok(());
+    }
+    push_whole(texts, len, text)
+}
+
+/// The length that stands in front of a text, none where a byte tells the text, and what stands behind.
 #[tactic(auto, unfolding(crate::specs::Packed::head_len, crate::specs::Packed::text_len))]
 fn split_length(bytes: &[u8]) -> (usize, &[u8])
     requires { head_len bytes.now ≤ length bytes.now }
@@ -62,7 +78,8 @@ fn split_length(bytes: &[u8]) -> (usize, &[u8])
     let first = bytes[0];
     if first < 255 {
         let (_, behind) = bytes.split_at(1);
-        return (usize::from(first), behind);
+        let len = if first < 192 { usize::from(first) } else { 0 };
+        return (len, behind);
     }
     let (digits, behind) = bytes.split_at(5);
     let len = usize::from(digits[1])
@@ -73,6 +90,7 @@ fn split_length(bytes: &[u8]) -> (usize, &[u8])
 }
 
 /// The text in front, and what stands behind it.
+#[tactic(auto, unfolding(crate::specs::Packed::text_by))]
 pub(crate) fn split_text(bytes: &[u8]) -> (&str, &[u8])
     requires { BeginsWithText bytes.now }
     ensures text { result.0.now ≡ first_text bytes.now }
@@ -80,6 +98,10 @@ pub(crate) fn split_text(bytes: &[u8]) -> (&str, &[u8])
 {
     let (len, behind) = split_length(bytes);
     let (text, behind) = behind.split_at(len);
+    let first = bytes[0];
+    if first >= FIRST_CODE && first < 255 {
+        return (usual_text(first), behind);
+    }
     // These are the bytes of the text that was pushed, so they are proved to be UTF-8.
     let text = unsafe { str::from_utf8_unchecked(text) };
     (text, behind)

@@ -2,7 +2,7 @@
 
 ghost use Rattle.std.specs.Prelude.{◌≡◌, ◌<◌, ◌^◌, ◌++◌, ◌∷◌, ◌==◌, [], length, IfOk, OnOk, OnErr, MatchOption, IfNone, option_map, find};
 ghost use Rattle.std.specs.Str.{bytes_eq};
-ghost use Rattle.opl_reader.specs.Packed.{packed_text};
+ghost use Rattle.opl_reader.specs.Packed.{BothAdded};
 ghost use Rattle.opl_reader.specs.Seen.{tag_seen};
 
 use crate::packed::{push_text, split_text};
@@ -59,8 +59,7 @@ impl<'a> Model for TagIter<'a> {
 
 /// Adds a key and a value. After an `Err` nothing is added.
 fn push_both(texts: &mut Vec<u8>, key: &str, value: &str) -> Result<(), OutOfMemory>
-    ensures ok { OnOk result (texts.new.items
-        ≡ texts.old.items ++ (packed_text key.now ++ packed_text value.now)) }
+    ensures ok { OnOk result (BothAdded texts.old.items key.now value.now texts.new.items) }
     ensures short { OnOk result ((length key.now < 2 ^ 32) × (length value.now < 2 ^ 32)) }
     ensures err { OnErr result (texts.new.items ≡ texts.old.items) }
 {

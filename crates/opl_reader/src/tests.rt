@@ -1,5 +1,7 @@
 //! Lines that are read, and lines that are bad.
 
+use super::packed::push_text;
+use super::usual::{usual_code, usual_text};
 use super::*;
 use osm_lattice::Loc;
 use std::test::*;
@@ -361,4 +363,60 @@ fn tags_with_short_and_long_texts(rt: HostRuntime) {
     assert_eq!(rt; tags.value_of("c"), None);
     let copied = tags.copy(rt.alloc()).expect(&rt, "memory");
     assert_eq!(rt; copied.value_of(long), Some("c"));
+}
+
+#[test]
+fn usual_texts_have_their_bytes(rt: HostRuntime) {
+    for code in 192..255 {
+        assert_eq!(rt; usual_code(usual_text(code)), Some(code));
+    }
+}
+
+/// A text that is packed behind another, and the bytes that it takes.
+fn packed_in(rt: &impl std::process::Abort, alloc: std::alloc::Global, text: &str, bytes: usize) {
+    let mut texts = Vec::new(alloc);
+    push_text(&mut texts, text).expect(rt, "memory");
+    assert_eq!(rt; texts.len(), bytes);
+    push_text(&mut texts, "name").expect(rt, "memory");
+    assert_eq!(rt; texts.len(), bytes + 1);
+    let mut tags = Tags::new(alloc);
+    for (key, value) in [(text, "outer"), ("name", text)] {
+        tags.push(key, value).expect(rt, "memory");
+    }
+    assert_eq!(rt; tags.value_of(text), Some("outer"));
+    assert_eq!(rt;
+        tags.value_of("name"),
+        if text == "name" {
+            Some("outer")
+        } else {
+            Some(text)
+        }
+    );
+}
+
+#[test]
+fn texts_in_one_byte_and_behind_lengths(rt: HostRuntime) {
+    let long = "0123456789abcdef0123456789abcdef0123456789abcdef0123456789abcdef";
+    let mut four = String::new(rt.alloc());
+    for _ in 0..4 {
+        four.push_str(long).expect(&rt, "memory");
+    }
+    let four = four.as_str();
+    for (text, bytes) in [
+        ("building", 1),
+        ("yes", 1),
+        ("inner", 1),
+        ("", 1),
+        ("a", 2),
+        ("Building", 9),
+        ("buildings", 10),
+        ("ye", 3),
+        (&four[..191], 192),
+        (&four[..192], 197),
+        (&four[..254], 259),
+        (&four[..255], 260),
+        (four, 261),
+    ] {
+        packed_in(&rt, rt.alloc(), text, bytes);
+    }
 }
