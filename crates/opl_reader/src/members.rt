@@ -1,4 +1,4 @@
-//! The members of a relation, held as their kinds and ids, and with their roles in one block, each behind its length.
+//! The members of a relation, held as their kinds and ids, and with their roles in one block, packed as tags are.
 
 ghost use Rattle.std.specs.Prelude.{◌≡◌, ◌++◌, ◌∷◌, ◌==◌, [], length, IfOk, OnOk, OnErr, MatchOption, IfNone};
 ghost use Rattle.opl_reader.specs.Seen.{member_of, member_seen};
@@ -16,8 +16,8 @@ pub struct MemberRef<'a> {
     pub role: &'a str,
 }
 
-/// The members of a relation, in the order of its line: 16 bytes each, and their roles, with a byte or five for each beside
-/// its text.
+/// The members of a relation, in the order of its line: 16 bytes each, and their roles, a byte for a usual one, and a byte or
+/// five beside the text of any other.
 #[derive(Debug, Drop)]
 pub struct Members {
     targets: Vec<ObjectRef>,
@@ -69,7 +69,7 @@ impl Members {
     }
 
     /// The empty list, with room for so many members, and for so many bytes: those of the roles, and one for each that has
-    /// fewer than 255.
+    /// fewer than 192, suffice.
     pub(crate) fn with_capacity(
         alloc: Global,
         members: usize,

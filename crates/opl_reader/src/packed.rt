@@ -8,13 +8,16 @@ use crate::usual::{FIRST_CODE, usual_code, usual_text};
 use std::alloc::AllocError as OutOfMemory;
 use std::str;
 
+/// The byte in front of a length of four bytes.
+const LONG: u8 = 255;
+
 /// The bytes that stand for a length, and how many there are.
 #[tactic(auto, unfolding(crate::specs::Packed::length_bytes))]
 fn length_bytes(len: u32) -> ([u8; 5], usize)
     ensures few { result.1 ≤ 5 }
     ensures bytes { take result.1 result.0 ≡ length_bytes len }
 {
-    if len < 192 {
+    if len < u32::from(FIRST_CODE) {
         return ([len as u8, 0, 0, 0, 0], 1);
     }
     let digits = [
@@ -25,7 +28,7 @@ fn length_bytes(len: u32) -> ([u8; 5], usize)
     ];
     (
         [
-            255,
+            LONG,
             digits[0] as u8,
             digits[1] as u8,
             digits[2] as u8,
@@ -76,9 +79,13 @@ fn split_length(bytes: &[u8]) -> (usize, &[u8])
     ensures behind { result.1.now ≡ drop (head_len bytes.now) bytes.now }
 {
     let first = bytes[0];
-    if first < 255 {
+    if first < LONG {
         let (_, behind) = bytes.split_at(1);
-        let len = if first < 192 { usize::from(first) } else { 0 };
+        let len = if first < FIRST_CODE {
+            usize::from(first)
+        } else {
+            0
+        };
         return (len, behind);
     }
     let (digits, behind) = bytes.split_at(5);
@@ -99,7 +106,7 @@ pub(crate) fn split_text(bytes: &[u8]) -> (&str, &[u8])
     let (len, behind) = split_length(bytes);
     let (text, behind) = behind.split_at(len);
     let first = bytes[0];
-    if first >= FIRST_CODE && first < 255 {
+    if first >= FIRST_CODE && first < LONG {
         return (usual_text(first), behind);
     }
     // These are the bytes of the text that was pushed, so they are proved to be UTF-8.

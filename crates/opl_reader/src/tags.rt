@@ -1,4 +1,4 @@
-//! The tags of an object, held in one block: keys and values by turns, each behind its length.
+//! The tags of an object, held in one block: keys and values by turns, a usual one as one byte, any other behind its length.
 
 ghost use Rattle.std.specs.Prelude.{◌≡◌, ◌<◌, ◌^◌, ◌++◌, ◌∷◌, ◌==◌, [], length, IfOk, OnOk, OnErr, MatchOption, IfNone, option_map, find};
 ghost use Rattle.std.specs.Str.{bytes_eq};
@@ -16,8 +16,8 @@ pub struct TagRef<'a> {
     pub value: &'a str,
 }
 
-/// The tags of an object, in the order of its line. They take one block of memory, with a byte or five for each key and
-/// value beside their texts, and none where there are none.
+/// The tags of an object, in the order of its line. They take one block of memory, and none where there are none: a byte for
+/// a key or value that is usual in OpenStreetMap, and a byte or five beside the text of any other.
 #[derive(Debug, Drop)]
 pub struct Tags {
     texts: Vec<u8>,
@@ -83,7 +83,7 @@ impl Tags {
         }
     }
 
-    /// The empty list, with room for this many bytes: those of the texts, and one for each that has fewer than 255.
+    /// The empty list, with room for this many bytes: those of the texts, and one for each that has fewer than 192, suffice.
     pub(crate) fn with_capacity(alloc: Global, bytes: usize) -> Result<Tags, OutOfMemory>
         ensures { IfOk result (λ tags. tags ≡ []) }
     {

@@ -70,7 +70,7 @@ const USUAL: [&str; 63] = [
     "yes",
 ];
 
-/// The byte that tells the first of them.
+/// The byte that tells the first of them; a lesser one is a length.
 pub(crate) const FIRST_CODE: u8 = 192;
 
 /// For each sum the place in `USUAL` of the text that has it, of which there is one at most; 63 where none has it.
