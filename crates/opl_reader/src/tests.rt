@@ -175,18 +175,15 @@ fn village_relation_as_osmium_writes_it(rt: HostRuntime) {
             assert!(rt; live);
             assert_eq!(rt; tags.len(), 3);
             let mut rest = members.iter();
-            let mut listed = 0;
+            assert_eq!(rt; members.len(), 3);
             for (kind, id, role) in [
                 (ObjectKind::Way, 1, "outer"),
                 (ObjectKind::Way, 2, ""),
                 (ObjectKind::Node, 9, "label"),
             ] {
-                if let Some(member) = rest.next() {
-                    assert_eq!(rt; (member.kind, member.id, member.role), (kind, id, role));
-                    listed += 1;
-                }
+                let member = rest.next().expect(&rt, "a member");
+                assert_eq!(rt; (member.kind, member.id, member.role), (kind, id, role));
             }
-            assert_eq!(rt; (listed, members.len()), (3, 3));
         }
         _other => assert!(rt; false),
     }
@@ -372,51 +369,47 @@ fn usual_texts_have_their_bytes(rt: HostRuntime) {
     }
 }
 
-/// A text that is packed behind another, and the bytes that it takes.
-fn packed_in(rt: &impl std::process::Abort, alloc: std::alloc::Global, text: &str, bytes: usize) {
+/// A text takes so many bytes, and is lent as it was given.
+fn is_packed_in(
+    rt: &impl std::process::Abort,
+    alloc: std::alloc::Global,
+    text: &str,
+    bytes: usize,
+) {
     let mut texts = Vec::new(alloc);
     push_text(&mut texts, text).expect(rt, "memory");
     assert_eq!(rt; texts.len(), bytes);
-    push_text(&mut texts, "name").expect(rt, "memory");
-    assert_eq!(rt; texts.len(), bytes + 1);
     let mut tags = Tags::new(alloc);
     for (key, value) in [(text, "outer"), ("name", text)] {
         tags.push(key, value).expect(rt, "memory");
     }
     assert_eq!(rt; tags.value_of(text), Some("outer"));
-    assert_eq!(rt;
-        tags.value_of("name"),
-        if text == "name" {
-            Some("outer")
-        } else {
-            Some(text)
-        }
-    );
+    assert_eq!(rt; tags.value_of("name"), Some(text));
 }
 
 #[test]
-fn texts_in_one_byte_and_behind_lengths(rt: HostRuntime) {
-    let long = "0123456789abcdef0123456789abcdef0123456789abcdef0123456789abcdef";
-    let mut four = String::new(rt.alloc());
-    for _ in 0..4 {
-        four.push_str(long).expect(&rt, "memory");
-    }
-    let four = four.as_str();
+fn texts_in_one_byte_and_behind_one(rt: HostRuntime) {
     for (text, bytes) in [
         ("building", 1),
         ("yes", 1),
         ("inner", 1),
         ("", 1),
         ("a", 2),
+        ("ye", 3),
         ("Building", 9),
         ("buildings", 10),
-        ("ye", 3),
-        (&four[..191], 192),
-        (&four[..192], 197),
-        (&four[..254], 259),
-        (&four[..255], 260),
-        (four, 261),
     ] {
-        packed_in(&rt, rt.alloc(), text, bytes);
+        is_packed_in(&rt, rt.alloc(), text, bytes);
+    }
+}
+
+#[test]
+fn texts_behind_one_and_five_bytes(rt: HostRuntime) {
+    for (len, bytes) in [(191, 192), (192, 197), (254, 259), (255, 260), (256, 261)] {
+        let mut text = String::new(rt.alloc());
+        for _ in 0..len {
+            text.push_str("a").expect(&rt, "memory");
+        }
+        is_packed_in(&rt, rt.alloc(), text.as_str(), bytes);
     }
 }
