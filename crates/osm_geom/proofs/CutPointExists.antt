@@ -16,6 +16,7 @@ use Rattle.osm_geom.specs.Carrier.{is_on}
 use Rattle.osm_geom.specs.Cut.{cut_order, fraction}
 use Rattle.osm_geom.specs.Point.{Fraction, whole, x_of, y_of}
 use Rattle.osm_geom.proofs.CutPoints.{crossed-x, crossed-y, null-x, null-y, on-at, share, whole_frac, with-x, with-y, x-in, y-in}
+use Rattle.osm_geom.proofs.Parts.{part_of}
 
 -- a point with these coordinates
 pub record PointAt (x y : Fraction) : Type 0 where
@@ -47,13 +48,13 @@ beside-by : (c : ℤ) (y : Frac) → IsLongitude c → unsigned_abs y.num ≤ 90
 beside-by c y hc hy hd (inl e) =
     let p = point_at_both c y.num hc (times-den (unsigned_abs y.num) 900_000_000 y.den e hy) in
     record { point = p.point; x_is = p.x_is; y_is = p.y_is ∙ whole-is y e }
-beside-by c y hc hy hd (inr h) = record { point = OnVertical c (record { frac = y; den_in = (h, hd); num_in = omega arith }); x_is = refl; y_is = refl }
+beside-by c y hc hy hd (inr h) = let p = part_of y (h, hd) (omega arith) in record { point = OnVertical c p.part; x_is = refl; y_is = p.is }
 
 above-by : (x : Frac) (d : ℤ) → unsigned_abs x.num ≤ 1_800_000_000 * x.den → x.den ≤ 3_600_000_000 → IsLatitude d → (x.den ≡ 1) ⊎ (2 ≤ x.den) → PointAt (fraction x) (whole d)
 above-by x d hx hd hy (inl e) =
     let p = point_at_both x.num d (times-den (unsigned_abs x.num) 1_800_000_000 x.den e hx) hy in
     record { point = p.point; x_is = p.x_is ∙ whole-is x e; y_is = p.y_is }
-above-by x d hx hd hy (inr h) = record { point = OnHorizontal (record { frac = x; den_in = (h, hd); num_in = hx }) d; x_is = refl; y_is = refl }
+above-by x d hx hd hy (inr h) = let p = part_of x (h, hd) hx in record { point = OnHorizontal p.part d; x_is = p.is; y_is = refl }
 
 -- the distance of two longitudes
 distance-in : (a b : ℤ) → unsigned_abs a ≤ 1_800_000_000 → unsigned_abs b ≤ 1_800_000_000 → unsigned_abs (b -ℤ a) ≤ 3_600_000_000

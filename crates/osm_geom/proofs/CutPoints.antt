@@ -23,6 +23,7 @@ use Rattle.osm_geom.specs.Point.{Fraction, IsInWorld, den_of, whole, whole_of, x
 use Rattle.osm_lattice.specs.Seg.{edge_of}
 use Rattle.osm_lattice.specs.Share.{IsShare}
 use Rattle.osm_lattice.proofs.LatticeKit.{on_first, alike, apart_where_on, on_segment_in, signed}
+use Rattle.osm_geom.proofs.Parts.{part_frac}
 use Rattle.osm_geom.proofs.PointOrders.{den-sign, x_den-some, y_den-some}
 
 -- ---- c between a and b, which differ
@@ -217,8 +218,8 @@ stands cut s p h e = stands-at cut.axis cut.at s p h e
 -- a point of a segment is in the world
 in-world-by : (s : Seg) (p : Point) → is_off (whole_of p) (scaled_edge (pos (den_of p)) (edge_of s)) ≡ false → IsInWorld p
 in-world-by s (Lattice p) h = on_segment_in s (whole_frac p.x) (whole_frac p.y) h
-in-world-by s (OnVertical c y) h = on_segment_in s (whole_frac c) y.frac h
-in-world-by s (OnHorizontal x d) h = on_segment_in s x.frac (whole_frac d) h
+in-world-by s (OnVertical c y) h = on_segment_in s (whole_frac c) (part_frac y) h
+in-world-by s (OnHorizontal x d) h = on_segment_in s (part_frac x) (whole_frac d) h
 
 pub in-world : (s : Seg) (p : Point) → is_on (OfSeg s) p ≡ true → IsInWorld p
 in-world s p h = in-world-by s p (located-is s p h)

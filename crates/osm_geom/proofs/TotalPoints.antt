@@ -1,26 +1,20 @@
 -- The order of points is total, and tells points apart.
-use Rattle.std.proofs.Common.{◌≡◌, ◌↔◌, ℕ, ◌*◌, ℤ, pos, ◌*ℤ◌, unsigned_abs, true, sym, ap, ◌∙◌, subst, arith}
-use Rattle.std.proofs.Props.{props}
-use Rattle.std.proofs.Math.Nat.{dvd-mul_left}
-use Rattle.std.proofs.lemmas.Int.{ints, unsigned_abs-mul}
-use Rattle.std.proofs.lemmas.Nat.Gcd.{dvd_refl}
+use Rattle.std.proofs.Common.{◌≡◌, ◌↔◌, ℤ, pos, ◌*ℤ◌, true, sym, ap, ◌∙◌, subst, arith}
+use Rattle.std.proofs.lemmas.Int.{ints}
 use Rattle.std.proofs.lemmas.Cmp.{int_ranked, tied_itself}
 use Rattle.std.specs.Cmp.{IsTotalOrder}
 use Rattle.std.specs.declared.cmp.Ordering.TheVariants.{Equal}
-use Prim.Native.Nat.{◌∣◌}
-use mathlib.Core.HLevel.{is_prop→PathP}
 use Rattle.plane.specs.Order.{order}
 use Rattle.plane.specs.Scale.{scaled_point}
 use Rattle.plane.proofs.SignKit.{agree}
 use Rattle.plane.proofs.PlaneKit.{order-reversed, order-sum, order-scaled, point-turned}
-use Rattle.osm_geom.specs.declared.point.Part.{Part}
 use Rattle.osm_geom.specs.declared.point.Point.{Point}
 use Rattle.osm_geom.specs.declared.point.Point.TheVariants.{Lattice, OnVertical, OnHorizontal}
 use Rattle.osm_lattice.specs.OrderLaws.{ordering_of}
-use Rattle.osm_geom.specs.Part.{IsPartDen, IsPartNum}
 use Rattle.osm_geom.specs.Point.{x_of, y_of, den_of, whole_of, point_order, point_cmp}
 use Rattle.osm_geom.specs.RatioOrder.{fraction_cmp}
-use Rattle.osm_lattice.proofs.LatticeKit.{frac_same, loc_from_fields, then_equal}
+use Rattle.osm_lattice.proofs.LatticeKit.{loc_from_fields, then_equal}
+use Rattle.osm_geom.proofs.Parts.{part_same, part_whole}
 use Rattle.osm_geom.proofs.PointOrders.{den-sign, point_cmp_is}
 use Rattle.osm_geom.proofs.SignOrders.{reverses, chains, ties_alike}
 
@@ -48,32 +42,6 @@ point_total = record {
 }
 
 -- ---- a point has one spelling
-part_den_prop : (n : ℕ) → IsProp (IsPartDen n)
-part_den_prop n = hlevel props
-
-part_num_prop : (z : ℤ) (n : ℕ) → IsProp (IsPartNum z n)
-part_num_prop z n = hlevel props
-
-part_from_frac : (p q : Part) → p.frac ≡ q.frac → p ≡ q
-part_from_frac p q e = λ i. record {
-  frac = e i;
-  den_in = is_prop→PathP (λ j. IsPartDen (e j).den) (λ j. part_den_prop (e j).den) p.den_in q.den_in i;
-  num_in = is_prop→PathP (λ j. IsPartNum (e j).num (e j).den) (λ j. part_num_prop (e j).num (e j).den) p.num_in q.num_in i;
-}
-
-part_same : (p q : Part) → p.frac.num *ℤ pos q.frac.den ≡ q.frac.num *ℤ pos p.frac.den → p ≡ q
-part_same p q e = part_from_frac p q (frac_same p.frac q.frac e)
-
--- a part isn't whole
-part_whole : (n : ℤ) (p : Part) → n *ℤ pos p.frac.den ≡ p.frac.num *ℤ pos 1 → ⊥
-part_whole n p e =
-    let sizes : unsigned_abs n * p.frac.den ≡ unsigned_abs p.frac.num = sym (unsigned_abs-mul n (pos p.frac.den)) ∙ (ap unsigned_abs e ∙ once p.frac.num) in
-    let one : p.frac.den ≡ 1 = p.frac.lowest p.frac.den (subst (λ k. p.frac.den ∣ k) sizes (dvd-mul_left p.frac.den (unsigned_abs n))) (dvd_refl p.frac.den) in
-    absurd (omega (arith, p.den_in.0, one))
-  where
-    once : (z : ℤ) → unsigned_abs (z *ℤ pos 1) ≡ unsigned_abs z
-    once z = omega (arith, unsigned_abs-mul z (pos 1))
-
 whole_same : (m n : ℤ) → m *ℤ pos 1 ≡ n *ℤ pos 1 → m ≡ n
 whole_same m n e = omega (arith, ints)
 

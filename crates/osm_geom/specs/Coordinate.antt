@@ -3,12 +3,12 @@ use Rattle.std.specs.Prelude.{◌≤◌, ℤ, pos, ◌*ℤ◌, ◌-ℤ◌, ◌�
 use Rattle.std.specs.Int.{int_div_euclid}
 use Rattle.osm_geom.specs.declared.coordinate.Coordinate.{Coordinate}
 use Rattle.osm_geom.specs.declared.coordinate.Coordinate.TheVariants.{Whole, OfPart}
-use Rattle.osm_geom.specs.Point.{Fraction, whole}
+use Rattle.osm_geom.specs.Point.{Fraction, fraction_in, whole}
 
 -- the number that a coordinate is
 abbrev pub value_of : Coordinate → Fraction
 value_of (Whole n) = whole n
-value_of (OfPart p) = record { num = p.frac.num; den = p.frac.den }
+value_of (OfPart p) = fraction_in p
 
 -- the greatest whole number that is at most f
 abbrev pub floor_of : Fraction → ℤ

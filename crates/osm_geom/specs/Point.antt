@@ -5,9 +5,11 @@ use Rattle.plane.specs.Order.{order}
 use Rattle.plane.specs.Scale.{scaled_point}
 use Rattle.plane.specs.Sign.{Sign}
 use Rattle.plane.specs.Vector.{Vector}
+use Rattle.osm_geom.specs.declared.point.Part.{Part}
 use Rattle.osm_geom.specs.declared.point.Point.{Point}
 use Rattle.osm_geom.specs.declared.point.Point.TheVariants.{Lattice, OnVertical, OnHorizontal}
 use Rattle.osm_lattice.specs.OrderLaws.{ordering_of}
+use Rattle.osm_geom.specs.Part.{part_num}
 
 -- num / den
 pub record Fraction : Type 0 where
@@ -17,16 +19,20 @@ pub record Fraction : Type 0 where
 abbrev pub whole : ℤ → Fraction
 whole n = record { num = n; den = 1 }
 
+-- a coordinate that is no whole number
+abbrev pub fraction_in : Part → Fraction
+fraction_in p = record { num = part_num p.floor p.above p.den; den = p.den }
+
 -- the x of a point
 abbrev pub x_of : Point → Fraction
 x_of (Lattice p) = whole p.x
 x_of (OnVertical c y) = whole c
-x_of (OnHorizontal x d) = record { num = x.frac.num; den = x.frac.den }
+x_of (OnHorizontal x d) = fraction_in x
 
 -- the y of a point
 abbrev pub y_of : Point → Fraction
 y_of (Lattice p) = whole p.y
-y_of (OnVertical c y) = record { num = y.frac.num; den = y.frac.den }
+y_of (OnVertical c y) = fraction_in y
 y_of (OnHorizontal x d) = whole d
 
 -- the least positive number by which the plane is multiplied so that p has whole coordinates

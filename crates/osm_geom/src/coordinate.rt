@@ -1,7 +1,8 @@
 //! Coordinates of exact points, and the whole numbers next to them.
 ghost use Rattle.std.specs.Prelude.{◌≡◌};
 ghost use Rattle.osm_geom.specs.Coordinate.{ceiling_of, floor_of, value_of};
-ghost use Rattle.osm_geom.specs.Cut.{coordinate_of, fraction};
+ghost use Rattle.osm_geom.specs.Cut.{coordinate_of};
+ghost use Rattle.osm_geom.specs.Point.{fraction_in};
 
 use crate::cut::Axis;
 use crate::point::{Part, Point};
@@ -29,16 +30,16 @@ pub(crate) fn coordinate_at(p: &Point, axis: Axis) -> Coordinate
 
 /// The greatest whole number below a coordinate that isn't whole.
 fn floor_of_part(p: Part) -> i64
-    ensures { result ≡ floor_of (fraction p.frac) }
+    ensures { result ≡ floor_of (fraction_in p) }
 {
-    p.frac.num.div_euclid(i128::from(p.frac.den)) as i64
+    i64::from(p.floor)
 }
 
 /// The least whole number above it.
 fn ceiling_of_part(p: Part) -> i64
-    ensures { result ≡ ceiling_of (fraction p.frac) }
+    ensures { result ≡ ceiling_of (fraction_in p) }
 {
-    -((-p.frac.num).div_euclid(i128::from(p.frac.den)) as i64)
+    i64::from(p.floor) + 1
 }
 
 /// The greatest whole number that is at most a point's coordinate.

@@ -93,10 +93,7 @@ fn point_beside(c: i32, y: Frac) -> Point
             y: y.num as i32,
         });
     }
-    Point::OnVertical {
-        c,
-        y: Part { frac: y },
-    }
+    Point::OnVertical { c, y: Part::of(y) }
 }
 
 /// The point with these coordinates, the second of which is whole.
@@ -113,10 +110,7 @@ fn point_above(x: Frac, d: i32) -> Point
             y: d,
         });
     }
-    Point::OnHorizontal {
-        x: Part { frac: x },
-        d,
-    }
+    Point::OnHorizontal { x: Part::of(x), d }
 }
 
 /// The point of a segment with the x `c`.

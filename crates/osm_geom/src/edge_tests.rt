@@ -27,7 +27,9 @@ fn order_just_above_heights(rt: HostRuntime) -> Result<(), Fail> {
     let half = Point::OnVertical {
         c: 7,
         y: Part {
-            frac: Frac { num: 1, den: 2 },
+            floor: 0,
+            above: 1,
+            den: 2,
         },
     };
     let (zero, one, two) = (loc(0, 0)?, loc(0, 1)?, loc(0, 2)?);

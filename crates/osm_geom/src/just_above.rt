@@ -81,10 +81,13 @@ fn level_of(at: &Point, e: &Edge) -> Level
             num: i128::from(p.y),
             den: 1,
         },
-        Point::OnVertical { y, .. } => Level {
-            num: y.frac.num,
-            den: y.frac.den,
-        },
+        Point::OnVertical { y, .. } => {
+            let frac = y.frac();
+            Level {
+                num: frac.num,
+                den: frac.den,
+            }
+        }
         Point::OnHorizontal { d, .. } => Level {
             num: i128::from(d),
             den: 1,

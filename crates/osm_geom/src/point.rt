@@ -1,15 +1,74 @@
 //! Exact points of which one coordinate need not be whole.
-ghost use Rattle.osm_geom.specs.Part.{IsPartDen, IsPartNum};
+ghost use Rattle.std.specs.Prelude.{◌<◌, ◌≡◌, ◌≤◌, pos};
+ghost use Rattle.std.specs.Int.{int_div_euclid, int_rem_euclid};
+ghost use Rattle.osm_lattice.specs.Lowest.{IsLowest};
+ghost use Rattle.osm_geom.specs.Part.{IsPartDen, IsPartNum, part_num};
 
 use osm_lattice::{Frac, Loc};
 
-/// A coordinate that is no whole number, in units of 1e-7 degree: in lowest terms, with a denominator of 2 to 3,600,000,000, the
-/// greatest distance of two longitudes.
+/// The greatest whole number that is at most `num / den`.
+fn whole_below(num: i128, den: u64) -> i32
+    requires den_in { 1 ≤ den }
+    requires num_in { IsPartNum num den }
+    ensures { result ≡ int_div_euclid num (pos den) }
+{
+    num.div_euclid(i128::from(den)) as i32
+}
+
+/// How far `num / den` is above it, times `den`.
+fn rest_above(num: i128, den: u64) -> u32
+    requires { IsPartDen den }
+    ensures { pos result ≡ int_rem_euclid num (pos den) }
+{
+    num.rem_euclid(i128::from(den)) as u32
+}
+
+/// A coordinate that is no whole number, in units of 1e-7 degree: `floor + above / den`. Over its denominator it is in lowest
+/// terms, and that is 2 to 3,600,000,000, the greatest distance of two longitudes.
+// Three numbers of 32 bits in place of a `Frac` of 32 bytes, since each edge holds two points.
 #[derive(Clone, Copy, Debug, PartialEq, Eq)]
 pub struct Part {
-    pub frac: Frac,
-    pub ghost den_in: { IsPartDen frac.den },
-    pub ghost num_in: { IsPartNum frac.num frac.den },
+    pub floor: i32,
+    pub above: u32,
+    pub den: u32,
+    pub ghost den_in: { IsPartDen den },
+    pub ghost above_in: { above < den },
+    pub ghost num_in: { IsPartNum (part_num floor above den) den },
+    pub ghost lowest: { IsLowest (part_num floor above den) den },
+}
+
+impl Part {
+    /// The part that is this fraction, which isn't whole.
+    pub(crate) fn of(frac: Frac) -> Part
+        requires den_in { IsPartDen frac.den }
+        requires num_in { IsPartNum frac.num frac.den }
+        ensures num { part_num result.floor result.above result.den ≡ frac.num }
+        ensures den { result.den ≡ frac.den }
+    {
+        Part {
+            floor: whole_below(frac.num, frac.den),
+            above: rest_above(frac.num, frac.den),
+            den: frac.den as u32,
+        }
+    }
+
+    /// Its numerator.
+    fn num(self) -> i128
+        ensures { result ≡ part_num self.floor self.above self.den }
+    {
+        i128::from(self.floor) * i128::from(self.den) + i128::from(self.above)
+    }
+
+    /// The fraction that it is.
+    pub fn frac(self) -> Frac
+        ensures num { result.num ≡ part_num self.floor self.above self.den }
+        ensures den { result.den ≡ self.den }
+    {
+        Frac {
+            num: self.num(),
+            den: u64::from(self.den),
+        }
+    }
 }
 
 /// An exact point of which at least one coordinate is whole.

@@ -1,5 +1,6 @@
 //! Coordinates as fractions.
 ghost use Rattle.std.specs.Prelude.{◌≡◌};
+ghost use Rattle.osm_geom.specs.Part.{part_num};
 ghost use Rattle.osm_geom.specs.Ratio.{IsRatioDen, IsRatioNum};
 
 use crate::point::Part;
@@ -30,12 +31,13 @@ impl Ratio {
 
     /// A coordinate that is no whole number, as it stands.
     pub fn of_part(p: Part) -> Ratio
-        ensures num { result.num ≡ p.frac.num }
-        ensures den { result.den ≡ p.frac.den }
+        ensures num { result.num ≡ part_num p.floor p.above p.den }
+        ensures den { result.den ≡ p.den }
     {
+        let frac = p.frac();
         Ratio {
-            num: p.frac.num,
-            den: p.frac.den,
+            num: frac.num,
+            den: frac.den,
         }
     }
 
