@@ -115,12 +115,12 @@ impl Held {
         }
     }
 
-    /// Whether it is a candidate by this choice.
+    /// Whether it is a candidate by this choice. Tags are looked at first, since of a way's references all are gone through.
     #[tactic(auto, unfolding(crate::specs::Candidates::is_candidate))]
     pub(crate) fn is_candidate(&self, choice: &Choice) -> bool
         ensures { (id : ℤ) → result ≡ is_candidate choice.now (object_from id self.now) }
     {
-        self.may_have_area(choice) && (choice.keep_untagged || self.has_area_tags())
+        (choice.keep_untagged || self.has_area_tags()) && self.may_have_area(choice)
     }
 
     /// Whether it is a way of the coast.
