@@ -1,5 +1,5 @@
--- The texts of a candidate: its feature and its report lines.
-use Rattle.std.proofs.Common.{◌≡◌, ◌∙◌, refl, sym, ap, ap₂, subst, get_or, ℕ, ◌+◌, ◌<◌, length, take, Vec, Bool, true, false, List, [], ◌∷◌, ◌++◌, append_assoc, append-nil, None, Some}
+-- What a candidate adds: its feature and its report lines.
+use Rattle.std.proofs.Common.{◌≡◌, ◌∙◌, refl, sym, ap, ap₂, subst, get_or, ℕ, ◌+◌, ◌<◌, length, take, Vec, Bool, true, false, List, [], ◌∷◌, ◌++◌, append_assoc, append-nil}
 use Rattle.std.specs.List.{flat_map}
 use Rattle.std.specs.declared.alloc.Global.{Global}
 use Rattle.std.proofs.lemmas.List.{take_more}
@@ -15,7 +15,7 @@ use Rattle.osm_report.specs.Report.{IsProblemLine, note_line}
 use Rattle.osm_words.specs.Job.{ExportSettings}
 use Rattle.job_export.specs.Entry.{AreProblemLines, IsReportShown, piece_of}
 use Rattle.osm_job.specs.Sent.{lines_text}
-use Rattle.job_export.specs.Entries.{shown, AddsProblems, IsTextsOf}
+use Rattle.job_export.specs.Entries.{shown, AddsProblems, IsAdditionOf}
 
 -- ---- one problem more
 
@@ -25,16 +25,16 @@ one_line_more of (q ∷ problems) p text line is one =
     let rest = one_line_more of problems p is.1 line is.3 one in
     (is.0, is.1 ++ line, is.2, rest, ap (λ (xs : List ℕ). xs ++ line) is.4 ∙ append_assoc is.0 is.1 line)
 
--- ---- texts
+-- ---- additions
 
 area_report : (show : Bool) (candidate : ObjectRef) (polygons : List Polygon) (notes : List Note) → IsReportShown show candidate (Area polygons notes) (shown show (flat_map (note_line candidate) notes))
 area_report true candidate polygons notes = refl
 area_report false candidate polygons notes = refl
 
-pub area_texts : (settings : ExportSettings) (objects : List Object) (earlier : ℕ) (candidate : ObjectRef) (polygons : List Polygon) (notes : List Note) (feature : Vec ℕ Global) (lines : Vec (Vec ℕ Global) Global) (before : List ℕ) →
-    IsOutcome objects candidate (Area polygons notes) → feature.items ≡ piece_of settings objects earlier candidate (Area polygons notes) → before ≡ [] →
-    lines_text lines.items ≡ before ++ shown settings.show_errors (flat_map (note_line candidate) notes) → IsTextsOf settings objects earlier candidate (record { feature = Some feature; lines = lines })
-area_texts settings objects earlier candidate polygons notes feature lines before right piece none all = record {
+pub area_addition : (settings : ExportSettings) (objects : List Object) (earlier : ℕ) (candidate : ObjectRef) (polygons : List Polygon) (notes : List Note) (waited waiting : List ℕ) (lines : Vec (Vec ℕ Global) Global) (before : List ℕ) →
+    IsOutcome objects candidate (Area polygons notes) → waiting ≡ waited ++ piece_of settings objects earlier candidate (Area polygons notes) → before ≡ [] →
+    lines_text lines.items ≡ before ++ shown settings.show_errors (flat_map (note_line candidate) notes) → IsAdditionOf settings objects earlier candidate waited waiting (record { has_feature = true; lines = lines })
+area_addition settings objects earlier candidate polygons notes waited waiting lines before right piece none all = record {
   entry = record { candidate = candidate; outcome = Area polygons notes; report = shown settings.show_errors (flat_map (note_line candidate) notes) };
   of_candidate = refl;
   right = record { right = right; reported = area_report settings.show_errors candidate polygons notes };
@@ -49,15 +49,15 @@ problems_report true candidate list notes before middle all none adds is =
     (adds.0, adds.1, is ∙ ap (λ (xs : List ℕ). xs ++ flat_map (note_line candidate) notes) (adds.2 ∙ ap (λ (xs : List ℕ). xs ++ adds.0) none))
 problems_report false candidate list notes before middle all none adds is = is ∙ append-nil middle ∙ adds ∙ none
 
-pub problems_texts : (settings : ExportSettings) (objects : List Object) (earlier : ℕ) (candidate : ObjectRef) (list : List Problem) (notes : List Note) (lines : Vec (Vec ℕ Global) Global) (before middle : List ℕ) →
+pub problems_addition : (settings : ExportSettings) (objects : List Object) (earlier : ℕ) (candidate : ObjectRef) (list : List Problem) (notes : List Note) (waited : List ℕ) (lines : Vec (Vec ℕ Global) Global) (before middle : List ℕ) →
     IsOutcome objects candidate (Problems list notes) → before ≡ [] → AddsProblems settings.show_errors candidate list before middle →
-    lines_text lines.items ≡ middle ++ shown settings.show_errors (flat_map (note_line candidate) notes) → IsTextsOf settings objects earlier candidate (record { feature = None; lines = lines })
-problems_texts settings objects earlier candidate list notes lines before middle right none adds all = record {
+    lines_text lines.items ≡ middle ++ shown settings.show_errors (flat_map (note_line candidate) notes) → IsAdditionOf settings objects earlier candidate waited waited (record { has_feature = false; lines = lines })
+problems_addition settings objects earlier candidate list notes waited lines before middle right none adds all = record {
   entry = record { candidate = candidate; outcome = Problems list notes; report = lines_text lines.items };
   of_candidate = refl;
   right = record { right = right; reported = problems_report settings.show_errors candidate list notes before middle (lines_text lines.items) none adds all };
   area = refl;
-  piece = refl;
+  piece = sym (append-nil waited);
   lines = refl;
 }
 

@@ -7,7 +7,7 @@ use Rattle.osm_words.specs.Job.{ExportSettings}
 use Rattle.osm_job.specs.declared.ended.Ended.{Ended}
 use Rattle.osm_job.specs.declared.ended.Ended.TheVariants as ended
 use Rattle.osm_job.specs.Prefix.{IsPrefix}
-use Rattle.osm_job.specs.Sent.{Sent}
+use Rattle.osm_job.specs.Sent.{Sent, to_output}
 use Rattle.osm_job.specs.Worked.{IsBegun}
 use Rattle.osm_job.specs.Writes.{Added}
 use Rattle.job_export.specs.declared.work.Halt.{Halt}
@@ -29,21 +29,22 @@ pub record IsEntryOf (settings : ExportSettings) (objects : List Object) (candid
   pub of_candidate : entry.candidate ≡ candidate
   pub right : IsEntry settings.show_errors objects entry
 
--- What was written is what a candidate with `earlier` features before it adds, and the answer the number of its features.
-abbrev pub IsAddedBy : ExportSettings → List Object → ℕ → ObjectRef → List Sent → Result ℕ Halt → Type 0
-IsAddedBy settings objects earlier candidate written (Ok count) =
+-- What was written, and then what waits, is what waited, and then what a candidate with `earlier` features before it adds; the answer is the number of its
+-- features. Where the run stops there, nothing waits.
+abbrev pub IsAddedBy : ExportSettings → List Object → ℕ → ObjectRef → List ℕ → List ℕ → List Sent → Result ℕ Halt → Type 0
+IsAddedBy settings objects earlier candidate waited waiting written (Ok count) =
     (entry : Entry) × IsEntryOf settings objects candidate entry × (settings.stop_on_error ≡ true → has_area entry ≡ true) × (count ≡ features_in entry.outcome)
-    × (written ≡ entry_sent settings objects earlier entry)
-IsAddedBy settings objects earlier candidate written (Err (Stopped stopped)) =
+    × (written ++ map to_output waiting ≡ map to_output waited ++ entry_sent settings objects earlier entry)
+IsAddedBy settings objects earlier candidate waited waiting written (Err (Stopped stopped)) =
     (entry : Entry) × IsEntryOf settings objects candidate entry × (settings.stop_on_error ≡ true) × (has_area entry ≡ false) × (stopped ≡ candidate)
-    × (written ≡ entry_sent settings objects earlier entry)
-IsAddedBy settings objects earlier candidate written (Err WriteFault) =
-    (entry : Entry) × IsEntryOf settings objects candidate entry × IsPrefix written (entry_sent settings objects earlier entry)
-IsAddedBy settings objects earlier candidate written (Err OutOfMemory) = written ≡ []
+    × (written ≡ map to_output waited ++ entry_sent settings objects earlier entry)
+IsAddedBy settings objects earlier candidate waited waiting written (Err WriteFault) =
+    (entry : Entry) × IsEntryOf settings objects candidate entry × IsPrefix written (map to_output waited ++ entry_sent settings objects earlier entry)
+IsAddedBy settings objects earlier candidate waited waiting written (Err OutOfMemory) = written ≡ []
 
-pub record WroteCandidate (settings : ExportSettings) (objects : List Object) (earlier : ℕ) (candidate : ObjectRef) (before after : Outside) (result : Result ℕ Halt) : Type 0 where
+pub record WroteCandidate (settings : ExportSettings) (objects : List Object) (earlier : ℕ) (candidate : ObjectRef) (waited waiting : List ℕ) (before after : Outside) (result : Result ℕ Halt) : Type 0 where
   pub written : List Sent
-  pub right : IsAddedBy settings objects earlier candidate written result
+  pub right : IsAddedBy settings objects earlier candidate waited waiting written result
   pub added : Added written before after
   pub cause : HaltCause before after result
 

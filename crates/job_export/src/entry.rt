@@ -1,8 +1,8 @@
 //! What a candidate adds to the output and to the report.
 
-ghost use Rattle.std.specs.Prelude.{◌≡◌, All, IfOk, IfSome, IsSome, OnErr, OnOk, ◌++◌, ◌+◌, ◌≤◌, map};
+ghost use Rattle.std.specs.Prelude.{◌≡◌, All, IfOk, IfSome, IsSome, OnErr, OnOk, [], ◌++◌, ◌+◌, ◌≤◌, map, true};
 ghost use Rattle.std.specs.List.{flat_map};
-ghost use Rattle.job_export.specs.Entries.{shown, IsTextsOf, AddsProblems};
+ghost use Rattle.job_export.specs.Entries.{shown, IsAdditionOf, AddsProblems};
 ghost use Rattle.osm_job.specs.Sent.{lines_text};
 ghost use Rattle.job_export.specs.Entry.{feature_id, feature_in, tags_of};
 ghost use Rattle.job_export.specs.Framing.{framed};
@@ -21,16 +21,23 @@ use osm_text::{FeatureId, note_line, problem_line, put_feature_json, put_feature
 use osm_words::{ExportSettings, Format, UniqueId};
 use std::alloc::{AllocError as OutOfMemory, Global};
 
-/// Room for an ordinary feature and what stands around it, so that it seldom grows.
-const FIRST_ROOM: usize = 1_024;
-
-/// What a candidate adds, each text a piece that is written by itself.
+/// What a candidate adds beside its feature.
 #[derive(Drop)]
-pub(crate) struct Texts {
-    /// Its feature with what stands around it; None where it has problems.
-    pub feature: Option<Vec<u8>>,
-    /// Its report lines; none where they aren't asked for.
+pub(crate) struct Addition {
+    /// Whether it has a feature; not where it has problems.
+    pub has_feature: bool,
+    /// Its report lines, each a piece that is written by itself; none where they aren't asked for.
     pub lines: Vec<Vec<u8>>,
+}
+
+impl Addition {
+    /// Whether it is a feature alone, which may wait for the next ones.
+    pub(crate) fn is_feature_alone(&self) -> bool
+        ensures feature { result ≡ true → self.now.has_feature ≡ true }
+        ensures alone { result ≡ true → self.now.lines.items ≡ [] }
+    {
+        self.has_feature && self.lines.is_empty()
+    }
 }
 
 /// The id of a candidate's feature with `earlier` features before it.
@@ -99,65 +106,62 @@ fn put_feature_of(
     put_feature(alloc, text, format, polygons, &tags, id)
 }
 
-/// The feature of a candidate's area with `earlier` features before it, and what stands around it.
-fn feature_of(
+/// Adds the feature of a candidate's area with `earlier` features before it, and what stands around it.
+fn put_framed(
     alloc: Global,
+    text: &mut Vec<u8>,
     store: &Store,
     settings: &ExportSettings<'_>,
     candidate: ObjectRef,
     polygons: &Polygons,
     earlier: u64,
-) -> Result<Vec<u8>, OutOfMemory>
+) -> Result<(), OutOfMemory>
     requires held { IsSome (object_at store.now candidate) }
     requires room { earlier + 1 ≤ 18_446_744_073_709_551_615 }
-    ensures { IfOk result (λ text. text.items
-        ≡ framed (settings_seen settings.now) earlier
+    ensures { OnOk result (text.new.items ≡ text.old.items
+        ++ framed (settings_seen settings.now) earlier
         (feature_in settings.now.format (feature_id settings.now.ids earlier candidate)
         polygons.now (tags_of (object_at store.now candidate)))) }
 {
     let id = feature_id(settings.ids, earlier, candidate);
     let before = before_feature(settings.format, settings.omit_rs, earlier);
-    let mut text = Vec::with_capacity(alloc, FIRST_ROOM)?;
     text.extend_from_slice(before.as_bytes())?;
-    put_feature_of(
-        alloc,
-        &mut text,
-        store,
-        settings.format,
-        candidate,
-        polygons,
-        id,
-    )?;
+    put_feature_of(alloc, text, store, settings.format, candidate, polygons, id)?;
     text.extend_from_slice(after_feature(settings.format).as_bytes())?;
-    Ok(text)
+    Ok(())
 }
 
-/// What a candidate with `earlier` features before it adds.
-pub(crate) fn texts_of(
+/// Adds the feature of a candidate with `earlier` features before it, if it has one, to those that wait, and gives what else
+/// the candidate adds.
+pub(crate) fn addition_of(
     alloc: Global,
+    waiting: &mut Vec<u8>,
     store: &Store,
     settings: &ExportSettings<'_>,
     candidate: ObjectRef,
     earlier: u64,
-) -> Result<Texts, OutOfMemory>
+) -> Result<Addition, OutOfMemory>
     requires held { IsSome (object_at store.now candidate) }
     requires room { earlier + 1 ≤ 18_446_744_073_709_551_615 }
-    ensures { IfOk result (IsTextsOf (settings_seen settings.now) store.now earlier candidate) }
+    ensures { IfOk result (IsAdditionOf (settings_seen settings.now) store.now earlier candidate
+        waiting.old.items waiting.new.items) }
 {
     let show = settings.show_errors;
     let mut lines = Vec::new(alloc);
     match assemble(alloc, store, candidate)? {
         Outcome::Area { polygons, notes } => {
-            let text = feature_of(alloc, store, settings, candidate, &polygons, earlier)?;
+            put_framed(
+                alloc, waiting, store, settings, candidate, &polygons, earlier,
+            )?;
             push_notes(alloc, &mut lines, candidate, notes.as_slice(), show)?;
-            let feature = Some(text);
-            Ok(Texts { feature, lines })
+            let has_feature = true;
+            Ok(Addition { has_feature, lines })
         }
         Outcome::Problems { list, notes } => {
             push_problems(alloc, &mut lines, candidate, list.as_slice(), show)?;
             push_notes(alloc, &mut lines, candidate, notes.as_slice(), show)?;
-            let feature = None;
-            Ok(Texts { feature, lines })
+            let has_feature = false;
+            Ok(Addition { has_feature, lines })
         }
     }
 }

@@ -1,4 +1,4 @@
-//! The work: the areas of an input's candidates, each written as soon as it is assembled.
+//! The work: the areas of an input's candidates, each assembled and then written together with those behind it, or before the next report line.
 
 ghost use Rattle.std.specs.Prelude.{◌≡◌, ◌+◌, ◌≤◌, All, IfOk, IsSome, Ok};
 ghost use Rattle.job_export.specs.ExportSteps.{WroteWhole, WroteCandidates, WroteCandidate, ended_by};
@@ -10,10 +10,10 @@ ghost use Rattle.osm_objects.specs.Objects.{object_at};
 ghost use Rattle.osm_words.specs.Answers.{settings_seen};
 
 use crate::choice::candidates_of;
-use crate::entry::texts_of;
+use crate::entry::addition_of;
 use crate::framing::{footer, header};
 use crate::laws::export_exists;
-use crate::writing::write_texts;
+use crate::writing::write_waiting;
 use opl_reader::ObjectRef;
 use osm_area::outcome_exists;
 use osm_host::{Host, streams_append};
@@ -124,38 +124,57 @@ fn write_candidates<H: Host>(
         (H.seen host.old) (H.seen host.new) result }
 {
     let mut features = 0;
+    let mut waiting = Vec::new(alloc);
     for &candidate in candidates {
-        match write_candidate(alloc, store, settings, candidate, features, host) {
+        match write_candidate(
+            alloc,
+            store,
+            settings,
+            candidate,
+            features,
+            &mut waiting,
+            host,
+        ) {
             Ok(count) => features += count,
             Err(halt) => return Err(halt),
         }
     }
+    let Ok(()) = write_out(host, &waiting) else {
+        return Err(Halt::WriteFault);
+    };
     Ok(())
 }
 
-/// Assembles a candidate with `earlier` features before it and writes what it adds. It answers the number of its
-/// features, 1 or 0.
+/// So many bytes of features are written, and no longer wait for more.
+const MANY: usize = 65_536;
+
+/// Assembles a candidate with `earlier` features before it, and writes what it adds behind the features that wait; a feature alone waits too.
+/// It answers the number of the candidate's features, 1 or 0.
 fn write_candidate<H: Host>(
     alloc: Global,
     store: &Store,
     settings: &ExportSettings<'_>,
     candidate: ObjectRef,
     earlier: u64,
+    waiting: &mut Vec<u8>,
     host: &mut H,
 ) -> Result<u64, Halt>
     requires held { IsSome (object_at store.now candidate) }
     requires room { earlier + 1 ≤ 18_446_744_073_709_551_615 }
     ensures one { IfOk result (λ count. count ≤ 1) }
     ensures wrote { WroteCandidate (settings_seen settings.now) store.now earlier candidate
-        (H.seen host.old) (H.seen host.new) result }
+        waiting.old.items waiting.new.items (H.seen host.old) (H.seen host.new) result }
 {
-    let Ok(texts) = texts_of(alloc, store, settings, candidate, earlier) else {
+    let Ok(addition) = addition_of(alloc, waiting, store, settings, candidate, earlier) else {
         return Err(Halt::OutOfMemory);
     };
-    let Ok(()) = write_texts(host, &texts) else {
+    if addition.is_feature_alone() && waiting.len() < MANY {
+        return Ok(1);
+    }
+    let Ok(()) = write_waiting(host, waiting, &addition.lines) else {
         return Err(Halt::WriteFault);
     };
-    if texts.feature.is_some() {
+    if addition.has_feature {
         return Ok(1);
     }
     if settings.stop_on_error {
