@@ -14,6 +14,7 @@ use Rattle.osm_geom.specs.declared.point.Point.{Point}
 use Rattle.osm_geom.specs.declared.point.Point.TheVariants.{Lattice, OnVertical, OnHorizontal}
 use Rattle.osm_geom.specs.Carrier.{has_x, has_y, is_on}
 use Rattle.osm_geom.specs.Cut.{carrier_by, carrier_of_cut, cut_order}
+use Rattle.osm_geom.specs.Part.{part_num}
 use Rattle.osm_geom.specs.Point.{den_of, point_order, whole_of}
 use Rattle.plane.specs.Scale.{scaled_point}
 use Rattle.coast_split.specs.Half.{IsLink, NextLink, line_order, runs_forward}
@@ -21,19 +22,17 @@ use Rattle.coast_split.specs.Walk.{AddsLink, AddsWalk, IsEnd, IsWalk, is_skipped
 use Rattle.plane.proofs.PlaneKit.{order-self-null}
 use Rattle.lists.proofs.ListsKit.{int_eq-same}
 use Rattle.plane.proofs.SignKit.{null-zero}
-use Rattle.osm_geom.proofs.GeometryKit.{order_at, whole_frac}
-use Rattle.osm_lattice.proofs.LatticeKit.{frac_same, signed}
+use Rattle.osm_geom.proofs.GeometryKit.{order_at, part_whole}
+use Rattle.osm_lattice.proofs.LatticeKit.{signed}
 
 -- ---- a point on the line is on the line's carrier
 same-one : (at n : ℤ) → sign (at *ℤ pos 1 -ℤ n) ≡ Null → n ≡ at
 same-one at n h = let z = null-zero (at *ℤ pos 1 -ℤ n) h in omega (arith, signed)
 
-no-part : (at : ℤ) (y : Part) → sign (at *ℤ pos y.frac.den -ℤ y.frac.num) ≡ Null → ⊥
+no-part : (at : ℤ) (y : Part) → sign (at *ℤ pos y.den -ℤ part_num y.floor y.above y.den) ≡ Null → ⊥
 no-part at y h =
-    let z = null-zero (at *ℤ pos y.frac.den -ℤ y.frac.num) h in
-    let e : at *ℤ pos y.frac.den ≡ y.frac.num *ℤ pos 1 = omega (arith, signed) in
-    let f = frac_same (whole_frac at) y.frac e in
-    let g = ap (λ f. f.den) f in let some = y.den_in.0 in omega arith
+    let z = null-zero (at *ℤ pos y.den -ℤ part_num y.floor y.above y.den) h in
+    part_whole at y (omega (arith, signed))
 
 on-x : (at : ℤ) (p : Point) → order_at X at p ≡ Null → has_x at p ≡ true
 on-x at (Lattice p) h = int_eq-same p.x at (same-one at p.x h)

@@ -98,10 +98,10 @@ fn is_at(p: &Point, word: &str) -> bool {
     match p {
         Point::Lattice(at) => is_number(at.x.into(), 1, x) && is_number(at.y.into(), 1, y),
         Point::OnVertical { c, y: part } => {
-            is_number(i128::from(*c), 1, x) && is_number(part.frac.num, part.frac.den, y)
+            is_number(i128::from(*c), 1, x) && is_number(part.frac().num, part.frac().den, y)
         }
         Point::OnHorizontal { x: part, d } => {
-            is_number(part.frac.num, part.frac.den, x) && is_number(i128::from(*d), 1, y)
+            is_number(part.frac().num, part.frac().den, x) && is_number(i128::from(*d), 1, y)
         }
     }
 }
