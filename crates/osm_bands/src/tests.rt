@@ -2,7 +2,7 @@
 
 use super::*;
 use crate::scale::Scale;
-use osm_geom::{Edge, Edges, Frac, Loc, Part, Point, Seg, spans_height};
+use osm_geom::{Edge, Edges, Loc, Part, Point, Seg, spans_height};
 use osm_stab::Stab;
 use std::alloc::{AllocError as OutOfMemory, Global};
 use std::test::Fail;
@@ -71,7 +71,9 @@ fn a_half() -> Point {
     Point::OnVertical {
         c: 7,
         y: Part {
-            frac: Frac { num: 1, den: 2 },
+            floor: 0,
+            above: 1,
+            den: 2,
         },
     }
 }

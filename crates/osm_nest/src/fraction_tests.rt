@@ -3,7 +3,7 @@
 use crate::enclosers::{is_around, nearest_right};
 use crate::outer::{first_of, lower_end};
 use crate::rings_from_least::{Start, compare_starts};
-use osm_geom::{Carrier, Edge, Frac, Loc, Part, Point, Seg, spans_height};
+use osm_geom::{Carrier, Edge, Loc, Part, Point, Seg, spans_height};
 use std::cmp::Ordering;
 use std::test::Fail;
 
@@ -11,11 +11,12 @@ use std::test::Fail;
 /// the hole (1, 1/2), (1, 1), (2, 1), clockwise. Two edges lie on the line x = 1.
 #[tactic(auto, using(crate::proofs::Halves::half_lowest), unfolding(osm_geom::specs::Carrier::is_on))]
 fn three_triangles() -> [Edge; 9] {
-    let half = Frac { num: 1, den: 2 };
-    let middle = Point::OnVertical {
-        c: 1,
-        y: Part { frac: half },
+    let half = Part {
+        floor: 0,
+        above: 1,
+        den: 2,
     };
+    let middle = Point::OnVertical { c: 1, y: half };
     let (first, last) = (Loc { x: 0, y: 0 }, Loc { x: 2, y: 1 });
     let (right, left) = (Loc { x: 2, y: 0 }, Loc { x: 0, y: 1 });
     let top = Loc { x: 1, y: 1 };

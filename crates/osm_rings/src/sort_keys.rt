@@ -1,13 +1,5 @@
 //! Whole numbers by which points are sorted fast. Nothing rests on them but speed.
-use osm_geom::{Part, Point};
-
-/// The whole part of a coordinate.
-fn whole_part(part: Part) -> i64 {
-    match part.frac.num.checked_div_euclid(i128::from(part.frac.den)) {
-        Some(whole) => i64::try_from(whole).unwrap_or(0),
-        None => 0,
-    }
-}
+use osm_geom::Point;
 
 /// A number for the point (x, y), of which the one with the lesser y has the lesser, and of one height the one with the lesser x.
 fn key_at(x: i64, y: i64) -> i64 {
@@ -19,7 +11,7 @@ fn key_at(x: i64, y: i64) -> i64 {
 pub fn sort_key(point: Point) -> i64 {
     match point {
         Point::Lattice(at) => key_at(i64::from(at.x), i64::from(at.y)),
-        Point::OnVertical { y, .. } => key_at(i64::from(i32::MAX), whole_part(y)),
-        Point::OnHorizontal { x, d } => key_at(whole_part(x), i64::from(d)),
+        Point::OnVertical { y, .. } => key_at(i64::from(i32::MAX), i64::from(y.floor)),
+        Point::OnHorizontal { x, d } => key_at(i64::from(x.floor), i64::from(d)),
     }
 }

@@ -2,7 +2,7 @@
 
 use crate::departures::{departures, node_numbers};
 use crate::successors::successors;
-use osm_geom::{Carrier, Edge, Frac, Loc, Part, Point, Seg};
+use osm_geom::{Carrier, Edge, Loc, Part, Point, Seg};
 use std::alloc::Global;
 use std::test::Fail;
 
@@ -90,11 +90,12 @@ fn numbers_of_nodes(rt: HostRuntime) -> Result<(), Fail> {
 /// The triangles (0, 0), (1, 1/2), (1, 1) and (1, 1/2), (2, 0), (2, 1), each counterclockwise. One edge lies on x = 1.
 #[tactic(auto, using(crate::proofs::Halves::half_lowest), unfolding(osm_geom::specs::Carrier::is_on))]
 fn touching_triangles() -> [Edge; 6] {
-    let half = Frac { num: 1, den: 2 };
-    let middle = Point::OnVertical {
-        c: 1,
-        y: Part { frac: half },
+    let half = Part {
+        floor: 0,
+        above: 1,
+        den: 2,
     };
+    let middle = Point::OnVertical { c: 1, y: half };
     let (first, last) = (Loc { x: 0, y: 0 }, Loc { x: 2, y: 1 });
     let (right, left) = (Loc { x: 2, y: 0 }, Loc { x: 0, y: 1 });
     let top = Loc { x: 1, y: 1 };

@@ -1,7 +1,7 @@
 //! Edges at a height, counted to the right of one.
 
 use super::*;
-use osm_geom::{Edge, Edges, Frac, Loc, Part, Point, Seg, spans_height};
+use osm_geom::{Edge, Edges, Loc, Part, Point, Seg, spans_height};
 use std::alloc::{AllocError as OutOfMemory, Global};
 use std::test::Fail;
 
@@ -78,7 +78,9 @@ fn a_half() -> Point {
     Point::OnVertical {
         c: 7,
         y: Part {
-            frac: Frac { num: 1, den: 2 },
+            floor: 0,
+            above: 1,
+            den: 2,
         },
     }
 }
