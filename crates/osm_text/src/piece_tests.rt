@@ -2,7 +2,7 @@
 
 use crate::feature_tests::{Sides, polygon_of, quadrilateral, rectangle, triangle};
 use crate::{Piece, PieceKind, piece_text};
-use osm_geom::{Carrier, Edge, Frac, Loc, Part, Point, Seg};
+use osm_geom::{Carrier, Edge, Loc, Part, Point, Seg};
 use osm_nest::Polygon;
 use osm_rings::{Ring, Rings};
 use std::alloc::Global;
@@ -19,7 +19,9 @@ fn sliver() -> [Edge; 3] {
     let half = Point::OnVertical {
         c: 0,
         y: Part {
-            frac: Frac { num: 1, den: 2 },
+            floor: 0,
+            above: 1,
+            den: 2,
         },
     };
     let (left, right) = (Loc { x: 0, y: 1 }, Loc { x: 1, y: 1 });
@@ -47,13 +49,17 @@ fn sliver() -> [Edge; 3] {
 fn halves_of_x() -> [Edge; 4] {
     let west = Point::OnHorizontal {
         x: Part {
-            frac: Frac { num: -1, den: 2 },
+            floor: -1,
+            above: 1,
+            den: 2,
         },
         d: 0,
     };
     let east = Point::OnHorizontal {
         x: Part {
-            frac: Frac { num: 1, den: 2 },
+            floor: 0,
+            above: 1,
+            den: 2,
         },
         d: 0,
     };
@@ -100,7 +106,9 @@ fn four_corners() -> [Edge; 4] {
     let half = Point::OnVertical {
         c: 8,
         y: Part {
-            frac: Frac { num: -1, den: 2 },
+            floor: -1,
+            above: 1,
+            den: 2,
         },
     };
     let right = Loc { x: 8, y: 0 };

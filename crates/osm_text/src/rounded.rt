@@ -1,14 +1,22 @@
 //! Rings of which each point is rounded to a location.
 
 ghost use Rattle.std.specs.Prelude.{◌≡◌, Some, IfOk};
+ghost use Rattle.osm_geom.specs.Part.{part_num};
 ghost use Rattle.osm_geom.specs.Point.{IsInWorld, x_of, y_of};
 ghost use Rattle.osm_lattice.specs.Frac.{rounded};
 ghost use Rattle.osm_text.specs.Rounded.{least_near, location_near, rounded_ring};
 ghost use Rattle.osm_text.specs.RoundedSteps.{location_left};
 
-use osm_geom::{Edge, Loc, Point, round};
+use osm_geom::{Edge, Loc, Part, Point, round};
 use osm_rings::Ring;
 use std::alloc::{AllocError as OutOfMemory, Global};
+
+/// The whole number next to a coordinate that isn't whole.
+fn part_near(part: Part) -> i32
+    ensures { result ≡ rounded (part_num part.floor part.above part.den) part.den }
+{
+    round(part.frac()) as i32
+}
 
 /// The whole number next to a point's x.
 #[tactic(auto, using(osm_notation::proofs::RoundedRange::rounded_longitude, osm_notation::proofs::RoundedRange::rounded_whole))]
@@ -19,7 +27,7 @@ fn x_near(point: Point) -> i32
     match point {
         Point::Lattice(at) => at.x,
         Point::OnVertical { c, .. } => c,
-        Point::OnHorizontal { x, .. } => round(x.frac) as i32,
+        Point::OnHorizontal { x, .. } => part_near(x),
     }
 }
 
@@ -31,7 +39,7 @@ fn y_near(point: Point) -> i32
 {
     match point {
         Point::Lattice(at) => at.y,
-        Point::OnVertical { y, .. } => round(y.frac) as i32,
+        Point::OnVertical { y, .. } => part_near(y),
         Point::OnHorizontal { d, .. } => d,
     }
 }
