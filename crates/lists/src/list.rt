@@ -53,6 +53,13 @@ impl<T: Drop> List<T> {
         Ok(())
     }
 
+    /// The vector of the list's items.
+    pub fn into_vec(self) -> Vec<T>
+        ensures { result.items ≡ self }
+    {
+        self.items
+    }
+
     /// The items, in order.
     pub fn as_slice(&self) -> &[T]
         ensures { result.now ≡ self.now }

@@ -75,6 +75,17 @@ impl Ring {
         turned.extend_from_slice(&edges[..least])?;
         Ok(Ring::of_edges(turned))
     }
+
+    /// The same as `from_least` gives, in the ring's own memory.
+    pub fn turned_to_least(self) -> Ring
+        ensures turned { IsRotated self result }
+        ensures least { BeginsLeast result }
+    {
+        let mut edges = self.edges;
+        let least = least_start(&edges);
+        edges.rotate_left(least);
+        Ring::of_edges(edges)
+    }
 }
 
 /// The place of an edge that leaves the least point.
