@@ -220,39 +220,39 @@ module _ (es : List Edge) (apart : LeaveApart es) where
         cut-whole os orbits.each (all_below (length es) os once) (held_distinct (length es) os once)
 
 -- ---- edges whose departures leave later and later points
-module _ (es : List Edge) (ws : List Departure) (are : AreDepartures es ws) (rises : (k : ℕ) (d : Departure) → k + 1 < length ws → lt (get_or ws k d).from (get_or ws (k + 1) d).from ≡ true) where
-  far : (m n : ℕ) (d : Departure) → m < n → n < length ws → lt (get_or ws m d).from (get_or ws n d).from ≡ true
-  far m n d l h = by (lt (get_or ws m d).from (get_or ws n d).from) refl
+module _ (es : List Edge) (ws : List Departure) (are : AreDepartures es ws) (rises : (k : ℕ) (d : Departure) → k + 1 < length ws → lt (get_or ws k d).edge.now.from (get_or ws (k + 1) d).edge.now.from ≡ true) where
+  far : (m n : ℕ) (d : Departure) → m < n → n < length ws → lt (get_or ws m d).edge.now.from (get_or ws n d).edge.now.from ≡ true
+  far m n d l h = by (lt (get_or ws m d).edge.now.from (get_or ws n d).edge.now.from) refl
     where
-      by : (b : Bool) → lt (get_or ws m d).from (get_or ws n d).from ≡ b → b ≡ true
+      by : (b : Bool) → lt (get_or ws m d).edge.now.from (get_or ws n d).edge.now.from ≡ b → b ≡ true
       by true e = refl
-      by false e = absurd (clash (lt (get_or ws m d).from (get_or ws (m + 1) d).from) (rises m d (omega arith)) (ranked-chain (get_or ws m d).from (get_or ws n d).from (get_or ws (m + 1) d).from e (are.rising (m + 1) n d (omega arith) h)))
+      by false e = absurd (clash (lt (get_or ws m d).edge.now.from (get_or ws (m + 1) d).edge.now.from) (rises m d (omega arith)) (ranked-chain (get_or ws m d).edge.now.from (get_or ws n d).edge.now.from (get_or ws (m + 1) d).edge.now.from e (are.rising (m + 1) n d (omega arith) h)))
 
-  not-one : (m n : ℕ) (d : Departure) → m < n → n < length ws → (get_or ws m d).from ≡ (get_or ws n d).from → ⊥
-  not-one m n d l h same = clash (lt (get_or ws m d).from (get_or ws n d).from) (far m n d l h) (ap (λ p. lt (get_or ws m d).from p) (sym same) ∙ lt-itself (get_or ws m d).from)
+  not-one : (m n : ℕ) (d : Departure) → m < n → n < length ws → (get_or ws m d).edge.now.from ≡ (get_or ws n d).edge.now.from → ⊥
+  not-one m n d l h same = clash (lt (get_or ws m d).edge.now.from (get_or ws n d).edge.now.from) (far m n d l h) (ap (λ p. lt (get_or ws m d).edge.now.from p) (sym same) ∙ lt-itself (get_or ws m d).edge.now.from)
 
   -- where the edge at a place departs
-  departs : (k : ℕ) (d : Edge) → k < length es → (m : ℕ) × (w : Departure) × (m < length ws) × (get_or ws m w ≡ w) × (w.edge ≡ k) × (w.from ≡ (get_or es k d).from)
+  departs : (k : ℕ) (d : Edge) → k < length es → (m : ℕ) × (w : Departure) × (m < length ws) × (get_or ws m w ≡ w) × (w.place ≡ k) × (w.edge.now.from ≡ (get_or es k d).from)
   departs k d h =
       let found = are.whole k h in
       let w = found.0 in
       let right : IsDepartureOf es w = All-contains (IsDepartureOf es) ws w are.right found.1 in
-      (found.1.0, w, found.1.1, found.1.2, found.2, same-some w.from (get_or es k d).from (sym right.from ∙ (ap (start_at es) found.2 ∙ start-at es k d h)))
+      (found.1.0, w, found.1.1, found.1.2, found.2, same-some w.edge.now.from (get_or es k d).from (sym right.from ∙ (ap (start_at es) found.2 ∙ start-at es k d h)))
 
   leave-apart-at : (i k : ℕ) (d e : Edge) → k < i → i < length es → (get_or es k e).from ≢ (get_or es i d).from
   leave-apart-at i k d e l h same =
       let a = departs k e (omega arith) in
       let b = departs i d h in
-      let points : a.1.from ≡ b.1.from = a.5 ∙ (same ∙ sym b.5) in
+      let points : a.1.edge.now.from ≡ b.1.edge.now.from = a.5 ∙ (same ∙ sym b.5) in
       let at_a : get_or ws a.0 b.1 ≡ a.1 = get_or_default ws a.0 b.1 a.1 a.2 ∙ a.3 in
-      let first : (get_or ws a.0 b.1).from ≡ a.1.from = ap (λ (w : Departure). w.from) at_a in
-      let second : (get_or ws b.0 b.1).from ≡ b.1.from = ap (λ (w : Departure). w.from) b.3 in
+      let first : (get_or ws a.0 b.1).edge.now.from ≡ a.1.edge.now.from = ap (λ (w : Departure). w.edge.now.from) at_a in
+      let second : (get_or ws b.0 b.1).edge.now.from ≡ b.1.edge.now.from = ap (λ (w : Departure). w.edge.now.from) b.3 in
       ⊎_elim
       (λ below. not-one a.0 b.0 b.1 below b.2 (first ∙ (points ∙ sym second)))
       (λ from. ⊎_elim
       (λ above. not-one b.0 a.0 b.1 above a.2 (second ∙ (sym points ∙ sym first)))
       (λ upto. let one : a.0 ≡ b.0 = omega arith in
-      let edge : k ≡ i = sym a.4 ∙ (ap (λ (w : Departure). w.edge) (sym at_a ∙ (ap (λ j. get_or ws j b.1) one ∙ b.3)) ∙ b.4) in
+      let edge : k ≡ i = sym a.4 ∙ (ap (λ (w : Departure). w.place) (sym at_a ∙ (ap (λ j. get_or ws j b.1) one ∙ b.3)) ∙ b.4) in
       absurd (omega arith))
       (cases_lt b.0 a.0))
       (cases_lt a.0 b.0)
@@ -264,6 +264,6 @@ module _ (es : List Edge) (ws : List Departure) (are : AreDepartures es ws) (ris
     before = λ k e l. leave-apart-at i k d e l h;
   }
 
-pub apart-by-answer : (es : List Edge) (ws : List Departure) → AreDepartures es ws → (r : Bool) → r ≡ true → IsAllAdjacentAnswer (λ (v w : Departure) (b : Bool). b ≡ lt v.from w.from) ws r → LeaveApart es
+pub apart-by-answer : (es : List Edge) (ws : List Departure) → AreDepartures es ws → (r : Bool) → r ≡ true → IsAllAdjacentAnswer (λ (v w : Departure) (b : Bool). b ≡ lt v.edge.now.from w.edge.now.from) ws r → LeaveApart es
 apart-by-answer es ws are true h told = departures-apart es ws are (λ k d inside. sym (told k d inside))
 apart-by-answer es ws are false h told = absurd (cc)

@@ -9,7 +9,6 @@ use Rattle.plane.specs.Edge.{Edge}
 use Rattle.plane.specs.Vector.{Vector, from_to}
 use Rattle.orbits.specs.Orbits.{after}
 use Rattle.osm_geom.specs.declared.edge.Edge as geom
-use Rattle.osm_geom.specs.Dir.{vector_along}
 use Rattle.osm_geom.specs.Edge.{direction_of, opposite}
 use Rattle.plane_edges.specs.Multiple.{IsWholeAt, common_den, edge_times, point_times, whole_edges}
 use Rattle.plane_edges.specs.OneDirection.{HaveOneDirection}
@@ -38,7 +37,7 @@ module _ (es : List geom.Edge) (ws : List Departure) (are : AreDepartures es ws)
   back-departure = subst (HaveOneDirection (from_to (point_times m e.to) (point_times m e.from))) (sym turned) (back_along m e we)
 
   -- the departure of an edge that leaves the end is among these
-  listed : (k : ℕ) → k < length es → (edge_at xs k).from ≡ point_times m e.to → (w : Departure) × Contains vs w × (w.edge ≡ k) × (vector_along w.dir ≡ direction_at es k)
+  listed : (k : ℕ) → k < length es → (edge_at xs k).from ≡ point_times m e.to → (w : Departure) × Contains vs w × (w.place ≡ k) × (direction_of w.edge.now ≡ direction_at es k)
   listed k h leaves =
       let d = pick es (omega arith) in
       let f = get_or es k d in
@@ -47,7 +46,7 @@ module _ (es : List geom.Edge) (ws : List Departure) (are : AreDepartures es ws)
       let found = are.whole k h in
       let w = found.0 in
       let right : IsDepartureOf es w = All-contains (IsDepartureOf es) ws w are.right found.1 in
-      let here : w.from ≡ e.to = same-some w.from e.to (sym right.from ∙ (ap (start_at es) found.2 ∙ (start-at es k d h ∙ ap Some same))) in
+      let here : w.edge.now.from ≡ e.to = same-some w.edge.now.from e.to (sym right.from ∙ (ap (start_at es) found.2 ∙ (start-at es k d h ∙ ap Some same))) in
       (w, from.whole w found.1 here, found.2, right.along ∙ ap (direction_at es) found.2)
 
   pub met-none : vs ≡ [] → IsFirstMet xs (edge_times m e) None
@@ -59,18 +58,18 @@ module _ (es : List geom.Edge) (ws : List Departure) (are : AreDepartures es ws)
         let l = at.1 in absurd (omega arith);
   }
 
-  pub met-some : (w : Departure) → Contains vs w → All (λ v. is_met_before back (vector_along v.dir) (vector_along w.dir) ≡ false) vs → IsFirstMet xs (edge_times m e) (Some w.edge)
+  pub met-some : (w : Departure) → Contains vs w → All (λ v. is_met_before back (direction_of v.edge.now) (direction_of w.edge.now) ≡ false) vs → IsFirstMet xs (edge_times m e) (Some w.place)
   met-some w member first = record {
-    some = λ i is. subst (IsFirstFrom xs (edge_times m e)) (unwrap w.edge i is) (record {
+    some = λ i is. subst (IsFirstFrom xs (edge_times m e)) (unwrap w.place i is) (record {
       inside = let long = size es in let l = right.inside in omega arith;
       leaves = leaves;
       first = λ k h out.
           let long = size es in
           let fits : k < length es = omega arith in
           let v = listed k fits out in
-          let before : is_met_before back (vector_along v.0.dir) (vector_along w.dir) ≡ false = All-contains (λ u. is_met_before back (vector_along u.dir) (vector_along w.dir) ≡ false) vs v.0 first v.1 in
-          met-along (from_to (point_times m e.to) (point_times m e.from)) (step_at xs k) (step_at xs w.edge) back (direction_at es k) (direction_at es w.edge) back-departure (departure-along es k fits) (departure-along es w.edge right.inside)
-          ∙ (ap (λ u. is_met_before back u (direction_at es w.edge)) (sym v.3) ∙ (ap (is_met_before back (vector_along v.0.dir)) (sym right.along) ∙ before));
+          let before : is_met_before back (direction_of v.0.edge.now) (direction_of w.edge.now) ≡ false = All-contains (λ u. is_met_before back (direction_of u.edge.now) (direction_of w.edge.now) ≡ false) vs v.0 first v.1 in
+          met-along (from_to (point_times m e.to) (point_times m e.from)) (step_at xs k) (step_at xs w.place) back (direction_at es k) (direction_at es w.place) back-departure (departure-along es k fits) (departure-along es w.place right.inside)
+          ∙ (ap (λ u. is_met_before back u (direction_at es w.place)) (sym v.3) ∙ (ap (is_met_before back (direction_of v.0.edge.now)) (sym right.along) ∙ before));
     });
     none = λ is. absurd (cc);
   }
@@ -78,18 +77,18 @@ module _ (es : List geom.Edge) (ws : List Departure) (are : AreDepartures es ws)
       unwrap : (x y : ℕ) → Some x ≡ Some y → x ≡ y
       unwrap x y q = cc
 
-      found : Contains ws w × (w.from ≡ e.to)
-      found = All-contains (λ v. Contains ws v × (v.from ≡ e.to)) vs w from.right member
+      found : Contains ws w × (w.edge.now.from ≡ e.to)
+      found = All-contains (λ v. Contains ws v × (v.edge.now.from ≡ e.to)) vs w from.right member
 
       right : IsDepartureOf es w
       right = All-contains (IsDepartureOf es) ws w are.right found.0
 
-      leaves : (edge_at xs w.edge).from ≡ point_times m e.to
+      leaves : (edge_at xs w.place).from ≡ point_times m e.to
       leaves =
           let l = right.inside in
           let d = pick es (omega arith) in
-          let same : (get_or es w.edge d).from ≡ e.to = same-some (get_or es w.edge d).from e.to (sym (start-at es w.edge d right.inside) ∙ (right.from ∙ ap Some found.1)) in
-          ap (λ x. x.from) (read-edge m es w.edge d right.inside) ∙ ap (point_times m) same
+          let same : (get_or es w.place d).from ≡ e.to = same-some (get_or es w.place d).from e.to (sym (start-at es w.place d right.inside) ∙ (right.from ∙ ap Some found.1)) in
+          ap (λ x. x.from) (read-edge m es w.place d right.inside) ∙ ap (point_times m) same
 
 -- the successor of one more edge
 pub met-more : (es : List Edge) (n : ℕ) (next : List (Option ℕ)) (r : Option ℕ) → length next ≡ n → ((i : ℕ) → i < n → IsFirstMet es (edge_at es i) (after next i)) → IsFirstMet es (edge_at es n) r → (i : ℕ) → i < n + 1 → IsFirstMet es (edge_at es i) (after (next ++ r ∷ []) i)

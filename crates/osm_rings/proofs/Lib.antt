@@ -1,6 +1,7 @@
 mod ApartEdges
 mod Clockwise
 mod DeparturesRound
+mod EdgeDirs
 pub mod EdgeEquality
 mod FirstMets
 mod Halves

@@ -6,7 +6,6 @@ use Rattle.plane.specs.Edge.{Edge}
 use Rattle.plane.specs.Vector.{Vector, east, from_to}
 use Rattle.osm_geom.specs.declared.edge.Edge as geom
 use Rattle.osm_geom.specs.declared.point.Point.{Point}
-use Rattle.osm_geom.specs.Dir.{vector_along}
 use Rattle.osm_geom.specs.Edge.{direction_of}
 use Rattle.osm_geom.specs.Point.{point_cmp}
 use Rattle.osm_rings.specs.declared.departures.Departure.{Departure}
@@ -25,23 +24,23 @@ TellStarts es numbers = (i j : ℕ) → i < length es → j < length es → ((ge
 abbrev pub direction_at : List geom.Edge → ℕ → Vector
 direction_at es k = get_or (map direction_of es) k east
 
--- w leaves the point that the edge at its place leaves, in the direction of that edge
+-- the edge of w leaves the point that the edge at its place leaves, in the direction of that edge
 pub record IsDepartureOf (es : List geom.Edge) (w : Departure) : Type 0 where
-  pub inside : w.edge < length es
-  pub from : start_at es w.edge ≡ Some w.from
-  pub along : vector_along w.dir ≡ direction_at es w.edge
+  pub inside : w.place < length es
+  pub from : start_at es w.place ≡ Some w.edge.now.from
+  pub along : direction_of w.edge.now ≡ direction_at es w.place
 
 -- on turning clockwise from the east, v is met before w
 abbrev pub points_before : Departure → Departure → Bool
-points_before v w = is_met_before east (vector_along v.dir) (vector_along w.dir)
+points_before v w = is_met_before east (direction_of v.edge.now) (direction_of w.edge.now)
 
 -- v begins before w, or at the same point and points before it
 abbrev pub stands_before : Departure → Departure → Bool
-stands_before v w = is_lt (point_cmp v.from w.from) || (is_eq (point_cmp v.from w.from) && points_before v w)
+stands_before v w = is_lt (point_cmp v.edge.now.from w.edge.now.from) || (is_eq (point_cmp v.edge.now.from w.edge.now.from) && points_before v w)
 
 -- no departure begins before one that stands before it
 abbrev pub AreRising : List Departure → Type 0
-AreRising ws = (i j : ℕ) (d : Departure) → i ≤ j → j < length ws → is_lt (point_cmp (slice_index_or ws j d).from (slice_index_or ws i d).from) ≡ false
+AreRising ws = (i j : ℕ) (d : Departure) → i ≤ j → j < length ws → is_lt (point_cmp (slice_index_or ws j d).edge.now.from (slice_index_or ws i d).edge.now.from) ≡ false
 
 -- no departure points before one that stands before it
 abbrev pub AreClockwise : List Departure → Type 0
@@ -50,7 +49,7 @@ AreClockwise ws = (i j : ℕ) (d : Departure) → i ≤ j → j < length ws → 
 -- of departures that begin at one point, none points before one that stands before it
 abbrev pub AreClockwiseRound : List Departure → Type 0
 AreClockwiseRound ws =
-    (i j : ℕ) (d : Departure) → i ≤ j → j < length ws → (slice_index_or ws j d).from ≡ (slice_index_or ws i d).from →
+    (i j : ℕ) (d : Departure) → i ≤ j → j < length ws → (slice_index_or ws j d).edge.now.from ≡ (slice_index_or ws i d).edge.now.from →
     points_before (slice_index_or ws j d) (slice_index_or ws i d) ≡ false
 
 -- the departures of all edges, in order of where they begin, and round a point clockwise from the east
@@ -59,20 +58,20 @@ pub record AreDepartures (es : List geom.Edge) (ws : List Departure) : Type 0 wh
   pub rising : AreRising ws
   pub round : AreClockwiseRound ws
   pub right : All (IsDepartureOf es) ws
-  pub whole : (k : ℕ) → k < length es → (w : Departure) × Contains ws w × (w.edge ≡ k)
+  pub whole : (k : ℕ) → k < length es → (w : Departure) × Contains ws w × (w.place ≡ k)
 
 -- the departures before place i are those that begin before p
 abbrev pub IsFirstAt : List Departure → Point → ℕ → Type 0
-IsFirstAt ws p i = IsPartitionPoint (λ w. is_lt (point_cmp w.from p) ≡ true) (λ w. is_lt (point_cmp w.from p) ≡ false) ws i
+IsFirstAt ws p i = IsPartitionPoint (λ w. is_lt (point_cmp w.edge.now.from p) ≡ true) (λ w. is_lt (point_cmp w.edge.now.from p) ≡ false) ws i
 
 -- the departures before place i are those that begin at p or before
 abbrev pub IsEndAt : List Departure → Point → ℕ → Type 0
-IsEndAt ws p i = IsPartitionPoint (λ w. not (is_lt (point_cmp p w.from)) ≡ true) (λ w. not (is_lt (point_cmp p w.from)) ≡ false) ws i
+IsEndAt ws p i = IsPartitionPoint (λ w. not (is_lt (point_cmp p w.edge.now.from)) ≡ true) (λ w. not (is_lt (point_cmp p w.edge.now.from)) ≡ false) ws i
 
 -- the departures that begin at p, clockwise from the east
 pub record AreFrom (ws : List Departure) (p : Point) (vs : List Departure) : Type 0 where
-  pub right : All (λ w. Contains ws w × (w.from ≡ p)) vs
-  pub whole : (w : Departure) → Contains ws w → w.from ≡ p → Contains vs w
+  pub right : All (λ w. Contains ws w × (w.edge.now.from ≡ p)) vs
+  pub whole : (w : Departure) → Contains ws w → w.edge.now.from ≡ p → Contains vs w
   pub clockwise : AreClockwise vs
 
 -- where an edge at a place goes

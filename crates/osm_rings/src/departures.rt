@@ -18,12 +18,11 @@ use std::cmp::Ordering;
 /// The direction from which the departures round a point are told, clockwise.
 pub const EAST: Dir = Dir { dx: 1, dy: 0 };
 
-/// The point that an edge leaves, its direction, its place in the list, and the sort key of the point.
-#[derive(Clone, Copy, Debug, PartialEq, Eq)]
-pub struct Departure {
-    pub from: Point,
-    pub dir: Dir,
-    pub edge: usize,
+/// An edge, its place in the list, and the sort key of the point that it leaves.
+#[derive(Clone, Copy, Debug)]
+pub struct Departure<'a> {
+    pub edge: &'a Edge,
+    pub place: usize,
     pub key: i64,
 }
 
@@ -31,8 +30,8 @@ pub struct Departure {
 fn compare_departures(departure: &Departure, other: &Departure) -> Ordering
     ensures { is_lt result ≡ stands_before departure.now other.now }
 {
-    match order_points(&departure.from, &other.from) {
-        Ordering::Equal => clockwise(EAST, departure.dir, other.dir),
+    match order_points(&departure.edge.from, &other.edge.from) {
+        Ordering::Equal => clockwise(EAST, departure.edge.dir(), other.edge.dir()),
         order => order,
     }
 }
@@ -40,7 +39,7 @@ fn compare_departures(departure: &Departure, other: &Departure) -> Ordering
 /// The same by the sort keys of the points.
 fn compare_by_keys(departure: &Departure, other: &Departure) -> Ordering {
     match departure.key.cmp(&other.key) {
-        Ordering::Equal => clockwise(EAST, departure.dir, other.dir),
+        Ordering::Equal => clockwise(EAST, departure.edge.dir(), other.edge.dir()),
         order => order,
     }
 }
@@ -61,8 +60,8 @@ fn are_in_order(departures: &[Departure]) -> bool
 }
 
 /// The departures in order.
-fn sorted(departures: Vec<Departure>) -> Result<Vec<Departure>, OutOfMemory>
-    ensures moved { IfOk result (λ v. IsPermutation departures.items v.items) }
+fn sorted<'a>(departures: Vec<Departure<'a>>) -> Result<Vec<Departure<'a>>, OutOfMemory>
+    ensures moved { IfOk result (λ v. IsPermutation departures.entry.items v.items) }
     ensures rising { IfOk result (λ v. AreRising v.items) }
     ensures round { IfOk result (λ v. AreClockwiseRound v.items) }
 {
@@ -72,8 +71,8 @@ fn sorted(departures: Vec<Departure>) -> Result<Vec<Departure>, OutOfMemory>
 }
 
 /// The departures in order: by their sort keys and round each point, where that is their order.
-fn in_order_round(departures: Vec<Departure>) -> Result<Vec<Departure>, OutOfMemory>
-    ensures moved { IfOk result (λ v. IsPermutation departures.items v.items) }
+fn in_order_round<'a>(departures: Vec<Departure<'a>>) -> Result<Vec<Departure<'a>>, OutOfMemory>
+    ensures moved { IfOk result (λ v. IsPermutation departures.entry.items v.items) }
     ensures rising { IfOk result (λ v. AreRising v.items) }
     ensures round { IfOk result (λ v. AreClockwiseRound v.items) }
 {
@@ -86,13 +85,13 @@ fn in_order_round(departures: Vec<Departure>) -> Result<Vec<Departure>, OutOfMem
 }
 
 /// The departures in order: by their sort keys alone, where that is their order, as where no two leave one point.
-fn in_order(departures: Vec<Departure>) -> Result<Vec<Departure>, OutOfMemory>
-    ensures moved { IfOk result (λ v. IsPermutation departures.items v.items) }
+fn in_order<'a>(departures: Vec<Departure<'a>>) -> Result<Vec<Departure<'a>>, OutOfMemory>
+    ensures moved { IfOk result (λ v. IsPermutation departures.entry.items v.items) }
     ensures rising { IfOk result (λ v. AreRising v.items) }
     ensures round { IfOk result (λ v. AreClockwiseRound v.items) }
 {
     let mut departures = departures;
-    departures.sort_by_cached_key(|departure| departure.key)?;
+    departures.sort_by_key(|departure| departure.key)?;
     if are_in_order(&departures) {
         return Ok(departures);
     }
@@ -100,42 +99,54 @@ fn in_order(departures: Vec<Departure>) -> Result<Vec<Departure>, OutOfMemory>
 }
 
 /// The departure of the edge at a place.
-fn departure_of(edge: Edge, place: usize) -> Departure
-    ensures from { result.from ≡ edge.from }
-    ensures along { vector_along result.dir ≡ direction_of edge }
-    ensures place { result.edge ≡ place }
+fn departure_of<'a>(edge: &'a Edge, place: usize) -> Departure<'a>
+    ensures edge { result.edge.now ≡ edge.now }
+    ensures place { result.place ≡ place }
 {
     Departure {
-        from: edge.from,
-        dir: edge.dir(),
-        edge: place,
+        edge,
+        place,
         key: sort_key(edge.from),
     }
 }
 
 /// The departures of the edges, in order.
-pub fn departures(alloc: Global, edges: &[Edge]) -> Result<Vec<Departure>, OutOfMemory>
+pub fn departures<'a>(alloc: Global, edges: &'a [Edge]) -> Result<Vec<Departure<'a>>, OutOfMemory>
     ensures { IfOk result (λ v. AreDepartures edges.now v.items) }
 {
     let mut departures = Vec::with_capacity(alloc, edges.len())?;
-    for (edge, &it) in edges.iter().enumerate() {
-        departures.push(departure_of(it, edge))?;
+    for (place, edge) in edges.iter().enumerate() {
+        departures.push(departure_of(edge, place))?;
     }
     in_order(departures)
+}
+
+/// Whether a departure leaves an earlier point than p.
+fn begins_before(departure: &Departure, p: &Point) -> bool
+    ensures { result ≡ is_lt (point_cmp departure.now.edge.now.from p.now) }
+{
+    order_points(&departure.edge.from, p).is_lt()
+}
+
+/// Whether a departure leaves a later point than p.
+fn begins_after(departure: &Departure, p: &Point) -> bool
+    ensures { result ≡ is_lt (point_cmp p.now departure.now.edge.now.from) }
+{
+    order_points(p, &departure.edge.from).is_lt()
 }
 
 /// Whether the departure before a place leaves an earlier point than p, and the one at the place doesn't.
 fn parts_before(departures: &[Departure], p: Point, place: usize) -> bool
     requires { place ≤ length departures.now }
     ensures before { result ≡ true → (d : Departure) → 0 < place
-        → is_lt (point_cmp (slice_index_or departures.now (place - 1) d).from p) ≡ true }
+        → is_lt (point_cmp (slice_index_or departures.now (place - 1) d).edge.now.from p) ≡ true }
     ensures from { result ≡ true → (d : Departure) → place < length departures.now
-        → is_lt (point_cmp (slice_index_or departures.now place d).from p) ≡ false }
+        → is_lt (point_cmp (slice_index_or departures.now place d).edge.now.from p) ≡ false }
 {
-    if place > 0 && !order_points(&departures[place - 1].from, &p).is_lt() {
+    if place > 0 && !begins_before(&departures[place - 1], &p) {
         return false;
     }
-    if place < departures.len() && order_points(&departures[place].from, &p).is_lt() {
+    if place < departures.len() && begins_before(&departures[place], &p) {
         return false;
     }
     true
@@ -178,21 +189,21 @@ fn first_at(departures: &[Departure], keys: &[i64], p: Point) -> usize
     if is_first_at(departures, p, guess) {
         return guess;
     }
-    departures.partition_point(|departure| compare_points(departure.from, p).is_lt())
+    departures.partition_point(|departure| compare_points(departure.edge.from, p).is_lt())
 }
 
 /// Whether the departure at a place leaves a later point than p, and the one before it doesn't.
 fn parts_after(departures: &[Departure], p: Point, place: usize) -> bool
     requires { place ≤ length departures.now }
     ensures before { result ≡ true → (d : Departure) → 0 < place
-        → is_lt (point_cmp p (slice_index_or departures.now (place - 1) d).from) ≡ false }
+        → is_lt (point_cmp p (slice_index_or departures.now (place - 1) d).edge.now.from) ≡ false }
     ensures from { result ≡ true → (d : Departure) → place < length departures.now
-        → is_lt (point_cmp p (slice_index_or departures.now place d).from) ≡ true }
+        → is_lt (point_cmp p (slice_index_or departures.now place d).edge.now.from) ≡ true }
 {
-    if place > 0 && order_points(&p, &departures[place - 1].from).is_lt() {
+    if place > 0 && begins_after(&departures[place - 1], &p) {
         return false;
     }
-    if place < departures.len() && !order_points(&p, &departures[place].from).is_lt() {
+    if place < departures.len() && !begins_after(&departures[place], &p) {
         return false;
     }
     true
@@ -220,7 +231,7 @@ fn end_at(departures: &[Departure], p: Point, first: usize) -> usize
     if is_end_at(departures, p, guess) {
         return guess;
     }
-    departures.partition_point(|departure| !compare_points(p, departure.from).is_lt())
+    departures.partition_point(|departure| !compare_points(p, departure.edge.from).is_lt())
 }
 
 /// Whether each departure leaves a later point than the one before it, so that no two leave one.
@@ -232,9 +243,9 @@ pub fn are_apart(departures: &[Departure]) -> bool
 
 /// Whether a departure leaves an earlier point than the next.
 fn leaves_before(departure: &Departure, next: &Departure) -> bool
-    ensures { result ≡ is_lt (point_cmp departure.now.from next.now.from) }
+    ensures { result ≡ is_lt (point_cmp departure.now.edge.now.from next.now.edge.now.from) }
 {
-    order_points(&departure.from, &next.from).is_lt()
+    order_points(&departure.edge.from, &next.edge.from).is_lt()
 }
 
 /// Whether the departure at a place is the first that leaves its point.
@@ -242,13 +253,13 @@ fn is_first_there(departures: &[Departure], place: usize) -> bool
     requires rising { AreRising departures.now }
     requires inside { place < length departures.now }
     ensures first { result ≡ true → (d : Departure)
-        → IsFirstAt departures.now (slice_index_or departures.now place d).from place }
+        → IsFirstAt departures.now (slice_index_or departures.now place d).edge.now.from place }
     ensures later { result ≡ false → (d : Departure)
-        → (slice_index_or departures.now (place - 1) d).from
-        ≡ (slice_index_or departures.now place d).from }
+        → (slice_index_or departures.now (place - 1) d).edge.now.from
+        ≡ (slice_index_or departures.now place d).edge.now.from }
     ensures some { result ≡ false → 0 < place }
 {
-    place == 0 || order_points(&departures[place - 1].from, &departures[place].from).is_lt()
+    place == 0 || leaves_before(&departures[place - 1], &departures[place])
 }
 
 /// The number of the node that the departure at a place leaves, by that of the one before it.
@@ -256,9 +267,9 @@ fn number_at(departures: &[Departure], before: usize, place: usize) -> usize
     requires rising { AreRising departures.now }
     requires inside { place < length departures.now }
     requires before { (d : Departure) → 0 < place
-        → IsFirstAt departures.now (slice_index_or departures.now (place - 1) d).from before }
+        → IsFirstAt departures.now (slice_index_or departures.now (place - 1) d).edge.now.from before }
     ensures { (d : Departure)
-        → IsFirstAt departures.now (slice_index_or departures.now place d).from result }
+        → IsFirstAt departures.now (slice_index_or departures.now place d).edge.now.from result }
 {
     if is_first_there(departures, place) {
         return place;
@@ -281,7 +292,7 @@ pub fn node_numbers(
     let mut number = 0;
     for place in 0..departures.len() {
         number = number_at(departures, number, place);
-        numbers[departures[place].edge] = number;
+        numbers[departures[place].place] = number;
     }
     Ok(numbers)
 }
@@ -299,7 +310,11 @@ fn range_at(departures: &[Departure], keys: &[i64], p: Point) -> (usize, usize)
 }
 
 /// The departures from p, clockwise from the east. The keys are those of `keys_of`, else it takes longer.
-pub fn leaving<'a>(departures: &'a [Departure], keys: &[i64], p: Point) -> &'a [Departure]
+pub fn leaving<'a, 'b>(
+    departures: &'b [Departure<'a>],
+    keys: &[i64],
+    p: Point,
+) -> &'b [Departure<'a>]
     requires rising { AreRising departures.now }
     requires round { AreClockwiseRound departures.now }
     ensures { AreFrom departures.now p result.now }

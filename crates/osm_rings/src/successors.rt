@@ -35,26 +35,26 @@ fn lies_after(dir: Dir, from: Dir) -> bool
 
 /// The first of these departures that is met on turning clockwise from `from`: the first that lies after it, or where none
 /// does, the first.
-fn first_met(departures: &[Departure], from: Dir) -> Option<&Departure>
+fn first_met<'a, 'b>(departures: &'b [Departure<'a>], from: Dir) -> Option<&'b Departure<'a>>
     requires { AreClockwise departures.now }
     ensures none { IfNone result (departures.now ≡ []) }
     ensures member { IfSome result (λ w. Contains departures.now w.now) }
     ensures first { IfSome result
-        (λ w. All (λ v. is_met_before (vector_along from) (vector_along v.dir)
-        (vector_along w.now.dir) ≡ false) departures.now) }
+        (λ w. All (λ v. is_met_before (vector_along from) (direction_of v.edge.now)
+        (direction_of w.now.edge.now) ≡ false) departures.now) }
 {
-    let after = departures.partition_point(|departure| !lies_after(departure.dir, from));
+    let after = departures.partition_point(|departure| !lies_after(departure.edge.dir(), from));
     departures.get(after).or(departures.first())
 }
 
 /// The same for the direction back along an edge. Mostly one departure is there.
-fn first_met_back<'a>(departures: &'a [Departure], edge: &Edge) -> Option<&'a Departure>
+fn first_met_back<'a, 'b>(departures: &'b [Departure<'a>], edge: &Edge) -> Option<&'b Departure<'a>>
     requires { AreClockwise departures.now }
     ensures none { IfNone result (departures.now ≡ []) }
     ensures member { IfSome result (λ w. Contains departures.now w.now) }
     ensures first { IfSome result
-        (λ w. All (λ v. is_met_before (opposite (direction_of edge.now)) (vector_along v.dir)
-        (vector_along w.now.dir) ≡ false) departures.now) }
+        (λ w. All (λ v. is_met_before (opposite (direction_of edge.now)) (direction_of v.edge.now)
+        (direction_of w.now.edge.now) ≡ false) departures.now) }
 {
     if departures.len() == 1 {
         return departures.first();
@@ -70,7 +70,7 @@ fn successor(departures: &[Departure], keys: &[i64], edge: &Edge) -> Option<usiz
         → IsFirstMet (whole_edges es) (edge_times (common_den es) edge.now) result }
 {
     let departure = first_met_back(leaving(departures, keys, edge.to), edge)?;
-    Some(departure.edge)
+    Some(departure.place)
 }
 
 /// For each edge the place of its successor.

@@ -7,4 +7,4 @@ use Rattle.osm_rings.proofs.departures.are_apart.Goals as goal
 
 pub returns : goal.returns
 returns c h es are = apart-by-answer es c.args.departures.now are c.is_sorted_by.result h
-    (c.is_sorted_by.ensures.cases (λ v w. lt v.from w.from) (always_returns_same _ (λ a r. r ≡ lt a.0.now.from a.1.0.now.from) _ (λ a r f' k. search rules)))
+    (c.is_sorted_by.ensures.cases (λ v w. lt v.edge.now.from w.edge.now.from) (always_returns_same _ (λ a r. r ≡ lt a.0.now.edge.now.from a.1.0.now.edge.now.from) _ (λ a r f' k. search rules)))

@@ -2,5 +2,5 @@
 use Rattle.osm_rings.proofs.Starts.{AreListed}
 use Rattle.osm_rings.proofs.departures.departures.Given as goal
 
-abbrev pub invariant-loop-edge : goal.invariant-loop-edge
-invariant-loop-edge l = AreListed l.edges l.edge l.departures.items
+abbrev pub invariant-loop-place : goal.invariant-loop-place
+invariant-loop-place l = AreListed l.edges l.place l.departures.items

@@ -1,6 +1,5 @@
 -- The departure before it tells.
-use Rattle.std.proofs.Common.{ap, sym, ◌∙◌}
-use Rattle.std.specs.Ordering.{is_lt}
+use Rattle.std.proofs.Common.{sym, ◌∙◌}
 use Rattle.osm_rings.proofs.Starts.{first-of-all, first-there, same-there}
 use Rattle.osm_rings.proofs.departures.is_first_there.Goals as goal
 
@@ -9,8 +8,8 @@ returns-then-place-eq0-clause-first c same d = first-of-all c.args.departures.no
 
 pub returns-else-place-eq0-clause-first : goal.returns-else-place-eq0-clause-first
 returns-else-place-eq0-clause-first c up d =
-    first-there c.args.departures.now c.requires.rising c.args.place c.index-departures-place.result c.index-departures-place-else-place-eq0.result c.if-place-eq0.false c.requires.inside (sym (c.is_lt.ensures ∙ ap is_lt c.order_points.ensures) ∙ up) d
+    first-there c.args.departures.now c.requires.rising c.args.place c.index-departures-place.result c.index-departures-place-else-place-eq0.result c.if-place-eq0.false c.requires.inside c.index-departures-place.is c.index-departures-place-else-place-eq0.is (sym c.leaves_before.ensures ∙ up) d
 
 pub returns-else-place-eq0-clause-later : goal.returns-else-place-eq0-clause-later
 returns-else-place-eq0-clause-later c none d =
-    same-there c.args.departures.now c.requires.rising c.args.place c.index-departures-place.result c.index-departures-place-else-place-eq0.result c.if-place-eq0.false c.requires.inside (sym (c.is_lt.ensures ∙ ap is_lt c.order_points.ensures) ∙ none) d
+    same-there c.args.departures.now c.requires.rising c.args.place c.index-departures-place.result c.index-departures-place-else-place-eq0.result c.if-place-eq0.false c.requires.inside c.index-departures-place.is c.index-departures-place-else-place-eq0.is (sym c.leaves_before.ensures ∙ none) d

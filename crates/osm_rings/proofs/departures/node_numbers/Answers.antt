@@ -24,7 +24,7 @@ loop-place-preserved c =
     let es = c.args.edges.now in let ws = c.args.departures.now in let n = c.loop-place.place in
     let numbers = c.loop-place.numbers.items in let w = c.index-departures-place.result in
     record {
-      sized = length-set numbers (get_or ws n w).edge c.number_at-number.result ∙ c.loop-place.invariant.sized;
+      sized = length-set numbers (get_or ws n w).place c.number_at-number.result ∙ c.loop-place.invariant.sized;
       numbered = numbered-more es ws c.requires.right n c.loop-place.number c.number_at-number.result numbers _ w c.loop-place-test.true c.index-departures-place.is c.loop-place.invariant.sized refl c.number_at-number.ensures c.loop-place.invariant.numbered;
     }
 
