@@ -9,7 +9,7 @@ use crate::outcome_lists::Problems;
 use opl_reader::{ObjectKind, ObjectRef};
 use osm_geom::{Loc, Seg};
 use osm_objects::Problem;
-use osm_segments::{Pair, conflicts, odd_nodes};
+use osm_segments::{Pair, faults_of};
 use std::alloc::{AllocError as OutOfMemory, Global};
 
 /// The problem of a missing way or node.
@@ -63,11 +63,10 @@ fn faults(alloc: Global, survivors: &[Seg]) -> Result<Problems, OutOfMemory>
     requires { IsRising seg_cmp survivors.now }
     ensures { IfOk result (λ list. AreFaults survivors.now list) }
 {
-    let pairs = conflicts(alloc, survivors)?;
-    let nodes = odd_nodes(alloc, survivors)?;
+    let faults = faults_of(alloc, survivors)?;
     let mut list = Problems::new(alloc);
-    add_conflicts(&mut list, &pairs)?;
-    add_odd_nodes(&mut list, &nodes)?;
+    add_conflicts(&mut list, &faults.conflicts)?;
+    add_odd_nodes(&mut list, &faults.odd_nodes)?;
     Ok(list)
 }
 

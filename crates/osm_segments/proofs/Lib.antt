@@ -5,6 +5,7 @@ mod EdgeOrders
 mod EdgePairs
 mod FoundPairs
 mod LaterSegments
+mod Parities
 mod RisingPairs
 pub mod SegmentTests
 mod StandOnce

@@ -3,4 +3,5 @@ pub mod Repeats
 pub mod Pairs
 pub mod Tilted
 pub mod Sweep
+pub mod Parity
 pub mod Cells

@@ -162,13 +162,21 @@ fn leave(status: &mut ChunkedList<Seg>, s: Seg) -> bool
     }
 }
 
-/// The segments in order of their upper ends.
-fn by_ends(alloc: Global, segs: &[Seg]) -> Result<Vec<Seg>, OutOfMemory>
+/// Puts segments in the order of their upper ends.
+pub fn sort_by_ends(segs: &mut [Seg])
+    ensures moved { IsPermutation segs.old segs.new }
+    ensures rise { EndsRise segs.new }
+{
+    segs.sort_unstable_by(|s, t| s.b.cmp(&t.b));
+}
+
+/// The segments in the order of their upper ends.
+pub fn by_ends(alloc: Global, segs: &[Seg]) -> Result<Vec<Seg>, OutOfMemory>
     ensures moved { IfOk result (λ ends. IsPermutation segs.now ends.items) }
     ensures rise { IfOk result (λ ends. EndsRise ends.items) }
 {
     let mut ends = Vec::from_slice(alloc, segs)?;
-    ends.sort_unstable_by(|s, t| s.b.cmp(&t.b));
+    sort_by_ends(&mut ends);
     Ok(ends)
 }
 
@@ -197,12 +205,13 @@ fn next_enters(segs: &[Seg], next: usize, end: Seg) -> bool
 /// Whether one sweep upwards finds segments in strict order free of conflicts.
 ///
 /// Each enters between those of the status that are left and right of its lower end, and leaves at its upper end; who come to stand
-/// side by side are tried. No other pairs are.
-pub fn is_clear(alloc: Global, segs: &[Seg]) -> Result<bool, OutOfMemory>
-    requires { IsRising seg_cmp segs.now }
+/// side by side are tried. No other pairs are. The segments are given in the order of their upper ends, too.
+pub fn is_clear(alloc: Global, segs: &[Seg], ends: &[Seg]) -> Result<bool, OutOfMemory>
+    requires rising { IsRising seg_cmp segs.now }
+    requires moved { IsPermutation segs.now ends.now }
+    requires rise { EndsRise ends.now }
     ensures { IfOk result (λ clear. clear ≡ true → conflicts_of segs.now ≡ []) }
 {
-    let ends = by_ends(alloc, segs)?;
     let mut status = ChunkedList::new(alloc);
     let mut next = 0;
     let mut left = 0;

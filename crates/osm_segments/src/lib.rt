@@ -5,9 +5,12 @@
 mod clear;
 mod counts;
 mod division;
+mod faults;
 mod pairs;
+mod parity;
 #[cfg(test)]
 mod tests;
 
 pub use counts::{Cancelled, Repeat, cancel, distinct, odd_nodes, repeated, survivors};
+pub use faults::{Faults, faults_of};
 pub use pairs::{Pair, conflicts};

@@ -1,12 +1,13 @@
 //! The conflicting pairs among segments.
 
-ghost use Rattle.std.specs.Prelude.{◌≡◌, ◌++◌, [], IfOk, OnOk, true};
+ghost use Rattle.std.specs.Prelude.{◌≡◌, ◌++◌, [], IfOk, IsPermutation, OnOk, true};
 ghost use Rattle.std.specs.List.{filter_map};
 ghost use Rattle.osm_lattice.specs.Seg.{seg_cmp};
 ghost use Rattle.lists.specs.Rising.{IsRising};
 ghost use Rattle.osm_segments.specs.Pairs.{pair_of, conflicts_of, pair_cmp};
+ghost use Rattle.osm_segments.specs.Sweep.{EndsRise};
 
-use crate::clear::is_clear;
+use crate::clear::{by_ends, is_clear};
 use crate::division::add_conflicts;
 use lists::{counts_determine, distinct_items};
 use osm_lattice::{Kind, Seg, are_apart, conflict};
@@ -69,10 +70,10 @@ pub fn push_all_pairs(pairs: &mut Vec<Pair>, segs: &[Seg]) -> Result<(), OutOfMe
 }
 
 /// All pairs of so few segments are tried sooner than they are swept.
-const FEW: usize = 32;
+pub(crate) const FEW: usize = 32;
 
 /// The conflicts among few segments: each pair is tried.
-fn conflicts_of_few(alloc: Global, segs: &[Seg]) -> Result<Vec<Pair>, OutOfMemory>
+pub(crate) fn conflicts_of_few(alloc: Global, segs: &[Seg]) -> Result<Vec<Pair>, OutOfMemory>
     ensures { IfOk result (λ v. v.items ≡ conflicts_of segs.now) }
 {
     let mut pairs = Vec::new(alloc);
@@ -80,22 +81,43 @@ fn conflicts_of_few(alloc: Global, segs: &[Seg]) -> Result<Vec<Pair>, OutOfMemor
     Ok(pairs)
 }
 
-/// All conflicting pairs among segments in strict order: by the first segment, then by the second.
-///
-/// The segments stand in strict order. One sweep finds most long lists free of conflicts; only where it doesn't is the list divided.
-pub fn conflicts(alloc: Global, segs: &[Seg]) -> Result<Vec<Pair>, OutOfMemory>
-    requires { IsRising seg_cmp segs.now }
-    ensures whole { IfOk result (λ v. v.items ≡ conflicts_of segs.now) }
-    ensures rising { IfOk result (λ v. IsRising pair_cmp v.items) }
+/// The conflicts among segments in strict order, which are given in the order of their upper ends, too. One sweep finds most long lists
+/// free of conflicts; only where it doesn't is the list divided.
+pub(crate) fn conflicts_along(
+    alloc: Global,
+    segs: &[Seg],
+    ends: &[Seg],
+) -> Result<Vec<Pair>, OutOfMemory>
+    requires rising { IsRising seg_cmp segs.now }
+    requires moved { IsPermutation segs.now ends.now }
+    requires rise { EndsRise ends.now }
+    ensures { IfOk result (λ v. v.items ≡ conflicts_of segs.now) }
 {
-    if segs.len() <= FEW {
-        return conflicts_of_few(alloc, segs);
-    }
-    if is_clear(alloc, segs)? {
+    if is_clear(alloc, segs, ends)? {
         return Ok(Vec::new(alloc));
     }
     let mut pairs = Vec::new(alloc);
     add_conflicts(alloc, &mut pairs, segs, DEPTH)?;
     counts_determine::<Pair>();
     distinct_items(alloc, &pairs)
+}
+
+fn all_conflicts(alloc: Global, segs: &[Seg]) -> Result<Vec<Pair>, OutOfMemory>
+    requires { IsRising seg_cmp segs.now }
+    ensures { IfOk result (λ v. v.items ≡ conflicts_of segs.now) }
+{
+    if segs.len() <= FEW {
+        return conflicts_of_few(alloc, segs);
+    }
+    let ends = by_ends(alloc, segs)?;
+    conflicts_along(alloc, segs, &ends)
+}
+
+/// All conflicting pairs among segments in strict order: by the first segment, then by the second.
+pub fn conflicts(alloc: Global, segs: &[Seg]) -> Result<Vec<Pair>, OutOfMemory>
+    requires { IsRising seg_cmp segs.now }
+    ensures whole { IfOk result (λ v. v.items ≡ conflicts_of segs.now) }
+    ensures rising { IfOk result (λ v. IsRising pair_cmp v.items) }
+{
+    all_conflicts(alloc, segs)
 }

@@ -10,33 +10,33 @@ use Rattle.osm_segments.proofs.clear.is_clear.Goals as goal
 use Rattle.lists.proofs.ListsKit.{same_get}
 
 pub loop-left-init : goal.loop-left-init
-loop-left-init c = (omega arith, subst (IsSwept c.args.segs.now c.in_ok-ends.ends.items 0 0) (sym c.new-status.ensures) (none_swept c.args.segs.now c.in_ok-ends.ends.items))
+loop-left-init c = (omega arith, subst (IsSwept c.args.segs.now c.args.ends.now 0 0) (sym c.new-status.ensures) (none_swept c.args.segs.now c.args.ends.now))
 
 pub loop-left-preserved-then-next_enters : goal.loop-left-preserved-then-next_enters
 loop-left-preserved-then-next_enters c =
-    let segs = c.args.segs.now in let ends = c.in_ok-ends.ends.items in let next = c.loop-left.next in let left = c.loop-left.left in let s = c.index-segs-next.result in
+    let segs = c.args.segs.now in let ends = c.args.ends.now in let next = c.loop-left.next in let left = c.loop-left.left in let s = c.index-segs-next.result in
     let inside : next < length segs = c.next_enters.ensures.inside c.if-next_enters.true in
     let some : left < length ends = omega arith in
-    let end : c.index.result.now ≡ get_or ends left s = c.index.ensures ∙ same_get ends left c.index.result.now s some in
+    let end : c.index-ends-left.result ≡ get_or ends left s = c.index-ends-left.is ∙ same_get ends left c.index-ends-left.result s some in
     let first : order (vector_of s.a) (vector_of (get_or ends left s).b) ≡ Plus =
-    subst (λ (t : Seg). order (vector_of s.a) (vector_of t.b) ≡ Plus) end (subst (λ (t : Seg). order (vector_of t.a) (vector_of c.index.result.now.b) ≡ Plus) (sym c.index-segs-next.is) (c.next_enters.ensures.enters c.if-next_enters.true s)) in
+    subst (λ (t : Seg). order (vector_of s.a) (vector_of t.b) ≡ Plus) end (subst (λ (t : Seg). order (vector_of t.a) (vector_of c.index-ends-left.result.b) ≡ Plus) (sym c.index-segs-next.is) (c.next_enters.ensures.enters c.if-next_enters.true s)) in
     let put = c.in_ok-enter.ensures c.if-not-branch.false in
-    let new = has_entered segs ends c.requires c.in_ok-ends.ensures.rise next left c.loop-left.status c.enter.new.status c.loop-left.invariant.1 s put c.index-segs-next.is inside some first
-    (λ x i. from-contains ends x (Contains-permutation segs ends x c.in_ok-ends.ensures.moved (to-contains segs x i))) in
+    let new = has_entered segs ends c.requires.rising c.requires.rise next left c.loop-left.status c.enter.new.status c.loop-left.invariant.1 s put c.index-segs-next.is inside some first
+    (λ x i. from-contains ends x (Contains-permutation segs ends x c.requires.moved (to-contains segs x i))) in
     (omega arith, new)
 
 pub loop-left-preserved : goal.loop-left-preserved
 loop-left-preserved c =
-    let segs = c.args.segs.now in let ends = c.in_ok-ends.ends.items in let next = c.loop-left.next in let left = c.loop-left.left in let t = c.index-else-next_enters.result.now in
+    let segs = c.args.segs.now in let ends = c.args.ends.now in let next = c.loop-left.next in let left = c.loop-left.left in let t = c.index-ends-left-else-next_enters.result in
     let some : left < length ends = omega arith in
-    let same : c.index.result.now ≡ t = c.index.ensures ∙ same_get ends left c.index.result.now t some ∙ sym c.index-else-next_enters.ensures in
+    let same : c.index-ends-left.result ≡ t = c.index-ends-left.is ∙ same_get ends left c.index-ends-left.result t some ∙ sym c.index-ends-left-else-next_enters.is in
     let out = c.leave.ensures c.if-not-leave.false in (
       c.loop-left.invariant.0,
-      has_left segs ends c.in_ok-ends.ensures.rise next left c.loop-left.status c.leave.new.status c.loop-left.invariant.1 t out c.index-else-next_enters.ensures some
+      has_left segs ends c.requires.rise next left c.loop-left.status c.leave.new.status c.loop-left.invariant.1 t out c.index-ends-left-else-next_enters.is some
           (λ i d h l. subst (λ (u : Seg). not (is_minus (order (vector_of u.b) (vector_of (get_or segs i d).a))) ≡ true) same (c.next_enters.ensures.leaves c.if-next_enters.false i d h l)),
     )
 
 pub returns : goal.returns
 returns c empty =
     let none : length c.loop-left.status ≡ 0 = (let h = sym c.is_empty.ensures ∙ empty in grind (arith, nat_tests, h)) in
-    all_clear c.args.segs.now c.in_ok-ends.ends.items c.requires c.loop-left.next c.loop-left.left c.loop-left.status c.if-next-segs.false none c.loop-left.invariant.1
+    all_clear c.args.segs.now c.args.ends.now c.requires.rising c.loop-left.next c.loop-left.left c.loop-left.status c.if-next-segs.false none c.loop-left.invariant.1

@@ -1,0 +1,79 @@
+//! What keeps segments from being the edges of rings: conflicts and odd nodes, both told by one list in the order of the upper ends.
+ghost use Rattle.std.specs.Prelude.{◌≡◌, ◌<◌, ◌≤◌, IfOk, IsPermutation, length};
+ghost use Rattle.osm_lattice.specs.Seg.{seg_cmp};
+ghost use Rattle.lists.specs.Rising.{IsRising};
+ghost use Rattle.osm_segments.specs.Counts.{AreOddNodes};
+ghost use Rattle.osm_segments.specs.Pairs.{conflicts_of};
+
+use crate::clear::{by_ends, sort_by_ends};
+use crate::counts::odd_nodes;
+use crate::pairs::{FEW, Pair, conflicts_along, conflicts_of_few};
+use crate::parity::are_even;
+use osm_lattice::{Loc, Seg};
+use std::alloc::{AllocError as OutOfMemory, Global};
+
+/// What keeps segments from being the edges of rings.
+#[derive(Drop)]
+pub struct Faults {
+    /// All conflicting pairs, by the first segment, then by the second.
+    pub conflicts: Vec<Pair>,
+    /// The locations at which an odd number of segments end, in strict order.
+    pub odd_nodes: Vec<Loc>,
+}
+
+/// The odd nodes of segments, which are given in the order of their upper ends, too.
+fn odd_nodes_along(alloc: Global, segs: &[Seg], ends: &[Seg]) -> Result<Vec<Loc>, OutOfMemory>
+    requires { IsPermutation segs.now ends.now }
+    ensures { IfOk result (λ v. AreOddNodes segs.now v.items) }
+{
+    if are_even(segs, ends) {
+        return Ok(Vec::new(alloc));
+    }
+    odd_nodes(alloc, segs)
+}
+
+/// The odd nodes of few segments.
+fn odd_nodes_of_few(alloc: Global, segs: &[Seg]) -> Result<Vec<Loc>, OutOfMemory>
+    requires { length segs.now ≤ 32 }
+    ensures { IfOk result (λ v. AreOddNodes segs.now v.items) }
+{
+    let Some(&first) = segs.first() else {
+        return odd_nodes(alloc, segs);
+    };
+    let mut room = [first; FEW];
+    let ends = &mut room[..segs.len()];
+    ends.copy_from_slice(segs);
+    sort_by_ends(ends);
+    odd_nodes_along(alloc, segs, ends)
+}
+
+fn faults_of_few(alloc: Global, segs: &[Seg]) -> Result<Faults, OutOfMemory>
+    requires { length segs.now ≤ 32 }
+    ensures conflicts { IfOk result (λ f. f.conflicts.items ≡ conflicts_of segs.now) }
+    ensures odd_nodes { IfOk result (λ f. AreOddNodes segs.now f.odd_nodes.items) }
+{
+    let conflicts = conflicts_of_few(alloc, segs)?;
+    let odd_nodes = odd_nodes_of_few(alloc, segs)?;
+    Ok(Faults {
+        conflicts,
+        odd_nodes,
+    })
+}
+
+/// What `conflicts` and `odd_nodes` give of segments in strict order.
+pub fn faults_of(alloc: Global, segs: &[Seg]) -> Result<Faults, OutOfMemory>
+    requires { IsRising seg_cmp segs.now }
+    ensures conflicts { IfOk result (λ f. f.conflicts.items ≡ conflicts_of segs.now) }
+    ensures odd_nodes { IfOk result (λ f. AreOddNodes segs.now f.odd_nodes.items) }
+{
+    if segs.len() <= FEW {
+        return faults_of_few(alloc, segs);
+    }
+    let ends = by_ends(alloc, segs)?;
+    let odd_nodes = odd_nodes_along(alloc, segs, &ends)?;
+    let conflicts = conflicts_along(alloc, segs, &ends)?;
+    Ok(Faults {
+        conflicts,
+        odd_nodes,
+    })
+}
