@@ -4,7 +4,7 @@ use Rattle.std.proofs.Math.ListN.{get_or, set}
 use Rattle.std.proofs.Math.Nat.{not-suc-le-zero}
 use Rattle.std.proofs.Math.Path.{ap, refl, sym, subst, ◌∙◌}
 use Rattle.std.specs.List.{flat_map}
-use Rattle.std.proofs.lemmas.List.{append_assoc, drop_more, get_or_default, set_split, take-append-drop}
+use Rattle.std.proofs.lemmas.List.{append_assoc, drop_more, get_or_default, set-append_left, set-append_right, set_split, take-append-drop}
 use Rattle.std.proofs.lemmas.List.Concat.{flat_map-append, get_or-flat_map}
 use Rattle.std.proofs.lemmas.List.Edits.{get_or-insert_below, insert-append_left, insert-append_right, remove-append_left, remove-append_right}
 
@@ -62,6 +62,19 @@ remove-set f cs place i at b c inside is count reach new =
     parts-set f cs i c inside ∙ ap (λ xs. front ++ (xs ++ back)) new
     ∙ sym (ap (λ xs. remove xs place) (parts f cs i b inside is) ∙ whole ∙ ap (λ n. front ++ remove (f b ++ back) n) there ∙ ap (λ xs. front ++ xs) within)
 
+set-set : {X C : Type 0} (f : C → List X) (cs : List C) (place i at : ℕ) (b c : C) (x : X) → i < length cs →
+    b ≡ get_or cs i b → place ≡ length (flat_map f (take i cs)) + at → at < length (f b) → f c ≡ set (f b) at x →
+    flat_map f (set cs i c) ≡ set (flat_map f cs) place x
+set-set f cs place i at b c x inside is count reach new =
+    let front = flat_map f (take i cs) in
+    let back = flat_map f (drop (suc i) cs) in
+    let there : place - length front ≡ at = omega arith in
+    let within : set (f b ++ back) at x ≡ set (f b) at x ++ back = set-append_left (f b) back at x reach in
+    let whole : set (front ++ (f b ++ back)) place x ≡ front ++ set (f b ++ back) (place - length front) x =
+    set-append_right front (f b ++ back) (length front) place x refl (omega arith) in
+    parts-set f cs i c inside ∙ ap (λ xs. front ++ (xs ++ back)) new
+    ∙ sym (ap (λ xs. set xs place x) (parts f cs i b inside is) ∙ whole ∙ ap (λ n. front ++ set (f b ++ back) n x) there ∙ ap (λ xs. front ++ xs) within)
+
 -- one of them in two
 pub same-parted : {X C : Type 0} (f : C → List X) (cs : List C) (i : ℕ) (b c u : C) → i < length cs → b ≡ get_or cs i b →
     f b ≡ f c ++ f u → flat_map f (set (insert cs (suc i) u) i c) ≡ flat_map f cs
@@ -89,6 +102,15 @@ remove-at f ds cs same place i end b c inside count some reach is new =
     let counted : place + 1 ≡ length (flat_map f (take i cs)) + end = subst (λ xs. place + 1 ≡ length (flat_map f (take i xs)) + end) same count in
     let short : end ≤ length (f b) = subst (λ y. end ≤ length (f y)) (ap (λ xs. get_or xs i b) same ∙ sym is) (reach b) in
     remove-set f cs place i (end - 1) b c in_cs is (omega arith) (omega arith) new
+
+pub set-at : {X C : Type 0} (f : C → List X) (ds cs : List C) → ds ≡ cs → (place i end : ℕ) (b c : C) (x : X) → i < length ds →
+    place + 1 ≡ length (flat_map f (take i ds)) + end → 0 < end → ((d : C) → end ≤ length (f (get_or ds i d))) → b ≡ get_or cs i b → f c ≡ set (f b) (end - 1) x →
+    flat_map f (set cs i c) ≡ set (flat_map f cs) place x
+set-at f ds cs same place i end b c x inside count some reach is new =
+    let in_cs : i < length cs = subst (λ xs. i < length xs) same inside in
+    let counted : place + 1 ≡ length (flat_map f (take i cs)) + end = subst (λ xs. place + 1 ≡ length (flat_map f (take i xs)) + end) same count in
+    let short : end ≤ length (f b) = subst (λ y. end ≤ length (f y)) (ap (λ xs. get_or xs i b) same ∙ sym is) (reach b) in
+    set-set f cs place i (end - 1) b c x in_cs is (omega arith) (omega arith) new
 
 pub item-in : {X C : Type 0} (f : C → List X) (ds cs : List C) → ds ≡ cs → (place i end : ℕ) (c : C) (x d : X) → i < length ds →
     place + 1 ≡ length (flat_map f (take i ds)) + end → 0 < end → ((e : C) → end ≤ length (f (get_or ds i e))) → c ≡ get_or cs i c →

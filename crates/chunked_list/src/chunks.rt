@@ -1,5 +1,5 @@
 //! Chunks one after the other.
-ghost use Rattle.std.specs.Prelude.{◌≡◌, ◌<◌, ◌≤◌, ◌+◌, ◌^◌, insert, remove, length, slice_index_or, take, OnErr, OnOk};
+ghost use Rattle.std.specs.Prelude.{◌≡◌, ◌<◌, ◌≤◌, ◌+◌, ◌^◌, insert, remove, length, set, slice_index_or, take, OnErr, OnOk};
 ghost use Rattle.std.specs.List.{flat_map};
 
 use std::alloc::{AllocError as OutOfMemory, Global};
@@ -58,6 +58,18 @@ fn put<T: Copy>(chunks: &mut Vec<Vec<T>>, place: usize, item: T) -> Result<(), O
         Ok(()) => Ok(()),
         Err(_) => Err(OutOfMemory),
     }
+}
+
+/// Puts an item in the place of another.
+pub(crate) fn put_over<T: Copy>(chunks: &mut Vec<Vec<T>>, place: usize, item: T)
+    requires some { 0 < length chunks.old.items }
+    requires fits { place + 1 < 2 ^ 64 }
+    requires inside { place < length (flat_map (λ c. c.items) chunks.old.items) }
+    ensures { flat_map (λ c. c.items) chunks.new.items
+        ≡ set (flat_map (λ c. c.items) chunks.old.items) place item }
+{
+    let (chunk, end) = locate(chunks, place + 1);
+    chunks[chunk][end - 1] = item;
 }
 
 /// Takes the item at a place out.

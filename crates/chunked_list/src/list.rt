@@ -1,12 +1,12 @@
 //! A list that is long and changes in its middle, kept in chunks.
 
-ghost use Rattle.std.specs.Prelude.{IfSome, ◌+◌, ◌^◌, ◌≡◌, ◌==◌, ◌<◌, ◌≤◌, ◌-◌, List, [], false, filter, insert, length, remove, slice_index_or, true, OnErr, OnOk, Bool};
+ghost use Rattle.std.specs.Prelude.{IfSome, ◌+◌, ◌^◌, ◌≡◌, ◌==◌, ◌<◌, ◌≤◌, ◌-◌, List, [], false, filter, insert, length, remove, set, slice_index_or, true, OnErr, OnOk, Bool};
 ghost use Rattle.std.specs.List.{flat_map};
 ghost use Rattle.std.specs.List.Sorted.{IsPartitionedBy, IsPartitionPoint};
 ghost use Rattle.std.specs.Fn.{FnReturnsAt};
 ghost use Rattle.chunked_list.specs.Parted.{IsParted};
 
-use crate::chunks::{item, put_in, take_out};
+use crate::chunks::{item, put_in, put_over, take_out};
 use std::alloc::{AllocError as OutOfMemory, Global};
 use std::marker::Model;
 
@@ -85,6 +85,15 @@ impl<T: Copy> ChunkedList<T> {
             }
             Err(error) => Err(error),
         }
+    }
+
+    /// Puts an item in the place of another.
+    pub fn set(&mut self, place: usize, item: T)
+        requires { place < length self.old }
+        ensures { self.new ≡ set self.old place item }
+    {
+        self.changed = place;
+        put_over(&mut self.chunks, place, item);
     }
 
     /// Takes the item at a place out.

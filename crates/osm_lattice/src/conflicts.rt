@@ -158,11 +158,11 @@ pub fn are_apart(s: Seg, t: Seg) -> bool
     is_left_of(t, s)
 }
 
-/// Whether few tests tell that two segments have no conflict: of most that have none they do.
+/// Whether few tests tell that two segments have no conflict: of most that aren't apart and have none they do.
 fn are_clear_at_once(s: Seg, t: Seg) -> bool
     ensures { result ≡ true → conflict_of s t ≡ None }
 {
-    if are_apart(s, t) || is_beside(t, s) {
+    if is_beside(t, s) {
         return true;
     }
     if meet_at_end(s, t) {
@@ -171,8 +171,8 @@ fn are_clear_at_once(s: Seg, t: Seg) -> bool
     is_beside(s, t)
 }
 
-/// How two segments conflict, if they do. Two equal ones do not.
-pub fn conflict(s: Seg, t: Seg) -> Option<Kind>
+/// What `conflict` gives, sooner where two segments aren't `are_apart`.
+pub fn conflict_of_near(s: Seg, t: Seg) -> Option<Kind>
     ensures { result ≡ conflict_of s t }
 {
     if are_clear_at_once(s, t) {
@@ -187,4 +187,14 @@ pub fn conflict(s: Seg, t: Seg) -> Option<Kind>
     } else {
         None
     }
+}
+
+/// How two segments conflict, if they do. Two equal ones do not.
+pub fn conflict(s: Seg, t: Seg) -> Option<Kind>
+    ensures { result ≡ conflict_of s t }
+{
+    if are_apart(s, t) {
+        return None;
+    }
+    conflict_of_near(s, t)
 }

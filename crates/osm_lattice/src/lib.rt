@@ -13,7 +13,7 @@ mod seg;
 #[cfg(test)]
 mod tests;
 
-pub use conflicts::{Kind, are_apart, conflict};
+pub use conflicts::{Kind, are_apart, conflict, conflict_of_near};
 pub use frac::{Frac, round};
 pub use laws::{
     conflicts_are_symmetric, conflicts_are_told_by_points, meetings_exist, orders_are_exact,

@@ -1,6 +1,6 @@
 -- A sweep over segments, which enter in order of their lower ends and leave in order of their upper ones. Where each enters between two that fit, and each two that come to stand
 -- side by side don't conflict, no two conflict at all.
-use Rattle.std.proofs.Common.{All, AllPairs, Bool, Contains, List, None, Option, Some, [], ap, arith, cond, drop, false, get_or, inl, inr, length, not, pos, refl, remove, subst, suc, sym, take, true, zero, ℕ, ℤ, ⊎_elim, ◌&&◌, ◌+◌, ◌-◌, ◌-ℤ◌, ◌<◌, ◌||◌, ◌∙◌, ◌∷◌, ◌≡◌, ◌≢◌, ◌≤◌, ◌⊎◌}
+use Rattle.std.proofs.Common.{All, AllPairs, Bool, Contains, List, None, Option, Some, [], ap, arith, cond, drop, false, get_or, inl, inr, length, not, pos, refl, remove, set, subst, suc, sym, take, true, zero, ℕ, ℤ, ⊎_elim, ◌&&◌, ◌+◌, ◌-◌, ◌-ℤ◌, ◌<◌, ◌||◌, ◌∙◌, ◌∷◌, ◌≡◌, ◌≢◌, ◌≤◌, ◌⊎◌}
 use borrow.Author.Differences.{ints}
 use Rattle.std.specs.declared.cmp.Ordering.{Ordering}
 use Rattle.std.specs.declared.cmp.Ordering.TheVariants.{Equal, Greater, Less}
@@ -35,7 +35,7 @@ use Rattle.osm_lattice.specs.OrderLaws.{ordering_of}
 use Rattle.lists.specs.Rising.{IsRising}
 use Rattle.osm_segments.specs.Pairs.{conflicts_of, pair_of}
 use Rattle.osm_segments.proofs.RisingPairs.{tail_rising}
-use Rattle.osm_segments.specs.Sweep.{EndsRise, IsAfter, HasLeft, IsEntered, left_of_line, lies_left, lies_right, right_of_line, side}
+use Rattle.osm_segments.specs.Sweep.{EndsRise, FitsAfter, FitsBefore, IsAfter, IsFollowed, HasLeft, IsEntered, left_of_line, lies_left, lies_right, right_of_line, side}
 use Rattle.osm_segments.specs.Tilted.{tilted, tilted_point}
 use Rattle.osm_segments.proofs.EdgePairs.{BeginsLeft, fans, turn-first, turn-second, two_ends}
 use Rattle.osm_segments.proofs.EdgeMeetings.{at-first-from, at-second-from}
@@ -537,3 +537,24 @@ from-contains xs x (m, inside, at) = subst (λ y. In y xs) at (at-in xs m x insi
 
 pub to-contains : (xs : List Seg) (x : Seg) → In x xs → Contains xs x
 to-contains xs x i = in-index x xs x i
+
+-- ---- one in the place of another
+in_place : (xs : List Seg) (i : ℕ) (x : Seg) → i < length xs → set xs i x ≡ insert (remove xs i) i x
+in_place [] i x h = absurd (omega arith)
+in_place (y ∷ ys) zero x h = refl
+in_place (y ∷ ys) (suc i) x h = ap (λ zs. y ∷ zs) (in_place ys i x (omega arith))
+
+pub followed : (s t : Seg) (old new : List Seg) (place : ℕ) → place < length old → get_or old place s ≡ s →
+    ((d : Seg) → 0 < place → place + 1 < length old → conflict_of (get_or old (place - 1) d) (get_or old (place + 1) d) ≡ None) →
+    (0 < place → FitsBefore t (get_or old (place - 1) t)) → (place + 1 < length old → FitsAfter t (get_or old (place + 1) t)) → new ≡ set old place t → IsFollowed s t old new
+followed s t old new place inside at closes before after is = record {
+  between = remove old place;
+  left = record { place = place; inside = inside; at = at; closes = closes; is = refl };
+  entered = record {
+    place = place;
+    within = omega (arith, length-remove old place inside);
+    before = λ some. subst (FitsBefore t) (sym (get_or-remove_below old place t (place - 1) (omega arith) inside)) (before some);
+    after = λ some. subst (FitsAfter t) (sym (get_or-remove_above old place t place (omega arith) inside)) (after (omega (arith, length-remove old place inside, some)));
+    is = is ∙ in_place old place t inside;
+  };
+}

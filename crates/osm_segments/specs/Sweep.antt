@@ -47,6 +47,12 @@ pub record HasLeft (s : Seg) (old new : List Seg) : Type 0 where
   pub closes : (d : Seg) → 0 < place → place + 1 < length old → conflict_of (slice_index_or old (place - 1) d) (slice_index_or old (place + 1) d) ≡ None
   pub is : new ≡ remove old place
 
+-- s was taken out, and t put between the two between which it stood
+pub record IsFollowed (s t : Seg) (old new : List Seg) : Type 0 where
+  pub between : List Seg
+  pub left : HasLeft s old between
+  pub entered : IsEntered t between new
+
 -- q isn't before p
 abbrev pub IsAfter : Loc → Loc → Type 0
 IsAfter p q = not (is_minus (order (vector_of p) (vector_of q))) ≡ true

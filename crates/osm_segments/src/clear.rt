@@ -8,7 +8,7 @@ ghost use Rattle.osm_lattice.specs.Loc.{vector_of};
 ghost use Rattle.osm_lattice.specs.Seg.{seg_cmp};
 ghost use Rattle.lists.specs.Rising.{IsRising};
 ghost use Rattle.osm_segments.specs.Pairs.{conflicts_of};
-ghost use Rattle.osm_segments.specs.Sweep.{EndsRise, FitsAfter, FitsBefore, HasLeft, IsAfter, IsEntered, left_of_line, lies_left, lies_right, right_of_line};
+ghost use Rattle.osm_segments.specs.Sweep.{EndsRise, FitsAfter, FitsBefore, HasLeft, IsAfter, IsEntered, IsFollowed, left_of_line, lies_left, lies_right, right_of_line};
 
 use chunked_list::ChunkedList;
 use osm_lattice::{Loc, Seg, compare_to_line, conflict};
@@ -59,18 +59,18 @@ fn fits_after(s: Seg, t: Seg) -> bool
     are_clear(s, t) && lies_right(s, t)
 }
 
-/// Whether the two between which a place lies fit.
-fn fits_at(status: &ChunkedList<Seg>, place: usize, s: Seg) -> bool
-    requires { place ≤ length status.now }
-    ensures before { result ≡ true → 0 < place
-        → FitsBefore s (slice_index_or status.now (place - 1) s) }
-    ensures after { result ≡ true → place < length status.now
-        → FitsAfter s (slice_index_or status.now place s) }
+/// Whether a segment fits between those before one place and those from another on.
+fn fits_between(status: &ChunkedList<Seg>, low: usize, high: usize, s: Seg) -> bool
+    requires { low ≤ length status.now }
+    ensures before { result ≡ true → 0 < low
+        → FitsBefore s (slice_index_or status.now (low - 1) s) }
+    ensures after { result ≡ true → high < length status.now
+        → FitsAfter s (slice_index_or status.now high s) }
 {
-    if place > 0 && !fits_before(s, status.get(place - 1)) {
+    if low > 0 && !fits_before(s, status.get(low - 1)) {
         return false;
     }
-    if place < status.len() && !fits_after(s, status.get(place)) {
+    if high < status.len() && !fits_after(s, status.get(high)) {
         return false;
     }
     true
@@ -81,7 +81,7 @@ fn enter(status: &mut ChunkedList<Seg>, s: Seg) -> Result<bool, OutOfMemory>
     ensures { IfOk result (λ fits. fits ≡ true → IsEntered s status.old status.new) }
 {
     let place = status.partition_point(|t| !lies_right(s, *t));
-    if !fits_at(status, place, s) {
+    if !fits_between(status, place, place, s) {
         return Ok(false);
     }
     status.insert(place, s)?;
@@ -162,6 +162,24 @@ fn leave(status: &mut ChunkedList<Seg>, s: Seg) -> bool
     }
 }
 
+/// Puts a segment in the place of one that ends where it begins, if it fits there and the two beside it don't conflict.
+fn go_on(status: &mut ChunkedList<Seg>, s: Seg, t: Seg) -> bool
+    ensures { result ≡ true → IsFollowed s t status.old status.new }
+{
+    match find(status, s) {
+        Some(place) => {
+            let inside = place < status.len();
+            prove!(inside);
+            if !closes(status, place) || !fits_between(status, place, place + 1, t) {
+                return false;
+            }
+            status.set(place, t);
+            true
+        }
+        None => false,
+    }
+}
+
 /// Puts segments in the order of their upper ends.
 pub fn sort_by_ends(segs: &mut [Seg])
     ensures moved { IsPermutation segs.old segs.new }
@@ -202,10 +220,23 @@ fn next_enters(segs: &[Seg], next: usize, end: Seg) -> bool
     is_before(segs[next].a, end.b)
 }
 
+/// Whether the next segment begins where the next one ends, and before any later one does.
+fn goes_on(segs: &[Seg], next: usize, ends: &[Seg], left: usize) -> bool
+    requires rising { IsRising seg_cmp segs.now }
+    requires left { left < length ends.now }
+    ensures inside { result ≡ true → next < length segs.now }
+    ensures some { result ≡ true → left + 1 < length ends.now }
+    ensures enters { result ≡ true → (d : Seg)
+        → order (vector_of (slice_index_or segs.now next d).a)
+        (vector_of (slice_index_or ends.now (left + 1) d).b) ≡ Plus }
+{
+    left + 1 < ends.len() && next_enters(segs, next, ends[left + 1]) && segs[next].a == ends[left].b
+}
+
 /// Whether one sweep upwards finds segments in strict order free of conflicts.
 ///
-/// Each enters between those of the status that are left and right of its lower end, and leaves at its upper end; who come to stand
-/// side by side are tried. No other pairs are. The segments are given in the order of their upper ends, too.
+/// Each enters between those of the status that are left and right of its lower end, and leaves at its upper end, or another goes on from
+/// there in its place; who come to stand side by side are tried. No other pairs are. The segments are given in the order of their upper ends, too.
 pub fn is_clear(alloc: Global, segs: &[Seg], ends: &[Seg]) -> Result<bool, OutOfMemory>
     requires rising { IsRising seg_cmp segs.now }
     requires moved { IsPermutation segs.now ends.now }
@@ -221,6 +252,12 @@ pub fn is_clear(alloc: Global, segs: &[Seg], ends: &[Seg]) -> Result<bool, OutOf
                 return Ok(false);
             }
             next += 1;
+        } else if goes_on(segs, next, ends, left) {
+            if !go_on(&mut status, ends[left], segs[next]) {
+                return Ok(false);
+            }
+            next += 1;
+            left += 1;
         } else {
             if !leave(&mut status, ends[left]) {
                 return Ok(false);

@@ -10,7 +10,7 @@ ghost use Rattle.osm_segments.specs.Sweep.{EndsRise};
 use crate::clear::{by_ends, is_clear};
 use crate::division::add_conflicts;
 use lists::{counts_determine, distinct_items};
-use osm_lattice::{Kind, Seg, are_apart, conflict};
+use osm_lattice::{Kind, Seg, are_apart, conflict_of_near};
 use std::alloc::{AllocError as OutOfMemory, Global};
 
 /// How often a list of segments is divided in a row.
@@ -34,7 +34,7 @@ fn pair_of(first: Seg, second: Seg) -> Option<Pair>
     if are_apart(first, second) {
         return None;
     }
-    match conflict(first, second) {
+    match conflict_of_near(first, second) {
         Some(kind) => Some(Pair {
             first,
             second,

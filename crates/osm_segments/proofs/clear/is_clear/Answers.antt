@@ -1,4 +1,4 @@
-use Rattle.std.proofs.Common.{◌≡◌, ◌<◌, arith, get_or, length, not, subst, sym, true, ◌∙◌}
+use Rattle.std.proofs.Common.{◌≡◌, ◌<◌, arith, get_or, length, not, subst, sym, true, ◌+◌, ◌∙◌}
 use Rattle.std.proofs.lemmas.Bool.Decides.{nat_tests}
 use Rattle.std.proofs.lemmas.List.Sorted.{Contains-permutation}
 use Rattle.plane.specs.Order.{order}
@@ -27,14 +27,30 @@ loop-left-preserved-then-next_enters c =
 
 pub loop-left-preserved : goal.loop-left-preserved
 loop-left-preserved c =
-    let segs = c.args.segs.now in let ends = c.args.ends.now in let next = c.loop-left.next in let left = c.loop-left.left in let t = c.index-ends-left-else-next_enters.result in
+    let segs = c.args.segs.now in let ends = c.args.ends.now in let next = c.loop-left.next in let left = c.loop-left.left in let t = c.index-ends-left-else-goes_on.result in
     let some : left < length ends = omega arith in
-    let same : c.index-ends-left.result ≡ t = c.index-ends-left.is ∙ same_get ends left c.index-ends-left.result t some ∙ sym c.index-ends-left-else-next_enters.is in
+    let same : c.index-ends-left.result ≡ t = c.index-ends-left.is ∙ same_get ends left c.index-ends-left.result t some ∙ sym c.index-ends-left-else-goes_on.is in
     let out = c.leave.ensures c.if-not-leave.false in (
       c.loop-left.invariant.0,
-      has_left segs ends c.requires.rise next left c.loop-left.status c.leave.new.status c.loop-left.invariant.1 t out c.index-ends-left-else-next_enters.is some
+      has_left segs ends c.requires.rise next left c.loop-left.status c.leave.new.status c.loop-left.invariant.1 t out c.index-ends-left-else-goes_on.is some
           (λ i d h l. subst (λ (u : Seg). not (is_minus (order (vector_of u.b) (vector_of (get_or segs i d).a))) ≡ true) same (c.next_enters.ensures.leaves c.if-next_enters.false i d h l)),
     )
+
+pub loop-left-preserved-then-goes_on : goal.loop-left-preserved-then-goes_on
+loop-left-preserved-then-goes_on c =
+    let segs = c.args.segs.now in let ends = c.args.ends.now in let next = c.loop-left.next in let left = c.loop-left.left in
+    let t = c.index-ends-left-then-goes_on.result in let s = c.index-segs-next-then-goes_on.result in
+    let some : left < length ends = omega arith in
+    let same : c.index-ends-left.result ≡ t = c.index-ends-left.is ∙ same_get ends left c.index-ends-left.result t some ∙ sym c.index-ends-left-then-goes_on.is in
+    let first : order (vector_of s.a) (vector_of (get_or ends (left + 1) s).b) ≡ Plus =
+    subst (λ (u : Seg). order (vector_of u.a) (vector_of (get_or ends (left + 1) s).b) ≡ Plus) (sym c.index-segs-next-then-goes_on.is) (c.goes_on.ensures.enters c.if-goes_on.true s) in
+    let changed = c.go_on.ensures c.if-not-go_on.false in
+    let gone = has_left segs ends c.requires.rise next left c.loop-left.status changed.between c.loop-left.invariant.1 t changed.left c.index-ends-left-then-goes_on.is some
+    (λ i d h l. subst (λ (u : Seg). not (is_minus (order (vector_of u.b) (vector_of (get_or segs i d).a))) ≡ true) same (c.next_enters.ensures.leaves c.if-next_enters.false i d h l)) in
+    let new = has_entered segs ends c.requires.rising c.requires.rise next (left + 1) changed.between c.go_on.new.status gone s changed.entered c.index-segs-next-then-goes_on.is (c.goes_on.ensures.inside c.if-goes_on.true) (c.goes_on.ensures.some c.if-goes_on.true) first
+    (λ x i. from-contains ends x (Contains-permutation segs ends x c.requires.moved (to-contains segs x i))) in
+    let inside : next < length segs = c.goes_on.ensures.inside c.if-goes_on.true in
+    (omega arith, new)
 
 pub returns : goal.returns
 returns c empty =
