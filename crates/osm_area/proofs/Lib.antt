@@ -9,6 +9,7 @@ pub mod RefLemmas
 pub mod RingSums
 pub mod RoleLemmas
 pub mod RoleSteps
+mod RoleWalks
 mod SegmentSearches
 pub mod SoundAreas
 pub mod WholeRings

@@ -3,9 +3,6 @@ use Rattle.std.proofs.Common.{◌≡◌, ◌∙◌, Bool, true, false, cond, ◌
 use Rattle.std.specs.List.{filter_map, list_any}
 use Rattle.std.specs.Option.{option_map_or}
 use Rattle.std.proofs.lemmas.Slice.Eq.{bytes_eq-Decides}
-use Rattle.osm_geom.specs.declared.edge.Edge.{Edge}
-use Rattle.osm_lattice.specs.declared.seg.Seg.{Seg}
-use Rattle.osm_area.specs.Segments.{way_segments}
 use Rattle.opl_reader.specs.declared.object.Member.{Member}
 use Rattle.opl_reader.specs.declared.object.Object.{Object}
 use Rattle.opl_reader.specs.declared.object.ObjectKind.TheVariants.{Relation}
@@ -16,8 +13,8 @@ use Rattle.osm_objects.specs.declared.problem.Note.TheVariants.{InnerInOuter, Ou
 use Rattle.osm_nest.specs.declared.polygon.Polygon.{Polygon}
 use Rattle.osm_area.specs.declared.roles.Role.{Role}
 use Rattle.osm_area.specs.declared.roles.Role.TheVariants.{Inner, Outer, Other}
-use Rattle.osm_area.specs.RoleKinds.{role_named, first_role, has_segment, names_a_ring, note_on, note_by, note_from}
-use Rattle.osm_area.specs.Roles.{mentions, is_in_rings, lies_in, inners, outers, members_by, members_of, role_note, role_notes_of}
+use Rattle.osm_area.specs.RoleKinds.{role_named, first_role, names_a_ring, note_on, note_by}
+use Rattle.osm_area.specs.Roles.{mentions, lies_in, inners, outers, members_by, members_of, role_note, role_notes_of}
 use Rattle.std.proofs.lemmas.Bool.{or_parts}
 
 -- ---- lists
@@ -86,19 +83,7 @@ notes_none objects members polygons ways none =
     filter_map_none (role_note objects members polygons)
     (λ way. note-none (find (mentions way) members) way (lies_in objects (outers polygons) way) (lies_in objects (inners polygons) way) (found-none (mentions way) names_a_ring members none)) ways
 
--- ---- all notes
-
-from-is : (objects : List Object) (rings : List (List Edge)) (segs : List Seg) (way : ℤ) → ((s : Seg) → has_segment segs s ≡ is_in_rings rings s)
-    → list_any (has_segment segs) (way_segments objects way) ≡ lies_in objects rings way
-from-is objects rings segs way same = list_any_same (has_segment segs) (is_in_rings rings) same (way_segments objects way)
-
-pub notes_are : (objects : List Object) (members : List Member) (polygons : List Polygon) (outer inner : List Seg) (roles : ℤ → Option Role) (ways : List ℤ)
-    → ((s : Seg) → has_segment outer s ≡ is_in_rings (outers polygons) s) → ((s : Seg) → has_segment inner s ≡ is_in_rings (inners polygons) s) → ((way : ℤ) → roles way ≡ first_role members way)
-    → filter_map (λ (way : ℤ). note_from objects outer inner (roles way) way) ways ≡ filter_map (role_note objects members polygons) ways
-notes_are objects members polygons outer inner roles ways o i r =
-    filter_map_same (λ (way : ℤ). note_from objects outer inner (roles way) way) (role_note objects members polygons)
-    (λ way. note_is objects members polygons way (roles way) (list_any (has_segment outer) (way_segments objects way)) (list_any (has_segment inner) (way_segments objects way))
-    (r way) (from-is objects (outers polygons) outer way o) (from-is objects (inners polygons) inner way i)) ways
+-- ---- no members
 
 -- no notes where there are no members
 pub nothing_added : (objects : List Object) (candidate : ObjectRef) (ways : List ℤ) (polygons : List Polygon) (notes : List Note) → members_of objects candidate ≡ [] → notes ≡ notes ++ role_notes_of objects candidate ways polygons

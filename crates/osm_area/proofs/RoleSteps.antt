@@ -1,58 +1,18 @@
--- One more member, edge or ring.
-use Rattle.std.proofs.Common.{◌≡◌, ◌∙◌, ℕ, ◌+◌, ◌<◌, Bool, true, false, ◌||◌, List, [], ◌∷◌, ◌++◌, take, length, get_or, find, ℤ, Option, None, Some, option_map, append_assoc, append-nil, refl, sym, ap, inl, inr}
-use Rattle.std.specs.List.{cons_option, filter_map, list_any}
-use Rattle.std.specs.Option.{option_or}
+-- One more edge or ring.
+use Rattle.std.proofs.Common.{◌≡◌, ◌∙◌, ℕ, ◌+◌, ◌<◌, Bool, true, false, ◌||◌, List, [], ◌∷◌, ◌++◌, take, length, get_or, append-nil, refl, sym, ap}
+use Rattle.std.specs.List.{list_any}
 use Rattle.std.specs.Ordering.{is_eq}
-use Rattle.std.proofs.lemmas.Bool.{cases_Bool}
 use Rattle.std.proofs.lemmas.List.{take_more, map-append}
 use Rattle.std.proofs.lemmas.List.Folds.{list_any-append}
-use Rattle.std.proofs.lemmas.List.Elements.{filter_map-append}
 use Rattle.std.proofs.lemmas.Grind.{flat_map-append}
 use Rattle.osm_geom.specs.declared.edge.Carrier.{Carrier}
 use Rattle.osm_geom.specs.declared.edge.Carrier.TheVariants.{OfSeg}
 use Rattle.osm_geom.specs.declared.edge.Edge.{Edge}
 use Rattle.osm_lattice.specs.declared.seg.Seg.{Seg}
 use Rattle.osm_lattice.specs.Seg.{seg_cmp}
-use Rattle.opl_reader.specs.declared.object.Member.{Member}
-use Rattle.osm_objects.specs.declared.problem.Note.{Note}
 use Rattle.osm_nest.specs.declared.polygon.Polygon.{Polygon}
-use Rattle.osm_area.specs.declared.roles.Role.{Role}
-use Rattle.osm_area.specs.RoleKinds.{first_role, has_segment}
-use Rattle.osm_area.specs.Roles.{mentions, carries, is_in_rings, inners, outers}
-
--- ---- roles
-
-or-grouped : {X : Type 0} (a b c : Option X) → option_or (option_or a b) c ≡ option_or a (option_or b c)
-or-grouped None b c = refl
-or-grouped (Some x) b c = refl
-
-first-then-others : (m : Member) (others : List Member) (way : ℤ) → option_or (first_role (m ∷ []) way) (first_role others way) ≡ first_role (m ∷ others) way
-first-then-others m others way = elim (cases_Bool (mentions way m)) [
-  | inl named ↦ rw named refl
-  | inr other ↦ rw other refl
-]
-
-pub role_step : (members before others : List Member) (m : Member) (old new : ℤ → Option Role) → before ≡ m ∷ others → ((way : ℤ) → option_or (old way) (first_role before way) ≡ first_role members way)
-    → ((way : ℤ) → new way ≡ option_or (old way) (first_role (m ∷ []) way)) → (way : ℤ) → option_or (new way) (first_role others way) ≡ first_role members way
-role_step members before others m old new is inv after way =
-    ap (λ o. option_or o (first_role others way)) (after way)
-    ∙ or-grouped (old way) (first_role (m ∷ []) way) (first_role others way)
-    ∙ ap (option_or (old way)) (first-then-others m others way)
-    ∙ ap (λ ms. option_or (old way) (first_role ms way)) (sym is)
-    ∙ inv way
-
--- ---- notes
-
-pub note_step : (f : ℤ → Option Note) (ways : List ℤ) (i : ℕ) (d : ℤ) (note : Option Note) (initial old new : List Note) → i < length ways → old ≡ initial ++ filter_map f (take i ways)
-    → note ≡ f (get_or ways i d) → new ≡ old ++ cons_option note [] → new ≡ initial ++ filter_map f (take (i + 1) ways)
-note_step f ways i d note initial old new h inv n after =
-    let way = get_or ways i d in
-    after
-    ∙ (ap (λ ns. ns ++ cons_option note []) inv
-    ∙ (append_assoc initial (filter_map f (take i ways)) (cons_option note [])
-    ∙ (ap (λ m. initial ++ (filter_map f (take i ways) ++ cons_option m [])) n
-    ∙ (ap (λ ns. initial ++ ns) (sym (filter_map-append f (take i ways) (way ∷ [])))
-    ∙ ap (λ ws. initial ++ filter_map f ws) (sym (take_more ways i d h))))))
+use Rattle.osm_area.specs.RoleKinds.{has_segment}
+use Rattle.osm_area.specs.Roles.{carries, is_in_rings, inners, outers}
 
 -- ---- segments of rings
 

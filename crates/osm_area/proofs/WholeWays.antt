@@ -1,9 +1,9 @@
 -- Ways of which nothing is missing.
-use Rattle.std.proofs.Common.{◌≡◌, ◌≢◌, ◌∙◌, ℕ, ◌+◌, ◌<◌, List, [], ◌∷◌, ◌++◌, length, get_or, take, ℤ, Option, None, Some, append-nil, refl, sym, ap, arith}
+use Rattle.std.proofs.Common.{◌≡◌, ◌≢◌, ◌∙◌, ℕ, ◌+◌, ◌-◌, ◌<◌, List, [], ◌∷◌, ◌++◌, length, get_or, map, take, ℤ, Option, None, Some, append-nil, refl, sym, ap, arith}
 use Rattle.std.specs.List.{filter_map, flat_map, cons_option}
 use Rattle.std.specs.Option.{option_map_or}
 use Rattle.std.proofs.lemmas.Grind.{flat_map-append}
-use Rattle.std.proofs.lemmas.List.{nil_from_length, take_more}
+use Rattle.std.proofs.lemmas.List.{length-append, map-append, nil_from_length, take_more}
 use Rattle.std.proofs.lemmas.List.Folds.{length-flat_map-take}
 use Rattle.opl_reader.specs.declared.object.Object.{Object}
 use Rattle.osm_objects.specs.Objects.{WayParts, place_of, way_of}
@@ -54,3 +54,14 @@ module _ {X Y : Type 0} (f : X → List Y) (xs : List X) (i : ℕ) (d x : X) (h 
       let most = length-flat_map-take f xs i d h in
       let no : length (flat_map f xs) ≡ 0 = ap length none in
       some (ap f e ∙ nil_from_length (f (get_or xs i d)) (omega (arith, most, no)))
+
+  -- one more count
+  pub counted : (before after : List Y) (n : ℕ) (ks ls : List ℕ) → after ≡ before ++ f x → n ≡ length after - length before → ks ≡ map (λ (y : X). length (f y)) (take i xs) → ls ≡ ks ++ n ∷ [] → ls ≡ map (λ (y : X). length (f y)) (take (i + 1) xs)
+  counted before after n ks ls more count inv pushed =
+      let all = ap length more in
+      let both = length-append before (f x) in
+      let n_is : n ≡ length (f (get_or xs i d)) = (let m : n ≡ length (f x) = omega (arith, count, all, both) in m ∙ ap (λ y. length (f y)) e) in
+      pushed
+      ∙ ((λ j. inv j ++ n_is j ∷ [])
+      ∙ (sym (map-append (λ (y : X). length (f y)) (take i xs) (get_or xs i d ∷ []))
+      ∙ ap (map (λ (y : X). length (f y))) (sym (take_more xs i d h))))

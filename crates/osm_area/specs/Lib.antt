@@ -7,6 +7,7 @@ pub mod Outcome
 pub mod Problems
 pub mod RoleKinds
 pub mod Roles
+pub mod RoleWalk
 pub mod Segments
 pub mod SegmentSteps
 pub mod Sound

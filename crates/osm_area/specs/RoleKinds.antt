@@ -5,13 +5,11 @@ use Rattle.std.specs.Ordering.{is_eq}
 use Rattle.osm_lattice.specs.declared.seg.Seg.{Seg}
 use Rattle.osm_lattice.specs.Seg.{seg_cmp}
 use Rattle.opl_reader.specs.declared.object.Member.{Member}
-use Rattle.opl_reader.specs.declared.object.Object.{Object}
 use Rattle.osm_objects.specs.declared.problem.Note.{Note}
 use Rattle.osm_objects.specs.declared.problem.Note.TheVariants.{InnerInOuter, OuterInInner}
 use Rattle.osm_area.specs.declared.roles.Role.{Role}
 use Rattle.osm_area.specs.declared.roles.Role.TheVariants.{Inner, Outer, Other}
 use Rattle.osm_area.specs.Roles.{mentions}
-use Rattle.osm_area.specs.Segments.{way_segments}
 
 unfoldable pub role_named : List ℕ → Role
 role_named role = if bytes_eq role (codes "inner") then Inner else if bytes_eq role (codes "outer") then Outer else Other
@@ -36,7 +34,3 @@ note_by (Some role) way in_outer in_inner = note_on role way in_outer in_inner
 -- the segment is one of these
 abbrev pub has_segment : List Seg → Seg → Bool
 has_segment segs s = list_any (λ t. is_eq (seg_cmp t s)) segs
-
--- the same, by the segments along which outer and inner rings run
-abbrev pub note_from : List Object → (outer inner : List Seg) → Option Role → ℤ → Option Note
-note_from objects outer inner role way = note_by role way (list_any (has_segment outer) (way_segments objects way)) (list_any (has_segment inner) (way_segments objects way))

@@ -8,7 +8,9 @@ ghost use Rattle.osm_nest.specs.Polygons.{rings_of};
 ghost use Rattle.osm_area.specs.Outcome.{IsOutcome, IsOutcomeGiven, KeepsParity, polygons_in, problems_in};
 ghost use Rattle.osm_area.specs.MemberWays.{member_ways, ways_named_twice};
 ghost use Rattle.osm_area.specs.Notes.{named_twice_note};
+ghost use Rattle.osm_area.specs.RoleWalk.{HaveSegments};
 ghost use Rattle.osm_area.specs.Roles.{role_notes_of};
+ghost use Rattle.osm_area.specs.Segments.{way_segments};
 
 use crate::area::area;
 use crate::member_ways::named_ways;
@@ -17,10 +19,9 @@ use crate::notes::{add_repeats, named_twice};
 use crate::once::{are_few_and_differ, each_once};
 use crate::outcome_lists::{Notes, Problems};
 use crate::problems::{missing_problems, problems_among};
-use crate::role_notes::add_role_notes;
-use crate::segments::segments;
+use crate::role_notes::{Ways, add_role_notes};
+use crate::segments::{WaySegments, segments};
 use opl_reader::{ObjectKind, ObjectRef};
-use osm_geom::Seg;
 use osm_nest::Polygons;
 use osm_objects::Store;
 use osm_segments::cancel;
@@ -40,18 +41,19 @@ fn complete(
     alloc: Global,
     store: &Store,
     candidate: ObjectRef,
-    ways: &[i64],
-    segs: &[Seg],
+    ways: Ways<'_>,
     mut notes: Notes,
 ) -> Result<Outcome, OutOfMemory>
+    requires segments { HaveSegments (way_segments store.now) ways.ids.now ways.counts.now ways.segs.now }
+    requires ways { ways.ids.now ≡ member_ways store.now candidate }
     ensures right { IfOk result (λ outcome. (twice : List ℤ)
         → notes ≡ map named_twice_note twice
-        → IsOutcomeGiven [] twice segs.now (role_notes_of store.now candidate ways.now) outcome) }
+        → IsOutcomeGiven [] twice ways.entry.segs.now (role_notes_of store.now candidate ways.entry.ids.now) outcome) }
     ensures rings { IfOk result (λ outcome. All HasKinds (polygons_in outcome)) }
     ensures whole { IfOk result (λ outcome.
         All (All IsWholeSegment) (rings_of (polygons_in outcome))) }
 {
-    let cancelled = cancel(alloc, segs)?;
+    let cancelled = cancel(alloc, ways.segs)?;
     add_repeats(&mut notes, &cancelled.repeats)?;
     let list = problems_among(alloc, &cancelled.survivors)?;
     if !list.as_slice().is_empty() {
@@ -60,6 +62,19 @@ fn complete(
     let polygons = area(alloc, &cancelled.survivors)?;
     add_role_notes(&mut notes, alloc, store, candidate, &polygons, ways)?;
     Ok(Outcome::Area { polygons, notes })
+}
+
+/// Ways with their segments.
+fn with_segments<'a>(ways: &'a [i64], found: &'a WaySegments) -> Ways<'a>
+    ensures ids { result.ids.now ≡ ways.now }
+    ensures counts { result.counts.now ≡ found.now.counts.items }
+    ensures segs { result.segs.now ≡ found.now.segs.items }
+{
+    Ways {
+        ids: ways,
+        counts: &found.counts,
+        segs: &found.segs,
+    }
 }
 
 /// What comes of a candidate by its ways, each of them once, and by the notes on those that it names twice.
@@ -78,7 +93,7 @@ fn outcome_by(
         All (All IsWholeSegment) (rings_of (polygons_in outcome))) }
 {
     match segments(alloc, store, ways)? {
-        Some(segs) => complete(alloc, store, candidate, ways, &segs, notes),
+        Some(found) => complete(alloc, store, candidate, with_segments(ways, &found), notes),
         // What is missing is looked up only where something is.
         None => {
             let missing = missing(alloc, store, ways)?;

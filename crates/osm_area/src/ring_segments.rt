@@ -8,12 +8,9 @@ ghost use Rattle.osm_geom.specs.declared.edge.Edge.{Edge};
 ghost use Rattle.osm_lattice.specs.Seg.{seg_cmp};
 ghost use Rattle.osm_area.specs.RoleKinds.{has_segment};
 ghost use Rattle.osm_area.specs.Roles.{carries, is_in_rings, outers, inners};
-ghost use Rattle.osm_area.specs.Segments.{way_segments};
 
-use crate::segments::way_segments;
 use osm_geom::{Carrier, Edge, Seg};
 use osm_nest::Polygon;
-use osm_objects::Store;
 use osm_rings::Ring;
 use std::alloc::{AllocError as OutOfMemory, Global};
 
@@ -98,12 +95,10 @@ fn holds(segs: &[Seg], seg: &Seg) -> bool
     segs.binary_search(seg).is_ok()
 }
 
-/// Whether some segment of a way is among these, which are in order.
-pub fn holds_some(alloc: Global, store: &Store, segs: &[Seg], way: i64) -> Result<bool, OutOfMemory>
+/// Whether some of the segments along a way is among these, which are in order.
+pub fn holds_some(segs: &[Seg], along: &[Seg]) -> bool
     requires { IsSorted seg_cmp segs.now }
-    ensures { IfOk result (λ found. found
-        ≡ list_any (has_segment segs.now) (way_segments store.now way)) }
+    ensures { result ≡ list_any (has_segment segs.now) along.now }
 {
-    let along = way_segments(alloc, store, way)?;
-    Ok(along.iter().any(|seg| holds(segs, seg)))
+    along.iter().any(|seg| holds(segs, seg))
 }

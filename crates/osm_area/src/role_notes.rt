@@ -1,19 +1,25 @@
 //! Notes on roles that differ from what the geometry says.
 
-ghost use Rattle.std.specs.Prelude.{◌≡◌, ◌++◌, [], ℤ, IfOk, OnOk};
-ghost use Rattle.std.specs.List.{cons_option, filter_map};
+ghost use Rattle.std.specs.Prelude.{◌≡◌, ◌++◌, ◌∷◌, [], ℤ, List, IfOk, OnOk};
+ghost use Rattle.std.specs.List.{cons_option, filter_map, list_any};
 ghost use Rattle.std.specs.List.Sorted.{IsSorted};
-ghost use Rattle.std.specs.Ordering.{int_eq};
+ghost use Rattle.osm_lattice.specs.declared.seg.Seg.{Seg};
 ghost use Rattle.osm_lattice.specs.Seg.{seg_cmp};
-ghost use Rattle.indexmap.specs.IndexMap.{get};
-ghost use Rattle.osm_area.specs.RoleKinds.{note_from};
+ghost use Rattle.std.specs.Ordering.{int_eq};
+ghost use Rattle.lists.specs.Once.{each_once};
+ghost use Rattle.opl_reader.specs.Seen.{member_seen};
+ghost use Rattle.opl_reader.specs.declared.object.Object.{Object};
+ghost use Rattle.osm_area.specs.MemberWays.{member_ways, ways_among};
+ghost use Rattle.osm_area.specs.RoleKinds.{has_segment, note_on};
+ghost use Rattle.osm_area.specs.RoleWalk.{HaveSegments, IsStep, mentions_first, note_along, notes_along};
 ghost use Rattle.osm_area.specs.Roles.{role_note, role_notes_of};
+ghost use Rattle.osm_area.specs.Segments.{way_segments};
 
+use crate::member_ways::is_way;
 use crate::outcome_lists::Notes;
 use crate::ring_segments::{holds_some, inner_segments, outer_segments};
-use crate::roles::{Role, any_names_a_ring, first_roles};
-use indexmap::IndexMap;
-use opl_reader::{Members, ObjectKind, ObjectRef};
+use crate::roles::{Role, any_names_a_ring, role_named};
+use opl_reader::{MemberRef, Members, ObjectKind, ObjectRef};
 use osm_geom::Seg;
 use osm_nest::Polygons;
 use osm_objects::{Note, Store};
@@ -26,86 +32,132 @@ struct RingSegments {
     inner: Vec<Seg>,
 }
 
-/// The note on a way of which this is the role, if there is one.
-fn note_on(
-    alloc: Global,
-    store: &Store,
-    rings: &RingSegments,
-    role: Option<Role>,
-    way: i64,
-) -> Result<Option<Note>, OutOfMemory>
-    requires outer { IsSorted seg_cmp rings.now.outer.items }
-    requires inner { IsSorted seg_cmp rings.now.inner.items }
-    ensures { IfOk result (λ note. note
-        ≡ note_from store.now rings.now.outer.items rings.now.inner.items role way) }
+/// Ways, their segments, one way after the other, and how many each has.
+#[derive(Clone, Copy)]
+pub struct Ways<'a> {
+    pub ids: &'a [i64],
+    pub counts: &'a [usize],
+    pub segs: &'a [Seg],
+}
+
+/// Whether a member is the first of these ways.
+fn mentions_first(member: &MemberRef<'_>, ways: &[i64]) -> bool
+    ensures { result ≡ mentions_first (member_seen member.now) ways.now }
 {
-    match role {
-        Some(Role::Inner) => {
-            let found = holds_some(alloc, store, &rings.outer, way)?;
-            Ok(found.then_some(Note::InnerInOuter { way }))
-        }
-        Some(Role::Outer) => {
-            let found = holds_some(alloc, store, &rings.inner, way)?;
-            Ok(found.then_some(Note::OuterInInner { way }))
-        }
-        Some(Role::Other) | None => Ok(None),
+    match ways {
+        [way, ..] => is_way(member.kind) && member.id == *way,
+        [] => false,
     }
 }
 
-/// Adds the note on a way, if there is one, given the roles of all.
+/// The segments of the first of the ways, and the ways behind it.
+fn first_way<'a>(ways: Ways<'a>) -> (&'a [Seg], Ways<'a>)
+    ensures { (along : ℤ → List Seg) (way : ℤ) (others : List ℤ)
+        → ways.entry.ids.now ≡ way ∷ others
+        → HaveSegments along ways.entry.ids.now ways.entry.counts.now ways.entry.segs.now
+        → (result.0.now ≡ along way)
+        × (result.1.ids.now ≡ others)
+        × HaveSegments along others result.1.counts.now result.1.segs.now }
+{
+    let [_, ids @ ..] = ways.ids else {
+        return (&[], ways);
+    };
+    let [count, counts @ ..] = ways.counts else {
+        return (&[], ways);
+    };
+    let (along, segs) = ways.segs.split_at((*count).min(ways.segs.len()));
+    (along, Ways { ids, counts, segs })
+}
+
+/// The note on a way that has this role and these segments, if there is one.
+fn note_on(rings: &RingSegments, role: Role, way: i64, along: &[Seg]) -> Option<Note>
+    requires outer { IsSorted seg_cmp rings.now.outer.items }
+    requires inner { IsSorted seg_cmp rings.now.inner.items }
+    ensures { result ≡ note_on role way
+        (list_any (has_segment rings.now.outer.items) along.now)
+        (list_any (has_segment rings.now.inner.items) along.now) }
+{
+    match role {
+        Role::Inner => { holds_some(&rings.outer, along).then_some(Note::InnerInOuter { way }) }
+        Role::Outer => { holds_some(&rings.inner, along).then_some(Note::OuterInInner { way }) }
+        Role::Other => None,
+    }
+}
+
+/// Adds the note on the way that a member mentions, if there is one.
 fn add_note(
     notes: &mut Notes,
-    alloc: Global,
-    store: &Store,
     rings: &RingSegments,
-    roles: &IndexMap<i64, Role>,
-    way: i64,
+    member: &MemberRef<'_>,
+    along: &[Seg],
 ) -> Result<(), OutOfMemory>
     requires outer { IsSorted seg_cmp rings.now.outer.items }
     requires inner { IsSorted seg_cmp rings.now.inner.items }
     ensures { OnOk result (notes.new ≡ notes.old ++ cons_option
-        (note_from store.now rings.now.outer.items rings.now.inner.items (get int_eq roles.now way) way) []) }
+        (note_along rings.now.outer.items rings.now.inner.items member.now.role.now member.now.id along.now) []) }
 {
-    let role = roles.get(&way).copied();
-    if let Some(note) = note_on(alloc, store, rings, role, way)? {
+    if let Some(note) = note_on(rings, role_named(member.role), member.id, along) {
         notes.push(note)?;
     }
     Ok(())
 }
 
-/// Adds the notes on ways.
+/// Adds the note on the first of the ways, if this member is that one. It answers the ways that are left.
+fn add_note_at<'a>(
+    notes: &mut Notes,
+    rings: &RingSegments,
+    member: &MemberRef<'_>,
+    ways: Ways<'a>,
+) -> Result<Ways<'a>, OutOfMemory>
+    requires outer { IsSorted seg_cmp rings.now.outer.items }
+    requires inner { IsSorted seg_cmp rings.now.inner.items }
+    ensures { IfOk result (λ behind. (along : ℤ → List Seg)
+        → IsStep rings.now.outer.items rings.now.inner.items along (member_seen member.now)
+        ways.entry.ids.now ways.entry.counts.now ways.entry.segs.now
+        behind.ids.now behind.counts.now behind.segs.now notes.old notes.new) }
+{
+    if !mentions_first(member, ways.ids) {
+        return Ok(ways);
+    }
+    let (along, behind) = first_way(ways);
+    add_note(notes, rings, member, along)?;
+    Ok(behind)
+}
+
+/// Adds the notes on ways that are in order of first mention among these members.
 fn add_all(
     notes: &mut Notes,
-    alloc: Global,
-    store: &Store,
     rings: &RingSegments,
-    roles: &IndexMap<i64, Role>,
-    ways: &[i64],
+    members: &Members,
+    ways: Ways<'_>,
 ) -> Result<(), OutOfMemory>
     requires outer { IsSorted seg_cmp rings.now.outer.items }
     requires inner { IsSorted seg_cmp rings.now.inner.items }
-    ensures { OnOk result (notes.new ≡ notes.old ++ filter_map
-        (λ (way : ℤ).
-        note_from store.now rings.now.outer.items rings.now.inner.items (get int_eq roles.now way) way)
-        ways.now) }
+    ensures { OnOk result ((along : ℤ → List Seg)
+        → HaveSegments along ways.entry.ids.now ways.entry.counts.now ways.entry.segs.now
+        → notes.new ≡ notes.old ++ notes_along rings.now.outer.items rings.now.inner.items along
+        members.now ways.entry.ids.now) }
 {
-    for &way in ways {
-        add_note(notes, alloc, store, rings, roles, way)?;
+    let mut behind = ways;
+    let mut rest = members.iter();
+    while let Some(member) = rest.next() {
+        behind = add_note_at(notes, rings, &member, behind)?;
     }
     Ok(())
 }
 
-/// Adds the notes on ways that are among these members.
+/// Adds the notes on ways that are in order of first mention among these members.
 fn add_notes_among(
     notes: &mut Notes,
     alloc: Global,
-    store: &Store,
     members: &Members,
     polygons: &Polygons,
-    ways: &[i64],
+    ways: Ways<'_>,
 ) -> Result<(), OutOfMemory>
-    ensures { OnOk result (notes.new
-        ≡ notes.old ++ filter_map (role_note store.now members.now polygons.now) ways.now) }
+    ensures { OnOk result ((objects : List Object)
+        → HaveSegments (way_segments objects) ways.entry.ids.now ways.entry.counts.now ways.entry.segs.now
+        → ways.entry.ids.now ≡ each_once int_eq (ways_among members.now)
+        → notes.new ≡ notes.old ++ filter_map (role_note objects members.now polygons.now) ways.entry.ids.now) }
 {
     if !any_names_a_ring(members) {
         return Ok(());
@@ -114,8 +166,7 @@ fn add_notes_among(
         outer: outer_segments(alloc, polygons.as_slice())?,
         inner: inner_segments(alloc, polygons.as_slice())?,
     };
-    let roles = first_roles(alloc, members)?;
-    add_all(notes, alloc, store, &rings, &roles, ways)
+    add_all(notes, &rings, members, ways)
 }
 
 /// Adds a note for each of a candidate's ways that is first mentioned as `inner` and lies in an outer ring, or as `outer`
@@ -126,18 +177,18 @@ pub fn add_role_notes(
     store: &Store,
     candidate: ObjectRef,
     polygons: &Polygons,
-    ways: &[i64],
+    ways: Ways<'_>,
 ) -> Result<(), OutOfMemory>
+    requires segments { HaveSegments (way_segments store.now) ways.ids.now ways.counts.now ways.segs.now }
+    requires ways { ways.ids.now ≡ member_ways store.now candidate }
     ensures { OnOk result (notes.new
-        ≡ notes.old ++ role_notes_of store.now candidate ways.now polygons.now) }
+        ≡ notes.old ++ role_notes_of store.now candidate ways.entry.ids.now polygons.now) }
 {
     match candidate.kind {
         ObjectKind::Node => Ok(()),
         ObjectKind::Way => Ok(()),
         ObjectKind::Relation => match store.relation(candidate.id) {
-            Some(relation) => {
-                add_notes_among(notes, alloc, store, relation.members, polygons, ways)
-            }
+            Some(relation) => add_notes_among(notes, alloc, relation.members, polygons, ways),
             None => Ok(()),
         },
     }

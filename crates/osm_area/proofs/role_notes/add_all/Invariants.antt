@@ -1,9 +1,15 @@
-use Rattle.std.proofs.Common.{◌≡◌, ◌++◌, take, ℤ}
-use Rattle.std.specs.List.{filter_map}
-use Rattle.std.specs.Ordering.{int_eq}
-use Rattle.indexmap.specs.IndexMap.{get}
-use Rattle.osm_area.specs.RoleKinds.{note_from}
+use Rattle.std.proofs.Common.{◌≡◌, ◌++◌, ℤ, List, length}
+use Rattle.osm_lattice.specs.declared.seg.Seg.{Seg}
+use Rattle.osm_area.specs.RoleWalk.{HaveSegments, notes_along}
 use Rattle.osm_area.proofs.role_notes.add_all.Given as goal
 
-abbrev pub invariant-loop-way : goal.invariant-loop-way
-invariant-loop-way l = l.notes ≡ l.initial.notes ++ filter_map (λ (way : ℤ). note_from l.store l.rings.outer.items l.rings.inner.items (get int_eq l.roles way) way) (take l.way-index l.ways)
+-- what is noted and what is to be noted by the others to come are all
+abbrev pub invariant-loop-member : goal.invariant-loop-member
+invariant-loop-member l = record {
+  segments : (along : ℤ → List Seg) → HaveSegments along l.ways.ids.now l.ways.counts.now l.ways.segs.now → HaveSegments along l.behind.ids.now l.behind.counts.now l.behind.segs.now;
+  notes : (along : ℤ → List Seg) → HaveSegments along l.ways.ids.now l.ways.counts.now l.ways.segs.now
+      → l.notes ++ notes_along l.rings.outer.items l.rings.inner.items along l.rest l.behind.ids.now ≡ l.fn.notes ++ notes_along l.rings.outer.items l.rings.inner.items along l.members l.ways.ids.now;
+}
+
+abbrev pub decreases-loop-member : goal.decreases-loop-member
+decreases-loop-member l = length l.rest

@@ -3,7 +3,7 @@ use Rattle.std.proofs.Common.{rules, FitsSigned, w64, ◌≡◌, [], get_or, pos
 use Rattle.std.proofs.lemmas.Int.{to_z-of_z}
 use Rattle.osm_area.specs.Missing.{way_missing}
 use Rattle.osm_area.specs.Segments.{way_segments}
-use Rattle.osm_area.proofs.WholeWays.{pushed, some_of}
+use Rattle.osm_area.proofs.WholeWays.{counted, pushed, some_of}
 use Rattle.osm_area.proofs.segments.segments.Goals as goal
 
 pub returns-then-not-branch-clause-whole : goal.returns-then-not-branch-clause-whole
@@ -21,7 +21,10 @@ loop-way-preserved c =
     let same = to_z-of_z w64 way fits in
     record {
       segments = pushed (way_segments c.args.store.now) c.args.ways.now c.loop-way.way-index (pos 0) _ c.loop-way-test.true same
-          c.loop-way.segments.items c.add_segments.new.segments.items c.loop-way.invariant.segments (c.in_ok-add_segments.ensures.added c.if-not-branch.false);
+          c.loop-way.segs.items c.add_segments.new.segments.items c.loop-way.invariant.segments (c.in_ok-add_segments.ensures.added c.if-not-branch.false);
+      counts = counted (way_segments c.args.store.now) c.args.ways.now c.loop-way.way-index (pos 0) _ c.loop-way-test.true same
+          c.loop-way.segs.items c.add_segments.new.segments.items c.saturating_sub.result c.loop-way.counts.items c.push.new.self.items
+          (c.in_ok-add_segments.ensures.added c.if-not-branch.false) (search rules) c.loop-way.invariant.counts c.in_ok-push.ensures.items;
       whole = sym (pushed (way_missing c.args.store.now) c.args.ways.now c.loop-way.way-index (pos 0) _ c.loop-way-test.true same
           [] [] (sym c.loop-way.invariant.whole) (sym (c.in_ok-add_segments.ensures.whole.0 c.if-not-branch.false)));
     }

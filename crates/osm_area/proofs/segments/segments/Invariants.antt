@@ -1,4 +1,4 @@
-use Rattle.std.proofs.Common.{◌≡◌, [], take}
+use Rattle.std.proofs.Common.{◌≡◌, [], ℤ, length, map, take}
 use Rattle.std.specs.List.{flat_map}
 use Rattle.osm_area.specs.Missing.{way_missing}
 use Rattle.osm_area.specs.Segments.{way_segments}
@@ -6,6 +6,7 @@ use Rattle.osm_area.proofs.segments.segments.Given as goal
 
 abbrev pub invariant-loop-way : goal.invariant-loop-way
 invariant-loop-way l = record {
-  segments : l.segments.items ≡ flat_map (way_segments l.store) (take l.way-index l.ways);
+  segments : l.segs.items ≡ flat_map (way_segments l.store) (take l.way-index l.ways);
+  counts : l.counts.items ≡ map (λ (way : ℤ). length (way_segments l.store way)) (take l.way-index l.ways);
   whole : flat_map (way_missing l.store) (take l.way-index l.ways) ≡ [];
 }
