@@ -41,7 +41,7 @@ pub fn each_once<T: Eq + Hash + Copy>(
 ) -> Result<IndexSet<T>, OutOfMemory>
     ensures { IfOk result (λ s. s.keys ≡ each_once T.eq items.now) }
 {
-    let mut seen = IndexSet::new(alloc);
+    let mut seen = IndexSet::with_capacity(alloc, items.len())?;
     for &item in items {
         seen.insert(item)?;
     }
@@ -53,7 +53,7 @@ pub fn repeated<T: Eq + Hash + Copy>(alloc: Global, items: &[T]) -> Result<Index
     ensures { IfOk result (λ s. (x : T)
         → contains T.eq s x ≡ nat_le 2 (count_by (T.eq x) items.now)) }
 {
-    let mut seen = IndexSet::new(alloc);
+    let mut seen = IndexSet::with_capacity(alloc, items.len())?;
     let mut again = IndexSet::new(alloc);
     for &item in items {
         if !seen.insert(item)? {
