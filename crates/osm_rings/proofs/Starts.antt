@@ -1,5 +1,5 @@
 -- The departures in order: where those that begin at a point stand.
-use Rattle.std.proofs.Common.{◌≡◌, ◌≢◌, ℕ, ◌+◌, ◌-◌, ◌<◌, ◌≤◌, List, [], ◌∷◌, ◌++◌, length, get_or, drop, All, Result, Ok, Err, IfOk, Bool, true, false, not, set, Some, None, refl, sym, ap, subst, ◌∙◌, arith, ⊎_elim}
+use Rattle.std.proofs.Common.{◌≡◌, ◌≢◌, ◌⊎◌, inl, inr, ℕ, ◌+◌, ◌-◌, ◌<◌, ◌≤◌, List, [], ◌∷◌, ◌++◌, length, get_or, drop, All, Result, Ok, Err, IfOk, Bool, true, false, not, set, Some, None, refl, sym, ap, subst, ◌∙◌, arith, ⊎_elim}
 use Rattle.std.specs.List.{Contains, slice_range}
 use Rattle.std.specs.List.Sorted.{IsPartitionPoint, IsPartitionedBy, IsPermutation}
 use Rattle.std.specs.declared.cmp.Ordering.{Ordering}
@@ -8,11 +8,10 @@ use Rattle.std.specs.Ordering.{is_lt, ordering_reverse}
 use Rattle.std.proofs.lemmas.Bool.{cases_lt, false_from_ne_true}
 use Rattle.std.proofs.lemmas.Cmp.{tied_itself}
 use Rattle.std.proofs.lemmas.Grind.{get_or-set_at}
-use Rattle.std.proofs.lemmas.List.{get_or_default, get_or-set_other, get_or-map, get_or-take, get_or-drop, length-append, length-drop, length-take-le, get_or_append_left}
-use Rattle.std.proofs.lemmas.List.Elements.{All-contains, All-push}
+use Rattle.std.proofs.lemmas.List.{get_or_default, get_or-set_other, get_or-map, get_or-take, get_or-drop, length-append, length-drop, length-take-le}
+use Rattle.std.proofs.lemmas.List.Elements.{All-append, All-contains, All-nil, All-push, Contains-append_left, Contains-append_right}
 use Rattle.std.proofs.lemmas.List.MinMax.{ranks_by}
 use Rattle.std.proofs.lemmas.List.Sorted.{All-permutation, Contains-permutation, length_permutation}
-use Rattle.std.proofs.Math.Seq.{get_or-append_seam}
 use Rattle.plane.specs.Vector.{east}
 use Rattle.osm_geom.specs.declared.edge.Edge.{Edge}
 use Rattle.osm_geom.specs.declared.point.Point.{Point}
@@ -182,42 +181,59 @@ departure-of es w inside is = record {
   along = sym (get_or-map direction_of es w.place w.edge.now east inside ∙ ap direction_of (sym is));
 }
 
-pub record AreListed (es : List Edge) (n : ℕ) (ws : List Departure) : Type 0 where
-  pub sized : length ws ≡ n
-  pub edge : (i : ℕ) (d : Departure) → i < n → (get_or ws i d).place ≡ i
+-- one list or the other has the departure of each of these edges
+pub record AreListed (es : List Edge) (n : ℕ) (ws vs : List Departure) : Type 0 where
+  pub sized : length ws + length vs ≡ n
+  pub whole : (k : ℕ) → k < n → (w : Departure) × (Contains ws w ⊎ Contains vs w) × (w.place ≡ k)
   pub right : All (IsDepartureOf es) ws
+  pub others : All (IsDepartureOf es) vs
 
-pub listed-more : (es : List Edge) (n : ℕ) (ws : List Departure) (w : Departure) → AreListed es n ws → w.place ≡ n → IsDepartureOf es w → AreListed es (n + 1) (ws ++ w ∷ [])
-listed-more es n ws w l is right =
-    let sized = l.sized in
-    record {
-      sized = let e = length-append ws (w ∷ []) in omega arith;
-      edge = λ i d h. ⊎_elim
-          (λ m. ap (λ v. v.place) (get_or_append_left ws (w ∷ []) d i (omega arith)) ∙ l.edge i d m)
-          (λ m. let e : i ≡ n = omega arith in
-          ap (λ k. (get_or (ws ++ w ∷ []) k d).place) (e ∙ sym sized) ∙ (ap (λ v. v.place) (get_or-append_seam ws w [] d) ∙ (is ∙ sym e)))
-          (cases_lt i n);
-      right = All-push (IsDepartureOf es) ws w l.right right;
-    }
+pushed : (ws : List Departure) (w : Departure) → Contains (ws ++ w ∷ []) w
+pushed ws w = Contains-append_right ws (w ∷ []) w (0, omega arith, refl)
 
--- sorted, they are the departures of all edges
-pub listed-sorted : (es : List Edge) (ws vs : List Departure) (n : ℕ) → n ≡ length es → AreListed es n ws → IsPermutation ws vs → AreRising vs → AreClockwiseRound vs → AreDepartures es vs
-listed-sorted es ws vs n whole l moved rising round =
-    let sized = l.sized in
-    record {
-      sized = length_permutation ws vs moved ∙ (sized ∙ whole);
-      rising = rising;
-      round = round;
-      right = All-permutation (IsDepartureOf es) ws vs moved l.right;
-      whole = λ k h. with-departure ws refl (λ d.
-          let w = get_or ws k d in
-          let fits : k < length ws = omega arith in
-          (w, Contains-permutation ws vs w moved (k, fits, get_or_default ws k w d fits), l.edge k d (omega arith))) (omega arith);
-    }
-  where
-    with-departure : {G : Type 0} (xs : List Departure) → ws ≡ xs → (Departure → G) → 0 < length ws → G
-    with-departure [] e f h = let none : length ws ≡ 0 = ap length e in absurd (omega arith)
-    with-departure (x ∷ xs) e f h = f x
+pub listed-none : (es : List Edge) → AreListed es 0 [] []
+listed-none es = record {
+  sized = refl;
+  whole = λ k h. absurd (omega arith);
+  right = All-nil (IsDepartureOf es);
+  others = All-nil (IsDepartureOf es);
+}
+
+module _ (es : List Edge) (n : ℕ) (ws vs : List Departure) (w : Departure) (l : AreListed es n ws vs) (is : w.place ≡ n) (right : IsDepartureOf es w) where
+  pub listed-more : AreListed es (n + 1) (ws ++ w ∷ []) vs
+  listed-more = record {
+    sized = let e = length-append ws (w ∷ []) in let sized = l.sized in omega arith;
+    whole = λ k h. ⊎_elim
+        (λ m. let found = l.whole k m in (found.0, ⊎_elim (λ c. inl (Contains-append_left ws (w ∷ []) found.0 c)) inr found.1, found.2))
+        (λ m. let e : n ≡ k = omega arith in (w, inl (pushed ws w), is ∙ e))
+        (cases_lt k n);
+    right = All-push (IsDepartureOf es) ws w l.right right;
+    others = l.others;
+  }
+
+  pub listed-other : AreListed es (n + 1) ws (vs ++ w ∷ [])
+  listed-other = record {
+    sized = let e = length-append vs (w ∷ []) in let sized = l.sized in omega arith;
+    whole = λ k h. ⊎_elim
+        (λ m. let found = l.whole k m in (found.0, ⊎_elim inl (λ c. inr (Contains-append_left vs (w ∷ []) found.0 c)) found.1, found.2))
+        (λ m. let e : n ≡ k = omega arith in (w, inr (pushed vs w), is ∙ e))
+        (cases_lt k n);
+    right = l.right;
+    others = All-push (IsDepartureOf es) vs w l.others right;
+  }
+
+-- joined and sorted, they are the departures of all edges
+pub listed-sorted : (es : List Edge) (ws vs us : List Departure) (n : ℕ) → n ≡ length es → AreListed es n ws vs → IsPermutation (ws ++ vs) us → AreRising us → AreClockwiseRound us → AreDepartures es us
+listed-sorted es ws vs us n whole l moved rising round = record {
+  sized = let joined = length-append ws vs in let sized = l.sized in let same = length_permutation (ws ++ vs) us moved in omega arith;
+  rising = rising;
+  round = round;
+  right = All-permutation (IsDepartureOf es) (ws ++ vs) us moved (All-append (IsDepartureOf es) ws vs l.right l.others);
+  whole = λ k h.
+      let found = l.whole k (omega arith) in
+      let w = found.0 in
+      (w, Contains-permutation (ws ++ vs) us w moved (⊎_elim (Contains-append_left ws vs w) (Contains-append_right ws vs w) found.1), found.2);
+}
 
 -- ---- the numbers of the nodes
 

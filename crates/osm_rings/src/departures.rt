@@ -14,6 +14,7 @@ use crate::sort_keys::sort_key;
 use osm_geom::{Dir, Edge, Point, clockwise, compare_points, order_points};
 use std::alloc::{AllocError as OutOfMemory, Global};
 use std::cmp::Ordering;
+use std::mem;
 
 /// The direction from which the departures round a point are told, clockwise.
 pub const EAST: Dir = Dir { dx: 1, dy: 0 };
@@ -110,15 +111,29 @@ fn departure_of<'a>(edge: &'a Edge, place: usize) -> Departure<'a>
     }
 }
 
+/// Whether an edge runs from its lower end to its upper one.
+fn runs_up(edge: &Edge) -> bool {
+    order_points(&edge.from, &edge.to).is_lt()
+}
+
 /// The departures of the edges, in order.
 pub fn departures<'a>(alloc: Global, edges: &'a [Edge]) -> Result<Vec<Departure<'a>>, OutOfMemory>
     ensures { IfOk result (λ v. AreDepartures edges.now v.items) }
 {
-    let mut departures = Vec::with_capacity(alloc, edges.len())?;
+    // Edges in order of their lower ends leave half to be sorted: where they run up, so do their departures.
+    let mut up = Vec::with_capacity(alloc, edges.len())?;
+    let mut down = Vec::with_capacity(alloc, edges.len())?;
     for (place, edge) in edges.iter().enumerate() {
-        departures.push(departure_of(edge, place))?;
+        let departure = departure_of(edge, place);
+        if runs_up(edge) {
+            up.push(departure)?;
+        } else {
+            down.push(departure)?;
+        }
     }
-    in_order(departures)
+    up.append(&mut down)?;
+    mem::drop(down);
+    in_order(up)
 }
 
 /// Whether a departure leaves an earlier point than p.
