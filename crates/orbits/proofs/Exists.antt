@@ -25,7 +25,7 @@ module _ (next : List (Option ℕ)) (map : IsOneToOne next) where
       (λ none. starts_from fuel (n + 1) starts (starts_pass next map starts n s none) (omega arith))
       (some_or_none (after next n))
 
-  starts_exist : (starts : List Bool) × AreStarts next starts
+  pub starts_exist : (starts : List Bool) × AreStarts next starts
   starts_exist = starts_from (length next) 0 (replicate (length next) true)
       (record {
         sized = length-replicate (length next) true;
@@ -47,7 +47,7 @@ module _ (next : List (Option ℕ)) (map : IsOneToOne next) where
       apart : (x : ℕ) → Some x ≡ None → ⊥
       apart x p = cc
 
-  walk_exists : (from : ℕ) → from < length next → (o : List ℕ) × IsWholeWalk next from o
+  pub walk_exists : (from : ℕ) → from < length next → (o : List ℕ) × IsWholeWalk next from o
   walk_exists from h = walk_from from (length next) from (from ∷ []) (walk_to_start next map from h) (omega arith)
 
   module _ (starts : List Bool) (are : AreStarts next starts) where

@@ -1,4 +1,5 @@
-pub mod CutSteps
+pub mod Closed
+mod CutSteps
 pub mod Exists
 pub mod Finding
 pub mod Marking

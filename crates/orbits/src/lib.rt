@@ -9,4 +9,4 @@ mod tests;
 
 pub use cutting::cut;
 pub use laws::{each_stands_once, orbits_are_determined};
-pub use orbit::orbits;
+pub use orbit::{cycles, orbits};

@@ -27,6 +27,15 @@ fn chains_and_cycles(rt: HostRuntime) -> Result<(), OutOfMemory> {
 }
 
 #[test]
+fn cycles_alone(rt: HostRuntime) -> Result<(), OutOfMemory> {
+    let found = cycles(rt.alloc(), &[Some(3), Some(1), Some(0), Some(2)])?;
+    assert_eq!(rt; found.len(), 2);
+    assert_eq!(rt; found[0].as_slice(), [0, 3, 2].as_slice());
+    assert_eq!(rt; found[1].as_slice(), [1].as_slice());
+    Ok(())
+}
+
+#[test]
 fn loops_within_loops(rt: HostRuntime) -> Result<(), OutOfMemory> {
     // The items leave the keys P Q R Q S P T.
     let keys = [2, 1, 0, 4, 3];
