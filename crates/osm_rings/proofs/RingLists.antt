@@ -1,5 +1,5 @@
 -- What is cut off the walks of successors is a ring list.
-use Rattle.std.proofs.Common.{◌≡◌, inl, inr, ℕ, suc, zero, ◌-◌, ◌<◌, ◌≤◌, List, [], ◌∷◌, length, get_or, map, All, Option, Some, Result, Ok, Err, IfOk, refl, sym, ap, subst, ◌∙◌, arith}
+use Rattle.std.proofs.Common.{◌≡◌, ◌≢◌, None, inl, inr, ℕ, suc, zero, ◌-◌, ◌<◌, ◌≤◌, List, [], ◌∷◌, length, get_or, map, All, Option, Some, Result, Ok, Err, IfOk, refl, sym, ap, subst, ◌∙◌, arith}
 use Rattle.std.proofs.lemmas.List.{get_or-map, length-map, map-append}
 use Rattle.std.proofs.lemmas.List.Elements.{All-cons, All-nil}
 use Rattle.nesting.specs.RingList.{IsRingList}
@@ -127,6 +127,13 @@ pub successors-of : (es : List Edge) → IsSided es → (next : List (Option ℕ
 successors-of es sided next sized met =
     let long = size es in
     are-successors (whole_edges es) sided next (omega arith) (λ i h. met i (omega arith))
+
+-- each place leads on
+pub all-go-on : (xs : List plane.Edge) (next : List (Option ℕ)) → AreSuccessors xs next → (i : ℕ) → i < length next → after next i ≢ None
+all-go-on xs next are i h none =
+    let sized = are.sized in
+    let on = are.total i (omega arith) in
+    absurd (cc (sym none ∙ on.1))
 
 pub all-unmapped : {V X : Type 0} (P : X → Type 0) (f : V → X) (vs : List V) → All P (map f vs) → All (λ v. P (f v)) vs
 all-unmapped P f vs h k d l =

@@ -13,7 +13,7 @@ ghost use Rattle.osm_rings.specs.RingList.{AreRingsOf};
 use crate::lone_rings::FEW;
 use crate::ring::Rings;
 use crate::ring_list::rings_of;
-use orbits::orbits;
+use orbits::cycles;
 use osm_geom::{Edge, Point, order_points};
 use std::alloc::{AllocError as OutOfMemory, Global};
 
@@ -80,7 +80,7 @@ pub fn walked_rings(
         (after next.now i) }
     ensures { IfOk result (λ v. AreRingsOf edges.now v) }
 {
-    let walks = orbits(alloc, next)?;
+    let walks = cycles(alloc, next)?;
     rings_of(alloc, edges, &walks)
 }
 

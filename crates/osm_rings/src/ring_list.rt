@@ -14,7 +14,7 @@ use crate::departures::{Departure, are_apart, departures, node_numbers};
 use crate::lone_rings::lone_ring;
 use crate::ring::{Ring, Rings};
 use crate::successors::successors;
-use orbits::{cut, orbits};
+use orbits::{cut, cycles};
 use osm_geom::Edge;
 use std::alloc::{AllocError as OutOfMemory, Global};
 use std::mem;
@@ -35,7 +35,7 @@ fn cut_walks(
     ensures { IfOk result (λ v. AreRingsOf edges.now v) }
 {
     let numbers = node_numbers(alloc, edges, departures)?;
-    let walks = orbits(alloc, next)?;
+    let walks = cycles(alloc, next)?;
     let pieces = pieces(alloc, &walks, &numbers)?;
     rings_of(alloc, edges, &pieces)
 }
@@ -120,7 +120,7 @@ pub fn rings_of(alloc: Global, edges: &[Edge], pieces: &[Vec<usize>]) -> Result<
     requires rings { All (λ p. IsRing (edges_at edges.now p.items)) pieces.now }
     ensures { IfOk result (λ v. v ≡ map (λ p. edges_at edges.now p.items) pieces.now) }
 {
-    let mut rings = Rings::new(alloc);
+    let mut rings = Rings::with_capacity(alloc, pieces.len())?;
     for piece in pieces {
         rings.push(Ring::of_edges(edges_at(alloc, edges, piece)?))?;
     }

@@ -2,17 +2,21 @@
 use Rattle.std.proofs.Common.{◌≡◌, ◌<◌, All, ap, length, map, subst, sym, ◌∙◌}
 use Rattle.orbits.specs.Orbits.{AreOrbits}
 use Rattle.orbits.proofs.Sums.{all_below, sums_agree}
+use Rattle.plane_edges.specs.Multiple.{whole_edges}
 use Rattle.osm_rings.specs.Pieces.{edges_at}
 use Rattle.osm_rings.specs.Ring.{IsRing}
 use Rattle.osm_rings.specs.RingList.{AreRingsOf}
 use Rattle.osm_rings.proofs.ApartEdges.{numbers, orbits-cut, places-tell}
-use Rattle.osm_rings.proofs.RingLists.{all-unmapped, if-ok, mapped-twice, pieces-are-rings, pieces-inside, pieces-ring, successors-of}
+use Rattle.osm_rings.proofs.RingLists.{all-go-on, all-unmapped, if-ok, mapped-twice, pieces-are-rings, pieces-inside, pieces-ring, successors-of}
 use Rattle.osm_rings.proofs.apart_rings.walked_rings.Goals as goal
 
-pub orbits-requires : goal.orbits-requires
-orbits-requires c =
+pub cycles-requires-clause-map : goal.cycles-requires-clause-map
+cycles-requires-clause-map c =
     let are = successors-of c.args.edges.now c.requires.sided c.args.next.now c.requires.sized c.requires.first in
     are.map
+
+pub cycles-requires-clause-total : goal.cycles-requires-clause-total
+cycles-requires-clause-total c = all-go-on (whole_edges c.args.edges.now) c.args.next.now (successors-of c.args.edges.now c.requires.sided c.args.next.now c.requires.sized c.requires.first)
 
 pub rings_of-requires-clause-inside : goal.rings_of-requires-clause-inside
 rings_of-requires-clause-inside c =
