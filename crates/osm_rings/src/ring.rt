@@ -76,15 +76,13 @@ impl Ring {
         Ok(Ring::of_edges(turned))
     }
 
-    /// The same as `from_least` gives, in the ring's own memory.
-    pub fn turned_to_least(self) -> Ring
-        ensures turned { IsRotated self result }
-        ensures least { BeginsLeast result }
+    /// What `from_least` gives, in the ring's own memory.
+    pub fn turn_to_least(&mut self)
+        ensures turned { IsRotated self.old self.new }
+        ensures least { BeginsLeast self.new }
     {
-        let mut edges = self.edges;
-        let least = least_start(&edges);
-        edges.rotate_left(least);
-        Ring::of_edges(edges)
+        let least = least_start(self.as_slice());
+        self.edges.rotate_left(least);
     }
 }
 
