@@ -24,6 +24,7 @@ mod NestingExists
 mod OneOuter
 mod Parting
 mod Places
+mod PolygonOfAll
 mod RingAnchors
 mod RingEdges
 mod StatusSteps

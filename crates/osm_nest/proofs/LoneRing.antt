@@ -1,12 +1,7 @@
--- One ring alone is outer, and a polygon.
-use Rattle.std.proofs.Common.{Bool, List, None, Option, [], arith, false, get_or, length, not, refl, subst, sym, true, ℕ, ◌<◌, ◌∙◌, ◌∷◌, ◌≡◌}
-use Rattle.std.proofs.lemmas.List.{get_or_default, length-map}
-use Rattle.std.proofs.lemmas.List.Sorted.{IsPermutation-refl}
+-- One ring alone is outer.
+use Rattle.std.proofs.Common.{Bool, List, [], arith, false, get_or, length, not, refl, subst, true, ◌<◌, ◌≡◌}
+use Rattle.std.proofs.lemmas.List.{length-map}
 use Rattle.osm_geom.specs.declared.edge.Edge.{Edge}
-use Rattle.osm_nest.specs.declared.rings_from_least.RingFromLeast.{RingFromLeast}
-use Rattle.osm_nest.specs.declared.polygon.Polygon.{Polygon}
-use Rattle.osm_nest.specs.Grouped.{IsFromLeastAt, IsGrouping, IsLone, polygons_of}
-use Rattle.osm_nest.specs.Enclosers.{IsDirectEncloser}
 use Rattle.osm_nest.specs.Outer.{IsOuter}
 use Rattle.osm_nest.specs.RingLists.{AreRings}
 use Rattle.lists.proofs.ListsKit.{clash, in-map, in-map-out, some_member}
@@ -16,12 +11,9 @@ use Rattle.winding.specs.Ring.{IsAnchor}
 use Rattle.winding.proofs.WindingKit.{some-anchor}
 use Rattle.osm_nest.specs.Outer.{AreConflictFree, IsAnchorOf}
 use Rattle.osm_nest.specs.RingLists.{all_edges}
-use Rattle.osm_nest.proofs.DirectEnclosers.{clear-at, listed, outer-encloser, ring-in, some-encloser}
+use Rattle.osm_nest.proofs.DirectEnclosers.{clear-at, listed, ring-in, some-encloser}
 use Rattle.osm_nest.proofs.Leftmost.{along, segments_along}
 use Rattle.osm_nest.proofs.RingAnchors.{anchor-of, inner-by, outer-by, plain-along}
-
-polygons_of-one : (b : RingFromLeast) → b.place ≡ 0 → polygons_of (None ∷ []) (b ∷ []) ≡ record { outer = b.ring; inners = [] } ∷ []
-polygons_of-one b first = subst (λ n. polygons_of (None ∷ []) (record { start = b.start; place = n; ring = b.ring } ∷ []) ≡ record { outer = b.ring; inners = [] } ∷ []) (sym first) refl
 
 -- an edge of it runs along its anchor
 anchor-there : (r : List Edge) → AreConflictFree r → 0 < length r → (a : Edge) × IsAnchorOf a r
@@ -52,31 +44,3 @@ lone-outer rs are one =
         absurd (some-encloser rs are 0 inside a an inner (λ k low enc.
         let first : k ≡ 0 = omega (arith, one, low) in
         clash (not (runs_up a)) ((outer-by r clear a an).1 (subst (λ n. IsOuter (get_or rs n [])) first enc.outer)) h))
-
-pub lone-grouping : (rs : List (List Edge)) → AreRings rs → length rs ≡ 1 → (r : List Edge) → r ≡ get_or rs 0 r → (v : List Polygon) → IsLone r v → IsGrouping rs v
-lone-grouping rs are one r is v (b, at, made) =
-    let inside : 0 < length rs = omega (arith, one) in
-    let outer = lone-outer rs are one in
-    let here : r ≡ get_or rs 0 [] = is ∙ get_or_default rs 0 r [] inside in
-    record {
-      enclosers = None ∷ [];
-      begun = b ∷ [];
-      right = record {
-        sized = sym one;
-        right = λ place h.
-            let first : 0 ≡ place = omega (arith, one, h) in
-            subst (λ k. IsDirectEncloser rs k (get_or {A = Option ℕ} (None ∷ []) k None)) first (outer-encloser rs are 0 inside outer);
-      };
-      in_turn = record {
-        listed = b ∷ [];
-        are = record {
-          sized = sym one;
-          each = λ place d h.
-              let first : 0 ≡ place = omega (arith, one, h) in
-              subst (λ k. IsFromLeastAt (get_or rs k []) k (get_or (b ∷ []) k d)) first (subst (λ ring. IsFromLeastAt ring 0 b) here at);
-        };
-        moved = IsPermutation-refl (b ∷ []);
-        order = λ i j d h l. absurd (omega arith);
-      };
-      is = made ∙ sym (polygons_of-one b at.here);
-    }

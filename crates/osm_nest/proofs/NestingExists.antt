@@ -5,8 +5,7 @@ use Rattle.std.specs.List.Sorted.{IsPermutation, IsSortedBy}
 use Rattle.std.specs.Ordering.{is_lt}
 use Rattle.std.specs.declared.cmp.Ordering.{Ordering}
 use Rattle.std.specs.declared.cmp.Ordering.TheVariants.{Equal, Greater, Less}
-use Rattle.std.proofs.lemmas.List.{get_or-map, get_or_default, length-append, length-map, take-append-drop}
-use Rattle.std.proofs.lemmas.List.MinMax.{ranks_by}
+use Rattle.std.proofs.lemmas.List.{get_or-map, get_or_default, length-map, take-append-drop}
 use Rattle.std.proofs.lemmas.List.Sorted.{IsPermutation-append_comm, IsPermutation-append_left, IsPermutation-cons, IsPermutation-refl, IsPermutation-trans}
 use Rattle.nesting.specs.Nesting.{EnclosesDirectly, IsInnerRing}
 use Rattle.nesting.proofs.NestingKit.{encloser_exists, is_outer_by, outer-in, rings-anchors, rings-tell}
@@ -19,12 +18,13 @@ use Rattle.osm_geom.specs.Point.{point_cmp}
 use Rattle.plane_edges.specs.Multiple.{common_den, edge_times, edges_times}
 use Rattle.osm_nest.specs.declared.rings_from_least.RingFromLeast.{RingFromLeast}
 use Rattle.osm_nest.specs.declared.polygon.Polygon.{Polygon}
-use Rattle.osm_nest.specs.Grouped.{AreSortedFromLeast, AreListed, IsFromLeastAt, polygons_of, start_cmp}
+use Rattle.osm_nest.specs.Grouped.{AreSortedFromLeast, AreListed, IsFromLeastAt, polygons_of}
 use Rattle.osm_nest.specs.Enclosers.{AreDirectEnclosers, IsDirectEncloser, segments_at}
-use Rattle.osm_nest.specs.Nested.{AreNested, IsFromLeast}
+use Rattle.osm_nest.specs.Nested.{AreNested, IsFromLeast, edge_cmp}
 use Rattle.osm_nest.specs.RingLists.{AreRings, all_edges, whole_rings}
 use Rattle.osm_nest.proofs.GroupedRings.{nested}
-use Rattle.osm_nest.proofs.Turns.{starts-total, turns}
+use Rattle.osm_nest.proofs.Places.{stand}
+use Rattle.osm_nest.proofs.Turns.{begun-some, first-ranks, turns}
 use Rattle.osm_rings.specs.LeastStart.{IsLesserStart}
 use Rattle.osm_rings.proofs.LeastStarts.{IsLeastUpTo, least-more, least-start}
 use Rattle.osm_rings.proofs.TurnedRings.{turned-least}
@@ -152,18 +152,7 @@ begun-of es some =
     )
 
 begun-at : (es : List Edge) (place : ℕ) → 0 < length es → (b : RingFromLeast) × IsFromLeastAt es place b
-begun-at es place some =
-    let r = begun-of es some in
-    let t = r.1.turned in
-    let long : 0 < length r.0 = let a = ap length t.old in let b = ap length t.new in let c = length-append t.front t.back in let d = length-append t.back t.front in omega arith in
-    let e = first-of r.0 long in (
-      record { start = record { from = e.0.from; to = e.0.to }; place = place; ring = r.0 },
-      record {
-        here = refl;
-        turned = r.1;
-        starts = record { from = λ d. ap (λ (x : Edge). x.from) (e.1 d); to = λ d. ap (λ (x : Edge). x.to) (e.1 d) };
-      },
-    )
+begun-at es place some = let r = begun-of es some in (record { place = place; ring = r.0 }, record { here = refl; turned = r.1 })
 
 -- ---- enclosers
 module _ (rs : List (List Edge)) (are : AreRings rs) where
@@ -208,16 +197,29 @@ module _ (rs : List (List Edge)) (are : AreRings rs) where
       let c = chosen (λ n b. IsFromLeastAt (get_or rs n []) n b) (length rs) (λ n h. begun-at (get_or rs n []) n (some-edge n h)) in
       (c.0, record { sized = c.1; each = c.2 })
 
-  abbrev before : RingFromLeast → RingFromLeast → Bool
-  before b c = is_lt (start_cmp b.start c.start)
+  abbrev before : Edge → RingFromLeast → RingFromLeast → Bool
+  before d b c = is_lt (edge_cmp (get_or b.ring 0 d) (get_or c.ring 0 d))
 
-  before-ranks : IsStrictWeakOrder before
-  before-ranks = ranks_by starts-total (λ (b : RingFromLeast). b.start)
+  turn-by : (listed : List RingFromLeast) → AreListed rs (length rs) listed → (bs : List RingFromLeast) × AreSortedFromLeast rs bs
+  turn-by [] all = ([], turns rs are [] [] all (IsPermutation-refl []) (λ d k x l m. absurd (omega arith)))
+  turn-by (b ∷ bs) all =
+      let size = all.sized in
+      let e = (first-of b.ring (begun-some rs are 0 b (omega arith) (all.each 0 b (omega arith)))).0 in
+      let order = first-ranks e in
+      let moved = sorted-moves (before e) order (b ∷ bs) in
+      let made = sorted (before e) order (b ∷ bs) in
+      let same = λ (k : ℕ) (d : Edge) (z : RingFromLeast) (l : k < length made).
+      let at = stand rs (b ∷ bs) made all moved k z l in
+      get_or_default (get_or made k z).ring 0 e d (begun-some rs are (get_or made k z).place (get_or made k z) at.0 at.1) in (
+        made,
+        turns rs are (b ∷ bs) made all moved (λ d k z l m.
+            subst (λ (x : Edge). is_lt (edge_cmp x (get_or (get_or made k z).ring 0 d)) ≡ false) (same (k + 1) d z (omega arith))
+            (subst (λ (x : Edge). is_lt (edge_cmp (get_or (get_or made (k + 1) z).ring 0 e) x) ≡ false) (same k d z (omega arith))
+            (sorted-order (before e) order (b ∷ bs) k z l m))),
+      )
 
   turn-exists : (bs : List RingFromLeast) × AreSortedFromLeast rs bs
-  turn-exists =
-      let l = listed-exists in
-      (sorted before before-ranks l.0, turns rs are l.0 (sorted before before-ranks l.0) l.1 (sorted-moves before before-ranks l.0) (sorted-order before before-ranks l.0))
+  turn-exists = let l = listed-exists in turn-by l.0 l.1
 
   pub nesting_exists : (ps : List Polygon) × AreNested rs ps
   nesting_exists = let h = enclosers-exist in let t = turn-exists in (polygons_of h.0 t.0, nested rs are h.0 h.1 t.0 t.1)

@@ -1,31 +1,36 @@
 -- Rings begun at their least nodes, in order, and gathered under the outer ones. No public contract cites it.
-use Rattle.std.specs.Prelude.{All, AllPairs, Bool, List, None, Option, Some, [], false, map, nat_eq, slice_index_or, true, ℕ, length, ◌<◌, ◌∷◌, ◌≡◌, ◌≢◌}
+use Rattle.std.specs.Prelude.{All, AllPairs, Bool, List, None, Option, Some, [], false, map, nat_eq, remove, slice_index_or, suc, true, ℕ, length, ◌<◌, ◌∷◌, ◌≡◌, ◌≢◌}
 use Rattle.std.specs.List.{filter}
-use Rattle.std.specs.List.Sorted.{IsPermutation}
-use Rattle.std.specs.Ordering.{ordering_then}
-use Rattle.std.specs.declared.cmp.Ordering.{Ordering}
+use Rattle.std.specs.List.Sorted.{IsPermutation, IsSortedBy}
+use Rattle.std.specs.Ordering.{is_lt}
 use Rattle.osm_geom.specs.declared.edge.Edge.{Edge}
-use Rattle.osm_geom.specs.Point.{point_cmp}
 use Rattle.osm_nest.specs.declared.rings_from_least.RingFromLeast.{RingFromLeast}
-use Rattle.osm_nest.specs.declared.rings_from_least.Start.{Start}
 use Rattle.osm_nest.specs.declared.polygon.Polygon.{Polygon}
 use Rattle.osm_nest.specs.Enclosers.{AreDirectEnclosers}
-use Rattle.osm_nest.specs.Nested.{IsBefore, IsFromLeast}
+use Rattle.osm_nest.specs.Nested.{IsBefore, IsFromLeast, edge_cmp}
+use Rattle.osm_nest.specs.RingLists.{AreRings}
 
--- the first edge of the ring has these ends
-pub record StartsAt (ring : List Edge) (start : Start) : Type 0 where
-  pub from : (d : Edge) → (slice_index_or ring 0 d).from ≡ start.from
-  pub to : (d : Edge) → (slice_index_or ring 0 d).to ≡ start.to
+-- rings begun at their least nodes where they stood
+pub record AreTurned (rs turned : List (List Edge)) : Type 0 where
+  pub sized : length turned ≡ length rs
+  pub each : (place : ℕ) → place < length rs → IsFromLeast (slice_index_or rs place []) (slice_index_or turned place [])
 
--- by the first end, then by the second
-abbrev pub start_cmp : Start → Start → Ordering
-start_cmp s t = ordering_then (point_cmp s.from t.from) (point_cmp s.to t.to)
+-- none begins before the one before it
+abbrev pub AreStartsSorted : List (List Edge) → Type 0
+AreStartsSorted rs = (d : Edge) → IsSortedBy (λ (r s : List Edge). is_lt (edge_cmp (slice_index_or r 0 d) (slice_index_or s 0 d))) rs
+
+abbrev pub ArePlacesSorted : List RingFromLeast → Type 0
+ArePlacesSorted begun = (d : Edge) → IsSortedBy (λ (b c : RingFromLeast). is_lt (edge_cmp (slice_index_or b.ring 0 d) (slice_index_or c.ring 0 d))) begun
+
+-- rings with their places, which count from one on
+abbrev pub placed_from : ℕ → List (List Edge) → List RingFromLeast
+placed_from n [] = []
+placed_from n (r ∷ rs) = record { place = n; ring = r } ∷ placed_from (suc n) rs
 
 -- the ring at a place, begun at its least node
 pub record IsFromLeastAt (ring : List Edge) (place : ℕ) (begun : RingFromLeast) : Type 0 where
   pub here : begun.place ≡ place
   pub turned : IsFromLeast ring begun.ring
-  pub starts : StartsAt begun.ring begun.start
 
 -- the first of the rings, each begun at its least node
 pub record AreListed (rs : List (List Edge)) (count : ℕ) (listed : List RingFromLeast) : Type 0 where
@@ -86,6 +91,12 @@ pub record IsGrouping (rs : List (List Edge)) (polygons : List Polygon) : Type 0
   pub in_turn : AreSortedFromLeast rs begun
   pub is : polygons ≡ polygons_of enclosers begun
 
--- the polygon of one ring alone, begun at its least node
-abbrev pub IsLone : List Edge → List Polygon → Type 0
-IsLone ring polygons = (b : RingFromLeast) × IsFromLeastAt ring 0 b × (polygons ≡ record { outer = b.ring; inners = [] } ∷ [])
+-- the ring at a place with all others
+abbrev pub polygons_of_all : ℕ → List (List Edge) → List Polygon
+polygons_of_all outer rings = record { outer = slice_index_or rings outer []; inners = remove rings outer } ∷ []
+
+-- turned rings may be put under enclosers
+pub record MayBeGrouped (rs begun : List (List Edge)) (enclosers : List (Option ℕ)) : Type 0 where
+  pub rings : AreRings rs
+  pub turned : AreTurned rs begun
+  pub right : AreDirectEnclosers rs enclosers

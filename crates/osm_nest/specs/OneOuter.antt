@@ -1,16 +1,30 @@
--- Rings of which one alone is outer, by the answers whether each is. No public contract cites it.
-use Rattle.std.specs.Prelude.{Bool, List, false, get_or, length, true, ℕ, ◌<◌, ◌≡◌, ◌≤◌}
+-- Rings of which one alone is outer. No public contract cites it.
+use Rattle.std.specs.Prelude.{List, Option, [], get_or, length, nat_eq, not, suc, zero, ℕ, ◌<◌, ◌∷◌, ◌≢◌, ◌≤◌}
+use Rattle.std.specs.Bool.{then_some}
+use Rattle.osm_geom.specs.declared.edge.Edge.{Edge}
+use Rattle.osm_nest.specs.Outer.{IsInner, IsOuter}
 
 -- none of the rings from a place up to another is outer
-abbrev pub AreInnerBetween : List Bool → ℕ → ℕ → Type 0
-AreInnerBetween outer from to = (k : ℕ) → from ≤ k → k < to → get_or outer k false ≡ false
+abbrev pub AreInnerBetween : List (List Edge) → ℕ → ℕ → Type 0
+AreInnerBetween rs from to = (k : ℕ) → from ≤ k → k < to → IsInner (get_or rs k [])
 
 -- the first outer ring stands at the place
-pub record IsFirstOuter (outer : List Bool) (place : ℕ) : Type 0 where
-  pub inside : place < length outer
-  pub before : AreInnerBetween outer 0 place
+pub record IsFirstOuter (rs : List (List Edge)) (place : ℕ) : Type 0 where
+  pub inside : place < length rs
+  pub outer : IsOuter (get_or rs place [])
+  pub before : AreInnerBetween rs 0 place
 
--- the ring at the place is the only outer one, if any is
-pub record IsOnlyOuter (outer : List Bool) (place : ℕ) : Type 0 where
-  pub inside : place < length outer
-  pub only : (k : ℕ) → k < length outer → get_or outer k false ≡ true → k ≡ place
+-- the ring at the place is outer, and all others are inner
+pub record IsOnlyOuter (rs : List (List Edge)) (place : ℕ) : Type 0 where
+  pub inside : place < length rs
+  pub outer : IsOuter (get_or rs place [])
+  pub others : (k : ℕ) → k < length rs → k ≢ place → IsInner (get_or rs k [])
+
+-- what encloses the ring at a place
+abbrev pub encloser_under : ℕ → ℕ → Option ℕ
+encloser_under only place = then_some (not (nat_eq place only)) only
+
+-- the same for so many places from one on
+abbrev pub enclosers_under : ℕ → ℕ → ℕ → List (Option ℕ)
+enclosers_under only from zero = []
+enclosers_under only from (suc n) = encloser_under only from ∷ enclosers_under only (suc from) n

@@ -8,7 +8,6 @@ ghost use Rattle.osm_nest.specs.Enclosers.{AreDirectEnclosers, IsDirectEncloser,
 ghost use Rattle.osm_nest.specs.RingLists.{AreRings};
 ghost use Rattle.osm_nest.specs.SweptEdges.{AreKnown};
 
-use crate::one_outer::{inside_one, only_outer};
 use crate::outer::lower_end;
 use crate::ring_anchors::{Anchors, find_anchors};
 use crate::swept_enclosers::{none_known, swept_enclosers};
@@ -32,9 +31,6 @@ pub(crate) fn direct_enclosers(
     ensures { IfOk result (λ enclosers. AreDirectEnclosers rings.now enclosers.items) }
 {
     let anchors = find_anchors(alloc, rings)?;
-    if let Some(only) = only_outer(&anchors.outer) {
-        return inside_one(alloc, rings, &anchors.outer, only);
-    }
     let known = known_enclosers(alloc, rings, &anchors)?;
     let mut enclosers = Vec::with_capacity(alloc, rings.len())?;
     for place in 0..rings.len() {

@@ -2,7 +2,7 @@
 
 use crate::enclosers::{is_around, nearest_right};
 use crate::outer::{first_of, lower_end};
-use crate::rings_from_least::{Start, compare_starts};
+use crate::rings_from_least::compare_starts;
 use osm_geom::{Carrier, Edge, Loc, Part, Point, Seg, spans_height};
 use std::cmp::Ordering;
 use std::test::Fail;
@@ -110,14 +110,6 @@ fn beside_an_anchor_at_a_fractional_point(rt: HostRuntime) -> Result<(), Fail> {
     Ok(())
 }
 
-/// Where an edge begins.
-fn start(edge: Edge) -> Start {
-    Start {
-        from: edge.from,
-        to: edge.to,
-    }
-}
-
 #[test]
 fn rings_begun_at_fractional_points(rt: HostRuntime) -> Result<(), Fail> {
     let edges = three_triangles();
@@ -128,7 +120,7 @@ fn rings_begun_at_fractional_points(rt: HostRuntime) -> Result<(), Fail> {
         (6, 1, Ordering::Equal),
     ];
     for (first, second, order) in rows {
-        let found = compare_starts(&start(edges[first]), &start(edges[second]));
+        let found = compare_starts(&edges[first], &edges[second]);
         assert_eq!(rt; found, order, "{first} and {second}");
     }
     Ok(())

@@ -3,15 +3,17 @@ ghost use Rattle.std.specs.Prelude.{All, AllPairs, IfOk, List, OnOk, [], length,
 ghost use Rattle.std.specs.List.{filter};
 ghost use Rattle.osm_geom.specs.declared.edge.Edge.{Edge};
 ghost use Rattle.osm_nest.specs.Cover.{AreSided, CoverAsRings};
-ghost use Rattle.osm_nest.specs.Grouped.{ArePlaced, AreWithin, IsGrouping, IsLone, polygons_of, rings_under, stands_first, with_under};
+ghost use Rattle.osm_nest.specs.Grouped.{ArePlaced, AreWithin, IsGrouping, MayBeGrouped, polygons_of, polygons_of_all, rings_under, stands_first, with_under};
 ghost use Rattle.osm_nest.specs.Nested.{AreNested, HasKinds};
+ghost use Rattle.osm_nest.specs.OneOuter.{IsOnlyOuter};
 ghost use Rattle.osm_nest.specs.Polygons.{rings_of};
 ghost use Rattle.osm_nest.specs.RingLists.{AreRings};
 ghost use Rattle.osm_geom.specs.WholeSegment.{IsWholeSegment};
 
 use crate::enclosers::direct_enclosers;
+use crate::one_outer::{inside_one, only_outer};
 use crate::polygon::{Polygon, Polygons};
-use crate::rings_from_least::{RingFromLeast, ring_from_least, sorted_from_least};
+use crate::rings_from_least::{RingFromLeast, are_in_order, sorted, turned};
 use osm_rings::{Ring, Rings};
 use std::alloc::{AllocError as OutOfMemory, Global};
 use std::mem;
@@ -90,30 +92,71 @@ fn polygons_of(
     with_inner_rings(alloc, outers, under)
 }
 
-/// The polygon of one outer ring.
-fn lone_polygon(alloc: Global, ring: &Ring) -> Result<Polygons, OutOfMemory>
-    ensures { IfOk result (λ v. IsLone ring.now v) }
+/// The polygon of the ring at a place and all others, which are in order.
+fn polygon_of_all(
+    alloc: Global,
+    mut rings: Vec<Ring>,
+    outer: usize,
+) -> Result<Polygons, OutOfMemory>
+    requires { outer < length rings.items }
+    ensures { IfOk result (λ v. v ≡ polygons_of_all outer rings.items) }
 {
-    let begun = ring_from_least(alloc, ring, 0)?;
-    let mut polygons = Polygons::new(alloc);
-    polygons.push(Polygon {
-        outer: begun.ring,
-        inners: Rings::new(alloc),
-    })?;
+    let mut polygons = Polygons::with_capacity(alloc, 1)?;
+    let outer = rings.remove(outer);
+    let inners = Rings::from_vec(rings);
+    polygons.push(Polygon { outer, inners })?;
     Ok(polygons)
 }
 
-/// Each outer ring with those that it directly encloses. Most areas have one ring, which is outer, as nothing encloses it.
-fn group(alloc: Global, rings: &[Ring]) -> Result<Polygons, OutOfMemory>
-    requires { AreRings rings.now }
-    ensures { IfOk result (λ v. IsGrouping rings.now v) }
+/// Each outer ring with those whose encloser it is.
+fn under_enclosers(
+    alloc: Global,
+    rings: Vec<Ring>,
+    enclosers: &[Option<usize>],
+) -> Result<Polygons, OutOfMemory>
+    requires { (rs : List (List Edge)) × MayBeGrouped rs rings.items enclosers.now }
+    ensures { IfOk result (λ v. (rs : List (List Edge)) → MayBeGrouped rs rings.items enclosers.now
+        → IsGrouping rs v) }
 {
-    if rings.len() == 1 {
-        return lone_polygon(alloc, &rings[0]);
+    let begun = sorted(alloc, rings)?;
+    polygons_of(alloc, begun, enclosers)
+}
+
+/// The only outer ring with all others. Mostly they are in order.
+fn under_one(alloc: Global, rings: Rings, only: usize) -> Result<Polygons, OutOfMemory>
+    requires rings { AreRings rings }
+    requires only { IsOnlyOuter rings only }
+    ensures { IfOk result (λ v. IsGrouping rings v) }
+{
+    let rings = turned(rings.into_vec());
+    if are_in_order(&rings) {
+        return polygon_of_all(alloc, rings, only);
     }
-    let enclosers = direct_enclosers(alloc, rings)?;
-    let begun = sorted_from_least(alloc, rings)?;
-    polygons_of(alloc, begun, &enclosers)
+    let enclosers = inside_one(alloc, rings.len(), only)?;
+    under_enclosers(alloc, rings, &enclosers)
+}
+
+/// Each outer ring with those that it directly encloses.
+fn group(alloc: Global, rings: Rings) -> Result<Polygons, OutOfMemory>
+    requires { AreRings rings }
+    ensures { IfOk result (λ v. IsGrouping rings v) }
+{
+    if let Some(only) = only_outer(rings.as_slice()) {
+        return under_one(alloc, rings, only);
+    }
+    let enclosers = direct_enclosers(alloc, rings.as_slice())?;
+    under_enclosers(alloc, turned(rings.into_vec()), &enclosers)
+}
+
+/// Copies of the rings.
+fn copied(alloc: Global, rings: &[Ring]) -> Result<Rings, OutOfMemory>
+    ensures { IfOk result (λ v. v ≡ rings.now) }
+{
+    let mut copies = Rings::with_capacity(alloc, rings.len())?;
+    for ring in rings {
+        copies.push(Ring::of_edges(Vec::from_slice(alloc, ring.as_slice())?))?;
+    }
+    Ok(copies)
 }
 
 /// The polygons of a ring list.
@@ -129,6 +172,19 @@ pub fn nest(alloc: Global, rings: &[Ring]) -> Result<Polygons, OutOfMemory>
         → IfOk result (λ polygons. All (All IsWholeSegment) (rings_of polygons)) }
     ensures sided { IfOk result (λ polygons. AreSided polygons) }
     ensures cover { IfOk result (λ polygons. CoverAsRings rings.now polygons) }
+{
+    nest_rings(alloc, copied(alloc, rings)?)
+}
+
+/// What `nest` gives of rings that aren't needed any more: they are turned where they stand.
+pub fn nest_rings(alloc: Global, rings: Rings) -> Result<Polygons, OutOfMemory>
+    requires { AreRings rings }
+    ensures nested { IfOk result (λ polygons. AreNested rings polygons) }
+    ensures kinds { IfOk result (λ polygons. All HasKinds polygons) }
+    ensures whole { All (All IsWholeSegment) rings
+        → IfOk result (λ polygons. All (All IsWholeSegment) (rings_of polygons)) }
+    ensures sided { IfOk result (λ polygons. AreSided polygons) }
+    ensures cover { IfOk result (λ polygons. CoverAsRings rings polygons) }
 {
     group(alloc, rings)
 }

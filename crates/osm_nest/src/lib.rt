@@ -17,7 +17,7 @@ mod swept_enclosers;
 #[cfg(test)]
 mod tests;
 
-pub use grouping::nest;
+pub use grouping::{nest, nest_rings};
 pub use laws::{
     nested_cover_as_rings, nested_have_kinds, nesting_exists, rings_are_clear, rings_may_be_nested,
 };

@@ -1,18 +1,19 @@
 //! Rings of which one alone is outer, as those of most areas: it directly encloses each of the others.
 ghost use Rattle.std.specs.Prelude.{◌≡◌, ◌≤◌, IfOk, IfSome, length, true};
-ghost use Rattle.osm_nest.specs.Enclosers.{AreDirectEnclosers, TellOuter};
-ghost use Rattle.osm_nest.specs.OneOuter.{AreInnerBetween, IsFirstOuter, IsOnlyOuter};
+ghost use Rattle.osm_nest.specs.OneOuter.{AreInnerBetween, IsFirstOuter, IsOnlyOuter, enclosers_under};
 ghost use Rattle.osm_nest.specs.RingLists.{AreRings};
 
+use crate::outer::is_outer;
 use osm_rings::Ring;
 use std::alloc::{AllocError as OutOfMemory, Global};
 
 /// The place of the first outer ring.
-fn first_outer(outer: &[bool]) -> Option<usize>
-    ensures { IfSome result (IsFirstOuter outer.now) }
+fn first_outer(rings: &[Ring]) -> Option<usize>
+    requires { AreRings rings.now }
+    ensures { IfSome result (IsFirstOuter rings.now) }
 {
-    for place in 0..outer.len() {
-        if outer[place] {
+    for place in 0..rings.len() {
+        if is_outer(&rings[place]) {
             return Some(place);
         }
     }
@@ -20,45 +21,45 @@ fn first_outer(outer: &[bool]) -> Option<usize>
 }
 
 /// Whether no ring from a place on is outer.
-fn are_inner_from(outer: &[bool], from: usize) -> bool
-    requires { from ≤ length outer.now }
-    ensures { result ≡ true → AreInnerBetween outer.now from (length outer.now) }
+fn are_inner_from(rings: &[Ring], from: usize) -> bool
+    requires rings { AreRings rings.now }
+    requires from { from ≤ length rings.now }
+    ensures { result ≡ true → AreInnerBetween rings.now from (length rings.now) }
 {
-    for place in from..outer.len() {
-        if outer[place] {
+    for place in from..rings.len() {
+        if is_outer(&rings[place]) {
             return false;
         }
     }
     true
 }
 
-/// The place of the outer ring, where there is one alone.
-pub(crate) fn only_outer(outer: &[bool]) -> Option<usize>
-    ensures { IfSome result (IsOnlyOuter outer.now) }
+/// The place of the outer ring, where there is one alone. A ring alone is outer, as nothing encloses it.
+pub(crate) fn only_outer(rings: &[Ring]) -> Option<usize>
+    requires { AreRings rings.now }
+    ensures { IfSome result (IsOnlyOuter rings.now) }
 {
-    let place = first_outer(outer)?;
-    if are_inner_from(outer, place + 1) {
+    if rings.len() == 1 {
+        return Some(0);
+    }
+    let place = first_outer(rings)?;
+    if are_inner_from(rings, place + 1) {
         return Some(place);
     }
     None
 }
 
-/// For each inner ring the place of the only outer one; for that one None.
+/// For each inner one of so many rings the place of the only outer one; for that one None.
 pub(crate) fn inside_one(
     alloc: Global,
-    rings: &[Ring],
-    outer: &[bool],
+    count: usize,
     only: usize,
 ) -> Result<Vec<Option<usize>>, OutOfMemory>
-    requires rings { AreRings rings.now }
-    requires sized { length outer.now ≡ length rings.now }
-    requires outer { TellOuter rings.now outer.now }
-    requires only { IsOnlyOuter outer.now only }
-    ensures { IfOk result (λ enclosers. AreDirectEnclosers rings.now enclosers.items) }
+    ensures { IfOk result (λ enclosers. enclosers.items ≡ enclosers_under only 0 count) }
 {
-    let mut enclosers = Vec::with_capacity(alloc, rings.len())?;
-    for place in 0..rings.len() {
-        enclosers.push((!outer[place]).then_some(only))?;
+    let mut enclosers = Vec::with_capacity(alloc, count)?;
+    for place in 0..count {
+        enclosers.push((place != only).then_some(only))?;
     }
     Ok(enclosers)
 }

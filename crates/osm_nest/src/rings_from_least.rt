@@ -1,82 +1,75 @@
 //! Rings begun at their least nodes, in order.
-ghost use Rattle.std.specs.Prelude.{IfOk, length, ◌≡◌};
-ghost use Rattle.osm_nest.specs.Grouped.{AreSortedFromLeast, AreListed, IsFromLeastAt, StartsAt, start_cmp};
-ghost use Rattle.osm_nest.specs.RingLists.{AreRings};
+ghost use Rattle.std.specs.Prelude.{◌≡◌, IfOk, IsPermutation, length, slice_index_or, true};
+ghost use Rattle.osm_geom.specs.declared.edge.Edge.{Edge};
+ghost use Rattle.osm_nest.specs.Grouped.{AreTurned, ArePlacesSorted, AreStartsSorted, placed_from};
+ghost use Rattle.osm_nest.specs.Nested.{edge_cmp};
 
-use osm_geom::{Point, order_points};
+use osm_geom::{Edge, order_points};
 use osm_rings::Ring;
 use std::alloc::{AllocError as OutOfMemory, Global};
 use std::cmp::Ordering;
 
-/// The two ends of the first edge of a ring; in order by the node that it leaves, then by the node that it enters.
-#[derive(Clone, Copy, Debug, PartialEq, Eq)]
-pub struct Start {
-    pub from: Point,
-    pub to: Point,
-}
-
 /// A ring begun at its least node, and its place in the list that was given.
 #[derive(Drop)]
 pub struct RingFromLeast {
-    pub start: Start,
     pub place: usize,
     pub ring: Ring,
 }
 
-/// The order of starts.
-pub(crate) fn compare_starts(s: &Start, t: &Start) -> Ordering
-    ensures { result ≡ start_cmp s.now t.now }
+/// The order of edges: by the node that one leaves, then by the node that it enters.
+pub(crate) fn compare_starts(edge: &Edge, other: &Edge) -> Ordering
+    ensures { result ≡ edge_cmp edge.now other.now }
 {
-    order_points(&s.from, &t.from).then(order_points(&s.to, &t.to))
-}
-
-/// Where a ring begins.
-fn start_of(ring: &Ring) -> Start
-    ensures { StartsAt ring.now result }
-{
-    let first = ring.as_slice()[0];
-    Start {
-        from: first.from,
-        to: first.to,
+    match order_points(&edge.from, &other.from) {
+        Ordering::Equal => order_points(&edge.to, &other.to),
+        order => order,
     }
 }
 
-/// The ring begun at its least node, with its place and where it begins.
-pub(crate) fn ring_from_least(
-    alloc: Global,
-    ring: &Ring,
-    place: usize,
-) -> Result<RingFromLeast, OutOfMemory>
-    ensures { IfOk result (λ b. IsFromLeastAt ring.now place b) }
+/// The order of rings: by their first edges.
+fn compare_rings(ring: &Ring, other: &Ring) -> Ordering
+    ensures { (d : Edge) → result
+        ≡ edge_cmp (slice_index_or ring.now 0 d) (slice_index_or other.now 0 d) }
 {
-    let ring = ring.from_least(alloc)?;
-    Ok(RingFromLeast {
-        start: start_of(&ring),
-        place,
-        ring,
-    })
+    compare_starts(&ring.as_slice()[0], &other.as_slice()[0])
 }
 
-/// The rings begun at their least nodes, in the order of the list.
-fn listed_from_least(alloc: Global, rings: &[Ring]) -> Result<Vec<RingFromLeast>, OutOfMemory>
-    ensures { IfOk result (λ v. AreListed rings.now (length rings.now) v.items) }
+/// The rings, each begun at its least node where it stands.
+pub(crate) fn turned(rings: Vec<Ring>) -> Vec<Ring>
+    ensures { AreTurned rings.items result.items }
 {
-    let mut listed = Vec::with_capacity(alloc, rings.len())?;
-    for (place, ring) in rings.iter().enumerate() {
-        listed.push(ring_from_least(alloc, ring, place)?)?;
+    let mut rings = rings;
+    for place in 0..rings.len() {
+        rings[place].turn_to_least();
     }
-    Ok(listed)
+    rings
 }
 
-/// The rings begun at their least nodes, in order of their first edges.
-pub(crate) fn sorted_from_least(
-    alloc: Global,
-    rings: &[Ring],
-) -> Result<Vec<RingFromLeast>, OutOfMemory>
-    requires { AreRings rings.now }
-    ensures { IfOk result (λ v. AreSortedFromLeast rings.now v.items) }
+/// Whether no ring begins before the one before it.
+pub(crate) fn are_in_order(rings: &[Ring]) -> bool
+    ensures { result ≡ true → AreStartsSorted rings.now }
 {
-    let mut begun = listed_from_least(alloc, rings)?;
-    begun.sort_by(|ring, other| compare_starts(&ring.start, &other.start))?;
+    rings.is_sorted_by(|ring, next| !compare_rings(next, ring).is_lt())
+}
+
+/// The rings with their places.
+fn placed(alloc: Global, rings: Vec<Ring>) -> Result<Vec<RingFromLeast>, OutOfMemory>
+    ensures { IfOk result (λ v. v.items ≡ placed_from 0 rings.items) }
+{
+    let mut placed = Vec::with_capacity(alloc, rings.len())?;
+    for ring in rings {
+        let place = placed.len();
+        placed.push(RingFromLeast { place, ring })?;
+    }
+    Ok(placed)
+}
+
+/// The rings with their places, in order of their first edges.
+pub(crate) fn sorted(alloc: Global, rings: Vec<Ring>) -> Result<Vec<RingFromLeast>, OutOfMemory>
+    ensures moved { IfOk result (λ v. IsPermutation (placed_from 0 rings.items) v.items) }
+    ensures order { IfOk result (λ v. ArePlacesSorted v.items) }
+{
+    let mut begun = placed(alloc, rings)?;
+    begun.sort_by(|begun, other| compare_rings(&begun.ring, &other.ring))?;
     Ok(begun)
 }
