@@ -11,7 +11,7 @@ ghost use Rattle.osm_nest.specs.Polygons.{rings_of};
 ghost use Rattle.osm_area.specs.Area.{IsArea};
 
 use osm_geom::Seg;
-use osm_nest::{Polygons, nest, rings_may_be_nested};
+use osm_nest::{Polygons, nest_rings, rings_may_be_nested};
 use osm_rings::rings;
 use osm_sides::direct;
 use std::alloc::{AllocError as OutOfMemory, Global};
@@ -33,5 +33,5 @@ pub fn area(alloc: Global, survivors: &[Seg]) -> Result<Polygons, OutOfMemory>
     let rings = rings(alloc, &edges)?;
     // Edges are large: those of a long boundary don't stand beside its polygons.
     mem::drop(edges);
-    nest(alloc, rings.as_slice())
+    nest_rings(alloc, rings)
 }

@@ -1,22 +1,21 @@
 -- The rings may be nested, and their polygons are the area.
-use Rattle.std.proofs.Common.{All, List, sym, subst}
+use Rattle.std.proofs.Common.{All, List, refl, sym, subst}
 use Rattle.std.proofs.lemmas.Result.{IfOk-weaker}
 use Rattle.osm_geom.specs.declared.edge.Edge.{Edge}
 use Rattle.plane_edges.specs.Sided.{IsSided}
 use Rattle.osm_geom.specs.WholeSegment.{IsWholeSegment}
-use Rattle.osm_nest.specs.RingLists.{AreRings}
 use Rattle.osm_area.proofs.AreaLemmas.{is_area}
 use Rattle.osm_area.proofs.area.area.Goals as goal
 
-pub nest-requires : goal.nest-requires
-nest-requires c =
-    subst AreRings (sym c.as_slice.ensures) (c.rings_may_be_nested.ensures.nested c.deref.result.now c.in_ok-rings.rings (subst IsSided (sym c.deref.ensures.value) c.in_ok-edges.ensures.sided) c.in_ok-rings.ensures)
+pub nest_rings-requires : goal.nest_rings-requires
+nest_rings-requires c =
+    c.rings_may_be_nested.ensures.nested c.deref.result.now c.in_ok-rings.rings (subst IsSided (sym c.deref.ensures.value) c.in_ok-edges.ensures.sided) c.in_ok-rings.ensures
 
 pub returns-clause-area : goal.returns-clause-area
 returns-clause-area c =
-    IfOk-weaker c.nest.result _ _ (λ polygons nested. is_area c.args.survivors.now c.in_ok-edges.edges.items c.deref.result.now c.in_ok-rings.rings c.as_slice.result.now c.requires.some c.in_ok-edges.ensures.odd_side c.deref.ensures.value c.in_ok-rings.ensures c.as_slice.ensures polygons nested) c.nest.ensures.nested
+    IfOk-weaker c.nest_rings.result _ _ (λ polygons nested. is_area c.args.survivors.now c.in_ok-edges.edges.items c.deref.result.now c.in_ok-rings.rings c.in_ok-rings.rings c.requires.some c.in_ok-edges.ensures.odd_side c.deref.ensures.value c.in_ok-rings.ensures refl polygons nested) c.nest_rings.ensures.nested
 
 pub returns-clause-whole : goal.returns-clause-whole
 returns-clause-whole c =
     let edges = subst (λ (es : List Edge). All IsWholeSegment es) (sym c.deref.ensures.value) c.in_ok-edges.ensures.whole in
-    c.nest.ensures.whole (subst (λ (rs : List (List Edge)). All (All IsWholeSegment) rs) (sym c.as_slice.ensures) (c.rings_may_be_nested.ensures.whole c.deref.result.now c.in_ok-rings.rings edges c.in_ok-rings.ensures))
+    c.nest_rings.ensures.whole (c.rings_may_be_nested.ensures.whole c.deref.result.now c.in_ok-rings.rings edges c.in_ok-rings.ensures)
