@@ -63,7 +63,7 @@ fn with_inner_rings(
     requires once { AllPairs (λ b c. b.place ≢ c.place) outers.items }
     ensures { IfOk result (λ v. v ≡ map (with_under under.items) outers.items) }
 {
-    let mut polygons = Polygons::new(alloc);
+    let mut polygons = Polygons::with_capacity(alloc, outers.len())?;
     for begun in outers {
         let inners = mem::replace(&mut under[begun.place], Rings::new(alloc));
         polygons.push(Polygon {

@@ -111,12 +111,15 @@ fn sorted_by_lower_ends<'a>(edges: Vec<RingEdge<'a>>) -> Result<Vec<RingEdge<'a>
     Ok(edges)
 }
 
-/// The edges in order of their lower ends: by the sort keys of these, where that is their order.
+/// The edges in order of their lower ends: as they are, or by the sort keys of these, where that is their order.
 pub(crate) fn by_lower_ends<'a>(edges: Vec<RingEdge<'a>>) -> Result<Vec<RingEdge<'a>>, OutOfMemory>
     ensures moved { IfOk result (λ v. IsPermutation edges.entry.items v.items) }
     ensures rise { IfOk result (λ v. StartsRise v.items) }
 {
     let mut edges = edges;
+    if starts_rise(&edges) {
+        return Ok(edges);
+    }
     edges.sort_by_cached_key(|e| sort_key(*lower_end(e.edge)))?;
     if starts_rise(&edges) {
         return Ok(edges);

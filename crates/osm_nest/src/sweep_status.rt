@@ -70,13 +70,35 @@ fn is_past(status: &ChunkedList<RingEdge>, place: usize, at: &Point) -> bool
     !spans_height(status.get(place).edge, at)
 }
 
-/// Takes out an edge that ended, where the search at the height of `below` finds one that did; else all that don't span the height of `at`.
+/// Whether an edge of a ring stands at a place.
+fn is_at(status: &ChunkedList<RingEdge>, place: usize, edge: &RingEdge) -> bool {
+    if place >= status.len() {
+        return false;
+    }
+    let other = status.get(place);
+    other.ring == edge.ring && other.edge == edge.edge
+}
+
+/// Where an edge stands, if that is where the status changed last, or beside that; else where the search sees it. Nothing rests on it but speed.
+fn place_of(status: &ChunkedList<RingEdge>, edge: &RingEdge, at: &Point) -> usize
+    requires { is_within at.now edge.now ≡ true }
+{
+    let first = status.last_changed().saturating_sub(1);
+    for place in first..first.saturating_add(4) {
+        if is_at(status, place, edge) {
+            return place;
+        }
+    }
+    search(status, edge, at)
+}
+
+/// Takes out an edge that ended, where its place is found; else all that don't span the height of `at`.
 fn take_out(status: &mut ChunkedList<RingEdge>, edge: &RingEdge, below: &Point, at: &Point)
     requires { is_within below.now edge.now ≡ true }
     ensures within { filter (is_within at.now) status.new ≡ filter (is_within at.now) status.old }
     ensures members { (e : RingEdge) → In e status.new → In e status.old }
 {
-    let place = search(status, edge, below);
+    let place = place_of(status, edge, below);
     if is_past(status, place, at) {
         status.remove(place);
         return;

@@ -8,12 +8,12 @@ use Rattle.osm_nest.proofs.sweep_status.take_out.Goals as goal
 
 pub returns-then-is_past-clause-within : goal.returns-then-is_past-clause-within
 returns-then-is_past-clause-within c =
-    let w = is_within c.args.at.now in let old = c.args.status.now in let place = c.search-place.result in let d = c.remove.result in
+    let w = is_within c.args.at.now in let old = c.args.status.now in let place = c.place_of-place.result in let d = c.remove.result in
     ap (filter w) c.remove.ensures.removed
     ∙ filter-remove w old place d (c.is_past.ensures.inside c.if-is_past.true) (c.is_past.ensures.past c.if-is_past.true d)
 
 pub returns-then-is_past-clause-members : goal.returns-then-is_past-clause-members
-returns-then-is_past-clause-members c e i = in-remove c.args.status.now c.search-place.result e (subst (In e) c.remove.ensures.removed i)
+returns-then-is_past-clause-members c e i = in-remove c.args.status.now c.place_of-place.result e (subst (In e) c.remove.ensures.removed i)
 
 pub returns-clause-within : goal.returns-clause-within
 returns-clause-within c =
