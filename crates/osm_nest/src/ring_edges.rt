@@ -140,12 +140,20 @@ pub(crate) fn rising_edges<'a>(
     Ok(edges)
 }
 
+/// The place of an edge in a list, and the sort key of its upper end.
+#[derive(Clone, Copy)]
+pub(crate) struct Top {
+    pub key: i64,
+    pub place: usize,
+}
+
 /// The edges in order of the sort keys of their upper ends. Nothing rests on the order but speed.
-pub(crate) fn by_upper_ends<'a>(
-    alloc: Global,
-    edges: &[RingEdge<'a>],
-) -> Result<Vec<RingEdge<'a>>, OutOfMemory> {
-    let mut edges = Vec::from_slice(alloc, edges)?;
-    edges.sort_by_cached_key(|e| sort_key(*upper_end(e.edge)))?;
-    Ok(edges)
+pub(crate) fn by_upper_ends(alloc: Global, edges: &[RingEdge]) -> Result<Vec<Top>, OutOfMemory> {
+    let mut tops = Vec::with_capacity(alloc, edges.len())?;
+    for (place, edge) in edges.iter().enumerate() {
+        let key = sort_key(*upper_end(edge.edge));
+        tops.push(Top { key, place })?;
+    }
+    tops.sort_by_key(|top| top.key)?;
+    Ok(tops)
 }

@@ -5,11 +5,12 @@
 ghost use Rattle.std.specs.Prelude.{◌≡◌, ◌<◌, ◌≤◌, ◌⊎◌, ◌&&◌, ◌-◌, IfOk, IfSome, filter, length, slice_index_or, take, true, false};
 ghost use Rattle.osm_geom.specs.Span.{lower_end, spans};
 ghost use Rattle.osm_nest.specs.declared.ring_edges.RingEdge.{RingEdge};
+ghost use Rattle.osm_nest.specs.declared.ring_edges.Top.{Top};
 ghost use Rattle.osm_nest.specs.SweptEdges.{HasNeighbour, IsPut, IsRowPut, is_within, left_at};
 ghost use Rattle.lists.specs.Member.{In};
 
 use crate::outer::lower_end;
-use crate::ring_edges::RingEdge;
+use crate::ring_edges::{RingEdge, Top};
 use chunked_list::ChunkedList;
 use osm_geom::{Edge, Point, compare_just_above, spans_height};
 use std::alloc::AllocError as OutOfMemory;
@@ -106,24 +107,32 @@ fn take_out(status: &mut ChunkedList<RingEdge>, edge: &RingEdge, below: &Point, 
     status.retain(|other| spans_height(other.edge, at));
 }
 
-/// Whether the edge at a place spans the height of `below` and ends no higher than `at`.
-fn ends_between(tops: &[RingEdge], place: usize, below: &Point, at: &Point) -> bool
-    ensures inside { result ≡ true → place < length tops.now }
-    ensures below { result ≡ true → (d : RingEdge)
-        → is_within below.now (slice_index_or tops.now place d) ≡ true }
+/// Whether the next of the edges spans the height of `below` and ends no higher than `at`.
+fn ends_between(edges: &[RingEdge], tops: &[Top], next: usize, below: &Point, at: &Point) -> bool
+    ensures inside { result ≡ true → next < length tops.now }
+    ensures edge { result ≡ true → (d : Top)
+        → (slice_index_or tops.now next d).place < length edges.now }
+    ensures below { result ≡ true → (d : Top) (e : RingEdge)
+        → is_within below.now (slice_index_or edges.now (slice_index_or tops.now next d).place e)
+        ≡ true }
 {
-    if place >= tops.len() {
+    if next >= tops.len() {
         return false;
     }
-    let edge = tops[place].edge;
+    let place = tops[next].place;
+    if place >= edges.len() {
+        return false;
+    }
+    let edge = edges[place].edge;
     spans_height(edge, below) && !spans_height(edge, at)
 }
 
-/// Takes out the edges that span the height of `below` and end no higher than `at`, by a list of all edges in order of their upper ends, from
-/// a place on; gives the place from which to go on. That each is found rests on no proof, and need not.
+/// Takes out the edges that span the height of `below` and end no higher than `at`, by the places of all edges in order of their upper
+/// ends, from one on; gives the one from which to go on. That each is found rests on no proof, and need not.
 pub(crate) fn leave(
     status: &mut ChunkedList<RingEdge>,
-    tops: &[RingEdge],
+    edges: &[RingEdge],
+    tops: &[Top],
     from: usize,
     below: &Point,
     at: &Point,
@@ -132,8 +141,8 @@ pub(crate) fn leave(
     ensures members { (e : RingEdge) → In e status.new → In e status.old }
 {
     let mut next = from;
-    while ends_between(tops, next, below, at) {
-        take_out(status, &tops[next], below, at);
+    while ends_between(edges, tops, next, below, at) {
+        take_out(status, &edges[tops[next].place], below, at);
         next += 1;
     }
     next

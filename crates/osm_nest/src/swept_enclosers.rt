@@ -42,7 +42,7 @@ pub(crate) fn swept_enclosers(
         let first = edges[next];
         let at = lower_end(first.edge);
         let below = lower_end(edges[next.saturating_sub(1)].edge);
-        gone = leave(&mut status, &tops, gone, below, at);
+        gone = leave(&mut status, &edges, &tops, gone, below, at);
         let Some(to) = enter_row(&mut status, &edges, next, at)? else {
             return Ok(known);
         };

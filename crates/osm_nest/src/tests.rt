@@ -77,7 +77,7 @@ fn sweep_keeps_up(alloc: Global, lines: &str) -> Result<bool, Fail> {
         }
         let at = lower_end(rising[next].edge);
         let below = lower_end(rising[next.saturating_sub(1)].edge);
-        gone = leave(&mut status, &tops, gone, below, at);
+        gone = leave(&mut status, &rising, &tops, gone, below, at);
         next = match enter_row(&mut status, &rising, next, at)? {
             Some(to) => to,
             None => return Ok(false),

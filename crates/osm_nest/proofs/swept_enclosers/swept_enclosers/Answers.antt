@@ -43,7 +43,7 @@ settle_row-settled-requires-clause-tells c a an level =
     let next = c.loop-next.next in let first = c.index-first.result.now in let new = c.enter_row.new.status in
     let inside : next < length items = omega arith in
     let here : first ≡ get_or items next first = c.index-first.ensures in
-    let passed = passed-by rs are items c.deref-in-loop-next-2.result.now of rise c.deref-in-loop-next-2.ensures.value next c.in-Some.to c.lower_end-at.result.now (lower_end first.edge.now) c.lower_end-at.ensures
+    let passed = passed-by rs are items c.deref-in-loop-next-3.result.now of rise c.deref-in-loop-next-3.ensures.value next c.in-Some.to c.lower_end-at.result.now (lower_end first.edge.now) c.lower_end-at.ensures
     c.loop-next.status c.leave-gone.new.status new c.leave-gone.ensures.within c.leave-gone.ensures.members _ c.in-Some.is c.in_ok-to.ensures.put c.in_ok-to.ensures.members in
     let way = c.loop-next.invariant.3 are of rise in
     status-tells rs are items of first (item-in items next first inside here) new
@@ -56,7 +56,7 @@ loop-next-smaller c =
     let next = c.loop-next.next in let first = c.index-first.result.now in let new = c.enter_row.new.status in
     let inside : next < length items = omega arith in
     let here : first ≡ get_or items next first = c.index-first.ensures in
-    let passed = passed-by rs are items c.deref-in-loop-next-2.result.now of rise c.deref-in-loop-next-2.ensures.value next c.in-Some.to c.lower_end-at.result.now (lower_end first.edge.now) c.lower_end-at.ensures
+    let passed = passed-by rs are items c.deref-in-loop-next-3.result.now of rise c.deref-in-loop-next-3.ensures.value next c.in-Some.to c.lower_end-at.result.now (lower_end first.edge.now) c.lower_end-at.ensures
     c.loop-next.status c.leave-gone.new.status new c.leave-gone.ensures.within c.leave-gone.ensures.members _ c.in-Some.is c.in_ok-to.ensures.put c.in_ok-to.ensures.members in
     let grows = passed-grows rs are items of rise next c.loop-next.status new (c.loop-next.invariant.3 are of rise) first inside here c.in-Some.to passed in
     let within = passed.put.within in
@@ -70,10 +70,10 @@ loop-next-preserved c =
     let inside : next < length items = omega arith in
     let here : first ≡ get_or items next first = c.index-first.ensures in
     let passed = λ (are : AreRings rs) (of : AreSlopingEdges rs items) (rise : StartsRise items).
-    passed-by rs are items c.deref-in-loop-next-2.result.now of rise c.deref-in-loop-next-2.ensures.value next c.in-Some.to c.lower_end-at.result.now (lower_end first.edge.now) c.lower_end-at.ensures
+    passed-by rs are items c.deref-in-loop-next-3.result.now of rise c.deref-in-loop-next-3.ensures.value next c.in-Some.to c.lower_end-at.result.now (lower_end first.edge.now) c.lower_end-at.ensures
     c.loop-next.status c.leave-gone.new.status new c.leave-gone.ensures.within c.leave-gone.ensures.members _ c.in-Some.is c.in_ok-to.ensures.put c.in_ok-to.ensures.members in (
       (passed c.requires.rings c.in_ok-edges.ensures.edges c.in_ok-edges.ensures.rise).put.within,
-      subst (λ (xs : List RingEdge). c.settle_row-settled.result ≤ length xs) c.deref-in-loop-next-3.ensures.value c.settle_row-settled.ensures.within,
+      subst (λ (xs : List RingEdge). c.settle_row-settled.result ≤ length xs) c.deref-in-loop-next-4.ensures.value c.settle_row-settled.ensures.within,
       c.settle_row-settled.ensures.known,
       λ are of rise. passed-on rs are items of rise next c.loop-next.status new (c.loop-next.invariant.3 are of rise) first inside here c.in-Some.to (passed are of rise),
     )
