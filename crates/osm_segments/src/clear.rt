@@ -1,5 +1,5 @@
 //! Whether segments are free of conflicts, by one sweep upwards.
-ghost use Rattle.std.specs.Prelude.{◌≡◌, ◌<◌, ◌≤◌, ◌-◌, ◌+◌, ℕ, [], IfOk, IfSome, IsPermutation, None, false, length, slice_index_or, true};
+ghost use Rattle.std.specs.Prelude.{◌≡◌, ◌<◌, ◌≤◌, ◌-◌, ◌+◌, ℕ, [], IfOk, IsPermutation, None, false, length, slice_index_or, true};
 ghost use Rattle.osm_lattice.specs.declared.seg.Seg.{Seg};
 ghost use Rattle.osm_lattice.specs.Conflict.{conflict_of};
 ghost use Rattle.plane.specs.Order.{order};
@@ -10,6 +10,7 @@ ghost use Rattle.lists.specs.Rising.{IsRising};
 ghost use Rattle.osm_segments.specs.Pairs.{conflicts_of};
 ghost use Rattle.osm_segments.specs.Sweep.{EndsRise, FitsAfter, FitsBefore, HasLeft, IsAfter, IsEntered, IsFollowed, left_of_line, lies_left, lies_right, right_of_line};
 
+use crate::finding::place_in_status;
 use chunked_list::ChunkedList;
 use osm_lattice::{Loc, Seg, compare_to_line, conflict};
 use std::alloc::{AllocError as OutOfMemory, Global};
@@ -88,48 +89,6 @@ fn enter(status: &mut ChunkedList<Seg>, s: Seg) -> Result<bool, OutOfMemory>
     Ok(true)
 }
 
-/// Whether `t` is left of `s` just below the upper end of `s`, where both reach that height. Only speed rests on it.
-fn is_left_below(t: Seg, s: Seg) -> bool {
-    is_right_of_line(s.b, t) || !is_left_of_line(s.b, t) && is_right_of_line(s.a, t)
-}
-
-/// Whether a segment stands at a place.
-fn is_at(status: &ChunkedList<Seg>, place: usize, s: Seg) -> bool
-    ensures inside { result ≡ true → place < length status.now }
-    ensures at { result ≡ true → slice_index_or status.now place s ≡ s }
-{
-    place < status.len() && status.get(place) == s
-}
-
-/// The place of a segment, if it is where the status changed last, or beside that.
-fn find_near(status: &ChunkedList<Seg>, s: Seg) -> Option<usize>
-    ensures inside { IfSome result (λ place. place < length status.now) }
-    ensures at { IfSome result (λ place. slice_index_or status.now place s ≡ s) }
-{
-    let first = status.last_changed().saturating_sub(1);
-    for place in first..first.saturating_add(4) {
-        if is_at(status, place, s) {
-            return Some(place);
-        }
-    }
-    None
-}
-
-/// The place of a segment, if it stands just behind those that are left of it.
-fn find(status: &ChunkedList<Seg>, s: Seg) -> Option<usize>
-    ensures inside { IfSome result (λ place. place < length status.now) }
-    ensures at { IfSome result (λ place. slice_index_or status.now place s ≡ s) }
-{
-    if let Some(place) = find_near(status, s) {
-        return Some(place);
-    }
-    let place = status.partition_point(|t| is_left_below(*t, s));
-    if is_at(status, place, s) {
-        return Some(place);
-    }
-    None
-}
-
 /// Whether the two beside a place don't conflict.
 fn closes(status: &ChunkedList<Seg>, place: usize) -> bool
     requires { place < length status.now }
@@ -150,7 +109,7 @@ fn closes(status: &ChunkedList<Seg>, place: usize) -> bool
 fn leave(status: &mut ChunkedList<Seg>, s: Seg) -> bool
     ensures { result ≡ true → HasLeft s status.old status.new }
 {
-    match find(status, s) {
+    match place_in_status(status, s) {
         Some(place) => {
             if !closes(status, place) {
                 return false;
@@ -166,7 +125,7 @@ fn leave(status: &mut ChunkedList<Seg>, s: Seg) -> bool
 fn go_on(status: &mut ChunkedList<Seg>, s: Seg, t: Seg) -> bool
     ensures { result ≡ true → IsFollowed s t status.old status.new }
 {
-    match find(status, s) {
+    match place_in_status(status, s) {
         Some(place) => {
             let inside = place < status.len();
             prove!(inside);

@@ -6,6 +6,7 @@ mod clear;
 mod counts;
 mod division;
 mod faults;
+mod finding;
 mod pairs;
 mod parity;
 #[cfg(test)]
@@ -13,4 +14,5 @@ mod tests;
 
 pub use counts::{Cancelled, Repeat, cancel, distinct, odd_nodes, repeated, survivors};
 pub use faults::{Faults, faults_of};
+pub use finding::place_in_status;
 pub use pairs::{Pair, conflicts};

@@ -1,5 +1,5 @@
 //! How segments leave the status of a sweep: at the heights of their upper ends.
-ghost use Rattle.std.specs.Prelude.{◌≡◌, ◌<◌, ◌≤◌, ◌+◌, List, IfOk, IfSome, false, filter, length, slice_index_or, true};
+ghost use Rattle.std.specs.Prelude.{◌≡◌, ◌<◌, ◌≤◌, ◌+◌, List, IfOk, false, filter, length, slice_index_or, true};
 ghost use Rattle.std.specs.List.{AllWithin};
 ghost use Rattle.osm_lattice.specs.declared.seg.Seg.{Seg};
 ghost use Rattle.status.specs.Leaving.{Remains};
@@ -8,7 +8,7 @@ ghost use Rattle.osm_sides.specs.Sweep.{AreEnds, EndsRise, NextHasLeft, ends_abo
 use crate::sides::{is_above, is_horizontal};
 use chunked_list::ChunkedList;
 use osm_geom::{Loc, Seg};
-use osm_lattice::compare_to_line;
+use osm_segments::place_in_status;
 use std::alloc::{AllocError as OutOfMemory, Global};
 
 /// The segments that aren't horizontal, in order of the heights of their upper ends.
@@ -19,49 +19,6 @@ pub fn by_ends(alloc: Global, segs: &[Seg]) -> Result<Vec<Seg>, OutOfMemory>
     ends.retain(|s| !is_horizontal(*s));
     ends.sort_by_key(|s| s.b.y)?;
     Ok(ends)
-}
-
-/// Whether `t` is left of `s` just below the upper end of `s`, where both reach that height. Only how fast a segment is found rests on it.
-fn is_left_below(t: Seg, s: Seg) -> bool {
-    let end = compare_to_line(s.b, t);
-    end.is_gt() || end.is_eq() && compare_to_line(s.a, t).is_gt()
-}
-
-/// Whether a segment stands at a place.
-fn is_at(status: &ChunkedList<Seg>, place: usize, s: Seg) -> bool
-    ensures inside { result ≡ true → place < length status.now }
-    ensures at { result ≡ true → slice_index_or status.now place s ≡ s }
-{
-    place < status.len() && status.get(place) == s
-}
-
-/// The place of a segment, if it is where the status changed last, or beside that.
-fn find_near(status: &ChunkedList<Seg>, s: Seg) -> Option<usize>
-    ensures inside { IfSome result (λ place. place < length status.now) }
-    ensures at { IfSome result (λ place. slice_index_or status.now place s ≡ s) }
-{
-    let first = status.last_changed().saturating_sub(1);
-    for place in first..first.saturating_add(4) {
-        if is_at(status, place, s) {
-            return Some(place);
-        }
-    }
-    None
-}
-
-/// The place of a segment, if it stands just behind those that are left of it.
-fn find(status: &ChunkedList<Seg>, s: Seg) -> Option<usize>
-    ensures inside { IfSome result (λ place. place < length status.now) }
-    ensures at { IfSome result (λ place. slice_index_or status.now place s ≡ s) }
-{
-    if let Some(place) = find_near(status, s) {
-        return Some(place);
-    }
-    let place = status.partition_point(|t| is_left_below(*t, s));
-    if is_at(status, place, s) {
-        return Some(place);
-    }
-    None
 }
 
 /// Those that end above the height of `at` stay.
@@ -77,7 +34,7 @@ fn leave_next(status: &mut ChunkedList<Seg>, ends: &[Seg], next: usize, at: Loc)
     requires ended { (d : Seg) → ends_above at.y (slice_index_or ends.now next d) ≡ false }
     ensures { NextHasLeft at.y ends.now next status.old status.new }
 {
-    match find(status, ends[next]) {
+    match place_in_status(status, ends[next]) {
         Some(place) => {
             status.remove(place);
         }
