@@ -7,7 +7,7 @@ mod FoundPairs
 mod LaterSegments
 mod Parities
 mod RisingPairs
-pub mod SegmentTests
+mod SegmentTests
 mod StandOnce
 mod Sweeps
 mod SweptLists

@@ -1,4 +1,4 @@
--- One step of a sweep upwards over segments: where a segment stands among those that span the point at which it begins, and who stand side by side once it has ended. No public contract cites it.
+-- One step of a sweep upwards over segments: where a segment stands among those that span the point at which it begins, and who stand side by side once it has ended. Public contracts cite `EndsRise` alone.
 use Rattle.std.specs.Prelude.{Bool, List, None, insert, length, not, remove, slice_index_or, true, ℕ, ◌&&◌, ◌+◌, ◌-◌, ◌<◌, ◌||◌, ◌≡◌, ◌≤◌}
 use Rattle.plane.specs.Order.{order}
 use Rattle.plane.specs.Sign.{Sign, is_minus, is_plus}

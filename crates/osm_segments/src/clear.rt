@@ -147,14 +147,22 @@ pub fn sort_by_ends(segs: &mut [Seg])
     segs.sort_unstable_by(|s, t| s.b.cmp(&t.b));
 }
 
+/// The segments of a list in the order of their upper ends: none stands behind one whose upper end comes after its own.
+pub fn in_order_of_ends(mut segs: Vec<Seg>) -> Vec<Seg>
+    ensures moved { IsPermutation segs.items result.items }
+    ensures rise { EndsRise result.items }
+{
+    sort_by_ends(&mut segs);
+    segs
+}
+
 /// The segments in the order of their upper ends.
 pub fn by_ends(alloc: Global, segs: &[Seg]) -> Result<Vec<Seg>, OutOfMemory>
     ensures moved { IfOk result (λ ends. IsPermutation segs.now ends.items) }
     ensures rise { IfOk result (λ ends. EndsRise ends.items) }
 {
-    let mut ends = Vec::from_slice(alloc, segs)?;
-    sort_by_ends(&mut ends);
-    Ok(ends)
+    let ends = Vec::from_slice(alloc, segs)?;
+    Ok(in_order_of_ends(ends))
 }
 
 #[tactic(auto, using(osm_lattice::proofs::LocationOrder::is_lt_before), unfolding(osm_lattice::specs::ConflictTests::before))]

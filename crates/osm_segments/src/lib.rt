@@ -12,6 +12,7 @@ mod parity;
 #[cfg(test)]
 mod tests;
 
+pub use clear::in_order_of_ends;
 pub use counts::{Cancelled, Repeat, cancel, distinct, odd_nodes, repeated, survivors};
 pub use faults::{Faults, faults_of};
 pub use finding::place_in_status;

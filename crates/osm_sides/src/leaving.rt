@@ -8,17 +8,16 @@ ghost use Rattle.osm_sides.specs.Sweep.{AreEnds, EndsRise, NextHasLeft, ends_abo
 use crate::sides::{is_above, is_horizontal};
 use chunked_list::ChunkedList;
 use osm_geom::{Loc, Seg};
-use osm_segments::place_in_status;
+use osm_segments::{in_order_of_ends, place_in_status};
 use std::alloc::{AllocError as OutOfMemory, Global};
 
-/// The segments that aren't horizontal, in order of the heights of their upper ends.
+/// The segments that aren't horizontal, in order of their upper ends: of those that end at one height, the left one leaves first.
 pub fn by_ends(alloc: Global, segs: &[Seg]) -> Result<Vec<Seg>, OutOfMemory>
     ensures { IfOk result (λ ends. AreEnds segs.now ends.items) }
 {
     let mut ends = Vec::from_slice(alloc, segs)?;
     ends.retain(|s| !is_horizontal(*s));
-    ends.sort_by_key(|s| s.b.y)?;
-    Ok(ends)
+    Ok(in_order_of_ends(ends))
 }
 
 /// Those that end above the height of `at` stay.
