@@ -3,7 +3,7 @@
 use super::ChunkedList;
 use std::test::Fail;
 
-/// A list is changed in its middle, at its ends and through chunks that are parted and dropped; a plain `Vec` is what it has to be.
+/// A list is changed in its middle, at its ends and through chunks that are parted and dropped, and items are put in the place of others; a plain `Vec` is what it has to be.
 #[test]
 fn a_list_in_chunks_is_a_list(rt: HostRuntime) -> Result<(), Fail> {
     let alloc = rt.alloc();
@@ -29,6 +29,12 @@ fn a_list_in_chunks_is_a_list(rt: HostRuntime) -> Result<(), Fail> {
         }
     }
     assert_eq!(rt; list.len(), plain.len());
+    for place in 0..plain.len() {
+        if place % 3 == 0 && place < list.len() {
+            list.set(place, 7);
+            plain[place] = 7;
+        }
+    }
     for place in 0..plain.len() {
         if place < list.len() {
             assert_eq!(rt; list.get(place), plain[place], "{place}");

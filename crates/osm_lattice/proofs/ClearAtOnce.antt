@@ -1,5 +1,5 @@
 -- Segments that few tests tell to be clear: one is on one side of the line of the other, or leaves it at an end of both.
-use Rattle.std.proofs.Common.{◌≡◌, pos, Bool, true, false, not, ◌&&◌, ◌||◌, Some, None, refl, arith, ◌∙◌}
+use Rattle.std.proofs.Common.{ℤ, ◌≡◌, pos, Bool, true, false, not, ◌&&◌, ◌||◌, Some, None, refl, arith, ◌∙◌}
 use Rattle.std.specs.Prelude.{◌<ℤ◌, ◌≤ℤ◌}
 use Rattle.std.specs.Ordering.{is_eq}
 use Rattle.std.proofs.lemmas.Int.{ints}
@@ -94,6 +94,15 @@ reach_east p = omega (arith, ints)
 both : (b c : Bool) → (b && c) ≡ true → (b ≡ true) × (c ≡ true)
 both true c h = (refl, h)
 both false c h = absurd (cc h)
+
+-- numbers from which neither end of s lies east, nor one of t west
+pub west_by : (s t : Seg) (m n : ℤ) → s.a.x ≤ℤ m → s.b.x ≤ℤ m → n ≤ℤ t.a.x → n ≤ℤ t.b.x → lt_z m n ≡ true → west s t ≡ true
+west_by s t m n sa sb ta tb less =
+    let aa : lt_z s.a.x t.a.x ≡ true = grind (arith, ints) in
+    let ab : lt_z s.a.x t.b.x ≡ true = grind (arith, ints) in
+    let ba : lt_z s.b.x t.a.x ≡ true = grind (arith, ints) in
+    let bb : lt_z s.b.x t.b.x ≡ true = grind (arith, ints) in
+    rw (aa, ab, ba, bb) refl
 
 -- the end of s that is farther right parts them
 pub west_clear : (s t : Seg) → west s t ≡ true → conflict_of s t ≡ None

@@ -132,17 +132,11 @@ fn are_at_other_heights(s: Seg, t: Seg) -> bool
     s.b.y < t.a.y || t.b.y < s.a.y
 }
 
-fn is_west_of(p: Loc, q: Loc) -> bool
-    ensures { result ≡ lt_z p.x q.x }
-{
-    p.x < q.x
-}
-
 /// Each end of the first is left of both ends of the second.
 fn is_left_of(s: Seg, t: Seg) -> bool
-    ensures { result ≡ west s t }
+    ensures { result ≡ true → west s t ≡ true }
 {
-    is_west_of(s.a, t.a) && is_west_of(s.a, t.b) && is_west_of(s.b, t.a) && is_west_of(s.b, t.b)
+    s.a.x.max(s.b.x) < t.a.x.min(t.b.x)
 }
 
 /// Whether one of two segments lies above the other or beside it, as most do of which neither comes near the other: they have no conflict.

@@ -75,6 +75,8 @@ fn survivors_repeats_and_odd_nodes(rt: HostRuntime) -> Result<(), Fail> {
             "{lines}"
         );
         assert_eq!(rt; odd_nodes(alloc, &list)?.len(), odd, "{lines}");
+        let faults = faults_of(alloc, &survivors(alloc, &list)?)?;
+        assert_eq!(rt; faults.odd_nodes.len(), odd, "{lines}");
         let expected = repeats(alloc, twice, times)?;
         assert_eq!(rt;
             repeated(alloc, &list)?.as_slice(),
@@ -191,7 +193,7 @@ fn pair(kind: Kind, s: Seg, t: Seg) -> Pair {
 
 /// The conflicts among segments in any order.
 fn conflicts_among(alloc: Global, segs: &[Seg]) -> Result<Vec<Pair>, Fail> {
-    Ok(conflicts(alloc, &distinct(alloc, segs)?)?)
+    Ok(faults_of(alloc, &distinct(alloc, segs)?)?.conflicts)
 }
 
 /// A segment, given from the foot of a post 4 high, and how it conflicts with the post.
@@ -324,5 +326,27 @@ fn one_conflict_among_a_million(rt: HostRuntime) -> Result<(), Fail> {
     segs.push(last)?;
     let pairs = [pair(Kind::Crossing, seg(0, 0, 0, 1)?, last)];
     assert_eq!(rt; conflicts_among(alloc, &segs)?.as_slice(), pairs.as_slice());
+    Ok(())
+}
+
+#[test]
+fn a_long_line_and_a_ring(rt: HostRuntime) -> Result<(), Fail> {
+    let alloc = rt.alloc();
+    // A hundred steps up and down from 0,0 to 100,0, and then three sides that go back below them.
+    let mut segs = Vec::new(alloc);
+    for i in 0..50u32 {
+        let x = 2 * i64::from(i);
+        segs.push(seg(x, 0, x + 1, 1)?)?;
+        segs.push(seg(x + 1, 1, x + 2, 0)?)?;
+    }
+    let line = faults_of(alloc, &distinct(alloc, &segs)?)?;
+    let ends = [loc(0, 0)?, loc(100, 0)?];
+    assert_eq!(rt; line.odd_nodes.as_slice(), ends.as_slice());
+    assert!(rt; line.conflicts.is_empty());
+    segs.push(seg(0, 0, 0, -5)?)?;
+    segs.push(seg(0, -5, 100, -5)?)?;
+    segs.push(seg(100, -5, 100, 0)?)?;
+    let ring = faults_of(alloc, &distinct(alloc, &segs)?)?;
+    assert!(rt; ring.odd_nodes.is_empty() && ring.conflicts.is_empty());
     Ok(())
 }
