@@ -69,3 +69,15 @@ inner_step polygons i p s old new h is inv after =
     ∙ (ap (λ rs. list_any test (inners (take i polygons) ++ rs)) (sym (append-nil p.inners))
     ∙ (ap (list_any test) (sym (flat_map-append (λ (p : Polygon). p.inners) (take i polygons) (p ∷ [])))
     ∙ ap (λ ps. is_in_rings (inners ps) s) (sym taken)))))
+
+-- ---- polygons gone through
+
+pub outers_any : (polygons : List Polygon) (s : Seg) → list_any (λ (p : Polygon). list_any (λ (e : Edge). carries s e.carrier) p.outer) polygons ≡ is_in_rings (outers polygons) s
+outers_any [] s = refl
+outers_any (p ∷ ps) s = ap (λ b. list_any (λ (e : Edge). carries s e.carrier) p.outer || b) (outers_any ps s)
+
+pub inners_any : (polygons : List Polygon) (s : Seg) → list_any (λ (p : Polygon). is_in_rings p.inners s) polygons ≡ is_in_rings (inners polygons) s
+inners_any [] s = refl
+inners_any (p ∷ ps) s =
+    ap (λ b. is_in_rings p.inners s || b) (inners_any ps s)
+    ∙ sym (list_any-append (list_any (λ (e : Edge). carries s e.carrier)) p.inners (inners ps))

@@ -11,11 +11,11 @@ use Rattle.osm_objects.specs.Object.{same_kind}
 use Rattle.osm_objects.specs.declared.problem.Note.{Note}
 use Rattle.osm_nest.specs.declared.polygon.Polygon.{Polygon}
 use Rattle.osm_area.specs.MemberWays.{ways_among}
-use Rattle.osm_area.specs.RoleKinds.{first_role, has_segment, note_by}
-use Rattle.osm_area.specs.Roles.{inners, is_in_rings, mentions, outers, role_note}
+use Rattle.osm_area.specs.RoleKinds.{first_role, note_by}
+use Rattle.osm_area.specs.Roles.{inners, is_in_rings, lies_in, mentions, outers, role_note}
 use Rattle.osm_area.specs.RoleWalk.{mentions_first, note_along, notes_along}
 use Rattle.osm_area.specs.Segments.{way_segments}
-use Rattle.osm_area.proofs.RoleLemmas.{filter_map_same, list_any_same, note_is}
+use Rattle.osm_area.proofs.RoleLemmas.{filter_map_same, note_is}
 
 -- ---- lists
 
@@ -60,14 +60,14 @@ no-way : (ws : List ℤ) (m : Member) → same_kind m.kind Way ≡ false → men
 no-way [] m none = refl
 no-way (w ∷ ws) m none = rw none refl
 
-module _ (outer inner : List Seg) (along : ℤ → List Seg) where
-  skipped : (m : Member) (ms : List Member) (ws : List ℤ) → mentions_first m ws ≡ false → notes_along outer inner along (m ∷ ms) ws ≡ notes_along outer inner along ms ws
+module _ (polygons : List Polygon) (along : ℤ → List Seg) where
+  skipped : (m : Member) (ms : List Member) (ws : List ℤ) → mentions_first m ws ≡ false → notes_along polygons along (m ∷ ms) ws ≡ notes_along polygons along ms ws
   skipped m ms [] none = refl
   skipped m ms (w ∷ ws) none = rw none refl
 
   -- the note by the first of the members that is the way
   abbrev note_first : List Member → ℤ → Option Note
-  note_first members way = note_by (first_role members way) way (list_any (has_segment outer) (along way)) (list_any (has_segment inner) (along way))
+  note_first members way = note_by (first_role members way) way (list_any (is_in_rings (outers polygons)) (along way)) (list_any (is_in_rings (inners polygons)) (along way))
 
   behind-other : (m : Member) (ms : List Member) (w : ℤ) → mentions w m ≡ false → note_first (m ∷ ms) w ≡ note_first ms w
   behind-other m ms w none = rw none refl
@@ -77,7 +77,7 @@ module _ (outer inner : List Seg) (along : ℤ → List Seg) where
   left seen members = filter (λ w. not (seen w)) (each_once int_eq (ways_among members))
 
   abbrev IsWalked : List Member → List ℤ → Type 0
-  IsWalked members ws = notes_along outer inner along members ws ≡ filter_map (note_first members) ws
+  IsWalked members ws = notes_along polygons along members ws ≡ filter_map (note_first members) ws
 
   not-a-way : (m : Member) (ms : List Member) (ws : List ℤ) → same_kind m.kind Way ≡ false → IsWalked ms ws → IsWalked (m ∷ ms) ws
   not-a-way m ms ws none rest =
@@ -97,13 +97,13 @@ module _ (outer inner : List Seg) (along : ℤ → List Seg) where
       and-none true = refl
       and-none false = refl
 
-      by : (b : Bool) → notes_along outer inner along ms (left (λ w. int_eq m.id w || seen w) ms) ≡ filter_map (note_first (m ∷ ms)) (left (λ w. int_eq m.id w || seen w) ms)
+      by : (b : Bool) → notes_along polygons along ms (left (λ w. int_eq m.id w || seen w) ms) ≡ filter_map (note_first (m ∷ ms)) (left (λ w. int_eq m.id w || seen w) ms)
           → mentions_first m (left (λ w. int_eq m.id w || seen w) ms) ≡ false
           → IsWalked (m ∷ ms) (cond (not b) (m.id ∷ left (λ w. int_eq m.id w || seen w) ms) (left (λ w. int_eq m.id w || seen w) ms))
       by true others none = skipped m ms (left (λ w. int_eq m.id w || seen w) ms) none ∙ others
       by false others none =
           let here : mentions m.id m ≡ true = rw (is, int_eq_equiv.refl m.id) refl in
-          rw here (ap (λ ns. cons_option (note_along outer inner m.role m.id (along m.id)) ns) others)
+          rw here (ap (λ ns. cons_option (note_along polygons m.role m.id (along m.id)) ns) others)
 
   walked : (members : List Member) (seen : ℤ → Bool) → IsWalked members (left seen members)
   walked [] seen = refl
@@ -114,16 +114,14 @@ module _ (outer inner : List Seg) (along : ℤ → List Seg) where
       by true is rest = rw (is, unseen seen m.id (each_once int_eq (ways_among ms))) (one-way m ms seen is (rest (λ w. int_eq m.id w || seen w)) (seen m.id) refl)
 
 -- ways in order of first mention have the notes that the definition gives them
-pub notes_walked : (objects : List Object) (members : List Member) (polygons : List Polygon) (outer inner : List Seg) (ways : List ℤ)
-    → ((s : Seg) → has_segment outer s ≡ is_in_rings (outers polygons) s) → ((s : Seg) → has_segment inner s ≡ is_in_rings (inners polygons) s) → ways ≡ each_once int_eq (ways_among members)
-    → notes_along outer inner (way_segments objects) members ways ≡ filter_map (role_note objects members polygons) ways
-notes_walked objects members polygons outer inner ways o i w =
+pub notes_walked : (objects : List Object) (members : List Member) (polygons : List Polygon) (ways : List ℤ) → ways ≡ each_once int_eq (ways_among members)
+    → notes_along polygons (way_segments objects) members ways ≡ filter_map (role_note objects members polygons) ways
+notes_walked objects members polygons ways w =
     let all : ways ≡ filter (λ (v : ℤ). not false) (each_once int_eq (ways_among members)) = w ∙ sym (filter-all (each_once int_eq (ways_among members))) in
-    let first : ℤ → Option Note = note_first outer inner (way_segments objects) members in
-    ap (notes_along outer inner (way_segments objects) members) all
-    ∙ (walked outer inner (way_segments objects) members (λ v. false)
+    let first : ℤ → Option Note = note_first polygons (way_segments objects) members in
+    ap (notes_along polygons (way_segments objects) members) all
+    ∙ (walked polygons (way_segments objects) members (λ v. false)
     ∙ (ap (filter_map first) (sym all)
     ∙ filter_map_same first (role_note objects members polygons)
-    (λ way. note_is objects members polygons way (first_role members way) (list_any (has_segment outer) (way_segments objects way)) (list_any (has_segment inner) (way_segments objects way))
-    refl (list_any_same (has_segment outer) (is_in_rings (outers polygons)) o (way_segments objects way)) (list_any_same (has_segment inner) (is_in_rings (inners polygons)) i (way_segments objects way)))
+    (λ way. note_is objects members polygons way (first_role members way) (lies_in objects (outers polygons) way) (lies_in objects (inners polygons) way) refl refl refl)
     ways))

@@ -5,6 +5,7 @@ pub mod Names
 pub mod Notes
 pub mod Outcome
 pub mod Problems
+pub mod RingSegments
 pub mod RoleKinds
 pub mod Roles
 pub mod RoleWalk

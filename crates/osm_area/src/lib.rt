@@ -12,6 +12,7 @@ mod once;
 mod outcome;
 mod outcome_lists;
 mod problems;
+mod ring_lines;
 mod ring_segments;
 mod role_notes;
 mod roles;

@@ -6,6 +6,7 @@ ghost use Rattle.std.specs.List.Sorted.{IsSorted};
 ghost use Rattle.osm_lattice.specs.declared.seg.Seg.{Seg};
 ghost use Rattle.osm_geom.specs.declared.edge.Edge.{Edge};
 ghost use Rattle.osm_lattice.specs.Seg.{seg_cmp};
+ghost use Rattle.osm_area.specs.RingSegments.{AreSegmentsOf};
 ghost use Rattle.osm_area.specs.RoleKinds.{has_segment};
 ghost use Rattle.osm_area.specs.Roles.{carries, is_in_rings, outers, inners};
 
@@ -13,6 +14,13 @@ use osm_geom::{Carrier, Edge, Seg};
 use osm_nest::Polygon;
 use osm_rings::Ring;
 use std::alloc::{AllocError as OutOfMemory, Global};
+
+/// The segments along which outer and inner rings run, in order.
+#[derive(Drop)]
+pub struct RingSegments {
+    pub outer: Vec<Seg>,
+    pub inner: Vec<Seg>,
+}
 
 /// Adds the segment of an edge.
 fn add_edge(segs: &mut Vec<Seg>, edge: &Edge) -> Result<(), OutOfMemory>
@@ -62,7 +70,7 @@ fn in_order(segs: Vec<Seg>) -> Vec<Seg>
 }
 
 /// The segments along which the outer rings of polygons run, in order.
-pub fn outer_segments(alloc: Global, polygons: &[Polygon]) -> Result<Vec<Seg>, OutOfMemory>
+fn outer_segments(alloc: Global, polygons: &[Polygon]) -> Result<Vec<Seg>, OutOfMemory>
     ensures held { IfOk result (λ segs. (s : Seg)
         → has_segment segs.items s ≡ is_in_rings (outers polygons.now) s) }
     ensures sorted { IfOk result (λ segs. IsSorted seg_cmp segs.items) }
@@ -75,7 +83,7 @@ pub fn outer_segments(alloc: Global, polygons: &[Polygon]) -> Result<Vec<Seg>, O
 }
 
 /// The segments along which the inner rings of polygons run, in order.
-pub fn inner_segments(alloc: Global, polygons: &[Polygon]) -> Result<Vec<Seg>, OutOfMemory>
+fn inner_segments(alloc: Global, polygons: &[Polygon]) -> Result<Vec<Seg>, OutOfMemory>
     ensures held { IfOk result (λ segs. (s : Seg)
         → has_segment segs.items s ≡ is_in_rings (inners polygons.now) s) }
     ensures sorted { IfOk result (λ segs. IsSorted seg_cmp segs.items) }
@@ -87,18 +95,19 @@ pub fn inner_segments(alloc: Global, polygons: &[Polygon]) -> Result<Vec<Seg>, O
     Ok(in_order(segs))
 }
 
+/// The segments along which the rings of polygons run.
+pub fn ring_segments(alloc: Global, polygons: &[Polygon]) -> Result<RingSegments, OutOfMemory>
+    ensures { IfOk result (AreSegmentsOf polygons.now) }
+{
+    let outer = outer_segments(alloc, polygons)?;
+    let inner = inner_segments(alloc, polygons)?;
+    Ok(RingSegments { outer, inner })
+}
+
 /// Whether a segment is among these, which are in order.
-fn holds(segs: &[Seg], seg: &Seg) -> bool
+pub fn holds(segs: &[Seg], seg: &Seg) -> bool
     requires { IsSorted seg_cmp segs.now }
     ensures { result ≡ has_segment segs.now seg.now }
 {
     segs.binary_search(seg).is_ok()
-}
-
-/// Whether some of the segments along a way is among these, which are in order.
-pub fn holds_some(segs: &[Seg], along: &[Seg]) -> bool
-    requires { IsSorted seg_cmp segs.now }
-    ensures { result ≡ list_any (has_segment segs.now) along.now }
-{
-    along.iter().any(|seg| holds(segs, seg))
 }

@@ -1,36 +1,28 @@
 //! Notes on roles that differ from what the geometry says.
 
-ghost use Rattle.std.specs.Prelude.{◌≡◌, ◌++◌, ◌∷◌, [], ℤ, List, IfOk, OnOk};
+ghost use Rattle.std.specs.Prelude.{◌≡◌, ◌++◌, ◌∷◌, [], ℤ, List, IfOk, IfSome, OnOk};
 ghost use Rattle.std.specs.List.{cons_option, filter_map, list_any};
-ghost use Rattle.std.specs.List.Sorted.{IsSorted};
 ghost use Rattle.osm_lattice.specs.declared.seg.Seg.{Seg};
-ghost use Rattle.osm_lattice.specs.Seg.{seg_cmp};
 ghost use Rattle.std.specs.Ordering.{int_eq};
 ghost use Rattle.lists.specs.Once.{each_once};
 ghost use Rattle.opl_reader.specs.Seen.{member_seen};
 ghost use Rattle.opl_reader.specs.declared.object.Object.{Object};
 ghost use Rattle.osm_area.specs.MemberWays.{member_ways, ways_among};
-ghost use Rattle.osm_area.specs.RoleKinds.{has_segment, note_on};
+ghost use Rattle.osm_area.specs.RingSegments.{AreSegmentsOf};
+ghost use Rattle.osm_area.specs.RoleKinds.{note_on};
 ghost use Rattle.osm_area.specs.RoleWalk.{HaveSegments, IsStep, mentions_first, note_along, notes_along};
-ghost use Rattle.osm_area.specs.Roles.{role_note, role_notes_of};
+ghost use Rattle.osm_area.specs.Roles.{inners, is_in_rings, outers, role_note, role_notes_of};
 ghost use Rattle.osm_area.specs.Segments.{way_segments};
 
 use crate::member_ways::is_way;
 use crate::outcome_lists::Notes;
-use crate::ring_segments::{holds_some, inner_segments, outer_segments};
+use crate::ring_lines::{RingLines, ring_lines, some_in_inner, some_in_outer};
 use crate::roles::{Role, any_names_a_ring, role_named};
 use opl_reader::{MemberRef, Members, ObjectKind, ObjectRef};
 use osm_geom::Seg;
 use osm_nest::Polygons;
 use osm_objects::{Note, Store};
 use std::alloc::{AllocError as OutOfMemory, Global};
-
-/// The segments along which outer and inner rings run, in order.
-#[derive(Drop)]
-struct RingSegments {
-    outer: Vec<Seg>,
-    inner: Vec<Seg>,
-}
 
 /// Ways, their segments, one way after the other, and how many each has.
 #[derive(Clone, Copy)]
@@ -70,16 +62,15 @@ fn first_way<'a>(ways: Ways<'a>) -> (&'a [Seg], Ways<'a>)
 }
 
 /// The note on a way that has this role and these segments, if there is one.
-fn note_on(rings: &RingSegments, role: Role, way: i64, along: &[Seg]) -> Option<Note>
-    requires outer { IsSorted seg_cmp rings.now.outer.items }
-    requires inner { IsSorted seg_cmp rings.now.inner.items }
+fn note_on(lines: &RingLines<'_>, role: Role, way: i64, along: &[Seg]) -> Option<Note>
+    requires { IfSome lines.now.segments (AreSegmentsOf lines.now.polygons.now) }
     ensures { result ≡ note_on role way
-        (list_any (has_segment rings.now.outer.items) along.now)
-        (list_any (has_segment rings.now.inner.items) along.now) }
+        (list_any (is_in_rings (outers lines.now.polygons.now)) along.now)
+        (list_any (is_in_rings (inners lines.now.polygons.now)) along.now) }
 {
     match role {
-        Role::Inner => { holds_some(&rings.outer, along).then_some(Note::InnerInOuter { way }) }
-        Role::Outer => { holds_some(&rings.inner, along).then_some(Note::OuterInInner { way }) }
+        Role::Inner => { some_in_outer(lines, along).then_some(Note::InnerInOuter { way }) }
+        Role::Outer => { some_in_inner(lines, along).then_some(Note::OuterInInner { way }) }
         Role::Other => None,
     }
 }
@@ -87,16 +78,15 @@ fn note_on(rings: &RingSegments, role: Role, way: i64, along: &[Seg]) -> Option<
 /// Adds the note on the way that a member mentions, if there is one.
 fn add_note(
     notes: &mut Notes,
-    rings: &RingSegments,
+    lines: &RingLines<'_>,
     member: &MemberRef<'_>,
     along: &[Seg],
 ) -> Result<(), OutOfMemory>
-    requires outer { IsSorted seg_cmp rings.now.outer.items }
-    requires inner { IsSorted seg_cmp rings.now.inner.items }
+    requires { IfSome lines.now.segments (AreSegmentsOf lines.now.polygons.now) }
     ensures { OnOk result (notes.new ≡ notes.old ++ cons_option
-        (note_along rings.now.outer.items rings.now.inner.items member.now.role.now member.now.id along.now) []) }
+        (note_along lines.now.polygons.now member.now.role.now member.now.id along.now) []) }
 {
-    if let Some(note) = note_on(rings, role_named(member.role), member.id, along) {
+    if let Some(note) = note_on(lines, role_named(member.role), member.id, along) {
         notes.push(note)?;
     }
     Ok(())
@@ -105,14 +95,13 @@ fn add_note(
 /// Adds the note on the first of the ways, if this member is that one. It answers the ways that are left.
 fn add_note_at<'a>(
     notes: &mut Notes,
-    rings: &RingSegments,
+    lines: &RingLines<'_>,
     member: &MemberRef<'_>,
     ways: Ways<'a>,
 ) -> Result<Ways<'a>, OutOfMemory>
-    requires outer { IsSorted seg_cmp rings.now.outer.items }
-    requires inner { IsSorted seg_cmp rings.now.inner.items }
+    requires { IfSome lines.now.segments (AreSegmentsOf lines.now.polygons.now) }
     ensures { IfOk result (λ behind. (along : ℤ → List Seg)
-        → IsStep rings.now.outer.items rings.now.inner.items along (member_seen member.now)
+        → IsStep lines.now.polygons.now along (member_seen member.now)
         ways.entry.ids.now ways.entry.counts.now ways.entry.segs.now
         behind.ids.now behind.counts.now behind.segs.now notes.old notes.new) }
 {
@@ -120,28 +109,27 @@ fn add_note_at<'a>(
         return Ok(ways);
     }
     let (along, behind) = first_way(ways);
-    add_note(notes, rings, member, along)?;
+    add_note(notes, lines, member, along)?;
     Ok(behind)
 }
 
 /// Adds the notes on ways that are in order of first mention among these members.
 fn add_all(
     notes: &mut Notes,
-    rings: &RingSegments,
+    lines: &RingLines<'_>,
     members: &Members,
     ways: Ways<'_>,
 ) -> Result<(), OutOfMemory>
-    requires outer { IsSorted seg_cmp rings.now.outer.items }
-    requires inner { IsSorted seg_cmp rings.now.inner.items }
+    requires { IfSome lines.now.segments (AreSegmentsOf lines.now.polygons.now) }
     ensures { OnOk result ((along : ℤ → List Seg)
         → HaveSegments along ways.entry.ids.now ways.entry.counts.now ways.entry.segs.now
-        → notes.new ≡ notes.old ++ notes_along rings.now.outer.items rings.now.inner.items along
+        → notes.new ≡ notes.old ++ notes_along lines.now.polygons.now along
         members.now ways.entry.ids.now) }
 {
     let mut behind = ways;
     let mut rest = members.iter();
     while let Some(member) = rest.next() {
-        behind = add_note_at(notes, rings, &member, behind)?;
+        behind = add_note_at(notes, lines, &member, behind)?;
     }
     Ok(())
 }
@@ -162,11 +150,8 @@ fn add_notes_among(
     if !any_names_a_ring(members) {
         return Ok(());
     }
-    let rings = RingSegments {
-        outer: outer_segments(alloc, polygons.as_slice())?,
-        inner: inner_segments(alloc, polygons.as_slice())?,
-    };
-    add_all(notes, &rings, members, ways)
+    let lines = ring_lines(alloc, polygons.as_slice(), ways.segs.len())?;
+    add_all(notes, &lines, members, ways)
 }
 
 /// Adds a note for each of a candidate's ways that is first mentioned as `inner` and lies in an outer ring, or as `outer`

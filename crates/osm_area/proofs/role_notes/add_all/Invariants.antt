@@ -8,7 +8,7 @@ abbrev pub invariant-loop-member : goal.invariant-loop-member
 invariant-loop-member l = record {
   segments : (along : ℤ → List Seg) → HaveSegments along l.ways.ids.now l.ways.counts.now l.ways.segs.now → HaveSegments along l.behind.ids.now l.behind.counts.now l.behind.segs.now;
   notes : (along : ℤ → List Seg) → HaveSegments along l.ways.ids.now l.ways.counts.now l.ways.segs.now
-      → l.notes ++ notes_along l.rings.outer.items l.rings.inner.items along l.rest l.behind.ids.now ≡ l.fn.notes ++ notes_along l.rings.outer.items l.rings.inner.items along l.members l.ways.ids.now;
+      → l.notes ++ notes_along l.lines.polygons.now along l.rest l.behind.ids.now ≡ l.fn.notes ++ notes_along l.lines.polygons.now along l.members l.ways.ids.now;
 }
 
 abbrev pub decreases-loop-member : goal.decreases-loop-member

@@ -1,7 +1,8 @@
 -- The notes of the walk are those by the members and the rings.
 use Rattle.std.proofs.Common.{◌∙◌, ◌++◌, append-nil, sym, ap}
+use Rattle.std.specs.List.{filter_map}
 use Rattle.std.proofs.lemmas.Result.{on_ok_weaker}
-use Rattle.osm_area.specs.Roles.{is_in_rings, inners, outers}
+use Rattle.osm_area.specs.Roles.{role_note}
 use Rattle.osm_area.specs.Segments.{way_segments}
 use Rattle.osm_area.proofs.RoleLemmas.{notes_none}
 use Rattle.osm_area.proofs.RoleWalks.{notes_walked}
@@ -17,9 +18,6 @@ returns c =
     on_ok_weaker c.add_all.result
     (λ added objects have ways.
     added (way_segments objects) have
-    ∙ ap (λ ns. c.args.notes.now ++ ns)
-    (notes_walked objects c.args.members.now c.args.polygons.now c.in_ok-outer_segments.field-0.items c.in_ok-inner_segments.field-0.items c.args.ways.ids.now
-    (λ s. c.in_ok-outer_segments.ensures.held s ∙ ap (λ ps. is_in_rings (outers ps) s) c.as_slice.ensures)
-    (λ s. c.in_ok-inner_segments.ensures.held s ∙ ap (λ ps. is_in_rings (inners ps) s) c.as_slice-2.ensures)
-    ways))
+    ∙ (ap (λ ns. c.args.notes.now ++ ns) (notes_walked objects c.args.members.now c.in_ok-lines.lines.polygons.now c.args.ways.ids.now ways)
+    ∙ ap (λ ps. c.args.notes.now ++ filter_map (role_note objects c.args.members.now ps) c.args.ways.ids.now) (c.in_ok-lines.ensures.polygons ∙ c.as_slice.ensures)))
     c.add_all.ensures
