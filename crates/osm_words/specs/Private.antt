@@ -18,7 +18,7 @@ AnswersBy seen asked (Ok settings) = asked ≡ Ok (seen settings)
 AnswersBy seen asked (Err (BadWords cause)) = asked ≡ Err cause
 AnswersBy seen asked (Err OutOfMemory) = ⊤
 
--- the kind refuses the words, unless it is want of memory
+-- the kind refuses the words, or it is want of memory
 abbrev pub IsRefusal : ErrorKind → WordsError → Type 0
 IsRefusal kind (BadWords cause) = (cause ≡ Refused kind) × ¬ (kind ≡ WantOfMemory)
-IsRefusal kind OutOfMemory = ⊤
+IsRefusal kind OutOfMemory = kind ≡ WantOfMemory
