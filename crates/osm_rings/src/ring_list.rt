@@ -48,7 +48,7 @@ fn cut_rings(alloc: Global, edges: &[Edge]) -> Result<Rings, OutOfMemory>
     let departures = departures(alloc, edges)?;
     let next = successors(alloc, edges, &departures)?;
     if are_apart(&departures) {
-        // Departures are as large as edges, and the rings are about to be made.
+        // They are given back before the rings are made.
         mem::drop(departures);
         return walked_rings(alloc, edges, &next);
     }
