@@ -3,7 +3,7 @@ ghost use Rattle.std.specs.Prelude.{◌≡◌, ◌<◌, ◌≤◌, IfOk, IsPermu
 ghost use Rattle.osm_lattice.specs.Seg.{seg_cmp};
 ghost use Rattle.lists.specs.Rising.{IsRising};
 ghost use Rattle.osm_segments.specs.Counts.{AreOddNodes};
-ghost use Rattle.osm_segments.specs.Pairs.{conflicts_of};
+ghost use Rattle.osm_segments.specs.Pairs.{conflicts_of, pair_cmp};
 
 use crate::clear::{by_ends, sort_by_ends};
 use crate::counts::odd_nodes;
@@ -60,8 +60,7 @@ fn faults_of_few(alloc: Global, segs: &[Seg]) -> Result<Faults, OutOfMemory>
     })
 }
 
-/// What `conflicts` and `odd_nodes` give of segments in strict order.
-pub fn faults_of(alloc: Global, segs: &[Seg]) -> Result<Faults, OutOfMemory>
+fn all_faults(alloc: Global, segs: &[Seg]) -> Result<Faults, OutOfMemory>
     requires { IsRising seg_cmp segs.now }
     ensures conflicts { IfOk result (λ f. f.conflicts.items ≡ conflicts_of segs.now) }
     ensures odd_nodes { IfOk result (λ f. AreOddNodes segs.now f.odd_nodes.items) }
@@ -76,4 +75,14 @@ pub fn faults_of(alloc: Global, segs: &[Seg]) -> Result<Faults, OutOfMemory>
         conflicts,
         odd_nodes,
     })
+}
+
+/// What `conflicts` and `odd_nodes` give of segments in strict order.
+pub fn faults_of(alloc: Global, segs: &[Seg]) -> Result<Faults, OutOfMemory>
+    requires { IsRising seg_cmp segs.now }
+    ensures conflicts { IfOk result (λ f. f.conflicts.items ≡ conflicts_of segs.now) }
+    ensures rising { IfOk result (λ f. IsRising pair_cmp f.conflicts.items) }
+    ensures odd_nodes { IfOk result (λ f. AreOddNodes segs.now f.odd_nodes.items) }
+{
+    all_faults(alloc, segs)
 }
