@@ -6,7 +6,7 @@ ghost use Rattle.osm_nest.specs.Cover.{AreSided};
 ghost use Rattle.plane_edges.specs.Sided.{IsSided};
 
 use osm_geom::Edge;
-use osm_nest::{Polygons, nest, rings_may_be_nested};
+use osm_nest::{Polygons, nest_rings, rings_may_be_nested};
 use osm_rings::rings;
 use std::alloc::{AllocError as OutOfMemory, Global};
 
@@ -18,5 +18,5 @@ pub(crate) fn polygons(alloc: Global, edges: &[Edge]) -> Result<Polygons, OutOfM
 {
     rings_may_be_nested();
     let rings = rings(alloc, edges)?;
-    nest(alloc, rings.as_slice())
+    nest_rings(alloc, rings)
 }
