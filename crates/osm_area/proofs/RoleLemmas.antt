@@ -13,7 +13,7 @@ use Rattle.osm_objects.specs.declared.problem.Note.TheVariants.{InnerInOuter, Ou
 use Rattle.osm_nest.specs.declared.polygon.Polygon.{Polygon}
 use Rattle.osm_area.specs.declared.roles.Role.{Role}
 use Rattle.osm_area.specs.declared.roles.Role.TheVariants.{Inner, Outer, Other}
-use Rattle.osm_area.specs.RoleKinds.{role_named, first_role, names_a_ring, note_on, note_by}
+use Rattle.osm_area.specs.RoleKinds.{role_named, names_a_ring, note_on}
 use Rattle.osm_area.specs.Roles.{mentions, lies_in, inners, outers, members_by, members_of, role_note, role_notes_of}
 use Rattle.std.proofs.lemmas.Bool.{or_parts}
 
@@ -32,6 +32,15 @@ list_any_same p q same [] = refl
 list_any_same p q same (x ∷ xs) = rw (same x, list_any_same p q same xs) refl
 
 -- ---- the note on a way
+
+-- the role of the first of the members that is this way
+abbrev pub first_role : List Member → ℤ → Option Role
+first_role members way = option_map (λ m. role_named m.role) (find (mentions way) members)
+
+-- the note on a way with this role, if it has any
+abbrev pub note_by : Option Role → ℤ → (in_outer in_inner : Bool) → Option Note
+note_by None way in_outer in_inner = None
+note_by (Some role) way in_outer in_inner = note_on role way in_outer in_inner
 
 -- no role is both
 inner-not-outer : (role : List ℕ) → bytes_eq role (codes "inner") ≡ true → bytes_eq role (codes "outer") ≡ false

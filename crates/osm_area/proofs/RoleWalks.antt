@@ -11,11 +11,10 @@ use Rattle.osm_objects.specs.Object.{same_kind}
 use Rattle.osm_objects.specs.declared.problem.Note.{Note}
 use Rattle.osm_nest.specs.declared.polygon.Polygon.{Polygon}
 use Rattle.osm_area.specs.MemberWays.{ways_among}
-use Rattle.osm_area.specs.RoleKinds.{first_role, note_by}
 use Rattle.osm_area.specs.Roles.{inners, is_in_rings, lies_in, mentions, outers, role_note}
 use Rattle.osm_area.specs.RoleWalk.{mentions_first, note_along, notes_along}
 use Rattle.osm_area.specs.Segments.{way_segments}
-use Rattle.osm_area.proofs.RoleLemmas.{filter_map_same, note_is}
+use Rattle.osm_area.proofs.RoleLemmas.{filter_map_same, first_role, note_by, note_is}
 
 -- ---- lists
 

@@ -44,11 +44,13 @@ fn complete(
     ways: Ways<'_>,
     mut notes: Notes,
 ) -> Result<Outcome, OutOfMemory>
-    requires segments { HaveSegments (way_segments store.now) ways.ids.now ways.counts.now ways.segs.now }
+    requires segments { HaveSegments (way_segments store.now) ways.ids.now ways.counts.now
+        ways.segs.now }
     requires ways { ways.ids.now ≡ member_ways store.now candidate }
     ensures right { IfOk result (λ outcome. (twice : List ℤ)
         → notes ≡ map named_twice_note twice
-        → IsOutcomeGiven [] twice ways.entry.segs.now (role_notes_of store.now candidate ways.entry.ids.now) outcome) }
+        → IsOutcomeGiven [] twice ways.entry.segs.now
+        (role_notes_of store.now candidate ways.entry.ids.now) outcome) }
     ensures rings { IfOk result (λ outcome. All HasKinds (polygons_in outcome)) }
     ensures whole { IfOk result (λ outcome.
         All (All IsWholeSegment) (rings_of (polygons_in outcome))) }

@@ -143,9 +143,11 @@ fn add_notes_among(
     ways: Ways<'_>,
 ) -> Result<(), OutOfMemory>
     ensures { OnOk result ((objects : List Object)
-        → HaveSegments (way_segments objects) ways.entry.ids.now ways.entry.counts.now ways.entry.segs.now
+        → HaveSegments (way_segments objects) ways.entry.ids.now ways.entry.counts.now
+        ways.entry.segs.now
         → ways.entry.ids.now ≡ each_once int_eq (ways_among members.now)
-        → notes.new ≡ notes.old ++ filter_map (role_note objects members.now polygons.now) ways.entry.ids.now) }
+        → notes.new ≡ notes.old
+        ++ filter_map (role_note objects members.now polygons.now) ways.entry.ids.now) }
 {
     if !any_names_a_ring(members) {
         return Ok(());
@@ -164,7 +166,8 @@ pub fn add_role_notes(
     polygons: &Polygons,
     ways: Ways<'_>,
 ) -> Result<(), OutOfMemory>
-    requires segments { HaveSegments (way_segments store.now) ways.ids.now ways.counts.now ways.segs.now }
+    requires segments { HaveSegments (way_segments store.now) ways.ids.now ways.counts.now
+        ways.segs.now }
     requires ways { ways.ids.now ≡ member_ways store.now candidate }
     ensures { OnOk result (notes.new
         ≡ notes.old ++ role_notes_of store.now candidate ways.entry.ids.now polygons.now) }
