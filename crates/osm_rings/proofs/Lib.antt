@@ -1,12 +1,12 @@
 mod ApartEdges
 mod Clockwise
+mod ClosedWalks
 mod DeparturesRound
 mod EdgeDirs
 pub mod EdgeEquality
 mod FirstMets
 mod Halves
 pub mod LeastStarts
-mod LoneRings
 mod Multiplied
 mod OrbitWalks
 mod Placed
@@ -20,4 +20,6 @@ mod TurnedFrom
 pub mod TurnedRings
 pub mod UncrossedRings
 mod WalkCuts
+mod WalkSteps
+mod WalkedRings
 pub mod Whole

@@ -8,4 +8,4 @@ pub mod RingList
 pub mod Turned
 pub mod Departures
 pub mod Apart
-pub mod Round
+pub mod Walked

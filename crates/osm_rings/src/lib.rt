@@ -1,10 +1,9 @@
 //! The rings that a sided list of edges is cut into: the walks of successors, cut where they come to a node again.
 #![tactic(auto)]
 
-mod apart_rings;
 mod departures;
+mod few_rings;
 mod laws;
-mod lone_rings;
 mod ring;
 mod ring_list;
 mod sort_keys;

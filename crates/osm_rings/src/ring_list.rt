@@ -1,6 +1,7 @@
 //! The ring list of a sided list of edges.
 ghost use Rattle.std.specs.Prelude.{◌≡◌, ◌<◌, ◌∷◌, [], All, IfOk, length, map, ℕ};
 ghost use Rattle.orbits.specs.Orbits.{after};
+ghost use Rattle.osm_rings.specs.Apart.{LeaveApart};
 ghost use Rattle.osm_rings.specs.Departures.{AreDepartures, IsFirstMet};
 ghost use Rattle.osm_rings.specs.Numbered.{edge_at};
 ghost use Rattle.osm_rings.specs.Pieces.{AreAllCut, edges_at};
@@ -9,9 +10,8 @@ ghost use Rattle.osm_rings.specs.RingList.{AreRingsOf};
 ghost use Rattle.plane_edges.specs.Multiple.{whole_edges};
 ghost use Rattle.plane_edges.specs.Sided.{IsSided};
 
-use crate::apart_rings::{apart_rings, are_few_apart, walked_rings};
 use crate::departures::{Departure, are_apart, departures, node_numbers};
-use crate::lone_rings::lone_ring;
+use crate::few_rings::few_rings;
 use crate::ring::{Ring, Rings};
 use crate::successors::successors;
 use orbits::{cut, cycles};
@@ -40,6 +40,24 @@ fn cut_walks(
     rings_of(alloc, edges, &pieces)
 }
 
+/// The rings that successors make where no two edges leave one point: no walk is cut.
+fn walked_rings(
+    alloc: Global,
+    edges: &[Edge],
+    next: &[Option<usize>],
+) -> Result<Rings, OutOfMemory>
+    requires sided { IsSided edges.now }
+    requires apart { LeaveApart edges.now }
+    requires sized { length next.now ≡ length edges.now }
+    requires first { (i : ℕ) → i < length edges.now
+        → IsFirstMet (whole_edges edges.now) (edge_at (whole_edges edges.now) i)
+        (after next.now i) }
+    ensures { IfOk result (λ v. AreRingsOf edges.now v) }
+{
+    let walks = cycles(alloc, next)?;
+    rings_of(alloc, edges, &walks)
+}
+
 /// The rings of a sided list of edges. Where no two edges leave one point, no walk needs to be cut.
 fn cut_rings(alloc: Global, edges: &[Edge]) -> Result<Rings, OutOfMemory>
     requires { IsSided edges.now }
@@ -55,16 +73,6 @@ fn cut_rings(alloc: Global, edges: &[Edge]) -> Result<Rings, OutOfMemory>
     cut_walks(alloc, edges, &departures, &next)
 }
 
-/// A list of one ring, of these edges.
-fn ring_alone(alloc: Global, edges: Vec<Edge>) -> Result<Rings, OutOfMemory>
-    requires { IsRing edges.items }
-    ensures { IfOk result (λ v. v ≡ edges.items ∷ []) }
-{
-    let mut rings = Rings::with_capacity(alloc, 1)?;
-    rings.push(Ring::of_edges(edges))?;
-    Ok(rings)
-}
-
 /// The rings of a sided list of edges, between any points.
 ///
 /// Each edge lies in exactly one ring, there once, and the edges of a ring lie in one walk of successors. By the law
@@ -73,11 +81,8 @@ pub fn rings(alloc: Global, edges: &[Edge]) -> Result<Rings, OutOfMemory>
     requires { IsSided edges.now }
     ensures { IfOk result (λ v. AreRingsOf edges.now v) }
 {
-    if let Some(ring) = lone_ring(alloc, edges)? {
-        return ring_alone(alloc, ring);
-    }
-    if are_few_apart(edges) {
-        return apart_rings(alloc, edges);
+    if let Some(rings) = few_rings(alloc, edges)? {
+        return Ok(rings);
     }
     cut_rings(alloc, edges)
 }
@@ -103,7 +108,7 @@ fn pieces(
 }
 
 /// The edges at these places.
-fn edges_at(alloc: Global, edges: &[Edge], places: &[usize]) -> Result<Vec<Edge>, OutOfMemory>
+pub fn edges_at(alloc: Global, edges: &[Edge], places: &[usize]) -> Result<Vec<Edge>, OutOfMemory>
     requires { All (λ k. k < length edges.now) places.now }
     ensures { IfOk result (λ v. v.items ≡ edges_at edges.now places.now) }
 {
@@ -115,7 +120,7 @@ fn edges_at(alloc: Global, edges: &[Edge], places: &[usize]) -> Result<Vec<Edge>
 }
 
 /// The rings whose edges stand at these places.
-pub fn rings_of(alloc: Global, edges: &[Edge], pieces: &[Vec<usize>]) -> Result<Rings, OutOfMemory>
+fn rings_of(alloc: Global, edges: &[Edge], pieces: &[Vec<usize>]) -> Result<Rings, OutOfMemory>
     requires inside { All (λ p. All (λ k. k < length edges.now) p.items) pieces.now }
     requires rings { All (λ p. IsRing (edges_at edges.now p.items)) pieces.now }
     ensures { IfOk result (λ v. v ≡ map (λ p. edges_at edges.now p.items) pieces.now) }

@@ -1,7 +1,7 @@
 -- The first place at which the point is left.
 use Rattle.std.proofs.Common.{length, ◌≡◌, ◌∙◌, arith, sym}
 use Rattle.osm_rings.proofs.ApartEdges.{first-found, none-found, none-more}
-use Rattle.osm_rings.proofs.apart_rings.place_leaving.Goals as goal
+use Rattle.osm_rings.proofs.few_rings.place_leaving.Goals as goal
 
 pub loop-place-init : goal.loop-place-init
 loop-place-init c = λ i d below. absurd (omega arith)

@@ -8,7 +8,7 @@ use Rattle.osm_rings.specs.Ring.{IsRing}
 use Rattle.osm_rings.specs.RingList.{AreRingsOf}
 use Rattle.osm_rings.proofs.ApartEdges.{numbers, orbits-cut, places-tell}
 use Rattle.osm_rings.proofs.RingLists.{all-go-on, all-unmapped, if-ok, mapped-twice, pieces-are-rings, pieces-inside, pieces-ring, successors-of}
-use Rattle.osm_rings.proofs.apart_rings.walked_rings.Goals as goal
+use Rattle.osm_rings.proofs.ring_list.walked_rings.Goals as goal
 
 pub cycles-requires-clause-map : goal.cycles-requires-clause-map
 cycles-requires-clause-map c =

@@ -1,0 +1,143 @@
+//! The rings of a few edges of which no two leave one point, as nearly all areas have: walks along the edges themselves.
+//!
+//! The general way gives the same rings of them. Only speed rests on this one: it takes no memory but the rings'.
+ghost use Rattle.std.specs.Prelude.{◌≡◌, ◌<◌, ◌≤◌, IfOk, IfSome, false, length, slice_index_or, take};
+ghost use Rattle.std.specs.Ordering.{is_eq};
+ghost use Rattle.osm_geom.specs.Point.{point_cmp};
+ghost use Rattle.plane_edges.specs.Sided.{IsSided};
+ghost use Rattle.osm_rings.specs.Apart.{IsFirstLeaving};
+ghost use Rattle.osm_rings.specs.RingList.{AreRingsOf};
+ghost use Rattle.osm_rings.specs.Walked.{AreMarked, AreNoted, AreWalksOf, IsFresh, IsNoted};
+
+use crate::ring::{Ring, Rings};
+use crate::ring_list::edges_at;
+use osm_geom::{Edge, Point, order_points};
+use std::alloc::{AllocError as OutOfMemory, Global};
+
+/// So few edges are looked through for each sooner than they are sorted.
+pub const FEW: usize = 32;
+
+/// Whether two points are one.
+fn is_same_point(p: &Point, q: &Point) -> bool
+    ensures { result ≡ is_eq (point_cmp p.now q.now) }
+{
+    order_points(p, q).is_eq()
+}
+
+/// The place of the first edge that leaves a point.
+fn place_leaving(edges: &[Edge], p: &Point) -> Option<usize>
+    ensures { IsFirstLeaving edges.now p.now result }
+{
+    for (place, edge) in edges.iter().enumerate() {
+        if is_same_point(&edge.from, p) {
+            return Some(place);
+        }
+    }
+    None
+}
+
+/// The first place from one on that isn't marked.
+fn fresh_from(passed: &[bool], from: usize) -> Option<usize>
+    ensures { IfSome result (λ place. IsFresh passed.now place) }
+{
+    for place in from..passed.len() {
+        if !passed[place] {
+            return Some(place);
+        }
+    }
+    None
+}
+
+/// Notes the places of edges from a fresh one on, each the first that leaves the end of the one before it, after those
+/// noted before. The number of them, if they lead back to the start and to no other place passed before.
+fn walk_from(
+    edges: &[Edge],
+    start: usize,
+    done: usize,
+    passed: &mut [bool; FEW],
+    places: &mut [usize; FEW],
+) -> Option<usize>
+    requires few { length edges.now ≤ 32 }
+    requires inside { start < length edges.now }
+    requires fresh { IsFresh passed.old start }
+    requires marked { AreMarked (length edges.now) passed.old (take done places.old) }
+    ensures { IfSome result (λ size. IsNoted edges.now done size places.old places.new passed.new) }
+{
+    let mut place = start;
+    for end in done..edges.len() {
+        places[end] = place;
+        passed[place] = true;
+        let next = place_leaving(edges, &edges[place].to)?;
+        if next == start {
+            return Some(end + 1 - done);
+        }
+        if passed[next] {
+            return None;
+        }
+        place = next;
+    }
+    None
+}
+
+/// The walks of few edges: how many there are, their places one after the other, and how many places each has.
+/// None where there are more edges, where two leave one point, or where a walk doesn't lead back.
+///
+/// Each walk begins at the first place that none before it passes.
+pub fn few_walks(
+    edges: &[Edge],
+    places: &mut [usize; FEW],
+    sizes: &mut [usize; FEW],
+) -> Option<usize>
+    ensures { IfSome result (λ count. AreNoted edges.now count places.new sizes.new) }
+{
+    if edges.len() > FEW {
+        return None;
+    }
+    let mut passed = [false; FEW];
+    let mut start = 0;
+    let mut done = 0;
+    let mut count = 0;
+    while done < edges.len() {
+        start = fresh_from(&passed[..edges.len()], start)?;
+        let size = walk_from(edges, start, done, &mut passed, places)?;
+        sizes[count] = size;
+        count += 1;
+        done += size;
+    }
+    Some(count)
+}
+
+/// The rings along walks, of which each has so many of the places.
+fn rings_along(
+    alloc: Global,
+    edges: &[Edge],
+    places: &[usize],
+    sizes: &[usize],
+) -> Result<Rings, OutOfMemory>
+    requires sided { IsSided edges.now }
+    requires walks { AreWalksOf edges.now places.now sizes.now }
+    ensures { IfOk result (λ v. AreRingsOf edges.now v) }
+{
+    let mut rings = Rings::with_capacity(alloc, sizes.len())?;
+    let mut left = places;
+    for &size in sizes {
+        let (walk, rest) = left.split_at(size);
+        rings.push(Ring::of_edges(edges_at(alloc, edges, walk)?))?;
+        left = rest;
+    }
+    Ok(rings)
+}
+
+/// The rings of a sided list of few edges of which no two leave one point; none where it isn't such a list.
+pub fn few_rings(alloc: Global, edges: &[Edge]) -> Result<Option<Rings>, OutOfMemory>
+    requires { IsSided edges.now }
+    ensures { IfOk result (λ found. IfSome found (λ v. AreRingsOf edges.now v)) }
+{
+    let mut places = [0; FEW];
+    let mut sizes = [0; FEW];
+    let Some(count) = few_walks(edges, &mut places, &mut sizes) else {
+        return Ok(None);
+    };
+    let rings = rings_along(alloc, edges, &places[..edges.len()], &sizes[..count])?;
+    Ok(Some(rings))
+}
