@@ -1,13 +1,12 @@
 -- Of edges of which no two leave one point each walk of successors is a ring.
-use Rattle.std.proofs.Common.{◌≡◌, ◌≢◌, Bool, ℕ, zero, suc, ◌+◌, ◌<◌, List, [], ◌∷◌, ◌++◌, length, get_or, All, eqb-true, nat_eq, not, false, true, Option, Some, None, refl, sym, ap, subst, ◌∙◌, arith, ⊎_elim}
+use Rattle.std.proofs.Common.{◌≡◌, ◌≢◌, Bool, ℕ, zero, suc, ◌+◌, ◌<◌, List, [], ◌∷◌, ◌++◌, length, get_or, All, false, true, Option, Some, None, refl, sym, ap, subst, ◌∙◌, arith, ⊎_elim}
 use Rattle.std.proofs.lemmas.Bool.{cases_lt}
 use Rattle.std.specs.List.{IsAllAdjacentAnswer}
 use Rattle.std.specs.Ordering.{is_eq}
 use Rattle.std.proofs.lemmas.Cmp.{tied_itself}
 use Rattle.std.proofs.lemmas.List.{append-nil, get_or_append_left, get_or_default, length-append}
 use Rattle.std.proofs.Math.Seq.{get_or-append_seam}
-use Rattle.lists.proofs.ListsKit.{clash, equal_from, not-false-out}
-use Rattle.std.specs.Option.{option_eq}
+use Rattle.lists.proofs.ListsKit.{clash, equal_from}
 use Rattle.plane.specs.Edge as plane
 use Rattle.plane.specs.Sign.{Minus, Null, Plus, Sign, sign}
 use Rattle.plane.specs.Vector.{Vector, cross, dot, from_to}
@@ -24,7 +23,7 @@ use Rattle.osm_geom.proofs.GeometryKit.{point_same, point_total}
 use Rattle.plane_edges.specs.Multiple.{common_den, point_times, whole_edges}
 use Rattle.plane_edges.specs.Sided.{IsSided}
 use Rattle.plane_edges.proofs.EdgesKit.{same_is_same}
-use Rattle.osm_rings.specs.Apart.{AreFollowers, AreFollowersUpTo, IsFirstLeaving, LeaveApart, LeaveApartUpTo, LeavesFirst, NoneLeavesBefore}
+use Rattle.osm_rings.specs.Apart.{IsFirstLeaving, LeaveApart, LeavesFirst, NoneLeavesBefore}
 use Rattle.osm_rings.specs.Clockwise.{earlier, is_met_before}
 use Rattle.osm_rings.specs.declared.departures.Departure.{Departure}
 use Rattle.osm_rings.specs.Departures.{AreDepartures, IsDepartureOf, IsFirstMet, start_at, step_at}
@@ -53,10 +52,10 @@ met-itself d a =
     ap (λ z. earlier (sign (dot d a)) (sign (cross d a)) (sign (dot d a)) (sign (cross d a)) (sign z)) (cross-self a)
     ∙ earlier-itself (sign (dot d a)) (sign (cross d a))
 
--- the place that an option holds
-pub told-place : (r : Option ℕ) (n : ℕ) → not (option_eq nat_eq r (Some n)) ≡ false → r ≡ Some n
-told-place None n h = cc
-told-place (Some k) n h = ap Some (eqb-true k n (not-false-out (nat_eq k n) h))
+-- for each of the first edges the place of the first that leaves its end
+pub record AreFollowersUpTo (es : List Edge) (n : ℕ) (next : List (Option ℕ)) : Type 0 where
+  pub sized : length next ≡ n
+  pub each : (i : ℕ) (d : Edge) → i < n → IsFirstLeaving es (get_or es i d).to (after next i)
 
 -- ---- the first edge that leaves a point
 module _ (es : List Edge) (n : ℕ) (e : Edge) (inside : n < length es) (is : e ≡ get_or es n e) where
@@ -83,14 +82,6 @@ module _ (es : List Edge) (n : ℕ) (e : Edge) (inside : n < length es) (is : e 
       let at : n ≡ i = omega arith in
       let here : e.from ≡ p = ap (λ (f : Edge). f.from) (sym (read d) ∙ ap (λ k. get_or es k d) at) ∙ leaves in
       clash (is_eq (point_cmp e.from p)) (ap (λ q. is_eq (point_cmp q p)) here ∙ ap is_eq (tied_itself point_total p)) other)
-      (cases_lt i n)
-
-  pub apart-more : (r : Option ℕ) → IsFirstLeaving es e.from r → r ≡ Some n → LeaveApartUpTo es n → LeaveApartUpTo es (n + 1)
-  apart-more r leaving found before i d l = ⊎_elim
-      (λ m. before i d m)
-      (λ m.
-      let at : n ≡ i = omega arith in
-      subst (λ k. LeavesFirst es (get_or es k d).from k) at (subst (λ (f : Edge). LeavesFirst es f.from n) (sym (read d)) (leaving.some n found)))
       (cases_lt i n)
 
   pub followers-more : (next : List (Option ℕ)) (r : Option ℕ) → IsFirstLeaving es e.to r → AreFollowersUpTo es n next → AreFollowersUpTo es (n + 1) (next ++ r ∷ [])
@@ -172,10 +163,10 @@ module _ (es : List Edge) (apart : LeaveApart es) where
   }
 
   -- so the places of the followers are those of the successors
-  pub followers-first : (next : List (Option ℕ)) → AreFollowers es next → (i : ℕ) → i < length es → IsFirstMet xs (edge_at xs i) (after next i)
+  pub followers-first : (next : List (Option ℕ)) → AreFollowersUpTo es (length es) next → (i : ℕ) → i < length es → IsFirstMet xs (edge_at xs i) (after next i)
   followers-first next followers i h = let d = pick es (omega arith) in first-met i (after next i) d h (followers.each i d h)
 
-  pub followers-lead : IsSided es → (next : List (Option ℕ)) → AreFollowers es next → AreSuccessors xs next
+  pub followers-lead : IsSided es → (next : List (Option ℕ)) → AreFollowersUpTo es (length es) next → AreSuccessors xs next
   followers-lead sided next followers = successors-of es sided next followers.sized (followers-first next followers)
 
   abbrev pub numbers : List ℕ

@@ -12,12 +12,12 @@ use Rattle.orbits.proofs.Sums.{all_below, sums_agree}
 use Rattle.osm_geom.specs.declared.edge.Edge.{Edge}
 use Rattle.osm_geom.specs.declared.point.Point.{Point}
 use Rattle.plane_edges.specs.Sided.{IsSided}
-use Rattle.osm_rings.specs.Apart.{AreFollowersUpTo, IsFirstLeaving, LeaveApart, LeavesFirst}
+use Rattle.osm_rings.specs.Apart.{IsFirstLeaving, LeaveApart, LeavesFirst}
 use Rattle.osm_rings.specs.Pieces.{edges_at}
 use Rattle.osm_rings.specs.Ring.{IsRing}
 use Rattle.osm_rings.specs.RingList.{AreRingsOf}
 use Rattle.osm_rings.specs.Walked.{IsClosedWalk, IsFollower}
-use Rattle.osm_rings.proofs.ApartEdges.{followers-lead, followers-more, numbers, orbits-cut, places-tell}
+use Rattle.osm_rings.proofs.ApartEdges.{AreFollowersUpTo, followers-lead, followers-more, numbers, orbits-cut, places-tell}
 use Rattle.osm_rings.proofs.Multiplied.{pick}
 use Rattle.osm_rings.proofs.RingLists.{pieces-are-rings, pieces-ring}
 

@@ -11,7 +11,7 @@ use Rattle.orbits.proofs.Members.{Absent, Distinct, Present, count_absent, count
 use Rattle.orbits.proofs.Reading.{at_new, at_old, clash, length_push, ltb_no, ltb_yes}
 use Rattle.osm_geom.specs.declared.edge.Edge.{Edge}
 use Rattle.osm_rings.specs.Apart.{IsFirstLeaving, LeavesFirst}
-use Rattle.osm_rings.specs.Walked.{AreMarked, AreNoted, AreWalksOf, Follow, IsClosedWalk, IsFollower, IsFresh, IsNoted}
+use Rattle.osm_rings.specs.Walked.{AreMarked, AreNoted, Follow, IsClosedWalk, IsFollower, IsFresh, IsNoted}
 
 -- ---- one more place is marked
 pub none-marked : (n : ℕ) (marks : List Bool) → AreMarked n marks []

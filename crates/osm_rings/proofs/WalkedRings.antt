@@ -1,8 +1,8 @@
 -- Walks one after the other, taken off the places of all.
-use Rattle.std.proofs.Common.{◌≡◌, ℕ, suc, ◌+◌, ◌<◌, ◌≤◌, List, [], ◌∷◌, ◌++◌, length, get_or, map, take, drop, refl, sym, ap, subst, ◌∙◌, arith}
+use Rattle.std.proofs.Common.{◌≡◌, ℕ, ◌+◌, ◌<◌, ◌≤◌, List, [], ◌∷◌, ◌++◌, length, get_or, map, take, drop, sym, ap, ◌∙◌, arith}
 use Rattle.std.specs.List.{concat}
 use Rattle.std.proofs.Math.Seq.{drop-append_seam, take-append_seam}
-use Rattle.std.proofs.lemmas.List.{drop_more, get_or-map, get_or_default, length-append, length-map, map-append, take_all, take_more}
+use Rattle.std.proofs.lemmas.List.{drop_more, get_or-map, length-append, length-map, map-append, take_more}
 use Rattle.osm_geom.specs.declared.edge.Edge.{Edge}
 use Rattle.osm_rings.specs.Pieces.{edges_at}
 

@@ -1,6 +1,5 @@
 -- Edges of which no two leave one point, and the places of those that leave points. No public contract cites it.
 use Rattle.std.specs.Prelude.{List, None, Option, Some, length, slice_index_or, ℕ, ◌<◌, ◌≡◌, ◌≢◌}
-use Rattle.orbits.specs.Orbits.{after}
 use Rattle.osm_geom.specs.declared.edge.Edge.{Edge}
 use Rattle.osm_geom.specs.declared.point.Point.{Point}
 
@@ -19,18 +18,6 @@ pub record IsFirstLeaving (es : List Edge) (p : Point) (r : Option ℕ) : Type 0
   pub some : (place : ℕ) → r ≡ Some place → LeavesFirst es p place
   pub none : r ≡ None → NoneLeavesBefore es p (length es)
 
--- each of the first edges is the first that leaves its point
-abbrev pub LeaveApartUpTo : List Edge → ℕ → Type 0
-LeaveApartUpTo es n = (i : ℕ) (d : Edge) → i < n → LeavesFirst es (slice_index_or es i d).from i
-
--- no two edges leave one point
+-- each edge is the first that leaves its point: no two edges leave one
 abbrev pub LeaveApart : List Edge → Type 0
-LeaveApart es = LeaveApartUpTo es (length es)
-
--- for each of the first edges the place of the first that leaves its end
-pub record AreFollowersUpTo (es : List Edge) (n : ℕ) (next : List (Option ℕ)) : Type 0 where
-  pub sized : length next ≡ n
-  pub each : (i : ℕ) (d : Edge) → i < n → IsFirstLeaving es (slice_index_or es i d).to (after next i)
-
-abbrev pub AreFollowers : List Edge → List (Option ℕ) → Type 0
-AreFollowers es next = AreFollowersUpTo es (length es) next
+LeaveApart es = (i : ℕ) (d : Edge) → i < length es → LeavesFirst es (slice_index_or es i d).from i

@@ -68,11 +68,8 @@ fn walk_from(
         places[end] = place;
         passed[place] = true;
         let next = place_leaving(edges, &edges[place].to)?;
-        if next == start {
-            return Some(end + 1 - done);
-        }
         if passed[next] {
-            return None;
+            return (next == start).then_some(end + 1 - done);
         }
         place = next;
     }

@@ -41,11 +41,7 @@ fn cut_walks(
 }
 
 /// The rings that successors make where no two edges leave one point: no walk is cut.
-fn walked_rings(
-    alloc: Global,
-    edges: &[Edge],
-    next: &[Option<usize>],
-) -> Result<Rings, OutOfMemory>
+fn walked_rings(alloc: Global, edges: &[Edge], next: &[Option<usize>]) -> Result<Rings, OutOfMemory>
     requires sided { IsSided edges.now }
     requires apart { LeaveApart edges.now }
     requires sized { length next.now ≡ length edges.now }

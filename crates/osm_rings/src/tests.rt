@@ -1,9 +1,11 @@
 //! Departures, numbers of nodes and successors round nodes, and the rings that edges are cut into.
 
 use crate::departures::{departures, node_numbers};
+use crate::few_rings::{FEW, few_walks};
 use crate::successors::successors;
 use osm_geom::{Carrier, Edge, Loc, Part, Point, Seg};
 use std::alloc::Global;
+use std::process::Abort;
 use std::test::Fail;
 
 /// The locations of a line, each its x and y.
@@ -27,17 +29,22 @@ fn edge(from: Loc, to: Loc) -> Result<Edge, Fail> {
     Ok(Edge::of(segment, false))
 }
 
+/// Adds the edges from each location to the next, and from the last to the first.
+fn close(edges: &mut Vec<Edge>, nodes: &[Loc]) -> Result<(), Fail> {
+    for (place, &from) in nodes.iter().enumerate() {
+        let next = nodes.get(place.saturating_add(1)).or(nodes.first());
+        if let Some(&to) = next {
+            edges.push(edge(from, to)?)?;
+        }
+    }
+    Ok(())
+}
+
 /// The edges of closed lines, parted by `/`, each without its first location at the end.
 fn edges(alloc: Global, lines: &str) -> Result<Vec<Edge>, Fail> {
     let mut edges = Vec::new(alloc);
     for line in lines.split('/') {
-        let nodes = nodes(alloc, line)?;
-        for (place, &from) in nodes.iter().enumerate() {
-            let next = nodes.get(place.saturating_add(1)).or(nodes.first());
-            if let Some(&to) = next {
-                edges.push(edge(from, to)?)?;
-            }
-        }
+        close(&mut edges, &nodes(alloc, line)?)?;
     }
     Ok(edges)
 }
@@ -135,5 +142,92 @@ fn successors_at_fractional_point(rt: HostRuntime) -> Result<(), Fail> {
     for (place, after) in [1, 2, 0, 4, 5, 3].into_iter().enumerate() {
         assert_eq!(rt; next.get(place).copied(), Some(Some(after)), "{place}");
     }
+    Ok(())
+}
+
+/// Those of the edges that stand at these places, in this order.
+fn in_order(alloc: Global, edges: &[Edge], places: &str) -> Result<Vec<Edge>, Fail> {
+    let mut ordered = Vec::new(alloc);
+    for word in places.split_whitespace() {
+        let place = word.parse::<usize>().ok();
+        let edge = place.and_then(|place| edges.get(place));
+        ordered.push(*edge.ok_or_else(|| Fail::new("no such edge"))?)?;
+    }
+    Ok(ordered)
+}
+
+/// Whether the walks of these edges pass these places, with a `/` between two walks; whether there are none, if `wanted` is empty.
+fn assert_walks(rt: &impl Abort, edges: &[Edge], wanted: &str, name: &str) -> Result<(), Fail> {
+    let (mut places, mut sizes) = ([0; FEW], [0; FEW]);
+    let Some(count) = few_walks(edges, &mut places, &mut sizes) else {
+        assert!(rt; wanted.is_empty(), "{name}");
+        return Ok(());
+    };
+    assert_eq!(rt; count, wanted.split('/').count(), "{name}");
+    for (size, walk) in sizes.iter().zip(wanted.split('/')) {
+        assert_eq!(rt; *size, walk.split_whitespace().count(), "{name}");
+    }
+    let words = wanted.split_whitespace().filter(|word| *word != "/");
+    for (place, word) in places.iter().zip(words) {
+        assert_eq!(rt; Some(*place), word.parse::<usize>().ok(), "{name}");
+    }
+    Ok(())
+}
+
+#[test]
+fn walks_of_few_edges(rt: HostRuntime) -> Result<(), Fail> {
+    let alloc = rt.alloc();
+    let triangles = "0,0 1,0 0,1 / 5,0 6,0 5,1 / 9,0 10,0 9,1";
+    let touching = "0,0 4,0 4,4 0,4 / 0,0 1,2 2,1 / 9,0 10,0 9,1";
+    let hooked = "0,0 1,0 0,1 / 9,9 0,0";
+    // Lines, the order in which their edges are given, and the places that the walks pass.
+    let rows = [
+        ("triangle", triangles, "0 1 2", "0 1 2"),
+        ("triangle turned", triangles, "2 1 0", "0 2 1"),
+        ("two triangles", triangles, "0 1 2 3 4 5", "0 1 2 / 3 4 5"),
+        ("two by turns", triangles, "0 3 1 4 2 5", "0 2 4 / 1 3 5"),
+        (
+            "three",
+            triangles,
+            "6 3 0 1 2 4 5 7 8",
+            "0 7 8 / 1 5 6 / 2 3 4",
+        ),
+        ("two that touch", touching, "0 1 2 3 4 5 6", ""),
+        ("one before them", touching, "7 8 9 0 1 2 3 4 5 6", ""),
+        ("one after them", touching, "0 1 2 3 4 5 6 7 8 9", ""),
+        ("open line", triangles, "0 1", ""),
+        ("one before it", triangles, "3 4 5 0 1", ""),
+        ("edge into a triangle", hooked, "3 0 1 2", ""),
+    ];
+    for (name, lines, order, wanted) in rows {
+        let edges = in_order(alloc, &edges(alloc, lines)?, order)?;
+        assert_walks(&rt, &edges, wanted, name)?;
+    }
+    Ok(())
+}
+
+/// The edges of a ring of so many locations, on a parabola.
+fn parabola(alloc: Global, count: i64) -> Result<Vec<Edge>, Fail> {
+    let mut nodes = Vec::new(alloc);
+    for x in 0..count {
+        let at = Loc::new(x, x.saturating_mul(x));
+        nodes.push(at.ok_or_else(|| Fail::new("out of range"))?)?;
+    }
+    let mut edges = Vec::new(alloc);
+    close(&mut edges, &nodes)?;
+    Ok(edges)
+}
+
+#[test]
+fn so_few_edges_are_walked(rt: HostRuntime) -> Result<(), Fail> {
+    let (mut places, mut sizes) = ([0; FEW], [0; FEW]);
+    let few = parabola(rt.alloc(), 32)?;
+    assert_eq!(rt; few_walks(&few, &mut places, &mut sizes), Some(1));
+    assert_eq!(rt; sizes.first(), Some(&32));
+    for (place, &noted) in places.iter().enumerate() {
+        assert_eq!(rt; noted, place);
+    }
+    let more = parabola(rt.alloc(), 33)?;
+    assert_eq!(rt; few_walks(&more, &mut places, &mut sizes), None);
     Ok(())
 }

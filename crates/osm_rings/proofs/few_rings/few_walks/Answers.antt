@@ -1,7 +1,7 @@
 -- One more closed walk, or all edges are passed.
 use Rattle.std.proofs.Common.{arith, ◌∙◌}
 use Rattle.std.proofs.lemmas.List.{length-set}
-use Rattle.osm_rings.proofs.WalkSteps.{all-walked, none-walked, walked-more}
+use Rattle.osm_rings.proofs.WalkSteps.{all-walked, walked-more}
 use Rattle.osm_rings.proofs.few_rings.few_walks.Goals as goal
 
 pub loop-done-preserved : goal.loop-done-preserved

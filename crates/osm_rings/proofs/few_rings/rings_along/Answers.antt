@@ -1,6 +1,6 @@
 -- One more walk is taken off the places left: it is a ring.
-use Rattle.std.proofs.Common.{[], All, ap, arith, drop, get_or, length, map, subst, sym, take, ◌++◌, ◌<◌, ◌∷◌, ◌≡◌, ◌∙◌}
-use Rattle.std.proofs.lemmas.List.{get_or_default, take_all}
+use Rattle.std.proofs.Common.{[], All, ap, arith, get_or, length, map, subst, sym, take, ◌++◌, ◌<◌, ◌∷◌, ◌≡◌, ◌∙◌}
+use Rattle.std.proofs.lemmas.List.{take_all}
 use Rattle.orbits.proofs.Sums.{all_below}
 use Rattle.osm_rings.specs.Pieces.{edges_at}
 use Rattle.osm_rings.specs.Ring.{IsRing}
