@@ -18,10 +18,15 @@ use std::alloc::{AllocError as OutOfMemory, Global};
 pub const FEW: usize = 32;
 
 /// Whether two points are one.
+#[inline]
 fn is_same_point(p: &Point, q: &Point) -> bool
     ensures { result ≡ is_eq (point_cmp p.now q.now) }
 {
-    order_points(p, q).is_eq()
+    match (p, q) {
+        // Of two that differ mostly one coordinate is read. Only speed rests on it.
+        (Point::Lattice(p), Point::Lattice(q)) => *p == *q,
+        _ => order_points(p, q).is_eq(),
+    }
 }
 
 /// The place of the first edge that leaves a point.
