@@ -53,8 +53,8 @@ fn fresh_from(passed: &[bool], from: usize) -> Option<usize>
     None
 }
 
-/// Notes the places of edges from a fresh one on, each the first that leaves the end of the one before it, after those
-/// noted before. The number of them, if they lead back to the start and to no other place passed before.
+/// Walks from a fresh place on, from each edge to the first that leaves its end, and notes the places after those noted before.
+/// It gives how many it notes, if the walk leads back to its start and to no other place that was passed before.
 fn walk_from(
     edges: &[Edge],
     start: usize,
@@ -69,6 +69,7 @@ fn walk_from(
     ensures { IfSome result (λ size. IsNoted edges.now done size places.old places.new passed.new) }
 {
     let mut place = start;
+    // No walk is longer, since its places differ.
     for end in done..edges.len() {
         places[end] = place;
         passed[place] = true;
@@ -82,9 +83,9 @@ fn walk_from(
 }
 
 /// The walks of few edges: how many there are, their places one after the other, and how many places each has.
-/// None where there are more edges, where two leave one point, or where a walk doesn't lead back.
+/// There are none where the edges are more, where two leave one point, or where a walk doesn't lead back.
 ///
-/// Each walk begins at the first place that none before it passes.
+/// Each walk begins at the first place that none before it passes, so its rings come in the order in which the general way has them.
 pub fn few_walks(
     edges: &[Edge],
     places: &mut [usize; FEW],
