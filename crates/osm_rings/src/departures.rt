@@ -19,6 +19,9 @@ use std::mem;
 /// The direction from which the departures round a point are told, clockwise.
 pub const EAST: Dir = Dir { dx: 1, dy: 0 };
 
+/// So many places near another are looked at before all are searched.
+const STEPS: usize = 4;
+
 /// An edge, its place in the list, and the sort key of the point that it leaves.
 #[derive(Clone, Copy, Debug)]
 pub struct Departure<'a> {
@@ -188,19 +191,31 @@ pub fn keys_of(alloc: Global, departures: &[Departure]) -> Result<Vec<i64>, OutO
     Ok(keys)
 }
 
-/// Where the sort keys tell that the departures from p begin.
-fn guess_first(keys: &[i64], p: Point) -> usize {
+/// Whether the keys before a place are below one, and those from there on aren't, as keys rise.
+fn parts_keys(keys: &[i64], place: usize, key: i64) -> bool
+    requires { place < length keys.now }
+{
+    (place == 0 || keys[place - 1] < key) && keys[place] >= key
+}
+
+/// Where the sort keys tell that the departures from p begin. It is looked for first at a place and few behind it.
+fn guess_first(keys: &[i64], near: usize, p: Point) -> usize {
     let key = sort_key(p);
+    for place in near..near.saturating_add(STEPS).min(keys.len()) {
+        if parts_keys(keys, place, key) {
+            return place;
+        }
+    }
     keys.partition_point(|other| *other < key)
 }
 
 /// How many departures begin before p: where some begin at p, the place of the first of these.
-fn first_at(departures: &[Departure], keys: &[i64], p: Point) -> usize
+fn first_at(departures: &[Departure], keys: &[i64], near: usize, p: Point) -> usize
     requires { AreRising departures.now }
     ensures inside { result ≤ length departures.now }
     ensures first { IsFirstAt departures.now p result }
 {
-    let guess = guess_first(keys, p);
+    let guess = guess_first(keys, near, p);
     if is_first_at(departures, p, guess) {
         return guess;
     }
@@ -313,27 +328,30 @@ pub fn node_numbers(
 }
 
 /// The places between which the departures that begin at p stand.
-fn range_at(departures: &[Departure], keys: &[i64], p: Point) -> (usize, usize)
+fn range_at(departures: &[Departure], keys: &[i64], near: usize, p: Point) -> (usize, usize)
     requires { AreRising departures.now }
     ensures ordered { result.0 ≤ result.1 }
     ensures inside { result.1 ≤ length departures.now }
     ensures first { IsFirstAt departures.now p result.0 }
     ensures end { IsEndAt departures.now p result.1 }
 {
-    let first = first_at(departures, keys, p);
+    let first = first_at(departures, keys, near, p);
     (first, end_at(departures, p, first))
 }
 
-/// The departures from p, clockwise from the east. The keys are those of `keys_of`, else it takes longer.
+/// The departures from p, clockwise from the east, looked for first at a place, for which the one behind them is put. It takes longer where
+/// they aren't there, or where the keys aren't those of `keys_of`.
 pub fn leaving<'a, 'b>(
     departures: &'b [Departure<'a>],
     keys: &[i64],
+    near: &mut usize,
     p: Point,
 ) -> &'b [Departure<'a>]
     requires rising { AreRising departures.now }
     requires round { AreClockwiseRound departures.now }
     ensures { AreFrom departures.now p result.now }
 {
-    let range = range_at(departures, keys, p);
+    let range = range_at(departures, keys, *near, p);
+    *near = range.1;
     &departures[range.0..range.1]
 }

@@ -12,8 +12,12 @@ ghost use Rattle.osm_rings.specs.Numbered.{edge_at};
 ghost use Rattle.osm_rings.specs.Departures.{AreClockwise, AreClockwiseRound, AreRising, AreDepartures, IsFirstMet};
 
 use crate::departures::{Departure, EAST, keys_of, leaving};
+use crate::sort_keys::sort_key;
 use osm_geom::{Dir, Edge, clockwise};
 use std::alloc::{AllocError as OutOfMemory, Global};
+
+/// By less than this the sort keys differ of the ends of an edge that is level.
+const LEVEL: i64 = 1 << 31;
 
 /// The direction back along an edge, from its end.
 fn back(edge: &Edge) -> Dir
@@ -62,14 +66,30 @@ fn first_met_back<'a, 'b>(departures: &'b [Departure<'a>], edge: &Edge) -> Optio
     first_met(departures, back(edge))
 }
 
-/// The place of the successor of an edge, among those that the departures are of.
-fn successor(departures: &[Departure], keys: &[i64], edge: &Edge) -> Option<usize>
+/// Which of four ways an edge runs: up, right, left or down.
+fn heading(edge: &Edge) -> usize
+    ensures { result < 4 }
+{
+    let rise = sort_key(edge.to).wrapping_sub(sort_key(edge.from));
+    if rise > LEVEL {
+        0
+    } else if rise > 0 {
+        1
+    } else if rise > -LEVEL {
+        2
+    } else {
+        3
+    }
+}
+
+/// The place of the successor of an edge, among those that the departures are of. These are looked for near a place first.
+fn successor(departures: &[Departure], keys: &[i64], near: &mut usize, edge: &Edge) -> Option<usize>
     requires rising { AreRising departures.now }
     requires round { AreClockwiseRound departures.now }
     ensures { (es : List Edge) → AreDepartures es departures.now → In edge.now es
         → IsFirstMet (whole_edges es) (edge_times (common_den es) edge.now) result }
 {
-    let departure = first_met_back(leaving(departures, keys, edge.to), edge)?;
+    let departure = first_met_back(leaving(departures, keys, near, edge.to), edge)?;
     Some(departure.place)
 }
 
@@ -86,9 +106,12 @@ pub fn successors(
         (after v.items i)) }
 {
     let keys = keys_of(alloc, departures)?;
+    // Edges that run one way mostly end in the order in which they stand, so each finds its successor near that of the last one.
+    let mut near = [0; 4];
     let mut next = Vec::with_capacity(alloc, edges.len())?;
     for edge in edges {
-        next.push(successor(departures, &keys, edge))?;
+        let way = heading(edge);
+        next.push(successor(departures, &keys, &mut near[way], edge))?;
     }
     Ok(next)
 }
