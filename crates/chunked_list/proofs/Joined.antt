@@ -8,15 +8,26 @@ use Rattle.std.proofs.lemmas.List.{append_assoc, drop_more, get_or_default, set-
 use Rattle.std.proofs.lemmas.List.Concat.{flat_map-append, get_or-flat_map}
 use Rattle.std.proofs.lemmas.List.Edits.{get_or-insert_below, insert-append_left, insert-append_right, remove-append_left, remove-append_right}
 
-pub item-at : {X C : Type 0} (f : C → List X) (cs : List C) (place i end : ℕ) (c : C) (x d : X) → i < length cs →
-    place + 1 ≡ length (flat_map f (take i cs)) + end → 0 < end → end ≤ length (f c) → c ≡ get_or cs i c →
-    x ≡ get_or (f c) (end - 1) x → x ≡ get_or (flat_map f cs) place d
-item-at f cs place i end c x d inside count some reach is read =
-    let at : place ≡ length (flat_map f (take i cs)) + (end - 1) = omega arith in
-    let short : end - 1 < length (f c) = omega arith in
-    let there : end - 1 < length (f (get_or cs i c)) = subst (λ y. end - 1 < length (f y)) is short in
-    let default : get_or (f c) (end - 1) x ≡ get_or (f c) (end - 1) d = get_or_default (f c) (end - 1) x d short in
-    read ∙ default ∙ ap (λ y. get_or (f y) (end - 1) d) is ∙ sym (get_or-flat_map f cs i (end - 1) c d inside there) ∙ ap (λ n. get_or (flat_map f cs) n d) (sym at)
+-- a place in one of them, and how far in
+abbrev IsIn : {X C : Type 0} → (C → List X) → List C → ℕ → ℕ → ℕ → C → Type 0
+IsIn f cs place i at c = (i < length cs) × (c ≡ get_or cs i c) × (place ≡ length (flat_map f (take i cs)) + at) × (at < length (f c))
+
+-- the one that was looked for in a list that is this one
+pub found : {X C : Type 0} (f : C → List X) (ds cs : List C) → ds ≡ cs → (place i before : ℕ) (c : C) → i < length ds →
+    before ≡ length (flat_map f (take i ds)) → (0 < place + 1 → before < place + 1) →
+    ((d : C) → place + 1 - before ≤ length (f (get_or ds i d))) → c ≡ get_or cs i c → IsIn f cs place i (place - before) c
+found f ds cs same place i before c inside mark some reach is =
+    let marked : before ≡ length (flat_map f (take i cs)) = subst (λ xs. before ≡ length (flat_map f (take i xs))) same mark in
+    let long : place + 1 - before ≤ length (f c) = subst (λ y. place + 1 - before ≤ length (f y)) (ap (λ xs. get_or xs i c) same ∙ sym is) (reach c) in
+    let below : before < place + 1 = some (omega arith) in
+    (subst (λ xs. i < length xs) same inside, is, omega arith, omega arith)
+
+pub item-at : {X C : Type 0} (f : C → List X) (cs : List C) (place i at : ℕ) (c : C) (x d : X) → IsIn f cs place i at c →
+    x ≡ get_or (f c) at x → x ≡ get_or (flat_map f cs) place d
+item-at f cs place i at c x d (inside, is, count, reach) read =
+    let there : at < length (f (get_or cs i c)) = subst (λ y. at < length (f y)) is reach in
+    let default : get_or (f c) at x ≡ get_or (f c) at d = get_or_default (f c) at x d reach in
+    read ∙ default ∙ ap (λ y. get_or (f y) at d) is ∙ sym (get_or-flat_map f cs i at c d inside there) ∙ ap (λ n. get_or (flat_map f cs) n d) (sym count)
 
 -- what stands before one of them, it, and what stands behind
 parts : {X C : Type 0} (f : C → List X) (cs : List C) (i : ℕ) (c : C) → i < length cs → c ≡ get_or cs i c →
@@ -36,12 +47,14 @@ same-set f cs i b c inside is same =
     parts-set f cs i c inside ∙ ap (λ xs. flat_map f (take i cs) ++ (xs ++ flat_map f (drop (suc i) cs))) same
     ∙ sym (parts f cs i b inside is)
 
-pub insert-set : {X C : Type 0} (f : C → List X) (cs : List C) (place i at : ℕ) (b c : C) (x : X) → i < length cs →
-    b ≡ get_or cs i b → place ≡ length (flat_map f (take i cs)) + at → at ≤ length (f b) → f c ≡ insert (f b) at x →
-    flat_map f (set cs i c) ≡ insert (flat_map f cs) place x
-insert-set f cs place i at b c x inside is count reach new =
+pub insert-set : {X C : Type 0} (f : C → List X) (cs : List C) (place i before : ℕ) (b c : C) (x : X) → i < length cs →
+    b ≡ get_or cs i b → before ≡ length (flat_map f (take i cs)) → before ≤ place → ((d : C) → place - before ≤ length (f (get_or cs i d))) →
+    f c ≡ insert (f b) (place - before) x → flat_map f (set cs i c) ≡ insert (flat_map f cs) place x
+insert-set f cs place i before b c x inside is mark below long new =
+    let at = place - before in
     let front = flat_map f (take i cs) in
     let back = flat_map f (drop (suc i) cs) in
+    let reach : at ≤ length (f b) = subst (λ y. at ≤ length (f y)) (sym is) (long b) in
     let there : place - length front ≡ at = omega arith in
     let within : insert (f b ++ back) at x ≡ insert (f b) at x ++ back = insert-append_left (f b) back at x reach in
     let whole : insert (front ++ (f b ++ back)) place x ≡ front ++ insert (f b ++ back) (place - length front) x =
@@ -49,10 +62,9 @@ insert-set f cs place i at b c x inside is count reach new =
     parts-set f cs i c inside ∙ ap (λ xs. front ++ (xs ++ back)) new
     ∙ sym (ap (λ xs. insert xs place x) (parts f cs i b inside is) ∙ whole ∙ ap (λ n. front ++ insert (f b ++ back) n x) there ∙ ap (λ xs. front ++ xs) within)
 
-pub remove-set : {X C : Type 0} (f : C → List X) (cs : List C) (place i at : ℕ) (b c : C) → i < length cs →
-    b ≡ get_or cs i b → place ≡ length (flat_map f (take i cs)) + at → at < length (f b) → f c ≡ remove (f b) at →
-    flat_map f (set cs i c) ≡ remove (flat_map f cs) place
-remove-set f cs place i at b c inside is count reach new =
+pub remove-set : {X C : Type 0} (f : C → List X) (cs : List C) (place i at : ℕ) (b c : C) → IsIn f cs place i at b →
+    f c ≡ remove (f b) at → flat_map f (set cs i c) ≡ remove (flat_map f cs) place
+remove-set f cs place i at b c (inside, is, count, reach) new =
     let front = flat_map f (take i cs) in
     let back = flat_map f (drop (suc i) cs) in
     let there : place - length front ≡ at = omega arith in
@@ -62,10 +74,9 @@ remove-set f cs place i at b c inside is count reach new =
     parts-set f cs i c inside ∙ ap (λ xs. front ++ (xs ++ back)) new
     ∙ sym (ap (λ xs. remove xs place) (parts f cs i b inside is) ∙ whole ∙ ap (λ n. front ++ remove (f b ++ back) n) there ∙ ap (λ xs. front ++ xs) within)
 
-set-set : {X C : Type 0} (f : C → List X) (cs : List C) (place i at : ℕ) (b c : C) (x : X) → i < length cs →
-    b ≡ get_or cs i b → place ≡ length (flat_map f (take i cs)) + at → at < length (f b) → f c ≡ set (f b) at x →
-    flat_map f (set cs i c) ≡ set (flat_map f cs) place x
-set-set f cs place i at b c x inside is count reach new =
+pub set-set : {X C : Type 0} (f : C → List X) (cs : List C) (place i at : ℕ) (b c : C) (x : X) → IsIn f cs place i at b →
+    f c ≡ set (f b) at x → flat_map f (set cs i c) ≡ set (flat_map f cs) place x
+set-set f cs place i at b c x (inside, is, count, reach) new =
     let front = flat_map f (take i cs) in
     let back = flat_map f (drop (suc i) cs) in
     let there : place - length front ≡ at = omega arith in
@@ -83,43 +94,6 @@ same-parted f (d ∷ cs) zero b c u inside is parted =
 same-parted f (d ∷ cs) (suc i) b c u inside is parted = ap (λ xs. f d ++ xs) (same-parted f cs i b c u (omega arith) is parted)
 same-parted f [] zero b c u inside is parted = absurd (not-suc-le-zero inside)
 same-parted f [] (suc i) b c u inside is parted = absurd (not-suc-le-zero inside)
-
--- the same where the place was looked for in a list that is this one
-pub insert-at : {X C : Type 0} (f : C → List X) (ds cs : List C) → ds ≡ cs → (place i at : ℕ) (b c : C) (x : X) → i < length ds →
-    place ≡ length (flat_map f (take i ds)) + at → ((d : C) → at ≤ length (f (get_or ds i d))) → b ≡ get_or cs i b → f c ≡ insert (f b) at x →
-    flat_map f (set cs i c) ≡ insert (flat_map f cs) place x
-insert-at f ds cs same place i at b c x inside count reach is new =
-    let in_cs : i < length cs = subst (λ xs. i < length xs) same inside in
-    let counted : place ≡ length (flat_map f (take i cs)) + at = subst (λ xs. place ≡ length (flat_map f (take i xs)) + at) same count in
-    let short : at ≤ length (f b) = subst (λ y. at ≤ length (f y)) (ap (λ xs. get_or xs i b) same ∙ sym is) (reach b) in
-    insert-set f cs place i at b c x in_cs is counted short new
-
-pub remove-at : {X C : Type 0} (f : C → List X) (ds cs : List C) → ds ≡ cs → (place i end : ℕ) (b c : C) → i < length ds →
-    place + 1 ≡ length (flat_map f (take i ds)) + end → 0 < end → ((d : C) → end ≤ length (f (get_or ds i d))) → b ≡ get_or cs i b → f c ≡ remove (f b) (end - 1) →
-    flat_map f (set cs i c) ≡ remove (flat_map f cs) place
-remove-at f ds cs same place i end b c inside count some reach is new =
-    let in_cs : i < length cs = subst (λ xs. i < length xs) same inside in
-    let counted : place + 1 ≡ length (flat_map f (take i cs)) + end = subst (λ xs. place + 1 ≡ length (flat_map f (take i xs)) + end) same count in
-    let short : end ≤ length (f b) = subst (λ y. end ≤ length (f y)) (ap (λ xs. get_or xs i b) same ∙ sym is) (reach b) in
-    remove-set f cs place i (end - 1) b c in_cs is (omega arith) (omega arith) new
-
-pub set-at : {X C : Type 0} (f : C → List X) (ds cs : List C) → ds ≡ cs → (place i end : ℕ) (b c : C) (x : X) → i < length ds →
-    place + 1 ≡ length (flat_map f (take i ds)) + end → 0 < end → ((d : C) → end ≤ length (f (get_or ds i d))) → b ≡ get_or cs i b → f c ≡ set (f b) (end - 1) x →
-    flat_map f (set cs i c) ≡ set (flat_map f cs) place x
-set-at f ds cs same place i end b c x inside count some reach is new =
-    let in_cs : i < length cs = subst (λ xs. i < length xs) same inside in
-    let counted : place + 1 ≡ length (flat_map f (take i cs)) + end = subst (λ xs. place + 1 ≡ length (flat_map f (take i xs)) + end) same count in
-    let short : end ≤ length (f b) = subst (λ y. end ≤ length (f y)) (ap (λ xs. get_or xs i b) same ∙ sym is) (reach b) in
-    set-set f cs place i (end - 1) b c x in_cs is (omega arith) (omega arith) new
-
-pub item-in : {X C : Type 0} (f : C → List X) (ds cs : List C) → ds ≡ cs → (place i end : ℕ) (c : C) (x d : X) → i < length ds →
-    place + 1 ≡ length (flat_map f (take i ds)) + end → 0 < end → ((e : C) → end ≤ length (f (get_or ds i e))) → c ≡ get_or cs i c →
-    x ≡ get_or (f c) (end - 1) x → x ≡ get_or (flat_map f cs) place d
-item-in f ds cs same place i end c x d inside count some reach is read =
-    let in_cs : i < length cs = subst (λ xs. i < length xs) same inside in
-    let counted : place + 1 ≡ length (flat_map f (take i cs)) + end = subst (λ xs. place + 1 ≡ length (flat_map f (take i xs)) + end) same count in
-    let short : end ≤ length (f c) = subst (λ y. end ≤ length (f y)) (ap (λ xs. get_or xs i c) same ∙ sym is) (reach c) in
-    item-at f cs place i end c x d in_cs counted some short is read
 
 -- the item in the middle goes over to a new list behind
 pub same-split : {X C : Type 0} (f : C → List X) (cs new : List C) (i half : ℕ) (b d c u : C) → i < length cs → new ≡ insert cs (i + 1) u →

@@ -1,6 +1,7 @@
 //! Chunks one after the other.
-ghost use Rattle.std.specs.Prelude.{◌≡◌, ◌<◌, ◌≤◌, ◌+◌, ◌^◌, insert, remove, length, set, slice_index_or, take, OnErr, OnOk};
+ghost use Rattle.std.specs.Prelude.{◌≡◌, ◌<◌, ◌≤◌, ◌+◌, ◌-◌, ◌^◌, insert, remove, length, set, slice_index_or, take, OnErr, OnOk};
 ghost use Rattle.std.specs.List.{flat_map};
+ghost use Rattle.chunked_list.specs.Marked.{IsMark};
 
 use std::alloc::{AllocError as OutOfMemory, Global};
 
@@ -15,82 +16,158 @@ fn longest(chunks: usize) -> usize {
     SHORT.max(chunks.saturating_mul(SHORT_BESIDE_ONE))
 }
 
-/// The first chunk that reaches so far, and how much of it that is.
-fn locate<T>(chunks: &[Vec<T>], count: usize) -> (usize, usize)
-    requires some { 0 < length chunks.now }
-    requires within { count ≤ length (flat_map (λ c. c.items) chunks.now) }
-    ensures inside { result.0 < length chunks.now }
-    ensures reach { (d : _) → result.1 ≤ length (slice_index_or chunks.now result.0 d).items }
-    ensures some { 0 < count → 0 < result.1 }
-    ensures count { count ≡ length (flat_map (λ c. c.items) (take result.0 chunks.now)) + result.1 }
-{
-    let mut rest = count;
-    let mut chunk = 0;
-    while chunk + 1 < chunks.len() && chunks[chunk].len() < rest {
-        rest -= chunks[chunk].len();
-        chunk += 1;
-    }
-    (chunk, rest)
+/// A chunk and how many items stand before it, so that a place near it is found by few steps.
+#[derive(Clone, Copy)]
+pub(crate) struct Mark {
+    pub(crate) chunk: usize,
+    pub(crate) before: usize,
 }
 
-/// The item at a place.
-pub(crate) fn item<T: Copy>(chunks: &[Vec<T>], place: usize) -> T
+/// The first chunk.
+pub(crate) fn first() -> Mark
+    ensures chunk { result.chunk ≡ 0 }
+    ensures before { result.before ≡ 0 }
+{
+    Mark {
+        chunk: 0,
+        before: 0,
+    }
+}
+
+/// The chunk nearest to a mark, and not behind it, that has fewer items before it; the first, if none has.
+fn walk_back<T>(chunks: &[Vec<T>], from: Mark, count: usize) -> Mark
     requires some { 0 < length chunks.now }
+    requires mark { IsMark (λ c. c.items) chunks.now from.chunk from.before }
+    requires within { count ≤ length (flat_map (λ c. c.items) chunks.now) }
+    ensures inside { result.chunk < length chunks.now }
+    ensures mark { IsMark (λ c. c.items) chunks.now result.chunk result.before }
+    ensures below { result.before ≤ count }
+    ensures some { 0 < count → result.before < count }
+{
+    let mut chunk = from.chunk;
+    let mut before = from.before;
+    while chunk > 0 && count <= before {
+        chunk -= 1;
+        before -= chunks[chunk].len();
+    }
+    Mark { chunk, before }
+}
+
+/// The first chunk, from a marked one on, that reaches so far.
+fn walk_on<T>(chunks: &[Vec<T>], from: Mark, count: usize) -> Mark
+    requires inside { from.chunk < length chunks.now }
+    requires mark { IsMark (λ c. c.items) chunks.now from.chunk from.before }
+    requires below { from.before ≤ count }
+    requires some { 0 < count → from.before < count }
+    requires within { count ≤ length (flat_map (λ c. c.items) chunks.now) }
+    ensures inside { result.chunk < length chunks.now }
+    ensures mark { IsMark (λ c. c.items) chunks.now result.chunk result.before }
+    ensures below { result.before ≤ count }
+    ensures some { 0 < count → result.before < count }
+    ensures reach { (d : _) → count - result.before
+        ≤ length (slice_index_or chunks.now result.chunk d).items }
+{
+    let mut chunk = from.chunk;
+    let mut before = from.before;
+    while chunk + 1 < chunks.len() && chunks[chunk].len() < count - before {
+        before += chunks[chunk].len();
+        chunk += 1;
+    }
+    Mark { chunk, before }
+}
+
+/// A chunk that reaches so far and has fewer items before it, looked for from a mark or from the first chunk, whichever is nearer.
+fn locate<T>(chunks: &[Vec<T>], near: Mark, count: usize) -> Mark
+    requires some { 0 < length chunks.now }
+    requires mark { IsMark (λ c. c.items) chunks.now near.chunk near.before }
+    requires within { count ≤ length (flat_map (λ c. c.items) chunks.now) }
+    ensures inside { result.chunk < length chunks.now }
+    ensures mark { IsMark (λ c. c.items) chunks.now result.chunk result.before }
+    ensures below { result.before ≤ count }
+    ensures some { 0 < count → result.before < count }
+    ensures reach { (d : _) → count - result.before
+        ≤ length (slice_index_or chunks.now result.chunk d).items }
+{
+    if count < near.before / 2 {
+        return walk_on(chunks, first(), count);
+    }
+    walk_on(chunks, walk_back(chunks, near, count), count)
+}
+
+/// The item at a place, looked for from a mark.
+pub(crate) fn item<T: Copy>(chunks: &[Vec<T>], near: Mark, place: usize) -> T
+    requires some { 0 < length chunks.now }
+    requires mark { IsMark (λ c. c.items) chunks.now near.chunk near.before }
     requires fits { place + 1 < 2 ^ 64 }
     requires inside { place < length (flat_map (λ c. c.items) chunks.now) }
     ensures { (d : T) → result ≡ slice_index_or (flat_map (λ c. c.items) chunks.now) place d }
 {
-    let (chunk, end) = locate(chunks, place + 1);
-    chunks[chunk][end - 1]
+    let mark = locate(chunks, near, place + 1);
+    chunks[mark.chunk][place - mark.before]
 }
 
-/// Puts an item in before the one at a place.
-fn put<T: Copy>(chunks: &mut Vec<Vec<T>>, place: usize, item: T) -> Result<(), OutOfMemory>
-    requires some { 0 < length chunks.old.items }
-    requires within { place ≤ length (flat_map (λ c. c.items) chunks.old.items) }
+/// Puts an item in a marked chunk, before the one at a place of the list.
+fn put<T: Copy>(
+    chunks: &mut Vec<Vec<T>>,
+    mark: Mark,
+    place: usize,
+    item: T,
+) -> Result<(), OutOfMemory>
+    requires inside { mark.chunk < length chunks.old.items }
+    requires mark { IsMark (λ c. c.items) chunks.old.items mark.chunk mark.before }
+    requires below { mark.before ≤ place }
+    requires reach { (d : _) → place - mark.before
+        ≤ length (slice_index_or chunks.old.items mark.chunk d).items }
+    ensures mark { IsMark (λ c. c.items) chunks.new.items mark.chunk mark.before }
     ensures done { OnOk result (flat_map (λ c. c.items) chunks.new.items
         ≡ insert (flat_map (λ c. c.items) chunks.old.items) place item) }
     ensures kept { OnErr result (flat_map (λ c. c.items) chunks.new.items
         ≡ flat_map (λ c. c.items) chunks.old.items) }
 {
-    let (chunk, at) = locate(chunks, place);
-    match chunks[chunk].insert(at, item) {
+    match chunks[mark.chunk].insert(place - mark.before, item) {
         Ok(()) => Ok(()),
         Err(_) => Err(OutOfMemory),
     }
 }
 
-/// Puts an item in the place of another.
-pub(crate) fn put_over<T: Copy>(chunks: &mut Vec<Vec<T>>, place: usize, item: T)
+/// Puts an item in the place of another, looked for from a mark; the mark goes there.
+pub(crate) fn put_over<T: Copy>(chunks: &mut Vec<Vec<T>>, mark: &mut Mark, place: usize, item: T)
     requires some { 0 < length chunks.old.items }
+    requires mark { IsMark (λ c. c.items) chunks.old.items mark.old.chunk mark.old.before }
     requires fits { place + 1 < 2 ^ 64 }
     requires inside { place < length (flat_map (λ c. c.items) chunks.old.items) }
-    ensures { flat_map (λ c. c.items) chunks.new.items
+    ensures mark { IsMark (λ c. c.items) chunks.new.items mark.new.chunk mark.new.before }
+    ensures items { flat_map (λ c. c.items) chunks.new.items
         ≡ set (flat_map (λ c. c.items) chunks.old.items) place item }
 {
-    let (chunk, end) = locate(chunks, place + 1);
-    chunks[chunk][end - 1] = item;
+    *mark = locate(chunks, *mark, place + 1);
+    chunks[mark.chunk][place - mark.before] = item;
 }
 
-/// Takes the item at a place out.
-pub(crate) fn take_out<T: Copy>(chunks: &mut Vec<Vec<T>>, place: usize) -> T
+/// Takes the item at a place out, looked for from a mark; the mark goes there.
+pub(crate) fn take_out<T: Copy>(chunks: &mut Vec<Vec<T>>, mark: &mut Mark, place: usize) -> T
     requires some { 0 < length chunks.old.items }
+    requires mark { IsMark (λ c. c.items) chunks.old.items mark.old.chunk mark.old.before }
     requires fits { place + 1 < 2 ^ 64 }
     requires inside { place < length (flat_map (λ c. c.items) chunks.old.items) }
+    ensures mark { IsMark (λ c. c.items) chunks.new.items mark.new.chunk mark.new.before }
     ensures item { result ≡ slice_index_or (flat_map (λ c. c.items) chunks.old.items) place result }
     ensures others { flat_map (λ c. c.items) chunks.new.items
         ≡ remove (flat_map (λ c. c.items) chunks.old.items) place }
 {
-    let (chunk, end) = locate(chunks, place + 1);
-    let item = chunks[chunk].remove(end - 1);
-    drop_if_empty(chunks, chunk);
+    *mark = locate(chunks, *mark, place + 1);
+    let item = chunks[mark.chunk].remove(place - mark.before);
+    drop_if_empty(chunks, mark.chunk);
     item
 }
 
 /// Drops a chunk that has no items.
 fn drop_if_empty<T: Copy>(chunks: &mut Vec<Vec<T>>, chunk: usize)
     requires { chunk < length chunks.old.items }
-    ensures { flat_map (λ c. c.items) chunks.new.items ≡ flat_map (λ c. c.items) chunks.old.items }
+    ensures same { flat_map (λ c. c.items) chunks.new.items
+        ≡ flat_map (λ c. c.items) chunks.old.items }
+    ensures front { take chunk chunks.new.items ≡ take chunk chunks.old.items }
+    ensures within { chunk ≤ length chunks.new.items }
 {
     if chunks[chunk].is_empty() {
         chunks.remove(chunk);
@@ -102,7 +179,8 @@ fn part<T: Copy>(alloc: Global, chunks: &mut Vec<Vec<T>>, chunk: usize) -> Resul
     requires { chunk < length chunks.old.items }
     ensures same { flat_map (λ c. c.items) chunks.new.items
         ≡ flat_map (λ c. c.items) chunks.old.items }
-    ensures some { 0 < length chunks.new.items }
+    ensures front { take chunk chunks.new.items ≡ take chunk chunks.old.items }
+    ensures inside { chunk < length chunks.new.items }
 {
     let half = chunks[chunk].len() / 2;
     let upper = Vec::from_slice(alloc, &chunks[chunk][half..])?;
@@ -111,14 +189,17 @@ fn part<T: Copy>(alloc: Global, chunks: &mut Vec<Vec<T>>, chunk: usize) -> Resul
     Ok(())
 }
 
-/// Puts an item in before the one at a place, or at the end.
+/// Puts an item in before the one at a place, or at the end, looked for from a mark; the mark goes there.
 pub(crate) fn put_in<T: Copy>(
     alloc: Global,
     chunks: &mut Vec<Vec<T>>,
+    mark: &mut Mark,
     place: usize,
     item: T,
 ) -> Result<(), OutOfMemory>
+    requires mark { IsMark (λ c. c.items) chunks.old.items mark.old.chunk mark.old.before }
     requires within { place ≤ length (flat_map (λ c. c.items) chunks.old.items) }
+    ensures mark { IsMark (λ c. c.items) chunks.new.items mark.new.chunk mark.new.before }
     ensures done { OnOk result (flat_map (λ c. c.items) chunks.new.items
         ≡ insert (flat_map (λ c. c.items) chunks.old.items) place item) }
     ensures kept { OnErr result (flat_map (λ c. c.items) chunks.new.items
@@ -127,9 +208,10 @@ pub(crate) fn put_in<T: Copy>(
     if chunks.is_empty() {
         chunks.push(Vec::new(alloc))?;
     }
-    let (chunk, _) = locate(chunks, place);
-    if chunks[chunk].len() >= longest(chunks.len()) {
-        part(alloc, chunks, chunk)?;
+    *mark = locate(chunks, *mark, place);
+    if chunks[mark.chunk].len() >= longest(chunks.len()) {
+        part(alloc, chunks, mark.chunk)?;
+        *mark = locate(chunks, *mark, place);
     }
-    put(chunks, place, item)
+    put(chunks, *mark, place, item)
 }

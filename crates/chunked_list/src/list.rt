@@ -4,9 +4,10 @@ ghost use Rattle.std.specs.Prelude.{IfSome, ◌+◌, ◌^◌, ◌≡◌, ◌==�
 ghost use Rattle.std.specs.List.{flat_map};
 ghost use Rattle.std.specs.List.Sorted.{IsPartitionedBy, IsPartitionPoint};
 ghost use Rattle.std.specs.Fn.{FnReturnsAt};
+ghost use Rattle.chunked_list.specs.Marked.{IsMark};
 ghost use Rattle.chunked_list.specs.Parted.{IsParted};
 
-use crate::chunks::{item, put_in, put_over, take_out};
+use crate::chunks::{Mark, first, item, put_in, put_over, take_out};
 use std::alloc::{AllocError as OutOfMemory, Global};
 use std::marker::Model;
 
@@ -18,6 +19,8 @@ const STEPS: usize = 4;
 pub struct ChunkedList<T> {
     alloc: Global,
     chunks: Vec<Vec<T>>,
+    /// The chunk that changed last: places are looked for from there. That it tells the truth is proved; that it is near is only speed.
+    mark: Mark,
     len: usize,
     /// Where an item was last put in or taken out. Only speed rests on it.
     changed: usize,
@@ -28,7 +31,8 @@ impl<T> Model for ChunkedList<T> {
 
     ghost view = { λ l. flat_map (λ c. c.items) l.chunks.items };
 
-    ghost invariant = { λ l. length (flat_map (λ c. c.items) l.chunks.items) ≡ l.len };
+    ghost invariant = { λ l. (length (flat_map (λ c. c.items) l.chunks.items) ≡ l.len)
+        × IsMark (λ c. c.items) l.chunks.items l.mark.chunk l.mark.before };
 }
 
 impl<T: Copy> ChunkedList<T> {
@@ -39,6 +43,7 @@ impl<T: Copy> ChunkedList<T> {
         ChunkedList {
             alloc,
             chunks: Vec::new(alloc),
+            mark: first(),
             len: 0,
             changed: 0,
         }
@@ -65,7 +70,7 @@ impl<T: Copy> ChunkedList<T> {
     {
         let inside = place < self.len;
         prove!(inside);
-        item(&self.chunks, place)
+        item(&self.chunks, self.mark, place)
     }
 
     /// Puts an item in before the one at a place, or at the end. The error is out of memory.
@@ -77,7 +82,7 @@ impl<T: Copy> ChunkedList<T> {
         let Some(len) = self.len.checked_add(1) else {
             return Err(OutOfMemory);
         };
-        match put_in(self.alloc, &mut self.chunks, place, item) {
+        match put_in(self.alloc, &mut self.chunks, &mut self.mark, place, item) {
             Ok(()) => {
                 self.len = len;
                 self.changed = place;
@@ -93,7 +98,7 @@ impl<T: Copy> ChunkedList<T> {
         ensures { self.new ≡ set self.old place item }
     {
         self.changed = place;
-        put_over(&mut self.chunks, place, item);
+        put_over(&mut self.chunks, &mut self.mark, place, item);
     }
 
     /// Takes the item at a place out.
@@ -104,7 +109,7 @@ impl<T: Copy> ChunkedList<T> {
     {
         self.len -= 1;
         self.changed = place;
-        take_out(&mut self.chunks, place)
+        take_out(&mut self.chunks, &mut self.mark, place)
     }
 
     /// Where an item was last put in or taken out: a place to begin a search at. Only speed rests on it.

@@ -4,7 +4,7 @@ use Rattle.chunked_list.proofs.list.ChunkedList.point_anywhere.Goals as goal
 
 pub loop-low-init : goal.loop-low-init
 loop-low-init g c =
-    let size : length c.args.self.now ≡ c.self.inside.len = ap length (sym c.self.view_is) ∙ c.self.invariant in
+    let size : length c.args.self.now ≡ c.self.inside.len = ap length (sym c.self.view_is) ∙ c.self.invariant.0 in
     (omega arith, omega arith, λ p told d. (λ some. absurd (omega arith), λ more. absurd (omega arith)))
 
 pub loop-low-preserved-then-passes : goal.loop-low-preserved-then-passes
