@@ -34,6 +34,35 @@ pub(crate) fn first() -> Mark
     }
 }
 
+/// The chunk before a marked one.
+fn back<T>(chunks: &[Vec<T>], mark: Mark) -> Mark
+    requires some { 0 < mark.chunk }
+    requires mark { IsMark (λ c. c.items) chunks.now mark.chunk mark.before }
+    ensures chunk { result.chunk + 1 ≡ mark.chunk }
+    ensures mark { IsMark (λ c. c.items) chunks.now result.chunk result.before }
+{
+    let chunk = mark.chunk - 1;
+    Mark {
+        chunk,
+        before: mark.before - chunks[chunk].len(),
+    }
+}
+
+/// The chunk behind a marked one.
+fn on<T>(chunks: &[Vec<T>], mark: Mark) -> Mark
+    requires inside { mark.chunk < length chunks.now }
+    requires mark { IsMark (λ c. c.items) chunks.now mark.chunk mark.before }
+    requires fits { (d : _) → mark.before + length (slice_index_or chunks.now mark.chunk d).items < 2 ^ 64 }
+    ensures chunk { result.chunk ≡ mark.chunk + 1 }
+    ensures mark { IsMark (λ c. c.items) chunks.now result.chunk result.before }
+    ensures before { (d : _) → result.before ≡ mark.before + length (slice_index_or chunks.now mark.chunk d).items }
+{
+    Mark {
+        chunk: mark.chunk + 1,
+        before: mark.before + chunks[mark.chunk].len(),
+    }
+}
+
 /// The chunk nearest to a mark, and not behind it, that has fewer items before it; the first, if none has.
 fn walk_back<T>(chunks: &[Vec<T>], from: Mark, count: usize) -> Mark
     requires some { 0 < length chunks.now }
@@ -44,13 +73,11 @@ fn walk_back<T>(chunks: &[Vec<T>], from: Mark, count: usize) -> Mark
     ensures below { result.before ≤ count }
     ensures some { 0 < count → result.before < count }
 {
-    let mut chunk = from.chunk;
-    let mut before = from.before;
-    while chunk > 0 && count <= before {
-        chunk -= 1;
-        before -= chunks[chunk].len();
+    let mut mark = from;
+    while mark.chunk > 0 && count <= mark.before {
+        mark = back(chunks, mark);
     }
-    Mark { chunk, before }
+    mark
 }
 
 /// The first chunk, from a marked one on, that reaches so far.
@@ -67,13 +94,11 @@ fn walk_on<T>(chunks: &[Vec<T>], from: Mark, count: usize) -> Mark
     ensures reach { (d : _) → count - result.before
         ≤ length (slice_index_or chunks.now result.chunk d).items }
 {
-    let mut chunk = from.chunk;
-    let mut before = from.before;
-    while chunk + 1 < chunks.len() && chunks[chunk].len() < count - before {
-        before += chunks[chunk].len();
-        chunk += 1;
+    let mut mark = from;
+    while mark.chunk + 1 < chunks.len() && chunks[mark.chunk].len() < count - mark.before {
+        mark = on(chunks, mark);
     }
-    Mark { chunk, before }
+    mark
 }
 
 /// A chunk that reaches so far and has fewer items before it, looked for from a mark or from the first chunk, whichever is nearer.
