@@ -4,7 +4,7 @@ use Rattle.std.proofs.Math.ListN.{get_or, set}
 use Rattle.std.proofs.Math.Nat.{not-suc-le-zero}
 use Rattle.std.proofs.Math.Path.{ap, refl, sym, subst, ◌∙◌}
 use Rattle.std.specs.List.{flat_map}
-use Rattle.std.proofs.lemmas.List.{append_assoc, drop_more, get_or_default, set-append_left, set-append_right, set_split, take-append-drop}
+use Rattle.std.proofs.lemmas.List.{append_assoc, length-append, drop_more, get_or_default, set-append_left, set-append_right, set_split, take-append-drop}
 use Rattle.std.proofs.lemmas.List.Concat.{flat_map-append, get_or-flat_map}
 use Rattle.std.proofs.lemmas.List.Edits.{get_or-insert_below, insert-append_left, insert-append_right, remove-append_left, remove-append_right}
 
@@ -111,3 +111,12 @@ pub same-dropped : {X C : Type 0} (f : C → List X) (cs : List C) (i : ℕ) (c 
 same-dropped f cs i c inside is none =
     flat_map-append f (take i cs) (drop (suc i) cs)
     ∙ sym (parts f cs i c inside is ∙ ap (λ xs. flat_map f (take i cs) ++ (xs ++ flat_map f (drop (suc i) cs))) none)
+
+-- what stands before one of them, and it, is no longer than all
+pub within-all : {X C : Type 0} (f : C → List X) (cs : List C) (i before : ℕ) (d : C) → i < length cs → before ≡ length (flat_map f (take i cs)) →
+    before + length (f (get_or cs i d)) ≤ length (flat_map f cs)
+within-all f cs i before d inside mark =
+    let c = get_or cs i d in
+    let back = flat_map f (drop (suc i) cs) in
+    let whole = ap length (parts f cs i c inside (get_or_default cs i d c inside)) ∙ length-append (flat_map f (take i cs)) (f c ++ back) ∙ ap (λ n. length (flat_map f (take i cs)) + n) (length-append (f c) back) in
+    omega arith

@@ -3,6 +3,7 @@ ghost use Rattle.std.specs.Prelude.{◌≡◌, ◌<◌, ◌≤◌, ◌+◌, ◌-
 ghost use Rattle.std.specs.List.{flat_map};
 ghost use Rattle.chunked_list.specs.Marked.{IsMark};
 
+use crate::marks::{Mark, locate};
 use std::alloc::{AllocError as OutOfMemory, Global};
 
 /// A chunk of fewer items isn't parted.
@@ -14,109 +15,6 @@ const SHORT_BESIDE_ONE: usize = 32;
 /// The most items of a chunk, beside so many chunks.
 fn longest(chunks: usize) -> usize {
     SHORT.max(chunks.saturating_mul(SHORT_BESIDE_ONE))
-}
-
-/// A chunk and how many items stand before it, so that a place near it is found by few steps.
-#[derive(Clone, Copy)]
-pub(crate) struct Mark {
-    pub(crate) chunk: usize,
-    pub(crate) before: usize,
-}
-
-/// The first chunk.
-pub(crate) fn first() -> Mark
-    ensures chunk { result.chunk ≡ 0 }
-    ensures before { result.before ≡ 0 }
-{
-    Mark {
-        chunk: 0,
-        before: 0,
-    }
-}
-
-/// The chunk before a marked one.
-fn back<T>(chunks: &[Vec<T>], mark: Mark) -> Mark
-    requires some { 0 < mark.chunk }
-    requires mark { IsMark (λ c. c.items) chunks.now mark.chunk mark.before }
-    ensures chunk { result.chunk + 1 ≡ mark.chunk }
-    ensures mark { IsMark (λ c. c.items) chunks.now result.chunk result.before }
-{
-    let chunk = mark.chunk - 1;
-    Mark {
-        chunk,
-        before: mark.before - chunks[chunk].len(),
-    }
-}
-
-/// The chunk behind a marked one.
-fn on<T>(chunks: &[Vec<T>], mark: Mark) -> Mark
-    requires inside { mark.chunk < length chunks.now }
-    requires mark { IsMark (λ c. c.items) chunks.now mark.chunk mark.before }
-    requires fits { (d : _) → mark.before + length (slice_index_or chunks.now mark.chunk d).items < 2 ^ 64 }
-    ensures chunk { result.chunk ≡ mark.chunk + 1 }
-    ensures mark { IsMark (λ c. c.items) chunks.now result.chunk result.before }
-    ensures before { (d : _) → result.before ≡ mark.before + length (slice_index_or chunks.now mark.chunk d).items }
-{
-    Mark {
-        chunk: mark.chunk + 1,
-        before: mark.before + chunks[mark.chunk].len(),
-    }
-}
-
-/// The chunk nearest to a mark, and not behind it, that has fewer items before it; the first, if none has.
-fn walk_back<T>(chunks: &[Vec<T>], from: Mark, count: usize) -> Mark
-    requires some { 0 < length chunks.now }
-    requires mark { IsMark (λ c. c.items) chunks.now from.chunk from.before }
-    requires within { count ≤ length (flat_map (λ c. c.items) chunks.now) }
-    ensures inside { result.chunk < length chunks.now }
-    ensures mark { IsMark (λ c. c.items) chunks.now result.chunk result.before }
-    ensures below { result.before ≤ count }
-    ensures some { 0 < count → result.before < count }
-{
-    let mut mark = from;
-    while mark.chunk > 0 && count <= mark.before {
-        mark = back(chunks, mark);
-    }
-    mark
-}
-
-/// The first chunk, from a marked one on, that reaches so far.
-fn walk_on<T>(chunks: &[Vec<T>], from: Mark, count: usize) -> Mark
-    requires inside { from.chunk < length chunks.now }
-    requires mark { IsMark (λ c. c.items) chunks.now from.chunk from.before }
-    requires below { from.before ≤ count }
-    requires some { 0 < count → from.before < count }
-    requires within { count ≤ length (flat_map (λ c. c.items) chunks.now) }
-    ensures inside { result.chunk < length chunks.now }
-    ensures mark { IsMark (λ c. c.items) chunks.now result.chunk result.before }
-    ensures below { result.before ≤ count }
-    ensures some { 0 < count → result.before < count }
-    ensures reach { (d : _) → count - result.before
-        ≤ length (slice_index_or chunks.now result.chunk d).items }
-{
-    let mut mark = from;
-    while mark.chunk + 1 < chunks.len() && chunks[mark.chunk].len() < count - mark.before {
-        mark = on(chunks, mark);
-    }
-    mark
-}
-
-/// A chunk that reaches so far and has fewer items before it, looked for from a mark or from the first chunk, whichever is nearer.
-fn locate<T>(chunks: &[Vec<T>], near: Mark, count: usize) -> Mark
-    requires some { 0 < length chunks.now }
-    requires mark { IsMark (λ c. c.items) chunks.now near.chunk near.before }
-    requires within { count ≤ length (flat_map (λ c. c.items) chunks.now) }
-    ensures inside { result.chunk < length chunks.now }
-    ensures mark { IsMark (λ c. c.items) chunks.now result.chunk result.before }
-    ensures below { result.before ≤ count }
-    ensures some { 0 < count → result.before < count }
-    ensures reach { (d : _) → count - result.before
-        ≤ length (slice_index_or chunks.now result.chunk d).items }
-{
-    if count < near.before / 2 {
-        return walk_on(chunks, first(), count);
-    }
-    walk_on(chunks, walk_back(chunks, near, count), count)
 }
 
 /// The item at a place, looked for from a mark.

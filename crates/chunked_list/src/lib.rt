@@ -5,6 +5,8 @@
 
 mod chunks;
 mod list;
+mod marks;
+mod searching;
 #[cfg(test)]
 mod tests;
 

@@ -1,6 +1,6 @@
 use Rattle.std.proofs.Common.{◌-◌, ◌<◌, ◌≡◌, ◌≤◌, Bool, length, slice_index_or, true}
 use Rattle.std.specs.Fn.{FnReturnsAt}
-use Rattle.chunked_list.proofs.list.ChunkedList.point_above.Given as goal
+use Rattle.chunked_list.proofs.searching.Search.point_above.Given as goal
 
 -- the item before the place passes
 abbrev pub invariant-loop : goal.invariant-loop

@@ -1,4 +1,4 @@
-use Rattle.chunked_list.proofs.list.ChunkedList.point_below.Goals as goal
+use Rattle.chunked_list.proofs.searching.Search.point_below.Goals as goal
 
 pub returns-then-fails_from-clause-point : goal.returns-then-fails_from-clause-point
 returns-then-fails_from-clause-point g c = λ p told d.

@@ -1,6 +1,6 @@
 use Rattle.std.proofs.Common.{arith, rules, slice_index_or, true, ◌+◌, ◌-◌, ◌≡◌}
 use Rattle.std.proofs.Math.Path.{subst, sym}
-use Rattle.chunked_list.proofs.list.ChunkedList.point_above.Goals as goal
+use Rattle.chunked_list.proofs.searching.Search.point_above.Goals as goal
 
 pub overflow_add-place : goal.overflow_add-place
 overflow_add-place g c = let fits = c.fails_from.ensures.fits c.if-fails_from.false in search rules

@@ -1,5 +1,5 @@
 use Rattle.std.proofs.Common.{length, ◌-◌, ◌≤◌}
-use Rattle.chunked_list.proofs.list.point_in.Given as goal
+use Rattle.chunked_list.proofs.searching.point_in.Given as goal
 
 abbrev pub invariant-loop-low : goal.invariant-loop-low
 invariant-loop-low g l = (l.low ≤ l.high) × (l.high ≤ length l.items)

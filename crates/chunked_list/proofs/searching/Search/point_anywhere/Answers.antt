@@ -1,6 +1,7 @@
 use Rattle.std.proofs.Common.{arith, ◌≡◌, ◌<◌, ◌+◌, ◌-◌, ◌/◌, false, length, slice_index_or, true}
 use Rattle.std.proofs.Math.Path.{ap, sym, subst, ◌∙◌}
-use Rattle.chunked_list.proofs.list.ChunkedList.point_anywhere.Goals as goal
+use Rattle.chunked_list.specs.Parted.{IsParted}
+use Rattle.chunked_list.proofs.searching.Search.point_anywhere.Goals as goal
 
 pub loop-low-init : goal.loop-low-init
 loop-low-init g c =
@@ -43,5 +44,7 @@ returns-clause-point g c = λ p told d.
     (before, subst (λ n. n < length c.args.self.now → p (slice_index_or c.args.self.now n d) ≡ false) end after)
 
 pub returns-then-fails_from-clause-point : goal.returns-then-fails_from-clause-point
-returns-then-fails_from-clause-point g c = λ p told d.
-    (c.passes_before.ensures c.if-passes_before.true p told d, c.fails_from.ensures.fails c.if-fails_from.true p told d)
+returns-then-fails_from-clause-point g c = λ p told.
+    let parted : IsParted p c.at_end_of_passing-there.result c.guess-guess.result =
+    λ d. (c.passes_before.ensures c.if-passes_before.true p told d, c.fails_from.ensures.fails c.if-fails_from.true p told d) in
+    subst (λ xs. IsParted p xs c.guess-guess.result) c.at_end_of_passing-there.ensures parted

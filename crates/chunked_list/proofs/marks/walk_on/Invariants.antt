@@ -1,6 +1,6 @@
 use Rattle.std.proofs.Common.{length, ◌-◌, ◌<◌, ◌≤◌}
 use Rattle.chunked_list.specs.Marked.{IsMark}
-use Rattle.chunked_list.proofs.chunks.walk_on.Given as goal
+use Rattle.chunked_list.proofs.marks.walk_on.Given as goal
 
 abbrev pub invariant-loop-mark : goal.invariant-loop-mark
 invariant-loop-mark g l =
