@@ -7,14 +7,11 @@ use crate::marks::{Mark, locate};
 use std::alloc::{AllocError as OutOfMemory, Global};
 
 /// A chunk of fewer items isn't parted.
-const SHORT: usize = 128;
+const SHORT: usize = 32;
 
-/// Nor is one of fewer items for each chunk of the list: where there are many, they are long, since they are walked past one by one.
-const SHORT_BESIDE_ONE: usize = 32;
-
-/// The most items of a chunk, beside so many chunks.
+/// The most items of a chunk, beside so many chunks: to walk past a chunk takes about as long as to move an item. Only speed rests on it.
 fn longest(chunks: usize) -> usize {
-    SHORT.max(chunks.saturating_mul(SHORT_BESIDE_ONE))
+    SHORT.max(chunks)
 }
 
 /// The item at a place, looked for from a mark.

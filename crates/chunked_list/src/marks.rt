@@ -106,22 +106,21 @@ pub(crate) fn locate<T>(chunks: &[Vec<T>], near: Mark, count: usize) -> Mark
     walk_on(chunks, walk_back(chunks, near, count), count)
 }
 
-/// The mark of a chunk, found from another.
+/// The mark of a chunk, found from another or from the first chunk, whichever is nearer.
 pub(crate) fn mark_of<T>(chunks: &[Vec<T>], near: Mark, chunk: usize) -> Mark
     requires inside { chunk < length chunks.now }
     requires mark { IsMark (λ c. c.items) chunks.now near.chunk near.before }
     requires fits { length (flat_map (λ c. c.items) chunks.now) < 2 ^ 64 }
     ensures { IsMark (λ c. c.items) chunks.now result.chunk result.before }
 {
-    if chunk < near.chunk {
-        back_to(chunks, near, chunk)
-    } else {
-        on_to(chunks, near, chunk)
+    if chunk < near.chunk / 2 {
+        return on_to(chunks, first(), chunk);
     }
+    on_to(chunks, back_to(chunks, near, chunk), chunk)
 }
 
 fn back_to<T>(chunks: &[Vec<T>], from: Mark, chunk: usize) -> Mark
-    requires mark { IsMark (λ c. c.items) chunks.now from.chunk from.before }
+    requires { IsMark (λ c. c.items) chunks.now from.chunk from.before }
     ensures { IsMark (λ c. c.items) chunks.now result.chunk result.before }
 {
     let mut mark = from;

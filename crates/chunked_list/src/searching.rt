@@ -7,7 +7,7 @@ ghost use Rattle.chunked_list.specs.Marked.{IsMark};
 ghost use Rattle.chunked_list.specs.Parted.{IsParted};
 
 use crate::chunks::item;
-use crate::marks::{Mark, locate, mark_of};
+use crate::marks::{Mark, first, locate, mark_of};
 use std::marker::Model;
 
 /// How many steps from a place are tried before all items are searched.
@@ -225,7 +225,7 @@ impl<'a, T: Copy> Search<'a, T> {
     }
 }
 
-/// The last chunk that begins with an item that passes, if these stand first; a mark as it was, if none does.
+/// The last chunk that begins with an item that passes, if these stand first; the first chunk, if none does.
 fn end_of_passing<T, F: Fn(&T) -> bool>(chunks: &[Vec<T>], near: Mark, test: &F) -> Mark
     requires mark { IsMark (λ c. c.items) chunks.now near.chunk near.before }
     requires fits { length (flat_map (λ c. c.items) chunks.now) < 2 ^ 64 }
@@ -234,7 +234,7 @@ fn end_of_passing<T, F: Fn(&T) -> bool>(chunks: &[Vec<T>], near: Mark, test: &F)
 {
     let begun = chunks_begun(chunks, test);
     if begun == 0 {
-        return near;
+        return first();
     }
     mark_of(chunks, near, begun - 1)
 }
