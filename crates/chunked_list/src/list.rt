@@ -1,6 +1,6 @@
 //! A list that is long and changes in its middle, kept in chunks.
 
-ghost use Rattle.std.specs.Prelude.{IfSome, ◌+◌, ◌^◌, ◌≡◌, ◌==◌, ◌<◌, ◌≤◌, ◌-◌, List, [], false, filter, insert, length, remove, set, slice_index_or, true, OnErr, OnOk, Bool};
+ghost use Rattle.std.specs.Prelude.{◌≡◌, ◌==◌, ◌<◌, ◌≤◌, List, [], false, filter, insert, length, remove, set, slice_index_or, true, OnErr, OnOk, Bool};
 ghost use Rattle.std.specs.List.{flat_map};
 ghost use Rattle.std.specs.List.Sorted.{IsPartitionedBy, IsPartitionPoint};
 ghost use Rattle.std.specs.Fn.{FnReturnsAt};

@@ -111,7 +111,8 @@ pub(crate) fn mark_of<T>(chunks: &[Vec<T>], near: Mark, chunk: usize) -> Mark
     requires inside { chunk < length chunks.now }
     requires mark { IsMark (λ c. c.items) chunks.now near.chunk near.before }
     requires fits { length (flat_map (λ c. c.items) chunks.now) < 2 ^ 64 }
-    ensures { IsMark (λ c. c.items) chunks.now result.chunk result.before }
+    ensures chunk { result.chunk ≡ chunk }
+    ensures mark { IsMark (λ c. c.items) chunks.now result.chunk result.before }
 {
     if chunk < near.chunk / 2 {
         return on_to(chunks, first(), chunk);
@@ -121,7 +122,8 @@ pub(crate) fn mark_of<T>(chunks: &[Vec<T>], near: Mark, chunk: usize) -> Mark
 
 fn back_to<T>(chunks: &[Vec<T>], from: Mark, chunk: usize) -> Mark
     requires { IsMark (λ c. c.items) chunks.now from.chunk from.before }
-    ensures { IsMark (λ c. c.items) chunks.now result.chunk result.before }
+    ensures within { result.chunk ≤ chunk }
+    ensures mark { IsMark (λ c. c.items) chunks.now result.chunk result.before }
 {
     let mut mark = from;
     while chunk < mark.chunk {
@@ -131,10 +133,12 @@ fn back_to<T>(chunks: &[Vec<T>], from: Mark, chunk: usize) -> Mark
 }
 
 fn on_to<T>(chunks: &[Vec<T>], from: Mark, chunk: usize) -> Mark
+    requires order { from.chunk ≤ chunk }
     requires within { chunk ≤ length chunks.now }
     requires mark { IsMark (λ c. c.items) chunks.now from.chunk from.before }
     requires fits { length (flat_map (λ c. c.items) chunks.now) < 2 ^ 64 }
-    ensures { IsMark (λ c. c.items) chunks.now result.chunk result.before }
+    ensures chunk { result.chunk ≡ chunk }
+    ensures mark { IsMark (λ c. c.items) chunks.now result.chunk result.before }
 {
     let mut mark = from;
     while mark.chunk < chunk {

@@ -9,5 +9,5 @@ on-mark-requires-clause-fits g c = λ d.
     let chunks = c.args.chunks.now in
     let mark = c.loop-mark.mark in
     let within : mark.before + length (get_or chunks mark.chunk d).items ≤ length (flat_map (λ chunk. chunk.items) chunks) =
-    within-all (λ chunk. chunk.items) chunks mark.chunk mark.before d (omega arith) c.loop-mark.invariant.1 in
+    within-all (λ chunk. chunk.items) chunks mark.chunk mark.before d (omega arith) c.loop-mark.invariant.1.1 in
     omega arith
