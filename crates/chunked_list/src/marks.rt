@@ -1,5 +1,5 @@
 //! How a place is found from a chunk that is known, and not by walking past all chunks before it.
-ghost use Rattle.std.specs.Prelude.{◌≡◌, ◌<◌, ◌≤◌, ◌+◌, ◌-◌, ◌^◌, length, slice_index_or};
+ghost use Rattle.std.specs.Prelude.{◌≡◌, ◌<◌, ◌≤◌, ◌+◌, ◌-◌, ◌^◌, length, slice_index_or, true};
 ghost use Rattle.std.specs.List.{flat_map};
 ghost use Rattle.chunked_list.specs.Marked.{IsMark};
 
@@ -88,8 +88,41 @@ fn walk_on<T>(chunks: &[Vec<T>], from: Mark, count: usize) -> Mark
     mark
 }
 
-/// A chunk that reaches so far and has fewer items before it, looked for from a mark or from the first chunk, whichever is nearer.
+/// Whether a marked chunk reaches so far and has fewer items before it.
+#[inline]
+fn reaches<T>(chunks: &[Vec<T>], mark: Mark, count: usize) -> bool
+    ensures inside { result ≡ true → mark.chunk < length chunks.now }
+    ensures some { result ≡ true → mark.before < count }
+    ensures reach { result ≡ true → (d : _) → count - mark.before
+        ≤ length (slice_index_or chunks.now mark.chunk d).items }
+{
+    mark.chunk < chunks.len()
+        && mark.before < count
+        && count - mark.before <= chunks[mark.chunk].len()
+}
+
+/// A chunk that reaches so far and has fewer items before it, looked for from a mark. Mostly it is the marked one.
+#[inline]
 pub(crate) fn locate<T>(chunks: &[Vec<T>], near: Mark, count: usize) -> Mark
+    requires some { 0 < length chunks.now }
+    requires mark { IsMark (λ c. c.items) chunks.now near.chunk near.before }
+    requires within { count ≤ length (flat_map (λ c. c.items) chunks.now) }
+    ensures inside { result.chunk < length chunks.now }
+    ensures mark { IsMark (λ c. c.items) chunks.now result.chunk result.before }
+    ensures below { result.before ≤ count }
+    ensures some { 0 < count → result.before < count }
+    ensures reach { (d : _) → count - result.before
+        ≤ length (slice_index_or chunks.now result.chunk d).items }
+{
+    if reaches(chunks, near, count) {
+        return near;
+    }
+    walk(chunks, near, count)
+}
+
+/// What `locate` gives, by walking from the mark or from the first chunk, whichever is nearer.
+#[inline(never)]
+fn walk<T>(chunks: &[Vec<T>], near: Mark, count: usize) -> Mark
     requires some { 0 < length chunks.now }
     requires mark { IsMark (λ c. c.items) chunks.now near.chunk near.before }
     requires within { count ≤ length (flat_map (λ c. c.items) chunks.now) }
