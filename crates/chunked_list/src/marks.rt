@@ -89,7 +89,6 @@ fn walk_on<T>(chunks: &[Vec<T>], from: Mark, count: usize) -> Mark
 }
 
 /// Whether a marked chunk reaches so far and has fewer items before it.
-#[inline]
 fn reaches<T>(chunks: &[Vec<T>], mark: Mark, count: usize) -> bool
     ensures inside { result ≡ true → mark.chunk < length chunks.now }
     ensures some { result ≡ true → mark.before < count }
@@ -102,7 +101,6 @@ fn reaches<T>(chunks: &[Vec<T>], mark: Mark, count: usize) -> bool
 }
 
 /// A chunk that reaches so far and has fewer items before it, looked for from a mark. Mostly it is the marked one.
-#[inline]
 pub(crate) fn locate<T>(chunks: &[Vec<T>], near: Mark, count: usize) -> Mark
     requires some { 0 < length chunks.now }
     requires mark { IsMark (λ c. c.items) chunks.now near.chunk near.before }
@@ -121,6 +119,7 @@ pub(crate) fn locate<T>(chunks: &[Vec<T>], near: Mark, count: usize) -> Mark
 }
 
 /// What `locate` gives, by walking from the mark or from the first chunk, whichever is nearer.
+// Apart, so that the usual way is short enough to be inlined.
 #[inline(never)]
 fn walk<T>(chunks: &[Vec<T>], near: Mark, count: usize) -> Mark
     requires some { 0 < length chunks.now }
