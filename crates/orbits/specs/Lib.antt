@@ -1,3 +1,4 @@
+pub mod Along
 pub mod Cutting
 pub mod Once
 pub mod OnceLaws

@@ -1,5 +1,5 @@
--- What finding orbits goes by: walks from a number on, the numbers where open orbits start, and marks. No public contract cites it.
-use Rattle.std.specs.Prelude.{◌≡◌, ◌≢◌, ℕ, ◌<◌, List, length, slice_index, slice_index_or, Option, Some, Bool, true, false}
+-- What finding orbits goes by: walks from a number on, the numbers where open orbits start, marks, and walks that are noted. No public contract cites it.
+use Rattle.std.specs.Prelude.{◌≡◌, ◌≢◌, ℕ, ◌++◌, ◌<◌, List, length, slice_index, slice_index_or, Option, Some, Bool, true, false}
 use Rattle.orbits.specs.Orbits.{after, first, last, GoesOn}
 
 -- numbers from one on, each going on to the one after it, none twice, up to where they end or close
@@ -22,3 +22,11 @@ pub record AreMarkedAlso (old : List Bool) (places : List ℕ) (new : List Bool)
   pub sized : length new ≡ length old
   pub here : (k : ℕ) → k < length places → slice_index_or new (slice_index places k) false ≡ true
   pub others : (x : ℕ) → ((k : ℕ) → k < length places → slice_index places k ≢ x) → slice_index_or new x false ≡ slice_index_or old x false
+
+-- the numbers of a whole walk, so many, stand behind the old ones and are marked
+pub record IsPassed (next : List (Option ℕ)) (from size : ℕ) (old new : List ℕ) (marked marks : List Bool) : Type 0 where
+  pub walk : List ℕ
+  pub whole : IsWholeWalk next from walk
+  pub sized : length walk ≡ size
+  pub noted : new ≡ old ++ walk
+  pub also : AreMarkedAlso marked walk marks

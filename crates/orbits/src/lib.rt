@@ -4,9 +4,11 @@
 mod cutting;
 mod laws;
 mod orbit;
+mod passing;
 #[cfg(test)]
 mod tests;
 
 pub use cutting::cut;
 pub use laws::{each_stands_once, orbits_are_determined};
-pub use orbit::{cycles, orbits};
+pub use orbit::orbits;
+pub use passing::{ClosedWalks, cycles};

@@ -1,6 +1,6 @@
 //! Orbits of a partial one-to-one map.
-ghost use Rattle.std.specs.Prelude.{◌≡◌, ◌≢◌, ◌<◌, length, All, IfOk, None, map, ℕ};
-ghost use Rattle.orbits.specs.Orbits.{after, IsOneToOne, AreOrbits, AreInOrder};
+ghost use Rattle.std.specs.Prelude.{◌<◌, length, All, IfOk, map};
+ghost use Rattle.orbits.specs.Orbits.{IsOneToOne, AreOrbits, AreInOrder};
 ghost use Rattle.orbits.specs.OrbitSteps.{IsWholeWalk, AreStarts, AreMarkedAlso};
 
 use std::alloc::{AllocError as OutOfMemory, Global};
@@ -33,25 +33,6 @@ pub fn orbits(alloc: Global, next: &[Option<usize>]) -> Result<Vec<Vec<usize>>, 
         }
     }
     Ok(orbits)
-}
-
-/// The same for a map by which each number goes on, so that all orbits are closed.
-pub fn cycles(alloc: Global, next: &[Option<usize>]) -> Result<Vec<Vec<usize>>, OutOfMemory>
-    requires map { IsOneToOne next.now }
-    requires total { (i : ℕ) → i < length next.now → after next.now i ≢ None }
-    ensures orbits { IfOk result (λ v. AreOrbits next.now (map (λ o. o.items) v.items)) }
-    ensures order { IfOk result (λ v. AreInOrder next.now (map (λ o. o.items) v.items)) }
-{
-    let mut passed = vec![in alloc; false; next.len()]?;
-    let mut cycles = Vec::new(alloc);
-    for place in 0..next.len() {
-        if !passed[place] {
-            let cycle = walk(alloc, next, place)?;
-            mark(&mut passed, &cycle);
-            cycles.push(cycle)?;
-        }
-    }
-    Ok(cycles)
 }
 
 /// For each number whether nothing goes on to it.

@@ -28,10 +28,16 @@ fn chains_and_cycles(rt: HostRuntime) -> Result<(), OutOfMemory> {
 
 #[test]
 fn cycles_alone(rt: HostRuntime) -> Result<(), OutOfMemory> {
-    let found = cycles(rt.alloc(), &[Some(3), Some(1), Some(0), Some(2)])?;
-    assert_eq!(rt; found.len(), 2);
-    assert_eq!(rt; found[0].as_slice(), [0, 3, 2].as_slice());
-    assert_eq!(rt; found[1].as_slice(), [1].as_slice());
+    // 0 -> 3 -> 6 -> 0, 1 -> 5 -> 1 and 2 -> 7 -> 4 -> 2 by turns, and 8 goes on to itself.
+    let next = [3, 5, 7, 6, 2, 1, 0, 4, 8].map(Some);
+    let found = cycles(rt.alloc(), &next)?;
+    assert_eq!(rt;
+        found.places.as_slice(),
+        [0, 3, 6, 1, 5, 2, 7, 4, 8].as_slice()
+    );
+    assert_eq!(rt; found.sizes.as_slice(), [3, 2, 3, 1].as_slice());
+    let none = cycles(rt.alloc(), &[])?;
+    assert!(rt; none.places.is_empty() && none.sizes.is_empty());
     Ok(())
 }
 

@@ -13,13 +13,12 @@ use Rattle.osm_geom.specs.declared.edge.Edge.{Edge}
 use Rattle.osm_geom.specs.declared.point.Point.{Point}
 use Rattle.plane_edges.specs.Sided.{IsSided}
 use Rattle.osm_rings.specs.Apart.{IsFirstLeaving, LeaveApart, LeavesFirst}
-use Rattle.osm_rings.specs.Pieces.{edges_at}
-use Rattle.osm_rings.specs.Ring.{IsRing}
+use Rattle.osm_rings.specs.Pieces.{AreRingsAlong, edges_at}
 use Rattle.osm_rings.specs.RingList.{AreRingsOf}
-use Rattle.osm_rings.specs.Walked.{IsClosedWalk, IsFollower}
+use Rattle.osm_rings.specs.Walked.{AreWalksOf, IsClosedWalk, IsFollower}
 use Rattle.osm_rings.proofs.ApartEdges.{AreFollowersUpTo, followers-lead, followers-more, numbers, orbits-cut, places-tell}
 use Rattle.osm_rings.proofs.Multiplied.{pick}
-use Rattle.osm_rings.proofs.RingLists.{pieces-are-rings, pieces-ring}
+use Rattle.osm_rings.proofs.RingLists.{pieces-are-rings}
 
 -- ---- no two edges are the first to leave a point
 first-one : (es : List Edge) (p : Point) (i j : ℕ) (d : Edge) → LeavesFirst es p i → LeavesFirst es p j → i ≡ j
@@ -129,15 +128,16 @@ module _ (es : List Edge) (walks : List (List ℕ)) (each : All (IsClosedWalk es
         each = λ k d l. orbit (get_or walks k d) (each k d l) (low k d l);
       }
 
-  module _ (sided : IsSided es) where
-    pub walks-rings : All (λ p. IsRing (edges_at es p)) walks
-    walks-rings =
-        let are = followers-lead es leave-apart sided next are-followers in
-        let cut = orbits-cut es leave-apart next are-followers.sized walks orbits in
-        pieces-ring es sided next are (numbers es leave-apart) (places-tell es leave-apart) sums_agree all_below walks orbits walks cut
+  walks-are-rings : IsSided es → AreRingsOf es (map (edges_at es) walks)
+  walks-are-rings sided =
+      let are = followers-lead es leave-apart sided next are-followers in
+      let cut = orbits-cut es leave-apart next are-followers.sized walks orbits in
+      pieces-are-rings es sided next are (numbers es leave-apart) (places-tell es leave-apart) sums_agree all_below walks orbits walks cut
 
-    pub walks-are-rings : AreRingsOf es (map (edges_at es) walks)
-    walks-are-rings =
-        let are = followers-lead es leave-apart sided next are-followers in
-        let cut = orbits-cut es leave-apart next are-followers.sized walks orbits in
-        pieces-are-rings es sided next are (numbers es leave-apart) (places-tell es leave-apart) sums_agree all_below walks orbits walks cut
+pub walks-along : (es : List Edge) → IsSided es → (places sizes : List ℕ) → AreWalksOf es places sizes → AreRingsAlong es places sizes
+walks-along es sided places sizes are = record {
+  walks = are.walks;
+  along = are.along;
+  within = all_below (length es) are.walks are.once;
+  rings = walks-are-rings es are.walks are.each are.once sided;
+}

@@ -197,7 +197,6 @@ all-walked es done count places sizes marks are whole room fits = record {
     walks = are.walks;
     each = are.each;
     once = once (length es) (take done places) are.marked.within are.marked.apart (length-take-le done places (omega arith) ∙ whole) are.walks are.joined;
-    joined = are.joined ∙ ap (λ n. take n places) whole;
-    sized = are.sized;
+    along = record { joined = are.joined ∙ ap (λ n. take n places) whole; sized = are.sized };
   };
 }

@@ -3,12 +3,13 @@ use Rattle.std.proofs.Common.{◌≡◌, ℕ, ◌+◌, ◌<◌, ◌≤◌, List,
 use Rattle.std.specs.List.{concat}
 use Rattle.std.proofs.Math.Seq.{drop-append_seam, take-append_seam}
 use Rattle.std.proofs.lemmas.List.{drop_more, get_or-map, length-append, length-map, map-append, take_more}
+use Rattle.orbits.specs.Along.{StandAlong}
 use Rattle.osm_geom.specs.declared.edge.Edge.{Edge}
 use Rattle.osm_rings.specs.Pieces.{edges_at}
 
-module _ (ws : List (List ℕ)) (sizes : List ℕ) (sized : map length ws ≡ sizes) where
+module _ (ws : List (List ℕ)) (places sizes : List ℕ) (along : StandAlong ws places sizes) where
   pub as-many : length ws ≡ length sizes
-  as-many = sym (length-map ws length) ∙ ap length sized
+  as-many = sym (length-map ws length) ∙ ap length along.sized
 
   module _ (k : ℕ) (inside : k < length sizes) where
     abbrev walk : List ℕ
@@ -18,7 +19,7 @@ module _ (ws : List (List ℕ)) (sizes : List ℕ) (sized : map length ws ≡ si
     in-walks = let same = as-many in omega arith
 
     long : get_or sizes k 0 ≡ length walk
-    long = ap (λ xs. get_or xs k 0) (sym sized) ∙ get_or-map length ws k [] 0 in-walks
+    long = ap (λ xs. get_or xs k 0) (sym along.sized) ∙ get_or-map length ws k [] 0 in-walks
 
     -- the rings of the walks up to it, as edges
     pub rings-more : (es : List Edge) (rings : List (List Edge)) → rings ≡ map (edges_at es) (take k ws) → rings ++ edges_at es walk ∷ [] ≡ map (edges_at es) (take (k + 1) ws)

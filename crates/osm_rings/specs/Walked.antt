@@ -1,6 +1,6 @@
 -- Closed walks along edges that pass each of them once, and what is noted on the way. No public contract cites it.
-use Rattle.std.specs.Prelude.{All, Bool, List, false, length, map, slice_index, slice_index_or, take, true, ℕ, ◌+◌, ◌++◌, ◌-◌, ◌<◌, ◌≡◌, ◌≢◌, ◌≤◌}
-use Rattle.std.specs.List.{concat}
+use Rattle.std.specs.Prelude.{All, Bool, List, false, length, slice_index, slice_index_or, take, true, ℕ, ◌+◌, ◌++◌, ◌-◌, ◌<◌, ◌≡◌, ◌≢◌, ◌≤◌}
+use Rattle.orbits.specs.Along.{StandAlong}
 use Rattle.orbits.specs.Once.{HoldEachOnce}
 use Rattle.osm_geom.specs.declared.edge.Edge.{Edge}
 use Rattle.osm_rings.specs.Apart.{LeavesFirst}
@@ -24,8 +24,7 @@ pub record AreWalksOf (es : List Edge) (places sizes : List ℕ) : Type 0 where
   pub walks : List (List ℕ)
   pub each : All (IsClosedWalk es) walks
   pub once : HoldEachOnce (length es) walks
-  pub joined : concat walks ≡ places
-  pub sized : map length walks ≡ sizes
+  pub along : StandAlong walks places sizes
 
 -- these are noted at the front of two lists, which have room for them
 pub record AreNoted (es : List Edge) (count : ℕ) (places sizes : List ℕ) : Type 0 where

@@ -7,10 +7,10 @@ ghost use Rattle.osm_geom.specs.Point.{point_cmp};
 ghost use Rattle.plane_edges.specs.Sided.{IsSided};
 ghost use Rattle.osm_rings.specs.Apart.{IsFirstLeaving};
 ghost use Rattle.osm_rings.specs.RingList.{AreRingsOf};
-ghost use Rattle.osm_rings.specs.Walked.{AreMarked, AreNoted, AreWalksOf, IsFresh, IsNoted};
+ghost use Rattle.osm_rings.specs.Walked.{AreMarked, AreNoted, IsFresh, IsNoted};
 
-use crate::ring::{Ring, Rings};
-use crate::ring_list::edges_at;
+use crate::ring::Rings;
+use crate::ring_list::rings_along;
 use osm_geom::{Edge, Point, order_points};
 use std::alloc::{AllocError as OutOfMemory, Global};
 
@@ -108,27 +108,6 @@ pub fn few_walks(
         done += size;
     }
     Some(count)
-}
-
-/// The rings along walks, of which each has so many of the places.
-fn rings_along(
-    alloc: Global,
-    edges: &[Edge],
-    places: &[usize],
-    sizes: &[usize],
-) -> Result<Rings, OutOfMemory>
-    requires sided { IsSided edges.now }
-    requires walks { AreWalksOf edges.now places.now sizes.now }
-    ensures { IfOk result (λ v. AreRingsOf edges.now v) }
-{
-    let mut rings = Rings::with_capacity(alloc, sizes.len())?;
-    let mut left = places;
-    for &size in sizes {
-        let (walk, rest) = left.split_at(size);
-        rings.push(Ring::of_edges(edges_at(alloc, edges, walk)?))?;
-        left = rest;
-    }
-    Ok(rings)
 }
 
 /// The rings of a sided list of few edges of which no two leave one point; none where it isn't such a list.

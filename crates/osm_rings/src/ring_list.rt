@@ -1,10 +1,11 @@
 //! The ring list of a sided list of edges.
-ghost use Rattle.std.specs.Prelude.{◌≡◌, ◌<◌, ◌∷◌, [], All, IfOk, length, map, ℕ};
+ghost use Rattle.std.specs.Prelude.{◌≡◌, ◌<◌, ◌∷◌, [], All, IfOk, List, length, map, ℕ};
+ghost use Rattle.orbits.specs.Along.{StandAlong};
 ghost use Rattle.orbits.specs.Orbits.{after};
 ghost use Rattle.osm_rings.specs.Apart.{LeaveApart};
 ghost use Rattle.osm_rings.specs.Departures.{AreDepartures, IsFirstMet};
 ghost use Rattle.osm_rings.specs.Numbered.{edge_at};
-ghost use Rattle.osm_rings.specs.Pieces.{AreAllCut, edges_at};
+ghost use Rattle.osm_rings.specs.Pieces.{AreAllCut, AreRingsAlong, edges_at};
 ghost use Rattle.osm_rings.specs.Ring.{IsRing};
 ghost use Rattle.osm_rings.specs.RingList.{AreRingsOf};
 ghost use Rattle.plane_edges.specs.Multiple.{whole_edges};
@@ -36,7 +37,7 @@ fn cut_walks(
 {
     let numbers = node_numbers(alloc, edges, departures)?;
     let walks = cycles(alloc, next)?;
-    let pieces = pieces(alloc, &walks, &numbers)?;
+    let pieces = pieces(alloc, &walks.places, &walks.sizes, &numbers)?;
     rings_of(alloc, edges, &pieces)
 }
 
@@ -51,7 +52,7 @@ fn walked_rings(alloc: Global, edges: &[Edge], next: &[Option<usize>]) -> Result
     ensures { IfOk result (λ v. AreRingsOf edges.now v) }
 {
     let walks = cycles(alloc, next)?;
-    rings_of(alloc, edges, &walks)
+    rings_along(alloc, edges, &walks.places, &walks.sizes)
 }
 
 /// The rings of a sided list of edges. Where no two edges leave one point, no walk needs to be cut.
@@ -83,22 +84,27 @@ pub fn rings(alloc: Global, edges: &[Edge]) -> Result<Rings, OutOfMemory>
     cut_rings(alloc, edges)
 }
 
-/// The pieces that are cut off the walks.
+/// The pieces that are cut off walks whose places stand one after the other, so many for each.
 fn pieces(
     alloc: Global,
-    walks: &[Vec<usize>],
+    places: &[usize],
+    sizes: &[usize],
     numbers: &[usize],
 ) -> Result<Vec<Vec<usize>>, OutOfMemory>
-    requires keyed { All (λ w. All (λ i. i < length numbers.now) w.items) walks.now }
+    requires walks { (walks : List (List ℕ)) × StandAlong walks places.now sizes.now
+        × All (λ w. All (λ i. i < length numbers.now) w) walks }
     requires room { All (λ k. k < length numbers.now) numbers.now }
-    ensures { IfOk result (λ v. AreAllCut numbers.now (map (λ w. w.items) walks.now)
-        (map (λ p. p.items) v.items)) }
+    ensures { IfOk result (λ v. (walks : List (List ℕ)) → StandAlong walks places.now sizes.now
+        → AreAllCut numbers.now walks (map (λ p. p.items) v.items)) }
 {
     let mut depths = vec![in alloc; 0; numbers.len()]?;
     let mut pieces = Vec::new(alloc);
-    for walk in walks {
+    let mut left = places;
+    for &size in sizes {
+        let (walk, rest) = left.split_at(size);
         let mut cut = cut(alloc, walk, numbers, &mut depths)?;
         pieces.append(&mut cut)?;
+        left = rest;
     }
     Ok(pieces)
 }
@@ -124,6 +130,26 @@ fn rings_of(alloc: Global, edges: &[Edge], pieces: &[Vec<usize>]) -> Result<Ring
     let mut rings = Rings::with_capacity(alloc, pieces.len())?;
     for piece in pieces {
         rings.push(Ring::of_edges(edges_at(alloc, edges, piece)?))?;
+    }
+    Ok(rings)
+}
+
+/// The rings along walks whose places stand one after the other, so many for each.
+pub fn rings_along(
+    alloc: Global,
+    edges: &[Edge],
+    places: &[usize],
+    sizes: &[usize],
+) -> Result<Rings, OutOfMemory>
+    requires { AreRingsAlong edges.now places.now sizes.now }
+    ensures { IfOk result (λ v. AreRingsOf edges.now v) }
+{
+    let mut rings = Rings::with_capacity(alloc, sizes.len())?;
+    let mut left = places;
+    for &size in sizes {
+        let (walk, rest) = left.split_at(size);
+        rings.push(Ring::of_edges(edges_at(alloc, edges, walk)?))?;
+        left = rest;
     }
     Ok(rings)
 }

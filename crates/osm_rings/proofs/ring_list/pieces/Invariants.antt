@@ -1,10 +1,12 @@
--- The pieces of the walks passed.
-use Rattle.std.proofs.Common.{◌≡◌, length, map, take}
+-- The pieces of the walks passed, and the places of those left.
+use Rattle.std.proofs.Common.{◌≡◌, List, drop, length, map, take, ℕ}
+use Rattle.std.specs.List.{concat}
+use Rattle.orbits.specs.Along.{StandAlong}
 use Rattle.osm_rings.specs.Pieces.{AreAllCut}
 use Rattle.osm_rings.proofs.ring_list.pieces.Given as goal
 
-abbrev pub invariant-loop-walk : goal.invariant-loop-walk
-invariant-loop-walk l = record {
-  sized : length l.depths.items ≡ length l.numbers;
-  cut : AreAllCut l.numbers (map (λ w. w.items) (take l.walk-index l.walks)) (map (λ p. p.items) l.pieces.items);
+abbrev pub invariant-loop-size : goal.invariant-loop-size
+invariant-loop-size l = record {
+  room : length l.depths.items ≡ length l.numbers;
+  cut : (walks : List (List ℕ)) → StandAlong walks l.places l.sizes → (l.left ≡ concat (drop l.size-index walks)) × AreAllCut l.numbers (take l.size-index walks) (map (λ p. p.items) l.pieces.items);
 }

@@ -1,0 +1,10 @@
+-- The numbers passed.
+use Rattle.std.proofs.Common.{◌+◌, ◌-◌, length}
+use Rattle.orbits.proofs.PassSteps.{IsPassing}
+use Rattle.orbits.proofs.passing.pass.Given as goal
+
+abbrev pub invariant-loop-place : goal.invariant-loop-place
+invariant-loop-place l = IsPassing l.fn.next l.fn.from l.place l.fn.places.items l.places.items l.fn.passed l.passed
+
+abbrev pub decreases-loop-place : goal.decreases-loop-place
+decreases-loop-place l = length l.fn.places.items + length l.fn.next - length l.places.items
