@@ -12,3 +12,4 @@ pub mod Problem
 pub mod Merged
 pub mod Plain
 pub mod Found
+pub mod NearHash

@@ -6,6 +6,7 @@ mod choice;
 mod error;
 mod found;
 mod held;
+mod near_hash;
 mod plain;
 mod problem;
 mod store;

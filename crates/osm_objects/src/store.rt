@@ -18,12 +18,14 @@ use crate::choice::Choice;
 use crate::error::AddError;
 use crate::found::Found;
 use crate::held::{Held, Placed};
+use crate::near_hash::NearHasher;
 use crate::plain::{PlainNode, is_above, node_of, plain_node, push_ids, push_node};
 use crate::view::{NodeView, RelationView, WayView};
 use indexmap::IndexMap;
 use opl_reader::{Object, ObjectKind, ObjectRef, Ref, Tags};
 use osm_lattice::Loc;
 use std::alloc::{AllocError as OutOfMemory, Global};
+use std::hash::BuildHasherDefault;
 use std::marker::Model;
 
 /// The live objects of an input. Contracts see it as their list, in the order in which they were added.
@@ -32,7 +34,7 @@ pub struct Store {
     // Nodes that have a location and no tags, as long as their ids rise, as they do in a sorted input.
     nodes: Vec<PlainNode>,
     // All others. One map for the three kinds, since candidates come in input order across them.
-    others: IndexMap<ObjectRef, Placed>,
+    others: IndexMap<ObjectRef, Placed, BuildHasherDefault<NearHasher>>,
     // How many of the nodes came behind the last of the others.
     since: u64,
     // No tags: those of a node that has none, to be lent.
@@ -86,7 +88,7 @@ impl Store {
     {
         Store {
             nodes: Vec::new(alloc),
-            others: IndexMap::new(alloc),
+            others: IndexMap::with_hasher(alloc, BuildHasherDefault::new()),
             since: 0,
             no_tags: Tags::new(alloc),
         }
