@@ -1,9 +1,11 @@
 //! The store as its callers see it.
 
+use super::near_hash::NearHasher;
 use super::*;
 use opl_reader::{Members, Object, ObjectKind, ObjectRef, Ref, Refs, Tags, Text};
 use osm_lattice::Loc;
 use std::alloc::Global;
+use std::hash::{BuildHasher, BuildHasherDefault};
 use std::test::Fail;
 
 const NODE: ObjectKind = ObjectKind::Node;
@@ -478,4 +480,108 @@ fn ids_of_areas(rt: HostRuntime) {
     ] {
         assert_eq!(rt; area_id(at(kind, id)), area, "at {id}");
     }
+}
+
+/// A way of one reference, to the node of its id, or a relation of one member, the way of its id.
+fn named_within(alloc: Global, of: ObjectRef) -> Result<Object, Fail> {
+    let ObjectRef { kind, id } = of;
+    let tags = Tags::new(alloc);
+    if kind == WAY {
+        let mut refs = Refs::new(alloc);
+        refs.push(Ref { node: id, at: None })?;
+        return Ok(Object::Way {
+            id,
+            live: true,
+            tags,
+            refs,
+        });
+    }
+    Ok(Object::Relation {
+        id,
+        live: true,
+        tags,
+        members: members_of(alloc, &[id])?,
+    })
+}
+
+/// Whether the way and the relation of this id are found, and are those of it.
+fn finds_both(store: &Store, id: i64) -> bool {
+    let way = store.way(id).and_then(|way| way.refs.first());
+    let relation = store
+        .relation(id)
+        .and_then(|relation| relation.members.iter().next());
+    way.is_some_and(|reference| reference.node == id)
+        && relation.is_some_and(|member| member.id == id)
+}
+
+#[test]
+fn each_of_many_is_found(rt: HostRuntime) -> Result<(), Fail> {
+    let alloc = rt.alloc();
+    for step in [1_i64, 37, 4096] {
+        let mut store = Store::new(alloc);
+        for kind in [WAY, RELATION] {
+            for count in -20_000_i64..30_000 {
+                let object = named_within(alloc, at(kind, count.wrapping_mul(step)))?;
+                assert!(rt; refusal(store.add(object))?.is_none());
+            }
+        }
+        for count in -20_000_i64..30_000 {
+            let id = count.wrapping_mul(step);
+            assert!(rt; finds_both(&store, id), "way and relation {id}");
+            assert!(rt; store.node(id).is_none(), "no node {id}");
+        }
+        for id in [i64::MIN, i64::MAX, 30_000_i64.wrapping_mul(step)] {
+            assert!(rt; store.way(id).is_none() && store.relation(id).is_none());
+        }
+    }
+    Ok(())
+}
+
+fn hash_of(of: ObjectRef) -> u64 {
+    BuildHasherDefault::<NearHasher>::new().hash_one(of)
+}
+
+#[test]
+fn hashes_of_kinds_and_ids(rt: HostRuntime) {
+    for (kind, id, hash) in [
+        (NODE, 0, 0),
+        (WAY, 0, 1_953_075_598),
+        (RELATION, 0, 3_912_550_617),
+        (WAY, 5, 2_775_159_186),
+        (WAY, 64, 481_343_203),
+        (WAY, -1, 3_497_551_668),
+        (RELATION, 123_456_789, 3_752_076_097),
+        (WAY, i64::MIN, 1_953_076_237),
+    ] {
+        assert_eq!(rt; hash_of(at(kind, id)), hash, "at {id}");
+    }
+}
+
+/// How many of so many neighbouring ways come to each of `groups` groups.
+fn loads(alloc: Global, first: i64, ways: u64, groups: usize) -> Result<Vec<u64>, Fail> {
+    let mut loads = Vec::from_elem(alloc, 0_u64, groups)?;
+    for count in 0..ways {
+        let way = at(WAY, first.wrapping_add(count as i64));
+        let group = (hash_of(way) % 16_777_216) as usize % groups.max(1);
+        if let Some(load) = loads.get_mut(group) {
+            *load = load.saturating_add(1);
+        }
+    }
+    Ok(loads)
+}
+
+#[test]
+fn neighbours_fill_groups_evenly(rt: HostRuntime) -> Result<(), Fail> {
+    let alloc = rt.alloc();
+    for first in [0_i64, 640_000_000, -1_280_000] {
+        // A block of 64 has sixteen groups, four ids each.
+        let block = loads(alloc, first, 64, 65_536)?;
+        assert_eq!(rt; block.iter().filter(|load| **load == 4).count(), 16);
+        // A group has twelve lanes: eight on average leave none full.
+        for groups in [256_usize, 2_048, 16_384] {
+            let many = loads(alloc, first, groups as u64 * 8, groups)?;
+            assert!(rt; many.iter().all(|load| *load <= 12), "in {groups} groups");
+        }
+    }
+    Ok(())
 }
