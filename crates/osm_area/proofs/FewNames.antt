@@ -1,10 +1,11 @@
--- Names of which no two are the same: each once they are what they were, and none stands twice.
-use Rattle.std.proofs.Common.{Bool, List, [], ap, arith, count_by, false, filter, int_eq, nat_le, not, refl, suc, true, true≢false, zero, ℕ, ℤ, ◌+◌, ◌||◌, ◌<◌, ◌∙◌, ◌∷◌, ◌≡◌}
+-- Names of which no two are the same: each once they are what they were, and none stands twice; and where none is counted twice, they are such.
+use Rattle.std.proofs.Common.{Bool, Equal, List, [], Ordering, ap, arith, cond, count_by, false, filter, int_cmp, int_eq, is_eq, nat_le, not, refl, suc, sym, true, true≢false, zero, ℕ, ℤ, ◌+◌, ◌||◌, ◌<◌, ◌∙◌, ◌∷◌, ◌≡◌, ◌≤◌}
 use Rattle.std.specs.List.{list_any}
 use Rattle.std.proofs.lemmas.Bool.{and_parts}
-use Rattle.std.proofs.lemmas.Cmp.{int_eq_equiv}
-use Rattle.lists.proofs.ListsKit.{count_by-cons, int_eq-true, not-true-out}
+use Rattle.std.proofs.lemmas.Cmp.{int_cmp_total, int_eq_equiv, tied_itself}
+use Rattle.lists.proofs.ListsKit.{count-cons, count_by-cons, int_eq-true, not-true-out}
 use Rattle.lists.specs.Once.{each_once}
+use Rattle.lists.specs.Rising.{count_of}
 use Rattle.osm_area.specs.Names.{differ}
 
 below-two : (n : ℕ) → n < 2 → nat_le 2 n ≡ false
@@ -62,3 +63,37 @@ none-counted named (w ∷ ways) once = rw (below-two (count_by (int_eq w) named)
 
 pub none-twice : (named ways : List ℤ) → differ named ≡ true → filter (λ way. nat_le 2 (count_by (int_eq way) named)) ways ≡ []
 none-twice named ways apart = none-counted named ways (λ (name : ℤ). counted-once name named apart)
+
+-- ---- told by counts
+
+-- a name that is counted nowhere isn't among others
+unlisted : (name : ℤ) (names : List ℤ) → count_of int_cmp name names ≡ 0 → list_any (λ other. int_eq other name) names ≡ false
+unlisted name [] none = refl
+unlisted name (n ∷ names) none = by (unlisted name names) (int_eq n name) refl
+  where
+    all : count_of int_cmp name (n ∷ names) ≡ cond {A = ℕ} (is_eq (int_cmp n name)) 1 0 + count_of int_cmp name names
+    all = count-cons int_cmp name n names
+
+    by : (count_of int_cmp name names ≡ 0 → list_any (λ other. int_eq other name) names ≡ false) → (b : Bool) → int_eq n name ≡ b → (b || list_any (λ other. int_eq other name) names) ≡ false
+    by behind true is =
+        let tied : int_cmp n name ≡ Equal = ap (λ (m : ℤ). int_cmp n m) (sym (int_eq-true n name is)) ∙ tied_itself int_cmp_total n in
+        let one : cond {A = ℕ} (is_eq (int_cmp n name)) 1 0 ≡ 1 = ap (λ (o : Ordering). cond {A = ℕ} (is_eq o) 1 0) tied in
+        absurd (omega (arith, one, all, none))
+    by behind false other = behind (omega (arith, all, none))
+
+-- names of which none is counted twice
+pub once-differ : (names : List ℤ) → ((name : ℤ) → count_of int_cmp name names ≤ 1) → differ names ≡ true
+once-differ [] once = refl
+once-differ (n ∷ names) once = rw (unlisted n names none) (once-differ names later)
+  where
+    all : (name : ℤ) → count_of int_cmp name (n ∷ names) ≡ cond {A = ℕ} (is_eq (int_cmp n name)) 1 0 + count_of int_cmp name names
+    all name = count-cons int_cmp name n names
+
+    one : cond {A = ℕ} (is_eq (int_cmp n n)) 1 0 ≡ 1
+    one = ap (λ (o : Ordering). cond {A = ℕ} (is_eq o) 1 0) (tied_itself int_cmp_total n)
+
+    none : count_of int_cmp n names ≡ 0
+    none = omega (arith, one, all n, once n)
+
+    later : (name : ℤ) → count_of int_cmp name names ≤ 1
+    later name = omega (arith, all name, once name)

@@ -140,3 +140,44 @@ fn two_crescents(rt: HostRuntime) -> Result<(), Fail> {
     );
     Ok(())
 }
+
+/// A thousand squares in a row, which a relation names in turn; behind them it names more.
+fn squares_in_a_row(alloc: Global, more: &str) -> Result<String, Fail> {
+    let mut lines = String::new(alloc);
+    let mut names = String::new(alloc);
+    for way in 1..1001u32 {
+        let left = 3 * way;
+        let right = left + 1;
+        let square = format!(in alloc;
+            "w {way} 1@{left}/0 2@{right}/0 3@{right}/1 4@{left}/1 1@{left}/0\n"
+        )?;
+        lines.push_str(square.as_str())?;
+        names.push_str(format!(in alloc; " {way}")?.as_str())?;
+    }
+    Ok(format!(in alloc; "{lines}r 5{names} {more}")?)
+}
+
+fn rings_in_a_row(alloc: Global) -> Result<String, Fail> {
+    let mut rings = String::new(alloc);
+    for way in 1..1001u32 {
+        let left = 3 * way;
+        let right = left + 1;
+        let ring = format!(in alloc; "outer {left} 0 {right} 0 {right} 1 {left} 1\n")?;
+        rings.push_str(ring.as_str())?;
+    }
+    Ok(rings)
+}
+
+#[test]
+fn a_thousand_ways(rt: HostRuntime) -> Result<(), Fail> {
+    let alloc = rt.alloc();
+    let rings = rings_in_a_row(alloc)?;
+    let once = squares_in_a_row(alloc, "")?;
+    let text = outcome_of(alloc, "", once.as_str())?;
+    assert_eq!(rt; text.as_str(), rings.as_str());
+    let again = squares_in_a_row(alloc, "700")?;
+    let text = outcome_of(alloc, "", again.as_str())?;
+    let noted = format!(in alloc; "{rings}way 700 twice\n")?;
+    assert_eq!(rt; text.as_str(), noted.as_str());
+    Ok(())
+}

@@ -7,10 +7,11 @@ ghost use Rattle.lists.specs.Once.{each_once};
 ghost use Rattle.osm_area.specs.Names.{differ};
 
 use indexmap::IndexSet;
+use lists::odd_items;
 use std::alloc::{AllocError as OutOfMemory, Global};
 use std::hash::Hash;
 
-/// So many names are compared each with each other; more are looked up.
+/// So many names are compared each with each other; more are sorted.
 const FEW: usize = 8;
 
 /// Whether no two of these names are the same.
@@ -27,11 +28,16 @@ fn differ(names: &[i64]) -> bool
     true
 }
 
-/// Whether these names are few, and no two of them the same.
-pub fn are_few_and_differ(names: &[i64]) -> bool
-    ensures { result ≡ true → differ names.now ≡ true }
+/// Whether no two of these names are the same. More than a few are told by sorting a copy, which takes less time and memory
+/// than a table of them.
+pub fn all_differ(alloc: Global, names: &[i64]) -> Result<bool, OutOfMemory>
+    ensures { IfOk result (λ all. all ≡ true → differ names.now ≡ true) }
 {
-    names.len() <= FEW && differ(names)
+    if names.len() <= FEW {
+        return Ok(differ(names));
+    }
+    let odd = odd_items(alloc, names)?;
+    Ok(odd.len() == names.len())
 }
 
 /// Each item of a list once, at its first place.

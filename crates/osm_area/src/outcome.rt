@@ -16,7 +16,7 @@ use crate::area::area;
 use crate::member_ways::named_ways;
 use crate::missing::missing;
 use crate::notes::{add_repeats, named_twice};
-use crate::once::{are_few_and_differ, each_once};
+use crate::once::{all_differ, each_once};
 use crate::outcome_lists::{Notes, Problems};
 use crate::problems::{missing_problems, problems_among};
 use crate::role_notes::{Ways, add_role_notes};
@@ -105,7 +105,7 @@ fn outcome_by(
     }
 }
 
-/// What comes of a candidate by the ways that it names. Most name few, and each once.
+/// What comes of a candidate by the ways that it names. Most name each once.
 fn outcome_by_names(
     alloc: Global,
     store: &Store,
@@ -117,7 +117,7 @@ fn outcome_by_names(
         All (All IsWholeSegment) (rings_of (polygons_in outcome))) }
 {
     let named = named_ways(alloc, store, candidate)?;
-    if are_few_and_differ(&named) {
+    if all_differ(alloc, &named)? {
         return outcome_by(alloc, store, candidate, &named, Notes::new(alloc));
     }
     let distinct = each_once(alloc, &named)?;
