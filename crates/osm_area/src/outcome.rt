@@ -57,11 +57,12 @@ fn complete(
 {
     let cancelled = cancel(alloc, ways.segs)?;
     add_repeats(&mut notes, &cancelled.repeats)?;
-    let list = problems_among(alloc, &cancelled.survivors)?;
+    let found = problems_among(alloc, &cancelled.survivors)?;
+    let list = found.problems;
     if !list.as_slice().is_empty() {
         return Ok(Outcome::Problems { list, notes });
     }
-    let polygons = area(alloc, &cancelled.survivors)?;
+    let polygons = area(alloc, &cancelled.survivors, found.ends)?;
     add_role_notes(&mut notes, alloc, store, candidate, &polygons, ways)?;
     Ok(Outcome::Area { polygons, notes })
 }

@@ -1,8 +1,9 @@
 //! What keeps a candidate from having an area.
 
-ghost use Rattle.std.specs.Prelude.{◌≡◌, ◌++◌, [], OnOk, IfOk, map};
+ghost use Rattle.std.specs.Prelude.{◌≡◌, ◌++◌, [], OnOk, IfOk, IfSome, map};
 ghost use Rattle.osm_lattice.specs.Seg.{seg_cmp};
 ghost use Rattle.lists.specs.Rising.{IsRising};
+ghost use Rattle.osm_segments.specs.Sweep.{AreByEnds};
 ghost use Rattle.osm_area.specs.Problems.{missing_problem, conflict_problem, odd_problem, AreFaults, AreProblemsAmong};
 
 use crate::outcome_lists::Problems;
@@ -58,27 +59,46 @@ fn add_odd_nodes(list: &mut Problems, nodes: &[Loc]) -> Result<(), OutOfMemory>
     Ok(())
 }
 
+/// What is found of surviving segments.
+#[derive(Drop)]
+pub struct Found {
+    /// What keeps them from having an area.
+    pub problems: Problems,
+    /// The segments in the order of their upper ends, if they were sorted so: they are directed sooner along it.
+    pub ends: Option<Vec<Seg>>,
+}
+
 /// Each conflicting pair in order, and then each odd node in order.
-fn faults(alloc: Global, survivors: &[Seg]) -> Result<Problems, OutOfMemory>
+fn faults(alloc: Global, survivors: &[Seg]) -> Result<Found, OutOfMemory>
     requires { IsRising seg_cmp survivors.now }
-    ensures { IfOk result (λ list. AreFaults survivors.now list) }
+    ensures problems { IfOk result (λ found. AreFaults survivors.now found.problems) }
+    ensures ends { IfOk result (λ found.
+        IfSome found.ends (λ ends. AreByEnds survivors.now ends.items)) }
 {
     let faults = faults_of(alloc, survivors)?;
-    let mut list = Problems::new(alloc);
-    add_conflicts(&mut list, &faults.conflicts)?;
-    add_odd_nodes(&mut list, &faults.odd_nodes)?;
-    Ok(list)
+    let mut problems = Problems::new(alloc);
+    add_conflicts(&mut problems, &faults.conflicts)?;
+    add_odd_nodes(&mut problems, &faults.odd_nodes)?;
+    Ok(Found {
+        problems,
+        ends: faults.ends,
+    })
 }
 
 /// The problems among the surviving segments of a candidate of which nothing is missing.
-pub fn problems_among(alloc: Global, survivors: &[Seg]) -> Result<Problems, OutOfMemory>
+pub fn problems_among(alloc: Global, survivors: &[Seg]) -> Result<Found, OutOfMemory>
     requires { IsRising seg_cmp survivors.now }
-    ensures { IfOk result (λ list. AreProblemsAmong survivors.now list) }
+    ensures problems { IfOk result (λ found. AreProblemsAmong survivors.now found.problems) }
+    ensures ends { IfOk result (λ found.
+        IfSome found.ends (λ ends. AreByEnds survivors.now ends.items)) }
 {
     if survivors.is_empty() {
-        let mut list = Problems::new(alloc);
-        list.push(Problem::Nothing)?;
-        return Ok(list);
+        let mut problems = Problems::new(alloc);
+        problems.push(Problem::Nothing)?;
+        return Ok(Found {
+            problems,
+            ends: None,
+        });
     }
     faults(alloc, survivors)
 }

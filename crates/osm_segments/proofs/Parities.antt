@@ -1,6 +1,6 @@
 -- Ends passed two by two, each two being one location: an odd number of ends at a location stays odd, and an even one even.
-use Rattle.std.proofs.Common.{◌≡◌, ◌<◌, ◌≤◌, ◌+◌, ◌%◌, ◌∙◌, ℕ, List, [], ◌∷◌, ap, arith, cond, drop, get_or, length, refl, sym}
-use Rattle.std.specs.Prelude.{IsPermutation, map}
+use Rattle.std.proofs.Common.{◌≡◌, ◌<◌, ◌≤◌, ◌+◌, ◌%◌, ℕ, List, [], ◌∷◌, ap, arith, cond, drop, get_or, length, refl, sym}
+use Rattle.std.specs.Prelude.{IsPermutation}
 use Rattle.std.specs.Ordering.{is_eq}
 use Rattle.std.proofs.lemmas.List.{drop_all}
 use Rattle.std.proofs.lemmas.List.Sums.{sum_by-cons, sum_by-drop_more}
@@ -9,7 +9,7 @@ use Rattle.osm_lattice.specs.declared.loc.Loc.{Loc}
 use Rattle.osm_lattice.specs.declared.seg.Seg.{Seg}
 use Rattle.osm_lattice.specs.Loc.{loc_cmp}
 use Rattle.lists.specs.Rising.{count_of}
-use Rattle.lists.proofs.ListsKit.{count-cons, same_get}
+use Rattle.lists.proofs.ListsKit.{count-cons}
 use Rattle.osm_segments.specs.Counts.{AreOddNodes, ends_of}
 use Rattle.osm_segments.specs.Parity.{ArePassed, greater_at, lesser_at}
 

@@ -1,5 +1,5 @@
--- One step of a sweep upwards over segments: where a segment stands among those that span the point at which it begins, and who stand side by side once it has ended. Public contracts cite `EndsRise` alone.
-use Rattle.std.specs.Prelude.{Bool, List, None, insert, length, not, remove, slice_index_or, true, ℕ, ◌&&◌, ◌+◌, ◌-◌, ◌<◌, ◌||◌, ◌≡◌, ◌≤◌}
+-- One step of a sweep upwards over segments: where a segment stands among those that span the point at which it begins, and who stand side by side once it has ended. Public contracts cite `EndsRise` and `AreByEnds` alone.
+use Rattle.std.specs.Prelude.{Bool, IsPermutation, List, None, insert, length, not, remove, slice_index_or, true, ℕ, ◌&&◌, ◌+◌, ◌-◌, ◌<◌, ◌||◌, ◌≡◌, ◌≤◌}
 use Rattle.plane.specs.Order.{order}
 use Rattle.plane.specs.Sign.{Sign, is_minus, is_plus}
 use Rattle.plane.specs.Vector.{orient}
@@ -60,3 +60,8 @@ IsAfter p q = not (is_minus (order (vector_of p) (vector_of q))) ≡ true
 -- each upper end is after those of all earlier ones
 abbrev pub EndsRise : List Seg → Type 0
 EndsRise ends = (i j : ℕ) (d : Seg) → i ≤ j → j < length ends → IsAfter (slice_index_or ends i d).b (slice_index_or ends j d).b
+
+-- the segments in the order of their upper ends
+pub record AreByEnds (segs ends : List Seg) : Type 0 where
+  pub moved : IsPermutation segs ends
+  pub rise : EndsRise ends

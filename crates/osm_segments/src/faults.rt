@@ -1,9 +1,10 @@
 //! What keeps segments from being the edges of rings: conflicts and odd nodes, both told by one list in the order of the upper ends.
-ghost use Rattle.std.specs.Prelude.{◌≡◌, ◌<◌, ◌≤◌, IfOk, IsPermutation, length};
+ghost use Rattle.std.specs.Prelude.{◌≡◌, ◌<◌, ◌≤◌, IfOk, IfSome, IsPermutation, length};
 ghost use Rattle.osm_lattice.specs.Seg.{seg_cmp};
 ghost use Rattle.lists.specs.Rising.{IsRising};
 ghost use Rattle.osm_segments.specs.Counts.{AreOddNodes};
 ghost use Rattle.osm_segments.specs.Pairs.{conflicts_of, pair_cmp};
+ghost use Rattle.osm_segments.specs.Sweep.{AreByEnds};
 
 use crate::clear::{by_ends, sort_by_ends};
 use crate::counts::odd_nodes;
@@ -19,6 +20,8 @@ pub struct Faults {
     pub conflicts: Vec<Pair>,
     /// The locations at which an odd number of segments end, in strict order.
     pub odd_nodes: Vec<Loc>,
+    /// The segments in the order of their upper ends, if they were sorted so: few aren't.
+    pub ends: Option<Vec<Seg>>,
 }
 
 /// The odd nodes of segments, which are given in the order of their upper ends, too.
@@ -51,12 +54,14 @@ fn faults_of_few(alloc: Global, segs: &[Seg]) -> Result<Faults, OutOfMemory>
     requires { length segs.now ≤ 32 }
     ensures conflicts { IfOk result (λ f. f.conflicts.items ≡ conflicts_of segs.now) }
     ensures odd_nodes { IfOk result (λ f. AreOddNodes segs.now f.odd_nodes.items) }
+    ensures ends { IfOk result (λ f. IfSome f.ends (λ ends. AreByEnds segs.now ends.items)) }
 {
     let conflicts = conflicts_of_few(alloc, segs)?;
     let odd_nodes = odd_nodes_of_few(alloc, segs)?;
     Ok(Faults {
         conflicts,
         odd_nodes,
+        ends: None,
     })
 }
 
@@ -64,6 +69,7 @@ fn all_faults(alloc: Global, segs: &[Seg]) -> Result<Faults, OutOfMemory>
     requires { IsRising seg_cmp segs.now }
     ensures conflicts { IfOk result (λ f. f.conflicts.items ≡ conflicts_of segs.now) }
     ensures odd_nodes { IfOk result (λ f. AreOddNodes segs.now f.odd_nodes.items) }
+    ensures ends { IfOk result (λ f. IfSome f.ends (λ ends. AreByEnds segs.now ends.items)) }
 {
     if segs.len() <= FEW {
         return faults_of_few(alloc, segs);
@@ -74,6 +80,7 @@ fn all_faults(alloc: Global, segs: &[Seg]) -> Result<Faults, OutOfMemory>
     Ok(Faults {
         conflicts,
         odd_nodes,
+        ends: Some(ends),
     })
 }
 
@@ -83,6 +90,7 @@ pub fn faults_of(alloc: Global, segs: &[Seg]) -> Result<Faults, OutOfMemory>
     ensures conflicts { IfOk result (λ f. f.conflicts.items ≡ conflicts_of segs.now) }
     ensures rising { IfOk result (λ f. IsRising pair_cmp f.conflicts.items) }
     ensures odd_nodes { IfOk result (λ f. AreOddNodes segs.now f.odd_nodes.items) }
+    ensures ends { IfOk result (λ f. IfSome f.ends (λ ends. AreByEnds segs.now ends.items)) }
 {
     all_faults(alloc, segs)
 }

@@ -348,5 +348,7 @@ fn a_long_line_and_a_ring(rt: HostRuntime) -> Result<(), Fail> {
     segs.push(seg(100, -5, 100, 0)?)?;
     let ring = faults_of(alloc, &distinct(alloc, &segs)?)?;
     assert!(rt; ring.odd_nodes.is_empty() && ring.conflicts.is_empty());
+    // They were sorted by upper ends, and this list is given on.
+    assert!(rt; ring.ends.is_some());
     Ok(())
 }

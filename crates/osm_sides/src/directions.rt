@@ -1,10 +1,11 @@
 //! The directions of survivors: by their places in the status of one sweep upwards.
 
-ghost use Rattle.std.specs.Prelude.{◌≡◌, ◌≤◌, [], All, IfOk, length};
+ghost use Rattle.std.specs.Prelude.{◌≡◌, ◌≤◌, [], All, IfOk, IfSome, length};
 ghost use Rattle.osm_lattice.specs.Seg.{seg_cmp};
 ghost use Rattle.osm_geom.specs.WholeSegment.{IsWholeSegment};
 ghost use Rattle.lists.specs.Rising.{IsRising};
 ghost use Rattle.osm_segments.specs.Pairs.{conflicts_of};
+ghost use Rattle.osm_segments.specs.Sweep.{AreByEnds};
 ghost use Rattle.plane_edges.specs.Sided.{IsSided};
 ghost use Rattle.osm_sides.specs.Survivors.{HasEvenNodes};
 ghost use Rattle.osm_geom.specs.declared.edge.Carrier.TheVariants.{OfSeg};
@@ -12,19 +13,22 @@ ghost use Rattle.osm_sides.specs.Directions.{AreDirected, CountsParity};
 ghost use Rattle.osm_sides.specs.Sweep.{AreDirectedTo};
 
 use crate::following::direction;
-use crate::leaving::{by_ends, leave};
+use crate::leaving::{leave, leaving};
 use crate::rows::{direct_row, enter_row};
 use chunked_list::ChunkedList;
 use osm_geom::{Edge, Seg};
+use osm_segments::in_order_of_ends;
 use std::alloc::{AllocError as OutOfMemory, Global};
 
-/// Each segment directed, in order: row by row of those that begin at one height, upwards, by their places in the status.
-fn direct_each(alloc: Global, segs: &[Seg]) -> Result<Vec<Edge>, OutOfMemory>
+/// Each segment directed, in order: row by row of those that begin at one height, upwards, by their places in the status. They are given
+/// in the order of their upper ends, too.
+fn direct_each(alloc: Global, segs: &[Seg], by_ends: Vec<Seg>) -> Result<Vec<Edge>, OutOfMemory>
     requires rising { IsRising seg_cmp segs.now }
     requires clear { conflicts_of segs.now ≡ [] }
+    requires ends { AreByEnds segs.now by_ends.items }
     ensures { IfOk result (λ v. AreDirectedTo segs.now (length segs.now) v.items) }
 {
-    let ends = by_ends(alloc, segs)?;
+    let ends = leaving(by_ends);
     let mut edges = Vec::with_capacity(alloc, segs.len())?;
     let mut status = ChunkedList::new(alloc);
     let mut next = 0;
@@ -58,16 +62,39 @@ fn direct_few(alloc: Global, segs: &[Seg]) -> Result<Vec<Edge>, OutOfMemory>
 /// So few segments are directed sooner along their rings than by a sweep.
 const FEW: usize = 32;
 
-fn direct_all(alloc: Global, segs: &[Seg]) -> Result<Vec<Edge>, OutOfMemory>
+fn direct_all(alloc: Global, segs: &[Seg], ends: Option<Vec<Seg>>) -> Result<Vec<Edge>, OutOfMemory>
     requires rising { IsRising seg_cmp segs.now }
     requires clear { conflicts_of segs.now ≡ [] }
     requires even { HasEvenNodes segs.now }
+    requires ends { IfSome ends (λ ends. AreByEnds segs.now ends.items) }
     ensures { IfOk result (λ v. AreDirectedTo segs.now (length segs.now) v.items) }
 {
+    if let Some(ends) = ends {
+        return direct_each(alloc, segs, ends);
+    }
     if segs.len() <= FEW {
         return direct_few(alloc, segs);
     }
-    direct_each(alloc, segs)
+    let ends = in_order_of_ends(Vec::from_slice(alloc, segs)?);
+    direct_each(alloc, segs, ends)
+}
+
+/// What `direct` gives, sooner where the survivors are given in the order of their upper ends, too, as `faults_of` gives them.
+pub fn direct_along(
+    alloc: Global,
+    survivors: &[Seg],
+    ends: Option<Vec<Seg>>,
+) -> Result<Vec<Edge>, OutOfMemory>
+    requires rising { IsRising seg_cmp survivors.now }
+    requires clear { conflicts_of survivors.now ≡ [] }
+    requires even { HasEvenNodes survivors.now }
+    requires ends { IfSome ends (λ ends. AreByEnds survivors.now ends.items) }
+    ensures odd_side { IfOk result (λ v. AreDirected survivors.now v.items) }
+    ensures whole { IfOk result (λ v. All IsWholeSegment v.items) }
+    ensures sided { IfOk result (λ v. IsSided v.items) }
+    ensures parity { IfOk result (λ v. CountsParity survivors.now v.items) }
+{
+    direct_all(alloc, survivors, ends)
 }
 
 /// The survivors as edges, one for each and in their order, directed so that the odd side is on the left (the
@@ -82,5 +109,5 @@ pub fn direct(alloc: Global, survivors: &[Seg]) -> Result<Vec<Edge>, OutOfMemory
     ensures sided { IfOk result (λ v. IsSided v.items) }
     ensures parity { IfOk result (λ v. CountsParity survivors.now v.items) }
 {
-    direct_all(alloc, survivors)
+    direct_along(alloc, survivors, None)
 }

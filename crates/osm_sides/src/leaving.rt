@@ -1,23 +1,23 @@
 //! How segments leave the status of a sweep: at the heights of their upper ends.
-ghost use Rattle.std.specs.Prelude.{◌≡◌, ◌<◌, ◌≤◌, ◌+◌, List, IfOk, false, filter, length, slice_index_or, true};
+ghost use Rattle.std.specs.Prelude.{◌≡◌, ◌<◌, ◌≤◌, ◌+◌, List, false, filter, length, slice_index_or, true};
 ghost use Rattle.std.specs.List.{AllWithin};
 ghost use Rattle.osm_lattice.specs.declared.seg.Seg.{Seg};
 ghost use Rattle.status.specs.Leaving.{Remains};
+ghost use Rattle.osm_segments.specs.Sweep.{AreByEnds};
 ghost use Rattle.osm_sides.specs.Sweep.{AreEnds, EndsRise, NextHasLeft, ends_above};
 
 use crate::sides::{is_above, is_horizontal};
 use chunked_list::ChunkedList;
 use osm_geom::{Loc, Seg};
-use osm_segments::{in_order_of_ends, place_in_status};
-use std::alloc::{AllocError as OutOfMemory, Global};
+use osm_segments::place_in_status;
 
-/// The segments that aren't horizontal, in order of their upper ends: of those that end at one height, the left one leaves first.
-pub fn by_ends(alloc: Global, segs: &[Seg]) -> Result<Vec<Seg>, OutOfMemory>
-    ensures { IfOk result (λ ends. AreEnds segs.now ends.items) }
+/// Of segments in the order of their upper ends those that aren't horizontal, in the order in which they leave: of those that end at
+/// one height, the left one first. Horizontal ones never enter, and would be looked for in vain: only speed rests on leaving them out.
+pub fn leaving(mut ends: Vec<Seg>) -> Vec<Seg>
+    ensures { (segs : List Seg) → AreByEnds segs ends.items → AreEnds segs result.items }
 {
-    let mut ends = Vec::from_slice(alloc, segs)?;
     ends.retain(|s| !is_horizontal(*s));
-    Ok(in_order_of_ends(ends))
+    ends
 }
 
 /// Those that end above the height of `at` stay.

@@ -10,6 +10,6 @@ mod sides;
 #[cfg(test)]
 mod tests;
 
-pub use directions::direct;
+pub use directions::{direct, direct_along};
 pub use laws::directing_is_sided;
 pub use osm_stab::{PlainStab, Stab};

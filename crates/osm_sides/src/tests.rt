@@ -2,7 +2,7 @@
 
 use super::*;
 use osm_geom::{Edge, Loc, Point, Seg};
-use osm_segments::{conflicts, odd_nodes, survivors};
+use osm_segments::{conflicts, faults_of, odd_nodes, survivors};
 use std::alloc::Global;
 use std::test::Fail;
 
@@ -122,12 +122,24 @@ fn band_sides(alloc: Global) -> Result<Vec<(Loc, Loc)>, Fail> {
     Ok(steps)
 }
 
+/// What `directed` gives, along the list by upper ends by which faults are told.
+fn directed_along(alloc: Global, segs: &[Seg]) -> Result<Vec<Edge>, Fail> {
+    let kept = survivors(alloc, segs)?;
+    let faults = faults_of(alloc, &kept)?;
+    if !faults.conflicts.is_empty() || !faults.odd_nodes.is_empty() {
+        return Err(Fail::new("not closed"));
+    }
+    Ok(direct_along(alloc, &kept, faults.ends)?)
+}
+
 #[test]
 fn bands(rt: HostRuntime) -> Result<(), Fail> {
     let alloc = rt.alloc();
     let steps = band_sides(alloc)?;
-    let edges = directed(alloc, &segs(alloc, &steps)?)?;
+    let segs = segs(alloc, &steps)?;
+    let edges = directed(alloc, &segs)?;
     assert_eq!(rt; edges.len(), steps.len());
+    assert!(rt; directed_along(alloc, &segs)?.as_slice() == edges.as_slice());
     for (edge, (from, to)) in edges.iter().zip(&steps) {
         assert!(rt; edge.from == Point::Lattice(*from) && edge.to == Point::Lattice(*to));
     }

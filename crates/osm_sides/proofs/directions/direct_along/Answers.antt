@@ -8,7 +8,7 @@ use Rattle.osm_sides.specs.Directions.{AreDirected, CountsParity, first_end, las
 use Rattle.osm_sides.specs.Sweep.{AreDirectedTo}
 use Rattle.osm_sides.proofs.DirectedSides.{directed_is_sided, directed_counts}
 use Rattle.osm_sides.proofs.WholeSegments.{directed_is_whole}
-use Rattle.osm_sides.proofs.directions.direct.Goals as goal
+use Rattle.osm_sides.proofs.directions.direct_along.Goals as goal
 
 pub returns-clause-odd_side : goal.returns-clause-odd_side
 returns-clause-odd_side c =
