@@ -20,7 +20,7 @@ use Rattle.status.proofs.StatusKit.{climbs}
 use Rattle.osm_geom.specs.declared.edge.Edge.{Edge}
 use Rattle.osm_geom.specs.Span.{lower_end, spans}
 use Rattle.plane_edges.specs.Multiple.{IsWholeAt, common_den}
-use Rattle.osm_nest.specs.declared.ring_edges.RingEdge.{RingEdge}
+use Rattle.osm_nest.specs.declared.ring_edge.RingEdge.{RingEdge}
 use Rattle.osm_nest.specs.Beside.{IsSloping}
 use Rattle.osm_nest.specs.Enclosers.{IsDirectEncloser}
 use Rattle.osm_nest.specs.Outer.{IsOuter}

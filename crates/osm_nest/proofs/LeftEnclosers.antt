@@ -17,7 +17,7 @@ use Rattle.status.specs.Status.{IsStatus}
 use Rattle.status.proofs.StatusKit.{nearest}
 use Rattle.osm_geom.specs.declared.edge.Edge.{Edge}
 use Rattle.plane_edges.specs.Multiple.{common_den}
-use Rattle.osm_nest.specs.declared.ring_edges.RingEdge.{RingEdge}
+use Rattle.osm_nest.specs.declared.ring_edge.RingEdge.{RingEdge}
 use Rattle.osm_nest.specs.Beside.{IsSloping}
 use Rattle.osm_nest.specs.Enclosers.{IsDirectEncloser, segments_at}
 use Rattle.osm_nest.specs.SweptEdges.{AreSlopingEdges, IsSlopingEdge}

@@ -25,6 +25,7 @@ mod OneOuter
 mod Parting
 mod Places
 mod PolygonOfAll
+mod Reaches
 mod RingAnchors
 mod RingEdges
 mod StatusSteps

@@ -9,5 +9,6 @@ pub mod Nested
 pub mod OneOuter
 pub mod Outer
 pub mod Polygons
+pub mod Reach
 pub mod RingLists
 pub mod SweptEdges

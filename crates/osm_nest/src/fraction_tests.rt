@@ -2,7 +2,11 @@
 
 use crate::enclosers::{is_around, nearest_right};
 use crate::outer::{first_of, lower_end};
+use crate::reach::reach_of;
+use crate::ring_edge::RingEdge;
 use crate::rings_from_least::compare_starts;
+use crate::sweep_status::enter_row;
+use chunked_list::ChunkedList;
 use osm_geom::{Carrier, Edge, Loc, Part, Point, Seg, spans_height};
 use std::cmp::Ordering;
 use std::test::Fail;
@@ -122,6 +126,73 @@ fn rings_begun_at_fractional_points(rt: HostRuntime) -> Result<(), Fail> {
     for (first, second, order) in rows {
         let found = compare_starts(&edges[first], &edges[second]);
         assert_eq!(rt; found, order, "{first} and {second}");
+    }
+    Ok(())
+}
+
+/// The part of the segment from (0, 0) to (1, 2) up to the height 1.
+#[tactic(auto, using(crate::proofs::Halves::half_lowest), unfolding(osm_geom::specs::Carrier::is_on))]
+fn up_to_one() -> Edge {
+    let half = Part {
+        floor: 0,
+        above: 1,
+        den: 2,
+    };
+    let (first, last) = (Loc { x: 0, y: 0 }, Loc { x: 1, y: 2 });
+    Edge {
+        from: Point::Lattice(first),
+        to: Point::OnHorizontal { x: half, d: 1 },
+        carrier: Carrier::OfSeg(Seg { a: first, b: last }),
+    }
+}
+
+#[test]
+fn reaches_of_edges_with_fractional_ends(rt: HostRuntime) -> Result<(), Fail> {
+    let edges = three_triangles();
+    let rows = [
+        (edges[0], 0, 1),
+        (edges[1], 1, 1),
+        (edges[3], 1, 2),
+        (up_to_one(), 0, 1),
+    ];
+    for (edge, west, east) in rows {
+        let reach = reach_of(&edge);
+        assert_eq!(rt; (reach.west, reach.east), (west, east), "{edge:?}");
+    }
+    Ok(())
+}
+
+#[test]
+fn edges_enter_beside_fractional_ends(rt: HostRuntime) -> Result<(), Fail> {
+    let right = Edge::of(
+        Seg {
+            a: Loc { x: 2, y: 0 },
+            b: Loc { x: 3, y: 2 },
+        },
+        true,
+    );
+    let beside = Edge::of(
+        Seg {
+            a: Loc { x: 1, y: 0 },
+            b: Loc { x: 1, y: 2 },
+        },
+        true,
+    );
+    let left = up_to_one();
+    let row = [
+        RingEdge::of(&right, 0),
+        RingEdge::of(&left, 1),
+        RingEdge::of(&beside, 2),
+    ];
+    let mut status = ChunkedList::new(rt.alloc());
+    assert_eq!(rt; enter_row(&mut status, &row, 0, lower_end(&left))?, Some(3));
+    for (place, ring) in [(0, 1), (1, 2), (2, 0)] {
+        let found = if place < status.len() {
+            Some(status.get(place).ring)
+        } else {
+            None
+        };
+        assert_eq!(rt; found, Some(ring), "{place}");
     }
     Ok(())
 }

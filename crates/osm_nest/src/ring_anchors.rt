@@ -4,7 +4,7 @@ ghost use Rattle.osm_nest.specs.Anchors.{AreAnchors};
 ghost use Rattle.osm_nest.specs.RingLists.{AreRings};
 
 use crate::outer::{anchor, is_rising};
-use crate::ring_edges::{RingEdge, reach_of};
+use crate::ring_edge::RingEdge;
 use osm_rings::Ring;
 use std::alloc::{AllocError as OutOfMemory, Global};
 
@@ -24,11 +24,7 @@ pub(crate) fn find_anchors<'a>(alloc: Global, rings: &'a [Ring]) -> Result<Ancho
     let mut outer = Vec::with_capacity(alloc, rings.len())?;
     for (place, ring) in rings.iter().enumerate() {
         let edge = anchor(ring);
-        edges.push(RingEdge {
-            edge,
-            ring: place,
-            reach: reach_of(edge),
-        })?;
+        edges.push(RingEdge::of(edge, place))?;
         outer.push(!is_rising(edge))?;
     }
     Ok(Anchors { edges, outer })

@@ -6,38 +6,10 @@ ghost use Rattle.osm_geom.specs.Span.{lower_end, spans};
 ghost use Rattle.osm_nest.specs.SweptEdges.{AreRingEdges, AreSlopingEdges, StartsRise};
 
 use crate::outer::{lower_end, upper_end};
-use osm_geom::{Edge, Point, order_points, spans_height};
+use crate::ring_edge::RingEdge;
+use osm_geom::{Edge, order_points, spans_height};
 use osm_rings::{Ring, sort_key};
 use std::alloc::{AllocError as OutOfMemory, Global};
-
-/// The least and the greatest x of an edge between lattice points; of any other edge all x. Nothing rests on it but speed.
-#[derive(Clone, Copy)]
-pub(crate) struct Reach {
-    pub west: i32,
-    pub east: i32,
-}
-
-/// Between which x an edge lies.
-pub(crate) fn reach_of(edge: &Edge) -> Reach {
-    match (edge.from, edge.to) {
-        (Point::Lattice(from), Point::Lattice(to)) => Reach {
-            west: from.x.min(to.x),
-            east: from.x.max(to.x),
-        },
-        _ => Reach {
-            west: i32::MIN,
-            east: i32::MAX,
-        },
-    }
-}
-
-/// An edge of a ring, the place of the ring, and between which x the edge lies.
-#[derive(Clone, Copy)]
-pub(crate) struct RingEdge<'a> {
-    pub edge: &'a Edge,
-    pub ring: usize,
-    pub reach: Reach,
-}
 
 /// Whether an edge isn't horizontal.
 fn is_sloping(edge: &Edge) -> bool
@@ -57,11 +29,7 @@ fn push_ring<'a>(
 {
     for edge in ring {
         if is_sloping(edge) {
-            edges.push(RingEdge {
-                edge,
-                ring: place,
-                reach: reach_of(edge),
-            })?;
+            edges.push(RingEdge::of(edge, place))?;
         }
     }
     Ok(())

@@ -3,52 +3,63 @@
 //! Where an edge belongs is searched for as if the status were in order, and then its neighbours there are tested. An edge that
 //! ended may still stand in the status: what counts is the status without those.
 ghost use Rattle.std.specs.Prelude.{◌≡◌, ◌<◌, ◌≤◌, ◌⊎◌, ◌&&◌, ◌-◌, IfOk, IfSome, filter, length, slice_index_or, take, true, false};
-ghost use Rattle.osm_geom.specs.Span.{lower_end, spans};
-ghost use Rattle.osm_nest.specs.declared.ring_edges.RingEdge.{RingEdge};
+ghost use Rattle.std.specs.Ordering.{is_lt};
+ghost use Rattle.osm_geom.specs.JustAbove.{just_above_cmp};
+ghost use Rattle.osm_geom.specs.Span.{lower_end};
+ghost use Rattle.osm_nest.specs.declared.ring_edge.RingEdge.{RingEdge};
 ghost use Rattle.osm_nest.specs.declared.ring_edges.Top.{Top};
 ghost use Rattle.osm_nest.specs.SweptEdges.{HasNeighbour, IsPut, IsRowPut, is_within, left_at};
 ghost use Rattle.lists.specs.Member.{In};
 
 use crate::outer::lower_end;
-use crate::ring_edges::{RingEdge, Top};
+use crate::ring_edge::RingEdge;
+use crate::ring_edges::Top;
 use chunked_list::ChunkedList;
-use osm_geom::{Edge, Point, compare_just_above, spans_height};
+use osm_geom::{Point, compare_just_above, spans_height};
 use std::alloc::AllocError as OutOfMemory;
 
-/// Whether both span the height of a point, and `f` is left of `g` just above it.
-fn is_left(f: &Edge, g: &Edge, at: &Point) -> bool
-    ensures { result ≡ left_at at.now f.now g.now }
+/// Whether `f` is left of `g` just above a height that both span: by their x, where these part them.
+fn is_left(f: &RingEdge, g: &RingEdge, at: &Point) -> bool
+    requires first { is_within at.now f.now ≡ true }
+    requires second { is_within at.now g.now ≡ true }
+    ensures { result ≡ is_lt (just_above_cmp f.now.edge.now g.now.edge.now at.now) }
 {
-    spans_height(f, at) && spans_height(g, at) && compare_just_above(f, g, at).is_lt()
+    if f.reach.is_west_of(g.reach) {
+        return true;
+    }
+    if g.reach.is_west_of(f.reach) {
+        return false;
+    }
+    compare_just_above(f.edge, g.edge, at).is_lt()
 }
 
-/// The same where `g` is known to span the height.
-fn is_left_of(f: &Edge, g: &Edge, at: &Point) -> bool
-    requires { spans g.now at.now ≡ true }
-    ensures { result ≡ left_at at.now f.now g.now }
+/// Whether `f` spans the height of a point, and is left just above it of `g`, which is known to span it.
+fn is_left_of(f: &RingEdge, g: &RingEdge, at: &Point) -> bool
+    requires { is_within at.now g.now ≡ true }
+    ensures { result ≡ left_at at.now f.now.edge.now g.now.edge.now }
 {
-    spans_height(f, at) && compare_just_above(f, g, at).is_lt()
+    spans_height(f.edge, at) && is_left(f, g, at)
 }
 
 /// Whether `g` spans the height of a point, and is right just above it of `f`, which is known to span it.
-fn stands_right_of(g: &Edge, f: &Edge, at: &Point) -> bool
-    requires { spans f.now at.now ≡ true }
-    ensures { result ≡ left_at at.now f.now g.now }
+fn stands_right_of(g: &RingEdge, f: &RingEdge, at: &Point) -> bool
+    requires { is_within at.now f.now ≡ true }
+    ensures { result ≡ left_at at.now f.now.edge.now g.now.edge.now }
 {
-    spans_height(g, at) && compare_just_above(f, g, at).is_lt()
+    spans_height(g.edge, at) && is_left(f, g, at)
 }
 
 /// Whether `f` lies left of `g`, where no x parts them just above a height that `g` spans. Nothing rests on it but speed.
 fn seems_left(f: &RingEdge, g: &RingEdge, at: &Point) -> bool
     requires { is_within at.now g.now ≡ true }
 {
-    if f.reach.east < g.reach.west {
+    if f.reach.is_west_of(g.reach) {
         return true;
     }
-    if g.reach.east < f.reach.west {
+    if g.reach.is_west_of(f.reach) {
         return false;
     }
-    is_left_of(f.edge, g.edge, at)
+    is_left_of(f, g, at)
 }
 
 /// Where the search sees an edge that spans the height among those of the status.
@@ -149,18 +160,18 @@ pub(crate) fn leave(
 }
 
 /// Whether the two between which a place lies span the height, and are left and right of the edge.
-fn fits_at(status: &ChunkedList<RingEdge>, place: usize, edge: &Edge, at: &Point) -> bool
-    requires within { spans edge.now at.now ≡ true }
+fn fits_at(status: &ChunkedList<RingEdge>, place: usize, edge: &RingEdge, at: &Point) -> bool
+    requires within { is_within at.now edge.now ≡ true }
     requires inside { place ≤ length status.now }
     ensures before { result ≡ true → (d : RingEdge) → 0 < place
-        → left_at at.now (slice_index_or status.now (place - 1) d).edge.now edge.now ≡ true }
+        → left_at at.now (slice_index_or status.now (place - 1) d).edge.now edge.now.edge.now ≡ true }
     ensures after { result ≡ true → (d : RingEdge) → place < length status.now
-        → left_at at.now edge.now (slice_index_or status.now place d).edge.now ≡ true }
+        → left_at at.now edge.now.edge.now (slice_index_or status.now place d).edge.now ≡ true }
 {
-    if place > 0 && !is_left_of(status.get(place - 1).edge, edge, at) {
+    if place > 0 && !is_left_of(&status.get(place - 1), edge, at) {
         return false;
     }
-    if place < status.len() && !stands_right_of(status.get(place).edge, edge, at) {
+    if place < status.len() && !stands_right_of(&status.get(place), edge, at) {
         return false;
     }
     true
@@ -180,7 +191,7 @@ fn enter<'a>(
         → (In e status.old) ⊎ (e ≡ item.now)) }
 {
     let place = search(status, item, at);
-    if !fits_at(status, place, item.edge, at) {
+    if !fits_at(status, place, item, at) {
         return Ok(false);
     }
     status.insert(place, *item)?;
@@ -225,13 +236,14 @@ pub(crate) fn enter_row<'a>(
     Ok(Some(next))
 }
 
-/// Whether an anchor stands between two edges: the first is left of it, and the second, which spans the height too, isn't.
-fn is_between(left: &Edge, next: &Edge, anchor: &Edge, at: &Point) -> bool
-    ensures left { result ≡ true → left_at at.now left.now anchor.now ≡ true }
-    ensures within { result ≡ true → spans next.now at.now ≡ true }
-    ensures next { result ≡ true → left_at at.now next.now anchor.now ≡ false }
+/// Whether an anchor that spans the height stands between two edges: the first is left of it, and the second, which spans the height too, isn't.
+fn is_between(left: &RingEdge, next: &RingEdge, anchor: &RingEdge, at: &Point) -> bool
+    requires { is_within at.now anchor.now ≡ true }
+    ensures left { result ≡ true → left_at at.now left.now.edge.now anchor.now.edge.now ≡ true }
+    ensures within { result ≡ true → is_within at.now next.now ≡ true }
+    ensures next { result ≡ true → left_at at.now next.now.edge.now anchor.now.edge.now ≡ false }
 {
-    is_left(left, anchor, at) && spans_height(next, at) && !is_left(next, anchor, at)
+    is_left_of(left, anchor, at) && spans_height(next.edge, at) && !is_left(next, anchor, at)
 }
 
 /// The edge just before an anchor in the status, if the anchor seems to stand there.
@@ -252,7 +264,7 @@ pub(crate) fn left_neighbour<'a>(
     }
     let left = status.get(place - 1);
     let next = status.get(place);
-    if is_between(left.edge, next.edge, anchor.edge, at) {
+    if is_between(&left, &next, anchor, at) {
         return Some(left);
     }
     None

@@ -2,7 +2,7 @@
 //! encloses the ring directly.
 ghost use Rattle.std.specs.Prelude.{◌≡◌, ◌<◌, ◌≤◌, All, IfOk, IfSome, List, None, Option, Some, filter, length, slice_index_or, true};
 ghost use Rattle.osm_geom.specs.Span.{lower_end};
-ghost use Rattle.osm_nest.specs.declared.ring_edges.RingEdge.{RingEdge};
+ghost use Rattle.osm_nest.specs.declared.ring_edge.RingEdge.{RingEdge};
 ghost use Rattle.osm_nest.specs.Anchors.{AreAnchors};
 ghost use Rattle.osm_nest.specs.Enclosers.{IsDirectEncloser};
 ghost use Rattle.osm_nest.specs.RingLists.{AreRings};
@@ -10,7 +10,8 @@ ghost use Rattle.osm_nest.specs.SweptEdges.{AreKnown, IsInnerAnchor, IsTeller, T
 
 use crate::outer::lower_end;
 use crate::ring_anchors::Anchors;
-use crate::ring_edges::{RingEdge, by_lower_ends, by_upper_ends, rising_edges};
+use crate::ring_edge::RingEdge;
+use crate::ring_edges::{by_lower_ends, by_upper_ends, rising_edges};
 use crate::sweep_status::{enter_row, leave, left_neighbour};
 use chunked_list::ChunkedList;
 use osm_geom::{Edge, spans_height};

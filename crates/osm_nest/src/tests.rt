@@ -1,7 +1,8 @@
 //! Edges by their ends, the status of the sweep, and the polygons of rings.
 
 use crate::outer::lower_end;
-use crate::ring_edges::{RingEdge, by_lower_ends, by_upper_ends, reach_of};
+use crate::ring_edge::RingEdge;
+use crate::ring_edges::{by_lower_ends, by_upper_ends};
 use crate::sweep_status::{enter_row, leave, left_neighbour};
 use chunked_list::ChunkedList;
 use osm_geom::{Edge, Loc, Point, Seg, spans_height};
@@ -36,21 +37,12 @@ fn edges(alloc: Global, lines: &str) -> Result<Vec<Edge>, Fail> {
     Ok(edges)
 }
 
-/// An edge of the ring at a place.
-fn ring_edge(edge: &Edge, ring: usize) -> RingEdge<'_> {
-    RingEdge {
-        edge,
-        ring,
-        reach: reach_of(edge),
-    }
-}
-
 /// Those that aren't horizontal, in order of their lower ends.
 fn rising<'a>(alloc: Global, edges: &'a [Edge]) -> Result<Vec<RingEdge<'a>>, Fail> {
     let mut sloping = Vec::new(alloc);
     for (place, edge) in edges.iter().enumerate() {
         if spans_height(edge, lower_end(edge)) {
-            sloping.push(ring_edge(edge, place))?;
+            sloping.push(RingEdge::of(edge, place))?;
         }
     }
     Ok(by_lower_ends(sloping)?)
@@ -132,7 +124,7 @@ fn left_of(alloc: Global, edges: &[Edge], place: usize) -> Result<Option<usize>,
             enter_row(&mut status, &[item], 0, at)?;
         }
     }
-    let anchor = ring_edge(anchor, place);
+    let anchor = RingEdge::of(anchor, place);
     Ok(left_neighbour(&status, &anchor).map(|left| left.ring))
 }
 

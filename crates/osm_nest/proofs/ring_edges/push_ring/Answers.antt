@@ -1,4 +1,4 @@
-use Rattle.std.proofs.Common.{ap, subst, sym, refl, ◌+◌, ◌∙◌}
+use Rattle.std.proofs.Common.{ap, subst, sym, ◌+◌, ◌∙◌}
 use Rattle.osm_geom.specs.Span.{lower_end, spans}
 use Rattle.osm_nest.specs.SweptEdges.{AreRingEdges}
 use Rattle.lists.proofs.ListsKit.{clash}
@@ -12,7 +12,7 @@ loop-edge-preserved c =
     elim c.if-is_sloping.branch [
       | then-is_sloping+in_ok-push w ↦
           subst (AreRingEdges place (n + 1) ring old) (sym (ap (λ v. v.items) w.edges-is ∙ w.in_ok-push.ensures.items))
-          (one-added place n ring old c.loop-edge.edges.items e c.loop-edge-test.true c.edge-item.is c.loop-edge.invariant _ refl refl (sym c.is_sloping.ensures ∙ w.if-is_sloping.true))
+          (one-added place n ring old c.loop-edge.edges.items e c.loop-edge-test.true c.edge-item.is c.loop-edge.invariant w.of.result (w.of.ensures.edge) w.of.ensures.ring (sym c.is_sloping.ensures ∙ w.if-is_sloping.true))
       | else-is_sloping w ↦
           subst (AreRingEdges place (n + 1) ring old) (sym (ap (λ v. v.items) w.edges-is))
           (one-passed place n ring old c.loop-edge.edges.items e c.loop-edge-test.true c.edge-item.is c.loop-edge.invariant (λ s. clash (spans e (lower_end e)) s (sym c.is_sloping.ensures ∙ w.if-is_sloping.false)))

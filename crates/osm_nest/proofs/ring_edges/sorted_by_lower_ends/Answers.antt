@@ -7,7 +7,7 @@ use Rattle.std.proofs.lemmas.List.Sorted.{sorted_far}
 use Rattle.osm_geom.specs.Point.{point_cmp}
 use Rattle.osm_geom.specs.Span.{lower_end}
 use Rattle.osm_geom.proofs.GeometryKit.{point_total}
-use Rattle.osm_nest.specs.declared.ring_edges.RingEdge.{RingEdge}
+use Rattle.osm_nest.specs.declared.ring_edge.RingEdge.{RingEdge}
 use Rattle.osm_nest.proofs.ring_edges.sorted_by_lower_ends.Goals as goal
 
 pub returns-clause-rise : goal.returns-clause-rise

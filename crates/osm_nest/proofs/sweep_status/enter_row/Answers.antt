@@ -1,7 +1,7 @@
 -- One more was put.
 use Rattle.std.proofs.Common.{arith, ap, filter, inl, inr, refl, get_or, length, subst, suc, sym, take, true, ◌+◌, ◌<◌, ◌≡◌, ◌∙◌, ⊎_elim}
 use Rattle.lists.specs.Member.{In}
-use Rattle.osm_nest.specs.declared.ring_edges.RingEdge.{RingEdge}
+use Rattle.osm_nest.specs.declared.ring_edge.RingEdge.{RingEdge}
 use Rattle.osm_nest.specs.SweptEdges.{is_within}
 use Rattle.osm_nest.proofs.FilteredLists.{in-sooner, next-taken}
 use Rattle.osm_nest.proofs.sweep_status.enter_row.Goals as goal

@@ -1,7 +1,7 @@
 -- Those from the first place up to the next were put one after the other.
 use Rattle.std.proofs.Common.{ℕ, filter, length, take, ◌+◌, ◌-◌, ◌≡◌, ◌≤◌, ◌⊎◌}
 use Rattle.lists.specs.Member.{In}
-use Rattle.osm_nest.specs.declared.ring_edges.RingEdge.{RingEdge}
+use Rattle.osm_nest.specs.declared.ring_edge.RingEdge.{RingEdge}
 use Rattle.osm_nest.specs.SweptEdges.{PutRow, is_within}
 use Rattle.osm_nest.proofs.sweep_status.enter_row.Given as goal
 

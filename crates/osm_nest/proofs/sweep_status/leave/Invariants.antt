@@ -1,7 +1,7 @@
 -- Those that span the height are as many as before, and none is new.
 use Rattle.std.proofs.Common.{filter, length, ◌-◌, ◌≡◌}
 use Rattle.lists.specs.Member.{In}
-use Rattle.osm_nest.specs.declared.ring_edges.RingEdge.{RingEdge}
+use Rattle.osm_nest.specs.declared.ring_edge.RingEdge.{RingEdge}
 use Rattle.osm_nest.specs.SweptEdges.{is_within}
 use Rattle.osm_nest.proofs.sweep_status.leave.Given as goal
 

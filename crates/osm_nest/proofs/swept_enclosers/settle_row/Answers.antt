@@ -1,6 +1,6 @@
 -- The next anchor is one of those given, and begins at the height of the row.
 use Rattle.std.proofs.Common.{subst, sym, true, ◌≡◌}
-use Rattle.osm_nest.specs.declared.ring_edges.RingEdge.{RingEdge}
+use Rattle.osm_nest.specs.declared.ring_edge.RingEdge.{RingEdge}
 use Rattle.osm_nest.specs.SweptEdges.{IsInnerAnchor, begin_level}
 use Rattle.osm_nest.proofs.swept_enclosers.settle_row.Goals as goal
 

@@ -5,7 +5,7 @@ use Rattle.lists.specs.Member.{In}
 use Rattle.osm_geom.specs.declared.edge.Edge.{Edge}
 use Rattle.osm_geom.specs.declared.point.Point.{Point}
 use Rattle.osm_geom.specs.Span.{lower_end}
-use Rattle.osm_nest.specs.declared.ring_edges.RingEdge.{RingEdge}
+use Rattle.osm_nest.specs.declared.ring_edge.RingEdge.{RingEdge}
 use Rattle.osm_nest.specs.RingLists.{AreRings}
 use Rattle.osm_nest.specs.SweptEdges.{AreSlopingEdges, IsRowPut, StartsRise, is_within}
 use Rattle.lists.proofs.ListsKit.{item-in}
