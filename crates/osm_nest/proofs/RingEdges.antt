@@ -14,7 +14,33 @@ use Rattle.lists.proofs.ListsKit.{all-in, in-either, in-left, in-right}
 use Rattle.osm_geom.specs.declared.edge.Edge.{Edge}
 use Rattle.osm_nest.specs.declared.ring_edge.RingEdge.{RingEdge}
 use Rattle.osm_nest.specs.Beside.{IsSloping}
-use Rattle.osm_nest.specs.SweptEdges.{AreSlopingEdges, AreSlopingUpTo, AreRingEdges, IsSlopingEdge, StartsRise}
+use Rattle.osm_nest.specs.SweptEdges.{AreSlopingEdges, AreSlopingUpTo, AreRingEdges, IsOneMore, IsSlopingEdge, StartsRise}
+
+one-last : (i : RingEdge) (xs : List RingEdge) → IsOneMore i xs (xs ++ i ∷ [])
+one-last i xs = record {
+  kept = λ x j. in-left xs (i ∷ []) x j;
+  has = in-right xs (i ∷ []) i (inl refl);
+  only = λ x j. ⊎_elim inl (λ (k : In x (i ∷ [])). ⊎_elim inr (λ none. absurd none) k) (in-either xs (i ∷ []) x j);
+}
+
+-- to the first of two lists, or to the second
+pub first-more : (i : RingEdge) (up down : List RingEdge) → IsOneMore i (up ++ down) ((up ++ i ∷ []) ++ down)
+first-more i up down = let more = one-last i up in record {
+  kept = λ x j. ⊎_elim (λ (k : In x up). in-left (up ++ i ∷ []) down x (more.kept x k)) (λ (k : In x down). in-right (up ++ i ∷ []) down x k) (in-either up down x j);
+  has = in-left (up ++ i ∷ []) down i more.has;
+  only = λ x j. ⊎_elim
+      (λ (k : In x (up ++ i ∷ [])). ⊎_elim (λ (l : In x up). inl (in-left up down x l)) inr (more.only x k))
+      (λ (k : In x down). inl (in-right up down x k)) (in-either (up ++ i ∷ []) down x j);
+}
+
+pub second-more : (i : RingEdge) (up down : List RingEdge) → IsOneMore i (up ++ down) (up ++ (down ++ i ∷ []))
+second-more i up down = let more = one-last i down in record {
+  kept = λ x j. ⊎_elim (λ (k : In x up). in-left up (down ++ i ∷ []) x k) (λ (k : In x down). in-right up (down ++ i ∷ []) x (more.kept x k)) (in-either up down x j);
+  has = in-right up (down ++ i ∷ []) i more.has;
+  only = λ x j. ⊎_elim
+      (λ (k : In x up). inl (in-left up down x k))
+      (λ (k : In x (down ++ i ∷ [])). ⊎_elim (λ (l : In x down). inl (in-right up down x l)) inr (more.only x k)) (in-either up (down ++ i ∷ []) x j);
+}
 
 module _ (place n : ℕ) (ring : List Edge) (old so_far : List RingEdge) (e : Edge) (inside : n < length ring) (at : e ≡ get_or ring n e) (is : AreRingEdges place n ring old so_far) where
   more : take (n + 1) ring ≡ take n ring ++ e ∷ []
@@ -26,18 +52,16 @@ module _ (place n : ℕ) (ring : List Edge) (old so_far : List RingEdge) (e : Ed
   one-of : (x : Edge) → In x (take (n + 1) ring) → (In x (take n ring)) ⊎ (x ≡ e)
   one-of x i = ⊎_elim inl (λ (j : In x (e ∷ [])). ⊎_elim inr (λ none. absurd none) j) (in-either (take n ring) (e ∷ []) x (subst (In x) more i))
 
-  pub one-added : (i : RingEdge) → i.edge.now ≡ e → i.ring ≡ place → IsSloping e → AreRingEdges place (n + 1) ring old (so_far ++ i ∷ [])
-  one-added i ie ip slopes = record {
-    kept = λ x j. in-left so_far (i ∷ []) x (is.kept x j);
+  pub one-added : (i : RingEdge) → i.edge.now ≡ e → i.ring ≡ place → IsSloping e → (after : List RingEdge) → IsOneMore i so_far after → AreRingEdges place (n + 1) ring old after
+  one-added i ie ip slopes after put = record {
+    kept = λ x j. put.kept x (is.kept x j);
     added = λ x j. ⊎_elim
         (λ (k : In x so_far). ⊎_elim inl (λ (t : (x.ring ≡ place) × In x.edge.now (take n ring) × IsSloping x.edge.now). inr (t.0, earlier x.edge.now t.1, t.2)) (is.added x k))
-        (λ (k : In x (i ∷ [])). ⊎_elim
         (λ (q : x ≡ i). inr (ap (λ (t : RingEdge). t.ring) q ∙ ip, subst (λ y. In y (take (n + 1) ring)) (sym (ap (λ (t : RingEdge). t.edge.now) q ∙ ie)) (subst (In e) (sym more) (in-right (take n ring) (e ∷ []) e (inl refl))), subst IsSloping (sym (ap (λ (t : RingEdge). t.edge.now) q ∙ ie)) slopes))
-        (λ none. absurd none) k)
-        (in-either so_far (i ∷ []) x j);
+        (put.only x j);
     whole = λ x j s. ⊎_elim
-        (λ (k : In x (take n ring)). let w = is.whole x k s in (w.0, in-left so_far (i ∷ []) w.0 w.1, w.2))
-        (λ (q : x ≡ e). (i, in-right so_far (i ∷ []) i (inl refl), ie ∙ sym q)) (one-of x j);
+        (λ (k : In x (take n ring)). let w = is.whole x k s in (w.0, put.kept w.0 w.1, w.2))
+        (λ (q : x ≡ e). (i, put.has, ie ∙ sym q)) (one-of x j);
   }
 
   pub one-passed : (IsSloping e → ⊥) → AreRingEdges place (n + 1) ring old so_far

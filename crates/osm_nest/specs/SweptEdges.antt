@@ -65,6 +65,12 @@ pub record HasNeighbour (a : Edge) (status : List RingEdge) (e : RingEdge) : Typ
 abbrev pub StartsRise : List RingEdge → Type 0
 StartsRise items = (i j : ℕ) (d : RingEdge) → i ≤ j → j < length items → is_lt (point_cmp (lower_end (slice_index_or items j d).edge.now) (lower_end (slice_index_or items i d).edge.now)) ≡ false
 
+-- an item was put into a list
+pub record IsOneMore (i : RingEdge) (old new : List RingEdge) : Type 0 where
+  pub kept : (x : RingEdge) → In x old → In x new
+  pub has : In i new
+  pub only : (x : RingEdge) → In x new → (In x old) ⊎ (x ≡ i)
+
 -- of the first n edges of the ring at a place those that aren't horizontal were added
 pub record AreRingEdges (place n : ℕ) (ring : List Edge) (old new : List RingEdge) : Type 0 where
   pub kept : (i : RingEdge) → In i old → In i new

@@ -1,15 +1,16 @@
 //! The edges of rings as a sweep upwards lists them.
-ghost use Rattle.std.specs.Prelude.{◌≡◌, IfOk, IsPermutation, OnOk, length, not, true};
+ghost use Rattle.std.specs.Prelude.{◌≡◌, ◌++◌, IfOk, IsPermutation, OnOk, length, not, true};
 ghost use Rattle.std.specs.Ordering.{is_lt};
 ghost use Rattle.osm_geom.specs.Point.{point_cmp};
 ghost use Rattle.osm_geom.specs.Span.{lower_end, spans};
-ghost use Rattle.osm_nest.specs.SweptEdges.{AreRingEdges, AreSlopingEdges, StartsRise};
+ghost use Rattle.osm_nest.specs.SweptEdges.{AreRingEdges, AreSlopingEdges, IsOneMore, StartsRise};
 
-use crate::outer::{lower_end, upper_end};
+use crate::outer::{is_rising, lower_end, upper_end};
 use crate::ring_edge::RingEdge;
 use osm_geom::{Edge, order_points, spans_height};
 use osm_rings::{Ring, sort_key};
 use std::alloc::{AllocError as OutOfMemory, Global};
+use std::mem;
 
 /// Whether an edge isn't horizontal.
 fn is_sloping(edge: &Edge) -> bool
@@ -18,18 +19,36 @@ fn is_sloping(edge: &Edge) -> bool
     spans_height(edge, lower_end(edge))
 }
 
-/// Adds the edges of one ring that aren't horizontal.
+/// Adds an edge to those that run up, or to those that run down.
+fn push_edge<'a>(
+    up: &mut Vec<RingEdge<'a>>,
+    down: &mut Vec<RingEdge<'a>>,
+    item: &RingEdge<'a>,
+) -> Result<(), OutOfMemory>
+    ensures { OnOk result (IsOneMore item.now (up.old.items ++ down.old.items)
+        (up.new.items ++ down.new.items)) }
+{
+    if is_rising(item.edge) {
+        up.push(*item)?;
+    } else {
+        down.push(*item)?;
+    }
+    Ok(())
+}
+
+/// Adds the edges of one ring that aren't horizontal: those that run up to one list, and those that run down to another.
 fn push_ring<'a>(
-    edges: &mut Vec<RingEdge<'a>>,
+    up: &mut Vec<RingEdge<'a>>,
+    down: &mut Vec<RingEdge<'a>>,
     ring: &'a [Edge],
     place: usize,
 ) -> Result<(), OutOfMemory>
-    ensures { OnOk result (AreRingEdges place (length ring.now) ring.now edges.old.items
-        edges.new.items) }
+    ensures { OnOk result (AreRingEdges place (length ring.now) ring.now
+        (up.old.items ++ down.old.items) (up.new.items ++ down.new.items)) }
 {
     for edge in ring {
         if is_sloping(edge) {
-            edges.push(RingEdge::of(edge, place))?;
+            push_edge(up, down, &RingEdge::of(edge, place))?;
         }
     }
     Ok(())
@@ -44,15 +63,20 @@ fn edge_count(rings: &[Ring]) -> usize {
     count
 }
 
-/// The edges of all rings that aren't horizontal.
+/// The edges of all rings that aren't horizontal: those that run up, and then those that run down.
 fn sloping_edges<'a>(alloc: Global, rings: &'a [Ring]) -> Result<Vec<RingEdge<'a>>, OutOfMemory>
     ensures { IfOk result (λ v. AreSlopingEdges rings.now v.items) }
 {
-    let mut edges = Vec::with_capacity(alloc, edge_count(rings))?;
+    // Rings come mostly in order of their least nodes. So where they are small, both lists are nearly in order.
+    let count = edge_count(rings);
+    let mut up = Vec::with_capacity(alloc, count)?;
+    let mut down = Vec::with_capacity(alloc, count / 2)?;
     for (place, ring) in rings.iter().enumerate() {
-        push_ring(&mut edges, ring.as_slice(), place)?;
+        push_ring(&mut up, &mut down, ring.as_slice(), place)?;
     }
-    Ok(edges)
+    up.append(&mut down)?;
+    mem::drop(down);
+    Ok(up)
 }
 
 /// Whether an edge doesn't begin before another.
