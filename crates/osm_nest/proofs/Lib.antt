@@ -33,3 +33,4 @@ mod SweptHeights
 mod SweptRows
 mod TurnedAnchors
 mod Turns
+mod WholeHeights

@@ -3,6 +3,7 @@ pub mod Beside
 pub mod Cover
 pub mod Grouped
 pub mod Enclosers
+pub mod Heights
 pub mod Laws
 pub mod Leftmost
 pub mod Nested

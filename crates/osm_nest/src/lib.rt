@@ -5,6 +5,7 @@ mod enclosers;
 #[cfg(test)]
 mod fraction_tests;
 mod grouping;
+mod heights;
 mod laws;
 mod one_outer;
 mod outer;

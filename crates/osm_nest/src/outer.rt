@@ -4,7 +4,7 @@ ghost use Rattle.std.specs.Ordering.{is_lt};
 ghost use Rattle.std.specs.declared.cmp.Ordering.TheVariants.{Equal};
 ghost use Rattle.osm_geom.specs.Edge.{runs_up};
 ghost use Rattle.osm_geom.specs.Point.{point_cmp};
-ghost use Rattle.osm_geom.specs.Span.{lower_end};
+ghost use Rattle.osm_geom.specs.Span.{lower_end, upper_end};
 ghost use Rattle.osm_nest.specs.Leftmost.{IsPlaceBefore, comes_first, forks_left};
 ghost use Rattle.osm_nest.specs.Outer.{AreConflictFree, IsAnchorOf, IsInner, IsOuter, WindsBySign};
 ghost use Rattle.osm_rings.specs.Ring.{IsRing};
@@ -86,7 +86,9 @@ pub(crate) fn lower_end(edge: &Edge) -> &Point
 }
 
 /// The upper end of an edge, or the right one of a horizontal edge.
-pub(crate) fn upper_end(edge: &Edge) -> &Point {
+pub(crate) fn upper_end(edge: &Edge) -> &Point
+    ensures { result.now ≡ upper_end edge.now }
+{
     if is_rising(edge) {
         &edge.to
     } else {

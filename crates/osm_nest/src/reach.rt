@@ -7,7 +7,7 @@ ghost use Rattle.osm_nest.specs.Reach.{IsReach};
 use osm_geom::{Edge, Point};
 
 /// A least and a greatest x.
-#[derive(Clone, Copy)]
+#[derive(Clone, Copy, PartialEq, Eq)]
 pub(crate) struct Reach {
     pub west: i32,
     pub east: i32,

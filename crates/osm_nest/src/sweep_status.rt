@@ -15,7 +15,7 @@ use crate::outer::lower_end;
 use crate::ring_edge::RingEdge;
 use crate::ring_edges::Top;
 use chunked_list::ChunkedList;
-use osm_geom::{Point, compare_just_above, spans_height};
+use osm_geom::{Point, compare_just_above};
 use std::alloc::AllocError as OutOfMemory;
 
 /// Whether `f` is left of `g` just above a height that both span: by their x, where these part them.
@@ -38,7 +38,7 @@ fn is_left_of(f: &RingEdge, g: &RingEdge, at: &Point) -> bool
     requires { is_within at.now g.now ≡ true }
     ensures { result ≡ left_at at.now f.now.edge.now g.now.edge.now }
 {
-    spans_height(f.edge, at) && is_left(f, g, at)
+    f.spans(at) && is_left(f, g, at)
 }
 
 /// Whether `g` spans the height of a point, and is right just above it of `f`, which is known to span it.
@@ -46,7 +46,7 @@ fn stands_right_of(g: &RingEdge, f: &RingEdge, at: &Point) -> bool
     requires { is_within at.now f.now ≡ true }
     ensures { result ≡ left_at at.now f.now.edge.now g.now.edge.now }
 {
-    spans_height(g.edge, at) && is_left(f, g, at)
+    g.spans(at) && is_left(f, g, at)
 }
 
 /// Whether `f` lies left of `g`, where no x parts them just above a height that `g` spans. Nothing rests on it but speed.
@@ -79,16 +79,16 @@ fn is_past(status: &ChunkedList<RingEdge>, place: usize, at: &Point) -> bool
     if place >= status.len() {
         return false;
     }
-    !spans_height(status.get(place).edge, at)
+    !status.get(place).spans(at)
 }
 
-/// Whether an edge of a ring stands at a place.
+/// Whether an edge of a ring seems to stand at a place, by what is known without a look at the edges. Nothing rests on it but speed.
 fn is_at(status: &ChunkedList<RingEdge>, place: usize, edge: &RingEdge) -> bool {
     if place >= status.len() {
         return false;
     }
     let other = status.get(place);
-    other.ring == edge.ring && other.edge == edge.edge
+    other.ring == edge.ring && other.reach == edge.reach && other.heights == edge.heights
 }
 
 /// Where an edge stands, if that is where the status changed last, or beside that; else where the search sees it. Nothing rests on it but speed.
@@ -115,7 +115,7 @@ fn take_out(status: &mut ChunkedList<RingEdge>, edge: &RingEdge, below: &Point, 
         status.remove(place);
         return;
     }
-    status.retain(|other| spans_height(other.edge, at));
+    status.retain(|other| other.spans(at));
 }
 
 /// Whether the next of the edges spans the height of `below` and ends no higher than `at`.
@@ -134,8 +134,8 @@ fn ends_between(edges: &[RingEdge], tops: &[Top], next: usize, below: &Point, at
     if place >= edges.len() {
         return false;
     }
-    let edge = edges[place].edge;
-    spans_height(edge, below) && !spans_height(edge, at)
+    let edge = &edges[place];
+    edge.spans(below) && !edge.spans(at)
 }
 
 /// Takes out the edges that span the height of `below` and end no higher than `at`, by the places of all edges in order of their upper
@@ -209,7 +209,7 @@ fn goes_on(edges: &[RingEdge], next: usize, at: &Point) -> bool
     if next >= edges.len() {
         return false;
     }
-    spans_height(edges[next].edge, at)
+    edges[next].spans(at)
 }
 
 /// Puts in the edges from a place on that span the height of `at`; gives the place after the last of them, or None where one doesn't fit.
@@ -243,7 +243,7 @@ fn is_between(left: &RingEdge, next: &RingEdge, anchor: &RingEdge, at: &Point) -
     ensures within { result ≡ true → is_within at.now next.now ≡ true }
     ensures next { result ≡ true → left_at at.now next.now.edge.now anchor.now.edge.now ≡ false }
 {
-    is_left_of(left, anchor, at) && spans_height(next.edge, at) && !is_left(next, anchor, at)
+    is_left_of(left, anchor, at) && next.spans(at) && !is_left(next, anchor, at)
 }
 
 /// The edge just before an anchor in the status, if the anchor seems to stand there.
@@ -255,7 +255,7 @@ pub(crate) fn left_neighbour<'a>(
         (filter (is_within (lower_end anchor.now.edge.now)) status.now) e) }
 {
     let at = lower_end(anchor.edge);
-    if !spans_height(anchor.edge, at) {
+    if !anchor.spans(at) {
         return None;
     }
     let place = search(status, anchor, at);

@@ -97,8 +97,8 @@ fn begins_there(inner: &[RingEdge], next: usize, first: &Edge) -> bool
     if next >= inner.len() {
         return false;
     }
-    let anchor = inner[next].edge;
-    spans_height(anchor, lower_end(first)) && spans_height(first, lower_end(anchor))
+    let anchor = &inner[next];
+    anchor.spans(lower_end(first)) && spans_height(first, lower_end(anchor.edge))
 }
 
 /// Settles the direct enclosers of the inner rings whose anchors begin at the height at which `first` begins; gives the place of the next anchor.
