@@ -24,12 +24,12 @@ use Rattle.osm_nest.specs.Reach.{IsReach}
 use Rattle.osm_nest.proofs.InPlane.{segment_at, whole-at}
 
 -- ---- products
-some-times : (a b : ℤ) → pos 0 ≤ℤ a → pos 0 ≤ℤ b → pos 0 ≤ℤ (a *ℤ b)
+pub some-times : (a b : ℤ) → pos 0 ≤ℤ a → pos 0 ≤ℤ b → pos 0 ≤ℤ (a *ℤ b)
 some-times (pos a) (pos b) h k = omega (arith, ints)
 some-times (negsuc a) b h k = absurd (omega (arith, ints))
 some-times a (negsuc b) h k = absurd (omega (arith, ints))
 
-more-times : (a b : ℤ) → pos 0 <ℤ a → pos 0 <ℤ b → pos 0 <ℤ (a *ℤ b)
+pub more-times : (a b : ℤ) → pos 0 <ℤ a → pos 0 <ℤ b → pos 0 <ℤ (a *ℤ b)
 more-times a b h k = (plus-is (a *ℤ b)).0 (plus-times a b ((plus-is a).1 h) ∙ (plus-is b).1 k)
 
 -- ---- numbers at most or at least a fraction

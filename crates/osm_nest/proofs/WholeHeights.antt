@@ -1,19 +1,23 @@
 -- Whole heights, by the whole numbers next to the ends of edges.
-use Rattle.std.proofs.Common.{Bool, zero, suc, FitsSigned, w32, negsuc, ⊎_elim, ◌<◌, ap, arith, cond, false, not, pos, refl, subst, sym, true, unsigned_abs, ℕ, ℤ, ◌*◌, ◌*ℤ◌, ◌-ℤ◌, ◌<ℤ◌, ◌&&◌, ◌∙◌, ◌≡◌, ◌≤◌, ◌≤ℤ◌}
+use Rattle.std.proofs.Common.{Bool, zero, suc, FitsSigned, w32, negsuc, ⊎_elim, ◌<◌, ap, arith, cond, false, not, pos, refl, subst, sym, true, unsigned_abs, ℕ, ℤ, ◌*◌, ◌*ℤ◌, ◌+ℤ◌, ◌-ℤ◌, ◌<ℤ◌, ◌&&◌, ◌∙◌, ◌≡◌, ◌≤◌, ◌≤ℤ◌}
 use Rattle.std.proofs.lemmas.Int.{ints}
 use Rattle.std.proofs.lemmas.Bool.{cases_lt}
 use Rattle.plane.specs.Sign.{Minus, Null, Plus, Sign, is_minus, is_plus, sign}
-use Rattle.plane.proofs.SignKit.{minus-is, plus-is, says-at}
+use Rattle.plane.proofs.SignKit.{lift, minus-is, plus-is, same, says-at, ◌⊞◌, ◌⊟◌, ◌⊠◌}
 use Rattle.osm_lattice.proofs.LatticeKit.{signed}
 use Rattle.osm_geom.specs.declared.edge.Edge.{Edge}
 use Rattle.osm_geom.specs.declared.point.Point.{Point}
-use Rattle.osm_geom.specs.Coordinate.{AtMost, ceiling_of}
+use Rattle.osm_geom.specs.Coordinate.{ceiling_of}
 use Rattle.osm_geom.specs.Edge.{runs_up}
-use Rattle.osm_geom.specs.Point.{Fraction, IsInWorld, whole, y_of}
+use Rattle.osm_geom.specs.Point.{Fraction, IsInWorld, point_cmp, whole, x_of, y_of}
+use Rattle.osm_geom.specs.RatioOrder.{fraction_cmp}
+use Rattle.std.specs.declared.cmp.Ordering.{Ordering}
+use Rattle.std.specs.declared.cmp.Ordering.TheVariants.{Less, Equal, Greater}
+use Rattle.std.specs.Ordering.{int_cmp, is_lt, ordering_then}
 use Rattle.osm_geom.specs.Span.{height_order, lower_end, spans, upper_end}
-use Rattle.osm_geom.proofs.GeometryKit.{ceiling-from, ceiling-is, y_den-some}
+use Rattle.osm_geom.proofs.GeometryKit.{ceiling-from, ceiling-is, point_cmp_is, y_den-some}
 use Rattle.osm_nest.specs.Heights.{AreHeights}
-use Rattle.osm_nest.proofs.Reaches.{further-east}
+use Rattle.osm_nest.proofs.Reaches.{further-east, more-times, some-times}
 
 -- ---- ceilings
 pub ceiling_whole : (n : ℤ) → n ≡ ceiling_of (whole n)
@@ -38,6 +42,40 @@ ceiling_within p world = within (y_of p) (y_den-some p) world.1
 
 pub fits_narrow : (z : ℤ) → unsigned_abs z ≤ 900_000_000 → FitsSigned w32 z
 fits_narrow z h = omega (arith, signed)
+
+-- a whole number below it is less than the fraction
+below-ceiling : (h : ℤ) (f : Fraction) → 1 ≤ f.den → h <ℤ ceiling_of f → (h *ℤ pos f.den) <ℤ f.num
+below-ceiling h f some l = by (h *ℤ pos f.den) f.num (λ most. let least = ceiling-from h f some most in omega (arith, ints))
+  where
+    by : (a b : ℤ) → (b ≤ℤ a → ⊥) → a <ℤ b
+    by a b never = by-sign (sign (b -ℤ a)) refl
+      where
+        by-sign : (s : Sign) → sign (b -ℤ a) ≡ s → a <ℤ b
+        by-sign Plus e = let x = (plus-is (b -ℤ a)).0 e in omega (arith, ints)
+        by-sign Null e = absurd (never (let x = says-at Null (b -ℤ a) e in omega (arith, ints)))
+        by-sign Minus e = absurd (never (let x = says-at Minus (b -ℤ a) e in omega (arith, ints)))
+
+-- ---- the order of points by whole heights
+crossed : (a b m : ℤ) (c d : ℕ) → (b -ℤ m *ℤ pos d) *ℤ pos c +ℤ (m *ℤ pos c -ℤ a) *ℤ pos d ≡ b *ℤ pos c -ℤ a *ℤ pos d
+crossed a b m c d = let a' = lift a in let b' = lift b in let m' = lift m in let c' = lift (pos c) in let d' = lift (pos d) in
+    same ((b' ⊟ m' ⊠ d') ⊠ c' ⊞ (m' ⊠ c' ⊟ a') ⊠ d') (b' ⊠ c' ⊟ a' ⊠ d') (omega arith)
+
+not-less : (a b : ℤ) (x : Ordering) → b <ℤ a → (o : Ordering) → int_cmp a b ≡ o → is_lt (ordering_then o x) ≡ false
+not-less a b x h Less e = absurd (grind (arith, ints))
+not-less a b x h Equal e = absurd (grind (arith, ints))
+not-less a b x h Greater e = refl
+
+-- a point comes no later than one of which the whole height is greater
+pub rises-by-heights : (p q : Point) (m n : ℤ) → m ≡ ceiling_of (y_of p) → n ≡ ceiling_of (y_of q) → m <ℤ n → is_lt (point_cmp q p) ≡ false
+rises-by-heights p q m n is is' l =
+    let f = y_of p in let g = y_of q in
+    let most = further-east m (ceiling_of f) f (omega (arith, ints)) (ceiling-is f (y_den-some p)) in
+    let below = below-ceiling m g (y_den-some q) (omega (arith, ints)) in
+    let some = y_den-some p in
+    let first = more-times (g.num -ℤ m *ℤ pos g.den) (pos f.den) (omega (arith, ints)) (omega (arith, ints)) in
+    let second = some-times (m *ℤ pos f.den -ℤ f.num) (pos g.den) (omega (arith, ints)) (omega (arith, ints)) in
+    let sum = crossed f.num g.num m f.den g.den in
+    ap is_lt (sym (point_cmp_is q p)) ∙ not-less (g.num *ℤ pos f.den) (f.num *ℤ pos g.den) (fraction_cmp (x_of q) (x_of p)) (omega (arith, ints)) (int_cmp (g.num *ℤ pos f.den) (f.num *ℤ pos g.den)) refl
 
 lower-by : (e : Edge) (b : Bool) → IsInWorld (cond b e.from e.to)
 lower-by e true = e.from_in
@@ -72,15 +110,7 @@ module _ (p at : Point) (h : ℤ) (is : y_of at ≡ whole h) where
       not-below (negsuc n) h = absurd (omega (arith, ints))
 
   less : h <ℤ ceiling_of (y_of p) → (h *ℤ pos (y_of p).den) <ℤ (y_of p).num
-  less l = by (h *ℤ pos (y_of p).den) (y_of p).num (λ most. let least = ceiling-from h (y_of p) (y_den-some p) most in omega (arith, ints))
-    where
-      by : (a b : ℤ) → (b ≤ℤ a → ⊥) → a <ℤ b
-      by a b never = by-sign (sign (b -ℤ a)) refl
-        where
-          by-sign : (s : Sign) → sign (b -ℤ a) ≡ s → a <ℤ b
-          by-sign Plus e = let x = (plus-is (b -ℤ a)).0 e in omega (arith, ints)
-          by-sign Null e = absurd (never (let x = says-at Null (b -ℤ a) e in omega (arith, ints)))
-          by-sign Minus e = absurd (never (let x = says-at Minus (b -ℤ a) e in omega (arith, ints)))
+  less l = below-ceiling h (y_of p) (y_den-some p) l
 
   pub not-begun : h <ℤ ceiling_of (y_of p) → not (is_minus (height_order p at)) ≡ false
   not-begun l = let k = less l in ap (λ s. not (is_minus s)) (from-below ∙ (minus-is (h *ℤ pos (y_of p).den -ℤ (y_of p).num *ℤ pos 1)).1 (omega (arith, ints)))

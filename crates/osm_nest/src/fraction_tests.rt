@@ -2,7 +2,6 @@
 
 use crate::enclosers::{is_around, nearest_right};
 use crate::outer::{first_of, lower_end};
-use crate::reach::reach_of;
 use crate::ring_edge::RingEdge;
 use crate::rings_from_least::compare_starts;
 use crate::sweep_status::enter_row;
@@ -146,19 +145,28 @@ fn up_to_one() -> Edge {
     }
 }
 
+/// Between which x an edge lies, and from which whole height up to which it spans all.
+fn surroundings(edge: &Edge) -> (i32, i32, i32, i32) {
+    let item = RingEdge::of(edge, 0);
+    let (reach, heights) = (item.reach, item.heights);
+    (reach.west, reach.east, heights.bottom, heights.top)
+}
+
 #[test]
-fn reaches_of_edges_with_fractional_ends(rt: HostRuntime) -> Result<(), Fail> {
+fn surroundings_of_edges_with_fractional_ends(rt: HostRuntime) -> Result<(), Fail> {
     let edges = three_triangles();
     let rows = [
-        (edges[0], 0, 1),
-        (edges[1], 1, 1),
-        (edges[3], 1, 2),
-        (up_to_one(), 0, 1),
+        (edges[0], (0, 1, 0, 1)),
+        (edges[1], (1, 1, 1, 1)),
+        (edges[3], (1, 2, 0, 1)),
+        (up_to_one(), (0, 1, 0, 1)),
     ];
-    for (edge, west, east) in rows {
-        let reach = reach_of(&edge);
-        assert_eq!(rt; (reach.west, reach.east), (west, east), "{edge:?}");
+    for (edge, told) in rows {
+        assert_eq!(rt; surroundings(&edge), told, "{edge:?}");
     }
+    let upper = RingEdge::of(&edges[1], 0);
+    assert!(rt; upper.spans(&edges[1].from), "at 1/2");
+    assert!(rt; !upper.spans(&edges[1].to), "at 1");
     Ok(())
 }
 

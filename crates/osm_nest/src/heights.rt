@@ -23,12 +23,19 @@ impl Heights {
         self.bottom <= at.y
     }
 
-    /// Whether they end above it.
+    /// Whether they end above a location.
     pub fn end_above(self, at: Loc) -> bool
         ensures yes { result ≡ true → at.y <ℤ self.top }
         ensures no { result ≡ false → self.top ≤ℤ at.y }
     {
         at.y < self.top
+    }
+
+    /// Whether they begin below others.
+    pub fn begin_below(self, other: Heights) -> bool
+        ensures { result ≡ true → self.bottom <ℤ other.bottom }
+    {
+        self.bottom < other.bottom
     }
 }
 

@@ -80,17 +80,21 @@ fn sloping_edges<'a>(alloc: Global, rings: &'a [Ring]) -> Result<Vec<RingEdge<'a
 }
 
 /// Whether an edge doesn't begin before another.
-fn is_in_order(edge: &Edge, next: &Edge) -> bool
-    ensures { result ≡ not (is_lt (point_cmp (lower_end next.now) (lower_end edge.now))) }
+fn is_in_order(edge: &RingEdge, next: &RingEdge) -> bool
+    ensures { result
+        ≡ not (is_lt (point_cmp (lower_end next.now.edge.now) (lower_end edge.now.edge.now))) }
 {
-    !order_points(lower_end(next), lower_end(edge)).is_lt()
+    if edge.heights.begin_below(next.heights) {
+        return true;
+    }
+    !order_points(lower_end(next.edge), lower_end(edge.edge)).is_lt()
 }
 
 /// Whether no edge begins before an earlier one.
 fn starts_rise(edges: &[RingEdge]) -> bool
     ensures { result ≡ true → StartsRise edges.now }
 {
-    edges.is_sorted_by(|edge, next| is_in_order(edge.edge, next.edge))
+    edges.is_sorted_by(|edge, next| is_in_order(edge, next))
 }
 
 /// The edges sorted by their lower ends.

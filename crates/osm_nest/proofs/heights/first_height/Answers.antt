@@ -1,5 +1,5 @@
 -- The least whole number at or above the y of a point of the world fits.
-use Rattle.std.proofs.Common.{rules, sym, subst, unsigned_abs, w32, w64, FitsSigned, to_z, of_z, ◌≡◌, ◌≤◌, ◌∙◌, ap}
+use Rattle.std.proofs.Common.{rules, sym, subst, w32, w64, FitsSigned, to_z, of_z, ◌≡◌, ◌∙◌}
 use Rattle.std.proofs.lemmas.Int.{to_z-of_z}
 use Rattle.osm_geom.specs.Coordinate.{ceiling_of}
 use Rattle.osm_geom.specs.Point.{y_of}

@@ -1,6 +1,6 @@
 -- At a whole height, by its heights.
 use Rattle.std.proofs.Common.{Bool, ap, false, refl, sym, true, ◌∙◌, ◌≡◌}
-use Rattle.osm_geom.specs.Point.{whole, y_of}
+use Rattle.osm_geom.specs.Point.{y_of}
 use Rattle.osm_geom.specs.Span.{spans}
 use Rattle.osm_nest.proofs.WholeHeights.{spans-below, spans-between, spans-over}
 use Rattle.osm_nest.proofs.ring_edge.RingEdge.spans.Goals as goal
