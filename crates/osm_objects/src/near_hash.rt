@@ -1,5 +1,5 @@
-//! How the store's hash table scatters kinds and ids: neighbours stay near each other. Inputs come in the order of ids, and relations mostly
-//! name ways of neighbouring ids; so what is sought next mostly lies where the processor has just been.
+//! How the store's hash table scatters kinds and ids: neighbours stay near each other. Inputs come in the order of ids, and relations
+//! mostly name ways of neighbouring ids; so what is sought next mostly lies where the processor has just been.
 //!
 //! Only speed rests on it: what a look-up finds is proved for every hasher.
 
@@ -8,19 +8,20 @@ ghost use Rattle.osm_objects.specs.NearHash as near;
 
 use std::hash::Hasher;
 
-// By the golden ratio: multiples of it, cut to 64 bits, lie evenly spread however many they are.
+// Multiples of the golden ratio, cut to 64 bits, lie evenly spread, however many they are.
 const GOLDEN: u64 = 0x9e37_79b9_7f4a_7c15;
 
-// Puts the kinds apart. Any odd number with no pattern to it would do.
+// Puts the kinds apart. Any odd number without a pattern would do.
 const APART: u64 = 0x5899_65cc_7537_4cc3;
 
-/// Hashes an `ObjectRef`, which is written as two numbers: of its kind, and its id.
+/// Hashes an `ObjectRef`, which is written as two numbers: that of its kind, and its id.
 ///
-/// The table has groups of twelve lanes, 64 bytes each. It takes a group by the lowest bits of a hash, knows the lanes apart by
-/// the highest eight of 32, and goes on to the next group where one is full. So ids are taken in blocks of 64. A block has
-/// sixteen groups, four ids each, all of one page of 64 groups, which is 4 KB: every fourth of that page, since a full group
-/// is next to one of another block then. Which quarter page it is goes by the golden ratio, the highest bits first, which fills
-/// all of them alike where ids are dense, in a table of any size; ids that are sparse are scattered as well as by any hash.
+/// The table has groups of twelve lanes, 64 bytes each. It finds a group by the lowest bits of a hash, tells its lanes apart by
+/// the highest eight of 32, and goes on to the next group where one is full. Ids are taken in blocks of 64. A block has a
+/// quarter of a page of 64 groups (4 KB): every fourth of them, four neighbouring ids each, so that behind a full group comes
+/// one of other blocks. The quarter is told by the multiple of the golden ratio, its highest bits first: dense ids fill all
+/// quarters alike in a table of any size, and sparse ones are scattered as by any hash. Like std's `FoldHasher` it has no
+/// secret: who picks the ids can pick them badly.
 #[derive(Clone, Copy)]
 pub(crate) struct NearHasher {
     // All numbers before the last.
@@ -40,7 +41,7 @@ impl Default for NearHasher {
     }
 }
 
-/// The number whose bytes these are, the lowest first. An `ObjectRef` writes no others; they count by their length.
+/// The number whose eight bytes these are, the lowest first. An `ObjectRef` writes no others; those count by their length alone.
 #[inline(always)]
 fn number_of(bytes: &[u8]) -> u64
     ensures { result ≡ near.number_of bytes.now }
@@ -53,10 +54,9 @@ fn number_of(bytes: &[u8]) -> u64
     ])
 }
 
-/// The group, in a table of 2^24 groups; a smaller one takes the lowest bits.
+/// The group, in a table of 2^24 groups; a smaller table takes its lowest bits.
 #[inline(always)]
 fn group_of(place: u64, within: u64) -> u64
-    requires { within < 64 }
     ensures value { result ≡ near.group_of place within }
     ensures bound { result < 2 ^ 24 }
 {
@@ -78,6 +78,7 @@ impl Hasher for NearHasher {
             .wrapping_mul(GOLDEN)
             .wrapping_add(self.earlier);
         let within = self.number % 64;
+        // The four of a group differ in it.
         let tag = ((place >> 12) + 61 * within) % 256;
         group_of(place, within) + (tag << 24)
     }

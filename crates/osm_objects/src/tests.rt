@@ -558,10 +558,10 @@ fn hashes_of_kinds_and_ids(rt: HostRuntime) {
 }
 
 /// How many of so many neighbouring ways come to each of `groups` groups.
-fn loads(alloc: Global, first: i64, ways: u64, groups: usize) -> Result<Vec<u64>, Fail> {
+fn loads(alloc: Global, first: i64, ways: i64, groups: usize) -> Result<Vec<u64>, Fail> {
     let mut loads = Vec::from_elem(alloc, 0_u64, groups)?;
-    for count in 0..ways {
-        let way = at(WAY, first.wrapping_add(count as i64));
+    for count in 0_i64..ways {
+        let way = at(WAY, first.wrapping_add(count));
         let group = (hash_of(way) % 16_777_216) as usize % groups.max(1);
         if let Some(load) = loads.get_mut(group) {
             *load = load.saturating_add(1);
@@ -577,9 +577,9 @@ fn neighbours_fill_groups_evenly(rt: HostRuntime) -> Result<(), Fail> {
         // A block of 64 has sixteen groups, four ids each.
         let block = loads(alloc, first, 64, 65_536)?;
         assert_eq!(rt; block.iter().filter(|load| **load == 4).count(), 16);
-        // A group has twelve lanes: eight on average leave none full.
-        for groups in [256_usize, 2_048, 16_384] {
-            let many = loads(alloc, first, groups as u64 * 8, groups)?;
+        // With eight ids a group on average, none finds its twelve lanes full.
+        for (groups, ways) in [(256, 2_048), (2_048, 16_384), (16_384, 131_072)] {
+            let many = loads(alloc, first, ways, groups)?;
             assert!(rt; many.iter().all(|load| *load <= 12), "in {groups} groups");
         }
     }
