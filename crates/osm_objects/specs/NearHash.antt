@@ -12,7 +12,7 @@ number_of bytes = if length bytes == 8 then from_le_bytes w64 bytes else length 
 
 -- the state after `write(bytes)`
 abbrev pub near_write : NearHasher → List ℕ → NearHasher
-near_write h bytes = record { earlier = ((h.earlier + h.number) % 2 ^ 64 * 0x5899_65cc_7537_4cc3) % 2 ^ 64; number = number_of bytes }
+near_write h bytes = record { earlier = ((h.earlier + h.number) % 2 ^ 64 * 0x6a09_e667_f3bc_c909) % 2 ^ 64; number = number_of bytes }
 
 -- the place of the block of 64 numbers
 abbrev pub place_of : NearHasher → ℕ

@@ -11,8 +11,8 @@ use std::hash::Hasher;
 // Multiples of the golden ratio, cut to 64 bits, lie evenly spread, however many they are.
 const GOLDEN: u64 = 0x9e37_79b9_7f4a_7c15;
 
-// Puts the kinds apart. Any odd number without a pattern would do.
-const APART: u64 = 0x5899_65cc_7537_4cc3;
+// Puts the kinds apart: behind the point of the root of two, made odd. Of 300 numbers that were tried it is among the best.
+const APART: u64 = 0x6a09_e667_f3bc_c909;
 
 /// Hashes an `ObjectRef`, which is written as two numbers: that of its kind, and its id.
 ///

@@ -545,13 +545,13 @@ fn hash_of(of: ObjectRef) -> u64 {
 fn hashes_of_kinds_and_ids(rt: HostRuntime) {
     for (kind, id, hash) in [
         (NODE, 0, 0),
-        (WAY, 0, 1_953_075_598),
-        (RELATION, 0, 3_912_550_617),
-        (WAY, 5, 2_775_159_186),
-        (WAY, 64, 481_343_203),
-        (WAY, -1, 3_497_551_668),
-        (RELATION, 123_456_789, 3_752_076_097),
-        (WAY, i64::MIN, 1_953_076_237),
+        (WAY, 0, 3_430_483_310),
+        (RELATION, 0, 2_570_879_647),
+        (WAY, 5, 4_252_566_898),
+        (WAY, 64, 1_952_981_248),
+        (WAY, -1, 660_914_072),
+        (RELATION, 123_456_789, 2_406_240_007),
+        (WAY, i64::MIN, 3_430_482_605),
     ] {
         assert_eq!(rt; hash_of(at(kind, id)), hash, "at {id}");
     }
