@@ -3,7 +3,7 @@
 
 use osm_cli::run_for_status;
 use osm_host::StdHost;
-use std::alloc::Global;
+use std::alloc::{AllocError as OutOfMemory, Global};
 use std::io::ErrorKind;
 use std::process::ExitCode;
 use std::{env, mem};
@@ -14,12 +14,19 @@ const NO_MEMORY: u8 = 5;
 /// The status where a word isn't text.
 const NO_TEXT: u8 = 6;
 
-/// Blocks up to this size are kept for later ones when they are given back.
-const LONGEST_KEPT: usize = 31_000_000;
+/// The bytes of a block that glibc keeps when it is given back. It takes longer ones off the system by themselves, unless there is room among
+/// those that it keeps.
+const BLOCK: usize = 31_000_000;
+
+/// How many such blocks are kept side by side: two gigabytes of addresses, which take memory only where they are used.
+const BLOCKS: usize = 64;
+
+/// So many bytes are put behind them. Fewer might find room before them.
+const BEHIND: usize = 4096;
 
 fn main(rt: HostRuntime) -> ExitCode {
     let alloc = rt.alloc();
-    keep_blocks(alloc);
+    let _behind = keep_blocks(alloc);
     let words = match words_given(&rt) {
         Ok(words) => words,
         Err(status) => return ExitCode::from(status),
@@ -28,10 +35,17 @@ fn main(rt: HostRuntime) -> ExitCode {
     ExitCode::from(run_for_status(alloc, &words, &mut host))
 }
 
-/// Has glibc keep the blocks of long lists for the next ones. It gives a block back to the system at once, and asks for its pages anew,
-/// until one as long was given back (mallopt(3), M_MMAP_THRESHOLD); this one's pages are never touched. Nothing rests on it but speed.
-fn keep_blocks(alloc: Global) {
-    mem::drop(Vec::<u8>::with_capacity(alloc, LONGEST_KEPT));
+/// Has glibc keep the blocks of long lists for the next ones. It gives a long block back to the system at once, and asks for its pages anew,
+/// until one as long was given back (mallopt(3), M_MMAP_THRESHOLD), and still where it is longer than any such may be or the last of all. So
+/// there is made room for long ones, with no page touched but where blocks meet, and what is given stands behind it. Nothing rests on it
+/// but speed.
+fn keep_blocks(alloc: Global) -> Result<Vec<u8>, OutOfMemory> {
+    mem::drop(Vec::<u8>::with_capacity(alloc, BLOCK)?);
+    let mut room = Vec::with_capacity(alloc, BLOCKS)?;
+    for _ in 0..BLOCKS {
+        room.push(Vec::<u8>::with_capacity(alloc, BLOCK)?)?;
+    }
+    Vec::with_capacity(alloc, BEHIND)
 }
 
 /// The words after the program's name, or the status that says why they can't be had.
