@@ -14,14 +14,13 @@ const NO_MEMORY: u8 = 5;
 /// The status where a word isn't text.
 const NO_TEXT: u8 = 6;
 
-/// The bytes of a block that glibc keeps when it is given back. It takes longer ones off the system by themselves, unless there is room among
-/// those that it keeps.
+/// The bytes of a block that glibc keeps for later ones when it is given back. One of 32 MB or more it never keeps.
 const BLOCK: usize = 31_000_000;
 
-/// How many such blocks are kept side by side: two gigabytes of addresses, which take memory only where they are used.
+/// How many such blocks make room for long ones: two gigabytes of addresses, which take memory only where they are used.
 const BLOCKS: usize = 64;
 
-/// So many bytes are put behind them. Fewer might find room before them.
+/// The bytes of the block behind that room. A smaller one might find a place before it.
 const BEHIND: usize = 4096;
 
 fn main(rt: HostRuntime) -> ExitCode {
@@ -35,10 +34,11 @@ fn main(rt: HostRuntime) -> ExitCode {
     ExitCode::from(run_for_status(alloc, &words, &mut host))
 }
 
-/// Has glibc keep the blocks of long lists for the next ones. It gives a long block back to the system at once, and asks for its pages anew,
-/// until one as long was given back (mallopt(3), M_MMAP_THRESHOLD), and still where it is longer than any such may be or the last of all. So
-/// there is made room for long ones, with no page touched but where blocks meet, and what is given stands behind it. Nothing rests on it
-/// but speed.
+/// Has glibc keep the memory of long lists for the next ones; what is given stands behind it, so that it stays. Nothing rests on it but speed.
+///
+/// glibc takes a long block from the system by itself, and asks for its pages anew, unless it finds room among the blocks that it keeps: until one
+/// as long was given back, and from 32 MB on always (mallopt(3), M_MMAP_THRESHOLD). So one block is given back first, and then many that stand
+/// side by side. Their pages are touched only where two meet.
 fn keep_blocks(alloc: Global) -> Result<Vec<u8>, OutOfMemory> {
     mem::drop(Vec::<u8>::with_capacity(alloc, BLOCK)?);
     let mut room = Vec::with_capacity(alloc, BLOCKS)?;
