@@ -79,7 +79,7 @@ module _ (rs : List (List Edge)) (l : IsRingList rs) where
   abbrev chosen : Edge → List Edge → Bool
   chosen e k = is_outer_by k && encloses k e
 
-  direct-by : (g h : List Edge) → In g rings → In h rings → (d : EnclosesDirectly rings g h) → IsDirectBy rings is_outer_by g d.anchor
+  pub direct-by : (g h : List Edge) → In g rings → In h rings → (d : EnclosesDirectly rings g h) → IsDirectBy rings is_outer_by g d.anchor
   direct-by g h i j d = record {
     member = i;
     is = outer-out g i d.outer;
@@ -117,7 +117,7 @@ module _ (rs : List (List Edge)) (l : IsRingList rs) where
   pub ring-plain : (r : List Edge) → In r rs → IsConflictFree (segments_of r)
   ring-plain r i = plain-part rings (segments_of r) (nest-plain rs l) (in-map segments_of rs r i)
 
-  one-ring-by : (r s : List Edge) → In r rs → segments_of r ≡ segments_of s → (r ≡ s) ⊎ (AreClear (segments_of r) (segments_of s)) → r ≡ s
+  pub one-ring-by : (r s : List Edge) → In r rs → segments_of r ≡ segments_of s → (r ≡ s) ⊎ (AreClear (segments_of r) (segments_of s)) → r ≡ s
   one-ring-by r s i q (inl e) = e
   one-ring-by r s i q (inr c) =
       let a = rings-anchors (segments_of r) (in-map segments_of rs r i) in let e = a.0 in

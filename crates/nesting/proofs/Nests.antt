@@ -109,7 +109,7 @@ parity-sum f [] = refl
 parity-sum f (x ∷ xs) = let a = parity-sum f xs in let b = odd-bit (f x) in omega arith
 
 -- the parity of all along an edge is that of the number of rings whose parity along it is odd
-in_edges : (gs : List (List Edge)) (s : Edge) → is_even (crossing_count (from_to s.from s.to) s.from (away s.from (edges_of gs))) ≡ is_even (total (λ g. bit (covers_edge g s)) gs)
+pub in_edges : (gs : List (List Edge)) (s : Edge) → is_even (crossing_count (from_to s.from s.to) s.from (away s.from (edges_of gs))) ≡ is_even (total (λ g. bit (covers_edge g s)) gs)
 in_edges gs s =
     let d = from_to s.from s.to in let v = s.from in
     let a = crossings-away d v (edges_of gs) ∙ total-edges (beyond d v) gs in

@@ -3,7 +3,7 @@ mod Cyclic
 pub mod CyclicLists
 pub mod OneRingList
 mod Returns
-mod RingsOfWalk
+pub mod RingsOfWalk
 pub mod SameNests
-mod Sees
+pub mod Sees
 pub mod Uncrossed

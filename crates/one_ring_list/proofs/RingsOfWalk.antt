@@ -182,7 +182,7 @@ module _ (es : List Edge) (sd : IsSided es) (w : List Edge) (k : IsWalk es w) wh
       (h.0, subst (λ l. In h.0 l) (sym q) (in-turned b (a ++ (x ∷ [])) h.0 (subst (λ l. In h.0 l) (sym s) h.1)), h.2)
 
   -- the successor of an edge of the walk is of the walk
-  next-within : (x y : Edge) → In x w → IsSuccessor es x y → In y w
+  pub next-within : (x y : Edge) → In x w → IsSuccessor es x y → In y w
   next-within x y i n =
       let r = ends-at x w i in let h = turned-head x r.0 r.1 r.2 in
       subst (λ u. In u w) (next_alone es sd x h.0 y (k.here x i) h.2 n) h.1

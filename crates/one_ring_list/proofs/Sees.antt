@@ -71,7 +71,7 @@ module _ (es : List Edge) (sd : IsSided es) where
     own : (e : Edge) → In e rs → sees_even X e ≡ not (back_even e)
     own e i = own-by (is_plus (order e.from e.to)) e (in-map segment_of rs e i)
 
-    clear-of : (e : Edge) → In e es → (In e rs → ⊥) → IsClearOfAll (segment_of e) X
+    pub clear-of : (e : Edge) → In e es → (In e rs → ⊥) → IsClearOfAll (segment_of e) X
     clear-of e i n = all-in (IsClearOf (segment_of e)) X (λ t j.
         let r = in-map-out segment_of rs t j in subst (IsClearOf (segment_of e)) (sym r.2) (clear-two es sd e r.0 i (sub r.0 r.1) (not-member e r.0 rs n r.1 (same_edge e r.0) refl)))
 

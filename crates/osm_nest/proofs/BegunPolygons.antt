@@ -57,7 +57,7 @@ module _ (k : ℕ) where
   begun-sum f (r ∷ rs) bs h =
       let a = ap (total (ring-sum f)) h.2 in let b = turned-sum f r h.0 h.3.turned in let c = begun-sum f rs h.1 h.4 in omega arith
 
-  polygon-same : (g b : Polygon) → IsPolygonFromLeast g b → HasSameEdges (edges_times k (edges_in b)) (polygon_edges (polygon_times k g))
+  pub polygon-same : (g b : Polygon) → IsPolygonFromLeast g b → HasSameEdges (edges_times k (edges_in b)) (polygon_edges (polygon_times k g))
   polygon-same g b is f =
       let u = edges_times k (edges_in b) in let v = polygon_edges (polygon_times k g) in
       let a = rings-sum f (rings_in b) in let c = rings-sum f (rings_in g) in
@@ -103,7 +103,7 @@ module _ (rs : List (List Edge)) (are : AreRings rs) (ps bs : List Polygon) (of 
       all-either (IsWholeAt k) x (all_edges xs) e (λ y j. in-all (IsWholeAt k) x y (h x (inl refl)) j) (λ y j. edge-whole xs (λ r l. h r (inr l)) y j) (in-either x (all_edges xs) e i)
 
   -- the common denominator is a common multiple of each polygon's edges
-  common-in : (b : Polygon) → In b bs → IsCommon k (edges_in b)
+  pub common-in : (b : Polygon) → In b bs → IsCommon k (edges_in b)
   common-in b i =
       let w = edge-whole (rings_in b) (λ r j. in-all (All (IsWholeAt k)) (rings_of bs) r whole (in-rings bs b r i j)) in
       record {
@@ -112,7 +112,7 @@ module _ (rs : List (List Edge)) (are : AreRings rs) (ps bs : List Polygon) (of 
         tos = all-in (λ (e : Edge). den_of e.to ∣ k) (edges_in b) (λ e j. (w e j).second);
       }
 
-  each : (g : Polygon) → In g ps → IsPolygon (whole_rings rs) (polygon_times k g)
+  pub each : (g : Polygon) → In g ps → IsPolygon (whole_rings rs) (polygon_times k g)
   each g i = in-all (λ (g : Polygon). IsPolygon (whole_rings rs) (polygon_times k g)) ps g of.each i
 
   pub sided_begun : AreSided bs
@@ -125,7 +125,7 @@ module _ (rs : List (List Edge)) (are : AreRings rs) (ps bs : List Polygon) (of 
   abbrev planes : List nesting.Polygon
   planes = map (polygon_times k) ps
 
-  polygons : ArePolygons (whole_rings rs) planes
+  pub polygons : ArePolygons (whole_rings rs) planes
   polygons = record {
     each = λ g i. let m = in-map-out (polygon_times k) ps g i in subst (IsPolygon (whole_rings rs)) (sym m.2) (each m.0 m.1);
     whole = λ f.

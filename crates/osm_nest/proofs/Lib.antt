@@ -1,5 +1,5 @@
 mod AnchorLists
-mod BegunPolygons
+pub mod BegunPolygons
 mod Beside
 mod DirectEnclosers
 mod Filled
@@ -17,7 +17,7 @@ pub mod Listing
 mod LoneRing
 mod MultipliedRings
 mod Nearest
-mod NestedCover
+pub mod NestedCover
 mod NestedKinds
 pub mod NestedRings
 mod NestingExists

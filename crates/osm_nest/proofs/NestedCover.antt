@@ -67,7 +67,7 @@ module _ (rs : List (List Edge)) (are : AreRings rs) (nested : List Polygon) (is
         second = subst (λ n. den_of e.to ∣ n) (sym d.2) (dvd-mul_right_of_dvd (den_of e.to) w.second d.0);
       }
 
-  whole : All (All (IsWholeAt k)) (rings_of nested)
+  pub whole : All (All (IsWholeAt k)) (rings_of nested)
   whole =
       let h = begun-each (IsWholeAt k) is.polygons nested is.begun (λ r i. whole-by r (divides rs are is.polygons is.of_rings r i)) in
       all-in (All (IsWholeAt k)) (rings_of nested) (λ r i. all-in (IsWholeAt k) r (h r i))

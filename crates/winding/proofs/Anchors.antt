@@ -147,7 +147,7 @@ pub ring_by_anchor : (e : Edge) (es : List Edge) → IsRing es → IsConflictFre
 ring_by_anchor e es r p i a v = ring-by-anchor e es r p i a v (is_plus (order e.from e.to)) refl
 
 -- ---- each list that is not empty has an anchor
-abbrev ok_by : Sign → Sign → Bool
+abbrev pub ok_by : Sign → Sign → Bool
 ok_by Plus k = true
 ok_by Null k = not (is_plus k)
 ok_by Minus k = false
@@ -224,7 +224,7 @@ not-plus-negated Plus h = refl
 not-plus-negated Null h = absurd (cc h)
 not-plus-negated Minus h = absurd (cc h)
 
-ok-either-by : (s t : Edge) → (o : Sign) → order s.from t.from ≡ o → ok_by o (orient s.from s.to t.to) ≡ false → ok t s ≡ true
+pub ok-either-by : (s t : Edge) → (o : Sign) → order s.from t.from ≡ o → ok_by o (orient s.from s.to t.to) ≡ false → ok t s ≡ true
 ok-either-by s t Plus h a = absurd (cc a)
 ok-either-by s t Null h a =
     let q = order-null s.from t.from h in
@@ -232,7 +232,7 @@ ok-either-by s t Null h a =
     (subst (λ w. not (is_plus (orient w t.to s.to)) ≡ true) q (ap (λ z. not (is_plus z)) (cross-negated (from_to s.from s.to) (from_to s.from t.to)) ∙ not-plus-negated (orient s.from s.to t.to) a))
 ok-either-by s t Minus h a = ok-of-plus (order t.from s.from) (orient t.from t.to s.to) (order-reversed s.from t.from ∙ ap negated h)
 
-ok-self : (s : Edge) → ok s s ≡ true
+pub ok-self : (s : Edge) → ok s s ≡ true
 ok-self s = ok-of-null (order s.from s.from) (orient s.from s.to s.to) (order-self-null s.from) (ap (λ z. not (is_plus (sign z))) (cross-self (from_to s.from s.to)))
 
 record Best (s : Edge) (es : List Edge) : Type 0 where

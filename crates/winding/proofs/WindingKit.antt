@@ -1,10 +1,10 @@
 -- Lists of edges and what winds round a point: what crates above take of the lemmas on them.
 pub use Rattle.winding.proofs.AlongSegment.{along_from, off_all, parity_from_both_ends}
-pub use Rattle.winding.proofs.Anchors.{all-right, anchor_one, anchor_right, anchor_runs, anchor_span, leftmost_anchor, leftmost_of, ring_by_anchor, some-anchor, some_odd, west, west-direction, west-none}
+pub use Rattle.winding.proofs.Anchors.{all-right, anchor_one, anchor_right, anchor_runs, anchor_span, leftmost_anchor, leftmost_of, ok, ok-either-by, ok-self, ok_by, ok_chain, ring_by_anchor, some-anchor, some_odd, west, west-direction, west-none}
 pub use Rattle.winding.proofs.Balance.{chain_signs, crossed, crossed-at, degree-even, dot-at, either_2, either_computes, leaves, length-total, no-loop, out_count, way, way-direction, ways_apart}
 pub use Rattle.winding.proofs.ConflictFree.{clear_pair, off_away, rising_in, split_off}
-pub use Rattle.winding.proofs.Independence.{IsOffSeen, count-is, parity_independent, winding_independent}
-pub use Rattle.winding.proofs.Levels.{crossing-order, crossing_by, crossings-right, e-tall, e-view, from_e, kept-by, left-span, low-by, right-level, right_apart, right_left, signed_parity, spanning_runs, to_right}
+pub use Rattle.winding.proofs.Independence.{IsOffSeen, count-is, even-at-ends, total-ends, parity_independent, winding_independent}
+pub use Rattle.winding.proofs.Levels.{crossing-order, crossing_by, crossings-right, e-tall, e-view, from_e, kept-by, left-span, low-by, right-level, right_apart, right_left, signed_parity, spanning-order, spanning_runs, to_right}
 pub use Rattle.winding.proofs.OddSides.{covers-crossings, differ-parity, runs_from, runs_to, same-parity, share, share-is, spokes-is}
 pub use Rattle.winding.proofs.OppositeEnds.{beyond, crossings-away}
 pub use Rattle.winding.proofs.Paths.{path-join, path-split}

@@ -1,0 +1,2 @@
+mod NestedInteriors
+mod NestedLinked

@@ -1,0 +1,21 @@
+use Rattle.paths.proofs.joined_is_equivalence.Goals as goal
+use Rattle.paths.proofs.Joins.{joined-back, joined-chain, joined-off, joined-scaled, joined-self}
+use Rattle.paths.proofs.Winds.{joined-winds}
+
+pub returns-clause-itself : goal.returns-clause-itself
+returns-clause-itself c = joined-self
+
+pub returns-clause-symmetric : goal.returns-clause-symmetric
+returns-clause-symmetric c = joined-back
+
+pub returns-clause-transitive : goal.returns-clause-transitive
+returns-clause-transitive c = joined-chain
+
+pub returns-clause-off : goal.returns-clause-off
+returns-clause-off c = joined-off
+
+pub returns-clause-scaled : goal.returns-clause-scaled
+returns-clause-scaled c = joined-scaled
+
+pub returns-clause-winding : goal.returns-clause-winding
+returns-clause-winding c = joined-winds

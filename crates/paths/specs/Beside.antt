@@ -1,0 +1,34 @@
+-- Points beside an edge.
+use Rattle.std.specs.Prelude.{List, false, ◌≡◌}
+use lib.IntN.{ℤ}
+use Rattle.lists.specs.Member.{In}
+use Rattle.paths.specs.Line.{IsApart, Joined}
+use Rattle.plane.specs.Edge.{Edge, same_edge}
+use Rattle.plane.specs.FreeSegment.{IsBetween}
+use Rattle.plane.specs.Scale.{scaled_edge, scaled_point}
+use Rattle.plane.specs.Sign.{Plus, sign}
+use Rattle.plane.specs.Vector.{Vector, orient}
+use Rattle.winding.specs.ScaledEdges.{scaled_edges}
+
+-- p is left of the edge e, and the step from p to a point strictly inside e meets no other edge of the list
+pub record IsLeftBeside (es : List Edge) (e : Edge) (p : Vector) : Type 0 where
+  pub foot : Vector
+  pub inside : IsBetween e.from e.to foot
+  pub left : orient e.from e.to p ≡ Plus
+  pub free : (f : Edge) → In f es → same_edge e f ≡ false → IsApart p foot f
+
+-- some point with rational coordinates is left beside both edges
+pub record AreBeside (es : List Edge) (e f : Edge) : Type 0 where
+  pub multiple : ℤ
+  pub positive : sign multiple ≡ Plus
+  pub point : Vector
+  pub beside_first : IsLeftBeside (scaled_edges multiple es) (scaled_edge multiple e) point
+  pub beside_second : IsLeftBeside (scaled_edges multiple es) (scaled_edge multiple f) point
+
+-- p is joined to a point left beside the edge e
+pub record ReachesEdge (es : List Edge) (p : Vector) (e : Edge) : Type 0 where
+  pub multiple : ℤ
+  pub positive : sign multiple ≡ Plus
+  pub point : Vector
+  pub joined : Joined (scaled_edges multiple es) (scaled_point multiple p) point
+  pub beside : IsLeftBeside (scaled_edges multiple es) (scaled_edge multiple e) point

@@ -1,0 +1,54 @@
+//! Polygonal lines that meet no edge of a list, and the interior of a polygon, which is connected.
+//!
+//! There is no code to run here. Each public function has an empty body; its contract is a law about the definitions in
+//! `specs/`, for all lists of edges between points with integer coordinates.
+#![tactic(auto)]
+
+ghost use Rattle.paths.specs.LineLaws.{ApartSharesNoPoint, JoinedToItself, JoinedIsSymmetric, JoinedIsTransitive, JoinedIsOff, JoinedWindsAlike, ScaledIsJoined};
+ghost use Rattle.paths.specs.BesideLaws.{EdgePartsInside, BesideIsInside, EdgeHasBeside, BesideOneEdgeJoined, SuccessorIsBeside, AcrossIsBeside, InsideReachesEdge};
+ghost use Rattle.paths.specs.ConnectedLaws.{LineStaysInside, LinkedInsideIsJoined, PolygonIsConnected, PolygonsAreParts, WalksAreNeeded};
+
+/// A straight line keeps a step apart from an edge exactly where the two share no point.
+pub fn apart_shares_no_point()
+    ensures { ApartSharesNoPoint }
+{}
+
+/// To be joined is an equivalence of the points off the list, and doesn't change where all is multiplied.
+pub fn joined_is_equivalence()
+    ensures itself { JoinedToItself }
+    ensures symmetric { JoinedIsSymmetric }
+    ensures transitive { JoinedIsTransitive }
+    ensures off { JoinedIsOff }
+    ensures winding { JoinedWindsAlike }
+    ensures scaled { ScaledIsJoined }
+{}
+
+/// Each edge of a sided list has the inside on its left, all along, and the outside on its right.
+pub fn edge_parts_inside()
+    ensures { EdgePartsInside }
+{}
+
+/// The left side of an edge is not empty, inside, joined in itself, to that of the successor, and across to that of the nearest edge on the
+/// left; each point inside is joined to one.
+pub fn left_sides_are_joined()
+    ensures beside { BesideIsInside }
+    ensures some { EdgeHasBeside }
+    ensures edge { BesideOneEdgeJoined }
+    ensures successor { SuccessorIsBeside }
+    ensures across { AcrossIsBeside }
+    ensures inside { InsideReachesEdge }
+{}
+
+/// A line that begins inside and meets no edge stays inside.
+pub fn line_stays_inside()
+    ensures { LineStaysInside }
+{}
+
+/// The interior of a polygon is connected; the interiors of the polygons are the connected parts of the inside of the list.
+/// That each ring lies within one walk can't be left out.
+pub fn polygon_is_connected()
+    ensures linked { LinkedInsideIsJoined }
+    ensures polygon { PolygonIsConnected }
+    ensures parts { PolygonsAreParts }
+    ensures needed { WalksAreNeeded }
+{}

@@ -1,0 +1,4 @@
+mod Holes
+mod Meets
+pub mod ValidPolygons
+mod Windings

@@ -1,0 +1,14 @@
+//! The polygons of a sided list are valid in the sense of Simple Features.
+//!
+//! There is no code to run here. The public function has an empty body; its contract is a law about the definitions in
+//! `specs/`, for all lists of edges between points with integer coordinates.
+#![tactic(auto)]
+
+ghost use Rattle.valid.specs.Laws.{ConnectedIsNeeded, PolygonsAreValid};
+
+/// The polygons of the ring list of a sided list are together a valid MultiPolygon, each of them a valid Polygon. Of
+/// what a valid Polygon is, that the interior is connected is no consequence of the rest.
+pub fn polygons_are_valid()
+    ensures valid { PolygonsAreValid }
+    ensures needed { ConnectedIsNeeded }
+{}

@@ -1,0 +1,3 @@
+mod BegunElsewhere
+mod NestedValid
+pub mod WholePolygons

@@ -1,0 +1,23 @@
+-- The polygons of nested rings are valid, as statements.
+use Rattle.std.specs.Prelude.{List, map}
+use Rattle.osm_geom.specs.declared.edge.Edge.{Edge}
+use Rattle.osm_nest.specs.declared.polygon.Polygon.{Polygon}
+use Rattle.osm_nest.specs.Nested.{AreNested}
+use Rattle.osm_nest.specs.Polygons.{polygon_times}
+use Rattle.osm_rings.specs.RingList.{AreRingsOf}
+use Rattle.plane_edges.specs.Multiple.{common_den}
+use Rattle.plane_edges.specs.Sided.{IsSided}
+use Rattle.valid.specs.Valid.{IsValidMultiPolygon}
+use Rattle.valid_polygons.specs.AreValid.{AreValid}
+
+-- together they are a valid MultiPolygon, in the plane multiplied by the common denominator of the list that the rings are of
+abbrev pub NestedPolygonsAreValid : Type 0
+NestedPolygonsAreValid =
+    (es : List Edge) → IsSided es → (rs : List (List Edge)) → AreRingsOf es rs → (nested : List Polygon) →
+    AreNested rs nested → IsValidMultiPolygon (map (polygon_times (common_den es)) nested)
+
+-- that number makes all points of the polygons whole
+abbrev pub NestedAreValid : Type 0
+NestedAreValid =
+    (es : List Edge) → IsSided es → (rs : List (List Edge)) → AreRingsOf es rs → (nested : List Polygon) →
+    AreNested rs nested → AreValid nested

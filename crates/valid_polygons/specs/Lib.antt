@@ -1,0 +1,2 @@
+pub mod AreValid
+pub mod Laws

@@ -1,0 +1,13 @@
+//! The polygons that areas are made of are valid in the sense of Simple Features.
+//!
+//! There is no code to run here. The public function has an empty body; its contract is a law about the definitions in
+//! `specs/`, `valid`, `osm_rings` and `osm_nest`.
+#![tactic(auto)]
+
+ghost use Rattle.valid_polygons.specs.Laws.{NestedAreValid, NestedPolygonsAreValid};
+
+/// The polygons of nested rings, each ring begun at its least node, are together a valid MultiPolygon.
+pub fn nested_polygons_are_valid()
+    ensures at { NestedPolygonsAreValid }
+    ensures valid { NestedAreValid }
+{}
