@@ -5,15 +5,17 @@ use Rattle.coast_split.specs.SplitTree.{AreLeaves}
 use Rattle.coast_split.specs.declared.leaves.Leaf.{Leaf}
 use Rattle.coast_split.specs.declared.leaves.SplitError.{SplitError}
 use Rattle.coast_split.specs.declared.leaves.SplitError.TheVariants.{TooManyPieces, OutOfMemory}
+use Rattle.osm_geom.specs.declared.edge.Edge.{Edge}
 use Rattle.osm_job.specs.Sent.{lines_text}
 use Rattle.osm_nest.specs.Polygons.{edges_in}
 use Rattle.osm_nest.specs.declared.polygon.Polygon.{Polygon}
 use Rattle.osm_report.specs.Coast.{is_error}
 use Rattle.osm_report.specs.declared.coast.CoastLine.{CoastLine}
 use Rattle.osm_text.specs.declared.piece.PieceKind.{PieceKind}
+use Rattle.osm_text.specs.declared.piece.PieceKind.TheVariants as kind
 use Rattle.osm_words.specs.Job.{CoastlineSettings}
-use Rattle.job_coastline.specs.Coastline.{most_leaves}
-use Rattle.job_coastline.specs.Pieces.{AreLeavesOf, AreTiles, Tile, pieces_count, pieces_text, tile_lines}
+use Rattle.job_coastline.specs.Coastline.{AreLand, AreWater, most_leaves}
+use Rattle.job_coastline.specs.Pieces.{AreLeavesOf, AreTiles, Tile, has_land, has_water, pieces_count, pieces_text, tile_lines}
 use Rattle.job_coastline.specs.declared.counts.CoastCounts.{CoastCounts}
 use Rattle.job_coastline.specs.declared.pieces.Pieces.{Pieces}
 
@@ -40,6 +42,18 @@ pub record ArePieces (settings : CoastlineSettings) (kind : PieceKind) (polygons
   pub printed : length pieces.texts.items ≡ pieces_count kind tiles
   pub told : pieces.lines.items ≡ flat_map tile_lines tiles
   pub counted : pieces.leaves ≡ length leaves
+
+-- These are the pieces of land with these edges, if they are asked for.
+pub record AreLandPieces (settings : CoastlineSettings) (edges : List Edge) (made : Pieces) : Type 0 where
+  pub polygons : List Polygon
+  pub land : AreLand (has_land settings.polygons) edges polygons
+  pub pieces : ArePieces settings kind.Land polygons made
+
+-- These are the pieces of the water beside it, if they are asked for.
+pub record AreWaterPieces (settings : CoastlineSettings) (edges : List Edge) (made : Pieces) : Type 0 where
+  pub polygons : List Polygon
+  pub water : AreWater (has_water settings.polygons) edges polygons
+  pub pieces : ArePieces settings kind.Water polygons made
 
 -- The pieces of one more polygon were added.
 pub record AddsPolygon (settings : CoastlineSettings) (kind : PieceKind) (polygon : Polygon) (before after : Pieces) : Type 0 where

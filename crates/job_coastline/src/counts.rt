@@ -1,17 +1,21 @@
 //! How many lines a coastline job writes.
 
-ghost use Rattle.std.specs.Prelude.{◌≡◌, IfOk, not};
+ghost use Rattle.std.specs.Prelude.{◌≡◌, All, IfOk, not};
 ghost use Rattle.std.specs.List.{count_by};
+ghost use Rattle.job_coastline.specs.Coast.{IsCoast, coast_seen};
 ghost use Rattle.job_coastline.specs.Counts.{AreCoastCounts};
-ghost use Rattle.job_coastline.specs.PieceSteps.{ArePieces, counts_found};
+ghost use Rattle.job_coastline.specs.PieceSteps.{AreLandPieces, ArePieces, AreWaterPieces, counts_found};
+ghost use Rattle.osm_geom.specs.WholeSegment.{IsWholeSegment};
 ghost use Rattle.osm_nest.specs.Cover.{AreSided};
 ghost use Rattle.osm_report.specs.Coast.{is_error};
 ghost use Rattle.osm_words.specs.Answers.{coastline_seen};
+ghost use Rattle.plane_edges.specs.Sided.{IsSided};
 
-use crate::coast::coast_of;
+use crate::coast::{Coast, coast_of};
 use crate::found::{all_lines, has_land, has_water, land_polygons, water_polygons};
 use crate::pieces::{Pieces, pieces_of};
 use coast_split::SplitError;
+use osm_geom::Edges;
 use osm_nest::Polygon;
 use osm_objects::Store;
 use osm_report::{CoastLine, is_error};
@@ -90,13 +94,58 @@ pub fn coast_counts(
     ensures { IfOk result (λ counts.
         AreCoastCounts (coastline_seen settings.now) store.now counts) }
 {
+    let coast = coast_of(alloc, store, settings)?;
+    counts_of(alloc, store, &coast, settings)
+}
+
+/// How many lines come of the coastline ways of a store, from what comes of them. It is lent, so that nothing of it is dropped
+/// where memory runs out.
+fn counts_of(
+    alloc: Global,
+    _store: &Store,
+    coast: &Coast,
+    settings: &CoastlineSettings<'_>,
+) -> Result<CoastCounts, OutOfMemory>
+    requires { IsCoast (coastline_seen settings.now) _store.now (coast_seen coast.now) }
+    ensures { IfOk result (λ counts.
+        AreCoastCounts (coastline_seen settings.now) _store.now counts) }
+{
     // By law: directed by the odd side, land is sided and runs along whole segments.
     directing_is_sided();
-    let coast = coast_of(alloc, store, settings)?;
-    let land = land_polygons(alloc, has_land(settings.polygons), &coast.land.edges)?;
-    let water = water_polygons(alloc, has_water(settings.polygons), &coast.land.edges)?;
-    let land_pieces = all_pieces_of(alloc, PieceKind::Land, land.as_slice(), settings)?;
-    let water_pieces = all_pieces_of(alloc, PieceKind::Water, water.as_slice(), settings)?;
-    let lines = all_lines(alloc, &coast, &land_pieces.lines, &water_pieces.lines)?;
-    Ok(counts_found(&land_pieces, &water_pieces, &lines))
+    let edges = &coast.land.edges;
+    let land = land_pieces(alloc, edges, settings)?;
+    let water = water_pieces(alloc, edges, settings)?;
+    let lines = all_lines(alloc, coast, &land.lines, &water.lines)?;
+    Ok(counts_found(&land, &water, &lines))
+}
+
+/// The pieces of land, if they are asked for.
+fn land_pieces(
+    alloc: Global,
+    land: &Edges,
+    settings: &CoastlineSettings<'_>,
+) -> Result<Pieces, OutOfMemory>
+    requires { IsSided land.now }
+    ensures { IfOk result (λ pieces.
+        AreLandPieces (coastline_seen settings.now) land.now pieces) }
+{
+    let polygons = land_polygons(alloc, has_land(settings.polygons), land)?;
+    let pieces = all_pieces_of(alloc, PieceKind::Land, polygons.as_slice(), settings)?;
+    Ok(pieces)
+}
+
+/// The pieces of water, if they are asked for.
+fn water_pieces(
+    alloc: Global,
+    land: &Edges,
+    settings: &CoastlineSettings<'_>,
+) -> Result<Pieces, OutOfMemory>
+    requires whole { All IsWholeSegment land.now }
+    requires sided { IsSided land.now }
+    ensures { IfOk result (λ pieces.
+        AreWaterPieces (coastline_seen settings.now) land.now pieces) }
+{
+    let polygons = water_polygons(alloc, has_water(settings.polygons), land)?;
+    let pieces = all_pieces_of(alloc, PieceKind::Water, polygons.as_slice(), settings)?;
+    Ok(pieces)
 }

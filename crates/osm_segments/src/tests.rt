@@ -44,19 +44,70 @@ fn repeats(alloc: Global, lines: &str, times: u64) -> Result<Vec<Repeat>, Fail> 
     Ok(repeats)
 }
 
+/// Lines, what survives of them, what stands there repeatedly and how often, and how many odd nodes there are.
+#[derive(Clone, Copy)]
+struct Row<'a> {
+    lines: &'a str,
+    survive: &'a str,
+    twice: &'a str,
+    times: u64,
+    odd: usize,
+}
+
+/// Whether this survives.
+fn survive(alloc: Global, list: &[Seg], row: Row) -> Result<bool, Fail> {
+    let kept = all_segs(alloc, row.survive)?;
+    let found = survivors(alloc, list)?;
+    Ok(found.as_slice() == kept.as_slice())
+}
+
+/// Whether this stands repeatedly.
+fn stand_repeatedly(alloc: Global, list: &[Seg], row: Row) -> Result<bool, Fail> {
+    let wanted = repeats(alloc, row.twice, row.times)?;
+    let found = repeated(alloc, list)?;
+    Ok(found.as_slice() == wanted.as_slice())
+}
+
+/// Whether so many nodes are odd, also among the faults of what survives.
+fn are_odd(alloc: Global, list: &[Seg], row: Row) -> Result<bool, Fail> {
+    let odd = odd_nodes(alloc, list)?;
+    let kept = survivors(alloc, list)?;
+    let faults = faults_of(alloc, &kept)?;
+    Ok(odd.len() == row.odd && faults.odd_nodes.len() == row.odd)
+}
+
+/// Whether all of a row is so.
+fn is_so(alloc: Global, row: Row) -> Result<bool, Fail> {
+    let list = all_segs(alloc, row.lines)?;
+    Ok(
+        survive(alloc, &list, row)?
+            && stand_repeatedly(alloc, &list, row)?
+            && are_odd(alloc, &list, row)?,
+    )
+}
+
+/// A row of this.
+fn told<'a>(lines: &'a str, survive: &'a str, twice: &'a str, times: u64, odd: usize) -> Row<'a> {
+    Row {
+        lines,
+        survive,
+        twice,
+        times,
+        odd,
+    }
+}
+
 #[test]
 fn survivors_repeats_and_odd_nodes(rt: HostRuntime) -> Result<(), Fail> {
-    let alloc = rt.alloc();
-    // Lines, what survives of them, what stands there repeatedly and how often, and how many odd nodes there are.
     let rows = [
-        ("0,0 1,0 / 1,0 0,0", "", "0,0 1,0", 2, 0),
-        ("0,0 1,0 0,0 1,0", "0,0 1,0", "0,0 1,0", 3, 2),
-        ("0,0 1,0 0,0 1,0 0,0", "", "0,0 1,0", 4, 0),
-        ("0,0 1,0 0,0 1,0 0,0 1,0", "0,0 1,0", "0,0 1,0", 5, 2),
+        told("0,0 1,0 / 1,0 0,0", "", "0,0 1,0", 2, 0),
+        told("0,0 1,0 0,0 1,0", "0,0 1,0", "0,0 1,0", 3, 2),
+        told("0,0 1,0 0,0 1,0 0,0", "", "0,0 1,0", 4, 0),
+        told("0,0 1,0 0,0 1,0 0,0 1,0", "0,0 1,0", "0,0 1,0", 5, 2),
         // nothing survives
-        ("0,0 1,0 1,1 1,0 0,0", "", "0,0 1,0 / 1,0 1,1", 2, 0),
+        told("0,0 1,0 1,1 1,0 0,0", "", "0,0 1,0 / 1,0 1,1", 2, 0),
         // way named twice
-        (
+        told(
             "0,0 1,0 1,1 0,1 0,0 / 1,0 1,1 / 1,1 1,0",
             "0,0 1,0 / 0,0 0,1 / 1,0 1,1 / 0,1 1,1",
             "1,0 1,1",
@@ -64,25 +115,10 @@ fn survivors_repeats_and_odd_nodes(rt: HostRuntime) -> Result<(), Fail> {
             0,
         ),
         // an open line
-        ("0,0 1,0 / 0,0 0,1", "0,0 1,0 / 0,0 0,1", "", 0, 2),
+        told("0,0 1,0 / 0,0 0,1", "0,0 1,0 / 0,0 0,1", "", 0, 2),
     ];
-    for (lines, survive, twice, times, odd) in rows {
-        let list = all_segs(alloc, lines)?;
-        let kept = all_segs(alloc, survive)?;
-        assert_eq!(rt;
-            survivors(alloc, &list)?.as_slice(),
-            kept.as_slice(),
-            "{lines}"
-        );
-        assert_eq!(rt; odd_nodes(alloc, &list)?.len(), odd, "{lines}");
-        let faults = faults_of(alloc, &survivors(alloc, &list)?)?;
-        assert_eq!(rt; faults.odd_nodes.len(), odd, "{lines}");
-        let expected = repeats(alloc, twice, times)?;
-        assert_eq!(rt;
-            repeated(alloc, &list)?.as_slice(),
-            expected.as_slice(),
-            "{lines}"
-        );
+    for row in rows {
+        assert!(rt; is_so(rt.alloc(), row)?, "{}", row.lines);
     }
     Ok(())
 }

@@ -16,3 +16,4 @@ pub mod PlainFilter
 pub mod PlainCertify
 pub mod PlainLocate
 pub mod OneKind
+pub mod Chains

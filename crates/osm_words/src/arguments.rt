@@ -1,11 +1,11 @@
 //! The arguments of commands, as `clap` is told of them.
 
-ghost use Rattle.std.specs.Prelude.{◌≡◌, false};
-ghost use Rattle.clap.specs.Words.{rule_of};
-ghost use Rattle.osm_words.specs.Arguments.{flag_rule, long_option_rule, option_rule, positional_rule};
+ghost use Rattle.std.specs.Prelude.{◌≡◌, All, IfOk, false, map};
+ghost use Rattle.clap.specs.Words.{app_of, rule_of};
+ghost use Rattle.osm_words.specs.Arguments.{app_of_all, flag_rule, long_option_rule, option_rule, positional_rule};
 
-use clap::{Arg, ArgAction};
-use std::alloc::Global;
+use clap::{Arg, ArgAction, Command};
+use std::alloc::{AllocError as OutOfMemory, Global};
 
 /// An option with one value.
 pub(crate) fn option<'a>(alloc: Global, name: &'a str, letter: char, long: &'a str) -> Arg<'a>
@@ -43,4 +43,18 @@ pub(crate) fn positional<'a>(alloc: Global, name: &'a str) -> Arg<'a>
     ensures local { result.global ≡ false }
 {
     Arg::new(alloc, name).required(true).action(ArgAction::Set)
+}
+
+/// The command of this name that takes these arguments. `-h` and `--help` are words like any other that it doesn't know.
+pub(crate) fn command_with<'a>(
+    alloc: Global,
+    name: &'a str,
+    arguments: Vec<Arg<'a>>,
+) -> Result<Command<'a>, OutOfMemory>
+    requires { All (λ (a : Arg). a.global ≡ false) arguments.items }
+    ensures { IfOk result (λ command. app_of command
+        ≡ app_of_all name.now (map (λ (a : Arg). rule_of a) arguments.entry.items)) }
+{
+    let command = Command::new(alloc, name).args(arguments)?;
+    Ok(command.disable_help_flag(true))
 }

@@ -1,25 +1,35 @@
 //! The words of `certify`, as `clap` parses them.
 
-ghost use Rattle.std.specs.Prelude.{◌≡◌, IfOk, map, string_bytes};
-ghost use Rattle.clap.specs.Words.{FailsBy, app_of, fault_of, found_of, matches_of, rows_of};
-ghost use Rattle.osm_words.specs.CertifyCommand.{certify_app};
+ghost use Rattle.std.specs.Prelude.{◌≡◌, All, IfOk, false, map, string_bytes};
+ghost use Rattle.clap.specs.Words.{FailsBy, app_of, fault_of, found_of, matches_of, rows_of, rule_of};
+ghost use Rattle.osm_words.specs.CertifyCommand.{certify_app, certify_rules};
 
-use crate::arguments::{flag, long_option, option, positional};
-use clap::{ArgMatches, Command, Error};
+use crate::arguments::{command_with, flag, long_option, option, positional};
+use clap::{Arg, ArgMatches, Command, Error};
 use std::alloc::{AllocError as OutOfMemory, Global};
+
+/// Its arguments.
+fn certify_arguments<'a>(alloc: Global) -> Result<Vec<Arg<'a>>, OutOfMemory>
+    ensures rules { IfOk result (λ v. map (λ (a : Arg). rule_of a) v.items ≡ certify_rules) }
+    ensures local { IfOk result (λ v. All (λ (a : Arg). a.global ≡ false) v.items) }
+{
+    let arguments = vec![in alloc;
+        flag(alloc, "keep-untagged", 'n', "keep-untagged"),
+        option(alloc, "ids", 'u', "add-unique-id"),
+        long_option(alloc, "area-keys"),
+        long_option(alloc, "linear-keys"),
+        positional(alloc, "file"),
+        positional(alloc, "text"),
+    ]?;
+    Ok(arguments)
+}
 
 /// The command for which `clap` parses.
 fn certify_command<'a>(alloc: Global) -> Result<Command<'a>, OutOfMemory>
     ensures { IfOk result (λ command. app_of command ≡ certify_app) }
 {
-    let command = Command::new(alloc, "certify")
-        .arg(flag(alloc, "keep-untagged", 'n', "keep-untagged"))?
-        .arg(option(alloc, "ids", 'u', "add-unique-id"))?
-        .arg(long_option(alloc, "area-keys"))?
-        .arg(long_option(alloc, "linear-keys"))?
-        .arg(positional(alloc, "file"))?
-        .arg(positional(alloc, "text"))?;
-    Ok(command.disable_help_flag(true))
+    let arguments = certify_arguments(alloc)?;
+    command_with(alloc, "certify", arguments)
 }
 
 /// What `clap` finds in the words, the first of which is the command's name.

@@ -1,26 +1,36 @@
 //! The words of `coastline`, as `clap` parses them.
 
-ghost use Rattle.std.specs.Prelude.{◌≡◌, IfOk, map, string_bytes};
-ghost use Rattle.clap.specs.Words.{FailsBy, app_of, fault_of, found_of, matches_of, rows_of};
-ghost use Rattle.osm_words.specs.CoastlineCommand.{coastline_app};
+ghost use Rattle.std.specs.Prelude.{◌≡◌, All, IfOk, false, map, string_bytes};
+ghost use Rattle.clap.specs.Words.{FailsBy, app_of, fault_of, found_of, matches_of, rows_of, rule_of};
+ghost use Rattle.osm_words.specs.CoastlineCommand.{coastline_app, coastline_rules};
 
-use crate::arguments::{flag, long_option, option, positional};
-use clap::{ArgMatches, Command, Error};
+use crate::arguments::{command_with, flag, long_option, option, positional};
+use clap::{Arg, ArgMatches, Command, Error};
 use std::alloc::{AllocError as OutOfMemory, Global};
+
+/// Its arguments.
+fn coastline_arguments<'a>(alloc: Global) -> Result<Vec<Arg<'a>>, OutOfMemory>
+    ensures rules { IfOk result (λ v. map (λ (a : Arg). rule_of a) v.items ≡ coastline_rules) }
+    ensures local { IfOk result (λ v. All (λ (a : Arg). a.global ≡ false) v.items) }
+{
+    let arguments = vec![in alloc;
+        option(alloc, "close-distance", 'c', "close-distance"),
+        option(alloc, "max-points", 'm', "max-points"),
+        option(alloc, "bbox-overlap", 'b', "bbox-overlap"),
+        option(alloc, "polygons", 'p', "output-polygons"),
+        long_option(alloc, "output"),
+        flag(alloc, "overwrite", 'f', "overwrite"),
+        positional(alloc, "file"),
+    ]?;
+    Ok(arguments)
+}
 
 /// The command for which `clap` parses.
 fn coastline_command<'a>(alloc: Global) -> Result<Command<'a>, OutOfMemory>
     ensures { IfOk result (λ command. app_of command ≡ coastline_app) }
 {
-    let command = Command::new(alloc, "coastline")
-        .arg(option(alloc, "close-distance", 'c', "close-distance"))?
-        .arg(option(alloc, "max-points", 'm', "max-points"))?
-        .arg(option(alloc, "bbox-overlap", 'b', "bbox-overlap"))?
-        .arg(option(alloc, "polygons", 'p', "output-polygons"))?
-        .arg(long_option(alloc, "output"))?
-        .arg(flag(alloc, "overwrite", 'f', "overwrite"))?
-        .arg(positional(alloc, "file"))?;
-    Ok(command.disable_help_flag(true))
+    let arguments = coastline_arguments(alloc)?;
+    command_with(alloc, "coastline", arguments)
 }
 
 /// What `clap` finds in the words, the first of which is the command's name.

@@ -1,30 +1,40 @@
 //! The words of `export`, as `clap` parses them.
 
-ghost use Rattle.std.specs.Prelude.{◌≡◌, IfOk, map, string_bytes};
-ghost use Rattle.clap.specs.Words.{FailsBy, app_of, fault_of, found_of, matches_of, rows_of};
-ghost use Rattle.osm_words.specs.ExportCommand.{export_app};
+ghost use Rattle.std.specs.Prelude.{◌≡◌, All, IfOk, false, map, string_bytes};
+ghost use Rattle.clap.specs.Words.{FailsBy, app_of, fault_of, found_of, matches_of, rows_of, rule_of};
+ghost use Rattle.osm_words.specs.ExportCommand.{export_app, export_rules};
 
-use crate::arguments::{flag, long_option, option, positional};
-use clap::{ArgMatches, Command, Error};
+use crate::arguments::{command_with, flag, long_option, option, positional};
+use clap::{Arg, ArgMatches, Command, Error};
 use std::alloc::{AllocError as OutOfMemory, Global};
+
+/// Its arguments.
+fn export_arguments<'a>(alloc: Global) -> Result<Vec<Arg<'a>>, OutOfMemory>
+    ensures rules { IfOk result (λ v. map (λ (a : Arg). rule_of a) v.items ≡ export_rules) }
+    ensures local { IfOk result (λ v. All (λ (a : Arg). a.global ≡ false) v.items) }
+{
+    let arguments = vec![in alloc;
+        option(alloc, "format", 'f', "output-format"),
+        option(alloc, "output", 'o', "output"),
+        flag(alloc, "overwrite", 'O', "overwrite"),
+        flag(alloc, "keep-untagged", 'n', "keep-untagged"),
+        option(alloc, "ids", 'u', "add-unique-id"),
+        flag(alloc, "omit-rs", 'r', "omit-rs"),
+        flag(alloc, "show-errors", 'e', "show-errors"),
+        flag(alloc, "stop-on-error", 'E', "stop-on-error"),
+        long_option(alloc, "area-keys"),
+        long_option(alloc, "linear-keys"),
+        positional(alloc, "file"),
+    ]?;
+    Ok(arguments)
+}
 
 /// The command for which `clap` parses.
 fn export_command<'a>(alloc: Global) -> Result<Command<'a>, OutOfMemory>
     ensures { IfOk result (λ command. app_of command ≡ export_app) }
 {
-    let command = Command::new(alloc, "export")
-        .arg(option(alloc, "format", 'f', "output-format"))?
-        .arg(option(alloc, "output", 'o', "output"))?
-        .arg(flag(alloc, "overwrite", 'O', "overwrite"))?
-        .arg(flag(alloc, "keep-untagged", 'n', "keep-untagged"))?
-        .arg(option(alloc, "ids", 'u', "add-unique-id"))?
-        .arg(flag(alloc, "omit-rs", 'r', "omit-rs"))?
-        .arg(flag(alloc, "show-errors", 'e', "show-errors"))?
-        .arg(flag(alloc, "stop-on-error", 'E', "stop-on-error"))?
-        .arg(long_option(alloc, "area-keys"))?
-        .arg(long_option(alloc, "linear-keys"))?
-        .arg(positional(alloc, "file"))?;
-    Ok(command.disable_help_flag(true))
+    let arguments = export_arguments(alloc)?;
+    command_with(alloc, "export", arguments)
 }
 
 /// What `clap` finds in the words, the first of which is the command's name.

@@ -1,22 +1,32 @@
 //! The words of `coast-filter`, as `clap` parses them.
 
-ghost use Rattle.std.specs.Prelude.{◌≡◌, IfOk, map, string_bytes};
-ghost use Rattle.clap.specs.Words.{FailsBy, app_of, fault_of, found_of, matches_of, rows_of};
-ghost use Rattle.osm_words.specs.FilterCommand.{filter_app};
+ghost use Rattle.std.specs.Prelude.{◌≡◌, All, IfOk, false, map, string_bytes};
+ghost use Rattle.clap.specs.Words.{FailsBy, app_of, fault_of, found_of, matches_of, rows_of, rule_of};
+ghost use Rattle.osm_words.specs.FilterCommand.{filter_app, filter_rules};
 
-use crate::arguments::{flag, option, positional};
-use clap::{ArgMatches, Command, Error};
+use crate::arguments::{command_with, flag, option, positional};
+use clap::{Arg, ArgMatches, Command, Error};
 use std::alloc::{AllocError as OutOfMemory, Global};
+
+/// Its arguments.
+fn filter_arguments<'a>(alloc: Global) -> Result<Vec<Arg<'a>>, OutOfMemory>
+    ensures rules { IfOk result (λ v. map (λ (a : Arg). rule_of a) v.items ≡ filter_rules) }
+    ensures local { IfOk result (λ v. All (λ (a : Arg). a.global ≡ false) v.items) }
+{
+    let arguments = vec![in alloc;
+        option(alloc, "output", 'o', "output"),
+        flag(alloc, "overwrite", 'O', "overwrite"),
+        positional(alloc, "file"),
+    ]?;
+    Ok(arguments)
+}
 
 /// The command for which `clap` parses.
 fn filter_command<'a>(alloc: Global) -> Result<Command<'a>, OutOfMemory>
     ensures { IfOk result (λ command. app_of command ≡ filter_app) }
 {
-    let command = Command::new(alloc, "coast-filter")
-        .arg(option(alloc, "output", 'o', "output"))?
-        .arg(flag(alloc, "overwrite", 'O', "overwrite"))?
-        .arg(positional(alloc, "file"))?;
-    Ok(command.disable_help_flag(true))
+    let arguments = filter_arguments(alloc)?;
+    command_with(alloc, "coast-filter", arguments)
 }
 
 /// What `clap` finds in the words, the first of which is the command's name.

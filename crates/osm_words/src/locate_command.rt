@@ -1,26 +1,36 @@
 //! The words of `locate`, as `clap` parses them.
 
-ghost use Rattle.std.specs.Prelude.{◌≡◌, IfOk, map, string_bytes};
-ghost use Rattle.clap.specs.Words.{FailsBy, app_of, fault_of, found_of, matches_of, rows_of};
-ghost use Rattle.osm_words.specs.LocateCommand.{locate_app};
+ghost use Rattle.std.specs.Prelude.{◌≡◌, All, IfOk, false, map, string_bytes};
+ghost use Rattle.clap.specs.Words.{FailsBy, app_of, fault_of, found_of, matches_of, rows_of, rule_of};
+ghost use Rattle.osm_words.specs.LocateCommand.{locate_app, locate_rules};
 
-use crate::arguments::{flag, long_option, option, positional};
-use clap::{ArgMatches, Command, Error};
+use crate::arguments::{command_with, flag, long_option, option, positional};
+use clap::{Arg, ArgMatches, Command, Error};
 use std::alloc::{AllocError as OutOfMemory, Global};
+
+/// Its arguments.
+fn locate_arguments<'a>(alloc: Global) -> Result<Vec<Arg<'a>>, OutOfMemory>
+    ensures rules { IfOk result (λ v. map (λ (a : Arg). rule_of a) v.items ≡ locate_rules) }
+    ensures local { IfOk result (λ v. All (λ (a : Arg). a.global ≡ false) v.items) }
+{
+    let arguments = vec![in alloc;
+        flag(alloc, "keep-untagged", 'n', "keep-untagged"),
+        long_option(alloc, "area-keys"),
+        long_option(alloc, "linear-keys"),
+        option(alloc, "output", 'o', "output"),
+        flag(alloc, "overwrite", 'O', "overwrite"),
+        positional(alloc, "file"),
+        positional(alloc, "points"),
+    ]?;
+    Ok(arguments)
+}
 
 /// The command for which `clap` parses.
 fn locate_command<'a>(alloc: Global) -> Result<Command<'a>, OutOfMemory>
     ensures { IfOk result (λ command. app_of command ≡ locate_app) }
 {
-    let command = Command::new(alloc, "locate")
-        .arg(flag(alloc, "keep-untagged", 'n', "keep-untagged"))?
-        .arg(long_option(alloc, "area-keys"))?
-        .arg(long_option(alloc, "linear-keys"))?
-        .arg(option(alloc, "output", 'o', "output"))?
-        .arg(flag(alloc, "overwrite", 'O', "overwrite"))?
-        .arg(positional(alloc, "file"))?
-        .arg(positional(alloc, "points"))?;
-    Ok(command.disable_help_flag(true))
+    let arguments = locate_arguments(alloc)?;
+    command_with(alloc, "locate", arguments)
 }
 
 /// What `clap` finds in the words, the first of which is the command's name.
