@@ -20,16 +20,13 @@ use Rattle.connected.specs.Linked.{IsAcross, Linked}
 use Rattle.connected.specs.Linked.Linked.{Back, Crosses, Follows, Itself, Through}
 use Rattle.one_ring_list.specs.RingListOf.{IsRingListOf}
 use Rattle.lists.proofs.ListsKit.{and-left, and-right, clash, in-filter, in-map, in-map-out, in-passes, not-not, not-true-out, total, total-same}
-use Rattle.nesting.proofs.NestingKit.{IsClearOfAll, beside, beyond-right, beyond-span, bit-both, clear-two, rise, segment-one}
-use Rattle.one_ring_list.proofs.OneRingList.{walk-of}
-use Rattle.one_ring_list.proofs.RingsOfWalk.{next-within}
-use Rattle.one_ring_list.proofs.Sees.{clear-of, decide}
+use Rattle.nesting.proofs.NestingKit.{IsClearOfAll, beside, beyond-right, beyond-span, bit-both, clear-two, rise, runs_up_as, segment-one}
+use Rattle.one_ring_list.proofs.OneRingListKit.{clear-of, decide, next-within, walk-of}
 use Rattle.plane.proofs.PlaneKit.{right_chain, right_either, right_itself, right_of, same_edge-refl, same_edge-true}
 use Rattle.winding.proofs.WindingKit.{odd-is, right_apart, sided-even, spanning_runs, split_off, to_right}
 use Rattle.connected.proofs.LinkedEdges.{across_there, up-segment}
 use Rattle.connected.proofs.LinkedPolygons.{polygon_linked}
 use Rattle.connected.proofs.NextLeft.{even-out}
-use Rattle.connected.proofs.OddEdges.{runs_as}
 use Rattle.connected.proofs.OneOuterRing.{holds, not-each-by, share, uncrossed}
 use Rattle.connected.proofs.WholeWalks.{in-polygon, same-polygon, sided, sub, successor_in, successor_of, whole_walks}
 
@@ -91,7 +88,7 @@ module _ (es : List Edge) (sd : IsSided es) (rs : List (List Edge)) (l : IsRingL
         n.nearest t (subst (λ z. In z (segments_of es)) (sym x.2) (in-map segment_of es x.0 (sub es sd rs l gs k g i x.0 x.1))) h
 
     e-seg : segment_of e ≡ e
-    e-seg = up-segment es sd e c.up
+    e-seg = up-segment e c.up
 
     -- the two are of one polygon
     module _ (g h : Polygon) (ig : In g gs) (ih : In h gs) (eg : In e (polygon_edges g)) (fh : In f (polygon_edges h)) where
@@ -105,13 +102,13 @@ module _ (es : List Edge) (sd : IsSided es) (rs : List (List Edge)) (l : IsRingL
       left-covered x =
           let ks = polygon_edges g in let ge = sided-even ks G.balanced in
           covers-left e (segment_of f) (segments_of ks) G.plain ge se n.spans fe (none-in g ig)
-          (subst (λ z. In z (segments_of ks)) e-seg (in-map segment_of ks e eg)) (ap (runs_up (segments_of ks)) (sym e-seg) ∙ runs_as ks G e eg ∙ c.up)
+          (subst (λ z. In z (segments_of ks)) e-seg (in-map segment_of ks e eg)) (ap (runs_up (segments_of ks)) (sym e-seg) ∙ runs_up_as ks G e eg ∙ c.up)
           (rise es sd f c.there) (clear-of es sd ks (sub es sd rs l gs k g ig) G.plain ge f c.there x)
 
       right-covered : (In e (polygon_edges h) → ⊥) → covers_edge (segments_of (polygon_edges h)) (segment_of e) ≡ true
       right-covered x =
           let ks = polygon_edges h in let he = sided-even ks H.balanced in
-          let y = covers-right e (segment_of f) (segments_of ks) H.plain he se n.spans fe (none-in h ih) (in-map segment_of ks f fh) (runs_as ks H f fh ∙ c.down)
+          let y = covers-right e (segment_of f) (segments_of ks) H.plain he se n.spans fe (none-in h ih) (in-map segment_of ks f fh) (runs_up_as ks H f fh ∙ c.down)
           (λ j. let z = in-map-out segment_of ks e j in x (subst (λ w. In w ks) (sym (segment-one es sd e z.0 c.here (sub es sd rs l gs k h ih z.0 z.1) (e-seg ∙ z.2))) z.1))
           (subst IsRising e-seg (rise es sd e c.here)) (subst (λ z. IsClearOfAll z (segments_of ks)) e-seg (clear-of es sd ks (sub es sd rs l gs k h ih) H.plain he e c.here x)) in
           ap (covers_edge (segments_of ks)) e-seg ∙ y

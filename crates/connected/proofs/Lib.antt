@@ -1,9 +1,10 @@
-pub mod AcrossPolygons
+mod AcrossPolygons
+pub mod ConnectedKit
 mod Earlier
 mod LinkedEdges
-pub mod LinkedPolygons
+mod LinkedPolygons
 mod NextLeft
 mod OddEdges
 mod OneOuterRing
-pub mod SameEdges
-pub mod WholeWalks
+mod SameEdges
+mod WholeWalks

@@ -21,15 +21,22 @@ use Rattle.winding.specs.Sided.{IsSided}
 use Rattle.connected.specs.Linked.{IsAcross, Linked}
 use Rattle.connected.specs.Linked.Linked.{Back, Crosses, Follows, Through}
 use Rattle.lists.proofs.ListsKit.{and-left, and-right, clash, in-map, in-map-out, total, total-below, total-is}
-use Rattle.nesting.proofs.NestingKit.{Once, last-in, plain-of, rise, walk_path}
-use Rattle.one_ring_list.proofs.OneRingList.{walk-of}
+use Rattle.nesting.proofs.NestingKit.{Once, last-in, plain-of, rise, runs_up_as, walk_path}
+use Rattle.one_ring_list.proofs.OneRingListKit.{walk-of}
 use Rattle.plane.proofs.PlaneKit.{right_of}
-use Rattle.winding.proofs.WindingKit.{anchor_span, ok, ok-either-by, ok_chain, path-ends, rising_in, sided-even, some-anchor}
+use Rattle.winding.proofs.WindingKit.{anchor_span, bit-less, ok, ok-either-by, ok_chain, path-ends, rising_in, sided-even, some-anchor}
 use Rattle.connected.proofs.Earlier.{anchor_first, earlier_is, neighbour_before}
 use Rattle.connected.proofs.NextLeft.{next_left}
-use Rattle.connected.proofs.OddEdges.{runs_as}
 
 -- ---- along a walk
+-- an edge that runs up is its segment
+up-segment-by : (x : Edge) (b : Bool) → b ≡ true → cond b x (reversed x) ≡ x
+up-segment-by x true h = refl
+up-segment-by x false h = absurd (cc h)
+
+pub up-segment : (x : Edge) → is_rising x ≡ true → segment_of x ≡ x
+up-segment x h = up-segment-by x (is_rising x) h
+
 module _ (es : List Edge) where
   follow-linked : (z : Edge) (xs : List Edge) → In z es → Follow (IsSuccessor es) z xs → (x : Edge) → In x xs → Linked es z x
   follow-linked z [] i h x j = absurd j
@@ -61,13 +68,6 @@ module _ (es : List Edge) (sd : IsSided es) where
           let a = total-is (λ (e : Edge). one_at v e.from) w in let b = total-is (λ (e : Edge). one_at v e.to) w in omega arith
 
   -- ---- an edge that runs up, and the nearest edge on its left
-  up-segment-by : (x : Edge) (b : Bool) → b ≡ true → cond b x (reversed x) ≡ x
-  up-segment-by x true h = refl
-  up-segment-by x false h = absurd (cc h)
-
-  pub up-segment : (x : Edge) → is_rising x ≡ true → segment_of x ≡ x
-  up-segment x h = up-segment-by x (is_rising x) h
-
   in-seg : (x : Edge) → In x es → is_rising x ≡ true → In x (segments_of es)
   in-seg x i h = subst (λ w. In w (segments_of es)) (up-segment x h) (in-map segment_of es x i)
 
@@ -81,7 +81,7 @@ module _ (es : List Edge) (sd : IsSided es) where
 
   pub across_there : (x : Edge) → In x es → is_rising x ≡ true → is_in_span x.from x ≡ true → (y : Edge) × IsAcross es x y
   across_there x i u s =
-      let up = ap (runs_up (segments_of es)) (sym (up-segment x u)) ∙ runs_as es sd x i ∙ u in
+      let up = ap (runs_up (segments_of es)) (sym (up-segment x u)) ∙ runs_up_as es sd x i ∙ u in
       let m = next_left (segments_of es) sd.plain (sided-even es sd.balanced) x (in-seg x i u) up s in
       let y = in-map-out segment_of es m.0 m.1 in (
         y.0,
@@ -89,7 +89,7 @@ module _ (es : List Edge) (sd : IsSided es) where
           here = i;
           there = y.1;
           up = u;
-          down = sym (runs_as es sd y.0 y.1) ∙ ap (runs_up (segments_of es)) (sym y.2) ∙ m.2;
+          down = sym (runs_up_as es sd y.0 y.1) ∙ ap (runs_up (segments_of es)) (sym y.2) ∙ m.2;
           next = subst (λ w. IsNextLeft x w (segments_of es)) y.2 m.3;
         },
       )
@@ -124,11 +124,6 @@ module _ (es : List Edge) (sd : IsSided es) where
   -- ---- how many edges come no later
   abbrev place : Edge → ℕ
   place e = total (λ (s : Edge). bit (ok s e)) (segments_of es)
-
-  bit-less : (x y : Bool) → (x ≡ true → y ≡ true) → bit x ≤ bit y
-  bit-less true true h = omega arith
-  bit-less true false h = absurd (cc (h refl))
-  bit-less false y h = omega arith
 
   bit-below : (x y : Bool) → x ≡ false → y ≡ true → bit x < bit y
   bit-below false true h k = omega arith

@@ -12,7 +12,7 @@ use Rattle.connected.specs.Linked.{Linked}
 use Rattle.one_ring_list.specs.RingListOf.{IsRingListOf}
 use Rattle.lists.proofs.ListsKit.{clash, in-filter, in-map, in-map-out, in-passes, into-filter}
 use Rattle.nesting.proofs.NestingKit.{Once, in-edges, in-edges-out, outer_down, ring-plain, segment-one}
-use Rattle.one_ring_list.proofs.RingsOfWalk.{walk-within}
+use Rattle.one_ring_list.proofs.OneRingListKit.{walk-within}
 use Rattle.winding.proofs.WindingKit.{anchor_one}
 use Rattle.connected.proofs.LinkedEdges.{all_linked}
 use Rattle.connected.proofs.OneOuterRing.{ring-in, rings_of, uncrossed}

@@ -1,9 +1,7 @@
 -- What an edge sees of a sided list: an odd number where it is of the list, or where the list covers it.
-use Rattle.std.proofs.Common.{Bool, List, ap, cond, false, not, refl, subst, sym, true, ◌∙◌, ◌≡◌}
+use Rattle.std.proofs.Common.{Bool, List, ap, cond, false, not, sym, true, ◌∙◌, ◌≡◌}
 use Rattle.nesting.specs.Cover.{covers_edge}
-use Rattle.plane.specs.Edge.{Edge, IsRising, is_rising, reversed, segment_of}
-use Rattle.plane.specs.Order.{order}
-use Rattle.plane.specs.Sign.{Minus, Null, Plus, Sign, is_plus, negated}
+use Rattle.plane.specs.Edge.{Edge, is_rising, reversed, segment_of}
 use Rattle.lists.specs.Member.{In}
 use Rattle.winding.specs.ConflictFree.{IsConflictFree}
 use Rattle.winding.specs.EdgeList.{IsEvenAtPoints, crossing_count}
@@ -14,39 +12,19 @@ use Rattle.winding.specs.Ring.{segments_of}
 use Rattle.winding.specs.Sided.{IsSided}
 use Rattle.one_ring_list.specs.Sees.{sees_even}
 use Rattle.lists.proofs.ListsKit.{in-map, not-true-out}
-use Rattle.nesting.proofs.NestingKit.{in-from-end, rise, segment-ends}
-use Rattle.one_ring_list.proofs.Sees.{clear-of, way-from}
-use Rattle.plane.proofs.PlaneKit.{ends_at-from, order-reversed}
-use Rattle.winding.proofs.WindingKit.{runs_from, runs_to, sided-even, sided_direct}
-
-up-down : (s : Sign) → s ≡ Plus → negated s ≡ Plus → ⊥
-up-down Plus h k = cc k
-up-down Null h k = cc h
-up-down Minus h k = cc h
-
-both-up : (e : Edge) → IsRising e → IsRising (reversed e) → ⊥
-both-up e r k = up-down (order e.from e.to) r (sym (order-reversed e.from e.to) ∙ k)
-
-runs-by : (b c : Bool) (e : Edge) → IsRising (cond c e (reversed e)) → cond b (cond c e (reversed e)) (reversed (cond c e (reversed e))) ≡ e → c ≡ is_plus (order e.from e.to) → b ≡ c
-runs-by true true e r q h = refl
-runs-by false false e r q h = refl
-runs-by true false e r q h =
-    let k = subst IsRising q r in let m : is_plus (order e.from e.to) ≡ true = ap is_plus k in absurd (cc (h ∙ m))
-runs-by false true e r q h =
-    let k : IsRising (reversed e) = subst IsRising (sym q) r in absurd (both-up e r k)
+use Rattle.nesting.proofs.NestingKit.{in-from-end, rise, runs_up_as, segment-ends}
+use Rattle.one_ring_list.proofs.OneRingListKit.{clear-of, way-from}
+use Rattle.plane.proofs.PlaneKit.{ends_at-from}
+use Rattle.winding.proofs.WindingKit.{runs_from, runs_to, sided-even}
 
 module _ (es : List Edge) (sd : IsSided es) where
-  -- the odd side directs each edge as it runs
-  pub runs_as : (e : Edge) → In e es → runs_up (segments_of es) (segment_of e) ≡ is_rising e
-  runs_as e i = runs-by (runs_up (segments_of es) (segment_of e)) (is_rising e) e (rise es sd e i) (sided_direct es sd e i) refl
-
   own-by : (b : Bool) (e : Edge) → In (cond b e (reversed e)) (segments_of es) → runs_up (segments_of es) (cond b e (reversed e)) ≡ b → sees_even (segments_of es) e ≡ false
   own-by true e i h = not-true-out (sees_even (segments_of es) e) (sym (runs_from e (segments_of es) sd.plain (sided-even es sd.balanced) i) ∙ h)
   own-by false e i h = sym (runs_to (reversed e) (segments_of es) sd.plain (sided-even es sd.balanced) i) ∙ h
 
   -- an edge of the list sees an odd number
   pub own_odd : (e : Edge) → In e es → sees_even (segments_of es) e ≡ false
-  own_odd e i = own-by (is_rising e) e (in-map segment_of es e i) (runs_as e i)
+  own_odd e i = own-by (is_rising e) e (in-map segment_of es e i) (runs_up_as es sd e i)
 
   module _ (ks : List Edge) (sub : (x : Edge) → In x ks → In x es) (pl : IsConflictFree (segments_of ks)) (even : IsEvenAtPoints (segments_of ks)) where
     -- an edge that is not of the part sees what tells whether the part covers it

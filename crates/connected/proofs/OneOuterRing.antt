@@ -16,8 +16,7 @@ use Rattle.winding.specs.Sided.{IsSided}
 use Rattle.one_ring_list.specs.RingListOf.{IsRingListOf}
 use Rattle.lists.proofs.ListsKit.{clash, in-map, in-map-out, not-true-out}
 use Rattle.nesting.proofs.NestingKit.{IsDirectBy, and-make, clear-of, clear_rings, direct-by, edges-segments, encloser_one, encloses-in, encloses-not, encloses_same, has-in, has-not-by, in-edges, in-edges-out, in_edges, inner-out, is_outer_by, not-both, one-ring-by, outer-out, part, polygon_sided, ring_list_nest, rings-anchors, rings-tell, round-nearest, same-in, same-ring, same_or_clear, through}
-use Rattle.one_ring_list.proofs.Sees.{decide, walk_sees}
-use Rattle.one_ring_list.proofs.Uncrossed.{rings-uncrossed}
+use Rattle.one_ring_list.proofs.OneRingListKit.{decide, rings-uncrossed, walk_sees}
 use Rattle.plane.proofs.PlaneKit.{clear_back}
 use Rattle.winding.proofs.WindingKit.{anchor_span, rising_in, sided-even, some_odd}
 use Rattle.connected.proofs.OddEdges.{foreign_sees, own_odd}

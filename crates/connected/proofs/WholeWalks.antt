@@ -9,8 +9,7 @@ use Rattle.winding.specs.Sided.{IsSided}
 use Rattle.one_ring_list.specs.RingListOf.{IsRingListOf, LiesInWalk}
 use Rattle.lists.proofs.ListsKit.{in-left, in-map, in-map-out, pairs-right}
 use Rattle.nesting.proofs.NestingKit.{Once, follow-weaker, in-edges, in-edges-out, last-in, next_alone, next_there, once-apart, polygon_sided, same-back, same-in, same-once, sided-once}
-use Rattle.one_ring_list.proofs.OneRingList.{first-of, walk-of}
-use Rattle.one_ring_list.proofs.RingsOfWalk.{next-within}
+use Rattle.one_ring_list.proofs.OneRingListKit.{first-of, next-within, walk-of}
 use Rattle.connected.proofs.OneOuterRing.{one_outer_ring, polygon-in, ring-in, rings_of, uncrossed}
 
 -- polygons that have an edge in common are one

@@ -6,7 +6,7 @@
 
 ghost use Rattle.connected.specs.Laws.{WalkHasOneOuterRing, PolygonHasWholeWalks, PolygonHasSuccessors, PolygonIsRingListOf, LeftNeighbourExists, LeftNeighbourIsEarlier, PolygonIsLinked, LinkedIsOnePolygon, LinkedIsOfEdges};
 
-/// Polygons that have an edge each of one walk have one outer ring. So the polygon that has one edge of a walk has all, the
+/// Polygons that have an edge each of one walk have one outer ring. So the polygon that has one edge of a walk has all. The
 /// successor of an edge of a polygon is its successor in the polygon, and the rings of a polygon are the ring list of its
 /// edges.
 pub fn polygon_has_whole_walks()
@@ -23,7 +23,7 @@ pub fn left_neighbour_is_earlier()
 {}
 
 /// Steps from edges to their successors, and across from edges that run up to the nearest edges on their left, join any two
-/// edges of a polygon; in the whole list they join no edges of two polygons.
+/// edges of a polygon. In the whole list they join no edges of two polygons.
 pub fn polygon_is_linked()
     ensures within { PolygonIsLinked }
     ensures one { LinkedIsOnePolygon }

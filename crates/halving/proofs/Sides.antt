@@ -3,9 +3,9 @@ use Rattle.std.proofs.Common.{Bool, ap, arith, eqb, eqb-true, false, inl, inr, n
 use lib.IntN.{◌-ℤ◌}
 use Rattle.plane.specs.Edge.{Edge}
 use Rattle.plane.specs.RayCrossing.{IsOff, down_by, is_off, off_by, up_by}
-use Rattle.plane.specs.Sign.{Minus, Null, Plus, Sign, is_minus, is_null, is_plus, negated, sign}
+use Rattle.plane.specs.Sign.{Minus, Null, Plus, Sign, is_minus, is_null, is_plus, sign}
 use Rattle.plane.specs.Vector.{IsDirection, Vector, cross, dot, from_to}
-use Rattle.plane.proofs.PlaneKit.{crossings_seen, cross-negated, cross2, frame-agree, frame-dot-agree, from_to2, lift2, dot-swap}
+use Rattle.plane.proofs.PlaneKit.{cross2, crossings_seen, frame-agree, frame-dot-agree, from_to2, lift2, off-turned}
 use Rattle.plane.proofs.SignKit.{lift, same, ◌⊞◌, ◌⊟◌, agree, agree-sum, all, all-out, all2, all2-out, all4, all4-out, imp, imp-out, same_bool, same_bool-true, times, null-not-plus, minus-not-plus, neither-plus}
 use Rattle.halving.specs.Half.{IsPart, IsPartEnd}
 use Rattle.halving.specs.Line.{Line, has_part, side}
@@ -84,14 +84,6 @@ off-level u a b d s n ha hb =
     let c = imp-out _ _ (all2-out level_1 refl s (sign (cross a b))) n in
     let e = all2-out (level_2 s (sign (cross a b)) (sign (dot u a))) (all-out (λ x. all2 (level_2 s (sign (cross a b)) x)) c (sign (dot u a))) (sign (dot u b)) (sign (dot a b)) in
     imp-out _ _ (imp-out _ _ e (rw (ha, hb) at f)) (rw (ha, hb) at g)
-
-off-negated : (c s : Sign) → off_by (negated c) s ≡ off_by c s
-off-negated Plus s = refl
-off-negated Minus s = refl
-off-negated Null s = refl
-
-pub off-turned : (a b : Vector) → off_by (sign (cross b a)) (sign (dot b a)) ≡ off_by (sign (cross a b)) (sign (dot a b))
-off-turned a b = ap (λ c. off_by c (sign (dot b a))) (cross-negated a b) ∙ ap (λ z. off_by (negated (sign (cross a b))) (sign z)) (dot-swap a b) ∙ off-negated (sign (cross a b)) (sign (dot a b))
 
 -- ---- off a part as off its edge: a on the kept side, b on the other, z between them on the line. x, y, w: where they are along the line
 abbrev cut_3 : Sign → Sign → Sign → Sign → Sign → Sign → Sign → Sign → Bool

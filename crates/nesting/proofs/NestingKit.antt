@@ -6,14 +6,14 @@ pub use Rattle.nesting.proofs.LeftNeighbours.{round-nearest}
 pub use Rattle.nesting.proofs.Nearest.{beyond-order, beyond-right, beyond-span, bit-both, through}
 pub use Rattle.nesting.proofs.Nests.{and-make, clear-of, clear_rings, encloses-in, encloses-not, encloses_same, has-in, has-not-by, in-edges, in-has, in_edges, not-both, odd-bit, part, same-ring, total-edges}
 pub use Rattle.nesting.proofs.OuterTests.{IsDirectBy}
-pub use Rattle.nesting.proofs.Parts.{Once, differ, once-apart, plain-of, same-back, same-in, same-once, sided-once, sided_same}
+pub use Rattle.nesting.proofs.Parts.{Once, differ, once-apart, plain-of, reversed-by, same-back, same-in, same-once, same-winding, sided-once, sided_same}
 pub use Rattle.nesting.proofs.Pieces.{append-assoc, last-in, piece_walk, pieces_same, ring_list}
-pub use Rattle.nesting.proofs.RingLists.{edges-segments, nest-plain, outer_down, pairs-of, ring_list_nest}
-pub use Rattle.nesting.proofs.Rotations.{ring_rotated, rotated-length, rotated-total}
-pub use Rattle.nesting.proofs.ScaledRings.{polygons_cover_at_fractions}
+pub use Rattle.nesting.proofs.RingLists.{edges-segments, nest-plain, outer_down, pairs-of, ring_list_nest, runs_up_as}
+pub use Rattle.nesting.proofs.Rotations.{ring-turn, ring_rotated, rotated-length, rotated-total}
+pub use Rattle.nesting.proofs.ScaledRings.{anchor-scaled, polygons_cover_at_fractions, ring-scaled}
 pub use Rattle.nesting.proofs.SidedPolygons.{polygon_sided}
 pub use Rattle.nesting.proofs.Stacks.{stack_cut_all, stack_rings, walk_path}
 pub use Rattle.nesting.proofs.Stretches.{Keeps, append-nil, follow-join, follow-left, follow-right, follow-weaker, last-append, stretch_same}
-pub use Rattle.nesting.proofs.Successors.{F-none, clear-two, e-way, f-way, is_some, next_leaves, next_one, no-loop-segments, none-between, not-member, rise, sector-either, sector-first, sector-own, segment-back, segment-ends, segment-one, some-signs, sym-differs, unraised, way-segment}
+pub use Rattle.nesting.proofs.Successors.{F-none, clear-two, e-way, f-way, is_some, next_leaves, next_one, no-loop-segments, none-between, not-member, rise, sector-either, sector-first, sector-own, segment-back, segment-differs, segment-ends, segment-one, some-signs, sym-differs, unraised, way-segment}
 pub use Rattle.nesting.proofs.Turns.{apart, next_alone, next_there, one-eqb, sector-chain, sector-one, sector-rest, zero-of}
 pub use Rattle.nesting.proofs.Walks.{take, walks_there}

@@ -124,14 +124,14 @@ once-segments (x ∷ xs) r p = (
 scaled-sum : (k : ℤ) (f : Edge → ℕ) (xs ys : List Edge) → HasSameEdges xs ys → total f (scaled_edges k xs) ≡ total f (scaled_edges k ys)
 scaled-sum k f xs ys s = total-map f (scaled_edge k) xs ∙ same-edges-total xs ys s (λ e. f (scaled_edge k e)) ∙ sym (total-map f (scaled_edge k) ys)
 
-same-winding : (k : ℤ) (p : Vector) (xs ys : List Edge) → HasSameEdges xs ys → winding_number east p (scaled_edges k xs) ≡ winding_number east p (scaled_edges k ys)
+pub same-winding : (k : ℤ) (p : Vector) (xs ys : List Edge) → HasSameEdges xs ys → winding_number east p (scaled_edges k xs) ≡ winding_number east p (scaled_edges k ys)
 same-winding k p xs ys s =
     let f = λ (e : Edge). up_crossing east (from_to p e.from) (from_to p e.to) in let g = λ (e : Edge). down_crossing east (from_to p e.from) (from_to p e.to) in
     let a : up_count east p (scaled_edges k xs) ≡ up_count east p (scaled_edges k ys) = sym (total-is f (scaled_edges k xs)) ∙ scaled-sum k f xs ys s ∙ total-is f (scaled_edges k ys) in
     let b : down_count east p (scaled_edges k xs) ≡ down_count east p (scaled_edges k ys) = sym (total-is g (scaled_edges k xs)) ∙ scaled-sum k g xs ys s ∙ total-is g (scaled_edges k ys) in
     ap (λ n. pos n -ℤ pos (down_count east p (scaled_edges k xs))) a ∙ ap (λ n. pos (up_count east p (scaled_edges k ys)) -ℤ pos n) b
 
-reversed-by : (b : Bool) (x : Edge) → IsRising (cond b x (reversed x)) → segment_of (reversed x) ≡ cond b x (reversed x)
+pub reversed-by : (b : Bool) (x : Edge) → IsRising (cond b x (reversed x)) → segment_of (reversed x) ≡ cond b x (reversed x)
 reversed-by true x r = segment-direct-by false x r
 reversed-by false x r = segment-direct-by true (reversed x) r
 

@@ -18,6 +18,7 @@ use Rattle.plane.proofs.PlaneKit.{order-reversed}
 use Rattle.winding.proofs.WindingKit.{some-anchor, rising_in, ring-even, sided_direct}
 use Rattle.lists.proofs.ListsKit.{in-all, in-map, in-map-out}
 use Rattle.std.proofs.lemmas.List.{map-append}
+use Rattle.winding.specs.Sided.{IsSided}
 
 pub edges-segments : (rs : List (List Edge)) → edges_of (map segments_of rs) ≡ segments_of (edges_of rs)
 edges-segments [] = refl
@@ -46,6 +47,20 @@ up-down Minus h k = cc h
 
 both-up : (e : Edge) → IsRising e → IsRising (reversed e) → ⊥
 both-up e r k = up-down (order e.from e.to) r (sym (order-reversed e.from e.to) ∙ k)
+
+runs-by : (b c : Bool) (e : Edge) → IsRising (cond c e (reversed e)) → cond b (cond c e (reversed e)) (reversed (cond c e (reversed e))) ≡ e → c ≡ is_plus (order e.from e.to) → b ≡ c
+runs-by true true e r q h = refl
+runs-by false false e r q h = refl
+runs-by true false e r q h =
+    let k = subst IsRising q r in let m : is_plus (order e.from e.to) ≡ true = ap is_plus k in absurd (cc (h ∙ m))
+runs-by false true e r q h =
+    let k : IsRising (reversed e) = subst IsRising (sym q) r in
+    absurd (both-up e r k)
+
+-- the odd side directs each edge of a sided list as it runs
+pub runs_up_as : (es : List Edge) → IsSided es → (e : Edge) → In e es → runs_up (segments_of es) (segment_of e) ≡ is_plus (order e.from e.to)
+runs_up_as es sd e i =
+    runs-by (runs_up (segments_of es) (segment_of e)) (is_plus (order e.from e.to)) e (rising_in (segments_of es) (segment_of e) sd.plain (in-map segment_of es e i)) (sided_direct es sd e i) refl
 
 module _ (rs : List (List Edge)) (l : IsRingList rs) where
   abbrev pub nest : List (List Edge)
@@ -88,18 +103,8 @@ module _ (rs : List (List Edge)) (l : IsRingList rs) where
       let a = first-edge r.0 (l.long r.0 r.1) (subst IsConflictFree r.2 p) in
       (a.0, subst (λ u. IsAnchor a.0 u) (sym r.2) a.1)
 
-  runs-by : (b c : Bool) (e : Edge) → IsRising (cond c e (reversed e)) → cond b (cond c e (reversed e)) (reversed (cond c e (reversed e))) ≡ e → c ≡ is_plus (order e.from e.to) → b ≡ c
-  runs-by true true e r q h = refl
-  runs-by false false e r q h = refl
-  runs-by true false e r q h =
-      let k = subst IsRising q r in let m : is_plus (order e.from e.to) ≡ true = ap is_plus k in absurd (cc (h ∙ m))
-  runs-by false true e r q h =
-      let k : IsRising (reversed e) = subst IsRising (sym q) r in
-      absurd (both-up e r k)
-
   pub runs_as : (e : Edge) → In e (edges_of rs) → runs_up (segments_of (edges_of rs)) (segment_of e) ≡ is_plus (order e.from e.to)
-  runs_as e i =
-      runs-by (runs_up (segments_of (edges_of rs)) (segment_of e)) (is_plus (order e.from e.to)) e (rising_in (segments_of (edges_of rs)) (segment_of e) l.sided.plain (in-map segment_of (edges_of rs) e i)) (sided_direct (edges_of rs) l.sided e i) refl
+  runs_as e i = runs_up_as (edges_of rs) l.sided e i
 
   -- a ring is outer where its anchor runs down
   pub outer_down : (e : Edge) → In e (edges_of rs) → is_outer nest (segment_of e) ≡ not (is_plus (order e.from e.to))

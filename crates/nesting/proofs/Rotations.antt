@@ -21,7 +21,7 @@ apart-back-by : (p q : Vector) → same_point p q ≡ false → (b : Bool) → s
 apart-back-by p q n false h = refl
 apart-back-by p q n true h = absurd (cc (sym (same_point-refl p) ∙ ap (λ w. same_point p w) (sym (same_point-true q p h)) ∙ n))
 
-ring-turn : (a b : List Edge) → IsRing (a ++ b) → IsRing (b ++ a)
+pub ring-turn : (a b : List Edge) → IsRing (a ++ b) → IsRing (b ++ a)
 ring-turn a b r =
     let k = path-split r.start r.start a b r.path in
     record {

@@ -38,7 +38,7 @@ module _ (k : ℤ) (hk : sign k ≡ Plus) where
   path-scaled a [] b h = ap (scaled_point k) h
   path-scaled a (e ∷ es) b h = (ap (scaled_point k) h.0, path-scaled e.to es b h.1)
 
-  ring-scaled : (r : List Edge) → IsRing r → IsRing (scaled_edges k r)
+  pub ring-scaled : (r : List Edge) → IsRing r → IsRing (scaled_edges k r)
   ring-scaled r g = record {
     start = scaled_point k g.start;
     path = path-scaled g.start r g.start g.path;
@@ -115,7 +115,7 @@ module _ (k : ℤ) (hk : sign k ≡ Plus) where
   }
 
   -- ---- the anchor of a ring
-  anchor-scaled : (s : Edge) (es : List Edge) → IsAnchor s es → IsAnchor (scaled_edge k s) (scaled_edges k es)
+  pub anchor-scaled : (s : Edge) (es : List Edge) → IsAnchor s es → IsAnchor (scaled_edge k s) (scaled_edges k es)
   anchor-scaled s es a = record {
     member = in-map (scaled_edge k) es s a.member;
     least = λ t i o. let r = in-map-out (scaled_edge k) es t i in a.least r.0 r.1 (sym (order-scaled k hk s.from r.0.from) ∙ subst (λ (w : Edge). order (scaled_point k s.from) w.from ≡ Minus) r.2 o);

@@ -3,7 +3,7 @@ use Rattle.std.proofs.Common.{List, [], ap, inl, inr, refl, subst, sym, ℕ, ◌
 use Rattle.std.specs.Ordering.{ordering_reverse}
 use Rattle.std.specs.declared.cmp.Ordering.{Ordering}
 use Rattle.std.specs.declared.cmp.Ordering.TheVariants.{Equal, Greater, Less}
-use Rattle.one_ring_list.proofs.CyclicLists.{Turned, pairs-turned, turned-through}
+use Rattle.one_ring_list.proofs.OneRingListKit.{Turned, pairs-turned, turned-through}
 use Rattle.plane.specs.Edge as plane
 use Rattle.plane.specs.Vector.{same_point}
 use Rattle.std.proofs.lemmas.Bool.{false_from_ne_true}

@@ -1,7 +1,7 @@
 -- The rings of a list of exact edges are the one ring list of the plane, and so one list themselves.
 use Rattle.std.proofs.Common.{List, [], ap, map, refl, subst, sym, ℕ, ◌++◌, ◌∙◌, ◌∷◌, ◌≡◌, ◌⊎◌, inl, inr}
 use Rattle.nesting.proofs.NestingKit.{pairs-unmap, sided-once, pairs-of}
-use Rattle.one_ring_list.proofs.OneRingList.{Found, found}
+use Rattle.one_ring_list.proofs.OneRingListKit.{Found, found}
 use Rattle.plane.specs.Edge as plane
 use Rattle.lists.specs.Member.{In}
 use Rattle.lists.proofs.ListsKit.{in-either, in-left, in-map, in-map-out, in-right}

@@ -8,7 +8,7 @@ use Rattle.nesting.specs.Polygon.{IsPolygon}
 use Rattle.nesting.specs.RingList.{IsRingList}
 use Rattle.nesting.proofs.NestingKit.{encloser_one, inner-out, outer-out, ring-plain, same_or_clear, pairs-of}
 use Rattle.nesting.specs.Cover.{AreClear}
-use Rattle.one_ring_list.proofs.SameNests.{encloses-same, inner-same, outer-same}
+use Rattle.one_ring_list.proofs.OneRingListKit.{encloses-same, inner-same, outer-same}
 use Rattle.plane.specs.Edge as plane
 use Rattle.plane.specs.Edge.{segment_of}
 use Rattle.plane.proofs.PlaneKit.{self_conflicts}

@@ -12,7 +12,7 @@ use Rattle.osm_input.specs.Lines.{lines_begun}
 use Rattle.osm_input.specs.Laws.{LinesCount}
 use Rattle.osm_input.specs.Reading.{IsReadAs, lines_counted}
 use Rattle.osm_input.specs.Text.{IsTextAs}
-use Rattle.one_ring_list.proofs.CyclicLists.{Overlap, overlap}
+use Rattle.one_ring_list.proofs.OneRingListKit.{Overlap, overlap}
 
 some-one : {X : Type 0} (x y : X) → Some x ≡ Some y → x ≡ y
 some-one x y h = cc

@@ -30,7 +30,7 @@ use Rattle.written_inputs.specs.Laws.{ReadObjectsCanBeWritten}
 use Rattle.osm_objects.proofs.ApartLemmas.{coast_ways-distinct}
 use Rattle.job_export.specs.Laws.{ExportExists}
 use Rattle.osm_cli.specs.Whole.{IsWhole}
-use Rattle.one_ring_list.proofs.CyclicLists.{Overlap, overlap}
+use Rattle.one_ring_list.proofs.OneRingListKit.{Overlap, overlap}
 use Rattle.one_output.proofs.SampleOne.{sample_there}
 
 append-nil : (xs : List (List ℕ)) → xs ++ [] ≡ xs

@@ -1,9 +1,11 @@
+mod ByComputing
 mod Crescents
 mod Cyclic
-pub mod CyclicLists
-pub mod OneRingList
+mod CyclicLists
+mod OneRingList
+pub mod OneRingListKit
 mod Returns
-pub mod RingsOfWalk
-pub mod SameNests
-pub mod Sees
-pub mod Uncrossed
+mod RingsOfWalk
+mod SameNests
+mod Sees
+mod Uncrossed

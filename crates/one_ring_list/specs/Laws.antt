@@ -61,7 +61,7 @@ RingsDoNotCross =
     (es : List Edge) → IsSided es → (rs : List (List Edge)) → IsRingListOf es rs → IsRingList rs
 
 -- but rings that hold the same edges and don't cross may be others, since a ring may pass from one
--- walk to another: two crescents that share both tips are an outline with a hole as well
+-- walk to another. Two crescents that share both tips are an outline with a hole as well
 abbrev pub WalksAreNeeded : Type 0
 WalksAreNeeded =
     (rs : List (List Edge)) × (qs : List (List Edge)) × IsRingList rs × IsRingList qs

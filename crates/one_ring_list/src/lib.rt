@@ -8,14 +8,14 @@
 ghost use Rattle.one_ring_list.specs.Laws.{WalkSeesAlike, ClosedPartsShareOnePoint, PointsDoNotAlternate, RingsOfWalksAreOne, RingListIsOne, CutsAreRingListOf, CutsAreOne, KindsAreOne, DirectEnclosureIsOne, RingsDoNotCross, WalksAreNeeded};
 
 /// All edges of a walk see a list alike, and two closed parts of a walk share no point but the one
-/// where they are parted: a walk doesn't meet two points by turns.
+/// where they are parted. So a walk doesn't meet two points by turns.
 pub fn closed_parts_share_one_point()
     ensures sees { WalkSeesAlike }
     ensures one_point { ClosedPartsShareOnePoint }
     ensures no_turns { PointsDoNotAlternate }
 {}
 
-/// Two rings of walks that have an edge in common are one, so a sided list has one ring list alone,
+/// Two rings of walks that have an edge in common are one. So a sided list has one ring list alone,
 /// up to the order of the rings and where each begins. No two of its rings cross. That each lies
 /// within one walk can't be left out.
 pub fn ring_list_is_one()

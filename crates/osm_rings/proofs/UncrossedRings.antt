@@ -7,7 +7,7 @@ use Rattle.nesting.specs.RingList.{IsRingList}
 use Rattle.nesting.specs.Walk.{HasSameEdges}
 use Rattle.nesting.proofs.NestingKit.{total-edges}
 use Rattle.one_ring_list.specs.RingListOf.{IsRingListOf, LiesInWalk}
-use Rattle.one_ring_list.proofs.Uncrossed.{rings-uncrossed}
+use Rattle.one_ring_list.proofs.OneRingListKit.{rings-uncrossed}
 use Rattle.plane.specs.Edge as plane
 use Rattle.plane.specs.Bit.{bit}
 use Rattle.lists.specs.Member.{In}

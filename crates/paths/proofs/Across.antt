@@ -14,8 +14,8 @@ use Rattle.winding.specs.Ring.{segments_of}
 use Rattle.winding.specs.ScaledEdges.{scaled_edges}
 use Rattle.winding.specs.Sided.{IsSided}
 use Rattle.lists.proofs.ListsKit.{in-map}
-use Rattle.nesting.proofs.NestingKit.{clear-two}
-use Rattle.plane.proofs.PlaneKit.{clear_differs, right_chain, right_either, right_of, same_edge-refl, same_edge-true, step_of, tall-by}
+use Rattle.nesting.proofs.NestingKit.{segment-differs, sym-differs}
+use Rattle.plane.proofs.PlaneKit.{right_chain, right_either, right_of, same_edge-refl, same_edge-true, step_of, tall-by}
 use Rattle.plane.proofs.SignKit.{agree, is_plus-true, lift, null-first, plus-null, plus-times, same, same-out, ◌⊞◌, ◌⊠◌}
 use Rattle.std.proofs.lemmas.Bool.{and_from, and_parts}
 use Rattle.winding.proofs.WindingKit.{clear_pair, right_apart, rising_in}
@@ -23,6 +23,7 @@ use Rattle.paths.proofs.Builders.{are-beside, later-beside, later-turned, near-u
 use Rattle.paths.proofs.FeetAbove.{later-between}
 use Rattle.paths.proofs.Later.{IsLeftNear, IsNearApart, Later, near}
 use Rattle.paths.proofs.Places.{IsJustAbove, IsPlace, above-sum, left-apart, left-from, level-apart, order-own, order-turned, place-of, place-side, place-twice, plus, right-apart, right-to, side, side-sum, spot, tallness}
+use Rattle.connected.proofs.ConnectedKit.{up-segment}
 
 pub times-swap : (a b : ℤ) → a *ℤ b ≡ b *ℤ a
 times-swap a b = same (lift a ⊠ lift b) (lift b ⊠ lift a) (omega arith)
@@ -41,13 +42,6 @@ pub other-right : (p : Vector) (es : List Edge) → IsConflictFree es → (f g :
 other-right p es pl f g i j n sf sg h =
     let c = clear_pair g f es pl j i n in
     right_either p g f (right_apart p g f es pl j i c sf sg) ∙ ap not h
-
-turn-differ-by : (s t : Edge) → same_edge s t ≡ false → (b : Bool) → same_edge t s ≡ b → b ≡ false
-turn-differ-by s t h false e = refl
-turn-differ-by s t h true e = let k = ap (λ w. same_edge w t) (same_edge-true t s e) in let l = same_edge-refl t in absurd (cc (sym l ∙ k ∙ h))
-
-pub turn-differ : (s t : Edge) → same_edge s t ≡ false → same_edge t s ≡ false
-turn-differ s t h = turn-differ-by s t h (same_edge t s) refl
 
 -- f and a span the height of p, a is right of f, and no edge is between
 pub record ArePair (p : Vector) (es : List Edge) (f a : Edge) : Type 0 where
@@ -108,7 +102,7 @@ module _ (p : Vector) (es : List Edge) (pl : IsConflictFree es) (f a : Edge) (c 
   where-by : (g : Edge) → In g es → is_in_span p g ≡ true → same_edge f g ≡ false → same_edge a g ≡ false → (b : Bool) → right_of p f g ≡ b → Where g
   where-by g j s nf na true h = beyond-by g na h (c.next g j (and_from (is_in_span p g) (right_of p f g) s h))
   where-by g j s nf na false h =
-      let l = other-right p es pl f g c.jf j (turn-differ f g nf) c.sf s h in
+      let l = other-right p es pl f g c.jf j (sym-differs g f nf) c.sf s h in
       inr (right-minus p f g l, right-minus p a g (right_chain p g f a s c.sf sa l ra))
 
   mid-side : (g : Edge) (s t : Sign) → order_above p f g ≡ s → order_above p a g ≡ t → agree s t (side (m +ℤ m) Xm Um g) ≡ true
@@ -173,17 +167,9 @@ module _ (p : Vector) (es : List Edge) (pl : IsConflictFree es) (f a : Edge) (c 
   pub f-apart : (g : Edge) → In g es → same_edge f g ≡ false → IsNearApart Xm Um (plus Xf Xf) (plus Uf Uf) (scaled_edge (m +ℤ m) g)
   f-apart g j n = f-by g j n (is_in_span p g) refl
 
--- ---- edges of a sided list
-raised-by : (b : Bool) (e : Edge) → b ≡ true → cond b e (reversed e) ≡ e
-raised-by true e h = refl
-raised-by false e h = absurd (cc h)
-
 lowered-by : (b : Bool) (e : Edge) → b ≡ false → cond b e (reversed e) ≡ reversed e
 lowered-by false e h = refl
 lowered-by true e h = absurd (cc h)
-
-pub segment-up : (e : Edge) → is_rising e ≡ true → segment_of e ≡ e
-segment-up e h = raised-by (is_rising e) e h
 
 pub segment-down : (e : Edge) → is_rising e ≡ false → segment_of e ≡ reversed e
 segment-down e h = lowered-by (is_rising e) e h
@@ -201,14 +187,11 @@ module _ (es : List Edge) (sd : IsSided es) (e f : Edge) (i : In e es) (j : In f
   pair : ArePair e.from up-list s e
   pair = record {
     jf = in-map segment_of es f j;
-    ja = subst (λ w. In w up-list) (segment-up e up) (in-map segment_of es e i);
+    ja = subst (λ w. In w up-list) (up-segment e up) (in-map segment_of es e i);
     sf = n.spans;
     right = n.right;
     next = n.nearest;
   }
-
-  differs : (x g : Edge) → In x es → In g es → same_edge x g ≡ false → same_edge (segment_of x) (segment_of g) ≡ false
-  differs x g ix ig d = clear_differs (segment_of x) (segment_of g) (rising_in up-list (segment_of x) sd.plain (in-map segment_of es x ix)) (clear-two es sd x g ix ig d)
 
   abbrev M : ℤ
   M = m e.from up-list sd.plain s e pair +ℤ m e.from up-list sd.plain s e pair
@@ -240,7 +223,7 @@ module _ (es : List Edge) (sd : IsSided es) (e f : Edge) (i : In e es) (j : In f
       (later-between e.from e M big Ya Va (a-foot e.from up-list sd.plain s e pair) (rising_in up-list e sd.plain pair.ja) (sa e.from up-list sd.plain s e pair))
       (left-from M X U e (mid-left-a e.from up-list sd.plain s e pair))
       (λ g k d. near-unturned X U Ya Va M g
-      (a-apart e.from up-list sd.plain s e pair (segment_of g) (in-map segment_of es g k) (subst (λ w. same_edge w (segment_of g) ≡ false) (segment-up e up) (differs e g i k d))))
+      (a-apart e.from up-list sd.plain s e pair (segment_of g) (in-map segment_of es g k) (subst (λ w. same_edge w (segment_of g) ≡ false) (up-segment e up) (segment-differs es sd e g i k d))))
 
   f-beside : Later (λ k. IsLeftBeside (scaled_edges k (scaled_edges M es)) (scaled_edge k (scaled_edge M f)) (near k X U))
   f-beside =
@@ -249,7 +232,7 @@ module _ (es : List Edge) (sd : IsSided es) (e f : Edge) (i : In e es) (j : In f
       (subst (λ (w : Edge). Later (λ k. IsBetween (scaled_point k (scaled_point M w.from)) (scaled_point k (scaled_point M w.to)) (near k Yf Vf))) q
       (later-between e.from s M big Yf Vf (f-foot e.from up-list sd.plain s e pair) (rising_in up-list s sd.plain pair.jf) n.spans)))
       (subst (λ (w : Edge). IsLeftNear (from_to w.from w.to) X U (scaled_point M w.to)) q (right-to M X U s (mid-right-a e.from up-list sd.plain s e pair)))
-      (λ g k d. near-unturned X U Yf Vf M g (f-apart e.from up-list sd.plain s e pair (segment_of g) (in-map segment_of es g k) (differs f g j k d)))
+      (λ g k d. near-unturned X U Yf Vf M g (f-apart e.from up-list sd.plain s e pair (segment_of g) (in-map segment_of es g k) (segment-differs es sd f g j k d)))
 
   pub across : AreBeside es e f
   across = are-beside es e f M big X U e-beside f-beside

@@ -2,10 +2,10 @@
 use Rattle.std.proofs.Common.{All, Bool, List, ap, arith, false, inl, inr, not, pos, refl, subst, sym, true, ℕ, ℤ, ◌*ℤ◌, ◌+◌, ◌+ℤ◌, ◌-ℤ◌, ◌<◌, ◌∙◌, ◌≡◌, ◌⊎◌}
 use borrow.Author.Differences.{ints}
 use Rattle.lists.specs.Member.{In}
-use Rattle.paths.specs.Beside.{IsLeftBeside}
+use Rattle.paths.specs.Beside.{IsLeftBeside, WindsMore, times_in}
 use Rattle.paths.specs.Inside.{IsInside, IsOutside}
-use Rattle.paths.specs.Line.{IsApart, IsFree}
-use Rattle.paths.specs.Near.{opposite}
+use Rattle.paths.specs.Line.{IsApart, IsFreeStep}
+use Rattle.paths.specs.Near.{opposite_of}
 use Rattle.plane.specs.Bit.{bit}
 use Rattle.plane.specs.Edge.{Edge, same_edge}
 use Rattle.plane.specs.FreeSegment.{IsBetween}
@@ -13,20 +13,20 @@ use Rattle.plane.specs.RayCrossing.{IsOffEdge, down_by, up_by}
 use Rattle.plane.specs.Scale.{scaled_edge, scaled_point}
 use Rattle.plane.specs.Sign.{Minus, Null, Plus, Sign, is_null, negated, sign}
 use Rattle.plane.specs.Vector.{IsDirection, Vector, cross, dot, east, from_to, orient}
-use Rattle.winding.specs.EdgeList.{down_count, up_count, winding_number}
+use Rattle.winding.specs.EdgeList.{IsBalanced, down_count, up_count, winding_number}
 use Rattle.winding.specs.ScaledEdges.{scaled_edges}
 use Rattle.winding.specs.Sided.{IsSided}
-use Rattle.lists.proofs.ListsKit.{all-in, in-map, in-map-out, total, total-+, total-below, total-is, total-same}
+use Rattle.lists.proofs.ListsKit.{all-in, in-map, in-map-out, total, total-+, total-below, total-is, total-map, total-same, total_none}
 use Rattle.plane.proofs.PlaneKit.{View, cross-here, cross-negated, cross-self, cross2, dot-there_back, down_seen, east-direction, edge-scaled, frame-agree, from_to-scaled, from_to2, lift2, off_by-set, same_edge-refl, same_edge-true, same_vector, side-there, up_seen, view_at}
 use Rattle.plane.proofs.SignKit.{agree, agree-sum, all, all-out, all2-out, imp, imp-out, lift, null-zero, plus-times, same, same-out, same_sign, same_sign-true, sign-reversed, times, ◌⊞◌, ◌⊟◌, ◌⊠◌}
 use Rattle.winding.proofs.WindingKit.{all-off-back, balanced-scaled, sided-scaled, winding-scaled, winding_independent}
 use Rattle.paths.proofs.Across.{twice-plus}
 use Rattle.paths.proofs.Feet.{foot-free, near-none, none}
-use Rattle.paths.proofs.FeetAbove.{first-times}
+use Rattle.paths.proofs.FeetAbove.{below-by, first-times}
 use Rattle.paths.proofs.Inside.{inside-apart}
 use Rattle.paths.proofs.Later.{Later, apart-near, later-all, later-apart, later-both, later-some, later-then, near}
 use Rattle.paths.proofs.Places.{plus}
-use Rattle.paths.proofs.Steps.{apart-back, apart-off, cross-direction}
+use Rattle.paths.proofs.Steps.{apart-back, apart-off, cross-direction, off-apart}
 use Rattle.paths.proofs.Winds.{down-alike, free-off, step-winds, up-alike}
 
 -- ---- a step through the point r, from the side of r opposite to p to the side of p, as the ends of an edge see it
@@ -40,12 +40,9 @@ there-by k r p x =
 abbrev less : ℤ → Vector → Vector → Vector
 less k a w = record { x = k *ℤ a.x -ℤ w.x; y = k *ℤ a.y -ℤ w.y }
 
-less-by : (k r w x : ℤ) → k *ℤ x -ℤ (k *ℤ r +ℤ w) ≡ k *ℤ (x -ℤ r) -ℤ w
-less-by k r w x = let k' = lift k in let r' = lift r in let w' = lift w in let x' = lift x in same (k' ⊠ x' ⊟ (k' ⊠ r' ⊞ w')) (k' ⊠ (x' ⊟ r') ⊟ w') (omega arith)
-
 near-sees : (k : ℤ) (r w x : Vector) → from_to (near k r w) (scaled_point k x) ≡ less k (from_to r x) w
 near-sees k r w x =
-    same_vector (k *ℤ x.x -ℤ (k *ℤ r.x +ℤ w.x)) (k *ℤ x.y -ℤ (k *ℤ r.y +ℤ w.y)) (k *ℤ (x.x -ℤ r.x) -ℤ w.x) (k *ℤ (x.y -ℤ r.y) -ℤ w.y) (less-by k r.x w.x x.x) (less-by k r.y w.y x.y)
+    same_vector (k *ℤ x.x -ℤ (k *ℤ r.x +ℤ w.x)) (k *ℤ x.y -ℤ (k *ℤ r.y +ℤ w.y)) (k *ℤ (x.x -ℤ r.x) -ℤ w.x) (k *ℤ (x.y -ℤ r.y) -ℤ w.y) (below-by k r.x w.x x.x) (below-by k r.y w.y x.y)
 
 less-cross : (k : ℤ) (a c w : Vector) → cross (less k a w) (less k c w) +ℤ k *ℤ (cross a w -ℤ cross c w) ≡ k *ℤ (k *ℤ cross a c)
 less-cross k a c w =
@@ -189,15 +186,32 @@ module _ (e : Edge) (p : Vector) (r : Vector) (v : View e.from e.to (from_to r))
 at-least : (f : Edge → ℕ) (x : Edge) (xs : List Edge) → In x xs → f x ≡ 1 → 0 < total f xs
 at-least f x xs i h = let a = total-below (λ (y : Edge). 0) f xs x (λ y j. omega arith) i (omega arith) in omega arith
 
--- numbers of crossings, and a winding number that is none or one before and after
-one-by : (u0 d0 u1 d1 c : ℕ) → u0 ≡ u1 → d0 ≡ d1 + c → 0 < c → (pos u0 -ℤ pos d0 ≡ pos 0) ⊎ (pos u0 -ℤ pos d0 ≡ pos 1) → (pos u1 -ℤ pos d1 ≡ pos 0) ⊎ (pos u1 -ℤ pos d1 ≡ pos 1) →
-    (pos u0 -ℤ pos d0 ≡ pos 0) × (pos u1 -ℤ pos d1 ≡ pos 1)
-one-by u0 d0 u1 d1 c h k l (inl x) (inr y) = (x, y)
-one-by u0 d0 u1 d1 c h k l (inr x) (inr y) = absurd (omega (arith, ints))
-one-by u0 d0 u1 d1 c h k l (inl x) (inl y) = absurd (omega (arith, ints))
-one-by u0 d0 u1 d1 c h k l (inr x) (inl y) = absurd (omega (arith, ints))
+times-total : (e : Edge) (es : List Edge) → total (λ (f : Edge). bit (same_edge e f)) es ≡ times_in e es
+times-total e es = total-is (λ (f : Edge). bit (same_edge e f)) es
 
-module _ (es : List Edge) (sd : IsSided es) (e : Edge) (i : In e es) (p r : Vector) (inside : IsBetween e.from e.to r) (left : orient e.from e.to p ≡ Plus) where
+pub times-some : (e : Edge) (es : List Edge) → In e es → 0 < times_in e es
+times-some e es i = let a = at-least (λ f. bit (same_edge e f)) e es i (ap bit (same_edge-refl e)) in let b = times-total e es in omega arith
+
+pub times-none : (e : Edge) (es : List Edge) → ((f : Edge) → In f es → same_edge e f ≡ false) → times_in e es ≡ 0
+times-none e es h = sym (times-total e es) ∙ total_none (λ (f : Edge). bit (same_edge e f)) es (λ f i. ap bit (h f i))
+
+times-scaled : (q : ℤ) → sign q ≡ Plus → (e : Edge) (es : List Edge) → times_in (scaled_edge q e) (scaled_edges q es) ≡ times_in e es
+times-scaled q hq e es =
+    sym (times-total (scaled_edge q e) (scaled_edges q es)) ∙ total-map (λ (f : Edge). bit (same_edge (scaled_edge q e) f)) (scaled_edge q) es
+    ∙ total-same (λ (f : Edge). bit (same_edge (scaled_edge q e) (scaled_edge q f))) (λ (f : Edge). bit (same_edge e f)) es (λ f j. ap bit (edge-scaled q hq e f)) ∙ times-total e es
+
+-- a number that is none or one before and after it grows
+one-by : (z0 z1 : ℤ) (c : ℕ) → z1 ≡ z0 +ℤ pos c → 0 < c → (z0 ≡ pos 0) ⊎ (z0 ≡ pos 1) → (z1 ≡ pos 0) ⊎ (z1 ≡ pos 1) → (z0 ≡ pos 0) × (z1 ≡ pos 1)
+one-by z0 z1 c h l (inl x) (inr y) = (x, y)
+one-by z0 z1 c h l (inr x) (inr y) = absurd (omega (arith, ints))
+one-by z0 z1 c h l (inl x) (inl y) = absurd (omega (arith, ints))
+one-by z0 z1 c h l (inr x) (inl y) = absurd (omega (arith, ints))
+
+less-by : (u0 d0 u1 d1 c : ℕ) → u0 ≡ u1 → d0 ≡ d1 + c → pos u1 -ℤ pos d1 ≡ (pos u0 -ℤ pos d0) +ℤ pos c
+less-by u0 d0 u1 d1 c h k = omega (arith, ints)
+
+-- ---- across an edge, at a point that no other edge passes
+module _ (es : List Edge) (bal : IsBalanced es) (e : Edge) (p r : Vector) (inside : IsBetween e.from e.to r) (left : orient e.from e.to p ≡ Plus) (clear : (f : Edge) → In f es → same_edge e f ≡ false → IsApart r r f) where
   abbrev line : Vector
   line = from_to e.from e.to
 
@@ -224,7 +238,7 @@ module _ (es : List Edge) (sd : IsSided es) (e : Edge) (i : In e es) (p r : Vect
   other-by f j true h = (0, λ k l n. absurd (cc (sym h ∙ n)))
   other-by f j false h =
       later-then (λ k. IsApart (near k r (from_to p r)) (near k r (from_to r p)) (scaled_edge k f)) (λ k. same_edge e f ≡ false → IsApart (near k r (from_to p r)) (near k r (from_to r p)) (scaled_edge k f)) (λ k hk x n. x)
-      (later-apart r (from_to p r) r (from_to r p) f (apart-near r r f (inside-apart es sd e f i j h r r inside inside) (from_to p r) (from_to r p)))
+      (later-apart r (from_to p r) r (from_to r p) f (apart-near r r f (clear f j h) (from_to p r) (from_to r p)))
 
   others-later : Later Other
   others-later = later-all (λ f k. same_edge e f ≡ false → IsApart (near k r (from_to p r)) (near k r (from_to r p)) (scaled_edge k f)) es (λ f j. other-by f j (same_edge e f) refl)
@@ -276,60 +290,97 @@ module _ (es : List Edge) (sd : IsSided es) (e : Edge) (i : In e es) (p r : Vect
         (let x = down-first e p r v from-behind inside.before_t from-on to-on p-left k hk in let y = down-last e p r v from-behind inside.before_t from-on to-on p-left k hk in omega arith)
     downs-by f j false h = let x = down-alike Q0 Q1 f (other-apart f j h) in omega arith
 
-    abbrev OnceOrNot : Vector → Type 0
-    OnceOrNot P = (winding_number way P L ≡ pos 0) ⊎ (winding_number way P L ≡ pos 1)
-
     turned : (P : Vector) → All (IsOffEdge P) L → winding_number east P L ≡ winding_number way P L
-    turned P o = winding_independent east way P east-direction (step-way e p r v from-behind inside.before_t from-on to-on p-left k hk) L o (balanced-scaled k hk es sd.balanced)
+    turned P o = winding_independent east way P east-direction (step-way e p r v from-behind inside.before_t from-on to-on p-left k hk) L o (balanced-scaled k hk es bal)
 
-    once-or-not : (P : Vector) → All (IsOffEdge P) L → OnceOrNot P
-    once-or-not P o = subst (λ z. (z ≡ pos 0) ⊎ (z ≡ pos 1)) (turned P o) (sd.counted k hk P o)
+    abbrev own : Edge → ℕ
+    own g = bit (same_edge e' g)
 
-    both-sides : (winding_number way Q0 L ≡ pos 0) × (winding_number way Q1 L ≡ pos 1)
-    both-sides =
-        let f = λ (g : Edge). bit (same_edge e' g) in
+    own-times : total own L ≡ times_in e es
+    own-times = total-map own (scaled_edge k) es ∙ total-same (λ f. own (scaled_edge k f)) (λ f. bit (same_edge e f)) es (λ f j. ap bit (edge-scaled k hk e f)) ∙ times-total e es
+
+    crossed : WindsMore L Q1 Q0 (times_in e es)
+    crossed =
         let x = sym (total-is (up_seen way (from_to Q0)) L) ∙ total-same (up_seen way (from_to Q0)) (up_seen way (from_to Q1)) L (λ g j. ups-by g j (same_edge e' g) refl) ∙ total-is (up_seen way (from_to Q1)) L in
-        let y = sym (total-is (down_seen way (from_to Q0)) L) ∙ total-same (down_seen way (from_to Q0)) (λ g. down_seen way (from_to Q1) g + f g) L (λ g j. downs-by g j (same_edge e' g) refl)
-        ∙ total-+ (down_seen way (from_to Q1)) f L ∙ ap (λ n. n + total f L) (total-is (down_seen way (from_to Q1)) L) in
-        one-by (up_count way Q0 L) (down_count way Q0 L) (up_count way Q1 L) (down_count way Q1 L) (total f L) x y
-        (at-least f e' L (in-map (scaled_edge k) es e i) (ap bit (same_edge-refl e'))) (once-or-not Q0 first-free) (once-or-not Q1 last-free)
+        let y = sym (total-is (down_seen way (from_to Q0)) L) ∙ total-same (down_seen way (from_to Q0)) (λ g. down_seen way (from_to Q1) g + own g) L (λ g j. downs-by g j (same_edge e' g) refl)
+        ∙ total-+ (down_seen way (from_to Q1)) own L ∙ ap (λ n. n + total own L) (total-is (down_seen way (from_to Q1)) L) in
+        record {
+          off_first = last-free;
+          off_second = first-free;
+          more = turned Q1 last-free ∙ less-by (up_count way Q0 L) (down_count way Q0 L) (up_count way Q1 L) (down_count way Q1 L) (total own L) x y
+              ∙ ap (λ z. z +ℤ pos (total own L)) (sym (turned Q0 first-free)) ∙ ap (λ n. winding_number east Q0 L +ℤ pos n) own-times;
+        }
 
-    pub left-inside : IsInside L Q1
-    left-inside = record { off = last-free; once = turned Q1 last-free ∙ both-sides.1 }
+  pub crossed-later : Later (λ k. WindsMore (scaled_edges k es) (near k r (from_to r p)) (near k r (from_to p r)) (times_in e es))
+  crossed-later = later-then Other (λ k. WindsMore (scaled_edges k es) (near k r (from_to r p)) (near k r (from_to p r)) (times_in e es)) (λ k hk o. crossed k hk o) others-later
 
-    pub right-outside : IsOutside L Q0
-    right-outside = record { off = first-free; none = turned Q0 first-free ∙ both-sides.0 }
+-- ---- an edge of a sided list
+module _ (es : List Edge) (sd : IsSided es) (e : Edge) (i : In e es) (p r : Vector) (inside : IsBetween e.from e.to r) (left : orient e.from e.to p ≡ Plus) where
+  abbrev Sides : ℤ → Type 0
+  Sides k = IsInside (scaled_edges k es) (near k r (from_to r p)) × IsOutside (scaled_edges k es) (near k r (from_to p r))
 
-  pub sides-later : Later (λ k. IsInside (scaled_edges k es) (near k r (from_to r p)) × IsOutside (scaled_edges k es) (near k r (from_to p r)))
-  sides-later = later-then Other (λ k. IsInside (scaled_edges k es) (near k r (from_to r p)) × IsOutside (scaled_edges k es) (near k r (from_to p r))) (λ k hk o. (left-inside k hk o, right-outside k hk o)) others-later
+  sides : (k : ℤ) → sign k ≡ Plus → WindsMore (scaled_edges k es) (near k r (from_to r p)) (near k r (from_to p r)) (times_in e es) → Sides k
+  sides k hk c =
+      let w = one-by (winding_number east (near k r (from_to p r)) (scaled_edges k es)) (winding_number east (near k r (from_to r p)) (scaled_edges k es)) (times_in e es) c.more
+      (times-some e es i) (sd.counted k hk (near k r (from_to p r)) c.off_second) (sd.counted k hk (near k r (from_to r p)) c.off_first) in
+      (record { off = c.off_first; once = w.1 }, record { off = c.off_second; none = w.0 })
+
+  pub sides-later : Later Sides
+  sides-later =
+      later-then (λ k. WindsMore (scaled_edges k es) (near k r (from_to r p)) (near k r (from_to p r)) (times_in e es)) Sides sides
+      (crossed-later es sd.balanced e p r inside left (λ f j n. inside-apart es sd e f i j n r r inside inside))
 
 -- ---- in any direction to the left
 to-there : (r u : Vector) → from_to r (plus r u) ≡ u
 to-there r u = same_vector ((r.x +ℤ u.x) -ℤ r.x) ((r.y +ℤ u.y) -ℤ r.y) u.x u.y (omega (arith, ints)) (omega (arith, ints))
 
-from-there : (r u : Vector) → from_to (plus r u) r ≡ opposite u
+from-there : (r u : Vector) → from_to (plus r u) r ≡ opposite_of u
 from-there r u = same_vector (r.x -ℤ (r.x +ℤ u.x)) (r.y -ℤ (r.y +ℤ u.y)) (pos 0 -ℤ u.x) (pos 0 -ℤ u.y) (omega (arith, ints)) (omega (arith, ints))
 
+abbrev ahead : Edge → Vector → Vector → Type 0
+ahead e r u = orient e.from e.to (plus r u) ≡ Plus
+
+is-ahead : (e : Edge) (r u : Vector) → IsBetween e.from e.to r → sign (cross (from_to e.from e.to) u) ≡ Plus → ahead e r u
+is-ahead e r u b l = sym ((view_at e.from e.to r b).side (plus r u)) ∙ ap (λ w. sign (cross (from_to e.from e.to) w)) (to-there r u) ∙ l
+
+pub winds-across : (es : List Edge) → IsBalanced es → (e : Edge) (r u : Vector) → IsBetween e.from e.to r → sign (cross (from_to e.from e.to) u) ≡ Plus →
+    ((f : Edge) → In f es → same_edge e f ≡ false → IsApart r r f) → Later (λ k. WindsMore (scaled_edges k es) (near k r u) (near k r (opposite_of u)) (times_in e es))
+winds-across es bal e r u b l clear =
+    subst (λ w. Later (λ k. WindsMore (scaled_edges k es) (near k r u) (near k r w) (times_in e es))) (from-there r u)
+    (subst (λ w. Later (λ k. WindsMore (scaled_edges k es) (near k r w) (near k r (from_to (plus r u) r)) (times_in e es))) (to-there r u) (crossed-later es bal e (plus r u) r b (is-ahead e r u b l) clear))
+
 pub edge-parts : (es : List Edge) → IsSided es → (e : Edge) → In e es → (r u : Vector) → IsBetween e.from e.to r → sign (cross (from_to e.from e.to) u) ≡ Plus →
-    Later (λ k. IsInside (scaled_edges k es) (near k r u) × IsOutside (scaled_edges k es) (near k r (opposite u)))
+    Later (λ k. IsInside (scaled_edges k es) (near k r u) × IsOutside (scaled_edges k es) (near k r (opposite_of u)))
 edge-parts es sd e i r u b l =
     let p = plus r u in
-    let h : orient e.from e.to p ≡ Plus = sym ((view_at e.from e.to r b).side p) ∙ ap (λ w. sign (cross (from_to e.from e.to) w)) (to-there r u) ∙ l in
     subst (λ w. Later (λ k. IsInside (scaled_edges k es) (near k r u) × IsOutside (scaled_edges k es) (near k r w))) (from-there r u)
-    (subst (λ w. Later (λ k. IsInside (scaled_edges k es) (near k r w) × IsOutside (scaled_edges k es) (near k r (from_to p r)))) (to-there r u) (sides-later es sd e i p r b h))
+    (subst (λ w. Later (λ k. IsInside (scaled_edges k es) (near k r w) × IsOutside (scaled_edges k es) (near k r (from_to p r)))) (to-there r u) (sides-later es sd e i p r b (is-ahead e r u b l)))
 
 -- at a point with fractions
+left-scaled-by : (q : ℤ) → sign q ≡ Plus → (e : Edge) (u : Vector) → sign (cross (from_to e.from e.to) u) ≡ Plus → sign (cross (from_to (scaled_point q e.from) (scaled_point q e.to)) u) ≡ Plus
+left-scaled-by q hq e u l = ap (λ d. sign (cross d u)) (from_to-scaled q hq e.from e.to) ∙ ap sign (first-times q (from_to e.from e.to) u) ∙ plus-times q (cross (from_to e.from e.to) u) hq ∙ l
+
 pub edge-parts-inside : (es : List Edge) → IsSided es → (e : Edge) → In e es → (q : ℤ) → sign q ≡ Plus → (r u : Vector) → IsBetween (scaled_point q e.from) (scaled_point q e.to) r → sign (cross (from_to e.from e.to) u) ≡ Plus →
-    Later (λ k. IsInside (scaled_edges k (scaled_edges q es)) (near k r u) × IsOutside (scaled_edges k (scaled_edges q es)) (near k r (opposite u)))
+    Later (λ k. IsInside (scaled_edges k (scaled_edges q es)) (near k r u) × IsOutside (scaled_edges k (scaled_edges q es)) (near k r (opposite_of u)))
 edge-parts-inside es sd e i q hq r u b l =
     edge-parts (scaled_edges q es) (sided-scaled q hq es sd) (scaled_edge q e) (in-map (scaled_edge q) es e i) r u b
-    (ap (λ d. sign (cross d u)) (from_to-scaled q hq e.from e.to) ∙ ap sign (first-times q (from_to e.from e.to) u) ∙ plus-times q (cross (from_to e.from e.to) u) hq ∙ l)
+    (left-scaled-by q hq e u l)
+
+pub winds-across-edge : (es : List Edge) → IsBalanced es → (e : Edge) (q : ℤ) → sign q ≡ Plus → (r u : Vector) → IsBetween (scaled_point q e.from) (scaled_point q e.to) r → sign (cross (from_to e.from e.to) u) ≡ Plus →
+    ((f : Edge) → In f es → same_edge e f ≡ false → IsOffEdge r (scaled_edge q f)) → Later (λ k. WindsMore (scaled_edges k (scaled_edges q es)) (near k r u) (near k r (opposite_of u)) (times_in e es))
+winds-across-edge es bal e q hq r u b l off =
+    subst (λ n. Later (λ k. WindsMore (scaled_edges k (scaled_edges q es)) (near k r u) (near k r (opposite_of u)) n)) (times-scaled q hq e es)
+    (winds-across (scaled_edges q es) (balanced-scaled q hq es bal) (scaled_edge q e) r u b (left-scaled-by q hq e u l)
+    (λ f j n.
+    let t = in-map-out (scaled_edge q) es f j in
+    let d = sym (edge-scaled q hq e t.0) ∙ subst (λ w. same_edge (scaled_edge q e) w ≡ false) t.2 n in
+    subst (IsApart r r) (sym t.2) (off-apart r (scaled_edge q t.0) (off t.0 t.1 d))))
 
 -- ---- points left beside the edge
 pub beside-inside : (es : List Edge) → IsSided es → (e : Edge) → In e es → (p : Vector) → IsLeftBeside es e p → IsInside es p
 beside-inside es sd e i p a =
     let r = a.foot in
-    let A = λ (k : ℤ). IsFree (scaled_edges k es) (near k p none) (near k r (from_to r p)) in
+    let A = λ (k : ℤ). IsFreeStep (scaled_edges k es) (near k p none) (near k r (from_to r p)) in
     let B = λ (k : ℤ). IsInside (scaled_edges k es) (near k r (from_to r p)) × IsOutside (scaled_edges k es) (near k r (from_to p r)) in
     let s = later-some (λ k. A k × B k) (later-both A B (foot-free es sd e i p a) (sides-later es sd e i p r a.inside a.left)) in
     let k = s.0 in let L = scaled_edges k es in let q = near k r (from_to r p) in record {

@@ -15,8 +15,8 @@ use Rattle.plane.proofs.PlaneKit.{cross2, edge-scaled, from_to-scaled, from_to2,
 use Rattle.plane.proofs.SignKit.{plus-times, same}
 use Rattle.paths.proofs.FeetAbove.{first-times}
 use Rattle.paths.proofs.Inside.{between-back}
-use Rattle.paths.proofs.Joins.{edges-twice}
 use Rattle.paths.proofs.Later.{IsLeftNear, IsNearApart, Later, later-all, later-apart, later-both, later-left, later-some, later-then, near}
+use Rattle.winding.proofs.WindingKit.{edges-twice}
 
 turn-both : (f t w x : Vector) → cross (from_to t f) (from_to w x) ≡ cross (from_to f t) (from_to x w)
 turn-both f t w x =

@@ -11,7 +11,7 @@ use Rattle.nesting.specs.Walk.{HasSameEdges}
 use Rattle.one_ring_list.specs.RingListOf.{IsRingListOf}
 use Rattle.paths.specs.Beside.{IsLeftBeside, ReachesEdge}
 use Rattle.paths.specs.Inside.{AreInOne, IsInside}
-use Rattle.paths.specs.Line.{IsFree, IsLine, Joined}
+use Rattle.paths.specs.Line.{IsFreeStep, IsPolyline, Joined}
 use Rattle.plane.specs.Bit.{bit}
 use Rattle.plane.specs.Edge.{Edge}
 use Rattle.plane.specs.RayCrossing.{IsOffEdge}
@@ -22,10 +22,10 @@ use Rattle.winding.specs.EdgeList.{crossing_count, down_count, up_count, winding
 use Rattle.winding.specs.Parity.{is_even}
 use Rattle.winding.specs.ScaledEdges.{scaled_edges}
 use Rattle.winding.specs.Sided.{IsSided}
-use Rattle.connected.proofs.AcrossPolygons.{linked_one}
+use Rattle.connected.proofs.ConnectedKit.{in-polygon, linked_one}
 use Rattle.lists.proofs.ListsKit.{all-in, count_by-cons, in-all, in-map, in-map-out, not-true-out, total, total-+, total-is, total-map}
-use Rattle.nesting.proofs.NestingKit.{in-edges, in-edges-out, polygon_sided, polygons_cover_at_fractions, same-back, same-in}
-use Rattle.one_ring_list.proofs.Uncrossed.{rings-uncrossed}
+use Rattle.nesting.proofs.NestingKit.{in-edges, polygon_sided, polygons_cover_at_fractions, same-back, same-in}
+use Rattle.one_ring_list.proofs.OneRingListKit.{rings-uncrossed}
 use Rattle.plane.proofs.PlaneKit.{down_seen, up_seen}
 use Rattle.winding.proofs.WindingKit.{even-is, odd-is, sided-scaled, winding-scaled}
 use Rattle.paths.proofs.BesideInside.{beside-inside}
@@ -33,11 +33,15 @@ use Rattle.paths.proofs.LinkedInside.{reached, reached-by}
 use Rattle.paths.proofs.Winds.{joined-winds}
 
 -- ---- counts
+pub bit-most : (b : Bool) → bit b ≤ 1
+bit-most true = omega arith
+bit-most false = omega arith
+
 some-more : (b : Bool) → b ≡ true → (n : ℕ) → 0 < cond {A = ℕ} b 1 0 + n
 some-more true h n = omega arith
 some-more false h n = absurd (cc h)
 
-count-member : {X : Type 0} (f : X → Bool) (g : X) (xs : List X) → In g xs → f g ≡ true → 0 < count_by f xs
+pub count-member : {X : Type 0} (f : X → Bool) (g : X) (xs : List X) → In g xs → f g ≡ true → 0 < count_by f xs
 count-member f g [] i h = absurd i
 count-member f g (x ∷ xs) (inl e) h = let a = count_by-cons f x xs in let b = some-more (f x) (subst (λ u. f u ≡ true) e h) (count_by f xs) in omega arith
 count-member f g (x ∷ xs) (inr i) h = let a = count_by-cons f x xs in let b = count-member f g xs i h in omega arith
@@ -84,10 +88,10 @@ covers-by p es c (inl h) =
     absurd (cc (sym k ∙ not-true-out (is_even (crossing_count east p es)) c))
 
 -- ---- a part of a list
-free-part : (xs es : List Edge) → ((x : Edge) → In x xs → In x es) → (p q : Vector) → IsFree es p q → IsFree xs p q
+free-part : (xs es : List Edge) → ((x : Edge) → In x xs → In x es) → (p q : Vector) → IsFreeStep es p q → IsFreeStep xs p q
 free-part xs es sub p q f = λ e i. f e (sub e i)
 
-line-part : (xs es : List Edge) → ((x : Edge) → In x xs → In x es) → (p : Vector) (cs : List Vector) (q : Vector) → IsLine es p cs q → IsLine xs p cs q
+line-part : (xs es : List Edge) → ((x : Edge) → In x xs → In x es) → (p : Vector) (cs : List Vector) (q : Vector) → IsPolyline es p cs q → IsPolyline xs p cs q
 line-part xs es sub p [] q l = free-part xs es sub p q l
 line-part xs es sub p (c ∷ cs) q l = (free-part xs es sub p c l.0, line-part xs es sub c cs q l.1)
 
@@ -119,12 +123,6 @@ module _ (es : List Edge) (sd : IsSided es) (rs : List (List Edge)) (l : IsRingL
   of-list : (g : Polygon) → In g gs → (x : Edge) → In x (polygon_edges g) → In x es
   of-list g i x j = same-in (edges_of rs) es l.edges x (same-in (edges_of (map polygon_edges gs)) (edges_of rs) a.whole x (in-edges (map polygon_edges gs) (polygon_edges g) x (in-map polygon_edges gs g i) j))
 
-  -- each edge of the list is one of some polygon
-  some-polygon : (x : Edge) → In x es → (g : Polygon) × In g gs × In x (polygon_edges g)
-  some-polygon x j =
-      let k = same-in (edges_of rs) (edges_of (map polygon_edges gs)) (same-back (edges_of (map polygon_edges gs)) (edges_of rs) a.whole) x (same-in es (edges_of rs) (same-back (edges_of rs) es l.edges) x j) in
-      let r = in-edges-out (map polygon_edges gs) x k in let t = in-map-out polygon_edges gs r.0 r.1 in (t.0, t.1, subst (λ w. In x w) t.2 r.2)
-
   module _ (k : ℤ) (hk : sign k ≡ Plus) where
     abbrev ks : List Edge
     ks = scaled_edges k es
@@ -141,12 +139,8 @@ module _ (es : List Edge) (sd : IsSided es) (rs : List (List Edge)) (l : IsRingL
     cover-count : (p : Vector) → count_by (holds p) gs ≡ bit (covers (scaled_edges k (edges_of rs)) p)
     cover-count p = polygons_cover_at_fractions k hk rs u p gs a
 
-    at-most : (b : Bool) → bit b ≤ 1
-    at-most true = omega arith
-    at-most false = omega arith
-
     one-polygon : (p : Vector) (g h : Polygon) → In g gs → In h gs → holds p g ≡ true → holds p h ≡ true → g ≡ h
-    one-polygon p g h i j x y = count-one (holds p) g h gs i j x y (let c = cover-count p in let m = at-most (covers (scaled_edges k (edges_of rs)) p) in omega arith)
+    one-polygon p g h i j x y = count-one (holds p) g h gs i j x y (let c = cover-count p in let m = bit-most (covers (scaled_edges k (edges_of rs)) p) in omega arith)
 
     -- what a polygon covers off the list it has inside
     inside-by : (p : Vector) → All (IsOffEdge p) ks → (g : Polygon) → In g gs → holds p g ≡ true → IsInside (at g) p
@@ -170,7 +164,7 @@ module _ (es : List Edge) (sd : IsSided es) (rs : List (List Edge)) (l : IsRingL
 
       reached-own : In e (polygon_edges g)
       reached-own =
-          let h = some-polygon e j in
+          let h = in-polygon es sd rs l gs a e j in
           subst (λ q. In e (polygon_edges q)) (one-polygon p h.0 g h.1 i (reached-inside h.0 h.1 h.2) (inside-covers p (at g) n.once)) h.2
 
     -- ---- joined points are in one polygon

@@ -3,7 +3,7 @@ use Rattle.std.proofs.Common.{Bool, List, [], ap, arith, false, inl, inr, pos, r
 use borrow.Author.Differences.{ints}
 use Rattle.lists.specs.Member.{In}
 use Rattle.paths.specs.Beside.{IsLeftBeside}
-use Rattle.paths.specs.Line.{IsApart, IsFree, Joined}
+use Rattle.paths.specs.Line.{IsApart, IsFreeStep, Joined}
 use Rattle.plane.specs.Edge.{Edge, same_edge}
 use Rattle.plane.specs.FreeSegment.{IsBetween}
 use Rattle.plane.specs.Scale.{scaled_edge, scaled_point}
@@ -15,7 +15,8 @@ use Rattle.lists.proofs.ListsKit.{in-map-out}
 use Rattle.plane.proofs.PlaneKit.{cross-here, cross-scaled, cross-self, edge-scaled, from_to-scaled, orient-round, same_edge-true, same_vector, view_at, dot-both}
 use Rattle.paths.proofs.Inside.{inside-apart, way-back}
 use Rattle.paths.proofs.Later.{IsLeftNear, IsNearApart, Later, apart-near, later-both, later-free, later-some, near}
-use Rattle.paths.proofs.Steps.{apart-back, apart-times, back-from, back-to}
+use Rattle.paths.proofs.Steps.{apart-times, back-from, back-to}
+use Rattle.paths.proofs.Joins.{free-back}
 
 abbrev pub none : Vector
 none = record { x = pos 0; y = pos 0 }
@@ -66,7 +67,7 @@ module _ (es : List Edge) (sd : IsSided es) (e : Edge) (i : In e es) (p : Vector
   step-by f j true h = subst (λ w. IsNearApart p none a.foot (from_to a.foot p) w) (same_edge-true e f h) own-step
   step-by f j false h = apart-near p a.foot f (a.free f j h) none (from_to a.foot p)
 
-  pub foot-free : Later (λ k. IsFree (scaled_edges k es) (near k p none) (near k a.foot (from_to a.foot p)))
+  pub foot-free : Later (λ k. IsFreeStep (scaled_edges k es) (near k p none) (near k a.foot (from_to a.foot p)))
   foot-free = later-free p none a.foot (from_to a.foot p) es (λ f j. step-by f j (same_edge e f) refl)
 
   module _ (q : Vector) (c : IsLeftBeside es e q) where
@@ -83,17 +84,14 @@ module _ (es : List Edge) (sd : IsSided es) (e : Edge) (i : In e es) (p : Vector
     along-by f j true h = subst (λ w. IsNearApart a.foot (from_to a.foot p) c.foot (from_to c.foot q) w) (same_edge-true e f h) own-along
     along-by f j false h = apart-near a.foot c.foot f (inside-apart es sd e f i j h a.foot c.foot a.inside c.inside) (from_to a.foot p) (from_to c.foot q)
 
-    pub along-free : Later (λ k. IsFree (scaled_edges k es) (near k a.foot (from_to a.foot p)) (near k c.foot (from_to c.foot q)))
+    pub along-free : Later (λ k. IsFreeStep (scaled_edges k es) (near k a.foot (from_to a.foot p)) (near k c.foot (from_to c.foot q)))
     along-free = later-free a.foot (from_to a.foot p) c.foot (from_to c.foot q) es (λ f j. along-by f j (same_edge e f) refl)
-
-pub free-both : (es : List Edge) (p q : Vector) → IsFree es p q → IsFree es q p
-free-both es p q h = λ e i. apart-back p q e (h e i)
 
 pub beside-joined : (es : List Edge) → IsSided es → (e : Edge) → In e es → (p q : Vector) → IsLeftBeside es e p → IsLeftBeside es e q → Joined es p q
 beside-joined es sd e i p q a c =
-    let A = λ (k : ℤ). IsFree (scaled_edges k es) (near k p none) (near k a.foot (from_to a.foot p)) in
-    let M = λ (k : ℤ). IsFree (scaled_edges k es) (near k a.foot (from_to a.foot p)) (near k c.foot (from_to c.foot q)) in
-    let C = λ (k : ℤ). IsFree (scaled_edges k es) (near k q none) (near k c.foot (from_to c.foot q)) in
+    let A = λ (k : ℤ). IsFreeStep (scaled_edges k es) (near k p none) (near k a.foot (from_to a.foot p)) in
+    let M = λ (k : ℤ). IsFreeStep (scaled_edges k es) (near k a.foot (from_to a.foot p)) (near k c.foot (from_to c.foot q)) in
+    let C = λ (k : ℤ). IsFreeStep (scaled_edges k es) (near k q none) (near k c.foot (from_to c.foot q)) in
     let h = later-some (λ k. (A k × M k) × C k) (later-both (λ k. A k × M k) C (later-both A M (foot-free es sd e i p a) (along-free es sd e i p a q c)) (foot-free es sd e i q c)) in
     let k = h.0 in let g = h.2 in
     let l = scaled_edges k es in let u = near k a.foot (from_to a.foot p) in let w = near k c.foot (from_to c.foot q) in
@@ -102,8 +100,8 @@ beside-joined es sd e i p q a c =
       positive = h.1;
       corners = u ∷ (w ∷ []);
       line = (
-        subst (λ z. IsFree l z u) (near-none k p) g.0.0,
-        (g.0.1, subst (λ z. IsFree l w z) (near-none k q) (free-both l (near k q none) w g.1)),
+        subst (λ z. IsFreeStep l z u) (near-none k p) g.0.0,
+        (g.0.1, subst (λ z. IsFreeStep l w z) (near-none k q) (free-back l (near k q none) w g.1)),
       );
     }
 

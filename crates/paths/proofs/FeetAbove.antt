@@ -31,7 +31,7 @@ no-sum k x c h g = ap (λ z. k *ℤ z +ℤ c) h ∙ ap (λ z. k *ℤ pos 0 +ℤ 
 above-by : (k a b c : ℤ) → (k *ℤ a +ℤ b) -ℤ k *ℤ c ≡ k *ℤ (a -ℤ c) -ℤ (pos 0 -ℤ b)
 above-by k a b c = let k' = lift k in let a' = lift a in let b' = lift b in let c' = lift c in same ((k' ⊠ a' ⊞ b') ⊟ k' ⊠ c') (k' ⊠ (a' ⊟ c') ⊟ (lift (pos 0) ⊟ b')) (omega arith)
 
-below-by : (k a b c : ℤ) → k *ℤ c -ℤ (k *ℤ a +ℤ b) ≡ k *ℤ (c -ℤ a) -ℤ b
+pub below-by : (k a b c : ℤ) → k *ℤ c -ℤ (k *ℤ a +ℤ b) ≡ k *ℤ (c -ℤ a) -ℤ b
 below-by k a b c = let k' = lift k in let a' = lift a in let b' = lift b in let c' = lift c in same (k' ⊠ c' ⊟ (k' ⊠ a' ⊞ b')) (k' ⊠ (c' ⊟ a') ⊟ b') (omega arith)
 
 module _ (p : Vector) (f : Edge) (m : ℤ) (hm : sign m ≡ Plus) (Y V : Vector) (i : IsPlace p f m Y V) (r : IsRising f) (s : is_in_span p f ≡ true) where

@@ -61,7 +61,7 @@ mean-set a b cs ct d n h k =
 set-not : (s : Sign) → not (is_null s) ≡ true → s ≡ Null → ⊥
 set-not s h e = let g = ap (λ t. not (is_null t)) e in cc (sym h ∙ g)
 
-not-minus-not : (s : Sign) → not (is_minus s) ≡ true → s ≡ Minus → ⊥
+pub not-minus-not : (s : Sign) → not (is_minus s) ≡ true → s ≡ Minus → ⊥
 not-minus-not s h e = let g = ap (λ t. not (is_minus t)) e in cc (sym h ∙ g)
 
 module _ (s t r q : Vector) (e : Edge) (i : IsBetween s t r) (j : IsBetween s t q) where

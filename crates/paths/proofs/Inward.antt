@@ -3,15 +3,15 @@ use Rattle.std.proofs.Common.{All, Bool, List, [], ap, arith, cond, false, map, 
 use borrow.Author.Differences.{ints}
 use Rattle.lists.specs.Member.{In}
 use Rattle.paths.specs.Beside.{IsLeftBeside, ReachesEdge}
-use Rattle.paths.specs.Line.{IsApart, IsFree}
+use Rattle.paths.specs.Line.{IsApart, IsFreeStep}
 use Rattle.plane.specs.Bit.{bit}
 use Rattle.plane.specs.Edge.{Edge, IsRising, reversed, same_edge, segment_of}
 use Rattle.plane.specs.Height.{is_in_span, is_left_of}
 use Rattle.plane.specs.Order.{order}
-use Rattle.plane.specs.RayCrossing.{IsOff, IsOffEdge, off_by}
+use Rattle.plane.specs.RayCrossing.{IsOffEdge}
 use Rattle.plane.specs.Scale.{scaled_edge, scaled_point}
 use Rattle.plane.specs.Sign.{Minus, Null, Plus, Sign, is_null, is_plus, sign, then_sign}
-use Rattle.plane.specs.Vector.{Vector, cross, dot, east, from_to, orient}
+use Rattle.plane.specs.Vector.{Vector, cross, east, from_to, orient}
 use Rattle.winding.specs.ConflictFree.{IsConflictFree, others}
 use Rattle.winding.specs.EdgeList.{IsEvenAtPoints, crossing_count, down_count, up_count, winding_number}
 use Rattle.winding.specs.OddSide.{directed, directed_edge, runs_up}
@@ -19,32 +19,20 @@ use Rattle.winding.specs.Ring.{segments_of}
 use Rattle.winding.specs.ScaledEdges.{scaled_edges}
 use Rattle.winding.specs.Sided.{IsSided}
 use Rattle.lists.proofs.ListsKit.{in-all, in-filter, in-map, in-map-out, in-passes, into-filter, not-true-out, total, total-same}
-use Rattle.nesting.proofs.NestingKit.{clear-two}
-use Rattle.plane.proofs.PlaneKit.{clear_differs, cross-agree, orient-round, point-twice, right_of, same_edge-refl, step_of, tall-by}
-use Rattle.plane.proofs.SignKit.{agree, agree-sum, all2, all2-out, all4-out, imp, imp-out, is_plus-true, plus-times, sign-*, times}
+use Rattle.nesting.proofs.NestingKit.{clear-two, sym-differs}
+use Rattle.plane.proofs.PlaneKit.{clear_differs, orient-round, point-twice, right_of, same_edge-refl, step_of, tall-by}
+use Rattle.plane.proofs.SignKit.{is_plus-true, plus-times}
 use Rattle.std.proofs.lemmas.Bool.{and_from, and_parts}
-use Rattle.winding.proofs.WindingKit.{First, crossing-order, crossing_by, covers-crossings, even-is, first_exists, left-span, odd-is, right_left, rising_in, sided-even, sided_direct, signed_parity, some_odd, spanning_runs, split_off, to_right}
-use Rattle.paths.proofs.Across.{other-right, right-minus, right-plus, segment-up, turn-differ}
+use Rattle.winding.proofs.WindingKit.{First, covers-crossings, crossing-order, crossing_by, edges-twice, even-is, first_exists, left-span, odd-is, off_not_null, right_left, rising_in, sided-even, sided_direct, signed_parity, some_odd, spanning_runs, split_off, to_right}
+use Rattle.paths.proofs.Across.{other-right, right-minus, right-plus}
 use Rattle.paths.proofs.Builders.{beside-twice, later-beside, near-unturned}
 use Rattle.paths.proofs.Feet.{near-none, none}
 use Rattle.paths.proofs.FeetAbove.{later-between}
-use Rattle.paths.proofs.Joins.{edges-twice, joined-step}
+use Rattle.paths.proofs.Joins.{joined-step}
 use Rattle.paths.proofs.Later.{IsNearApart, Later, apart-near, later-both, later-free, later-some, near}
 use Rattle.paths.proofs.Places.{IsJustAbove, IsPlace, left-apart, left-from, level-apart, lies, place-of, place-side, right-apart, side, spot, tallness}
 use Rattle.paths.proofs.Steps.{apart-off, apart-times, left-times, off-apart}
-
--- ---- a point off an edge at its height is on one side of it
-agree-dot : (u v : Vector) → agree (times (sign u.x) (sign v.x)) (times (sign u.y) (sign v.y)) (sign (dot u v)) ≡ true
-agree-dot u v = let h = agree-sum (u.x *ℤ v.x) (u.y *ℤ v.y) (dot u v) refl in rw (sign-* u.x v.x, sign-* u.y v.y) at h
-
-abbrev past_line : Sign → Sign → Sign → Sign → Bool
-past_line xu yu xv yv = all2 λ c s. imp (agree c (times yu xv) (times xu yv)) λ _. imp (agree (times xu xv) (times yu yv) s) λ _. imp (off_by c s) λ _. imp (not (is_plus yu) && is_plus yv) λ _. not (is_null c)
-
-off-side : (u v : Vector) → IsOff u v → (not (is_plus (sign u.y)) && is_plus (sign v.y)) ≡ true → not (is_null (sign (cross u v))) ≡ true
-off-side u v o h =
-    let c = all2-out (λ c s. imp (agree c (times (sign u.y) (sign v.x)) (times (sign u.x) (sign v.y))) λ _. imp (agree (times (sign u.x) (sign v.x)) (times (sign u.y) (sign v.y)) s) λ _. imp (off_by c s) λ _. imp (not (is_plus (sign u.y)) && is_plus (sign v.y)) λ _. not (is_null c))
-    (all4-out past_line refl (sign u.x) (sign u.y) (sign v.x) (sign v.y)) (sign (cross u v)) (sign (dot u v)) in
-    imp-out _ _ (imp-out _ _ (imp-out _ _ (imp-out _ _ c (cross-agree u v)) (agree-dot u v)) o) h
+use Rattle.connected.proofs.ConnectedKit.{up-segment}
 
 minus-by : (s : Sign) → not (is_null s) ≡ true → is_plus s ≡ false → s ≡ Minus
 minus-by Minus h k = refl
@@ -112,9 +100,9 @@ module _ (p : Vector) (es : List Edge) (pl : IsConflictFree es) (off : (g : Edge
 
   behind : (g : Edge) → In g es → same_edge a g ≡ false → is_in_span p g ≡ true → is_left_of p g ≡ false → IsNearApart X U Y V (scaled_edge m g)
   behind g j n s h =
-      let o = off-side (from_to p g.from) (from_to p g.to) (off g j) s in
+      let o = off_not_null (from_to p g.from) (from_to p g.to) (off g j) s in
       let q = minus-by (orient g.from g.to p) (subst (λ z. not (is_null (sign z)) ≡ true) (sym (orient-round p g.from g.to)) o) (and-second (is_in_span p g) (is_plus (orient g.from g.to p)) s h) in
-      let r = other-right p es pl a g ja j (turn-differ a g n) sa s (not-right g s h (right_of p a g) refl) in
+      let r = other-right p es pl a g ja j (sym-differs g a n) sa s (not-right g s h (right_of p a g) refl) in
       right-apart m X U Y V g (right-side g q) (place-side p a m Y V a-place g ∙ right-minus p a g r)
 
   spanned : (g : Edge) → In g es → same_edge a g ≡ false → is_in_span p g ≡ true → (b : Bool) → is_left_of p g ≡ b → IsNearApart X U Y V (scaled_edge m g)
@@ -209,7 +197,7 @@ module _ (es : List Edge) (sd : IsSided es) (p : Vector) (off : All (IsOffEdge p
     a-rises = rising_in up-list a sd.plain in-up
 
     a-segment : segment_of a ≡ a
-    a-segment = segment-up a (ap is_plus a-rises)
+    a-segment = up-segment a (ap is_plus a-rises)
 
     differs : (g : Edge) → In g es → same_edge a g ≡ false → same_edge a (segment_of g) ≡ false
     differs g k d =
@@ -245,7 +233,7 @@ module _ (es : List Edge) (sd : IsSided es) (p : Vector) (off : All (IsOffEdge p
         (λ g k d. near-unturned X0 U0 Y0 V0 M g (nearest-apart p up-list sd.plain off-up a f (segment_of g) (in-map segment_of es g k) (differs g k d)))
 
     abbrev Step : ℤ → Type 0
-    Step k = IsFree (scaled_edges k (scaled_edges M es)) (near k X0 none) (near k X0 U0)
+    Step k = IsFreeStep (scaled_edges k (scaled_edges M es)) (near k X0 none) (near k X0 U0)
 
     step : Later Step
     step =
@@ -261,8 +249,8 @@ module _ (es : List Edge) (sd : IsSided es) (p : Vector) (off : All (IsOffEdge p
           positive = plus-times k M s.1 ∙ big;
           point = w;
           joined = joined-step (scaled_edges (k *ℤ M) es) (scaled_point (k *ℤ M) p) w
-              (subst (λ (l : List Edge). IsFree l (scaled_point (k *ℤ M) p) w) (edges-twice k M es)
-              (subst (λ z. IsFree (scaled_edges k (scaled_edges M es)) z w) (near-none k X0 ∙ point-twice k M p) s.2.0));
+              (subst (λ (l : List Edge). IsFreeStep l (scaled_point (k *ℤ M) p) w) (edges-twice k M es)
+              (subst (λ z. IsFreeStep (scaled_edges k (scaled_edges M es)) z w) (near-none k X0 ∙ point-twice k M p) s.2.0));
           beside = beside-twice k M es a w s.2.1;
         }
 

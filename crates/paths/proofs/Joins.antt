@@ -1,64 +1,58 @@
 -- Joined points.
 use Rattle.std.proofs.Common.{All, List, [], map, pos, refl, subst, sym, ℤ, ◌*ℤ◌, ◌++◌, ◌↔◌, ◌∙◌, ◌∷◌, ◌≡◌}
-use Rattle.lists.proofs.ListsKit.{all-in, in-all, in-map-out, map-map, map-same}
-use Rattle.paths.specs.Line.{IsApart, IsFree, IsLine, Joined}
+use Rattle.lists.proofs.ListsKit.{all-in, in-all, in-map-out}
+use Rattle.paths.specs.Line.{IsApart, IsFreeStep, IsPolyline, Joined}
 use Rattle.plane.specs.Edge.{Edge}
 use Rattle.plane.specs.RayCrossing.{IsOffEdge}
 use Rattle.plane.specs.Scale.{scaled_edge, scaled_point}
 use Rattle.plane.specs.Sign.{Plus, sign}
 use Rattle.plane.specs.Vector.{Vector}
 use Rattle.winding.specs.ScaledEdges.{scaled_edges}
-use Rattle.plane.proofs.PlaneKit.{point-turned, point-twice, same_edge_by}
+use Rattle.plane.proofs.PlaneKit.{point-turned, point-twice}
 use Rattle.plane.proofs.SignKit.{plus-times}
-use Rattle.winding.proofs.WindingKit.{edges-turned, all-off-back}
+use Rattle.winding.proofs.WindingKit.{all-off-back, edges-turned, edges-twice}
 use Rattle.paths.proofs.Steps.{apart-back, apart-off, apart-times, off-apart}
 
 -- ---- lines
-pub free-back : (es : List Edge) (p q : Vector) → IsFree es p q → IsFree es q p
+pub free-back : (es : List Edge) (p q : Vector) → IsFreeStep es p q → IsFreeStep es q p
 free-back es p q h = λ e i. apart-back p q e (h e i)
 
-pub line-join : (es : List Edge) (p : Vector) (cs : List Vector) (q : Vector) (ds : List Vector) (r : Vector) → IsLine es p cs q → IsLine es q ds r → IsLine es p (cs ++ (q ∷ ds)) r
+pub line-join : (es : List Edge) (p : Vector) (cs : List Vector) (q : Vector) (ds : List Vector) (r : Vector) → IsPolyline es p cs q → IsPolyline es q ds r → IsPolyline es p (cs ++ (q ∷ ds)) r
 line-join es p [] q ds r h k = (h, k)
 line-join es p (c ∷ cs) q ds r h k = (h.0, line-join es c cs q ds r h.1 k)
 
-pub line-back : (es : List Edge) (p : Vector) (cs : List Vector) (q : Vector) → IsLine es p cs q → (ds : List Vector) × IsLine es q ds p
+pub line-back : (es : List Edge) (p : Vector) (cs : List Vector) (q : Vector) → IsPolyline es p cs q → (ds : List Vector) × IsPolyline es q ds p
 line-back es p [] q h = ([], free-back es p q h)
 line-back es p (c ∷ cs) q h =
     let r = line-back es c cs q h.1 in (r.0 ++ (c ∷ []), line-join es q r.0 c [] p r.1 (free-back es p c h.0))
 
-pub free-times : (k : ℤ) → sign k ≡ Plus → (es : List Edge) (p q : Vector) → IsFree es p q → IsFree (scaled_edges k es) (scaled_point k p) (scaled_point k q)
+pub free-times : (k : ℤ) → sign k ≡ Plus → (es : List Edge) (p q : Vector) → IsFreeStep es p q → IsFreeStep (scaled_edges k es) (scaled_point k p) (scaled_point k q)
 free-times k hk es p q h = λ e i.
     let r = in-map-out (scaled_edge k) es e i in subst (λ w. IsApart (scaled_point k p) (scaled_point k q) w) (sym r.2) (apart-times k hk p q r.0 (h r.0 r.1))
 
-pub line-times : (k : ℤ) → sign k ≡ Plus → (es : List Edge) (p : Vector) (cs : List Vector) (q : Vector) → IsLine es p cs q →
-    IsLine (scaled_edges k es) (scaled_point k p) (map (scaled_point k) cs) (scaled_point k q)
+pub line-times : (k : ℤ) → sign k ≡ Plus → (es : List Edge) (p : Vector) (cs : List Vector) (q : Vector) → IsPolyline es p cs q →
+    IsPolyline (scaled_edges k es) (scaled_point k p) (map (scaled_point k) cs) (scaled_point k q)
 line-times k hk es p [] q h = free-times k hk es p q h
 line-times k hk es p (c ∷ cs) q h = (free-times k hk es p c h.0, line-times k hk es c cs q h.1)
 
 -- ---- multiplied twice
-pub edges-twice : (q k : ℤ) (es : List Edge) → scaled_edges q (scaled_edges k es) ≡ scaled_edges (q *ℤ k) es
-edges-twice q k es =
-    map-map (scaled_edge q) (scaled_edge k) es
-    ∙ map-same (λ e. scaled_edge q (scaled_edge k e)) (scaled_edge (q *ℤ k)) es (λ e.
-    same_edge_by (scaled_point q (scaled_point k e.from)) (scaled_point q (scaled_point k e.to)) (scaled_point (q *ℤ k) e.from) (scaled_point (q *ℤ k) e.to) (point-twice q k e.from) (point-twice q k e.to))
-
 -- a line off the list multiplied by q and then by k
 pub joined-twice : (es : List Edge) (p q : Vector) (k m : ℤ) → sign k ≡ Plus → sign m ≡ Plus → (cs : List Vector) →
-    IsLine (scaled_edges k (scaled_edges m es)) (scaled_point k (scaled_point m p)) cs (scaled_point k (scaled_point m q)) → Joined es p q
+    IsPolyline (scaled_edges k (scaled_edges m es)) (scaled_point k (scaled_point m p)) cs (scaled_point k (scaled_point m q)) → Joined es p q
 joined-twice es p q k m hk hm cs h = record {
   multiple = k *ℤ m;
   positive = plus-times k m hk ∙ hm;
   corners = cs;
-  line = subst (λ (l : List Edge). IsLine l (scaled_point (k *ℤ m) p) cs (scaled_point (k *ℤ m) q)) (edges-twice k m es)
-      (subst (λ (u : Vector). IsLine (scaled_edges k (scaled_edges m es)) u cs (scaled_point (k *ℤ m) q)) (point-twice k m p)
-      (subst (λ (u : Vector). IsLine (scaled_edges k (scaled_edges m es)) (scaled_point k (scaled_point m p)) cs u) (point-twice k m q) h));
+  line = subst (λ (l : List Edge). IsPolyline l (scaled_point (k *ℤ m) p) cs (scaled_point (k *ℤ m) q)) (edges-twice k m es)
+      (subst (λ (u : Vector). IsPolyline (scaled_edges k (scaled_edges m es)) u cs (scaled_point (k *ℤ m) q)) (point-twice k m p)
+      (subst (λ (u : Vector). IsPolyline (scaled_edges k (scaled_edges m es)) (scaled_point k (scaled_point m p)) cs u) (point-twice k m q) h));
 }
 
 -- a line off the list itself
-pub joined-here : (es : List Edge) (p q : Vector) (cs : List Vector) → IsLine es p cs q → Joined es p q
+pub joined-here : (es : List Edge) (p q : Vector) (cs : List Vector) → IsPolyline es p cs q → Joined es p q
 joined-here es p q cs h = record { multiple = pos 1; positive = refl; corners = map (scaled_point (pos 1)) cs; line = line-times (pos 1) refl es p cs q h }
 
-pub joined-step : (es : List Edge) (p q : Vector) → IsFree es p q → Joined es p q
+pub joined-step : (es : List Edge) (p q : Vector) → IsFreeStep es p q → Joined es p q
 joined-step es p q h = joined-here es p q [] h
 
 -- ---- the laws
@@ -72,12 +66,12 @@ joined-back es p q j =
 
 -- the same at a line of the list multiplied by the other number first
 turn-line : (es : List Edge) (p q : Vector) (k m : ℤ) (cs : List Vector) →
-    IsLine (scaled_edges k (scaled_edges m es)) (scaled_point k (scaled_point m p)) cs (scaled_point k (scaled_point m q)) →
-    IsLine (scaled_edges m (scaled_edges k es)) (scaled_point m (scaled_point k p)) cs (scaled_point m (scaled_point k q))
+    IsPolyline (scaled_edges k (scaled_edges m es)) (scaled_point k (scaled_point m p)) cs (scaled_point k (scaled_point m q)) →
+    IsPolyline (scaled_edges m (scaled_edges k es)) (scaled_point m (scaled_point k p)) cs (scaled_point m (scaled_point k q))
 turn-line es p q k m cs h =
-    subst (λ (l : List Edge). IsLine l (scaled_point m (scaled_point k p)) cs (scaled_point m (scaled_point k q))) (edges-turned k m es)
-    (subst (λ (u : Vector). IsLine (scaled_edges k (scaled_edges m es)) u cs (scaled_point m (scaled_point k q))) (point-turned k m p)
-    (subst (λ (u : Vector). IsLine (scaled_edges k (scaled_edges m es)) (scaled_point k (scaled_point m p)) cs u) (point-turned k m q) h))
+    subst (λ (l : List Edge). IsPolyline l (scaled_point m (scaled_point k p)) cs (scaled_point m (scaled_point k q))) (edges-turned k m es)
+    (subst (λ (u : Vector). IsPolyline (scaled_edges k (scaled_edges m es)) u cs (scaled_point m (scaled_point k q))) (point-turned k m p)
+    (subst (λ (u : Vector). IsPolyline (scaled_edges k (scaled_edges m es)) (scaled_point k (scaled_point m p)) cs u) (point-turned k m q) h))
 
 pub joined-chain : (es : List Edge) (p q r : Vector) → Joined es p q → Joined es q r → Joined es p r
 joined-chain es p q r a b =
@@ -86,7 +80,7 @@ joined-chain es p q r a b =
     let y = turn-line es q r m k (map (scaled_point m) b.corners) (line-times m a.positive (scaled_edges k es) (scaled_point k q) b.corners (scaled_point k r) b.line) in
     joined-twice es p r k m b.positive a.positive _ (line-join (scaled_edges k (scaled_edges m es)) (scaled_point k (scaled_point m p)) (map (scaled_point k) a.corners) (scaled_point k (scaled_point m q)) (map (scaled_point m) b.corners) (scaled_point k (scaled_point m r)) x y)
 
-line-off : (es : List Edge) (p : Vector) (cs : List Vector) (q : Vector) → IsLine es p cs q → All (IsOffEdge p) es
+line-off : (es : List Edge) (p : Vector) (cs : List Vector) (q : Vector) → IsPolyline es p cs q → All (IsOffEdge p) es
 line-off es p [] q h = all-in (IsOffEdge p) es (λ e i. apart-off p q e (h e i))
 line-off es p (c ∷ cs) q h = all-in (IsOffEdge p) es (λ e i. apart-off p c e (h.0 e i))
 

@@ -3,7 +3,7 @@ use Rattle.std.proofs.Common.{List, [], ap, arith, refl, subst, suc, sym, zero, 
 use borrow.Author.Differences.{ints, up}
 use lib.IntN.{negsuc, pos, ℤ, ◌*ℤ◌, ◌-ℤ◌}
 use Rattle.lists.specs.Member.{In}
-use Rattle.paths.specs.Line.{IsApart, IsFree, IsLeftAlong}
+use Rattle.paths.specs.Line.{IsApart, IsFreeStep, IsLeftAlong}
 pub use Rattle.paths.specs.Near.{near}
 use Rattle.plane.specs.Edge.{Edge}
 use Rattle.plane.specs.Scale.{scaled_edge, scaled_point}
@@ -104,8 +104,8 @@ pub apart-near : (p q : Vector) (e : Edge) → IsApart p q e → (u v : Vector) 
 apart-near p q e a u v = record { along = a.along; first_from = inl a.first_from; first_to = inl a.first_to; last_from = inl a.last_from; last_to = inl a.last_to }
 
 -- no edge of the list is met
-pub later-free : (r u s v : Vector) (es : List Edge) → ((e : Edge) → In e es → IsNearApart r u s v e) → Later (λ k. IsFree (scaled_edges k es) (near k r u) (near k s v))
+pub later-free : (r u s v : Vector) (es : List Edge) → ((e : Edge) → In e es → IsNearApart r u s v e) → Later (λ k. IsFreeStep (scaled_edges k es) (near k r u) (near k s v))
 later-free r u s v es h =
-    later-then (λ k. (e : Edge) → In e es → IsApart (near k r u) (near k s v) (scaled_edge k e)) (λ k. IsFree (scaled_edges k es) (near k r u) (near k s v))
+    later-then (λ k. (e : Edge) → In e es → IsApart (near k r u) (near k s v) (scaled_edge k e)) (λ k. IsFreeStep (scaled_edges k es) (near k r u) (near k s v))
     (λ k hk g e i. let t = in-map-out (scaled_edge k) es e i in subst (λ w. IsApart (near k r u) (near k s v) w) (sym t.2) (g t.0 t.1))
     (later-all (λ e k. IsApart (near k r u) (near k s v) (scaled_edge k e)) es (λ e i. later-apart r u s v e (h e i)))

@@ -1,18 +1,18 @@
 mod Across
-pub mod BesideInside
+mod BesideInside
 mod Builders
-pub mod Components
-pub mod Crescents
+mod Components
 mod Feet
 mod FeetAbove
-pub mod Inside
+mod Inside
 mod Inward
-pub mod Joins
-pub mod Later
-pub mod LinkedInside
+mod Joins
+mod Later
+mod LinkedInside
 mod Middles
+pub mod PathsKit
 mod Places
-pub mod SharedPoints
-pub mod Steps
+mod SharedPoints
+mod Steps
 mod Turning
-pub mod Winds
+mod Winds

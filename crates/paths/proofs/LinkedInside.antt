@@ -14,18 +14,18 @@ use Rattle.plane.specs.Sign.{Plus, sign}
 use Rattle.plane.specs.Vector.{Vector}
 use Rattle.winding.specs.ScaledEdges.{scaled_edges}
 use Rattle.winding.specs.Sided.{IsSided}
-use Rattle.connected.proofs.LinkedPolygons.{polygon_linked}
+use Rattle.connected.proofs.ConnectedKit.{polygon_linked}
 use Rattle.lists.proofs.ListsKit.{in-map, in-map-out}
 use Rattle.nesting.proofs.NestingKit.{next_there, polygon_sided}
-use Rattle.one_ring_list.proofs.Uncrossed.{rings-uncrossed}
+use Rattle.one_ring_list.proofs.OneRingListKit.{rings-uncrossed}
 use Rattle.plane.proofs.PlaneKit.{point-twice}
 use Rattle.plane.proofs.SignKit.{plus-times}
-use Rattle.winding.proofs.WindingKit.{sided-scaled}
+use Rattle.winding.proofs.WindingKit.{edges-twice, sided-scaled}
 use Rattle.paths.proofs.Across.{across, times-swap}
 use Rattle.paths.proofs.Builders.{beside-twice}
 use Rattle.paths.proofs.Feet.{beside-joined, beside-times}
 use Rattle.paths.proofs.Inward.{inward}
-use Rattle.paths.proofs.Joins.{edges-twice, joined-back, joined-chain, joined-down, joined-up}
+use Rattle.paths.proofs.Joins.{joined-back, joined-chain, joined-down, joined-up}
 use Rattle.paths.proofs.Turning.{turning}
 
 abbrev BesideAt : ℤ → List Edge → Edge → Vector → Type 0

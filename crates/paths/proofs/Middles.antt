@@ -1,6 +1,6 @@
 -- A direction in the middle of a free sector at a point, and lines that keep it apart from the directions outside.
 use Rattle.std.proofs.Common.{Bool, ap, arith, cond, eqb, false, inl, inr, not, pos, refl, subst, sym, true, ℤ, ◌&&◌, ◌+ℤ◌, ◌-ℤ◌, ◌||◌, ◌∙◌, ◌≡◌, ◌⊎◌}
-use Rattle.paths.specs.Near.{opposite}
+use Rattle.paths.specs.Near.{opposite_of}
 use Rattle.plane.specs.Edge.{Edge, ends_at, other_end}
 use Rattle.plane.specs.Sector.{in_sector, sector_by}
 use Rattle.plane.specs.Sign.{Minus, Null, Plus, Sign, is_minus, is_null, is_plus, negated, sign}
@@ -8,7 +8,7 @@ use Rattle.plane.specs.Vector.{IsDirection, Vector, cross, dot, from_to, same_po
 use Rattle.lists.proofs.ListsKit.{or-out}
 use Rattle.nesting.proofs.NestingKit.{is_some, some-signs}
 use Rattle.plane.proofs.PlaneKit.{cross-here, cross-negated, cross-self, cross2, dot2, frame-agree, lift2, same_point-true}
-use Rattle.plane.proofs.SignKit.{agree, agree-sum, all, all-out, all2, all2-out, all4-out, imp, imp-out, is_plus-true, lift, same, same_sign, same_sign-refl, sign-reversed, times, ◌⊞◌, ◌⊟◌, ◌⊠◌}
+use Rattle.plane.proofs.SignKit.{agree, agree-sum, all2, all2-out, all4-out, imp, imp-out, is_minus-true, is_plus-true, lift, same, same_sign, same_sign-refl, sign-reversed, sum-not-minus, times, ◌⊞◌, ◌⊟◌, ◌⊠◌}
 use Rattle.std.proofs.lemmas.Bool.{and_parts}
 use Rattle.paths.proofs.Later.{IsLeftNear, IsNearApart, Leads}
 use Rattle.paths.proofs.Places.{plus}
@@ -40,17 +40,17 @@ sum-third S B W =
     let s = lift2 S in let b = lift2 B in let w = lift2 W in
     same (cross2 w s ⊞ cross2 w b) (w.x2 ⊠ (s.y2 ⊞ b.y2) ⊟ w.y2 ⊠ (s.x2 ⊞ b.x2)) (omega arith)
 
-far-first : (S B : Vector) → cross S B +ℤ cross S (opposite (plus S B)) ≡ pos 0
+far-first : (S B : Vector) → cross S B +ℤ cross S (opposite_of (plus S B)) ≡ pos 0
 far-first S B =
     let s = lift2 S in let b = lift2 B in let z = lift (pos 0) in
     same (cross2 s b ⊞ (s.x2 ⊠ (z ⊟ (s.y2 ⊞ b.y2)) ⊟ s.y2 ⊠ (z ⊟ (s.x2 ⊞ b.x2)))) z (omega arith)
 
-far-last : (S B : Vector) → cross S B +ℤ cross (opposite (plus S B)) B ≡ pos 0
+far-last : (S B : Vector) → cross S B +ℤ cross (opposite_of (plus S B)) B ≡ pos 0
 far-last S B =
     let s = lift2 S in let b = lift2 B in let z = lift (pos 0) in
     same (cross2 s b ⊞ ((z ⊟ (s.x2 ⊞ b.x2)) ⊠ b.y2 ⊟ (z ⊟ (s.y2 ⊞ b.y2)) ⊠ b.x2)) z (omega arith)
 
-far-third : (S B W : Vector) → cross S W +ℤ cross B W ≡ cross W (opposite (plus S B))
+far-third : (S B W : Vector) → cross S W +ℤ cross B W ≡ cross W (opposite_of (plus S B))
 far-third S B W =
     let s = lift2 S in let b = lift2 B in let w = lift2 W in let z = lift (pos 0) in
     same (cross2 s w ⊞ cross2 b w) (w.x2 ⊠ (z ⊟ (s.y2 ⊞ b.y2)) ⊟ w.y2 ⊠ (z ⊟ (s.x2 ⊞ b.x2))) (omega arith)
@@ -76,12 +76,12 @@ middle-by S B d Plus h n = record {
       (agree-sum (cross W S) (cross W B) (cross W (plus S B)) (sum-third S B W))));
 }
 middle-by S B d Minus h n = record {
-  way = opposite (plus S B);
-  after = sign-reversed (cross S B) (cross S (opposite (plus S B))) (far-first S B) ∙ ap negated h;
-  before = sign-reversed (cross S B) (cross (opposite (plus S B)) B) (far-last S B) ∙ ap negated h;
+  way = opposite_of (plus S B);
+  after = sign-reversed (cross S B) (cross S (opposite_of (plus S B))) (far-first S B) ∙ ap negated h;
+  before = sign-reversed (cross S B) (cross (opposite_of (plus S B)) B) (far-last S B) ∙ ap negated h;
   lies = λ W.
-      subst (λ c. lies_by c (sign (cross S W)) (sign (cross B W)) (sign (dot S W)) (sign (cross W (opposite (plus S B)))) ≡ true) (sym h)
-      (agree-sum (cross S W) (cross B W) (cross W (opposite (plus S B))) (far-third S B W));
+      subst (λ c. lies_by c (sign (cross S W)) (sign (cross B W)) (sign (dot S W)) (sign (cross W (opposite_of (plus S B)))) ≡ true) (sym h)
+      (agree-sum (cross S W) (cross B W) (cross W (opposite_of (plus S B))) (far-third S B W));
 }
 middle-by S B d Null h n = record {
   way = quarter S;
@@ -112,11 +112,6 @@ out_1 x y t c = all2 λ e a.
     imp (eqb (sector_by x y t c e) 0) λ _.
     imp (lies_by c y e x a) λ _.
     (is_minus y || is_minus a) && (is_plus e || is_plus a)
-
-is_minus-true : (s : Sign) → is_minus s ≡ true → s ≡ Minus
-is_minus-true Minus h = refl
-is_minus-true Null h = absurd (cc h)
-is_minus-true Plus h = absurd (cc h)
 
 module _ (S B : Vector) (ds : IsDirection S) (db : IsDirection B) (nb : not (is_null (sign (cross S B)) && is_plus (sign (dot S B))) ≡ true) (M : Middle S B)
     (W : Vector) (dw : IsDirection W) (nw : not (is_null (sign (cross S W)) && is_plus (sign (dot S W))) ≡ true) (z : in_sector S B W ≡ 0) where
@@ -167,13 +162,8 @@ minus-third P Q W =
     let p = lift2 P in let q = lift2 Q in let w = lift2 W in
     same (cross2 q w ⊞ cross2 w p) ((q.x2 ⊟ p.x2) ⊠ w.y2 ⊟ (q.y2 ⊟ p.y2) ⊠ w.x2) (omega arith)
 
-opposite-cross : (W P : Vector) → cross (opposite W) P ≡ cross P W
+opposite-cross : (W P : Vector) → cross (opposite_of W) P ≡ cross P W
 opposite-cross W P = let w = lift2 W in let p = lift2 P in let z = lift (pos 0) in same ((z ⊟ w.x2) ⊠ p.y2 ⊟ (z ⊟ w.y2) ⊠ p.x2) (cross2 p w) (omega arith)
-
-not-minus-sum : (s t u : Sign) → agree s t u ≡ true → not (is_minus s) ≡ true → not (is_minus t) ≡ true → not (is_minus u) ≡ true
-not-minus-sum s t u h k m =
-    imp-out _ _ (imp-out _ _ (imp-out _ _ (all-out (λ u. imp (agree s t u) λ _. imp (not (is_minus s)) λ _. imp (not (is_minus t)) λ _. not (is_minus u))
-    (all2-out (λ s t. all λ u. imp (agree s t u) λ _. imp (not (is_minus s)) λ _. imp (not (is_minus t)) λ _. not (is_minus u)) refl s t) u) h) k) m
 
 module _ (P Q W : Vector) (pq : sign (cross P Q) ≡ Plus) where
   by-difference : not (is_plus (sign (cross W Q))) ≡ true → not (is_plus (sign (cross P W))) ≡ true → IsCone P Q W
@@ -181,7 +171,7 @@ module _ (P Q W : Vector) (pq : sign (cross P Q) ≡ Plus) where
     along = minus Q P;
     first = sign-reversed (cross P Q) (cross (minus Q P) P) (minus-first P Q) ∙ ap negated pq;
     last = sign-reversed (cross P Q) (cross (minus Q P) Q) (minus-last P Q) ∙ ap negated pq;
-    other = not-minus-sum (sign (cross Q W)) (sign (cross W P)) (sign (cross (minus Q P) W)) (agree-sum (cross Q W) (cross W P) (cross (minus Q P) W) (minus-third P Q W))
+    other = sum-not-minus (sign (cross Q W)) (sign (cross W P)) (sign (cross (minus Q P) W)) (agree-sum (cross Q W) (cross W P) (cross (minus Q P) W) (minus-third P Q W))
         (ap (λ s. not (is_minus s)) (cross-negated W Q) ∙ flip (sign (cross W Q)) h) (ap (λ s. not (is_minus s)) (cross-negated P W) ∙ flip (sign (cross P W)) k);
   }
     where
@@ -192,7 +182,7 @@ module _ (P Q W : Vector) (pq : sign (cross P Q) ≡ Plus) where
 
   by-back : sign (cross W Q) ≡ Plus → sign (cross P W) ≡ Minus → IsCone P Q W
   by-back h k = record {
-    along = opposite W;
+    along = opposite_of W;
     first = ap sign (opposite-cross W P) ∙ k;
     last = ap sign (opposite-cross W Q) ∙ cross-negated W Q ∙ ap negated h;
     other = ap (λ z. not (is_minus (sign z))) (opposite-cross W W ∙ cross-self W);

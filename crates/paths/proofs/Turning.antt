@@ -15,7 +15,7 @@ use Rattle.winding.specs.Ring.{segments_of}
 use Rattle.winding.specs.Sided.{IsSided}
 use Rattle.lists.proofs.ListsKit.{in-all, in-map, into-filter}
 use Rattle.nesting.proofs.NestingKit.{clear-two, next_leaves, no-loop-segments, rise, segment-back, segment-ends, sym-differs, way-segment}
-use Rattle.plane.proofs.PlaneKit.{cross-here, cross-negated, cross-self, ends_at-to, from_to-scaled, point-once, same_edge-true, same_edge_by, same_point-refl, same_vector}
+use Rattle.plane.proofs.PlaneKit.{cross-here, cross-negated, cross-self, dot-times, ends_at-to, from_to-scaled, point-once, same_edge-true, same_edge_by, same_point-refl, same_vector}
 use Rattle.plane.proofs.SignKit.{lift, plus-times, same, sign-from, ◌⊞◌, ◌⊟◌, ◌⊠◌}
 use Rattle.winding.proofs.WindingKit.{off_away, way, way-direction, ways_apart}
 use Rattle.paths.proofs.Builders.{are-beside, later-beside, later-turned}
@@ -42,11 +42,6 @@ dot-first k d w =
     let k' = lift k in let a = lift d.x in let b = lift d.y in let c = lift w.x in let e = lift w.y in
     same ((k' ⊠ a) ⊠ c ⊞ (k' ⊠ b) ⊠ e) (k' ⊠ (a ⊠ c ⊞ b ⊠ e)) (omega arith)
 
-dot-last : (k : ℤ) (d w : Vector) → dot d (scaled_point k w) ≡ k *ℤ dot d w
-dot-last k d w =
-    let k' = lift k in let a = lift d.x in let b = lift d.y in let c = lift w.x in let e = lift w.y in
-    same (a ⊠ (k' ⊠ c) ⊞ b ⊠ (k' ⊠ e)) (k' ⊠ (a ⊠ c ⊞ b ⊠ e)) (omega arith)
-
 less-one : (k : ℕ) → 1 < k → sign (pos k -ℤ pos 1) ≡ Plus
 less-one k h = sign-from Plus (pos k -ℤ pos 1) (omega (arith, ints))
 
@@ -59,17 +54,22 @@ between-spoke v w d k hk hl =
       on_line = ap (λ z. sign (cross z (from_to (scaled_point k v) (near k v D)))) l ∙ ap (λ z. sign (cross (scaled_point k D) z)) s ∙ ap sign (first-times k D D) ∙ plus-times k (cross D D) hk ∙ ap sign (cross-self D);
       after_s = ap (λ z. sign (dot z (from_to (scaled_point k v) (near k v D)))) l ∙ ap (λ z. sign (dot (scaled_point k D) z)) s ∙ ap sign (dot-first k D D) ∙ plus-times k (dot D D) hk ∙ d;
       before_t = ap (λ z. sign (dot z (from_to (near k v D) (scaled_point k w)))) l ∙ ap (λ z. sign (dot (scaled_point k D) z)) r ∙ ap sign (dot-first k D (scaled_point (k -ℤ pos 1) D)) ∙ plus-times k (dot D (scaled_point (k -ℤ pos 1) D)) hk
-          ∙ ap sign (dot-last (k -ℤ pos 1) D D) ∙ plus-times (k -ℤ pos 1) (dot D D) hl ∙ d;
+          ∙ ap sign (dot-times (k -ℤ pos 1) D D) ∙ plus-times (k -ℤ pos 1) (dot D D) hl ∙ d;
     }
+
+-- so the point is strictly inside the step from some multiple on
+pub later-along : (v w : Vector) → IsDirection (from_to v w) → Later (λ k. IsBetween (scaled_point k v) (scaled_point k w) (near k v (from_to v w)))
+later-along v w d = (1, λ k h. between-spoke v w d (pos k) (some k h) (less-one k h))
 
 -- multiplied by one
 pub later-spoke : (v w : Vector) → IsDirection (from_to v w) → Later (λ k. IsBetween (scaled_point k (scaled_point (pos 1) v)) (scaled_point k (scaled_point (pos 1) w)) (near k v (from_to v w)))
-later-spoke v w d = (
-  1,
-  λ k h.
-      subst (λ z. IsBetween (scaled_point (pos k) z) (scaled_point (pos k) (scaled_point (pos 1) w)) (near (pos k) v (from_to v w))) (sym (point-once v))
-      (subst (λ z. IsBetween (scaled_point (pos k) v) (scaled_point (pos k) z) (near (pos k) v (from_to v w))) (sym (point-once w)) (between-spoke v w d (pos k) (some k h) (less-one k h))),
-)
+later-spoke v w d =
+    let b = later-along v w d in (
+      b.0,
+      λ k h.
+          subst (λ z. IsBetween (scaled_point (pos k) z) (scaled_point (pos k) (scaled_point (pos 1) w)) (near (pos k) v (from_to v w))) (sym (point-once v))
+          (subst (λ z. IsBetween (scaled_point (pos k) v) (scaled_point (pos k) z) (near (pos k) v (from_to v w))) (sym (point-once w)) (b.1 k h)),
+    )
 
 edge-once : (g : Edge) → scaled_edge (pos 1) g ≡ g
 edge-once g = same_edge_by (scaled_point (pos 1) g.from) (scaled_point (pos 1) g.to) g.from g.to (point-once g.from) (point-once g.to)

@@ -1,7 +1,7 @@
 -- The winding number is the same at points that are joined.
 use Rattle.std.proofs.Common.{All, Bool, List, [], ap, eqb, eqb-true, false, pos, refl, subst, sym, true, ◌-ℤ◌, ◌∙◌, ◌∷◌, ◌≡◌, ◌+ℤ◌, ◌*ℤ◌}
 use Rattle.paths.specs.Inside.{IsInside, IsLineInside, IsStepInside}
-use Rattle.paths.specs.Line.{IsApart, IsFree, IsLine, Joined}
+use Rattle.paths.specs.Line.{IsApart, IsFreeStep, IsPolyline, Joined}
 use Rattle.plane.specs.Edge.{Edge}
 use Rattle.plane.specs.RayCrossing.{IsOffEdge, down_by, up_by}
 use Rattle.plane.specs.Scale.{scaled_edge, scaled_point}
@@ -72,10 +72,10 @@ step-direction p q h =
     let e = same_vector p.x p.y q.x q.y (sym (same_from_difference q.x p.x k)) (sym (same_from_difference q.y p.y l)) in
     let f = ap (same_point p) e in let g = same_point-refl p in cc (sym g ∙ f ∙ h))
 
-pub free-off : (es : List Edge) (p q : Vector) → IsFree es p q → All (IsOffEdge p) es
+pub free-off : (es : List Edge) (p q : Vector) → IsFreeStep es p q → All (IsOffEdge p) es
 free-off es p q f = all-in (IsOffEdge p) es (λ e i. apart-off p q e (f e i))
 
-step-by : (es : List Edge) → IsBalanced es → (p q : Vector) → IsFree es p q → (b : Bool) → same_point p q ≡ b → winding_number east p es ≡ winding_number east q es
+step-by : (es : List Edge) → IsBalanced es → (p q : Vector) → IsFreeStep es p q → (b : Bool) → same_point p q ≡ b → winding_number east p es ≡ winding_number east q es
 step-by es bal p q f true h = ap (λ w. winding_number east w es) (same_point-true p q h)
 step-by es bal p q f false h =
     let d = from_to p q in let pd = step-direction p q h in
@@ -85,10 +85,10 @@ step-by es bal p q f false h =
     ∙ ap (λ n. pos n -ℤ pos (down_count d p es)) u ∙ ap (λ n. pos (up_count d q es) -ℤ pos n) w
     ∙ winding_independent d east q pd east-direction es (free-off es q p (λ e i. apart-back p q e (f e i))) bal
 
-pub step-winds : (es : List Edge) → IsBalanced es → (p q : Vector) → IsFree es p q → winding_number east p es ≡ winding_number east q es
+pub step-winds : (es : List Edge) → IsBalanced es → (p q : Vector) → IsFreeStep es p q → winding_number east p es ≡ winding_number east q es
 step-winds es bal p q f = step-by es bal p q f (same_point p q) refl
 
-pub line-winds : (es : List Edge) → IsBalanced es → (p : Vector) (cs : List Vector) (q : Vector) → IsLine es p cs q → winding_number east p es ≡ winding_number east q es
+pub line-winds : (es : List Edge) → IsBalanced es → (p : Vector) (cs : List Vector) (q : Vector) → IsPolyline es p cs q → winding_number east p es ≡ winding_number east q es
 line-winds es bal p [] q l = step-winds es bal p q l
 line-winds es bal p (c ∷ cs) q l = step-winds es bal p c l.0 ∙ line-winds es bal c cs q l.1
 
@@ -98,19 +98,19 @@ joined-winds es bal p q j =
     sym (winding-scaled m j.positive east p es) ∙ line-winds (scaled_edges m es) (balanced-scaled m j.positive es bal) (scaled_point m p) j.corners (scaled_point m q) j.line ∙ winding-scaled m j.positive east q es
 
 -- ---- a line that begins inside
-pub step-inside : (es : List Edge) → IsBalanced es → (p q : Vector) → IsFree es p q → IsInside es p → IsStepInside es p q
+pub step-inside : (es : List Edge) → IsBalanced es → (p q : Vector) → IsFreeStep es p q → IsInside es p → IsStepInside es p q
 step-inside es bal p q f i = λ a b ha hb k.
     let m = a +ℤ b in let l = scaled_edges m es in
     let x : Vector = record { x = a *ℤ p.x +ℤ b *ℤ q.x; y = a *ℤ p.y +ℤ b *ℤ q.y } in
-    let g : IsFree l (scaled_point m p) x = λ e j. (let r = in-map-out (scaled_edge m) es e j in subst (λ w. IsApart (scaled_point m p) x w) (sym r.2) (apart-until p q r.0 (f r.0 r.1) a b ha hb k)) in
+    let g : IsFreeStep l (scaled_point m p) x = λ e j. (let r = in-map-out (scaled_edge m) es e j in subst (λ w. IsApart (scaled_point m p) x w) (sym r.2) (apart-until p q r.0 (f r.0 r.1) a b ha hb k)) in
     record {
       off = free-off l x (scaled_point m p) (λ e j. apart-back (scaled_point m p) x e (g e j));
       once = sym (step-winds l (balanced-scaled m k es bal) (scaled_point m p) x g) ∙ winding-scaled m k east p es ∙ i.once;
     }
 
-next-inside : (es : List Edge) → IsBalanced es → (p q : Vector) → IsFree es p q → IsInside es p → IsInside es q
+next-inside : (es : List Edge) → IsBalanced es → (p q : Vector) → IsFreeStep es p q → IsInside es p → IsInside es q
 next-inside es bal p q f i = record { off = free-off es q p (λ e j. apart-back p q e (f e j)); once = sym (step-winds es bal p q f) ∙ i.once }
 
-pub line-inside : (es : List Edge) → IsBalanced es → (p : Vector) (cs : List Vector) (q : Vector) → IsLine es p cs q → IsInside es p → IsLineInside es p cs q
+pub line-inside : (es : List Edge) → IsBalanced es → (p : Vector) (cs : List Vector) (q : Vector) → IsPolyline es p cs q → IsInside es p → IsLineInside es p cs q
 line-inside es bal p [] q l i = step-inside es bal p q l i
 line-inside es bal p (c ∷ cs) q l i = (step-inside es bal p c l.0 i, line-inside es bal c cs q l.1 (next-inside es bal p c l.0 i))

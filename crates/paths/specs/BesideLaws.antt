@@ -1,28 +1,40 @@
 -- Points beside the edges of a sided list, as statements.
-use Rattle.std.specs.Prelude.{List, ℕ, ◌<◌, ◌≡◌}
+use Rattle.std.specs.Prelude.{List, false, ℕ, ◌<◌, ◌≡◌}
 use lib.IntN.{pos, ℤ}
 use Rattle.connected.specs.Linked.{IsAcross}
 use Rattle.lists.specs.Member.{In}
 use Rattle.nesting.specs.Walk.{IsSuccessor}
-use Rattle.paths.specs.Beside.{AreBeside, IsLeftBeside, ReachesEdge}
+use Rattle.paths.specs.Beside.{AreBeside, IsLeftBeside, ReachesEdge, WindsMore, times_in}
 use Rattle.paths.specs.Inside.{IsInside, PartsInside}
 use Rattle.paths.specs.Line.{Joined}
-use Rattle.paths.specs.Near.{near, opposite}
-use Rattle.plane.specs.Edge.{Edge}
+use Rattle.paths.specs.Near.{near, opposite_of}
+use Rattle.plane.specs.Edge.{Edge, same_edge}
 use Rattle.plane.specs.FreeSegment.{IsBetween}
-use Rattle.plane.specs.Scale.{scaled_point}
+use Rattle.plane.specs.RayCrossing.{IsOffEdge}
+use Rattle.plane.specs.Scale.{scaled_edge, scaled_point}
 use Rattle.plane.specs.Sign.{Plus, sign}
 use Rattle.plane.specs.Vector.{Vector, cross, from_to}
+use Rattle.winding.specs.EdgeList.{IsBalanced}
 use Rattle.winding.specs.ScaledEdges.{scaled_edges}
 use Rattle.winding.specs.Sided.{IsSided}
 
--- at each point r / q strictly inside an edge, and for each direction u to its left: from some k on, (r + u / k) / q is inside and
+-- at each point r / q strictly inside an edge, and for each direction u to its left. From some k on, (r + u / k) / q is inside and
 -- (r - u / k) / q is outside. So no edge has the inside on both of its sides, or on none
 abbrev pub EdgePartsInside : Type 0
 EdgePartsInside =
     (es : List Edge) → IsSided es → (e : Edge) → In e es → (q : ℤ) → sign q ≡ Plus → (r u : Vector) →
     IsBetween (scaled_point q e.from) (scaled_point q e.to) r → sign (cross (from_to e.from e.to) u) ≡ Plus →
-    (n : ℕ) × ((k : ℕ) → n < k → PartsInside (scaled_edges (pos k) (scaled_edges q es)) (near (pos k) r u) (near (pos k) r (opposite u)))
+    (n : ℕ) × ((k : ℕ) → n < k → PartsInside (scaled_edges (pos k) (scaled_edges q es)) (near (pos k) r u) (near (pos k) r (opposite_of u)))
+
+-- take a closed list, an edge, and a point r / q strictly inside the edge that no other edge of the list passes. Compare a point close to it
+-- on the left, (r + u / k) / q, with one on the right, (r - u / k) / q. From some k on, the list winds round the first as many times more as
+-- the edge is in it
+abbrev pub WindsAcrossEdge : Type 0
+WindsAcrossEdge =
+    (es : List Edge) → IsBalanced es → (e : Edge) (q : ℤ) → sign q ≡ Plus → (r u : Vector) →
+    IsBetween (scaled_point q e.from) (scaled_point q e.to) r → sign (cross (from_to e.from e.to) u) ≡ Plus →
+    ((f : Edge) → In f es → same_edge e f ≡ false → IsOffEdge r (scaled_edge q f)) →
+    (n : ℕ) × ((k : ℕ) → n < k → WindsMore (scaled_edges (pos k) (scaled_edges q es)) (near (pos k) r u) (near (pos k) r (opposite_of u)) (times_in e es))
 
 -- a point left beside an edge is inside
 abbrev pub BesideIsInside : Type 0

@@ -3,11 +3,10 @@ use Rattle.std.specs.Prelude.{List, ◌↔◌, ◌≡◌}
 use lib.IntN.{ℤ}
 use Rattle.connected.specs.Linked.{Linked}
 use Rattle.lists.specs.Member.{In}
-use Rattle.nesting.specs.Polygon.{ArePolygons, IsPolygon, Polygon, polygon_edges}
-use Rattle.nesting.specs.RingList.{IsRingList}
+use Rattle.nesting.specs.Polygon.{ArePolygons, Polygon, polygon_edges}
 use Rattle.one_ring_list.specs.RingListOf.{IsRingListOf}
 use Rattle.paths.specs.Inside.{AreInOne, IsInside, IsLineInside}
-use Rattle.paths.specs.Line.{IsLine, Joined}
+use Rattle.paths.specs.Line.{IsPolyline, Joined}
 use Rattle.plane.specs.Edge.{Edge}
 use Rattle.plane.specs.Sign.{Plus, sign}
 use Rattle.plane.specs.Vector.{Vector}
@@ -18,7 +17,7 @@ use Rattle.winding.specs.Sided.{IsSided}
 -- a line that meets no edge and begins inside is inside with each of its points
 abbrev pub LineStaysInside : Type 0
 LineStaysInside =
-    (es : List Edge) → IsBalanced es → (p : Vector) (cs : List Vector) (q : Vector) → IsLine es p cs q →
+    (es : List Edge) → IsBalanced es → (p : Vector) (cs : List Vector) (q : Vector) → IsPolyline es p cs q →
     IsInside es p → IsLineInside es p cs q
 
 -- where any two edges of a sided list are linked, any two points p.x / k, p.y / k and q.x / k, q.y / k inside are joined
@@ -43,11 +42,3 @@ PolygonsAreParts =
     (es : List Edge) → IsSided es → (rs : List (List Edge)) → IsRingListOf es rs → (gs : List Polygon) →
     ArePolygons rs gs → (k : ℤ) → sign k ≡ Plus → (p q : Vector) → IsInside (scaled_edges k es) p →
     IsInside (scaled_edges k es) q → Joined (scaled_edges k es) p q ↔ AreInOne k gs p q
-
--- that each ring lies within one walk can't be left out: two crescents that share both tips are an outline with a hole as well,
--- and then the interior is in two parts
-abbrev pub WalksAreNeeded : Type 0
-WalksAreNeeded =
-    (rs : List (List Edge)) × (g : Polygon) × (k : ℤ) × (p : Vector) × (q : Vector) × (sign k ≡ Plus) × IsRingList rs
-    × IsPolygon rs g × IsInside (scaled_edges k (polygon_edges g)) p × IsInside (scaled_edges k (polygon_edges g)) q
-    × (Joined (scaled_edges k (polygon_edges g)) p q → ⊥)

@@ -13,7 +13,7 @@ use Rattle.winding.specs.ScaledEdges.{scaled_edges}
 abbrev pub IsLeftAlong : Vector → Vector → Vector → Type 0
 IsLeftAlong d p w = sign (cross d (from_to p w)) ≡ Plus
 
--- a straight line keeps the step from p to q apart from the edge: seen from p and from q, both ends of the edge are strictly on the left
+-- a straight line keeps the step from p to q apart from the edge. Seen from p and from q, both ends of the edge are strictly on the left
 -- of its direction. So the step shares no point with the edge, also where p is q
 pub record IsApart (p q : Vector) (e : Edge) : Type 0 where
   pub along : Vector
@@ -29,17 +29,17 @@ ShareNoPoint p q e =
     IsOffEdge (record { x = a *ℤ p.x +ℤ b *ℤ q.x; y = a *ℤ p.y +ℤ b *ℤ q.y }) (scaled_edge (a +ℤ b) e)
 
 -- the step meets no edge of the list
-abbrev pub IsFree : List Edge → Vector → Vector → Type 0
-IsFree es p q = (e : Edge) → In e es → IsApart p q e
+abbrev pub IsFreeStep : List Edge → Vector → Vector → Type 0
+IsFreeStep es p q = (e : Edge) → In e es → IsApart p q e
 
 -- a polygonal line from p by the corners to q, no step of which meets an edge of the list
-abbrev pub IsLine : List Edge → Vector → List Vector → Vector → Type 0
-IsLine es p [] q = IsFree es p q
-IsLine es p (c ∷ cs) q = IsFree es p c × IsLine es c cs q
+abbrev pub IsPolyline : List Edge → Vector → List Vector → Vector → Type 0
+IsPolyline es p [] q = IsFreeStep es p q
+IsPolyline es p (c ∷ cs) q = IsFreeStep es p c × IsPolyline es c cs q
 
 -- p and q are joined by a polygonal line with rational corners that meets no edge: all multiplied by one number, the corners are whole points
 pub record Joined (es : List Edge) (p q : Vector) : Type 0 where
   pub multiple : ℤ
   pub positive : sign multiple ≡ Plus
   pub corners : List Vector
-  pub line : IsLine (scaled_edges multiple es) (scaled_point multiple p) corners (scaled_point multiple q)
+  pub line : IsPolyline (scaled_edges multiple es) (scaled_point multiple p) corners (scaled_point multiple q)

@@ -6,5 +6,5 @@ use Rattle.plane.specs.Vector.{Vector}
 abbrev pub near : ℤ → Vector → Vector → Vector
 near k r u = record { x = k *ℤ r.x +ℤ u.x; y = k *ℤ r.y +ℤ u.y }
 
-abbrev pub opposite : Vector → Vector
-opposite u = record { x = pos 0 -ℤ u.x; y = pos 0 -ℤ u.y }
+abbrev pub opposite_of : Vector → Vector
+opposite_of u = record { x = pos 0 -ℤ u.x; y = pos 0 -ℤ u.y }

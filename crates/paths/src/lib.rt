@@ -5,8 +5,8 @@
 #![tactic(auto)]
 
 ghost use Rattle.paths.specs.LineLaws.{ApartSharesNoPoint, JoinedToItself, JoinedIsSymmetric, JoinedIsTransitive, JoinedIsOff, JoinedWindsAlike, ScaledIsJoined};
-ghost use Rattle.paths.specs.BesideLaws.{EdgePartsInside, BesideIsInside, EdgeHasBeside, BesideOneEdgeJoined, SuccessorIsBeside, AcrossIsBeside, InsideReachesEdge};
-ghost use Rattle.paths.specs.ConnectedLaws.{LineStaysInside, LinkedInsideIsJoined, PolygonIsConnected, PolygonsAreParts, WalksAreNeeded};
+ghost use Rattle.paths.specs.BesideLaws.{EdgePartsInside, WindsAcrossEdge, BesideIsInside, EdgeHasBeside, BesideOneEdgeJoined, SuccessorIsBeside, AcrossIsBeside, InsideReachesEdge};
+ghost use Rattle.paths.specs.ConnectedLaws.{LineStaysInside, LinkedInsideIsJoined, PolygonIsConnected, PolygonsAreParts};
 
 /// A straight line keeps a step apart from an edge exactly where the two share no point.
 pub fn apart_shares_no_point()
@@ -23,13 +23,15 @@ pub fn joined_is_equivalence()
     ensures scaled { ScaledIsJoined }
 {}
 
-/// Each edge of a sided list has the inside on its left, all along, and the outside on its right.
+/// Each edge of a sided list has the inside on its left, all along, and the outside on its right. Across an edge of any closed list the
+/// winding number changes by how often the edge is in the list.
 pub fn edge_parts_inside()
-    ensures { EdgePartsInside }
+    ensures parts { EdgePartsInside }
+    ensures winds { WindsAcrossEdge }
 {}
 
-/// The left side of an edge is not empty, inside, joined in itself, to that of the successor, and across to that of the nearest edge on the
-/// left; each point inside is joined to one.
+/// The left side of an edge isn't empty, is inside, and is joined in itself. It is joined to that of the successor, and across to that of the
+/// nearest edge on the left. Each point inside is joined to one.
 pub fn left_sides_are_joined()
     ensures beside { BesideIsInside }
     ensures some { EdgeHasBeside }
@@ -45,10 +47,8 @@ pub fn line_stays_inside()
 {}
 
 /// The interior of a polygon is connected; the interiors of the polygons are the connected parts of the inside of the list.
-/// That each ring lies within one walk can't be left out.
 pub fn polygon_is_connected()
     ensures linked { LinkedInsideIsJoined }
     ensures polygon { PolygonIsConnected }
     ensures parts { PolygonsAreParts }
-    ensures needed { WalksAreNeeded }
 {}

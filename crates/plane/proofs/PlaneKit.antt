@@ -6,7 +6,7 @@ pub use Rattle.plane.proofs.Heights.{crossed-by, distance-change, order_persists
 pub use Rattle.plane.proofs.PointOrder.{line-order, line-order-up, order-null, order-reversed, order-self, order-self-null, order-sum, rising-direction}
 pub use Rattle.plane.proofs.Points.{same_point-refl, same_point-true, same_vector, vector_of}
 pub use Rattle.plane.proofs.Products.{cross-agree, cross-chain, cross-from-here, cross-here, cross-negated, cross-reversed, cross-self, cross2, direction-back, direction-from, dot-chain, dot-east, dot-here, dot-reversed, dot-swap, dot-there_back, dot2, frame-agree, frame-dot-agree, from_to2, lift2, orient-round, plucker-agree, plucker-dot-agree, reversed-side, side-moves, side-there}
-pub use Rattle.plane.proofs.RayCrossings.{at-end-by, cross-east, crossing-bit, crossings-left, crossings_at, down_seen, east-direction, east-side, left-signs, level-side, not-left, off_by-no, off_by-set, rightward_crossing, rise-y, sector-east, up_seen}
+pub use Rattle.plane.proofs.RayCrossings.{at-end-by, cross-east, crossing-bit, crossings-left, crossings_at, down_seen, east-direction, east-side, left-signs, level-side, not-left, off-turned, off_by-no, off_by-set, rightward_crossing, rise-y, sector-east, up_seen}
 pub use Rattle.plane.proofs.Scaling.{conflicts-scaled, cross-scaled, cross-times, crosses-scaled, crossing-scaled, dot-both, dot-times, edge-scaled, from_to-scaled, left-scaled, level-scaled, minus-sign, order-scaled, orient-scaled, point-back, point-once, point-scaled, point-turned, point-twice, right-scaled, sector-seen-scaled, span-scaled, times-turned}
 pub use Rattle.plane.proofs.Sectors.{here-outside, opposite-in, own-out, sector_lemma}
 pub use Rattle.plane.proofs.Views.{View, cross-weigh, dot-weigh, mid, mid-first, mid-last, mid_reversed, view_at, view_mid, view_weighted, weigh}

@@ -1,5 +1,5 @@
 -- Crossings of a ray, in the words of orders and of heights.
-use Rattle.std.proofs.Common.{Bool, ap, arith, eqb, eqb-true, false, not, refl, subst, true, ℕ, ◌&&◌, ◌+◌, ◌||◌, ◌↔◌, ◌≡◌}
+use Rattle.std.proofs.Common.{Bool, ap, arith, eqb, eqb-true, false, not, refl, subst, true, ℕ, ◌&&◌, ◌+◌, ◌||◌, ◌∙◌, ◌↔◌, ◌≡◌}
 use borrow.Author.Differences.{ints}
 use lib.IntN.{pos, ℤ, ◌-ℤ◌}
 use lib.Signed.{◌<ℤ◌, ◌≤ℤ◌}
@@ -8,11 +8,11 @@ use Rattle.plane.specs.Edge.{Edge, IsRising, ends_at}
 use Rattle.plane.specs.Height.{is_in_span, is_left_of}
 use Rattle.plane.specs.RayCrossing.{crosses_down, crosses_up, down_by, down_crossing, off_by, up_by, up_crossing}
 use Rattle.plane.specs.Sector.{in_sector, sector_by}
-use Rattle.plane.specs.Sign.{Minus, Null, Plus, Sign, is_minus, is_null, is_plus, sign}
-use Rattle.plane.specs.Vector.{IsDirection, Vector, cross, east, from_to, orient, same_point}
+use Rattle.plane.specs.Sign.{Minus, Null, Plus, Sign, is_minus, is_null, is_plus, negated, sign}
+use Rattle.plane.specs.Vector.{IsDirection, Vector, cross, dot, east, from_to, orient, same_point}
 use Rattle.plane.proofs.Identities.{lift, same, ◌⊟◌, ◌⊠◌}
 use Rattle.plane.proofs.Points.{same_point-true}
-use Rattle.plane.proofs.Products.{cross-agree, cross-here, cross-self, dot-east, orient-round}
+use Rattle.plane.proofs.Products.{cross-agree, cross-here, cross-negated, cross-self, dot-east, dot-swap, orient-round}
 use Rattle.plane.proofs.Signs.{Says, agree, agree-sum, all, all-out, all2-out, all4-out, both, imp, imp-out, left-out, not-minus-by, right-out, same_sign, same_sign-true, says, times}
 use Rattle.plane.proofs.Bits.{bit-and_no}
 
@@ -26,6 +26,15 @@ pub off_by-no : (c s : Sign) → off_by c s ≡ false → c ≡ Null
 off_by-no Null s h = refl
 off_by-no Plus s h = absurd (cc h)
 off_by-no Minus s h = absurd (cc h)
+
+off-negated : (c s : Sign) → off_by (negated c) s ≡ off_by c s
+off-negated Plus s = refl
+off-negated Minus s = refl
+off-negated Null s = refl
+
+-- the edge may run either way
+pub off-turned : (a b : Vector) → off_by (sign (cross b a)) (sign (dot b a)) ≡ off_by (sign (cross a b)) (sign (dot a b))
+off-turned a b = ap (λ c. off_by c (sign (dot b a))) (cross-negated a b) ∙ ap (λ z. off_by (negated (sign (cross a b))) (sign z)) (dot-swap a b) ∙ off-negated (sign (cross a b)) (sign (dot a b))
 
 -- ---- a hit, by orders
 up-out : (s t u : Sign) (x y z : ℤ) → Says s x → Says t y → Says u z → up_by s t u ≡ 1 → (x ≤ℤ pos 0) × (pos 0 <ℤ y) × (pos 0 <ℤ z)

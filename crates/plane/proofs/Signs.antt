@@ -202,6 +202,11 @@ is_null-true Null h = refl
 is_null-true Plus h = absurd (cc h)
 is_null-true Minus h = absurd (cc h)
 
+pub is_minus-true : (s : Sign) → is_minus s ≡ true → s ≡ Minus
+is_minus-true Minus h = refl
+is_minus-true Plus h = absurd (cc h)
+is_minus-true Null h = absurd (cc h)
+
 pub minus-not-plus : (s : Sign) → s ≡ Minus → not (is_plus s) ≡ true
 minus-not-plus s h = ap (λ t. not (is_plus t)) h
 

@@ -1,102 +1,51 @@
 -- Each hole of a polygon makes one connected part of its exterior: the hole with its ring reversed is a sided list whose edges are linked.
-use Rattle.std.proofs.Common.{All, Bool, List, [], ap, arith, cond, false, inl, inr, map, refl, subst, sym, true, ℕ, ◌+◌, ◌∙◌, ◌∷◌, ◌↔◌, ◌≡◌, ◌≤◌, ◌⊎◌}
-use Rattle.std.specs.List.{count_by}
+use Rattle.std.proofs.Common.{All, Bool, List, [], ap, arith, false, inl, inr, map, refl, subst, sym, true, ℕ, ◌<◌, ◌∙◌, ◌∷◌, ◌↔◌, ◌≡◌, ◌≤◌, ◌⊎◌}
 use borrow.Author.Differences.{ints}
 use lib.IntN.{pos, ℤ, ◌*ℤ◌, ◌+ℤ◌, ◌-ℤ◌}
 use Rattle.connected.specs.Linked.{Linked}
 use Rattle.connected.specs.Linked.Linked.{Back, Follows, Itself, Through}
-use Rattle.lists.specs.Member.{EachPair, In}
+use Rattle.lists.specs.Member.{In}
 use Rattle.nesting.specs.Nesting.{edges_of}
 use Rattle.nesting.specs.Polygon.{Polygon, polygon_edges}
 use Rattle.paths.specs.Inside.{IsInside, IsLineInside, IsOutside, IsStepInside}
-use Rattle.paths.specs.Line.{IsApart, IsFree, IsLine, Joined}
-use Rattle.paths.specs.Near.{near, opposite}
+use Rattle.paths.specs.Line.{IsApart, IsFreeStep, IsPolyline, Joined}
+use Rattle.paths.specs.Near.{near, opposite_of}
 use Rattle.plane.specs.Bit.{bit}
 use Rattle.plane.specs.Edge.{Edge, IsRising, reversed, same_edge, segment_of}
 use Rattle.plane.specs.FreeSegment.{IsBetween}
 use Rattle.plane.specs.Order.{order}
 use Rattle.plane.specs.RayCrossing.{IsOffEdge, is_off}
 use Rattle.plane.specs.Scale.{scaled_edge, scaled_point}
-use Rattle.plane.specs.Sign.{Plus, is_plus, negated, sign}
+use Rattle.plane.specs.Sign.{Plus, is_plus, sign}
 use Rattle.plane.specs.Vector.{IsDirection, Vector, cross, dot, east, from_to, one_at, same_point}
 use Rattle.winding.specs.ConflictFree.{IsConflictFree}
 use Rattle.winding.specs.EdgeList.{IsBalanced, down_count, up_count, winding_number}
 use Rattle.winding.specs.Ring.{IsPath, IsRing, segments_of}
 use Rattle.winding.specs.ScaledEdges.{scaled_edges}
 use Rattle.winding.specs.Sided.{IsSided}
-use Rattle.valid.specs.Valid.{IsParted, has_inside}
-use Rattle.lists.proofs.ListsKit.{all-in, count_by-cons, in-all, in-map, in-map-out, in-right, total, total-is, total-map, total-same, total_none}
-use Rattle.nesting.proofs.NestingKit.{in-edges, next_leaves, next_there, no-loop-segments, rise}
-use Rattle.paths.proofs.BesideInside.{edge-parts}
-use Rattle.paths.proofs.Components.{joined-part, scaled-part}
-use Rattle.paths.proofs.Inside.{between-back}
-use Rattle.paths.proofs.Joins.{edges-twice, free-back}
-use Rattle.paths.proofs.Later.{apart-near, later-both, later-free, later-leads, later-some}
-use Rattle.paths.proofs.LinkedInside.{inside-joined}
-use Rattle.paths.proofs.SharedPoints.{apart-exactly}
-use Rattle.paths.proofs.Steps.{dot-direction, off-apart}
-use Rattle.paths.proofs.Winds.{free-off, joined-winds, line-inside, step-direction, step-winds}
-use Rattle.plane.proofs.PlaneKit.{cross-negated, cross-self, cross-times, direction-back, dot-swap, dot-times, dot2, down_seen, from_to-scaled, lift2, point-scaled, point-twice, same_edge-refl, same_edge-true, same_edge_by, same_point-refl, same_point-true, same_vector, up_seen}
-use Rattle.plane.proofs.SignKit.{lift, plus-times, same, ◌⊞◌, ◌⊟◌, ◌⊠◌}
-use Rattle.winding.proofs.WindingKit.{all-off-scaled, balanced-scaled, path-ends, reversed-crossings, segment-direct-by, sided-scaled, total-member, winding-scaled}
-use Rattle.valid.proofs.Meets.{on-between, on-reversed}
+use Rattle.valid.specs.Valid.{IsExterior, LiesByRings, has_inside}
+use Rattle.lists.proofs.ListsKit.{all-in, in-all, in-map, in-map-out, in-right, total, total-is, total-map, total-same}
+use Rattle.nesting.proofs.NestingKit.{in-edges, next_leaves, next_there, reversed-by, rise}
+use Rattle.paths.proofs.PathsKit.{apart-exactly, apart-near, between-back, count-member, dot-direction, edge-parts, edge-parts-inside, free-back, free-off, inside-joined, joined-part, joined-winds, later-along, later-both, later-free, later-some, line-inside, near-none, none, off-apart, scaled-part, step-direction, step-winds, times-some, winds-across-edge}
+use Rattle.plane.proofs.PlaneKit.{direction-back, dot2, down_seen, lift2, point-scaled, point-twice, same_edge-refl, same_edge-true, same_edge_by, same_point-refl, same_point-true, up_seen}
+use Rattle.plane.proofs.SignKit.{lift, plus-times, same, ◌⊟◌, ◌⊠◌}
+use Rattle.winding.proofs.WindingKit.{all-off-scaled, balanced-scaled, edges-twice, once-most, path-ends, reversed-crossings, sided-scaled, total-member, winding-scaled}
+use Rattle.valid.proofs.Meets.{inner-off, meet, no-loop, on-between, on-reversed}
 use Rattle.valid.proofs.Windings.{downs, ups}
-
--- ---- points near a point
-abbrev zero : Vector
-zero = record { x = pos 0; y = pos 0 }
-
-near-zero : (k : ℤ) (r : Vector) → near k r zero ≡ scaled_point k r
-near-zero k r =
-    same_vector (k *ℤ r.x +ℤ pos 0) (k *ℤ r.y +ℤ pos 0) (k *ℤ r.x) (k *ℤ r.y)
-    (same (lift k ⊠ lift r.x ⊞ lift (pos 0)) (lift k ⊠ lift r.x) (omega arith)) (same (lift k ⊠ lift r.y ⊞ lift (pos 0)) (lift k ⊠ lift r.y) (omega arith))
-
-part-way : (k x d : ℤ) → (k *ℤ x +ℤ d) -ℤ k *ℤ x ≡ d
-part-way k x d = same (lift k ⊠ lift x ⊞ lift d ⊟ lift k ⊠ lift x) (lift d) (omega arith)
-
-way-there : (k : ℤ) (x d : Vector) → from_to (scaled_point k x) (near k x d) ≡ d
-way-there k x d = same_vector ((k *ℤ x.x +ℤ d.x) -ℤ k *ℤ x.x) ((k *ℤ x.y +ℤ d.y) -ℤ k *ℤ x.y) d.x d.y (part-way k x.x d.x) (part-way k x.y d.y)
-
-abbrev less : ℤ → ℤ
-less k = k *ℤ pos 1 -ℤ pos 1
-
-part-rest : (k x y : ℤ) → k *ℤ y -ℤ (k *ℤ x +ℤ (y -ℤ x)) ≡ less k *ℤ (y -ℤ x)
-part-rest k x y = same (lift k ⊠ lift y ⊟ (lift k ⊠ lift x ⊞ (lift y ⊟ lift x))) ((lift k ⊠ lift (pos 1) ⊟ lift (pos 1)) ⊠ (lift y ⊟ lift x)) (omega arith)
-
-way-rest : (k : ℤ) (x y : Vector) → from_to (near k x (from_to x y)) (scaled_point k y) ≡ scaled_point (less k) (from_to x y)
-way-rest k x y =
-    same_vector (k *ℤ y.x -ℤ (k *ℤ x.x +ℤ (y.x -ℤ x.x))) (k *ℤ y.y -ℤ (k *ℤ x.y +ℤ (y.y -ℤ x.y))) (less k *ℤ (y.x -ℤ x.x)) (less k *ℤ (y.y -ℤ x.y)) (part-rest k x.x y.x) (part-rest k x.y y.y)
-
--- a point of the segment close to its first end
-between-near : (k : ℤ) → sign k ≡ Plus → sign (less k) ≡ Plus → (x y : Vector) → IsDirection (from_to x y) → IsBetween (scaled_point k x) (scaled_point k y) (near k x (from_to x y))
-between-near k hk hl x y d =
-    let v = from_to x y in let w = scaled_point k v in
-    let step = from_to-scaled k hk x y in
-    let along : sign (dot w v) ≡ Plus = ap sign (dot-swap v w ∙ dot-times k v v) ∙ plus-times k (dot v v) hk ∙ d in
-    record {
-      on_line = ap (λ a. sign (cross a (from_to (scaled_point k x) (near k x v)))) step ∙ ap (λ a. sign (cross w a)) (way-there k x v)
-          ∙ cross-negated v w ∙ ap (λ a. negated (sign a)) (cross-times k v v ∙ ap (λ a. k *ℤ a) (cross-self v) ∙ same (lift k ⊠ lift (pos 0)) (lift (pos 0)) (omega arith));
-      after_s = ap (λ a. sign (dot a (from_to (scaled_point k x) (near k x v)))) step ∙ ap (λ a. sign (dot w a)) (way-there k x v) ∙ along;
-      before_t = ap (λ a. sign (dot a (from_to (near k x v) (scaled_point k y)))) step ∙ ap (λ a. sign (dot w a)) (way-rest k x y)
-          ∙ ap sign (dot-times (less k) w v) ∙ plus-times (less k) (dot w v) hl ∙ along;
-    }
+use Rattle.one_ring_list.proofs.OneRingListKit.{closed-balanced}
+use Rattle.paths.specs.Beside.{WindsMore, times_in}
 
 -- to the left
-abbrev left_of : Vector → Vector
+abbrev pub left_of : Vector → Vector
 left_of d = record { x = pos 0 -ℤ d.y; y = d.x }
 
-left-plus : (d : Vector) → cross d (left_of d) ≡ dot d d
+pub left-plus : (d : Vector) → cross d (left_of d) ≡ dot d d
 left-plus d = let d' = lift2 d in same (d'.x2 ⊠ d'.x2 ⊟ d'.y2 ⊠ (lift (pos 0) ⊟ d'.y2)) (dot2 d' d') (omega arith)
 
 -- ---- counts
-bit-true : (b : Bool) → bit b ≡ 1 → b ≡ true
-bit-true true h = refl
-bit-true false h = absurd (omega arith)
-
-counts-one : {X : Type 0} (f : X → Bool) (xs : List X) (y : X) → In y xs → f y ≡ true → 1 ≤ count_by f xs
-counts-one f [] y i h = absurd i
-counts-one f (x ∷ xs) y (inl e) h = let c = count_by-cons f x xs in let a = ap bit (ap f (sym e) ∙ h) in omega arith
-counts-one f (x ∷ xs) y (inr i) h = let c = count_by-cons f x xs in let a = counts-one f xs y i h in omega arith
+true-bit : (b : Bool) → bit b ≡ 1 → b ≡ true
+true-bit true h = refl
+true-bit false h = absurd (omega arith)
 
 counts-two : {X : Type 0} (f : X → ℕ) (xs : List X) (x y : X) → In x xs → In y xs → (x ≡ y → ⊥) → 1 ≤ f x → 1 ≤ f y → 2 ≤ total f xs
 counts-two f [] x y i j n a b = absurd i
@@ -105,17 +54,11 @@ counts-two f (z ∷ zs) x y (inl d) (inr j) n a b = let m = total-member f zs y 
 counts-two f (z ∷ zs) x y (inr i) (inl d) n a b = let m = total-member f zs x i in let e = ap f d in omega arith
 counts-two f (z ∷ zs) x y (inr i) (inr j) n a b = let m = counts-two f zs x y i j n a b in omega arith
 
--- ---- a ring
-once-step : (v : Vector) (x : Edge) (xs : List Edge) → All (λ (f : Edge). same_point x.from f.from ≡ false) xs → total (λ (e : Edge). one_at v e.from) xs ≤ 1 → (b : Bool) → same_point v x.from ≡ b →
-    bit b + total (λ (e : Edge). one_at v e.from) xs ≤ 1
-once-step v x xs h l true e =
-    let q = same_point-true v x.from e in
-    let z = total_none (λ (e : Edge). one_at v e.from) xs (λ y i. ap bit (ap (λ w. same_point w y.from) q ∙ in-all (λ (f : Edge). same_point x.from f.from ≡ false) xs y h i)) in omega arith
-once-step v x xs h l false e = omega arith
-
-once-most : (v : Vector) (xs : List Edge) → EachPair (λ (e f : Edge). same_point e.from f.from ≡ false) xs → total (λ (e : Edge). one_at v e.from) xs ≤ 1
-once-most v [] h = omega arith
-once-most v (x ∷ xs) h = once-step v x xs h.0 (once-most v xs h.1) (same_point v x.from) refl
+-- across an edge the number of times that a hole winds grows: the point on the right is in it where that on the left isn't
+pub right-in : (x y : Bool) → (x ≡ true → ⊥) → (wx wy : ℤ) (n : ℕ) → wx ≡ pos 0 -ℤ pos (bit x) → wy ≡ pos 0 -ℤ pos (bit y) → wx ≡ wy +ℤ pos n → 0 < n → y ≡ true
+right-in true y h wx wy n a b c l = absurd (h refl)
+right-in false true h wx wy n a b c l = refl
+right-in false false h wx wy n a b c l = absurd (omega (arith, ints))
 
 one-here : (v w : Vector) → w ≡ v → 1 ≤ one_at v w
 one-here v w e = let a = ap bit (ap (same_point v) e ∙ same_point-refl v) in omega arith
@@ -123,9 +66,6 @@ one-here v w e = let a = ap bit (ap (same_point v) e ∙ same_point-refl v) in o
 module _ (h : List Edge) (ring : IsRing h) where
   ends-same : (v : Vector) → total (λ (e : Edge). one_at v e.from) h ≡ total (λ (e : Edge). one_at v e.to) h
   ends-same v = let a = path-ends v ring.start ring.start h ring.path in omega arith
-
-  balanced : IsBalanced h
-  balanced v = sym (total-is (λ (e : Edge). one_at v e.from) h) ∙ ends-same v ∙ total-is (λ (e : Edge). one_at v e.to) h
 
   rev-balanced : IsBalanced (map reversed h)
   rev-balanced v =
@@ -139,7 +79,12 @@ module _ (h : List Edge) (ring : IsRing h) where
       let c = counts-two (λ (e : Edge). one_at v e.to) h x y i j n (one-here v x.to e) (one-here v y.to refl) in absurd (omega arith)
 
 -- ---- a hole of a polygon
-module _ (g : Polygon) (sg : IsSided (polygon_edges g)) (parted : (k : ℤ) → sign k ≡ Plus → (p : Vector) → All (IsOffEdge p) (scaled_edges k (polygon_edges g)) → IsParted k p g)
+-- no point in it is in the interior
+pub no-part : (g : Polygon) (h : List Edge) → In h g.inner → (k : ℤ) (p : Vector) → IsInside (scaled_edges k (polygon_edges g)) p → has_inside k p h ≡ true → LiesByRings k p g → ⊥
+no-part g h ih k p n t (inl x) = let c = count-member (has_inside k p) h g.inner ih t in let z = x.2 in absurd (omega arith)
+no-part g h ih k p n t (inr x) = let a = (x.0).none in let b = n.once in absurd (cc (sym a ∙ b))
+
+module _ (g : Polygon) (sg : IsSided (polygon_edges g)) (parted : (k : ℤ) → sign k ≡ Plus → (p : Vector) → All (IsOffEdge p) (scaled_edges k (polygon_edges g)) → LiesByRings k p g)
     (h : List Edge) (ih : In h g.inner) (ring : IsRing h) (plain : IsConflictFree (segments_of h))
     (winds : (k : ℤ) → sign k ≡ Plus → (p : Vector) → winding_number east p (scaled_edges k h) ≡ pos 0 -ℤ pos (bit (has_inside k p h))) where
   abbrev es : List Edge
@@ -151,15 +96,10 @@ module _ (g : Polygon) (sg : IsSided (polygon_edges g)) (parted : (k : ℤ) → 
   sub : (x : Edge) → In x h → In x es
   sub x i = in-right g.outer (edges_of g.inner) x (in-edges g.inner h x ih i)
 
-  -- ---- the reversed hole is a sided list
-  turned-by : (b : Bool) (x : Edge) → IsRising (cond b x (reversed x)) → segment_of (reversed x) ≡ cond b x (reversed x)
-  turned-by true x r = segment-direct-by false x r
-  turned-by false x r = segment-direct-by true (reversed x) r
-
   segments-turned : (xs : List Edge) → ((x : Edge) → In x xs → IsRising (segment_of x)) → segments_of (map reversed xs) ≡ segments_of xs
   segments-turned [] r = refl
   segments-turned (x ∷ xs) r =
-      ap (λ s. s ∷ segments_of (map reversed xs)) (turned-by (is_plus (order x.from x.to)) x (r x (inl refl))) ∙ ap (λ l. segment_of x ∷ l) (segments-turned xs (λ y i. r y (inr i)))
+      ap (λ s. s ∷ segments_of (map reversed xs)) (reversed-by (is_plus (order x.from x.to)) x (r x (inl refl))) ∙ ap (λ l. segment_of x ∷ l) (segments-turned xs (λ y i. r y (inr i)))
 
   module _ (k : ℤ) (hk : sign k ≡ Plus) (p : Vector) where
     rev-ups : up_count east p (scaled_edges k rev) ≡ down_count east p (scaled_edges k h)
@@ -224,48 +164,40 @@ module _ (g : Polygon) (sg : IsSided (polygon_edges g)) (parted : (k : ℤ) → 
       subst (λ w. Linked rev w f) (sym r.2) (subst (λ w. Linked rev (reversed r.0) w) (sym s.2) (any-two ring.start h ring.start ring.path (λ x k. k) r.0 s.0 r.1 s.1))
 
   -- ---- no point in the hole is on an edge of the polygon
-  no-part : (k : ℤ) (p : Vector) → IsInside (scaled_edges k es) p → has_inside k p h ≡ true → IsParted k p g → ⊥
-  no-part k p n t (inl x) = let c = counts-one (has_inside k p) g.inner h ih t in let z = x.2 in absurd (omega arith)
-  no-part k p n t (inr x) = let a = (x.0).none in let b = n.once in absurd (cc (sym a ∙ b))
-
   strict : (m : ℤ) → sign m ≡ Plus → (e : Edge) → In e es → (z : Vector) → IsBetween (scaled_point m e.from) (scaled_point m e.to) z → IsInside (scaled_edges m rev) z → ⊥
   strict m hm e i z b n =
       let l = scaled_edges m rev in let fs = scaled_edges m es in
       let d = from_to (scaled_point m e.from) (scaled_point m e.to) in let u = left_of d in
       let plus : sign (cross d u) ≡ Plus = ap sign (left-plus d) ∙ dot-direction d (from_to (scaled_point m e.from) z) b.after_s in
-      let A = λ (k : ℤ). IsInside (scaled_edges k fs) (near k z u) × IsOutside (scaled_edges k fs) (near k z (opposite u)) in
-      let B = λ (k : ℤ). IsFree (scaled_edges k l) (near k z zero) (near k z u) in
+      let A = λ (k : ℤ). IsInside (scaled_edges k fs) (near k z u) × IsOutside (scaled_edges k fs) (near k z (opposite_of u)) in
+      let B = λ (k : ℤ). IsFreeStep (scaled_edges k l) (near k z none) (near k z u) in
       let s = later-some (λ k. A k × B k) (later-both A B
       (edge-parts fs (sided-scaled m hm es sg) (scaled_edge m e) (in-map (scaled_edge m) es e i) z u b plus)
-      (later-free z zero z u l (λ x j. apart-near z z x (off-apart z x (in-all (IsOffEdge z) l x n.off j)) zero u))) in
+      (later-free z none z u l (λ x j. apart-near z z x (off-apart z x (in-all (IsOffEdge z) l x n.off j)) none u))) in
       let k = s.0 in let hk = s.1 in let p = near k z u in let km = k *ℤ m in let hkm = plus-times k m hk ∙ hm in
       let w : winding_number east p (scaled_edges k l) ≡ pos 1 =
-      sym (step-winds (scaled_edges k l) (balanced-scaled k hk l (balanced-scaled m hm rev (rev-balanced h ring))) (near k z zero) p (s.2).1)
-      ∙ ap (λ v. winding_number east v (scaled_edges k l)) (near-zero k z) ∙ winding-scaled k hk east z l ∙ n.once in
+      sym (step-winds (scaled_edges k l) (balanced-scaled k hk l (balanced-scaled m hm rev (rev-balanced h ring))) (near k z none) p (s.2).1)
+      ∙ ap (λ v. winding_number east v (scaled_edges k l)) (near-none k z) ∙ winding-scaled k hk east z l ∙ n.once in
       let v : pos (bit (has_inside km p h)) ≡ pos 1 = sym (rev-winds km hkm p) ∙ ap (λ x. winding_number east p x) (sym (edges-twice k m rev)) ∙ w in
-      let t = bit-true (has_inside km p h) (omega (arith, ints)) in
+      let t = true-bit (has_inside km p h) (omega (arith, ints)) in
       let inside = subst (λ x. IsInside x p) (edges-twice k m es) ((s.2).0).0 in
-      no-part km p inside t (parted km hkm p inside.off)
+      no-part g h ih km p inside t (parted km hkm p inside.off)
 
   at-end : (m : ℤ) → sign m ≡ Plus → (e : Edge) → In e es → (x y : Vector) → IsDirection (from_to x y) →
       ((k : ℤ) (z : Vector) → IsBetween (scaled_point k x) (scaled_point k y) z → IsBetween (scaled_point (k *ℤ m) e.from) (scaled_point (k *ℤ m) e.to) z) → IsInside (scaled_edges m rev) x → ⊥
   at-end m hm e i x y d turn n =
       let l = scaled_edges m rev in let u = from_to x y in
-      let A = λ (k : ℤ). IsFree (scaled_edges k l) (near k x zero) (near k x u) in
-      let B = λ (k : ℤ). sign (less k) ≡ Plus in
+      let A = λ (k : ℤ). IsFreeStep (scaled_edges k l) (near k x none) (near k x u) in
+      let B = λ (k : ℤ). IsBetween (scaled_point k x) (scaled_point k y) (near k x u) in
       let s = later-some (λ k. A k × B k) (later-both A B
-      (later-free x zero x u l (λ f j. apart-near x x f (off-apart x f (in-all (IsOffEdge x) l f n.off j)) zero u))
-      (later-leads (pos 1) (pos 1) (inl refl))) in
+      (later-free x none x u l (λ f j. apart-near x x f (off-apart x f (in-all (IsOffEdge x) l f n.off j)) none u))
+      (later-along x y d)) in
       let k = s.0 in let hk = s.1 in let z = near k x u in
       let w : winding_number east z (scaled_edges k l) ≡ pos 1 =
-      sym (step-winds (scaled_edges k l) (balanced-scaled k hk l (balanced-scaled m hm rev (rev-balanced h ring))) (near k x zero) z (s.2).0)
-      ∙ ap (λ v. winding_number east v (scaled_edges k l)) (near-zero k x) ∙ winding-scaled k hk east x l ∙ n.once in
-      let inside : IsInside (scaled_edges k l) z = record { off = free-off (scaled_edges k l) z (near k x zero) (free-back (scaled_edges k l) (near k x zero) z (s.2).0); once = w } in
-      strict (k *ℤ m) (plus-times k m hk ∙ hm) e i z (turn k z (between-near k hk (s.2).1 x y d)) (subst (λ q. IsInside q z) (edges-twice k m rev) inside)
-
-  no-loop : (e : Edge) → In e es → (b : Bool) → same_point e.from e.to ≡ b → b ≡ false
-  no-loop e i false q = refl
-  no-loop e i true q = absurd (no-loop-segments e.from e (same_point-refl e.from) q (rise es sg e i))
+      sym (step-winds (scaled_edges k l) (balanced-scaled k hk l (balanced-scaled m hm rev (rev-balanced h ring))) (near k x none) z (s.2).0)
+      ∙ ap (λ v. winding_number east v (scaled_edges k l)) (near-none k x) ∙ winding-scaled k hk east x l ∙ n.once in
+      let inside : IsInside (scaled_edges k l) z = record { off = free-off (scaled_edges k l) z (near k x none) (free-back (scaled_edges k l) (near k x none) z (s.2).0); once = w } in
+      strict (k *ℤ m) (plus-times k m hk ∙ hm) e i z (turn k z (s.2).1) (subst (λ q. IsInside q z) (edges-twice k m rev) inside)
 
   abbrev Between : ℤ → Edge → Vector → Type 0
   Between m e z = IsBetween (scaled_point m e.from) (scaled_point m e.to) z
@@ -281,7 +213,7 @@ module _ (g : Polygon) (sg : IsSided (polygon_edges g)) (parted : (k : ℤ) → 
     c = scaled_point m e.to
 
     way : IsDirection (from_to a c)
-    way = step-direction a c (point-scaled m hm e.from e.to ∙ no-loop e i (same_point e.from e.to) refl)
+    way = step-direction a c (point-scaled m hm e.from e.to ∙ no-loop es sg e i)
 
     not-first : x ≡ a → ⊥
     not-first q = at-end m hm e i a c way (λ k z b. twice k m e z b) (subst (IsInside (scaled_edges m rev)) q n)
@@ -302,19 +234,19 @@ module _ (g : Polygon) (sg : IsSided (polygon_edges g)) (parted : (k : ℤ) → 
     off-hole = let r = off-by (is_off x (scaled_edge m e)) refl in r
 
   -- ---- so a line in the hole meets no edge of the polygon
-  step-off : (m : ℤ) → sign m ≡ Plus → (p q : Vector) → IsStepInside (scaled_edges m rev) p q → IsFree (scaled_edges m es) p q
+  step-off : (m : ℤ) → sign m ≡ Plus → (p q : Vector) → IsStepInside (scaled_edges m rev) p q → IsFreeStep (scaled_edges m es) p q
   step-off m hm p q s f j =
       let r = in-map-out (scaled_edge m) es f j in
       let e = r.0 in
       subst (λ w. IsApart p q w) (sym r.2)
-      ((apart-exactly p q (scaled_edge m e) (λ k. cc (sym (same_point-refl (scaled_point m e.from)) ∙ ap (same_point (scaled_point m e.from)) k ∙ point-scaled m hm e.from e.to ∙ no-loop e r.1 (same_point e.from e.to) refl))).1
+      ((apart-exactly p q (scaled_edge m e) (λ k. cc (sym (same_point-refl (scaled_point m e.from)) ∙ ap (same_point (scaled_point m e.from)) k ∙ point-scaled m hm e.from e.to ∙ no-loop es sg e r.1))).1
       (λ a b ha hb k.
       let x : Vector = record { x = a *ℤ p.x +ℤ b *ℤ q.x; y = a *ℤ p.y +ℤ b *ℤ q.y } in
       subst (λ (w : Edge). IsOffEdge x w)
       (sym (same_edge_by (scaled_point (a +ℤ b) (scaled_point m e.from)) (scaled_point (a +ℤ b) (scaled_point m e.to)) (scaled_point ((a +ℤ b) *ℤ m) e.from) (scaled_point ((a +ℤ b) *ℤ m) e.to) (point-twice (a +ℤ b) m e.from) (point-twice (a +ℤ b) m e.to)))
       (off-hole ((a +ℤ b) *ℤ m) (plus-times (a +ℤ b) m k ∙ hm) e r.1 x (subst (λ l. IsInside l x) (edges-twice (a +ℤ b) m rev) (s a b ha hb k)))))
 
-  line-off : (m : ℤ) → sign m ≡ Plus → (p : Vector) (cs : List Vector) (q : Vector) → IsLineInside (scaled_edges m rev) p cs q → IsLine (scaled_edges m es) p cs q
+  line-off : (m : ℤ) → sign m ≡ Plus → (p : Vector) (cs : List Vector) (q : Vector) → IsLineInside (scaled_edges m rev) p cs q → IsPolyline (scaled_edges m es) p cs q
   line-off m hm p [] q l = step-off m hm p q l
   line-off m hm p (c ∷ cs) q l = (step-off m hm p c l.0, line-off m hm c cs q l.1)
 
@@ -330,7 +262,7 @@ module _ (g : Polygon) (sg : IsSided (polygon_edges g)) (parted : (k : ℤ) → 
           multiple = n;
           positive = hn;
           corners = j.corners;
-          line = subst (λ w. IsLine w (scaled_point n p) j.corners (scaled_point n q)) (sym (edges-twice n k es))
+          line = subst (λ w. IsPolyline w (scaled_point n p) j.corners (scaled_point n q)) (sym (edges-twice n k es))
               (line-off (n *ℤ k) (plus-times n k hn ∙ hk) (scaled_point n p) j.corners (scaled_point n q)
               (subst (λ w. IsLineInside w (scaled_point n p) j.corners (scaled_point n q)) (edges-twice n k rev) inside));
         }
@@ -347,8 +279,30 @@ module _ (g : Polygon) (sg : IsSided (polygon_edges g)) (parted : (k : ℤ) → 
   pub hole_part : (k : ℤ) → sign k ≡ Plus → (p q : Vector) → All (IsOffEdge p) (scaled_edges k es) → All (IsOffEdge q) (scaled_edges k es) → has_inside k p h ≡ true → Joined (scaled_edges k es) p q ↔ (has_inside k q h ≡ true)
   hole_part k hk p q op oq t = (
     λ j.
-        let w = joined-winds (scaled_edges k h) (balanced-scaled k hk h (balanced h ring)) p q (joined-part (scaled_edges k h) (scaled_edges k es) (scaled-part k h es sub) p q j) in
+        let w = joined-winds (scaled_edges k h) (balanced-scaled k hk h (closed-balanced ring.start h ring.path)) p q (joined-part (scaled_edges k h) (scaled_edges k es) (scaled-part k h es sub) p q j) in
         let a = winds k hk p in let b = winds k hk q in let c = ap bit t in
-        bit-true (has_inside k q h) (omega (arith, ints)),
+        true-bit (has_inside k q h) (omega (arith, ints)),
     λ u. hole-joined k hk p q (inside-rev k hk p op t) (inside-rev k hk q oq u),
   )
+
+  -- ---- some point of the exterior is in the hole: right of an edge of it
+  pub hole_point : (e : Edge) → In e h → (k : ℤ) × (p : Vector) × (sign k ≡ Plus) × IsExterior k p g × (has_inside k p h ≡ true)
+  hole_point e i =
+      let w = from_to e.from e.to in let u = left_of w in let d = step-direction e.from e.to (no-loop es sg e (sub e i)) in
+      let s = later-some (λ q. Between q e (near q e.from w)) (later-along e.from e.to d) in
+      let q = s.0 in let hq = s.1 in let r = near q e.from w in
+      let left : sign (cross w u) ≡ Plus = ap sign (left-plus w) ∙ d in
+      let A = λ (k : ℤ). IsInside (scaled_edges k (scaled_edges q es)) (near k r u) × IsOutside (scaled_edges k (scaled_edges q es)) (near k r (opposite_of u)) in
+      let B = λ (k : ℤ). WindsMore (scaled_edges k (scaled_edges q h)) (near k r u) (near k r (opposite_of u)) (times_in e h) in
+      let t = later-some (λ k. A k × B k) (later-both A B (edge-parts-inside es sg e (sub e i) q hq r u s.2 left)
+      (winds-across-edge h (closed-balanced ring.start h ring.path) e q hq r u s.2 left (λ f j n. inner-off e f q hq r s.2 (meet es sg e f (sub e i) (sub f j) n) (is_off r (scaled_edge q f)) refl))) in
+      let k = t.0 in let m = k *ℤ q in let hm : sign m ≡ Plus = plus-times k q t.1 ∙ hq in let x = near k r u in let y = near k r (opposite_of u) in
+      let inside = subst (λ l. IsInside l x) (edges-twice k q es) t.2.0.0 in
+      let more = subst (λ l. winding_number east x l ≡ winding_number east y l +ℤ pos (times_in e h)) (edges-twice k q h) t.2.1.more in (
+        m,
+        y,
+        hm,
+        subst (λ l. IsOutside l y) (edges-twice k q es) t.2.0.1,
+        right-in (has_inside m x h) (has_inside m y h) (λ z. no-part g h ih m x inside z (parted m hm x inside.off)) (winding_number east x (scaled_edges m h)) (winding_number east y (scaled_edges m h)) (times_in e h)
+            (winds m hm x) (winds m hm y) more (times-some e h i),
+      )

@@ -1,4 +1,8 @@
+mod Crescents
 mod Holes
 mod Meets
-pub mod ValidPolygons
+mod RingParts
+mod SharedNodes
+pub mod ValidKit
+mod ValidPolygons
 mod Windings

@@ -1,6 +1,6 @@
 -- Two edges of a sided list share no points but ends.
 use Rattle.std.proofs.Common.{Bool, List, [], ap, arith, cond, false, inl, inr, not, refl, subst, sym, true, ◌||◌, ◌∙◌, ◌∷◌, ◌≡◌, ◌⊎◌}
-use lib.IntN.{◌+ℤ◌}
+use lib.IntN.{ℤ, ◌+ℤ◌}
 use Rattle.lists.specs.Member.{EachPair, In}
 use Rattle.nesting.specs.Nesting.{edges_of}
 use Rattle.plane.specs.Conflict.{IsClearOf}
@@ -8,18 +8,19 @@ use Rattle.plane.specs.Edge.{Edge, IsRising, ends_at, reversed, same_edge, segme
 use Rattle.plane.specs.FreeSegment.{IsBetween}
 use Rattle.plane.specs.Order.{order}
 use Rattle.plane.specs.RayCrossing.{is_off, off_by}
-use Rattle.plane.specs.Scale.{scaled_edge}
+use Rattle.plane.specs.Scale.{scaled_edge, scaled_point}
 use Rattle.plane.specs.Sign.{Minus, Null, Plus, Sign, is_plus, negated, sign}
 use Rattle.plane.specs.Vector.{Vector, cross, dot, from_to, same_point}
 use Rattle.winding.specs.ScaledEdges.{scaled_edges}
 use Rattle.winding.specs.Sided.{IsSided}
 use Rattle.valid.specs.Valid.{MeetAtEnds}
-use Rattle.lists.proofs.ListsKit.{all-in, in-left, in-map, in-right, pairs-across, pairs-left, pairs-right, pairs-weaker}
-use Rattle.nesting.proofs.NestingKit.{clear-two, differ, rise, segment-back, sided-once}
-use Rattle.paths.proofs.Winds.{step-direction}
-use Rattle.plane.proofs.PlaneKit.{clear_misses, clear_off_from, clear_off_to, cross-negated, dot-swap, dot2, edge-scaled, from_to2, inner_point_off, lift2, off_by-no, orient-round, same_point-true}
-use Rattle.plane.proofs.SignKit.{agree, agree-sum, same, ◌⊞◌}
+use Rattle.lists.proofs.ListsKit.{all-in, in-map, pairs-across, pairs-left, pairs-right, pairs-weaker}
+use Rattle.nesting.proofs.NestingKit.{clear-two, differ, in-edges, no-loop-segments, rise, segment-back, sided-once}
+use Rattle.paths.proofs.PathsKit.{later-along, later-some, step-direction}
+use Rattle.plane.proofs.PlaneKit.{clear_misses, clear_off_from, clear_off_to, cross-here, cross-self, dot-here, dot-there_back, dot2, edge-scaled, frame-dot-agree, from_to2, inner_point_off, lift2, off-turned, off_by-no, orient-round, same_point-refl, same_point-true, view_at}
+use Rattle.plane.proofs.SignKit.{agree, agree-sum, same, sign-reversed, times, ◌⊞◌}
 use Rattle.winding.proofs.WindingKit.{sided-scaled}
+use Rattle.paths.specs.Near.{near}
 
 -- ---- a point on an edge is one of its ends or strictly between them
 off_by-plus : (c s : Sign) → off_by c s ≡ false → not (is_plus s) ≡ true
@@ -60,6 +61,52 @@ on-between s p o f t =
           (agree-sum (dot (from_to s.from s.to) (from_to p s.to)) (dot (from_to p s.from) (from_to p s.to)) (dot (from_to p s.to) (from_to p s.to)) (before s.from s.to p)) n (step-direction p s.to t);
     }
 
+-- ---- a point strictly between the ends is on the edge, and no end
+minus-by : (s : Sign) → agree Minus Null (times Plus s) ≡ true → off_by Null s ≡ false
+minus-by Minus h = refl
+minus-by Null h = absurd (cc h)
+minus-by Plus h = absurd (cc h)
+
+minus-on : (x y z w s : Sign) → x ≡ Minus → y ≡ Plus → z ≡ Null → w ≡ Null → agree (times x y) (times z w) (times Plus s) ≡ true → off_by Null s ≡ false
+minus-on x y z w s hx hy hz hw h =
+    minus-by s
+    (subst (λ n. agree (times n Plus) (times Null Null) (times Plus s) ≡ true) hx
+    (subst (λ n. agree (times x n) (times Null Null) (times Plus s) ≡ true) hy
+    (subst (λ n. agree (times x y) (times n Null) (times Plus s) ≡ true) hz
+    (subst (λ n. agree (times x y) (times z n) (times Plus s) ≡ true) hw h))))
+
+pub inner-on : (s : Edge) (p : Vector) → IsBetween s.from s.to p → is_off p s ≡ false
+inner-on s p i =
+    let d = from_to s.from s.to in let a = from_to p s.from in let b = from_to p s.to in
+    let v = view_at s.from s.to p i in
+    ap (λ c. off_by c (sign (dot a b))) (sym (ap sign (orient-round p s.from s.to)) ∙ i.on_line)
+    ∙ minus-on (sign (dot d a)) (sign (dot d b)) (sign (cross d a)) (sign (cross d b)) (sign (dot a b))
+    (sign-reversed (dot d (from_to s.from p)) (dot d a) (dot-there_back d s.from p) ∙ ap negated i.after_s) i.before_t (v.side s.from ∙ ap sign (cross-here d s.from)) (v.side s.to ∙ ap sign (cross-self d))
+    (frame-dot-agree d a b v.direction)
+
+no-end-by : (s : Edge) (p : Vector) → IsBetween s.from s.to p → (b c : Bool) → same_point p s.from ≡ b → same_point p s.to ≡ c → (b || c) ≡ true → ⊥
+no-end-by s p i true c h k o =
+    let d = from_to s.from s.to in
+    cc (sym i.after_s ∙ ap (λ w. sign (dot d (from_to s.from w))) (same_point-true p s.from h) ∙ ap sign (dot-here d s.from))
+no-end-by s p i false true h k o =
+    let d = from_to s.from s.to in
+    cc (sym i.before_t ∙ ap (λ w. sign (dot d (from_to w s.to))) (same_point-true p s.to k) ∙ ap sign (dot-here d s.to))
+no-end-by s p i false false h k o = cc o
+
+pub not-end : (s : Edge) (p : Vector) → IsBetween s.from s.to p → ends_at p s ≡ true → ⊥
+not-end s p i h = no-end-by s p i (same_point p s.from) (same_point p s.to) refl refl h
+
+-- an edge doesn't meet itself at ends alone
+pub own-meet : (e : Edge) → same_point e.from e.to ≡ false → MeetAtEnds e e → ⊥
+own-meet e d m =
+    let s = later-some (λ k. IsBetween (scaled_point k e.from) (scaled_point k e.to) (near k e.from (from_to e.from e.to))) (later-along e.from e.to (step-direction e.from e.to d)) in
+    let r = near s.0 e.from (from_to e.from e.to) in let on = inner-on (scaled_edge s.0 e) r s.2 in not-end (scaled_edge s.0 e) r s.2 (m s.0 s.1 r on on).0
+
+-- a point strictly inside the one edge is off the other
+pub inner-off : (e f : Edge) (q : ℤ) → sign q ≡ Plus → (r : Vector) → IsBetween (scaled_point q e.from) (scaled_point q e.to) r → MeetAtEnds e f → (b : Bool) → is_off r (scaled_edge q f) ≡ b → b ≡ true
+inner-off e f q hq r b m true h = refl
+inner-off e f q hq r b m false h = absurd (not-end (scaled_edge q e) r b (m q hq r (inner-on (scaled_edge q e) r b) h).0)
+
 -- ---- two segments
 module _ (s t : Edge) (rs : IsRising s) (rt : IsRising t) (clear : IsClearOf s t) (p : Vector) (ps : is_off p s ≡ false) (pt : is_off p t ≡ false) where
   no-end : (b c : Bool) → same_point p t.from ≡ b → same_point p t.to ≡ c → (same_point p s.from ≡ true) ⊎ (same_point p s.to ≡ true) → (b || c) ≡ true
@@ -84,15 +131,8 @@ module _ (s t : Edge) (rs : IsRising s) (rt : IsRising t) (clear : IsClearOf s t
   meet-segments = both-ends (same_point p s.from) (same_point p s.to) refl refl
 
 -- ---- an edge and its segment
-off-turned : (c s : Sign) → off_by (negated c) s ≡ off_by c s
-off-turned Null s = refl
-off-turned Plus s = refl
-off-turned Minus s = refl
-
 pub on-reversed : (p : Vector) (e : Edge) → is_off p (reversed e) ≡ is_off p e
-on-reversed p e =
-    let a = from_to p e.from in let b = from_to p e.to in
-    ap (λ c. off_by c (sign (dot b a))) (cross-negated a b) ∙ off-turned (sign (cross a b)) (sign (dot b a)) ∙ ap (λ z. off_by (sign (cross a b)) (sign z)) (dot-swap a b)
+on-reversed p e = off-turned (from_to p e.from) (from_to p e.to)
 
 on-by : (p : Vector) (e : Edge) (b : Bool) → is_off p (cond b e (reversed e)) ≡ is_off p e
 on-by p e true = refl
@@ -100,6 +140,13 @@ on-by p e false = on-reversed p e
 
 -- ---- edges of a sided list
 module _ (es : List Edge) (sd : IsSided es) where
+  no-loop-by : (e : Edge) → In e es → (b : Bool) → same_point e.from e.to ≡ b → b ≡ false
+  no-loop-by e i false q = refl
+  no-loop-by e i true q = absurd (no-loop-segments e.from e (same_point-refl e.from) q (rise es sd e i))
+
+  pub no-loop : (e : Edge) → In e es → same_point e.from e.to ≡ false
+  no-loop e i = no-loop-by e i (same_point e.from e.to) refl
+
   pub meet : (e f : Edge) → In e es → In f es → same_edge e f ≡ false → MeetAtEnds e f
   meet e f i j n = λ k hk p x y.
       let ks = scaled_edges k es in let u = scaled_edge k e in let v = scaled_edge k f in
@@ -116,15 +163,10 @@ module _ (es : List Edge) (sd : IsSided es) where
 abbrev pub Meet : List Edge → List Edge → Type 0
 Meet r s = (e f : Edge) → In e r → In f s → MeetAtEnds e f
 
-in-lists : (rs : List (List Edge)) (s : List Edge) (f : Edge) → In s rs → In f s → In f (edges_of rs)
-in-lists [] s f i j = absurd i
-in-lists (r ∷ rs) s f (inl e) j = in-left r (edges_of rs) f (subst (λ l. In f l) e j)
-in-lists (r ∷ rs) s f (inr i) j = in-right r (edges_of rs) f (in-lists rs s f i j)
-
 pub pairs-lists : (rs : List (List Edge)) → EachPair MeetAtEnds (edges_of rs) → EachPair Meet rs
 pairs-lists [] p = tt
 pairs-lists (r ∷ rs) p = (
-  all-in (Meet r) rs (λ s i e f x y. pairs-across MeetAtEnds r (edges_of rs) e f p x (in-lists rs s f i y)),
+  all-in (Meet r) rs (λ s i e f x y. pairs-across MeetAtEnds r (edges_of rs) e f p x (in-edges rs s f i y)),
   pairs-lists rs (pairs-right MeetAtEnds r (edges_of rs) p),
 )
 

@@ -7,48 +7,24 @@ use Rattle.lists.specs.Member.{In}
 use Rattle.nesting.specs.Nesting.{IsInnerRing, IsOuterRing, edges_of, is_outer}
 use Rattle.nesting.specs.Polygon.{Polygon, polygon_edges}
 use Rattle.nesting.specs.RingList.{IsRingList}
-use Rattle.nesting.specs.Walk.{HasSameEdges}
 use Rattle.plane.specs.Bit.{bit}
 use Rattle.plane.specs.Edge.{Edge, is_rising, segment_of}
-use Rattle.plane.specs.Order.{order}
 use Rattle.plane.specs.RayCrossing.{IsOffEdge}
-use Rattle.plane.specs.Scale.{scaled_edge, scaled_point}
-use Rattle.plane.specs.Sign.{Minus, Plus, is_plus, sign}
-use Rattle.plane.specs.Vector.{Vector, east, from_to, orient, same_point}
-use Rattle.winding.specs.ConflictFree.{IsConflictFree, others}
+use Rattle.plane.specs.Scale.{scaled_edge}
+use Rattle.plane.specs.Sign.{Plus, is_plus, sign}
+use Rattle.plane.specs.Vector.{Vector, east, from_to}
+use Rattle.winding.specs.ConflictFree.{IsConflictFree}
 use Rattle.winding.specs.EdgeList.{crossing_count, down_count, up_count, winding_number}
-use Rattle.winding.specs.Ring.{IsAnchor, IsPath, IsRing, segments_of}
+use Rattle.winding.specs.Ring.{IsAnchor, segments_of}
 use Rattle.winding.specs.ScaledEdges.{scaled_edges}
 use Rattle.winding.specs.Sided.{IsSided}
-use Rattle.valid.specs.Valid.{IsParted, has_inside, holes_round}
-use Rattle.lists.proofs.ListsKit.{count_by-cons, in-map, in-map-out, pairs-map, total, total-++, total-is, total-map}
-use Rattle.nesting.proofs.NestingKit.{in-edges, odd-bit, outer_down, ring-plain}
-use Rattle.plane.proofs.PlaneKit.{down_seen, order-scaled, orient-scaled, point-back, point-scaled, up_seen}
-use Rattle.winding.proofs.WindingKit.{others-scaled, plain_scaled, ring_by_anchor, segment-scaled, segments-scaled}
+use Rattle.valid.specs.Valid.{LiesByRings, has_inside, holes_round}
+use Rattle.lists.proofs.ListsKit.{count_by-cons, in-map, in-map-out, total, total-++, total-is, total-map}
+use Rattle.nesting.proofs.NestingKit.{anchor-scaled, in-edges, odd-bit, outer_down, ring-plain, ring-scaled}
+use Rattle.plane.proofs.PlaneKit.{down_seen, order-scaled, up_seen}
+use Rattle.winding.proofs.WindingKit.{plain_scaled, ring_by_anchor, segment-scaled, segments-scaled}
 
 module _ (k : ℤ) (hk : sign k ≡ Plus) where
-  -- ---- a ring and its anchor, multiplied
-  path-scaled : (a : Vector) (es : List Edge) (b : Vector) → IsPath a es b → IsPath (scaled_point k a) (scaled_edges k es) (scaled_point k b)
-  path-scaled a [] b h = ap (scaled_point k) h
-  path-scaled a (e ∷ es) b h = (ap (scaled_point k) h.0, path-scaled e.to es b h.1)
-
-  pub ring-scaled : (r : List Edge) → IsRing r → IsRing (scaled_edges k r)
-  ring-scaled r g = record {
-    start = scaled_point k g.start;
-    path = path-scaled g.start r g.start g.path;
-    once = pairs-map (scaled_edge k) (λ (e f : Edge). same_point e.from f.from ≡ false) (λ (e f : Edge). same_point e.from f.from ≡ false) r (λ e f h. point-scaled k hk e.from f.from ∙ h) g.once;
-  }
-
-  anchor-scaled : (s : Edge) (es : List Edge) → IsAnchor s es → IsAnchor (scaled_edge k s) (scaled_edges k es)
-  anchor-scaled s es a = record {
-    member = in-map (scaled_edge k) es s a.member;
-    least = λ t i o. let r = in-map-out (scaled_edge k) es t i in a.least r.0 r.1 (sym (order-scaled k hk s.from r.0.from) ∙ subst (λ (w : Edge). order (scaled_point k s.from) w.from ≡ Minus) r.2 o);
-    leftmost = λ t i q.
-        let r = in-map-out (scaled_edge k) (others s es) t (subst (λ l. In t l) (others-scaled k hk s es) i) in
-        subst (λ (w : Edge). orient (scaled_point k s.from) (scaled_point k s.to) w.to ≡ Minus) (sym r.2)
-        (orient-scaled k hk s.from s.to r.0.to ∙ a.leftmost r.0 r.1 (point-back k hk s.from r.0.from (q ∙ ap (λ (w : Edge). w.from) r.2)));
-  }
-
   module _ (rs : List (List Edge)) (l : IsRingList rs) (r : List Edge) (i : In r rs) (p : Vector) where
     abbrev n : ℕ
     n = crossing_count east p (scaled_edges k r) % 2
@@ -59,10 +35,10 @@ module _ (k : ℤ) (hk : sign k ≡ Plus) where
         let here : IsAnchor (segment_of e.0) (segments_of r) = subst (λ w. IsAnchor w (segments_of r)) e.2 a in
         let down : is_outer (map segments_of rs) (segment_of e.0) ≡ not (is_rising e.0) = outer_down rs l e.0 (in-edges rs r e.0 i e.1) in
         let same : is_rising e.0 ≡ b = same-not (is_rising e.0) b (sym down ∙ ap (is_outer (map segments_of rs)) (sym e.2) ∙ h) in
-        ring_by_anchor (scaled_edge k e.0) (scaled_edges k r) (ring-scaled r (l.ring r i))
+        ring_by_anchor (scaled_edge k e.0) (scaled_edges k r) (ring-scaled k hk r (l.ring r i))
         (subst IsConflictFree (sym (segments-scaled k hk r)) (plain_scaled k hk (segments_of r) (ring-plain rs l r i)))
         (in-map (scaled_edge k) r e.0 e.1)
-        (subst (λ g. IsAnchor (segment_of (scaled_edge k e.0)) g) (sym (segments-scaled k hk r)) (subst (λ w. IsAnchor w (scaled_edges k (segments_of r))) (sym (segment-scaled k hk e.0)) (anchor-scaled (segment_of e.0) (segments_of r) here))) p
+        (subst (λ g. IsAnchor (segment_of (scaled_edge k e.0)) g) (sym (segments-scaled k hk r)) (subst (λ w. IsAnchor w (scaled_edges k (segments_of r))) (sym (segment-scaled k hk e.0)) (anchor-scaled k hk (segment_of e.0) (segments_of r) here))) p
         ∙ ap (λ c. cond c (pos 0 -ℤ pos n) (pos n)) (ap is_plus (order-scaled k hk e.0.from e.0.to) ∙ same)
       where
         same-not : (b c : Bool) → not b ≡ not c → b ≡ c
@@ -91,15 +67,6 @@ module _ (k : ℤ) (hk : sign k ≡ Plus) where
     pub downs : (xs : List Edge) → down_count east p (scaled_edges k xs) ≡ total down xs
     downs xs = sym (total-is (down_seen east (from_to p)) (scaled_edges k xs)) ∙ total-map (down_seen east (from_to p)) (scaled_edge k) xs
 
-    same-total : (f : Edge → ℕ) (xs ys : List Edge) → HasSameEdges xs ys → total f xs ≡ total f ys
-    same-total f xs ys s = total-is f xs ∙ s f ∙ sym (total-is f ys)
-
-    -- the order of edges doesn't matter
-    pub winds-same : (xs ys : List Edge) → HasSameEdges xs ys → winding_number east p (scaled_edges k xs) ≡ winding_number east p (scaled_edges k ys)
-    winds-same xs ys s =
-        ap (λ n. pos n -ℤ pos (down_count east p (scaled_edges k xs))) (ups xs ∙ same-total up xs ys s ∙ sym (ups ys))
-        ∙ ap (λ n. pos (up_count east p (scaled_edges k ys)) -ℤ pos n) (downs xs ∙ same-total down xs ys s ∙ sym (downs ys))
-
     out-sum : (r : List Edge) → (n : ℕ) → winding_number east p (scaled_edges k r) ≡ pos n → total up r ≡ total down r + n
     out-sum r n w =
         let a = ups r in let b = downs r in
@@ -121,7 +88,7 @@ module _ (k : ℤ) (hk : sign k ≡ Plus) where
     one-of false n h = absurd (omega arith)
 
     pub parted-by : (g : Polygon) → IsSided (polygon_edges g) → winding_number east p (scaled_edges k g.outer) ≡ pos (bit (has_inside k p g.outer)) →
-        ((h : List Edge) → In h g.inner → winding_number east p (scaled_edges k h) ≡ pos 0 -ℤ pos (bit (has_inside k p h))) → All (IsOffEdge p) (scaled_edges k (polygon_edges g)) → IsParted k p g
+        ((h : List Edge) → In h g.inner → winding_number east p (scaled_edges k h) ≡ pos 0 -ℤ pos (bit (has_inside k p h))) → All (IsOffEdge p) (scaled_edges k (polygon_edges g)) → LiesByRings k p g
     parted-by g sd w v off = by (sd.counted k hk p off)
       where
         o : total up g.outer ≡ total down g.outer + bit (has_inside k p g.outer)
@@ -130,7 +97,7 @@ module _ (k : ℤ) (hk : sign k ≡ Plus) where
         hs : total up (edges_of g.inner) + holes_round k p g ≡ total down (edges_of g.inner)
         hs = holes-sum g.inner v
 
-        by : (winding_number east p (scaled_edges k (polygon_edges g)) ≡ pos 0) ⊎ (winding_number east p (scaled_edges k (polygon_edges g)) ≡ pos 1) → IsParted k p g
+        by : (winding_number east p (scaled_edges k (polygon_edges g)) ≡ pos 0) ⊎ (winding_number east p (scaled_edges k (polygon_edges g)) ≡ pos 1) → LiesByRings k p g
         by (inl z) =
             let a = out-sum (polygon_edges g) 0 z in let b = total-++ up g.outer (edges_of g.inner) in let c = total-++ down g.outer (edges_of g.inner) in
             let x = o in let y = hs in

@@ -1,17 +1,52 @@
--- The polygons of the one ring list of a sided list are valid, as statements.
-use Rattle.std.specs.Prelude.{List}
-use Rattle.nesting.specs.Polygon.{ArePolygons, Polygon}
+-- The polygons of the one ring list of a sided list are valid, and rings of a valid polygon share one point at most, as statements.
+use Rattle.std.specs.Prelude.{List, false, ◌≡◌}
+use lib.IntN.{ℤ}
+use Rattle.nesting.specs.Polygon.{ArePolygons, IsPolygon, Polygon}
 use Rattle.one_ring_list.specs.RingListOf.{IsRingListOf}
 use Rattle.plane.specs.Edge.{Edge}
-use Rattle.valid.specs.Valid.{HasConnectedInterior, HasValidBoundary, IsValidMultiPolygon}
+use Rattle.valid.specs.Valid.{HasConnectedInterior, HasInterior, HasValidBoundary, IsValidMultiPolygon, IsValidPolygon, boundary_rings}
 use Rattle.winding.specs.Sided.{IsSided}
+use Rattle.nesting.specs.RingList.{IsRingList}
+use Rattle.lists.specs.Member.{EachPair, In}
+use Rattle.plane.specs.Vector.{Vector}
+use Rattle.plane.specs.RayCrossing.{is_off}
+use Rattle.plane.specs.Scale.{scaled_edge}
+use Rattle.plane.specs.Sign.{Plus, sign}
 
 abbrev pub PolygonsAreValid : Type 0
 PolygonsAreValid =
     (es : List Edge) → IsSided es → (rs : List (List Edge)) → IsRingListOf es rs → (gs : List Polygon) →
     ArePolygons rs gs → IsValidMultiPolygon gs
 
--- that the interior is connected doesn't follow from the rest: two crescents that share both tips are an outline with a hole that touches it
--- twice, and all but this holds of that polygon
+-- that the interior is connected doesn't follow from the rest. Two crescents that share both tips are an outline with a hole that touches it
+-- twice, and all else holds of that polygon. Its rings are a ring list, but they pass from walk to walk
 abbrev pub ConnectedIsNeeded : Type 0
-ConnectedIsNeeded = (g : Polygon) × HasValidBoundary g × (HasConnectedInterior g → ⊥)
+ConnectedIsNeeded =
+    (rs : List (List Edge)) × (g : Polygon) × IsRingList rs × IsPolygon rs g × HasValidBoundary g
+    × HasInterior g × (HasConnectedInterior g → ⊥)
+
+-- some edge of the ring leaves the point
+abbrev pub IsNode : Vector → List Edge → Type 0
+IsNode v r = (e : Edge) × In e r × (e.from ≡ v)
+
+-- two nodes of both rings are one
+abbrev pub ShareOneNode : List Edge → List Edge → Type 0
+ShareOneNode r s = (u v : Vector) → IsNode u r → IsNode u s → IsNode v r → IsNode v s → u ≡ v
+
+-- two rings of one polygon share one node at most
+abbrev pub RingsShareOneNode : Type 0
+RingsShareOneNode = (g : Polygon) → IsValidPolygon g → EachPair ShareOneNode (boundary_rings g)
+
+-- the point p.x / k, p.y / k is on some edge of the ring
+abbrev pub IsOnRing : ℤ → Vector → List Edge → Type 0
+IsOnRing k p r = (e : Edge) × In e r × (is_off p (scaled_edge k e) ≡ false)
+
+-- two points of both rings are one
+abbrev pub ShareOnePoint : List Edge → List Edge → Type 0
+ShareOnePoint r s =
+    (k : ℤ) → sign k ≡ Plus → (p q : Vector) → IsOnRing k p r → IsOnRing k p s → IsOnRing k q r →
+    IsOnRing k q s → p ≡ q
+
+-- and, since they meet at nodes alone, one point at most
+abbrev pub RingsShareOnePoint : Type 0
+RingsShareOnePoint = (g : Polygon) → IsValidPolygon g → EachPair ShareOnePoint (boundary_rings g)

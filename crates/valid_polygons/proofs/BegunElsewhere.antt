@@ -12,9 +12,7 @@ use Rattle.plane.specs.Edge.{Edge}
 use Rattle.winding.specs.Sided.{IsSided}
 use Rattle.lists.proofs.ListsKit.{all-in, in-either, in-left, in-right, pairs-across, pairs-right, pairs-weaker, rotated-in, total, total-++, total-is}
 use Rattle.nesting.proofs.NestingKit.{Once, in-edges, polygon_sided, ring_rotated, rotated-length, rotated-total, same-once, sided-once}
-use Rattle.one_ring_list.proofs.OneRingList.{found}
-use Rattle.one_ring_list.proofs.SameNests.{encloses-same, inner-same, outer-same}
-use Rattle.one_ring_list.proofs.Uncrossed.{rings-uncrossed}
+use Rattle.one_ring_list.proofs.OneRingListKit.{encloses-same, found, inner-same, outer-same, rings-uncrossed}
 
 -- all rings of polygons, one polygon after the other
 abbrev pub rings_of : List Polygon → List (List Edge)

@@ -19,7 +19,7 @@ use Rattle.osm_rings.proofs.UncrossedRings.{plane-list, rings-do-not-cross}
 use Rattle.plane_edges.specs.Multiple.{common_den, edge_times, edges_times, whole_edges}
 use Rattle.plane_edges.specs.Sided.{IsSided}
 use Rattle.valid.specs.Valid.{IsValidMultiPolygon}
-use Rattle.valid.proofs.ValidPolygons.{valid_polygons}
+use Rattle.valid.proofs.ValidKit.{valid_polygons}
 use Rattle.valid_polygons.specs.AreValid.{AreValid}
 use Rattle.valid_polygons.proofs.BegunElsewhere.{AreBegun, IsBegun, begun_list, begun_polygons, qs}
 

@@ -44,11 +44,11 @@ rank-most : {X : Type 0} (p : X → Bool) (xs : List X) → total (λ y. bit (p 
 rank-most p [] = omega arith
 rank-most p (x ∷ xs) = bit-most (p x) (total (λ y. bit (p y)) xs) (length xs) (rank-most p xs)
 
-bit-less : (a b : Bool) → (a ≡ true → b ≡ true) → bit a ≤ bit b
+pub bit-less : (a b : Bool) → (a ≡ true → b ≡ true) → bit a ≤ bit b
 bit-less false b h = omega arith
 bit-less true b h = rw (h refl) (omega arith)
 
-bit-true : (a : Bool) → a ≡ true → bit a ≡ 1
+pub bit-true : (a : Bool) → a ≡ true → bit a ≡ 1
 bit-true a h = ap bit h
 
 bit-false : (a : Bool) → a ≡ false → bit a ≡ 0

@@ -1,6 +1,5 @@
 use Rattle.paths.proofs.polygon_is_connected.Goals as goal
 use Rattle.paths.proofs.Components.{parts}
-use Rattle.paths.proofs.Crescents.{walks-needed}
 use Rattle.paths.proofs.LinkedInside.{inside-joined, polygon-connected}
 
 pub returns-clause-linked : goal.returns-clause-linked
@@ -11,6 +10,3 @@ returns-clause-polygon c = polygon-connected
 
 pub returns-clause-parts : goal.returns-clause-parts
 returns-clause-parts c = parts
-
-pub returns-clause-needed : goal.returns-clause-needed
-returns-clause-needed c = walks-needed

@@ -1,2 +1,0 @@
-mod NestedInteriors
-mod NestedLinked

@@ -1,2 +1,0 @@
-pub mod Interior
-pub mod Laws
