@@ -6,5 +6,4 @@ mod LinkedPolygons
 mod NextLeft
 mod OddEdges
 mod OneOuterRing
-mod SameEdges
 mod WholeWalks

@@ -1,7 +1,7 @@
 -- Walks, left neighbours and polygons of a sided list, as statements.
 use Rattle.std.specs.Prelude.{List, false, true, ◌↔◌, ◌∷◌, ◌≡◌}
 use Rattle.nesting.specs.Polygon.{ArePolygons, IsPolygon, Polygon, polygon_edges}
-use Rattle.nesting.specs.Walk.{HasSameEdges, IsSuccessor, IsWalk}
+use Rattle.nesting.specs.Walk.{IsSuccessor, IsWalk}
 use Rattle.plane.specs.Edge.{Edge, is_horizontal, is_rising}
 use Rattle.lists.specs.Member.{In}
 use Rattle.winding.specs.Ring.{IsAnchor, segments_of}
@@ -68,8 +68,3 @@ LinkedIsOnePolygon =
     (es : List Edge) → IsSided es → (rs : List (List Edge)) → IsRingListOf es rs → (gs : List Polygon) →
     ArePolygons rs gs → (g : Polygon) → In g gs → (e f : Edge) → In e (polygon_edges g) →
     Linked es e f ↔ In f (polygon_edges g)
-
--- which edges of a list are linked does not depend on their order
-abbrev pub LinkedIsOfEdges : Type 0
-LinkedIsOfEdges =
-    (xs ys : List Edge) → HasSameEdges xs ys → (e f : Edge) → Linked xs e f → Linked ys e f

@@ -4,7 +4,7 @@
 //! `specs/`, `nesting` and `one_ring_list`, for all lists of edges between points with integer coordinates.
 #![tactic(auto)]
 
-ghost use Rattle.connected.specs.Laws.{WalkHasOneOuterRing, PolygonHasWholeWalks, PolygonHasSuccessors, PolygonIsRingListOf, LeftNeighbourExists, LeftNeighbourIsEarlier, PolygonIsLinked, LinkedIsOnePolygon, LinkedIsOfEdges};
+ghost use Rattle.connected.specs.Laws.{WalkHasOneOuterRing, PolygonHasWholeWalks, PolygonHasSuccessors, PolygonIsRingListOf, LeftNeighbourExists, LeftNeighbourIsEarlier, PolygonIsLinked, LinkedIsOnePolygon};
 
 /// Polygons that have an edge each of one walk have one outer ring. So the polygon that has one edge of a walk has all. The
 /// successor of an edge of a polygon is its successor in the polygon, and the rings of a polygon are the ring list of its
@@ -27,9 +27,4 @@ pub fn left_neighbour_is_earlier()
 pub fn polygon_is_linked()
     ensures within { PolygonIsLinked }
     ensures one { LinkedIsOnePolygon }
-{}
-
-/// Which edges of a list are linked doesn't depend on their order.
-pub fn linked_is_of_edges()
-    ensures { LinkedIsOfEdges }
 {}

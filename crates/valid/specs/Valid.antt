@@ -25,7 +25,7 @@ use Rattle.winding.specs.EdgeList.{winding_number}
 use Rattle.winding.specs.Ring.{IsRing}
 use Rattle.winding.specs.ScaledEdges.{scaled_edges}
 
--- ---- LinearRing (6.1.7): a line that is closed and simple
+-- ---- LinearRing: a line that is closed and simple
 
 -- a point that is on both edges is an end of both
 abbrev pub MeetAtEnds : Edge → Edge → Type 0
@@ -40,7 +40,7 @@ pub record IsLinearRing (r : List Edge) : Type 0 where
   -- edges share no points but ends
   pub simple : EachPair MeetAtEnds r
 
--- ---- Polygon (6.1.11): its points
+-- ---- Polygon: its points
 
 -- the outer ring and the holes
 abbrev pub boundary_rings : Polygon → List (List Edge)
@@ -138,7 +138,7 @@ pub record IsValidPolygon (g : Polygon) : Type 0 where
   pub inhabited : HasInterior g
   pub connected : HasConnectedInterior g
 
--- ---- MultiPolygon (6.1.14)
+-- ---- MultiPolygon
 
 -- no point is in both interiors
 abbrev pub HaveApartInteriors : Polygon → Polygon → Type 0
