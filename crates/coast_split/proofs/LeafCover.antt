@@ -54,6 +54,9 @@ module _ (q : ℤ) (hq : sign q ≡ Plus) (p : Vector) (es : List Edge) (sd : Is
   pub once-covers : signed_count_at q p es ≡ pos 1 → Covers q p es
   once-covers h = odd-by (count_at q p es) (up_count east P L) (down_count east P L) both-ways h
 
+pub zero-one : (z : ℤ) → z ≡ pos 0 → z ≡ pos 1 → ⊥
+zero-one z e f = cc (sym e ∙ f)
+
 -- ---- a point beyond the low half is in the high one
 wider : (q x c o : ℤ) → (x -ℤ q *ℤ (c +ℤ o)) +ℤ q *ℤ (o +ℤ o) ≡ x -ℤ q *ℤ (c -ℤ o)
 wider q x c o =
@@ -131,9 +134,6 @@ module _ (m o : ℕ) where
     down-by es low high Plus b n f x y c = inl (x.inside refl ∙ c)
     down-by es low high Minus b n f x y c = inr (y.inside (f refl) ∙ c)
     down-by es low high Null b n f x y c = absurd (n refl)
-
-    zero-one : (z : ℤ) → z ≡ pos 0 → z ≡ pos 1 → ⊥
-    zero-one z e f = cc (sym e ∙ f)
 
     up-by : (es hs : List Edge) (a : Sign) → (a ≡ Null → ⊥) → HalfAt q p es hs a → signed_count_at q p hs ≡ pos 1 → signed_count_at q p es ≡ pos 1
     up-by es hs Plus n x c = sym (x.inside refl) ∙ c

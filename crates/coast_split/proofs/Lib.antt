@@ -1,3 +1,4 @@
+mod Aside
 mod Crossings
 mod CutLines
 mod Depths
@@ -5,10 +6,14 @@ mod Envelopes
 mod HalvesExist
 mod InPlane
 mod LeafCover
+mod LeafParts
 mod LineOrders
 mod LinePoints
 mod Lists
 mod MadeHalves
+mod NearPoints
+mod OffLeaves
+mod OnEdges
 mod OneHalf
 mod Shrinks
 mod SidedHalves

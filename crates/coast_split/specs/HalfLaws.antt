@@ -1,5 +1,6 @@
 -- The laws of halves of exact edges, as statements.
-use Rattle.std.specs.Prelude.{List, true, ℕ, ℤ, ◌<ℤ◌, ◌↔◌, ◌≡◌}
+use Rattle.std.specs.Prelude.{List, true, ℕ, ℤ, ◌%◌, ◌<ℤ◌, ◌↔◌, ◌≡◌}
+use Rattle.std.specs.List.{sum_by}
 use Rattle.lists.specs.Member.{In}
 use Rattle.plane.specs.Sign.{Plus, sign}
 use Rattle.plane.specs.Vector.{Vector}
@@ -7,10 +8,10 @@ use Rattle.osm_geom.specs.declared.cut.Cut.{Cut}
 use Rattle.osm_geom.specs.declared.cut.Side.{Side}
 use Rattle.osm_geom.specs.declared.cut.Side.TheVariants.{Low, High}
 use Rattle.osm_geom.specs.declared.edge.Edge.{Edge}
-use Rattle.plane_edges.specs.Sided.{IsSided}
+use Rattle.plane_edges.specs.Sided.{IsSided, count_at}
 use Rattle.coast_split.specs.Half.{IsHalf}
 use Rattle.coast_split.specs.HalfCount.{CountsAsKept, CountsNothingBeyond}
-use Rattle.coast_split.specs.SplitTree.{Covers, IsOffCuts, IsOffList, IsTree, SomeCovers, Tree, high_cut, is_split, leaves_of, low_cut, middle_of, size_of}
+use Rattle.coast_split.specs.SplitTree.{Covers, IsOffCuts, IsOffLeaves, IsOffList, IsTree, SomeCovers, Tree, high_cut, is_split, leaves_of, low_cut, middle_of, size_of}
 
 -- the half of a sided list is sided
 abbrev pub HalfIsSided : Type 0
@@ -28,11 +29,22 @@ HalfIsEmptyBeyond = (cut : Cut) (s : Side) (es hs : List Edge) → IsHalf cut s 
 abbrev pub HalvesExist : Type 0
 HalvesExist = (cut : Cut) (s : Side) (es : List Edge) → (hs : List Edge) × IsHalf cut s es hs
 
--- at each point off the list and off the cuts some leaf covers it exactly where the list does
+-- at each point off the edges of the leaves some leaf covers it exactly where the list does
 abbrev pub LeafCover : Type 0
 LeafCover =
-    (m o : ℕ) (es : List Edge) (t : Tree) → IsTree m o es t → IsSided es → (q : ℤ) → sign q ≡ Plus → (p : Vector) → IsOffList q p es → IsOffCuts o q p es t →
+    (m o : ℕ) (es : List Edge) (t : Tree) → IsTree m o es t → IsSided es → (q : ℤ) → sign q ≡ Plus → (p : Vector) → IsOffLeaves q p (leaves_of es t) →
     Covers q p es ↔ SomeCovers q p (leaves_of es t)
+
+-- no edge of the list is left out: each of its points is on an edge of a leaf
+abbrev pub LeavesKeepEdges : Type 0
+LeavesKeepEdges =
+    (m o : ℕ) (es : List Edge) (t : Tree) → IsTree m o es t → IsSided es → (q : ℤ) → sign q ≡ Plus → (p : Vector) → IsOffLeaves q p (leaves_of es t) → IsOffList q p es
+
+-- and edges are added along the lines of the cuts alone
+abbrev pub LeavesAddAlongCuts : Type 0
+LeavesAddAlongCuts =
+    (m o : ℕ) (es : List Edge) (t : Tree) → IsTree m o es t → IsSided es → (q : ℤ) → sign q ≡ Plus → (p : Vector) → IsOffList q p es → IsOffCuts o q p es t →
+    IsOffLeaves q p (leaves_of es t)
 
 -- the leaves of a sided list are sided
 abbrev pub LeavesAreSided : Type 0
@@ -51,3 +63,10 @@ abbrev pub SplitShrinks : Type 0
 SplitShrinks =
     (m o : ℕ) (es : List Edge) → is_split m o es ≡ true → (hs : List Edge) →
     (IsHalf (low_cut (middle_of es) o) Low es hs → size_of hs <ℤ size_of es) × (IsHalf (high_cut (middle_of es) o) High es hs → size_of hs <ℤ size_of es)
+
+-- with overlap 0 the leaves part the list: at each point off their edges their parities add up to that of the list, so that one leaf covers it
+-- where the list does, and none elsewhere
+abbrev pub LeavesPart : Type 0
+LeavesPart =
+    (m : ℕ) (es : List Edge) (t : Tree) → IsTree m 0 es t → IsSided es → (q : ℤ) → sign q ≡ Plus → (p : Vector) → IsOffLeaves q p (leaves_of es t) →
+    sum_by (λ (leaf : List Edge). count_at q p leaf % 2) (leaves_of es t) ≡ count_at q p es % 2

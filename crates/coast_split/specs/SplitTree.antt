@@ -128,6 +128,10 @@ IsOffCuts o q p es (Fork low high s t) =
     (side (scaled_line q (line_of (low_cut (middle_of es) o) Low)) p ≡ Null → ⊥) × (side (scaled_line q (line_of (high_cut (middle_of es) o) High)) p ≡ Null → ⊥)
     × IsOffCuts o q p low s × IsOffCuts o q p high t
 
+-- the point is on no edge of the leaves
+abbrev pub IsOffLeaves : ℤ → Vector → List (List Edge) → Type 0
+IsOffLeaves q p leaves = All (IsOffList q p) leaves
+
 pub record SomeCovers (q : ℤ) (p : Vector) (leaves : List (List Edge)) : Type 0 where
   pub leaf : List Edge
   pub member : In leaf leaves

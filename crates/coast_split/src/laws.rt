@@ -1,6 +1,8 @@
 //! What a half is to the list that it is cut from.
-ghost use Rattle.coast_split.specs.HalfLaws.{HalfIsSided, HalfKeepsCount, HalfIsEmptyBeyond, HalfIsOne, HalvesExist, LeafCover, LeavesAreSided, SplitShrinks, TreeIsOne};
+ghost use Rattle.coast_split.specs.HalfLaws.{HalfIsSided, HalfKeepsCount, HalfIsEmptyBeyond, HalfIsOne, HalvesExist, LeafCover, LeavesAddAlongCuts, LeavesAreSided, LeavesKeepEdges, LeavesPart, SplitShrinks, TreeIsOne};
 ghost use Rattle.coast_split.specs.TreeLaws.{SplitNarrows, SplitTreesAreShallow, SplitTreesExist};
+
+use paths::edge_parts_inside;
 
 /// The half of a sided list is sided.
 pub fn half_of_sided_list_is_sided()
@@ -19,12 +21,30 @@ pub fn halves_exist()
     ensures { HalvesExist }
 {}
 
-/// Leaf cover: however often a sided list is split, its leaves are sided, and at each point off the list and off the cut
-/// lines some leaf covers the point exactly where the list does.
+/// Leaf cover: however often a sided list is split, its leaves are sided. At each point off their edges, also on the lines of
+/// the cuts, some leaf covers the point exactly where the list does.
 pub fn leaves_cover_as_list()
     ensures sided { LeavesAreSided }
     ensures cover { LeafCover }
-{}
+{
+    edge_parts_inside();
+}
+
+/// What edges leaves have: all of the list's, and others along the lines of the cuts alone.
+pub fn leaves_have_edges()
+    ensures kept { LeavesKeepEdges }
+    ensures added { LeavesAddAlongCuts }
+{
+    edge_parts_inside();
+}
+
+/// Without an overlap the leaves part the list: of a point off their edges one leaf covers it where the list does, and none
+/// elsewhere.
+pub fn leaves_part_the_list()
+    ensures { LeavesPart }
+{
+    edge_parts_inside();
+}
 
 /// A list has one half on a side of a line, and so one split tree: its leaves are determined. The halves of a list that is cut
 /// have a smaller envelope, by the sum of its sides.

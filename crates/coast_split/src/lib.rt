@@ -14,6 +14,7 @@ mod portion;
 pub use halves::half;
 pub use laws::{
     half_counts_as_list, half_of_sided_list_is_sided, halves_are_determined, halves_exist,
-    leaves_cover_as_list, split_trees_are_shallow, split_trees_exist,
+    leaves_cover_as_list, leaves_have_edges, leaves_part_the_list, split_trees_are_shallow,
+    split_trees_exist,
 };
 pub use leaves::{Leaf, Settings, SplitError, split};

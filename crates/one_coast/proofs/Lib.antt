@@ -6,3 +6,5 @@ pub mod CoastOne
 pub mod CoastThere
 mod SignedParity
 mod LeavesTogether
+mod PiecesRight
+mod LeavesApart

@@ -57,3 +57,10 @@ module _ (q : ℤ) (p : Vector) (es : List Edge) where
 
   pub parity-odd : (k : ℕ) → signed_count_at q p es ≡ pos (k % 2) → pos (k % 2) ≡ pos 1 → count_at q p es % 2 ≡ 1
   parity-odd k h e = once-odd (h ∙ e)
+
+  parity-by : (k : ℕ) → signed_count_at q p es ≡ pos (k % 2) → (k % 2 ≡ 0) ⊎ (k % 2 ≡ 1) → pos (count_at q p es % 2) ≡ pos (k % 2)
+  parity-by k h (inl e) = ap (λ n. pos n) (none-even (h ∙ ap (λ n. pos n) e) ∙ sym e)
+  parity-by k h (inr e) = ap (λ n. pos n) (once-odd (h ∙ ap (λ n. pos n) e) ∙ sym e)
+
+  pub parity-is : (k : ℕ) → signed_count_at q p es ≡ pos (k % 2) → pos (count_at q p es % 2) ≡ pos (k % 2)
+  parity-is k h = parity-by k h (none-or-one k)
