@@ -1,11 +1,10 @@
 -- The leaves of polygons are one list, sided, and the polygons that they make are one list each.
-use Rattle.std.proofs.Common.{All, Bool, List, [], ap, ap₂, false, get_or, map, subst, sym, true, ◌++◌, ◌∙◌, ◌∷◌, ◌≡◌}
+use Rattle.std.proofs.Common.{All, List, [], ap, ap₂, get_or, map, subst, sym, ◌++◌, ◌∙◌, ◌∷◌, ◌≡◌}
 use Rattle.std.proofs.lemmas.List.Elements.{All-append, All-head, All-map, All-nil, All-tail}
 use Rattle.coast_split.specs.HalfLaws.{LeavesAreSided, TreeIsOne}
 use Rattle.coast_split.specs.SplitTree.{AreLeaves, Tree, leaf_of, leaves_of}
 use Rattle.coast_split.specs.declared.leaves.Leaf.{Leaf}
 use Rattle.lists.proofs.ListsKit.{all-in}
-use Rattle.osm_geom.specs.declared.edge.Edge.{Edge}
 use Rattle.osm_nest.specs.Cover.{AreSided}
 use Rattle.osm_nest.specs.Polygons.{edges_in}
 use Rattle.osm_nest.specs.declared.polygon.Polygon.{Polygon}
