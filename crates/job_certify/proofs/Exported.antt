@@ -18,8 +18,9 @@ use Rattle.osm_text.specs.declared.feature_id.FeatureId.{FeatureId}
 use Rattle.osm_words.specs.Job.{CertifySettings, ExportSettings}
 use Rattle.osm_words.specs.declared.settings.UniqueId.{UniqueId}
 use Rattle.osm_words.specs.declared.settings.UniqueId.TheVariants as unique
-use Rattle.osm_job.specs.Sent.{Sent, output_of, to_output, to_report}
+use Rattle.osm_job.specs.Sent.{output_of}
 use Rattle.osm_job.specs.Whole.{Whole}
+use Rattle.osm_job.proofs.Writes.{piece_out}
 use Rattle.area_certify.specs.declared.verdict.IdChoice.{IdChoice}
 use Rattle.area_certify.specs.Areas.{AreThose, HaveAreas}
 use Rattle.area_certify.specs.FirstWrong.{IsFeature, feature_id as certified_id, tags_of as certified_tags}
@@ -31,15 +32,6 @@ use Rattle.job_certify.specs.Exported.{export_of}
 use Rattle.job_certify.specs.Laws.{CertifiedTextsAreExports}
 
 -- ---- what goes out
-
-report_before : (bytes : List ℕ) (rest : List Sent) → output_of (map to_report bytes ++ rest) ≡ output_of rest
-report_before [] rest = refl
-report_before (byte ∷ bytes) rest = report_before bytes rest
-
--- a piece, its report lines and what is behind them
-piece_out : (piece report : List ℕ) (rest : List Sent) → output_of ((map to_output piece ++ map to_report report) ++ rest) ≡ piece ++ output_of rest
-piece_out [] report rest = report_before report rest
-piece_out (byte ∷ piece) report rest = ap (λ (xs : List ℕ). byte ∷ xs) (piece_out piece report rest)
 
 never : false ≡ true → ⊥
 never h = cc

@@ -13,7 +13,7 @@ use Rattle.osm_job.proofs.Prefixes.{take_is_prefix, prefix_behind, prefix_of_lon
 
 -- ---- what goes where
 
-output_of-append : (xs ys : List Sent) → output_of (xs ++ ys) ≡ output_of xs ++ output_of ys
+pub output_of-append : (xs ys : List Sent) → output_of (xs ++ ys) ≡ output_of xs ++ output_of ys
 output_of-append [] ys = refl
 output_of-append (to_output byte ∷ xs) ys = ap (λ (bytes : List ℕ). byte ∷ bytes) (output_of-append xs ys)
 output_of-append (to_report byte ∷ xs) ys = output_of-append xs ys
@@ -23,7 +23,7 @@ report_of-append [] ys = refl
 report_of-append (to_output byte ∷ xs) ys = report_of-append xs ys
 report_of-append (to_report byte ∷ xs) ys = ap (λ (bytes : List ℕ). byte ∷ bytes) (report_of-append xs ys)
 
-output_of_output : (bytes : List ℕ) → output_of (map to_output bytes) ≡ bytes
+pub output_of_output : (bytes : List ℕ) → output_of (map to_output bytes) ≡ bytes
 output_of_output [] = refl
 output_of_output (byte ∷ bytes) = ap (λ (rest : List ℕ). byte ∷ rest) (output_of_output bytes)
 
@@ -38,6 +38,13 @@ output_of_report (byte ∷ bytes) = output_of_report bytes
 report_of_report : (bytes : List ℕ) → report_of (map to_report bytes) ≡ bytes
 report_of_report [] = refl
 report_of_report (byte ∷ bytes) = ap (λ (rest : List ℕ). byte ∷ rest) (report_of_report bytes)
+
+-- the output of a piece, of report lines behind it and of what follows
+pub piece_out : (piece report : List ℕ) (rest : List Sent) → output_of (map to_output piece ++ map to_report report ++ rest) ≡ piece ++ output_of rest
+piece_out piece report rest =
+    output_of-append (map to_output piece ++ map to_report report) rest
+    ∙ ap (λ (bytes : List ℕ). bytes ++ output_of rest)
+    (output_of-append (map to_output piece) (map to_report report) ∙ ap₂ (λ (a b : List ℕ). a ++ b) (output_of_output piece) (output_of_report report) ∙ append-nil piece)
 
 -- ---- one behind the other
 

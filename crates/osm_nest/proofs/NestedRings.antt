@@ -81,7 +81,7 @@ none-out f [] x h i = absurd i
 none-out f (y ∷ ys) x h (inl e) = ap f e ∙ (let n : f y ≡ 0 = omega arith in n)
 none-out f (y ∷ ys) x h (inr i) = none-out f ys x (omega arith) i
 
-ring-edge : (es : List Edge) (rs : List (List Edge)) → All IsWholeSegment es → ((f : Edge → ℕ) → sum_by (λ r. sum_by f r) rs ≡ sum_by f es) → (r : List Edge) → In r rs → (e : Edge) → In e r → IsWholeSegment e
+pub ring-edge : (es : List Edge) (rs : List (List Edge)) → All IsWholeSegment es → ((f : Edge → ℕ) → sum_by (λ r. sum_by f r) rs ≡ sum_by f es) → (r : List Edge) → In r rs → (e : Edge) → In e r → IsWholeSegment e
 ring-edge es rs whole sums r i e j =
     let none : sum_by is_part es ≡ 0 = sym (total-is is_part es) ∙ total_none is_part es (λ x k. ap (λ b. bit (not b)) (whole-test x (in-all IsWholeSegment es x whole k))) in
     let all : total (λ r. sum_by is_part r) rs ≡ 0 = total-is (λ r. sum_by is_part r) rs ∙ sums is_part ∙ none in

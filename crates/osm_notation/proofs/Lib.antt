@@ -1,4 +1,5 @@
 mod DecimalLemmas
+pub mod DecimalValues
 pub mod KeptTexts
 pub mod RoundedRange
 mod StringLemmas

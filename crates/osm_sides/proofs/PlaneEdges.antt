@@ -18,7 +18,7 @@ use Rattle.plane_edges.specs.SidedLaws.{IsLattice}
 use Rattle.osm_sides.specs.Directions.{first_end, last_end}
 use Rattle.osm_sides.specs.Survivors.{plane_edges_of}
 
-lattice_point : (p : Loc) → point_times 1 (Lattice p) ≡ vector_of p
+pub lattice_point : (p : Loc) → point_times 1 (Lattice p) ≡ vector_of p
 lattice_point p = same_vector (pos 1 *ℤ (p.x *ℤ pos 1)) (pos 1 *ℤ (p.y *ℤ pos 1)) p.x p.y (omega (arith, ints)) (omega (arith, ints))
 
 plane_ends : (b : Bool) (s : Seg) → (vector_of (cond b s.a s.b) ≡ (cond b (edge_of s) (plane.reversed (edge_of s))).from) × (vector_of (cond b s.b s.a) ≡ (cond b (edge_of s) (plane.reversed (edge_of s))).to)

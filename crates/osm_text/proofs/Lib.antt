@@ -9,4 +9,4 @@ mod PieceLemmas
 mod PropertyLemmas
 mod RingRounding
 mod RowLemmas
-mod WholePaths
+pub mod WholePaths

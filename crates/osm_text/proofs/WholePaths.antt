@@ -21,7 +21,7 @@ leaves e w = either w.forward (w.from)
 step : (e : Edge) (es : List Edge) (at : Loc) → e.from ≡ Lattice at → PassesAll es → map Lattice (cons_option (location_at e.from) (path_along es)) ≡ e.from ∷ map (λ (edge : Edge). edge.from) es
 step e es at is rest = rw is (ap (λ (points : List Point). Lattice at ∷ points) rest)
 
-passes : (es : List Edge) → All IsWholeSegment es → PassesAll es
+pub passes : (es : List Edge) → All IsWholeSegment es → PassesAll es
 passes [] all = refl
 passes (e ∷ es) all =
     let there = leaves e (All-head IsWholeSegment e es all) in

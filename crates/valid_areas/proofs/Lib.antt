@@ -1,1 +1,6 @@
+mod Exports
+mod Features
+mod Numerals
+mod OneReading
+mod Printed
 mod ValidAreas

@@ -1,2 +1,5 @@
+pub mod Exported
 pub mod Laws
+pub mod Numeral
+pub mod Spelled
 pub mod ValidArea

@@ -1,10 +1,11 @@
-//! The polygons of an area are a valid MultiPolygon in the sense of Simple Features.
+//! The polygons of an area are a valid MultiPolygon in the sense of Simple Features, and so is what each feature spells that
+//! `export` writes.
 //!
-//! There is no code to run here. The public function calls the laws of the layers below; its contract is a law about the
-//! definitions in `specs/` and `osm_area`.
+//! There is no code to run here. The public functions call the laws of the layers below; their contracts are laws about the
+//! definitions in `specs/`, `osm_area`, `job_export` and `osm_cli`.
 #![tactic(auto)]
 
-ghost use Rattle.valid_areas.specs.Laws.{AreasAreValid};
+ghost use Rattle.valid_areas.specs.Laws.{AreasAreValid, ExportedFeaturesAreValid, RightFeaturesAreValid, SpelledIsOne, WrittenFeaturesAreValid};
 
 use osm_sides::directing_is_sided;
 use valid_polygons::nested_polygons_are_valid;
@@ -16,3 +17,20 @@ pub fn areas_are_valid()
     directing_is_sided();
     nested_polygons_are_valid();
 }
+
+/// What an export puts out is a header, a feature for each candidate with an area, and a footer. Each feature, read as
+/// GeoJSON or as well-known text, spells the polygons of the area, and these are a valid MultiPolygon. So it is for the
+/// bytes that are right over objects, for those that are right over an input, and for those that a run writes.
+pub fn exported_features_are_valid()
+    ensures export { ExportedFeaturesAreValid }
+    ensures right { RightFeaturesAreValid }
+    ensures written { WrittenFeaturesAreValid }
+{
+    // By law: the areas are valid.
+    areas_are_valid();
+}
+
+/// A text spells one list of polygons alone, or none.
+pub fn spelled_polygons_are_one()
+    ensures { SpelledIsOne }
+{}

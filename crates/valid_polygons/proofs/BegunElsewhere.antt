@@ -1,4 +1,5 @@
 -- The polygons of a ring list whose rings are begun elsewhere are those of the ring list that is begun so.
+use Rattle.std.specs.List.{flat_map}
 use Rattle.std.proofs.Common.{List, [], ap, arith, inl, inr, length, map, refl, subst, sym, ℕ, ◌++◌, ◌+◌, ◌<◌, ◌∙◌, ◌∷◌, ◌≡◌, ◌≤◌, ◌⊎◌}
 use Rattle.lists.specs.Member.{EachPair, In}
 use Rattle.lists.specs.Rotated.{IsRotated}
@@ -10,14 +11,14 @@ use Rattle.nesting.specs.Walk.{HasSameEdges}
 use Rattle.one_ring_list.specs.RingListOf.{IsRingListOf}
 use Rattle.plane.specs.Edge.{Edge}
 use Rattle.winding.specs.Sided.{IsSided}
-use Rattle.lists.proofs.ListsKit.{all-in, in-either, in-left, in-right, pairs-across, pairs-right, pairs-weaker, rotated-in, total, total-++, total-is}
+use Rattle.lists.proofs.ListsKit.{all-in, pairs-across, pairs-right, pairs-weaker, rotated-in, some_member, total, total-++, total-is}
 use Rattle.nesting.proofs.NestingKit.{Once, in-edges, polygon_sided, ring_rotated, rotated-length, rotated-total, same-once, sided-once}
 use Rattle.one_ring_list.proofs.OneRingListKit.{encloses-same, found, inner-same, outer-same, rings-uncrossed}
+use Rattle.valid_polygons.proofs.Flattened.{in-flat, out-flat}
 
 -- all rings of polygons, one polygon after the other
 abbrev pub rings_of : List Polygon → List (List Edge)
-rings_of [] = []
-rings_of (g ∷ gs) = (g.outer ∷ g.inner) ++ rings_of gs
+rings_of gs = flat_map (λ (g : Polygon). g.outer ∷ g.inner) gs
 
 -- the same polygons, with rings begun elsewhere
 pub record IsBegun (g h : Polygon) : Type 0 where
@@ -44,19 +45,6 @@ was-by g gs f others t h (inr i) k = let a = k i in (a.0, inr a.1, a.2)
 was : (gs hs : List Polygon) → AreBegun gs hs → (h : Polygon) → In h hs → (g : Polygon) × In g gs × IsBegun g h
 was [] hs k h i = absurd (subst (In h) k i)
 was (g ∷ gs) hs k h i = was-by g gs k.0 k.1 k.3 h (subst (In h) k.2 i) (was gs k.1 k.4 h)
-
-in-rings : (hs : List Polygon) (h : Polygon) (r : List Edge) → In h hs → In r (h.outer ∷ h.inner) → In r (rings_of hs)
-in-rings [] h r i j = absurd i
-in-rings (x ∷ hs) h r (inl e) j = in-left (x.outer ∷ x.inner) (rings_of hs) r (subst (λ (y : Polygon). In r (y.outer ∷ y.inner)) e j)
-in-rings (x ∷ hs) h r (inr i) j = in-right (x.outer ∷ x.inner) (rings_of hs) r (in-rings hs h r i j)
-
-out-rings-by : (x : Polygon) (hs : List Polygon) (r : List Edge) → (In r (x.outer ∷ x.inner)) ⊎ (In r (rings_of hs)) → (In r (rings_of hs) → (h : Polygon) × In h hs × In r (h.outer ∷ h.inner)) → (h : Polygon) × In h (x ∷ hs) × In r (h.outer ∷ h.inner)
-out-rings-by x hs r (inl i) f = (x, inl refl, i)
-out-rings-by x hs r (inr i) f = let a = f i in (a.0, inr a.1, a.2)
-
-out-rings : (hs : List Polygon) (r : List Edge) → In r (rings_of hs) → (h : Polygon) × In h hs × In r (h.outer ∷ h.inner)
-out-rings [] r i = absurd i
-out-rings (x ∷ hs) r i = out-rings-by x hs r (in-either (x.outer ∷ x.inner) (rings_of hs) r i) (out-rings hs r)
 
 -- ---- sums
 module _ (f : Edge → ℕ) where
@@ -95,80 +83,76 @@ apart-lists (r ∷ rs) o = (
   apart-lists rs (pairs-right (λ (x y : Edge). x ≡ y → ⊥) r (edges_of rs) o),
 )
 
-some-edge : (r : List Edge) → 3 ≤ length r → (e : Edge) × In e r
-some-edge [] h = absurd (omega arith)
-some-edge (e ∷ r) h = (e, inl refl)
-
 less-than : (n : ℕ) → 3 ≤ n → 0 < n
 less-than n h = omega arith
 
 -- ---- the ring list and the polygons
 module _ (es : List Edge) (sd : IsSided es) (rs : List (List Edge)) (l : IsRingListOf es rs) (gs : List Polygon) (a : ArePolygons rs gs) (hs : List Polygon) (begun : AreBegun gs hs) where
-  abbrev pub qs : List (List Edge)
-  qs = rings_of hs
+  abbrev pub begun_rings : List (List Edge)
+  begun_rings = rings_of hs
 
-  u : IsRingList rs
-  u = rings-uncrossed es sd rs l
+  uncrossed : IsRingList rs
+  uncrossed = rings-uncrossed es sd rs l
 
   ring-of-by : (g h : Polygon) → In g gs → IsBegun g h → (q : List Edge) → In q (h.outer ∷ h.inner) → (r : List Edge) × In r rs × IsRotated r q
   ring-of-by g h i t q (inl e) = (g.outer, (a.each g i).member, subst (λ l. IsRotated g.outer l) (sym e) t.outer)
   ring-of-by g h i t q (inr j) = let w = ring-was g.inner h.inner t.inner q j in (w.0, (a.each g i).inner_members w.0 w.1, w.2)
 
-  ring-of : (q : List Edge) → In q qs → (r : List Edge) × In r rs × IsRotated r q
-  ring-of q j = let o = out-rings hs q j in let w = was gs hs begun o.0 o.1 in ring-of-by w.0 o.0 w.1 w.2 q o.2
+  ring-of : (q : List Edge) → In q begun_rings → (r : List Edge) × In r rs × IsRotated r q
+  ring-of q j = let o = out-flat (λ (h : Polygon). h.outer ∷ h.inner) hs q j in let w = was gs hs begun o.0 o.1 in ring-of-by w.0 o.0 w.1 w.2 q o.2
 
   edges-same : HasSameEdges (edges_of (map polygon_edges hs)) (edges_of rs)
   edges-same f =
       sym (total-is f (edges_of (map polygon_edges hs))) ∙ polygons-total f gs hs begun ∙ total-is f (edges_of (map polygon_edges gs)) ∙ a.whole f
 
-  own-same : HasSameEdges (edges_of qs) (edges_of (map polygon_edges hs))
-  own-same f = sym (total-is f (edges_of qs)) ∙ own-total f hs ∙ total-is f (edges_of (map polygon_edges hs))
+  own-same : HasSameEdges (edges_of begun_rings) (edges_of (map polygon_edges hs))
+  own-same f = sym (total-is f (edges_of begun_rings)) ∙ own-total f hs ∙ total-is f (edges_of (map polygon_edges hs))
 
-  pub begun_list : IsRingListOf es qs
+  pub begun_list : IsRingListOf es begun_rings
   begun_list = record {
     edges = λ f. own-same f ∙ edges-same f ∙ l.edges f;
     walks = λ q j. let r = ring-of q j in let w = l.walks r.0 r.1 in (w.0, w.1, λ x i. w.2 x (rotated-in r.0 q r.2 x i));
     ring = λ q j. let r = ring-of q j in ring_rotated r.0 q r.2 (l.ring r.0 r.1);
-    some = λ q j. let r = ring-of q j in less-than (length q) (rotated-length r.0 q r.2 (u.long r.0 r.1));
+    some = λ q j. let r = ring-of q j in less-than (length q) (rotated-length r.0 q r.2 (uncrossed.long r.0 r.1));
   }
 
-  v : IsRingList qs
-  v = rings-uncrossed es sd qs begun_list
+  begun_uncrossed : IsRingList begun_rings
+  begun_uncrossed = rings-uncrossed es sd begun_rings begun_list
 
   module _ (h : Polygon) (j : In h hs) where
-    w : (g : Polygon) × In g gs × IsBegun g h
-    w = was gs hs begun h j
+    origin : (g : Polygon) × In g gs × IsBegun g h
+    origin = was gs hs begun h j
 
     abbrev g : Polygon
-    g = w.0
+    g = origin.0
 
     is : IsPolygon rs g
-    is = a.each g w.1
+    is = a.each g origin.1
 
     inner-was : (q : List Edge) → In q h.inner → (r : List Edge) × In r g.inner × IsRotated r q
-    inner-was q i = ring-was g.inner h.inner w.2.inner q i
+    inner-was q i = ring-was g.inner h.inner origin.2.inner q i
 
-    here : (q : List Edge) → In q (h.outer ∷ h.inner) → In q qs
-    here q i = in-rings hs h q j i
+    here : (q : List Edge) → In q (h.outer ∷ h.inner) → In q begun_rings
+    here q i = in-flat (λ (h : Polygon). h.outer ∷ h.inner) hs h q j i
 
     once-edges : Once (polygon_edges h)
     once-edges =
         same-once (polygon_edges h) (polygon_edges g)
-        (λ f. sym (total-is f (polygon_edges h)) ∙ polygon-total f g h w.2 ∙ total-is f (polygon_edges g)) (sided-once (polygon_edges g) (polygon_sided rs u g is))
+        (λ f. sym (total-is f (polygon_edges h)) ∙ polygon-total f g h origin.2 ∙ total-is f (polygon_edges g)) (sided-once (polygon_edges g) (polygon_sided rs uncrossed g is))
 
-    is-polygon : IsPolygon qs h
+    is-polygon : IsPolygon begun_rings h
     is-polygon = record {
       member = here h.outer (inl refl);
-      is_outer_ring = outer-same rs qs u v g.outer h.outer is.member (here h.outer (inl refl)) w.2.outer is.is_outer_ring;
+      is_outer_ring = outer-same rs begun_rings uncrossed begun_uncrossed g.outer h.outer is.member (here h.outer (inl refl)) origin.2.outer is.is_outer_ring;
       inner_members = λ q i. here q (inr i);
-      are_inner_rings = λ q i. let r = inner-was q i in inner-same rs qs u v r.0 q (is.inner_members r.0 r.1) (here q (inr i)) r.2 (is.are_inner_rings r.0 r.1);
+      are_inner_rings = λ q i. let r = inner-was q i in inner-same rs begun_rings uncrossed begun_uncrossed r.0 q (is.inner_members r.0 r.1) (here q (inr i)) r.2 (is.are_inner_rings r.0 r.1);
       enclosed = λ q i.
           let r = inner-was q i in
-          encloses-same rs qs u v (found es sd qs rs begun_list l) g.outer h.outer r.0 q is.member (here h.outer (inl refl)) w.2.outer r.2 (is.enclosed r.0 r.1);
+          encloses-same rs begun_rings uncrossed begun_uncrossed (found es sd begun_rings rs begun_list l) g.outer h.outer r.0 q is.member (here h.outer (inl refl)) origin.2.outer r.2 (is.enclosed r.0 r.1);
       once = pairs-weaker (λ (r s : List Edge). (x : Edge) → In x r → In x s → ⊥) (λ (r s : List Edge). r ≡ s → ⊥) h.inner
-          (λ r s i k n e. let x = some-edge r (v.long r (here r (inr i))) in n x.0 x.1 (subst (λ l. In x.0 l) e x.1))
+          (λ r s i k n e. let x = some_member r (less-than (length r) (begun_uncrossed.long r (here r (inr i)))) in n x.0 x.1 (subst (λ l. In x.0 l) e x.1))
           (apart-lists h.inner (pairs-right (λ (x y : Edge). x ≡ y → ⊥) h.outer (edges_of h.inner) once-edges));
     }
 
-  pub begun_polygons : ArePolygons qs hs
+  pub begun_polygons : ArePolygons begun_rings hs
   begun_polygons = record { each = is-polygon; whole = λ f. sym (own-same f) }

@@ -1,3 +1,4 @@
 mod BegunElsewhere
+mod Flattened
 mod NestedValid
 pub mod WholePolygons

@@ -21,7 +21,7 @@ use Rattle.plane_edges.specs.Sided.{IsSided}
 use Rattle.valid.specs.Valid.{IsValidMultiPolygon}
 use Rattle.valid.proofs.ValidKit.{valid_polygons}
 use Rattle.valid_polygons.specs.AreValid.{AreValid}
-use Rattle.valid_polygons.proofs.BegunElsewhere.{AreBegun, IsBegun, begun_list, begun_polygons, qs}
+use Rattle.valid_polygons.proofs.BegunElsewhere.{AreBegun, IsBegun, begun_list, begun_polygons, begun_rings}
 
 module _ (k : ℕ) where
   turned-times : (p q : List Edge) → IsRotated p q → IsRotated (edges_times k p) (edges_times k q)
@@ -67,7 +67,7 @@ module _ (es : List Edge) (sd : IsSided es) (rs : List (List Edge)) (a : AreRing
 
   plane-valid : IsValidMultiPolygon planes
   plane-valid =
-      valid_polygons (whole_edges es) sd (qs (whole_edges es) sd (whole_rings rs) lists was are-polygons planes begun)
+      valid_polygons (whole_edges es) sd (begun_rings (whole_edges es) sd (whole_rings rs) lists was are-polygons planes begun)
       (begun_list (whole_edges es) sd (whole_rings rs) lists was are-polygons planes begun) planes
       (begun_polygons (whole_edges es) sd (whole_rings rs) lists was are-polygons planes begun)
 
