@@ -1,0 +1,10 @@
+mod ClosedPaths
+mod FewLocations
+mod NearPoints
+mod NeighboursOnce
+mod PrintedCover
+mod PrintedPolygons
+mod PrintedTiles
+mod RingLaws
+mod RoundedPolygons
+mod RoundedRings

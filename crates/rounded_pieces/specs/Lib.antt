@@ -1,0 +1,5 @@
+pub mod Cover
+pub mod Laws
+pub mod Near
+pub mod Printed
+pub mod Tiles
