@@ -2,14 +2,17 @@
 use Rattle.std.proofs.Common.{All, Bool, List, [], ap, arith, cond, false, inl, inr, refl, subst, sym, true, ℕ, ℤ, ◌%◌, ◌+◌, ◌↔◌, ◌∙◌, ◌∷◌, ◌≡◌, ◌≤◌}
 use Rattle.std.specs.List.{count_by}
 use Rattle.lists.specs.Member.{In}
-use Rattle.lists.proofs.ListsKit.{count_by-cons, in-all, in-map, in-map-out}
-use Rattle.coast_split.specs.SplitTree.{Covers}
+use Rattle.lists.proofs.ListsKit.{all-in, count_by-cons, in-all, in-map, in-map-out}
+use Rattle.coast_split.specs.SplitTree.{Covers, IsOffList}
 use Rattle.coast_split.specs.declared.leaves.Leaf.{Leaf}
 use Rattle.job_coastline.specs.Pieces.{AreTiles, Tile}
 use Rattle.one_coast.specs.Cover.{SomeLeafCovers}
 use Rattle.plane.specs.Sign.{Plus, sign}
 use Rattle.plane.specs.Vector.{Vector}
+use Rattle.plane_edges.specs.Multiple.{common_den, whole_edges}
 use Rattle.plane_edges.specs.Sided.{count_at}
+use Rattle.plane_edges.proofs.EdgesKit.{common_is_common}
+use Rattle.rounded.proofs.RoundedKit.{beyond-off}
 use Rattle.rounded_pieces.specs.Cover.{SomePrintCovers}
 use Rattle.rounded_pieces.specs.Laws.{IsTilePrintedRight}
 use Rattle.rounded_pieces.specs.Printed.{print_covers}
@@ -54,3 +57,9 @@ module _ (q : ℤ) (plus : sign q ≡ Plus) (p : Vector) (leaves : List Leaf) (t
 
   pub prints-cover : SomePrintCovers q p tiles ↔ SomeLeafCovers q p leaves
   prints-cover = (to-leaf, from-leaf)
+
+-- a point that is far from the borders of leaves is on none of their edges
+pub far-off : (q : ℤ) → sign q ≡ Plus → (p : Vector) (leaves : List Leaf) → All (IsBeyondLeaf q p) leaves → All (λ (leaf : Leaf). IsOffList q p leaf.edges) leaves
+far-off q plus p leaves far =
+    all-in (λ (leaf : Leaf). IsOffList q p leaf.edges) leaves (λ leaf i.
+    beyond-off (common_den leaf.edges) (common_is_common leaf.edges).some (whole_edges leaf.edges) q plus p (in-all (IsBeyondLeaf q p) leaves leaf far i))

@@ -1,9 +1,12 @@
 -- What is printed of land and of water covers together, as statements.
-use Rattle.std.specs.Prelude.{All, List, true, ℤ, ◌↔◌, ◌≡◌}
+use Rattle.std.specs.Prelude.{All, List, pos, true, ℤ, ◌↔◌, ◌≡◌}
 use Rattle.lists.specs.Member.{In}
 use Rattle.opl_reader.specs.declared.object.Object.{Object}
+use Rattle.coast_sides.specs.Land.{parity_at}
+use Rattle.coast_sides.specs.Segments.{all_segments}
+use Rattle.coast_sides.specs.Water.{IsWithin}
 use Rattle.job_coastline.specs.Coastline.{IsCoastline}
-use Rattle.job_coastline.specs.Pieces.{AreTiles, Tile}
+use Rattle.job_coastline.specs.Pieces.{AreTiles, Tile, has_land, has_water}
 use Rattle.one_coast.specs.Cover.{SomeLeafCovers}
 use Rattle.osm_job.specs.Whole.{Whole}
 use Rattle.osm_nest.specs.declared.polygon.Polygon.{Polygon}
@@ -35,3 +38,19 @@ PrintedWaterCovers =
     (settings : CoastlineSettings) (objects : List Object) (whole : Whole) (right : IsCoastline settings objects whole) (tiles : List Tile) →
     AreTiles right.areas.water_leaves tiles → (q : ℤ) → sign q ≡ Plus → (p : Vector) → All (IsBeyondLeaf q p) right.areas.water_leaves →
     SomePrintCovers q p tiles ↔ SomeLeafCovers q p right.areas.water_leaves
+
+-- Where land is asked for: at each such point the print of some leaf of land covers it exactly where an odd number of the kept rings'
+-- segments, none of them cancelled, are to the right of it.
+abbrev pub PrintedLandIsCoast : Type 0
+PrintedLandIsCoast =
+    (settings : CoastlineSettings) (objects : List Object) (whole : Whole) (right : IsCoastline settings objects whole) → has_land settings.polygons ≡ true →
+    (tiles : List Tile) → AreTiles right.areas.land_leaves tiles → (q : ℤ) → sign q ≡ Plus → (p : Vector) → All (IsBeyondLeaf q p) right.areas.land_leaves →
+    SomePrintCovers q p tiles ↔ (parity_at q p (all_segments right.areas.coast.sorted.kept) ≡ pos 1)
+
+-- Where water is asked for: at each such whole point strictly within the world, by the leaves of water, the print of some leaf of water
+-- covers it exactly where that number is even.
+abbrev pub PrintedWaterIsCoast : Type 0
+PrintedWaterIsCoast =
+    (settings : CoastlineSettings) (objects : List Object) (whole : Whole) (right : IsCoastline settings objects whole) → has_water settings.polygons ≡ true →
+    (tiles : List Tile) → AreTiles right.areas.water_leaves tiles → (p : Vector) → IsWithin p → All (IsBeyondLeaf (pos 1) p) right.areas.water_leaves →
+    SomePrintCovers (pos 1) p tiles ↔ (parity_at (pos 1) p (all_segments right.areas.coast.sorted.kept) ≡ pos 0)

@@ -5,10 +5,11 @@
 //! `job_coastline`.
 #![tactic(auto)]
 
-ghost use Rattle.rounded_pieces.specs.Cover.{PrintedLandCovers, PrintedWaterCovers};
+ghost use Rattle.rounded_pieces.specs.Cover.{PrintedLandCovers, PrintedLandIsCoast, PrintedWaterCovers, PrintedWaterIsCoast};
 ghost use Rattle.rounded_pieces.specs.Laws.{LandIsPrintedRight, LeavesArePrintedRight, LineIsOfPrintedRings, PrintedIsNear, RoundedRingIsOff, RoundedRingWindsAlike, VanishedGoesRoundNothing, WaterIsPrintedRight};
 
 use coast_split::leaves_cover_as_list;
+use one_coast::leaves_cover_the_coast;
 use osm_nest::{nested_cover_as_rings, rings_may_be_nested};
 use valid_polygons::nested_polygons_are_valid;
 
@@ -54,4 +55,15 @@ pub fn printed_coast_covers()
     ensures water { PrintedWaterCovers }
 {
     coast_is_printed_right();
+}
+
+/// So it covers what the coast does: where land is asked for, at each point that is more than half a unit away from the borders of all
+/// leaves of land, exactly where the parity of the kept rings' segments is 1; where water is asked for, at each such whole point
+/// strictly within the world, exactly where it is 0.
+pub fn printed_coast_is_coast()
+    ensures land { PrintedLandIsCoast }
+    ensures water { PrintedWaterIsCoast }
+{
+    printed_coast_covers();
+    leaves_cover_the_coast();
 }
