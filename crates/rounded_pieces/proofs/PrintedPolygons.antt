@@ -92,7 +92,7 @@ module _ (k : ℕ) (polygon : Polygon) (common : IsCommon k (edges_in polygon)) 
   far-ring : (ring : List Edge) → In ring (rings_in polygon) → IsFarRing k common.some q plus p ring
   far-ring ring i = record {
     whole = λ e j. each_whole k (edges_in polygon) common e (in-all-edges (rings_in polygon) ring i e j);
-    closed = (valid.rings (edges_times k ring) (ring-times ring i)).closed;
+    closed = (valid.linear_rings (edges_times k ring) (ring-times ring i)).closed;
     far = all-in (IsBeyondHalf k q p) (edges_times k ring) (λ x j.
         let w = in-map-out (edge_times k) ring x j in
         subst (IsBeyondHalf k q p) (sym w.2)
@@ -108,7 +108,7 @@ module _ (k : ℕ) (polygon : Polygon) (common : IsCommon k (edges_in polygon)) 
 
   covers-alike : print_covers q p polygon ≡ covers_at q p polygon
   covers-alike =
-      polygon-alike k common.some q plus p polygon.outer polygon.inners far-ring (valid.parted q plus P off-rings)
+      polygon-alike k common.some q plus p polygon.outer polygon.inners far-ring (valid.outer_less_holes q plus P off-rings)
       ∙ ap (λ (es : List plane.Edge). not (is_even (crossing_count east P (scaled_edges q es)))) same-edges
       ∙ ap (λ n. not (is_even n)) (sym (count_at_each k (edges_in polygon) common q p))
 

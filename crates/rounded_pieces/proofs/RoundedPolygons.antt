@@ -17,7 +17,7 @@ use Rattle.plane.specs.Vector.{Vector, east, from_to}
 use Rattle.plane.proofs.PlaneKit.{down_seen, up_seen}
 use Rattle.plane_edges.specs.Multiple.{IsWholeAt, edges_times}
 use Rattle.valid.specs.Valid as valid
-use Rattle.valid.specs.Valid.{IsOffRings, IsParted, holes_round}
+use Rattle.valid.specs.Valid.{IsOffRings, LiesByRings, holes_round}
 use Rattle.winding.specs.EdgeList.{crossing_count, down_count, up_count, winding_number}
 use Rattle.winding.specs.Parity.{is_even}
 use Rattle.winding.specs.Ring as winding
@@ -100,7 +100,7 @@ module _ (k : ℕ) (some : 1 ≤ k) (q : ℤ) (plus : sign q ≡ Plus) (p : Vect
         let a = count_by-cons (has_inside q p) (rounded_ring outer) (left inners) in let b = ap bit outer-alike in
         let c = left-count inners (λ r i. far r (inr i)) in omega (arith, a, b, c)
 
-    count-by : IsParted q P G → (v : Bool) → has_vanished outer ≡ v → count (cond v [] (rounded_ring outer ∷ left inners)) % 2 ≡ exact % 2
+    count-by : LiesByRings q P G → (v : Bool) → has_vanished outer ≡ v → count (cond v [] (rounded_ring outer ∷ left inners)) % 2 ≡ exact % 2
     count-by (inl h) false e =
         let a = whole-count in let b = ap bit h.1 in let c = h.2 in let d = counts-as P (scaled_edges q (polygon_edges G)) 1 h.0.once in omega (arith, a, b, c, d)
     count-by (inl h) true e = let a = vanished-out outer e in let b = outer-alike in absurd (cc (sym a ∙ b ∙ h.1))
@@ -108,5 +108,5 @@ module _ (k : ℕ) (some : 1 ≤ k) (q : ℤ) (plus : sign q ≡ Plus) (p : Vect
         let a = whole-count in let c = h.1 in let d = counts-as P (scaled_edges q (polygon_edges G)) 0 h.0.none in omega (arith, a, c, d)
     count-by (inr h) true e = let d = counts-as P (scaled_edges q (polygon_edges G)) 0 h.0.none in omega (arith, d)
 
-    pub polygon-alike : IsParted q P G → rings_cover q p (cond (has_vanished outer) [] (rounded_ring outer ∷ left inners)) ≡ not (is_even exact)
+    pub polygon-alike : LiesByRings q P G → rings_cover q p (cond (has_vanished outer) [] (rounded_ring outer ∷ left inners)) ≡ not (is_even exact)
     polygon-alike h = ap (λ r. not (r == 0)) (count-by h (has_vanished outer) refl)

@@ -132,7 +132,7 @@ module _ (n : Notation) where
   polygon-spelled polygons area p i =
       list-spelled (SpellsRing n) ring_text path_along (edges_times 1) p.outer p.inners
       (λ r j. ring-spelled r (in-all (All IsWholeSegment) (rings_of polygons) r area.whole (in-rings polygons p r i j))
-      ((area.valid.polygons (polygon_times 1 p) (in-map (polygon_times 1) polygons p i)).boundary.rings (edges_times 1 r) (in-map (edges_times 1) (rings_in p) r j)))
+      ((area.valid.polygons (polygon_times 1 p) (in-map (polygon_times 1) polygons p i)).boundary.linear_rings (edges_times 1 r) (in-map (edges_times 1) (rings_in p) r j)))
 
   pub area-spelled : (polygons : List Polygon) → polygons ≢ [] → IsValidArea polygons → SpellsMultiPolygon n (area_text (paths_of polygons)) (map (polygon_times 1) polygons)
   area-spelled [] some area = absurd (some refl)
