@@ -1,7 +1,7 @@
 -- Close to a point off a list, the list covers what it covers at the point.
 use Rattle.std.proofs.Common.{All, List, [], ap, arith, inl, inr, pos, refl, subst, sym, ℤ, ◌*ℤ◌, ◌+ℤ◌, ◌+◌, ◌∙◌, ◌∷◌, ◌≡◌, ◌⊎◌}
 use Rattle.lists.specs.Member.{In}
-use Rattle.paths.specs.Line.{IsFree}
+use Rattle.paths.specs.Line.{IsFreeStep}
 use Rattle.paths.specs.Near.{near}
 use Rattle.plane.specs.Edge as plane
 use Rattle.plane.specs.RayCrossing.{IsOffEdge}
@@ -86,7 +86,7 @@ module _ (q : ℤ) (hq : sign q ≡ Plus) (p u : Vector) (es : List Edge) (sd : 
   M k = scaled_edges k (L q p u k es)
 
   abbrev Free : ℤ → Type 0
-  Free k = IsFree (M k) (near k P zero) (near k P (scaled_point (pos (common_den es)) u))
+  Free k = IsFreeStep (M k) (near k P zero) (near k P (scaled_point (pos (common_den es)) u))
 
   free : Later Free
   free =

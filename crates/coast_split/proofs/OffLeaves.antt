@@ -6,7 +6,7 @@ use Rattle.std.proofs.lemmas.List.Elements.{All-append, All-cons, All-nil}
 use Rattle.lists.specs.Member.{In}
 use Rattle.paths.specs.BesideLaws.{EdgePartsInside}
 use Rattle.paths.specs.Inside.{PartsInside}
-use Rattle.paths.specs.Near.{near, opposite}
+use Rattle.paths.specs.Near.{near, opposite_of}
 use Rattle.plane.specs.Edge as plane
 use Rattle.plane.specs.FreeSegment.{IsBetween}
 use Rattle.plane.specs.RayCrossing.{IsOffEdge, is_off}
@@ -100,7 +100,7 @@ module _ (parted : EdgePartsInside) (m o : ℕ) (es : List Edge) (t : Tree) (h :
 
   -- ---- no edge of the list is there
   abbrev Parts : (q : ℤ) (p u : Vector) → ℤ → Type 0
-  Parts q p u k = PartsInside (scaled_edges k (scaled_edges q W)) (near k (scaled_point c p) (scaled_point c u)) (near k (scaled_point c p) (opposite (scaled_point c u)))
+  Parts q p u k = PartsInside (scaled_edges k (scaled_edges q W)) (near k (scaled_point c p) (scaled_point c u)) (near k (scaled_point c p) (opposite_of (scaled_point c u)))
 
   abbrev AreOffCuts : (q : ℤ) (p u : Vector) → ℤ → Type 0
   AreOffCuts q p u k = IsOffCuts o (k *ℤ q) (near k p u) es t
@@ -108,28 +108,28 @@ module _ (parted : EdgePartsInside) (m o : ℕ) (es : List Edge) (t : Tree) (h :
   cuts-later : (q : ℤ) (p u : Vector) → IsUnit u.x → IsUnit u.y → Later (AreOffCuts q p u)
   cuts-later q p u hx hy = (1, λ k l. off-cuts q p u hx hy k l o es t)
 
-  opposite-part : (c x : ℤ) → pos 0 -ℤ c *ℤ x ≡ c *ℤ (pos 0 -ℤ x)
-  opposite-part c x = same (lift (pos 0) ⊟ lift c ⊠ lift x) (lift c ⊠ (lift (pos 0) ⊟ lift x)) (omega arith)
+  opposite_of-part : (c x : ℤ) → pos 0 -ℤ c *ℤ x ≡ c *ℤ (pos 0 -ℤ x)
+  opposite_of-part c x = same (lift (pos 0) ⊟ lift c ⊠ lift x) (lift c ⊠ (lift (pos 0) ⊟ lift x)) (omega arith)
 
-  opposite-times : (u : Vector) → opposite (scaled_point c u) ≡ scaled_point c (opposite u)
-  opposite-times u = same_vector (pos 0 -ℤ c *ℤ u.x) (pos 0 -ℤ c *ℤ u.y) (c *ℤ (pos 0 -ℤ u.x)) (c *ℤ (pos 0 -ℤ u.y)) (opposite-part c u.x) (opposite-part c u.y)
+  opposite_of-times : (u : Vector) → opposite_of (scaled_point c u) ≡ scaled_point c (opposite_of u)
+  opposite_of-times u = same_vector (pos 0 -ℤ c *ℤ u.x) (pos 0 -ℤ c *ℤ u.y) (c *ℤ (pos 0 -ℤ u.x)) (c *ℤ (pos 0 -ℤ u.y)) (opposite_of-part c u.x) (opposite_of-part c u.y)
 
   -- some leaf would cover the points on its left, and those on its right
   module _ (q : ℤ) (hq : sign q ≡ Plus) (p : Vector) (off : IsOffLeaves q p ls) (u : Vector) (k : ℤ) (hk : sign k ≡ Plus)
-      (parts : Parts q p u k) (left : AreAlike q hq p off u k) (right : AreAlike q hq p off (opposite u) k) (left_cuts : AreOffCuts q p u k) (right_cuts : AreOffCuts q p (opposite u) k) where
+      (parts : Parts q p u k) (left : AreAlike q hq p off u k) (right : AreAlike q hq p off (opposite_of u) k) (left_cuts : AreOffCuts q p u k) (right_cuts : AreOffCuts q p (opposite_of u) k) where
     hkq : sign (k *ℤ q) ≡ Plus
     hkq = plus-times k q hk ∙ hq
 
-    right-parts : PartsInside (scaled_edges k (scaled_edges q W)) (near k (scaled_point c p) (scaled_point c u)) (near k (scaled_point c p) (scaled_point c (opposite u)))
-    right-parts = subst (λ v. PartsInside (scaled_edges k (scaled_edges q W)) (near k (scaled_point c p) (scaled_point c u)) (near k (scaled_point c p) v)) (opposite-times u) parts
+    right-parts : PartsInside (scaled_edges k (scaled_edges q W)) (near k (scaled_point c p) (scaled_point c u)) (near k (scaled_point c p) (scaled_point c (opposite_of u)))
+    right-parts = subst (λ v. PartsInside (scaled_edges k (scaled_edges q W)) (near k (scaled_point c p) (scaled_point c u)) (near k (scaled_point c p) v)) (opposite_of-times u) parts
 
     parts-absurd : ⊥
     parts-absurd =
-        let l = near k p u in let r = near k p (opposite u) in
-        let off_l = off-near q p u k es parts.0.off in let off_r = off-near q p (opposite u) k es right-parts.1.off in
+        let l = near k p u in let r = near k p (opposite_of u) in
+        let off_l = off-near q p u k es parts.0.off in let off_r = off-near q p (opposite_of u) k es right-parts.1.off in
         let some_l = (leaf-cover m o (k *ℤ q) hkq l es t h sd off_l left_cuts).0 (once-covers (k *ℤ q) hkq l es sd off_l (count-near q p u k es ∙ parts.0.once)) in
-        let some_r = some-there q hq p off (opposite u) k hk right (some-back q hq p off u k hk left some_l) in
-        zero-one (signed_count_at (k *ℤ q) r es) (count-near q p (opposite u) k es ∙ right-parts.1.none)
+        let some_r = some-there q hq p off (opposite_of u) k hk right (some-back q hq p off u k hk left some_l) in
+        zero-one (signed_count_at (k *ℤ q) r es) (count-near q p (opposite_of u) k es ∙ right-parts.1.none)
         (covers-once (k *ℤ q) hkq r es sd off_r ((leaf-cover m o (k *ℤ q) hkq r es t h sd off_r right_cuts).1 some_r))
 
   inside-none : (q : ℤ) → sign q ≡ Plus → (p : Vector) → IsOffLeaves q p ls → (e : plane.Edge) → In e W → IsBetween (scaled_point q e.from) (scaled_point q e.to) (scaled_point c p) → ⊥
@@ -137,11 +137,11 @@ module _ (parted : EdgePartsInside) (m o : ℕ) (es : List Edge) (t : Tree) (h :
       let d = from_to e.from e.to in let u = aside d in
       let turned : sign (cross d (scaled_point c u)) ≡ Plus = ap sign (cross-times c d u) ∙ plus-times c (cross d u) hc ∙ aside-left d (edge-direction W sd e i) in
       let x = unit-x (sign d.y) in let y = unit-y (sign d.x) in
-      let A = Parts q p u in let B = AreAlike q hq p off u in let C = AreAlike q hq p off (opposite u) in let D = AreOffCuts q p u in let E = AreOffCuts q p (opposite u) in
+      let A = Parts q p u in let B = AreAlike q hq p off u in let C = AreAlike q hq p off (opposite_of u) in let D = AreOffCuts q p u in let E = AreOffCuts q p (opposite_of u) in
       let s = later-some (λ k. A k × ((B k × C k) × (D k × E k)))
       (later-both A (λ k. (B k × C k) × (D k × E k)) (parted W sd e i q hq (scaled_point c p) (scaled_point c u) b turned)
-      (later-both (λ k. B k × C k) (λ k. D k × E k) (later-both B C (alike q hq p off u) (alike q hq p off (opposite u)))
-      (later-both D E (cuts-later q p u x y) (cuts-later q p (opposite u) (unit-back u.x x) (unit-back u.y y))))) in
+      (later-both (λ k. B k × C k) (λ k. D k × E k) (later-both B C (alike q hq p off u) (alike q hq p off (opposite_of u)))
+      (later-both D E (cuts-later q p u x y) (cuts-later q p (opposite_of u) (unit-back u.x x) (unit-back u.y y))))) in
       parts-absurd q hq p off u s.0 s.1 s.2.0 s.2.1.0.0 s.2.1.0.1 s.2.1.1.0 s.2.1.1.1
 
   -- ---- at an end of an edge: close to it, strictly inside the edge
