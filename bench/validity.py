@@ -1,7 +1,7 @@
 #!/usr/bin/python3
 """Counts what a spatial database's own check (GEOS, by shapely) calls invalid: areas of random relations and of a file, and pieces of tiny islands.
 
-Usage: validity.py [--program FILE] [--relations N] [--islands N] [FILE.opl ..]
+Usage: validity.py [--program FILE] [--relations N] [--islands N] [--coast COAST.opl] [FILE.opl ..]
 
 Areas must all be valid.  A piece of coast is rounded to 1e-7 degree as it is written, and a piece of a few units may be invalid for that; where osmcoastline
 is installed, its own pieces of the same islands, rounded likewise, stand beside.  Status 1 where an area is invalid.  (After `./prove`; it needs Debian's
@@ -23,7 +23,8 @@ from shapely.geometry import Polygon
 
 BENCH = pathlib.Path(__file__).resolve().parent
 OSMPOLY = BENCH.parent / "crates/osmpoly/out/osmpoly"
-SPLIT = 8  # points of a piece, so that most islands are cut
+FEW = 8  # the most points of an island's piece, so that most islands are cut
+MANY = 100  # those of a piece of a real coast
 
 
 def invalid(shapes):
@@ -58,9 +59,9 @@ def islands(count):
         yield f"w{number} v1 dV c1 t2020-01-01T00:00:00Z i1 ux Tnatural=coastline N{','.join(f'n{node}' for node in way)}\n"
 
 
-def pieces_of(program, path):
-    """The pieces of land that `coastline` writes."""
-    run = subprocess.run([program, "coastline", "-p", "land", "-m", str(SPLIT), "-b", "0", path], capture_output=True, text=True)
+def pieces_of(program, path, most):
+    """The pieces of land and water, of so many points at most, that `coastline` writes."""
+    run = subprocess.run([program, "coastline", "-p", "both", "-m", str(most), "-b", "0", path], capture_output=True, text=True)
     if run.returncode > 2:
         sys.exit(f"validity: {run.stderr}")
     return [wkt.loads(line.split(" ", 1)[1]) for line in run.stdout.splitlines()]
@@ -82,11 +83,11 @@ def rounded(blob):
     return Polygon(rings[0], rings[1:]) if len(rings[0]) > 2 else None
 
 
-def pieces_of_osmcoastline(path, work):
-    """The pieces of land that osmcoastline stores, rounded."""
+def pieces_of_osmcoastline(path, most, work):
+    """The pieces of land and water that osmcoastline stores, rounded."""
     subprocess.run(["osmium", "cat", "-O", "-o", f"{work}/coast.osm.pbf", path], check=True)
-    subprocess.run(["osmcoastline", "-f", "-o", f"{work}/coast.db", "-p", "land", "-m", str(SPLIT), "-b", "0", f"{work}/coast.osm.pbf"], capture_output=True)
-    rows = sqlite3.connect(f"{work}/coast.db").execute("SELECT geometry FROM land_polygons")
+    subprocess.run(["osmcoastline", "-f", "-o", f"{work}/coast.db", "-p", "both", "-m", str(most), "-b", "0", f"{work}/coast.osm.pbf"], capture_output=True)
+    rows = sqlite3.connect(f"{work}/coast.db").execute("SELECT geometry FROM land_polygons UNION ALL SELECT geometry FROM water_polygons")
     return [shape for (blob,) in rows for shape in [rounded(blob)] if shape is not None]
 
 
@@ -95,6 +96,7 @@ def main():
     words.add_argument("--program", default=OSMPOLY)
     words.add_argument("--relations", type=int, default=10000)
     words.add_argument("--islands", type=int, default=2000)
+    words.add_argument("--coast")
     words.add_argument("files", nargs="*")
     asked = words.parse_args()
     amiss = 0
@@ -106,11 +108,12 @@ def main():
             count, bad = invalid(areas_of(asked.program, path))
             amiss += bad
             print(f"{name}: {count} areas, {bad} invalid")
-        coast = f"{work}/islands.opl"
-        open(coast, "w").writelines(islands(asked.islands))
-        print("tiny islands: %d pieces, %d invalid" % invalid(pieces_of(asked.program, coast)))
-        if shutil.which("osmcoastline") and shutil.which("osmium"):
-            print("tiny islands by osmcoastline, rounded: %d pieces, %d invalid" % invalid(pieces_of_osmcoastline(coast, work)))
+        islands_path = f"{work}/islands.opl"
+        open(islands_path, "w").writelines(islands(asked.islands))
+        for name, path, most in [(f"{asked.islands} tiny islands", islands_path, FEW)] + ([(asked.coast, asked.coast, MANY)] if asked.coast else []):
+            print("%s: %d pieces, %d invalid" % (name, *invalid(pieces_of(asked.program, path, most))))
+            if shutil.which("osmcoastline") and shutil.which("osmium"):
+                print("%s by osmcoastline, rounded: %d pieces, %d invalid" % (name, *invalid(pieces_of_osmcoastline(path, most, work))))
     sys.exit(1 if amiss else 0)
 
 

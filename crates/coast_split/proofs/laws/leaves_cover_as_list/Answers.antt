@@ -6,4 +6,4 @@ pub returns-clause-sided : goal.returns-clause-sided
 returns-clause-sided c = leaves-sided
 
 pub returns-clause-cover : goal.returns-clause-cover
-returns-clause-cover c = cover c.edge_parts_inside.ensures
+returns-clause-cover c = cover c.edge_parts_inside.ensures.parts
