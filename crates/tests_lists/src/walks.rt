@@ -1,11 +1,23 @@
 //! Orbits and pieces of small maps and walks.
 
-use super::*;
-use std::alloc::AllocError as OutOfMemory;
+use orbits::{cut, cycles, orbits};
+use std::alloc::{AllocError as OutOfMemory, Global};
 use std::test::*;
 
+/// Lists as words, parted by bars.
+fn told(alloc: Global, lists: &[Vec<usize>]) -> Result<String, Fail> {
+    let mut told = String::new(alloc);
+    for list in lists {
+        told.push_str("|")?;
+        for item in list {
+            told.push_str(format!(in alloc; " {item}")?.as_str())?;
+        }
+    }
+    Ok(told)
+}
+
 #[test]
-fn chains_and_cycles(rt: HostRuntime) -> Result<(), OutOfMemory> {
+fn chains_and_cycles(rt: HostRuntime) -> Result<(), Fail> {
     // 4 -> 0 -> 2 is open, 5 -> 3 -> 1 -> 5 is closed, 6 stands alone and 7 goes on to itself.
     let next = [
         Some(2),
@@ -18,11 +30,7 @@ fn chains_and_cycles(rt: HostRuntime) -> Result<(), OutOfMemory> {
         Some(7),
     ];
     let found = orbits(rt.alloc(), &next)?;
-    assert_eq!(rt; found.len(), 4);
-    assert_eq!(rt; found[0].as_slice(), [1, 5, 3].as_slice());
-    assert_eq!(rt; found[1].as_slice(), [4, 0, 2].as_slice());
-    assert_eq!(rt; found[2].as_slice(), [6].as_slice());
-    assert_eq!(rt; found[3].as_slice(), [7].as_slice());
+    assert_eq!(rt; told(rt.alloc(), &found)?.as_str(), "| 1 5 3| 4 0 2| 6| 7");
     Ok(())
 }
 
@@ -31,10 +39,8 @@ fn cycles_alone(rt: HostRuntime) -> Result<(), OutOfMemory> {
     // 0 -> 3 -> 6 -> 0, 1 -> 5 -> 1 and 2 -> 7 -> 4 -> 2 by turns, and 8 goes on to itself.
     let next = [3, 5, 7, 6, 2, 1, 0, 4, 8].map(Some);
     let found = cycles(rt.alloc(), &next)?;
-    assert_eq!(rt;
-        found.places.as_slice(),
-        [0, 3, 6, 1, 5, 2, 7, 4, 8].as_slice()
-    );
+    let places = [0, 3, 6, 1, 5, 2, 7, 4, 8];
+    assert_eq!(rt; found.places.as_slice(), places.as_slice());
     assert_eq!(rt; found.sizes.as_slice(), [3, 2, 3, 1].as_slice());
     let none = cycles(rt.alloc(), &[])?;
     assert!(rt; none.places.is_empty() && none.sizes.is_empty());
@@ -42,15 +48,12 @@ fn cycles_alone(rt: HostRuntime) -> Result<(), OutOfMemory> {
 }
 
 #[test]
-fn loops_within_loops(rt: HostRuntime) -> Result<(), OutOfMemory> {
+fn loops_within_loops(rt: HostRuntime) -> Result<(), Fail> {
     // The items leave the keys P Q R Q S P T.
     let keys = [2, 1, 0, 4, 3];
     let walk = [2, 1, 0, 1, 4, 2, 3];
     let mut depths = [9; 5];
     let pieces = cut(rt.alloc(), &walk, &keys, &mut depths)?;
-    assert_eq!(rt; pieces.len(), 3);
-    assert_eq!(rt; pieces[0].as_slice(), [1, 0].as_slice());
-    assert_eq!(rt; pieces[1].as_slice(), [2, 1, 4].as_slice());
-    assert_eq!(rt; pieces[2].as_slice(), [2, 3].as_slice());
+    assert_eq!(rt; told(rt.alloc(), &pieces)?.as_str(), "| 1 0| 2 1 4| 2 3");
     Ok(())
 }
