@@ -2,7 +2,7 @@
 
 ghost use Rattle.std.specs.Prelude.{◌<◌, ◌≤◌, ◌+◌, ◌^◌, length};
 
-use crate::{FaultKind, FeedError, Lines, Object};
+use opl_reader::{FaultKind, FeedError, Lines, Object};
 use std::alloc::Global;
 use std::test::*;
 

@@ -1,7 +1,7 @@
 //! Written lines against lines of the formats.
 
-use super::*;
 use opl_reader::{Object, Ref, Refs, Tags, read_line};
+use opl_writer::{put_node, put_relation, put_way};
 use osm_lattice::Loc;
 use std::alloc::{AllocError as OutOfMemory, Global};
 use std::test::Fail;
@@ -36,6 +36,11 @@ fn written_again(alloc: Global, text: &str) -> Result<Vec<u8>, OutOfMemory> {
     Ok(written)
 }
 
+/// Whether this is written of the lines of a text.
+fn is_written(alloc: Global, text: &str, wanted: &str) -> Result<bool, OutOfMemory> {
+    Ok(written_again(alloc, text)?.as_slice() == wanted.as_bytes())
+}
+
 #[test]
 fn written_lines_stay(rt: HostRuntime) -> Result<(), Fail> {
     let rows = [
@@ -47,10 +52,7 @@ fn written_lines_stay(rt: HostRuntime) -> Result<(), Fail> {
         "w3 Nn1,n-9,n1\n",
     ];
     for text in rows {
-        assert_eq!(rt;
-            written_again(rt.alloc(), text)?.as_slice(),
-            text.as_bytes()
-        );
+        assert!(rt; is_written(rt.alloc(), text, text)?, "{text}");
     }
     Ok(())
 }
@@ -71,29 +73,30 @@ fn lines_of_others_are_written_in_one_form(rt: HostRuntime) -> Result<(), Fail> 
             "n1\nn2 x1.2345679 y0\n",
         ),
     ];
-    for (text, expected) in rows {
-        assert_eq!(rt;
-            written_again(rt.alloc(), text)?.as_slice(),
-            expected.as_bytes()
-        );
+    for (text, wanted) in rows {
+        assert!(rt; is_written(rt.alloc(), text, wanted)?, "{wanted}");
     }
     Ok(())
 }
 
-#[test]
-fn values_are_written(rt: HostRuntime) -> Result<(), Fail> {
-    let mut text = Vec::new(rt.alloc());
-    let mut tags = Tags::new(rt.alloc());
+/// A node without tags, and a way with one, the first of whose references has a location of its own.
+fn node_and_way(alloc: Global) -> Result<Vec<u8>, OutOfMemory> {
+    let mut text = Vec::new(alloc);
+    let mut tags = Tags::new(alloc);
     put_node(&mut text, 8, &tags, Loc::new(5_000_000, -1))?;
     tags.push("natural", "coastline")?;
-    let mut refs = Refs::new(rt.alloc());
-    refs.push(Ref {
-        node: 1,
-        at: Loc::new(5_000_000, 20_000_000),
-    })?;
+    let mut refs = Refs::new(alloc);
+    let at = Loc::new(5_000_000, 20_000_000);
+    refs.push(Ref { node: 1, at })?;
     refs.push(Ref { node: 4, at: None })?;
     put_way(&mut text, -1, &tags, &refs)?;
-    let expected = "n8 x0.5 y-0.0000001\nw-1 Tnatural=coastline Nn1x0.5y2,n4\n";
-    assert_eq!(rt; text.as_slice(), expected.as_bytes());
+    Ok(text)
+}
+
+#[test]
+fn values_are_written(rt: HostRuntime) -> Result<(), Fail> {
+    let text = node_and_way(rt.alloc())?;
+    let wanted = "n8 x0.5 y-0.0000001\nw-1 Tnatural=coastline Nn1x0.5y2,n4\n";
+    assert_eq!(rt; text.as_slice(), wanted.as_bytes());
     Ok(())
 }

@@ -1,6 +1,6 @@
 //! KEYS as it is read, and what is refused as such.
 
-use crate::{is_keys, read_keys};
+use opl_reader::{is_keys, read_keys};
 use std::alloc::{AllocError as OutOfMemory, Global};
 use std::test::*;
 
@@ -26,10 +26,15 @@ fn many_keys(alloc: Global, count: u64) -> Result<String, OutOfMemory> {
     Ok(text)
 }
 
+/// Whether a text is KEYS that are read as these, or none where `keys` is None.
+fn is_read(alloc: Global, text: &str, keys: Option<&str>) -> Result<bool, OutOfMemory> {
+    let read = keys_read(alloc, text)?;
+    Ok(is_keys(text) == keys.is_some() && read.as_deref() == keys)
+}
+
 #[test]
 fn keys_stand_between_commas(rt: HostRuntime) -> Result<(), Fail> {
-    let alloc = rt.alloc();
-    let cases = [
+    let rows = [
         ("building", "building|"),
         ("building,landuse,building", "building|landuse|building|"),
         ("a%20%b,c%9%", "a b|c\t|"),
@@ -37,47 +42,30 @@ fn keys_stand_between_commas(rt: HostRuntime) -> Result<(), Fail> {
         ("addr:street,=,@,#", "addr:street|=|@|#|"),
         ("straße,%df%", "straße|ß|"),
     ];
-    for (text, keys) in cases {
-        assert!(rt; is_keys(text), "{text}");
-        let read = keys_read(alloc, text)?;
-        assert_eq!(rt; read.as_deref(), Some(keys), "{text}");
+    for (text, keys) in rows {
+        assert!(rt; is_read(rt.alloc(), text, Some(keys))?, "{text}");
     }
     Ok(())
 }
 
 #[test]
 fn texts_that_are_not_keys(rt: HostRuntime) -> Result<(), Fail> {
-    let alloc = rt.alloc();
-    let cases = [
-        "",
-        ",",
-        "a,,b",
-        ",a",
-        "a,",
-        "a b",
-        " a",
-        "a,b\t",
-        "a%2",
-        "%",
-        "%%",
-        "a%g%",
-        "%d800%",
-        "%1234567%",
-    ];
-    for text in cases {
-        assert!(rt; !is_keys(text), "{text}");
-        assert!(rt; keys_read(alloc, text)?.is_none(), "{text}");
+    let texts = "/,/a,,b/,a/a,/a b/ a/a,b\t/a%2/%/%%/a%g%/%d800%/%1234567%";
+    for text in texts.split('/') {
+        assert!(rt; is_read(rt.alloc(), text, None)?, "{text}");
     }
     Ok(())
 }
 
 #[test]
 fn no_more_than_64_keys(rt: HostRuntime) -> Result<(), Fail> {
-    let alloc = rt.alloc();
     for (count, are_keys) in [(1, true), (64, true), (65, false), (100, false)] {
-        let text = many_keys(alloc, count)?;
-        assert_eq!(rt; is_keys(&text), are_keys, "{count}");
-        assert_eq!(rt; keys_read(alloc, &text)?.is_some(), are_keys, "{count}");
+        let text = many_keys(rt.alloc(), count)?;
+        let is_read = keys_read(rt.alloc(), &text)?.is_some();
+        assert!(rt;
+            is_keys(&text) == are_keys && is_read == are_keys,
+            "{count}"
+        );
     }
     Ok(())
 }

@@ -1,5 +1,5 @@
 use Rattle.std.proofs.Common.{◌≡◌, ◌+◌, length}
-use Rattle.opl_reader.proofs.lines_tests.ids_by.Given as goal
+use Rattle.tests_opl.proofs.lines.ids_by.Given as goal
 
 -- what was fed and what is left are the whole input
 abbrev pub invariant-loop-rest : goal.invariant-loop-rest

@@ -1,30 +1,30 @@
 //! Texts of points.
 
-use super::*;
 use osm_lattice::Loc;
+use osm_points::{PointsError, read_points};
 use std::alloc::Global;
 use std::test::Fail;
 
-/// The points of a text as `x,y` in units, or the line of the first bad one.
-fn told(alloc: Global, text: &[u8]) -> Result<String, Fail> {
+/// Points as `x,y` in units, a blank after each.
+fn words_of(alloc: Global, points: &[Loc]) -> Result<String, Fail> {
     let mut words = String::new(alloc);
-    match read_points(alloc, text) {
-        Ok(points) => {
-            for Loc { x, y } in points.as_slice() {
-                words.push_str(format!(in alloc; "{x},{y} ")?.as_str())?;
-            }
-        }
-        Err(PointsError::BadPoint { line }) => {
-            words.push_str(format!(in alloc; "bad {line}")?.as_str())?;
-        }
-        Err(PointsError::OutOfMemory) => return Err(Fail::new("no memory")),
+    for Loc { x, y } in points {
+        words.push_str(format!(in alloc; "{x},{y} ")?.as_str())?;
     }
     Ok(words)
 }
 
+/// The points of a text as `x,y` in units, or the line of the first bad one.
+fn told(alloc: Global, text: &[u8]) -> Result<String, Fail> {
+    match read_points(alloc, text) {
+        Ok(points) => words_of(alloc, points.as_slice()),
+        Err(PointsError::BadPoint { line }) => Ok(format!(in alloc; "bad {line}")?),
+        Err(PointsError::OutOfMemory) => Err(Fail::new("no memory")),
+    }
+}
+
 #[test]
 fn points_of_texts(rt: HostRuntime) -> Result<(), Fail> {
-    let alloc = rt.alloc();
     let rows: [(&[u8], &str); 22] = [
         (b"", ""),
         (b"\n", ""),
@@ -53,7 +53,7 @@ fn points_of_texts(rt: HostRuntime) -> Result<(), Fail> {
         (b"1 2\nx\ny", "bad 2"),
     ];
     for (text, points) in rows {
-        assert_eq!(rt; told(alloc, text)?.as_str(), points, "{text:?}");
+        assert_eq!(rt; told(rt.alloc(), text)?.as_str(), points, "{text:?}");
     }
     Ok(())
 }
