@@ -2,10 +2,9 @@
 
 ghost use Rattle.std.specs.Prelude.{◌≤◌};
 
-use crate::tests::{assert_out_of_range, assert_refused, words_of};
-use crate::{CoastlineSettings, Job, OutputPolygons, job_of};
-use clap::error::ErrorKind;
-use std::alloc::AllocError as OutOfMemory;
+use crate::reading::{assert_out_of_range, assert_refused, is_taken};
+use osm_words::{CoastlineSettings, Job, OutputPolygons};
+use std::alloc::{AllocError as OutOfMemory, Global};
 use std::test::Fail;
 
 /// A degree, in units of 1e-7.
@@ -89,13 +88,29 @@ fn with_polygons(polygons: OutputPolygons) -> CoastlineSettings<'static> {
     plain_but(DEGREE, 1_000, 1_000, polygons)
 }
 
+/// Whether `coastline` takes these words for these settings.
+fn takes(alloc: Global, line: &str, settings: CoastlineSettings) -> Result<bool, OutOfMemory> {
+    is_taken(alloc, line, Job::Coastline(settings))
+}
+
+/// Whether options are taken so before the file and behind it.
+fn takes_options(
+    alloc: Global,
+    options: &str,
+    settings: CoastlineSettings,
+) -> Result<bool, OutOfMemory> {
+    let before = format!(in alloc; "coastline {options} -")?;
+    let behind = format!(in alloc; "coastline - {options}")?;
+    Ok(takes(alloc, &before, settings)? && takes(alloc, &behind, settings)?)
+}
+
 #[test]
 fn each_option_by_itself(rt: HostRuntime) -> Result<(), Fail> {
-    let alloc = rt.alloc();
     let half = with_distance(DEGREE / 2);
+    let water = with_polygons(OutputPolygons::Water);
     let output = plain_to("out", false);
     let overwrite = plain_to("-", true);
-    let cases = [
+    let rows = [
         ("-c 0.5", half),
         ("--close-distance 0.5", half),
         ("--close-distance=0.5", half),
@@ -111,38 +126,24 @@ fn each_option_by_itself(rt: HostRuntime) -> Result<(), Fail> {
         ("--bbox-overlap 10.00000004", with_overlap(100_000_000)),
         ("--bbox-overlap=0.00000004", with_overlap(0)),
         ("-p land", PLAIN),
-        ("-p water", with_polygons(OutputPolygons::Water)),
+        ("-p water", water),
         ("-p both", with_polygons(OutputPolygons::Both)),
         ("-p none", with_polygons(OutputPolygons::Neither)),
-        (
-            "--output-polygons water",
-            with_polygons(OutputPolygons::Water),
-        ),
+        ("--output-polygons water", water),
         ("--output out", output),
         ("--output=out", output),
         ("-f", overwrite),
         ("--overwrite", overwrite),
     ];
-    for (options, settings) in cases {
-        for line in [
-            format!(in alloc; "coastline {options} -")?,
-            format!(in alloc; "coastline - {options}")?,
-        ] {
-            let words = words_of(alloc, &line)?;
-            assert_eq!(rt;
-                job_of(alloc, &words),
-                Ok(Job::Coastline(settings)),
-                "{line}"
-            );
-        }
+    for (options, settings) in rows {
+        assert!(rt; takes_options(rt.alloc(), options, settings)?, "{options}");
     }
     Ok(())
 }
 
 #[test]
 fn options_in_any_order(rt: HostRuntime) -> Result<(), Fail> {
-    let alloc = rt.alloc();
-    let cases = [
+    let rows = [
         ("coastline -", PLAIN),
         (
             "coastline -c .5 -m 2000 -b 0.0005 -p both --output out -f in.opl",
@@ -161,21 +162,21 @@ fn options_in_any_order(rt: HostRuntime) -> Result<(), Fail> {
             ALL,
         ),
     ];
-    for (line, settings) in cases {
-        let words = words_of(alloc, line)?;
-        assert_eq!(rt;
-            job_of(alloc, &words),
-            Ok(Job::Coastline(settings)),
-            "{line}"
-        );
+    for (line, settings) in rows {
+        assert!(rt; takes(rt.alloc(), line, settings)?, "{line}");
     }
     Ok(())
 }
 
+/// Whether a distance in degrees is taken for so many units.
+fn is_distance(alloc: Global, degrees: &str, close_distance: u32) -> Result<bool, OutOfMemory> {
+    let line = format!(in alloc; "coastline -c {degrees} -")?;
+    takes(alloc, &line, with_distance(close_distance))
+}
+
 #[test]
 fn degrees_in_range(rt: HostRuntime) -> Result<(), Fail> {
-    let alloc = rt.alloc();
-    let cases = [
+    let rows = [
         ("0", 0),
         ("0.00000004", 0),
         ("0.00000005", 1),
@@ -186,84 +187,79 @@ fn degrees_in_range(rt: HostRuntime) -> Result<(), Fail> {
         ("359.99999995", 3_600_000_000),
         ("360.00000004", 3_600_000_000),
     ];
-    for (degrees, close_distance) in cases {
-        let settings = with_distance(close_distance);
-        let words = words_of(alloc, &format!(in alloc; "coastline -c {degrees} -")?)?;
-        assert_eq!(rt;
-            job_of(alloc, &words),
-            Ok(Job::Coastline(settings)),
+    for (degrees, close_distance) in rows {
+        assert!(rt;
+            is_distance(rt.alloc(), degrees, close_distance)?,
             "{degrees}"
         );
     }
     Ok(())
 }
 
+const OUT_OF_RANGE: &str = "c: coastline -c 360.0000001 -
+c: coastline -c 360.00000005 -
+c: coastline -c 429.4967296 -
+c: coastline -c 99999999999999999999 -
+c: coastline -c=-1 -
+c: coastline -c-0 -
+c: coastline --close-distance=-0.5 -
+c: coastline -c +1 -
+c: coastline -c 1e3 -
+c: coastline -c 1,5 -
+c: coastline -c . -
+c: coastline -c '' -
+c: coastline -c - -
+m: coastline -m 3 -
+m: coastline -m 1 -
+m: coastline -m 1000001 -
+m: coastline -m 00000004 -
+m: coastline -m 4294967296 -
+m: coastline -m +4 -
+m: coastline --max-points=-4 -
+m: coastline -m 4. -
+m: coastline -m 1e3 -
+m: coastline -m '' -
+m: coastline -m - -
+b: coastline -b 10.0000001 -
+b: coastline -b 10.00000005 -
+b: coastline --bbox-overlap=-0 -
+b: coastline -b +1 -
+b: coastline -b '' -
+c: coastline -p sea -b 11 -m 3 -c 361 -
+m: coastline -p sea -b 11 -m 3 -c 360 -
+b: coastline -p sea -b 11 -m 4 -
+p: coastline -p sea -
+p: coastline -p Land -
+p: coastline -p '' -
+p: coastline -c 360 -p neither -
+c: coastline -p sea -c 361 -";
+
 /// The first of the options counts, in the order c, m, b, p.
 #[test]
 fn values_out_of_range(rt: HostRuntime) -> Result<(), OutOfMemory> {
-    let cases = [
-        ("coastline -c 360.0000001 -", 'c'),
-        ("coastline -c 360.00000005 -", 'c'),
-        ("coastline -c 429.4967296 -", 'c'),
-        ("coastline -c 99999999999999999999 -", 'c'),
-        ("coastline -c=-1 -", 'c'),
-        ("coastline -c-0 -", 'c'),
-        ("coastline --close-distance=-0.5 -", 'c'),
-        ("coastline -c +1 -", 'c'),
-        ("coastline -c 1e3 -", 'c'),
-        ("coastline -c 1,5 -", 'c'),
-        ("coastline -c . -", 'c'),
-        ("coastline -c '' -", 'c'),
-        ("coastline -c - -", 'c'),
-        ("coastline -m 3 -", 'm'),
-        ("coastline -m 1 -", 'm'),
-        ("coastline -m 1000001 -", 'm'),
-        ("coastline -m 00000004 -", 'm'),
-        ("coastline -m 4294967296 -", 'm'),
-        ("coastline -m +4 -", 'm'),
-        ("coastline --max-points=-4 -", 'm'),
-        ("coastline -m 4. -", 'm'),
-        ("coastline -m 1e3 -", 'm'),
-        ("coastline -m '' -", 'm'),
-        ("coastline -m - -", 'm'),
-        ("coastline -b 10.0000001 -", 'b'),
-        ("coastline -b 10.00000005 -", 'b'),
-        ("coastline --bbox-overlap=-0 -", 'b'),
-        ("coastline -b +1 -", 'b'),
-        ("coastline -b '' -", 'b'),
-        ("coastline -p sea -b 11 -m 3 -c 361 -", 'c'),
-        ("coastline -p sea -b 11 -m 3 -c 360 -", 'm'),
-        ("coastline -p sea -b 11 -m 4 -", 'b'),
-        ("coastline -p sea -", 'p'),
-        ("coastline -p Land -", 'p'),
-        ("coastline -p '' -", 'p'),
-        ("coastline -c 360 -p neither -", 'p'),
-        ("coastline -p sea -c 361 -", 'c'),
-    ];
-    assert_out_of_range(&rt, rt.alloc(), &cases)
+    assert_out_of_range(&rt, rt.alloc(), OUT_OF_RANGE)
 }
+
+const REFUSED: &str = "missing: coastline
+missing: coastline -c 1
+unknown: coastline -c -1 -
+twice: coastline -c 1 -c 1 -
+twice: coastline -c 361 -f -f -
+twice: coastline -m 3 -m 3 -
+unknown: coastline -m -4 -
+no value: coastline - -b
+unknown: coastline --max 4 -
+unknown: coastline -o out -
+unknown: coastline -O -
+unknown: coastline -e -
+unknown: coastline -h
+unknown: coastline --help -
+unknown: coastline --polygons land -
+unknown: coastline - -
+no value: coastline - -p
+too many: coastline --overwrite=yes -";
 
 #[test]
 fn refused_words(rt: HostRuntime) -> Result<(), OutOfMemory> {
-    let cases = [
-        ("coastline", ErrorKind::MissingRequiredArgument),
-        ("coastline -c 1", ErrorKind::MissingRequiredArgument),
-        ("coastline -c -1 -", ErrorKind::UnknownArgument),
-        ("coastline -c 1 -c 1 -", ErrorKind::ArgumentConflict),
-        ("coastline -c 361 -f -f -", ErrorKind::ArgumentConflict),
-        ("coastline -m 3 -m 3 -", ErrorKind::ArgumentConflict),
-        ("coastline -m -4 -", ErrorKind::UnknownArgument),
-        ("coastline - -b", ErrorKind::InvalidValue),
-        ("coastline --max 4 -", ErrorKind::UnknownArgument),
-        ("coastline -o out -", ErrorKind::UnknownArgument),
-        ("coastline -O -", ErrorKind::UnknownArgument),
-        ("coastline -e -", ErrorKind::UnknownArgument),
-        ("coastline -h", ErrorKind::UnknownArgument),
-        ("coastline --help -", ErrorKind::UnknownArgument),
-        ("coastline --polygons land -", ErrorKind::UnknownArgument),
-        ("coastline - -", ErrorKind::UnknownArgument),
-        ("coastline - -p", ErrorKind::InvalidValue),
-        ("coastline --overwrite=yes -", ErrorKind::TooManyValues),
-    ];
-    assert_refused(&rt, rt.alloc(), &cases)
+    assert_refused(&rt, rt.alloc(), REFUSED)
 }

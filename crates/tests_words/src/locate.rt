@@ -1,8 +1,7 @@
 //! What the words of `locate` say, and why they aren't taken.
 
-use crate::tests::{assert_out_of_range, assert_refused, words_of};
-use crate::{Job, LocateSettings, job_of};
-use clap::error::ErrorKind;
+use crate::reading::{assert_out_of_range, assert_refused, is_taken};
+use osm_words::{Job, LocateSettings};
 use std::alloc::AllocError as OutOfMemory;
 use std::test::Fail;
 
@@ -28,8 +27,7 @@ const ALL: LocateSettings<'static> = LocateSettings {
 
 #[test]
 fn options_in_any_order_and_form(rt: HostRuntime) -> Result<(), Fail> {
-    let alloc = rt.alloc();
-    let cases = [
+    let rows = [
         ("locate - p", PLAIN),
         ("locate - -o - p", PLAIN),
         (
@@ -41,34 +39,34 @@ fn options_in_any_order_and_form(rt: HostRuntime) -> Result<(), Fail> {
             ALL,
         ),
     ];
-    for (line, settings) in cases {
-        let words = words_of(alloc, line)?;
-        assert_eq!(rt; job_of(alloc, &words), Ok(Job::Locate(settings)), "{line}");
+    for (line, settings) in rows {
+        assert!(rt;
+            is_taken(rt.alloc(), line, Job::Locate(settings))?,
+            "{line}"
+        );
     }
     Ok(())
 }
 
+const REFUSED: &str = "missing: locate
+missing: locate -
+unknown: locate - p x
+no value: locate - p -o
+unknown: locate -u counter - p
+twice: locate -O - - -O";
+
 #[test]
 fn refused_words(rt: HostRuntime) -> Result<(), OutOfMemory> {
-    let cases = [
-        ("locate", ErrorKind::MissingRequiredArgument),
-        ("locate -", ErrorKind::MissingRequiredArgument),
-        ("locate - p x", ErrorKind::UnknownArgument),
-        ("locate - p -o", ErrorKind::InvalidValue),
-        ("locate -u counter - p", ErrorKind::UnknownArgument),
-        ("locate -O - - -O", ErrorKind::ArgumentConflict),
-    ];
-    assert_refused(&rt, rt.alloc(), &cases)
+    assert_refused(&rt, rt.alloc(), REFUSED)
 }
+
+const OUT_OF_RANGE: &str = "t: locate - -
+t: locate -n -o out - -
+l: locate --linear-keys , - -
+a: locate --linear-keys , --area-keys , - -";
 
 /// The first of the options counts, in the order a, l, and behind them the two dashes.
 #[test]
 fn values_out_of_range(rt: HostRuntime) -> Result<(), OutOfMemory> {
-    let cases = [
-        ("locate - -", 't'),
-        ("locate -n -o out - -", 't'),
-        ("locate --linear-keys , - -", 'l'),
-        ("locate --linear-keys , --area-keys , - -", 'a'),
-    ];
-    assert_out_of_range(&rt, rt.alloc(), &cases)
+    assert_out_of_range(&rt, rt.alloc(), OUT_OF_RANGE)
 }

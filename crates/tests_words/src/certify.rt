@@ -1,14 +1,22 @@
 //! What the words of `certify` say, and why they aren't taken.
 
-use crate::tests::{assert_out_of_range, assert_refused, words_of};
-use crate::{CertifySettings, Job, UniqueId, job_of};
-use clap::error::ErrorKind;
+use crate::reading::{assert_out_of_range, assert_refused, is_taken};
+use osm_words::{CertifySettings, Job, UniqueId};
 use std::alloc::AllocError as OutOfMemory;
 use std::test::Fail;
 
 const PLAIN: CertifySettings<'static> = CertifySettings {
     file: "-",
     text: "t",
+    keep_untagged: false,
+    ids: None,
+    area_keys: None,
+    linear_keys: None,
+};
+
+const DASHED: CertifySettings<'static> = CertifySettings {
+    file: "-u",
+    text: "",
     keep_untagged: false,
     ids: None,
     area_keys: None,
@@ -26,15 +34,9 @@ const ALL: CertifySettings<'static> = CertifySettings {
 
 #[test]
 fn options_in_any_order_and_form(rt: HostRuntime) -> Result<(), Fail> {
-    let alloc = rt.alloc();
-    let dashed = CertifySettings {
-        file: "-u",
-        text: "",
-        ..PLAIN
-    };
-    let cases = [
+    let rows = [
         ("certify - t", PLAIN),
-        ("certify -- -u ''", dashed),
+        ("certify -- -u ''", DASHED),
         (
             "certify -n -u type_id --area-keys building,landuse --linear-keys highway in.opl -",
             ALL,
@@ -44,35 +46,35 @@ fn options_in_any_order_and_form(rt: HostRuntime) -> Result<(), Fail> {
             ALL,
         ),
     ];
-    for (line, settings) in cases {
-        let words = words_of(alloc, line)?;
-        assert_eq!(rt; job_of(alloc, &words), Ok(Job::Certify(settings)), "{line}");
+    for (line, settings) in rows {
+        assert!(rt;
+            is_taken(rt.alloc(), line, Job::Certify(settings))?,
+            "{line}"
+        );
     }
     Ok(())
 }
 
+const REFUSED: &str = "missing: certify
+missing: certify -
+unknown: certify - t x
+no value: certify - t -u
+unknown: certify -o out - t
+twice: certify -n - - -n";
+
 #[test]
 fn refused_words(rt: HostRuntime) -> Result<(), OutOfMemory> {
-    let cases = [
-        ("certify", ErrorKind::MissingRequiredArgument),
-        ("certify -", ErrorKind::MissingRequiredArgument),
-        ("certify - t x", ErrorKind::UnknownArgument),
-        ("certify - t -u", ErrorKind::InvalidValue),
-        ("certify -o out - t", ErrorKind::UnknownArgument),
-        ("certify -n - - -n", ErrorKind::ArgumentConflict),
-    ];
-    assert_refused(&rt, rt.alloc(), &cases)
+    assert_refused(&rt, rt.alloc(), REFUSED)
 }
+
+const OUT_OF_RANGE: &str = "t: certify - -
+t: certify -n -u counter - -
+l: certify --linear-keys , - -
+a: certify --linear-keys , --area-keys , - -
+u: certify --area-keys , -u x - -";
 
 /// The first of the options counts, in the order u, a, l, and behind them the two dashes.
 #[test]
 fn values_out_of_range(rt: HostRuntime) -> Result<(), OutOfMemory> {
-    let cases = [
-        ("certify - -", 't'),
-        ("certify -n -u counter - -", 't'),
-        ("certify --linear-keys , - -", 'l'),
-        ("certify --linear-keys , --area-keys , - -", 'a'),
-        ("certify --area-keys , -u x - -", 'u'),
-    ];
-    assert_out_of_range(&rt, rt.alloc(), &cases)
+    assert_out_of_range(&rt, rt.alloc(), OUT_OF_RANGE)
 }
