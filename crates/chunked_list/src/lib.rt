@@ -7,7 +7,5 @@ mod chunks;
 mod list;
 mod marks;
 mod searching;
-#[cfg(test)]
-mod tests;
 
 pub use list::ChunkedList;

@@ -5,8 +5,6 @@ mod laws;
 mod list;
 mod odd;
 mod tally;
-#[cfg(test)]
-mod tests;
 
 pub use laws::{counted_lists_exist, counts_determine};
 pub use list::List;

@@ -46,10 +46,3 @@ pub use object::{Member, Object, ObjectKind, ObjectRef, Ref, Tag};
 pub use refs::{RefIter, Refs};
 pub use tags::{TagIter, TagRef, Tags};
 pub use text::Text;
-
-#[cfg(test)]
-mod keys_tests;
-#[cfg(test)]
-mod lines_tests;
-#[cfg(test)]
-mod tests;

@@ -121,6 +121,12 @@ impl Tags {
         self.count == 0
     }
 
+    /// How many bytes of memory its texts take: one for each usual text, and for any other one or five more than it has. No clause
+    /// says it.
+    pub fn bytes(&self) -> usize {
+        self.texts.len()
+    }
+
     /// The value of the first tag of this key. It takes no memory.
     pub fn value_of(&self, key: &str) -> Option<&str>
         ensures { option_map (λ v. v.now) result

@@ -9,8 +9,6 @@ mod fields;
 mod items;
 mod laws;
 mod lines;
-#[cfg(test)]
-mod tests;
 
 pub use laws::{spelled_objects_are_sound, written_lines_read_back, written_texts_read_back};
 pub use lines::{put_node, put_relation, put_way};

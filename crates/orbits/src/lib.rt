@@ -5,8 +5,6 @@ mod cutting;
 mod laws;
 mod orbit;
 mod passing;
-#[cfg(test)]
-mod tests;
 
 pub use cutting::cut;
 pub use laws::{each_stands_once, orbits_are_determined};

@@ -5,8 +5,6 @@ mod band_stab;
 mod bands;
 mod rows;
 mod scale;
-#[cfg(test)]
-mod tests;
 
 pub use band_stab::BandStab;
 pub use bands::{Bands, Span};

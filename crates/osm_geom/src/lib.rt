@@ -4,14 +4,10 @@
 
 mod coordinate;
 mod cut;
-#[cfg(test)]
-mod cut_tests;
 mod dir;
 mod edge;
 mod edge_dir;
 mod edge_lists;
-#[cfg(test)]
-mod edge_tests;
 mod just_above;
 mod laws;
 mod level;

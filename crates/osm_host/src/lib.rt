@@ -10,8 +10,6 @@ mod memory;
 mod names;
 mod opens;
 mod standard;
-#[cfg(test)]
-mod tests;
 mod writing;
 
 pub use host::{Failed, Faults, Host};

@@ -10,8 +10,6 @@ mod location_lists;
 mod meetings;
 mod orientation;
 mod seg;
-#[cfg(test)]
-mod tests;
 
 pub use conflicts::{Kind, are_apart, conflict, conflict_of_near};
 pub use frac::{Frac, round};

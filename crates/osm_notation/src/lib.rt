@@ -7,8 +7,6 @@ mod coordinates;
 mod decimal;
 mod number;
 mod strings;
-#[cfg(test)]
-mod tests;
 
 pub use coordinates::{put_both, put_coordinate, put_point, put_xy};
 pub use decimal::put_decimal;

@@ -4,8 +4,6 @@
 mod laws;
 mod line;
 mod reading;
-#[cfg(test)]
-mod tests;
 
 pub use laws::{first_bad_line_is_one, points_exclude_a_bad_line, texts_have_points_or_a_bad_line};
 pub use reading::{PointsError, read_points};

@@ -9,8 +9,6 @@ mod faults;
 mod finding;
 mod pairs;
 mod parity;
-#[cfg(test)]
-mod tests;
 
 pub use clear::in_order_of_ends;
 pub use counts::{Cancelled, Repeat, cancel, distinct, odd_nodes, repeated, survivors};

@@ -3,8 +3,6 @@
 
 mod plain_stab;
 mod stab;
-#[cfg(test)]
-mod tests;
 
 pub use plain_stab::PlainStab;
 pub use stab::Stab;

@@ -223,6 +223,3 @@ pub fn tables_rise()
     ensures problem { HasRisingKeys PROBLEM_KINDS }
     ensures coast { HasRisingKeys COAST_KINDS }
 {}
-
-#[cfg(test)]
-mod tests;

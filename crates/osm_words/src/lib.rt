@@ -3,35 +3,23 @@
 
 mod arguments;
 mod certify_command;
-#[cfg(test)]
-mod certify_tests;
 mod certify_words;
 mod coastline_command;
-#[cfg(test)]
-mod coastline_tests;
 mod coastline_words;
 mod degrees;
 mod export_command;
 mod export_words;
 mod fault;
 mod filter_command;
-#[cfg(test)]
-mod filter_tests;
 mod filter_words;
 mod locate_command;
-#[cfg(test)]
-mod locate_tests;
 mod locate_words;
 mod number;
 mod parsed;
 mod ranges;
 mod sample_command;
-#[cfg(test)]
-mod sample_tests;
 mod sample_words;
 mod settings;
-#[cfg(test)]
-mod tests;
 mod words;
 
 pub use fault::{WordsError, WordsFault};

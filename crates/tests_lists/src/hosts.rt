@@ -1,0 +1,123 @@
+//! The real files, and a host over memory call by call.
+
+use osm_host::{Faults, Host, MemoryHost, StdHost, write_all_out};
+use std::alloc::Global;
+use std::fs;
+use std::process::Abort;
+use std::test::Fail;
+
+/// Whether an input can be opened, and how many bytes a first and a second read give; None for a read that fails.
+fn read_twice(host: &mut StdHost, name: &str) -> (bool, [Option<usize>; 2]) {
+    let mut buffer = [0; 8];
+    let open = host.open_input(name).is_ok();
+    let first = host.read(&mut buffer).ok();
+    (open, [first, host.read(&mut buffer).ok()])
+}
+
+/// Asserts what inputs give where a file of three bytes is there.
+fn assert_read(rt: &impl Abort, host: &mut StdHost) {
+    let rows = [
+        ("absent.txt", (false, [Some(0), Some(0)])),
+        ("there.txt", (true, [Some(3), Some(0)])),
+        // a folder is no input
+        (".", (true, [None, None])),
+    ];
+    for (name, told) in rows {
+        assert_eq!(rt; read_twice(host, name), told, "{name}");
+    }
+}
+
+/// Whether an input begins with this text.
+fn begins_with(host: &mut StdHost, name: &str, text: &[u8]) -> bool {
+    let mut buffer = [0; 8];
+    host.open_input(name).is_ok() && host.read(&mut buffer).is_ok() && buffer.starts_with(text)
+}
+
+/// Whether an output can be opened and a text written to it.
+fn writes(host: &mut StdHost, name: &str, overwrite: bool, text: &str) -> bool {
+    host.open_output(name, overwrite).is_ok() && write_all_out(host, text.as_bytes()).is_ok()
+}
+
+/// Whether a file holds just this text.
+fn holds(rt: &HostRuntime, name: &str, text: &str) -> Result<bool, Fail> {
+    let held = fs::read_to_string(rt, name)?;
+    Ok(held.as_str() == text)
+}
+
+#[test]
+fn files_are_read_and_written(rt: HostRuntime) -> Result<(), Fail> {
+    fs::write(&rt, "there.txt", "abc")?;
+    let _ = fs::remove_file(&rt, "new.txt");
+    let mut host = StdHost::new(rt.clone()?);
+    assert_read(&rt, &mut host);
+    assert!(rt; begins_with(&mut host, "there.txt", b"abc"));
+    assert!(rt; !writes(&mut host, "there.txt", false, "ab"));
+    assert!(rt; holds(&rt, "there.txt", "abc")?, "it is left as it was");
+    for (name, overwrite, text) in [("new.txt", false, "first"), ("there.txt", true, "ab")] {
+        assert!(rt; writes(&mut host, name, overwrite, text), "{name}");
+        assert!(rt; holds(&rt, name, text)?, "{name}");
+    }
+    Ok(())
+}
+
+/// What is answered to a read, a write of six bytes out and one of two to the report, after opens of an input and an
+/// output.
+fn call_all(host: &mut MemoryHost) -> [Option<usize>; 3] {
+    let mut buffer = [0; 8];
+    let _ = host.open_input("in");
+    let read = host.read(&mut buffer).ok();
+    let _ = host.open_output("new", false);
+    let out = host.write_out(b"abcdef").ok();
+    let report = host.write_report(b"gh").ok();
+    [read, out, report]
+}
+
+/// A host with two inputs of one name and a name that is taken, whose call of this number fails.
+fn host_of(alloc: Global, most: usize, room: usize, call: u64) -> Result<MemoryHost, Fail> {
+    // Each row's `most` is at least 1, which the check can't read off the table.
+    let mut host = MemoryHost::new(alloc, most.max(1));
+    host.add_input("in", b"input")?;
+    host.add_input("in", b"another")?;
+    host.take_name("old")?;
+    host.fail_at(call)?;
+    host.reserve(room)?;
+    Ok(host)
+}
+
+/// Whether the calls are answered so, with these counts of failed opens, reads and writes, and the output holds what was
+/// written; a name that is taken can't be opened.
+fn answers(host: &mut MemoryHost, answers: [Option<usize>; 3], faults: [u64; 3]) -> bool {
+    let [opens, reads, writes] = faults;
+    let counts = Faults {
+        opens,
+        reads,
+        writes,
+    };
+    call_all(host) == answers
+        && host.faults() == counts
+        && host.out().len() == answers[1].unwrap_or(0)
+        && host.open_output("old", false).is_err()
+}
+
+#[test]
+fn room_most_and_numbers_bound_a_host_over_memory(rt: HostRuntime) -> Result<(), Fail> {
+    // most, room, the call that fails, and then the answers and the counts of faults
+    let rows = [
+        (9, 99, 0, [Some(5), Some(6), Some(2)], [0, 0, 0]),
+        (2, 99, 0, [Some(2), Some(2), Some(2)], [0, 0, 0]),
+        (9, 9, 0, [Some(5), Some(2), None], [0, 0, 1]),
+        (9, 3, 0, [Some(5), None, None], [1, 0, 2]),
+        (9, 2, 0, [Some(0), Some(2), None], [2, 0, 1]),
+        (9, 99, 1, [Some(0), Some(6), Some(2)], [1, 0, 0]),
+        (9, 99, 2, [None, Some(6), Some(2)], [0, 1, 0]),
+        (9, 99, 5, [Some(5), Some(6), None], [0, 0, 1]),
+    ];
+    for (most, room, call, wanted, faults) in rows {
+        let mut host = host_of(rt.alloc(), most, room, call)?;
+        assert!(rt;
+            answers(&mut host, wanted, faults),
+            "most {most}, room {room}, call {call}"
+        );
+    }
+    Ok(())
+}
