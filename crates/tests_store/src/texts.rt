@@ -1,7 +1,7 @@
 //! An input that is read as one text: its end, its limit, and a failed read at each place.
 
-use crate::{TextError, read_text};
 use osm_host::{Host, MemoryHost};
+use osm_input::{TextError, read_text};
 use std::alloc::{AllocError as OutOfMemory, Global};
 use std::test::Fail;
 
