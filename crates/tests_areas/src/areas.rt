@@ -138,20 +138,26 @@ fn several_polygons(rt: HostRuntime) -> Result<(), Fail> {
     Ok(())
 }
 
-/// A thousand squares in rows of forty with the relation that names them in turn and then more, and their rings.
+/// Adds the way of a square to lines, and its ring to rings. Forty stand in a row.
+fn add_square(alloc: Global, lines: &mut String, rings: &mut String, way: u32) -> Result<(), Fail> {
+    let (left, low) = ((way % 40).saturating_mul(3), (way / 40).saturating_mul(3));
+    let (right, high) = (left.saturating_add(1), low.saturating_add(1));
+    lines.push_str(&format!(in alloc;
+        "w{way} Nn1x{left}y{low},n2x{right}y{low},n3x{right}y{high},n4x{left}y{high},n1x{left}y{low}\n"
+    )?)?;
+    rings.push_str(&format!(in alloc;
+        "outer {left} {low} {right} {low} {right} {high} {left} {high}\n"
+    )?)?;
+    Ok(())
+}
+
+/// A thousand squares with the relation that names them in turn and then more, and their rings.
 fn squares_and_rings(alloc: Global, more: &str) -> Result<(String, String), Fail> {
     let mut lines = String::new(alloc);
     let mut rings = String::new(alloc);
     let mut names = String::from_str(alloc, "w0@")?;
     for way in 0..1000u32 {
-        let (left, low) = (3 * (way % 40), 3 * (way / 40));
-        let (right, high) = (left + 1, low + 1);
-        lines.push_str(&format!(in alloc;
-            "w{way} Nn1x{left}y{low},n2x{right}y{low},n3x{right}y{high},n4x{left}y{high},n1x{left}y{low}\n"
-        )?)?;
-        rings.push_str(&format!(in alloc;
-            "outer {left} {low} {right} {low} {right} {high} {left} {high}\n"
-        )?)?;
+        add_square(alloc, &mut lines, &mut rings, way)?;
         if way > 0 {
             names.push_str(&format!(in alloc; ",w{way}@")?)?;
         }
