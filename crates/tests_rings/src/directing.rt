@@ -10,8 +10,9 @@ use std::test::Fail;
 /// Whether the edges along steps are directed as these, each once.
 fn keep_directions(alloc: Global, lines: &str) -> Result<bool, Fail> {
     let steps = steps(alloc, lines)?;
-    let edges = directed(alloc, &segs(alloc, &steps)?)?;
-    Ok(edges.len() == steps.len() && steps.iter().all(|step| is_taken(&edges, *step)))
+    let list = directed(alloc, &segs(alloc, &steps)?)?;
+    let edges = list.as_slice();
+    Ok(edges.len() == steps.len() && steps.iter().all(|step| is_taken(edges, *step)))
 }
 
 /// Whether an edge runs along a step.
