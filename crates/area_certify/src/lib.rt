@@ -10,8 +10,6 @@ mod feature;
 mod laws;
 mod lines;
 mod telling;
-#[cfg(test)]
-mod tests;
 mod verdict;
 
 pub use certifying::certify;

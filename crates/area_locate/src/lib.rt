@@ -9,8 +9,6 @@ mod found;
 mod laws;
 mod locating;
 mod sides;
-#[cfg(test)]
-mod tests;
 
 pub use found::{Found, FoundList, Hit, Hits};
 pub use laws::{found_exists, found_is_one};

@@ -4,8 +4,6 @@
 mod filtering;
 mod laws;
 mod names;
-#[cfg(test)]
-mod tests;
 
 pub use filtering::filter;
 pub use laws::{

@@ -5,8 +5,6 @@ mod by_id;
 mod chain;
 mod chaining;
 mod closing;
-#[cfg(test)]
-mod closing_tests;
 mod gap;
 mod greedy;
 mod input;
@@ -20,10 +18,6 @@ mod ring;
 mod ring_laws;
 mod ring_making;
 mod round;
-#[cfg(test)]
-mod test_input;
-#[cfg(test)]
-mod tests;
 mod way;
 
 pub use chain::{Chain, Chains};

@@ -10,8 +10,6 @@ mod ring_segments;
 mod side_nodes;
 mod sorted;
 mod sorting;
-#[cfg(test)]
-mod tests;
 mod water_laws;
 mod watering;
 mod wrong_ways;

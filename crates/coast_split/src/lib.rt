@@ -2,13 +2,9 @@
 #![tactic(auto)]
 
 mod envelope;
-#[cfg(test)]
-mod half_tests;
 mod halves;
 mod laws;
 mod leaves;
-#[cfg(test)]
-mod leaves_tests;
 mod portion;
 
 pub use halves::half;

@@ -5,8 +5,6 @@
 #![tactic(auto)]
 
 mod laws;
-#[cfg(test)]
-mod tests;
 mod work;
 
 pub use laws::{certified_texts_are_exports, certify_exists, certify_is_one};

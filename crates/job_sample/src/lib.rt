@@ -8,8 +8,6 @@
 mod areas;
 mod printing;
 mod summary;
-#[cfg(test)]
-mod tests;
 mod work;
 
 pub use summary::{Summary, sample_summary, summary_of};

@@ -2,8 +2,6 @@
 #![tactic(auto)]
 
 mod area;
-#[cfg(test)]
-mod area_tests;
 mod laws;
 mod member_ways;
 mod missing;
@@ -17,8 +15,6 @@ mod ring_segments;
 mod role_notes;
 mod roles;
 mod segments;
-#[cfg(test)]
-mod tests;
 
 pub use laws::{areas_have_kinds, has_area_exactly, outcome_exists};
 pub use outcome::{Outcome, assemble};

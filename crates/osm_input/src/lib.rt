@@ -6,8 +6,6 @@ mod fault;
 mod laws;
 mod pieces;
 mod reading;
-#[cfg(test)]
-mod tests;
 mod text;
 
 pub use fault::InputFault;

@@ -8,8 +8,6 @@
 mod choice;
 mod ended;
 mod input;
-#[cfg(test)]
-mod tests;
 mod writing;
 
 pub use choice::choice_of;

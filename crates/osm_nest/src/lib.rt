@@ -2,8 +2,6 @@
 #![tactic(auto)]
 
 mod enclosers;
-#[cfg(test)]
-mod fraction_tests;
 mod grouping;
 mod heights;
 mod laws;
@@ -17,8 +15,6 @@ mod ring_edges;
 mod rings_from_least;
 mod sweep_status;
 mod swept_enclosers;
-#[cfg(test)]
-mod tests;
 
 pub use grouping::{nest, nest_rings};
 pub use laws::{

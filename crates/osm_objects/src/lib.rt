@@ -7,12 +7,12 @@ mod error;
 mod found;
 mod held;
 mod near_hash;
+#[cfg(test)]
+mod near_hash_tests;
 mod plain;
 mod problem;
 mod store;
 mod tags;
-#[cfg(test)]
-mod tests;
 mod view;
 
 pub use area::area_id;

@@ -4,13 +4,9 @@
 
 mod coast;
 mod coast_lines;
-#[cfg(test)]
-mod coast_tests;
 mod laws;
 mod phrases;
 mod report;
-#[cfg(test)]
-mod tests;
 
 pub use coast::CoastLine;
 pub use coast_lines::{coast_line, is_error};

@@ -8,8 +8,6 @@ mod ring;
 mod ring_list;
 mod sort_keys;
 mod successors;
-#[cfg(test)]
-mod tests;
 
 pub use laws::{ring_list_of_edges_exists, rings_do_not_cross, successors_are_one_to_one};
 pub use ring::{Ring, Rings};

@@ -10,8 +10,6 @@ mod input;
 mod laws;
 mod nodes;
 mod objects;
-#[cfg(test)]
-mod tests;
 mod ways;
 
 pub use input::sample_input;

@@ -7,8 +7,6 @@ mod laws;
 mod leaving;
 mod rows;
 mod sides;
-#[cfg(test)]
-mod tests;
 
 pub use directions::{direct, direct_along};
 pub use laws::directing_is_sided;

@@ -1,6 +1,4 @@
-mod Corners
 mod EscapeLemmas
-mod Halves
 mod KeptLemmas
 mod KeyLaws
 mod LeastNodes

@@ -5,13 +5,9 @@
 
 mod feature;
 mod feature_id;
-#[cfg(test)]
-mod feature_tests;
 mod notation;
 mod paths;
 mod piece;
-#[cfg(test)]
-mod piece_tests;
 mod properties;
 mod rounded;
 
