@@ -6,7 +6,6 @@ mod Filled
 mod FilteredLists
 mod Further
 mod GroupedRings
-mod Halves
 mod InPlane
 mod Joining
 mod KnownEnclosers

@@ -12,7 +12,7 @@ use std::test::Fail;
 
 /// The triangles (0, 0), (1, 1/2), (1, 1) and (1, 1/2), (2, 0), (2, 1), each counterclockwise, which touch at (1, 1/2), and
 /// the hole (1, 1/2), (1, 1), (2, 1), clockwise. Two edges lie on the line x = 1.
-#[tactic(auto, using(crate::proofs::Halves::half_lowest), unfolding(osm_geom::specs::Carrier::is_on))]
+#[tactic(auto, using(osm_lattice::proofs::LatticeKit::half_lowest), unfolding(osm_geom::specs::Carrier::is_on))]
 fn three_triangles() -> [Edge; 9] {
     let half = Part {
         floor: 0,
@@ -130,7 +130,7 @@ fn rings_begun_at_fractional_points(rt: HostRuntime) -> Result<(), Fail> {
 }
 
 /// The part of the segment from (0, 0) to (1, 2) up to the height 1.
-#[tactic(auto, using(crate::proofs::Halves::half_lowest), unfolding(osm_geom::specs::Carrier::is_on))]
+#[tactic(auto, using(osm_lattice::proofs::LatticeKit::half_lowest), unfolding(osm_geom::specs::Carrier::is_on))]
 fn up_to_one() -> Edge {
     let half = Part {
         floor: 0,

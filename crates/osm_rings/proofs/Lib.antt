@@ -5,7 +5,6 @@ mod DeparturesRound
 mod EdgeDirs
 pub mod EdgeEquality
 mod FirstMets
-mod Halves
 pub mod LeastStarts
 mod Multiplied
 mod OrbitWalks

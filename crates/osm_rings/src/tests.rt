@@ -95,7 +95,7 @@ fn numbers_of_nodes(rt: HostRuntime) -> Result<(), Fail> {
 }
 
 /// The triangles (0, 0), (1, 1/2), (1, 1) and (1, 1/2), (2, 0), (2, 1), each counterclockwise. One edge lies on x = 1.
-#[tactic(auto, using(crate::proofs::Halves::half_lowest), unfolding(osm_geom::specs::Carrier::is_on))]
+#[tactic(auto, using(osm_lattice::proofs::LatticeKit::half_lowest), unfolding(osm_geom::specs::Carrier::is_on))]
 fn touching_triangles() -> [Edge; 6] {
     let half = Part {
         floor: 0,

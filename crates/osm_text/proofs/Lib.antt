@@ -1,6 +1,5 @@
 mod Corners
 mod EscapeLemmas
-mod Halves
 mod KeptLemmas
 mod KeyLaws
 mod LeastNodes

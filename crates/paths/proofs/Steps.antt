@@ -55,12 +55,6 @@ none-null a b h k =
 pub dot-direction : (a b : Vector) → sign (dot a b) ≡ Plus → IsDirection a
 dot-direction a b h = direction-from a (λ k l. let z = ap sign (none-null a b k l) in cc (sym h ∙ z))
 
-pub cross-direction : (a b : Vector) → sign (cross a b) ≡ Plus → IsDirection a
-cross-direction a b h =
-    direction-from a (λ k l.
-    let z : cross a b ≡ pos 0 = ap (λ z. z *ℤ b.y -ℤ a.y *ℤ b.x) k ∙ ap (λ z. pos 0 *ℤ b.y -ℤ z *ℤ b.x) l ∙ same (lift (pos 0) ⊠ lift b.y ⊟ lift (pos 0) ⊠ lift b.x) (lift (pos 0)) (omega arith) in
-    let y = ap sign z in cc (sym h ∙ y))
-
 off-by-cross : (p : Vector) (e : Edge) (s : Sign) → sign (cross (from_to p e.from) (from_to p e.to)) ≡ s → off_by s (sign (dot (from_to p e.from) (from_to p e.to))) ≡ true → IsApart p p e
 off-by-cross p e Plus h o =
     let a : IsLeftAlong (from_to e.to e.from) p e.from = ap sign (back-from p e.from e.to) ∙ h in
