@@ -7,7 +7,7 @@ use Rattle.plane.specs.RayCrossing.{IsOffEdge, off_by}
 use Rattle.plane.specs.Scale.{scaled_edge, scaled_point}
 use Rattle.plane.specs.Sign.{Minus, Null, Plus, Sign, negated, sign}
 use Rattle.plane.specs.Vector.{IsDirection, Vector, cross, dot, from_to}
-use Rattle.plane.proofs.PlaneKit.{cross-negated, cross-times, cross2, direction-from, dot2, frame-agree, frame-dot-agree, from_to-scaled, from_to2, lift2}
+use Rattle.plane.proofs.PlaneKit.{cross-direction, cross-negated, cross-times, cross2, direction-from, dot2, frame-agree, frame-dot-agree, from_to-scaled, from_to2, lift2}
 use Rattle.plane.proofs.SignKit.{agree, agree-sum, all4-out, imp, imp-out, is_plus-true, lift, null-plus, plus-null, plus-plus, plus-times, same, sign-*, times, ◌⊞◌, ◌⊟◌, ◌⊠◌}
 
 pub apart-back : (p q : Vector) (e : Edge) → IsApart p q e → IsApart q p e
