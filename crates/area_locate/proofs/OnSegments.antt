@@ -3,7 +3,7 @@ use Rattle.std.proofs.Common.{Bool, true, false, not, refl, sym, ap, ℤ, ◌&&�
 use Rattle.plane.specs.RayCrossing.{off_by}
 use Rattle.plane.specs.Sign.{Sign, Minus, Null, Plus, is_null, is_plus, sign}
 use Rattle.plane.proofs.PlaneKit.{orient-round}
-use Rattle.plane.proofs.SignKit.{agree, agree-sum, all4, all4-out, imp, imp-out, null-zero, same-sign-is, same_bool, same_bool-true, same_sign, sign-*, times}
+use Rattle.plane.proofs.SignKit.{agree, agree-sum, all4, all4-out, imp, imp-out, is_null-true, null-zero, same-sign-is, same_bool, same_bool-true, same_sign, sign-*, times}
 use Rattle.lists.proofs.ListsKit.{same_from_difference}
 use Rattle.osm_lattice.specs.declared.loc.Loc.{Loc}
 use Rattle.osm_lattice.specs.declared.seg.Seg.{Seg}
@@ -40,11 +40,6 @@ steep_off Null s h = absurd (cc h)
 steep_off Plus s h = refl
 steep_off Minus s h = refl
 
-is_flat : (k : Sign) → is_null k ≡ true → k ≡ Null
-is_flat Null h = refl
-is_flat Plus h = absurd (cc h)
-is_flat Minus h = absurd (cc h)
-
 and_true : (b : Bool) → b ≡ (b && true)
 and_true true = refl
 and_true false = refl
@@ -66,7 +61,7 @@ module _ (a b c d : ℤ) where
 
   seen_by : (flat : Bool) → is_null line ≡ flat → not off ≡ (not beside && flat)
   seen_by true h =
-      let on_line = is_flat line h in
+      let on_line = is_null-true line h in
       let same = same_from_difference (a *ℤ d) (c *ℤ b) (null-zero (a *ℤ d -ℤ c *ℤ b) on_line) in
       ap not (flat_off line (sign (a *ℤ b +ℤ c *ℤ d)) on_line ∙ one_side a b c d same) ∙ and_true (not beside)
   seen_by false h = ap not (steep_off line (sign (a *ℤ b +ℤ c *ℤ d)) h) ∙ and_false (not beside)

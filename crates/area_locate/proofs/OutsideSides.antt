@@ -1,15 +1,15 @@
 -- Outside of the envelope of an area there is neither a side with the location on it nor an odd number of sides right of it.
-use Rattle.std.proofs.Common.{T, Bool, true, false, not, cond, eqb, eqb-true, List, [], ◌∷◌, map, refl, sym, ap, subst, arith, ℕ, ℤ, negsuc, pos, ◌&&◌, ◌||◌, ◌+◌, ◌+ℤ◌, ◌-ℤ◌, ◌<ℤ◌, ◌%◌, ◌≡◌, ◌∙◌, ⊎_elim, All, count_by}
+use Rattle.std.proofs.Common.{T, Bool, true, false, not, cond, eqb, eqb-true, List, [], ◌∷◌, map, refl, sym, ap, subst, arith, ℕ, ℤ, ◌&&◌, ◌||◌, ◌+◌, ◌-ℤ◌, ◌<ℤ◌, ◌%◌, ◌≡◌, ◌∙◌, ⊎_elim, All, count_by}
 use Rattle.std.proofs.lemmas.Int.{ints}
 use Rattle.std.proofs.lemmas.List.Sums.{sum_by-cons}
 use Rattle.std.specs.Int.Signed.{lt_z, lt_z_yes}
 use Rattle.plane.specs.RayCrossing.{IsOffEdge, is_off, up_by, down_by}
 use Rattle.plane.specs.Sign.{Sign, Minus, Null, Plus, is_plus, negated, sign}
-use Rattle.plane.specs.Vector.{Vector, cross, east, from_to}
+use Rattle.plane.specs.Vector.{cross, east, from_to}
 use Rattle.plane.proofs.PlaneKit.{cross-agree, crossings-left, crossings_at, east-direction, east-side, orient-round}
-use Rattle.plane.proofs.SignKit.{Says, agree, all3-out, imp, imp-out, lift, same, says, sign-reversed, times, ◌⊞◌, ◌⊟◌, ◌⊠◌}
+use Rattle.plane.proofs.SignKit.{Says, agree, all3-out, imp, imp-out, says, times}
 use Rattle.winding.specs.EdgeList.{IsEvenAtPoints, crossing_count}
-use Rattle.winding.proofs.WindingKit.{parity_independent, west, west-direction}
+use Rattle.winding.proofs.WindingKit.{cross-west, parity_independent, west, west-direction}
 use Rattle.lists.specs.Member.{In}
 use Rattle.lists.proofs.ListsKit.{all-in, count_by-cons, from-map, in-all, not-true-out, or-out, total-is, total-map, total_none}
 use Rattle.osm_lattice.specs.declared.loc.Loc.{Loc}
@@ -82,12 +82,6 @@ left_not_left p s h k =
     not-true-out (is_left p s) (ap (λ (z : ℤ). not ((not (is_plus (sign (s.a.y -ℤ p.y))) && is_plus (sign (s.b.y -ℤ p.y))) && is_plus (sign z))) (orient-round v f e) ∙ signs)
 
 -- ---- the ray to the left
-cross_west : (w : Vector) → sign (cross west w) ≡ negated (sign w.y)
-cross_west w =
-    let x = lift w.x in let y = lift w.y in
-    let e : w.y +ℤ cross west w ≡ pos 0 = same (y ⊞ (lift (negsuc 0) ⊠ y ⊟ lift (pos 0) ⊠ x)) (lift (pos 0)) (omega arith) in
-    sign-reversed w.y (cross west w) e
-
 -- it doesn't cross what is right of p
 abbrev rightward : Sign → Sign → Sign → Bool
 rightward k uy vy = imp (agree k (times uy Plus) (times Plus vy)) λ _. eqb (up_by (negated uy) (negated vy) k + down_by (negated uy) (negated vy) k) 0
@@ -98,7 +92,7 @@ right_uncrossed p s h k =
     let agreed : agree (sign (cross (from_to v f) (from_to v e))) (times (sign (s.a.y -ℤ p.y)) Plus) (times Plus (sign (s.b.y -ℤ p.y))) ≡ true =
     rw (above s.a.x p.x h, above s.b.x p.x k) at (cross-agree (from_to v f) (from_to v e)) in
     let signs = imp-out _ _ (all3-out rightward refl (sign (cross (from_to v f) (from_to v e))) (sign (s.a.y -ℤ p.y)) (sign (s.b.y -ℤ p.y))) agreed in
-    rw (cross_west (from_to v f), cross_west (from_to v e)) (eqb-true _ _ signs)
+    rw (cross-west (from_to v f), cross-west (from_to v e)) (eqb-true _ _ signs)
 
 -- ---- all sides
 count_none : {X : Type 0} (q : X → Bool) (xs : List X) → ((x : X) → In x xs → q x ≡ false) → count_by q xs ≡ 0

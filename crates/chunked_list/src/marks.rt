@@ -39,10 +39,12 @@ fn back<T>(chunks: &[Vec<T>], mark: Mark) -> Mark
 fn on<T>(chunks: &[Vec<T>], mark: Mark) -> Mark
     requires inside { mark.chunk < length chunks.now }
     requires mark { IsMark (λ c. c.items) chunks.now mark.chunk mark.before }
-    requires fits { (d : _) → mark.before + length (slice_index_or chunks.now mark.chunk d).items < 2 ^ 64 }
+    requires fits { (d : _)
+        → mark.before + length (slice_index_or chunks.now mark.chunk d).items < 2 ^ 64 }
     ensures chunk { result.chunk ≡ mark.chunk + 1 }
     ensures mark { IsMark (λ c. c.items) chunks.now result.chunk result.before }
-    ensures before { (d : _) → result.before ≡ mark.before + length (slice_index_or chunks.now mark.chunk d).items }
+    ensures before { (d : _)
+        → result.before ≡ mark.before + length (slice_index_or chunks.now mark.chunk d).items }
 {
     Mark {
         chunk: mark.chunk + 1,

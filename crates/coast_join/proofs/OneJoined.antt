@@ -6,7 +6,6 @@ use Rattle.std.specs.List.Sorted.{IsPermutation}
 use Rattle.std.specs.declared.cmp.Ordering.TheVariants.{Less}
 use Rattle.std.specs.Ordering.{int_cmp}
 use Rattle.std.proofs.lemmas.Bool.{cases_lt}
-use Rattle.std.proofs.lemmas.Int.{ints}
 use Rattle.std.proofs.lemmas.List.{get_or_past}
 use Rattle.std.proofs.lemmas.List.Elements.{All-contains}
 use Rattle.osm_lattice.specs.declared.loc.Loc.{Loc}
@@ -24,7 +23,7 @@ use Rattle.coast_join.specs.Round.{IsRound}
 use Rattle.coast_join.specs.Taken.{pair_cmp}
 use Rattle.coast_join.proofs.Following.{next_one}
 use Rattle.coast_join.proofs.OneChains.{chain_from_fields, one_order, same_options}
-use Rattle.lists.proofs.ListsKit.{pairs-each}
+use Rattle.lists.proofs.ListsKit.{pairs-each, same_from_least}
 use mathlib.Core.HLevel.{is_prop→PathP}
 
 -- ---- one map of what chains go on to
@@ -62,11 +61,8 @@ ring_from_fields r s n p = λ i. record {
   round = is_prop→PathP (λ j. IsRound (p j)) (λ j. round_prop (p j)) r.round s.round i;
 }
 
-both_least : (a b : ℤ) → a ≤ℤ b → b ≤ℤ a → a ≡ b
-both_least a b h k = omega (arith, ints)
-
 one_least : (ids : List ℤ) (a b : ℤ) → IsLeast ids a → IsLeast ids b → a ≡ b
-one_least ids a b la lb = both_least a b (All-contains (λ other. a ≤ℤ other) ids b la.least lb.stands) (All-contains (λ other. b ≤ℤ other) ids a lb.least la.stands)
+one_least ids a b la lb = same_from_least a b (All-contains (λ other. a ≤ℤ other) ids b la.least lb.stands) (All-contains (λ other. b ≤ℤ other) ids a lb.least la.stands)
 
 one_zip : {A B : Type 0} (R : A → B → Type 0) → ((x : A) (y z : B) → R x y → R x z → y ≡ z) → (xs : List A) (ys zs : List B) → AllZip R xs ys → AllZip R xs zs → ys ≡ zs
 one_zip R one [] [] [] h k = refl

@@ -1,13 +1,13 @@
 -- What rings are sorted out to, their land, and the water about it: there is one of each.
-use Rattle.std.proofs.Common.{◌≡◌, ◌⊎◌, ⊎_elim, ℕ, zero, suc, ◌-◌, ◌%◌, ◌<◌, ◌≤◌, Bool, true, false, cond, List, [], ◌∷◌, ◌++◌, All, Contains, filter, get_or, length, map, refl, sym, ap, subst, ◌∙◌, arith}
+use Rattle.std.proofs.Common.{◌≡◌, ◌⊎◌, ⊎_elim, ℕ, zero, suc, ◌-◌, ◌%◌, ◌<◌, ◌≤◌, Bool, true, List, [], ◌∷◌, ◌++◌, All, Contains, filter, length, map, refl, sym, ap, subst, ◌∙◌, arith}
 use Rattle.std.specs.declared.cmp.Ordering.{Ordering}
-use Rattle.std.specs.declared.cmp.Ordering.TheVariants.{Equal, Greater, Less}
+use Rattle.std.specs.declared.cmp.Ordering.TheVariants.{Equal}
 use Rattle.std.specs.Cmp.{IsTotalOrder}
-use Rattle.std.specs.Ordering.{is_eq, ordering_reverse}
+use Rattle.std.proofs.lemmas.Cmp.{tied_itself}
 use Rattle.std.proofs.lemmas.List.{get_or_default}
 use Rattle.std.proofs.lemmas.List.Elements.{All-contains, All-tail}
 use Rattle.lists.specs.Rising.{IsRising, count_of}
-use Rattle.lists.proofs.ListsKit.{count-cons, count_some, count_stands, equal_from, same_rising}
+use Rattle.lists.proofs.ListsKit.{count_some, count_stands, same_rising, stands_once}
 use Rattle.osm_geom.specs.declared.edge.Edge.{Edge}
 use Rattle.osm_geom.proofs.GeometryKit.{edge-from-fields}
 use Rattle.osm_lattice.specs.OrderLaws.{LocationOrderTellsApart, SegmentOrderTellsApart}
@@ -34,31 +34,6 @@ use Rattle.coast_sides.proofs.EvenRings.{loc_cmp_total, seg_cmp_total}
 -- ---- lists in strict order with the same members
 
 module _ {X : Type 0} {R : X → X → Ordering} (total : IsTotalOrder R) (exact : (x y : X) → R x y ≡ Equal → x ≡ y) where
-  none_below : (z : X) (xs : List X) → All (λ y. R z y ≡ Less) xs → count_of R z xs ≡ 0
-  none_below z [] below = refl
-  none_below z (y ∷ ys) below =
-      let more : R y z ≡ Greater = total.antisymm y z ∙ ap ordering_reverse (below 0 y (omega arith)) in
-      let here : cond {A = ℕ} (is_eq (R y z)) 1 0 ≡ 0 = ap (λ r. cond {A = ℕ} (is_eq r) 1 0) more in
-      let rest = none_below z ys (λ k d h. below (suc k) d (omega arith)) in
-      let n = count-cons R z y ys in
-      omega arith
-
-  once : (z : X) (xs : List X) → IsRising R xs → count_of R z xs ≤ 1
-  once z [] up = omega arith
-  once z (y ∷ ys) up = by (is_eq (R y z)) refl (once z ys (λ i j d h l. up (suc i) (suc j) d (omega arith) (omega arith)))
-    where
-      by : (b : Bool) → is_eq (R y z) ≡ b → count_of R z ys ≤ 1 → count_of R z (y ∷ ys) ≤ 1
-      by true e rest =
-          let same : y ≡ z = exact y z (equal_from (R y z) e) in
-          let none = none_below z ys (λ k d h. subst (λ w. R w (get_or ys k d) ≡ Less) same (up 0 (suc k) d (omega arith) (omega arith))) in
-          let here : cond {A = ℕ} (is_eq (R y z)) 1 0 ≡ 1 = ap (λ b. cond {A = ℕ} b 1 0) e in
-          let n = count-cons R z y ys in
-          omega arith
-      by false e rest =
-          let here : cond {A = ℕ} (is_eq (R y z)) 1 0 ≡ 0 = ap (λ b. cond {A = ℕ} b 1 0) e in
-          let n = count-cons R z y ys in
-          omega arith
-
   counts_agree : (m n : ℕ) → (0 < m → 0 < n) → (0 < n → 0 < m) → m ≤ 1 → n ≤ 1 → m ≡ n
   counts_agree zero zero there back h l = refl
   counts_agree zero (suc n) there back h l = let c = back (omega arith) in absurd (omega arith)
@@ -70,7 +45,7 @@ module _ {X : Type 0} {R : X → X → Ordering} (total : IsTotalOrder R) (exact
       counts_agree (count_of R z xs) (count_of R z ys)
       (λ h. let c = there z (count_stands R exact z xs h) in count_some total z ys c.0 c.1 c.2)
       (λ h. let c = back z (count_stands R exact z ys h) in count_some total z xs c.0 c.1 c.2)
-      (once z xs up) (once z ys down))
+      (stands_once (tied_itself total) exact z xs up) (stands_once (tied_itself total) exact z ys down))
 
 -- ---- the sides of the world
 

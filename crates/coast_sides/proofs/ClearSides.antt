@@ -22,7 +22,7 @@ use Rattle.osm_lattice.specs.Conflict.{are_crossing, are_overlapping, conflict_o
 use Rattle.osm_lattice.specs.Loc.{loc_cmp, vector_of}
 use Rattle.osm_lattice.specs.OrderLaws.{LocationOrderIsPointOrder, LocationOrderTellsApart, ordering_of}
 use Rattle.osm_lattice.specs.Seg.{edge_of, seg_cmp, segment_between, segment_by}
-use Rattle.osm_lattice.proofs.LatticeKit.{rising_edge, seg_from_ends}
+use Rattle.osm_lattice.proofs.LatticeKit.{before_less, rising_edge, seg_from_ends}
 use Rattle.lists.specs.Rising.{IsRising}
 use Rattle.coast_sides.specs.Water.{IsClearOfSide, Meets, is_east, is_north, is_south, is_west, pieces}
 use Rattle.coast_sides.proofs.EvenRings.{loc_cmp_total, seg_cmp_total}
@@ -130,9 +130,6 @@ all_no true a b p e d c = refl
 all_no false a b p e d c = rw (e, d, c) refl
 
 module _ (points : LocationOrderIsPointOrder) (exact : LocationOrderTellsApart) (on : Loc → Bool) (nodes : List Loc) (up : IsRising loc_cmp nodes) (s t : Seg) (meets : Meets on nodes s) (next : AreNeighbours nodes t) (border : IsBorder on t) where
-  before : (p q : Loc) → is_plus (order (vector_of p) (vector_of q)) ≡ true → loc_cmp p q ≡ Less
-  before p q e = points p q ∙ plus_less (order (vector_of p) (vector_of q)) e
-
   before_back : (p q : Loc) → loc_cmp p q ≡ Less → is_plus (order (vector_of p) (vector_of q)) ≡ true
   before_back p q e = less_plus (order (vector_of p) (vector_of q)) (sym (points p q) ∙ e)
 
@@ -143,7 +140,7 @@ module _ (points : LocationOrderIsPointOrder) (exact : LocationOrderTellsApart) 
       let rest = and-right (is_null (orient (vector_of t.a) (vector_of t.b) (vector_of q))) (is_plus (order (vector_of t.a) (vector_of q)) && is_plus (order (vector_of q) (vector_of t.b))) e in
       let low = and-left (is_plus (order (vector_of t.a) (vector_of q))) (is_plus (order (vector_of q) (vector_of t.b))) rest in
       let high = and-right (is_plus (order (vector_of t.a) (vector_of q))) (is_plus (order (vector_of q) (vector_of t.b))) rest in
-      none_between nodes t q up next (node (on_line on t border q line)) (before t.a q low) (before q t.b high))
+      none_between nodes t q up next (node (on_line on t border q line)) (before_less t.a q low) (before_less q t.b high))
 
   first_node : Contains nodes t.a
   first_node = let l = next.inside in (next.place, omega arith, next.first t.a)
@@ -173,14 +170,14 @@ module _ (points : LocationOrderIsPointOrder) (exact : LocationOrderTellsApart) 
       inside n x y z = rw (x, y, z) refl
 
       ends : (o : Ordering) → loc_cmp s.b t.b ≡ o → s.a ≡ t.a → on s.b ≡ true → is_null (orient (vector_of s.a) (vector_of s.b) (vector_of t.b)) ≡ true → is_plus (order (vector_of s.a) (vector_of t.b)) ≡ true → is_plus (order (vector_of t.a) (vector_of s.b)) ≡ true → ⊥
-      ends Less e a b_on tb low high = none_between nodes t s.b up next (meets.second b_on) (before t.a s.b high) e
+      ends Less e a b_on tb low high = none_between nodes t s.b up next (meets.second b_on) (before_less t.a s.b high) e
       ends Equal e a b_on tb low high = let same : s ≡ t = seg_from_ends s t a ((exact s.b t.b).0 e) in false≢true (sym differ ∙ (ap (λ (u : Seg). is_eq (seg_cmp s u)) (sym same) ∙ ap is_eq (tied_itself seg_cmp_total s)))
       ends Greater e a b_on tb low high = false≢true (sym (node_outside t.b second_node) ∙ inside t.b tb low (before_back t.b s.b (loc_cmp_total.antisymm t.b s.b ∙ ap ordering_reverse e)))
 
       begins : (o : Ordering) → loc_cmp s.a t.a ≡ o → on s.a ≡ true → on s.b ≡ true → is_null (orient (vector_of s.a) (vector_of s.b) (vector_of t.a)) ≡ true → is_null (orient (vector_of s.a) (vector_of s.b) (vector_of t.b)) ≡ true → is_plus (order (vector_of s.a) (vector_of t.b)) ≡ true → is_plus (order (vector_of t.a) (vector_of s.b)) ≡ true → ⊥
       begins Less e a_on b_on ta tb low high = false≢true (sym (node_outside t.a first_node) ∙ inside t.a ta (before_back s.a t.a e) high)
       begins Equal e a_on b_on ta tb low high = ends (loc_cmp s.b t.b) refl ((exact s.a t.a).0 e) b_on tb low high
-      begins Greater e a_on b_on ta tb low high = none_between nodes t s.a up next (meets.first a_on) (loc_cmp_total.antisymm t.a s.a ∙ ap ordering_reverse e) (before s.a t.b low)
+      begins Greater e a_on b_on ta tb low high = none_between nodes t s.a up next (meets.first a_on) (loc_cmp_total.antisymm t.a s.a ∙ ap ordering_reverse e) (before_less s.a t.b low)
 
   pub clear_of_piece : conflict_of s t ≡ None
   unfolding are_overlapping are_crossing

@@ -1,19 +1,18 @@
 -- The segments along which a sided list of whole segments runs: no two conflict, and at each location an even number of them end.
-use Rattle.std.proofs.Common.{◌≡◌, ⊎_elim, ℕ, suc, pos, ◌+◌, ◌*ℤ◌, ◌||◌, Bool, true, false, cond, if◌then◌else◌, List, [], ◌∷◌, All, Contains, Some, None, refl, sym, ap, subst, ◌∙◌, arith}
+use Rattle.std.proofs.Common.{◌≡◌, ⊎_elim, ℕ, suc, ◌+◌, ◌||◌, Bool, true, false, cond, if◌then◌else◌, List, [], ◌∷◌, All, Contains, Some, None, refl, sym, ap, subst, ◌∙◌, arith}
 use Rattle.std.specs.declared.cmp.Ordering.{Ordering}
 use Rattle.std.specs.declared.cmp.Ordering.TheVariants.{Less, Equal, Greater}
 use Rattle.std.specs.List.{cons_option, sum_by}
 use Rattle.std.specs.Ordering.{is_eq}
 use Rattle.std.proofs.lemmas.Bool.{false≢true}
 use Rattle.std.proofs.lemmas.Cmp.{tied_itself}
-use Rattle.std.proofs.lemmas.Int.{ints}
 use Rattle.std.proofs.lemmas.List.Sums.{sum_by-cons}
 use Rattle.plane.specs.Bit.{bit}
 use Rattle.plane.specs.Conflict.{IsClearOf}
 use Rattle.plane.specs.Edge as plane
 use Rattle.plane.specs.Sign.{is_plus, negated}
 use Rattle.plane.specs.Vector.{one_at, same_point}
-use Rattle.plane.proofs.PlaneKit.{order-reversed, same_point-refl, same_point-true, same_vector}
+use Rattle.plane.proofs.PlaneKit.{order-reversed, same_point-refl, same_point-true}
 use Rattle.winding.specs.Ring.{segments_of}
 use Rattle.winding.specs.Sided as winding
 use Rattle.lists.specs.Member.{EachPair}
@@ -35,15 +34,13 @@ use Rattle.osm_sides.specs.Survivors.{HasEvenNodes, plane_edges_of}
 use Rattle.plane_edges.specs.Multiple.{edge_times, edges_times, point_times}
 use Rattle.plane_edges.specs.Sided.{IsSided}
 use Rattle.plane_edges.specs.SidedLaws.{IsLattice, LatticeIsSided}
+use Rattle.plane_edges.proofs.EdgesKit.{lattice_point}
 use Rattle.coast_sides.specs.Land.{AreClear}
 use Rattle.coast_sides.specs.Water.{segment_of, segments_along}
 use Rattle.coast_sides.proofs.EvenRings.{ends_are, ends_at, one, rising_none, seg_cmp_total}
 use Rattle.coast_sides.proofs.SomeMember.{member_cases, no_member}
 
 -- ---- an edge along a whole segment, in the plane
-
-lattice_point : (p : Loc) → point_times 1 (Lattice p) ≡ vector_of p
-lattice_point p = same_vector (pos 1 *ℤ (p.x *ℤ pos 1)) (pos 1 *ℤ (p.y *ℤ pos 1)) p.x p.y (omega (arith, ints)) (omega (arith, ints))
 
 module _ (e : Edge) (s : Seg) where
   edge_forth : e.from ≡ Lattice s.a → e.to ≡ Lattice s.b → edge_times 1 e ≡ edge_of s

@@ -1,5 +1,5 @@
 -- The envelope of a list: its points lie in it, and where all points lie between two numbers so does the envelope.
-use Rattle.std.proofs.Common.{Bool, List, [], arith, cond, false, inl, inr, pos, negsuc, refl, subst, sym, true, ℕ, ℤ, ◌*ℤ◌, ◌-ℤ◌, ◌∷◌, ◌≡◌, ◌≤◌, ◌≤ℤ◌}
+use Rattle.std.proofs.Common.{Bool, List, [], arith, cond, false, inl, inr, refl, subst, sym, true, ℤ, ◌-ℤ◌, ◌∷◌, ◌≡◌, ◌≤◌, ◌≤ℤ◌}
 use Rattle.std.proofs.lemmas.Int.{ints}
 use Rattle.plane.specs.Sign.{Minus, Null, Plus, Sign, is_minus, sign}
 use Rattle.lists.specs.Member.{In}
@@ -9,10 +9,9 @@ use Rattle.osm_geom.specs.declared.edge.Edge.{Edge}
 use Rattle.osm_geom.specs.declared.point.Point.{Point}
 use Rattle.osm_geom.specs.Cut.{coordinate_of}
 use Rattle.osm_geom.specs.Coordinate.{AtLeast, AtMost, ceiling_of, floor_of}
-use Rattle.osm_geom.specs.Point.{Fraction}
 use Rattle.coast_split.specs.SplitTree.{greater, high_from, high_of, lesser, low_from, low_of}
-use Rattle.plane.proofs.SignKit.{lift, same, ◌⊟◌, ◌⊠◌, says-at}
-use Rattle.osm_geom.proofs.GeometryKit.{ceiling-from, ceiling-is, floor-from, floor-is, x_den-some, y_den-some}
+use Rattle.plane.proofs.SignKit.{says-at}
+use Rattle.osm_geom.proofs.GeometryKit.{at_least_less, at_most_more, ceiling-from, ceiling-is, floor-from, floor-is, x_den-some, y_den-some}
 use Rattle.lists.proofs.ListsKit.{least_trans}
 
 -- ---- the lesser and the greater of two
@@ -59,16 +58,6 @@ pub record IsIn (axis : Axis) (a b : ℤ) (p : Point) : Type 0 where
 abbrev pub AllIn : Axis → ℤ → ℤ → List Edge → Type 0
 AllIn axis a b es = (e : Edge) → In e es → IsIn axis a b e.from × IsIn axis a b e.to
 
-difference : (a b k : ℤ) → b *ℤ k -ℤ a *ℤ k ≡ (b -ℤ a) *ℤ k
-difference a b k = let a' = lift a in let b' = lift b in let k' = lift k in same (b' ⊠ k' ⊟ a' ⊠ k') ((b' ⊟ a') ⊠ k') (omega arith)
-
-not-less : (z : ℤ) (k : ℕ) → pos 0 ≤ℤ z → pos 0 ≤ℤ (z *ℤ pos k)
-not-less (pos n) k h = omega (arith, ints)
-not-less (negsuc n) k h = absurd (omega (arith, ints))
-
-scale-by : (a b : ℤ) (k : ℕ) → a ≤ℤ b → (a *ℤ pos k) ≤ℤ (b *ℤ pos k)
-scale-by a b k h = let d = difference a b (pos k) in let n = not-less (b -ℤ a) k (omega (arith, ints)) in omega (arith, ints)
-
 module _ (axis : Axis) where
   low-least : (a : ℤ) (es : List Edge) → low_from axis a es ≤ℤ a
   low-least a [] = omega (arith, ints)
@@ -109,20 +98,11 @@ module _ (axis : Axis) where
       )
   high-each a (d ∷ es) e (inr i) = high-each (greater (greater a (ceiling_of (coordinate_of axis d.from))) (ceiling_of (coordinate_of axis d.to))) es e i
 
-  scale : (a b : ℤ) (k : ℕ) → a ≤ℤ b → (a *ℤ pos k) ≤ℤ (b *ℤ pos k)
-  scale a b k h = scale-by a b k h
-
-  at-least : (a b : ℤ) (g : Fraction) → a ≤ℤ b → AtLeast b g → AtLeast a g
-  at-least a b g h k = least_trans (a *ℤ pos g.den) (b *ℤ pos g.den) g.num (scale a b g.den h) k
-
-  at-most : (a b : ℤ) (g : Fraction) → a ≤ℤ b → AtMost g a → AtMost g b
-  at-most a b g h k = least_trans g.num (a *ℤ pos g.den) (b *ℤ pos g.den) k (scale a b g.den h)
-
   -- a list lies in its envelope
   in-envelope-by : (e0 : Edge) (es : List Edge) (p : Point) → low_of axis (e0 ∷ es) ≤ℤ floor_of (coordinate_of axis p) → ceiling_of (coordinate_of axis p) ≤ℤ high_of axis (e0 ∷ es) → IsIn axis (low_of axis (e0 ∷ es)) (high_of axis (e0 ∷ es)) p
   in-envelope-by e0 es p h k = record {
-    least = at-least (low_of axis (e0 ∷ es)) (floor_of (coordinate_of axis p)) (coordinate_of axis p) h (floor-is (coordinate_of axis p) (den-of axis p));
-    most = at-most (ceiling_of (coordinate_of axis p)) (high_of axis (e0 ∷ es)) (coordinate_of axis p) k (ceiling-is (coordinate_of axis p) (den-of axis p));
+    least = at_least_less (low_of axis (e0 ∷ es)) (floor_of (coordinate_of axis p)) (coordinate_of axis p) h (floor-is (coordinate_of axis p) (den-of axis p));
+    most = at_most_more (ceiling_of (coordinate_of axis p)) (high_of axis (e0 ∷ es)) (coordinate_of axis p) k (ceiling-is (coordinate_of axis p) (den-of axis p));
   }
 
   pub in-envelope : (es : List Edge) → AllIn axis (low_of axis es) (high_of axis es) es

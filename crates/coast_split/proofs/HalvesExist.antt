@@ -24,6 +24,7 @@ use Rattle.coast_split.proofs.LineOrders.{R}
 use Rattle.coast_split.proofs.LinePoints.{InOrder, Rises, in_order}
 use Rattle.coast_split.proofs.MadeHalves.{ends-are, from-in, to-in}
 use Rattle.coast_split.proofs.Walks.{line-self, on-cut}
+use Rattle.coast_split.proofs.InPlane.{side-null-by}
 
 -- ---- the point in which an edge meets the line
 record CrossingOf (cut : Cut) (e : Edge) : Type 0 where
@@ -61,10 +62,6 @@ opposite-back : (s : Side) (a b : Sign) → side_by s a ≡ Minus → side_by s 
 opposite-back Low a b h k = ap (λ x. are_opposite x b) h ∙ ap (are_opposite Minus) k
 opposite-back High a b h k = ap (λ x. are_opposite x b) (plus-of a h) ∙ ap (are_opposite Plus) (minus-of b k)
 
-side-null : (s : Side) (a : Sign) → a ≡ Null → side_by s a ≡ Null
-side-null Low a h = h
-side-null High a h = ap negated h
-
 module _ (cut : Cut) (s : Side) where
   -- ---- the portion of an edge
   record PortionOf (e : Edge) : Type 0 where
@@ -73,7 +70,7 @@ module _ (cut : Cut) (s : Side) where
 
   -- a point on the line is none on the side
   apart-by : (p q : Point) → side_of cut s p ≡ Plus → cut_order cut q ≡ Null → p ≡ q → ⊥
-  apart-by p q h k e = cc (sym h ∙ ap (side_of cut s) e ∙ side-null s (cut_order cut q) k)
+  apart-by p q h k e = cc (sym h ∙ ap (side_of cut s) e ∙ side-null-by s (cut_order cut q) k)
 
   end-plus : (c : Carrier) (v : Point) → side_of cut s v ≡ Plus → IsPortionEnd cut c v v (side_of cut s v)
   end-plus c v h = subst (IsPortionEnd cut c v v) (sym h) refl

@@ -81,6 +81,13 @@ pub record AreWhole (k : ℕ) (e : Edge) : Type 0 where
 abbrev pub line_times : Cut → Side → ℕ → Line
 line_times cut s k = scaled_line (pos k) (line_of cut s)
 
+-- ---- a point on the line, and one on an edge's carrier, multiplied
+pub cut-side-null : (cut : Cut) (s : Side) (k : ℕ) → 1 ≤ k → (z : Point) → den_of z ∣ k → cut_order cut z ≡ Null → side (line_times cut s k) (point_times k z) ≡ Null
+cut-side-null cut s k some z z-in on = side-times k some z z-in cut s ∙ side-null-by s (cut_order cut z) on
+
+pub edge-line-null : (e : Edge) (k : ℕ) → 1 ≤ k → den_of e.from ∣ k → den_of e.to ∣ k → (z : Point) → den_of z ∣ k → is_on e.carrier z ≡ true → orient (point_times k e.from) (point_times k e.to) (point_times k z) ≡ Null
+edge-line-null e k some a-in b-in z z-in on = collinear k e.carrier e.from e.to z some a-in b-in z-in e.from_on e.to_on on
+
 -- a list of cuttings in the plane: the edges, and their parts
 pub record Cuttings (cut : Cut) (s : Side) (k : ℕ) (es ts : List Edge) : Type 0 where
   pub cs : List Cutting

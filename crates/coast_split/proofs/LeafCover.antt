@@ -4,10 +4,11 @@ use borrow.Author.Differences.{ints}
 use Rattle.plane.specs.Edge as plane
 use Rattle.plane.specs.Scale.{scaled_point}
 use Rattle.plane.specs.Sign.{Minus, Null, Plus, Sign, sign}
-use Rattle.plane.specs.Vector.{Vector, east, from_to}
+use Rattle.plane.specs.Vector.{Vector, east}
 use Rattle.winding.specs.EdgeList.{down_count, up_count}
 use Rattle.lists.specs.Member.{In}
 use Rattle.winding.specs.ScaledEdges.{scaled_edges}
+use Rattle.winding.proofs.WindingKit.{counted-both-ways}
 use Rattle.halving.specs.Line.{scaled_line, side}
 use Rattle.osm_geom.specs.declared.cut.Axis.{Axis}
 use Rattle.osm_geom.specs.declared.cut.Axis.TheVariants.{X, Y}
@@ -21,8 +22,7 @@ use Rattle.coast_split.specs.Half.{IsHalf, line_by, line_of}
 use Rattle.coast_split.specs.SplitTree.{Covers, IsOffCuts, IsOffList, IsTree, SomeCovers, Tree, high_cut, leaves_of, low_cut, middle_of}
 use Rattle.coast_split.specs.SplitTree.Tree.{Fork, Whole}
 use Rattle.plane.proofs.SignKit.{lift, same, ◌⊞◌, ◌⊟◌, ◌⊠◌, agree-sum, plus-times, says-at, plus-not-minus, difference_turned}
-use Rattle.plane.proofs.PlaneKit.{down_seen, up_seen}
-use Rattle.lists.proofs.ListsKit.{in-either, in-left, in-right, total, total-+, total-is}
+use Rattle.lists.proofs.ListsKit.{in-either, in-left, in-right, odd_sum}
 use Rattle.coast_split.proofs.CutLines.{high-x, high-y, low-x, low-y}
 use Rattle.coast_split.proofs.SidedHalves.{half-beyond, half-kept, half-sided, off-beyond, off-kept}
 
@@ -34,25 +34,15 @@ module _ (q : ℤ) (hq : sign q ≡ Plus) (p : Vector) (es : List Edge) (sd : Is
   abbrev L : List plane.Edge
   L = scaled_edges q (whole_edges es)
 
-  both-ways : count_at q p es ≡ up_count east P L + down_count east P L
-  both-ways =
-      let a = total-is (λ e. up_seen east (from_to P) e + down_seen east (from_to P) e) L in
-      let b = total-+ (up_seen east (from_to P)) (down_seen east (from_to P)) L in
-      let c = total-is (up_seen east (from_to P)) L in let d = total-is (down_seen east (from_to P)) L in
-      sym a ∙ b ∙ ap (λ n. n + total (down_seen east (from_to P)) L) c ∙ ap (λ n. up_count east P L + n) d
-
   one-by : (n u d : ℕ) → n ≡ u + d → (pos u -ℤ pos d ≡ pos 0) ⊎ (pos u -ℤ pos d ≡ pos 1) → n % 2 ≡ 1 → pos u -ℤ pos d ≡ pos 1
   one-by n u d e (inr h) k = h
   one-by n u d e (inl h) k = let same : u ≡ d = omega (arith, ints) in let two : n ≡ 2 * u = omega arith in absurd (omega arith)
 
-  odd-by : (n u d : ℕ) → n ≡ u + d → pos u -ℤ pos d ≡ pos 1 → n % 2 ≡ 1
-  odd-by n u d e h = let more : u ≡ d + 1 = omega (arith, ints) in omega arith
-
   pub covers-once : Covers q p es → signed_count_at q p es ≡ pos 1
-  covers-once h = one-by (count_at q p es) (up_count east P L) (down_count east P L) both-ways (sd.counted q hq P off) h
+  covers-once h = one-by (count_at q p es) (up_count east P L) (down_count east P L) (counted-both-ways east P L) (sd.counted q hq P off) h
 
   pub once-covers : signed_count_at q p es ≡ pos 1 → Covers q p es
-  once-covers h = odd-by (count_at q p es) (up_count east P L) (down_count east P L) both-ways h
+  once-covers h = odd_sum (count_at q p es) (up_count east P L) (down_count east P L) (counted-both-ways east P L) h
 
 pub zero-one : (z : ℤ) → z ≡ pos 0 → z ≡ pos 1 → ⊥
 zero-one z e f = cc (sym e ∙ f)

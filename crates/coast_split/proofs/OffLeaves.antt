@@ -21,7 +21,7 @@ use Rattle.plane_edges.specs.Sided.{IsSided, count_at, signed_count_at}
 use Rattle.coast_split.specs.SplitTree.{Covers, IsOffCuts, IsOffLeaves, IsOffList, IsTree, SomeCovers, Tree, high_cut, leaves_of, low_cut, middle_of}
 use Rattle.coast_split.specs.SplitTree.Tree.{Fork, Whole}
 use Rattle.lists.proofs.ListsKit.{all-in, in-all, in-map, in-map-out, total-is, total-same}
-use Rattle.plane.proofs.PlaneKit.{cross-times, direction-back, point-twice, same_point-true, same_vector}
+use Rattle.plane.proofs.PlaneKit.{cross-times, direction-back, on-between, point-twice, same_point-true, same_vector}
 use Rattle.plane.proofs.SignKit.{lift, plus-times, same, sign-from, ◌⊟◌, ◌⊠◌}
 use Rattle.winding.proofs.WindingKit.{sided-scaled}
 use Rattle.plane_edges.proofs.EdgesKit.{common_is_common, sign-some}
@@ -30,7 +30,7 @@ use Rattle.coast_split.proofs.Aside.{IsUnit, aside, aside-left, off-cuts, unit-b
 use Rattle.coast_split.proofs.LeafCover.{covers-once, half-at, leaf-cover, leaves-sided, once-covers, zero-one}
 use Rattle.coast_split.proofs.LeafParts.{leaf-parts, same-parity}
 use Rattle.coast_split.proofs.NearPoints.{IsAlike, alike-later, count-near, covers-here, covers-near, later-each, near-times, off-near}
-use Rattle.coast_split.proofs.OnEdges.{between-near, edge-direction, on-between}
+use Rattle.coast_split.proofs.OnEdges.{between-near, edge-direction}
 use Rattle.coast_split.proofs.SidedHalves.{half-sided}
 
 -- ---- off the list and the cuts

@@ -1,59 +1,18 @@
 -- A point on an edge is one of its ends, close to which there are points strictly inside the edge, or is strictly inside it.
-use Rattle.std.proofs.Common.{Bool, List, ap, arith, cond, false, not, pos, refl, true, ℤ, ◌*ℤ◌, ◌+ℤ◌, ◌-ℤ◌, ◌∙◌, ◌≡◌}
+use Rattle.std.proofs.Common.{Bool, List, ap, arith, cond, false, pos, true, ℤ, ◌*ℤ◌, ◌+ℤ◌, ◌-ℤ◌, ◌∙◌, ◌≡◌}
 use Rattle.lists.specs.Member.{In}
 use Rattle.paths.specs.Near.{near}
 use Rattle.plane.specs.Edge.{Edge, IsRising, is_rising, reversed, segment_of}
 use Rattle.plane.specs.FreeSegment.{IsBetween}
-use Rattle.plane.specs.RayCrossing.{is_off, off_by}
 use Rattle.plane.specs.Scale.{scaled_point}
-use Rattle.plane.specs.Sign.{Minus, Null, Plus, Sign, is_plus, sign}
-use Rattle.plane.specs.Vector.{IsDirection, Vector, cross, dot, from_to, same_point}
+use Rattle.plane.specs.Sign.{Plus, sign}
+use Rattle.plane.specs.Vector.{IsDirection, Vector, cross, dot, from_to}
 use Rattle.winding.specs.Ring.{segments_of}
 use Rattle.winding.specs.Sided.{IsSided}
 use Rattle.lists.proofs.ListsKit.{in-map}
-use Rattle.plane.proofs.PlaneKit.{direction-back, dot2, from_to-scaled, from_to2, lift2, off_by-no, orient-round, rising-direction, same_vector}
-use Rattle.plane.proofs.SignKit.{agree, agree-sum, lift, plus-times, same, ◌⊞◌, ◌⊟◌, ◌⊠◌}
+use Rattle.plane.proofs.PlaneKit.{direction-back, from_to-scaled, rising-direction, same_vector}
+use Rattle.plane.proofs.SignKit.{lift, plus-times, same, ◌⊞◌, ◌⊟◌, ◌⊠◌}
 use Rattle.winding.proofs.WindingKit.{rising_in}
-use Rattle.paths.proofs.PathsKit.{step-direction}
-
--- ---- strictly between the ends
-off_by-plus : (c s : Sign) → off_by c s ≡ false → not (is_plus s) ≡ true
-off_by-plus Null Null h = refl
-off_by-plus Null Minus h = refl
-off_by-plus Null Plus h = absurd (cc h)
-off_by-plus Minus s h = absurd (cc h)
-off_by-plus Plus s h = absurd (cc h)
-
-first-plus : (s t u : Sign) → agree s t u ≡ true → not (is_plus t) ≡ true → u ≡ Plus → s ≡ Plus
-first-plus Plus t u a n h = refl
-first-plus Null Null u a n h = cc
-first-plus Null Minus u a n h = cc
-first-plus Null Plus u a n h = cc
-first-plus Minus Null u a n h = cc
-first-plus Minus Minus u a n h = cc
-first-plus Minus Plus u a n h = cc
-
-after : (s t p : Vector) → dot (from_to s t) (from_to s p) +ℤ dot (from_to p s) (from_to p t) ≡ dot (from_to p s) (from_to p s)
-after s t p =
-    let s' = lift2 s in let t' = lift2 t in let p' = lift2 p in
-    same (dot2 (from_to2 s' t') (from_to2 s' p') ⊞ dot2 (from_to2 p' s') (from_to2 p' t')) (dot2 (from_to2 p' s') (from_to2 p' s')) (omega arith)
-
-before : (s t p : Vector) → dot (from_to s t) (from_to p t) +ℤ dot (from_to p s) (from_to p t) ≡ dot (from_to p t) (from_to p t)
-before s t p =
-    let s' = lift2 s in let t' = lift2 t in let p' = lift2 p in
-    same (dot2 (from_to2 s' t') (from_to2 p' t') ⊞ dot2 (from_to2 p' s') (from_to2 p' t')) (dot2 (from_to2 p' t') (from_to2 p' t')) (omega arith)
-
-pub on-between : (s : Edge) (p : Vector) → is_off p s ≡ false → same_point p s.from ≡ false → same_point p s.to ≡ false → IsBetween s.from s.to p
-on-between s p o f t =
-    let c = sign (cross (from_to p s.from) (from_to p s.to)) in let d = sign (dot (from_to p s.from) (from_to p s.to)) in
-    let n = off_by-plus c d o in
-    record {
-      on_line = ap sign (orient-round p s.from s.to) ∙ off_by-no c d o;
-      after_s = first-plus (sign (dot (from_to s.from s.to) (from_to s.from p))) d (sign (dot (from_to p s.from) (from_to p s.from)))
-          (agree-sum (dot (from_to s.from s.to) (from_to s.from p)) (dot (from_to p s.from) (from_to p s.to)) (dot (from_to p s.from) (from_to p s.from)) (after s.from s.to p)) n (step-direction p s.from f);
-      before_t = first-plus (sign (dot (from_to s.from s.to) (from_to p s.to))) d (sign (dot (from_to p s.to) (from_to p s.to)))
-          (agree-sum (dot (from_to s.from s.to) (from_to p s.to)) (dot (from_to p s.from) (from_to p s.to)) (dot (from_to p s.to) (from_to p s.to)) (before s.from s.to p)) n (step-direction p s.to t);
-    }
 
 -- ---- close to an end of an edge, c / k of the way along it
 way-there : (k x d : ℤ) → (k *ℤ x +ℤ d) -ℤ k *ℤ x ≡ d

@@ -3,10 +3,8 @@ use Rattle.std.proofs.Common.{Bool, List, [], ap, false, inl, inr, refl, subst, 
 use Prim.Native.Nat.{◌∣◌}
 use Rattle.std.proofs.Math.Nat.{dvd-mul_left, dvd-mul_left_of_dvd, dvd-mul_right, dvd-mul_right_of_dvd}
 use Rattle.plane.specs.Sign.{Minus, Null, Plus, Sign, is_plus, negated}
-use Rattle.plane.specs.Vector.{orient}
 use Rattle.lists.specs.Member.{EachPair, In}
 use Rattle.winding.specs.Parity.{is_even}
-use Rattle.halving.specs.Line.{side}
 use Rattle.osm_geom.specs.declared.cut.Cut.{Cut}
 use Rattle.osm_geom.specs.declared.cut.Side.{Side}
 use Rattle.osm_geom.specs.declared.edge.Edge.{Edge}
@@ -24,7 +22,7 @@ use Rattle.halving.proofs.HalvingKit.{meeting-one, meeting-one-back}
 use Rattle.osm_geom.proofs.GeometryKit.{edge-from-fields}
 use Rattle.plane_edges.proofs.EdgesKit.{den-some, product-some, same_is_same}
 use Rattle.coast_split.proofs.CutLines.{side-times}
-use Rattle.coast_split.proofs.InPlane.{collinear, line_times, side-null-by}
+use Rattle.coast_split.proofs.InPlane.{cut-side-null, edge-line-null, line_times}
 use Rattle.coast_split.proofs.LineOrders.{line-back}
 use Rattle.coast_split.proofs.Walks.{line-self}
 
@@ -48,29 +46,17 @@ module _ (cut : Cut) (s : Side) (e : Edge) (z w : Point) (oz : cut_order cut z �
   w-in : den_of w ∣ k
   w-in = dvd-mul_left_of_dvd (den_of w) (dvd-mul_left (den_of w) (den_of z)) (den_of e.from * den_of e.to)
 
-  on-z : side (line_times cut s k) (point_times k z) ≡ Null
-  on-z = side-times k some z z-in cut s ∙ side-null-by s (cut_order cut z) oz
-
-  on-w : side (line_times cut s k) (point_times k w) ≡ Null
-  on-w = side-times k some w w-in cut s ∙ side-null-by s (cut_order cut w) ow
-
-  line-z : orient (point_times k e.from) (point_times k e.to) (point_times k z) ≡ Null
-  line-z = collinear k e.carrier e.from e.to z some a-in b-in z-in e.from_on e.to_on hz
-
-  line-w : orient (point_times k e.from) (point_times k e.to) (point_times k w) ≡ Null
-  line-w = collinear k e.carrier e.from e.to w some a-in b-in w-in e.from_on e.to_on hw
-
   pub one-off : side_of cut s e.from ≡ Plus → side_of cut s e.to ≡ Minus → z ≡ w
   one-off ha hb =
       let l = line_times cut s k in
       same_is_same k z w some z-in w-in (meeting-one l.along (point_times k e.from) (point_times k e.to) (point_times k z) (point_times k w) l.level
-      (side-times k some e.from a-in cut s ∙ ha) (side-times k some e.to b-in cut s ∙ hb) on-z line-z on-w line-w)
+      (side-times k some e.from a-in cut s ∙ ha) (side-times k some e.to b-in cut s ∙ hb) (cut-side-null cut s k some z z-in oz) (edge-line-null e k some a-in b-in z z-in hz) (cut-side-null cut s k some w w-in ow) (edge-line-null e k some a-in b-in w w-in hw))
 
   pub one-onto : side_of cut s e.from ≡ Minus → side_of cut s e.to ≡ Plus → z ≡ w
   one-onto ha hb =
       let l = line_times cut s k in
       same_is_same k z w some z-in w-in (meeting-one-back l.along (point_times k e.from) (point_times k e.to) (point_times k z) (point_times k w) l.level
-      (side-times k some e.from a-in cut s ∙ ha) (side-times k some e.to b-in cut s ∙ hb) on-z line-z on-w line-w)
+      (side-times k some e.from a-in cut s ∙ ha) (side-times k some e.to b-in cut s ∙ hb) (cut-side-null cut s k some z z-in oz) (edge-line-null e k some a-in b-in z z-in hz) (cut-side-null cut s k some w w-in ow) (edge-line-null e k some a-in b-in w w-in hw))
 
 module _ (cut : Cut) (s : Side) where
   ends-by : (e : Edge) (z w x y : Point) (a b : Sign) → side_of cut s e.from ≡ a → side_of cut s e.to ≡ b → (is_plus a || is_plus b) ≡ true →

@@ -4,10 +4,9 @@ use Prim.Native.Nat.{◌∣◌}
 use Rattle.std.proofs.lemmas.Int.{ints}
 use Rattle.std.proofs.Math.Nat.{dvd-mul_left, dvd-mul_right_of_dvd, dvd-mul_right}
 use Rattle.plane.specs.Sign.{Minus, Null, Plus, Sign, is_minus, is_plus, sign}
-use Rattle.plane.specs.Vector.{Vector, cross, from_to, orient}
+use Rattle.plane.specs.Vector.{Vector, cross, from_to}
 use Rattle.lists.specs.Member.{In}
 use Rattle.winding.specs.Parity.{is_even}
-use Rattle.halving.specs.Line.{side}
 use Rattle.osm_geom.specs.declared.cut.Axis.{Axis}
 use Rattle.osm_geom.specs.declared.cut.Axis.TheVariants.{X, Y}
 use Rattle.osm_geom.specs.declared.cut.Cut.{Cut}
@@ -26,7 +25,7 @@ use Rattle.plane_edges.proofs.EdgesKit.{den-some, product-some}
 use Rattle.osm_geom.proofs.GeometryKit.{order_at}
 use Rattle.coast_split.proofs.CutLines.{side-times, x-before, y-before}
 use Rattle.coast_split.proofs.Envelopes.{AllIn, IsIn}
-use Rattle.coast_split.proofs.InPlane.{collinear, line_times, side-null-by}
+use Rattle.coast_split.proofs.InPlane.{cut-side-null, edge-line-null, line_times, side-null-by}
 
 -- ---- a mean is between, on each axis
 x-is : (c : ℤ) (v : Vector) → cross (record { x = pos 0; y = pos 1 }) (from_to (record { x = c; y = pos 0 }) v) ≡ c -ℤ v.x
@@ -58,12 +57,6 @@ module _ (cut : Cut) (s : Side) (e : Edge) (z : Point) (oz : cut_order cut z ≡
   z-in : den_of z ∣ k
   z-in = dvd-mul_left (den_of z) (den_of e.from * den_of e.to)
 
-  on-z : side (line_times cut s k) (point_times k z) ≡ Null
-  on-z = side-times k some z z-in cut s ∙ side-null-by s (cut_order cut z) oz
-
-  line-z : orient (point_times k e.from) (point_times k e.to) (point_times k z) ≡ Null
-  line-z = collinear k e.carrier e.from e.to z some a-in b-in z-in e.from_on e.to_on hz
-
   order-by : (axis : Axis) (c : ℤ) → IsMean (point_times k e.from) (point_times k e.to) (point_times k z) → agree (order_at axis c e.from) (order_at axis c e.to) (order_at axis c z) ≡ true
   order-by X c i = rw (← x-before k some e.from a-in c, ← x-before k some e.to b-in c, ← x-before k some z z-in c) (mean-x (point_times k e.from) (point_times k e.to) (point_times k z) (pos k *ℤ c) i)
   order-by Y c i = rw (← y-before k some e.from a-in c, ← y-before k some e.to b-in c, ← y-before k some z z-in c) (mean-y (point_times k e.from) (point_times k e.to) (point_times k z) (pos k *ℤ c) i)
@@ -71,12 +64,12 @@ module _ (cut : Cut) (s : Side) (e : Edge) (z : Point) (oz : cut_order cut z ≡
   pub between-off : side_of cut s e.from ≡ Plus → side_of cut s e.to ≡ Minus → (axis : Axis) (c : ℤ) → agree (order_at axis c e.from) (order_at axis c e.to) (order_at axis c z) ≡ true
   between-off ha hb axis c =
       let l = line_times cut s k in
-      order-by axis c (meeting-is-mean l.along (point_times k e.from) (point_times k e.to) (point_times k z) l.level (side-times k some e.from a-in cut s ∙ ha) (side-times k some e.to b-in cut s ∙ hb) on-z line-z)
+      order-by axis c (meeting-is-mean l.along (point_times k e.from) (point_times k e.to) (point_times k z) l.level (side-times k some e.from a-in cut s ∙ ha) (side-times k some e.to b-in cut s ∙ hb) (cut-side-null cut s k some z z-in oz) (edge-line-null e k some a-in b-in z z-in hz))
 
   pub between-onto : side_of cut s e.from ≡ Minus → side_of cut s e.to ≡ Plus → (axis : Axis) (c : ℤ) → agree (order_at axis c e.from) (order_at axis c e.to) (order_at axis c z) ≡ true
   between-onto ha hb axis c =
       let l = line_times cut s k in
-      order-by axis c (meeting-is-mean-back l.along (point_times k e.from) (point_times k e.to) (point_times k z) l.level (side-times k some e.from a-in cut s ∙ ha) (side-times k some e.to b-in cut s ∙ hb) on-z line-z)
+      order-by axis c (meeting-is-mean-back l.along (point_times k e.from) (point_times k e.to) (point_times k z) l.level (side-times k some e.from a-in cut s ∙ ha) (side-times k some e.to b-in cut s ∙ hb) (cut-side-null cut s k some z z-in oz) (edge-line-null e k some a-in b-in z z-in hz))
 
 -- ---- the range of a point, by signs
 least-by : (x y : ℤ) (s : Sign) → sign (x -ℤ y) ≡ s → x ≤ℤ y → not (is_plus s) ≡ true

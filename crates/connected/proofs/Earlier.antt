@@ -12,7 +12,7 @@ use Rattle.lists.specs.Member.{In}
 use Rattle.winding.specs.Ring.{IsAnchor}
 use Rattle.connected.specs.Earlier.{is_earlier}
 use Rattle.lists.proofs.ListsKit.{and-left, and-right, into-filter, not-not, or-out}
-use Rattle.plane.proofs.PlaneKit.{cross-negated, order-null, order-reversed, order-self-null, right_of, same_edge-true, same_point-refl, same_point-true, zero-end}
+use Rattle.plane.proofs.PlaneKit.{cross-negated, order-null, order-reversed, order-self-null, right_of, same_edge-true, same_point-refl, same_point-true, tall-by, zero-end}
 use Rattle.plane.proofs.SignKit.{bit-same, null-zero, sign-*, sign-reversed, times}
 use Rattle.winding.proofs.WindingKit.{low-by, ok, ok-self, ok_by, right-level, to_right}
 
@@ -56,12 +56,9 @@ not-ok-null a m q h =
     ap (λ s. ok_by s (orient a.from a.to m.to)) n ∙ ap (λ s. not (is_plus s)) o
 
 module _ (es : List Edge) (pl : IsConflictFree es) (a m : Edge) (ia : In a es) (im : In m es) (sa : is_in_span a.from a ≡ true) (sm : is_in_span a.from m ≡ true) (right : right_of a.from m a ≡ true) where
-  tall-a : sign (a.to.y -ℤ a.from.y) ≡ Plus
-  tall-a = (low-by (sign (a.from.y -ℤ a.from.y)) (sign (a.to.y -ℤ a.from.y)) sa).1
-
   level-by : sign (m.from.y -ℤ a.from.y) ≡ Null → (is_plus (orient a.from a.to m.from) ≡ true) ⊎ ((same_point m.from a.from && is_minus (orient m.from m.to a.to)) ≡ true) → ok a m ≡ false
   level-by lo (inl h) =
-      let x = level-left (a.to.x -ℤ a.from.x) (a.to.y -ℤ a.from.y) (m.from.x -ℤ a.from.x) (m.from.y -ℤ a.from.y) tall-a lo (plus-of (orient a.from a.to m.from) h) in
+      let x = level-left (a.to.x -ℤ a.from.x) (a.to.y -ℤ a.from.y) (m.from.x -ℤ a.from.x) (m.from.y -ℤ a.from.y) (tall-by a.from a sa) lo (plus-of (orient a.from a.to m.from) h) in
       not-ok-minus a m (ap (λ s. then_sign s (sign (m.from.x -ℤ a.from.x))) lo ∙ x)
     where
       plus-of : (s : Sign) → is_plus s ≡ true → s ≡ Plus

@@ -10,7 +10,7 @@ use Rattle.plane.specs.Sign.{Minus, Null, Plus, Sign, is_minus, is_null, is_plus
 use Rattle.plane.specs.Vector.{IsDirection, Vector, cross, dot, from_to}
 use Rattle.halving.specs.Line.{Line, has_part, order_along, scaled_line, side}
 use Rattle.plane.proofs.PlaneKit.{crossings_seen, same_vector, cross2, dot-chain, dot-here, dot2, frame-agree, from_to2, lift2, dot-there_back, off_by-set}
-use Rattle.plane.proofs.SignKit.{lift, same, ◌⊞◌, ◌⊟◌, ◌⊠◌, agree, agree-sum, all-out, both, imp, imp-out, left-out, null-zero, plus-times, right-out, same_bool, same_bool-true, same_sign, same_sign-true, sign-reversed, times, null-first, all3-out, same_bool-is, not-null-negated}
+use Rattle.plane.proofs.SignKit.{lift, same, ◌⊞◌, ◌⊟◌, ◌⊠◌, agree, agree-sum, all-out, both, imp, imp-out, left-out, null-zero, plus-times, right-out, same_bool, same_bool-true, same_sign, same_sign-true, sign-reversed, times, null-first, all3-out, same_bool-is, not-null-negated, minus_zeros}
 use Rattle.halving.proofs.Sides.{off-level, rise, side-sum}
 
 -- ---- points on the line
@@ -36,10 +36,6 @@ x-by u d = let u' = lift2 u in let d' = lift2 d in same (dot2 u' u' ⊠ d'.x2) (
 y-by : (u d : Vector) → dot u u *ℤ d.y ≡ u.y *ℤ dot u d +ℤ u.x *ℤ cross u d
 y-by u d = let u' = lift2 u in let d' = lift2 d in same (dot2 u' u' ⊠ d'.y2) (u'.y2 ⊠ dot2 u' d' ⊞ u'.x2 ⊠ cross2 u' d') (omega arith)
 
-minus-zeros : (a b x y : ℤ) → x ≡ pos 0 → y ≡ pos 0 → a *ℤ x -ℤ b *ℤ y ≡ pos 0
-minus-zeros a b x y h k =
-    ap (λ (z : ℤ). a *ℤ z -ℤ b *ℤ y) h ∙ ap (λ (z : ℤ). a *ℤ pos 0 -ℤ b *ℤ z) k ∙ (let a' = lift a in let b' = lift b in same (a' ⊠ lift (pos 0) ⊟ b' ⊠ lift (pos 0)) (lift (pos 0)) (omega arith))
-
 plus-zeros : (a b x y : ℤ) → x ≡ pos 0 → y ≡ pos 0 → a *ℤ x +ℤ b *ℤ y ≡ pos 0
 plus-zeros a b x y h k =
     ap (λ (z : ℤ). a *ℤ z +ℤ b *ℤ y) h ∙ ap (λ (z : ℤ). a *ℤ pos 0 +ℤ b *ℤ z) k ∙ (let a' = lift a in let b' = lift b in same (a' ⊠ lift (pos 0) ⊞ b' ⊠ lift (pos 0)) (lift (pos 0)) (omega arith))
@@ -52,7 +48,7 @@ pub one-place : (l : Line) (p q : Vector) → IsDirection l.along → side l p �
 one-place l p q d hp hq h =
     let u = l.along in let e = from_to p q in
     let dz = null-zero (dot u e) h in let cz = null-zero (cross u e) (rise-null l p q hp hq) in
-    let x = sym (plus-times (dot u u) e.x d) ∙ ap sign (x-by u e ∙ minus-zeros u.x u.y (dot u e) (cross u e) dz cz) in
+    let x = sym (plus-times (dot u u) e.x d) ∙ ap sign (x-by u e ∙ minus_zeros u.x u.y (dot u e) (cross u e) dz cz) in
     let y = sym (plus-times (dot u u) e.y d) ∙ ap sign (y-by u e ∙ plus-zeros u.y u.x (dot u e) (cross u e) dz cz) in
     same_vector p.x p.y q.x q.y (no-difference p.x q.x x) (no-difference p.y q.y y)
 

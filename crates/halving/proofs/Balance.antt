@@ -17,8 +17,8 @@ use Rattle.halving.specs.Half.{AreMeetings, Cutting, IsCut, closing, closing_fro
 use Rattle.halving.specs.Line.{Line, has_part, order_along, scaled_line, side}
 use Rattle.plane.proofs.PlaneKit.{ends_at-from, ends_at-to, crossings_seen, same_point-refl, same_point-true, down_seen, up_seen}
 use Rattle.plane.proofs.SignKit.{all4-out, imp, imp-out, neither-plus, plus-behind, bit-no}
-use Rattle.lists.proofs.ListsKit.{all-in, cond_by, in-all, in-map-out, none-sum, none_or_one, total, total-+, total-++, total-is, total-map, total-same}
-use Rattle.winding.proofs.WindingKit.{even-is, halves, odd-is, balanced-total, sided-scaled}
+use Rattle.lists.proofs.ListsKit.{all-in, cond_by, even_or_odd, in-all, in-map-out, none-sum, none_or_one, total, total-+, total-++, total-is, total-map, total-same}
+use Rattle.winding.proofs.WindingKit.{even-is, odd-is, balanced-total, sided-scaled}
 use Rattle.halving.proofs.Above.{WindsOnce}
 use Rattle.halving.proofs.AlongLine.{IsApart, after, along-negated, along-self, along-sum, middle, middle-down, middle-off, middle-side, middle-up, one-place, two-plus}
 use Rattle.halving.proofs.Counts.{along-line, in-parts, over-parts, seen-parts}
@@ -274,7 +274,7 @@ module _ (l : Line) (d : IsDirection l.along) (cs : List Cutting) (cut : IsCut l
       from-by (side l t.from) (side l t.to) (not (is_minus (order_along l w t.from))) (not (is_minus (order_along l w t.to))) (is_plus (order_along l z t.from)) (is_plus (order_along l z t.to)) k.from k.to k.some a.0 a.1) in
       let ab = total-+ (λ (t : Edge). after l z t.from) (λ (t : Edge). after l z t.to) T in
       let c = count-ends z in let e = same-ends in
-      parity-by (ends_from l T w) (ends_up_to l T z) begun (omega arith) (halves (ends_up_to l T z))
+      parity-by (ends_from l T w) (ends_up_to l T z) begun (omega arith) (even_or_odd (ends_up_to l T z))
 
   module _ (z w : Vector) (hz : side l z ≡ Null) (hw : side l w ≡ Null) (apart : AllApart z w) where
     abbrev m : Line

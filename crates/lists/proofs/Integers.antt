@@ -1,5 +1,6 @@
 -- Integers.
-use Rattle.std.proofs.Common.{arith, int_eq, pos, true, ℤ, ◌+ℤ◌, ◌-ℤ◌, ◌≡◌, ◌≤ℤ◌}
+use Rattle.std.proofs.Common.{arith, int_eq, negsuc, pos, true, ℕ, ℤ, ◌*ℤ◌, ◌+ℤ◌, ◌-ℤ◌, ◌<ℤ◌, ◌<◌, ◌≡◌, ◌≤ℤ◌}
+use Rattle.std.specs.Int.{int_div_euclid}
 use Rattle.std.proofs.lemmas.Bool.Decides.{Decides-int_eq}
 use Rattle.std.proofs.lemmas.Int.{ints}
 
@@ -24,3 +25,21 @@ least_trans a b c h k = omega (arith, ints)
 
 pub sum_none : (z : ℤ) → z +ℤ (pos 0 -ℤ z) ≡ pos 0
 sum_none z = omega (arith, ints)
+
+-- neither of two numbers is greater
+pub same_from_least : (a b : ℤ) → a ≤ℤ b → b ≤ℤ a → a ≡ b
+same_from_least a b h k = omega (arith, ints)
+
+pub product_not_below : (a b : ℤ) → pos 0 ≤ℤ a → pos 0 ≤ℤ b → pos 0 ≤ℤ (a *ℤ b)
+product_not_below (pos a) (pos b) h k = omega (arith, ints)
+product_not_below (negsuc a) b h k = absurd (omega (arith, ints))
+product_not_below a (negsuc b) h k = absurd (omega (arith, ints))
+
+-- a quotient rounded down, times its divisor
+pub floor_below : (z : ℤ) (k : ℕ) → 0 < k → (int_div_euclid z (pos k) *ℤ pos k) ≤ℤ z
+floor_below (pos a) k h = omega (arith, ints)
+floor_below (negsuc a) k h = omega (arith, ints)
+
+pub floor_above : (z : ℤ) (k : ℕ) → 0 < k → z <ℤ (int_div_euclid z (pos k) *ℤ pos k +ℤ pos k)
+floor_above (pos a) k h = omega (arith, ints)
+floor_above (negsuc a) k h = omega (arith, ints)

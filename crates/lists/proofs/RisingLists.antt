@@ -1,5 +1,5 @@
 -- Lists in strict order.
-use Rattle.std.proofs.Common.{All, Equal, Greater, Less, List, [], Ordering, ap, arith, cond, get_or, is_eq, length, length-append, refl, subst, suc, ℕ, ◌++◌, ◌∙◌, ◌∷◌, ◌≡◌}
+use Rattle.std.proofs.Common.{All, Equal, Greater, Less, List, [], Ordering, ap, arith, cond, get_or, is_eq, length, length-append, refl, subst, suc, ℕ, ◌++◌, ◌∙◌, ◌∷◌, ◌≡◌, false, ◌+◌, ◌≤◌}
 use Rattle.std.specs.Cmp.{IsTotalOrder}
 use Rattle.std.specs.Ordering.{ordering_reverse}
 use Rattle.std.proofs.Math.ListN.{get_or-append}
@@ -7,7 +7,7 @@ use Rattle.std.proofs.Math.Seq.{get_or-append_seam}
 use Rattle.std.proofs.lemmas.List.Elements.{All-cons}
 use Rattle.std.proofs.lemmas.List.Kept.{AllPairs-cons}
 use Rattle.lists.specs.Rising.{IsRising, count_of}
-use Rattle.lists.proofs.Counts.{count-cons, count_below, one_at_head}
+use Rattle.lists.proofs.Counts.{count-cons, count_below, count_none, one_at_head}
 
 module _ {X : Type 0} (R : X → X → Ordering) where
   pub rising-none : IsRising R []
@@ -55,3 +55,22 @@ module _ {X : Type 0} {R : X → X → Ordering} (o : IsTotalOrder R) where
       by_head Less e tails = absurd (omega (arith, same x, one_at_head o x xs, count_below o x (y ∷ ys) (above-all x y ys e down)))
       by_head Greater e tails = absurd (omega (arith, same y, one_at_head o y ys, count_below o y (x ∷ xs) (above-all y x xs (less_turned x y e) up)))
       by_head Equal e tails = let heads = exact x y e in let rest = tails heads in cc
+
+-- an order under which each item ties with itself alone
+module _ {X : Type 0} {R : X → X → Ordering} (itself : (x : X) → R x x ≡ Equal) (exact : (x y : X) → R x y ≡ Equal → x ≡ y) where
+  apart_from_above : (r : Ordering) (x y : X) → R y x ≡ r → R x y ≡ Less → is_eq r ≡ false
+  apart_from_above Less x y e less = refl
+  apart_from_above Greater x y e less = refl
+  apart_from_above Equal x y e less = let one : R x y ≡ Equal = ap (R x) (exact y x e) ∙ itself x in absurd (cc)
+
+  stands_once_by : (r : Ordering) (x y : X) (ys : List X) → R y x ≡ r → IsRising R (y ∷ ys) → count_of R x ys ≤ 1 → cond (is_eq r) 1 0 + count_of R x ys ≤ 1
+  stands_once_by Less x y ys e up later = omega arith
+  stands_once_by Greater x y ys e up later = omega arith
+  stands_once_by Equal x y ys e up later =
+      let below : All (λ z. R x z ≡ Less) ys = subst (λ w. All (λ z. R w z ≡ Less) ys) (exact y x e) (rising-head R y ys up) in
+      omega (arith, count_none R x ys (λ k d h. apart_from_above (R (get_or ys k d) x) x (get_or ys k d) refl (below k d h)))
+
+  -- in a list in strict order each item stands once at most
+  pub stands_once : (x : X) (xs : List X) → IsRising R xs → count_of R x xs ≤ 1
+  stands_once x [] up = omega arith
+  stands_once x (y ∷ ys) up = omega (arith, count-cons R x y ys, stands_once_by (R y x) x y ys refl up (stands_once x ys (rising-tail R y ys up)))

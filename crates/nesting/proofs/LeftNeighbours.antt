@@ -24,7 +24,7 @@ use Rattle.nesting.proofs.OuterTests.{HasAnchors, IsDirectBy}
 use Rattle.std.proofs.lemmas.Bool.{and_from, and_parts}
 use Rattle.plane.proofs.PlaneKit.{same_edge-refl, same_edge-true, right_chain, right_itself, right_of, tall-by, order-null, same_point-refl}
 use Rattle.plane.proofs.SignKit.{lift, same, ◌⊟◌, ◌⊠◌, null-zero, self-diff, sign-*, sign-reversed, times, bit-same}
-use Rattle.winding.proofs.WindingKit.{anchor_runs, anchor_span, rising_in, split_off, low-by, right-level, spanning_runs, to_right, even-next}
+use Rattle.winding.proofs.WindingKit.{anchor_runs, anchor_span, rising_in, split_off, right-level, spanning_runs, to_right, even-next}
 
 -- ---- of the edges of a ring at the height of its anchor the anchor is the leftmost
 zero-end : (x y z w : ℤ) → z ≡ pos 0 → x *ℤ z -ℤ y *ℤ w ≡ pos 0 -ℤ w *ℤ y
@@ -53,9 +53,6 @@ module _ (h : List Edge) (ph : IsConflictFree h) (even : IsEvenAtPoints h) (a : 
   a-span : is_in_span a.from a ≡ true
   a-span = anchor_span a h ph even aa
 
-  a-high : sign (a.to.y -ℤ a.from.y) ≡ Plus
-  a-high = (low-by (sign (a.from.y -ℤ a.from.y)) (sign (a.to.y -ℤ a.from.y)) a-span).1
-
   starts-by : (t : Edge) → In t h → is_in_span a.from t ≡ true → same_edge a t ≡ false → (o : Sign) → order a.from t.from ≡ o → (is_plus (orient t.from t.to a.from) || (same_point a.from t.from && is_minus (orient a.from a.to t.to))) ≡ true
   starts-by t i s d Minus e = absurd (aa.least t i e)
   starts-by t i s d Plus e =
@@ -75,7 +72,7 @@ module _ (h : List Edge) (ph : IsConflictFree h) (even : IsEvenAtPoints h) (a : 
   pub anchor-first : (t : Edge) → In t h → is_in_span a.from t ≡ true → same_edge a t ≡ false → right_of a.from a t ≡ true
   anchor-first t i s d =
       let b = starts-by t i s d (order a.from t.from) refl in
-      let r = right-level a.from a h ph aa.member (self-diff a.from.y) a-high t i in
+      let r = right-level a.from a h ph aa.member (self-diff a.from.y) (tall-by a.from a a-span) t i in
       (and_parts (is_in_span a.from t) (right_of a.from a t) (sym (bit-same (starts_left_of a t) (is_in_span a.from t && right_of a.from a t) r) ∙ and_from (is_in_span a.from t) (is_plus (orient t.from t.to a.from) || (same_point a.from t.from && is_minus (orient a.from a.to t.to))) s b)).1
 
 even-one : (n : ℕ) → is_even n ≡ false → is_even (1 + n) ≡ true

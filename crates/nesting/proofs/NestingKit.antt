@@ -9,7 +9,7 @@ pub use Rattle.nesting.proofs.OuterTests.{IsDirectBy}
 pub use Rattle.nesting.proofs.Parts.{Once, differ, once-apart, plain-of, reversed-by, same-back, same-in, same-once, same-winding, sided-once, sided_same}
 pub use Rattle.nesting.proofs.Pieces.{append-assoc, last-in, piece_walk, pieces_same, ring_list}
 pub use Rattle.nesting.proofs.RingLists.{edges-segments, nest-plain, outer_down, pairs-of, ring_list_nest, runs_up_as}
-pub use Rattle.nesting.proofs.Rotations.{ring-turn, ring_rotated, rotated-length, rotated-total}
+pub use Rattle.nesting.proofs.Rotations.{ring-turn, ring_rotated, rotated-length, rotated-total, rotated-was}
 pub use Rattle.nesting.proofs.ScaledRings.{anchor-scaled, polygons_cover_at_fractions, ring-scaled}
 pub use Rattle.nesting.proofs.SidedPolygons.{polygon_sided}
 pub use Rattle.nesting.proofs.Stacks.{stack_cut_all, stack_rings, walk_path}

@@ -18,9 +18,9 @@ use Rattle.nesting.proofs.CoveredEdges.{IsClearOfAll}
 use Rattle.nesting.proofs.Nearest.{beyond-order, bit-both, same_beside, some_beyond, through}
 use Rattle.nesting.proofs.TwoLists.{clear-list, clear-reversed, differ-lists, first-right, not_both_in}
 use Rattle.std.proofs.lemmas.Bool.{and_parts, or_right}
-use Rattle.lists.proofs.ListsKit.{all-in, clash, in-all, in-either, in-left, in-passes, in-right, into-filter, none-sum, not-not, not-true-out, pairs-across, pairs-left, pairs-right, total, total-+, total-++, total-is, total-same}
+use Rattle.lists.proofs.ListsKit.{all-in, clash, even_or_odd, in-all, in-either, in-left, in-passes, in-right, into-filter, none-sum, not-not, not-true-out, pairs-across, pairs-left, pairs-right, total, total-+, total-++, total-is, total-same}
 use Rattle.plane.proofs.PlaneKit.{clear_back, same_edge-refl, same_edge-true, right_of}
-use Rattle.winding.proofs.WindingKit.{anchor_runs, rising_in, runs_from, same-parity, beyond, crossings-away, First, even-is, even-next, first_exists, halves, odd-is}
+use Rattle.winding.proofs.WindingKit.{anchor_runs, rising_in, runs_from, same-parity, beyond, crossings-away, First, even-is, even-next, first_exists, odd-is}
 
 pub plain-left : (xs ys : List Edge) → IsConflictFree (xs ++ ys) → IsConflictFree xs
 plain-left xs ys p = record { rising = all-in IsRising xs (λ t i. rising_in (xs ++ ys) t p (in-left xs ys t i)); clear = pairs-left IsClearOf xs ys p.clear }
@@ -102,7 +102,7 @@ odd-by n (inl h) = h ∙ sym (ap (λ b. bit (not b)) (even-is n h))
 odd-by n (inr h) = h ∙ sym (ap (λ b. bit (not b)) (odd-is n h))
 
 pub odd-bit : (n : ℕ) → n % 2 ≡ bit (not (is_even n))
-odd-bit n = odd-by n (halves n)
+odd-bit n = odd-by n (even_or_odd n)
 
 parity-sum : {X : Type 0} (f : X → ℕ) (xs : List X) → total f xs % 2 ≡ total (λ x. bit (not (is_even (f x)))) xs % 2
 parity-sum f [] = refl

@@ -20,8 +20,8 @@ use Rattle.nesting.proofs.Stretches.{Keeps, covers_same, cut_cycle, follow-weake
 use Rattle.nesting.proofs.Successors.{clear-two, first_same}
 use Rattle.nesting.proofs.TwoLists.{clear-list}
 use Rattle.plane.proofs.PlaneKit.{ends_at-to}
-use Rattle.winding.proofs.WindingKit.{way, way-direction, rising_in, even-is, halves, odd-is, ring-even, parity_round_node}
-use Rattle.lists.proofs.ListsKit.{all-in, in-either, in-map-out, pairs-append, pairs-left, pairs-right, pairs-weaker, total, total-++, total-is}
+use Rattle.winding.proofs.WindingKit.{way, way-direction, rising_in, even-is, odd-is, ring-even, parity_round_node}
+use Rattle.lists.proofs.ListsKit.{all-in, even_or_odd, in-either, in-map-out, pairs-append, pairs-left, pairs-right, pairs-weaker, total, total-++, total-is}
 
 -- ---- one parity along a list says that the other is not crossed
 even-sum : (m n : ℕ) → not (is_even m) ≡ not (is_even n) → (m % 2 ≡ 0) ⊎ (m % 2 ≡ 1) → (n % 2 ≡ 0) ⊎ (n % 2 ≡ 1) → (m + n) % 2 ≡ 0
@@ -37,7 +37,7 @@ not_crossed ss es ps pl even c k v s t i j hs ht =
     let b = parity_round_node (way v s) (way v t) v es (way-direction v s hs rs) (way-direction v t ht rt) even (off-list v s es rs pl cs hs) in
     let q = sym (in-from-end v s es rs pl even cs hs) ∙ k s t i j ∙ in-from-end v t es rt pl even ct ht in
     let m = crossing_count (way v s) v (away v es) in let n = crossing_count (way v t) v (away v es) in
-    let z = even-sum m n q (halves m) (halves n) in omega arith
+    let z = even-sum m n q (even_or_odd m) (even_or_odd n) in omega arith
 
 -- ---- the edges of the pieces
 pub cuts-in : (w : List Edge) (ps : List (List Edge)) → Cuts w ps → (p : List Edge) → In p ps → (x : Edge) → In x p → In x w

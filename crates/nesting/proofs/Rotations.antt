@@ -70,14 +70,14 @@ uncrossed-self rs ss us vs a b n v s t i j hs ht =
 abbrev Free : List Edge → List Edge → Type 0
 Free r s = DoNotCross (segments_of r) (segments_of s) × DoNotCross (segments_of s) (segments_of r)
 
--- the ring that it was
-was-by : (r : List Edge) (rs : List (List Edge)) (p : List Edge) (ps : List (List Edge)) → IsRotated r p → (q : List Edge) → (q ≡ p) ⊎ In q ps → (In q ps → (r : List Edge) × In r rs × IsRotated r q) → (u : List Edge) × In u (r ∷ rs) × IsRotated u q
-was-by r rs p ps t q (inl e) h = (r, inl refl, subst (λ l. IsRotated r l) (sym e) t)
-was-by r rs p ps t q (inr i) h = let a = h i in (a.0, inr a.1, a.2)
+-- the ring that it rotated-was
+rotated-was-by : (r : List Edge) (rs : List (List Edge)) (p : List Edge) (ps : List (List Edge)) → IsRotated r p → (q : List Edge) → (q ≡ p) ⊎ In q ps → (In q ps → (r : List Edge) × In r rs × IsRotated r q) → (u : List Edge) × In u (r ∷ rs) × IsRotated u q
+rotated-was-by r rs p ps t q (inl e) h = (r, inl refl, subst (λ l. IsRotated r l) (sym e) t)
+rotated-was-by r rs p ps t q (inr i) h = let a = h i in (a.0, inr a.1, a.2)
 
-was : (rs qs : List (List Edge)) → AreRotated rs qs → (q : List Edge) → In q qs → (r : List Edge) × In r rs × IsRotated r q
-was [] qs k q i = absurd (subst (λ l. In q l) k i)
-was (r ∷ rs) qs k q i = was-by r rs k.0 k.1 k.3 q (subst (λ l. In q l) k.2 i) (was rs k.1 k.4 q)
+pub rotated-was : (rs qs : List (List Edge)) → AreRotated rs qs → (q : List Edge) → In q qs → (r : List Edge) × In r rs × IsRotated r q
+rotated-was [] qs k q i = absurd (subst (λ l. In q l) k i)
+rotated-was (r ∷ rs) qs k q i = rotated-was-by r rs k.0 k.1 k.3 q (subst (λ l. In q l) k.2 i) (rotated-was rs k.1 k.4 q)
 
 edges-same : (rs qs : List (List Edge)) → AreRotated rs qs → (f : Edge → ℕ) → total f (edges_of qs) ≡ total f (edges_of rs)
 edges-same [] qs k f = ap (λ l. total f (edges_of l)) k
@@ -90,7 +90,7 @@ free-rotated [] qs k p = subst (EachPair Free) (sym k) tt
 free-rotated (r ∷ rs) qs k p =
     subst (EachPair Free) (sym k.2) (
       all-in (Free k.0) k.1 (λ s i.
-          let w = was rs k.1 k.4 s i in let n = in-all (Free r) rs w.0 p.0 w.1 in
+          let w = rotated-was rs k.1 k.4 s i in let n = in-all (Free r) rs w.0 p.0 w.1 in
           let a = rotated-same r k.0 k.3 in let b = rotated-same w.0 s w.2 in
           (uncrossed-self r w.0 k.0 s a b n.0, uncrossed-self w.0 r s k.0 b a n.1)),
       free-rotated rs k.1 k.4 p.1,
@@ -98,8 +98,8 @@ free-rotated (r ∷ rs) qs k p =
 
 pub rotated_rings : (rs qs : List (List Edge)) → AreRotated rs qs → IsRingList rs → IsRingList qs
 rotated_rings rs qs k l = record {
-  ring = λ q i. let w = was rs qs k q i in ring_rotated w.0 q w.2 (l.ring w.0 w.1);
-  long = λ q i. let w = was rs qs k q i in rotated-length w.0 q w.2 (l.long w.0 w.1);
+  ring = λ q i. let w = rotated-was rs qs k q i in ring_rotated w.0 q w.2 (l.ring w.0 w.1);
+  long = λ q i. let w = rotated-was rs qs k q i in rotated-length w.0 q w.2 (l.long w.0 w.1);
   sided = sided_same (edges_of rs) l.sided (edges_of qs) (λ f. sym (total-is f (edges_of qs)) ∙ edges-same rs qs k f ∙ total-is f (edges_of rs));
   free = free-rotated rs qs k l.free;
 }

@@ -20,7 +20,7 @@ use Rattle.nesting.proofs.CoveredEdges.{or-swap, same_in, segment-ends-by}
 use Rattle.lists.proofs.ListsKit.{all-in, in-filter, in-map, in-map-out, in-passes, none-sum, not-not, not-true-out, total-same}
 use Rattle.plane.proofs.PlaneKit.{ends_at-to, same_edge-refl, same_edge-true, same_point-refl, same_point-true, cross-negated, cross-self, frame-dot-agree}
 use Rattle.plane.proofs.SignKit.{agree, all, all-out, all2-out, all4-out, imp, imp-out, times, bit-same}
-use Rattle.winding.proofs.WindingKit.{leaves, no-loop, out_count, way, way-direction, ways_apart, clear_pair, off_away, rising_in, split_off, differ-parity, spokes-is, odds, parity_round_node, sided-even, sided_direct}
+use Rattle.winding.proofs.WindingKit.{leaves, no-loop, out_count, way, way-direction, ways_apart, clear_pair, off_away, split_off, differ-parity, spokes-is, odds, parity_round_node, sided-even, sided_direct, segment-rises}
 
 abbrev pub is_some : Sign → Sign → Bool
 is_some x y = agree (times x x) (times y y) Plus
@@ -100,7 +100,7 @@ not-member e g rs n i true h = absurd (n (subst (λ w. In w rs) (sym (same_edge-
 
 module _ (es : List Edge) (sd : IsSided es) where
   pub rise : (g : Edge) → In g es → IsRising (segment_of g)
-  rise g i = rising_in (segments_of es) (segment_of g) sd.plain (in-map segment_of es g i)
+  rise = segment-rises es sd.plain
 
   pub up-even : IsEvenAtPoints (segments_of es)
   up-even = sided-even es sd.balanced

@@ -1,31 +1,19 @@
 -- Where the signed count of a list is 0 or 1, it is the parity of its count.
-use Rattle.std.proofs.Common.{List, ap, arith, inl, inr, pos, refl, suc, sym, zero, ℕ, ℤ, ◌%◌, ◌+◌, ◌*◌, ◌-ℤ◌, ◌<◌, ◌∙◌, ◌≡◌, ◌⊎◌}
+use Rattle.std.proofs.Common.{List, ap, arith, inl, inr, pos, sym, ℕ, ℤ, ◌%◌, ◌+◌, ◌*◌, ◌-ℤ◌, ◌∙◌, ◌≡◌, ◌⊎◌}
 use Rattle.std.proofs.lemmas.Int.{ints}
 use Rattle.plane.specs.Edge as plane
 use Rattle.plane.specs.Scale.{scaled_point}
-use Rattle.plane.specs.Vector.{Vector, east, from_to}
-use Rattle.plane.proofs.PlaneKit.{down_seen, up_seen}
+use Rattle.plane.specs.Vector.{Vector, east}
 use Rattle.winding.specs.EdgeList.{down_count, up_count}
 use Rattle.winding.specs.ScaledEdges.{scaled_edges}
-use Rattle.lists.proofs.ListsKit.{total, total-+, total-is}
+use Rattle.winding.proofs.WindingKit.{counted-both-ways}
+use Rattle.lists.proofs.ListsKit.{even_or_odd, odd_sum}
 use Rattle.osm_geom.specs.declared.edge.Edge.{Edge}
 use Rattle.plane_edges.specs.Multiple.{common_den, whole_edges}
 use Rattle.plane_edges.specs.Sided.{count_at, signed_count_at}
 
-odd-one : (n u d : ℕ) → n ≡ u + d → pos u -ℤ pos d ≡ pos 1 → n % 2 ≡ 1
-odd-one n u d e h = let more : u ≡ d + 1 = omega (arith, ints) in omega arith
-
 even-none : (n u d : ℕ) → n ≡ u + d → pos u -ℤ pos d ≡ pos 0 → n % 2 ≡ 0
 even-none n u d e h = let same : u ≡ d = omega (arith, ints) in let two : n ≡ 2 * u = omega arith in omega arith
-
--- the remainder of a number is 0 or 1
-none-or-one : (k : ℕ) → (k % 2 ≡ 0) ⊎ (k % 2 ≡ 1)
-none-or-one k = by (k % 2) (omega arith)
-  where
-    by : (r : ℕ) → r < 2 → (r ≡ 0) ⊎ (r ≡ 1)
-    by zero h = inl refl
-    by (suc zero) h = inr refl
-    by (suc (suc r)) h = absurd (omega arith)
 
 module _ (q : ℤ) (p : Vector) (es : List Edge) where
   abbrev P : Vector
@@ -34,18 +22,11 @@ module _ (q : ℤ) (p : Vector) (es : List Edge) where
   abbrev L : List plane.Edge
   L = scaled_edges q (whole_edges es)
 
-  both-ways : count_at q p es ≡ up_count east P L + down_count east P L
-  both-ways =
-      let a = total-is (λ e. up_seen east (from_to P) e + down_seen east (from_to P) e) L in
-      let b = total-+ (up_seen east (from_to P)) (down_seen east (from_to P)) L in
-      let c = total-is (up_seen east (from_to P)) L in let d = total-is (down_seen east (from_to P)) L in
-      sym a ∙ b ∙ ap (λ n. n + total (down_seen east (from_to P)) L) c ∙ ap (λ n. up_count east P L + n) d
-
   pub once-odd : signed_count_at q p es ≡ pos 1 → count_at q p es % 2 ≡ 1
-  once-odd h = odd-one (count_at q p es) (up_count east P L) (down_count east P L) both-ways h
+  once-odd h = odd_sum (count_at q p es) (up_count east P L) (down_count east P L) (counted-both-ways east P L) h
 
   pub none-even : signed_count_at q p es ≡ pos 0 → count_at q p es % 2 ≡ 0
-  none-even h = even-none (count_at q p es) (up_count east P L) (down_count east P L) both-ways h
+  none-even h = even-none (count_at q p es) (up_count east P L) (down_count east P L) (counted-both-ways east P L) h
 
   -- where the signed count is a parity, so is the count
   odd-by : (k : ℕ) → signed_count_at q p es ≡ pos (k % 2) → (k % 2 ≡ 0) ⊎ (k % 2 ≡ 1) → count_at q p es % 2 ≡ 1 → pos (k % 2) ≡ pos 1
@@ -53,7 +34,7 @@ module _ (q : ℤ) (p : Vector) (es : List Edge) where
   odd-by k h (inl e) odd = let even = none-even (h ∙ ap (λ n. pos n) e) in absurd (omega arith)
 
   pub odd-parity : (k : ℕ) → signed_count_at q p es ≡ pos (k % 2) → count_at q p es % 2 ≡ 1 → pos (k % 2) ≡ pos 1
-  odd-parity k h odd = odd-by k h (none-or-one k) odd
+  odd-parity k h odd = odd-by k h (even_or_odd k) odd
 
   pub parity-odd : (k : ℕ) → signed_count_at q p es ≡ pos (k % 2) → pos (k % 2) ≡ pos 1 → count_at q p es % 2 ≡ 1
   parity-odd k h e = once-odd (h ∙ e)
@@ -63,4 +44,4 @@ module _ (q : ℤ) (p : Vector) (es : List Edge) where
   parity-by k h (inr e) = ap (λ n. pos n) (once-odd (h ∙ ap (λ n. pos n) e) ∙ sym e)
 
   pub parity-is : (k : ℕ) → signed_count_at q p es ≡ pos (k % 2) → pos (count_at q p es % 2) ≡ pos (k % 2)
-  parity-is k h = parity-by k h (none-or-one k)
+  parity-is k h = parity-by k h (even_or_odd k)

@@ -16,8 +16,7 @@ use Rattle.winding.specs.Sided.{IsSided}
 use Rattle.one_ring_list.specs.RingListOf.{AreSameRings}
 use Rattle.nesting.proofs.NestingKit.{sided_same, rotated-total}
 use Rattle.lists.proofs.ListsKit.{total, total-is}
-use Rattle.winding.proofs.WindingKit.{directed_sided, sided-even}
-use Rattle.one_ring_list.proofs.Returns.{closed-balanced}
+use Rattle.winding.proofs.WindingKit.{closed-balanced, directed_sided, sided-even}
 use Rattle.one_ring_list.proofs.ByComputing.{plain-out, ring-by, uncrossed-out}
 
 -- ---- the crescents

@@ -4,9 +4,9 @@ use Rattle.nesting.specs.Walk.{Follow, IsNextClockwise, IsSuccessor, IsWalk, las
 use Rattle.plane.specs.Bit.{bit}
 use Rattle.plane.specs.Edge.{Edge, ends_at, same_edge, segment_of}
 use Rattle.plane.specs.Sector.{in_sector}
-use Rattle.plane.specs.Vector.{IsDirection, Vector, one_at, same_point}
+use Rattle.plane.specs.Vector.{IsDirection, Vector, same_point}
 use Rattle.winding.specs.ConflictFree.{IsConflictFree}
-use Rattle.winding.specs.EdgeList.{IsBalanced, IsEvenAtPoints, crossing_count}
+use Rattle.winding.specs.EdgeList.{IsEvenAtPoints, crossing_count}
 use Rattle.lists.specs.Member.{In}
 use Rattle.winding.specs.Node.{away}
 use Rattle.winding.specs.Parity.{is_even}
@@ -15,8 +15,8 @@ use Rattle.winding.specs.Sided.{IsSided}
 use Rattle.nesting.proofs.NestingKit.{Once, differ, once-apart, plain-of, clear-two, next_leaves, no-loop-segments, none-between, rise, sector-either, sector-first, segment-back, segment-ends, sym-differs, apart, follow-left}
 use Rattle.std.proofs.lemmas.Bool.{false_from_ne_true, or_right}
 use Rattle.plane.proofs.PlaneKit.{same_edge-refl, same_edge-true, same_point-refl, same_point-true}
-use Rattle.winding.proofs.WindingKit.{way, way-direction, ways_apart, spokes-is, even-is, halves, odd-is, path-ends, parity_round_node, sided-even}
-use Rattle.lists.proofs.ListsKit.{in-all, in-left, in-right, pairs-left, total, total-is, total-map, total-same}
+use Rattle.winding.proofs.WindingKit.{way, way-direction, ways_apart, spokes-is, even-is, odd-is, parity_round_node, sided-even, closed-balanced}
+use Rattle.lists.proofs.ListsKit.{even_or_odd, in-all, in-left, in-right, pairs-left, total, total-map, total-same}
 use Rattle.one_ring_list.proofs.Cyclic.{both_or_none}
 use Rattle.one_ring_list.proofs.Sees.{off, walk_sees, way-from}
 
@@ -48,10 +48,6 @@ count-one f (x ∷ xs) o (inr i) =
 pub path-last : (a b : Vector) (c : Edge) (cs : List Edge) → IsPath a (c ∷ cs) b → (last c cs).to ≡ b
 path-last a b c [] p = p.1
 path-last a b c (d ∷ cs) p = path-last c.to b d cs p.1
-
-pub closed-balanced : (a : Vector) (p : List Edge) → IsPath a p a → IsBalanced p
-closed-balanced a p h v =
-    let k = path-ends v a a p h in let b = total-is (λ (e : Edge). one_at v e.from) p in let c = total-is (λ (e : Edge). one_at v e.to) p in omega arith
 
 module _ (es : List Edge) (sd : IsSided es) (P : Vector) (f g : Edge) (fi : In f es) (gi : In g es) (qf : P ≡ f.from) (qg : P ≡ g.from) (fg : same_edge f g ≡ false) where
   abbrev w : Edge → Vector
@@ -209,7 +205,7 @@ module _ (es : List Edge) (sd : IsSided es) (P : Vector) (f g : Edge) (fi : In f
     not-shared =
         let b = parity_round_node (w f) (w g) P X (w-way f fi hf) (w-way g gi hg) even (off es sd p sub plain even P f fi hf) in
         let m = crossing_count (w f) P (away P X) in let n = crossing_count (w g) P (away P X) in
-        let e = same-even m n sees (halves m) (halves n) in
+        let e = same-even m n sees (even_or_odd m) (even_or_odd n) in
         let s = spokes-is (w f) (w g) P X in
         let t = total-map H segment_of p in
         let u = total-same (λ (x : Edge). H (segment_of x)) (λ (x : Edge). A x + B x) p (λ x i. parts x (sub x i)) in

@@ -5,7 +5,7 @@ use Rattle.osm_lattice.specs.Bounds.{IsLatitude, IsLongitude}
 use Rattle.osm_lattice.specs.declared.frac.Frac.{Frac}
 use Rattle.osm_lattice.specs.declared.seg.Seg.{Seg}
 use Rattle.osm_lattice.specs.Meeting.{IsOnSegment}
-use Rattle.osm_lattice.proofs.LatticeKit.{frac_of, on_segment_in, signed}
+use Rattle.osm_lattice.proofs.LatticeKit.{distance_in, frac_of, on_segment_in}
 use Rattle.osm_geom.specs.declared.cut.Axis.{Axis}
 use Rattle.osm_geom.specs.declared.cut.Axis.TheVariants.{X, Y}
 use Rattle.osm_geom.specs.declared.cut.Cut.{Cut}
@@ -56,10 +56,6 @@ above-by x d hx hd hy (inl e) =
     record { point = p.point; x_is = p.x_is ∙ whole-is x e; y_is = p.y_is }
 above-by x d hx hd hy (inr h) = let p = part_of x (h, hd) hx in record { point = OnHorizontal p.part d; x_is = p.is; y_is = refl }
 
--- the distance of two longitudes
-distance-in : (a b : ℤ) → unsigned_abs a ≤ 1_800_000_000 → unsigned_abs b ≤ 1_800_000_000 → unsigned_abs (b -ℤ a) ≤ 3_600_000_000
-distance-in a b ha hb = omega (arith, signed)
-
 within : (a : ℕ) → a ≤ 900_000_000 → a ≤ 1_800_000_000
 within a h = omega arith
 
@@ -72,7 +68,7 @@ module _ (s : Seg) (cut : Cut) (c : ℤ) (is : cut.at ≡ c) where
       let d = unsigned_abs (s.b.x -ℤ s.a.x) in let w = unsigned_abs (c -ℤ s.a.x) in
       let f = frac_of (s.a.y *ℤ pos (d - w) +ℤ s.b.y *ℤ pos w) d (share s.a.x s.b.x c n).0 in let y = f.frac in
       let on : IsOnSegment s (whole_frac c) y = with-x s c y d w n refl refl f.value in
-      let p = beside-by c y (x-in s c n) (on_segment_in s (whole_frac c) y on).1 (at-most y.den d 3_600_000_000 f.at_most (distance-in s.a.x s.b.x s.a.x_in s.b.x_in)) (one-or-more y.den y.den_in) in
+      let p = beside-by c y (x-in s c n) (on_segment_in s (whole_frac c) y on).1 (at-most y.den d 3_600_000_000 f.at_most (distance_in s.a.x s.b.x s.a.x_in s.b.x_in)) (one-or-more y.den y.den_in) in
       record {
         point = p.point;
         on_segment = on-at s p.point (whole_frac c) y p.x_is p.y_is on;
@@ -84,7 +80,7 @@ module _ (s : Seg) (cut : Cut) (c : ℤ) (is : cut.at ≡ c) where
       let d = unsigned_abs (s.b.y -ℤ s.a.y) in let w = unsigned_abs (c -ℤ s.a.y) in
       let f = frac_of (s.a.x *ℤ pos (d - w) +ℤ s.b.x *ℤ pos w) d (share s.a.y s.b.y c n).0 in let x = f.frac in
       let on : IsOnSegment s x (whole_frac c) = with-y s x c d w n refl refl f.value in
-      let p = above-by x c (on_segment_in s x (whole_frac c) on).0 (at-most x.den d 3_600_000_000 f.at_most (distance-in s.a.y s.b.y (within (unsigned_abs s.a.y) s.a.y_in) (within (unsigned_abs s.b.y) s.b.y_in))) (y-in s c n) (one-or-more x.den x.den_in) in
+      let p = above-by x c (on_segment_in s x (whole_frac c) on).0 (at-most x.den d 3_600_000_000 f.at_most (distance_in s.a.y s.b.y (within (unsigned_abs s.a.y) s.a.y_in) (within (unsigned_abs s.b.y) s.b.y_in))) (y-in s c n) (one-or-more x.den x.den_in) in
       record {
         point = p.point;
         on_segment = on-at s p.point x (whole_frac c) p.x_is p.y_is on;

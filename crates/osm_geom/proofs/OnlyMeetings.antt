@@ -1,9 +1,9 @@
 -- A segment meets a line that it isn't parallel to in one point.
-use Rattle.std.proofs.Common.{◌≡◌, ◌≢◌, ◌*◌, ◌∙◌, ℕ, ℤ, pos, ◌*ℤ◌, ◌-ℤ◌, true, false, refl, ap, sym, subst, arith}
+use Rattle.std.proofs.Common.{◌≡◌, ◌≢◌, ◌*◌, ◌∙◌, ℕ, ℤ, pos, ◌*ℤ◌, ◌-ℤ◌, true, ap, sym, subst, arith}
 use Rattle.std.proofs.lemmas.Int.{ints}
-use Rattle.plane.specs.RayCrossing.{off_by}
 use Rattle.plane.specs.Sign.{Minus, Null, Plus, Sign, sign, then_sign}
-use Rattle.plane.proofs.SignKit.{lift, same, ◌⊟◌, ◌⊠◌, null-zero, plus-times, self-diff}
+use Rattle.plane.proofs.SignKit.{lift, same, ◌⊟◌, ◌⊠◌, null-zero, plus-times, self-diff, minus_zeros}
+use Rattle.plane.proofs.PlaneKit.{off_by-no}
 use Rattle.lists.proofs.ListsKit.{same_from_difference}
 use Rattle.osm_geom.specs.declared.cut.Axis.{Axis}
 use Rattle.osm_geom.specs.declared.cut.Axis.TheVariants.{X, Y}
@@ -47,12 +47,9 @@ apart-by d k m v w c =
     let d' = lift d in let k' = lift k in let m' = lift m in let v' = lift v in let w' = lift w in let c' = lift c in
     same (d' ⊠ (k' ⊠ w' ⊟ m' ⊠ v')) (k' ⊠ (w' ⊠ d' ⊟ m' ⊠ c') ⊟ m' ⊠ (v' ⊠ d' ⊟ k' ⊠ c')) (omega arith)
 
-nothing : (k m x y : ℤ) → x ≡ pos 0 → y ≡ pos 0 → k *ℤ x -ℤ m *ℤ y ≡ pos 0
-nothing k m x y h g = ap (λ z. k *ℤ z -ℤ m *ℤ y) h ∙ ap (λ z. k *ℤ pos 0 -ℤ m *ℤ z) g ∙ same (lift k ⊠ lift (pos 0) ⊟ lift m ⊠ lift (pos 0)) (lift (pos 0)) (omega arith)
-
 -- two numbers that k and m times one number give, over a denominator that isn't 0
 one-by : (d k m v w c : ℤ) → d ≢ pos 0 → v *ℤ d -ℤ k *ℤ c ≡ pos 0 → w *ℤ d -ℤ m *ℤ c ≡ pos 0 → sign (k *ℤ w -ℤ m *ℤ v) ≡ Null
-one-by d k m v w c some e f = ap sign (zero_other d (k *ℤ w -ℤ m *ℤ v) some (apart-by d k m v w c ∙ nothing k m (w *ℤ d -ℤ m *ℤ c) (v *ℤ d -ℤ k *ℤ c) f e))
+one-by d k m v w c some e f = ap sign (zero_other d (k *ℤ w -ℤ m *ℤ v) some (apart-by d k m v w c ∙ minus_zeros k m (w *ℤ d -ℤ m *ℤ c) (v *ℤ d -ℤ k *ℤ c) f e))
 
 at-one : (k m at u v : ℤ) → u ≡ k *ℤ at → v ≡ m *ℤ at → sign (k *ℤ v -ℤ m *ℤ u) ≡ Null
 at-one k m at u v h g =
@@ -64,11 +61,6 @@ on-line : (at n : ℤ) (d f : ℕ) → sign (at *ℤ pos d -ℤ n) ≡ Null → 
 on-line at n d f h =
     ap (λ z. z *ℤ pos f) (sym (same_from_difference (at *ℤ pos d) n (null-zero _ h))) ∙ same (lift at ⊠ nat d ⊠ nat f) (nat (d * f) ⊠ lift at) (omega arith)
 
-not-off : (c s : Sign) → off_by c s ≡ false → c ≡ Null
-not-off Null s h = refl
-not-off Plus s h = absurd (cc h)
-not-off Minus s h = absurd (cc h)
-
 both-null : (s t : Sign) → s ≡ Null → t ≡ Null → then_sign s t ≡ Null
 both-null Null t h g = g
 both-null Plus t h g = absurd (cc h)
@@ -78,7 +70,7 @@ module _ (s : Seg) (at : ℤ) where
   -- the cross product of the ways to both ends
   ways : (p : Point) → is_on (OfSeg s) p ≡ true →
       (pos (den_of p) *ℤ s.a.x -ℤ (whole_of p).x) *ℤ (pos (den_of p) *ℤ s.b.y -ℤ (whole_of p).y) -ℤ (pos (den_of p) *ℤ s.a.y -ℤ (whole_of p).y) *ℤ (pos (den_of p) *ℤ s.b.x -ℤ (whole_of p).x) ≡ pos 0
-  ways p h = null-zero _ (not-off _ _ (located-is s p h))
+  ways p h = null-zero _ (off_by-no _ _ (located-is s p h))
 
   ways-turned : (p : Point) → is_on (OfSeg s) p ≡ true →
       (pos (den_of p) *ℤ s.a.y -ℤ (whole_of p).y) *ℤ (pos (den_of p) *ℤ s.b.x -ℤ (whole_of p).x) -ℤ (pos (den_of p) *ℤ s.a.x -ℤ (whole_of p).x) *ℤ (pos (den_of p) *ℤ s.b.y -ℤ (whole_of p).y) ≡ pos 0

@@ -14,7 +14,7 @@ use Rattle.osm_geom.specs.Coordinate.{ceiling_of, floor_of}
 use Rattle.osm_geom.specs.Cut.{fraction}
 use Rattle.osm_geom.specs.Part.{IsPartDen, IsPartNum, part_num}
 use Rattle.osm_geom.specs.Point.{fraction_in}
-use Rattle.osm_lattice.proofs.LatticeKit.{frac_same}
+use Rattle.osm_lattice.proofs.LatticeKit.{frac_same, lowest_prop}
 use Rattle.osm_geom.proofs.Floors.{ceiling-of-sum, floor-and-rest, floor-of-sum, rest-below}
 
 pub part_den-some : (d : ℕ) → IsPartDen d → 1 ≤ d
@@ -33,9 +33,6 @@ above_prop m n = hlevel props
 
 num_prop : (z : ℤ) (n : ℕ) → IsProp (IsPartNum z n)
 num_prop z n = hlevel props
-
-lowest_prop : (z : ℤ) (n : ℕ) → IsProp (IsLowest z n)
-lowest_prop z n = hlevel props
 
 part_from_fields : (p q : Part) → p.floor ≡ q.floor → p.above ≡ q.above → p.den ≡ q.den → p ≡ q
 part_from_fields p q f a d = λ i. record {

@@ -1,8 +1,8 @@
 -- An edge spans a height where one of its ends is at most as high and the other is higher.
-use Rattle.std.proofs.Common.{◌≡◌, Bool, true, false, cond, not, ◌&&◌, ℕ, ℤ, pos, ◌*ℤ◌, ◌-ℤ◌, ◌+ℤ◌, refl, ap, subst, ◌∙◌, arith}
+use Rattle.std.proofs.Common.{◌≡◌, Bool, true, false, cond, not, ◌&&◌, ℤ, pos, ◌*ℤ◌, ◌-ℤ◌, ◌+ℤ◌, refl, ap, subst, ◌∙◌, arith}
 use mathlib.Core.Bool.{beq}
 use Rattle.plane.specs.Sign.{Sign, is_minus, is_plus, negated, sign, then_sign}
-use Rattle.plane.proofs.SignKit.{Split, agree, all4, all4-out, imp, imp-out, lift, plus-times, same, same_bool, same_bool-true, sign-reversed, weighted-agree, ◌⊞◌, ◌⊟◌, ◌⊠◌}
+use Rattle.plane.proofs.SignKit.{agree, all4, all4-out, imp, imp-out, lift, plus-times, rises_sum, same, same_bool, same_bool-true, sign-reversed, weighted-agree, ◌⊞◌, ◌⊟◌}
 use Rattle.osm_geom.specs.declared.edge.Edge.{Edge}
 use Rattle.osm_geom.specs.declared.point.Point.{Point}
 use Rattle.osm_geom.specs.Edge.{runs_up}
@@ -10,17 +10,12 @@ use Rattle.osm_geom.specs.Point.{den_of, point_order, whole_of, y_of}
 use Rattle.osm_geom.specs.Span.{height_order, spans}
 use Rattle.osm_geom.proofs.PointOrders.{y_den-sign, y_sign}
 
-heights-sum-is : (a b c : ℤ) (k m n : ℕ) → pos n *ℤ (b *ℤ pos k -ℤ a *ℤ pos m) +ℤ pos k *ℤ (c *ℤ pos m -ℤ b *ℤ pos n) ≡ pos m *ℤ (c *ℤ pos k -ℤ a *ℤ pos n)
-heights-sum-is a b c k m n =
-    let nat : ℕ → Split = λ i. record { z = pos i; p = i; n = 0; is = omega arith } in
-    same (nat n ⊠ (lift b ⊠ nat k ⊟ lift a ⊠ nat m) ⊞ nat k ⊠ (lift c ⊠ nat m ⊟ lift b ⊠ nat n)) (nat m ⊠ (lift c ⊠ nat k ⊟ lift a ⊠ nat n)) (omega arith)
-
 -- how far r is above p is how far q is above p and r above q
 heights-sum : (p q r : Point) → agree (height_order p q) (height_order q r) (height_order p r) ≡ true
 heights-sum p q r =
     let rise : Point → Point → ℤ = λ v w. (y_of w).num *ℤ pos (y_of v).den -ℤ (y_of v).num *ℤ pos (y_of w).den in
     subst (λ u. agree (height_order p q) (height_order q r) u ≡ true) (plus-times (pos (y_of q).den) (rise p r) (y_den-sign q))
-    (weighted-agree (pos (y_of r).den) (pos (y_of p).den) (rise p q) (rise q r) (pos (y_of q).den *ℤ rise p r) (y_den-sign r) (y_den-sign p) (heights-sum-is (y_of p).num (y_of q).num (y_of r).num (y_of p).den (y_of q).den (y_of r).den))
+    (weighted-agree (pos (y_of r).den) (pos (y_of p).den) (rise p q) (rise q r) (pos (y_of q).den *ℤ rise p r) (y_den-sign r) (y_den-sign p) (rises_sum (y_of p).num (y_of q).num (y_of r).num (y_of p).den (y_of q).den (y_of r).den))
 
 height-turned : (p q : Point) → height_order q p ≡ negated (height_order p q)
 height-turned p q =

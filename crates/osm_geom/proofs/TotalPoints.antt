@@ -1,9 +1,12 @@
 -- The order of points is total, and tells points apart.
-use Rattle.std.proofs.Common.{◌≡◌, ◌↔◌, ℤ, pos, ◌*ℤ◌, true, sym, ap, ◌∙◌, subst, arith}
+use Rattle.std.proofs.Common.{◌≡◌, ◌↔◌, ℤ, pos, ◌*ℤ◌, true, sym, ap, ◌∙◌, subst, arith, refl, ◌≢◌}
 use Rattle.std.proofs.lemmas.Int.{ints}
-use Rattle.std.proofs.lemmas.Cmp.{int_ranked, tied_itself}
+use Rattle.std.proofs.lemmas.Cmp.{tied_itself}
 use Rattle.std.specs.Cmp.{IsTotalOrder}
-use Rattle.std.specs.declared.cmp.Ordering.TheVariants.{Equal}
+use Rattle.std.specs.declared.cmp.Ordering.{Ordering}
+use Rattle.std.specs.declared.cmp.Ordering.TheVariants.{Equal, Greater, Less}
+use Rattle.std.specs.Ordering.{int_cmp, ordering_reverse}
+use Rattle.std.proofs.lemmas.Map.Lookups.{exact_pairs}
 use Rattle.plane.specs.Order.{order}
 use Rattle.plane.specs.Scale.{scaled_point}
 use Rattle.plane.proofs.SignKit.{agree}
@@ -12,8 +15,7 @@ use Rattle.osm_geom.specs.declared.point.Point.{Point}
 use Rattle.osm_geom.specs.declared.point.Point.TheVariants.{Lattice, OnVertical, OnHorizontal}
 use Rattle.osm_lattice.specs.OrderLaws.{ordering_of}
 use Rattle.osm_geom.specs.Point.{x_of, y_of, den_of, whole_of, point_order, point_cmp}
-use Rattle.osm_geom.specs.RatioOrder.{fraction_cmp}
-use Rattle.osm_lattice.proofs.LatticeKit.{loc_from_fields, then_equal}
+use Rattle.osm_lattice.proofs.LatticeKit.{int_same, loc_from_fields}
 use Rattle.osm_geom.proofs.Parts.{part_same, part_whole}
 use Rattle.osm_geom.proofs.PointOrders.{den-sign, point_cmp_is}
 use Rattle.osm_geom.proofs.SignOrders.{reverses, chains, ties_alike}
@@ -58,10 +60,17 @@ same_by (OnHorizontal x d) (OnHorizontal x' d') ex ey = ap (λ k. OnHorizontal k
 
 pub point_same : (p q : Point) → point_cmp p q ≡ Equal → p ≡ q
 point_same p q e =
-    let both = then_equal (fraction_cmp (y_of p) (y_of q)) (fraction_cmp (x_of p) (x_of q)) (point_cmp_is p q ∙ e) in
-    same_by p q
-    (int_ranked ((x_of p).num *ℤ pos (x_of q).den) ((x_of q).num *ℤ pos (x_of p).den) Equal (sym both.1))
-    (int_ranked ((y_of p).num *ℤ pos (y_of q).den) ((y_of q).num *ℤ pos (y_of p).den) Equal (sym both.0))
+    let both = exact_pairs int_cmp int_cmp int_same int_same ((y_of p).num *ℤ pos (y_of q).den, (x_of p).num *ℤ pos (x_of q).den) ((y_of q).num *ℤ pos (y_of p).den, (x_of q).num *ℤ pos (x_of p).den) (point_cmp_is p q ∙ e) in
+    same_by p q (ap (λ (z : ℤ × ℤ). z.1) both) (ap (λ (z : ℤ × ℤ). z.0) both)
+
+-- neither of two points is less
+pub neither_less : (p q : Point) → point_cmp p q ≢ Less → point_cmp q p ≢ Less → p ≡ q
+neither_less p q here there = by (point_cmp p q) refl
+  where
+    by : (o : Ordering) → point_cmp p q ≡ o → p ≡ q
+    by Less is = absurd (here is)
+    by Equal is = point_same p q is
+    by Greater is = absurd (there (point_total.antisymm q p ∙ ap ordering_reverse is))
 
 pub point_alone : (p q : Point) → (point_cmp p q ≡ Equal) ↔ (p ≡ q)
 point_alone p q = (point_same p q, λ e. subst (λ k. point_cmp p k ≡ Equal) e (tied_itself point_total p))

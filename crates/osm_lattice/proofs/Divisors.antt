@@ -3,6 +3,7 @@ use Rattle.std.proofs.Common.{◌≡◌, ℕ, zero, suc, ◌*◌, ◌/◌, ◌%�
 use Rattle.std.specs.Int.{IsGcd, w128}
 use Rattle.std.proofs.lemmas.Int.{ints, to_z-of_z, fits_signed_from_abs, quot_fits}
 use Rattle.osm_lattice.proofs.Exact.{held}
+use Rattle.osm_lattice.proofs.Sizes.{signed}
 use Rattle.std.proofs.Math.Nat.{div-mul_cancel, mul-dvd-mul_right, dvd_of_mul-dvd-mul_right, eq-one_of_dvd-one, le_of_dvd, pos_of_dvd_of_pos, one-mul}
 use Prim.Native.Nat.{◌∣◌}
 use Rattle.plane.proofs.SignKit.{lift, same, ◌⊠◌}
@@ -28,11 +29,7 @@ lowest n m g h some d in_n in_m =
 
 pub unsigned_abs-int_div : (z : ℤ) (g : ℕ) → unsigned_abs (int_div z (pos g)) ≡ unsigned_abs z / g
 unsigned_abs-int_div (pos a) g = refl
-unsigned_abs-int_div (negsuc a) g = abs_neg (suc a / g)
-  where
-    abs_neg : (n : ℕ) → unsigned_abs (neg_ℤ (pos n)) ≡ n
-    abs_neg zero = refl
-    abs_neg (suc n) = refl
+unsigned_abs-int_div (negsuc a) g = omega (arith, signed)
 
 pub int_div-exact : (z : ℤ) (g : ℕ) → g ∣ unsigned_abs z → int_div z (pos g) *ℤ pos g ≡ z
 int_div-exact (pos a) g h = let e = div-mul_cancel g h in omega (arith, ints)

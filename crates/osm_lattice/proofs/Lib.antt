@@ -8,6 +8,7 @@ mod Divisors
 mod Exact
 mod Factors
 mod Fractions
+mod Halves
 pub mod LatticeKit
 pub mod LocationOrder
 mod LowestTerms

@@ -41,6 +41,9 @@ same_den n d n' d' free free' e =
     (divides n d d' free (subst (λ k. d ∣ k) (sym e) (dvd-mul_left d n')))
     (divides n' d' d free' (subst (λ k. d' ∣ k) e (dvd-mul_left d' n)))
 
+pub lowest_prop : (z : ℤ) (n : ℕ) → IsProp (IsLowest z n)
+lowest_prop z n = hlevel props
+
 frac_from_parts : (f g : Frac) → f.num ≡ g.num → f.den ≡ g.den → f ≡ g
 frac_from_parts f g en ed = λ i. record {
   num = en i;
@@ -51,9 +54,6 @@ frac_from_parts f g en ed = λ i. record {
   where
     den_prop : (n : ℕ) → IsProp (1 ≤ n)
     den_prop n = hlevel props
-
-    lowest_prop : (z : ℤ) (n : ℕ) → IsProp (IsLowest z n)
-    lowest_prop z n = hlevel props
 
 pub frac_same : (f g : Frac) → f.num *ℤ pos g.den ≡ g.num *ℤ pos f.den → f ≡ g
 frac_same f g e =

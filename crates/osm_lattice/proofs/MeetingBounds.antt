@@ -10,7 +10,7 @@ use Rattle.osm_lattice.specs.declared.seg.Seg.{Seg}
 use Rattle.osm_lattice.specs.declared.frac.Frac.{Frac}
 use Rattle.osm_lattice.specs.Meeting.{IsOnSegment}
 use Rattle.lists.proofs.ListsKit.{same_from_difference}
-use Rattle.plane.proofs.PlaneKit.{off_by-no}
+use Rattle.plane.proofs.PlaneKit.{off_by-no, off_by-plus}
 
 -- both are Plus, or both are Minus
 abbrev pub alike : Sign → Sign → Bool
@@ -40,16 +40,9 @@ unalike a b c d z line sum back =
 pub apart_where_on : (a b c d : ℤ) → off_by (sign (a *ℤ d -ℤ c *ℤ b)) (sign (a *ℤ b +ℤ c *ℤ d)) ≡ false → (not (alike (sign a) (sign b)) ≡ true) × (not (alike (sign c) (sign d)) ≡ true)
 apart_where_on a b c d on =
     let line : a *ℤ d ≡ c *ℤ b = same_from_difference (a *ℤ d) (c *ℤ b) (null-zero (a *ℤ d -ℤ c *ℤ b) (off_by-no (sign (a *ℤ d -ℤ c *ℤ b)) (sign (a *ℤ b +ℤ c *ℤ d)) on)) in
-    let back = not_beside (sign (a *ℤ d -ℤ c *ℤ b)) (sign (a *ℤ b +ℤ c *ℤ d)) on in
+    let back = off_by-plus (sign (a *ℤ d -ℤ c *ℤ b)) (sign (a *ℤ b +ℤ c *ℤ d)) on in
     (unalike a b c d (a *ℤ b +ℤ c *ℤ d) line refl back, unalike c d a b (a *ℤ b +ℤ c *ℤ d) (sym line) (turned_sum (a *ℤ b) (c *ℤ d)) back)
   where
-    not_beside : (c s : Sign) → off_by c s ≡ false → not (is_plus s) ≡ true
-    not_beside Null Minus h = refl
-    not_beside Null Null h = refl
-    not_beside Null Plus h = absurd (cc h)
-    not_beside Plus s h = absurd (cc h)
-    not_beside Minus s h = absurd (cc h)
-
     turned_sum : (x y : ℤ) → y +ℤ x ≡ x +ℤ y
     turned_sum x y = omega (arith, ints)
 

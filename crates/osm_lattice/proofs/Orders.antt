@@ -1,10 +1,10 @@
 -- Two locations that compare as equal are one, and likewise segments.
-use Rattle.std.proofs.Common.{◌≡◌, ℤ, ap, refl, sym}
+use Rattle.std.proofs.Common.{◌≡◌, ℤ, ap, sym}
 use Rattle.std.proofs.Props.{props}
-use Rattle.std.specs.declared.cmp.Ordering.{Ordering}
-use Rattle.std.specs.declared.cmp.Ordering.TheVariants.{Less, Equal, Greater}
-use Rattle.std.specs.Ordering.{int_cmp, ordering_then}
+use Rattle.std.specs.declared.cmp.Ordering.TheVariants.{Equal}
+use Rattle.std.specs.Ordering.{int_cmp}
 use Rattle.std.proofs.lemmas.Cmp.{int_ranked}
+use Rattle.std.proofs.lemmas.Map.Lookups.{exact_pairs}
 use Rattle.plane.specs.Vector.{Vector}
 use Rattle.osm_lattice.specs.declared.loc.Loc.{Loc}
 use Rattle.osm_lattice.specs.declared.seg.Seg.{Seg}
@@ -42,20 +42,15 @@ seg_from_ends s t ea eb = λ i. record {
   rising = is_prop→PathP (λ j. IsBefore (ea j) (eb j)) (λ j. before_prop (ea j) (eb j)) s.rising t.rising i;
 }
 
-pub then_equal : (o p : Ordering) → ordering_then o p ≡ Equal → (o ≡ Equal) × (p ≡ Equal)
-then_equal Less p e = cc
-then_equal Equal p e = (refl, e)
-then_equal Greater p e = cc
-
-int_same : (x y : ℤ) → int_cmp x y ≡ Equal → x ≡ y
+pub int_same : (x y : ℤ) → int_cmp x y ≡ Equal → x ≡ y
 int_same x y e = int_ranked x y Equal (sym e)
 
 pub loc_same : (p q : Loc) → loc_cmp p q ≡ Equal → p ≡ q
 loc_same p q e =
-    let both = then_equal (int_cmp p.y q.y) (int_cmp p.x q.x) e in
-    loc_from_fields p q (int_same p.x q.x both.1) (int_same p.y q.y both.0)
+    let both = exact_pairs int_cmp int_cmp int_same int_same (p.y, p.x) (q.y, q.x) e in
+    loc_from_fields p q (ap (λ (z : ℤ × ℤ). z.1) both) (ap (λ (z : ℤ × ℤ). z.0) both)
 
 pub seg_same : (s t : Seg) → seg_cmp s t ≡ Equal → s ≡ t
 seg_same s t e =
-    let both = then_equal (loc_cmp s.a t.a) (loc_cmp s.b t.b) e in
-    seg_from_ends s t (loc_same s.a t.a both.0) (loc_same s.b t.b both.1)
+    let both = exact_pairs loc_cmp loc_cmp loc_same loc_same (s.a, s.b) (t.a, t.b) e in
+    seg_from_ends s t (ap (λ (z : Loc × Loc). z.0) both) (ap (λ (z : Loc × Loc). z.1) both)

@@ -17,7 +17,7 @@ use Rattle.osm_lattice.proofs.ConflictCases.{where_overlapping}
 use Rattle.osm_lattice.proofs.LocationOrder.{is_lt_before}
 use Rattle.lists.proofs.ListsKit.{less_from}
 
-before_less : (p q : Loc) → is_plus (order (vector_of p) (vector_of q)) ≡ true → loc_cmp p q ≡ Less
+pub before_less : (p q : Loc) → is_plus (order (vector_of p) (vector_of q)) ≡ true → loc_cmp p q ≡ Less
 unfolding before
 before_less p q h = less_from (loc_cmp p q) (is_lt_before p q ∙ h)
 

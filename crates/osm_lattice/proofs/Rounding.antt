@@ -1,10 +1,10 @@
 -- The size of a rounded fraction, and what it is next to.
 use Rattle.std.proofs.Common.{ℕ, ◌*◌, ◌<◌, ◌≤◌, ℤ, pos, negsuc, ◌+ℤ◌, ◌*ℤ◌, ◌≤ℤ◌, unsigned_abs, arith}
 use Rattle.std.specs.Int.{int_div_euclid}
-use Rattle.std.proofs.lemmas.Int.{ints}
 use Rattle.std.proofs.lemmas.Nat.{div_below}
 use Rattle.osm_lattice.specs.Frac.{rounded}
 use Rattle.osm_lattice.proofs.Sizes.{signed}
+use Rattle.lists.proofs.ListsKit.{floor_below}
 
 div_euclid_within : (z : ℤ) (k m : ℕ) → 0 < k → unsigned_abs z < m * k → unsigned_abs (int_div_euclid z (pos k)) ≤ m
 div_euclid_within (pos a) k m some h = omega (arith, div_below a k m some h)
@@ -16,7 +16,3 @@ rounded_within p q some h = div_euclid_within (pos 2 *ℤ p +ℤ pos q) (2 * q) 
 -- the rounded number lies at most half below the fraction, and less than half above it
 pub rounded_below : (p : ℤ) (q : ℕ) → 1 ≤ q → (rounded p q *ℤ pos (2 * q)) ≤ℤ (pos 2 *ℤ p +ℤ pos q)
 rounded_below p q some = floor_below (pos 2 *ℤ p +ℤ pos q) (2 * q) (omega arith)
-  where
-    floor_below : (z : ℤ) (k : ℕ) → 0 < k → (int_div_euclid z (pos k) *ℤ pos k) ≤ℤ z
-    floor_below (pos a) k h = omega (arith, ints)
-    floor_below (negsuc a) k h = omega (arith, ints)

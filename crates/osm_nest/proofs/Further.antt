@@ -1,5 +1,5 @@
 -- A list multiplied further: conflicts and anchors are those of the list.
-use Rattle.std.proofs.Common.{◌≡◌, inl, inr, true, List, [], ◌∷◌, ◌*◌, ℤ, pos, ℕ, ◌≤◌, get_or, sym, ap, subst, ◌∙◌, arith, zero, suc}
+use Rattle.std.proofs.Common.{◌≡◌, inl, inr, List, [], ◌∷◌, ◌*◌, ℤ, pos, ℕ, ◌≤◌, get_or, sym, ap, subst, ◌∙◌, arith, zero, suc}
 use Prim.Native.Nat.{◌∣◌}
 use Rattle.std.proofs.Math.Nat.{mul_comm, mul_left_comm}
 use Rattle.plane.specs.Conflict.{IsClearOf}
@@ -8,8 +8,8 @@ use Rattle.plane.specs.Edge.{IsRising, segment_of}
 use Rattle.plane.specs.Order.{order}
 use Rattle.plane.specs.Scale.{scaled_edge, scaled_point}
 use Rattle.plane.specs.Sign.{Minus, Plus, is_plus, sign}
-use Rattle.plane.specs.Vector.{Vector, orient, same_point}
-use Rattle.plane.proofs.PlaneKit.{same_point-refl, same_point-true, conflicts-scaled, order-scaled, orient-scaled, point-scaled}
+use Rattle.plane.specs.Vector.{orient}
+use Rattle.plane.proofs.PlaneKit.{conflicts-scaled, order-scaled, orient-scaled, point-back}
 use Rattle.winding.specs.ConflictFree.{IsConflictFree, others}
 use Rattle.lists.specs.Member.{EachPair, In}
 use Rattle.winding.specs.Ring.{IsAnchor, segments_of}
@@ -41,9 +41,6 @@ module _ (k : ℤ) (hk : sign k ≡ Plus) where
     clear = pairs-back es p.clear;
   }
 
-  point-back : (p q : Vector) → scaled_point k p ≡ scaled_point k q → p ≡ q
-  point-back p q e = same_point-true p q (sym (point-scaled k hk p q) ∙ subst (λ w. same_point (scaled_point k p) w ≡ true) e (same_point-refl (scaled_point k p)))
-
   pub anchor-scaled : (s : plane.Edge) (es : List plane.Edge) → IsAnchor s es → IsAnchor (scaled_edge k s) (scaled_edges k es)
   anchor-scaled s es a = record {
     member = in-map (scaled_edge k) es s a.member;
@@ -51,7 +48,7 @@ module _ (k : ℤ) (hk : sign k ≡ Plus) where
     leftmost = λ t i q.
         let r = in-map-out (scaled_edge k) (others s es) t (subst (λ l. In t l) (others-scaled k hk s es) i) in
         subst (λ (w : plane.Edge). orient (scaled_point k s.from) (scaled_point k s.to) w.to ≡ Minus) (sym r.2)
-        (orient-scaled k hk s.from s.to r.0.to ∙ a.leftmost r.0 r.1 (point-back s.from r.0.from (q ∙ ap (λ (w : plane.Edge). w.from) r.2)));
+        (orient-scaled k hk s.from s.to r.0.to ∙ a.leftmost r.0 r.1 (point-back k hk s.from r.0.from (q ∙ ap (λ (w : plane.Edge). w.from) r.2)));
   }
 
   anchor-back : (s : plane.Edge) (es : List plane.Edge) → In s es → IsAnchor (scaled_edge k s) (scaled_edges k es) → IsAnchor s es

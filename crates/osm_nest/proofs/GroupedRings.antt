@@ -28,7 +28,7 @@ use Rattle.osm_nest.proofs.DirectEnclosers.{inner-at, outer-at}
 use Rattle.osm_nest.proofs.TurnedAnchors.{runs-turned}
 use Rattle.osm_nest.proofs.BegunPolygons.{cover_begun, rings-total, sided_begun}
 use Rattle.osm_nest.proofs.Listing.{turned_all}
-use Rattle.osm_nest.proofs.Places.{placed, rings-apart, stand, sum-all, sum-one}
+use Rattle.osm_nest.proofs.Places.{placed, ring-at, rings-apart, stand, sum-all, sum-one}
 use Rattle.plane_edges.specs.Multiple.{IsWholeAt, common_den, edges_times}
 
 -- ---- lists
@@ -61,14 +61,11 @@ module _ (rs : List (List Edge)) (are : AreRings rs) (enclosers : List (Option �
   size : length gs ≡ length rs
   size = length-map rs (edges_times k)
 
-  at-place : (n : ℕ) → n < length rs → In (get_or gs n []) gs
-  at-place n h = let s = size in at-in gs n [] (omega arith)
-
   times-at : (n : ℕ) → n < length rs → get_or gs n [] ≡ edges_times k (get_or rs n [])
   times-at n h = get_or-map (edges_times k) rs n [] [] h
 
   in-segments : (n : ℕ) → n < length rs → In (segments_at rs n) (map segments_of gs)
-  in-segments n h = in-map segments_of gs (get_or gs n []) (at-place n h)
+  in-segments n h = in-map segments_of gs (get_or gs n []) (ring-at rs n h)
 
   encloser-at : (place : ℕ) (o : Option ℕ) → place < length rs → get_or enclosers place None ≡ o → IsDirectEncloser rs place o
   encloser-at place o h e = subst (IsDirectEncloser rs place) e (hs.right place h)
@@ -86,7 +83,7 @@ module _ (rs : List (List Edge)) (are : AreRings rs) (enclosers : List (Option �
   rings-differ : (m n : ℕ) → m ≢ n → m < length rs → n < length rs → edges_times k (get_or rs m []) ≡ edges_times k (get_or rs n []) → ⊥
   rings-differ m n d h l e =
       let s = size in
-      let long = are.ring_list.long (get_or gs m []) (at-place m h) in
+      let long = are.ring_list.long (get_or gs m []) (ring-at rs m h) in
       let x = some_member (get_or gs m []) (omega arith) in
       rings-apart gs (sided-once (edges_of gs) are.ring_list.sided) m n x.0 d (omega arith) (omega arith) x.1
       (subst (In x.0) (times-at m h ∙ (e ∙ sym (times-at n l))) x.1)
@@ -146,9 +143,9 @@ module _ (rs : List (List Edge)) (are : AreRings rs) (enclosers : List (Option �
         let h = (stands b i).0 in
         let here = times-at b.place h in
         record {
-          member = subst (λ r. In r gs) here (at-place b.place h);
+          member = subst (λ r. In r gs) here (ring-at rs b.place h);
           is_outer_ring = subst (λ r. IsOuterRing (map segments_of gs) (segments_of r)) here (encloser-at b.place None h (no-encloser-out (get_or enclosers b.place None) first));
-          inner_members = λ r j. let c = inner-of b r j in subst (λ s. In s gs) c.3 (at-place c.0.place c.1);
+          inner_members = λ r j. let c = inner-of b r j in subst (λ s. In s gs) c.3 (ring-at rs c.0.place c.1);
           are_inner_rings = λ r j. let c = inner-of b r j in subst (λ s. IsInnerRing (map segments_of gs) (segments_of s)) c.3 (encloser-at c.0.place (Some b.place) c.1 c.2).1;
           enclosed = λ r j.
               let c = inner-of b r j in

@@ -2,7 +2,7 @@
 use Rattle.std.proofs.Common.{All, Bool, ◌+◌, List, [], ap, arith, cond, false, inl, inr, map, nat_eq, not, refl, subst, sym, true, ℕ, ◌&&◌, ◌*◌, ◌++◌, ◌||◌, ◌∙◌, ◌∷◌, ◌≡◌, ◌≤◌, ◌⊎◌}
 use Rattle.std.specs.List.{sum_by}
 use Rattle.std.proofs.Math.Nat.{mul_assoc, mul_left_comm}
-use Rattle.std.proofs.lemmas.Bool.{eq-eqb, eqb-true, and_from, and_parts}
+use Rattle.std.proofs.lemmas.Bool.{eq-eqb, eqb-true, and_from, and_parts, or_left, or_right}
 use Rattle.nesting.specs.RingList.{IsRingList}
 use Rattle.plane.specs.Bit.{bit}
 use Rattle.plane.specs.Vector.{same_point}
@@ -48,20 +48,12 @@ is_along (Horizontal d) p q = false
 abbrev is_whole : Edge → Bool
 is_whole e = is_along e.carrier e.from e.to
 
-or-left : (b c : Bool) → b ≡ true → (b || c) ≡ true
-or-left true c h = refl
-or-left false c h = cc
-
-or-right : (b c : Bool) → c ≡ true → (b || c) ≡ true
-or-right true c h = refl
-or-right false c h = h
-
 whole-test : (e : Edge) → IsWholeSegment e → is_whole e ≡ true
 whole-test e w = rw (w.carrier, w.from, w.to) (by w.forward)
   where
     by : (f : Bool) → is_along (OfSeg w.segment) (cond f (Lattice w.segment.a) (Lattice w.segment.b)) (cond f (Lattice w.segment.b) (Lattice w.segment.a)) ≡ true
-    by true = or-left _ _ (and_from _ _ (at-own w.segment.a) (at-own w.segment.b))
-    by false = or-right (is_at (Lattice w.segment.b) w.segment.a && is_at (Lattice w.segment.a) w.segment.b) _ (and_from _ _ (at-own w.segment.b) (at-own w.segment.a))
+    by true = or_left _ _ (and_from _ _ (at-own w.segment.a) (at-own w.segment.b))
+    by false = or_right (is_at (Lattice w.segment.b) w.segment.a && is_at (Lattice w.segment.a) w.segment.b) _ (and_from _ _ (at-own w.segment.b) (at-own w.segment.a))
 
 test-whole : (e : Edge) → (c : Carrier) → e.carrier ≡ c → is_along c e.from e.to ≡ true → IsWholeSegment e
 test-whole e (Vertical c) is h = cc

@@ -10,9 +10,8 @@ use Rattle.std.proofs.lemmas.List.Sorted.{IsPermutation-append_comm, IsPermutati
 use Rattle.nesting.specs.Nesting.{EnclosesDirectly, IsInnerRing}
 use Rattle.nesting.proofs.NestingKit.{encloser_exists, is_outer_by, outer-in, rings-anchors, rings-tell}
 use Rattle.plane.specs.Edge as plane
-use Rattle.lists.specs.Member.{In}
 use Rattle.winding.specs.Ring.{segments_of}
-use Rattle.lists.proofs.ListsKit.{at-in, in-at, in-map}
+use Rattle.lists.proofs.ListsKit.{in-at, in-map}
 use Rattle.osm_geom.specs.declared.edge.Edge.{Edge}
 use Rattle.osm_geom.specs.Point.{point_cmp}
 use Rattle.plane_edges.specs.Multiple.{common_den, edge_times, edges_times}
@@ -23,7 +22,7 @@ use Rattle.osm_nest.specs.Enclosers.{AreDirectEnclosers, IsDirectEncloser, segme
 use Rattle.osm_nest.specs.Nested.{AreNested, IsFromLeast, edge_cmp}
 use Rattle.osm_nest.specs.RingLists.{AreRings, all_edges, whole_rings}
 use Rattle.osm_nest.proofs.GroupedRings.{nested}
-use Rattle.osm_nest.proofs.Places.{stand}
+use Rattle.osm_nest.proofs.Places.{ring-at, stand}
 use Rattle.osm_nest.proofs.Turns.{begun-some, first-ranks, turns}
 use Rattle.osm_rings.specs.LeastStart.{IsLesserStart}
 use Rattle.osm_rings.proofs.LeastStarts.{IsLeastUpTo, least-more, least-start}
@@ -162,20 +161,17 @@ module _ (rs : List (List Edge)) (are : AreRings rs) where
   abbrev gs : List (List plane.Edge)
   gs = whole_rings rs
 
-  at-place : (n : ℕ) → n < length rs → In (get_or gs n []) gs
-  at-place n h = let s = length-map rs (edges_times k) in at-in gs n [] (omega arith)
-
   inner-in : (n : ℕ) → n < length rs → is_outer_by gs are.ring_list (segments_at rs n) ≡ false → IsInnerRing (map segments_of gs) (segments_at rs n)
   inner-in n h e =
-      let i = in-map segments_of gs (get_or gs n []) (at-place n h) in
+      let i = in-map segments_of gs (get_or gs n []) (ring-at rs n h) in
       let a = rings-anchors gs are.ring_list (segments_at rs n) i in
       record { anchor = a.0; anchors = a.1; up = sym (rings-tell gs are.ring_list (segments_at rs n) i a.0 a.1) ∙ e }
 
   encloser-by : (n : ℕ) → n < length rs → (b : Bool) → is_outer_by gs are.ring_list (segments_at rs n) ≡ b → (o : Option ℕ) × IsDirectEncloser rs n o
-  encloser-by n h true e = (None, outer-in gs are.ring_list (segments_at rs n) (in-map segments_of gs (get_or gs n []) (at-place n h)) e)
+  encloser-by n h true e = (None, outer-in gs are.ring_list (segments_at rs n) (in-map segments_of gs (get_or gs n []) (ring-at rs n h)) e)
   encloser-by n h false e =
       let o = inner-in n h e in
-      let r = encloser_exists gs are.ring_list (get_or gs n []) (at-place n h) o in
+      let r = encloser_exists gs are.ring_list (get_or gs n []) (ring-at rs n h) o in
       let p = in-at r.0 gs r.1 in
       let s = length-map rs (edges_times k) in
       (Some p.0, (omega arith, o, subst (λ g. EnclosesDirectly (map segments_of gs) (segments_of g) (segments_at rs n)) (sym (p.2 [])) r.2))
@@ -188,7 +184,7 @@ module _ (rs : List (List Edge)) (are : AreRings rs) where
   -- ---- begun rings, in order
   some-edge : (n : ℕ) → n < length rs → 0 < length (get_or rs n [])
   some-edge n h =
-      let a = are.ring_list.long (get_or gs n []) (at-place n h) in
+      let a = are.ring_list.long (get_or gs n []) (ring-at rs n h) in
       let b = ap length (get_or-map (edges_times k) rs n [] [] h) in
       let c = length-map (get_or rs n []) (edge_times k) in omega arith
 

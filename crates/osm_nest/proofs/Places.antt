@@ -2,6 +2,7 @@
 use Rattle.std.proofs.Common.{All, AllPairs, List, [], ap, arith, get_or, length, refl, subst, suc, sym, zero, ℕ, ◌+◌, ◌<◌, ◌∙◌, ◌∷◌, ◌≡◌, ◌≢◌, ◌≤◌, ⊎_elim, nat_eq, Bool, true, false}
 use Rattle.std.specs.List.Sorted.{IsPermutation}
 use Rattle.std.proofs.lemmas.Bool.{cases_lt, eq-eqb, eqb-true}
+use Rattle.std.proofs.lemmas.List.{length-map}
 use Rattle.std.proofs.lemmas.List.Kept.{AllPairs-cons}
 use Rattle.std.proofs.lemmas.List.Sorted.{All-permutation, sum_by-IsPermutation}
 use Rattle.nesting.specs.Nesting.{edges_of}
@@ -9,11 +10,13 @@ use Rattle.nesting.proofs.NestingKit.{Once, once-apart}
 use Rattle.plane.specs.Bit.{bit}
 use Rattle.plane.specs.Edge as plane
 use Rattle.lists.specs.Member.{In}
-use Rattle.lists.proofs.ListsKit.{all-in, in-left, in-right, pairs-right, total, total-is}
+use Rattle.lists.proofs.ListsKit.{all-in, at-in, in-left, in-right, pairs-right, total, total-is}
 use Rattle.winding.proofs.WindingKit.{total-member}
 use Rattle.osm_geom.specs.declared.edge.Edge.{Edge}
 use Rattle.osm_nest.specs.declared.rings_from_least.RingFromLeast.{RingFromLeast}
 use Rattle.osm_nest.specs.Grouped.{AreListed, ArePlaced, IsFromLeastAt}
+use Rattle.osm_nest.specs.RingLists.{all_edges, whole_rings}
+use Rattle.plane_edges.specs.Multiple.{common_den, edges_times}
 
 -- ---- rings at different places
 edges-at : (gs : List (List plane.Edge)) (j : ℕ) (x : plane.Edge) → j < length gs → In x (get_or gs j []) → In x (edges_of gs)
@@ -36,6 +39,10 @@ rings-apart gs o i j x n h l m r = ⊎_elim
     (λ b. n (omega arith))
     (cases_lt j i))
     (cases_lt i j)
+
+-- a ring in the multiplied plane is one of the list
+pub ring-at : (rs : List (List Edge)) (n : ℕ) → n < length rs → In (get_or (whole_rings rs) n []) (whole_rings rs)
+ring-at rs n h = let s = length-map rs (edges_times (common_den (all_edges rs))) in at-in (whole_rings rs) n [] (omega arith)
 
 -- ---- sums over places
 abbrev pub Numbered : ℕ → List RingFromLeast → Type 0

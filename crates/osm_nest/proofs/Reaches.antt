@@ -1,10 +1,10 @@
 -- Of two edges that span a height, of which one lies left of an x and the other right of it, the first is left of the other just above that height.
-use Rattle.std.proofs.Common.{Bool, [], ap, arith, cond, false, inl, inr, negsuc, not, pos, refl, subst, sym, true, ℕ, ℤ, ◌*◌, ◌*ℤ◌, ◌+ℤ◌, ◌-ℤ◌, ◌/◌, ◌<ℤ◌, ◌∙◌, ◌∷◌, ◌≡◌, ◌≤◌, ◌≤ℤ◌}
+use Rattle.std.proofs.Common.{Bool, [], ap, arith, cond, false, inl, inr, not, pos, refl, subst, sym, true, ℕ, ℤ, ◌*◌, ◌*ℤ◌, ◌+ℤ◌, ◌-ℤ◌, ◌/◌, ◌<ℤ◌, ◌∙◌, ◌∷◌, ◌≡◌, ◌≤◌, ◌≤ℤ◌}
 use Rattle.std.specs.Ordering.{is_lt}
 use Rattle.std.proofs.Math.Nat.{dvd-mul_left, dvd-mul_right_of_dvd}
 use Rattle.std.proofs.lemmas.Int.{ints}
 use Prim.Native.Nat.{◌∣◌}
-use Rattle.lists.proofs.ListsKit.{and-left, and-right}
+use Rattle.lists.proofs.ListsKit.{and-left, and-right, product_not_below}
 use Rattle.plane.specs.Edge as plane
 use Rattle.plane.specs.Height.{distance_right, is_in_span, order_above}
 use Rattle.plane.specs.Sign.{Minus, Null, Plus, Sign, is_null, is_plus, sign, then_sign}
@@ -15,7 +15,7 @@ use Rattle.osm_geom.specs.declared.edge.Edge.{Edge}
 use Rattle.osm_geom.specs.declared.point.Point.{Point}
 use Rattle.osm_geom.specs.Coordinate.{AtLeast, AtMost}
 use Rattle.osm_geom.specs.JustAbove.{just_above_cmp}
-use Rattle.osm_geom.specs.Point.{Fraction, den_of, x_of, y_of}
+use Rattle.osm_geom.specs.Point.{den_of, x_of, y_of}
 use Rattle.osm_geom.specs.Span.{spans}
 use Rattle.osm_lattice.proofs.LatticeKit.{is_lt-plus}
 use Rattle.plane_edges.specs.Multiple.{IsWholeAt, common_den, edge_times, point_times}
@@ -24,23 +24,8 @@ use Rattle.osm_nest.specs.Reach.{IsReach}
 use Rattle.osm_nest.proofs.InPlane.{segment_at, whole-at}
 
 -- ---- products
-pub some-times : (a b : ℤ) → pos 0 ≤ℤ a → pos 0 ≤ℤ b → pos 0 ≤ℤ (a *ℤ b)
-some-times (pos a) (pos b) h k = omega (arith, ints)
-some-times (negsuc a) b h k = absurd (omega (arith, ints))
-some-times a (negsuc b) h k = absurd (omega (arith, ints))
-
 pub more-times : (a b : ℤ) → pos 0 <ℤ a → pos 0 <ℤ b → pos 0 <ℤ (a *ℤ b)
 more-times a b h k = (plus-is (a *ℤ b)).0 (plus-times a b ((plus-is a).1 h) ∙ (plus-is b).1 k)
-
--- ---- numbers at most or at least a fraction
-spread : (a b c : ℤ) → (a -ℤ b) *ℤ c ≡ a *ℤ c -ℤ b *ℤ c
-spread a b c = same ((lift a ⊟ lift b) ⊠ lift c) (lift a ⊠ lift c ⊟ lift b ⊠ lift c) (omega arith)
-
-pub further-west : (m a : ℤ) (f : Fraction) → m ≤ℤ a → AtLeast a f → AtLeast m f
-further-west m a f h least = let some = subst (λ z. pos 0 ≤ℤ z) (spread a m (pos f.den)) (some-times (a -ℤ m) (pos f.den) (omega (arith, ints)) (omega (arith, ints))) in omega (arith, ints)
-
-pub further-east : (m a : ℤ) (f : Fraction) → a ≤ℤ m → AtMost f a → AtMost f m
-further-east m a f h most = let some = subst (λ z. pos 0 ≤ℤ z) (spread m a (pos f.den)) (some-times (m -ℤ a) (pos f.den) (omega (arith, ints)) (omega (arith, ints))) in omega (arith, ints)
 
 -- ---- in the plane: A, B, C, D are the x of the ends as a point sees them, a, b, c, d their heights above it
 distance-parts : (A B C D a b c d : ℤ) → (b -ℤ a) *ℤ (C *ℤ d -ℤ c *ℤ D) -ℤ (A *ℤ b -ℤ a *ℤ B) *ℤ (d -ℤ c) ≡
@@ -54,9 +39,9 @@ distance-more : (A B C D a b c d : ℤ) → a ≤ℤ pos 0 → pos 0 <ℤ b → 
     pos 0 <ℤ ((b -ℤ a) *ℤ (C *ℤ d -ℤ c *ℤ D) -ℤ (A *ℤ b -ℤ a *ℤ B) *ℤ (d -ℤ c))
 distance-more A B C D a b c d la lb lc ld ac ad bc bd =
     let first = more-times (b *ℤ d) (C -ℤ A) (more-times b d lb ld) (omega (arith, ints)) in
-    let second = some-times (b *ℤ (pos 0 -ℤ c)) (D -ℤ A) (some-times b (pos 0 -ℤ c) (omega (arith, ints)) (omega (arith, ints))) (omega (arith, ints)) in
-    let third = some-times ((pos 0 -ℤ a) *ℤ d) (C -ℤ B) (some-times (pos 0 -ℤ a) d (omega (arith, ints)) (omega (arith, ints))) (omega (arith, ints)) in
-    let last = some-times ((pos 0 -ℤ a) *ℤ (pos 0 -ℤ c)) (D -ℤ B) (some-times (pos 0 -ℤ a) (pos 0 -ℤ c) (omega (arith, ints)) (omega (arith, ints))) (omega (arith, ints)) in
+    let second = product_not_below (b *ℤ (pos 0 -ℤ c)) (D -ℤ A) (product_not_below b (pos 0 -ℤ c) (omega (arith, ints)) (omega (arith, ints))) (omega (arith, ints)) in
+    let third = product_not_below ((pos 0 -ℤ a) *ℤ d) (C -ℤ B) (product_not_below (pos 0 -ℤ a) d (omega (arith, ints)) (omega (arith, ints))) (omega (arith, ints)) in
+    let last = product_not_below ((pos 0 -ℤ a) *ℤ (pos 0 -ℤ c)) (D -ℤ B) (product_not_below (pos 0 -ℤ a) (pos 0 -ℤ c) (omega (arith, ints)) (omega (arith, ints))) (omega (arith, ints)) in
     subst (λ z. pos 0 <ℤ z) (sym (distance-parts A B C D a b c d))
     (sum-more ((b *ℤ d) *ℤ (C -ℤ A)) ((b *ℤ (pos 0 -ℤ c)) *ℤ (D -ℤ A)) (((pos 0 -ℤ a) *ℤ d) *ℤ (C -ℤ B)) (((pos 0 -ℤ a) *ℤ (pos 0 -ℤ c)) *ℤ (D -ℤ B)) first second third last)
   where
@@ -106,7 +91,7 @@ west-parts m x y a n = same (nat m ⊠ (lift a ⊠ nat y) ⊟ nat (m * (x * y)) 
 at-most-times : (k : ℕ) (p : Point) (n : ℤ) → den_of p ∣ k → AtMost (x_of p) n → (point_times k p).x ≤ℤ (pos k *ℤ n)
 at-most-times k p n h most =
     let m = k / den_of p in let x = (x_of p).den in let y = (y_of p).den in let a = (x_of p).num in
-    let some = some-times (pos (m * y)) (n *ℤ pos x -ℤ a) (omega (arith, ints)) (omega (arith, ints)) in
+    let some = product_not_below (pos (m * y)) (n *ℤ pos x -ℤ a) (omega (arith, ints)) (omega (arith, ints)) in
     let here : pos 0 ≤ℤ (pos (m * (x * y)) *ℤ n -ℤ pos m *ℤ (a *ℤ pos y)) = subst (λ z. pos 0 ≤ℤ z) (sym (east-parts m x y a n)) some in
     let whole : pos 0 ≤ℤ (pos k *ℤ n -ℤ pos m *ℤ (a *ℤ pos y)) = subst (λ w. pos 0 ≤ℤ (pos w *ℤ n -ℤ pos m *ℤ (a *ℤ pos y))) (factor k (den_of p) h) here in
     omega (arith, ints)
@@ -114,7 +99,7 @@ at-most-times k p n h most =
 at-least-times : (k : ℕ) (p : Point) (n : ℤ) → den_of p ∣ k → AtLeast n (x_of p) → (pos k *ℤ n) ≤ℤ (point_times k p).x
 at-least-times k p n h least =
     let m = k / den_of p in let x = (x_of p).den in let y = (y_of p).den in let a = (x_of p).num in
-    let some = some-times (pos (m * y)) (a -ℤ n *ℤ pos x) (omega (arith, ints)) (omega (arith, ints)) in
+    let some = product_not_below (pos (m * y)) (a -ℤ n *ℤ pos x) (omega (arith, ints)) (omega (arith, ints)) in
     let here : pos 0 ≤ℤ (pos m *ℤ (a *ℤ pos y) -ℤ pos (m * (x * y)) *ℤ n) = subst (λ z. pos 0 ≤ℤ z) (sym (west-parts m x y a n)) some in
     let whole : pos 0 ≤ℤ (pos m *ℤ (a *ℤ pos y) -ℤ pos k *ℤ n) = subst (λ w. pos 0 ≤ℤ (pos m *ℤ (a *ℤ pos y) -ℤ pos w *ℤ n)) (factor k (den_of p) h) here in
     omega (arith, ints)

@@ -14,7 +14,7 @@ use Rattle.lists.proofs.ListsKit.{all-in, in-either, in-left, in-right}
 use Rattle.osm_geom.specs.declared.edge.Edge.{Edge}
 use Rattle.osm_nest.specs.declared.ring_edge.RingEdge.{RingEdge}
 use Rattle.osm_nest.specs.Beside.{IsSloping}
-use Rattle.osm_nest.specs.SweptEdges.{AreSlopingEdges, AreSlopingUpTo, AreRingEdges, IsOneMore, IsSlopingEdge, StartsRise}
+use Rattle.osm_nest.specs.SweptEdges.{AreSlopingEdges, AreRingEdges, IsOneMore, IsSlopingEdge, StartsRise}
 
 one-last : (i : RingEdge) (xs : List RingEdge) → IsOneMore i xs (xs ++ i ∷ [])
 one-last i xs = record {
@@ -70,6 +70,11 @@ module _ (place n : ℕ) (ring : List Edge) (old so_far : List RingEdge) (e : Ed
     added = λ x j. ⊎_elim inl (λ (t : (x.ring ≡ place) × In x.edge.now (take n ring) × IsSloping x.edge.now). inr (t.0, earlier x.edge.now t.1, t.2)) (is.added x j);
     whole = λ x j s. ⊎_elim (λ (k : In x (take n ring)). is.whole x k s) (λ (q : x ≡ e). absurd (flat (subst IsSloping q s))) (one-of x j);
   }
+
+-- the edges of the first n rings that are not horizontal
+pub record AreSlopingUpTo (rs : List (List Edge)) (n : ℕ) (items : List RingEdge) : Type 0 where
+  pub each : (i : RingEdge) → In i items → IsSlopingEdge rs i
+  pub whole : (k : ℕ) → k < n → (e : Edge) → In e (get_or rs k []) → IsSloping e → (i : RingEdge) × In i items × (i.edge.now ≡ e)
 
 module _ (rs : List (List Edge)) (n : ℕ) (r : List Edge) (inside : n < length rs) (at : r ≡ get_or rs n r) where
   pub ring-added : (old new : List RingEdge) → AreSlopingUpTo rs n old → AreRingEdges n (length r) r old new → AreSlopingUpTo rs (n + 1) new

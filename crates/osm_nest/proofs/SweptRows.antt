@@ -1,19 +1,18 @@
 -- Rows of edges that begin at one height, put into the status.
-use Rattle.std.proofs.Common.{Bool, List, [], ap, arith, cond, drop, false, filter, get_or, inl, inr, length, refl, subst, suc, sym, take, true, zero, ℕ, ◌&&◌, ◌++◌, ◌+◌, ◌-◌, ◌<◌, ◌∙◌, ◌∷◌, ◌≡◌, ◌≢◌, ◌≤◌, ⊎_elim}
+use Rattle.std.proofs.Common.{List, [], ap, arith, cond, drop, false, filter, get_or, inl, inr, length, refl, subst, suc, sym, take, true, zero, ℕ, ◌&&◌, ◌++◌, ◌+◌, ◌-◌, ◌<◌, ◌∙◌, ◌∷◌, ◌≡◌, ◌≢◌, ◌≤◌, ⊎_elim}
 use Rattle.std.specs.List.{sum_by}
 use Rattle.std.specs.Ordering.{is_lt}
 use Rattle.std.proofs.lemmas.Bool.{cases_eq, cases_lt, and_from}
 use Rattle.std.proofs.lemmas.List.{append-nil, take-append-drop, take_more}
 use Rattle.std.proofs.lemmas.List.Elements.{filter-append}
-use Rattle.std.proofs.lemmas.List.Sums.{sum_by-append, sum_by-cons}
 use Rattle.plane.specs.Edge as plane
 use Rattle.plane.specs.Height.{is_in_span}
 use Rattle.plane.specs.Vector.{Vector}
-use Rattle.lists.proofs.ListsKit.{and-right, at-in, clash, in-all, in-filter, in-left, in-passes, in-right, into-filter, same_get}
+use Rattle.lists.proofs.ListsKit.{and-right, at-in, clash, in-all, in-filter, in-left, in-passes, same_get}
 use Rattle.plane.proofs.PlaneKit.{right_chain, right_itself, right_of}
 use Rattle.lists.specs.Member.{In}
 use Rattle.status.specs.Status.{IsRight, IsStatus, spanning}
-use Rattle.status.proofs.StatusKit.{fits, present}
+use Rattle.status.proofs.StatusKit.{fits, present, to_end}
 use Rattle.osm_geom.specs.declared.edge.Edge.{Edge}
 use Rattle.osm_geom.specs.JustAbove.{just_above_cmp}
 use Rattle.osm_geom.specs.Span.{lower_end, spans}
@@ -25,35 +24,6 @@ use Rattle.osm_nest.specs.Beside.{IsSloping}
 use Rattle.osm_nest.proofs.DirectEnclosers.{whole-in}
 use Rattle.osm_nest.proofs.InPlane.{above-at, segment_at, spans-at}
 use Rattle.osm_nest.proofs.LeftEnclosers.{seg}
-
--- ---- an item at the end of the list instead of its front
-module _ {X : Type 0} (edge : X → plane.Edge) where
-  pub to-end : (p : Vector) (xs status : List X) (x : X) → IsStatus edge p (x ∷ xs) status → IsStatus edge p (xs ++ x ∷ []) status
-  to-end p xs status x is =
-      let sp = λ (t : X). is_in_span p (edge t) in
-      record {
-        order = is.order;
-        whole = λ f. is.whole f ∙ moved f (sp x) refl;
-        members = λ k d h.
-            let t = get_or status k d in let i = is.members k d h in
-            into-filter sp (xs ++ x ∷ []) t (⊎_elim (λ (e : t ≡ x). in-right xs (x ∷ []) t (inl e)) (λ (j : In t xs). in-left xs (x ∷ []) t j) (in-filter sp (x ∷ xs) t i)) (in-passes sp (x ∷ xs) t i);
-      }
-    where
-      turned : (m n : ℕ) → m + n ≡ n + m
-      turned m n = omega arith
-
-      moved : (f : X → ℕ) (b : Bool) → is_in_span p (edge x) ≡ b → sum_by f (spanning edge p (x ∷ xs)) ≡ sum_by f (spanning edge p (xs ++ x ∷ []))
-      moved f b e =
-          let sp = λ (t : X). is_in_span p (edge t) in
-          sum-front f b e ∙ sym (ap (sum_by f) (filter-append sp xs (x ∷ [])) ∙ sum_by-append f (filter sp xs) (filter sp (x ∷ [])) ∙ ap (λ n. sum_by f (filter sp xs) + n) (sum-one f b e))
-        where
-          sum-front : (f : X → ℕ) (b : Bool) → is_in_span p (edge x) ≡ b → sum_by f (spanning edge p (x ∷ xs)) ≡ sum_by f (spanning edge p xs) + cond b (f x) 0
-          sum-front f true e = ap (λ b. sum_by f (cond b (x ∷ spanning edge p xs) (spanning edge p xs))) e ∙ sum_by-cons f x (spanning edge p xs) ∙ turned (f x) (sum_by f (spanning edge p xs))
-          sum-front f false e = ap (λ b. sum_by f (cond b (x ∷ spanning edge p xs) (spanning edge p xs))) e ∙ omega arith
-
-          sum-one : (f : X → ℕ) (b : Bool) → is_in_span p (edge x) ≡ b → sum_by f (spanning edge p (x ∷ [])) ≡ cond b (f x) 0
-          sum-one f true e = ap (λ b. sum_by f (cond b (x ∷ []) [])) e ∙ sum_by-cons f x [] ∙ omega arith
-          sum-one f false e = ap (λ b. sum_by f (cond b (x ∷ []) [])) e
 
 -- ---- a row
 module _ (rs : List (List Edge)) (are : AreRings rs) (items : List RingEdge) (of : AreSlopingEdges rs items) where
@@ -87,7 +57,7 @@ module _ (rs : List (List Edge)) (are : AreRings rs) (items : List RingEdge) (of
         (λ d some. let low : one.place - 1 < length between = (let w = one.within in omega (arith, w)) in
         subst (λ t. IsRight (seg rs are items of) p t i) (same_get between (one.place - 1) i d low) (right-of-left (get_or between (one.place - 1) i) i (member (one.place - 1) i low) ii (one.before some)))
         (λ d some. subst (λ t. IsRight (seg rs are items of) p i t) (same_get between one.place i d some) (right-of-left i (get_or between one.place i) ii (member one.place i some) (one.after some))) in
-        let ended = to-end (seg rs are items of) p (take m items) new i (subst (IsStatus (seg rs are items of) p (i ∷ take m items)) (sym one.is) put) in
+        let ended = to_end (seg rs are items of) p (take m items) new i (subst (IsStatus (seg rs are items of) p (i ∷ take m items)) (sym one.is) put) in
         subst (λ xs. IsStatus (seg rs are items of) p xs new) (ap (λ t. take m items ++ t ∷ []) at ∙ sym (take_more items m i inside) ∙ ap (λ k. take k items) (let e : m + 1 ≡ from + suc n = omega arith in e)) ended
       where
         in-take : (k : ℕ) (xs : List RingEdge) (x : RingEdge) → In x (take k xs) → In x xs

@@ -15,9 +15,10 @@ use Rattle.std.specs.declared.cmp.Ordering.{Ordering}
 use Rattle.std.specs.declared.cmp.Ordering.TheVariants.{Less, Equal, Greater}
 use Rattle.std.specs.Ordering.{int_cmp, is_lt, ordering_then}
 use Rattle.osm_geom.specs.Span.{height_order, lower_end, spans, upper_end}
-use Rattle.osm_geom.proofs.GeometryKit.{ceiling-from, ceiling-is, point_cmp_is, y_den-some}
+use Rattle.osm_geom.proofs.GeometryKit.{at_most_more, ceiling-from, ceiling-is, point_cmp_is, y_den-some}
 use Rattle.osm_nest.specs.Heights.{AreHeights}
-use Rattle.osm_nest.proofs.Reaches.{further-east, more-times, some-times}
+use Rattle.osm_nest.proofs.Reaches.{more-times}
+use Rattle.lists.proofs.ListsKit.{product_not_below}
 
 -- ---- ceilings
 pub ceiling_whole : (n : ℤ) → n ≡ ceiling_of (whole n)
@@ -32,7 +33,7 @@ ceiling_within p world = within (y_of p) (y_den-some p) world.1
   where
     -- no whole number below those is at least the fraction
     low : (f : Fraction) → 1 ≤ f.den → unsigned_abs f.num ≤ 900_000_000 * f.den → ceiling_of f ≤ℤ negsuc 900_000_000 → ⊥
-    low f some small h = let most = further-east (negsuc 900_000_000) (ceiling_of f) f h (ceiling-is f some) in omega (arith, signed)
+    low f some small h = let most = at_most_more (ceiling_of f) (negsuc 900_000_000) f h (ceiling-is f some) in omega (arith, signed)
 
     within : (f : Fraction) → 1 ≤ f.den → unsigned_abs f.num ≤ 900_000_000 * f.den → unsigned_abs (ceiling_of f) ≤ 900_000_000
     within f some small =
@@ -69,11 +70,11 @@ not-less a b x h Greater e = refl
 pub rises-by-heights : (p q : Point) (m n : ℤ) → m ≡ ceiling_of (y_of p) → n ≡ ceiling_of (y_of q) → m <ℤ n → is_lt (point_cmp q p) ≡ false
 rises-by-heights p q m n is is' l =
     let f = y_of p in let g = y_of q in
-    let most = further-east m (ceiling_of f) f (omega (arith, ints)) (ceiling-is f (y_den-some p)) in
+    let most = at_most_more (ceiling_of f) m f (omega (arith, ints)) (ceiling-is f (y_den-some p)) in
     let below = below-ceiling m g (y_den-some q) (omega (arith, ints)) in
     let some = y_den-some p in
     let first = more-times (g.num -ℤ m *ℤ pos g.den) (pos f.den) (omega (arith, ints)) (omega (arith, ints)) in
-    let second = some-times (m *ℤ pos f.den -ℤ f.num) (pos g.den) (omega (arith, ints)) (omega (arith, ints)) in
+    let second = product_not_below (m *ℤ pos f.den -ℤ f.num) (pos g.den) (omega (arith, ints)) (omega (arith, ints)) in
     let sum = crossed f.num g.num m f.den g.den in
     ap is_lt (sym (point_cmp_is q p)) ∙ not-less (g.num *ℤ pos f.den) (f.num *ℤ pos g.den) (fraction_cmp (x_of q) (x_of p)) (omega (arith, ints)) (int_cmp (g.num *ℤ pos f.den) (f.num *ℤ pos g.den)) refl
 
@@ -101,7 +102,7 @@ module _ (p at : Point) (h : ℤ) (is : y_of at ≡ whole h) where
 
   pub begun : ceiling_of (y_of p) ≤ℤ h → not (is_minus (height_order p at)) ≡ true
   begun l =
-      let most = further-east h (ceiling_of (y_of p)) (y_of p) l (ceiling-is (y_of p) (y_den-some p)) in
+      let most = at_most_more (ceiling_of (y_of p)) h (y_of p) l (ceiling-is (y_of p) (y_den-some p)) in
       ap (λ s. not (is_minus s)) from-below ∙ not-below (h *ℤ pos (y_of p).den -ℤ (y_of p).num *ℤ pos 1) (omega (arith, ints))
     where
       not-below : (z : ℤ) → pos 0 ≤ℤ z → not (is_minus (sign z)) ≡ true
@@ -120,7 +121,7 @@ module _ (p at : Point) (h : ℤ) (is : y_of at ≡ whole h) where
 
   pub ended : ceiling_of (y_of p) ≤ℤ h → is_plus (height_order at p) ≡ false
   ended l =
-      let most = further-east h (ceiling_of (y_of p)) (y_of p) l (ceiling-is (y_of p) (y_den-some p)) in
+      let most = at_most_more (ceiling_of (y_of p)) h (y_of p) l (ceiling-is (y_of p) (y_den-some p)) in
       ap is_plus from-above ∙ not-more ((y_of p).num *ℤ pos 1 -ℤ h *ℤ pos (y_of p).den) (omega (arith, ints))
     where
       not-more : (z : ℤ) → z ≤ℤ pos 0 → is_plus (sign z) ≡ false

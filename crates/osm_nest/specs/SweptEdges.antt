@@ -77,11 +77,6 @@ pub record AreRingEdges (place n : ℕ) (ring : List Edge) (old new : List RingE
   pub added : (i : RingEdge) → In i new → (In i old) ⊎ ((i.ring ≡ place) × In i.edge.now (take n ring) × IsSloping i.edge.now)
   pub whole : (e : Edge) → In e (take n ring) → IsSloping e → (i : RingEdge) × In i new × (i.edge.now ≡ e)
 
--- such edges of the first n rings
-pub record AreSlopingUpTo (rs : List (List Edge)) (n : ℕ) (items : List RingEdge) : Type 0 where
-  pub each : (i : RingEdge) → In i items → IsSlopingEdge rs i
-  pub whole : (k : ℕ) → k < n → (e : Edge) → In e (get_or rs k []) → IsSloping e → (i : RingEdge) × In i items × (i.edge.now ≡ e)
-
 -- the anchor of an inner ring, and the place of the ring
 pub record IsInnerAnchor (rs : List (List Edge)) (a : RingEdge) : Type 0 where
   pub inside : a.ring < length rs

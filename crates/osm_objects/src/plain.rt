@@ -64,7 +64,8 @@ pub(crate) fn push_node(nodes: &mut Vec<PlainNode>, node: PlainNode) -> Result<(
 
 /// Adds the ids of these nodes.
 pub(crate) fn push_ids(ids: &mut Vec<i64>, nodes: &[PlainNode]) -> Result<(), OutOfMemory>
-    ensures { OnOk result (ids.new.items ≡ ids.old.items ++ map (λ (n : PlainNode). n.id) nodes.now) }
+    ensures { OnOk result (ids.new.items
+        ≡ ids.old.items ++ map (λ (n : PlainNode). n.id) nodes.now) }
 {
     for node in nodes {
         ids.push(node.id)?;

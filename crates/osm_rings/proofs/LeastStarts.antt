@@ -1,11 +1,11 @@
 -- The order of points is transitive, and the steps of looking for the least start.
-use Rattle.std.proofs.Common.{◌≡◌, ◌≢◌, inl, inr, ℕ, ◌+◌, ◌<◌, ◌≤◌, List, length, get_or, ℤ, pos, ◌*ℤ◌, ◌-ℤ◌, ◌+ℤ◌, Bool, true, refl, sym, ap, subst, ◌∙◌, arith, ⊎_elim}
+use Rattle.std.proofs.Common.{◌≡◌, ◌≢◌, inl, inr, ℕ, ◌+◌, ◌<◌, ◌≤◌, List, length, get_or, ℤ, pos, ◌*ℤ◌, ◌-ℤ◌, Bool, true, refl, sym, ap, subst, ◌∙◌, arith, ⊎_elim}
 use Rattle.std.specs.declared.cmp.Ordering.TheVariants.{Less}
 use Rattle.std.specs.Ordering.{ordering_then}
 use Rattle.std.proofs.lemmas.Bool.{cases_lt}
 use Rattle.std.proofs.lemmas.Int.{ints}
 use Rattle.plane.specs.Sign.{Plus, Null, Sign, sign, then_sign}
-use Rattle.plane.proofs.SignKit.{Split, lift, same, ◌⊞◌, ◌⊟◌, ◌⊠◌, agree, all2, all2-out, all4, all4-out, imp, imp-out, plus-plus, plus-times, weighted-agree}
+use Rattle.plane.proofs.SignKit.{same, agree, all2, all2-out, all4, all4-out, imp, imp-out, plus-plus, plus-times, weighted-agree, rises_sum}
 use Rattle.osm_geom.specs.declared.edge.Edge.{Edge}
 use Rattle.osm_geom.specs.declared.point.Point.{Point}
 use Rattle.osm_lattice.specs.OrderLaws.{ordering_of}
@@ -20,15 +20,10 @@ use Rattle.plane_edges.proofs.EdgesKit.{sign-some}
 abbrev rise : Fraction → Fraction → ℤ
 rise r s = s.num *ℤ pos r.den -ℤ r.num *ℤ pos s.den
 
-rise-sum : (a b c : ℤ) (k m n : ℕ) → pos n *ℤ (b *ℤ pos k -ℤ a *ℤ pos m) +ℤ pos k *ℤ (c *ℤ pos m -ℤ b *ℤ pos n) ≡ pos m *ℤ (c *ℤ pos k -ℤ a *ℤ pos n)
-rise-sum a b c k m n =
-    let nat : ℕ → Split = λ i. record { z = pos i; p = i; n = 0; is = omega arith } in
-    same (nat n ⊠ (lift b ⊠ nat k ⊟ lift a ⊠ nat m) ⊞ nat k ⊠ (lift c ⊠ nat m ⊟ lift b ⊠ nat n)) (nat m ⊠ (lift c ⊠ nat k ⊟ lift a ⊠ nat n)) (omega arith)
-
 rise-agree : (r s t : Fraction) → 1 ≤ r.den → 1 ≤ s.den → 1 ≤ t.den → agree (sign (rise r s)) (sign (rise s t)) (sign (rise r t)) ≡ true
 rise-agree r s t hr hs ht =
     subst (λ u. agree (sign (rise r s)) (sign (rise s t)) u ≡ true) (plus-times (pos s.den) (rise r t) (sign-some s.den hs))
-    (weighted-agree (pos t.den) (pos r.den) (rise r s) (rise s t) (pos s.den *ℤ rise r t) (sign-some t.den ht) (sign-some r.den hr) (rise-sum r.num s.num t.num r.den s.den t.den))
+    (weighted-agree (pos t.den) (pos r.den) (rise r s) (rise s t) (pos s.den *ℤ rise r t) (sign-some t.den ht) (sign-some r.den hr) (rises_sum r.num s.num t.num r.den s.den t.den))
 
 abbrev both_2 : Sign → Sign → Sign → Sign → Sign → Sign → Bool
 both_2 s t u x y z = imp (agree s t u) λ _. imp (agree x y z) λ _. agree (then_sign s x) (then_sign t y) (then_sign u z)

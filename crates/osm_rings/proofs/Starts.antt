@@ -2,9 +2,7 @@
 use Rattle.std.proofs.Common.{◌≡◌, ◌≢◌, ◌⊎◌, inl, inr, ℕ, ◌+◌, ◌-◌, ◌<◌, ◌≤◌, List, [], ◌∷◌, ◌++◌, length, get_or, drop, All, Result, Ok, Err, IfOk, Bool, true, false, not, set, Some, None, refl, sym, ap, subst, ◌∙◌, arith, ⊎_elim}
 use Rattle.std.specs.List.{Contains, slice_range}
 use Rattle.std.specs.List.Sorted.{IsPartitionPoint, IsPartitionedBy, IsPermutation}
-use Rattle.std.specs.declared.cmp.Ordering.{Ordering}
-use Rattle.std.specs.declared.cmp.Ordering.TheVariants.{Less, Equal, Greater}
-use Rattle.std.specs.Ordering.{is_lt, ordering_reverse}
+use Rattle.std.specs.Ordering.{is_lt}
 use Rattle.std.proofs.lemmas.Bool.{cases_lt, false_from_ne_true}
 use Rattle.std.proofs.lemmas.Cmp.{tied_itself}
 use Rattle.std.proofs.lemmas.Grind.{get_or-set_at}
@@ -17,7 +15,7 @@ use Rattle.osm_geom.specs.declared.edge.Edge.{Edge}
 use Rattle.osm_geom.specs.declared.point.Point.{Point}
 use Rattle.osm_geom.specs.Edge.{direction_of}
 use Rattle.osm_geom.specs.Point.{point_cmp}
-use Rattle.osm_geom.proofs.GeometryKit.{point_same, point_total}
+use Rattle.osm_geom.proofs.GeometryKit.{neither_less, point_total}
 use Rattle.osm_rings.specs.declared.departures.Departure.{Departure}
 use Rattle.osm_rings.specs.Departures.{AreClockwiseRound, AreFrom, AreRising, AreDepartures, IsEndAt, IsFirstAt, IsDepartureOf, TellStarts, start_at}
 use Rattle.lists.proofs.ListsKit.{clash, not-false-out, not-true-out}
@@ -43,12 +41,7 @@ lt-itself p = ap is_lt (tied_itself point_total p)
 
 -- neither begins before the other
 same-from : (p q : Point) → lt p q ≡ false → lt q p ≡ false → p ≡ q
-same-from p q h g = decide (point_cmp p q) refl
-  where
-    decide : (o : Ordering) → point_cmp p q ≡ o → p ≡ q
-    decide Less e = absurd (clash (lt p q) (ap is_lt e) h)
-    decide Equal e = point_same p q e
-    decide Greater e = absurd (clash (lt q p) (ap is_lt (point_total.antisymm q p ∙ ap ordering_reverse e)) g)
+same-from p q h g = neither_less p q (λ e. clash (lt p q) (ap is_lt e) h) (λ e. clash (lt q p) (ap is_lt e) g)
 
 by-neighbours : (test : Departure → Bool) (ws : List Departure) (i : ℕ) → i ≤ length ws → IsPartitionedBy test ws → ((d : Departure) → 0 < i → test (get_or ws (i - 1) d) ≡ true) → ((d : Departure) → i < length ws → test (get_or ws i d) ≡ false) → IsPartitionPoint (λ w. test w ≡ true) (λ w. test w ≡ false) ws i
 by-neighbours test ws i within parted low high = (

@@ -115,18 +115,15 @@ module _ (es : List Edge) (sd : IsSided es) where
     has-place : (i j : ℕ) → after next i ≡ Some j → i < length es
     has-place i j e = ⊎_elim (λ h. h) (λ h. let n : after next i ≡ None = get_or_past next i None (omega arith) in absurd (cc)) (cases_lt i (length es))
 
-    succeeds : (i j : ℕ) → after next i ≡ Some j → IsSuccessor es (edge_at es i) (edge_at es j)
-    succeeds i j e = let h = has-place i j e in first-succeeds i j h ((met i h).some j e)
+    succeeds : (i j : ℕ) → i < length es → after next i ≡ Some j → IsSuccessor es (edge_at es i) (edge_at es j)
+    succeeds i j h e = first-succeeds i j h ((met i h).some j e)
 
-    goes-on : (i : ℕ) → i < length es → (j : ℕ) × (after next i ≡ Some j)
-    goes-on i h = decide (after next i) refl
-      where
-        decide : (r : Option ℕ) → after next i ≡ r → (j : ℕ) × (after next i ≡ Some j)
-        decide (Some j) e = (j, e)
-        decide None e =
-            let f = next_there es sd (edge_at es i) (edge-in es i h) in
-            let k = place-in es nowhere f.0 f.1.member in
-            absurd ((met i h).none e k.0 k.1 (ap (λ x. x.from) k.2 ∙ sym (next_leaves es sd (edge_at es i) f.0 (edge-in es i h) f.1)))
+    goes-on : (i : ℕ) → i < length es → (r : Option ℕ) → after next i ≡ r → (j : ℕ) × (after next i ≡ Some j)
+    goes-on i h (Some j) e = (j, e)
+    goes-on i h None e =
+        let f = next_there es sd (edge_at es i) (edge-in es i h) in
+        let k = place-in es nowhere f.0 f.1.member in
+        absurd ((met i h).none e k.0 k.1 (ap (λ x. x.from) k.2 ∙ sym (next_leaves es sd (edge_at es i) f.0 (edge-in es i h) f.1)))
 
     pub are-successors : AreSuccessors es next
     are-successors = record {
@@ -136,8 +133,8 @@ module _ (es : List Edge) (sd : IsSided es) where
         one = λ i k j e f.
             let h = has-place i j e in
             let l = has-place k j f in
-            told-by es (sided-once es sd) i k h l (next_one es sd (edge_at es i) (edge_at es k) (edge_at es j) (edge-in es i h) (edge-in es k l) (succeeds i j e) (succeeds k j f));
+            told-by es (sided-once es sd) i k h l (next_one es sd (edge_at es i) (edge_at es k) (edge_at es j) (edge-in es i h) (edge-in es k l) (succeeds i j h e) (succeeds k j l f));
       };
-      total = goes-on;
-      right = succeeds;
+      total = λ i h. goes-on i h (after next i) refl;
+      right = λ i j e. succeeds i j (has-place i j e) e;
     }

@@ -1,5 +1,5 @@
 -- The rings of a list of edges, in the plane multiplied by the common denominator, are a ring list there: no two cross.
-use Rattle.std.proofs.Common.{length, List, [], ap, arith, map, refl, subst, sym, ℕ, ◌∙◌, ◌∷◌, ◌≡◌, ◌≤◌}
+use Rattle.std.proofs.Common.{length, List, [], ap, arith, map, refl, subst, sym, ℕ, ◌∙◌, ◌∷◌, ◌≡◌}
 use Rattle.std.specs.List.{sum_by}
 use Rattle.std.proofs.lemmas.List.{length-map}
 use Rattle.nesting.specs.Nesting.{edges_of}
@@ -12,7 +12,7 @@ use Rattle.plane.specs.Edge as plane
 use Rattle.plane.specs.Bit.{bit}
 use Rattle.lists.specs.Member.{In}
 use Rattle.winding.specs.Ring as winding
-use Rattle.lists.proofs.ListsKit.{in-map-out, total, total-is, total-map}
+use Rattle.lists.proofs.ListsKit.{in-map-out, some_member, total, total-is, total-map}
 use Rattle.winding.proofs.WindingKit.{total-member}
 use Rattle.osm_geom.specs.declared.edge.Edge.{Edge}
 use Rattle.plane_edges.specs.Multiple.{common_den, edge_times, edges_times, whole_edges}
@@ -31,10 +31,6 @@ plane-total k f [] = refl
 plane-total k f (r ∷ rs) =
     let a = total-edges f (map (edges_times k) (r ∷ rs)) in let b = total-edges f (map (edges_times k) rs) in
     let c = plane-total k f rs in let d = total-map f (edge_times k) r in omega arith
-
-some-edge : (r : List Edge) → 3 ≤ length r → Edge
-some-edge [] h = absurd (omega arith)
-some-edge (e ∷ r) h = e
 
 module _ (es : List Edge) where
   abbrev pub K : ℕ
@@ -62,7 +58,7 @@ module _ (es : List Edge) where
 
   -- each ring is one of the plane
   ring-in-plane : (rs : List (List Edge)) → AreRingsOf es rs → (r : List Edge) → In r rs → winding.IsRing (edges_times K r)
-  ring-in-plane rs a r i = plane-ring K r (some-edge r (a.ring r i).long) (λ e j. each_whole K es (common_is_common es) e (held-within rs a.edges r i e j)) (a.ring r i)
+  ring-in-plane rs a r i = plane-ring K r (some_member r (omega (arith, (a.ring r i).long))).0 (λ e j. each_whole K es (common_is_common es) e (held-within rs a.edges r i e j)) (a.ring r i)
 
   -- they are the ring list of the plane
   pub plane-list : (rs : List (List Edge)) → AreRingsOf es rs → IsRingListOf (whole_edges es) (in_plane rs)

@@ -8,8 +8,8 @@ use Rattle.plane.specs.Height.{distance_right}
 use Rattle.plane.specs.Order.{order}
 use Rattle.plane.specs.Sign.{Minus, Null, Plus, Sign, is_minus, is_null, is_plus, negated, sign, then_sign}
 use Rattle.plane.specs.Vector.{Vector, cross, from_to, orient}
-use Rattle.plane.proofs.PlaneKit.{conflict_by, conflicts-by, step_of, zero-part, same_vector, cross-from-here, cross-here, orient-round, side-there, distance-change, zero-end, crossed-by}
-use Rattle.plane.proofs.SignKit.{agree, agree-sum, all, all-out, all2-out, all4-out, imp, imp-out, null-zero, plus-times, same_sign, same_sign-true, says-at, sign-*, sign-from, sign-reversed, times, times-back, times-plus, not-null-negated}
+use Rattle.plane.proofs.PlaneKit.{conflict_by, conflicts-by, same_vector, side-there, zero-end, at-first-from, at-first-to, at-second-from, at-second-to, change-agrees, no_swap}
+use Rattle.plane.proofs.SignKit.{agree, all, all-out, all2-out, all4-out, imp, imp-out, null-zero, same_sign, same_sign-true, says-at, sign-*, sign-from, sign-reversed, times, times-back, times-plus, not-null-negated}
 use Rattle.osm_segments.proofs.EdgePairs.{fans}
 
 -- ---- signs
@@ -71,37 +71,6 @@ module _ (e f : Edge) (he : sign (e.to.y -ℤ e.from.y) ≡ Plus) (hf : sign (f.
   abbrev pub distance_at : Vector → Sign
   distance_at w = sign (cross (distance_right w e) (distance_right w f))
 
-  pub change-agrees : (p w : Vector) → agree (distance_at p) (times (sign (w.y -ℤ p.y)) (fans e f)) (distance_at w) ≡ true
-  change-agrees p w =
-      let h = agree-sum (cross (distance_right p e) (distance_right p f)) ((w.y -ℤ p.y) *ℤ cross (step_of f) (step_of e)) (cross (distance_right w e) (distance_right w f)) (distance-change p w e f) in
-      subst (λ s. agree (distance_at p) s (distance_at w) ≡ true) (sign-* (w.y -ℤ p.y) (cross (step_of f) (step_of e))) h
-
-  -- at an end of e, and at an end of f
-  pub on-first : (w : Vector) → cross (from_to w e.from) (from_to w e.to) ≡ pos 0 → distance_at w ≡ orient f.from f.to w
-  on-first w z =
-      let c = cross (from_to w f.from) (from_to w f.to) in
-      ap sign (zero-part (e.to.y -ℤ e.from.y) (cross (from_to w e.from) (from_to w e.to)) c (f.to.y -ℤ f.from.y) c z refl)
-      ∙ plus-times (e.to.y -ℤ e.from.y) c he ∙ ap sign (sym (orient-round w f.from f.to))
-
-  pub on-second : (w : Vector) → cross (from_to w f.from) (from_to w f.to) ≡ pos 0 → orient e.from e.to w ≡ negated (distance_at w)
-  on-second w z =
-      let c = cross (from_to w e.from) (from_to w e.to) in let dy = f.to.y -ℤ f.from.y in
-      let h = ap sign (zero-end (e.to.y -ℤ e.from.y) c (cross (from_to w f.from) (from_to w f.to)) dy (pos 0) z) in
-      let g : sign (dy *ℤ c) ≡ negated (sign (pos 0 -ℤ dy *ℤ c)) = sign-reversed (pos 0 -ℤ dy *ℤ c) (dy *ℤ c) (omega (arith, ints)) in
-      ap sign (orient-round w e.from e.to) ∙ sym (plus-times dy c hf) ∙ g ∙ ap negated (sym h)
-
-  pub at-first-from : distance_at e.from ≡ orient f.from f.to e.from
-  at-first-from = on-first e.from (cross-from-here e.from (from_to e.from e.to))
-
-  pub at-first-to : distance_at e.to ≡ orient f.from f.to e.to
-  at-first-to = on-first e.to (cross-here (from_to e.to e.from) e.to)
-
-  pub at-second-from : orient e.from e.to f.from ≡ negated (distance_at f.from)
-  at-second-from = on-second f.from (cross-from-here f.from (from_to f.from f.to))
-
-  pub at-second-to : orient e.from e.to f.to ≡ negated (distance_at f.to)
-  at-second-to = on-second f.to (cross-here (from_to f.to f.from) f.to)
-
   module _ (clear : IsClearOf e f) where
     abbrev a' : Sign
     a' = orient e.from e.to f.from
@@ -117,16 +86,6 @@ module _ (e f : Edge) (he : sign (e.to.y -ℤ e.from.y) ≡ Plus) (hf : sign (f.
 
     never : conflict_by a' b' c' d' (order e.from f.from) (order e.from f.to) (order e.to f.from) (order e.to f.to) ≡ true → ⊥
     never h = let g = conflicts-by e f ∙ h in cc (sym clear ∙ g)
-
-    pub no_swap : (s : Sign) → not (is_null s) ≡ true → distance_at e.from ≡ s → distance_at f.from ≡ s → distance_at e.to ≡ negated s → distance_at f.to ≡ negated s → ⊥
-    no_swap s n p q x y =
-        let o1 = order e.from f.from in let o2 = order e.from f.to in let o3 = order e.to f.from in let o4 = order e.to f.to in
-        never
-        (ap (λ z. conflict_by z b' c' d' o1 o2 o3 o4) (at-second-from ∙ ap negated q)
-        ∙ ap (λ z. conflict_by (negated s) z c' d' o1 o2 o3 o4) (at-second-to ∙ ap negated y)
-        ∙ ap (λ z. conflict_by (negated s) (negated (negated s)) z d' o1 o2 o3 o4) (sym at-first-from ∙ p)
-        ∙ ap (λ z. conflict_by (negated s) (negated (negated s)) s z o1 o2 o3 o4) (sym at-first-to ∙ x)
-        ∙ crossed-by s n o1 o2 o3 o4)
 
     -- no end of one lies inside the other
     never-a : a' ≡ Null → order e.from f.from ≡ Plus → order e.to f.from ≡ Minus → ⊥
@@ -156,12 +115,12 @@ module _ (e f : Edge) (he : sign (e.to.y -ℤ e.from.y) ≡ Plus) (hf : sign (f.
     module _ (w : Vector) (null : distance_at w ≡ Null) (turns : not (is_null (fans e f)) ≡ true) where
       at-end : (v : Vector) (g : Sign) → sign (v.y -ℤ w.y) ≡ g → distance_at v ≡ times g (fans e f)
       at-end v g h = agree-null (times g (fans e f)) (distance_at v)
-          (subst (λ g. agree Null (times g (fans e f)) (distance_at v) ≡ true) h (subst (λ s. agree s (times (sign (v.y -ℤ w.y)) (fans e f)) (distance_at v) ≡ true) null (change-agrees w v)))
+          (subst (λ g. agree Null (times g (fans e f)) (distance_at v) ≡ true) h (subst (λ s. agree s (times (sign (v.y -ℤ w.y)) (fans e f)) (distance_at v) ≡ true) null (change-agrees e f he hf w v)))
 
       not-both : sign (e.from.y -ℤ w.y) ≡ Minus → sign (e.to.y -ℤ w.y) ≡ Plus → sign (f.from.y -ℤ w.y) ≡ Minus → sign (f.to.y -ℤ w.y) ≡ Plus → ⊥
       not-both x y z u =
           let s = fans e f in
-          no_swap (negated s) (not-null-negated s turns) (at-end e.from Minus x ∙ times-minus s) (at-end f.from Minus z ∙ times-minus s) (at-end e.to Plus y ∙ times-plus s ∙ negated-twice s) (at-end f.to Plus u ∙ times-plus s ∙ negated-twice s)
+          no_swap e f he hf clear (negated s) (not-null-negated s turns) (at-end e.from Minus x ∙ times-minus s) (at-end f.from Minus z ∙ times-minus s) (at-end e.to Plus y ∙ times-plus s ∙ negated-twice s) (at-end f.to Plus u ∙ times-plus s ∙ negated-twice s)
 
       -- both begin below: at the height both end, in one point
       pub tops-by : (g h : Sign) → sign (e.to.y -ℤ w.y) ≡ g → sign (f.to.y -ℤ w.y) ≡ h → not (is_minus g) ≡ true → not (is_minus h) ≡ true → sign (e.from.y -ℤ w.y) ≡ Minus → sign (f.from.y -ℤ w.y) ≡ Minus →
@@ -170,10 +129,10 @@ module _ (e f : Edge) (he : sign (e.to.y -ℤ e.from.y) ≡ Plus) (hf : sign (f.
       tops-by Plus Minus x y k l z u = absurd (cc l)
       tops-by Null Minus x y k l z u = absurd (cc l)
       tops-by Plus Plus x y k l z u = absurd (not-both z x u y)
-      tops-by Plus Null x y k l z u = absurd (never-b (at-second-to ∙ ap negated (at-end f.to Null y)) (order-up e.from f.to (low-to e.from.y f.to.y w.y z y)) (order-down e.to f.to (to-high f.to.y e.to.y w.y y x)))
-      tops-by Null Plus x y k l z u = absurd (never-d (sym at-first-to ∙ at-end e.to Null x) (order-down e.to f.from (low-to f.from.y e.to.y w.y u x)) (order-up e.to f.to (to-high e.to.y f.to.y w.y x y)))
+      tops-by Plus Null x y k l z u = absurd (never-b (at-second-to e f he hf ∙ ap negated (at-end f.to Null y)) (order-up e.from f.to (low-to e.from.y f.to.y w.y z y)) (order-down e.to f.to (to-high f.to.y e.to.y w.y y x)))
+      tops-by Null Plus x y k l z u = absurd (never-d (sym at-first-to e f he hf ∙ at-end e.to Null x) (order-down e.to f.from (low-to f.from.y e.to.y w.y u x)) (order-up e.to f.to (to-high e.to.y f.to.y w.y x y)))
       tops-by Null Null x y k l z u =
-          (one-point (from_to f.from f.to) f.to e.to hf (one-height e.to.y f.to.y w.y x y) (ap sign (side-there f.from f.to e.to) ∙ sym at-first-to ∙ at-end e.to Null x), x)
+          (one-point (from_to f.from f.to) f.to e.to hf (one-height e.to.y f.to.y w.y x y) (ap sign (side-there f.from f.to e.to) ∙ sym at-first-to e f he hf ∙ at-end e.to Null x), x)
 
       -- both end above: at the height both begin, in one point
       pub bottoms-by : (g h : Sign) → sign (e.from.y -ℤ w.y) ≡ g → sign (f.from.y -ℤ w.y) ≡ h → not (is_plus g) ≡ true → not (is_plus h) ≡ true → sign (e.to.y -ℤ w.y) ≡ Plus → sign (f.to.y -ℤ w.y) ≡ Plus →
@@ -182,7 +141,7 @@ module _ (e f : Edge) (he : sign (e.to.y -ℤ e.from.y) ≡ Plus) (hf : sign (f.
       bottoms-by Minus Plus x y k l z u = absurd (cc l)
       bottoms-by Null Plus x y k l z u = absurd (cc l)
       bottoms-by Minus Minus x y k l z u = absurd (not-both x z y u)
-      bottoms-by Minus Null x y k l z u = absurd (never-a (at-second-from ∙ ap negated (at-end f.from Null y)) (order-up e.from f.from (low-to e.from.y f.from.y w.y x y)) (order-down e.to f.from (to-high f.from.y e.to.y w.y y z)))
-      bottoms-by Null Minus x y k l z u = absurd (never-c (sym at-first-from ∙ at-end e.from Null x) (order-down e.from f.from (low-to f.from.y e.from.y w.y y x)) (order-up e.from f.to (to-high e.from.y f.to.y w.y x u)))
+      bottoms-by Minus Null x y k l z u = absurd (never-a (at-second-from e f he hf ∙ ap negated (at-end f.from Null y)) (order-up e.from f.from (low-to e.from.y f.from.y w.y x y)) (order-down e.to f.from (to-high f.from.y e.to.y w.y y z)))
+      bottoms-by Null Minus x y k l z u = absurd (never-c (sym at-first-from e f he hf ∙ at-end e.from Null x) (order-down e.from f.from (low-to f.from.y e.from.y w.y y x)) (order-up e.from f.to (to-high e.from.y f.to.y w.y x u)))
       bottoms-by Null Null x y k l z u =
-          (one-point (from_to f.from f.to) f.from e.from hf (one-height e.from.y f.from.y w.y x y) (sym at-first-from ∙ at-end e.from Null x), x)
+          (one-point (from_to f.from f.to) f.from e.from hf (one-height e.from.y f.from.y w.y x y) (sym at-first-from e f he hf ∙ at-end e.from Null x), x)

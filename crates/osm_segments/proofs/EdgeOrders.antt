@@ -9,10 +9,10 @@ use Rattle.plane.specs.Order.{order}
 use Rattle.plane.specs.Sign.{Minus, Null, Plus, Sign, is_minus, is_null, is_plus, negated, sign, then_sign}
 use Rattle.plane.specs.Vector.{Vector, cross, east, from_to, orient}
 use Rattle.lists.proofs.ListsKit.{and-left, and-right}
-use Rattle.plane.proofs.PlaneKit.{conflict_by, conflicts-by, right_of, step_of, order-null, order-self-null, cross-here, cross-self, dot-east, plucker-agree, plucker-dot-agree, cross-east}
-use Rattle.plane.proofs.SignKit.{agree, all, all-out, all2-out, all4, all4-out, imp, imp-out, is_plus-true, same_sign, same_sign-true, says-at, sign-from, times, times-plus, agree-back, plus-plus, plus-null, null-plus}
+use Rattle.plane.proofs.PlaneKit.{conflict_by, conflicts-by, right_of, step_of, order-null, order-self-null, cross-here, cross-self, dot-east, plucker-agree, plucker-dot-agree, cross-east, at-first-from, at-first-to, at-second-from, at-second-to, change-agrees, no_swap}
+use Rattle.plane.proofs.SignKit.{agree, all, all-out, all2-out, all4, all4-out, imp, imp-out, is_plus-true, same_sign, same_sign-true, says-at, sign-from, times, times-plus, agree-back, plus-plus, plus-null, null-plus, is_minus-true}
 use Rattle.osm_segments.proofs.EdgePairs.{BeginsLeft, EndsLeft, begin_by, end_by, fans}
-use Rattle.osm_segments.proofs.EdgeMeetings.{at-first-from, at-first-to, at-second-from, at-second-to, bottoms-by, change-agrees, no_swap, low-to, order-down, order-up, to-high, tops-by}
+use Rattle.osm_segments.proofs.EdgeMeetings.{bottoms-by, low-to, order-down, order-up, to-high, tops-by}
 
 abbrev pub IsTall : Edge → Type 0
 IsTall e = sign (e.to.y -ℤ e.from.y) ≡ Plus
@@ -89,11 +89,6 @@ below_plus g y = imp (not (is_plus g)) λ _. imp (agree Plus (times g Minus) y) 
 
 abbrev above_minus : Sign → Sign → Bool
 above_minus g y = imp (not (is_minus g)) λ _. imp (agree Minus (times g Minus) y) λ _. is_minus y
-
-is_minus-true : (s : Sign) → is_minus s ≡ true → s ≡ Minus
-is_minus-true Minus h = refl
-is_minus-true Null h = absurd (cc h)
-is_minus-true Plus h = absurd (cc h)
 
 falls-by : (x k y : Sign) → agree x (times Plus k) y ≡ true → is_plus (then_sign x k) ≡ true → is_plus y ≡ false → (x ≡ Plus) × (k ≡ Minus)
 falls-by x k y a r n =

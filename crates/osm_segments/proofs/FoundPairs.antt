@@ -1,5 +1,5 @@
 -- The conflicts that were found, each once and in order, are those of the definition.
-use Rattle.std.proofs.Common.{◌≡◌, ◌<◌, ◌≤◌, ◌+◌, ⊎_elim, ℕ, zero, suc, subst, List, [], ◌∷◌, length, get_or, min, cond, false, refl, sym, ap, ◌∙◌, arith}
+use Rattle.std.proofs.Common.{◌≡◌, ◌<◌, ◌≤◌, ◌+◌, ⊎_elim, ℕ, zero, suc, subst, List, [], ◌∷◌, get_or, min, cond, refl, sym, ap, ◌∙◌, arith}
 use Rattle.std.specs.Prelude.{Contains}
 use Rattle.std.specs.declared.cmp.Ordering.{Ordering}
 use Rattle.std.specs.declared.cmp.Ordering.TheVariants.{Less, Equal, Greater}
@@ -17,7 +17,7 @@ use Rattle.osm_segments.specs.Pairs.{conflicts_of, pair_cmp}
 use Rattle.osm_segments.specs.contracts.pairs.PairOrd.TheImpl.{cmp-value}
 use Rattle.osm_segments.proofs.CellPairs.{first_member, later_member, member_cases, no_member}
 use Rattle.osm_segments.proofs.RisingPairs.{conflicts_rising}
-use Rattle.lists.proofs.ListsKit.{count-cons}
+use Rattle.lists.proofs.ListsKit.{count-cons, stands_once}
 
 -- an order under which each item ties with itself alone
 module _ {X : Type 0} {R : X → X → Ordering} (itself : (x : X) → R x x ≡ Equal) (exact : (x y : X) → R x y ≡ Equal → x ≡ y) where
@@ -43,37 +43,12 @@ module _ {X : Type 0} {R : X → X → Ordering} (itself : (x : X) → R x x ≡
   member x [] some = absurd (omega arith)
   member x (y ∷ ys) some = member_by (R y x) x y ys refl (omega (arith, count-cons R x y ys)) (member x ys)
 
-  -- what is below all others doesn't stand among them
-  not_above : (r : Ordering) (x y : X) → R y x ≡ r → R x y ≡ Less → is_eq r ≡ false
-  not_above Less x y e less = refl
-  not_above Greater x y e less = refl
-  not_above Equal x y e less = let one : R x y ≡ Equal = ap (R x) (exact y x e) ∙ itself x in absurd (cc)
-
-  none : (x : X) (xs : List X) → ((k : ℕ) (d : X) → k < length xs → R x (get_or xs k d) ≡ Less) → count_of R x xs ≡ 0
-  none x [] below = refl
-  none x (y ∷ ys) below =
-      let first : cond {A = ℕ} (is_eq (R y x)) 1 0 ≡ 0 = rw (not_above (R y x) x y refl (below 0 y (omega arith))) refl in
-      omega (arith, count-cons R x y ys, none x ys (λ k d h. below (suc k) d (omega arith)))
-
-  once_by : (r : Ordering) (x y : X) (ys : List X) → R y x ≡ r → IsRising R (y ∷ ys) → count_of R x ys ≤ 1 → cond (is_eq r) 1 0 + count_of R x ys ≤ 1
-  once_by Less x y ys e rising later = omega arith
-  once_by Greater x y ys e rising later = omega arith
-  once_by Equal x y ys e rising later =
-      let one = exact y x e in
-      omega (arith, none x ys (λ k d h. ap (λ z. R z (get_or ys k d)) (sym one) ∙ rising 0 (suc k) d (omega arith) (omega arith)))
-
-  -- in strict order each stands once at most
-  once : (x : X) (xs : List X) → IsRising R xs → count_of R x xs ≤ 1
-  once x [] rising = omega arith
-  once x (y ∷ ys) rising =
-      omega (arith, count-cons R x y ys, once_by (R y x) x y ys refl rising (once x ys (λ i j d h l. rising (suc i) (suc j) d (omega arith) (omega arith))))
-
   -- each once, in strict order, of lists with the same members
   same_once : (xs ys : List X) → IsRising R ys → ((x : X) → Contains xs x → Contains ys x) → ((x : X) → Contains ys x → Contains xs x) → (x : X) → min 1 (count_of R x xs) ≡ count_of R x ys
   same_once xs ys rising into back x =
       let there : 0 < count_of R x xs → 0 < count_of R x ys = λ h. counted x ys (into x (member x xs h)) in
       let here : 0 < count_of R x ys → 0 < count_of R x xs = λ h. counted x xs (back x (member x ys h)) in
-      same_by (count_of R x xs) (count_of R x ys) there here (once x ys rising)
+      same_by (count_of R x xs) (count_of R x ys) there here (stands_once itself exact x ys rising)
     where
       same_by : (n m : ℕ) → (0 < n → 0 < m) → (0 < m → 0 < n) → m ≤ 1 → min 1 n ≡ m
       same_by zero zero there here h = refl

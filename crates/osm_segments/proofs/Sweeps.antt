@@ -19,7 +19,7 @@ use Rattle.plane.specs.Height.{is_in_span}
 use Rattle.plane.specs.Order.{order}
 use Rattle.plane.specs.Sign.{Minus, Null, Plus, Sign, is_minus, is_plus, negated, sign, then_sign}
 use Rattle.plane.specs.Vector.{Vector, orient}
-use Rattle.plane.proofs.PlaneKit.{clear_back, order_persists, right_chain, right_itself, right_of, order-reversed, order-self-null, order-sum}
+use Rattle.plane.proofs.PlaneKit.{clear_back, order_persists, right_chain, right_itself, right_of, order-reversed, order-self-null, order-sum, at-first-from, at-second-from}
 use Rattle.plane.proofs.SignKit.{agree, all, all-out, all2-out, imp, imp-out, says-at, self-diff, sign-from, negated-not-plus, sum-not-minus, not-minus-back}
 use Rattle.lists.specs.Member.{In}
 use Rattle.lists.proofs.ListsKit.{all_insert, at-in, in-either, in-left, in-right, pairs_insert, same_get}
@@ -38,7 +38,6 @@ use Rattle.osm_segments.proofs.RisingPairs.{tail_rising}
 use Rattle.osm_segments.specs.Sweep.{EndsRise, FitsAfter, FitsBefore, IsAfter, IsFollowed, HasLeft, IsEntered, left_of_line, lies_left, lies_right, right_of_line, side}
 use Rattle.osm_segments.specs.Tilted.{tilted, tilted_point}
 use Rattle.osm_segments.proofs.EdgePairs.{BeginsLeft, fans, turn-first, turn-second, two_ends}
-use Rattle.osm_segments.proofs.EdgeMeetings.{at-first-from, at-second-from}
 use Rattle.osm_segments.proofs.EdgeOrders.{BottomsLeft, TopsLeft, begins_left, beside, bottoms-chain, bottoms_left, clear_apart, ends_left, high-of, low-of, same-level, tops-chain, tops_left}
 use Rattle.osm_segments.proofs.SweptLists.{Linked, linked_insert, linked_remove, linked_weaker, pairs_from_linked}
 use Rattle.osm_segments.proofs.TiltedEdges.{conflicts-tilted, cross-tilted, height-tilted, order-tilted, tall-tilted}

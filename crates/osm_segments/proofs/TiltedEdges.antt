@@ -10,7 +10,7 @@ use Rattle.osm_lattice.specs.declared.loc.Loc.{Loc}
 use Rattle.osm_lattice.specs.declared.seg.Seg.{Seg}
 use Rattle.osm_lattice.specs.Loc.{vector_of}
 use Rattle.osm_lattice.specs.Seg.{edge_of}
-use Rattle.osm_lattice.proofs.LatticeKit.{rising_edge}
+use Rattle.osm_lattice.proofs.LatticeKit.{distance_in, rising_edge}
 use Rattle.osm_segments.specs.Tilted.{steep, tilt, tilted, tilted_point}
 
 -- ---- sides
@@ -37,12 +37,9 @@ height-by dy dx Plus h small = let x = says-at Plus dy h in sign-from Plus (stee
 height-by dy dx Minus h small = let x = says-at Minus dy h in sign-from Minus (steep *ℤ dy +ℤ dx) (omega (arith, ints))
 height-by dy dx Null h small = let x = says-at Null dy h in ap sign (let e : steep *ℤ dy +ℤ dx ≡ dx = omega (arith, ints) in e)
 
-small-step : (a b : ℤ) → unsigned_abs a ≤ 1_800_000_000 → unsigned_abs b ≤ 1_800_000_000 → unsigned_abs (b -ℤ a) ≤ 3_600_000_000
-small-step a b h k = omega (arith, ints)
-
 -- the later point is higher
 pub height-tilted : (p q : Loc) → sign ((tilted_point q).y -ℤ (tilted_point p).y) ≡ order (vector_of p) (vector_of q)
-height-tilted p q = ap sign (step-y steep p.y q.y p.x q.x) ∙ height-by (q.y -ℤ p.y) (q.x -ℤ p.x) (sign (q.y -ℤ p.y)) refl (small-step p.x q.x p.x_in q.x_in)
+height-tilted p q = ap sign (step-y steep p.y q.y p.x q.x) ∙ height-by (q.y -ℤ p.y) (q.x -ℤ p.x) (sign (q.y -ℤ p.y)) refl (distance_in p.x q.x p.x_in q.x_in)
 
 then-twice : (s t : Sign) → then_sign (then_sign s t) t ≡ then_sign s t
 then-twice Plus t = refl

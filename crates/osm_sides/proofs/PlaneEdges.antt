@@ -1,25 +1,20 @@
 -- Directed segments are the plane's directed edges.
-use Rattle.std.proofs.Common.{Bool, true, false, cond, List, [], ◌∷◌, map, pos, ◌*ℤ◌, ◌≡◌, ◌∙◌, refl, ap, arith, ⊎_elim}
-use Rattle.std.proofs.lemmas.Int.{ints}
+use Rattle.std.proofs.Common.{Bool, true, false, cond, List, [], ◌∷◌, map, ◌≡◌, ◌∙◌, refl, ap, ⊎_elim}
 use Rattle.plane.specs.Edge as plane
-use Rattle.plane.proofs.PlaneKit.{same_edge_by, same_vector}
+use Rattle.plane.proofs.PlaneKit.{same_edge_by}
 use Rattle.lists.specs.Member.{In}
 use Rattle.winding.specs.OddSide as odd_side
 use Rattle.osm_geom.specs.declared.edge.Edge.{Edge}
-use Rattle.osm_lattice.specs.declared.loc.Loc.{Loc}
 use Rattle.osm_geom.specs.declared.point.Point.{Point}
-use Rattle.osm_geom.specs.declared.point.Point.TheVariants.{Lattice}
 use Rattle.osm_lattice.specs.declared.seg.Seg.{Seg}
 use Rattle.osm_lattice.specs.Loc.{vector_of}
 use Rattle.osm_geom.specs.Point.{den_of}
 use Rattle.osm_lattice.specs.Seg.{edge_of}
 use Rattle.plane_edges.specs.Multiple.{edge_times, edges_times, point_times}
 use Rattle.plane_edges.specs.SidedLaws.{IsLattice}
+use Rattle.plane_edges.proofs.EdgesKit.{lattice_point}
 use Rattle.osm_sides.specs.Directions.{first_end, last_end}
 use Rattle.osm_sides.specs.Survivors.{plane_edges_of}
-
-pub lattice_point : (p : Loc) → point_times 1 (Lattice p) ≡ vector_of p
-lattice_point p = same_vector (pos 1 *ℤ (p.x *ℤ pos 1)) (pos 1 *ℤ (p.y *ℤ pos 1)) p.x p.y (omega (arith, ints)) (omega (arith, ints))
 
 plane_ends : (b : Bool) (s : Seg) → (vector_of (cond b s.a s.b) ≡ (cond b (edge_of s) (plane.reversed (edge_of s))).from) × (vector_of (cond b s.b s.a) ≡ (cond b (edge_of s) (plane.reversed (edge_of s))).to)
 plane_ends true s = (refl, refl)

@@ -31,7 +31,7 @@ use Rattle.osm_sides.specs.Sweep.{AreDirectedTo, AreEnds, IsEntered, IsSweptTo, 
 use Rattle.osm_sides.proofs.OddSideCounts.{runs_up_is}
 use Rattle.osm_sides.proofs.StatusEdges.{counts-is}
 use Rattle.osm_sides.proofs.Survivors.{conflict_free}
-use Rattle.osm_sides.proofs.SweptHeights.{begins-later, begins-level, ended-away, ends-sooner, high-sign, later-away, level-sign, none-begun, span-ends, span-is, span-slopes, spans, IsSwept}
+use Rattle.osm_sides.proofs.SweptHeights.{begins-later, begins-level, ended-away, ends-sooner, high-sign, later-away, level-sign, none-begun, span-ends, span-is, span-slopes, spans, IsSweptBeforeRow}
 
 -- ---- lists
 -- tests that agree on the items of a list keep the same ones, and part it alike
@@ -96,7 +96,7 @@ module _ (segs : List Seg) (rising : IsRising seg_cmp segs) (clear : conflicts_o
   }
 
   -- ---- a greater height
-  module _ (ends : List Seg) (are : AreEnds segs ends) (k next : ℕ) (status : List Seg) (swept : IsSwept segs ends k next status) where
+  module _ (ends : List Seg) (are : AreEnds segs ends) (k next : ℕ) (status : List Seg) (swept : IsSweptBeforeRow segs ends k next status) where
     -- the status is of those that haven't ended
     pub remaining : (y : ℤ) → Remains (ends_above y) ends next status status
     remaining y =
@@ -159,7 +159,7 @@ module _ (segs : List Seg) (rising : IsRising seg_cmp segs) (clear : conflicts_o
 abbrev low : Vector
 low = record { x = pos 0; y = negsuc 1_000_000_000 }
 
-pub none-swept : (segs ends : List Seg) → IsSwept segs ends 0 0 []
+pub none-swept : (segs ends : List Seg) → IsSweptBeforeRow segs ends 0 0 []
 none-swept segs ends = record {
   height = low;
   swept = record {

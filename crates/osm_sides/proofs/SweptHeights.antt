@@ -125,7 +125,7 @@ none-begun t = low_number t.a.y t.a.y_in
 
 -- ---- where the sweep stands
 -- before a row: the sweep has come to some height, and none of the ends before a place is above it
-pub record IsSwept (segs ends : List Seg) (k next : ℕ) (status : List Seg) : Type 0 where
+pub record IsSweptBeforeRow (segs ends : List Seg) (k next : ℕ) (status : List Seg) : Type 0 where
   pub height : Vector
   pub swept : IsSweptTo height segs k status
   pub ended : AllWithin (λ t. ends_above height.y t ≡ false) ends 0 next

@@ -1,7 +1,7 @@
 -- The least node of a ring is the first one, where the ring is begun at it.
 use Rattle.std.proofs.Common.{◌≡◌, ◌≢◌, ◌∙◌, ◌<◌, Bool, true, false, not, cond, ◌&&◌, List, [], ◌∷◌, length, get_or, Some, option_map, refl, sym, ap, inl, inr, arith}
 use Rattle.std.specs.List.{find}
-use Rattle.std.specs.Ordering.{is_lt, ordering_reverse}
+use Rattle.std.specs.Ordering.{is_lt}
 use Rattle.std.specs.declared.cmp.Ordering.{Ordering}
 use Rattle.std.specs.declared.cmp.Ordering.TheVariants.{Less, Equal, Greater}
 use Rattle.std.proofs.lemmas.Bool.{false≢true}
@@ -9,9 +9,8 @@ use Rattle.lists.specs.Member.{In}
 use Rattle.lists.specs.Rotated.{IsRotated}
 use Rattle.lists.proofs.ListsKit.{in-all, in-rotated, rotated-in}
 use Rattle.osm_geom.specs.declared.edge.Edge.{Edge}
-use Rattle.osm_geom.specs.declared.point.Point.{Point}
 use Rattle.osm_geom.specs.Point.{point_cmp}
-use Rattle.osm_geom.proofs.GeometryKit.{point_same, point_total}
+use Rattle.osm_geom.proofs.GeometryKit.{neither_less}
 use Rattle.osm_rings.specs.Turned.{BeginsLeast}
 use Rattle.osm_text.specs.Rounded.{least_near, leaves_least, start_near}
 use Rattle.osm_text.proofs.RingRounding.{near_same}
@@ -49,15 +48,6 @@ is_least (e ∷ es) m passed other (inr i) = is_least es m (right _ _ passed) ot
     right true b p = p
     right false b p = absurd (false≢true p)
 
--- neither of two points is less
-one_point : (p q : Point) → point_cmp p q ≢ Less → point_cmp q p ≢ Less → p ≡ q
-one_point p q here there = by (point_cmp p q) refl
-  where
-    by : (o : Ordering) → point_cmp p q ≡ o → p ≡ q
-    by Less is = absurd (here is)
-    by Equal is = point_same p q is
-    by Greater is = absurd (there (point_total.antisymm q p ∙ ap ordering_reverse is))
-
 found : (p : Edge → Bool) (es : List Edge) (m : Edge) → In m es → p m ≡ true → ((e : Edge) → In e es → p e ≡ true → e.from ≡ m.from)
     → option_map start_near (find p es) ≡ Some (start_near m)
 found p [] m i passed same = absurd i
@@ -75,4 +65,4 @@ least_begun ring (b ∷ begun) m turned least some first =
     let there : In m ring = rotated-in ring (b ∷ begun) turned m (inl first) in
     let none : IsLeast ring m = (λ other i. rw first (in-all (λ (e : Edge). point_cmp e.from b.from ≢ Less) (b ∷ begun) other least (in-rotated ring (b ∷ begun) turned other i))) in
     sym (found (leaves_least ring) ring m there (all_pass ring m none)
-    (λ e i passed. one_point e.from m.from (none e i) (is_least ring e passed m there)))
+    (λ e i passed. neither_less e.from m.from (none e i) (is_least ring e passed m there)))

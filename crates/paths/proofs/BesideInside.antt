@@ -17,7 +17,7 @@ use Rattle.winding.specs.EdgeList.{IsBalanced, down_count, up_count, winding_num
 use Rattle.winding.specs.ScaledEdges.{scaled_edges}
 use Rattle.winding.specs.Sided.{IsSided}
 use Rattle.lists.proofs.ListsKit.{all-in, in-map, in-map-out, total, total-+, total-below, total-is, total-map, total-same, total_none}
-use Rattle.plane.proofs.PlaneKit.{View, cross-here, cross-negated, cross-self, cross2, dot-there_back, down_seen, east-direction, edge-scaled, frame-agree, from_to-scaled, from_to2, lift2, off_by-set, same_edge-refl, same_edge-true, same_vector, side-there, up_seen, view_at}
+use Rattle.plane.proofs.PlaneKit.{View, cross-direction, cross-here, cross-negated, cross-self, cross2, dot-there_back, down_seen, east-direction, edge-scaled, frame-agree, from_to-scaled, from_to2, lift2, off_by-set, same_edge-refl, same_edge-true, same_vector, side-there, up_seen, view_at}
 use Rattle.plane.proofs.SignKit.{agree, agree-sum, all, all-out, all2-out, imp, imp-out, lift, null-zero, plus-times, same, same-out, same_sign, same_sign-true, sign-reversed, times, ◌⊞◌, ◌⊟◌, ◌⊠◌}
 use Rattle.winding.proofs.WindingKit.{all-off-back, balanced-scaled, sided-scaled, winding-scaled, winding_independent}
 use Rattle.paths.proofs.Across.{twice-plus}
@@ -26,7 +26,7 @@ use Rattle.paths.proofs.FeetAbove.{below-by, first-times}
 use Rattle.paths.proofs.Inside.{inside-apart}
 use Rattle.paths.proofs.Later.{Later, apart-near, later-all, later-apart, later-both, later-some, later-then, near}
 use Rattle.paths.proofs.Places.{plus}
-use Rattle.paths.proofs.Steps.{apart-back, apart-off, cross-direction, off-apart}
+use Rattle.paths.proofs.Steps.{apart-back, apart-off, off-apart}
 use Rattle.paths.proofs.Winds.{down-alike, free-off, step-winds, up-alike}
 
 -- ---- a step through the point r, from the side of r opposite to p to the side of p, as the ends of an edge see it

@@ -23,11 +23,11 @@ use Rattle.winding.specs.Parity.{is_even}
 use Rattle.winding.specs.ScaledEdges.{scaled_edges}
 use Rattle.winding.specs.Sided.{IsSided}
 use Rattle.connected.proofs.ConnectedKit.{in-polygon, linked_one}
-use Rattle.lists.proofs.ListsKit.{all-in, count_by-cons, in-all, in-map, in-map-out, not-true-out, total, total-+, total-is, total-map}
+use Rattle.lists.proofs.ListsKit.{all-in, count_by-cons, in-all, in-map, in-map-out, not-true-out, total-is, total-map}
 use Rattle.nesting.proofs.NestingKit.{in-edges, polygon_sided, polygons_cover_at_fractions, same-back, same-in}
 use Rattle.one_ring_list.proofs.OneRingListKit.{rings-uncrossed}
 use Rattle.plane.proofs.PlaneKit.{down_seen, up_seen}
-use Rattle.winding.proofs.WindingKit.{even-is, odd-is, sided-scaled, winding-scaled}
+use Rattle.winding.proofs.WindingKit.{counted-both-ways, even-is, odd-is, sided-scaled, winding-scaled}
 use Rattle.paths.proofs.BesideInside.{beside-inside}
 use Rattle.paths.proofs.LinkedInside.{reached, reached-by}
 use Rattle.paths.proofs.Winds.{joined-winds}
@@ -71,18 +71,13 @@ count-there f [] h = absurd (omega arith)
 count-there f (x ∷ xs) h = there-by f x xs (count-there f xs) h (f x) refl
 
 -- ---- parity and winding number
-count-as : (p : Vector) (es : List Edge) → crossing_count east p es ≡ up_count east p es + down_count east p es
-count-as p es =
-    sym (total-is (λ e. up_seen east (from_to p) e + down_seen east (from_to p) e) es) ∙ total-+ (up_seen east (from_to p)) (down_seen east (from_to p)) es
-    ∙ ap (λ n. n + total (down_seen east (from_to p)) es) (total-is (up_seen east (from_to p)) es) ∙ ap (λ n. up_count east p es + n) (total-is (down_seen east (from_to p)) es)
-
 pub inside-covers : (p : Vector) (es : List Edge) → winding_number east p es ≡ pos 1 → covers es p ≡ true
-inside-covers p es h = let c = count-as p es in ap not (odd-is (crossing_count east p es) (let e : up_count east p es ≡ down_count east p es + 1 = omega (arith, ints) in omega arith))
+inside-covers p es h = let c = counted-both-ways east p es in ap not (odd-is (crossing_count east p es) (let e : up_count east p es ≡ down_count east p es + 1 = omega (arith, ints) in omega arith))
 
 covers-by : (p : Vector) (es : List Edge) → covers es p ≡ true → (winding_number east p es ≡ pos 0) ⊎ (winding_number east p es ≡ pos 1) → winding_number east p es ≡ pos 1
 covers-by p es c (inr h) = h
 covers-by p es c (inl h) =
-    let n = count-as p es in
+    let n = counted-both-ways east p es in
     let e : up_count east p es ≡ down_count east p es = omega (arith, ints) in
     let k = even-is (crossing_count east p es) (omega arith) in
     absurd (cc (sym k ∙ not-true-out (is_even (crossing_count east p es)) c))

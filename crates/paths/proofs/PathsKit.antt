@@ -9,4 +9,4 @@ pub use Rattle.paths.proofs.LinkedInside.{inside-joined, polygon-connected, some
 pub use Rattle.paths.proofs.SharedPoints.{apart-exactly}
 pub use Rattle.paths.proofs.Steps.{dot-direction, off-apart}
 pub use Rattle.paths.proofs.Turning.{later-along}
-pub use Rattle.paths.proofs.Winds.{free-off, joined-winds, line-inside, step-direction, step-winds}
+pub use Rattle.paths.proofs.Winds.{free-off, joined-winds, line-inside, step-winds}

@@ -6,11 +6,11 @@ use Rattle.plane.specs.Edge.{Edge}
 use Rattle.plane.specs.RayCrossing.{IsOffEdge, down_by, up_by}
 use Rattle.plane.specs.Scale.{scaled_edge, scaled_point}
 use Rattle.plane.specs.Sign.{Plus, Sign, sign}
-use Rattle.plane.specs.Vector.{IsDirection, Vector, cross, east, from_to, same_point}
+use Rattle.plane.specs.Vector.{Vector, cross, east, from_to, same_point}
 use Rattle.winding.specs.EdgeList.{IsBalanced, down_count, up_count, winding_number}
 use Rattle.winding.specs.ScaledEdges.{scaled_edges}
-use Rattle.lists.proofs.ListsKit.{all-in, in-map-out, same_from_difference, total-is, total-same}
-use Rattle.plane.proofs.PlaneKit.{direction-from, down_seen, east-direction, plucker-agree, same_point-refl, same_point-true, same_vector, side-there, up_seen}
+use Rattle.lists.proofs.ListsKit.{all-in, in-map-out, total-is, total-same}
+use Rattle.plane.proofs.PlaneKit.{down_seen, east-direction, plucker-agree, same_point-true, side-there, step-direction, up_seen}
 use Rattle.plane.proofs.SignKit.{agree, all, all-out, all4-out, both, imp, imp-out, left-out, right-out, times}
 use Rattle.winding.proofs.WindingKit.{balanced-scaled, winding-scaled, winding_independent}
 use Rattle.paths.proofs.Steps.{apart-back, apart-off, apart-until}
@@ -66,12 +66,6 @@ module _ (p q : Vector) (e : Edge) (i : IsApart p q e) where
       ∙ ap (λ z. down_by (sign (cross d (from_to q e.from))) z (sign (cross (from_to q e.from) (from_to q e.to)))) (sym there-to)
 
 -- ---- the winding number along a step
-pub step-direction : (p q : Vector) → same_point p q ≡ false → IsDirection (from_to p q)
-step-direction p q h =
-    direction-from (from_to p q) (λ k l.
-    let e = same_vector p.x p.y q.x q.y (sym (same_from_difference q.x p.x k)) (sym (same_from_difference q.y p.y l)) in
-    let f = ap (same_point p) e in let g = same_point-refl p in cc (sym g ∙ f ∙ h))
-
 pub free-off : (es : List Edge) (p q : Vector) → IsFreeStep es p q → All (IsOffEdge p) es
 free-off es p q f = all-in (IsOffEdge p) es (λ e i. apart-off p q e (f e i))
 

@@ -107,14 +107,14 @@ crossed-by Plus c h k m n = refl
 crossed-by Minus c h k m n = refl
 crossed-by Null c h k m n = absurd (cc c)
 
-module _ (e f : Edge) (he : sign (e.to.y -ℤ e.from.y) ≡ Plus) (hf : sign (f.to.y -ℤ f.from.y) ≡ Plus) (clear : IsClearOf e f) where
-  abbrev distance_at : Vector → Sign
+module _ (e f : Edge) (he : sign (e.to.y -ℤ e.from.y) ≡ Plus) (hf : sign (f.to.y -ℤ f.from.y) ≡ Plus) where
+  abbrev pub distance_at : Vector → Sign
   distance_at w = sign (cross (distance_right w e) (distance_right w f))
 
-  abbrev slope : Sign
+  abbrev pub slope : Sign
   slope = sign (cross (step_of f) (step_of e))
 
-  change-agrees : (p w : Vector) → agree (distance_at p) (times (sign (w.y -ℤ p.y)) slope) (distance_at w) ≡ true
+  pub change-agrees : (p w : Vector) → agree (distance_at p) (times (sign (w.y -ℤ p.y)) slope) (distance_at w) ≡ true
   change-agrees p w =
       let h = agree-sum (cross (distance_right p e) (distance_right p f)) ((w.y -ℤ p.y) *ℤ cross (step_of f) (step_of e)) (cross (distance_right w e) (distance_right w f)) (distance-change p w e f) in
       subst (λ s. agree (distance_at p) s (distance_at w) ≡ true) (sign-* (w.y -ℤ p.y) (cross (step_of f) (step_of e))) h
@@ -133,12 +133,25 @@ module _ (e f : Edge) (he : sign (e.to.y -ℤ e.from.y) ≡ Plus) (hf : sign (f.
       let g : sign (dy *ℤ c) ≡ negated (sign (pos 0 -ℤ dy *ℤ c)) = sign-reversed (pos 0 -ℤ dy *ℤ c) (dy *ℤ c) (omega (arith, ints)) in
       ap sign (orient-round w e.from e.to) ∙ sym (plus-times dy c hf) ∙ g ∙ ap negated (sym h)
 
-  no_swap : (s : Sign) → not (is_null s) ≡ true → distance_at e.from ≡ s → distance_at f.from ≡ s → distance_at e.to ≡ negated s → distance_at f.to ≡ negated s → ⊥
-  no_swap s c a b x y =
-      let i : orient f.from f.to e.from ≡ s = sym (on-first e.from (cross-from-here e.from (from_to e.from e.to))) ∙ a in
-      let j : orient f.from f.to e.to ≡ negated s = sym (on-first e.to (cross-here (from_to e.to e.from) e.to)) ∙ x in
-      let k : orient e.from e.to f.from ≡ negated s = on-second f.from (cross-from-here f.from (from_to f.from f.to)) ∙ ap negated b in
-      let l : orient e.from e.to f.to ≡ negated (negated s) = on-second f.to (cross-here (from_to f.to f.from) f.to) ∙ ap negated y in
+  pub at-first-from : distance_at e.from ≡ orient f.from f.to e.from
+  at-first-from = on-first e.from (cross-from-here e.from (from_to e.from e.to))
+
+  pub at-first-to : distance_at e.to ≡ orient f.from f.to e.to
+  at-first-to = on-first e.to (cross-here (from_to e.to e.from) e.to)
+
+  pub at-second-from : orient e.from e.to f.from ≡ negated (distance_at f.from)
+  at-second-from = on-second f.from (cross-from-here f.from (from_to f.from f.to))
+
+  pub at-second-to : orient e.from e.to f.to ≡ negated (distance_at f.to)
+  at-second-to = on-second f.to (cross-here (from_to f.to f.from) f.to)
+
+  -- edges without conflict don't change sides
+  pub no_swap : IsClearOf e f → (s : Sign) → not (is_null s) ≡ true → distance_at e.from ≡ s → distance_at f.from ≡ s → distance_at e.to ≡ negated s → distance_at f.to ≡ negated s → ⊥
+  no_swap clear s c a b x y =
+      let i : orient f.from f.to e.from ≡ s = sym at-first-from ∙ a in
+      let j : orient f.from f.to e.to ≡ negated s = sym at-first-to ∙ x in
+      let k : orient e.from e.to f.from ≡ negated s = at-second-from ∙ ap negated b in
+      let l : orient e.from e.to f.to ≡ negated (negated s) = at-second-to ∙ ap negated y in
       let o1 = order e.from f.from in let o2 = order e.from f.to in let o3 = order e.to f.from in let o4 = order e.to f.to in
       let t =
       ap (λ z. conflict_by z (orient e.from e.to f.to) (orient f.from f.to e.from) (orient f.from f.to e.to) o1 o2 o3 o4) k
@@ -156,7 +169,7 @@ module _ (e f : Edge) (he : sign (e.to.y -ℤ e.from.y) ≡ Plus) (hf : sign (f.
       same_sign-true (distance_at w) (negated (distance_at p)) (imp-out _ _ (imp-out _ _ (imp-out _ _ (imp-out _ _ (all4-out high_swaps refl (distance_at p) slope (distance_at q) (distance_at w)) a) b) c)
       (subst (λ s. agree (distance_at q) (times s slope) (distance_at w) ≡ true) g (change-agrees q w)))
 
-  module _ (p q : Vector) (up : sign (q.y -ℤ p.y) ≡ Plus) (pe : is_in_span p e ≡ true) (pf : is_in_span p f ≡ true) (qe : is_in_span q e ≡ true) (qf : is_in_span q f ≡ true) where
+  module _ (clear : IsClearOf e f) (p q : Vector) (up : sign (q.y -ℤ p.y) ≡ Plus) (pe : is_in_span p e ≡ true) (pf : is_in_span p f ≡ true) (qe : is_in_span q e ≡ true) (qf : is_in_span q f ≡ true) where
     low-of : (t : Edge) → is_in_span p t ≡ true → not (is_plus (sign (t.from.y -ℤ p.y))) ≡ true
     low-of t h = and-left (not (is_plus (sign (t.from.y -ℤ p.y)))) (is_plus (sign (t.to.y -ℤ p.y))) h
 
@@ -169,7 +182,7 @@ module _ (e f : Edge) (he : sign (e.to.y -ℤ e.from.y) ≡ Plus) (hf : sign (f.
         let a = and-left (not (is_null x)) (same_sign slope (negated x) && not (same_sign y x)) h in
         let r = and-right (not (is_null x)) (same_sign slope (negated x) && not (same_sign y x)) h in
         let b = and-left (same_sign slope (negated x)) (not (same_sign y x)) r in let c = and-right (same_sign slope (negated x)) (not (same_sign y x)) r in
-        no_swap x a (low-end p e.from a b (low-of e pe)) (low-end p f.from a b (low-of f pf)) (high-end p q e.to a b c (high-of e qe)) (high-end p q f.to a b c (high-of f qf))
+        no_swap clear x a (low-end p e.from a b (low-of e pe)) (low-end p f.from a b (low-of f pf)) (high-end p q e.to a b c (high-of e qe)) (high-end p q f.to a b c (high-of f qf))
 
     stays-above : order_above p e f ≡ order_above q e f
     stays-above =
@@ -182,10 +195,10 @@ module _ (e f : Edge) (he : sign (e.to.y -ℤ e.from.y) ≡ Plus) (hf : sign (f.
       let a = subst (λ g. agree (distance_at p) (times g slope) (distance_at q) ≡ true) h (change-agrees p q) in
       ap (λ s. then_sign s slope) (same_sign-true (distance_at p) (distance_at q) (imp-out _ _ (all2-out (λ x y. imp (agree x Null y) λ _. same_sign x y) refl (distance_at p) (distance_at q)) a))
 
-  persists-by : (p q : Vector) (s : Sign) → sign (q.y -ℤ p.y) ≡ s → is_in_span p e ≡ true → is_in_span p f ≡ true → is_in_span q e ≡ true → is_in_span q f ≡ true → order_above p e f ≡ order_above q e f
-  persists-by p q Plus h pe pf qe qf = stays-above p q h pe pf qe qf
-  persists-by p q Null h pe pf qe qf = same-height p q h
-  persists-by p q Minus h pe pf qe qf = sym (stays-above q p (sign-reversed (q.y -ℤ p.y) (p.y -ℤ q.y) (omega (arith, ints)) ∙ ap negated h) qe qf pe pf)
+  persists-by : IsClearOf e f → (p q : Vector) (s : Sign) → sign (q.y -ℤ p.y) ≡ s → is_in_span p e ≡ true → is_in_span p f ≡ true → is_in_span q e ≡ true → is_in_span q f ≡ true → order_above p e f ≡ order_above q e f
+  persists-by clear p q Plus h pe pf qe qf = stays-above clear p q h pe pf qe qf
+  persists-by clear p q Null h pe pf qe qf = same-height p q h
+  persists-by clear p q Minus h pe pf qe qf = sym (stays-above clear q p (sign-reversed (q.y -ℤ p.y) (p.y -ℤ q.y) (omega (arith, ints)) ∙ ap negated h) qe qf pe pf)
 
 -- two edges that don't conflict and both span two heights have the same order just above both
 pub order_persists : (p q : Vector) (e f : Edge) → IsClearOf e f → is_in_span p e ≡ true → is_in_span p f ≡ true → is_in_span q e ≡ true → is_in_span q f ≡ true → order_above p e f ≡ order_above q e f

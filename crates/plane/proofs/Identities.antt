@@ -1,7 +1,7 @@
 -- Polynomial identities over ℤ by `omega`: an integer together with two naturals whose difference it is.
-use Rattle.std.proofs.Common.{ap, arith, ℕ, ◌*◌, ◌+◌, ◌≡◌}
+use Rattle.std.proofs.Common.{ap, arith, ℕ, ◌*◌, ◌+◌, ◌∙◌, ◌≡◌}
 use borrow.Author.Differences.{down, ints, product_is, same_in, up}
-use lib.IntN.{ℤ, ◌*ℤ◌, ◌+ℤ◌, ◌-ℤ◌}
+use lib.IntN.{pos, ℤ, ◌*ℤ◌, ◌+ℤ◌, ◌-ℤ◌}
 
 -- z is p - n
 pub record Split : Type 0 where
@@ -41,3 +41,13 @@ same a b e = same_in a.z b.z (omega (arith, a.is, b.is))
 
 pub apart : (a b : Split) → a.z ≡ b.z → a.p + b.n ≡ b.p + a.n
 apart a b e = let h = ap up e in let k = ap down e in omega (arith, a.is, b.is)
+
+pub minus_zeros : (a b x y : ℤ) → x ≡ pos 0 → y ≡ pos 0 → a *ℤ x -ℤ b *ℤ y ≡ pos 0
+minus_zeros a b x y h k =
+    ap (λ (z : ℤ). a *ℤ z -ℤ b *ℤ y) h ∙ ap (λ (z : ℤ). a *ℤ pos 0 -ℤ b *ℤ z) k ∙ same (lift a ⊠ lift (pos 0) ⊟ lift b ⊠ lift (pos 0)) (lift (pos 0)) (omega arith)
+
+-- how far c / n is above a / k is how far b / m is above a / k and c / n above b / m
+pub rises_sum : (a b c : ℤ) (k m n : ℕ) → pos n *ℤ (b *ℤ pos k -ℤ a *ℤ pos m) +ℤ pos k *ℤ (c *ℤ pos m -ℤ b *ℤ pos n) ≡ pos m *ℤ (c *ℤ pos k -ℤ a *ℤ pos n)
+rises_sum a b c k m n =
+    let nat : ℕ → Split = λ i. record { z = pos i; p = i; n = 0; is = omega arith } in
+    same (nat n ⊠ (lift b ⊠ nat k ⊟ lift a ⊠ nat m) ⊞ nat k ⊠ (lift c ⊠ nat m ⊟ lift b ⊠ nat n)) (nat m ⊠ (lift c ⊠ nat k ⊟ lift a ⊠ nat n)) (omega arith)

@@ -5,6 +5,7 @@ mod Examples
 mod FreeSegments
 mod Heights
 mod Identities
+mod OnEdges
 pub mod PlaneKit
 mod PointOrder
 mod Points

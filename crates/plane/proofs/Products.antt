@@ -1,6 +1,6 @@
 -- Identities of cross and dot products, and the signs that they leave possible.
-use Rattle.std.proofs.Common.{Bool, ap, arith, false, refl, subst, true, ◌∙◌, ◌≡◌}
-use lib.IntN.{pos, ◌*ℤ◌, ◌+ℤ◌}
+use Rattle.std.proofs.Common.{Bool, ap, arith, false, refl, subst, sym, true, ◌∙◌, ◌≡◌}
+use lib.IntN.{pos, ◌*ℤ◌, ◌+ℤ◌, ◌-ℤ◌}
 use Rattle.plane.specs.Sign.{Null, Plus, Sign, is_plus, negated, sign}
 use Rattle.plane.specs.Vector.{IsDirection, Vector, cross, dot, east, from_to}
 use Rattle.plane.proofs.Identities.{Split, lift, same, ◌⊞◌, ◌⊟◌, ◌⊠◌}
@@ -129,6 +129,12 @@ direction-from a h =
     let f = rw (sign-* a.x a.x, sign-* a.y a.y) at k in
     let c = all-out (square_sum (sign a.x) (sign a.y)) (all2-out (λ s t. all (square_sum s t)) refl (sign a.x) (sign a.y)) (sign (dot a a)) in
     is_plus-true (sign (dot a a)) (imp-out _ _ (imp-out _ _ c (nonzero-by (sign a.x) (sign a.y) (λ u v. h ((null-is a.x).0 u) ((null-is a.y).0 v)))) f)
+
+pub cross-direction : (a b : Vector) → sign (cross a b) ≡ Plus → IsDirection a
+cross-direction a b h =
+    direction-from a (λ k l.
+    let z : cross a b ≡ pos 0 = ap (λ z. z *ℤ b.y -ℤ a.y *ℤ b.x) k ∙ ap (λ z. pos 0 *ℤ b.y -ℤ z *ℤ b.x) l ∙ same (lift (pos 0) ⊠ lift b.y ⊟ lift (pos 0) ⊠ lift b.x) (lift (pos 0)) (omega arith) in
+    let y = ap sign z in cc (sym h ∙ y))
 
 -- the side of a line is told from either of its points
 pub side-there : (s t w : Vector) → cross (from_to s t) (from_to t w) ≡ cross (from_to s t) (from_to s w)

@@ -5,12 +5,16 @@ use Rattle.plane.specs.Edge as plane
 use Rattle.plane.specs.Scale.{scaled_edge, scaled_point}
 use Rattle.plane.proofs.SignKit.{Split, lift, same, ◌⊠◌}
 use Rattle.std.proofs.Math.Nat.{div-mul_cancel, pos_of_dvd_of_pos}
+use Rattle.std.proofs.lemmas.Int.{ints}
 use Rattle.std.proofs.lemmas.Nat.{div-mul-add}
 use Rattle.plane.proofs.PlaneKit.{same_edge_by, same_vector}
 use Rattle.winding.specs.ScaledEdges.{scaled_edges}
 use Rattle.osm_geom.specs.declared.edge.Edge.{Edge}
 use Rattle.osm_geom.specs.declared.point.Point.{Point}
+use Rattle.osm_geom.specs.declared.point.Point.TheVariants.{Lattice}
 use Rattle.osm_geom.specs.Point.{den_of, whole_of}
+use Rattle.osm_lattice.specs.declared.loc.Loc.{Loc}
+use Rattle.osm_lattice.specs.Loc.{vector_of}
 use Rattle.plane_edges.specs.Multiple.{common_den, edge_times, edges_times, point_times, whole_edges}
 use Rattle.plane_edges.specs.SidedLaws.{IsLattice}
 
@@ -20,6 +24,10 @@ common-lattice (e ∷ es) h = rw ((h e (inl refl)).0, (h e (inl refl)).1, common
 
 pub lattice_whole : (es : List Edge) → IsLattice es → whole_edges es ≡ edges_times 1 es
 lattice_whole es h = ap (λ k. edges_times k es) (common-lattice es h)
+
+-- a location as a point, in the plane that isn't multiplied
+pub lattice_point : (p : Loc) → point_times 1 (Lattice p) ≡ vector_of p
+lattice_point p = same_vector (pos 1 *ℤ (p.x *ℤ pos 1)) (pos 1 *ℤ (p.y *ℤ pos 1)) p.x p.y (omega (arith, ints)) (omega (arith, ints))
 
 scaled-twice : (m : ℕ) (n : ℕ) (x : ℤ) → pos (n * m) *ℤ x ≡ pos m *ℤ (pos n *ℤ x)
 scaled-twice m n x =

@@ -11,7 +11,8 @@ use Rattle.plane.proofs.PlaneKit.{cross-here, cross2, from_to2, lift2, same_vect
 use Rattle.plane.proofs.SignKit.{lift, plus-is, same, ◌⊞◌, ◌⊟◌, ◌⊠◌}
 use Rattle.rounded.specs.Clear.{IsClearOfSquare, IsLeftOf, IsLeftOfSquare}
 use Rattle.rounded.specs.Square.{IsNear, weighted_point}
-use Rattle.rounded.proofs.Nears.{gain, near-left, up-product}
+use Rattle.rounded.proofs.Nears.{gain, near-left}
+use Rattle.lists.proofs.ListsKit.{product_not_below}
 
 not-below : (a : ℤ) → (sign a ≡ Minus → ⊥) → pos 0 ≤ℤ a
 not-below (pos n) h = omega (arith, ints)
@@ -51,8 +52,8 @@ module _ (h : ℤ) (p : Vector) (e : Edge) (c : IsClearOfSquare h p e) (a b : �
   left-point k l s f t =
       subst (λ (w : Vector). IsLeftOf d w point) s
       (gain m (a *ℤ (cross d (from_to k e.from) -ℤ pos 1)) (b *ℤ (cross d (from_to k e.to) -ℤ pos 1)) (cross d (from_to (scaled_point m k) point)) some
-      (up-product a (cross d (from_to k e.from) -ℤ pos 1) (not-below a ha) (less-one (cross d (from_to k e.from)) f))
-      (up-product b (cross d (from_to k e.to) -ℤ pos 1) (not-below b hb) (less-one (cross d (from_to k e.to)) t))
+      (product_not_below a (cross d (from_to k e.from) -ℤ pos 1) (not-below a ha) (less-one (cross d (from_to k e.from)) f))
+      (product_not_below b (cross d (from_to k e.to) -ℤ pos 1) (not-below b hb) (less-one (cross d (from_to k e.to)) t))
       (whole a b (cross d (from_to k e.from)) (cross d (from_to k e.to)) ∙ weigh-by a b d k e.from e.to))
 
   left-square : IsLeftOfSquare (m *ℤ h) d (scaled_point m p) point

@@ -9,21 +9,17 @@ use Rattle.plane.proofs.PlaneKit.{cross2, from_to2, lift2}
 use Rattle.plane.proofs.SignKit.{lift, plus-is, same, ◌⊞◌, ◌⊟◌, ◌⊠◌}
 use Rattle.rounded.specs.Clear.{IsLeftOf, IsLeftOfSquare}
 use Rattle.rounded.specs.Square.{IsNear}
-
-pub up-product : (x z : ℤ) → pos 0 ≤ℤ x → pos 0 ≤ℤ z → pos 0 ≤ℤ (x *ℤ z)
-up-product (pos m) (pos n) h k = omega (arith, ints)
-up-product (pos m) (negsuc n) h k = absurd (omega (arith, ints))
-up-product (negsuc m) z h k = absurd (omega (arith, ints))
+use Rattle.lists.proofs.ListsKit.{product_not_below}
 
 down-product : (x z : ℤ) → x ≤ℤ pos 0 → z ≤ℤ pos 0 → pos 0 ≤ℤ (x *ℤ z)
 down-product x z h k =
-    let e = up-product (pos 0 -ℤ x) (pos 0 -ℤ z) (omega (arith, ints)) (omega (arith, ints)) in
+    let e = product_not_below (pos 0 -ℤ x) (pos 0 -ℤ z) (omega (arith, ints)) (omega (arith, ints)) in
     let f : (pos 0 -ℤ x) *ℤ (pos 0 -ℤ z) ≡ x *ℤ z = same ((lift (pos 0) ⊟ lift x) ⊠ (lift (pos 0) ⊟ lift z)) (lift x ⊠ lift z) (omega arith) in
     rw f at e
 
 -- one of the two ends of what b may be is behind it, along x
 behind : (x b h : ℤ) → b ≤ℤ h → pos 0 ≤ℤ (b +ℤ h) → (pos 0 ≤ℤ (x *ℤ (b +ℤ h))) ⊎ (pos 0 ≤ℤ (x *ℤ (b -ℤ h)))
-behind (pos n) b h l m = inl (up-product (pos n) (b +ℤ h) (omega (arith, ints)) m)
+behind (pos n) b h l m = inl (product_not_below (pos n) (b +ℤ h) (omega (arith, ints)) m)
 behind (negsuc n) b h l m = inr (down-product (negsuc n) (b -ℤ h) (omega (arith, ints)) (omega (arith, ints)))
 
 pub gain : (a b c r : ℤ) → sign a ≡ Plus → pos 0 ≤ℤ b → pos 0 ≤ℤ c → a +ℤ b +ℤ c ≡ r → sign r ≡ Plus

@@ -1,20 +1,13 @@
 -- An edge on one side of a line through a point: what it counts there is told by its ends alone.
-use Rattle.std.proofs.Common.{Bool, ap, arith, refl, sym, ◌+◌, ◌∙◌, ◌≡◌}
-use lib.IntN.{pos, ◌*ℤ◌, ◌-ℤ◌}
+use Rattle.std.proofs.Common.{Bool, arith, refl, ◌+◌, ◌≡◌}
 use Rattle.plane.specs.Edge.{Edge}
 use Rattle.plane.specs.RayCrossing.{IsOffEdge, down_by, off_by, up_by}
 use Rattle.plane.specs.Sector.{in_sector}
 use Rattle.plane.specs.Sign.{Plus, Sign, sign}
-use Rattle.plane.specs.Vector.{IsDirection, Vector, cross, dot, east, from_to}
-use Rattle.plane.proofs.PlaneKit.{direction-from, down_seen, east-direction, frame-agree, frame-dot-agree, sector_lemma, up_seen}
-use Rattle.plane.proofs.SignKit.{agree, all4-out, imp, imp-out, lift, same, times, ◌⊟◌, ◌⊠◌}
+use Rattle.plane.specs.Vector.{Vector, cross, dot, east, from_to}
+use Rattle.plane.proofs.PlaneKit.{cross-direction, down_seen, east-direction, frame-agree, frame-dot-agree, sector_lemma, up_seen}
+use Rattle.plane.proofs.SignKit.{agree, all4-out, imp, imp-out, times}
 use Rattle.rounded.specs.Clear.{IsLeftOf}
-
-cross-direction : (a b : Vector) → sign (cross a b) ≡ Plus → IsDirection a
-cross-direction a b h =
-    direction-from a (λ k l.
-    let z : cross a b ≡ pos 0 = ap (λ z. z *ℤ b.y -ℤ a.y *ℤ b.x) k ∙ ap (λ z. pos 0 *ℤ b.y -ℤ z *ℤ b.x) l ∙ same (lift (pos 0) ⊠ lift b.y ⊟ lift (pos 0) ⊠ lift b.x) (lift (pos 0)) (omega arith) in
-    let y = ap sign z in cc (sym h ∙ y))
 
 abbrev off_1 : Sign → Sign → Sign → Sign → Bool
 off_1 x y c s = imp (agree (times Plus c) (times y Plus) (times x Plus)) λ _. imp (agree (times x y) (times Plus Plus) (times Plus s)) λ _. off_by c s

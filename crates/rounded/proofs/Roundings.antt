@@ -1,8 +1,7 @@
 -- Rounding as a move by a half at most.
 use Rattle.std.proofs.Common.{All, List, ap, arith, refl, subst, sym, ℕ, ◌%◌, ◌*◌, ◌<◌, ◌∙◌, ◌≡◌}
-use Rattle.std.specs.Int.{int_div_euclid}
 use borrow.Author.Differences.{ints}
-use lib.IntN.{negsuc, pos, ℤ, ◌*ℤ◌, ◌+ℤ◌, ◌-ℤ◌}
+use lib.IntN.{pos, ℤ, ◌*ℤ◌, ◌+ℤ◌, ◌-ℤ◌}
 use lib.Signed.{◌<ℤ◌, ◌≤ℤ◌}
 use Rattle.plane.specs.Edge.{Edge}
 use Rattle.plane.specs.RayCrossing.{IsOffEdge}
@@ -11,7 +10,7 @@ use Rattle.plane.specs.Sign.{Plus, sign}
 use Rattle.plane.specs.Vector.{Vector, east}
 use Rattle.winding.specs.EdgeList.{IsBalanced, crossing_count, winding_number}
 use Rattle.winding.specs.ScaledEdges.{scaled_edges}
-use Rattle.lists.proofs.ListsKit.{all-in, in-all, in-map-out, map-map}
+use Rattle.lists.proofs.ListsKit.{all-in, floor_above, floor_below, in-all, in-map-out, map-map, product_not_below}
 use Rattle.plane.proofs.SignKit.{lift, plus-is, same, ◌⊞◌, ◌⊟◌, ◌⊠◌}
 use Rattle.plane.proofs.PlaneKit.{point-turned}
 use Rattle.winding.proofs.WindingKit.{all-off-back, count-scaled, winding-scaled}
@@ -20,15 +19,7 @@ use Rattle.rounded.specs.RoundedEdges.{rounded_edges, rounded_point, whole_near}
 use Rattle.rounded.specs.RoundedLaws.{IsBeyondHalf}
 use Rattle.rounded.specs.Square.{HasNoPointNear, IsNear, moved_edge, moved_edges}
 use Rattle.rounded.proofs.Moves.{moved-odd, moved-off, moved-winds}
-use Rattle.rounded.proofs.Nears.{near-itself, up-product}
-
-pub floor-below : (z : ℤ) (k : ℕ) → 0 < k → (int_div_euclid z (pos k) *ℤ pos k) ≤ℤ z
-floor-below (pos a) k h = omega (arith, ints)
-floor-below (negsuc a) k h = omega (arith, ints)
-
-pub floor-above : (z : ℤ) (k : ℕ) → 0 < k → z <ℤ (int_div_euclid z (pos k) *ℤ pos k +ℤ pos k)
-floor-above (pos a) k h = omega (arith, ints)
-floor-above (negsuc a) k h = omega (arith, ints)
+use Rattle.rounded.proofs.Nears.{near-itself}
 
 turned : (r : ℤ) (m : ℕ) → r *ℤ pos (2 * m) ≡ pos 2 *ℤ (pos m *ℤ r)
 turned r m = same (lift r ⊠ lift (pos (2 * m))) (lift (pos 2) ⊠ (lift (pos m) ⊠ lift r)) (omega arith)
@@ -38,12 +29,12 @@ half z q m h = omega (arith, ints)
 
 whole-below : (z : ℤ) (m : ℕ) → 0 < m → (pos 2 *ℤ (pos m *ℤ whole_near z m)) ≤ℤ (pos 2 *ℤ z +ℤ pos m)
 whole-below z m h =
-    subst (λ (k : ℤ). k ≤ℤ (pos 2 *ℤ z +ℤ pos m)) (turned (whole_near z m) m) (floor-below (pos 2 *ℤ z +ℤ pos m) (2 * m) (omega arith))
+    subst (λ (k : ℤ). k ≤ℤ (pos 2 *ℤ z +ℤ pos m)) (turned (whole_near z m) m) (floor_below (pos 2 *ℤ z +ℤ pos m) (2 * m) (omega arith))
 
 whole-above : (z : ℤ) (m : ℕ) → 0 < m → (pos 2 *ℤ z) ≤ℤ (pos 2 *ℤ (pos m *ℤ whole_near z m) +ℤ pos m)
 whole-above z m h =
     half (pos 2 *ℤ z) (pos 2 *ℤ (pos m *ℤ whole_near z m)) m
-    (subst (λ (k : ℤ). (pos 2 *ℤ z +ℤ pos m) <ℤ (k +ℤ pos (2 * m))) (turned (whole_near z m) m) (floor-above (pos 2 *ℤ z +ℤ pos m) (2 * m) (omega arith)))
+    (subst (λ (k : ℤ). (pos 2 *ℤ z +ℤ pos m) <ℤ (k +ℤ pos (2 * m))) (turned (whole_near z m) m) (floor_above (pos 2 *ℤ z +ℤ pos m) (2 * m) (omega arith)))
 
 pub rounded-near : (m : ℕ) → 0 < m → (p : Vector) → IsNear (pos m) (scaled_point (pos 2) p) (scaled_point (pos 2) (scaled_point (pos m) (rounded_point m p)))
 rounded-near m h p = record { x_below = whole-below p.x m h; x_above = whole-above p.x m h; y_below = whole-below p.y m h; y_above = whole-above p.y m h }
@@ -52,7 +43,7 @@ rounded-near m h p = record { x_below = whole-below p.x m h; x_above = whole-abo
 times-below : (q a b h : ℤ) → pos 0 ≤ℤ q → a ≤ℤ (b +ℤ h) → (q *ℤ a) ≤ℤ (q *ℤ b +ℤ q *ℤ h)
 times-below q a b h some l =
     let e : q *ℤ ((b +ℤ h) -ℤ a) ≡ (q *ℤ b +ℤ q *ℤ h) -ℤ q *ℤ a = same (lift q ⊠ ((lift b ⊞ lift h) ⊟ lift a)) ((lift q ⊠ lift b ⊞ lift q ⊠ lift h) ⊟ lift q ⊠ lift a) (omega arith) in
-    let p = up-product q ((b +ℤ h) -ℤ a) some (omega (arith, ints)) in omega (arith, ints)
+    let p = product_not_below q ((b +ℤ h) -ℤ a) some (omega (arith, ints)) in omega (arith, ints)
 
 near-times : (q h : ℤ) (u v : Vector) → pos 0 ≤ℤ q → IsNear h u v → IsNear (q *ℤ h) (scaled_point q u) (scaled_point q v)
 near-times q h u v some n = record {

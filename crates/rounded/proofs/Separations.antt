@@ -4,7 +4,7 @@ use borrow.Author.Differences.{ints}
 use lib.IntN.{negsuc, pos, ℤ, ◌*ℤ◌, ◌+ℤ◌, ◌-ℤ◌}
 use lib.Signed.{◌<ℤ◌, ◌≤ℤ◌}
 use Rattle.plane.proofs.SignKit.{lift, same, ◌⊞◌, ◌⊟◌, ◌⊠◌}
-use Rattle.rounded.proofs.Nears.{up-product}
+use Rattle.lists.proofs.ListsKit.{product_not_below}
 
 -- ---- comparing
 by-difference : (x y z : ℤ) → y -ℤ x ≡ z → (x ≤ℤ y) ⊎ (y <ℤ x)
@@ -82,10 +82,10 @@ module _ (h ux uy vx vy : ℤ) (some : pos 0 ≤ℤ h) (right : ux ≤ℤ vx) (u
   t = (vy -ℤ uy) *ℤ h
 
   s-some : pos 0 ≤ℤ s
-  s-some = up-product (vx -ℤ ux) h (omega (arith, ints)) some
+  s-some = product_not_below (vx -ℤ ux) h (omega (arith, ints)) some
 
   t-some : pos 0 ≤ℤ t
-  t-some = up-product (vy -ℤ uy) h (omega (arith, ints)) some
+  t-some = product_not_below (vy -ℤ uy) h (omega (arith, ints)) some
 
   size : n *ℤ h ≡ s +ℤ t
   size =

@@ -1,15 +1,12 @@
 -- Closed paths: they are told by the points that their edges leave, and stay closed where points are moved or left out.
-use Rattle.std.proofs.Common.{Bool, List, [], ap, arith, cond, drop, false, map, not, refl, subst, sym, take, true, ◌++◌, ◌∙◌, ◌∷◌, ◌≡◌}
+use Rattle.std.proofs.Common.{Bool, List, [], ap, cond, drop, false, map, not, refl, subst, sym, take, true, ◌++◌, ◌∙◌, ◌∷◌, ◌≡◌}
 use Rattle.std.specs.List.{zip}
 use Rattle.plane.specs.Edge.{Edge}
-use Rattle.plane.specs.Vector.{Vector, one_at, same_point}
+use Rattle.plane.specs.Vector.{Vector, same_point}
 use Rattle.plane.proofs.PlaneKit.{same_point-true}
 use Rattle.rounded.specs.Square.{moved_edges}
 use Rattle.rounded.specs.Steps.{steps}
-use Rattle.winding.specs.EdgeList.{IsBalanced}
 use Rattle.winding.specs.Ring.{IsPath}
-use Rattle.lists.proofs.ListsKit.{total-is}
-use Rattle.winding.proofs.WindingKit.{path-ends}
 
 -- the points that edges leave
 abbrev pub starts : List Edge → List Vector
@@ -45,7 +42,3 @@ step-by a b e es first rest true h = subst (λ (v : Vector). IsPath v es b) (sym
 pub steps-path : (a b : Vector) (es : List Edge) → IsPath a es b → IsPath a (steps es) b
 steps-path a b [] h = h
 steps-path a b (e ∷ es) h = step-by a b e (steps es) h.0 (steps-path e.to b es h.1) (same_point e.from e.to) refl
-
-pub path-balanced : (a : Vector) (es : List Edge) → IsPath a es a → IsBalanced es
-path-balanced a es h v =
-    let p = path-ends v a a es h in let x = total-is (λ (e : Edge). one_at v e.from) es in let y = total-is (λ (e : Edge). one_at v e.to) es in omega (arith, p, x, y)

@@ -1,5 +1,6 @@
 -- Rings and what is left of them, and the line that is printed of a polygon.
-use Rattle.std.proofs.Common.{Bool, List, None, Some, [], arith, cond, false, length, refl, sym, true, ℕ, ◌∙◌, ◌∷◌, ◌≡◌, ◌≤◌}
+use Rattle.std.proofs.Common.{Bool, List, None, Some, [], arith, cond, false, length, refl, sym, true, ℕ, ◌∙◌, ◌∷◌, ◌≡◌}
+use Rattle.lists.proofs.ListsKit.{some_member}
 use Rattle.osm_geom.specs.declared.edge.Edge.{Edge}
 use Rattle.osm_lattice.specs.declared.loc.Loc.{Loc}
 use Rattle.osm_rings.specs.Ring.{IsRing}
@@ -15,12 +16,8 @@ use Rattle.rounded_pieces.proofs.FewLocations.{few-wind}
 use Rattle.rounded_pieces.proofs.RoundedPolygons.{less-out}
 use Rattle.rounded_pieces.proofs.RoundedRings.{ring-off, ring-winds}
 
-some-edge : (ring : List Edge) → 3 ≤ length ring → Edge
-some-edge [] h = absurd (omega arith)
-some-edge (e ∷ ring) h = e
-
 in-plane : (k : ℕ) (ring : List Edge) → IsRing ring → IsCommon k ring → winding.IsRing (edges_times k ring)
-in-plane k ring is common = plane-ring k ring (some-edge ring is.long) (each_whole k ring common) is
+in-plane k ring is common = plane-ring k ring (some_member ring (omega (arith, is.long))).0 (each_whole k ring common) is
 
 pub rounded-off : RoundedRingIsOff
 rounded-off k ring is common q plus p far = ring-off k common.some ring (each_whole k ring common) (in-plane k ring is common) q plus p far

@@ -17,9 +17,10 @@ use Rattle.rounded.proofs.RoundedKit.{rounded-odd, rounded-off, rounded-winds, s
 use Rattle.winding.specs.ScaledEdges.{scaled_edges}
 use Rattle.winding.specs.EdgeList.{crossing_count, winding_number}
 use Rattle.winding.specs.Ring as winding
+use Rattle.winding.proofs.WindingKit.{closed-balanced}
 use Rattle.rounded_pieces.specs.Near.{AreBeyondHalf}
 use Rattle.rounded_pieces.specs.Printed.{edges_round}
-use Rattle.rounded_pieces.proofs.ClosedPaths.{closed-told, moved-path, path-balanced, round, starts}
+use Rattle.rounded_pieces.proofs.ClosedPaths.{closed-told, moved-path, round, starts}
 use Rattle.rounded_pieces.proofs.NearPoints.{rounds-to}
 use Rattle.rounded_pieces.proofs.NeighboursOnce.{once-steps, round-is}
 
@@ -53,12 +54,12 @@ module _ (k : ℕ) (some : 1 ≤ k) (ring : List Edge) (whole : (e : Edge) → I
       pub ring-winds : winding_number east p (scaled_edges q (edges_round (rounded_ring ring))) ≡ winding_number east (scaled_point (pos k) p) (scaled_edges q E)
       ring-winds =
           ap (winding_number east p) left-scaled ∙ steps-wind east p (scaled_edges q L)
-          ∙ rounded-winds k some E q plus p far (path-balanced is.start E is.path)
+          ∙ rounded-winds k some E q plus p far (closed-balanced is.start E is.path)
 
       pub ring-odd : crossing_count east p (scaled_edges q (edges_round (rounded_ring ring))) % 2 ≡ crossing_count east (scaled_point (pos k) p) (scaled_edges q E) % 2
       ring-odd =
           ap (λ (es : List plane.Edge). crossing_count east p es % 2) left-scaled ∙ ap (λ n. n % 2) (steps-crossed east p (scaled_edges q L))
-          ∙ rounded-odd k some E q plus p far (path-balanced is.start E is.path)
+          ∙ rounded-odd k some E q plus p far (closed-balanced is.start E is.path)
 
       pub ring-off : All (IsOffEdge p) (scaled_edges q (edges_round (rounded_ring ring)))
       ring-off =

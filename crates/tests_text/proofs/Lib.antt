@@ -1,2 +1,1 @@
 mod Corners
-mod Halves

@@ -14,7 +14,7 @@ const AROUND: Sides = [-10, -10, 30, 30];
 const WITHIN: Sides = [10, 10, 20, 20];
 
 /// The triangle (1, 1), (0, 1), (0, 1/2), of which (0, 1) and (1, 1) are left.
-#[tactic(auto, using(crate::proofs::Halves::half_lowest), unfolding(osm_geom::specs::Carrier::is_on))]
+#[tactic(auto, using(osm_lattice::proofs::LatticeKit::half_lowest), unfolding(osm_geom::specs::Carrier::is_on))]
 fn sliver() -> [Edge; 3] {
     let half = Point::OnVertical {
         c: 0,
@@ -45,7 +45,7 @@ fn sliver() -> [Edge; 3] {
 }
 
 /// The edges (-1/2, 0), (0, -4), (1/2, 0), (0, 4).
-#[tactic(auto, using(crate::proofs::Halves::half_lowest), unfolding(osm_geom::specs::Carrier::is_on))]
+#[tactic(auto, using(osm_lattice::proofs::LatticeKit::half_lowest), unfolding(osm_geom::specs::Carrier::is_on))]
 fn halves_of_x() -> [Edge; 4] {
     let west = Point::OnHorizontal {
         x: Part {
@@ -101,7 +101,7 @@ fn halves_of_x() -> [Edge; 4] {
 }
 
 /// The edges (8, -1/2), (8, 0), (0, 4), (0, -4).
-#[tactic(auto, using(crate::proofs::Halves::half_lowest), unfolding(osm_geom::specs::Carrier::is_on))]
+#[tactic(auto, using(osm_lattice::proofs::LatticeKit::half_lowest), unfolding(osm_geom::specs::Carrier::is_on))]
 fn four_corners() -> [Edge; 4] {
     let half = Point::OnVertical {
         c: 8,

@@ -17,11 +17,11 @@ use Rattle.winding.specs.EdgeList.{winding_number}
 use Rattle.winding.specs.Ring.{IsAnchor, segments_of}
 use Rattle.winding.specs.ScaledEdges.{scaled_edges}
 use Rattle.lists.proofs.ListsKit.{or-out}
-use Rattle.one_ring_list.proofs.OneRingListKit.{closed-balanced, crescent_hole, crescent_outline, crescents_outlined, edge_between, every, every-all, every-out, high_tip, left_corner, left_crescent, low_tip, middle_corner, point_at, right_corner}
+use Rattle.one_ring_list.proofs.OneRingListKit.{crescent_hole, crescent_outline, crescents_outlined, edge_between, every, every-all, every-out, high_tip, left_corner, left_crescent, low_tip, middle_corner, point_at, right_corner}
 use Rattle.paths.proofs.PathsKit.{joined-part, joined-winds, not-minus-not, scaled-part}
 use Rattle.plane.proofs.PlaneKit.{same_edge-true, same_point-refl}
 use Rattle.plane.proofs.SignKit.{is_minus-true}
-use Rattle.winding.proofs.WindingKit.{balanced-scaled}
+use Rattle.winding.proofs.WindingKit.{balanced-scaled, closed-balanced}
 
 turn-out : (a t : Edge) → (not (same_point a.from t.from) ≡ true) ⊎ (is_minus (orient a.from a.to t.to) ≡ true) → a.from ≡ t.from → orient a.from a.to t.to ≡ Minus
 turn-out a t (inl h) e = absurd (let g = ap (λ w. not (same_point a.from w)) (sym e) in let k = ap not (same_point-refl a.from) in cc (sym h ∙ g ∙ k))

@@ -26,13 +26,12 @@ use Rattle.winding.specs.Sided.{IsSided}
 use Rattle.valid.specs.Valid.{IsExterior, LiesByRings, has_inside}
 use Rattle.lists.proofs.ListsKit.{all-in, in-all, in-map, in-map-out, in-right, total, total-is, total-map, total-same}
 use Rattle.nesting.proofs.NestingKit.{in-edges, next_leaves, next_there, reversed-by, rise}
-use Rattle.paths.proofs.PathsKit.{apart-exactly, apart-near, between-back, count-member, dot-direction, edge-parts, edge-parts-inside, free-back, free-off, inside-joined, joined-part, joined-winds, later-along, later-both, later-free, later-some, line-inside, near-none, none, off-apart, scaled-part, step-direction, step-winds, times-some, winds-across-edge}
-use Rattle.plane.proofs.PlaneKit.{direction-back, dot2, down_seen, lift2, point-scaled, point-twice, same_edge-refl, same_edge-true, same_edge_by, same_point-refl, same_point-true, up_seen}
+use Rattle.paths.proofs.PathsKit.{apart-exactly, apart-near, between-back, count-member, dot-direction, edge-parts, edge-parts-inside, free-back, free-off, inside-joined, joined-part, joined-winds, later-along, later-both, later-free, later-some, line-inside, near-none, none, off-apart, scaled-part, step-winds, times-some, winds-across-edge}
+use Rattle.plane.proofs.PlaneKit.{direction-back, dot2, down_seen, lift2, on-between, point-scaled, point-twice, same_edge-refl, same_edge-true, same_edge_by, same_point-refl, same_point-true, step-direction, up_seen}
 use Rattle.plane.proofs.SignKit.{lift, plus-times, same, ◌⊟◌, ◌⊠◌}
-use Rattle.winding.proofs.WindingKit.{all-off-scaled, balanced-scaled, edges-twice, once-most, path-ends, reversed-crossings, sided-scaled, total-member, winding-scaled}
-use Rattle.valid.proofs.Meets.{inner-off, meet, no-loop, on-between, on-reversed}
+use Rattle.winding.proofs.WindingKit.{all-off-scaled, balanced-scaled, closed-balanced, edges-twice, once-most, path-ends, reversed-crossings, sided-scaled, total-member, winding-scaled}
+use Rattle.valid.proofs.Meets.{inner-off, meet, no-loop, on-reversed}
 use Rattle.valid.proofs.Windings.{downs, ups}
-use Rattle.one_ring_list.proofs.OneRingListKit.{closed-balanced}
 use Rattle.paths.specs.Beside.{WindsMore, times_in}
 
 -- to the left

@@ -1,6 +1,6 @@
 -- Two edges of a sided list share no points but ends.
-use Rattle.std.proofs.Common.{Bool, List, [], ap, arith, cond, false, inl, inr, not, refl, subst, sym, true, ◌||◌, ◌∙◌, ◌∷◌, ◌≡◌, ◌⊎◌}
-use lib.IntN.{ℤ, ◌+ℤ◌}
+use Rattle.std.proofs.Common.{Bool, List, [], ap, cond, false, inl, inr, refl, subst, sym, true, ◌||◌, ◌∙◌, ◌∷◌, ◌≡◌, ◌⊎◌}
+use lib.IntN.{ℤ}
 use Rattle.lists.specs.Member.{EachPair, In}
 use Rattle.nesting.specs.Nesting.{edges_of}
 use Rattle.plane.specs.Conflict.{IsClearOf}
@@ -16,50 +16,11 @@ use Rattle.winding.specs.Sided.{IsSided}
 use Rattle.valid.specs.Valid.{MeetAtEnds}
 use Rattle.lists.proofs.ListsKit.{all-in, in-map, pairs-across, pairs-left, pairs-right, pairs-weaker}
 use Rattle.nesting.proofs.NestingKit.{clear-two, differ, in-edges, no-loop-segments, rise, segment-back, sided-once}
-use Rattle.paths.proofs.PathsKit.{later-along, later-some, step-direction}
-use Rattle.plane.proofs.PlaneKit.{clear_misses, clear_off_from, clear_off_to, cross-here, cross-self, dot-here, dot-there_back, dot2, edge-scaled, frame-dot-agree, from_to2, inner_point_off, lift2, off-turned, off_by-no, orient-round, same_point-refl, same_point-true, view_at}
-use Rattle.plane.proofs.SignKit.{agree, agree-sum, same, sign-reversed, times, ◌⊞◌}
+use Rattle.paths.proofs.PathsKit.{later-along, later-some}
+use Rattle.plane.proofs.PlaneKit.{clear_misses, clear_off_from, clear_off_to, cross-here, cross-self, dot-here, dot-there_back, edge-scaled, frame-dot-agree, inner_point_off, off-turned, on-between, orient-round, same_point-refl, same_point-true, step-direction, view_at}
+use Rattle.plane.proofs.SignKit.{agree, sign-reversed, times}
 use Rattle.winding.proofs.WindingKit.{sided-scaled}
 use Rattle.paths.specs.Near.{near}
-
--- ---- a point on an edge is one of its ends or strictly between them
-off_by-plus : (c s : Sign) → off_by c s ≡ false → not (is_plus s) ≡ true
-off_by-plus Null Null h = refl
-off_by-plus Null Minus h = refl
-off_by-plus Null Plus h = cc
-off_by-plus Minus s h = cc
-off_by-plus Plus s h = cc
-
-first-plus : (s t u : Sign) → agree s t u ≡ true → not (is_plus t) ≡ true → u ≡ Plus → s ≡ Plus
-first-plus Plus t u a n h = refl
-first-plus Null Null u a n h = cc
-first-plus Null Minus u a n h = cc
-first-plus Null Plus u a n h = cc
-first-plus Minus Null u a n h = cc
-first-plus Minus Minus u a n h = cc
-first-plus Minus Plus u a n h = cc
-
-after : (s t p : Vector) → dot (from_to s t) (from_to s p) +ℤ dot (from_to p s) (from_to p t) ≡ dot (from_to p s) (from_to p s)
-after s t p =
-    let s' = lift2 s in let t' = lift2 t in let p' = lift2 p in
-    same (dot2 (from_to2 s' t') (from_to2 s' p') ⊞ dot2 (from_to2 p' s') (from_to2 p' t')) (dot2 (from_to2 p' s') (from_to2 p' s')) (omega arith)
-
-before : (s t p : Vector) → dot (from_to s t) (from_to p t) +ℤ dot (from_to p s) (from_to p t) ≡ dot (from_to p t) (from_to p t)
-before s t p =
-    let s' = lift2 s in let t' = lift2 t in let p' = lift2 p in
-    same (dot2 (from_to2 s' t') (from_to2 p' t') ⊞ dot2 (from_to2 p' s') (from_to2 p' t')) (dot2 (from_to2 p' t') (from_to2 p' t')) (omega arith)
-
-pub on-between : (s : Edge) (p : Vector) → is_off p s ≡ false → same_point p s.from ≡ false → same_point p s.to ≡ false → IsBetween s.from s.to p
-on-between s p o f t =
-    let c = sign (cross (from_to p s.from) (from_to p s.to)) in let d = sign (dot (from_to p s.from) (from_to p s.to)) in
-    let n = off_by-plus c d o in
-    record {
-      on_line = ap sign (orient-round p s.from s.to) ∙ off_by-no c d o;
-      after_s = first-plus (sign (dot (from_to s.from s.to) (from_to s.from p))) d (sign (dot (from_to p s.from) (from_to p s.from)))
-          (agree-sum (dot (from_to s.from s.to) (from_to s.from p)) (dot (from_to p s.from) (from_to p s.to)) (dot (from_to p s.from) (from_to p s.from)) (after s.from s.to p)) n (step-direction p s.from f);
-      before_t = first-plus (sign (dot (from_to s.from s.to) (from_to p s.to))) d (sign (dot (from_to p s.to) (from_to p s.to)))
-          (agree-sum (dot (from_to s.from s.to) (from_to p s.to)) (dot (from_to p s.from) (from_to p s.to)) (dot (from_to p s.to) (from_to p s.to)) (before s.from s.to p)) n (step-direction p s.to t);
-    }
 
 -- ---- a point strictly between the ends is on the edge, and no end
 minus-by : (s : Sign) → agree Minus Null (times Plus s) ≡ true → off_by Null s ≡ false

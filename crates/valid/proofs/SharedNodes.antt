@@ -22,11 +22,10 @@ use Rattle.valid.specs.Laws.{IsNode, IsOnRing, ShareOneNode, ShareOnePoint}
 use Rattle.valid.specs.Valid.{IsExterior, IsInterior, IsValidPolygon, MeetAtEnds, MeetOnlyAtPoints, boundary_rings, has_inside}
 use Rattle.lists.proofs.ListsKit.{all-in, in-all, in-either, in-left, in-right, pairs-append, pairs-weaker}
 use Rattle.nesting.proofs.NestingKit.{in-edges, in-edges-out, pairs-of}
-use Rattle.one_ring_list.proofs.OneRingListKit.{closed-balanced}
-use Rattle.paths.proofs.PathsKit.{Later, joined-part, joined-winds, later-along, later-both, later-some, later-then, scaled-part, step-direction, times-none, times-some, winds-across-edge}
-use Rattle.plane.proofs.PlaneKit.{point-back, same_edge-refl, same_edge-true, same_point-refl, same_point-true}
+use Rattle.paths.proofs.PathsKit.{Later, joined-part, joined-winds, later-along, later-both, later-some, later-then, scaled-part, times-none, times-some, winds-across-edge}
+use Rattle.plane.proofs.PlaneKit.{point-back, same_edge-refl, same_edge-true, same_point-refl, same_point-true, step-direction}
 use Rattle.plane.proofs.SignKit.{plus-times}
-use Rattle.winding.proofs.WindingKit.{balanced-scaled, edges-twice, path-join}
+use Rattle.winding.proofs.WindingKit.{balanced-scaled, closed-balanced, edges-twice, path-join}
 use Rattle.valid.proofs.Holes.{left-plus, left_of, no-part, right-in}
 use Rattle.valid.proofs.Meets.{inner-off, own-meet}
 use Rattle.valid.proofs.RingParts.{RingParts, moves, next_edge, ring_parts}
@@ -55,9 +54,6 @@ module _ (g : Polygon) (valid : IsValidPolygon g) where
   meet-by e f n (inl q) = absurd (cc (sym (same_edge-refl e) ∙ ap (same_edge e) q ∙ n))
   meet-by e f n (inr (inl m)) = m
   meet-by e f n (inr (inr m)) = meet-back f e m
-
-  meet-two : (e f : Edge) → In e es → In f es → same_edge e f ≡ false → MeetAtEnds e f
-  meet-two e f i j n = meet-by e f n (pairs-of MeetAtEnds es e f all-meet i j)
 
   -- ---- a hole, another ring, and two nodes of both
   module _ (o : List Edge) (h : List Edge) (io : In o rings) (ih : In h g.inner) (meets : MeetOnlyAtPoints o h) (u v : Vector) (differ : u ≡ v → ⊥) (ps : RingParts h u v) (qs : RingParts o u v) where
@@ -116,7 +112,7 @@ module _ (g : Polygon) (valid : IsValidPolygon g) where
     later-beside : (q : ℤ) → sign q ≡ Plus → (e : Edge) → In e h → same_point e.from e.to ≡ false → Between q e (foot q e) → Later (Beside q e)
     later-beside q hq e i d b =
         let left : sign (cross (way e) (side e)) ≡ Plus = ap sign (left-plus (way e)) ∙ step-direction e.from e.to d in
-        let off = λ (f : Edge) (j : In f es) (n : same_edge e f ≡ false). inner-off e f q hq (foot q e) b (meet-two e f (in-h e i) j n) (is_off (foot q e) (scaled_edge q f)) refl in
+        let off = λ (f : Edge) (j : In f es) (n : same_edge e f ≡ false). inner-off e f q hq (foot q e) b (meet-by e f n (pairs-of MeetAtEnds es e f all-meet (in-h e i) j)) (is_off (foot q e) (scaled_edge q f)) refl in
         let A = λ (k : ℤ). IsInside (at k q es) (on_left q e k) × IsOutside (at k q es) (on_right q e k) in
         let B = λ (k : ℤ). WindsMore (at k q h) (on_left q e k) (on_right q e k) (times_in e h) in
         let C = λ (k : ℤ). WindsMore (at k q c) (on_left q e k) (on_right q e k) (times_in e c) in

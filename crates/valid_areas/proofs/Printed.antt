@@ -14,7 +14,7 @@ use Rattle.osm_nest.specs.declared.polygon.Polygon.{Polygon}
 use Rattle.osm_nest.specs.Polygons.{polygon_times, rings_in, rings_of}
 use Rattle.osm_nest.proofs.BegunPolygons.{in-rings}
 use Rattle.osm_notation.specs.Coordinates.{point_text}
-use Rattle.osm_sides.proofs.PlaneEdges.{lattice_point}
+use Rattle.plane_edges.proofs.EdgesKit.{lattice_point}
 use Rattle.osm_text.specs.GeoJson.{position_json}
 use Rattle.osm_text.specs.Paths.{path_along, paths_in, paths_of}
 use Rattle.osm_text.proofs.WholePaths.{passes}

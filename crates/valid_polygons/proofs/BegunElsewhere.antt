@@ -12,7 +12,7 @@ use Rattle.one_ring_list.specs.RingListOf.{IsRingListOf}
 use Rattle.plane.specs.Edge.{Edge}
 use Rattle.winding.specs.Sided.{IsSided}
 use Rattle.lists.proofs.ListsKit.{all-in, pairs-across, pairs-right, pairs-weaker, rotated-in, some_member, total, total-++, total-is}
-use Rattle.nesting.proofs.NestingKit.{Once, in-edges, polygon_sided, ring_rotated, rotated-length, rotated-total, same-once, sided-once}
+use Rattle.nesting.proofs.NestingKit.{Once, in-edges, polygon_sided, ring_rotated, rotated-length, rotated-total, rotated-was, same-once, sided-once}
 use Rattle.one_ring_list.proofs.OneRingListKit.{encloses-same, found, inner-same, outer-same, rings-uncrossed}
 use Rattle.valid_polygons.proofs.Flattened.{in-flat, out-flat}
 
@@ -29,15 +29,7 @@ abbrev pub AreBegun : List Polygon → List Polygon → Type 0
 AreBegun [] hs = hs ≡ []
 AreBegun (g ∷ gs) hs = (first : Polygon) × (others : List Polygon) × (hs ≡ first ∷ others) × IsBegun g first × AreBegun gs others
 
--- ---- what a ring or polygon was
-ring-was-by : (r : List Edge) (rs : List (List Edge)) (p : List Edge) (ps : List (List Edge)) → IsRotated r p → (q : List Edge) → (q ≡ p) ⊎ In q ps → (In q ps → (r : List Edge) × In r rs × IsRotated r q) → (u : List Edge) × In u (r ∷ rs) × IsRotated u q
-ring-was-by r rs p ps t q (inl e) h = (r, inl refl, subst (λ l. IsRotated r l) (sym e) t)
-ring-was-by r rs p ps t q (inr i) h = let a = h i in (a.0, inr a.1, a.2)
-
-ring-was : (rs qs : List (List Edge)) → AreRotated rs qs → (q : List Edge) → In q qs → (r : List Edge) × In r rs × IsRotated r q
-ring-was [] qs k q i = absurd (subst (λ l. In q l) k i)
-ring-was (r ∷ rs) qs k q i = ring-was-by r rs k.0 k.1 k.3 q (subst (λ l. In q l) k.2 i) (ring-was rs k.1 k.4 q)
-
+-- ---- what a polygon was
 was-by : (g : Polygon) (gs : List Polygon) (f : Polygon) (others : List Polygon) → IsBegun g f → (h : Polygon) → (h ≡ f) ⊎ In h others → (In h others → (x : Polygon) × In x gs × IsBegun x h) → (x : Polygon) × In x (g ∷ gs) × IsBegun x h
 was-by g gs f others t h (inl e) k = (g, inl refl, subst (IsBegun g) (sym e) t)
 was-by g gs f others t h (inr i) k = let a = k i in (a.0, inr a.1, a.2)
@@ -96,7 +88,7 @@ module _ (es : List Edge) (sd : IsSided es) (rs : List (List Edge)) (l : IsRingL
 
   ring-of-by : (g h : Polygon) → In g gs → IsBegun g h → (q : List Edge) → In q (h.outer ∷ h.inner) → (r : List Edge) × In r rs × IsRotated r q
   ring-of-by g h i t q (inl e) = (g.outer, (a.each g i).member, subst (λ l. IsRotated g.outer l) (sym e) t.outer)
-  ring-of-by g h i t q (inr j) = let w = ring-was g.inner h.inner t.inner q j in (w.0, (a.each g i).inner_members w.0 w.1, w.2)
+  ring-of-by g h i t q (inr j) = let w = rotated-was g.inner h.inner t.inner q j in (w.0, (a.each g i).inner_members w.0 w.1, w.2)
 
   ring-of : (q : List Edge) → In q begun_rings → (r : List Edge) × In r rs × IsRotated r q
   ring-of q j = let o = out-flat (λ (h : Polygon). h.outer ∷ h.inner) hs q j in let w = was gs hs begun o.0 o.1 in ring-of-by w.0 o.0 w.1 w.2 q o.2
@@ -130,7 +122,7 @@ module _ (es : List Edge) (sd : IsSided es) (rs : List (List Edge)) (l : IsRingL
     is = a.each g origin.1
 
     inner-was : (q : List Edge) → In q h.inner → (r : List Edge) × In r g.inner × IsRotated r q
-    inner-was q i = ring-was g.inner h.inner origin.2.inner q i
+    inner-was q i = rotated-was g.inner h.inner origin.2.inner q i
 
     here : (q : List Edge) → In q (h.outer ∷ h.inner) → In q begun_rings
     here q i = in-flat (λ (h : Polygon). h.outer ∷ h.inner) hs h q j i

@@ -36,7 +36,7 @@ west = record { x = negsuc 0; y = pos 0 }
 pub west-direction : IsDirection west
 west-direction = refl
 
-cross-west : (w : Vector) → sign (cross west w) ≡ negated (sign w.y)
+pub cross-west : (w : Vector) → sign (cross west w) ≡ negated (sign w.y)
 cross-west w =
     let x = lift w.x in let y = lift w.y in
     let e : w.y +ℤ cross west w ≡ pos 0 = same (y ⊞ (lift (negsuc 0) ⊠ y ⊟ lift (pos 0) ⊠ x)) (lift (pos 0)) (omega arith) in

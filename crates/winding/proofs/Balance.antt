@@ -16,12 +16,12 @@ use Rattle.winding.specs.Node.{away, spokes, spokes_in}
 use Rattle.winding.specs.OddSide.{directed, directed_edge, runs_up}
 use Rattle.winding.specs.Parity.{is_even}
 use Rattle.winding.specs.Rank.{IsOrder}
-use Rattle.lists.proofs.ListsKit.{in-filter, in-passes, not-not, pairs-filter, pairs-weaker, total, total-filter, total-is, total-map, total-same}
+use Rattle.lists.proofs.ListsKit.{even_or_odd, in-filter, in-passes, not-not, pairs-filter, pairs-weaker, total, total-filter, total-is, total-map, total-same}
 use Rattle.plane.proofs.PlaneKit.{clear_misses, edge_of, misses_reversed, order-reversed, order-self-null, rising-direction, same_point-true, cross-agree, cross-reversed, cross-self, direction-back, dot-east, dot2, frame-agree, frame-dot-agree, lift2, plucker-agree, plucker-dot-agree, cross-east, east-direction, sector-east}
 use Rattle.plane.proofs.SignKit.{lift, same, ◌⊠◌, agree, agree-products, all, all-out, all2, all2-out, all4, all4-out, imp, imp-out, same_bool, same_bool-true, sign-reversed, times, times-back, times-plus, bit-same}
 use Rattle.winding.proofs.ConflictFree.{off_away, rising_in, split_off}
 use Rattle.winding.proofs.OddSides.{differ-parity, no_same_way_from, no_same_way_to, runs_from, runs_to, same-parity, spokes-is}
-use Rattle.winding.proofs.Ranks.{evens, halves, odds, rank', rank-parity-own}
+use Rattle.winding.proofs.Ranks.{evens, odds, rank', rank-parity-own}
 use Rattle.winding.proofs.RoundNode.{parity_round_node}
 
 -- ---- directions in the order of their angles, from east counterclockwise
@@ -310,7 +310,7 @@ half-any : (v : Vector) (es : List Edge) → IsConflictFree es → IsEvenAtPoint
 half-any v es p even [] h = refl
 half-any v es p even (s ∷ rest) h =
     subst (λ l. total (λ t. odds (out_count v es t)) l ≡ total (λ t. evens (out_count v es t)) l) h
-    (half-by v es p even s (subst (λ l. In s l) (sym h) (inl refl)) (halves (crossing_count east v (away v es))))
+    (half-by v es p even s (subst (λ l. In s l) (sym h) (inl refl)) (even_or_odd (crossing_count east v (away v es))))
 
 pub half_leave : (v : Vector) (es : List Edge) → IsConflictFree es → IsEvenAtPoints es →
     total (λ t. odds (out_count v es t)) (spokes v es) ≡ total (λ t. evens (out_count v es t)) (spokes v es)

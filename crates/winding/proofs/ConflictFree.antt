@@ -1,14 +1,15 @@
 -- A segment and the others of a conflict-free list.
 use Rattle.std.proofs.Common.{All, Bool, List, [], ap, arith, cond, false, inl, inr, not, refl, subst, sym, true, ℕ, ◌+◌, ◌||◌, ◌∙◌, ◌∷◌, ◌≡◌}
 use Rattle.plane.specs.Conflict.{IsClearOf}
-use Rattle.plane.specs.Edge.{Edge, IsRising, ends_at, same_edge}
+use Rattle.plane.specs.Edge.{Edge, IsRising, ends_at, same_edge, segment_of}
 use Rattle.plane.specs.FreeSegment.{Misses}
 use Rattle.plane.specs.RayCrossing.{IsOffEdge}
 use Rattle.plane.specs.Vector.{Vector, same_point}
 use Rattle.winding.specs.ConflictFree.{IsConflictFree, others}
 use Rattle.lists.specs.Member.{EachPair, In}
 use Rattle.winding.specs.Node.{away}
-use Rattle.lists.proofs.ListsKit.{all-in, in-all, in-filter, in-passes, not-true-out, total, total-filter, total-same}
+use Rattle.winding.specs.Ring.{segments_of}
+use Rattle.lists.proofs.ListsKit.{all-in, in-all, in-filter, in-map, in-passes, not-true-out, total, total-filter, total-same}
 use Rattle.plane.proofs.PlaneKit.{clear_back, clear_differs, clear_misses, clear_off_from, clear_off_to, same_edge-refl, same_edge-true, same_point-true}
 use Rattle.std.proofs.lemmas.Bool.{or_parts}
 
@@ -46,6 +47,9 @@ clear_pair s t es p i j d = pair-by s t es p.clear i j d
 
 pub rising_in : (es : List Edge) (s : Edge) → IsConflictFree es → In s es → IsRising s
 rising_in es s p i = in-all IsRising es s p.rising i
+
+pub segment-rises : (es : List Edge) → IsConflictFree (segments_of es) → (g : Edge) → In g es → IsRising (segment_of g)
+segment-rises es p g i = rising_in (segments_of es) (segment_of g) p (in-map segment_of es g i)
 
 pub clear_of_others : (s t : Edge) (es : List Edge) → IsConflictFree es → In s es → In t (others s es) → IsClearOf s t
 clear_of_others s t es p i j =

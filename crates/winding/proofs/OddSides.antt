@@ -17,12 +17,12 @@ use Rattle.lists.specs.Member.{In}
 use Rattle.winding.specs.Node.{away, spokes, spokes_in}
 use Rattle.winding.specs.OddSide.{runs_up}
 use Rattle.winding.specs.Parity.{is_even}
-use Rattle.lists.proofs.ListsKit.{in-filter, not-not, total, total-+, total-filter, total-is, total-same}
+use Rattle.lists.proofs.ListsKit.{even_or_odd, in-filter, not-not, total, total-+, total-filter, total-is, total-same}
 use Rattle.plane.proofs.PlaneKit.{clear_misses, edge_of, ends_at-from, line-order-up, order-reversed, rising-direction, same_point-refl, same_point-true, cross-agree, cross-here, cross-self, direction-back, dot-here, dot-reversed, crossings-left, crossings_at, east-direction, east-side, level-side, not-left, sector-east}
 use Rattle.plane.proofs.SignKit.{agree, all, all-out, all4-out, imp, imp-out, not-null-by, same-sign-is, same_sign, self-diff, times}
 use Rattle.winding.proofs.ConflictFree.{clear_of_others, off_away, rising_in, split_off}
 use Rattle.winding.proofs.OppositeEnds.{beyond, crossings-away, opposite_odd}
-use Rattle.winding.proofs.Ranks.{even-is, halves, odd-is}
+use Rattle.winding.proofs.Ranks.{even-is, odd-is}
 use Rattle.winding.proofs.RoundNode.{parity_round_node}
 
 beyond-left-by : (d p : Vector) (t : Edge) (b : Bool) → ends_at p t ≡ b → ((w : Vector) → sign (cross d w) ≡ sign w.y) → IsRising t → cond (not b) (crossings_at d (from_to p) t) 0 ≡ bit (is_left_of p t)
@@ -160,14 +160,14 @@ parity-by m n h (inl e) = even-is m e ∙ sym (ap not (odd-is n (omega arith)))
 parity-by m n h (inr e) = odd-is m e ∙ sym (ap not (even-is n (omega arith)))
 
 pub differ-parity : (m n : ℕ) → (m + n) % 2 ≡ 1 → is_even m ≡ not (is_even n)
-differ-parity m n h = parity-by m n h (halves m)
+differ-parity m n h = parity-by m n h (even_or_odd m)
 
 same-parity-by : (m n : ℕ) → (m + n) % 2 ≡ 0 → (m % 2 ≡ 0) ⊎ (m % 2 ≡ 1) → is_even m ≡ is_even n
 same-parity-by m n h (inl e) = even-is m e ∙ sym (even-is n (omega arith))
 same-parity-by m n h (inr e) = odd-is m e ∙ sym (odd-is n (omega arith))
 
 pub same-parity : (m n : ℕ) → (m + n) % 2 ≡ 0 → is_even m ≡ is_even n
-same-parity m n h = same-parity-by m n h (halves m)
+same-parity m n h = same-parity-by m n h (even_or_odd m)
 
 -- s runs on exactly where the ray along it from its lower end hits an odd number of the edges that do not end there
 runs-by : (s : Edge) (es : List Edge) → IsConflictFree es → IsEvenAtPoints es → In s es → (y x : Sign) → sign (s.to.y -ℤ s.from.y) ≡ y → sign (s.to.x -ℤ s.from.x) ≡ x → then_sign y x ≡ Plus →

@@ -6,7 +6,7 @@ use Rattle.plane.specs.Bit.{bit}
 use Rattle.lists.specs.Member.{In}
 use Rattle.winding.specs.Parity.{is_even}
 use Rattle.winding.specs.Rank.{IsOrder, rank, sum_from}
-use Rattle.lists.proofs.ListsKit.{in-all, not-not, total, total-below, total-is, total-less, total-same, true_from_not}
+use Rattle.lists.proofs.ListsKit.{even_or_odd, in-all, not-not, total, total-below, total-is, total-less, total-same, true_from_not}
 
 abbrev pub rank' : {X : Type 0} → (X → X → Bool) → List X → X → ℕ
 rank' above xs x = total (λ y. bit (above x y)) xs
@@ -110,19 +110,12 @@ even-is n h = ap (λ k. eqb k 0) h
 pub odd-is : (n : ℕ) → n % 2 ≡ 1 → is_even n ≡ false
 odd-is n h = ap (λ k. eqb k 0) h
 
-halves-by : (n : ℕ) → (n % 2 < 1) ⊎ (1 ≤ n % 2) → (n % 2 ≡ 0) ⊎ (n % 2 ≡ 1)
-halves-by n (inl h) = inl (omega arith)
-halves-by n (inr h) = inr (omega arith)
-
-pub halves : (n : ℕ) → (n % 2 ≡ 0) ⊎ (n % 2 ≡ 1)
-halves n = halves-by n (cases_lt (n % 2) 1)
-
 next-by : (n : ℕ) → (n % 2 ≡ 0) ⊎ (n % 2 ≡ 1) → is_even (suc n) ≡ not (is_even n)
 next-by n (inl h) = odd-is (suc n) (omega arith) ∙ sym (ap not (even-is n h))
 next-by n (inr h) = even-is (suc n) (omega arith) ∙ sym (ap not (odd-is n h))
 
 pub even-next : (n : ℕ) → is_even (suc n) ≡ not (is_even n)
-even-next n = next-by n (halves n)
+even-next n = next-by n (even_or_odd n)
 
 span-parity-by : (n e o : ℕ) → e ≡ o + n % 2 → (n % 2 ≡ 0) ⊎ (n % 2 ≡ 1) → e + evens n ≡ (o + odds n) + suc n % 2
 span-parity-by n e o h (inl k) = let a = ap bit (even-is n k) in let b = ap (λ t. bit (not t)) (even-is n k) in omega arith
@@ -135,7 +128,7 @@ zero-plus f n = ap f (omega arith)
 pub span-parity : (n : ℕ) → sum_from evens 0 n ≡ sum_from odds 0 n + n % 2
 span-parity zero = refl
 span-parity (suc n) =
-    let a = span-parity-by n (sum_from evens 0 n) (sum_from odds 0 n) (span-parity n) (halves n) in
+    let a = span-parity-by n (sum_from evens 0 n) (sum_from odds 0 n) (span-parity n) (even_or_odd n) in
     let b = zero-plus evens n in let c = zero-plus odds n in omega arith
 
 one-plus : (n : ℕ) → is_even (1 + n) ≡ not (is_even n)

@@ -7,7 +7,7 @@ use Rattle.plane.specs.RayCrossing.{down_by, up_by}
 use Rattle.plane.specs.Sign.{Null, Sign, is_plus, negated, sign}
 use Rattle.plane.specs.Vector.{Vector, cross, east, from_to, one_at, same_point}
 use Rattle.winding.specs.ConflictFree.{IsConflictFree}
-use Rattle.winding.specs.EdgeList.{IsEvenAtPoints, crossing_count, down_count, up_count}
+use Rattle.winding.specs.EdgeList.{IsBalanced, IsEvenAtPoints, crossing_count, down_count, up_count}
 use Rattle.lists.specs.Member.{EachPair, In}
 use Rattle.winding.specs.OddSide.{directed, directed_edge, runs_up}
 use Rattle.winding.specs.Ring.{IsPath, IsRing, segments_of}
@@ -27,6 +27,10 @@ total-member g (x ∷ xs) f (inr i) = let a = total-member g xs f i in omega ari
 pub path-ends : (v a b : Vector) (xs : List Edge) → IsPath a xs b → total (λ (e : Edge). one_at v e.from) xs + one_at v b ≡ total (λ (e : Edge). one_at v e.to) xs + one_at v a
 path-ends v a b [] h = let e = ap (one_at v) h in omega arith
 path-ends v a b (x ∷ xs) h = let i = path-ends v x.to b xs h.1 in let e = ap (one_at v) h.0 in omega arith
+
+pub closed-balanced : (a : Vector) (p : List Edge) → IsPath a p a → IsBalanced p
+closed-balanced a p h v =
+    let k = path-ends v a a p h in let b = total-is (λ (e : Edge). one_at v e.from) p in let c = total-is (λ (e : Edge). one_at v e.to) p in omega arith
 
 none-total : (xs : List Edge) → total (λ (e : Edge). 0) xs ≡ 0
 none-total [] = refl

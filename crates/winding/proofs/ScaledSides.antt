@@ -41,6 +41,12 @@ edges-turned q k es =
     same_edge_by (scaled_point q (scaled_point k e.from)) (scaled_point q (scaled_point k e.to)) (scaled_point k (scaled_point q e.from)) (scaled_point k (scaled_point q e.to)) (point-turned q k e.from) (point-turned q k e.to))
     ∙ sym (map-map (scaled_edge k) (scaled_edge q) es)
 
+-- the ray is crossed either way
+pub counted-both-ways : (d p : Vector) (es : List Edge) → crossing_count d p es ≡ up_count d p es + down_count d p es
+counted-both-ways d p es =
+    sym (total-is (λ e. up_seen d (from_to p) e + down_seen d (from_to p) e) es) ∙ total-+ (up_seen d (from_to p)) (down_seen d (from_to p)) es
+    ∙ ap (λ n. n + total (down_seen d (from_to p)) es) (total-is (up_seen d (from_to p)) es) ∙ ap (λ n. up_count d p es + n) (total-is (down_seen d (from_to p)) es)
+
 module _ (k : ℤ) (hk : sign k ≡ Plus) where
   pub segment-scaled : (e : Edge) → segment_of (scaled_edge k e) ≡ scaled_edge k (segment_of e)
   segment-scaled e = direct-by k hk (is_plus (order (scaled_point k e.from) (scaled_point k e.to))) (is_plus (order e.from e.to)) e (ap is_plus (order-scaled k hk e.from e.to))
@@ -128,15 +134,10 @@ module _ (k : ℤ) (hk : sign k ≡ Plus) where
   pub winding-scaled : (d p : Vector) (es : List Edge) → winding_number d (scaled_point k p) (scaled_edges k es) ≡ winding_number d p es
   winding-scaled d p es = ap (λ n. pos n -ℤ pos (down_count d (scaled_point k p) (scaled_edges k es))) (up_count-scaled d p es) ∙ ap (λ n. pos (up_count d p es) -ℤ pos n) (down_count-scaled d p es)
 
-  count-as : (d p : Vector) (es : List Edge) → crossing_count d p es ≡ up_count d p es + down_count d p es
-  count-as d p es =
-      sym (total-is (λ e. up_seen d (from_to p) e + down_seen d (from_to p) e) es) ∙ total-+ (up_seen d (from_to p)) (down_seen d (from_to p)) es
-      ∙ ap (λ n. n + total (down_seen d (from_to p)) es) (total-is (up_seen d (from_to p)) es) ∙ ap (λ n. up_count d p es + n) (total-is (down_seen d (from_to p)) es)
-
   pub count-scaled : (d p : Vector) (es : List Edge) → crossing_count d (scaled_point k p) (scaled_edges k es) ≡ crossing_count d p es
   count-scaled d p es =
-      count-as d (scaled_point k p) (scaled_edges k es) ∙ ap (λ n. n + down_count d (scaled_point k p) (scaled_edges k es)) (up_count-scaled d p es) ∙ ap (λ n. up_count d p es + n) (down_count-scaled d p es)
-      ∙ sym (count-as d p es)
+      counted-both-ways d (scaled_point k p) (scaled_edges k es) ∙ ap (λ n. n + down_count d (scaled_point k p) (scaled_edges k es)) (up_count-scaled d p es) ∙ ap (λ n. up_count d p es + n) (down_count-scaled d p es)
+      ∙ sym (counted-both-ways d p es)
 
   -- ---- sided lists
   abbrev WindsOnce : Vector → List Edge → Type 0

@@ -26,11 +26,11 @@ use Rattle.plane.proofs.SignKit.{lift, same, ◌⊞◌, ◌⊟◌, ◌⊠◌, ag
 use Rattle.winding.proofs.AlongSegment.{off_all}
 use Rattle.winding.proofs.Anchors.{begins-by, level-plus, some-anchor}
 use Rattle.winding.proofs.Balance.{directed_balanced, ends-by}
-use Rattle.winding.proofs.ConflictFree.{misses_others, rising_in, split_off}
+use Rattle.winding.proofs.ConflictFree.{misses_others, rising_in, segment-rises, split_off}
 use Rattle.winding.proofs.Levels.{down-run, first-tells, inner_runs, low-plus, off_not_null, to_right, up-run}
-use Rattle.lists.proofs.ListsKit.{all-in, in-all, in-filter, in-map, in-map-out, in-passes, into-filter, none-sum, none_or_one, rest_nothing, total, total-+, total-filter, total-is, total-map, total-same}
+use Rattle.lists.proofs.ListsKit.{all-in, even_or_odd, in-all, in-filter, in-map, in-map-out, in-passes, into-filter, none-sum, none_or_one, rest_nothing, total, total-+, total-filter, total-is, total-map, total-same}
 use Rattle.winding.proofs.OddSides.{covers-crossings}
-use Rattle.winding.proofs.Ranks.{even-is, halves, odd-is}
+use Rattle.winding.proofs.Ranks.{even-is, odd-is}
 use Rattle.winding.proofs.RingCounts.{bit-sum, direct-is, ends-swap, keeps, total-member}
 use Rattle.winding.proofs.ScaledLists.{even_scaled, plain_scaled, rational_count, runs-scaled}
 use Rattle.winding.proofs.Shifts.{left-left, left-off, left_point, right-left, right-off, right_point}
@@ -166,11 +166,8 @@ module _ (es : List Edge) (pl : IsConflictFree (segments_of es)) (even : IsEvenA
       let z = none-sum (others s U) in omega arith
 
   module _ (k : ℤ) (hk : sign k ≡ Plus) (h1 : sign (k -ℤ pos 1) ≡ Plus) (big : (t : Edge) → In t U → is_in_span p t ≡ true → sign (k -ℤ (t.to.y -ℤ t.from.y)) ≡ Plus) where
-    rx : (x : Edge) → In x es → IsRising (segment_of x)
-    rx x j = rising_in U (segment_of x) pl (in-map segment_of es x j)
-
     rk : (x : Edge) → In x es → IsRising (scaled_edge k (segment_of x))
-    rk x j = order-scaled k hk (segment_of x).from (segment_of x).to ∙ rx x j
+    rk x j = order-scaled k hk (segment_of x).from (segment_of x).to ∙ segment-rises es pl x j
 
     up-q : (q : Vector) → total (up_seen east (from_to q)) (scaled_edges k es) ≡ total (λ x. cond (is_left_of q (scaled_edge k (segment_of x))) (bit (rises x)) 0) es
     up-q q = total-map (up_seen east (from_to q)) (scaled_edge k) es ∙ total-same (λ x. up_seen east (from_to q) (scaled_edge k x)) (λ x. cond (is_left_of q (scaled_edge k (segment_of x))) (bit (rises x)) 0) es
@@ -185,12 +182,12 @@ module _ (es : List Edge) (pl : IsConflictFree (segments_of es)) (even : IsEvenA
 
     right-sum : (f : Edge → ℕ) → total (λ x. cond (is_left_of (right_point k p) (scaled_edge k (segment_of x))) (f x) 0) es ≡ total (λ x. cond (is_left_of p (segment_of x)) (f x) 0) es
     right-sum f = total-same (λ x. cond (is_left_of (right_point k p) (scaled_edge k (segment_of x))) (f x) 0) (λ x. cond (is_left_of p (segment_of x)) (f x) 0) es
-        (λ x j. ap (λ b. cond b (f x) 0) (right-left k hk h1 p (segment_of x) (rx x j) (bigx x j)))
+        (λ x j. ap (λ b. cond b (f x) 0) (right-left k hk h1 p (segment_of x) (segment-rises es pl x j) (bigx x j)))
 
     left-sum : (f : Edge → ℕ) → total (λ x. cond (is_left_of (left_point k p) (scaled_edge k (segment_of x))) (f x) 0) es ≡ total (λ x. cond (is_left_of p (segment_of x)) (f x) 0) es + total (λ x. cond (own (segment_of x)) (f x) 0) es
     left-sum f =
         total-same (λ x. cond (is_left_of (left_point k p) (scaled_edge k (segment_of x))) (f x) 0) (λ x. cond (is_left_of p (segment_of x)) (f x) 0 + cond (own (segment_of x)) (f x) 0) es
-        (λ x j. ap (λ b. cond b (f x) 0) (left-left k hk h1 p (segment_of x) (rx x j) (bigx x j)) ∙ split-left (is_in_span p (segment_of x)) (orient (segment_of x).from (segment_of x).to p) (f x))
+        (λ x j. ap (λ b. cond b (f x) 0) (left-left k hk h1 p (segment_of x) (segment-rises es pl x j) (bigx x j)) ∙ split-left (is_in_span p (segment_of x)) (orient (segment_of x).from (segment_of x).to p) (f x))
         ∙ total-+ (λ x. cond (is_left_of p (segment_of x)) (f x) 0) (λ x. cond (own (segment_of x)) (f x) 0) es
 
     parity-here : (winding_number east (right_point k p) (scaled_edges k es) ≡ pos 0) ⊎ (winding_number east (right_point k p) (scaled_edges k es) ≡ pos 1) →
@@ -232,13 +229,13 @@ module _ (es : List Edge) (pl : IsConflictFree (segments_of es)) (even : IsEvenA
     off-right = all-in (IsOffEdge (right_point k p)) (scaled_edges k es) (λ t j.
         let r = in-map-out (scaled_edge k) es t j in
         subst (IsOffEdge (right_point k p)) (sym r.2)
-        (off-segment (right_point k p) k (rises r.0) r.0 (right-off k hk h1 p (segment_of r.0) (rx r.0 r.1) (bigx r.0 r.1) (off-x r.0 r.1))))
+        (off-segment (right_point k p) k (rises r.0) r.0 (right-off k hk h1 p (segment_of r.0) (segment-rises es pl r.0 r.1) (bigx r.0 r.1) (off-x r.0 r.1))))
 
     pub off-left : All (IsOffEdge (left_point k p)) (scaled_edges k es)
     off-left = all-in (IsOffEdge (left_point k p)) (scaled_edges k es) (λ t j.
         let r = in-map-out (scaled_edge k) es t j in
         subst (IsOffEdge (left_point k p)) (sym r.2)
-        (off-segment (left_point k p) k (rises r.0) r.0 (left-off k hk h1 p (segment_of r.0) (rx r.0 r.1) (bigx r.0 r.1) (off-x r.0 r.1))))
+        (off-segment (left_point k p) k (rises r.0) r.0 (left-off k hk h1 p (segment_of r.0) (segment-rises es pl r.0 r.1) (bigx r.0 r.1) (off-x r.0 r.1))))
 
 -- ---- a number that is greater than all heights
 tall-bound : (n : ℕ) (z : ℤ) → up z ≤ n → sign z ≡ Plus → sign (pos (2 + n) -ℤ z) ≡ Plus
@@ -438,5 +435,5 @@ pub directed_sided : (es : List Edge) → IsConflictFree es → IsEvenAtPoints e
 directed_sided es p even = record {
   plain = subst IsConflictFree (sym (segments-directed-by es es (λ s i. rising_in es s p i))) p;
   balanced = directed_balanced es p even;
-  counted = λ q hq w off. zero-or-one (crossing_count east w (scaled_edges q es)) (winding_number east w (scaled_edges q (directed es))) (rational_count q hq w es p even) (halves (crossing_count east w (scaled_edges q es)));
+  counted = λ q hq w off. zero-or-one (crossing_count east w (scaled_edges q es)) (winding_number east w (scaled_edges q (directed es))) (rational_count q hq w es p even) (even_or_odd (crossing_count east w (scaled_edges q es)));
 }

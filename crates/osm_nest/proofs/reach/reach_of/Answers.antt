@@ -2,7 +2,7 @@
 use Rattle.std.proofs.Common.{rules, subst, w32, ◌≤ℤ◌}
 use Rattle.std.proofs.lemmas.Int.{to_z-of_z}
 use Rattle.osm_geom.specs.Point.{x_of}
-use Rattle.osm_nest.proofs.Reaches.{further-east, further-west}
+use Rattle.osm_geom.proofs.GeometryKit.{at_least_less, at_most_more}
 use Rattle.osm_nest.proofs.reach.reach_of.Goals as goal
 
 pub returns : goal.returns
@@ -14,6 +14,6 @@ returns c =
     let third : c.east_of.result ≤ℤ east = subst (λ z. z ≤ℤ east) (to_z-of_z w32 c.east_of.result (search rules)) c.greater.ensures.first in
     let last : c.east_of-2.result ≤ℤ east = subst (λ z. z ≤ℤ east) (to_z-of_z w32 c.east_of-2.result (search rules)) c.greater.ensures.second in
     rw (to_z-of_z w32 west (search rules), to_z-of_z w32 east (search rules)) (
-      (further-west west c.west_of.result from first c.west_of.ensures, further-west west c.west_of-2.result to second c.west_of-2.ensures),
-      (further-east east c.east_of.result from third c.east_of.ensures, further-east east c.east_of-2.result to last c.east_of-2.ensures),
+      (at_least_less west c.west_of.result from first c.west_of.ensures, at_least_less west c.west_of-2.result to second c.west_of-2.ensures),
+      (at_most_more c.east_of.result east from third c.east_of.ensures, at_most_more c.east_of-2.result east to last c.east_of-2.ensures),
     )

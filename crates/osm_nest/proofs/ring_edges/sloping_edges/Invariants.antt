@@ -1,5 +1,5 @@
 use Rattle.std.proofs.Common.{◌++◌}
-use Rattle.osm_nest.specs.SweptEdges.{AreSlopingUpTo}
+use Rattle.osm_nest.proofs.RingEdges.{AreSlopingUpTo}
 use Rattle.osm_nest.proofs.ring_edges.sloping_edges.Given as goal
 
 abbrev pub invariant-loop-place : goal.invariant-loop-place

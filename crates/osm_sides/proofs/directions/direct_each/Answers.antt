@@ -7,13 +7,13 @@ use Rattle.osm_lattice.specs.Seg.{edge_of}
 use Rattle.osm_sides.specs.Sweep.{AreDirectedTo, EndsRise, ends_above}
 use Rattle.osm_sides.proofs.Statuses.{none-directed, none-swept, remaining, risen}
 use Rattle.osm_sides.proofs.directions.direct_each.Goals as goal
-use Rattle.osm_sides.proofs.SweptHeights.{IsSwept}
+use Rattle.osm_sides.proofs.SweptHeights.{IsSweptBeforeRow}
 use Rattle.lists.proofs.ListsKit.{not-false-out}
 
 pub loop-done-init : goal.loop-done-init
 loop-done-init c =
     let segs = c.args.segs.now in let ends = c.leaving-ends.result.items in
-    (omega arith, subst (IsSwept segs ends 0 0) (sym c.new-status.ensures) (none-swept segs ends), subst (AreDirectedTo segs 0) (sym c.in_ok-edges.ensures.items) (none-directed segs))
+    (omega arith, subst (IsSweptBeforeRow segs ends 0 0) (sym c.new-status.ensures) (none-swept segs ends), subst (AreDirectedTo segs 0) (sym c.in_ok-edges.ensures.items) (none-directed segs))
 
 pub leave-next-requires-clause-rise : goal.leave-next-requires-clause-rise
 leave-next-requires-clause-rise c = subst EndsRise (sym c.deref.ensures.value) (c.leaving-ends.ensures c.args.segs.now c.requires.ends).rise
