@@ -1,5 +1,6 @@
 mod Answered
 mod Begun
+pub mod InputKit
 mod Lines
 mod Prefixes
 mod Steps
