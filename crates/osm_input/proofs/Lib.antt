@@ -1,5 +1,6 @@
 mod Answered
 mod Begun
+mod BytesTaken
 pub mod InputKit
 mod Lines
 mod Prefixes
