@@ -1,6 +1,6 @@
 -- Arguments of one value, of any command without subcommands (`s`, as it is built): options, whose value is the next word, and names
 -- of files. No public contract cites it.
-use Rattle.std.proofs.Common.{◌≡◌, ◌&&◌, ◌∙◌, ℕ, Bool, false, List, [], ◌∷◌, ◌++◌, Option, Some, None, codes, refl, sym, ap, ap₂, subst, inl, inr}
+use Rattle.std.proofs.Common.{◌≡◌, ◌&&◌, ◌∙◌, ℕ, false, List, [], ◌∷◌, ◌++◌, Some, None, refl, sym, ap, ap₂, subst, inl, inr}
 use Rattle.std.specs.Str.{bytes_eq}
 use Rattle.clap.specs.Words.{Kinds, Row, Rule, Shape, Text}
 use Rattle.clap.specs.Kinds.{or_else}
@@ -45,7 +45,7 @@ ready_one s name one word rows new = ready_value s name word rows new (one.settl
 -- ---- options
 
 -- the option waits for its value
-abbrev waits : Text → List Row → Held
+abbrev pub waits : Text → List Row → Held
 waits name used = held_at used (Some (name, []))
 
 -- it is an option, which waits for no more than that value
