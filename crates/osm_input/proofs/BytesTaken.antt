@@ -30,19 +30,19 @@ module _ (before middle : Outside) (bytes : List ℕ) (t : AreTaken before middl
 
   module _ (buffer : List ℕ) (count : ℕ) (left : middle.left ≡ preceded (take count buffer) now.left) (counted : now.bytes_read ≡ grown middle.bytes_read count)
     where
-    -- the input ended
-    pub still_left : count ≡ 0 → middle.left ≡ now.left
-    still_left none = left ∙ (ap (λ (n : ℕ). preceded (take n buffer) now.left) none ∙ nothing_preceded now.left)
+      -- the input ended
+      pub still_left : count ≡ 0 → middle.left ≡ now.left
+      still_left none = left ∙ (ap (λ (n : ℕ). preceded (take n buffer) now.left) none ∙ nothing_preceded now.left)
 
-    pub at_end : count ≡ 0 → AreTaken before now bytes
-    at_end none = record {
-      left = t.left ∙ ap (preceded bytes) (still_left none);
-      counted = grown_twice before.bytes_read (length bytes) count (length bytes) _ _ t.counted counted (omega arith);
-    }
+      pub at_end : count ≡ 0 → AreTaken before now bytes
+      at_end none = record {
+        left = t.left ∙ ap (preceded bytes) (still_left none);
+        counted = grown_twice before.bytes_read (length bytes) count (length bytes) _ _ t.counted counted (omega arith);
+      }
 
-    -- a piece was taken
-    pub with_piece : count ≤ length buffer → PrecedesInTurn ℕ → AreTaken before now (bytes ++ take count buffer)
-    with_piece in_buffer in_turn = record {
-      left = t.left ∙ (ap (preceded bytes) left ∙ in_turn bytes (take count buffer) now.left);
-      counted = grown_twice before.bytes_read (length bytes) count (length (bytes ++ take count buffer)) _ _ t.counted counted (piece_size bytes buffer count in_buffer);
-    }
+      -- a piece was taken
+      pub with_piece : count ≤ length buffer → PrecedesInTurn ℕ → AreTaken before now (bytes ++ take count buffer)
+      with_piece in_buffer in_turn = record {
+        left = t.left ∙ (ap (preceded bytes) left ∙ in_turn bytes (take count buffer) now.left);
+        counted = grown_twice before.bytes_read (length bytes) count (length (bytes ++ take count buffer)) _ _ t.counted counted (piece_size bytes buffer count in_buffer);
+      }

@@ -71,7 +71,7 @@ pub record IsPositional (s : Shape) (position : ℕ) (name : Text) : Type 0 wher
   pub one : TakesOne s name
   pub goes : (word : Text) (rows : List Row) (pending : Pending)
       → to_positional s.rules (arg_by_index s.rules position) word (at_place position rows pending) (held_at rows pending)
-          ≡ name_pushed s position name rows pending word (is_pending_for name pending && false)
+      ≡ name_pushed s position name rows pending word (is_pending_for name pending && false)
   pub asks : (rows : List Row) (pending : Pending)
       → step_fault s position (held_at rows pending) value ≡ asks_settled s rows pending (is_pending_for name pending && false)
 
