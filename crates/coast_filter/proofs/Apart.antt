@@ -1,13 +1,10 @@
 -- Objects no two of which have one kind and id: each is what is found by its kind and id.
-use Rattle.std.proofs.Common.{◌≡◌, ◌∙◌, refl, sym, ap, subst, cond, Bool, true, false, Option, None, Some, inl, inr, List, [], ◌∷◌, ◌++◌, All}
-use Rattle.std.specs.Ordering.{int_eq}
-use Rattle.std.proofs.lemmas.Cmp.{int_eq_equiv}
+use Rattle.std.proofs.Common.{◌≡◌, ◌∙◌, refl, ap, subst, cond, Bool, false, None, Some, inl, inr, List, [], ◌∷◌, All}
 use Rattle.std.proofs.lemmas.List.Elements.{All-cons, All-head, All-nil, All-tail}
 use Rattle.opl_reader.specs.declared.object.Object.{Object}
-use Rattle.opl_reader.specs.declared.object.ObjectKind.{ObjectKind}
-use Rattle.opl_reader.specs.declared.object.ObjectKind.TheVariants.{Node, Relation, Way}
-use Rattle.osm_objects.specs.Object.{id_of, is_at, kind_of, ref_of, same_kind}
+use Rattle.osm_objects.specs.Object.{is_at, ref_of}
 use Rattle.osm_objects.specs.Objects.{AreApart, object_at}
+use Rattle.osm_objects.proofs.ObjectsKit.{is_at-itself, is_at-symmetric, passes}
 use Rattle.lists.specs.Member.{EachPair, In}
 use Rattle.lists.proofs.ListsKit.{in-all}
 
@@ -15,36 +12,10 @@ use Rattle.lists.proofs.ListsKit.{in-all}
 abbrev pub Differ : Object → Object → Type 0
 Differ o u = is_at (ref_of o) u ≡ false
 
-kinds_both_ways : (k l : ObjectKind) → same_kind k l ≡ same_kind l k
-kinds_both_ways Node Node = refl
-kinds_both_ways Node Way = refl
-kinds_both_ways Node Relation = refl
-kinds_both_ways Way Node = refl
-kinds_both_ways Way Way = refl
-kinds_both_ways Way Relation = refl
-kinds_both_ways Relation Node = refl
-kinds_both_ways Relation Way = refl
-kinds_both_ways Relation Relation = refl
-
-kind_itself : (k : ObjectKind) → same_kind k k ≡ true
-kind_itself Node = refl
-kind_itself Way = refl
-kind_itself Relation = refl
-
-at_itself : (o : Object) → is_at (ref_of o) o ≡ true
-at_itself o = rw (kind_itself (kind_of o), int_eq_equiv.refl (id_of o)) refl
-
-both_ways : (o u : Object) → is_at (ref_of o) u ≡ is_at (ref_of u) o
-both_ways o u = rw (kinds_both_ways (kind_of o) (kind_of u), int_eq_equiv.symm (id_of o) (id_of u)) refl
-
-passed_by : {X : Type 0} (b : Bool) (x : X) (rest : Option X) → cond b (Some x) rest ≡ None → (b ≡ false) × (rest ≡ None)
-passed_by true x rest none = absurd (cc)
-passed_by false x rest none = (refl, none)
-
 all_differ : (o : Object) (us : List Object) → object_at us (ref_of o) ≡ None → All (Differ o) us
 all_differ o [] none = All-nil (Differ o)
 all_differ o (u ∷ us) none =
-    let part = passed_by (is_at (ref_of o) u) u (object_at us (ref_of o)) none in All-cons (Differ o) u us part.0 (all_differ o us part.1)
+    let part = passes (is_at (ref_of o) u) u (object_at us (ref_of o)) none in All-cons (Differ o) u us part.0 (all_differ o us part.1)
 
 none_there : (o : Object) (us : List Object) → All (Differ o) us → object_at us (ref_of o) ≡ None
 none_there o [] all = refl
@@ -60,6 +31,6 @@ are_apart (o ∷ os) pairs = (none_there o os pairs.0, are_apart os pairs.1)
 
 pub found_itself : (os : List Object) (o : Object) → EachPair Differ os → In o os → object_at os (ref_of o) ≡ Some o
 found_itself [] o pairs i = absurd i
-found_itself (u ∷ os) o pairs (inl e) = subst (λ v. object_at (v ∷ os) (ref_of o) ≡ Some o) e (ap (λ (b : Bool). cond b (Some o) (object_at os (ref_of o))) (at_itself o))
+found_itself (u ∷ os) o pairs (inl e) = subst (λ v. object_at (v ∷ os) (ref_of o) ≡ Some o) e (ap (λ (b : Bool). cond b (Some o) (object_at os (ref_of o))) (is_at-itself o))
 found_itself (u ∷ os) o pairs (inr i) =
-    ap (λ (b : Bool). cond b (Some u) (object_at os (ref_of o))) (both_ways o u ∙ in-all (Differ u) os o pairs.0 i) ∙ found_itself os o pairs.1 i
+    ap (λ (b : Bool). cond b (Some u) (object_at os (ref_of o))) (is_at-symmetric o u ∙ in-all (Differ u) os o pairs.0 i) ∙ found_itself os o pairs.1 i

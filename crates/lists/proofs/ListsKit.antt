@@ -8,7 +8,7 @@ pub use Rattle.lists.proofs.Items.{at-in, in-at, in-take, item-in, same_get, som
 pub use Rattle.lists.proofs.Maps.{map-map, map-same}
 pub use Rattle.lists.proofs.Members.{all-either, all-in, from-map, in-all, in-either, in-filter, in-left, in-map, in-map-out, in-passes, in-right, into-filter, pairs-across, pairs-append, pairs-each, pairs-filter, pairs-into-map, pairs-left, pairs-map, pairs-out-of-map, pairs-right, pairs-weaker, total-below, total-filter, total-less, total-same, total_none}
 pub use Rattle.lists.proofs.Numbers.{even_or_odd, min_some, none_or_one, odd_sum, some_min}
-pub use Rattle.lists.proofs.Options.{is_some-map}
+pub use Rattle.lists.proofs.Options.{is_some-map, none_from}
 pub use Rattle.lists.proofs.Orderings.{equal_from, less_from}
 pub use Rattle.lists.proofs.PickedItems.{count-picked, picked, rising-picked}
 pub use Rattle.lists.proofs.Picks.{odd_once, twice_once}

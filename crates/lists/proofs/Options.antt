@@ -1,6 +1,10 @@
 -- Options.
-use Rattle.std.proofs.Common.{None, Option, Some, is_some, option_map, refl, ◌≡◌}
+use Rattle.std.proofs.Common.{None, Option, Some, false, is_some, option_map, refl, true≢false, ◌≡◌}
 
 pub is_some-map : {A B : Type 0} (f : A → B) (o : Option A) → is_some (option_map f o) ≡ is_some o
 is_some-map f None = refl
 is_some-map f (Some x) = refl
+
+pub none_from : {A : Type 0} (o : Option A) → is_some o ≡ false → o ≡ None
+none_from None absent = refl
+none_from (Some x) absent = absurd (true≢false absent)

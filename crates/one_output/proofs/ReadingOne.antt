@@ -12,14 +12,11 @@ use Rattle.osm_input.specs.Lines.{lines_begun}
 use Rattle.osm_input.specs.Laws.{LinesCount}
 use Rattle.osm_input.specs.Reading.{IsReadAs, lines_counted}
 use Rattle.osm_input.specs.Text.{IsTextAs}
+use Rattle.osm_input.proofs.InputKit.{good_not_bad}
 use Rattle.one_ring_list.proofs.OneRingListKit.{Overlap, overlap}
 
 some-one : {X : Type 0} (x y : X) → Some x ≡ Some y → x ≡ y
 some-one x y h = cc
-
--- good lines have no bad place
-pub good-not-bad : (longest : ℕ) (lines : List (List ℕ)) (n : ℕ) (f : InputFault) → AreGood longest lines → IsBadPlace longest lines n f → ⊥
-good-not-bad longest lines n f good bad = cc (sym (good bad.before bad.line bad.after bad.parted) ∙ bad.bad)
 
 -- a first bad place is before each other one
 earlier : (longest : ℕ) (b c : List (List ℕ)) (l : List ℕ) (m n : List (List ℕ)) (f : InputFault) → line_fault longest (objects_told b) l ≡ Some f → AreGood longest c → Overlap b (l ∷ m) c n → (c ≡ b) × (l ∷ m ≡ n)
@@ -58,10 +55,10 @@ module _ (count : LinesCount) (limit longest : ℕ) (bytes : List ℕ) where
   Reads r = IsReadAs limit longest bytes r
 
   ok-bad : (objects : List Object) (n : ℕ) (f : InputFault) → Reads (Ok objects) → Reads (Err (BadInput n f)) → ⊥
-  ok-bad objects n f s t = good-not-bad longest (lines_of bytes) n f s.1 (subst (λ l. IsBadPlace longest l n f) ((count limit longest bytes).within s.0) t)
+  ok-bad objects n f s t = good_not_bad longest (lines_of bytes) n f s.1 (subst (λ l. IsBadPlace longest l n f) ((count limit longest bytes).within s.0) t)
 
   many-bad : (most n : ℕ) (f : InputFault) → Reads (Err (TooMuchInput most)) → Reads (Err (BadInput n f)) → ⊥
-  many-bad most n f s t = good-not-bad longest (lines_begun longest (take limit bytes)) n f s.2 (subst (λ l. IsBadPlace longest l n f) ((count limit longest bytes).beyond s.1) t)
+  many-bad most n f s t = good_not_bad longest (lines_begun longest (take limit bytes)) n f s.2 (subst (λ l. IsBadPlace longest l n f) ((count limit longest bytes).beyond s.1) t)
 
   ok-many : (objects : List Object) (most : ℕ) → Reads (Ok objects) → Reads (Err (TooMuchInput most)) → ⊥
   ok-many objects most s t = let a = s.0 in let b = t.1 in absurd (omega arith)

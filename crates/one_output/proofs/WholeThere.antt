@@ -27,7 +27,7 @@ use Rattle.one_coast.specs.Laws.{CoastCountsExist, CoastlineExists}
 use Rattle.osm_area.specs.Outcome.{OutcomeExists}
 use Rattle.osm_sample.specs.Laws.{SampleHasOneCoast}
 use Rattle.written_inputs.specs.Laws.{ReadObjectsCanBeWritten}
-use Rattle.osm_objects.proofs.ApartLemmas.{coast_ways-distinct}
+use Rattle.osm_objects.proofs.ObjectsKit.{coast_ways-distinct}
 use Rattle.job_export.specs.Laws.{ExportExists}
 use Rattle.osm_cli.specs.Whole.{IsWhole}
 use Rattle.one_ring_list.proofs.OneRingListKit.{Overlap, overlap}

@@ -2,13 +2,10 @@
 use Rattle.std.proofs.Common.{◌≡◌, ◌≢◌, ◌∙◌, refl, sym, ap, ℕ, zero, suc, ◌+◌, ◌-◌, ◌*◌, ◌/◌, ◌%◌, ◌^◌, ◌<◌, ◌≤◌, false, ltb, List, [], ◌∷◌, ◌++◌, length, take, append_assoc, length-take, inl, inr, ℤ, pos, negsuc, arith, rules, w64, FitsSigned, to_z, of_z}
 use Rattle.std.specs.Prelude.{unsigned_abs}
 use Rattle.std.proofs.Math.Facts.{sfits_to_z, Fits-of_lt}
-use Rattle.std.proofs.lemmas.Bool.{cases_lt, lt-ltb, ltb-true, false_from_ne_true}
+use Rattle.std.proofs.lemmas.Bool.{cases_lt, lt-ltb, le-ltb}
 use Rattle.std.proofs.lemmas.List.{take-append-le}
 use Rattle.std.proofs.lemmas.Int.{to_z-of_z}
 use Rattle.opl_reader.specs.Compact.{digits_within, number_bytes, number_in, after_number, folded, unfolded, difference, moved}
-
-not_less : (m n : ℕ) → n ≤ m → ltb m n ≡ false
-not_less m n le = false_from_ne_true _ (λ h. let lt = ltb-true m n h in absurd (omega arith))
 
 -- ---- the digits of a number
 
@@ -20,7 +17,7 @@ same_within (suc f) zero n a b = rw (lt-ltb n 128 (omega arith)) refl
 same_within (suc f) (suc g) n a b =
     elim (cases_lt n 128) [
       | inl lt ↦ rw (lt-ltb n 128 lt) refl
-      | inr le ↦ rw (not_less n 128 le) (ap (λ (ds : List ℕ). (128 + n % 128) ∷ ds) (same_within f g (n / 128) (omega arith) (omega arith)))
+      | inr le ↦ rw (le-ltb n 128 le) (ap (λ (ds : List ℕ). (128 + n % 128) ∷ ds) (same_within f g (n / 128) (omega arith) (omega arith)))
     ]
 
 last_within : (f n : ℕ) → n < 128 → digits_within f n ≡ n ∷ []
@@ -33,7 +30,7 @@ unfolding number_bytes
 last_digit n lt = last_within n n lt
 
 more_within : (f n : ℕ) → 128 ≤ n → n ≤ suc f → digits_within (suc f) n ≡ (128 + n % 128) ∷ digits_within (n / 128) (n / 128)
-more_within f n le room = rw (not_less n 128 le) (ap (λ (ds : List ℕ). (128 + n % 128) ∷ ds) (same_within f (n / 128) (n / 128) (omega arith) (omega arith)))
+more_within f n le room = rw (le-ltb n 128 le) (ap (λ (ds : List ℕ). (128 + n % 128) ∷ ds) (same_within f (n / 128) (n / 128) (omega arith) (omega arith)))
 
 -- a number of more digits
 pub more_digits : (n : ℕ) → 128 ≤ n → number_bytes n ≡ (128 + n % 128) ∷ number_bytes (n / 128)
@@ -56,8 +53,8 @@ told_within (suc f) n more le small =
       | inr many ↦
           let rest = told_within f (n / 128) more (omega arith) (omega arith) in
           let high = rest.number in
-          let byte : ltb (128 + n % 128) 128 ≡ false = not_less (128 + n % 128) 128 (omega arith) in
-          rw (not_less n 128 many) (record { number = rw (byte, high) (omega arith); behind = rw byte rest.behind })
+          let byte : ltb (128 + n % 128) 128 ≡ false = le-ltb (128 + n % 128) 128 (omega arith) in
+          rw (le-ltb n 128 many) (record { number = rw (byte, high) (omega arith); behind = rw byte rest.behind })
     ]
 
 pub number_told : (n : ℕ) (more : List ℕ) → n < 2 ^ 64 → number_in (number_bytes n ++ more) ≡ n
@@ -72,7 +69,7 @@ pub number_small : (bytes : List ℕ) → number_in bytes < 2 ^ 64
 number_small [] = omega arith
 number_small (byte ∷ bytes) = elim (cases_lt byte 128) [
   | inl lt ↦ rw (lt-ltb byte 128 lt) (omega arith)
-  | inr le ↦ rw (not_less byte 128 le) (omega arith)
+  | inr le ↦ rw (le-ltb byte 128 le) (omega arith)
 ]
 
 pub after_shorter : (bytes : List ℕ) → length (after_number bytes) ≤ length bytes
@@ -81,7 +78,7 @@ after_shorter (byte ∷ bytes) =
     let rest = after_shorter bytes in
     elim (cases_lt byte 128) [
       | inl lt ↦ rw (lt-ltb byte 128 lt) (omega arith)
-      | inr le ↦ rw (not_less byte 128 le) (omega arith)
+      | inr le ↦ rw (le-ltb byte 128 le) (omega arith)
     ]
 
 pub after_first : (byte : ℕ) (bytes : List ℕ) → length (after_number (byte ∷ bytes)) ≤ length bytes
@@ -89,7 +86,7 @@ after_first byte bytes =
     let rest = after_shorter bytes in
     elim (cases_lt byte 128) [
       | inl lt ↦ rw (lt-ltb byte 128 lt) (omega arith)
-      | inr le ↦ rw (not_less byte 128 le) (omega arith)
+      | inr le ↦ rw (le-ltb byte 128 le) (omega arith)
     ]
 
 -- ---- differences
@@ -98,7 +95,7 @@ pub folded_small : (bits : ℕ) → bits < 2 ^ 64 → folded bits < 2 ^ 64
 unfolding folded
 folded_small bits small = elim (cases_lt bits (2 ^ 63)) [
   | inl lt ↦ rw (lt-ltb bits (2 ^ 63) lt) (omega arith)
-  | inr le ↦ rw (not_less bits (2 ^ 63) le) (omega arith)
+  | inr le ↦ rw (le-ltb bits (2 ^ 63) le) (omega arith)
 ]
 
 unfolded_is : (bits : ℕ) → bits < 2 ^ 64 → unfolded (folded bits) ≡ bits
@@ -109,7 +106,7 @@ unfolded_is bits small = elim (cases_lt bits (2 ^ 63)) [
       rw (lt-ltb bits (2 ^ 63) lt, even) (omega arith)
   | inr le ↦
       let odd : (2 * (2 ^ 64 - 1 - bits) + 1) % 2 ≡ 1 = omega arith in
-      rw (not_less bits (2 ^ 63) le, odd) (omega arith)
+      rw (le-ltb bits (2 ^ 63) le, odd) (omega arith)
 ]
 
 pub difference_small : (from to : ℤ) → difference from to < 2 ^ 64
@@ -141,7 +138,7 @@ folded_less : (bits : ℕ) → bits < 2 ^ 64 → bits ≢ 2 ^ 63 → 1 + folded 
 unfolding folded
 folded_less bits small other = elim (cases_lt bits (2 ^ 63)) [
   | inl lt ↦ rw (lt-ltb bits (2 ^ 63) lt) (omega arith)
-  | inr le ↦ rw (not_less bits (2 ^ 63) le) (omega arith)
+  | inr le ↦ rw (le-ltb bits (2 ^ 63) le) (omega arith)
 ]
 
 -- Of two numbers that are far below 2^62 one more than the difference is still below 2^64.

@@ -126,7 +126,7 @@ is_within : (limit : ℤ) (text : List ℕ) (n : ℕ) → IsUnsigned text n → 
 unfolding within
 is_within limit text n u le = let t : int_le (pos n) limit ≡ true = grind (arith, ints) in rw (is_unsigned text n u, t) refl
 
-abs_neg : (n : ℕ) → nat_abs (neg_ℤ (pos n)) ≡ n
+pub abs_neg : (n : ℕ) → nat_abs (neg_ℤ (pos n)) ≡ n
 abs_neg zero = refl
 abs_neg (suc n) = refl
 

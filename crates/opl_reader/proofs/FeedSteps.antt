@@ -1,7 +1,7 @@
 -- One call of feed or finish that was answered, by cases.
-use Rattle.std.proofs.Common.{◌≡◌, ◌∙◌, refl, sym, ap, suc, zero, ℕ, ◌+◌, ◌<◌, ◌≤◌, Bool, true, false, nat_lt, ◌==◌, List, [], length, Option, None, Result, Ok, Err, if◌then◌else◌, arith}
+use Rattle.std.proofs.Common.{◌≡◌, ◌∙◌, refl, sym, ap, ℕ, ◌+◌, ◌<◌, ◌≤◌, Bool, true, false, nat_lt, ◌==◌, List, [], length, Option, None, Result, Ok, Err, if◌then◌else◌, arith}
 use Rattle.std.specs.List.{position_or_len}
-use Rattle.std.proofs.lemmas.Bool.{ltb-true, ltb-false, eqb-true}
+use Rattle.std.proofs.lemmas.Bool.{ltb-true, ltb-false, eqb-true, eqb-false}
 use Rattle.opl_reader.specs.declared.object.Object.{Object}
 use Rattle.opl_reader.specs.declared.fault.LineFault.{LineFault}
 use Rattle.opl_reader.specs.LineReading.{reading}
@@ -125,16 +125,12 @@ finished_reading r rest next lt (Ok object) e h =
     (sym (ap (λ (a : Result (Option Object × Reader) FeedError). (answer_of (rest, next) a).1.line) h))
 finished_reading r rest next lt (Err fault) e h = absurd (cc)
 
-positive : (n : ℕ) → (n == 0) ≡ false → 0 < n
-positive zero e = absurd (cc)
-positive (suc n) e = omega arith
-
 finished_length : (r : Reader) (rest : Option Object) (next : Reader) → (b : Bool) → (length r.unfinished == 0) ≡ b →
     (if b then Ok (None, record r { has_ended = true }) else with_last_line r (reading r.unfinished)) ≡ Ok (rest, next) → Finished r rest next
 finished_length r rest next true e h =
     empty (eqb-true _ _ e) (sym (ap (λ (a : Result (Option Object × Reader) FeedError). (answer_of (rest, next) a).0) h))
     (sym (ap (λ (a : Result (Option Object × Reader) FeedError). (answer_of (rest, next) a).1.line) h))
-finished_length r rest next false e h = finished_reading r rest next (positive (length r.unfinished) e) (reading r.unfinished) refl h
+finished_length r rest next false e h = let some = eqb-false (length r.unfinished) 0 e in finished_reading r rest next (omega arith) (reading r.unfinished) refl h
 
 finished_end : (r : Reader) (rest : Option Object) (next : Reader) → (b : Bool) →
     (if b then Err Ended else (if length r.unfinished == 0 then Ok (None, record r { has_ended = true }) else with_last_line r (reading r.unfinished))) ≡ Ok (rest, next) → Finished r rest next

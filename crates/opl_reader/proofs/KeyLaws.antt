@@ -45,7 +45,7 @@ filter-differ q (t ∷ tags) h =
       | inr goes ↦ rw goes (filter-differ q tags h.1)
     ]
 
-first_differ : (tags : List Tag) → HaveDifferentKeys (first_of_each tags)
+pub first_differ : (tags : List Tag) → HaveDifferentKeys (first_of_each tags)
 first_differ [] = tt
 first_differ (t ∷ tags) = (others_differ t.key (first_of_each tags), filter-differ (λ u. not (bytes_eq u.key t.key)) (first_of_each tags) (first_differ tags))
 

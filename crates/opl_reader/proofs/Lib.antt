@@ -1,32 +1,33 @@
-pub mod NumberLemmas
-pub mod CutLemmas
-pub mod SearchLemmas
-pub mod EscapeLemmas
-pub mod StringLemmas
-pub mod ItemLemmas
-pub mod TagLemmas
-pub mod MemberLemmas
-pub mod LineLemmas
-pub mod LetterLaws
-pub mod FieldLemmas
-pub mod ReadingLemmas
-pub mod PartedLaws
-pub mod SpellingLaws
-pub mod DecimalLaws
-pub mod PlaceLaws
-pub mod CoordinateLaws
-pub mod ItemLaws
-pub mod LineLaws
-pub mod BadLaws
-pub mod FaultLaws
-pub mod AnswerLaws
-pub mod KeyLaws
-pub mod UsualLemmas
-pub mod PackedLemmas
-pub mod CompactLemmas
-pub mod HeldLemmas
-pub mod LineSplits
-pub mod FeedSteps
-pub mod ChunkLaws
-pub mod BadLineLaws
-pub mod KeysRead
+mod NumberLemmas
+mod CutLemmas
+mod SearchLemmas
+mod EscapeLemmas
+mod StringLemmas
+mod ItemLemmas
+mod TagLemmas
+mod MemberLemmas
+mod LineLemmas
+mod LetterLaws
+mod FieldLemmas
+mod ReadingLemmas
+mod PartedLaws
+mod SpellingLaws
+mod DecimalLaws
+mod PlaceLaws
+mod CoordinateLaws
+mod ItemLaws
+mod LineLaws
+mod BadLaws
+mod FaultLaws
+mod AnswerLaws
+mod KeyLaws
+mod UsualLemmas
+mod PackedLemmas
+mod CompactLemmas
+mod HeldLemmas
+mod LineSplits
+mod FeedSteps
+mod ChunkLaws
+mod BadLineLaws
+mod KeysRead
+pub mod ReaderKit

@@ -13,7 +13,7 @@ use Rattle.opl_reader.specs.Lines.{is_newline, with_last, last_of, whole_lines, 
 abbrev pub IsOneLine : List ℕ → Type 0
 IsOneLine bytes = All (λ b. is_newline b ≡ false) bytes
 
-with_last-cons : (counts : List ℕ → Bool) (line : List ℕ) (parts : List (List ℕ)) → 0 < length parts → with_last counts (line ∷ parts) ≡ line ∷ with_last counts parts
+pub with_last-cons : (counts : List ℕ → Bool) (line : List ℕ) (parts : List (List ℕ)) → 0 < length parts → with_last counts (line ∷ parts) ≡ line ∷ with_last counts parts
 with_last-cons counts line [] lt = absurd (omega arith)
 with_last-cons counts line (p ∷ parts) lt = refl
 

@@ -1,8 +1,8 @@
 -- Texts in one block: those that stand behind their lengths, and usual ones.
-use Rattle.std.proofs.Common.{◌≡◌, ◌∙◌, refl, sym, ap, subst, ℕ, zero, suc, ◌+◌, ◌*◌, ◌/◌, ◌%◌, ◌<◌, ◌≤◌, false, ltb, List, [], ◌∷◌, ◌++◌, length, take, drop, append-nil, append_assoc, length-append, length-drop, inl, inr, Result, Ok, Err, arith}
+use Rattle.std.proofs.Common.{◌≡◌, ◌∙◌, refl, sym, ap, subst, ℕ, zero, suc, ◌+◌, ◌*◌, ◌/◌, ◌%◌, ◌<◌, ◌≤◌, List, [], ◌∷◌, ◌++◌, length, take, drop, append-nil, append_assoc, length-append, length-drop, inl, inr, Result, Ok, Err, arith}
 use Rattle.std.specs.Prelude.{slice_index, OnOk}
 use Rattle.std.specs.Str.{IsUtf8}
-use Rattle.std.proofs.lemmas.Bool.{cases_lt, lt-ltb, ltb-true, false_from_ne_true}
+use Rattle.std.proofs.lemmas.Bool.{cases_lt, lt-ltb, le-ltb}
 use Rattle.std.proofs.lemmas.List.{take-append-le, drop-append-le, take_all, get_or_append_left}
 use Rattle.std.proofs.Math.Seq.{drop-append_seam}
 use Rattle.opl_reader.specs.declared.object.Tag.{Tag}
@@ -20,9 +20,6 @@ take_front n xs ys e = take-append-le n xs ys (omega arith) ∙ take_all n xs (o
 
 drop_front : (n : ℕ) (xs ys : List ℕ) → n ≡ length xs → drop n (xs ++ ys) ≡ ys
 drop_front n xs ys e = rw e (drop-append_seam xs ys)
-
-not_less : (m n : ℕ) → n ≤ m → ltb m n ≡ false
-not_less m n le = false_from_ne_true _ (λ h. let lt = ltb-true m n h in absurd (omega arith))
 
 -- ---- a text that was put behind its length
 
@@ -42,7 +39,7 @@ length_told n more =
       | inl lt ↦
           let below : n < 255 = omega arith in
           rw (lt-ltb n 192 lt) (record { head = rw (lt-ltb n 255 below) refl; text = rw (lt-ltb n 192 lt) refl; whole = λ behind. rw (lt-ltb n 192 lt) refl })
-      | inr le ↦ rw (not_less n 192 le) (record { head = refl; text = digits n; whole = λ behind. refl })
+      | inr le ↦ rw (le-ltb n 192 le) (record { head = refl; text = digits n; whole = λ behind. refl })
     ]
 
 -- a text behind its length
@@ -84,9 +81,9 @@ whole_tells text = record { first = first_is text; after = after_is text; room =
 code_tells : (code : ℕ) (text : List ℕ) → 192 ≤ code → code < 255 → usual_text code ≡ text → Tell text (code ∷ [])
 unfolding head_len text_len text_by
 code_tells code text le lt is = record {
-  first = λ more. rw (not_less code 192 le, lt-ltb code 255 lt) is;
-  after = λ more. rw (not_less code 192 le, lt-ltb code 255 lt) refl;
-  room = λ more. rw (not_less code 192 le, lt-ltb code 255 lt) (omega arith);
+  first = λ more. rw (le-ltb code 192 le, lt-ltb code 255 lt) is;
+  after = λ more. rw (le-ltb code 192 le, lt-ltb code 255 lt) refl;
+  room = λ more. rw (le-ltb code 192 le, lt-ltb code 255 lt) (omega arith);
 }
 
 -- ---- as `push_text` knows them
@@ -109,7 +106,7 @@ pub some_head : (bytes : List ℕ) → 0 < head_len bytes
 unfolding head_len
 some_head bytes = elim (cases_lt (slice_index bytes 0) 255) [
   | inl lt ↦ rw (lt-ltb _ 255 lt) (omega arith)
-  | inr le ↦ rw (not_less _ 255 le) (omega arith)
+  | inr le ↦ rw (le-ltb _ 255 le) (omega arith)
 ]
 
 -- more bytes behind change neither length
@@ -124,13 +121,13 @@ told_by bytes more e room =
       | inl lt ↦ record { head = rw (e, lt-ltb _ 255 lt) refl; text = rw (e, lt-ltb _ 255 lt) refl }
       | inr le ↦
           let above : 192 ≤ slice_index bytes 0 = omega arith in
-          let five : 5 ≤ length bytes = rw (not_less _ 255 le) at room in
+          let five : 5 ≤ length bytes = rw (le-ltb _ 255 le) at room in
           let at : (k : ℕ) → k < 5 → slice_index (bytes ++ more) k ≡ slice_index bytes k = λ k lt. get_or_append_left bytes more 0 k (omega arith) in
           let a = at 1 (omega arith) in
           let b = at 2 (omega arith) in
           let c = at 3 (omega arith) in
           let d = at 4 (omega arith) in
-          record { head = rw (e, not_less _ 255 le) refl; text = rw (e, not_less _ 192 above, not_less _ 255 le, a, b, c, d) refl }
+          record { head = rw (e, le-ltb _ 255 le) refl; text = rw (e, le-ltb _ 192 above, le-ltb _ 255 le, a, b, c, d) refl }
     ]
 
 same_first : (bytes more : List ℕ) → BeginsWithText bytes → slice_index (bytes ++ more) 0 ≡ slice_index bytes 0

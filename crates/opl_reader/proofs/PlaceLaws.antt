@@ -3,12 +3,11 @@ use Rattle.std.proofs.Common.{◌≡◌, ℕ, ◌≤◌, Bool, true, false, leb,
 use Rattle.std.specs.Prelude.{option_and_then, unsigned_abs, FitsSigned, IsSome, IfSome, ◌↔◌}
 use Rattle.std.proofs.lemmas.Bool.{le-leb, leb-true}
 use Rattle.std.proofs.lemmas.Option.{none-some}
-use Rattle.std.proofs.Props.{props}
-use mathlib.Core.HLevel.{is_prop→PathP}
 use Rattle.std.proofs.lemmas.Int.{to_z-of_z}
 use Rattle.osm_lattice.specs.declared.loc.Loc.{Loc}
 use Rattle.opl_reader.specs.Coordinates.{place_of}
 use Rattle.osm_lattice.specs.Bounds.{IsLongitude, IsLatitude}
+use Rattle.osm_lattice.proofs.LatticeKit.{latitude_prop, loc_from_fields, longitude_prop}
 use Rattle.opl_reader.specs.declared.coordinate.Longitude.{Longitude}
 use Rattle.opl_reader.specs.declared.coordinate.Latitude.{Latitude}
 use Rattle.opl_reader.specs.Numbers.{IsDecimal}
@@ -24,12 +23,6 @@ where-holds false f x h e = absurd cc
 where-some : {A : Type 0} (b : Bool) (f : b ≡ true → A) (x : A) → where_true b f ≡ Some x → (h : b ≡ true) × (f h ≡ x)
 where-some true f x e = (refl, cc)
 where-some false f x e = absurd cc
-
-longitude_prop : (x : ℤ) → IsProp (IsLongitude x)
-longitude_prop x = hlevel props
-
-latitude_prop : (x : ℤ) → IsProp (IsLatitude x)
-latitude_prop x = hlevel props
 
 pub longitude-at : (z : ℤ) (l : Longitude) → l.units ≡ z → longitude z ≡ Some l
 longitude-at z l e =
@@ -78,15 +71,6 @@ some_decimal [] z d none = none-some z (sym (no_decimal (pos (nat_abs z))) ∙ i
 some_decimal (b ∷ bytes) z d none = absurd (omega arith)
 
 -- ---- locations
-
--- the facts of a location have one proof each, so its coordinates make it
-loc_from_fields : (p q : Loc) → p.x ≡ q.x → p.y ≡ q.y → p ≡ q
-loc_from_fields p q ex ey = λ i. record {
-  x = ex i;
-  y = ey i;
-  x_in = is_prop→PathP (λ j. IsLongitude (ex j)) (λ j. longitude_prop (ex j)) p.x_in q.x_in i;
-  y_in = is_prop→PathP (λ j. IsLatitude (ey j)) (λ j. latitude_prop (ey j)) p.y_in q.y_in i;
-}
 
 pub place-at : (x : Longitude) (y : Latitude) (l : Loc) → l.x ≡ x.units → l.y ≡ y.units → Some l ≡ place_of (Some x) (Some y)
 place-at x y l e f = ap (λ (p : Loc). Some p) (loc_from_fields l (record { x = x.units; y = y.units; x_in = x.in_range; y_in = y.in_range }) e f)

@@ -1,6 +1,5 @@
 -- Written items: their bytes, and that they spell tags, references and members.
-use Rattle.std.proofs.Common.{◌≡◌, ◌≢◌, ◌∙◌, ◌≤◌, ◌<◌, ◌^◌, not, false, ℕ, List, [], ◌∷◌, ◌++◌, length, length-append, map, Option, Some, None, refl, sym, ap, subst, append_assoc, inl, inr, ◌⊎◌, arith, All}
-use Rattle.std.specs.Prelude.{unsigned_abs}
+use Rattle.std.proofs.Common.{◌≡◌, ◌≢◌, ◌∙◌, ◌≤◌, ◌<◌, not, false, ℕ, List, [], ◌∷◌, ◌++◌, length, length-append, map, Option, Some, None, refl, sym, ap, subst, append_assoc, inl, inr, ◌⊎◌, arith, All}
 use Rattle.std.specs.Str.{bytes_eq}
 use Rattle.std.specs.List.{filter, AllByRecursion, join_with_byte}
 use Rattle.std.specs.Fmt.{signed_decimal}
@@ -8,6 +7,7 @@ use Rattle.std.proofs.lemmas.Bool.{false_from_ne_true}
 use Rattle.std.proofs.lemmas.Slice.Eq.{bytes_eq-Decides}
 use Rattle.std.proofs.lemmas.List.Elements.{All-nil, All-cons, All-append, All-head, All-tail}
 use Rattle.osm_lattice.specs.declared.loc.Loc.{Loc}
+use Rattle.osm_lattice.proofs.LatticeKit.{x_small, y_small}
 use Rattle.opl_reader.specs.declared.object.Tag.{Tag}
 use Rattle.opl_reader.specs.declared.object.Ref.{Ref}
 use Rattle.opl_reader.specs.declared.object.Member.{Member}
@@ -61,12 +61,6 @@ tag_is_item t h =
 
 -- ---- locations
 
-x-small : (p : Loc) → unsigned_abs p.x < 2 ^ 64
-x-small p = let range = p.x_in in omega arith
-
-y-small : (p : Loc) → unsigned_abs p.y < 2 ^ 64
-y-small p = let range = p.y_in in omega arith
-
 abbrev pub longitude_of : Loc → Longitude
 longitude_of p = record { units = p.x; in_range = p.x_in }
 
@@ -74,16 +68,16 @@ abbrev pub latitude_of : Loc → Latitude
 latitude_of p = record { units = p.y; in_range = p.y_in }
 
 pub x_is_read : (p : Loc) → IsX (units_text p.x) (Some (longitude_of p))
-x_is_read p = inr (longitude_of p, units_are_read p.x (x-small p), refl)
+x_is_read p = inr (longitude_of p, units_are_read p.x (x_small p), refl)
 
 pub y_is_read : (p : Loc) → IsY (units_text p.y) (Some (latitude_of p))
-y_is_read p = inr (latitude_of p, units_are_read p.y (y-small p), refl)
+y_is_read p = inr (latitude_of p, units_are_read p.y (y_small p), refl)
 
 pub x-of_number : (p : Loc) → All IsOfNumber (units_text p.x)
-x-of_number p = units-of_number p.x (x-small p)
+x-of_number p = units-of_number p.x (x_small p)
 
 pub y-of_number : (p : Loc) → All IsOfNumber (units_text p.y)
-y-of_number p = units-of_number p.y (y-small p)
+y-of_number p = units-of_number p.y (y_small p)
 
 -- ---- references
 

@@ -1,15 +1,13 @@
 -- What a line spells is sound: its texts are texts of characters, since the line is, and its ids are in range.
-use Rattle.std.proofs.Common.{◌≡◌, ◌≢◌, ◌∙◌, ◌+◌, ◌≤◌, ◌<◌, ◌==◌, not, ℕ, zero, suc, ℤ, pos, neg_ℤ, nat_abs, Bool, true, false, if◌then◌else◌, List, [], ◌∷◌, ◌++◌, length, length-append, drop, get_or, Some, None, refl, sym, ap, subst, append_assoc, append-nil, inl, inr, ◌⊎◌, arith, All, true≢false}
+use Rattle.std.proofs.Common.{◌≡◌, ◌∙◌, ◌+◌, ◌≤◌, ◌<◌, not, ℕ, ℤ, List, [], ◌∷◌, ◌++◌, length, length-append, drop, get_or, refl, sym, ap, subst, append_assoc, append-nil, inl, inr, ◌⊎◌, arith, All}
 use Rattle.std.specs.Prelude.{encode_utf8}
 use Rattle.std.specs.Char.{IsScalar}
 use Rattle.std.specs.Str.{IsUtf8, bytes_eq}
-use Rattle.std.specs.List.{filter, AllByRecursion}
-use Rattle.std.proofs.lemmas.Bool.{ne_eqb, le-ltb, lt-ltb, le-leb, cases_lt}
+use Rattle.std.specs.List.{filter}
+use Rattle.std.proofs.lemmas.Bool.{le-ltb, lt-ltb, le-leb}
 use Rattle.std.proofs.lemmas.List.{take_at, drop_at}
 use Rattle.std.proofs.lemmas.List.Elements.{All-nil, All-cons, All-head, All-tail, All-filter}
 use Rattle.std.proofs.Math.Seq.{get_or-append_seam}
-use Rattle.std.proofs.lemmas.Option.{none-some}
-use Rattle.std.proofs.lemmas.Slice.Eq.{bytes_eq-Decides}
 use Rattle.std.proofs.lemmas.Str.{IsUtf8-nil, IsUtf8-append, IsUtf8-encode, IsUtf8-take, IsUtf8-drop, IsCharBoundary-before_ascii, IsCharBoundary-after_ascii}
 use lib.Utf8.{low_scalar}
 use Rattle.opl_reader.specs.declared.object.Tag.{Tag}
@@ -25,9 +23,10 @@ use Rattle.opl_reader.specs.Parts.{Part, IsSeparator, EndsField, Parted, ends, s
 use Rattle.opl_reader.specs.Numbers.{IsId}
 use Rattle.opl_reader.specs.Strings.{IsString, IsCode, stands, escape}
 use Rattle.opl_reader.specs.Strings as string
-use Rattle.opl_reader.specs.Items.{Each, IsItems, IsTag, IsRef, IsMember, first_of_each, HaveDifferentKeys}
-use Rattle.opl_reader.specs.Fields.{letter_of, nothing, object_of, Tells, FieldTells, Told}
+use Rattle.opl_reader.specs.Items.{Each, IsItems, IsTag, IsRef, IsMember, first_of_each}
+use Rattle.opl_reader.specs.Fields.{nothing, object_of, Tells, FieldTells, Told}
 use Rattle.opl_reader.specs.Spells.{Spells}
+use Rattle.opl_reader.proofs.ReaderKit.{abs_neg, first_differ, letter_ascii}
 use Rattle.opl_writer.specs.Writable.{IsIdNumber, IsTagOfTexts, AreTags, IsRefInRange, AreRefs, IsMemberInRange, AreMembers, IsSound}
 
 -- ---- texts of characters
@@ -97,13 +96,9 @@ tag-good bytes t is u =
     let both = cut is.key is.value 61 (omega arith) (subst IsUtf8 is.parts u) in
     (string-text [] is.key t.key is.key_is both.front, string-text [] is.value t.value is.value_is both.behind)
 
-abs-neg : (n : ℕ) → nat_abs (neg_ℤ (pos n)) ≡ n
-abs-neg zero = refl
-abs-neg (suc n) = refl
-
 id-good : (bytes : List ℕ) (id : ℤ) → IsId bytes id → IsIdNumber id
 id-good bytes id (inl m) = let most = m.1.most in let worth = m.1.worth in subst IsIdNumber (sym m.2) (omega arith)
-id-good bytes id (inr m) = let most = m.3.most in let worth = m.3.worth in subst IsIdNumber (sym m.4) (omega (arith, abs-neg m.1))
+id-good bytes id (inr m) = let most = m.3.most in let worth = m.3.worth in subst IsIdNumber (sym m.4) (omega (arith, abs_neg m.1))
 
 ref-good : (bytes : List ℕ) (r : Ref) → IsRef bytes r → IsUtf8 bytes → IsRefInRange r
 ref-good bytes r is u = id-good is.digits r.node is.id_is
@@ -114,37 +109,6 @@ member-good bytes m is u =
     (id-good target.digits m.id target.id_is, string-text [] is.role m.role is.role_is (cut (target.letter ∷ target.digits) is.role 64 (omega arith) (subst IsUtf8 target.parts u)).behind)
 
 -- ---- different keys
-
-others-apart : (key : List ℕ) (tags : List Tag) → AllByRecursion (λ u. u.key ≢ key) (filter (λ u. not (bytes_eq u.key key)) tags)
-others-apart key [] = tt
-others-apart key (u ∷ tags) = by (bytes_eq u.key key) refl (others-apart key tags)
-  where
-    rest : List Tag
-    rest = filter (λ w. not (bytes_eq w.key key)) tags
-
-    by : (b : Bool) → bytes_eq u.key key ≡ b → AllByRecursion (λ w. w.key ≢ key) rest → AllByRecursion (λ w. w.key ≢ key) (if not b then u ∷ rest else rest)
-    by true e h = h
-    by false e h = ((λ same. true≢false (sym ((bytes_eq-Decides u.key key).1 same) ∙ e)), h)
-
-apart-filtered : (p : Tag → Bool) (key : List ℕ) (tags : List Tag) → AllByRecursion (λ u. u.key ≢ key) tags → AllByRecursion (λ u. u.key ≢ key) (filter p tags)
-apart-filtered p key [] h = tt
-apart-filtered p key (u ∷ tags) h = by (p u) (apart-filtered p key tags h.1)
-  where
-    by : (b : Bool) → AllByRecursion (λ w. w.key ≢ key) (filter p tags) → AllByRecursion (λ w. w.key ≢ key) (if b then u ∷ filter p tags else filter p tags)
-    by true rest = (h.0, rest)
-    by false rest = rest
-
-different-filtered : (p : Tag → Bool) (tags : List Tag) → HaveDifferentKeys tags → HaveDifferentKeys (filter p tags)
-different-filtered p [] h = tt
-different-filtered p (u ∷ tags) h = by (p u) (different-filtered p tags h.1)
-  where
-    by : (b : Bool) → HaveDifferentKeys (filter p tags) → HaveDifferentKeys (if b then u ∷ filter p tags else filter p tags)
-    by true rest = (apart-filtered p u.key tags h.0, rest)
-    by false rest = rest
-
-firsts-differ : (tags : List Tag) → HaveDifferentKeys (first_of_each tags)
-firsts-differ [] = tt
-firsts-differ (t ∷ tags) = (others-apart t.key (first_of_each tags), different-filtered (λ u. not (bytes_eq u.key t.key)) (first_of_each tags) (firsts-differ tags))
 
 firsts-good : (tags : List Tag) → All IsTagOfTexts tags → All IsTagOfTexts (first_of_each tags)
 firsts-good [] h = h
@@ -170,30 +134,13 @@ tells-good Name value c d t u h = subst IsGood t.2 h
 tells-good X value c d t u h = subst IsGood t.2 (record { tags = h.tags; refs = h.refs; members = h.members })
 tells-good Y value c d t u h = subst IsGood t.2 (record { tags = h.tags; refs = h.refs; members = h.members })
 tells-good Tagged value c d t u h =
-    subst IsGood t.2 (record { tags = (firsts-good t.0 (items-good IsTag IsTagOfTexts tag-good value t.0 t.1 u), firsts-differ t.0); refs = h.refs; members = h.members })
+    subst IsGood t.2 (record { tags = (firsts-good t.0 (items-good IsTag IsTagOfTexts tag-good value t.0 t.1 u), first_differ t.0); refs = h.refs; members = h.members })
 tells-good Referring value c d t u h = subst IsGood t.2 (record { tags = h.tags; refs = items-good IsRef IsRefInRange ref-good value t.0 t.1 u; members = h.members })
 tells-good Having value c d t u h = subst IsGood t.2 (record { tags = h.tags; refs = h.refs; members = items-good IsMember IsMemberInRange member-good value t.0 t.1 u })
 
--- the letters are ASCII
-other : (letter b : ℕ) → 128 ≤ letter → b < 128 → (letter == b) ≡ false
-other letter b high low = ne_eqb letter b (λ e. absurd (omega arith))
-
-high-none : (kind : ObjectKind) (letter : ℕ) → 128 ≤ letter → letter_of kind letter ≡ None
-unfolding letter_of
-high-none Node letter high = rw (other letter 120 high (omega arith), other letter 121 high (omega arith), other letter 84 high (omega arith), other letter 118 high (omega arith), other letter 99 high (omega arith), other letter 105 high (omega arith), other letter 100 high (omega arith), other letter 116 high (omega arith), other letter 117 high (omega arith)) refl
-high-none Way letter high = rw (other letter 78 high (omega arith), other letter 84 high (omega arith), other letter 118 high (omega arith), other letter 99 high (omega arith), other letter 105 high (omega arith), other letter 100 high (omega arith), other letter 116 high (omega arith), other letter 117 high (omega arith)) refl
-high-none Relation letter high = rw (other letter 77 high (omega arith), other letter 84 high (omega arith), other letter 118 high (omega arith), other letter 99 high (omega arith), other letter 105 high (omega arith), other letter 100 high (omega arith), other letter 116 high (omega arith), other letter 117 high (omega arith)) refl
-
-letter-low : (kind : ObjectKind) (letter : ℕ) (meaning : Meaning) → letter_of kind letter ≡ Some meaning → letter < 128
-letter-low kind letter meaning e = by (cases_lt letter 128)
-  where
-    by : (letter < 128) ⊎ (128 ≤ letter) → letter < 128
-    by (inl lt) = lt
-    by (inr high) = absurd (none-some meaning (sym (high-none kind letter high) ∙ e))
-
 field-good : (kind : ObjectKind) (seen bytes : List ℕ) (c d : Content) → FieldTells kind seen bytes c d → IsUtf8 bytes → IsGood c → IsGood d
 field-good kind seen [] c d t u h = absurd t
-field-good kind seen (letter ∷ value) c d t u h = tells-good t.0 value c d t.3 (cut [] value letter (letter-low kind letter t.0 t.1) u).behind h
+field-good kind seen (letter ∷ value) c d t u h = tells-good t.0 value c d t.3 (cut [] value letter (letter_ascii kind letter t.0 (sym t.1)) u).behind h
 
 abbrev IsText : Part → Type 0
 IsText f = IsUtf8 f.bytes

@@ -1,5 +1,5 @@
 -- The lines of a text of written lines.
-use Rattle.std.proofs.Common.{◌≡◌, ◌∙◌, ◌<◌, Bool, ℕ, List, [], ◌∷◌, ◌++◌, length, map, Option, Some, Result, Ok, refl, ap, append_assoc, arith, All}
+use Rattle.std.proofs.Common.{◌≡◌, ◌∙◌, Bool, ℕ, List, [], ◌∷◌, ◌++◌, length, map, Option, Some, Result, Ok, refl, ap, append_assoc, arith, All}
 use Rattle.std.specs.Prelude.{nat_lt}
 use Rattle.std.specs.List.{slice_split, filter_map, cons_option}
 use Rattle.std.proofs.lemmas.Bool.{ne_eqb}
@@ -11,19 +11,16 @@ use Rattle.opl_reader.specs.LineReading.{reading}
 use Rattle.opl_reader.specs.Lines.{is_newline, with_last, lines_of}
 use Rattle.opl_reader.specs.Parts.{Lacks}
 use Rattle.opl_reader.specs.Told.{object_in, object_told}
+use Rattle.opl_reader.proofs.ReaderKit.{with_last-cons}
 use Rattle.opl_writer.specs.Written.{line_of, text_of}
 use Rattle.opl_writer.specs.Writable.{IsWritable}
-
-one-more : (counts : List ℕ → Bool) (line : List ℕ) (parts : List (List ℕ)) → 0 < length parts → with_last counts (line ∷ parts) ≡ line ∷ with_last counts parts
-one-more counts line [] some = absurd (omega arith)
-one-more counts line (next ∷ parts) some = refl
 
 -- a line that is ended, before other bytes
 line-first : (line bytes : List ℕ) → Lacks 10 line → lines_of (line ++ 10 ∷ [] ++ bytes) ≡ line ∷ lines_of bytes
 line-first line bytes lacks =
     let cut : slice_split is_newline (line ++ 10 ∷ [] ++ bytes) ≡ line ∷ slice_split is_newline bytes =
     ap (slice_split is_newline) (append_assoc line (10 ∷ []) bytes) ∙ slice_split_at is_newline line 10 bytes (λ k d lt. ne_eqb _ 10 (lacks k d lt)) refl in
-    ap (with_last counts) cut ∙ one-more counts line (slice_split is_newline bytes) (omega (arith, length-slice_split is_newline bytes))
+    ap (with_last counts) cut ∙ with_last-cons counts line (slice_split is_newline bytes) (omega (arith, length-slice_split is_newline bytes))
   where
     counts : List ℕ → Bool
     counts l = nat_lt 0 (length l)

@@ -1,11 +1,11 @@
 -- Where each number goes on, nothing is the start of an open orbit.
 use Rattle.std.proofs.Common.{◌≢◌, ℕ, ◌-◌, ◌<◌, List, length, get_or, replicate, Bool, false, arith, ⊎_elim, Option, None}
 use Rattle.std.proofs.lemmas.List.{length-replicate}
+use Rattle.std.proofs.lemmas.Bool.{both_ways}
 use Rattle.orbits.specs.OrbitSteps.{AreStarts}
 use Rattle.orbits.specs.Orbits.{after, last, IsOneToOne}
 use Rattle.orbits.proofs.Exists.{starts_exist, walk_exists}
 use Rattle.orbits.proofs.Finding.{AreChained, IsMarked, blank, none_marked, on_or_off, start_open}
-use Rattle.orbits.proofs.Reading.{clash}
 
 -- no number is marked
 abbrev pub unmarked : List (Option ℕ) → List Bool
@@ -33,6 +33,6 @@ module _ (next : List (Option ℕ)) (map : IsOneToOne next) (total : (i : ℕ) �
 pub none-chained : (next : List (Option ℕ)) → AreChained next (unmarked next) (length next) (unmarked next)
 none-chained next = record {
   closed = none_marked next;
-  heads = λ j h s. absurd (clash _ s (blank (length next) j));
-  reached = λ D t on x m. absurd (clash _ m (blank (length next) x));
+  heads = λ j h s. absurd (both_ways _ (blank (length next) j) s);
+  reached = λ D t on x m. absurd (both_ways _ (blank (length next) x) m);
 }

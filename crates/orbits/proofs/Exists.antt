@@ -1,9 +1,10 @@
 -- Every partial one-to-one map has orbits: on lists, with no memory.
 use Rattle.std.proofs.Common.{◌≡◌, ℕ, zero, suc, ◌+◌, ◌<◌, List, [], ◌∷◌, ◌++◌, length, get_or, set, take, replicate, Bool, true, false, refl, sym, ◌∙◌, arith, ⊎_elim, Option, Some, None}
 use Rattle.std.proofs.lemmas.List.{get_or-replicate, length-replicate, take_all}
+use Rattle.std.proofs.lemmas.Bool.{both_ways}
 use Rattle.orbits.specs.OrbitSteps.{AreMarkedAlso, AreStarts, IsWholeWalk}
 use Rattle.orbits.specs.Orbits.{after, IsOneToOne, AreOrbits, AreInOrder}
-use Rattle.orbits.proofs.Reading.{length_push, clash, unwrap}
+use Rattle.orbits.proofs.Reading.{length_push, unwrap}
 use Rattle.orbits.proofs.Walks.{IsWalkTo, walk_to_start, walk_to_more, walk_whole, walk_short}
 use Rattle.orbits.proofs.Marking.{marked_none, marked_more, AreStartsUpTo, starts_more, starts_pass, starts_all, same_or_not}
 use Rattle.orbits.proofs.Finding.{on_or_off, some_or_none, AreChained, chained_none, chained_more, chained_pass, AreFound, found_none, found_start, found_cycle, found_pass, found_all}
@@ -30,7 +31,7 @@ module _ (next : List (Option ℕ)) (map : IsOneToOne next) where
       (record {
         sized = length-replicate (length next) true;
         none = λ i j h e. absurd (omega arith);
-        some = λ j h e. absurd (clash _ (get_or-replicate (length next) j true false h) e);
+        some = λ j h e. absurd (both_ways _ e (get_or-replicate (length next) j true false h));
       })
       (omega arith)
 
@@ -73,7 +74,7 @@ module _ (next : List (Option ℕ)) (map : IsOneToOne next) where
           ⊎_elim
           (λ s. found_from fuel (place + 1) marks.0 (os ++ walk.0 ∷ []) (found_start next map starts are chained c place seen marks.0 walk.0 os f walk.1 s marks.1) (omega arith))
           (λ n. ⊎_elim
-          (λ m. found_from fuel (place + 1) seen os (found_pass next map starts are chained c place seen os f n (λ off. absurd (clash _ m off))) (omega arith))
+          (λ m. found_from fuel (place + 1) seen os (found_pass next map starts are chained c place seen os f n (λ off. absurd (both_ways _ off m))) (omega arith))
           (λ off. ⊎_elim
           (λ m. found_from fuel (place + 1) seen os (found_pass next map starts are chained c place seen os f n (λ o. m)) (omega arith))
           (λ fresh. found_from fuel (place + 1) marks.0 (os ++ walk.0 ∷ []) (found_cycle next map starts are chained c place seen marks.0 walk.0 os f walk.1 off fresh marks.1) (omega arith))

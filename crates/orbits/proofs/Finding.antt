@@ -1,13 +1,13 @@
 -- The steps of finding orbits with marks.
 use Rattle.std.proofs.Common.{◌≡◌, ◌≢◌, ◌⊎◌, inl, inr, ℕ, zero, suc, ◌+◌, ◌-◌, ◌<◌, ◌≤◌, List, [], ◌∷◌, ◌++◌, length, get_or, All, AllPairs, replicate, Bool, true, false, cond, refl, sym, ap, ◌∙◌, arith, ⊎_elim, Option, Some, None, count_by, sum_by, eqb}
-use Rattle.std.proofs.lemmas.Bool.{cases_lt}
+use Rattle.std.proofs.lemmas.Bool.{cases_lt, both_ways, lt-ltb, le-ltb}
 use Rattle.std.proofs.lemmas.List.{get_or_past, get_or_default, get_or-replicate, length-replicate}
 use Rattle.std.proofs.lemmas.List.Sums.{sum_by_push}
 use Rattle.std.proofs.lemmas.List.Elements.{All-push}
 use Rattle.std.proofs.lemmas.List.Quantifiers.{all_pairs_push}
 use Rattle.orbits.specs.OrbitSteps.{AreMarkedAlso, IsWholeWalk, AreStarts}
 use Rattle.orbits.specs.Orbits.{after, IsOneToOne, IsOrbit, GoesOn, first, last, AreOrbits}
-use Rattle.orbits.proofs.Reading.{ltb_yes, ltb_no, unwrap, clash}
+use Rattle.orbits.proofs.Reading.{unwrap}
 use Rattle.orbits.proofs.Members.{find, count_absent, count_present}
 use Rattle.orbits.proofs.Walks.{IsWalk, walk_back, walk_short}
 
@@ -32,7 +32,7 @@ pub blank : (n x : ℕ) → get_or (replicate n false) x false ≡ false
 blank n x = ⊎_elim (λ h. get_or-replicate n x false false h) (λ h. get_or_past (replicate n false) x false (let e = length-replicate n false in omega arith)) (cases_lt x n)
 
 pub none_marked : (next : List (Option ℕ)) → AreClosed next (replicate (length next) false)
-none_marked next = record { sized = length-replicate (length next) false; on = λ i j e m. absurd (clash _ m (blank (length next) i)); back = λ i j e m. absurd (clash _ m (blank (length next) j)) }
+none_marked next = record { sized = length-replicate (length next) false; on = λ i j e m. absurd (both_ways _ (blank (length next) i) m); back = λ i j e m. absurd (both_ways _ (blank (length next) j) m) }
 
 module _ (next : List (Option ℕ)) (map : IsOneToOne next) where
   -- a mark on a list is a mark on its first
@@ -89,12 +89,12 @@ module _ (next : List (Option ℕ)) (map : IsOneToOne next) where
       some = w.some;
       steps = w.steps;
       closes = λ j e. w.closes j e ∙ sym w.begins;
-      opens = λ none i e. clash _ s (are.none i place (e ∙ ap Some w.begins));
+      opens = λ none i e. both_ways _ (are.none i place (e ∙ ap Some w.begins)) s;
     }
 
     pub start_open : (place : ℕ) (o : List ℕ) → IsMarked starts place → IsWholeWalk next place o → after next (last o) ≢ None → ⊥
     start_open place o s w on = ⊎_elim
-        (λ p. clash _ s (are.none (last o) place (p.1 ∙ ap Some (w.closes p.0 p.1))))
+        (λ p. both_ways _ (are.none (last o) place (p.1 ∙ ap Some (w.closes p.0 p.1))) s)
         (λ none. on none)
         (some_or_none (after next (last o)))
 
@@ -105,13 +105,13 @@ module _ (next : List (Option ℕ)) (map : IsOneToOne next) where
       endless (suc fuel) o w stop off h =
           let inside = w.within 0 w.some in
           ⊎_elim
-          (λ s. clash _ (heads (first o) inside s) off)
+          (λ s. both_ways _ off (heads (first o) inside s))
           (λ n. let pred = are.some (first o) inside n in
           let longer = walk_back next map o pred.0 w stop pred.1 in
           let some = w.some in
           let end : last (pred.0 ∷ o) ≡ last o = last_cons pred.0 o some in
           ⊎_elim
-          (λ m. clash _ (closed.on pred.0 (first o) pred.1 m) off)
+          (λ m. both_ways _ off (closed.on pred.0 (first o) pred.1 m))
           (λ m. endless fuel (pred.0 ∷ o) longer (rw end stop) m (omega arith))
           (on_or_off (get_or chained pred.0 false)))
           (on_or_off (get_or starts (first o) false))
@@ -155,7 +155,7 @@ module _ (next : List (Option ℕ)) (map : IsOneToOne next) (starts : List Bool)
   chained_none = record {
     closed = none_marked next;
     heads = λ j h s. absurd (omega arith);
-    reached = λ D s on x m. absurd (clash _ m (blank (length next) _));
+    reached = λ D s on x m. absurd (both_ways _ (blank (length next) _) m);
   }
 
   -- what a walk from a number leads to is in each set that holds the number and is closed
@@ -180,7 +180,7 @@ module _ (next : List (Option ℕ)) (map : IsOneToOne next) (starts : List Bool)
   pub chained_pass : (place : ℕ) (old : List Bool) → AreChained next starts place old → get_or starts place false ≡ false → AreChained next starts (place + 1) old
   chained_pass place old c n = record {
     closed = c.closed;
-    heads = λ j h t. ⊎_elim (λ l. c.heads j l t) (λ l. let is : j ≡ place = omega arith in absurd (clash _ (rw (← is) t) n)) (cases_lt j place);
+    heads = λ j h t. ⊎_elim (λ l. c.heads j l t) (λ l. let is : j ≡ place = omega arith in absurd (both_ways _ n (rw (← is) t))) (cases_lt j place);
     reached = c.reached;
   }
 
@@ -191,7 +191,7 @@ module _ (next : List (Option ℕ)) (map : IsOneToOne next) (starts : List Bool)
     each = λ k d h. absurd (omega arith);
     heads = λ j h s. absurd (omega arith);
     rest = λ j h s t. absurd (omega arith);
-    early = λ j s m. absurd (clash _ m (blank (length next) _));
+    early = λ j s m. absurd (both_ways _ (blank (length next) _) m);
     below = λ k d h. absurd (omega arith);
     firsts = λ i j d h l. absurd (omega arith);
     least = λ k d h. absurd (omega arith);
@@ -231,7 +231,7 @@ module _ (next : List (Option ℕ)) (map : IsOneToOne next) (starts : List Bool)
       where
         unseen : (x k : ℕ) → k < length o → get_or o k 0 ≡ x → get_or old x false ≡ false
         unseen x k h is = ⊎_elim
-            (λ m. absurd (clash _ (rw (← w.begins) (back_to_first next map old o f.closed w.steps k h (rw is m))) fresh))
+            (λ m. absurd (both_ways _ fresh (rw (← w.begins) (back_to_first next map old o f.closed w.steps k h (rw is m)))))
             (λ off. off)
             (on_or_off (get_or old x false))
 
@@ -242,7 +242,7 @@ module _ (next : List (Option ℕ)) (map : IsOneToOne next) (starts : List Bool)
         inner : (j k : ℕ) → k < length o → get_or o k 0 ≡ j → 0 < k → IsMarked starts j → ⊥
         inner j k h is l t =
             let e : after next (get_or o (k - 1) 0) ≡ Some j = w.steps (k - 1) (omega arith) ∙ ap Some (ap (λ m. get_or o m 0) (omega arith) ∙ is) in
-            clash _ t (are.none (get_or o (k - 1) 0) j e)
+            both_ways _ (are.none (get_or o (k - 1) 0) j e) t
 
     pub found_start : (place : ℕ) (old new : List Bool) (o : List ℕ) (os : List (List ℕ)) → AreFound next starts chained place old os → IsWholeWalk next place o → IsMarked starts place → AreMarkedAlso old o new → AreFound next starts chained (place + 1) new (os ++ o ∷ [])
     found_start place old new o os f w s a =
@@ -263,11 +263,11 @@ module _ (next : List (Option ℕ)) (map : IsOneToOne next) (starts : List Bool)
         lower k d h l =
             let same : get_or o k d ≡ get_or o k 0 = get_or_default o k d 0 h in
             let low : get_or o k 0 < place = omega arith in
-            let not_chained : IsMarked chained (get_or o k 0) → ⊥ = λ m. clash _ (rw (← w.begins) (back_to_first next map chained o c.closed w.steps k h m)) off in
+            let not_chained : IsMarked chained (get_or o k 0) → ⊥ = λ m. both_ways _ off (rw (← w.begins) (back_to_first next map chained o c.closed w.steps k h m)) in
             ⊎_elim
             (λ t. not_chained (c.heads (get_or o k 0) (w.within k h) t))
             (λ t. ⊎_elim not_chained
-            (λ u. clash _ (rw (← w.begins) (back_to_first next map old o f.closed w.steps k h (f.rest (get_or o k 0) low t u))) fresh)
+            (λ u. both_ways _ fresh (rw (← w.begins) (back_to_first next map old o f.closed w.steps k h (f.rest (get_or o k 0) low t u))))
             (on_or_off (get_or chained (get_or o k 0) false)))
             (on_or_off (get_or starts (get_or o k 0) false))
 
@@ -276,7 +276,7 @@ module _ (next : List (Option ℕ)) (map : IsOneToOne next) (starts : List Bool)
       closed = f.closed;
       counts = f.counts;
       each = f.each;
-      heads = λ j h t. ⊎_elim (λ l. f.heads j l t) (λ l. let is : j ≡ place = omega arith in absurd (clash _ (rw (← is) t) n)) (cases_lt j place);
+      heads = λ j h t. ⊎_elim (λ l. f.heads j l t) (λ l. let is : j ≡ place = omega arith in absurd (both_ways _ n (rw (← is) t))) (cases_lt j place);
       rest = λ j h t u. ⊎_elim (λ l. f.rest j l t u) (λ l. let is : j ≡ place = omega arith in rw is (s (rw (← is) u))) (cases_lt j place);
       early = λ j t m. let low = f.early j t m in omega arith;
       below = λ k d h. let low = f.below k d h in omega arith;
@@ -286,12 +286,12 @@ module _ (next : List (Option ℕ)) (map : IsOneToOne next) (starts : List Bool)
 
     pub found_all : (seen : List Bool) (os : List (List ℕ)) → AreFound next starts chained (length next) seen os → AreOrbits next os
     found_all seen os f = record {
-      once = λ x. f.counts x ∙ ap (λ b. cond {A = ℕ} b 1 0) (⊎_elim (λ h. all x h ∙ sym (ltb_yes x (length next) h)) (λ h. let sized = f.closed.sized in get_or_past seen x false (omega arith) ∙ sym (ltb_no x (length next) h)) (cases_lt x (length next)));
+      once = λ x. f.counts x ∙ ap (λ b. cond {A = ℕ} b 1 0) (⊎_elim (λ h. all x h ∙ sym (lt-ltb x (length next) h)) (λ h. let sized = f.closed.sized in get_or_past seen x false (omega arith) ∙ sym (le-ltb x (length next) h)) (cases_lt x (length next)));
       each = f.each;
     }
       where
         started : (j : ℕ) → IsMarked starts j → get_or seen j false ≡ true
-        started j t = ⊎_elim (λ h. f.heads j h t) (λ h. let sized = are.sized in absurd (clash _ t (get_or_past starts j false (omega arith)))) (cases_lt j (length next))
+        started j t = ⊎_elim (λ h. f.heads j h t) (λ h. let sized = are.sized in absurd (both_ways _ (get_or_past starts j false (omega arith)) t)) (cases_lt j (length next))
 
         all : (x : ℕ) → x < length next → get_or seen x false ≡ true
         all x h = ⊎_elim

@@ -1,14 +1,7 @@
 -- What stands at a place of a list.
-use Rattle.std.proofs.Common.{◌≡◌, ℕ, Bool, Some, ◌+◌, ◌<◌, ◌≤◌, List, [], ◌∷◌, ◌++◌, length, get_or, take, drop, true, false, arith, ltb}
+use Rattle.std.proofs.Common.{◌≡◌, ℕ, Some, ◌+◌, ◌<◌, List, [], ◌∷◌, ◌++◌, length, get_or, take, drop, arith}
 use Rattle.std.proofs.lemmas.List.{length-append, get_or-take, get_or-drop, get_or_append_left}
-use Rattle.std.proofs.lemmas.Bool.Decides.{nat_tests}
 use Rattle.std.proofs.Math.Seq.{get_or-append_seam}
-
-pub ltb_yes : (i n : ℕ) → i < n → ltb i n ≡ true
-ltb_yes i n h = grind (arith, nat_tests)
-
-pub ltb_no : (i n : ℕ) → n ≤ i → ltb i n ≡ false
-ltb_no i n h = grind (arith, nat_tests)
 
 -- what stands at a place of a front, of a rest and of a longer list
 pub at_take : (xs : List ℕ) (d i : ℕ) → i < d → get_or (take d xs) i 0 ≡ get_or xs i 0
@@ -28,7 +21,3 @@ length_push xs y = omega (arith, length-append xs (y ∷ []))
 
 pub unwrap : (x y : ℕ) → Some x ≡ Some y → x ≡ y
 unwrap x y p = cc
-
--- a test has one answer
-pub clash : (b : Bool) → b ≡ true → b ≡ false → ⊥
-clash b p q = cc

@@ -1,12 +1,11 @@
 -- Sums over lists that share out the numbers below a bound.
 use Rattle.std.proofs.Common.{◌≡◌, ℕ, zero, suc, ◌+◌, ◌*◌, ◌<◌, List, [], ◌∷◌, get_or, All, Bool, true, false, cond, refl, sym, ap, ◌∙◌, arith, ⊎_elim, count_by, sum_by, eqb}
-use Rattle.std.proofs.lemmas.Bool.{cases_lt, eq-eqb}
+use Rattle.std.proofs.lemmas.Bool.{cases_lt, eq-eqb, lt-ltb}
 use Rattle.std.proofs.lemmas.List.{get_or_default}
 use Rattle.std.proofs.lemmas.List.Sums.{sum_by-cons}
 use Rattle.orbits.specs.Once.{HoldEachOnce}
 use Rattle.orbits.specs.OnceLaws.{sum_below}
 use Rattle.orbits.proofs.Members.{differs, held_below}
-use Rattle.orbits.proofs.Reading.{ltb_yes}
 
 plus : (f g : ℕ → ℕ) (n : ℕ) → sum_below (λ k. f k + g k) n ≡ sum_below f n + sum_below g n
 plus f g zero = refl
@@ -77,4 +76,4 @@ all_below n xss once a d h k z l =
 pub sums_agree : (n : ℕ) (xss : List (List ℕ)) → HoldEachOnce n xss → (f : ℕ → ℕ) → sum_by (λ xs. sum_by f xs) xss ≡ sum_below f n
 sums_agree n xss once f =
     all_tallied f n xss (all_below n xss once)
-    ∙ same (λ k. f k * sum_by (count_by (eqb k)) xss) f n (λ k h. ap (λ c. f k * c) (once k ∙ ap (λ b. cond {A = ℕ} b 1 0) (ltb_yes k n h)) ∙ (omega arith))
+    ∙ same (λ k. f k * sum_by (count_by (eqb k)) xss) f n (λ k h. ap (λ c. f k * c) (once k ∙ ap (λ b. cond {A = ℕ} b 1 0) (lt-ltb k n h)) ∙ (omega arith))

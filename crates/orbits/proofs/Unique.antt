@@ -1,11 +1,11 @@
 -- The orbits of a map in order are determined.
 use Rattle.std.proofs.Common.{◌≡◌, ◌≢◌, ◌⊎◌, inl, inr, ℕ, zero, suc, ◌+◌, ◌-◌, ◌<◌, ◌≤◌, List, [], ◌∷◌, length, get_or, replicate, All, AllPairs, false, refl, sym, ap, ◌∙◌, arith, ⊎_elim, Option, Some, None, count_by, sum_by, eqb}
-use Rattle.std.proofs.lemmas.Bool.{cases_lt}
+use Rattle.std.proofs.lemmas.Bool.{cases_lt, both_ways, lt-ltb}
 use Rattle.std.proofs.lemmas.List.{length-replicate}
 use Rattle.std.proofs.lemmas.Grind.{same_number_lists}
 use Rattle.std.proofs.lemmas.List.Sums.{sum_by-cons}
 use Rattle.orbits.specs.Orbits.{after, IsOneToOne, IsOrbit, AreOrbits, AreInOrder, first, last}
-use Rattle.orbits.proofs.Reading.{ltb_yes, clash, unwrap}
+use Rattle.orbits.proofs.Reading.{unwrap}
 use Rattle.orbits.proofs.Members.{Present, Distinct, find, count_absent, held_below, held_distinct}
 use Rattle.orbits.proofs.Finding.{none_marked, mark_orbit, back_to_first, blank, some_or_none, IsMarked}
 use Rattle.orbits.proofs.Exists.{mark_exists}
@@ -57,7 +57,7 @@ module _ (next : List (Option ℕ)) (map : IsOneToOne next) where
         let closed = mark_orbit next map (replicate (length next) false) marks.0 o (none_marked next) oo marks.1 in
         let here : IsMarked marks.0 x = rw (← q.2) (marks.1.here q.0 q.1) in
         let at_first : IsMarked marks.0 (first p) = back_to_first next map marks.0 p closed pp.steps r.0 r.1 (rw r.2 here) in
-        ⊎_elim (λ s. s) (λ gone. absurd (clash _ at_first (marks.1.others (first p) gone ∙ blank (length next) (first p)))) (find (first p) o)
+        ⊎_elim (λ s. s) (λ gone. absurd (both_ways _ (marks.1.others (first p) gone ∙ blank (length next) (first p)) at_first)) (find (first p) o)
 
   -- each number of an orbit but the first has one before it
   before_or_first : (o : List ℕ) (y : ℕ) → IsOrbit next o → Present y o → (y ≡ first o) ⊎ ((i : ℕ) × (after next i ≡ Some y))
@@ -130,7 +130,7 @@ module _ (next : List (Option ℕ)) (map : IsOneToOne next) where
       let below = held_below (length next) os ao.once a [] h in
       let x = first o in
       let inside : x < length next = below 0 oo.some in
-      let count : 1 ≤ sum_by (count_by (eqb x)) ps = rw (ap_.once x, ltb_yes x (length next) inside) (omega arith) in
+      let count : 1 ≤ sum_by (count_by (eqb x)) ps = rw (ap_.once x, lt-ltb x (length next) inside) (omega arith) in
       let found = where_held x ps count in
       let p = get_or ps found.0 [] in
       let pp = ap_.each found.0 [] found.1 in

@@ -3,7 +3,7 @@ use Rattle.std.proofs.Common.{◌≡◌, ◌∙◌, refl, sym, ap, subst, ℕ, �
 use Rattle.std.specs.List.{slice_split, before_first, after_first, position_or_len}
 use Rattle.std.proofs.lemmas.Bool.{le-ltb, lt-ltb, ltb-true, ltb-false}
 use Rattle.opl_reader.specs.Lines.{is_newline, with_last, whole_lines, unfinished_of}
-use Rattle.opl_reader.proofs.LineSplits.{IsOneLine, newline_ends, one_line, front_is_one, all_before, at_most_all, some_part, split_behind, lines_with_rest, with_last_behind, rest_is_one, cut_piece}
+use Rattle.opl_reader.proofs.ReaderKit.{IsOneLine, newline_ends, one_line, front_is_one, all_before, at_most_all, some_part, split_behind, lines_with_rest, with_last_behind, rest_is_one, cut_piece}
 use Rattle.osm_input.specs.Lines.{lines_begun}
 
 -- the parts of an unfinished line with a piece behind it: the line now begun is the first of them

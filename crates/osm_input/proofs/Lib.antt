@@ -1,5 +1,7 @@
 mod Answered
 mod Begun
+mod BytesTaken
+pub mod InputKit
 mod Lines
 mod Prefixes
 mod Steps

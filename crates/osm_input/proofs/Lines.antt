@@ -7,8 +7,9 @@ use Rattle.opl_reader.specs.declared.object.Object.{Object}
 use Rattle.opl_reader.specs.LineReading.{reading}
 use Rattle.opl_reader.specs.Told.{object_told}
 use Rattle.osm_objects.specs.Object.{is_live}
-use Rattle.osm_input.specs.Input.{objects_told, fault_in, line_fault, AreGood}
+use Rattle.osm_input.specs.Input.{objects_told, fault_in, line_fault, AreGood, IsBadPlace}
 use Rattle.osm_input.specs.LineSteps.{with_live}
+use Rattle.osm_input.specs.declared.fault.InputFault.{InputFault}
 
 -- ---- lists with one element more
 
@@ -45,13 +46,17 @@ good_at longest lines line before other good none (earlier between e) = good bef
 pub one_more_good : (longest : ℕ) (lines : List (List ℕ)) (line : List ℕ) → AreGood longest lines → line_fault longest (objects_told lines) line ≡ None → AreGood longest (lines ++ line ∷ [])
 one_more_good longest lines line good none before other after e = good_at longest lines line before other good none (place_of lines line before other after e)
 
+-- they have no bad place
+pub good_not_bad : (longest : ℕ) (lines : List (List ℕ)) (number : ℕ) (fault : InputFault) → AreGood longest lines → IsBadPlace longest lines number fault → ⊥
+good_not_bad longest lines number fault good bad = cc (sym (good bad.before bad.line bad.after bad.parted) ∙ bad.bad)
+
 -- what is wrong with a line that isn't too long
 pub fault_of_short : (longest : ℕ) (objects : List Object) (line : List ℕ) → length line ≤ longest → line_fault longest objects line ≡ fault_in objects (reading line)
 fault_of_short longest objects line short = rw (le-ltb longest (length line) short) refl
 
 -- ---- what they tell
 
-one_more_told : (lines : List (List ℕ)) (line : List ℕ) → objects_told (lines ++ line ∷ []) ≡ objects_told lines ++ objects_told (line ∷ [])
+pub one_more_told : (lines : List (List ℕ)) (line : List ℕ) → objects_told (lines ++ line ∷ []) ≡ objects_told lines ++ objects_told (line ∷ [])
 one_more_told lines line =
     ap (filter is_live) (filter_map-append object_told lines (line ∷ [])) ∙ filter-append is_live (filter_map object_told lines) (filter_map object_told (line ∷ []))
 

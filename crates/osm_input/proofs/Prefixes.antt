@@ -3,7 +3,7 @@ use Rattle.std.proofs.Common.{◌≡◌, ◌∙◌, refl, sym, ap, subst, ℕ, �
 use Rattle.std.specs.List.{slice_split, before_first}
 use Rattle.std.proofs.lemmas.Bool.{lt-ltb, ltb-true, ltb-false}
 use Rattle.opl_reader.specs.Lines.{is_newline, with_last, whole_lines, unfinished_of}
-use Rattle.opl_reader.proofs.LineSplits.{some_part, lines_with_rest}
+use Rattle.opl_reader.proofs.ReaderKit.{some_part, lines_with_rest}
 use Rattle.osm_input.specs.declared.fault.InputFault.{InputFault}
 use Rattle.osm_input.specs.declared.fault.InputFault.TheVariants.{TooLong}
 use Rattle.osm_input.specs.Lines.{lines_begun}

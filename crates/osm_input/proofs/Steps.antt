@@ -14,9 +14,7 @@ use Rattle.opl_reader.specs.Told.{object_told}
 use Rattle.opl_reader.specs.Reader.{Reader, new_reader}
 use Rattle.opl_reader.specs.Feeding.{feeding, finishing, begun, has_newline, fed, with_line, with_last_line, Answers}
 use Rattle.opl_reader.specs.Chunking.{HandsOut}
-use Rattle.opl_reader.proofs.LineSplits.{used_is, ends_with}
-use Rattle.opl_reader.proofs.FeedSteps.{Step, kept, ended, step_of, refused_of, too_long_of, Finished, empty, one_more, finished_of, last_refused_of}
-use Rattle.opl_reader.proofs.ChunkLaws.{nothing_fed, one_more_piece, kept_parts, ended_parts, all_lines}
+use Rattle.opl_reader.proofs.ReaderKit.{used_is, ends_with, Step, kept, ended, step_of, refused_of, too_long_of, Finished, empty, one_more, finished_of, last_refused_of, nothing_fed, one_more_piece, kept_parts, ended_parts, all_lines}
 use Rattle.osm_input.specs.declared.fault.InputFault.{InputFault}
 use Rattle.osm_input.specs.declared.fault.InputFault.TheVariants as fault
 use Rattle.osm_input.specs.declared.reading.ReadError.{ReadError}

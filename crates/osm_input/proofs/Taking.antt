@@ -1,5 +1,5 @@
 -- The bytes that are taken off an input, piece by piece, and what is answered of them.
-use Rattle.std.proofs.Common.{◌≡◌, ◌∙◌, refl, sym, ap, subst, ℕ, ◌+◌, ◌-◌, ◌<◌, ◌≤◌, min, List, [], ◌++◌, length, take, append-nil, length-append, length-take, arith, Option, None, Some, IfSome, Result, Ok, Err, inl, inr}
+use Rattle.std.proofs.Common.{◌≡◌, ◌∙◌, refl, sym, ap, subst, ℕ, ◌+◌, ◌-◌, ◌<◌, ◌≤◌, min, List, [], ◌++◌, length, take, append-nil, length-append, length-take, arith, Option, IfSome, Result, Ok, Err, inl, inr}
 use Rattle.std.proofs.lemmas.Bool.{cases_lt}
 use Rattle.std.proofs.lemmas.List.{take_all, take-take, take-append-le}
 use Rattle.std.proofs.Math.Seq.{take-append-add}
@@ -19,30 +19,21 @@ use Rattle.osm_input.specs.Reading.{HasEnded, IsAnswer, Took, Reads, ReadsOnce}
 use Rattle.osm_input.specs.Shown.{IsShownLast}
 use Rattle.osm_input.proofs.Begun.{begun_whole, fewer_before}
 use Rattle.osm_input.proofs.Steps.{nothing_read}
+use Rattle.osm_input.proofs.BytesTaken.{AreTaken, as_before, at_end, none_taken, piece_size, still_left, with_piece}
 
 -- These bytes were taken off the input, no more than the limit, and are read.
 pub record Taken (limit longest : ℕ) (before now : Outside) (r : Reader) (objects : List Object) (room : ℕ) : Type 0 where
   pub bytes : List ℕ
   pub holds : Holds longest bytes r objects
   pub size : length bytes + room ≡ limit
-  pub left : before.left ≡ preceded bytes now.left
-  pub counted : now.bytes_read ≡ grown before.bytes_read (length bytes)
-
-pub grown_twice : (first a b c middle now : ℕ) → middle ≡ grown first a → now ≡ grown middle b → c ≡ a + b → now ≡ grown first c
-grown_twice first a b c middle now was is sum = omega arith
-
--- no bytes before a stream change nothing
-pub nothing_preceded : (stream : Option (List ℕ)) → preceded [] stream ≡ stream
-nothing_preceded None = refl
-nothing_preceded (Some bytes) = refl
+  pub are : AreTaken before now bytes
 
 pub nothing_taken : (limit longest : ℕ) (now : Outside) (r : Reader) (objects : List Object) → r ≡ new_reader longest → objects ≡ [] → Taken limit longest now now r objects limit
 nothing_taken limit longest now r objects new none = record {
   bytes = [];
   holds = subst (λ (z : Reader). Holds longest [] z objects) (sym new) (subst (λ (os : List Object). Holds longest [] (new_reader longest) os) (sym none) (nothing_read longest));
   size = omega arith;
-  left = sym (nothing_preceded now.left);
-  counted = omega arith;
+  are = none_taken now;
 }
 
 pub keeps_all : (now : Outside) → Keeps now now
@@ -82,10 +73,11 @@ module _ (limit longest : ℕ) (before middle : Outside) (r : Reader) (objects :
   read_failed left counted =
       let size = t.size in
       let all : take limit t.bytes ≡ t.bytes = take_all limit t.bytes (omega arith) in
+      let are = as_before before middle t.bytes t.are now left counted in
       record {
         taken = t.bytes;
-        left = t.left ∙ ap (preceded t.bytes) (sym left);
-        counted = counted ∙ t.counted;
+        left = are.left;
+        counted = are.counted;
         answer = (omega arith, subst (λ (ls : List (List ℕ)). AreGood longest ls) (sym (ap (lines_begun longest) all ∙ none_begun longest t.bytes r objects t.holds)) t.holds.good);
       }
 
@@ -93,19 +85,15 @@ module _ (limit longest : ℕ) (before middle : Outside) (r : Reader) (objects :
 
   module _ (buffer : List ℕ) (count : ℕ) (none : count ≡ 0) (left : middle.left ≡ preceded (take count buffer) now.left) (counted : now.bytes_read ≡ grown middle.bytes_read count)
       (nothing : IfSome middle.left (λ left. left ≡ [])) where
-    still_left : middle.left ≡ now.left
-    still_left = left ∙ (ap (λ (n : ℕ). preceded (take n buffer) now.left) none ∙ nothing_preceded now.left)
-
     has_ended : HasEnded now
-    has_ended = subst (λ (o : Option (List ℕ)). IfSome o (λ left. left ≡ [])) still_left nothing
+    has_ended =
+        subst (λ (o : Option (List ℕ)). IfSome o (λ left. left ≡ []))
+        (still_left before middle t.bytes t.are now buffer count left counted none) nothing
 
     took : (result : Result (List Object) ReadError) → IsAnswer limit longest t.bytes now result → Took limit longest before now result
-    took result answer = record {
-      taken = t.bytes;
-      left = t.left ∙ ap (preceded t.bytes) still_left;
-      counted = grown_twice before.bytes_read (length t.bytes) count (length t.bytes) _ _ t.counted counted (omega arith);
-      answer = answer;
-    }
+    took result answer =
+        let are = at_end before middle t.bytes t.are now buffer count left counted none in
+        record { taken = t.bytes; left = are.left; counted = are.counted; answer = answer }
 
     pub end_reads : (result : Result (List Object) ReadError) → ReadsAll longest t.bytes result → Reads limit longest before now result
     end_reads (Ok all) read = let size = t.size in took (Ok all) (has_ended, (omega arith, read.0, read.1))
@@ -133,17 +121,13 @@ module _ (limit longest : ℕ) (before middle : Outside) (r : Reader) (objects :
     abbrev all_taken : List ℕ
     all_taken = t.bytes ++ take count buffer
 
-    taken_left : before.left ≡ preceded all_taken now.left
-    taken_left = t.left ∙ (ap (preceded t.bytes) left ∙ in_turn t.bytes (take count buffer) now.left)
-
-    taken_size : length all_taken ≡ length t.bytes + count
-    taken_size = omega (arith, length-append t.bytes (take count buffer), length-take count buffer)
-
-    taken_counted : now.bytes_read ≡ grown before.bytes_read (length all_taken)
-    taken_counted = grown_twice before.bytes_read (length t.bytes) count (length all_taken) _ _ t.counted counted taken_size
+    are_taken : AreTaken before now all_taken
+    are_taken = with_piece before middle t.bytes t.are now buffer count left counted in_buffer in_turn
 
     took_piece : (e : ReadError) → IsAnswer limit longest all_taken now (Err e) → Took limit longest before now (Err e)
-    took_piece e answer = record { taken = all_taken; left = taken_left; counted = taken_counted; answer = answer }
+    took_piece e answer =
+        let are = are_taken in
+        record { taken = all_taken; left = are.left; counted = are.counted; answer = answer }
 
     -- what of them is within the limit
     room_taken : take room (take count buffer) ≡ take within buffer
@@ -187,7 +171,7 @@ module _ (limit longest : ℕ) (before middle : Outside) (r : Reader) (objects :
       pub limit_passed : count ≤ 65536 → within < count → Took limit longest before now (Err (TooMuchInput limit))
       limit_passed few less =
           let size = t.size in
-          let sum = taken_size in
+          let sum = piece_size t.bytes buffer count in_buffer in
           let lines : lines_begun longest (take limit all_taken) ≡ whole_lines (t.bytes ++ take within buffer) =
           ap (lines_begun longest) within_limit ∙ none_begun longest (t.bytes ++ take within buffer) next more holds in
           took_piece (TooMuchInput limit) ((refl, omega arith, subst (λ (ls : List (List ℕ)). AreGood longest ls) (sym lines) holds.good), omega arith)
@@ -196,12 +180,11 @@ module _ (limit longest : ℕ) (before middle : Outside) (r : Reader) (objects :
       pub piece_taken : (rest : ℕ) → count ≤ within → rest ≡ room - within → Taken limit longest before now next more rest
       piece_taken rest all is =
           let size = t.size in
-          let sum = taken_size in
+          let sum = piece_size t.bytes buffer count in_buffer in
           let same : within ≡ count = omega arith in
           record {
             bytes = all_taken;
             holds = subst (λ (n : ℕ). Holds longest (t.bytes ++ take n buffer) next more) same holds;
             size = omega arith;
-            left = taken_left;
-            counted = taken_counted;
+            are = are_taken;
           }

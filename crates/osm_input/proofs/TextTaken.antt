@@ -1,20 +1,19 @@
 -- The bytes that are taken off an input as one text, piece by piece, and what is answered of them.
-use Rattle.std.proofs.Common.{◌≡◌, ◌∙◌, refl, sym, ap, subst, ℕ, ◌+◌, ◌-◌, ◌<◌, ◌≤◌}
-use Rattle.std.proofs.Common.{List, [], ◌++◌, length, take, length-append, length-take, arith, Option, IfSome, Ok, Err}
+use Rattle.std.proofs.Common.{◌≡◌, refl, sym, subst, ℕ, ◌+◌, ◌-◌, ◌<◌, ◌≤◌}
+use Rattle.std.proofs.Common.{List, [], ◌++◌, length, take, arith, Option, IfSome, Ok, Err}
 use Rattle.osm_host.specs.Outside.{Outside, preceded, grown}
 use Rattle.osm_host.specs.Laws.{PrecedesInTurn}
 use Rattle.osm_input.specs.declared.text.TextError.TheVariants.{TooMuchInput, ReadFault}
 use Rattle.osm_input.specs.Text.{TookWhole}
-use Rattle.osm_input.proofs.Taking.{grown_twice, nothing_preceded}
+use Rattle.osm_input.proofs.BytesTaken.{AreTaken, as_before, at_end, none_taken, piece_size, still_left, with_piece}
 
 -- These bytes were taken off the input, no more than the limit.
 pub record TextTaken (limit : ℕ) (before now : Outside) (bytes : List ℕ) (room : ℕ) : Type 0 where
   pub size : length bytes + room ≡ limit
-  pub left : before.left ≡ preceded bytes now.left
-  pub counted : now.bytes_read ≡ grown before.bytes_read (length bytes)
+  pub are : AreTaken before now bytes
 
 no_bytes_taken : (limit : ℕ) (now : Outside) → TextTaken limit now now [] limit
-no_bytes_taken limit now = record { size = omega arith; left = sym (nothing_preceded now.left); counted = omega arith }
+no_bytes_taken limit now = record { size = omega arith; are = none_taken now }
 
 pub no_text_taken : (limit : ℕ) (now : Outside) (bytes : List ℕ) → bytes ≡ [] → TextTaken limit now now bytes limit
 no_text_taken limit now bytes none = subst (λ (xs : List ℕ). TextTaken limit now now xs limit) (sym none) (no_bytes_taken limit now)
@@ -24,12 +23,8 @@ module _ (limit : ℕ) (before middle : Outside) (bytes : List ℕ) (room : ℕ)
   pub text_failed : now.left ≡ middle.left → now.bytes_read ≡ middle.bytes_read → TookWhole limit before now (Err ReadFault)
   text_failed left counted =
       let size = t.size in
-      record {
-        taken = bytes;
-        left = t.left ∙ ap (preceded bytes) (sym left);
-        counted = counted ∙ t.counted;
-        answer = omega arith;
-      }
+      let are = as_before before middle bytes t.are now left counted in
+      record { taken = bytes; left = are.left; counted = are.counted; answer = omega arith }
 
   module _ (buffer : List ℕ) (count : ℕ) (left : middle.left ≡ preceded (take count buffer) now.left) (counted : now.bytes_read ≡ grown middle.bytes_read count)
     where
@@ -37,11 +32,12 @@ module _ (limit : ℕ) (before middle : Outside) (bytes : List ℕ) (room : ℕ)
       pub text_whole : count ≡ 0 → IfSome middle.left (λ left. left ≡ []) → TookWhole limit before now (Ok bytes)
       text_whole none nothing =
           let size = t.size in
-          let still : middle.left ≡ now.left = left ∙ (ap (λ (n : ℕ). preceded (take n buffer) now.left) none ∙ nothing_preceded now.left) in
+          let still = still_left before middle bytes t.are now buffer count left counted none in
+          let are = at_end before middle bytes t.are now buffer count left counted none in
           record {
             taken = bytes;
-            left = t.left ∙ ap (preceded bytes) still;
-            counted = grown_twice before.bytes_read (length bytes) count (length bytes) _ _ t.counted counted (omega arith);
+            left = are.left;
+            counted = are.counted;
             answer = (subst (λ (o : Option (List ℕ)). IfSome o (λ left. left ≡ [])) still nothing, (omega arith, refl));
           }
 
@@ -51,25 +47,20 @@ module _ (limit : ℕ) (before middle : Outside) (bytes : List ℕ) (room : ℕ)
         abbrev all_taken : List ℕ
         all_taken = bytes ++ take count buffer
 
-        taken_left : before.left ≡ preceded all_taken now.left
-        taken_left = t.left ∙ (ap (preceded bytes) left ∙ in_turn bytes (take count buffer) now.left)
-
-        taken_size : length all_taken ≡ length bytes + count
-        taken_size = omega (arith, length-append bytes (take count buffer), length-take count buffer)
-
-        taken_counted : now.bytes_read ≡ grown before.bytes_read (length all_taken)
-        taken_counted = grown_twice before.bytes_read (length bytes) count (length all_taken) _ _ t.counted counted taken_size
+        are_taken : AreTaken before now all_taken
+        are_taken = with_piece before middle bytes t.are now buffer count left counted in_buffer in_turn
 
         -- there is more than the limit
         pub text_passed : count ≤ 65536 → room < count → TookWhole limit before now (Err (TooMuchInput limit))
         text_passed few less =
             let size = t.size in
-            let sum = taken_size in
-            record { taken = all_taken; left = taken_left; counted = taken_counted; answer = ((refl, omega arith), omega arith) }
+            let sum = piece_size bytes buffer count in_buffer in
+            let are = are_taken in
+            record { taken = all_taken; left = are.left; counted = are.counted; answer = ((refl, omega arith), omega arith) }
 
         -- all of it is within the limit
         pub text_more : (longer : List ℕ) (rest : ℕ) → longer ≡ all_taken → count ≤ room → rest ≡ room - count → TextTaken limit before now longer rest
         text_more longer rest same within is =
             let size = t.size in
-            let sum = taken_size in
-            subst (λ (xs : List ℕ). TextTaken limit before now xs rest) (sym same) (record { size = omega arith; left = taken_left; counted = taken_counted })
+            let sum = piece_size bytes buffer count in_buffer in
+            subst (λ (xs : List ℕ). TextTaken limit before now xs rest) (sym same) (record { size = omega arith; are = are_taken })

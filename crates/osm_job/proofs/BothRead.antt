@@ -7,9 +7,7 @@ use Rattle.osm_input.specs.declared.reading.ReadError.{ReadError}
 use Rattle.osm_input.specs.declared.reading.ReadError.TheVariants as read
 use Rattle.osm_input.specs.declared.text.TextError.{TextError}
 use Rattle.osm_input.specs.declared.text.TextError.TheVariants as text_fault
-use Rattle.osm_input.specs.ReadFaults.{LastReadFailed, NoneOrLastReadFailed}
 use Rattle.osm_input.specs.Text.{IsTextAs}
-use Rattle.osm_job.proofs.Keeping.{keeps_both}
 use Rattle.osm_job.specs.declared.ended.Ended.{Ended}
 use Rattle.osm_job.specs.declared.ended.Ended.TheVariants.{Done, Warnings, Errors, Stopped, BadWords, BadInput, TooMuchInput, TooManyPieces, Refuted, BadPoint}
 use Rattle.osm_job.specs.declared.ended.Ended.TheVariants.{OpenFault, ReadFault, WriteFault, OutOfMemory}
@@ -17,16 +15,12 @@ use Rattle.osm_job.specs.InputRead.{IsSilent, OpensOne, OpensBoth, HasInput, Has
 use Rattle.osm_job.specs.Taken.{TookText, IsReadable, IsTextStopped, text_error}
 use Rattle.osm_job.specs.TextRead.{HasContent, LacksContent}
 use Rattle.osm_job.specs.Whole.{input_limit}
+use Rattle.osm_job.proofs.SilentReads.{last_failed, none_or_last, silent_both}
 
 module _ (law : StreamsAppend) (file name : List ℕ) (objects : List Object) (before middle : Outside) (has : HasInput file objects before middle)
     (now : Outside) where
   all_silent : IsSilent middle now → IsSilent before now
-  all_silent behind = record {
-    out = behind.out ∙ has.silent.out;
-    report = behind.report ∙ has.silent.report;
-    write_faults = behind.write_faults ∙ has.silent.write_faults;
-    keeps = keeps_both before middle now has.silent.keeps behind.keeps;
-  }
+  all_silent behind = silent_both before middle now has.silent behind
 
   opens_both : OpensOne name middle now → OpensBoth file name before now
   opens_both one = one ∙ ap (λ (o : Option (List Opened)). appended o (input name ∷ [])) has.opens ∙ law.opens before.opens (input file ∷ []) (input name ∷ [])
@@ -47,13 +41,6 @@ module _ (law : StreamsAppend) (file name : List ℕ) (objects : List Object) (b
   stopped_by : (error : ReadError) (found : TextError) → text_error error ≡ Some found → TookText name (Err found) middle now → OpensOne name middle now →
       IsTextStopped file name error before now
   stopped_by error found is took one = (is_readable, found, is, took_text (Err found) took, opens_both one)
-
-  last_failed : LastReadFailed middle now → LastReadFailed before now
-  last_failed last = (last.0 ∙ ap risen has.read_faults, last.1)
-
-  none_or_last : NoneOrLastReadFailed middle now → NoneOrLastReadFailed before now
-  none_or_last (inl none) = inl (none ∙ has.read_faults)
-  none_or_last (inr last) = inr (last_failed last)
 
   -- both are read
   pub both_read : (content : List ℕ) → HasContent name content middle now → HasBoth file name objects content before now
@@ -100,13 +87,13 @@ module _ (law : StreamsAppend) (file name : List ℕ) (objects : List Object) (b
   no_text ReadFault l = record {
     readable = is_readable;
     lack = (stopped_by read.ReadFault text_fault.ReadFault refl l.lack.0 l.lack.1, opens_both l.lack.1);
-    faults = record { opens = l.faults.opens ∙ has.open_faults; reads = last_failed l.faults.reads };
+    faults = record { opens = l.faults.opens ∙ has.open_faults; reads = last_failed before middle now has.read_faults l.faults.reads };
     silent = all_silent l.silent;
   }
   no_text WriteFault l = absurd l.lack
   no_text OutOfMemory l = record {
     readable = is_readable;
     lack = opens_both l.lack;
-    faults = record { opens = l.faults.opens ∙ has.open_faults; reads = none_or_last l.faults.reads };
+    faults = record { opens = l.faults.opens ∙ has.open_faults; reads = none_or_last before middle now has.read_faults l.faults.reads };
     silent = all_silent l.silent;
   }

@@ -7,6 +7,7 @@ pub mod Keeping
 mod OnceRead
 pub mod OutputAlone
 pub mod Prefixes
+mod SilentReads
 pub mod Taken
 mod TextRead
 pub mod Weaker

@@ -3,6 +3,7 @@ use Rattle.std.proofs.Common.{ℤ, ◌≡◌, pos, Bool, true, false, not, ◌&&
 use Rattle.std.specs.Prelude.{◌<ℤ◌, ◌≤ℤ◌}
 use Rattle.std.specs.Ordering.{is_eq}
 use Rattle.std.proofs.lemmas.Int.{ints}
+use Rattle.std.proofs.lemmas.Bool.{and_parts}
 use lib.Signed.{lt_z}
 use Rattle.plane.specs.Conflict.{crosses}
 use Rattle.plane.specs.Edge.{ends_at}
@@ -91,10 +92,6 @@ lower_clear s t h = conflict_of-comm s t ∙ higher_clear t s h
 reach_east : (p : Loc) → reach (pos 1) (pos 0) p ≡ p.x
 reach_east p = omega (arith, ints)
 
-both : (b c : Bool) → (b && c) ≡ true → (b ≡ true) × (c ≡ true)
-both true c h = (refl, h)
-both false c h = absurd (cc h)
-
 -- numbers from which neither end of s lies east, nor one of t west
 pub west_by : (s t : Seg) (m n : ℤ) → s.a.x ≤ℤ m → s.b.x ≤ℤ m → n ≤ℤ t.a.x → n ≤ℤ t.b.x → lt_z m n ≡ true → west s t ≡ true
 west_by s t m n sa sb ta tb less =
@@ -107,9 +104,9 @@ west_by s t m n sa sb ta tb less =
 -- the end of s that is farther right parts them
 pub west_clear : (s t : Seg) → west s t ≡ true → conflict_of s t ≡ None
 west_clear s t h =
-    let (aa, rest) = both (lt_z s.a.x t.a.x) (lt_z s.a.x t.b.x && (lt_z s.b.x t.a.x && lt_z s.b.x t.b.x)) h in
-    let (ab, more) = both (lt_z s.a.x t.b.x) (lt_z s.b.x t.a.x && lt_z s.b.x t.b.x) rest in
-    let (ba, bb) = both (lt_z s.b.x t.a.x) (lt_z s.b.x t.b.x) more in
+    let (aa, rest) = and_parts (lt_z s.a.x t.a.x) (lt_z s.a.x t.b.x && (lt_z s.b.x t.a.x && lt_z s.b.x t.b.x)) h in
+    let (ab, more) = and_parts (lt_z s.a.x t.b.x) (lt_z s.b.x t.a.x && lt_z s.b.x t.b.x) rest in
+    let (ba, bb) = and_parts (lt_z s.b.x t.a.x) (lt_z s.b.x t.b.x) more in
     let aa' : s.a.x <ℤ t.a.x = grind (arith, ints) in
     let ab' : s.a.x <ℤ t.b.x = grind (arith, ints) in
     let ba' : s.b.x <ℤ t.a.x = grind (arith, ints) in

@@ -13,10 +13,10 @@ use Rattle.osm_lattice.specs.Loc.{loc_cmp, vector_of, IsBefore}
 use Rattle.osm_lattice.specs.Seg.{seg_cmp}
 use mathlib.Core.HLevel.{is_prop→PathP}
 
-longitude_prop : (x : ℤ) → IsProp (IsLongitude x)
+pub longitude_prop : (x : ℤ) → IsProp (IsLongitude x)
 longitude_prop x = hlevel props
 
-latitude_prop : (x : ℤ) → IsProp (IsLatitude x)
+pub latitude_prop : (x : ℤ) → IsProp (IsLatitude x)
 latitude_prop x = hlevel props
 
 before_prop : (p q : Loc) → IsProp (IsBefore p q)

@@ -32,7 +32,18 @@ same_kind-symmetric Relation Node = refl
 same_kind-symmetric Relation Way = refl
 same_kind-symmetric Relation Relation = refl
 
-is_at-itself : (o : Object) → is_at (ref_of o) o ≡ true
+pub same_kind-same : (a b : ObjectKind) → same_kind a b ≡ true → a ≡ b
+same_kind-same Node Node same = refl
+same_kind-same Way Way same = refl
+same_kind-same Relation Relation same = refl
+same_kind-same Node Way same = absurd (cc)
+same_kind-same Node Relation same = absurd (cc)
+same_kind-same Way Node same = absurd (cc)
+same_kind-same Way Relation same = absurd (cc)
+same_kind-same Relation Node same = absurd (cc)
+same_kind-same Relation Way same = absurd (cc)
+
+pub is_at-itself : (o : Object) → is_at (ref_of o) o ≡ true
 is_at-itself o = rw (same_kind-itself (kind_of o), int_eq_equiv.refl (id_of o)) refl
 
 pub is_at-symmetric : (o u : Object) → is_at (ref_of o) u ≡ is_at (ref_of u) o

@@ -1,10 +1,11 @@
-pub mod TagLemmas
+mod TagLemmas
 mod ChoiceLemmas
-pub mod StoreLemmas
-pub mod ApartLemmas
-pub mod FoundLemmas
+mod StoreLemmas
+mod ApartLemmas
+mod FoundLemmas
 mod MergedLemmas
 mod RisingLemmas
 mod LookupLemmas
 mod NodeLemmas
 mod AddLemmas
+pub mod ObjectsKit

@@ -1,8 +1,9 @@
 -- A look-up among the nodes and the others is a look-up in the list of all objects.
-use Rattle.std.proofs.Common.{◌≡◌, ◌∙◌, Bool, true, false, cond, ◌&&◌, List, [], ◌∷◌, refl, sym, ap, subst, ℤ, map, filter, Option, None, Some, option_map, int_eq, not, IsTrue}
+use Rattle.std.proofs.Common.{◌≡◌, ◌∙◌, Bool, true, false, cond, List, [], ◌∷◌, refl, sym, ap, subst, ℤ, map, filter, Option, None, Some, option_map, int_eq, not, IsTrue}
 use Rattle.std.specs.List.{AllByRecursion, find}
 use Rattle.std.specs.Map.{lookup}
 use Rattle.std.proofs.lemmas.Bool.Decides.{Decides-int_eq}
+use Rattle.std.proofs.lemmas.Bool.{and_parts}
 use Rattle.opl_reader.specs.declared.object.ObjectKind.{ObjectKind}
 use Rattle.opl_reader.specs.declared.object.ObjectKind.TheVariants.{Node, Way, Relation}
 use Rattle.opl_reader.specs.declared.object.ObjectRef.{ObjectRef}
@@ -19,7 +20,7 @@ use Rattle.osm_objects.specs.Held.{object_from, others_from, KindsAgree}
 use Rattle.osm_objects.specs.Plain.{node_from, nodes_from}
 use Rattle.osm_objects.specs.Merged.{merged}
 use Rattle.osm_objects.proofs.StoreLemmas.{eq, kept_at, object_at-from, objects_from}
-use Rattle.osm_objects.proofs.FoundLemmas.{AllFound, all_found, all_live}
+use Rattle.osm_objects.proofs.FoundLemmas.{AllFound, all_found, all_live, same_kind-same}
 use Rattle.osm_objects.proofs.MergedLemmas.{found_among_others, plain_of_all, all_merged, filter-merged, items_of}
 
 pub items-from : (es : List (ObjectRef × Placed)) → items_of (others_from es) ≡ objects_from es
@@ -60,24 +61,15 @@ found-has {A} P p (y ∷ xs) x all found = by (p y) refl found (found-has P p xs
     by true is e rest = let same : y ≡ x = cc in (subst P same all.0, subst (λ (z : A). p z ≡ true) same is)
     by false is e rest = rest e
 
-both : (p q : Bool) → (p && q) ≡ true → (p ≡ true) × (q ≡ true)
-both true q e = (refl, e)
-both false q e = absurd (cc)
-
-kind_is : (k : ObjectKind) → same_kind k Node ≡ true → k ≡ Node
-kind_is Node e = refl
-kind_is Way e = absurd (cc)
-kind_is Relation e = absurd (cc)
-
 -- a node of the row is what its reference finds
 pub found_node : (of : ObjectRef) (nodes : List PlainNode) (es : List (ObjectRef × Placed)) (n : PlainNode) → AreApart (merged (nodes_from nodes) (others_from es)) →
     object_at (nodes_from nodes) of ≡ Some (node_from n) → object_at (merged (nodes_from nodes) (others_from es)) of ≡ Some (node_from n)
 found_node of nodes es n apart found =
     let each : AllFound (merged (nodes_from nodes) (others_from es)) (nodes_from nodes) = plain_of_all (λ (o : Object). object_at (merged (nodes_from nodes) (others_from es)) (ref_of o) ≡ Some o) (nodes_from nodes) (others_from es) (all_found (merged (nodes_from nodes) (others_from es)) apart) in
     let has = found-has (λ (o : Object). object_at (merged (nodes_from nodes) (others_from es)) (ref_of o) ≡ Some o) (is_at of) (nodes_from nodes) (node_from n) each found in
-    let parts = both (same_kind of.kind Node) (int_eq of.id n.id) has.1 in
+    let parts = and_parts (same_kind of.kind Node) (int_eq of.id n.id) has.1 in
     let same : of.id ≡ n.id = (Decides-int_eq of.id n.id).0 parts.1 in
-    let is : of ≡ ref_of (node_from n) = ap (λ (k : ObjectKind). record { kind = k; id = of.id }) (kind_is of.kind parts.0) ∙ ap (λ (i : ℤ). record { kind = Node; id = i }) same in
+    let is : of ≡ ref_of (node_from n) = ap (λ (k : ObjectKind). record { kind = k; id = of.id }) (same_kind-same of.kind Node parts.0) ∙ ap (λ (i : ℤ). record { kind = Node; id = i }) same in
     ap (object_at (merged (nodes_from nodes) (others_from es))) is ∙ has.0
 
 -- a test of the kind, as the code makes it
@@ -146,24 +138,13 @@ nodes_none of nodes es apart none None e = e
 nodes_none of nodes es apart none (Some o) e =
     let each : AllFound (merged (nodes_from nodes) (others_from es)) (nodes_from nodes) = plain_of_all (λ (o : Object). object_at (merged (nodes_from nodes) (others_from es)) (ref_of o) ≡ Some o) (nodes_from nodes) (others_from es) (all_found (merged (nodes_from nodes) (others_from es)) apart) in
     let has = found-has (λ (o : Object). object_at (merged (nodes_from nodes) (others_from es)) (ref_of o) ≡ Some o) (is_at of) (nodes_from nodes) o each e in
-    let parts = both (same_kind of.kind (kind_of o)) (int_eq of.id (id_of o)) has.1 in
+    let parts = and_parts (same_kind of.kind (kind_of o)) (int_eq of.id (id_of o)) has.1 in
     let same : of.id ≡ id_of o = (Decides-int_eq of.id (id_of o)).0 parts.1 in
-    let is : of ≡ ref_of o = ap (λ (k : ObjectKind). record { kind = k; id = of.id }) (kinds_are of.kind (kind_of o) parts.0) ∙ ap (λ (i : ℤ). record { kind = kind_of o; id = i }) same in
+    let is : of ≡ ref_of o = ap (λ (k : ObjectKind). record { kind = k; id = of.id }) (same_kind-same of.kind (kind_of o) parts.0) ∙ ap (λ (i : ℤ). record { kind = kind_of o; id = i }) same in
     absurd (none_is_none (sym none ∙ ap (object_at (merged (nodes_from nodes) (others_from es))) is ∙ has.0))
   where
     none_is_none : {x : Object} → None ≡ Some x → ⊥
     none_is_none h = absurd (cc)
-
-    kinds_are : (k j : ObjectKind) → same_kind k j ≡ true → k ≡ j
-    kinds_are Node Node h = refl
-    kinds_are Way Way h = refl
-    kinds_are Relation Relation h = refl
-    kinds_are Node Way h = absurd (cc)
-    kinds_are Node Relation h = absurd (cc)
-    kinds_are Way Node h = absurd (cc)
-    kinds_are Way Relation h = absurd (cc)
-    kinds_are Relation Node h = absurd (cc)
-    kinds_are Relation Way h = absurd (cc)
 
 pub lookup_none : (of : ObjectRef) (nodes : List PlainNode) (es : List (ObjectRef × Placed)) → KindsAgree es → AreApart (merged (nodes_from nodes) (others_from es)) →
     object_at (merged (nodes_from nodes) (others_from es)) of ≡ None → lookup (eq of) es ≡ None

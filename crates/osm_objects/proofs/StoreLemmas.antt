@@ -1,5 +1,5 @@
 -- A look-up in the map is a look-up in the list of objects.
-use Rattle.std.proofs.Common.{◌≡◌, ◌∙◌, Bool, true, false, cond, ◌&&◌, List, [], ◌∷◌, ◌++◌, refl, sym, ap, map, ℤ, Option, None, Some, option_map, is_some, int_eq, true≢false, Bor, if◌then◌else◌}
+use Rattle.std.proofs.Common.{◌≡◌, ◌∙◌, Bool, true, false, cond, ◌&&◌, List, [], ◌∷◌, ◌++◌, refl, sym, ap, map, ℤ, Option, None, Some, option_map, is_some, int_eq, Bor, if◌then◌else◌}
 use Rattle.std.specs.Option.{option_copied}
 use Rattle.std.specs.Map.{lookup}
 use Rattle.std.proofs.lemmas.Bool.Decides.{Decides-int_eq}
@@ -81,10 +81,6 @@ KindsAgree-push [] e agree one = (one, tt)
 KindsAgree-push (d ∷ es) e agree one = (agree.0, KindsAgree-push es e agree.1 one)
 
 -- ---- what `add` finds and leaves
-
-pub none-from : {A : Type 0} (o : Option A) → is_some o ≡ false → o ≡ None
-none-from None absent = refl
-none-from (Some x) absent = absurd (true≢false absent)
 
 -- an object that is added is live, and stands at its reference
 pub record At (o : Object) (of : ObjectRef) : Type 0 where

@@ -5,7 +5,7 @@ use Rattle.std.proofs.lemmas.List.Splits.{slice_split-cons_yes}
 use Rattle.std.specs.List.{slice_split}
 use Rattle.memchr.specs.Find.{NoneBefore, Nowhere, Passes}
 use Rattle.opl_reader.specs.LineReading.{is_separator}
-use Rattle.opl_reader.proofs.CutLemmas.{parts-none, parts-some}
+use Rattle.opl_reader.proofs.ReaderKit.{parts-none, parts-some}
 use Rattle.osm_points.specs.LineSteps.{BeginsWord, IsNextWord}
 use Rattle.osm_points.specs.Lines.{words_in}
 

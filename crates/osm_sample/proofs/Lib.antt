@@ -1,4 +1,3 @@
-mod Places
 mod Counted
 mod Rising
 mod Short

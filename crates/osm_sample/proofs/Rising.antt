@@ -1,14 +1,16 @@
 -- Objects by rising kinds and ids: no two have one kind and id.
-use Rattle.std.proofs.Common.{◌≡◌, ◌∙◌, refl, sym, ap, subst, ℕ, zero, suc, ◌+◌, ◌<◌, ◌≤◌, ◌&&◌, arith, Bool, true, false, cond, ℤ, None, Some, List, [], ◌∷◌, ◌++◌, map, All}
+use Rattle.std.proofs.Common.{◌≡◌, ◌∙◌, refl, sym, ap, subst, ℕ, zero, suc, ◌+◌, ◌<◌, ◌≤◌, arith, Bool, true, false, cond, ℤ, None, Some, List, [], ◌∷◌, ◌++◌, map, All}
 use Rattle.std.specs.Prelude.{unsigned_abs}
 use Rattle.std.specs.List.{flat_map}
 use Rattle.std.specs.Ordering.{int_eq}
 use Rattle.std.proofs.lemmas.List.Elements.{All-cons, All-head, All-nil, All-tail}
+use Rattle.std.proofs.lemmas.Bool.{and_parts}
 use Rattle.opl_reader.specs.declared.object.Object.{Object}
 use Rattle.opl_reader.specs.declared.object.ObjectKind.{ObjectKind}
 use Rattle.opl_reader.specs.declared.object.ObjectKind.TheVariants.{Node, Way, Relation}
 use Rattle.osm_objects.specs.Object.{id_of, is_at, kind_of, ref_of, same_kind}
 use Rattle.osm_objects.specs.Objects.{AreApart, object_at}
+use Rattle.osm_objects.proofs.ObjectsKit.{same_kind-same}
 use Rattle.lists.proofs.ListsKit.{int_eq-true}
 use Rattle.osm_sample.specs.Numbers.{numbers}
 use Rattle.osm_sample.proofs.Counted.{flat_map-suc, map-suc}
@@ -24,26 +26,10 @@ rank_of Relation id = 2_000_000 + id
 abbrev pub rank : Object → ℕ
 rank o = rank_of (kind_of o) (unsigned_abs (id_of o))
 
-both_true : (a b : Bool) → (a && b) ≡ true → (a ≡ true) × (b ≡ true)
-both_true true true e = (refl, refl)
-both_true true false e = absurd (cc)
-both_true false b e = absurd (cc)
-
-kinds_same : (a b : ObjectKind) → same_kind a b ≡ true → a ≡ b
-kinds_same Node Node e = refl
-kinds_same Node Way e = absurd (cc)
-kinds_same Node Relation e = absurd (cc)
-kinds_same Way Node e = absurd (cc)
-kinds_same Way Way e = refl
-kinds_same Way Relation e = absurd (cc)
-kinds_same Relation Node e = absurd (cc)
-kinds_same Relation Way e = absurd (cc)
-kinds_same Relation Relation e = refl
-
 one_rank : (o u : Object) → is_at (ref_of o) u ≡ true → rank o ≡ rank u
 one_rank o u e =
-    let parts = both_true (same_kind (kind_of o) (kind_of u)) (int_eq (id_of o) (id_of u)) e in
-    ap (λ (k : ObjectKind). rank_of k (unsigned_abs (id_of o))) (kinds_same (kind_of o) (kind_of u) parts.0)
+    let parts = and_parts (same_kind (kind_of o) (kind_of u)) (int_eq (id_of o) (id_of u)) e in
+    ap (λ (k : ObjectKind). rank_of k (unsigned_abs (id_of o))) (same_kind-same (kind_of o) (kind_of u) parts.0)
     ∙ ap (λ (z : ℤ). rank_of (kind_of u) (unsigned_abs z)) (int_eq-true (id_of o) (id_of u) parts.1)
 
 apart : (o u : Object) → rank o < rank u → is_at (ref_of o) u ≡ false

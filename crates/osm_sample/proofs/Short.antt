@@ -1,31 +1,17 @@
 -- Lines of objects of the sample are short.
-use Rattle.std.proofs.Common.{◌≡◌, ◌∙◌, refl, sym, ap, subst, ℕ, zero, suc, ◌+◌, ◌*◌, ◌^◌, ◌<◌, ◌≤◌, ◌/◌, ◌%◌, ◌==◌, arith, Bool, true, false, if◌then◌else◌, ℤ, pos, negsuc, Option, None, Some, List, [], ◌∷◌, ◌++◌, length, map, All}
-use Rattle.std.specs.Prelude.{codes, decimal, unsigned_abs, nat_le}
-use Rattle.std.specs.List.{join_with_byte, list_all}
+use Rattle.std.proofs.Common.{ℕ, suc, ◌+◌, ◌*◌, ◌^◌, ◌<◌, ◌≤◌, ◌/◌, ◌%◌, ◌==◌, arith, Bool, true, false, if◌then◌else◌, ℤ, pos, negsuc, Option, None, Some, List, [], ◌∷◌, ◌++◌, length, All}
+use Rattle.std.specs.Prelude.{codes, decimal, unsigned_abs}
+use Rattle.std.specs.List.{join_with_byte}
 use Rattle.std.specs.Fmt.{signed_decimal}
-use Rattle.std.proofs.lemmas.Bool.{leb-true}
 use Rattle.std.proofs.lemmas.Fmt.{length-decimal-le}
-use Rattle.std.proofs.lemmas.List.{length-append, length-map}
-use Rattle.std.proofs.lemmas.List.Elements.{All-head, All-map, All-tail}
+use Rattle.std.proofs.lemmas.List.{length-append}
+use Rattle.std.proofs.lemmas.List.Elements.{All-head, All-tail}
 use Rattle.osm_lattice.specs.declared.loc.Loc.{Loc}
 use Rattle.osm_notation.specs.Decimal.{fraction, last_digits, magnitude_text, units_text, without_end_zeros}
+use Rattle.osm_notation.proofs.DecimalValues.{length-last, length-without}
 use Rattle.opl_writer.specs.Written.{items_field, place_fields}
 
 -- ---- coordinates
-
-pub last_digits-many : (k n : ℕ) → length (last_digits k n) ≡ k
-unfolding last_digits
-last_digits-many zero n = refl
-last_digits-many (suc k) n = ap (λ (m : ℕ). suc m) (last_digits-many k (n % 10 ^ k))
-
-no_longer : (digits : List ℕ) → length (without_end_zeros digits) ≤ length digits
-unfolding without_end_zeros
-no_longer [] = omega arith
-no_longer (digit ∷ digits) = by (list_all (λ d. d == 48) (digit ∷ digits)) (no_longer digits)
-  where
-    by : (b : Bool) → length (without_end_zeros digits) ≤ length digits → length (if b then [] else digit ∷ without_end_zeros digits) ≤ suc (length digits)
-    by true rest = omega arith
-    by false rest = omega arith
 
 short_fraction : (rest : ℕ) → length (fraction rest) ≤ 8
 unfolding fraction
@@ -33,7 +19,7 @@ short_fraction rest = by (rest == 0)
   where
     by : (b : Bool) → length (if b then [] else codes "." ++ without_end_zeros (last_digits 7 rest)) ≤ 8
     by true = omega arith
-    by false = let digits = no_longer (last_digits 7 rest) in let many = last_digits-many 7 rest in omega arith
+    by false = let digits = length-without (last_digits 7 rest) in let many = length-last 7 rest in omega arith
 
 short_magnitude : (n : ℕ) → n ≤ 1_800_000_000 → length (magnitude_text n) ≤ 12
 unfolding magnitude_text

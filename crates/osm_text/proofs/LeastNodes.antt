@@ -1,10 +1,10 @@
 -- The least node of a ring is the first one, where the ring is begun at it.
-use Rattle.std.proofs.Common.{◌≡◌, ◌≢◌, ◌∙◌, ◌<◌, Bool, true, false, not, cond, ◌&&◌, List, [], ◌∷◌, length, get_or, Some, option_map, refl, sym, ap, inl, inr, arith}
+use Rattle.std.proofs.Common.{◌≡◌, ◌≢◌, ◌∙◌, ◌<◌, Bool, true, false, not, cond, List, [], ◌∷◌, length, get_or, Some, option_map, refl, sym, ap, inl, inr, arith}
 use Rattle.std.specs.List.{find}
 use Rattle.std.specs.Ordering.{is_lt}
 use Rattle.std.specs.declared.cmp.Ordering.{Ordering}
 use Rattle.std.specs.declared.cmp.Ordering.TheVariants.{Less, Equal, Greater}
-use Rattle.std.proofs.lemmas.Bool.{false≢true}
+use Rattle.std.proofs.lemmas.Bool.{false≢true, and_from, and_parts}
 use Rattle.lists.specs.Member.{In}
 use Rattle.lists.specs.Rotated.{IsRotated}
 use Rattle.lists.proofs.ListsKit.{in-all, in-rotated, rotated-in}
@@ -30,23 +30,12 @@ IsLeast es m = (other : Edge) → In other es → point_cmp other.from m.from �
 
 all_pass : (es : List Edge) (m : Edge) → IsLeast es m → leaves_least es m ≡ true
 all_pass [] m least = refl
-all_pass (e ∷ es) m least = both _ _ (passes (point_cmp e.from m.from) (least e (inl refl))) (all_pass es m (λ other i. least other (inr i)))
-  where
-    both : (a b : Bool) → a ≡ true → b ≡ true → (a && b) ≡ true
-    both a b p q = rw (p, q) refl
+all_pass (e ∷ es) m least = and_from _ _ (passes (point_cmp e.from m.from) (least e (inl refl))) (all_pass es m (λ other i. least other (inr i)))
 
 is_least : (es : List Edge) (m : Edge) → leaves_least es m ≡ true → IsLeast es m
 is_least [] m passed other i = absurd i
-is_least (e ∷ es) m passed other (inl is) = rw is (isn't_less (point_cmp e.from m.from) (left _ _ passed))
-  where
-    left : (a b : Bool) → (a && b) ≡ true → a ≡ true
-    left true b p = refl
-    left false b p = p
-is_least (e ∷ es) m passed other (inr i) = is_least es m (right _ _ passed) other i
-  where
-    right : (a b : Bool) → (a && b) ≡ true → b ≡ true
-    right true b p = p
-    right false b p = absurd (false≢true p)
+is_least (e ∷ es) m passed other (inl is) = rw is (isn't_less (point_cmp e.from m.from) (and_parts (not (is_lt (point_cmp e.from m.from))) (leaves_least es m) passed).0)
+is_least (e ∷ es) m passed other (inr i) = is_least es m (and_parts (not (is_lt (point_cmp e.from m.from))) (leaves_least es m) passed).1 other i
 
 found : (p : Edge → Bool) (es : List Edge) (m : Edge) → In m es → p m ≡ true → ((e : Edge) → In e es → p e ≡ true → e.from ≡ m.from)
     → option_map start_near (find p es) ≡ Some (start_near m)

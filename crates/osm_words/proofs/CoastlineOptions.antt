@@ -1,18 +1,19 @@
 -- The options of `coastline`: its command of `clap` takes each. No public contract cites it.
-use Rattle.std.proofs.Common.{◌≡◌, Bool, not, ◌||◌, ap, inl, inr, subst, sym, false, [], ◌∷◌, codes, refl, List}
+use Rattle.std.proofs.Common.{◌≡◌, Bool, not, ◌||◌, ap, false, [], codes, refl, List}
 use Rattle.std.specs.Str.{bytes_eq}
 use Rattle.clap.specs.Words.{Row, Shape, Text, built}
 use Rattle.clap.specs.Kinds.{check_kinds}
 use Rattle.clap.specs.Walk.{has_row}
 use Rattle.clap.proofs.OnLiterals.{clap_on_literals}
 use Rattle.osm_words.specs.CoastlineCommand.{coastline_app}
-use Rattle.osm_words.specs.PlainWords.{Form, IsFileName, begins_with_dash, letter, long}
+use Rattle.osm_words.specs.PlainWords.{Form, begins_with_dash, letter, long}
 use Rattle.osm_words.specs.PlainCoastline.{CoastlineOption, HasPlainValue, polygons_text, close_distance, max_points, bbox_overlap, polygons, output, overwrite, name_of, option_words}
 use Rattle.osm_words.specs.declared.settings.OutputPolygons.{OutputPolygons}
 use Rattle.osm_words.specs.declared.settings.OutputPolygons.TheVariants.{Land, Water, Both, Neither}
 use Rattle.osm_words.proofs.Taken.{EndsWell}
-use Rattle.osm_words.proofs.Walk.{Moves, Named, Options, Pending, Ready, TakesValue, TakesWord}
-use Rattle.osm_words.proofs.Walk.{by_letter, by_long, flag_moves, option_moves, ready_value, row_for}
+use Rattle.osm_words.proofs.Walk.{Moves, Named, Options, Pending, Ready}
+use Rattle.osm_words.proofs.Walk.{by_letter, by_long, flag_moves, option_moves, row_for}
+use Rattle.osm_words.proofs.SharedOptions.{IsOption, IsPositional, named, takes_value}
 
 abbrev pub top : Shape
 top = (built coastline_app).top
@@ -31,44 +32,34 @@ polygons_plain Water = refl
 polygons_plain Both = refl
 polygons_plain Neither = refl
 
-distance_takes : (value : Text) → begins_with_dash value ≡ false → TakesValue top (codes "close-distance") value
-unfolding clap_on_literals
-distance_takes [] plain = record { walks = λ used. refl; passes = λ used. refl; ready = λ used new. ready_value top (codes "close-distance") [] used new refl refl }
-distance_takes (a ∷ value) plain = record { walks = λ used. simp plain; passes = λ used. simp plain; ready = λ used new. ready_value top (codes "close-distance") (a ∷ value) used new refl refl }
+distance_option : IsOption top (codes "close-distance")
+distance_option = record { one = record { settles = λ word rows. refl; passes = λ word rows. refl }; ends = λ word used. refl }
 
-points_takes : (value : Text) → begins_with_dash value ≡ false → TakesValue top (codes "max-points") value
-unfolding clap_on_literals
-points_takes [] plain = record { walks = λ used. refl; passes = λ used. refl; ready = λ used new. ready_value top (codes "max-points") [] used new refl refl }
-points_takes (a ∷ value) plain = record { walks = λ used. simp plain; passes = λ used. simp plain; ready = λ used new. ready_value top (codes "max-points") (a ∷ value) used new refl refl }
+points_option : IsOption top (codes "max-points")
+points_option = record { one = record { settles = λ word rows. refl; passes = λ word rows. refl }; ends = λ word used. refl }
 
-overlap_takes : (value : Text) → begins_with_dash value ≡ false → TakesValue top (codes "bbox-overlap") value
-unfolding clap_on_literals
-overlap_takes [] plain = record { walks = λ used. refl; passes = λ used. refl; ready = λ used new. ready_value top (codes "bbox-overlap") [] used new refl refl }
-overlap_takes (a ∷ value) plain = record { walks = λ used. simp plain; passes = λ used. simp plain; ready = λ used new. ready_value top (codes "bbox-overlap") (a ∷ value) used new refl refl }
+overlap_option : IsOption top (codes "bbox-overlap")
+overlap_option = record { one = record { settles = λ word rows. refl; passes = λ word rows. refl }; ends = λ word used. refl }
 
-polygons_takes : (value : Text) → begins_with_dash value ≡ false → TakesValue top (codes "polygons") value
-unfolding clap_on_literals
-polygons_takes [] plain = record { walks = λ used. refl; passes = λ used. refl; ready = λ used new. ready_value top (codes "polygons") [] used new refl refl }
-polygons_takes (a ∷ value) plain = record { walks = λ used. simp plain; passes = λ used. simp plain; ready = λ used new. ready_value top (codes "polygons") (a ∷ value) used new refl refl }
+polygons_option : IsOption top (codes "polygons")
+polygons_option = record { one = record { settles = λ word rows. refl; passes = λ word rows. refl }; ends = λ word used. refl }
 
-output_takes : (value : Text) → begins_with_dash value ≡ false → TakesValue top (codes "output") value
-unfolding clap_on_literals
-output_takes [] plain = record { walks = λ used. refl; passes = λ used. refl; ready = λ used new. ready_value top (codes "output") [] used new refl refl }
-output_takes (a ∷ value) plain = record { walks = λ used. simp plain; passes = λ used. simp plain; ready = λ used new. ready_value top (codes "output") (a ∷ value) used new refl refl }
+output_option : IsOption top (codes "output")
+output_option = record { one = record { settles = λ word rows. refl; passes = λ word rows. refl }; ends = λ word used. refl }
 
 pub moves : (form : Form) (c : CoastlineOption) (rows : List Row) (pending : Pending) (used : List Row) → Ready top rows pending used → has_row (name_of c) used ≡ false
     → HasPlainValue c → Moves top (option_words form c) (row_for (name_of c) (value_text c)) rows pending used
 unfolding clap_on_literals
-moves letter (close_distance written units) rows pending used ready new plain = option_moves top (codes "-c") (codes "close-distance") written rows pending used ready new (distance_takes written plain.0) refl refl
-moves long (close_distance written units) rows pending used ready new plain = option_moves top (codes "--close-distance") (codes "close-distance") written rows pending used ready new (distance_takes written plain.0) refl refl
-moves letter (max_points written points) rows pending used ready new plain = option_moves top (codes "-m") (codes "max-points") written rows pending used ready new (points_takes written plain.0) refl refl
-moves long (max_points written points) rows pending used ready new plain = option_moves top (codes "--max-points") (codes "max-points") written rows pending used ready new (points_takes written plain.0) refl refl
-moves letter (bbox_overlap written units) rows pending used ready new plain = option_moves top (codes "-b") (codes "bbox-overlap") written rows pending used ready new (overlap_takes written plain.0) refl refl
-moves long (bbox_overlap written units) rows pending used ready new plain = option_moves top (codes "--bbox-overlap") (codes "bbox-overlap") written rows pending used ready new (overlap_takes written plain.0) refl refl
-moves letter (polygons p) rows pending used ready new plain = option_moves top (codes "-p") (codes "polygons") (polygons_text p) rows pending used ready new (polygons_takes (polygons_text p) (polygons_plain p)) refl refl
-moves long (polygons p) rows pending used ready new plain = option_moves top (codes "--output-polygons") (codes "polygons") (polygons_text p) rows pending used ready new (polygons_takes (polygons_text p) (polygons_plain p)) refl refl
-moves letter (output name) rows pending used ready new plain = option_moves top (codes "--output") (codes "output") name rows pending used ready new (output_takes name plain) refl refl
-moves long (output name) rows pending used ready new plain = option_moves top (codes "--output") (codes "output") name rows pending used ready new (output_takes name plain) refl refl
+moves letter (close_distance written units) rows pending used ready new plain = option_moves top (codes "-c") (codes "close-distance") written rows pending used ready new (takes_value top (codes "close-distance") distance_option written plain.0) refl refl
+moves long (close_distance written units) rows pending used ready new plain = option_moves top (codes "--close-distance") (codes "close-distance") written rows pending used ready new (takes_value top (codes "close-distance") distance_option written plain.0) refl refl
+moves letter (max_points written points) rows pending used ready new plain = option_moves top (codes "-m") (codes "max-points") written rows pending used ready new (takes_value top (codes "max-points") points_option written plain.0) refl refl
+moves long (max_points written points) rows pending used ready new plain = option_moves top (codes "--max-points") (codes "max-points") written rows pending used ready new (takes_value top (codes "max-points") points_option written plain.0) refl refl
+moves letter (bbox_overlap written units) rows pending used ready new plain = option_moves top (codes "-b") (codes "bbox-overlap") written rows pending used ready new (takes_value top (codes "bbox-overlap") overlap_option written plain.0) refl refl
+moves long (bbox_overlap written units) rows pending used ready new plain = option_moves top (codes "--bbox-overlap") (codes "bbox-overlap") written rows pending used ready new (takes_value top (codes "bbox-overlap") overlap_option written plain.0) refl refl
+moves letter (polygons p) rows pending used ready new plain = option_moves top (codes "-p") (codes "polygons") (polygons_text p) rows pending used ready new (takes_value top (codes "polygons") polygons_option (polygons_text p) (polygons_plain p)) refl refl
+moves long (polygons p) rows pending used ready new plain = option_moves top (codes "--output-polygons") (codes "polygons") (polygons_text p) rows pending used ready new (takes_value top (codes "polygons") polygons_option (polygons_text p) (polygons_plain p)) refl refl
+moves letter (output name) rows pending used ready new plain = option_moves top (codes "--output") (codes "output") name rows pending used ready new (takes_value top (codes "output") output_option name plain) refl refl
+moves long (output name) rows pending used ready new plain = option_moves top (codes "--output") (codes "output") name rows pending used ready new (takes_value top (codes "output") output_option name plain) refl refl
 moves letter overwrite rows pending used ready new plain = flag_moves top (codes "-f") (codes "overwrite") by_letter rows pending used ready new refl refl refl
 moves long overwrite rows pending used ready new plain = flag_moves top (codes "--overwrite") (codes "overwrite") by_long rows pending used ready new refl refl refl
 
@@ -92,22 +83,15 @@ not_file (polygons p) = refl
 not_file (output name) = refl
 not_file overwrite = refl
 
-takes_dash : TakesWord top 1 (codes "file") (codes "-")
-unfolding clap_on_literals
-takes_dash = record { walks = λ rows pending. refl; asks = λ rows pending. refl }
-
-takes_file : (file : Text) → IsFileName file → TakesWord top 1 (codes "file") file
-unfolding clap_on_literals
-takes_file file (inl dash) = subst (TakesWord top 1 (codes "file")) (sym dash) takes_dash
-takes_file [] (inr plain) = record { walks = λ rows pending. refl; asks = λ rows pending. refl }
-takes_file (a ∷ file) (inr plain) = record { walks = λ rows pending. simp plain; asks = λ rows pending. simp plain }
+file_name : IsPositional top 1 (codes "file")
+file_name = record {
+  one = record { settles = λ word rows. refl; passes = λ word rows. refl };
+  goes = λ word rows pending. refl;
+  asks = λ rows pending. refl;
+}
 
 pub coastline_file : Named top coastline_options 1 (codes "file")
-coastline_file = record {
-  no_option = not_file;
-  takes = takes_file;
-  ready = λ file rows new. ready_value top (codes "file") file rows new refl refl;
-}
+coastline_file = named top 1 (codes "file") file_name coastline_options not_file
 
 -- the command asks for nothing but the file
 pub coastline_ends_well : EndsWell top [] (codes "file")

@@ -3,6 +3,7 @@ pub mod Walk
 pub mod Lookups
 pub mod Numbers
 pub mod Taken
+pub mod SharedOptions
 pub mod ExportOptions
 pub mod CoastlineOptions
 pub mod FilterOptions

@@ -1,9 +1,10 @@
 -- What a call answers to plain words, and what values and names say. No public contract cites it.
-use Rattle.std.proofs.Common.{◌≡◌, ◌&&◌, ◌∙◌, Bool, true, false, Option, Some, Result, Ok, Err, codes, refl, sym, ap, true≢false}
+use Rattle.std.proofs.Common.{◌≡◌, ◌&&◌, ◌∙◌, Bool, true, false, Option, Some, Result, Ok, Err, codes, refl, sym, ap, true≢false, List}
 use Rattle.std.specs.Option.{option_map_or}
 use Rattle.std.specs.Str.{bytes_eq}
 use Rattle.std.proofs.lemmas.Slice.Eq.{bytes_eq-Decides}
-use Rattle.clap.specs.Words.{Text}
+use Rattle.std.specs.Prelude.{unwrap_or}
+use Rattle.clap.specs.Words.{Row, Shape, Text, first_of}
 use Rattle.osm_words.specs.Job.{Job}
 use Rattle.osm_words.specs.Answers.{Answers, Gives}
 use Rattle.osm_words.specs.PlainExport.{ids_text}
@@ -14,9 +15,26 @@ use Rattle.osm_words.specs.declared.fault.WordsError.TheVariants.{BadWords, OutO
 use Rattle.osm_words.specs.declared.settings.Job.{Job as CodeJob}
 use Rattle.osm_words.specs.declared.settings.UniqueId.{UniqueId}
 use Rattle.osm_words.specs.declared.settings.UniqueId.TheVariants.{Counter, TypeId}
+use Rattle.osm_words.specs.Parsed.{is_set}
+use Rattle.osm_words.proofs.Taken.{value_in}
 
 abbrev pub flag_said : Option Text → Bool
 flag_said value = option_map_or (λ word. bytes_eq word (codes "true")) value false
+
+-- what rows say by a name: a text, where none stands this one, and a flag
+abbrev pub SaysText : Shape → List Row → Text → Text → Text → Type 0
+SaysText s rows name default word = unwrap_or (value_in s name rows) default ≡ word
+
+abbrev pub SaysFlag : Shape → List Row → Text → Bool → Type 0
+SaysFlag s rows name flag = flag_said (value_in s name rows) ≡ flag
+
+-- rows in which each name has the value of `found` say what `found` says
+module _ (s : Shape) (rows found : List Row) (same : (name : Text) → first_of name rows ≡ value_in s name found) where
+  pub text_read : (name default word : Text) → SaysText s found name default word → unwrap_or (first_of name rows) default ≡ word
+  text_read name default word says = ap (λ (o : Option Text). unwrap_or o default) (same name) ∙ says
+
+  pub flag_read : (name : Text) (flag : Bool) → SaysFlag s found name flag → is_set name rows ≡ flag
+  flag_read name flag says = ap flag_said (same name) ∙ says
 
 pub ids_read : (i : UniqueId) → ids_said (Some (ids_text i)) ≡ Some (Some i)
 ids_read Counter = refl

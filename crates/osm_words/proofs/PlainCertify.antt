@@ -15,7 +15,7 @@ use Rattle.osm_words.specs.declared.fault.WordsFault.TheVariants.{OutOfRange}
 use Rattle.osm_words.specs.declared.settings.UniqueId.{UniqueId}
 use Rattle.osm_words.proofs.Walk.{Ends, ends_of_two, no_row, row_for, rows_with}
 use Rattle.osm_words.proofs.Taken.{given, new_given, taken, value_in}
-use Rattle.osm_words.proofs.PlainAnswers.{flag_said, not_both_dashes, ids_read}
+use Rattle.osm_words.proofs.PlainAnswers.{not_both_dashes, ids_read, SaysFlag, SaysText, flag_read, text_read}
 use Rattle.osm_words.proofs.CertifyOptions.{certify_ends_well, certify_file, certify_options, certify_text, top, value_text}
 
 abbrev option_rows : List (Form × CertifyOption) → List Row
@@ -28,9 +28,9 @@ all_rows options file text = (option_rows options ++ row_for (codes "file") file
 -- ---- what the words say
 
 record Say (rows : List Row) (s : CertifySettings) : Type 0 where
-  file : unwrap_or (value_in top (codes "file") rows) [] ≡ s.file
-  text : unwrap_or (value_in top (codes "text") rows) [] ≡ s.text
-  keep_untagged : flag_said (value_in top (codes "keep-untagged") rows) ≡ s.keep_untagged
+  file : SaysText top rows (codes "file") [] s.file
+  text : SaysText top rows (codes "text") [] s.text
+  keep_untagged : SaysFlag top rows (codes "keep-untagged") s.keep_untagged
   ids : ids_said (value_in top (codes "ids") rows) ≡ Some s.ids
   area_keys : keys_asked (value_in top (codes "area-keys") rows) ≡ Some s.area_keys
   linear_keys : keys_asked (value_in top (codes "linear-keys") rows) ≡ Some s.linear_keys
@@ -93,11 +93,9 @@ say (option ∷ others) file text plain parted =
 read_by : (rows found : List Row) (s : CertifySettings) → Say found s → ((name : Text) → first_of name rows ≡ value_in top name found)
     → settings_said rows ≡ Ok s
 read_by rows found s says same =
-    let file_is : unwrap_or (first_of (codes "file") rows) [] ≡ s.file =
-    ap (λ (o : Option Text). unwrap_or o []) (same (codes "file")) ∙ says.file in
-    let text_is : unwrap_or (first_of (codes "text") rows) [] ≡ s.text =
-    ap (λ (o : Option Text). unwrap_or o []) (same (codes "text")) ∙ says.text in
-    let keep_untagged_is : is_set (codes "keep-untagged") rows ≡ s.keep_untagged = ap flag_said (same (codes "keep-untagged")) ∙ says.keep_untagged in
+    let file_is : unwrap_or (first_of (codes "file") rows) [] ≡ s.file = text_read top rows found same (codes "file") [] s.file says.file in
+    let text_is : unwrap_or (first_of (codes "text") rows) [] ≡ s.text = text_read top rows found same (codes "text") [] s.text says.text in
+    let keep_untagged_is : is_set (codes "keep-untagged") rows ≡ s.keep_untagged = flag_read top rows found same (codes "keep-untagged") s.keep_untagged says.keep_untagged in
     let ids_is : ids_said (first_of (codes "ids") rows) ≡ Some s.ids = ap ids_said (same (codes "ids")) ∙ says.ids in
     let area_is : keys_asked (first_of (codes "area-keys") rows) ≡ Some s.area_keys = ap keys_asked (same (codes "area-keys")) ∙ says.area_keys in
     let linear_is : keys_asked (first_of (codes "linear-keys") rows) ≡ Some s.linear_keys = ap keys_asked (same (codes "linear-keys")) ∙ says.linear_keys in

@@ -1,5 +1,5 @@
 -- Plain words of `coastline` are taken, and give what they say. No public contract cites it.
-use Rattle.std.proofs.Common.{◌≡◌, ◌++◌, ◌∙◌, List, [], ◌∷◌, Option, Some, Ok, codes, refl, ap, ap₂}
+use Rattle.std.proofs.Common.{◌≡◌, ◌++◌, ◌∙◌, List, [], ◌∷◌, Some, Ok, codes, refl, ap, ap₂}
 use Rattle.std.specs.Prelude.{unwrap_or}
 use Rattle.clap.specs.Words.{Row, Text, first_of, matches_of}
 use Rattle.osm_words.specs.CoastlineCommand.{coastline_app}
@@ -13,7 +13,7 @@ use Rattle.osm_words.specs.declared.settings.OutputPolygons.{OutputPolygons}
 use Rattle.osm_words.specs.declared.settings.OutputPolygons.TheVariants.{Land, Water, Both, Neither}
 use Rattle.osm_words.proofs.Walk.{Ends, ends, row_for, rows_with}
 use Rattle.osm_words.proofs.Taken.{given, taken, value_in}
-use Rattle.osm_words.proofs.PlainAnswers.{flag_said}
+use Rattle.osm_words.proofs.PlainAnswers.{SaysFlag, SaysText, flag_read, text_read}
 use Rattle.osm_words.proofs.CoastlineOptions.{coastline_ends_well, coastline_file, coastline_options, top, value_text}
 
 abbrev option_rows : List (Form × CoastlineOption) → List Row
@@ -26,9 +26,9 @@ record Say (rows : List Row) (s : CoastlineSettings) : Type 0 where
   max_points : points_said (value_in top (codes "max-points") rows) ≡ Some s.max_points
   bbox_overlap : overlap_said (value_in top (codes "bbox-overlap") rows) ≡ Some s.bbox_overlap
   polygons : polygons_said (value_in top (codes "polygons") rows) ≡ Some s.polygons
-  output : unwrap_or (value_in top (codes "output") rows) (codes "-") ≡ s.output
-  overwrite : flag_said (value_in top (codes "overwrite") rows) ≡ s.overwrite
-  file : unwrap_or (value_in top (codes "file") rows) [] ≡ s.file
+  output : SaysText top rows (codes "output") (codes "-") s.output
+  overwrite : SaysFlag top rows (codes "overwrite") s.overwrite
+  file : SaysText top rows (codes "file") [] s.file
 
 polygons_read : (p : OutputPolygons) → polygons_named (polygons_text p) ≡ Some p
 polygons_read Land = refl
@@ -55,9 +55,9 @@ read_by rows found s says same =
     let points_are : points_said (first_of (codes "max-points") rows) ≡ Some s.max_points = ap points_said (same (codes "max-points")) ∙ says.max_points in
     let overlap_is : overlap_said (first_of (codes "bbox-overlap") rows) ≡ Some s.bbox_overlap = ap overlap_said (same (codes "bbox-overlap")) ∙ says.bbox_overlap in
     let polygons_are : polygons_said (first_of (codes "polygons") rows) ≡ Some s.polygons = ap polygons_said (same (codes "polygons")) ∙ says.polygons in
-    let output_is : unwrap_or (first_of (codes "output") rows) (codes "-") ≡ s.output = ap (λ (o : Option Text). unwrap_or o (codes "-")) (same (codes "output")) ∙ says.output in
-    let overwrite_is : is_set (codes "overwrite") rows ≡ s.overwrite = ap flag_said (same (codes "overwrite")) ∙ says.overwrite in
-    let file_is : unwrap_or (first_of (codes "file") rows) [] ≡ s.file = ap (λ (o : Option Text). unwrap_or o []) (same (codes "file")) ∙ says.file in
+    let output_is : unwrap_or (first_of (codes "output") rows) (codes "-") ≡ s.output = text_read top rows found same (codes "output") (codes "-") s.output says.output in
+    let overwrite_is : is_set (codes "overwrite") rows ≡ s.overwrite = flag_read top rows found same (codes "overwrite") s.overwrite says.overwrite in
+    let file_is : unwrap_or (first_of (codes "file") rows) [] ≡ s.file = text_read top rows found same (codes "file") [] s.file says.file in
     let all : settings_with s.close_distance s.max_points s.bbox_overlap s.polygons rows ≡ s = (λ i. record {
       file = file_is i;
       output = output_is i;

@@ -15,7 +15,7 @@ use Rattle.osm_words.specs.declared.settings.Format.TheVariants.{GeoJson, GeoJso
 use Rattle.osm_words.specs.declared.settings.UniqueId.{UniqueId}
 use Rattle.osm_words.proofs.Walk.{Ends, ends, row_for, rows_with}
 use Rattle.osm_words.proofs.Taken.{given, taken, value_in}
-use Rattle.osm_words.proofs.PlainAnswers.{flag_said, ids_read}
+use Rattle.osm_words.proofs.PlainAnswers.{ids_read, SaysFlag, SaysText, flag_read, text_read}
 use Rattle.osm_words.proofs.ExportOptions.{export_ends_well, export_file, export_options, top, value_text}
 
 abbrev option_rows : List (Form × ExportOption) → List Row
@@ -25,16 +25,16 @@ option_rows options = rows_with top export_options options
 
 record Say (rows : List Row) (s : ExportSettings) : Type 0 where
   format : format_said (value_in top (codes "format") rows) ≡ Some s.format
-  output : unwrap_or (value_in top (codes "output") rows) (codes "-") ≡ s.output
-  overwrite : flag_said (value_in top (codes "overwrite") rows) ≡ s.overwrite
-  keep_untagged : flag_said (value_in top (codes "keep-untagged") rows) ≡ s.keep_untagged
+  output : SaysText top rows (codes "output") (codes "-") s.output
+  overwrite : SaysFlag top rows (codes "overwrite") s.overwrite
+  keep_untagged : SaysFlag top rows (codes "keep-untagged") s.keep_untagged
   ids : ids_said (value_in top (codes "ids") rows) ≡ Some s.ids
-  omit_rs : flag_said (value_in top (codes "omit-rs") rows) ≡ s.omit_rs
-  show_errors : flag_said (value_in top (codes "show-errors") rows) ≡ s.show_errors
-  stop_on_error : flag_said (value_in top (codes "stop-on-error") rows) ≡ s.stop_on_error
+  omit_rs : SaysFlag top rows (codes "omit-rs") s.omit_rs
+  show_errors : SaysFlag top rows (codes "show-errors") s.show_errors
+  stop_on_error : SaysFlag top rows (codes "stop-on-error") s.stop_on_error
   area_keys : keys_asked (value_in top (codes "area-keys") rows) ≡ Some s.area_keys
   linear_keys : keys_asked (value_in top (codes "linear-keys") rows) ≡ Some s.linear_keys
-  file : unwrap_or (value_in top (codes "file") rows) [] ≡ s.file
+  file : SaysText top rows (codes "file") [] s.file
 
 format_read : (f : Format) → format_named (format_text f) ≡ Some f
 format_read GeoJson = refl
@@ -62,15 +62,15 @@ read_by : (rows found : List Row) (s : ExportSettings) → Say found s → ((nam
 read_by rows found s says same =
     let format_is : format_said (first_of (codes "format") rows) ≡ Some s.format = ap format_said (same (codes "format")) ∙ says.format in
     let ids_are : ids_said (first_of (codes "ids") rows) ≡ Some s.ids = ap ids_said (same (codes "ids")) ∙ says.ids in
-    let output_is : unwrap_or (first_of (codes "output") rows) (codes "-") ≡ s.output = ap (λ (o : Option Text). unwrap_or o (codes "-")) (same (codes "output")) ∙ says.output in
-    let overwrite_is : is_set (codes "overwrite") rows ≡ s.overwrite = ap flag_said (same (codes "overwrite")) ∙ says.overwrite in
-    let keep_is : is_set (codes "keep-untagged") rows ≡ s.keep_untagged = ap flag_said (same (codes "keep-untagged")) ∙ says.keep_untagged in
-    let omit_is : is_set (codes "omit-rs") rows ≡ s.omit_rs = ap flag_said (same (codes "omit-rs")) ∙ says.omit_rs in
-    let show_is : is_set (codes "show-errors") rows ≡ s.show_errors = ap flag_said (same (codes "show-errors")) ∙ says.show_errors in
-    let stop_is : is_set (codes "stop-on-error") rows ≡ s.stop_on_error = ap flag_said (same (codes "stop-on-error")) ∙ says.stop_on_error in
+    let output_is : unwrap_or (first_of (codes "output") rows) (codes "-") ≡ s.output = text_read top rows found same (codes "output") (codes "-") s.output says.output in
+    let overwrite_is : is_set (codes "overwrite") rows ≡ s.overwrite = flag_read top rows found same (codes "overwrite") s.overwrite says.overwrite in
+    let keep_is : is_set (codes "keep-untagged") rows ≡ s.keep_untagged = flag_read top rows found same (codes "keep-untagged") s.keep_untagged says.keep_untagged in
+    let omit_is : is_set (codes "omit-rs") rows ≡ s.omit_rs = flag_read top rows found same (codes "omit-rs") s.omit_rs says.omit_rs in
+    let show_is : is_set (codes "show-errors") rows ≡ s.show_errors = flag_read top rows found same (codes "show-errors") s.show_errors says.show_errors in
+    let stop_is : is_set (codes "stop-on-error") rows ≡ s.stop_on_error = flag_read top rows found same (codes "stop-on-error") s.stop_on_error says.stop_on_error in
     let area_is : keys_asked (first_of (codes "area-keys") rows) ≡ Some s.area_keys = ap keys_asked (same (codes "area-keys")) ∙ says.area_keys in
     let linear_is : keys_asked (first_of (codes "linear-keys") rows) ≡ Some s.linear_keys = ap keys_asked (same (codes "linear-keys")) ∙ says.linear_keys in
-    let file_is : unwrap_or (first_of (codes "file") rows) [] ≡ s.file = ap (λ (o : Option Text). unwrap_or o []) (same (codes "file")) ∙ says.file in
+    let file_is : unwrap_or (first_of (codes "file") rows) [] ≡ s.file = text_read top rows found same (codes "file") [] s.file says.file in
     let all : settings_with s.format s.ids s.area_keys s.linear_keys rows ≡ s = (λ i. record {
       format = s.format;
       output = output_is i;

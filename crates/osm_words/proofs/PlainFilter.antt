@@ -1,5 +1,5 @@
 -- Plain words of `coast-filter` are taken, and give what they say. No public contract cites it.
-use Rattle.std.proofs.Common.{◌≡◌, ◌++◌, ◌∙◌, List, [], ◌∷◌, Option, Ok, codes, refl, ap, ap₂}
+use Rattle.std.proofs.Common.{◌≡◌, ◌++◌, List, [], ◌∷◌, Ok, codes, refl, ap, ap₂}
 use Rattle.std.specs.Prelude.{unwrap_or}
 use Rattle.clap.specs.Words.{Row, Text, first_of, matches_of}
 use Rattle.osm_words.specs.FilterCommand.{filter_app}
@@ -11,7 +11,7 @@ use Rattle.osm_words.specs.PlainWords.{Form, plain_words}
 use Rattle.osm_words.specs.PlainFilter.{ArePlainFilter, FilterOption, filter_words, output, overwrite, name_of, option_words, said_filter, with_option}
 use Rattle.osm_words.proofs.Walk.{Ends, ends, row_for, rows_with}
 use Rattle.osm_words.proofs.Taken.{given, taken, value_in}
-use Rattle.osm_words.proofs.PlainAnswers.{flag_said}
+use Rattle.osm_words.proofs.PlainAnswers.{SaysFlag, SaysText, flag_read, text_read}
 use Rattle.osm_words.proofs.FilterOptions.{filter_ends_well, filter_file, filter_options, top, value_text}
 
 abbrev option_rows : List (Form × FilterOption) → List Row
@@ -20,9 +20,9 @@ option_rows options = rows_with top filter_options options
 -- ---- what the words say
 
 record Say (rows : List Row) (s : FilterSettings) : Type 0 where
-  output : unwrap_or (value_in top (codes "output") rows) (codes "-") ≡ s.output
-  overwrite : flag_said (value_in top (codes "overwrite") rows) ≡ s.overwrite
-  file : unwrap_or (value_in top (codes "file") rows) [] ≡ s.file
+  output : SaysText top rows (codes "output") (codes "-") s.output
+  overwrite : SaysFlag top rows (codes "overwrite") s.overwrite
+  file : SaysText top rows (codes "file") [] s.file
 
 say_more : (c : FilterOption) (rows : List Row) (s : FilterSettings) → Say rows s → Say (row_for (name_of c) (value_text c) ∷ rows) (with_option c s)
 say_more (output name) rows s more = record { output = refl; overwrite = more.overwrite; file = more.file }
@@ -35,10 +35,9 @@ say (option ∷ others) file = say_more option.1 (option_rows others ++ row_for 
 -- rows in which each name has the value of `found` give what `found` says
 read_by : (rows found : List Row) (s : FilterSettings) → Say found s → ((name : Text) → first_of name rows ≡ value_in top name found) → settings_said rows ≡ s
 read_by rows found s says same =
-    let output_is : unwrap_or (first_of (codes "output") rows) (codes "-") ≡ s.output =
-    ap (λ (o : Option Text). unwrap_or o (codes "-")) (same (codes "output")) ∙ says.output in
-    let overwrite_is : is_set (codes "overwrite") rows ≡ s.overwrite = ap flag_said (same (codes "overwrite")) ∙ says.overwrite in
-    let file_is : unwrap_or (first_of (codes "file") rows) [] ≡ s.file = ap (λ (o : Option Text). unwrap_or o []) (same (codes "file")) ∙ says.file in
+    let output_is : unwrap_or (first_of (codes "output") rows) (codes "-") ≡ s.output = text_read top rows found same (codes "output") (codes "-") s.output says.output in
+    let overwrite_is : is_set (codes "overwrite") rows ≡ s.overwrite = flag_read top rows found same (codes "overwrite") s.overwrite says.overwrite in
+    let file_is : unwrap_or (first_of (codes "file") rows) [] ≡ s.file = text_read top rows found same (codes "file") [] s.file says.file in
     λ i. record { file = file_is i; output = output_is i; overwrite = overwrite_is i }
 
 -- plain words of `coast-filter` are taken with what they say

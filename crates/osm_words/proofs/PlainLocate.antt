@@ -14,7 +14,7 @@ use Rattle.osm_words.specs.PlainLocate.{locate_words, name_of, option_words, sai
 use Rattle.osm_words.specs.declared.fault.WordsFault.TheVariants.{OutOfRange}
 use Rattle.osm_words.proofs.Walk.{Ends, ends_of_two, no_row, row_for, rows_with}
 use Rattle.osm_words.proofs.Taken.{given, new_given, taken, value_in}
-use Rattle.osm_words.proofs.PlainAnswers.{flag_said, not_both_dashes}
+use Rattle.osm_words.proofs.PlainAnswers.{not_both_dashes, SaysFlag, SaysText, flag_read, text_read}
 use Rattle.osm_words.proofs.LocateOptions.{locate_ends_well, locate_file, locate_options, locate_points, top, value_text}
 
 abbrev option_rows : List (Form × LocateOption) → List Row
@@ -27,11 +27,11 @@ all_rows options file points = (option_rows options ++ row_for (codes "file") fi
 -- ---- what the words say
 
 record Say (rows : List Row) (s : LocateSettings) : Type 0 where
-  file : unwrap_or (value_in top (codes "file") rows) [] ≡ s.file
-  points : unwrap_or (value_in top (codes "points") rows) [] ≡ s.points
-  output : unwrap_or (value_in top (codes "output") rows) (codes "-") ≡ s.output
-  overwrite : flag_said (value_in top (codes "overwrite") rows) ≡ s.overwrite
-  keep_untagged : flag_said (value_in top (codes "keep-untagged") rows) ≡ s.keep_untagged
+  file : SaysText top rows (codes "file") [] s.file
+  points : SaysText top rows (codes "points") [] s.points
+  output : SaysText top rows (codes "output") (codes "-") s.output
+  overwrite : SaysFlag top rows (codes "overwrite") s.overwrite
+  keep_untagged : SaysFlag top rows (codes "keep-untagged") s.keep_untagged
   area_keys : keys_asked (value_in top (codes "area-keys") rows) ≡ Some s.area_keys
   linear_keys : keys_asked (value_in top (codes "linear-keys") rows) ≡ Some s.linear_keys
   parted : are_both_dashes s.file s.points ≡ false
@@ -108,14 +108,11 @@ say (option ∷ others) file points plain parted =
 read_by : (rows found : List Row) (s : LocateSettings) → Say found s → ((name : Text) → first_of name rows ≡ value_in top name found)
     → settings_said rows ≡ Ok s
 read_by rows found s says same =
-    let file_is : unwrap_or (first_of (codes "file") rows) [] ≡ s.file =
-    ap (λ (o : Option Text). unwrap_or o []) (same (codes "file")) ∙ says.file in
-    let points_is : unwrap_or (first_of (codes "points") rows) [] ≡ s.points =
-    ap (λ (o : Option Text). unwrap_or o []) (same (codes "points")) ∙ says.points in
-    let output_is : unwrap_or (first_of (codes "output") rows) (codes "-") ≡ s.output =
-    ap (λ (o : Option Text). unwrap_or o (codes "-")) (same (codes "output")) ∙ says.output in
-    let overwrite_is : is_set (codes "overwrite") rows ≡ s.overwrite = ap flag_said (same (codes "overwrite")) ∙ says.overwrite in
-    let keep_untagged_is : is_set (codes "keep-untagged") rows ≡ s.keep_untagged = ap flag_said (same (codes "keep-untagged")) ∙ says.keep_untagged in
+    let file_is : unwrap_or (first_of (codes "file") rows) [] ≡ s.file = text_read top rows found same (codes "file") [] s.file says.file in
+    let points_is : unwrap_or (first_of (codes "points") rows) [] ≡ s.points = text_read top rows found same (codes "points") [] s.points says.points in
+    let output_is : unwrap_or (first_of (codes "output") rows) (codes "-") ≡ s.output = text_read top rows found same (codes "output") (codes "-") s.output says.output in
+    let overwrite_is : is_set (codes "overwrite") rows ≡ s.overwrite = flag_read top rows found same (codes "overwrite") s.overwrite says.overwrite in
+    let keep_untagged_is : is_set (codes "keep-untagged") rows ≡ s.keep_untagged = flag_read top rows found same (codes "keep-untagged") s.keep_untagged says.keep_untagged in
     let area_is : keys_asked (first_of (codes "area-keys") rows) ≡ Some s.area_keys = ap keys_asked (same (codes "area-keys")) ∙ says.area_keys in
     let linear_is : keys_asked (first_of (codes "linear-keys") rows) ≡ Some s.linear_keys = ap keys_asked (same (codes "linear-keys")) ∙ says.linear_keys in
     let all : settings_with s.area_keys s.linear_keys rows ≡ s = (λ i. record {

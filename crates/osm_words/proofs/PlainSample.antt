@@ -1,5 +1,5 @@
 -- Plain words of `sample` are taken, and give the number that they say. No public contract cites it.
-use Rattle.std.proofs.Common.{◌≡◌, ◌∙◌, ◌==◌, ◌&&◌, ◌||◌, ℕ, Bool, cond, not, true, false, [], ◌∷◌, Option, Some, None, Ok, codes, length}
+use Rattle.std.proofs.Common.{◌≡◌, ◌∙◌, ◌==◌, ◌&&◌, ◌||◌, ℕ, Bool, cond, not, true, false, [], ◌∷◌, Option, Some, None, Ok, codes, length, inr}
 use Rattle.std.proofs.Common.{refl, ap, ap₂, sym, nat_le, nat_lt, arith, true≢false, is_some}
 use Rattle.std.specs.Prelude.{option_and_then, unwrap_or}
 use Rattle.std.specs.Str.Parse.{digits_value}
@@ -8,7 +8,6 @@ use Rattle.clap.specs.Words.{Kinds, Shape, Text, built, first_of, matches_of}
 use Rattle.clap.specs.Kinds.{check_kinds, or_else}
 use Rattle.clap.specs.Faults.{walk_fault}
 use Rattle.clap.specs.Walk.{Walk}
-use Rattle.clap.proofs.OnLiterals.{clap_on_literals}
 use Rattle.osm_words.specs.Job.{sample}
 use Rattle.osm_words.specs.Parsed.{unless_refused}
 use Rattle.osm_words.specs.PlainSample.{IsPlainCount, sample_words}
@@ -16,8 +15,9 @@ use Rattle.osm_words.specs.PlainWords.{begins_with_dash}
 use Rattle.osm_words.specs.SampleCommand.{sample_app}
 use Rattle.osm_words.specs.SampleWords.{count_named, count_said, in_range, sample_asked, where_count}
 use Rattle.osm_words.specs.Words.{as_job, job_asked}
-use Rattle.osm_words.proofs.Walk.{Ends, TakesWord, ready_none, ready_value, word_passes, word_walks}
+use Rattle.osm_words.proofs.Walk.{Ends, TakesWord, ready_none, word_passes, word_walks}
 use Rattle.osm_words.proofs.Taken.{EndsWell, given, taken}
+use Rattle.osm_words.proofs.SharedOptions.{IsPositional, ready_one, takes_name}
 
 abbrev top : Shape
 top = (built sample_app).top
@@ -46,10 +46,12 @@ no_dash (a ∷ rest) count is = go (a == 45) refl
 
 -- ---- the command takes it
 
-takes_word : (word : Text) → begins_with_dash word ≡ false → TakesWord top 1 (codes "count") word
-unfolding clap_on_literals
-takes_word [] plain = record { walks = λ rows pending. refl; asks = λ rows pending. refl }
-takes_word (a ∷ word) plain = record { walks = λ rows pending. simp plain; asks = λ rows pending. simp plain }
+count_name : IsPositional top 1 (codes "count")
+count_name = record {
+  one = record { settles = λ word rows. refl; passes = λ word rows. refl };
+  goes = λ word rows pending. refl;
+  asks = λ rows pending. refl;
+}
 
 -- the last word is the only one
 alone : (s : Shape) (name word : Text) → TakesWord s 1 name word → Ends s name (word ∷ []) [] word
@@ -63,14 +65,14 @@ alone s name word takes = record {
 -- the command asks for nothing else
 ends_well : EndsWell top [] (codes "count")
 ends_well = record {
-  ready = λ word rows new. ready_value top (codes "count") word rows new refl refl;
+  ready = ready_one top (codes "count") count_name.one;
   defaults = (refl, tt);
   checks = λ rows before given. ap (λ (is : Bool). check_kinds false false (not is || false)) given;
 }
 
 plain_sample : (written : Text) (count : ℕ) → IsPlainCount written count → sample_asked (sample_words written) ≡ Ok count
 plain_sample written count plain =
-    let end = alone top (codes "count") written (takes_word written (no_dash written count plain)) in
+    let end = alone top (codes "count") written (takes_name top 1 (codes "count") count_name written (inr (no_dash written count plain))) in
     let word_is : first_of (codes "count") (matches_of sample_app (sample_words written)) ≡ Some written =
     given top [] (codes "count") ends_well (written ∷ []) [] written end (codes "count") in
     let found : count_said (matches_of sample_app (sample_words written)) ≡ Ok count =

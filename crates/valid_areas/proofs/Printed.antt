@@ -1,7 +1,6 @@
 -- What printed positions, rings and polygons spell.
-use Rattle.std.proofs.Common.{All, List, [], ap, ap₂, append_assoc, arith, codes, get_or, inl, inr, length, map, refl, subst, sym, take, ℕ, ◌++◌, ◌<◌, ◌^◌, ◌∙◌, ◌∷◌, ◌≡◌, ◌≢◌}
+use Rattle.std.proofs.Common.{All, List, [], ap, ap₂, append_assoc, arith, codes, get_or, inl, inr, length, map, refl, subst, sym, take, ℕ, ◌++◌, ◌∙◌, ◌∷◌, ◌≡◌, ◌≢◌}
 use Rattle.std.specs.List.{join_with_byte}
-use Rattle.std.specs.Prelude.{unsigned_abs}
 use Rattle.std.proofs.lemmas.List.{map-append}
 use Rattle.lists.specs.Member.{In}
 use Rattle.lists.proofs.ListsKit.{in-all, in-map, map-map}
@@ -10,6 +9,7 @@ use Rattle.osm_geom.specs.declared.edge.Edge.{Edge}
 use Rattle.osm_geom.specs.declared.point.Point.TheVariants.{Lattice}
 use Rattle.osm_lattice.specs.declared.loc.Loc.{Loc}
 use Rattle.osm_lattice.specs.Loc.{vector_of}
+use Rattle.osm_lattice.proofs.LatticeKit.{x_small, y_small}
 use Rattle.osm_nest.specs.declared.polygon.Polygon.{Polygon}
 use Rattle.osm_nest.specs.Polygons.{polygon_times, rings_in, rings_of}
 use Rattle.osm_nest.proofs.BegunPolygons.{in-rings}
@@ -65,19 +65,13 @@ starts-are r whole =
 
 -- ---- in both notations
 
-x-small : (p : Loc) → unsigned_abs p.x < 2 ^ 64
-x-small p = let range = p.x_in in omega arith
-
-y-small : (p : Loc) → unsigned_abs p.y < 2 ^ 64
-y-small p = let range = p.y_in in omega arith
-
 abbrev pub position_text : Notation → Loc → List ℕ
 position_text geo_json p = position_json p
 position_text well_known p = point_text p
 
 position-spelled : (n : Notation) (p : Loc) → SpellsPosition n (position_text n p) (vector_of p)
-position-spelled geo_json p = (_, _, refl, units_spelled p.x (x-small p), units_spelled p.y (y-small p))
-position-spelled well_known p = (_, _, refl, units_spelled p.x (x-small p), units_spelled p.y (y-small p))
+position-spelled geo_json p = (_, _, refl, units_spelled p.x (x_small p), units_spelled p.y (y_small p))
+position-spelled well_known p = (_, _, refl, units_spelled p.x (x_small p), units_spelled p.y (y_small p))
 
 module _ (n : Notation) where
   abbrev pub list_text : List (List ℕ) → List ℕ

@@ -2,7 +2,7 @@
 use Rattle.std.proofs.Common.{◌≡◌, ◌∙◌, refl, sym, ap, subst, cond, ℕ, ◌&&◌, Bool, true, false, if◌then◌else◌, Option, None, Some, Result, Ok, Err, List, [], ◌∷◌, ◌++◌, length, filter, append-nil, append_assoc, All}
 use Rattle.std.specs.Prelude.{IsTrue, nat_lt, is_some}
 use Rattle.std.specs.List.{cons_option, filter_map}
-use Rattle.std.proofs.lemmas.List.Elements.{All-cons, All-nil, filter-append, filter_map-append}
+use Rattle.std.proofs.lemmas.List.Elements.{All-cons, All-nil}
 use Rattle.opl_reader.specs.declared.fault.LineFault.{LineFault}
 use Rattle.opl_reader.specs.declared.object.Object.{Object}
 use Rattle.opl_reader.specs.declared.object.Object.TheVariants as object
@@ -14,12 +14,13 @@ use Rattle.opl_reader.specs.Told.{object_in, object_told}
 use Rattle.opl_writer.specs.Writable.{IsLive, IsSound, IsWritable}
 use Rattle.osm_objects.specs.Object.{id_of, is_live, kind_of, ref_of}
 use Rattle.osm_objects.specs.Objects.{AreApart, is_duplicate, object_at}
+use Rattle.osm_objects.proofs.ObjectsKit.{one_more_apart}
 use Rattle.osm_input.specs.Input.{AreGood, fault_in, objects_told}
 use Rattle.osm_input.specs.declared.fault.InputFault.{InputFault}
 use Rattle.osm_input.specs.declared.fault.InputFault.TheVariants.{Duplicate, TooLong}
-use Rattle.lists.proofs.ListsKit.{all-in, in-all}
+use Rattle.osm_input.proofs.InputKit.{one_more_told}
+use Rattle.lists.proofs.ListsKit.{all-in, in-all, none_from}
 use Rattle.written_inputs.specs.Laws.{ReadObjectsCanBeWritten, SpelledObjectsCanBeWritten}
-use Rattle.written_inputs.proofs.Apart.{one_more}
 
 -- what the crates below say of lines, and of what they spell
 abbrev pub Answers : Type 0
@@ -51,10 +52,6 @@ module _ (answers : Answers) (sound : SpelledSound) where
 
 -- ---- no two have one kind and id
 
-absent : {X : Type 0} (o : Option X) → is_some o ≡ false → o ≡ None
-absent None e = refl
-absent (Some x) e = absurd (cc)
-
 no_duplicate : (b : Bool) (fault : InputFault) → (if b then Some fault else None) ≡ None → b ≡ false
 no_duplicate true fault none = absurd (cc)
 no_duplicate false fault none = refl
@@ -65,7 +62,7 @@ no_fault false fault rest none = none
 
 with_live : (earlier : List Object) (o : Object) (live : Bool) → is_live o ≡ live → AreApart earlier → is_duplicate earlier o ≡ false → AreApart (earlier ++ cond live (o ∷ []) [])
 with_live earlier o true e apart new =
-    one_more earlier o apart (absent (object_at earlier (ref_of o)) (sym (ap (λ (b : Bool). b && is_some (object_at earlier (ref_of o))) e) ∙ new))
+    one_more_apart earlier o apart (none_from (object_at earlier (ref_of o)) (sym (ap (λ (b : Bool). b && is_some (object_at earlier (ref_of o))) e) ∙ new))
 with_live earlier o false e apart new = subst AreApart (sym (append-nil earlier)) apart
 
 with_read : (earlier : List Object) (r : Result (Option Object) LineFault) → AreApart earlier → fault_in earlier r ≡ None → AreApart (earlier ++ filter is_live (cons_option (object_in r) []))
@@ -74,15 +71,11 @@ with_read earlier (Ok None) apart none = subst AreApart (sym (append-nil earlier
 with_read earlier (Ok (Some o)) apart none =
     with_live earlier o (is_live o) refl apart (no_duplicate (is_duplicate earlier o) (Duplicate (kind_of o) (id_of o)) none)
 
-told_more : (before : List (List ℕ)) (line : List ℕ) → objects_told (before ++ line ∷ []) ≡ objects_told before ++ objects_told (line ∷ [])
-told_more before line =
-    ap (filter is_live) (filter_map-append object_told before (line ∷ [])) ∙ filter-append is_live (filter_map object_told before) (filter_map object_told (line ∷ []))
-
 apart_from : (longest : ℕ) (before rest : List (List ℕ)) → AreGood longest (before ++ rest) → AreApart (objects_told before) → AreApart (objects_told (before ++ rest))
 apart_from longest before [] good apart = subst (λ (lines : List (List ℕ)). AreApart (objects_told lines)) (sym (append-nil before)) apart
 apart_from longest before (line ∷ rest) good apart =
     let fine = no_fault (nat_lt longest (length line)) TooLong (fault_in (objects_told before) (reading line)) (good before line rest refl) in
-    let here = subst AreApart (sym (told_more before line)) (with_read (objects_told before) (reading line) apart fine) in
+    let here = subst AreApart (sym (one_more_told before line)) (with_read (objects_told before) (reading line) apart fine) in
     let same = append_assoc before (line ∷ []) rest in
     subst (λ (lines : List (List ℕ)). AreApart (objects_told lines)) same (apart_from longest (before ++ line ∷ []) rest (subst (AreGood longest) (sym same) good) here)
 

@@ -1,10 +1,10 @@
 use Rattle.std.proofs.Common.{◌≡◌, ◌<◌, ◌++◌, ◌∷◌, [], map, get_or, length, true, false, Bool, not, refl, sym, ap, ◌∙◌, arith}
 use Rattle.std.proofs.lemmas.List.{map-append, get_or_default, take_at}
+use Rattle.std.proofs.lemmas.Bool.{both_ways}
 use Rattle.orbits.specs.OrbitSteps.{AreMarkedAlso, AreStarts}
 use Rattle.orbits.proofs.Finding.{chained_more, chained_pass, found_start, found_cycle, found_pass, found_all, AreChained}
 use Rattle.orbits.proofs.orbit.orbits.Goals as goal
 use Rattle.orbits.proofs.orbit.orbits.Goals.{then-index+in_ok-orbit, else-index, then-index-2+in_ok-orbit-2+in_ok-push, then-index-2-via-then-index-2, then-index-2-via-else-index-2+then-not-index-2, then-not-index, else-not-index, else-index-2+else-not-index-2}
-use Rattle.orbits.proofs.Reading.{clash}
 
 not_true : (b : Bool) → not b ≡ true → b ≡ false
 not_true true e = sym e
@@ -78,7 +78,7 @@ loop-place-2-preserved c =
       | else-index-2+else-not-index-2 w ↦
           rw (w.seen-is, w.orbits-is) (elim w.if-not-index.branch [
             | then-not-index u ↦ found_pass next c.requires starts are chained all place seen os c.loop-place-2.invariant (read ∙ w.if-index-2.false) (λ off. read_seen u.index-then-not-index.result.now u.index-then-not-index.ensures ∙ not_false _ (sym u.value-is ∙ w.if-not-index-2.false))
-            | else-not-index u ↦ found_pass next c.requires starts are chained all place seen os c.loop-place-2.invariant (read ∙ w.if-index-2.false) (λ off. absurd (clash _ (read_chained w.index-else-index-2.result.now w.index-else-index-2.ensures ∙ u.if-not-index.false) off))
+            | else-not-index u ↦ found_pass next c.requires starts are chained all place seen os c.loop-place-2.invariant (read ∙ w.if-index-2.false) (λ off. absurd (both_ways _ off (read_chained w.index-else-index-2.result.now w.index-else-index-2.ensures ∙ u.if-not-index.false)))
           ])
     ]
 

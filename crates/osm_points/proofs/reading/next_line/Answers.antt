@@ -1,7 +1,7 @@
 use Rattle.std.proofs.Common.{◌≡◌, ◌∙◌, sym, ap, ◌+◌, ◌-◌, take, drop, length, ◌∷◌, arith, List, ℕ}
 use Rattle.std.proofs.lemmas.List.{take_all, length-drop}
 use Rattle.opl_reader.specs.Lines.{is_newline}
-use Rattle.opl_reader.proofs.CutLemmas.{parts-none, parts-some}
+use Rattle.opl_reader.proofs.ReaderKit.{parts-none, parts-some}
 use Rattle.osm_points.specs.Points.{text_lines}
 use Rattle.osm_points.proofs.reading.next_line.Goals as goal
 

@@ -1,6 +1,7 @@
 use Rattle.std.proofs.Common.{◌≡◌, ◌∙◌, sym, ap, subst, rules, w64, is_some, None, List, ◌++◌, ◌∷◌, [], arith, length}
 use Rattle.std.specs.Prelude.{FitsSigned}
 use Rattle.std.proofs.lemmas.Int.{to_z-of_z}
+use Rattle.lists.proofs.ListsKit.{none_from}
 use Rattle.indexmap.proofs.CallerLemmas.{insert_entry-new}
 use Rattle.opl_reader.specs.declared.object.ObjectRef.{ObjectRef}
 use Rattle.opl_reader.specs.declared.object.Object.{Object}
@@ -12,7 +13,7 @@ use Rattle.osm_objects.specs.Plain.{node_from, nodes_from, AreRising}
 use Rattle.osm_objects.specs.Merged.{merged}
 use Rattle.osm_objects.proofs.MergedLemmas.{since_most}
 use Rattle.osm_objects.proofs.LookupLemmas.{lookup_none}
-use Rattle.osm_objects.proofs.StoreLemmas.{eq, At, at-live_ref, none-from, object-kept, kind-kept, KindsAgree-push, with_object-live}
+use Rattle.osm_objects.proofs.StoreLemmas.{eq, At, at-live_ref, object-kept, kind-kept, KindsAgree-push, with_object-live}
 use Rattle.osm_objects.proofs.AddLemmas.{dup_from, one_more_apart, node_last, node_fits, held_last, held_fits, nodes_length}
 use Rattle.osm_objects.proofs.store.Store.add.Goals as goal
 
@@ -41,7 +42,7 @@ invariant_of-self-then-is_above c =
     let nodes = c.self.inside.nodes.items in
     let others = c.self.inside.others.entries in
     let n = c.in-Some-plain_node.node in
-    let absent : object_at c.args.self.now of ≡ None = none-from (object_at c.args.self.now of) (sym (c.is_held.ensures of.id ∙ ap is_some c.find.ensures) ∙ c.if-is_held.false) in
+    let absent : object_at c.args.self.now of ≡ None = none_from (object_at c.args.self.now of) (sym (c.is_held.ensures of.id ∙ ap is_some c.find.ensures) ∙ c.if-is_held.false) in
     let is : ref_of (node_from n) ≡ of = ap ref_of c.in-Some-plain_node.ensures ∙ at.is in
     let here : object_at (merged (nodes_from nodes) (others_from others)) (ref_of (node_from n)) ≡ None = ap (object_at (merged (nodes_from nodes) (others_from others))) is ∙ ap (λ (objects : List Object). object_at objects of) c.self.view_is ∙ absent in
     let pushed = c.in_ok-push_node.ensures.ok in
@@ -70,7 +71,7 @@ invariant_of-self-2 c =
     let nodes = c.self.inside.nodes.items in
     let others = c.self.inside.others.entries in
     let placed : Placed = record { gap = c.self.inside.since; held = c.in_ok-held.held } in
-    let gone : object_at c.args.self.now of ≡ None = none-from (object_at c.args.self.now of) (sym (c.is_held.ensures of.id ∙ ap is_some c.find.ensures) ∙ c.if-is_held.false) in
+    let gone : object_at c.args.self.now of ≡ None = none_from (object_at c.args.self.now of) (sym (c.is_held.ensures of.id ∙ ap is_some c.find.ensures) ∙ c.if-is_held.false) in
     let none : object_at (merged (nodes_from nodes) (others_from others)) of ≡ None = ap (λ (objects : List Object). object_at objects of) c.self.view_is ∙ gone in
     let absent = lookup_none of nodes others c.self.invariant.1 c.self.invariant.3 none in
     let entries = c.in_ok-insert.ensures.entries ∙ insert_entry-new eq c.self.inside.others of placed absent in
@@ -91,7 +92,7 @@ returns-clause-added c =
     let nodes = c.self.inside.nodes.items in
     let others = c.self.inside.others.entries in
     let placed : Placed = record { gap = c.self.inside.since; held = c.in_ok-held.held } in
-    let gone : object_at c.args.self.now of ≡ None = none-from (object_at c.args.self.now of) (sym (c.is_held.ensures of.id ∙ ap is_some c.find.ensures) ∙ c.if-is_held.false) in
+    let gone : object_at c.args.self.now of ≡ None = none_from (object_at c.args.self.now of) (sym (c.is_held.ensures of.id ∙ ap is_some c.find.ensures) ∙ c.if-is_held.false) in
     let none : object_at (merged (nodes_from nodes) (others_from others)) of ≡ None = ap (λ (objects : List Object). object_at objects of) c.self.view_is ∙ gone in
     let absent = lookup_none of nodes others c.self.invariant.1 c.self.invariant.3 none in
     let entries = c.in_ok-insert.ensures.entries ∙ insert_entry-new eq c.self.inside.others of placed absent in
