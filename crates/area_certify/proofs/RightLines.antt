@@ -11,7 +11,8 @@ use Rattle.osm_text.specs.Wkt.{multipolygon_wkt}
 use Rattle.osm_area.specs.Sound.{IsSound}
 use Rattle.area_certify.specs.declared.verdict.IdChoice.{IdChoice}
 use Rattle.area_certify.specs.Areas.{HaveAreas}
-use Rattle.area_certify.specs.FirstWrong.{AreRight, EndsInNewline, IsFeature, IsRight, feature_id, tags_of}
+use Rattle.area_certify.specs.FirstWrong.{AreRight, EndsInNewline, IsFeature, IsRight, feature_id}
+use Rattle.osm_area.specs.Feature.{feature_tags}
 use Rattle.area_certify.proofs.ChosenItems.{those_append}
 
 -- ---- places
@@ -40,7 +41,7 @@ module _ (ids : IdChoice) (objects : List Object) where
 
   pub ends_in_newline : (counter : ℕ) (c : ObjectRef) (line : List ℕ) → IsFeature ids objects counter c line → EndsInNewline line
   ends_in_newline counter c line is =
-      (id_before (feature_id ids counter c) ++ multipolygon_wkt (paths_of is.polygons) ++ tags_text (tags_of (object_at objects c)), is.whole)
+      (id_before (feature_id ids counter c) ++ multipolygon_wkt (paths_of is.polygons) ++ tags_text (feature_tags (object_at objects c)), is.whole)
 
   -- the feature of the candidate at its place
   is_right : (areas later : List ObjectRef) (c : ObjectRef) (k : ℕ) (line : List ℕ) → length areas ≡ k → IsFeature ids objects (k + 1) c line →

@@ -17,7 +17,8 @@ use Rattle.area_certify.specs.declared.telling.Told.TheVariants.{NoArea, Right, 
 use Rattle.area_certify.specs.declared.verdict.IdChoice.{IdChoice}
 use Rattle.area_certify.specs.declared.verdict.Verdict.{Verdict}
 use Rattle.area_certify.specs.declared.verdict.Verdict.TheVariants.{Yes, No}
-use Rattle.area_certify.specs.FirstWrong.{HasNoWrongLine, IsFeature, IsFirstWrongLine, feature_id, tags_of}
+use Rattle.area_certify.specs.FirstWrong.{HasNoWrongLine, IsFeature, IsFirstWrongLine, feature_id}
+use Rattle.osm_area.specs.Feature.{feature_tags}
 use Rattle.area_certify.specs.Laws.{FirstWrongLineIsOne, VerdictsExclude}
 use Rattle.area_certify.specs.Lines.{text_lines}
 use Rattle.area_certify.specs.Telling.{IsAreaOf, IsTold, IsVerdict, Tells}
@@ -31,11 +32,11 @@ module _ (ids : IdChoice) (objects : List Object) (counter : ℕ) (c : ObjectRef
   told_lacking none = record { tells = (area.0, λ line later is feature. absurd (cc)) }
 
   module _ (one : OutcomeIsOne) (line : List ℕ) (rest : Bor (List ℕ)) (next : lines ≡ line ∷ text_lines rest.now) where
-    pub told_right : bytes_eq line (feature_text (feature_id ids counter c) (paths_of polygons) (tags_of (object_at objects c))) ≡ true →
+    pub told_right : bytes_eq line (feature_text (feature_id ids counter c) (paths_of polygons) (feature_tags (object_at objects c))) ≡ true →
         IsTold ids objects counter c lines (Right rest)
     told_right same = record { tells = (area.0, line, (is_feature_by one ids objects counter c polygons area.1 line area.2).0 same, next) }
 
-    pub told_wrong : bytes_eq line (feature_text (feature_id ids counter c) (paths_of polygons) (tags_of (object_at objects c))) ≡ false →
+    pub told_wrong : bytes_eq line (feature_text (feature_id ids counter c) (paths_of polygons) (feature_tags (object_at objects c))) ≡ false →
         IsTold ids objects counter c lines Wrong
     told_wrong other = record {
       tells = (

@@ -20,7 +20,8 @@ use Rattle.one_area.specs.Laws.{OutcomeIsOne}
 use Rattle.area_certify.specs.declared.verdict.IdChoice.{IdChoice}
 use Rattle.area_certify.specs.declared.verdict.Verdict.TheVariants.{Yes, No}
 use Rattle.area_certify.specs.Areas.{HaveAreas}
-use Rattle.area_certify.specs.FirstWrong.{AreRight, HasNoWrong, IsFeature, IsFirstWrong, IsRight, feature_id, lacking, not_right, tags_of}
+use Rattle.area_certify.specs.FirstWrong.{AreRight, HasNoWrong, IsFeature, IsFirstWrong, IsRight, feature_id, lacking, not_right}
+use Rattle.osm_area.specs.Feature.{feature_tags}
 use Rattle.area_certify.specs.Laws.{FirstWrongLineIsOne, TextsHaveAVerdict, VerdictsExclude}
 use Rattle.area_certify.specs.Lines.{text_lines}
 use Rattle.area_certify.specs.Telling.{IsVerdict}
@@ -125,8 +126,8 @@ later_areas exists exactly objects later = those_exist (IsSound objects) (sound_
 pub is_feature_by : OutcomeIsOne → (ids : IdChoice) (objects : List Object) (counter : ℕ) (c : ObjectRef) (polygons : List Polygon) (notes : List Note)
     (line : List ℕ) →
     IsOutcome objects c (Area polygons notes) →
-    (bytes_eq line (feature_text (feature_id ids counter c) (paths_of polygons) (tags_of (object_at objects c))) ≡ true → IsFeature ids objects counter c line)
-    × (bytes_eq line (feature_text (feature_id ids counter c) (paths_of polygons) (tags_of (object_at objects c))) ≡ false →
+    (bytes_eq line (feature_text (feature_id ids counter c) (paths_of polygons) (feature_tags (object_at objects c))) ≡ true → IsFeature ids objects counter c line)
+    × (bytes_eq line (feature_text (feature_id ids counter c) (paths_of polygons) (feature_tags (object_at objects c))) ≡ false →
     IsFeature ids objects counter c line → ⊥)
 is_feature_by one ids objects counter c polygons notes line right = (
   (λ same. record { polygons = polygons; notes = notes; right = right; whole = (bytes_eq-Decides line _).0 same }),
@@ -134,9 +135,9 @@ is_feature_by one ids objects counter c polygons notes line right = (
       let same : Area feature.polygons feature.notes ≡ Area polygons notes = one objects c (Area feature.polygons feature.notes)
       (Area polygons notes) feature.right right in
       let rings : feature.polygons ≡ polygons = cc in
-      let is : line ≡ feature_text (feature_id ids counter c) (paths_of polygons) (tags_of (object_at objects c)) =
-      feature.whole ∙ ap (λ ps. feature_text (feature_id ids counter c) (paths_of ps) (tags_of (object_at objects c))) rings in
-      let equal : bytes_eq line (feature_text (feature_id ids counter c) (paths_of polygons) (tags_of (object_at objects c))) ≡ true =
+      let is : line ≡ feature_text (feature_id ids counter c) (paths_of polygons) (feature_tags (object_at objects c)) =
+      feature.whole ∙ ap (λ ps. feature_text (feature_id ids counter c) (paths_of ps) (feature_tags (object_at objects c))) rings in
+      let equal : bytes_eq line (feature_text (feature_id ids counter c) (paths_of polygons) (feature_tags (object_at objects c))) ≡ true =
       (bytes_eq-Decides line _).1 is in
       absurd (cc)),
 )
@@ -154,7 +155,7 @@ module _ (exists : OutcomeExists) (exactly : HasAreaExactly) (one : OutcomeIsOne
     longer = subst HasVerdict (append_assoc first (c ∷ []) later)
 
     by_line : (line : List ℕ) (left : List (List ℕ)) (polygons : List Polygon) (notes : List Note) → IsOutcome objects c (Area polygons notes) →
-        (b : Bool) → bytes_eq line (feature_text (feature_id ids (count + 1) c) (paths_of polygons) (tags_of (object_at objects c))) ≡ b →
+        (b : Bool) → bytes_eq line (feature_text (feature_id ids (count + 1) c) (paths_of polygons) (feature_tags (object_at objects c))) ≡ b →
         IsSeen ids objects first lines (line ∷ left) count → HasVerdict (first ++ c ∷ later)
     by_line line left polygons notes right true same s =
         longer (go_on left (count + 1) (area_seen ids objects first c lines left count line s sound ((is_feature_by one ids objects
@@ -172,7 +173,7 @@ module _ (exists : OutcomeExists) (exactly : HasAreaExactly) (one : OutcomeIsOne
     by_lines [] polygons notes right s =
         inr (count + 1, stops ids objects lines count first later c sound (later_areas exists exactly objects later) [] s (λ l left is feature. absurd (cc)))
     by_lines (line ∷ left) polygons notes right s = by_line line left polygons notes right (bytes_eq line (feature_text (feature_id ids (count + 1) c)
-        (paths_of polygons) (tags_of (object_at objects c)))) refl s
+        (paths_of polygons) (feature_tags (object_at objects c)))) refl s
 
   by_outcome : (first later : List ObjectRef) (c : ObjectRef) (outcome : Outcome) → IsOutcome objects c outcome → (rest : List (List ℕ)) (count : ℕ) →
       ((left : List (List ℕ)) (n : ℕ) → IsSeen ids objects (first ++ c ∷ []) lines left n → HasVerdict ((first ++ c ∷ []) ++ later)) →

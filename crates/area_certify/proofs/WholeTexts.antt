@@ -17,7 +17,8 @@ use Rattle.osm_text.specs.Paths.{paths_of}
 use Rattle.osm_text.specs.Wkt.{multipolygon_wkt}
 use Rattle.area_certify.specs.declared.verdict.IdChoice.{IdChoice}
 use Rattle.area_certify.specs.Areas.{AreThose}
-use Rattle.area_certify.specs.FirstWrong.{HasNoWrong, IsFeature, feature_id, tags_of}
+use Rattle.area_certify.specs.FirstWrong.{HasNoWrong, IsFeature, feature_id}
+use Rattle.osm_area.specs.Feature.{feature_tags}
 use Rattle.area_certify.specs.Lines.{text_lines}
 use Rattle.area_certify.specs.RightTexts.{AreFeatures, RightTextsAreFeatures, RightTextsExist}
 use Rattle.area_certify.proofs.ClearTexts.{clear_feature, is_clear}
@@ -116,7 +117,7 @@ module _ (ids : IdChoice) (objects : List Object) where
       text_lines (feature ++ rest) ≡ feature ∷ text_lines rest
   one_line counter c feature rest is =
       let id = feature_id ids counter c in
-      let tags = tags_of (object_at objects c) in
+      let tags = feature_tags (object_at objects c) in
       subst (λ (line : List ℕ). text_lines (line ++ rest) ≡ line ∷ text_lines rest) (sym is.whole)
       (first_clear (id_before id ++ multipolygon_wkt (paths_of is.polygons) ++ tags_text tags) rest (clear_feature id (paths_of is.polygons) tags))
 
@@ -161,7 +162,7 @@ module _ (exists : OutcomeExists) (exactly : HasAreaExactly) (ids : IdChoice) (o
   with_feature : (counter : ℕ) (c : ObjectRef) (areas : List ObjectRef) (outcome : Outcome) → IsOutcome objects c outcome → IsSound objects c →
       ((text : List ℕ) × AreFeatures ids objects (counter + 1) areas text) → (text : List ℕ) × AreFeatures ids objects counter (c ∷ areas) text
   with_feature counter c areas (Area polygons notes) right sound others =
-      let feature = feature_text (feature_id ids counter c) (paths_of polygons) (tags_of (object_at objects c)) in
+      let feature = feature_text (feature_id ids counter c) (paths_of polygons) (feature_tags (object_at objects c)) in
       (feature ++ others.0, (feature, others.0, record { polygons = polygons; notes = notes; right = right; whole = refl }, others.1, refl))
   with_feature counter c areas (Problems list notes) right sound others = absurd (right.1 ((exactly objects c (Problems list notes) right).1 sound))
 

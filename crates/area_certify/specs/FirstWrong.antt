@@ -2,13 +2,13 @@
 use Rattle.std.specs.Prelude.{◌≡◌, ◌<◌, ◌+◌, ◌++◌, ℕ, List, [], length, slice_get, codes, Option, Some, None, option_map}
 use Rattle.opl_reader.specs.declared.object.Object.{Object}
 use Rattle.opl_reader.specs.declared.object.ObjectRef.{ObjectRef}
-use Rattle.opl_reader.specs.declared.object.Tag.{Tag}
 use Rattle.osm_objects.specs.declared.choice.Choice.{Choice}
 use Rattle.osm_objects.specs.declared.problem.Note.{Note}
 use Rattle.osm_objects.specs.AreaIds.{area_id}
-use Rattle.osm_objects.specs.Candidates.{area_tags, candidates}
+use Rattle.osm_objects.specs.Candidates.{candidates}
 use Rattle.osm_objects.specs.Objects.{object_at}
 use Rattle.osm_area.specs.declared.outcome.Outcome.TheVariants.{Area}
+use Rattle.osm_area.specs.Feature.{feature_tags}
 use Rattle.osm_area.specs.Outcome.{IsOutcome}
 use Rattle.osm_nest.specs.declared.polygon.Polygon.{Polygon}
 use Rattle.osm_text.specs.declared.feature_id.FeatureId.{FeatureId}
@@ -28,17 +28,12 @@ feature_id NoId counter candidate = None
 feature_id Counter counter candidate = Some (id.Counter counter)
 feature_id TypeId counter candidate = option_map id.Area (area_id candidate)
 
--- the tags of a candidate's area
-abbrev pub tags_of : Option Object → List Tag
-tags_of None = []
-tags_of (Some object) = area_tags object
-
 -- the line, with its LF, is the feature of the candidate's area over some polygons that come of it
 pub record IsFeature (ids : IdChoice) (objects : List Object) (counter : ℕ) (candidate : ObjectRef) (line : List ℕ) : Type 0 where
   pub polygons : List Polygon
   pub notes : List Note
   pub right : IsOutcome objects candidate (Area polygons notes)
-  pub whole : line ≡ feature_text (feature_id ids counter candidate) (paths_of polygons) (tags_of (object_at objects candidate))
+  pub whole : line ≡ feature_text (feature_id ids counter candidate) (paths_of polygons) (feature_tags (object_at objects candidate))
 
 abbrev pub EndsInNewline : List ℕ → Type 0
 EndsInNewline line = (front : List ℕ) × (line ≡ front ++ codes "\n")

@@ -4,7 +4,8 @@ ghost use Rattle.std.specs.Prelude.{◌≡◌, IfOk, IsSome, bytes_eq};
 ghost use Rattle.osm_objects.specs.Objects.{object_at};
 ghost use Rattle.osm_text.specs.Feature.{feature_text};
 ghost use Rattle.osm_text.specs.Paths.{paths_of};
-ghost use Rattle.area_certify.specs.FirstWrong.{feature_id, tags_of};
+ghost use Rattle.area_certify.specs.FirstWrong.{feature_id};
+ghost use Rattle.osm_area.specs.Feature.{feature_tags};
 
 use crate::verdict::IdChoice;
 use opl_reader::ObjectRef;
@@ -37,7 +38,7 @@ pub(crate) fn is_feature(
     requires held { IsSome (object_at store.now candidate) }
     ensures { IfOk result (λ is. is ≡ bytes_eq line.now
         (feature_text (feature_id ids counter candidate) (paths_of polygons.now)
-        (tags_of (object_at store.now candidate)))) }
+        (feature_tags (object_at store.now candidate)))) }
 {
     let tags = store.area_tags(alloc, candidate)?;
     let id = feature_id(ids, counter, candidate);

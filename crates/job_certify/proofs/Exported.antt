@@ -23,9 +23,10 @@ use Rattle.osm_job.specs.Whole.{Whole}
 use Rattle.osm_job.proofs.Writes.{piece_out}
 use Rattle.area_certify.specs.declared.verdict.IdChoice.{IdChoice}
 use Rattle.area_certify.specs.Areas.{AreThose, HaveAreas}
-use Rattle.area_certify.specs.FirstWrong.{IsFeature, feature_id as certified_id, tags_of as certified_tags}
+use Rattle.area_certify.specs.FirstWrong.{IsFeature, feature_id as certified_id}
 use Rattle.area_certify.specs.RightTexts.{AreFeatures, IsRightText, RightTextsAreFeatures}
-use Rattle.job_export.specs.Entry.{Entry, IsEntry, entries_sent, feature_id, features_in, piece_of, tags_of}
+use Rattle.job_export.specs.Entry.{Entry, IsEntry, entries_sent, feature_id, features_in, piece_of}
+use Rattle.osm_area.specs.Feature.{feature_tags}
 use Rattle.job_export.specs.Export.{IsExport, finished, finished_whole, stopped}
 use Rattle.job_certify.specs.Certify.{choice_of, id_choice}
 use Rattle.job_certify.specs.Exported.{export_of}
@@ -37,10 +38,6 @@ never : false ≡ true → ⊥
 never h = cc
 
 -- ---- one feature
-
-same_tags : (held : Option Object) → tags_of held ≡ certified_tags held
-same_tags None = refl
-same_tags (Some object) = refl
 
 same_id : (ids : Option UniqueId) (earlier : ℕ) (c : ObjectRef) → feature_id ids earlier c ≡ certified_id (id_choice ids) (earlier + 1) c
 same_id None earlier c = refl
@@ -61,15 +58,15 @@ module _ (settings : CertifySettings) (objects : List Object) where
   -- the piece of an area is its feature
   piece_is : (earlier : ℕ) (c : ObjectRef) (polygons : List Polygon) (notes : List Note) →
       piece_of exported objects earlier c (Area polygons notes)
-      ≡ feature_text (certified_id ids (earlier + 1) c) (paths_of polygons) (certified_tags (object_at objects c))
+      ≡ feature_text (certified_id ids (earlier + 1) c) (paths_of polygons) (feature_tags (object_at objects c))
   piece_is earlier c polygons notes =
-      append-nil (feature_text (feature_id settings.ids earlier c) (paths_of polygons) (tags_of (object_at objects c)))
+      append-nil (feature_text (feature_id settings.ids earlier c) (paths_of polygons) (feature_tags (object_at objects c)))
       ∙ ap₂ (λ (id : Option FeatureId) (tags : List Tag). feature_text id (paths_of polygons) tags)
       (same_id settings.ids earlier c) (same_tags (object_at objects c))
 
   area_out : (earlier : ℕ) (c : ObjectRef) (polygons : List Polygon) (notes : List Note) (report : List ℕ) (es : List Entry) →
       out earlier (record { candidate = c; outcome = Area polygons notes; report = report } ∷ es)
-      ≡ feature_text (certified_id ids (earlier + 1) c) (paths_of polygons) (certified_tags (object_at objects c)) ++ out (earlier + 1) es
+      ≡ feature_text (certified_id ids (earlier + 1) c) (paths_of polygons) (feature_tags (object_at objects c)) ++ out (earlier + 1) es
   area_out earlier c polygons notes report es =
       piece_out (piece_of exported objects earlier c (Area polygons notes)) report (entries_sent exported objects (earlier + 1) es)
       ∙ ap (λ (xs : List ℕ). xs ++ out (earlier + 1) es) (piece_is earlier c polygons notes)
@@ -93,13 +90,13 @@ module _ (settings : CertifySettings) (objects : List Object) where
 
     with_area : (earlier : ℕ) (c : ObjectRef) (cs : List ObjectRef) (polygons : List Polygon) (notes : List Note) (rest text : List ℕ) →
         IsOutcome objects c (Area polygons notes) →
-        text ≡ feature_text (certified_id ids (earlier + 1) c) (paths_of polygons) (certified_tags (object_at objects c)) ++ rest →
+        text ≡ feature_text (certified_id ids (earlier + 1) c) (paths_of polygons) (feature_tags (object_at objects c)) ++ rest →
         HaveFeatures (earlier + 1) cs rest → HaveFeatures earlier (c ∷ cs) text
     with_area earlier c cs polygons notes rest text right is more = (
       c ∷ more.0,
       inl ((exactly objects c (Area polygons notes) right).0 refl, more.0, more.1, refl),
       (
-        feature_text (certified_id ids (earlier + 1) c) (paths_of polygons) (certified_tags (object_at objects c)),
+        feature_text (certified_id ids (earlier + 1) c) (paths_of polygons) (feature_tags (object_at objects c)),
         rest,
         record { polygons = polygons; notes = notes; right = right; whole = refl },
         more.2,

@@ -6,10 +6,10 @@ use Rattle.opl_reader.specs.declared.object.ObjectRef.{ObjectRef}
 use Rattle.opl_reader.specs.declared.object.Tag.{Tag}
 use Rattle.osm_objects.specs.declared.problem.Problem.{Problem}
 use Rattle.osm_objects.specs.AreaIds.{area_id}
-use Rattle.osm_objects.specs.Candidates.{area_tags}
 use Rattle.osm_objects.specs.Objects.{object_at}
 use Rattle.osm_area.specs.declared.outcome.Outcome.{Outcome}
 use Rattle.osm_area.specs.declared.outcome.Outcome.TheVariants.{Area, Problems}
+use Rattle.osm_area.specs.Feature.{feature_tags}
 use Rattle.osm_area.specs.Outcome.{IsOutcome}
 use Rattle.osm_nest.specs.declared.polygon.Polygon.{Polygon}
 use Rattle.osm_text.specs.Paths.{paths_of}
@@ -28,11 +28,6 @@ use Rattle.osm_job.specs.Sent.{Sent, to_output, to_report}
 
 -- ---- output
 
--- the tags of a candidate's area
-abbrev pub tags_of : Option Object → List Tag
-tags_of None = []
-tags_of (Some object) = area_tags object
-
 -- the id of a candidate's feature with `earlier` features before it
 abbrev pub feature_id : Option UniqueId → ℕ → ObjectRef → Option FeatureId
 feature_id None earlier candidate = None
@@ -47,7 +42,7 @@ feature_in GeoJsonSeq id polygons tags = feature_json id (paths_of polygons) tag
 -- the feature of an area with what stands around it; nothing where there are problems
 abbrev pub piece_of : ExportSettings → List Object → ℕ → ObjectRef → Outcome → List ℕ
 piece_of settings objects earlier candidate (Area polygons notes) =
-    framed settings earlier (feature_in settings.format (feature_id settings.ids earlier candidate) polygons (tags_of (object_at objects candidate)))
+    framed settings earlier (feature_in settings.format (feature_id settings.ids earlier candidate) polygons (feature_tags (object_at objects candidate)))
 piece_of settings objects earlier candidate (Problems list notes) = []
 
 -- an area has one feature

@@ -4,7 +4,8 @@ ghost use Rattle.std.specs.Prelude.{◌≡◌, All, IfOk, IfSome, IsSome, OnErr,
 ghost use Rattle.std.specs.List.{flat_map};
 ghost use Rattle.job_export.specs.Entries.{shown, IsAdditionOf, AddsProblems};
 ghost use Rattle.osm_job.specs.Sent.{lines_text};
-ghost use Rattle.job_export.specs.Entry.{feature_id, feature_in, tags_of};
+ghost use Rattle.job_export.specs.Entry.{feature_id, feature_in};
+ghost use Rattle.osm_area.specs.Feature.{feature_tags};
 ghost use Rattle.job_export.specs.Framing.{framed};
 ghost use Rattle.osm_notation.specs.Kept.{Keeps};
 ghost use Rattle.osm_objects.specs.Objects.{object_at};
@@ -73,7 +74,7 @@ fn put_feature(
 
 /// The tags of a candidate that is a way, lent.
 fn lent_tags<'a>(store: &'a Store, candidate: ObjectRef) -> Option<&'a Tags>
-    ensures { IfSome result (λ tags. tags.now ≡ tags_of (object_at store.now candidate)) }
+    ensures { IfSome result (λ tags. tags.now ≡ feature_tags (object_at store.now candidate)) }
 {
     match candidate.kind {
         ObjectKind::Way => match store.way(candidate.id) {
@@ -96,7 +97,7 @@ fn put_feature_of(
 ) -> Result<(), OutOfMemory>
     requires { IsSome (object_at store.now candidate) }
     ensures text { OnOk result (text.new.items ≡ text.old.items
-        ++ feature_in format id polygons.now (tags_of (object_at store.now candidate))) }
+        ++ feature_in format id polygons.now (feature_tags (object_at store.now candidate))) }
     ensures kept { OnErr result (Keeps text.old.items text.new.items) }
 {
     if let Some(tags) = lent_tags(store, candidate) {
@@ -121,7 +122,7 @@ fn put_framed(
     ensures { OnOk result (text.new.items ≡ text.old.items
         ++ framed (settings_seen settings.now) earlier
         (feature_in settings.now.format (feature_id settings.now.ids earlier candidate)
-        polygons.now (tags_of (object_at store.now candidate)))) }
+        polygons.now (feature_tags (object_at store.now candidate)))) }
 {
     let id = feature_id(settings.ids, earlier, candidate);
     let before = before_feature(settings.format, settings.omit_rs, earlier);
