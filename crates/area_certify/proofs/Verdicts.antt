@@ -1,5 +1,5 @@
 -- The verdict on a text: it is there, and there is one alone.
-use Rattle.std.proofs.Common.{◌≡◌, ◌∙◌, refl, sym, ap, subst, ℕ, ◌+◌, ◌<◌, Bool, true, false, List, [], ◌∷◌, ◌++◌, ◌⊎◌, inl, inr, ⊎_elim, length, Some, slice_get, append_assoc, append-nil, length-append, bytes_eq, arith}
+use Rattle.std.proofs.Common.{◌≡◌, ◌∙◌, refl, sym, ap, subst, ℕ, ◌+◌, ◌<◌, Bool, true, false, List, [], ◌∷◌, ◌++◌, ◌⊎◌, inl, inr, ⊎_elim, length, Some, slice_get, append_assoc, append-nil, length-append, bytes_eq, arith, Option}
 use Rattle.std.proofs.lemmas.Bool.{cases_lt}
 use Rattle.std.proofs.lemmas.Option.{slice_get_within}
 use Rattle.std.proofs.lemmas.Slice.Eq.{bytes_eq-Decides}
@@ -17,10 +17,11 @@ use Rattle.osm_nest.specs.declared.polygon.Polygon.{Polygon}
 use Rattle.osm_text.specs.Feature.{feature_text}
 use Rattle.osm_text.specs.Paths.{paths_of}
 use Rattle.one_area.specs.Laws.{OutcomeIsOne}
-use Rattle.area_certify.specs.declared.verdict.IdChoice.{IdChoice}
+use Rattle.osm_objects.specs.declared.area.UniqueId.{UniqueId}
 use Rattle.area_certify.specs.declared.verdict.Verdict.TheVariants.{Yes, No}
 use Rattle.area_certify.specs.Areas.{HaveAreas}
-use Rattle.area_certify.specs.FirstWrong.{AreRight, HasNoWrong, IsFeature, IsFirstWrong, IsRight, feature_id, lacking, not_right}
+use Rattle.area_certify.specs.FirstWrong.{AreRight, HasNoWrong, IsFeature, IsFirstWrong, IsRight, lacking, not_right}
+use Rattle.osm_text.specs.Id.{feature_id}
 use Rattle.osm_area.specs.Feature.{feature_tags}
 use Rattle.area_certify.specs.Laws.{FirstWrongLineIsOne, TextsHaveAVerdict, VerdictsExclude}
 use Rattle.area_certify.specs.Lines.{text_lines}
@@ -30,7 +31,7 @@ use Rattle.area_certify.proofs.RightLines.{IsSeen, area_seen, get_middle, its_fe
 
 -- ---- one alone
 
-module _ (ids : IdChoice) (objects : List Object) (areas : List ObjectRef) (lines : List (List ℕ)) where
+module _ (ids : Option UniqueId) (objects : List Object) (areas : List ObjectRef) (lines : List (List ℕ)) where
   -- a line within the right ones is right
   clash : (count k : ℕ) (line : List ℕ) → AreRight ids objects areas lines count → k < count → slice_get lines k ≡ Some line →
       (IsRight ids objects areas k line → ⊥) → ⊥
@@ -63,7 +64,7 @@ not_both choice ids objects text n a b =
 
 -- ---- how it ends
 
-module _ (ids : IdChoice) (objects : List Object) (lines : List (List ℕ)) (count : ℕ) where
+module _ (ids : Option UniqueId) (objects : List Object) (lines : List (List ℕ)) (count : ℕ) where
   module _ (first later : List ObjectRef) (c : ObjectRef) (sound : IsSound objects c) (others : (areas : List ObjectRef) × HaveAreas objects later areas) where
     all_areas : (rest : List (List ℕ)) (s : IsSeen ids objects first lines rest count) → HaveAreas objects (first ++ c ∷ later) (s.areas ++ c ∷ others.0)
     all_areas rest s = those_append (IsSound objects) first (c ∷ later) s.areas (c ∷ others.0) s.those (inl (sound, others.0, others.1, refl))
@@ -123,7 +124,7 @@ pub later_areas : OutcomeExists → HasAreaExactly → (objects : List Object) (
 later_areas exists exactly objects later = those_exist (IsSound objects) (sound_or_not exists exactly objects) later
 
 -- a line is the feature over these polygons, or over none
-pub is_feature_by : OutcomeIsOne → (ids : IdChoice) (objects : List Object) (counter : ℕ) (c : ObjectRef) (polygons : List Polygon) (notes : List Note)
+pub is_feature_by : OutcomeIsOne → (ids : Option UniqueId) (objects : List Object) (counter : ℕ) (c : ObjectRef) (polygons : List Polygon) (notes : List Note)
     (line : List ℕ) →
     IsOutcome objects c (Area polygons notes) →
     (bytes_eq line (feature_text (feature_id ids counter c) (paths_of polygons) (feature_tags (object_at objects c))) ≡ true → IsFeature ids objects counter c line)
@@ -144,7 +145,7 @@ is_feature_by one ids objects counter c polygons notes line right = (
 
 -- ---- the verdict
 
-module _ (exists : OutcomeExists) (exactly : HasAreaExactly) (one : OutcomeIsOne) (ids : IdChoice) (objects : List Object) (lines : List (List ℕ)) where
+module _ (exists : OutcomeExists) (exactly : HasAreaExactly) (one : OutcomeIsOne) (ids : Option UniqueId) (objects : List Object) (lines : List (List ℕ)) where
   abbrev HasVerdict : List ObjectRef → Type 0
   HasVerdict all = IsVerdict ids objects all lines Yes ⊎ ((n : ℕ) × IsVerdict ids objects all lines (No n))
 
