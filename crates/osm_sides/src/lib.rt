@@ -13,3 +13,4 @@ mod tests;
 pub use directions::{direct, direct_along};
 pub use laws::directing_is_sided;
 pub use osm_stab::{PlainStab, Stab};
+pub use sides::is_left_of;
