@@ -1,6 +1,7 @@
 //! Which rings are outer and which inner, and which inner ring lies under which outer one: the polygons of a ring list.
 #![tactic(auto)]
 
+mod cutting;
 mod enclosers;
 #[cfg(test)]
 mod fraction_tests;
@@ -20,6 +21,7 @@ mod swept_enclosers;
 #[cfg(test)]
 mod tests;
 
+pub use cutting::polygons;
 pub use grouping::{nest, nest_rings};
 pub use laws::{
     nested_cover_as_rings, nested_have_kinds, nesting_exists, rings_are_clear, rings_may_be_nested,
