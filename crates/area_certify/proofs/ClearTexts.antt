@@ -8,8 +8,8 @@ use Rattle.opl_reader.specs.declared.object.Tag.{Tag}
 use Rattle.osm_lattice.specs.declared.loc.Loc.{Loc}
 use Rattle.osm_notation.specs.Coordinates.{point_text}
 use Rattle.osm_notation.specs.Decimal.{fraction, last_digits, magnitude_text, units_text, without_end_zeros}
-use Rattle.osm_notation.specs.Written.{is_plain, written, written_char}
-use Rattle.osm_text.specs.Feature.{id_before, tag_text, tags_text}
+use Rattle.osm_notation.specs.Written.{is_plain, tag_text, written, written_char}
+use Rattle.osm_text.specs.Feature.{id_before, tags_text}
 use Rattle.osm_text.specs.Id.{id_text}
 use Rattle.osm_text.specs.Wkt.{in_parentheses, multipolygon_wkt, polygon_wkt, ring_wkt}
 use Rattle.osm_text.specs.declared.feature_id.FeatureId.{FeatureId}

@@ -1,5 +1,5 @@
 -- What the first candidates say of the first lines of a text, and one candidate more.
-use Rattle.std.proofs.Common.{◌≡◌, ◌∙◌, refl, sym, ap, subst, ℕ, zero, suc, ◌+◌, List, [], ◌∷◌, ◌++◌, inl, inr, ⊎_elim, length, Some, slice_get, append_assoc, append-nil, length-append, arith}
+use Rattle.std.proofs.Common.{◌≡◌, ◌∙◌, refl, sym, ap, subst, ℕ, zero, suc, ◌+◌, List, [], ◌∷◌, ◌++◌, inl, inr, ⊎_elim, length, Some, slice_get, append_assoc, append-nil, length-append, arith, Option}
 use Rattle.std.proofs.lemmas.Bool.{cases_lt}
 use Rattle.std.proofs.lemmas.Option.{same_Some}
 use Rattle.opl_reader.specs.declared.object.Object.{Object}
@@ -9,9 +9,11 @@ use Rattle.osm_text.specs.Feature.{id_before, tags_text}
 use Rattle.osm_text.specs.Paths.{paths_of}
 use Rattle.osm_text.specs.Wkt.{multipolygon_wkt}
 use Rattle.osm_area.specs.Sound.{IsSound}
-use Rattle.area_certify.specs.declared.verdict.IdChoice.{IdChoice}
+use Rattle.osm_objects.specs.declared.area.UniqueId.{UniqueId}
 use Rattle.area_certify.specs.Areas.{HaveAreas}
-use Rattle.area_certify.specs.FirstWrong.{AreRight, EndsInNewline, IsFeature, IsRight, feature_id, tags_of}
+use Rattle.area_certify.specs.FirstWrong.{AreRight, EndsInNewline, IsFeature, IsRight}
+use Rattle.osm_text.specs.Id.{feature_id}
+use Rattle.osm_area.specs.Feature.{feature_tags}
 use Rattle.area_certify.proofs.ChosenItems.{those_append}
 
 -- ---- places
@@ -27,7 +29,7 @@ get_middle [] ys y (suc k) is = absurd (omega arith)
 get_middle (x ∷ xs) ys y zero is = absurd (omega arith)
 get_middle (x ∷ xs) ys y (suc k) is = get_middle xs ys y k (omega arith)
 
-module _ (ids : IdChoice) (objects : List Object) where
+module _ (ids : Option UniqueId) (objects : List Object) where
   -- ---- right lines
 
   more_areas : (areas later : List ObjectRef) (k : ℕ) (line : List ℕ) → IsRight ids objects areas k line → IsRight ids objects (areas ++ later) k line
@@ -40,7 +42,7 @@ module _ (ids : IdChoice) (objects : List Object) where
 
   pub ends_in_newline : (counter : ℕ) (c : ObjectRef) (line : List ℕ) → IsFeature ids objects counter c line → EndsInNewline line
   ends_in_newline counter c line is =
-      (id_before (feature_id ids counter c) ++ multipolygon_wkt (paths_of is.polygons) ++ tags_text (tags_of (object_at objects c)), is.whole)
+      (id_before (feature_id ids counter c) ++ multipolygon_wkt (paths_of is.polygons) ++ tags_text (feature_tags (object_at objects c)), is.whole)
 
   -- the feature of the candidate at its place
   is_right : (areas later : List ObjectRef) (c : ObjectRef) (k : ℕ) (line : List ℕ) → length areas ≡ k → IsFeature ids objects (k + 1) c line →

@@ -1,5 +1,5 @@
 -- What a candidate with an area tells of the lines that are left, and what the verdict then is.
-use Rattle.std.proofs.Common.{◌≡◌, ◌∙◌, ◌↔◌, refl, sym, ap, subst, ℕ, ◌+◌, true, false, List, [], ◌∷◌, ◌++◌, length, take, drop, get_or, Some, Result, IfOk, append_assoc, take-append-drop, bytes_eq, Bor, ◌<◌, ◌≤◌, arith}
+use Rattle.std.proofs.Common.{◌≡◌, ◌∙◌, ◌↔◌, refl, sym, ap, subst, ℕ, ◌+◌, true, false, List, [], ◌∷◌, ◌++◌, length, take, drop, get_or, Some, Result, IfOk, append_assoc, take-append-drop, bytes_eq, Bor, ◌<◌, ◌≤◌, arith, Option}
 use Rattle.std.proofs.lemmas.List.{take_all, take_more}
 use Rattle.std.proofs.lemmas.Result.{IfOk-weaker}
 use Rattle.opl_reader.specs.declared.object.Object.{Object}
@@ -14,10 +14,12 @@ use Rattle.osm_text.specs.Paths.{paths_of}
 use Rattle.one_area.specs.Laws.{OutcomeIsOne}
 use Rattle.area_certify.specs.declared.telling.Told.{Told}
 use Rattle.area_certify.specs.declared.telling.Told.TheVariants.{NoArea, Right, Wrong}
-use Rattle.area_certify.specs.declared.verdict.IdChoice.{IdChoice}
+use Rattle.osm_objects.specs.declared.area.UniqueId.{UniqueId}
 use Rattle.area_certify.specs.declared.verdict.Verdict.{Verdict}
 use Rattle.area_certify.specs.declared.verdict.Verdict.TheVariants.{Yes, No}
-use Rattle.area_certify.specs.FirstWrong.{HasNoWrongLine, IsFeature, IsFirstWrongLine, feature_id, tags_of}
+use Rattle.area_certify.specs.FirstWrong.{HasNoWrongLine, IsFeature, IsFirstWrongLine}
+use Rattle.osm_text.specs.Id.{feature_id}
+use Rattle.osm_area.specs.Feature.{feature_tags}
 use Rattle.area_certify.specs.Laws.{FirstWrongLineIsOne, VerdictsExclude}
 use Rattle.area_certify.specs.Lines.{text_lines}
 use Rattle.area_certify.specs.Telling.{IsAreaOf, IsTold, IsVerdict, Tells}
@@ -25,17 +27,17 @@ use Rattle.area_certify.proofs.LineCuts.{some_line}
 use Rattle.area_certify.proofs.RightLines.{IsSeen, area_seen, no_area_seen}
 use Rattle.area_certify.proofs.Verdicts.{is_feature_by, later_areas, line_too_many, stops}
 
-module _ (ids : IdChoice) (objects : List Object) (counter : ℕ) (c : ObjectRef) (polygons : List Polygon) (area : IsAreaOf objects c (Some polygons))
+module _ (ids : Option UniqueId) (objects : List Object) (counter : ℕ) (c : ObjectRef) (polygons : List Polygon) (area : IsAreaOf objects c (Some polygons))
     (lines : List (List ℕ)) where
   pub told_lacking : lines ≡ [] → IsTold ids objects counter c lines Wrong
   told_lacking none = record { tells = (area.0, λ line later is feature. absurd (cc)) }
 
   module _ (one : OutcomeIsOne) (line : List ℕ) (rest : Bor (List ℕ)) (next : lines ≡ line ∷ text_lines rest.now) where
-    pub told_right : bytes_eq line (feature_text (feature_id ids counter c) (paths_of polygons) (tags_of (object_at objects c))) ≡ true →
+    pub told_right : bytes_eq line (feature_text (feature_id ids counter c) (paths_of polygons) (feature_tags (object_at objects c))) ≡ true →
         IsTold ids objects counter c lines (Right rest)
     told_right same = record { tells = (area.0, line, (is_feature_by one ids objects counter c polygons area.1 line area.2).0 same, next) }
 
-    pub told_wrong : bytes_eq line (feature_text (feature_id ids counter c) (paths_of polygons) (tags_of (object_at objects c))) ≡ false →
+    pub told_wrong : bytes_eq line (feature_text (feature_id ids counter c) (paths_of polygons) (feature_tags (object_at objects c))) ≡ false →
         IsTold ids objects counter c lines Wrong
     told_wrong other = record {
       tells = (
@@ -47,7 +49,7 @@ module _ (ids : IdChoice) (objects : List Object) (counter : ℕ) (c : ObjectRef
 
 -- ---- one candidate more
 
-module _ (ids : IdChoice) (objects : List Object) (lines : List (List ℕ)) (cs : List ObjectRef) (k : ℕ) (count : ℕ) (now : Bor (List ℕ))
+module _ (ids : Option UniqueId) (objects : List Object) (lines : List (List ℕ)) (cs : List ObjectRef) (k : ℕ) (count : ℕ) (now : Bor (List ℕ))
     (seen : IsSeen ids objects (take k cs) lines (text_lines now.now) count) where
   module _ (d : ObjectRef) (lt : k < length cs) (t : Told) (told : IsTold ids objects (count + 1) (get_or cs k d) (text_lines now.now) t) where
     abbrev c : ObjectRef
@@ -97,7 +99,7 @@ module _ (ids : IdChoice) (objects : List Object) (lines : List (List ℕ)) (cs 
 
 -- ---- the verdict
 
-module _ (one : FirstWrongLineIsOne) (apart : VerdictsExclude) (choice : Choice) (ids : IdChoice) (objects : List Object) (text : List ℕ) where
+module _ (one : FirstWrongLineIsOne) (apart : VerdictsExclude) (choice : Choice) (ids : Option UniqueId) (objects : List Object) (text : List ℕ) where
   pub yes_exactly : (v : Verdict) → IsVerdict ids objects (candidates choice objects) (text_lines text) v → (v ≡ Yes) ↔ HasNoWrongLine choice ids objects text
   yes_exactly Yes given = ((λ is. given), (λ none. refl))
   yes_exactly (No n) given = ((λ is. absurd (cc)), (λ none. absurd (apart choice ids objects text n none given)))

@@ -1,5 +1,5 @@
 -- The verdict on a text: it is there, and there is one alone.
-use Rattle.std.proofs.Common.{◌≡◌, ◌∙◌, refl, sym, ap, subst, ℕ, ◌+◌, ◌<◌, Bool, true, false, List, [], ◌∷◌, ◌++◌, ◌⊎◌, inl, inr, ⊎_elim, length, Some, slice_get, append_assoc, append-nil, length-append, bytes_eq, arith}
+use Rattle.std.proofs.Common.{◌≡◌, ◌∙◌, refl, sym, ap, subst, ℕ, ◌+◌, ◌<◌, Bool, true, false, List, [], ◌∷◌, ◌++◌, ◌⊎◌, inl, inr, ⊎_elim, length, Some, slice_get, append_assoc, append-nil, length-append, bytes_eq, arith, Option}
 use Rattle.std.proofs.lemmas.Bool.{cases_lt}
 use Rattle.std.proofs.lemmas.Option.{slice_get_within}
 use Rattle.std.proofs.lemmas.Slice.Eq.{bytes_eq-Decides}
@@ -17,10 +17,12 @@ use Rattle.osm_nest.specs.declared.polygon.Polygon.{Polygon}
 use Rattle.osm_text.specs.Feature.{feature_text}
 use Rattle.osm_text.specs.Paths.{paths_of}
 use Rattle.one_area.specs.Laws.{OutcomeIsOne}
-use Rattle.area_certify.specs.declared.verdict.IdChoice.{IdChoice}
+use Rattle.osm_objects.specs.declared.area.UniqueId.{UniqueId}
 use Rattle.area_certify.specs.declared.verdict.Verdict.TheVariants.{Yes, No}
 use Rattle.area_certify.specs.Areas.{HaveAreas}
-use Rattle.area_certify.specs.FirstWrong.{AreRight, HasNoWrong, IsFeature, IsFirstWrong, IsRight, feature_id, lacking, not_right, tags_of}
+use Rattle.area_certify.specs.FirstWrong.{AreRight, HasNoWrong, IsFeature, IsFirstWrong, IsRight, lacking, not_right}
+use Rattle.osm_text.specs.Id.{feature_id}
+use Rattle.osm_area.specs.Feature.{feature_tags}
 use Rattle.area_certify.specs.Laws.{FirstWrongLineIsOne, TextsHaveAVerdict, VerdictsExclude}
 use Rattle.area_certify.specs.Lines.{text_lines}
 use Rattle.area_certify.specs.Telling.{IsVerdict}
@@ -29,7 +31,7 @@ use Rattle.area_certify.proofs.RightLines.{IsSeen, area_seen, get_middle, its_fe
 
 -- ---- one alone
 
-module _ (ids : IdChoice) (objects : List Object) (areas : List ObjectRef) (lines : List (List ℕ)) where
+module _ (ids : Option UniqueId) (objects : List Object) (areas : List ObjectRef) (lines : List (List ℕ)) where
   -- a line within the right ones is right
   clash : (count k : ℕ) (line : List ℕ) → AreRight ids objects areas lines count → k < count → slice_get lines k ≡ Some line →
       (IsRight ids objects areas k line → ⊥) → ⊥
@@ -62,7 +64,7 @@ not_both choice ids objects text n a b =
 
 -- ---- how it ends
 
-module _ (ids : IdChoice) (objects : List Object) (lines : List (List ℕ)) (count : ℕ) where
+module _ (ids : Option UniqueId) (objects : List Object) (lines : List (List ℕ)) (count : ℕ) where
   module _ (first later : List ObjectRef) (c : ObjectRef) (sound : IsSound objects c) (others : (areas : List ObjectRef) × HaveAreas objects later areas) where
     all_areas : (rest : List (List ℕ)) (s : IsSeen ids objects first lines rest count) → HaveAreas objects (first ++ c ∷ later) (s.areas ++ c ∷ others.0)
     all_areas rest s = those_append (IsSound objects) first (c ∷ later) s.areas (c ∷ others.0) s.those (inl (sound, others.0, others.1, refl))
@@ -122,11 +124,11 @@ pub later_areas : OutcomeExists → HasAreaExactly → (objects : List Object) (
 later_areas exists exactly objects later = those_exist (IsSound objects) (sound_or_not exists exactly objects) later
 
 -- a line is the feature over these polygons, or over none
-pub is_feature_by : OutcomeIsOne → (ids : IdChoice) (objects : List Object) (counter : ℕ) (c : ObjectRef) (polygons : List Polygon) (notes : List Note)
+pub is_feature_by : OutcomeIsOne → (ids : Option UniqueId) (objects : List Object) (counter : ℕ) (c : ObjectRef) (polygons : List Polygon) (notes : List Note)
     (line : List ℕ) →
     IsOutcome objects c (Area polygons notes) →
-    (bytes_eq line (feature_text (feature_id ids counter c) (paths_of polygons) (tags_of (object_at objects c))) ≡ true → IsFeature ids objects counter c line)
-    × (bytes_eq line (feature_text (feature_id ids counter c) (paths_of polygons) (tags_of (object_at objects c))) ≡ false →
+    (bytes_eq line (feature_text (feature_id ids counter c) (paths_of polygons) (feature_tags (object_at objects c))) ≡ true → IsFeature ids objects counter c line)
+    × (bytes_eq line (feature_text (feature_id ids counter c) (paths_of polygons) (feature_tags (object_at objects c))) ≡ false →
     IsFeature ids objects counter c line → ⊥)
 is_feature_by one ids objects counter c polygons notes line right = (
   (λ same. record { polygons = polygons; notes = notes; right = right; whole = (bytes_eq-Decides line _).0 same }),
@@ -134,16 +136,16 @@ is_feature_by one ids objects counter c polygons notes line right = (
       let same : Area feature.polygons feature.notes ≡ Area polygons notes = one objects c (Area feature.polygons feature.notes)
       (Area polygons notes) feature.right right in
       let rings : feature.polygons ≡ polygons = cc in
-      let is : line ≡ feature_text (feature_id ids counter c) (paths_of polygons) (tags_of (object_at objects c)) =
-      feature.whole ∙ ap (λ ps. feature_text (feature_id ids counter c) (paths_of ps) (tags_of (object_at objects c))) rings in
-      let equal : bytes_eq line (feature_text (feature_id ids counter c) (paths_of polygons) (tags_of (object_at objects c))) ≡ true =
+      let is : line ≡ feature_text (feature_id ids counter c) (paths_of polygons) (feature_tags (object_at objects c)) =
+      feature.whole ∙ ap (λ ps. feature_text (feature_id ids counter c) (paths_of ps) (feature_tags (object_at objects c))) rings in
+      let equal : bytes_eq line (feature_text (feature_id ids counter c) (paths_of polygons) (feature_tags (object_at objects c))) ≡ true =
       (bytes_eq-Decides line _).1 is in
       absurd (cc)),
 )
 
 -- ---- the verdict
 
-module _ (exists : OutcomeExists) (exactly : HasAreaExactly) (one : OutcomeIsOne) (ids : IdChoice) (objects : List Object) (lines : List (List ℕ)) where
+module _ (exists : OutcomeExists) (exactly : HasAreaExactly) (one : OutcomeIsOne) (ids : Option UniqueId) (objects : List Object) (lines : List (List ℕ)) where
   abbrev HasVerdict : List ObjectRef → Type 0
   HasVerdict all = IsVerdict ids objects all lines Yes ⊎ ((n : ℕ) × IsVerdict ids objects all lines (No n))
 
@@ -154,7 +156,7 @@ module _ (exists : OutcomeExists) (exactly : HasAreaExactly) (one : OutcomeIsOne
     longer = subst HasVerdict (append_assoc first (c ∷ []) later)
 
     by_line : (line : List ℕ) (left : List (List ℕ)) (polygons : List Polygon) (notes : List Note) → IsOutcome objects c (Area polygons notes) →
-        (b : Bool) → bytes_eq line (feature_text (feature_id ids (count + 1) c) (paths_of polygons) (tags_of (object_at objects c))) ≡ b →
+        (b : Bool) → bytes_eq line (feature_text (feature_id ids (count + 1) c) (paths_of polygons) (feature_tags (object_at objects c))) ≡ b →
         IsSeen ids objects first lines (line ∷ left) count → HasVerdict (first ++ c ∷ later)
     by_line line left polygons notes right true same s =
         longer (go_on left (count + 1) (area_seen ids objects first c lines left count line s sound ((is_feature_by one ids objects
@@ -172,7 +174,7 @@ module _ (exists : OutcomeExists) (exactly : HasAreaExactly) (one : OutcomeIsOne
     by_lines [] polygons notes right s =
         inr (count + 1, stops ids objects lines count first later c sound (later_areas exists exactly objects later) [] s (λ l left is feature. absurd (cc)))
     by_lines (line ∷ left) polygons notes right s = by_line line left polygons notes right (bytes_eq line (feature_text (feature_id ids (count + 1) c)
-        (paths_of polygons) (tags_of (object_at objects c)))) refl s
+        (paths_of polygons) (feature_tags (object_at objects c)))) refl s
 
   by_outcome : (first later : List ObjectRef) (c : ObjectRef) (outcome : Outcome) → IsOutcome objects c outcome → (rest : List (List ℕ)) (count : ℕ) →
       ((left : List (List ℕ)) (n : ℕ) → IsSeen ids objects (first ++ c ∷ []) lines left n → HasVerdict ((first ++ c ∷ []) ++ later)) →

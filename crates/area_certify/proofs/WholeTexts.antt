@@ -1,5 +1,5 @@
 -- A text without a wrong line is the features of the candidates with an area.
-use Rattle.std.proofs.Common.{◌≡◌, ◌∙◌, refl, sym, ap, subst, ℕ, zero, suc, ◌+◌, ◌==◌, nat_lt, Bool, true, false, if◌then◌else◌, inl, inr, List, [], ◌∷◌, ◌++◌, length, Some, slice_get, arith, eqb-true, ltb-true}
+use Rattle.std.proofs.Common.{◌≡◌, ◌∙◌, refl, sym, ap, subst, ℕ, zero, suc, ◌+◌, ◌==◌, nat_lt, Bool, true, false, if◌then◌else◌, inl, inr, List, [], ◌∷◌, ◌++◌, length, Some, slice_get, arith, eqb-true, ltb-true, Option}
 use Rattle.std.proofs.lemmas.Bool.{false_from_ne_true}
 use Rattle.std.specs.List.{concat, onto_first}
 use Rattle.std.proofs.lemmas.Option.{same_Some, slice_get_within}
@@ -15,9 +15,11 @@ use Rattle.osm_objects.specs.Objects.{object_at}
 use Rattle.osm_text.specs.Feature.{feature_text, id_before, tags_text}
 use Rattle.osm_text.specs.Paths.{paths_of}
 use Rattle.osm_text.specs.Wkt.{multipolygon_wkt}
-use Rattle.area_certify.specs.declared.verdict.IdChoice.{IdChoice}
+use Rattle.osm_objects.specs.declared.area.UniqueId.{UniqueId}
 use Rattle.area_certify.specs.Areas.{AreThose}
-use Rattle.area_certify.specs.FirstWrong.{HasNoWrong, IsFeature, feature_id, tags_of}
+use Rattle.area_certify.specs.FirstWrong.{HasNoWrong, IsFeature}
+use Rattle.osm_text.specs.Id.{feature_id}
+use Rattle.osm_area.specs.Feature.{feature_tags}
 use Rattle.area_certify.specs.Lines.{text_lines}
 use Rattle.area_certify.specs.RightTexts.{AreFeatures, RightTextsAreFeatures, RightTextsExist}
 use Rattle.area_certify.proofs.ClearTexts.{clear_feature, is_clear}
@@ -52,7 +54,7 @@ first_clear (byte ∷ front) rest clear =
 
 -- ---- line by line
 
-module _ (ids : IdChoice) (objects : List Object) where
+module _ (ids : Option UniqueId) (objects : List Object) where
   -- as many lines as candidates, each the feature of its own, with so many features before them
   abbrev AreLines : ℕ → List ObjectRef → List (List ℕ) → Type 0
   AreLines earlier [] [] = Unit {0}
@@ -116,7 +118,7 @@ module _ (ids : IdChoice) (objects : List Object) where
       text_lines (feature ++ rest) ≡ feature ∷ text_lines rest
   one_line counter c feature rest is =
       let id = feature_id ids counter c in
-      let tags = tags_of (object_at objects c) in
+      let tags = feature_tags (object_at objects c) in
       subst (λ (line : List ℕ). text_lines (line ++ rest) ≡ line ∷ text_lines rest) (sym is.whole)
       (first_clear (id_before id ++ multipolygon_wkt (paths_of is.polygons) ++ tags_text tags) rest (clear_feature id (paths_of is.polygons) tags))
 
@@ -157,11 +159,11 @@ right_texts choice ids objects text = (
 
 -- ---- there is one
 
-module _ (exists : OutcomeExists) (exactly : HasAreaExactly) (ids : IdChoice) (objects : List Object) where
+module _ (exists : OutcomeExists) (exactly : HasAreaExactly) (ids : Option UniqueId) (objects : List Object) where
   with_feature : (counter : ℕ) (c : ObjectRef) (areas : List ObjectRef) (outcome : Outcome) → IsOutcome objects c outcome → IsSound objects c →
       ((text : List ℕ) × AreFeatures ids objects (counter + 1) areas text) → (text : List ℕ) × AreFeatures ids objects counter (c ∷ areas) text
   with_feature counter c areas (Area polygons notes) right sound others =
-      let feature = feature_text (feature_id ids counter c) (paths_of polygons) (tags_of (object_at objects c)) in
+      let feature = feature_text (feature_id ids counter c) (paths_of polygons) (feature_tags (object_at objects c)) in
       (feature ++ others.0, (feature, others.0, record { polygons = polygons; notes = notes; right = right; whole = refl }, others.1, refl))
   with_feature counter c areas (Problems list notes) right sound others = absurd (right.1 ((exactly objects c (Problems list notes) right).1 sound))
 

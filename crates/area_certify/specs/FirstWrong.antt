@@ -1,69 +1,55 @@
 -- Right lines of a text of areas in format text, and the first that isn't right.
-use Rattle.std.specs.Prelude.{◌≡◌, ◌<◌, ◌+◌, ◌++◌, ℕ, List, [], length, slice_get, codes, Option, Some, None, option_map}
+use Rattle.std.specs.Prelude.{◌≡◌, ◌<◌, ◌+◌, ◌++◌, ℕ, List, length, slice_get, codes, Option, Some}
 use Rattle.opl_reader.specs.declared.object.Object.{Object}
 use Rattle.opl_reader.specs.declared.object.ObjectRef.{ObjectRef}
-use Rattle.opl_reader.specs.declared.object.Tag.{Tag}
 use Rattle.osm_objects.specs.declared.choice.Choice.{Choice}
 use Rattle.osm_objects.specs.declared.problem.Note.{Note}
-use Rattle.osm_objects.specs.AreaIds.{area_id}
-use Rattle.osm_objects.specs.Candidates.{area_tags, candidates}
+use Rattle.osm_objects.specs.Candidates.{candidates}
 use Rattle.osm_objects.specs.Objects.{object_at}
 use Rattle.osm_area.specs.declared.outcome.Outcome.TheVariants.{Area}
+use Rattle.osm_area.specs.Feature.{feature_tags}
 use Rattle.osm_area.specs.Outcome.{IsOutcome}
 use Rattle.osm_nest.specs.declared.polygon.Polygon.{Polygon}
-use Rattle.osm_text.specs.declared.feature_id.FeatureId.{FeatureId}
-use Rattle.osm_text.specs.declared.feature_id.FeatureId.TheVariants as id
 use Rattle.osm_text.specs.Feature.{feature_text}
+use Rattle.osm_text.specs.Id.{feature_id}
 use Rattle.osm_text.specs.Paths.{paths_of}
-use Rattle.area_certify.specs.declared.verdict.IdChoice.{IdChoice}
-use Rattle.area_certify.specs.declared.verdict.IdChoice.TheVariants.{NoId, Counter, TypeId}
+use Rattle.osm_objects.specs.declared.area.UniqueId.{UniqueId}
 use Rattle.area_certify.specs.Areas.{HaveAreas}
 use Rattle.area_certify.specs.Lines.{text_lines}
 
 -- ---- a right line
 
--- none, the place of the feature from 1, or the id of the candidate's area
-abbrev pub feature_id : IdChoice → ℕ → ObjectRef → Option FeatureId
-feature_id NoId counter candidate = None
-feature_id Counter counter candidate = Some (id.Counter counter)
-feature_id TypeId counter candidate = option_map id.Area (area_id candidate)
-
--- the tags of a candidate's area
-abbrev pub tags_of : Option Object → List Tag
-tags_of None = []
-tags_of (Some object) = area_tags object
-
 -- the line, with its LF, is the feature of the candidate's area over some polygons that come of it
-pub record IsFeature (ids : IdChoice) (objects : List Object) (counter : ℕ) (candidate : ObjectRef) (line : List ℕ) : Type 0 where
+pub record IsFeature (ids : Option UniqueId) (objects : List Object) (counter : ℕ) (candidate : ObjectRef) (line : List ℕ) : Type 0 where
   pub polygons : List Polygon
   pub notes : List Note
   pub right : IsOutcome objects candidate (Area polygons notes)
-  pub whole : line ≡ feature_text (feature_id ids counter candidate) (paths_of polygons) (tags_of (object_at objects candidate))
+  pub whole : line ≡ feature_text (feature_id ids counter candidate) (paths_of polygons) (feature_tags (object_at objects candidate))
 
 abbrev pub EndsInNewline : List ℕ → Type 0
 EndsInNewline line = (front : List ℕ) × (line ≡ front ++ codes "\n")
 
 -- the line with so many lines before it is right: so many candidates with an area stand before one more, whose feature it is
-pub record IsRight (ids : IdChoice) (objects : List Object) (areas : List ObjectRef) (earlier : ℕ) (line : List ℕ) : Type 0 where
+pub record IsRight (ids : Option UniqueId) (objects : List Object) (areas : List ObjectRef) (earlier : ℕ) (line : List ℕ) : Type 0 where
   pub candidate : ObjectRef
   pub place : slice_get areas earlier ≡ Some candidate
   pub ended : EndsInNewline line
   pub feature : IsFeature ids objects (earlier + 1) candidate line
 
 -- the first so many lines are right
-abbrev pub AreRight : IdChoice → List Object → List ObjectRef → List (List ℕ) → ℕ → Type 0
+abbrev pub AreRight : Option UniqueId → List Object → List ObjectRef → List (List ℕ) → ℕ → Type 0
 AreRight ids objects areas lines count = (k : ℕ) (line : List ℕ) → k < count → slice_get lines k ≡ Some line → IsRight ids objects areas k line
 
 -- ---- all lines
 
 -- all lines are right, and no candidate with an area is without one
-pub record HasNoWrong (ids : IdChoice) (objects : List Object) (areas : List ObjectRef) (lines : List (List ℕ)) : Type 0 where
+pub record HasNoWrong (ids : Option UniqueId) (objects : List Object) (areas : List ObjectRef) (lines : List (List ℕ)) : Type 0 where
   pub right : AreRight ids objects areas lines (length lines)
   pub as_many : length lines ≡ length areas
 
 -- The first wrong line is the first that isn't right; or the one behind the last, where all are right and fewer than the
 -- candidates with an area. Its number counts from 1.
-pub data IsFirstWrong (ids : IdChoice) (objects : List Object) (areas : List ObjectRef) (lines : List (List ℕ)) (number : ℕ) : Type 0 where
+pub data IsFirstWrong (ids : Option UniqueId) (objects : List Object) (areas : List ObjectRef) (lines : List (List ℕ)) (number : ℕ) : Type 0 where
   not_right : (earlier : ℕ) (line : List ℕ) → slice_get lines earlier ≡ Some line → (IsRight ids objects areas earlier line → ⊥) →
       AreRight ids objects areas lines earlier → number ≡ earlier + 1 → IsFirstWrong ids objects areas lines number
   lacking : AreRight ids objects areas lines (length lines) → length lines < length areas → number ≡ length lines + 1 →
@@ -71,10 +57,10 @@ pub data IsFirstWrong (ids : IdChoice) (objects : List Object) (areas : List Obj
 
 -- ---- a text, for the candidates that a choice takes among the objects of an input
 
-abbrev pub HasNoWrongLine : Choice → IdChoice → List Object → List ℕ → Type 0
+abbrev pub HasNoWrongLine : Choice → Option UniqueId → List Object → List ℕ → Type 0
 HasNoWrongLine choice ids objects text =
     (areas : List ObjectRef) × HaveAreas objects (candidates choice objects) areas × HasNoWrong ids objects areas (text_lines text)
 
-abbrev pub IsFirstWrongLine : Choice → IdChoice → List Object → List ℕ → ℕ → Type 0
+abbrev pub IsFirstWrongLine : Choice → Option UniqueId → List Object → List ℕ → ℕ → Type 0
 IsFirstWrongLine choice ids objects text number =
     (areas : List ObjectRef) × HaveAreas objects (candidates choice objects) areas × IsFirstWrong ids objects areas (text_lines text) number

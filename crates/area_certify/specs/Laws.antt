@@ -1,24 +1,24 @@
 -- That each text of areas has one verdict, as statements.
-use Rattle.std.specs.Prelude.{◌≡◌, ◌⊎◌, ℕ, List}
+use Rattle.std.specs.Prelude.{◌≡◌, ◌⊎◌, ℕ, List, Option}
 use Rattle.opl_reader.specs.declared.object.Object.{Object}
 use Rattle.osm_objects.specs.declared.choice.Choice.{Choice}
-use Rattle.area_certify.specs.declared.verdict.IdChoice.{IdChoice}
+use Rattle.osm_objects.specs.declared.area.UniqueId.{UniqueId}
 use Rattle.area_certify.specs.FirstWrong.{HasNoWrongLine, IsFirstWrongLine}
 
 -- a text has one first wrong line at most
 abbrev pub FirstWrongLineIsOne : Type 0
 FirstWrongLineIsOne =
-    (choice : Choice) (ids : IdChoice) (objects : List Object) (text : List ℕ) (m n : ℕ) →
+    (choice : Choice) (ids : Option UniqueId) (objects : List Object) (text : List ℕ) (m n : ℕ) →
     IsFirstWrongLine choice ids objects text m → IsFirstWrongLine choice ids objects text n → m ≡ n
 
 -- a text has a first wrong line, or none
 abbrev pub TextsHaveAVerdict : Type 0
 TextsHaveAVerdict =
-    (choice : Choice) (ids : IdChoice) (objects : List Object) (text : List ℕ) →
+    (choice : Choice) (ids : Option UniqueId) (objects : List Object) (text : List ℕ) →
     HasNoWrongLine choice ids objects text ⊎ ((number : ℕ) × IsFirstWrongLine choice ids objects text number)
 
 -- and not both
 abbrev pub VerdictsExclude : Type 0
 VerdictsExclude =
-    (choice : Choice) (ids : IdChoice) (objects : List Object) (text : List ℕ) (number : ℕ) →
+    (choice : Choice) (ids : Option UniqueId) (objects : List Object) (text : List ℕ) (number : ℕ) →
     HasNoWrongLine choice ids objects text → IsFirstWrongLine choice ids objects text number → ⊥

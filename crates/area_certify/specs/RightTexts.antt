@@ -1,21 +1,21 @@
 -- Texts without a wrong line, as the whole of what is to be written.
-use Rattle.std.specs.Prelude.{◌≡◌, ◌↔◌, ◌+◌, ◌++◌, ℕ, List, [], ◌∷◌}
+use Rattle.std.specs.Prelude.{◌≡◌, ◌↔◌, ◌+◌, ◌++◌, ℕ, List, [], ◌∷◌, Option}
 use Rattle.opl_reader.specs.declared.object.Object.{Object}
 use Rattle.opl_reader.specs.declared.object.ObjectRef.{ObjectRef}
 use Rattle.osm_objects.specs.Candidates.{candidates}
 use Rattle.osm_objects.specs.declared.choice.Choice.{Choice}
-use Rattle.area_certify.specs.declared.verdict.IdChoice.{IdChoice}
+use Rattle.osm_objects.specs.declared.area.UniqueId.{UniqueId}
 use Rattle.area_certify.specs.Areas.{HaveAreas}
 use Rattle.area_certify.specs.FirstWrong.{HasNoWrongLine, IsFeature}
 
 -- the features of these candidates, the first with this counter, one behind the other
-abbrev pub AreFeatures : IdChoice → List Object → ℕ → List ObjectRef → List ℕ → Type 0
+abbrev pub AreFeatures : Option UniqueId → List Object → ℕ → List ObjectRef → List ℕ → Type 0
 AreFeatures ids objects counter [] text = text ≡ []
 AreFeatures ids objects counter (candidate ∷ areas) text =
     (feature rest : List ℕ) × IsFeature ids objects counter candidate feature × AreFeatures ids objects (counter + 1) areas rest × (text ≡ feature ++ rest)
 
 -- the text is the features of the candidates with an area, in order
-abbrev pub IsRightText : Choice → IdChoice → List Object → List ℕ → Type 0
+abbrev pub IsRightText : Choice → Option UniqueId → List Object → List ℕ → Type 0
 IsRightText choice ids objects text =
     (areas : List ObjectRef) × HaveAreas objects (candidates choice objects) areas × AreFeatures ids objects 1 areas text
 
@@ -24,8 +24,8 @@ IsRightText choice ids objects text =
 -- a text has no wrong line exactly where it is these features
 abbrev pub RightTextsAreFeatures : Type 0
 RightTextsAreFeatures =
-    (choice : Choice) (ids : IdChoice) (objects : List Object) (text : List ℕ) → HasNoWrongLine choice ids objects text ↔ IsRightText choice ids objects text
+    (choice : Choice) (ids : Option UniqueId) (objects : List Object) (text : List ℕ) → HasNoWrongLine choice ids objects text ↔ IsRightText choice ids objects text
 
 -- for all objects and settings there is such a text
 abbrev pub RightTextsExist : Type 0
-RightTextsExist = (choice : Choice) (ids : IdChoice) (objects : List Object) → (text : List ℕ) × HasNoWrongLine choice ids objects text
+RightTextsExist = (choice : Choice) (ids : Option UniqueId) (objects : List Object) → (text : List ℕ) × HasNoWrongLine choice ids objects text

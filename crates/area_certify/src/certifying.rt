@@ -9,17 +9,17 @@ ghost use Rattle.area_certify.specs.declared.verdict.Verdict.TheVariants.{Yes, N
 
 use crate::laws::{first_wrong_line_is_one, verdicts_exclude};
 use crate::telling::{Told, tell};
-use crate::verdict::{IdChoice, Verdict};
+use crate::verdict::Verdict;
 use opl_reader::ObjectRef;
 use osm_area::{has_area_exactly, outcome_exists};
-use osm_objects::{Choice, Store};
+use osm_objects::{Choice, Store, UniqueId};
 use std::alloc::{AllocError as OutOfMemory, Global};
 
 /// Compares the lines of a text with the features of these candidates, those with an area, in order.
 fn compare(
     alloc: Global,
     store: &Store,
-    ids: IdChoice,
+    ids: Option<UniqueId>,
     candidates: &[ObjectRef],
     text: &[u8],
 ) -> Result<Verdict, OutOfMemory>
@@ -58,7 +58,7 @@ pub fn certify(
     alloc: Global,
     store: &Store,
     choice: &Choice,
-    ids: IdChoice,
+    ids: Option<UniqueId>,
     text: &[u8],
 ) -> Result<Verdict, OutOfMemory>
     ensures yes { IfOk result (λ v. v ≡ Yes ↔ HasNoWrongLine choice.now ids store.now text.now) }

@@ -1,34 +1,23 @@
 //! The line that is right for an area.
 
 ghost use Rattle.std.specs.Prelude.{◌≡◌, IfOk, IsSome, bytes_eq};
+ghost use Rattle.osm_area.specs.Feature.{feature_tags};
 ghost use Rattle.osm_objects.specs.Objects.{object_at};
 ghost use Rattle.osm_text.specs.Feature.{feature_text};
+ghost use Rattle.osm_text.specs.Id.{feature_id};
 ghost use Rattle.osm_text.specs.Paths.{paths_of};
-ghost use Rattle.area_certify.specs.FirstWrong.{feature_id, tags_of};
 
-use crate::verdict::IdChoice;
 use opl_reader::ObjectRef;
 use osm_nest::Polygons;
-use osm_objects::{Store, area_id};
+use osm_objects::{Store, UniqueId};
 use osm_text::{FeatureId, feature_text};
 use std::alloc::{AllocError as OutOfMemory, Global};
-
-/// The id of a candidate's feature.
-fn feature_id(ids: IdChoice, counter: u64, candidate: ObjectRef) -> Option<FeatureId>
-    ensures { result ≡ feature_id ids counter candidate }
-{
-    match ids {
-        IdChoice::NoId => None,
-        IdChoice::Counter => Some(FeatureId::Counter(counter)),
-        IdChoice::TypeId => area_id(candidate).map(FeatureId::Area),
-    }
-}
 
 /// Whether a line, with its LF, is the feature of a candidate with these polygons.
 pub(crate) fn is_feature(
     alloc: Global,
     store: &Store,
-    ids: IdChoice,
+    ids: Option<UniqueId>,
     counter: u64,
     candidate: ObjectRef,
     polygons: &Polygons,
@@ -37,10 +26,10 @@ pub(crate) fn is_feature(
     requires held { IsSome (object_at store.now candidate) }
     ensures { IfOk result (λ is. is ≡ bytes_eq line.now
         (feature_text (feature_id ids counter candidate) (paths_of polygons.now)
-        (tags_of (object_at store.now candidate)))) }
+        (feature_tags (object_at store.now candidate)))) }
 {
     let tags = store.area_tags(alloc, candidate)?;
-    let id = feature_id(ids, counter, candidate);
+    let id = FeatureId::of(ids, counter, candidate);
     let feature = feature_text(alloc, polygons, &tags, id)?;
     Ok(line == feature.as_slice())
 }

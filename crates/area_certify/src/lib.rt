@@ -17,4 +17,4 @@ pub use laws::{
     first_wrong_line_is_one, right_texts_are_features, right_texts_exist, texts_have_a_verdict,
     verdicts_exclude,
 };
-pub use verdict::{IdChoice, Verdict};
+pub use verdict::Verdict;

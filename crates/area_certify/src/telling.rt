@@ -8,10 +8,9 @@ ghost use Rattle.area_certify.specs.Telling.{IsTold};
 use crate::area::area_of;
 use crate::feature::is_feature;
 use crate::lines::first_line;
-use crate::verdict::IdChoice;
 use one_area::outcome_is_one;
 use opl_reader::ObjectRef;
-use osm_objects::Store;
+use osm_objects::{Store, UniqueId};
 use std::alloc::{AllocError as OutOfMemory, Global};
 
 /// What a candidate tells.
@@ -29,7 +28,7 @@ pub(crate) enum Told<'a> {
 pub(crate) fn tell<'a>(
     alloc: Global,
     store: &Store,
-    ids: IdChoice,
+    ids: Option<UniqueId>,
     counter: u64,
     candidate: ObjectRef,
     text: &'a [u8],

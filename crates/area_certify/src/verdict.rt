@@ -1,15 +1,4 @@
-//! What is asked of the certifier and what it answers.
-
-/// By what a feature is named.
-#[derive(Clone, Copy, Debug, PartialEq, Eq)]
-pub enum IdChoice {
-    /// By nothing.
-    NoId,
-    /// By its place in the output, from 1.
-    Counter,
-    /// By the id of its area, which tells the kind and the id of the object.
-    TypeId,
-}
+//! What the certifier answers.
 
 /// Whether a text is right.
 #[derive(Clone, Copy, Debug, PartialEq, Eq)]

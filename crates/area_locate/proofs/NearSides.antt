@@ -14,7 +14,8 @@ use Rattle.osm_lattice.specs.Loc.{vector_of}
 use Rattle.osm_lattice.proofs.LatticeKit.{rising_edge}
 use Rattle.osm_bands.specs.Bands.{HoldsReaching}
 use Rattle.area_locate.specs.ItemsAt.{items_at}
-use Rattle.area_locate.specs.Sides.{are_alike, is_beside, is_left, is_on_line, left_count, lies_on, on_count, span_of}
+use Rattle.area_locate.specs.Sides.{are_alike, is_beside, is_on_line, lies_on, on_count, span_of}
+use Rattle.osm_sides.specs.SideTests.{left_count, left_of}
 use Rattle.area_locate.proofs.NearItems.{near_count}
 use Rattle.area_locate.proofs.OnSegments.{on_is}
 
@@ -59,8 +60,8 @@ pub on_reaches : (p : Loc) (s : Seg) → lies_on p s ≡ true → (s.a.y ≤ℤ 
 on_reaches p s on =
     between (sign (s.a.y -ℤ p.y)) (sign (s.b.y -ℤ p.y)) s.a.y s.b.y p.y (says (s.a.y -ℤ p.y)) (says (s.b.y -ℤ p.y)) (low_first s) (on_apart p s on).1
 
-pub left_reaches : (p : Loc) (s : Seg) → is_left p s ≡ true → (s.a.y ≤ℤ p.y) × (p.y ≤ℤ s.b.y)
-unfolding is_left
+pub left_reaches : (p : Loc) (s : Seg) → left_of p s ≡ true → (s.a.y ≤ℤ p.y) × (p.y ≤ℤ s.b.y)
+unfolding left_of
 left_reaches p s left =
     let low = not (is_plus (sign (s.a.y -ℤ p.y))) in let high = is_plus (sign (s.b.y -ℤ p.y)) in
     let span : (low && high) ≡ true = and-left (low && high) (is_plus (orient (vector_of s.a) (vector_of s.b) (vector_of p))) left in
@@ -75,4 +76,4 @@ module _ (p : Loc) (sides : List Seg) (near : List ℕ) (rising : IsStrictlyIncr
   near_on = near_count (lies_on p) sides near rising inside (λ i s at on. reached i s at (on_reaches p s on))
 
   pub near_left : left_count p (items_at sides near) ≡ left_count p sides
-  near_left = near_count (is_left p) sides near rising inside (λ i s at left. reached i s at (left_reaches p s left))
+  near_left = near_count (left_of p) sides near rising inside (λ i s at left. reached i s at (left_reaches p s left))

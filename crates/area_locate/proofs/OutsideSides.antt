@@ -19,7 +19,8 @@ use Rattle.osm_lattice.specs.Seg.{edge_of}
 use Rattle.osm_lattice.proofs.LatticeKit.{rising_edge}
 use Rattle.area_locate.specs.declared.envelope.Envelope.{Envelope}
 use Rattle.area_locate.specs.Envelopes.{Encloses, IsWithin, lacks}
-use Rattle.area_locate.specs.Sides.{are_alike, is_left, left_count, lies_on, on_count}
+use Rattle.area_locate.specs.Sides.{are_alike, lies_on, on_count}
+use Rattle.osm_sides.specs.SideTests.{left_count, left_of}
 use Rattle.area_locate.proofs.NearSides.{left_reaches, on_apart}
 
 -- ---- signs of numbers in order
@@ -62,24 +63,24 @@ beyond_off p s (left h k) = no_by (lies_on p s) (λ on. alike_clash _ _ Minus Mi
 beyond_off p s (higher h k) = no_by (lies_on p s) (λ on. alike_clash _ _ Plus Plus (above s.a.y p.y h) (above s.b.y p.y k) refl (on_apart p s on).1)
 beyond_off p s (lower h k) = no_by (lies_on p s) (λ on. alike_clash _ _ Minus Minus (below s.a.y p.y h) (below s.b.y p.y k) refl (on_apart p s on).1)
 
-higher_not_left : (p : Loc) (s : Seg) → p.y <ℤ s.a.y → is_left p s ≡ false
-higher_not_left p s h = no_by (is_left p s) (λ yes. let reach = (left_reaches p s yes).0 in omega (arith, ints))
+higher_not_left : (p : Loc) (s : Seg) → p.y <ℤ s.a.y → left_of p s ≡ false
+higher_not_left p s h = no_by (left_of p s) (λ yes. let reach = (left_reaches p s yes).0 in omega (arith, ints))
 
-lower_not_left : (p : Loc) (s : Seg) → s.b.y <ℤ p.y → is_left p s ≡ false
-lower_not_left p s h = no_by (is_left p s) (λ yes. let reach = (left_reaches p s yes).1 in omega (arith, ints))
+lower_not_left : (p : Loc) (s : Seg) → s.b.y <ℤ p.y → left_of p s ≡ false
+lower_not_left p s h = no_by (left_of p s) (λ yes. let reach = (left_reaches p s yes).1 in omega (arith, ints))
 
 -- the sign of the product of the steps to both ends, where both are to the left and the heights are spanned
 abbrev leftward : Sign → Sign → Sign → Bool
 leftward k uy vy = imp (agree k (times uy Minus) (times Minus vy)) λ _. not ((not (is_plus uy) && is_plus vy) && is_plus k)
 
-left_not_left : (p : Loc) (s : Seg) → s.a.x <ℤ p.x → s.b.x <ℤ p.x → is_left p s ≡ false
-unfolding is_left
+left_not_left : (p : Loc) (s : Seg) → s.a.x <ℤ p.x → s.b.x <ℤ p.x → left_of p s ≡ false
+unfolding left_of
 left_not_left p s h k =
     let v = vector_of p in let f = vector_of s.a in let e = vector_of s.b in
     let agreed : agree (sign (cross (from_to v f) (from_to v e))) (times (sign (s.a.y -ℤ p.y)) Minus) (times Minus (sign (s.b.y -ℤ p.y))) ≡ true =
     rw (below s.a.x p.x h, below s.b.x p.x k) at (cross-agree (from_to v f) (from_to v e)) in
     let signs = imp-out _ _ (all3-out leftward refl (sign (cross (from_to v f) (from_to v e))) (sign (s.a.y -ℤ p.y)) (sign (s.b.y -ℤ p.y))) agreed in
-    not-true-out (is_left p s) (ap (λ (z : ℤ). not ((not (is_plus (sign (s.a.y -ℤ p.y))) && is_plus (sign (s.b.y -ℤ p.y))) && is_plus (sign z))) (orient-round v f e) ∙ signs)
+    not-true-out (left_of p s) (ap (λ (z : ℤ). not ((not (is_plus (sign (s.a.y -ℤ p.y))) && is_plus (sign (s.b.y -ℤ p.y))) && is_plus (sign z))) (orient-round v f e) ∙ signs)
 
 -- ---- the ray to the left
 -- it doesn't cross what is right of p
@@ -99,8 +100,8 @@ count_none : {X : Type 0} (q : X → Bool) (xs : List X) → ((x : X) → In x x
 count_none q xs none = sym (total-is (λ x. cond (q x) 1 0) xs) ∙ total_none (λ x. cond (q x) 1 0) xs (λ x i. ap (λ b. cond {A = ℕ} b 1 0) (none x i))
 
 -- the sides that span the height of p and have it on their left are those that the ray to the right crosses
-left_one : (p : Loc) (s : Seg) → crossings_at east (from_to (vector_of p)) (edge_of s) ≡ cond (is_left p s) 1 0
-unfolding is_left
+left_one : (p : Loc) (s : Seg) → crossings_at east (from_to (vector_of p)) (edge_of s) ≡ cond (left_of p s) 1 0
+unfolding left_of
 left_one p s = crossings-left east (vector_of p) (edge_of s) east-side (rising_edge s)
 
 pub left_crosses : (p : Loc) (sides : List Seg) → crossing_count east (vector_of p) (map edge_of sides) ≡ left_count p sides
@@ -108,8 +109,8 @@ left_crosses p [] = refl
 left_crosses p (s ∷ sides) =
     sum_by-cons (crossings_at east (from_to (vector_of p))) (edge_of s) (map edge_of sides)
     ∙ ap (λ n. n + crossing_count east (vector_of p) (map edge_of sides)) (left_one p s)
-    ∙ ap (λ n. cond {A = ℕ} (is_left p s) 1 0 + n) (left_crosses p sides)
-    ∙ sym (count_by-cons (is_left p) s sides)
+    ∙ ap (λ n. cond {A = ℕ} (left_of p s) 1 0 + n) (left_crosses p sides)
+    ∙ sym (count_by-cons (left_of p) s sides)
 
 module _ (p : Loc) (sides : List Seg) where
   -- none has p on it
@@ -156,8 +157,8 @@ module _ (p : Loc) (e : Envelope) (sides : List Seg) (within : Encloses e sides)
   beyond_high : e.high <ℤ p.y → (s : Seg) → In s sides → (s.a.y <ℤ p.y) × (s.b.y <ℤ p.y)
   beyond_high out s i = let a = (ends s i).0.high in let b = (ends s i).1.high in (omega (arith, ints), omega (arith, ints))
 
-  uncounted : ((s : Seg) → In s sides → Beyond p s) → ((s : Seg) → In s sides → is_left p s ≡ false) → IsApart p sides
-  uncounted beyond none = record { none_on = beyond_none p sides beyond; even_left = ap (λ n. n % 2) (count_none (is_left p) sides none) }
+  uncounted : ((s : Seg) → In s sides → Beyond p s) → ((s : Seg) → In s sides → left_of p s ≡ false) → IsApart p sides
+  uncounted beyond none = record { none_on = beyond_none p sides beyond; even_left = ap (λ n. n % 2) (count_none (left_of p) sides none) }
 
   pub outside_apart : IsEvenAtPoints (map edge_of sides) → lacks e p ≡ true → IsApart p sides
   outside_apart even out = ⊎_elim

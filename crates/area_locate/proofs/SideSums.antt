@@ -64,7 +64,7 @@ module _ (f : Seg → ℕ) where
   area_sum : (survivors : List Seg) (polygons : List Polygon) → IsArea survivors polygons → sum_by f (sides_of polygons) ≡ sum_by f survivors
   area_sum survivors polygons area =
       polygons_sum polygons
-      ∙ sum-rings of_edge area.edges area.rings polygons area.cut area.nested
+      ∙ sum-rings of_edge area.edges area.made.rings polygons area.made.cut area.made.nested
       ∙ directed_sum survivors area.edges area.directed.whole
 
 pub have_sums : (segs sides : List Seg) (polygons : List Polygon) → sides ≡ sides_of polygons → SurvivorsAre segs (λ survivors. IsArea survivors polygons) → SurvivorsAre segs (HaveSumsOf sides)

@@ -1,13 +1,13 @@
 -- Words of private clauses: where a location lies against the sides of an area. No public contract cites it.
 use Rattle.std.specs.Prelude.{Bool, true, false, not, ◌||◌, ◌%◌, ◌-ℤ◌, ◌==◌, List, ℕ, count_by, nat_lt}
-use Rattle.plane.specs.Height.{is_in_span, is_left_of}
 use Rattle.plane.specs.RayCrossing.{is_off}
-use Rattle.plane.specs.Sign.{Sign, Minus, Plus, is_null, is_plus, sign}
+use Rattle.plane.specs.Sign.{Sign, Minus, Plus, is_null, sign}
 use Rattle.plane.specs.Vector.{orient}
 use Rattle.osm_lattice.specs.declared.loc.Loc.{Loc}
 use Rattle.osm_lattice.specs.declared.seg.Seg.{Seg}
 use Rattle.osm_lattice.specs.Loc.{vector_of}
 use Rattle.osm_lattice.specs.Seg.{edge_of}
+use Rattle.osm_sides.specs.SideTests.{left_count}
 use Rattle.osm_bands.specs.declared.bands.Span.{Span}
 use Rattle.area_locate.specs.declared.sides.Place.{Place}
 use Rattle.area_locate.specs.declared.sides.Place.TheVariants.{Off, In, On}
@@ -17,10 +17,6 @@ use Rattle.area_locate.specs.declared.sides.Place.TheVariants.{Off, In, On}
 -- p lies on s, at an end of it or between its ends
 unfoldable pub lies_on : Loc → Seg → Bool
 lies_on p s = not (is_off (vector_of p) (edge_of s))
-
--- s spans the height of p and has it on its left
-unfoldable pub is_left : Loc → Seg → Bool
-is_left p s = is_left_of (vector_of p) (edge_of s)
 
 -- both are Plus, or both are Minus
 abbrev pub are_alike : Sign → Sign → Bool
@@ -35,12 +31,6 @@ is_beside p s = are_alike (sign (s.a.x -ℤ p.x)) (sign (s.b.x -ℤ p.x)) || are
 unfoldable pub is_on_line : Loc → Seg → Bool
 is_on_line p s = is_null (orient (vector_of s.a) (vector_of s.b) (vector_of p))
 
-unfoldable pub is_level_with : Loc → Seg → Bool
-is_level_with p s = is_in_span (vector_of p) (edge_of s)
-
-unfoldable pub is_left_of_line : Loc → Seg → Bool
-is_left_of_line p s = is_plus (orient (vector_of s.a) (vector_of s.b) (vector_of p))
-
 -- the heights of s, its ends included
 abbrev pub span_of : Seg → Span
 span_of s = record { low = s.a.y; high = s.b.y }
@@ -49,9 +39,6 @@ span_of s = record { low = s.a.y; high = s.b.y }
 
 abbrev pub on_count : Loc → List Seg → ℕ
 on_count p sides = count_by (lies_on p) sides
-
-abbrev pub left_count : Loc → List Seg → ℕ
-left_count p sides = count_by (is_left p) sides
 
 -- by whether a side has the location on it, and whether the number of sides right of it is odd
 abbrev pub place_by : Bool → Bool → Place

@@ -2,7 +2,7 @@
 
 ghost use Rattle.std.specs.Prelude.{◌≡◌, ◌-ℤ◌};
 ghost use Rattle.plane.specs.Sign.{sign};
-ghost use Rattle.area_locate.specs.Sides.{are_alike, is_beside, is_left, is_level_with, is_left_of_line, is_on_line, lies_on};
+ghost use Rattle.area_locate.specs.Sides.{are_alike, is_beside, is_on_line, lies_on};
 
 use osm_lattice::{Loc, Seg, orient};
 
@@ -34,28 +34,4 @@ pub(crate) fn is_on(p: Loc, s: Seg) -> bool
     ensures { result ≡ lies_on p s }
 {
     !is_beside(p, s) && is_on_line(p, s)
-}
-
-/// `p` is at least as high as the lower end of the segment and lower than its upper end.
-#[tactic(auto, unfolding(crate::specs::Sides::is_level_with))]
-fn is_level_with(p: Loc, s: Seg) -> bool
-    ensures { result ≡ is_level_with p s }
-{
-    s.a.y <= p.y && p.y < s.b.y
-}
-
-/// `p` is left of the line of the segment.
-#[tactic(auto, unfolding(crate::specs::Sides::is_left_of_line, osm_lattice::specs::Loc::orientation))]
-fn is_left_of_line(p: Loc, s: Seg) -> bool
-    ensures { result ≡ is_left_of_line p s }
-{
-    orient(s.a, s.b, p) > 0
-}
-
-/// The segment spans the height of `p` and has it on its left.
-#[tactic(auto, unfolding(crate::specs::Sides::is_left, crate::specs::Sides::is_level_with, crate::specs::Sides::is_left_of_line))]
-pub(crate) fn is_left_of(p: Loc, s: Seg) -> bool
-    ensures { result ≡ is_left p s }
-{
-    is_level_with(p, s) && is_left_of_line(p, s)
 }

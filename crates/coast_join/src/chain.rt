@@ -1,10 +1,10 @@
 //! Chains of coastline ways, and lists of them.
 
-ghost use Rattle.std.specs.Prelude.{◌<◌, length};
-ghost use Rattle.coast_join.specs.Line.{IsLine};
+ghost use Rattle.std.specs.Prelude.{◌≡◌, ◌<◌, length};
+ghost use Rattle.coast_join.specs.Line.{IsLine, first_of, last_of};
 
 use lists::List;
-use osm_geom::{Ids, Path};
+use osm_geom::{Ids, Loc, Path};
 
 /// Coastline ways of which each goes on to the next. It is closed where the last goes on to the first.
 ///
@@ -19,6 +19,23 @@ pub struct Chain {
     pub closed: bool,
     pub ghost line: { IsLine path },
     pub ghost some: { 0 < length ways },
+}
+
+impl Chain {
+    /// Its first location.
+    pub fn first(&self) -> Loc
+        ensures { result ≡ first_of self.now.path }
+    {
+        self.path.as_slice()[0]
+    }
+
+    /// Its last location.
+    pub fn last(&self) -> Loc
+        ensures { result ≡ last_of self.now.path }
+    {
+        let path = self.path.as_slice();
+        path[path.len() - 1]
+    }
 }
 
 /// Chains, in order.

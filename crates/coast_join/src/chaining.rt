@@ -33,24 +33,9 @@ fn starts(alloc: Global, ways: &[CoastWay], places: &[usize]) -> Result<Vec<Loc>
 {
     let mut starts = Vec::with_capacity(alloc, places.len())?;
     for &place in places {
-        starts.push(first(&ways[place]))?;
+        starts.push(ways[place].first())?;
     }
     Ok(starts)
-}
-
-/// The first location of a way.
-fn first(way: &CoastWay) -> Loc
-    ensures { result ≡ first_of way.now.path }
-{
-    way.path.as_slice()[0]
-}
-
-/// The last location of a way.
-fn last(way: &CoastWay) -> Loc
-    ensures { result ≡ last_of way.now.path }
-{
-    let path = way.path.as_slice();
-    path[path.len() - 1]
 }
 
 /// Those at which they end.
@@ -61,7 +46,7 @@ fn ends(alloc: Global, ways: &[CoastWay], places: &[usize]) -> Result<Vec<Loc>, 
 {
     let mut ends = Vec::with_capacity(alloc, places.len())?;
     for &place in places {
-        ends.push(last(&ways[place]))?;
+        ends.push(ways[place].last())?;
     }
     Ok(ends)
 }
@@ -119,7 +104,7 @@ fn path_of(
         return Ok(path);
     }
     let end = places[places.len() - 1];
-    path.push(last(&ways[end]))?;
+    path.push(ways[end].last())?;
     Ok(path)
 }
 

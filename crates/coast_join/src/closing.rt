@@ -5,7 +5,6 @@ ghost use Rattle.coast_join.specs.declared.chain.Chain.{Chain};
 ghost use Rattle.coast_join.specs.declared.way.CoastWay.{CoastWay};
 ghost use Rattle.coast_join.specs.Chains.{AreChains};
 ghost use Rattle.coast_join.specs.Closings.{AreClosings, is_antarctic, is_open, open_ends, places_where};
-ghost use Rattle.coast_join.specs.Line.{first_of, last_of};
 
 use crate::chain::Chain;
 use crate::gap::{Closings, Indexes};
@@ -24,28 +23,13 @@ pub(crate) struct OpenEnds {
     pub(crate) end: Loc,
 }
 
-/// The first location of a chain.
-fn first(chain: &Chain) -> Loc
-    ensures { result ≡ first_of chain.now.path }
-{
-    chain.path.as_slice()[0]
-}
-
-/// The last location of a chain.
-fn last(chain: &Chain) -> Loc
-    ensures { result ≡ last_of chain.now.path }
-{
-    let path = chain.path.as_slice();
-    path[path.len() - 1]
-}
-
 /// It is unclosed, and runs round Antarctica from the eastern edge of the world to the western one.
 #[tactic(auto, unfolding(crate::specs::Closings::is_antarctic))]
 pub(crate) fn is_antarctic(chain: &Chain) -> bool
     ensures { result ≡ is_antarctic chain.now }
 {
-    let start = first(chain);
-    let end = last(chain);
+    let start = chain.first();
+    let end = chain.last();
     !chain.closed
         && (start.x == 1_800_000_000 && end.x == -1_800_000_000)
         && (start.y < -600_000_000 && end.y < -600_000_000)
@@ -80,8 +64,8 @@ fn open_ends(alloc: Global, chains: &[Chain]) -> Result<Vec<OpenEnds>, OutOfMemo
         if is_open(chain) {
             ends.push(OpenEnds {
                 chain: place,
-                start: first(chain),
-                end: last(chain),
+                start: chain.first(),
+                end: chain.last(),
             })?;
         }
     }

@@ -1,9 +1,10 @@
 //! Coastline ways, and lists of them.
 
-ghost use Rattle.coast_join.specs.Line.{IsLine};
+ghost use Rattle.std.specs.Prelude.{◌≡◌};
+ghost use Rattle.coast_join.specs.Line.{IsLine, first_of, last_of};
 
 use lists::List;
-use osm_geom::Path;
+use osm_geom::{Loc, Path};
 
 /// A coastline way that takes part: its id, and the locations of its references in order, equal neighbours taken
 /// once. They are at least two; a way that ends where it starts holds that location at both ends.
@@ -12,6 +13,23 @@ pub struct CoastWay {
     pub id: i64,
     pub path: Path,
     pub ghost line: { IsLine path },
+}
+
+impl CoastWay {
+    /// Its first location.
+    pub fn first(&self) -> Loc
+        ensures { result ≡ first_of self.now.path }
+    {
+        self.path.as_slice()[0]
+    }
+
+    /// Its last location.
+    pub fn last(&self) -> Loc
+        ensures { result ≡ last_of self.now.path }
+    {
+        let path = self.path.as_slice();
+        path[path.len() - 1]
+    }
 }
 
 /// What keeps a coastline way from taking part.

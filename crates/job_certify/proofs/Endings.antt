@@ -10,18 +10,17 @@ use Rattle.osm_job.specs.InputRead.{HasBoth}
 use Rattle.osm_job.specs.declared.ended.Ended.{Ended}
 use Rattle.osm_job.specs.declared.ended.Ended.TheVariants as variant
 use Rattle.osm_job.specs.Whole.{Whole, silent}
-use Rattle.area_certify.specs.declared.verdict.IdChoice.{IdChoice}
 use Rattle.area_certify.specs.FirstWrong.{HasNoWrongLine, IsFirstWrongLine}
 use Rattle.area_certify.specs.Laws.{FirstWrongLineIsOne, TextsHaveAVerdict, VerdictsExclude}
-use Rattle.job_certify.specs.Certify.{Certifies, IsCertify, choice_of, id_choice, right, wrong}
+use Rattle.job_certify.specs.Certify.{Certifies, IsCertify, choice_of, right, wrong}
 use Rattle.job_certify.specs.Laws.{CertifyExists, CertifyIsOne}
 
 module _ (settings : CertifySettings) (objects : List Object) (text : List ℕ) where
   abbrev IsRight : Type 0
-  IsRight = HasNoWrongLine (choice_of settings) (id_choice settings.ids) objects text
+  IsRight = HasNoWrongLine (choice_of settings) settings.ids objects text
 
   abbrev IsWrong : ℕ → Type 0
-  IsWrong line = IsFirstWrongLine (choice_of settings) (id_choice settings.ids) objects text line
+  IsWrong line = IsFirstWrongLine (choice_of settings) settings.ids objects text line
 
   from_verdict : IsRight ⊎ ((line : ℕ) × IsWrong line) → (whole : Whole) × IsCertify settings objects text whole
   from_verdict (inl none) = (silent variant.Done, right none refl)
@@ -30,19 +29,17 @@ module _ (settings : CertifySettings) (objects : List Object) (text : List ℕ) 
   one_ending : FirstWrongLineIsOne → VerdictsExclude → (v w : Whole) → IsCertify settings objects text v → IsCertify settings objects text w → v ≡ w
   one_ending one exclude v w (right none is) (right none_too also) = is ∙ sym also
   one_ending one exclude v w (right none is) (wrong line first also) =
-      absurd (exclude (choice_of settings) (id_choice settings.ids) objects text line none first)
+      absurd (exclude (choice_of settings) settings.ids objects text line none first)
   one_ending one exclude v w (wrong line first is) (right none also) =
-      absurd (exclude (choice_of settings) (id_choice settings.ids) objects text line none first)
+      absurd (exclude (choice_of settings) settings.ids objects text line none first)
   one_ending one exclude v w (wrong m first is) (wrong n first_too also) =
-      is ∙ ap (λ (line : ℕ). silent (variant.Refuted line)) (one (choice_of settings) (id_choice settings.ids) objects text m n first first_too) ∙ sym also
+      is ∙ ap (λ (line : ℕ). silent (variant.Refuted line)) (one (choice_of settings) settings.ids objects text m n first first_too) ∙ sym also
 
   -- ---- the verdict of a certifier
 
-  module _ (choice : Choice) (ids : IdChoice) (same : choice ≡ choice_of settings) (same_ids : ids ≡ id_choice settings.ids) where
-    pub says_wrong : (line : ℕ) → IsFirstWrongLine choice ids objects text line → IsCertify settings objects text (silent (variant.Refuted line))
-    says_wrong line first =
-        wrong line (subst (λ (c : Choice). IsFirstWrongLine c (id_choice settings.ids) objects text line) same
-        (subst (λ (i : IdChoice). IsFirstWrongLine choice i objects text line) same_ids first)) refl
+  module _ (choice : Choice) (same : choice ≡ choice_of settings) where
+    pub says_wrong : (line : ℕ) → IsFirstWrongLine choice settings.ids objects text line → IsCertify settings objects text (silent (variant.Refuted line))
+    says_wrong line first = wrong line (subst (λ (c : Choice). IsFirstWrongLine c settings.ids objects text line) same first) refl
 
 -- ---- the job
 
@@ -60,7 +57,7 @@ module _ (law : StreamsAppend) (settings : CertifySettings) (objects : List Obje
 -- ---- laws
 
 pub certify_there : TextsHaveAVerdict → CertifyExists
-certify_there verdict settings objects text = from_verdict settings objects text (verdict (choice_of settings) (id_choice settings.ids) objects text)
+certify_there verdict settings objects text = from_verdict settings objects text (verdict (choice_of settings) settings.ids objects text)
 
 pub certify_one : FirstWrongLineIsOne → VerdictsExclude → CertifyIsOne
 certify_one one exclude settings objects text v w s t = one_ending settings objects text one exclude v w s t

@@ -1,9 +1,8 @@
 -- A text without a wrong line is what an export in format text puts out, and the other way round.
-use Rattle.std.proofs.Common.{◌≡◌, ◌∙◌, refl, sym, ap, ap₂, subst, ℕ, ◌+◌, false, true, List, [], ◌∷◌, ◌++◌, map, All, append-nil, arith, Option, None, Some, inl, inr}
+use Rattle.std.proofs.Common.{◌≡◌, ◌∙◌, refl, sym, ap, ap₂, subst, ℕ, ◌+◌, false, true, List, [], ◌∷◌, ◌++◌, map, All, append-nil, arith, Option, inl, inr}
 use Rattle.std.proofs.lemmas.List.Elements.{All-cons, All-head, All-nil, All-tail}
 use Rattle.opl_reader.specs.declared.object.Object.{Object}
 use Rattle.opl_reader.specs.declared.object.ObjectRef.{ObjectRef}
-use Rattle.opl_reader.specs.declared.object.Tag.{Tag}
 use Rattle.osm_area.specs.Outcome.{HasAreaExactly, IsOutcome, OutcomeExists}
 use Rattle.osm_area.specs.Sound.{IsSound}
 use Rattle.osm_area.specs.declared.outcome.Outcome.{Outcome}
@@ -14,20 +13,19 @@ use Rattle.osm_objects.specs.Objects.{object_at}
 use Rattle.osm_objects.specs.declared.problem.Note.{Note}
 use Rattle.osm_text.specs.Feature.{feature_text}
 use Rattle.osm_text.specs.Paths.{paths_of}
-use Rattle.osm_text.specs.declared.feature_id.FeatureId.{FeatureId}
+use Rattle.osm_text.specs.Id.{feature_id}
 use Rattle.osm_words.specs.Job.{CertifySettings, ExportSettings}
-use Rattle.osm_words.specs.declared.settings.UniqueId.{UniqueId}
-use Rattle.osm_words.specs.declared.settings.UniqueId.TheVariants as unique
+use Rattle.osm_objects.specs.declared.area.UniqueId.{UniqueId}
 use Rattle.osm_job.specs.Sent.{output_of}
 use Rattle.osm_job.specs.Whole.{Whole}
 use Rattle.osm_job.proofs.Writes.{piece_out}
-use Rattle.area_certify.specs.declared.verdict.IdChoice.{IdChoice}
 use Rattle.area_certify.specs.Areas.{AreThose, HaveAreas}
-use Rattle.area_certify.specs.FirstWrong.{IsFeature, feature_id as certified_id, tags_of as certified_tags}
+use Rattle.area_certify.specs.FirstWrong.{IsFeature}
 use Rattle.area_certify.specs.RightTexts.{AreFeatures, IsRightText, RightTextsAreFeatures}
-use Rattle.job_export.specs.Entry.{Entry, IsEntry, entries_sent, feature_id, features_in, piece_of, tags_of}
+use Rattle.job_export.specs.Entry.{Entry, IsEntry, entries_sent, features_in, piece_of}
+use Rattle.osm_area.specs.Feature.{feature_tags}
 use Rattle.job_export.specs.Export.{IsExport, finished, finished_whole, stopped}
-use Rattle.job_certify.specs.Certify.{choice_of, id_choice}
+use Rattle.job_certify.specs.Certify.{choice_of}
 use Rattle.job_certify.specs.Exported.{export_of}
 use Rattle.job_certify.specs.Laws.{CertifiedTextsAreExports}
 
@@ -38,21 +36,12 @@ never h = cc
 
 -- ---- one feature
 
-same_tags : (held : Option Object) → tags_of held ≡ certified_tags held
-same_tags None = refl
-same_tags (Some object) = refl
-
-same_id : (ids : Option UniqueId) (earlier : ℕ) (c : ObjectRef) → feature_id ids earlier c ≡ certified_id (id_choice ids) (earlier + 1) c
-same_id None earlier c = refl
-same_id (Some unique.Counter) earlier c = refl
-same_id (Some unique.TypeId) earlier c = refl
-
 module _ (settings : CertifySettings) (objects : List Object) where
   abbrev exported : ExportSettings
   exported = export_of settings
 
-  abbrev ids : IdChoice
-  ids = id_choice settings.ids
+  abbrev ids : Option UniqueId
+  ids = settings.ids
 
   -- what entries put out
   abbrev out : ℕ → List Entry → List ℕ
@@ -61,15 +50,13 @@ module _ (settings : CertifySettings) (objects : List Object) where
   -- the piece of an area is its feature
   piece_is : (earlier : ℕ) (c : ObjectRef) (polygons : List Polygon) (notes : List Note) →
       piece_of exported objects earlier c (Area polygons notes)
-      ≡ feature_text (certified_id ids (earlier + 1) c) (paths_of polygons) (certified_tags (object_at objects c))
+      ≡ feature_text (feature_id ids (earlier + 1) c) (paths_of polygons) (feature_tags (object_at objects c))
   piece_is earlier c polygons notes =
-      append-nil (feature_text (feature_id settings.ids earlier c) (paths_of polygons) (tags_of (object_at objects c)))
-      ∙ ap₂ (λ (id : Option FeatureId) (tags : List Tag). feature_text id (paths_of polygons) tags)
-      (same_id settings.ids earlier c) (same_tags (object_at objects c))
+      append-nil (feature_text (feature_id settings.ids (earlier + 1) c) (paths_of polygons) (feature_tags (object_at objects c)))
 
   area_out : (earlier : ℕ) (c : ObjectRef) (polygons : List Polygon) (notes : List Note) (report : List ℕ) (es : List Entry) →
       out earlier (record { candidate = c; outcome = Area polygons notes; report = report } ∷ es)
-      ≡ feature_text (certified_id ids (earlier + 1) c) (paths_of polygons) (certified_tags (object_at objects c)) ++ out (earlier + 1) es
+      ≡ feature_text (feature_id ids (earlier + 1) c) (paths_of polygons) (feature_tags (object_at objects c)) ++ out (earlier + 1) es
   area_out earlier c polygons notes report es =
       piece_out (piece_of exported objects earlier c (Area polygons notes)) report (entries_sent exported objects (earlier + 1) es)
       ∙ ap (λ (xs : List ℕ). xs ++ out (earlier + 1) es) (piece_is earlier c polygons notes)
@@ -93,13 +80,13 @@ module _ (settings : CertifySettings) (objects : List Object) where
 
     with_area : (earlier : ℕ) (c : ObjectRef) (cs : List ObjectRef) (polygons : List Polygon) (notes : List Note) (rest text : List ℕ) →
         IsOutcome objects c (Area polygons notes) →
-        text ≡ feature_text (certified_id ids (earlier + 1) c) (paths_of polygons) (certified_tags (object_at objects c)) ++ rest →
+        text ≡ feature_text (feature_id ids (earlier + 1) c) (paths_of polygons) (feature_tags (object_at objects c)) ++ rest →
         HaveFeatures (earlier + 1) cs rest → HaveFeatures earlier (c ∷ cs) text
     with_area earlier c cs polygons notes rest text right is more = (
       c ∷ more.0,
       inl ((exactly objects c (Area polygons notes) right).0 refl, more.0, more.1, refl),
       (
-        feature_text (certified_id ids (earlier + 1) c) (paths_of polygons) (certified_tags (object_at objects c)),
+        feature_text (feature_id ids (earlier + 1) c) (paths_of polygons) (feature_tags (object_at objects c)),
         rest,
         record { polygons = polygons; notes = notes; right = right; whole = refl },
         more.2,
@@ -195,7 +182,7 @@ module _ (settings : CertifySettings) (objects : List Object) where
 
 pub certified_are_exports : OutcomeExists → HasAreaExactly → RightTextsAreFeatures → CertifiedTextsAreExports
 certified_are_exports exists exactly right_texts settings objects text =
-    let both = right_texts (choice_of settings) (id_choice settings.ids) objects text in (
+    let both = right_texts (choice_of settings) settings.ids objects text in (
       λ right. to_export settings objects exists exactly text (both.0 right),
       λ found. both.1 (from_export settings objects exists exactly text found.0 found.1 found.2),
     )

@@ -6,7 +6,7 @@ use Rattle.osm_job.specs.Sent.{output_of}
 use Rattle.osm_job.specs.Whole.{Whole}
 use Rattle.area_certify.specs.FirstWrong.{HasNoWrongLine}
 use Rattle.job_export.specs.Export.{IsExport}
-use Rattle.job_certify.specs.Certify.{IsCertify, choice_of, id_choice}
+use Rattle.job_certify.specs.Certify.{IsCertify, choice_of}
 use Rattle.job_certify.specs.Exported.{export_of}
 
 -- for each settings, objects and text there is a right ending
@@ -23,5 +23,5 @@ CertifyIsOne =
 abbrev pub CertifiedTextsAreExports : Type 0
 CertifiedTextsAreExports =
     (settings : CertifySettings) (objects : List Object) (text : List ℕ) →
-    HasNoWrongLine (choice_of settings) (id_choice settings.ids) objects text
+    HasNoWrongLine (choice_of settings) settings.ids objects text
     ↔ ((whole : Whole) × IsExport (export_of settings) objects whole × (output_of whole.written ≡ text))

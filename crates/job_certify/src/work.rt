@@ -1,15 +1,15 @@
 //! The work: the input and the text are read, and then the text is judged.
 
 ghost use Rattle.std.specs.Prelude.{◌≡◌, IfOk};
-ghost use Rattle.job_certify.specs.Certify.{Certifies, IsCertify, id_choice};
+ghost use Rattle.job_certify.specs.Certify.{Certifies, IsCertify};
 ghost use Rattle.osm_job.specs.Whole.{silent};
 ghost use Rattle.osm_words.specs.Answers.{certify_seen};
 
-use area_certify::{IdChoice, Verdict, certify};
+use area_certify::{Verdict, certify};
 use osm_host::{Host, streams_append};
 use osm_job::{Ended, choice_of, read_both};
 use osm_objects::Store;
-use osm_words::{CertifySettings, UniqueId};
+use osm_words::CertifySettings;
 use std::alloc::{AllocError as OutOfMemory, Global};
 
 /// Reads the input and the text, and says whether the text is right for the objects of the input: Done exactly where it has no
@@ -45,19 +45,8 @@ fn judge(
         settings.area_keys,
         settings.linear_keys,
     )?;
-    match certify(alloc, store, &choice, id_choice(settings.ids), text)? {
+    match certify(alloc, store, &choice, settings.ids, text)? {
         Verdict::Yes => Ok(Ended::Done),
         Verdict::No { line } => Ok(Ended::Refuted { line }),
-    }
-}
-
-/// By what the features are named whose areas have such ids.
-fn id_choice(ids: Option<UniqueId>) -> IdChoice
-    ensures { result ≡ id_choice ids }
-{
-    match ids {
-        None => IdChoice::NoId,
-        Some(UniqueId::Counter) => IdChoice::Counter,
-        Some(UniqueId::TypeId) => IdChoice::TypeId,
     }
 }

@@ -11,7 +11,8 @@ use Rattle.osm_nest.specs.declared.polygon.Polygon.{Polygon}
 use Rattle.osm_report.specs.declared.coast.CoastLine.{CoastLine}
 use Rattle.osm_text.specs.declared.piece.PieceKind.{PieceKind}
 use Rattle.osm_words.specs.Job.{CoastlineSettings}
-use Rattle.job_coastline.specs.Pieces.{ArePolygons, AreTiles, IsTile, Tile, large_lines, pieces_count, pieces_text, polygon_count, polygon_text, tile_count, tile_lines, tile_text, vanished_lines}
+use Rattle.job_coastline.specs.Pieces.{AreTiles, IsTile, Tile, large_lines, pieces_count, pieces_text, polygon_count, polygon_text, tile_count, tile_lines, tile_text, vanished_lines}
+use Rattle.osm_nest.specs.Nested.{ArePolygons}
 use Rattle.job_coastline.specs.PieceSteps.{Adds, AddsPolygon, AddsTiles, ArePieces}
 use Rattle.job_coastline.specs.declared.pieces.Pieces.{Pieces}
 use Rattle.job_coastline.proofs.Growing.{adds_both, adds_nothing}

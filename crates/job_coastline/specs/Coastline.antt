@@ -15,7 +15,8 @@ use Rattle.osm_job.specs.Worked.{ReadThenWrote}
 use Rattle.coast_split.specs.declared.leaves.Leaf.{Leaf}
 use Rattle.coast_sides.specs.Water.{IsWater, segments_along}
 use Rattle.job_coastline.specs.Coast.{Coast, IsCoast}
-use Rattle.job_coastline.specs.Pieces.{AreLeavesOf, ArePolygons, AreTiles, Tile, has_land, has_water, pieces_text, tile_lines}
+use Rattle.job_coastline.specs.Pieces.{AreLeavesOf, AreTiles, Tile, has_land, has_water, pieces_text, tile_lines}
+use Rattle.osm_nest.specs.Nested.{ArePolygons}
 use Rattle.job_coastline.specs.Report.{ArePrinted, coast_lines, ending_of}
 use Rattle.osm_report.specs.declared.coast.CoastLine.{CoastLine}
 

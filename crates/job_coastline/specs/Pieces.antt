@@ -1,10 +1,8 @@
 -- The polygons of land or water, the leaves that they are split into, and the pieces of the output that those make.
 use Rattle.std.specs.Prelude.{◌≡◌, ℕ, Bool, true, false, List, [], ◌∷◌, ◌++◌, All, if◌then◌else◌, length, map, Option, Some, None}
 use Rattle.std.specs.List.{flat_map, sum_by}
-use Rattle.osm_geom.specs.declared.edge.Edge.{Edge}
-use Rattle.osm_rings.specs.RingList.{AreRingsOf}
 use Rattle.osm_lattice.specs.declared.loc.Loc.{Loc}
-use Rattle.osm_nest.specs.Nested.{AreNested}
+use Rattle.osm_nest.specs.Nested.{ArePolygons}
 use Rattle.osm_nest.specs.Polygons.{edges_in}
 use Rattle.osm_nest.specs.declared.polygon.Polygon.{Polygon}
 use Rattle.coast_split.specs.SplitTree.{AreLeaves}
@@ -16,12 +14,6 @@ use Rattle.osm_text.specs.declared.piece.PieceKind.{PieceKind}
 use Rattle.osm_words.specs.Job.{CoastlineSettings}
 use Rattle.osm_words.specs.declared.settings.OutputPolygons.{OutputPolygons}
 use Rattle.osm_words.specs.declared.settings.OutputPolygons.TheVariants.{Land, Water, Both, Neither}
-
--- the edges are cut into rings, and the rings make these polygons
-pub record ArePolygons (edges : List Edge) (polygons : List Polygon) : Type 0 where
-  pub rings : List (List Edge)
-  pub cut : AreRingsOf edges rings
-  pub nested : AreNested rings polygons
 
 -- ---- leaves
 

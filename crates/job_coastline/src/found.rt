@@ -23,12 +23,11 @@ use crate::lines::{
     repeated_lines, unclosed_lines, wrong_way_lines,
 };
 use crate::pieces::{Pieces, pieces_of};
-use crate::polygons::polygons;
 use coast_sides::water;
 use coast_split::{SplitError, split_trees_exist};
 use osm_geom::Edges;
 use osm_job::Ended;
-use osm_nest::{Polygon, Polygons};
+use osm_nest::{Polygon, Polygons, polygons};
 use osm_objects::Store;
 use osm_report::CoastLine;
 use osm_sides::directing_is_sided;

@@ -12,7 +12,6 @@ mod found;
 mod line_laws;
 mod lines;
 mod pieces;
-mod polygons;
 mod work;
 mod writing;
 

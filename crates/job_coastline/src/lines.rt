@@ -2,13 +2,11 @@
 
 ghost use Rattle.std.specs.Prelude.{◌≡◌, All, IfOk, map};
 ghost use Rattle.std.specs.List.{filter_map, list_any};
-ghost use Rattle.coast_join.specs.Line.{first_of, last_of};
 ghost use Rattle.job_coastline.specs.Report.{ArePrinted, antarctica_line, aside_line, conflict_line, ending_of, gap_line, left_out_line, repeated_line, unclosed_line, wrong_way_line};
 ghost use Rattle.osm_job.specs.Sent.{lines_text};
 ghost use Rattle.osm_report.specs.Coast.{HasItsKind, is_error};
 
 use coast_join::{Aside, Chain, CoastRing, Gap};
-use osm_geom::Loc;
 use osm_job::Ended;
 use osm_report::{CoastLine, coast_line, is_error};
 use osm_segments::{Pair, Repeat};
@@ -55,29 +53,14 @@ pub(crate) fn antarctica_lines(
         .collect(alloc)
 }
 
-/// Where a chain starts.
-fn first(chain: &Chain) -> Loc
-    ensures { result ≡ first_of chain.now.path }
-{
-    chain.path.as_slice()[0]
-}
-
-/// Where it ends.
-fn last(chain: &Chain) -> Loc
-    ensures { result ≡ last_of chain.now.path }
-{
-    let path = chain.path.as_slice();
-    path[path.len() - 1]
-}
-
 /// A gap is closed.
 fn gap_line(chains: &[Chain], gap: Gap) -> Option<CoastLine>
     ensures { result ≡ gap_line chains.now gap }
 {
     match (chains.get(gap.from_chain), chains.get(gap.to_chain)) {
         (Some(from), Some(to)) => Some(CoastLine::Gap {
-            end_at: last(from),
-            start_at: first(to),
+            end_at: from.last(),
+            start_at: to.first(),
         }),
         (Some(_), None) | (None, Some(_)) | (None, None) => None,
     }
@@ -102,8 +85,8 @@ fn unclosed_line(chain: &Chain) -> CoastLine
 {
     CoastLine::Unclosed {
         chain: chain.name,
-        start_at: first(chain),
-        end_at: last(chain),
+        start_at: chain.first(),
+        end_at: chain.last(),
     }
 }
 

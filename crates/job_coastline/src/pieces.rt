@@ -14,10 +14,9 @@ ghost use Rattle.osm_nest.specs.Polygons.{edges_in};
 ghost use Rattle.osm_words.specs.Answers.{coastline_seen};
 ghost use Rattle.plane_edges.specs.Sided.{IsSided};
 
-use crate::polygons::polygons;
 use coast_split::{Leaf, Settings, SplitError, split, split_trees_exist};
 use osm_geom::{Edges, Loc};
-use osm_nest::Polygon;
+use osm_nest::{Polygon, polygons};
 use osm_report::CoastLine;
 use osm_text::{PieceKind, piece_text};
 use osm_words::CoastlineSettings;

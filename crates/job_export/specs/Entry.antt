@@ -1,43 +1,29 @@
 -- What a candidate with its outcome adds to the output and to the report.
-use Rattle.std.specs.Prelude.{◌≡◌, ℕ, Bool, true, false, List, [], ◌∷◌, ◌++◌, ◌+◌, map, Option, Some, None, option_map}
+use Rattle.std.specs.Prelude.{◌≡◌, ℕ, Bool, true, false, List, [], ◌∷◌, ◌++◌, ◌+◌, map, Option}
 use Rattle.std.specs.List.{flat_map}
 use Rattle.opl_reader.specs.declared.object.Object.{Object}
 use Rattle.opl_reader.specs.declared.object.ObjectRef.{ObjectRef}
 use Rattle.opl_reader.specs.declared.object.Tag.{Tag}
 use Rattle.osm_objects.specs.declared.problem.Problem.{Problem}
-use Rattle.osm_objects.specs.AreaIds.{area_id}
-use Rattle.osm_objects.specs.Candidates.{area_tags}
 use Rattle.osm_objects.specs.Objects.{object_at}
 use Rattle.osm_area.specs.declared.outcome.Outcome.{Outcome}
 use Rattle.osm_area.specs.declared.outcome.Outcome.TheVariants.{Area, Problems}
+use Rattle.osm_area.specs.Feature.{feature_tags}
 use Rattle.osm_area.specs.Outcome.{IsOutcome}
 use Rattle.osm_nest.specs.declared.polygon.Polygon.{Polygon}
 use Rattle.osm_text.specs.Paths.{paths_of}
 use Rattle.osm_text.specs.declared.feature_id.FeatureId.{FeatureId}
-use Rattle.osm_text.specs.declared.feature_id.FeatureId.TheVariants as id
 use Rattle.osm_text.specs.Feature.{feature_text}
 use Rattle.osm_text.specs.GeoJson.{feature_json}
+use Rattle.osm_text.specs.Id.{feature_id}
 use Rattle.osm_report.specs.Report.{IsProblemLine, note_line}
 use Rattle.osm_words.specs.Job.{ExportSettings}
 use Rattle.osm_words.specs.declared.settings.Format.{Format}
 use Rattle.osm_words.specs.declared.settings.Format.TheVariants.{GeoJson, GeoJsonSeq, Text}
-use Rattle.osm_words.specs.declared.settings.UniqueId.{UniqueId}
-use Rattle.osm_words.specs.declared.settings.UniqueId.TheVariants.{Counter, TypeId}
 use Rattle.job_export.specs.Framing.{framed}
 use Rattle.osm_job.specs.Sent.{Sent, to_output, to_report}
 
 -- ---- output
-
--- the tags of a candidate's area
-abbrev pub tags_of : Option Object → List Tag
-tags_of None = []
-tags_of (Some object) = area_tags object
-
--- the id of a candidate's feature with `earlier` features before it
-abbrev pub feature_id : Option UniqueId → ℕ → ObjectRef → Option FeatureId
-feature_id None earlier candidate = None
-feature_id (Some Counter) earlier candidate = Some (id.Counter (earlier + 1))
-feature_id (Some TypeId) earlier candidate = option_map id.Area (area_id candidate)
 
 abbrev pub feature_in : Format → Option FeatureId → List Polygon → List Tag → List ℕ
 feature_in Text id polygons tags = feature_text id (paths_of polygons) tags
@@ -47,7 +33,7 @@ feature_in GeoJsonSeq id polygons tags = feature_json id (paths_of polygons) tag
 -- the feature of an area with what stands around it; nothing where there are problems
 abbrev pub piece_of : ExportSettings → List Object → ℕ → ObjectRef → Outcome → List ℕ
 piece_of settings objects earlier candidate (Area polygons notes) =
-    framed settings earlier (feature_in settings.format (feature_id settings.ids earlier candidate) polygons (tags_of (object_at objects candidate)))
+    framed settings earlier (feature_in settings.format (feature_id settings.ids (earlier + 1) candidate) polygons (feature_tags (object_at objects candidate)))
 piece_of settings objects earlier candidate (Problems list notes) = []
 
 -- an area has one feature

@@ -4,21 +4,23 @@ ghost use Rattle.std.specs.Prelude.{◌≡◌, All, IfOk, IfSome, IsSome, OnErr,
 ghost use Rattle.std.specs.List.{flat_map};
 ghost use Rattle.job_export.specs.Entries.{shown, IsAdditionOf, AddsProblems};
 ghost use Rattle.osm_job.specs.Sent.{lines_text};
-ghost use Rattle.job_export.specs.Entry.{feature_id, feature_in, tags_of};
+ghost use Rattle.job_export.specs.Entry.{feature_in};
+ghost use Rattle.osm_area.specs.Feature.{feature_tags};
 ghost use Rattle.job_export.specs.Framing.{framed};
 ghost use Rattle.osm_notation.specs.Kept.{Keeps};
 ghost use Rattle.osm_objects.specs.Objects.{object_at};
 ghost use Rattle.osm_objects.specs.Problem.{IsOfItsKind};
 ghost use Rattle.osm_report.specs.Report.{note_line};
+ghost use Rattle.osm_text.specs.Id.{feature_id};
 ghost use Rattle.osm_words.specs.Answers.{settings_seen};
 
 use crate::framing::{after_feature, before_feature};
 use opl_reader::{ObjectKind, ObjectRef, Tags};
 use osm_area::{Outcome, assemble};
 use osm_nest::Polygons;
-use osm_objects::{Note, Problem, Store, area_id};
+use osm_objects::{Note, Problem, Store};
 use osm_text::{FeatureId, note_line, problem_line, put_feature_json, put_feature_text};
-use osm_words::{ExportSettings, Format, UniqueId};
+use osm_words::{ExportSettings, Format};
 use std::alloc::{AllocError as OutOfMemory, Global};
 
 /// What a candidate adds beside its feature.
@@ -37,18 +39,6 @@ impl Addition {
         ensures alone { result ≡ true → self.now.lines.items ≡ [] }
     {
         self.has_feature && self.lines.is_empty()
-    }
-}
-
-/// The id of a candidate's feature with `earlier` features before it.
-fn feature_id(ids: Option<UniqueId>, earlier: u64, candidate: ObjectRef) -> Option<FeatureId>
-    requires { earlier + 1 ≤ 18_446_744_073_709_551_615 }
-    ensures { result ≡ feature_id ids earlier candidate }
-{
-    match ids {
-        Some(UniqueId::Counter) => Some(FeatureId::Counter(earlier + 1)),
-        Some(UniqueId::TypeId) => area_id(candidate).map(FeatureId::Area),
-        None => None,
     }
 }
 
@@ -73,7 +63,7 @@ fn put_feature(
 
 /// The tags of a candidate that is a way, lent.
 fn lent_tags<'a>(store: &'a Store, candidate: ObjectRef) -> Option<&'a Tags>
-    ensures { IfSome result (λ tags. tags.now ≡ tags_of (object_at store.now candidate)) }
+    ensures { IfSome result (λ tags. tags.now ≡ feature_tags (object_at store.now candidate)) }
 {
     match candidate.kind {
         ObjectKind::Way => match store.way(candidate.id) {
@@ -96,7 +86,7 @@ fn put_feature_of(
 ) -> Result<(), OutOfMemory>
     requires { IsSome (object_at store.now candidate) }
     ensures text { OnOk result (text.new.items ≡ text.old.items
-        ++ feature_in format id polygons.now (tags_of (object_at store.now candidate))) }
+        ++ feature_in format id polygons.now (feature_tags (object_at store.now candidate))) }
     ensures kept { OnErr result (Keeps text.old.items text.new.items) }
 {
     if let Some(tags) = lent_tags(store, candidate) {
@@ -120,10 +110,10 @@ fn put_framed(
     requires room { earlier + 1 ≤ 18_446_744_073_709_551_615 }
     ensures { OnOk result (text.new.items ≡ text.old.items
         ++ framed (settings_seen settings.now) earlier
-        (feature_in settings.now.format (feature_id settings.now.ids earlier candidate)
-        polygons.now (tags_of (object_at store.now candidate)))) }
+        (feature_in settings.now.format (feature_id settings.now.ids (earlier + 1) candidate)
+        polygons.now (feature_tags (object_at store.now candidate)))) }
 {
-    let id = feature_id(settings.ids, earlier, candidate);
+    let id = FeatureId::of(settings.ids, earlier + 1, candidate);
     let before = before_feature(settings.format, settings.omit_rs, earlier);
     text.extend_from_slice(before.as_bytes())?;
     put_feature_of(alloc, text, store, settings.format, candidate, polygons, id)?;

@@ -62,7 +62,7 @@ directed-one segs a b s t = edges-same a b (s.whole ∙ sym t.whole) (s.firsts �
 pub area-one : (segs : List Seg) → IsRising seg_cmp segs → conflicts_of segs ≡ [] → HasEvenNodes segs → (m n : List Polygon) → IsArea segs m → IsArea segs n → m ≡ n
 area-one segs rising clear even m n a b =
     let q = directed-one segs b.edges a.edges b.directed a.directed in
-    polygons-one a.edges (directed_is_sided segs a.edges rising clear even a.directed) a.rings b.rings a.cut (subst (λ es. AreRingsOf es b.rings) q b.cut) m n a.nested b.nested
+    polygons-one a.edges (directed_is_sided segs a.edges rising clear even a.directed) a.made.rings b.made.rings a.made.cut (subst (λ es. AreRingsOf es b.made.rings) q b.made.cut) m n a.made.nested b.made.nested
 
 -- ---- problems, notes and outcome
 faults-one : (segs : List Seg) (a b : List Problem) → AreFaults segs a → AreFaults segs b → a ≡ b

@@ -31,7 +31,8 @@ use Rattle.job_coastline.specs.Coast.{Coast, IsCoast}
 use Rattle.job_coastline.specs.Coastline.{AreAreas, AreLand, AreWater, Areas, AreWritten, AreWrittenOrTooMany, all_lines, all_sent, most_leaves}
 use Rattle.job_coastline.specs.Counts.{counts_of}
 use Rattle.job_coastline.specs.LineLaws.{LinesHaveKinds}
-use Rattle.job_coastline.specs.Pieces.{AreLeavesOf, ArePolygons, AreTiles, IsTile, Tile, has_land, has_water}
+use Rattle.job_coastline.specs.Pieces.{AreLeavesOf, AreTiles, IsTile, Tile, has_land, has_water}
+use Rattle.osm_nest.specs.Nested.{ArePolygons}
 use Rattle.job_coastline.specs.Report.{ArePrinted, ending_of}
 use Rattle.one_coast.proofs.AreasOne.{land_leaves_sided, water_leaves_sided}
 use Rattle.one_coast.proofs.LeavesOne.{AreSidedLeaves}

@@ -22,7 +22,8 @@ use Rattle.coast_split.specs.declared.leaves.Leaf.{Leaf}
 use Rattle.coast_split.specs.SplitTree.{AreLeaves, IsTree, leaf_of, leaves_of}
 use Rattle.osm_words.specs.Job.{CoastlineSettings}
 use Rattle.job_coastline.specs.Coastline.{AreLand, AreWater}
-use Rattle.job_coastline.specs.Pieces.{AreLeavesOf, ArePolygons}
+use Rattle.job_coastline.specs.Pieces.{AreLeavesOf}
+use Rattle.osm_nest.specs.Nested.{ArePolygons}
 use Rattle.one_coast.specs.Cover.{IsOffLeafEdges, LandLeavesPart, LeavesPartTheWorld, WaterLeavesPart, leaves_over}
 use Rattle.one_coast.proofs.LeavesTogether.{Fits, count-is, fits, left-off, lists-off, right-off}
 use Rattle.one_coast.proofs.SignedParity.{none-even, once-odd, parity-is}

@@ -20,7 +20,8 @@ use Rattle.coast_split.specs.declared.leaves.Leaf.{Leaf}
 use Rattle.coast_split.specs.SplitTree.{AreLeaves, Covers, IsOffLeaves, IsOffList, SomeCovers, leaf_of, leaves_of}
 use Rattle.one_coast.specs.Cover.{IsOffLeafEdges, SomeLeafCovers}
 use Rattle.osm_words.specs.Job.{CoastlineSettings}
-use Rattle.job_coastline.specs.Pieces.{AreLeavesOf, ArePolygons}
+use Rattle.job_coastline.specs.Pieces.{AreLeavesOf}
+use Rattle.osm_nest.specs.Nested.{ArePolygons}
 use Rattle.one_coast.proofs.SignedParity.{none-even, odd-parity, once-odd, parity-odd}
 
 -- ---- a polygon that covers, among polygons

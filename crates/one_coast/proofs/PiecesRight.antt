@@ -13,7 +13,8 @@ use Rattle.coast_split.specs.declared.leaves.Leaf.{Leaf}
 use Rattle.valid_polygons.specs.AreValid.{AreValid}
 use Rattle.valid_polygons.specs.Laws.{NestedAreValid}
 use Rattle.job_coastline.specs.Coastline.{AreAreas, AreLand, AreWater, Areas}
-use Rattle.job_coastline.specs.Pieces.{ArePolygons, AreTiles, IsTile, Tile, has_land, has_water}
+use Rattle.job_coastline.specs.Pieces.{AreTiles, IsTile, Tile, has_land, has_water}
+use Rattle.osm_nest.specs.Nested.{ArePolygons}
 use Rattle.one_coast.proofs.AreasOne.{land_leaves_sided, water_leaves_sided}
 use Rattle.one_coast.proofs.LeavesOne.{AreSidedLeaves}
 use Rattle.one_coast.specs.Pieces.{AreTilesOf, CoastsAreValid, MakesPolygons, PiecesArePolygons, PiecesAreValid}

@@ -10,7 +10,7 @@ use Rattle.plane_edges.specs.Sided.{IsSided}
 use Rattle.coast_sides.specs.OnenessLaws.{WaterIsOne}
 use Rattle.coast_sides.specs.Water.{segments_along}
 use Rattle.job_coastline.specs.Coastline.{AreLand, AreWater}
-use Rattle.job_coastline.specs.Pieces.{ArePolygons}
+use Rattle.osm_nest.specs.Nested.{ArePolygons}
 use Rattle.one_area.specs.Laws.{PolygonsAreOne}
 
 module _ (one : PolygonsAreOne) where

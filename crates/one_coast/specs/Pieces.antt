@@ -7,11 +7,11 @@ use Rattle.plane_edges.specs.Sided.{IsSided, count_at}
 use Rattle.opl_reader.specs.declared.object.Object.{Object}
 use Rattle.osm_nest.specs.Cover.{AreSided, covers_at}
 use Rattle.osm_nest.specs.Laws.{IsAroundInners}
-use Rattle.osm_nest.specs.Nested.{HasKinds}
+use Rattle.osm_nest.specs.Nested.{ArePolygons, HasKinds}
 use Rattle.osm_words.specs.Job.{CoastlineSettings}
 use Rattle.osm_job.specs.Whole.{Whole}
 use Rattle.job_coastline.specs.Coastline.{Areas, IsCoastline}
-use Rattle.job_coastline.specs.Pieces.{ArePolygons, AreTiles, Tile}
+use Rattle.job_coastline.specs.Pieces.{AreTiles, Tile}
 use Rattle.valid_polygons.specs.AreValid.{AreValid}
 
 -- the leaves of land with their polygons, or those of water

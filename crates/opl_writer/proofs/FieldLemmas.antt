@@ -14,7 +14,8 @@ use Rattle.opl_reader.specs.Parts.{Part, part, Lacks, EndsField, Parted, ends, s
 use Rattle.opl_reader.specs.Items.{IsTag, IsRef, IsMember}
 use Rattle.opl_reader.specs.Fields.{letter_of, nothing, FieldTells, Told}
 use Rattle.osm_notation.specs.Decimal.{units_text}
-use Rattle.opl_writer.specs.Written.{tag_text, ref_text, member_text, items_field, place_fields}
+use Rattle.opl_writer.specs.Written.{ref_text, member_text, items_field, place_fields}
+use Rattle.osm_notation.specs.Written.{tag_text}
 use Rattle.opl_writer.specs.Writable.{AreTags, AreRefs, AreMembers, IsTagOfTexts, IsRefInRange, IsMemberInRange}
 use Rattle.opl_writer.proofs.Bytes.{IsVisible, IsPrinted, visible_is_printed, visible_lacks_separators, number_is_visible}
 use Rattle.opl_writer.proofs.ItemLemmas.{IsItem, tag_is_item, ref_is_item, member_is_item, items_are_read, different_kept, longitude_of, latitude_of, x_is_read, y_is_read, x-of_number, y-of_number}

@@ -19,8 +19,8 @@ use Rattle.opl_reader.specs.Coordinates.{IsX, IsY}
 use Rattle.opl_reader.specs.declared.coordinate.Longitude.{Longitude}
 use Rattle.opl_reader.specs.declared.coordinate.Latitude.{Latitude}
 use Rattle.osm_notation.specs.Decimal.{units_text}
-use Rattle.osm_notation.specs.Written.{written}
-use Rattle.opl_writer.specs.Written.{tag_text, own_place_text, ref_text, kind_letter, member_text}
+use Rattle.osm_notation.specs.Written.{tag_text, written}
+use Rattle.opl_writer.specs.Written.{own_place_text, ref_text, kind_letter, member_text}
 use Rattle.opl_writer.specs.Writable.{IsTagOfTexts, IsRefInRange, IsMemberInRange}
 use Rattle.opl_writer.proofs.Bytes.{IsVisible, IsOfNumber, IsOfItem, number_is_of_item, text_is_of_item, item_is_visible, item_lacks_comma, number_lacks, text_lacks_equals}
 use Rattle.opl_writer.proofs.StringLemmas.{written-of_text, written_is_string}

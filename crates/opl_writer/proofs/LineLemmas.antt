@@ -21,7 +21,8 @@ use Rattle.opl_reader.specs.Items.{kind_of}
 use Rattle.opl_reader.specs.Coordinates.{place_of}
 use Rattle.opl_reader.specs.Fields.{nothing, object_of, Told}
 use Rattle.opl_reader.specs.Spells.{Spells}
-use Rattle.opl_writer.specs.Written.{tag_text, ref_text, member_text, tags_field, refs_field, members_field, place_fields, node_line, way_line, relation_line, line_of}
+use Rattle.opl_writer.specs.Written.{ref_text, member_text, tags_field, refs_field, members_field, place_fields, node_line, way_line, relation_line, line_of}
+use Rattle.osm_notation.specs.Written.{tag_text}
 use Rattle.opl_writer.specs.Writable.{IsIdNumber, AreTags, AreRefs, AreMembers, IsWritable}
 use Rattle.opl_writer.proofs.Bytes.{IsVisible, IsPrinted, printed_lacks, number_is_visible}
 use Rattle.opl_writer.proofs.NumberLemmas.{id_is_read, id-of_number}

@@ -11,13 +11,9 @@ use Rattle.opl_reader.specs.declared.object.ObjectKind.TheVariants.{Node, Way, R
 use Rattle.opl_reader.specs.declared.object.Object.{Object}
 use Rattle.opl_reader.specs.declared.object.Object.TheVariants as object
 use Rattle.osm_notation.specs.Decimal.{units_text}
-use Rattle.osm_notation.specs.Written.{written}
+use Rattle.osm_notation.specs.Written.{tag_text, written}
 
 -- ---- items
-
--- a tag: key=value
-abbrev pub tag_text : Tag → List ℕ
-tag_text t = written t.key ++ codes "=" ++ written t.value
 
 -- a location of a reference's own: x, the longitude, y and the latitude
 abbrev pub own_place_text : Option Loc → List ℕ

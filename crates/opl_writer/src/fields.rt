@@ -4,10 +4,10 @@ ghost use Rattle.std.specs.Prelude.{◌≡◌, ◌++◌, OnOk, OnErr};
 ghost use Rattle.osm_notation.specs.Kept.{Keeps};
 ghost use Rattle.opl_writer.specs.Written.{members_field, place_fields, refs_field, tags_field};
 
-use crate::items::{put_member, put_ref, put_tag};
+use crate::items::{put_member, put_ref};
 use opl_reader::{Members, Refs, Tags};
 use osm_lattice::Loc;
-use osm_notation::put_coordinate;
+use osm_notation::{put_coordinate, put_tag};
 use std::alloc::AllocError as OutOfMemory;
 
 /// Adds the field of tags, where there are any.

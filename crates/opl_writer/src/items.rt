@@ -1,24 +1,14 @@
 //! Items of a field: tags, references and members.
 
 ghost use Rattle.std.specs.Prelude.{◌≡◌, ◌++◌, OnOk, OnErr};
-ghost use Rattle.opl_reader.specs.Seen.{member_seen, tag_seen};
+ghost use Rattle.opl_reader.specs.Seen.{member_seen};
 ghost use Rattle.osm_notation.specs.Kept.{Keeps};
-ghost use Rattle.opl_writer.specs.Written.{kind_letter, member_text, own_place_text, ref_text, tag_text};
+ghost use Rattle.opl_writer.specs.Written.{kind_letter, member_text, own_place_text, ref_text};
 
-use opl_reader::{MemberRef, ObjectKind, Ref, TagRef};
+use opl_reader::{MemberRef, ObjectKind, Ref};
 use osm_lattice::Loc;
 use osm_notation::{put_coordinate, put_number, put_written};
 use std::alloc::AllocError as OutOfMemory;
-
-/// Adds a tag: its key, an equals sign and its value.
-pub(crate) fn put_tag(text: &mut Vec<u8>, tag: &TagRef<'_>) -> Result<(), OutOfMemory>
-    ensures text { OnOk result (text.new.items ≡ text.old.items ++ tag_text (tag_seen tag.now)) }
-    ensures kept { OnErr result (Keeps text.old.items text.new.items) }
-{
-    put_written(text, tag.key)?;
-    text.push(b'=')?;
-    put_written(text, tag.value)
-}
 
 /// Adds the location that a reference carries, where it carries one.
 fn put_own_place(text: &mut Vec<u8>, at: Option<Loc>) -> Result<(), OutOfMemory>

@@ -53,9 +53,7 @@ is_area survivors edges lent rings passed some directed l cut p polygons nested 
     record {
       edges = edges;
       directed = directed;
-      rings = passed;
-      cut = whole;
-      nested = nested;
+      made = record { rings = passed; cut = whole; nested = nested };
       some = some_polygon survivors edges passed polygons some directed whole nested;
     }
 
@@ -111,7 +109,7 @@ module _ (q : ℤ) (p : Vector) where
   area_count survivors polygons lattice area =
       count-is (all_edges (rings_of polygons)) lattice
       ∙ (sum-all_edges (λ (e : Edge). crossed (edge_times 1 e)) (rings_of polygons)
-      ∙ (sum-rings (λ (e : Edge). crossed (edge_times 1 e)) area.edges area.rings polygons area.cut area.nested
+      ∙ (sum-rings (λ (e : Edge). crossed (edge_times 1 e)) area.edges area.made.rings polygons area.made.cut area.made.nested
       ∙ directed-count survivors area.edges area.directed))
 
 pub area_parity : (survivors : List Seg) (polygons : List Polygon) → IsLattice (all_edges (rings_of polygons)) → IsArea survivors polygons → HaveParityOf survivors polygons

@@ -95,7 +95,7 @@ module _ (fit : RingsMayBeNested) (kinds : NestedHaveKinds) where
   area-kinds : (survivors : List Seg) (polygons : List Polygon) → IsRising seg_cmp survivors → conflicts_of survivors ≡ [] → HasEvenNodes survivors → IsArea survivors polygons → All HasKinds polygons
   area-kinds survivors polygons rising clear even area =
       let sided = directed_is_sided survivors area.edges rising clear even area.directed in
-      kinds area.rings polygons (fit area.edges area.rings sided area.cut) area.nested
+      kinds area.made.rings polygons (fit area.edges area.made.rings sided area.made.cut) area.made.nested
 
   sound-kinds : (missing : List ObjectRef) (segs : List Seg) (polygons : List Polygon) → IsSoundGiven missing segs → SurvivorsAre segs (λ survivors. IsArea survivors polygons) → All HasKinds polygons
   sound-kinds missing segs polygons sound are =

@@ -9,19 +9,16 @@ use Rattle.osm_lattice.specs.declared.seg.Seg.{Seg}
 use Rattle.osm_geom.specs.declared.edge.Edge.{Edge}
 use Rattle.osm_sides.specs.Directions.{AreDirected}
 use Rattle.osm_sides.specs.Survivors.{plane_edges_of}
-use Rattle.osm_rings.specs.RingList.{AreRingsOf}
 use Rattle.osm_nest.specs.declared.polygon.Polygon.{Polygon}
-use Rattle.osm_nest.specs.Nested.{AreNested}
+use Rattle.osm_nest.specs.Nested.{ArePolygons}
 use Rattle.osm_nest.specs.Polygons.{rings_of}
 use Rattle.osm_nest.specs.RingLists.{all_edges}
 
--- the segments, each with its odd side on the left, are cut into rings, and the rings make these polygons
+-- the segments, each with its odd side on the left, make these polygons, of which there are some
 pub record IsArea (survivors : List Seg) (polygons : List Polygon) : Type 0 where
   pub edges : List Edge
   pub directed : AreDirected survivors edges
-  pub rings : List (List Edge)
-  pub cut : AreRingsOf edges rings
-  pub nested : AreNested rings polygons
+  pub made : ArePolygons edges polygons
   pub some : polygons ≢ []
 
 -- at every point p.x / q, p.y / q the rings of the polygons together have the parity of the segments

@@ -1,4 +1,5 @@
 pub mod Area
+pub mod Feature
 pub mod MemberWays
 pub mod Missing
 pub mod Names

@@ -2,10 +2,9 @@
 ghost use Rattle.std.specs.Prelude.{◌≡◌, None, true};
 ghost use lib.Signed.{lt_z};
 ghost use Rattle.plane.specs.Edge.{ends_at};
-ghost use Rattle.plane.specs.Sign.{sign, are_opposite, is_minus, is_plus};
+ghost use Rattle.plane.specs.Sign.{sign, are_opposite};
 ghost use Rattle.osm_lattice.specs.Conflict.{are_overlapping, are_crossing, conflict_of};
 ghost use Rattle.osm_lattice.specs.ConflictTests.{before, beside, on_line, inside, along, meet_at_end, touched_by, parted_by, west};
-ghost use Rattle.osm_lattice.specs.Line.{side_of_line};
 ghost use Rattle.osm_lattice.specs.Loc.{vector_of};
 ghost use Rattle.osm_lattice.specs.Seg.{edge_of};
 
@@ -34,20 +33,6 @@ fn is_on_line(p: Loc, s: Seg) -> bool
     ensures { result ≡ on_line p s }
 {
     compare_to_line(p, s).is_eq()
-}
-
-#[tactic(auto, using(crate::proofs::LocationOrder::is_lt_plus))]
-fn is_left_of_line(p: Loc, s: Seg) -> bool
-    ensures { result ≡ is_plus (side_of_line p s) }
-{
-    compare_to_line(p, s).is_lt()
-}
-
-#[tactic(auto, using(crate::proofs::LocationOrder::is_gt_minus))]
-fn is_right_of_line(p: Loc, s: Seg) -> bool
-    ensures { result ≡ is_minus (side_of_line p s) }
-{
-    compare_to_line(p, s).is_gt()
 }
 
 /// One number is positive and the other negative.
@@ -104,12 +89,11 @@ fn are_crossing(s: Seg, t: Seg) -> bool
 }
 
 /// Both ends of `t` lie strictly on one side of the line of `s`.
-#[tactic(auto, unfolding(crate::specs::ConflictTests::beside))]
+#[tactic(auto, unfolding(crate::specs::ConflictTests::beside, crate::specs::Line::is_left_of_line, crate::specs::Line::is_right_of_line))]
 fn is_beside(t: Seg, s: Seg) -> bool
     ensures { result ≡ beside t s }
 {
-    is_left_of_line(t.a, s) && is_left_of_line(t.b, s)
-        || is_right_of_line(t.a, s) && is_right_of_line(t.b, s)
+    s.has_on_left(t.a) && s.has_on_left(t.b) || s.has_on_right(t.a) && s.has_on_right(t.b)
 }
 
 fn is_end_of(p: Loc, s: Seg) -> bool

@@ -4,6 +4,7 @@ ghost use Rattle.std.specs.Ordering.{ord_min, ord_max};
 ghost use Rattle.osm_lattice.specs.Loc.{loc_cmp, IsBefore};
 
 use crate::loc::Loc;
+use crate::orientation::compare_to_line;
 
 /// A segment between two different locations, `a` the lesser in the order of locations (by y, then by x).
 ///
@@ -16,6 +17,7 @@ pub struct Seg {
 }
 
 impl Seg {
+    ghost use Rattle.osm_lattice.specs.Line.{is_left_of_line, is_right_of_line};
     ghost use Rattle.osm_lattice.specs.Seg.{segment_between};
 
     /// The segment between two locations, whichever comes first; `None` if they are one location.
@@ -33,5 +35,20 @@ impl Seg {
         } else {
             None
         }
+    }
+    /// Whether `p` is left of the segment's line.
+    #[tactic(auto, using(crate::proofs::LocationOrder::is_lt_plus), unfolding(crate::specs::Line::is_left_of_line))]
+    pub fn has_on_left(self, p: Loc) -> bool
+        ensures { result ≡ is_left_of_line p self }
+    {
+        compare_to_line(p, self).is_lt()
+    }
+
+    /// Whether `p` is right of the segment's line.
+    #[tactic(auto, using(crate::proofs::LocationOrder::is_gt_minus), unfolding(crate::specs::Line::is_right_of_line))]
+    pub fn has_on_right(self, p: Loc) -> bool
+        ensures { result ≡ is_right_of_line p self }
+    {
+        compare_to_line(p, self).is_gt()
     }
 }

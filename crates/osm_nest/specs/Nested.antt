@@ -11,6 +11,7 @@ use Rattle.osm_nest.specs.Outer.{IsInner, IsOuter}
 use Rattle.osm_nest.specs.Polygons.{polygon_times, rings_of}
 use Rattle.osm_nest.specs.RingLists.{all_edges, whole_rings}
 use Rattle.lists.specs.Rotated.{IsRotated}
+use Rattle.osm_rings.specs.RingList.{AreRingsOf}
 use Rattle.osm_rings.specs.Turned.{BeginsLeast}
 use Rattle.plane_edges.specs.Multiple.{common_den}
 
@@ -59,3 +60,9 @@ pub record AreNested (rs : List (List Edge)) (nested : List Polygon) : Type 0 wh
   pub of_rings : ArePolygonsOf rs polygons
   pub begun : ArePolygonsFromLeast polygons nested
   pub in_order : AreInOrder nested
+
+-- the edges are cut into rings, and the rings make these polygons
+pub record ArePolygons (edges : List Edge) (polygons : List Polygon) : Type 0 where
+  pub rings : List (List Edge)
+  pub cut : AreRingsOf edges rings
+  pub nested : AreNested rings polygons

@@ -1,6 +1,7 @@
 //! Which rings are outer and which inner, and which inner ring lies under which outer one: the polygons of a ring list.
 #![tactic(auto)]
 
+mod cutting;
 mod enclosers;
 mod grouping;
 mod heights;
@@ -16,6 +17,7 @@ mod rings_from_least;
 mod sweep_status;
 mod swept_enclosers;
 
+pub use cutting::polygons;
 pub use grouping::{nest, nest_rings};
 pub use laws::{
     nested_cover_as_rings, nested_have_kinds, nesting_exists, rings_are_clear, rings_may_be_nested,

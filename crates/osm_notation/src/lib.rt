@@ -7,8 +7,10 @@ mod coordinates;
 mod decimal;
 mod number;
 mod strings;
+mod tag;
 
 pub use coordinates::{put_both, put_coordinate, put_point, put_xy};
 pub use decimal::put_decimal;
 pub use number::put_number;
 pub use strings::{put_written, written};
+pub use tag::put_tag;

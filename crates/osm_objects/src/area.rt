@@ -5,6 +5,15 @@ ghost use Rattle.osm_objects.specs.AreaIds.{area_id};
 
 use opl_reader::{ObjectKind, ObjectRef};
 
+/// By what the feature of a written area is named.
+#[derive(Clone, Copy, Debug, PartialEq, Eq)]
+pub enum UniqueId {
+    /// By its place in the output, from 1.
+    Counter,
+    /// By the id of its area, which tells the kind and the id of the object.
+    TypeId,
+}
+
 /// The greatest magnitude of an object's id, such that twice it and one more is an `i64`.
 const MOST_ID: u64 = (1 << 62) - 1;
 

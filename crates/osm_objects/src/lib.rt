@@ -15,7 +15,7 @@ mod store;
 mod tags;
 mod view;
 
-pub use area::area_id;
+pub use area::{UniqueId, area_id};
 pub use choice::{Choice, Keys};
 pub use error::AddError;
 pub use problem::{Note, Problem};

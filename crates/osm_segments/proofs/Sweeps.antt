@@ -35,7 +35,8 @@ use Rattle.osm_lattice.specs.OrderLaws.{ordering_of}
 use Rattle.lists.specs.Rising.{IsRising}
 use Rattle.osm_segments.specs.Pairs.{conflicts_of, pair_of}
 use Rattle.osm_segments.proofs.RisingPairs.{tail_rising}
-use Rattle.osm_segments.specs.Sweep.{EndsRise, FitsAfter, FitsBefore, IsAfter, IsFollowed, HasLeft, IsEntered, left_of_line, lies_left, lies_right, right_of_line, side}
+use Rattle.osm_segments.specs.Sweep.{EndsRise, FitsAfter, FitsBefore, IsAfter, IsFollowed, HasLeft, IsEntered, lies_left, lies_right}
+use Rattle.osm_lattice.specs.Line.{is_left_of_line, is_right_of_line, side_of_line}
 use Rattle.osm_segments.specs.Tilted.{tilted, tilted_point}
 use Rattle.osm_segments.proofs.EdgePairs.{BeginsLeft, fans, turn-first, turn-second, two_ends}
 use Rattle.osm_segments.proofs.EdgeOrders.{BottomsLeft, TopsLeft, begins_left, beside, bottoms-chain, bottoms_left, clear_apart, ends_left, high-of, low-of, same-level, tops-chain, tops_left}
@@ -284,7 +285,7 @@ left_table x y k = imp (agree x (negated k) y) λ _. imp (is_minus x || (not (is
 abbrev right_table : Sign → Sign → Sign → Bool
 right_table x y k = imp (agree x k y) λ _. imp (is_plus x || (not (is_minus x) && is_plus y)) λ _. is_plus (then_sign x k)
 
-side-tilted : (p : Loc) (t : Seg) → orient (tilted t).from (tilted t).to (tilted_point p) ≡ side p t
+side-tilted : (p : Loc) (t : Seg) → orient (tilted t).from (tilted t).to (tilted_point p) ≡ side_of_line p t
 side-tilted p t = cross-tilted (vector_of t.a) (vector_of t.b) (vector_of t.a) (vector_of p)
 
 module _ (s t : Seg) (y : ℤ) (level : sign ((tilted s).from.y -ℤ y) ≡ Null) where
@@ -295,9 +296,9 @@ module _ (s t : Seg) (y : ℤ) (level : sign ((tilted s).from.y -ℤ y) ≡ Null
       sign-back a b h = let x = says-at Null (a -ℤ b) h in sign-from Null (b -ℤ a) (omega (arith, ints))
 
   pub left-fits : lies_left s t ≡ true → IsRight y t s
-  unfolding left_of_line right_of_line
+  unfolding is_left_of_line is_right_of_line
   left-fits h =
-      let x = side s.a t in let z = side s.b t in let k = fans (tilted t) (tilted s) in
+      let x = side_of_line s.a t in let z = side_of_line s.b t in let k = fans (tilted t) (tilted s) in
       let a : agree x (negated k) z ≡ true =
       subst (λ w. agree w (negated k) z ≡ true) (side-tilted s.a t) (subst (λ w. agree (orient (tilted t).from (tilted t).to (tilted s).from) (negated k) w ≡ true) (side-tilted s.b t) (turn-first (tilted t) (tilted s))) in
       let b : beside (at_height y) (tilted t) (tilted s) ≡ negated x =
@@ -311,9 +312,9 @@ module _ (s t : Seg) (y : ℤ) (level : sign ((tilted s).from.y -ℤ y) ≡ Null
       twice Minus = refl
 
   pub right-fits : lies_right s t ≡ true → IsRight y s t
-  unfolding left_of_line right_of_line
+  unfolding is_left_of_line is_right_of_line
   right-fits h =
-      let x = side s.a t in let z = side s.b t in let k = fans (tilted s) (tilted t) in
+      let x = side_of_line s.a t in let z = side_of_line s.b t in let k = fans (tilted s) (tilted t) in
       let a : agree x k z ≡ true =
       subst (λ w. agree w k z ≡ true) (side-tilted s.a t) (subst (λ w. agree (orient (tilted t).from (tilted t).to (tilted s).from) k w ≡ true) (side-tilted s.b t) (turn-second (tilted s) (tilted t))) in
       let b : beside (at_height y) (tilted s) (tilted t) ≡ x =

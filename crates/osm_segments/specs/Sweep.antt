@@ -1,29 +1,19 @@
 -- One step of a sweep upwards over segments: where a segment stands among those that span the point at which it begins, and who stand side by side once it has ended. Public contracts cite `EndsRise` and `AreByEnds` alone.
 use Rattle.std.specs.Prelude.{Bool, IsPermutation, List, None, insert, length, not, remove, slice_index_or, true, ℕ, ◌&&◌, ◌+◌, ◌-◌, ◌<◌, ◌||◌, ◌≡◌, ◌≤◌}
 use Rattle.plane.specs.Order.{order}
-use Rattle.plane.specs.Sign.{Sign, is_minus, is_plus}
-use Rattle.plane.specs.Vector.{orient}
+use Rattle.plane.specs.Sign.{is_minus}
 use Rattle.osm_lattice.specs.declared.loc.Loc.{Loc}
 use Rattle.osm_lattice.specs.declared.seg.Seg.{Seg}
 use Rattle.osm_lattice.specs.Conflict.{conflict_of}
+use Rattle.osm_lattice.specs.Line.{is_left_of_line, is_right_of_line}
 use Rattle.osm_lattice.specs.Loc.{vector_of}
-
--- the side of the line of t on which p lies
-abbrev pub side : Loc → Seg → Sign
-side p t = orient (vector_of t.a) (vector_of t.b) (vector_of p)
-
-unfoldable pub left_of_line : Loc → Seg → Bool
-left_of_line p t = is_plus (side p t)
-
-unfoldable pub right_of_line : Loc → Seg → Bool
-right_of_line p t = is_minus (side p t)
 
 -- t is right of s at the lower end of s, or s begins on its line and turns left of it
 abbrev pub lies_right : Seg → Seg → Bool
-lies_right s t = left_of_line s.a t || (not (right_of_line s.a t) && left_of_line s.b t)
+lies_right s t = is_left_of_line s.a t || (not (is_right_of_line s.a t) && is_left_of_line s.b t)
 
 abbrev pub lies_left : Seg → Seg → Bool
-lies_left s t = right_of_line s.a t || (not (left_of_line s.a t) && right_of_line s.b t)
+lies_left s t = is_right_of_line s.a t || (not (is_left_of_line s.a t) && is_right_of_line s.b t)
 
 abbrev pub FitsBefore : Seg → Seg → Type 0
 FitsBefore s t = (conflict_of t s ≡ None) × (lies_left s t ≡ true)

@@ -8,38 +8,24 @@ ghost use Rattle.osm_lattice.specs.Loc.{vector_of};
 ghost use Rattle.osm_lattice.specs.Seg.{seg_cmp};
 ghost use Rattle.lists.specs.Rising.{IsRising};
 ghost use Rattle.osm_segments.specs.Pairs.{conflicts_of};
-ghost use Rattle.osm_segments.specs.Sweep.{EndsRise, FitsAfter, FitsBefore, HasLeft, IsAfter, IsEntered, IsFollowed, left_of_line, lies_left, lies_right, right_of_line};
+ghost use Rattle.osm_segments.specs.Sweep.{EndsRise, FitsAfter, FitsBefore, HasLeft, IsAfter, IsEntered, IsFollowed, lies_left, lies_right};
 
 use crate::finding::place_in_status;
 use chunked_list::ChunkedList;
-use osm_lattice::{Loc, Seg, compare_to_line, conflict};
+use osm_lattice::{Loc, Seg, conflict};
 use std::alloc::{AllocError as OutOfMemory, Global};
-
-#[tactic(auto, using(osm_lattice::proofs::LocationOrder::is_lt_plus), unfolding(crate::specs::Sweep::left_of_line))]
-fn is_left_of_line(p: Loc, t: Seg) -> bool
-    ensures { result ≡ left_of_line p t }
-{
-    compare_to_line(p, t).is_lt()
-}
-
-#[tactic(auto, using(osm_lattice::proofs::LocationOrder::is_gt_minus), unfolding(crate::specs::Sweep::right_of_line))]
-fn is_right_of_line(p: Loc, t: Seg) -> bool
-    ensures { result ≡ right_of_line p t }
-{
-    compare_to_line(p, t).is_gt()
-}
 
 /// `t` is right of `s` just above the lower end of `s`, where both pass that height.
 fn lies_right(s: Seg, t: Seg) -> bool
     ensures { result ≡ lies_right s t }
 {
-    is_left_of_line(s.a, t) || !is_right_of_line(s.a, t) && is_left_of_line(s.b, t)
+    t.has_on_left(s.a) || !t.has_on_right(s.a) && t.has_on_left(s.b)
 }
 
 fn lies_left(s: Seg, t: Seg) -> bool
     ensures { result ≡ lies_left s t }
 {
-    is_right_of_line(s.a, t) || !is_left_of_line(s.a, t) && is_right_of_line(s.b, t)
+    t.has_on_right(s.a) || !t.has_on_left(s.a) && t.has_on_right(s.b)
 }
 
 fn are_clear(s: Seg, t: Seg) -> bool

@@ -3,7 +3,7 @@ use Rattle.std.specs.Prelude.{Bool, List, not, ℕ, ◌&&◌}
 use Rattle.std.specs.List.{count_by}
 use Rattle.plane.specs.Edge.{is_horizontal, same_edge}
 use Rattle.plane.specs.Height.{is_in_span, is_left_of, starts_left_of}
-use Rattle.plane.specs.Sign.{is_minus, is_plus}
+use Rattle.plane.specs.Sign.{is_minus}
 use Rattle.plane.specs.Vector.{orient, same_point}
 use Rattle.osm_lattice.specs.declared.loc.Loc.{Loc}
 use Rattle.osm_lattice.specs.declared.seg.Seg.{Seg}
@@ -21,10 +21,6 @@ starts_left s t = starts_left_of (edge_of s) (edge_of t)
 
 unfoldable pub level : Seg → Bool
 level s = is_horizontal (edge_of s)
-
--- p is left of the line of t
-unfoldable pub left_side : Loc → Seg → Bool
-left_side p t = is_plus (orient (edge_of t).from (edge_of t).to (vector_of p))
 
 unfoldable pub same : Loc → Loc → Bool
 same p q = same_point (vector_of p) (vector_of q)

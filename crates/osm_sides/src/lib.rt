@@ -11,3 +11,4 @@ mod sides;
 pub use directions::{direct, direct_along};
 pub use laws::directing_is_sided;
 pub use osm_stab::{PlainStab, Stab};
+pub use sides::is_left_of;

@@ -4,11 +4,10 @@ ghost use Rattle.std.specs.Prelude.{◌≡◌};
 ghost use Rattle.winding.specs.OddSide.{runs_up};
 ghost use Rattle.osm_lattice.specs.Seg.{edge_of};
 ghost use Rattle.osm_sides.specs.Survivors.{plane_edges_of};
-ghost use Rattle.osm_sides.specs.SideTests.{span, left_of, starts_left, level, same, left_side, forks_right, counted, left_count, right_count};
+ghost use Rattle.osm_sides.specs.SideTests.{span, left_of, starts_left, level, same, forks_right, counted, left_count, right_count};
 ghost use Rattle.osm_sides.specs.Sweep.{ends_above};
 
 use osm_geom::{Loc, Seg};
-use osm_lattice::compare_to_line;
 
 /// The height of `p` is at least that of the lower end and less than that of the upper end.
 #[tactic(auto, unfolding(crate::specs::SideTests::span))]
@@ -19,11 +18,11 @@ fn is_in_span(p: Loc, t: Seg) -> bool
 }
 
 /// The segment spans the height of `p` and has it on its left.
-#[tactic(auto, unfolding(crate::specs::SideTests::left_of, crate::specs::SideTests::span, crate::specs::SideTests::left_side))]
+#[tactic(auto, unfolding(crate::specs::SideTests::left_of, crate::specs::SideTests::span, osm_lattice::specs::Line::is_left_of_line))]
 pub fn is_left_of(p: Loc, t: Seg) -> bool
     ensures { result ≡ left_of p t }
 {
-    is_in_span(p, t) && is_left_of_line(p, t)
+    is_in_span(p, t) && t.has_on_left(p)
 }
 
 /// The two locations are one.
@@ -34,28 +33,20 @@ pub fn is_same(p: Loc, q: Loc) -> bool
     p == q
 }
 
-/// `p` is left of the line of `t`.
-#[tactic(auto, using(osm_lattice::proofs::LocationOrder::is_lt_plus), unfolding(crate::specs::SideTests::left_side))]
-fn is_left_of_line(p: Loc, t: Seg) -> bool
-    ensures { result ≡ left_side p t }
-{
-    compare_to_line(p, t).is_lt()
-}
-
 /// `t` begins where `s` does, and runs to the right of it.
-#[tactic(auto, using(osm_lattice::proofs::LocationOrder::is_gt_minus), unfolding(crate::specs::SideTests::forks_right, crate::specs::SideTests::same))]
+#[tactic(auto, unfolding(crate::specs::SideTests::forks_right, crate::specs::SideTests::same, osm_lattice::specs::Line::is_right_of_line))]
 fn forks_right(s: Seg, t: Seg) -> bool
     ensures { result ≡ forks_right s t }
 {
-    is_same(s.a, t.a) && compare_to_line(t.b, s).is_gt()
+    is_same(s.a, t.a) && s.has_on_right(t.b)
 }
 
 /// The lower end of `s` is left of `t`, or `t` begins there too and runs to the right of `s`.
-#[tactic(auto, unfolding(crate::specs::SideTests::starts_left, crate::specs::SideTests::span, crate::specs::SideTests::left_side, crate::specs::SideTests::forks_right))]
+#[tactic(auto, unfolding(crate::specs::SideTests::starts_left, crate::specs::SideTests::span, osm_lattice::specs::Line::is_left_of_line, crate::specs::SideTests::forks_right))]
 fn starts_left_of(s: Seg, t: Seg) -> bool
     ensures { result ≡ starts_left s t }
 {
-    is_in_span(s.a, t) && (is_left_of_line(s.a, t) || forks_right(s, t))
+    is_in_span(s.a, t) && (t.has_on_left(s.a) || forks_right(s, t))
 }
 
 /// Its upper end is no higher than its lower end.

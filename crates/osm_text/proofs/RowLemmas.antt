@@ -3,7 +3,8 @@ use Rattle.std.proofs.Common.{◌≡◌, ◌∙◌, ℕ, List, [], ◌∷◌, �
 use Rattle.std.proofs.lemmas.List.{map-append}
 use Rattle.std.specs.List.{join_with_byte}
 use Rattle.opl_reader.specs.declared.object.Tag.{Tag}
-use Rattle.osm_text.specs.Feature.{tag_text, tags_text}
+use Rattle.osm_text.specs.Feature.{tags_text}
+use Rattle.osm_notation.specs.Written.{tag_text}
 use Rattle.osm_text.specs.Rows.{led}
 
 -- texts in a row are the byte and the texts joined

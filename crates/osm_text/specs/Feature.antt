@@ -6,16 +6,12 @@ use Rattle.osm_lattice.specs.declared.loc.Loc.{Loc}
 use Rattle.osm_text.specs.declared.feature_id.FeatureId.{FeatureId}
 use Rattle.osm_text.specs.Id.{id_text}
 use Rattle.osm_text.specs.Wkt.{multipolygon_wkt}
-use Rattle.osm_notation.specs.Written.{written}
+use Rattle.osm_notation.specs.Written.{tag_text}
 
 -- where there is an id, the id and a space
 abbrev pub id_before : Option FeatureId → List ℕ
 id_before None = []
 id_before (Some id) = id_text id ++ codes " "
-
--- a tag: key=value
-abbrev pub tag_text : Tag → List ℕ
-tag_text tag = written tag.key ++ codes "=" ++ written tag.value
 
 -- where there are tags, a space and the tags parted by commas
 abbrev pub tags_text : List Tag → List ℕ

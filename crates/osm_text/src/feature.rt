@@ -1,32 +1,21 @@
 //! Features of the formats text and GeoJSON.
 
-ghost use Rattle.opl_reader.specs.Seen.{tag_seen};
 ghost use Rattle.std.specs.Prelude.{◌≡◌, ◌++◌, codes, map, IfOk, OnOk, OnErr};
 ghost use Rattle.osm_notation.specs.Kept.{Keeps};
 ghost use Rattle.osm_text.specs.Paths.{paths_of};
-ghost use Rattle.osm_text.specs.Feature.{tag_text, tags_text, feature_text};
+ghost use Rattle.osm_text.specs.Feature.{tags_text, feature_text};
 ghost use Rattle.osm_text.specs.GeoJson.{feature_json, id_member, multipolygon_json};
 
 use crate::feature_id::{FeatureId, put_id_before, put_id_member};
 use crate::notation::{Notation, put_polygons};
 use crate::properties::put_properties;
-use opl_reader::{TagRef, Tags};
+use opl_reader::Tags;
 use osm_nest::Polygons;
-use osm_notation::put_written;
+use osm_notation::put_tag;
 use std::alloc::{AllocError as OutOfMemory, Global};
 
 /// Room for the text of an ordinary feature, so that it seldom grows.
 const FIRST_ROOM: usize = 1_024;
-
-/// Adds a tag.
-fn put_tag(text: &mut Vec<u8>, tag: &TagRef<'_>) -> Result<(), OutOfMemory>
-    ensures text { OnOk result (text.new.items ≡ text.old.items ++ tag_text (tag_seen tag.now)) }
-    ensures kept { OnErr result (Keeps text.old.items text.new.items) }
-{
-    put_written(text, tag.key)?;
-    text.push(b'=')?;
-    put_written(text, tag.value)
-}
 
 /// Adds tags, the first behind a space and each other behind a comma.
 fn put_tags(text: &mut Vec<u8>, tags: &Tags) -> Result<(), OutOfMemory>

@@ -3,9 +3,11 @@ ghost use Rattle.std.specs.Prelude.{◌≡◌, ◌++◌, OnOk, OnErr};
 ghost use Rattle.osm_notation.specs.Kept.{Keeps};
 ghost use Rattle.osm_text.specs.Feature.{id_before};
 ghost use Rattle.osm_text.specs.GeoJson.{id_member};
-ghost use Rattle.osm_text.specs.Id.{id_text};
+ghost use Rattle.osm_text.specs.Id.{feature_id, id_text};
 
+use opl_reader::ObjectRef;
 use osm_notation::put_number;
+use osm_objects::{UniqueId, area_id};
 use std::alloc::AllocError as OutOfMemory;
 
 /// What a feature is named by.
@@ -16,6 +18,20 @@ pub enum FeatureId {
     /// The id of the feature's area, printed behind the letter `a`: twice the magnitude of the id of a way, or twice that of a
     /// relation and 1, with the sign of the id.
     Area(i64),
+}
+
+impl FeatureId {
+    /// The id of the feature of a candidate's area, at this place in the output, from 1. None where features get none, and where
+    /// the area has none.
+    pub fn of(ids: Option<UniqueId>, counter: u64, candidate: ObjectRef) -> Option<FeatureId>
+        ensures { result ≡ feature_id ids counter candidate }
+    {
+        match ids {
+            Some(UniqueId::Counter) => Some(FeatureId::Counter(counter)),
+            Some(UniqueId::TypeId) => area_id(candidate).map(FeatureId::Area),
+            None => None,
+        }
+    }
 }
 
 /// Adds an id.

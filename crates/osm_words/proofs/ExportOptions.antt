@@ -9,8 +9,8 @@ use Rattle.osm_words.specs.PlainWords.{Form, begins_with_dash, letter, long}
 use Rattle.osm_words.specs.PlainExport.{ExportOption, HasPlainValue, format_text, ids_text, format, output, overwrite, keep_untagged, ids, omit_rs, show_errors, stop_on_error, area_keys, linear_keys, name_of, option_words}
 use Rattle.osm_words.specs.declared.settings.Format.{Format}
 use Rattle.osm_words.specs.declared.settings.Format.TheVariants.{GeoJson, GeoJsonSeq, Text as PlainText}
-use Rattle.osm_words.specs.declared.settings.UniqueId.{UniqueId}
-use Rattle.osm_words.specs.declared.settings.UniqueId.TheVariants.{Counter, TypeId}
+use Rattle.osm_objects.specs.declared.area.UniqueId.{UniqueId}
+use Rattle.osm_objects.specs.declared.area.UniqueId.TheVariants.{Counter, TypeId}
 use Rattle.clap.specs.Kinds.{check_kinds}
 use Rattle.osm_words.proofs.Taken.{EndsWell}
 use Rattle.osm_words.proofs.Walk.{Moves, Named, Options, Pending, Ready}

@@ -13,8 +13,8 @@ use Rattle.osm_words.specs.declared.fault.WordsFault.{WordsFault}
 use Rattle.osm_words.specs.declared.fault.WordsError.{WordsError}
 use Rattle.osm_words.specs.declared.fault.WordsError.TheVariants.{BadWords, OutOfMemory}
 use Rattle.osm_words.specs.declared.settings.Job.{Job as CodeJob}
-use Rattle.osm_words.specs.declared.settings.UniqueId.{UniqueId}
-use Rattle.osm_words.specs.declared.settings.UniqueId.TheVariants.{Counter, TypeId}
+use Rattle.osm_objects.specs.declared.area.UniqueId.{UniqueId}
+use Rattle.osm_objects.specs.declared.area.UniqueId.TheVariants.{Counter, TypeId}
 use Rattle.osm_words.specs.Parsed.{is_set}
 use Rattle.osm_words.proofs.Taken.{value_in}
 

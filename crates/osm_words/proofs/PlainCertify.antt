@@ -12,7 +12,7 @@ use Rattle.osm_words.specs.PlainWords.{Form, HavePlainValues, plain_words_of_two
 use Rattle.osm_words.specs.PlainCertify.{ArePlainCertify, CertifyOption, HasPlainValue, keep_untagged, ids, area_keys, linear_keys}
 use Rattle.osm_words.specs.PlainCertify.{certify_words, name_of, option_words, said_certify, with_option}
 use Rattle.osm_words.specs.declared.fault.WordsFault.TheVariants.{OutOfRange}
-use Rattle.osm_words.specs.declared.settings.UniqueId.{UniqueId}
+use Rattle.osm_objects.specs.declared.area.UniqueId.{UniqueId}
 use Rattle.osm_words.proofs.Walk.{Ends, ends_of_two, no_row, row_for, rows_with}
 use Rattle.osm_words.proofs.Taken.{given, new_given, taken, value_in}
 use Rattle.osm_words.proofs.PlainAnswers.{not_both_dashes, ids_read, SaysFlag, SaysText, flag_read, text_read}

@@ -12,7 +12,7 @@ use Rattle.osm_words.specs.PlainWords.{Form, HavePlainValues, plain_words}
 use Rattle.osm_words.specs.PlainExport.{ArePlain, ExportOption, export_words, format_text, format, output, overwrite, keep_untagged, ids, omit_rs, show_errors, stop_on_error, area_keys, linear_keys, HasPlainValue, name_of, option_words, said, with_option}
 use Rattle.osm_words.specs.declared.settings.Format.{Format}
 use Rattle.osm_words.specs.declared.settings.Format.TheVariants.{GeoJson, GeoJsonSeq, Text as PlainText}
-use Rattle.osm_words.specs.declared.settings.UniqueId.{UniqueId}
+use Rattle.osm_objects.specs.declared.area.UniqueId.{UniqueId}
 use Rattle.osm_words.proofs.Walk.{Ends, ends, row_for, rows_with}
 use Rattle.osm_words.proofs.Taken.{given, taken, value_in}
 use Rattle.osm_words.proofs.PlainAnswers.{ids_read, SaysFlag, SaysText, flag_read, text_read}

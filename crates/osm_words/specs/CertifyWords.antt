@@ -5,7 +5,7 @@ use Rattle.osm_words.specs.Job.{CertifySettings}
 use Rattle.osm_words.specs.CertifyCommand.{certify_app}
 use Rattle.osm_words.specs.Parsed.{is_set, unless_refused}
 use Rattle.osm_words.specs.Ranges.{ids_said, keys_asked, unless_both_dashes}
-use Rattle.osm_words.specs.declared.settings.UniqueId.{UniqueId}
+use Rattle.osm_objects.specs.declared.area.UniqueId.{UniqueId}
 use Rattle.osm_words.specs.declared.fault.WordsFault.{WordsFault}
 use Rattle.osm_words.specs.declared.fault.WordsFault.TheVariants.{OutOfRange}
 

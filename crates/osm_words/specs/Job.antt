@@ -2,7 +2,7 @@
 use Rattle.std.specs.Prelude.{ℕ, Bool, List, Option}
 use Rattle.osm_words.specs.declared.settings.Format.{Format}
 use Rattle.osm_words.specs.declared.settings.OutputPolygons.{OutputPolygons}
-use Rattle.osm_words.specs.declared.settings.UniqueId.{UniqueId}
+use Rattle.osm_objects.specs.declared.area.UniqueId.{UniqueId}
 
 -- of `export`
 pub record ExportSettings : Type 0 where

@@ -3,7 +3,7 @@ use Rattle.std.specs.Prelude.{ℕ, true, false, List, [], ◌∷◌, Some, None,
 use Rattle.osm_words.specs.PlainWords.{Form, letter, long, plain_words_of_two, ArePlainWordsOfTwo, said_with}
 use Rattle.osm_words.specs.PlainExport.{ArePlainKeys, ids_text}
 use Rattle.osm_words.specs.Job.{CertifySettings}
-use Rattle.osm_words.specs.declared.settings.UniqueId.{UniqueId}
+use Rattle.osm_objects.specs.declared.area.UniqueId.{UniqueId}
 
 -- an option, with its value in range; keys as they are written, and what they are
 pub data CertifyOption : Type 0 where

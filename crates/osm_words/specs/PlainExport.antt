@@ -5,8 +5,8 @@ use Rattle.osm_words.specs.PlainWords.{Form, letter, long, plain_words, begins_w
 use Rattle.osm_words.specs.Job.{ExportSettings}
 use Rattle.osm_words.specs.declared.settings.Format.{Format}
 use Rattle.osm_words.specs.declared.settings.Format.TheVariants.{GeoJson, GeoJsonSeq, Text}
-use Rattle.osm_words.specs.declared.settings.UniqueId.{UniqueId}
-use Rattle.osm_words.specs.declared.settings.UniqueId.TheVariants.{Counter, TypeId}
+use Rattle.osm_objects.specs.declared.area.UniqueId.{UniqueId}
+use Rattle.osm_objects.specs.declared.area.UniqueId.TheVariants.{Counter, TypeId}
 
 -- an option, with its value in range; keys as they are written, and what they are
 pub data ExportOption : Type 0 where

@@ -23,9 +23,10 @@ mod settings;
 mod words;
 
 pub use fault::{WordsError, WordsFault};
+pub use osm_objects::UniqueId;
 pub use settings::{
     CertifySettings, CoastlineSettings, ExportSettings, FilterSettings, Format, Job,
-    LocateSettings, OutputPolygons, SampleSettings, UniqueId,
+    LocateSettings, OutputPolygons, SampleSettings,
 };
 pub use words::{
     Command, command_of, job_of, plain_certify_words_are_taken, plain_coastline_words_are_taken,

@@ -6,9 +6,9 @@ ghost use Rattle.osm_words.specs.Answers.{keys_seen};
 ghost use Rattle.osm_words.specs.Ranges.{are_both_dashes, ids_named, ids_said, keys_asked};
 
 use crate::parsed::value_of;
-use crate::settings::UniqueId;
 use clap::ArgMatches;
 use opl_reader::is_keys;
+use osm_objects::UniqueId;
 
 /// The ids that a word names.
 fn ids_named(word: &str) -> Option<UniqueId>

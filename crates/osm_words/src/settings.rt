@@ -2,6 +2,8 @@
 
 ghost use Rattle.std.specs.Prelude.{◌≤◌};
 
+use osm_objects::UniqueId;
+
 /// How areas are written.
 #[derive(Clone, Copy, Debug, PartialEq, Eq)]
 pub enum Format {
@@ -11,15 +13,6 @@ pub enum Format {
     GeoJsonSeq,
     /// Well-known text and the tags, an area a line.
     Text,
-}
-
-/// The id of a written area.
-#[derive(Clone, Copy, Debug, PartialEq, Eq)]
-pub enum UniqueId {
-    /// It counts the written areas, from 1.
-    Counter,
-    /// It is the letter `a` and the area's id.
-    TypeId,
 }
 
 /// What the words of `export` ask for.

@@ -20,7 +20,9 @@ use Rattle.osm_job.specs.declared.ended.Ended.{Ended}
 use Rattle.osm_job.proofs.Writes.{output_of-append, output_of_output, piece_out}
 use Rattle.osm_objects.specs.Objects.{object_at}
 use Rattle.osm_words.specs.Job.{ExportSettings, export}
-use Rattle.job_export.specs.Entry.{Entry, IsEntry, entries_sent, feature_id, feature_in, features_in, has_area, tags_of}
+use Rattle.job_export.specs.Entry.{Entry, IsEntry, entries_sent, feature_in, features_in, has_area}
+use Rattle.osm_area.specs.Feature.{feature_tags}
+use Rattle.osm_text.specs.Id.{feature_id}
 use Rattle.job_export.specs.Export.{IsExport, finished, stopped}
 use Rattle.job_export.specs.Framing.{footer, framed, header}
 use Rattle.valid_areas.specs.Exported.{HasValidFeatures, IsFeatureOf, framed_features}
@@ -38,11 +40,11 @@ module _ (valid : AreasAreValid) (settings : ExportSettings) (objects : List Obj
   one-more : (earlier : ℕ) (candidate : ObjectRef) (outcome : Outcome) (report : List ℕ) (entries : List Entry) → IsOutcome objects candidate outcome →
       AreOut (earlier + features_in outcome) entries → AreOut earlier (record { candidate = candidate; outcome = outcome; report = report } ∷ entries)
   one-more earlier candidate (Area polygons notes) report entries right rest =
-      let feature = feature_in settings.format (feature_id settings.ids earlier candidate) polygons (tags_of (object_at objects candidate)) in
+      let feature = feature_in settings.format (feature_id settings.ids (earlier + 1) candidate) polygons (feature_tags (object_at objects candidate)) in
       record {
         features = feature ∷ rest.features;
         each = (
-          feature-of settings.format (feature_id settings.ids earlier candidate) (tags_of (object_at objects candidate))
+          feature-of settings.format (feature_id settings.ids (earlier + 1) candidate) (feature_tags (object_at objects candidate))
               (record { candidate = candidate; outcome = Area polygons notes; report = report }) right.1.1.1.some (valid objects candidate (Area polygons notes) right),
           rest.each,
         );

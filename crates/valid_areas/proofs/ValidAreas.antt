@@ -41,8 +41,8 @@ module _ (along : DirectedAreWhole) (valid : NestedPolygonsAreValid) where
       let sided = directed_is_sided survivors area.edges rising clear even area.directed in
       let whole = along survivors area.edges area.directed in
       record {
-        whole = nested-whole area.edges whole area.rings area.cut polygons area.nested;
-        valid = subst (λ m. IsValidMultiPolygon (map (polygon_times m) polygons)) (common-whole area.edges whole) (valid area.edges sided area.rings area.cut polygons area.nested);
+        whole = nested-whole area.edges whole area.made.rings area.made.cut polygons area.made.nested;
+        valid = subst (λ m. IsValidMultiPolygon (map (polygon_times m) polygons)) (common-whole area.edges whole) (valid area.edges sided area.made.rings area.made.cut polygons area.made.nested);
       }
 
   sound-valid : (missing : List ObjectRef) (segs : List Seg) (polygons : List Polygon) → IsSoundGiven missing segs → SurvivorsAre segs (λ survivors. IsArea survivors polygons) → IsValidArea polygons

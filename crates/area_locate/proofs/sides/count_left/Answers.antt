@@ -1,7 +1,7 @@
 -- One more side.
 use Rattle.std.proofs.Common.{◌∙◌, ap, arith, count_by, false, sym, take, true}
 use Rattle.area_locate.specs.ItemsAt.{items_at}
-use Rattle.area_locate.specs.Sides.{is_left}
+use Rattle.osm_sides.specs.SideTests.{left_of}
 use Rattle.area_locate.proofs.NearItems.{counted_more, one_more}
 use Rattle.area_locate.proofs.sides.count_left.Goals.{then-is_left_of, else-is_left_of}
 use Rattle.area_locate.proofs.sides.count_left.Goals as goal
@@ -9,7 +9,7 @@ use Rattle.area_locate.proofs.sides.count_left.Goals as goal
 pub loop-i-preserved : goal.loop-i-preserved
 loop-i-preserved c =
     let k = c.loop-i.i-index in
-    let f = is_left c.args.p in
+    let f = left_of c.args.p in
     let more = one_more c.args.segs.now c.args.near.now k c.index-segs-i.result c.loop-i-test.true (c.requires k 0 c.loop-i-test.true) c.index-segs-i.is in
     elim c.if-is_left_of.branch [
       | then-is_left_of w ↦

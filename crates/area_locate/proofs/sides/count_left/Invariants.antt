@@ -1,7 +1,7 @@
 -- Those at the places so far are counted.
 use Rattle.std.proofs.Common.{◌≡◌, ◌≤◌, take}
 use Rattle.area_locate.specs.ItemsAt.{items_at}
-use Rattle.area_locate.specs.Sides.{left_count}
+use Rattle.osm_sides.specs.SideTests.{left_count}
 use Rattle.area_locate.proofs.sides.count_left.Given as goal
 
 abbrev pub invariant-loop-i : goal.invariant-loop-i

@@ -1,7 +1,7 @@
 use Rattle.std.proofs.Common.{subst, sym, List}
 use Rattle.osm_geom.specs.declared.edge.Edge.{Edge}
 use Rattle.osm_nest.specs.declared.polygon.Polygon.{Polygon}
-use Rattle.job_coastline.specs.Pieces.{ArePolygons}
+use Rattle.osm_nest.specs.Nested.{ArePolygons}
 use Rattle.job_coastline.proofs.Growing.{on_ok}
 use Rattle.job_coastline.proofs.Tiles.{leaf_added}
 use Rattle.job_coastline.proofs.pieces.add_leaf.Goals as goal

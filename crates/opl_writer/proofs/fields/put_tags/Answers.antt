@@ -1,7 +1,7 @@
 use Rattle.std.proofs.Common.{refl, ◌++◌, ◌∙◌, [], ◌∷◌, ap, map, List, ℕ}
 use Rattle.opl_reader.specs.declared.object.Tag.{Tag}
 use Rattle.osm_notation.proofs.KeptTexts.{kept_as_is, kept_at_fault, kept_further, kept_through}
-use Rattle.opl_writer.specs.Written.{tag_text}
+use Rattle.osm_notation.specs.Written.{tag_text}
 use Rattle.opl_writer.specs.Rows.{led}
 use Rattle.opl_writer.proofs.RowLemmas.{led-field}
 use Rattle.opl_writer.proofs.fields.put_tags.Goals as goal

@@ -1,6 +1,7 @@
 use Rattle.std.proofs.Common.{◌≡◌, ◌++◌, map, length}
 use Rattle.osm_notation.specs.Kept.{Keeps}
-use Rattle.opl_writer.specs.Written.{tag_text, tags_field}
+use Rattle.opl_writer.specs.Written.{tags_field}
+use Rattle.osm_notation.specs.Written.{tag_text}
 use Rattle.opl_writer.specs.Rows.{led}
 use Rattle.opl_writer.proofs.fields.put_tags.Given as goal
 

@@ -1,7 +1,7 @@
 use Rattle.std.proofs.Common.{refl, ◌++◌, ◌∙◌, ap, map, List, ℕ}
 use Rattle.opl_reader.specs.declared.object.Tag.{Tag}
 use Rattle.osm_notation.proofs.KeptTexts.{kept_as_is}
-use Rattle.osm_text.specs.Feature.{tag_text}
+use Rattle.osm_notation.specs.Written.{tag_text}
 use Rattle.osm_text.specs.Rows.{led}
 use Rattle.osm_text.proofs.KeptLemmas.{kept_behind}
 use Rattle.osm_text.proofs.RowLemmas.{led_tags}

@@ -1,6 +1,7 @@
 use Rattle.std.proofs.Common.{◌≡◌, ◌++◌, map, length}
 use Rattle.osm_notation.specs.Kept.{Keeps}
-use Rattle.osm_text.specs.Feature.{tag_text, tags_text}
+use Rattle.osm_text.specs.Feature.{tags_text}
+use Rattle.osm_notation.specs.Written.{tag_text}
 use Rattle.osm_text.specs.Rows.{led}
 use Rattle.osm_text.proofs.feature.put_tags.Given as goal
 

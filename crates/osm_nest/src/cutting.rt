@@ -1,17 +1,19 @@
-//! The polygons of land or water.
+//! The polygons of sided edges.
 
 ghost use Rattle.std.specs.Prelude.{IfOk};
-ghost use Rattle.job_coastline.specs.Pieces.{ArePolygons};
 ghost use Rattle.osm_nest.specs.Cover.{AreSided};
+ghost use Rattle.osm_nest.specs.Nested.{ArePolygons};
 ghost use Rattle.plane_edges.specs.Sided.{IsSided};
 
+use crate::grouping::nest_rings;
+use crate::laws::rings_may_be_nested;
+use crate::polygon::Polygons;
 use osm_geom::Edge;
-use osm_nest::{Polygons, nest_rings, rings_may_be_nested};
 use osm_rings::rings;
 use std::alloc::{AllocError as OutOfMemory, Global};
 
 /// The polygons of sided edges: cut into rings, each inner ring put under the outer one that directly encloses it.
-pub(crate) fn polygons(alloc: Global, edges: &[Edge]) -> Result<Polygons, OutOfMemory>
+pub fn polygons(alloc: Global, edges: &[Edge]) -> Result<Polygons, OutOfMemory>
     requires { IsSided edges.now }
     ensures polygons { IfOk result (λ polygons. ArePolygons edges.now polygons) }
     ensures sided { IfOk result (λ polygons. AreSided polygons) }

@@ -1,6 +1,6 @@
 -- Rings of sided edges may be nested.
 use Rattle.std.proofs.lemmas.Result.{IfOk-weaker}
-use Rattle.job_coastline.proofs.polygons.polygons.Goals as goal
+use Rattle.osm_nest.proofs.cutting.polygons.Goals as goal
 
 pub nest_rings-requires : goal.nest_rings-requires
 nest_rings-requires c = c.rings_may_be_nested.ensures.nested c.args.edges.now c.in_ok-rings.rings c.requires c.in_ok-rings.ensures
