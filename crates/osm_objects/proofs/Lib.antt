@@ -1,5 +1,6 @@
 pub mod TagLemmas
 mod ChoiceLemmas
+pub mod ObjectsKit
 pub mod StoreLemmas
 pub mod ApartLemmas
 pub mod FoundLemmas

@@ -11,5 +11,5 @@ mod sides;
 mod tests;
 
 pub use directions::{direct, direct_along};
-pub use laws::directing_is_sided;
+pub use laws::{directing_is_sided, directions_are_one, directions_exist};
 pub use osm_stab::{PlainStab, Stab};

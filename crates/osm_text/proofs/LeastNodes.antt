@@ -4,7 +4,7 @@ use Rattle.std.specs.List.{find}
 use Rattle.std.specs.Ordering.{is_lt, ordering_reverse}
 use Rattle.std.specs.declared.cmp.Ordering.{Ordering}
 use Rattle.std.specs.declared.cmp.Ordering.TheVariants.{Less, Equal, Greater}
-use Rattle.std.proofs.lemmas.Bool.{false≢true}
+use Rattle.std.proofs.lemmas.Bool.{and_from, false≢true}
 use Rattle.lists.specs.Member.{In}
 use Rattle.lists.specs.Rotated.{IsRotated}
 use Rattle.lists.proofs.ListsKit.{in-all, in-rotated, rotated-in}
@@ -31,10 +31,7 @@ IsLeast es m = (other : Edge) → In other es → point_cmp other.from m.from �
 
 all_pass : (es : List Edge) (m : Edge) → IsLeast es m → leaves_least es m ≡ true
 all_pass [] m least = refl
-all_pass (e ∷ es) m least = both _ _ (passes (point_cmp e.from m.from) (least e (inl refl))) (all_pass es m (λ other i. least other (inr i)))
-  where
-    both : (a b : Bool) → a ≡ true → b ≡ true → (a && b) ≡ true
-    both a b p q = rw (p, q) refl
+all_pass (e ∷ es) m least = and_from _ _ (passes (point_cmp e.from m.from) (least e (inl refl))) (all_pass es m (λ other i. least other (inr i)))
 
 is_least : (es : List Edge) (m : Edge) → leaves_least es m ≡ true → IsLeast es m
 is_least [] m passed other i = absurd i
