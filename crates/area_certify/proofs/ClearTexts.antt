@@ -1,5 +1,6 @@
 -- Texts of which no byte is a control character, as all of a feature but the LF at its end is.
 use Rattle.std.proofs.Common.{◌≡◌, ◌∙◌, refl, ℕ, zero, suc, ◌+◌, ◌/◌, ◌%◌, ◌^◌, ◌<◌, ◌==◌, nat_lt, nat_le, Bool, true, false, not, ◌&&◌, ◌||◌, if◌then◌else◌, List, [], ◌∷◌, ◌++◌, map, take, flat_map, codes, decimal, chars, ℤ, pos, negsuc, Option, Some, None, arith, lt-ltb, leb-true}
+use Rattle.std.proofs.lemmas.Bool.{and_from}
 use Rattle.std.proofs.lemmas.List.Folds.{list_all-append}
 use Rattle.std.specs.Fmt.{digit_glyph, digits, digits_onto, signed_decimal}
 use Rattle.std.specs.List.{join_with_byte, list_all}
@@ -18,16 +19,11 @@ use Rattle.osm_text.specs.declared.feature_id.FeatureId.TheVariants.{Counter, Ar
 abbrev pub is_clear : List ℕ → Bool
 is_clear text = list_all (λ byte. nat_lt 10 byte) text
 
-both : (p q : Bool) → p ≡ true → q ≡ true → (p && q) ≡ true
-both true true h k = refl
-both true false h k = k
-both false q h k = h
-
 clear_append : (xs ys : List ℕ) → is_clear xs ≡ true → is_clear ys ≡ true → is_clear (xs ++ ys) ≡ true
-clear_append xs ys h k = list_all-append (λ byte. nat_lt 10 byte) xs ys ∙ both (is_clear xs) (is_clear ys) h k
+clear_append xs ys h k = list_all-append (λ byte. nat_lt 10 byte) xs ys ∙ and_from (is_clear xs) (is_clear ys) h k
 
 clear_cons : (byte : ℕ) (text : List ℕ) → 10 < byte → is_clear text ≡ true → is_clear (byte ∷ text) ≡ true
-clear_cons byte text lt h = both (nat_lt 10 byte) (is_clear text) (lt-ltb 10 byte lt) h
+clear_cons byte text lt h = and_from (nat_lt 10 byte) (is_clear text) (lt-ltb 10 byte lt) h
 
 clear_choice : (b : Bool) (xs ys : List ℕ) → is_clear xs ≡ true → is_clear ys ≡ true → is_clear (if b then xs else ys) ≡ true
 clear_choice true xs ys h k = h
@@ -67,7 +63,7 @@ unfolding without_end_zeros
 clear_without [] h = refl
 clear_without (d ∷ ds) h =
     clear_choice (list_all (λ digit. digit == 48) (d ∷ ds)) [] (d ∷ without_end_zeros ds) refl
-    (both (nat_lt 10 d) (is_clear (without_end_zeros ds)) (and-left (nat_lt 10 d) (is_clear ds) h) (clear_without ds (and-right (nat_lt 10 d)
+    (and_from (nat_lt 10 d) (is_clear (without_end_zeros ds)) (and-left (nat_lt 10 d) (is_clear ds) h) (clear_without ds (and-right (nat_lt 10 d)
     (is_clear ds) h)))
 
 clear_fraction : (rest : ℕ) → is_clear (fraction rest) ≡ true

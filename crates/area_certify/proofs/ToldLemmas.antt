@@ -1,6 +1,6 @@
 -- What a candidate with an area tells of the lines that are left, and what the verdict then is.
-use Rattle.std.proofs.Common.{◌≡◌, ◌∙◌, ◌↔◌, refl, sym, ap, subst, ℕ, ◌+◌, true, false, List, [], ◌∷◌, ◌++◌, length, take, drop, get_or, Some, Result, IfOk, append_assoc, take-append-drop, bytes_eq, Bor, ◌<◌, ◌≤◌, arith, Option}
-use Rattle.std.proofs.lemmas.List.{take_all, take_more}
+use Rattle.std.proofs.Common.{◌≡◌, ◌∙◌, ◌↔◌, refl, sym, ap, subst, ℕ, ◌+◌, true, false, List, [], ◌∷◌, ◌++◌, length, take, drop, get_or, Some, Result, IfOk, take-append-drop, bytes_eq, Bor, ◌<◌, ◌≤◌, arith, Option}
+use Rattle.std.proofs.lemmas.List.{drop_more, take_all, take_more}
 use Rattle.std.proofs.lemmas.Result.{IfOk-weaker}
 use Rattle.opl_reader.specs.declared.object.Object.{Object}
 use Rattle.opl_reader.specs.declared.object.ObjectRef.{ObjectRef}
@@ -55,20 +55,13 @@ module _ (ids : Option UniqueId) (objects : List Object) (lines : List (List ℕ
     abbrev c : ObjectRef
     c = get_or cs k d
 
-    longer : take (k + 1) cs ≡ take k cs ++ c ∷ []
-    longer = take_more cs k d lt
-
-    parted : cs ≡ take k cs ++ c ∷ drop (k + 1) cs
-    parted = sym (take-append-drop (k + 1) cs) ∙ ap (λ (xs : List ObjectRef). xs ++ drop (k + 1) cs) longer
-        ∙ append_assoc (take k cs) (c ∷ []) (drop (k + 1) cs)
-
     tells_so : (u : Told) → t ≡ u → Tells ids objects (count + 1) c (text_lines now.now) u
     tells_so u is = subst (λ (v : Told). Tells ids objects (count + 1) c (text_lines now.now) v) is told.tells
 
     as_next : (next left : Bor (List ℕ)) (right n : ℕ) → next ≡ left → right ≡ n → IsSeen ids objects (take k cs ++ c ∷ []) lines (text_lines left.now) n →
         IsSeen ids objects (take (k + 1) cs) lines (text_lines next.now) right
     as_next next left right n at is s =
-        subst (λ (xs : List ObjectRef). IsSeen ids objects xs lines (text_lines next.now) right) (sym longer)
+        subst (λ (xs : List ObjectRef). IsSeen ids objects xs lines (text_lines next.now) right) (sym (take_more cs k d lt))
         (subst (λ (m : ℕ). IsSeen ids objects (take k cs ++ c ∷ []) lines (text_lines next.now) m) (sym is)
         (subst (λ (b : Bor (List ℕ)). IsSeen ids objects (take k cs ++ c ∷ []) lines (text_lines b.now) n) (sym at) s))
 
@@ -87,7 +80,7 @@ module _ (ids : Option UniqueId) (objects : List Object) (lines : List (List ℕ
     pub next_wrong : OutcomeExists → HasAreaExactly → t ≡ Wrong → IsVerdict ids objects cs lines (No (count + 1))
     next_wrong exists exactly told_so =
         let so = tells_so Wrong told_so in
-        subst (λ (xs : List ObjectRef). IsVerdict ids objects xs lines (No (count + 1))) (sym parted)
+        subst (λ (xs : List ObjectRef). IsVerdict ids objects xs lines (No (count + 1))) (ap (λ (xs : List ObjectRef). take k cs ++ xs) (sym (drop_more cs k d lt)) ∙ take-append-drop k cs)
         (stops ids objects lines count (take k cs) (drop (k + 1) cs) c so.0 (later_areas exists exactly objects (drop (k + 1) cs))
         (text_lines now.now) seen so.1)
 

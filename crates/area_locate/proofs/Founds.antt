@@ -26,7 +26,7 @@ use Rattle.area_locate.specs.Hits.{AreFoundAmong, AreHits, IsHit, IsIn, IsOn}
 use Rattle.area_locate.specs.Laws.{FoundExists, FoundIsOne}
 use Rattle.area_locate.specs.Sides.{on_count, place_among, place_by}
 use Rattle.osm_sides.specs.SideTests.{left_count}
-use Rattle.area_locate.proofs.EvenEnds.{even_points}
+use Rattle.osm_sides.proofs.SidesKit.{even_points}
 use Rattle.area_locate.proofs.OutsideSides.{outside_apart}
 use Rattle.area_locate.proofs.Places.{apart_place, even_sides, in_where, off_where, on_where, out_where, same_place}
 

@@ -1,5 +1,4 @@
 mod Enclosing
-mod EvenEnds
 mod Founds
 mod NearAreas
 mod NearItems

@@ -3,6 +3,7 @@ use Rattle.std.proofs.Common.{Bool, T, true, false, not, cond, List, [], ◌∷�
 use Rattle.std.specs.List.{flat_map, slice_get}
 use Rattle.std.specs.List.Sorted.{IsStrictlyIncreasing}
 use Rattle.std.specs.Int.Signed.{lt_z, lt_z_no}
+use Rattle.std.proofs.lemmas.Bool.{or_parts}
 use Rattle.std.proofs.lemmas.Grind.{flat_map-append}
 use Rattle.std.proofs.lemmas.Option.{slice_get-map}
 use Rattle.osm_bands.specs.Bands.{HoldsReaching}
@@ -17,17 +18,13 @@ use Rattle.area_locate.specs.ItemsAt.{items_at}
 use Rattle.area_locate.specs.Sides.{place_among}
 use Rattle.area_locate.proofs.NearItems.{near_items, one_more}
 
-or_false : (a b : Bool) → (a || b) ≡ false → (a ≡ false) × (b ≡ false)
-or_false true b h = absurd (cc h)
-or_false false b h = (refl, h)
-
 not_less : (a b : ℤ) → lt_z a b ≡ false → b ≤ℤ a
 not_less a b h = lt_z_no (subst (λ (x : Bool). T (not x)) (sym h) tt)
 
 has_height : (e : Envelope) (p : Loc) → lacks e p ≡ false → (e.low ≤ℤ p.y) × (p.y ≤ℤ e.high)
 has_height e p inside =
-    let heights = (or_false (lt_z e.right p.x) (lt_z p.y e.low || lt_z e.high p.y) (or_false (lt_z p.x e.left) (lt_z e.right p.x || (lt_z p.y e.low || lt_z e.high p.y)) inside).1).1 in
-    let both = or_false (lt_z p.y e.low) (lt_z e.high p.y) heights in
+    let heights = (or_parts (lt_z e.right p.x) (lt_z p.y e.low || lt_z e.high p.y) (or_parts (lt_z p.x e.left) (lt_z e.right p.x || (lt_z p.y e.low || lt_z e.high p.y)) inside).1).1 in
+    let both = or_parts (lt_z p.y e.low) (lt_z e.high p.y) heights in
     (not_less p.y e.low both.0, not_less e.high p.y both.1)
 
 module _ (p : Loc) where

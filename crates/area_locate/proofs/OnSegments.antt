@@ -1,5 +1,6 @@
 -- A location on a segment: on its line, and not beside it in x or in y.
 use Rattle.std.proofs.Common.{Bool, true, false, not, refl, sym, ap, ℤ, ◌&&◌, ◌||◌, ◌+ℤ◌, ◌-ℤ◌, ◌*ℤ◌, ◌≡◌, ◌∙◌}
+use Rattle.std.proofs.Math.Bool.{and-false, and-true}
 use Rattle.plane.specs.RayCrossing.{off_by}
 use Rattle.plane.specs.Sign.{Sign, Minus, Null, Plus, is_null, is_plus, sign}
 use Rattle.plane.proofs.PlaneKit.{orient-round}
@@ -40,14 +41,6 @@ steep_off Null s h = absurd (cc h)
 steep_off Plus s h = refl
 steep_off Minus s h = refl
 
-and_true : (b : Bool) → b ≡ (b && true)
-and_true true = refl
-and_true false = refl
-
-and_false : (b : Bool) → false ≡ (b && false)
-and_false true = refl
-and_false false = refl
-
 -- a point is on the segment exactly where it is on its line and not beside it
 module _ (a b c d : ℤ) where
   abbrev line : Sign
@@ -63,8 +56,8 @@ module _ (a b c d : ℤ) where
   seen_by true h =
       let on_line = is_null-true line h in
       let same = same_from_difference (a *ℤ d) (c *ℤ b) (null-zero (a *ℤ d -ℤ c *ℤ b) on_line) in
-      ap not (flat_off line (sign (a *ℤ b +ℤ c *ℤ d)) on_line ∙ one_side a b c d same) ∙ and_true (not beside)
-  seen_by false h = ap not (steep_off line (sign (a *ℤ b +ℤ c *ℤ d)) h) ∙ and_false (not beside)
+      ap not (flat_off line (sign (a *ℤ b +ℤ c *ℤ d)) on_line ∙ one_side a b c d same) ∙ sym (and-true (not beside))
+  seen_by false h = ap not (steep_off line (sign (a *ℤ b +ℤ c *ℤ d)) h) ∙ sym (and-false (not beside))
 
   seen : not off ≡ (not beside && is_null line)
   seen = seen_by (is_null line) refl

@@ -1,8 +1,9 @@
 -- Outside of the envelope of an area there is neither a side with the location on it nor an odd number of sides right of it.
 use Rattle.std.proofs.Common.{T, Bool, true, false, not, cond, eqb, eqb-true, List, [], ◌∷◌, map, refl, sym, ap, subst, arith, ℕ, ℤ, ◌&&◌, ◌||◌, ◌+◌, ◌-ℤ◌, ◌<ℤ◌, ◌%◌, ◌≡◌, ◌∙◌, ⊎_elim, All, count_by}
+use Rattle.std.proofs.lemmas.Bool.{false_from_ne_true}
 use Rattle.std.proofs.lemmas.Int.{ints}
 use Rattle.std.proofs.lemmas.List.Sums.{sum_by-cons}
-use Rattle.std.specs.Int.Signed.{lt_z, lt_z_yes}
+use Rattle.std.specs.Int.Signed.{lt_z}
 use Rattle.plane.specs.RayCrossing.{IsOffEdge, is_off, up_by, down_by}
 use Rattle.plane.specs.Sign.{Sign, Minus, Null, Plus, is_plus, negated, sign}
 use Rattle.plane.specs.Vector.{cross, east, from_to}
@@ -11,7 +12,7 @@ use Rattle.plane.proofs.SignKit.{Says, agree, all3-out, imp, imp-out, says, time
 use Rattle.winding.specs.EdgeList.{IsEvenAtPoints, crossing_count}
 use Rattle.winding.proofs.WindingKit.{cross-west, parity_independent, west, west-direction}
 use Rattle.lists.specs.Member.{In}
-use Rattle.lists.proofs.ListsKit.{all-in, count_by-cons, from-map, in-all, not-true-out, or-out, total-is, total-map, total_none}
+use Rattle.lists.proofs.ListsKit.{all-in, below_from, count_by-cons, from-map, in-all, not-true-out, or-out, total-is, total-map, total_none}
 use Rattle.osm_lattice.specs.declared.loc.Loc.{Loc}
 use Rattle.osm_lattice.specs.declared.seg.Seg.{Seg}
 use Rattle.osm_lattice.specs.Loc.{vector_of}
@@ -24,9 +25,6 @@ use Rattle.osm_sides.specs.SideTests.{left_count, left_of}
 use Rattle.area_locate.proofs.NearSides.{left_reaches, on_apart}
 
 -- ---- signs of numbers in order
-less_out : (a b : ℤ) → lt_z a b ≡ true → a <ℤ b
-less_out a b h = lt_z_yes (subst T (sym h) tt)
-
 sign_plus : (s : Sign) (a b : ℤ) → Says s (a -ℤ b) → b <ℤ a → s ≡ Plus
 sign_plus Plus a b h l = refl
 sign_plus Null a b h l = absurd (omega (arith, ints))
@@ -53,21 +51,17 @@ data Beyond (p : Loc) (s : Seg) : Type 0 where
 alike_clash : (s t u v : Sign) → s ≡ u → t ≡ v → are_alike u v ≡ true → not (are_alike s t) ≡ true → ⊥
 alike_clash s t u v e f one_side apart = let whole : not (are_alike u v) ≡ true = rw (← e, ← f) apart in let clash : not true ≡ true = rw one_side at whole in cc clash
 
-no_by : (b : Bool) → (b ≡ true → ⊥) → b ≡ false
-no_by true h = absurd (h refl)
-no_by false h = refl
-
 beyond_off : (p : Loc) (s : Seg) → Beyond p s → lies_on p s ≡ false
-beyond_off p s (right h k) = no_by (lies_on p s) (λ on. alike_clash _ _ Plus Plus (above s.a.x p.x h) (above s.b.x p.x k) refl (on_apart p s on).0)
-beyond_off p s (left h k) = no_by (lies_on p s) (λ on. alike_clash _ _ Minus Minus (below s.a.x p.x h) (below s.b.x p.x k) refl (on_apart p s on).0)
-beyond_off p s (higher h k) = no_by (lies_on p s) (λ on. alike_clash _ _ Plus Plus (above s.a.y p.y h) (above s.b.y p.y k) refl (on_apart p s on).1)
-beyond_off p s (lower h k) = no_by (lies_on p s) (λ on. alike_clash _ _ Minus Minus (below s.a.y p.y h) (below s.b.y p.y k) refl (on_apart p s on).1)
+beyond_off p s (right h k) = false_from_ne_true (lies_on p s) (λ on. alike_clash _ _ Plus Plus (above s.a.x p.x h) (above s.b.x p.x k) refl (on_apart p s on).0)
+beyond_off p s (left h k) = false_from_ne_true (lies_on p s) (λ on. alike_clash _ _ Minus Minus (below s.a.x p.x h) (below s.b.x p.x k) refl (on_apart p s on).0)
+beyond_off p s (higher h k) = false_from_ne_true (lies_on p s) (λ on. alike_clash _ _ Plus Plus (above s.a.y p.y h) (above s.b.y p.y k) refl (on_apart p s on).1)
+beyond_off p s (lower h k) = false_from_ne_true (lies_on p s) (λ on. alike_clash _ _ Minus Minus (below s.a.y p.y h) (below s.b.y p.y k) refl (on_apart p s on).1)
 
 higher_not_left : (p : Loc) (s : Seg) → p.y <ℤ s.a.y → left_of p s ≡ false
-higher_not_left p s h = no_by (left_of p s) (λ yes. let reach = (left_reaches p s yes).0 in omega (arith, ints))
+higher_not_left p s h = false_from_ne_true (left_of p s) (λ yes. let reach = (left_reaches p s yes).0 in omega (arith, ints))
 
 lower_not_left : (p : Loc) (s : Seg) → s.b.y <ℤ p.y → left_of p s ≡ false
-lower_not_left p s h = no_by (left_of p s) (λ yes. let reach = (left_reaches p s yes).1 in omega (arith, ints))
+lower_not_left p s h = false_from_ne_true (left_of p s) (λ yes. let reach = (left_reaches p s yes).1 in omega (arith, ints))
 
 -- the sign of the product of the steps to both ends, where both are to the left and the heights are spanned
 abbrev leftward : Sign → Sign → Sign → Bool
@@ -162,12 +156,12 @@ module _ (p : Loc) (e : Envelope) (sides : List Seg) (within : Encloses e sides)
 
   pub outside_apart : IsEvenAtPoints (map edge_of sides) → lacks e p ≡ true → IsApart p sides
   outside_apart even out = ⊎_elim
-      (λ h. let all = beyond_left (less_out p.x e.left h) in record { none_on = beyond_none p sides (λ s i. right (all s i).0 (all s i).1); even_left = right_even p sides even all })
+      (λ h. let all = beyond_left (below_from p.x e.left h) in record { none_on = beyond_none p sides (λ s i. right (all s i).0 (all s i).1); even_left = right_even p sides even all })
       (λ rest. ⊎_elim
-      (λ h. let all = beyond_right (less_out e.right p.x h) in uncounted (λ s i. left (all s i).0 (all s i).1) (λ s i. left_not_left p s (all s i).0 (all s i).1))
+      (λ h. let all = beyond_right (below_from e.right p.x h) in uncounted (λ s i. left (all s i).0 (all s i).1) (λ s i. left_not_left p s (all s i).0 (all s i).1))
       (λ rest. ⊎_elim
-      (λ h. let all = beyond_low (less_out p.y e.low h) in uncounted (λ s i. higher (all s i).0 (all s i).1) (λ s i. higher_not_left p s (all s i).0))
-      (λ h. let all = beyond_high (less_out e.high p.y h) in uncounted (λ s i. lower (all s i).0 (all s i).1) (λ s i. lower_not_left p s (all s i).1))
+      (λ h. let all = beyond_low (below_from p.y e.low h) in uncounted (λ s i. higher (all s i).0 (all s i).1) (λ s i. higher_not_left p s (all s i).0))
+      (λ h. let all = beyond_high (below_from e.high p.y h) in uncounted (λ s i. lower (all s i).0 (all s i).1) (λ s i. lower_not_left p s (all s i).1))
       (or-out (lt_z p.y e.low) (lt_z e.high p.y) rest))
       (or-out (lt_z e.right p.x) (lt_z p.y e.low || lt_z e.high p.y) rest))
       (or-out (lt_z p.x e.left) (lt_z e.right p.x || (lt_z p.y e.low || lt_z e.high p.y)) out)

@@ -1,9 +1,10 @@
 -- What is found, and what is made, of the items that a test keeps.
-use Rattle.std.proofs.Common.{◌≡◌, ◌∙◌, refl, sym, ap, subst, cond, Bool, true, false, ◌||◌, Option, None, Some, ℤ, inl, inr, List, [], ◌∷◌, ◌++◌, filter}
+use Rattle.std.proofs.Common.{◌≡◌, ◌∙◌, refl, sym, ap, subst, cond, Bool, true, false, Option, None, Some, ℤ, inl, inr, List, [], ◌∷◌, ◌++◌, filter}
 use Rattle.std.specs.Prelude.{find}
 use Rattle.std.specs.List.{filter_map, flat_map, list_any}
 use Rattle.std.specs.Option.{option_or}
 use Rattle.std.specs.Ordering.{int_eq}
+use Rattle.std.proofs.Math.Bool.{or-true}
 use Rattle.std.proofs.lemmas.Cmp.{int_eq_equiv}
 use Rattle.std.proofs.lemmas.List.Folds.{find-append}
 use Rattle.lists.specs.Member.{In}
@@ -47,14 +48,14 @@ none_found p q part (x ∷ xs) = by (q x) refl (none_found p q part xs)
     by true e rest = rw (part x e) rest
     by false e rest = rest
 
-or_none : {X : Type 0} (o : Option X) → option_or o None ≡ o
-or_none None = refl
-or_none (Some x) = refl
+alone : {X : Type 0} (o found : Option X) → o ≡ found → option_or o None ≡ found
+alone None found is = is
+alone (Some x) found is = is
 
 -- what is found among the items that a test keeps, and behind them those that another keeps, is what is found among all
 pub found_among : {X : Type 0} (p q r : X → Bool) → ((x : X) → p x ≡ true → q x ≡ true) → ((x : X) → r x ≡ true → p x ≡ false) → (xs : List X) → find p (filter q xs ++ filter r xs) ≡ find p xs
 found_among p q r keeps part xs =
-    find-append p (filter q xs) (filter r xs) ∙ ap (option_or (find p (filter q xs))) (none_found p r part xs) ∙ or_none (find p (filter q xs)) ∙ found_kept p q keeps xs
+    find-append p (filter q xs) (filter r xs) ∙ ap (option_or (find p (filter q xs))) (none_found p r part xs) ∙ alone (find p (filter q xs)) (find p xs) (found_kept p q keeps xs)
 
 -- ---- functions that agree at each item of a list
 
@@ -75,11 +76,7 @@ flat_map-alike f g (x ∷ xs) same = rw (same x (inl refl), flat_map-alike f g x
 pub any-in : (y : ℤ) (ys : List ℤ) → In y ys → list_any (int_eq y) ys ≡ true
 any-in y [] i = absurd i
 any-in y (x ∷ xs) (inl e) = rw (sym e, int_eq_equiv.refl y) refl
-any-in y (x ∷ xs) (inr i) = rw (any-in y xs i) (by (int_eq y x))
-  where
-    by : (b : Bool) → (b || true) ≡ true
-    by true = refl
-    by false = refl
+any-in y (x ∷ xs) (inr i) = rw (any-in y xs i) (or-true (int_eq y x))
 
 pub in-flat_map : {X Y : Type 0} (f : X → List Y) (xs : List X) (x : X) (y : Y) → In x xs → In y (f x) → In y (flat_map f xs)
 in-flat_map f [] x y i j = absurd i

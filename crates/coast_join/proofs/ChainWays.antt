@@ -1,9 +1,9 @@
 -- The ways of chains.
-use Rattle.std.proofs.Common.{◌≡◌, ◌≢◌, ℕ, ℤ, pos, zero, suc, ◌+◌, ◌<◌, ◌≤◌, ◌≤ℤ◌, Bool, true, cond, List, [], ◌∷◌, length, take, map, get_or, All, Option, Some, None, is_some, refl, sym, ap, subst, ◌∙◌, arith, ⊎_elim, count_by}
+use Rattle.std.proofs.Common.{◌≡◌, ℕ, ℤ, pos, zero, suc, ◌+◌, ◌<◌, ◌≤◌, ◌≤ℤ◌, Bool, cond, List, [], ◌∷◌, length, take, map, get_or, All, Option, refl, sym, ap, subst, ◌∙◌, arith, ⊎_elim, count_by}
 use Rattle.std.specs.declared.cmp.Ordering.TheVariants.{Less}
 use Rattle.std.specs.Ordering.{int_cmp, int_eq}
 use Rattle.std.specs.List.{AllZip, sum_by}
-use Rattle.std.proofs.lemmas.Bool.{cases_lt, false≢true}
+use Rattle.std.proofs.lemmas.Bool.{cases_lt}
 use Rattle.std.proofs.lemmas.Cmp.{int_ranked}
 use Rattle.std.proofs.lemmas.Int.{ints}
 use Rattle.std.proofs.lemmas.List.{get_or-map, length-map, take_all}
@@ -11,7 +11,7 @@ use Rattle.std.proofs.lemmas.List.Elements.{All-map}
 use Rattle.std.proofs.lemmas.List.Sorted.{sum_by-IsPermutation}
 use Rattle.std.proofs.lemmas.List.Sums.{sum_by-cons, sum_by_more}
 use Rattle.lists.specs.Rising.{IsRising}
-use Rattle.lists.proofs.ListsKit.{map-map, total-is, total-map}
+use Rattle.lists.proofs.ListsKit.{map-map, some_not_none, total-is, total-map}
 use Rattle.orbits.specs.OnceLaws.{StandBelow, SumsAgree, sum_below}
 use Rattle.orbits.specs.Orbits.{after, first, last}
 use Rattle.coast_join.specs.declared.way.CoastWay.{CoastWay}
@@ -45,13 +45,9 @@ least_names below ways chains are c (k, h, e) closed =
     let z = zipped (IsChain are.sorted are.next) are.orbits chains k c [] are.each h e in
     let o = get_or are.orbits k [] in
     let inside = orbit_inside below ways chains are k z.0 in
-    let lowest = are.in_order.least k [] z.0 (goes (after are.next (last o)) (sym z.1.closed ∙ closed)) in
+    let lowest = are.in_order.least k [] z.0 (some_not_none (after are.next (last o)) (sym z.1.closed ∙ closed)) in
     subst (All (λ id. c.name ≤ℤ id)) (sym z.1.ways) (All-map (λ id. c.name ≤ℤ id) (λ i. (line_at are.sorted i).id) o
     (λ n d l. subst (λ name. name ≤ℤ (line_at are.sorted (get_or o n d)).id) (sym z.1.name) (ids_up are.sorted are.rising (first o) (get_or o n d) (lowest n d l) (inside n d l))))
-  where
-    goes : (o : Option ℕ) → is_some o ≡ true → o ≢ None
-    goes None t e = false≢true t
-    goes (Some j) t e = cc
 
 -- ---- each way stands once
 

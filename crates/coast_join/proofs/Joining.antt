@@ -7,14 +7,14 @@ use Rattle.std.proofs.lemmas.List.Elements.{filter_more}
 use Rattle.std.proofs.lemmas.Option.{same_Some, slice_get-get_or, slice_get-map}
 use Rattle.std.specs.List.Sorted.{IsPermutation}
 use Rattle.std.specs.Ordering.{int_cmp}
-use Rattle.std.proofs.lemmas.List.FromFn.{fill_by_all, length-range_with_len, get_or-range_with_len}
+use Rattle.std.proofs.lemmas.List.FromFn.{fill_by_all}
 use Rattle.std.proofs.lemmas.List.Sorted.{IsPermutation-map, All-permutation}
 use Rattle.lists.specs.Rising.{IsRising}
 use Rattle.coast_join.specs.ById.{AreById, id_at}
 use Rattle.orbits.specs.Orbits.{after, last, IsOrbit}
 use Rattle.coast_join.specs.declared.chain.Chain.{Chain}
 use Rattle.coast_join.specs.Links.{AreLinks}
-use Rattle.lists.proofs.ListsKit.{map-map}
+use Rattle.lists.proofs.ListsKit.{map-map, range_below}
 use Rattle.coast_join.proofs.Sorting.{map-same}
 use Rattle.osm_lattice.specs.declared.loc.Loc.{Loc}
 use Rattle.coast_join.specs.declared.way.CoastWay.{CoastWay}
@@ -30,7 +30,7 @@ front_cons a b q =
     let e : length (a ∷ (b ∷ q)) - 1 ≡ suc (length (b ∷ q) - 1) = omega arith in
     ap (λ n. take n (a ∷ (b ∷ q))) e
 
-last_cons : (a b : Loc) (q : List Loc) → last_of (a ∷ (b ∷ q)) ≡ last_of (b ∷ q)
+pub last_cons : (a b : Loc) (q : List Loc) → last_of (a ∷ (b ∷ q)) ≡ last_of (b ∷ q)
 last_cons a b q =
     let e : length (a ∷ (b ∷ q)) - 1 ≡ suc (length (b ∷ q) - 1) = omega arith in
     ap (λ n. get_or (a ∷ (b ∷ q)) n origin) e
@@ -257,12 +257,6 @@ list_at P os i o all h e =
     subst P (sym (list_is os i o h e)) (all i o.items (omega arith))
 
 -- ---- the ways in order of id
-
-range_below : (n : ℕ) → All (λ i. i < n) (range_with_len 0 n)
-range_below n k d h =
-    let sized = length-range_with_len 0 n in
-    let is = get_or-range_with_len 0 n k d (omega arith) in
-    rw is (omega arith)
 
 pub order_inside : (ways : List CoastWay) (order : List ℕ) → AreById (map (λ (w : CoastWay). w.id) ways) order → All (λ i. i < length ways) order
 order_inside ways order h =

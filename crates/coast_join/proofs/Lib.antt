@@ -1,5 +1,6 @@
 mod Following
 mod Inputs
+pub mod JoinKit
 mod Joining
 mod NearPairs
 mod NearestFirst

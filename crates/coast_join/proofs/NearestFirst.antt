@@ -4,6 +4,7 @@ use Rattle.std.specs.declared.cmp.Ordering.TheVariants.{Less, Equal, Greater}
 use Rattle.std.specs.Cmp.{IsTotalOrder}
 use Rattle.std.specs.List.{list_any}
 use Rattle.std.specs.Ordering.{ordering_reverse}
+use Rattle.std.proofs.Math.Bool.{or-false, or-true}
 use Rattle.std.proofs.lemmas.Bool.{cases_eq, false≢true, eq-eqb, eqb-true}
 use Rattle.std.proofs.lemmas.Cmp.{nat_cmp_total, on_total, then_total, tied_itself}
 use Rattle.std.proofs.lemmas.List.{take_more, get_or-set_same, get_or-set_other, get_or_default, length-set, length-take-le, get_or-take}
@@ -38,24 +39,16 @@ eq_false x y ne = decide (nat_eq x y) refl
     decide true e = absurd (ne (eqb-true x y e))
     decide false e = e
 
-or_false : (b : Bool) → (b || false) ≡ b
-or_false true = refl
-or_false false = refl
-
-or_true : (b : Bool) → (b || true) ≡ true
-or_true true = refl
-or_true false = refl
-
 pub marks_push : (place : Gap → ℕ) (taken : List Gap) (n : ℕ) (marks : List Bool) (g : Gap) → place g < n → AreMarks place taken n marks → AreMarks place (taken ++ g ∷ []) n (set marks (place g) true)
 marks_push place taken n marks g h (sized, is) = (length-set marks (place g) true ∙ sized, here)
   where
     split : (c : ℕ) → list_any (λ x. nat_eq (place x) c) (taken ++ g ∷ []) ≡ (list_any (λ x. nat_eq (place x) c) taken || nat_eq (place g) c)
-    split c = list_any-append (λ x. nat_eq (place x) c) taken (g ∷ []) ∙ ap (λ b. list_any (λ x. nat_eq (place x) c) taken || b) (or_false (nat_eq (place g) c))
+    split c = list_any-append (λ x. nat_eq (place x) c) taken (g ∷ []) ∙ ap (λ b. list_any (λ x. nat_eq (place x) c) taken || b) (or-false (nat_eq (place g) c))
 
     here : (c : ℕ) → c < n → get_or (set marks (place g) true) c false ≡ list_any (λ x. nat_eq (place x) c) (taken ++ g ∷ [])
     here c l = ⊎_elim
-        (λ e. ap (λ k. get_or (set marks (place g) true) k false) e ∙ (get_or-set_same marks (place g) true false (omega arith) ∙ sym (split c ∙ (ap (λ b. list_any (λ x. nat_eq (place x) c) taken || b) (eq-eqb (place g) c (sym e)) ∙ or_true (list_any (λ x. nat_eq (place x) c) taken)))))
-        (λ ne. get_or-set_other marks (place g) c true false ne ∙ (is c l ∙ sym (split c ∙ (ap (λ b. list_any (λ x. nat_eq (place x) c) taken || b) (eq_false (place g) c (λ e. ne (sym e))) ∙ or_false (list_any (λ x. nat_eq (place x) c) taken)))))
+        (λ e. ap (λ k. get_or (set marks (place g) true) k false) e ∙ (get_or-set_same marks (place g) true false (omega arith) ∙ sym (split c ∙ (ap (λ b. list_any (λ x. nat_eq (place x) c) taken || b) (eq-eqb (place g) c (sym e)) ∙ or-true (list_any (λ x. nat_eq (place x) c) taken)))))
+        (λ ne. get_or-set_other marks (place g) c true false ne ∙ (is c l ∙ sym (split c ∙ (ap (λ b. list_any (λ x. nat_eq (place x) c) taken || b) (eq_false (place g) c (λ e. ne (sym e))) ∙ or-false (list_any (λ x. nat_eq (place x) c) taken)))))
         (cases_eq c (place g))
 
 pub none_marked : (place : Gap → ℕ) (c : ℕ) (taken : List Gap) → list_any (λ g. nat_eq (place g) c) taken ≡ false → All (λ g. place g ≢ c) taken

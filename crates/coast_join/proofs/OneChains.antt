@@ -84,7 +84,7 @@ one_next ends starts a b la lb = same_options a b (la.sized ∙ sym lb.sized) (�
 
 -- ---- one chain of an orbit
 
-line_prop : (path : List Loc) → IsProp (IsLine path)
+pub line_prop : (path : List Loc) → IsProp (IsLine path)
 line_prop path = hlevel props
 
 some_prop : (ids : List ℤ) → IsProp (0 < length ids)

@@ -1,8 +1,8 @@
 -- Each ring begins with its chain of the least name.
-use Rattle.std.proofs.Common.{◌≡◌, ◌≢◌, ℕ, ◌<◌, ◌≤◌, ◌≤ℤ◌, ℤ, pos, true, List, length, filter, get_or, All, Option, Some, None, is_some, sym, ap, subst, ◌∙◌, arith, ⊎_elim}
+use Rattle.std.proofs.Common.{◌≡◌, ◌≢◌, ℕ, ◌<◌, ◌≤◌, ◌≤ℤ◌, ℤ, pos, List, length, filter, get_or, All, None, sym, ap, subst, ◌∙◌, arith, ⊎_elim}
 use Rattle.std.specs.declared.cmp.Ordering.TheVariants.{Less}
 use Rattle.std.specs.Ordering.{int_cmp}
-use Rattle.std.proofs.lemmas.Bool.{cases_lt, false≢true}
+use Rattle.std.proofs.lemmas.Bool.{cases_lt}
 use Rattle.std.proofs.lemmas.Cmp.{int_ranked}
 use Rattle.std.proofs.lemmas.Int.{ints}
 use Rattle.std.proofs.lemmas.List.{length-map}
@@ -19,11 +19,7 @@ use Rattle.coast_join.specs.Closings.{names_of}
 use Rattle.coast_join.specs.Joined.{AreJoined, chains_at, is_closed}
 use Rattle.coast_join.specs.RingLaws.{BeginsLeast}
 use Rattle.coast_join.proofs.RingNames.{lead, name_at, part_in}
-use Rattle.lists.proofs.ListsKit.{all-in, at-in, in-all, in-filter, in-passes}
-
-some_after : (o : Option ℕ) → is_some o ≡ true → o ≢ None
-some_after None e n = false≢true e
-some_after (Some j) e n = absurd (cc)
+use Rattle.lists.proofs.ListsKit.{all-in, at-in, in-all, in-filter, in-passes, some_not_none}
 
 int_up : (a b : ℤ) → int_cmp a b ≡ Less → a ≤ℤ b
 int_up a b e = let r = int_ranked a b Less (sym e) in omega (arith, ints)
@@ -52,4 +48,4 @@ module _ (ways : List CoastWay) (chains : List Chain) (are : AreChains ways chai
       let below : All (λ k. k < length of.next) o = in-all (λ (p : List ℕ). All (λ k. k < length of.next) p) of.orbits o (stand (length of.next) of.orbits of.are_orbits.once) inside in
       let closed = in-passes (is_closed of.next) of.orbits o i in
       least_first o orbit.some (subst (λ n. All (λ k. k < n) o) of.are_next.sized below)
-      (in-all (λ (p : List ℕ). after of.next (last p) ≢ None → All (λ k. first p ≤ k) p) of.orbits o of.in_order.least inside (some_after (after of.next (last o)) closed)))
+      (in-all (λ (p : List ℕ). after of.next (last p) ≢ None → All (λ k. first p ≤ k) p) of.orbits o of.in_order.least inside (some_not_none (after of.next (last o)) closed)))

@@ -1,28 +1,20 @@
 -- What rings are sorted out to, their land, and the water about it: each of these exists.
-use Rattle.std.proofs.Common.{◌≡◌, ◌==◌, ◌%◌, Bool, true, false, cond, List, [], ◌∷◌, ◌++◌, filter, map, not, pos, refl, sym, ap, subst, ◌∙◌}
-use Rattle.std.specs.Prelude.{nat_le}
-use Rattle.std.proofs.lemmas.List.Elements.{All-map}
-use Rattle.winding.specs.OddSide as odd_side
-use Rattle.lists.specs.Rising.{CountedListsExist, IsRising, count_of}
-use Rattle.lists.proofs.ListsKit.{count-picked, odd_once, picked, rising-picked, twice_once}
-use Rattle.osm_geom.specs.declared.edge.Carrier.TheVariants.{OfSeg}
+use Rattle.std.proofs.Common.{◌==◌, ◌%◌, true, List, ◌∷◌, ◌++◌, filter, map, not, pos, refl, ap, ◌∙◌}
+use Rattle.lists.specs.Rising.{CountedListsExist, count_of}
+use Rattle.lists.proofs.ListsKit.{count-picked, odd_once, picked, rising-picked}
 use Rattle.osm_geom.specs.declared.edge.Edge.{Edge}
-use Rattle.osm_geom.specs.declared.point.Point.TheVariants.{Lattice}
-use Rattle.osm_geom.proofs.GeometryKit.{on_a, on_b, ends_apart, ends_apart_back, in_world}
 use Rattle.osm_lattice.specs.ConflictLaws.{ConflictIsSymmetric}
 use Rattle.osm_lattice.specs.Loc.{loc_cmp}
 use Rattle.osm_lattice.specs.OrderLaws.{LocationOrderTellsApart, SegmentOrderTellsApart}
-use Rattle.osm_lattice.specs.Seg.{edge_of, seg_cmp}
+use Rattle.osm_lattice.specs.Seg.{seg_cmp}
 use Rattle.osm_lattice.specs.declared.loc.Loc.{Loc}
 use Rattle.osm_lattice.specs.declared.seg.Seg.{Seg}
 use Rattle.osm_segments.specs.Counts.{AreDistinct, AreSurvivors, ends_of}
 use Rattle.osm_segments.specs.Pairs.{conflicts_of}
-use Rattle.osm_segments.specs.Repeats.{AreRepeats, segs_of}
-use Rattle.osm_segments.specs.declared.counts.Repeat.{Repeat}
-use Rattle.osm_sides.specs.Directions.{AreDirected, first_end, last_end}
-use Rattle.osm_sides.specs.Laws.{DirectedAreWhole}
-use Rattle.osm_sides.specs.Survivors.{HasEvenNodes, plane_edges_of}
-use Rattle.osm_sides.proofs.DirectedSides.{directed_counts, directed_is_sided}
+use Rattle.osm_segments.specs.Laws.{RepeatsExist}
+use Rattle.osm_sides.specs.Laws.{DirectedAreWhole, DirectionsExist}
+use Rattle.osm_sides.specs.Survivors.{HasEvenNodes}
+use Rattle.osm_sides.proofs.SidesKit.{directed_counts, directed_is_sided}
 use Rattle.plane_edges.specs.SidedLaws.{LatticeIsSided}
 use Rattle.coast_join.specs.declared.ring.CoastRing.{CoastRing}
 use Rattle.coast_sides.specs.ExistenceLaws.{LandExists, SortedExists, WaterExists}
@@ -41,39 +33,6 @@ use Rattle.coast_sides.proofs.EvenRings.{loc_cmp_total, seg_cmp_total}
 use Rattle.coast_sides.proofs.SideNodes.{greatest_on, is_side, least_on}
 use Rattle.coast_sides.proofs.SidedSegments.{clear_sided, even_sided, plane_sided}
 
--- ---- directed segments
-
--- the segment, from its lesser end or from its greater one
-abbrev run : Bool → Seg → Edge
-run true s = record { from = Lattice s.a; to = Lattice s.b; carrier = OfSeg s; from_on = on_a s; to_on = on_b s; apart = ends_apart s; from_in = in_world s.a; to_in = in_world s.b }
-run false s = record { from = Lattice s.b; to = Lattice s.a; carrier = OfSeg s; from_on = on_b s; to_on = on_a s; apart = ends_apart_back s; from_in = in_world s.b; to_in = in_world s.a }
-
-carrier-is : (up : Bool) (s : Seg) → (run up s).carrier ≡ OfSeg s
-carrier-is true s = refl
-carrier-is false s = refl
-
-from-is : (up : Bool) (s : Seg) → (run up s).from ≡ Lattice (cond up s.a s.b)
-from-is true s = refl
-from-is false s = refl
-
-to-is : (up : Bool) (s : Seg) → (run up s).to ≡ Lattice (cond up s.b s.a)
-to-is true s = refl
-to-is false s = refl
-
-map-through : {X Y Z : Type 0} (f : Y → Z) (g : X → Y) (h : X → Z) → ((x : X) → f (g x) ≡ h x) → (xs : List X) → map f (map g xs) ≡ map h xs
-map-through f g h same [] = refl
-map-through f g h same (x ∷ xs) = let first = same x in let rest = map-through f g h same xs in cc
-
-abbrev directed_of : List Seg → Seg → Edge
-directed_of segs s = run (odd_side.runs_up (plane_edges_of segs) (edge_of s)) s
-
-are_directed : (segs : List Seg) → AreDirected segs (map (directed_of segs) segs)
-are_directed segs = record {
-  whole = map-through (λ (e : Edge). e.carrier) (directed_of segs) OfSeg (λ s. carrier-is (odd_side.runs_up (plane_edges_of segs) (edge_of s)) s) segs;
-  firsts = map-through (λ (e : Edge). e.from) (directed_of segs) (first_end segs) (λ s. from-is (odd_side.runs_up (plane_edges_of segs) (edge_of s)) s) segs;
-  lasts = map-through (λ (e : Edge). e.to) (directed_of segs) (last_end segs) (λ s. to-is (odd_side.runs_up (plane_edges_of segs) (edge_of s)) s) segs;
-}
-
 -- ---- counted lists
 
 pub counted_segments : CountedListsExist seg_cmp
@@ -81,9 +40,6 @@ counted_segments q xs = (picked seg_cmp q xs, rising-picked seg_cmp_total q xs, 
 
 pub counted_places : CountedListsExist loc_cmp
 counted_places q xs = (picked loc_cmp q xs, rising-picked loc_cmp_total q xs, count-picked loc_cmp_total q xs)
-
-abbrev repeat_in : List Seg → Seg → Repeat
-repeat_in segs s = record { seg = s; times = count_of seg_cmp s segs }
 
 module _ (counted : CountedListsExist seg_cmp) where
   survivors_exist : (segs : List Seg) → (left : List Seg) × AreSurvivors segs left
@@ -93,21 +49,6 @@ module _ (counted : CountedListsExist seg_cmp) where
 
   distinct_exist : (segs : List Seg) → (distinct : List Seg) × AreDistinct segs distinct
   distinct_exist segs = let r = counted (λ n. true) segs in (r.0, record { once = r.2; rising = r.1 })
-
-  segs_are : (segs ys : List Seg) → segs_of (map (repeat_in segs) ys) ≡ ys
-  segs_are segs [] = refl
-  segs_are segs (y ∷ ys) = ap (λ (zs : List Seg). y ∷ zs) (segs_are segs ys)
-
-  repeats_exist : (segs : List Seg) → (repeats : List Repeat) × AreRepeats segs repeats
-  repeats_exist segs =
-      let r = counted (λ n. nat_le 2 n) segs in (
-        map (repeat_in segs) r.0,
-        record {
-          twice = λ s. ap (count_of seg_cmp s) (segs_are segs r.0) ∙ (r.2 s ∙ twice_once (count_of seg_cmp s segs));
-          times = All-map (λ (r : Repeat). r.times ≡ count_of seg_cmp r.seg segs) (repeat_in segs) r.0 (λ k d h. refl);
-          rising = subst (IsRising seg_cmp) (sym (segs_are segs r.0)) r.1;
-        },
-      )
 
   -- ---- rings sorted out
 
@@ -121,7 +62,7 @@ module _ (counted : CountedListsExist seg_cmp) where
         kept_clear rings kept refl,
       )
 
-  module _ (exact : SegmentOrderTellsApart) (whole : DirectedAreWhole) where
+  module _ (exact : SegmentOrderTellsApart) (whole : DirectedAreWhole) (directions : DirectionsExist) where
     -- ---- land
 
     pub land_of_segments : (segs : List Seg) → AreClear segs → ((left : List Seg) → AreSurvivors segs left → HasEvenNodes left) → (edges : List Edge) × IsLand segs edges
@@ -129,8 +70,8 @@ module _ (counted : CountedListsExist seg_cmp) where
         let l = survivors_exist segs in
         let left = l.0 in
         let none = none_conflict left (clear_left exact segs left clear l.1) in
-        let edges = map (directed_of left) left in
-        let directed = are_directed left in (
+        let edges = (directions left).0 in
+        let directed = (directions left).1 in (
           edges,
           record {
             survivors = left;
@@ -142,10 +83,10 @@ module _ (counted : CountedListsExist seg_cmp) where
           },
         )
 
-    pub rings_have_land : CancellingKeepsEven → LandExists
-    rings_have_land keeps rings clear =
+    pub rings_have_land : RepeatsExist → CancellingKeepsEven → LandExists
+    rings_have_land repeats keeps rings clear =
         let e = land_of_segments (all_segments rings) clear (keeps rings) in
-        let r = repeats_exist (all_segments rings) in (
+        let r = repeats (all_segments rings) in (
           record { edges = e.0; repeats = r.0; wrong_way = map (λ (ring : CoastRing). ring.name) (filter (runs_against e.0) rings) },
           record { edges = e.1; repeats = r.1; wrong_way = refl },
         )
@@ -175,8 +116,8 @@ module _ (counted : CountedListsExist seg_cmp) where
           let left = l.0 in
           let none = clear_law land s.0 left clear s.1 l.1 in
           let even_left = even_law land s.0 left even s.1 l.1 in
-          let edges = map (directed_of left) left in
-          let directed = are_directed left in (
+          let edges = (directions left).0 in
+          let directed = (directions left).1 in (
             edges,
             record {
               sides = s.0;

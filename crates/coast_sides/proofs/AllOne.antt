@@ -5,21 +5,20 @@ use Rattle.std.specs.declared.cmp.Ordering.TheVariants.{Equal}
 use Rattle.std.specs.Cmp.{IsTotalOrder}
 use Rattle.std.proofs.lemmas.Cmp.{tied_itself}
 use Rattle.std.proofs.lemmas.List.{get_or_default}
-use Rattle.std.proofs.lemmas.List.Elements.{All-contains, All-tail}
+use Rattle.std.proofs.lemmas.List.Elements.{All-contains}
 use Rattle.lists.specs.Rising.{IsRising, count_of}
 use Rattle.lists.proofs.ListsKit.{count_some, count_stands, same_rising, stands_once}
 use Rattle.osm_geom.specs.declared.edge.Edge.{Edge}
-use Rattle.osm_geom.proofs.GeometryKit.{edge-from-fields}
 use Rattle.osm_lattice.specs.OrderLaws.{LocationOrderTellsApart, SegmentOrderTellsApart}
 use Rattle.osm_lattice.specs.Seg.{seg_cmp}
 use Rattle.osm_lattice.specs.declared.loc.Loc.{Loc}
 use Rattle.osm_lattice.specs.declared.seg.Seg.{Seg}
 use Rattle.osm_segments.specs.Counts.{ends_of}
 use Rattle.osm_segments.specs.Pairs.{conflicts_of}
-use Rattle.osm_segments.specs.Repeats.{segs_of}
-use Rattle.osm_segments.specs.declared.counts.Repeat.{Repeat}
+use Rattle.osm_segments.specs.Laws.{RepeatsAreOne}
 use Rattle.osm_segments.specs.declared.pairs.Pair.{Pair}
 use Rattle.osm_sides.specs.Directions.{AreDirected}
+use Rattle.osm_sides.specs.Laws.{DirectionsAreOne}
 use Rattle.coast_join.specs.declared.ring.CoastRing.{CoastRing}
 use Rattle.coast_join.specs.Line.{origin}
 use Rattle.coast_sides.specs.Land.{IsLand}
@@ -71,26 +70,7 @@ sides_one exact land a b s t =
     let west = ap pieces (side_one exact is_west south_west north_west land s.on_west t.on_west s.west t.west) in
     s.whole ∙ ((λ i. south i ++ (east i ++ (north i ++ west i))) ∙ sym t.whole)
 
--- ---- edges and repeats told by their parts
-
-edges_same : (a b : List Edge) → map (λ (e : Edge). e.carrier) a ≡ map (λ (e : Edge). e.carrier) b → map (λ (e : Edge). e.from) a ≡ map (λ (e : Edge). e.from) b → map (λ (e : Edge). e.to) a ≡ map (λ (e : Edge). e.to) b → a ≡ b
-edges_same [] [] h k l = refl
-edges_same [] (y ∷ b) h k l = cc
-edges_same (x ∷ a) [] h k l = cc
-edges_same (x ∷ a) (y ∷ b) h k l = ap (λ z. z ∷ a) (edge-from-fields x y (cc) (cc) (cc)) ∙ ap (λ l. y ∷ l) (edges_same a b (cc) (cc) (cc))
-
-directed_one : (segs : List Seg) (a b : List Edge) → AreDirected segs a → AreDirected segs b → a ≡ b
-directed_one segs a b s t = edges_same a b (s.whole ∙ sym t.whole) (s.firsts ∙ sym t.firsts) (s.lasts ∙ sym t.lasts)
-
-repeats_same : (segs : List Seg) (a b : List Repeat) → segs_of a ≡ segs_of b → All (λ r. r.times ≡ count_of seg_cmp r.seg segs) a → All (λ r. r.times ≡ count_of seg_cmp r.seg segs) b → a ≡ b
-repeats_same segs [] [] h s t = refl
-repeats_same segs [] (y ∷ b) h s t = cc
-repeats_same segs (x ∷ a) [] h s t = cc
-repeats_same segs (x ∷ a) (y ∷ b) h s t =
-    let e : x.seg ≡ y.seg = cc in
-    let f : x.times ≡ y.times = s 0 x (omega arith) ∙ ap (λ q. count_of seg_cmp q segs) e ∙ sym (t 0 y (omega arith)) in
-    let g : x ≡ y = λ i. record { seg = e i; times = f i } in
-    ap (λ z. z ∷ a) g ∙ ap (λ l. y ∷ l) (repeats_same segs a b (cc) (All-tail (λ (r : Repeat). r.times ≡ count_of seg_cmp r.seg segs) x a s) (All-tail (λ (r : Repeat). r.times ≡ count_of seg_cmp r.seg segs) y b t))
+-- ---- what is sorted out, land and water
 
 module _ (exact : SegmentOrderTellsApart) where
   told_by_counts : (a b : List Seg) → IsRising seg_cmp a → IsRising seg_cmp b → ((s : Seg) → count_of seg_cmp s a ≡ count_of seg_cmp s b) → a ≡ b
@@ -108,21 +88,22 @@ module _ (exact : SegmentOrderTellsApart) where
       let pairs = conflicts_one (all_segments rings) a.pairs b.pairs s.pairs t.pairs in
       λ i. record { kept = kept i; left_out = left i; pairs = pairs i }
 
-  land_edges_one : (segs : List Seg) (a b : List Edge) → IsLand segs a → IsLand segs b → a ≡ b
-  land_edges_one segs a b s t =
-      let left = told_by_counts s.survivors t.survivors s.left.rising t.left.rising (λ z. s.left.odd z ∙ sym (t.left.odd z)) in
-      directed_one t.survivors a b (subst (λ (l : List Seg). AreDirected l a) left s.directed) t.directed
+  module _ (directions : DirectionsAreOne) where
+    land_edges_one : (segs : List Seg) (a b : List Edge) → IsLand segs a → IsLand segs b → a ≡ b
+    land_edges_one segs a b s t =
+        let left = told_by_counts s.survivors t.survivors s.left.rising t.left.rising (λ z. s.left.odd z ∙ sym (t.left.odd z)) in
+        directions t.survivors a b (subst (λ (l : List Seg). AreDirected l a) left s.directed) t.directed
 
-  pub land_one : LandIsOne
-  land_one rings a b s t =
-      let segs = all_segments rings in
-      let edges = land_edges_one segs a.edges b.edges s.edges t.edges in
-      let repeats = repeats_same segs a.repeats b.repeats (told_by_counts (segs_of a.repeats) (segs_of b.repeats) s.repeats.rising t.repeats.rising (λ z. s.repeats.twice z ∙ sym (t.repeats.twice z))) s.repeats.times t.repeats.times in
-      let wrong = s.wrong_way ∙ (ap (λ (es : List Edge). map (λ (ring : CoastRing). ring.name) (filter (runs_against es) rings)) edges ∙ sym t.wrong_way) in
-      λ i. record { edges = edges i; repeats = repeats i; wrong_way = wrong i }
+    pub land_one : RepeatsAreOne → LandIsOne
+    land_one repeats_one rings a b s t =
+        let segs = all_segments rings in
+        let edges = land_edges_one segs a.edges b.edges s.edges t.edges in
+        let repeats = repeats_one segs a.repeats b.repeats s.repeats t.repeats in
+        let wrong = s.wrong_way ∙ (ap (λ (es : List Edge). map (λ (ring : CoastRing). ring.name) (filter (runs_against es) rings)) edges ∙ sym t.wrong_way) in
+        λ i. record { edges = edges i; repeats = repeats i; wrong_way = wrong i }
 
-  pub water_one : LocationOrderTellsApart → WaterIsOne
-  water_one places land a b s t =
-      let sides = sides_one places land s.sides t.sides s.are_sides t.are_sides in
-      let left = told_by_counts s.survivors t.survivors s.left.rising t.left.rising (λ z. s.left.odd z ∙ (ap (λ (ss : List Seg). count_of seg_cmp z (land ++ ss) % 2) sides ∙ sym (t.left.odd z))) in
-      directed_one t.survivors a b (subst (λ (l : List Seg). AreDirected l a) left s.directed) t.directed
+    pub water_one : LocationOrderTellsApart → WaterIsOne
+    water_one places land a b s t =
+        let sides = sides_one places land s.sides t.sides s.are_sides t.are_sides in
+        let left = told_by_counts s.survivors t.survivors s.left.rising t.left.rising (λ z. s.left.odd z ∙ (ap (λ (ss : List Seg). count_of seg_cmp z (land ++ ss) % 2) sides ∙ sym (t.left.odd z))) in
+        directions t.survivors a b (subst (λ (l : List Seg). AreDirected l a) left s.directed) t.directed

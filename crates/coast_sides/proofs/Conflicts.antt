@@ -13,7 +13,7 @@ use Rattle.osm_lattice.specs.ConflictLaws.{ConflictIsSymmetric}
 use Rattle.osm_lattice.specs.OrderLaws.{SegmentOrderTellsApart}
 use Rattle.osm_lattice.specs.Seg.{seg_cmp}
 use Rattle.lists.specs.Rising.{count_of}
-use Rattle.lists.proofs.ListsKit.{equal_from, not-true-out, or-out}
+use Rattle.lists.proofs.ListsKit.{equal_from, first_member, later_member, member_cases, no_member, not-true-out, or-out}
 use Rattle.osm_segments.specs.Counts.{AreDistinct}
 use Rattle.osm_segments.specs.Pairs.{conflicts_of, pair_of}
 use Rattle.osm_segments.specs.declared.pairs.Pair.{Pair}
@@ -23,7 +23,7 @@ use Rattle.coast_sides.specs.Segments.{all_segments, segments_round}
 use Rattle.coast_sides.specs.Sorting.{AreConflicts, IsSorted, conflicts_with, is_in_pair, is_left_out}
 use Rattle.coast_sides.proofs.Clearing.{counted, stands}
 use Rattle.coast_sides.proofs.EvenRings.{seg_cmp_total}
-use Rattle.coast_sides.proofs.SomeMember.{Gives, Passes, any_from, any_same, filter_map_from, filter_map_has, first_member, flat_map_from, flat_map_has, kept_is, later_member, member_cases, no_member, same_truth, some_passes, filter_alike}
+use Rattle.coast_sides.proofs.SomeMember.{Gives, Passes, any_from, any_same, filter_map_from, filter_map_has, flat_map_from, flat_map_has, kept_is, same_truth, some_passes, filter_alike}
 
 -- ---- one pair
 

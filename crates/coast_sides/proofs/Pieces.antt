@@ -1,5 +1,5 @@
 -- Sums over the pieces of a side.
-use Rattle.std.proofs.Common.{◌≡◌, ℕ, suc, ◌+◌, ◌-◌, ◌*◌, Bool, true, List, [], ◌∷◌, length, get_or, All, refl, ap, ◌∙◌, arith}
+use Rattle.std.proofs.Common.{◌≡◌, ℕ, suc, ◌+◌, ◌-◌, ◌*◌, Bool, true, List, [], ◌∷◌, All, refl, ap, ◌∙◌, arith}
 use Rattle.std.specs.declared.cmp.Ordering.{Ordering}
 use Rattle.std.specs.declared.cmp.Ordering.TheVariants.{Less, Equal, Greater}
 use Rattle.std.specs.List.{cons_option, sum_by}
@@ -10,7 +10,8 @@ use Rattle.osm_lattice.specs.Loc.{loc_cmp}
 use Rattle.osm_lattice.specs.Seg.{segment_between, segment_by}
 use Rattle.osm_lattice.proofs.LatticeKit.{seg_from_ends}
 use Rattle.lists.specs.Rising.{IsRising, count_of}
-use Rattle.coast_join.specs.Line.{last_of, origin}
+use Rattle.coast_join.specs.Line.{last_of}
+use Rattle.coast_join.proofs.JoinKit.{last_cons}
 use Rattle.coast_sides.specs.Water.{pieces}
 use Rattle.coast_sides.proofs.EvenRings.{ends_at, one}
 
@@ -41,11 +42,6 @@ rising_next a b r up = up 0 1 a (omega arith) (omega arith)
 
 rising_rest : (a : Loc) (r : List Loc) → IsRising loc_cmp (a ∷ r) → IsRising loc_cmp r
 rising_rest a r up i j d h l = up (suc i) (suc j) d (omega arith) (omega arith)
-
-last_cons : (a b : Loc) (r : List Loc) → last_of (a ∷ (b ∷ r)) ≡ last_of (b ∷ r)
-last_cons a b r =
-    let e : length (a ∷ (b ∷ r)) - 1 ≡ suc (length (b ∷ r) - 1) = omega arith in
-    ap (λ n. get_or (a ∷ (b ∷ r)) n origin) e
 
 -- ---- ends
 

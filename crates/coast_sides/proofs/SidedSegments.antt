@@ -16,7 +16,7 @@ use Rattle.plane.proofs.PlaneKit.{order-reversed, same_point-refl, same_point-tr
 use Rattle.winding.specs.Ring.{segments_of}
 use Rattle.winding.specs.Sided as winding
 use Rattle.lists.specs.Member.{EachPair}
-use Rattle.lists.proofs.ListsKit.{in-all}
+use Rattle.lists.proofs.ListsKit.{in-all, member_cases, no_member}
 use Rattle.osm_geom.specs.declared.edge.Edge.{Edge}
 use Rattle.osm_geom.specs.declared.point.Point.TheVariants.{Lattice}
 use Rattle.osm_geom.specs.Point.{den_of}
@@ -38,7 +38,6 @@ use Rattle.plane_edges.proofs.EdgesKit.{lattice_point}
 use Rattle.coast_sides.specs.Land.{AreClear}
 use Rattle.coast_sides.specs.Water.{segment_of, segments_along}
 use Rattle.coast_sides.proofs.EvenRings.{ends_are, ends_at, one, rising_none, seg_cmp_total}
-use Rattle.coast_sides.proofs.SomeMember.{member_cases, no_member}
 
 -- ---- an edge along a whole segment, in the plane
 

@@ -1,9 +1,10 @@
 -- Tests that some member of a list passes.
-use Rattle.std.proofs.Common.{◌≡◌, ◌⊎◌, inl, inr, ⊎_elim, ◌||◌, zero, suc, Bool, true, false, cond, List, [], ◌∷◌, filter, Option, Some, None, Contains, refl, sym, ap, ◌∙◌, arith}
+use Rattle.std.proofs.Common.{◌≡◌, ◌⊎◌, ⊎_elim, ◌||◌, Bool, true, false, cond, List, [], ◌∷◌, filter, Option, Some, None, Contains, refl, sym, ap, ◌∙◌, arith}
 use Rattle.std.specs.List.{cons_option, filter_map, flat_map, list_any}
 use Rattle.std.proofs.lemmas.Bool.{false≢true}
 use Rattle.std.proofs.lemmas.List.Elements.{Contains-append_cases, Contains-append_left, Contains-append_right}
 use Rattle.std.proofs.lemmas.List.Folds.{list_any_at}
+use Rattle.lists.proofs.ListsKit.{first_member, later_member, member_cases, no_member}
 
 -- two truths that follow from each other are one
 pub same_truth : (a b : Bool) → (a ≡ true → b ≡ true) → (b ≡ true → a ≡ true) → a ≡ b
@@ -12,19 +13,6 @@ same_truth false true there back = back refl
 same_truth false false there back = refl
 
 module _ {X : Type 0} where
-  pub first_member : (x : X) (xs : List X) → Contains (x ∷ xs) x
-  first_member x xs = (0, omega arith, refl)
-
-  pub later_member : (x y : X) (xs : List X) → Contains xs y → Contains (x ∷ xs) y
-  later_member x y xs (k, h, e) = (suc k, omega arith, e)
-
-  pub no_member : (x : X) → Contains [] x → ⊥
-  no_member x (k, h, e) = absurd (omega arith)
-
-  pub member_cases : (x y : X) (xs : List X) → Contains (x ∷ xs) y → (x ≡ y) ⊎ Contains xs y
-  member_cases x y xs (zero, h, e) = inl e
-  member_cases x y xs (suc k, h, e) = inr (k, omega arith, e)
-
   -- a member that passes
   pub record Passes (p : X → Bool) (xs : List X) : Type 0 where
     pub item : X

@@ -4,7 +4,8 @@ ghost use Rattle.coast_sides.specs.ExistenceLaws.{LandExists, SortedExists, Wate
 use crate::ring_segments::closed_lines_are_even;
 use crate::water_laws::{water_is_clear, water_is_even};
 use osm_geom::{conflicts_are_symmetric, orders_are_exact};
-use osm_sides::directing_is_sided;
+use osm_segments::repeats_exist;
+use osm_sides::{directing_is_sided, directions_exist};
 use plane_edges::lattice::lattice_edges_are_whole;
 
 /// Every list of rings can be sorted out, and no two segments of the rings that are kept conflict.
@@ -18,6 +19,8 @@ pub fn land_exists()
 {
     orders_are_exact();
     directing_is_sided();
+    directions_exist();
+    repeats_exist();
     closed_lines_are_even();
 }
 
@@ -29,6 +32,7 @@ pub fn water_exists()
     conflicts_are_symmetric();
     lattice_edges_are_whole();
     directing_is_sided();
+    directions_exist();
     water_is_clear();
     water_is_even();
 }

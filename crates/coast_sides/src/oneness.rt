@@ -2,6 +2,8 @@
 ghost use Rattle.coast_sides.specs.OnenessLaws.{LandIsOne, SortedIsOne, WaterIsOne};
 
 use osm_geom::orders_are_exact;
+use osm_segments::repeats_are_one;
+use osm_sides::directions_are_one;
 
 /// Rings are sorted out in one way.
 pub fn sorting_is_one()
@@ -15,6 +17,8 @@ pub fn land_is_one()
     ensures { LandIsOne }
 {
     orders_are_exact();
+    directions_are_one();
+    repeats_are_one();
 }
 
 /// The segments of land have one water.
@@ -22,4 +26,5 @@ pub fn water_is_one()
     ensures { WaterIsOne }
 {
     orders_are_exact();
+    directions_are_one();
 }

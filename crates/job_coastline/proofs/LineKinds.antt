@@ -7,14 +7,12 @@ use Rattle.coast_join.specs.declared.chain.Chain.{Chain}
 use Rattle.coast_join.specs.declared.way.Aside.{Aside}
 use Rattle.coast_join.specs.declared.way.Aside.TheVariants.{Missing, Short}
 use Rattle.coast_sides.specs.Sorting.{AreConflicts}
-use Rattle.osm_lattice.specs.Conflict.{conflict_of}
-use Rattle.osm_lattice.specs.declared.conflicts.Kind.{Kind}
 use Rattle.osm_lattice.specs.declared.seg.Seg.{Seg}
 use Rattle.osm_report.specs.Coast.{HasItsKind}
 use Rattle.osm_report.specs.declared.coast.CoastLine.{CoastLine}
 use Rattle.osm_report.specs.declared.coast.CoastLine.TheVariants as line
-use Rattle.osm_segments.specs.Pairs.{conflicts_of, pair_of}
-use Rattle.osm_segments.specs.declared.pairs.Pair.{Pair}
+use Rattle.osm_segments.specs.Pairs.{IsPairOfItsKind}
+use Rattle.osm_segments.proofs.SegmentsKit.{conflicts_of_kind}
 use Rattle.job_coastline.specs.Coast.{Coast}
 use Rattle.osm_nest.specs.declared.polygon.Polygon.{Polygon}
 use Rattle.osm_text.specs.Piece.{vanished_in}
@@ -22,25 +20,7 @@ use Rattle.job_coastline.specs.Coastline.{all_lines}
 use Rattle.job_coastline.specs.Pieces.{Tile, large_lines, tile_lines, vanished_line, vanished_lines}
 use Rattle.job_coastline.specs.Report.{antarctica_line, aside_line, coast_lines, conflict_line, gap_between, gap_line, left_out_line, repeated_line, unclosed_line, wrong_way_line}
 
--- ---- conflicts
-
-abbrev IsPairOfItsKind : Pair → Type 0
-IsPairOfItsKind p = conflict_of p.first p.second ≡ Some p.kind
-
-pair_first : (s t : Seg) (ts : List Seg) (found : Option Kind) → conflict_of s t ≡ found → All IsPairOfItsKind (filter_map (pair_of s) ts) → All IsPairOfItsKind (filter_map (pair_of s) (t ∷ ts))
-unfolding pair_of
-pair_first s t ts None is all = rw is all
-pair_first s t ts (Some kind) is all = rw is (All-cons IsPairOfItsKind (record { kind = kind; first = s; second = t }) (filter_map (pair_of s) ts) is all)
-
-pairs_of_kind : (s : Seg) (ts : List Seg) → All IsPairOfItsKind (filter_map (pair_of s) ts)
-pairs_of_kind s [] = All-nil IsPairOfItsKind
-pairs_of_kind s (t ∷ ts) = pair_first s t ts (conflict_of s t) refl (pairs_of_kind s ts)
-
-conflicts_of_kind : (ss : List Seg) → All IsPairOfItsKind (conflicts_of ss)
-conflicts_of_kind [] = All-nil IsPairOfItsKind
-conflicts_of_kind (s ∷ ss) = All-append IsPairOfItsKind (filter_map (pair_of s) ss) (conflicts_of ss) (pairs_of_kind s ss) (conflicts_of_kind ss)
-
--- ---- the other lines
+-- ---- lines of one thing
 
 aside_of_kind : (aside : Aside) → HasItsKind (aside_line aside)
 aside_of_kind (Missing way node) = tt

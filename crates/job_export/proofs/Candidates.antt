@@ -1,6 +1,6 @@
 -- What is written of one candidate, and of one candidate more.
 use Rattle.std.proofs.Common.{◌≡◌, ◌∙◌, refl, sym, ap, ap₂, subst, ℕ, ◌+◌, ◌≤◌, ◌<◌, Bool, true, false, List, [], ◌∷◌, ◌++◌, length, take, drop, get_or, append_assoc, append-nil, map, arith, Ok, Err}
-use Rattle.std.proofs.lemmas.List.{take_more, take_all, take-append-drop, map-append}
+use Rattle.std.proofs.lemmas.List.{drop_more, take_more, take_all, take-append-drop, map-append}
 use Rattle.opl_reader.specs.declared.object.Object.{Object}
 use Rattle.opl_reader.specs.declared.object.ObjectRef.{ObjectRef}
 use Rattle.osm_area.specs.declared.outcome.Outcome.{Outcome}
@@ -131,12 +131,6 @@ module _ (settings : ExportSettings) (objects : List Object) (cs : List ObjectRe
   abbrev c : ObjectRef
   c = get_or cs k d
 
-  longer : take (k + 1) cs ≡ take k cs ++ c ∷ []
-  longer = take_more cs k d lt
-
-  parted : cs ≡ take k cs ++ c ∷ drop (k + 1) cs
-  parted = sym (take-append-drop (k + 1) cs) ∙ ap (λ (xs : List ObjectRef). xs ++ drop (k + 1) cs) longer ∙ append_assoc (take k cs) (c ∷ []) (drop (k + 1) cs)
-
   abbrev es : List Entry
   es = first.entries
 
@@ -157,7 +151,7 @@ module _ (settings : ExportSettings) (objects : List Object) (cs : List ObjectRe
       let of_c : IsEntryOf settings objects c e = w.right.1 in
       record {
         entries = es ++ e ∷ [];
-        are = subst (λ (xs : List ObjectRef). AreEntriesOf settings objects xs (es ++ e ∷ [])) (sym longer) (both_entries settings objects (take k cs) (c ∷ []) es (e ∷ []) first.are (one_entry settings objects c e of_c w.right.2));
+        are = subst (λ (xs : List ObjectRef). AreEntriesOf settings objects xs (es ++ e ∷ [])) (sym (take_more cs k d lt)) (both_entries settings objects (take k cs) (c ∷ []) es (e ∷ []) first.are (one_entry settings objects c e of_c w.right.2));
         counted = ap₂ (λ (m n : ℕ). m + n) first.counted w.right.3 ∙ sym (features_push es e);
         written = first.written ++ w.written;
         all = append_assoc first.written w.written (map to_output waiting) ∙ ap (λ (xs : List Sent). first.written ++ xs) w.right.4
@@ -168,7 +162,7 @@ module _ (settings : ExportSettings) (objects : List Object) (cs : List ObjectRe
 
   stops_front : (e : Entry) → IsEntryOf settings objects c e → settings.stop_on_error ≡ true → has_area e ≡ false → StopsAt settings objects cs es e
   stops_front e of_c stops none =
-      subst (λ (xs : List ObjectRef). StopsAt settings objects xs es e) (sym parted)
+      subst (λ (xs : List ObjectRef). StopsAt settings objects xs es e) (ap (λ (xs : List ObjectRef). take k cs ++ xs) (sym (drop_more cs k d lt)) ∙ take-append-drop k cs)
       (subst (λ (xs : List Entry). StopsAt settings objects (take k cs ++ c ∷ drop (k + 1) cs) xs e) (append-nil es)
       (stops_behind settings objects (take k cs) (c ∷ drop (k + 1) cs) es [] e first.are (stops_here settings objects c (drop (k + 1) cs) e of_c stops none)))
 
@@ -184,7 +178,7 @@ module _ (settings : ExportSettings) (objects : List Object) (cs : List ObjectRe
       IsPrefixOf settings objects cs (first.written ++ xs)
   going_on e of_c xs front area =
       going (take (k + 1) cs) (drop (k + 1) cs) (es ++ e ∷ []) (sym (take-append-drop (k + 1) cs))
-      (subst (λ (xs : List ObjectRef). AreEntriesOf settings objects xs (es ++ e ∷ [])) (sym longer) (both_entries settings objects (take k cs) (c ∷ []) es (e ∷ []) first.are (one_entry settings objects c e of_c area)))
+      (subst (λ (xs : List ObjectRef). AreEntriesOf settings objects xs (es ++ e ∷ [])) (sym (take_more cs k d lt)) (both_entries settings objects (take k cs) (c ∷ []) es (e ∷ []) first.are (one_entry settings objects c e of_c area)))
       (one_more_front e xs front)
 
   -- a write failed

@@ -7,6 +7,7 @@ use Rattle.opl_writer.specs.Written.{line_of, text_of}
 use Rattle.osm_input.specs.Reading.{IsReadAs}
 use Rattle.osm_words.specs.Job.{CoastlineSettings}
 use Rattle.osm_job.specs.Whole.{IsAfter, Whole, input_limit, longest_line}
+use Rattle.osm_job.proofs.JobKit.{whole_same}
 use Rattle.coast_filter.specs.CoastPart.{coast_part}
 use Rattle.coast_filter.specs.Laws.{CoastInputStays, CoastPartIsApart, CoastPartIsWritable, HaveOneCoastInput}
 use Rattle.job_coastline.specs.Coast.{Coast, IsCoast}
@@ -82,9 +83,6 @@ module _ (stays : CoastInputStays) (apart : CoastPartIsApart) (writable : CoastP
   )
 
 -- ---- it is one
-
-whole_same : (v w : Whole) → v.written ≡ w.written → v.ended ≡ w.ended → v ≡ w
-whole_same v w p q = λ i. record { written = p i; ended = q i }
 
 pub filter_one : FilterIsOne
 filter_one objects v w s t = whole_same v w (s.written ∙ sym t.written) (s.ended ∙ sym t.ended)

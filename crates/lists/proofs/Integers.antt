@@ -1,6 +1,7 @@
 -- Integers.
-use Rattle.std.proofs.Common.{arith, int_eq, negsuc, pos, true, ℕ, ℤ, ◌*ℤ◌, ◌+ℤ◌, ◌-ℤ◌, ◌<ℤ◌, ◌<◌, ◌≡◌, ◌≤ℤ◌}
+use Rattle.std.proofs.Common.{T, arith, int_eq, negsuc, pos, subst, sym, true, ℕ, ℤ, ◌*ℤ◌, ◌+ℤ◌, ◌-ℤ◌, ◌<ℤ◌, ◌<◌, ◌≡◌, ◌≤ℤ◌}
 use Rattle.std.specs.Int.{int_div_euclid}
+use Rattle.std.specs.Int.Signed.{lt_z, lt_z_yes}
 use Rattle.std.proofs.lemmas.Bool.Decides.{Decides-int_eq}
 use Rattle.std.proofs.lemmas.Int.{ints}
 
@@ -9,6 +10,9 @@ int_eq-true a b h = grind (arith, Decides-int_eq)
 
 pub int_eq-same : (a b : ℤ) → a ≡ b → int_eq a b ≡ true
 int_eq-same a b h = grind (arith, Decides-int_eq)
+
+pub below_from : (a b : ℤ) → lt_z a b ≡ true → a <ℤ b
+below_from a b h = lt_z_yes (subst T (sym h) tt)
 
 pub same_from_difference : (a b : ℤ) → a -ℤ b ≡ pos 0 → a ≡ b
 same_from_difference a b h = omega (arith, ints)

@@ -1,5 +1,6 @@
 pub mod Bools
 mod CancelSteps
+pub mod Contained
 pub mod Counts
 pub mod EachOnce
 pub mod Insertions
@@ -13,6 +14,7 @@ pub mod Options
 pub mod Orderings
 pub mod PickedItems
 pub mod Picks
+pub mod Ranges
 pub mod RisingLists
 pub mod Rotations
 pub mod Splits

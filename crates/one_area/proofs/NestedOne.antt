@@ -29,6 +29,7 @@ use Rattle.osm_rings.proofs.UncrossedRings.{held-within, rings-do-not-cross}
 use Rattle.plane_edges.specs.Multiple.{common_den, edge_times, edges_times}
 use Rattle.plane_edges.specs.Sided.{IsSided}
 use Rattle.one_area.proofs.BegunOnce.{LeavesOnce, begun-one, leaves-once}
+use Rattle.osm_nest.proofs.NestKit.{begun-from, polygon-was}
 use Rattle.osm_nest.proofs.NestedRings.{same-common}
 use Rattle.osm_rings.proofs.EdgeEquality.{exact-out, exact-own, list-out, list-own, same_exact, same_list, sum-in}
 use Rattle.one_area.proofs.ExactRings.{one-list, ring-turned, rings-found}
@@ -55,26 +56,10 @@ into-rings (Q ∷ ps) P x (inl e) j = in-left (Q.outer ∷ Q.inners) (rings_of p
 into-rings (Q ∷ ps) P x (inr i) j = in-right (Q.outer ∷ Q.inners) (rings_of ps) x (into-rings ps P x i j)
 
 -- ---- begun rings and polygons
-begun-was : (rs bs : List (List Edge)) → AreFromLeast rs bs → (b : List Edge) → In b bs → (r : List Edge) × In r rs × IsFromLeast r b
-begun-was [] bs k b i = absurd (subst (λ l. In b l) k i)
-begun-was (r ∷ rs) bs k b i = by (begun-was rs k.1 k.4 b) (subst (λ l. In b l) k.2 i)
-  where
-    by : (In b k.1 → (u : List Edge) × In u rs × IsFromLeast u b) → (b ≡ k.0) ⊎ In b k.1 → (u : List Edge) × In u (r ∷ rs) × IsFromLeast u b
-    by h (inl e) = (r, inl refl, subst (IsFromLeast r) (sym e) k.3)
-    by h (inr j) = let a = h j in (a.0, inr a.1, a.2)
-
 begun-is : (rs bs : List (List Edge)) → AreFromLeast rs bs → (r : List Edge) → In r rs → (b : List Edge) × In b bs × IsFromLeast r b
 begun-is [] bs k r i = absurd i
 begun-is (s ∷ rs) bs k r (inl e) = (k.0, subst (λ l. In k.0 l) (sym k.2) (inl refl), subst (λ l. IsFromLeast l k.0) (sym e) k.3)
 begun-is (s ∷ rs) bs k r (inr i) = let a = begun-is rs k.1 k.4 r i in (a.0, subst (λ l. In a.0 l) (sym k.2) (inr a.1), a.2)
-
-polygon-was : (ps bs : List Polygon) → ArePolygonsFromLeast ps bs → (b : Polygon) → In b bs → (P : Polygon) × In P ps × IsPolygonFromLeast P b
-polygon-was [] bs k b i = absurd (subst (λ l. In b l) k i)
-polygon-was (P ∷ ps) bs k b i = by (polygon-was ps k.1 k.4 b) (subst (λ l. In b l) k.2 i)
-  where
-    by : (In b k.1 → (Q : Polygon) × In Q ps × IsPolygonFromLeast Q b) → (b ≡ k.0) ⊎ In b k.1 → (Q : Polygon) × In Q (P ∷ ps) × IsPolygonFromLeast Q b
-    by h (inl e) = (P, inl refl, subst (IsPolygonFromLeast P) (sym e) k.3)
-    by h (inr j) = let a = h j in (a.0, inr a.1, a.2)
 
 polygon-is : (ps bs : List Polygon) → ArePolygonsFromLeast ps bs → (P : Polygon) → In P ps → (b : Polygon) × In b bs × IsPolygonFromLeast P b
 polygon-is [] bs k P i = absurd i
@@ -141,7 +126,7 @@ module _ (es : List Edge) (sd : IsSided es) (rs : List (List Edge)) (a : AreRing
           begun = s.2.outer;
           outer = g.is_outer_ring;
           inners = λ x j.
-              let h = begun-was P.inners p.inners s.2.inners x j in
+              let h = begun-from P.inners p.inners s.2.inners x j in
               (h.0, ring-of P h.0 s.1 (inr h.1), h.2, inner-is P s.1 h.0 h.1, g.enclosed (E h.0) (in-map (edges_times (common_den es)) P.inners h.0 h.1));
         }
 

@@ -1,20 +1,14 @@
 -- A candidate has one outcome.
-use Rattle.std.proofs.Common.{All, List, [], ap, arith, map, refl, subst, sym, ℤ, ◌++◌, ◌∙◌, ◌∷◌, ◌≡◌}
-use Rattle.osm_geom.specs.declared.edge.Edge.{Edge}
+use Rattle.std.proofs.Common.{List, [], ap, map, subst, sym, ℤ, ◌++◌, ◌∙◌, ◌∷◌, ◌≡◌}
 use Rattle.osm_lattice.specs.declared.seg.Seg.{Seg}
 use Rattle.osm_lattice.specs.Seg.{seg_cmp}
-use Rattle.osm_lattice.proofs.LatticeKit.{seg_total, seg_same}
-use Rattle.lists.specs.Rising.{IsRising, count_of}
-use Rattle.lists.proofs.ListsKit.{same_rising}
+use Rattle.lists.specs.Rising.{IsRising}
 use Rattle.osm_segments.specs.Counts.{AreSurvivors}
 use Rattle.osm_segments.specs.Pairs.{conflicts_of}
-use Rattle.osm_segments.specs.Repeats.{AreRepeats, segs_of}
-use Rattle.osm_segments.specs.declared.counts.Repeat.{Repeat}
-use Rattle.osm_sides.specs.Directions.{AreDirected}
 use Rattle.osm_sides.specs.Survivors.{HasEvenNodes}
-use Rattle.osm_sides.proofs.DirectedSides.{directed_is_sided}
+use Rattle.osm_sides.proofs.SidesKit.{directed_is_sided, directions_one}
+use Rattle.osm_segments.proofs.SegmentsKit.{repeats_one}
 use Rattle.osm_rings.specs.RingList.{AreRingsOf}
-use Rattle.std.proofs.lemmas.List.Elements.{All-tail}
 use Rattle.osm_nest.specs.declared.polygon.Polygon.{Polygon}
 use Rattle.opl_reader.specs.declared.object.Object.{Object}
 use Rattle.opl_reader.specs.declared.object.ObjectRef.{ObjectRef}
@@ -31,37 +25,12 @@ use Rattle.osm_area.specs.Segments.{candidate_segments}
 use Rattle.osm_area.specs.declared.outcome.Outcome.{Outcome}
 use Rattle.osm_area.specs.declared.outcome.Outcome.TheVariants as outcome
 use Rattle.osm_area.proofs.SoundAreas.{no-problems, odd-nodes-one, survivors-one}
-use Rattle.osm_geom.proofs.GeometryKit.{edge-from-fields}
 use Rattle.one_area.proofs.NestedOne.{polygons-one}
-
--- ---- lists told by counts
-repeats-same : (segs : List Seg) (a b : List Repeat) → segs_of a ≡ segs_of b → All (λ r. r.times ≡ count_of seg_cmp r.seg segs) a → All (λ r. r.times ≡ count_of seg_cmp r.seg segs) b → a ≡ b
-repeats-same segs [] [] h s t = refl
-repeats-same segs [] (y ∷ b) h s t = cc
-repeats-same segs (x ∷ a) [] h s t = cc
-repeats-same segs (x ∷ a) (y ∷ b) h s t =
-    let e : x.seg ≡ y.seg = cc in
-    let f : x.times ≡ y.times = s 0 x (omega arith) ∙ ap (λ q. count_of seg_cmp q segs) e ∙ sym (t 0 y (omega arith)) in
-    let g : x ≡ y = λ i. record { seg = e i; times = f i } in
-    ap (λ z. z ∷ a) g ∙ ap (λ l. y ∷ l) (repeats-same segs a b (cc) (All-tail (λ (r : Repeat). r.times ≡ count_of seg_cmp r.seg segs) x a s) (All-tail (λ (r : Repeat). r.times ≡ count_of seg_cmp r.seg segs) y b t))
-
-pub repeats-one : (segs : List Seg) (a b : List Repeat) → AreRepeats segs a → AreRepeats segs b → a ≡ b
-repeats-one segs a b s t = repeats-same segs a b (same_rising seg_total seg_same (segs_of a) (segs_of b) s.rising t.rising (λ z. s.twice z ∙ sym (t.twice z))) s.times t.times
-
--- ---- edges told by their parts
-edges-same : (a b : List Edge) → map (λ (e : Edge). e.carrier) a ≡ map (λ (e : Edge). e.carrier) b → map (λ (e : Edge). e.from) a ≡ map (λ (e : Edge). e.from) b → map (λ (e : Edge). e.to) a ≡ map (λ (e : Edge). e.to) b → a ≡ b
-edges-same [] [] h k l = refl
-edges-same [] (y ∷ b) h k l = cc
-edges-same (x ∷ a) [] h k l = cc
-edges-same (x ∷ a) (y ∷ b) h k l = ap (λ z. z ∷ a) (edge-from-fields x y (cc) (cc) (cc)) ∙ ap (λ l. y ∷ l) (edges-same a b (cc) (cc) (cc))
-
-pub directed-one : (segs : List Seg) (a b : List Edge) → AreDirected segs a → AreDirected segs b → a ≡ b
-directed-one segs a b s t = edges-same a b (s.whole ∙ sym t.whole) (s.firsts ∙ sym t.firsts) (s.lasts ∙ sym t.lasts)
 
 -- ---- the area of segments without faults
 pub area-one : (segs : List Seg) → IsRising seg_cmp segs → conflicts_of segs ≡ [] → HasEvenNodes segs → (m n : List Polygon) → IsArea segs m → IsArea segs n → m ≡ n
 area-one segs rising clear even m n a b =
-    let q = directed-one segs b.edges a.edges b.directed a.directed in
+    let q = directions_one segs b.edges a.edges b.directed a.directed in
     polygons-one a.edges (directed_is_sided segs a.edges rising clear even a.directed) a.made.rings b.made.rings a.made.cut (subst (λ es. AreRingsOf es b.made.rings) q b.made.cut) m n a.made.nested b.made.nested
 
 -- ---- problems, notes and outcome
@@ -78,7 +47,7 @@ problems-one [] segs a b s t = among-one s.0 a b s.1.1 (subst (λ l. AreProblems
 problems-one (r ∷ missing) segs a b s t = s ∙ sym t
 
 pub notes-one : (missing : List ObjectRef) (ways : List ℤ) (segs : List Seg) (a b : List Note) → AreNotesGiven missing ways segs a → AreNotesGiven missing ways segs b → a ≡ b
-notes-one [] ways segs a b s t = s.1.1 ∙ ap (λ rs. map named_twice_note ways ++ map repeated_note rs) (repeats-one segs s.0 t.0 s.1.0 t.1.0) ∙ sym t.1.1
+notes-one [] ways segs a b s t = s.1.1 ∙ ap (λ rs. map named_twice_note ways ++ map repeated_note rs) (repeats_one segs s.0 t.0 s.1.0 t.1.0) ∙ sym t.1.1
 notes-one (r ∷ missing) ways segs a b s t = s ∙ sym t
 
 areas-one : (missing : List ObjectRef) (segs : List Seg) → AreProblemsGiven missing segs [] → (m n : List Polygon) → SurvivorsAre segs (λ survivors. IsArea survivors m) → SurvivorsAre segs (λ survivors. IsArea survivors n) → m ≡ n

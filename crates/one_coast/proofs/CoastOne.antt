@@ -1,9 +1,8 @@
 -- What comes of the coastline ways of objects is one, and so are the whole of a coastline job and its counts.
 use Rattle.std.proofs.Common.{All, List, [], ap, ap₂, arith, inl, inr, map, refl, subst, sym, ◌∙◌, ◌∷◌, ◌≡◌}
-use Rattle.std.proofs.Props.{props}
 use Rattle.opl_reader.specs.declared.object.Object.{Object}
-use Rattle.osm_lattice.specs.declared.loc.Loc.{Loc}
 use Rattle.osm_job.specs.Whole.{Whole}
+use Rattle.osm_job.proofs.JobKit.{whole_same}
 use Rattle.osm_nest.specs.Laws.{NestedAreSided, RingsMayBeNested}
 use Rattle.osm_report.specs.Coast.{CoastLineIsOne, HasItsKind}
 use Rattle.osm_report.specs.declared.coast.CoastLine.{CoastLine}
@@ -17,6 +16,7 @@ use Rattle.coast_join.specs.Chains.{AreChains, Line, line_at, line_of}
 use Rattle.coast_join.specs.Closings.{AreClosings}
 use Rattle.coast_join.specs.Joined.{AreJoined}
 use Rattle.coast_join.specs.Line.{IsLine}
+use Rattle.coast_join.proofs.JoinKit.{line_prop}
 use Rattle.coast_join.specs.RingLaws.{ClosingsAreOne, JoinedIsOne}
 use Rattle.coast_split.specs.HalfLaws.{LeavesAreSided, TreeIsOne}
 use Rattle.coast_split.specs.declared.leaves.Leaf.{Leaf}
@@ -39,9 +39,6 @@ use Rattle.one_coast.specs.Laws.{CoastIsOne}
 use mathlib.Core.HLevel.{is_prop→PathP}
 
 -- ---- ways told by their lines
-line_prop : (path : List Loc) → IsProp (IsLine path)
-line_prop path = hlevel props
-
 way_same : (v w : CoastWay) → v.id ≡ w.id → v.path ≡ w.path → v ≡ w
 way_same v w a b = λ i. record { id = a i; path = b i; line = is_prop→PathP (λ j. IsLine (b j)) (λ j. line_prop (b j)) v.line w.line i }
 
@@ -86,9 +83,6 @@ module _ (chains_one : ChainsAreOne) (closings_one : ClosingsAreOne) (joined_one
       land = land_one c.sorted.kept c.land d.land s.land (subst (λ (x : Sorted). IsLandOf x.kept d.land) (sym sorted) t.land)
 
 -- ---- the whole
-whole_same : (v w : Whole) → v.written ≡ w.written → v.ended ≡ w.ended → v ≡ w
-whole_same v w p q = λ i. record { written = p i; ended = q i }
-
 -- what is written of leaves is one
 module _ (coast : Coast) (kinds : (land water : List Tile) → All HasItsKind (all_lines coast land water)) (line : CoastLineIsOne) (polygons : PolygonsAreOne) (land water : List Leaf) (land_sided : AreSidedLeaves land)
     (water_sided : AreSidedLeaves water) where

@@ -1,7 +1,7 @@
 -- Names of which no two are the same: each once they are what they were, and none stands twice; and where none is counted twice, they are such.
-use Rattle.std.proofs.Common.{Bool, Equal, List, [], Ordering, ap, arith, cond, count_by, false, filter, int_cmp, int_eq, is_eq, nat_le, not, refl, suc, sym, true, true≢false, zero, ℕ, ℤ, ◌+◌, ◌||◌, ◌<◌, ◌∙◌, ◌∷◌, ◌≡◌, ◌≤◌}
+use Rattle.std.proofs.Common.{Bool, Equal, List, [], Ordering, ap, arith, cond, count_by, false, filter, int_cmp, int_eq, is_eq, nat_le, not, refl, suc, sym, true, zero, ℕ, ℤ, ◌+◌, ◌||◌, ◌<◌, ◌∙◌, ◌∷◌, ◌≡◌, ◌≤◌}
 use Rattle.std.specs.List.{list_any}
-use Rattle.std.proofs.lemmas.Bool.{and_parts}
+use Rattle.std.proofs.lemmas.Bool.{and_parts, or_parts}
 use Rattle.std.proofs.lemmas.Cmp.{int_cmp_total, int_eq_equiv, tied_itself}
 use Rattle.lists.proofs.ListsKit.{count-cons, count_by-cons, int_eq-true, not-true-out}
 use Rattle.lists.specs.Once.{each_once}
@@ -13,15 +13,11 @@ below-two zero h = refl
 below-two (suc zero) h = refl
 below-two (suc (suc n)) h = absurd (omega arith)
 
-or-false : (a b : Bool) → (a || b) ≡ false → (a ≡ false) × (b ≡ false)
-or-false true b h = absurd (true≢false h)
-or-false false b h = (refl, h)
-
 -- those that aren't the name
 kept : (name : ℤ) (names : List ℤ) → list_any (λ other. int_eq other name) names ≡ false → filter (λ other. not (int_eq name other)) names ≡ names
 kept name [] none = refl
 kept name (n ∷ names) none =
-    let parts = or-false (int_eq n name) (list_any (λ other. int_eq other name) names) none in
+    let parts = or_parts (int_eq n name) (list_any (λ other. int_eq other name) names) none in
     rw (int_eq_equiv.symm name n ∙ parts.0) (ap (λ (ns : List ℤ). n ∷ ns) (kept name names parts.1))
 
 pub once-same : (names : List ℤ) → differ names ≡ true → each_once int_eq names ≡ names
@@ -35,7 +31,7 @@ once-same (n ∷ names) apart =
 uncounted : (name : ℤ) (names : List ℤ) → list_any (λ other. int_eq other name) names ≡ false → count_by (int_eq name) names ≡ 0
 uncounted name [] none = refl
 uncounted name (n ∷ names) none =
-    let parts = or-false (int_eq n name) (list_any (λ other. int_eq other name) names) none in
+    let parts = or_parts (int_eq n name) (list_any (λ other. int_eq other name) names) none in
     let other : int_eq name n ≡ false = int_eq_equiv.symm name n ∙ parts.0 in
     let all : count_by (int_eq name) (n ∷ names) ≡ 0 + count_by (int_eq name) names = count_by-cons (int_eq name) n names ∙ rw other refl in
     omega (arith, uncounted name names parts.1, all)

@@ -1,21 +1,22 @@
 -- Every candidate has an outcome, whatever memory there is.
-use Rattle.std.proofs.Common.{◌≡◌, ◌∙◌, ◌%◌, ◌==◌, List, [], ◌∷◌, ◌++◌, map, nat_le, ℤ, refl, sym, ap, subst}
-use Rattle.std.proofs.lemmas.List.Elements.{All-map}
+use Rattle.std.proofs.Common.{◌≡◌, ◌∙◌, ◌%◌, ◌==◌, List, [], ◌∷◌, ◌++◌, map, ℤ, refl, subst}
 use Rattle.osm_lattice.specs.declared.loc.Loc.{Loc}
 use Rattle.osm_lattice.specs.declared.seg.Seg.{Seg}
 use Rattle.osm_lattice.specs.Loc.{loc_cmp}
 use Rattle.osm_lattice.specs.Seg.{seg_cmp}
 use Rattle.osm_lattice.proofs.LatticeKit.{loc_total, seg_total}
 use Rattle.opl_reader.specs.declared.object.ObjectRef.{ObjectRef}
-use Rattle.lists.specs.Rising.{IsRising, count_of}
-use Rattle.lists.proofs.ListsKit.{count-picked, odd_once, picked, rising-picked, twice_once}
+use Rattle.lists.specs.Rising.{count_of}
+use Rattle.lists.proofs.ListsKit.{count-picked, odd_once, picked, rising-picked}
 use Rattle.osm_objects.specs.declared.problem.Note.{Note}
 use Rattle.osm_objects.specs.declared.problem.Problem.{Problem}
 use Rattle.osm_objects.specs.declared.problem.Problem.TheVariants.{Nothing}
 use Rattle.osm_segments.specs.declared.counts.Repeat.{Repeat}
 use Rattle.osm_segments.specs.Counts.{AreSurvivors, AreOddNodes, ends_of}
 use Rattle.osm_segments.specs.Pairs.{conflicts_of}
-use Rattle.osm_segments.specs.Repeats.{AreRepeats, segs_of}
+use Rattle.osm_segments.specs.Laws.{RepeatsExist}
+use Rattle.osm_segments.specs.Repeats.{AreRepeats}
+use Rattle.osm_sides.specs.Laws.{DirectionsExist}
 use Rattle.osm_rings.specs.Laws.{RingListOfEdgesExists}
 use Rattle.osm_nest.specs.declared.polygon.Polygon.{Polygon}
 use Rattle.osm_nest.specs.Laws.{NestingExists, RingsMayBeNested}
@@ -51,25 +52,6 @@ are_odd_nodes segs = record {
   rising = rising-picked loc_total (λ n. n % 2 == 1) (ends_of segs);
 }
 
-abbrev repeat_in : List Seg → Seg → Repeat
-repeat_in segs s = record { seg = s; times = count_of seg_cmp s segs }
-
-abbrev repeats_of : List Seg → List Repeat
-repeats_of segs = map (repeat_in segs) (picked seg_cmp (nat_le 2) segs)
-
-segs-repeated : (segs ss : List Seg) → segs_of (map (repeat_in segs) ss) ≡ ss
-segs-repeated segs [] = refl
-segs-repeated segs (s ∷ ss) = ap (λ ts. s ∷ ts) (segs-repeated segs ss)
-
-are_repeats : (segs : List Seg) → AreRepeats segs (repeats_of segs)
-are_repeats segs =
-    let same = segs-repeated segs (picked seg_cmp (nat_le 2) segs) in
-    record {
-      twice = λ s. ap (count_of seg_cmp s) same ∙ (count-picked seg_total (nat_le 2) segs s ∙ twice_once (count_of seg_cmp s segs));
-      times = All-map (λ (r : Repeat). r.times ≡ count_of seg_cmp r.seg segs) (repeat_in segs) (picked seg_cmp (nat_le 2) segs) (λ k d h. refl);
-      rising = subst (IsRising seg_cmp) (sym same) (rising-picked seg_total (nat_le 2) segs);
-    }
-
 -- ---- what comes of it
 
 none-first : {X Y Z : Type 0} (f : X → Z) (g : Y → Z) (xs : List X) (ys : List Y) → [] ≡ map f xs ++ map g ys → xs ≡ []
@@ -81,10 +63,16 @@ none-second f g [] [] none = refl
 none-second f g [] (y ∷ ys) none = absurd (cc)
 none-second f g (x ∷ xs) ys none = absurd (cc)
 
-module _ (cut : RingListOfEdgesExists) (fit : RingsMayBeNested) (nest : NestingExists) where
+module _ (repeats : RepeatsExist) (directions : DirectionsExist) (cut : RingListOfEdgesExists) (fit : RingsMayBeNested) (nest : NestingExists) where
   module _ (twice : List ℤ) (segs : List Seg) (roles : List Polygon → List Note) where
+    abbrev repeated : List Repeat
+    repeated = (repeats segs).0
+
+    are_repeats : AreRepeats segs repeated
+    are_repeats = (repeats segs).1
+
     abbrev notes : List Note
-    notes = map named_twice_note twice ++ map repeated_note (repeats_of segs)
+    notes = map named_twice_note twice ++ map repeated_note repeated
 
     -- by the problems, and by what they are made of
     by_faults : (s : Seg) (ss : List Seg) → AreSurvivors segs (s ∷ ss) → (nodes : List Loc) → AreOddNodes (s ∷ ss) nodes → (list : List Problem)
@@ -92,12 +80,12 @@ module _ (cut : RingListOfEdgesExists) (fit : RingsMayBeNested) (nest : NestingE
     by_faults s ss are nodes odd [] e =
         let clear = none-first conflict_problem odd_problem (conflicts_of (s ∷ ss)) nodes e in
         let even = none-second conflict_problem odd_problem (conflicts_of (s ∷ ss)) nodes e in
-        let area = area_exists cut fit nest (s ∷ ss) (λ none. cc) are.rising clear (subst (AreOddNodes (s ∷ ss)) even odd) in (
+        let area = area_exists directions cut fit nest (s ∷ ss) (λ none. cc) are.rising clear (subst (AreOddNodes (s ∷ ss)) even odd) in (
           outcome.Area area.0 (notes ++ roles area.0),
           (
             (s ∷ ss, (are, record { odd_nodes = nodes; odd = odd; whole = e })),
             (s ∷ ss, (are, area.1)),
-            (notes, ((repeats_of segs, (are_repeats segs, refl)), refl)),
+            (notes, ((repeated, (are_repeats, refl)), refl)),
           ),
         )
     by_faults s ss are nodes odd (p ∷ list) e = (
@@ -105,12 +93,12 @@ module _ (cut : RingListOfEdgesExists) (fit : RingsMayBeNested) (nest : NestingE
       (
         (s ∷ ss, (are, record { odd_nodes = nodes; odd = odd; whole = e })),
         (λ none. cc),
-        (repeats_of segs, (are_repeats segs, refl)),
+        (repeated, (are_repeats, refl)),
       ),
     )
 
     by_survivors : (survivors : List Seg) → AreSurvivors segs survivors → (o : Outcome) × IsOutcomeGiven [] twice segs roles o
-    by_survivors [] are = (outcome.Problems (Nothing ∷ []) notes, (([], (are, refl)), (λ none. cc), (repeats_of segs, (are_repeats segs, refl))))
+    by_survivors [] are = (outcome.Problems (Nothing ∷ []) notes, (([], (are, refl)), (λ none. cc), (repeated, (are_repeats, refl))))
     by_survivors (s ∷ ss) are =
         by_faults s ss are (odd_nodes_of (s ∷ ss)) (are_odd_nodes (s ∷ ss)) (map conflict_problem (conflicts_of (s ∷ ss)) ++ map odd_problem (odd_nodes_of (s ∷ ss))) refl
 

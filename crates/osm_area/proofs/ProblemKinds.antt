@@ -1,19 +1,16 @@
 -- The kinds of conflicts among a candidate's problems.
-use Rattle.std.proofs.Common.{◌≡◌, refl, sym, subst, get_or, List, [], ◌∷◌, map, All, Option, None, Some}
-use Rattle.std.specs.List.{filter_map}
+use Rattle.std.proofs.Common.{sym, subst, get_or, List, [], ◌∷◌, map, All}
 use Rattle.std.proofs.lemmas.List.Elements.{All-nil, All-cons, All-append, All-map}
 use Rattle.opl_reader.specs.declared.object.Object.{Object}
 use Rattle.opl_reader.specs.declared.object.ObjectRef.{ObjectRef}
 use Rattle.opl_reader.specs.declared.object.ObjectKind.{ObjectKind}
 use Rattle.opl_reader.specs.declared.object.ObjectKind.TheVariants.{Node, Way, Relation}
 use Rattle.osm_lattice.specs.declared.seg.Seg.{Seg}
-use Rattle.osm_lattice.specs.declared.conflicts.Kind.{Kind}
-use Rattle.osm_lattice.specs.Conflict.{conflict_of}
 use Rattle.osm_objects.specs.declared.problem.Problem.{Problem}
 use Rattle.osm_objects.specs.declared.problem.Problem.TheVariants as problem
 use Rattle.osm_objects.specs.Problem.{IsOfItsKind}
-use Rattle.osm_segments.specs.declared.pairs.Pair.{Pair}
-use Rattle.osm_segments.specs.Pairs.{pair_of, conflicts_of}
+use Rattle.osm_segments.specs.Pairs.{conflicts_of}
+use Rattle.osm_segments.proofs.SegmentsKit.{conflicts_of_kind}
 use Rattle.osm_area.specs.declared.outcome.Outcome.{Outcome}
 use Rattle.osm_area.specs.declared.outcome.Outcome.TheVariants as outcome
 use Rattle.osm_area.specs.Outcome.{IsOutcome, problems_in}
@@ -21,28 +18,12 @@ use Rattle.osm_area.specs.Problems.{missing_of, missing_problem, conflict_proble
 use Rattle.osm_area.specs.Missing.{missing}
 use Rattle.osm_area.specs.Segments.{candidate_segments}
 
-abbrev IsPairOfItsKind : Pair → Type 0
-IsPairOfItsKind p = conflict_of p.first p.second ≡ Some p.kind
-
-pair-first : (s t : Seg) (ts : List Seg) (found : Option Kind) → conflict_of s t ≡ found → All IsPairOfItsKind (filter_map (pair_of s) ts) → All IsPairOfItsKind (filter_map (pair_of s) (t ∷ ts))
-unfolding pair_of
-pair-first s t ts None is all = rw is all
-pair-first s t ts (Some kind) is all = rw is (All-cons IsPairOfItsKind (record { kind = kind; first = s; second = t }) (filter_map (pair_of s) ts) is all)
-
-pairs-of_kind : (s : Seg) (ts : List Seg) → All IsPairOfItsKind (filter_map (pair_of s) ts)
-pairs-of_kind s [] = All-nil IsPairOfItsKind
-pairs-of_kind s (t ∷ ts) = pair-first s t ts (conflict_of s t) refl (pairs-of_kind s ts)
-
-conflicts-of_kind : (ss : List Seg) → All IsPairOfItsKind (conflicts_of ss)
-conflicts-of_kind [] = All-nil IsPairOfItsKind
-conflicts-of_kind (s ∷ ss) = All-append IsPairOfItsKind (filter_map (pair_of s) ss) (conflicts_of ss) (pairs-of_kind s ss) (conflicts-of_kind ss)
-
 among-of_kind : (survivors : List Seg) (list : List Problem) → AreProblemsAmong survivors list → All IsOfItsKind list
 among-of_kind [] list is = subst (λ (ps : List Problem). All IsOfItsKind ps) (sym is) (All-cons IsOfItsKind problem.Nothing [] tt (All-nil IsOfItsKind))
 among-of_kind (s ∷ survivors) list faults =
     subst (λ (ps : List Problem). All IsOfItsKind ps) (sym faults.whole)
     (All-append IsOfItsKind (map conflict_problem (conflicts_of (s ∷ survivors))) (map odd_problem faults.odd_nodes)
-    (All-map IsOfItsKind conflict_problem (conflicts_of (s ∷ survivors)) (conflicts-of_kind (s ∷ survivors)))
+    (All-map IsOfItsKind conflict_problem (conflicts_of (s ∷ survivors)) (conflicts_of_kind (s ∷ survivors)))
     (All-map IsOfItsKind odd_problem faults.odd_nodes (λ k d lt. tt)))
 
 missing-of_kind : (kind : ObjectKind) (r : ObjectRef) → IsOfItsKind (missing_of kind r.id)

@@ -1,27 +1,10 @@
 -- The test of equal references in the words of the definitions.
-use Rattle.std.proofs.Common.{◌≡◌, ◌∙◌, Bool, not, ◌&&◌, List, [], ◌∷◌, filter, refl, ap, int_eq}
-use Rattle.opl_reader.specs.declared.object.ObjectKind.{ObjectKind}
-use Rattle.opl_reader.specs.declared.object.ObjectKind.TheVariants.{Node, Way, Relation}
+use Rattle.std.proofs.Common.{◌≡◌, ◌∙◌, Bool, not, List, [], ◌∷◌, filter, refl, ap}
 use Rattle.opl_reader.specs.declared.object.ObjectRef.{ObjectRef}
 use Rattle.opl_reader.specs.contracts.object.ObjectRefPartialEq.TheImpl as ref_eq
-use Rattle.opl_reader.specs.contracts.object.ObjectKindPartialEq.TheImpl as kind_eq
-use Rattle.osm_objects.specs.Object.{same_kind}
+use Rattle.osm_objects.proofs.ObjectsKit.{eq-is}
 use Rattle.lists.specs.Once.{each_once}
 use Rattle.osm_area.specs.Missing.{same_ref}
-
-kinds : (a b : ObjectKind) → kind_eq.ghosts.eq a b ≡ same_kind a b
-kinds Node Node = refl
-kinds Node Way = refl
-kinds Node Relation = refl
-kinds Way Node = refl
-kinds Way Way = refl
-kinds Way Relation = refl
-kinds Relation Node = refl
-kinds Relation Way = refl
-kinds Relation Relation = refl
-
-same_ref-is : (r s : ObjectRef) → ref_eq.ghosts.eq r s ≡ same_ref r s
-same_ref-is r s = ap (λ k. k && int_eq r.id s.id) (kinds r.kind s.kind)
 
 pub filter_same : {X : Type 0} (p q : X → Bool) → ((x : X) → p x ≡ q x) → (xs : List X) → filter p xs ≡ filter q xs
 filter_same p q same [] = refl
@@ -29,4 +12,4 @@ filter_same p q same (x ∷ xs) = rw (same x, filter_same p q same xs) refl
 
 pub each_once_refs : (refs : List ObjectRef) → each_once ref_eq.ghosts.eq refs ≡ each_once same_ref refs
 each_once_refs [] = refl
-each_once_refs (r ∷ refs) = ap (λ rs. r ∷ rs) (ap (filter (λ s. not (ref_eq.ghosts.eq r s))) (each_once_refs refs) ∙ filter_same (λ s. not (ref_eq.ghosts.eq r s)) (λ s. not (same_ref r s)) (λ s. ap not (same_ref-is r s)) (each_once same_ref refs))
+each_once_refs (r ∷ refs) = ap (λ rs. r ∷ rs) (ap (filter (λ s. not (ref_eq.ghosts.eq r s))) (each_once_refs refs) ∙ filter_same (λ s. not (ref_eq.ghosts.eq r s)) (λ s. not (same_ref r s)) (λ s. ap not (eq-is r s)) (each_once same_ref refs))

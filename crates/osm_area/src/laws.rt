@@ -3,11 +3,15 @@ ghost use Rattle.osm_area.specs.Outcome.{AreasHaveKinds, HasAreaExactly, Outcome
 
 use osm_nest::{nested_have_kinds, nesting_exists, rings_may_be_nested};
 use osm_rings::ring_list_of_edges_exists;
+use osm_segments::repeats_exist;
+use osm_sides::directions_exist;
 
 /// Every candidate of every list of objects has an outcome, whatever memory there is.
 pub fn outcome_exists()
     ensures { OutcomeExists }
 {
+    repeats_exist();
+    directions_exist();
     ring_list_of_edges_exists();
     rings_may_be_nested();
     nesting_exists();

@@ -12,8 +12,7 @@ use Rattle.std.proofs.lemmas.List.FromFn.{filter_of_map_range_with_len_more, get
 use Rattle.std.proofs.lemmas.List.Kept.{IsStrictlyIncreasing-filter}
 use Rattle.std.proofs.lemmas.Option.{get_or_from_slice_get, slice_get_within}
 use Rattle.lists.specs.Member.{In}
-use Rattle.lists.proofs.Items.{at-in, in-at, same_get}
-use Rattle.lists.proofs.Members.{into-filter}
+use Rattle.lists.proofs.ListsKit.{at-in, in-at, into-filter, range_below, range_rising, same_get}
 use Rattle.osm_bands.specs.declared.bands.Span.{Span}
 use Rattle.osm_bands.specs.declared.scale.Scale.{Scale}
 use Rattle.osm_bands.specs.Bands.{HoldsReaching}
@@ -21,18 +20,6 @@ use Rattle.osm_bands.specs.Rows.{AreRows, IsAdded, band_in, no_span, reaches_int
 use Rattle.osm_bands.proofs.HeightBands.{bands_rise}
 
 -- ---- the indexes below n
-range_rising : (n : ℕ) → IsStrictlyIncreasing (range_with_len 0 n)
-range_rising n k h =
-    let inside : k + 1 < n = omega (arith, h, length-range_with_len 0 n) in
-    let here = get_or-range_with_len 0 n k 0 (omega (arith, inside)) in
-    let next = get_or-range_with_len 0 n (k + 1) 0 inside in
-    omega (arith, here, next)
-
-range_inside : (n : ℕ) → All (λ i. i < n) (range_with_len 0 n)
-range_inside n k d h =
-    let inside : k < n = omega (arith, h, length-range_with_len 0 n) in
-    let here = get_or-range_with_len 0 n k d inside in omega (arith, here, inside)
-
 kept_more : (p : ℕ → Bool) (n : ℕ) → filter p (range_with_len 0 (n + 1)) ≡ filter p (range_with_len 0 n) ++ cond (p n) (n ∷ []) []
 kept_more p n =
     ap (filter p) (sym (map-id (range_with_len 0 (n + 1))))
@@ -53,7 +40,7 @@ module _ (scale : Scale) (spans : List Span) where
   row_rising n band = IsStrictlyIncreasing-filter (λ i. reaches_into scale (get_or spans i no_span) band) (range_with_len 0 n) (range_rising n)
 
   pub row_inside : (n band : ℕ) → All (λ i. i < n) (row_of scale spans n band)
-  row_inside n band = All-filter (λ i. reaches_into scale (get_or spans i no_span) band) (λ i. i < n) (range_with_len 0 n) (range_inside n)
+  row_inside n band = All-filter (λ i. reaches_into scale (get_or spans i no_span) band) (λ i. i < n) (range_with_len 0 n) (range_below n)
 
   reaches : (span : Span) (height : ℤ) → 1 ≤ scale.step → scale.low ≤ℤ span.low → span.low ≤ℤ height → height ≤ℤ span.high →
       reaches_into scale span (band_in scale height) ≡ true

@@ -2,6 +2,7 @@ mod BothRead
 pub mod BothThenOutput
 mod InputLacks
 mod InputRead
+pub mod JobKit
 pub mod InputThenOutput
 pub mod Keeping
 mod OnceRead
@@ -11,4 +12,5 @@ mod SilentReads
 pub mod Taken
 mod TextRead
 pub mod Weaker
+mod Wholes
 pub mod Writes

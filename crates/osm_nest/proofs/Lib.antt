@@ -16,6 +16,7 @@ pub mod Listing
 mod LoneRing
 mod MultipliedRings
 mod Nearest
+pub mod NestKit
 pub mod NestedCover
 mod NestedKinds
 pub mod NestedRings

@@ -1,6 +1,6 @@
 -- Nodes whose ids rise: one more at the end, and where a search by halves goes on.
-use Rattle.std.proofs.Common.{◌≡◌, ◌∙◌, refl, sym, ap, subst, ℕ, suc, zero, T, ℤ, Bool, true, false, cond, List, [], ◌∷◌, ◌++◌, length, get_or, take, drop, ◌-◌, slice_get, None, Some, ◌<◌, arith}
-use Rattle.std.specs.Int.Signed.{◌<ℤ◌, <ℤ_irrefl, lt_z, lt_z_yes}
+use Rattle.std.proofs.Common.{◌≡◌, ◌∙◌, refl, sym, ap, subst, ℕ, suc, zero, ℤ, Bool, true, false, cond, List, [], ◌∷◌, ◌++◌, length, get_or, take, drop, ◌-◌, slice_get, None, Some, ◌<◌, arith}
+use Rattle.std.specs.Int.Signed.{◌<ℤ◌, <ℤ_irrefl, lt_z}
 use Rattle.std.specs.List.{AllByRecursion, find}
 use Rattle.std.specs.Prelude.{int_lt}
 use Rattle.std.specs.Ordering.{int_eq, int_cmp, is_eq}
@@ -10,6 +10,7 @@ use Rattle.std.proofs.lemmas.Bool.{false_from_ne_true}
 use Rattle.std.proofs.lemmas.Bool.Decides.{Decides-int_eq}
 use Rattle.std.proofs.lemmas.List.{take-append-drop}
 use Rattle.std.proofs.lemmas.Option.{same_Some}
+use Rattle.lists.proofs.ListsKit.{below_from}
 use Rattle.osm_objects.specs.declared.plain.PlainNode.{PlainNode}
 use Rattle.osm_objects.specs.Plain.{AreRising}
 
@@ -106,9 +107,6 @@ last_is : (nodes : List PlainNode) (k : ℕ) (last : PlainNode) → slice_get no
 last_is [] k last is d = absurd (cc)
 last_is (m ∷ nodes) zero last is d = cc
 last_is (m ∷ nodes) (suc k) last is d = last_is nodes k last is d
-
-below_from : (a b : ℤ) → lt_z a b ≡ true → a <ℤ b
-below_from a b e = lt_z_yes (subst T (sym e) tt)
 
 less_is : (a b : ℤ) → Less ≡ int_cmp a b → a <ℤ b
 less_is a b h = by (int_lt a b) (int_lt b a) refl h

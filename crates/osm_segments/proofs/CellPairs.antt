@@ -1,10 +1,11 @@
 -- The conflicts among segments that a line divides: each stands among those up to the line or among those beyond it.
-use Rattle.std.proofs.Common.{◌≡◌, ◌⊎◌, inl, inr, ⊎_elim, ◌||◌, Bool, true, false, not, cond, zero, suc, List, [], ◌∷◌, ◌++◌, filter, Option, Some, None, refl, ap, ◌∙◌, subst, arith, ℤ, pos, ◌-ℤ◌, ◌+ℤ◌, ◌*ℤ◌}
+use Rattle.std.proofs.Common.{◌≡◌, ◌⊎◌, inl, inr, ⊎_elim, ◌||◌, Bool, true, false, not, cond, List, [], ◌∷◌, ◌++◌, filter, Option, Some, None, refl, ap, ◌∙◌, subst, arith, ℤ, pos, ◌-ℤ◌, ◌+ℤ◌, ◌*ℤ◌}
 use Rattle.std.specs.Prelude.{◌<ℤ◌, ◌≤ℤ◌, Contains}
 use Rattle.std.specs.List.{cons_option, filter_map}
 use Rattle.std.proofs.lemmas.Int.{ints}
 use Rattle.std.proofs.lemmas.List.Elements.{Contains-append_cases, Contains-append_left, Contains-append_right}
 use lib.Signed.{lt_z}
+use Rattle.lists.proofs.ListsKit.{first_member, later_member, member_cases, no_member}
 use Rattle.plane.proofs.SignKit.{lift, same, ◌⊞◌, ◌⊟◌, ◌⊠◌}
 use Rattle.osm_lattice.specs.declared.loc.Loc.{Loc}
 use Rattle.osm_lattice.specs.declared.seg.Seg.{Seg}
@@ -19,45 +20,31 @@ use Rattle.osm_segments.specs.Cells.{AreAdded, ends_beyond, is_beyond, reach_in,
 use Rattle.osm_segments.specs.Pairs.{conflicts_of, pair_of}
 
 -- ---- members of lists
-module _ {X : Type 0} where
-  pub first_member : (x : X) (xs : List X) → Contains (x ∷ xs) x
-  first_member x xs = (0, omega arith, refl)
+module _ {X : Type 0} (p : X → Bool) where
+  kept_by : (b : Bool) (x : X) (xs : List X) (y : X) → Contains xs y → Contains (cond b (x ∷ xs) xs) y
+  kept_by true x xs y c = later_member x y xs c
+  kept_by false x xs y c = c
 
-  pub later_member : (x y : X) (xs : List X) → Contains xs y → Contains (x ∷ xs) y
-  later_member x y xs (k, h, e) = (suc k, omega arith, e)
+  first_kept : (b : Bool) (x : X) (xs : List X) → b ≡ true → Contains (cond b (x ∷ xs) xs) x
+  first_kept true x xs e = first_member x xs
+  first_kept false x xs e = absurd (cc e)
 
-  pub no_member : (x : X) → Contains [] x → ⊥
-  no_member x (k, h, e) = absurd (omega arith)
+  in_filter : (xs : List X) (y : X) → Contains xs y → p y ≡ true → Contains (filter p xs) y
+  in_filter [] y c passes = absurd (no_member y c)
+  in_filter (x ∷ xs) y c passes =
+      ⊎_elim
+      (λ (e : x ≡ y). subst (λ z. Contains (cond (p x) (x ∷ filter p xs) (filter p xs)) z) e (first_kept (p x) x (filter p xs) (ap p e ∙ passes)))
+      (λ (c : Contains xs y). kept_by (p x) x (filter p xs) y (in_filter xs y c passes))
+      (member_cases x y xs c)
 
-  pub member_cases : (x y : X) (xs : List X) → Contains (x ∷ xs) y → (x ≡ y) ⊎ Contains xs y
-  member_cases x y xs (zero, h, e) = inl e
-  member_cases x y xs (suc k, h, e) = inr (k, omega arith, e)
+  from_kept : (b : Bool) (x : X) (xs ys : List X) (y : X) → ((y : X) → Contains xs y → Contains ys y) → Contains (cond b (x ∷ xs) xs) y → Contains (x ∷ ys) y
+  from_kept true x xs ys y within c =
+      ⊎_elim (λ (e : x ≡ y). subst (Contains (x ∷ ys)) e (first_member x ys)) (λ (c : Contains xs y). later_member x y ys (within y c)) (member_cases x y xs c)
+  from_kept false x xs ys y within c = later_member x y ys (within y c)
 
-  module _ (p : X → Bool) where
-    kept_by : (b : Bool) (x : X) (xs : List X) (y : X) → Contains xs y → Contains (cond b (x ∷ xs) xs) y
-    kept_by true x xs y c = later_member x y xs c
-    kept_by false x xs y c = c
-
-    first_kept : (b : Bool) (x : X) (xs : List X) → b ≡ true → Contains (cond b (x ∷ xs) xs) x
-    first_kept true x xs e = first_member x xs
-    first_kept false x xs e = absurd (cc e)
-
-    in_filter : (xs : List X) (y : X) → Contains xs y → p y ≡ true → Contains (filter p xs) y
-    in_filter [] y c passes = absurd (no_member y c)
-    in_filter (x ∷ xs) y c passes =
-        ⊎_elim
-        (λ (e : x ≡ y). subst (λ z. Contains (cond (p x) (x ∷ filter p xs) (filter p xs)) z) e (first_kept (p x) x (filter p xs) (ap p e ∙ passes)))
-        (λ (c : Contains xs y). kept_by (p x) x (filter p xs) y (in_filter xs y c passes))
-        (member_cases x y xs c)
-
-    from_kept : (b : Bool) (x : X) (xs ys : List X) (y : X) → ((y : X) → Contains xs y → Contains ys y) → Contains (cond b (x ∷ xs) xs) y → Contains (x ∷ ys) y
-    from_kept true x xs ys y within c =
-        ⊎_elim (λ (e : x ≡ y). subst (Contains (x ∷ ys)) e (first_member x ys)) (λ (c : Contains xs y). later_member x y ys (within y c)) (member_cases x y xs c)
-    from_kept false x xs ys y within c = later_member x y ys (within y c)
-
-    from_filter : (xs : List X) (y : X) → Contains (filter p xs) y → Contains xs y
-    from_filter [] y c = c
-    from_filter (x ∷ xs) y c = from_kept (p x) x (filter p xs) xs y (from_filter xs) c
+  from_filter : (xs : List X) (y : X) → Contains (filter p xs) y → Contains xs y
+  from_filter [] y c = c
+  from_filter (x ∷ xs) y c = from_kept (p x) x (filter p xs) xs y (from_filter xs) c
 
 module _ {X Y : Type 0} (h : X → Option Y) where
   -- an item of xs that gives y

@@ -15,9 +15,8 @@ use Rattle.osm_segments.specs.declared.pairs.Pair.{Pair}
 use Rattle.osm_segments.specs.Cells.{AreAdded}
 use Rattle.osm_segments.specs.Pairs.{conflicts_of, pair_cmp}
 use Rattle.osm_segments.specs.contracts.pairs.PairOrd.TheImpl.{cmp-value}
-use Rattle.osm_segments.proofs.CellPairs.{first_member, later_member, member_cases, no_member}
 use Rattle.osm_segments.proofs.RisingPairs.{conflicts_rising}
-use Rattle.lists.proofs.ListsKit.{count-cons, stands_once}
+use Rattle.lists.proofs.ListsKit.{count-cons, first_member, later_member, member_cases, no_member, stands_once}
 
 -- an order under which each item ties with itself alone
 module _ {X : Type 0} {R : X → X → Ordering} (itself : (x : X) → R x x ≡ Equal) (exact : (x y : X) → R x y ≡ Equal → x ≡ y) where

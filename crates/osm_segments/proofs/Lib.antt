@@ -1,4 +1,5 @@
 mod CellPairs
+mod ConflictKinds
 pub mod CountLemmas
 mod EdgeMeetings
 mod EdgeOrders
@@ -6,8 +7,10 @@ mod EdgePairs
 mod FoundPairs
 mod LaterSegments
 mod Parities
+mod RepeatLists
 mod RisingPairs
 mod SegmentTests
+pub mod SegmentsKit
 mod StandOnce
 mod Sweeps
 mod SweptLists

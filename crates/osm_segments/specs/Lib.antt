@@ -5,3 +5,4 @@ pub mod Tilted
 pub mod Sweep
 pub mod Parity
 pub mod Cells
+pub mod Laws

@@ -7,6 +7,7 @@ mod counts;
 mod division;
 mod faults;
 mod finding;
+mod laws;
 mod pairs;
 mod parity;
 
@@ -14,4 +15,5 @@ pub use clear::in_order_of_ends;
 pub use counts::{Cancelled, Repeat, cancel, distinct, odd_nodes, repeated, survivors};
 pub use faults::{Faults, faults_of};
 pub use finding::place_in_status;
+pub use laws::{conflicts_have_their_kind, repeats_are_one, repeats_exist};
 pub use pairs::{Pair, conflicts};

@@ -1,11 +1,13 @@
 mod Counts
 pub mod DirectedSides
+mod DirectionLists
 mod Ends
 mod Followers
 mod OddSideCounts
 pub mod PlaneEdges
 mod Pushes
 mod SegmentTests
+pub mod SidesKit
 mod StatusEdges
 mod Statuses
 mod Survivors

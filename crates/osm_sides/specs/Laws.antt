@@ -25,3 +25,11 @@ DirectedAreSided =
 -- they are the edges that the odd side directs in the plane
 abbrev pub DirectedAreOfPlane : Type 0
 DirectedAreOfPlane = (segs : List Seg) (edges : List Edge) → AreDirected segs edges → edges_times 1 edges ≡ directed (plane_edges_of segs)
+
+-- segments are directed to some edges, whether or not there is memory for them
+abbrev pub DirectionsExist : Type 0
+DirectionsExist = (segs : List Seg) → (edges : List Edge) × AreDirected segs edges
+
+-- and to no others
+abbrev pub DirectionsAreOne : Type 0
+DirectionsAreOne = (segs : List Seg) (a b : List Edge) → AreDirected segs a → AreDirected segs b → a ≡ b

@@ -9,6 +9,6 @@ mod rows;
 mod sides;
 
 pub use directions::{direct, direct_along};
-pub use laws::directing_is_sided;
+pub use laws::{directing_is_sided, directions_are_one, directions_exist};
 pub use osm_stab::{PlainStab, Stab};
 pub use sides::is_left_of;

@@ -1,2 +1,4 @@
 mod NearCounts
 mod NearIndexes
+mod NearItems
+pub mod StabKit
