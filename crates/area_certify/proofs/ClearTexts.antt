@@ -8,7 +8,7 @@ use Rattle.lists.proofs.ListsKit.{and-left, and-right}
 use Rattle.opl_reader.specs.declared.object.Tag.{Tag}
 use Rattle.osm_lattice.specs.declared.loc.Loc.{Loc}
 use Rattle.osm_notation.specs.Coordinates.{point_text}
-use Rattle.osm_notation.specs.Decimal.{fraction, last_digits, magnitude_text, units_text, without_end_zeros}
+use Rattle.osm_notation.specs.Decimal.{fraction_text, last_digits, magnitude_text, units_text, without_end_zeros}
 use Rattle.osm_notation.specs.Written.{is_plain, tag_text, written, written_char}
 use Rattle.osm_text.specs.Feature.{id_before, tags_text}
 use Rattle.osm_text.specs.Id.{id_text}
@@ -66,14 +66,14 @@ clear_without (d ∷ ds) h =
     (and_from (nat_lt 10 d) (is_clear (without_end_zeros ds)) (and-left (nat_lt 10 d) (is_clear ds) h) (clear_without ds (and-right (nat_lt 10 d)
     (is_clear ds) h)))
 
-clear_fraction : (rest : ℕ) → is_clear (fraction rest) ≡ true
-unfolding fraction
+clear_fraction : (rest : ℕ) → is_clear (fraction_text rest) ≡ true
+unfolding fraction_text
 clear_fraction rest = clear_choice (rest == 0) [] (codes "." ++ without_end_zeros (last_digits 7 rest)) refl (clear_append (codes ".") (without_end_zeros
     (last_digits 7 rest)) refl (clear_without (last_digits 7 rest) (clear_last 7 rest)))
 
 clear_magnitude : (n : ℕ) → is_clear (magnitude_text n) ≡ true
 unfolding magnitude_text
-clear_magnitude n = clear_append (decimal (n / 10 ^ 7)) (fraction (n % 10 ^ 7)) (clear_digits 10 false (n / 10 ^ 7)) (clear_fraction (n % 10 ^ 7))
+clear_magnitude n = clear_append (decimal (n / 10 ^ 7)) (fraction_text (n % 10 ^ 7)) (clear_digits 10 false (n / 10 ^ 7)) (clear_fraction (n % 10 ^ 7))
 
 clear_units : (z : ℤ) → is_clear (units_text z) ≡ true
 clear_units (pos n) = clear_magnitude n

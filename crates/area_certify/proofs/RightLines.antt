@@ -10,8 +10,8 @@ use Rattle.osm_text.specs.Paths.{paths_of}
 use Rattle.osm_text.specs.Wkt.{multipolygon_wkt}
 use Rattle.osm_area.specs.Sound.{IsSound}
 use Rattle.osm_objects.specs.declared.area.UniqueId.{UniqueId}
-use Rattle.area_certify.specs.Areas.{HaveAreas}
-use Rattle.area_certify.specs.FirstWrong.{AreRight, EndsInNewline, IsFeature, IsRight}
+use Rattle.area_certify.specs.Areas.{AreThoseWithAreas}
+use Rattle.area_certify.specs.FirstWrong.{AreRight, EndsInNewline, IsFeature, IsRightLine}
 use Rattle.osm_text.specs.Id.{feature_id}
 use Rattle.osm_area.specs.Feature.{feature_tags}
 use Rattle.area_certify.proofs.ChosenItems.{those_append}
@@ -32,7 +32,7 @@ get_middle (x ∷ xs) ys y (suc k) is = get_middle xs ys y k (omega arith)
 module _ (ids : Option UniqueId) (objects : List Object) where
   -- ---- right lines
 
-  more_areas : (areas later : List ObjectRef) (k : ℕ) (line : List ℕ) → IsRight ids objects areas k line → IsRight ids objects (areas ++ later) k line
+  more_areas : (areas later : List ObjectRef) (k : ℕ) (line : List ℕ) → IsRightLine ids objects areas k line → IsRightLine ids objects (areas ++ later) k line
   more_areas areas later k line right =
       record { candidate = right.candidate; place = get_front areas later k right.candidate right.place; ended = right.ended; feature = right.feature }
 
@@ -46,7 +46,7 @@ module _ (ids : Option UniqueId) (objects : List Object) where
 
   -- the feature of the candidate at its place
   is_right : (areas later : List ObjectRef) (c : ObjectRef) (k : ℕ) (line : List ℕ) → length areas ≡ k → IsFeature ids objects (k + 1) c line →
-      IsRight ids objects (areas ++ c ∷ later) k line
+      IsRightLine ids objects (areas ++ c ∷ later) k line
   is_right areas later c k line counted feature = record {
     candidate = c;
     place = get_middle areas later c k counted;
@@ -56,7 +56,7 @@ module _ (ids : Option UniqueId) (objects : List Object) where
   }
 
   pub its_feature : (areas later : List ObjectRef) (c : ObjectRef) (k : ℕ) (line : List ℕ) → length areas ≡ k →
-      IsRight ids objects (areas ++ c ∷ later) k line → IsFeature ids objects (k + 1) c line
+      IsRightLine ids objects (areas ++ c ∷ later) k line → IsFeature ids objects (k + 1) c line
   its_feature areas later c k line counted right =
       let same : right.candidate ≡ c = same_Some right.candidate c (sym right.place ∙ get_middle areas later c k counted) in
       subst (λ (d : ObjectRef). IsFeature ids objects (k + 1) d line) same right.feature
@@ -66,7 +66,7 @@ module _ (ids : Option UniqueId) (objects : List Object) where
   -- So many lines of a text are the features of these candidates, those with an area, and the others are left.
   pub record IsSeen (first : List ObjectRef) (lines rest : List (List ℕ)) (count : ℕ) : Type 0 where
     pub areas : List ObjectRef
-    pub those : HaveAreas objects first areas
+    pub those : AreThoseWithAreas objects first areas
     pub as_many : length areas ≡ count
     pub seen : List (List ℕ)
     pub parted : lines ≡ seen ++ rest
@@ -80,7 +80,7 @@ module _ (ids : Option UniqueId) (objects : List Object) where
     pub no_area_seen : IsSeen first lines rest count → (IsSound objects c → ⊥) → IsSeen (first ++ c ∷ []) lines rest count
     no_area_seen s none = record {
       areas = s.areas;
-      those = subst (λ (areas : List ObjectRef). HaveAreas objects (first ++ c ∷ []) areas) (append-nil s.areas) (those_append (IsSound objects) first
+      those = subst (λ (areas : List ObjectRef). AreThoseWithAreas objects (first ++ c ∷ []) areas) (append-nil s.areas) (those_append (IsSound objects) first
           (c ∷ []) s.areas [] s.those (inr (none, refl)));
       as_many = s.as_many;
       seen = s.seen;
@@ -103,7 +103,7 @@ module _ (ids : Option UniqueId) (objects : List Object) where
           (λ above. let here : k ≡ count = omega arith in
           let at : slice_get lines k ≡ Some line = ap (λ ls. slice_get ls k) s.parted ∙ get_middle s.seen rest line k (s.counted ∙ sym here) in
           let same : line ≡ other = same_Some line other (sym at ∙ got) in
-          subst (λ l. IsRight ids objects (s.areas ++ c ∷ []) k l) same
-          (subst (λ n. IsRight ids objects (s.areas ++ c ∷ []) n line) (sym here) (is_right s.areas [] c count line s.as_many feature)))
+          subst (λ l. IsRightLine ids objects (s.areas ++ c ∷ []) k l) same
+          (subst (λ n. IsRightLine ids objects (s.areas ++ c ∷ []) n line) (sym here) (is_right s.areas [] c count line s.as_many feature)))
           (cases_lt k count);
     }

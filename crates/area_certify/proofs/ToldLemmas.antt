@@ -22,7 +22,7 @@ use Rattle.osm_text.specs.Id.{feature_id}
 use Rattle.osm_area.specs.Feature.{feature_tags}
 use Rattle.area_certify.specs.Laws.{FirstWrongLineIsOne, VerdictsExclude}
 use Rattle.area_certify.specs.Lines.{text_lines}
-use Rattle.area_certify.specs.Telling.{IsAreaOf, IsTold, IsVerdict, Tells}
+use Rattle.area_certify.specs.Telling.{IsAreaOf, IsTold, IsVerdict, TellsNextLine}
 use Rattle.area_certify.proofs.LineCuts.{some_line}
 use Rattle.area_certify.proofs.RightLines.{IsSeen, area_seen, no_area_seen}
 use Rattle.area_certify.proofs.Verdicts.{is_feature_by, later_areas, line_too_many, stops}
@@ -55,8 +55,8 @@ module _ (ids : Option UniqueId) (objects : List Object) (lines : List (List ℕ
     abbrev c : ObjectRef
     c = get_or cs k d
 
-    tells_so : (u : Told) → t ≡ u → Tells ids objects (count + 1) c (text_lines now.now) u
-    tells_so u is = subst (λ (v : Told). Tells ids objects (count + 1) c (text_lines now.now) v) is told.tells
+    tells_so : (u : Told) → t ≡ u → TellsNextLine ids objects (count + 1) c (text_lines now.now) u
+    tells_so u is = subst (λ (v : Told). TellsNextLine ids objects (count + 1) c (text_lines now.now) v) is told.tells
 
     as_next : (next left : Bor (List ℕ)) (right n : ℕ) → next ≡ left → right ≡ n → IsSeen ids objects (take k cs ++ c ∷ []) lines (text_lines left.now) n →
         IsSeen ids objects (take (k + 1) cs) lines (text_lines next.now) right

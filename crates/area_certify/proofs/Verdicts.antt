@@ -19,8 +19,8 @@ use Rattle.osm_text.specs.Paths.{paths_of}
 use Rattle.one_area.specs.Laws.{OutcomeIsOne}
 use Rattle.osm_objects.specs.declared.area.UniqueId.{UniqueId}
 use Rattle.area_certify.specs.declared.verdict.Verdict.TheVariants.{Yes, No}
-use Rattle.area_certify.specs.Areas.{HaveAreas}
-use Rattle.area_certify.specs.FirstWrong.{AreRight, HasNoWrong, IsFeature, IsFirstWrong, IsRight, lacking, not_right}
+use Rattle.area_certify.specs.Areas.{AreThoseWithAreas}
+use Rattle.area_certify.specs.FirstWrong.{AreRight, HasNoWrong, IsFeature, IsFirstWrong, IsRightLine, lacking, not_right}
 use Rattle.osm_text.specs.Id.{feature_id}
 use Rattle.osm_area.specs.Feature.{feature_tags}
 use Rattle.area_certify.specs.Laws.{FirstWrongLineIsOne, TextsHaveAVerdict, VerdictsExclude}
@@ -34,7 +34,7 @@ use Rattle.area_certify.proofs.RightLines.{IsSeen, area_seen, get_middle, its_fe
 module _ (ids : Option UniqueId) (objects : List Object) (areas : List ObjectRef) (lines : List (List ℕ)) where
   -- a line within the right ones is right
   clash : (count k : ℕ) (line : List ℕ) → AreRight ids objects areas lines count → k < count → slice_get lines k ≡ Some line →
-      (IsRight ids objects areas k line → ⊥) → ⊥
+      (IsRightLine ids objects areas k line → ⊥) → ⊥
   clash count k line right lt got wrong = wrong (right k line lt got)
 
   same_number : (m n : ℕ) → IsFirstWrong ids objects areas lines m → IsFirstWrong ids objects areas lines n → m ≡ n
@@ -65,8 +65,8 @@ not_both choice ids objects text n a b =
 -- ---- how it ends
 
 module _ (ids : Option UniqueId) (objects : List Object) (lines : List (List ℕ)) (count : ℕ) where
-  module _ (first later : List ObjectRef) (c : ObjectRef) (sound : IsSound objects c) (others : (areas : List ObjectRef) × HaveAreas objects later areas) where
-    all_areas : (rest : List (List ℕ)) (s : IsSeen ids objects first lines rest count) → HaveAreas objects (first ++ c ∷ later) (s.areas ++ c ∷ others.0)
+  module _ (first later : List ObjectRef) (c : ObjectRef) (sound : IsSound objects c) (others : (areas : List ObjectRef) × AreThoseWithAreas objects later areas) where
+    all_areas : (rest : List (List ℕ)) (s : IsSeen ids objects first lines rest count) → AreThoseWithAreas objects (first ++ c ∷ later) (s.areas ++ c ∷ others.0)
     all_areas rest s = those_append (IsSound objects) first (c ∷ later) s.areas (c ∷ others.0) s.those (inl (sound, others.0, others.1, refl))
 
     -- The next line isn't the feature of the next candidate with an area, or there is none.
@@ -120,7 +120,7 @@ no_area exactly objects c list notes right sound = right.1 ((exactly objects c (
 sound_or_not : OutcomeExists → HasAreaExactly → (objects : List Object) (c : ObjectRef) → IsSound objects c ⊎ (IsSound objects c → ⊥)
 sound_or_not exists exactly objects c = let found = exists objects c in sound_by exactly objects c found.0 found.1
 
-pub later_areas : OutcomeExists → HasAreaExactly → (objects : List Object) (later : List ObjectRef) → (areas : List ObjectRef) × HaveAreas objects later areas
+pub later_areas : OutcomeExists → HasAreaExactly → (objects : List Object) (later : List ObjectRef) → (areas : List ObjectRef) × AreThoseWithAreas objects later areas
 later_areas exists exactly objects later = those_exist (IsSound objects) (sound_or_not exists exactly objects) later
 
 -- a line is the feature over these polygons, or over none

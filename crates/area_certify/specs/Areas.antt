@@ -12,5 +12,5 @@ AreThose {X} P (x ∷ xs) those =
 
 -- A candidate has an area where it is sound: nothing that it names is missing, and of its segments some survive,
 -- no two of them in conflict and an even number of them at each location.
-abbrev pub HaveAreas : List Object → List ObjectRef → List ObjectRef → Type 0
-HaveAreas objects candidates areas = AreThose (IsSound objects) candidates areas
+abbrev pub AreThoseWithAreas : List Object → List ObjectRef → List ObjectRef → Type 0
+AreThoseWithAreas objects candidates areas = AreThose (IsSound objects) candidates areas

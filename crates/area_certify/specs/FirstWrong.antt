@@ -14,7 +14,7 @@ use Rattle.osm_text.specs.Feature.{feature_text}
 use Rattle.osm_text.specs.Id.{feature_id}
 use Rattle.osm_text.specs.Paths.{paths_of}
 use Rattle.osm_objects.specs.declared.area.UniqueId.{UniqueId}
-use Rattle.area_certify.specs.Areas.{HaveAreas}
+use Rattle.area_certify.specs.Areas.{AreThoseWithAreas}
 use Rattle.area_certify.specs.Lines.{text_lines}
 
 -- ---- a right line
@@ -30,7 +30,7 @@ abbrev pub EndsInNewline : List ℕ → Type 0
 EndsInNewline line = (front : List ℕ) × (line ≡ front ++ codes "\n")
 
 -- the line with so many lines before it is right: so many candidates with an area stand before one more, whose feature it is
-pub record IsRight (ids : Option UniqueId) (objects : List Object) (areas : List ObjectRef) (earlier : ℕ) (line : List ℕ) : Type 0 where
+pub record IsRightLine (ids : Option UniqueId) (objects : List Object) (areas : List ObjectRef) (earlier : ℕ) (line : List ℕ) : Type 0 where
   pub candidate : ObjectRef
   pub place : slice_get areas earlier ≡ Some candidate
   pub ended : EndsInNewline line
@@ -38,7 +38,7 @@ pub record IsRight (ids : Option UniqueId) (objects : List Object) (areas : List
 
 -- the first so many lines are right
 abbrev pub AreRight : Option UniqueId → List Object → List ObjectRef → List (List ℕ) → ℕ → Type 0
-AreRight ids objects areas lines count = (k : ℕ) (line : List ℕ) → k < count → slice_get lines k ≡ Some line → IsRight ids objects areas k line
+AreRight ids objects areas lines count = (k : ℕ) (line : List ℕ) → k < count → slice_get lines k ≡ Some line → IsRightLine ids objects areas k line
 
 -- ---- all lines
 
@@ -50,7 +50,7 @@ pub record HasNoWrong (ids : Option UniqueId) (objects : List Object) (areas : L
 -- The first wrong line is the first that isn't right; or the one behind the last, where all are right and fewer than the
 -- candidates with an area. Its number counts from 1.
 pub data IsFirstWrong (ids : Option UniqueId) (objects : List Object) (areas : List ObjectRef) (lines : List (List ℕ)) (number : ℕ) : Type 0 where
-  not_right : (earlier : ℕ) (line : List ℕ) → slice_get lines earlier ≡ Some line → (IsRight ids objects areas earlier line → ⊥) →
+  not_right : (earlier : ℕ) (line : List ℕ) → slice_get lines earlier ≡ Some line → (IsRightLine ids objects areas earlier line → ⊥) →
       AreRight ids objects areas lines earlier → number ≡ earlier + 1 → IsFirstWrong ids objects areas lines number
   lacking : AreRight ids objects areas lines (length lines) → length lines < length areas → number ≡ length lines + 1 →
       IsFirstWrong ids objects areas lines number
@@ -59,8 +59,8 @@ pub data IsFirstWrong (ids : Option UniqueId) (objects : List Object) (areas : L
 
 abbrev pub HasNoWrongLine : Choice → Option UniqueId → List Object → List ℕ → Type 0
 HasNoWrongLine choice ids objects text =
-    (areas : List ObjectRef) × HaveAreas objects (candidates choice objects) areas × HasNoWrong ids objects areas (text_lines text)
+    (areas : List ObjectRef) × AreThoseWithAreas objects (candidates choice objects) areas × HasNoWrong ids objects areas (text_lines text)
 
 abbrev pub IsFirstWrongLine : Choice → Option UniqueId → List Object → List ℕ → ℕ → Type 0
 IsFirstWrongLine choice ids objects text number =
-    (areas : List ObjectRef) × HaveAreas objects (candidates choice objects) areas × IsFirstWrong ids objects areas (text_lines text) number
+    (areas : List ObjectRef) × AreThoseWithAreas objects (candidates choice objects) areas × IsFirstWrong ids objects areas (text_lines text) number

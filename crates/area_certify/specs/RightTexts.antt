@@ -5,7 +5,7 @@ use Rattle.opl_reader.specs.declared.object.ObjectRef.{ObjectRef}
 use Rattle.osm_objects.specs.Candidates.{candidates}
 use Rattle.osm_objects.specs.declared.choice.Choice.{Choice}
 use Rattle.osm_objects.specs.declared.area.UniqueId.{UniqueId}
-use Rattle.area_certify.specs.Areas.{HaveAreas}
+use Rattle.area_certify.specs.Areas.{AreThoseWithAreas}
 use Rattle.area_certify.specs.FirstWrong.{HasNoWrongLine, IsFeature}
 
 -- the features of these candidates, the first with this counter, one behind the other
@@ -17,7 +17,7 @@ AreFeatures ids objects counter (candidate ∷ areas) text =
 -- the text is the features of the candidates with an area, in order
 abbrev pub IsRightText : Choice → Option UniqueId → List Object → List ℕ → Type 0
 IsRightText choice ids objects text =
-    (areas : List ObjectRef) × HaveAreas objects (candidates choice objects) areas × AreFeatures ids objects 1 areas text
+    (areas : List ObjectRef) × AreThoseWithAreas objects (candidates choice objects) areas × AreFeatures ids objects 1 areas text
 
 -- ---- laws
 

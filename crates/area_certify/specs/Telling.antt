@@ -12,7 +12,7 @@ use Rattle.area_certify.specs.declared.verdict.Verdict.{Verdict}
 use Rattle.area_certify.specs.declared.verdict.Verdict.TheVariants.{Yes, No}
 use Rattle.area_certify.specs.declared.telling.Told.{Told}
 use Rattle.area_certify.specs.declared.telling.Told.TheVariants.{NoArea, Right, Wrong}
-use Rattle.area_certify.specs.Areas.{HaveAreas}
+use Rattle.area_certify.specs.Areas.{AreThoseWithAreas}
 use Rattle.area_certify.specs.FirstWrong.{HasNoWrong, IsFeature, IsFirstWrong}
 use Rattle.area_certify.specs.Lines.{text_lines}
 
@@ -22,17 +22,17 @@ IsAreaOf objects candidate None = IsSound objects candidate → ⊥
 IsAreaOf objects candidate (Some polygons) = IsSound objects candidate × (notes : List Note) × IsOutcome objects candidate (Area polygons notes)
 
 -- The candidate has no area; or it has one, and the next line is its feature with this counter, or isn't.
-abbrev pub Tells : Option UniqueId → List Object → ℕ → ObjectRef → List (List ℕ) → Told → Type 0
-Tells ids objects counter candidate lines NoArea = IsSound objects candidate → ⊥
-Tells ids objects counter candidate lines (Right rest) =
+abbrev pub TellsNextLine : Option UniqueId → List Object → ℕ → ObjectRef → List (List ℕ) → Told → Type 0
+TellsNextLine ids objects counter candidate lines NoArea = IsSound objects candidate → ⊥
+TellsNextLine ids objects counter candidate lines (Right rest) =
     IsSound objects candidate × (line : List ℕ) × IsFeature ids objects counter candidate line × (lines ≡ line ∷ text_lines rest.now)
-Tells ids objects counter candidate lines Wrong =
+TellsNextLine ids objects counter candidate lines Wrong =
     IsSound objects candidate × ((line : List ℕ) (later : List (List ℕ)) → lines ≡ line ∷ later → IsFeature ids objects counter candidate line → ⊥)
 
 pub record IsTold (ids : Option UniqueId) (objects : List Object) (counter : ℕ) (candidate : ObjectRef) (lines : List (List ℕ)) (told : Told) : Type 0 where
-  pub tells : Tells ids objects counter candidate lines told
+  pub tells : TellsNextLine ids objects counter candidate lines told
 
 -- the verdict on lines against these candidates
 abbrev pub IsVerdict : Option UniqueId → List Object → List ObjectRef → List (List ℕ) → Verdict → Type 0
-IsVerdict ids objects candidates lines Yes = (areas : List ObjectRef) × HaveAreas objects candidates areas × HasNoWrong ids objects areas lines
-IsVerdict ids objects candidates lines (No number) = (areas : List ObjectRef) × HaveAreas objects candidates areas × IsFirstWrong ids objects areas lines number
+IsVerdict ids objects candidates lines Yes = (areas : List ObjectRef) × AreThoseWithAreas objects candidates areas × HasNoWrong ids objects areas lines
+IsVerdict ids objects candidates lines (No number) = (areas : List ObjectRef) × AreThoseWithAreas objects candidates areas × IsFirstWrong ids objects areas lines number

@@ -7,7 +7,7 @@ use Rattle.lists.proofs.ListsKit.{taken_more}
 use Rattle.osm_lattice.specs.declared.loc.Loc.{Loc}
 use Rattle.osm_lattice.specs.declared.seg.Seg.{Seg}
 use Rattle.area_locate.specs.declared.envelope.Envelope.{Envelope}
-use Rattle.area_locate.specs.Envelopes.{Encloses, IsWithin}
+use Rattle.area_locate.specs.Envelopes.{Encloses, IsInEnvelope}
 
 pub at_least : {held least other than : ℤ} → held ≡ least → other ≡ than → least ≤ℤ other → held ≤ℤ than
 at_least is so l = rw is (rw so at l)
@@ -19,10 +19,10 @@ pub through : {a b c : ℤ} → a ≤ℤ b → b ≤ℤ c → a ≤ℤ c
 through h k = omega (arith, ints)
 
 abbrev Has : Envelope → Seg → Type 0
-Has e s = IsWithin e s.a × IsWithin e s.b
+Has e s = IsInEnvelope e s.a × IsInEnvelope e s.b
 
 pub one_more_within : (old mid new : Envelope) (sides : List Seg) (k : ℕ) (s : Seg) → k < length sides → s ≡ get_or sides k s →
-    IsWithin mid s.a → ((q : Loc) → IsWithin old q → IsWithin mid q) → IsWithin new s.b → ((q : Loc) → IsWithin mid q → IsWithin new q) →
+    IsInEnvelope mid s.a → ((q : Loc) → IsInEnvelope old q → IsInEnvelope mid q) → IsInEnvelope new s.b → ((q : Loc) → IsInEnvelope mid q → IsInEnvelope new q) →
     Encloses old (take k sides) → Encloses new (take (k + 1) sides)
 one_more_within old mid new sides k s l at first grown second whole all =
     subst (All (Has new)) (sym (taken_more sides k s l at))

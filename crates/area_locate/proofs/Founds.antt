@@ -20,11 +20,11 @@ use Rattle.osm_area.proofs.SoundAreas.{survivors-one}
 use Rattle.area_locate.specs.declared.area.Area.{Area}
 use Rattle.area_locate.specs.declared.found.Found.{Found}
 use Rattle.area_locate.specs.declared.found.Hit.{Hit}
-use Rattle.area_locate.specs.Areas.{AreAreas, IsAreaOf, IsIndexed, found_at, hits_by, hits_of}
+use Rattle.area_locate.specs.Areas.{AreAreas, IsIndexedArea, IsIndexedAreaOf, found_at, hits_by, hits_of}
 use Rattle.area_locate.specs.Envelopes.{lacks}
 use Rattle.area_locate.specs.Hits.{AreFoundAmong, AreHits, IsHit, IsIn, IsOn}
 use Rattle.area_locate.specs.Laws.{FoundExists, FoundIsOne}
-use Rattle.area_locate.specs.Sides.{on_count, place_among, place_by}
+use Rattle.area_locate.specs.Sides.{on_count, place_among, place_by_parity}
 use Rattle.osm_sides.specs.SideTests.{left_count}
 use Rattle.osm_sides.proofs.SidesKit.{even_points}
 use Rattle.area_locate.proofs.OutsideSides.{outside_apart}
@@ -48,13 +48,13 @@ module _ (objects : List Object) (p : Loc) where
     told : (cs : List ObjectRef) (hits : List Hit) → AreHits objects p cs hits → AreHits objects p (c ∷ cs) (hits_by c (place_among p survivors) ++ hits)
     told cs hits rest = by (nat_lt 0 (on_count p survivors)) (left_count p survivors % 2 == 1) refl refl
       where
-        by : (on odd : Bool) → nat_lt 0 (on_count p survivors) ≡ on → (left_count p survivors % 2 == 1) ≡ odd → AreHits objects p (c ∷ cs) (hits_by c (place_by on odd) ++ hits)
+        by : (on odd : Bool) → nat_lt 0 (on_count p survivors) ≡ on → (left_count p survivors % 2 == 1) ≡ odd → AreHits objects p (c ∷ cs) (hits_by c (place_by_parity on odd) ++ hits)
         by true odd h k = inl (true, (sound, (survivors, (are, on_where p survivors h))), hits, rest, refl)
         by false true h k = inl (false, (sound, (survivors, (are, in_where p survivors h k))), hits, rest, refl)
         by false false h k = inr (neither h k, rest)
 
   -- ---- one area: what is outside of its envelope is apart from it
-  hits_case : (c : ObjectRef) (area : Area) (is : IsIndexed objects c area) (b : Bool) → lacks area.envelope p ≡ b → cond b [] (hits_by area.of (place_among p area.sides)) ≡ hits_by c (place_among p is.sides.0)
+  hits_case : (c : ObjectRef) (area : Area) (is : IsIndexedArea objects c area) (b : Bool) → lacks area.envelope p ≡ b → cond b [] (hits_by area.of (place_among p area.sides)) ≡ hits_by c (place_among p is.sides.0)
   hits_case c area is true out =
       let survivors = is.sides.0 in let same = is.sides.1.1 in
       let one : is.sound.survivors ≡ survivors = survivors-one (candidate_segments objects c) is.sound.survivors survivors is.sound.survive is.sides.1.0 in
@@ -138,7 +138,7 @@ pub found_exists : OutcomeExists → HasAreaExactly → FoundExists
 found_exists exists exactly choice objects points = some_found objects (candidates choice objects) exists exactly points
 
 -- ---- one more candidate
-pub with_area : (objects : List Object) (cs : List ObjectRef) (areas : List Area) (c : ObjectRef) (area : Area) → AreAreas objects cs areas → IsIndexed objects c area → AreAreas objects (cs ++ c ∷ []) (areas ++ area ∷ [])
+pub with_area : (objects : List Object) (cs : List ObjectRef) (areas : List Area) (c : ObjectRef) (area : Area) → AreAreas objects cs areas → IsIndexedArea objects c area → AreAreas objects (cs ++ c ∷ []) (areas ++ area ∷ [])
 with_area objects [] areas c area are is = inl (area, is, [], refl, ap (λ (xs : List Area). xs ++ area ∷ []) are)
 with_area objects (d ∷ cs) areas c area (inl one) is =
     inl (one.0, one.1, one.2 ++ area ∷ [], with_area objects cs one.2 c area one.3 is, ap (λ (xs : List Area). xs ++ area ∷ []) one.4)
@@ -149,16 +149,16 @@ without_area objects [] areas c are lacking = inr (lacking, are)
 without_area objects (d ∷ cs) areas c (inl one) lacking = inl (one.0, one.1, one.2, without_area objects cs one.2 c one.3 lacking, one.4)
 without_area objects (d ∷ cs) areas c (inr none) lacking = inr (none.0, without_area objects cs areas c none.1 lacking)
 
-pub next_area : (objects : List Object) (cs : List ObjectRef) (areas new : List Area) (k : ℕ) (d : ObjectRef) → k < length cs → AreAreas objects (take k cs) areas → (found : Option Area) → IsAreaOf objects (get_or cs k d) found →
+pub next_area : (objects : List Object) (cs : List ObjectRef) (areas new : List Area) (k : ℕ) (d : ObjectRef) → k < length cs → AreAreas objects (take k cs) areas → (found : Option Area) → IsIndexedAreaOf objects (get_or cs k d) found →
     (area : Area) → found ≡ Some area → new ≡ areas ++ area ∷ [] → AreAreas objects (take (k + 1) cs) new
 next_area objects cs areas new k d l are found is area e more =
     let c = get_or cs k d in
-    let both : AreAreas objects (take k cs ++ c ∷ []) (areas ++ area ∷ []) = with_area objects (take k cs) areas c area are (subst (IsAreaOf objects c) e is) in
+    let both : AreAreas objects (take k cs ++ c ∷ []) (areas ++ area ∷ []) = with_area objects (take k cs) areas c area are (subst (IsIndexedAreaOf objects c) e is) in
     subst (AreAreas objects (take (k + 1) cs)) (sym more) (subst (λ (xs : List ObjectRef). AreAreas objects xs (areas ++ area ∷ [])) (sym (taken_more cs k c l (get_or_default cs k d c l))) both)
 
-pub next_none : (objects : List Object) (cs : List ObjectRef) (areas new : List Area) (k : ℕ) (d : ObjectRef) → k < length cs → AreAreas objects (take k cs) areas → (found : Option Area) → IsAreaOf objects (get_or cs k d) found →
+pub next_none : (objects : List Object) (cs : List ObjectRef) (areas new : List Area) (k : ℕ) (d : ObjectRef) → k < length cs → AreAreas objects (take k cs) areas → (found : Option Area) → IsIndexedAreaOf objects (get_or cs k d) found →
     found ≡ None → new ≡ areas → AreAreas objects (take (k + 1) cs) new
 next_none objects cs areas new k d l are found is e same =
     let c = get_or cs k d in
-    let both : AreAreas objects (take k cs ++ c ∷ []) areas = without_area objects (take k cs) areas c are (subst (IsAreaOf objects c) e is) in
+    let both : AreAreas objects (take k cs ++ c ∷ []) areas = without_area objects (take k cs) areas c are (subst (IsIndexedAreaOf objects c) e is) in
     subst (AreAreas objects (take (k + 1) cs)) (sym same) (subst (λ (xs : List ObjectRef). AreAreas objects xs areas) (sym (taken_more cs k c l (get_or_default cs k d c l))) both)

@@ -14,7 +14,7 @@ use Rattle.osm_lattice.specs.Loc.{vector_of}
 use Rattle.osm_lattice.proofs.LatticeKit.{rising_edge}
 use Rattle.osm_bands.specs.Bands.{HoldsReaching}
 use Rattle.area_locate.specs.ItemsAt.{items_at}
-use Rattle.area_locate.specs.Sides.{are_alike, is_beside, is_on_line, lies_on, on_count, span_of}
+use Rattle.area_locate.specs.Sides.{are_alike, is_beside, is_on_line, lies_on, on_count, span_of_segment}
 use Rattle.osm_sides.specs.SideTests.{left_count, left_of}
 use Rattle.area_locate.proofs.NearItems.{near_count}
 use Rattle.area_locate.proofs.OnSegments.{on_is}
@@ -68,9 +68,9 @@ left_reaches p s left =
     spanned (sign (s.a.y -ℤ p.y)) (sign (s.b.y -ℤ p.y)) s.a.y s.b.y p.y (says (s.a.y -ℤ p.y)) (says (s.b.y -ℤ p.y)) (and-left low high span) (and-right low high span)
 
 -- ---- the sides near a height
-module _ (p : Loc) (sides : List Seg) (near : List ℕ) (rising : IsStrictlyIncreasing near) (inside : All (λ i. i < length sides) near) (whole : HoldsReaching (map span_of sides) p.y near) where
+module _ (p : Loc) (sides : List Seg) (near : List ℕ) (rising : IsStrictlyIncreasing near) (inside : All (λ i. i < length sides) near) (whole : HoldsReaching (map span_of_segment sides) p.y near) where
   reached : (i : ℕ) (s : Seg) → slice_get sides i ≡ Some s → (s.a.y ≤ℤ p.y) × (p.y ≤ℤ s.b.y) → Contains near i
-  reached i s at reach = whole i (span_of s) (slice_get-map span_of sides i ∙ ap (option_map span_of) at) reach.0 reach.1
+  reached i s at reach = whole i (span_of_segment s) (slice_get-map span_of_segment sides i ∙ ap (option_map span_of_segment) at) reach.0 reach.1
 
   pub near_on : on_count p (items_at sides near) ≡ on_count p sides
   near_on = near_count (lies_on p) sides near rising inside (λ i s at on. reached i s at (on_reaches p s on))

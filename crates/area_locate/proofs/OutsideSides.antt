@@ -19,7 +19,7 @@ use Rattle.osm_lattice.specs.Loc.{vector_of}
 use Rattle.osm_lattice.specs.Seg.{edge_of}
 use Rattle.osm_lattice.proofs.LatticeKit.{rising_edge}
 use Rattle.area_locate.specs.declared.envelope.Envelope.{Envelope}
-use Rattle.area_locate.specs.Envelopes.{Encloses, IsWithin, lacks}
+use Rattle.area_locate.specs.Envelopes.{Encloses, IsInEnvelope, lacks}
 use Rattle.area_locate.specs.Sides.{are_alike, lies_on, on_count}
 use Rattle.osm_sides.specs.SideTests.{left_count, left_of}
 use Rattle.area_locate.proofs.NearSides.{left_reaches, on_apart}
@@ -136,8 +136,8 @@ pub record IsApart (p : Loc) (sides : List Seg) : Type 0 where
   pub even_left : left_count p sides % 2 ≡ 0
 
 module _ (p : Loc) (e : Envelope) (sides : List Seg) (within : Encloses e sides) where
-  ends : (s : Seg) → In s sides → IsWithin e s.a × IsWithin e s.b
-  ends s i = in-all (λ (s : Seg). IsWithin e s.a × IsWithin e s.b) sides s within i
+  ends : (s : Seg) → In s sides → IsInEnvelope e s.a × IsInEnvelope e s.b
+  ends s i = in-all (λ (s : Seg). IsInEnvelope e s.a × IsInEnvelope e s.b) sides s within i
 
   beyond_left : p.x <ℤ e.left → (s : Seg) → In s sides → (p.x <ℤ s.a.x) × (p.x <ℤ s.b.x)
   beyond_left out s i = let a = (ends s i).0.left in let b = (ends s i).1.left in (omega (arith, ints), omega (arith, ints))

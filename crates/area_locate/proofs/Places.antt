@@ -14,7 +14,7 @@ use Rattle.osm_lattice.specs.Seg.{edge_of}
 use Rattle.area_locate.specs.declared.sides.Place.TheVariants.{Off}
 use Rattle.area_locate.specs.Areas.{HaveSumsOf}
 use Rattle.area_locate.specs.Hits.{IsIn, IsOn}
-use Rattle.area_locate.specs.Sides.{lies_on, on_count, place_among, place_by}
+use Rattle.area_locate.specs.Sides.{lies_on, on_count, place_among, place_by_parity}
 use Rattle.osm_sides.specs.SideTests.{left_count, left_of}
 use Rattle.area_locate.proofs.OutsideSides.{IsApart, left_crosses}
 use Rattle.area_locate.proofs.SideSums.{sum_map}
@@ -23,13 +23,13 @@ module _ (p : Loc) where
   -- ---- among sides that are survivors in some order
   pub same_place : (sides survivors : List Seg) → HaveSumsOf sides survivors → place_among p sides ≡ place_among p survivors
   same_place sides survivors same =
-      ap (λ n. place_by (nat_lt 0 n) (left_count p sides % 2 == 1)) (same (λ s. cond (lies_on p s) 1 0))
-      ∙ ap (λ n. place_by (nat_lt 0 (on_count p survivors)) (n % 2 == 1)) (same (λ s. cond (left_of p s) 1 0))
+      ap (λ n. place_by_parity (nat_lt 0 n) (left_count p sides % 2 == 1)) (same (λ s. cond (lies_on p s) 1 0))
+      ∙ ap (λ n. place_by_parity (nat_lt 0 (on_count p survivors)) (n % 2 == 1)) (same (λ s. cond (left_of p s) 1 0))
 
   pub apart_place : (sides : List Seg) → IsApart p sides → place_among p sides ≡ Off
   apart_place sides apart =
-      ap (λ n. place_by (nat_lt 0 n) (left_count p sides % 2 == 1)) apart.none_on
-      ∙ ap (λ n. place_by false (n == 1)) apart.even_left
+      ap (λ n. place_by_parity (nat_lt 0 n) (left_count p sides % 2 == 1)) apart.none_on
+      ∙ ap (λ n. place_by_parity false (n == 1)) apart.even_left
 
   -- ---- on survivors
   on_first : (s : Seg) → lies_on p s ≡ true → is_off (vector_of p) (edge_of s) ≡ false

@@ -46,22 +46,22 @@ abbrev pub HaveSumsOf : List Seg → List Seg → Type 0
 HaveSumsOf sides survivors = (f : Seg → ℕ) → sum_by f sides ≡ sum_by f survivors
 
 -- the candidate has an area, whose sides are the segments that survive, in some order
-pub record IsIndexed (objects : List Object) (candidate : ObjectRef) (area : Area) : Type 0 where
+pub record IsIndexedArea (objects : List Object) (candidate : ObjectRef) (area : Area) : Type 0 where
   pub of : area.of ≡ candidate
   pub sound : IsSound objects candidate
   pub sides : SurvivorsAre (candidate_segments objects candidate) (HaveSumsOf area.sides)
   pub within : Encloses area.envelope area.sides
 
 -- the area of the candidate; none where it has none
-abbrev pub IsAreaOf : List Object → ObjectRef → Option Area → Type 0
-IsAreaOf objects candidate None = IsSound objects candidate → ⊥
-IsAreaOf objects candidate (Some area) = IsIndexed objects candidate area
+abbrev pub IsIndexedAreaOf : List Object → ObjectRef → Option Area → Type 0
+IsIndexedAreaOf objects candidate None = IsSound objects candidate → ⊥
+IsIndexedAreaOf objects candidate (Some area) = IsIndexedArea objects candidate area
 
 -- the areas of candidates, in order
 abbrev pub AreAreas : List Object → List ObjectRef → List Area → Type 0
 AreAreas objects [] areas = areas ≡ []
 AreAreas objects (candidate ∷ candidates) areas =
-    ((area : Area) × IsIndexed objects candidate area × (others : List Area) × AreAreas objects candidates others × (areas ≡ area ∷ others))
+    ((area : Area) × IsIndexedArea objects candidate area × (others : List Area) × AreAreas objects candidates others × (areas ≡ area ∷ others))
     ⊎ ((IsSound objects candidate → ⊥) × AreAreas objects candidates areas)
 
 -- ---- hits

@@ -6,7 +6,7 @@ use Rattle.osm_lattice.specs.declared.loc.Loc.{Loc}
 use Rattle.osm_lattice.specs.declared.seg.Seg.{Seg}
 use Rattle.area_locate.specs.declared.envelope.Envelope.{Envelope}
 
-pub record IsWithin (e : Envelope) (p : Loc) : Type 0 where
+pub record IsInEnvelope (e : Envelope) (p : Loc) : Type 0 where
   pub left : e.left ≤ℤ p.x
   pub right : p.x ≤ℤ e.right
   pub low : e.low ≤ℤ p.y
@@ -14,7 +14,7 @@ pub record IsWithin (e : Envelope) (p : Loc) : Type 0 where
 
 -- both ends of each segment are within
 abbrev pub Encloses : Envelope → List Seg → Type 0
-Encloses e sides = All (λ s. IsWithin e s.a × IsWithin e s.b) sides
+Encloses e sides = All (λ s. IsInEnvelope e s.a × IsInEnvelope e s.b) sides
 
 -- p is outside
 abbrev pub lacks : Envelope → Loc → Bool

@@ -32,8 +32,8 @@ unfoldable pub is_on_line : Loc → Seg → Bool
 is_on_line p s = is_null (orient (vector_of s.a) (vector_of s.b) (vector_of p))
 
 -- the heights of s, its ends included
-abbrev pub span_of : Seg → Span
-span_of s = record { low = s.a.y; high = s.b.y }
+abbrev pub span_of_segment : Seg → Span
+span_of_segment s = record { low = s.a.y; high = s.b.y }
 
 -- ---- a location and the sides of an area
 
@@ -41,10 +41,10 @@ abbrev pub on_count : Loc → List Seg → ℕ
 on_count p sides = count_by (lies_on p) sides
 
 -- by whether a side has the location on it, and whether the number of sides right of it is odd
-abbrev pub place_by : Bool → Bool → Place
-place_by true odd = On
-place_by false true = In
-place_by false false = Off
+abbrev pub place_by_parity : Bool → Bool → Place
+place_by_parity true odd = On
+place_by_parity false true = In
+place_by_parity false false = Off
 
 abbrev pub place_among : Loc → List Seg → Place
-place_among p sides = place_by (nat_lt 0 (on_count p sides)) (left_count p sides % 2 == 1)
+place_among p sides = place_by_parity (nat_lt 0 (on_count p sides)) (left_count p sides % 2 == 1)

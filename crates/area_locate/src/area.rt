@@ -1,7 +1,7 @@
 //! The area of a candidate, as the locator holds it.
 
 ghost use Rattle.std.specs.Prelude.{◌≡◌, ◌++◌, IfOk, OnOk};
-ghost use Rattle.area_locate.specs.Areas.{IsAreaOf, carried, ring_sides, sides_along, sides_of};
+ghost use Rattle.area_locate.specs.Areas.{IsIndexedAreaOf, carried, ring_sides, sides_along, sides_of};
 ghost use Rattle.area_locate.specs.Envelopes.{Encloses};
 
 use crate::envelope::Envelope;
@@ -96,7 +96,7 @@ pub(crate) fn area_of(
     store: &Store,
     candidate: ObjectRef,
 ) -> Result<Option<Area>, OutOfMemory>
-    ensures { IfOk result (IsAreaOf store.now candidate) }
+    ensures { IfOk result (IsIndexedAreaOf store.now candidate) }
 {
     // By law: it has an area exactly where it is sound.
     has_area_exactly();

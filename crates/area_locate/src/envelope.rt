@@ -2,7 +2,7 @@
 
 ghost use Rattle.std.specs.Prelude.{◌≡◌};
 ghost use Rattle.osm_lattice.specs.declared.loc.Loc.{Loc};
-ghost use Rattle.area_locate.specs.Envelopes.{Encloses, IsWithin, heights_of, lacks};
+ghost use Rattle.area_locate.specs.Envelopes.{Encloses, IsInEnvelope, heights_of, lacks};
 
 use osm_bands::Span;
 use osm_lattice::{Loc, Seg};
@@ -29,8 +29,8 @@ impl Envelope {
 
     /// The least that also has this location.
     fn with(self, p: Loc) -> Envelope
-        ensures new { IsWithin result p }
-        ensures old { (q : Loc) → IsWithin self q → IsWithin result q }
+        ensures new { IsInEnvelope result p }
+        ensures old { (q : Loc) → IsInEnvelope self q → IsInEnvelope result q }
     {
         Envelope {
             left: self.left.min(p.x),

@@ -4,7 +4,7 @@ ghost use Rattle.std.specs.Prelude.{◌≡◌, ◌<◌, ◌%◌, ◌==◌, All, 
 ghost use Rattle.std.specs.List.Sorted.{IsStrictlyIncreasing};
 ghost use Rattle.osm_bands.specs.Bands.{HoldsReaching};
 ghost use Rattle.area_locate.specs.ItemsAt.{items_at};
-ghost use Rattle.area_locate.specs.Sides.{on_count, place_among, place_by, span_of};
+ghost use Rattle.area_locate.specs.Sides.{on_count, place_among, place_by_parity, span_of_segment};
 ghost use Rattle.osm_sides.specs.SideTests.{left_count};
 
 use crate::against_segment::is_on;
@@ -46,8 +46,8 @@ impl Model for Sides {
 }
 
 /// The heights of a segment, its ends included.
-fn span_of(s: &Seg) -> Span
-    ensures { result ≡ span_of s.now }
+fn span_of_segment(s: &Seg) -> Span
+    ensures { result ≡ span_of_segment s.now }
 {
     Span {
         low: i64::from(s.a.y),
@@ -57,9 +57,9 @@ fn span_of(s: &Seg) -> Span
 
 /// The heights of each segment, in order.
 fn spans_of(alloc: Global, segs: &[Seg]) -> Result<Vec<Span>, OutOfMemory>
-    ensures { IfOk result (λ v. v.items ≡ map span_of segs.now) }
+    ensures { IfOk result (λ v. v.items ≡ map span_of_segment segs.now) }
 {
-    segs.iter().map(|s| span_of(s)).collect(alloc)
+    segs.iter().map(|s| span_of_segment(s)).collect(alloc)
 }
 
 /// How many of the segments at these places have `p` on them.
@@ -91,8 +91,8 @@ fn count_left(segs: &[Seg], near: &[usize], p: Loc) -> u64
 }
 
 /// Where a location lies that has so many sides on it, and is left of so many sides at its height.
-fn place_by(on: u64, left: u64) -> Place
-    ensures { result ≡ place_by (nat_lt 0 on) (left % 2 == 1) }
+fn place_by_parity(on: u64, left: u64) -> Place
+    ensures { result ≡ place_by_parity (nat_lt 0 on) (left % 2 == 1) }
 {
     if on > 0 {
         return Place::On;
@@ -104,10 +104,10 @@ fn place_by(on: u64, left: u64) -> Place
 fn place_near(segs: &[Seg], near: &[usize], p: Loc) -> Place
     requires rising { IsStrictlyIncreasing near.now }
     requires inside { All (λ i. i < length segs.now) near.now }
-    requires whole { HoldsReaching (map span_of segs.now) p.y near.now }
+    requires whole { HoldsReaching (map span_of_segment segs.now) p.y near.now }
     ensures { result ≡ place_among p segs.now }
 {
-    place_by(count_on(segs, near, p), count_left(segs, near, p))
+    place_by_parity(count_on(segs, near, p), count_left(segs, near, p))
 }
 
 impl Sides {

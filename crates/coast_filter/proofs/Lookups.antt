@@ -7,12 +7,12 @@ use Rattle.std.specs.Ordering.{int_eq}
 use Rattle.std.proofs.lemmas.Grind.{flat_map-append}
 use Rattle.opl_reader.specs.declared.object.Object.{Object}
 use Rattle.opl_reader.specs.declared.object.Object.TheVariants as object
-use Rattle.opl_writer.specs.Written.{ended, line_of, node_line, text_of, way_line}
+use Rattle.opl_writer.specs.Written.{ended, node_line, object_line, objects_text, way_line}
 use Rattle.osm_objects.specs.CoastWays.{coast_ways, is_coast_way}
 use Rattle.osm_objects.specs.Nodes.{node_ids}
 use Rattle.osm_objects.specs.Object.{id_of, ref_of}
 use Rattle.osm_objects.specs.Objects.{NodeParts, WayParts, node_in, object_at, way_in}
-use Rattle.coast_filter.specs.ByIds.{HaveSame, among, node_text, way_nodes, way_text}
+use Rattle.coast_filter.specs.ByIds.{HaveSame, among, node_text, way_line_by_id, way_nodes}
 use Rattle.coast_filter.specs.CoastPart.{coast_nodes, coast_part, is_named, nodes_named, refs_in}
 
 -- where the same ids stand among the names, the same are picked
@@ -26,7 +26,7 @@ module _ (objects : List Object) where
 
   -- ---- ways
 
-  way_found : (o : Object) → is_coast_way o ≡ true → object_at objects (ref_of o) ≡ Some o → way_text objects (id_of o) ≡ ended (line_of o)
+  way_found : (o : Object) → is_coast_way o ≡ true → object_at objects (ref_of o) ≡ Some o → way_line_by_id objects (id_of o) ≡ ended (object_line o)
   unfolding is_coast_way
   way_found (object.Node id live tags place) is found = absurd (true≢false (sym is))
   way_found (object.Way id live tags refs) is found = ap (λ (r : Option Object). option_map_or (λ (w : WayParts). ended (way_line id w.tags w.refs)) (option_and_then way_in r) []) found
@@ -49,24 +49,24 @@ module _ (objects : List Object) where
       by true is rest = ap₂ (λ (xs ys : List A). xs ++ ys) (each o is all.0) rest
       by false is rest = rest
 
-  pub way_lines : AllFound objects → flat_map (way_text objects) (coast_ways objects) ≡ text_of (filter is_coast_way objects)
-  way_lines all = ways_found (way_text objects) (λ (o : Object). ended (line_of o)) way_found objects all
+  pub way_lines : AllFound objects → flat_map (way_line_by_id objects) (coast_ways objects) ≡ objects_text (filter is_coast_way objects)
+  way_lines all = ways_found (way_line_by_id objects) (λ (o : Object). ended (object_line o)) way_found objects all
 
   pub way_names : AllFound objects → flat_map (way_nodes objects) (coast_ways objects) ≡ coast_nodes objects
   way_names all = ways_found (way_nodes objects) (λ (o : Object). nodes_named (refs_in o)) names_found objects all
 
   -- ---- nodes
 
-  pub node_lines : (list : List Object) → AllFound list → flat_map (node_text objects) (among (coast_nodes objects) (node_ids list)) ≡ text_of (filter (is_named objects) list)
+  pub node_lines : (list : List Object) → AllFound list → flat_map (node_text objects) (among (coast_nodes objects) (node_ids list)) ≡ objects_text (filter (is_named objects) list)
   node_lines [] all = refl
   node_lines (object.Node id live tags place ∷ list) all = by (list_any (int_eq id) (coast_nodes objects)) (node_lines list all.1)
     where
       same : node_text objects id ≡ ended (node_line id tags place)
       same = ap (λ (r : Option Object). option_map_or (λ (n : NodeParts). ended (node_line id n.tags n.place)) (option_and_then node_in r) []) all.0
 
-      by : (b : Bool) → flat_map (node_text objects) (among (coast_nodes objects) (node_ids list)) ≡ text_of (filter (is_named objects) list)
+      by : (b : Bool) → flat_map (node_text objects) (among (coast_nodes objects) (node_ids list)) ≡ objects_text (filter (is_named objects) list)
           → flat_map (node_text objects) (cond b (id ∷ among (coast_nodes objects) (node_ids list)) (among (coast_nodes objects) (node_ids list)))
-          ≡ text_of (cond b (object.Node id live tags place ∷ filter (is_named objects) list) (filter (is_named objects) list))
+          ≡ objects_text (cond b (object.Node id live tags place ∷ filter (is_named objects) list) (filter (is_named objects) list))
       by true rest = ap₂ (λ xs ys. xs ++ ys) same rest
       by false rest = rest
   node_lines (object.Way id live tags refs ∷ list) all = node_lines list all.1
@@ -75,8 +75,8 @@ module _ (objects : List Object) where
   -- ---- the whole text
 
   pub whole : AllFound objects → (names : List ℤ) → HaveSame names (flat_map (way_nodes objects) (coast_ways objects)) →
-      flat_map (node_text objects) (among names (node_ids objects)) ++ flat_map (way_text objects) (coast_ways objects) ≡ text_of (coast_part objects)
+      flat_map (node_text objects) (among names (node_ids objects)) ++ flat_map (way_line_by_id objects) (coast_ways objects) ≡ objects_text (coast_part objects)
   whole all names same =
       let named = among_same names (coast_nodes objects) (node_ids objects) (λ q. same q ∙ ap (list_any (int_eq q)) (way_names all)) in
       ap₂ (λ xs ys. xs ++ ys) (ap (flat_map (node_text objects)) named ∙ node_lines objects all) (way_lines all)
-      ∙ sym (flat_map-append (λ (o : Object). ended (line_of o)) (filter (is_named objects) objects) (filter is_coast_way objects))
+      ∙ sym (flat_map-append (λ (o : Object). ended (object_line o)) (filter (is_named objects) objects) (filter is_coast_way objects))

@@ -13,7 +13,7 @@ use Rattle.opl_reader.specs.declared.object.Ref.{Ref}
 use Rattle.osm_objects.specs.CoastWays.{coast_ways, is_coast_way}
 use Rattle.osm_objects.specs.Object.{id_of, is_at, ref_of}
 use Rattle.osm_objects.specs.Objects.{AreApart, location_of, object_at, place_in, place_of, way_in}
-use Rattle.coast_join.specs.Input.{asides_by, asides_of, line_along, lines_by, lines_of, nodes_missing, refs_of}
+use Rattle.coast_join.specs.Input.{asides_by, asides_of, line_along, lines_by, missing_node_ids, refs_of, way_paths_in}
 use Rattle.coast_join.specs.Round.{once}
 use Rattle.lists.specs.Member.{In}
 use Rattle.lists.specs.Once.{each_once}
@@ -65,7 +65,7 @@ module _ (os : List Object) (apart : AreApart os) (w : Object) (i : In w (ways o
   places_alike r j =
       same_place os r (any-in r.node (coast_nodes os) (in-flat_map (λ o. nodes_named (refs_in o)) (ways os) w r.node i (in-map (λ (s : Ref). s.node) (refs_in w) r j)))
 
-  missing_alike : nodes_missing (coast_part os) (refs_in w) ≡ nodes_missing os (refs_in w)
+  missing_alike : missing_node_ids (coast_part os) (refs_in w) ≡ missing_node_ids os (refs_in w)
   missing_alike =
       ap (λ (rs : List Ref). each_once int_eq (map (λ r. r.node) rs))
       (filter-alike (λ r. is_none (place_of (coast_part os) r)) (λ r. is_none (place_of os r)) (refs_in w) (λ r j. ap is_none (places_alike r j)))
@@ -73,7 +73,7 @@ module _ (os : List Object) (apart : AreApart os) (w : Object) (i : In w (ways o
   along_alike : line_along (coast_part os) (refs_in w) ≡ line_along os (refs_in w)
   along_alike = ap once (filter_map-alike (place_of (coast_part os)) (place_of os) (refs_in w) places_alike)
 
-  lines_alike : lines_of (coast_part os) (id_of w) ≡ lines_of os (id_of w)
+  lines_alike : way_paths_in (coast_part os) (id_of w) ≡ way_paths_in os (id_of w)
   lines_alike = rw (refs_here, refs_there, missing_alike, along_alike) refl
 
   asides_alike : asides_of (coast_part os) (id_of w) ≡ asides_of os (id_of w)
@@ -83,8 +83,8 @@ pub input_stays : CoastInputStays
 input_stays os apart = record {
   ways = same;
   taking_part =
-      ap (flat_map (lines_of (coast_part os))) same
-      ∙ flat_map-alike (lines_of (coast_part os)) (lines_of os) (coast_ways os) (from-map (λ (id : ℤ). lines_of (coast_part os) id ≡ lines_of os id) id_of (ways os) (λ w i. lines_alike os apart w i));
+      ap (flat_map (way_paths_in (coast_part os))) same
+      ∙ flat_map-alike (way_paths_in (coast_part os)) (way_paths_in os) (coast_ways os) (from-map (λ (id : ℤ). way_paths_in (coast_part os) id ≡ way_paths_in os id) id_of (ways os) (λ w i. lines_alike os apart w i));
   asides =
       ap (flat_map (asides_of (coast_part os))) same
       ∙ flat_map-alike (asides_of (coast_part os)) (asides_of os) (coast_ways os) (from-map (λ (id : ℤ). asides_of (coast_part os) id ≡ asides_of os id) id_of (ways os) (λ w i. asides_alike os apart w i));

@@ -3,7 +3,7 @@ use Rattle.std.proofs.Common.{◌≡◌, subst, sym, ℕ, List, Result, Ok, Err,
 use Rattle.std.specs.Prelude.{Vec}
 use Rattle.std.specs.declared.alloc.Global.{Global}
 use Rattle.opl_reader.specs.declared.object.Object.{Object}
-use Rattle.opl_writer.specs.Written.{text_of}
+use Rattle.opl_writer.specs.Written.{objects_text}
 use Rattle.written_inputs.specs.Laws.{CanBeInput, OnlyLongLinesAreBad}
 use Rattle.coast_filter.specs.CoastPart.{coast_part}
 use Rattle.coast_filter.specs.Laws.{CoastInputStays, CoastPartIsApart, CoastPartIsWritable, CoastTextTellsCoast, HaveOneCoastInput, TellsCoastOf}
@@ -17,7 +17,7 @@ text_tells stays apart writable only objects can =
     }
 
 -- the text that is made, if memory lasts
-pub told_if : {E : Type 0} (objects : List Object) (r : Result (Vec ℕ Global) E) → IfOk r (λ text. text.items ≡ text_of (coast_part objects)) → TellsCoastOf objects (text_of (coast_part objects)) →
+pub told_if : {E : Type 0} (objects : List Object) (r : Result (Vec ℕ Global) E) → IfOk r (λ text. text.items ≡ objects_text (coast_part objects)) → TellsCoastOf objects (objects_text (coast_part objects)) →
     IfOk r (λ text. TellsCoastOf objects text.items)
 told_if objects (Ok text) is tells = subst (TellsCoastOf objects) (sym is) tells
 told_if objects (Err e) is tells = tt

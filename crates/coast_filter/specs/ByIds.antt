@@ -25,5 +25,5 @@ abbrev pub node_text : List Object → ℤ → List ℕ
 node_text objects id = option_map_or (λ n. ended (node_line id n.tags n.place)) (node_of objects id) []
 
 -- the line of the way of this id
-abbrev pub way_text : List Object → ℤ → List ℕ
-way_text objects id = option_map_or (λ w. ended (way_line id w.tags w.refs)) (way_of objects id) []
+abbrev pub way_line_by_id : List Object → ℤ → List ℕ
+way_line_by_id objects id = option_map_or (λ w. ended (way_line id w.tags w.refs)) (way_of objects id) []

@@ -4,10 +4,10 @@ use Rattle.std.specs.List.{flat_map}
 use Rattle.opl_reader.specs.Lines.{lines_of}
 use Rattle.opl_reader.specs.declared.object.Object.{Object}
 use Rattle.opl_writer.specs.Writable.{IsWritable}
-use Rattle.opl_writer.specs.Written.{text_of}
+use Rattle.opl_writer.specs.Written.{objects_text}
 use Rattle.osm_objects.specs.CoastWays.{coast_ways}
 use Rattle.osm_objects.specs.Objects.{AreApart}
-use Rattle.coast_join.specs.Input.{asides_of, lines_of as lines_taking_part}
+use Rattle.coast_join.specs.Input.{asides_of, way_paths_in as lines_taking_part}
 use Rattle.osm_input.specs.Input.{IsBadPlace, objects_told}
 use Rattle.osm_input.specs.declared.fault.InputFault.{InputFault}
 use Rattle.osm_input.specs.declared.fault.InputFault.TheVariants.{TooLong}
@@ -44,4 +44,4 @@ pub record TellsCoastOf (objects : List Object) (text : List ℕ) : Type 0 where
 
 -- so does the text of the coast part of objects that make an input
 abbrev pub CoastTextTellsCoast : Type 0
-CoastTextTellsCoast = (objects : List Object) → CanBeInput objects → TellsCoastOf objects (text_of (coast_part objects))
+CoastTextTellsCoast = (objects : List Object) → CanBeInput objects → TellsCoastOf objects (objects_text (coast_part objects))

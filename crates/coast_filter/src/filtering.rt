@@ -2,8 +2,8 @@
 
 ghost use Rattle.std.specs.Prelude.{◌≡◌, ◌++◌, IfOk, OnOk};
 ghost use Rattle.std.specs.List.{flat_map};
-ghost use Rattle.opl_writer.specs.Written.{text_of};
-ghost use Rattle.coast_filter.specs.ByIds.{among, node_text, way_text};
+ghost use Rattle.opl_writer.specs.Written.{objects_text};
+ghost use Rattle.coast_filter.specs.ByIds.{among, node_text, way_line_by_id};
 ghost use Rattle.coast_filter.specs.CoastPart.{coast_part};
 ghost use Rattle.coast_filter.specs.Laws.{TellsCoastOf};
 ghost use Rattle.written_inputs.specs.Laws.{AreSpelled};
@@ -28,7 +28,7 @@ fn put_held_node(text: &mut Vec<u8>, store: &Store, id: i64) -> Result<(), OutOf
 
 /// Adds the line of the way of this id.
 fn put_held_way(text: &mut Vec<u8>, store: &Store, id: i64) -> Result<(), OutOfMemory>
-    ensures { OnOk result (text.new.items ≡ text.old.items ++ way_text store.now id) }
+    ensures { OnOk result (text.new.items ≡ text.old.items ++ way_line_by_id store.now id) }
 {
     match store.way(id) {
         Some(way) => put_way(text, id, way.tags, way.refs),
@@ -57,7 +57,7 @@ fn put_named(
 /// Adds the lines of ways.
 fn put_ways(text: &mut Vec<u8>, store: &Store, ways: &[i64]) -> Result<(), OutOfMemory>
     ensures { OnOk result (text.new.items
-        ≡ text.old.items ++ flat_map (way_text store.now) ways.now) }
+        ≡ text.old.items ++ flat_map (way_line_by_id store.now) ways.now) }
 {
     for &way in ways {
         put_held_way(text, store, way)?;
@@ -67,7 +67,7 @@ fn put_ways(text: &mut Vec<u8>, store: &Store, ways: &[i64]) -> Result<(), OutOf
 
 /// The lines of the coast of a store.
 fn coast_lines(alloc: Global, store: &Store) -> Result<Vec<u8>, OutOfMemory>
-    ensures text { IfOk result (λ text. text.items ≡ text_of (coast_part store.now)) }
+    ensures text { IfOk result (λ text. text.items ≡ objects_text (coast_part store.now)) }
 {
     // By law: an object's kind and id find this object.
     store.one_of_each();
@@ -87,7 +87,7 @@ fn coast_lines(alloc: Global, store: &Store) -> Result<Vec<u8>, OutOfMemory>
 /// Tags are kept, and so are nodes without a location and references' own locations. A reference that has its own
 /// location still names its node. Where there is no coast, there are no bytes. The error is want of memory.
 pub fn filter(alloc: Global, store: &Store) -> Result<Vec<u8>, OutOfMemory>
-    ensures text { IfOk result (λ text. text.items ≡ text_of (coast_part store.now)) }
+    ensures text { IfOk result (λ text. text.items ≡ objects_text (coast_part store.now)) }
     // Where lines spell the objects of the store, as those of an input, the text tells their coast part and no more, nothing
     // is wrong with it but that a line may be too long, and it has their coast input.
     ensures coast { AreSpelled store.now → IfOk result (λ text. TellsCoastOf store.now text.items) }

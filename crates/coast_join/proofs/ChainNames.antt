@@ -7,11 +7,11 @@ use Rattle.lists.specs.Rising.{IsRising}
 use Rattle.orbits.specs.OnceLaws.{StandBelow}
 use Rattle.orbits.specs.Orbits.{first}
 use Rattle.coast_join.specs.declared.chain.Chain.{Chain}
-use Rattle.coast_join.specs.Chains.{IsChain, Line, line_at}
+use Rattle.coast_join.specs.Chains.{IsChain, WayPath, line_at}
 use Rattle.coast_join.specs.ChainLaws.{NamesRise}
 use Rattle.coast_join.proofs.ChainEnds.{orbit_inside}
 
-names_are : (lines : List Line) (next : List (Option ℕ)) (os : List (List ℕ)) (chains : List Chain) → AllZip (IsChain lines next) os chains → map (λ (c : Chain). c.name) chains ≡ map (λ o. (line_at lines (first o)).id) os
+names_are : (lines : List WayPath) (next : List (Option ℕ)) (os : List (List ℕ)) (chains : List Chain) → AllZip (IsChain lines next) os chains → map (λ (c : Chain). c.name) chains ≡ map (λ o. (line_at lines (first o)).id) os
 names_are lines next [] [] z = refl
 names_are lines next [] (c ∷ chains) z = absurd z
 names_are lines next (o ∷ os) [] z = absurd z
@@ -34,7 +34,7 @@ rising_names below ways chains are = subst (IsRising int_cmp) (sym (names_are ar
         let orbit = are.are_orbits.each j [] (omega arith) in
         let some = orbit.some in
         let inside : to < length are.sorted = orbit_inside below ways chains are j (omega arith) 0 0 some in
-        let ids = length-map are.sorted (λ (x : Line). x.id) in
-        let a = get_or-map (λ (x : Line). x.id) are.sorted from (record { id = pos 0; path = [] }) d (omega arith) in
-        let b = get_or-map (λ (x : Line). x.id) are.sorted to (record { id = pos 0; path = [] }) d (omega arith) in
+        let ids = length-map are.sorted (λ (x : WayPath). x.id) in
+        let a = get_or-map (λ (x : WayPath). x.id) are.sorted from (record { id = pos 0; path = [] }) d (omega arith) in
+        let b = get_or-map (λ (x : WayPath). x.id) are.sorted to (record { id = pos 0; path = [] }) d (omega arith) in
         rw (here, there, ← a, ← b) (are.rising from to d up (omega arith))

@@ -14,7 +14,7 @@ use Rattle.coast_join.specs.declared.chain.Chain.{Chain}
 use Rattle.coast_join.specs.declared.closing.OpenEnds.{OpenEnds}
 use Rattle.coast_join.specs.declared.gap.Gap.{Gap}
 use Rattle.coast_join.specs.Closings.{gap_between, is_antarctic, is_open, near_pairs, open_ends, open_ends_at}
-use Rattle.coast_join.specs.Joined.{AreNext, Leads, chains_at, paths_of, ways_of}
+use Rattle.coast_join.specs.Joined.{AreNext, Leads, chains_at, locations_along, ways_of}
 use Rattle.coast_join.specs.JoinSteps.{AreGapLinks, AreNextBy}
 use Rattle.coast_join.specs.Line.{IsLine}
 use Rattle.coast_join.specs.Round.{once}
@@ -230,12 +230,12 @@ ways_some chains places h inside =
     let same = ap (λ (cs : List Chain). length (ways_of cs)) s.2 in
     omega arith
 
-pub line_of_chains : LocationOrderTellsApart → (chains : List Chain) (places : List ℕ) (more : List Loc) → 0 < length places → All (λ k. k < length chains) places → IsLine (once (paths_of (chains_at chains places) ++ more))
+pub line_of_chains : LocationOrderTellsApart → (chains : List Chain) (places : List ℕ) (more : List Loc) → 0 < length places → All (λ k. k < length chains) places → IsLine (once (locations_along (chains_at chains places) ++ more))
 line_of_chains exact chains places more h inside =
     let s = some_at chains places h inside in
     let c : Chain = s.0 in
-    let same : paths_of (chains_at chains places) ++ more ≡ c.path ++ (paths_of s.1 ++ more) = ap (λ (cs : List Chain). paths_of cs ++ more) s.2 ∙ append_assoc c.path (paths_of s.1) more in
-    subst (λ (xs : List Loc). IsLine (once xs)) (sym same) (line_once exact c.path (paths_of s.1 ++ more) c.line)
+    let same : locations_along (chains_at chains places) ++ more ≡ c.path ++ (locations_along s.1 ++ more) = ap (λ (cs : List Chain). locations_along cs ++ more) s.2 ∙ append_assoc c.path (locations_along s.1) more in
+    subst (λ (xs : List Loc). IsLine (once xs)) (sym same) (line_once exact c.path (locations_along s.1 ++ more) c.line)
 
 pub any_more : (chains : List Chain) (places : List ℕ) (i : ℕ) (c : Chain) → i < length places → get_or places i 0 < length chains → c ≡ get_or chains (get_or places i 0) c → (b : Bool) → is_antarctic c ≡ b → list_any is_antarctic (chains_at chains (take i places)) ≡ false → list_any is_antarctic (chains_at chains (take (i + 1) places)) ≡ b
 any_more chains places i c l inside e b is none =

@@ -7,8 +7,8 @@ use Rattle.coast_join.specs.declared.way.CoastWay.{CoastWay}
 use Rattle.lists.proofs.ListsKit.{map-map}
 use Rattle.std.proofs.lemmas.List.{flat_map_more, take_more}
 use Rattle.opl_reader.specs.declared.object.Object.{Object}
-use Rattle.coast_join.specs.Chains.{Line, line_of}
-use Rattle.coast_join.specs.Input.{is_empty, line_along, lines_of, nodes_missing, refs_of}
+use Rattle.coast_join.specs.Chains.{WayPath, way_path_of}
+use Rattle.coast_join.specs.Input.{is_empty, line_along, missing_node_ids, refs_of, way_paths_in}
 
 pub flat_more : {A : Type 0} (f : ℤ → List A) (ways : List ℤ) (i : ℕ) (z : ℤ) (now new : List A) → i < length ways → z ≡ get_or ways i (pos 0) → now ≡ flat_map f (take i ways) → new ≡ now ++ f z → new ≡ flat_map f (take (i + 1) ways)
 flat_more {A} f ways i z now new h e was is =
@@ -19,16 +19,16 @@ flat_more {A} f ways i z now new h e was is =
 
 module _ (objects : List Object) where
   abbrev line_ids : List ℤ → List ℤ
-  line_ids ways = map (λ (l : Line). l.id) (flat_map (lines_of objects) ways)
+  line_ids ways = map (λ (l : WayPath). l.id) (flat_map (way_paths_in objects) ways)
 
   -- a way's line, if it has one, has its id
-  one_line : (way : ℤ) (rest : List Line) → (map (λ (l : Line). l.id) (lines_of objects way ++ rest) ≡ map (λ (l : Line). l.id) rest) ⊎ (map (λ (l : Line). l.id) (lines_of objects way ++ rest) ≡ way ∷ map (λ (l : Line). l.id) rest)
-  one_line way rest = by (is_empty (nodes_missing objects (refs_of objects way))) (nat_le 2 (length (line_along objects (refs_of objects way))))
+  one_line : (way : ℤ) (rest : List WayPath) → (map (λ (l : WayPath). l.id) (way_paths_in objects way ++ rest) ≡ map (λ (l : WayPath). l.id) rest) ⊎ (map (λ (l : WayPath). l.id) (way_paths_in objects way ++ rest) ≡ way ∷ map (λ (l : WayPath). l.id) rest)
+  one_line way rest = by (is_empty (missing_node_ids objects (refs_of objects way))) (nat_le 2 (length (line_along objects (refs_of objects way))))
     where
-      lines : Bool → Bool → List Line
+      lines : Bool → Bool → List WayPath
       lines a b = if a then (if b then record { id = way; path = line_along objects (refs_of objects way) } ∷ [] else []) else []
 
-      by : (a b : Bool) → (map (λ (l : Line). l.id) ((if a then (if b then record { id = way; path = line_along objects (refs_of objects way) } ∷ [] else []) else []) ++ rest) ≡ map (λ (l : Line). l.id) rest) ⊎ (map (λ (l : Line). l.id) ((if a then (if b then record { id = way; path = line_along objects (refs_of objects way) } ∷ [] else []) else []) ++ rest) ≡ way ∷ map (λ (l : Line). l.id) rest)
+      by : (a b : Bool) → (map (λ (l : WayPath). l.id) ((if a then (if b then record { id = way; path = line_along objects (refs_of objects way) } ∷ [] else []) else []) ++ rest) ≡ map (λ (l : WayPath). l.id) rest) ⊎ (map (λ (l : WayPath). l.id) ((if a then (if b then record { id = way; path = line_along objects (refs_of objects way) } ∷ [] else []) else []) ++ rest) ≡ way ∷ map (λ (l : WayPath). l.id) rest)
       by false b = inl refl
       by true false = inl refl
       by true true = inr refl
@@ -38,13 +38,13 @@ module _ (objects : List Object) where
   kept_apart x (w ∷ ways) h =
       let P : List ℤ → Type 0 = AllByRecursion (λ y. int_eq x y ≡ false) in
       let rest = kept_apart x ways h.1 in
-      ⊎_elim (λ e. subst P (sym e) rest) (λ e. subst P (sym e) (h.0, rest)) (one_line w (flat_map (lines_of objects) ways))
+      ⊎_elim (λ e. subst P (sym e) rest) (λ e. subst P (sym e) (h.0, rest)) (one_line w (flat_map (way_paths_in objects) ways))
 
   pub lines_apart : (ways : List ℤ) → IsDistinct int_eq ways → IsDistinct int_eq (line_ids ways)
   lines_apart [] h = h
   lines_apart (w ∷ ways) h =
       let rest = lines_apart ways (IsDistinct-tail int_eq w ways h) in
-      ⊎_elim (λ e. subst (IsDistinct int_eq) (sym e) rest) (λ e. subst (IsDistinct int_eq) (sym e) (IsDistinct-cons int_eq w (line_ids ways) (kept_apart w ways (IsDistinct-head int_eq w ways h)) rest)) (one_line w (flat_map (lines_of objects) ways))
+      ⊎_elim (λ e. subst (IsDistinct int_eq) (sym e) rest) (λ e. subst (IsDistinct int_eq) (sym e) (IsDistinct-cons int_eq w (line_ids ways) (kept_apart w ways (IsDistinct-head int_eq w ways h)) rest)) (one_line w (flat_map (way_paths_in objects) ways))
 
-  pub ways_apart : (ways : List CoastWay) (ids : List ℤ) → map line_of ways ≡ flat_map (lines_of objects) ids → IsDistinct int_eq ids → IsDistinct int_eq (map (λ (w : CoastWay). w.id) ways)
-  ways_apart ways ids e h = subst (IsDistinct int_eq) (sym (ap (map (λ (l : Line). l.id)) e) ∙ map-map (λ (l : Line). l.id) line_of ways) (lines_apart ids h)
+  pub ways_apart : (ways : List CoastWay) (ids : List ℤ) → map way_path_of ways ≡ flat_map (way_paths_in objects) ids → IsDistinct int_eq ids → IsDistinct int_eq (map (λ (w : CoastWay). w.id) ways)
+  ways_apart ways ids e h = subst (IsDistinct int_eq) (sym (ap (map (λ (l : WayPath). l.id)) e) ∙ map-map (λ (l : WayPath). l.id) way_path_of ways) (lines_apart ids h)

@@ -11,16 +11,16 @@ use Rattle.std.proofs.lemmas.List.FromFn.{fill_by_all}
 use Rattle.std.proofs.lemmas.List.Sorted.{IsPermutation-map, All-permutation}
 use Rattle.lists.specs.Rising.{IsRising}
 use Rattle.coast_join.specs.ById.{AreById, id_at}
-use Rattle.orbits.specs.Orbits.{after, last, IsOrbit}
+use Rattle.orbits.specs.Orbits.{after, last_number, IsOrbit}
 use Rattle.coast_join.specs.declared.chain.Chain.{Chain}
-use Rattle.coast_join.specs.Links.{AreLinks}
+use Rattle.coast_join.specs.Links.{AreNextWays}
 use Rattle.lists.proofs.ListsKit.{map-map, range_below}
 use Rattle.coast_join.proofs.Sorting.{map-same}
 use Rattle.osm_lattice.specs.declared.loc.Loc.{Loc}
 use Rattle.coast_join.specs.declared.way.CoastWay.{CoastWay}
-use Rattle.coast_join.specs.Chains.{IsChain, Line, joined, line_at, line_of}
-use Rattle.coast_join.specs.ChainSteps.{AreLinked, Makes, path_at, member, members}
-use Rattle.coast_join.specs.Line.{IsLine, NeighboursDiffer, first_of, front_of, last_of, origin}
+use Rattle.coast_join.specs.Chains.{IsChain, WayPath, joined_path, line_at, way_path_of}
+use Rattle.coast_join.specs.ChainSteps.{AreLinked, Makes, path_at, member, ways_at}
+use Rattle.coast_join.specs.Line.{IsLine, NeighboursDiffer, first_location, front_of, last_location, origin}
 
 less_one : (n : ℕ) → suc (suc n) - 1 ≡ suc n
 less_one n = omega arith
@@ -30,18 +30,18 @@ front_cons a b q =
     let e : length (a ∷ (b ∷ q)) - 1 ≡ suc (length (b ∷ q) - 1) = omega arith in
     ap (λ n. take n (a ∷ (b ∷ q))) e
 
-pub last_cons : (a b : Loc) (q : List Loc) → last_of (a ∷ (b ∷ q)) ≡ last_of (b ∷ q)
+pub last_cons : (a b : Loc) (q : List Loc) → last_location (a ∷ (b ∷ q)) ≡ last_location (b ∷ q)
 last_cons a b q =
     let e : length (a ∷ (b ∷ q)) - 1 ≡ suc (length (b ∷ q) - 1) = omega arith in
     ap (λ n. get_or (a ∷ (b ∷ q)) n origin) e
 
 -- a line is its front and its last location
-pub front_last : (p : List Loc) → 0 < length p → front_of p ++ last_of p ∷ [] ≡ p
+pub front_last : (p : List Loc) → 0 < length p → front_of p ++ last_location p ∷ [] ≡ p
 front_last [] h = absurd (omega arith)
 front_last (a ∷ []) h = refl
 front_last (a ∷ (b ∷ q)) h = rw (front_cons a b q, last_cons a b q) (ap (λ xs. a ∷ xs) (front_last (b ∷ q) (omega arith)))
 
-pub front_first : (p : List Loc) → 2 ≤ length p → (rest : List Loc) × (front_of p ≡ first_of p ∷ rest)
+pub front_first : (p : List Loc) → 2 ≤ length p → (rest : List Loc) × (front_of p ≡ first_location p ∷ rest)
 front_first [] h = absurd (omega arith)
 front_first (a ∷ []) h = absurd (omega arith)
 front_first (a ∷ (b ∷ q)) h = (front_of (b ∷ q), front_cons a b q)
@@ -78,21 +78,21 @@ last_path p q r =
     let e : length (p ∷ (q ∷ r)) - 1 ≡ suc (length (q ∷ r) - 1) = omega arith in
     ap (λ n. get_or (p ∷ (q ∷ r)) n []) e
 
-whole_one : (p : List Loc) → 0 < length p → joined false (p ∷ []) ≡ p
+whole_one : (p : List Loc) → 0 < length p → joined_path false (p ∷ []) ≡ p
 whole_one p h = rw (append-nil (front_of p)) (front_last p h)
 
-whole_cons : (p q : List Loc) (r : List (List Loc)) → joined false (p ∷ (q ∷ r)) ≡ front_of p ++ joined false (q ∷ r)
-whole_cons p q r = rw (last_path p q r) (append_assoc (front_of p) (flat (q ∷ r)) (last_of (path_at (q ∷ r) (length (q ∷ r) - 1)) ∷ []))
+whole_cons : (p q : List Loc) (r : List (List Loc)) → joined_path false (p ∷ (q ∷ r)) ≡ front_of p ++ joined_path false (q ∷ r)
+whole_cons p q r = rw (last_path p q r) (append_assoc (front_of p) (flat (q ∷ r)) (last_location (path_at (q ∷ r) (length (q ∷ r) - 1)) ∷ []))
 
-pub whole_first : (q : List Loc) (r : List (List Loc)) → 2 ≤ length q → (rest : List Loc) × (joined false (q ∷ r) ≡ first_of q ∷ rest)
+pub whole_first : (q : List Loc) (r : List (List Loc)) → 2 ≤ length q → (rest : List Loc) × (joined_path false (q ∷ r) ≡ first_location q ∷ rest)
 whole_first q r h =
     let f = front_first q h in
-    (f.0 ++ flat r ++ last_of (path_at (q ∷ r) (length (q ∷ r) - 1)) ∷ [], ap (λ xs. xs ++ flat r ++ last_of (path_at (q ∷ r) (length (q ∷ r) - 1)) ∷ []) f.1)
+    (f.0 ++ flat r ++ last_location (path_at (q ∷ r) (length (q ∷ r) - 1)) ∷ [], ap (λ xs. xs ++ flat r ++ last_location (path_at (q ∷ r) (length (q ∷ r) - 1)) ∷ []) f.1)
 
 abbrev Steps : List (List Loc) → Type 0
-Steps paths = (k : ℕ) → suc k < length paths → last_of (path_at paths k) ≡ first_of (path_at paths (suc k))
+Steps paths = (k : ℕ) → suc k < length paths → last_location (path_at paths k) ≡ first_location (path_at paths (suc k))
 
-whole_differ : (p : List Loc) (r : List (List Loc)) → All IsLine (p ∷ r) → Steps (p ∷ r) → NeighboursDiffer (joined false (p ∷ r))
+whole_differ : (p : List Loc) (r : List (List Loc)) → All IsLine (p ∷ r) → Steps (p ∷ r) → NeighboursDiffer (joined_path false (p ∷ r))
 whole_differ p [] lines steps =
     let line : IsLine p = lines 0 [] (omega arith) in
     let long = line.long in
@@ -103,10 +103,10 @@ whole_differ p (q ∷ r) lines steps =
     let long = line.long in
     let rest = whole_differ q r (λ k d h. lines (suc k) d (omega arith)) (λ k h. steps (suc k) (omega arith)) in
     let starts = whole_first q r next.long in
-    let joint : last_of p ≡ first_of q = steps 0 (omega arith) in
-    let tail : joined false (q ∷ r) ≡ last_of p ∷ starts.0 = starts.1 ∙ ap (λ x. x ∷ starts.0) (sym joint) in
+    let joint : last_location p ≡ first_location q = steps 0 (omega arith) in
+    let tail : joined_path false (q ∷ r) ≡ last_location p ∷ starts.0 = starts.1 ∙ ap (λ x. x ∷ starts.0) (sym joint) in
     subst NeighboursDiffer (sym (whole_cons p q r ∙ ap (λ xs. front_of p ++ xs) tail))
-    (glue (front_of p) (last_of p) starts.0 (subst NeighboursDiffer (sym (front_last p (omega arith))) line.differ) (subst NeighboursDiffer tail rest))
+    (glue (front_of p) (last_location p) starts.0 (subst NeighboursDiffer (sym (front_last p (omega arith))) line.differ) (subst NeighboursDiffer tail rest))
 
 flat_long : (paths : List (List Loc)) → All IsLine paths → length paths ≤ length (flat paths)
 flat_long [] lines = omega arith
@@ -119,25 +119,25 @@ flat_long (p ∷ r) lines =
     omega arith
 
 -- a line that ends where it starts has a location between
-pub closed_long : (p : List Loc) → IsLine p → last_of p ≡ first_of p → 3 ≤ length p
+pub closed_long : (p : List Loc) → IsLine p → last_location p ≡ first_location p → 3 ≤ length p
 closed_long [] line e = let l = line.long in absurd (omega arith)
 closed_long (a ∷ []) line e = let l = line.long in absurd (omega arith)
 closed_long (a ∷ (b ∷ [])) line e = absurd (line.differ 0 a refl (ap Some e))
 closed_long (a ∷ (b ∷ (c ∷ q))) line e = omega arith
 
-pub line_joined : (closed : Bool) (paths : List (List Loc)) → AreLinked closed paths → IsLine (joined closed paths)
+pub line_joined : (closed : Bool) (paths : List (List Loc)) → AreLinked closed paths → IsLine (joined_path closed paths)
 line_joined closed [] linked = let s = linked.some in absurd (omega arith)
 line_joined false (p ∷ r) linked =
     let long = flat_long (p ∷ r) linked.lines in
-    let both = length-append (flat (p ∷ r)) (last_of (path_at (p ∷ r) (length (p ∷ r) - 1)) ∷ []) in
+    let both = length-append (flat (p ∷ r)) (last_location (path_at (p ∷ r) (length (p ∷ r) - 1)) ∷ []) in
     record { long = omega arith; differ = whole_differ p r linked.lines linked.steps }
 line_joined true (p ∷ []) linked =
     let line : IsLine p = linked.lines 0 [] (omega arith) in
     let long = closed_long p line (linked.closes refl) in
     let here = front_length p in
     let differ = whole_differ p [] linked.lines linked.steps in
-    let same : joined true (p ∷ []) ≡ front_of p = simp append-nil in
-    subst IsLine (sym same) (record { long = omega arith; differ = front_differ (front_of p) (last_of p ∷ []) (subst NeighboursDiffer (sym (front_last p (omega arith))) line.differ) })
+    let same : joined_path true (p ∷ []) ≡ front_of p = simp append-nil in
+    subst IsLine (sym same) (record { long = omega arith; differ = front_differ (front_of p) (last_location p ∷ []) (subst NeighboursDiffer (sym (front_last p (omega arith))) line.differ) })
 line_joined true (p ∷ (q ∷ r)) linked =
     let long = flat_long (p ∷ (q ∷ r)) linked.lines in
     let none = append-nil (flat (p ∷ (q ∷ r))) in
@@ -150,34 +150,34 @@ flat_map-map : {A B C : Type 0} (f : B → List C) (g : A → B) (xs : List A) �
 flat_map-map f g [] = refl
 flat_map-map f g (x ∷ xs) = ap (λ ys. f (g x) ++ ys) (flat_map-map f g xs)
 
-pub path_at-map : (lines : List Line) (n : ℕ) → path_at (map (λ (l : Line). l.path) lines) n ≡ (line_at lines n).path
+pub path_at-map : (lines : List WayPath) (n : ℕ) → path_at (map (λ (l : WayPath). l.path) lines) n ≡ (line_at lines n).path
 path_at-map [] n = refl
 path_at-map (l ∷ lines) zero = refl
 path_at-map (l ∷ lines) (suc n) = path_at-map lines n
 
-pub joined_closed : (lines : List Line) → joined true (map (λ (l : Line). l.path) lines) ≡ flat_map (λ (l : Line). front_of l.path) lines
-joined_closed lines = append-nil (flat_map front_of (map (λ (l : Line). l.path) lines)) ∙ flat_map-map front_of (λ (l : Line). l.path) lines
+pub joined_closed : (lines : List WayPath) → joined_path true (map (λ (l : WayPath). l.path) lines) ≡ flat_map (λ (l : WayPath). front_of l.path) lines
+joined_closed lines = append-nil (flat_map front_of (map (λ (l : WayPath). l.path) lines)) ∙ flat_map-map front_of (λ (l : WayPath). l.path) lines
 
-pub joined_open : (lines : List Line) (n : ℕ) → n ≡ length lines → joined false (map (λ (l : Line). l.path) lines) ≡ flat_map (λ (l : Line). front_of l.path) lines ++ last_of (line_at lines (n - 1)).path ∷ []
+pub joined_open : (lines : List WayPath) (n : ℕ) → n ≡ length lines → joined_path false (map (λ (l : WayPath). l.path) lines) ≡ flat_map (λ (l : WayPath). front_of l.path) lines ++ last_location (line_at lines (n - 1)).path ∷ []
 joined_open lines n e =
-    let same : length (map (λ (l : Line). l.path) lines) - 1 ≡ n - 1 = ap (λ m. m - 1) (length-map lines (λ (l : Line). l.path) ∙ sym e) in
-    ap (λ xs. xs ++ last_of (path_at (map (λ (l : Line). l.path) lines) (length (map (λ (l : Line). l.path) lines) - 1)) ∷ []) (flat_map-map front_of (λ (l : Line). l.path) lines)
-    ∙ ap (λ p. flat_map (λ (l : Line). front_of l.path) lines ++ last_of p ∷ []) (ap (path_at (map (λ (l : Line). l.path) lines)) same ∙ path_at-map lines (n - 1))
+    let same : length (map (λ (l : WayPath). l.path) lines) - 1 ≡ n - 1 = ap (λ m. m - 1) (length-map lines (λ (l : WayPath). l.path) ∙ sym e) in
+    ap (λ xs. xs ++ last_location (path_at (map (λ (l : WayPath). l.path) lines) (length (map (λ (l : WayPath). l.path) lines) - 1)) ∷ []) (flat_map-map front_of (λ (l : WayPath). l.path) lines)
+    ∙ ap (λ p. flat_map (λ (l : WayPath). front_of l.path) lines ++ last_location p ∷ []) (ap (path_at (map (λ (l : WayPath). l.path) lines)) same ∙ path_at-map lines (n - 1))
 
-pub member_read : (ways : List CoastWay) (i : ℕ) (w : CoastWay) → i < length ways → w ≡ get_or ways i w → member ways i ≡ line_of w
-member_read ways i w h e = get_or-map line_of ways i w (record { id = pos 0; path = [] }) h ∙ ap line_of (sym e)
+pub member_read : (ways : List CoastWay) (i : ℕ) (w : CoastWay) → i < length ways → w ≡ get_or ways i w → member ways i ≡ way_path_of w
+member_read ways i w h e = get_or-map way_path_of ways i w (record { id = pos 0; path = [] }) h ∙ ap way_path_of (sym e)
 
-pub members_at : (ways : List CoastWay) (places : List ℕ) (k : ℕ) → k < length places → line_at (members ways places) k ≡ member ways (get_or places k 0)
+pub members_at : (ways : List CoastWay) (places : List ℕ) (k : ℕ) → k < length places → line_at (ways_at ways places) k ≡ member ways (get_or places k 0)
 members_at ways places k h = get_or-map (member ways) places k 0 (record { id = pos 0; path = [] }) h
 
-pub places_some : (ways : List CoastWay) (places : List ℕ) (closed : Bool) → AreLinked closed (map (λ (l : Line). l.path) (members ways places)) → 0 < length places
+pub places_some : (ways : List CoastWay) (places : List ℕ) (closed : Bool) → AreLinked closed (map (λ (l : WayPath). l.path) (ways_at ways places)) → 0 < length places
 places_some ways [] closed linked = linked.some
 places_some ways (k ∷ places) closed linked = omega arith
 
 -- ---- the ways of an orbit
 
-abbrev paths_in : List Line → List ℕ → List (List Loc)
-paths_in ls o = map (λ (l : Line). l.path) (map (line_at ls) o)
+abbrev paths_in : List WayPath → List ℕ → List (List Loc)
+paths_in ls o = map (λ (l : WayPath). l.path) (map (line_at ls) o)
 
 pub way_lines : (ways : List CoastWay) (i : ℕ) → i < length ways → IsLine (member ways i).path
 way_lines [] i h = absurd (omega arith)
@@ -185,65 +185,65 @@ way_lines (w ∷ ways) zero h = w.line
 way_lines (w ∷ ways) (suc i) h = way_lines ways i (omega arith)
 
 module _ (ways : List CoastWay) (order : List ℕ) (inside : All (λ i. i < length ways) order) where
-  lines : List Line
-  lines = members ways order
+  lines : List WayPath
+  lines = ways_at ways order
 
-  pub same_members : (orbit : List ℕ) → All (λ k. k < length order) orbit → members ways (map (λ k. get_or order k 0) orbit) ≡ map (line_at (members ways order)) orbit
+  pub same_members : (orbit : List ℕ) → All (λ k. k < length order) orbit → ways_at ways (map (λ k. get_or order k 0) orbit) ≡ map (line_at (ways_at ways order)) orbit
   same_members orbit below =
       map-map (member ways) (λ k. get_or order k 0) orbit
-      ∙ map-same (λ k. member ways (get_or order k 0)) (line_at (members ways order)) orbit (λ k d h. sym (members_at ways order (get_or orbit k d) (below k d h)))
+      ∙ map-same (λ k. member ways (get_or order k 0)) (line_at (ways_at ways order)) orbit (λ k d h. sym (members_at ways order (get_or orbit k d) (below k d h)))
 
-  order_line : (k : ℕ) → k < length order → IsLine (line_at (members ways order) k).path
-  order_line k h = subst (λ (l : Line). IsLine l.path) (sym (members_at ways order k h)) (way_lines ways (get_or order k 0) (inside k 0 h))
+  order_line : (k : ℕ) → k < length order → IsLine (line_at (ways_at ways order) k).path
+  order_line k h = subst (λ (l : WayPath). IsLine l.path) (sym (members_at ways order k h)) (way_lines ways (get_or order k 0) (inside k 0 h))
 
-  at_place : (f : Line → Loc) (k : ℕ) (p : Loc) → slice_get (map f (members ways order)) k ≡ Some p → k < length order → f (line_at (members ways order) k) ≡ p
+  at_place : (f : WayPath → Loc) (k : ℕ) (p : Loc) → slice_get (map f (ways_at ways order)) k ≡ Some p → k < length order → f (line_at (ways_at ways order) k) ≡ p
   at_place f k p e h =
       let sized = length-map order (member ways) in
-      let none : Line = record { id = pos 0; path = [] } in
-      let is = slice_get-get_or (members ways order) k none (omega arith) in
-      let both : slice_get (map f (members ways order)) k ≡ Some (f (line_at (members ways order) k)) = slice_get-map f (members ways order) k ∙ ap (option_map f) is in
+      let none : WayPath = record { id = pos 0; path = [] } in
+      let is = slice_get-get_or (ways_at ways order) k none (omega arith) in
+      let both : slice_get (map f (ways_at ways order)) k ≡ Some (f (line_at (ways_at ways order) k)) = slice_get-map f (ways_at ways order) k ∙ ap (option_map f) is in
       same_Some _ _ (sym both ∙ e)
 
-  module _ (next : List (Option ℕ)) (links : AreLinks (map (λ (l : Line). last_of l.path) (members ways order)) (map (λ (l : Line). first_of l.path) (members ways order)) next) where
-    joint : (i j : ℕ) → i < length order → j < length order → after next i ≡ Some j → last_of (line_at (members ways order) i).path ≡ first_of (line_at (members ways order) j).path
+  module _ (next : List (Option ℕ)) (links : AreNextWays (map (λ (l : WayPath). last_location l.path) (ways_at ways order)) (map (λ (l : WayPath). first_location l.path) (ways_at ways order)) next) where
+    joint : (i j : ℕ) → i < length order → j < length order → after next i ≡ Some j → last_location (line_at (ways_at ways order) i).path ≡ first_location (line_at (ways_at ways order) j).path
     joint i j hi hj e =
         let g = (links.exact i j).0 e in
-        at_place (λ (l : Line). last_of l.path) i g.place g.ends_there hi ∙ sym (at_place (λ (l : Line). first_of l.path) j g.place g.starts_there hj)
+        at_place (λ (l : WayPath). last_location l.path) i g.place g.ends_there hi ∙ sym (at_place (λ (l : WayPath). first_location l.path) j g.place g.starts_there hj)
 
-    pub orbit_linked : (orbit : List ℕ) → IsOrbit next orbit → All (λ k. k < length order) orbit → AreLinked (is_some (after next (last orbit))) (map (λ (l : Line). l.path) (map (line_at (members ways order)) orbit))
+    pub orbit_linked : (orbit : List ℕ) → IsOrbit next orbit → All (λ k. k < length order) orbit → AreLinked (is_some (after next (last_number orbit))) (map (λ (l : WayPath). l.path) (map (line_at (ways_at ways order)) orbit))
     orbit_linked orbit is below =
-        let long = length-map (map (line_at (members ways order)) orbit) (λ (l : Line). l.path) ∙ length-map orbit (line_at (members ways order)) in
+        let long = length-map (map (line_at (ways_at ways order)) orbit) (λ (l : WayPath). l.path) ∙ length-map orbit (line_at (ways_at ways order)) in
         let some = is.some in
         record {
           some = omega arith;
-          lines = λ k d h. subst IsLine (sym (get_or_default (paths_in (members ways order) orbit) k d [] h ∙ at orbit k (omega arith))) (order_line (get_or orbit k 0) (below k 0 (omega arith)));
+          lines = λ k d h. subst IsLine (sym (get_or_default (paths_in (ways_at ways order) orbit) k d [] h ∙ at orbit k (omega arith))) (order_line (get_or orbit k 0) (below k 0 (omega arith)));
           steps = λ k h.
               let one : k + 1 ≡ suc k = omega arith in
-              ap last_of (at orbit k (omega arith)) ∙ (joint (get_or orbit k 0) (get_or orbit (suc k) 0) (below k 0 (omega arith)) (below (suc k) 0 (omega arith)) (is.steps k (omega arith) ∙ ap (λ m. Some (get_or orbit m 0)) one) ∙ ap first_of (sym (at orbit (suc k) (omega arith))));
-          closes = λ e. by (after next (last orbit)) refl e;
+              ap last_location (at orbit k (omega arith)) ∙ (joint (get_or orbit k 0) (get_or orbit (suc k) 0) (below k 0 (omega arith)) (below (suc k) 0 (omega arith)) (is.steps k (omega arith) ∙ ap (λ m. Some (get_or orbit m 0)) one) ∙ ap first_location (sym (at orbit (suc k) (omega arith))));
+          closes = λ e. by (after next (last_number orbit)) refl e;
         }
       where
-        at : (o : List ℕ) (k : ℕ) → k < length o → path_at (paths_in (members ways order) o) k ≡ (line_at (members ways order) (get_or o k 0)).path
-        at o k h = path_at-map (map (line_at (members ways order)) o) k ∙ ap (λ (l : Line). l.path) (get_or-map (line_at (members ways order)) o k 0 (record { id = pos 0; path = [] }) h)
+        at : (o : List ℕ) (k : ℕ) → k < length o → path_at (paths_in (ways_at ways order) o) k ≡ (line_at (ways_at ways order) (get_or o k 0)).path
+        at o k h = path_at-map (map (line_at (ways_at ways order)) o) k ∙ ap (λ (l : WayPath). l.path) (get_or-map (line_at (ways_at ways order)) o k 0 (record { id = pos 0; path = [] }) h)
 
-        by : (o : Option ℕ) → after next (last orbit) ≡ o → is_some o ≡ true → last_of (path_at (paths_in (members ways order) orbit) (length (paths_in (members ways order) orbit) - 1)) ≡ first_of (path_at (paths_in (members ways order) orbit) 0)
+        by : (o : Option ℕ) → after next (last_number orbit) ≡ o → is_some o ≡ true → last_location (path_at (paths_in (ways_at ways order) orbit) (length (paths_in (ways_at ways order) orbit) - 1)) ≡ first_location (path_at (paths_in (ways_at ways order) orbit) 0)
         by None e t = absurd (false≢true t)
         by (Some j) e t =
             let some = is.some in
-            let long = length-map (map (line_at (members ways order)) orbit) (λ (l : Line). l.path) ∙ length-map orbit (line_at (members ways order)) in
-            let n : length (paths_in (members ways order) orbit) - 1 ≡ length orbit - 1 = omega arith in
+            let long = length-map (map (line_at (ways_at ways order)) orbit) (λ (l : WayPath). l.path) ∙ length-map orbit (line_at (ways_at ways order)) in
+            let n : length (paths_in (ways_at ways order) orbit) - 1 ≡ length orbit - 1 = omega arith in
             let j_is = is.closes j e in
-            ap last_of (ap (path_at (paths_in (members ways order) orbit)) n ∙ at orbit (length orbit - 1) (omega arith))
-            ∙ (joint (last orbit) (get_or orbit 0 0) (below (length orbit - 1) 0 (omega arith)) (below 0 0 (omega arith)) (e ∙ ap Some j_is) ∙ ap first_of (sym (at orbit 0 (omega arith))))
+            ap last_location (ap (path_at (paths_in (ways_at ways order) orbit)) n ∙ at orbit (length orbit - 1) (omega arith))
+            ∙ (joint (last_number orbit) (get_or orbit 0 0) (below (length orbit - 1) 0 (omega arith)) (below 0 0 (omega arith)) (e ∙ ap Some j_is) ∙ ap first_location (sym (at orbit 0 (omega arith))))
 
-    pub is_chain : (orbit : List ℕ) (chain : Chain) → 0 < length orbit → All (λ k. k < length order) orbit → Makes (members ways (map (λ k. get_or order k 0) orbit)) (is_some (after next (last orbit))) chain → IsChain (members ways order) next orbit chain
+    pub is_chain : (orbit : List ℕ) (chain : Chain) → 0 < length orbit → All (λ k. k < length order) orbit → Makes (ways_at ways (map (λ k. get_or order k 0) orbit)) (is_some (after next (last_number orbit))) chain → IsChain (ways_at ways order) next orbit chain
     is_chain orbit chain some below makes =
         let same = same_members orbit below in
         record {
-          ways = makes.ways ∙ (ap (map (λ (l : Line). l.id)) same ∙ map-map (λ (l : Line). l.id) (line_at (members ways order)) orbit);
-          name = makes.name ∙ (ap (λ (ls : List Line). (line_at ls 0).id) same ∙ ap (λ (l : Line). l.id) (get_or-map (line_at (members ways order)) orbit 0 0 (record { id = pos 0; path = [] }) some));
+          ways = makes.ways ∙ (ap (map (λ (l : WayPath). l.id)) same ∙ map-map (λ (l : WayPath). l.id) (line_at (ways_at ways order)) orbit);
+          name = makes.name ∙ (ap (λ (ls : List WayPath). (line_at ls 0).id) same ∙ ap (λ (l : WayPath). l.id) (get_or-map (line_at (ways_at ways order)) orbit 0 0 (record { id = pos 0; path = [] }) some));
           closed = makes.closed;
-          path = makes.path ∙ (ap (λ b. joined b (map (λ (l : Line). l.path) (members ways (map (λ k. get_or order k 0) orbit)))) (sym makes.closed) ∙ ap (joined chain.closed) (ap (map (λ (l : Line). l.path)) same ∙ map-map (λ (l : Line). l.path) (line_at (members ways order)) orbit));
+          path = makes.path ∙ (ap (λ b. joined_path b (map (λ (l : WayPath). l.path) (ways_at ways (map (λ k. get_or order k 0) orbit)))) (sym makes.closed) ∙ ap (joined_path chain.closed) (ap (map (λ (l : WayPath). l.path)) same ∙ map-map (λ (l : WayPath). l.path) (line_at (ways_at ways order)) orbit));
         }
 
 -- ---- a list of vectors
@@ -263,24 +263,24 @@ order_inside ways order h =
     let n = length-map ways (λ (w : CoastWay). w.id) in
     subst (λ m. All (λ i. i < m) order) n (All-permutation (λ i. i < length (map (λ (w : CoastWay). w.id) ways)) (range_with_len 0 (length (map (λ (w : CoastWay). w.id) ways))) order h.each (range_below (length (map (λ (w : CoastWay). w.id) ways))))
 
-all_members : (ways : List CoastWay) → map (member ways) (range_with_len 0 (length ways)) ≡ map line_of ways
-all_members ways = sym (fill_by_all (member ways) (map line_of ways) (length ways) (record { id = pos 0; path = [] }) (length-map ways line_of) (λ k h. refl))
+all_members : (ways : List CoastWay) → map (member ways) (range_with_len 0 (length ways)) ≡ map way_path_of ways
+all_members ways = sym (fill_by_all (member ways) (map way_path_of ways) (length ways) (record { id = pos 0; path = [] }) (length-map ways way_path_of) (λ k h. refl))
 
-pub sorted_same : (ways : List CoastWay) (order : List ℕ) → AreById (map (λ (w : CoastWay). w.id) ways) order → IsPermutation (map line_of ways) (members ways order)
+pub sorted_same : (ways : List CoastWay) (order : List ℕ) → AreById (map (λ (w : CoastWay). w.id) ways) order → IsPermutation (map way_path_of ways) (ways_at ways order)
 sorted_same ways order h =
     let n = length-map ways (λ (w : CoastWay). w.id) in
     let each : IsPermutation (range_with_len 0 (length ways)) order = subst (λ m. IsPermutation (range_with_len 0 m) order) n h.each in
-    subst (λ (xs : List Line). IsPermutation xs (members ways order)) (all_members ways) (IsPermutation-map (member ways) (range_with_len 0 (length ways)) order each)
+    subst (λ (xs : List WayPath). IsPermutation xs (ways_at ways order)) (all_members ways) (IsPermutation-map (member ways) (range_with_len 0 (length ways)) order each)
 
 member_id : (ways : List CoastWay) (i : ℕ) → id_at (map (λ (w : CoastWay). w.id) ways) i ≡ (member ways i).id
 member_id [] i = refl
 member_id (w ∷ ways) zero = refl
 member_id (w ∷ ways) (suc i) = member_id ways i
 
-pub sorted_rising : (ways : List CoastWay) (order : List ℕ) → AreById (map (λ (w : CoastWay). w.id) ways) order → IsRising int_cmp (map (λ (l : Line). l.id) (members ways order))
+pub sorted_rising : (ways : List CoastWay) (order : List ℕ) → AreById (map (λ (w : CoastWay). w.id) ways) order → IsRising int_cmp (map (λ (l : WayPath). l.id) (ways_at ways order))
 sorted_rising ways order h =
-    let same : map (id_at (map (λ (w : CoastWay). w.id) ways)) order ≡ map (λ (l : Line). l.id) (members ways order) =
-    map-same (id_at (map (λ (w : CoastWay). w.id) ways)) (λ i. (member ways i).id) order (λ k d l. member_id ways (get_or order k d)) ∙ sym (map-map (λ (l : Line). l.id) (member ways) order) in
+    let same : map (id_at (map (λ (w : CoastWay). w.id) ways)) order ≡ map (λ (l : WayPath). l.id) (ways_at ways order) =
+    map-same (id_at (map (λ (w : CoastWay). w.id) ways)) (λ i. (member ways i).id) order (λ k d l. member_id ways (get_or order k d)) ∙ sym (map-map (λ (l : WayPath). l.id) (member ways) order) in
     subst (IsRising int_cmp) same h.rising
 
 -- ---- one more pair

@@ -10,7 +10,7 @@ use Rattle.lists.specs.Rising.{IsRising}
 use Rattle.coast_join.specs.declared.gap.Gap.{Gap}
 use Rattle.coast_join.specs.ById.{id_at}
 use Rattle.coast_join.specs.GapSteps.{gap_cmp}
-use Rattle.coast_join.specs.Taken.{AreTaken, pair_cmp}
+use Rattle.coast_join.specs.Taken.{AreTaken, named_gap_cmp}
 use Rattle.coast_join.proofs.OneTaken.{one_taken}
 
 abbrev pub IsBelow : ℕ → Gap → Type 0
@@ -32,7 +32,7 @@ module _ (names : List ℤ) (rising : IsRising int_cmp names) where
       (cases_lt j i))
       (cases_lt i j)
 
-  same_order : (g h : Gap) → IsBelow (length names) g → IsBelow (length names) h → pair_cmp names g h ≡ gap_cmp g h
+  same_order : (g h : Gap) → IsBelow (length names) g → IsBelow (length names) h → named_gap_cmp names g h ≡ gap_cmp g h
   same_order g h a b =
       ap (ordering_then (nat_cmp g.square h.square)) (
       ap (λ o. ordering_then o (int_cmp (id_at names g.to_chain) (id_at names h.to_chain))) (same_place g.from_chain h.from_chain a.0 b.0)
@@ -51,11 +51,11 @@ retold R S P same pairs taken all are = record {
     passes : (k : ℕ) (d : Gap) → k < length taken → P (get_or taken k d)
     passes k d h = All-contains P pairs (get_or taken k d) all ((are.exact (get_or taken k d)).0 (Contains-get_or taken k d h)).0
 
-pub by_names : (names : List ℤ) → IsRising int_cmp names → (pairs taken : List Gap) → All (IsBelow (length names)) pairs → AreTaken gap_cmp pairs taken → AreTaken (pair_cmp names) pairs taken
-by_names names rising pairs taken below = retold gap_cmp (pair_cmp names) (IsBelow (length names)) (λ g h a b. sym (same_order names rising g h a b)) pairs taken below
+pub by_names : (names : List ℤ) → IsRising int_cmp names → (pairs taken : List Gap) → All (IsBelow (length names)) pairs → AreTaken gap_cmp pairs taken → AreTaken (named_gap_cmp names) pairs taken
+by_names names rising pairs taken below = retold gap_cmp (named_gap_cmp names) (IsBelow (length names)) (λ g h a b. sym (same_order names rising g h a b)) pairs taken below
 
-by_places : (names : List ℤ) → IsRising int_cmp names → (pairs taken : List Gap) → All (IsBelow (length names)) pairs → AreTaken (pair_cmp names) pairs taken → AreTaken gap_cmp pairs taken
-by_places names rising pairs taken below = retold (pair_cmp names) gap_cmp (IsBelow (length names)) (same_order names rising) pairs taken below
+by_places : (names : List ℤ) → IsRising int_cmp names → (pairs taken : List Gap) → All (IsBelow (length names)) pairs → AreTaken (named_gap_cmp names) pairs taken → AreTaken gap_cmp pairs taken
+by_places names rising pairs taken below = retold (named_gap_cmp names) gap_cmp (IsBelow (length names)) (same_order names rising) pairs taken below
 
-pub one_by_names : (names : List ℤ) (pairs taken others : List Gap) → IsRising int_cmp names → All (IsBelow (length names)) pairs → AreTaken (pair_cmp names) pairs taken → AreTaken (pair_cmp names) pairs others → taken ≡ others
+pub one_by_names : (names : List ℤ) (pairs taken others : List Gap) → IsRising int_cmp names → All (IsBelow (length names)) pairs → AreTaken (named_gap_cmp names) pairs taken → AreTaken (named_gap_cmp names) pairs others → taken ≡ others
 one_by_names names pairs taken others rising below a b = one_taken pairs taken others (by_places names rising pairs taken below a) (by_places names rising pairs others below b)

@@ -14,7 +14,7 @@ use Rattle.coast_join.specs.declared.chain.Chain.{Chain}
 use Rattle.coast_join.specs.declared.gap.Gap.{Gap}
 use Rattle.coast_join.specs.declared.closing.OpenEnds.{OpenEnds}
 use Rattle.coast_join.specs.Closings.{gap_between, is_open, near_pairs, open_ends, open_ends_at, square_between}
-use Rattle.coast_join.specs.Line.{first_of, last_of}
+use Rattle.coast_join.specs.Line.{first_location, last_location}
 use Rattle.coast_join.specs.GapSteps.{gap_cmp}
 use Rattle.coast_join.specs.Taken.{AreTaken}
 use Rattle.coast_join.proofs.NearestFirst.{gap_cmp_total}
@@ -98,8 +98,8 @@ gap_names limit f t g e = by (nat_lt (square_between f.end t.start) (limit * lim
 pub ends_name : (place : ℕ) (c : Chain) (e : OpenEnds) → open_ends_at place c ≡ Some e → e.chain ≡ place
 ends_name place c e s = by (is_open c) s
   where
-    by : (b : Bool) → ◌≡◌ {A = Option OpenEnds} (if b then Some (record { chain = place; start = first_of c.path; end = last_of c.path }) else None) (Some e) → e.chain ≡ place
-    by true t = let is : ◌≡◌ {A = OpenEnds} (record { chain = place; start = first_of c.path; end = last_of c.path }) e = same_Some _ _ t in sym (ap (λ (x : OpenEnds). x.chain) is)
+    by : (b : Bool) → ◌≡◌ {A = Option OpenEnds} (if b then Some (record { chain = place; start = first_location c.path; end = last_location c.path }) else None) (Some e) → e.chain ≡ place
+    by true t = let is : ◌≡◌ {A = OpenEnds} (record { chain = place; start = first_location c.path; end = last_location c.path }) e = same_Some _ _ t in sym (ap (λ (x : OpenEnds). x.chain) is)
     by false t = absurd (cc)
 
 pub ends_below : (chains : List Chain) → All (λ (e : OpenEnds). e.chain < length chains) (open_ends chains)

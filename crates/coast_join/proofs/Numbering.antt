@@ -15,7 +15,7 @@ use Rattle.osm_lattice.specs.Loc.{loc_cmp}
 use Rattle.osm_lattice.specs.OrderLaws.{LocationOrderTellsApart}
 use Rattle.lists.specs.Rising.{count_of}
 use Rattle.orbits.specs.Orbits.{after, IsOneToOne}
-use Rattle.coast_join.specs.Links.{before, AreNumbered, AreLinks, GoesOn, key_cmp}
+use Rattle.coast_join.specs.Links.{count_before, AreNumbered, AreNextWays, GoesOnTo, key_cmp}
 
 -- ---- places of a list
 
@@ -43,17 +43,17 @@ tied p = rw (tied_itself loc_cmp_total p) refl
 
 -- ---- counts
 
-pub before_push : (p q : Loc) (xs : List Loc) (k : ℕ) → k ≤ length xs → before p (xs ++ q ∷ []) k ≡ before p xs k
+pub before_push : (p q : Loc) (xs : List Loc) (k : ℕ) → k ≤ length xs → count_before p (xs ++ q ∷ []) k ≡ count_before p xs k
 before_push p q xs k h = ap (λ ys. count_of loc_cmp p ys) (take-append-le k xs (q ∷ []) h)
 
-pub before_all : (p : Loc) (xs : List Loc) (k : ℕ) → length xs ≤ k → before p xs k ≡ count_of loc_cmp p xs
+pub before_all : (p : Loc) (xs : List Loc) (k : ℕ) → length xs ≤ k → count_before p xs k ≡ count_of loc_cmp p xs
 before_all p xs k h = ap (λ ys. count_of loc_cmp p ys) (take_all k xs h)
 
 pub count_push : (p q : Loc) (xs : List Loc) → count_of loc_cmp p (xs ++ q ∷ []) ≡ count_of loc_cmp p xs + cond {A = ℕ} (is_eq (loc_cmp q p)) 1 0
 count_push p q xs = sum_by_push (λ y. cond {A = ℕ} (is_eq (loc_cmp y p)) 1 0) xs q
 
 -- what stands at a place stands there once more than before it
-pub before_less : (p : Loc) (xs : List Loc) (i j : ℕ) → i < j → slice_get xs i ≡ Some p → before p xs i < before p xs j
+pub before_less : (p : Loc) (xs : List Loc) (i j : ℕ) → i < j → slice_get xs i ≡ Some p → count_before p xs i < count_before p xs j
 before_less p xs i j h e =
     let inside = slice_get_within xs i p e in
     let f : Loc → ℕ = λ y. cond {A = ℕ} (is_eq (loc_cmp y p)) 1 0 in
@@ -73,15 +73,15 @@ numbered_none k = refl
 pub numbered_push : (xs : List Loc) (v : List (Loc × ℕ)) (p : Loc) (n : ℕ) → length v ≡ length xs → n ≡ count_of loc_cmp p xs → AreNumbered xs v → AreNumbered (xs ++ p ∷ []) (v ++ (p, n) ∷ [])
 numbered_push xs v p n sized counted h k = ⊎_elim
     (λ l. let lv : k < length v = omega arith in
-    get_old v (p, n) k lv ∙ (h k ∙ (old (slice_get xs k) (λ q. sym (before_push q p xs k (omega arith))) ∙ ap (option_map (λ q. (q, before q (xs ++ p ∷ []) k))) (sym (get_old xs p k l)))))
+    get_old v (p, n) k lv ∙ (h k ∙ (old (slice_get xs k) (λ q. sym (before_push q p xs k (omega arith))) ∙ ap (option_map (λ q. (q, count_before q (xs ++ p ∷ []) k))) (sym (get_old xs p k l)))))
     (λ l. ⊎_elim
-    (λ b. get_beyond v (p, n) k (omega arith) ∙ ap (option_map (λ q. (q, before q (xs ++ p ∷ []) k))) (sym (get_beyond xs p k b)))
+    (λ b. get_beyond v (p, n) k (omega arith) ∙ ap (option_map (λ q. (q, count_before q (xs ++ p ∷ []) k))) (sym (get_beyond xs p k b)))
     (λ b. let is : k ≡ length xs = omega arith in
-    get_new v (p, n) k (omega arith) ∙ (ap (λ m. Some (p, m)) (counted ∙ sym (before_push p p xs k (omega arith) ∙ before_all p xs k l)) ∙ ap (option_map (λ q. (q, before q (xs ++ p ∷ []) k))) (sym (get_new xs p k is))))
+    get_new v (p, n) k (omega arith) ∙ (ap (λ m. Some (p, m)) (counted ∙ sym (before_push p p xs k (omega arith) ∙ before_all p xs k l)) ∙ ap (option_map (λ q. (q, count_before q (xs ++ p ∷ []) k))) (sym (get_new xs p k is))))
     (cases_lt (length xs) k))
     (cases_lt k (length xs))
   where
-    old : (o : Option Loc) → ((q : Loc) → before q xs k ≡ before q (xs ++ p ∷ []) k) → ◌≡◌ {A = Option (Loc × ℕ)} (option_map (λ q. (q, before q xs k)) o) (option_map (λ q. (q, before q (xs ++ p ∷ []) k)) o)
+    old : (o : Option Loc) → ((q : Loc) → count_before q xs k ≡ count_before q (xs ++ p ∷ []) k) → ◌≡◌ {A = Option (Loc × ℕ)} (option_map (λ q. (q, count_before q xs k)) o) (option_map (λ q. (q, count_before q (xs ++ p ∷ []) k)) o)
     old None same = refl
     old (Some q) same = ap (λ m. Some (q, m)) (same q)
 
@@ -92,22 +92,22 @@ alike_sized (x ∷ xs) [] f h = let e = h 0 in absurd (cc)
 alike_sized (x ∷ xs) (y ∷ ys) f h = ap (λ n. suc n) (alike_sized xs ys (λ k. f (suc k)) (λ k. h (suc k)))
 
 pub numbered_sized : (xs : List Loc) (v : List (Loc × ℕ)) → AreNumbered xs v → length v ≡ length xs
-numbered_sized xs v h = alike_sized xs v (λ k p. (p, before p xs k)) h
+numbered_sized xs v h = alike_sized xs v (λ k p. (p, count_before p xs k)) h
 
-pub numbered_at : (xs : List Loc) (v : List (Loc × ℕ)) (i : ℕ) (k : Loc × ℕ) → AreNumbered xs v → slice_get v i ≡ Some k → (slice_get xs i ≡ Some k.0) × (k.1 ≡ before k.0 xs i)
+pub numbered_at : (xs : List Loc) (v : List (Loc × ℕ)) (i : ℕ) (k : Loc × ℕ) → AreNumbered xs v → slice_get v i ≡ Some k → (slice_get xs i ≡ Some k.0) × (k.1 ≡ count_before k.0 xs i)
 numbered_at xs v i k h e = by (slice_get xs i) refl (sym e ∙ h i)
   where
-    by : (o : Option Loc) → slice_get xs i ≡ o → ◌≡◌ {A = Option (Loc × ℕ)} (Some k) (option_map (λ p. (p, before p xs i)) o) → (slice_get xs i ≡ Some k.0) × (k.1 ≡ before k.0 xs i)
+    by : (o : Option Loc) → slice_get xs i ≡ o → ◌≡◌ {A = Option (Loc × ℕ)} (Some k) (option_map (λ p. (p, count_before p xs i)) o) → (slice_get xs i ≡ Some k.0) × (k.1 ≡ count_before k.0 xs i)
     by None n t = absurd (cc)
     by (Some p) n t =
-        let pair : k ≡ (p, before p xs i) = same_Some k (p, before p xs i) t in
+        let pair : k ≡ (p, count_before p xs i) = same_Some k (p, count_before p xs i) t in
         let first : k.0 ≡ p = ap (λ (q : Loc × ℕ). q.0) pair in
-        (n ∙ ap Some (sym first), ap (λ (q : Loc × ℕ). q.1) pair ∙ ap (λ q. before q xs i) (sym first))
+        (n ∙ ap Some (sym first), ap (λ (q : Loc × ℕ). q.1) pair ∙ ap (λ q. count_before q xs i) (sym first))
 
 -- ---- the map from location and number to place
 
 abbrev pub ArePlaces : List Loc → (Loc × ℕ → Option ℕ) → Type 0
-ArePlaces xs f = (p : Loc) (r j : ℕ) → (f (p, r) ≡ Some j) ↔ ((slice_get xs j ≡ Some p) × (before p xs j ≡ r))
+ArePlaces xs f = (p : Loc) (r j : ℕ) → (f (p, r) ≡ Some j) ↔ ((slice_get xs j ≡ Some p) × (count_before p xs j ≡ r))
 
 pub places_none : (f : Loc × ℕ → Option ℕ) → ((k : Loc × ℕ) → f k ≡ None) → ArePlaces [] f
 places_none f none p r j = ((λ e. let n = none (p, r) in absurd (cc)), (λ (e, m). absurd (cc)))
@@ -134,7 +134,7 @@ places_push exact xs f g k n here counted h update p r j = by (is_eq (key_cmp k 
     ys : List Loc
     ys = xs ++ k.0 ∷ []
 
-    by : (b : Bool) → is_eq (key_cmp k (p, r)) ≡ b → (g (p, r) ≡ Some j) ↔ ((slice_get (xs ++ k.0 ∷ []) j ≡ Some p) × (before p (xs ++ k.0 ∷ []) j ≡ r))
+    by : (b : Bool) → is_eq (key_cmp k (p, r)) ≡ b → (g (p, r) ≡ Some j) ↔ ((slice_get (xs ++ k.0 ∷ []) j ≡ Some p) × (count_before p (xs ++ k.0 ∷ []) j ≡ r))
     by true e =
         let is = same_key exact k (p, r) e in
         let gives : g (p, r) ≡ Some n = update (p, r) ∙ ap (λ b. cond b (Some n) (f (p, r))) e in (
@@ -197,35 +197,35 @@ module _ (f : Loc × ℕ → Option ℕ) where
   reads_none (x ∷ ks) zero e = absurd (cc)
   reads_none (x ∷ ks) (suc i) e = reads_none ks i e
 
-  pub links_are : (ends starts : List Loc) (keys : List (Loc × ℕ)) → length keys ≡ length ends → AreNumbered ends keys → ArePlaces starts f → AreLinks ends starts (map f keys)
+  pub links_are : (ends starts : List Loc) (keys : List (Loc × ℕ)) → length keys ≡ length ends → AreNumbered ends keys → ArePlaces starts f → AreNextWays ends starts (map f keys)
   links_are ends starts keys sized numbered places = record {
     sized = length-map keys f ∙ sized;
     exact = λ i j. ((λ e. forth i j (slice_get ends i) refl e), back i j);
   }
     where
-      forth : (i j : ℕ) (o : Option Loc) → slice_get ends i ≡ o → after (map f keys) i ≡ Some j → GoesOn ends starts i j
-      forth i j None e t = let gone = reads_none keys i (numbered i ∙ ap (option_map (λ q. (q, before q ends i))) e) in absurd (cc)
+      forth : (i j : ℕ) (o : Option Loc) → slice_get ends i ≡ o → after (map f keys) i ≡ Some j → GoesOnTo ends starts i j
+      forth i j None e t = let gone = reads_none keys i (numbered i ∙ ap (option_map (λ q. (q, count_before q ends i))) e) in absurd (cc)
       forth i j (Some p) e t =
-          let key = reads keys i (p, before p ends i) (numbered i ∙ ap (option_map (λ q. (q, before q ends i))) e) in
-          let at = (places p (before p ends i) j).0 (sym key ∙ t) in
+          let key = reads keys i (p, count_before p ends i) (numbered i ∙ ap (option_map (λ q. (q, count_before q ends i))) e) in
+          let at = (places p (count_before p ends i) j).0 (sym key ∙ t) in
           record { place = p; ends_there = e; starts_there = at.0; alike = sym at.1 }
 
-      back : (i j : ℕ) → GoesOn ends starts i j → after (map f keys) i ≡ Some j
+      back : (i j : ℕ) → GoesOnTo ends starts i j → after (map f keys) i ≡ Some j
       back i j g =
-          reads keys i (g.place, before g.place ends i) (numbered i ∙ ap (option_map (λ q. (q, before q ends i))) g.ends_there)
-          ∙ (places g.place (before g.place ends i) j).1 (g.starts_there, sym g.alike)
+          reads keys i (g.place, count_before g.place ends i) (numbered i ∙ ap (option_map (λ q. (q, count_before q ends i))) g.ends_there)
+          ∙ (places g.place (count_before g.place ends i) j).1 (g.starts_there, sym g.alike)
 
-pub one_to_one : (ends starts : List Loc) (next : List (Option ℕ)) → length starts ≡ length ends → AreLinks ends starts next → IsOneToOne next
+pub one_to_one : (ends starts : List Loc) (next : List (Option ℕ)) → length starts ≡ length ends → AreNextWays ends starts next → IsOneToOne next
 one_to_one ends starts next sized links = record {
   within = λ i j e. let g = (links.exact i j).0 e in let l = slice_get_within starts j g.place g.starts_there in let n = links.sized in omega arith;
   one = λ i k j e d. one i k j ((links.exact i j).0 e) ((links.exact k j).0 d);
 }
   where
-    one : (i k j : ℕ) → GoesOn ends starts i j → GoesOn ends starts k j → i ≡ k
+    one : (i k j : ℕ) → GoesOnTo ends starts i j → GoesOnTo ends starts k j → i ≡ k
     one i k j g h =
         let same : g.place ≡ h.place = same_Some _ _ (sym g.starts_there ∙ h.starts_there) in
         let hk : slice_get ends k ≡ Some g.place = h.ends_there ∙ ap Some (sym same) in
-        let hb : before g.place ends k ≡ before g.place starts j = subst (λ (p : Loc). before p ends k ≡ before p starts j) (sym same) h.alike in
+        let hb : count_before g.place ends k ≡ count_before g.place starts j = subst (λ (p : Loc). count_before p ends k ≡ count_before p starts j) (sym same) h.alike in
         let gb = g.alike in
         ⊎_elim (λ l. let less = before_less g.place ends i k l g.ends_there in absurd (omega arith))
         (λ l. ⊎_elim (λ m. let less = before_less g.place ends k i m hk in absurd (omega arith)) (λ m. omega arith) (cases_lt k i))

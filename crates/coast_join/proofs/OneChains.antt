@@ -12,13 +12,13 @@ use Rattle.lists.specs.Member.{EachPair, In}
 use Rattle.lists.specs.Rising.{IsRising}
 use Rattle.lists.proofs.ListsKit.{all-in, in-all, pairs-each, pairs-out-of-map}
 use Rattle.orbits.specs.OrbitLaws.{OrbitsAreOne}
-use Rattle.orbits.specs.Orbits.{AreInOrder, AreOrbits, IsOneToOne, after}
+use Rattle.orbits.specs.Orbits.{AreOrbits, AreOrbitsInOrder, IsOneToOne, after}
 use Rattle.osm_lattice.specs.declared.loc.Loc.{Loc}
 use Rattle.coast_join.specs.declared.chain.Chain.{Chain}
-use Rattle.coast_join.specs.Chains.{IsChain, Line, joined, line_at, line_of}
+use Rattle.coast_join.specs.Chains.{IsChain, WayPath, joined_path, line_at, way_path_of}
 use Rattle.coast_join.specs.ChainLaws.{ChainsAreOne}
-use Rattle.coast_join.specs.Line.{IsLine, first_of, last_of}
-use Rattle.coast_join.specs.Links.{AreLinks}
+use Rattle.coast_join.specs.Line.{IsLine, first_location, last_location}
+use Rattle.coast_join.specs.Links.{AreNextWays}
 use Rattle.coast_join.proofs.Numbering.{one_to_one}
 use mathlib.Core.HLevel.{is_prop→PathP}
 
@@ -74,7 +74,7 @@ same_options (x ∷ xs) (y ∷ ys) sized same =
     let rest = same_options xs ys (omega arith) (λ i. same (suc i)) in
     cc
 
-one_next : (ends starts : List Loc) (a b : List (Option ℕ)) → AreLinks ends starts a → AreLinks ends starts b → a ≡ b
+one_next : (ends starts : List Loc) (a b : List (Option ℕ)) → AreNextWays ends starts a → AreNextWays ends starts b → a ≡ b
 one_next ends starts a b la lb = same_options a b (la.sized ∙ sym lb.sized) (λ i. by i (after a i) (after b i) refl refl)
   where
     by : (i : ℕ) (o p : Option ℕ) → after a i ≡ o → after b i ≡ p → after a i ≡ after b i
@@ -101,12 +101,12 @@ chain_from_fields c d n w p b = λ i. record {
   some = is_prop→PathP (λ j. 0 < length (w j)) (λ j. some_prop (w j)) c.some d.some i;
 }
 
-one_chain : (lines : List Line) (next : List (Option ℕ)) (o : List ℕ) (c d : Chain) → IsChain lines next o c → IsChain lines next o d → c ≡ d
+one_chain : (lines : List WayPath) (next : List (Option ℕ)) (o : List ℕ) (c d : Chain) → IsChain lines next o c → IsChain lines next o d → c ≡ d
 one_chain lines next o c d ic id =
     let closed : c.closed ≡ d.closed = ic.closed ∙ sym id.closed in
-    chain_from_fields c d (ic.name ∙ sym id.name) (ic.ways ∙ sym id.ways) (ic.path ∙ (ap (λ b. joined b (map (λ i. (line_at lines i).path) o)) closed ∙ sym id.path)) closed
+    chain_from_fields c d (ic.name ∙ sym id.name) (ic.ways ∙ sym id.ways) (ic.path ∙ (ap (λ b. joined_path b (map (λ i. (line_at lines i).path) o)) closed ∙ sym id.path)) closed
 
-all_one : (lines : List Line) (next : List (Option ℕ)) (os : List (List ℕ)) (cs ds : List Chain) → AllZip (IsChain lines next) os cs → AllZip (IsChain lines next) os ds → cs ≡ ds
+all_one : (lines : List WayPath) (next : List (Option ℕ)) (os : List (List ℕ)) (cs ds : List Chain) → AllZip (IsChain lines next) os cs → AllZip (IsChain lines next) os ds → cs ≡ ds
 all_one lines next [] [] [] zc zd = refl
 all_one lines next [] [] (d ∷ ds) zc zd = absurd zd
 all_one lines next [] (c ∷ cs) ds zc zd = absurd zc
@@ -122,25 +122,25 @@ all_one lines next (o ∷ os) (c ∷ cs) (d ∷ ds) zc zd =
 pub one_list : OrbitsAreOne → ChainsAreOne
 one_list orbits_one ways cs ds c d = all_one c.sorted c.next c.orbits cs ds c.each (subst (λ os. AllZip (IsChain c.sorted c.next) os ds) (sym orbits) each)
   where
-    up : (lines : List Line) → IsRising int_cmp (map (λ (l : Line). l.id) lines) → EachPair (λ (x y : Line). int_cmp x.id y.id ≡ Less) lines
-    up lines rising = pairs-out-of-map (λ x y. int_cmp x y ≡ Less) (λ (l : Line). l.id) lines (pairs-each (λ x y. int_cmp x y ≡ Less) (map (λ (l : Line). l.id) lines) rising)
+    up : (lines : List WayPath) → IsRising int_cmp (map (λ (l : WayPath). l.id) lines) → EachPair (λ (x y : WayPath). int_cmp x.id y.id ≡ Less) lines
+    up lines rising = pairs-out-of-map (λ x y. int_cmp x y ≡ Less) (λ (l : WayPath). l.id) lines (pairs-each (λ x y. int_cmp x y ≡ Less) (map (λ (l : WayPath). l.id) lines) rising)
 
     sorted : c.sorted ≡ d.sorted
-    sorted = one_order (λ (l : Line). l.id) (map line_of ways) c.sorted d.sorted c.same d.same (up c.sorted c.rising) (up d.sorted d.rising)
+    sorted = one_order (λ (l : WayPath). l.id) (map way_path_of ways) c.sorted d.sorted c.same d.same (up c.sorted c.rising) (up d.sorted d.rising)
 
-    links : AreLinks (map (λ (l : Line). last_of l.path) c.sorted) (map (λ (l : Line). first_of l.path) c.sorted) d.next
-    links = subst (λ (lines : List Line). AreLinks (map (λ (l : Line). last_of l.path) lines) (map (λ (l : Line). first_of l.path) lines) d.next) (sym sorted) d.links
+    links : AreNextWays (map (λ (l : WayPath). last_location l.path) c.sorted) (map (λ (l : WayPath). first_location l.path) c.sorted) d.next
+    links = subst (λ (lines : List WayPath). AreNextWays (map (λ (l : WayPath). last_location l.path) lines) (map (λ (l : WayPath). first_location l.path) lines) d.next) (sym sorted) d.links
 
     next : c.next ≡ d.next
-    next = one_next (map (λ (l : Line). last_of l.path) c.sorted) (map (λ (l : Line). first_of l.path) c.sorted) c.next d.next c.links links
+    next = one_next (map (λ (l : WayPath). last_location l.path) c.sorted) (map (λ (l : WayPath). first_location l.path) c.sorted) c.next d.next c.links links
 
     goes : IsOneToOne c.next
-    goes = one_to_one (map (λ (l : Line). last_of l.path) c.sorted) (map (λ (l : Line). first_of l.path) c.sorted) c.next (length-map c.sorted (λ (l : Line). first_of l.path) ∙ sym (length-map c.sorted (λ (l : Line). last_of l.path))) c.links
+    goes = one_to_one (map (λ (l : WayPath). last_location l.path) c.sorted) (map (λ (l : WayPath). first_location l.path) c.sorted) c.next (length-map c.sorted (λ (l : WayPath). first_location l.path) ∙ sym (length-map c.sorted (λ (l : WayPath). last_location l.path))) c.links
 
     orbits : c.orbits ≡ d.orbits
     orbits = orbits_one c.next goes c.orbits d.orbits c.are_orbits c.in_order
         (subst (λ n. AreOrbits n d.orbits) (sym next) d.are_orbits)
-        (subst (λ n. AreInOrder n d.orbits) (sym next) d.in_order)
+        (subst (λ n. AreOrbitsInOrder n d.orbits) (sym next) d.in_order)
 
     each : AllZip (IsChain c.sorted c.next) d.orbits ds
-    each = subst (λ (lines : List Line). AllZip (IsChain lines c.next) d.orbits ds) (sym sorted) (subst (λ n. AllZip (IsChain d.sorted n) d.orbits ds) (sym next) d.each)
+    each = subst (λ (lines : List WayPath). AllZip (IsChain lines c.next) d.orbits ds) (sym sorted) (subst (λ n. AllZip (IsChain d.sorted n) d.orbits ds) (sym next) d.each)

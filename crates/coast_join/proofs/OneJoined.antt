@@ -10,7 +10,7 @@ use Rattle.std.proofs.lemmas.List.{get_or_past}
 use Rattle.std.proofs.lemmas.List.Elements.{All-contains}
 use Rattle.osm_lattice.specs.declared.loc.Loc.{Loc}
 use Rattle.orbits.specs.OrbitLaws.{OrbitsAreOne}
-use Rattle.orbits.specs.Orbits.{after, AreInOrder, AreOrbits, IsOneToOne}
+use Rattle.orbits.specs.Orbits.{after, AreOrbitsInOrder, AreOrbits, IsOneToOne}
 use Rattle.coast_join.specs.declared.chain.Chain.{Chain}
 use Rattle.coast_join.specs.declared.gap.Closings.{Closings}
 use Rattle.coast_join.specs.declared.gap.Gap.{Gap}
@@ -18,9 +18,9 @@ use Rattle.coast_join.specs.declared.ring.CoastRing.{CoastRing}
 use Rattle.coast_join.specs.declared.ring.Joined.{Joined}
 use Rattle.coast_join.specs.ById.{id_at}
 use Rattle.coast_join.specs.Closings.{AreClosings, is_open, names_of}
-use Rattle.coast_join.specs.Joined.{AreJoined, AreNext, IsLeast, IsRing, IsUnclosed, chains_at, is_closed}
+use Rattle.coast_join.specs.Joined.{AreJoined, AreNext, IsCoastRing, IsLeast, IsUnclosed, chains_at, is_closed_orbit}
 use Rattle.coast_join.specs.Round.{IsRound}
-use Rattle.coast_join.specs.Taken.{pair_cmp}
+use Rattle.coast_join.specs.Taken.{named_gap_cmp}
 use Rattle.coast_join.proofs.Following.{next_one}
 use Rattle.coast_join.proofs.OneChains.{chain_from_fields, one_order, same_options}
 use Rattle.lists.proofs.ListsKit.{pairs-each, same_from_least}
@@ -82,7 +82,7 @@ same_joined j k r u =
     one ∙ two
 
 module _ (chains : List Chain) where
-  one_ring : (o : List ℕ) (r s : CoastRing) → IsRing (chains_at chains o) r → IsRing (chains_at chains o) s → r ≡ s
+  one_ring : (o : List ℕ) (r s : CoastRing) → IsCoastRing (chains_at chains o) r → IsCoastRing (chains_at chains o) s → r ≡ s
   one_ring o r s ir is = ring_from_fields r s (one_least _ r.name s.name ir.name is.name) (ir.path ∙ sym is.path)
 
   one_unclosed : (o : List ℕ) (c d : Chain) → IsUnclosed (chains_at chains o) c → IsUnclosed (chains_at chains o) d → c ≡ d
@@ -97,25 +97,25 @@ module _ (chains : List Chain) where
       next = one_next chains closings.gaps ak.next aj.next ak.are_next aj.are_next
 
       one : IsOneToOne aj.next
-      one = next_one (pair_cmp (names_of chains)) limit chains closings.gaps are.gaps aj.next aj.are_next
+      one = next_one (named_gap_cmp (names_of chains)) limit chains closings.gaps are.gaps aj.next aj.are_next
 
       orbits : ak.orbits ≡ aj.orbits
-      orbits = one_orbits aj.next one ak.orbits aj.orbits (subst (λ n. AreOrbits n ak.orbits) next ak.are_orbits) (subst (λ n. AreInOrder n ak.orbits) next ak.in_order) aj.are_orbits aj.in_order
+      orbits = one_orbits aj.next one ak.orbits aj.orbits (subst (λ n. AreOrbits n ak.orbits) next ak.are_orbits) (subst (λ n. AreOrbitsInOrder n ak.orbits) next ak.in_order) aj.are_orbits aj.in_order
 
-      closed : filter (is_closed ak.next) ak.orbits ≡ filter (is_closed aj.next) aj.orbits
-      closed = ap (λ n. filter (is_closed n) ak.orbits) next ∙ ap (filter (is_closed aj.next)) orbits
+      closed : filter (is_closed_orbit ak.next) ak.orbits ≡ filter (is_closed_orbit aj.next) aj.orbits
+      closed = ap (λ n. filter (is_closed_orbit n) ak.orbits) next ∙ ap (filter (is_closed_orbit aj.next)) orbits
 
-      open_ones : filter (λ o. not (is_closed ak.next o)) ak.orbits ≡ filter (λ o. not (is_closed aj.next o)) aj.orbits
-      open_ones = ap (λ n. filter (λ o. not (is_closed n o)) ak.orbits) next ∙ ap (filter (λ o. not (is_closed aj.next o))) orbits
+      open_ones : filter (λ o. not (is_closed_orbit ak.next o)) ak.orbits ≡ filter (λ o. not (is_closed_orbit aj.next o)) aj.orbits
+      open_ones = ap (λ n. filter (λ o. not (is_closed_orbit n o)) ak.orbits) next ∙ ap (filter (λ o. not (is_closed_orbit aj.next o))) orbits
 
       same : ak.rings ≡ aj.rings
-      same = one_zip (λ (o : List ℕ) (r : CoastRing). IsRing (chains_at chains o) r) one_ring (filter (is_closed aj.next) aj.orbits) ak.rings aj.rings
-          (subst (λ os. AllZip (λ (o : List ℕ) (r : CoastRing). IsRing (chains_at chains o) r) os ak.rings) closed ak.each_ring) aj.each_ring
+      same = one_zip (λ (o : List ℕ) (r : CoastRing). IsCoastRing (chains_at chains o) r) one_ring (filter (is_closed_orbit aj.next) aj.orbits) ak.rings aj.rings
+          (subst (λ os. AllZip (λ (o : List ℕ) (r : CoastRing). IsCoastRing (chains_at chains o) r) os ak.rings) closed ak.each_ring) aj.each_ring
 
       rings : j.rings ≡ k.rings
       rings = one_order (λ (r : CoastRing). r.name) aj.rings j.rings k.rings aj.same (subst (λ (rs : List CoastRing). IsPermutation rs k.rings) same ak.same)
           (pairs-each (λ (x : CoastRing) (y : CoastRing). int_cmp x.name y.name ≡ Less) j.rings aj.rings_rise) (pairs-each (λ (x : CoastRing) (y : CoastRing). int_cmp x.name y.name ≡ Less) k.rings ak.rings_rise)
 
       unclosed : j.unclosed ≡ k.unclosed
-      unclosed = one_zip (λ (o : List ℕ) (c : Chain). IsUnclosed (chains_at chains o) c) one_unclosed (filter (λ o. not (is_closed aj.next o)) aj.orbits) j.unclosed k.unclosed aj.each_unclosed
+      unclosed = one_zip (λ (o : List ℕ) (c : Chain). IsUnclosed (chains_at chains o) c) one_unclosed (filter (λ o. not (is_closed_orbit aj.next o)) aj.orbits) j.unclosed k.unclosed aj.each_unclosed
           (subst (λ os. AllZip (λ (o : List ℕ) (c : Chain). IsUnclosed (chains_at chains o) c) os k.unclosed) open_ones ak.each_unclosed)

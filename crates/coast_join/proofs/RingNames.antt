@@ -20,10 +20,10 @@ use Rattle.coast_join.specs.declared.chain.Chain.{Chain}
 use Rattle.coast_join.specs.declared.ring.CoastRing.{CoastRing}
 use Rattle.coast_join.specs.declared.way.CoastWay.{CoastWay}
 use Rattle.coast_join.specs.ById.{id_at}
-use Rattle.coast_join.specs.Chains.{AreChains, IsChain, Line, line_at}
+use Rattle.coast_join.specs.Chains.{AreChains, IsChain, WayPath, line_at}
 use Rattle.coast_join.specs.ChainLaws.{NamesRise}
 use Rattle.coast_join.specs.Closings.{names_of}
-use Rattle.coast_join.specs.Joined.{IsLeast, IsRing, IsUnclosed, chains_at, ways_of}
+use Rattle.coast_join.specs.Joined.{IsCoastRing, IsLeast, IsUnclosed, chains_at, ways_of}
 use Rattle.coast_join.specs.JoinSteps.{AreParts}
 use Rattle.lists.proofs.ListsKit.{at-in, count_by-cons, in-all, in-filter, in-either, in-map-out, int_eq-same, int_eq-true, total, total-is}
 
@@ -121,7 +121,7 @@ flat_in h (x ∷ xs) z i = ⊎_elim (λ a. (x, inl refl, a)) (λ b. let r = flat
 not_less : (a b : ℤ) → a ≡ b → int_cmp a b ≡ Less → ⊥
 not_less a b e l = let t : int_cmp a b ≡ Equal = ap (int_cmp a) (sym e) ∙ tied_itself int_cmp_total a in let c : Less ≡ Equal = sym l ∙ t in absurd (cc)
 
-abbrev some_line : Line
+abbrev some_line : WayPath
 some_line = record { id = pos 0; path = [] }
 
 module _ (ways : List CoastWay) (chains : List Chain) (are : AreChains ways chains) where
@@ -130,9 +130,9 @@ module _ (ways : List CoastWay) (chains : List Chain) (are : AreChains ways chai
 
   id_less : (i j : ℕ) → i < j → j < length are.sorted → int_cmp (line_at are.sorted i).id (line_at are.sorted j).id ≡ Less
   id_less i j h l =
-      let long = length-map are.sorted (λ (x : Line). x.id) in
-      let a = get_or-map (λ (x : Line). x.id) are.sorted i some_line (pos 0) (omega arith) in
-      let b = get_or-map (λ (x : Line). x.id) are.sorted j some_line (pos 0) (omega arith) in
+      let long = length-map are.sorted (λ (x : WayPath). x.id) in
+      let a = get_or-map (λ (x : WayPath). x.id) are.sorted i some_line (pos 0) (omega arith) in
+      let b = get_or-map (λ (x : WayPath). x.id) are.sorted j some_line (pos 0) (omega arith) in
       let less = are.rising i j (pos 0) h (omega arith) in
       rw (a, b) at less
 
@@ -168,13 +168,13 @@ module _ (ways : List CoastWay) (chains : List Chain) (are : AreChains ways chai
       let same : a.line ≡ b.line = one_id a.line b.line (omega arith) (omega arith) (sym a.is ∙ b.is) in
       same_list (length are.next) are.orbits are.are_orbits.once b.line a.chain b.chain a.inside b.inside (subst (λ i. In i (get_or are.orbits a.chain [])) same a.within) b.within
 
-  module _ (n : ℕ) (os : List (List ℕ)) (each : HoldEachOnce n os) (keeps : List ℕ → Bool) (rings : List CoastRing) (made : AllZip (λ (o : List ℕ) (r : CoastRing). IsRing (chains_at chains o) r) (filter keeps os) rings) where
+  module _ (n : ℕ) (os : List (List ℕ)) (each : HoldEachOnce n os) (keeps : List ℕ → Bool) (rings : List CoastRing) (made : AllZip (λ (o : List ℕ) (r : CoastRing). IsCoastRing (chains_at chains o) r) (filter keeps os) rings) where
     rings_apart : (a b : ℕ) (d : CoastRing) → a < b → b < length rings → (get_or rings a d).name ≢ (get_or rings b d).name
     rings_apart a b d h l e =
         let r = get_or rings a d in
         let s = get_or rings b d in
-        let za = zip_at (λ (o : List ℕ) (r : CoastRing). IsRing (chains_at chains o) r) (filter keeps os) rings a r made (slice_get-get_or rings a d (omega arith)) in
-        let zb = zip_at (λ (o : List ℕ) (r : CoastRing). IsRing (chains_at chains o) r) (filter keeps os) rings b s made (slice_get-get_or rings b d l) in
+        let za = zip_at (λ (o : List ℕ) (r : CoastRing). IsCoastRing (chains_at chains o) r) (filter keeps os) rings a r made (slice_get-get_or rings a d (omega arith)) in
+        let zb = zip_at (λ (o : List ℕ) (r : CoastRing). IsCoastRing (chains_at chains o) r) (filter keeps os) rings b s made (slice_get-get_or rings b d l) in
         let na = named (get_or (filter keeps os) a []) s.name (subst (IsLeast (ways_of (chains_at chains (get_or (filter keeps os) a [])))) e (za.1 []).name) in
         let nb = named (get_or (filter keeps os) b []) s.name (zb.1 []).name in
         let same = same_chain (get_or (filter keeps os) a []) (get_or (filter keeps os) b []) s.name na nb in

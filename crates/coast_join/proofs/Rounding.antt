@@ -11,8 +11,8 @@ use Rattle.std.proofs.lemmas.Option.{same_Some, slice_get-get_or}
 use Rattle.osm_lattice.specs.declared.loc.Loc.{Loc}
 use Rattle.osm_lattice.specs.Loc.{loc_cmp}
 use Rattle.osm_lattice.specs.OrderLaws.{LocationOrderTellsApart}
-use Rattle.coast_join.specs.Line.{IsLine, NeighboursDiffer, first_of, front_of, last_of, origin}
-use Rattle.coast_join.specs.Round.{IsRound, is_same, once, opened}
+use Rattle.coast_join.specs.Line.{IsLine, NeighboursDiffer, first_location, front_of, last_location, origin}
+use Rattle.coast_join.specs.Round.{IsRound, is_same_location, once, opened}
 use Rattle.coast_join.proofs.Joining.{closed_long, front_differ, front_last, front_length}
 use Rattle.lists.proofs.ListsKit.{equal_from}
 
@@ -32,87 +32,87 @@ dedup_alike E F h (x ∷ xs) = alike_from E F h x xs
 
 -- ---- what is left has no equal neighbours
 
-head_is : (k : Loc) (xs : List Loc) → LocationOrderTellsApart → slice_get (dedup_from is_same k xs) 0 ≡ Some k
+head_is : (k : Loc) (xs : List Loc) → LocationOrderTellsApart → slice_get (dedup_from is_same_location k xs) 0 ≡ Some k
 head_is k [] exact = refl
-head_is k (x ∷ xs) exact = by (is_same x k) (head_is k xs exact)
+head_is k (x ∷ xs) exact = by (is_same_location x k) (head_is k xs exact)
   where
-    by : (b : Bool) → slice_get (dedup_from is_same k xs) 0 ≡ Some k → slice_get (cond b (dedup_from is_same k xs) (k ∷ dedup_from is_same x xs)) 0 ≡ Some k
+    by : (b : Bool) → slice_get (dedup_from is_same_location k xs) 0 ≡ Some k → slice_get (cond b (dedup_from is_same_location k xs) (k ∷ dedup_from is_same_location x xs)) 0 ≡ Some k
     by true h = h
     by false h = refl
 
-not_same : LocationOrderTellsApart → (p q : Loc) → is_same p q ≡ false → p ≢ q
+not_same : LocationOrderTellsApart → (p q : Loc) → is_same_location p q ≡ false → p ≢ q
 not_same exact p q e s = absurd (false≢true (sym e ∙ ap is_eq ((exact p q).1 s)))
 
-pub from_differs : (exact : LocationOrderTellsApart) (k : Loc) (xs : List Loc) → NeighboursDiffer (dedup_from is_same k xs)
+pub from_differs : (exact : LocationOrderTellsApart) (k : Loc) (xs : List Loc) → NeighboursDiffer (dedup_from is_same_location k xs)
 from_differs exact k [] = λ i p e n. absurd (cc)
-from_differs exact k (x ∷ xs) = by (is_same x k) refl (from_differs exact k xs) (from_differs exact x xs)
+from_differs exact k (x ∷ xs) = by (is_same_location x k) refl (from_differs exact k xs) (from_differs exact x xs)
   where
-    one : is_same x k ≡ false → NeighboursDiffer (dedup_from is_same x xs) → NeighboursDiffer (k ∷ dedup_from is_same x xs)
+    one : is_same_location x k ≡ false → NeighboursDiffer (dedup_from is_same_location x xs) → NeighboursDiffer (k ∷ dedup_from is_same_location x xs)
     one e h zero p s n =
         let is : x ≡ p = same_Some x p (sym (head_is x xs exact) ∙ n) in
         let kp : k ≡ p = same_Some k p s in
         not_same exact x k e (is ∙ sym kp)
     one e h (suc i) p s n = h i p s n
 
-    by : (b : Bool) → is_same x k ≡ b → NeighboursDiffer (dedup_from is_same k xs) → NeighboursDiffer (dedup_from is_same x xs) → NeighboursDiffer (cond b (dedup_from is_same k xs) (k ∷ dedup_from is_same x xs))
+    by : (b : Bool) → is_same_location x k ≡ b → NeighboursDiffer (dedup_from is_same_location k xs) → NeighboursDiffer (dedup_from is_same_location x xs) → NeighboursDiffer (cond b (dedup_from is_same_location k xs) (k ∷ dedup_from is_same_location x xs))
     by true e h g = h
     by false e h g = one e g
 
-some_from : (k : Loc) (xs : List Loc) → 0 < length (dedup_from is_same k xs)
+some_from : (k : Loc) (xs : List Loc) → 0 < length (dedup_from is_same_location k xs)
 some_from k [] = omega arith
-some_from k (x ∷ xs) = by (is_same x k) (some_from k xs)
+some_from k (x ∷ xs) = by (is_same_location x k) (some_from k xs)
   where
-    by : (b : Bool) → 0 < length (dedup_from is_same k xs) → 0 < length (cond b (dedup_from is_same k xs) (k ∷ dedup_from is_same x xs))
+    by : (b : Bool) → 0 < length (dedup_from is_same_location k xs) → 0 < length (cond b (dedup_from is_same_location k xs) (k ∷ dedup_from is_same_location x xs))
     by true h = h
     by false h = omega arith
 
-pub same_is : LocationOrderTellsApart → (p q : Loc) → is_same p q ≡ true → p ≡ q
+pub same_is : LocationOrderTellsApart → (p q : Loc) → is_same_location p q ≡ true → p ≡ q
 same_is exact p q e = (exact p q).0 (equal_from (loc_cmp p q) e)
 
-pub differs_is : LocationOrderTellsApart → (p q : Loc) → p ≢ q → is_same p q ≡ false
-differs_is exact p q ne = by (is_same p q) refl
+pub differs_is : LocationOrderTellsApart → (p q : Loc) → p ≢ q → is_same_location p q ≡ false
+differs_is exact p q ne = by (is_same_location p q) refl
   where
-    by : (b : Bool) → is_same p q ≡ b → is_same p q ≡ false
+    by : (b : Bool) → is_same_location p q ≡ b → is_same_location p q ≡ false
     by true e = absurd (ne (same_is exact p q e))
     by false e = e
 
 -- a list that begins with two different locations
 pub once_line : (exact : LocationOrderTellsApart) (a b : Loc) (rest : List Loc) → a ≢ b → IsLine (once (a ∷ (b ∷ rest)))
 once_line exact a b rest ne = record {
-  long = subst (λ t. 2 ≤ length (cond t (dedup_from is_same a rest) (a ∷ dedup_from is_same b rest))) (sym (differs_is exact b a (λ e. ne (sym e)))) (let s = some_from b rest in omega arith);
+  long = subst (λ t. 2 ≤ length (cond t (dedup_from is_same_location a rest) (a ∷ dedup_from is_same_location b rest))) (sym (differs_is exact b a (λ e. ne (sym e)))) (let s = some_from b rest in omega arith);
   differ = from_differs exact a (b ∷ rest);
 }
 
 -- ---- closed
 
-last_front : (d : List Loc) → 3 ≤ length d → slice_get d (length d - 2) ≡ Some (last_of (front_of d))
+last_front : (d : List Loc) → 3 ≤ length d → slice_get d (length d - 2) ≡ Some (last_location (front_of d))
 last_front d h =
     let n = front_length d in
-    let at : last_of (front_of d) ≡ get_or d (length d - 2) origin = ap (λ m. get_or (front_of d) m origin) (omega arith) ∙ get_or-take (length d - 1) d (length d - 2) origin (omega arith) in
+    let at : last_location (front_of d) ≡ get_or d (length d - 2) origin = ap (λ m. get_or (front_of d) m origin) (omega arith) ∙ get_or-take (length d - 1) d (length d - 2) origin (omega arith) in
     slice_get-get_or d (length d - 2) origin (omega arith) ∙ ap Some (sym at)
 
-last_is : (d : List Loc) → 3 ≤ length d → slice_get d (suc (length d - 2)) ≡ Some (last_of d)
+last_is : (d : List Loc) → 3 ≤ length d → slice_get d (suc (length d - 2)) ≡ Some (last_location d)
 last_is d h =
     let e : suc (length d - 2) ≡ length d - 1 = omega arith in
     ap (slice_get d) e ∙ slice_get-get_or d (length d - 1) origin (omega arith)
 
-first_front : (d : List Loc) → 3 ≤ length d → first_of (front_of d) ≡ first_of d
+first_front : (d : List Loc) → 3 ≤ length d → first_location (front_of d) ≡ first_location d
 first_front d h = get_or-take (length d - 1) d 0 origin (omega arith)
 
 pub round_from : LocationOrderTellsApart → (d : List Loc) → IsLine d → IsRound (opened d)
-round_from exact d line = by (is_same (last_of d) (first_of d)) refl
+round_from exact d line = by (is_same_location (last_location d) (first_location d)) refl
   where
-    by : (b : Bool) → is_same (last_of d) (first_of d) ≡ b → IsRound (if b then front_of d else d)
+    by : (b : Bool) → is_same_location (last_location d) (first_location d) ≡ b → IsRound (if b then front_of d else d)
     by true e =
-        let closes = same_is exact (last_of d) (first_of d) e in
+        let closes = same_is exact (last_location d) (first_location d) e in
         let long = closed_long d line closes in
         let n = front_length d in
         let some = line.long in
         record {
-          line = record { long = omega arith; differ = front_differ (front_of d) (last_of d ∷ []) (subst NeighboursDiffer (sym (front_last d (omega arith))) line.differ) };
-          apart = λ same. line.differ (length d - 2) (last_of (front_of d)) (last_front d long) (last_is d long ∙ ap Some (closes ∙ (sym (first_front d long) ∙ sym same)));
+          line = record { long = omega arith; differ = front_differ (front_of d) (last_location d ∷ []) (subst NeighboursDiffer (sym (front_last d (omega arith))) line.differ) };
+          apart = λ same. line.differ (length d - 2) (last_location (front_of d)) (last_front d long) (last_is d long ∙ ap Some (closes ∙ (sym (first_front d long) ∙ sym same)));
         }
-    by false e = record { line = line; apart = not_same exact (last_of d) (first_of d) e }
+    by false e = record { line = line; apart = not_same exact (last_location d) (first_location d) e }
 
 -- ---- the test of `==`
 
@@ -130,7 +130,7 @@ both_ties Greater Less = refl
 both_ties Greater Equal = refl
 both_ties Greater Greater = refl
 
-pub tests_alike : (p q : Loc) → (int_eq p.x q.x && int_eq p.y q.y) ≡ is_same p q
+pub tests_alike : (p q : Loc) → (int_eq p.x q.x && int_eq p.y q.y) ≡ is_same_location p q
 tests_alike p q = rw (int_tie p.x q.x, int_tie p.y q.y) (both_ties (int_cmp p.y q.y) (int_cmp p.x q.x))
 
 pub once_differs : LocationOrderTellsApart → (xs : List Loc) → NeighboursDiffer (once xs)

@@ -13,7 +13,7 @@ use Rattle.osm_lattice.specs.declared.loc.Loc.{Loc}
 use Rattle.coast_join.specs.declared.gap.Gap.{Gap}
 use Rattle.coast_join.specs.declared.closing.OpenEnds.{OpenEnds}
 use Rattle.coast_join.specs.Closings.{gap_between, square_between}
-use Rattle.coast_join.specs.GapSteps.{slant, slant_of}
+use Rattle.coast_join.specs.GapSteps.{slant_of, slanted_distance}
 use Rattle.lists.proofs.ListsKit.{total, total-++, total-is}
 
 root_less : (a n r : ℕ) → a * a ≤ r → r < n * n → a < n
@@ -25,8 +25,8 @@ forth a b w = omega (arith, ints)
 back : (a b w : ℤ) → unsigned_abs (a -ℤ w) ≤ unsigned_abs (b -ℤ w) + unsigned_abs (a -ℤ b)
 back a b w = omega (arith, ints)
 
-pub slants_apart : (limit : ℕ) (p q : Loc) → square_between p q < limit * limit → (slant q < slant p + 4 * limit) × (slant p < slant q + 4 * limit)
-unfolding slant
+pub slants_apart : (limit : ℕ) (p q : Loc) → square_between p q < limit * limit → (slanted_distance q < slanted_distance p + 4 * limit) × (slanted_distance p < slanted_distance q + 4 * limit)
+unfolding slanted_distance
 slants_apart limit p q h =
     let west = neg_ℤ (pos 1800000000) in
     let south = neg_ℤ (pos 900000000) in
@@ -40,7 +40,7 @@ slants_apart limit p q h =
     let yb = back p.y q.y south in
     ((omega arith), (omega arith))
 
-pub far : (limit : ℕ) (f t : OpenEnds) → (slant f.end + 4 * limit ≤ slant_of t) ⊎ (slant_of t + 4 * limit ≤ slant f.end) → gap_between limit f t ≡ None
+pub far : (limit : ℕ) (f t : OpenEnds) → (slanted_distance f.end + 4 * limit ≤ slant_of t) ⊎ (slant_of t + 4 * limit ≤ slanted_distance f.end) → gap_between limit f t ≡ None
 unfolding gap_between
 far limit f t h = by (nat_lt (square_between f.end t.start) (limit * limit)) refl
   where
@@ -102,8 +102,8 @@ first_parts reach place xs up i j d h l e =
     let b = leb-true (slant_of (get_or xs j d) + reach) place e in
     le-leb (slant_of (get_or xs i d) + reach) place (omega arith)
 
-pub front_same : (limit : ℕ) (f : OpenEnds) (xs : List OpenEnds) (i : ℕ) → i ≤ length xs → ((k : ℕ) (d : OpenEnds) → k < i → leb (slant_of (get_or xs k d) + 4 * limit) (slant f.end) ≡ true) → filter_map (gap_between limit f) (drop i xs) ≡ filter_map (gap_between limit f) xs
-front_same limit f xs i l before = front_left (gap_between limit f) xs i l (λ k d h. far limit f (get_or xs k d) (inr (leb-true (slant_of (get_or xs k d) + 4 * limit) (slant f.end) (before k d h))))
+pub front_same : (limit : ℕ) (f : OpenEnds) (xs : List OpenEnds) (i : ℕ) → i ≤ length xs → ((k : ℕ) (d : OpenEnds) → k < i → leb (slant_of (get_or xs k d) + 4 * limit) (slanted_distance f.end) ≡ true) → filter_map (gap_between limit f) (drop i xs) ≡ filter_map (gap_between limit f) xs
+front_same limit f xs i l before = front_left (gap_between limit f) xs i l (λ k d h. far limit f (get_or xs k d) (inr (leb-true (slant_of (get_or xs k d) + 4 * limit) (slanted_distance f.end) (before k d h))))
 
-pub rest_same : (limit : ℕ) (f : OpenEnds) (xs : List OpenEnds) (i : ℕ) → i ≤ length xs → ((k : ℕ) (d : OpenEnds) → i ≤ k → k < length xs → ltb (slant_of (get_or xs k d)) (slant f.end + 4 * limit) ≡ false) → filter_map (gap_between limit f) (take i xs) ≡ filter_map (gap_between limit f) xs
-rest_same limit f xs i l after = rest_left (gap_between limit f) xs i l (λ k d h m. far limit f (get_or xs k d) (inl (ltb-false (slant_of (get_or xs k d)) (slant f.end + 4 * limit) (after k d h m))))
+pub rest_same : (limit : ℕ) (f : OpenEnds) (xs : List OpenEnds) (i : ℕ) → i ≤ length xs → ((k : ℕ) (d : OpenEnds) → i ≤ k → k < length xs → ltb (slant_of (get_or xs k d)) (slanted_distance f.end + 4 * limit) ≡ false) → filter_map (gap_between limit f) (take i xs) ≡ filter_map (gap_between limit f) xs
+rest_same limit f xs i l after = rest_left (gap_between limit f) xs i l (λ k d h m. far limit f (get_or xs k d) (inl (ltb-false (slant_of (get_or xs k d)) (slanted_distance f.end + 4 * limit) (after k d h m))))

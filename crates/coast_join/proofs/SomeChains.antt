@@ -17,7 +17,7 @@ use Rattle.lists.specs.Member.{EachPair}
 use Rattle.lists.proofs.ListsKit.{int_eq-same, map-map, pairs-each, pairs-into-map}
 use Rattle.orbits.specs.OnceLaws.{StandBelow}
 use Rattle.orbits.specs.OrbitLaws.{OrbitsExist}
-use Rattle.orbits.specs.Orbits.{IsOrbit, after, first, last}
+use Rattle.orbits.specs.Orbits.{IsOrbit, after, first, last_number}
 use Rattle.osm_lattice.specs.declared.loc.Loc.{Loc}
 use Rattle.osm_lattice.specs.Loc.{loc_cmp}
 use Rattle.osm_lattice.specs.OrderLaws.{LocationOrderTellsApart}
@@ -25,11 +25,11 @@ use Rattle.lists.specs.Rising.{count_of}
 use Rattle.coast_join.specs.declared.way.CoastWay.{CoastWay}
 use Rattle.coast_join.specs.declared.chain.Chain.{Chain}
 use Rattle.coast_join.specs.ById.{AreById, id_at}
-use Rattle.coast_join.specs.Chains.{IsChain, Line, joined, line_at}
+use Rattle.coast_join.specs.Chains.{IsChain, WayPath, joined_path, line_at}
 use Rattle.coast_join.specs.ChainLaws.{ChainsExist}
-use Rattle.coast_join.specs.ChainSteps.{member, members}
-use Rattle.coast_join.specs.Line.{IsLine, first_of, last_of}
-use Rattle.coast_join.specs.Links.{AreLinks, AreNumbered, key_cmp}
+use Rattle.coast_join.specs.ChainSteps.{member, ways_at}
+use Rattle.coast_join.specs.Line.{IsLine, first_location, last_location}
+use Rattle.coast_join.specs.Links.{AreNextWays, AreNumbered, key_cmp}
 use Rattle.coast_join.proofs.Joining.{line_joined, orbit_linked, order_inside, sorted_rising, sorted_same}
 use Rattle.coast_join.proofs.Numbering.{ArePlaces, links_are, numbered_none, numbered_push, numbered_sized, one_to_one, places_none, places_push}
 
@@ -102,7 +102,7 @@ places_exist exact xs = by_pushing (λ ys. (f : Loc × ℕ → Option ℕ) × Ar
     (λ ys p h. (λ q. cond (is_eq (key_cmp (p, count_of loc_cmp p ys) q)) (Some (length ys)) (h.0 q), places_push exact ys h.0 _ (p, count_of loc_cmp p ys) (length ys) refl refl h.1 (λ q. refl)))
     [] xs (λ q. None, places_none (λ q. None) (λ q. refl))
 
-links_exist : LocationOrderTellsApart → (ends starts : List Loc) → (next : List (Option ℕ)) × AreLinks ends starts next
+links_exist : LocationOrderTellsApart → (ends starts : List Loc) → (next : List (Option ℕ)) × AreNextWays ends starts next
 links_exist exact ends starts =
     let keys = numbers_exist ends in
     let places = places_exist exact starts in
@@ -110,27 +110,27 @@ links_exist exact ends starts =
 
 -- ---- each orbit has a chain
 
-module _ (ways : List CoastWay) (order : List ℕ) (inside : All (λ i. i < length ways) order) (next : List (Option ℕ)) (links : AreLinks (map (λ (l : Line). last_of l.path) (members ways order)) (map (λ (l : Line). first_of l.path) (members ways order)) next) where
-  chain_exists : (o : List ℕ) → IsOrbit next o → All (λ k. k < length order) o → (c : Chain) × IsChain (members ways order) next o c
+module _ (ways : List CoastWay) (order : List ℕ) (inside : All (λ i. i < length ways) order) (next : List (Option ℕ)) (links : AreNextWays (map (λ (l : WayPath). last_location l.path) (ways_at ways order)) (map (λ (l : WayPath). first_location l.path) (ways_at ways order)) next) where
+  chain_exists : (o : List ℕ) → IsOrbit next o → All (λ k. k < length order) o → (c : Chain) × IsChain (ways_at ways order) next o c
   chain_exists o orbit below =
-      let paths = map (λ i. (line_at (members ways order) i).path) o in
-      let closed = is_some (after next (last o)) in
-      let same : map (λ (l : Line). l.path) (map (line_at (members ways order)) o) ≡ map (λ i. (line_at (members ways order) i).path) o = map-map (λ (l : Line). l.path) (line_at (members ways order)) o in
+      let paths = map (λ i. (line_at (ways_at ways order) i).path) o in
+      let closed = is_some (after next (last_number o)) in
+      let same : map (λ (l : WayPath). l.path) (map (line_at (ways_at ways order)) o) ≡ map (λ i. (line_at (ways_at ways order) i).path) o = map-map (λ (l : WayPath). l.path) (line_at (ways_at ways order)) o in
       let linked = orbit_linked ways order inside next links o orbit below in
-      let long = length-map o (λ i. (line_at (members ways order) i).id) in
+      let long = length-map o (λ i. (line_at (ways_at ways order) i).id) in
       let some = orbit.some in (
         record {
-          name = (line_at (members ways order) (first o)).id;
-          ways = map (λ i. (line_at (members ways order) i).id) o;
-          path = joined (is_some (after next (last o))) (map (λ i. (line_at (members ways order) i).path) o);
-          closed = is_some (after next (last o));
-          line = subst (λ ps. IsLine (joined (is_some (after next (last o))) ps)) same (line_joined (is_some (after next (last o))) _ linked);
+          name = (line_at (ways_at ways order) (first o)).id;
+          ways = map (λ i. (line_at (ways_at ways order) i).id) o;
+          path = joined_path (is_some (after next (last_number o))) (map (λ i. (line_at (ways_at ways order) i).path) o);
+          closed = is_some (after next (last_number o));
+          line = subst (λ ps. IsLine (joined_path (is_some (after next (last_number o))) ps)) same (line_joined (is_some (after next (last_number o))) _ linked);
           some = omega arith;
         },
         record { ways = refl; name = refl; closed = refl; path = refl },
       )
 
-  all_exist : (os : List (List ℕ)) → All (IsOrbit next) os → All (λ o. All (λ k. k < length order) o) os → (cs : List Chain) × AllZip (IsChain (members ways order) next) os cs
+  all_exist : (os : List (List ℕ)) → All (IsOrbit next) os → All (λ o. All (λ k. k < length order) o) os → (cs : List Chain) × AllZip (IsChain (ways_at ways order) next) os cs
   all_exist [] orbits below = ([], tt)
   all_exist (o ∷ os) orbits below =
       let here = chain_exists o (orbits 0 o (omega arith)) (below 0 o (omega arith)) in
@@ -142,16 +142,16 @@ module _ (ways : List CoastWay) (order : List ℕ) (inside : All (λ i. i < leng
 pub some_list : LocationOrderTellsApart → StandBelow → OrbitsExist → ChainsExist
 some_list exact below exist ways differ =
     let order = order_exists (map (λ (w : CoastWay). w.id) ways) differ in
-    let lines = members ways order.0 in
-    let next = links_exist exact (map (λ (l : Line). last_of l.path) (members ways order.0)) (map (λ (l : Line). first_of l.path) (members ways order.0)) in
-    let as_long = length-map (members ways order.0) (λ (l : Line). first_of l.path) ∙ sym (length-map (members ways order.0) (λ (l : Line). last_of l.path)) in
+    let lines = ways_at ways order.0 in
+    let next = links_exist exact (map (λ (l : WayPath). last_location l.path) (ways_at ways order.0)) (map (λ (l : WayPath). first_location l.path) (ways_at ways order.0)) in
+    let as_long = length-map (ways_at ways order.0) (λ (l : WayPath). first_location l.path) ∙ sym (length-map (ways_at ways order.0) (λ (l : WayPath). last_location l.path)) in
     let os = exist next.0 (one_to_one _ _ next.0 as_long next.1) in
-    let sized : length next.0 ≡ length order.0 = next.1.sized ∙ (length-map (members ways order.0) (λ (l : Line). last_of l.path) ∙ length-map order.0 (member ways)) in
+    let sized : length next.0 ≡ length order.0 = next.1.sized ∙ (length-map (ways_at ways order.0) (λ (l : WayPath). last_location l.path) ∙ length-map order.0 (member ways)) in
     let within = subst (λ n. All (λ o. All (λ k. k < n) o) os.0) sized (below (length next.0) os.0 os.1.once) in
     let chains = all_exist ways order.0 (order_inside ways order.0 order.1) next.0 next.1 os.0 os.1.each within in (
       chains.0,
       record {
-        sorted = members ways order.0;
+        sorted = ways_at ways order.0;
         same = sorted_same ways order.0 order.1;
         rising = sorted_rising ways order.0 order.1;
         next = next.0;

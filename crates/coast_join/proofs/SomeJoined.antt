@@ -25,11 +25,11 @@ use Rattle.coast_join.specs.Chains.{AreChains}
 use Rattle.coast_join.specs.ChainLaws.{NamesRise, UnclosedEndsDiffer}
 use Rattle.coast_join.specs.Closings.{AreClosings, is_antarctic, is_open, names_of, near_pairs, open_ends, places_where}
 use Rattle.coast_join.specs.GapSteps.{gap_cmp}
-use Rattle.coast_join.specs.Joined.{AreJoined, AreNext, IsLeast, IsRing, IsUnclosed, chains_at, corners, is_closed, paths_of, ring_path, ways_of}
+use Rattle.coast_join.specs.Joined.{AreJoined, AreNext, IsCoastRing, IsLeast, IsUnclosed, chains_at, corners, is_closed_orbit, locations_along, ring_path, ways_of}
 use Rattle.coast_join.specs.JoinSteps.{AreGapLinks, AreNextBy, AreParts}
 use Rattle.coast_join.specs.RingLaws.{ClosedEndsDiffer}
 use Rattle.coast_join.specs.Round.{IsRound, once}
-use Rattle.coast_join.specs.Taken.{AreTaken, pair_cmp}
+use Rattle.coast_join.specs.Taken.{AreTaken, named_gap_cmp}
 use Rattle.coast_join.proofs.Following.{gaps_apart, gaps_from, line_of_chains, links_more, links_none, next_are, next_none, next_one, next_push, ways_some}
 use Rattle.coast_join.proofs.NameOrder.{IsBelow, by_names}
 use Rattle.coast_join.proofs.NearPairs.{ends_below, pairs_below, taken_once}
@@ -139,10 +139,10 @@ module _ (exact : LocationOrderTellsApart) (chains : List Chain) where
   path_round o parts = by (list_any is_antarctic (chains_at chains o)) refl
     where
       by : (b : Bool) → list_any is_antarctic (chains_at chains o) ≡ b → IsRound (ring_path (chains_at chains o))
-      by true e = rw e (round_from exact (once (paths_of (chains_at chains o) ++ corners)) (line_of_chains exact chains o corners parts.some parts.inside))
+      by true e = rw e (round_from exact (once (locations_along (chains_at chains o) ++ corners)) (line_of_chains exact chains o corners parts.some parts.inside))
       by false e = rw e (parts_round chains o parts)
 
-  ring_exists : (o : List ℕ) → AreParts chains o → (r : CoastRing) × IsRing (chains_at chains o) r
+  ring_exists : (o : List ℕ) → AreParts chains o → (r : CoastRing) × IsCoastRing (chains_at chains o) r
   ring_exists o parts =
       let least = least_exists (ways_of (chains_at chains o)) (ways_some chains o parts.some parts.inside) in (
         record { name = least.0; path = ring_path (chains_at chains o); round = path_round o parts },
@@ -151,7 +151,7 @@ module _ (exact : LocationOrderTellsApart) (chains : List Chain) where
 
   unclosed_exists : (o : List ℕ) → AreParts chains o → (c : Chain) × IsUnclosed (chains_at chains o) c
   unclosed_exists o parts = (
-    record { name = id_at (ways_of (chains_at chains o)) 0; ways = ways_of (chains_at chains o); path = paths_of (chains_at chains o); closed = false; line = (parts_round chains o parts).line; some = ways_some chains o parts.some parts.inside },
+    record { name = id_at (ways_of (chains_at chains o)) 0; ways = ways_of (chains_at chains o); path = locations_along (chains_at chains o); closed = false; line = (parts_round chains o parts).line; some = ways_some chains o parts.some parts.inside },
     record { ways = refl; name = refl; path = refl; closed = refl },
   )
 
@@ -173,7 +173,7 @@ by_name rings differ =
 
 pub some_joined : LocationOrderTellsApart → StandBelow → OrbitsExist → NamesRise → UnclosedEndsDiffer → ClosedEndsDiffer → (ways : List CoastWay) (chains : List Chain) → AreChains ways chains → (limit : ℕ) (closings : Closings) → AreClosings chains limit closings → (joined : Joined) × AreJoined chains closings joined
 some_joined exact stand exist rise unclosed closed ways chains are limit closings is =
-    let cmp = pair_cmp (names_of chains) in
+    let cmp = named_gap_cmp (names_of chains) in
     let gaps = closings.gaps in
     let links = links_exist gaps (length chains) (gaps_from cmp limit chains gaps is.gaps) (gaps_apart cmp limit chains gaps is.gaps) in
     let made = next_exists links.0 chains in
@@ -182,9 +182,9 @@ some_joined exact stand exist rise unclosed closed ways chains are limit closing
     let one : IsOneToOne next = next_one cmp limit chains gaps is.gaps next are_next in
     let os = exist next one in
     let parts : All (AreParts chains) os.0 = orbits_are_parts ways chains are unclosed closed gaps next are_next one os.0 os.1 (stand (length next) os.0 os.1.once) in
-    let rings = zip_exists (AreParts chains) (λ (o : List ℕ) (r : CoastRing). IsRing (chains_at chains o) r) (ring_exists exact chains) (filter (is_closed next) os.0) (kept_all (AreParts chains) (is_closed next) os.0 parts) in
-    let rest = zip_exists (AreParts chains) (λ (o : List ℕ) (c : Chain). IsUnclosed (chains_at chains o) c) (unclosed_exists exact chains) (filter (λ o. not (is_closed next o)) os.0) (kept_all (AreParts chains) (λ o. not (is_closed next o)) os.0 parts) in
-    let sorted = by_name rings.0 (names_apart ways chains are (length next) os.0 os.1.once (is_closed next) rings.0 rings.1) in (
+    let rings = zip_exists (AreParts chains) (λ (o : List ℕ) (r : CoastRing). IsCoastRing (chains_at chains o) r) (ring_exists exact chains) (filter (is_closed_orbit next) os.0) (kept_all (AreParts chains) (is_closed_orbit next) os.0 parts) in
+    let rest = zip_exists (AreParts chains) (λ (o : List ℕ) (c : Chain). IsUnclosed (chains_at chains o) c) (unclosed_exists exact chains) (filter (λ o. not (is_closed_orbit next o)) os.0) (kept_all (AreParts chains) (λ o. not (is_closed_orbit next o)) os.0 parts) in
+    let sorted = by_name rings.0 (names_apart ways chains are (length next) os.0 os.1.once (is_closed_orbit next) rings.0 rings.1) in (
       record { rings = sorted.0; unclosed = rest.0 },
       record {
         next = next;
@@ -197,6 +197,6 @@ some_joined exact stand exist rise unclosed closed ways chains are limit closing
         same = sorted.1;
         rings_rise = sorted.2;
         each_unclosed = rest.1;
-        unclosed_rise = rising_unclosed ways chains are rise os.0 (λ o. not (is_closed next o)) rest.0 parts os.2.firsts rest.1;
+        unclosed_rise = rising_unclosed ways chains are rise os.0 (λ o. not (is_closed_orbit next o)) rest.0 parts os.2.firsts rest.1;
       },
     )

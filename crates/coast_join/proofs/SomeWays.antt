@@ -9,18 +9,18 @@ use Rattle.osm_lattice.specs.OrderLaws.{LocationOrderTellsApart}
 use Rattle.osm_objects.specs.CoastWays.{coast_ways}
 use Rattle.osm_objects.specs.Objects.{place_of}
 use Rattle.coast_join.specs.declared.way.CoastWay.{CoastWay}
-use Rattle.coast_join.specs.Chains.{Line, line_of}
-use Rattle.coast_join.specs.Input.{is_empty, line_along, lines_of, nodes_missing, refs_of}
+use Rattle.coast_join.specs.Chains.{WayPath, way_path_of}
+use Rattle.coast_join.specs.Input.{is_empty, line_along, missing_node_ids, refs_of, way_paths_in}
 use Rattle.coast_join.specs.InputLaws.{CoastWaysExist}
 use Rattle.coast_join.proofs.Inputs.{ways_apart}
 use Rattle.coast_join.proofs.Rounding.{once_differs}
 
 module _ (exact : LocationOrderTellsApart) (objects : List Object) where
-  abbrev Ways : List Line → Type 0
-  Ways lines = (ways : List CoastWay) × (map line_of ways ≡ lines)
+  abbrev Ways : List WayPath → Type 0
+  Ways lines = (ways : List CoastWay) × (map way_path_of ways ≡ lines)
 
-  ways_by : (way : ℤ) → Ways (lines_of objects way)
-  ways_by way = by (is_empty (nodes_missing objects (refs_of objects way))) (nat_le 2 (length along)) refl
+  ways_by : (way : ℤ) → Ways (way_paths_in objects way)
+  ways_by way = by (is_empty (missing_node_ids objects (refs_of objects way))) (nat_le 2 (length along)) refl
     where
       along : List Loc
       along = line_along objects (refs_of objects way)
@@ -33,11 +33,11 @@ module _ (exact : LocationOrderTellsApart) (objects : List Object) where
         refl,
       )
 
-  all_ways : (ids : List ℤ) → Ways (flat_map (lines_of objects) ids)
+  all_ways : (ids : List ℤ) → Ways (flat_map (way_paths_in objects) ids)
   all_ways [] = ([], refl)
   all_ways (id ∷ ids) =
       let one = ways_by id in let more = all_ways ids in
-      (one.0 ++ more.0, map-append line_of one.0 more.0 ∙ ap (λ l. l ++ map line_of more.0) one.1 ∙ ap (λ l. lines_of objects id ++ l) more.1)
+      (one.0 ++ more.0, map-append way_path_of one.0 more.0 ∙ ap (λ l. l ++ map way_path_of more.0) one.1 ∙ ap (λ l. way_paths_in objects id ++ l) more.1)
 
 pub ways_there : LocationOrderTellsApart → CoastWaysExist
 ways_there exact objects apart =

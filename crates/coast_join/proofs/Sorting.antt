@@ -14,7 +14,7 @@ use Rattle.std.proofs.lemmas.List.Elements.{All-map}
 use Rattle.std.proofs.lemmas.List.Sorted.{ranks_by, sorted_far, IsPermutation-map, All-permutation}
 use Rattle.std.proofs.lemmas.Map.Keys.{IsDistinct-IsPermutation, apart_from_distinct}
 use Rattle.lists.specs.Rising.{IsRising}
-use Rattle.coast_join.specs.ById.{AreById, id_at, placed}
+use Rattle.coast_join.specs.ById.{AreById, id_at, ids_with_places}
 use Rattle.lists.proofs.ListsKit.{int_eq-same, map-map}
 
 abbrev pub pair_cmp : ℤ × ℕ → ℤ × ℕ → Ordering
@@ -34,13 +34,13 @@ pub map-self : {A : Type 0} (xs : List A) → map (λ (x : A). x) xs ≡ xs
 map-self [] = refl
 map-self (x ∷ xs) = ap (λ ys. x ∷ ys) (map-self xs)
 
-placed_places : (ids : List ℤ) → map (λ (p : ℤ × ℕ). p.1) (placed ids) ≡ range_with_len 0 (length ids)
+placed_places : (ids : List ℤ) → map (λ (p : ℤ × ℕ). p.1) (ids_with_places ids) ≡ range_with_len 0 (length ids)
 placed_places ids = map-map (λ (p : ℤ × ℕ). p.1) (λ i. (id_at ids i, i)) (range_with_len 0 (length ids)) ∙ map-self (range_with_len 0 (length ids))
 
-placed_ids : (ids : List ℤ) → map (λ (p : ℤ × ℕ). p.0) (placed ids) ≡ ids
+placed_ids : (ids : List ℤ) → map (λ (p : ℤ × ℕ). p.0) (ids_with_places ids) ≡ ids
 placed_ids ids = map-map (λ (p : ℤ × ℕ). p.0) (λ i. (id_at ids i, i)) (range_with_len 0 (length ids)) ∙ sym (fill_by_all (id_at ids) ids (length ids) (pos 0) refl (λ k h. refl))
 
-placed_is : (ids : List ℤ) → All (λ (p : ℤ × ℕ). p.0 ≡ id_at ids p.1) (placed ids)
+placed_is : (ids : List ℤ) → All (λ (p : ℤ × ℕ). p.0 ≡ id_at ids p.1) (ids_with_places ids)
 placed_is ids = All-map (λ (p : ℤ × ℕ). p.0 ≡ id_at ids p.1) (λ i. (id_at ids i, i)) (range_with_len 0 (length ids)) (λ k d h. refl)
 
 pub placed_more : (ids : List ℤ) (i : ℕ) (z : ℤ) (xs : List (ℤ × ℕ)) → z ≡ id_at ids i → xs ≡ map (λ k. (id_at ids k, k)) (range_with_len 0 i) → xs ++ (z, i) ∷ [] ≡ map (λ k. (id_at ids k, k)) (range_with_len 0 (i + 1))
@@ -56,17 +56,17 @@ below a b up apart = by (int_cmp b.0 a.0) refl up
     by Equal e u = absurd (false≢true (sym apart ∙ int_eq-same a.0 b.0 (sym (int_ranked b.0 a.0 Equal (sym e)))))
     by Greater e u = int_cmp_total.antisymm a.0 b.0 ∙ ap ordering_reverse e
 
-pub by_id_are : (ids : List ℤ) (s : List (ℤ × ℕ)) → IsDistinct int_eq ids → IsPermutation (placed ids) s → IsSorted pair_cmp s → AreById ids (map (λ p. p.1) s)
+pub by_id_are : (ids : List ℤ) (s : List (ℤ × ℕ)) → IsDistinct int_eq ids → IsPermutation (ids_with_places ids) s → IsSorted pair_cmp s → AreById ids (map (λ p. p.1) s)
 by_id_are ids s differ moved sorted = record {
-  each = subst (λ xs. IsPermutation xs (map (λ p. p.1) s)) (placed_places ids) (IsPermutation-map (λ (p : ℤ × ℕ). p.1) (placed ids) s moved);
+  each = subst (λ xs. IsPermutation xs (map (λ p. p.1) s)) (placed_places ids) (IsPermutation-map (λ (p : ℤ × ℕ). p.1) (ids_with_places ids) s moved);
   rising = subst (IsRising int_cmp) (sym same) rises;
 }
   where
     same : map (id_at ids) (map (λ (p : ℤ × ℕ). p.1) s) ≡ map (λ (p : ℤ × ℕ). p.0) s
-    same = map-map (id_at ids) (λ (p : ℤ × ℕ). p.1) s ∙ sym (map-same (λ (p : ℤ × ℕ). p.0) (λ p. id_at ids p.1) s (All-permutation (λ (p : ℤ × ℕ). p.0 ≡ id_at ids p.1) (placed ids) s moved (placed_is ids)))
+    same = map-map (id_at ids) (λ (p : ℤ × ℕ). p.1) s ∙ sym (map-same (λ (p : ℤ × ℕ). p.0) (λ p. id_at ids p.1) s (All-permutation (λ (p : ℤ × ℕ). p.0 ≡ id_at ids p.1) (ids_with_places ids) s moved (placed_is ids)))
 
     apart : IsDistinct int_eq (map (λ (p : ℤ × ℕ). p.0) s)
-    apart = IsDistinct-IsPermutation int_eq int_eq_equiv.symm ids (map (λ (p : ℤ × ℕ). p.0) s) (subst (λ xs. IsPermutation xs (map (λ (p : ℤ × ℕ). p.0) s)) (placed_ids ids) (IsPermutation-map (λ (p : ℤ × ℕ). p.0) (placed ids) s moved)) differ
+    apart = IsDistinct-IsPermutation int_eq int_eq_equiv.symm ids (map (λ (p : ℤ × ℕ). p.0) s) (subst (λ xs. IsPermutation xs (map (λ (p : ℤ × ℕ). p.0) s)) (placed_ids ids) (IsPermutation-map (λ (p : ℤ × ℕ). p.0) (ids_with_places ids) s moved)) differ
 
     rises : IsRising int_cmp (map (λ (p : ℤ × ℕ). p.0) s)
     rises i j d h l =

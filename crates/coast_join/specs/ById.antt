@@ -14,5 +14,5 @@ pub record AreById (ids : List ℤ) (order : List ℕ) : Type 0 where
   pub rising : IsRising int_cmp (map (id_at ids) order)
 
 -- each id with its place
-abbrev pub placed : List ℤ → List (ℤ × ℕ)
-placed ids = map (λ i. (id_at ids i, i)) (range_with_len 0 (length ids))
+abbrev pub ids_with_places : List ℤ → List (ℤ × ℕ)
+ids_with_places ids = map (λ i. (id_at ids i, i)) (range_with_len 0 (length ids))

@@ -6,12 +6,12 @@ use Rattle.lists.specs.Rising.{IsRising}
 use Rattle.coast_join.specs.declared.way.CoastWay.{CoastWay}
 use Rattle.coast_join.specs.declared.chain.Chain.{Chain}
 use Rattle.coast_join.specs.Chains.{AreChains}
-use Rattle.coast_join.specs.Line.{first_of, last_of}
+use Rattle.coast_join.specs.Line.{first_location, last_location}
 
 -- an unclosed chain doesn't end where an unclosed chain starts
 abbrev pub UnclosedEndsDiffer : Type 0
 UnclosedEndsDiffer = (ways : List CoastWay) (chains : List Chain) → AreChains ways chains → (c d : Chain) → Contains chains c → Contains chains d →
-    c.closed ≡ false → d.closed ≡ false → last_of c.path ≢ first_of d.path
+    c.closed ≡ false → d.closed ≡ false → last_location c.path ≢ first_location d.path
 
 -- chains stand in order of name
 abbrev pub NamesRise : Type 0

@@ -7,8 +7,8 @@ use Rattle.coast_join.specs.declared.chain.Chain.{Chain}
 use Rattle.coast_join.specs.declared.gap.Gap.{Gap}
 use Rattle.coast_join.specs.declared.gap.Closings.{Closings}
 use Rattle.coast_join.specs.declared.closing.OpenEnds.{OpenEnds}
-use Rattle.coast_join.specs.Line.{first_of, last_of}
-use Rattle.coast_join.specs.Taken.{AreTaken, pair_cmp}
+use Rattle.coast_join.specs.Line.{first_location, last_location}
+use Rattle.coast_join.specs.Taken.{AreTaken, named_gap_cmp}
 
 -- the places of a list at which a test holds, in order
 abbrev pub places_where : {X : Type 0} → (X → Bool) → List X → List ℕ
@@ -17,8 +17,8 @@ places_where p xs = filter_map (λ e. if p e.1 then Some e.0 else None) (enumera
 -- an unclosed chain that runs from the eastern edge of the world to the western one, both ends below 60 degrees south
 unfoldable pub is_antarctic : Chain → Bool
 is_antarctic c =
-    not c.closed && (int_eq (first_of c.path).x (pos 1800000000) && int_eq (last_of c.path).x (neg_ℤ (pos 1800000000)))
-    && (int_lt (first_of c.path).y (neg_ℤ (pos 600000000)) && int_lt (last_of c.path).y (neg_ℤ (pos 600000000)))
+    not c.closed && (int_eq (first_location c.path).x (pos 1800000000) && int_eq (last_location c.path).x (neg_ℤ (pos 1800000000)))
+    && (int_lt (first_location c.path).y (neg_ℤ (pos 600000000)) && int_lt (last_location c.path).y (neg_ℤ (pos 600000000)))
 
 -- an unclosed chain that takes part in gaps
 abbrev pub is_open : Chain → Bool
@@ -26,7 +26,7 @@ is_open c = not c.closed && not (is_antarctic c)
 
 -- where the chain at a place starts and ends, if it takes part in gaps
 abbrev pub open_ends_at : ℕ → Chain → Option OpenEnds
-open_ends_at place c = if is_open c then Some (record { chain = place; start = first_of c.path; end = last_of c.path }) else None
+open_ends_at place c = if is_open c then Some (record { chain = place; start = first_location c.path; end = last_location c.path }) else None
 
 abbrev pub open_ends : List Chain → List OpenEnds
 open_ends chains = filter_map (λ e. open_ends_at e.0 e.1) (enumerate_from 0 chains)
@@ -50,4 +50,4 @@ names_of chains = map (λ c. c.name) chains
 -- the chains round Antarctica, and of the other unclosed ones the near pairs that are taken
 pub record AreClosings (chains : List Chain) (limit : ℕ) (closings : Closings) : Type 0 where
   pub antarctica : closings.antarctica ≡ places_where is_antarctic chains
-  pub gaps : AreTaken (pair_cmp (names_of chains)) (near_pairs limit (open_ends chains)) closings.gaps
+  pub gaps : AreTaken (named_gap_cmp (names_of chains)) (near_pairs limit (open_ends chains)) closings.gaps

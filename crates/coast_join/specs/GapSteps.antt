@@ -11,9 +11,9 @@ abbrev pub gap_cmp : Gap → Gap → Ordering
 gap_cmp = then_cmp (on (λ g. g.square) nat_cmp) (then_cmp (on (λ g. g.from_chain) nat_cmp) (on (λ g. g.to_chain) nat_cmp))
 
 -- the distance from the western edge of the world and three times that from the southern one
-unfoldable pub slant : Loc → ℕ
-slant p = unsigned_abs (p.x -ℤ neg_ℤ (pos 1800000000)) + 3 * unsigned_abs (p.y -ℤ neg_ℤ (pos 900000000))
+unfoldable pub slanted_distance : Loc → ℕ
+slanted_distance p = unsigned_abs (p.x -ℤ neg_ℤ (pos 1800000000)) + 3 * unsigned_abs (p.y -ℤ neg_ℤ (pos 900000000))
 
 -- that of the start of a chain
 abbrev pub slant_of : OpenEnds → ℕ
-slant_of e = slant e.start
+slant_of e = slanted_distance e.start

@@ -5,13 +5,13 @@ use Rattle.std.specs.Ordering.{int_eq}
 use Rattle.opl_reader.specs.declared.object.Object.{Object}
 use Rattle.osm_objects.specs.CoastWays.{coast_ways}
 use Rattle.coast_join.specs.declared.way.CoastWay.{CoastWay}
-use Rattle.coast_join.specs.Chains.{line_of}
-use Rattle.coast_join.specs.Input.{lines_of}
+use Rattle.coast_join.specs.Chains.{way_path_of}
+use Rattle.coast_join.specs.Input.{way_paths_in}
 
 -- where no two coastline ways have one id, there are the ways that take part, and no two of them have one id
 abbrev pub CoastWaysExist : Type 0
 CoastWaysExist =
     (objects : List Object) → IsDistinct int_eq (coast_ways objects) →
     (ways : List CoastWay)
-    × (map line_of ways ≡ flat_map (lines_of objects) (coast_ways objects))
+    × (map way_path_of ways ≡ flat_map (way_paths_in objects) (coast_ways objects))
     × IsDistinct int_eq (map (λ (w : CoastWay). w.id) ways)

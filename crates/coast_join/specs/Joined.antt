@@ -6,7 +6,7 @@ use Rattle.std.specs.Ordering.{int_cmp, on}
 use Rattle.std.proofs.Common.{lit≤}
 use Rattle.osm_lattice.specs.declared.loc.Loc.{Loc}
 use Rattle.lists.specs.Rising.{IsRising}
-use Rattle.orbits.specs.Orbits.{AreInOrder, AreOrbits, after, last}
+use Rattle.orbits.specs.Orbits.{AreOrbits, AreOrbitsInOrder, after, last_number}
 use Rattle.coast_join.specs.declared.chain.Chain.{Chain}
 use Rattle.coast_join.specs.declared.gap.Closings.{Closings}
 use Rattle.coast_join.specs.declared.gap.Gap.{Gap}
@@ -33,8 +33,8 @@ chains_at chains places = filter_map (slice_get chains) places
 abbrev pub ways_of : List Chain → List ℤ
 ways_of chains = flat_map (λ c. c.ways) chains
 
-abbrev pub paths_of : List Chain → List Loc
-paths_of chains = flat_map (λ c. c.path) chains
+abbrev pub locations_along : List Chain → List Loc
+locations_along chains = flat_map (λ c. c.path) chains
 
 abbrev pub south_west : Loc
 south_west = record { x = neg_ℤ (pos 1800000000); y = neg_ℤ (pos 900000000); x_in = lit≤ tt; y_in = lit≤ tt }
@@ -50,7 +50,7 @@ corners = south_west ∷ (south_east ∷ [])
 pub record IsUnclosed (parts : List Chain) (chain : Chain) : Type 0 where
   pub ways : chain.ways ≡ ways_of parts
   pub name : chain.name ≡ id_at chain.ways 0
-  pub path : chain.path ≡ paths_of parts
+  pub path : chain.path ≡ locations_along parts
   pub closed : chain.closed ≡ false
 
 -- the least id
@@ -60,15 +60,15 @@ pub record IsLeast (ids : List ℤ) (id : ℤ) : Type 0 where
 
 -- the path of the ring of chains: their paths one after the other; round Antarctica the corners after them, equal neighbours taken once
 abbrev pub ring_path : List Chain → List Loc
-ring_path parts = if list_any is_antarctic parts then once_round (paths_of parts ++ corners) else paths_of parts
+ring_path parts = if list_any is_antarctic parts then once_round (locations_along parts ++ corners) else locations_along parts
 
 -- a ring of chains one after the other
-pub record IsRing (parts : List Chain) (ring : CoastRing) : Type 0 where
+pub record IsCoastRing (parts : List Chain) (ring : CoastRing) : Type 0 where
   pub name : IsLeast (ways_of parts) ring.name
   pub path : ring.path ≡ ring_path parts
 
-abbrev pub is_closed : List (Option ℕ) → List ℕ → Bool
-is_closed next orbit = is_some (after next (last orbit))
+abbrev pub is_closed_orbit : List (Option ℕ) → List ℕ → Bool
+is_closed_orbit next orbit = is_some (after next (last_number orbit))
 
 -- what has become of chains: each orbit of what they go on to is a ring or an unclosed chain; both stand in strict order of name
 pub record AreJoined (chains : List Chain) (closings : Closings) (joined : Joined) : Type 0 where
@@ -76,10 +76,10 @@ pub record AreJoined (chains : List Chain) (closings : Closings) (joined : Joine
   pub are_next : AreNext chains closings.gaps next
   pub orbits : List (List ℕ)
   pub are_orbits : AreOrbits next orbits
-  pub in_order : AreInOrder next orbits
+  pub in_order : AreOrbitsInOrder next orbits
   pub rings : List CoastRing
-  pub each_ring : AllZip (λ o r. IsRing (chains_at chains o) r) (filter (is_closed next) orbits) rings
+  pub each_ring : AllZip (λ o r. IsCoastRing (chains_at chains o) r) (filter (is_closed_orbit next) orbits) rings
   pub same : IsPermutation rings joined.rings
   pub rings_rise : IsRising (on (λ (r : CoastRing). r.name) int_cmp) joined.rings
-  pub each_unclosed : AllZip (λ o c. IsUnclosed (chains_at chains o) c) (filter (λ o. not (is_closed next o)) orbits) joined.unclosed
+  pub each_unclosed : AllZip (λ o c. IsUnclosed (chains_at chains o) c) (filter (λ o. not (is_closed_orbit next o)) orbits) joined.unclosed
   pub unclosed_rise : IsRising (on (λ (c : Chain). c.name) int_cmp) joined.unclosed

@@ -17,11 +17,11 @@ pub record IsLine (path : List Loc) : Type 0 where
 abbrev pub origin : Loc
 origin = record { x = pos 0; y = pos 0; x_in = lit≤ tt; y_in = lit≤ tt }
 
-abbrev pub first_of : List Loc → Loc
-first_of path = slice_index_or path 0 origin
+abbrev pub first_location : List Loc → Loc
+first_location path = slice_index_or path 0 origin
 
-abbrev pub last_of : List Loc → Loc
-last_of path = slice_index_or path (length path - 1) origin
+abbrev pub last_location : List Loc → Loc
+last_location path = slice_index_or path (length path - 1) origin
 
 -- all but the last location
 abbrev pub front_of : List Loc → List Loc

@@ -7,12 +7,12 @@ use Rattle.coast_join.specs.declared.ring.Joined.{Joined}
 use Rattle.coast_join.specs.ById.{id_at}
 use Rattle.coast_join.specs.Chains.{AreChains}
 use Rattle.coast_join.specs.Closings.{AreClosings, names_of}
-use Rattle.coast_join.specs.Joined.{AreJoined, chains_at, is_closed}
-use Rattle.coast_join.specs.Line.{first_of, last_of}
+use Rattle.coast_join.specs.Joined.{AreJoined, chains_at, is_closed_orbit}
+use Rattle.coast_join.specs.Line.{first_location, last_location}
 
 -- the path of a closed chain doesn't end where it starts: the step from its last location to its first closes it
 abbrev pub ClosedEndsDiffer : Type 0
-ClosedEndsDiffer = (ways : List CoastWay) (chains : List Chain) → AreChains ways chains → (c : Chain) → Contains chains c → c.closed ≡ true → last_of c.path ≢ first_of c.path
+ClosedEndsDiffer = (ways : List CoastWay) (chains : List Chain) → AreChains ways chains → (c : Chain) → Contains chains c → c.closed ≡ true → last_location c.path ≢ first_location c.path
 
 -- of chains there are one closings for a limit
 abbrev pub ClosingsAreOne : Type 0
@@ -31,10 +31,10 @@ abbrev pub JoinedExists : Type 0
 JoinedExists = (ways : List CoastWay) (chains : List Chain) → AreChains ways chains → (limit : ℕ) (closings : Closings) → AreClosings chains limit closings → (joined : Joined) × AreJoined chains closings joined
 
 -- the first of these chains has the least name
-abbrev pub BeginsLeast : List Chain → Type 0
-BeginsLeast parts = All (λ (c : Chain). id_at (names_of parts) 0 ≤ℤ c.name) parts
+abbrev pub BeginsWithLeastName : List Chain → Type 0
+BeginsWithLeastName parts = All (λ (c : Chain). id_at (names_of parts) 0 ≤ℤ c.name) parts
 
 -- each ring begins with its chain of the least name
 abbrev pub RingsBeginLeast : Type 0
 RingsBeginLeast = (ways : List CoastWay) (chains : List Chain) → AreChains ways chains → (closings : Closings) (joined : Joined) (are : AreJoined chains closings joined) →
-    All (λ o. BeginsLeast (chains_at chains o)) (filter (is_closed are.next) are.orbits)
+    All (λ o. BeginsWithLeastName (chains_at chains o)) (filter (is_closed_orbit are.next) are.orbits)

@@ -8,8 +8,8 @@ use Rattle.coast_join.specs.declared.gap.Gap.{Gap}
 use Rattle.coast_join.specs.ById.{id_at}
 
 -- the order of pairs of chains of these names: by the squared distance, then by the name of the ending chain, then by that of the starting chain
-abbrev pub pair_cmp : List ℤ → Gap → Gap → Ordering
-pair_cmp names = then_cmp (on (λ g. g.square) nat_cmp) (then_cmp (on (λ g. id_at names g.from_chain) int_cmp) (on (λ g. id_at names g.to_chain) int_cmp))
+abbrev pub named_gap_cmp : List ℤ → Gap → Gap → Ordering
+named_gap_cmp names = then_cmp (on (λ g. g.square) nat_cmp) (then_cmp (on (λ g. id_at names g.from_chain) int_cmp) (on (λ g. id_at names g.to_chain) int_cmp))
 
 -- no lesser one of these has the same ending chain or the same starting chain
 abbrev pub IsFree : (Gap → Gap → Ordering) → List Gap → Gap → Type 0
@@ -23,4 +23,4 @@ pub record AreTaken (cmp : Gap → Gap → Ordering) (pairs taken : List Gap) : 
 -- of pairs of chains whose names rise there is one list of those that are taken
 abbrev pub TakenAreOne : Type 0
 TakenAreOne = (names : List ℤ) (pairs taken others : List Gap) → IsRising int_cmp names → All (λ g. (g.from_chain < length names) × (g.to_chain < length names)) pairs →
-    AreTaken (pair_cmp names) pairs taken → AreTaken (pair_cmp names) pairs others → taken ≡ others
+    AreTaken (named_gap_cmp names) pairs taken → AreTaken (named_gap_cmp names) pairs others → taken ≡ others

@@ -3,13 +3,13 @@
 ghost use Rattle.std.specs.Prelude.{◌≡◌, IfOk, map};
 ghost use Rattle.std.specs.List.{IsDistinct};
 ghost use Rattle.std.specs.Ordering.{int_eq};
-ghost use Rattle.coast_join.specs.ById.{AreById, placed};
+ghost use Rattle.coast_join.specs.ById.{AreById, ids_with_places};
 
 use std::alloc::{AllocError as OutOfMemory, Global};
 
 /// Each id with its place.
-fn placed(alloc: Global, ids: &[i64]) -> Result<Vec<(i64, usize)>, OutOfMemory>
-    ensures { IfOk result (λ v. v.items ≡ placed ids.now) }
+fn ids_with_places(alloc: Global, ids: &[i64]) -> Result<Vec<(i64, usize)>, OutOfMemory>
+    ensures { IfOk result (λ v. v.items ≡ ids_with_places ids.now) }
 {
     let mut placed = Vec::with_capacity(alloc, ids.len())?;
     for (place, &id) in ids.iter().enumerate() {
@@ -30,7 +30,7 @@ pub fn by_id(alloc: Global, ids: &[i64]) -> Result<Vec<usize>, OutOfMemory>
     requires { IsDistinct int_eq ids.now }
     ensures { IfOk result (λ v. AreById ids.now v.items) }
 {
-    let mut placed = placed(alloc, ids)?;
+    let mut placed = ids_with_places(alloc, ids)?;
     placed.sort()?;
     places(alloc, &placed)
 }

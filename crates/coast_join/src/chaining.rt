@@ -3,12 +3,12 @@
 ghost use Rattle.std.specs.Prelude.{◌≡◌, ◌++◌, ◌<◌, ◌-◌, ◌∷◌, [], if◌then◌else◌, All, IfOk, OnOk, length, map, slice_index};
 ghost use Rattle.std.specs.List.{IsDistinct, flat_map, AllZip};
 ghost use Rattle.std.specs.Ordering.{int_eq};
-ghost use Rattle.orbits.specs.Orbits.{IsOrbit, last};
+ghost use Rattle.orbits.specs.Orbits.{IsOrbit, last_number};
 ghost use Rattle.coast_join.specs.declared.way.CoastWay.{CoastWay};
-ghost use Rattle.coast_join.specs.Chains.{AreChains, IsChain, Line, joined};
-ghost use Rattle.coast_join.specs.ChainSteps.{AreLinked, Makes, members};
-ghost use Rattle.coast_join.specs.Links.{AreLinks};
-ghost use Rattle.coast_join.specs.Line.{first_of, front_of, last_of};
+ghost use Rattle.coast_join.specs.Chains.{AreChains, IsChain, WayPath, joined_path};
+ghost use Rattle.coast_join.specs.ChainSteps.{AreLinked, Makes, ways_at};
+ghost use Rattle.coast_join.specs.Links.{AreNextWays};
+ghost use Rattle.coast_join.specs.Line.{first_location, front_of, last_location};
 
 use crate::by_id::by_id;
 use crate::chain::Chain;
@@ -29,7 +29,7 @@ fn ids(alloc: Global, ways: &[CoastWay]) -> Result<Vec<i64>, OutOfMemory>
 fn starts(alloc: Global, ways: &[CoastWay], places: &[usize]) -> Result<Vec<Loc>, OutOfMemory>
     requires { All (λ i. i < length ways.now) places.now }
     ensures { IfOk result (λ v. v.items
-        ≡ map (λ (l : Line). first_of l.path) (members ways.now places.now)) }
+        ≡ map (λ (l : WayPath). first_location l.path) (ways_at ways.now places.now)) }
 {
     let mut starts = Vec::with_capacity(alloc, places.len())?;
     for &place in places {
@@ -42,7 +42,7 @@ fn starts(alloc: Global, ways: &[CoastWay], places: &[usize]) -> Result<Vec<Loc>
 fn ends(alloc: Global, ways: &[CoastWay], places: &[usize]) -> Result<Vec<Loc>, OutOfMemory>
     requires { All (λ i. i < length ways.now) places.now }
     ensures { IfOk result (λ v. v.items
-        ≡ map (λ (l : Line). last_of l.path) (members ways.now places.now)) }
+        ≡ map (λ (l : WayPath). last_location l.path) (ways_at ways.now places.now)) }
 {
     let mut ends = Vec::with_capacity(alloc, places.len())?;
     for &place in places {
@@ -54,7 +54,7 @@ fn ends(alloc: Global, ways: &[CoastWay], places: &[usize]) -> Result<Vec<Loc>, 
 /// The ids of the ways at these places.
 fn ids_at(alloc: Global, ways: &[CoastWay], places: &[usize]) -> Result<Ids, OutOfMemory>
     requires { All (λ i. i < length ways.now) places.now }
-    ensures { IfOk result (λ ids. ids ≡ map (λ (l : Line). l.id) (members ways.now places.now)) }
+    ensures { IfOk result (λ ids. ids ≡ map (λ (l : WayPath). l.id) (ways_at ways.now places.now)) }
 {
     let mut ids = Ids::new(alloc);
     for &place in places {
@@ -78,7 +78,7 @@ fn add_front(path: &mut Path, way: &CoastWay) -> Result<(), OutOfMemory>
 fn fronts(alloc: Global, ways: &[CoastWay], places: &[usize]) -> Result<Path, OutOfMemory>
     requires { All (λ i. i < length ways.now) places.now }
     ensures { IfOk result (λ path. path
-        ≡ flat_map (λ (l : Line). front_of l.path) (members ways.now places.now)) }
+        ≡ flat_map (λ (l : WayPath). front_of l.path) (ways_at ways.now places.now)) }
 {
     let mut path = Path::new(alloc);
     for &place in places {
@@ -97,7 +97,7 @@ fn path_of(
     requires some { 0 < length places.now }
     requires inside { All (λ i. i < length ways.now) places.now }
     ensures { IfOk result (λ path. path
-        ≡ joined closed (map (λ (l : Line). l.path) (members ways.now places.now))) }
+        ≡ joined_path closed (map (λ (l : WayPath). l.path) (ways_at ways.now places.now))) }
 {
     let mut path = fronts(alloc, ways, places)?;
     if closed {
@@ -116,8 +116,9 @@ fn chain_of(
     closed: bool,
 ) -> Result<Chain, OutOfMemory>
     requires inside { All (λ i. i < length ways.now) places.now }
-    requires linked { AreLinked closed (map (λ (l : Line). l.path) (members ways.now places.now)) }
-    ensures { IfOk result (λ chain. Makes (members ways.now places.now) closed chain) }
+    requires linked { AreLinked closed (map (λ (l : WayPath). l.path)
+        (ways_at ways.now places.now)) }
+    ensures { IfOk result (λ chain. Makes (ways_at ways.now places.now) closed chain) }
 {
     let ids = ids_at(alloc, ways, places)?;
     let path = path_of(alloc, ways, places, closed)?;
@@ -148,13 +149,13 @@ fn chain_at(
     orbit: &[usize],
 ) -> Result<Chain, OutOfMemory>
     requires inside { All (λ i. i < length ways.now) order.now }
-    requires links { AreLinks
-        (map (λ (l : Line). last_of l.path) (members ways.now order.now))
-        (map (λ (l : Line). first_of l.path) (members ways.now order.now))
+    requires links { AreNextWays
+        (map (λ (l : WayPath). last_location l.path) (ways_at ways.now order.now))
+        (map (λ (l : WayPath). first_location l.path) (ways_at ways.now order.now))
         next.now }
     requires orbit { IsOrbit next.now orbit.now }
     requires below { All (λ k. k < length order.now) orbit.now }
-    ensures { IfOk result (λ chain. IsChain (members ways.now order.now) next.now orbit.now chain) }
+    ensures { IfOk result (λ chain. IsChain (ways_at ways.now order.now) next.now orbit.now chain) }
 {
     let places = numbers_at(alloc, order, orbit)?;
     let end = orbit[orbit.len() - 1];
@@ -171,13 +172,13 @@ fn chains_of(
     orbits: &[Vec<usize>],
 ) -> Result<Vec<Chain>, OutOfMemory>
     requires inside { All (λ i. i < length ways.now) order.now }
-    requires links { AreLinks
-        (map (λ (l : Line). last_of l.path) (members ways.now order.now))
-        (map (λ (l : Line). first_of l.path) (members ways.now order.now))
+    requires links { AreNextWays
+        (map (λ (l : WayPath). last_location l.path) (ways_at ways.now order.now))
+        (map (λ (l : WayPath). first_location l.path) (ways_at ways.now order.now))
         next.now }
     requires orbits { All (λ o. IsOrbit next.now o) (map (λ o. o.items) orbits.now) }
     requires below { All (λ o. All (λ k. k < length order.now) o) (map (λ o. o.items) orbits.now) }
-    ensures { IfOk result (λ v. AllZip (IsChain (members ways.now order.now) next.now)
+    ensures { IfOk result (λ v. AllZip (IsChain (ways_at ways.now order.now) next.now)
         (map (λ o. o.items) orbits.now)
         v.items) }
 {

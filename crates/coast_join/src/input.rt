@@ -7,9 +7,9 @@ ghost use Rattle.coast_join.specs.declared.way.CoastWay.{CoastWay};
 ghost use Rattle.osm_objects.specs.CoastWays.{coast_ways};
 ghost use Rattle.osm_objects.specs.Objects.{place_of};
 ghost use Rattle.coast_join.specs.declared.way.Aside.TheVariants.{Missing};
-ghost use Rattle.coast_join.specs.Chains.{line_of};
+ghost use Rattle.coast_join.specs.Chains.{way_path_of};
 ghost use Rattle.coast_join.specs.Line.{NeighboursDiffer};
-ghost use Rattle.coast_join.specs.Input.{asides_by, asides_of, line_along, lines_by, lines_of, nodes_missing};
+ghost use Rattle.coast_join.specs.Input.{asides_by, asides_of, line_along, lines_by, missing_node_ids, way_paths_in};
 
 use crate::repeated::each_once;
 use crate::round::once_path;
@@ -42,8 +42,8 @@ fn unlocated(alloc: Global, store: &Store, refs: &Refs) -> Result<Vec<i64>, OutO
 }
 
 /// Those nodes, each once.
-fn nodes_missing(alloc: Global, store: &Store, refs: &Refs) -> Result<IndexSet<i64>, OutOfMemory>
-    ensures { IfOk result (λ s. s.keys ≡ nodes_missing store.now refs.now) }
+fn missing_node_ids(alloc: Global, store: &Store, refs: &Refs) -> Result<IndexSet<i64>, OutOfMemory>
+    ensures { IfOk result (λ s. s.keys ≡ missing_node_ids store.now refs.now) }
 {
     let all = unlocated(alloc, store, refs)?;
     each_once(alloc, &all)
@@ -88,8 +88,8 @@ fn add_line(
     path: Path,
 ) -> Result<(), OutOfMemory>
     requires { NeighboursDiffer path }
-    ensures ways { OnOk result (map line_of ways.new
-        ≡ map line_of ways.old ++ lines_by way [] path) }
+    ensures ways { OnOk result (map way_path_of ways.new
+        ≡ map way_path_of ways.old ++ lines_by way [] path) }
     ensures asides { OnOk result (asides.new ≡ asides.old ++ asides_by way [] path) }
 {
     if path.as_slice().len() < 2 {
@@ -109,13 +109,13 @@ fn add_way(
     way: i64,
     refs: &Refs,
 ) -> Result<(), OutOfMemory>
-    ensures ways { OnOk result (map line_of ways.new ≡ map line_of ways.old
-        ++ lines_by way (nodes_missing store.now refs.now) (line_along store.now refs.now)) }
+    ensures ways { OnOk result (map way_path_of ways.new ≡ map way_path_of ways.old
+        ++ lines_by way (missing_node_ids store.now refs.now) (line_along store.now refs.now)) }
     ensures asides { OnOk result (asides.new ≡ asides.old
-        ++ asides_by way (nodes_missing store.now refs.now) (line_along store.now refs.now)) }
+        ++ asides_by way (missing_node_ids store.now refs.now) (line_along store.now refs.now)) }
 {
     orders_are_exact();
-    let missing = nodes_missing(alloc, store, refs)?;
+    let missing = missing_node_ids(alloc, store, refs)?;
     if !missing.is_empty() {
         return add_missing(asides, way, missing.as_slice());
     }
@@ -131,8 +131,8 @@ fn add_held(
     asides: &mut Asides,
     way: i64,
 ) -> Result<(), OutOfMemory>
-    ensures ways { OnOk result (map line_of ways.new
-        ≡ map line_of ways.old ++ lines_of store.now way) }
+    ensures ways { OnOk result (map way_path_of ways.new
+        ≡ map way_path_of ways.old ++ way_paths_in store.now way) }
     ensures asides { OnOk result (asides.new ≡ asides.old ++ asides_of store.now way) }
 {
     match store.way(way) {
@@ -149,7 +149,7 @@ fn add_held(
 /// error is want of memory.
 pub fn coast_input(alloc: Global, store: &Store) -> Result<CoastInput, OutOfMemory>
     ensures ways { IfOk result (λ input.
-        map line_of input.ways ≡ flat_map (lines_of store.now) (coast_ways store.now)) }
+        map way_path_of input.ways ≡ flat_map (way_paths_in store.now) (coast_ways store.now)) }
     ensures aside { IfOk result (λ input.
         input.aside ≡ flat_map (asides_of store.now) (coast_ways store.now)) }
     ensures apart { IfOk result (λ input.

@@ -4,7 +4,7 @@ ghost use Rattle.std.specs.Prelude.{◌≡◌, ◌↔◌, ◌<◌, ◌^◌, ℕ,
 ghost use Rattle.std.specs.List.{slice_get};
 ghost use Rattle.std.specs.BTreeMap.{get};
 ghost use Rattle.osm_lattice.specs.declared.loc.Loc.{Loc};
-ghost use Rattle.coast_join.specs.Links.{before, AreNumbered, AreLinks, key_cmp};
+ghost use Rattle.coast_join.specs.Links.{count_before, AreNumbered, AreNextWays, key_cmp};
 
 use osm_geom::{Loc, orders_are_exact};
 use std::alloc::{AllocError as OutOfMemory, Global};
@@ -29,7 +29,7 @@ fn numbered(alloc: Global, locs: &[Loc]) -> Result<Vec<(Loc, usize)>, OutOfMemor
 fn places(alloc: Global, locs: &[Loc]) -> Result<BTreeMap<(Loc, usize), usize>, OutOfMemory>
     ensures { IfOk result (λ m. (p : Loc) (r j : ℕ)
         → (get key_cmp m (p, r) ≡ Some j)
-        ↔ ((slice_get locs.now j ≡ Some p) × (before p locs.now j ≡ r))) }
+        ↔ ((slice_get locs.now j ≡ Some p) × (count_before p locs.now j ≡ r))) }
 {
     orders_are_exact();
     let keys = numbered(alloc, locs)?;
@@ -56,7 +56,7 @@ fn found(
 /// For each way the one that it goes on to: at each location the i-th that ends there goes on to the i-th that
 /// starts there. Told are the locations at which the ways end, and those at which they start.
 pub fn links(alloc: Global, ends: &[Loc], starts: &[Loc]) -> Result<Vec<Option<usize>>, OutOfMemory>
-    ensures { IfOk result (λ v. AreLinks ends.now starts.now v.items) }
+    ensures { IfOk result (λ v. AreNextWays ends.now starts.now v.items) }
 {
     let places = places(alloc, starts)?;
     let keys = numbered(alloc, ends)?;

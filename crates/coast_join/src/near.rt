@@ -6,7 +6,7 @@ ghost use Rattle.std.specs.List.Sorted.{IsNonDecreasingBy, IsPermutation};
 ghost use Rattle.lists.specs.Rising.{count_of};
 ghost use Rattle.coast_join.specs.declared.gap.Gap.{Gap};
 ghost use Rattle.coast_join.specs.Closings.{gap_between, near_pairs, square_between};
-ghost use Rattle.coast_join.specs.GapSteps.{gap_cmp, slant, slant_of};
+ghost use Rattle.coast_join.specs.GapSteps.{gap_cmp, slant_of, slanted_distance};
 
 use crate::closing::OpenEnds;
 use crate::gap::Gap;
@@ -65,9 +65,9 @@ fn add_pairs(
 
 /// How far a location lies in a slanted direction: its distance from the western edge of the world, and three times
 /// that from the southern one. Neither a row of chains along a parallel nor one along a meridian lies at one slant.
-#[tactic(auto, unfolding(crate::specs::GapSteps::slant))]
-fn slant(at: Loc) -> u64
-    ensures value { result ≡ slant at }
+#[tactic(auto, unfolding(crate::specs::GapSteps::slanted_distance))]
+fn slanted_distance(at: Loc) -> u64
+    ensures value { result ≡ slanted_distance at }
     ensures small { result < 2 ^ 35 }
 {
     let east = u64::from(at.x.abs_diff(-1_800_000_000));
@@ -81,7 +81,7 @@ fn by_slant(alloc: Global, ends: &[OpenEnds]) -> Result<Vec<OpenEnds>, OutOfMemo
     ensures sorted { IfOk result (λ v. IsNonDecreasingBy slant_of v.items) }
 {
     let mut starts = Vec::from_slice(alloc, ends)?;
-    starts.sort_by_key(|to| slant(to.start))?;
+    starts.sort_by_key(|to| slanted_distance(to.start))?;
     Ok(starts)
 }
 
@@ -93,9 +93,9 @@ fn from_first(limit: u32, from: OpenEnds, starts: &[OpenEnds]) -> &[OpenEnds]
         ≡ filter_map (gap_between limit from) starts.now }
     ensures sorted { IsNonDecreasingBy slant_of result.now }
 {
-    let place = slant(from.end);
+    let place = slanted_distance(from.end);
     let reach = 4 * u64::from(limit);
-    let begin = starts.partition_point(|to| slant(to.start) + reach <= place);
+    let begin = starts.partition_point(|to| slanted_distance(to.start) + reach <= place);
     &starts[begin..]
 }
 
@@ -105,8 +105,8 @@ fn to_last(limit: u32, from: OpenEnds, starts: &[OpenEnds]) -> &[OpenEnds]
     ensures { filter_map (gap_between limit from) result.now
         ≡ filter_map (gap_between limit from) starts.now }
 {
-    let far = slant(from.end) + 4 * u64::from(limit);
-    let end = starts.partition_point(|to| slant(to.start) < far);
+    let far = slanted_distance(from.end) + 4 * u64::from(limit);
+    let end = starts.partition_point(|to| slanted_distance(to.start) < far);
     &starts[..end]
 }
 

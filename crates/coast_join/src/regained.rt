@@ -9,7 +9,7 @@ ghost use Rattle.coast_join.specs.declared.ring.CoastRing.{CoastRing};
 ghost use Rattle.coast_join.specs.declared.way.CoastWay.{CoastWay};
 ghost use Rattle.coast_join.specs.Chains.{AreChains};
 ghost use Rattle.coast_join.specs.Closings.{AreClosings};
-ghost use Rattle.coast_join.specs.Joined.{AreJoined, IsRing, IsUnclosed, chains_at, is_closed};
+ghost use Rattle.coast_join.specs.Joined.{AreJoined, IsCoastRing, IsUnclosed, chains_at, is_closed_orbit};
 ghost use Rattle.coast_join.specs.JoinSteps.{AreParts};
 
 use crate::chain::{Chain, Chains};
@@ -22,10 +22,10 @@ use orbits::{each_stands_once, orbits};
 use std::alloc::{AllocError as OutOfMemory, Global};
 
 /// Whether the last chain of an orbit goes on.
-fn is_closed(next: &[Option<usize>], orbit: &[usize]) -> bool
+fn is_closed_orbit(next: &[Option<usize>], orbit: &[usize]) -> bool
     requires some { 0 < length orbit.now }
     requires inside { All (λ k. k < length next.now) orbit.now }
-    ensures { result ≡ is_closed next.now orbit.now }
+    ensures { result ≡ is_closed_orbit next.now orbit.now }
 {
     let end = orbit[orbit.len() - 1];
     next[end].is_some()
@@ -41,12 +41,12 @@ fn unclosed(
     requires sized { length next.now ≡ length chains.now }
     requires parts { All (AreParts chains.now) (map (λ o. o.items) orbits.now) }
     ensures { IfOk result (λ v. AllZip (λ o c. IsUnclosed (chains_at chains.now o) c)
-        (filter (λ o. not (is_closed next.now o)) (map (λ o. o.items) orbits.now))
+        (filter (λ o. not (is_closed_orbit next.now o)) (map (λ o. o.items) orbits.now))
         v) }
 {
     let mut unclosed = Chains::new(alloc);
     for orbit in orbits {
-        if !is_closed(next, orbit) {
+        if !is_closed_orbit(next, orbit) {
             unclosed.push(unclosed_of(alloc, chains, orbit)?)?;
         }
     }
@@ -62,13 +62,13 @@ fn rings(
 ) -> Result<Vec<CoastRing>, OutOfMemory>
     requires sized { length next.now ≡ length chains.now }
     requires parts { All (AreParts chains.now) (map (λ o. o.items) orbits.now) }
-    ensures { IfOk result (λ v. AllZip (λ o r. IsRing (chains_at chains.now o) r)
-        (filter (is_closed next.now) (map (λ o. o.items) orbits.now))
+    ensures { IfOk result (λ v. AllZip (λ o r. IsCoastRing (chains_at chains.now o) r)
+        (filter (is_closed_orbit next.now) (map (λ o. o.items) orbits.now))
         v.items) }
 {
     let mut rings = Vec::new(alloc);
     for orbit in orbits {
-        if is_closed(next, orbit) {
+        if is_closed_orbit(next, orbit) {
             rings.push(ring_of(alloc, chains, orbit)?)?;
         }
     }

@@ -6,7 +6,7 @@ ghost use Rattle.osm_lattice.specs.declared.loc.Loc.{Loc};
 ghost use Rattle.coast_join.specs.declared.chain.Chain.{Chain};
 ghost use Rattle.coast_join.specs.declared.gap.Gap.{Gap};
 ghost use Rattle.coast_join.specs.Closings.{is_antarctic, is_open};
-ghost use Rattle.coast_join.specs.Joined.{IsLeast, IsRing, IsUnclosed, chains_at, corners, paths_of, ring_path, south_east, south_west, ways_of};
+ghost use Rattle.coast_join.specs.Joined.{IsCoastRing, IsLeast, IsUnclosed, chains_at, corners, locations_along, ring_path, south_east, south_west, ways_of};
 ghost use Rattle.coast_join.specs.JoinSteps.{AreGapLinks, AreNextBy, AreParts};
 ghost use Rattle.coast_join.specs.Round.{IsRound};
 
@@ -83,7 +83,7 @@ fn ids_at(alloc: Global, chains: &[Chain], places: &[usize]) -> Result<Ids, OutO
 /// The paths of the chains at these places one after the other.
 fn paths_at(alloc: Global, chains: &[Chain], places: &[usize]) -> Result<Vec<Loc>, OutOfMemory>
     requires { All (λ k. k < length chains.now) places.now }
-    ensures { IfOk result (λ v. v.items ≡ paths_of (chains_at chains.now places.now)) }
+    ensures { IfOk result (λ v. v.items ≡ locations_along (chains_at chains.now places.now)) }
 {
     let mut locs = Vec::new(alloc);
     for &place in places {
@@ -193,7 +193,7 @@ pub(crate) fn ring_of(
     places: &[usize],
 ) -> Result<CoastRing, OutOfMemory>
     requires { AreParts chains.now places.now }
-    ensures { IfOk result (λ ring. IsRing (chains_at chains.now places.now) ring) }
+    ensures { IfOk result (λ ring. IsCoastRing (chains_at chains.now places.now) ring) }
 {
     let ways = ids_at(alloc, chains, places)?;
     let path = ring_path(alloc, chains, places)?;

@@ -1,14 +1,14 @@
 //! Lines without equal neighbours.
 
 ghost use Rattle.std.specs.Prelude.{◌≡◌, ◌≤◌, IfOk, length};
-ghost use Rattle.coast_join.specs.Round.{is_same, once, once_round, opened};
+ghost use Rattle.coast_join.specs.Round.{is_same_location, once, once_round, opened};
 
 use osm_geom::{Loc, Path};
 use std::alloc::{AllocError as OutOfMemory, Global};
 
 /// Whether two locations are one.
-fn is_same(p: Loc, q: Loc) -> bool
-    ensures { result ≡ is_same p q }
+fn is_same_location(p: Loc, q: Loc) -> bool
+    ensures { result ≡ is_same_location p q }
 {
     p == q
 }
@@ -38,7 +38,7 @@ fn opened(locs: &[Loc]) -> &[Loc]
     ensures { result.now ≡ opened locs.now }
 {
     let end = locs.len() - 1;
-    if is_same(locs[end], locs[0]) {
+    if is_same_location(locs[end], locs[0]) {
         &locs[..end]
     } else {
         locs

@@ -1,7 +1,7 @@
 //! Coastline ways, and lists of them.
 
 ghost use Rattle.std.specs.Prelude.{◌≡◌};
-ghost use Rattle.coast_join.specs.Line.{IsLine, first_of, last_of};
+ghost use Rattle.coast_join.specs.Line.{IsLine, first_location, last_location};
 
 use lists::List;
 use osm_geom::{Loc, Path};
@@ -18,14 +18,14 @@ pub struct CoastWay {
 impl CoastWay {
     /// Its first location.
     pub fn first(&self) -> Loc
-        ensures { result ≡ first_of self.now.path }
+        ensures { result ≡ first_location self.now.path }
     {
         self.path.as_slice()[0]
     }
 
     /// Its last location.
     pub fn last(&self) -> Loc
-        ensures { result ≡ last_of self.now.path }
+        ensures { result ≡ last_location self.now.path }
     {
         let path = self.path.as_slice();
         path[path.len() - 1]

@@ -18,11 +18,11 @@ use Rattle.osm_sides.proofs.SidesKit.{directed_counts, directed_is_sided}
 use Rattle.plane_edges.specs.SidedLaws.{LatticeIsSided}
 use Rattle.coast_join.specs.declared.ring.CoastRing.{CoastRing}
 use Rattle.coast_sides.specs.ExistenceLaws.{LandExists, SortedExists, WaterExists}
-use Rattle.coast_sides.specs.Land.{AreClear, IsLand}
+use Rattle.coast_sides.specs.Land.{HaveNoConflicts, IsLand}
 use Rattle.coast_sides.specs.Laws.{CancellingKeepsEven}
 use Rattle.coast_sides.specs.Segments.{all_segments}
 use Rattle.coast_sides.specs.Sorting.{is_left_out}
-use Rattle.coast_sides.specs.Water.{AreSides, IsSide, IsWater, WaterIsClear, WaterIsEven, pieces, segments_along}
+use Rattle.coast_sides.specs.Water.{AreSides, IsSide, IsWater, WaterIsClear, WaterIsEven, pieces, segments_under}
 use Rattle.coast_sides.specs.WorldSides.{greater_corner, lesser_corner, on_side}
 use Rattle.coast_sides.specs.WrongWays.{runs_against}
 use Rattle.coast_sides.specs.declared.side_nodes.WorldSide.{WorldSide}
@@ -65,7 +65,7 @@ module _ (counted : CountedListsExist seg_cmp) where
   module _ (exact : SegmentOrderTellsApart) (whole : DirectedAreWhole) (directions : DirectionsExist) where
     -- ---- land
 
-    pub land_of_segments : (segs : List Seg) → AreClear segs → ((left : List Seg) → AreSurvivors segs left → HasEvenNodes left) → (edges : List Edge) × IsLand segs edges
+    pub land_of_segments : (segs : List Seg) → HaveNoConflicts segs → ((left : List Seg) → AreSurvivors segs left → HasEvenNodes left) → (edges : List Edge) × IsLand segs edges
     land_of_segments segs clear even =
         let l = survivors_exist segs in
         let left = l.0 in
@@ -109,7 +109,7 @@ module _ (counted : CountedListsExist seg_cmp) where
             record { on_south = s.0; south = s.1; on_east = e.0; east = e.1; on_north = n.0; north = n.1; on_west = w.0; west = w.1; whole = refl },
           )
 
-      water_of_segments : WaterIsClear → WaterIsEven → (land : List Seg) → AreClear land → HasEvenNodes land → (edges : List Edge) × IsWater land edges
+      water_of_segments : WaterIsClear → WaterIsEven → (land : List Seg) → HaveNoConflicts land → HasEvenNodes land → (edges : List Edge) × IsWater land edges
       water_of_segments clear_law even_law land clear even =
           let s = sides_exist land in
           let l = survivors_exist (land ++ s.0) in
@@ -134,4 +134,4 @@ module _ (counted : CountedListsExist seg_cmp) where
       pub land_has_water : ConflictIsSymmetric → LatticeIsSided → WaterIsClear → WaterIsEven → WaterExists
       land_has_water symmetric lattice clear_law even_law land all sided =
           let plane = plane_sided lattice land all sided in
-          water_of_segments clear_law even_law (segments_along land) (clear_sided land all plane symmetric) (even_sided land all plane places)
+          water_of_segments clear_law even_law (segments_under land) (clear_sided land all plane symmetric) (even_sided land all plane places)

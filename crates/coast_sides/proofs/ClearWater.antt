@@ -24,7 +24,7 @@ use Rattle.osm_segments.specs.Counts.{AreSurvivors, ends_of}
 use Rattle.osm_segments.specs.Pairs.{conflicts_of}
 use Rattle.coast_join.specs.Joined.{south_east, south_west}
 use Rattle.coast_join.specs.Line.{origin}
-use Rattle.coast_sides.specs.Land.{AreClear}
+use Rattle.coast_sides.specs.Land.{HaveNoConflicts}
 use Rattle.coast_sides.specs.Water.{AreSides, IsSide, Meets, is_east, is_north, is_south, is_west, north_east, north_west, pieces}
 use Rattle.coast_sides.proofs.ClearSides.{IsBorder, clear_east, clear_north, clear_south, clear_west, east_border, none_between, north_border, on_line, piece_of, south_border, west_border}
 use Rattle.coast_sides.proofs.Clearing.{clear_left, none_conflict}
@@ -64,7 +64,7 @@ module _ (points : LocationOrderIsPointOrder) (exact : LocationOrderTellsApart) 
   touched false false false y z s h e = absurd (false≢true h)
 
   -- no node of land is strictly inside a segment of it
-  land_outside : (land : List Seg) → AreClear land → (s : Seg) → Contains land s → (n : Loc) → Contains (ends_of land) n → is_inside (vector_of n) (edge_of s) ≡ false
+  land_outside : (land : List Seg) → HaveNoConflicts land → (s : Seg) → Contains land s → (n : Loc) → Contains (ends_of land) n → is_inside (vector_of n) (edge_of s) ≡ false
   unfolding are_overlapping are_crossing
   land_outside land clear s c n (k, l, e) = false_from_ne_true (is_inside (vector_of n) (edge_of s)) (λ inside.
       let u = end_from land n k l e in
@@ -80,7 +80,7 @@ module _ (points : LocationOrderIsPointOrder) (exact : LocationOrderTellsApart) 
           ⊎_elim (λ a. less_itself loc_cmp_total s.a (subst (λ (p : Loc). loc_cmp s.a p ≡ Less) (a ∙ ap (λ (v : Seg). v.a) (sym is)) low)) (λ b. less_itself loc_cmp_total s.b (subst (λ (p : Loc). loc_cmp p s.b ≡ Less) (b ∙ ap (λ (v : Seg). v.b) (sym is)) high)) at
 
   module _ (land : List Seg) (on : Loc → Bool) (from to : Loc) (nodes : List Loc) (side : IsSide on from to land nodes) (from_out : (s : Seg) → is_inside (vector_of from) (edge_of s) ≡ false) (to_out : (s : Seg) → is_inside (vector_of to) (edge_of s) ≡ false) where
-    meets_land : AreClear land → (s : Seg) → Contains land s → Meets on nodes s
+    meets_land : HaveNoConflicts land → (s : Seg) → Contains land s → Meets on nodes s
     meets_land clear s (k, l, e) = record {
       first = λ h. side.cut s.a h (first_stands land s k l e);
       second = λ h. side.cut s.b h (second_stands land s k l e);
@@ -126,7 +126,7 @@ module _ (points : LocationOrderIsPointOrder) (exact : LocationOrderTellsApart) 
 
   -- ---- all together
 
-  module _ (land sides : List Seg) (clear : AreClear land) (are : AreSides land sides) where
+  module _ (land sides : List Seg) (clear : HaveNoConflicts land) (are : AreSides land sides) where
     part_of : (s : Seg) → Contains (land ++ sides) s → Contains land s ⊎ (Contains (pieces are.on_south) s ⊎ (Contains (pieces are.on_east) s ⊎ (Contains (pieces are.on_north) s ⊎ Contains (pieces are.on_west) s)))
     part_of s c = ⊎_elim (λ a. inl a) (λ a.
         ⊎_elim (λ b. inr (inl b)) (λ b. ⊎_elim (λ d. inr (inr (inl d))) (λ d. ⊎_elim (λ f. inr (inr (inr (inl f)))) (λ f. inr (inr (inr (inr f)))) (Contains-append_cases (pieces are.on_north) (pieces are.on_west) s d)) (Contains-append_cases (pieces are.on_east) (pieces are.on_north ++ pieces are.on_west) s b))
@@ -201,11 +201,11 @@ module _ (points : LocationOrderIsPointOrder) (exact : LocationOrderTellsApart) 
     clear_piece s t c (inr (inr (inl a))) = clear_north points exact are.on_north s t are.north.rising are.north.within (meets_north s c) a
     clear_piece s t c (inr (inr (inr a))) = clear_west points exact are.on_west s t are.west.rising are.west.within (meets_west s c) a
 
-    clear_whole : ConflictIsSymmetric → AreClear (land ++ sides)
+    clear_whole : ConflictIsSymmetric → HaveNoConflicts (land ++ sides)
     clear_whole symmetric s t a b = ⊎_elim
         (λ t_land. ⊎_elim (λ s_land. clear s t s_land t_land) (λ s_side. symmetric s t ∙ clear_piece t s b s_side) (part_of s a))
         (λ t_side. clear_piece s t a t_side)
         (part_of t b)
 
-  pub water_clear : ConflictIsSymmetric → (land sides left : List Seg) → AreClear land → AreSides land sides → AreSurvivors (land ++ sides) left → conflicts_of left ≡ []
+  pub water_clear : ConflictIsSymmetric → (land sides left : List Seg) → HaveNoConflicts land → AreSides land sides → AreSurvivors (land ++ sides) left → conflicts_of left ≡ []
   water_clear symmetric land sides left clear are left_are = none_conflict left (clear_left exact_2 (land ++ sides) left (clear_whole land sides clear are symmetric) left_are)

@@ -18,7 +18,7 @@ use Rattle.osm_segments.specs.Counts.{AreSurvivors}
 use Rattle.osm_segments.specs.Pairs.{conflicts_of, pair_of}
 use Rattle.osm_segments.specs.declared.pairs.Pair.{Pair}
 use Rattle.osm_sides.specs.Survivors.{plane_edges_of}
-use Rattle.coast_sides.specs.Land.{AreClear}
+use Rattle.coast_sides.specs.Land.{HaveNoConflicts}
 use Rattle.coast_sides.proofs.Cancelling.{odd_parity}
 use Rattle.coast_sides.proofs.EvenRings.{seg_cmp_total}
 use lib.IntN.{ℤ}
@@ -36,7 +36,7 @@ odd_some m (suc n) e h = omega arith
 pub left_stands : SegmentOrderTellsApart → (segs survivors : List Seg) → AreSurvivors segs survivors → (s : Seg) → Contains survivors s → Contains segs s
 left_stands exact segs survivors are s (k, h, e) = stands exact s segs (odd_some _ _ (are.odd s) (counted s survivors k h e))
 
-pub clear_left : SegmentOrderTellsApart → (segs survivors : List Seg) → AreClear segs → AreSurvivors segs survivors → AreClear survivors
+pub clear_left : SegmentOrderTellsApart → (segs survivors : List Seg) → HaveNoConflicts segs → AreSurvivors segs survivors → HaveNoConflicts survivors
 clear_left exact segs survivors clear are s t a b = clear s t (left_stands exact segs survivors are s a) (left_stands exact segs survivors are t b)
 
 no_pair : (s t : Seg) → conflict_of s t ≡ None → pair_of s t ≡ None
@@ -50,7 +50,7 @@ none_of s (t ∷ ts) h =
     let rest = none_of s ts (λ u (k, l, e). h u (suc k, omega arith, e)) in
     ap (λ (o : Option Pair). cons_option o (filter_map (pair_of s) ts)) here ∙ rest
 
-pub none_conflict : (segs : List Seg) → AreClear segs → conflicts_of segs ≡ []
+pub none_conflict : (segs : List Seg) → HaveNoConflicts segs → conflicts_of segs ≡ []
 none_conflict [] clear = refl
 none_conflict (s ∷ segs) clear =
     let here = none_of s segs (λ t (k, l, e). clear s t (0, omega arith, refl) (suc k, omega arith, e)) in

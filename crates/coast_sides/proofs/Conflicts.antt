@@ -18,7 +18,7 @@ use Rattle.osm_segments.specs.Counts.{AreDistinct}
 use Rattle.osm_segments.specs.Pairs.{conflicts_of, pair_of}
 use Rattle.osm_segments.specs.declared.pairs.Pair.{Pair}
 use Rattle.coast_join.specs.declared.ring.CoastRing.{CoastRing}
-use Rattle.coast_sides.specs.Land.{AreClear}
+use Rattle.coast_sides.specs.Land.{HaveNoConflicts}
 use Rattle.coast_sides.specs.Segments.{all_segments, segments_round}
 use Rattle.coast_sides.specs.Sorting.{AreConflicts, IsSorted, conflicts_with, is_in_pair, is_left_out}
 use Rattle.coast_sides.proofs.Clearing.{counted, stands}
@@ -175,7 +175,7 @@ any_none p xs x e c = by (p x) refl
     by false h = h
 
 -- kept rings don't conflict
-pub kept_clear : (rings kept : List CoastRing) → kept ≡ filter (λ ring. not (is_left_out (all_segments rings) ring)) rings → AreClear (all_segments kept)
+pub kept_clear : (rings kept : List CoastRing) → kept ≡ filter (λ ring. not (is_left_out (all_segments rings) ring)) rings → HaveNoConflicts (all_segments kept)
 kept_clear rings kept is s t c d =
     let f : CoastRing → List Seg = λ r. segments_round r.path in
     let p : CoastRing → Bool = λ ring. not (is_left_out (all_segments rings) ring) in

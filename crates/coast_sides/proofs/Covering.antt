@@ -14,21 +14,21 @@ use Rattle.osm_lattice.specs.OrderLaws.{SegmentOrderTellsApart}
 use Rattle.osm_sides.specs.Survivors.{plane_edges_of}
 use Rattle.plane_edges.specs.Sided.{signed_count_at}
 use Rattle.coast_sides.specs.Land.{IsLand, parity_at}
-use Rattle.coast_sides.specs.Water.{IsCoveredOnce, LandAndWaterCover, WaterCoversTheRest, segment_of, segments_along}
+use Rattle.coast_sides.specs.Water.{IsCoveredOnce, LandAndWaterCover, WaterCoversTheRest, segment_of_carrier, segments_under}
 use Rattle.coast_sides.proofs.Clearing.{left_parity}
 
 -- ---- the segments along which edges run
 
-along : (segs : List Seg) (edges : List Edge) → map (λ (e : Edge). e.carrier) edges ≡ map OfSeg segs → segments_along edges ≡ segs
+along : (segs : List Seg) (edges : List Edge) → map (λ (e : Edge). e.carrier) edges ≡ map OfSeg segs → segments_under edges ≡ segs
 along [] [] e = refl
 along [] (f ∷ edges) e = absurd (cc e)
 along (s ∷ segs) [] e = absurd (cc e)
 along (s ∷ segs) (f ∷ edges) e =
     let head : f.carrier ≡ OfSeg s = cc e in
     let tail : map (λ (e : Edge). e.carrier) edges ≡ map OfSeg segs = cc e in
-    ap (λ c. cons_option (segment_of c) (segments_along edges)) head ∙ ap (λ (ss : List Seg). s ∷ ss) (along segs edges tail)
+    ap (λ c. cons_option (segment_of_carrier c) (segments_under edges)) head ∙ ap (λ (ss : List Seg). s ∷ ss) (along segs edges tail)
 
-pub along_land : (segs : List Seg) (edges : List Edge) → (land : IsLand segs edges) → segments_along edges ≡ land.survivors
+pub along_land : (segs : List Seg) (edges : List Edge) → (land : IsLand segs edges) → segments_under edges ≡ land.survivors
 along_land segs edges land = along land.survivors edges land.directed.whole
 
 -- ---- points of whole coordinates
@@ -52,7 +52,7 @@ land_water_cover exact covers segs land water is_land is_water p within =
     let crossed : List Seg → ℕ = λ ss. crossing_count east p (plane_edges_of ss) % 2 in
     let whole : (ss : List Seg) → parity_at (pos 1) p ss ≡ pos (crossed ss) = λ ss. ap (λ es. pos (crossing_count east p es % 2)) (scaled_all (plane_edges_of ss)) in
     let left : (ss left : List Seg) → parity_at (pos 1) p left ≡ parity_at (pos 1) p ss → parity_at (pos 1) p ss ≡ pos (crossed left) = λ ss left e. sym e ∙ whole left in
-    let runs = segments_along land in
+    let runs = segments_under land in
     let of_land : signed_count_at (pos 1) p land ≡ pos (crossed runs) =
     is_land.parity (pos 1) refl p ∙ (left segs is_land.survivors (ap pos (left_parity exact segs is_land.survivors is_land.left (pos 1) p)) ∙ ap (λ (ss : List Seg). pos (crossed ss)) (sym (along_land segs land is_land))) in
     let of_water : signed_count_at (pos 1) p water ≡ pos (crossed is_water.survivors) =

@@ -10,7 +10,7 @@ use Rattle.osm_lattice.specs.Loc.{loc_cmp}
 use Rattle.osm_lattice.specs.Seg.{segment_between, segment_by}
 use Rattle.osm_lattice.proofs.LatticeKit.{seg_from_ends}
 use Rattle.lists.specs.Rising.{IsRising, count_of}
-use Rattle.coast_join.specs.Line.{last_of}
+use Rattle.coast_join.specs.Line.{last_location}
 use Rattle.coast_join.proofs.JoinKit.{last_cons}
 use Rattle.coast_sides.specs.Water.{pieces}
 use Rattle.coast_sides.proofs.EvenRings.{ends_at, one}
@@ -45,7 +45,7 @@ rising_rest a r up i j d h l = up (suc i) (suc j) d (omega arith) (omega arith)
 
 -- ---- ends
 
-pub piece_ends : (p : Loc) (a : Loc) (r : List Loc) → IsRising loc_cmp (a ∷ r) → sum_by (ends_at p) (pieces (a ∷ r)) + one p a + one p (last_of (a ∷ r)) ≡ 2 * count_of loc_cmp p (a ∷ r)
+pub piece_ends : (p : Loc) (a : Loc) (r : List Loc) → IsRising loc_cmp (a ∷ r) → sum_by (ends_at p) (pieces (a ∷ r)) + one p a + one p (last_location (a ∷ r)) ≡ 2 * count_of loc_cmp p (a ∷ r)
 piece_ends p a [] up = let c = sum_by-cons (one p) a [] in omega arith
 piece_ends p a (b ∷ r) up =
     let rest = piece_ends p b r (rising_rest a (b ∷ r) up) in
@@ -56,7 +56,7 @@ piece_ends p a (b ∷ r) up =
 
 -- ---- a value that falls along the side
 
-pub fall : (g : Seg → ℕ) (v : Loc → ℕ) → (on : Loc → Bool) → ((s : Seg) → on s.a ≡ true → on s.b ≡ true → g s + v s.b ≡ v s.a) → (a : Loc) (r : List Loc) → All (λ n. on n ≡ true) (a ∷ r) → IsRising loc_cmp (a ∷ r) → sum_by g (pieces (a ∷ r)) + v (last_of (a ∷ r)) ≡ v a
+pub fall : (g : Seg → ℕ) (v : Loc → ℕ) → (on : Loc → Bool) → ((s : Seg) → on s.a ≡ true → on s.b ≡ true → g s + v s.b ≡ v s.a) → (a : Loc) (r : List Loc) → All (λ n. on n ≡ true) (a ∷ r) → IsRising loc_cmp (a ∷ r) → sum_by g (pieces (a ∷ r)) + v (last_location (a ∷ r)) ≡ v a
 fall g v on falls a [] within up = omega arith
 fall g v on falls a (b ∷ r) within up =
     let rest = fall g v on falls b r (λ k d h. within (suc k) d (omega arith)) (rising_rest a (b ∷ r) up) in

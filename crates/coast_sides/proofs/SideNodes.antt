@@ -14,7 +14,7 @@ use Rattle.osm_lattice.specs.OrderLaws.{LocationOrderTellsApart}
 use Rattle.lists.specs.Rising.{IsRising, count_of}
 use Rattle.osm_segments.specs.Counts.{ends_of}
 use Rattle.coast_join.specs.Joined.{south_east, south_west}
-use Rattle.coast_join.specs.Line.{first_of, last_of, origin}
+use Rattle.coast_join.specs.Line.{first_location, last_location, origin}
 use Rattle.coast_sides.specs.Water.{IsSide, north_east, north_west}
 use Rattle.coast_sides.specs.declared.side_nodes.WorldSide.{WorldSide}
 use Rattle.coast_sides.specs.declared.side_nodes.WorldSide.TheVariants.{East, North, South, West}
@@ -79,20 +79,20 @@ module _ (exact : LocationOrderTellsApart) (on : Loc → Bool) (from to : Loc) (
   some_node : 0 < length nodes
   some_node = let l = from_in.1 in omega arith
 
-  begins : first_of nodes ≡ from
+  begins : first_location nodes ≡ from
   begins = by from_in
     where
-      by : Contains nodes from → first_of nodes ≡ from
+      by : Contains nodes from → first_location nodes ≡ from
       by (zero, l, e) = get_or_default nodes 0 origin from l ∙ e
       by (suc k, l, e) =
           let here = Contains-get_or nodes 0 from (omega arith) in
           let less = subst (λ (q : Loc). loc_cmp (get_or nodes 0 from) q ≡ Less) e (rising 0 (suc k) from (omega arith) l) in
           absurd (least.1 (get_or nodes 0 from) (on_all (get_or nodes 0 from) here) less)
 
-  ends : last_of nodes ≡ to
+  ends : last_location nodes ≡ to
   ends = by to_in
     where
-      by : Contains nodes to → last_of nodes ≡ to
+      by : Contains nodes to → last_location nodes ≡ to
       by (k, l, e) = ⊎_elim
           (λ before. let here = Contains-get_or nodes (length nodes - 1) to (omega arith) in
           let less = subst (λ (q : Loc). loc_cmp q (get_or nodes (length nodes - 1) to) ≡ Less) e (rising k (length nodes - 1) to before (omega arith)) in

@@ -35,8 +35,8 @@ use Rattle.plane_edges.specs.Multiple.{edge_times, edges_times, point_times}
 use Rattle.plane_edges.specs.Sided.{IsSided}
 use Rattle.plane_edges.specs.SidedLaws.{IsLattice, LatticeIsSided}
 use Rattle.plane_edges.proofs.EdgesKit.{lattice_point}
-use Rattle.coast_sides.specs.Land.{AreClear}
-use Rattle.coast_sides.specs.Water.{segment_of, segments_along}
+use Rattle.coast_sides.specs.Land.{HaveNoConflicts}
+use Rattle.coast_sides.specs.Water.{segment_of_carrier, segments_under}
 use Rattle.coast_sides.proofs.EvenRings.{ends_are, ends_at, one, rising_none, seg_cmp_total}
 
 -- ---- an edge along a whole segment, in the plane
@@ -76,13 +76,13 @@ segment_by false = segment_back
 segment_is : (e : Edge) (w : IsWholeSegment e) → plane.segment_of (edge_times 1 e) ≡ edge_of w.segment
 segment_is e w = ap plane.segment_of (ends_on e w.segment w.forward w.from w.to) ∙ segment_by w.forward w.segment
 
-along_more : (e : Edge) (es : List Edge) (w : IsWholeSegment e) → segments_along (e ∷ es) ≡ w.segment ∷ segments_along es
-along_more e es w = ap (λ c. cons_option (segment_of c) (segments_along es)) w.carrier
+along_more : (e : Edge) (es : List Edge) (w : IsWholeSegment e) → segments_under (e ∷ es) ≡ w.segment ∷ segments_under es
+along_more e es w = ap (λ c. cons_option (segment_of_carrier c) (segments_under es)) w.carrier
 
 later : (e : Edge) (es : List Edge) → All IsWholeSegment (e ∷ es) → All IsWholeSegment es
 later e es whole k d h = whole (suc k) d (omega arith)
 
-segments_are : (es : List Edge) → All IsWholeSegment es → segments_of (edges_times 1 es) ≡ plane_edges_of (segments_along es)
+segments_are : (es : List Edge) → All IsWholeSegment es → segments_of (edges_times 1 es) ≡ plane_edges_of (segments_under es)
 segments_are [] whole = refl
 segments_are (e ∷ es) whole =
     let w = whole 0 e (omega arith) in
@@ -116,7 +116,7 @@ clear_of_each s t (u ∷ ts) h c =
     (λ (c : Contains ts t). clear_of_each s t ts (λ k d l. h (suc k) d (omega arith)) c)
     (member_cases u t ts c)
 
-clear_pairs : ConflictIsSymmetric → (ss : List Seg) → EachPair IsClearOf (plane_edges_of ss) → AreClear ss
+clear_pairs : ConflictIsSymmetric → (ss : List Seg) → EachPair IsClearOf (plane_edges_of ss) → HaveNoConflicts ss
 clear_pairs symmetric [] h s t c d = absurd (no_member s c)
 clear_pairs symmetric (u ∷ us) h s t c d =
     ⊎_elim
@@ -142,7 +142,7 @@ ends_sum exact p s true e is = let a = one_is exact p s.a in let b = one_is exac
 ends_sum exact p s false e is = let a = one_is exact p s.a in let b = one_is exact p s.b in let f = ap (λ (z : plane.Edge). one_at (vector_of p) z.from) is in let t = ap (λ (z : plane.Edge). one_at (vector_of p) z.to) is in omega arith
 
 all_ends : LocationOrderTellsApart → (p : Loc) (es : List Edge) → All IsWholeSegment es
-    → sum_by (λ (e : plane.Edge). one_at (vector_of p) e.from) (edges_times 1 es) + sum_by (λ (e : plane.Edge). one_at (vector_of p) e.to) (edges_times 1 es) ≡ sum_by (ends_at p) (segments_along es)
+    → sum_by (λ (e : plane.Edge). one_at (vector_of p) e.from) (edges_times 1 es) + sum_by (λ (e : plane.Edge). one_at (vector_of p) e.to) (edges_times 1 es) ≡ sum_by (ends_at p) (segments_under es)
 all_ends exact p [] whole = refl
 all_ends exact p (e ∷ es) whole =
     let w = whole 0 e (omega arith) in
@@ -150,22 +150,22 @@ all_ends exact p (e ∷ es) whole =
     let here = ends_sum exact p w.segment w.forward (edge_times 1 e) (ends_on e w.segment w.forward w.from w.to) in
     let froms = sum_by-cons (λ (e : plane.Edge). one_at (vector_of p) e.from) (edge_times 1 e) (edges_times 1 es) in
     let tos = sum_by-cons (λ (e : plane.Edge). one_at (vector_of p) e.to) (edge_times 1 e) (edges_times 1 es) in
-    let more = sum_by-cons (ends_at p) w.segment (segments_along es) in
+    let more = sum_by-cons (ends_at p) w.segment (segments_under es) in
     let along = ap (sum_by (ends_at p)) (along_more e es w) in
     omega arith
 
 -- ---- of a sided list
 
 module _ (es : List Edge) (whole : All IsWholeSegment es) (sided : winding.IsSided (edges_times 1 es)) where
-  pub clear_sided : ConflictIsSymmetric → AreClear (segments_along es)
-  clear_sided symmetric = clear_pairs symmetric (segments_along es) (subst (EachPair IsClearOf) (segments_are es whole) sided.plain.clear)
+  pub clear_sided : ConflictIsSymmetric → HaveNoConflicts (segments_under es)
+  clear_sided symmetric = clear_pairs symmetric (segments_under es) (subst (EachPair IsClearOf) (segments_are es whole) sided.plain.clear)
 
-  pub even_sided : LocationOrderTellsApart → HasEvenNodes (segments_along es)
+  pub even_sided : LocationOrderTellsApart → HasEvenNodes (segments_under es)
   even_sided exact = record {
     odd = λ p.
         let both = all_ends exact p es whole in
         let same = sided.balanced (vector_of p) in
-        let ends = ends_are p (segments_along es) in
+        let ends = ends_are p (segments_under es) in
         omega arith;
     rising = rising_none;
   }

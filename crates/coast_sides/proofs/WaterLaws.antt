@@ -24,8 +24,8 @@ use Rattle.lists.specs.Rising.{count_of}
 use Rattle.osm_segments.specs.Counts.{AreSurvivors}
 use Rattle.osm_sides.specs.Survivors.{HasEvenNodes, plane_edges_of}
 use Rattle.coast_join.specs.Joined.{south_east, south_west}
-use Rattle.coast_join.specs.Line.{last_of}
-use Rattle.coast_sides.specs.Water.{AreSides, IsSide, IsWithin, is_east, is_north, is_south, is_west, north_east, north_west, pieces}
+use Rattle.coast_join.specs.Line.{last_location}
+use Rattle.coast_sides.specs.Water.{AreSides, IsInsideWorld, IsSide, is_east, is_north, is_south, is_west, north_east, north_west, pieces}
 use Rattle.coast_sides.proofs.Cancelling.{odd_parity}
 use Rattle.coast_sides.proofs.EvenRings.{ends_are, ends_at, one, seg_cmp_total, survivors_even}
 use Rattle.coast_sides.proofs.Pieces.{fall, piece_ends}
@@ -37,7 +37,7 @@ side_ends p on from to land [] side = let s = side.some in absurd (omega arith)
 side_ends p on from to land (a ∷ r) side =
     let e = piece_ends p a r side.rising in
     let f : one p a ≡ one p from = ap (one p) side.begins in
-    let l : one p (last_of (a ∷ r)) ≡ one p to = ap (one p) side.ends in
+    let l : one p (last_location (a ∷ r)) ≡ one p to = ap (one p) side.ends in
     (count_of loc_cmp p (a ∷ r), omega arith)
 
 pub sides_even : (p : Loc) (land sides : List Seg) → AreSides land sides → sum_by (ends_at p) sides % 2 ≡ 0
@@ -147,10 +147,10 @@ side_falls p v on from to land [] side falls = let s = side.some in absurd (omeg
 side_falls p v on from to land (a ∷ r) side falls =
     let e = fall (crossed p) v on falls a r side.within side.rising in
     let f : v a ≡ v from = ap v side.begins in
-    let l : v (last_of (a ∷ r)) ≡ v to = ap v side.ends in
+    let l : v (last_location (a ∷ r)) ≡ v to = ap v side.ends in
     omega arith
 
-module _ (land sides : List Seg) (are : AreSides land sides) (p : Vector) (inside : IsWithin p) where
+module _ (land sides : List Seg) (are : AreSides land sides) (p : Vector) (inside : IsInsideWorld p) where
   south_none : sum_by (crossed p) (pieces are.on_south) + 0 ≡ 0
   south_none = side_falls p (λ _. 0) is_south south_west south_east land are.on_south are.south (λ s a b.
       let y = int_eq-true s.b.y (neg_ℤ (pos 900000000)) b in
@@ -197,7 +197,7 @@ module _ (land sides : List Seg) (are : AreSides land sides) (p : Vector) (insid
       let whole = ap (sum_by (crossed p)) are.whole in
       omega arith
 
-pub water_covers : SegmentOrderTellsApart → (land sides left : List Seg) → AreSides land sides → AreSurvivors (land ++ sides) left → (p : Vector) → IsWithin p → crossing_count east p (plane_edges_of left) % 2 + crossing_count east p (plane_edges_of land) % 2 ≡ 1
+pub water_covers : SegmentOrderTellsApart → (land sides left : List Seg) → AreSides land sides → AreSurvivors (land ++ sides) left → (p : Vector) → IsInsideWorld p → crossing_count east p (plane_edges_of left) % 2 + crossing_count east p (plane_edges_of land) % 2 ≡ 1
 water_covers exact land sides left are left_are p inside =
     let parity = odd_parity seg_cmp_total (λ s t. (exact s t).0) (crossed p) left (land ++ sides) left_are.odd in
     let both = sum_by-append (crossed p) land sides in

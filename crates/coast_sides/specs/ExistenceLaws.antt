@@ -6,20 +6,20 @@ use Rattle.plane_edges.specs.Sided.{IsSided}
 use Rattle.coast_join.specs.declared.ring.CoastRing.{CoastRing}
 use Rattle.coast_sides.specs.declared.land_parts.Land.{Land}
 use Rattle.coast_sides.specs.declared.sorted.Sorted.{Sorted}
-use Rattle.coast_sides.specs.Land.{AreClear}
+use Rattle.coast_sides.specs.Land.{HaveNoConflicts}
 use Rattle.coast_sides.specs.RingLand.{IsLandOf}
 use Rattle.coast_sides.specs.Segments.{all_segments}
 use Rattle.coast_sides.specs.Sorting.{IsSorted}
-use Rattle.coast_sides.specs.Water.{IsWater, segments_along}
+use Rattle.coast_sides.specs.Water.{IsWater, segments_under}
 
 -- every list of rings is sorted out somehow, and the kept ones are without conflicts
 abbrev pub SortedExists : Type 0
-SortedExists = (rings : List CoastRing) → (sorted : Sorted) × IsSorted rings sorted × AreClear (all_segments sorted.kept)
+SortedExists = (rings : List CoastRing) → (sorted : Sorted) × IsSorted rings sorted × HaveNoConflicts (all_segments sorted.kept)
 
 -- rings without conflicts have land
 abbrev pub LandExists : Type 0
-LandExists = (rings : List CoastRing) → AreClear (all_segments rings) → (land : Land) × IsLandOf rings land
+LandExists = (rings : List CoastRing) → HaveNoConflicts (all_segments rings) → (land : Land) × IsLandOf rings land
 
 -- sided edges along whole segments have water
 abbrev pub WaterExists : Type 0
-WaterExists = (land : List Edge) → All IsWholeSegment land → IsSided land → (water : List Edge) × IsWater (segments_along land) water
+WaterExists = (land : List Edge) → All IsWholeSegment land → IsSided land → (water : List Edge) × IsWater (segments_under land) water

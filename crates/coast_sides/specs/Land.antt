@@ -14,8 +14,8 @@ use Rattle.osm_sides.specs.Survivors.{plane_edges_of}
 use Rattle.plane_edges.specs.Sided.{IsSided, signed_count_at}
 
 -- no two of the segments conflict
-abbrev pub AreClear : List Seg → Type 0
-AreClear segs = (s t : Seg) → Contains segs s → Contains segs t → conflict_of s t ≡ None
+abbrev pub HaveNoConflicts : List Seg → Type 0
+HaveNoConflicts segs = (s t : Seg) → Contains segs s → Contains segs t → conflict_of s t ≡ None
 
 -- the parity of segments at the point p.x / q, p.y / q
 abbrev pub parity_at : ℤ → Vector → List Seg → ℤ

@@ -22,9 +22,9 @@ use Rattle.osm_sides.specs.Directions.{AreDirected}
 use Rattle.osm_sides.specs.Survivors.{HasEvenNodes, plane_edges_of}
 use Rattle.plane_edges.specs.Sided.{IsSided, signed_count_at}
 use Rattle.coast_join.specs.Joined.{south_east, south_west}
-use Rattle.coast_join.specs.Line.{first_of, last_of}
+use Rattle.coast_join.specs.Line.{first_location, last_location}
 use Rattle.osm_segments.specs.Pairs.{conflicts_of}
-use Rattle.coast_sides.specs.Land.{AreClear, IsLand, parity_at}
+use Rattle.coast_sides.specs.Land.{HaveNoConflicts, IsLand, parity_at}
 
 abbrev pub north_west : Loc
 north_west = record { x = neg_ℤ (pos 1800000000); y = pos 900000000; x_in = lit≤ tt; y_in = lit≤ tt }
@@ -48,8 +48,8 @@ is_east p = int_eq p.x (pos 1800000000)
 pub record IsSide (on : Loc → Bool) (from to : Loc) (land : List Seg) (nodes : List Loc) : Type 0 where
   pub some : 0 < length nodes
   pub rising : IsRising loc_cmp nodes
-  pub begins : first_of nodes ≡ from
-  pub ends : last_of nodes ≡ to
+  pub begins : first_location nodes ≡ from
+  pub ends : last_location nodes ≡ to
   pub within : All (λ p. on p ≡ true) nodes
   pub cut : (p : Loc) → on p ≡ true → Contains (ends_of land) p → Contains nodes p
   pub only : All (λ p. ((p ≡ from) ⊎ (p ≡ to)) ⊎ Contains (ends_of land) p) nodes
@@ -83,7 +83,7 @@ pub record IsWater (land : List Seg) (edges : List Edge) : Type 0 where
   pub parity : (q : ℤ) → sign q ≡ Plus → (p : Vector) → signed_count_at q p edges ≡ parity_at q p (land ++ sides)
 
 -- p is strictly within the world's rectangle
-pub record IsWithin (p : Vector) : Type 0 where
+pub record IsInsideWorld (p : Vector) : Type 0 where
   pub west : neg_ℤ (pos 1800000000) <ℤ p.x
   pub east : p.x <ℤ pos 1800000000
   pub south : neg_ℤ (pos 900000000) <ℤ p.y
@@ -92,7 +92,7 @@ pub record IsWithin (p : Vector) : Type 0 where
 -- what is left of land and sides covers a point strictly within the world exactly where land doesn't
 abbrev pub WaterCoversTheRest : Type 0
 WaterCoversTheRest =
-    (land sides left : List Seg) → AreSides land sides → AreSurvivors (land ++ sides) left → (p : Vector) → IsWithin p →
+    (land sides left : List Seg) → AreSides land sides → AreSurvivors (land ++ sides) left → (p : Vector) → IsInsideWorld p →
     crossing_count east p (plane_edges_of left) % 2 + crossing_count east p (plane_edges_of land) % 2 ≡ 1
 
 -- and is even at each location where land is
@@ -111,16 +111,16 @@ IsClearOfSide on = (nodes : List Loc) (s t : Seg) → IsRising loc_cmp nodes →
 
 -- what is left of land without conflicts and the sides has none
 abbrev pub WaterIsClear : Type 0
-WaterIsClear = (land sides left : List Seg) → AreClear land → AreSides land sides → AreSurvivors (land ++ sides) left → conflicts_of left ≡ []
+WaterIsClear = (land sides left : List Seg) → HaveNoConflicts land → AreSides land sides → AreSurvivors (land ++ sides) left → conflicts_of left ≡ []
 
 -- the segments along which edges run, in order
-abbrev pub segment_of : Carrier → Option Seg
-segment_of (OfSeg s) = Some s
-segment_of (Vertical c) = None
-segment_of (Horizontal d) = None
+abbrev pub segment_of_carrier : Carrier → Option Seg
+segment_of_carrier (OfSeg s) = Some s
+segment_of_carrier (Vertical c) = None
+segment_of_carrier (Horizontal d) = None
 
-abbrev pub segments_along : List Edge → List Seg
-segments_along edges = filter_map (λ (e : Edge). segment_of e.carrier) edges
+abbrev pub segments_under : List Edge → List Seg
+segments_under edges = filter_map (λ (e : Edge). segment_of_carrier e.carrier) edges
 
 -- at a point land counts once and water doesn't, or the other way round
 abbrev pub IsCoveredOnce : ℤ → ℤ → Type 0
@@ -129,5 +129,5 @@ IsCoveredOnce land water = ((land ≡ pos 1) × (water ≡ pos 0)) ⊎ ((land �
 -- land and water together cover each point of whole coordinates strictly within the world once
 abbrev pub LandAndWaterCover : Type 0
 LandAndWaterCover =
-    (segs : List Seg) (land water : List Edge) → IsLand segs land → IsWater (segments_along land) water → (p : Vector) → IsWithin p →
+    (segs : List Seg) (land water : List Edge) → IsLand segs land → IsWater (segments_under land) water → (p : Vector) → IsInsideWorld p →
     IsCoveredOnce (signed_count_at (pos 1) p land) (signed_count_at (pos 1) p water)

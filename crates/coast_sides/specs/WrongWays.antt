@@ -13,14 +13,14 @@ use Rattle.coast_sides.specs.declared.wrong_ways.Step.{Step}
 use Rattle.coast_sides.specs.Segments.{steps_round}
 
 -- a point is this location
-abbrev pub is_at : Loc → Point → Bool
-is_at p (Lattice q) = is_eq (loc_cmp q p)
-is_at p (OnVertical c y) = false
-is_at p (OnHorizontal x d) = false
+abbrev pub is_at_location : Loc → Point → Bool
+is_at_location p (Lattice q) = is_eq (loc_cmp q p)
+is_at_location p (OnVertical c y) = false
+is_at_location p (OnHorizontal x d) = false
 
 -- an edge runs from p to q
 abbrev pub runs_between : Loc → Loc → Edge → Bool
-runs_between p q edge = is_at p edge.from && is_at q edge.to
+runs_between p q edge = is_at_location p edge.from && is_at_location q edge.to
 
 -- one of a ring's steps runs against an edge
 abbrev pub runs_against : List Edge → CoastRing → Bool

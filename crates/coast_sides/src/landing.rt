@@ -3,7 +3,7 @@
 ghost use Rattle.std.specs.Prelude.{◌≡◌, ◌++◌, IfOk, OnOk};
 ghost use Rattle.coast_join.specs.declared.ring.CoastRing.{CoastRing};
 ghost use Rattle.coast_sides.specs.Segments.{all_segments};
-ghost use Rattle.coast_sides.specs.Land.{AreClear, IsLand};
+ghost use Rattle.coast_sides.specs.Land.{HaveNoConflicts, IsLand};
 ghost use Rattle.coast_sides.specs.RingLand.{IsLandOf};
 
 use crate::land_parts::{Land, Repeats};
@@ -30,7 +30,7 @@ pub(crate) fn list_of(alloc: Global, edges: &[Edge]) -> Result<Edges, OutOfMemor
 ///
 /// No two segments of the rings conflict. The error is want of memory.
 fn land_edges(alloc: Global, kept: &[CoastRing]) -> Result<Edges, OutOfMemory>
-    requires { AreClear (all_segments kept.now) }
+    requires { HaveNoConflicts (all_segments kept.now) }
     ensures { IfOk result (λ edges. IsLand (all_segments kept.now) edges) }
 {
     closed_lines_are_even();
@@ -46,7 +46,7 @@ fn land_edges(alloc: Global, kept: &[CoastRing]) -> Result<Edges, OutOfMemory>
 ///
 /// No two segments of the rings conflict, as `sort_out` has it of those that it keeps. The error is want of memory.
 pub fn land(alloc: Global, kept: &[CoastRing]) -> Result<Land, OutOfMemory>
-    requires { AreClear (all_segments kept.now) }
+    requires { HaveNoConflicts (all_segments kept.now) }
     ensures { IfOk result (λ land. IsLandOf kept.now land) }
 {
     let edges = land_edges(alloc, kept)?;

@@ -4,7 +4,7 @@ ghost use Rattle.std.specs.Prelude.{◌≡◌, ◌++◌, ◌∷◌, [], if◌the
 ghost use Rattle.std.specs.List.{list_any};
 ghost use Rattle.std.specs.BTreeSet.{contains};
 ghost use Rattle.osm_lattice.specs.Seg.{seg_cmp};
-ghost use Rattle.coast_sides.specs.Land.{AreClear};
+ghost use Rattle.coast_sides.specs.Land.{HaveNoConflicts};
 ghost use Rattle.coast_sides.specs.Segments.{all_segments, segments_round};
 ghost use Rattle.coast_sides.specs.Sorting.{IsSorted};
 
@@ -72,7 +72,7 @@ fn parted(
 /// No two segments of kept rings conflict. The error is want of memory.
 pub fn sort_out(alloc: Global, rings: &[CoastRing]) -> Result<Sorted, OutOfMemory>
     ensures sorted { IfOk result (λ sorted. IsSorted rings.now sorted) }
-    ensures clear { IfOk result (λ sorted. AreClear (all_segments sorted.kept)) }
+    ensures clear { IfOk result (λ sorted. HaveNoConflicts (all_segments sorted.kept)) }
 {
     orders_are_exact();
     conflicts_are_symmetric();

@@ -5,8 +5,8 @@ ghost use Rattle.std.specs.Option.{option_to_list};
 ghost use Rattle.osm_geom.specs.WholeSegment.{IsWholeSegment};
 ghost use Rattle.osm_sides.specs.Survivors.{HasEvenNodes};
 ghost use Rattle.plane_edges.specs.Sided.{IsSided};
-ghost use Rattle.coast_sides.specs.Land.{AreClear};
-ghost use Rattle.coast_sides.specs.Water.{AreSides, IsWater, pieces, segment_of, segments_along};
+ghost use Rattle.coast_sides.specs.Land.{HaveNoConflicts};
+ghost use Rattle.coast_sides.specs.Water.{AreSides, IsWater, pieces, segment_of_carrier, segments_under};
 
 use crate::landing::list_of;
 use crate::ring_segments::add_step;
@@ -48,7 +48,7 @@ fn world_sides(alloc: Global, land: &[Seg]) -> Result<Vec<Seg>, OutOfMemory>
 /// Adds the segment along which an edge runs.
 fn add_segment(segs: &mut Vec<Seg>, edge: &Edge) -> Result<(), OutOfMemory>
     ensures { OnOk result (segs.new.items ≡ segs.old.items
-        ++ option_to_list (segment_of edge.now.carrier)) }
+        ++ option_to_list (segment_of_carrier edge.now.carrier)) }
 {
     match edge.carrier {
         Carrier::OfSeg(seg) => {
@@ -60,8 +60,8 @@ fn add_segment(segs: &mut Vec<Seg>, edge: &Edge) -> Result<(), OutOfMemory>
 }
 
 /// The segments along which edges run.
-fn segments_along(alloc: Global, edges: &[Edge]) -> Result<Vec<Seg>, OutOfMemory>
-    ensures { IfOk result (λ v. v.items ≡ segments_along edges.now) }
+fn segments_under(alloc: Global, edges: &[Edge]) -> Result<Vec<Seg>, OutOfMemory>
+    ensures { IfOk result (λ v. v.items ≡ segments_under edges.now) }
 {
     let mut segs = Vec::with_capacity(alloc, edges.len())?;
     for edge in edges {
@@ -72,7 +72,7 @@ fn segments_along(alloc: Global, edges: &[Edge]) -> Result<Vec<Seg>, OutOfMemory
 
 /// The edges of water about segments of land that have no conflicts and are even at each location.
 fn water_edges(alloc: Global, land: &[Seg]) -> Result<Edges, OutOfMemory>
-    requires clear { AreClear land.now }
+    requires clear { HaveNoConflicts land.now }
     requires even { HasEvenNodes land.now }
     ensures { IfOk result (λ edges. IsWater land.now edges) }
 {
@@ -94,11 +94,11 @@ fn water_edges(alloc: Global, land: &[Seg]) -> Result<Edges, OutOfMemory>
 pub fn water(alloc: Global, land: &Edges) -> Result<Edges, OutOfMemory>
     requires whole { All IsWholeSegment land.now }
     requires sided { IsSided land.now }
-    ensures { IfOk result (λ edges. IsWater (segments_along land.now) edges) }
+    ensures { IfOk result (λ edges. IsWater (segments_under land.now) edges) }
 {
     orders_are_exact();
     conflicts_are_symmetric();
     lattice_edges_are_whole();
-    let segs = segments_along(alloc, land.as_slice())?;
+    let segs = segments_under(alloc, land.as_slice())?;
     water_edges(alloc, &segs)
 }

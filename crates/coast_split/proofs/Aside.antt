@@ -4,7 +4,7 @@ use borrow.Author.Differences.{ints}
 use lib.IntN.{negsuc}
 use Rattle.paths.specs.Near.{near}
 use Rattle.plane.specs.Sign.{Minus, Null, Plus, Sign, sign}
-use Rattle.plane.specs.Vector.{IsDirection, Vector, cross, dot}
+use Rattle.plane.specs.Vector.{IsNonZero, Vector, cross, dot}
 use Rattle.halving.specs.Line.{scaled_line, side}
 use Rattle.osm_geom.specs.declared.cut.Axis.{Axis}
 use Rattle.osm_geom.specs.declared.cut.Axis.TheVariants.{X, Y}
@@ -113,7 +113,7 @@ agree-square d = let h = agree-sum (d.x *ℤ d.x) (d.y *ℤ d.y) (dot d d) refl 
 abbrev turns_left : Sign → Sign → Sign → Bool
 turns_left x y c = imp (agree (times x x) (times y y) Plus) λ _. imp (agree c (times y (aside_x y)) (times x (aside_y x))) λ _. same_sign c Plus
 
-pub aside-left : (d : Vector) → IsDirection d → sign (cross d (aside d)) ≡ Plus
+pub aside-left : (d : Vector) → IsNonZero d → sign (cross d (aside d)) ≡ Plus
 aside-left d h =
     let x = sign d.x in let y = sign d.y in let c = sign (cross d (aside d)) in
     let square = subst (λ s. agree (times x x) (times y y) s ≡ true) h (agree-square d) in

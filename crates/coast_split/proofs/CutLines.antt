@@ -4,7 +4,7 @@ use Prim.Native.Nat.{◌∣◌}
 use borrow.Author.Differences.{ints}
 use Rattle.plane.specs.Order.{order}
 use Rattle.plane.specs.Sign.{Minus, Null, Plus, Sign, negated, sign, then_sign}
-use Rattle.plane.specs.Vector.{IsDirection, Vector}
+use Rattle.plane.specs.Vector.{IsNonZero, Vector}
 use Rattle.halving.specs.Line.{order_along, scaled_line, side}
 use Rattle.osm_geom.specs.declared.cut.Axis.{Axis}
 use Rattle.osm_geom.specs.declared.cut.Axis.TheVariants.{X, Y}
@@ -65,7 +65,7 @@ module _ (k : ℕ) (some : 1 ≤ k) (p : Point) (divides : den_of p ∣ k) where
   side-times cut s = side-by cut.axis s cut
 
 -- ---- the order along the line
-pub line-direction : (axis : Axis) (s : Side) (cut : Cut) → IsDirection (line_by axis s cut).along
+pub line-direction : (axis : Axis) (s : Side) (cut : Cut) → IsNonZero (line_by axis s cut).along
 line-direction X Low cut = refl
 line-direction X High cut = refl
 line-direction Y Low cut = refl

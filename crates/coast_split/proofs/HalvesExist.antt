@@ -18,7 +18,7 @@ use Rattle.osm_geom.specs.Cut.{carrier_of_cut, cut_order, side_by, side_of}
 use Rattle.osm_geom.specs.Point.{IsInWorld}
 use Rattle.osm_geom.proofs.GeometryKit.{cut_point_exists, in-world, in_world}
 use Rattle.coast_split.specs.Half.{AreLinks, AreLinksFrom, AreMeetings, ArePortions, IsHalf, IsPortion, IsPortionEnd, NextLink, NextPortion, ends_up_to, has_portion, lower_of}
-use Rattle.coast_split.specs.Walk.{IsEnd, ends_on}
+use Rattle.coast_split.specs.Walk.{IsEndOnLine, ends_on}
 use Rattle.coast_split.proofs.Crossings.{horizontal-at-in, horizontal-d-in, horizontal-meets, horizontal-on, segment-crosses, vertical-at-in, vertical-c-in, vertical-meets, vertical-on}
 use Rattle.coast_split.proofs.LineOrders.{R}
 use Rattle.coast_split.proofs.LinePoints.{InOrder, Rises, in_order}
@@ -143,7 +143,7 @@ module _ (cut : Cut) (s : Side) where
     rises-apart : (z w : Point) → Rises cut s z w → z ≡ w → ⊥
     rises-apart z w h e = cc (sym h ∙ ap (R cut s z) (sym e) ∙ line-self cut s z)
 
-    links-by : (z w : Point) (zs : List Point) → IsEnd cut z → IsEnd cut w → Rises cut s z w → LinksFrom w zs → (b : Bool) → is_even (ends_up_to cut ts (lower_of cut s z w)) ≡ b → LinksFrom z (w ∷ zs)
+    links-by : (z w : Point) (zs : List Point) → IsEndOnLine cut z → IsEndOnLine cut w → Rises cut s z w → LinksFrom w zs → (b : Bool) → is_even (ends_up_to cut ts (lower_of cut s z w)) ≡ b → LinksFrom z (w ∷ zs)
     links-by z w zs hz hw h r true e = record { links = r.links; are = subst (λ b. NextLink cut z w b (AreLinksFrom cut s ts w zs) r.links) (sym e) r.are }
     links-by z w zs hz hw h r false e =
         let l : Edge = record {
@@ -161,7 +161,7 @@ module _ (cut : Cut) (s : Side) where
           are = subst (λ b. NextLink cut z w b (AreLinksFrom cut s ts w zs) (l ∷ r.links)) (sym e) (record { carrier = refl; from = refl; to = refl }, r.are);
         }
 
-    links-from : (z : Point) (zs : List Point) → ((v : Point) → In v (z ∷ zs) → IsEnd cut v) → EachPair (Rises cut s) (z ∷ zs) → LinksFrom z zs
+    links-from : (z : Point) (zs : List Point) → ((v : Point) → In v (z ∷ zs) → IsEndOnLine cut v) → EachPair (Rises cut s) (z ∷ zs) → LinksFrom z zs
     links-from z [] f h = record { links = []; are = refl }
     links-from z (w ∷ zs) f h =
         links-by z w zs (f z (inl refl)) (f w (inr (inl refl))) (in-all (Rises cut s z) (w ∷ zs) w h.0 (inl refl)) (links-from w zs (λ v i. f v (inr i)) h.1) (is_even (ends_up_to cut ts (lower_of cut s z w))) refl
@@ -170,7 +170,7 @@ module _ (cut : Cut) (s : Side) where
       pub links : List Edge
       pub are : AreLinks cut s ts zs links
 
-    links_exist : (zs : List Point) → ((v : Point) → In v zs → IsEnd cut v) → EachPair (Rises cut s) zs → LinksOf zs
+    links_exist : (zs : List Point) → ((v : Point) → In v zs → IsEndOnLine cut v) → EachPair (Rises cut s) zs → LinksOf zs
     links_exist [] f h = record { links = []; are = refl }
     links_exist (z ∷ zs) f h = let r = links-from z zs f h in record { links = r.links; are = r.are }
 

@@ -6,7 +6,7 @@ use Rattle.plane.specs.Bit.{bit}
 use Rattle.plane.specs.Edge as plane
 use Rattle.plane.specs.Edge.{ends_at}
 use Rattle.plane.specs.Sign.{Minus, Null, Plus, Sign, is_minus, is_null, is_plus, negated, sign}
-use Rattle.plane.specs.Vector.{IsDirection, Vector, cross, dot, from_to, orient, same_point}
+use Rattle.plane.specs.Vector.{IsNonZero, Vector, cross, dot, from_to, orient, same_point}
 use Rattle.lists.specs.Member.{EachPair, In}
 use Rattle.winding.specs.Parity.{is_even}
 use Rattle.winding.specs.Sided as winding
@@ -122,7 +122,7 @@ module _ (cut : Cut) (s : Side) (k : ℕ) (some : 1 ≤ k) where
   abbrev pub l : Line
   l = line_times cut s k
 
-  pub direction : IsDirection l.along
+  pub direction : IsNonZero l.along
   direction = line-direction cut.axis s cut
 
   side-is : (p : Point) → den_of p ∣ k → side l (point_times k p) ≡ side_of cut s p

@@ -16,7 +16,7 @@ use Rattle.osm_geom.specs.declared.cut.Cut.{Cut}
 use Rattle.osm_geom.specs.declared.cut.Side.{Side}
 use Rattle.osm_geom.specs.declared.cut.Side.TheVariants.{Low, High}
 use Rattle.osm_geom.specs.declared.edge.Edge.{Edge}
-use Rattle.plane_edges.specs.Multiple.{common_den, whole_edges}
+use Rattle.plane_edges.specs.Multiple.{product_of_denominators, whole_edges}
 use Rattle.plane_edges.specs.Sided.{IsSided, count_at, signed_count_at}
 use Rattle.coast_split.specs.Half.{IsHalf, line_by, line_of}
 use Rattle.coast_split.specs.SplitTree.{Covers, IsOffCuts, IsOffList, IsTree, SomeCovers, Tree, high_cut, leaves_of, low_cut, middle_of}
@@ -29,7 +29,7 @@ use Rattle.coast_split.proofs.SidedHalves.{half-beyond, half-kept, half-sided, o
 -- ---- of a sided list the parity is the signed count
 module _ (q : ℤ) (hq : sign q ≡ Plus) (p : Vector) (es : List Edge) (sd : IsSided es) (off : IsOffList q p es) where
   abbrev P : Vector
-  P = scaled_point (pos (common_den es)) p
+  P = scaled_point (pos (product_of_denominators es)) p
 
   abbrev L : List plane.Edge
   L = scaled_edges q (whole_edges es)

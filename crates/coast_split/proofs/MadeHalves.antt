@@ -12,7 +12,7 @@ use Rattle.osm_geom.specs.declared.point.Point.{Point}
 use Rattle.osm_geom.specs.Cut.{cut_order}
 use Rattle.osm_geom.specs.Point.{IsInWorld}
 use Rattle.coast_split.specs.Half.{AreMeetings, ArePortions, IsHalf, ends_up_to, is_up_to}
-use Rattle.coast_split.specs.Walk.{AreSortedEnds, AreWalked, IsEnd, end_on, ends_on}
+use Rattle.coast_split.specs.Walk.{AreSortedEnds, AreWalked, IsEndOnLine, end_on, ends_on}
 use Rattle.lists.proofs.ListsKit.{all-in, in-all, in-either, in-left, in-right, total, total-is}
 use Rattle.coast_split.proofs.SortedEnds.{Stands, chain-of, count-ends, different, different-in, into-different, links-of, portions-kept, rising, up_to}
 use Rattle.plane.proofs.SignKit.{is_null-true}
@@ -22,7 +22,7 @@ pub record IsEndOf (cut : Cut) (ts : List Edge) (v : Point) : Type 0 where
   pub edge : Edge
   pub member : In edge ts
   pub which : (v ≡ edge.from) ⊎ (v ≡ edge.to)
-  pub end : IsEnd cut v
+  pub end : IsEndOnLine cut v
 
 end-in : (cut : Cut) (p v : Point) (b : Bool) → is_null (cut_order cut p) ≡ b → In v (cond b (p ∷ []) []) → (v ≡ p) × (cut_order cut p ≡ Null)
 end-in cut p v true h (inl e) = (e, is_null-true (cut_order cut p) h)
@@ -30,8 +30,8 @@ end-in cut p v true h (inr i) = absurd i
 end-in cut p v false h i = absurd i
 
 module _ (cut : Cut) where
-  end-at : (v p : Point) → v ≡ p → cut_order cut p ≡ Null → IsInWorld p → IsEnd cut v
-  end-at v p e h w = subst (IsEnd cut) (sym e) (record { on_line = h; in_world = w })
+  end-at : (v p : Point) → v ≡ p → cut_order cut p ≡ Null → IsInWorld p → IsEndOnLine cut v
+  end-at v p e h w = subst (IsEndOnLine cut) (sym e) (record { on_line = h; in_world = w })
 
   further : (t : Edge) (ts : List Edge) (v : Point) → IsEndOf cut ts v → IsEndOf cut (t ∷ ts) v
   further t ts v e = record { edge = e.edge; member = inr e.member; which = e.which; end = e.end }
@@ -80,8 +80,8 @@ module _ (cut : Cut) (s : Side) (ts : List Edge) (ends : List Point) (a : AreSor
   pub end-is : (v : Point) → In v ends → IsEndOf cut ts v
   end-is v i = ends-are cut ts v (moved-in (ends_on cut ts) ends a.moved v i)
 
-  pub all-ends : All (IsEnd cut) ends
-  all-ends = all-in (IsEnd cut) ends (λ v i. (end-is v i).end)
+  pub all-ends : All (IsEndOnLine cut) ends
+  all-ends = all-in (IsEndOnLine cut) ends (λ v i. (end-is v i).end)
 
   back-in : (v : Point) → In v (ends_on cut ts) → In v ends
   back-in v i = moved-in ends (ends_on cut ts) (IsPermutation-sym (ends_on cut ts) ends a.moved) v i

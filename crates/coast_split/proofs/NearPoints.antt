@@ -11,7 +11,7 @@ use Rattle.plane.specs.Vector.{Vector, east}
 use Rattle.winding.specs.EdgeList.{winding_number}
 use Rattle.winding.specs.ScaledEdges.{scaled_edges}
 use Rattle.osm_geom.specs.declared.edge.Edge.{Edge}
-use Rattle.plane_edges.specs.Multiple.{common_den, whole_edges}
+use Rattle.plane_edges.specs.Multiple.{product_of_denominators, whole_edges}
 use Rattle.plane_edges.specs.Sided.{IsSided, signed_count_at}
 use Rattle.coast_split.specs.SplitTree.{Covers, IsOffList}
 use Rattle.lists.proofs.ListsKit.{in-all}
@@ -52,7 +52,7 @@ later-each P (x ∷ xs) h =
 -- ---- a list near a point
 module _ (q : ℤ) (p u : Vector) (k : ℤ) (es : List Edge) where
   abbrev c : ℤ
-  c = pos (common_den es)
+  c = pos (product_of_denominators es)
 
   abbrev pub L : List plane.Edge
   L = scaled_edges q (whole_edges es)
@@ -80,22 +80,22 @@ pub record IsAlike (q : ℤ) (p u : Vector) (es : List Edge) (k : ℤ) : Type 0 
 
 module _ (q : ℤ) (hq : sign q ≡ Plus) (p u : Vector) (es : List Edge) (sd : IsSided es) (off : IsOffList q p es) where
   abbrev P : Vector
-  P = scaled_point (pos (common_den es)) p
+  P = scaled_point (pos (product_of_denominators es)) p
 
   abbrev M : ℤ → List plane.Edge
   M k = scaled_edges k (L q p u k es)
 
   abbrev Free : ℤ → Type 0
-  Free k = IsFreeStep (M k) (near k P zero) (near k P (scaled_point (pos (common_den es)) u))
+  Free k = IsFreeStep (M k) (near k P zero) (near k P (scaled_point (pos (product_of_denominators es)) u))
 
   free : Later Free
   free =
       let L = scaled_edges q (whole_edges es) in
-      later-free P zero P (scaled_point (pos (common_den es)) u) L (λ e i. apart-near P P e (off-apart P e (in-all (IsOffEdge P) L e off i)) zero (scaled_point (pos (common_den es)) u))
+      later-free P zero P (scaled_point (pos (product_of_denominators es)) u) L (λ e i. apart-near P P e (off-apart P e (in-all (IsOffEdge P) L e off i)) zero (scaled_point (pos (product_of_denominators es)) u))
 
   alike-at : (k : ℤ) → sign k ≡ Plus → Free k → IsAlike q p u es k
   alike-at k hk f =
-      let L = scaled_edges q (whole_edges es) in let V = near k P (scaled_point (pos (common_den es)) u) in
+      let L = scaled_edges q (whole_edges es) in let V = near k P (scaled_point (pos (product_of_denominators es)) u) in
       record {
         off = off-near q p u k es (free-off (M k) V (near k P zero) (free-back (M k) (near k P zero) V f));
         count = count-near q p u k es

@@ -12,11 +12,11 @@ use Rattle.plane.specs.FreeSegment.{IsBetween}
 use Rattle.plane.specs.RayCrossing.{IsOffEdge, is_off}
 use Rattle.plane.specs.Scale.{scaled_edge, scaled_point}
 use Rattle.plane.specs.Sign.{Plus, sign}
-use Rattle.plane.specs.Vector.{IsDirection, Vector, cross, from_to, same_point}
+use Rattle.plane.specs.Vector.{IsNonZero, Vector, cross, from_to, same_point}
 use Rattle.winding.specs.ScaledEdges.{scaled_edges}
 use Rattle.osm_geom.specs.declared.cut.Side.TheVariants.{Low, High}
 use Rattle.osm_geom.specs.declared.edge.Edge.{Edge}
-use Rattle.plane_edges.specs.Multiple.{common_den, whole_edges}
+use Rattle.plane_edges.specs.Multiple.{product_of_denominators, whole_edges}
 use Rattle.plane_edges.specs.Sided.{IsSided, count_at, signed_count_at}
 use Rattle.coast_split.specs.SplitTree.{Covers, IsOffCuts, IsOffLeaves, IsOffList, IsTree, SomeCovers, Tree, high_cut, leaves_of, low_cut, middle_of}
 use Rattle.coast_split.specs.SplitTree.Tree.{Fork, Whole}
@@ -49,13 +49,13 @@ module _ (parted : EdgePartsInside) (m o : ℕ) (es : List Edge) (t : Tree) (h :
   ls = leaves_of es t
 
   abbrev c : ℤ
-  c = pos (common_den es)
+  c = pos (product_of_denominators es)
 
   abbrev W : List plane.Edge
   W = whole_edges es
 
   hc : sign c ≡ Plus
-  hc = sign-some (common_den es) (common_is_common es).some
+  hc = sign-some (product_of_denominators es) (common_is_common es).some
 
   leaf-sided : (leaf : List Edge) → In leaf ls → IsSided leaf
   leaf-sided leaf i = leaves-sided m o es t h sd leaf i
@@ -146,7 +146,7 @@ module _ (parted : EdgePartsInside) (m o : ℕ) (es : List Edge) (t : Tree) (h :
 
   -- ---- at an end of an edge: close to it, strictly inside the edge
   beyond-c : Later (λ k. sign (k -ℤ c) ≡ Plus)
-  beyond-c = (common_den es, λ k l. sign-from Plus (pos k -ℤ pos (common_den es)) (omega (arith, ints)))
+  beyond-c = (product_of_denominators es, λ k l. sign-from Plus (pos k -ℤ pos (product_of_denominators es)) (omega (arith, ints)))
 
   module _ (q : ℤ) (hq : sign q ≡ Plus) (p : Vector) (off : IsOffLeaves q p ls) (e : plane.Edge) (i : In e W) where
     abbrev P : Vector
@@ -158,11 +158,11 @@ module _ (parted : EdgePartsInside) (m o : ℕ) (es : List Edge) (t : Tree) (h :
     abbrev to : Vector
     to = scaled_point q e.to
 
-    direction : IsDirection (from_to from to)
+    direction : IsNonZero (from_to from to)
     direction = edge-direction (scaled_edges q W) (sided-scaled q hq W sd) (scaled_edge q e) (in-map (scaled_edge q) W e i)
 
     -- v is the end that the point is at, and w the other one
-    module _ (v w : Vector) (at : P ≡ v) (dir : IsDirection (from_to v w)) (inside : (k : ℤ) (x : Vector) → IsBetween (scaled_point k v) (scaled_point k w) x → IsBetween (scaled_point k from) (scaled_point k to) x) where
+    module _ (v w : Vector) (at : P ≡ v) (dir : IsNonZero (from_to v w)) (inside : (k : ℤ) (x : Vector) → IsBetween (scaled_point k v) (scaled_point k w) x → IsBetween (scaled_point k from) (scaled_point k to) x) where
       abbrev u : Vector
       u = from_to v w
 

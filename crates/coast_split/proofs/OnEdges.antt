@@ -2,11 +2,11 @@
 use Rattle.std.proofs.Common.{Bool, List, ap, arith, cond, false, pos, true, ℤ, ◌*ℤ◌, ◌+ℤ◌, ◌-ℤ◌, ◌∙◌, ◌≡◌}
 use Rattle.lists.specs.Member.{In}
 use Rattle.paths.specs.Near.{near}
-use Rattle.plane.specs.Edge.{Edge, IsRising, is_rising, reversed, segment_of}
+use Rattle.plane.specs.Edge.{Edge, IsRisingEdge, is_rising, reversed, segment_of}
 use Rattle.plane.specs.FreeSegment.{IsBetween}
 use Rattle.plane.specs.Scale.{scaled_point}
 use Rattle.plane.specs.Sign.{Plus, sign}
-use Rattle.plane.specs.Vector.{IsDirection, Vector, cross, dot, from_to}
+use Rattle.plane.specs.Vector.{IsNonZero, Vector, cross, dot, from_to}
 use Rattle.winding.specs.Ring.{segments_of}
 use Rattle.winding.specs.Sided.{IsSided}
 use Rattle.lists.proofs.ListsKit.{in-map}
@@ -32,10 +32,10 @@ dot-along k c v =
     let k' = lift k in let c' = lift c in let x = lift v.x in let y = lift v.y in
     same ((k' ⊠ x) ⊠ (c' ⊠ x) ⊞ (k' ⊠ y) ⊠ (c' ⊠ y)) (k' ⊠ (c' ⊠ (x ⊠ x ⊞ y ⊠ y))) (omega arith)
 
-along : (k c : ℤ) (v : Vector) → sign k ≡ Plus → sign c ≡ Plus → IsDirection v → sign (dot (scaled_point k v) (scaled_point c v)) ≡ Plus
+along : (k c : ℤ) (v : Vector) → sign k ≡ Plus → sign c ≡ Plus → IsNonZero v → sign (dot (scaled_point k v) (scaled_point c v)) ≡ Plus
 along k c v hk hc d = ap sign (dot-along k c v) ∙ plus-times k (c *ℤ dot v v) hk ∙ plus-times c (dot v v) hc ∙ d
 
-pub between-near : (k c : ℤ) → sign k ≡ Plus → sign c ≡ Plus → sign (k -ℤ c) ≡ Plus → (x y : Vector) → IsDirection (from_to x y) →
+pub between-near : (k c : ℤ) → sign k ≡ Plus → sign c ≡ Plus → sign (k -ℤ c) ≡ Plus → (x y : Vector) → IsNonZero (from_to x y) →
     IsBetween (scaled_point k x) (scaled_point k y) (near k x (scaled_point c (from_to x y)))
 between-near k c hk hc hr x y d =
     let v = from_to x y in let z = near k x (scaled_point c v) in
@@ -51,9 +51,9 @@ between-near k c hk hc hr x y d =
     }
 
 -- an edge of a sided list has two ends
-segment-direction : (e : Edge) (b : Bool) → IsRising (cond b e (reversed e)) → IsDirection (from_to e.from e.to)
+segment-direction : (e : Edge) (b : Bool) → IsRisingEdge (cond b e (reversed e)) → IsNonZero (from_to e.from e.to)
 segment-direction e true h = rising-direction e.from e.to h
 segment-direction e false h = direction-back e.to e.from (rising-direction e.to e.from h)
 
-pub edge-direction : (L : List Edge) → IsSided L → (e : Edge) → In e L → IsDirection (from_to e.from e.to)
+pub edge-direction : (L : List Edge) → IsSided L → (e : Edge) → In e L → IsNonZero (from_to e.from e.to)
 edge-direction L sd e i = segment-direction e (is_rising e) (rising_in (segments_of L) (segment_of e) sd.plain (in-map segment_of L e i))

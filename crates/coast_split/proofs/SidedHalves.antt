@@ -14,7 +14,7 @@ use Rattle.osm_geom.specs.declared.cut.Cut.{Cut}
 use Rattle.osm_geom.specs.declared.cut.Side.{Side}
 use Rattle.osm_geom.specs.declared.edge.Edge.{Edge}
 use Rattle.osm_geom.specs.Point.{den_of}
-use Rattle.plane_edges.specs.Multiple.{IsCommon, common_den, edges_times, whole_edges}
+use Rattle.plane_edges.specs.Multiple.{IsCommon, edges_times, product_of_denominators, whole_edges}
 use Rattle.plane_edges.specs.Sided.{IsSided, signed_count_at}
 use Rattle.coast_split.specs.Half.{IsHalf, line_of}
 use Rattle.lists.proofs.ListsKit.{all-in, in-all}
@@ -29,10 +29,10 @@ back c m = omega arith
 
 module _ (cut : Cut) (s : Side) (es hs : List Edge) (h : IsHalf cut s es hs) (sd : IsSided es) where
   abbrev c : ℕ
-  c = common_den es
+  c = product_of_denominators es
 
   abbrev m : ℕ
-  m = common_den hs
+  m = product_of_denominators hs
 
   abbrev k : ℕ
   k = c * m

@@ -13,7 +13,7 @@ use Rattle.osm_geom.specs.declared.point.Point.{Point}
 use Rattle.osm_geom.specs.Cut.{cut_order, side_by, side_of}
 use Rattle.osm_geom.specs.Point.{point_order}
 use Rattle.coast_split.specs.Half.{AreLinksFrom, ArePortions, IsPortion, IsPortionEnd, NextLink, NextPortion, ends_up_to, has_portion, is_up_to, line_order, lower_of, runs_forward}
-use Rattle.coast_split.specs.Walk.{IsWalk, end_on, ends_on, is_skipped, up_to_lower}
+use Rattle.coast_split.specs.Walk.{IsWalkFrom, end_on, ends_on, is_skipped, up_to_lower}
 use Rattle.lists.proofs.ListsKit.{all-in, in-all, or-out, total}
 use Rattle.coast_split.proofs.LineOrders.{R, later, line-back, line-same, plus-then, then-plus}
 use Rattle.coast_split.proofs.Walks.{line-self}
@@ -198,10 +198,10 @@ module _ (cut : Cut) (s : Side) (ts : List Edge) where
   links-by z w D ls P skip even exact false k h e t f n =
       subst (λ x. AreLinksFrom cut s ts x D ls) (sym (one-of cut s z w h k)) (f ls (subst (λ x. NextLink cut z w x P ls) e n))
 
-  pub links-of : (n i : ℕ) (front : List Point) (z : Point) (r : List Point) (ls : List Edge) → Stands cut s ts n i front z r → IsWalk cut s n i z r ls → AreLinksFrom cut s ts z (different cut s z r) ls
+  pub links-of : (n i : ℕ) (front : List Point) (z : Point) (r : List Point) (ls : List Edge) → Stands cut s ts n i front z r → IsWalkFrom cut s n i z r ls → AreLinksFrom cut s ts z (different cut s z r) ls
   links-of n i front z [] ls st h = h
   links-of n i front z (w ∷ r) ls st h =
-      links-by z w (different cut s w r) ls (IsWalk cut s n (i + 1) w r) (is_skipped cut s n i z w) (is_even (up_to_lower cut s n i)) true (is_plus (O z w)) refl st.chain.0 refl
+      links-by z w (different cut s w r) ls (IsWalkFrom cut s n (i + 1) w r) (is_skipped cut s n i z w) (is_even (up_to_lower cut s n i)) true (is_plus (O z w)) refl st.chain.0 refl
       (λ k. test n i front z w r st (is_plus-true (O z w) k))
       (λ us u. links-of n (i + 1) (z ∷ front) w r us (next-stands n i front z w r st) u) h
 

@@ -18,7 +18,7 @@ use Rattle.osm_geom.specs.Part.{part_num}
 use Rattle.osm_geom.specs.Point.{den_of, point_order, whole_of}
 use Rattle.plane.specs.Scale.{scaled_point}
 use Rattle.coast_split.specs.Half.{IsLink, NextLink, line_order, runs_forward}
-use Rattle.coast_split.specs.Walk.{AddsLink, AddsWalk, IsEnd, IsWalk, is_skipped, last_of}
+use Rattle.coast_split.specs.Walk.{AddsLink, AddsWalk, IsEndOnLine, IsWalkFrom, is_skipped, last_of_walk}
 use Rattle.plane.proofs.PlaneKit.{order-self-null}
 use Rattle.lists.proofs.ListsKit.{int_eq-same}
 use Rattle.plane.proofs.SignKit.{null-zero}
@@ -105,29 +105,29 @@ module _ (cut : Cut) (s : Side) (n : ℕ) where
   later-link z x false P Q u w b [] new f h a = absurd h
   later-link z x false P Q u w b (e ∷ ls) new f h a = let r = split e ls u w b new a in subst (NextLink cut z x false Q) (sym r.2) (h.0, f ls r.0 h.1 r.1)
 
-  pub walk-more : (i : ℕ) (z : Point) (r : List Point) (ls : List Edge) (w : Point) (new : List Edge) → IsWalk cut s n i z r ls → AddsLink cut (last_of z r) w (is_skipped cut s n (i + length r) (last_of z r) w) ls new → IsWalk cut s n i z (r ++ w ∷ []) new
+  pub walk-more : (i : ℕ) (z : Point) (r : List Point) (ls : List Edge) (w : Point) (new : List Edge) → IsWalkFrom cut s n i z r ls → AddsLink cut (last_of_walk z r) w (is_skipped cut s n (i + length r) (last_of_walk z r) w) ls new → IsWalkFrom cut s n i z (r ++ w ∷ []) new
   walk-more i z [] ls w new h a =
-      first-link z w (IsWalk cut s n (i + 1) w []) (is_skipped cut s n i z w) ls new refl h (subst (λ k. AddsLink cut z w (is_skipped cut s n k z w) ls new) (plus-none i) a)
+      first-link z w (IsWalkFrom cut s n (i + 1) w []) (is_skipped cut s n i z w) ls new refl h (subst (λ k. AddsLink cut z w (is_skipped cut s n k z w) ls new) (plus-none i) a)
   walk-more i z (x ∷ r) ls w new h a =
-      later-link z x (is_skipped cut s n i z x) (IsWalk cut s n (i + 1) x r) (IsWalk cut s n (i + 1) x (r ++ w ∷ [])) (last_of x r) w (is_skipped cut s n (i + length (x ∷ r)) (last_of x r) w) ls new
-      (λ ms ns p q. walk-more (i + 1) x r ms w ns p (subst (λ k. AddsLink cut (last_of x r) w (is_skipped cut s n k (last_of x r) w) ms ns) (plus-one i x r) q)) h a
+      later-link z x (is_skipped cut s n i z x) (IsWalkFrom cut s n (i + 1) x r) (IsWalkFrom cut s n (i + 1) x (r ++ w ∷ [])) (last_of_walk x r) w (is_skipped cut s n (i + length (x ∷ r)) (last_of_walk x r) w) ls new
+      (λ ms ns p q. walk-more (i + 1) x r ms w ns p (subst (λ k. AddsLink cut (last_of_walk x r) w (is_skipped cut s n k (last_of_walk x r) w) ms ns) (plus-one i x r) q)) h a
 
-pub last-more : (z : Point) (r : List Point) (w : Point) → last_of z (r ++ w ∷ []) ≡ w
+pub last-more : (z : Point) (r : List Point) (w : Point) → last_of_walk z (r ++ w ∷ []) ≡ w
 last-more z [] w = refl
 last-more z (x ∷ r) w = last-more x r w
 
 module _ (cut : Cut) (s : Side) (n : ℕ) (first : Point) (rest : List Point) (i : ℕ) (links new : List Edge) (before w : Point) where
-  pub walk-step : IsWalk cut s n 1 first (take i rest) links → before ≡ last_of first (take i rest) → w ≡ get_or rest i w → i < length rest →
-      AddsLink cut before w (is_skipped cut s n (i + 1) before w) links new → All (IsEnd cut) rest →
-      IsWalk cut s n 1 first (take (i + 1) rest) new × (w ≡ last_of first (take (i + 1) rest)) × IsEnd cut w
+  pub walk-step : IsWalkFrom cut s n 1 first (take i rest) links → before ≡ last_of_walk first (take i rest) → w ≡ get_or rest i w → i < length rest →
+      AddsLink cut before w (is_skipped cut s n (i + 1) before w) links new → All (IsEndOnLine cut) rest →
+      IsWalkFrom cut s n 1 first (take (i + 1) rest) new × (w ≡ last_of_walk first (take (i + 1) rest)) × IsEndOnLine cut w
   walk-step so_far b is inside a ends =
       let t = take_more rest i w inside ∙ ap (λ x. take i rest ++ x ∷ []) (sym is) in
       let l : i + 1 ≡ 1 + length (take i rest) = omega (arith, length-take-le i rest (omega arith)) in
       let a' = subst (λ k. AddsLink cut before w (is_skipped cut s n k before w) links new) l a in
       let a'' = subst (λ p. AddsLink cut p w (is_skipped cut s n (1 + length (take i rest)) p w) links new) b a' in (
-        subst (λ r. IsWalk cut s n 1 first r new) (sym t) (walk-more cut s n 1 first (take i rest) links w new so_far a''),
-        sym (ap (last_of first) t ∙ last-more first (take i rest) w),
-        subst (IsEnd cut) (sym is) (ends i w inside),
+        subst (λ r. IsWalkFrom cut s n 1 first r new) (sym t) (walk-more cut s n 1 first (take i rest) links w new so_far a''),
+        sym (ap (last_of_walk first) t ∙ last-more first (take i rest) w),
+        subst (IsEndOnLine cut) (sym is) (ends i w inside),
       )
 
 -- ---- the same behind another list
@@ -139,9 +139,9 @@ pub added-none : (cut : Cut) (s : Side) (n : ℕ) (first : Point) (old : List Ed
 added-none cut s n first old = ([], refl, sym (append-nil old))
 
 pub added-step : (cut : Cut) (s : Side) (n : ℕ) (first : Point) (rest : List Point) (i : ℕ) (old now new : List Edge) (before w : Point) →
-    AddsWalk cut s n first (take i rest) old now → before ≡ last_of first (take i rest) → w ≡ get_or rest i w → i < length rest →
-    AddsLink cut before w (is_skipped cut s n (i + 1) before w) now new → All (IsEnd cut) rest →
-    AddsWalk cut s n first (take (i + 1) rest) old new × (w ≡ last_of first (take (i + 1) rest)) × IsEnd cut w
+    AddsWalk cut s n first (take i rest) old now → before ≡ last_of_walk first (take i rest) → w ≡ get_or rest i w → i < length rest →
+    AddsLink cut before w (is_skipped cut s n (i + 1) before w) now new → All (IsEndOnLine cut) rest →
+    AddsWalk cut s n first (take (i + 1) rest) old new × (w ≡ last_of_walk first (take (i + 1) rest)) × IsEndOnLine cut w
 added-step cut s n first rest i old now new before w so_far b is inside a ends =
     let r = link-behind cut before w (is_skipped cut s n (i + 1) before w) old so_far.0 now new so_far.2 a in
     let t = walk-step cut s n first rest i so_far.0 r.0 before w so_far.1 b is inside r.1 ends in ((r.0, t.0, r.2), t.1, t.2)

@@ -19,13 +19,13 @@ abbrev pub envelope_at : Point → Envelope
 envelope_at p = record { low_x = floor_of (x_of p); high_x = ceiling_of (x_of p); low_y = floor_of (y_of p); high_y = ceiling_of (y_of p) }
 
 -- the least that holds two
-abbrev pub joined : Envelope → Envelope → Envelope
-joined v w = record { low_x = lesser v.low_x w.low_x; high_x = greater v.high_x w.high_x; low_y = lesser v.low_y w.low_y; high_y = greater v.high_y w.high_y }
+abbrev pub joined_envelope : Envelope → Envelope → Envelope
+joined_envelope v w = record { low_x = lesser v.low_x w.low_x; high_x = greater v.high_x w.high_x; low_y = lesser v.low_y w.low_y; high_y = greater v.high_y w.high_y }
 
 -- the least that holds v and the edges
 abbrev pub envelope_from : Envelope → List Edge → Envelope
 envelope_from v [] = v
-envelope_from v (e ∷ es) = envelope_from (joined (joined v (envelope_at e.from)) (envelope_at e.to)) es
+envelope_from v (e ∷ es) = envelope_from (joined_envelope (joined_envelope v (envelope_at e.from)) (envelope_at e.to)) es
 
 abbrev pub low_in : Axis → Envelope → ℤ
 low_in X v = v.low_x

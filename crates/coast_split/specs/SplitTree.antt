@@ -15,7 +15,7 @@ use Rattle.osm_geom.specs.declared.cut.Side.TheVariants.{Low, High}
 use Rattle.osm_geom.specs.declared.edge.Edge.{Edge}
 use Rattle.osm_geom.specs.Coordinate.{ceiling_of, floor_of}
 use Rattle.osm_geom.specs.Cut.{coordinate_of}
-use Rattle.plane_edges.specs.Multiple.{common_den, whole_edges}
+use Rattle.plane_edges.specs.Multiple.{product_of_denominators, whole_edges}
 use Rattle.plane_edges.specs.Sided.{count_at}
 use Rattle.coast_split.specs.declared.leaves.Leaf.{Leaf}
 use Rattle.coast_split.specs.Half.{IsHalf, line_of}
@@ -119,7 +119,7 @@ abbrev pub Covers : ℤ → Vector → List Edge → Type 0
 Covers q p es = count_at q p es % 2 ≡ 1
 
 abbrev pub IsOffList : ℤ → Vector → List Edge → Type 0
-IsOffList q p es = All (IsOffEdge (scaled_point (pos (common_den es)) p)) (scaled_edges q (whole_edges es))
+IsOffList q p es = All (IsOffEdge (scaled_point (pos (product_of_denominators es)) p)) (scaled_edges q (whole_edges es))
 
 -- the point is on none of the lines of the cuts in the tree
 abbrev pub IsOffCuts : ℕ → ℤ → Vector → List Edge → Tree → Type 0

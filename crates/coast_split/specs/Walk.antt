@@ -29,19 +29,19 @@ abbrev pub is_skipped : Cut → Side → ℕ → ℕ → Point → Point → Boo
 is_skipped cut side n i z w = not (is_plus (line_order cut side z w)) || is_even (up_to_lower cut side n i)
 
 -- ls are the edges that a walk leaves from z, the i-th of n ends, through those that follow
-abbrev pub IsWalk : Cut → Side → ℕ → ℕ → Point → List Point → List Edge → Type 0
-IsWalk cut side n i z [] ls = ls ≡ []
-IsWalk cut side n i z (w ∷ r) ls = NextLink cut z w (is_skipped cut side n i z w) (IsWalk cut side n (i + 1) w r) ls
+abbrev pub IsWalkFrom : Cut → Side → ℕ → ℕ → Point → List Point → List Edge → Type 0
+IsWalkFrom cut side n i z [] ls = ls ≡ []
+IsWalkFrom cut side n i z (w ∷ r) ls = NextLink cut z w (is_skipped cut side n i z w) (IsWalkFrom cut side n (i + 1) w r) ls
 
 -- the last point of a walk
-abbrev pub last_of : Point → List Point → Point
-last_of z [] = z
-last_of z (w ∷ r) = last_of w r
+abbrev pub last_of_walk : Point → List Point → Point
+last_of_walk z [] = z
+last_of_walk z (w ∷ r) = last_of_walk w r
 
 -- the walk over a whole list
 abbrev pub AreWalked : Cut → Side → List Point → List Edge → Type 0
 AreWalked cut side [] ls = ls ≡ []
-AreWalked cut side (z ∷ r) ls = IsWalk cut side (length (z ∷ r)) 1 z r ls
+AreWalked cut side (z ∷ r) ls = IsWalkFrom cut side (length (z ∷ r)) 1 z r ls
 
 -- the list with the edge from z to w, unless it is skipped
 abbrev pub AddsLink : Cut → Point → Point → Bool → List Edge → List Edge → Type 0
@@ -50,14 +50,14 @@ AddsLink cut z w false old new = (e : Edge) × IsLink cut z w e × (new ≡ old 
 
 -- the list with the edges of a walk from the first of n ends through those that follow
 abbrev pub AddsWalk : Cut → Side → ℕ → Point → List Point → List Edge → List Edge → Type 0
-AddsWalk cut side n z r old new = (ls : List Edge) × IsWalk cut side n 1 z r ls × (new ≡ old ++ ls)
+AddsWalk cut side n z r old new = (ls : List Edge) × IsWalkFrom cut side n 1 z r ls × (new ≡ old ++ ls)
 
 -- the list with the edges of the walk over a whole list
 abbrev pub AddsWalked : Cut → Side → List Point → List Edge → List Edge → Type 0
 AddsWalked cut side zs old new = (ls : List Edge) × AreWalked cut side zs ls × (new ≡ old ++ ls)
 
 -- an end on the line
-pub record IsEnd (cut : Cut) (p : Point) : Type 0 where
+pub record IsEndOnLine (cut : Cut) (p : Point) : Type 0 where
   pub on_line : cut_order cut p ≡ Null
   pub in_world : IsInWorld p
 

@@ -2,7 +2,7 @@
 ghost use Rattle.std.specs.Prelude.{◌≡◌, ◌≤◌, ◌*◌, ◌+ℤ◌, ◌-ℤ◌, pos, unsigned_abs};
 ghost use Rattle.std.specs.Int.{int_div_euclid};
 ghost use Rattle.plane.specs.Sign.{is_minus, sign};
-ghost use Rattle.coast_split.specs.Envelope.{IsSmall, envelope_at, envelope_of, joined, longer_in, middle_in, width_in};
+ghost use Rattle.coast_split.specs.Envelope.{IsSmall, envelope_at, envelope_of, joined_envelope, longer_in, middle_in, width_in};
 ghost use Rattle.coast_split.specs.SplitTree.{greater, is_wide, lesser};
 
 use osm_geom::{Axis, Edge, Point, ceiling_at, floor_at};
@@ -62,7 +62,7 @@ fn envelope_at(p: &Point) -> Envelope
 impl Envelope {
     /// The least that holds both.
     fn joined(self, other: Envelope) -> Envelope
-        ensures { result ≡ joined self other }
+        ensures { result ≡ joined_envelope self other }
     {
         Envelope {
             low_x: lesser(self.low_x, other.low_x),

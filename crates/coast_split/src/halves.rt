@@ -7,7 +7,7 @@ ghost use Rattle.osm_lattice.specs.OrderLaws.{ordering_of};
 ghost use Rattle.plane_edges.specs.Sided.{IsSided};
 ghost use Rattle.coast_split.specs.Half.{ArePortions, IsHalf, IsLink, line_order, runs_forward};
 ghost use Rattle.coast_split.specs.HalfCount.{CountsAsKept, CountsNothingBeyond};
-ghost use Rattle.coast_split.specs.Walk.{AddsLink, AddsWalk, AddsWalked, AreSortedEnds, IsEnd, end_on, ends_on, is_skipped};
+ghost use Rattle.coast_split.specs.Walk.{AddsLink, AddsWalk, AddsWalked, AreSortedEnds, IsEndOnLine, end_on, ends_on, is_skipped};
 
 use crate::portion::portion;
 use osm_geom::{Axis, Carrier, Cut, Edge, Edges, Point, Side, compare_points, compare_to_cut};
@@ -89,8 +89,8 @@ fn line_carrier(cut: Cut) -> Carrier
 
 /// The edge on the line from one end to the next.
 fn link(z: Point, w: Point, cut: Cut) -> Edge
-    requires z_end { IsEnd cut z }
-    requires w_end { IsEnd cut w }
+    requires z_end { IsEndOnLine cut z }
+    requires w_end { IsEndOnLine cut w }
     requires apart { z ≢ w }
     ensures { IsLink cut z w result }
 {
@@ -124,8 +124,8 @@ fn push_link(
     cut: Cut,
     side: Side,
 ) -> Result<(), OutOfMemory>
-    requires z_end { IsEnd cut z }
-    requires w_end { IsEnd cut w }
+    requires z_end { IsEndOnLine cut z }
+    requires w_end { IsEndOnLine cut w }
     requires passed { passed ≤ count }
     ensures { OnOk result (AddsLink cut z w (is_skipped cut side count passed z w) edges.old
         edges.new) }
@@ -144,8 +144,8 @@ fn push_links_from(
     cut: Cut,
     side: Side,
 ) -> Result<(), OutOfMemory>
-    requires first_end { IsEnd cut first }
-    requires rest_ends { All (IsEnd cut) rest.now }
+    requires first_end { IsEndOnLine cut first }
+    requires rest_ends { All (IsEndOnLine cut) rest.now }
     requires small { length rest.now + 1 < 2 ^ 64 }
     ensures { OnOk result (AddsWalk cut side (length rest.now + 1) first rest.now edges.old
         edges.new) }
@@ -182,7 +182,7 @@ fn sorted_ends(
 
 /// Adds the edges on the line.
 fn push_links(edges: &mut Edges, ends: &[Point], cut: Cut, side: Side) -> Result<(), OutOfMemory>
-    requires { All (IsEnd cut) ends.now }
+    requires { All (IsEndOnLine cut) ends.now }
     ensures { OnOk result (AddsWalked cut side ends.now edges.old edges.new) }
 {
     match ends.split_first() {

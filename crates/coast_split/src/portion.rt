@@ -6,7 +6,7 @@ ghost use Rattle.osm_geom.specs.Carrier.{is_on};
 ghost use Rattle.osm_geom.specs.Cut.{cut_order, side_of};
 ghost use Rattle.osm_geom.specs.Point.{IsInWorld};
 ghost use Rattle.coast_split.specs.Half.{IsPortion, has_portion};
-ghost use Rattle.coast_split.specs.Place.{place_by};
+ghost use Rattle.coast_split.specs.Place.{place_by_sign};
 
 use osm_geom::{Carrier, Cut, Edge, Loc, Point, Side, compare_to_cut, cut_point};
 use std::cmp::Ordering;
@@ -23,7 +23,7 @@ pub enum Place {
 
 /// Where a point stands.
 pub fn place_of(p: &Point, cut: Cut, side: Side) -> Place
-    ensures { result ≡ place_by (side_of cut side p.now) }
+    ensures { result ≡ place_by_sign (side_of cut side p.now) }
 {
     match compare_to_cut(p, cut) {
         Ordering::Equal => Place::OnLine,

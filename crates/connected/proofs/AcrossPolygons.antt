@@ -3,16 +3,16 @@ use Rattle.std.proofs.Common.{Bool, List, ap, arith, false, inl, inr, not, refl,
 use Rattle.std.proofs.lemmas.Bool.{and_from, false_from_ne_true}
 use Rattle.nesting.specs.Cover.{covers_edge}
 use Rattle.nesting.specs.Nesting.{IsNextLeft}
-use Rattle.nesting.specs.Polygon.{ArePolygons, Polygon, polygon_edges}
+use Rattle.nesting.specs.Polygon.{ArePolygonsOfRings, Polygon, polygon_edges}
 use Rattle.nesting.specs.Walk.{IsSuccessor}
 use Rattle.plane.specs.Bit.{bit}
-use Rattle.plane.specs.Edge.{Edge, IsRising, same_edge, segment_of}
+use Rattle.plane.specs.Edge.{Edge, IsRisingEdge, same_edge, segment_of}
 use Rattle.plane.specs.Height.{is_in_span, is_right_above}
 use Rattle.plane.specs.Vector.{Vector}
 use Rattle.lists.specs.Member.{In}
 use Rattle.winding.specs.ConflictFree.{IsConflictFree, others}
 use Rattle.winding.specs.EdgeList.{IsEvenAtPoints}
-use Rattle.winding.specs.OddSide.{runs_up}
+use Rattle.winding.specs.OddSide.{runs_up_by_odd_side}
 use Rattle.winding.specs.Parity.{is_even}
 use Rattle.winding.specs.Ring.{segments_of}
 use Rattle.winding.specs.Sided.{IsSided}
@@ -48,7 +48,7 @@ module _ (a m : Edge) (xs : List Edge) (pl : IsConflictFree xs) (even : IsEvenAt
       right-by (inr h) = h
 
   -- it has a, which runs up
-  pub covers-left : In a xs → runs_up xs a ≡ true → IsRising m → IsClearOfAll m xs → covers_edge xs m ≡ true
+  pub covers-left : In a xs → runs_up_by_odd_side xs a ≡ true → IsRisingEdge m → IsClearOfAll m xs → covers_edge xs m ≡ true
   covers-left i up rm c =
       let s = split_off (to_right p m) a xs pl i in
       let one : to_right p m a ≡ 1 = ap bit (and_from (is_in_span p a) (right_of p m a) sa ma) in
@@ -58,7 +58,7 @@ module _ (a m : Edge) (xs : List Edge) (pl : IsConflictFree xs) (even : IsEvenAt
       sym (not-not (covers_edge xs m)) ∙ ap not (sym (beside p m xs rm pl even c sm) ∙ odd-is (total (to_right p m) xs) (omega arith))
 
   -- it has m, which runs down
-  pub covers-right : In m xs → runs_up xs m ≡ false → (In a xs → ⊥) → IsRising a → IsClearOfAll a xs → covers_edge xs a ≡ true
+  pub covers-right : In m xs → runs_up_by_odd_side xs m ≡ false → (In a xs → ⊥) → IsRisingEdge a → IsClearOfAll a xs → covers_edge xs a ≡ true
   covers-right i down n ra c =
       let s = split_off (to_right p m) m xs pl i in
       let zero : to_right p m m ≡ 0 = ap bit (own (is_in_span p m) (right_of p m m) (right_itself p m)) in
@@ -71,7 +71,7 @@ module _ (a m : Edge) (xs : List Edge) (pl : IsConflictFree xs) (even : IsEvenAt
       own true y h = h
       own false y h = refl
 
-module _ (es : List Edge) (sd : IsSided es) (rs : List (List Edge)) (l : IsRingListOf es rs) (gs : List Polygon) (k : ArePolygons rs gs) where
+module _ (es : List Edge) (sd : IsSided es) (rs : List (List Edge)) (l : IsRingListOf es rs) (gs : List Polygon) (k : ArePolygonsOfRings rs gs) where
   module _ (e f : Edge) (c : IsAcross es e f) where
     abbrev n : IsNextLeft e (segment_of f) (segments_of es)
     n = c.next
@@ -102,7 +102,7 @@ module _ (es : List Edge) (sd : IsSided es) (rs : List (List Edge)) (l : IsRingL
       left-covered x =
           let ks = polygon_edges g in let ge = sided-even ks G.balanced in
           covers-left e (segment_of f) (segments_of ks) G.plain ge se n.spans fe (none-in g ig)
-          (subst (λ z. In z (segments_of ks)) e-seg (in-map segment_of ks e eg)) (ap (runs_up (segments_of ks)) (sym e-seg) ∙ runs_up_as ks G e eg ∙ c.up)
+          (subst (λ z. In z (segments_of ks)) e-seg (in-map segment_of ks e eg)) (ap (runs_up_by_odd_side (segments_of ks)) (sym e-seg) ∙ runs_up_as ks G e eg ∙ c.up)
           (rise es sd f c.there) (clear-of es sd ks (sub es sd rs l gs k g ig) G.plain ge f c.there x)
 
       right-covered : (In e (polygon_edges h) → ⊥) → covers_edge (segments_of (polygon_edges h)) (segment_of e) ≡ true
@@ -110,7 +110,7 @@ module _ (es : List Edge) (sd : IsSided es) (rs : List (List Edge)) (l : IsRingL
           let ks = polygon_edges h in let he = sided-even ks H.balanced in
           let y = covers-right e (segment_of f) (segments_of ks) H.plain he se n.spans fe (none-in h ih) (in-map segment_of ks f fh) (runs_up_as ks H f fh ∙ c.down)
           (λ j. let z = in-map-out segment_of ks e j in x (subst (λ w. In w ks) (sym (segment-one es sd e z.0 c.here (sub es sd rs l gs k h ih z.0 z.1) (e-seg ∙ z.2))) z.1))
-          (subst IsRising e-seg (rise es sd e c.here)) (subst (λ z. IsClearOfAll z (segments_of ks)) e-seg (clear-of es sd ks (sub es sd rs l gs k h ih) H.plain he e c.here x)) in
+          (subst IsRisingEdge e-seg (rise es sd e c.here)) (subst (λ z. IsClearOfAll z (segments_of ks)) e-seg (clear-of es sd ks (sub es sd rs l gs k h ih) H.plain he e c.here x)) in
           ap (covers_edge (segments_of ks)) e-seg ∙ y
 
       one-by : (In f (polygon_edges g)) ⊎ (In f (polygon_edges g) → ⊥) → (In e (polygon_edges h)) ⊎ (In e (polygon_edges h) → ⊥) → g.outer ≡ h.outer

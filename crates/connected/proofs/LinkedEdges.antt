@@ -2,7 +2,7 @@
 use Rattle.std.proofs.Common.{Bool, List, [], ap, arith, cond, false, inl, inr, not, refl, subst, suc, sym, true, zero, ℕ, ◌&&◌, ◌<◌, ◌∙◌, ◌∷◌, ◌≡◌, ◌≤◌}
 use Rattle.nesting.specs.Walk.{Follow, IsSuccessor, IsWalk, last}
 use Rattle.plane.specs.Bit.{bit}
-use Rattle.plane.specs.Edge.{Edge, IsRising, is_horizontal, is_rising, reversed, segment_of}
+use Rattle.plane.specs.Edge.{Edge, IsRisingEdge, is_horizontal, is_rising, reversed, segment_of}
 use Rattle.plane.specs.Sign.{Minus, Null, Plus, Sign, is_null, is_plus, sign, then_sign}
 use lib.IntN.{◌-ℤ◌}
 use Rattle.connected.specs.Earlier.{is_earlier}
@@ -11,7 +11,7 @@ use Rattle.plane.proofs.SignKit.{self-diff}
 use Rattle.plane.specs.Height.{is_in_span}
 use Rattle.plane.specs.Order.{order}
 use Rattle.plane.specs.Vector.{one_at}
-use Rattle.winding.specs.OddSide.{runs_up}
+use Rattle.winding.specs.OddSide.{runs_up_by_odd_side}
 use Rattle.nesting.specs.Nesting.{IsNextLeft}
 use Rattle.lists.specs.Member.{In}
 use Rattle.winding.specs.ConflictFree.{IsConflictFree}
@@ -81,7 +81,7 @@ module _ (es : List Edge) (sd : IsSided es) where
 
   pub across_there : (x : Edge) → In x es → is_rising x ≡ true → is_in_span x.from x ≡ true → (y : Edge) × IsAcross es x y
   across_there x i u s =
-      let up = ap (runs_up (segments_of es)) (sym (up-segment x u)) ∙ runs_up_as es sd x i ∙ u in
+      let up = ap (runs_up_by_odd_side (segments_of es)) (sym (up-segment x u)) ∙ runs_up_as es sd x i ∙ u in
       let m = next_left (segments_of es) sd.plain (sided-even es sd.balanced) x (in-seg x i u) up s in
       let y = in-map-out segment_of es m.0 m.1 in (
         y.0,
@@ -89,19 +89,19 @@ module _ (es : List Edge) (sd : IsSided es) where
           here = i;
           there = y.1;
           up = u;
-          down = sym (runs_up_as es sd y.0 y.1) ∙ ap (runs_up (segments_of es)) (sym y.2) ∙ m.2;
+          down = sym (runs_up_as es sd y.0 y.1) ∙ ap (runs_up_by_odd_side (segments_of es)) (sym y.2) ∙ m.2;
           next = subst (λ w. IsNextLeft x w (segments_of es)) y.2 m.3;
         },
       )
 
   -- the walk of the neighbour begins earlier
-  anchor-rising : (w : List Edge) → IsWalk es w → (a : Edge) → In a (segments_of w) → IsRising a
-  anchor-rising w k a i = let x = in-map-out segment_of w a i in subst IsRising (sym x.2) (rise es sd x.0 (k.here x.0 x.1))
+  anchor-rising : (w : List Edge) → IsWalk es w → (a : Edge) → In a (segments_of w) → IsRisingEdge a
+  anchor-rising w k a i = let x = in-map-out segment_of w a i in subst IsRisingEdge (sym x.2) (rise es sd x.0 (k.here x.0 x.1))
 
   pub walk_earlier : (x y : Edge) → IsAcross es x y → (w : List Edge) → IsWalk es w → In y w → (a : Edge) → IsAnchor a (segments_of w) → is_earlier a x ≡ true
   walk_earlier x y c w k j a aa =
       let ra = anchor-rising w k a aa.member in let ry = rise es sd y c.there in
-      let rx = subst IsRising (up-segment x c.up) (rise es sd x c.here) in
+      let rx = subst IsRisingEdge (up-segment x c.up) (rise es sd x c.here) in
       let before = anchor_first a (segment_of y) (segments_of w) aa (in-map segment_of w y j) in
       let n = false_from_ne_true (ok x a) (λ h. clash (ok x (segment_of y)) (ok_chain x a (segment_of y) rx ra ry h before) (across_earlier x y c)) in
       earlier_is a x ∙ ap not n
@@ -109,7 +109,7 @@ module _ (es : List Edge) (sd : IsSided es) where
   -- an edge that runs up and isn't level spans the height where it begins
   own-span : (x : Edge) → In x es → is_rising x ≡ true → is_horizontal x ≡ false → is_in_span x.from x ≡ true
   own-span x i u h =
-      let r : IsRising x = subst IsRising (up-segment x u) (rise es sd x i) in
+      let r : IsRisingEdge x = subst IsRisingEdge (up-segment x u) (rise es sd x i) in
       let t = tall (sign (x.to.y -ℤ x.from.y)) (sign (x.to.x -ℤ x.from.x)) r h in
       ap (λ s. not (is_plus s) && is_plus (sign (x.to.y -ℤ x.from.y))) (self-diff x.from.y) ∙ t
     where

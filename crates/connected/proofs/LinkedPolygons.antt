@@ -1,7 +1,7 @@
 -- All edges of a polygon are linked.
 use Rattle.std.proofs.Common.{List, ap, false, inl, inr, map, not, refl, subst, sym, true, ◌∙◌, ◌≡◌}
 use Rattle.nesting.specs.Nesting.{is_outer}
-use Rattle.nesting.specs.Polygon.{ArePolygons, IsPolygon, Polygon, polygon_edges}
+use Rattle.nesting.specs.Polygon.{ArePolygonsOfRings, IsPolygon, Polygon, polygon_edges}
 use Rattle.nesting.specs.RingList.{IsRingList}
 use Rattle.nesting.specs.Walk.{IsWalk}
 use Rattle.plane.specs.Edge.{Edge, is_rising, same_edge, segment_of}
@@ -26,7 +26,7 @@ part-anchor a xs ys sub i aa = record {
   leftmost = λ t j. aa.leftmost t (into-filter (λ (t : Edge). not (same_edge a t)) ys t (sub t (in-filter (λ (t : Edge). not (same_edge a t)) xs t j)) (in-passes (λ (t : Edge). not (same_edge a t)) xs t j));
 }
 
-module _ (es : List Edge) (sd : IsSided es) (rs : List (List Edge)) (l : IsRingListOf es rs) (gs : List Polygon) (k : ArePolygons rs gs) (g : Polygon) (i : In g gs) where
+module _ (es : List Edge) (sd : IsSided es) (rs : List (List Edge)) (l : IsRingListOf es rs) (gs : List Polygon) (k : ArePolygonsOfRings rs gs) (g : Polygon) (i : In g gs) where
   abbrev ks : List Edge
   ks = polygon_edges g
 

@@ -6,14 +6,14 @@ use lib.IntN.{◌-ℤ◌}
 use Rattle.nesting.specs.Nesting.{IsNextLeft}
 use Rattle.plane.specs.Bit.{bit}
 use Rattle.plane.specs.Conflict.{IsClearOf}
-use Rattle.plane.specs.Edge.{Edge, IsRising, same_edge}
+use Rattle.plane.specs.Edge.{Edge, IsRisingEdge, same_edge}
 use Rattle.plane.specs.Height.{is_in_span, is_right_above}
 use Rattle.plane.specs.Sign.{Sign, is_minus, is_plus, sign}
 use Rattle.plane.specs.Vector.{Vector}
 use Rattle.winding.specs.ConflictFree.{IsConflictFree, others}
 use Rattle.winding.specs.EdgeList.{IsEvenAtPoints}
 use Rattle.lists.specs.Member.{In}
-use Rattle.winding.specs.OddSide.{runs_up}
+use Rattle.winding.specs.OddSide.{runs_up_by_odd_side}
 use Rattle.winding.specs.Parity.{is_even}
 use Rattle.winding.specs.Rank.{IsOrder}
 use Rattle.lists.proofs.ListsKit.{and-left, and-right, clash, in-filter, in-passes, into-filter, not-true-out, pairs-filter, pairs-weaker, total, total-+, total-same}
@@ -29,7 +29,7 @@ above p v = bit (is_plus (sign (v.y -ℤ p.y)))
 abbrev span_1 : Sign → Sign → Sign → Bool
 span_1 u d v = imp (agree u d v) λ _. imp (not (is_minus d)) λ _. eqb (bit (is_plus u) + bit (is_plus v)) (bit (not (is_plus u) && is_plus v) + (bit (is_plus u) + bit (is_plus u)))
 
-span-ends : (p : Vector) (t : Edge) → IsRising t → above p t.from + above p t.to ≡ bit (is_in_span p t) + (above p t.from + above p t.from)
+span-ends : (p : Vector) (t : Edge) → IsRisingEdge t → above p t.from + above p t.to ≡ bit (is_in_span p t) + (above p t.from + above p t.from)
 span-ends p t r =
     let u = t.from in let v = t.to in
     let c = all3-out span_1 refl (sign (u.y -ℤ p.y)) (sign (v.y -ℤ u.y)) (sign (v.y -ℤ p.y)) in
@@ -46,7 +46,7 @@ spans-even p es pl even =
 pub even-out : (n : ℕ) → is_even n ≡ true → n % 2 ≡ 0
 even-out n h = eqb-true (n % 2) 0 h
 
-module _ (es : List Edge) (pl : IsConflictFree es) (even : IsEvenAtPoints es) (a : Edge) (ia : In a es) (up : runs_up es a ≡ true) (sa : is_in_span a.from a ≡ true) where
+module _ (es : List Edge) (pl : IsConflictFree es) (even : IsEvenAtPoints es) (a : Edge) (ia : In a es) (up : runs_up_by_odd_side es a ≡ true) (sa : is_in_span a.from a ≡ true) where
   abbrev p : Vector
   p = a.from
 
@@ -161,7 +161,7 @@ module _ (es : List Edge) (pl : IsConflictFree es) (even : IsEvenAtPoints es) (a
         right-by t n (inr h) = h
 
     -- it runs down
-    down : runs_up es m ≡ false
+    down : runs_up_by_odd_side es m ≡ false
     down =
         let w = total-same (to_right p m) (to_right p a) (others a es) beside-same in
         let s = split_off (to_right p m) a es pl ia in let t = split_off (to_right p m) m es pl im in
@@ -175,5 +175,5 @@ module _ (es : List Edge) (pl : IsConflictFree es) (even : IsEvenAtPoints es) (a
         own false y h = refl
 
   -- an edge that runs up has a nearest edge on its left, which runs down
-  pub next_left : (m : Edge) × In m es × (runs_up es m ≡ false) × IsNextLeft a m es
+  pub next_left : (m : Edge) × In m es × (runs_up_by_odd_side es m ≡ false) × IsNextLeft a m es
   next_left = let n = nearest-left in (n.0, im n.0 n.1, down n.0 n.1, next n.0 n.1)

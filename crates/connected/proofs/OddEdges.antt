@@ -6,7 +6,7 @@ use Rattle.lists.specs.Member.{In}
 use Rattle.winding.specs.ConflictFree.{IsConflictFree}
 use Rattle.winding.specs.EdgeList.{IsEvenAtPoints, crossing_count}
 use Rattle.winding.specs.Node.{away}
-use Rattle.winding.specs.OddSide.{runs_up}
+use Rattle.winding.specs.OddSide.{runs_up_by_odd_side}
 use Rattle.winding.specs.Parity.{is_even}
 use Rattle.winding.specs.Ring.{segments_of}
 use Rattle.winding.specs.Sided.{IsSided}
@@ -18,7 +18,7 @@ use Rattle.plane.proofs.PlaneKit.{ends_at-from}
 use Rattle.winding.proofs.WindingKit.{runs_from, runs_to, sided-even}
 
 module _ (es : List Edge) (sd : IsSided es) where
-  own-by : (b : Bool) (e : Edge) → In (cond b e (reversed e)) (segments_of es) → runs_up (segments_of es) (cond b e (reversed e)) ≡ b → sees_even (segments_of es) e ≡ false
+  own-by : (b : Bool) (e : Edge) → In (cond b e (reversed e)) (segments_of es) → runs_up_by_odd_side (segments_of es) (cond b e (reversed e)) ≡ b → sees_even (segments_of es) e ≡ false
   own-by true e i h = not-true-out (sees_even (segments_of es) e) (sym (runs_from e (segments_of es) sd.plain (sided-even es sd.balanced) i) ∙ h)
   own-by false e i h = sym (runs_to (reversed e) (segments_of es) sd.plain (sided-even es sd.balanced) i) ∙ h
 

@@ -1,7 +1,7 @@
 -- Of a walk one polygon has all edges; so the successors in a polygon are those in the whole list.
 use Rattle.std.proofs.Common.{List, [], inl, inr, map, refl, subst, sym, ◌∙◌, ◌∷◌, ◌≡◌}
 use Rattle.nesting.specs.Nesting.{edges_of}
-use Rattle.nesting.specs.Polygon.{ArePolygons, Polygon, polygon_edges}
+use Rattle.nesting.specs.Polygon.{ArePolygonsOfRings, Polygon, polygon_edges}
 use Rattle.nesting.specs.Walk.{IsSuccessor, IsWalk, last}
 use Rattle.plane.specs.Edge.{Edge}
 use Rattle.lists.specs.Member.{In}
@@ -26,7 +26,7 @@ end-in : (w : List Edge) (e : Edge) → In e w → (z : Edge) → last z w ≡ z
 end-in [] e i z q P h = absurd i
 end-in (x ∷ xs) e i z q P h = h z (subst (λ y. In y (x ∷ xs)) q (last-in z x xs))
 
-module _ (es : List Edge) (sd : IsSided es) (rs : List (List Edge)) (l : IsRingListOf es rs) (gs : List Polygon) (k : ArePolygons rs gs) where
+module _ (es : List Edge) (sd : IsSided es) (rs : List (List Edge)) (l : IsRingListOf es rs) (gs : List Polygon) (k : ArePolygonsOfRings rs gs) where
   once-all : Once (edges_of (map polygon_edges gs))
   once-all = same-once (edges_of (map polygon_edges gs)) (edges_of rs) k.whole (same-once (edges_of rs) es l.edges (sided-once es sd))
 

@@ -1,6 +1,6 @@
 -- Walks, left neighbours and polygons of a sided list, as statements.
 use Rattle.std.specs.Prelude.{List, false, true, ◌↔◌, ◌∷◌, ◌≡◌}
-use Rattle.nesting.specs.Polygon.{ArePolygons, IsPolygon, Polygon, polygon_edges}
+use Rattle.nesting.specs.Polygon.{ArePolygonsOfRings, IsPolygon, Polygon, polygon_edges}
 use Rattle.nesting.specs.Walk.{IsSuccessor, IsWalk}
 use Rattle.plane.specs.Edge.{Edge, is_horizontal, is_rising}
 use Rattle.lists.specs.Member.{In}
@@ -23,21 +23,21 @@ WalkHasOneOuterRing =
 abbrev pub PolygonHasWholeWalks : Type 0
 PolygonHasWholeWalks =
     (es : List Edge) → IsSided es → (rs : List (List Edge)) → IsRingListOf es rs → (gs : List Polygon) →
-    ArePolygons rs gs → (g : Polygon) → In g gs → (w : List Edge) → IsWalk es w → (e f : Edge) → In e w →
+    ArePolygonsOfRings rs gs → (g : Polygon) → In g gs → (w : List Edge) → IsWalk es w → (e f : Edge) → In e w →
     In f w → In e (polygon_edges g) → In f (polygon_edges g)
 
 -- the successor of an edge of a polygon is its successor in the polygon
 abbrev pub PolygonHasSuccessors : Type 0
 PolygonHasSuccessors =
     (es : List Edge) → IsSided es → (rs : List (List Edge)) → IsRingListOf es rs → (gs : List Polygon) →
-    ArePolygons rs gs → (g : Polygon) → In g gs → (e f : Edge) → In e (polygon_edges g) →
+    ArePolygonsOfRings rs gs → (g : Polygon) → In g gs → (e f : Edge) → In e (polygon_edges g) →
     IsSuccessor es e f ↔ IsSuccessor (polygon_edges g) e f
 
 -- and the rings of a polygon are the ring list of its edges
 abbrev pub PolygonIsRingListOf : Type 0
 PolygonIsRingListOf =
     (es : List Edge) → IsSided es → (rs : List (List Edge)) → IsRingListOf es rs → (gs : List Polygon) →
-    ArePolygons rs gs → (g : Polygon) → In g gs → IsRingListOf (polygon_edges g) (g.outer ∷ g.inner)
+    ArePolygonsOfRings rs gs → (g : Polygon) → In g gs → IsRingListOf (polygon_edges g) (g.outer ∷ g.inner)
 
 -- ---- left neighbours
 
@@ -59,12 +59,12 @@ LeftNeighbourIsEarlier =
 abbrev pub PolygonIsLinked : Type 0
 PolygonIsLinked =
     (es : List Edge) → IsSided es → (rs : List (List Edge)) → IsRingListOf es rs → (gs : List Polygon) →
-    ArePolygons rs gs → (g : Polygon) → In g gs → (e f : Edge) → In e (polygon_edges g) →
+    ArePolygonsOfRings rs gs → (g : Polygon) → In g gs → (e f : Edge) → In e (polygon_edges g) →
     In f (polygon_edges g) → Linked (polygon_edges g) e f
 
 -- and in the whole list an edge of a polygon is linked to the edges of the polygon and to no others
 abbrev pub LinkedIsOnePolygon : Type 0
 LinkedIsOnePolygon =
     (es : List Edge) → IsSided es → (rs : List (List Edge)) → IsRingListOf es rs → (gs : List Polygon) →
-    ArePolygons rs gs → (g : Polygon) → In g gs → (e f : Edge) → In e (polygon_edges g) →
+    ArePolygonsOfRings rs gs → (g : Polygon) → In g gs → (e f : Edge) → In e (polygon_edges g) →
     Linked es e f ↔ In f (polygon_edges g)

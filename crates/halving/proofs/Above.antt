@@ -7,7 +7,7 @@ use Rattle.plane.specs.Edge.{Edge}
 use Rattle.plane.specs.RayCrossing.{IsOffEdge, down_by, off_by, up_by}
 use Rattle.plane.specs.Scale.{scaled_edge, scaled_point}
 use Rattle.plane.specs.Sign.{Minus, Null, Plus, Sign, is_null, is_plus, sign}
-use Rattle.plane.specs.Vector.{IsDirection, Vector, cross, dot, east, from_to}
+use Rattle.plane.specs.Vector.{IsNonZero, Vector, cross, dot, east, from_to}
 use Rattle.winding.specs.EdgeList.{winding_number}
 use Rattle.lists.specs.Member.{In}
 use Rattle.winding.specs.ScaledEdges.{scaled_edges}
@@ -71,7 +71,7 @@ points_1 a b c x = imp (not (same_bool (is_plus a) (is_plus b))) λ _. all2 (poi
 points-computes : all4 points_1 ≡ true
 points-computes = refl
 
-pub passes-beside : (u p : Vector) (e : Edge) → IsDirection u → IsOffEdge p e →
+pub passes-beside : (u p : Vector) (e : Edge) → IsNonZero u → IsOffEdge p e →
     not (same_bool (is_plus (sign (cross u (from_to p e.from)))) (is_plus (sign (cross u (from_to p e.to))))) ≡ true → not (is_null (sign (cross (from_to p e.from) (from_to p e.to)))) ≡ true
 passes-beside u p e d off h =
     let a = from_to p e.from in let b = from_to p e.to in
@@ -95,7 +95,7 @@ moved-cross k u p a b =
     same ((k' ⊠ a'.x2 ⊟ (k' ⊠ p'.x2 ⊟ u'.y2)) ⊠ (k' ⊠ b'.y2 ⊟ (k' ⊠ p'.y2 ⊞ u'.x2)) ⊟ (k' ⊠ a'.y2 ⊟ (k' ⊠ p'.y2 ⊞ u'.x2)) ⊠ (k' ⊠ b'.x2 ⊟ (k' ⊠ p'.x2 ⊟ u'.y2)))
     (k' ⊠ (k' ⊠ cross2 (from_to2 p' a') (from_to2 p' b') ⊞ dot2 u' (from_to2 a' b'))) (omega arith)
 
-module _ (u p : Vector) (d : IsDirection u) (k : ℤ) (hk : sign k ≡ Plus) (hn : sign (k -ℤ dot u u) ≡ Plus) (e : Edge)
+module _ (u p : Vector) (d : IsNonZero u) (k : ℤ) (hk : sign k ≡ Plus) (hn : sign (k -ℤ dot u u) ≡ Plus) (e : Edge)
     (hp : sign (k +ℤ dot u (from_to e.from e.to)) ≡ Plus) (hm : sign (dot u (from_to e.from e.to) -ℤ k) ≡ Minus)
     (off : not (same_bool (is_plus (sign (cross u (from_to p e.from)))) (is_plus (sign (cross u (from_to p e.to))))) ≡ true → IsOffEdge p e) where
   abbrev A : Sign
@@ -150,7 +150,7 @@ size z = up z + down z
 abbrev pub WindsOnce : Vector → Vector → List Edge → Type 0
 WindsOnce d p es = (winding_number d p es ≡ pos 0) ⊎ (winding_number d p es ≡ pos 1)
 
-module _ (es : List Edge) (sd : IsSided es) (u p : Vector) (d : IsDirection u)
+module _ (es : List Edge) (sd : IsSided es) (u p : Vector) (d : IsNonZero u)
     (off : (e : Edge) → In e es → not (same_bool (is_plus (sign (cross u (from_to p e.from)))) (is_plus (sign (cross u (from_to p e.to))))) ≡ true → IsOffEdge p e) where
   abbrev reach : Edge → ℕ
   reach e = size (dot u (from_to e.from e.to))

@@ -7,7 +7,7 @@ use Rattle.plane.specs.Edge.{Edge}
 use Rattle.plane.specs.RayCrossing.{IsOffEdge, down_by, up_by}
 use Rattle.plane.specs.Scale.{scaled_edge, scaled_point}
 use Rattle.plane.specs.Sign.{Minus, Null, Plus, Sign, is_minus, is_null, is_plus, negated, sign}
-use Rattle.plane.specs.Vector.{IsDirection, Vector, cross, dot, from_to}
+use Rattle.plane.specs.Vector.{IsNonZero, Vector, cross, dot, from_to}
 use Rattle.halving.specs.Line.{Line, has_part, order_along, scaled_line, side}
 use Rattle.plane.proofs.PlaneKit.{crossings_seen, same_vector, cross2, dot-chain, dot-here, dot2, frame-agree, from_to2, lift2, dot-there_back, off_by-set}
 use Rattle.plane.proofs.SignKit.{lift, same, ◌⊞◌, ◌⊟◌, ◌⊠◌, agree, agree-sum, all-out, both, imp, imp-out, left-out, null-zero, plus-times, right-out, same_bool, same_bool-true, same_sign, same_sign-true, sign-reversed, times, null-first, all3-out, same_bool-is, not-null-negated, minus_zeros}
@@ -44,7 +44,7 @@ no-difference : (a b : ℤ) → sign (b -ℤ a) ≡ Null → a ≡ b
 no-difference a b h = let z = null-zero (b -ℤ a) h in omega (arith, ints)
 
 -- points on the line at one place are one
-pub one-place : (l : Line) (p q : Vector) → IsDirection l.along → side l p ≡ Null → side l q ≡ Null → order_along l p q ≡ Null → p ≡ q
+pub one-place : (l : Line) (p q : Vector) → IsNonZero l.along → side l p ≡ Null → side l q ≡ Null → order_along l p q ≡ Null → p ≡ q
 one-place l p q d hp hq h =
     let u = l.along in let e = from_to p q in
     let dz = null-zero (dot u e) h in let cz = null-zero (cross u e) (rise-null l p q hp hq) in
@@ -99,7 +99,7 @@ negated-plus Plus = refl
 negated-plus Null = refl
 negated-plus Minus = refl
 
-module _ (l : Line) (d : IsDirection l.along) (z w : Vector) (hz : side l z ≡ Null) (hw : side l w ≡ Null) (t : Edge)
+module _ (l : Line) (d : IsNonZero l.along) (z w : Vector) (hz : side l z ≡ Null) (hw : side l w ≡ Null) (t : Edge)
     (from_kept : not (is_minus (side l t.from)) ≡ true) (to_kept : not (is_minus (side l t.to)) ≡ true) (some : has_part l t ≡ true)
     (from_apart : side l t.from ≡ Null → IsApart l z w t.from) (to_apart : side l t.to ≡ Null → IsApart l z w t.to)
     (side-two : (v : Vector) → side (scaled_line (pos 2) l) (scaled_point (pos 2) v) ≡ side l v) where

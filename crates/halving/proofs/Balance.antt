@@ -7,7 +7,7 @@ use Rattle.plane.specs.Edge.{Edge}
 use Rattle.plane.specs.RayCrossing.{IsOffEdge, down_by, up_by}
 use Rattle.plane.specs.Scale.{scaled_edge}
 use Rattle.plane.specs.Sign.{Minus, Null, Plus, Sign, is_minus, is_null, is_plus, negated}
-use Rattle.plane.specs.Vector.{IsDirection, Vector, from_to, one_at, same_point}
+use Rattle.plane.specs.Vector.{IsNonZero, Vector, from_to, one_at, same_point}
 use Rattle.winding.specs.EdgeList.{IsBalanced, up_count}
 use Rattle.lists.specs.Member.{EachPair, In}
 use Rattle.winding.specs.Parity.{is_even}
@@ -137,7 +137,7 @@ module _ (l : Line) (z w : Vector) (r : List Vector) (hzw : IsAfter l z w) (az :
   placed-next (inr (inr i)) = inr i
 
 -- ---- one end, seen from two neighbours
-module _ (l : Line) (d : IsDirection l.along) (z w : Vector) (hw : side l w ≡ Null) (v : Vector) where
+module _ (l : Line) (d : IsNonZero l.along) (z w : Vector) (hw : side l w ≡ Null) (v : Vector) where
   next-on : (s : Sign) → order_along l w v ≡ s → side l v ≡ Null → IsApart l z w v → bit (is_plus (order_along l z v)) ≡ bit (is_plus s) + one_at w v
   next-on Null h hv a =
       let e = one-place l w v d hw hv h in
@@ -163,7 +163,7 @@ module _ (l : Line) (d : IsDirection l.along) (z w : Vector) (hw : side l w ≡ 
   next-after n a = next-by (side l v) refl n a
 
 -- the first point: each end is there or after it
-module _ (l : Line) (d : IsDirection l.along) (z : Vector) (hz : side l z ≡ Null) (v : Vector) where
+module _ (l : Line) (d : IsNonZero l.along) (z : Vector) (hz : side l z ≡ Null) (v : Vector) where
   first-on : (v ≡ z) ⊎ IsAfter l z v → after l z v ≡ bit (is_plus (order_along l z v)) → after l z v + one_at z v ≡ 1
   first-on (inl e) b =
       let p = ap (λ x. bit (is_plus x)) (ap (order_along l z) e ∙ along-self l z) in let q = ap (one_at z) e ∙ one-self z in omega arith
@@ -217,7 +217,7 @@ parity-by : (m n t : ℕ) → n + m ≡ t + t → (n % 2 ≡ 0) ⊎ (n % 2 ≡ 1
 parity-by m n t h (inl e) = even-is m (omega arith) ∙ sym (even-is n e)
 parity-by m n t h (inr e) = odd-is m (omega arith) ∙ sym (odd-is n e)
 
-module _ (l : Line) (d : IsDirection l.along) (cs : List Cutting) (cut : IsCut l cs) (sd : IsSided (wholes cs)) where
+module _ (l : Line) (d : IsNonZero l.along) (cs : List Cutting) (cut : IsCut l cs) (sd : IsSided (wholes cs)) where
   abbrev T : List Edge
   T = parts l cs
 

@@ -2,11 +2,11 @@
 use Rattle.std.proofs.Common.{Bool, ap, cond, false, inl, inr, not, refl, subst, sym, true, ◌&&◌, ◌||◌, ◌∙◌, ◌≡◌, ◌⊎◌}
 use lib.IntN.{pos, ◌+ℤ◌}
 use Rattle.plane.specs.Conflict.{IsClearOf, is_parted_by, is_touched_by, overlaps}
-use Rattle.plane.specs.Edge.{Edge, IsRising, is_rising, reversed, segment_of}
+use Rattle.plane.specs.Edge.{Edge, IsRisingEdge, is_rising, reversed, segment_of}
 use Rattle.plane.specs.FreeSegment.{Misses, misses_by}
 use Rattle.plane.specs.Order.{order}
 use Rattle.plane.specs.Sign.{Minus, Null, Plus, Sign, are_opposite, is_null, is_plus, negated, sign}
-use Rattle.plane.specs.Vector.{IsDirection, Vector, cross, dot, from_to, orient}
+use Rattle.plane.specs.Vector.{IsNonZero, Vector, cross, dot, from_to, orient}
 use Rattle.plane.proofs.PlaneKit.{clear_back, clear_misses, overlap_by, overlaps-by, match-by, same_edge_by, misses_reversed, line-order-up, order-reversed, rising-direction, cross-here, cross-negated, direction-back, dot-chain, dot-here, frame-agree, orient-round, side-there, dot-there_back, dot-swap}
 use Rattle.plane.proofs.SignKit.{agree, agree-sum, all, all-out, all2, all2-out, all4, all4-out, both, imp, imp-out, left-out, right-out, same_sign, same_sign-true, sign-reversed, times}
 use Rattle.halving.specs.Line.{Line}
@@ -94,7 +94,7 @@ pub record NoConflict (s t : Edge) : Type 0 where
   pub no_touch : is_touched_by s t ≡ false
   pub no_parting : (is_parted_by t s && is_parted_by s t) ≡ false
 
-half-clear : (s t : Edge) → IsRising s → Misses s.from s.to t → NoConflict s t
+half-clear : (s t : Edge) → IsRisingEdge s → Misses s.from s.to t → NoConflict s t
 half-clear s t hs missed =
     let p = s.from in let q = s.to in let u = t.from in let v = t.to in let st = from_to p q in
     let dir = rising-direction p q hs in
@@ -127,12 +127,12 @@ conflicts-by-parts false true t2 p h k m n = absurd (cc k)
 conflicts-by-parts false false true p h k m n = absurd (cc m)
 conflicts-by-parts false false false true h k m n = absurd (cc n)
 
-pub clear-of : (s t : Edge) → IsRising s → IsRising t → AreClear s t → IsClearOf s t
+pub clear-of : (s t : Edge) → IsRisingEdge s → IsRisingEdge t → AreClear s t → IsClearOf s t
 clear-of s t hs ht h =
     let a = half-clear s t hs h.first in let b = half-clear t s ht h.second in
     conflicts-by-parts (overlaps s t) (is_touched_by s t) (is_touched_by t s) (is_parted_by t s && is_parted_by s t) a.no_overlap a.no_touch b.no_touch a.no_parting
 
-pub of-clear : (s t : Edge) → IsRising s → IsRising t → IsClearOf s t → AreClear s t
+pub of-clear : (s t : Edge) → IsRisingEdge s → IsRisingEdge t → IsClearOf s t → AreClear s t
 of-clear s t hs ht h = record { first = clear_misses s t hs ht h; second = clear_misses t s ht hs (clear_back s t h) }
 
 -- ---- a part of an edge is clear of what the edge is clear of
@@ -157,7 +157,7 @@ mean-dot-of a b z w i = ap sign (dot-swap w (from_to a z)) ∙ mean-dot-from a b
 dot-back : (d p q : Vector) → sign (dot d (from_to p q)) ≡ negated (sign (dot d (from_to q p)))
 dot-back d p q = sign-reversed (dot d (from_to q p)) (dot d (from_to p q)) (dot-there_back d q p)
 
-ahead-by : (st s t z : Vector) → IsDirection (from_to s t) → sign (dot (from_to s t) (from_to t z)) ≡ sign (dot (from_to s t) (from_to t s)) → sign (dot (from_to s t) (from_to z t)) ≡ Plus
+ahead-by : (st s t z : Vector) → IsNonZero (from_to s t) → sign (dot (from_to s t) (from_to t z)) ≡ sign (dot (from_to s t) (from_to t s)) → sign (dot (from_to s t) (from_to z t)) ≡ Plus
 ahead-by st s t z d h =
     dot-back (from_to s t) z t ∙ ap negated (h ∙ dot-back (from_to s t) t s ∙ ap negated d)
 
@@ -175,7 +175,7 @@ nearer_computes : all4 (λ a b cs ct. all4 (nearer_1 a b cs ct)) ≡ true
 nearer_computes = refl
 
 -- with a nearer end
-misses-nearer : (s t z : Vector) (e : Edge) → IsDirection (from_to s t) → IsMean s t z → Misses s t e → Misses s z e
+misses-nearer : (s t z : Vector) (e : Edge) → IsNonZero (from_to s t) → IsMean s t z → Misses s t e → Misses s z e
 misses-nearer s t z e d i missed =
     let u = e.from in let v = e.to in let st = from_to s t in
     let a = sign (cross st (from_to s u)) in let b = sign (cross st (from_to s v)) in
@@ -194,7 +194,7 @@ misses-nearer s t z e d i missed =
     rw (mean-cross-of s t z (from_to s u) i, mean-cross-of s t z (from_to s v) i, mean-dot-of s t z (from_to s u) i, mean-dot-of s t z (from_to s v) i, mean-dot-of s t z (from_to z u) i, mean-dot-of s t z (from_to z v) i)
     (imp-out _ _ (imp-out _ _ g2 ku) kv)
 
-misses-nearer-back : (s t z : Vector) (e : Edge) → IsDirection (from_to s t) → IsMean s t z → Misses s t e → Misses z t e
+misses-nearer-back : (s t z : Vector) (e : Edge) → IsNonZero (from_to s t) → IsMean s t z → Misses s t e → Misses z t e
 misses-nearer-back s t z e d i missed = misses_reversed t z e (misses-nearer t s z e (direction-back s t d) (mean-back s t z i) (misses_reversed s t e missed))
 
 abbrev shorter_2 : Sign → Sign → Sign → Sign → Sign → Sign → Sign → Sign → Sign → Sign → Sign → Bool
@@ -235,7 +235,7 @@ module _ (s t u v z : Vector) (i : IsMean u v z) (missed : Misses s t (record { 
   misses-shorter-back = rw (mean-second u v z i s, mean-second u v z i t) (right-out _ _ shorter)
 
 -- e and its part t
-pub part-clear : (l : Line) (e t f : Edge) → IsDirection (from_to e.from e.to) → IsWholePart l e t ⊎ (IsCutFrom l e t ⊎ IsCutTo l e t) → AreClear e f → AreClear t f
+pub part-clear : (l : Line) (e t f : Edge) → IsNonZero (from_to e.from e.to) → IsWholePart l e t ⊎ (IsCutFrom l e t ⊎ IsCutTo l e t) → AreClear e f → AreClear t f
 part-clear l e t f d (inl w) h = subst (λ x. AreClear x f) (sym (same_edge_by t.from t.to e.from e.to w.from w.to)) h
 part-clear l e t f d (inr (inl w)) h =
     subst (λ x. AreClear (record { from = t.from; to = x }) f) (sym w.to)

@@ -5,7 +5,7 @@ use lib.IntN.{pos}
 use Rattle.plane.specs.Edge.{Edge}
 use Rattle.plane.specs.RayCrossing.{IsOffEdge, down_by, is_off, up_by}
 use Rattle.plane.specs.Sign.{Minus, Null, Plus, Sign, is_minus, is_plus, sign}
-use Rattle.plane.specs.Vector.{IsDirection, Vector, cross, east, from_to}
+use Rattle.plane.specs.Vector.{IsNonZero, Vector, cross, east, from_to}
 use Rattle.winding.specs.EdgeList.{IsBalanced, winding_number}
 use Rattle.lists.specs.Member.{In}
 use Rattle.winding.specs.Sided.{IsSided}
@@ -40,10 +40,10 @@ minus-signs Null x v h e n = absurd (cc e)
 minus-signs Plus x v h e n = absurd (cc e)
 
 -- a point strictly on one side is off what lies on the other, closed
-pub off-below : (l : Line) (p : Vector) (e : Edge) → IsDirection l.along → side l p ≡ Plus → not (is_plus (side l e.from)) ≡ true → not (is_plus (side l e.to)) ≡ true → IsOffEdge p e
+pub off-below : (l : Line) (p : Vector) (e : Edge) → IsNonZero l.along → side l p ≡ Plus → not (is_plus (side l e.from)) ≡ true → not (is_plus (side l e.to)) ≡ true → IsOffEdge p e
 off-below l p e d h a b = off-level l.along (from_to p e.from) (from_to p e.to) d Minus refl (plus-behind _ _ _ (side-sum l p e.from) h a) (plus-behind _ _ _ (side-sum l p e.to) h b)
 
-pub off-beyond : (l : Line) (p : Vector) (e : Edge) → IsDirection l.along → side l p ≡ Minus → not (is_minus (side l e.from)) ≡ true → not (is_minus (side l e.to)) ≡ true → IsOffEdge p e
+pub off-beyond : (l : Line) (p : Vector) (e : Edge) → IsNonZero l.along → side l p ≡ Minus → not (is_minus (side l e.from)) ≡ true → not (is_minus (side l e.to)) ≡ true → IsOffEdge p e
 off-beyond l p e d h a b = off-level l.along (from_to p e.from) (from_to p e.to) d Plus refl (minus-signs _ _ _ (side-sum l p e.from) h a) (minus-signs _ _ _ (side-sum l p e.to) h b)
 
 mixed-by : (p x v y w : Sign) → agree p x v ≡ true → agree p y w ≡ true → p ≡ Null → not (same_bool (is_plus x) (is_plus y)) ≡ true → (is_plus v || is_plus w) ≡ true
@@ -54,7 +54,7 @@ mixed-by Null x v y w h k e n =
 mixed-by Plus x v y w h k e n = absurd (cc e)
 mixed-by Minus x v y w h k e n = absurd (cc e)
 
-module _ (l : Line) (d : IsDirection l.along) (cs : List Cutting) (cut : IsCut l cs) (C : List Edge) (on : AreOn l C) where
+module _ (l : Line) (d : IsNonZero l.along) (cs : List Cutting) (cut : IsCut l cs) (C : List Edge) (on : AreOn l C) where
   abbrev H : List Edge
   H = parts l cs ++ C
 

@@ -1,11 +1,11 @@
 -- No two edges of a half share a point that isn't an end of both.
 use Rattle.std.proofs.Common.{All, Bool, List, [], ap, cond, false, inl, inr, not, refl, subst, sym, true, ◌++◌, ◌&&◌, ◌||◌, ◌∙◌, ◌∷◌, ◌≡◌, ◌⊎◌}
 use Rattle.plane.specs.Conflict.{IsClearOf}
-use Rattle.plane.specs.Edge.{Edge, IsRising, reversed, segment_of}
+use Rattle.plane.specs.Edge.{Edge, IsRisingEdge, reversed, segment_of}
 use Rattle.plane.specs.FreeSegment.{Misses, misses_by}
 use Rattle.plane.specs.Order.{order}
 use Rattle.plane.specs.Sign.{Minus, Null, Plus, Sign, are_opposite, is_minus, is_null, is_plus, negated, sign}
-use Rattle.plane.specs.Vector.{IsDirection, Vector, cross, dot, from_to}
+use Rattle.plane.specs.Vector.{IsNonZero, Vector, cross, dot, from_to}
 use Rattle.winding.specs.ConflictFree.{IsConflictFree}
 use Rattle.lists.specs.Member.{EachPair, In}
 use Rattle.winding.specs.Parity.{is_even}
@@ -24,30 +24,30 @@ use Rattle.halving.proofs.Counts.{in-parts}
 use Rattle.halving.proofs.Sides.{IsCutFrom, IsCutTo, IsWholePart, kinds, rise, side-sum}
 
 -- ---- edges with two ends
-rising-by : (e : Edge) (s : Sign) → order e.from e.to ≡ s → not (is_null s) ≡ true → IsRising (segment_of e)
-rising-by e Plus h n = subst IsRising (sym (ap (λ x. cond (is_plus x) e (reversed e)) h)) h
-rising-by e Minus h n = subst IsRising (sym (ap (λ x. cond (is_plus x) e (reversed e)) h)) (order-reversed e.from e.to ∙ ap negated h)
+rising-by : (e : Edge) (s : Sign) → order e.from e.to ≡ s → not (is_null s) ≡ true → IsRisingEdge (segment_of e)
+rising-by e Plus h n = subst IsRisingEdge (sym (ap (λ x. cond (is_plus x) e (reversed e)) h)) h
+rising-by e Minus h n = subst IsRisingEdge (sym (ap (λ x. cond (is_plus x) e (reversed e)) h)) (order-reversed e.from e.to ∙ ap negated h)
 rising-by e Null h n = absurd (cc n)
 
-rising-of : (e : Edge) → not (is_null (order e.from e.to)) ≡ true → IsRising (segment_of e)
+rising-of : (e : Edge) → not (is_null (order e.from e.to)) ≡ true → IsRisingEdge (segment_of e)
 rising-of e n = rising-by e (order e.from e.to) refl n
 
-two-ends-by : (e : Edge) (s : Sign) → order e.from e.to ≡ s → IsRising (segment_of e) → not (is_null s) ≡ true
+two-ends-by : (e : Edge) (s : Sign) → order e.from e.to ≡ s → IsRisingEdge (segment_of e) → not (is_null s) ≡ true
 two-ends-by e Plus h r = refl
 two-ends-by e Minus h r = refl
 two-ends-by e Null h r =
-    let a = subst IsRising (ap (λ x. cond (is_plus x) e (reversed e)) h) r in
+    let a = subst IsRisingEdge (ap (λ x. cond (is_plus x) e (reversed e)) h) r in
     let b = order-reversed e.from e.to ∙ ap negated h in absurd (cc (sym a ∙ b))
 
-two-ends : (e : Edge) → IsRising (segment_of e) → not (is_null (order e.from e.to)) ≡ true
+two-ends : (e : Edge) → IsRisingEdge (segment_of e) → not (is_null (order e.from e.to)) ≡ true
 two-ends e r = two-ends-by e (order e.from e.to) refl r
 
-direction-by : (p q : Vector) (s : Sign) → order p q ≡ s → not (is_null s) ≡ true → IsDirection (from_to p q)
+direction-by : (p q : Vector) (s : Sign) → order p q ≡ s → not (is_null s) ≡ true → IsNonZero (from_to p q)
 direction-by p q Plus h n = rising-direction p q h
 direction-by p q Minus h n = direction-back q p (rising-direction q p (order-reversed p q ∙ ap negated h))
 direction-by p q Null h n = absurd (cc n)
 
-direction-of : (e : Edge) → not (is_null (order e.from e.to)) ≡ true → IsDirection (from_to e.from e.to)
+direction-of : (e : Edge) → not (is_null (order e.from e.to)) ≡ true → IsNonZero (from_to e.from e.to)
 direction-of e n = direction-by e.from e.to (order e.from e.to) refl n
 
 nonnull-by : (p q : Vector) (s : Sign) → order p q ≡ s → (p ≡ q → ⊥) → not (is_null s) ≡ true
@@ -113,7 +113,7 @@ pub record IsLink (l : Line) (e : Edge) : Type 0 where
   pub to_on : side l e.to ≡ Null
   pub forward : order_along l e.from e.to ≡ Plus
 
-module _ (l : Line) (d : IsDirection l.along) (e : Edge) (i : IsLink l e) where
+module _ (l : Line) (d : IsNonZero l.along) (e : Edge) (i : IsLink l e) where
   abbrev z : Vector
   z = e.from
 
@@ -145,7 +145,7 @@ module _ (l : Line) (d : IsDirection l.along) (e : Edge) (i : IsLink l e) where
   link-side v = link-cross (from_to z v) ∙ rise-of z v i.from_on
 
   -- ---- with a part
-  module _ (t : Edge) (k : AreKept l t) (td : IsDirection (from_to t.from t.to)) (from_apart : side l t.from ≡ Null → IsApart l z w t.from) (to_apart : side l t.to ≡ Null → IsApart l z w t.to) where
+  module _ (t : Edge) (k : AreKept l t) (td : IsNonZero (from_to t.from t.to)) (from_apart : side l t.from ≡ Null → IsApart l z w t.from) (to_apart : side l t.to ≡ Null → IsApart l z w t.to) where
     abbrev turn : Vector → Sign
     turn p = sign (cross (from_to p t.from) (from_to p t.to))
 
@@ -216,7 +216,7 @@ later-sign x y z h n e = imp-out _ _ (imp-out _ _ (imp-out _ _ (all3-out (λ x y
 earlier-sign : (x y z : Sign) → agree x y z ≡ true → not (is_plus x) ≡ true → y ≡ Minus → not (is_plus z) ≡ true
 earlier-sign x y z h n e = imp-out _ _ (imp-out _ _ (imp-out _ _ (all3-out (λ x y z. imp (agree x y z) λ _. imp (not (is_plus x)) λ _. imp (is_minus y) λ _. not (is_plus z)) refl x y z) h) n) (ap is_minus e)
 
-links-clear : (l : Line) → IsDirection l.along → (e f : Edge) → IsLink l e → IsLink l f → not (is_minus (order_along l e.to f.from)) ≡ true → AreClear e f
+links-clear : (l : Line) → IsNonZero l.along → (e f : Edge) → IsLink l e → IsLink l f → not (is_minus (order_along l e.to f.from)) ≡ true → AreClear e f
 links-clear l d e f i j n =
     let z = e.from in let w = e.to in let x = f.from in let y = f.to in
     let xw = ap (λ s. not (is_plus s)) (along-negated l w x) ∙ negated-not-plus _ n in
@@ -251,7 +251,7 @@ pub record IsStep (l : Line) (ts : List Edge) (p : Vector) (e : Edge) : Type 0 w
 earlier-by : (x y z : Sign) → agree x y z ≡ true → x ≡ Plus → not (is_minus y) ≡ true → not (is_minus z) ≡ true
 earlier-by x y z h e n = imp-out _ _ (imp-out _ _ (imp-out _ _ (all3-out (λ x y z. imp (agree x y z) λ _. imp (is_plus x) λ _. imp (not (is_minus y)) λ _. not (is_minus z)) refl x y z) h) (ap is_plus e)) n
 
-module _ (l : Line) (d : IsDirection l.along) (ts : List Edge) where
+module _ (l : Line) (d : IsNonZero l.along) (ts : List Edge) where
   earlier : (z w : Vector) (e : Edge) → IsAfter l z w → IsStep l ts w e → IsStep l ts z e
   earlier z w e h s = record { link = s.link; apart = s.apart; later = earlier-by (order_along l z w) (order_along l w e.from) (order_along l z e.from) (along-sum l z w e.from) h s.later }
 
@@ -311,11 +311,11 @@ record IsClosed (ts C : List Edge) : Type 0 where
   pub pairs : EachPair AreClear C
   pub across : (t e : Edge) → In t ts → In e C → AreClear t e
 
-module _ (l : Line) (d : IsDirection l.along) (cs : List Cutting) (cut : IsCut l cs) (sd : IsSided (wholes cs)) where
+module _ (l : Line) (d : IsNonZero l.along) (cs : List Cutting) (cut : IsCut l cs) (sd : IsSided (wholes cs)) where
   abbrev T : List Edge
   T = parts l cs
 
-  has-rising : (c : Cutting) → In c cs → IsRising (segment_of c.whole)
+  has-rising : (c : Cutting) → In c cs → IsRisingEdge (segment_of c.whole)
   has-rising c i = rising_in (segments_of (wholes cs)) (segment_of c.whole) sd.plain (in-map segment_of (wholes cs) c.whole (in-map (λ (c : Cutting). c.whole) cs c i))
 
   whole-ends : (c : Cutting) → In c cs → not (is_null (order c.whole.from c.whole.to)) ≡ true
@@ -376,7 +376,7 @@ module _ (l : Line) (d : IsDirection l.along) (cs : List Cutting) (cut : IsCut l
   plain-with C k =
       let rising = λ (e : Edge) (i : In e (T ++ C)). rising-of e (two-ends-either C k e (in-either T C e i)) in
       record {
-        rising = all-in IsRising (segments_of (T ++ C)) (λ s i. let r = in-map-out segment_of (T ++ C) s i in subst IsRising (sym r.2) (rising r.0 r.1));
+        rising = all-in IsRisingEdge (segments_of (T ++ C)) (λ s i. let r = in-map-out segment_of (T ++ C) s i in subst IsRisingEdge (sym r.2) (rising r.0 r.1));
         clear = pairs-into-map IsClearOf segment_of (T ++ C)
             (pairs-weaker AreClear (λ s t. IsClearOf (segment_of s) (segment_of t)) (T ++ C)
             (λ s t i j h. clear-of (segment_of s) (segment_of t) (rising s i) (rising t j) (both-segments s t h))

@@ -4,7 +4,7 @@ use lib.IntN.{◌-ℤ◌}
 use Rattle.plane.specs.Edge.{Edge}
 use Rattle.plane.specs.RayCrossing.{IsOff, down_by, is_off, off_by, up_by}
 use Rattle.plane.specs.Sign.{Minus, Null, Plus, Sign, is_minus, is_null, is_plus, sign}
-use Rattle.plane.specs.Vector.{IsDirection, Vector, cross, dot, from_to}
+use Rattle.plane.specs.Vector.{IsNonZero, Vector, cross, dot, from_to}
 use Rattle.plane.proofs.PlaneKit.{cross2, crossings_seen, frame-agree, frame-dot-agree, from_to2, lift2, off-turned}
 use Rattle.plane.proofs.SignKit.{lift, same, ◌⊞◌, ◌⊟◌, agree, agree-sum, all, all-out, all2, all2-out, all4, all4-out, imp, imp-out, same_bool, same_bool-true, times, null-not-plus, minus-not-plus, neither-plus}
 use Rattle.halving.specs.Half.{IsPart, IsPartEnd}
@@ -78,7 +78,7 @@ level_2 a c x y s =
 abbrev level_1 : Sign → Sign → Bool
 level_1 a c = imp (not (is_null a)) λ _. all λ x. all2 (level_2 a c x)
 
-pub off-level : (u a b : Vector) → IsDirection u → (s : Sign) → not (is_null s) ≡ true → sign (cross u a) ≡ s → sign (cross u b) ≡ s → IsOff a b
+pub off-level : (u a b : Vector) → IsNonZero u → (s : Sign) → not (is_null s) ≡ true → sign (cross u a) ≡ s → sign (cross u b) ≡ s → IsOff a b
 off-level u a b d s n ha hb =
     let f = frame-agree u a b d in let g = frame-dot-agree u a b d in
     let c = imp-out _ _ (all2-out level_1 refl s (sign (cross a b))) n in
@@ -109,7 +109,7 @@ cut_1 p a b z =
 cut_computes : all4 cut_1 ≡ true
 cut_computes = refl
 
-off-cut : (l : Line) (p a b z : Vector) → IsDirection l.along → not (is_minus (side l p)) ≡ true → side l a ≡ Plus → side l b ≡ Minus → side l z ≡ Null → IsMean a b z →
+off-cut : (l : Line) (p a b z : Vector) → IsNonZero l.along → not (is_minus (side l p)) ≡ true → side l a ≡ Plus → side l b ≡ Minus → side l z ≡ Null → IsMean a b z →
     off_by (sign (cross (from_to p a) (from_to p z))) (sign (dot (from_to p a) (from_to p z))) ≡ off_by (sign (cross (from_to p a) (from_to p b))) (sign (dot (from_to p a) (from_to p b)))
 off-cut l p a b z d hp ha hb hz i =
     let u = l.along in let a' = from_to p a in let b' = from_to p b in let z' = from_to p z in
@@ -204,7 +204,7 @@ module _ (g : Sign → Sign → Sign → ℕ) (f : Flat g) (l : Line) (p : Vecto
       flat-level g f (rise l p e.from) (rise l p e.to) (sign (cross (seen e.from) (seen e.to))) (both-false _ _ (not-above l p e.from hp n.0) (not-above l p e.to hp n.1))
 
 -- ---- a point of the closed kept side is off a part as it is off its edge
-module _ (l : Line) (d : IsDirection l.along) (p : Vector) (hp : not (is_minus (side l p)) ≡ true) (e t : Edge) where
+module _ (l : Line) (d : IsNonZero l.along) (p : Vector) (hp : not (is_minus (side l p)) ≡ true) (e t : Edge) where
   off-kind : IsWholePart l e t ⊎ (IsCutFrom l e t ⊎ IsCutTo l e t) → is_off p t ≡ is_off p e
   off-kind (inl w) =
       ap (λ v. off_by (sign (cross (from_to p v) (from_to p t.to))) (sign (dot (from_to p v) (from_to p t.to)))) w.from

@@ -3,7 +3,7 @@ use Rattle.std.specs.Prelude.{All, List, ◌≡◌}
 use lib.IntN.{pos, ℤ}
 use Rattle.plane.specs.RayCrossing.{IsOffEdge}
 use Rattle.plane.specs.Sign.{Minus, Plus, sign}
-use Rattle.plane.specs.Vector.{IsDirection, Vector, east}
+use Rattle.plane.specs.Vector.{IsNonZero, Vector, east}
 use Rattle.winding.specs.ConflictFree.{IsConflictFree}
 use Rattle.winding.specs.EdgeList.{IsBalanced, winding_number}
 use Rattle.winding.specs.Ring.{segments_of}
@@ -14,7 +14,7 @@ use Rattle.halving.specs.Line.{Line, scaled_line, side}
 
 -- what a half is made of: a sided list, its parts at a line, and their end points on the line
 pub record IsHalved (l : Line) (cs : List Cutting) (zs : List Vector) : Type 0 where
-  pub direction : IsDirection l.along
+  pub direction : IsNonZero l.along
   pub sided : IsSided (wholes cs)
   pub cut : IsCut l cs
   pub meetings : AreMeetings l (parts l cs) zs

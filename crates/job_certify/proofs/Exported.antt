@@ -19,10 +19,10 @@ use Rattle.osm_objects.specs.declared.area.UniqueId.{UniqueId}
 use Rattle.osm_job.specs.Sent.{output_of}
 use Rattle.osm_job.specs.Whole.{Whole}
 use Rattle.osm_job.proofs.Writes.{piece_out}
-use Rattle.area_certify.specs.Areas.{AreThose, HaveAreas}
+use Rattle.area_certify.specs.Areas.{AreThose, AreThoseWithAreas}
 use Rattle.area_certify.specs.FirstWrong.{IsFeature}
 use Rattle.area_certify.specs.RightTexts.{AreFeatures, IsRightText, RightTextsAreFeatures}
-use Rattle.job_export.specs.Entry.{Entry, IsEntry, entries_sent, features_in, piece_of}
+use Rattle.job_export.specs.Entry.{Entry, IsEntry, entries_sent, features_in, framed_feature}
 use Rattle.osm_area.specs.Feature.{feature_tags}
 use Rattle.job_export.specs.Export.{IsExport, finished, finished_whole, stopped}
 use Rattle.job_certify.specs.Certify.{choice_of}
@@ -49,7 +49,7 @@ module _ (settings : CertifySettings) (objects : List Object) where
 
   -- the piece of an area is its feature
   piece_is : (earlier : ℕ) (c : ObjectRef) (polygons : List Polygon) (notes : List Note) →
-      piece_of exported objects earlier c (Area polygons notes)
+      framed_feature exported objects earlier c (Area polygons notes)
       ≡ feature_text (feature_id ids (earlier + 1) c) (paths_of polygons) (feature_tags (object_at objects c))
   piece_is earlier c polygons notes =
       append-nil (feature_text (feature_id settings.ids (earlier + 1) c) (paths_of polygons) (feature_tags (object_at objects c)))
@@ -58,14 +58,14 @@ module _ (settings : CertifySettings) (objects : List Object) where
       out earlier (record { candidate = c; outcome = Area polygons notes; report = report } ∷ es)
       ≡ feature_text (feature_id ids (earlier + 1) c) (paths_of polygons) (feature_tags (object_at objects c)) ++ out (earlier + 1) es
   area_out earlier c polygons notes report es =
-      piece_out (piece_of exported objects earlier c (Area polygons notes)) report (entries_sent exported objects (earlier + 1) es)
+      piece_out (framed_feature exported objects earlier c (Area polygons notes)) report (entries_sent exported objects (earlier + 1) es)
       ∙ ap (λ (xs : List ℕ). xs ++ out (earlier + 1) es) (piece_is earlier c polygons notes)
 
-  no_area_out : (earlier : ℕ) (e : Entry) (es : List Entry) → features_in e.outcome ≡ 0 → piece_of exported objects earlier e.candidate e.outcome ≡ [] →
+  no_area_out : (earlier : ℕ) (e : Entry) (es : List Entry) → features_in e.outcome ≡ 0 → framed_feature exported objects earlier e.candidate e.outcome ≡ [] →
       out earlier (e ∷ es) ≡ out earlier es
   no_area_out earlier e es none nothing =
       let same : earlier + features_in e.outcome ≡ earlier = omega (arith, none) in
-      piece_out (piece_of exported objects earlier e.candidate e.outcome) e.report (entries_sent exported objects (earlier + features_in e.outcome) es)
+      piece_out (framed_feature exported objects earlier e.candidate e.outcome) e.report (entries_sent exported objects (earlier + features_in e.outcome) es)
       ∙ ap₂ (λ (piece : List ℕ) (n : ℕ). piece ++ out n es) nothing same
 
   abbrev AreEntries : List ObjectRef → List Entry → Type 0
@@ -76,7 +76,7 @@ module _ (settings : CertifySettings) (objects : List Object) where
 
     -- these candidates have areas, whose features the text is, with so many before them
     abbrev HaveFeatures : ℕ → List ObjectRef → List ℕ → Type 0
-    HaveFeatures earlier cs text = (areas : List ObjectRef) × HaveAreas objects cs areas × AreFeatures ids objects (earlier + 1) areas text
+    HaveFeatures earlier cs text = (areas : List ObjectRef) × AreThoseWithAreas objects cs areas × AreFeatures ids objects (earlier + 1) areas text
 
     with_area : (earlier : ℕ) (c : ObjectRef) (cs : List ObjectRef) (polygons : List Polygon) (notes : List Note) (rest text : List ℕ) →
         IsOutcome objects c (Area polygons notes) →

@@ -15,7 +15,7 @@ use Rattle.osm_job.specs.Worked.{IsWrittenOver, WroteOver}
 use Rattle.osm_job.specs.Writes.{Wrote}
 use Rattle.osm_job.proofs.Writes.{of_longer, then_more}
 use Rattle.job_coastline.specs.Coastline.{IsCoastline}
-use Rattle.job_coastline.specs.Found.{IsFound, found_sent, whole_of}
+use Rattle.job_coastline.specs.Found.{IsFound, found_sent, whole_of_found}
 use Rattle.job_coastline.specs.Report.{ending_of}
 use Rattle.job_coastline.specs.WorkSteps.{ended_by}
 use Rattle.job_coastline.specs.declared.found.Found.{Found}
@@ -67,4 +67,4 @@ module _ (settings : CoastlineSettings) (objects : List Object) (found : Found) 
     added = w.added;
     counts = subst (λ (c : Cause). now.write_faults ≡ writes_failed c before.write_faults) (sym is.itself) w.counts.answered;
   }
-  wrote_over (Err failed) w = record { written = w.written; right = (whole_of found, is.right, is.itself, w.sent); added = w.added; counts = w.counts.failed }
+  wrote_over (Err failed) w = record { written = w.written; right = (whole_of_found found, is.right, is.itself, w.sent); added = w.added; counts = w.counts.failed }

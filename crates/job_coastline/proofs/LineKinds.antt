@@ -18,7 +18,7 @@ use Rattle.osm_nest.specs.declared.polygon.Polygon.{Polygon}
 use Rattle.osm_text.specs.Piece.{vanished_in}
 use Rattle.job_coastline.specs.Coastline.{all_lines}
 use Rattle.job_coastline.specs.Pieces.{Tile, large_lines, tile_lines, vanished_line, vanished_lines}
-use Rattle.job_coastline.specs.Report.{antarctica_line, aside_line, coast_lines, conflict_line, gap_between, gap_line, left_out_line, repeated_line, unclosed_line, wrong_way_line}
+use Rattle.job_coastline.specs.Report.{antarctica_line, aside_line, coast_lines, conflict_line, gap_line, gap_line_between, left_out_line, repeated_line, unclosed_line, wrong_way_line}
 
 -- ---- lines of one thing
 
@@ -41,7 +41,7 @@ antarctica_of_kind chains place l is = by (slice_get chains place) is
     by None is = absurd (cc)
     by (Some chain) is = subst HasItsKind (same_Some _ _ is) tt
 
-between_of_kind : (from to : Option Chain) (l : CoastLine) → gap_between from to ≡ Some l → HasItsKind l
+between_of_kind : (from to : Option Chain) (l : CoastLine) → gap_line_between from to ≡ Some l → HasItsKind l
 between_of_kind (Some from) (Some to) l is = subst HasItsKind (same_Some _ _ is) tt
 between_of_kind (Some from) None l is = absurd (cc)
 between_of_kind None to l is = absurd (cc)

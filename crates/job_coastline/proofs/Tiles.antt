@@ -11,7 +11,7 @@ use Rattle.osm_nest.specs.declared.polygon.Polygon.{Polygon}
 use Rattle.osm_report.specs.declared.coast.CoastLine.{CoastLine}
 use Rattle.osm_text.specs.declared.piece.PieceKind.{PieceKind}
 use Rattle.osm_words.specs.Job.{CoastlineSettings}
-use Rattle.job_coastline.specs.Pieces.{AreTiles, IsTile, Tile, large_lines, pieces_count, pieces_text, polygon_count, polygon_text, tile_count, tile_lines, tile_text, vanished_lines}
+use Rattle.job_coastline.specs.Pieces.{AreTiles, IsTile, Tile, large_lines, piece_text_count, pieces_count, pieces_text, polygon_text, tile_count, tile_lines, tile_text, vanished_lines}
 use Rattle.osm_nest.specs.Nested.{ArePolygons}
 use Rattle.job_coastline.specs.PieceSteps.{Adds, AddsPolygon, AddsTiles, ArePieces}
 use Rattle.job_coastline.specs.declared.pieces.Pieces.{Pieces}
@@ -39,14 +39,14 @@ none_more n = omega arith
 module _ (kind : PieceKind) where
   -- a leaf: that it is large, and its polygons
   pub leaf_added : (leaf : Leaf) (polygons : List Polygon) (before middle after : Pieces) → ArePolygons leaf.edges polygons → Adds before middle [] 0 (large_lines leaf) →
-      Adds middle after (flat_map (polygon_text kind) polygons) (sum_by (polygon_count kind) polygons) (flat_map vanished_lines polygons) →
+      Adds middle after (flat_map (polygon_text kind) polygons) (sum_by (piece_text_count kind) polygons) (flat_map vanished_lines polygons) →
       (tile : Tile) × (tile.leaf ≡ leaf) × IsTile tile × Adds before after (tile_text kind tile) (tile_count kind tile) (tile_lines tile)
   leaf_added leaf polygons before middle after are first then = (
     record { leaf = leaf; polygons = polygons },
     refl,
     are,
-    subst (λ (n : ℕ). Adds before after (flat_map (polygon_text kind) polygons) n (large_lines leaf ++ flat_map vanished_lines polygons)) (none_more (sum_by (polygon_count kind) polygons))
-        (adds_both before middle after [] (flat_map (polygon_text kind) polygons) 0 (sum_by (polygon_count kind) polygons) (large_lines leaf) (flat_map vanished_lines polygons) first then),
+    subst (λ (n : ℕ). Adds before after (flat_map (polygon_text kind) polygons) n (large_lines leaf ++ flat_map vanished_lines polygons)) (none_more (sum_by (piece_text_count kind) polygons))
+        (adds_both before middle after [] (flat_map (polygon_text kind) polygons) 0 (sum_by (piece_text_count kind) polygons) (large_lines leaf) (flat_map vanished_lines polygons) first then),
   )
 
   pub no_leaves : (pieces : Pieces) → AddsTiles kind [] pieces pieces

@@ -18,9 +18,9 @@ use Rattle.osm_job.specs.Sent.{lines_text, to_output, to_report}
 use Rattle.osm_job.specs.Whole.{silent}
 use Rattle.osm_job.specs.declared.ended.Ended.TheVariants as ended
 use Rattle.job_coastline.specs.Coast.{Coast, IsCoast}
-use Rattle.job_coastline.specs.Coastline.{AreAreas, AreLand, AreWater, AreWritten, Areas, IsCoastline, all_lines, most_leaves}
+use Rattle.job_coastline.specs.Coastline.{AreCoastAreas, AreLand, AreWater, AreWritten, Areas, IsCoastline, all_lines, most_leaves}
 use Rattle.job_coastline.specs.Counts.{AreCoastCounts}
-use Rattle.job_coastline.specs.Found.{IsFound, whole_of}
+use Rattle.job_coastline.specs.Found.{IsFound, whole_of_found}
 use Rattle.job_coastline.specs.Pieces.{AreLeavesOf, has_land, has_water}
 use Rattle.job_coastline.specs.PieceSteps.{ArePieces, HaveMoreLeaves, HaveMoreTogether, whole_error}
 use Rattle.job_coastline.specs.Report.{ArePrinted, coast_lines, ending_of}
@@ -60,7 +60,7 @@ module _ (settings : CoastlineSettings) (objects : List Object) (coast : Coast) 
   abbrev split_into : List Leaf → List Leaf → Areas
   split_into land_leaves water_leaves = record { coast = coast; land = land; land_leaves = land_leaves; water = water; water_leaves = water_leaves }
 
-  split_right : (a b : List Leaf) → AreLeavesOf settings land a → AreLeavesOf settings water b → AreAreas settings objects (split_into a b)
+  split_right : (a b : List Leaf) → AreLeavesOf settings land a → AreLeavesOf settings water b → AreCoastAreas settings objects (split_into a b)
   split_right a b land_split water_split = record { coast = is; land = land_right; land_leaves = land_split; water = water_right; water_leaves = water_split }
 
   pub too_many_right : HaveMoreTogether settings most_leaves land water → (m : ℕ) → m ≡ most_leaves → IsCoastline settings objects (silent (ended.TooManyPieces m))
@@ -112,7 +112,7 @@ module _ (settings : CoastlineSettings) (objects : List Object) (coast : Coast) 
       few_leaves : length of_land.leaves + length of_water.leaves ≤ most_leaves
       few_leaves = let a = of_land.counted in let b = of_water.counted in omega arith
 
-      are_written : AreWritten coast of_land.leaves of_water.leaves (whole_of found)
+      are_written : AreWritten coast of_land.leaves of_water.leaves (whole_of_found found)
       are_written = record {
         land_tiles = of_land.tiles;
         land_made = of_land.made;

@@ -8,9 +8,9 @@ use Rattle.coast_join.specs.declared.gap.Closings.{Closings}
 use Rattle.coast_join.specs.declared.ring.Joined.{Joined}
 use Rattle.coast_join.specs.declared.way.Aside.{Aside}
 use Rattle.coast_join.specs.declared.way.CoastWay.{CoastWay}
-use Rattle.coast_join.specs.Chains.{AreChains, line_of}
+use Rattle.coast_join.specs.Chains.{AreChains, way_path_of}
 use Rattle.coast_join.specs.Closings.{AreClosings}
-use Rattle.coast_join.specs.Input.{asides_of, lines_of}
+use Rattle.coast_join.specs.Input.{asides_of, way_paths_in}
 use Rattle.coast_join.specs.Joined.{AreJoined}
 use Rattle.coast_sides.specs.declared.land_parts.Land.{Land}
 use Rattle.coast_sides.specs.declared.sorted.Sorted.{Sorted}
@@ -36,7 +36,7 @@ pub record Coast : Type 0 where
 -- It comes of the coastline ways of these objects, with gaps closed below this distance.
 pub record IsCoast (settings : CoastlineSettings) (objects : List Object) (coast : Coast) : Type 0 where
   pub ways : List CoastWay
-  pub taking_part : map line_of ways ≡ flat_map (lines_of objects) (coast_ways objects)
+  pub taking_part : map way_path_of ways ≡ flat_map (way_paths_in objects) (coast_ways objects)
   pub asides : coast.asides ≡ flat_map (asides_of objects) (coast_ways objects)
   pub chains : AreChains ways coast.chains
   pub closings : AreClosings coast.chains settings.close_distance coast.closings

@@ -13,7 +13,7 @@ use Rattle.osm_job.specs.Sent.{Sent, to_output, to_report}
 use Rattle.osm_job.specs.Whole.{Whole, silent}
 use Rattle.osm_job.specs.Worked.{ReadThenWrote}
 use Rattle.coast_split.specs.declared.leaves.Leaf.{Leaf}
-use Rattle.coast_sides.specs.Water.{IsWater, segments_along}
+use Rattle.coast_sides.specs.Water.{IsWater, segments_under}
 use Rattle.job_coastline.specs.Coast.{Coast, IsCoast}
 use Rattle.job_coastline.specs.Pieces.{AreLeavesOf, AreTiles, Tile, has_land, has_water, pieces_text, tile_lines}
 use Rattle.osm_nest.specs.Nested.{ArePolygons}
@@ -27,7 +27,7 @@ AreLand false land polygons = polygons ≡ []
 
 -- of water, where they are asked for
 abbrev pub AreWater : Bool → List Edge → List Polygon → Type 0
-AreWater true land polygons = (water : List Edge) × IsWater (segments_along land) water × ArePolygons water polygons
+AreWater true land polygons = (water : List Edge) × IsWater (segments_under land) water × ArePolygons water polygons
 AreWater false land polygons = polygons ≡ []
 
 -- ---- what is split
@@ -41,7 +41,7 @@ pub record Areas : Type 0 where
   pub water_leaves : List Leaf
 
 -- They come of the coastline ways of these objects, each polygon split into its leaves.
-pub record AreAreas (settings : CoastlineSettings) (objects : List Object) (areas : Areas) : Type 0 where
+pub record AreCoastAreas (settings : CoastlineSettings) (objects : List Object) (areas : Areas) : Type 0 where
   pub coast : IsCoast settings objects areas.coast
   pub land : AreLand (has_land settings.polygons) areas.coast.land.edges areas.land
   pub land_leaves : AreLeavesOf settings areas.land areas.land_leaves
@@ -83,7 +83,7 @@ AreWrittenOrTooMany coast land water whole =
 -- What comes of the coastline ways and is split, and what is written of it.
 pub record IsCoastline (settings : CoastlineSettings) (objects : List Object) (whole : Whole) : Type 0 where
   pub areas : Areas
-  pub right : AreAreas settings objects areas
+  pub right : AreCoastAreas settings objects areas
   pub written : AreWrittenOrTooMany areas.coast areas.land_leaves areas.water_leaves whole
 
 -- A coastline job ended so: it reads its input, joins, opens its output, and writes what is right over the objects of the input.

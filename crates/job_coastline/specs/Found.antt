@@ -14,10 +14,10 @@ found_sent found =
     map to_output (lines_text found.land.items)
     ++ (map to_output (lines_text found.water.items) ++ map to_report (lines_text found.lines.items))
 
-abbrev pub whole_of : Found → Whole
-whole_of found = record { written = found_sent found; ended = found.ended }
+abbrev pub whole_of_found : Found → Whole
+whole_of_found found = record { written = found_sent found; ended = found.ended }
 
 -- It is right for these objects, and goes out.
 pub record IsFound (settings : CoastlineSettings) (objects : List Object) (found : Found) : Type 0 where
-  pub right : IsCoastline settings objects (whole_of found)
+  pub right : IsCoastline settings objects (whole_of_found found)
   pub itself : cause_of found.ended ≡ by_itself

@@ -61,11 +61,11 @@ abbrev pub text_count : Option (List ℕ) → ℕ
 text_count (Some text) = 1
 text_count None = 0
 
-abbrev pub polygon_count : PieceKind → Polygon → ℕ
-polygon_count kind polygon = text_count (piece_text kind polygon)
+abbrev pub piece_text_count : PieceKind → Polygon → ℕ
+piece_text_count kind polygon = text_count (piece_text kind polygon)
 
 abbrev pub tile_count : PieceKind → Tile → ℕ
-tile_count kind tile = sum_by (polygon_count kind) tile.polygons
+tile_count kind tile = sum_by (piece_text_count kind) tile.polygons
 
 -- the number of their pieces
 abbrev pub pieces_count : PieceKind → List Tile → ℕ

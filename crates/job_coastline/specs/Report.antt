@@ -8,7 +8,7 @@ use Rattle.osm_job.specs.declared.ended.Ended.TheVariants as ended
 use Rattle.osm_report.specs.Coast.{IsCoastLine, is_error}
 use Rattle.osm_report.specs.declared.coast.CoastLine.{CoastLine}
 use Rattle.osm_report.specs.declared.coast.CoastLine.TheVariants as line
-use Rattle.coast_join.specs.Line.{first_of, last_of}
+use Rattle.coast_join.specs.Line.{first_location, last_location}
 use Rattle.coast_join.specs.declared.chain.Chain.{Chain}
 use Rattle.coast_join.specs.declared.gap.Gap.{Gap}
 use Rattle.coast_join.specs.declared.ring.CoastRing.{CoastRing}
@@ -27,16 +27,16 @@ abbrev pub antarctica_line : List Chain → ℕ → Option CoastLine
 antarctica_line chains place = option_map (λ (chain : Chain). line.Antarctica chain.name) (slice_get chains place)
 
 -- from the end of a chain to the start of one
-abbrev pub gap_between : Option Chain → Option Chain → Option CoastLine
-gap_between (Some from) (Some to) = Some (line.Gap (last_of from.path) (first_of to.path))
-gap_between (Some from) None = None
-gap_between None to = None
+abbrev pub gap_line_between : Option Chain → Option Chain → Option CoastLine
+gap_line_between (Some from) (Some to) = Some (line.Gap (last_location from.path) (first_location to.path))
+gap_line_between (Some from) None = None
+gap_line_between None to = None
 
 abbrev pub gap_line : List Chain → Gap → Option CoastLine
-gap_line chains gap = gap_between (slice_get chains gap.from_chain) (slice_get chains gap.to_chain)
+gap_line chains gap = gap_line_between (slice_get chains gap.from_chain) (slice_get chains gap.to_chain)
 
 abbrev pub unclosed_line : Chain → CoastLine
-unclosed_line chain = line.Unclosed chain.name (first_of chain.path) (last_of chain.path)
+unclosed_line chain = line.Unclosed chain.name (first_location chain.path) (last_location chain.path)
 
 abbrev pub left_out_line : CoastRing → CoastLine
 left_out_line ring = line.LeftOut ring.name

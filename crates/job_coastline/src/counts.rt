@@ -95,12 +95,12 @@ pub fn coast_counts(
         AreCoastCounts (coastline_seen settings.now) store.now counts) }
 {
     let coast = coast_of(alloc, store, settings)?;
-    counts_of(alloc, store, &coast, settings)
+    coast_counts_of(alloc, store, &coast, settings)
 }
 
 /// How many lines come of the coastline ways of a store, from what comes of them. It is lent, so that nothing of it is dropped
 /// where memory runs out.
-fn counts_of(
+fn coast_counts_of(
     alloc: Global,
     _store: &Store,
     coast: &Coast,

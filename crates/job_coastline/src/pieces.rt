@@ -6,7 +6,7 @@ ghost use Rattle.std.specs.List.{flat_map, sum_by};
 ghost use Rattle.coast_split.specs.SplitTree.{HasMoreLeaves};
 ghost use Rattle.coast_split.specs.declared.leaves.Leaf.{Leaf};
 ghost use Rattle.coast_split.specs.declared.leaves.SplitError.TheVariants.{TooManyPieces};
-ghost use Rattle.job_coastline.specs.Pieces.{IsTile, Tile, large_lines, polygon_count, polygon_text, text_count, text_or_nothing, tile_count, tile_lines, tile_text, vanished_line, vanished_lines};
+ghost use Rattle.job_coastline.specs.Pieces.{IsTile, Tile, large_lines, piece_text_count, polygon_text, text_count, text_or_nothing, tile_count, tile_lines, tile_text, vanished_line, vanished_lines};
 ghost use Rattle.job_coastline.specs.PieceSteps.{Adds, AddsPolygon, AddsTiles, ArePieces, HaveMoreLeaves};
 ghost use Rattle.osm_job.specs.Sent.{lines_text};
 ghost use Rattle.osm_nest.specs.Cover.{AreSided};
@@ -64,7 +64,7 @@ fn add_polygon(
     pieces: &mut Pieces,
 ) -> Result<(), OutOfMemory>
     ensures { OnOk result (Adds pieces.old pieces.new (polygon_text kind polygon.now)
-        (polygon_count kind polygon.now) (vanished_lines polygon.now)) }
+        (piece_text_count kind polygon.now) (vanished_lines polygon.now)) }
 {
     let piece = piece_text(alloc, kind, polygon)?;
     let vanished = vanished_lines(alloc, piece.vanished.as_slice())?;
@@ -80,7 +80,7 @@ fn add_polygons(
     pieces: &mut Pieces,
 ) -> Result<(), OutOfMemory>
     ensures { OnOk result (Adds pieces.old pieces.new (flat_map (polygon_text kind) polygons.now)
-        (sum_by (polygon_count kind) polygons.now) (flat_map vanished_lines polygons.now)) }
+        (sum_by (piece_text_count kind) polygons.now) (flat_map vanished_lines polygons.now)) }
 {
     for polygon in polygons {
         add_polygon(alloc, kind, polygon, pieces)?;

@@ -11,7 +11,7 @@ use Rattle.osm_words.specs.Job.{ExportSettings}
 use Rattle.job_export.specs.declared.entry.Addition.{Addition}
 use Rattle.job_export.specs.declared.work.Halt.{Halt}
 use Rattle.job_export.specs.declared.work.Halt.TheVariants.{Stopped, WriteFault, OutOfMemory}
-use Rattle.job_export.specs.Entry.{Entry, area_in, has_area, features_in, piece_of, entry_sent, entries_sent}
+use Rattle.job_export.specs.Entry.{Entry, area_in, has_area, features_in, framed_feature, entry_sent, entries_sent}
 use Rattle.job_export.specs.Entries.{IsAdditionOf}
 use Rattle.osm_job.specs.Prefix.{IsPrefix}
 use Rattle.osm_job.specs.Writes.{Wrote, Added}
@@ -56,7 +56,7 @@ module _ (settings : ExportSettings) (objects : List Object) (earlier : ℕ) (c 
 
     sent : all_sent ≡ map to_output waited ++ entry_sent settings objects earlier is.entry
     sent =
-        let piece : List ℕ = piece_of settings objects earlier is.entry.candidate is.entry.outcome in
+        let piece : List ℕ = framed_feature settings objects earlier is.entry.candidate is.entry.outcome in
         ap₂ (λ (feature lines : List ℕ). map to_output feature ++ map to_report lines) is.piece is.lines
         ∙ ap (λ (xs : List Sent). xs ++ map to_report is.entry.report) (map-append to_output waited piece)
         ∙ append_assoc (map to_output waited) (map to_output piece) (map to_report is.entry.report)

@@ -13,7 +13,7 @@ use Rattle.osm_area.specs.Outcome.{IsOutcome}
 use Rattle.osm_nest.specs.declared.polygon.Polygon.{Polygon}
 use Rattle.osm_report.specs.Report.{IsProblemLine, note_line}
 use Rattle.osm_words.specs.Job.{ExportSettings}
-use Rattle.job_export.specs.Entry.{AreProblemLines, IsReportShown, piece_of}
+use Rattle.job_export.specs.Entry.{AreProblemLines, IsReportShown, framed_feature}
 use Rattle.osm_job.specs.Sent.{lines_text}
 use Rattle.job_export.specs.Entries.{shown, AddsProblems, IsAdditionOf}
 
@@ -32,7 +32,7 @@ area_report true candidate polygons notes = refl
 area_report false candidate polygons notes = refl
 
 pub area_addition : (settings : ExportSettings) (objects : List Object) (earlier : ℕ) (candidate : ObjectRef) (polygons : List Polygon) (notes : List Note) (waited waiting : List ℕ) (lines : Vec (Vec ℕ Global) Global) (before : List ℕ) →
-    IsOutcome objects candidate (Area polygons notes) → waiting ≡ waited ++ piece_of settings objects earlier candidate (Area polygons notes) → before ≡ [] →
+    IsOutcome objects candidate (Area polygons notes) → waiting ≡ waited ++ framed_feature settings objects earlier candidate (Area polygons notes) → before ≡ [] →
     lines_text lines.items ≡ before ++ shown settings.show_errors (flat_map (note_line candidate) notes) → IsAdditionOf settings objects earlier candidate waited waiting (record { has_feature = true; lines = lines })
 area_addition settings objects earlier candidate polygons notes waited waiting lines before right piece none all = record {
   entry = record { candidate = candidate; outcome = Area polygons notes; report = shown settings.show_errors (flat_map (note_line candidate) notes) };

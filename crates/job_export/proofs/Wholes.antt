@@ -15,7 +15,7 @@ use Rattle.job_export.specs.Entry.{Entry}
 use Rattle.job_export.specs.Framing.{footer, header}
 use Rattle.osm_job.specs.Prefix.{IsPrefix}
 use Rattle.osm_job.specs.Writes.{Wrote, Added}
-use Rattle.job_export.specs.ExportSteps.{HaltCause, AreEntriesOf, AreAddedBy, WroteCandidates, IsExported, WroteWhole, ended_by}
+use Rattle.job_export.specs.ExportSteps.{HaltCause, AreEntriesOf, AreAddedBy, WroteCandidates, IsExported, WroteWhole, ended_by_halt}
 use Rattle.osm_job.specs.Sent.{Sent, to_output}
 use Rattle.job_export.proofs.Exports.{finished_all, finished_front, halted, header_front}
 use Rattle.osm_job.proofs.Writes.{added_both}
@@ -93,11 +93,11 @@ module _ (settings : ExportSettings) (objects : List Object) where
 -- ---- how the run ends
 
 ended_over : (settings : ExportSettings) (objects : List Object) (written : List Sent) (before now : Outside) → Added written before now → (r : Result (Unit {0}) Halt) → IsExported settings objects written r →
-    HaltCause {T = Unit {0}} before now r → WroteOver (IsExport settings objects) (ended_by r) before now
+    HaltCause {T = Unit {0}} before now r → WroteOver (IsExport settings objects) (ended_by_halt r) before now
 ended_over settings objects written before now added (Ok done) right cause = record { written = written; right = right; added = added; counts = cause }
 ended_over settings objects written before now added (Err (Stopped candidate)) right cause = record { written = written; right = right; added = added; counts = cause }
 ended_over settings objects written before now added (Err WriteFault) right cause = record { written = written; right = right; added = added; counts = cause }
 ended_over settings objects written before now added (Err OutOfMemory) right cause = record { written = written; right = right; added = added; counts = cause }
 
-pub wrote_over : (settings : ExportSettings) (objects : List Object) (before now : Outside) (r : Result (Unit {0}) Halt) → WroteWhole settings objects before now r → WroteOver (IsExport settings objects) (ended_by r) before now
+pub wrote_over : (settings : ExportSettings) (objects : List Object) (before now : Outside) (r : Result (Unit {0}) Halt) → WroteWhole settings objects before now r → WroteOver (IsExport settings objects) (ended_by_halt r) before now
 wrote_over settings objects before now r w = ended_over settings objects w.written before now w.added r w.right w.cause

@@ -5,7 +5,7 @@ use Rattle.opl_reader.specs.declared.object.ObjectRef.{ObjectRef}
 use Rattle.osm_objects.specs.declared.problem.Problem.{Problem}
 use Rattle.osm_words.specs.Job.{ExportSettings}
 use Rattle.job_export.specs.declared.entry.Addition.{Addition}
-use Rattle.job_export.specs.Entry.{AreProblemLines, Entry, IsEntry, has_area, piece_of}
+use Rattle.job_export.specs.Entry.{AreProblemLines, Entry, IsEntry, framed_feature, has_area}
 use Rattle.osm_job.specs.Sent.{lines_text}
 
 -- report lines, where they are asked for
@@ -23,5 +23,5 @@ pub record IsAdditionOf (settings : ExportSettings) (objects : List Object) (ear
   pub of_candidate : entry.candidate ≡ candidate
   pub right : IsEntry settings.show_errors objects entry
   pub area : addition.has_feature ≡ has_area entry
-  pub piece : waiting ≡ waited ++ piece_of settings objects earlier entry.candidate entry.outcome
+  pub piece : waiting ≡ waited ++ framed_feature settings objects earlier entry.candidate entry.outcome
   pub lines : lines_text addition.lines.items ≡ entry.report

@@ -31,10 +31,10 @@ feature_in GeoJson id polygons tags = feature_json id (paths_of polygons) tags
 feature_in GeoJsonSeq id polygons tags = feature_json id (paths_of polygons) tags
 
 -- the feature of an area with what stands around it; nothing where there are problems
-abbrev pub piece_of : ExportSettings → List Object → ℕ → ObjectRef → Outcome → List ℕ
-piece_of settings objects earlier candidate (Area polygons notes) =
+abbrev pub framed_feature : ExportSettings → List Object → ℕ → ObjectRef → Outcome → List ℕ
+framed_feature settings objects earlier candidate (Area polygons notes) =
     framed settings earlier (feature_in settings.format (feature_id settings.ids (earlier + 1) candidate) polygons (feature_tags (object_at objects candidate)))
-piece_of settings objects earlier candidate (Problems list notes) = []
+framed_feature settings objects earlier candidate (Problems list notes) = []
 
 -- an area has one feature
 abbrev pub features_in : Outcome → ℕ
@@ -85,7 +85,7 @@ has_area entry = area_in entry.outcome
 -- what an entry adds, with `earlier` features before it: its feature, then its report lines
 abbrev pub entry_sent : ExportSettings → List Object → ℕ → Entry → List Sent
 entry_sent settings objects earlier entry =
-    map to_output (piece_of settings objects earlier entry.candidate entry.outcome) ++ map to_report entry.report
+    map to_output (framed_feature settings objects earlier entry.candidate entry.outcome) ++ map to_report entry.report
 
 -- what entries add, in order
 abbrev pub entries_sent : ExportSettings → List Object → ℕ → List Entry → List Sent

@@ -91,11 +91,11 @@ pub record WroteCandidates (settings : ExportSettings) (objects : List Object) (
 
 -- ---- the whole
 
-abbrev pub ended_by : Result (Unit {0}) Halt → Ended
-ended_by (Ok done) = ended.Done
-ended_by (Err (Stopped candidate)) = ended.Stopped candidate
-ended_by (Err WriteFault) = ended.WriteFault
-ended_by (Err OutOfMemory) = ended.OutOfMemory
+abbrev pub ended_by_halt : Result (Unit {0}) Halt → Ended
+ended_by_halt (Ok done) = ended.Done
+ended_by_halt (Err (Stopped candidate)) = ended.Stopped candidate
+ended_by_halt (Err WriteFault) = ended.WriteFault
+ended_by_halt (Err OutOfMemory) = ended.OutOfMemory
 
 -- what was written is all of a right whole, which ends so
 abbrev pub IsAll : ExportSettings → List Object → List Sent → Ended → Type 0

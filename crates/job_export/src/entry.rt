@@ -7,7 +7,7 @@ ghost use Rattle.osm_job.specs.Sent.{lines_text};
 ghost use Rattle.job_export.specs.Entry.{feature_in};
 ghost use Rattle.osm_area.specs.Feature.{feature_tags};
 ghost use Rattle.job_export.specs.Framing.{framed};
-ghost use Rattle.osm_notation.specs.Kept.{Keeps};
+ghost use Rattle.osm_notation.specs.Kept.{KeepsFront};
 ghost use Rattle.osm_objects.specs.Objects.{object_at};
 ghost use Rattle.osm_objects.specs.Problem.{IsOfItsKind};
 ghost use Rattle.osm_report.specs.Report.{note_line};
@@ -53,7 +53,7 @@ fn put_feature(
 ) -> Result<(), OutOfMemory>
     ensures text { OnOk result (text.new.items
         ≡ text.old.items ++ feature_in format id polygons.now tags.now) }
-    ensures kept { OnErr result (Keeps text.old.items text.new.items) }
+    ensures kept { OnErr result (KeepsFront text.old.items text.new.items) }
 {
     match format {
         Format::Text => put_feature_text(text, polygons, tags, id),
@@ -87,7 +87,7 @@ fn put_feature_of(
     requires { IsSome (object_at store.now candidate) }
     ensures text { OnOk result (text.new.items ≡ text.old.items
         ++ feature_in format id polygons.now (feature_tags (object_at store.now candidate))) }
-    ensures kept { OnErr result (Keeps text.old.items text.new.items) }
+    ensures kept { OnErr result (KeepsFront text.old.items text.new.items) }
 {
     if let Some(tags) = lent_tags(store, candidate) {
         return put_feature(alloc, text, format, polygons, tags, id);

@@ -1,7 +1,7 @@
 //! The work: the areas of an input's candidates, each assembled and then written together with those behind it, or before the next report line.
 
 ghost use Rattle.std.specs.Prelude.{◌≡◌, ◌+◌, ◌≤◌, All, IfOk, IsSome, Ok};
-ghost use Rattle.job_export.specs.ExportSteps.{WroteWhole, WroteCandidates, WroteCandidate, ended_by};
+ghost use Rattle.job_export.specs.ExportSteps.{WroteWhole, WroteCandidates, WroteCandidate, ended_by_halt};
 ghost use Rattle.job_export.specs.Choice.{choice_of};
 ghost use Rattle.job_export.specs.Export.{Exports, IsExport};
 ghost use Rattle.osm_job.specs.Worked.{WroteOver};
@@ -68,12 +68,12 @@ fn write_export<H: Host>(
     ensures { WroteOver (IsExport (settings_seen settings.now) store.now) result
         (H.seen host.old) (H.seen host.new) }
 {
-    ended_by(write_whole(alloc, store, settings, candidates, host))
+    ended_by_halt(write_whole(alloc, store, settings, candidates, host))
 }
 
 /// How a run ends whose output was opened.
-fn ended_by(written: Result<(), Halt>) -> Ended
-    ensures { result ≡ ended_by written }
+fn ended_by_halt(written: Result<(), Halt>) -> Ended
+    ensures { result ≡ ended_by_halt written }
 {
     match written {
         Ok(()) => Ended::Done,

@@ -12,7 +12,7 @@ use Rattle.osm_job.proofs.Prefixes.{prefix_of_map}
 use Rattle.osm_job.proofs.Writes.{all_wrote, next_failed, next_wrote, nothing_wrote}
 use Rattle.area_locate.specs.declared.found.Found.{Found}
 use Rattle.job_locate.specs.Lines.{point_line, point_lines}
-use Rattle.job_locate.specs.Locate.{whole_of}
+use Rattle.job_locate.specs.Locate.{whole_of_points}
 use Rattle.job_locate.specs.WorkSteps.{IsLines}
 
 -- those of the first so many points are written
@@ -39,13 +39,13 @@ module _ (found : List Found) (before : Outside) where
         WroteOver (IsLines found) ended.WriteFault before now
     not_written now e then =
         let w : Wrote {T = Unit {0}} {E = Failed} (map to_output (point_lines found)) before now (Err e) = next_failed to_output point_line found k d lt before middle now e first then in
-        record { written = w.written; right = (whole_of found, refl, refl, w.sent); added = w.added; counts = w.counts.failed }
+        record { written = w.written; right = (whole_of_points found, refl, refl, w.sent); added = w.added; counts = w.counts.failed }
 
   -- there is no memory for the next line
   pub ran_out : (k : ℕ) (now : Outside) → WroteFirst found k before now → WroteOver (IsLines found) ended.OutOfMemory before now
   ran_out k now w = record {
     written = w.written;
-    right = (whole_of found, refl, refl, subst (λ (sent : List Sent). IsPrefix sent (map to_output (point_lines found))) (sym w.sent) front);
+    right = (whole_of_points found, refl, refl, subst (λ (sent : List Sent). IsPrefix sent (map to_output (point_lines found))) (sym w.sent) front);
     added = w.added;
     counts = w.counts.answered;
   }

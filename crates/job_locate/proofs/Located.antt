@@ -14,7 +14,7 @@ use Rattle.osm_points.specs.Errors.{IsErrorOf}
 use Rattle.osm_points.specs.Points.{ArePoints}
 use Rattle.area_locate.specs.declared.found.Found.{Found}
 use Rattle.area_locate.specs.Hits.{AreFound}
-use Rattle.job_locate.specs.Locate.{IsLocate, Locates, choice_of, whole_of, points, bad}
+use Rattle.job_locate.specs.Locate.{IsLocate, Locates, choice_of, whole_of_points, points, bad}
 use Rattle.job_locate.specs.WorkSteps.{points_ended}
 
 module _ (law : StreamsAppend) (settings : LocateSettings) (before : Outside) (objects : List Object) (content : List ℕ) (now : Outside)
@@ -33,6 +33,6 @@ module _ (law : StreamsAppend) (settings : LocateSettings) (before : Outside) (o
 
 -- the points of the text, found, are what is right
 pub found_right : (settings : LocateSettings) (objects : List Object) (content text : List ℕ) (ps qs : List Loc) (found : List Found) → text ≡ content → ArePoints text ps → qs ≡ ps →
-    AreFound (choice_of settings) objects qs found → IsLocate settings objects content (whole_of found)
+    AreFound (choice_of settings) objects qs found → IsLocate settings objects content (whole_of_points found)
 found_right settings objects content text ps qs found same told also among =
     points ps found (subst (λ (t : List ℕ). ArePoints t ps) same told) (subst (λ (at : List Loc). AreFound (choice_of settings) objects at found) also among) refl

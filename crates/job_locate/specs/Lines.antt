@@ -9,12 +9,12 @@ use Rattle.area_locate.specs.declared.found.Found.{Found}
 use Rattle.area_locate.specs.declared.found.Hit.{Hit}
 
 -- an area's id behind the letter a
-abbrev pub id_text : Option ℤ → List ℕ
-id_text None = []
-id_text (Some id) = codes "a" ++ signed_decimal id
+abbrev pub area_id_text : Option ℤ → List ℕ
+area_id_text None = []
+area_id_text (Some id) = codes "a" ++ signed_decimal id
 
 abbrev pub area_text : ObjectRef → List ℕ
-area_text of = id_text (area_id of)
+area_text of = area_id_text (area_id of)
 
 -- whether the point is on the area's boundary, or in the area off it
 abbrev pub side_text : Bool → List ℕ

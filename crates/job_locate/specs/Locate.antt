@@ -24,14 +24,14 @@ choice_of settings = record {
 }
 
 -- the lines of points go to the output
-abbrev pub whole_of : List Found → Whole
-whole_of found = record { written = map to_output (point_lines found); ended = ended.Done }
+abbrev pub whole_of_points : List Found → Whole
+whole_of_points found = record { written = map to_output (point_lines found); ended = ended.Done }
 
 -- The points of the text, each found among the areas of the objects, go to the output, a line each; or the text has a bad line, and
 -- nothing is written but the first such line's number.
 pub data IsLocate (settings : LocateSettings) (objects : List Object) (text : List ℕ) (whole : Whole) : Type 0 where
   points : (points : List Loc) (found : List Found) → ArePoints text points → AreFound (choice_of settings) objects points found →
-      whole ≡ whole_of found → IsLocate settings objects text whole
+      whole ≡ whole_of_points found → IsLocate settings objects text whole
   bad : (line : ℕ) → IsBadPoint text line → whole ≡ silent (ended.BadPoint line) → IsLocate settings objects text whole
 
 -- A locate job ended so: it reads its input and its points, opens its output, and writes what is right over them.

@@ -6,7 +6,7 @@ use Rattle.osm_job.specs.Whole.{Whole}
 use Rattle.osm_points.specs.declared.reading.PointsError.{PointsError}
 use Rattle.osm_points.specs.declared.reading.PointsError.TheVariants.{BadPoint, OutOfMemory}
 use Rattle.area_locate.specs.declared.found.Found.{Found}
-use Rattle.job_locate.specs.Locate.{whole_of}
+use Rattle.job_locate.specs.Locate.{whole_of_points}
 
 -- how a run ends whose points aren't read
 abbrev pub points_ended : PointsError → Ended
@@ -15,4 +15,4 @@ points_ended OutOfMemory = ended.OutOfMemory
 
 -- the lines of points go to the output, and that is all
 abbrev pub IsLines : List Found → Whole → Type 0
-IsLines found whole = whole ≡ whole_of found
+IsLines found whole = whole ≡ whole_of_points found

@@ -9,7 +9,7 @@ use Rattle.opl_reader.specs.declared.object.ObjectRef.{ObjectRef}
 use Rattle.osm_geom.specs.declared.edge.Edge.{Edge}
 use Rattle.osm_nest.specs.Polygons.{rings_in, rings_of}
 use Rattle.osm_nest.specs.declared.polygon.Polygon.{Polygon}
-use Rattle.job_sample.specs.Steps.{AddsCandidate, AreAreaCounts, counts_of, together, total}
+use Rattle.job_sample.specs.Steps.{AddsCandidate, AreAreaCounts, area_counts_of, together, total}
 use Rattle.job_sample.specs.Summary.{AreAssembled, Assembled, IsAssembled, area_count, polygon_count, problem_count, ring_count}
 use Rattle.job_sample.specs.declared.areas.AreaCounts.{AreaCounts}
 
@@ -34,7 +34,7 @@ rings_next ps k p lt is =
 pub none_counted : (objects : List Object) (counts : AreaCounts) → counts ≡ total [] → AreAreaCounts objects [] counts
 none_counted objects counts none = record { all = []; assembled = record { in_order = refl; right = All-nil (IsAssembled objects) }; counted = none }
 
-one_more : (all : List Assembled) (one : Assembled) → total (all ++ one ∷ []) ≡ together (total all) (counts_of one.outcome)
+one_more : (all : List Assembled) (one : Assembled) → total (all ++ one ∷ []) ≡ together (total all) (area_counts_of one.outcome)
 one_more all one = λ i. record {
   areas = sum_by_push (λ (a : Assembled). area_count a.outcome) all one i;
   polygons = sum_by_push (λ (a : Assembled). polygon_count a.outcome) all one i;
@@ -58,7 +58,7 @@ module _ (objects : List Object) (chosen : List ObjectRef) where
               ∙ ap (λ (x : ObjectRef). take k chosen ++ x ∷ []) is ∙ sym (take_more chosen k c lt);
           right = All-append (IsAssembled objects) are.all (one ∷ []) are.assembled.right (All-cons (IsAssembled objects) one [] adds.1 (All-nil (IsAssembled objects)));
         };
-        counted = adds.2 ∙ ap (λ (a : AreaCounts). together a (counts_of adds.0)) are.counted ∙ sym (one_more are.all one);
+        counted = adds.2 ∙ ap (λ (a : AreaCounts). together a (area_counts_of adds.0)) are.counted ∙ sym (one_more are.all one);
       }
 
   pub all_counted : (n : ℕ) → length chosen ≤ n → (counts : AreaCounts) → AreAreaCounts objects (take n chosen) counts → AreAreaCounts objects chosen counts

@@ -8,9 +8,9 @@ use Rattle.osm_job.specs.Sent.{Sent, lines_text, to_output}
 use Rattle.osm_job.specs.Worked.{WroteOver}
 use Rattle.osm_job.specs.Writes.{Wrote}
 use Rattle.job_sample.specs.Sample.{IsSample}
-use Rattle.job_sample.specs.WorkSteps.{ended_by, whole_of}
+use Rattle.job_sample.specs.WorkSteps.{ended_by, whole_of_lines}
 
-module _ (count : ℕ) (lines : List (Vec ℕ Global)) (right : IsSample count (whole_of lines)) (before now : Outside) where
+module _ (count : ℕ) (lines : List (Vec ℕ Global)) (right : IsSample count (whole_of_lines lines)) (before now : Outside) where
   pub wrote_over : (r : Result (Unit {0}) Failed) → Wrote (map to_output (lines_text lines)) before now r → WroteOver (IsSample count) (ended_by r) before now
   wrote_over (Ok done) w = record {
     written = w.written;
@@ -18,4 +18,4 @@ module _ (count : ℕ) (lines : List (Vec ℕ Global)) (right : IsSample count (
     added = w.added;
     counts = w.counts.answered;
   }
-  wrote_over (Err failed) w = record { written = w.written; right = (whole_of lines, right, refl, w.sent); added = w.added; counts = w.counts.failed }
+  wrote_over (Err failed) w = record { written = w.written; right = (whole_of_lines lines, right, refl, w.sent); added = w.added; counts = w.counts.failed }

@@ -8,8 +8,8 @@ use Rattle.job_sample.specs.Summary.{AreAssembled, Assembled, area_count, polygo
 use Rattle.job_sample.specs.declared.areas.AreaCounts.{AreaCounts}
 
 -- those of one candidate
-abbrev pub counts_of : Outcome → AreaCounts
-counts_of outcome =
+abbrev pub area_counts_of : Outcome → AreaCounts
+area_counts_of outcome =
     record { areas = area_count outcome; polygons = polygon_count outcome; rings = ring_count outcome; problems = problem_count outcome }
 
 abbrev pub together : AreaCounts → AreaCounts → AreaCounts
@@ -32,4 +32,4 @@ pub record AreAreaCounts (objects : List Object) (chosen : List ObjectRef) (coun
 
 -- One more candidate was counted.
 abbrev pub AddsCandidate : List Object → ObjectRef → AreaCounts → AreaCounts → Type 0
-AddsCandidate objects candidate before after = (outcome : Outcome) × IsOutcome objects candidate outcome × (after ≡ together before (counts_of outcome))
+AddsCandidate objects candidate before after = (outcome : Outcome) × IsOutcome objects candidate outcome × (after ≡ together before (area_counts_of outcome))

@@ -9,8 +9,8 @@ use Rattle.osm_job.specs.Whole.{Whole}
 use Rattle.job_sample.specs.Sample.{IsSample}
 
 -- what is to be written by these lines
-abbrev pub whole_of : List (Vec ℕ Global) → Whole
-whole_of lines = record { written = map to_output (lines_text lines); ended = ended.Done }
+abbrev pub whole_of_lines : List (Vec ℕ Global) → Whole
+whole_of_lines lines = record { written = map to_output (lines_text lines); ended = ended.Done }
 
 -- how a run ends whose output was opened
 abbrev pub ended_by : Result (Unit {0}) Failed → Ended

@@ -2,7 +2,7 @@
 
 ghost use Rattle.std.specs.Prelude.{◌≡◌, IfOk, IfSome, length};
 ghost use Rattle.osm_nest.specs.Polygons.{rings_of};
-ghost use Rattle.job_sample.specs.Steps.{AddsCandidate, AreAreaCounts, counts_of, together};
+ghost use Rattle.job_sample.specs.Steps.{AddsCandidate, AreAreaCounts, area_counts_of, together};
 
 use opl_reader::ObjectRef;
 use osm_area::{Outcome, assemble};
@@ -56,8 +56,8 @@ fn ring_count(polygons: &[Polygon]) -> Option<u64>
 }
 
 /// What comes of one candidate, counted; None where a number grows too large.
-fn counts_of(outcome: &Outcome) -> Option<AreaCounts>
-    ensures { IfSome result (λ counts. counts ≡ counts_of outcome.now) }
+fn area_counts_of(outcome: &Outcome) -> Option<AreaCounts>
+    ensures { IfSome result (λ counts. counts ≡ area_counts_of outcome.now) }
 {
     match outcome {
         Outcome::Area { polygons, .. } => Some(AreaCounts {
@@ -83,7 +83,7 @@ fn with_candidate(
     ensures { IfOk result (λ more. AddsCandidate store.now candidate counts more) }
 {
     let outcome = assemble(alloc, store, candidate)?;
-    let one = counts_of(&outcome).ok_or(OutOfMemory)?;
+    let one = area_counts_of(&outcome).ok_or(OutOfMemory)?;
     // No memory holds objects of which so many rings come.
     together(counts, one).ok_or(OutOfMemory)
 }

@@ -3,7 +3,7 @@
 ghost use Rattle.std.specs.Prelude.{◌≡◌, ◌≤◌, IfOk};
 ghost use Rattle.osm_job.specs.Worked.{WroteOver};
 ghost use Rattle.job_sample.specs.Sample.{IsSample, Samples};
-ghost use Rattle.job_sample.specs.WorkSteps.{ended_by, whole_of};
+ghost use Rattle.job_sample.specs.WorkSteps.{ended_by, whole_of_lines};
 
 use crate::printing::lines_of;
 use crate::summary::sample_summary;
@@ -33,7 +33,7 @@ pub fn sample<H: Host>(alloc: Global, settings: &SampleSettings, host: &mut H) -
 fn lines_for(alloc: Global, count: u8) -> Result<Vec<Vec<u8>>, OutOfMemory>
     requires some { 1 ≤ count }
     requires few { count ≤ 100 }
-    ensures { IfOk result (λ lines. IsSample count (whole_of lines.items)) }
+    ensures { IfOk result (λ lines. IsSample count (whole_of_lines lines.items)) }
 {
     let summary = sample_summary(alloc, count)?;
     lines_of(alloc, &summary)
@@ -41,7 +41,7 @@ fn lines_for(alloc: Global, count: u8) -> Result<Vec<Vec<u8>>, OutOfMemory>
 
 /// Writes the lines to the opened output, and says how the run ends.
 fn write_all<H: Host>(count: u8, lines: &[Vec<u8>], host: &mut H) -> Ended
-    requires { IsSample count (whole_of lines.now) }
+    requires { IsSample count (whole_of_lines lines.now) }
     ensures { WroteOver (IsSample count) result (H.seen host.old) (H.seen host.new) }
 {
     ended_by(write_pieces(host, lines))

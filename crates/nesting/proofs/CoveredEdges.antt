@@ -3,7 +3,7 @@ use Rattle.std.proofs.Common.{All, Bool, List, [], ap, arith, cond, eqb, false, 
 use lib.IntN.{◌-ℤ◌}
 use Rattle.nesting.specs.Cover.{DoNotCross, covers_edge}
 use Rattle.plane.specs.Conflict.{IsClearOf}
-use Rattle.plane.specs.Edge.{Edge, IsRising, ends_at, reversed, segment_of}
+use Rattle.plane.specs.Edge.{Edge, IsRisingEdge, ends_at, reversed, segment_of}
 use Rattle.plane.specs.FreeSegment.{Misses}
 use Rattle.plane.specs.Height.{is_in_span}
 use Rattle.plane.specs.Order.{order}
@@ -24,26 +24,26 @@ use Rattle.winding.proofs.WindingKit.{along_from, off_all, parity_from_both_ends
 abbrev pub IsClearOfAll : Edge → List Edge → Type 0
 IsClearOfAll e es = All (IsClearOf e) es
 
-rise-cons : (e : Edge) (es : List Edge) → IsRising e → IsConflictFree es → (t : Edge) → In t (e ∷ es) → IsRising t
-rise-cons e es r p t (inl h) = subst IsRising (sym h) r
+rise-cons : (e : Edge) (es : List Edge) → IsRisingEdge e → IsConflictFree es → (t : Edge) → In t (e ∷ es) → IsRisingEdge t
+rise-cons e es r p t (inl h) = subst IsRisingEdge (sym h) r
 rise-cons e es r p t (inr i) = rising_in es t p i
 
-pub plain-cons : (e : Edge) (es : List Edge) → IsRising e → IsConflictFree es → IsClearOfAll e es → IsConflictFree (e ∷ es)
+pub plain-cons : (e : Edge) (es : List Edge) → IsRisingEdge e → IsConflictFree es → IsClearOfAll e es → IsConflictFree (e ∷ es)
 plain-cons e es r p c = record {
-  rising = all-in IsRising (e ∷ es) (rise-cons e es r p);
+  rising = all-in IsRisingEdge (e ∷ es) (rise-cons e es r p);
   clear = (c, p.clear);
 }
 
-pub misses-all : (e : Edge) (es : List Edge) → IsRising e → IsConflictFree es → IsClearOfAll e es → All (Misses e.from e.to) es
+pub misses-all : (e : Edge) (es : List Edge) → IsRisingEdge e → IsConflictFree es → IsClearOfAll e es → All (Misses e.from e.to) es
 misses-all e es r p c = all-in (Misses e.from e.to) es (λ t i. clear_misses e t r (rising_in es t p i) (in-all (IsClearOf e) es t c i))
 
-pub off-list : (v : Vector) (e : Edge) (es : List Edge) → IsRising e → IsConflictFree es → IsClearOfAll e es → ends_at v e ≡ true → All (IsOffEdge v) (away v es)
+pub off-list : (v : Vector) (e : Edge) (es : List Edge) → IsRisingEdge e → IsConflictFree es → IsClearOfAll e es → ends_at v e ≡ true → All (IsOffEdge v) (away v es)
 off-list v e es r p c h = all-in (IsOffEdge v) (away v es) (λ t j.
     in-all (IsOffEdge v) (away v (e ∷ es)) t (off_away v e (e ∷ es) (plain-cons e es r p c) (inl refl) h)
     (into-filter (λ (t : Edge). not (ends_at v t)) (e ∷ es) t (inr (in-filter (λ (t : Edge). not (ends_at v t)) es t j)) (in-passes (λ (t : Edge). not (ends_at v t)) es t j)))
 
 -- the number of edges right of e at the height of p, and the ray along e
-module _ (p : Vector) (e : Edge) (es : List Edge) (re : IsRising e) (pl : IsConflictFree es) (even : IsEvenAtPoints es) (c : IsClearOfAll e es) where
+module _ (p : Vector) (e : Edge) (es : List Edge) (re : IsRisingEdge e) (pl : IsConflictFree es) (even : IsEvenAtPoints es) (c : IsClearOfAll e es) where
   both-plain : IsConflictFree (e ∷ es)
   both-plain = plain-cons e es re pl c
 
@@ -80,7 +80,7 @@ module _ (p : Vector) (e : Edge) (es : List Edge) (re : IsRising e) (pl : IsConf
   beside s = let h = low-by (sign (e.from.y -ℤ p.y)) (sign (e.to.y -ℤ p.y)) s in beside-by h.0 h.1 ∙ sym (not-not _)
 
 -- ---- along an edge the parity is the same from both ends
-module _ (v : Vector) (s : Edge) (es : List Edge) (rs : IsRising s) (pl : IsConflictFree es) (even : IsEvenAtPoints es) (c : IsClearOfAll s es) where
+module _ (v : Vector) (s : Edge) (es : List Edge) (rs : IsRisingEdge s) (pl : IsConflictFree es) (even : IsEvenAtPoints es) (c : IsClearOfAll s es) where
   end-by : (b d : Bool) → same_point v s.from ≡ b → same_point v s.to ≡ d → (b || d) ≡ true → covers_edge es s ≡ not (is_even (crossing_count (from_to v (cond b s.to s.from)) v (away v es)))
   end-by true d h k o = subst (λ w. covers_edge es s ≡ not (is_even (crossing_count (from_to w s.to) w (away w es)))) (sym (same_point-true v s.from h)) refl
   end-by false true h k o =
@@ -93,7 +93,7 @@ module _ (v : Vector) (s : Edge) (es : List Edge) (rs : IsRising s) (pl : IsConf
   in-from-end h = end-by (same_point v s.from) (same_point v s.to) refl refl h
 
 -- two edges that meet at v and do not cross the list there
-pub same_in : (v : Vector) (s t : Edge) (es : List Edge) → IsRising s → IsRising t → IsConflictFree es → IsEvenAtPoints es → IsClearOfAll s es → IsClearOfAll t es → ends_at v s ≡ true → ends_at v t ≡ true →
+pub same_in : (v : Vector) (s t : Edge) (es : List Edge) → IsRisingEdge s → IsRisingEdge t → IsConflictFree es → IsEvenAtPoints es → IsClearOfAll s es → IsClearOfAll t es → ends_at v s ≡ true → ends_at v t ≡ true →
     spokes_in (way v s) (way v t) v es % 2 ≡ 0 → covers_edge es s ≡ covers_edge es t
 same_in v s t es rs rt pl even cs ct hs ht n =
     let b = parity_round_node (way v s) (way v t) v es (way-direction v s hs rs) (way-direction v t ht rt) even (off-list v s es rs pl cs hs) in

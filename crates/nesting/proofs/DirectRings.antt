@@ -4,7 +4,7 @@ use Rattle.std.specs.List.{count_by, filter}
 use borrow.Author.Differences.{ints}
 use lib.IntN.{pos}
 use Rattle.nesting.specs.Cover.{AreClear, covers}
-use Rattle.nesting.specs.Nesting.{EnclosesDirectly, IsInnerRing, IsNest, IsNextLeft, IsOuterRing, TellsOuter, edges_of, encloses, is_outer}
+use Rattle.nesting.specs.Nesting.{EnclosesDirectly, IsInnerRing, IsNest, IsNextLeft, IsOuterRing, TellsOuterRings, edges_of, encloses, is_outer}
 use Rattle.nesting.specs.Polygon.{IsPolygon, Polygon, polygon_edges}
 use Rattle.nesting.specs.RingList.{IsRingList}
 use Rattle.nesting.specs.Walk.{HasSameEdges}
@@ -36,7 +36,7 @@ tells-by : (gs : List (List Edge)) (g : List Edge) → IsConflictFree g → (a :
 tells-by gs [] p a h = absurd h.member
 tells-by gs (x ∷ xs) p a h = ap (is_outer gs) (anchor_one (leftmost_of x xs) a (x ∷ xs) p (leftmost_anchor x xs p) h)
 
-pub outer_test_tells : (gs : List (List Edge)) → IsConflictFree (edges_of gs) → TellsOuter gs (outer_test gs)
+pub outer_test_tells : (gs : List (List Edge)) → IsConflictFree (edges_of gs) → TellsOuterRings gs (outer_test gs)
 outer_test_tells gs p g i a h = tells-by gs g (plain-part gs g p i) a h
 
 pub pairs-unmap : {X Y : Type 0} (f : X → Y) (R : Y → Y → Type 0) (xs : List X) → EachPair R (map f xs) → EachPair (λ x y. R (f x) (f y)) xs
@@ -61,7 +61,7 @@ module _ (rs : List (List Edge)) (l : IsRingList rs) where
   pub rings-nest : IsNest rings
   rings-nest = ring_list_nest rs l
 
-  pub rings-tell : TellsOuter rings is_outer_by
+  pub rings-tell : TellsOuterRings rings is_outer_by
   rings-tell = outer_test_tells rings (nest-plain rs l)
 
   pub rings-anchors : HasAnchors rings
@@ -159,7 +159,7 @@ module _ (rs : List (List Edge)) (l : IsRingList rs) where
   pub ring_has_anchor : (r : List Edge) → In r rs → (a : Edge) × IsAnchor a (segments_of r) × ((b : Edge) → IsAnchor b (segments_of r) → b ≡ a)
   ring_has_anchor r i = let a = rings-anchors (segments_of r) (in-map segments_of rs r i) in (a.0, a.1, λ b h. anchor_one b a.0 (segments_of r) (ring-plain r i) h a.1)
 
-  pub enclosing_rings_balance : (outer : List Edge → Bool) → TellsOuter rings outer → (h : List Edge) → In h rs → (e : Edge) → IsAnchor e (segments_of h) →
+  pub enclosing_rings_balance : (outer : List Edge → Bool) → TellsOuterRings rings outer → (h : List Edge) → In h rs → (e : Edge) → IsAnchor e (segments_of h) →
       count_by (λ (g : List Edge). encloses g e && outer g) rings ≡ count_by (λ (g : List Edge). encloses g e && not (outer g)) rings + bit (not (outer (segments_of h)))
   enclosing_rings_balance outer t h i e a = enclosing_sums rings rings-nest outer t rings-anchors (segments_of h) (in-map segments_of rs h i) e a
 

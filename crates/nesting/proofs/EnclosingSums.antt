@@ -1,7 +1,7 @@
 -- Of the rings that enclose an outer ring as many are outer as inner; of those that enclose an inner ring one outer ring more.
 use Rattle.std.proofs.Common.{Bool, List, [], ap, arith, cond, false, inl, inr, not, refl, suc, sym, true, zero, ℕ, ◌&&◌, ◌+◌, ◌∙◌, ◌∷◌, ◌≡◌, ◌≤◌, ◌⊎◌}
 use Rattle.std.specs.List.{count_by, filter}
-use Rattle.nesting.specs.Nesting.{IsNest, TellsOuter, depth, edges_of, encloses, has_edge}
+use Rattle.nesting.specs.Nesting.{IsNest, TellsOuterRings, depth, edges_of, encloses, has_edge}
 use Rattle.plane.specs.Bit.{bit}
 use Rattle.plane.specs.Edge.{Edge}
 use Rattle.plane.specs.Height.{is_right_above}
@@ -55,7 +55,7 @@ outer-balance true false o i h k = omega arith
 outer-balance false true o i h k = omega arith
 outer-balance false false o i h k = absurd (cc h)
 
-module _ (gs : List (List Edge)) (n : IsNest gs) (outer : List Edge → Bool) (tells : TellsOuter gs outer) (anchors : HasAnchors gs) where
+module _ (gs : List (List Edge)) (n : IsNest gs) (outer : List Edge → Bool) (tells : TellsOuterRings gs outer) (anchors : HasAnchors gs) where
   abbrev outers : Edge → ℕ
   outers e = total (λ g. cond (encloses g e) (bit (outer g)) 0) gs
 

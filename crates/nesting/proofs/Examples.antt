@@ -8,7 +8,7 @@ use Rattle.nesting.specs.RingList.{IsRingList}
 use Rattle.nesting.specs.Stack.{cut_off}
 use Rattle.nesting.specs.Walk.{IsSuccessor}
 use Rattle.plane.specs.Conflict.{IsClearOf}
-use Rattle.plane.specs.Edge.{Edge, IsRising, ends_at, other_end, same_edge}
+use Rattle.plane.specs.Edge.{Edge, IsRisingEdge, ends_at, other_end, same_edge}
 use Rattle.plane.specs.Sector.{in_sector}
 use Rattle.plane.specs.Vector.{Vector, from_to, same_point}
 use Rattle.winding.specs.ConflictFree.{IsConflictFree}
@@ -134,8 +134,8 @@ triangle_ring = record {
 
 triangle_plain : IsConflictFree (segments_of triangle)
 triangle_plain = record {
-  rising = All-cons IsRising (edge (point 0 0) (point 2 0)) (edge (point 2 0) (point 0 2) ∷ edge (point 0 0) (point 0 2) ∷ []) refl
-      (All-cons IsRising (edge (point 2 0) (point 0 2)) (edge (point 0 0) (point 0 2) ∷ []) refl (All-cons IsRising (edge (point 0 0) (point 0 2)) [] refl (All-nil IsRising)));
+  rising = All-cons IsRisingEdge (edge (point 0 0) (point 2 0)) (edge (point 2 0) (point 0 2) ∷ edge (point 0 0) (point 0 2) ∷ []) refl
+      (All-cons IsRisingEdge (edge (point 2 0) (point 0 2)) (edge (point 0 0) (point 0 2) ∷ []) refl (All-cons IsRisingEdge (edge (point 0 0) (point 0 2)) [] refl (All-nil IsRisingEdge)));
   clear = (
     All-cons (IsClearOf (edge (point 0 0) (point 2 0))) (edge (point 2 0) (point 0 2)) (edge (point 0 0) (point 0 2) ∷ []) refl
         (All-cons (IsClearOf (edge (point 0 0) (point 2 0))) (edge (point 0 0) (point 0 2)) [] refl (All-nil (IsClearOf (edge (point 0 0) (point 2 0))))),

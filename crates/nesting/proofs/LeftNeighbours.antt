@@ -3,7 +3,7 @@ use Rattle.std.proofs.Common.{Bool, List, ap, arith, cond, false, not, pos, refl
 use Rattle.std.specs.List.{filter}
 use borrow.Author.Differences.{ints}
 use Rattle.nesting.specs.Cover.{covers_edge}
-use Rattle.nesting.specs.Nesting.{IsNest, TellsOuter, depth, edges_of, encloses, has_edge}
+use Rattle.nesting.specs.Nesting.{IsNest, TellsOuterRings, depth, edges_of, encloses, has_edge}
 use Rattle.plane.specs.Bit.{bit}
 use Rattle.plane.specs.Edge.{Edge, same_edge}
 use Rattle.plane.specs.Height.{is_in_span, is_right_above, starts_left_of}
@@ -78,7 +78,7 @@ module _ (h : List Edge) (ph : IsConflictFree h) (even : IsEvenAtPoints h) (a : 
 even-one : (n : ℕ) → is_even n ≡ false → is_even (1 + n) ≡ true
 even-one n h = ap is_even (let e : 1 + n ≡ suc n = omega arith in e) ∙ even-next n ∙ ap not h
 
-module _ (gs : List (List Edge)) (n : IsNest gs) (outer : List Edge → Bool) (tells : TellsOuter gs outer) (anchors : HasAnchors gs) where
+module _ (gs : List (List Edge)) (n : IsNest gs) (outer : List Edge → Bool) (tells : TellsOuterRings gs outer) (anchors : HasAnchors gs) where
   -- an outer ring that encloses what g directly encloses lies round the nearest edge of g
   pub round-nearest : (r : List Edge) → In r gs → (s : Edge) → IsAnchor s r → (g : List Edge) → (d : IsDirectBy gs outer g s) → (k : List Edge) → In k gs → outer k ≡ true → encloses k s ≡ true → has_edge k d.edge ≡ false → encloses k d.edge ≡ true
   round-nearest r ir s ar g d k ik ok c nk =

@@ -4,7 +4,7 @@ use Rattle.std.specs.List.{filter}
 use Rattle.nesting.specs.Cover.{AreClear, covers_edge}
 use Rattle.plane.specs.Bit.{bit}
 use Rattle.plane.specs.Conflict.{IsClearOf}
-use Rattle.plane.specs.Edge.{Edge, IsRising}
+use Rattle.plane.specs.Edge.{Edge, IsRisingEdge}
 use Rattle.plane.specs.Height.{is_in_span, is_right_above}
 use Rattle.plane.specs.Vector.{Vector}
 use Rattle.winding.specs.ConflictFree.{IsConflictFree}
@@ -44,7 +44,7 @@ bit-both true false h k = absurd (cc (h refl))
 bit-both false true h k = absurd (cc (k refl))
 
 -- t is right of e, and all edges of the list right of e are right of t: the parity of the list is the same at both
-pub same_beside : (p : Vector) (e t : Edge) (es : List Edge) → IsRising e → IsRising t → IsConflictFree es → IsEvenAtPoints es → IsClearOfAll e es → IsClearOfAll t es → is_in_span p e ≡ true → is_right_above p e t ≡ true →
+pub same_beside : (p : Vector) (e t : Edge) (es : List Edge) → IsRisingEdge e → IsRisingEdge t → IsConflictFree es → IsEvenAtPoints es → IsClearOfAll e es → IsClearOfAll t es → is_in_span p e ≡ true → is_right_above p e t ≡ true →
     ((f : Edge) → In f es → is_right_above p e f ≡ true → right_of p t f ≡ true) → covers_edge es t ≡ covers_edge es e
 same_beside p e t es re rt pl even ce ct se b h =
     let st = beyond-span p e t b in
@@ -54,7 +54,7 @@ same_beside p e t es re rt pl even ce ct se b h =
     (λ k. and_from (is_in_span p f) (right_of p t f) (beyond-span p e f k) (h f i k))) in
     not-same (covers_edge es t) (covers_edge es e) (sym y ∙ ap is_even w ∙ x)
 
-pub some_beyond : (p : Vector) (e : Edge) (es : List Edge) → IsRising e → IsConflictFree es → IsEvenAtPoints es → IsClearOfAll e es → is_in_span p e ≡ true → covers_edge es e ≡ true → (f : Edge) × In f es × (is_right_above p e f ≡ true)
+pub some_beyond : (p : Vector) (e : Edge) (es : List Edge) → IsRisingEdge e → IsConflictFree es → IsEvenAtPoints es → IsClearOfAll e es → is_in_span p e ≡ true → covers_edge es e ≡ true → (f : Edge) × In f es × (is_right_above p e f ≡ true)
 some_beyond p e es re pl even c s h = some_odd (is_right_above p e) es (beside p e es re pl even c s ∙ ap not h)
 
 -- ---- two lists beside an edge that is in the one
@@ -62,7 +62,7 @@ pub record Meets (e : Edge) (cs bs : List Edge) : Type 0 where
   pub edge : Edge
   pub of : (In edge cs × (covers_edge bs edge ≡ covers_edge bs e)) ⊎ (In edge bs × (covers_edge cs edge ≡ covers_edge cs e))
 
-module _ (p : Vector) (e : Edge) (cs bs : List Edge) (re : IsRising e) (s : is_in_span p e ≡ true) (pa : IsConflictFree cs) (pb : IsConflictFree bs) (ea : IsEvenAtPoints cs) (eb : IsEvenAtPoints bs)
+module _ (p : Vector) (e : Edge) (cs bs : List Edge) (re : IsRisingEdge e) (s : is_in_span p e ≡ true) (pa : IsConflictFree cs) (pb : IsConflictFree bs) (ea : IsEvenAtPoints cs) (eb : IsEvenAtPoints bs)
     (c : AreClear cs bs) (ca : IsClearOfAll e cs) (cb : IsClearOfAll e bs) where
   meets-by : (m : Edge) → First (right_of p) m (filter (is_right_above p e) (cs ++ bs)) → (In m cs) ⊎ (In m bs) → Meets e cs bs
   meets-by m f (inl i) =

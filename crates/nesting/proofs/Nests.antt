@@ -5,7 +5,7 @@ use Rattle.nesting.specs.Cover.{AreClear, covers_edge}
 use Rattle.nesting.specs.Nesting.{IsNest, depth, edges_of, encloses, has_edge, is_outer}
 use Rattle.plane.specs.Bit.{bit}
 use Rattle.plane.specs.Conflict.{IsClearOf}
-use Rattle.plane.specs.Edge.{Edge, IsRising, same_edge}
+use Rattle.plane.specs.Edge.{Edge, IsRisingEdge, same_edge}
 use Rattle.plane.specs.Height.{is_in_span, is_right_above}
 use Rattle.plane.specs.Vector.{Vector, from_to, one_at}
 use Rattle.winding.specs.ConflictFree.{IsConflictFree}
@@ -23,10 +23,10 @@ use Rattle.plane.proofs.PlaneKit.{clear_back, same_edge-refl, same_edge-true, ri
 use Rattle.winding.proofs.WindingKit.{anchor_runs, rising_in, runs_from, same-parity, beyond, crossings-away, First, even-is, even-next, first_exists, odd-is}
 
 pub plain-left : (xs ys : List Edge) → IsConflictFree (xs ++ ys) → IsConflictFree xs
-plain-left xs ys p = record { rising = all-in IsRising xs (λ t i. rising_in (xs ++ ys) t p (in-left xs ys t i)); clear = pairs-left IsClearOf xs ys p.clear }
+plain-left xs ys p = record { rising = all-in IsRisingEdge xs (λ t i. rising_in (xs ++ ys) t p (in-left xs ys t i)); clear = pairs-left IsClearOf xs ys p.clear }
 
 pub plain-right : (xs ys : List Edge) → IsConflictFree (xs ++ ys) → IsConflictFree ys
-plain-right xs ys p = record { rising = all-in IsRising ys (λ t i. rising_in (xs ++ ys) t p (in-right xs ys t i)); clear = pairs-right IsClearOf xs ys p.clear }
+plain-right xs ys p = record { rising = all-in IsRisingEdge ys (λ t i. rising_in (xs ++ ys) t p (in-right xs ys t i)); clear = pairs-right IsClearOf xs ys p.clear }
 
 pub in-edges : (gs : List (List Edge)) (g : List Edge) (s : Edge) → In g gs → In s g → In s (edges_of gs)
 in-edges [] g s i j = absurd i
@@ -220,7 +220,7 @@ module _ (gs : List (List Edge)) (n : IsNest gs) where
 
   -- ---- the nearest edge, among rings of a choice that enclose e
   module _ (h : List Edge) (ih : In h gs) (e : Edge) (ie : In e h) (p : Vector) (se : is_in_span p e ≡ true) (sel : List Edge → Bool) (chosen : (g : List Edge) → In g gs → sel g ≡ true → encloses g e ≡ true) where
-    re : IsRising e
+    re : IsRisingEdge e
     re = rising_in h e (part h ih) ie
 
     abbrev pub beyonds : List Edge

@@ -4,7 +4,7 @@ use lib.IntN.{pos, ℤ, ◌-ℤ◌}
 use Rattle.nesting.specs.Walk.{HasSameEdges}
 use Rattle.plane.specs.Bit.{bit}
 use Rattle.plane.specs.Conflict.{IsClearOf}
-use Rattle.plane.specs.Edge.{Edge, IsRising, reversed, same_edge, segment_of}
+use Rattle.plane.specs.Edge.{Edge, IsRisingEdge, reversed, same_edge, segment_of}
 use Rattle.plane.specs.Order.{order}
 use Rattle.plane.specs.RayCrossing.{IsOffEdge, down_crossing, up_crossing}
 use Rattle.plane.specs.Scale.{scaled_edge}
@@ -112,7 +112,7 @@ same-in xs ys s x i =
 pub same-once : (xs ys : List Edge) → HasSameEdges xs ys → Once ys → Once xs
 same-once xs ys s o = count-once xs (λ x i. let a = same-edges-total xs ys s (λ (y : Edge). bit (same_edge x y)) in let b = once-count x ys o in omega arith)
 
-once-segments : (xs : List Edge) → ((x : Edge) → In x xs → IsRising (segment_of x)) → EachPair IsClearOf (segments_of xs) → Once xs
+once-segments : (xs : List Edge) → ((x : Edge) → In x xs → IsRisingEdge (segment_of x)) → EachPair IsClearOf (segments_of xs) → Once xs
 once-segments [] r p = tt
 once-segments (x ∷ xs) r p = (
   all-in (λ (y : Edge). x ≡ y → ⊥) xs (λ y i e.
@@ -131,7 +131,7 @@ same-winding k p xs ys s =
     let b : down_count east p (scaled_edges k xs) ≡ down_count east p (scaled_edges k ys) = sym (total-is g (scaled_edges k xs)) ∙ scaled-sum k g xs ys s ∙ total-is g (scaled_edges k ys) in
     ap (λ n. pos n -ℤ pos (down_count east p (scaled_edges k xs))) a ∙ ap (λ n. pos (up_count east p (scaled_edges k ys)) -ℤ pos n) b
 
-pub reversed-by : (b : Bool) (x : Edge) → IsRising (cond b x (reversed x)) → segment_of (reversed x) ≡ cond b x (reversed x)
+pub reversed-by : (b : Bool) (x : Edge) → IsRisingEdge (cond b x (reversed x)) → segment_of (reversed x) ≡ cond b x (reversed x)
 reversed-by true x r = segment-direct-by false x r
 reversed-by false x r = segment-direct-by true (reversed x) r
 
@@ -150,7 +150,7 @@ module _ (es : List Edge) (sd : IsSided es) where
 
   pub plain-of : (xs : List Edge) → ((x : Edge) → In x xs → In x es) → Once xs → IsConflictFree (segments_of xs)
   plain-of xs sub o = record {
-    rising = all-in IsRising (segments_of xs) (λ t j. let r = in-map-out segment_of xs t j in subst IsRising (sym r.2) (rise es sd r.0 (sub r.0 r.1)));
+    rising = all-in IsRisingEdge (segments_of xs) (λ t j. let r = in-map-out segment_of xs t j in subst IsRisingEdge (sym r.2) (rise es sd r.0 (sub r.0 r.1)));
     clear = plain-pairs xs sub o;
   }
 

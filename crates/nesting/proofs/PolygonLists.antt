@@ -3,7 +3,7 @@ use Rattle.std.proofs.Common.{Bool, List, [], ap, arith, cond, false, inl, inr, 
 use Rattle.std.specs.List.{filter}
 use Rattle.nesting.specs.Cover.{AreClear}
 use Rattle.nesting.specs.Nesting.{EnclosesDirectly, IsInnerRing, edges_of}
-use Rattle.nesting.specs.Polygon.{ArePolygons, IsPolygon, Polygon, polygon_edges}
+use Rattle.nesting.specs.Polygon.{ArePolygonsOfRings, IsPolygon, Polygon, polygon_edges}
 use Rattle.nesting.specs.RingList.{IsRingList}
 use Rattle.nesting.specs.Walk.{HasSameEdges}
 use Rattle.plane.specs.Bit.{bit}
@@ -240,5 +240,5 @@ module _ (rs : List (List Edge)) (l : IsRingList rs) where
   each-of [] k g i = absurd i
   each-of (r ∷ xs) k g i = each-step r (k r (inl refl)) (polygons_of xs) (each-of xs (λ x i. k x (inr i))) (out r) refl g i
 
-  pub polygons_exist : (gs : List Polygon) × ArePolygons rs gs
+  pub polygons_exist : (gs : List Polygon) × ArePolygonsOfRings rs gs
   polygons_exist = (polygons_of rs, record { each = each-of rs (λ x i. i); whole = polygons-whole })

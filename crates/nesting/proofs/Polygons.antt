@@ -4,7 +4,7 @@ use Rattle.std.specs.List.{count_by}
 use lib.IntN.{pos}
 use Rattle.nesting.specs.Cover.{covers}
 use Rattle.nesting.specs.Nesting.{edges_of}
-use Rattle.nesting.specs.Polygon.{ArePolygons, IsPolygon, Polygon, polygon_edges}
+use Rattle.nesting.specs.Polygon.{ArePolygonsOfRings, IsPolygon, Polygon, polygon_edges}
 use Rattle.nesting.specs.RingList.{IsRingList}
 use Rattle.plane.specs.Bit.{bit}
 use Rattle.plane.specs.Edge.{Edge}
@@ -44,6 +44,6 @@ module _ (rs : List (List Edge)) (l : IsRingList rs) (p : Vector) where
       let c = segments-crossings east p es in let o = odd-bit (crossing_count east p es) in
       omega arith
 
-  pub polygons_cover : (gs : List Polygon) → ArePolygons rs gs → count_by (λ (g : Polygon). covers (polygon_edges g) p) gs ≡ bit (covers (edges_of rs) p)
+  pub polygons_cover : (gs : List Polygon) → ArePolygonsOfRings rs gs → count_by (λ (g : Polygon). covers (polygon_edges g) p) gs ≡ bit (covers (edges_of rs) p)
   polygons_cover gs a =
       polygons_count rs (up_seen east (from_to p)) (down_seen east (from_to p)) (λ (g : Polygon). covers (polygon_edges g) p) gs (bit (covers (edges_of rs) p)) a.whole (λ g i. polygon-counts g (a.each g i)) rings-count

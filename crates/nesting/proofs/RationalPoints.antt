@@ -2,7 +2,7 @@
 use Rattle.std.proofs.Common.{Bool, List, ap, cond, false, not, refl, subst, sym, true, ℕ, ◌+◌, ◌||◌, ◌∙◌, ◌≡◌}
 use lib.IntN.{ℤ}
 use Rattle.nesting.specs.Cover.{AreClear, covers, covers_edge}
-use Rattle.nesting.specs.Nesting.{IsNest, TellsOuter, encloses, has_edge}
+use Rattle.nesting.specs.Nesting.{IsNest, TellsOuterRings, encloses, has_edge}
 use Rattle.plane.specs.Conflict.{IsClearOf}
 use Rattle.plane.specs.Edge.{Edge, ends_at}
 use Rattle.plane.specs.RayCrossing.{down_by, up_by}
@@ -62,7 +62,7 @@ module _ (k : ℤ) (hk : sign k ≡ Plus) where
       subst (λ w. covers_edge (scaled_edges k es) w ≡ covers_edge (scaled_edges k es) t) (sym r.2) (subst (λ w. covers_edge (scaled_edges k es) (scaled_edge k r.0) ≡ covers_edge (scaled_edges k es) w) (sym q.2)
       (in_scaled es r.0 ∙ h r.0 q.0 r.1 q.1 ∙ sym (in_scaled es q.0)))
 
-  module _ (gs : List (List Edge)) (n : IsNest gs) (outer : List Edge → Bool) (tells : TellsOuter gs outer) (anchors : HasAnchors gs) (p : Vector) where
+  module _ (gs : List (List Edge)) (n : IsNest gs) (outer : List Edge → Bool) (tells : TellsOuterRings gs outer) (anchors : HasAnchors gs) (p : Vector) where
     abbrev around : List Edge → Bool
     around g = covers (scaled_edges k g) p
 

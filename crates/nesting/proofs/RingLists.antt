@@ -3,13 +3,13 @@ use Rattle.std.proofs.Common.{Bool, List, [], ap, arith, cond, false, inl, inr, 
 use Rattle.nesting.specs.Cover.{DoNotCross, covers_edge}
 use Rattle.nesting.specs.Nesting.{IsNest, edges_of, has_edge, is_outer}
 use Rattle.nesting.specs.RingList.{IsRingList}
-use Rattle.plane.specs.Edge.{Edge, IsRising, reversed, segment_of}
+use Rattle.plane.specs.Edge.{Edge, IsRisingEdge, reversed, segment_of}
 use Rattle.plane.specs.Order.{order}
 use Rattle.plane.specs.Sign.{Minus, Null, Plus, Sign, is_plus, negated}
 use Rattle.winding.specs.ConflictFree.{IsConflictFree}
 use Rattle.winding.specs.EdgeList.{IsEvenAtPoints}
 use Rattle.lists.specs.Member.{EachPair, In}
-use Rattle.winding.specs.OddSide.{runs_up}
+use Rattle.winding.specs.OddSide.{runs_up_by_odd_side}
 use Rattle.winding.specs.Ring.{IsAnchor, segments_of}
 use Rattle.nesting.proofs.CoveredEdges.{constant_in}
 use Rattle.nesting.proofs.Nests.{clear_rings, has-in, plain-part}
@@ -45,22 +45,22 @@ up-down Plus h k = cc k
 up-down Null h k = cc h
 up-down Minus h k = cc h
 
-both-up : (e : Edge) → IsRising e → IsRising (reversed e) → ⊥
+both-up : (e : Edge) → IsRisingEdge e → IsRisingEdge (reversed e) → ⊥
 both-up e r k = up-down (order e.from e.to) r (sym (order-reversed e.from e.to) ∙ k)
 
-runs-by : (b c : Bool) (e : Edge) → IsRising (cond c e (reversed e)) → cond b (cond c e (reversed e)) (reversed (cond c e (reversed e))) ≡ e → c ≡ is_plus (order e.from e.to) → b ≡ c
+runs-by : (b c : Bool) (e : Edge) → IsRisingEdge (cond c e (reversed e)) → cond b (cond c e (reversed e)) (reversed (cond c e (reversed e))) ≡ e → c ≡ is_plus (order e.from e.to) → b ≡ c
 runs-by true true e r q h = refl
 runs-by false false e r q h = refl
 runs-by true false e r q h =
-    let k = subst IsRising q r in let m : is_plus (order e.from e.to) ≡ true = ap is_plus k in absurd (cc (h ∙ m))
+    let k = subst IsRisingEdge q r in let m : is_plus (order e.from e.to) ≡ true = ap is_plus k in absurd (cc (h ∙ m))
 runs-by false true e r q h =
-    let k : IsRising (reversed e) = subst IsRising (sym q) r in
+    let k : IsRisingEdge (reversed e) = subst IsRisingEdge (sym q) r in
     absurd (both-up e r k)
 
 -- the odd side directs each edge of a sided list as it runs
-pub runs_up_as : (es : List Edge) → IsSided es → (e : Edge) → In e es → runs_up (segments_of es) (segment_of e) ≡ is_plus (order e.from e.to)
+pub runs_up_as : (es : List Edge) → IsSided es → (e : Edge) → In e es → runs_up_by_odd_side (segments_of es) (segment_of e) ≡ is_plus (order e.from e.to)
 runs_up_as es sd e i =
-    runs-by (runs_up (segments_of es) (segment_of e)) (is_plus (order e.from e.to)) e (rising_in (segments_of es) (segment_of e) sd.plain (in-map segment_of es e i)) (sided_direct es sd e i) refl
+    runs-by (runs_up_by_odd_side (segments_of es) (segment_of e)) (is_plus (order e.from e.to)) e (rising_in (segments_of es) (segment_of e) sd.plain (in-map segment_of es e i)) (sided_direct es sd e i) refl
 
 module _ (rs : List (List Edge)) (l : IsRingList rs) where
   abbrev pub nest : List (List Edge)
@@ -103,9 +103,9 @@ module _ (rs : List (List Edge)) (l : IsRingList rs) where
       let a = first-edge r.0 (l.long r.0 r.1) (subst IsConflictFree r.2 p) in
       (a.0, subst (λ u. IsAnchor a.0 u) (sym r.2) a.1)
 
-  pub runs_as : (e : Edge) → In e (edges_of rs) → runs_up (segments_of (edges_of rs)) (segment_of e) ≡ is_plus (order e.from e.to)
+  pub runs_as : (e : Edge) → In e (edges_of rs) → runs_up_by_odd_side (segments_of (edges_of rs)) (segment_of e) ≡ is_plus (order e.from e.to)
   runs_as e i = runs_up_as (edges_of rs) l.sided e i
 
   -- a ring is outer where its anchor runs down
   pub outer_down : (e : Edge) → In e (edges_of rs) → is_outer nest (segment_of e) ≡ not (is_plus (order e.from e.to))
-  outer_down e i = ap (λ u. not (runs_up u (segment_of e))) (edges-segments rs) ∙ ap not (runs_as e i)
+  outer_down e i = ap (λ u. not (runs_up_by_odd_side u (segment_of e))) (edges-segments rs) ∙ ap not (runs_as e i)

@@ -4,8 +4,8 @@ use Rattle.std.specs.List.{count_by}
 use borrow.Author.Differences.{ints}
 use lib.IntN.{pos, ℤ, ◌-ℤ◌}
 use Rattle.nesting.specs.Cover.{DoNotCross, covers}
-use Rattle.nesting.specs.Nesting.{TellsOuter, edges_of}
-use Rattle.nesting.specs.Polygon.{ArePolygons, IsPolygon, Polygon, polygon_edges}
+use Rattle.nesting.specs.Nesting.{TellsOuterRings, edges_of}
+use Rattle.nesting.specs.Polygon.{ArePolygonsOfRings, IsPolygon, Polygon, polygon_edges}
 use Rattle.nesting.specs.RingList.{IsRingList, scaled_rings}
 use Rattle.plane.specs.Bit.{bit}
 use Rattle.plane.specs.Edge.{Edge, ends_at, other_end, segment_of}
@@ -126,7 +126,7 @@ module _ (k : ℤ) (hk : sign k ≡ Plus) where
   }
 
   -- ---- what the rings and polygons count at p.x / k, p.y / k
-  module _ (rs : List (List Edge)) (l : IsRingList rs) (outer : List Edge → Bool) (tells : TellsOuter (map segments_of rs) outer) (anchors : HasAnchors (map segments_of rs)) (p : Vector) where
+  module _ (rs : List (List Edge)) (l : IsRingList rs) (outer : List Edge → Bool) (tells : TellsOuterRings (map segments_of rs) outer) (anchors : HasAnchors (map segments_of rs)) (p : Vector) where
     abbrev up_at : Edge → ℕ
     up_at e = up_seen east (from_to p) (scaled_edge k e)
 
@@ -208,6 +208,6 @@ module _ (k : ℤ) (hk : sign k ≡ Plus) where
         let m : up_count east p (scaled_edges k es) ≡ down_count east p (scaled_edges k es) + n = omega (arith, ints) in
         omega arith
 
-    pub polygons_cover_at_fractions : (gs : List Polygon) → ArePolygons rs gs → count_by (λ (g : Polygon). covers (scaled_edges k (polygon_edges g)) p) gs ≡ bit (covers (scaled_edges k (edges_of rs)) p)
+    pub polygons_cover_at_fractions : (gs : List Polygon) → ArePolygonsOfRings rs gs → count_by (λ (g : Polygon). covers (scaled_edges k (polygon_edges g)) p) gs ≡ bit (covers (scaled_edges k (edges_of rs)) p)
     polygons_cover_at_fractions gs a =
         polygons_count rs up_here down_here (λ (g : Polygon). covers (scaled_edges k (polygon_edges g)) p) gs (bit (covers (scaled_edges k (edges_of rs)) p)) a.whole (λ g i. polygon-counts-here g (a.each g i)) rings-count-here

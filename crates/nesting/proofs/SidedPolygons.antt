@@ -7,7 +7,7 @@ use Rattle.nesting.specs.Nesting.{edges_of}
 use Rattle.nesting.specs.Polygon.{IsPolygon, Polygon, polygon_edges}
 use Rattle.nesting.specs.RingList.{IsRingList}
 use Rattle.plane.specs.Bit.{bit}
-use Rattle.plane.specs.Edge.{Edge, IsRising}
+use Rattle.plane.specs.Edge.{Edge, IsRisingEdge}
 use Rattle.plane.specs.Vector.{Vector, east, one_at}
 use Rattle.winding.specs.ConflictFree.{IsConflictFree}
 use Rattle.winding.specs.EdgeList.{IsBalanced, winding_number}
@@ -25,7 +25,7 @@ use Rattle.lists.proofs.ListsKit.{all-in, in-all, in-map, in-map-out, pairs-weak
 use Rattle.winding.proofs.WindingKit.{path-ends}
 
 plain-rings : (rs : List (List Edge)) → ((r : List Edge) → In r rs → IsConflictFree (segments_of r)) → EachPair clear-rings rs → IsConflictFree (edges_of (map segments_of rs))
-plain-rings [] h p = record { rising = All-nil IsRising; clear = tt }
+plain-rings [] h p = record { rising = All-nil IsRisingEdge; clear = tt }
 plain-rings (r ∷ rs) h p =
     plain-append (segments_of r) (edges_of (map segments_of rs)) (h r (inl refl)) (plain-rings rs (λ s i. h s (inr i)) p.1) (λ s t i j.
     let q = in-edges-out (map segments_of rs) t j in let k = in-map-out segments_of rs q.0 q.1 in

@@ -3,11 +3,11 @@ use Rattle.std.proofs.Common.{Bool, List, ap, arith, cond, eqb, eqb-true, false,
 use Rattle.nesting.specs.Cover.{covers_edge}
 use Rattle.nesting.specs.Walk.{IsNextClockwise, IsSuccessor}
 use Rattle.plane.specs.Conflict.{IsClearOf}
-use Rattle.plane.specs.Edge.{Edge, IsRising, ends_at, other_end, reversed, same_edge, segment_of}
+use Rattle.plane.specs.Edge.{Edge, IsRisingEdge, ends_at, other_end, reversed, same_edge, segment_of}
 use Rattle.plane.specs.Order.{order}
 use Rattle.plane.specs.Sector.{in_sector, sector_by}
 use Rattle.plane.specs.Sign.{Null, Plus, Sign, is_null, is_plus, negated, sign}
-use Rattle.plane.specs.Vector.{IsDirection, Vector, cross, dot, from_to, one_at, same_point}
+use Rattle.plane.specs.Vector.{IsNonZero, Vector, cross, dot, from_to, one_at, same_point}
 use Rattle.winding.specs.ConflictFree.{IsConflictFree, others}
 use Rattle.winding.specs.EdgeList.{IsEvenAtPoints}
 use Rattle.lists.specs.Member.{In}
@@ -25,17 +25,17 @@ use Rattle.winding.proofs.WindingKit.{leaves, no-loop, out_count, way, way-direc
 abbrev pub is_some : Sign → Sign → Bool
 is_some x y = agree (times x x) (times y y) Plus
 
-pub some-signs : (a b : Vector) → IsDirection a → IsDirection b → is_some (sign (dot a b)) (sign (cross a b)) ≡ true
+pub some-signs : (a b : Vector) → IsNonZero a → IsNonZero b → is_some (sign (dot a b)) (sign (cross a b)) ≡ true
 some-signs a b pa pb = subst (λ n. agree (times (sign (dot a b)) (sign (dot a b))) (times (sign (cross a b)) (sign (cross a b))) (times Plus n) ≡ true) pb (frame-dot-agree a b b pa)
 
 -- the sector holds its last direction
-pub sector-own : (a b : Vector) → IsDirection a → IsDirection b → in_sector a b b ≡ 1
+pub sector-own : (a b : Vector) → IsNonZero a → IsNonZero b → in_sector a b b ≡ 1
 sector-own a b pa pb =
     let c = all2-out (λ x y. imp (is_some x y) λ _. eqb (sector_by x y x y Null) 1) refl (sign (dot a b)) (sign (cross a b)) in
     ap (λ z. sector_by (sign (dot a b)) (sign (cross a b)) (sign (dot a b)) (sign (cross a b)) (sign z)) (cross-self b) ∙ eqb-true _ _ (imp-out _ _ c (some-signs a b pa pb))
 
 -- and not its first
-pub sector-first : (a b : Vector) → IsDirection a → IsDirection b → not (is_null (sign (cross a b)) && is_plus (sign (dot a b))) ≡ true → in_sector a b a ≡ 0
+pub sector-first : (a b : Vector) → IsNonZero a → IsNonZero b → not (is_null (sign (cross a b)) && is_plus (sign (dot a b))) ≡ true → in_sector a b a ≡ 0
 sector-first a b pa pb n =
     let c = all2-out (λ t k. imp (is_some t k) λ _. imp (not (is_null k && is_plus t)) λ _. eqb (sector_by Plus Null t k (negated k)) 0) refl (sign (dot a b)) (sign (cross a b)) in
     let t = sign (dot a b) in let k = sign (cross a b) in
@@ -43,7 +43,7 @@ sector-first a b pa pb n =
     ∙ ap (λ s. sector_by Plus Null t k s) (cross-negated a b) ∙ eqb-true _ _ (imp-out _ _ (imp-out _ _ c (some-signs a b pa pb)) n)
 
 -- of two directions one comes first
-pub sector-either : (a b c : Vector) → IsDirection a → IsDirection b → IsDirection c → in_sector a b c ≡ 0 → in_sector a c b ≡ 1
+pub sector-either : (a b c : Vector) → IsNonZero a → IsNonZero b → IsNonZero c → in_sector a b c ≡ 0 → in_sector a c b ≡ 1
 sector-either a b c pa pb pc h =
     let s = sign (dot a c) in let p = sign (cross a c) in let t = sign (dot a b) in let q = sign (cross a b) in let e = sign (cross b c) in
     let g = all-out (λ e. imp (is_some s p) λ _. imp (is_some t q) λ _. imp (eqb (sector_by s p t q e) 0) λ _. eqb (sector_by t q s p (negated e)) 1)
@@ -61,21 +61,21 @@ segment-back v g h = segment-back-by v (is_plus (order g.from g.to)) g h
 pub segment-ends : (v : Vector) (g : Edge) → ends_at v g ≡ true → ends_at v (segment_of g) ≡ true
 segment-ends v g h = segment-ends-by v (is_plus (order g.from g.to)) g h
 
-loop-by : (v : Vector) (b : Bool) (g : Edge) → same_point v g.from ≡ true → same_point v g.to ≡ true → IsRising (cond b g (reversed g)) → ⊥
+loop-by : (v : Vector) (b : Bool) (g : Edge) → same_point v g.from ≡ true → same_point v g.to ≡ true → IsRisingEdge (cond b g (reversed g)) → ⊥
 loop-by v true g h k r = no-loop v g h k r
 loop-by v false g h k r = no-loop v (reversed g) k h r
 
-pub no-loop-segments : (v : Vector) (g : Edge) → same_point v g.from ≡ true → same_point v g.to ≡ true → IsRising (segment_of g) → ⊥
+pub no-loop-segments : (v : Vector) (g : Edge) → same_point v g.from ≡ true → same_point v g.to ≡ true → IsRisingEdge (segment_of g) → ⊥
 no-loop-segments v g h k r = loop-by v (is_plus (order g.from g.to)) g h k r
 
-other-by : (v : Vector) (b p q : Bool) (g : Edge) → same_point v g.from ≡ p → same_point v g.to ≡ q → (p || q) ≡ true → IsRising (cond b g (reversed g)) → other_end v (cond b g (reversed g)) ≡ cond p g.to g.from
+other-by : (v : Vector) (b p q : Bool) (g : Edge) → same_point v g.from ≡ p → same_point v g.to ≡ q → (p || q) ≡ true → IsRisingEdge (cond b g (reversed g)) → other_end v (cond b g (reversed g)) ≡ cond p g.to g.from
 other-by v true p q g h k o r = ap (λ z. cond z g.to g.from) h
 other-by v false true true g h k o r = absurd (loop-by v false g h k r)
 other-by v false true false g h k o r = ap (λ z. cond z g.from g.to) k
 other-by v false false true g h k o r = ap (λ z. cond z g.from g.to) k
 other-by v false false false g h k o r = absurd (cc o)
 
-pub way-segment : (v : Vector) (g : Edge) → ends_at v g ≡ true → IsRising (segment_of g) → way v (segment_of g) ≡ from_to v (other_end v g)
+pub way-segment : (v : Vector) (g : Edge) → ends_at v g ≡ true → IsRisingEdge (segment_of g) → way v (segment_of g) ≡ from_to v (other_end v g)
 way-segment v g h r = ap (λ w. from_to v w) (other-by v (is_plus (order g.from g.to)) (same_point v g.from) (same_point v g.to) g refl refl h r)
 
 differ-by : (e g : Edge) (P : Edge → Edge) → same_edge e g ≡ false → (P e ≡ P g → e ≡ g) → (b : Bool) → same_edge (P e) (P g) ≡ b → b ≡ false
@@ -99,7 +99,7 @@ not-member e g rs n i false h = refl
 not-member e g rs n i true h = absurd (n (subst (λ w. In w rs) (sym (same_edge-true e g h)) i))
 
 module _ (es : List Edge) (sd : IsSided es) where
-  pub rise : (g : Edge) → In g es → IsRising (segment_of g)
+  pub rise : (g : Edge) → In g es → IsRisingEdge (segment_of g)
   rise = segment-rises es sd.plain
 
   pub up-even : IsEvenAtPoints (segments_of es)
@@ -128,10 +128,10 @@ module _ (es : List Edge) (sd : IsSided es) where
     abbrev wf : Vector
     wf = way v (segment_of f)
 
-    pub e-way : IsDirection we
+    pub e-way : IsNonZero we
     e-way = way-direction v (segment_of e) (segment-ends v e h) (rise e i)
 
-    pub f-way : IsDirection wf
+    pub f-way : IsNonZero wf
     f-way = way-direction v (segment_of f) (segment-ends v f n.meets) (rise f n.member)
 
     first-out : in_sector wf we wf ≡ 0

@@ -6,7 +6,7 @@ use Rattle.plane.specs.Bit.{bit}
 use Rattle.plane.specs.Edge.{Edge, ends_at, other_end, same_edge, segment_of}
 use Rattle.plane.specs.Sector.{in_sector, sector_by}
 use Rattle.plane.specs.Sign.{Sign, is_null, is_plus, negated, sign, then_sign}
-use Rattle.plane.specs.Vector.{IsDirection, Vector, cross, dot, from_to}
+use Rattle.plane.specs.Vector.{IsNonZero, Vector, cross, dot, from_to}
 use Rattle.winding.specs.ConflictFree.{others}
 use Rattle.lists.specs.Member.{In}
 use Rattle.winding.specs.Node.{spokes}
@@ -26,19 +26,19 @@ abbrev pub apart : Vector → Vector → Bool
 apart a b = not (is_null (sign (cross a b)) && is_plus (sign (dot a b)))
 
 -- ---- seen from any direction d
-set-at : (d a : Vector) → IsDirection d → IsDirection a → not (is_null (then_sign (sign (cross d a)) (sign (dot d a)))) ≡ true
+set-at : (d a : Vector) → IsNonZero d → IsNonZero a → not (is_null (then_sign (sign (cross d a)) (sign (dot d a)))) ≡ true
 set-at d a pd pa = imp-out _ _ (all2-out (λ x y. imp (is_some x y) λ _. not (is_null (then_sign y x))) refl (sign (dot d a)) (sign (cross d a))) (some-signs d a pd pa)
 
 pub one-eqb : (n : ℕ) → n ≡ 1 → eqb n 1 ≡ true
 one-eqb n h = ap (λ n. eqb n 1) h
 
-pub sector-chain : (d a b c : Vector) → IsDirection d → IsDirection b → in_sector d a b ≡ 1 → in_sector d b c ≡ 1 → in_sector d a c ≡ 1
+pub sector-chain : (d a b c : Vector) → IsNonZero d → IsNonZero b → in_sector d a b ≡ 1 → in_sector d b c ≡ 1 → in_sector d a c ≡ 1
 sector-chain d a b c pd pb h g =
     eqb-true _ _ (chain_signs (sign (dot d a)) (sign (cross d a)) (sign (dot d b)) (sign (cross d b)) (sign (dot d c)) (sign (cross d c)) (sign (cross a b)) (sign (cross b c)) (sign (cross a c))
     (crossed-at d a b pd) (crossed-at d b c pd) (crossed-at d a c pd) (plucker-agree d a b c) (plucker-dot-agree d a b c) (set-at d b pd pb) (one-eqb _ h) (one-eqb _ g))
 
 -- of two directions apart exactly one comes first
-pub sector-one : (d a b : Vector) → IsDirection d → IsDirection a → IsDirection b → apart a b ≡ true → eqb (in_sector d a b) 1 ≡ not (eqb (in_sector d b a) 1)
+pub sector-one : (d a b : Vector) → IsNonZero d → IsNonZero a → IsNonZero b → apart a b ≡ true → eqb (in_sector d a b) 1 ≡ not (eqb (in_sector d b a) 1)
 sector-one d a b pd pa pb n =
     let c = all2-out (either_2 (sign (dot d a)) (sign (cross d a)) (sign (dot d b)) (sign (cross d b))) (all4-out (λ ax ay bx by. all2 (either_2 ax ay bx by)) either_computes (sign (dot d a)) (sign (cross d a)) (sign (dot d b)) (sign (cross d b))) (sign (cross a b)) (sign (dot a b)) in
     let e = same_bool-true _ _ (imp-out _ _ (imp-out _ _ (imp-out _ _ (imp-out _ _ (imp-out _ _ c (crossed-at d a b pd)) (dot-at d a b pd)) n) (set-at d a pd pa)) (set-at d b pd pb)) in
@@ -55,7 +55,7 @@ rest_computes : all4 (λ x y t q. all2 (rest_2 x y t q)) ≡ true
 rest_computes = refl
 
 -- the rest of the turn
-pub sector-rest : (d m y : Vector) → IsDirection d → IsDirection m → IsDirection y → apart d m ≡ true → in_sector d m y + in_sector m d y ≡ 1
+pub sector-rest : (d m y : Vector) → IsNonZero d → IsNonZero m → IsNonZero y → apart d m ≡ true → in_sector d m y + in_sector m d y ≡ 1
 sector-rest d m y pd pm py n =
     let x1 = sign (dot d y) in let y1 = sign (cross d y) in let t = sign (dot d m) in let q = sign (cross d m) in let e = sign (cross m y) in let g = sign (dot m y) in
     let c = all2-out (rest_2 x1 y1 t q) (all4-out (λ x y t q. all2 (rest_2 x y t q)) rest_computes x1 y1 t q) e g in
@@ -80,7 +80,7 @@ module _ (es : List Edge) (sd : IsSided es) (v : Vector) where
   abbrev w : Edge → Vector
   w g = way v (segment_of g)
 
-  w-way : (g : Edge) → In g es → ends_at v g ≡ true → IsDirection (w g)
+  w-way : (g : Edge) → In g es → ends_at v g ≡ true → IsNonZero (w g)
   w-way g i h = way-direction v (segment_of g) (segment-ends v g h) (rise es sd g i)
 
   w-apart : (f g : Edge) → In f es → In g es → ends_at v f ≡ true → ends_at v g ≡ true → same_edge f g ≡ false → apart (w f) (w g) ≡ true
@@ -118,7 +118,7 @@ module _ (es : List Edge) (sd : IsSided es) (v : Vector) where
     rest-is : (g : Edge) → In g rest → (ends_at v g ≡ true) × (not (same_edge e g) ≡ true)
     rest-is g j = and_parts (ends_at v g) (not (same_edge e g)) (in-passes is_other es g j)
 
-    rest-way : (g : Edge) → In g rest → IsDirection (w g)
+    rest-way : (g : Edge) → In g rest → IsNonZero (w g)
     rest-way g j = w-way g (rest-in g j) (rest-is g j).0
 
     behind : (x y : Edge) → In x rest → In y rest → ahead_of x y ≡ true → in_sector (w e) (w x) (w y) ≡ 1

@@ -3,7 +3,7 @@ use Rattle.std.proofs.Common.{Bool, List, [], ap, arith, cond, false, inl, inr, 
 use Rattle.nesting.specs.Cover.{AreClear, covers, covers_edge}
 use Rattle.plane.specs.Bit.{bit}
 use Rattle.plane.specs.Conflict.{IsClearOf}
-use Rattle.plane.specs.Edge.{Edge, IsRising, same_edge}
+use Rattle.plane.specs.Edge.{Edge, IsRisingEdge, same_edge}
 use Rattle.plane.specs.Height.{is_in_span, is_left_of}
 use Rattle.plane.specs.Vector.{Vector, east, from_to}
 use Rattle.winding.specs.ConflictFree.{IsConflictFree}
@@ -19,7 +19,7 @@ use Rattle.winding.proofs.WindingKit.{all-right, anchor_right, some-anchor, west
 
 pub plain-append : (cs bs : List Edge) → IsConflictFree cs → IsConflictFree bs → AreClear cs bs → IsConflictFree (cs ++ bs)
 plain-append cs bs p q c = record {
-  rising = all-in IsRising (cs ++ bs) (λ t i. all-either IsRising cs bs t (λ y j. rising_in cs y p j) (λ y j. rising_in bs y q j) (in-either cs bs t i));
+  rising = all-in IsRisingEdge (cs ++ bs) (λ t i. all-either IsRisingEdge cs bs t (λ y j. rising_in cs y p j) (λ y j. rising_in bs y q j) (in-either cs bs t i));
   clear = pairs-append IsClearOf cs bs p.clear q.clear c;
 }
 
@@ -65,7 +65,7 @@ past-bit true r h = ap bit (h refl)
 past-bit false r h = refl
 
 -- where all edges of the list right of p are right of t too
-pub covers_first : (p : Vector) (t : Edge) (es : List Edge) → IsRising t → IsConflictFree es → IsEvenAtPoints es → IsClearOfAll t es → is_left_of p t ≡ true →
+pub covers_first : (p : Vector) (t : Edge) (es : List Edge) → IsRisingEdge t → IsConflictFree es → IsEvenAtPoints es → IsClearOfAll t es → is_left_of p t ≡ true →
     ((f : Edge) → In f es → is_left_of p f ≡ true → right_of p t f ≡ true) → covers es p ≡ covers_edge es t
 covers_first p t es rt pl even c l h =
     let a = total-same (λ f. cond (is_left_of p f) (bit (right_of p t f)) 0) (to_right p t) es (λ f j. kept-by (is_left_of p f) (is_in_span p f) (right_of p t f) (left-span p f) (λ s r. right_left p t f l s r)) in
@@ -73,10 +73,10 @@ covers_first p t es rt pl even c l h =
     let e : crossing_count east p es ≡ total (to_right p t) es = covers-crossings p es pl ∙ sym b ∙ a in
     ap (λ n. not (is_even n)) e ∙ ap not (beside p t es rt pl even c (left-span p t l)) ∙ not-not (covers_edge es t)
 
-pub differ-lists : (s t : Edge) → IsRising s → IsClearOf s t → t ≡ s → ⊥
+pub differ-lists : (s t : Edge) → IsRisingEdge s → IsClearOf s t → t ≡ s → ⊥
 differ-lists s t r c e = let d = clear_differs s t r c in let g = ap (λ w. same_edge s w) e in cc (sym (same_edge-refl s) ∙ sym g ∙ d)
 
-pub first-right : (p : Vector) (m f : Edge) → IsRising m → IsClearOf m f → (f ≡ m) ⊎ (right_of p m f ≡ true) → right_of p m f ≡ true
+pub first-right : (p : Vector) (m f : Edge) → IsRisingEdge m → IsClearOf m f → (f ≡ m) ⊎ (right_of p m f ≡ true) → right_of p m f ≡ true
 first-right p m f r c (inl e) = absurd (differ-lists m f r c e)
 first-right p m f r c (inr h) = h
 

@@ -3,7 +3,7 @@ use Rattle.std.proofs.Common.{Bool, List, [], ap, arith, cond, false, inl, inr, 
 use borrow.Author.Differences.{ints}
 use lib.IntN.{pos, ◌-ℤ◌}
 use Rattle.nesting.specs.Cover.{covers}
-use Rattle.nesting.specs.Nesting.{TellsOuter, edges_of}
+use Rattle.nesting.specs.Nesting.{TellsOuterRings, edges_of}
 use Rattle.nesting.specs.RingList.{IsRingList}
 use Rattle.plane.specs.Bit.{bit}
 use Rattle.plane.specs.Edge.{Edge, segment_of}
@@ -37,7 +37,7 @@ area-sum U D c r0 inner o h le =
     let x = bit (c r0) in let y = total (λ r. bit (c r)) inner in
     (x - y, omega arith, omega arith)
 
-module _ (rs : List (List Edge)) (l : IsRingList rs) (outer : List Edge → Bool) (tells : TellsOuter (map segments_of rs) outer) (anchors : HasAnchors (map segments_of rs)) (p : Vector) where
+module _ (rs : List (List Edge)) (l : IsRingList rs) (outer : List Edge → Bool) (tells : TellsOuterRings (map segments_of rs) outer) (anchors : HasAnchors (map segments_of rs)) (p : Vector) where
   abbrev pub ups' : List Edge → ℕ
   ups' r = total (up_seen east (from_to p)) r
 

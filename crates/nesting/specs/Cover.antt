@@ -28,7 +28,7 @@ abbrev pub AreClear : List Edge → List Edge → Type 0
 AreClear ss es = (s t : Edge) → In s ss → In t es → IsClearOf s t
 
 -- two conflict-free lists that are clear of each other, each even at points
-pub record AreConflictFree (ss es : List Edge) : Type 0 where
+pub record AreClearTogether (ss es : List Edge) : Type 0 where
   pub plain_s : IsConflictFree ss
   pub plain : IsConflictFree es
   pub even_s : IsEvenAtPoints ss

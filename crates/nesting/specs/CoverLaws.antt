@@ -1,6 +1,6 @@
 -- Lists that do not cross, as statements.
 use Rattle.std.specs.Prelude.{List, false, true, ◌≡◌}
-use Rattle.nesting.specs.Cover.{AreClear, AreConflictFree, DoNotCross, covers, covers_edge}
+use Rattle.nesting.specs.Cover.{AreClear, AreClearTogether, DoNotCross, covers, covers_edge}
 use Rattle.plane.specs.Edge.{Edge}
 use Rattle.plane.specs.Vector.{Vector}
 use Rattle.winding.specs.ConflictFree.{IsConflictFree}
@@ -18,13 +18,13 @@ CoverIsOneAlongRing =
 -- of two lists not each covers all edges of the other
 abbrev pub NotEachCoversOther : Type 0
 NotEachCoversOther =
-    (ss es : List Edge) → AreConflictFree ss es → (x : Edge) → In x ss →
+    (ss es : List Edge) → AreClearTogether ss es → (x : Edge) → In x ss →
     ((s : Edge) → In s ss → covers_edge es s ≡ true) → ((t : Edge) → In t es → covers_edge ss t ≡ true) → ⊥
 
 -- a list that covers all edges of another one covers what the other covers
 abbrev pub CoverOfEdgesIsCover : Type 0
 CoverOfEdgesIsCover =
-    (ss es : List Edge) → AreConflictFree ss es → (p : Vector) →
+    (ss es : List Edge) → AreClearTogether ss es → (p : Vector) →
     ((s : Edge) → In s ss → covers_edge es s ≡ true) →
     ((s t : Edge) → In s es → In t es → covers_edge ss s ≡ covers_edge ss t) → covers ss p ≡ true →
     covers es p ≡ true
@@ -32,6 +32,6 @@ CoverOfEdgesIsCover =
 -- two lists neither of which covers an edge of the other cover no point in common
 abbrev pub ApartCoverNothingInCommon : Type 0
 ApartCoverNothingInCommon =
-    (ss es : List Edge) → AreConflictFree ss es → (p : Vector) →
+    (ss es : List Edge) → AreClearTogether ss es → (p : Vector) →
     ((s : Edge) → In s ss → covers_edge es s ≡ false) → ((t : Edge) → In t es → covers_edge ss t ≡ false) →
     covers ss p ≡ true → covers es p ≡ true → ⊥

@@ -8,7 +8,7 @@ use Rattle.plane.specs.Sign.{is_plus}
 use Rattle.winding.specs.ConflictFree.{IsConflictFree}
 use Rattle.winding.specs.EdgeList.{IsEvenAtPoints}
 use Rattle.lists.specs.Member.{In}
-use Rattle.winding.specs.OddSide.{runs_up}
+use Rattle.winding.specs.OddSide.{runs_up_by_odd_side}
 use Rattle.winding.specs.Ring.{IsAnchor}
 
 -- all edges of the rings
@@ -36,11 +36,11 @@ pub record IsNest (gs : List (List Edge)) : Type 0 where
 
 -- the ring with the anchor s is outer: the odd side directs s down
 abbrev pub is_outer : List (List Edge) → Edge → Bool
-is_outer gs s = not (runs_up (edges_of gs) s)
+is_outer gs s = not (runs_up_by_odd_side (edges_of gs) s)
 
 -- a test that tells the outer rings from the inner ones
-abbrev pub TellsOuter : List (List Edge) → (List Edge → Bool) → Type 0
-TellsOuter gs outer = (g : List Edge) → In g gs → (a : Edge) → IsAnchor a g → outer g ≡ is_outer gs a
+abbrev pub TellsOuterRings : List (List Edge) → (List Edge → Bool) → Type 0
+TellsOuterRings gs outer = (g : List Edge) → In g gs → (a : Edge) → IsAnchor a g → outer g ≡ is_outer gs a
 
 pub record IsOuterRing (gs : List (List Edge)) (g : List Edge) : Type 0 where
   pub anchor : Edge

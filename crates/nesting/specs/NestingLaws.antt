@@ -1,7 +1,7 @@
 -- Outer and inner rings, and which ring encloses which, as statements.
 use Rattle.std.specs.Prelude.{Bool, List, false, map, not, ◌&&◌, ◌+◌, ◌≡◌}
 use Rattle.std.specs.List.{count_by}
-use Rattle.nesting.specs.Nesting.{EnclosesDirectly, IsInnerRing, IsNest, IsNextLeft, IsOuterRing, TellsOuter, depth, edges_of, encloses, has_edge, is_outer}
+use Rattle.nesting.specs.Nesting.{EnclosesDirectly, IsInnerRing, IsNest, IsNextLeft, IsOuterRing, TellsOuterRings, depth, edges_of, encloses, has_edge, is_outer}
 use Rattle.nesting.specs.RingList.{IsRingList}
 use Rattle.plane.specs.Bit.{bit}
 use Rattle.plane.specs.Edge.{Edge, is_rising, segment_of}
@@ -42,7 +42,7 @@ EnclosesByAnchor =
 abbrev pub EnclosingRingsBalance : Type 0
 EnclosingRingsBalance =
     (rs : List (List Edge)) → IsRingList rs → (outer : List Edge → Bool) →
-    TellsOuter (map segments_of rs) outer → (h : List Edge) → In h rs → (e : Edge) →
+    TellsOuterRings (map segments_of rs) outer → (h : List Edge) → In h rs → (e : Edge) →
     IsAnchor e (segments_of h) →
     count_by (λ (g : List Edge). encloses g e && outer g) (map segments_of rs)
     ≡ count_by (λ (g : List Edge). encloses g e && not (outer g)) (map segments_of rs) + bit (not (outer (segments_of h)))

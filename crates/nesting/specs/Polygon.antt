@@ -23,6 +23,6 @@ pub record IsPolygon (rs : List (List Edge)) (g : Polygon) : Type 0 where
   pub once : EachPair (λ (h k : List Edge). h ≡ k → ⊥) g.inner
 
 -- polygons that together have each edge of the ring list once
-pub record ArePolygons (rs : List (List Edge)) (gs : List Polygon) : Type 0 where
+pub record ArePolygonsOfRings (rs : List (List Edge)) (gs : List Polygon) : Type 0 where
   pub each : (g : Polygon) → In g gs → IsPolygon rs g
   pub whole : HasSameEdges (edges_of (map polygon_edges gs)) (edges_of rs)

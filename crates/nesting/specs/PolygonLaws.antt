@@ -4,7 +4,7 @@ use Rattle.std.specs.List.{count_by}
 use lib.IntN.{pos, ℤ}
 use Rattle.nesting.specs.Cover.{covers}
 use Rattle.nesting.specs.Nesting.{edges_of}
-use Rattle.nesting.specs.Polygon.{ArePolygons, IsPolygon, Polygon, polygon_edges}
+use Rattle.nesting.specs.Polygon.{ArePolygonsOfRings, IsPolygon, Polygon, polygon_edges}
 use Rattle.nesting.specs.RingList.{IsRingList, scaled_rings}
 use Rattle.plane.specs.Bit.{bit}
 use Rattle.plane.specs.Edge.{Edge}
@@ -30,14 +30,14 @@ PolygonWindsByCoverAtFractions =
 -- exactly one of the polygons covers a point that the ring list covers, and none any other point
 abbrev pub PolygonsCoverAsRingList : Type 0
 PolygonsCoverAsRingList =
-    (rs : List (List Edge)) → IsRingList rs → (gs : List Polygon) → ArePolygons rs gs → (p : Vector) →
+    (rs : List (List Edge)) → IsRingList rs → (gs : List Polygon) → ArePolygonsOfRings rs gs → (p : Vector) →
     count_by (λ (g : Polygon). covers (polygon_edges g) p) gs ≡ bit (covers (edges_of rs) p)
 
 -- the same at the point p.x / k, p.y / k
 abbrev pub PolygonsCoverAsRingListAtFractions : Type 0
 PolygonsCoverAsRingListAtFractions =
     (k : ℤ) → sign k ≡ Plus → (rs : List (List Edge)) → IsRingList rs → (gs : List Polygon) →
-    ArePolygons rs gs → (p : Vector) →
+    ArePolygonsOfRings rs gs → (p : Vector) →
     count_by (λ (g : Polygon). covers (scaled_edges k (polygon_edges g)) p) gs ≡ bit (covers (scaled_edges k (edges_of rs)) p)
 
 -- a multiplied ring list is a ring list
@@ -52,4 +52,4 @@ PolygonIsSided =
 
 -- every ring list has its polygons
 abbrev pub PolygonsExist : Type 0
-PolygonsExist = (rs : List (List Edge)) → IsRingList rs → (gs : List Polygon) × ArePolygons rs gs
+PolygonsExist = (rs : List (List Edge)) → IsRingList rs → (gs : List Polygon) × ArePolygonsOfRings rs gs

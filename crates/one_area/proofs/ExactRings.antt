@@ -9,7 +9,7 @@ use Rattle.osm_geom.specs.declared.edge.Edge.{Edge}
 use Rattle.osm_rings.specs.RingList.{AreRingsOf}
 use Rattle.lists.specs.Rotated.{IsRotated}
 use Rattle.osm_rings.proofs.UncrossedRings.{Within, held-within, in_plane, plane-list}
-use Rattle.plane_edges.specs.Multiple.{common_den, edge_times, edges_times, whole_edges}
+use Rattle.plane_edges.specs.Multiple.{edge_times, edges_times, product_of_denominators, whole_edges}
 use Rattle.plane_edges.specs.Sided.{IsSided}
 use Rattle.std.proofs.lemmas.List.{map-append}
 
@@ -22,7 +22,7 @@ map-split f (x ∷ xs) (y ∷ a) b h =
 
 module _ (es : List Edge) (sd : IsSided es) where
   abbrev K : ℕ
-  K = common_den es
+  K = product_of_denominators es
 
   -- the plane tells the edges of the list apart
   apart-by : (e f : Edge) → edge_times K e ≡ edge_times K f → (e ≡ f) ⊎ ((edge_times K e ≡ edge_times K f → ⊥) ⊎ (edge_times K f ≡ edge_times K e → ⊥)) → e ≡ f

@@ -20,13 +20,13 @@ use Rattle.osm_geom.specs.declared.edge.Edge.{Edge}
 use Rattle.osm_geom.specs.Point.{point_cmp}
 use Rattle.osm_geom.proofs.GeometryKit.{point_total}
 use Rattle.osm_nest.specs.declared.polygon.Polygon.{Polygon}
-use Rattle.osm_nest.specs.Nested.{AreFromLeast, AreNested, ArePolygonsFromLeast, IsBefore, IsFromLeast, IsPolygonFromLeast, edge_cmp}
+use Rattle.osm_nest.specs.Nested.{AreFromLeast, AreNested, ArePolygonsFromLeast, BeginsBefore, IsFromLeast, IsPolygonFromLeast, edge_cmp}
 use Rattle.osm_nest.specs.Polygons.{polygon_times, rings_of}
 use Rattle.osm_nest.specs.RingLists.{all_edges}
 use Rattle.osm_rings.specs.RingList.{AreRingsOf}
 use Rattle.lists.specs.Rotated.{IsRotated}
 use Rattle.osm_rings.proofs.UncrossedRings.{held-within, rings-do-not-cross}
-use Rattle.plane_edges.specs.Multiple.{common_den, edge_times, edges_times}
+use Rattle.plane_edges.specs.Multiple.{edge_times, edges_times, product_of_denominators}
 use Rattle.plane_edges.specs.Sided.{IsSided}
 use Rattle.one_area.proofs.BegunOnce.{LeavesOnce, begun-one, leaves-once}
 use Rattle.osm_nest.proofs.NestKit.{begun-from, polygon-was}
@@ -68,10 +68,10 @@ polygon-is (Q ∷ ps) bs k P (inr i) = let a = polygon-is ps k.1 k.4 P i in (a.0
 
 module _ (es : List Edge) (sd : IsSided es) (rs : List (List Edge)) (a : AreRingsOf es rs) where
   abbrev E : List Edge → List plane.Edge
-  E r = edges_times (common_den es) r
+  E r = edges_times (product_of_denominators es) r
 
   abbrev R : List (List plane.Edge)
-  R = map (edges_times (common_den es)) rs
+  R = map (edges_times (product_of_denominators es)) rs
 
   abbrev pub Outer : List Edge → Type 0
   Outer r = IsOuterRing (map segments_of R) (segments_of (E r))
@@ -84,17 +84,17 @@ module _ (es : List Edge) (sd : IsSided es) (rs : List (List Edge)) (a : AreRing
 
   pub not-both : (r : List Edge) → In r rs → Outer r → Inner r → ⊥
   not-both r i o n =
-      let j = in-map segments_of R (E r) (in-map (edges_times (common_den es)) rs r i) in
+      let j = in-map segments_of R (E r) (in-map (edges_times (product_of_denominators es)) rs r i) in
       cc (sym (outer-out R (rings-do-not-cross es sd rs a) (segments_of (E r)) j o) ∙ inner-out R (rings-do-not-cross es sd rs a) (segments_of (E r)) j n)
 
   module _ (m : List Polygon) (n : AreNested rs m) where
     abbrev ps : List Polygon
     ps = n.polygons
 
-    is-polygon : (P : Polygon) → In P ps → IsPolygon R (polygon_times (common_den es) P)
+    is-polygon : (P : Polygon) → In P ps → IsPolygon R (polygon_times (product_of_denominators es) P)
     is-polygon P i =
         subst (λ k. IsPolygon (map (edges_times k) rs) (polygon_times k P)) (sym (same-common es rs a))
-        (in-all (λ polygon. IsPolygon (map (edges_times (common_den (all_edges rs))) rs) (polygon_times (common_den (all_edges rs)) polygon)) ps P n.of_rings.each i)
+        (in-all (λ polygon. IsPolygon (map (edges_times (product_of_denominators (all_edges rs))) rs) (polygon_times (product_of_denominators (all_edges rs)) polygon)) ps P n.of_rings.each i)
 
     sums : (f : List Edge → ℕ) → total f (rings_of ps) ≡ total f rs
     sums f = total-is f (rings_of ps) ∙ n.of_rings.once f ∙ sym (total-is f rs)
@@ -106,7 +106,7 @@ module _ (es : List Edge) (sd : IsSided es) (rs : List (List Edge)) (a : AreRing
     of-polygon x i = of-rings ps x (sum-in (same_list same_exact) (list-out same_exact exact-out exact-own) (list-own same_exact exact-out exact-own) rs (rings_of ps) (λ f. sym (sums f)) x i)
 
     inner-is : (P : Polygon) → In P ps → (h : List Edge) → In h P.inners → Inner h
-    inner-is P i h j = (is-polygon P i).are_inner_rings (E h) (in-map (edges_times (common_den es)) P.inners h j)
+    inner-is P i h j = (is-polygon P i).are_inner_rings (E h) (in-map (edges_times (product_of_denominators es)) P.inners h j)
 
     -- where a polygon comes from
     pub record Comes (p : Polygon) : Type 0 where
@@ -127,7 +127,7 @@ module _ (es : List Edge) (sd : IsSided es) (rs : List (List Edge)) (a : AreRing
           outer = g.is_outer_ring;
           inners = λ x j.
               let h = begun-from P.inners p.inners s.2.inners x j in
-              (h.0, ring-of P h.0 s.1 (inr h.1), h.2, inner-is P s.1 h.0 h.1, g.enclosed (E h.0) (in-map (edges_times (common_den es)) P.inners h.0 h.1));
+              (h.0, ring-of P h.0 s.1 (inr h.1), h.2, inner-is P s.1 h.0 h.1, g.enclosed (E h.0) (in-map (edges_times (product_of_denominators es)) P.inners h.0 h.1));
         }
 
     outer-by : (r : List Edge) → In r rs → Outer r → (P : Polygon) → In P ps → (r ≡ P.outer) ⊎ In r P.inners → (p : Polygon) × In p m × IsFromLeast r p.outer
@@ -161,7 +161,7 @@ edge-back e f Equal Less h k l r =
 edge-back e f Equal Equal h k l r = cc (sym l ∙ ap (λ o. ordering_then o (point_cmp e.to f.to)) h ∙ k)
 edge-back e f Equal Greater h k l r = cc (sym l ∙ ap (λ o. ordering_then o (point_cmp e.to f.to)) h ∙ k)
 
-before-apart : (r s : List Edge) → Edge → IsBefore r s → IsBefore s r → ⊥
+before-apart : (r s : List Edge) → Edge → BeginsBefore r s → BeginsBefore s r → ⊥
 before-apart r s d h k =
     let e = get_or r 0 d in let f = get_or s 0 d in
     edge-back e f (point_cmp e.from f.from) (point_cmp e.to f.to) refl refl (h d) (k d)
@@ -171,20 +171,20 @@ first-of [] h = absurd (omega arith)
 first-of (e ∷ es) h = (e, inl refl)
 
 module _ (es : List Edge) (sd : IsSided es) (qs : List (List Edge)) (b : AreRingsOf es qs) where
-  uncrossed : IsRingList (map (edges_times (common_den es)) qs)
+  uncrossed : IsRingList (map (edges_times (product_of_denominators es)) qs)
   uncrossed = rings-do-not-cross es sd qs b
 
   some-edge : (r : List Edge) → In r qs → (e : Edge) × In e r
   some-edge r i = first-of r (b.ring r i).long
 
-  once-in : (r : List Edge) → In r qs → LeavesOnce (common_den es) r
-  once-in r i = leaves-once (common_den es) r (uncrossed.ring (edges_times (common_den es) r) (in-map (edges_times (common_den es)) qs r i))
+  once-in : (r : List Edge) → In r qs → LeavesOnce (product_of_denominators es) r
+  once-in r i = leaves-once (product_of_denominators es) r (uncrossed.ring (edges_times (product_of_denominators es) r) (in-map (edges_times (product_of_denominators es)) qs r i))
 
   shared-by : (r s : List Edge) → In r qs → In s qs → (e : Edge) → In e r → In e s →
-      (edges_times (common_den es) r ≡ edges_times (common_den es) s) ⊎ (AreClear (segments_of (edges_times (common_den es) r)) (segments_of (edges_times (common_den es) s))) → r ≡ s
+      (edges_times (product_of_denominators es) r ≡ edges_times (product_of_denominators es) s) ⊎ (AreClear (segments_of (edges_times (product_of_denominators es) r)) (segments_of (edges_times (product_of_denominators es) s))) → r ≡ s
   shared-by r s i j e ei ej (inl q) = one-list es sd r s (held-within es qs b.edges r i) (held-within es qs b.edges s j) q
   shared-by r s i j e ei ej (inr c) =
-      let k = common_den es in let t = segment_of (edge_times k e) in
+      let k = product_of_denominators es in let t = segment_of (edge_times k e) in
       let it = in-map segment_of (edges_times k r) (edge_times k e) (in-map (edge_times k) r e ei) in
       let jt = in-map segment_of (edges_times k s) (edge_times k e) (in-map (edge_times k) s e ej) in
       let p = ring-plain (map (edges_times k) qs) uncrossed (edges_times k r) (in-map (edges_times k) qs r i) in
@@ -194,13 +194,13 @@ module _ (es : List Edge) (sd : IsSided es) (qs : List (List Edge)) (b : AreRing
   shared : (r s x : List Edge) → In r qs → In s qs → IsFromLeast r x → IsFromLeast s x → r ≡ s
   shared r s x i j m n =
       let e = some-edge r i in
-      let k = common_den es in
+      let k = product_of_denominators es in
       shared-by r s i j e.0 e.1 (rotated-in s x n.turned e.0 (in-rotated r x m.turned e.0 e.1))
       (same_or_clear (map (edges_times k) qs) uncrossed (edges_times k r) (edges_times k s) (in-map (edges_times k) qs r i) (in-map (edges_times k) qs s j))
 
 module _ (es : List Edge) (sd : IsSided es) (rs qs : List (List Edge)) (a : AreRingsOf es rs) (b : AreRingsOf es qs) (m n : List Polygon) (M : AreNested rs m) (N : AreNested qs n) where
   abbrev k : ℕ
-  k = common_den es
+  k = product_of_denominators es
 
   abbrev at : (r : List Edge) → In r rs → In (edges_times k r) (map (edges_times k) rs)
   at r i = in-map (edges_times k) rs r i
@@ -211,14 +211,14 @@ module _ (es : List Edge) (sd : IsSided es) (rs qs : List (List Edge)) (a : AreR
   same-begun : (r q x y : List Edge) → In r rs → IsRotated r q → IsFromLeast r x → IsFromLeast q y → x ≡ y
   same-begun r q x y i t c d = begun-one k r q x y t c d (once-in es sd rs a r i)
 
-  outer-order : (p p' : Polygon) → Edge → (p ≡ p') ⊎ ((IsBefore p.outer p'.outer) ⊎ (IsBefore p'.outer p.outer)) → p.outer ≡ p'.outer → p ≡ p'
+  outer-order : (p p' : Polygon) → Edge → (p ≡ p') ⊎ ((BeginsBefore p.outer p'.outer) ⊎ (BeginsBefore p'.outer p.outer)) → p.outer ≡ p'.outer → p ≡ p'
   outer-order p p' d (inl e) q = e
-  outer-order p p' d (inr (inl h)) q = let r = subst (λ o. IsBefore p.outer o) (sym q) h in absurd (before-apart p.outer p.outer d r r)
-  outer-order p p' d (inr (inr h)) q = let r = subst (λ o. IsBefore o p.outer) (sym q) h in absurd (before-apart p.outer p.outer d r r)
+  outer-order p p' d (inr (inl h)) q = let r = subst (λ o. BeginsBefore p.outer o) (sym q) h in absurd (before-apart p.outer p.outer d r r)
+  outer-order p p' d (inr (inr h)) q = let r = subst (λ o. BeginsBefore o p.outer) (sym q) h in absurd (before-apart p.outer p.outer d r r)
 
   -- polygons of one list with one outer ring are one
   one-outer : (p p' : Polygon) → In p n → In p' n → Edge → p.outer ≡ p'.outer → p ≡ p'
-  one-outer p p' i j d q = outer-order p p' d (pairs-of (λ (p q : Polygon). IsBefore p.outer q.outer) n p p' (pairs-each (λ (p q : Polygon). IsBefore p.outer q.outer) n N.in_order.outers) i j) q
+  one-outer p p' i j d q = outer-order p p' d (pairs-of (λ (p q : Polygon). BeginsBefore p.outer q.outer) n p p' (pairs-each (λ (p q : Polygon). BeginsBefore p.outer q.outer) n N.in_order.outers) i j) q
 
   pub inner-goes : (p p' : Polygon) → In p m → In p' n → p.outer ≡ p'.outer → (i : List Edge) → In i p.inners → In i p'.inners
   inner-goes p p' pm pn q i ii =
@@ -246,22 +246,22 @@ polygon-same : (p q : Polygon) → p.outer ≡ q.outer → p.inners ≡ q.inners
 polygon-same p q a b = λ i. record { outer = a i; inners = b i }
 
 module _ (es : List Edge) (sd : IsSided es) (rs qs : List (List Edge)) (a : AreRingsOf es rs) (b : AreRingsOf es qs) (m n : List Polygon) (M : AreNested rs m) (N : AreNested qs n) where
-  sorted-inners : (p : Polygon) → In p m → EachPair IsBefore p.inners
-  sorted-inners p i = pairs-each IsBefore p.inners (in-all (λ (p : Polygon). AllPairs IsBefore p.inners) m p M.in_order.inners i)
+  sorted-inners : (p : Polygon) → In p m → EachPair BeginsBefore p.inners
+  sorted-inners p i = pairs-each BeginsBefore p.inners (in-all (λ (p : Polygon). AllPairs BeginsBefore p.inners) m p M.in_order.inners i)
 
   -- an edge, where there is a polygon
   edge-of : (p : Polygon) → In p m → Edge
   edge-of p i = let c = comes es sd rs a m M p i in (some-edge es sd rs a c.ring c.here).0
 
-  sorted-outers : EachPair (λ (p q : Polygon). IsBefore p.outer q.outer) m
-  sorted-outers = pairs-each (λ (p q : Polygon). IsBefore p.outer q.outer) m M.in_order.outers
+  sorted-outers : EachPair (λ (p q : Polygon). BeginsBefore p.outer q.outer) m
+  sorted-outers = pairs-each (λ (p q : Polygon). BeginsBefore p.outer q.outer) m M.in_order.outers
 
   -- the polygon of the other list that has the same outer ring
   outer-goes : (p : Polygon) → In p m → (q : Polygon) × In q n × (p.outer ≡ q.outer)
   outer-goes p i =
       let c = comes es sd rs a m M p i in
       let t = ring-turned es sd rs qs a b c.ring c.here in
-      let k = common_den es in
+      let k = product_of_denominators es in
       let o : Outer es sd qs b t.0 = outer-same (map (edges_times k) rs) (map (edges_times k) qs) (uncrossed es sd rs a) (uncrossed es sd qs b) (edges_times k c.ring) (edges_times k t.0) (in-map (edges_times k) rs c.ring c.here) (in-map (edges_times k) qs t.0 t.1) t.3 c.outer in
       let q = outer-there es sd qs b n N t.0 t.1 o in
       (q.0, q.1, same-begun es sd rs qs a b m n M N c.ring t.0 p.outer q.0.outer c.here t.2 c.begun q.2)
@@ -271,13 +271,13 @@ module _ (es : List Edge) (sd : IsSided es) (rs qs : List (List Edge)) (a : AreR
   polygon-goes p i =
       let q = outer-goes es sd rs qs a b m n M N p i in
       let d = edge-of es sd rs qs a b m n M N p i in
-      let s = same-sorted IsBefore (λ (r : List Edge). Edge) before-apart p.inners q.0.inners (sorted-inners es sd rs qs a b m n M N p i) (sorted-inners es sd qs rs b a n m N M q.0 q.1) (λ x j. d) (λ x j. d)
+      let s = same-sorted BeginsBefore (λ (r : List Edge). Edge) before-apart p.inners q.0.inners (sorted-inners es sd rs qs a b m n M N p i) (sorted-inners es sd qs rs b a n m N M q.0 q.1) (λ x j. d) (λ x j. d)
       (inner-goes es sd rs qs a b m n M N p q.0 i q.1 q.2) (inner-goes es sd qs rs b a n m N M q.0 p q.1 i (sym q.2)) in
       subst (λ (r : Polygon). In r n) (sym (polygon-same p q.0 q.2 s)) q.1
 
 -- the polygons of a sided list's rings are one list
 pub polygons-one : (es : List Edge) → IsSided es → (rs qs : List (List Edge)) → AreRingsOf es rs → AreRingsOf es qs → (m n : List Polygon) → AreNested rs m → AreNested qs n → m ≡ n
 polygons-one es sd rs qs a b m n M N =
-    same-sorted (λ (p q : Polygon). IsBefore p.outer q.outer) (λ (p : Polygon). Edge) (λ p q d. before-apart p.outer q.outer d) m n
+    same-sorted (λ (p q : Polygon). BeginsBefore p.outer q.outer) (λ (p : Polygon). Edge) (λ p q d. before-apart p.outer q.outer d) m n
     (sorted-outers es sd rs qs a b m n M N) (sorted-outers es sd qs rs b a n m N M) (edge-of es sd rs qs a b m n M N) (edge-of es sd qs rs b a n m N M)
     (polygon-goes es sd rs qs a b m n M N) (polygon-goes es sd qs rs b a n m N M)

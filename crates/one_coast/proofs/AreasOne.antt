@@ -7,7 +7,7 @@ use Rattle.osm_words.specs.Job.{CoastlineSettings}
 use Rattle.coast_sides.specs.OnenessLaws.{WaterIsOne}
 use Rattle.coast_split.specs.HalfLaws.{LeavesAreSided, TreeIsOne}
 use Rattle.job_coastline.specs.Coast.{Coast}
-use Rattle.job_coastline.specs.Coastline.{AreAreas, AreLand, AreWater, Areas}
+use Rattle.job_coastline.specs.Coastline.{AreCoastAreas, AreLand, AreWater, Areas}
 use Rattle.job_coastline.specs.Pieces.{AreLeavesOf, has_land, has_water}
 use Rattle.one_area.specs.Laws.{PolygonsAreOne}
 use Rattle.one_coast.proofs.LeavesOne.{AreSidedLeaves, leaves_one, leaves_sided}
@@ -18,7 +18,7 @@ areas_same : (a b : Areas) → a.coast ≡ b.coast → a.land ≡ b.land → a.l
 areas_same a b p q r s t = λ i. record { coast = p i; land = q i; land_leaves = r i; water = s i; water_leaves = t i }
 
 module _ (one : CoastIsOne) (polygons : PolygonsAreOne) (water_one : WaterIsOne) (tree_one : TreeIsOne) (settings : CoastlineSettings) (objects : List Object) where
-  pub areas_one : (a b : Areas) → AreAreas settings objects a → AreAreas settings objects b → a ≡ b
+  pub areas_one : (a b : Areas) → AreCoastAreas settings objects a → AreCoastAreas settings objects b → a ≡ b
   areas_one a b s t = areas_same a b coast land land_leaves water water_leaves
     where
       coast : a.coast ≡ b.coast
@@ -42,7 +42,7 @@ module _ (one : CoastIsOne) (polygons : PolygonsAreOne) (water_one : WaterIsOne)
       water_leaves =
           leaves_one settings tree_one a.water a.water_leaves b.water_leaves s.water_leaves (subst (λ (ps : List Polygon). AreLeavesOf settings ps b.water_leaves) (sym water) t.water_leaves)
 
-module _ (fit : RingsMayBeNested) (nesting : NestedAreSided) (leaves_are_sided : LeavesAreSided) (settings : CoastlineSettings) (objects : List Object) (areas : Areas) (are : AreAreas settings objects areas) where
+module _ (fit : RingsMayBeNested) (nesting : NestedAreSided) (leaves_are_sided : LeavesAreSided) (settings : CoastlineSettings) (objects : List Object) (areas : Areas) (are : AreCoastAreas settings objects areas) where
   pub land_leaves_sided : AreSidedLeaves areas.land_leaves
   land_leaves_sided =
       leaves_sided settings leaves_are_sided areas.land

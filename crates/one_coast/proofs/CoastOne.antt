@@ -12,7 +12,7 @@ use Rattle.coast_join.specs.declared.gap.Closings.{Closings}
 use Rattle.coast_join.specs.declared.ring.Joined.{Joined}
 use Rattle.coast_join.specs.declared.way.CoastWay.{CoastWay}
 use Rattle.coast_join.specs.ChainLaws.{ChainsAreOne}
-use Rattle.coast_join.specs.Chains.{AreChains, Line, line_at, line_of}
+use Rattle.coast_join.specs.Chains.{AreChains, WayPath, line_at, way_path_of}
 use Rattle.coast_join.specs.Closings.{AreClosings}
 use Rattle.coast_join.specs.Joined.{AreJoined}
 use Rattle.coast_join.specs.Line.{IsLine}
@@ -26,7 +26,7 @@ use Rattle.coast_sides.specs.RingLand.{IsLandOf}
 use Rattle.coast_sides.specs.Sorting.{IsSorted}
 use Rattle.job_coastline.specs.Coast.{Coast, IsCoast}
 use Rattle.job_coastline.specs.Coastline.{Areas, AreWritten, AreWrittenOrTooMany, IsCoastline, all_lines, all_sent}
-use Rattle.job_coastline.specs.Counts.{AreCoastCounts, counts_of}
+use Rattle.job_coastline.specs.Counts.{AreCoastCounts, coast_counts_of}
 use Rattle.job_coastline.specs.declared.counts.CoastCounts.{CoastCounts}
 use Rattle.job_coastline.specs.LineLaws.{LinesHaveKinds}
 use Rattle.job_coastline.specs.Pieces.{AreTiles, Tile}
@@ -42,13 +42,13 @@ use mathlib.Core.HLevel.{is_prop→PathP}
 way_same : (v w : CoastWay) → v.id ≡ w.id → v.path ≡ w.path → v ≡ w
 way_same v w a b = λ i. record { id = a i; path = b i; line = is_prop→PathP (λ j. IsLine (b j)) (λ j. line_prop (b j)) v.line w.line i }
 
-ways_one : (vs ws : List CoastWay) → map line_of vs ≡ map line_of ws → vs ≡ ws
+ways_one : (vs ws : List CoastWay) → map way_path_of vs ≡ map way_path_of ws → vs ≡ ws
 ways_one [] [] h = refl
 ways_one [] (w ∷ ws) h = cc
 ways_one (v ∷ vs) [] h = cc
 ways_one (v ∷ vs) (w ∷ ws) h =
-    let first : line_of v ≡ line_of w = ap (λ (lines : List Line). line_at lines 0) h in
-    let same = way_same v w (ap (λ (line : Line). line.id) first) (ap (λ (line : Line). line.path) first) in
+    let first : way_path_of v ≡ way_path_of w = ap (λ (lines : List WayPath). line_at lines 0) h in
+    let same = way_same v w (ap (λ (line : WayPath). line.id) first) (ap (λ (line : WayPath). line.path) first) in
     ap (λ x. x ∷ vs) same ∙ ap (λ l. w ∷ l) (ways_one vs ws (cc))
 
 -- ---- the coast
@@ -127,7 +127,7 @@ module _ (one : CoastIsOne) (kinds : LinesHaveKinds) (line : CoastLineIsOne) (po
 module _ (one : CoastIsOne) (polygons : PolygonsAreOne) (water_one : WaterIsOne) (fit : RingsMayBeNested) (nesting : NestedAreSided) (tree_one : TreeIsOne) (leaves_are_sided : LeavesAreSided) where
   pub counts_one : (settings : CoastlineSettings) (objects : List Object) (c d : CoastCounts) → AreCoastCounts settings objects c → AreCoastCounts settings objects d → c ≡ d
   counts_one settings objects c d s t =
-      s.counted ∙ ap (λ (areas : Areas). counts_of areas.coast s.land s.water) areas ∙ ap₂ (λ (x y : List Tile). counts_of t.areas.coast x y) land water ∙ sym t.counted
+      s.counted ∙ ap (λ (areas : Areas). coast_counts_of areas.coast s.land s.water) areas ∙ ap₂ (λ (x y : List Tile). coast_counts_of t.areas.coast x y) land water ∙ sym t.counted
     where
       areas : s.areas ≡ t.areas
       areas = areas_one one polygons water_one tree_one settings objects s.areas t.areas s.right t.right

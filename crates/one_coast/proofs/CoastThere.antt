@@ -28,8 +28,8 @@ use Rattle.coast_join.specs.InputLaws.{CoastWaysExist}
 use Rattle.coast_join.specs.RingLaws.{ClosingsExist, JoinedExists}
 use Rattle.coast_sides.specs.ExistenceLaws.{LandExists, SortedExists, WaterExists}
 use Rattle.job_coastline.specs.Coast.{Coast, IsCoast}
-use Rattle.job_coastline.specs.Coastline.{AreAreas, AreLand, AreWater, Areas, AreWritten, AreWrittenOrTooMany, all_lines, all_sent, most_leaves}
-use Rattle.job_coastline.specs.Counts.{counts_of}
+use Rattle.job_coastline.specs.Coastline.{AreCoastAreas, AreLand, AreWater, Areas, AreWritten, AreWrittenOrTooMany, all_lines, all_sent, most_leaves}
+use Rattle.job_coastline.specs.Counts.{coast_counts_of}
 use Rattle.job_coastline.specs.LineLaws.{LinesHaveKinds}
 use Rattle.job_coastline.specs.Pieces.{AreLeavesOf, AreTiles, IsTile, Tile, has_land, has_water}
 use Rattle.osm_nest.specs.Nested.{ArePolygons}
@@ -136,7 +136,7 @@ module _ (kinds : LinesHaveKinds) (some_line : CoastLineExists) (some_rings : Ri
 -- ---- what is split
 module _ (some_coast : CoastExists) (some_rings : RingListOfEdgesExists) (fit : RingsMayBeNested) (some_nesting : NestingExists) (some_water : WaterExists) (some_tree : SplitTreesExist) (settings : CoastlineSettings)
     (objects : List Object) (apart : IsDistinct int_eq (coast_ways objects)) where
-  areas_there : (areas : Areas) × AreAreas settings objects areas
+  areas_there : (areas : Areas) × AreCoastAreas settings objects areas
   areas_there =
       let coast = some_coast settings objects apart in
       let edges = coast.1.land.edges in
@@ -164,6 +164,6 @@ module _ (some_coast : CoastExists) (some_rings : RingListOfEdgesExists) (fit : 
       let areas = split.0 in
       let land = tiles_there some_rings fit some_nesting areas.land_leaves (land_leaves_sided fit nesting leaves_are_sided settings objects areas split.1) in
       let water = tiles_there some_rings fit some_nesting areas.water_leaves (water_leaves_sided fit nesting leaves_are_sided settings objects areas split.1) in (
-        counts_of areas.coast land.0 water.0,
+        coast_counts_of areas.coast land.0 water.0,
         record { areas = areas; right = split.1; land = land.0; land_made = land.1; water = water.0; water_made = water.1; counted = refl },
       )

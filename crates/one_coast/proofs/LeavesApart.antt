@@ -16,7 +16,7 @@ use Rattle.osm_nest.specs.Laws.{NestedAreSided, NestedCoverAsRings, RingsCountAs
 use Rattle.osm_nest.specs.Polygons.{edges_in}
 use Rattle.coast_sides.specs.Land.{IsLand, parity_at}
 use Rattle.coast_sides.specs.Segments.{all_segments}
-use Rattle.coast_sides.specs.Water.{IsCoveredOnce, IsWater, IsWithin, LandAndWaterCover, segments_along}
+use Rattle.coast_sides.specs.Water.{IsCoveredOnce, IsInsideWorld, IsWater, LandAndWaterCover, segments_under}
 use Rattle.coast_split.specs.HalfLaws.{LeavesPart}
 use Rattle.coast_split.specs.declared.leaves.Leaf.{Leaf}
 use Rattle.coast_split.specs.SplitTree.{AreLeaves, IsTree, leaf_of, leaves_of}
@@ -79,8 +79,8 @@ module _ (leaf_part : LeavesPart) (may : RingsMayBeNested) (nested_sided : Neste
   water-by n l w (inr h) even odd = ap (λ r. pos r) (odd h.1) ∙ ap (λ z. pos 1 -ℤ z) (sym h.0)
 
   module _ (land_and_water : LandAndWaterCover) where
-    pub water_part : (segs : List Seg) (land water : List Edge) → IsLand segs land → IsWater (segments_along land) water → (polygons : List Polygon) → ArePolygons water polygons →
-        (leaves : List Leaf) → AreLeavesOf settings polygons leaves → (p : Vector) → IsWithin p → IsOffLeafEdges (pos 1) p leaves → pos (leaves_over (pos 1) p leaves) ≡ pos 1 -ℤ parity_at (pos 1) p segs
+    pub water_part : (segs : List Seg) (land water : List Edge) → IsLand segs land → IsWater (segments_under land) water → (polygons : List Polygon) → ArePolygons water polygons →
+        (leaves : List Leaf) → AreLeavesOf settings polygons leaves → (p : Vector) → IsInsideWorld p → IsOffLeafEdges (pos 1) p leaves → pos (leaves_over (pos 1) p leaves) ≡ pos 1 -ℤ parity_at (pos 1) p segs
     water_part segs land water is_land is_water polygons made leaves are p within off =
         let l = signed_count_at (pos 1) p land in let w = signed_count_at (pos 1) p water in
         ap (λ n. pos n) (of-edges leaf_part settings none (pos 1) refl p may nested_sided nested_cover rings_count water is_water.sided polygons made leaves are off)

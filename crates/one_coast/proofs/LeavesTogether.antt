@@ -14,7 +14,7 @@ use Rattle.osm_nest.specs.Cover.{AreSided, covers_at}
 use Rattle.osm_nest.specs.Laws.{NestedAreSided, NestedCoverAsRings, RingsCountAsEdges, RingsMayBeNested}
 use Rattle.osm_nest.specs.Polygons.{edges_in}
 use Rattle.coast_sides.specs.Land.{IsLand, parity_at}
-use Rattle.coast_sides.specs.Water.{IsCoveredOnce, IsWater, IsWithin, LandAndWaterCover, segments_along}
+use Rattle.coast_sides.specs.Water.{IsCoveredOnce, IsInsideWorld, IsWater, LandAndWaterCover, segments_under}
 use Rattle.coast_split.specs.HalfLaws.{LeafCover}
 use Rattle.coast_split.specs.declared.leaves.Leaf.{Leaf}
 use Rattle.coast_split.specs.SplitTree.{AreLeaves, Covers, IsOffLeaves, IsOffList, SomeCovers, leaf_of, leaves_of}
@@ -183,9 +183,9 @@ module _ (leaf_cover : LeafCover) (may : RingsMayBeNested) (nested_sided : Neste
   water-from l w (inr h) e = h.1
 
   module _ (land_and_water : LandAndWaterCover) where
-    pub water_cover : (settings : CoastlineSettings) (segs : List Seg) (land water : List Edge) → IsLand segs land → IsWater (segments_along land) water →
+    pub water_cover : (settings : CoastlineSettings) (segs : List Seg) (land water : List Edge) → IsLand segs land → IsWater (segments_under land) water →
         (polygons : List Polygon) → ArePolygons water polygons → (leaves : List Leaf) → AreLeavesOf settings polygons leaves →
-        (p : Vector) → IsWithin p → IsOffLeafEdges (pos 1) p leaves →
+        (p : Vector) → IsInsideWorld p → IsOffLeafEdges (pos 1) p leaves →
         SomeLeafCovers (pos 1) p leaves ↔ (parity_at (pos 1) p segs ≡ pos 0)
     water_cover settings segs land water is_land is_water polygons made leaves are p within off =
         let l = signed_count_at (pos 1) p land in let w = signed_count_at (pos 1) p water in

@@ -12,7 +12,7 @@ use Rattle.coast_split.specs.HalfLaws.{LeavesAreSided}
 use Rattle.coast_split.specs.declared.leaves.Leaf.{Leaf}
 use Rattle.valid_polygons.specs.AreValid.{AreValid}
 use Rattle.valid_polygons.specs.Laws.{NestedAreValid}
-use Rattle.job_coastline.specs.Coastline.{AreAreas, AreLand, AreWater, Areas}
+use Rattle.job_coastline.specs.Coastline.{AreCoastAreas, AreLand, AreWater, Areas}
 use Rattle.job_coastline.specs.Pieces.{AreTiles, IsTile, Tile, has_land, has_water}
 use Rattle.osm_nest.specs.Nested.{ArePolygons}
 use Rattle.one_coast.proofs.AreasOne.{land_leaves_sided, water_leaves_sided}
@@ -26,7 +26,7 @@ module _ (P : Tile → Type 0) (each : (tile : Tile) → IsSided tile.leaf.edges
       let leaf = subst (In tile.leaf) are.of_leaves (in-map (λ (tile : Tile). tile.leaf) tiles tile i) in
       each tile (in-all (λ (leaf : Leaf). IsSided leaf.edges) leaves tile.leaf sided leaf) (in-all IsTile tiles tile are.made i))
 
-  module _ (fit : RingsMayBeNested) (nesting : NestedAreSided) (leaves_are_sided : LeavesAreSided) (settings : CoastlineSettings) (objects : List Object) (areas : Areas) (right : AreAreas settings objects areas) where
+  module _ (fit : RingsMayBeNested) (nesting : NestedAreSided) (leaves_are_sided : LeavesAreSided) (settings : CoastlineSettings) (objects : List Object) (areas : Areas) (right : AreCoastAreas settings objects areas) where
     of-areas : (tiles : List Tile) → AreTilesOf areas tiles → All P tiles
     of-areas tiles (inl are) = of-leaves areas.land_leaves (land_leaves_sided fit nesting leaves_are_sided settings objects areas right) tiles are
     of-areas tiles (inr are) = of-leaves areas.water_leaves (water_leaves_sided fit nesting leaves_are_sided settings objects areas right) tiles are

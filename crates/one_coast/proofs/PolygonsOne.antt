@@ -8,7 +8,7 @@ use Rattle.osm_nest.specs.Polygons.{edges_in}
 use Rattle.osm_nest.specs.declared.polygon.Polygon.{Polygon}
 use Rattle.plane_edges.specs.Sided.{IsSided}
 use Rattle.coast_sides.specs.OnenessLaws.{WaterIsOne}
-use Rattle.coast_sides.specs.Water.{segments_along}
+use Rattle.coast_sides.specs.Water.{segments_under}
 use Rattle.job_coastline.specs.Coastline.{AreLand, AreWater}
 use Rattle.osm_nest.specs.Nested.{ArePolygons}
 use Rattle.one_area.specs.Laws.{PolygonsAreOne}
@@ -23,7 +23,7 @@ module _ (one : PolygonsAreOne) where
 
   pub water_polygons_one : WaterIsOne → (asked : Bool) (land : List Edge) (m n : List Polygon) → AreWater asked land m → AreWater asked land n → m ≡ n
   water_polygons_one water true land m n a b =
-      let q = water (segments_along land) a.0 b.0 a.1 b.1 in
+      let q = water (segments_under land) a.0 b.0 a.1 b.1 in
       polygons_one a.0 a.1.sided m n a.2 (subst (λ (es : List Edge). ArePolygons es n) (sym q) b.2)
   water_polygons_one water false land m n a b = a ∙ sym b
 

@@ -9,7 +9,7 @@ use Rattle.winding.specs.ScaledEdges.{scaled_edges}
 use Rattle.winding.proofs.WindingKit.{counted-both-ways}
 use Rattle.lists.proofs.ListsKit.{even_or_odd, odd_sum}
 use Rattle.osm_geom.specs.declared.edge.Edge.{Edge}
-use Rattle.plane_edges.specs.Multiple.{common_den, whole_edges}
+use Rattle.plane_edges.specs.Multiple.{product_of_denominators, whole_edges}
 use Rattle.plane_edges.specs.Sided.{count_at, signed_count_at}
 
 even-none : (n u d : ℕ) → n ≡ u + d → pos u -ℤ pos d ≡ pos 0 → n % 2 ≡ 0
@@ -17,7 +17,7 @@ even-none n u d e h = let same : u ≡ d = omega (arith, ints) in let two : n �
 
 module _ (q : ℤ) (p : Vector) (es : List Edge) where
   abbrev P : Vector
-  P = scaled_point (pos (common_den es)) p
+  P = scaled_point (pos (product_of_denominators es)) p
 
   abbrev L : List plane.Edge
   L = scaled_edges q (whole_edges es)

@@ -9,7 +9,7 @@ use Rattle.osm_words.specs.Job.{CoastlineSettings}
 use Rattle.osm_job.specs.Whole.{Whole}
 use Rattle.coast_sides.specs.Land.{parity_at}
 use Rattle.coast_sides.specs.Segments.{all_segments}
-use Rattle.coast_sides.specs.Water.{IsWithin}
+use Rattle.coast_sides.specs.Water.{IsInsideWorld}
 use Rattle.plane_edges.specs.Sided.{count_at}
 use Rattle.coast_split.specs.declared.leaves.Leaf.{Leaf}
 use Rattle.coast_split.specs.SplitTree.{Covers, IsOffList}
@@ -39,7 +39,7 @@ LandLeavesCover =
 abbrev pub WaterLeavesCover : Type 0
 WaterLeavesCover =
     (settings : CoastlineSettings) (objects : List Object) (whole : Whole) (right : IsCoastline settings objects whole) → has_water settings.polygons ≡ true →
-    (p : Vector) → IsWithin p → IsOffLeafEdges (pos 1) p right.areas.water_leaves →
+    (p : Vector) → IsInsideWorld p → IsOffLeafEdges (pos 1) p right.areas.water_leaves →
     SomeLeafCovers (pos 1) p right.areas.water_leaves ↔ (parity_at (pos 1) p (all_segments right.areas.coast.sorted.kept) ≡ pos 0)
 
 -- how many of the leaves cover the point
@@ -57,13 +57,13 @@ LandLeavesPart =
 abbrev pub WaterLeavesPart : Type 0
 WaterLeavesPart =
     (settings : CoastlineSettings) (objects : List Object) (whole : Whole) (right : IsCoastline settings objects whole) → has_water settings.polygons ≡ true →
-    settings.bbox_overlap ≡ 0 → (p : Vector) → IsWithin p → IsOffLeafEdges (pos 1) p right.areas.water_leaves →
+    settings.bbox_overlap ≡ 0 → (p : Vector) → IsInsideWorld p → IsOffLeafEdges (pos 1) p right.areas.water_leaves →
     pos (leaves_over (pos 1) p right.areas.water_leaves) ≡ pos 1 -ℤ parity_at (pos 1) p (all_segments right.areas.coast.sorted.kept)
 
 -- So where both are asked for, exactly one leaf covers such a point.
 abbrev pub LeavesPartTheWorld : Type 0
 LeavesPartTheWorld =
     (settings : CoastlineSettings) (objects : List Object) (whole : Whole) (right : IsCoastline settings objects whole) →
-    has_land settings.polygons ≡ true → has_water settings.polygons ≡ true → settings.bbox_overlap ≡ 0 → (p : Vector) → IsWithin p →
+    has_land settings.polygons ≡ true → has_water settings.polygons ≡ true → settings.bbox_overlap ≡ 0 → (p : Vector) → IsInsideWorld p →
     IsOffLeafEdges (pos 1) p right.areas.land_leaves → IsOffLeafEdges (pos 1) p right.areas.water_leaves →
     leaves_over (pos 1) p right.areas.land_leaves + leaves_over (pos 1) p right.areas.water_leaves ≡ 1

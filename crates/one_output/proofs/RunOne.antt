@@ -16,7 +16,7 @@ use Rattle.osm_job.specs.Sent.{Sent}
 use Rattle.osm_job.specs.Whole.{Whole, silent}
 use Rattle.osm_cli.specs.Whole.{IsWhole}
 use Rattle.one_output.specs.Laws.{RunsAgree, RunsDontPart, RunsKeepToTheWhole, WholeIsOne}
-use Rattle.one_output.specs.Right.{AllRunsKeepTo, AreTold, IsRight, TextsOf, is_unbroken}
+use Rattle.one_output.specs.Right.{AllRunsKeepTo, AreTold, IsRightForWords, TextsOf, is_unbroken}
 use Rattle.one_ring_list.proofs.OneRingListKit.{Overlap, overlap}
 use Rattle.one_output.proofs.WholeThere.{AreThere, whole-there}
 
@@ -72,11 +72,11 @@ refused-is fault e u (inr h) = h
 
 -- ---- any words
 module _ (whole-one : WholeIsOne) where
-  right-one : (words : Result Job WordsFault) (texts : TextsOf words) (v w : Whole) → IsRight words texts v → IsRight words texts w → v ≡ w
+  right-one : (words : Result Job WordsFault) (texts : TextsOf words) (v w : Whole) → IsRightForWords words texts v → IsRightForWords words texts w → v ≡ w
   right-one (Ok job) texts v w s t = whole-one job texts v w s t
   right-one (Err fault) texts v w s t = s ∙ sym t
 
-  keeps-to : (words : Result Job WordsFault) (texts : TextsOf words) (whole : Whole) → IsRight words texts whole → AllRunsKeepTo words texts whole
+  keeps-to : (words : Result Job WordsFault) (texts : TextsOf words) (whole : Whole) → IsRightForWords words texts whole → AllRunsKeepTo words texts whole
   keeps-to (Ok job) texts whole is ended before after run told =
       let wrote = run-writes whole-one job texts whole is ended before after run told in record { front = wrote.0; all = wrote.1 }
   keeps-to (Err fault) texts whole is ended before after run told = record {
@@ -86,7 +86,7 @@ module _ (whole-one : WholeIsOne) where
 
 -- ---- the whole that a run has at hand
 abbrev Wholes : (words : Result Job WordsFault) → TextsOf words → Type 0
-Wholes words texts = (whole : Whole) × IsRight words texts whole
+Wholes words texts = (whole : Whole) × IsRightForWords words texts whole
 
 module _ (job : Job) (texts : Texts (inputs_of job)) (ended : Ended) (written : List Sent) where
   abbrev WrittenBy : Cause → Type 0
@@ -172,6 +172,6 @@ module _ (whole-one : WholeIsOne) (count : LinesCount) (are : AreThere) where
   keep-to-the-whole words texts =
       let whole = right-there words texts in (
         whole.0,
-        λ other. (λ is. right-one whole-one words texts other whole.0 is whole.1, λ same. subst (IsRight words texts) (sym same) whole.1),
+        λ other. (λ is. right-one whole-one words texts other whole.0 is whole.1, λ same. subst (IsRightForWords words texts) (sym same) whole.1),
         keeps-to whole-one words texts whole.0 whole.1,
       )

@@ -9,7 +9,7 @@ use Rattle.osm_input.specs.Text.{IsTextAs}
 use Rattle.osm_input.specs.declared.reading.ReadError.{ReadError}
 use Rattle.osm_input.specs.declared.text.TextError.{TextError}
 use Rattle.osm_input.specs.declared.text.TextError.TheVariants.{TooMuchInput}
-use Rattle.osm_job.specs.Whole.{IsAfter, IsAfterText, IsReadThen, IsTextThen, Whole, input_limit, longest_line}
+use Rattle.osm_job.specs.Whole.{IsAfterText, IsReadThen, IsRightAfterReading, IsTextThen, Whole, input_limit, longest_line}
 use Rattle.job_certify.specs.Certify.{IsCertify}
 use Rattle.job_certify.specs.Laws.{CertifyIsOne}
 use Rattle.job_coastline.specs.Coastline.{IsCoastline}
@@ -29,13 +29,13 @@ use Rattle.one_output.proofs.SampleOne.{sample_one}
 -- what is right over the bytes of two inputs is one, where what is right over their objects is
 module _ (count : LinesCount) (IsRight IsRight_2 : List Object → Whole → Type 0)
     (one : (objects : List Object) (v w : Whole) → IsRight objects v → IsRight_2 objects w → v ≡ w) where
-  after-one : (r : Result (List Object) ReadError) (v w : Whole) → IsAfter IsRight r v → IsAfter IsRight_2 r w → v ≡ w
+  after-one : (r : Result (List Object) ReadError) (v w : Whole) → IsRightAfterReading IsRight r v → IsRightAfterReading IsRight_2 r w → v ≡ w
   after-one (Ok objects) v w s t = one objects v w s t
   after-one (Err e) v w s t = s ∙ sym t
 
   read-after : (Right : List Object → Whole → Type 0) (bytes : List ℕ) (r : Result (List Object) ReadError) (v : Whole) →
-      IsReadAs input_limit longest_line bytes r → IsReadThen Right bytes v → IsAfter Right r v
-  read-after Right bytes r v is s = subst (λ x. IsAfter Right x v) (reading-one count input_limit longest_line bytes s.read r s.is_read is) s.after
+      IsReadAs input_limit longest_line bytes r → IsReadThen Right bytes v → IsRightAfterReading Right r v
+  read-after Right bytes r v is s = subst (λ x. IsRightAfterReading Right x v) (reading-one count input_limit longest_line bytes s.read r s.is_read is) s.after
 
   -- it depends on what the inputs are read as alone
   pub alike-one : (bytes more : List ℕ) (r : Result (List Object) ReadError) (v w : Whole) → IsReadAs input_limit longest_line bytes r →

@@ -14,7 +14,7 @@ use Rattle.osm_input.specs.Lines.{lines_begun}
 use Rattle.osm_input.specs.Laws.{LinesCount}
 use Rattle.osm_input.specs.Reading.{IsReadAs}
 use Rattle.osm_input.specs.declared.text.TextError.TheVariants as text
-use Rattle.osm_job.specs.Whole.{IsAfter, IsReadThen, IsTextThen, Whole, input_limit, longest_line, read_ended, silent, text_ended}
+use Rattle.osm_job.specs.Whole.{IsReadThen, IsRightAfterReading, IsTextThen, Whole, ending_of_read, input_limit, longest_line, silent, text_ended}
 use Rattle.job_certify.specs.Certify.{IsCertify}
 use Rattle.job_certify.specs.Laws.{CertifyExists}
 use Rattle.job_coastline.specs.Coastline.{IsCoastline}
@@ -112,9 +112,9 @@ ThereOf IsRight = (bytes : List ℕ) (objects : List Object) → IsReadAs input_
 
 -- then there is one over the bytes
 module _ (count : LinesCount) (IsRight : List Object → Whole → Type 0) (there : ThereOf IsRight) where
-  after-there : (bytes : List ℕ) (r : Result (List Object) ReadError) → IsReadAs input_limit longest_line bytes r → (w : Whole) × IsAfter IsRight r w
+  after-there : (bytes : List ℕ) (r : Result (List Object) ReadError) → IsReadAs input_limit longest_line bytes r → (w : Whole) × IsRightAfterReading IsRight r w
   after-there bytes (Ok objects) is = there bytes objects is
-  after-there bytes (Err e) is = (silent (read_ended e), refl)
+  after-there bytes (Err e) is = (silent (ending_of_read e), refl)
 
   pub then-there : (bytes : List ℕ) → (w : Whole) × IsReadThen IsRight bytes w
   then-there bytes =

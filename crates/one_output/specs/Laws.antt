@@ -18,7 +18,7 @@ use Rattle.osm_job.specs.declared.ended.Ended.{Ended}
 use Rattle.osm_input.specs.declared.reading.ReadError.{ReadError}
 use Rattle.osm_input.specs.Text.{IsTextAs}
 use Rattle.osm_input.specs.declared.text.TextError.{TextError}
-use Rattle.one_output.specs.Right.{AllRunsKeepTo, AreTold, IsRight, TextsOf, is_unbroken}
+use Rattle.one_output.specs.Right.{AllRunsKeepTo, AreTold, IsRightForWords, TextsOf, is_unbroken}
 
 -- an input is read as one thing alone
 abbrev pub ReadingIsOne : Type 0
@@ -86,7 +86,7 @@ abbrev pub RunsKeepToTheWhole : Type 0
 RunsKeepToTheWhole =
     (words : Result Job WordsFault) (texts : TextsOf words) →
     (whole : Whole)
-    × ((other : Whole) → IsRight words texts other ↔ (other ≡ whole))
+    × ((other : Whole) → IsRightForWords words texts other ↔ (other ≡ whole))
     × AllRunsKeepTo words texts whole
 
 -- So two runs with the same words over the same texts, on whatever hosts, write the same, in the

@@ -25,9 +25,9 @@ AreTold before (Ok job) texts = told_texts before.named (inputs_of job) ≡ Some
 AreTold before (Err fault) texts = Unit {0}
 
 -- what is right for the job over its texts; where the words are refused, that nothing is written
-abbrev pub IsRight : (words : Result Job WordsFault) → TextsOf words → Whole → Type 0
-IsRight (Ok job) texts whole = IsWhole job texts whole
-IsRight (Err fault) texts whole = whole ≡ silent (BadWords fault)
+abbrev pub IsRightForWords : (words : Result Job WordsFault) → TextsOf words → Whole → Type 0
+IsRightForWords (Ok job) texts whole = IsWhole job texts whole
+IsRightForWords (Err fault) texts whole = whole ≡ silent (BadWords fault)
 
 -- neither the host nor memory ended the run
 abbrev pub is_unbroken : Cause → Bool

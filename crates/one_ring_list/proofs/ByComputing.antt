@@ -5,7 +5,7 @@ use Rattle.std.proofs.lemmas.List.Elements.{All-cons, All-nil}
 use Rattle.lists.specs.Member.{EachPair, In}
 use Rattle.nesting.specs.Cover.{DoNotCross}
 use Rattle.plane.specs.Conflict.{IsClearOf, conflicts}
-use Rattle.plane.specs.Edge.{Edge, IsRising, ends_at, other_end}
+use Rattle.plane.specs.Edge.{Edge, IsRisingEdge, ends_at, other_end}
 use Rattle.plane.specs.Order.{order}
 use Rattle.plane.specs.Sign.{is_plus}
 use Rattle.plane.specs.Vector.{Vector, from_to, same_point}
@@ -39,7 +39,7 @@ pairs-out q R k (x ∷ xs) h = let a = and_parts (every (q x) xs) (each_pair q x
 
 pub plain-out : (es : List Edge) → every (λ (e : Edge). is_plus (order e.from e.to)) es ≡ true → each_pair (λ (s t : Edge). not (conflicts s t)) es ≡ true → IsConflictFree es
 plain-out es h k = record {
-  rising = every-all (λ (e : Edge). is_plus (order e.from e.to)) IsRising (λ e p. is_plus-true (order e.from e.to) p) es h;
+  rising = every-all (λ (e : Edge). is_plus (order e.from e.to)) IsRisingEdge (λ e p. is_plus-true (order e.from e.to) p) es h;
   clear = pairs-out (λ (s t : Edge). not (conflicts s t)) IsClearOf (λ s t p. not-true-out (conflicts s t) p) es k;
 }
 

@@ -2,7 +2,7 @@
 use Rattle.std.proofs.Common.{Bool, ap, arith, eqb, eqb-true, false, not, refl, sym, true, ◌&&◌, ◌∙◌, ◌≡◌}
 use Rattle.plane.specs.Sector.{in_sector}
 use Rattle.plane.specs.Sign.{Sign, is_null, is_plus, negated, sign}
-use Rattle.plane.specs.Vector.{IsDirection, Vector, cross, dot}
+use Rattle.plane.specs.Vector.{IsNonZero, Vector, cross, dot}
 use Rattle.nesting.proofs.NestingKit.{sector-either, apart, one-eqb, sector-chain, sector-one, sector-rest, zero-of}
 use Rattle.plane.proofs.PlaneKit.{cross-negated, dot-swap}
 use Rattle.plane.proofs.SignKit.{all2-out, imp, imp-out}
@@ -20,21 +20,21 @@ apart-back a b n =
     ap (λ s. not (is_null s && is_plus (sign (dot b a)))) (cross-negated a b) ∙ ap (λ s. not (is_null (negated (sign (cross a b))) && is_plus s)) (ap sign (dot-swap a b)) ∙ imp-out _ _ c n
 
 -- which comes second
-pub second : (d a b : Vector) → IsDirection d → IsDirection a → IsDirection b → apart a b ≡ true → in_sector d a b ≡ 1 → in_sector d b a ≡ 0
+pub second : (d a b : Vector) → IsNonZero d → IsNonZero a → IsNonZero b → apart a b ≡ true → in_sector d a b ≡ 1 → in_sector d b a ≡ 0
 second d a b pd pa pb n h = zero-of d b a (flip (eqb (in_sector d b a) 1) (sym (one-eqb _ h) ∙ sector-one d a b pd pa pb n))
 
 -- the order of three directions is cyclic
-pub cyclic : (d a b : Vector) → IsDirection d → IsDirection a → IsDirection b → apart d a ≡ true → apart a b ≡ true → in_sector d b a ≡ 1 → in_sector a d b ≡ 1
+pub cyclic : (d a b : Vector) → IsNonZero d → IsNonZero a → IsNonZero b → apart d a ≡ true → apart a b ≡ true → in_sector d b a ≡ 1 → in_sector a d b ≡ 1
 cyclic d a b pd pa pb nda nab h =
     let s = second d b a pd pb pa (apart-back a b nab) h in
     let r = sector-rest d a b pd pa pb nda in omega arith
 
 -- four directions, no two the same
 pub record FourApart (a b x z : Vector) : Type 0 where
-  pub a-way : IsDirection a
-  pub b-way : IsDirection b
-  pub x-way : IsDirection x
-  pub z-way : IsDirection z
+  pub a-way : IsNonZero a
+  pub b-way : IsNonZero b
+  pub x-way : IsNonZero x
+  pub z-way : IsNonZero z
   pub ab : apart a b ≡ true
   pub ax : apart a x ≡ true
   pub az : apart a z ≡ true

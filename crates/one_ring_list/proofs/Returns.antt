@@ -4,7 +4,7 @@ use Rattle.nesting.specs.Walk.{Follow, IsNextClockwise, IsSuccessor, IsWalk, las
 use Rattle.plane.specs.Bit.{bit}
 use Rattle.plane.specs.Edge.{Edge, ends_at, same_edge, segment_of}
 use Rattle.plane.specs.Sector.{in_sector}
-use Rattle.plane.specs.Vector.{IsDirection, Vector, same_point}
+use Rattle.plane.specs.Vector.{IsNonZero, Vector, same_point}
 use Rattle.winding.specs.ConflictFree.{IsConflictFree}
 use Rattle.winding.specs.EdgeList.{IsEvenAtPoints, crossing_count}
 use Rattle.lists.specs.Member.{In}
@@ -65,7 +65,7 @@ module _ (es : List Edge) (sd : IsSided es) (P : Vector) (f g : Edge) (fi : In f
   abbrev H : Edge → ℕ
   H t = cond (ends_at P t) (in_sector (w f) (w g) (way P t)) 0
 
-  w-way : (x : Edge) → In x es → ends_at P x ≡ true → IsDirection (w x)
+  w-way : (x : Edge) → In x es → ends_at P x ≡ true → IsNonZero (w x)
   w-way x i h = way-direction P (segment_of x) (segment-ends P x h) (rise es sd x i)
 
   w-apart : (x y : Edge) → In x es → In y es → ends_at P x ≡ true → ends_at P y ≡ true → same_edge x y ≡ false → apart (w x) (w y) ≡ true

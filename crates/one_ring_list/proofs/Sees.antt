@@ -7,7 +7,7 @@ use Rattle.plane.specs.Order.{order}
 use Rattle.plane.specs.RayCrossing.{IsOffEdge}
 use Rattle.plane.specs.Sector.{in_sector}
 use Rattle.plane.specs.Sign.{is_plus}
-use Rattle.plane.specs.Vector.{IsDirection, Vector, from_to, same_point}
+use Rattle.plane.specs.Vector.{IsNonZero, Vector, from_to, same_point}
 use Rattle.winding.specs.ConflictFree.{IsConflictFree, others}
 use Rattle.winding.specs.EdgeList.{IsEvenAtPoints, crossing_count}
 use Rattle.lists.specs.Member.{In}
@@ -99,10 +99,10 @@ module _ (es : List Edge) (sd : IsSided es) where
       abbrev F : Edge → ℕ
       F t = cond (ends_at v t) (in_sector wf we (way v t)) 0
 
-      wf-way : IsDirection wf
+      wf-way : IsNonZero wf
       wf-way = f-way es sd v e f i (ends_at-to e) n
 
-      we-way : IsDirection we
+      we-way : IsNonZero we
       we-way = e-way es sd v e f i (ends_at-to e) n
 
       F-first : F (segment_of f) ≡ 0

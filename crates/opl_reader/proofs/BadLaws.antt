@@ -23,8 +23,8 @@ use Rattle.opl_reader.specs.Coordinates.{IsX, IsY}
 use Rattle.opl_reader.specs.Fields.{letter_of, IsFlag}
 use Rattle.opl_reader.specs.NumberReading.{is_number}
 use Rattle.opl_reader.specs.StringReading.{string_of, string_at}
-use Rattle.opl_reader.specs.ItemReading.{placed, is_comma, items, each, halves, tag_at, tags_at, ref_of, ref_at, refs_at, target_of, member_at, members_at}
-use Rattle.opl_reader.specs.CoordinateReading.{x_of, y_of}
+use Rattle.opl_reader.specs.ItemReading.{placed, is_comma, items, each, halves, tag_at, tags_at, ref_spelled, ref_at, refs_at, target_of, member_at, members_at}
+use Rattle.opl_reader.specs.CoordinateReading.{x_spelled, y_spelled}
 use Rattle.opl_reader.specs.FieldReading.{flag_of, with_value, with_field}
 use Rattle.opl_reader.specs.Faults.{fault_at, IsBadString, IsBadTag, IsBadRef, IsBadMember, FirstBad, HasBadItem, BadValue, BadField}
 use Rattle.opl_reader.proofs.PartedLaws.{commas, are_commas}
@@ -111,14 +111,14 @@ tags_tell = record { there = tag_bad; back = bad_tag }
 ref_bad : (at : ℕ) (bytes : List ℕ) (x : LineFault) → ref_at at bytes ≡ Err x → IsBadRef x.kind bytes × (x.place ≡ at)
 unfolding ref_at
 ref_bad at bytes x e =
-    let f = or_fault_err BadReference at (ref_of bytes) x e in
+    let f = or_fault_err BadReference at (ref_spelled bytes) x e in
     let s = both x BadReference at f.1 in
     ((λ id is. ok_err id x (sym (is_ref at bytes id is) ∙ e), s.0), s.1)
 
 bad_ref : (at : ℕ) (bytes : List ℕ) (kind : FaultKind) → IsBadRef kind bytes → ref_at at bytes ≡ Err (fault_at kind at)
 unfolding ref_at
 bad_ref at bytes kind bad =
-    ap (or_fault BadReference at) (none_of (ref_of bytes) (λ id e. bad.0 id (ref_is at bytes id (ap (or_fault BadReference at) e)))) ∙ ap (λ (k : FaultKind). Err (fault_at k at)) (sym bad.1)
+    ap (or_fault BadReference at) (none_of (ref_spelled bytes) (λ id e. bad.0 id (ref_is at bytes id (ap (or_fault BadReference at) e)))) ∙ ap (λ (k : FaultKind). Err (fault_at k at)) (sym bad.1)
 
 refs_tell : Tells ref_at IsBadRef
 refs_tell = record { there = ref_bad; back = bad_ref }
@@ -262,13 +262,13 @@ value_bad Name place value c x e =
       | inr some ↦ absurd (ok_err _ x some.2)
     ]
 value_bad X place value c x e =
-    elim (bind_err (or_fault BadCoordinate place (x_of value)) (λ l. Ok (record c { x = l })) x e) [
-      | inl none ↦ let f = or_fault_err BadCoordinate place (x_of value) x none in (never (IsX value) (x_of value) (is_x value) f.0, f.1)
+    elim (bind_err (or_fault BadCoordinate place (x_spelled value)) (λ l. Ok (record c { x = l })) x e) [
+      | inl none ↦ let f = or_fault_err BadCoordinate place (x_spelled value) x none in (never (IsX value) (x_spelled value) (is_x value) f.0, f.1)
       | inr some ↦ absurd (ok_err _ x some.2)
     ]
 value_bad Y place value c x e =
-    elim (bind_err (or_fault BadCoordinate place (y_of value)) (λ l. Ok (record c { y = l })) x e) [
-      | inl none ↦ let f = or_fault_err BadCoordinate place (y_of value) x none in (never (IsY value) (y_of value) (is_y value) f.0, f.1)
+    elim (bind_err (or_fault BadCoordinate place (y_spelled value)) (λ l. Ok (record c { y = l })) x e) [
+      | inl none ↦ let f = or_fault_err BadCoordinate place (y_spelled value) x none in (never (IsY value) (y_spelled value) (is_y value) f.0, f.1)
       | inr some ↦ absurd (ok_err _ x some.2)
     ]
 value_bad Tagged place value c x e =
@@ -296,8 +296,8 @@ bad_value Count place value c x bad = rw (false_from_ne_true (is_number value) (
 bad_value Flag place value c x bad = rw (none_of (flag_of value) (λ l e. bad.0 l (flag_is value l e))) (ap err (sym bad.1))
 bad_value Anything place value c x bad = absurd bad
 bad_value Name place value c x bad = rw (bad_string place value bad.0) (ap err (sym bad.1))
-bad_value X place value c x bad = rw (none_of (x_of value) (λ l e. bad.0 l (x_is value l e))) (ap err (sym bad.1))
-bad_value Y place value c x bad = rw (none_of (y_of value) (λ l e. bad.0 l (y_is value l e))) (ap err (sym bad.1))
+bad_value X place value c x bad = rw (none_of (x_spelled value) (λ l e. bad.0 l (x_is value l e))) (ap err (sym bad.1))
+bad_value Y place value c x bad = rw (none_of (y_spelled value) (λ l e. bad.0 l (y_is value l e))) (ap err (sym bad.1))
 bad_value Tagged place value c x bad = rw (bad_items tag_at IsTag IsBadTag tags_tell is_tag (place + 1) value x bad) refl
 bad_value Referring place value c x bad = rw (bad_items ref_at IsRef IsBadRef refs_tell is_ref (place + 1) value x bad) refl
 bad_value Having place value c x bad = rw (bad_items member_at IsMember IsBadMember members_tell is_member (place + 1) value x bad) refl

@@ -7,7 +7,7 @@ use Rattle.opl_reader.specs.declared.coordinate.Longitude.{Longitude}
 use Rattle.opl_reader.specs.declared.coordinate.Latitude.{Latitude}
 use Rattle.opl_reader.specs.Coordinates.{IsX, IsY}
 use Rattle.opl_reader.specs.NumberReading.{decimal_of}
-use Rattle.opl_reader.specs.CoordinateReading.{longitude, latitude, x_of, y_of}
+use Rattle.opl_reader.specs.CoordinateReading.{longitude, latitude, x_spelled, y_spelled}
 use Rattle.opl_reader.proofs.SpellingLaws.{map_some}
 use Rattle.opl_reader.proofs.PlaceLaws.{longitude_is, latitude_is, is_longitude, is_latitude, some_decimal}
 
@@ -22,28 +22,28 @@ coordinate_is {A = A} bytes o x e =
           inr (m.0, m.1, sym m.2)
     ]
 
-pub x_is : (bytes : List ℕ) (x : Option Longitude) → x_of bytes ≡ Some x → IsX bytes x
-unfolding x_of
+pub x_is : (bytes : List ℕ) (x : Option Longitude) → x_spelled bytes ≡ Some x → IsX bytes x
+unfolding x_spelled
 x_is bytes x e = elim (coordinate_is bytes (option_and_then longitude (decimal_of (pos 1800000000) bytes)) x e) [
   | inl none ↦ inl none
   | inr l ↦ inr (l.0, longitude_is bytes l.0 l.1, l.2)
 ]
 
-pub y_is : (bytes : List ℕ) (y : Option Latitude) → y_of bytes ≡ Some y → IsY bytes y
-unfolding y_of
+pub y_is : (bytes : List ℕ) (y : Option Latitude) → y_spelled bytes ≡ Some y → IsY bytes y
+unfolding y_spelled
 y_is bytes y e = elim (coordinate_is bytes (option_and_then latitude (decimal_of (pos 900000000) bytes)) y e) [
   | inl none ↦ inl none
   | inr l ↦ inr (l.0, latitude_is bytes l.0 l.1, l.2)
 ]
 
-pub is_x : (bytes : List ℕ) (x : Option Longitude) → IsX bytes x → x_of bytes ≡ Some x
-unfolding x_of
-is_x bytes x (inl none) = ap x_of none.0 ∙ ap (λ (y : Option Longitude). Some y) (sym none.1)
+pub is_x : (bytes : List ℕ) (x : Option Longitude) → IsX bytes x → x_spelled bytes ≡ Some x
+unfolding x_spelled
+is_x bytes x (inl none) = ap x_spelled none.0 ∙ ap (λ (y : Option Longitude). Some y) (sym none.1)
 is_x bytes x (inr l) =
     rw (ne_eqb (length bytes) 0 (some_decimal bytes l.0.units l.1), is_longitude bytes l.0 l.1) (ap (λ (y : Option Longitude). Some y) (sym l.2))
 
-pub is_y : (bytes : List ℕ) (y : Option Latitude) → IsY bytes y → y_of bytes ≡ Some y
-unfolding y_of
-is_y bytes y (inl none) = ap y_of none.0 ∙ ap (λ (z : Option Latitude). Some z) (sym none.1)
+pub is_y : (bytes : List ℕ) (y : Option Latitude) → IsY bytes y → y_spelled bytes ≡ Some y
+unfolding y_spelled
+is_y bytes y (inl none) = ap y_spelled none.0 ∙ ap (λ (z : Option Latitude). Some z) (sym none.1)
 is_y bytes y (inr l) =
     rw (ne_eqb (length bytes) 0 (some_decimal bytes l.0.units l.1), is_latitude bytes l.0 l.1) (ap (λ (z : Option Latitude). Some z) (sym l.2))

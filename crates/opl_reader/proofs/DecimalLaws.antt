@@ -13,7 +13,7 @@ use Rattle.std.specs.Int.Signed.{le_z_yes}
 use Rattle.std.proofs.lemmas.Float.{T_from_true}
 use Rattle.std.proofs.lemmas.Int.{ints}
 use Rattle.opl_reader.specs.Numbers.{units, AreDigits, IsUnsigned, IsMagnitude, IsId, IsDecimal}
-use Rattle.opl_reader.specs.NumberReading.{is_point, unsigned_of, up_to, within, decimal_of, magnitude_of, id_of}
+use Rattle.opl_reader.specs.NumberReading.{is_point, unsigned_of, up_to, within, decimal_of, magnitude_of, id_spelled}
 use Rattle.opl_reader.proofs.SpellingLaws.{map_some, and_then_some}
 
 pub digits_are : (bytes : List ℕ) → list_all is_ascii_digit bytes ≡ true → AreDigits bytes
@@ -38,8 +38,8 @@ is_magnitude : (text : List ℕ) (n : ℕ) → IsMagnitude text n → magnitude_
 unfolding magnitude_of
 is_magnitude text n m = rw (lt-ltb 0 (length text) m.some, are_digits text m.digits, le-leb (digits_value 10 text) 4611686018427387903 m.most) (ap (λ (k : ℕ). Some (pos k)) (sym m.worth))
 
-pub id_is : (text : List ℕ) (z : ℤ) → id_of text ≡ Some z → IsId text z
-unfolding id_of
+pub id_is : (text : List ℕ) (z : ℤ) → id_spelled text ≡ Some z → IsId text z
+unfolding id_spelled
 id_is [] z e = inl (magnitude_is [] z e)
 id_is (b ∷ bytes) z e =
     elim (cases_eq b 45) [
@@ -51,13 +51,13 @@ id_is (b ∷ bytes) z e =
       | inr ne ↦ let e2 : magnitude_of (b ∷ bytes) ≡ Some z = rw (ne_eqb b 45 ne) at e in inl (magnitude_is (b ∷ bytes) z e2)
     ]
 
-pub is_id : (text : List ℕ) (z : ℤ) → IsId text z → id_of text ≡ Some z
-unfolding id_of
+pub is_id : (text : List ℕ) (z : ℤ) → IsId text z → id_spelled text ≡ Some z
+unfolding id_spelled
 is_id [] z (inl m) = is_magnitude [] m.0 m.1 ∙ ap (λ (x : ℤ). Some x) (sym m.2)
 is_id (b ∷ bytes) z (inl m) =
     let digit = m.1.digits 0 0 (omega arith) in
     rw (ne_eqb b 45 (λ e. absurd (omega (arith, digit.0)))) (is_magnitude (b ∷ bytes) m.0 m.1 ∙ ap (λ (x : ℤ). Some x) (sym m.2))
-is_id text z (inr m) = ap id_of m.2 ∙ ap (option_map neg_ℤ) (is_magnitude m.0 m.1 m.3) ∙ ap (λ (x : ℤ). Some x) (sym m.4)
+is_id text z (inr m) = ap id_spelled m.2 ∙ ap (option_map neg_ℤ) (is_magnitude m.0 m.1 m.3) ∙ ap (λ (x : ℤ). Some x) (sym m.4)
 
 -- ---- decimals
 
@@ -176,11 +176,11 @@ is_decimal limit text z (inr (inr m)) le =
 
 -- ---- as clauses
 
-pub id_found : (text : List ℕ) (r : Option ℤ) → r ≡ id_of text → IfSome r (λ id. IsId text id)
+pub id_found : (text : List ℕ) (r : Option ℤ) → r ≡ id_spelled text → IfSome r (λ id. IsId text id)
 id_found text None e = tt
 id_found text (Some z) e = id_is text z (sym e)
 
-pub id_none : (text : List ℕ) (r : Option ℤ) → r ≡ id_of text → IfNone r ((id : ℤ) → IsId text id → ⊥)
+pub id_none : (text : List ℕ) (r : Option ℤ) → r ≡ id_spelled text → IfNone r ((id : ℤ) → IsId text id → ⊥)
 id_none text None e = λ z is. none-some z (e ∙ is_id text z is)
 id_none text (Some z) e = tt
 

@@ -13,11 +13,11 @@ use Rattle.opl_reader.specs.declared.content.Content.{Content}
 use Rattle.opl_reader.specs.Reading.{◌>>=◌, or_fault, no_reading}
 use Rattle.opl_reader.specs.Parts.{Part, without_cr, Parted}
 use Rattle.opl_reader.specs.Numbers.{IsId}
-use Rattle.opl_reader.specs.Items.{kind_of}
+use Rattle.opl_reader.specs.Items.{kind_by_letter}
 use Rattle.opl_reader.specs.Fields.{Told, nothing, object_of}
-use Rattle.opl_reader.specs.NumberReading.{id_of}
+use Rattle.opl_reader.specs.NumberReading.{id_spelled}
 use Rattle.opl_reader.specs.FieldReading.{with_field, with_fields}
-use Rattle.opl_reader.specs.LineReading.{fields_from, head_at, is_passed_over, object_at, reading_of, reading}
+use Rattle.opl_reader.specs.LineReading.{fields_from, head_at, is_passed_over, object_in_parts, reading_of, reading}
 use Rattle.opl_reader.specs.Faults.{FirstFault, seen_after, fault_at, BadField, IsKept, ObjectFault, HasFault}
 use Rattle.opl_reader.proofs.BadLaws.{bind_err, or_fault_err, field_bad, bad_field}
 use Rattle.opl_reader.proofs.DecimalLaws.{id_is, is_id}
@@ -56,36 +56,36 @@ first_is_fault kind seen fields c x first = ap (λ (fs : List Part). with_fields
 
 -- ---- the first field
 
-no_id : (digits : List ℕ) → id_of digits ≡ None → (id : ℤ) → IsId digits id → ⊥
+no_id : (digits : List ℕ) → id_spelled digits ≡ None → (id : ℤ) → IsId digits id → ⊥
 no_id digits e id is = none-some id (sym e ∙ is_id digits id is)
 
-id_none : (digits : List ℕ) → ((id : ℤ) → IsId digits id → ⊥) → id_of digits ≡ None
-id_none digits h = none_of (id_of digits) (λ id e. h id (id_is digits id e))
+id_none : (digits : List ℕ) → ((id : ℤ) → IsId digits id → ⊥) → id_spelled digits ≡ None
+id_none digits h = none_of (id_spelled digits) (λ id e. h id (id_is digits id e))
 
-head_unknown : (place : ℕ) (bytes : List ℕ) → kind_of (get_or bytes 0 0) ≡ None → head_at place bytes ≡ Err (fault_at UnknownObject place)
+head_unknown : (place : ℕ) (bytes : List ℕ) → kind_by_letter (get_or bytes 0 0) ≡ None → head_at place bytes ≡ Err (fault_at UnknownObject place)
 unfolding head_at
 head_unknown place [] e = refl
 head_unknown place (letter ∷ digits) e = rw e refl
 
-object_fault : (first : Part) (others : List Part) (x : LineFault) → object_at first others ≡ Err x → ObjectFault first others x
-unfolding object_at head_at
+object_fault : (first : Part) (others : List Part) (x : LineFault) → object_in_parts first others ≡ Err x → ObjectFault first others x
+unfolding object_in_parts head_at
 object_fault first others x e = of_bytes first.bytes refl
   where
     rest : ObjectKind × ℤ → Result Object LineFault
     rest head = with_fields head.0 [] others nothing >>= λ content. Ok (object_of head.0 head.1 content)
 
     of_bytes : (bytes : List ℕ) → first.bytes ≡ bytes → ObjectFault first others x
-    of_bytes [] is = let f : (head_at first.at [] >>= rest) ≡ Err x = ap (λ (b : List ℕ). head_at first.at b >>= rest) (sym is) ∙ e in inl (ap (λ (b : List ℕ). kind_of (get_or b 0 0)) is, sym cc)
+    of_bytes [] is = let f : (head_at first.at [] >>= rest) ≡ Err x = ap (λ (b : List ℕ). head_at first.at b >>= rest) (sym is) ∙ e in inl (ap (λ (b : List ℕ). kind_by_letter (get_or b 0 0)) is, sym cc)
     of_bytes (letter ∷ digits) is =
         let f : (head_at first.at (letter ∷ digits) >>= rest) ≡ Err x = ap (λ (b : List ℕ). head_at first.at b >>= rest) (sym is) ∙ e in
-        let begins : kind_of (get_or first.bytes 0 0) ≡ kind_of letter = ap (λ (b : List ℕ). kind_of (get_or b 0 0)) is in
+        let begins : kind_by_letter (get_or first.bytes 0 0) ≡ kind_by_letter letter = ap (λ (b : List ℕ). kind_by_letter (get_or b 0 0)) is in
         elim (bind_err (head_at first.at (letter ∷ digits)) rest x f) [
-          | inl bad ↦ elim (bind_err (or_fault UnknownObject first.at (kind_of letter)) (λ kind. or_fault BadNumber first.at (id_of digits) >>= λ id. Ok (kind, id)) x bad) [
-            | inl unknown ↦ let u = or_fault_err UnknownObject first.at (kind_of letter) x unknown in inl (begins ∙ u.0, u.1)
+          | inl bad ↦ elim (bind_err (or_fault UnknownObject first.at (kind_by_letter letter)) (λ kind. or_fault BadNumber first.at (id_spelled digits) >>= λ id. Ok (kind, id)) x bad) [
+            | inl unknown ↦ let u = or_fault_err UnknownObject first.at (kind_by_letter letter) x unknown in inl (begins ∙ u.0, u.1)
             | inr known ↦
-                let kind_is = or_fault_ok UnknownObject first.at (kind_of letter) known.0 known.1 in
-                elim (bind_err (or_fault BadNumber first.at (id_of digits)) (λ id. Ok (known.0, id)) x known.2) [
-                  | inl number ↦ let n = or_fault_err BadNumber first.at (id_of digits) x number in inr (letter, digits, known.0, is, kind_is, inl (no_id digits n.0, n.1))
+                let kind_is = or_fault_ok UnknownObject first.at (kind_by_letter letter) known.0 known.1 in
+                elim (bind_err (or_fault BadNumber first.at (id_spelled digits)) (λ id. Ok (known.0, id)) x known.2) [
+                  | inl number ↦ let n = or_fault_err BadNumber first.at (id_spelled digits) x number in inr (letter, digits, known.0, is, kind_is, inl (no_id digits n.0, n.1))
                   | inr none ↦ let g : ◌≡◌ {A = Result (ObjectKind × ℤ) LineFault} (Ok (known.0, none.0)) (Err x) = none.2 in absurd cc
                 ]
           ]
@@ -98,8 +98,8 @@ object_fault first others x e = of_bytes first.bytes refl
               ]
         ]
 
-fault_object : (first : Part) (others : List Part) (x : LineFault) → ObjectFault first others x → object_at first others ≡ Err x
-unfolding object_at head_at
+fault_object : (first : Part) (others : List Part) (x : LineFault) → ObjectFault first others x → object_in_parts first others ≡ Err x
+unfolding object_in_parts head_at
 fault_object first others x (inl unknown) =
     ap (λ (r : Result (ObjectKind × ℤ) LineFault). r >>= λ head. with_fields head.0 [] others nothing >>= λ content. Ok (object_of head.0 head.1 content)) (head_unknown first.at first.bytes unknown.0) ∙ ap (λ (f : LineFault). Err f) (sym unknown.1)
 fault_object first others x (inr f) =
@@ -120,7 +120,7 @@ kept_is line first others is passed =
     record { fields = subst (Parted 0 (without_cr line)) is (parted 0 (without_cr line)); comment = eqb-false _ _ p.0; changeset = eqb-false _ _ p.1 }
 
 kept_read : (line : List ℕ) (first : Part) (others : List Part) → IsKept line first others → (b : Bool) → is_utf8 (without_cr line) ≡ b
-    → reading line ≡ cond b (object_at first others >>= λ o. Ok (Some o)) (no_reading NotUtf8 (utf8_valid_len (without_cr line)))
+    → reading line ≡ cond b (object_in_parts first others >>= λ o. Ok (Some o)) (no_reading NotUtf8 (utf8_valid_len (without_cr line)))
 unfolding reading
 kept_read line first others kept b utf8 =
     ap (reading_of (without_cr line)) (is_parted 0 (without_cr line) (first ∷ others) kept.fields)
@@ -133,11 +133,11 @@ fault_from line x (first ∷ others) is e =
     elim (cases_Bool (is_passed_over first)) [
       | inl passed ↦ let f : ◌≡◌ {A = Result (Option Object) LineFault} (Ok None) (Err x) = rw passed at e in absurd cc
       | inr not_passed ↦
-          let e2 : cond (is_utf8 text) (object_at first others >>= λ o. Ok (Some o)) (no_reading NotUtf8 (utf8_valid_len text)) ≡ Err x = rw not_passed at e in
+          let e2 : cond (is_utf8 text) (object_in_parts first others >>= λ o. Ok (Some o)) (no_reading NotUtf8 (utf8_valid_len text)) ≡ Err x = rw not_passed at e in
           elim (cases_Bool (is_utf8 text)) [
             | inl utf8 ↦
-                let e3 : (object_at first others >>= λ o. Ok (Some o)) ≡ Err x = rw utf8 at e2 in
-                elim (bind_err (object_at first others) (λ o. Ok (Some o)) x e3) [
+                let e3 : (object_in_parts first others >>= λ o. Ok (Some o)) ≡ Err x = rw utf8 at e2 in
+                elim (bind_err (object_in_parts first others) (λ o. Ok (Some o)) x e3) [
                   | inl bad ↦ record { first = first; others = others; kept = kept_is line first others is not_passed; why = inr (IsUtf8-from_is_utf8 text utf8, object_fault first others x bad) }
                   | inr none ↦ let g : ◌≡◌ {A = Result (Option Object) LineFault} (Ok (Some none.0)) (Err x) = none.2 in absurd cc
                 ]

@@ -5,10 +5,10 @@ use Rattle.std.specs.Option.{unwrap_or}
 use Rattle.std.proofs.lemmas.Bool.{cases_lt, false_from_ne_true, eqb-true}
 use Rattle.osm_lattice.specs.declared.loc.Loc.{Loc}
 use Rattle.opl_reader.specs.declared.object.Ref.{Ref}
-use Rattle.opl_reader.specs.Coordinates.{place_of}
+use Rattle.opl_reader.specs.Coordinates.{location_from}
 use Rattle.opl_reader.specs.CoordinateReading.{longitude, latitude}
 use Rattle.opl_reader.specs.Compact.{number_bytes, number_in, after_number, difference, moved}
-use Rattle.opl_reader.specs.Held.{node_from, place_from, x_from, y_from, place_bytes, ref_bytes, refs_bytes, first_place, after_place, first_ref, after_ref, refs_within, refs_behind, last_behind, AreRefs}
+use Rattle.opl_reader.specs.Held.{compared_id, place_from, x_from, y_from, place_bytes, ref_bytes, refs_bytes, first_place, after_place, first_ref, after_ref, refs_within, refs_behind, last_behind, AreRefBytes}
 use Rattle.opl_reader.proofs.CompactLemmas.{last_digit, more_digits, near_small, number_told, behind_told, difference_small, moved_back, moved_fits, after_first, after_shorter}
 use Rattle.opl_reader.proofs.PlaceLaws.{own_place}
 
@@ -51,14 +51,14 @@ two_told a b more small_a small_b =
       behind = ap after_number after ∙ behind_told b more small_b;
     }
 
-place_at_told : (from : Option Loc) (at : Loc) → place_of (longitude (moved (x_from from) (difference (x_from from) at.x))) (latitude (moved (y_from from) (difference (y_from from) at.y))) ≡ Some at
+place_at_told : (from : Option Loc) (at : Loc) → location_from (longitude (moved (x_from from) (difference (x_from from) at.x))) (latitude (moved (y_from from) (difference (y_from from) at.y))) ≡ Some at
 place_at_told from at =
     let x = moved_back (x_from from) at.x (fits_near (x_from from) (near_x from)) (fits_near at.x at.x_in) in
     let near = near_y from in
     let within = at.y_in in
     let y = moved_back (y_from from) at.y (fits_near (y_from from) (omega arith)) (fits_near at.y (omega arith)) in
-    ap (λ (z : ℤ). place_of (longitude z) (latitude (moved (y_from from) (difference (y_from from) at.y)))) x
-    ∙ ap (λ (z : ℤ). place_of (longitude at.x) (latitude z)) y
+    ap (λ (z : ℤ). location_from (longitude z) (latitude (moved (y_from from) (difference (y_from from) at.y)))) x
+    ∙ ap (λ (z : ℤ). location_from (longitude at.x) (latitude z)) y
     ∙ own_place at
 
 place_told : (from at : Option Loc) (more : List ℕ) → PlaceTold from at more
@@ -80,15 +80,15 @@ record RefTold (first : Option Ref) (r : Ref) (more : List ℕ) : Type 0 where
   ref : first_ref first (ref_bytes first r ++ more) ≡ r
   behind : after_ref (ref_bytes first r ++ more) ≡ more
 
-ref_told : (first : Option Ref) (r : Ref) (more : List ℕ) → FitsSigned w64 (node_from first) → FitsSigned w64 r.node → RefTold first r more
+ref_told : (first : Option Ref) (r : Ref) (more : List ℕ) → FitsSigned w64 (compared_id first) → FitsSigned w64 r.node → RefTold first r more
 ref_told first r more fits_first fits =
-    let by = difference (node_from first) r.node in
+    let by = difference (compared_id first) r.node in
     let place = place_bytes (place_from first) r.at in
     let e : ref_bytes first r ++ more ≡ number_bytes by ++ (place ++ more) = append_assoc (number_bytes by) place more in
-    let small = difference_small (node_from first) r.node in
+    let small = difference_small (compared_id first) r.node in
     let number : number_in (ref_bytes first r ++ more) ≡ by = ap number_in e ∙ number_told by (place ++ more) small in
     let after : after_number (ref_bytes first r ++ more) ≡ place ++ more = ap after_number e ∙ behind_told by (place ++ more) small in
-    let node : moved (node_from first) (number_in (ref_bytes first r ++ more)) ≡ r.node = ap (moved (node_from first)) number ∙ moved_back (node_from first) r.node fits_first fits in
+    let node : moved (compared_id first) (number_in (ref_bytes first r ++ more)) ≡ r.node = ap (moved (compared_id first)) number ∙ moved_back (compared_id first) r.node fits_first fits in
     let told = place_told (place_from first) r.at more in
     let at : first_place (place_from first) (after_number (ref_bytes first r ++ more)) ≡ r.at = ap (first_place (place_from first)) after ∙ told.place in
     record { ref = ap (λ (n : ℤ). record { node = n; at = first_place (place_from first) (after_number (ref_bytes first r ++ more)) }) node ∙ ap (λ (o : Option Loc). record { node = r.node; at = o }) at; behind = ap after_place after ∙ told.behind }
@@ -103,8 +103,8 @@ some_bytes n = elim (cases_lt n 128) [
 
 some_ref_bytes : (first : Option Ref) (r : Ref) → 0 < length (ref_bytes first r)
 some_ref_bytes first r =
-    let some = some_bytes (difference (node_from first) r.node) in
-    let n = length-append (number_bytes (difference (node_from first) r.node)) (place_bytes (place_from first) r.at) in
+    let some = some_bytes (difference (compared_id first) r.node) in
+    let n = length-append (number_bytes (difference (compared_id first) r.node)) (place_bytes (place_from first) r.at) in
     omega arith
 
 after_place_shorter : (bytes : List ℕ) → length (after_place bytes) ≤ length bytes
@@ -176,15 +176,15 @@ all_fit zero first bytes = tt
 all_fit (suc more) first [] = tt
 all_fit (suc more) first (byte ∷ bytes) =
     let r = first_ref first (byte ∷ bytes) in
-    (moved_fits (node_from first) (number_in (byte ∷ bytes)), all_fit more (Some (unwrap_or first r)) (after_ref (byte ∷ bytes)))
+    (moved_fits (compared_id first) (number_in (byte ∷ bytes)), all_fit more (Some (unwrap_or first r)) (after_ref (byte ∷ bytes)))
 
-first_fits : (first : Option Ref) (r : Ref) → FitsSigned w64 (node_from first) → FitsSigned w64 r.node → FitsSigned w64 (node_from (Some (unwrap_or first r)))
+first_fits : (first : Option Ref) (r : Ref) → FitsSigned w64 (compared_id first) → FitsSigned w64 r.node → FitsSigned w64 (compared_id (Some (unwrap_or first r)))
 first_fits None r fits_first fits = fits
 first_fits (Some f) r fits_first fits = fits_first
 
 -- ---- the bytes of references tell these
 
-told : (refs : List Ref) (first : Option Ref) → FitsSigned w64 (node_from first) → Fit refs → refs_behind first (refs_bytes first refs) ≡ refs
+told : (refs : List Ref) (first : Option Ref) → FitsSigned w64 (compared_id first) → Fit refs → refs_behind first (refs_bytes first refs) ≡ refs
 told [] first fits_first fits = refl
 told (r ∷ refs) first fits_first fits =
     let after = Some (unwrap_or first r) in
@@ -223,7 +223,7 @@ fit_more [] r fits fits_r = (fits_r, tt)
 fit_more (s ∷ refs) r fits fits_r = (fits.0, fit_more refs r fits.1 fits_r)
 
 -- the bytes of one more are those of all
-pushed_bytes : (bytes new : List ℕ) (r : Ref) → AreRefs bytes → new ≡ bytes ++ ref_bytes (slice_get (refs_behind None bytes) 0) r → new ≡ refs_bytes None (refs_behind None bytes ++ r ∷ [])
+pushed_bytes : (bytes new : List ℕ) (r : Ref) → AreRefBytes bytes → new ≡ bytes ++ ref_bytes (slice_get (refs_behind None bytes) 0) r → new ≡ refs_bytes None (refs_behind None bytes ++ r ∷ [])
 pushed_bytes bytes new r are pushed =
     let refs = refs_behind None bytes in
     sym (bytes_more None refs r ∙ ap (λ (f : Option Ref). refs_bytes None refs ++ ref_bytes f r) (first_is refs) ∙ ap (λ (b : List ℕ). b ++ ref_bytes (slice_get refs 0) r) are ∙ sym pushed)
@@ -231,17 +231,17 @@ pushed_bytes bytes new r are pushed =
 told_more : (bytes : List ℕ) (r : Ref) → FitsSigned w64 r.node → refs_behind None (refs_bytes None (refs_behind None bytes ++ r ∷ [])) ≡ refs_behind None bytes ++ r ∷ []
 told_more bytes r fits =
     let refs = refs_behind None bytes in
-    let zero_fits : FitsSigned w64 (node_from None) = search rules in
+    let zero_fits : FitsSigned w64 (compared_id None) = search rules in
     told (refs ++ r ∷ []) None zero_fits (fit_more refs r (all_fit (length bytes) None bytes) fits)
 
 -- ---- as the functions know them
 
-pub pushed_is : (bytes new : List ℕ) (refs : List Ref) (r : Ref) → AreRefs bytes → refs_behind None bytes ≡ refs → FitsSigned w64 r.node → new ≡ bytes ++ ref_bytes (slice_get refs 0) r → refs_behind None new ≡ refs ++ r ∷ []
+pub pushed_is : (bytes new : List ℕ) (refs : List Ref) (r : Ref) → AreRefBytes bytes → refs_behind None bytes ≡ refs → FitsSigned w64 r.node → new ≡ bytes ++ ref_bytes (slice_get refs 0) r → refs_behind None new ≡ refs ++ r ∷ []
 pushed_is bytes new refs r are is fits pushed =
     let e = pushed_bytes bytes new r are (pushed ∙ ap (λ (rs : List Ref). bytes ++ ref_bytes (slice_get rs 0) r) (sym is)) in
     ap (refs_behind None) e ∙ told_more bytes r fits ∙ ap (λ (rs : List Ref). rs ++ r ∷ []) is
 
-pub pushed_are : (bytes new : List ℕ) (refs : List Ref) (r : Ref) → AreRefs bytes → refs_behind None bytes ≡ refs → FitsSigned w64 r.node → new ≡ bytes ++ ref_bytes (slice_get refs 0) r → AreRefs new
+pub pushed_are : (bytes new : List ℕ) (refs : List Ref) (r : Ref) → AreRefBytes bytes → refs_behind None bytes ≡ refs → FitsSigned w64 r.node → new ≡ bytes ++ ref_bytes (slice_get refs 0) r → AreRefBytes new
 pushed_are bytes new refs r are is fits pushed =
     let e = pushed_bytes bytes new r are (pushed ∙ ap (λ (rs : List Ref). bytes ++ ref_bytes (slice_get rs 0) r) (sym is)) in
     ap (refs_bytes None) (pushed_is bytes new refs r are is fits pushed ∙ ap (λ (rs : List Ref). rs ++ r ∷ []) (sym is)) ∙ sym e

@@ -19,12 +19,12 @@ use Rattle.opl_reader.specs.Reading.{◌>>=◌, or_fault}
 use Rattle.opl_reader.specs.Parts.{Lacks}
 use Rattle.opl_reader.specs.Numbers.{IsId}
 use Rattle.opl_reader.specs.Strings.{IsString}
-use Rattle.opl_reader.specs.Coordinates.{place_of}
-use Rattle.opl_reader.specs.Items.{kind_of, Each, IsItems, IsTag, IsOwnPlace, IsRef, HasTarget, IsMember}
-use Rattle.opl_reader.specs.NumberReading.{id_of}
-use Rattle.opl_reader.specs.CoordinateReading.{x_of, y_of}
+use Rattle.opl_reader.specs.Coordinates.{location_from}
+use Rattle.opl_reader.specs.Items.{kind_by_letter, Each, IsItems, IsTag, IsOwnPlace, IsRef, HasTarget, IsMember}
+use Rattle.opl_reader.specs.NumberReading.{id_spelled}
+use Rattle.opl_reader.specs.CoordinateReading.{x_spelled, y_spelled}
 use Rattle.opl_reader.specs.StringReading.{string_of, string_at}
-use Rattle.opl_reader.specs.ItemReading.{placed, is_comma, items, each, halves, tag_at, own_place_of, ref_in, ref_behind, ref_of, ref_at, target_of, member_at}
+use Rattle.opl_reader.specs.ItemReading.{placed, is_comma, items, each, halves, tag_at, own_place_of, ref_in, ref_behind, ref_spelled, ref_at, target_of, member_at}
 use Rattle.opl_reader.proofs.PartedLaws.{commas, are_commas}
 use Rattle.opl_reader.proofs.SpellingLaws.{map_some, and_then_some, read_is_spelled, spelled_is_read}
 use Rattle.opl_reader.proofs.DecimalLaws.{id_is, is_id}
@@ -153,9 +153,9 @@ is_tag place bytes t h =
 own_place_is : (bytes : List ℕ) (at : Option Loc) → own_place_of bytes ≡ Some at → IsOwnPlace (120 ∷ bytes) at
 unfolding own_place_of
 own_place_is bytes at e =
-    let a = and_then_some (halves 121 bytes) (λ parts. option_and_then (λ x. option_map (λ y. place_of x y) (y_of parts.1)) (x_of parts.0)) at e in
-    let b = and_then_some (x_of a.0.0) (λ x. option_map (λ y. place_of x y) (y_of a.0.1)) at a.2 in
-    let c = map_some (y_of a.0.1) (λ y. place_of b.0 y) at b.2 in
+    let a = and_then_some (halves 121 bytes) (λ parts. option_and_then (λ x. option_map (λ y. location_from x y) (y_spelled parts.1)) (x_spelled parts.0)) at e in
+    let b = and_then_some (x_spelled a.0.0) (λ x. option_map (λ y. location_from x y) (y_spelled a.0.1)) at a.2 in
+    let c = map_some (y_spelled a.0.1) (λ y. location_from b.0 y) at b.2 in
     let h = halves_are 121 bytes a.0 a.1 in
     record {
       x_bytes = a.0.0;
@@ -179,7 +179,7 @@ is_own_place bytes at h = (
 
 ref_behind_is : (bytes : List ℕ) (parts : Option (List ℕ × List ℕ)) (r : Ref) → halves 120 bytes ≡ parts → ref_in bytes parts ≡ Some r → IsRef (110 ∷ bytes) r
 ref_behind_is bytes None r cut e =
-    let a = map_some (id_of bytes) (λ id. record { node = id; at = None }) r e in
+    let a = map_some (id_spelled bytes) (λ id. record { node = id; at = None }) r e in
     record {
       digits = bytes;
       behind = [];
@@ -189,7 +189,7 @@ ref_behind_is bytes None r cut e =
       at_is = inl (refl, ap (λ (q : Ref). q.at) (sym a.2));
     }
 ref_behind_is bytes (Some parts) r cut e =
-    let a = and_then_some (id_of parts.0) (λ id. option_map (λ at. record { node = id; at = at }) (own_place_of parts.1)) r e in
+    let a = and_then_some (id_spelled parts.0) (λ id. option_map (λ at. record { node = id; at = at }) (own_place_of parts.1)) r e in
     let b = map_some (own_place_of parts.1) (λ at. record { node = a.0; at = at }) r a.2 in
     let h = halves_are 120 bytes parts cut in
     record {
@@ -202,10 +202,10 @@ ref_behind_is bytes (Some parts) r cut e =
     }
 
 pub ref_is : (place : ℕ) (bytes : List ℕ) (r : Ref) → ref_at place bytes ≡ Ok r → IsRef bytes r
-unfolding ref_at ref_of ref_behind
-ref_is place bytes r e = of_ref bytes (or_fault_ok BadReference place (ref_of bytes) r e)
+unfolding ref_at ref_spelled ref_behind
+ref_is place bytes r e = of_ref bytes (or_fault_ok BadReference place (ref_spelled bytes) r e)
   where
-    of_ref : (bytes : List ℕ) → ref_of bytes ≡ Some r → IsRef bytes r
+    of_ref : (bytes : List ℕ) → ref_spelled bytes ≡ Some r → IsRef bytes r
     of_ref [] e = absurd cc
     of_ref (b ∷ behind) e =
         elim (cases_eq b 110) [
@@ -226,8 +226,8 @@ is_ref_behind digits behind r lacks id (inr own) =
     ap ref_behind all ∙ made
 
 pub is_ref : (place : ℕ) (bytes : List ℕ) (r : Ref) → IsRef bytes r → ref_at place bytes ≡ Ok r
-unfolding ref_at ref_of
-is_ref place bytes r h = ap (λ (b : List ℕ). or_fault BadReference place (ref_of b)) h.parts ∙ ap (or_fault BadReference place) (is_ref_behind h.digits h.behind r h.first h.id_is h.at_is)
+unfolding ref_at ref_spelled
+is_ref place bytes r h = ap (λ (b : List ℕ). or_fault BadReference place (ref_spelled b)) h.parts ∙ ap (or_fault BadReference place) (is_ref_behind h.digits h.behind r h.first h.id_is h.at_is)
 
 -- ---- members
 
@@ -235,8 +235,8 @@ pub target_is : (bytes front role : List ℕ) (kind : ObjectKind) (id : ℤ) →
 unfolding target_of
 target_is bytes [] role kind id parts lacks e = absurd cc
 target_is bytes (letter ∷ digits) role kind id parts lacks e =
-    let a = and_then_some (kind_of letter) (λ k. option_map (λ i. (k, i)) (id_of digits)) (kind, id) e in
-    let b = map_some (id_of digits) (λ i. (a.0, i)) (kind, id) a.2 in
+    let a = and_then_some (kind_by_letter letter) (λ k. option_map (λ i. (k, i)) (id_spelled digits)) (kind, id) e in
+    let b = map_some (id_spelled digits) (λ i. (a.0, i)) (kind, id) a.2 in
     let k : a.0 ≡ kind = ap (λ (q : ObjectKind × ℤ). q.0) b.2 in
     let i : b.0 ≡ id = ap (λ (q : ObjectKind × ℤ). q.1) b.2 in
     record { letter = letter; digits = digits; parts = parts; first = lacks; kind_is = a.1 ∙ ap (λ (x : ObjectKind). Some x) k; id_is = subst (IsId digits) i (id_is digits b.0 b.1) }

@@ -15,8 +15,8 @@ use Rattle.opl_reader.specs.declared.fault.FaultKind.TheVariants.{BadReference}
 use Rattle.opl_reader.specs.declared.object.Ref.{Ref}
 use Rattle.opl_reader.specs.Reading.{◌>>=◌, Fails, or_fault}
 use Rattle.opl_reader.specs.Parts.{Part}
-use Rattle.opl_reader.specs.ItemReading.{placed, is_comma, items, each, ref_behind, ref_of, ref_at}
-use Rattle.opl_reader.specs.NumberReading.{id_of, magnitude_of}
+use Rattle.opl_reader.specs.ItemReading.{placed, is_comma, items, each, ref_behind, ref_spelled, ref_at}
+use Rattle.opl_reader.specs.NumberReading.{id_spelled, magnitude_of}
 use Rattle.opl_reader.specs.Steps.{LeadingDigits, BeginsWithRef, IsFirstRef, all_left, left_parts, left_len}
 use Rattle.opl_reader.proofs.CutLemmas.{split-none, split-some, passes-at}
 use Rattle.opl_reader.proofs.NumberLemmas.{first_behind}
@@ -84,8 +84,8 @@ module _ {A : Type 0} (read : ℕ → List ℕ → Result A LineFault) where
 
 -- ---- a reference as most are written
 
-digits_id : (b : ℕ) (bytes : List ℕ) (node : ℕ) → list_all is_ascii_digit (b ∷ bytes) ≡ true → node ≡ digits_value 10 (b ∷ bytes) → node < 10 ^ 18 → id_of (b ∷ bytes) ≡ Some (pos node)
-unfolding id_of magnitude_of
+digits_id : (b : ℕ) (bytes : List ℕ) (node : ℕ) → list_all is_ascii_digit (b ∷ bytes) ≡ true → node ≡ digits_value 10 (b ∷ bytes) → node < 10 ^ 18 → id_spelled (b ∷ bytes) ≡ Some (pos node)
+unfolding id_spelled magnitude_of
 digits_id b bytes node digits worth small =
     let p = and_parts (is_ascii_digit b) (list_all is_ascii_digit bytes) digits in
     let q = and_parts (leb 48 b) (leb b 57) p.0 in
@@ -93,7 +93,7 @@ digits_id b bytes node digits worth small =
     let value : digits_value 10 (b ∷ bytes) ≤ 4611686018427387903 = omega (arith, worth) in
     rw (ne_eqb b 45 (λ e. absurd (omega arith)), lt-ltb 0 (length (b ∷ bytes)) (omega arith), digits, le-leb (digits_value 10 (b ∷ bytes)) 4611686018427387903 value) (ap (λ (k : ℕ). Some (pos k)) (sym worth))
 
-some_digits : (bytes : List ℕ) (node : ℕ) → 0 < length bytes → list_all is_ascii_digit bytes ≡ true → node ≡ digits_value 10 bytes → node < 10 ^ 18 → id_of bytes ≡ Some (pos node)
+some_digits : (bytes : List ℕ) (node : ℕ) → 0 < length bytes → list_all is_ascii_digit bytes ≡ true → node ≡ digits_value 10 bytes → node < 10 ^ 18 → id_spelled bytes ≡ Some (pos node)
 some_digits [] node some digits worth small = absurd (omega arith)
 some_digits (b ∷ bytes) node some digits worth small = digits_id b bytes node digits worth small
 
@@ -107,7 +107,7 @@ digits_behind bytes node some digits worth small =
 
 pub begins_with_ref : (rest digits : List ℕ) (node count : ℕ) → rest ≡ 110 ∷ digits → LeadingDigits digits node count → 0 < count → count ≤ length digits → node < 10 ^ 18 → (count < length digits → get_or digits count 0 ≡ 44)
     → BeginsWithRef rest (record { node = pos node; at = None }) (count + 1)
-unfolding ref_of
+unfolding ref_spelled
 begins_with_ref rest digits node count is lead some inside small comma = record {
   inside = omega (arith, ap length is);
   ends =
@@ -126,7 +126,7 @@ pub usual_last : (rest : List ℕ) (reference : Ref) (len : ℕ) → BeginsWithR
 usual_last rest reference len begins is = record {
   item = rest;
   parts = split-none is_comma rest (begins.ends ∙ is);
-  read = sym begins.read ∙ ap ref_of (take_all len rest (omega arith));
+  read = sym begins.read ∙ ap ref_spelled (take_all len rest (omega arith));
   long = sym is;
   whole = omega arith;
 }
@@ -140,7 +140,7 @@ usual_more rest back reference len begins lt behind = record {
   whole = omega (arith, ap length behind, length-drop (len + 1) rest);
 }
 
-pub any_ref : (rest item : List ℕ) (left : Option (List ℕ)) → slice_split is_comma rest ≡ item ∷ left_parts left → length item + left_len left ≡ length rest → IsFirstRef rest (ref_of item) (length item) left
+pub any_ref : (rest item : List ℕ) (left : Option (List ℕ)) → slice_split is_comma rest ≡ item ∷ left_parts left → length item + left_len left ≡ length rest → IsFirstRef rest (ref_spelled item) (length item) left
 any_ref rest item left parts whole = record { item = item; parts = parts; read = refl; long = refl; whole = whole }
 
 pub comma_ascii : (rest : List ℕ) (reference : Ref) (len : ℕ) → BeginsWithRef rest reference len → len < length rest → get_or rest len 0 < 128
@@ -148,10 +148,10 @@ comma_ascii rest reference len begins lt =
     let comma : get_or rest len 0 ≡ 44 = eqb-true (get_or rest len 0) 44 (passes-at is_comma rest len (sym begins.ends) lt) in
     omega arith
 
-pub no_ref : (place : ℕ) (item : List ℕ) → None ≡ ref_of item → ref_at place item ≡ Err (record { kind = BadReference; place = place })
+pub no_ref : (place : ℕ) (item : List ℕ) → None ≡ ref_spelled item → ref_at place item ≡ Err (record { kind = BadReference; place = place })
 unfolding ref_at
 no_ref place item e = ap (or_fault BadReference place) (sym e)
 
-pub one_ref : (place : ℕ) (item : List ℕ) (reference : Ref) → Some reference ≡ ref_of item → ref_at place item ≡ Ok reference
+pub one_ref : (place : ℕ) (item : List ℕ) (reference : Ref) → Some reference ≡ ref_spelled item → ref_at place item ≡ Ok reference
 unfolding ref_at
 one_ref place item reference e = ap (or_fault BadReference place) (sym e)

@@ -18,14 +18,14 @@ use Rattle.opl_reader.specs.declared.content.Content.{Content}
 use Rattle.opl_reader.specs.Reading.{◌>>=◌, no_reading, or_fault}
 use Rattle.opl_reader.specs.Parts.{Part, without_cr, Lacks, Parted}
 use Rattle.opl_reader.specs.Numbers.{IsId, IsCount, IsNumber}
-use Rattle.opl_reader.specs.Items.{first_of_each, kind_of, IsTag, IsRef, IsMember}
+use Rattle.opl_reader.specs.Items.{first_of_each, kind_by_letter, IsTag, IsRef, IsMember}
 use Rattle.opl_reader.specs.Fields.{letter_of, nothing, object_of, IsFlag, Tells, FieldTells, Told}
-use Rattle.opl_reader.specs.NumberReading.{id_of, is_count, is_number}
+use Rattle.opl_reader.specs.NumberReading.{id_spelled, is_count, is_number}
 use Rattle.opl_reader.specs.StringReading.{string_at}
 use Rattle.opl_reader.specs.ItemReading.{items, each, tag_at, ref_at, member_at, tags_at, refs_at, members_at}
-use Rattle.opl_reader.specs.CoordinateReading.{x_of, y_of}
+use Rattle.opl_reader.specs.CoordinateReading.{x_spelled, y_spelled}
 use Rattle.opl_reader.specs.FieldReading.{flag_of, with_value, with_field, with_fields}
-use Rattle.opl_reader.specs.LineReading.{head_at, object_at, fields_from, is_passed_over, reading_of, reading}
+use Rattle.opl_reader.specs.LineReading.{head_at, object_in_parts, fields_from, is_passed_over, reading_of, reading}
 use Rattle.opl_reader.specs.Spells.{Spells, IsPassedOver, IsAside}
 use Rattle.opl_reader.specs.Steps.{begins_passed}
 use Rattle.opl_reader.proofs.PartedLaws.{parted, is_parted}
@@ -91,8 +91,8 @@ value_tells Count place value c d e = let g = guard (is_number value) c d _ e in
 value_tells Flag place value c d e = let a = bind_ok (or_fault BadFlag place (flag_of value)) (λ live. Ok (record c { live = live })) d e in (a.0, flag_is value a.0 (or_fault_ok BadFlag place (flag_of value) a.0 a.1), cc (a.2))
 value_tells Anything place value c d e = cc
 value_tells Name place value c d e = let a = bind_ok (string_at place value) (λ name. Ok c) d e in (a.0, string_ok place value a.0 a.1, cc (a.2))
-value_tells X place value c d e = let a = bind_ok (or_fault BadCoordinate place (x_of value)) (λ x. Ok (record c { x = x })) d e in (a.0, x_is value a.0 (or_fault_ok BadCoordinate place (x_of value) a.0 a.1), cc (a.2))
-value_tells Y place value c d e = let a = bind_ok (or_fault BadCoordinate place (y_of value)) (λ y. Ok (record c { y = y })) d e in (a.0, y_is value a.0 (or_fault_ok BadCoordinate place (y_of value) a.0 a.1), cc (a.2))
+value_tells X place value c d e = let a = bind_ok (or_fault BadCoordinate place (x_spelled value)) (λ x. Ok (record c { x = x })) d e in (a.0, x_is value a.0 (or_fault_ok BadCoordinate place (x_spelled value) a.0 a.1), cc (a.2))
+value_tells Y place value c d e = let a = bind_ok (or_fault BadCoordinate place (y_spelled value)) (λ y. Ok (record c { y = y })) d e in (a.0, y_is value a.0 (or_fault_ok BadCoordinate place (y_spelled value) a.0 a.1), cc (a.2))
 value_tells Tagged place value c d e =
     let a = bind_ok (tags_at (place + 1) value) (λ tags. Ok (record c { tags = tags })) d e in
     let b = bind_ok (each tag_at (items (place + 1) value)) (λ tags. Ok (first_of_each tags)) a.0 a.1 in
@@ -159,28 +159,28 @@ told_fields kind seen (f ∷ fields) c d t = rw (tells_field kind seen f.at f.by
 
 -- ---- lines
 
-pub head_is : (place : ℕ) (bytes : List ℕ) (head : ObjectKind × ℤ) → head_at place bytes ≡ Ok head → (letter : ℕ) × (digits : List ℕ) × (bytes ≡ letter ∷ digits) × (kind_of letter ≡ Some head.0) × IsId digits head.1
+pub head_is : (place : ℕ) (bytes : List ℕ) (head : ObjectKind × ℤ) → head_at place bytes ≡ Ok head → (letter : ℕ) × (digits : List ℕ) × (bytes ≡ letter ∷ digits) × (kind_by_letter letter ≡ Some head.0) × IsId digits head.1
 unfolding head_at
 head_is place [] head e = absurd cc
 head_is place (letter ∷ digits) head e =
-    let a = bind_ok (or_fault UnknownObject place (kind_of letter)) (λ kind. or_fault BadNumber place (id_of digits) >>= λ id. Ok (kind, id)) head e in
-    let b = bind_ok (or_fault BadNumber place (id_of digits)) (λ id. Ok (a.0, id)) head a.2 in
+    let a = bind_ok (or_fault UnknownObject place (kind_by_letter letter)) (λ kind. or_fault BadNumber place (id_spelled digits) >>= λ id. Ok (kind, id)) head e in
+    let b = bind_ok (or_fault BadNumber place (id_spelled digits)) (λ id. Ok (a.0, id)) head a.2 in
     let same : (a.0, b.0) ≡ head = cc (b.2) in
-    (letter, digits, refl, or_fault_ok UnknownObject place (kind_of letter) a.0 a.1 ∙ ap (λ (h : ObjectKind × ℤ). Some h.0) same, subst (λ (h : ObjectKind × ℤ). IsId digits h.1) same (id_is digits b.0 (or_fault_ok BadNumber place (id_of digits) b.0 b.1)))
+    (letter, digits, refl, or_fault_ok UnknownObject place (kind_by_letter letter) a.0 a.1 ∙ ap (λ (h : ObjectKind × ℤ). Some h.0) same, subst (λ (h : ObjectKind × ℤ). IsId digits h.1) same (id_is digits b.0 (or_fault_ok BadNumber place (id_spelled digits) b.0 b.1)))
 
 spells_from : (line : List ℕ) (o : Object) (fields : List Part) → fields_from 0 (without_cr line) ≡ fields → reading_of (without_cr line) fields ≡ Ok (Some o) → Spells line o
-unfolding object_at
+unfolding object_in_parts
 spells_from line o [] is e = absurd cc
 spells_from line o (first ∷ others) is e =
     let text = without_cr line in
     elim (cases_Bool (is_passed_over first)) [
       | inl passed ↦ let f : ◌≡◌ {A = Result (Option Object) LineFault} (Ok None) (Ok (Some o)) = rw passed at e in absurd cc
       | inr not_passed ↦
-          let e2 : cond (is_utf8 text) (object_at first others >>= λ x. Ok (Some x)) (no_reading NotUtf8 (utf8_valid_len text)) ≡ Ok (Some o) = rw not_passed at e in
+          let e2 : cond (is_utf8 text) (object_in_parts first others >>= λ x. Ok (Some x)) (no_reading NotUtf8 (utf8_valid_len text)) ≡ Ok (Some o) = rw not_passed at e in
           elim (cases_Bool (is_utf8 text)) [
             | inl utf8 ↦
-                let e3 : (object_at first others >>= λ x. Ok (Some x)) ≡ Ok (Some o) = rw utf8 at e2 in
-                let a = bind_ok (object_at first others) (λ x. Ok (Some x)) (Some o) e3 in
+                let e3 : (object_in_parts first others >>= λ x. Ok (Some x)) ≡ Ok (Some o) = rw utf8 at e2 in
+                let a = bind_ok (object_in_parts first others) (λ x. Ok (Some x)) (Some o) e3 in
                 let b = bind_ok (head_at first.at first.bytes) (λ head. with_fields head.0 [] others nothing >>= λ content. Ok (object_of head.0 head.1 content)) a.0 a.1 in
                 let c = bind_ok (with_fields b.0.0 [] others nothing) (λ content. Ok (object_of b.0.0 b.0.1 content)) a.0 b.2 in
                 let h = head_is first.at first.bytes b.0 b.1 in
@@ -209,8 +209,8 @@ pub read_spells : (line : List ℕ) (o : Object) → reading line ≡ Ok (Some o
 unfolding reading
 read_spells line o e = spells_from line o (fields_from 0 (without_cr line)) refl e
 
-object_letter : (letter : ℕ) (kind : ObjectKind) → kind_of letter ≡ Some kind → (eqb letter 35 || eqb letter 99) ≡ false
-object_letter letter kind e = rw (ne_eqb letter 35 (λ is. none-some kind (ap kind_of (sym is) ∙ e)), ne_eqb letter 99 (λ is. none-some kind (ap kind_of (sym is) ∙ e))) refl
+object_letter : (letter : ℕ) (kind : ObjectKind) → kind_by_letter letter ≡ Some kind → (eqb letter 35 || eqb letter 99) ≡ false
+object_letter letter kind e = rw (ne_eqb letter 35 (λ is. none-some kind (ap kind_by_letter (sym is) ∙ e)), ne_eqb letter 99 (λ is. none-some kind (ap kind_by_letter (sym is) ∙ e))) refl
 
 pub spells_read : (line : List ℕ) (o : Object) → Spells line o → reading line ≡ Ok (Some o)
 unfolding head_at
@@ -234,9 +234,9 @@ passed_from line (first ∷ others) is e =
     elim (cases_Bool (is_passed_over first)) [
       | inl passed ↦ inr (begun first.bytes refl passed)
       | inr not_passed ↦
-          let e2 : cond (is_utf8 text) (object_at first others >>= λ x. Ok (Some x)) (no_reading NotUtf8 (utf8_valid_len text)) ≡ Ok None = rw not_passed at e in
+          let e2 : cond (is_utf8 text) (object_in_parts first others >>= λ x. Ok (Some x)) (no_reading NotUtf8 (utf8_valid_len text)) ≡ Ok None = rw not_passed at e in
           elim (cases_Bool (is_utf8 text)) [
-            | inl utf8 ↦ absurd (no_object (object_at first others) (rw utf8 at e2))
+            | inl utf8 ↦ absurd (no_object (object_in_parts first others) (rw utf8 at e2))
             | inr bad ↦ let f : ◌≡◌ {A = Result (Option Object) LineFault} (no_reading NotUtf8 (utf8_valid_len text)) (Ok None) = rw bad at e2 in absurd cc
           ]
     ]

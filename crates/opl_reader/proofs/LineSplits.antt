@@ -7,7 +7,7 @@ use Rattle.std.proofs.lemmas.List.Folds.{length-prefix_len}
 use Rattle.std.proofs.lemmas.List.Sums.{fails_before_first, passes_at_first, prefix_len-le-length, split_at_first}
 use Rattle.std.proofs.lemmas.List.Splits.{slice_split-cons_yes, slice_split-cons_no, slice_split_none, slice_split_at, length-slice_split}
 use Rattle.std.proofs.lemmas.List.Elements.{All-append, All-cons}
-use Rattle.opl_reader.specs.Lines.{is_newline, with_last, last_of, whole_lines, unfinished_of}
+use Rattle.opl_reader.specs.Lines.{is_newline, with_last, last_part, whole_lines, unfinished_of}
 
 -- no newline stands in it
 abbrev pub IsOneLine : List ℕ → Type 0
@@ -17,7 +17,7 @@ pub with_last-cons : (counts : List ℕ → Bool) (line : List ℕ) (parts : Lis
 with_last-cons counts line [] lt = absurd (omega arith)
 with_last-cons counts line (p ∷ parts) lt = refl
 
-last_of-cons : (line : List ℕ) (parts : List (List ℕ)) → 0 < length parts → last_of (line ∷ parts) ≡ last_of parts
+last_of-cons : (line : List ℕ) (parts : List (List ℕ)) → 0 < length parts → last_part (line ∷ parts) ≡ last_part parts
 last_of-cons line [] lt = absurd (omega arith)
 last_of-cons line (p ∷ parts) lt = refl
 
@@ -32,7 +32,7 @@ pub lines-cons : (counts : List ℕ → Bool) (line bytes : List ℕ) → IsOneL
 lines-cons counts line bytes one = ap (with_last counts) (newline_ends line bytes one) ∙ with_last-cons counts line (slice_split is_newline bytes) (some_part bytes)
 
 pub unfinished-cons : (line bytes : List ℕ) → IsOneLine line → unfinished_of (line ++ 10 ∷ bytes) ≡ unfinished_of bytes
-unfinished-cons line bytes one = ap last_of (newline_ends line bytes one) ∙ last_of-cons line (slice_split is_newline bytes) (some_part bytes)
+unfinished-cons line bytes one = ap last_part (newline_ends line bytes one) ∙ last_of-cons line (slice_split is_newline bytes) (some_part bytes)
 
 pub one_line : (line : List ℕ) → IsOneLine line → slice_split is_newline line ≡ line ∷ []
 one_line line one = slice_split_none is_newline line one
@@ -62,8 +62,8 @@ at_most_all piece le = let most = prefix_len-le-length (λ x. not (is_newline x)
 
 -- the parts of some bytes and of more behind them: the lines that are whole, and what the more adds to the last one
 onto_more : (x : ℕ) (parts : List (List ℕ)) (behind : List (List ℕ)) (more : List ℕ) → 0 < length parts → is_newline x ≡ false →
-    behind ≡ with_last (λ line. false) parts ++ slice_split is_newline (last_of parts ++ more) →
-    onto_first x behind ≡ with_last (λ line. false) (onto_first x parts) ++ slice_split is_newline (last_of (onto_first x parts) ++ more)
+    behind ≡ with_last (λ line. false) parts ++ slice_split is_newline (last_part parts ++ more) →
+    onto_first x behind ≡ with_last (λ line. false) (onto_first x parts) ++ slice_split is_newline (last_part (onto_first x parts) ++ more)
 onto_more x [] behind more lt e h = absurd (omega arith)
 onto_more x (part ∷ []) behind more lt e h = rw h (sym (slice_split-cons_no is_newline x (part ++ more) e))
 onto_more x (part ∷ (next ∷ parts)) behind more lt e h = rw h refl
@@ -84,7 +84,7 @@ split_behind (x ∷ bytes) more = by_newline x bytes more (is_newline x) refl (s
 
 -- all lines of a whole input are those that a newline ended, and the rest where it isn't empty
 pub lines_with_rest : (counts : List ℕ → Bool) (parts : List (List ℕ)) → 0 < length parts →
-    with_last counts parts ≡ with_last (λ line. false) parts ++ (if counts (last_of parts) then last_of parts ∷ [] else [])
+    with_last counts parts ≡ with_last (λ line. false) parts ++ (if counts (last_part parts) then last_part parts ∷ [] else [])
 lines_with_rest counts [] lt = absurd (omega arith)
 lines_with_rest counts (part ∷ []) lt = refl
 lines_with_rest counts (part ∷ (next ∷ parts)) lt = ap (λ zs. part ∷ zs) (lines_with_rest counts (next ∷ parts) (omega arith))
@@ -95,7 +95,7 @@ with_last_behind counts [] (part ∷ parts) lt = refl
 with_last_behind counts (line ∷ []) (part ∷ parts) lt = refl
 with_last_behind counts (line ∷ (next ∷ lines)) (part ∷ parts) lt = ap (λ zs. line ∷ zs) (with_last_behind counts (next ∷ lines) (part ∷ parts) lt)
 
-last_of_behind : (lines : List (List ℕ)) (rest : List ℕ) → last_of (lines ++ rest ∷ []) ≡ rest
+last_of_behind : (lines : List (List ℕ)) (rest : List ℕ) → last_part (lines ++ rest ∷ []) ≡ rest
 last_of_behind [] rest = refl
 last_of_behind (line ∷ []) rest = refl
 last_of_behind (line ∷ (next ∷ lines)) rest = last_of_behind (next ∷ lines) rest
@@ -105,12 +105,12 @@ pub ends_with : (bytes : List ℕ) (lines : List (List ℕ)) (rest : List ℕ) �
     (whole_lines bytes ≡ lines) × (unfinished_of bytes ≡ rest)
 ends_with bytes lines rest e = (
   ap (with_last (λ line. false)) e ∙ (with_last_behind (λ line. false) lines (rest ∷ []) (omega arith) ∙ append-nil lines),
-  ap last_of e ∙ last_of_behind lines rest,
+  ap last_part e ∙ last_of_behind lines rest,
 )
 
 -- ---- the rest is one line
 
-onto_last : (x : ℕ) (parts : List (List ℕ)) → 0 < length parts → is_newline x ≡ false → IsOneLine (last_of parts) → IsOneLine (last_of (onto_first x parts))
+onto_last : (x : ℕ) (parts : List (List ℕ)) → 0 < length parts → is_newline x ≡ false → IsOneLine (last_part parts) → IsOneLine (last_part (onto_first x parts))
 onto_last x [] lt e one = absurd (omega arith)
 onto_last x (part ∷ []) lt e one = All-cons (λ b. is_newline b ≡ false) x part e one
 onto_last x (part ∷ (next ∷ parts)) lt e one = one

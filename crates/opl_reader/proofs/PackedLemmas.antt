@@ -9,7 +9,7 @@ use Rattle.opl_reader.specs.declared.object.Tag.{Tag}
 use Rattle.opl_reader.specs.declared.object.Member.{Member}
 use Rattle.opl_reader.specs.declared.object.ObjectRef.{ObjectRef}
 use Rattle.opl_reader.specs.Seen.{member_of}
-use Rattle.opl_reader.specs.Packed.{usual_text, length_bytes, head_len, text_len, text_by, first_text, after_text, Tell, Added, BothAdded, BeginsWithText, tags_in, Fits, members_in, HaveRoles}
+use Rattle.opl_reader.specs.Packed.{usual_text, length_bytes, head_len, text_len, text_by, first_text, after_text, Tell, IsTextAdded, BothAdded, BeginsWithText, tags_in, AreKeysAndValues, members_in, HaveRoles}
 
 pub as_many : (count : ℕ) (bytes : List ℕ) → length (tags_in count bytes) ≡ count
 as_many zero bytes = refl
@@ -88,10 +88,10 @@ code_tells code text le lt is = record {
 
 -- ---- as `push_text` knows them
 
-pub usual_added : (before text after : List ℕ) (code : ℕ) → 192 ≤ code → code < 255 → usual_text code ≡ text → after ≡ before ++ code ∷ [] → Added before text after
+pub usual_added : (before text after : List ℕ) (code : ℕ) → 192 ≤ code → code < 255 → usual_text code ≡ text → after ≡ before ++ code ∷ [] → IsTextAdded before text after
 usual_added before text after code le lt is added = record { bytes = code ∷ []; is = added; tell = code_tells code text le lt is }
 
-pub whole_added : {X E : Type 0} (before text after : List ℕ) (r : Result X E) → OnOk r (after ≡ before ++ whole_text text) → OnOk r (Added before text after)
+pub whole_added : {X E : Type 0} (before text after : List ℕ) (r : Result X E) → OnOk r (after ≡ before ++ whole_text text) → OnOk r (IsTextAdded before text after)
 whole_added before text after (Ok x) added = record { bytes = whole_text text; is = added; tell = whole_tells text }
 whole_added before text after (Err e) added = tt
 
@@ -194,19 +194,19 @@ value_left key value tag t = ap after_text t.is ∙ t.of_key.after (t.value_byte
 after_tag : (key value tag : List ℕ) → TagBytes key value tag → after_text (after_text tag) ≡ []
 after_tag key value tag t = ap after_text (value_left key value tag t) ∙ t.of_value.after []
 
-one_fits : (key value tag : List ℕ) → IsUtf8 key → IsUtf8 value → TagBytes key value tag → Fits 1 tag
+one_fits : (key value tag : List ℕ) → IsUtf8 key → IsUtf8 value → TagBytes key value tag → AreKeysAndValues 1 tag
 one_fits key value tag k v t = (
   subst BeginsWithText (sym t.is) (begins key t.key_bytes (t.value_bytes ++ []) t.of_key k),
   subst BeginsWithText (sym (value_left key value tag t)) (begins value t.value_bytes [] t.of_value v),
   after_tag key value tag t,
 )
 
-one_more_fits : (count : ℕ) (bytes key value tag : List ℕ) → IsUtf8 key → IsUtf8 value → TagBytes key value tag → Fits count bytes → Fits (suc count) (bytes ++ tag)
-one_more_fits zero bytes key value tag k v t none = subst (λ (b : List ℕ). Fits 1 (b ++ tag)) (sym none) (one_fits key value tag k v t)
+one_more_fits : (count : ℕ) (bytes key value tag : List ℕ) → IsUtf8 key → IsUtf8 value → TagBytes key value tag → AreKeysAndValues count bytes → AreKeysAndValues (suc count) (bytes ++ tag)
+one_more_fits zero bytes key value tag k v t none = subst (λ (b : List ℕ). AreKeysAndValues 1 (b ++ tag)) (sym none) (one_fits key value tag k v t)
 one_more_fits (suc count) bytes key value tag k v t (a, b, rest) = (
   begins_more bytes tag a,
   subst BeginsWithText (sym (after_more bytes tag a)) (begins_more (after_text bytes) tag b),
-  subst (Fits (suc count)) (sym (after_two bytes tag a b)) (one_more_fits count (after_text (after_text bytes)) key value tag k v t rest),
+  subst (AreKeysAndValues (suc count)) (sym (after_two bytes tag a b)) (one_more_fits count (after_text (after_text bytes)) key value tag k v t rest),
 )
 
 abbrev tag_of : List ℕ → List ℕ → Tag
@@ -218,7 +218,7 @@ one_tag key value tag t =
     let v : first_text (after_text tag) ≡ value = ap first_text (value_left key value tag t) ∙ t.of_value.first [] in
     ap (λ (z : List ℕ). tag_of z (first_text (after_text tag)) ∷ []) k ∙ ap (λ (z : List ℕ). tag_of key z ∷ []) v
 
-one_more_tag : (count : ℕ) (bytes key value tag : List ℕ) → TagBytes key value tag → Fits count bytes → tags_in (suc count) (bytes ++ tag) ≡ tags_in count bytes ++ tag_of key value ∷ []
+one_more_tag : (count : ℕ) (bytes key value tag : List ℕ) → TagBytes key value tag → AreKeysAndValues count bytes → tags_in (suc count) (bytes ++ tag) ≡ tags_in count bytes ++ tag_of key value ∷ []
 one_more_tag zero bytes key value tag t none = ap (λ (b : List ℕ). tags_in 1 (b ++ tag)) none ∙ one_tag key value tag t
 one_more_tag (suc count) bytes key value tag t (a, b, rest) =
     let k = first_more bytes tag a in
@@ -240,12 +240,12 @@ tag_added bytes key value new b = (
       ∙ ap (λ (z : List ℕ). bytes ++ (b.of_key.bytes ++ z)) (sym (append-nil b.of_value.bytes)),
 )
 
-pub pushed_fits : (count next : ℕ) (bytes new key value : List ℕ) → IsUtf8 key → IsUtf8 value → Fits count bytes → next ≡ suc count → BothAdded bytes key value new → Fits next new
+pub pushed_fits : (count next : ℕ) (bytes new key value : List ℕ) → IsUtf8 key → IsUtf8 value → AreKeysAndValues count bytes → next ≡ suc count → BothAdded bytes key value new → AreKeysAndValues next new
 pushed_fits count next bytes new key value k v fits n b =
     let t = tag_added bytes key value new b in
-    subst (λ (m : ℕ). Fits m new) (sym n) (subst (Fits (suc count)) (sym t.2) (one_more_fits count bytes key value t.0 k v t.1 fits))
+    subst (λ (m : ℕ). AreKeysAndValues m new) (sym n) (subst (AreKeysAndValues (suc count)) (sym t.2) (one_more_fits count bytes key value t.0 k v t.1 fits))
 
-pub pushed_tag : (count next : ℕ) (bytes new key value : List ℕ) (tags : List Tag) → Fits count bytes → next ≡ suc count → BothAdded bytes key value new → tags_in count bytes ≡ tags → tags_in next new ≡ tags ++ tag_of key value ∷ []
+pub pushed_tag : (count next : ℕ) (bytes new key value : List ℕ) (tags : List Tag) → AreKeysAndValues count bytes → next ≡ suc count → BothAdded bytes key value new → tags_in count bytes ≡ tags → tags_in next new ≡ tags ++ tag_of key value ∷ []
 pushed_tag count next bytes new key value tags fits n b is =
     let t = tag_added bytes key value new b in
     ap (λ (m : ℕ). tags_in m new) n
@@ -281,11 +281,11 @@ one_more_member (other ∷ targets) target bytes role more t (a, rest) =
     ∙ ap (λ (z : List ℕ). member_of other (first_text bytes) ∷ members_in (targets ++ target ∷ []) z) (after_more bytes more a)
     ∙ ap (λ (ms : List Member). member_of other (first_text bytes) ∷ ms) (one_more_member targets target (after_text bytes) role more t rest)
 
-pub pushed_role : (targets after : List ObjectRef) (target : ObjectRef) (bytes new role : List ℕ) → IsUtf8 role → HaveRoles targets bytes → after ≡ targets ++ target ∷ [] → Added bytes role new → HaveRoles after new
+pub pushed_role : (targets after : List ObjectRef) (target : ObjectRef) (bytes new role : List ℕ) → IsUtf8 role → HaveRoles targets bytes → after ≡ targets ++ target ∷ [] → IsTextAdded bytes role new → HaveRoles after new
 pushed_role targets after target bytes new role utf8 fits a added =
     subst (λ (ts : List ObjectRef). HaveRoles ts new) (sym a) (subst (HaveRoles (targets ++ target ∷ [])) (sym added.is) (one_more_role targets target bytes role added.bytes utf8 added.tell fits))
 
-pub pushed_member : (targets after : List ObjectRef) (target : ObjectRef) (bytes new role : List ℕ) (members : List Member) → HaveRoles targets bytes → after ≡ targets ++ target ∷ [] → Added bytes role new → members_in targets bytes ≡ members
+pub pushed_member : (targets after : List ObjectRef) (target : ObjectRef) (bytes new role : List ℕ) (members : List Member) → HaveRoles targets bytes → after ≡ targets ++ target ∷ [] → IsTextAdded bytes role new → members_in targets bytes ≡ members
     → members_in after new ≡ members ++ member_of target role ∷ []
 pushed_member targets after target bytes new role members fits a added is =
     ap (λ (ts : List ObjectRef). members_in ts new) a

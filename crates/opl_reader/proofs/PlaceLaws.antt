@@ -5,7 +5,7 @@ use Rattle.std.proofs.lemmas.Bool.{le-leb, leb-true}
 use Rattle.std.proofs.lemmas.Option.{none-some}
 use Rattle.std.proofs.lemmas.Int.{to_z-of_z}
 use Rattle.osm_lattice.specs.declared.loc.Loc.{Loc}
-use Rattle.opl_reader.specs.Coordinates.{place_of}
+use Rattle.opl_reader.specs.Coordinates.{location_from}
 use Rattle.osm_lattice.specs.Bounds.{IsLongitude, IsLatitude}
 use Rattle.osm_lattice.proofs.LatticeKit.{latitude_prop, loc_from_fields, longitude_prop}
 use Rattle.opl_reader.specs.declared.coordinate.Longitude.{Longitude}
@@ -72,7 +72,7 @@ some_decimal (b ∷ bytes) z d none = absurd (omega arith)
 
 -- ---- locations
 
-pub place-at : (x : Longitude) (y : Latitude) (l : Loc) → l.x ≡ x.units → l.y ≡ y.units → Some l ≡ place_of (Some x) (Some y)
+pub place-at : (x : Longitude) (y : Latitude) (l : Loc) → l.x ≡ x.units → l.y ≡ y.units → Some l ≡ location_from (Some x) (Some y)
 place-at x y l e f = ap (λ (p : Loc). Some p) (loc_from_fields l (record { x = x.units; y = y.units; x_in = x.in_range; y_in = y.in_range }) e f)
 
 -- ---- as the machine holds them
@@ -91,18 +91,18 @@ latitude-held l = to_z-of_z w32 l.units (latitude_fits l.units l.in_range)
 
 -- ---- of two numbers
 
-none_placed : (x y : ℤ) (l : Option Longitude) (m : Option Latitude) → longitude x ≡ l → latitude y ≡ m → (IsLongitude x → IsLatitude y → ⊥) → None ≡ place_of l m
+none_placed : (x y : ℤ) (l : Option Longitude) (m : Option Latitude) → longitude x ≡ l → latitude y ≡ m → (IsLongitude x → IsLatitude y → ⊥) → None ≡ location_from l m
 none_placed x y None m e f outside = refl
 none_placed x y (Some l) None e f outside = refl
 none_placed x y (Some l) (Some m) e f outside = absurd (outside (subst IsLongitude (sym (longitude-units x l e)) l.in_range) (subst IsLatitude (sym (latitude-units y m f)) m.in_range))
 
-pub placed : (x y : ℤ) (r : Option Loc) → (IsSome r ↔ (IsLongitude x × IsLatitude y)) → IfSome r (λ p. (p.x ≡ x) × (p.y ≡ y)) → r ≡ place_of (longitude x) (latitude y)
+pub placed : (x y : ℤ) (r : Option Loc) → (IsSome r ↔ (IsLongitude x × IsLatitude y)) → IfSome r (λ p. (p.x ≡ x) × (p.y ≡ y)) → r ≡ location_from (longitude x) (latitude y)
 placed x y (Some at) valid value =
     let l : Longitude = record { units = at.x; in_range = at.x_in } in
     let m : Latitude = record { units = at.y; in_range = at.y_in } in
-    place-at l m at refl refl ∙ sym (ap (λ (k : Option Longitude). place_of k (Some m)) (longitude-at x l value.0)) ∙ sym (ap (place_of (longitude x)) (latitude-at y m value.1))
+    place-at l m at refl refl ∙ sym (ap (λ (k : Option Longitude). location_from k (Some m)) (longitude-at x l value.0)) ∙ sym (ap (location_from (longitude x)) (latitude-at y m value.1))
 placed x y None valid value = none_placed x y (longitude x) (latitude y) refl refl (λ a b. let some : IsSome {T = Loc} None = valid.1 (a, b) in absurd cc)
 
 -- a location's own coordinates make it
-pub own_place : (at : Loc) → place_of (longitude at.x) (latitude at.y) ≡ Some at
+pub own_place : (at : Loc) → location_from (longitude at.x) (latitude at.y) ≡ Some at
 own_place at = sym (placed at.x at.y (Some at) (λ _. (at.x_in, at.y_in), λ _. refl) (refl, refl))

@@ -13,7 +13,7 @@ use Rattle.opl_reader.specs.Reading.{◌>>=◌, Fails, no_reading}
 use Rattle.opl_reader.specs.Parts.{Part, without_cr}
 use Rattle.opl_reader.specs.Fields.{object_of, nothing}
 use Rattle.opl_reader.specs.FieldReading.{with_fields}
-use Rattle.opl_reader.specs.LineReading.{reading, reading_of, object_at, head_at, fields_from}
+use Rattle.opl_reader.specs.LineReading.{reading, reading_of, object_in_parts, head_at, fields_from}
 use Rattle.opl_reader.specs.Steps.{begins_passed}
 
 -- the first field of a line that is neither passed over nor other bytes than UTF-8, and the fields behind it
@@ -24,7 +24,7 @@ pub record Begins (line text : List ℕ) (place : ℕ) (head : List ℕ) (others
   pub fields : fields_from 0 text ≡ record { at = place; bytes = head } ∷ others
 
 is_object : (line text : List ℕ) (place : ℕ) (head : List ℕ) (others : List Part) → Begins line text place head others
-    → reading line ≡ (object_at (record { at = place; bytes = head }) others >>= λ o. Ok (Some o))
+    → reading line ≡ (object_in_parts (record { at = place; bytes = head }) others >>= λ o. Ok (Some o))
 unfolding reading
 is_object line text place head others b =
     let first : Part = record { at = place; bytes = head } in
@@ -33,19 +33,19 @@ is_object line text place head others b =
     ap (λ (t : List ℕ). reading_of t (fields_from 0 t)) (sym b.is) ∙ ap (reading_of text) b.fields ∙ rw (not_passed, valid) refl
 
 pub fails-head : (line text : List ℕ) (place : ℕ) (head : List ℕ) (others : List Part) (err : LineError) → Begins line text place head others → Fails err (head_at place head) → Fails err (reading line)
-unfolding object_at
+unfolding object_in_parts
 fails-head line text place head others OutOfMemory b h = tt
 fails-head line text place head others (Fault f) b h = is_object line text place head others b ∙ rw h refl
 
 pub fails-fields : (line text : List ℕ) (place : ℕ) (head : List ℕ) (others : List Part) (kind : ObjectKind) (id : ℤ) (err : LineError) → Begins line text place head others → head_at place head ≡ Ok (kind, id)
     → Fails err (with_fields kind [] others nothing) → Fails err (reading line)
-unfolding object_at
+unfolding object_in_parts
 fails-fields line text place head others kind id OutOfMemory b h r = tt
 fails-fields line text place head others kind id (Fault f) b h r = is_object line text place head others b ∙ rw (h, r) refl
 
 pub is_read : (line text : List ℕ) (place : ℕ) (head : List ℕ) (others : List Part) (kind : ObjectKind) (id : ℤ) (content : Content) → Begins line text place head others → head_at place head ≡ Ok (kind, id)
     → with_fields kind [] others nothing ≡ Ok content → reading line ≡ Ok (Some (object_of kind id content))
-unfolding object_at
+unfolding object_in_parts
 is_read line text place head others kind id content b h r = is_object line text place head others b ∙ rw (h, r) refl
 
 not_utf8 : (text : List ℕ) (fields : List Part) → begins_passed fields ≡ false → (IsUtf8 text → ⊥) → reading_of text fields ≡ no_reading NotUtf8 (utf8_valid_len text)

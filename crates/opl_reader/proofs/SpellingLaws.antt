@@ -11,7 +11,7 @@ use Rattle.std.proofs.lemmas.List.Sums.{AllPass-from_list_all, list_all-from_All
 use Rattle.std.proofs.lemmas.List.Splits.{slice_split-cons_yes, slice_split-cons_no, slice_split_at, length-slice_split, join_with_byte-slice_split}
 use Rattle.std.proofs.lemmas.Option.{cond_some, none-some}
 use Rattle.opl_reader.specs.Strings.{IsCode, IsString, ends, stands, escape}
-use Rattle.opl_reader.specs.StringReading.{is_hex, is_scalar, code_point, joined, string_of}
+use Rattle.opl_reader.specs.StringReading.{is_hex, is_scalar, code_point, joined_text, string_of}
 
 pub and_then_some : {A B : Type 0} (o : Option A) (f : A → Option B) (y : B) → option_and_then f o ≡ Some y → (x : A) × (o ≡ Some x) × (f x ≡ Some y)
 and_then_some None f y e = absurd cc
@@ -80,8 +80,8 @@ unfolding Free
 stands-all [] bytes text free s = s
 stands-all (b ∷ plain) bytes text free s = stands b (plain ++ bytes) (plain ++ text) (All-head (λ x. x ≢ 37) b plain free) (stands-all plain bytes text (All-tail (λ x. x ≢ 37) b plain free) s)
 
-joined_is : (parts : List (List ℕ)) (text : List ℕ) → AllByRecursion Free parts → joined parts ≡ Some text → IsString (join_with_byte 37 parts) text
-unfolding joined
+joined_is : (parts : List (List ℕ)) (text : List ℕ) → AllByRecursion Free parts → joined_text parts ≡ Some text → IsString (join_with_byte 37 parts) text
+unfolding joined_text
 joined_is [] text free e = absurd cc
 joined_is (plain ∷ []) text free e =
     let same : plain ≡ text = cc in
@@ -89,8 +89,8 @@ joined_is (plain ∷ []) text free e =
 joined_is (plain ∷ code ∷ []) text free e =
     let a = and_then_some (code_point code) (λ c. None) text e in absurd (none-some text a.2)
 joined_is (plain ∷ code ∷ part ∷ parts) text free e =
-    let a = and_then_some (code_point code) (λ c. option_map (λ rest. plain ++ encode_utf8 c ++ rest) (joined (part ∷ parts))) text e in
-    let b = map_some (joined (part ∷ parts)) (λ rest. plain ++ encode_utf8 a.0 ++ rest) text a.2 in
+    let a = and_then_some (code_point code) (λ c. option_map (λ rest. plain ++ encode_utf8 c ++ rest) (joined_text (part ∷ parts))) text e in
+    let b = map_some (joined_text (part ∷ parts)) (λ rest. plain ++ encode_utf8 a.0 ++ rest) text a.2 in
     let inner = joined_is (part ∷ parts) b.0 free.1.1 b.1 in
     let whole = stands-all plain (37 ∷ (code ++ 37 ∷ join_with_byte 37 (part ∷ parts))) (encode_utf8 a.0 ++ b.0) free.0 (escape code a.0 (join_with_byte 37 (part ∷ parts)) b.0 (code_is code a.0 a.1) inner) in
     subst (λ (t : List ℕ). IsString (join_with_byte 37 (plain ∷ code ∷ part ∷ parts)) t) (sym (append_assoc plain (encode_utf8 a.0) b.0) ∙ b.2) whole
@@ -101,11 +101,11 @@ read_is_spelled bytes text e = subst (λ (b : List ℕ). IsString b text) (join_
 
 -- ---- what is spelled is read
 
-joined-onto : (b : ℕ) (parts : List (List ℕ)) → 0 < length parts → joined (onto_first b parts) ≡ option_map (λ t. b ∷ t) (joined parts)
-unfolding joined
+joined-onto : (b : ℕ) (parts : List (List ℕ)) → 0 < length parts → joined_text (onto_first b parts) ≡ option_map (λ t. b ∷ t) (joined_text parts)
+unfolding joined_text
 joined-onto b [] some = absurd (omega arith)
 joined-onto b (plain ∷ []) some = refl
-joined-onto b (plain ∷ code ∷ parts) some = through (code_point code) (joined parts)
+joined-onto b (plain ∷ code ∷ parts) some = through (code_point code) (joined_text parts)
   where
     through : (o : Option ℕ) (r : Option (List ℕ)) → option_and_then (λ c. option_map (λ rest. (b ∷ plain) ++ encode_utf8 c ++ rest) r) o ≡ option_map (λ t. b ∷ t) (option_and_then (λ c. option_map (λ rest. plain ++ encode_utf8 c ++ rest) r) o)
     through None r = refl
@@ -116,11 +116,11 @@ no_percent : (b : ℕ) → digit_value b < 16 → eqb b 37 ≡ false
 no_percent b hex = ne_eqb b 37 (λ e. let h : digit_value 37 < 16 = subst (λ (x : ℕ). digit_value x < 16) e hex in absurd (omega arith))
 
 pub spelled_is_read : (bytes text : List ℕ) → IsString bytes text → string_of bytes ≡ Some text
-unfolding string_of joined
+unfolding string_of joined_text
 spelled_is_read bytes text ends = refl
 spelled_is_read bytes text (stands b rest t ne s) =
     let some : 0 < length (slice_split (λ x. eqb x 37) rest) = omega (arith, length-slice_split (λ x. eqb x 37) rest) in
-    ap joined (slice_split-cons_no (λ x. eqb x 37) b rest (ne_eqb b 37 ne)) ∙ joined-onto b (slice_split (λ x. eqb x 37) rest) some ∙ ap (option_map (λ (t : List ℕ). b ∷ t)) (spelled_is_read rest t s)
+    ap joined_text (slice_split-cons_no (λ x. eqb x 37) b rest (ne_eqb b 37 ne)) ∙ joined-onto b (slice_split (λ x. eqb x 37) rest) some ∙ ap (option_map (λ (t : List ℕ). b ∷ t)) (spelled_is_read rest t s)
 spelled_is_read bytes text (escape digits c rest t code s) =
     let cut : slice_split (λ x. eqb x 37) (digits ++ 37 ∷ rest) ≡ digits ∷ slice_split (λ x. eqb x 37) rest = slice_split_at (λ x. eqb x 37) digits 37 rest (λ k d lt. no_percent _ (code.hex k d lt)) refl in
-    ap (λ (parts : List (List ℕ)). joined ([] ∷ parts)) cut ∙ rw (is_code digits c code) (ap (option_map (λ (r : List ℕ). encode_utf8 c ++ r)) (spelled_is_read rest t s))
+    ap (λ (parts : List (List ℕ)). joined_text ([] ∷ parts)) cut ∙ rw (is_code digits c code) (ap (option_map (λ (r : List ℕ). encode_utf8 c ++ r)) (spelled_is_read rest t s))

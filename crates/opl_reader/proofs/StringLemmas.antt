@@ -5,7 +5,7 @@ use Rattle.std.specs.List.{slice_split}
 use Rattle.std.specs.Str.{IsUtf8}
 use Rattle.opl_reader.specs.declared.fault.FaultKind.TheVariants.{BadEscape}
 use Rattle.opl_reader.specs.Reading.{no_reading}
-use Rattle.opl_reader.specs.StringReading.{code_point, joined, string_of, string_at}
+use Rattle.opl_reader.specs.StringReading.{code_point, joined_text, string_of, string_at}
 use Rattle.lists.proofs.ListsKit.{is_some-map}
 
 abbrev pub parts : List ℕ → List (List ℕ)
@@ -16,16 +16,16 @@ abbrev pub with_front : List ℕ → Option (List ℕ) → Option (List ℕ)
 with_front front read = option_map (λ t. front ++ t) read
 
 pub string-plain : (bytes : List ℕ) → parts bytes ≡ bytes ∷ [] → string_of bytes ≡ Some bytes
-unfolding string_of joined
+unfolding string_of joined_text
 string-plain bytes e = rw e refl
 
 string-step : (bytes plain escape after more : List ℕ) (c : ℕ) → parts bytes ≡ plain ∷ parts after → parts after ≡ escape ∷ parts more → code_point escape ≡ Some c
     → string_of bytes ≡ option_map (λ rest. plain ++ encode_utf8 c ++ rest) (string_of more)
-unfolding string_of joined
+unfolding string_of joined_text
 string-step bytes plain escape after more c e f g = rw (e, f, g) refl
 
-joined-one : (plain : List ℕ) (rest : List (List ℕ)) (o : Option ℕ) (escape : List ℕ) → code_point escape ≡ None → joined (plain ∷ escape ∷ rest) ≡ None
-unfolding joined
+joined-one : (plain : List ℕ) (rest : List (List ℕ)) (o : Option ℕ) (escape : List ℕ) → code_point escape ≡ None → joined_text (plain ∷ escape ∷ rest) ≡ None
+unfolding joined_text
 joined-one plain rest o escape e = rw e refl
 
 ends-inside : (o : Option ℕ) (f : ℕ → Option (List ℕ)) → ((c : ℕ) → f c ≡ None) → option_and_then f o ≡ None
@@ -33,12 +33,12 @@ ends-inside None f h = refl
 ends-inside (Some c) f h = h c
 
 string-open : (bytes plain after : List ℕ) → parts bytes ≡ plain ∷ parts after → parts after ≡ after ∷ [] → string_of bytes ≡ None
-unfolding string_of joined
+unfolding string_of joined_text
 string-open bytes plain after e f = rw (e, f) (ends-inside (code_point after) _ (λ c. refl))
 
 string-bad : (bytes plain escape after more : List ℕ) → parts bytes ≡ plain ∷ parts after → parts after ≡ escape ∷ parts more → code_point escape ≡ None → string_of bytes ≡ None
 unfolding string_of
-string-bad bytes plain escape after more e f g = ap joined (e ∙ ap (λ (x : List (List ℕ)). plain ∷ x) f) ∙ joined-one plain (parts more) None escape g
+string-bad bytes plain escape after more e f g = ap joined_text (e ∙ ap (λ (x : List (List ℕ)). plain ∷ x) f) ∙ joined-one plain (parts more) None escape g
 
 regroup : (front plain code : List ℕ) (o : Option (List ℕ)) → with_front front (option_map (λ rest. plain ++ code ++ rest) o) ≡ with_front (front ++ plain ++ code) o
 regroup front plain code None = refl

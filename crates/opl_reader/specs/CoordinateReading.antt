@@ -19,9 +19,9 @@ abbrev pub latitude : ℤ → Option Latitude
 latitude z = where_true (nat_le (unsigned_abs z) 900_000_000) (λ h. record { units = z; in_range = leb-true (unsigned_abs z) 900_000_000 h })
 
 -- empty, or the decimal of a longitude
-unfoldable pub x_of : List ℕ → Option (Option Longitude)
-x_of bytes = if length bytes == 0 then Some None else option_map (λ l. Some l) (option_and_then longitude (decimal_of (pos 1800000000) bytes))
+unfoldable pub x_spelled : List ℕ → Option (Option Longitude)
+x_spelled bytes = if length bytes == 0 then Some None else option_map (λ l. Some l) (option_and_then longitude (decimal_of (pos 1800000000) bytes))
 
 -- empty, or the decimal of a latitude
-unfoldable pub y_of : List ℕ → Option (Option Latitude)
-y_of bytes = if length bytes == 0 then Some None else option_map (λ l. Some l) (option_and_then latitude (decimal_of (pos 900000000) bytes))
+unfoldable pub y_spelled : List ℕ → Option (Option Latitude)
+y_spelled bytes = if length bytes == 0 then Some None else option_map (λ l. Some l) (option_and_then latitude (decimal_of (pos 900000000) bytes))

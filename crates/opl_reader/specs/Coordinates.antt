@@ -14,7 +14,7 @@ abbrev pub IsY : List ℕ → Option Latitude → Type 0
 IsY bytes y = ((bytes ≡ []) × (y ≡ None)) ⊎ ((l : Latitude) × IsDecimal bytes l.units × (y ≡ Some l))
 
 -- a location, where both coordinates are there
-abbrev pub place_of : Option Longitude → Option Latitude → Option Loc
-place_of None y = None
-place_of (Some x) None = None
-place_of (Some x) (Some y) = Some (record { x = x.units; y = y.units; x_in = x.in_range; y_in = y.in_range })
+abbrev pub location_from : Option Longitude → Option Latitude → Option Loc
+location_from None y = None
+location_from (Some x) None = None
+location_from (Some x) (Some y) = Some (record { x = x.units; y = y.units; x_in = x.in_range; y_in = y.in_range })

@@ -17,7 +17,7 @@ use Rattle.opl_reader.specs.declared.coordinate.Latitude.{Latitude}
 use Rattle.opl_reader.specs.Parts.{Part, without_cr, Lacks, Parted, PartedByCommas}
 use Rattle.opl_reader.specs.Numbers.{IsId, IsNumber}
 use Rattle.opl_reader.specs.Strings.{IsString}
-use Rattle.opl_reader.specs.Items.{Each, IsTag, IsRef, kind_of, HasTarget, IsMember}
+use Rattle.opl_reader.specs.Items.{Each, IsTag, IsRef, kind_by_letter, HasTarget, IsMember}
 use Rattle.opl_reader.specs.Coordinates.{IsX, IsY}
 use Rattle.opl_reader.specs.Fields.{letter_of, nothing, IsFlag, Told}
 
@@ -108,8 +108,8 @@ pub record IsKept (line : List ℕ) (first : Part) (others : List Part) : Type 0
 
 -- No letter of an object, or a bad id behind it; else the first of the other fields without a reading.
 abbrev pub ObjectFault : Part → List Part → LineFault → Type 0
-ObjectFault first others x = ((kind_of (slice_index first.bytes 0) ≡ None) × (x ≡ fault_at UnknownObject first.at))
-    ⊎ ((letter : ℕ) × (digits : List ℕ) × (kind : ObjectKind) × (first.bytes ≡ letter ∷ digits) × (kind_of letter ≡ Some kind)
+ObjectFault first others x = ((kind_by_letter (slice_index first.bytes 0) ≡ None) × (x ≡ fault_at UnknownObject first.at))
+    ⊎ ((letter : ℕ) × (digits : List ℕ) × (kind : ObjectKind) × (first.bytes ≡ letter ∷ digits) × (kind_by_letter letter ≡ Some kind)
     × ((((id : ℤ) → ¬ IsId digits id) × (x ≡ fault_at BadNumber first.at)) ⊎ ((id : ℤ) × IsId digits id × FirstFault kind [] others nothing x)))
 
 -- Bytes that aren't UTF-8 come before all other faults.

@@ -11,7 +11,7 @@ use Rattle.opl_reader.specs.Reading.{◌>>=◌, no_reading, or_fault}
 use Rattle.opl_reader.specs.Parts.{Part}
 use Rattle.opl_reader.specs.Fields.{letter_of}
 use Rattle.opl_reader.specs.NumberReading.{is_number}
-use Rattle.opl_reader.specs.CoordinateReading.{x_of, y_of}
+use Rattle.opl_reader.specs.CoordinateReading.{x_spelled, y_spelled}
 use Rattle.opl_reader.specs.StringReading.{string_at}
 use Rattle.opl_reader.specs.ItemReading.{tags_at, refs_at, members_at}
 
@@ -29,8 +29,8 @@ with_value Count place bytes c = if is_number bytes then Ok c else no_reading Ba
 with_value Flag place bytes c = or_fault BadFlag place (flag_of bytes) >>= λ live. Ok (record c { live = live })
 with_value Anything place bytes c = Ok c
 with_value Name place bytes c = string_at place bytes >>= λ name. Ok c
-with_value X place bytes c = or_fault BadCoordinate place (x_of bytes) >>= λ x. Ok (record c { x = x })
-with_value Y place bytes c = or_fault BadCoordinate place (y_of bytes) >>= λ y. Ok (record c { y = y })
+with_value X place bytes c = or_fault BadCoordinate place (x_spelled bytes) >>= λ x. Ok (record c { x = x })
+with_value Y place bytes c = or_fault BadCoordinate place (y_spelled bytes) >>= λ y. Ok (record c { y = y })
 with_value Tagged place bytes c = tags_at (place + 1) bytes >>= λ tags. Ok (record c { tags = tags })
 with_value Referring place bytes c = refs_at (place + 1) bytes >>= λ refs. Ok (record c { refs = refs })
 with_value Having place bytes c = members_at (place + 1) bytes >>= λ members. Ok (record c { members = members })

@@ -14,7 +14,7 @@ use Rattle.opl_reader.specs.declared.coordinate.Longitude.{Longitude}
 use Rattle.opl_reader.specs.declared.coordinate.Latitude.{Latitude}
 use Rattle.opl_reader.specs.Parts.{Part, Lacks}
 use Rattle.opl_reader.specs.Numbers.{IsNumber}
-use Rattle.opl_reader.specs.Coordinates.{place_of, IsX, IsY}
+use Rattle.opl_reader.specs.Coordinates.{location_from, IsX, IsY}
 use Rattle.opl_reader.specs.Strings.{IsString}
 use Rattle.opl_reader.specs.Items.{IsItems, IsTag, IsRef, IsMember, first_of_each}
 
@@ -43,7 +43,7 @@ nothing = record { live = true; x = None; y = None; tags = []; refs = []; member
 
 -- the object of a kind, an id and a content
 abbrev pub object_of : ObjectKind → ℤ → Content → Object
-object_of Node id c = object.Node id c.live c.tags (place_of c.x c.y)
+object_of Node id c = object.Node id c.live c.tags (location_from c.x c.y)
 object_of Way id c = object.Way id c.live c.tags c.refs
 object_of Relation id c = object.Relation id c.live c.tags c.members
 

@@ -3,14 +3,14 @@ use Rattle.std.specs.Prelude.{◌≡◌, ℕ, zero, suc, ◌+◌, ◌-◌, ◌==
 use Rattle.std.specs.Option.{unwrap_or}
 use Rattle.osm_lattice.specs.declared.loc.Loc.{Loc}
 use Rattle.opl_reader.specs.declared.object.Ref.{Ref}
-use Rattle.opl_reader.specs.Coordinates.{place_of}
+use Rattle.opl_reader.specs.Coordinates.{location_from}
 use Rattle.opl_reader.specs.CoordinateReading.{longitude, latitude}
 use Rattle.opl_reader.specs.Compact.{number_bytes, number_in, after_number, difference, moved}
 
 -- the id that ids are compared with: that of the first reference, and 0 before there is one
-abbrev pub node_from : Option Ref → ℤ
-node_from None = pos 0
-node_from (Some first) = first.node
+abbrev pub compared_id : Option Ref → ℤ
+compared_id None = pos 0
+compared_id (Some first) = first.node
 
 -- the location that locations are compared with: that of the first reference, if it has one
 abbrev pub place_from : Option Ref → Option Loc
@@ -35,7 +35,7 @@ place_bytes from (Some at) = number_bytes (1 + difference (x_from from) at.x) ++
 
 -- how the id differs, and the location
 abbrev pub ref_bytes : Option Ref → Ref → List ℕ
-ref_bytes first r = number_bytes (difference (node_from first) r.node) ++ place_bytes (place_from first) r.at
+ref_bytes first r = number_bytes (difference (compared_id first) r.node) ++ place_bytes (place_from first) r.at
 
 -- Those that stand behind a first reference, where it is given. Where it isn't, the first of them is it.
 abbrev pub refs_bytes : Option Ref → List Ref → List ℕ
@@ -46,7 +46,7 @@ refs_bytes first (r ∷ refs) = ref_bytes first r ++ refs_bytes (Some (unwrap_or
 
 -- the location in front; None too where the bytes tell no location of the world
 unfoldable pub first_place : Option Loc → List ℕ → Option Loc
-first_place from bytes = if number_in bytes == 0 then None else place_of (longitude (moved (x_from from) (number_in bytes - 1))) (latitude (moved (y_from from) (number_in (after_number bytes))))
+first_place from bytes = if number_in bytes == 0 then None else location_from (longitude (moved (x_from from) (number_in bytes - 1))) (latitude (moved (y_from from) (number_in (after_number bytes))))
 
 -- what stands behind it
 unfoldable pub after_place : List ℕ → List ℕ
@@ -54,7 +54,7 @@ after_place bytes = if number_in bytes == 0 then after_number bytes else after_n
 
 -- the reference in front
 abbrev pub first_ref : Option Ref → List ℕ → Ref
-first_ref first bytes = record { node = moved (node_from first) (number_in bytes); at = first_place (place_from first) (after_number bytes) }
+first_ref first bytes = record { node = moved (compared_id first) (number_in bytes); at = first_place (place_from first) (after_number bytes) }
 
 -- what stands behind it
 abbrev pub after_ref : List ℕ → List ℕ
@@ -76,5 +76,5 @@ last_behind last [] = last
 last_behind last (r ∷ refs) = last_behind (Some r) refs
 
 -- The bytes are those of references, and no more.
-abbrev pub AreRefs : List ℕ → Type 0
-AreRefs bytes = refs_bytes None (refs_behind None bytes) ≡ bytes
+abbrev pub AreRefBytes : List ℕ → Type 0
+AreRefBytes bytes = refs_bytes None (refs_behind None bytes) ≡ bytes

@@ -10,10 +10,10 @@ use Rattle.opl_reader.specs.declared.object.Member.{Member}
 use Rattle.opl_reader.specs.declared.object.ObjectKind.{ObjectKind}
 use Rattle.opl_reader.specs.Reading.{◌>>=◌, or_fault}
 use Rattle.opl_reader.specs.Parts.{Part, part}
-use Rattle.opl_reader.specs.Items.{kind_of, first_of_each}
-use Rattle.opl_reader.specs.Coordinates.{place_of}
-use Rattle.opl_reader.specs.NumberReading.{id_of}
-use Rattle.opl_reader.specs.CoordinateReading.{x_of, y_of}
+use Rattle.opl_reader.specs.Items.{kind_by_letter, first_of_each}
+use Rattle.opl_reader.specs.Coordinates.{location_from}
+use Rattle.opl_reader.specs.NumberReading.{id_spelled}
+use Rattle.opl_reader.specs.CoordinateReading.{x_spelled, y_spelled}
 use Rattle.opl_reader.specs.StringReading.{string_at}
 
 -- the parts of a text that begins at a byte; one byte stands between two of them
@@ -54,23 +54,23 @@ tags_at place bytes = each tag_at (items place bytes) >>= λ tags. Ok (first_of_
 
 -- Behind the x of an own location: a longitude or nothing, y, a latitude or nothing.
 unfoldable pub own_place_of : List ℕ → Option (Option Loc)
-own_place_of bytes = option_and_then (λ parts. option_and_then (λ x. option_map (λ y. place_of x y) (y_of parts.1)) (x_of parts.0)) (halves 121 bytes)
+own_place_of bytes = option_and_then (λ parts. option_and_then (λ x. option_map (λ y. location_from x y) (y_spelled parts.1)) (x_spelled parts.0)) (halves 121 bytes)
 
 -- an id, and an own location where an x parts it from the id
 abbrev pub ref_in : List ℕ → Option (List ℕ × List ℕ) → Option Ref
-ref_in bytes None = option_map (λ id. record { node = id; at = None }) (id_of bytes)
-ref_in bytes (Some parts) = option_and_then (λ id. option_map (λ at. record { node = id; at = at }) (own_place_of parts.1)) (id_of parts.0)
+ref_in bytes None = option_map (λ id. record { node = id; at = None }) (id_spelled bytes)
+ref_in bytes (Some parts) = option_and_then (λ id. option_map (λ at. record { node = id; at = at }) (own_place_of parts.1)) (id_spelled parts.0)
 
 unfoldable pub ref_behind : List ℕ → Option Ref
 ref_behind bytes = ref_in bytes (halves 120 bytes)
 
 -- n, and a reference behind it
-unfoldable pub ref_of : List ℕ → Option Ref
-ref_of [] = None
-ref_of (b ∷ bytes) = if b == 110 then ref_behind bytes else None
+unfoldable pub ref_spelled : List ℕ → Option Ref
+ref_spelled [] = None
+ref_spelled (b ∷ bytes) = if b == 110 then ref_behind bytes else None
 
 unfoldable pub ref_at : ℕ → List ℕ → Result Ref LineFault
-ref_at place bytes = or_fault BadReference place (ref_of bytes)
+ref_at place bytes = or_fault BadReference place (ref_spelled bytes)
 
 unfoldable pub refs_at : ℕ → List ℕ → Result (List Ref) LineFault
 refs_at place bytes = each ref_at (items place bytes)
@@ -80,7 +80,7 @@ refs_at place bytes = each ref_at (items place bytes)
 -- a letter and an id
 unfoldable pub target_of : List ℕ → Option (ObjectKind × ℤ)
 target_of [] = None
-target_of (b ∷ bytes) = option_and_then (λ kind. option_map (λ id. (kind, id)) (id_of bytes)) (kind_of b)
+target_of (b ∷ bytes) = option_and_then (λ kind. option_map (λ id. (kind, id)) (id_spelled bytes)) (kind_by_letter b)
 
 -- a target, @ and a role
 unfoldable pub member_at : ℕ → List ℕ → Result Member LineFault

@@ -12,7 +12,7 @@ use Rattle.opl_reader.specs.declared.object.ObjectKind.{ObjectKind}
 use Rattle.opl_reader.specs.declared.object.ObjectKind.TheVariants.{Node, Way, Relation}
 use Rattle.opl_reader.specs.Parts.{Lacks, PartedByCommas}
 use Rattle.opl_reader.specs.Numbers.{IsId}
-use Rattle.opl_reader.specs.Coordinates.{place_of, IsX, IsY}
+use Rattle.opl_reader.specs.Coordinates.{location_from, IsX, IsY}
 use Rattle.opl_reader.specs.Strings.{IsString}
 
 -- each part spells the value in its place
@@ -66,7 +66,7 @@ pub record IsOwnPlace (bytes : List ℕ) (at : Option Loc) : Type 0 where
   pub first : Lacks 121 x_bytes
   pub x_is : IsX x_bytes x
   pub y_is : IsY y_bytes y
-  pub at_is : place_of x y ≡ at
+  pub at_is : location_from x y ≡ at
 
 -- n, an id, and behind the id either nothing or, from the first x on, an own location
 pub record IsRef (bytes : List ℕ) (r : Ref) : Type 0 where
@@ -80,8 +80,8 @@ pub record IsRef (bytes : List ℕ) (r : Ref) : Type 0 where
 -- ---- members
 
 -- the kind of object that n, w or r stands for
-abbrev pub kind_of : ℕ → Option ObjectKind
-kind_of b = if b == 110 then Some Node else (if b == 119 then Some Way else (if b == 114 then Some Relation else None))
+abbrev pub kind_by_letter : ℕ → Option ObjectKind
+kind_by_letter b = if b == 110 then Some Node else (if b == 119 then Some Way else (if b == 114 then Some Relation else None))
 
 -- a letter and an id, which the first @ parts from a role
 pub record HasTarget (bytes : List ℕ) (role : List ℕ) (kind : ObjectKind) (id : ℤ) : Type 0 where
@@ -89,7 +89,7 @@ pub record HasTarget (bytes : List ℕ) (role : List ℕ) (kind : ObjectKind) (i
   pub digits : List ℕ
   pub parts : bytes ≡ (letter ∷ digits) ++ 64 ∷ role
   pub first : Lacks 64 (letter ∷ digits)
-  pub kind_is : kind_of letter ≡ Some kind
+  pub kind_is : kind_by_letter letter ≡ Some kind
   pub id_is : IsId digits id
 
 -- a letter, an id, @ and a role

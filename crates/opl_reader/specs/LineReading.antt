@@ -9,9 +9,9 @@ use Rattle.opl_reader.specs.declared.object.ObjectKind.{ObjectKind}
 use Rattle.opl_reader.specs.declared.object.Object.{Object}
 use Rattle.opl_reader.specs.Reading.{◌>>=◌, no_reading, or_fault}
 use Rattle.opl_reader.specs.Parts.{Part, without_cr}
-use Rattle.opl_reader.specs.Items.{kind_of}
+use Rattle.opl_reader.specs.Items.{kind_by_letter}
 use Rattle.opl_reader.specs.Fields.{nothing, object_of}
-use Rattle.opl_reader.specs.NumberReading.{id_of}
+use Rattle.opl_reader.specs.NumberReading.{id_spelled}
 use Rattle.opl_reader.specs.ItemReading.{placed}
 use Rattle.opl_reader.specs.FieldReading.{with_fields}
 
@@ -31,8 +31,8 @@ fields_from place text = nonempty (placed place (slice_split is_separator text))
 unfoldable pub head_at : ℕ → List ℕ → Result (ObjectKind × ℤ) LineFault
 head_at place [] = no_reading UnknownObject place
 head_at place (letter ∷ bytes) = do
-  kind ← or_fault UnknownObject place (kind_of letter)
-  id ← or_fault BadNumber place (id_of bytes)
+  kind ← or_fault UnknownObject place (kind_by_letter letter)
+  id ← or_fault BadNumber place (id_spelled bytes)
   Ok (kind, id)
 
 -- a comment or a changeset
@@ -40,8 +40,8 @@ abbrev pub is_passed_over : Part → Bool
 is_passed_over first = slice_index first.bytes 0 == 35 || slice_index first.bytes 0 == 99
 
 -- The object of a line that is not passed over.
-unfoldable pub object_at : Part → List Part → Result Object LineFault
-object_at first others = do
+unfoldable pub object_in_parts : Part → List Part → Result Object LineFault
+object_in_parts first others = do
   head ← head_at first.at first.bytes
   content ← with_fields head.0 [] others nothing
   Ok (object_of head.0 head.1 content)
@@ -49,7 +49,7 @@ object_at first others = do
 -- what a text with these fields is
 abbrev pub reading_of : List ℕ → List Part → Result (Option Object) LineFault
 reading_of text [] = Ok None
-reading_of text (first ∷ others) = if is_passed_over first then Ok None else (if is_utf8 text then (object_at first others >>= λ o. Ok (Some o)) else no_reading NotUtf8 (utf8_valid_len text))
+reading_of text (first ∷ others) = if is_passed_over first then Ok None else (if is_utf8 text then (object_in_parts first others >>= λ o. Ok (Some o)) else no_reading NotUtf8 (utf8_valid_len text))
 
 -- What a line is.
 unfoldable pub reading : List ℕ → Result (Option Object) LineFault

@@ -20,11 +20,11 @@ abbrev pub whole_lines : List ℕ → List (List ℕ)
 whole_lines bytes = with_last (λ line. false) (slice_split is_newline bytes)
 
 -- the last of some parts
-abbrev pub last_of : List (List ℕ) → List ℕ
-last_of [] = []
-last_of (part ∷ []) = part
-last_of (part ∷ (next ∷ parts)) = last_of (next ∷ parts)
+abbrev pub last_part : List (List ℕ) → List ℕ
+last_part [] = []
+last_part (part ∷ []) = part
+last_part (part ∷ (next ∷ parts)) = last_part (next ∷ parts)
 
 -- what stands behind the last newline
 abbrev pub unfinished_of : List ℕ → List ℕ
-unfinished_of bytes = last_of (slice_split is_newline bytes)
+unfinished_of bytes = last_part (slice_split is_newline bytes)

@@ -10,9 +10,9 @@ unfoldable pub magnitude_of : List ℕ → Option ℤ
 magnitude_of digits = if nat_lt 0 (length digits) && list_all is_ascii_digit digits && nat_le (digits_value 10 digits) 4611686018427387903 then Some (pos (digits_value 10 digits)) else None
 
 -- an optional minus, and a magnitude
-unfoldable pub id_of : List ℕ → Option ℤ
-id_of [] = magnitude_of []
-id_of (b ∷ bs) = if b == 45 then option_map neg_ℤ (magnitude_of bs) else magnitude_of (b ∷ bs)
+unfoldable pub id_spelled : List ℕ → Option ℤ
+id_spelled [] = magnitude_of []
+id_spelled (b ∷ bs) = if b == 45 then option_map neg_ℤ (magnitude_of bs) else magnitude_of (b ∷ bs)
 
 abbrev pub is_point : ℕ → Bool
 is_point b = b == 46

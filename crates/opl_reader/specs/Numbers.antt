@@ -46,8 +46,8 @@ IsDecimal text z = ((n : ℕ) × IsUnsigned text n × (z ≡ pos n))
     ⊎ ((digits : List ℕ) × (n : ℕ) × (text ≡ 45 ∷ digits) × IsUnsigned digits n × (z ≡ neg_ℤ (pos n))))
 
 -- the magnitude is at most the limit
-abbrev pub IsWithin : ℤ → ℤ → Type 0
-IsWithin limit z = pos (nat_abs z) ≤ℤ limit
+abbrev pub IsWithinLimit : ℤ → ℤ → Type 0
+IsWithinLimit limit z = pos (nat_abs z) ≤ℤ limit
 
 -- ---- numbers that aren't kept
 

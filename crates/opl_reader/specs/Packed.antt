@@ -42,7 +42,7 @@ pub record Tell (text bytes : List ℕ) : Type 0 where
   pub room : (more : List ℕ) → head_len (bytes ++ more) + text_len (bytes ++ more) ≤ length (bytes ++ more)
 
 -- bytes that tell the text were added
-pub record Added (before text after : List ℕ) : Type 0 where
+pub record IsTextAdded (before text after : List ℕ) : Type 0 where
   pub bytes : List ℕ
   pub is : after ≡ before ++ bytes
   pub tell : Tell text bytes
@@ -50,8 +50,8 @@ pub record Added (before text after : List ℕ) : Type 0 where
 -- a key was added, and a value behind it
 pub record BothAdded (before key value after : List ℕ) : Type 0 where
   pub between : List ℕ
-  pub of_key : Added before key between
-  pub of_value : Added between value after
+  pub of_key : IsTextAdded before key between
+  pub of_value : IsTextAdded between value after
 
 -- a whole text of characters stands in front, behind its length
 pub record BeginsWithText (bytes : List ℕ) : Type 0 where
@@ -64,9 +64,9 @@ tags_in zero bytes = []
 tags_in (suc count) bytes = record { key = first_text bytes; value = first_text (after_text bytes) } ∷ tags_in count (after_text (after_text bytes))
 
 -- the bytes are so many keys and values, and no more
-abbrev pub Fits : ℕ → List ℕ → Type 0
-Fits zero bytes = bytes ≡ []
-Fits (suc count) bytes = BeginsWithText bytes × BeginsWithText (after_text bytes) × Fits count (after_text (after_text bytes))
+abbrev pub AreKeysAndValues : ℕ → List ℕ → Type 0
+AreKeysAndValues zero bytes = bytes ≡ []
+AreKeysAndValues (suc count) bytes = BeginsWithText bytes × BeginsWithText (after_text bytes) × AreKeysAndValues count (after_text (after_text bytes))
 
 -- members of these kinds and ids, with the roles that stand one after the other
 abbrev pub members_in : List ObjectRef → List ℕ → List Member

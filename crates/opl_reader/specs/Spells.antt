@@ -8,7 +8,7 @@ use Rattle.opl_reader.specs.declared.object.Tag.{Tag}
 use Rattle.opl_reader.specs.declared.content.Content.{Content}
 use Rattle.opl_reader.specs.Parts.{Part, part, without_cr, Parted}
 use Rattle.opl_reader.specs.Numbers.{IsId}
-use Rattle.opl_reader.specs.Items.{kind_of}
+use Rattle.opl_reader.specs.Items.{kind_by_letter}
 use Rattle.opl_reader.specs.Fields.{nothing, object_of, Told}
 
 -- A line of UTF-8, whose first field is a letter and an id, and whose other fields make the content.
@@ -22,7 +22,7 @@ pub record Spells (line : List ℕ) (o : Object) : Type 0 where
   pub content : Content
   pub utf8 : IsUtf8 (without_cr line)
   pub fields : Parted 0 (without_cr line) (part place (letter ∷ digits) ∷ others)
-  pub kind_is : kind_of letter ≡ Some kind
+  pub kind_is : kind_by_letter letter ≡ Some kind
   pub id_is : IsId digits id
   pub told : Told kind [] others nothing content
   pub is : object_of kind id content ≡ o

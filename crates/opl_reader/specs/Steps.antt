@@ -16,7 +16,7 @@ use Rattle.opl_reader.specs.declared.feed.FeedError.{FeedError}
 use Rattle.opl_reader.specs.declared.feed.FeedError.TheVariants.{Line, OutOfMemory}
 use Rattle.opl_reader.specs.Parts.{Part, part}
 use Rattle.opl_reader.specs.Reading.{◌>>=◌}
-use Rattle.opl_reader.specs.ItemReading.{is_comma, tag_at, ref_of, member_at}
+use Rattle.opl_reader.specs.ItemReading.{is_comma, tag_at, ref_spelled, member_at}
 use Rattle.opl_reader.specs.LineReading.{is_passed_over}
 
 -- a value as far as the machine counts
@@ -53,13 +53,13 @@ left_len (Some rest) = length rest + 1
 pub record BeginsWithRef (rest : List ℕ) (reference : Ref) (len : ℕ) : Type 0 where
   pub inside : len ≤ length rest
   pub ends : position_or_len is_comma rest ≡ len
-  pub read : ref_of (take len rest) ≡ Some reference
+  pub read : ref_spelled (take len rest) ≡ Some reference
 
 -- so many bytes are the first item, which is read as this, and this is left behind its comma
 pub record IsFirstRef (rest : List ℕ) (reference : Option Ref) (len : ℕ) (left : Option (List ℕ)) : Type 0 where
   pub item : List ℕ
   pub parts : slice_split is_comma rest ≡ item ∷ left_parts left
-  pub read : reference ≡ ref_of item
+  pub read : reference ≡ ref_spelled item
   pub long : length item ≡ len
   pub whole : len + left_len left ≡ length rest
 

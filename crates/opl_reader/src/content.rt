@@ -6,7 +6,7 @@ ghost use Rattle.opl_reader.specs.Fields.{nothing, object_of};
 use crate::coordinate::{Latitude, Longitude};
 use crate::members::Members;
 use crate::object::{Object, ObjectKind};
-use crate::place::place_of;
+use crate::place::location_from;
 use crate::refs::Refs;
 use crate::tags::Tags;
 use std::alloc::Global;
@@ -50,7 +50,7 @@ pub fn object_of(kind: ObjectKind, id: i64, content: Content) -> Object
             id,
             live,
             tags,
-            place: place_of(content.x, content.y),
+            place: location_from(content.x, content.y),
         },
         ObjectKind::Way => Object::Way {
             id,

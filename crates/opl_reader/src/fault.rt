@@ -2,7 +2,7 @@
 
 ghost use Rattle.std.specs.Prelude.{◌≡◌};
 ghost use Rattle.opl_reader.specs.declared.fault.LineError.TheVariants.{OutOfMemory};
-ghost use Rattle.opl_reader.specs.Fault.{text_of};
+ghost use Rattle.opl_reader.specs.Fault.{fault_text};
 
 use std::alloc::{AllocError as OutOfMemory, AllocFailed};
 
@@ -35,7 +35,7 @@ pub enum FaultKind {
 
 /// What a report calls a fault of this kind.
 pub fn fault_text(kind: FaultKind) -> &'static str
-    ensures { result.now ≡ text_of kind }
+    ensures { result.now ≡ fault_text kind }
 {
     match kind {
         FaultKind::NotUtf8 => "not utf-8",

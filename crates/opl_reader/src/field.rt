@@ -13,7 +13,7 @@ use crate::fault::{FaultKind, LineError, fault};
 use crate::items::{read_members, read_refs, read_tags};
 use crate::number::are_digits;
 use crate::object::ObjectKind;
-use crate::place::{x_of, y_of};
+use crate::place::{x_spelled, y_spelled};
 use std::alloc::Global;
 
 /// What a field's letter stands for.
@@ -142,10 +142,10 @@ pub fn add_value(
             }
         }
         Meaning::X => {
-            content.x = x_of(value.as_bytes()).ok_or(fault(FaultKind::BadCoordinate, place))?;
+            content.x = x_spelled(value.as_bytes()).ok_or(fault(FaultKind::BadCoordinate, place))?;
         }
         Meaning::Y => {
-            content.y = y_of(value.as_bytes()).ok_or(fault(FaultKind::BadCoordinate, place))?;
+            content.y = y_spelled(value.as_bytes()).ok_or(fault(FaultKind::BadCoordinate, place))?;
         }
         Meaning::Tagged => content.tags = read_tags(alloc, value, place + 1)?,
         Meaning::Referring => content.refs = read_refs(alloc, value, place + 1)?,

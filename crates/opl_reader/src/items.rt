@@ -5,8 +5,8 @@ ghost use Rattle.std.specs.List.{slice_split, list_any};
 ghost use Rattle.std.specs.Option.{option_copied};
 ghost use Rattle.std.specs.Str.{IsUtf8, bytes_eq};
 ghost use Rattle.opl_reader.specs.Reading.{Gives, Leaves};
-ghost use Rattle.opl_reader.specs.Items.{kind_of};
-ghost use Rattle.opl_reader.specs.ItemReading.{is_comma, tags_at, own_place_of, ref_behind, ref_of, ref_at, refs_at, target_of, members_at};
+ghost use Rattle.opl_reader.specs.Items.{kind_by_letter};
+ghost use Rattle.opl_reader.specs.ItemReading.{is_comma, tags_at, own_place_of, ref_behind, ref_spelled, ref_at, refs_at, target_of, members_at};
 ghost use Rattle.opl_reader.specs.Steps.{BeginsWithRef, IsFirstRef, all_left, left_parts, left_len, tag, kept_with, kept_at, with_member_at, HasKeysOf};
 
 use crate::cut::{cut, cut_bytes};
@@ -15,7 +15,7 @@ use crate::fault::{FaultKind, LineError, fault};
 use crate::members::Members;
 use crate::number::{leading_digits, read_id};
 use crate::object::{ObjectKind, ObjectRef, Ref};
-use crate::place::{place_of, x_of, y_of};
+use crate::place::{location_from, x_spelled, y_spelled};
 use crate::refs::Refs;
 use crate::tags::Tags;
 use memchr::memchr_iter;
@@ -181,9 +181,9 @@ fn own_place_of(bytes: &[u8]) -> Option<Option<Loc>>
     ensures { result ≡ own_place_of bytes.now }
 {
     let (x, y) = cut_bytes(bytes, b'y')?;
-    let x = x_of(x)?;
-    let y = y_of(y)?;
-    Some(place_of(x, y))
+    let x = x_spelled(x)?;
+    let y = y_spelled(y)?;
+    Some(location_from(x, y))
 }
 
 /// An id, and behind it an own location where an x stands there.
@@ -205,9 +205,9 @@ fn ref_behind(bytes: &[u8]) -> Option<Ref>
 }
 
 /// A reference: n, an id, and maybe an own location.
-#[tactic(auto, unfolding(crate::specs::ItemReading::ref_of))]
+#[tactic(auto, unfolding(crate::specs::ItemReading::ref_spelled))]
 fn read_ref(item: &[u8]) -> Option<Ref>
-    ensures { result ≡ ref_of item.now }
+    ensures { result ≡ ref_spelled item.now }
 {
     match item {
         [b'n', bytes @ ..] => ref_behind(bytes),
@@ -274,8 +274,8 @@ pub fn read_refs(alloc: Global, text: &str, place: u64) -> Result<Refs, LineErro
 }
 
 /// The kind of object that a letter names.
-pub fn kind_of(letter: u8) -> Option<ObjectKind>
-    ensures { result ≡ kind_of letter }
+pub fn kind_by_letter(letter: u8) -> Option<ObjectKind>
+    ensures { result ≡ kind_by_letter letter }
 {
     match letter {
         b'n' => Some(ObjectKind::Node),
@@ -293,7 +293,7 @@ fn read_target(text: &str) -> Option<ObjectRef>
     match text.as_bytes() {
         [] => None,
         [letter, id @ ..] => {
-            let kind = kind_of(*letter)?;
+            let kind = kind_by_letter(*letter)?;
             let id = read_id(id)?;
             Some(ObjectRef { kind, id })
         }

@@ -19,7 +19,7 @@ ghost use Rattle.std.specs.Str.{IsUtf8};
 use crate::content::{Content, object_of};
 use crate::fault::{FaultKind, LineError, fault};
 use crate::field::{add_value, letter_of};
-use crate::items::kind_of;
+use crate::items::kind_by_letter;
 use crate::number::read_id;
 use crate::object::{Object, ObjectKind};
 use crate::search::first_separator;
@@ -150,7 +150,7 @@ fn read_head(field: &str, place: u64) -> Result<(ObjectKind, i64), LineError>
     match field.as_bytes() {
         [] => Err(fault(FaultKind::UnknownObject, place)),
         [letter, id @ ..] => {
-            let Some(kind) = kind_of(*letter) else {
+            let Some(kind) = kind_by_letter(*letter) else {
                 return Err(fault(FaultKind::UnknownObject, place));
             };
             let Some(id) = read_id(id) else {
@@ -172,7 +172,7 @@ fn without_cr(line: &[u8]) -> &[u8]
 }
 
 /// Reads a line. The public call has more clauses, which follow from this one.
-#[tactic(auto, unfolding(crate::specs::LineReading::reading, crate::specs::LineReading::object_at))]
+#[tactic(auto, unfolding(crate::specs::LineReading::reading, crate::specs::LineReading::object_in_parts))]
 fn read(alloc: Global, line: &[u8]) -> Result<Option<Object>, LineError>
     ensures { Gives result (reading line.now) }
 {

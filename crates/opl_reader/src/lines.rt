@@ -59,7 +59,7 @@ fn is_too_long(unfinished: &[u8], more: &[u8], longest: u64) -> bool
 }
 
 /// Reads the line that is the unfinished one and these bytes, where they stand if they are all of it.
-fn read_ended(
+fn read_complete_line(
     alloc: Global,
     unfinished: &mut Vec<u8>,
     end: &[u8],
@@ -133,7 +133,7 @@ impl Lines {
                 object: None,
             });
         }
-        match read_ended(self.alloc, &mut self.unfinished, front) {
+        match read_complete_line(self.alloc, &mut self.unfinished, front) {
             Ok(object) => {
                 self.line += 1;
                 self.fed += front.len() as u64 + 1;
@@ -166,7 +166,7 @@ impl Lines {
         if self.unfinished.is_empty() {
             return Ok(None);
         }
-        match read_ended(self.alloc, &mut self.unfinished, &[]) {
+        match read_complete_line(self.alloc, &mut self.unfinished, &[]) {
             Ok(object) => {
                 self.line += 1;
                 Ok(object)

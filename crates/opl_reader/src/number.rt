@@ -4,8 +4,8 @@ ghost use Rattle.std.specs.Prelude.{◌≡◌, ◌+◌, ◌*◌, ◌/◌, ◌^�
 ghost use Rattle.std.specs.List.{list_all, before_first, after_first};
 ghost use Rattle.std.specs.Char.{is_ascii_digit};
 ghost use Rattle.std.specs.Str.Parse.{digits_value};
-ghost use Rattle.opl_reader.specs.Numbers.{IsWithin, IsId, IsDecimal, first_eight};
-ghost use Rattle.opl_reader.specs.NumberReading.{magnitude_of, id_of, is_point, unsigned_of, within, decimal_of};
+ghost use Rattle.opl_reader.specs.Numbers.{IsWithinLimit, IsId, IsDecimal, first_eight};
+ghost use Rattle.opl_reader.specs.NumberReading.{magnitude_of, id_spelled, is_point, unsigned_of, within, decimal_of};
 ghost use Rattle.opl_reader.specs.Steps.{capped, LeadingDigits};
 
 use crate::search::first_cut;
@@ -105,9 +105,9 @@ fn magnitude(digits: &[u8]) -> Option<i64>
 }
 
 /// An optional minus, and a magnitude.
-#[tactic(auto, unfolding(crate::specs::NumberReading::id_of))]
+#[tactic(auto, unfolding(crate::specs::NumberReading::id_spelled))]
 fn id(text: &[u8]) -> Option<i64>
-    ensures { result ≡ id_of text.now }
+    ensures { result ≡ id_spelled text.now }
 {
     match text {
         [b'-', digits @ ..] => {
@@ -122,7 +122,7 @@ fn id(text: &[u8]) -> Option<i64>
 pub fn read_id(text: &[u8]) -> Option<i64>
     ensures found { IfSome result (λ id. IsId text.now id) }
     ensures none { IfNone result ((id : ℤ) → ¬ IsId text.now id) }
-    ensures value { result ≡ id_of text.now }
+    ensures value { result ≡ id_spelled text.now }
 {
     id(text)
 }
@@ -251,8 +251,9 @@ pub fn decimal(text: &[u8], limit: i64) -> Option<i64>
 /// The eighth decimal rounds the magnitude, from 5 on upwards, and later ones don't count. There is no exponent.
 /// None comes where the text is no such decimal, or where its rounded magnitude is above the limit.
 pub fn read_decimal(text: &[u8], limit: i64) -> Option<i64>
-    ensures found { IfSome result (λ units. IsDecimal text.now units × IsWithin limit units) }
-    ensures none { IfNone result ((units : ℤ) → IsDecimal text.now units → ¬ IsWithin limit units) }
+    ensures found { IfSome result (λ units. IsDecimal text.now units × IsWithinLimit limit units) }
+    ensures none { IfNone result ((units : ℤ) → IsDecimal text.now units
+        → ¬ IsWithinLimit limit units) }
     // The same, as a function of the text.
     ensures value { result ≡ decimal_of limit text.now }
 {

@@ -2,7 +2,7 @@
 //! there are 192 bytes and more.
 
 ghost use Rattle.std.specs.Prelude.{◌≡◌, ◌≤◌, ◌<◌, ◌^◌, ◌++◌, length, drop, take, OnOk, OnErr};
-ghost use Rattle.opl_reader.specs.Packed.{length_bytes, head_len, text_len, first_text, after_text, BeginsWithText, Added};
+ghost use Rattle.opl_reader.specs.Packed.{length_bytes, head_len, text_len, first_text, after_text, BeginsWithText, IsTextAdded};
 
 use crate::usual::{FIRST_CODE, usual_code, usual_text};
 use std::alloc::AllocError as OutOfMemory;
@@ -57,7 +57,7 @@ fn push_whole(texts: &mut Vec<u8>, len: u32, text: &str) -> Result<(), OutOfMemo
 
 /// Adds a text. After an `Err` nothing is added.
 pub(crate) fn push_text(texts: &mut Vec<u8>, text: &str) -> Result<(), OutOfMemory>
-    ensures ok { OnOk result (Added texts.old.items text.now texts.new.items) }
+    ensures ok { OnOk result (IsTextAdded texts.old.items text.now texts.new.items) }
     ensures short { OnOk result (length text.now < 2 ^ 32) }
     ensures err { OnErr result (texts.new.items ≡ texts.old.items) }
 {

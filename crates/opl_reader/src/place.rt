@@ -1,9 +1,9 @@
 //! Coordinates and the location that they make.
 
 ghost use Rattle.std.specs.Prelude.{◌≡◌, pos, option_and_then};
-ghost use Rattle.opl_reader.specs.Coordinates.{place_of};
+ghost use Rattle.opl_reader.specs.Coordinates.{location_from};
 ghost use Rattle.opl_reader.specs.NumberReading.{decimal_of};
-ghost use Rattle.opl_reader.specs.CoordinateReading.{longitude, latitude, x_of, y_of};
+ghost use Rattle.opl_reader.specs.CoordinateReading.{longitude, latitude, x_spelled, y_spelled};
 
 use crate::coordinate::{Latitude, Longitude};
 use crate::number::decimal;
@@ -30,9 +30,9 @@ fn latitude(bytes: &[u8]) -> Option<Latitude>
 }
 
 /// Nothing, or a longitude.
-#[tactic(auto, unfolding(crate::specs::CoordinateReading::x_of))]
-pub fn x_of(bytes: &[u8]) -> Option<Option<Longitude>>
-    ensures { result ≡ x_of bytes.now }
+#[tactic(auto, unfolding(crate::specs::CoordinateReading::x_spelled))]
+pub fn x_spelled(bytes: &[u8]) -> Option<Option<Longitude>>
+    ensures { result ≡ x_spelled bytes.now }
 {
     if bytes.is_empty() {
         return Some(None);
@@ -42,9 +42,9 @@ pub fn x_of(bytes: &[u8]) -> Option<Option<Longitude>>
 }
 
 /// Nothing, or a latitude.
-#[tactic(auto, unfolding(crate::specs::CoordinateReading::y_of))]
-pub fn y_of(bytes: &[u8]) -> Option<Option<Latitude>>
-    ensures { result ≡ y_of bytes.now }
+#[tactic(auto, unfolding(crate::specs::CoordinateReading::y_spelled))]
+pub fn y_spelled(bytes: &[u8]) -> Option<Option<Latitude>>
+    ensures { result ≡ y_spelled bytes.now }
 {
     if bytes.is_empty() {
         return Some(None);
@@ -54,8 +54,8 @@ pub fn y_of(bytes: &[u8]) -> Option<Option<Latitude>>
 }
 
 /// A location, where both coordinates are there.
-pub fn place_of(x: Option<Longitude>, y: Option<Latitude>) -> Option<Loc>
-    ensures { result ≡ place_of x y }
+pub fn location_from(x: Option<Longitude>, y: Option<Latitude>) -> Option<Loc>
+    ensures { result ≡ location_from x y }
 {
     match (x, y) {
         (Some(x), Some(y)) => Some(Loc {

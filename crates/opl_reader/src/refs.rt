@@ -1,10 +1,10 @@
 //! The references of a way, held in one block of bytes: each by how it differs from the first of them.
 
 ghost use Rattle.std.specs.Prelude.{◌≡◌, ◌++◌, ◌∷◌, ◌==◌, ◌+◌, ◌-◌, [], Some, length, take, slice_get, IfOk, OnOk, OnErr};
-ghost use Rattle.opl_reader.specs.Coordinates.{place_of};
+ghost use Rattle.opl_reader.specs.Coordinates.{location_from};
 ghost use Rattle.opl_reader.specs.CoordinateReading.{longitude, latitude};
 ghost use Rattle.opl_reader.specs.Compact.{difference};
-ghost use Rattle.opl_reader.specs.Held.{refs_behind, last_behind, node_from, place_from, x_from, y_from, place_bytes, ref_bytes, first_place, after_place, first_ref, after_ref};
+ghost use Rattle.opl_reader.specs.Held.{refs_behind, last_behind, compared_id, place_from, x_from, y_from, place_bytes, ref_bytes, first_place, after_place, first_ref, after_ref};
 
 use crate::compact::{difference, first_number, moved, push_number};
 use crate::object::Ref;
@@ -25,13 +25,13 @@ pub struct Refs {
 impl Model for Refs {
     ghost use Rattle.std.specs.Prelude.{List, None};
     ghost use Rattle.opl_reader.specs.declared.object.Ref.{Ref};
-    ghost use Rattle.opl_reader.specs.Held.{refs_behind, AreRefs};
+    ghost use Rattle.opl_reader.specs.Held.{refs_behind, AreRefBytes};
 
     ghost Value = { List Ref };
 
     ghost view = { λ r. refs_behind None r.bytes.items };
 
-    ghost invariant = { λ r. AreRefs r.bytes.items };
+    ghost invariant = { λ r. AreRefBytes r.bytes.items };
 }
 
 /// References, gone through one by one.
@@ -53,8 +53,8 @@ impl<'a> Model for RefIter<'a> {
 }
 
 /// The id that ids are compared with.
-fn node_from(first: Option<Ref>) -> i64
-    ensures { result ≡ node_from first }
+fn compared_id(first: Option<Ref>) -> i64
+    ensures { result ≡ compared_id first }
 {
     match first {
         None => 0,
@@ -85,7 +85,7 @@ fn coordinates_from(from: Option<Loc>) -> (i64, i64)
 
 /// The location with these coordinates, if they are in range.
 fn place_at(x: i64, y: i64) -> Option<Loc>
-    ensures { result ≡ place_of (longitude x) (latitude y) }
+    ensures { result ≡ location_from (longitude x) (latitude y) }
 {
     Loc::new(x, y)
 }
@@ -120,7 +120,7 @@ fn push_ref(bytes: &mut Vec<u8>, first: Option<Ref>, reference: Ref) -> Result<(
     ensures ok { OnOk result (bytes.new.items ≡ bytes.old.items ++ ref_bytes first reference) }
     ensures err { OnErr result (take (length bytes.old.items) bytes.new.items ≡ bytes.old.items) }
 {
-    push_number(bytes, difference(node_from(first), reference.node))?;
+    push_number(bytes, difference(compared_id(first), reference.node))?;
     push_place(bytes, place_from(first), reference.at)?;
     Ok(())
 }
@@ -147,7 +147,7 @@ fn first_ref(first: Option<Ref>, bytes: &[u8]) -> (Ref, &[u8])
 {
     let (by, behind) = first_number(bytes);
     let (at, behind) = first_place(place_from(first), behind);
-    let node = moved(node_from(first), by);
+    let node = moved(compared_id(first), by);
     (Ref { node, at }, behind)
 }
 

@@ -30,11 +30,11 @@ impl Model for Tags {
 
     ghost Value = { List Tag };
 
-    ghost use Rattle.opl_reader.specs.Packed.{tags_in, Fits};
+    ghost use Rattle.opl_reader.specs.Packed.{tags_in, AreKeysAndValues};
 
     ghost view = { λ t. tags_in t.count t.texts.items };
 
-    ghost invariant = { λ t. Fits t.count t.texts.items };
+    ghost invariant = { λ t. AreKeysAndValues t.count t.texts.items };
 }
 
 /// Tags, gone through one by one.
@@ -50,11 +50,11 @@ impl<'a> Model for TagIter<'a> {
 
     ghost Value = { List Tag };
 
-    ghost use Rattle.opl_reader.specs.Packed.{tags_in, Fits};
+    ghost use Rattle.opl_reader.specs.Packed.{tags_in, AreKeysAndValues};
 
     ghost view = { λ t. tags_in t.left t.texts.now };
 
-    ghost invariant = { λ t. Fits t.left t.texts.now };
+    ghost invariant = { λ t. AreKeysAndValues t.left t.texts.now };
 }
 
 /// Adds a key and a value. After an `Err` nothing is added.

@@ -14,7 +14,7 @@ use Rattle.opl_reader.specs.declared.object.Member.{Member}
 use Rattle.opl_reader.specs.declared.object.ObjectKind.{ObjectKind}
 use Rattle.opl_reader.specs.declared.object.ObjectKind.TheVariants.{Node, Way, Relation}
 use Rattle.opl_reader.specs.Parts.{PartedByCommas, last, more}
-use Rattle.opl_reader.specs.Items.{Each, AreItems, IsTag, IsOwnPlace, IsRef, IsMember, kind_of, HaveDifferentKeys, first_of_each}
+use Rattle.opl_reader.specs.Items.{Each, AreItems, IsTag, IsOwnPlace, IsRef, IsMember, kind_by_letter, HaveDifferentKeys, first_of_each}
 use Rattle.opl_reader.specs.Coordinates.{IsX, IsY}
 use Rattle.opl_reader.specs.declared.coordinate.Longitude.{Longitude}
 use Rattle.opl_reader.specs.declared.coordinate.Latitude.{Latitude}
@@ -121,7 +121,7 @@ ref_is_item r h =
 
 -- ---- members
 
-target-is : (letter : ℕ) (m : Member) → kind_letter m.kind ≡ letter ∷ [] → kind_of letter ≡ Some m.kind → 65 ≤ letter → letter ≤ 126 → IsMemberInRange m → IsItem IsMember (member_text m) m
+target-is : (letter : ℕ) (m : Member) → kind_letter m.kind ≡ letter ∷ [] → kind_by_letter letter ≡ Some m.kind → 65 ≤ letter → letter ≤ 126 → IsMemberInRange m → IsItem IsMember (member_text m) m
 target-is letter m is kind low high h =
     let id = id-of_number m.id h.0 in
     let role = written-of_text m.role in

@@ -17,11 +17,11 @@ use Rattle.opl_reader.specs.declared.object.Object.{Object}
 use Rattle.opl_reader.specs.declared.object.Object.TheVariants as object
 use Rattle.opl_reader.specs.declared.content.Content.{Content}
 use Rattle.opl_reader.specs.Parts.{without_cr, Lacks, Parted, part}
-use Rattle.opl_reader.specs.Items.{kind_of}
-use Rattle.opl_reader.specs.Coordinates.{place_of}
+use Rattle.opl_reader.specs.Items.{kind_by_letter}
+use Rattle.opl_reader.specs.Coordinates.{location_from}
 use Rattle.opl_reader.specs.Fields.{nothing, object_of, Told}
 use Rattle.opl_reader.specs.Spells.{Spells}
-use Rattle.opl_writer.specs.Written.{ref_text, member_text, tags_field, refs_field, members_field, place_fields, node_line, way_line, relation_line, line_of}
+use Rattle.opl_writer.specs.Written.{ref_text, member_text, tags_field, refs_field, members_field, place_fields, node_line, way_line, relation_line, object_line}
 use Rattle.osm_notation.specs.Written.{tag_text}
 use Rattle.opl_writer.specs.Writable.{IsIdNumber, AreTags, AreRefs, AreMembers, IsWritable}
 use Rattle.opl_writer.proofs.Bytes.{IsVisible, IsPrinted, printed_lacks, number_is_visible}
@@ -55,7 +55,7 @@ pub record Writes (line : List ℕ) (o : Object) : Type 0 where
   pub printed : All IsPrinted line
 
 writes : (kind : ObjectKind) (letter : ℕ) (id : ℤ) (fs : List (List ℕ)) (content : Content) (line : List ℕ) (o : Object) → line ≡ (letter ∷ signed_decimal id) ++ spaced fs
-    → kind_of letter ≡ Some kind → IsVisible letter → IsIdNumber id → All IsField fs → ((at : ℕ) → Told kind [] (placed at fs) nothing content) → object_of kind id content ≡ o → Writes line o
+    → kind_by_letter letter ≡ Some kind → IsVisible letter → IsIdNumber id → All IsField fs → ((at : ℕ) → Told kind [] (placed at fs) nothing content) → object_of kind id content ≡ o → Writes line o
 writes kind letter id fs content line o is kind_is low range fields told object_is =
     let head = letter ∷ signed_decimal id in
     let first : IsField head = record { some = omega arith; visible = All-cons IsVisible letter (signed_decimal id) low (number_is_visible (signed_decimal id) (id-of_number id range)) } in
@@ -98,7 +98,7 @@ members-row : (members : List Member) → members_field members ≡ spaced (memb
 unfolding member_fields
 members-row members = field-listed 77 (map member_text members)
 
-place-is : (place : Option Loc) → place_of (option_map longitude_of place) (option_map latitude_of place) ≡ place
+place-is : (place : Option Loc) → location_from (option_map longitude_of place) (option_map latitude_of place) ≡ place
 place-is None = refl
 place-is (Some p) = refl
 
@@ -128,10 +128,10 @@ relation-writes id live tags members lives range are named =
     refl (omega arith, omega arith) range fields (behind_tags Relation tags are (member_fields members) (of_relation tags members) (members_told tags members named))
     (ap (λ (b : Bool). object.Relation id b tags members) (sym lives))
 
-pub object_is_written : (o : Object) → IsWritable o → Writes (line_of o) o
+pub object_is_written : (o : Object) → IsWritable o → Writes (object_line o) o
 object_is_written (object.Node id live tags place) h = node-writes id live tags place h.0 h.1.0 h.1.1
 object_is_written (object.Way id live tags refs) h = way-writes id live tags refs h.0 h.1.0 h.1.1 h.1.2
 object_is_written (object.Relation id live tags members) h = relation-writes id live tags members h.0 h.1.0 h.1.1 h.1.2
 
-pub no_newline : (o : Object) → IsWritable o → Lacks 10 (line_of o)
-no_newline o h = printed_lacks 10 (omega arith) (line_of o) (object_is_written o h).printed
+pub no_newline : (o : Object) → IsWritable o → Lacks 10 (object_line o)
+no_newline o h = printed_lacks 10 (omega arith) (object_line o) (object_is_written o h).printed

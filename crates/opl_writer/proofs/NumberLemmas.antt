@@ -9,7 +9,7 @@ use Rattle.std.proofs.lemmas.Fmt.{decimal_is_IsNumeral}
 use Rattle.std.proofs.lemmas.List.{take_all}
 use Rattle.std.proofs.lemmas.List.Elements.{All-nil, All-cons, All-append, All-weaker}
 use Rattle.std.proofs.lemmas.Str.Parse.{digit_from_value}
-use Rattle.osm_notation.specs.Decimal.{last_digits, without_end_zeros, fraction, magnitude_text, units_text}
+use Rattle.osm_notation.specs.Decimal.{last_digits, without_end_zeros, fraction_text, magnitude_text, units_text}
 use Rattle.osm_notation.proofs.DecimalValues.{digits-last, digits-without, length-last, length-without, padded, value-append, value-last, value-zeros}
 use Rattle.opl_reader.specs.Numbers.{AreDigits, IsMagnitude, IsId, first_eight, IsUnsigned, IsDecimal}
 use Rattle.opl_writer.specs.Writable.{IsIdNumber}
@@ -107,7 +107,7 @@ unsigned-by n small false some =
     }
 
 unsigned-is : (n : ℕ) → n < 2 ^ 64 → IsUnsigned (magnitude_text n) n
-unfolding magnitude_text fraction
+unfolding magnitude_text fraction_text
 unsigned-is n small = unsigned-by n small (n % 10 ^ 7 == 0) refl
 
 pub units_are_read : (v : ℤ) → unsigned_abs v < 2 ^ 64 → IsDecimal (units_text v) v
@@ -115,8 +115,8 @@ units_are_read (pos n) small = inl (n, unsigned-is n small, refl)
 units_are_read (negsuc n) small = inr (inr (magnitude_text (suc n), suc n, refl, unsigned-is (suc n) small, refl))
 
 unsigned-of_number : (n : ℕ) → n < 2 ^ 64 → All IsOfNumber (magnitude_text n)
-unfolding magnitude_text fraction
-unsigned-of_number n small = All-append IsOfNumber (decimal (n / 10 ^ 7)) (fraction (n % 10 ^ 7)) (digits-of_number (decimal (n / 10 ^ 7)) (decimal-digits (n / 10 ^ 7) (omega arith))) (by (n % 10 ^ 7 == 0))
+unfolding magnitude_text fraction_text
+unsigned-of_number n small = All-append IsOfNumber (decimal (n / 10 ^ 7)) (fraction_text (n % 10 ^ 7)) (digits-of_number (decimal (n / 10 ^ 7)) (decimal-digits (n / 10 ^ 7) (omega arith))) (by (n % 10 ^ 7 == 0))
   where
     decimals : List ℕ
     decimals = without_end_zeros (last_digits 7 (n % 10 ^ 7))

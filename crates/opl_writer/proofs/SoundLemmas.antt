@@ -27,7 +27,7 @@ use Rattle.opl_reader.specs.Items.{Each, IsItems, IsTag, IsRef, IsMember, first_
 use Rattle.opl_reader.specs.Fields.{nothing, object_of, Tells, FieldTells, Told}
 use Rattle.opl_reader.specs.Spells.{Spells}
 use Rattle.opl_reader.proofs.ReaderKit.{abs_neg, first_differ, letter_ascii}
-use Rattle.opl_writer.specs.Writable.{IsIdNumber, IsTagOfTexts, AreTags, IsRefInRange, AreRefs, IsMemberInRange, AreMembers, IsSound}
+use Rattle.opl_writer.specs.Writable.{IsIdNumber, IsTagOfTexts, AreTags, IsRefInRange, AreRefs, IsMemberInRange, AreMembers, IsWellFormed}
 
 -- ---- texts of characters
 
@@ -167,13 +167,13 @@ parts-text at text fields (field a bytes t fs some lacks e p) u =
 
 -- ---- objects
 
-object-sound : (kind : ObjectKind) (id : ℤ) (c : Content) → IsIdNumber id → IsGood c → IsSound (object_of kind id c)
+object-sound : (kind : ObjectKind) (id : ℤ) (c : Content) → IsIdNumber id → IsGood c → IsWellFormed (object_of kind id c)
 object-sound Node id c range h = (range, h.tags)
 object-sound Way id c range h = (range, h.tags, h.refs)
 object-sound Relation id c range h = (range, h.tags, h.members)
 
-pub spelled_is_sound : (line : List ℕ) (o : Object) → Spells line o → IsSound o
+pub spelled_is_sound : (line : List ℕ) (o : Object) → Spells line o → IsWellFormed o
 spelled_is_sound line o s =
     let texts = parts-text 0 (without_cr line) _ s.fields s.utf8 in
     let others = All-tail IsText (part s.place (s.letter ∷ s.digits)) s.others texts in
-    subst IsSound s.is (object-sound s.kind s.id s.content (id-good s.digits s.id s.id_is) (told-good s.kind [] s.others nothing s.content s.told others nothing-good))
+    subst IsWellFormed s.is (object-sound s.kind s.id s.content (id-good s.digits s.id s.id_is) (told-good s.kind [] s.others nothing s.content s.told others nothing-good))

@@ -12,7 +12,7 @@ use Rattle.opl_reader.specs.Lines.{is_newline, with_last, lines_of}
 use Rattle.opl_reader.specs.Parts.{Lacks}
 use Rattle.opl_reader.specs.Told.{object_in, object_told}
 use Rattle.opl_reader.proofs.ReaderKit.{with_last-cons}
-use Rattle.opl_writer.specs.Written.{line_of, text_of}
+use Rattle.opl_writer.specs.Written.{object_line, objects_text}
 use Rattle.opl_writer.specs.Writable.{IsWritable}
 
 -- a line that is ended, before other bytes
@@ -25,14 +25,14 @@ line-first line bytes lacks =
     counts : List ℕ → Bool
     counts l = nat_lt 0 (length l)
 
-pub lines_are : ((o : Object) → IsWritable o → Lacks 10 (line_of o)) → (objects : List Object) → All IsWritable objects → lines_of (text_of objects) ≡ map line_of objects
+pub lines_are : ((o : Object) → IsWritable o → Lacks 10 (object_line o)) → (objects : List Object) → All IsWritable objects → lines_of (objects_text objects) ≡ map object_line objects
 lines_are lacks [] h = refl
 lines_are lacks (o ∷ objects) h =
-    line-first (line_of o) (text_of objects) (lacks o (All-head IsWritable o objects h))
-    ∙ ap (λ (lines : List (List ℕ)). line_of o ∷ lines) (lines_are lacks objects (All-tail IsWritable o objects h))
+    line-first (object_line o) (objects_text objects) (lacks o (All-head IsWritable o objects h))
+    ∙ ap (λ (lines : List (List ℕ)). object_line o ∷ lines) (lines_are lacks objects (All-tail IsWritable o objects h))
 
-pub objects_are : ((o : Object) → IsWritable o → reading (line_of o) ≡ Ok (Some o)) → (objects : List Object) → All IsWritable objects → filter_map object_told (map line_of objects) ≡ objects
+pub objects_are : ((o : Object) → IsWritable o → reading (object_line o) ≡ Ok (Some o)) → (objects : List Object) → All IsWritable objects → filter_map object_told (map object_line objects) ≡ objects
 objects_are read [] h = refl
 objects_are read (o ∷ objects) h =
-    ap (λ (r : Result (Option Object) LineFault). cons_option (object_in r) (filter_map object_told (map line_of objects))) (read o (All-head IsWritable o objects h))
+    ap (λ (r : Result (Option Object) LineFault). cons_option (object_in r) (filter_map object_told (map object_line objects))) (read o (All-head IsWritable o objects h))
     ∙ ap (λ (os : List Object). o ∷ os) (objects_are read objects (All-tail IsWritable o objects h))

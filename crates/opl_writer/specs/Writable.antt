@@ -33,10 +33,10 @@ abbrev pub AreMembers : List Member → Type 0
 AreMembers members = All IsMemberInRange members
 
 -- Its ids are in range, its texts are texts of characters, and no key stands twice.
-abbrev pub IsSound : Object → Type 0
-IsSound (object.Node id live tags place) = IsIdNumber id × AreTags tags
-IsSound (object.Way id live tags refs) = IsIdNumber id × AreTags tags × AreRefs refs
-IsSound (object.Relation id live tags members) = IsIdNumber id × AreTags tags × AreMembers members
+abbrev pub IsWellFormed : Object → Type 0
+IsWellFormed (object.Node id live tags place) = IsIdNumber id × AreTags tags
+IsWellFormed (object.Way id live tags refs) = IsIdNumber id × AreTags tags × AreRefs refs
+IsWellFormed (object.Relation id live tags members) = IsIdNumber id × AreTags tags × AreMembers members
 
 -- it wasn't deleted
 abbrev pub IsLive : Object → Type 0
@@ -46,4 +46,4 @@ IsLive (object.Relation id live tags members) = live ≡ true
 
 -- a live object that a line can spell
 abbrev pub IsWritable : Object → Type 0
-IsWritable o = IsLive o × IsSound o
+IsWritable o = IsLive o × IsWellFormed o

@@ -67,10 +67,10 @@ abbrev pub relation_line : ℤ → List Tag → List Member → List ℕ
 relation_line id tags members = codes "r" ++ signed_decimal id ++ tags_field tags ++ members_field members
 
 -- the line of an object
-abbrev pub line_of : Object → List ℕ
-line_of (object.Node id live tags place) = node_line id tags place
-line_of (object.Way id live tags refs) = way_line id tags refs
-line_of (object.Relation id live tags members) = relation_line id tags members
+abbrev pub object_line : Object → List ℕ
+object_line (object.Node id live tags place) = node_line id tags place
+object_line (object.Way id live tags refs) = way_line id tags refs
+object_line (object.Relation id live tags members) = relation_line id tags members
 
 -- ---- texts
 
@@ -79,5 +79,5 @@ abbrev pub ended : List ℕ → List ℕ
 ended line = line ++ codes "\n"
 
 -- the lines of some objects, one after the other
-abbrev pub text_of : List Object → List ℕ
-text_of objects = flat_map (λ o. ended (line_of o)) objects
+abbrev pub objects_text : List Object → List ℕ
+objects_text objects = flat_map (λ o. ended (object_line o)) objects

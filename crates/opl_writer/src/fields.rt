@@ -1,7 +1,7 @@
 //! Fields of a line. Each stands behind a space, and only where something stands in it.
 
 ghost use Rattle.std.specs.Prelude.{◌≡◌, ◌++◌, OnOk, OnErr};
-ghost use Rattle.osm_notation.specs.Kept.{Keeps};
+ghost use Rattle.osm_notation.specs.Kept.{KeepsFront};
 ghost use Rattle.opl_writer.specs.Written.{members_field, place_fields, refs_field, tags_field};
 
 use crate::items::{put_member, put_ref};
@@ -13,7 +13,7 @@ use std::alloc::AllocError as OutOfMemory;
 /// Adds the field of tags, where there are any.
 pub(crate) fn put_tags(text: &mut Vec<u8>, tags: &Tags) -> Result<(), OutOfMemory>
     ensures text { OnOk result (text.new.items ≡ text.old.items ++ tags_field tags.now) }
-    ensures kept { OnErr result (Keeps text.old.items text.new.items) }
+    ensures kept { OnErr result (KeepsFront text.old.items text.new.items) }
 {
     let mut mark: &[u8] = b" T";
     let mut rest = tags.iter();
@@ -28,7 +28,7 @@ pub(crate) fn put_tags(text: &mut Vec<u8>, tags: &Tags) -> Result<(), OutOfMemor
 /// Adds the field of references, where there are any.
 pub(crate) fn put_refs(text: &mut Vec<u8>, refs: &Refs) -> Result<(), OutOfMemory>
     ensures text { OnOk result (text.new.items ≡ text.old.items ++ refs_field refs.now) }
-    ensures kept { OnErr result (Keeps text.old.items text.new.items) }
+    ensures kept { OnErr result (KeepsFront text.old.items text.new.items) }
 {
     let mut mark: &[u8] = b" N";
     for reference in refs.iter() {
@@ -42,7 +42,7 @@ pub(crate) fn put_refs(text: &mut Vec<u8>, refs: &Refs) -> Result<(), OutOfMemor
 /// Adds the field of members, where there are any.
 pub(crate) fn put_members(text: &mut Vec<u8>, members: &Members) -> Result<(), OutOfMemory>
     ensures text { OnOk result (text.new.items ≡ text.old.items ++ members_field members.now) }
-    ensures kept { OnErr result (Keeps text.old.items text.new.items) }
+    ensures kept { OnErr result (KeepsFront text.old.items text.new.items) }
 {
     let mut mark: &[u8] = b" M";
     let mut rest = members.iter();
@@ -57,7 +57,7 @@ pub(crate) fn put_members(text: &mut Vec<u8>, members: &Members) -> Result<(), O
 /// Adds the two fields of a location, where there is one.
 pub(crate) fn put_place(text: &mut Vec<u8>, place: Option<Loc>) -> Result<(), OutOfMemory>
     ensures text { OnOk result (text.new.items ≡ text.old.items ++ place_fields place) }
-    ensures kept { OnErr result (Keeps text.old.items text.new.items) }
+    ensures kept { OnErr result (KeepsFront text.old.items text.new.items) }
 {
     let Some(place) = place else {
         return Ok(());

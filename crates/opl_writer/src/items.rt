@@ -2,7 +2,7 @@
 
 ghost use Rattle.std.specs.Prelude.{◌≡◌, ◌++◌, OnOk, OnErr};
 ghost use Rattle.opl_reader.specs.Seen.{member_seen};
-ghost use Rattle.osm_notation.specs.Kept.{Keeps};
+ghost use Rattle.osm_notation.specs.Kept.{KeepsFront};
 ghost use Rattle.opl_writer.specs.Written.{kind_letter, member_text, own_place_text, ref_text};
 
 use opl_reader::{MemberRef, ObjectKind, Ref};
@@ -13,7 +13,7 @@ use std::alloc::AllocError as OutOfMemory;
 /// Adds the location that a reference carries, where it carries one.
 fn put_own_place(text: &mut Vec<u8>, at: Option<Loc>) -> Result<(), OutOfMemory>
     ensures text { OnOk result (text.new.items ≡ text.old.items ++ own_place_text at) }
-    ensures kept { OnErr result (Keeps text.old.items text.new.items) }
+    ensures kept { OnErr result (KeepsFront text.old.items text.new.items) }
 {
     let Some(at) = at else {
         return Ok(());
@@ -27,7 +27,7 @@ fn put_own_place(text: &mut Vec<u8>, at: Option<Loc>) -> Result<(), OutOfMemory>
 /// Adds a reference: the letter of nodes, the node's id and the reference's own location.
 pub(crate) fn put_ref(text: &mut Vec<u8>, reference: Ref) -> Result<(), OutOfMemory>
     ensures text { OnOk result (text.new.items ≡ text.old.items ++ ref_text reference) }
-    ensures kept { OnErr result (Keeps text.old.items text.new.items) }
+    ensures kept { OnErr result (KeepsFront text.old.items text.new.items) }
 {
     text.push(b'n')?;
     put_number(text, reference.node)?;
@@ -49,7 +49,7 @@ fn letter(kind: ObjectKind) -> &'static [u8]
 pub(crate) fn put_member(text: &mut Vec<u8>, member: &MemberRef<'_>) -> Result<(), OutOfMemory>
     ensures text { OnOk result (text.new.items
         ≡ text.old.items ++ member_text (member_seen member.now)) }
-    ensures kept { OnErr result (Keeps text.old.items text.new.items) }
+    ensures kept { OnErr result (KeepsFront text.old.items text.new.items) }
 {
     text.extend_from_slice(letter(member.kind))?;
     put_number(text, member.id)?;

@@ -1,7 +1,7 @@
 //! Lines of objects, each ended by LF.
 
 ghost use Rattle.std.specs.Prelude.{◌≡◌, ◌++◌, OnOk, OnErr};
-ghost use Rattle.osm_notation.specs.Kept.{Keeps};
+ghost use Rattle.osm_notation.specs.Kept.{KeepsFront};
 ghost use Rattle.opl_writer.specs.Written.{ended, node_line, relation_line, way_line};
 
 use crate::fields::{put_members, put_place, put_refs, put_tags};
@@ -21,7 +21,7 @@ pub fn put_node(
 ) -> Result<(), OutOfMemory>
     ensures text { OnOk result (text.new.items
         ≡ text.old.items ++ ended (node_line id tags.now place)) }
-    ensures kept { OnErr result (Keeps text.old.items text.new.items) }
+    ensures kept { OnErr result (KeepsFront text.old.items text.new.items) }
 {
     text.push(b'n')?;
     put_number(text, id)?;
@@ -37,7 +37,7 @@ pub fn put_node(
 pub fn put_way(text: &mut Vec<u8>, id: i64, tags: &Tags, refs: &Refs) -> Result<(), OutOfMemory>
     ensures text { OnOk result (text.new.items
         ≡ text.old.items ++ ended (way_line id tags.now refs.now)) }
-    ensures kept { OnErr result (Keeps text.old.items text.new.items) }
+    ensures kept { OnErr result (KeepsFront text.old.items text.new.items) }
 {
     text.push(b'w')?;
     put_number(text, id)?;
@@ -57,7 +57,7 @@ pub fn put_relation(
 ) -> Result<(), OutOfMemory>
     ensures text { OnOk result (text.new.items
         ≡ text.old.items ++ ended (relation_line id tags.now members.now)) }
-    ensures kept { OnErr result (Keeps text.old.items text.new.items) }
+    ensures kept { OnErr result (KeepsFront text.old.items text.new.items) }
 {
     text.push(b'r')?;
     put_number(text, id)?;

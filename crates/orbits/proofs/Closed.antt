@@ -3,7 +3,7 @@ use Rattle.std.proofs.Common.{◌≢◌, ℕ, ◌-◌, ◌<◌, List, length, ge
 use Rattle.std.proofs.lemmas.List.{length-replicate}
 use Rattle.std.proofs.lemmas.Bool.{both_ways}
 use Rattle.orbits.specs.OrbitSteps.{AreStarts}
-use Rattle.orbits.specs.Orbits.{after, last, IsOneToOne}
+use Rattle.orbits.specs.Orbits.{after, last_number, IsOneToOne}
 use Rattle.orbits.proofs.Exists.{starts_exist, walk_exists}
 use Rattle.orbits.proofs.Finding.{AreChained, IsMarked, blank, none_marked, on_or_off, start_open}
 
@@ -16,7 +16,7 @@ module _ (next : List (Option ℕ)) (map : IsOneToOne next) (total : (i : ℕ) �
   no-start starts are j h s =
       let walk = walk_exists next map j h in
       let some = walk.1.some in
-      start_open next map starts are j walk.0 s walk.1 (total (last walk.0) (walk.1.within (length walk.0 - 1) (omega arith)))
+      start_open next map starts are j walk.0 s walk.1 (total (last_number walk.0) (walk.1.within (length walk.0 - 1) (omega arith)))
 
   pub no-starts : AreStarts next (unmarked next)
   no-starts =

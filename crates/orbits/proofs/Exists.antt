@@ -3,7 +3,7 @@ use Rattle.std.proofs.Common.{◌≡◌, ℕ, zero, suc, ◌+◌, ◌<◌, List,
 use Rattle.std.proofs.lemmas.List.{get_or-replicate, length-replicate, take_all}
 use Rattle.std.proofs.lemmas.Bool.{both_ways}
 use Rattle.orbits.specs.OrbitSteps.{AreMarkedAlso, AreStarts, IsWholeWalk}
-use Rattle.orbits.specs.Orbits.{after, IsOneToOne, AreOrbits, AreInOrder}
+use Rattle.orbits.specs.Orbits.{after, IsOneToOne, AreOrbits, AreOrbitsInOrder}
 use Rattle.orbits.proofs.Reading.{length_push, unwrap}
 use Rattle.orbits.proofs.Walks.{IsWalkTo, walk_to_start, walk_to_more, walk_whole, walk_short}
 use Rattle.orbits.proofs.Marking.{marked_none, marked_more, AreStartsUpTo, starts_more, starts_pass, starts_all, same_or_not}
@@ -63,7 +63,7 @@ module _ (next : List (Option ℕ)) (map : IsOneToOne next) where
         (on_or_off (get_or starts place false))
 
     module _ (chained : List Bool) (c : AreChained next starts (length next) chained) where
-      found_from : (fuel place : ℕ) (seen : List Bool) (os : List (List ℕ)) → AreFound next starts chained place seen os → place + fuel ≡ length next → (os : List (List ℕ)) × AreOrbits next os × AreInOrder next os
+      found_from : (fuel place : ℕ) (seen : List Bool) (os : List (List ℕ)) → AreFound next starts chained place seen os → place + fuel ≡ length next → (os : List (List ℕ)) × AreOrbits next os × AreOrbitsInOrder next os
       found_from zero place seen os f e =
           let whole : place ≡ length next = omega arith in
           (os, found_all next map starts are chained c seen os (rw (← whole) f), record { firsts = f.firsts; least = f.least })
@@ -83,7 +83,7 @@ module _ (next : List (Option ℕ)) (map : IsOneToOne next) where
           (on_or_off (get_or starts place false))
 
   -- every partial one-to-one map has orbits in order
-  pub orbits_exist : (os : List (List ℕ)) × AreOrbits next os × AreInOrder next os
+  pub orbits_exist : (os : List (List ℕ)) × AreOrbits next os × AreOrbitsInOrder next os
   orbits_exist =
       let starts = starts_exist in
       let chained = chained_from starts.0 starts.1 (length next) 0 (replicate (length next) false) (chained_none next map starts.0 starts.1) (omega arith) in

@@ -6,7 +6,7 @@ use Rattle.std.proofs.lemmas.List.Sums.{sum_by_push}
 use Rattle.std.proofs.lemmas.List.Elements.{All-push}
 use Rattle.std.proofs.lemmas.List.Quantifiers.{all_pairs_push}
 use Rattle.orbits.specs.OrbitSteps.{AreMarkedAlso, IsWholeWalk, AreStarts}
-use Rattle.orbits.specs.Orbits.{after, IsOneToOne, IsOrbit, GoesOn, first, last, AreOrbits}
+use Rattle.orbits.specs.Orbits.{after, IsOneToOne, IsOrbit, GoesOn, first, last_number, AreOrbits}
 use Rattle.orbits.proofs.Reading.{unwrap}
 use Rattle.orbits.proofs.Members.{find, count_absent, count_present}
 use Rattle.orbits.proofs.Walks.{IsWalk, walk_back, walk_short}
@@ -64,7 +64,7 @@ module _ (next : List (Option ℕ)) (map : IsOneToOne next) where
           (λ l. let e2 : after next i ≡ Some (get_or o (k + 1) 0) = ap (after next) (sym is) ∙ orbit.steps k l in
           rw (unwrap j (get_or o (k + 1) 0) (sym e ∙ e2)) (a.here (k + 1) l))
           (λ l. let end : k ≡ length o - 1 = omega arith in
-          let e2 : after next (last o) ≡ Some j = ap (after next) (ap (λ m. get_or o m 0) (sym end) ∙ is) ∙ e in
+          let e2 : after next (last_number o) ≡ Some j = ap (after next) (ap (λ m. get_or o m 0) (sym end) ∙ is) ∙ e in
           rw (orbit.closes j e2) (a.here 0 orbit.some))
           (cases_lt (k + 1) (length o))
 
@@ -72,11 +72,11 @@ module _ (next : List (Option ℕ)) (map : IsOneToOne next) where
       back_orbit zero i j h is e =
           let to_first : after next i ≡ Some (first o) = e ∙ ap Some (sym is) in
           ⊎_elim
-          (λ p. let e2 : after next (last o) ≡ Some (first o) = p.1 ∙ ap Some (orbit.closes p.0 p.1) in
+          (λ p. let e2 : after next (last_number o) ≡ Some (first o) = p.1 ∙ ap Some (orbit.closes p.0 p.1) in
           let some = orbit.some in
-          rw (map.one i (last o) (first o) to_first e2) (a.here (length o - 1) (omega arith)))
+          rw (map.one i (last_number o) (first o) to_first e2) (a.here (length o - 1) (omega arith)))
           (λ none. absurd (orbit.opens none i to_first))
-          (some_or_none (after next (last o)))
+          (some_or_none (after next (last_number o)))
       back_orbit (suc k) i j h is e =
           let same : suc k ≡ k + 1 = omega arith in
           let e2 : after next (get_or o k 0) ≡ Some j = orbit.steps k (omega arith) ∙ ap Some (ap (λ m. get_or o m 0) (sym same) ∙ is) in
@@ -92,15 +92,15 @@ module _ (next : List (Option ℕ)) (map : IsOneToOne next) where
       opens = λ none i e. both_ways _ (are.none i place (e ∙ ap Some w.begins)) s;
     }
 
-    pub start_open : (place : ℕ) (o : List ℕ) → IsMarked starts place → IsWholeWalk next place o → after next (last o) ≢ None → ⊥
+    pub start_open : (place : ℕ) (o : List ℕ) → IsMarked starts place → IsWholeWalk next place o → after next (last_number o) ≢ None → ⊥
     start_open place o s w on = ⊎_elim
-        (λ p. both_ways _ (are.none (last o) place (p.1 ∙ ap Some (w.closes p.0 p.1))) s)
+        (λ p. both_ways _ (are.none (last_number o) place (p.1 ∙ ap Some (w.closes p.0 p.1))) s)
         (λ none. on none)
-        (some_or_none (after next (last o)))
+        (some_or_none (after next (last_number o)))
 
     module _ (chained : List Bool) (closed : AreClosed next chained) (heads : (j : ℕ) → j < length next → IsMarked starts j → IsMarked chained j) where
       -- off the open orbits no walk ends, since one could go back for ever
-      endless : (fuel : ℕ) (o : List ℕ) → IsWalk next o → after next (last o) ≡ None → get_or chained (first o) false ≡ false → length next < length o + fuel → ⊥
+      endless : (fuel : ℕ) (o : List ℕ) → IsWalk next o → after next (last_number o) ≡ None → get_or chained (first o) false ≡ false → length next < length o + fuel → ⊥
       endless zero o w stop off h = let short = walk_short next map o w in omega arith
       endless (suc fuel) o w stop off h =
           let inside = w.within 0 w.some in
@@ -109,17 +109,17 @@ module _ (next : List (Option ℕ)) (map : IsOneToOne next) where
           (λ n. let pred = are.some (first o) inside n in
           let longer = walk_back next map o pred.0 w stop pred.1 in
           let some = w.some in
-          let end : last (pred.0 ∷ o) ≡ last o = last_cons pred.0 o some in
+          let end : last_number (pred.0 ∷ o) ≡ last_number o = last_cons pred.0 o some in
           ⊎_elim
           (λ m. both_ways _ off (closed.on pred.0 (first o) pred.1 m))
           (λ m. endless fuel (pred.0 ∷ o) longer (rw end stop) m (omega arith))
           (on_or_off (get_or chained pred.0 false)))
           (on_or_off (get_or starts (first o) false))
         where
-          last_cons : (p : ℕ) (xs : List ℕ) → 0 < length xs → last (p ∷ xs) ≡ last xs
+          last_cons : (p : ℕ) (xs : List ℕ) → 0 < length xs → last_number (p ∷ xs) ≡ last_number xs
           last_cons p xs some = let e : length (p ∷ xs) - 1 ≡ suc (length xs - 1) = omega arith in ap (λ k. get_or (p ∷ xs) k 0) e
 
-      pub cycle_goes_on : (place : ℕ) (o : List ℕ) → IsWholeWalk next place o → get_or chained place false ≡ false → after next (last o) ≢ None
+      pub cycle_goes_on : (place : ℕ) (o : List ℕ) → IsWholeWalk next place o → get_or chained place false ≡ false → after next (last_number o) ≢ None
       cycle_goes_on place o w off stop =
           let walk : IsWalk next o = record { some = w.some; within = w.within; steps = w.steps; distinct = w.distinct } in
           endless (length next) o walk stop (rw w.begins off) (let some = w.some in omega arith)
@@ -148,7 +148,7 @@ pub record AreFound (next : List (Option ℕ)) (starts chained : List Bool) (pla
   pub early : (j : ℕ) → IsMarked starts j → IsMarked seen j → j < place
   pub below : All (λ o. first o < place) os
   pub firsts : AllPairs (λ o p. first o < first p) os
-  pub least : All (λ o. after next (last o) ≢ None → All (λ i. first o ≤ i) o) os
+  pub least : All (λ o. after next (last_number o) ≢ None → All (λ i. first o ≤ i) o) os
 
 module _ (next : List (Option ℕ)) (map : IsOneToOne next) (starts : List Bool) (are : AreStarts next starts) where
   pub chained_none : AreChained next starts 0 (replicate (length next) false)
@@ -199,7 +199,7 @@ module _ (next : List (Option ℕ)) (map : IsOneToOne next) (starts : List Bool)
 
   module _ (chained : List Bool) (c : AreChained next starts (length next) chained) where
     -- an orbit whose numbers are new
-    found_orbit : (place : ℕ) (old new : List Bool) (o : List ℕ) (os : List (List ℕ)) → AreFound next starts chained place old os → IsWholeWalk next place o → get_or old place false ≡ false → IsOrbit next o → (after next (last o) ≢ None → All (λ i. first o ≤ i) o) → AreMarkedAlso old o new → AreFound next starts chained (place + 1) new (os ++ o ∷ [])
+    found_orbit : (place : ℕ) (old new : List Bool) (o : List ℕ) (os : List (List ℕ)) → AreFound next starts chained place old os → IsWholeWalk next place o → get_or old place false ≡ false → IsOrbit next o → (after next (last_number o) ≢ None → All (λ i. first o ≤ i) o) → AreMarkedAlso old o new → AreFound next starts chained (place + 1) new (os ++ o ∷ [])
     found_orbit place old new o os f w fresh orbit least a =
         let here : IsMarked new place = rw (← w.begins) (a.here 0 w.some) in
         record {
@@ -226,7 +226,7 @@ module _ (next : List (Option ℕ)) (map : IsOneToOne next) (starts : List Bool)
               (find j o);
           below = All-push (λ p. first p < place + 1) os o (λ k d h. let low = f.below k d h in omega arith) (let is = w.begins in omega arith);
           firsts = all_pairs_push (λ p q. first p < first q) os o f.firsts (λ k d h. let low = f.below k d h in let is = w.begins in omega arith);
-          least = All-push (λ p. after next (last p) ≢ None → All (λ i. first p ≤ i) p) os o f.least least;
+          least = All-push (λ p. after next (last_number p) ≢ None → All (λ i. first p ≤ i) p) os o f.least least;
         }
       where
         unseen : (x k : ℕ) → k < length o → get_or o k 0 ≡ x → get_or old x false ≡ false

@@ -4,7 +4,7 @@ use Rattle.std.proofs.lemmas.Bool.{cases_lt, both_ways, lt-ltb}
 use Rattle.std.proofs.lemmas.List.{length-replicate}
 use Rattle.std.proofs.lemmas.Grind.{same_number_lists}
 use Rattle.std.proofs.lemmas.List.Sums.{sum_by-cons}
-use Rattle.orbits.specs.Orbits.{after, IsOneToOne, IsOrbit, AreOrbits, AreInOrder, first, last}
+use Rattle.orbits.specs.Orbits.{after, IsOneToOne, IsOrbit, AreOrbits, AreOrbitsInOrder, first, last_number}
 use Rattle.orbits.proofs.Reading.{unwrap}
 use Rattle.orbits.proofs.Members.{Present, Distinct, find, count_absent, held_below, held_distinct}
 use Rattle.orbits.proofs.Finding.{none_marked, mark_orbit, back_to_first, blank, some_or_none, IsMarked}
@@ -67,7 +67,7 @@ module _ (next : List (Option ℕ)) (map : IsOneToOne next) where
       inr (get_or o k 0, oo.steps k (omega arith) ∙ ap Some (ap (λ m. get_or o m 0) same ∙ e))
 
   -- orbits that meet begin alike
-  same_first : (o p : List ℕ) → IsOrbit next o → IsOrbit next p → ((k : ℕ) → k < length o → get_or o k 0 < length next) → ((k : ℕ) → k < length p → get_or p k 0 < length next) → (after next (last o) ≢ None → All (λ i. first o ≤ i) o) → (after next (last p) ≢ None → All (λ i. first p ≤ i) p) → (x : ℕ) → Present x o → Present x p → first o ≡ first p
+  same_first : (o p : List ℕ) → IsOrbit next o → IsOrbit next p → ((k : ℕ) → k < length o → get_or o k 0 < length next) → ((k : ℕ) → k < length p → get_or p k 0 < length next) → (after next (last_number o) ≢ None → All (λ i. first o ≤ i) o) → (after next (last_number p) ≢ None → All (λ i. first p ≤ i) p) → (x : ℕ) → Present x o → Present x p → first o ≡ first p
   same_first o p oo pp below_o below_p least_o least_p x q r =
       let fp = holds_first o p oo pp below_o x q r in
       let fo = holds_first p o pp oo below_p x r q in
@@ -80,9 +80,9 @@ module _ (next : List (Option ℕ)) (map : IsOneToOne next) where
       let is_o = fo.2 in
       omega arith)
       (λ none. ⊎_elim (λ e. sym e) (λ s. absurd (pp.opens none s.0 s.1)) (before_or_first o (first p) oo fp))
-      (some_or_none (after next (last p))))
+      (some_or_none (after next (last_number p))))
       (λ none. ⊎_elim (λ e. e) (λ s. absurd (oo.opens none s.0 s.1)) (before_or_first p (first o) pp fo))
-      (some_or_none (after next (last o)))
+      (some_or_none (after next (last_number o)))
     where
       some_is_not : (y : ℕ) → Some y ≡ None → ⊥
       some_is_not y e = cc
@@ -100,8 +100,8 @@ module _ (next : List (Option ℕ)) (map : IsOneToOne next) where
   not_shorter o p oo pp d e l =
       let some = oo.some in
       let m = length o - 1 in
-      let end : last o ≡ get_or p m 0 = agree o p oo pp e m (omega arith) (omega arith) in
-      let on : after next (last o) ≡ Some (get_or p (m + 1) 0) = ap (after next) end ∙ pp.steps m (omega arith) in
+      let end : last_number o ≡ get_or p m 0 = agree o p oo pp e m (omega arith) (omega arith) in
+      let on : after next (last_number o) ≡ Some (get_or p (m + 1) 0) = ap (after next) end ∙ pp.steps m (omega arith) in
       d 0 (m + 1) (omega arith) (omega arith) (sym e ∙ sym (oo.closes (get_or p (m + 1) 0) on))
 
   same_orbit : (o p : List ℕ) → IsOrbit next o → IsOrbit next p → Distinct o → Distinct p → first o ≡ first p → o ≡ p
@@ -123,7 +123,7 @@ module _ (next : List (Option ℕ)) (map : IsOneToOne next) where
       (find x o)
 
   -- each orbit of one list stands in the other
-  stands : (os ps : List (List ℕ)) → AreOrbits next os → AreInOrder next os → AreOrbits next ps → AreInOrder next ps → (a : ℕ) → a < length os → (b : ℕ) × (b < length ps) × (get_or os a [] ≡ get_or ps b [])
+  stands : (os ps : List (List ℕ)) → AreOrbits next os → AreOrbitsInOrder next os → AreOrbits next ps → AreOrbitsInOrder next ps → (a : ℕ) → a < length os → (b : ℕ) × (b < length ps) × (get_or os a [] ≡ get_or ps b [])
   stands os ps ao io ap_ ip a h =
       let o = get_or os a [] in
       let oo = ao.each a [] h in
@@ -138,5 +138,5 @@ module _ (next : List (Option ℕ)) (map : IsOneToOne next) where
       (found.0, found.1, same_orbit o p oo pp (held_distinct (length next) os ao.once a [] h) (held_distinct (length next) ps ap_.once found.0 [] found.1) heads)
 
   -- the orbits in order are determined
-  pub same_orbits : (os ps : List (List ℕ)) → AreOrbits next os → AreInOrder next os → AreOrbits next ps → AreInOrder next ps → os ≡ ps
+  pub same_orbits : (os ps : List (List ℕ)) → AreOrbits next os → AreOrbitsInOrder next os → AreOrbits next ps → AreOrbitsInOrder next ps → os ≡ ps
   same_orbits os ps ao io ap_ ip = same_rising_lists os ps io.firsts ip.firsts (stands os ps ao io ap_ ip) (stands ps os ap_ ip ao io)

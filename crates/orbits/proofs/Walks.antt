@@ -2,7 +2,7 @@
 use Rattle.std.proofs.Common.{◌≡◌, ◌≢◌, ℕ, zero, suc, ◌+◌, ◌-◌, ◌<◌, ◌≤◌, List, [], ◌∷◌, ◌++◌, length, get_or, refl, sym, ap, ◌∙◌, arith, ⊎_elim, Option, Some, None}
 use Rattle.std.proofs.lemmas.Bool.{cases_lt}
 use Rattle.std.proofs.lemmas.List.{get_or_past}
-use Rattle.orbits.specs.Orbits.{after, IsOneToOne, GoesOn, first, last}
+use Rattle.orbits.specs.Orbits.{after, IsOneToOne, GoesOn, first, last_number}
 use Rattle.orbits.specs.OrbitSteps.{IsWholeWalk}
 use Rattle.orbits.proofs.Reading.{at_old, at_new, length_push}
 use Rattle.orbits.proofs.Members.{Distinct, distinct_below}
@@ -26,13 +26,13 @@ module _ (next : List (Option ℕ)) (map : IsOneToOne next) where
   }
 
   -- what the last number goes on to is new, unless it is the first
-  pub walk_on : (o : List ℕ) (j : ℕ) → IsWalk next o → after next (last o) ≡ Some j → j ≢ first o → IsWalk next (o ++ j ∷ [])
+  pub walk_on : (o : List ℕ) (j : ℕ) → IsWalk next o → after next (last_number o) ≡ Some j → j ≢ first o → IsWalk next (o ++ j ∷ [])
   walk_on o j w e new =
       let long = length_push o j in
       let n = length o in
       record {
         some = omega arith;
-        within = λ k h. ⊎_elim (λ m. rw (at_old o j k m) (w.within k m)) (λ m. rw (at_new o j k (omega arith)) (map.within (last o) j e)) (cases_lt k n);
+        within = λ k h. ⊎_elim (λ m. rw (at_old o j k m) (w.within k m)) (λ m. rw (at_new o j k (omega arith)) (map.within (last_number o) j e)) (cases_lt k n);
         steps = λ k h. rw (at_old o j k (omega arith)) (⊎_elim (λ m. rw (at_old o j (k + 1) m) (w.steps k m)) (λ m. let is : k ≡ n - 1 = omega arith in rw (at_new o j (k + 1) (omega arith), is) e) (cases_lt (k + 1) n));
         distinct = λ i k h m. rw (at_old o j i (omega arith)) (⊎_elim (λ l. rw (at_old o j k l) (w.distinct i k h l)) (λ l. rw (at_new o j k (omega arith)) (apart i (omega arith))) (cases_lt k n));
       }
@@ -41,10 +41,10 @@ module _ (next : List (Option ℕ)) (map : IsOneToOne next) where
       apart zero h s = new (sym s)
       apart (suc i) h s =
           let here : after next (get_or o i 0) ≡ Some j = w.steps i (omega arith) ∙ ap Some (ap (λ k. get_or o k 0) (omega arith) ∙ s) in
-          w.distinct i (length o - 1) (omega arith) (omega arith) (map.one (get_or o i 0) (last o) j here e)
+          w.distinct i (length o - 1) (omega arith) (omega arith) (map.one (get_or o i 0) (last_number o) j here e)
 
   -- what goes on to the first number is new, where the last does not go on
-  pub walk_back : (o : List ℕ) (p : ℕ) → IsWalk next o → after next (last o) ≡ None → after next p ≡ Some (first o) → IsWalk next (p ∷ o)
+  pub walk_back : (o : List ℕ) (p : ℕ) → IsWalk next o → after next (last_number o) ≡ None → after next p ≡ Some (first o) → IsWalk next (p ∷ o)
   walk_back o p w stop e = record {
     some = omega arith;
     within = λ k h. within k h;
@@ -82,7 +82,7 @@ module _ (next : List (Option ℕ)) (map : IsOneToOne next) where
 pub record IsWalkTo (next : List (Option ℕ)) (from place : ℕ) (o : List ℕ) : Type 0 where
   pub walk : IsWalk next o
   pub begins : first o ≡ from
-  pub ends : last o ≡ place
+  pub ends : last_number o ≡ place
 
 module _ (next : List (Option ℕ)) (map : IsOneToOne next) (from : ℕ) where
   pub walk_to_start : from < length next → IsWalkTo next from from (from ∷ [])

@@ -1,7 +1,7 @@
 -- Lists one after the other in one list, and how long each is.
 use Rattle.std.specs.Prelude.{◌≡◌, ℕ, List, length, map, Option}
 use Rattle.std.specs.List.{concat}
-use Rattle.orbits.specs.Orbits.{AreInOrder, AreOrbits}
+use Rattle.orbits.specs.Orbits.{AreOrbits, AreOrbitsInOrder}
 
 -- the lists stand one after the other in xs, each of its size
 pub record StandAlong (xss : List (List ℕ)) (xs sizes : List ℕ) : Type 0 where
@@ -12,5 +12,5 @@ pub record StandAlong (xss : List (List ℕ)) (xs sizes : List ℕ) : Type 0 whe
 pub record AreOrbitsAlong (next : List (Option ℕ)) (places sizes : List ℕ) : Type 0 where
   pub orbits : List (List ℕ)
   pub are : AreOrbits next orbits
-  pub order : AreInOrder next orbits
+  pub order : AreOrbitsInOrder next orbits
   pub along : StandAlong orbits places sizes

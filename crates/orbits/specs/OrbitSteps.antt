@@ -1,6 +1,6 @@
 -- What finding orbits goes by: walks from a number on, the numbers where open orbits start, marks, and walks that are noted. No public contract cites it.
 use Rattle.std.specs.Prelude.{◌≡◌, ◌≢◌, ℕ, ◌++◌, ◌<◌, List, length, slice_index, slice_index_or, Option, Some, Bool, true, false}
-use Rattle.orbits.specs.Orbits.{after, first, last, GoesOn}
+use Rattle.orbits.specs.Orbits.{after, first, last_number, GoesOn}
 
 -- numbers from one on, each going on to the one after it, none twice, up to where they end or close
 pub record IsWholeWalk (next : List (Option ℕ)) (from : ℕ) (o : List ℕ) : Type 0 where
@@ -9,7 +9,7 @@ pub record IsWholeWalk (next : List (Option ℕ)) (from : ℕ) (o : List ℕ) : 
   pub within : (k : ℕ) → k < length o → slice_index o k < length next
   pub steps : GoesOn next o
   pub distinct : (i j : ℕ) → i < j → j < length o → slice_index o i ≢ slice_index o j
-  pub closes : (j : ℕ) → after next (last o) ≡ Some j → j ≡ from
+  pub closes : (j : ℕ) → after next (last_number o) ≡ Some j → j ≡ from
 
 -- for each number whether nothing goes on to it
 pub record AreStarts (next : List (Option ℕ)) (starts : List Bool) : Type 0 where

@@ -14,8 +14,8 @@ pub record IsOneToOne (next : List (Option ℕ)) : Type 0 where
 abbrev pub first : List ℕ → ℕ
 first o = slice_index o 0
 
-abbrev pub last : List ℕ → ℕ
-last o = slice_index o (length o - 1)
+abbrev pub last_number : List ℕ → ℕ
+last_number o = slice_index o (length o - 1)
 
 -- each number of the list but the last goes on to the one after it
 abbrev pub GoesOn : List (Option ℕ) → List ℕ → Type 0
@@ -25,8 +25,8 @@ GoesOn next o = (k : ℕ) → k + 1 < length o → after next (slice_index o k) 
 pub record IsOrbit (next : List (Option ℕ)) (o : List ℕ) : Type 0 where
   pub some : 0 < length o
   pub steps : GoesOn next o
-  pub closes : (j : ℕ) → after next (last o) ≡ Some j → j ≡ first o
-  pub opens : after next (last o) ≡ None → (i : ℕ) → after next i ≢ Some (first o)
+  pub closes : (j : ℕ) → after next (last_number o) ≡ Some j → j ≡ first o
+  pub opens : after next (last_number o) ≡ None → (i : ℕ) → after next i ≢ Some (first o)
 
 -- the orbits of a map: each number below the bound in one of them, once
 pub record AreOrbits (next : List (Option ℕ)) (os : List (List ℕ)) : Type 0 where
@@ -34,6 +34,6 @@ pub record AreOrbits (next : List (Option ℕ)) (os : List (List ℕ)) : Type 0 
   pub each : All (IsOrbit next) os
 
 -- orbits in order of their first numbers, each cycle begun at its least number
-pub record AreInOrder (next : List (Option ℕ)) (os : List (List ℕ)) : Type 0 where
+pub record AreOrbitsInOrder (next : List (Option ℕ)) (os : List (List ℕ)) : Type 0 where
   pub firsts : AllPairs (λ o p. first o < first p) os
-  pub least : All (λ o. after next (last o) ≢ None → All (λ i. first o ≤ i) o) os
+  pub least : All (λ o. after next (last_number o) ≢ None → All (λ i. first o ≤ i) o) os

@@ -1,6 +1,6 @@
 //! Orbits of a partial one-to-one map.
 ghost use Rattle.std.specs.Prelude.{◌<◌, length, All, IfOk, map};
-ghost use Rattle.orbits.specs.Orbits.{IsOneToOne, AreOrbits, AreInOrder};
+ghost use Rattle.orbits.specs.Orbits.{IsOneToOne, AreOrbits, AreOrbitsInOrder};
 ghost use Rattle.orbits.specs.OrbitSteps.{IsWholeWalk, AreStarts, AreMarkedAlso};
 
 use std::alloc::{AllocError as OutOfMemory, Global};
@@ -12,7 +12,7 @@ use std::alloc::{AllocError as OutOfMemory, Global};
 pub fn orbits(alloc: Global, next: &[Option<usize>]) -> Result<Vec<Vec<usize>>, OutOfMemory>
     requires { IsOneToOne next.now }
     ensures orbits { IfOk result (λ v. AreOrbits next.now (map (λ o. o.items) v.items)) }
-    ensures order { IfOk result (λ v. AreInOrder next.now (map (λ o. o.items) v.items)) }
+    ensures order { IfOk result (λ v. AreOrbitsInOrder next.now (map (λ o. o.items) v.items)) }
 {
     let starts = starts(alloc, next)?;
     // What no open orbit holds is on a closed one, and the first number met there is its least.

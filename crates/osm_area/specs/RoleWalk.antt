@@ -37,6 +37,6 @@ notes_along polygons along [] ways = []
 notes_along polygons along (member ∷ members) ways = cons_option (note_at polygons along member ways) (notes_along polygons along members (ways_behind member ways))
 
 -- from these ways and notes to those ways and notes by a member
-abbrev pub IsStep : List Polygon → (along : ℤ → List Seg) → Member → (ways : List ℤ) (counts : List ℕ) (segs : List Seg) → (behind : List ℤ) (counts_behind : List ℕ) (segs_behind : List Seg) → (old new : List Note) → Type 0
-IsStep polygons along member ways counts segs behind counts_behind segs_behind old new =
+abbrev pub IsMemberStep : List Polygon → (along : ℤ → List Seg) → Member → (ways : List ℤ) (counts : List ℕ) (segs : List Seg) → (behind : List ℤ) (counts_behind : List ℕ) (segs_behind : List Seg) → (old new : List Note) → Type 0
+IsMemberStep polygons along member ways counts segs behind counts_behind segs_behind old new =
     HaveSegments along ways counts segs → (behind ≡ ways_behind member ways) × HaveSegments along behind counts_behind segs_behind × (new ≡ old ++ cons_option (note_at polygons along member ways) [])

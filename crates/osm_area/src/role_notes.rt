@@ -10,7 +10,7 @@ ghost use Rattle.opl_reader.specs.declared.object.Object.{Object};
 ghost use Rattle.osm_area.specs.MemberWays.{member_ways, ways_among};
 ghost use Rattle.osm_area.specs.RingSegments.{AreSegmentsOf};
 ghost use Rattle.osm_area.specs.RoleKinds.{note_on};
-ghost use Rattle.osm_area.specs.RoleWalk.{HaveSegments, IsStep, mentions_first, note_along, notes_along};
+ghost use Rattle.osm_area.specs.RoleWalk.{HaveSegments, IsMemberStep, mentions_first, note_along, notes_along};
 ghost use Rattle.osm_area.specs.Roles.{inners, is_in_rings, outers, role_note, role_notes_of};
 ghost use Rattle.osm_area.specs.Segments.{way_segments};
 
@@ -101,7 +101,7 @@ fn add_note_at<'a>(
 ) -> Result<Ways<'a>, OutOfMemory>
     requires { IfSome lines.now.segments (AreSegmentsOf lines.now.polygons.now) }
     ensures { IfOk result (λ behind. (along : ℤ → List Seg)
-        → IsStep lines.now.polygons.now along (member_seen member.now)
+        → IsMemberStep lines.now.polygons.now along (member_seen member.now)
         ways.entry.ids.now ways.entry.counts.now ways.entry.segs.now
         behind.ids.now behind.counts.now behind.segs.now notes.old notes.new) }
 {

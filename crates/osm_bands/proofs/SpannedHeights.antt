@@ -16,7 +16,7 @@ use Rattle.osm_geom.specs.Span.{height_order, lower_end, spans, upper_end}
 use Rattle.osm_geom.proofs.GeometryKit.{floor-from, floor-is, y_den-some}
 use Rattle.osm_stab.specs.Stab.{HoldsSpanning}
 use Rattle.osm_bands.specs.Bands.{HoldsReaching}
-use Rattle.osm_bands.specs.Heights.{height_of, span_of}
+use Rattle.osm_bands.specs.Heights.{span_of, whole_height_of}
 
 not_negative : (z : ℤ) → not (is_minus (sign z)) ≡ true → pos 0 ≤ℤ z
 not_negative (pos n) h = omega (arith, ints)
@@ -47,17 +47,17 @@ floor_rises f g some other rises =
     let rest = not_negative (m -ℤ a *ℤ e) (ap (λ s. not (is_minus s)) (sym (plus-times d (m -ℤ a *ℤ e) (sign-pos f.den some))) ∙ both) in
     floor-from a g other (omega (arith, ints))
 
-heights_rise : (p q : Point) → not (is_minus (height_order p q)) ≡ true → height_of p ≤ℤ height_of q
+heights_rise : (p q : Point) → not (is_minus (height_order p q)) ≡ true → whole_height_of p ≤ℤ whole_height_of q
 heights_rise p q rises = floor_rises (y_of p) (y_of q) (y_den-some p) (y_den-some q) rises
 
 plus-at_least : (s : Sign) → is_plus s ≡ true → not (is_minus s) ≡ true
 plus-at_least s h = ap (λ t. not (is_minus t)) (is_plus-true s h)
 
-above_low : (b : Bool) (p q : Point) (height : ℤ) → height_of (cond b p q) ≤ℤ height → int_min (height_of p) (height_of q) ≤ℤ height
+above_low : (b : Bool) (p q : Point) (height : ℤ) → whole_height_of (cond b p q) ≤ℤ height → int_min (whole_height_of p) (whole_height_of q) ≤ℤ height
 above_low true p q height h = grind (arith, ints)
 above_low false p q height h = grind (arith, ints)
 
-below_high : (b : Bool) (p q : Point) (height : ℤ) → height ≤ℤ height_of (cond b q p) → height ≤ℤ int_max (height_of p) (height_of q)
+below_high : (b : Bool) (p q : Point) (height : ℤ) → height ≤ℤ whole_height_of (cond b q p) → height ≤ℤ int_max (whole_height_of p) (whole_height_of q)
 below_high true p q height h = grind (arith, ints)
 below_high false p q height h = grind (arith, ints)
 
@@ -72,13 +72,13 @@ to_upper e at spanned =
     plus-at_least (height_order at (upper_end e))
     (and-right (not (is_minus (height_order (lower_end e) at))) (is_plus (height_order at (upper_end e))) spanned)
 
-spanned_low : (e : Edge) (at : Point) → spans e at ≡ true → (span_of e).low ≤ℤ height_of at
-spanned_low e at spanned = above_low (runs_up e) e.from e.to (height_of at) (heights_rise (lower_end e) at (from_lower e at spanned))
+spanned_low : (e : Edge) (at : Point) → spans e at ≡ true → (span_of e).low ≤ℤ whole_height_of at
+spanned_low e at spanned = above_low (runs_up e) e.from e.to (whole_height_of at) (heights_rise (lower_end e) at (from_lower e at spanned))
 
-spanned_high : (e : Edge) (at : Point) → spans e at ≡ true → height_of at ≤ℤ (span_of e).high
-spanned_high e at spanned = below_high (runs_up e) e.from e.to (height_of at) (heights_rise at (upper_end e) (to_upper e at spanned))
+spanned_high : (e : Edge) (at : Point) → spans e at ≡ true → whole_height_of at ≤ℤ (span_of e).high
+spanned_high e at spanned = below_high (runs_up e) e.from e.to (whole_height_of at) (heights_rise at (upper_end e) (to_upper e at spanned))
 
-pub spanning : (edges : List Edge) (at : Point) (indexes : List ℕ) → HoldsReaching (map span_of edges) (height_of at) indexes →
+pub spanning : (edges : List Edge) (at : Point) (indexes : List ℕ) → HoldsReaching (map span_of edges) (whole_height_of at) indexes →
     HoldsSpanning edges at indexes
 spanning edges at indexes reaching i e is spanned =
     reaching i (span_of e) (slice_get-map span_of edges i ∙ ap (option_map span_of) is) (spanned_low e at spanned) (spanned_high e at spanned)

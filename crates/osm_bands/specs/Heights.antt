@@ -7,9 +7,9 @@ use Rattle.osm_geom.specs.Coordinate.{floor_of}
 use Rattle.osm_geom.specs.Point.{y_of}
 use Rattle.osm_bands.specs.declared.bands.Span.{Span}
 
-abbrev pub height_of : Point → ℤ
-height_of p = floor_of (y_of p)
+abbrev pub whole_height_of : Point → ℤ
+whole_height_of p = floor_of (y_of p)
 
 -- from the height of the lower end to that of the upper end
 abbrev pub span_of : Edge → Span
-span_of e = record { low = int_min (height_of e.from) (height_of e.to); high = int_max (height_of e.from) (height_of e.to) }
+span_of e = record { low = int_min (whole_height_of e.from) (whole_height_of e.to); high = int_max (whole_height_of e.from) (whole_height_of e.to) }

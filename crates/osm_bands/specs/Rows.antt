@@ -35,7 +35,7 @@ abbrev pub AreRows : Scale → List Span → ℕ → List (List ℕ) → Type 0
 AreRows scale spans n rows = (band : ℕ) → band < length rows → get_or rows band [] ≡ row_of scale spans n band
 
 -- no span has a height below or above the bands, some span begins at the lowest and some ends at the highest, and the rows are those of all spans
-pub record IsIndexed (bands : Inside) : Type 0 where
+pub record AreIndexedBands (bands : Inside) : Type 0 where
   pub low : All (λ span. bands.scale.low ≤ℤ span.low) bands.spans.items
   pub high : All (λ span. span.high ≤ℤ bands.scale.high) bands.spans.items
   pub lowest : IsLowest bands.spans.items bands.scale.low

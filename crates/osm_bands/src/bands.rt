@@ -31,9 +31,9 @@ impl Model for Bands {
 
     ghost view = { λ bands. bands.spans.items };
 
-    ghost use Rattle.osm_bands.specs.Rows.{IsIndexed};
+    ghost use Rattle.osm_bands.specs.Rows.{AreIndexedBands};
 
-    ghost invariant = { IsIndexed };
+    ghost invariant = { AreIndexedBands };
 }
 
 impl Bands {

@@ -5,7 +5,7 @@ use Rattle.osm_host.specs.Outside.{Outside}
 use Rattle.osm_words.specs.declared.fault.WordsFault.{WordsFault}
 use Rattle.osm_words.specs.declared.fault.WordsError.{WordsError}
 use Rattle.osm_words.specs.declared.fault.WordsError.TheVariants as words
-use Rattle.osm_words.specs.Answers.{Answers}
+use Rattle.osm_words.specs.Answers.{AnswersWords}
 use Rattle.osm_words.specs.Job.{CertifySettings, CoastlineSettings, ExportSettings, FilterSettings, Job, LocateSettings, certify, coastline, export, filter, locate, sample}
 use Rattle.osm_job.proofs.Keeping.{nothing_changed}
 use Rattle.osm_job.specs.declared.ended.Ended.{Ended}
@@ -124,6 +124,6 @@ module _ (law : StreamsAppend) (o : Outside) where
     keeps = nothing_changed o;
   }
 
-  pub not_taken : (asked_for : Result Job WordsFault) (error : WordsError) → Answers asked_for (Err error) → Works asked_for (words_ended error) o o
+  pub not_taken : (asked_for : Result Job WordsFault) (error : WordsError) → AnswersWords asked_for (Err error) → Works asked_for (words_ended error) o o
   not_taken asked_for (words.BadWords cause) asked = subst (λ (w : Result Job WordsFault). Works w (BadWords cause) o o) (sym asked) (refused cause)
   not_taken asked_for words.OutOfMemory asked = no_memory_for_words asked_for

@@ -4,7 +4,7 @@ use Rattle.std.specs.Fmt.{signed_decimal}
 use Rattle.opl_reader.specs.declared.fault.LineFault.{LineFault}
 use Rattle.opl_reader.specs.declared.object.ObjectKind.{ObjectKind}
 use Rattle.opl_reader.specs.declared.object.ObjectKind.TheVariants.{Node, Way, Relation}
-use Rattle.opl_reader.specs.Fault.{text_of}
+use Rattle.opl_reader.specs.Fault.{fault_text}
 use Rattle.osm_words.specs.declared.fault.WordsFault.{WordsFault}
 use Rattle.osm_words.specs.declared.fault.WordsFault.TheVariants.{NoCommand, UnknownCommand, Refused, OutOfRange}
 use Rattle.osm_input.specs.declared.fault.InputFault.{InputFault}
@@ -30,7 +30,7 @@ line_begun line = codes "osmpoly: line " ++ decimal line ++ codes ": "
 -- of a line without a reading
 abbrev pub bad_line : ℕ → LineFault → List ℕ
 bad_line line fault =
-    line_begun line ++ text_of fault.kind ++ codes " at byte " ++ decimal fault.place ++ codes "\n"
+    line_begun line ++ fault_text fault.kind ++ codes " at byte " ++ decimal fault.place ++ codes "\n"
 
 -- of a line that tells an object again
 abbrev pub again_line : ℕ → ObjectKind → ℤ → List ℕ

@@ -3,7 +3,7 @@ use Rattle.std.specs.Prelude.{◌≡◌, ◌⊎◌, ◌<◌, ℕ, List, [], ◌+
 use Rattle.osm_host.specs.Outside.{Outside, appended, risen}
 use Rattle.osm_words.specs.Job.{Job}
 use Rattle.osm_words.specs.declared.fault.WordsFault.{WordsFault}
-use Rattle.osm_input.specs.Keeps.{Keeps}
+use Rattle.osm_input.specs.Keeps.{KeepsNames}
 use Rattle.osm_job.specs.declared.ended.Ended.{Ended}
 use Rattle.osm_job.specs.declared.ended.Ended.TheVariants.{BadWords, OutOfMemory}
 use Rattle.osm_job.specs.Cause.{Cause, by_words, cause_of}
@@ -103,4 +103,4 @@ pub record Ran (words : Result Job WordsFault) (ended : Ended) (before after : O
   -- Without a fault of the host the run ends as is right for the inputs.
   pub complete : NoFault before after → Completes words before ended
   -- What no run changes stays as it was.
-  pub keeps : Keeps before after
+  pub keeps : KeepsNames before after

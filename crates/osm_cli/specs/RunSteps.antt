@@ -5,7 +5,7 @@ use Rattle.osm_words.specs.declared.fault.WordsFault.{WordsFault}
 use Rattle.osm_words.specs.declared.fault.WordsError.{WordsError}
 use Rattle.osm_words.specs.declared.fault.WordsError.TheVariants as words
 use Rattle.osm_words.specs.Job.{Job}
-use Rattle.osm_input.specs.Keeps.{Keeps}
+use Rattle.osm_input.specs.Keeps.{KeepsNames}
 use Rattle.osm_job.specs.declared.ended.Ended.{Ended}
 use Rattle.osm_job.specs.declared.ended.Ended.TheVariants as ended
 use Rattle.osm_job.specs.Cause.{cause_of}
@@ -29,4 +29,4 @@ pub record Works (words : Result Job WordsFault) (ended : Ended) (before after :
   pub opens : Opens words (cause_of ended) before after
   pub faults : CountsFaults ended before after
   pub write_faults : after.write_faults ≡ writes_failed (cause_of ended) before.write_faults
-  pub keeps : Keeps before after
+  pub keeps : KeepsNames before after

@@ -17,7 +17,7 @@ use Rattle.osm_geom.specs.declared.point.Point.{Point}
 use Rattle.osm_lattice.specs.declared.seg.Seg.{Seg}
 use Rattle.osm_geom.specs.Carrier.{is_on}
 use Rattle.osm_geom.specs.Cut.{coordinate_of, cut_order, fraction}
-use Rattle.osm_lattice.specs.Lowest.{IsLowest}
+use Rattle.osm_lattice.specs.Lowest.{IsInLowestTerms}
 use Rattle.osm_lattice.specs.Meeting.{IsOnSegment}
 use Rattle.osm_geom.specs.Point.{Fraction, IsInWorld, den_of, whole, whole_of, x_of, y_of}
 use Rattle.osm_lattice.specs.Seg.{edge_of}
@@ -88,7 +88,7 @@ module _ (a b c : ℤ) where
   along n = along-by (sign (c -ℤ a)) (sign (c -ℤ b)) (says (c -ℤ a)) (says (c -ℤ b)) n
 
 -- ---- the point
-pub whole-lowest : (c : ℤ) → IsLowest c 1
+pub whole-lowest : (c : ℤ) → IsInLowestTerms c 1
 whole-lowest c d h g = eq-one_of_dvd-one g
 
 abbrev pub whole_frac : ℤ → Frac

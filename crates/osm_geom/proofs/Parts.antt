@@ -8,7 +8,7 @@ use Rattle.std.specs.Int.{int_div_euclid, int_rem_euclid}
 use Prim.Native.Nat.{◌∣◌}
 use mathlib.Core.HLevel.{is_prop→PathP}
 use Rattle.osm_lattice.specs.declared.frac.Frac.{Frac}
-use Rattle.osm_lattice.specs.Lowest.{IsLowest}
+use Rattle.osm_lattice.specs.Lowest.{IsInLowestTerms}
 use Rattle.osm_geom.specs.declared.point.Part.{Part}
 use Rattle.osm_geom.specs.Coordinate.{ceiling_of, floor_of}
 use Rattle.osm_geom.specs.Cut.{fraction}
@@ -42,7 +42,7 @@ part_from_fields p q f a d = λ i. record {
   den_in = is_prop→PathP (λ j. IsPartDen (d j)) (λ j. den_prop (d j)) p.den_in q.den_in i;
   above_in = is_prop→PathP (λ j. a j < d j) (λ j. above_prop (a j) (d j)) p.above_in q.above_in i;
   num_in = is_prop→PathP (λ j. IsPartNum (part_num (f j) (a j) (d j)) (d j)) (λ j. num_prop (part_num (f j) (a j) (d j)) (d j)) p.num_in q.num_in i;
-  lowest = is_prop→PathP (λ j. IsLowest (part_num (f j) (a j) (d j)) (d j)) (λ j. lowest_prop (part_num (f j) (a j) (d j)) (d j)) p.lowest q.lowest i;
+  lowest = is_prop→PathP (λ j. IsInLowestTerms (part_num (f j) (a j) (d j)) (d j)) (λ j. lowest_prop (part_num (f j) (a j) (d j)) (d j)) p.lowest q.lowest i;
 }
 
 part_floor : (p : Part) → floor_of (fraction_in p) ≡ p.floor
@@ -114,7 +114,7 @@ part_of f d n =
         den_in = d;
         above_in = rest-below f.num f.den some;
         num_in = subst (λ z. IsPartNum z f.den) (sym e) n;
-        lowest = subst (λ z. IsLowest z f.den) (sym e) f.lowest;
+        lowest = subst (λ z. IsInLowestTerms z f.den) (sym e) f.lowest;
       };
       is = ap (λ z. record { num = z; den = f.den }) e;
     }

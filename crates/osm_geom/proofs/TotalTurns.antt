@@ -6,7 +6,7 @@ use Rattle.std.specs.Ordering.{int_cmp, nat_cmp, ordering_then, ordering_reverse
 use Rattle.std.specs.declared.cmp.Ordering.{Ordering}
 use Rattle.std.specs.declared.cmp.Ordering.TheVariants.{Less, Equal, Greater}
 use Rattle.plane.specs.Sign.{Sign, Plus, Null, Minus, is_null, is_plus, negated, sign}
-use Rattle.plane.specs.Vector.{IsDirection}
+use Rattle.plane.specs.Vector.{IsNonZero}
 use Rattle.std.proofs.lemmas.Bool.{and_from, and_parts}
 use Rattle.plane.proofs.PlaneKit.{cross-negated, direction-from, frame-agree, frame-dot-agree, plucker-agree}
 use Rattle.plane.proofs.SignKit.{agree, all, all-out, all4, all4-out, both, left-out, right-out, imp, imp-out, is_plus-true, same_bool, same_bool-true, times, is_null-true}
@@ -85,7 +85,7 @@ chain_0 a p b q = all (chain_1 a p b q)
 chains_compute : all4 chain_0 ≡ true
 chains_compute = refl
 
-pub along-direction : (d : Dir) → IsDirection (vector_along d)
+pub along-direction : (d : Dir) → IsNonZero (vector_along d)
 along-direction d = direction-from (vector_along d) (λ x y. d.nonzero (x, y))
 
 framed : (f d e : Dir) → agree (times Plus (sign (cross d e))) (times (sign (dot f e)) (sign (cross f d))) (times (sign (dot f d)) (sign (cross f e))) ≡ true

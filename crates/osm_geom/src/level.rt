@@ -1,7 +1,7 @@
 //! Where lines are at a height.
 ghost use Rattle.std.specs.Prelude.{◌≡◌, ◌≤◌, ◌*ℤ◌, ◌-ℤ◌, pos, unsigned_abs};
 ghost use Rattle.osm_lattice.specs.Bounds.{IsLongitude, IsLatitude};
-ghost use Rattle.osm_geom.specs.Level.{IsLevel, IsRun, IsRise};
+ghost use Rattle.osm_geom.specs.Level.{IsLevel, IsRunInRange, IsRise};
 ghost use Rattle.osm_geom.specs.Ratio.{IsRatioDen};
 
 use std::cmp::Ordering;
@@ -24,7 +24,7 @@ pub struct Line {
     pub rise: i128,
     pub ghost x_in: { IsLongitude x },
     pub ghost y_in: { IsLatitude y },
-    pub ghost run_in: { IsRun run },
+    pub ghost run_in: { IsRunInRange run },
     pub ghost rise_in: { IsRise rise },
 }
 

@@ -1,7 +1,7 @@
 //! Exact points of which one coordinate need not be whole.
 ghost use Rattle.std.specs.Prelude.{◌<◌, ◌≡◌, ◌≤◌, pos};
 ghost use Rattle.std.specs.Int.{int_div_euclid, int_rem_euclid};
-ghost use Rattle.osm_lattice.specs.Lowest.{IsLowest};
+ghost use Rattle.osm_lattice.specs.Lowest.{IsInLowestTerms};
 ghost use Rattle.osm_geom.specs.Part.{IsPartDen, IsPartNum, part_num};
 
 use osm_lattice::{Frac, Loc};
@@ -34,7 +34,7 @@ pub struct Part {
     pub ghost den_in: { IsPartDen den },
     pub ghost above_in: { above < den },
     pub ghost num_in: { IsPartNum (part_num floor above den) den },
-    pub ghost lowest: { IsLowest (part_num floor above den) den },
+    pub ghost lowest: { IsInLowestTerms (part_num floor above den) den },
 }
 
 impl Part {

@@ -2,11 +2,11 @@
 use Rattle.std.proofs.Common.{◌≡◌, ◌+◌, ◌≤◌, ℕ, List, [], ◌∷◌, ◌++◌, length, take, drop, ap, arith, length-drop}
 use Rattle.std.proofs.lemmas.List.{take_all, take-append-le, drop-append-le}
 use Rattle.osm_host.specs.Outside.{Opened}
-use Rattle.osm_host.specs.Opens.{opened_by, opens_of, names_len}
+use Rattle.osm_host.specs.Opens.{opened_by, opens_named, names_len}
 use Rattle.osm_host.specs.declared.opens.Entry.{Entry}
 
 pub opens_of-more : (entries : List Entry) (names : List ℕ) (entry : Entry) (name : List ℕ) → names_len entries ≡ length names → entry.len ≡ length name →
-    opens_of (entries ++ entry ∷ []) (names ++ name) ≡ opens_of entries names ++ opened_by entry.kind name ∷ []
+    opens_named (entries ++ entry ∷ []) (names ++ name) ≡ opens_named entries names ++ opened_by entry.kind name ∷ []
 opens_of-more [] [] entry name all size = ap (λ (n : List ℕ). opened_by entry.kind n ∷ []) (take_all entry.len name (omega arith))
 opens_of-more [] (x ∷ xs) entry name all size = absurd (omega arith)
 opens_of-more (e ∷ es) names entry name all size =

@@ -1,27 +1,27 @@
 -- How a host over memory keeps what it means, and what holds of its lists. No public contract cites it.
 use Rattle.std.specs.Prelude.{◌≡◌, ◌+◌, ◌≤◌, ◌<◌, ℕ, List, [], length, drop, Option, None, Some, IfSome, map, get_or, vec_len, vec_capacity, string_bytes}
 use Rattle.osm_host.specs.Memory.{Memory}
-use Rattle.osm_host.specs.Names.{pair_of}
-use Rattle.osm_host.specs.Opens.{opens_of, names_len}
+use Rattle.osm_host.specs.Names.{name_and_bytes}
+use Rattle.osm_host.specs.Opens.{opens_named, names_len}
 use Rattle.osm_host.specs.declared.memory.MemoryHost.TheInside.{Inside}
 
 -- what is left of the opened input, from this place on
-abbrev pub left_of : List (List ℕ × List ℕ) → Option ℕ → ℕ → List ℕ
-left_of inputs None place = []
-left_of inputs (Some index) place = drop place (get_or inputs index ([], [])).1
+abbrev pub left_of_input : List (List ℕ × List ℕ) → Option ℕ → ℕ → List ℕ
+left_of_input inputs None place = []
+left_of_input inputs (Some index) place = drop place (get_or inputs index ([], [])).1
 
 abbrev pub memory_of : Inside → Memory
 memory_of host = record {
-  inputs = map pair_of host.inputs.items;
+  inputs = map name_and_bytes host.inputs.items;
   taken = map string_bytes host.taken.items;
   fail = host.fail.items;
   most = host.most;
   room = host.room;
   call = host.call;
-  left = left_of (map pair_of host.inputs.items) host.opened host.place;
+  left = left_of_input (map name_and_bytes host.inputs.items) host.opened host.place;
   out = host.out.items;
   report = host.report.items;
-  opens = opens_of host.entries.items host.names.items;
+  opens = opens_named host.entries.items host.names.items;
   open_faults = host.faults.opens;
   read_faults = host.faults.reads;
   write_faults = host.faults.writes;

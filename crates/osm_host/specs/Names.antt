@@ -3,5 +3,5 @@ use Rattle.std.specs.Prelude.{ℕ, List, string_bytes}
 use Rattle.osm_host.specs.declared.names.NamedBytes.{NamedBytes}
 
 -- an input's name, and its bytes
-abbrev pub pair_of : NamedBytes → List ℕ × List ℕ
-pair_of input = (string_bytes input.name, input.bytes.items)
+abbrev pub name_and_bytes : NamedBytes → List ℕ × List ℕ
+name_and_bytes input = (string_bytes input.name, input.bytes.items)

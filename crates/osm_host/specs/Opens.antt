@@ -11,9 +11,9 @@ opened_by Input name = input name
 opened_by (Output overwrite) name = output name overwrite
 
 -- the opens whose names stand one after the other
-abbrev pub opens_of : List Entry → List ℕ → List Opened
-opens_of [] names = []
-opens_of (entry ∷ entries) names = opened_by entry.kind (take entry.len names) ∷ opens_of entries (drop entry.len names)
+abbrev pub opens_named : List Entry → List ℕ → List Opened
+opens_named [] names = []
+opens_named (entry ∷ entries) names = opened_by entry.kind (take entry.len names) ∷ opens_named entries (drop entry.len names)
 
 -- the bytes of all names
 abbrev pub names_len : List Entry → ℕ

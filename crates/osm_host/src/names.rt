@@ -4,7 +4,7 @@ ghost use Rattle.std.specs.Prelude.{◌≡◌, ◌<◌, ◌||◌, [], length, st
 ghost use Rattle.std.specs.List.{list_any};
 ghost use Rattle.std.specs.Str.{bytes_eq};
 ghost use Rattle.osm_host.specs.Memory.{bytes_named};
-ghost use Rattle.osm_host.specs.Names.{pair_of};
+ghost use Rattle.osm_host.specs.Names.{name_and_bytes};
 
 /// An input's name, and the bytes that it stands for.
 #[derive(Drop)]
@@ -16,8 +16,9 @@ pub(crate) struct NamedBytes {
 /// The index of the first input of this name.
 pub(crate) fn find(inputs: &[NamedBytes], name: &str) -> Option<usize>
     ensures within { IfSome result (λ index. index < length inputs.now) }
-    ensures found { option_map (λ index. (get_or (map pair_of inputs.now) index ([], [])).1) result
-        ≡ bytes_named (map pair_of inputs.now) name.now }
+    ensures found { option_map (λ index. (get_or (map name_and_bytes inputs.now) index
+        ([], [])).1) result
+        ≡ bytes_named (map name_and_bytes inputs.now) name.now }
 {
     for (index, input) in inputs.iter().enumerate() {
         if input.name.as_str() == name {

@@ -1,7 +1,7 @@
 //! The list of opens of a host over memory, in memory that was reserved before.
 
 ghost use Rattle.std.specs.Prelude.{◌≡◌, ◌+◌, ◌-◌, ◌≤◌, ◌++◌, [], ◌∷◌, length, min, take, vec_len, vec_capacity, nat_lt, if◌then◌else◌};
-ghost use Rattle.osm_host.specs.Opens.{opened_by, opens_of, names_len};
+ghost use Rattle.osm_host.specs.Opens.{opened_by, opens_named, names_len};
 
 /// What was to be opened; an output with its overwrite.
 #[derive(Clone, Copy)]
@@ -41,10 +41,10 @@ pub(crate) fn note_open(
     ensures noted { result ≡ nat_lt (length name.now) room.old }
     ensures room { room.new ≡ (if nat_lt (length name.now) room.old
         then room.old - (length name.now + 1) else room.old) }
-    ensures opens { opens_of entries.new.items names.new.items
+    ensures opens { opens_named entries.new.items names.new.items
         ≡ (if nat_lt (length name.now) room.old
-        then opens_of entries.old.items names.old.items ++ opened_by kind name.now ∷ []
-        else opens_of entries.old.items names.old.items) }
+        then opens_named entries.old.items names.old.items ++ opened_by kind name.now ∷ []
+        else opens_named entries.old.items names.old.items) }
     ensures names_room_stays { vec_len names.new + room.new ≤ vec_capacity names.new }
     ensures entries_room_stays { vec_len entries.new + room.new ≤ vec_capacity entries.new }
     ensures all_names_stays { names_len entries.new.items ≡ length names.new.items }

@@ -12,7 +12,7 @@ use Rattle.osm_input.specs.ReadFaults.{LastReadFailed}
 use Rattle.opl_reader.specs.Lines.{lines_of}
 use Rattle.osm_input.specs.Lines.{lines_begun}
 use Rattle.osm_input.specs.Input.{AreGood, IsBadPlace}
-use Rattle.osm_input.specs.Reading.{lines_counted, HasEnded, IsReadOf, IsAnswer, Took, Reads, IsReadWhole, ReadsOnce}
+use Rattle.osm_input.specs.Reading.{lines_counted, HasReachedEnd, IsReadOf, IsAnswerOfReading, Took, Reads, IsReadWhole, ReadsOnce}
 use Rattle.osm_input.proofs.Prefixes.{front_bad}
 
 pub within : (limit longest : ℕ) (bytes : List ℕ) → length bytes ≤ limit → lines_counted limit longest bytes ≡ lines_of bytes
@@ -47,7 +47,7 @@ bad_counted limit longest taken rest line fault bad (inl many) =
 
 bad_told : (limit longest : ℕ) (taken rest : List ℕ) (now : Outside) (line : ℕ) (fault : InputFault) → now.left ≡ Some rest →
     (IsBadPlace longest (lines_begun longest (take limit taken)) line fault
-    ⊎ (HasEnded now × (length taken ≤ limit) × IsBadPlace longest (lines_of taken) line fault)) →
+    ⊎ (HasReachedEnd now × (length taken ≤ limit) × IsBadPlace longest (lines_of taken) line fault)) →
     IsReadOf limit longest (taken ++ rest) (Err (BadInput line fault))
 bad_told limit longest taken rest now line fault left (inl bad) = bad_counted limit longest taken rest line fault bad (cases_lt limit (length (taken ++ rest)))
 bad_told limit longest taken rest now line fault left (inr bad) =
@@ -55,7 +55,7 @@ bad_told limit longest taken rest now line fault left (inr bad) =
     subst (λ (xs : List ℕ). IsReadOf limit longest xs (Err (BadInput line fault))) (sym (ap (λ (ys : List ℕ). taken ++ ys) none ∙ append-nil taken))
     (subst (λ (ls : List (List ℕ)). IsBadPlace longest ls line fault) (sym (within limit longest taken bad.1)) bad.2)
 
-told_of : (limit longest : ℕ) (taken rest : List ℕ) (now : Outside) (r : Result (List Object) ReadError) → now.left ≡ Some rest → IsAnswer limit longest taken now r → IsReadOf limit longest (taken ++ rest) r
+told_of : (limit longest : ℕ) (taken rest : List ℕ) (now : Outside) (r : Result (List Object) ReadError) → now.left ≡ Some rest → IsAnswerOfReading limit longest taken now r → IsReadOf limit longest (taken ++ rest) r
 told_of limit longest taken rest now (Ok objects) left answer =
     let none : rest ≡ [] = subst (λ (o : Option (List ℕ)). IfSome o (λ xs. xs ≡ [])) left answer.0 in
     subst (λ (xs : List ℕ). IsReadOf limit longest xs (Ok objects)) (sym (ap (λ (ys : List ℕ). taken ++ ys) none ∙ append-nil taken)) answer.1
@@ -70,7 +70,7 @@ told_of limit longest taken rest now (Err ReadFault) left answer = tt
 told_of limit longest taken rest now (Err OutOfMemory) left answer = tt
 
 told_left : (limit longest : ℕ) (taken : List ℕ) (before : Option (List ℕ)) (left : Option (List ℕ)) (now : Outside) (r : Result (List Object) ReadError) → now.left ≡ left → before ≡ preceded taken left →
-    IsAnswer limit longest taken now r → IfSome before (λ bytes. IsReadOf limit longest bytes r)
+    IsAnswerOfReading limit longest taken now r → IfSome before (λ bytes. IsReadOf limit longest bytes r)
 told_left limit longest taken before None now r is same answer = subst (λ (o : Option (List ℕ)). IfSome o (λ bytes. IsReadOf limit longest bytes r)) (sym same) tt
 told_left limit longest taken before (Some rest) now r is same answer = subst (λ (o : Option (List ℕ)). IfSome o (λ bytes. IsReadOf limit longest bytes r)) (sym same) (told_of limit longest taken rest now r is answer)
 

@@ -21,11 +21,11 @@ use Rattle.osm_input.specs.declared.reading.ReadError.{ReadError}
 use Rattle.osm_input.specs.declared.reading.ReadError.TheVariants.{BadInput, TooMuchInput, ReadFault, OutOfMemory}
 use Rattle.osm_input.specs.Input.{objects_told, fault_in, line_fault, AreGood, IsBadPlace}
 use Rattle.osm_input.specs.Lines.{lines_begun}
-use Rattle.osm_input.specs.LineSteps.{IsLineError, IsRefusal, with_live, Holds, IsBadBehind, IsRefusedBy, ReadsAll}
+use Rattle.osm_input.specs.LineSteps.{IsLineError, IsErrorOfRefusal, with_live, HasReadLines, IsBadBehind, IsRefusedBy, ReadsAll}
 use Rattle.osm_input.proofs.Begun.{begun_stands, begun_whole, fewer_before}
 use Rattle.osm_input.proofs.Lines.{none_are_good, one_more_good, fault_of_short, told_more}
 
-pub nothing_read : (longest : ℕ) → Holds longest [] (new_reader longest) []
+pub nothing_read : (longest : ℕ) → HasReadLines longest [] (new_reader longest) []
 nothing_read longest = record { fed = nothing_fed longest; good = none_are_good longest; told = refl }
 
 -- ---- a reader that goes on
@@ -81,7 +81,7 @@ told_with longest lines line object objects more good told short is none same =
       told = same ∙ (ap (λ (os : List Object). with_live os object) told ∙ told_more lines line object is);
     }
 
-module _ (longest : ℕ) (bytes : List ℕ) (r : Reader) (objects : List Object) (h : Holds longest bytes r objects) (piece : List ℕ) where
+module _ (longest : ℕ) (bytes : List ℕ) (r : Reader) (objects : List Object) (h : HasReadLines longest bytes r objects) (piece : List ℕ) where
   line_here : begun r piece ≡ unfinished_of bytes ++ before_first is_newline piece
   line_here = ap (λ (zs : List ℕ). zs ++ before_first is_newline piece) h.fed.unfinished
 
@@ -107,7 +107,7 @@ module _ (longest : ℕ) (bytes : List ℕ) (r : Reader) (objects : List Object)
       (subst (λ (z : Fed). fault_in objects (Ok z.object) ≡ None) is none) (same ∙ ap (λ (z : Fed). with_live objects z.object) is))
 
   pub holds_more : (f : Fed) (next : Reader) (more : List Object) → feeding r piece ≡ Ok (f, next) → more ≡ with_live objects f.object → fault_in objects (Ok f.object) ≡ None →
-      Holds longest (bytes ++ take f.used piece) next more
+      HasReadLines longest (bytes ++ take f.used piece) next more
   holds_more f next more e same none =
       let told = told_by f next more same none (step_of r piece f next h.fed.goes_on e) in
       let hands = one_more_piece longest bytes (filter_map object_told (whole_lines bytes)) r piece f next h.fed e in
@@ -145,7 +145,7 @@ module _ (longest : ℕ) (bytes : List ℕ) (r : Reader) (objects : List Object)
       }
 
   -- a line without a reading, or one that is too long
-  pub line_refused : (error : FeedError) (now : Reader) (e : ReadError) → Answers {A = Fed} (Err error) now (feeding r piece) → IsRefusal error e → IsRefusedBy longest bytes piece e
+  pub line_refused : (error : FeedError) (now : Reader) (e : ReadError) → Answers {A = Fed} (Err error) now (feeding r piece) → IsErrorOfRefusal error e → IsRefusedBy longest bytes piece e
   line_refused (feed.Line number found) now e answer is =
       let f = refused_of r piece number found answer.0 in
       let most : length (begun r piece) ≤ longest = subst (λ (n : ℕ). length (begun r piece) ≤ n) h.fed.longest f.short in
@@ -179,7 +179,7 @@ module _ (longest : ℕ) (bytes : List ℕ) (r : Reader) (objects : List Object)
 
 -- ---- the end
 
-module _ (longest : ℕ) (bytes : List ℕ) (r : Reader) (objects : List Object) (h : Holds longest bytes r objects) where
+module _ (longest : ℕ) (bytes : List ℕ) (r : Reader) (objects : List Object) (h : HasReadLines longest bytes r objects) where
   last_short : length (unfinished_of bytes) ≤ longest
   last_short = subst (λ (zs : List ℕ). length zs ≤ longest) h.fed.unfinished h.fed.short
 
@@ -233,7 +233,7 @@ module _ (longest : ℕ) (bytes : List ℕ) (r : Reader) (objects : List Object)
   not_long number e = not_long_by number r.has_ended (length r.unfinished == 0) (reading r.unfinished) e
 
   -- the last line has no reading
-  pub last_refused : (error : FeedError) (now : Reader) (e : ReadError) → Answers {A = Option Object} (Err error) now (finishing r) → IsRefusal error e → ReadsAll longest bytes (Err e)
+  pub last_refused : (error : FeedError) (now : Reader) (e : ReadError) → Answers {A = Option Object} (Err error) now (finishing r) → IsErrorOfRefusal error e → ReadsAll longest bytes (Err e)
   last_refused (feed.Line number found) now e answer is =
       let f = last_refused_of r number found answer.0 in
       let bad : reading (unfinished_of bytes) ≡ Err found = subst (λ (zs : List ℕ). reading zs ≡ Err found) h.fed.unfinished f.bad in
@@ -280,10 +280,10 @@ pub record Within (first now : Reader) (objects more : List Object) (piece rest 
   pub front : List ℕ
   pub cut : piece ≡ front ++ rest
   pub fed : now.fed ≡ first.fed + length front
-  pub holds : (longest : ℕ) (bytes : List ℕ) → Holds longest bytes first objects → Holds longest (bytes ++ front) now more
+  pub holds : (longest : ℕ) (bytes : List ℕ) → HasReadLines longest bytes first objects → HasReadLines longest (bytes ++ front) now more
 
 pub some_more : (first now next : Reader) (objects more others : List Object) (piece rest : List ℕ) (used n : ℕ) → Within first now objects more piece rest →
-    ((longest : ℕ) (bytes : List ℕ) → Holds longest bytes now more → Holds longest (bytes ++ take used rest) next others) →
+    ((longest : ℕ) (bytes : List ℕ) → HasReadLines longest bytes now more → HasReadLines longest (bytes ++ take used rest) next others) →
     used ≤ length rest → next.fed ≡ now.fed + used → n ≡ length rest - used → Within first next objects others piece (take n (drop used rest))
 some_more first now next objects more others piece rest used n w step most count is =
     let whole : take n (drop used rest) ≡ drop used rest = take_all n (drop used rest) (omega (arith, length-drop used rest)) in
@@ -293,11 +293,11 @@ some_more first now next objects more others piece rest used n w step most count
       cut = w.cut ∙ (ap (λ (zs : List ℕ). w.front ++ zs) (sym (take-append-drop used rest)) ∙ sym (append_assoc w.front (take used rest) (drop used rest)));
       fed = omega (arith, length-append w.front (take used rest), length-take used rest);
       holds = λ longest bytes h.
-          subst (λ (zs : List ℕ). Holds longest zs next others) (append_assoc bytes w.front (take used rest)) (step longest (bytes ++ w.front) (w.holds longest bytes h));
+          subst (λ (zs : List ℕ). HasReadLines longest zs next others) (append_assoc bytes w.front (take used rest)) (step longest (bytes ++ w.front) (w.holds longest bytes h));
     })
 
 pub all_within : (first now : Reader) (objects more : List Object) (piece rest : List ℕ) → Within first now objects more piece rest → length rest ≡ 0 →
-    (longest : ℕ) (bytes : List ℕ) → Holds longest bytes first objects → Holds longest (bytes ++ piece) now more
+    (longest : ℕ) (bytes : List ℕ) → HasReadLines longest bytes first objects → HasReadLines longest (bytes ++ piece) now more
 all_within first now objects more piece [] w none longest bytes h =
-    subst (λ (zs : List ℕ). Holds longest (bytes ++ zs) now more) (sym (w.cut ∙ append-nil w.front)) (w.holds longest bytes h)
+    subst (λ (zs : List ℕ). HasReadLines longest (bytes ++ zs) now more) (sym (w.cut ∙ append-nil w.front)) (w.holds longest bytes h)
 all_within first now objects more piece (b ∷ rest) w none longest bytes h = absurd (omega arith)

@@ -12,10 +12,10 @@ use Rattle.osm_input.specs.declared.fault.InputFault.{InputFault}
 use Rattle.osm_input.specs.declared.reading.ReadError.{ReadError}
 use Rattle.osm_input.specs.declared.reading.ReadError.TheVariants.{BadInput, TooMuchInput, ReadFault, OutOfMemory}
 use Rattle.osm_input.specs.Input.{AreGood, IsBadPlace}
-use Rattle.osm_input.specs.Keeps.{Keeps}
+use Rattle.osm_input.specs.Keeps.{KeepsNames}
 use Rattle.osm_input.specs.Lines.{lines_begun}
-use Rattle.osm_input.specs.LineSteps.{Holds, IsRefusedBy, ReadsAll}
-use Rattle.osm_input.specs.Reading.{HasEnded, IsAnswer, Took, Reads, ReadsOnce}
+use Rattle.osm_input.specs.LineSteps.{HasReadLines, IsRefusedBy, ReadsAll}
+use Rattle.osm_input.specs.Reading.{HasReachedEnd, IsAnswerOfReading, Took, Reads, ReadsOnce}
 use Rattle.osm_input.specs.Shown.{IsShownLast}
 use Rattle.osm_input.proofs.Begun.{begun_whole, fewer_before}
 use Rattle.osm_input.proofs.Steps.{nothing_read}
@@ -24,25 +24,25 @@ use Rattle.osm_input.proofs.BytesTaken.{AreTaken, as_before, at_end, none_taken,
 -- These bytes were taken off the input, no more than the limit, and are read.
 pub record Taken (limit longest : ℕ) (before now : Outside) (r : Reader) (objects : List Object) (room : ℕ) : Type 0 where
   pub bytes : List ℕ
-  pub holds : Holds longest bytes r objects
+  pub holds : HasReadLines longest bytes r objects
   pub size : length bytes + room ≡ limit
   pub are : AreTaken before now bytes
 
 pub nothing_taken : (limit longest : ℕ) (now : Outside) (r : Reader) (objects : List Object) → r ≡ new_reader longest → objects ≡ [] → Taken limit longest now now r objects limit
 nothing_taken limit longest now r objects new none = record {
   bytes = [];
-  holds = subst (λ (z : Reader). Holds longest [] z objects) (sym new) (subst (λ (os : List Object). Holds longest [] (new_reader longest) os) (sym none) (nothing_read longest));
+  holds = subst (λ (z : Reader). HasReadLines longest [] z objects) (sym new) (subst (λ (os : List Object). HasReadLines longest [] (new_reader longest) os) (sym none) (nothing_read longest));
   size = omega arith;
   are = none_taken now;
 }
 
-pub keeps_all : (now : Outside) → Keeps now now
+pub keeps_all : (now : Outside) → KeepsNames now now
 keeps_all now = record { named = refl; told = refl; opens = omega arith; reads = omega arith; writes = omega arith }
 
 pub no_reads : (now : Outside) → OnlyReads now now
 no_reads now = record { named = refl; out = refl; report = refl; opens = refl; open_faults = refl; write_faults = refl }
 
-none_begun : (longest : ℕ) (bytes : List ℕ) (r : Reader) (objects : List Object) → Holds longest bytes r objects → lines_begun longest bytes ≡ whole_lines bytes
+none_begun : (longest : ℕ) (bytes : List ℕ) (r : Reader) (objects : List Object) → HasReadLines longest bytes r objects → lines_begun longest bytes ≡ whole_lines bytes
 none_begun longest bytes r objects h = begun_whole longest bytes (subst (λ (zs : List ℕ). length zs ≤ longest) h.fed.unfinished h.fed.short)
 
 -- what is left of two lists that are one, where the second part of the one isn't longer than that of the other
@@ -85,12 +85,12 @@ module _ (limit longest : ℕ) (before middle : Outside) (r : Reader) (objects :
 
   module _ (buffer : List ℕ) (count : ℕ) (none : count ≡ 0) (left : middle.left ≡ preceded (take count buffer) now.left) (counted : now.bytes_read ≡ grown middle.bytes_read count)
       (nothing : IfSome middle.left (λ left. left ≡ [])) where
-    has_ended : HasEnded now
+    has_ended : HasReachedEnd now
     has_ended =
         subst (λ (o : Option (List ℕ)). IfSome o (λ left. left ≡ []))
         (still_left before middle t.bytes t.are now buffer count left counted none) nothing
 
-    took : (result : Result (List Object) ReadError) → IsAnswer limit longest t.bytes now result → Took limit longest before now result
+    took : (result : Result (List Object) ReadError) → IsAnswerOfReading limit longest t.bytes now result → Took limit longest before now result
     took result answer =
         let are = at_end before middle t.bytes t.are now buffer count left counted none in
         record { taken = t.bytes; left = are.left; counted = are.counted; answer = answer }
@@ -124,7 +124,7 @@ module _ (limit longest : ℕ) (before middle : Outside) (r : Reader) (objects :
     are_taken : AreTaken before now all_taken
     are_taken = with_piece before middle t.bytes t.are now buffer count left counted in_buffer in_turn
 
-    took_piece : (e : ReadError) → IsAnswer limit longest all_taken now (Err e) → Took limit longest before now (Err e)
+    took_piece : (e : ReadError) → IsAnswerOfReading limit longest all_taken now (Err e) → Took limit longest before now (Err e)
     took_piece e answer =
         let are = are_taken in
         record { taken = all_taken; left = are.left; counted = are.counted; answer = answer }
@@ -166,7 +166,7 @@ module _ (limit longest : ℕ) (before middle : Outside) (r : Reader) (objects :
     piece_at_once ReadFault refused same = absurd refused
     piece_at_once OutOfMemory refused same = inl same
 
-    module _ (next : Reader) (more : List Object) (holds : Holds longest (t.bytes ++ take within buffer) next more) where
+    module _ (next : Reader) (more : List Object) (holds : HasReadLines longest (t.bytes ++ take within buffer) next more) where
       -- there is more than the limit
       pub limit_passed : count ≤ 65536 → within < count → Took limit longest before now (Err (TooMuchInput limit))
       limit_passed few less =
@@ -184,7 +184,7 @@ module _ (limit longest : ℕ) (before middle : Outside) (r : Reader) (objects :
           let same : within ≡ count = omega arith in
           record {
             bytes = all_taken;
-            holds = subst (λ (n : ℕ). Holds longest (t.bytes ++ take n buffer) next more) same holds;
+            holds = subst (λ (n : ℕ). HasReadLines longest (t.bytes ++ take n buffer) next more) same holds;
             size = omega arith;
             are = are_taken;
           }

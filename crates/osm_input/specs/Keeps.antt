@@ -3,7 +3,7 @@ use Rattle.std.specs.Prelude.{◌≡◌, ◌≤◌, is_some}
 use Rattle.osm_host.specs.Outside.{Outside}
 
 -- What the names stand for stays, what is left of the input is told where it was, and no count of faults falls.
-pub record Keeps (before after : Outside) : Type 0 where
+pub record KeepsNames (before after : Outside) : Type 0 where
   pub named : after.named ≡ before.named
   pub told : is_some after.left ≡ is_some before.left
   pub opens : before.open_faults ≤ after.open_faults

@@ -26,11 +26,11 @@ IsLineError number found ReadFault = ⊥
 IsLineError number found OutOfMemory = Unit {0}
 
 -- the error of an input whose lines were refused so
-abbrev pub IsRefusal : FeedError → ReadError → Type 0
-IsRefusal (feed.Line number found) error = error ≡ BadInput number (fault.Line found)
-IsRefusal (feed.TooLong number) error = error ≡ BadInput number fault.TooLong
-IsRefusal feed.Ended error = ⊥
-IsRefusal feed.OutOfMemory error = error ≡ OutOfMemory
+abbrev pub IsErrorOfRefusal : FeedError → ReadError → Type 0
+IsErrorOfRefusal (feed.Line number found) error = error ≡ BadInput number (fault.Line found)
+IsErrorOfRefusal (feed.TooLong number) error = error ≡ BadInput number fault.TooLong
+IsErrorOfRefusal feed.Ended error = ⊥
+IsErrorOfRefusal feed.OutOfMemory error = error ≡ OutOfMemory
 
 -- objects and that of a further line, where it is live
 abbrev pub with_live : List Object → Option Object → List Object
@@ -40,7 +40,7 @@ with_live objects (Some object) = with_object objects object
 -- ---- pieces
 
 -- The whole lines of these bytes were read, and none is bad; these are their objects, and the reader goes on behind them.
-pub record Holds (longest : ℕ) (bytes : List ℕ) (r : Reader) (objects : List Object) : Type 0 where
+pub record HasReadLines (longest : ℕ) (bytes : List ℕ) (r : Reader) (objects : List Object) : Type 0 where
   pub fed : HandsOut longest bytes (filter_map object_told (whole_lines bytes)) r
   pub good : AreGood longest (whole_lines bytes)
   pub told : objects ≡ objects_told (whole_lines bytes)
@@ -59,12 +59,12 @@ IsRefusedBy longest bytes piece OutOfMemory = Unit {0}
 
 -- so many bytes of a piece were read behind these, or it is refused
 abbrev pub ReadsSome : ℕ → List ℕ → List ℕ → Reader → List Object → Result ℕ ReadError → Type 0
-ReadsSome longest bytes piece r objects (Ok used) = Holds longest (bytes ++ take used piece) r objects
+ReadsSome longest bytes piece r objects (Ok used) = HasReadLines longest (bytes ++ take used piece) r objects
 ReadsSome longest bytes piece r objects (Err error) = IsRefusedBy longest bytes piece error
 
 -- a piece was read behind these bytes, or it is refused
 abbrev pub ReadsPiece : {A : Type 0} → ℕ → List ℕ → List ℕ → Reader → List Object → Result A ReadError → Type 0
-ReadsPiece longest bytes piece r objects (Ok done) = Holds longest (bytes ++ piece) r objects
+ReadsPiece longest bytes piece r objects (Ok done) = HasReadLines longest (bytes ++ piece) r objects
 ReadsPiece longest bytes piece r objects (Err error) = IsRefusedBy longest bytes piece error
 
 -- ---- all lines

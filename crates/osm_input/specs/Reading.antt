@@ -43,30 +43,30 @@ IsReadWhole limit longest bytes (Err ReadFault) = ⊥
 IsReadWhole limit longest bytes (Err OutOfMemory) = Unit {0}
 
 -- nothing is left of the input
-abbrev pub HasEnded : Outside → Type 0
-HasEnded now = IfSome now.left (λ left. left ≡ [])
+abbrev pub HasReachedEnd : Outside → Type 0
+HasReachedEnd now = IfSome now.left (λ left. left ≡ [])
 
 -- What is answered of the bytes that were taken off an input. With a bad place, it stands in their lines, the last one
 -- counting only where the input ended there or it is too long already; and no further piece was taken behind what shows it, or that
 -- the limit is passed.
-abbrev pub IsAnswer : ℕ → ℕ → List ℕ → Outside → Result (List Object) ReadError → Type 0
-IsAnswer limit longest taken now (Ok objects) = HasEnded now × IsReadAs limit longest taken (Ok objects)
-IsAnswer limit longest taken now (Err (BadInput line fault)) =
+abbrev pub IsAnswerOfReading : ℕ → ℕ → List ℕ → Outside → Result (List Object) ReadError → Type 0
+IsAnswerOfReading limit longest taken now (Ok objects) = HasReachedEnd now × IsReadAs limit longest taken (Ok objects)
+IsAnswerOfReading limit longest taken now (Err (BadInput line fault)) =
     (IsBadPlace longest (lines_begun longest (take limit taken)) line fault
-    ⊎ (HasEnded now × (length taken ≤ limit) × IsBadPlace longest (lines_of taken) line fault))
+    ⊎ (HasReachedEnd now × (length taken ≤ limit) × IsBadPlace longest (lines_of taken) line fault))
     × IsShownLast longest taken line
-IsAnswer limit longest taken now (Err (TooMuchInput most)) =
+IsAnswerOfReading limit longest taken now (Err (TooMuchInput most)) =
     IsReadAs limit longest taken (Err (TooMuchInput most)) × PassesLast limit taken
-IsAnswer limit longest taken now (Err ReadFault) =
+IsAnswerOfReading limit longest taken now (Err ReadFault) =
     (length taken ≤ limit) × AreGood longest (lines_begun longest (take limit taken))
-IsAnswer limit longest taken now (Err OutOfMemory) = Unit {0}
+IsAnswerOfReading limit longest taken now (Err OutOfMemory) = Unit {0}
 
 -- These bytes were taken off the input and counted, and what is answered is right for them.
 pub record Took (limit longest : ℕ) (before now : Outside) (result : Result (List Object) ReadError) : Type 0 where
   pub taken : List ℕ
   pub left : before.left ≡ preceded taken now.left
   pub counted : now.bytes_read ≡ grown before.bytes_read (length taken)
-  pub answer : IsAnswer limit longest taken now result
+  pub answer : IsAnswerOfReading limit longest taken now result
 
 -- What is answered is right for the bytes that were taken, unless memory ran out.
 abbrev pub Reads : ℕ → ℕ → Outside → Outside → Result (List Object) ReadError → Type 0

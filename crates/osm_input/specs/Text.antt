@@ -5,7 +5,7 @@ use Rattle.osm_host.specs.Outside.{Outside, preceded, grown}
 use Rattle.osm_input.specs.declared.text.TextError.{TextError}
 use Rattle.osm_input.specs.declared.text.TextError.TheVariants.{TooMuchInput, ReadFault, OutOfMemory}
 use Rattle.osm_input.specs.ReadFaults.{LastReadFailed, NoneOrLastReadFailed}
-use Rattle.osm_input.specs.Reading.{HasEnded}
+use Rattle.osm_input.specs.Reading.{HasReachedEnd}
 use Rattle.osm_input.specs.Shown.{PassesLast}
 
 -- What is right for an input of these bytes: they are the text, or they pass the limit.
@@ -31,7 +31,7 @@ IsTextWhole limit bytes (Err OutOfMemory) = Unit {0}
 
 -- What is answered of the bytes that were taken off an input. No further piece was taken behind what shows that it passes the limit.
 abbrev pub IsTextAnswer : ℕ → List ℕ → Outside → Result (List ℕ) TextError → Type 0
-IsTextAnswer limit taken now (Ok text) = HasEnded now × IsTextAs limit taken (Ok text)
+IsTextAnswer limit taken now (Ok text) = HasReachedEnd now × IsTextAs limit taken (Ok text)
 IsTextAnswer limit taken now (Err (TooMuchInput most)) = IsTextAs limit taken (Err (TooMuchInput most)) × PassesLast limit taken
 IsTextAnswer limit taken now (Err ReadFault) = length taken ≤ limit
 IsTextAnswer limit taken now (Err OutOfMemory) = Unit {0}

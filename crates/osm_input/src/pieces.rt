@@ -3,7 +3,7 @@
 ghost use Rattle.std.specs.Prelude.{◌≡◌, ◌≢◌, ◌<◌, ◌≤◌, ◌+◌, ◌^◌, ◌++◌, ℕ, List, length, false, None, Ok, IfOk, IfErr, OnOk};
 ghost use Rattle.opl_reader.specs.declared.feed.FeedError.TheVariants.{Ended};
 ghost use Rattle.osm_input.specs.Input.{fault_in};
-ghost use Rattle.osm_input.specs.LineSteps.{IsLineError, IsRefusal, with_live, Holds, ReadsSome, ReadsPiece, ReadsAll};
+ghost use Rattle.osm_input.specs.LineSteps.{IsLineError, IsErrorOfRefusal, with_live, HasReadLines, ReadsSome, ReadsPiece, ReadsAll};
 
 use crate::fault::InputFault;
 use crate::reading::ReadError;
@@ -13,7 +13,7 @@ use osm_objects::{AddError, Store};
 /// Why an input isn't read whose lines were refused. A reader of lines that goes on has not ended.
 fn refusal(error: FeedError) -> ReadError
     requires { error ≢ Ended }
-    ensures { IsRefusal error result }
+    ensures { IsErrorOfRefusal error result }
 {
     match error {
         FeedError::Line { line, fault } => {
@@ -57,7 +57,7 @@ fn add_object(lines: &mut Lines, store: &mut Store, piece: &[u8]) -> Result<usiz
     requires goes_on { lines.old.has_ended ≡ false }
     requires some { 0 < length piece.now }
     requires room { lines.old.fed + length piece.now < 2 ^ 63 }
-    ensures holds { (longest : ℕ) (bytes : List ℕ) → Holds longest bytes lines.old store.old
+    ensures holds { (longest : ℕ) (bytes : List ℕ) → HasReadLines longest bytes lines.old store.old
         → ReadsSome longest bytes piece.now lines.new store.new result }
     ensures used { IfOk result (λ used. (1 ≤ used) × (used ≤ length piece.now)
         × (lines.new.fed ≡ lines.old.fed + used)) }
@@ -82,7 +82,7 @@ pub(crate) fn read_piece(
 ) -> Result<(), ReadError>
     requires goes_on { lines.old.has_ended ≡ false }
     requires room { lines.old.fed + length piece.now < 2 ^ 63 }
-    ensures holds { (longest : ℕ) (bytes : List ℕ) → Holds longest bytes lines.old store.old
+    ensures holds { (longest : ℕ) (bytes : List ℕ) → HasReadLines longest bytes lines.old store.old
         → ReadsPiece longest bytes piece.now lines.new store.new result }
 {
     let mut rest = piece;
@@ -99,7 +99,7 @@ pub(crate) fn read_piece(
 /// Reads what no newline ended as the last line, and hands over the store.
 pub(crate) fn finish(mut lines: Lines, mut store: Store) -> Result<Store, ReadError>
     requires { lines.has_ended ≡ false }
-    ensures { (longest : ℕ) (bytes : List ℕ) → Holds longest bytes lines store
+    ensures { (longest : ℕ) (bytes : List ℕ) → HasReadLines longest bytes lines store
         → ReadsAll longest bytes result }
 {
     let object = match lines.finish() {

@@ -2,7 +2,7 @@
 
 ghost use Rattle.std.specs.Prelude.{◌≡◌, ◌<◌, ◌^◌, IfSome};
 ghost use Rattle.osm_host.specs.Outside.{HasRisen, OnlyReads};
-ghost use Rattle.osm_input.specs.Keeps.{Keeps};
+ghost use Rattle.osm_input.specs.Keeps.{KeepsNames};
 ghost use Rattle.osm_input.specs.Reading.{IsReadOf, IsReadWhole, Reads, ReadsOnce};
 
 use crate::fault::InputFault;
@@ -55,7 +55,7 @@ pub fn read_all<H: Host>(
     ensures complete { ¬ HasRisen (H.seen host.old).read_faults (H.seen host.new).read_faults
         → IfSome (H.seen host.old).left (λ bytes. IsReadWhole limit longest bytes result) }
     // What no run changes stays as it was.
-    ensures keeps { Keeps (H.seen host.old) (H.seen host.new) }
+    ensures keeps { KeepsNames (H.seen host.old) (H.seen host.new) }
     ensures rest { OnlyReads (H.seen host.old) (H.seen host.new) }
 {
     read_pieces(alloc, host, limit, longest)
@@ -71,7 +71,7 @@ fn read_pieces<H: Host>(
     requires { limit < 2 ^ 63 }
     ensures reads { Reads limit longest (H.seen host.old) (H.seen host.new) result }
     ensures at_once { ReadsOnce (H.seen host.old) (H.seen host.new) result }
-    ensures keeps { Keeps (H.seen host.old) (H.seen host.new) }
+    ensures keeps { KeepsNames (H.seen host.old) (H.seen host.new) }
     ensures rest { OnlyReads (H.seen host.old) (H.seen host.new) }
 {
     // By law: bytes that are taken one piece after another are taken as one.

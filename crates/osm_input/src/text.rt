@@ -2,7 +2,7 @@
 
 ghost use Rattle.std.specs.Prelude.{◌≡◌, ◌<◌, ◌^◌, IfSome};
 ghost use Rattle.osm_host.specs.Outside.{HasRisen, OnlyReads};
-ghost use Rattle.osm_input.specs.Keeps.{Keeps};
+ghost use Rattle.osm_input.specs.Keeps.{KeepsNames};
 ghost use Rattle.osm_input.specs.Text.{IsTextOf, IsTextWhole, ReadsText, ReadsTextOnce, text_seen};
 
 use crate::reading::PIECE;
@@ -39,7 +39,7 @@ pub fn read_text<H: Host>(alloc: Global, host: &mut H, limit: u64) -> Result<Vec
     ensures complete { ¬ HasRisen (H.seen host.old).read_faults (H.seen host.new).read_faults
         → IfSome (H.seen host.old).left (λ bytes. IsTextWhole limit bytes (text_seen result)) }
     // What no run changes stays as it was.
-    ensures keeps { Keeps (H.seen host.old) (H.seen host.new) }
+    ensures keeps { KeepsNames (H.seen host.old) (H.seen host.new) }
     ensures rest { OnlyReads (H.seen host.old) (H.seen host.new) }
 {
     read_whole(alloc, host, limit)
@@ -50,7 +50,7 @@ fn read_whole<H: Host>(alloc: Global, host: &mut H, limit: u64) -> Result<Vec<u8
     requires { limit < 2 ^ 63 }
     ensures reads { ReadsText limit (H.seen host.old) (H.seen host.new) (text_seen result) }
     ensures at_once { ReadsTextOnce (H.seen host.old) (H.seen host.new) (text_seen result) }
-    ensures keeps { Keeps (H.seen host.old) (H.seen host.new) }
+    ensures keeps { KeepsNames (H.seen host.old) (H.seen host.new) }
     ensures rest { OnlyReads (H.seen host.old) (H.seen host.new) }
 {
     // By law: bytes that are taken one piece after another are taken as one.

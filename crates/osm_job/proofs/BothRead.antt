@@ -12,7 +12,7 @@ use Rattle.osm_job.specs.declared.ended.Ended.{Ended}
 use Rattle.osm_job.specs.declared.ended.Ended.TheVariants.{Done, Warnings, Errors, Stopped, BadWords, BadInput, TooMuchInput, TooManyPieces, Refuted, BadPoint}
 use Rattle.osm_job.specs.declared.ended.Ended.TheVariants.{OpenFault, ReadFault, WriteFault, OutOfMemory}
 use Rattle.osm_job.specs.InputRead.{IsSilent, OpensOne, OpensBoth, HasInput, HasBoth, LacksText}
-use Rattle.osm_job.specs.Taken.{TookText, IsReadable, IsTextStopped, text_error}
+use Rattle.osm_job.specs.Taken.{TookText, IsReadableInput, IsTextStopped, text_error}
 use Rattle.osm_job.specs.TextRead.{HasContent, LacksContent}
 use Rattle.osm_job.specs.Whole.{input_limit}
 use Rattle.osm_job.proofs.SilentReads.{last_failed, none_or_last, silent_both}
@@ -35,7 +35,7 @@ module _ (law : StreamsAppend) (file name : List ℕ) (objects : List Object) (b
       IfSome (before.named name) (λ bytes. IsTextAs input_limit bytes result)
   of_named result told = subst (λ (o : Option (List ℕ)). IfSome o (λ bytes. IsTextAs input_limit bytes result)) named_same told
 
-  is_readable : IsReadable file before
+  is_readable : IsReadableInput file before
   is_readable = (objects, has.right)
 
   stopped_by : (error : ReadError) (found : TextError) → text_error error ≡ Some found → TookText name (Err found) middle now → OpensOne name middle now →

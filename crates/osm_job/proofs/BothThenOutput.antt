@@ -16,16 +16,16 @@ use Rattle.osm_job.specs.declared.ended.Ended.TheVariants.{OpenFault, ReadFault,
 use Rattle.osm_job.specs.Cause.{by_itself, by_verdict, cause_of}
 use Rattle.osm_job.specs.InputRead.{OpensBoth, HasBoth, LacksBoth, LacksText}
 use Rattle.osm_job.specs.Opens.{OpensInputs, opens_of}
-use Rattle.osm_job.specs.Taken.{IsReadable, TookBoth, TookNothing}
+use Rattle.osm_job.specs.Taken.{IsReadableInput, TookBoth, TookNothing}
 use Rattle.osm_job.specs.Texts.{Texts, both}
-use Rattle.osm_job.specs.Whole.{Whole, read_ended, silent, input_limit, longest_line}
+use Rattle.osm_job.specs.Whole.{Whole, ending_of_read, silent, input_limit, longest_line}
 use Rattle.osm_job.specs.Worked.{OverBoth, ReadBoth, WroteOver}
 
 -- ---- what is right, where both are told
 
 module _ (file name : List ℕ) (IsRight : List Object → List ℕ → Whole → Type 0) where
   file_refused : (told more : Option (List ℕ)) (error : ReadError) → IfSome told (λ bytes. IsReadAs input_limit longest_line bytes (Err error)) →
-      IfSome (both told (both more (Some tt))) (λ texts. OverBoth IsRight file name texts (silent (read_ended error)))
+      IfSome (both told (both more (Some tt))) (λ texts. OverBoth IsRight file name texts (silent (ending_of_read error)))
   file_refused None None error is = tt
   file_refused None (Some content) error is = tt
   file_refused (Some bytes) None error is = tt
@@ -84,7 +84,7 @@ module _ (law : StreamsAppend) (file name : List ℕ) (outputs : List Opened) (I
   lacks_text (BadWords cause) now l = absurd l.lack
   lacks_text (BadInput line fault) now l = absurd l.lack
   lacks_text (TooMuchInput limit) now l =
-      let readable : IsReadable file before = l.lack.stopped.0 in
+      let readable : IsReadableInput file before = l.lack.stopped.0 in
       once.silent_work law (file ∷ name ∷ []) outputs Right (TookBoth file name) before (TooMuchInput limit) now l.silent
       (refl, text_refused file name IsRight (before.named file) (before.named name) readable.0 limit readable.1 l.lack.right)
       (inr l.lack.stopped) tt (untouched now) (opens_inputs now l.lack.opens) l.faults l.silent.write_faults

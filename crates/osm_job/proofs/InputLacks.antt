@@ -13,7 +13,7 @@ use Rattle.osm_job.specs.InputRead.{OpensOne, LacksInput}
 use Rattle.osm_job.specs.Opens.{OpensInputs, opens_of}
 use Rattle.osm_job.specs.Taken.{IsFileStopped, IsStopped, TookNothing}
 use Rattle.osm_job.specs.Texts.{Texts, told_texts}
-use Rattle.osm_job.specs.Whole.{Whole, read_ended, silent, input_limit, longest_line}
+use Rattle.osm_job.specs.Whole.{Whole, ending_of_read, silent, input_limit, longest_line}
 use Rattle.osm_job.specs.Worked.{Worked}
 
 pub some_input : (file : List ℕ) (more : List (List ℕ)) → file ∷ more ≡ [] → ⊥
@@ -27,7 +27,7 @@ module _ (file : List ℕ) (more : List (List ℕ)) (outputs : List Opened) (bef
 module _ (law : StreamsAppend) (file : List ℕ) (more : List (List ℕ)) (outputs : List Opened) (IsRight : Texts (file ∷ more) → Whole → Type 0)
     (TookAll : Outside → Outside → Type 0) (before now : Outside)
     (refused : (error : ReadError) → IfSome (before.named file) (λ bytes. IsReadAs input_limit longest_line bytes (Err error)) →
-    IfSome (told_texts before.named (file ∷ more)) (λ texts. IsRight texts (silent (read_ended error))))
+    IfSome (told_texts before.named (file ∷ more)) (λ texts. IsRight texts (silent (ending_of_read error))))
     (stops : (error : ReadError) → IsFileStopped file error before now → IsStopped (file ∷ more) error before now) where
   abbrev Does : Ended → Type 0
   Does ended = Worked (file ∷ more) outputs IsRight TookAll ended before now

@@ -4,12 +4,12 @@ use Rattle.opl_reader.specs.declared.object.Object.{Object}
 use Rattle.osm_host.specs.Outside.{Outside, input, appended, grown, risen, OnlyOpens, OnlyReads}
 use Rattle.osm_input.specs.declared.reading.ReadError.{ReadError}
 use Rattle.osm_input.specs.declared.reading.ReadError.TheVariants as read
-use Rattle.osm_input.specs.Keeps.{Keeps}
+use Rattle.osm_input.specs.Keeps.{KeepsNames}
 use Rattle.osm_input.specs.Reading.{IsReadAs, IsReadOf, Reads, Took, ReadsOnce}
 use Rattle.osm_job.specs.declared.ended.Ended.TheVariants.{OpenFault}
-use Rattle.osm_job.specs.InputRead.{IsSilent, OpensOne, HasInput, Refuses, LacksInput}
+use Rattle.osm_job.specs.InputRead.{IsSilent, OpensOne, HasInput, RefusesInput, LacksInput}
 use Rattle.osm_job.specs.Taken.{TookOff, IsFileStopped}
-use Rattle.osm_job.specs.Whole.{read_ended, input_limit, longest_line}
+use Rattle.osm_job.specs.Whole.{ending_of_read, input_limit, longest_line}
 use Rattle.osm_job.proofs.SilentReads.{last_failed, none_or_last, opening_silent, reading_silent, silent_both}
 
 module _ (name : List ℕ) (before middle : Outside) (only : OnlyOpens before middle) (told_still : is_some middle.left ≡ is_some before.left)
@@ -28,7 +28,7 @@ module _ (name : List ℕ) (before middle : Outside) (only : OnlyOpens before mi
 
   module _ (listed : middle.opens ≡ appended before.opens (input name ∷ [])) (begins : middle.left ≡ before.named name) (none_read : middle.bytes_read ≡ 0)
       (answered : middle.open_faults ≡ before.open_faults)
-      (now : Outside) (reads_only : OnlyReads middle now) (read_keeps : Keeps middle now) where
+      (now : Outside) (reads_only : OnlyReads middle now) (read_keeps : KeepsNames middle now) where
     silent_since : IsSilent before now
     silent_since = silent_both before middle now opened (reading_silent middle now reads_only read_keeps)
 
@@ -65,13 +65,13 @@ module _ (name : List ℕ) (before middle : Outside) (only : OnlyOpens before mi
     }
 
     refuses : (error : ReadError) → IfSome middle.left (λ bytes. IsReadAs input_limit longest_line bytes (Err error)) →
-        Took input_limit longest_line middle now (Err error) → Refuses name error before now
+        Took input_limit longest_line middle now (Err error) → RefusesInput name error before now
     refuses error told took = record { right = of_named (Err error) told; stopped = is_stopped error took; opens = opens_one }
 
     -- it isn't read
     pub input_not_read : (error : ReadError) → Reads input_limit longest_line middle now (Err error) →
         IfSome middle.left (λ bytes. IsReadOf input_limit longest_line bytes (Err error)) →
-        ReadsOnce middle now (Err error) → LacksInput name (read_ended error) before now
+        ReadsOnce middle now (Err error) → LacksInput name (ending_of_read error) before now
     input_not_read (read.BadInput line fault) reads told once = record {
       lack = refuses (read.BadInput line fault) told reads;
       faults = record { opens = reads_only.open_faults ∙ answered; reads = none_or_last before middle now only.read_faults once };

@@ -14,7 +14,7 @@ use Rattle.osm_job.specs.Cause.{by_itself, cause_of}
 use Rattle.osm_job.specs.InputRead.{HasInput, LacksInput}
 use Rattle.osm_job.specs.Taken.{TookInput}
 use Rattle.osm_job.specs.Texts.{Texts, both}
-use Rattle.osm_job.specs.Whole.{Whole, read_ended, silent, input_limit, longest_line}
+use Rattle.osm_job.specs.Whole.{Whole, ending_of_read, silent, input_limit, longest_line}
 use Rattle.osm_job.specs.Worked.{OverOne, ReadThenWrote, WroteOver}
 
 module _ (law : StreamsAppend) (name : List ℕ) (second : Opened) (IsRight : List Object → Whole → Type 0) (before : Outside) where
@@ -25,7 +25,7 @@ module _ (law : StreamsAppend) (name : List ℕ) (second : Opened) (IsRight : Li
   Does ended now = ReadThenWrote name second IsRight ended before now
 
   refused : (told : Option (List ℕ)) (error : ReadError) → IfSome told (λ bytes. IsReadAs input_limit longest_line bytes (Err error)) →
-      IfSome (both told (Some tt)) (λ texts. Right texts (silent (read_ended error)))
+      IfSome (both told (Some tt)) (λ texts. Right texts (silent (ending_of_read error)))
   refused None error is = tt
   refused (Some bytes) error is = record { read = Err error; is_read = is; after = refl }
 

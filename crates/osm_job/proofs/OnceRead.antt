@@ -4,7 +4,7 @@ use Rattle.std.proofs.Common.{length, map, take, append-nil, length-append, arit
 use Rattle.std.proofs.lemmas.List.{length-map, take_all, take-append-le}
 use Rattle.osm_host.specs.Laws.{StreamsAppend}
 use Rattle.osm_host.specs.Outside.{Outside, Opened, input, appended, risen, OnlyOpens}
-use Rattle.osm_input.specs.Keeps.{Keeps}
+use Rattle.osm_input.specs.Keeps.{KeepsNames}
 use Rattle.osm_job.proofs.Keeping.{keeps_both, open_keeps, write_keeps}
 use Rattle.osm_job.specs.declared.ended.Ended.{Ended}
 use Rattle.osm_job.specs.declared.ended.Ended.TheVariants.{Done, Warnings, Errors, Stopped, BadWords, BadInput, TooMuchInput, TooManyPieces, Refuted, BadPoint}
@@ -142,7 +142,7 @@ module _ (law : StreamsAppend) (inputs : List (List ℕ)) (output : Opened) (IsR
   abbrev Did : Ended → Outside → Type 0
   Did ended last = Worked inputs (output ∷ []) IsRight TookAll ended before last
 
-  opened_keeps : Keeps before opened
+  opened_keeps : KeepsNames before opened
   opened_keeps = keeps_both before now opened has.silent.keeps (open_keeps now opened opens_only (ap (λ (o : Option (List ℕ)). is_some o) still_left) rises)
 
   all_opens : (last : Outside) → last.opens ≡ appended now.opens (output ∷ []) → last.opens ≡ appended before.opens (opens_of inputs (output ∷ []))

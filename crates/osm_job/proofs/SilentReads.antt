@@ -1,7 +1,7 @@
 -- Calls that write nothing, one behind the other, and which of their reads failed.
 use Rattle.std.proofs.Common.{◌≡◌, ◌∙◌, ap, ◌≤◌, is_some, inl, inr}
 use Rattle.osm_host.specs.Outside.{Outside, risen, OnlyOpens, OnlyReads}
-use Rattle.osm_input.specs.Keeps.{Keeps}
+use Rattle.osm_input.specs.Keeps.{KeepsNames}
 use Rattle.osm_input.specs.ReadFaults.{LastReadFailed, NoneOrLastReadFailed}
 use Rattle.osm_job.specs.InputRead.{IsSilent}
 use Rattle.osm_job.proofs.Keeping.{keeps_both, open_keeps}
@@ -14,7 +14,7 @@ opening_silent before now only told rises = record {
   keeps = open_keeps before now only told rises;
 }
 
-pub reading_silent : (before now : Outside) → OnlyReads before now → Keeps before now → IsSilent before now
+pub reading_silent : (before now : Outside) → OnlyReads before now → KeepsNames before now → IsSilent before now
 reading_silent before now only keeps = record { out = only.out; report = only.report; write_faults = only.write_faults; keeps = keeps }
 
 module _ (before middle now : Outside) where

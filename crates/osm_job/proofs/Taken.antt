@@ -7,7 +7,7 @@ use Rattle.osm_input.specs.declared.reading.ReadError.TheVariants as read
 use Rattle.osm_input.specs.declared.text.TextError.{TextError}
 use Rattle.osm_input.specs.declared.text.TextError.TheVariants as text_fault
 use Rattle.osm_job.specs.Cause.{Cause, by_itself, by_words, by_input, by_verdict, by_open, by_read, by_write, by_memory}
-use Rattle.osm_input.specs.Reading.{IsAnswer}
+use Rattle.osm_input.specs.Reading.{IsAnswerOfReading}
 use Rattle.osm_input.specs.Text.{IsTextAnswer}
 use Rattle.osm_job.specs.Taken.{TookOff, TookText, IsStopped, TookInput, TookBoth, TookBy}
 use Rattle.osm_job.specs.Whole.{input_limit, longest_line}
@@ -16,8 +16,8 @@ module _ (middle now : Outside) (same : now.left ≡ middle.left) where
   nothing_left : IfSome middle.left (λ left. left ≡ []) → IfSome now.left (λ left. left ≡ [])
   nothing_left ended = subst (λ (o : Option (List ℕ)). IfSome o (λ left. left ≡ [])) (sym same) ended
 
-  answer_kept : (limit longest : ℕ) (taken : List ℕ) (result : Result (List Object) ReadError) → IsAnswer limit longest taken middle result →
-      IsAnswer limit longest taken now result
+  answer_kept : (limit longest : ℕ) (taken : List ℕ) (result : Result (List Object) ReadError) → IsAnswerOfReading limit longest taken middle result →
+      IsAnswerOfReading limit longest taken now result
   answer_kept limit longest taken (Ok objects) answer = (nothing_left answer.0, answer.1)
   answer_kept limit longest taken (Err (read.BadInput line fault)) answer = (
     elim answer.0 [

@@ -3,7 +3,7 @@ use Rattle.std.proofs.Common.{◌≡◌, ◌∙◌, sym, ap, subst, ℕ, ◌≤�
 use Rattle.osm_host.specs.Outside.{Outside, input, appended, grown, risen, OnlyOpens, OnlyReads}
 use Rattle.osm_input.specs.declared.text.TextError.{TextError}
 use Rattle.osm_input.specs.declared.text.TextError.TheVariants as text_fault
-use Rattle.osm_input.specs.Keeps.{Keeps}
+use Rattle.osm_input.specs.Keeps.{KeepsNames}
 use Rattle.osm_input.specs.Text.{IsTextAs, IsTextOf, ReadsText, TookWhole, ReadsTextOnce}
 use Rattle.osm_job.specs.declared.ended.Ended.TheVariants.{OpenFault}
 use Rattle.osm_job.specs.InputRead.{IsSilent, OpensOne}
@@ -28,7 +28,7 @@ module _ (name : List ℕ) (before middle : Outside) (only : OnlyOpens before mi
 
   module _ (listed : middle.opens ≡ appended before.opens (input name ∷ [])) (begins : middle.left ≡ before.named name) (none_read : middle.bytes_read ≡ 0)
       (answered : middle.open_faults ≡ before.open_faults)
-      (now : Outside) (reads_only : OnlyReads middle now) (read_keeps : Keeps middle now) where
+      (now : Outside) (reads_only : OnlyReads middle now) (read_keeps : KeepsNames middle now) where
     silent_since : IsSilent before now
     silent_since = silent_both before middle now opened (reading_silent middle now reads_only read_keeps)
 

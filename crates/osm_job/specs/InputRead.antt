@@ -6,7 +6,7 @@ use Rattle.opl_reader.specs.declared.object.Object.{Object}
 use Rattle.osm_host.specs.Outside.{Outside, input, appended}
 use Rattle.osm_input.specs.declared.reading.ReadError.{ReadError}
 use Rattle.osm_input.specs.declared.reading.ReadError.TheVariants as read
-use Rattle.osm_input.specs.Keeps.{Keeps}
+use Rattle.osm_input.specs.Keeps.{KeepsNames}
 use Rattle.osm_input.specs.declared.text.TextError.TheVariants as text_fault
 use Rattle.osm_input.specs.Reading.{IsReadAs}
 use Rattle.osm_input.specs.Text.{IsTextAs}
@@ -14,7 +14,7 @@ use Rattle.osm_job.specs.declared.ended.Ended.{Ended}
 use Rattle.osm_job.specs.declared.ended.Ended.TheVariants.{Done, Warnings, Errors, Stopped, BadWords, BadInput, TooMuchInput, TooManyPieces, Refuted, BadPoint}
 use Rattle.osm_job.specs.declared.ended.Ended.TheVariants.{OpenFault, ReadFault, WriteFault, OutOfMemory}
 use Rattle.osm_job.specs.Faults.{CountsFaults}
-use Rattle.osm_job.specs.Taken.{TookOff, TookText, IsFileStopped, IsReadable, IsTextStopped}
+use Rattle.osm_job.specs.Taken.{TookOff, TookText, IsFileStopped, IsReadableInput, IsTextStopped}
 use Rattle.osm_job.specs.Whole.{input_limit, longest_line}
 
 -- Nothing was written, and no write failed.
@@ -22,7 +22,7 @@ pub record IsSilent (before now : Outside) : Type 0 where
   pub out : now.out ≡ before.out
   pub report : now.report ≡ before.report
   pub write_faults : now.write_faults ≡ before.write_faults
-  pub keeps : Keeps before now
+  pub keeps : KeepsNames before now
 
 -- The input of this name alone was opened.
 abbrev pub OpensOne : List ℕ → Outside → Outside → Type 0
@@ -38,7 +38,7 @@ pub record HasInput (name : List ℕ) (objects : List Object) (before now : Outs
   pub silent : IsSilent before now
 
 -- The input is refused for what it holds, as what was taken off it shows.
-pub record Refuses (name : List ℕ) (error : ReadError) (before now : Outside) : Type 0 where
+pub record RefusesInput (name : List ℕ) (error : ReadError) (before now : Outside) : Type 0 where
   pub right : IfSome (before.named name) (λ bytes. IsReadAs input_limit longest_line bytes (Err error))
   pub stopped : IsFileStopped name error before now
   pub opens : OpensOne name before now
@@ -50,8 +50,8 @@ IsLack name Warnings before now = ⊥
 IsLack name Errors before now = ⊥
 IsLack name (Stopped candidate) before now = ⊥
 IsLack name (BadWords cause) before now = ⊥
-IsLack name (BadInput line fault) before now = Refuses name (read.BadInput line fault) before now
-IsLack name (TooMuchInput limit) before now = Refuses name (read.TooMuchInput limit) before now
+IsLack name (BadInput line fault) before now = RefusesInput name (read.BadInput line fault) before now
+IsLack name (TooMuchInput limit) before now = RefusesInput name (read.TooMuchInput limit) before now
 IsLack name (TooManyPieces most) before now = ⊥
 IsLack name (Refuted line) before now = ⊥
 IsLack name (BadPoint line) before now = ⊥
@@ -111,7 +111,7 @@ IsTextLack file text OutOfMemory before now = OpensBoth file text before now
 
 -- The input is read, and there is no text of this name: it isn't opened, isn't read, or has too many bytes.
 pub record LacksText (file text : List ℕ) (ended : Ended) (before now : Outside) : Type 0 where
-  pub readable : IsReadable file before
+  pub readable : IsReadableInput file before
   pub lack : IsTextLack file text ended before now
   pub faults : CountsFaults ended before now
   pub silent : IsSilent before now

@@ -4,7 +4,7 @@ use Rattle.opl_reader.specs.declared.object.Object.{Object}
 use Rattle.osm_host.specs.Outside.{Outside, input, appended, preceded, grown}
 use Rattle.osm_input.specs.declared.reading.ReadError.{ReadError}
 use Rattle.osm_input.specs.declared.reading.ReadError.TheVariants as read
-use Rattle.osm_input.specs.Reading.{IsAnswer, IsReadAs}
+use Rattle.osm_input.specs.Reading.{IsAnswerOfReading, IsReadAs}
 use Rattle.osm_input.specs.declared.text.TextError.{TextError}
 use Rattle.osm_input.specs.declared.text.TextError.TheVariants as text_fault
 use Rattle.osm_input.specs.Text.{IsTextAnswer}
@@ -19,7 +19,7 @@ pub record TookOff (name : List ℕ) (result : Result (List Object) ReadError) (
   pub taken : List ℕ
   pub left : before.named name ≡ preceded taken after.left
   pub counted : after.bytes_read ≡ grown 0 (length taken)
-  pub answer : IsAnswer input_limit longest_line taken after result
+  pub answer : IsAnswerOfReading input_limit longest_line taken after result
 
 -- As TookOff, for an input that is read as one text.
 pub record TookText (name : List ℕ) (result : Result (List ℕ) TextError) (before after : Outside) : Type 0 where
@@ -36,14 +36,14 @@ IsFileStopped file error before after =
     TookOff file (Err error) before after × (after.opens ≡ appended before.opens (input file ∷ []))
 
 -- The input of this name tells objects, where the host tells it.
-abbrev pub IsReadable : List ℕ → Outside → Type 0
-IsReadable file before = (objects : List Object) × IfSome (before.named file) (λ bytes. IsReadAs input_limit longest_line bytes (Ok objects))
+abbrev pub IsReadableInput : List ℕ → Outside → Type 0
+IsReadableInput file before = (objects : List Object) × IfSome (before.named file) (λ bytes. IsReadAs input_limit longest_line bytes (Ok objects))
 
 -- Where a second input stands behind it, the first of these tells objects.
 abbrev pub IsFirstRead : List (List ℕ) → Outside → Type 0
 IsFirstRead [] before = Unit {0}
 IsFirstRead (file ∷ []) before = Unit {0}
-IsFirstRead (file ∷ text ∷ more) before = IsReadable file before
+IsFirstRead (file ∷ text ∷ more) before = IsReadableInput file before
 
 -- the error of a reader of a text that ends a run as this one does
 abbrev pub text_error : ReadError → Option TextError
@@ -55,7 +55,7 @@ text_error read.OutOfMemory = Some text_fault.OutOfMemory
 -- The first input is read, and what was taken off the text, opened behind it, doesn't let that be read.
 abbrev pub IsTextStopped : List ℕ → List ℕ → ReadError → Outside → Outside → Type 0
 IsTextStopped file text error before after =
-    IsReadable file before × (found : TextError) × (text_error error ≡ Some found) × TookText text (Err found) before after
+    IsReadableInput file before × (found : TextError) × (text_error error ≡ Some found) × TookText text (Err found) before after
     × (after.opens ≡ appended before.opens (input file ∷ input text ∷ []))
 
 -- What was taken off one of the inputs, the last that was opened, doesn't let it be read. The first of them tells objects,
@@ -73,7 +73,7 @@ TookInput name before after = (objects : List Object) × TookOff name (Ok object
 
 -- A job's input of objects is read, and then its text was taken to its end.
 abbrev pub TookBoth : List ℕ → List ℕ → Outside → Outside → Type 0
-TookBoth file text before after = IsReadable file before × (bytes : List ℕ) × TookText text (Ok bytes) before after
+TookBoth file text before after = IsReadableInput file before × (bytes : List ℕ) × TookText text (Ok bytes) before after
 
 -- Nothing was taken off any input.
 pub record TookNothing (before after : Outside) : Type 0 where

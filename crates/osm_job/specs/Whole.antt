@@ -29,21 +29,21 @@ abbrev pub silent : Ended → Whole
 silent ended = record { written = []; ended = ended }
 
 -- how a run ends whose input isn't read
-abbrev pub read_ended : ReadError → Ended
-read_ended (BadInput line fault) = ended.BadInput line fault
-read_ended (TooMuchInput limit) = ended.TooMuchInput limit
-read_ended ReadFault = ended.ReadFault
-read_ended OutOfMemory = ended.OutOfMemory
+abbrev pub ending_of_read : ReadError → Ended
+ending_of_read (BadInput line fault) = ended.BadInput line fault
+ending_of_read (TooMuchInput limit) = ended.TooMuchInput limit
+ending_of_read ReadFault = ended.ReadFault
+ending_of_read OutOfMemory = ended.OutOfMemory
 
-abbrev pub IsAfter : (List Object → Whole → Type 0) → Result (List Object) ReadError → Whole → Type 0
-IsAfter IsRight (Ok objects) whole = IsRight objects whole
-IsAfter IsRight (Err error) whole = whole ≡ silent (read_ended error)
+abbrev pub IsRightAfterReading : (List Object → Whole → Type 0) → Result (List Object) ReadError → Whole → Type 0
+IsRightAfterReading IsRight (Ok objects) whole = IsRight objects whole
+IsRightAfterReading IsRight (Err error) whole = whole ≡ silent (ending_of_read error)
 
 -- What is right over the bytes of an input, from what is right over its objects.
 pub record IsReadThen (IsRight : List Object → Whole → Type 0) (bytes : List ℕ) (whole : Whole) : Type 0 where
   pub read : Result (List Object) ReadError
   pub is_read : IsReadAs input_limit longest_line bytes read
-  pub after : IsAfter IsRight read whole
+  pub after : IsRightAfterReading IsRight read whole
 
 -- ---- an input that is read as one text
 

@@ -2,7 +2,7 @@
 use Rattle.std.specs.Prelude.{◌≡◌, ℕ, List, [], ◌∷◌, IfSome}
 use Rattle.opl_reader.specs.declared.object.Object.{Object}
 use Rattle.osm_host.specs.Outside.{Outside, Opened, appended}
-use Rattle.osm_input.specs.Keeps.{Keeps}
+use Rattle.osm_input.specs.Keeps.{KeepsNames}
 use Rattle.osm_job.specs.declared.ended.Ended.{Ended}
 use Rattle.osm_job.specs.Cause.{Cause, by_itself, by_words, by_input, by_verdict, by_open, by_read, by_write, by_memory, cause_of}
 use Rattle.osm_job.specs.Faults.{CountsFaults, writes_failed}
@@ -33,7 +33,7 @@ pub record Worked (inputs : List (List ℕ)) (outputs : List Opened) (IsRight : 
   pub opens : OpensBy inputs outputs (IsReady inputs IsRight TookAll) (cause_of ended) before after
   pub faults : CountsFaults ended before after
   pub write_faults : after.write_faults ≡ writes_failed (cause_of ended) before.write_faults
-  pub keeps : Keeps before after
+  pub keeps : KeepsNames before after
 
 -- ---- one input, then one output
 

@@ -3,7 +3,7 @@
 ghost use Rattle.std.specs.Prelude.{◌≡◌};
 ghost use Rattle.osm_job.specs.InputRead.{ReadsBoth, ReadsInput};
 ghost use Rattle.osm_job.specs.TextRead.{ReadsContent, content_seen};
-ghost use Rattle.osm_job.specs.Whole.{read_ended, text_ended};
+ghost use Rattle.osm_job.specs.Whole.{ending_of_read, text_ended};
 
 use crate::ended::Ended;
 use osm_host::{Host, streams_append};
@@ -26,7 +26,7 @@ pub fn read_input<H: Host>(alloc: Global, host: &mut H, name: &str) -> Result<St
     };
     match read_all(alloc, host, INPUT_LIMIT, LONGEST_LINE) {
         Ok(store) => Ok(store),
-        Err(error) => Err(read_ended(error)),
+        Err(error) => Err(ending_of_read(error)),
     }
 }
 
@@ -65,8 +65,8 @@ fn read_content<H: Host>(alloc: Global, host: &mut H, name: &str) -> Result<Vec<
 }
 
 /// How a run ends whose input isn't read.
-fn read_ended(error: ReadError) -> Ended
-    ensures { result ≡ read_ended error }
+fn ending_of_read(error: ReadError) -> Ended
+    ensures { result ≡ ending_of_read error }
 {
     match error {
         ReadError::BadInput { line, fault } => Ended::BadInput { line, fault },

@@ -4,7 +4,7 @@ use Rattle.std.specs.declared.cmp.Ordering.{Ordering}
 use Rattle.std.specs.declared.cmp.Ordering.TheVariants.{Less, Equal, Greater}
 use Rattle.std.specs.Ordering.{is_eq}
 use Rattle.plane.specs.Conflict.{IsClearOf, crosses}
-use Rattle.plane.specs.Edge.{Edge, IsRising, ends_at}
+use Rattle.plane.specs.Edge.{Edge, IsRisingEdge, ends_at}
 use Rattle.plane.specs.Scale.{scaled_edge, scaled_point}
 use Rattle.plane.specs.Sign.{Plus, sign}
 use Rattle.plane.specs.Vector.{Vector, same_point}
@@ -35,7 +35,7 @@ den_plus x y = sign-* (pos x.den) (pos y.den) ∙ ap (λ s. times s (sign (pos y
 abbrev pub multiplied : Frac → Frac → Seg → Edge
 multiplied x y s = scaled_edge (common_den x y) (edge_of s)
 
-pub multiplied_rising : (s : Seg) (x y : Frac) → IsRising (multiplied x y s)
+pub multiplied_rising : (s : Seg) (x y : Frac) → IsRisingEdge (multiplied x y s)
 multiplied_rising s x y = order-scaled (common_den x y) (den_plus x y) (vector_of s.a) (vector_of s.b) ∙ rising_edge s
 
 spread_x : (n a e f : ℤ) → n ≡ a *ℤ e → n *ℤ f ≡ (e *ℤ f) *ℤ a

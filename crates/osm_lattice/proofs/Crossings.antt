@@ -1,7 +1,7 @@
 -- Where two segments cross, the ends of each are not on one side of the line of the other.
 use Rattle.std.proofs.Common.{◌≡◌, Bool, true, not, refl, sym, ap, ◌∙◌, subst}
 use Rattle.plane.specs.Conflict.{crosses}
-use Rattle.plane.specs.Edge.{Edge, IsRising}
+use Rattle.plane.specs.Edge.{Edge, IsRisingEdge}
 use Rattle.plane.specs.Order.{order}
 use Rattle.plane.specs.Sign.{Sign, Null, Plus, is_null, sign}
 use Rattle.plane.specs.Vector.{cross, dot, from_to, orient}
@@ -66,7 +66,7 @@ sides_signs a b c d us vs ut vt h k m n l1 l2 h1 h2 h3 h4 h5 h6 h7 h8 h9 h10 h11
     imp-out _ _ (imp-out _ _ (imp-out _ _ (imp-out _ _ (imp-out _ _ (imp-out _ _ (imp-out _ _ g2 h5) h6) h7) h8) h9) h10) h11
 
 -- the ends of s are not on one side of t
-pub sides_differ : (s t : Edge) → IsRising s → IsRising t → crosses s t ≡ true → not (same_sign (orient t.from t.to s.from) (orient t.from t.to s.to)) ≡ true
+pub sides_differ : (s t : Edge) → IsRisingEdge s → IsRisingEdge t → crosses s t ≡ true → not (same_sign (orient t.from t.to s.from) (orient t.from t.to s.to)) ≡ true
 sides_differ s t hs ht h =
     let p = s.from in let q = s.to in let u = t.from in let v = t.to in let st = from_to p q in
     let dir = rising-direction p q hs in
@@ -96,5 +96,5 @@ sides_differ s t hs ht h =
     (sym (crosses-by s t) ∙ h)
 
 -- and those of t not on one side of s
-pub sides_differ_back : (s t : Edge) → IsRising s → IsRising t → crosses s t ≡ true → not (same_sign (orient s.from s.to t.from) (orient s.from s.to t.to)) ≡ true
+pub sides_differ_back : (s t : Edge) → IsRisingEdge s → IsRisingEdge t → crosses s t ≡ true → not (same_sign (orient s.from s.to t.from) (orient s.from s.to t.to)) ≡ true
 sides_differ_back s t hs ht h = sides_differ t s ht hs (crosses_reversed s t ∙ h)

@@ -7,7 +7,7 @@ use Rattle.std.proofs.lemmas.Int.{ints}
 use Rattle.std.proofs.lemmas.Cmp.{int_cmp_total, then_total, on_total}
 use Rattle.plane.specs.Sign.{Sign, Plus, Null, Minus, sign, then_sign, is_minus, is_null, is_plus}
 use Rattle.plane.specs.Order.{order}
-use Rattle.plane.specs.Edge.{IsRising}
+use Rattle.plane.specs.Edge.{IsRisingEdge}
 use Rattle.plane.proofs.SignKit.{Says, says}
 use Rattle.osm_lattice.specs.declared.loc.Loc.{Loc}
 use Rattle.osm_lattice.specs.declared.seg.Seg.{Seg}
@@ -73,5 +73,5 @@ less-plus Null h = cc
 less-plus Minus h = cc
 
 -- a segment's edge runs from its lesser end
-pub rising_edge : (s : Seg) → IsRising (edge_of s)
+pub rising_edge : (s : Seg) → IsRisingEdge (edge_of s)
 rising_edge s = less-plus (order (vector_of s.a) (vector_of s.b)) (sym (loc_cmp-is s.a s.b) ∙ s.rising)

@@ -7,7 +7,7 @@ use Rattle.std.proofs.lemmas.Int.{ints, unsigned_abs-mul}
 use Prim.Native.Nat.{◌∣◌}
 use mathlib.Core.HLevel.{is_prop→PathP}
 use Rattle.osm_lattice.specs.declared.frac.Frac.{Frac}
-use Rattle.osm_lattice.specs.Lowest.{IsLowest}
+use Rattle.osm_lattice.specs.Lowest.{IsInLowestTerms}
 use Rattle.osm_lattice.proofs.Divisors.{remainder_below}
 use Rattle.osm_lattice.proofs.Factors.{cancel_factor, some}
 
@@ -41,7 +41,7 @@ same_den n d n' d' free free' e =
     (divides n d d' free (subst (λ k. d ∣ k) (sym e) (dvd-mul_left d n')))
     (divides n' d' d free' (subst (λ k. d' ∣ k) e (dvd-mul_left d' n)))
 
-pub lowest_prop : (z : ℤ) (n : ℕ) → IsProp (IsLowest z n)
+pub lowest_prop : (z : ℤ) (n : ℕ) → IsProp (IsInLowestTerms z n)
 lowest_prop z n = hlevel props
 
 frac_from_parts : (f g : Frac) → f.num ≡ g.num → f.den ≡ g.den → f ≡ g
@@ -49,7 +49,7 @@ frac_from_parts f g en ed = λ i. record {
   num = en i;
   den = ed i;
   den_in = is_prop→PathP (λ j. 1 ≤ ed j) (λ j. den_prop (ed j)) f.den_in g.den_in i;
-  lowest = is_prop→PathP (λ j. IsLowest (en j) (ed j)) (λ j. lowest_prop (en j) (ed j)) f.lowest g.lowest i;
+  lowest = is_prop→PathP (λ j. IsInLowestTerms (en j) (ed j)) (λ j. lowest_prop (en j) (ed j)) f.lowest g.lowest i;
 }
   where
     den_prop : (n : ℕ) → IsProp (1 ≤ n)

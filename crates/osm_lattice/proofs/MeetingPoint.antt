@@ -1,7 +1,7 @@
 -- The point so far along a segment lies on it, and is the only one on two segments that are not parallel.
 use Rattle.std.proofs.Common.{◌≡◌, ◌≢◌, ℕ, zero, suc, ◌-◌, ◌≤◌, ℤ, pos, ◌+ℤ◌, ◌-ℤ◌, ◌*ℤ◌, Bool, true, false, refl, sym, ap, ◌∙◌, arith}
 use Rattle.std.proofs.lemmas.Int.{ints}
-use Rattle.plane.specs.Edge.{Edge, IsRising}
+use Rattle.plane.specs.Edge.{Edge, IsRisingEdge}
 use Rattle.plane.specs.RayCrossing.{is_off, off_by}
 use Rattle.plane.specs.Scale.{scaled_point, scaled_edge}
 use Rattle.plane.specs.Sign.{Sign, Null, Plus, Minus, negated, sign}
@@ -96,7 +96,7 @@ behind_by k p q hk =
 abbrev pub point_of : ℤ → ℤ → ℤ → ℤ → Vector
 point_of xn xd yn yd = record { x = xn *ℤ yd; y = yn *ℤ xd }
 
-pub on_segment : (e : Edge) (xn yn : ℤ) (xd yd d w : ℕ) → IsRising e → 1 ≤ xd → 1 ≤ yd → 1 ≤ d → w ≤ d →
+pub on_segment : (e : Edge) (xn yn : ℤ) (xd yd d w : ℕ) → IsRisingEdge e → 1 ≤ xd → 1 ≤ yd → 1 ≤ d → w ≤ d →
     xn *ℤ pos d ≡ (e.from.x *ℤ pos (d - w) +ℤ e.to.x *ℤ pos w) *ℤ pos xd → yn *ℤ pos d ≡ (e.from.y *ℤ pos (d - w) +ℤ e.to.y *ℤ pos w) *ℤ pos yd →
     is_off (point_of xn (pos xd) yn (pos yd)) (scaled_edge (pos xd *ℤ pos yd) e) ≡ false
 on_segment e xn yn xd yd d w rising xs ys ds le hx hy =

@@ -1,7 +1,7 @@
 -- Points on an edge: its ends, and those strictly between them. A point on two edges that don't conflict is an end of both.
 use Rattle.std.proofs.Common.{◌≡◌, Bool, true, false, not, ◌||◌, refl, sym, ap, ◌∙◌, pos}
 use Rattle.plane.specs.Conflict.{IsClearOf}
-use Rattle.plane.specs.Edge.{Edge, IsRising, ends_at}
+use Rattle.plane.specs.Edge.{Edge, IsRisingEdge, ends_at}
 use Rattle.plane.specs.FreeSegment.{IsBetween}
 use Rattle.plane.specs.Order.{order}
 use Rattle.plane.specs.RayCrossing.{is_off, off_by}
@@ -35,7 +35,7 @@ on_where p e line after before =
     rw (flat, line-order p a p b flat) (on_signs (order p a) (order p b) after before)
 
 -- a point on an edge that is none of its ends
-pub between_where : (p : Vector) (e : Edge) → IsRising e → is_off p e ≡ false → same_point p e.from ≡ false → same_point p e.to ≡ false → IsBetween e.from e.to p
+pub between_where : (p : Vector) (e : Edge) → IsRisingEdge e → is_off p e ≡ false → same_point p e.from ≡ false → same_point p e.to ≡ false → IsBetween e.from e.to p
 between_where p e rising on not_from not_to =
     let a = e.from in let b = e.to in let d = from_to a b in
     let flat = off_by-no (sign (cross (from_to p a) (from_to p b))) (sign (dot (from_to p a) (from_to p b))) on in
@@ -51,7 +51,7 @@ between_where p e rising on not_from not_to =
     }
 
 -- a point on two edges that don't conflict is an end of the first
-pub ends_where : (p : Vector) (s t : Edge) → IsRising s → IsRising t → IsClearOf s t → is_off p s ≡ false → is_off p t ≡ false → ends_at p s ≡ true
+pub ends_where : (p : Vector) (s t : Edge) → IsRisingEdge s → IsRisingEdge t → IsClearOf s t → is_off p s ≡ false → is_off p t ≡ false → ends_at p s ≡ true
 ends_where p s t rising_s rising_t clear on_s on_t = ends_by (same_point p s.from) (same_point p s.to) refl refl
   where
     ends_by : (b c : Bool) → same_point p s.from ≡ b → same_point p s.to ≡ c → (b || c) ≡ true

@@ -1,7 +1,7 @@
 -- Two edges with a common end don't cross.
 use Rattle.std.proofs.Common.{◌≡◌, Bool, true, false, not, ◌||◌, refl, sym, ap, ◌∙◌, subst}
 use Rattle.plane.specs.Conflict.{crosses}
-use Rattle.plane.specs.Edge.{Edge, IsRising, ends_at}
+use Rattle.plane.specs.Edge.{Edge, IsRisingEdge, ends_at}
 use Rattle.plane.specs.Order.{order}
 use Rattle.plane.specs.Sign.{Sign, Null, Plus, Minus, negated, sign}
 use Rattle.plane.specs.Vector.{Vector, from_to, orient, same_point}
@@ -62,6 +62,6 @@ shared_by p q u v w hs ht true c false false eb ec ex ey h k = absurd (cc k)
 shared_by p q u v w hs ht false true false false eb ec ex ey h k = absurd (cc k)
 shared_by p q u v w hs ht false false x y eb ec ex ey h k = absurd (cc h)
 
-pub no_crossing_where_shared : (w : Vector) (s t : Edge) → IsRising s → IsRising t → ends_at w s ≡ true → ends_at w t ≡ true → crosses s t ≡ false
+pub no_crossing_where_shared : (w : Vector) (s t : Edge) → IsRisingEdge s → IsRisingEdge t → ends_at w s ≡ true → ends_at w t ≡ true → crosses s t ≡ false
 no_crossing_where_shared w s t hs ht h k =
     shared_by s.from s.to t.from t.to w hs ht (same_point w s.from) (same_point w s.to) (same_point w t.from) (same_point w t.to) refl refl refl refl h k

@@ -2,7 +2,7 @@
 ghost use Rattle.std.specs.Prelude.{◌≡◌, ◌*◌, ◌*ℤ◌, ◌≤◌, ◌<◌, pos, unsigned_abs};
 ghost use Rattle.std.specs.Int.{IsGcd};
 ghost use Rattle.osm_lattice.specs.Frac.{rounded};
-ghost use Rattle.osm_lattice.specs.Lowest.{IsLowest};
+ghost use Rattle.osm_lattice.specs.Lowest.{IsInLowestTerms};
 
 /// The fraction `num / den`, in lowest terms, so that equal fractions have equal fields.
 #[derive(Clone, Copy, Debug, PartialEq, Eq)]
@@ -10,7 +10,7 @@ pub struct Frac {
     pub num: i128,
     pub den: u64,
     pub ghost den_in: { 1 ≤ den },
-    pub ghost lowest: { IsLowest num den },
+    pub ghost lowest: { IsInLowestTerms num den },
 }
 
 /// The greatest common divisor.

@@ -5,7 +5,7 @@ use Rattle.std.proofs.lemmas.List.{map-append}
 use Rattle.nesting.specs.Cover.{covers}
 use Rattle.nesting.specs.Nesting.{edges_of}
 use Rattle.nesting.specs.Polygon as nesting
-use Rattle.nesting.specs.Polygon.{ArePolygons, IsPolygon, polygon_edges}
+use Rattle.nesting.specs.Polygon.{ArePolygonsOfRings, IsPolygon, polygon_edges}
 use Rattle.nesting.specs.Walk.{HasSameEdges}
 use Rattle.nesting.proofs.NestingKit.{odd-bit, total-edges, sided_same, polygons_cover_at_fractions, polygon_sided}
 use Rattle.plane.specs.Bit.{bit}
@@ -28,7 +28,7 @@ use Rattle.osm_nest.specs.Polygons.{edges_in, polygon_times, rings_in, rings_of}
 use Rattle.osm_nest.specs.RingLists.{AreRings, all_edges, whole_rings}
 use Rattle.lists.specs.Rotated.{IsRotated}
 use Prim.Native.Nat.{◌∣◌}
-use Rattle.plane_edges.specs.Multiple.{IsCommon, IsWholeAt, common_den, edge_times, edges_times}
+use Rattle.plane_edges.specs.Multiple.{IsCommon, IsWholeAt, edge_times, edges_times, product_of_denominators}
 use Rattle.plane_edges.specs.Sided.{IsSided, count_at}
 use Rattle.plane_edges.proofs.EdgesKit.{common_is_common, count_at_each, sided_at_each}
 
@@ -90,9 +90,9 @@ pub rings-total : (F : List Edge → ℕ) (ps : List Polygon) → total F (rings
 rings-total F [] = refl
 rings-total F (p ∷ ps) = let a = total-++ F (rings_in p) (rings_of ps) in let b = rings-total F ps in omega arith
 
-module _ (rs : List (List Edge)) (are : AreRings rs) (ps bs : List Polygon) (of : ArePolygonsOf rs ps) (begun : ArePolygonsFromLeast ps bs) (whole : All (All (IsWholeAt (common_den (all_edges rs)))) (rings_of bs)) where
+module _ (rs : List (List Edge)) (are : AreRings rs) (ps bs : List Polygon) (of : ArePolygonsOf rs ps) (begun : ArePolygonsFromLeast ps bs) (whole : All (All (IsWholeAt (product_of_denominators (all_edges rs)))) (rings_of bs)) where
   abbrev k : ℕ
-  k = common_den (all_edges rs)
+  k = product_of_denominators (all_edges rs)
 
   some : 1 ≤ k
   some = (common_is_common (all_edges rs)).some
@@ -125,7 +125,7 @@ module _ (rs : List (List Edge)) (are : AreRings rs) (ps bs : List Polygon) (of 
   abbrev planes : List nesting.Polygon
   planes = map (polygon_times k) ps
 
-  pub polygons : ArePolygons (whole_rings rs) planes
+  pub polygons : ArePolygonsOfRings (whole_rings rs) planes
   polygons = record {
     each = λ g i. let m = in-map-out (polygon_times k) ps g i in subst (IsPolygon (whole_rings rs)) (sym m.2) (each m.0 m.1);
     whole = λ f.

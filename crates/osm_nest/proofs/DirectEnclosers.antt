@@ -17,9 +17,9 @@ use Rattle.winding.specs.Ring.{IsAnchor, segments_of}
 use Rattle.winding.proofs.WindingKit.{anchor_one, anchor_span}
 use Rattle.lists.proofs.ListsKit.{at-in, clash, in-at, in-map, in-map-out, map-map}
 use Rattle.osm_geom.specs.declared.edge.Edge.{Edge}
-use Rattle.plane_edges.specs.Multiple.{IsWholeAt, common_den, edge_times, edges_times}
+use Rattle.plane_edges.specs.Multiple.{IsWholeAt, edge_times, edges_times, product_of_denominators}
 use Rattle.osm_nest.specs.declared.enclosers.Encloser.{Encloser}
-use Rattle.osm_nest.specs.Beside.{IsEncloser, IsNearestUpTo, IsSloping, is_around, is_nearer, is_right_of}
+use Rattle.osm_nest.specs.Beside.{IsEncloser, IsNearestUpTo, IsSloping, is_around, is_nearer, is_right_of_lower_end}
 use Rattle.osm_nest.specs.Enclosers.{segments_at}
 use Rattle.osm_nest.specs.Outer.{AreConflictFree, IsAnchorOf, IsInner, IsOuter}
 use Rattle.osm_nest.specs.RingLists.{AreRings, all_edges, whole_rings}
@@ -31,7 +31,7 @@ use Rattle.osm_nest.proofs.Nearest.{nearer-either}
 
 module _ (rs : List (List Edge)) (are : AreRings rs) where
   abbrev K : ℕ
-  K = common_den (all_edges rs)
+  K = product_of_denominators (all_edges rs)
 
   -- the rings in the multiplied plane
   abbrev pub in_plane : List (List plane.Edge)
@@ -185,7 +185,7 @@ module _ (rs : List (List Edge)) (are : AreRings rs) where
             nearest = λ g i out around s j right.
                 let q = encloser-of g i out around in
                 let f = in-map-out (segment_at K) (ring q.0) s (subst (λ l. In s l) q.2 j) in
-                let r : is_right_of a f.0 ≡ true = right-at K a f.0 whole-a (whole-in q.0 q.1 f.0 f.1) ∙ subst (λ t. is_right_above (segment_at K a).from (segment_at K a) t ≡ true) f.2 right in
+                let r : is_right_of_lower_end a f.0 ≡ true = right-at K a f.0 whole-a (whole-in q.0 q.1 f.0 f.1) ∙ subst (λ t. is_right_above (segment_at K a).from (segment_at K a) t ≡ true) f.2 right in
                 subst (λ t. (t ≡ segment_at K c.edge) ⊎ (is_plus (order_above (segment_at K a).from (segment_at K c.edge) t) ≡ true)) (sym f.2)
                 (nearest-by c f.0 (whole-in k hk c.edge m.member) (whole-in q.0 q.1 f.0 f.1) (nearer-either K a f.0 c.edge whole-a (whole-in q.0 q.1 f.0 f.1) (whole-in k hk c.edge m.member) (edges_of nest) (nest-plain in_plane listed) (in-all-edges q.0 q.1 f.0 f.1) (in-all-edges k hk c.edge m.member) r m.right (best.nearest q.0 q.1 q.3 f.0 f.1 r)));
           }

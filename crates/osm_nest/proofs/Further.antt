@@ -4,7 +4,7 @@ use Prim.Native.Nat.{◌∣◌}
 use Rattle.std.proofs.Math.Nat.{mul_comm, mul_left_comm}
 use Rattle.plane.specs.Conflict.{IsClearOf}
 use Rattle.plane.specs.Edge as plane
-use Rattle.plane.specs.Edge.{IsRising, segment_of}
+use Rattle.plane.specs.Edge.{IsRisingEdge, segment_of}
 use Rattle.plane.specs.Order.{order}
 use Rattle.plane.specs.Scale.{scaled_edge, scaled_point}
 use Rattle.plane.specs.Sign.{Minus, Plus, is_plus, sign}
@@ -18,7 +18,7 @@ use Rattle.winding.proofs.WindingKit.{rising_in, direct-by, others-scaled, plain
 use Rattle.lists.proofs.ListsKit.{all-in, in-all, in-left, in-map, in-map-out, in-right, map-map, map-same}
 use Rattle.osm_geom.specs.declared.edge.Edge.{Edge}
 use Rattle.osm_geom.specs.Point.{den_of}
-use Rattle.plane_edges.specs.Multiple.{IsCommon, IsWholeAt, common_den, edge_times, edges_times}
+use Rattle.plane_edges.specs.Multiple.{IsCommon, IsWholeAt, edge_times, edges_times, product_of_denominators}
 use Rattle.plane_edges.proofs.EdgesKit.{common_is_common, sign-some, times_further}
 use Rattle.osm_nest.specs.RingLists.{all_edges}
 use Rattle.osm_nest.proofs.InPlane.{common-append, segment_at, segments_times, whole-at}
@@ -37,7 +37,7 @@ module _ (k : ℤ) (hk : sign k ≡ Plus) where
 
   plain-back : (es : List plane.Edge) → IsConflictFree (scaled_edges k es) → IsConflictFree es
   plain-back es p = record {
-    rising = all-in IsRising es (λ s i. sym (order-scaled k hk s.from s.to) ∙ rising_in (scaled_edges k es) (scaled_edge k s) p (in-map (scaled_edge k) es s i));
+    rising = all-in IsRisingEdge es (λ s i. sym (order-scaled k hk s.from s.to) ∙ rising_in (scaled_edges k es) (scaled_edge k s) p (in-map (scaled_edge k) es s i));
     clear = pairs-back es p.clear;
   }
 
@@ -84,7 +84,7 @@ module _ (d m : ℕ) (some : 1 ≤ m) where
 
 module _ (es : List Edge) (m : ℕ) (some : 1 ≤ m) where
   abbrev d : ℕ
-  d = common_den es
+  d = product_of_denominators es
 
   list-further : segments_times (d * m) es ≡ scaled_edges (pos m) (segments_times d es)
   list-further = further d m some es (common_is_common es)
@@ -110,22 +110,22 @@ pub factor-some : (k d m : ℕ) → 1 ≤ k → k ≡ d * m → 1 ≤ m
 factor-some k d zero h e = let z : d * 0 ≡ 0 = omega arith in absurd (omega arith)
 factor-some k d (suc m) h e = omega arith
 
-part-by : (rs : List (List Edge)) (r : List Edge) → In r rs → (m : ℕ) × (common_den (all_edges rs) ≡ common_den r * m)
+part-by : (rs : List (List Edge)) (r : List Edge) → In r rs → (m : ℕ) × (product_of_denominators (all_edges rs) ≡ product_of_denominators r * m)
 part-by [] r i = absurd i
-part-by (x ∷ xs) r (inl e) = (common_den (all_edges xs), common-append x (all_edges xs) ∙ ap (λ (y : List Edge). common_den y * common_den (all_edges xs)) (sym e))
+part-by (x ∷ xs) r (inl e) = (product_of_denominators (all_edges xs), common-append x (all_edges xs) ∙ ap (λ (y : List Edge). product_of_denominators y * product_of_denominators (all_edges xs)) (sym e))
 part-by (x ∷ xs) r (inr i) =
     let q = part-by xs r i in
-    (common_den x * q.0, common-append x (all_edges xs) ∙ ap (λ n. common_den x * n) q.1 ∙ mul_left_comm (common_den x) (common_den r) q.0)
+    (product_of_denominators x * q.0, common-append x (all_edges xs) ∙ ap (λ n. product_of_denominators x * n) q.1 ∙ mul_left_comm (product_of_denominators x) (product_of_denominators r) q.0)
 
-pub part : (rs : List (List Edge)) (r : List Edge) → In r rs → (m : ℕ) × (1 ≤ m) × (common_den (all_edges rs) ≡ common_den r * m)
-part rs r i = let q = part-by rs r i in (q.0, factor-some (common_den (all_edges rs)) (common_den r) q.0 (common_is_common (all_edges rs)).some q.1, q.1)
+pub part : (rs : List (List Edge)) (r : List Edge) → In r rs → (m : ℕ) × (1 ≤ m) × (product_of_denominators (all_edges rs) ≡ product_of_denominators r * m)
+part rs r i = let q = part-by rs r i in (q.0, factor-some (product_of_denominators (all_edges rs)) (product_of_denominators r) q.0 (common_is_common (all_edges rs)).some q.1, q.1)
 
 -- with one edge more
-pub one-more : (a : Edge) (es : List Edge) → (m : ℕ) × (1 ≤ m) × (common_den (a ∷ es) ≡ common_den es * m)
+pub one-more : (a : Edge) (es : List Edge) → (m : ℕ) × (1 ≤ m) × (product_of_denominators (a ∷ es) ≡ product_of_denominators es * m)
 one-more a es =
     let m = den_of a.from * den_of a.to in
-    let e = mul_comm m (common_den es) in
-    (m, factor-some (common_den (a ∷ es)) (common_den es) m (common_is_common (a ∷ es)).some e, e)
+    let e = mul_comm m (product_of_denominators es) in
+    (m, factor-some (product_of_denominators (a ∷ es)) (product_of_denominators es) m (common_is_common (a ∷ es)).some e, e)
 
 -- an edge of a ring is one of all edges
 pub all-edges-in : (rs : List (List Edge)) (r : List Edge) (e : Edge) → In r rs → In e r → In e (all_edges rs)

@@ -18,7 +18,7 @@ use Rattle.osm_nest.specs.declared.polygon.Polygon.{Polygon}
 use Rattle.osm_nest.specs.Cover.{AreSided, CoverAsRings}
 use Rattle.osm_nest.specs.Grouped.{AreSortedFromLeast, ArePlaced, AreWithin, IsFromLeastAt, polygons_of, has_encloser, has_no_encloser, polygon_at, stands_first, stands_under}
 use Rattle.osm_nest.specs.Enclosers.{AreDirectEnclosers, IsDirectEncloser, segments_at}
-use Rattle.osm_nest.specs.Nested.{AreFromLeast, AreInOrder, AreNested, ArePolygonsFromLeast, ArePolygonsOf, HasKinds, IsBefore}
+use Rattle.osm_nest.specs.Nested.{AreFromLeast, AreInOrder, AreNested, ArePolygonsFromLeast, ArePolygonsOf, BeginsBefore, HasKinds}
 use Rattle.osm_nest.specs.Outer.{IsInner, IsOuter}
 use Rattle.osm_nest.specs.Polygons.{polygon_times, rings_in, rings_of}
 use Rattle.osm_nest.specs.RingLists.{AreRings, all_edges, whole_rings}
@@ -29,7 +29,7 @@ use Rattle.osm_nest.proofs.TurnedAnchors.{runs-turned}
 use Rattle.osm_nest.proofs.BegunPolygons.{cover_begun, rings-total, sided_begun}
 use Rattle.osm_nest.proofs.Listing.{turned_all}
 use Rattle.osm_nest.proofs.Places.{placed, ring-at, rings-apart, stand, sum-all, sum-one}
-use Rattle.plane_edges.specs.Multiple.{IsWholeAt, common_den, edges_times}
+use Rattle.plane_edges.specs.Multiple.{IsWholeAt, edges_times, product_of_denominators}
 
 -- ---- lists
 pairs-map : {X Y : Type 0} (R : Y → Y → Type 0) (f : X → Y) (xs : List X) → AllPairs (λ x y. R (f x) (f y)) xs → AllPairs R (map f xs)
@@ -53,7 +53,7 @@ not-encloser h p n false e = refl
 
 module _ (rs : List (List Edge)) (are : AreRings rs) (enclosers : List (Option ℕ)) (hs : AreDirectEnclosers rs enclosers) where
   abbrev k : ℕ
-  k = common_den (all_edges rs)
+  k = product_of_denominators (all_edges rs)
 
   abbrev gs : List (List plane.Edge)
   gs = whole_rings rs
@@ -123,10 +123,10 @@ module _ (rs : List (List Edge)) (are : AreRings rs) (enclosers : List (Option �
     -- ---- in order
     in-order : AreInOrder (polygons_of enclosers bs)
     in-order = record {
-      outers = pairs-map (λ (p q : Polygon). IsBefore p.outer q.outer) (polygon_at enclosers bs) (filter (stands_first enclosers) bs) (AllPairs-filter (λ (b c : RingFromLeast). IsBefore b.ring c.ring) (stands_first enclosers) bs turn.order);
-      inners = All-map (λ (p : Polygon). AllPairs IsBefore p.inners) (polygon_at enclosers bs) (filter (stands_first enclosers) bs)
-          (all-in (λ (b : RingFromLeast). AllPairs IsBefore (polygon_at enclosers bs b).inners) (filter (stands_first enclosers) bs) (λ b i.
-          pairs-map IsBefore (λ (b : RingFromLeast). b.ring) (filter (stands_under enclosers b.place) bs) (AllPairs-filter (λ (b c : RingFromLeast). IsBefore b.ring c.ring) (stands_under enclosers b.place) bs turn.order)));
+      outers = pairs-map (λ (p q : Polygon). BeginsBefore p.outer q.outer) (polygon_at enclosers bs) (filter (stands_first enclosers) bs) (AllPairs-filter (λ (b c : RingFromLeast). BeginsBefore b.ring c.ring) (stands_first enclosers) bs turn.order);
+      inners = All-map (λ (p : Polygon). AllPairs BeginsBefore p.inners) (polygon_at enclosers bs) (filter (stands_first enclosers) bs)
+          (all-in (λ (b : RingFromLeast). AllPairs BeginsBefore (polygon_at enclosers bs b).inners) (filter (stands_first enclosers) bs) (λ b i.
+          pairs-map BeginsBefore (λ (b : RingFromLeast). b.ring) (filter (stands_under enclosers b.place) bs) (AllPairs-filter (λ (b c : RingFromLeast). BeginsBefore b.ring c.ring) (stands_under enclosers b.place) bs turn.order)));
     }
 
     -- ---- each is a polygon

@@ -15,7 +15,7 @@ use Rattle.osm_lattice.specs.OrderLaws.{ordering_of}
 use Rattle.osm_lattice.proofs.LatticeKit.{is_lt-plus}
 use Rattle.osm_geom.specs.Point.{den_of, point_cmp}
 use Rattle.osm_geom.specs.Span.{lower_end, spans}
-use Rattle.plane_edges.specs.Multiple.{IsWholeAt, common_den, edge_times, point_times}
+use Rattle.plane_edges.specs.Multiple.{IsWholeAt, edge_times, point_times, product_of_denominators}
 use Rattle.plane_edges.proofs.EdgesKit.{common_is_common, each_whole, just_above_alike, rises_alike, spans_alike, order_is}
 
 -- the segment of the multiplied plane along which e runs
@@ -26,13 +26,13 @@ abbrev pub segments_times : ℕ → List Edge → List plane.Edge
 segments_times k es = map (segment_at k) es
 
 -- at the common denominator of a list its edges are whole
-pub whole-at : (es : List Edge) (e : Edge) → In e es → IsWholeAt (common_den es) e
-whole-at es e i = each_whole (common_den es) es (common_is_common es) e i
+pub whole-at : (es : List Edge) (e : Edge) → In e es → IsWholeAt (product_of_denominators es) e
+whole-at es e i = each_whole (product_of_denominators es) es (common_is_common es) e i
 
-pub common-append : (xs ys : List Edge) → common_den (xs ++ ys) ≡ common_den xs * common_den ys
-common-append [] ys = let e : 1 * common_den ys ≡ common_den ys = omega arith in sym e
+pub common-append : (xs ys : List Edge) → product_of_denominators (xs ++ ys) ≡ product_of_denominators xs * product_of_denominators ys
+common-append [] ys = let e : 1 * product_of_denominators ys ≡ product_of_denominators ys = omega arith in sym e
 common-append (x ∷ xs) ys =
-    ap (λ n. den_of x.from * den_of x.to * n) (common-append xs ys) ∙ sym (mul_assoc (den_of x.from * den_of x.to) (common_den xs) (common_den ys))
+    ap (λ n. den_of x.from * den_of x.to * n) (common-append xs ys) ∙ sym (mul_assoc (den_of x.from * den_of x.to) (product_of_denominators xs) (product_of_denominators ys))
 
 module _ (k : ℕ) where
   lower-by : (e : Edge) (b : Bool) → point_times k (cond b e.from e.to) ≡ (cond b (edge_times k e) (plane.reversed (edge_times k e))).from

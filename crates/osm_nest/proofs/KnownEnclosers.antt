@@ -19,13 +19,13 @@ use Rattle.status.specs.Status.{IsStatus}
 use Rattle.status.proofs.StatusKit.{climbs}
 use Rattle.osm_geom.specs.declared.edge.Edge.{Edge}
 use Rattle.osm_geom.specs.Span.{lower_end, spans}
-use Rattle.plane_edges.specs.Multiple.{IsWholeAt, common_den}
+use Rattle.plane_edges.specs.Multiple.{IsWholeAt, product_of_denominators}
 use Rattle.osm_nest.specs.declared.ring_edge.RingEdge.{RingEdge}
 use Rattle.osm_nest.specs.Beside.{IsSloping}
 use Rattle.osm_nest.specs.Enclosers.{IsDirectEncloser}
 use Rattle.osm_nest.specs.Outer.{IsOuter}
 use Rattle.osm_nest.specs.RingLists.{AreRings, all_edges, whole_rings}
-use Rattle.osm_nest.specs.SweptEdges.{AreSlopingEdges, AreKnown, HasNeighbour, IsInnerAnchor, IsSlopingEdge, StartsRise, TellsEncloser, begin_level, is_within}
+use Rattle.osm_nest.specs.SweptEdges.{AreSlopingEdges, KnownEnclosersAreRight, HasNeighbour, IsInnerAnchor, IsSlopingEdge, StartsRise, TellsEncloser, begin_level, is_within}
 use Rattle.osm_nest.proofs.DirectEnclosers.{listed, nest, segments-in, sloping, whole-in}
 use Rattle.osm_nest.proofs.InPlane.{segment_at, segments_times, spans-at}
 use Rattle.osm_nest.proofs.LeftEnclosers.{left-inner, left-outer, seg}
@@ -58,9 +58,9 @@ one-height b c h k = by-sign (sign (b -ℤ c)) refl h
 
 -- ---- a row's status tells the enclosers of the anchors at its height
 module _ (rs : List (List Edge)) (are : AreRings rs) (items : List RingEdge) (of : AreSlopingEdges rs items) (first : RingEdge) (fi : In first items) (status : List RingEdge)
-    (is : IsStatus (seg rs are items of) (segment_at (common_den (all_edges rs)) first.edge.now).from items status) where
+    (is : IsStatus (seg rs are items of) (segment_at (product_of_denominators (all_edges rs)) first.edge.now).from items status) where
   abbrev K : ℕ
-  K = common_den (all_edges rs)
+  K = product_of_denominators (all_edges rs)
 
   abbrev p : Vector
   p = (segment_at K first.edge.now).from
@@ -117,10 +117,10 @@ module _ (rs : List (List Edge)) (are : AreRings rs) (items : List RingEdge) (of
 
 -- the same for a status that may hold edges that ended
 pub status-tells : (rs : List (List Edge)) (are : AreRings rs) (items : List RingEdge) (of : AreSlopingEdges rs items) (first : RingEdge) (fi : In first items) (status : List RingEdge)
-    (is : IsStatus (seg rs are items of) (segment_at (common_den (all_edges rs)) first.edge.now).from items (filter (is_within (lower_end first.edge.now)) status)) → ((x : RingEdge) → In x status → In x items) →
+    (is : IsStatus (seg rs are items of) (segment_at (product_of_denominators (all_edges rs)) first.edge.now).from items (filter (is_within (lower_end first.edge.now)) status)) → ((x : RingEdge) → In x status → In x items) →
     (a : RingEdge) → IsInnerAnchor rs a → begin_level first.edge.now a.edge.now ≡ true → TellsEncloser rs (filter (is_within (lower_end a.edge.now)) status) a
 status-tells rs are items of first fi status is members a an level =
-    let k = common_den (all_edges rs) in
+    let k = product_of_denominators (all_edges rs) in
     let low = filter (is_within (lower_end first.edge.now)) status in
     let wa = whole-in rs are a.ring an.inside a.edge.now an.anchor.member in
     subst (λ xs. TellsEncloser rs xs a)
@@ -130,7 +130,7 @@ status-tells rs are items of first fi status is members a an level =
     (row-tells rs are items of first fi low is a an level)
 
 -- ---- one more encloser is known
-pub one-known : (rs : List (List Edge)) (place : ℕ) (encloser : Option ℕ) (old new : List (Option ℕ)) → place < length rs → IfSome encloser (λ k. IsDirectEncloser rs place (Some k)) → new ≡ set old place encloser → AreKnown rs old → AreKnown rs new
+pub one-known : (rs : List (List Edge)) (place : ℕ) (encloser : Option ℕ) (old new : List (Option ℕ)) → place < length rs → IfSome encloser (λ k. IsDirectEncloser rs place (Some k)) → new ≡ set old place encloser → KnownEnclosersAreRight rs old → KnownEnclosersAreRight rs new
 one-known rs place encloser old new inside right is known = record {
   sized = ap length is ∙ length-set old place encloser ∙ known.sized;
   right = λ k h l e. ⊎_elim
@@ -159,11 +159,11 @@ none-swept rs are (x ∷ xs) of rise = record {
   p = record { x = pos 0; y = low -ℤ pos 1 };
   is = record { order = λ i j d h l. absurd (omega arith); whole = λ f. refl; members = λ k d h. absurd (omega arith) };
   begun = λ y i. absurd i;
-  later = λ j d h l. above low (segment_at (common_den (all_edges rs)) (get_or (x ∷ xs) j d).edge.now).from.y (not-lower rs are (x ∷ xs) of rise 0 j d (omega arith) l);
+  later = λ j d h l. above low (segment_at (product_of_denominators (all_edges rs)) (get_or (x ∷ xs) j d).edge.now).from.y (not-lower rs are (x ∷ xs) of rise 0 j d (omega arith) l);
 }
   where
     low : ℤ
-    low = (segment_at (common_den (all_edges rs)) x.edge.now).from.y
+    low = (segment_at (product_of_denominators (all_edges rs)) x.edge.now).from.y
 
     above : (b c : ℤ) → not (is_plus (sign (b -ℤ c))) ≡ true → sign (c -ℤ (b -ℤ pos 1)) ≡ Plus
     above b c h = by-sign (sign (b -ℤ c)) refl h

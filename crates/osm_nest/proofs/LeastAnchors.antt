@@ -4,7 +4,7 @@ use Rattle.std.specs.declared.cmp.Ordering.TheVariants.{Less}
 use Rattle.std.proofs.lemmas.Bool.{cases_lt}
 use Rattle.std.proofs.lemmas.List.{get_or_default}
 use Rattle.plane.specs.Edge as plane
-use Rattle.plane.specs.Edge.{IsRising}
+use Rattle.plane.specs.Edge.{IsRisingEdge}
 use Rattle.plane.specs.Order.{order}
 use Rattle.plane.specs.Sign.{Minus, Null, Plus, Sign}
 use Rattle.plane.proofs.PlaneKit.{order-null}
@@ -15,7 +15,7 @@ use Rattle.lists.proofs.ListsKit.{at-in, in-at, in-map, in-map-out, item-in}
 use Rattle.osm_lattice.specs.OrderLaws.{ordering_of}
 use Rattle.osm_geom.specs.declared.edge.Edge.{Edge}
 use Rattle.osm_geom.specs.Point.{point_cmp}
-use Rattle.plane_edges.specs.Multiple.{IsWholeAt, common_den, edge_times, point_times}
+use Rattle.plane_edges.specs.Multiple.{IsWholeAt, edge_times, point_times, product_of_denominators}
 use Rattle.plane_edges.proofs.EdgesKit.{order_is, same_is_same, segment_rises}
 use Rattle.osm_rings.specs.Ring.{IsRing}
 use Rattle.osm_nest.specs.Leftmost.{IsPlaceBefore, comes_first}
@@ -31,7 +31,7 @@ neither Minus h k = absurd (k refl)
 
 module _ (es : List Edge) (ring : IsRing es) (n : ℕ) (inside : n < length es) (least : All (λ e. point_cmp e.from (get_or es n e).from ≢ Less) es) where
   abbrev k : ℕ
-  k = common_den es
+  k = product_of_denominators es
 
   abbrev at : ℕ → Edge → Edge
   at i d = get_or es i d
@@ -70,7 +70,7 @@ module _ (es : List Edge) (ring : IsRing es) (n : ℕ) (inside : n < length es) 
   rises d true h = ap (λ b. (cond b (edge_times k (at n d)) (plane.reversed (edge_times k (at n d)))).from) h
   rises d false h =
       let next = next-of n d inside in
-      let up : order (point_times k (at n d).to) (point_times k (at n d).from) ≡ Plus = subst (λ b. IsRising (cond b (edge_times k (at n d)) (plane.reversed (edge_times k (at n d))))) h (segment_rises k (at n d) (whole n d inside)) in
+      let up : order (point_times k (at n d).to) (point_times k (at n d).from) ≡ Plus = subst (λ b. IsRisingEdge (cond b (edge_times k (at n d)) (plane.reversed (edge_times k (at n d))))) h (segment_rises k (at n d) (whole n d inside)) in
       absurd (not-before next.0 d next.1 (subst (λ p. order (point_times k p) (point_times k (at n d).from) ≡ Plus) next.2 up))
 
   module _ (p : ℕ) (before : IsPlaceBefore (length es) n p) (m : plane.Edge) (a : IsAnchor m (segments_along es)) where

@@ -16,7 +16,7 @@ use Rattle.winding.specs.Ring.{IsAnchor}
 use Rattle.status.specs.Status.{IsStatus}
 use Rattle.status.proofs.StatusKit.{nearest}
 use Rattle.osm_geom.specs.declared.edge.Edge.{Edge}
-use Rattle.plane_edges.specs.Multiple.{common_den}
+use Rattle.plane_edges.specs.Multiple.{product_of_denominators}
 use Rattle.osm_nest.specs.declared.ring_edge.RingEdge.{RingEdge}
 use Rattle.osm_nest.specs.Beside.{IsSloping}
 use Rattle.osm_nest.specs.Enclosers.{IsDirectEncloser, segments_at}
@@ -28,7 +28,7 @@ use Rattle.osm_nest.proofs.InPlane.{segment_at, spans-at}
 
 module _ (rs : List (List Edge)) (are : AreRings rs) (items : List RingEdge) (of : AreSlopingEdges rs items) where
   abbrev K : ℕ
-  K = common_den (all_edges rs)
+  K = product_of_denominators (all_edges rs)
 
   abbrev pub seg : RingEdge → plane.Edge
   seg i = segment_at K i.edge.now

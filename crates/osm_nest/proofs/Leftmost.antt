@@ -3,7 +3,7 @@ use Rattle.std.proofs.Common.{◌≡◌, ◌⊎◌, inl, inr, Bool, true, false,
 use Rattle.std.specs.Ordering.{is_lt}
 use Rattle.std.proofs.lemmas.Int.{ints}
 use Rattle.plane.specs.Edge as plane
-use Rattle.plane.specs.Edge.{IsRising, same_edge}
+use Rattle.plane.specs.Edge.{IsRisingEdge, same_edge}
 use Rattle.plane.specs.Height.{is_in_span, order_above}
 use Rattle.plane.specs.Order.{order}
 use Rattle.plane.specs.Sign.{Minus, Null, Plus, Sign, is_plus, negated, sign, then_sign}
@@ -17,7 +17,7 @@ use Rattle.osm_geom.specs.declared.edge.Edge.{Edge}
 use Rattle.osm_geom.specs.JustAbove.{just_above_cmp}
 use Rattle.osm_lattice.specs.OrderLaws.{ordering_of}
 use Rattle.osm_geom.specs.Span.{lower_end, spans}
-use Rattle.plane_edges.specs.Multiple.{IsWholeAt, common_den}
+use Rattle.plane_edges.specs.Multiple.{IsWholeAt, product_of_denominators}
 use Rattle.plane_edges.proofs.EdgesKit.{segment_rises}
 use Rattle.osm_nest.specs.Leftmost.{comes_first, first_of, forks_left}
 use Rattle.osm_nest.proofs.InPlane.{above-at, order-at, segment_at, spans-at, whole-at}
@@ -51,7 +51,7 @@ above-fork s t e =
     (zero-cross (t.to.y -ℤ t.from.y) (s.to.y -ℤ s.from.y) (cross (from_to s.from t.from) (from_to s.from t.to)) (cross (from_to s.from s.from) (from_to s.from s.to)) same own)
     ∙ ap (λ v. sign (cross (from_to s.from s.to) (from_to v t.to))) (sym e)
 
-fork-plane : (s t : plane.Edge) → IsRising s → IsRising t → s.from ≡ t.from → is_plus (orient s.from s.to t.to) ≡ (is_in_span s.from t && (not (is_in_span s.from s) || is_plus (order_above s.from t s)))
+fork-plane : (s t : plane.Edge) → IsRisingEdge s → IsRisingEdge t → s.from ≡ t.from → is_plus (orient s.from s.to t.to) ≡ (is_in_span s.from t && (not (is_in_span s.from s) || is_plus (order_above s.from t s)))
 fork-plane s t rs rt e =
     let span_t : is_in_span s.from t ≡ is_plus (sign (t.to.y -ℤ s.from.y)) = subst (λ v. is_in_span v t ≡ is_plus (sign (t.to.y -ℤ v.y))) (sym e) (own-span t) in
     left-by (from_to s.from s.to) (from_to s.from t.to) rs (subst (λ v. order v t.to ≡ Plus) (sym e) rt)
@@ -141,7 +141,7 @@ module _ (es : List plane.Edge) (m : plane.Edge) (a : IsAnchor m es) where
 -- ---- among exact edges
 -- the segments in the plane multiplied by the common denominator
 abbrev pub along : List Edge → Edge → plane.Edge
-along es = segment_at (common_den es)
+along es = segment_at (product_of_denominators es)
 
 abbrev pub segments_along : List Edge → List plane.Edge
 segments_along es = map (along es) es
@@ -149,9 +149,9 @@ segments_along es = map (along es) es
 -- of two edges of which one runs along the anchor, the one that comes first does
 pub first-of-two : (es : List Edge) (f e : Edge) → In f es → In e es → (m : plane.Edge) → IsAnchor m (segments_along es) → (along es e ≡ m) ⊎ (along es f ≡ m) → (b : Bool) → comes_first f e ≡ b → along es (cond b f e) ≡ m
 first-of-two es f e i j m a (inl is) true h =
-    only-anchor (segments_along es) m a (along es f) (in-map (along es) es f i) (subst (λ t. comes_by (along es f) t ≡ true) is (sym (comes-is (common_den es) f e (whole-at es f i) (whole-at es e j)) ∙ h))
+    only-anchor (segments_along es) m a (along es f) (in-map (along es) es f i) (subst (λ t. comes_by (along es f) t ≡ true) is (sym (comes-is (product_of_denominators es) f e (whole-at es f i) (whole-at es e j)) ∙ h))
 first-of-two es f e i j m a (inl is) false h = is
 first-of-two es f e i j m a (inr is) true h = is
 first-of-two es f e i j m a (inr is) false h =
     let t : comes_by (along es f) (along es e) ≡ true = subst (λ s. comes_by s (along es e) ≡ true) (sym is) (anchor-first (segments_along es) m a (along es e) (in-map (along es) es e j)) in
-    absurd (cc (sym t ∙ (sym (comes-is (common_den es) f e (whole-at es f i) (whole-at es e j)) ∙ h)))
+    absurd (cc (sym t ∙ (sym (comes-is (product_of_denominators es) f e (whole-at es f i) (whole-at es e j)) ∙ h)))

@@ -6,7 +6,7 @@ use Rattle.osm_nest.specs.Outer.{IsOuter}
 use Rattle.osm_nest.specs.RingLists.{AreRings}
 use Rattle.lists.proofs.ListsKit.{clash, in-map, in-map-out, some_member}
 use Rattle.osm_geom.specs.Edge.{runs_up}
-use Rattle.plane_edges.specs.Multiple.{common_den, edge_times, edges_times}
+use Rattle.plane_edges.specs.Multiple.{edge_times, edges_times, product_of_denominators}
 use Rattle.winding.specs.Ring.{IsAnchor}
 use Rattle.winding.proofs.WindingKit.{some-anchor}
 use Rattle.osm_nest.specs.Outer.{AreConflictFree, IsAnchorOf}
@@ -28,7 +28,7 @@ pub lone-outer : (rs : List (List Edge)) → AreRings rs → length rs ≡ 1 →
 lone-outer rs are one =
     let inside : 0 < length rs = omega (arith, one) in
     let r = get_or rs 0 [] in
-    let k = common_den (all_edges rs) in
+    let k = product_of_denominators (all_edges rs) in
     let long = (listed rs are).long (edges_times k r) (ring-in rs are 0 inside) in
     let same = length-map r (edge_times k) in
     let clear = clear-at rs are 0 inside in

@@ -18,9 +18,9 @@ use Rattle.winding.proofs.WindingKit.{ring-even}
 use Rattle.osm_geom.specs.declared.edge.Edge.{Edge}
 use Rattle.osm_geom.specs.Edge.{runs_up}
 use Rattle.osm_geom.specs.Point.{den_of}
-use Rattle.plane_edges.specs.Multiple.{IsWholeAt, common_den, edge_times, edges_times}
+use Rattle.plane_edges.specs.Multiple.{IsWholeAt, edge_times, edges_times, product_of_denominators}
 use Rattle.plane_edges.proofs.EdgesKit.{common_is_common, rises_alike}
-use Rattle.osm_nest.specs.Beside.{is_right_of}
+use Rattle.osm_nest.specs.Beside.{is_right_of_lower_end}
 use Rattle.osm_nest.specs.Outer.{AnchorRuns, AreConflictFree, IsAnchorOf, IsInner, IsOuter}
 use Rattle.osm_nest.specs.RingLists.{AreRings, all_edges, whole_rings}
 use Rattle.osm_nest.proofs.Beside.{right-at}
@@ -30,11 +30,11 @@ use Rattle.osm_nest.proofs.RingAnchors.{anchor-along, anchor-of, segments-are}
 
 -- the common denominator of all rings is a multiple of that of r
 abbrev pub Divides : List (List Edge) → List Edge → Type 0
-Divides rs r = (m : ℕ) × (1 ≤ m) × (common_den (all_edges rs) ≡ common_den r * m)
+Divides rs r = (m : ℕ) × (1 ≤ m) × (product_of_denominators (all_edges rs) ≡ product_of_denominators r * m)
 
-module _ (rs : List (List Edge)) (are : AreRings rs) (r : List Edge) (i : In (edges_times (common_den (all_edges rs)) r) (whole_rings rs)) (q : Divides rs r) where
+module _ (rs : List (List Edge)) (are : AreRings rs) (r : List Edge) (i : In (edges_times (product_of_denominators (all_edges rs)) r) (whole_rings rs)) (q : Divides rs r) where
   abbrev K : ℕ
-  K = common_den (all_edges rs)
+  K = product_of_denominators (all_edges rs)
 
   abbrev pub nest : List (List plane.Edge)
   nest = map segments_of (whole_rings rs)
@@ -106,9 +106,9 @@ module _ (rs : List (List Edge)) (are : AreRings rs) (r : List Edge) (i : In (ed
   inner-down o = runs-at true o.anchor o.anchors o.up
 
   -- as many of its edges are right of a as of their segments
-  pub right-count : (a : Edge) → IsWholeAt K a → count_by (is_right_above (segment_at K a).from (segment_at K a)) (segments_times K r) ≡ count_by (is_right_of a) r
+  pub right-count : (a : Edge) → IsWholeAt K a → count_by (is_right_above (segment_at K a).from (segment_at K a)) (segments_times K r) ≡ count_by (is_right_of_lower_end a) r
   right-count a w =
       let f = λ (t : plane.Edge). bit (is_right_above (segment_at K a).from (segment_at K a) t) in
       sym (total-is f (segments_times K r)) ∙ total-map f (segment_at K) r
-      ∙ total-same (λ x. f (segment_at K x)) (λ x. bit (is_right_of a x)) r (λ x j. ap bit (sym (right-at K a x w (whole x j))))
-      ∙ total-is (λ x. bit (is_right_of a x)) r
+      ∙ total-same (λ x. f (segment_at K x)) (λ x. bit (is_right_of_lower_end a x)) r (λ x j. ap bit (sym (right-at K a x w (whole x j))))
+      ∙ total-is (λ x. bit (is_right_of_lower_end a x)) r

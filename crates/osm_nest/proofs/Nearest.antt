@@ -15,13 +15,13 @@ use Rattle.nesting.proofs.NestingKit.{beyond-order, pairs-of}
 use Rattle.std.specs.List.{count_by, filter}
 use Rattle.osm_geom.specs.declared.edge.Edge.{Edge}
 use Rattle.osm_nest.specs.declared.enclosers.Encloser.{Encloser}
-use Rattle.osm_nest.specs.Beside.{IsBestUpTo, IsEncloser, IsEncloserAt, IsEncloserBy, IsNearest, IsNearestRight, IsNearestUpTo, IsRight, nearer_encloser, nearest_so_far, is_around, is_nearer, is_right_of, nearer_edge}
+use Rattle.osm_nest.specs.Beside.{IsBestUpTo, IsEncloser, IsEncloserAt, IsEncloserBy, IsNearest, IsNearestRight, IsNearestUpTo, IsRightOf, nearer_encloser, nearest_so_far, is_around, is_nearer, is_right_of_lower_end, nearer_edge}
 use Rattle.osm_nest.specs.Outer.{AreConflictFree, IsOuter}
 use Rattle.osm_nest.proofs.Beside.{nearer-at, nearer-chain, not-nearer, not-nearer-itself, right-at}
 use Rattle.osm_nest.proofs.Further.{one-more, plain-further}
 use Rattle.osm_nest.proofs.InPlane.{segment_at, segments_times, whole-at}
 use Rattle.osm_nest.proofs.RingAnchors.{plain-along, same-along}
-use Rattle.plane_edges.specs.Multiple.{IsWholeAt, common_den}
+use Rattle.plane_edges.specs.Multiple.{IsWholeAt, product_of_denominators}
 
 -- ---- in one ring
 in-more : (es : List Edge) (x f : Edge) → In f (es ++ x ∷ []) → (In f es) ⊎ (f ≡ x)
@@ -34,15 +34,15 @@ module _ (a : Edge) (es : List Edge) (x : Edge) where
   abbrev more : List Edge
   more = es ++ x ∷ []
 
-  skipped : (best : Option Edge) → is_right_of a x ≡ false → IsNearestRight a es best → IsNearestRight a more best
-  skipped None n inv = λ f i. ⊎_elim (λ j. inv f j) (λ e. ap (is_right_of a) e ∙ n) (in-more es x f i)
+  skipped : (best : Option Edge) → is_right_of_lower_end a x ≡ false → IsNearestRight a es best → IsNearestRight a more best
+  skipped None n inv = λ f i. ⊎_elim (λ j. inv f j) (λ e. ap (is_right_of_lower_end a) e ∙ n) (in-more es x f i)
   skipped (Some e) n inv = record {
     member = in-left es (x ∷ []) e inv.member;
     right = inv.right;
-    nearest = λ f i r. ⊎_elim (λ j. inv.nearest f j r) (λ s. absurd (clash (is_right_of a f) r (ap (is_right_of a) s ∙ n))) (in-more es x f i);
+    nearest = λ f i r. ⊎_elim (λ j. inv.nearest f j r) (λ s. absurd (clash (is_right_of_lower_end a f) r (ap (is_right_of_lower_end a) s ∙ n))) (in-more es x f i);
   }
 
-  closer-by : (e : Edge) (b : Bool) → is_nearer a x e ≡ b → is_right_of a x ≡ true → IsNearest a es e → IsNearest a more (cond b x e)
+  closer-by : (e : Edge) (b : Bool) → is_nearer a x e ≡ b → is_right_of_lower_end a x ≡ true → IsNearest a es e → IsNearest a more (cond b x e)
   closer-by e true m r inv = record {
     member = last-in es x;
     right = r;
@@ -60,18 +60,18 @@ module _ (a : Edge) (es : List Edge) (x : Edge) where
         (in-more es x f i);
   }
 
-  taken : (best : Option Edge) → is_right_of a x ≡ true → IsNearestRight a es best → IsNearest a more (nearest_so_far a best x)
+  taken : (best : Option Edge) → is_right_of_lower_end a x ≡ true → IsNearestRight a es best → IsNearest a more (nearest_so_far a best x)
   taken None r inv = record {
     member = last-in es x;
     right = r;
     nearest = λ f i s. ⊎_elim
-        (λ j. absurd (clash (is_right_of a f) s (inv f j)))
+        (λ j. absurd (clash (is_right_of_lower_end a f) s (inv f j)))
         (λ q. subst (λ g. is_nearer a g x ≡ false) (sym q) (not-nearer-itself a x))
         (in-more es x f i);
   }
   taken (Some e) r inv = closer-by e (is_nearer a x e) refl r inv
 
-  nearest-by : (best : Option Edge) (b : Bool) → is_right_of a x ≡ b → IsNearestRight a es best → IsNearestRight a more (cond b (Some (nearest_so_far a best x)) best)
+  nearest-by : (best : Option Edge) (b : Bool) → is_right_of_lower_end a x ≡ b → IsNearestRight a es best → IsNearestRight a more (cond b (Some (nearest_so_far a best x)) best)
   nearest-by best true r inv = taken best r inv
   nearest-by best false r inv = skipped best r inv
 
@@ -79,9 +79,9 @@ pub nearest-step : (a : Edge) (es : List Edge) (n : ℕ) (best next : Option Edg
 nearest-step a es n best next x h is be inv =
     let same : take (n + 1) es ≡ take n es ++ x ∷ [] = take_more es n x h ∙ ap (λ y. take n es ++ y ∷ []) (sym is) in
     subst (λ o. IsNearestRight a (take (n + 1) es) o) (sym be)
-    (subst (λ l. IsNearestRight a l (nearer_edge a best x)) (sym same) (nearest-by a (take n es) x best (is_right_of a x) refl inv))
+    (subst (λ l. IsNearestRight a l (nearer_edge a best x)) (sym same) (nearest-by a (take n es) x best (is_right_of_lower_end a x) refl inv))
 
-pub found-right : (a : Edge) (es : List Edge) (n : ℕ) (best : Option Edge) → IsNearestRight a (take n es) best → IfSome best (λ e. IsRight a e)
+pub found-right : (a : Edge) (es : List Edge) (n : ℕ) (best : Option Edge) → IsNearestRight a (take n es) best → IfSome best (λ e. IsRightOf a e)
 found-right a es n None inv = tt
 found-right a es n (Some e) inv = inv.right
 
@@ -100,7 +100,7 @@ module _ (k : ℕ) (a f g : Edge) (wa : IsWholeAt k a) (wf : IsWholeAt k f) (wg 
   back (inr n) = inr (nearer-at k a g f wa wg wf ∙ n)
 
   -- of edges without conflict right of an anchor: one that isn't nearer than another is along that one, or the other is nearer
-  pub nearer-either : (all : List plane.Edge) → IsConflictFree all → In (segment_at k f) all → In (segment_at k g) all → is_right_of a f ≡ true → is_right_of a g ≡ true → is_nearer a f g ≡ false → (segment_at k f ≡ segment_at k g) ⊎ (is_nearer a g f ≡ true)
+  pub nearer-either : (all : List plane.Edge) → IsConflictFree all → In (segment_at k f) all → In (segment_at k g) all → is_right_of_lower_end a f ≡ true → is_right_of_lower_end a g ≡ true → is_nearer a f g ≡ false → (segment_at k f ≡ segment_at k g) ⊎ (is_nearer a g f ≡ true)
   nearer-either all plain i j rf rg n =
       let e = segment_at k a in
       let order = beyond-order p e all plain in
@@ -111,7 +111,7 @@ module _ (k : ℕ) (a f g : Edge) (wa : IsWholeAt k a) (wf : IsWholeAt k f) (wg 
 -- the same in one ring
 module _ (a : Edge) (es : List Edge) (clear : AreConflictFree es) (f g : Edge) (i : In f es) (j : In g es) where
   abbrev at_all : ℕ
-  at_all = common_den (a ∷ es)
+  at_all = product_of_denominators (a ∷ es)
 
   plain-all : IsConflictFree (segments_times at_all es)
   plain-all = let m = one-more a es in subst (λ k. IsConflictFree (segments_times k es)) (sym m.2) (plain-further es m.0 m.1 (plain-along es clear))
@@ -120,7 +120,7 @@ module _ (a : Edge) (es : List Edge) (clear : AreConflictFree es) (f g : Edge) (
   one-edge (inl e) = inl (same-along at_all es plain-all f g i j e)
   one-edge (inr n) = inr n
 
-  in-ring : is_right_of a f ≡ true → is_right_of a g ≡ true → is_nearer a f g ≡ false → (f ≡ g) ⊎ (is_nearer a g f ≡ true)
+  in-ring : is_right_of_lower_end a f ≡ true → is_right_of_lower_end a g ≡ true → is_nearer a f g ≡ false → (f ≡ g) ⊎ (is_nearer a g f ≡ true)
   in-ring rf rg n =
       let list = a ∷ es in
       one-edge (nearer-either at_all a f g (whole-at list a (inl refl)) (whole-at list f (inr i)) (whole-at list g (inr j)) (segments_times at_all es) plain-all
@@ -149,13 +149,13 @@ module _ (rs : List (List Edge)) (a : Edge) (n : ℕ) where
         (cases_lt k n);
   }
 
-  behind-by : (b c : Encloser) (f : Edge) → IsEncloserBy rs a b → IsEncloserBy rs a c → is_right_of a f ≡ true → is_nearer a c.edge b.edge ≡ false → (f ≡ c.edge) ⊎ (is_nearer a c.edge f ≡ true) → is_nearer a f b.edge ≡ false
+  behind-by : (b c : Encloser) (f : Edge) → IsEncloserBy rs a b → IsEncloserBy rs a c → is_right_of_lower_end a f ≡ true → is_nearer a c.edge b.edge ≡ false → (f ≡ c.edge) ⊎ (is_nearer a c.edge f ≡ true) → is_nearer a f b.edge ≡ false
   behind-by b c f ib ic r n (inl e) = ap (λ x. is_nearer a x b.edge) e ∙ n
   behind-by b c f ib ic r n (inr m) =
       false_from_ne_true (is_nearer a f b.edge) (λ k. clash (is_nearer a c.edge b.edge) (nearer-chain a c.edge f b.edge ic.edge.right r ib.edge.right m k) n)
 
   module _ (clear : AreConflictFree (get_or rs n [])) where
-    behind : (b c : Encloser) (f : Edge) → IsEncloserBy rs a b → c.place ≡ n → IsEncloserBy rs a c → In f (get_or rs n []) → is_right_of a f ≡ true → is_nearer a c.edge b.edge ≡ false → is_nearer a f b.edge ≡ false
+    behind : (b c : Encloser) (f : Edge) → IsEncloserBy rs a b → c.place ≡ n → IsEncloserBy rs a c → In f (get_or rs n []) → is_right_of_lower_end a f ≡ true → is_nearer a c.edge b.edge ≡ false → is_nearer a f b.edge ≡ false
     behind b c f ib at ic i r m =
         let ring = get_or rs c.place [] in
         let j : In f ring = subst (λ k. In f (get_or rs k [])) (sym at) i in
@@ -184,18 +184,18 @@ module _ (rs : List (List Edge)) (a : Edge) (n : ℕ) where
     better-step (Some b) None inv at = kept b inv at
     better-step (Some b) (Some c) inv at = chosen b c (is_nearer a c.edge b.edge) refl inv at.0 at.1
 
-pub best-right : (rs : List (List Edge)) (a : Edge) (n : ℕ) (best : Option Encloser) → IsBestUpTo rs a n best → IfSome best (λ c. IsRight a c.edge)
+pub best-right : (rs : List (List Edge)) (a : Edge) (n : ℕ) (best : Option Encloser) → IsBestUpTo rs a n best → IfSome best (λ c. IsRightOf a c.edge)
 best-right rs a n None inv = tt
 best-right rs a n (Some c) inv = inv.is.edge.right
 
-pub next-right : (rs : List (List Edge)) (a : Edge) (n : ℕ) (next : Option Encloser) → IsEncloserAt rs a n next → IfSome next (λ c. IsRight a c.edge)
+pub next-right : (rs : List (List Edge)) (a : Edge) (n : ℕ) (next : Option Encloser) → IsEncloserAt rs a n next → IfSome next (λ c. IsRightOf a c.edge)
 next-right rs a n None at = tt
 next-right rs a n (Some c) at = at.1.edge.right
 
 -- ---- a candidate
-none-around : (a : Edge) (es : List Edge) → ((f : Edge) → In f es → is_right_of a f ≡ false) → is_around a es ≡ false
+none-around : (a : Edge) (es : List Edge) → ((f : Edge) → In f es → is_right_of_lower_end a f ≡ false) → is_around a es ≡ false
 none-around a es h =
-    let n : count_by (is_right_of a) es ≡ 0 = sym (total-is (λ f. bit (is_right_of a f)) es) ∙ total_none (λ f. bit (is_right_of a f)) es (λ f i. ap bit (h f i)) in
+    let n : count_by (is_right_of_lower_end a) es ≡ 0 = sym (total-is (λ f. bit (is_right_of_lower_end a f)) es) ∙ total_none (λ f. bit (is_right_of_lower_end a f)) es (λ f i. ap bit (h f i)) in
     ap (λ k. not (is_even k)) n
 
 pub encloser-by : (rs : List (List Edge)) (a : Edge) (k : ℕ) (r : List Edge) (e : Edge) → k < length rs → r ≡ get_or rs k r → IsOuter (get_or rs k []) → is_around a r ≡ true → IsNearest a r e → (k ≡ k) × IsEncloserBy rs a (record { place = k; edge = e })
@@ -206,7 +206,7 @@ encloser-by rs a k r e h is o odd n =
 pub not-outer : (rs : List (List Edge)) (a : Edge) (k : ℕ) (b : Bool) → (b ≡ true) ↔ IsOuter (get_or rs k []) → b ≡ false → IsEncloser rs a k → ⊥
 not-outer rs a k b tells n c = clash b (tells.1 c.outer) n
 
-pub no-encloser : (rs : List (List Edge)) (a : Edge) (k : ℕ) (r : List Edge) → k < length rs → r ≡ get_or rs k r → ((f : Edge) → In f r → is_right_of a f ≡ false) → IsEncloser rs a k → ⊥
+pub no-encloser : (rs : List (List Edge)) (a : Edge) (k : ℕ) (r : List Edge) → k < length rs → r ≡ get_or rs k r → ((f : Edge) → In f r → is_right_of_lower_end a f ≡ false) → IsEncloser rs a k → ⊥
 no-encloser rs a k r h is none c =
     let own : r ≡ get_or rs k [] = is ∙ get_or_default rs k r [] h in
     clash (is_around a (get_or rs k [])) c.odd (subst (λ l. is_around a l ≡ false) own (none-around a r none))

@@ -14,7 +14,7 @@ use Rattle.lists.specs.Rotated.{IsRotated}
 use Rattle.lists.proofs.ListsKit.{all-in, in-either, in-left, in-right, rotated-in, total, total-is, total-map}
 use Rattle.osm_geom.specs.declared.edge.Edge.{Edge}
 use Rattle.osm_geom.specs.Point.{den_of}
-use Rattle.plane_edges.specs.Multiple.{IsWholeAt, common_den, edge_times, edges_times}
+use Rattle.plane_edges.specs.Multiple.{IsWholeAt, edge_times, edges_times, product_of_denominators}
 use Rattle.plane_edges.specs.Sided.{count_at}
 use Rattle.plane_edges.proofs.EdgesKit.{common_is_common}
 use Rattle.osm_rings.specs.RingList.{AreRingsOf}
@@ -56,7 +56,7 @@ module _ (P : Edge → Type 0) where
 -- ---- the common denominator of the rings makes the polygons' points whole
 module _ (rs : List (List Edge)) (are : AreRings rs) (nested : List Polygon) (is : AreNested rs nested) where
   abbrev k : ℕ
-  k = common_den (all_edges rs)
+  k = product_of_denominators (all_edges rs)
 
   whole-by : (r : List Edge) → rings.Divides rs r → (e : Edge) → In e r → IsWholeAt k e
   whole-by r d e i =
@@ -96,6 +96,6 @@ module _ (es : List Edge) (rs : List (List Edge)) (are : AreRingsOf es rs) (q : 
 
   pub rings-count : count_at q p (all_edges rs) ≡ count_at q p es
   rings-count =
-      let k = common_den (all_edges rs) in
+      let k = product_of_denominators (all_edges rs) in
       counted k (all_edges rs) ∙ same-sums (at k) ∙ sym (counted k es)
       ∙ ap (λ n. crossing_count east (scaled_point (pos n) p) (scaled_edges q (edges_times n es))) (sym (same-common es rs are))

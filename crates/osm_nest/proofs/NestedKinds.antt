@@ -14,10 +14,10 @@ use Rattle.winding.proofs.WindingKit.{anchor_one}
 use Rattle.lists.proofs.ListsKit.{all-in, in-all, in-map, rotated-back, total, total-++, total-is, total_none}
 use Rattle.osm_geom.specs.declared.edge.Edge.{Edge}
 use Rattle.lists.specs.Rotated.{IsRotated}
-use Rattle.plane_edges.specs.Multiple.{common_den, edges_times}
+use Rattle.plane_edges.specs.Multiple.{edges_times, product_of_denominators}
 use Rattle.plane_edges.proofs.EdgesKit.{common_is_common}
 use Rattle.osm_nest.specs.declared.polygon.Polygon.{Polygon}
-use Rattle.osm_nest.specs.Beside.{is_around, is_right_of}
+use Rattle.osm_nest.specs.Beside.{is_around, is_right_of_lower_end}
 use Rattle.osm_nest.specs.Laws.{IsAroundInners}
 use Rattle.osm_nest.specs.Nested.{AreFromLeast, AreNested, ArePolygonsOf, HasKinds, IsFromLeast, IsPolygonFromLeast}
 use Rattle.osm_nest.specs.Outer.{IsAnchorOf, IsInner, IsOuter}
@@ -42,27 +42,27 @@ begun-from (r ∷ rs) bs h b i = begun-by r rs h.0 h.1 h.3 b (subst (In b) h.2 i
 
 turned-around : (a : Edge) (p q : List Edge) → IsRotated p q → is_around a q ≡ is_around a p
 turned-around a p q t =
-    let f = λ (e : Edge). bit (is_right_of a e) in
+    let f = λ (e : Edge). bit (is_right_of_lower_end a e) in
     let x = ap (total f) t.old in let y = ap (total f) t.new in
     let m = total-++ f t.front t.back in let n = total-++ f t.back t.front in
     let s = total-is f p in let u = total-is f q in
-    let same : count_by (is_right_of a) q ≡ count_by (is_right_of a) p = omega arith in
+    let same : count_by (is_right_of_lower_end a) q ≡ count_by (is_right_of_lower_end a) p = omega arith in
     ap (λ k. not (is_even k)) same
 
 module _ (rs : List (List Edge)) (are : AreRings rs) where
   abbrev K : ℕ
-  K = common_den (all_edges rs)
+  K = product_of_denominators (all_edges rs)
 
   -- the common denominator of r divides that of all rings, as a test
   abbrev fits : List Edge → Bool
-  fits r = nat_eq (K % common_den r) 0
+  fits r = nat_eq (K % product_of_denominators r) 0
 
   fits-in : (r : List Edge) → In r rs → fits r ≡ true
-  fits-in r i = let q = part rs r i in eq-eqb (K % common_den r) 0 (ap (λ n. n % common_den r) q.2 ∙ mul-mod_right (common_den r) q.0)
+  fits-in r i = let q = part rs r i in eq-eqb (K % product_of_denominators r) 0 (ap (λ n. n % product_of_denominators r) q.2 ∙ mul-mod_right (product_of_denominators r) q.0)
 
   fits-out : (r : List Edge) → fits r ≡ true → rings.Divides rs r
   fits-out r h =
-      let d = common_den r in let m = K / d in
+      let d = product_of_denominators r in let m = K / d in
       let z : K % d ≡ 0 = eqb-true (K % d) 0 h in
       let w : d * m + K % d ≡ K = div-add-mod K d in
       let e : K ≡ d * m = omega (arith, z, w) in

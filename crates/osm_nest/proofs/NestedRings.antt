@@ -17,7 +17,7 @@ use Rattle.osm_geom.specs.declared.point.Point.{Point}
 use Rattle.osm_geom.specs.declared.point.Point.TheVariants.{Lattice, OnHorizontal, OnVertical}
 use Rattle.osm_lattice.specs.Loc.{vector_of}
 use Rattle.osm_geom.specs.Point.{den_of}
-use Rattle.plane_edges.specs.Multiple.{common_den, edges_times}
+use Rattle.plane_edges.specs.Multiple.{edges_times, product_of_denominators}
 use Rattle.plane_edges.specs.Sided.{IsSided}
 use Rattle.osm_geom.specs.WholeSegment.{IsWholeSegment}
 use Rattle.osm_rings.specs.Laws.{RingsOfEdgesDoNotCross}
@@ -133,7 +133,7 @@ module _ {X : Type 0} (w : X → ℕ) where
 abbrev dens : Edge → ℕ
 dens e = den_of e.from * den_of e.to
 
-common-is : (es : List Edge) → common_den es ≡ product dens es
+common-is : (es : List Edge) → product_of_denominators es ≡ product dens es
 common-is [] = refl
 common-is (e ∷ es) = ap (λ n. den_of e.from * den_of e.to * n) (common-is es)
 
@@ -141,7 +141,7 @@ pub all-sum : (f : Edge → ℕ) (rs : List (List Edge)) → total f (all_edges 
 all-sum f [] = refl
 all-sum f (r ∷ rs) = let a = total-++ f r (all_edges rs) in let b = total-is f r in let c = all-sum f rs in omega arith
 
-pub same-common : (es : List Edge) (rs : List (List Edge)) → AreRingsOf es rs → common_den es ≡ common_den (all_edges rs)
+pub same-common : (es : List Edge) (rs : List (List Edge)) → AreRingsOf es rs → product_of_denominators es ≡ product_of_denominators (all_edges rs)
 same-common es rs are =
     common-is es
     ∙ same-product dens es (all_edges rs) (λ f. let g = λ (e : Edge). f (dens e) in total-is g es ∙ sym (are.edges g) ∙ sym (total-is (λ r. sum_by g r) rs) ∙ sym (all-sum g rs))

@@ -14,7 +14,7 @@ use Rattle.winding.specs.Ring.{segments_of}
 use Rattle.lists.proofs.ListsKit.{in-at, in-map}
 use Rattle.osm_geom.specs.declared.edge.Edge.{Edge}
 use Rattle.osm_geom.specs.Point.{point_cmp}
-use Rattle.plane_edges.specs.Multiple.{common_den, edge_times, edges_times}
+use Rattle.plane_edges.specs.Multiple.{edge_times, edges_times, product_of_denominators}
 use Rattle.osm_nest.specs.declared.rings_from_least.RingFromLeast.{RingFromLeast}
 use Rattle.osm_nest.specs.declared.polygon.Polygon.{Polygon}
 use Rattle.osm_nest.specs.Grouped.{AreSortedFromLeast, AreListed, IsFromLeastAt, polygons_of}
@@ -156,7 +156,7 @@ begun-at es place some = let r = begun-of es some in (record { place = place; ri
 -- ---- enclosers
 module _ (rs : List (List Edge)) (are : AreRings rs) where
   abbrev k : ℕ
-  k = common_den (all_edges rs)
+  k = product_of_denominators (all_edges rs)
 
   abbrev gs : List (List plane.Edge)
   gs = whole_rings rs

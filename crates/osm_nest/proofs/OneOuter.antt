@@ -4,7 +4,7 @@ use Rattle.std.specs.Bool.{then_some}
 use Rattle.std.proofs.lemmas.Bool.{cases_lt, eq-eqb, eqb-true}
 use Rattle.nesting.specs.Nesting.{EnclosesDirectly}
 use Rattle.lists.proofs.ListsKit.{clash}
-use Rattle.plane_edges.specs.Multiple.{common_den}
+use Rattle.plane_edges.specs.Multiple.{product_of_denominators}
 use Rattle.osm_geom.specs.declared.edge.Edge.{Edge}
 use Rattle.osm_geom.specs.Edge.{runs_up}
 use Rattle.osm_nest.specs.Enclosers.{AreDirectEnclosers, IsDirectEncloser, segments_at}
@@ -81,7 +81,7 @@ module _ (rs : List (List Edge)) (are : AreRings rs) (only : ℕ) (one : IsOnlyO
   under-only : (place : ℕ) → place < length rs → IsInner (get_or rs place []) → IsDirectEncloser rs place (Some only)
   under-only place h inner =
       let d = some-direct rs are place h inner.anchor inner.is_anchor inner in
-      let there = subst (EnclosesDirectly (nest rs are) (segments_times (common_den (all_edges rs)) (get_or rs d.0 []))) (sym (segments-at rs are place h)) d.3 in
+      let there = subst (EnclosesDirectly (nest rs are) (segments_times (product_of_denominators (all_edges rs)) (get_or rs d.0 []))) (sym (segments-at rs are place h)) d.3 in
       let direct = subst (λ g. EnclosesDirectly (nest rs are) g (segments_at rs place)) (sym (segments-at rs are d.0 d.1)) there in (
         one.inside,
         inner-encloser rs are place h inner,

@@ -16,7 +16,7 @@ use Rattle.osm_geom.specs.declared.edge.Edge.{Edge}
 use Rattle.osm_nest.specs.declared.rings_from_least.RingFromLeast.{RingFromLeast}
 use Rattle.osm_nest.specs.Grouped.{AreListed, ArePlaced, IsFromLeastAt}
 use Rattle.osm_nest.specs.RingLists.{all_edges, whole_rings}
-use Rattle.plane_edges.specs.Multiple.{common_den, edges_times}
+use Rattle.plane_edges.specs.Multiple.{edges_times, product_of_denominators}
 
 -- ---- rings at different places
 edges-at : (gs : List (List plane.Edge)) (j : ℕ) (x : plane.Edge) → j < length gs → In x (get_or gs j []) → In x (edges_of gs)
@@ -42,7 +42,7 @@ rings-apart gs o i j x n h l m r = ⊎_elim
 
 -- a ring in the multiplied plane is one of the list
 pub ring-at : (rs : List (List Edge)) (n : ℕ) → n < length rs → In (get_or (whole_rings rs) n []) (whole_rings rs)
-ring-at rs n h = let s = length-map rs (edges_times (common_den (all_edges rs))) in at-in (whole_rings rs) n [] (omega arith)
+ring-at rs n h = let s = length-map rs (edges_times (product_of_denominators (all_edges rs))) in at-in (whole_rings rs) n [] (omega arith)
 
 -- ---- sums over places
 abbrev pub Numbered : ℕ → List RingFromLeast → Type 0

@@ -18,7 +18,7 @@ use Rattle.osm_geom.specs.JustAbove.{just_above_cmp}
 use Rattle.osm_geom.specs.Point.{den_of, x_of, y_of}
 use Rattle.osm_geom.specs.Span.{spans}
 use Rattle.osm_lattice.proofs.LatticeKit.{is_lt-plus}
-use Rattle.plane_edges.specs.Multiple.{IsWholeAt, common_den, edge_times, point_times}
+use Rattle.plane_edges.specs.Multiple.{IsWholeAt, edge_times, point_times, product_of_denominators}
 use Rattle.plane_edges.proofs.EdgesKit.{den-some, factor, just_above_alike, nat, product-some, spans_alike}
 use Rattle.osm_nest.specs.Reach.{IsReach}
 use Rattle.osm_nest.proofs.InPlane.{segment_at, whole-at}
@@ -120,11 +120,11 @@ further-times k y z some h = let m = subst (λ w. pos 0 <ℤ w) (taken-out k y z
 module _ (f g : Edge) (at : Point) where
   -- a number by which the points of both and the height are whole
   abbrev k : ℕ
-  k = common_den (f ∷ g ∷ []) * den_of at
+  k = product_of_denominators (f ∷ g ∷ []) * den_of at
 
-  both-whole : (e : Edge) → IsWholeAt (common_den (f ∷ g ∷ [])) e → IsWholeAt k e
+  both-whole : (e : Edge) → IsWholeAt (product_of_denominators (f ∷ g ∷ [])) e → IsWholeAt k e
   both-whole e w = record {
-    some = product-some (common_den (f ∷ g ∷ [])) (den_of at) w.some (den-some at);
+    some = product-some (product_of_denominators (f ∷ g ∷ [])) (den_of at) w.some (den-some at);
     first = dvd-mul_right_of_dvd (den_of e.from) w.first (den_of at);
     second = dvd-mul_right_of_dvd (den_of e.to) w.second (den_of at);
   }
@@ -136,7 +136,7 @@ module _ (f g : Edge) (at : Point) where
   whole-g = both-whole g (whole-at (f ∷ g ∷ []) g (inr (inl refl)))
 
   in-at : den_of at ∣ k
-  in-at = dvd-mul_left (den_of at) (common_den (f ∷ g ∷ []))
+  in-at = dvd-mul_left (den_of at) (product_of_denominators (f ∷ g ∷ []))
 
   abbrev p : Vector
   p = point_times k at

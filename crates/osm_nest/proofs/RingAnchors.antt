@@ -17,7 +17,7 @@ use Rattle.winding.specs.ScaledEdges.{scaled_edges}
 use Rattle.winding.proofs.WindingKit.{anchor_one, ring_by_anchor, rising_in, plain_scaled}
 use Rattle.lists.proofs.ListsKit.{in-map, map-map, not-false-out, not-true-out, pairs-map}
 use Rattle.nesting.proofs.NestingKit.{pairs-unmap, pairs-of}
-use Rattle.plane_edges.specs.Multiple.{common_den, edge_times, whole_edges}
+use Rattle.plane_edges.specs.Multiple.{edge_times, product_of_denominators, whole_edges}
 use Rattle.plane_edges.proofs.EdgesKit.{rises_alike}
 use Rattle.osm_geom.specs.declared.edge.Edge.{Edge}
 use Rattle.osm_geom.specs.Edge.{runs_up}
@@ -30,7 +30,7 @@ use Rattle.osm_nest.proofs.Leftmost.{along, segments_along}
 
 -- ---- the segments of the multiplied list
 pub segments-are : (es : List Edge) → segments_of (whole_edges es) ≡ segments_along es
-segments-are es = map-map segment_of (edge_times (common_den es)) es
+segments-are es = map-map segment_of (edge_times (product_of_denominators es)) es
 
 -- two edges along one segment are one
 module _ (k : ℕ) (es : List Edge) (plain : IsConflictFree (segments_times k es)) where
@@ -58,7 +58,7 @@ module _ (es : List Edge) (clear : AreConflictFree es) where
   anchor-of e i a = record { member = i; anchor = subst (λ l. IsAnchor (along es e) l) (sym (segments-are es)) a }
 
   pub one-anchor : (e f : Edge) → IsAnchorOf e es → IsAnchorOf f es → e ≡ f
-  one-anchor e f a b = same-along (common_den es) es plain-along e f a.member b.member (anchor_one (along es e) (along es f) (segments_along es) plain-along (anchor-along e a) (anchor-along f b))
+  one-anchor e f a b = same-along (product_of_denominators es) es plain-along e f a.member b.member (anchor_one (along es e) (along es f) (segments_along es) plain-along (anchor-along e a) (anchor-along f b))
 
   runs-into : (e : Edge) (up : Bool) → IsAnchorOf e es → runs_up e ≡ up → AnchorRuns up es
   runs-into e up a h = record { anchor = e; is_anchor = a; direction = h }
@@ -98,7 +98,7 @@ swapped false x y = refl
 
 pub winds-by-sign : (es : List Edge) (e : Edge) → AreConflictFree es → IsRing es → IsAnchorOf e es → WindsBySign (not (runs_up e)) es
 winds-by-sign es e clear ring a q hq p =
-    let k = common_den es in
+    let k = product_of_denominators es in
     let at = scaled_point (pos k) p in
     let g = plane-ring k es e (whole-at es) ring in
     let i : In (edge_times k e) (whole_edges es) = in-map (edge_times k) es e a.member in

@@ -20,7 +20,7 @@ use Rattle.status.proofs.StatusKit.{rises-among}
 use Rattle.osm_geom.specs.declared.edge.Edge.{Edge}
 use Rattle.osm_geom.specs.declared.point.Point.{Point}
 use Rattle.osm_geom.specs.Span.{lower_end}
-use Rattle.plane_edges.specs.Multiple.{common_den}
+use Rattle.plane_edges.specs.Multiple.{product_of_denominators}
 use Rattle.osm_nest.specs.declared.ring_edge.RingEdge.{RingEdge}
 use Rattle.osm_nest.specs.RingLists.{AreRings, all_edges, whole_rings}
 use Rattle.osm_nest.specs.SweptEdges.{AreSlopingEdges, IsSlopingEdge, IsRowPut, PutRow, StartsRise, is_within}
@@ -68,7 +68,7 @@ above-away t p h = ap (λ s. not (is_plus s) && is_plus (sign (t.to.y -ℤ p.y))
 
 module _ (rs : List (List Edge)) (are : AreRings rs) (items : List RingEdge) (of : AreSlopingEdges rs items) (rise : StartsRise items) where
   abbrev K : ℕ
-  K = common_den (all_edges rs)
+  K = product_of_denominators (all_edges rs)
 
   abbrev at : ℕ → RingEdge → plane.Edge
   at j d = segment_at K (get_or items j d).edge.now

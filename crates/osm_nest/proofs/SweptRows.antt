@@ -11,12 +11,12 @@ use Rattle.plane.specs.Vector.{Vector}
 use Rattle.lists.proofs.ListsKit.{and-right, at-in, clash, in-all, in-filter, in-left, in-passes, same_get}
 use Rattle.plane.proofs.PlaneKit.{right_chain, right_itself, right_of}
 use Rattle.lists.specs.Member.{In}
-use Rattle.status.specs.Status.{IsRight, IsStatus, spanning}
+use Rattle.status.specs.Status.{IsRightJustAbove, IsStatus, spanning}
 use Rattle.status.proofs.StatusKit.{fits, present, to_end}
 use Rattle.osm_geom.specs.declared.edge.Edge.{Edge}
 use Rattle.osm_geom.specs.JustAbove.{just_above_cmp}
 use Rattle.osm_geom.specs.Span.{lower_end, spans}
-use Rattle.plane_edges.specs.Multiple.{IsWholeAt, common_den}
+use Rattle.plane_edges.specs.Multiple.{IsWholeAt, product_of_denominators}
 use Rattle.osm_nest.specs.declared.ring_edge.RingEdge.{RingEdge}
 use Rattle.osm_nest.specs.RingLists.{AreRings, all_edges}
 use Rattle.osm_nest.specs.SweptEdges.{AreSlopingEdges, HasNeighbour, IsSlopingEdge, PutRow, is_within, left_at}
@@ -28,7 +28,7 @@ use Rattle.osm_nest.proofs.LeftEnclosers.{seg}
 -- ---- a row
 module _ (rs : List (List Edge)) (are : AreRings rs) (items : List RingEdge) (of : AreSlopingEdges rs items) where
   abbrev K : ℕ
-  K = common_den (all_edges rs)
+  K = product_of_denominators (all_edges rs)
 
   pub whole-of : (i : RingEdge) → In i items → IsWholeAt K i.edge.now
   whole-of i j = let is = in-all (IsSlopingEdge rs) items i of.each j in whole-in rs are i.ring is.inside i.edge.now is.member
@@ -40,7 +40,7 @@ module _ (rs : List (List Edge)) (are : AreRings rs) (items : List RingEdge) (of
     pub within-is : (i : RingEdge) → In i items → is_within (lower_end a.edge.now) i ≡ is_in_span p (segment_at K i.edge.now)
     within-is i j = spans-at K a.edge.now i.edge.now (whole-of a ai) (whole-of i j)
 
-    pub right-of-left : (i t : RingEdge) → In i items → In t items → left_at (lower_end a.edge.now) i.edge.now t.edge.now ≡ true → IsRight (seg rs are items of) p i t
+    pub right-of-left : (i t : RingEdge) → In i items → In t items → left_at (lower_end a.edge.now) i.edge.now t.edge.now ≡ true → IsRightJustAbove (seg rs are items of) p i t
     right-of-left i t ii it h =
         sym (above-at K a.edge.now i.edge.now t.edge.now (whole-of a ai) (whole-of i ii) (whole-of t it))
         ∙ and-right (spans i.edge.now (lower_end a.edge.now) && spans t.edge.now (lower_end a.edge.now)) (is_lt (just_above_cmp i.edge.now t.edge.now (lower_end a.edge.now))) h
@@ -55,8 +55,8 @@ module _ (rs : List (List Edge)) (are : AreRings rs) (items : List RingEdge) (of
         let member = λ (k : ℕ) (d : RingEdge) (l : k < length between). in-take m items (get_or between k d) (in-filter (λ (t : RingEdge). is_in_span p (segment_at K t.edge.now)) (take m items) (get_or between k d) (so_far.members k d l)) in
         let put = fits (seg rs are items of) p (take m items) between i one.place so_far (sym (within-is i ii) ∙ within) one.within
         (λ d some. let low : one.place - 1 < length between = (let w = one.within in omega (arith, w)) in
-        subst (λ t. IsRight (seg rs are items of) p t i) (same_get between (one.place - 1) i d low) (right-of-left (get_or between (one.place - 1) i) i (member (one.place - 1) i low) ii (one.before some)))
-        (λ d some. subst (λ t. IsRight (seg rs are items of) p i t) (same_get between one.place i d some) (right-of-left i (get_or between one.place i) ii (member one.place i some) (one.after some))) in
+        subst (λ t. IsRightJustAbove (seg rs are items of) p t i) (same_get between (one.place - 1) i d low) (right-of-left (get_or between (one.place - 1) i) i (member (one.place - 1) i low) ii (one.before some)))
+        (λ d some. subst (λ t. IsRightJustAbove (seg rs are items of) p i t) (same_get between one.place i d some) (right-of-left i (get_or between one.place i) ii (member one.place i some) (one.after some))) in
         let ended = to_end (seg rs are items of) p (take m items) new i (subst (IsStatus (seg rs are items of) p (i ∷ take m items)) (sym one.is) put) in
         subst (λ xs. IsStatus (seg rs are items of) p xs new) (ap (λ t. take m items ++ t ∷ []) at ∙ sym (take_more items m i inside) ∙ ap (λ k. take k items) (let e : m + 1 ≡ from + suc n = omega arith in e)) ended
       where

@@ -7,7 +7,7 @@ use Rattle.lists.specs.Member.{In}
 use Rattle.winding.specs.Ring.{IsAnchor, segments_of}
 use Rattle.lists.proofs.ListsKit.{in-filter, in-map, in-map-out, in-passes, in-rotated, into-filter, rotated-in}
 use Rattle.osm_geom.specs.declared.edge.Edge.{Edge}
-use Rattle.plane_edges.specs.Multiple.{common_den, edge_times, edges_times}
+use Rattle.plane_edges.specs.Multiple.{edge_times, edges_times, product_of_denominators}
 use Rattle.lists.specs.Rotated.{IsRotated}
 use Rattle.osm_nest.specs.Outer.{AnchorRuns, IsAnchorOf}
 use Rattle.osm_nest.proofs.InPlane.{common-append}
@@ -29,14 +29,14 @@ segments-in k p q into t i =
     subst (λ s. In s (segments_of (edges_times k q))) (sym (x.2 ∙ ap segment_of y.2)) (in-map segment_of (edges_times k q) (edge_times k y.0) (in-map (edge_times k) q y.0 (into y.0 y.1)))
 
 module _ (p q : List Edge) (t : IsRotated p q) where
-  same-den : common_den p ≡ common_den q
+  same-den : product_of_denominators p ≡ product_of_denominators q
   same-den =
-      ap common_den t.old ∙ common-append t.front t.back ∙ mul_comm (common_den t.front) (common_den t.back)
-      ∙ sym (common-append t.back t.front) ∙ ap common_den (sym t.new)
+      ap product_of_denominators t.old ∙ common-append t.front t.back ∙ mul_comm (product_of_denominators t.front) (product_of_denominators t.back)
+      ∙ sym (common-append t.back t.front) ∙ ap product_of_denominators (sym t.new)
 
   pub anchor-turned : (e : Edge) → IsAnchorOf e p → IsAnchorOf e q
   anchor-turned e a =
-      let k = common_den p in
+      let k = product_of_denominators p in
       record {
         member = in-rotated p q t e a.member;
         anchor = subst (λ n. IsAnchor (segment_of (edge_times n e)) (segments_of (edges_times n q))) same-den

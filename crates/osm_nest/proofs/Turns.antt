@@ -21,10 +21,10 @@ use Rattle.osm_geom.proofs.GeometryKit.{point_same, point_total}
 use Rattle.std.specs.Cmp.{IsStrictWeakOrder, IsTotalOrder}
 use Rattle.osm_nest.specs.declared.rings_from_least.RingFromLeast.{RingFromLeast}
 use Rattle.osm_nest.specs.Grouped.{AreListed, ArePlacesSorted, AreSortedFromLeast, IsFromLeastAt}
-use Rattle.osm_nest.specs.Nested.{IsBefore, edge_cmp}
+use Rattle.osm_nest.specs.Nested.{BeginsBefore, edge_cmp}
 use Rattle.osm_nest.specs.RingLists.{AreRings, all_edges, whole_rings}
 use Rattle.osm_nest.proofs.Places.{placed, rings-apart, stand}
-use Rattle.plane_edges.specs.Multiple.{common_den, edge_times, edges_times, point_times}
+use Rattle.plane_edges.specs.Multiple.{edge_times, edges_times, point_times, product_of_denominators}
 
 pub edges-total : IsTotalOrder edge_cmp
 edges-total = then_total (on_total (λ (e : Edge). e.from) point_total) (on_total (λ (e : Edge). e.to) point_total)
@@ -64,7 +64,7 @@ module _ (s t : Edge) (after : is_lt (edge_cmp t s) ≡ false) (apart : s.from �
 module _ (rs : List (List Edge)) (are : AreRings rs) where
   pub begun-some : (n : ℕ) (b : RingFromLeast) → n < length rs → IsFromLeastAt (get_or rs n []) n b → 0 < length b.ring
   begun-some n b h is =
-      let k = common_den (all_edges rs) in
+      let k = product_of_denominators (all_edges rs) in
       let r = get_or rs n [] in
       let here : get_or (whole_rings rs) n [] ≡ edges_times k r = get_or-map (edges_times k) rs n [] [] h in
       let size = length-map rs (edges_times k) in
@@ -75,7 +75,7 @@ module _ (rs : List (List Edge)) (are : AreRings rs) where
 
 module _ (rs : List (List Edge)) (are : AreRings rs) (listed bs : List RingFromLeast) (all : AreListed rs (length rs) listed) (moved : IsPermutation listed bs) (sorted : ArePlacesSorted bs) where
   abbrev k : ℕ
-  k = common_den (all_edges rs)
+  k = product_of_denominators (all_edges rs)
 
   first-in : (n : ℕ) (b : RingFromLeast) → n < length rs → IsFromLeastAt (get_or rs n []) n b → (d : Edge) → In (edge_times k (get_or b.ring 0 d)) (get_or (whole_rings rs) n [])
   first-in n b h is d =
@@ -92,7 +92,7 @@ module _ (rs : List (List Edge)) (are : AreRings rs) (listed bs : List RingFromL
       rings-apart (whole_rings rs) (sided-once (edges_of (whole_rings rs)) are.ring_list.sided) b.place c.place e n (omega arith) (omega arith) (first-in b.place b h is d)
       (subst (λ x. In x (get_or (whole_rings rs) c.place [])) same (first-in c.place c l it d))
 
-  in-order : AllPairs (λ (b c : RingFromLeast). IsBefore b.ring c.ring) bs
+  in-order : AllPairs (λ (b c : RingFromLeast). BeginsBefore b.ring c.ring) bs
   in-order i j z h l d =
       let b = get_or bs i z in let c = get_or bs j z in
       let x = stand rs listed bs all moved i z (omega arith) in

@@ -15,8 +15,8 @@ abbrev pub IsSloping : Edge → Type 0
 IsSloping e = spans e (lower_end e) ≡ true
 
 -- f spans the height of the lower end of a, and is right of a just above it
-unfoldable pub is_right_of : Edge → Edge → Bool
-is_right_of a f = spans f (lower_end a) && is_lt (just_above_cmp a f (lower_end a))
+unfoldable pub is_right_of_lower_end : Edge → Edge → Bool
+is_right_of_lower_end a f = spans f (lower_end a) && is_lt (just_above_cmp a f (lower_end a))
 
 -- just above the lower end of a, which both span, f is left of g
 unfoldable pub is_nearer : Edge → Edge → Edge → Bool
@@ -24,19 +24,19 @@ is_nearer a f g = is_lt (just_above_cmp f g (lower_end a))
 
 -- an odd number of the edges are right of a
 abbrev pub is_around : Edge → List Edge → Bool
-is_around a es = not (is_even (count_by (is_right_of a) es))
+is_around a es = not (is_even (count_by (is_right_of_lower_end a) es))
 
-abbrev pub IsRight : Edge → Edge → Type 0
-IsRight a f = is_right_of a f ≡ true
+abbrev pub IsRightOf : Edge → Edge → Type 0
+IsRightOf a f = is_right_of_lower_end a f ≡ true
 
 -- e is one of the edges right of a, and none of them is nearer
 pub record IsNearest (a : Edge) (es : List Edge) (e : Edge) : Type 0 where
   pub member : In e es
-  pub right : is_right_of a e ≡ true
-  pub nearest : (f : Edge) → In f es → is_right_of a f ≡ true → is_nearer a f e ≡ false
+  pub right : is_right_of_lower_end a e ≡ true
+  pub nearest : (f : Edge) → In f es → is_right_of_lower_end a f ≡ true → is_nearer a f e ≡ false
 
 abbrev pub IsNearestRight : Edge → List Edge → Option Edge → Type 0
-IsNearestRight a es None = (f : Edge) → In f es → is_right_of a f ≡ false
+IsNearestRight a es None = (f : Edge) → In f es → is_right_of_lower_end a f ≡ false
 IsNearestRight a es (Some e) = IsNearest a es e
 
 -- the nearer of what was found and the next edge
@@ -46,7 +46,7 @@ nearest_so_far a (Some e) next = cond (is_nearer a next e) next e
 
 -- the same, where the next edge counts only right of a
 abbrev pub nearer_edge : Edge → Option Edge → Edge → Option Edge
-nearer_edge a found next = cond (is_right_of a next) (Some (nearest_so_far a found next)) found
+nearer_edge a found next = cond (is_right_of_lower_end a next) (Some (nearest_so_far a found next)) found
 
 -- the ring at a place is outer, and around a
 pub record IsEncloser (rs : List (List Edge)) (a : Edge) (place : ℕ) : Type 0 where
@@ -71,7 +71,7 @@ nearer_encloser a (Some b) (Some c) = cond (is_nearer a c.edge b.edge) (Some c) 
 -- of the edges right of a of all candidates up to a place none is nearer
 pub record IsNearestUpTo (rs : List (List Edge)) (a : Edge) (place : ℕ) (c : Encloser) : Type 0 where
   pub is : IsEncloserBy rs a c
-  pub nearest : (k : ℕ) → k < place → IsEncloser rs a k → (f : Edge) → In f (get_or rs k []) → is_right_of a f ≡ true → is_nearer a f c.edge ≡ false
+  pub nearest : (k : ℕ) → k < place → IsEncloser rs a k → (f : Edge) → In f (get_or rs k []) → is_right_of_lower_end a f ≡ true → is_nearer a f c.edge ≡ false
 
 abbrev pub IsBestUpTo : List (List Edge) → Edge → ℕ → Option Encloser → Type 0
 IsBestUpTo rs a place None = (k : ℕ) → k < place → IsEncloser rs a k → ⊥

@@ -7,7 +7,7 @@ use Rattle.osm_geom.specs.declared.edge.Edge.{Edge}
 use Rattle.osm_nest.specs.declared.rings_from_least.RingFromLeast.{RingFromLeast}
 use Rattle.osm_nest.specs.declared.polygon.Polygon.{Polygon}
 use Rattle.osm_nest.specs.Enclosers.{AreDirectEnclosers}
-use Rattle.osm_nest.specs.Nested.{IsBefore, IsFromLeast, edge_cmp}
+use Rattle.osm_nest.specs.Nested.{BeginsBefore, IsFromLeast, edge_cmp}
 use Rattle.osm_nest.specs.RingLists.{AreRings}
 
 -- rings begun at their least nodes where they stood
@@ -42,7 +42,7 @@ pub record AreSortedFromLeast (rs : List (List Edge)) (begun : List RingFromLeas
   pub listed : List RingFromLeast
   pub are : AreListed rs (length rs) listed
   pub moved : IsPermutation listed begun
-  pub order : AllPairs (λ (b c : RingFromLeast). IsBefore b.ring c.ring) begun
+  pub order : AllPairs (λ (b c : RingFromLeast). BeginsBefore b.ring c.ring) begun
 
 abbrev pub has_no_encloser : Option ℕ → Bool
 has_no_encloser None = true

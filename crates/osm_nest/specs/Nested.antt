@@ -13,11 +13,11 @@ use Rattle.osm_nest.specs.RingLists.{all_edges, whole_rings}
 use Rattle.lists.specs.Rotated.{IsRotated}
 use Rattle.osm_rings.specs.RingList.{AreRingsOf}
 use Rattle.osm_rings.specs.Turned.{BeginsLeast}
-use Rattle.plane_edges.specs.Multiple.{common_den}
+use Rattle.plane_edges.specs.Multiple.{product_of_denominators}
 
 -- each polygon is an outer ring of the list and inner rings that it directly encloses, and each ring stands in exactly one polygon, there once
 pub record ArePolygonsOf (rs : List (List Edge)) (polygons : List Polygon) : Type 0 where
-  pub each : All (λ polygon. IsPolygon (whole_rings rs) (polygon_times (common_den (all_edges rs)) polygon)) polygons
+  pub each : All (λ polygon. IsPolygon (whole_rings rs) (polygon_times (product_of_denominators (all_edges rs)) polygon)) polygons
   pub once : (f : List Edge → ℕ) → sum_by f (rings_of polygons) ≡ sum_by f rs
 
 -- the first ring of the polygon is outer, told by its anchor, and the others are inner
@@ -46,13 +46,13 @@ ArePolygonsFromLeast (p ∷ ps) begun = (first : Polygon) × (others : List Poly
 abbrev pub edge_cmp : Edge → Edge → Ordering
 edge_cmp e f = ordering_then (point_cmp e.from f.from) (point_cmp e.to f.to)
 
-abbrev pub IsBefore : List Edge → List Edge → Type 0
-IsBefore r s = (d : Edge) → edge_cmp (slice_index_or r 0 d) (slice_index_or s 0 d) ≡ Less
+abbrev pub BeginsBefore : List Edge → List Edge → Type 0
+BeginsBefore r s = (d : Edge) → edge_cmp (slice_index_or r 0 d) (slice_index_or s 0 d) ≡ Less
 
 -- polygons by their outer rings, and in each the inner rings, in order
 pub record AreInOrder (polygons : List Polygon) : Type 0 where
-  pub outers : AllPairs (λ (p q : Polygon). IsBefore p.outer q.outer) polygons
-  pub inners : All (λ (p : Polygon). AllPairs IsBefore p.inners) polygons
+  pub outers : AllPairs (λ (p q : Polygon). BeginsBefore p.outer q.outer) polygons
+  pub inners : All (λ (p : Polygon). AllPairs BeginsBefore p.inners) polygons
 
 -- the polygons of the rings, in order, each ring begun at its least node
 pub record AreNested (rs : List (List Edge)) (nested : List Polygon) : Type 0 where

@@ -8,7 +8,7 @@ use Rattle.lists.specs.Member.{In}
 use Rattle.winding.specs.Ring.{IsAnchor, segments_of}
 use Rattle.osm_geom.specs.declared.edge.Edge.{Edge}
 use Rattle.osm_geom.specs.Edge.{runs_up}
-use Rattle.plane_edges.specs.Multiple.{common_den, edge_times, whole_edges}
+use Rattle.plane_edges.specs.Multiple.{edge_times, product_of_denominators, whole_edges}
 use Rattle.plane_edges.specs.Sided.{count_at, signed_count_at}
 
 -- no two edges share a point that isn't an end of both
@@ -18,7 +18,7 @@ AreConflictFree es = IsConflictFree (segments_of (whole_edges es))
 -- e stands at the least node of the ring and is the leftmost of the edges that rise from there
 pub record IsAnchorOf (e : Edge) (ring : List Edge) : Type 0 where
   pub member : In e ring
-  pub anchor : IsAnchor (segment_of (edge_times (common_den ring) e)) (segments_of (whole_edges ring))
+  pub anchor : IsAnchor (segment_of (edge_times (product_of_denominators ring) e)) (segments_of (whole_edges ring))
 
 -- the anchor of the ring runs up, or down
 pub record AnchorRuns (up : Bool) (ring : List Edge) : Type 0 where

@@ -88,7 +88,7 @@ abbrev pub begin_level : Edge → Edge → Bool
 begin_level e f = spans f (lower_end e) && spans e (lower_end f)
 
 -- the enclosers that are known are right
-pub record AreKnown (rs : List (List Edge)) (known : List (Option ℕ)) : Type 0 where
+pub record KnownEnclosersAreRight (rs : List (List Edge)) (known : List (Option ℕ)) : Type 0 where
   pub sized : length known ≡ length rs
   pub right : (place encloser : ℕ) → place < length rs → get_or known place None ≡ Some encloser → IsDirectEncloser rs place (Some encloser)
 

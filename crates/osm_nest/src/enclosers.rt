@@ -2,11 +2,11 @@
 ghost use Rattle.std.specs.Prelude.{◌≡◌, ◌<◌, ◌&&◌, All, IfOk, IfSome, cond, length, true};
 ghost use Rattle.std.specs.Ordering.{is_lt};
 ghost use Rattle.osm_geom.specs.Span.{lower_end, spans};
-ghost use Rattle.osm_nest.specs.Beside.{IsBestUpTo, IsEncloserAt, IsNearestRight, IsRight, IsSloping, nearer_encloser, is_around, is_nearer, is_right_of, nearer_edge};
+ghost use Rattle.osm_nest.specs.Beside.{IsBestUpTo, IsEncloserAt, IsNearestRight, IsRightOf, IsSloping, nearer_encloser, is_around, is_nearer, is_right_of_lower_end, nearer_edge};
 ghost use Rattle.osm_nest.specs.Anchors.{AreAnchors};
 ghost use Rattle.osm_nest.specs.Enclosers.{AreDirectEnclosers, IsDirectEncloser, TellOuter};
 ghost use Rattle.osm_nest.specs.RingLists.{AreRings};
-ghost use Rattle.osm_nest.specs.SweptEdges.{AreKnown};
+ghost use Rattle.osm_nest.specs.SweptEdges.{KnownEnclosersAreRight};
 
 use crate::outer::lower_end;
 use crate::ring_anchors::{Anchors, find_anchors};
@@ -55,7 +55,7 @@ fn known_enclosers(
 ) -> Result<Vec<Option<usize>>, OutOfMemory>
     requires rings { AreRings rings.now }
     requires anchors { AreAnchors rings.now anchors.now }
-    ensures { IfOk result (λ known. AreKnown rings.now known.items) }
+    ensures { IfOk result (λ known. KnownEnclosersAreRight rings.now known.items) }
 {
     if are_few_inner(anchors) {
         return none_known(alloc, rings);
@@ -72,7 +72,7 @@ fn direct_encloser(
 ) -> Option<usize>
     requires rings { AreRings rings.now }
     requires anchors { AreAnchors rings.now anchors.now }
-    requires known { AreKnown rings.now known.now }
+    requires known { KnownEnclosersAreRight rings.now known.now }
     requires inside { place < length rings.now }
     ensures { IsDirectEncloser rings.now place result }
 {
@@ -138,8 +138,8 @@ fn nearer_encloser(
     anchor: &Edge,
 ) -> Option<Encloser>
     requires anchor { IsSloping anchor.now }
-    requires first { IfSome best (λ c. IsRight anchor.now c.edge) }
-    requires second { IfSome next (λ c. IsRight anchor.now c.edge) }
+    requires first { IfSome best (λ c. IsRightOf anchor.now c.edge) }
+    requires second { IfSome next (λ c. IsRightOf anchor.now c.edge) }
     ensures { result ≡ nearer_encloser anchor.now best next }
 {
     match (best, next) {
@@ -162,7 +162,7 @@ pub(crate) fn is_around(edges: &[Edge], anchor: &Edge) -> bool
 {
     let mut odd = false;
     for edge in edges {
-        odd = odd != is_right_of(edge, anchor);
+        odd = odd != is_right_of_lower_end(edge, anchor);
     }
     odd
 }
@@ -182,10 +182,10 @@ pub(crate) fn nearest_right(edges: &[Edge], anchor: &Edge) -> Option<Edge>
 /// The next edge where it is right of the anchor and nearer than what was found, else that.
 fn nearer_edge(found: Option<Edge>, next: Edge, anchor: &Edge) -> Option<Edge>
     requires anchor { IsSloping anchor.now }
-    requires found { IfSome found (λ e. IsRight anchor.now e) }
+    requires found { IfSome found (λ e. IsRightOf anchor.now e) }
     ensures { result ≡ nearer_edge anchor.now found next }
 {
-    if !is_right_of(&next, anchor) {
+    if !is_right_of_lower_end(&next, anchor) {
         return found;
     }
     match found {
@@ -197,8 +197,8 @@ fn nearer_edge(found: Option<Edge>, next: Edge, anchor: &Edge) -> Option<Edge>
 /// Of two edges right of the anchor the nearer.
 fn closer_edge(edge: Edge, next: Edge, anchor: &Edge) -> Edge
     requires anchor { IsSloping anchor.now }
-    requires first { IsRight anchor.now edge }
-    requires second { IsRight anchor.now next }
+    requires first { IsRightOf anchor.now edge }
+    requires second { IsRightOf anchor.now next }
     ensures { result ≡ cond (is_nearer anchor.now next edge) next edge }
 {
     if is_nearer(&next, &edge, anchor) {
@@ -209,10 +209,10 @@ fn closer_edge(edge: Edge, next: Edge, anchor: &Edge) -> Edge
 }
 
 /// Whether an edge spans the lower end of the anchor, and is right of the anchor just above it.
-#[tactic(auto, unfolding(crate::specs::Beside::is_right_of))]
-fn is_right_of(edge: &Edge, anchor: &Edge) -> bool
+#[tactic(auto, unfolding(crate::specs::Beside::is_right_of_lower_end))]
+fn is_right_of_lower_end(edge: &Edge, anchor: &Edge) -> bool
     requires anchor { IsSloping anchor.now }
-    ensures { result ≡ is_right_of anchor.now edge.now }
+    ensures { result ≡ is_right_of_lower_end anchor.now edge.now }
 {
     let at = lower_end(anchor);
     spans_height(edge, at) && compare_just_above(anchor, edge, at).is_lt()
@@ -222,8 +222,8 @@ fn is_right_of(edge: &Edge, anchor: &Edge) -> bool
 #[tactic(auto, using(crate::proofs::Beside::right_spans), unfolding(crate::specs::Beside::is_nearer))]
 fn is_nearer(edge: &Edge, other: &Edge, anchor: &Edge) -> bool
     requires anchor { IsSloping anchor.now }
-    requires first { IsRight anchor.now edge.now }
-    requires second { IsRight anchor.now other.now }
+    requires first { IsRightOf anchor.now edge.now }
+    requires second { IsRightOf anchor.now other.now }
     ensures { result ≡ is_nearer anchor.now edge.now other.now }
 {
     compare_just_above(edge, other, lower_end(anchor)).is_lt()

@@ -6,7 +6,7 @@ ghost use Rattle.osm_nest.specs.declared.ring_edge.RingEdge.{RingEdge};
 ghost use Rattle.osm_nest.specs.Anchors.{AreAnchors};
 ghost use Rattle.osm_nest.specs.Enclosers.{IsDirectEncloser};
 ghost use Rattle.osm_nest.specs.RingLists.{AreRings};
-ghost use Rattle.osm_nest.specs.SweptEdges.{AreKnown, IsInnerAnchor, IsTeller, TellsEncloser, begin_level, is_within};
+ghost use Rattle.osm_nest.specs.SweptEdges.{IsInnerAnchor, IsTeller, KnownEnclosersAreRight, TellsEncloser, begin_level, is_within};
 
 use crate::outer::lower_end;
 use crate::ring_anchors::Anchors;
@@ -26,7 +26,7 @@ pub(crate) fn swept_enclosers(
 ) -> Result<Vec<Option<usize>>, OutOfMemory>
     requires rings { AreRings rings.now }
     requires anchors { AreAnchors rings.now anchors.now }
-    ensures { IfOk result (λ known. AreKnown rings.now known.items) }
+    ensures { IfOk result (λ known. KnownEnclosersAreRight rings.now known.items) }
 {
     let inner = inner_anchors(alloc, rings, anchors)?;
     let mut known = none_known(alloc, rings)?;
@@ -79,7 +79,7 @@ fn inner_anchors<'a>(
 
 /// None for each ring.
 pub(crate) fn none_known(alloc: Global, rings: &[Ring]) -> Result<Vec<Option<usize>>, OutOfMemory>
-    ensures { IfOk result (λ known. AreKnown rings.now known.items) }
+    ensures { IfOk result (λ known. KnownEnclosersAreRight rings.now known.items) }
 {
     let mut known = Vec::with_capacity(alloc, rings.len())?;
     for _ in 0..rings.len() {
@@ -117,9 +117,9 @@ fn settle_row(
         → begin_level first.now a.edge.now ≡ true
         → TellsEncloser rings.now (filter (is_within (lower_end a.edge.now)) status.now) a }
     requires from { from ≤ length inner.now }
-    requires known { AreKnown rings.now known.old.items }
+    requires known { KnownEnclosersAreRight rings.now known.old.items }
     ensures within { result ≤ length inner.now }
-    ensures known { AreKnown rings.now known.new.items }
+    ensures known { KnownEnclosersAreRight rings.now known.new.items }
 {
     let mut next = from;
     while begins_there(inner, next, first) {
@@ -141,8 +141,8 @@ fn settle(
     requires inside { anchor.now.ring < length rings.now }
     requires tells { TellsEncloser rings.now (filter (is_within (lower_end anchor.now.edge.now))
         status.now) anchor.now }
-    requires known { AreKnown rings.now known.old.items }
-    ensures { AreKnown rings.now known.new.items }
+    requires known { KnownEnclosersAreRight rings.now known.old.items }
+    ensures { KnownEnclosersAreRight rings.now known.new.items }
 {
     match left_neighbour(status, anchor) {
         Some(left) => {
@@ -163,7 +163,7 @@ fn encloser_by(
 ) -> Option<usize>
     requires anchors { AreAnchors rings.now anchors.now }
     requires tells { IsTeller rings.now anchor.now left.now }
-    requires known { AreKnown rings.now known.now }
+    requires known { KnownEnclosersAreRight rings.now known.now }
     ensures { IfSome result (λ encloser. IsDirectEncloser rings.now anchor.now.ring
         (Some encloser)) }
 {

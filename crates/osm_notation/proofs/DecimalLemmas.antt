@@ -8,7 +8,7 @@ use Rattle.std.proofs.lemmas.List.{get_or-take, length-append, length-take-le, t
 use Rattle.std.proofs.lemmas.List.Folds.{list_all_at}
 use Rattle.std.proofs.lemmas.Nat.{div_below}
 use Rattle.std.specs.List.{list_all}
-use Rattle.osm_notation.specs.Decimal.{last_digits, without_end_zeros, fraction}
+use Rattle.osm_notation.specs.Decimal.{last_digits, without_end_zeros, fraction_text}
 
 abbrev is_zero : ℕ → Bool
 is_zero d = d == 48
@@ -56,14 +56,14 @@ stay digits len le last = none-dropped (take len digits) (λ some.
     ∙ ne_eqb (get_or digits (len - 1) 0) 48 (last above))
 
 fraction-some : (rest : ℕ) (digits : List ℕ) (len : ℕ) → 0 < rest → digits ≡ last_digits 7 rest → len ≤ length digits → without_end_zeros (take len digits) ≡ without_end_zeros digits
-    → (0 < len → get_or digits (len - 1) 0 ≢ 48) → fraction rest ≡ 46 ∷ take len digits
-unfolding fraction
+    → (0 < len → get_or digits (len - 1) 0 ≢ 48) → fraction_text rest ≡ 46 ∷ take len digits
+unfolding fraction_text
 fraction-some rest digits len some is le same last =
     rw (ne_eqb rest 0 (omega arith)) (ap (λ (ds : List ℕ). 46 ∷ ds) (ap without_end_zeros (sym is) ∙ sym same ∙ stay digits len le last))
 
 -- a point and the digits that stay, put behind what stands
 pub fraction-put : (rest : ℕ) (digits : List ℕ) (len : ℕ) (before point after : List ℕ) → 0 < rest → digits ≡ last_digits 7 rest → len ≤ length digits → without_end_zeros (take len digits) ≡ without_end_zeros digits
-    → (0 < len → get_or digits (len - 1) 0 ≢ 48) → point ≡ before ++ 46 ∷ [] → after ≡ point ++ take len digits → after ≡ before ++ fraction rest
+    → (0 < len → get_or digits (len - 1) 0 ≢ 48) → point ≡ before ++ 46 ∷ [] → after ≡ point ++ take len digits → after ≡ before ++ fraction_text rest
 fraction-put rest digits len before point after some is le same last put_point put_digits =
     put_digits
     ∙ ap (λ (xs : List ℕ). xs ++ take len digits) put_point

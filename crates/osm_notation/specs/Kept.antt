@@ -2,5 +2,5 @@
 use Rattle.std.specs.Prelude.{ℕ, List, length, take, ◌≡◌}
 
 -- what was there still stands in front
-abbrev pub Keeps : List ℕ → List ℕ → Type 0
-Keeps before now = take (length before) now ≡ before
+abbrev pub KeepsFront : List ℕ → List ℕ → Type 0
+KeepsFront before now = take (length before) now ≡ before

@@ -1,7 +1,7 @@
 //! Decimals of coordinates.
 
 ghost use Rattle.std.specs.Prelude.{◌≡◌, ◌≢◌, ℕ, ◌+◌, ◌-◌, ◌^◌, ◌<◌, ◌≤◌, ◌∷◌, ◌++◌, [], length, take, slice_index, decimal};
-ghost use Rattle.osm_notation.specs.Decimal.{units_text, magnitude_text, fraction, last_digits, without_end_zeros};
+ghost use Rattle.osm_notation.specs.Decimal.{units_text, magnitude_text, fraction_text, last_digits, without_end_zeros};
 
 use itoa::Buffer;
 
@@ -86,12 +86,12 @@ fn put_front(buf: &mut [u8], at: usize, decimals: [u8; 7], len: usize) -> usize
 }
 
 /// Puts a point and decimals, where a rest stands.
-#[tactic(auto, unfolding(crate::specs::Decimal::fraction))]
+#[tactic(auto, unfolding(crate::specs::Decimal::fraction_text))]
 fn put_fraction(buf: &mut [u8], at: usize, rest: u64) -> usize
     requires room { at + 8 ≤ length buf.old }
     requires rest { rest < 10 ^ 7 }
     ensures short { result ≤ at + 8 }
-    ensures text { take result buf.new ≡ take at buf.old ++ fraction rest }
+    ensures text { take result buf.new ≡ take at buf.old ++ fraction_text rest }
 {
     if rest == 0 {
         return at;

@@ -4,7 +4,7 @@ ghost use Rattle.std.specs.Prelude.{◌≡◌, ◌<◌, ◌≤◌, ◌∷◌, �
 ghost use Rattle.std.specs.Fmt.{digit_glyph, digits};
 ghost use Rattle.std.specs.List.{list_all};
 ghost use Rattle.osm_notation.specs.Written.{is_plain, written};
-ghost use Rattle.osm_notation.specs.Kept.{Keeps};
+ghost use Rattle.osm_notation.specs.Kept.{KeepsFront};
 
 use opl_reader::Text;
 use std::alloc::{AllocError as OutOfMemory, Global};
@@ -44,7 +44,7 @@ fn digit(number: u32) -> u8
 /// Adds a number in lower case hexadecimal.
 fn put_hexadecimal(bytes: &mut Vec<u8>, number: u32) -> Result<(), OutOfMemory>
     ensures text { OnOk result (bytes.new.items ≡ bytes.old.items ++ digits 16 false number) }
-    ensures kept { OnErr result (Keeps bytes.old.items bytes.new.items) }
+    ensures kept { OnErr result (KeepsFront bytes.old.items bytes.new.items) }
 {
     let mut digits = [b'0'; 8];
     let mut at = 7;
@@ -63,7 +63,7 @@ fn put_hexadecimal(bytes: &mut Vec<u8>, number: u32) -> Result<(), OutOfMemory>
 fn put_escape(bytes: &mut Vec<u8>, c: char) -> Result<(), OutOfMemory>
     ensures text { OnOk result (bytes.new.items
         ≡ bytes.old.items ++ 37 ∷ digits 16 false c ++ 37 ∷ []) }
-    ensures kept { OnErr result (Keeps bytes.old.items bytes.new.items) }
+    ensures kept { OnErr result (KeepsFront bytes.old.items bytes.new.items) }
 {
     bytes.push(b'%')?;
     put_hexadecimal(bytes, c as u32)?;
@@ -80,7 +80,7 @@ fn put_first<'a>(bytes: &mut Vec<u8>, text: &'a str) -> Result<&'a str, OutOfMem
     ensures bound { IfOk result (λ rest. length rest.now ≤ length text.now) }
     ensures shorter { IfOk result (λ rest. 0 < length text.now
         → length rest.now < length text.now) }
-    ensures kept { Keeps bytes.old.items bytes.new.items }
+    ensures kept { KeepsFront bytes.old.items bytes.new.items }
 {
     let mut chars = text.chars();
     let Some(c) = chars.next() else {
@@ -93,7 +93,7 @@ fn put_first<'a>(bytes: &mut Vec<u8>, text: &'a str) -> Result<&'a str, OutOfMem
 /// Adds the written string of a text.
 pub fn put_written(bytes: &mut Vec<u8>, text: &str) -> Result<(), OutOfMemory>
     ensures text { OnOk result (bytes.new.items ≡ bytes.old.items ++ written text.now) }
-    ensures kept { OnErr result (Keeps bytes.old.items bytes.new.items) }
+    ensures kept { OnErr result (KeepsFront bytes.old.items bytes.new.items) }
 {
     let mut rest = text;
     while !rest.is_empty() {

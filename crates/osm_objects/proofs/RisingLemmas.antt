@@ -12,7 +12,7 @@ use Rattle.std.proofs.lemmas.List.{take-append-drop}
 use Rattle.std.proofs.lemmas.Option.{same_Some}
 use Rattle.lists.proofs.ListsKit.{below_from}
 use Rattle.osm_objects.specs.declared.plain.PlainNode.{PlainNode}
-use Rattle.osm_objects.specs.Plain.{AreRising}
+use Rattle.osm_objects.specs.Plain.{HaveRisingIds}
 
 below-trans : (a b c : ℤ) → a <ℤ b → b <ℤ c → a <ℤ c
 below-trans a b c l m = omega (arith, ints)
@@ -34,13 +34,13 @@ last-of-all : (P : PlainNode → Type 0) (nodes : List PlainNode) (n : PlainNode
 last-of-all P [] n all = all.0
 last-of-all P (m ∷ nodes) n all = last-of-all P nodes n all.1
 
-pub one_more_rises : (nodes : List PlainNode) (n : PlainNode) (k : ℕ) → AreRising nodes → length nodes ≡ suc k → ((d : PlainNode) → (get_or nodes k d).id <ℤ n.id) → AreRising (nodes ++ n ∷ [])
+pub one_more_rises : (nodes : List PlainNode) (n : PlainNode) (k : ℕ) → HaveRisingIds nodes → length nodes ≡ suc k → ((d : PlainNode) → (get_or nodes k d).id <ℤ n.id) → HaveRisingIds (nodes ++ n ∷ [])
 one_more_rises [] n k rise is last = absurd (omega arith)
 one_more_rises (m ∷ []) n zero rise is last = ((last m, tt), (tt, tt))
 one_more_rises (m ∷ []) n (suc k) rise is last = absurd (omega arith)
 one_more_rises (m ∷ (p ∷ nodes)) n zero rise is last = absurd (omega arith)
 one_more_rises (m ∷ (p ∷ nodes)) n (suc k) rise is last =
-    let rest : AreRising ((p ∷ nodes) ++ n ∷ []) = one_more_rises (p ∷ nodes) n k rise.1 (omega arith) last in
+    let rest : HaveRisingIds ((p ∷ nodes) ++ n ∷ []) = one_more_rises (p ∷ nodes) n k rise.1 (omega arith) last in
     let above : p.id <ℤ n.id = last-of-all (λ (q : PlainNode). p.id <ℤ q.id) nodes n rest.0 in
     (push-below (λ (q : PlainNode). m.id <ℤ q.id) (p ∷ nodes) n rise.0 (below-trans m.id p.id n.id (rise.0.0) above), rest)
 
@@ -50,7 +50,7 @@ abbrev has_id : ℤ → PlainNode → Bool
 has_id id n = int_eq id n.id
 
 -- the halves rise
-pub front_rises : (before behind : List PlainNode) → AreRising (before ++ behind) → AreRising before
+pub front_rises : (before behind : List PlainNode) → HaveRisingIds (before ++ behind) → HaveRisingIds before
 front_rises [] behind rise = tt
 front_rises (m ∷ before) behind rise = (front_all (λ (q : PlainNode). m.id <ℤ q.id) before behind rise.0, front_rises before behind rise.1)
   where
@@ -58,7 +58,7 @@ front_rises (m ∷ before) behind rise = (front_all (λ (q : PlainNode). m.id <�
     front_all P [] ys all = tt
     front_all P (x ∷ xs) ys all = (all.0, front_all P xs ys all.1)
 
-pub rest_rises : (before behind : List PlainNode) → AreRising (before ++ behind) → AreRising behind
+pub rest_rises : (before behind : List PlainNode) → HaveRisingIds (before ++ behind) → HaveRisingIds behind
 rest_rises [] behind rise = rise
 rest_rises (m ∷ before) behind rise = rest_rises before behind rise.1
 
@@ -72,13 +72,13 @@ above_all id n [] l all = tt
 above_all id n (q ∷ nodes) l all = (below-trans id n.id q.id l all.0, above_all id n nodes l all.1)
 
 -- below the middle: it stands in the first half, if anywhere
-pub goes_before : (id : ℤ) (before : List PlainNode) (n : PlainNode) (behind : List PlainNode) → AreRising (before ++ n ∷ behind) → id <ℤ n.id →
+pub goes_before : (id : ℤ) (before : List PlainNode) (n : PlainNode) (behind : List PlainNode) → HaveRisingIds (before ++ n ∷ behind) → id <ℤ n.id →
     find (has_id id) before ≡ find (has_id id) (before ++ n ∷ behind)
 goes_before id [] n behind rise l = sym (ap (λ (b : Bool). cond b (Some n) (find (has_id id) behind)) (below-differs id n.id l) ∙ none_above id behind (above_all id n behind l rise.0))
 goes_before id (m ∷ before) n behind rise l = ap (cond (has_id id m) (Some m)) (goes_before id before n behind rise.1 l)
 
 -- above it: it stands behind, if anywhere
-pub goes_behind : (id : ℤ) (before : List PlainNode) (n : PlainNode) (behind : List PlainNode) → AreRising (before ++ n ∷ behind) → n.id <ℤ id →
+pub goes_behind : (id : ℤ) (before : List PlainNode) (n : PlainNode) (behind : List PlainNode) → HaveRisingIds (before ++ n ∷ behind) → n.id <ℤ id →
     find (has_id id) behind ≡ find (has_id id) (before ++ n ∷ behind)
 goes_behind id [] n behind rise l = sym (ap (λ (b : Bool). cond b (Some n) (find (has_id id) behind)) (above-differs n.id id l))
 goes_behind id (m ∷ before) n behind rise l =
@@ -90,7 +90,7 @@ goes_behind id (m ∷ before) n behind rise l =
     at_middle (q ∷ before) n behind all = at_middle before n behind all.1
 
 -- at it: it is found
-pub stands_here : (id : ℤ) (before : List PlainNode) (n : PlainNode) (behind : List PlainNode) → AreRising (before ++ n ∷ behind) → id ≡ n.id →
+pub stands_here : (id : ℤ) (before : List PlainNode) (n : PlainNode) (behind : List PlainNode) → HaveRisingIds (before ++ n ∷ behind) → id ≡ n.id →
     find (has_id id) (before ++ n ∷ behind) ≡ Some n
 stands_here id [] n behind rise e = ap (λ (b : Bool). cond b (Some n) (find (has_id id) behind)) ((Decides-int_eq id n.id).1 e)
 stands_here id (m ∷ before) n behind rise e =
@@ -127,7 +127,7 @@ greater_is a b h = by (int_lt a b) (int_lt b a) refl h
 equal_is : (a b : ℤ) → Equal ≡ int_cmp a b → a ≡ b
 equal_is a b h = (Decides-int_eq a b).0 (ap is_eq (sym h))
 
-pub one_above : (nodes : List PlainNode) (last n : PlainNode) → AreRising nodes → Some last ≡ slice_get nodes (length nodes - 1) → lt_z last.id n.id ≡ true → AreRising (nodes ++ n ∷ [])
+pub one_above : (nodes : List PlainNode) (last n : PlainNode) → HaveRisingIds nodes → Some last ≡ slice_get nodes (length nodes - 1) → lt_z last.id n.id ≡ true → HaveRisingIds (nodes ++ n ∷ [])
 one_above [] last n rise is l = (tt, tt)
 one_above (m ∷ nodes) last n rise is l =
     let e : length nodes ≡ length (m ∷ nodes) - 1 = omega arith in
@@ -137,22 +137,22 @@ one_above (m ∷ nodes) last n rise is l =
 pub cut_rest : (mid : ℕ) (rest before from : List PlainNode) (n : PlainNode) (behind : List PlainNode) → before ≡ take mid rest → from ≡ drop mid rest → from ≡ n ∷ behind → rest ≡ before ++ n ∷ behind
 cut_rest mid rest before from n behind front back first = sym (take-append-drop mid rest) ∙ (ap (λ (zs : List PlainNode). zs ++ drop mid rest) (sym front) ∙ ap (λ (zs : List PlainNode). before ++ zs) (sym back ∙ first))
 
-pub go_less : (id : ℤ) (rest nodes before : List PlainNode) (n : PlainNode) (behind : List PlainNode) → rest ≡ before ++ n ∷ behind → AreRising rest → find (has_id id) rest ≡ find (has_id id) nodes → Less ≡ int_cmp id n.id →
-    AreRising before × (find (has_id id) before ≡ find (has_id id) nodes)
+pub go_less : (id : ℤ) (rest nodes before : List PlainNode) (n : PlainNode) (behind : List PlainNode) → rest ≡ before ++ n ∷ behind → HaveRisingIds rest → find (has_id id) rest ≡ find (has_id id) nodes → Less ≡ int_cmp id n.id →
+    HaveRisingIds before × (find (has_id id) before ≡ find (has_id id) nodes)
 go_less id rest nodes before n behind cut rise found l =
-    let all : AreRising (before ++ n ∷ behind) = subst AreRising cut rise in
+    let all : HaveRisingIds (before ++ n ∷ behind) = subst HaveRisingIds cut rise in
     (front_rises before (n ∷ behind) all, goes_before id before n behind all (less_is id n.id l) ∙ (ap (find (has_id id)) (sym cut) ∙ found))
 
-pub go_greater : (id : ℤ) (rest nodes before : List PlainNode) (n : PlainNode) (behind : List PlainNode) → rest ≡ before ++ n ∷ behind → AreRising rest → find (has_id id) rest ≡ find (has_id id) nodes → Greater ≡ int_cmp id n.id →
-    AreRising behind × (find (has_id id) behind ≡ find (has_id id) nodes)
+pub go_greater : (id : ℤ) (rest nodes before : List PlainNode) (n : PlainNode) (behind : List PlainNode) → rest ≡ before ++ n ∷ behind → HaveRisingIds rest → find (has_id id) rest ≡ find (has_id id) nodes → Greater ≡ int_cmp id n.id →
+    HaveRisingIds behind × (find (has_id id) behind ≡ find (has_id id) nodes)
 go_greater id rest nodes before n behind cut rise found l =
-    let all : AreRising (before ++ n ∷ behind) = subst AreRising cut rise in
+    let all : HaveRisingIds (before ++ n ∷ behind) = subst HaveRisingIds cut rise in
     ((rest_rises before (n ∷ behind) all).1, goes_behind id before n behind all (greater_is id n.id l) ∙ (ap (find (has_id id)) (sym cut) ∙ found))
 
-pub go_equal : (id : ℤ) (rest nodes before : List PlainNode) (n : PlainNode) (behind : List PlainNode) → rest ≡ before ++ n ∷ behind → AreRising rest → find (has_id id) rest ≡ find (has_id id) nodes → Equal ≡ int_cmp id n.id →
+pub go_equal : (id : ℤ) (rest nodes before : List PlainNode) (n : PlainNode) (behind : List PlainNode) → rest ≡ before ++ n ∷ behind → HaveRisingIds rest → find (has_id id) rest ≡ find (has_id id) nodes → Equal ≡ int_cmp id n.id →
     Some n ≡ find (has_id id) nodes
 go_equal id rest nodes before n behind cut rise found e =
-    let all : AreRising (before ++ n ∷ behind) = subst AreRising cut rise in
+    let all : HaveRisingIds (before ++ n ∷ behind) = subst HaveRisingIds cut rise in
     sym (stands_here id before n behind all (equal_is id n.id e)) ∙ (ap (find (has_id id)) (sym cut) ∙ found)
 
 -- ---- above all, and at a place
@@ -162,7 +162,7 @@ at_place P [] k n all is = absurd (cc)
 at_place P (m ∷ nodes) zero n all is = subst P (same_Some _ _ is) all.0
 at_place P (m ∷ nodes) (suc k) n all is = at_place P nodes k n all.1 is
 
-none_beyond : (id : ℤ) (nodes : List PlainNode) (k : ℕ) (last : PlainNode) → AreRising nodes → length nodes ≡ suc k → slice_get nodes k ≡ Some last → last.id <ℤ id → find (has_id id) nodes ≡ None
+none_beyond : (id : ℤ) (nodes : List PlainNode) (k : ℕ) (last : PlainNode) → HaveRisingIds nodes → length nodes ≡ suc k → slice_get nodes k ≡ Some last → last.id <ℤ id → find (has_id id) nodes ≡ None
 none_beyond id [] k last rise many is l = absurd (omega arith)
 none_beyond id (m ∷ []) zero last rise many is l = rw (above-differs m.id id (subst (λ (n : PlainNode). n.id <ℤ id) (sym (same_Some _ _ is)) l)) refl
 none_beyond id (m ∷ []) (suc k) last rise many is l = absurd (omega arith)
@@ -172,14 +172,14 @@ none_beyond id (m ∷ (p ∷ nodes)) (suc k) last rise many is l =
     rw (above-differs m.id id (below-trans m.id last.id id below l)) (none_beyond id (p ∷ nodes) k last rise.1 (omega arith) is l)
 
 -- nothing is found where the last id is below
-pub none_above_last : (id : ℤ) (nodes : List PlainNode) (last : PlainNode) → AreRising nodes → Some last ≡ slice_get nodes (length nodes - 1) → lt_z last.id id ≡ true → find (has_id id) nodes ≡ None
+pub none_above_last : (id : ℤ) (nodes : List PlainNode) (last : PlainNode) → HaveRisingIds nodes → Some last ≡ slice_get nodes (length nodes - 1) → lt_z last.id id ≡ true → find (has_id id) nodes ≡ None
 none_above_last id [] last rise is l = refl
 none_above_last id (m ∷ nodes) last rise is l =
     let e : length nodes ≡ length (m ∷ nodes) - 1 = omega arith in
     none_beyond id (m ∷ nodes) (length nodes) last rise refl (ap (slice_get (m ∷ nodes)) e ∙ sym is) (below_from last.id id l)
 
 -- a node of this id at any place is the one that is found
-found_where : (id : ℤ) (nodes : List PlainNode) (k : ℕ) (n : PlainNode) → AreRising nodes → slice_get nodes k ≡ Some n → id ≡ n.id → find (has_id id) nodes ≡ Some n
+found_where : (id : ℤ) (nodes : List PlainNode) (k : ℕ) (n : PlainNode) → HaveRisingIds nodes → slice_get nodes k ≡ Some n → id ≡ n.id → find (has_id id) nodes ≡ Some n
 found_where id [] k n rise is e = absurd (cc)
 found_where id (m ∷ nodes) zero n rise is e = rw ((Decides-int_eq id m.id).1 (e ∙ ap (λ (q : PlainNode). q.id) (sym (same_Some _ _ is)))) is
 found_where id (m ∷ nodes) (suc k) n rise is e =
@@ -191,5 +191,5 @@ stands_at [] k n inside is = absurd (omega arith)
 stands_at (m ∷ nodes) zero n inside is = ap Some (sym (is m))
 stands_at (m ∷ nodes) (suc k) n inside is = stands_at nodes k n (omega arith) is
 
-pub found_at : (id : ℤ) (nodes : List PlainNode) (k : ℕ) (n : PlainNode) → AreRising nodes → k < length nodes → ((d : PlainNode) → n ≡ get_or nodes k d) → id ≡ n.id → find (has_id id) nodes ≡ Some n
+pub found_at : (id : ℤ) (nodes : List PlainNode) (k : ℕ) (n : PlainNode) → HaveRisingIds nodes → k < length nodes → ((d : PlainNode) → n ≡ get_or nodes k d) → id ≡ n.id → find (has_id id) nodes ≡ Some n
 found_at id nodes k n rise inside is e = found_where id nodes k n rise (stands_at nodes k n inside is) e

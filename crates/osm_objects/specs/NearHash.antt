@@ -15,8 +15,8 @@ abbrev pub near_write : NearHasher → List ℕ → NearHasher
 near_write h bytes = record { earlier = ((h.earlier + h.number) % 2 ^ 64 * 0x6a09_e667_f3bc_c909) % 2 ^ 64; number = number_of bytes }
 
 -- the place of the block of 64 numbers
-abbrev pub place_of : NearHasher → ℕ
-place_of h = ((h.number / 64 * 0x9e37_79b9_7f4a_7c15) % 2 ^ 64 + h.earlier) % 2 ^ 64
+abbrev pub block_of : NearHasher → ℕ
+block_of h = ((h.number / 64 * 0x9e37_79b9_7f4a_7c15) % 2 ^ 64 + h.earlier) % 2 ^ 64
 
 -- four neighbours have one group, and the next four the fourth group from there, in the page of the block
 abbrev pub group_of : ℕ → ℕ → ℕ
@@ -27,4 +27,4 @@ group_of place within =
 
 -- what `finish` returns: the group, and the tag above it
 abbrev pub near_finish : NearHasher → ℕ
-near_finish h = group_of (place_of h) (h.number % 64) + (place_of h / 2 ^ 12 + 61 * (h.number % 64)) % 256 * 2 ^ 24
+near_finish h = group_of (block_of h) (h.number % 64) + (block_of h / 2 ^ 12 + 61 * (h.number % 64)) % 256 * 2 ^ 24

@@ -14,6 +14,6 @@ abbrev pub nodes_from : List PlainNode → List Object
 nodes_from nodes = map node_from nodes
 
 -- each id is below all later ones
-abbrev pub AreRising : List PlainNode → Type 0
-AreRising [] = Unit {0}
-AreRising (n ∷ nodes) = AllByRecursion (λ m. n.id <ℤ m.id) nodes × AreRising nodes
+abbrev pub HaveRisingIds : List PlainNode → Type 0
+HaveRisingIds [] = Unit {0}
+HaveRisingIds (n ∷ nodes) = AllByRecursion (λ m. n.id <ℤ m.id) nodes × HaveRisingIds nodes

@@ -5,16 +5,16 @@ use Rattle.std.specs.Option.{option_eq}
 use Rattle.opl_reader.specs.declared.object.Tag.{Tag}
 
 -- the value of the first tag of this key
-abbrev pub value_of : List ℕ → List Tag → Option (List ℕ)
-value_of key tags = option_map (λ t. t.value) (find (λ t. bytes_eq t.key key) tags)
+abbrev pub tag_value : List ℕ → List Tag → Option (List ℕ)
+tag_value key tags = option_map (λ t. t.value) (find (λ t. bytes_eq t.key key) tags)
 
 -- tagged key=value
 abbrev pub is_tagged : List ℕ → List ℕ → List Tag → Bool
-is_tagged key value tags = option_eq bytes_eq (value_of key tags) (Some value)
+is_tagged key value tags = option_eq bytes_eq (tag_value key tags) (Some value)
 
 -- a tag has this key
 abbrev pub has_key : List ℕ → List Tag → Bool
-has_key key tags = is_some (value_of key tags)
+has_key key tags = is_some (tag_value key tags)
 
 -- a tag has one of these keys
 abbrev pub has_one_of : List (List ℕ) → List Tag → Bool

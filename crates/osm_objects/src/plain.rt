@@ -4,7 +4,7 @@ ghost use Rattle.std.specs.Prelude.{◌≡◌, ◌++◌, ◌∷◌, [], None, So
 ghost use Rattle.std.specs.Ordering.{int_eq};
 ghost use Rattle.osm_objects.specs.Objects.{object_at};
 ghost use Rattle.osm_objects.specs.declared.plain.PlainNode.{PlainNode};
-ghost use Rattle.osm_objects.specs.Plain.{node_from, nodes_from, AreRising};
+ghost use Rattle.osm_objects.specs.Plain.{node_from, nodes_from, HaveRisingIds};
 
 use opl_reader::{Object, ObjectKind, ObjectRef};
 use osm_lattice::Loc;
@@ -38,8 +38,8 @@ pub(crate) fn plain_node(object: &Object) -> Option<PlainNode>
 
 /// Whether the node's id is above those of all of these.
 pub(crate) fn is_above(nodes: &[PlainNode], node: &PlainNode) -> bool
-    requires { AreRising nodes.now }
-    ensures { result ≡ true → AreRising (nodes.now ++ node.now ∷ []) }
+    requires { HaveRisingIds nodes.now }
+    ensures { result ≡ true → HaveRisingIds (nodes.now ++ node.now ∷ []) }
 {
     match nodes.last() {
         Some(last) => last.id < node.id,
@@ -75,7 +75,7 @@ pub(crate) fn push_ids(ids: &mut Vec<i64>, nodes: &[PlainNode]) -> Result<(), Ou
 
 /// The node of this kind and id among nodes whose ids rise.
 pub(crate) fn node_of(nodes: &[PlainNode], of: ObjectRef) -> Option<PlainNode>
-    requires { AreRising nodes.now }
+    requires { HaveRisingIds nodes.now }
     ensures { option_map node_from result ≡ object_at (nodes_from nodes.now) of }
 {
     if of.kind != ObjectKind::Node {
@@ -86,7 +86,7 @@ pub(crate) fn node_of(nodes: &[PlainNode], of: ObjectRef) -> Option<PlainNode>
 
 /// Whether the id lies above those of all of these nodes, as that of a node does that is added in order.
 fn lies_above(nodes: &[PlainNode], of: ObjectRef) -> bool
-    requires { AreRising nodes.now }
+    requires { HaveRisingIds nodes.now }
     ensures { result ≡ true → find (λ n. int_eq of.id n.id) nodes.now ≡ None }
 {
     match nodes.last() {
@@ -108,7 +108,7 @@ fn likely_place(nodes: &[PlainNode], of: ObjectRef) -> usize {
 
 /// The node at a place, if it has this id.
 fn node_at(nodes: &[PlainNode], place: usize, of: ObjectRef) -> Option<PlainNode>
-    requires { AreRising nodes.now }
+    requires { HaveRisingIds nodes.now }
     ensures { IfSome result (λ node. find (λ n. int_eq of.id n.id) nodes.now ≡ Some node) }
 {
     match nodes.get(place) {
@@ -119,7 +119,7 @@ fn node_at(nodes: &[PlainNode], place: usize, of: ObjectRef) -> Option<PlainNode
 
 /// The node of this id among nodes whose ids rise.
 fn by_id(nodes: &[PlainNode], of: ObjectRef) -> Option<PlainNode>
-    requires { AreRising nodes.now }
+    requires { HaveRisingIds nodes.now }
     ensures { result ≡ find (λ n. int_eq of.id n.id) nodes.now }
 {
     if lies_above(nodes, of) {
@@ -134,7 +134,7 @@ fn by_id(nodes: &[PlainNode], of: ObjectRef) -> Option<PlainNode>
 
 /// The same by halves.
 fn by_halves(nodes: &[PlainNode], of: ObjectRef) -> Option<PlainNode>
-    requires { AreRising nodes.now }
+    requires { HaveRisingIds nodes.now }
     ensures { result ≡ find (λ n. int_eq of.id n.id) nodes.now }
 {
     let mut rest = nodes;

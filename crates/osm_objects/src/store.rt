@@ -47,13 +47,13 @@ impl Model for Store {
     ghost use Rattle.osm_objects.specs.Objects.{AreApart};
     ghost use Rattle.osm_objects.specs.Held.{others_from, KindsAgree};
     ghost use Rattle.osm_objects.specs.Merged.{merged, Fit};
-    ghost use Rattle.osm_objects.specs.Plain.{nodes_from, AreRising};
+    ghost use Rattle.osm_objects.specs.Plain.{nodes_from, HaveRisingIds};
 
     ghost Value = { List Object };
 
     ghost view = { λ s. merged (nodes_from s.nodes.items) (others_from s.others.entries) };
 
-    ghost invariant = { λ s. AreRising s.nodes.items
+    ghost invariant = { λ s. HaveRisingIds s.nodes.items
         × KindsAgree s.others.entries
         × Fit (nodes_from s.nodes.items) (others_from s.others.entries) s.since
         × AreApart (merged (nodes_from s.nodes.items) (others_from s.others.entries))

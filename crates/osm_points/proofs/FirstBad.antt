@@ -4,7 +4,7 @@ use Rattle.std.specs.List.{filter_map}
 use Rattle.std.proofs.lemmas.List.Elements.{All-cons, All-head, All-nil, All-tail}
 use Rattle.osm_lattice.specs.declared.loc.Loc.{Loc}
 use Rattle.osm_points.specs.Lines.{is_bad, point_told}
-use Rattle.osm_points.specs.Points.{ArePoints, IsBadPoint, text_lines}
+use Rattle.osm_points.specs.Points.{ArePoints, IsBadPoint, lines_parted}
 
 abbrev IsGood : List ℕ → Type 0
 IsGood line = is_bad line ≡ false
@@ -73,10 +73,10 @@ find [] = inl (All-nil IsGood)
 find (line ∷ lines) = more line lines (is_bad line) refl (find lines)
 
 pub has_points_or_bad : (text : List ℕ) → ((points : List Loc) × ArePoints text points) ⊎ ((number : ℕ) × IsBadPoint text number)
-has_points_or_bad text = by (find (text_lines text))
+has_points_or_bad text = by (find (lines_parted text))
   where
-    by : All IsGood (text_lines text) ⊎ Broken (text_lines text) → ((points : List Loc) × ArePoints text points) ⊎ ((number : ℕ) × IsBadPoint text number)
-    by (inl good) = inl (filter_map point_told (text_lines text), record { good = good; told = refl })
+    by : All IsGood (lines_parted text) ⊎ Broken (lines_parted text) → ((points : List Loc) × ArePoints text points) ⊎ ((number : ℕ) × IsBadPoint text number)
+    by (inl good) = inl (filter_map point_told (lines_parted text), record { good = good; told = refl })
     by (inr b) = inr (
       length b.before + 1,
       record {

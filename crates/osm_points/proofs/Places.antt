@@ -4,10 +4,10 @@ use Rattle.std.specs.Prelude.{◌↔◌, IfSome, IsSome, option_and_then}
 use Rattle.osm_lattice.specs.Bounds.{IsLatitude, IsLongitude}
 use Rattle.osm_lattice.specs.declared.loc.Loc.{Loc}
 use Rattle.opl_reader.specs.CoordinateReading.{latitude, longitude}
-use Rattle.opl_reader.specs.Coordinates.{place_of}
+use Rattle.opl_reader.specs.Coordinates.{location_from}
 use Rattle.opl_reader.proofs.ReaderKit.{placed}
 
 pub location_is : (x y : ℤ) (dx dy : Option ℤ) (r : Option Loc) → Some x ≡ dx → Some y ≡ dy → (IsSome r ↔ (IsLongitude x × IsLatitude y)) →
-    IfSome r (λ p. (p.x ≡ x) × (p.y ≡ y)) → r ≡ place_of (option_and_then longitude dx) (option_and_then latitude dy)
+    IfSome r (λ p. (p.x ≡ x) × (p.y ≡ y)) → r ≡ location_from (option_and_then longitude dx) (option_and_then latitude dy)
 location_is x y dx dy r is_x is_y valid value = placed x y r valid value
-    ∙ ap₂ (λ (a b : Option ℤ). place_of (option_and_then longitude a) (option_and_then latitude b)) is_x is_y
+    ∙ ap₂ (λ (a b : Option ℤ). location_from (option_and_then longitude a) (option_and_then latitude b)) is_x is_y

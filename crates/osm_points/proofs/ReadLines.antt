@@ -6,9 +6,9 @@ use Rattle.std.specs.Option.{option_copied}
 use Rattle.std.proofs.lemmas.List.Elements.{All-append, All-cons, All-nil, filter_map-append}
 use Rattle.osm_lattice.specs.declared.loc.Loc.{Loc}
 use Rattle.osm_points.specs.declared.line.Told.TheVariants.{Nothing, Point, Bad}
-use Rattle.osm_points.specs.Lines.{is_bad, is_passed_over, location_of, point_told, words_of}
-use Rattle.osm_points.specs.LineSteps.{IsTold, len_left, lines_left}
-use Rattle.osm_points.specs.Points.{ArePoints, IsBadPoint, text_lines}
+use Rattle.osm_points.specs.Lines.{is_bad, is_empty_or_comment, location_in_words, point_told, words_of}
+use Rattle.osm_points.specs.LineSteps.{LineTells, len_left, lines_left}
+use Rattle.osm_points.specs.Points.{ArePoints, IsBadPoint, lines_parted}
 
 -- ---- what a line adds
 
@@ -21,20 +21,20 @@ one_more lines line None is = filter_map-append point_told lines (line ∷ []) �
 one_more lines line (Some point) is = filter_map-append point_told lines (line ∷ []) ∙ rw is refl
 
 module _ (line : List ℕ) where
-  passed_good : is_passed_over (words_of line) ≡ true → (is_bad line ≡ false) × (point_told line ≡ None)
+  passed_good : is_empty_or_comment (words_of line) ≡ true → (is_bad line ≡ false) × (point_told line ≡ None)
   passed_good is = (rw is refl, rw is refl)
 
-  point_good : (point : Loc) → (is_passed_over (words_of line) ≡ false) × (location_of (words_of line) ≡ Some point) → (is_bad line ≡ false) × (point_told line ≡ Some point)
+  point_good : (point : Loc) → (is_empty_or_comment (words_of line) ≡ false) × (location_in_words (words_of line) ≡ Some point) → (is_bad line ≡ false) × (point_told line ≡ Some point)
   point_good point is = (rw (is.0, is.1) refl, rw (is.0, is.1) refl)
 
-  told_bad : (is_passed_over (words_of line) ≡ false) × (location_of (words_of line) ≡ None) → is_bad line ≡ true
+  told_bad : (is_empty_or_comment (words_of line) ≡ false) × (location_in_words (words_of line) ≡ None) → is_bad line ≡ true
   told_bad is = rw (is.0, is.1) refl
 
 -- ---- the lines before what is left
 
 pub record ReadTo (text : List ℕ) (left : Option (Bor (List ℕ))) (number : ℕ) (points : List Loc) : Type 0 where
   before : List (List ℕ)
-  parted : text_lines text ≡ before ++ lines_left (option_copied left)
+  parted : lines_parted text ≡ before ++ lines_left (option_copied left)
   good : All (λ line. is_bad line ≡ false) before
   counted : number ≡ length before
   told : points ≡ filter_map point_told before
@@ -51,14 +51,14 @@ read_none text = record {
 }
 
 pub read_all : (text : List ℕ) (number : ℕ) (points : List Loc) → ReadTo text None number points → ArePoints text points
-read_all text number points r = let e : text_lines text ≡ r.before = r.parted ∙ append-nil r.before in record {
+read_all text number points r = let e : lines_parted text ≡ r.before = r.parted ∙ append-nil r.before in record {
   good = subst (All (λ line. is_bad line ≡ false)) (sym e) r.good;
   told = r.told ∙ ap (filter_map point_told) (sym e);
 }
 
 module _ (text : List ℕ) (rest : Bor (List ℕ)) (number : ℕ) (points : List Loc) (r : ReadTo text (Some rest) number points) (line : List ℕ) (more : Option (Bor (List ℕ)))
-    (lines : text_lines rest.now ≡ line ∷ lines_left (option_copied more)) (len : length line + len_left (option_copied more) ≡ length rest.now) where
-  parts : text_lines text ≡ (r.before ++ line ∷ []) ++ lines_left (option_copied more)
+    (lines : lines_parted rest.now ≡ line ∷ lines_left (option_copied more)) (len : length line + len_left (option_copied more) ≡ length rest.now) where
+  parts : lines_parted text ≡ (r.before ++ line ∷ []) ++ lines_left (option_copied more)
   parts = r.parted ∙ ap (λ (ls : List (List ℕ)). r.before ++ ls) lines ∙ sym (append_assoc r.before (line ∷ []) (lines_left (option_copied more)))
 
   read_one : (p : Option Loc) → (is_bad line ≡ false) × (point_told line ≡ p) → ReadTo text more (number + 1) (points ++ adds p)
@@ -71,13 +71,13 @@ module _ (text : List ℕ) (rest : Bor (List ℕ)) (number : ℕ) (points : List
     room = let room = r.room in omega (arith, len);
   }
 
-  pub read_passed : IsTold line Nothing → ReadTo text more (number + 1) points
+  pub read_passed : LineTells line Nothing → ReadTo text more (number + 1) points
   read_passed is = subst (λ (ps : List Loc). ReadTo text more (number + 1) ps) (append-nil points) (read_one None (passed_good line is))
 
-  pub read_point : (point : Loc) → IsTold line (Point point) → ReadTo text more (number + 1) (points ++ point ∷ [])
+  pub read_point : (point : Loc) → LineTells line (Point point) → ReadTo text more (number + 1) (points ++ point ∷ [])
   read_point point is = read_one (Some point) (point_good line point is)
 
-  pub read_bad : IsTold line Bad → IsBadPoint text (number + 1)
+  pub read_bad : LineTells line Bad → IsBadPoint text (number + 1)
   read_bad is = record {
     before = r.before;
     line = line;

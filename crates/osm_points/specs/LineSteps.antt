@@ -3,8 +3,8 @@ use Rattle.std.specs.Prelude.{◌≡◌, ◌+◌, ◌<◌, ℕ, true, false, Lis
 use Rattle.opl_reader.specs.LineReading.{is_separator}
 use Rattle.osm_points.specs.declared.line.Told.{Told}
 use Rattle.osm_points.specs.declared.line.Told.TheVariants.{Nothing, Point, Bad}
-use Rattle.osm_points.specs.Lines.{is_passed_over, location_of, words_in, words_of}
-use Rattle.osm_points.specs.Points.{text_lines}
+use Rattle.osm_points.specs.Lines.{is_empty_or_comment, location_in_words, words_in, words_of}
+use Rattle.osm_points.specs.Points.{lines_parted}
 
 -- ---- one line
 
@@ -20,20 +20,20 @@ pub record IsNextWord (text word rest : List ℕ) : Type 0 where
 
 -- by its words
 abbrev pub IsToldBy : List (List ℕ) → Told → Type 0
-IsToldBy words Nothing = is_passed_over words ≡ true
-IsToldBy words (Point point) = (is_passed_over words ≡ false) × (location_of words ≡ Some point)
-IsToldBy words Bad = (is_passed_over words ≡ false) × (location_of words ≡ None)
+IsToldBy words Nothing = is_empty_or_comment words ≡ true
+IsToldBy words (Point point) = (is_empty_or_comment words ≡ false) × (location_in_words words ≡ Some point)
+IsToldBy words Bad = (is_empty_or_comment words ≡ false) × (location_in_words words ≡ None)
 
 -- what a line tells
-abbrev pub IsTold : List ℕ → Told → Type 0
-IsTold line told = IsToldBy (words_of line) told
+abbrev pub LineTells : List ℕ → Told → Type 0
+LineTells line told = IsToldBy (words_of line) told
 
 -- ---- all lines
 
 -- those of what is left
 abbrev pub lines_left : Option (List ℕ) → List (List ℕ)
 lines_left None = []
-lines_left (Some rest) = text_lines rest
+lines_left (Some rest) = lines_parted rest
 
 -- how long it is, with the LF before it
 abbrev pub len_left : Option (List ℕ) → ℕ

@@ -3,7 +3,7 @@ use Rattle.std.specs.Prelude.{ℕ, Bool, true, ◌==◌, nat_lt, not, ◌&&◌, 
 use Rattle.std.specs.List.{slice_split}
 use Rattle.osm_lattice.specs.declared.loc.Loc.{Loc}
 use Rattle.opl_reader.specs.CoordinateReading.{latitude, longitude}
-use Rattle.opl_reader.specs.Coordinates.{place_of}
+use Rattle.opl_reader.specs.Coordinates.{location_from}
 use Rattle.opl_reader.specs.LineReading.{is_separator}
 use Rattle.opl_reader.specs.NumberReading.{decimal_of}
 use Rattle.opl_reader.specs.Parts.{without_cr}
@@ -17,22 +17,22 @@ abbrev pub words_of : List ℕ → List (List ℕ)
 words_of line = words_in (without_cr line)
 
 -- Nothing stands in it, or its first word begins with `#`, 35.
-abbrev pub is_passed_over : List (List ℕ) → Bool
-is_passed_over [] = true
-is_passed_over (first ∷ others) = slice_index first 0 == 35
+abbrev pub is_empty_or_comment : List (List ℕ) → Bool
+is_empty_or_comment [] = true
+is_empty_or_comment (first ∷ others) = slice_index first 0 == 35
 
 -- the location of a longitude and a latitude, each a decimal of degrees; of more or fewer words there is none
-abbrev pub location_of : List (List ℕ) → Option Loc
-location_of [] = None
-location_of (x ∷ []) = None
-location_of (x ∷ (y ∷ [])) =
-    place_of (option_and_then longitude (decimal_of (pos 1800000000) x)) (option_and_then latitude (decimal_of (pos 900000000) y))
-location_of (x ∷ (y ∷ (z ∷ more))) = None
+abbrev pub location_in_words : List (List ℕ) → Option Loc
+location_in_words [] = None
+location_in_words (x ∷ []) = None
+location_in_words (x ∷ (y ∷ [])) =
+    location_from (option_and_then longitude (decimal_of (pos 1800000000) x)) (option_and_then latitude (decimal_of (pos 900000000) y))
+location_in_words (x ∷ (y ∷ (z ∷ more))) = None
 
 -- the point that a line tells; one that is passed over tells none
 abbrev pub point_told : List ℕ → Option Loc
-point_told line = if is_passed_over (words_of line) then None else location_of (words_of line)
+point_told line = if is_empty_or_comment (words_of line) then None else location_in_words (words_of line)
 
 -- It isn't passed over, and tells no point.
 abbrev pub is_bad : List ℕ → Bool
-is_bad line = not (is_passed_over (words_of line)) && is_none (location_of (words_of line))
+is_bad line = not (is_empty_or_comment (words_of line)) && is_none (location_in_words (words_of line))

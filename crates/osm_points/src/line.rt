@@ -2,11 +2,11 @@
 
 ghost use Rattle.std.specs.Prelude.{◌≡◌, [], option_and_then, pos, false, true, MatchOption};
 ghost use Rattle.opl_reader.specs.CoordinateReading.{latitude, longitude};
-ghost use Rattle.opl_reader.specs.Coordinates.{place_of};
+ghost use Rattle.opl_reader.specs.Coordinates.{location_from};
 ghost use Rattle.opl_reader.specs.LineReading.{is_separator};
 ghost use Rattle.opl_reader.specs.NumberReading.{decimal_of};
 ghost use Rattle.opl_reader.specs.Parts.{without_cr};
-ghost use Rattle.osm_points.specs.LineSteps.{BeginsWord, IsNextWord, IsTold};
+ghost use Rattle.osm_points.specs.LineSteps.{BeginsWord, IsNextWord, LineTells};
 ghost use Rattle.osm_points.specs.Lines.{words_in};
 
 use memchr::memchr2;
@@ -42,7 +42,7 @@ fn is_separator(byte: u8) -> bool
 
 /// The location of a longitude and a latitude as they are written in degrees.
 fn location(x: &[u8], y: &[u8]) -> Option<Loc>
-    ensures { result ≡ place_of (option_and_then longitude (decimal_of (pos 1800000000) x.now))
+    ensures { result ≡ location_from (option_and_then longitude (decimal_of (pos 1800000000) x.now))
         (option_and_then latitude (decimal_of (pos 900000000) y.now)) }
 {
     let x = read_decimal(x, 1_800_000_000)?;
@@ -82,7 +82,7 @@ fn next_word(text: &[u8]) -> Option<(&[u8], &[u8])>
 
 /// What a line tells, given without its LF.
 pub(crate) fn told_by(line: &[u8]) -> Told
-    ensures { IsTold line.now result }
+    ensures { LineTells line.now result }
 {
     let Some((x, rest)) = next_word(without_cr(line)) else {
         return Told::Nothing;

@@ -2,7 +2,7 @@
 
 ghost use Rattle.std.specs.Prelude.{◌≡◌, ◌+◌, ◌∷◌, length, IfErr, IfOk};
 ghost use Rattle.std.specs.Option.{option_copied};
-ghost use Rattle.osm_points.specs.Points.{ArePoints, text_lines};
+ghost use Rattle.osm_points.specs.Points.{ArePoints, lines_parted};
 ghost use Rattle.osm_points.specs.Errors.{IsErrorOf};
 ghost use Rattle.osm_points.specs.LineSteps.{len_left, lines_left};
 
@@ -22,7 +22,7 @@ pub enum PointsError {
 
 /// The first line of a text, and what stands behind its LF.
 fn next_line(text: &[u8]) -> (&[u8], Option<&[u8]>)
-    ensures lines { text_lines text.now ≡ result.0.now ∷ lines_left (option_copied result.1) }
+    ensures lines { lines_parted text.now ≡ result.0.now ∷ lines_left (option_copied result.1) }
     ensures len { length result.0.now + len_left (option_copied result.1) ≡ length text.now }
 {
     match memchr(b'\n', text) {

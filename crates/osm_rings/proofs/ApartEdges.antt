@@ -20,7 +20,7 @@ use Rattle.osm_geom.specs.declared.edge.Edge.{Edge}
 use Rattle.osm_geom.specs.declared.point.Point.{Point}
 use Rattle.osm_geom.specs.Point.{point_cmp}
 use Rattle.osm_geom.proofs.GeometryKit.{point_same, point_total}
-use Rattle.plane_edges.specs.Multiple.{common_den, point_times, whole_edges}
+use Rattle.plane_edges.specs.Multiple.{point_times, product_of_denominators, whole_edges}
 use Rattle.plane_edges.specs.Sided.{IsSided}
 use Rattle.plane_edges.proofs.EdgesKit.{same_is_same}
 use Rattle.osm_rings.specs.Apart.{IsFirstLeaving, LeaveApart, LeavesFirst, NoneLeavesBefore}
@@ -114,7 +114,7 @@ count_up-at k (suc n) (suc i) h = let later = count_up-at (suc k) n i (omega ari
 
 module _ (es : List Edge) (apart : LeaveApart es) where
   abbrev m : ℕ
-  m = common_den es
+  m = product_of_denominators es
 
   abbrev xs : List plane.Edge
   xs = whole_edges es

@@ -3,7 +3,7 @@ use Rattle.std.proofs.Common.{◌≡◌, Bool, true, false, not, ◌&&◌, eqb, 
 use Rattle.std.specs.Ordering.{is_lt, int_cmp, nat_cmp, ordering_then}
 use Rattle.plane.specs.Sector.{in_sector, sector_by}
 use Rattle.plane.specs.Sign.{Sign, is_null, is_plus, negated, sign}
-use Rattle.plane.specs.Vector.{IsDirection, Vector, cross, dot}
+use Rattle.plane.specs.Vector.{IsNonZero, Vector, cross, dot}
 use Rattle.plane.proofs.SignKit.{agree, all, all-out, all2, all2-out, all4, all4-out, imp, imp-out, same_bool, same_bool-true, sign-reversed, times}
 use Rattle.plane.proofs.PlaneKit.{cross-negated, dot-swap}
 use Rattle.winding.proofs.WindingKit.{crossed, crossed-at, dot-at}
@@ -57,7 +57,7 @@ held_computes = refl
 abbrev pub apart : Vector → Vector → Bool
 apart a b = not (is_null (sign (cross a b)) && is_plus (sign (dot a b)))
 
-pub sector-holds : (d a b : Vector) → IsDirection d → IsDirection a → IsDirection b → apart a b ≡ true → is_met_before d b a ≡ false → in_sector b d a ≡ 1
+pub sector-holds : (d a b : Vector) → IsNonZero d → IsNonZero a → IsNonZero b → apart a b ≡ true → is_met_before d b a ≡ false → in_sector b d a ≡ 1
 sector-holds d a b pd pa pb n h =
     let ax = sign (dot d a) in let ay = sign (cross d a) in let bx = sign (dot d b) in let by = sign (cross d b) in let k = sign (cross a b) in let g = sign (dot a b) in
     let back : is_met_before d b a ≡ earlier bx by ax ay (negated k) = ap (λ s. earlier bx by ax ay s) (cross-negated a b) in

@@ -4,7 +4,7 @@ use Rattle.std.proofs.lemmas.Bool.{cases_lt}
 use Rattle.std.proofs.lemmas.List.{get_or_default}
 use Rattle.std.proofs.lemmas.List.Sums.{sum_by-cons}
 use Rattle.orbits.specs.Once.{HoldEachOnce}
-use Rattle.orbits.specs.Orbits.{AreOrbits, IsOrbit, after, first, last}
+use Rattle.orbits.specs.Orbits.{AreOrbits, IsOrbit, after, first, last_number}
 use Rattle.orbits.proofs.Finding.{some_or_none}
 use Rattle.orbits.proofs.Members.{count_absent, find}
 use Rattle.orbits.proofs.Reading.{ltb_yes, unwrap}
@@ -117,8 +117,8 @@ module _ (es : List Edge) (walks : List (List ℕ)) (each : All (IsClosedWalk es
     opens = λ none i e. absurd (cc (sym none ∙ come-back));
   }
     where
-      come-back : after next (last o) ≡ Some (first o)
-      come-back = let some = w.some in goes-on (last o) (first o) (low (length o - 1) 0 (omega arith)) w.closes
+      come-back : after next (last_number o) ≡ Some (first o)
+      come-back = let some = w.some in goes-on (last_number o) (first o) (low (length o - 1) 0 (omega arith)) w.closes
 
   orbits : AreOrbits next walks
   orbits =

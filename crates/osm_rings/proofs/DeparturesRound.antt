@@ -13,7 +13,7 @@ use Rattle.std.proofs.lemmas.Cmp.{on_total, then_total, tied_itself}
 use Rattle.std.proofs.lemmas.List.Elements.{All-from_get_or}
 use Rattle.std.proofs.lemmas.List.MinMax.{ranks_by}
 use Rattle.std.proofs.lemmas.List.Sorted.{sorted_far}
-use Rattle.plane.specs.Vector.{IsDirection, Vector, east}
+use Rattle.plane.specs.Vector.{IsNonZero, Vector, east}
 use Rattle.osm_geom.specs.declared.dir.Dir.{Dir}
 use Rattle.osm_geom.specs.Dir.{clockwise_cmp, vector_along}
 use Rattle.osm_geom.specs.Edge.{direction_of}
@@ -131,7 +131,7 @@ module _ (ws : List Departure) (clockwise : AreClockwise ws) (from : Dir) where
 
     -- by the order from the east
     from-there : (v w : Departure) → is_met_before (vector_along from) (direction_of v.edge.now) (direction_of w.edge.now) ≡ turned (is_met_before east (vector_along from) (direction_of v.edge.now)) (is_met_before east (vector_along from) (direction_of w.edge.now)) (points_before v w)
-    from-there v w = met-turned east (vector_along from) (direction_of v.edge.now) (direction_of w.edge.now) refl (along-direction from) (subst IsDirection (along v) (along-direction (dir_of v))) (subst IsDirection (along w) (along-direction (dir_of w)))
+    from-there v w = met-turned east (vector_along from) (direction_of v.edge.now) (direction_of w.edge.now) refl (along-direction from) (subst IsNonZero (along v) (along-direction (dir_of v))) (subst IsNonZero (along w) (along-direction (dir_of w)))
 
     first-after : (j : ℕ) (w : Departure) → j < length ws → w ≡ get_or ws j w → (j ≡ after) ⊎ ((j ≡ 0) × (length ws ≤ after)) → All (λ v. is_met_before (vector_along from) (direction_of v.edge.now) (direction_of w.edge.now) ≡ false) ws
     first-after j w inside is place = All-from_get_or (λ v. is_met_before (vector_along from) (direction_of v.edge.now) (direction_of w.edge.now) ≡ false) ws w (λ k h. from-there (get_or ws k w) w ∙ at k h)

@@ -10,7 +10,7 @@ use Rattle.plane.specs.Vector.{Vector, from_to}
 use Rattle.orbits.specs.Orbits.{after}
 use Rattle.osm_geom.specs.declared.edge.Edge as geom
 use Rattle.osm_geom.specs.Edge.{direction_of, opposite}
-use Rattle.plane_edges.specs.Multiple.{IsWholeAt, common_den, edge_times, point_times, whole_edges}
+use Rattle.plane_edges.specs.Multiple.{IsWholeAt, edge_times, point_times, product_of_denominators, whole_edges}
 use Rattle.plane_edges.specs.OneDirection.{HaveOneDirection}
 use Rattle.plane_edges.proofs.EdgesKit.{back_along, same_is_same}
 use Rattle.lists.specs.Member.{In}
@@ -25,7 +25,7 @@ use Rattle.osm_rings.proofs.Starts.{same-some, start-at}
 -- ---- the first of those that leave the end of an edge
 module _ (es : List geom.Edge) (ws : List Departure) (are : AreDepartures es ws) (e : geom.Edge) (in_e : In e es) (back : Vector) (turned : back ≡ opposite (direction_of e)) (vs : List Departure) (from : AreFrom ws e.to vs) where
   abbrev m : ℕ
-  m = common_den es
+  m = product_of_denominators es
 
   abbrev xs : List Edge
   xs = whole_edges es

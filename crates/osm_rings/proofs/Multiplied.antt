@@ -5,7 +5,7 @@ use Rattle.plane.specs.Vector.{east, from_to}
 use Rattle.lists.specs.Member.{In}
 use Rattle.osm_geom.specs.declared.edge.Edge.{Edge}
 use Rattle.osm_geom.specs.Edge.{direction_of}
-use Rattle.plane_edges.specs.Multiple.{IsWholeAt, common_den, edge_times, edges_times, point_times, whole_edges}
+use Rattle.plane_edges.specs.Multiple.{IsWholeAt, edge_times, edges_times, point_times, product_of_denominators, whole_edges}
 use Rattle.plane_edges.specs.OneDirection.{HaveOneDirection}
 use Rattle.plane_edges.proofs.EdgesKit.{common_is_common, each_whole, step_along, same_is_same}
 use Rattle.osm_rings.specs.Numbered.{edge_at, nowhere}
@@ -27,12 +27,12 @@ read-direction es k d h = get_or-map direction_of es k d east h
 
 module _ (es : List Edge) where
   pub size : length (whole_edges es) ≡ length es
-  size = length-map es (edge_times (common_den es))
+  size = length-map es (edge_times (product_of_denominators es))
 
-  pub whole-in : (e : Edge) → In e es → IsWholeAt (common_den es) e
-  whole-in = each_whole (common_den es) es (common_is_common es)
+  pub whole-in : (e : Edge) → In e es → IsWholeAt (product_of_denominators es) e
+  whole-in = each_whole (product_of_denominators es) es (common_is_common es)
 
-  pub whole-at : (k : ℕ) (d : Edge) → k < length es → IsWholeAt (common_den es) (get_or es k d)
+  pub whole-at : (k : ℕ) (d : Edge) → k < length es → IsWholeAt (product_of_denominators es) (get_or es k d)
   whole-at k d h = whole-in (get_or es k d) (at-in es k d h)
 
   -- an edge goes where it points
@@ -40,14 +40,14 @@ module _ (es : List Edge) where
   departure-along k h =
       let d = pick es (omega arith) in
       let e = get_or es k d in
-      subst (λ v. HaveOneDirection v (direction_at es k)) (sym (ap (λ x. from_to x.from x.to) (read-edge (common_den es) es k d h)))
-      (subst (HaveOneDirection (from_to (point_times (common_den es) e.from) (point_times (common_den es) e.to))) (sym (read-direction es k d h))
-      (step_along (common_den es) e (whole-at k d h)))
+      subst (λ v. HaveOneDirection v (direction_at es k)) (sym (ap (λ x. from_to x.from x.to) (read-edge (product_of_denominators es) es k d h)))
+      (subst (HaveOneDirection (from_to (point_times (product_of_denominators es) e.from) (point_times (product_of_denominators es) e.to))) (sym (read-direction es k d h))
+      (step_along (product_of_denominators es) e (whole-at k d h)))
 
   -- what tells the starts apart does so in the plane
   pub tell-plane : (numbers : List ℕ) → TellStarts es numbers → TellPoints (whole_edges es) numbers
   tell-plane numbers tell i j hi hj =
-      let m = common_den es in
+      let m = product_of_denominators es in
       let long = size in
       let d = pick es (omega arith) in
       let e = get_or es i d in let f = get_or es j d in

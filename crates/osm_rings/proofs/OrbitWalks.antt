@@ -31,7 +31,7 @@ last-is es z (x ∷ xs) = last-is es x xs
 module _ (es : List Edge) (next : List (Option ℕ)) (are : AreSuccessors es next) where
   module _ (o : List ℕ) (w : IsOrbit next o) (below : All (λ i. i < length es) o) where
     abbrev end : ℕ
-    end = orbit.last o
+    end = orbit.last_number o
 
     end-below : end < length es
     end-below = let some = w.some in below (length o - 1) 0 (omega arith)
@@ -66,9 +66,9 @@ module _ (es : List Edge) (next : List (Option ℕ)) (are : AreSuccessors es nex
         let low : r.0 < length es = rw (← p.2) (below p.0 0 p.1) in
         subst (λ x. In x es) (sym r.2) (edge-in es r.0 low);
     cycle = record {
-      end = edge_at es (orbit.last o);
-      closed = last-is es (orbit.last o) o ∙ ap (edge_at es) (end-is o w below);
-      steps = follow (orbit.last o) o (round o w below);
+      end = edge_at es (orbit.last_number o);
+      closed = last-is es (orbit.last_number o) o ∙ ap (edge_at es) (end-is o w below);
+      steps = follow (orbit.last_number o) o (round o w below);
     };
   }
 

@@ -10,7 +10,7 @@ use Rattle.plane.proofs.PlaneKit.{same_edge-refl, same_edge-true}
 use Rattle.lists.specs.Member.{EachPair, In}
 use Rattle.lists.proofs.ListsKit.{all-in, in-all, in-map, in-map-out}
 use Rattle.osm_geom.specs.declared.edge.Edge.{Edge}
-use Rattle.plane_edges.specs.Multiple.{IsWholeAt, common_den, edge_times, edges_times, whole_edges}
+use Rattle.plane_edges.specs.Multiple.{IsWholeAt, edge_times, edges_times, product_of_denominators, whole_edges}
 use Rattle.plane_edges.specs.Sided.{IsSided}
 use Rattle.plane_edges.proofs.EdgesKit.{common_is_common, each_whole}
 use Rattle.osm_rings.specs.RingList.{AreRingsOf, HoldTheEdges}
@@ -83,7 +83,7 @@ module _ (k : ℕ) (d : Edge) where
 -- every sided list has a ring list; d is any edge
 lifts : (d : Edge) (es : List Edge) → IsSided es → (rs : List (List Edge)) × AreRingsOf es rs
 lifts d es sd =
-    let k = common_den es in
+    let k = product_of_denominators es in
     let xs = whole_edges es in
     let w = walks_there xs sd in
     let ws = w.0 in

@@ -14,7 +14,7 @@ use Rattle.orbits.specs.Orbits.{AreOrbits, IsOrbit, after}
 use Rattle.orbits.specs.Once.{HoldEachOnce}
 use Rattle.orbits.specs.OnceLaws.{StandBelow, SumsAgree}
 use Rattle.osm_geom.specs.declared.edge.Edge.{Edge}
-use Rattle.plane_edges.specs.Multiple.{IsWholeAt, common_den, edges_times, whole_edges}
+use Rattle.plane_edges.specs.Multiple.{IsWholeAt, edges_times, product_of_denominators, whole_edges}
 use Rattle.plane_edges.specs.Sided.{IsSided}
 use Rattle.osm_rings.specs.Numbered.{edge_at}
 use Rattle.osm_rings.specs.Pieces.{AreAllCut, edges_at}
@@ -36,7 +36,7 @@ module _ (es : List Edge) (sided : IsSided es) (next : List (Option ℕ)) (are :
   edges = whole_edges es
 
   abbrev m : ℕ
-  m = common_den es
+  m = product_of_denominators es
 
   steps : (z : ℕ) (o : List ℕ) → All (λ i. i < length edges) (z ∷ o) → ((k : ℕ) → k < length o → after next (get_or (z ∷ o) k 0) ≡ Some (get_or o k 0)) → IsPath (edge_at edges z).to (map (edge_at edges) o) (edge_at edges (get_or (z ∷ o) (length o) 0)).to
   steps z [] low h = refl
@@ -45,13 +45,13 @@ module _ (es : List Edge) (sided : IsSided es) (next : List (Option ℕ)) (are :
     steps x o (λ k d l. low (suc k) d (omega arith)) (λ k l. h (suc k) (omega arith)),
   )
 
-  orbit-path : (o : List ℕ) → IsOrbit next o → All (λ i. i < length edges) o → IsPath (edge_at edges (orbit.last o)).to (map (edge_at edges) o) (edge_at edges (orbit.last o)).to
+  orbit-path : (o : List ℕ) → IsOrbit next o → All (λ i. i < length edges) o → IsPath (edge_at edges (orbit.last_number o)).to (map (edge_at edges) o) (edge_at edges (orbit.last_number o)).to
   orbit-path o w low =
       let some = w.some in
-      let ends : All (λ i. i < length edges) (orbit.last o ∷ o) = λ k d l. at k d l in
-      subst (λ i. IsPath (edge_at edges (orbit.last o)).to (map (edge_at edges) o) (edge_at edges i).to) (end-is edges next are o w low) (steps (orbit.last o) o ends (round edges next are o w low))
+      let ends : All (λ i. i < length edges) (orbit.last_number o ∷ o) = λ k d l. at k d l in
+      subst (λ i. IsPath (edge_at edges (orbit.last_number o)).to (map (edge_at edges) o) (edge_at edges i).to) (end-is edges next are o w low) (steps (orbit.last_number o) o ends (round edges next are o w low))
     where
-      at : (k d : ℕ) → k < length (orbit.last o ∷ o) → get_or (orbit.last o ∷ o) k d < length edges
+      at : (k d : ℕ) → k < length (orbit.last_number o ∷ o) → get_or (orbit.last_number o ∷ o) k d < length edges
       at zero d l = let some = w.some in low (length o - 1) 0 (omega arith)
       at (suc k) d l = low k d (omega arith)
 
@@ -64,7 +64,7 @@ module _ (es : List Edge) (sided : IsSided es) (next : List (Option ℕ)) (are :
           map (map (edge_at edges)) ps,
           map (map (edge_at edges)) qs,
           ap (map (map (edge_at edges))) is ∙ map-append (map (edge_at edges)) ps qs,
-          cut-pieces edges numbers tell (edge_at edges (orbit.last o)).to o ps low_o (orbit-path o w low_o) cut,
+          cut-pieces edges numbers tell (edge_at edges (orbit.last_number o)).to o ps low_o (orbit-path o w low_o) cut,
           cuts-of os qs (λ k d l. orbits (suc k) d (omega arith)) (λ k d l. low (suc k) d (omega arith)) rest,
         )
 

@@ -6,7 +6,7 @@ use Rattle.nesting.specs.Walk.{IsSuccessor}
 use Rattle.nesting.proofs.NestingKit.{sided-once, clear-two, next_leaves, next_one, no-loop-segments, segment-ends, rise, sym-differs, way-segment, next_there}
 use Rattle.plane.specs.Edge.{Edge, ends_at, other_end, same_edge, segment_of}
 use Rattle.plane.specs.Sector.{in_sector}
-use Rattle.plane.specs.Vector.{IsDirection, Vector, from_to, same_point}
+use Rattle.plane.specs.Vector.{IsNonZero, Vector, from_to, same_point}
 use Rattle.plane.proofs.PlaneKit.{ends_at-from, ends_at-to, same_edge-true, same_point-refl}
 use Rattle.lists.specs.Member.{EachPair, In}
 use Rattle.winding.specs.Sided.{IsSided}
@@ -70,14 +70,14 @@ module _ (es : List Edge) (sd : IsSided es) where
     way-is : (f : Edge) → In f es → f.from ≡ e.to → way e.to (segment_of f) ≡ from_to e.to f.to
     way-is f in_f leaves = way-segment e.to f (leaves-end e.to f leaves) (rise es sd f in_f) ∙ ap (λ w. from_to e.to w) (other-out e.to f leaves)
 
-    way-set : (f : Edge) → In f es → f.from ≡ e.to → IsDirection (from_to e.to f.to)
-    way-set f in_f leaves = subst IsDirection (way-is f in_f leaves) (way-direction e.to (segment_of f) (segment-ends e.to f (leaves-end e.to f leaves)) (rise es sd f in_f))
+    way-set : (f : Edge) → In f es → f.from ≡ e.to → IsNonZero (from_to e.to f.to)
+    way-set f in_f leaves = subst IsNonZero (way-is f in_f leaves) (way-direction e.to (segment_of f) (segment-ends e.to f (leaves-end e.to f leaves)) (rise es sd f in_f))
 
     back-is : way e.to (segment_of e) ≡ from_to e.to e.from
     back-is = way-segment e.to e (ends_at-to e) (rise es sd e in_e) ∙ ap (λ b. from_to e.to (cond b e.to e.from)) (no-loop e in_e)
 
-    back-set : IsDirection (from_to e.to e.from)
-    back-set = subst IsDirection back-is (way-direction e.to (segment_of e) (segment-ends e.to e (ends_at-to e)) (rise es sd e in_e))
+    back-set : IsNonZero (from_to e.to e.from)
+    back-set = subst IsNonZero back-is (way-direction e.to (segment_of e) (segment-ends e.to e (ends_at-to e)) (rise es sd e in_e))
 
     same-by : (f : Edge) → IsSuccessor es e f → (b : Bool) → same_edge f g ≡ b → f ≡ g
     same-by f n true s = same_edge-true f g s

@@ -1,7 +1,7 @@
 -- The clockwise order from another direction.
 use Rattle.std.proofs.Common.{◌≡◌, Bool, true, false, refl}
 use Rattle.plane.specs.Sign.{Sign, sign}
-use Rattle.plane.specs.Vector.{IsDirection, Vector, cross, dot}
+use Rattle.plane.specs.Vector.{IsNonZero, Vector, cross, dot}
 use Rattle.plane.proofs.SignKit.{agree, all, all-out, all2, all2-out, all4, all4-out, imp, imp-out, same_bool, same_bool-true, times}
 use Rattle.winding.proofs.WindingKit.{crossed, crossed-at, dot-at}
 use Rattle.nesting.proofs.NestingKit.{is_some, some-signs}
@@ -40,7 +40,7 @@ turned_1 bx by ux uy = all2 (turned_2 bx by ux uy)
 turned_computes : all4 turned_1 ≡ true
 turned_computes = refl
 
-pub met-turned : (d b u v : Vector) → IsDirection d → IsDirection b → IsDirection u → IsDirection v → is_met_before b u v ≡ turned (is_met_before d b u) (is_met_before d b v) (is_met_before d u v)
+pub met-turned : (d b u v : Vector) → IsNonZero d → IsNonZero b → IsNonZero u → IsNonZero v → is_met_before b u v ≡ turned (is_met_before d b u) (is_met_before d b v) (is_met_before d u v)
 met-turned d b u v pd pb pu pv =
     let bx = sign (dot d b) in let by = sign (cross d b) in let ux = sign (dot d u) in let uy = sign (cross d u) in let vx = sign (dot d v) in let vy = sign (cross d v) in
     let k = sign (cross b u) in let e = sign (dot b u) in let l = sign (cross b v) in let f = sign (dot b v) in let m = sign (cross u v) in

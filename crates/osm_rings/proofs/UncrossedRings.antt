@@ -15,7 +15,7 @@ use Rattle.winding.specs.Ring as winding
 use Rattle.lists.proofs.ListsKit.{in-map-out, some_member, total, total-is, total-map}
 use Rattle.winding.proofs.WindingKit.{total-member}
 use Rattle.osm_geom.specs.declared.edge.Edge.{Edge}
-use Rattle.plane_edges.specs.Multiple.{common_den, edge_times, edges_times, whole_edges}
+use Rattle.plane_edges.specs.Multiple.{edge_times, edges_times, product_of_denominators, whole_edges}
 use Rattle.plane_edges.specs.Sided.{IsSided}
 use Rattle.plane_edges.proofs.EdgesKit.{common_is_common, each_whole}
 use Rattle.osm_rings.specs.RingList.{AreRingsOf, HoldTheEdges}
@@ -34,7 +34,7 @@ plane-total k f (r ∷ rs) =
 
 module _ (es : List Edge) where
   abbrev pub K : ℕ
-  K = common_den es
+  K = product_of_denominators es
 
   abbrev pub Within : List Edge → Type 0
   Within r = (e : Edge) → In e r → In e es
@@ -72,5 +72,5 @@ module _ (es : List Edge) where
         let same = ap length s.2 ∙ length-map s.0 (edge_times K) in omega arith;
   }
 
-pub rings-do-not-cross : (es : List Edge) → IsSided es → (rs : List (List Edge)) → AreRingsOf es rs → IsRingList (map (edges_times (common_den es)) rs)
+pub rings-do-not-cross : (es : List Edge) → IsSided es → (rs : List (List Edge)) → AreRingsOf es rs → IsRingList (map (edges_times (product_of_denominators es)) rs)
 rings-do-not-cross es sd rs a = rings-uncrossed (whole_edges es) sd (in_plane es rs) (plane-list es rs a)

@@ -11,7 +11,7 @@ use Rattle.orbits.proofs.Members.{Absent, Distinct, Present, count_absent, count
 use Rattle.orbits.proofs.Reading.{at_new, at_old, clash, length_push, ltb_no, ltb_yes}
 use Rattle.osm_geom.specs.declared.edge.Edge.{Edge}
 use Rattle.osm_rings.specs.Apart.{IsFirstLeaving, LeavesFirst}
-use Rattle.osm_rings.specs.Walked.{AreMarked, AreNoted, Follow, IsClosedWalk, IsFollower, IsFresh, IsNoted}
+use Rattle.osm_rings.specs.Walked.{AreMarked, AreNoted, FollowAtPlaces, IsClosedWalk, IsFollower, IsFresh, IsNoted}
 
 -- ---- one more place is marked
 pub none-marked : (n : ℕ) (marks : List Bool) → AreMarked n marks []
@@ -46,7 +46,7 @@ module _ (n : ℕ) (marks : List Bool) (places : List ℕ) (place : ℕ) (are : 
 pub record IsWalkingTo (es : List Edge) (before : List ℕ) (start end place : ℕ) (places : List ℕ) (marks : List Bool) : Type 0 where
   pub walk : List ℕ
   pub noted : take end places ≡ before ++ walk
-  pub steps : Follow es (walk ++ place ∷ [])
+  pub steps : FollowAtPlaces es (walk ++ place ∷ [])
   pub begins : get_or (walk ++ place ∷ []) 0 0 ≡ start
   pub marked : AreMarked (length es) marks (take end places)
   pub fresh : IsFresh marks place

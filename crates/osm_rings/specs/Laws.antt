@@ -5,7 +5,7 @@ use Rattle.nesting.specs.Walk.{IsSuccessor}
 use Rattle.plane.specs.Edge as plane
 use Rattle.lists.specs.Member.{In}
 use Rattle.osm_geom.specs.declared.edge.Edge.{Edge}
-use Rattle.plane_edges.specs.Multiple.{common_den, edges_times, whole_edges}
+use Rattle.plane_edges.specs.Multiple.{edges_times, product_of_denominators, whole_edges}
 use Rattle.plane_edges.specs.Sided.{IsSided}
 use Rattle.osm_rings.specs.RingList.{AreRingsOf}
 
@@ -29,4 +29,4 @@ RingListOfEdgesExists = (es : List Edge) → IsSided es → (rs : List (List Edg
 abbrev pub RingsOfEdgesDoNotCross : Type 0
 RingsOfEdgesDoNotCross =
     (es : List Edge) → IsSided es → (rs : List (List Edge)) → AreRingsOf es rs →
-    IsRingList (map (edges_times (common_den es)) rs)
+    IsRingList (map (edges_times (product_of_denominators es)) rs)

@@ -4,7 +4,7 @@ use Rattle.lists.specs.Member.{In}
 use Rattle.one_ring_list.specs.RingListOf.{LiesInWalk}
 use Rattle.osm_geom.specs.declared.edge.Edge.{Edge}
 use Rattle.osm_rings.specs.Ring.{IsRing}
-use Rattle.plane_edges.specs.Multiple.{common_den, edges_times, whole_edges}
+use Rattle.plane_edges.specs.Multiple.{edges_times, product_of_denominators, whole_edges}
 
 -- the edges of the rings are those of the list, each as often: every sum over them is that over the list
 abbrev pub HoldTheEdges : List Edge → List (List Edge) → Type 0
@@ -13,5 +13,5 @@ HoldTheEdges es rs = (f : Edge → ℕ) → sum_by (λ r. sum_by f r) rs ≡ sum
 -- rings that hold each edge once, each within one walk of successors
 pub record AreRingsOf (es : List Edge) (rs : List (List Edge)) : Type 0 where
   pub edges : HoldTheEdges es rs
-  pub walks : (r : List Edge) → In r rs → LiesInWalk (whole_edges es) (edges_times (common_den es) r)
+  pub walks : (r : List Edge) → In r rs → LiesInWalk (whole_edges es) (edges_times (product_of_denominators es) r)
   pub ring : (r : List Edge) → In r rs → IsRing r

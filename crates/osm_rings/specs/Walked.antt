@@ -10,13 +10,13 @@ abbrev pub IsFollower : List Edge → ℕ → ℕ → Type 0
 IsFollower es i j = (d : Edge) → LeavesFirst es (slice_index_or es i d).to j
 
 -- the edge at each of these places but the first follows the one at the place before it
-abbrev pub Follow : List Edge → List ℕ → Type 0
-Follow es places = (k : ℕ) → k + 1 < length places → IsFollower es (slice_index places k) (slice_index places (k + 1))
+abbrev pub FollowAtPlaces : List Edge → List ℕ → Type 0
+FollowAtPlaces es places = (k : ℕ) → k + 1 < length places → IsFollower es (slice_index places k) (slice_index places (k + 1))
 
 -- and the first follows the last
 pub record IsClosedWalk (es : List Edge) (places : List ℕ) : Type 0 where
   pub some : 0 < length places
-  pub steps : Follow es places
+  pub steps : FollowAtPlaces es places
   pub closes : IsFollower es (slice_index places (length places - 1)) (slice_index places 0)
 
 -- closed walks that pass each edge once: their places one after the other, and how many each has

@@ -5,7 +5,7 @@ ghost use Rattle.osm_geom.specs.declared.edge.Edge.{Edge};
 ghost use Rattle.osm_geom.specs.Dir.{vector_along};
 ghost use Rattle.osm_geom.specs.Edge.{direction_of, opposite};
 ghost use Rattle.orbits.specs.Orbits.{after};
-ghost use Rattle.plane_edges.specs.Multiple.{common_den, edge_times, whole_edges};
+ghost use Rattle.plane_edges.specs.Multiple.{edge_times, product_of_denominators, whole_edges};
 ghost use Rattle.lists.specs.Member.{In};
 ghost use Rattle.osm_rings.specs.Clockwise.{is_met_before};
 ghost use Rattle.osm_rings.specs.Numbered.{edge_at};
@@ -87,7 +87,7 @@ fn successor(departures: &[Departure], keys: &[i64], near: &mut usize, edge: &Ed
     requires rising { AreRising departures.now }
     requires round { AreClockwiseRound departures.now }
     ensures { (es : List Edge) → AreDepartures es departures.now → In edge.now es
-        → IsFirstMet (whole_edges es) (edge_times (common_den es) edge.now) result }
+        → IsFirstMet (whole_edges es) (edge_times (product_of_denominators es) edge.now) result }
 {
     let departure = first_met_back(leaving(departures, keys, near, edge.to), edge)?;
     Some(departure.place)

@@ -8,7 +8,7 @@ use Rattle.std.proofs.lemmas.List.Elements.{All-head, All-map, All-tail, All-wea
 use Rattle.opl_reader.specs.declared.object.Object.{Object}
 use Rattle.opl_reader.specs.declared.object.Object.TheVariants as object
 use Rattle.opl_writer.specs.Writable.{IsWritable}
-use Rattle.opl_writer.specs.Written.{ended, line_of, text_of}
+use Rattle.opl_writer.specs.Written.{ended, object_line, objects_text}
 use Rattle.osm_objects.specs.Object.{is_live}
 use Rattle.osm_job.specs.Whole.{input_limit, longest_line}
 use Rattle.written_inputs.specs.Laws.{WrittenInputsAreRead}
@@ -41,12 +41,12 @@ store_is (Err e) same h = tt
 
 -- ---- the length of all
 
-short_text : (os : List Object) → All IsFine os → length (text_of os) ≤ length os * most_bytes
+short_text : (os : List Object) → All IsFine os → length (objects_text os) ≤ length os * most_bytes
 short_text os fine =
-    let bytes = length-flat_map (λ o. ended (line_of o)) os in
-    let each : All (λ o. length (ended (line_of o)) ≤ most_bytes) os =
-    All-weaker IsFine (λ o. length (ended (line_of o)) ≤ most_bytes) (λ o f. let short = f.short in let both = length-append (line_of o) (10 ∷ []) in omega arith) os fine in
-    let most = sum_by-le (λ o. length (ended (line_of o))) most_bytes os each in
+    let bytes = length-flat_map (λ o. ended (object_line o)) os in
+    let each : All (λ o. length (ended (object_line o)) ≤ most_bytes) os =
+    All-weaker IsFine (λ o. length (ended (object_line o)) ≤ most_bytes) (λ o f. let short = f.short in let both = length-append (object_line o) (10 ∷ []) in omega arith) os fine in
+    let most = sum_by-le (λ o. length (ended (object_line o))) most_bytes os each in
     omega arith
 
 pub sample_read : WrittenInputsAreRead → SampleIsRead
@@ -57,4 +57,4 @@ sample_read reads n some few =
     reads input_limit longest_line os
     (record { writable = All-weaker IsFine IsWritable (λ o f. f.writable) os fine; apart = rises_apart 1 3_000_000 os (all_rise n few square) })
     (let short = short_text os fine in let many = objects_are_few n few square in omega arith)
-    (All-map (λ line. length line ≤ longest_line) line_of os (All-weaker IsFine (λ o. length (line_of o) ≤ longest_line) (λ o f. let short = f.short in omega arith) os fine))
+    (All-map (λ line. length line ≤ longest_line) object_line os (All-weaker IsFine (λ o. length (object_line o) ≤ longest_line) (λ o f. let short = f.short in omega arith) os fine))

@@ -7,7 +7,7 @@ use Rattle.osm_objects.specs.Object.{id_of}
 use Rattle.osm_sample.specs.Input.{sample_objects}
 use Rattle.osm_sample.specs.Laws.{SampleHasOneCoast}
 use Rattle.osm_sample.specs.Numbers.{numbers}
-use Rattle.osm_sample.specs.Objects.{cell_nodes, cell_relation, cell_ways, closed_way, coast_nodes, coast_way, corner_node, forest, lower_left, lower_right, square_nodes, upper_node}
+use Rattle.osm_sample.specs.Objects.{cell_nodes, cell_relation, cell_ways, closed_way, coast_node_objects, coast_way, corner_node, forest, lower_left, lower_right, square_nodes, upper_node}
 
 -- none of these is one
 abbrev NoCoast : List Object → Type 0
@@ -76,7 +76,7 @@ no_coast_in_cell_nodes n k =
     no_coast_in_both (square_nodes n k (8 * k + 1) 0 8_000) (square_nodes n k (8 * k + 5) 2_000 6_000)
     (no_coast_in_square n k (8 * k + 1) 0 8_000) (no_coast_in_square n k (8 * k + 5) 2_000 6_000)
 
-no_coast_in_coast_nodes : (n : ℕ) → NoCoast (coast_nodes n)
+no_coast_in_coast_nodes : (n : ℕ) → NoCoast (coast_node_objects n)
 no_coast_in_coast_nodes n =
     one_more (lower_left n) (lower_right n ∷ map (upper_node n) (numbers (2 * n + 5))) (lower_left_is_none n)
     (one_more (lower_right n) (map (upper_node n) (numbers (2 * n + 5))) (lower_right_is_none n)
@@ -97,10 +97,10 @@ module _ (n : ℕ) where
   abbrev relations : List Object
   relations = map cell_relation (numbers (n * n))
 
-  no_coast_in_front : NoCoast (nodes ++ coast_nodes n ++ ways)
+  no_coast_in_front : NoCoast (nodes ++ coast_node_objects n ++ ways)
   no_coast_in_front =
-      no_coast_in_both (nodes ++ coast_nodes n) ways
-      (no_coast_in_both nodes (coast_nodes n) (no_coast_in_flat (cell_nodes n) (no_coast_in_cell_nodes n) (numbers (n * n))) (no_coast_in_coast_nodes n))
+      no_coast_in_both (nodes ++ coast_node_objects n) ways
+      (no_coast_in_both nodes (coast_node_objects n) (no_coast_in_flat (cell_nodes n) (no_coast_in_cell_nodes n) (numbers (n * n))) (no_coast_in_coast_nodes n))
       (no_coast_in_flat cell_ways no_coast_in_cell_ways (numbers (n * n)))
 
   the_coast : filter is_coast_way (coast_way n ∷ []) ≡ coast_way n ∷ []
@@ -108,15 +108,15 @@ module _ (n : ℕ) where
 
   one_of_all : filter is_coast_way (sample_objects n) ≡ coast_way n ∷ []
   one_of_all =
-      filter-append is_coast_way (nodes ++ coast_nodes n ++ ways ++ coast_way n ∷ [] ++ relations) (forest n ∷ [])
+      filter-append is_coast_way (nodes ++ coast_node_objects n ++ ways ++ coast_way n ∷ [] ++ relations) (forest n ∷ [])
       ∙ ap₂ (λ (a b : List Object). a ++ b) to_relations (one_more (forest n) [] (forest_is_none n) refl)
     where
-      to_coast : filter is_coast_way (nodes ++ coast_nodes n ++ ways ++ coast_way n ∷ []) ≡ coast_way n ∷ []
-      to_coast = filter-append is_coast_way (nodes ++ coast_nodes n ++ ways) (coast_way n ∷ []) ∙ ap₂ (λ (a b : List Object). a ++ b) no_coast_in_front the_coast
+      to_coast : filter is_coast_way (nodes ++ coast_node_objects n ++ ways ++ coast_way n ∷ []) ≡ coast_way n ∷ []
+      to_coast = filter-append is_coast_way (nodes ++ coast_node_objects n ++ ways) (coast_way n ∷ []) ∙ ap₂ (λ (a b : List Object). a ++ b) no_coast_in_front the_coast
 
-      to_relations : filter is_coast_way (nodes ++ coast_nodes n ++ ways ++ coast_way n ∷ [] ++ relations) ≡ coast_way n ∷ []
+      to_relations : filter is_coast_way (nodes ++ coast_node_objects n ++ ways ++ coast_way n ∷ [] ++ relations) ≡ coast_way n ∷ []
       to_relations =
-          filter-append is_coast_way (nodes ++ coast_nodes n ++ ways ++ coast_way n ∷ []) relations
+          filter-append is_coast_way (nodes ++ coast_node_objects n ++ ways ++ coast_way n ∷ []) relations
           ∙ ap₂ (λ (a b : List Object). a ++ b) to_coast (no_coast_in_map cell_relation cell_relation_is_none (numbers (n * n)))
 
 pub one_coast : SampleHasOneCoast

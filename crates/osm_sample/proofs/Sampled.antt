@@ -15,10 +15,10 @@ use Rattle.opl_reader.specs.declared.object.Ref.{Ref}
 use Rattle.opl_reader.specs.declared.object.Tag.{Tag}
 use Rattle.osm_notation.specs.Written.{written}
 use Rattle.opl_writer.specs.Writable.{AreTags, IsMemberInRange, IsRefInRange, IsTagOfTexts, IsWritable}
-use Rattle.opl_writer.specs.Written.{line_of, member_text, members_field, place_fields, ref_text, refs_field, tags_field}
+use Rattle.opl_writer.specs.Written.{member_text, members_field, object_line, place_fields, ref_text, refs_field, tags_field}
 use Rattle.osm_sample.specs.Input.{sample_objects}
 use Rattle.osm_sample.specs.Numbers.{numbers}
-use Rattle.osm_sample.specs.Objects.{cell_nodes, cell_relation, cell_ways, cells_end, closed_refs, closed_way, coast_nodes, coast_way, corner_node, forest, lower_left, lower_right, multipolygon, node_at, place_at, ref_to, square_nodes, tag_of, upper_node, way_member}
+use Rattle.osm_sample.specs.Objects.{cell_nodes, cell_relation, cell_ways, cells_end, closed_refs, closed_way, coast_node_objects, coast_way, corner_node, forest, lower_left, lower_right, multipolygon, node_at, place_at, ref_to, square_nodes, tag_of, upper_node, way_member}
 use Rattle.osm_sample.proofs.Counted.{all-of_flat_map, all-of_map, length-of_flat_map, length-of_map}
 use Rattle.osm_sample.proofs.Rising.{RisesIn, rises-of_flat_map, rises-of_map, rises_both, rises_from}
 use Rattle.osm_sample.proofs.Short.{short_field, short_id, short_place}
@@ -29,7 +29,7 @@ most_bytes = 500_000
 
 pub record IsFine (o : Object) : Type 0 where
   pub writable : IsWritable o
-  pub short : length (line_of o) < most_bytes
+  pub short : length (object_line o) < most_bytes
 
 -- ---- tags
 
@@ -200,7 +200,7 @@ cell_relation_is_fine k small =
 -- ---- all of them
 
 module _ (n : ℕ) (few : n ≤ 100) (square : n * n ≤ 10_000) where
-  coast_nodes_are_fine : All IsFine (coast_nodes n)
+  coast_nodes_are_fine : All IsFine (coast_node_objects n)
   coast_nodes_are_fine =
       All-cons IsFine (lower_left n) (lower_right n ∷ map (upper_node n) (numbers (2 * n + 5))) (node_is_fine (cells_end n + 1) (neg_ℤ (pos 10_000)) (neg_ℤ (pos 10_000)) (omega arith))
       (All-cons IsFine (lower_right n) (map (upper_node n) (numbers (2 * n + 5))) (node_is_fine (cells_end n + 2) (pos (10_000 * n + 10_000)) (neg_ℤ (pos 10_000)) (omega arith))
@@ -227,11 +227,11 @@ module _ (n : ℕ) (few : n ≤ 100) (square : n * n ≤ 10_000) where
 
   pub all_are_fine : All IsFine (sample_objects n)
   all_are_fine =
-      All-append IsFine (nodes ++ coast_nodes n ++ ways ++ coast_way n ∷ [] ++ relations) (forest n ∷ [])
-      (All-append IsFine (nodes ++ coast_nodes n ++ ways ++ coast_way n ∷ []) relations
-      (All-append IsFine (nodes ++ coast_nodes n ++ ways) (coast_way n ∷ [])
-      (All-append IsFine (nodes ++ coast_nodes n) ways
-      (All-append IsFine nodes (coast_nodes n) (all-of_flat_map IsFine (cell_nodes n) (n * n) (λ k low. cell_nodes_are_fine n k (omega arith))) coast_nodes_are_fine)
+      All-append IsFine (nodes ++ coast_node_objects n ++ ways ++ coast_way n ∷ [] ++ relations) (forest n ∷ [])
+      (All-append IsFine (nodes ++ coast_node_objects n ++ ways ++ coast_way n ∷ []) relations
+      (All-append IsFine (nodes ++ coast_node_objects n ++ ways) (coast_way n ∷ [])
+      (All-append IsFine (nodes ++ coast_node_objects n) ways
+      (All-append IsFine nodes (coast_node_objects n) (all-of_flat_map IsFine (cell_nodes n) (n * n) (λ k low. cell_nodes_are_fine n k (omega arith))) coast_nodes_are_fine)
       (all-of_flat_map IsFine cell_ways (n * n) (λ k low. cell_ways_are_fine k (omega arith))))
       (All-cons IsFine (coast_way n) [] coast_way_is_fine (All-nil IsFine)))
       (all-of_map IsFine cell_relation (n * n) (λ k low. cell_relation_is_fine k (omega arith))))
@@ -245,11 +245,11 @@ module _ (n : ℕ) (few : n ≤ 100) (square : n * n ≤ 10_000) where
       let b = length-of_map (upper_node n) (2 * n + 5) in
       let c = length-of_flat_map cell_ways 2 (n * n) (λ k. omega arith) in
       let d = length-of_map cell_relation (n * n) in
-      let e1 = length-append (nodes ++ coast_nodes n ++ ways ++ coast_way n ∷ [] ++ relations) (forest n ∷ []) in
-      let e2 = length-append (nodes ++ coast_nodes n ++ ways ++ coast_way n ∷ []) relations in
-      let e3 = length-append (nodes ++ coast_nodes n ++ ways) (coast_way n ∷ []) in
-      let e4 = length-append (nodes ++ coast_nodes n) ways in
-      let e5 = length-append nodes (coast_nodes n) in
+      let e1 = length-append (nodes ++ coast_node_objects n ++ ways ++ coast_way n ∷ [] ++ relations) (forest n ∷ []) in
+      let e2 = length-append (nodes ++ coast_node_objects n ++ ways ++ coast_way n ∷ []) relations in
+      let e3 = length-append (nodes ++ coast_node_objects n ++ ways) (coast_way n ∷ []) in
+      let e4 = length-append (nodes ++ coast_node_objects n) ways in
+      let e5 = length-append nodes (coast_node_objects n) in
       omega arith
 
   -- ---- their order
@@ -257,7 +257,7 @@ module _ (n : ℕ) (few : n ≤ 100) (square : n * n ≤ 10_000) where
   nodes_rise : (k : ℕ) → RisesIn (8 * k + 1) (8 * suc k + 1) (cell_nodes n k)
   nodes_rise k = (omega arith, (omega arith, (omega arith, (omega arith, (omega arith, (omega arith, (omega arith, (omega arith, omega arith))))))))
 
-  coast_rises : RisesIn (8 * (n * n) + 1) (8 * (n * n) + 2 * n + 8) (coast_nodes n)
+  coast_rises : RisesIn (8 * (n * n) + 1) (8 * (n * n) + 2 * n + 8) (coast_node_objects n)
   coast_rises = (
     omega arith,
     (
@@ -273,11 +273,11 @@ module _ (n : ℕ) (few : n ≤ 100) (square : n * n ≤ 10_000) where
 
   pub all_rise : RisesIn 1 3_000_000 (sample_objects n)
   all_rise =
-      rises_both 1 (2_000_000 + (n * n + 1)) 3_000_000 (nodes ++ coast_nodes n ++ ways ++ coast_way n ∷ [] ++ relations) (forest n ∷ [])
-      (rises_both 1 (2_000_000 + 1) (2_000_000 + (n * n + 1)) (nodes ++ coast_nodes n ++ ways ++ coast_way n ∷ []) relations
-      (rises_both 1 (1_000_000 + (2 * (n * n) + 1)) (2_000_000 + 1) (nodes ++ coast_nodes n ++ ways) (coast_way n ∷ [])
-      (rises_both 1 (8 * (n * n) + 2 * n + 8) (1_000_000 + (2 * (n * n) + 1)) (nodes ++ coast_nodes n) ways
-      (rises_both 1 (8 * (n * n) + 1) (8 * (n * n) + 2 * n + 8) nodes (coast_nodes n) (rises-of_flat_map (cell_nodes n) (λ k. 8 * k + 1) (n * n) (λ k low. nodes_rise k)) coast_rises)
+      rises_both 1 (2_000_000 + (n * n + 1)) 3_000_000 (nodes ++ coast_node_objects n ++ ways ++ coast_way n ∷ [] ++ relations) (forest n ∷ [])
+      (rises_both 1 (2_000_000 + 1) (2_000_000 + (n * n + 1)) (nodes ++ coast_node_objects n ++ ways ++ coast_way n ∷ []) relations
+      (rises_both 1 (1_000_000 + (2 * (n * n) + 1)) (2_000_000 + 1) (nodes ++ coast_node_objects n ++ ways) (coast_way n ∷ [])
+      (rises_both 1 (8 * (n * n) + 2 * n + 8) (1_000_000 + (2 * (n * n) + 1)) (nodes ++ coast_node_objects n) ways
+      (rises_both 1 (8 * (n * n) + 1) (8 * (n * n) + 2 * n + 8) nodes (coast_node_objects n) (rises-of_flat_map (cell_nodes n) (λ k. 8 * k + 1) (n * n) (λ k low. nodes_rise k)) coast_rises)
       (rises_from (8 * (n * n) + 2 * n + 8) 1_000_001 (1_000_000 + (2 * (n * n) + 1)) ways (omega arith) (rises-of_flat_map cell_ways (λ k. 1_000_000 + (2 * k + 1)) (n * n) (λ k low. ways_rise k))))
       (omega arith, omega arith))
       (rises-of_map cell_relation (λ k. 2_000_000 + (k + 1)) (n * n) (λ k low. (omega arith, omega arith))))

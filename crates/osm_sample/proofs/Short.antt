@@ -7,14 +7,14 @@ use Rattle.std.proofs.lemmas.Fmt.{length-decimal-le}
 use Rattle.std.proofs.lemmas.List.{length-append}
 use Rattle.std.proofs.lemmas.List.Elements.{All-head, All-tail}
 use Rattle.osm_lattice.specs.declared.loc.Loc.{Loc}
-use Rattle.osm_notation.specs.Decimal.{fraction, last_digits, magnitude_text, units_text, without_end_zeros}
+use Rattle.osm_notation.specs.Decimal.{fraction_text, last_digits, magnitude_text, units_text, without_end_zeros}
 use Rattle.osm_notation.proofs.DecimalValues.{length-last, length-without}
 use Rattle.opl_writer.specs.Written.{items_field, place_fields}
 
 -- ---- coordinates
 
-short_fraction : (rest : ℕ) → length (fraction rest) ≤ 8
-unfolding fraction
+short_fraction : (rest : ℕ) → length (fraction_text rest) ≤ 8
+unfolding fraction_text
 short_fraction rest = by (rest == 0)
   where
     by : (b : Bool) → length (if b then [] else codes "." ++ without_end_zeros (last_digits 7 rest)) ≤ 8
@@ -26,7 +26,7 @@ unfolding magnitude_text
 short_magnitude n small =
     let whole = length-decimal-le 4 (n / 10 ^ 7) (omega arith) (omega arith) (omega arith) in
     let rest = short_fraction (n % 10 ^ 7) in
-    let both = length-append (decimal (n / 10 ^ 7)) (fraction (n % 10 ^ 7)) in
+    let both = length-append (decimal (n / 10 ^ 7)) (fraction_text (n % 10 ^ 7)) in
     omega arith
 
 short_units : (z : ℤ) → unsigned_abs z ≤ 1_800_000_000 → length (units_text z) ≤ 13

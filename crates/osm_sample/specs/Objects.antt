@@ -3,7 +3,7 @@
 use Rattle.std.specs.Prelude.{ℕ, ◌+◌, ◌*◌, ◌/◌, ◌%◌, true, List, [], ◌∷◌, ◌++◌, map, ℤ, pos, neg_ℤ, ◌-ℤ◌, codes, Option, None}
 use Rattle.osm_lattice.specs.declared.loc.Loc.{Loc}
 use Rattle.opl_reader.specs.CoordinateReading.{latitude, longitude}
-use Rattle.opl_reader.specs.Coordinates.{place_of}
+use Rattle.opl_reader.specs.Coordinates.{location_from}
 use Rattle.opl_reader.specs.declared.object.Member.{Member}
 use Rattle.opl_reader.specs.declared.object.Object.{Object}
 use Rattle.opl_reader.specs.declared.object.Object.TheVariants as object
@@ -16,7 +16,7 @@ use Rattle.osm_sample.specs.Numbers.{numbers}
 
 -- the location of these coordinates, in units of 1e-7 degree
 abbrev pub place_at : ℤ → ℤ → Option Loc
-place_at x y = place_of (longitude x) (latitude y)
+place_at x y = location_from (longitude x) (latitude y)
 
 -- a node without tags
 abbrev pub node_at : ℕ → ℤ → ℤ → Object
@@ -52,8 +52,8 @@ abbrev pub lower_right : ℕ → Object
 lower_right n = node_at (cells_end n + 2) (pos (10_000 * n + 10_000)) (neg_ℤ (pos 10_000))
 
 -- the two lower nodes of the coast, then those of its upper side
-abbrev pub coast_nodes : ℕ → List Object
-coast_nodes n = lower_left n ∷ lower_right n ∷ map (upper_node n) (numbers (2 * n + 5))
+abbrev pub coast_node_objects : ℕ → List Object
+coast_node_objects n = lower_left n ∷ lower_right n ∷ map (upper_node n) (numbers (2 * n + 5))
 
 -- ---- ways
 

@@ -2,7 +2,7 @@
 
 ghost use Rattle.std.specs.Prelude.{◌≡◌, ◌≤◌, ◌*◌, ◌+◌, ◌++◌, IfOk, OnOk, [], map};
 ghost use Rattle.osm_sample.specs.Numbers.{numbers};
-ghost use Rattle.osm_sample.specs.Objects.{cells_end, coast_nodes, coast_way, forest, lower_left, lower_right, upper_node, way_member};
+ghost use Rattle.osm_sample.specs.Objects.{cells_end, coast_node_objects, coast_way, forest, lower_left, lower_right, upper_node, way_member};
 
 use crate::cells::cell_count;
 use crate::nodes::node_at;
@@ -67,7 +67,7 @@ pub(crate) fn add_coast_nodes(
     n: u32,
 ) -> Result<(), OutOfMemory>
     requires { n ≤ 100 }
-    ensures { OnOk result (objects.new.items ≡ objects.old.items ++ coast_nodes n) }
+    ensures { OnOk result (objects.new.items ≡ objects.old.items ++ coast_node_objects n) }
 {
     objects.push(lower_left(alloc, n))?;
     objects.push(lower_right(alloc, n))?;

@@ -1,7 +1,7 @@
 //! The bytes of the sample input.
 
 ghost use Rattle.std.specs.Prelude.{◌≡◌, ◌≤◌, ◌++◌, IfOk, OnOk};
-ghost use Rattle.opl_writer.specs.Written.{ended, line_of, text_of};
+ghost use Rattle.opl_writer.specs.Written.{ended, object_line, objects_text};
 ghost use Rattle.osm_sample.specs.Input.{sample_text};
 
 use crate::objects::sample_objects;
@@ -11,7 +11,7 @@ use std::alloc::{AllocError as OutOfMemory, Global};
 
 /// Adds the line of an object.
 fn put_object(text: &mut Vec<u8>, object: &Object) -> Result<(), OutOfMemory>
-    ensures { OnOk result (text.new.items ≡ text.old.items ++ ended (line_of object.now)) }
+    ensures { OnOk result (text.new.items ≡ text.old.items ++ ended (object_line object.now)) }
 {
     match object {
         Object::Node {
@@ -32,7 +32,7 @@ fn put_object(text: &mut Vec<u8>, object: &Object) -> Result<(), OutOfMemory>
 
 /// The lines of objects, in order.
 fn text_of(alloc: Global, objects: &[Object]) -> Result<Vec<u8>, OutOfMemory>
-    ensures { IfOk result (λ text. text.items ≡ text_of objects.now) }
+    ensures { IfOk result (λ text. text.items ≡ objects_text objects.now) }
 {
     let mut text = Vec::new(alloc);
     for object in objects {

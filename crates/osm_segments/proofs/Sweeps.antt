@@ -35,7 +35,7 @@ use Rattle.osm_lattice.specs.OrderLaws.{ordering_of}
 use Rattle.lists.specs.Rising.{IsRising}
 use Rattle.osm_segments.specs.Pairs.{conflicts_of, pair_of}
 use Rattle.osm_segments.proofs.RisingPairs.{tail_rising}
-use Rattle.osm_segments.specs.Sweep.{EndsRise, FitsAfter, FitsBefore, IsAfter, IsFollowed, HasLeft, IsEntered, lies_left, lies_right}
+use Rattle.osm_segments.specs.Sweep.{EndsRise, FitsAfter, FitsBefore, IsNotBefore, IsFollowed, HasLeft, IsPutBetween, lies_left, lies_right}
 use Rattle.osm_lattice.specs.Line.{is_left_of_line, is_right_of_line, side_of_line}
 use Rattle.osm_segments.specs.Tilted.{tilted, tilted_point}
 use Rattle.osm_segments.proofs.EdgePairs.{BeginsLeft, fans, turn-first, turn-second, two_ends}
@@ -69,7 +69,7 @@ pub record IsSwept (segs ends : List Seg) (next left : ℕ) (status : List Seg) 
   pub cover : (x : Seg) → In x (take next segs) → (In x status) ⊎ (In x gone)
   pub apart : (u x : Seg) → In u gone → In x (take next segs) → (u ≡ x) ⊎ IsClearOf (tilted u) (tilted x)
   pub gone_in : (u : Seg) → In u gone → In u (take left ends)
-  pub passed : (u : Seg) → In u (take left ends) → (i : ℕ) (d : Seg) → next ≤ i → i < length segs → IsAfter u.b (get_or segs i d).a
+  pub passed : (u : Seg) → In u (take left ends) → (i : ℕ) (d : Seg) → next ≤ i → i < length segs → IsNotBefore u.b (get_or segs i d).a
 
 -- ---- lists
 in-index : {X : Type 0} (x : X) (xs : List X) (d : X) → In x xs → (m : ℕ) × (m < length xs) × (get_or xs m d ≡ x)
@@ -149,10 +149,10 @@ unfolding are_overlapping are_crossing
 none_of_clear s t clear = clear_none (is_eq (seg_cmp s t)) (are_overlapping s t) (are_crossing s t) (sym (conflicts-tilted s t) ∙ clear)
 
 -- ---- heights of points
-after-height : (p q : Loc) → IsAfter p q → not (is_minus (sign ((tilted_point q).y -ℤ (tilted_point p).y))) ≡ true
+after-height : (p q : Loc) → IsNotBefore p q → not (is_minus (sign ((tilted_point q).y -ℤ (tilted_point p).y))) ≡ true
 after-height p q h = subst (λ s. not (is_minus s) ≡ true) (sym (height-tilted p q)) h
 
-before-height : (p q : Loc) → IsAfter p q → not (is_plus (sign ((tilted_point p).y -ℤ (tilted_point q).y))) ≡ true
+before-height : (p q : Loc) → IsNotBefore p q → not (is_plus (sign ((tilted_point p).y -ℤ (tilted_point q).y))) ≡ true
 before-height p q h = subst (λ s. not (is_plus s) ≡ true) (sym (height-tilted q p ∙ order-reversed (vector_of p) (vector_of q))) (negated-not-plus (order (vector_of p) (vector_of q)) h)
 
 own-height : (y : ℤ) → sign (y -ℤ y) ≡ Null
@@ -193,15 +193,15 @@ module _ (y : ℤ) (xs : List Seg) (spans : All (Spans y) xs) (linked : Linked (
         (λ t u a b f. tops_left (tilted t) (tilted u) (tall-tilted t) (tall-tilted u) f.clear (at_height y) a.0 b.0 f.right q up a.1 b.1) linked)
 
 -- ---- the upper ends in order
-later-ends : (ends : List Seg) → EndsRise ends → (left : ℕ) (d u : Seg) → left < length ends → In u (drop left ends) → IsAfter (get_or ends left d).b u.b
+later-ends : (ends : List Seg) → EndsRise ends → (left : ℕ) (d u : Seg) → left < length ends → In u (drop left ends) → IsNotBefore (get_or ends left d).b u.b
 later-ends ends rise left d u inside i =
     let r = in-index u (drop left ends) d i in
     let far : left + r.0 < length ends = (let h = r.1 in omega (arith, h, length-drop left ends)) in
-    subst (λ (t : Seg). IsAfter (get_or ends left d).b t.b) (sym (get_or-drop left ends r.0 d) ∙ r.2) (rise left (left + r.0) d (omega arith) far)
+    subst (λ (t : Seg). IsNotBefore (get_or ends left d).b t.b) (sym (get_or-drop left ends r.0 d) ∙ r.2) (rise left (left + r.0) d (omega arith) far)
 
 -- ---- one leaves
 module _ (segs ends : List Seg) (rise : EndsRise ends) (next left : ℕ) (old new : List Seg) (is : IsSwept segs ends next left old) (t : Seg) (out : HasLeft t old new)
-    (at : t ≡ get_or ends left t) (inside : left < length ends) (passes : (i : ℕ) (d : Seg) → next ≤ i → i < length segs → IsAfter t.b (get_or segs i d).a) where
+    (at : t ≡ get_or ends left t) (inside : left < length ends) (passes : (i : ℕ) (d : Seg) → next ≤ i → i < length segs → IsNotBefore t.b (get_or segs i d).a) where
   abbrev q : Vector
   q = tilted_point t.b
 
@@ -212,7 +212,7 @@ module _ (segs ends : List Seg) (rise : EndsRise ends) (next left : ℕ) (old ne
   up = high-of (at_height is.height) (tilted t) (subst (Spans is.height) out.at (is.spans out.place t out.inside))
 
   high : All (λ (u : Seg). not (is_minus (sign ((tilted u).to.y -ℤ q.y))) ≡ true) old
-  high i d h = after-height t.b (get_or old i d).b (subst (λ (s : Seg). IsAfter s.b (get_or old i d).b) (sym at) (later-ends ends rise left t (get_or old i d) inside (is.waiting i d h)))
+  high i d h = after-height t.b (get_or old i d).b (subst (λ (s : Seg). IsNotBefore s.b (get_or old i d).b) (sym at) (later-ends ends rise left t (get_or old i d) inside (is.waiting i d h)))
 
   -- no other in the status conflicts with it
   clear-with : (m : ℕ) (d : Seg) → m < length old → m ≢ out.place → IsClearOf (tilted t) (tilted (get_or old m d))
@@ -274,7 +274,7 @@ module _ (segs ends : List Seg) (rise : EndsRise ends) (next left : ℕ) (old ne
             (λ (e : u ≡ t). subst (λ (s : Seg). (s ≡ x) ⊎ IsClearOf (tilted s) (tilted x)) (sym e) (⊎_elim (from-status x) (from-gone x) (is.cover x j)))
             (λ (k : In u is.gone). is.apart u x k j) i;
         gone_in = λ u i. ⊎_elim (λ (e : u ≡ t). subst (λ s. In s (take (left + 1) ends)) (sym (e ∙ at)) (more-new ends left t inside)) (λ k. more-old u ends left t inside (is.gone_in u k)) i;
-        passed = λ u i k d l m. ⊎_elim (λ j. is.passed u j k d l m) (λ (e : u ≡ get_or ends left t). subst (λ (s : Seg). IsAfter s.b (get_or segs k d).a) (at ∙ sym e) (passes k d l m)) (in-more u ends left t inside i);
+        passed = λ u i k d l m. ⊎_elim (λ j. is.passed u j k d l m) (λ (e : u ≡ get_or ends left t). subst (λ (s : Seg). IsNotBefore s.b (get_or segs k d).a) (at ∙ sym e) (passes k d l m)) (in-more u ends left t inside i);
       } in subst (IsSwept segs ends next (left + 1)) (sym out.is) fresh
 
 -- ---- one enters
@@ -328,16 +328,16 @@ begins-after-by o r h Plus e = refl
 begins-after-by o r h Null e = refl
 begins-after-by o r h Minus e = let g = ap (λ o. ordering_then o r) e in absurd (cc (sym h ∙ g))
 
-begins-after : (t s : Seg) → seg_cmp t s ≡ Less → IsAfter t.a s.a
+begins-after : (t s : Seg) → seg_cmp t s ≡ Less → IsNotBefore t.a s.a
 begins-after t s h = begins-after-by (loc_cmp t.a s.a) (loc_cmp t.b s.b) h (order (vector_of t.a) (vector_of s.a)) (loc_cmp-is t.a s.a)
 
-after-own : (p : Loc) → IsAfter p p
+after-own : (p : Loc) → IsNotBefore p p
 after-own p = ap (λ s. not (is_minus s)) (order-self-null (vector_of p))
 
-after-plus : (p q : Loc) → order (vector_of p) (vector_of q) ≡ Plus → IsAfter p q
+after-plus : (p q : Loc) → order (vector_of p) (vector_of q) ≡ Plus → IsNotBefore p q
 after-plus p q h = ap (λ s. not (is_minus s)) h
 
-plus-then-after : (p q r : Loc) → order (vector_of p) (vector_of q) ≡ Plus → IsAfter q r → order (vector_of p) (vector_of r) ≡ Plus
+plus-then-after : (p q r : Loc) → order (vector_of p) (vector_of q) ≡ Plus → IsNotBefore q r → order (vector_of p) (vector_of r) ≡ Plus
 plus-then-after p q r h k = by-signs (order (vector_of p) (vector_of q)) (order (vector_of q) (vector_of r)) (order (vector_of p) (vector_of r)) (order-sum (vector_of p) (vector_of q) (vector_of r)) h k
   where
     by-signs : (x y z : Sign) → agree x y z ≡ true → x ≡ Plus → not (is_minus y) ≡ true → z ≡ Plus
@@ -351,7 +351,7 @@ plus-then-after p q r h k = by-signs (order (vector_of p) (vector_of q)) (order 
     by-signs Null y z a h k = absurd (cc h)
     by-signs Minus y z a h k = absurd (cc h)
 
-module _ (segs ends : List Seg) (rising : IsRising seg_cmp segs) (rise : EndsRise ends) (next left : ℕ) (old new : List Seg) (is : IsSwept segs ends next left old) (s : Seg) (put : IsEntered s old new)
+module _ (segs ends : List Seg) (rising : IsRising seg_cmp segs) (rise : EndsRise ends) (next left : ℕ) (old new : List Seg) (is : IsSwept segs ends next left old) (s : Seg) (put : IsPutBetween s old new)
     (at : s ≡ get_or segs next s) (inside : next < length segs) (some : left < length ends) (first : order (vector_of s.a) (vector_of (get_or ends left s).b) ≡ Plus) (all-end : (x : Seg) → In x segs → In x ends) where
   abbrev h' : ℤ
   h' = (tilted s).from.y
@@ -428,7 +428,7 @@ module _ (segs ends : List Seg) (rising : IsRising seg_cmp segs) (rise : EndsRis
   stands : In s (drop left ends)
   stands = ⊎_elim
       (λ (i : In s (take left ends)).
-      let after = subst (λ (t : Seg). IsAfter s.b t.a) (sym at) (is.passed s i next s (omega arith) inside) in
+      let after = subst (λ (t : Seg). IsNotBefore s.b t.a) (sym at) (is.passed s i next s (omega arith) inside) in
       let back : order (vector_of s.b) (vector_of s.a) ≡ Minus = order-reversed (vector_of s.a) (vector_of s.b) ∙ ap negated (rising_edge s) in
       absurd (cc (sym (ap (λ z. not (is_minus z)) back) ∙ after)))
       (λ (i : In s (drop left ends)). i)
@@ -451,7 +451,7 @@ module _ (segs ends : List Seg) (rising : IsRising seg_cmp segs) (rise : EndsRis
         apart = λ u x i j. ⊎_elim
             (λ (k : In x (take next segs)). is.apart u x i k)
             (λ (e : x ≡ get_or segs next s).
-            let after = subst (λ (t : Seg). IsAfter u.b t.a) (sym at) (is.passed u (is.gone_in u i) next s (omega arith) inside) in
+            let after = subst (λ (t : Seg). IsNotBefore u.b t.a) (sym at) (is.passed u (is.gone_in u i) next s (omega arith) inside) in
             let clear = clear_apart (tilted u) (tilted s) (tall-tilted u) (tall-tilted s) (after-height u.b s.a after) (subst (λ z. not (is_minus z) ≡ true) (sym (order-tilted u.b s.a)) after) in
             inr (subst (λ (t : Seg). IsClearOf (tilted u) (tilted t)) (at ∙ sym e) clear))
             (in-more x segs next s inside j);
@@ -520,15 +520,15 @@ ends-rise ends sorted i j d h l =
     not-less Minus o e h = absurd (cc (sym (ap is_lt e) ∙ h))
 
 -- ---- a segment that doesn't begin before the next upper end, nor any later one
-after-chain : (p q r : Loc) → IsAfter p q → IsAfter q r → IsAfter p r
+after-chain : (p q r : Loc) → IsNotBefore p q → IsNotBefore q r → IsNotBefore p r
 after-chain p q r h k = sum-not-minus (order (vector_of p) (vector_of q)) (order (vector_of q) (vector_of r)) (order (vector_of p) (vector_of r)) (order-sum (vector_of p) (vector_of q) (vector_of r)) h k
 
 pub leaves-by : (segs : List Seg) → IsRising seg_cmp segs → (next : ℕ) (e : Loc) (s : Seg) → s ≡ get_or segs next s → next < length segs → is_plus (order (vector_of s.a) (vector_of e)) ≡ false →
-    (i : ℕ) (d : Seg) → next ≤ i → i < length segs → IsAfter e (get_or segs i d).a
+    (i : ℕ) (d : Seg) → next ≤ i → i < length segs → IsNotBefore e (get_or segs i d).a
 leaves-by segs rising next e s at inside not-before i d h l =
-    let here : IsAfter e (get_or segs next d).a = subst (λ (t : Seg). IsAfter e t.a) (at ∙ same_get segs next s d inside) (not-minus-back (order (vector_of s.a) (vector_of e)) (order (vector_of e) (vector_of s.a)) (order-reversed (vector_of s.a) (vector_of e)) not-before) in
+    let here : IsNotBefore e (get_or segs next d).a = subst (λ (t : Seg). IsNotBefore e t.a) (at ∙ same_get segs next s d inside) (not-minus-back (order (vector_of s.a) (vector_of e)) (order (vector_of e) (vector_of s.a)) (order-reversed (vector_of s.a) (vector_of e)) not-before) in
     ⊎_elim
-    (λ (same : i ≡ next). subst (λ m. IsAfter e (get_or segs m d).a) (sym same) here)
+    (λ (same : i ≡ next). subst (λ m. IsNotBefore e (get_or segs m d).a) (sym same) here)
     (λ (other : i ≢ next). after-chain e (get_or segs next d).a (get_or segs i d).a here (begins-after (get_or segs next d) (get_or segs i d) (rising next i d (omega (arith, other)) l)))
     (cases_eq i next)
 

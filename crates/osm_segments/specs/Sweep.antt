@@ -22,7 +22,7 @@ abbrev pub FitsAfter : Seg → Seg → Type 0
 FitsAfter s t = (conflict_of s t ≡ None) × (lies_right s t ≡ true)
 
 -- s was put between two that fit
-pub record IsEntered (s : Seg) (old new : List Seg) : Type 0 where
+pub record IsPutBetween (s : Seg) (old new : List Seg) : Type 0 where
   pub place : ℕ
   pub within : place ≤ length old
   pub before : 0 < place → FitsBefore s (slice_index_or old (place - 1) s)
@@ -41,15 +41,15 @@ pub record HasLeft (s : Seg) (old new : List Seg) : Type 0 where
 pub record IsFollowed (s t : Seg) (old new : List Seg) : Type 0 where
   pub between : List Seg
   pub left : HasLeft s old between
-  pub entered : IsEntered t between new
+  pub entered : IsPutBetween t between new
 
 -- q isn't before p
-abbrev pub IsAfter : Loc → Loc → Type 0
-IsAfter p q = not (is_minus (order (vector_of p) (vector_of q))) ≡ true
+abbrev pub IsNotBefore : Loc → Loc → Type 0
+IsNotBefore p q = not (is_minus (order (vector_of p) (vector_of q))) ≡ true
 
 -- each upper end is after those of all earlier ones
 abbrev pub EndsRise : List Seg → Type 0
-EndsRise ends = (i j : ℕ) (d : Seg) → i ≤ j → j < length ends → IsAfter (slice_index_or ends i d).b (slice_index_or ends j d).b
+EndsRise ends = (i j : ℕ) (d : Seg) → i ≤ j → j < length ends → IsNotBefore (slice_index_or ends i d).b (slice_index_or ends j d).b
 
 -- the segments in the order of their upper ends
 pub record AreByEnds (segs ends : List Seg) : Type 0 where

@@ -8,7 +8,7 @@ ghost use Rattle.osm_lattice.specs.Loc.{vector_of};
 ghost use Rattle.osm_lattice.specs.Seg.{seg_cmp};
 ghost use Rattle.lists.specs.Rising.{IsRising};
 ghost use Rattle.osm_segments.specs.Pairs.{conflicts_of};
-ghost use Rattle.osm_segments.specs.Sweep.{EndsRise, FitsAfter, FitsBefore, HasLeft, IsAfter, IsEntered, IsFollowed, lies_left, lies_right};
+ghost use Rattle.osm_segments.specs.Sweep.{EndsRise, FitsAfter, FitsBefore, HasLeft, IsFollowed, IsNotBefore, IsPutBetween, lies_left, lies_right};
 
 use crate::finding::place_in_status;
 use chunked_list::ChunkedList;
@@ -65,7 +65,7 @@ fn fits_between(status: &ChunkedList<Seg>, low: usize, high: usize, s: Seg) -> b
 
 /// Puts a segment where it seems to belong, if it fits there.
 fn enter(status: &mut ChunkedList<Seg>, s: Seg) -> Result<bool, OutOfMemory>
-    ensures { IfOk result (λ fits. fits ≡ true → IsEntered s status.old status.new) }
+    ensures { IfOk result (λ fits. fits ≡ true → IsPutBetween s status.old status.new) }
 {
     let place = status.partition_point(|t| !lies_right(s, *t));
     if !fits_between(status, place, place, s) {
@@ -165,7 +165,7 @@ fn next_enters(segs: &[Seg], next: usize, end: Seg) -> bool
     ensures enters { result ≡ true → (d : Seg)
         → order (vector_of (slice_index_or segs.now next d).a) (vector_of end.b) ≡ Plus }
     ensures leaves { result ≡ false → (i : ℕ) (d : Seg) → next ≤ i → i < length segs.now
-        → IsAfter end.b (slice_index_or segs.now i d).a }
+        → IsNotBefore end.b (slice_index_or segs.now i d).a }
 {
     if next >= segs.len() {
         return false;

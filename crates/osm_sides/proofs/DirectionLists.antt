@@ -35,7 +35,7 @@ to-is false s = refl
 
 module _ (segs : List Seg) where
   abbrev goes_up : Seg → Bool
-  goes_up s = odd_side.runs_up (plane_edges_of segs) (edge_of s)
+  goes_up s = odd_side.runs_up_by_odd_side (plane_edges_of segs) (edge_of s)
 
   abbrev directed_of : Seg → Edge
   directed_of s = run (goes_up s) s

@@ -9,7 +9,7 @@ use Rattle.plane.specs.Edge as plane
 use Rattle.plane.specs.Vector.{Vector, one_at, same_point}
 use Rattle.plane.proofs.PlaneKit.{same_point-refl, same_point-true}
 use Rattle.winding.specs.EdgeList.{IsBalanced}
-use Rattle.winding.specs.OddSide.{directed, directed_edge, runs_up}
+use Rattle.winding.specs.OddSide.{directed, directed_edge, runs_up_by_odd_side}
 use Rattle.winding.proofs.WindingKit.{directed_sided}
 use Rattle.lists.specs.Member.{In}
 use Rattle.lists.specs.Rising.{IsRising}
@@ -22,7 +22,7 @@ use Rattle.osm_lattice.specs.Loc.{vector_of}
 use Rattle.osm_lattice.specs.Seg.{edge_of, seg_cmp}
 use Rattle.osm_lattice.proofs.LatticeKit.{loc_from_vectors}
 use Rattle.osm_segments.specs.Pairs.{conflicts_of}
-use Rattle.osm_sides.specs.Following.{AreKnown, AreOthersUpTo, IsDirected, IsDirection, IsEnd, IsSoleOther, stop_of}
+use Rattle.osm_sides.specs.Following.{AreOthersUpTo, IsDirected, IsDirection, IsEnd, IsSoleOther, KnownDirectionsAreRight, stop_of}
 use Rattle.osm_sides.specs.SideTests.{same}
 use Rattle.osm_sides.specs.Survivors.{HasEvenNodes, plane_edges_of}
 use Rattle.osm_sides.proofs.Survivors.{conflict_free, even_points}
@@ -79,7 +79,7 @@ module _ (ss : List Seg) where
   es = plane_edges_of ss
 
   abbrev up_of : Seg → Bool
-  up_of s = runs_up es (edge_of s)
+  up_of s = runs_up_by_odd_side es (edge_of s)
 
   begins-at : (s : Seg) (b : Bool) → up_of s ≡ b → (directed_edge es (edge_of s)).from ≡ vector_of (cond b s.a s.b)
   begins-at s true h = ap (λ b. (cond b (edge_of s) (plane.reversed (edge_of s))).from) h
@@ -179,10 +179,10 @@ all-others ss place p n other whole (low, ends, sole) = record {
 }
 
 -- ---- what is known
-pub known-none : (ss : List Seg) (known : List (Option Bool)) → length ss ≤ length known → ((k : ℕ) → get_or known k None ≡ None) → AreKnown ss known
+pub known-none : (ss : List Seg) (known : List (Option Bool)) → length ss ≤ length known → ((k : ℕ) → get_or known k None ≡ None) → KnownDirectionsAreRight ss known
 known-none ss known room none = record { room = room; right = λ place up l e. absurd (cc (sym (none place) ∙ e)) }
 
-pub known-more : (ss : List Seg) (known : List (Option Bool)) (place : ℕ) (up : Bool) → IsDirected ss place up → AreKnown ss known → AreKnown ss (set known place (Some up))
+pub known-more : (ss : List Seg) (known : List (Option Bool)) (place : ℕ) (up : Bool) → IsDirected ss place up → KnownDirectionsAreRight ss known → KnownDirectionsAreRight ss (set known place (Some up))
 known-more ss known place up here are =
     let room = are.room in
     let long = length-set known place (Some up) in

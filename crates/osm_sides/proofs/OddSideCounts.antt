@@ -34,6 +34,6 @@ runs_by : (b : Bool) (m n k l : ℕ) → m ≡ k → n ≡ l → cond b (not (is
 runs_by true m n k l e f = ap (λ i. not (is_even i)) e
 runs_by false m n k l e f = ap is_even f
 
-pub runs_up_is : (segs : List Seg) (s : Seg) → odd_side.runs_up (plane_edges_of segs) (edge_of s) ≡ cond (level s) (not (is_even (left_count s.a segs))) (is_even (right_count s segs))
+pub runs_up_is : (segs : List Seg) (s : Seg) → odd_side.runs_up_by_odd_side (plane_edges_of segs) (edge_of s) ≡ cond (level s) (not (is_even (left_count s.a segs))) (is_even (right_count s segs))
 unfolding level
 runs_up_is segs s = runs_by (level s) (count_by (is_left_of (vector_of s.a)) (plane_edges_of segs)) (count_by (starts_left_of (edge_of s)) (others (edge_of s) (plane_edges_of segs))) (left_count s.a segs) (right_count s segs) (left_count_is s.a segs) (right_count_is s segs)

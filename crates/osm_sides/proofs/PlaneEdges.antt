@@ -23,7 +23,7 @@ plane_ends false s = (refl, refl)
 module _ (all : List Seg) where
   one_edge : (s : Seg) (e : Edge) → e.from ≡ first_end all s → e.to ≡ last_end all s → edge_times 1 e ≡ odd_side.directed_edge (plane_edges_of all) (edge_of s)
   one_edge s e f t =
-      let up = odd_side.runs_up (plane_edges_of all) (edge_of s) in
+      let up = odd_side.runs_up_by_odd_side (plane_edges_of all) (edge_of s) in
       let directed = odd_side.directed_edge (plane_edges_of all) (edge_of s) in
       same_edge_by (point_times 1 e.from) (point_times 1 e.to) directed.from directed.to
       (ap (point_times 1) f ∙ lattice_point (cond up s.a s.b) ∙ (plane_ends up s).0)

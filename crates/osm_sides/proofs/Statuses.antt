@@ -13,7 +13,7 @@ use Rattle.plane.proofs.PlaneKit.{right_of}
 use Rattle.lists.proofs.ListsKit.{and-left, and-right, at-in, in-filter, in-map, in-passes, in-take, not-false-out, not-true-out, same_get}
 use Rattle.winding.specs.ConflictFree.{IsConflictFree}
 use Rattle.lists.specs.Member.{In}
-use Rattle.winding.specs.OddSide.{runs_up}
+use Rattle.winding.specs.OddSide.{runs_up_by_odd_side}
 use Rattle.winding.specs.Parity.{is_even}
 use Rattle.winding.proofs.WindingKit.{left-span, right_left}
 use Rattle.status.specs.Leaving.{Remains}
@@ -149,7 +149,7 @@ module _ (segs : List Seg) (rising : IsRising seg_cmp segs) (clear : conflicts_o
       unfolding counted starts_left
       counted-spans t h = spans-here t (and-left (is_in_span (vector_of s.a) (edge_of t)) _ (and-right (not (same_edge (edge_of s) (edge_of t))) _ h))
 
-      pub runs_up-whole : runs_up (plane_edges_of segs) (edge_of s) ≡ cond (level s) (not (is_even (left_count s.a status))) (is_even (right_count s status))
+      pub runs_up-whole : runs_up_by_odd_side (plane_edges_of segs) (edge_of s) ≡ cond (level s) (not (is_even (left_count s.a status))) (is_even (right_count s status))
       runs_up-whole =
           runs_up_is segs s
           ∙ ap (λ n. cond (level s) (not (is_even n)) (is_even (right_count s segs))) (sym (counts edge_of p segs status is (left_of s.a) left-spans))

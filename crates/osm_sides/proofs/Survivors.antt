@@ -68,9 +68,9 @@ clear_pairs (s ∷ ss) rising none = (
   clear_pairs ss (λ i j d h l. rising (suc i) (suc j) d (omega arith) (omega arith)) (right_none (filter_map (pair_of s) ss) (conflicts_of ss) none),
 )
 
-all_rising : (ss : List Seg) → All plane.IsRising (plane_edges_of ss)
+all_rising : (ss : List Seg) → All plane.IsRisingEdge (plane_edges_of ss)
 all_rising [] = λ k d h. absurd (omega arith)
-all_rising (s ∷ ss) = All-cons plane.IsRising (edge_of s) (plane_edges_of ss) (rising_edge s) (all_rising ss)
+all_rising (s ∷ ss) = All-cons plane.IsRisingEdge (edge_of s) (plane_edges_of ss) (rising_edge s) (all_rising ss)
 
 pub conflict_free : (ss : List Seg) → IsRising seg_cmp ss → conflicts_of ss ≡ [] → IsConflictFree (plane_edges_of ss)
 conflict_free ss rising none = record { rising = all_rising ss; clear = clear_pairs ss rising none }

@@ -18,7 +18,7 @@ use Rattle.osm_lattice.specs.declared.seg.Seg.{Seg}
 use Rattle.osm_lattice.specs.Seg.{edge_of, seg_cmp}
 use Rattle.lists.specs.Rising.{IsRising}
 use Rattle.osm_sides.specs.SideTests.{level}
-use Rattle.osm_sides.specs.Sweep.{EndsRise, begins_by, ends_above, IsSweptTo}
+use Rattle.osm_sides.specs.Sweep.{EndsNeverFall, begins_by, ends_above, IsSweptTo}
 use Rattle.osm_sides.proofs.SegmentTests.{level_is, lt_by}
 
 lt-plus : (x y : ℤ) → lt_z x y ≡ is_plus (sign (y -ℤ x))
@@ -72,7 +72,7 @@ ends-sooner y z b h k = grind (arith, ints)
 ends-before : (y a b : ℤ) → lt_z b a ≡ false → not (lt_z y b) ≡ true → not (lt_z y a) ≡ true
 ends-before y a b h k = grind (arith, ints)
 
-pub ends-parts : (y : ℤ) (ends : List Seg) → EndsRise ends → IsPartitionedBy (λ t. not (ends_above y t)) ends
+pub ends-parts : (y : ℤ) (ends : List Seg) → EndsNeverFall ends → IsPartitionedBy (λ t. not (ends_above y t)) ends
 ends-parts y ends rise i j d h l k = ends-before y (get_or ends i d).b.y (get_or ends j d).b.y (rise i j d h l) k
 
 begins-first : (y z : ℤ) (o o' : Ordering) → ordering_then (ordering_then (int_cmp y z) o) o' ≡ Less → y ≤ℤ z

@@ -23,10 +23,10 @@ whole_by all (s ∷ segs) [] c f l = let n = ap length c in absurd (omega arith)
 whole_by all (s ∷ segs) (e ∷ es) c f l = All-cons IsWholeSegment e es
     (record {
       segment = s;
-      forward = odd_side.runs_up (plane_edges_of all) (edge_of s);
+      forward = odd_side.runs_up_by_odd_side (plane_edges_of all) (edge_of s);
       carrier = ap (λ xs. get_or xs 0 e.carrier) c;
-      from = ap (λ xs. get_or xs 0 e.from) f ∙ chosen (odd_side.runs_up (plane_edges_of all) (edge_of s)) s.a s.b;
-      to = ap (λ xs. get_or xs 0 e.to) l ∙ chosen (odd_side.runs_up (plane_edges_of all) (edge_of s)) s.b s.a;
+      from = ap (λ xs. get_or xs 0 e.from) f ∙ chosen (odd_side.runs_up_by_odd_side (plane_edges_of all) (edge_of s)) s.a s.b;
+      to = ap (λ xs. get_or xs 0 e.to) l ∙ chosen (odd_side.runs_up_by_odd_side (plane_edges_of all) (edge_of s)) s.b s.a;
     })
     (whole_by all segs es (ap (drop 1) c) (ap (drop 1) f) (ap (drop 1) l))
 

@@ -16,10 +16,10 @@ use Rattle.osm_sides.specs.Survivors.{plane_edges_of}
 
 -- where s begins and ends, directed by the odd side among segs
 abbrev pub first_end : List Seg → Seg → Point
-first_end segs s = Lattice (cond (odd_side.runs_up (plane_edges_of segs) (edge_of s)) s.a s.b)
+first_end segs s = Lattice (cond (odd_side.runs_up_by_odd_side (plane_edges_of segs) (edge_of s)) s.a s.b)
 
 abbrev pub last_end : List Seg → Seg → Point
-last_end segs s = Lattice (cond (odd_side.runs_up (plane_edges_of segs) (edge_of s)) s.b s.a)
+last_end segs s = Lattice (cond (odd_side.runs_up_by_odd_side (plane_edges_of segs) (edge_of s)) s.b s.a)
 
 -- one edge for each segment, in order, its odd side on the left
 pub record AreDirected (segs : List Seg) (edges : List Edge) : Type 0 where

@@ -28,10 +28,10 @@ AreOthersUpTo segs place p n (Some other) =
 
 -- the odd side makes the segment at the place run up, or down
 abbrev pub IsDirection : List Seg → ℕ → Bool → Type 0
-IsDirection segs place up = (d : Seg) → up ≡ odd_side.runs_up (plane_edges_of segs) (edge_of (slice_index_or segs place d))
+IsDirection segs place up = (d : Seg) → up ≡ odd_side.runs_up_by_odd_side (plane_edges_of segs) (edge_of (slice_index_or segs place d))
 
 -- the directions that are known are right
-pub record AreKnown (segs : List Seg) (known : List (Option Bool)) : Type 0 where
+pub record KnownDirectionsAreRight (segs : List Seg) (known : List (Option Bool)) : Type 0 where
   pub room : length segs ≤ length known
   pub right : (place : ℕ) (up : Bool) → place < length segs → slice_index_or known place None ≡ Some up → IsDirection segs place up
 

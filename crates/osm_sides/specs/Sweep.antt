@@ -20,13 +20,13 @@ abbrev pub begins_by : ℤ → Seg → Bool
 begins_by y t = not (lt_z y t.a.y)
 
 -- none ends below an earlier one
-abbrev pub EndsRise : List Seg → Type 0
-EndsRise ends = (i j : ℕ) (d : Seg) → i ≤ j → j < length ends → lt_z (slice_index_or ends j d).b.y (slice_index_or ends i d).b.y ≡ false
+abbrev pub EndsNeverFall : List Seg → Type 0
+EndsNeverFall ends = (i j : ℕ) (d : Seg) → i ≤ j → j < length ends → lt_z (slice_index_or ends j d).b.y (slice_index_or ends i d).b.y ≡ false
 
 -- in order of the heights of their upper ends, among them each of the segments that isn't horizontal
 pub record AreEnds (segs ends : List Seg) : Type 0 where
   pub whole : (t : Seg) → In t segs → level t ≡ false → In t ends
-  pub rise : EndsRise ends
+  pub rise : EndsNeverFall ends
 
 -- what remained of any status while its items left does so when the next one has left too
 abbrev pub NextHasLeft : ℤ → List Seg → ℕ → List Seg → List Seg → Type 0

@@ -3,7 +3,7 @@ ghost use Rattle.std.specs.Prelude.{◌≡◌, ◌<◌, [], IfSome, false, lengt
 ghost use Rattle.osm_lattice.specs.Seg.{seg_cmp};
 ghost use Rattle.lists.specs.Rising.{IsRising};
 ghost use Rattle.osm_segments.specs.Pairs.{conflicts_of};
-ghost use Rattle.osm_sides.specs.Following.{AreKnown, AreOthersUpTo, IsDirected, IsDirection, IsEnd, IsSoleOther, stop_of};
+ghost use Rattle.osm_sides.specs.Following.{AreOthersUpTo, IsDirected, IsDirection, IsEnd, IsSoleOther, KnownDirectionsAreRight, stop_of};
 ghost use Rattle.osm_sides.specs.SideTests.{same};
 ghost use Rattle.osm_sides.specs.Survivors.{HasEvenNodes};
 
@@ -60,8 +60,8 @@ fn follow(segs: &[Seg], from: usize, direction: bool, known: &mut [Option<bool>]
     requires clear { conflicts_of segs.now ≡ [] }
     requires even { HasEvenNodes segs.now }
     requires directed { IsDirected segs.now from direction }
-    requires known { AreKnown segs.now known.old }
-    ensures { AreKnown segs.now known.new }
+    requires known { KnownDirectionsAreRight segs.now known.old }
+    ensures { KnownDirectionsAreRight segs.now known.new }
 {
     let mut place = from;
     let mut up = direction;
@@ -86,9 +86,9 @@ pub fn direction(segs: &[Seg], place: usize, known: &mut [Option<bool>]) -> bool
     requires clear { conflicts_of segs.now ≡ [] }
     requires even { HasEvenNodes segs.now }
     requires inside { place < length segs.now }
-    requires known { AreKnown segs.now known.old }
+    requires known { KnownDirectionsAreRight segs.now known.old }
     ensures right { IsDirection segs.now place result }
-    ensures known { AreKnown segs.now known.new }
+    ensures known { KnownDirectionsAreRight segs.now known.new }
 {
     if let Some(up) = known[place] {
         return up;

@@ -4,7 +4,7 @@ ghost use Rattle.std.specs.List.{AllWithin};
 ghost use Rattle.osm_lattice.specs.declared.seg.Seg.{Seg};
 ghost use Rattle.status.specs.Leaving.{Remains};
 ghost use Rattle.osm_segments.specs.Sweep.{AreByEnds};
-ghost use Rattle.osm_sides.specs.Sweep.{AreEnds, EndsRise, NextHasLeft, ends_above};
+ghost use Rattle.osm_sides.specs.Sweep.{AreEnds, EndsNeverFall, NextHasLeft, ends_above};
 
 use crate::sides::{is_above, is_horizontal};
 use chunked_list::ChunkedList;
@@ -59,7 +59,7 @@ fn leave_each(status: &mut ChunkedList<Seg>, ends: &[Seg], from: usize, to: usiz
 /// Takes out those that have ended by the height of `at`, the next ones in the list of ends; gives the place of the
 /// first that hasn't.
 pub fn leave(status: &mut ChunkedList<Seg>, ends: &[Seg], next: usize, at: Loc) -> usize
-    requires rise { EndsRise ends.now }
+    requires rise { EndsNeverFall ends.now }
     requires remains { Remains (ends_above at.y) ends.now next status.old status.old }
     ensures stay { status.new ≡ filter (ends_above at.y) status.old }
     ensures ended { AllWithin (λ t. ends_above at.y t ≡ false) ends.now 0 result }

@@ -1,7 +1,7 @@
 //! The tests that the odd side is made of: which segments are left or right of a point or a segment, and how many.
 
 ghost use Rattle.std.specs.Prelude.{◌≡◌};
-ghost use Rattle.winding.specs.OddSide.{runs_up};
+ghost use Rattle.winding.specs.OddSide.{runs_up_by_odd_side};
 ghost use Rattle.osm_lattice.specs.Seg.{edge_of};
 ghost use Rattle.osm_sides.specs.Survivors.{plane_edges_of};
 ghost use Rattle.osm_sides.specs.SideTests.{span, left_of, starts_left, level, same, forks_right, counted, left_count, right_count};
@@ -89,7 +89,7 @@ fn right_count(segs: &[Seg], s: Seg) -> usize
 /// Whether the odd side makes `s` run from its lesser end to its greater one.
 #[tactic(auto, using(crate::proofs::OddSideCounts::runs_up_is))]
 pub fn runs_up(segs: &[Seg], s: Seg) -> bool
-    ensures { result ≡ runs_up (plane_edges_of segs.now) (edge_of s) }
+    ensures { result ≡ runs_up_by_odd_side (plane_edges_of segs.now) (edge_of s) }
 {
     if is_horizontal(s) {
         left_count(segs, s.a) % 2 != 0

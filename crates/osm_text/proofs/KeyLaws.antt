@@ -8,7 +8,7 @@ use Rattle.std.proofs.lemmas.Cmp.{nat_list_cmp_total}
 use Rattle.std.proofs.lemmas.Slice.Eq.{bytes_eq-Decides}
 use Rattle.std.proofs.lemmas.Map.Text.{is_eq-slice_cmp}
 use Rattle.opl_reader.specs.declared.object.Tag.{Tag}
-use Rattle.osm_text.specs.Properties.{IsBelow, KeysRise, by_key, put_tag, tag_at, with_tag}
+use Rattle.osm_text.specs.Properties.{IsBelow, KeysRise, by_key, first_tag_with, put_tag, with_tag}
 use Rattle.osm_text.proofs.PropertyLemmas.{or-left, or-right}
 
 -- ---- keys rise
@@ -49,31 +49,31 @@ by_key_rises tags = all-rise [] tags tt
 
 -- ---- each key has its first tag
 
-put-other : (key : List ℕ) (t : Tag) (done : List Tag) → bytes_eq key t.key ≡ false → tag_at key (put_tag t done) ≡ tag_at key done
+put-other : (key : List ℕ) (t : Tag) (done : List Tag) → bytes_eq key t.key ≡ false → first_tag_with key (put_tag t done) ≡ first_tag_with key done
 put-other key t [] other = rw other refl
 put-other key t (u ∷ done) other = by (slice_cmp nat_cmp t.key u.key) (put-other key t done other)
   where
-    by : (o : Ordering) → tag_at key (put_tag t done) ≡ tag_at key done → tag_at key (match_ordering o (t ∷ u ∷ done) (u ∷ put_tag t done) (u ∷ put_tag t done)) ≡ tag_at key (u ∷ done)
+    by : (o : Ordering) → first_tag_with key (put_tag t done) ≡ first_tag_with key done → first_tag_with key (match_ordering o (t ∷ u ∷ done) (u ∷ put_tag t done) (u ∷ put_tag t done)) ≡ first_tag_with key (u ∷ done)
     by Less rest = rw other refl
     by Equal rest = ap (cond (bytes_eq key u.key) (Some u)) rest
     by Greater rest = ap (cond (bytes_eq key u.key) (Some u)) rest
 
-put-own : (t : Tag) (done : List Tag) → list_any (λ u. bytes_eq t.key u.key) done ≡ false → bytes_eq t.key t.key ≡ true → tag_at t.key (put_tag t done) ≡ Some t
+put-own : (t : Tag) (done : List Tag) → list_any (λ u. bytes_eq t.key u.key) done ≡ false → bytes_eq t.key t.key ≡ true → first_tag_with t.key (put_tag t done) ≡ Some t
 put-own t [] absent own = rw own refl
 put-own t (u ∷ done) absent own =
     by (slice_cmp nat_cmp t.key u.key)
     (rw (or-left (bytes_eq t.key u.key) (list_any (λ w. bytes_eq t.key w.key) done) absent) (put-own t done (or-right (bytes_eq t.key u.key) (list_any (λ w. bytes_eq t.key w.key) done) absent) own))
   where
-    by : (o : Ordering) → tag_at t.key (u ∷ put_tag t done) ≡ Some t → tag_at t.key (match_ordering o (t ∷ u ∷ done) (u ∷ put_tag t done) (u ∷ put_tag t done)) ≡ Some t
+    by : (o : Ordering) → first_tag_with t.key (u ∷ put_tag t done) ≡ Some t → first_tag_with t.key (match_ordering o (t ∷ u ∷ done) (u ∷ put_tag t done) (u ∷ put_tag t done)) ≡ Some t
     by Less rest = rw own refl
     by Equal rest = rest
     by Greater rest = rest
 
-is_some-find : (key : List ℕ) (tags : List Tag) → is_some (tag_at key tags) ≡ list_any (λ u. bytes_eq key u.key) tags
+is_some-find : (key : List ℕ) (tags : List Tag) → is_some (first_tag_with key tags) ≡ list_any (λ u. bytes_eq key u.key) tags
 is_some-find key [] = refl
 is_some-find key (u ∷ tags) = by (bytes_eq key u.key) (is_some-find key tags)
   where
-    by : (b : Bool) → is_some (tag_at key tags) ≡ list_any (λ w. bytes_eq key w.key) tags → is_some (cond b (Some u) (tag_at key tags)) ≡ (b || list_any (λ w. bytes_eq key w.key) tags)
+    by : (b : Bool) → is_some (first_tag_with key tags) ≡ list_any (λ w. bytes_eq key w.key) tags → is_some (cond b (Some u) (first_tag_with key tags)) ≡ (b || list_any (λ w. bytes_eq key w.key) tags)
     by true rest = refl
     by false rest = rest
 
@@ -89,36 +89,36 @@ or-new : (o : Option Tag) (t : Tag) → is_some o ≡ false → Some t ≡ optio
 or-new None t there = refl
 or-new (Some u) t there = absurd (true≢false there)
 
-with-own : (t : Tag) (done : List Tag) → bytes_eq t.key t.key ≡ true → tag_at t.key (with_tag done t) ≡ option_or (tag_at t.key done) (Some t)
+with-own : (t : Tag) (done : List Tag) → bytes_eq t.key t.key ≡ true → first_tag_with t.key (with_tag done t) ≡ option_or (first_tag_with t.key done) (Some t)
 with-own t done own = by (list_any (λ u. bytes_eq t.key u.key) done) refl
   where
-    by : (b : Bool) → list_any (λ u. bytes_eq t.key u.key) done ≡ b → tag_at t.key (if b then done else put_tag t done) ≡ option_or (tag_at t.key done) (Some t)
-    by true there = or-some (tag_at t.key done) t (is_some-find t.key done ∙ there)
-    by false absent = put-own t done absent own ∙ or-new (tag_at t.key done) t (is_some-find t.key done ∙ absent)
+    by : (b : Bool) → list_any (λ u. bytes_eq t.key u.key) done ≡ b → first_tag_with t.key (if b then done else put_tag t done) ≡ option_or (first_tag_with t.key done) (Some t)
+    by true there = or-some (first_tag_with t.key done) t (is_some-find t.key done ∙ there)
+    by false absent = put-own t done absent own ∙ or-new (first_tag_with t.key done) t (is_some-find t.key done ∙ absent)
 
-with-other : (key : List ℕ) (t : Tag) (done : List Tag) → bytes_eq key t.key ≡ false → tag_at key (with_tag done t) ≡ tag_at key done
+with-other : (key : List ℕ) (t : Tag) (done : List Tag) → bytes_eq key t.key ≡ false → first_tag_with key (with_tag done t) ≡ first_tag_with key done
 with-other key t done other = by (list_any (λ u. bytes_eq t.key u.key) done)
   where
-    by : (b : Bool) → tag_at key (if b then done else put_tag t done) ≡ tag_at key done
+    by : (b : Bool) → first_tag_with key (if b then done else put_tag t done) ≡ first_tag_with key done
     by true = refl
     by false = put-other key t done other
 
-with-at : (key : List ℕ) (t : Tag) (done : List Tag) → tag_at key (with_tag done t) ≡ option_or (tag_at key done) (cond (bytes_eq key t.key) (Some t) None)
+with-at : (key : List ℕ) (t : Tag) (done : List Tag) → first_tag_with key (with_tag done t) ≡ option_or (first_tag_with key done) (cond (bytes_eq key t.key) (Some t) None)
 with-at key t done = by (bytes_eq key t.key) refl
   where
-    by : (b : Bool) → bytes_eq key t.key ≡ b → tag_at key (with_tag done t) ≡ option_or (tag_at key done) (cond b (Some t) None)
+    by : (b : Bool) → bytes_eq key t.key ≡ b → first_tag_with key (with_tag done t) ≡ option_or (first_tag_with key done) (cond b (Some t) None)
     by true same = let is : key ≡ t.key = (bytes_eq-Decides key t.key).0 same in rw is (with-own t done ((bytes_eq-Decides t.key t.key).1 refl))
-    by false other = with-other key t done other ∙ sym (or-none (tag_at key done))
+    by false other = with-other key t done other ∙ sym (or-none (first_tag_with key done))
 
 joined : (o : Option Tag) (b : Bool) (t : Tag) (rest : Option Tag) → option_or (option_or o (cond b (Some t) None)) rest ≡ option_or o (cond b (Some t) rest)
 joined None true t rest = refl
 joined None false t rest = refl
 joined (Some u) b t rest = refl
 
-fold-at : (key : List ℕ) (done tags : List Tag) → tag_at key (fold with_tag done tags) ≡ option_or (tag_at key done) (tag_at key tags)
-fold-at key done [] = sym (or-none (tag_at key done))
+fold-at : (key : List ℕ) (done tags : List Tag) → first_tag_with key (fold with_tag done tags) ≡ option_or (first_tag_with key done) (first_tag_with key tags)
+fold-at key done [] = sym (or-none (first_tag_with key done))
 fold-at key done (t ∷ tags) =
-    fold-at key (with_tag done t) tags ∙ ap (λ (o : Option Tag). option_or o (tag_at key tags)) (with-at key t done) ∙ joined (tag_at key done) (bytes_eq key t.key) t (tag_at key tags)
+    fold-at key (with_tag done t) tags ∙ ap (λ (o : Option Tag). option_or o (first_tag_with key tags)) (with-at key t done) ∙ joined (first_tag_with key done) (bytes_eq key t.key) t (first_tag_with key tags)
 
-pub first_stands : (tags : List Tag) (key : List ℕ) → tag_at key (by_key tags) ≡ tag_at key tags
+pub first_stands : (tags : List Tag) (key : List ℕ) → first_tag_with key (by_key tags) ≡ first_tag_with key tags
 first_stands tags key = fold-at key [] tags

@@ -16,9 +16,9 @@ use Rattle.serde_json.specs.declared.value.Value.{Value, the_lemmas}
 use Rattle.serde_json.specs.declared.value.Value as value
 use Rattle.serde_json.proofs.Views.{Entry, members_view-insert_entry, view-lookup}
 use Rattle.opl_reader.specs.declared.object.Tag.{Tag}
-use Rattle.osm_text.specs.Members.{members}
-use Rattle.osm_text.specs.Properties.{by_key, member_text, properties_text, put_tag, string_text, with_tag}
-use Rattle.osm_text.specs.Rows.{led}
+use Rattle.osm_text.specs.Members.{tag_members}
+use Rattle.osm_text.specs.Properties.{by_key, properties_text, put_tag, string_text, tag_member_text, with_tag}
+use Rattle.osm_text.specs.Rows.{led_by_byte}
 use Rattle.osm_text.proofs.EscapeLemmas.{quoted-string}
 use Rattle.osm_text.proofs.RowLemmas.{led-list}
 use Rattle.lists.proofs.ListsKit.{is_some-map}
@@ -30,12 +30,12 @@ is_some-match Less d rest = refl
 is_some-match Equal d rest = refl
 is_some-match Greater d rest = refl
 
-is_some-member : (key : List ℕ) (tags : List Tag) → is_some (get_member key (members tags)) ≡ list_any (λ u. bytes_eq key u.key) tags
+is_some-member : (key : List ℕ) (tags : List Tag) → is_some (get_member key (tag_members tags)) ≡ list_any (λ u. bytes_eq key u.key) tags
 is_some-member key [] = refl
 is_some-member key (u ∷ tags) =
-    is_some-match (slice_cmp nat_cmp key u.key) (string u.value) (get_member key (members tags)) ∙ rw (is_eq-slice_cmp key u.key, is_some-member key tags) refl
+    is_some-match (slice_cmp nat_cmp key u.key) (string u.value) (get_member key (tag_members tags)) ∙ rw (is_eq-slice_cmp key u.key, is_some-member key tags) refl
 
-pub is_there : (key : List ℕ) (es : List Entry) (tags : List Tag) → members_view es ≡ members tags
+pub is_there : (key : List ℕ) (es : List Entry) (tags : List Tag) → members_view es ≡ tag_members tags
     → is_some (lookup (is_at (λ k. slice_cmp nat_cmp key (string_bytes k))) es) ≡ list_any (λ u. bytes_eq key u.key) tags
 is_there key es tags same =
     sym (is_some-map view (lookup (is_at (λ k. slice_cmp nat_cmp key (string_bytes k))) es)) ∙ ap is_some (view-lookup key es) ∙ ap (λ (ms : Members). is_some (get_member key ms)) same ∙ is_some-member key tags
@@ -45,8 +45,8 @@ is_there key es tags same =
 pub view-String : (s : String Global) → view (value.String s) ≡ string (string_bytes s)
 view-String s = search (rules, the_lemmas)
 
-put-at : (o : Ordering) (t u : Tag) (tags below : List Tag) (ms : Members) → is_eq o ≡ false → members below ≡ ms
-    → members (match_ordering o (t ∷ u ∷ tags) (u ∷ below) (u ∷ below)) ≡ match_ordering o (member t.key (string t.value) (members (u ∷ tags))) (member u.key (string t.value) (members tags)) (member u.key (string u.value) ms)
+put-at : (o : Ordering) (t u : Tag) (tags below : List Tag) (ms : Members) → is_eq o ≡ false → tag_members below ≡ ms
+    → tag_members (match_ordering o (t ∷ u ∷ tags) (u ∷ below) (u ∷ below)) ≡ match_ordering o (member t.key (string t.value) (tag_members (u ∷ tags))) (member u.key (string t.value) (tag_members tags)) (member u.key (string u.value) ms)
 put-at Less t u tags below ms apart rest = refl
 put-at Equal t u tags below ms apart rest = absurd (true≢false apart)
 put-at Greater t u tags below ms apart rest = ap (member u.key (string u.value)) rest
@@ -59,22 +59,22 @@ pub or-right : (a b : Bool) → (a || b) ≡ false → b ≡ false
 or-right true b none = absurd (true≢false none)
 or-right false b none = none
 
-pub members-put_tag : (t : Tag) (tags : List Tag) → list_any (λ u. bytes_eq t.key u.key) tags ≡ false → members (put_tag t tags) ≡ put t.key (string t.value) (members tags)
+pub members-put_tag : (t : Tag) (tags : List Tag) → list_any (λ u. bytes_eq t.key u.key) tags ≡ false → tag_members (put_tag t tags) ≡ put t.key (string t.value) (tag_members tags)
 members-put_tag t [] absent = refl
 members-put_tag t (u ∷ tags) absent =
-    put-at (slice_cmp nat_cmp t.key u.key) t u tags (put_tag t tags) (put t.key (string t.value) (members tags)) (is_eq-slice_cmp t.key u.key ∙ or-left (bytes_eq t.key u.key) (list_any (λ w. bytes_eq t.key w.key) tags) absent) (members-put_tag t tags (or-right (bytes_eq t.key u.key) (list_any (λ w. bytes_eq t.key w.key) tags) absent))
+    put-at (slice_cmp nat_cmp t.key u.key) t u tags (put_tag t tags) (put t.key (string t.value) (tag_members tags)) (is_eq-slice_cmp t.key u.key ∙ or-left (bytes_eq t.key u.key) (list_any (λ w. bytes_eq t.key w.key) tags) absent) (members-put_tag t tags (or-right (bytes_eq t.key u.key) (list_any (λ w. bytes_eq t.key w.key) tags) absent))
 
-pub members-insert : (es : List Entry) (k : String Global) (v : Value) (t : Tag) (tags : List Tag) → members_view es ≡ members tags → string_bytes k ≡ t.key → view v ≡ string t.value
-    → list_any (λ u. bytes_eq t.key u.key) tags ≡ false → members_view (insert_entry string_cmp es k v) ≡ members (with_tag tags t)
+pub members-insert : (es : List Entry) (k : String Global) (v : Value) (t : Tag) (tags : List Tag) → members_view es ≡ tag_members tags → string_bytes k ≡ t.key → view v ≡ string t.value
+    → list_any (λ u. bytes_eq t.key u.key) tags ≡ false → members_view (insert_entry string_cmp es k v) ≡ tag_members (with_tag tags t)
 members-insert es k v t tags same key value absent =
     rw absent (members_view-insert_entry es k v ∙ rw (key, value, same) (sym (members-put_tag t tags absent)))
 
-pub members-there : (t : Tag) (tags : List Tag) → list_any (λ u. bytes_eq t.key u.key) tags ≡ true → members (with_tag tags t) ≡ members tags
+pub members-there : (t : Tag) (tags : List Tag) → list_any (λ u. bytes_eq t.key u.key) tags ≡ true → tag_members (with_tag tags t) ≡ tag_members tags
 members-there t tags there = rw there refl
 
 -- ---- the text
 
-pub no_float : (tags : List Tag) → members_have_float (members tags) ≡ false
+pub no_float : (tags : List Tag) → members_have_float (tag_members tags) ≡ false
 no_float [] = refl
 no_float (t ∷ tags) = no_float tags
 
@@ -82,7 +82,7 @@ no_float (t ∷ tags) = no_float tags
 join : (comma key value more end : List ℕ) → comma ++ (key ++ 58 ∷ (value ++ (more ++ end))) ≡ (comma ++ (key ++ 58 ∷ [] ++ value) ++ more) ++ end
 join comma key value more end = simp append_assoc
 
-member_with : (comma : List ℕ) (t : Tag) (text more : List ℕ) → text ≡ more ++ 125 ∷ [] → comma ++ (quoted t.key ++ 58 ∷ (quoted t.value ++ text)) ≡ (comma ++ member_text t ++ more) ++ 125 ∷ []
+member_with : (comma : List ℕ) (t : Tag) (text more : List ℕ) → text ≡ more ++ 125 ∷ [] → comma ++ (quoted t.key ++ 58 ∷ (quoted t.value ++ text)) ≡ (comma ++ tag_member_text t ++ more) ++ 125 ∷ []
 member_with comma t text more is =
     ap (λ (xs : List ℕ). comma ++ (quoted t.key ++ 58 ∷ (quoted t.value ++ xs))) is
     ∙ ap (λ (key : List ℕ). comma ++ (key ++ 58 ∷ (quoted t.value ++ (more ++ 125 ∷ [])))) (quoted-string t.key)
@@ -90,15 +90,15 @@ member_with comma t text more is =
     ∙ join comma (string_text t.key) (string_text t.value) more (125 ∷ [])
 
 -- members behind commas
-later : (tags : List Tag) → written.members_text true (members tags) ≡ led 44 (map member_text tags) ++ 125 ∷ []
+later : (tags : List Tag) → written.members_text true (tag_members tags) ≡ led_by_byte 44 (map tag_member_text tags) ++ 125 ∷ []
 later [] = refl
-later (t ∷ tags) = member_with (44 ∷ []) t (written.members_text true (members tags)) (led 44 (map member_text tags)) (later tags)
+later (t ∷ tags) = member_with (44 ∷ []) t (written.members_text true (tag_members tags)) (led_by_byte 44 (map tag_member_text tags)) (later tags)
 
-object_is : (tags : List Tag) → compact_text (object (members tags)) ≡ 123 ∷ join_with_byte 44 (map member_text tags) ++ 125 ∷ []
+object_is : (tags : List Tag) → compact_text (object (tag_members tags)) ≡ 123 ∷ join_with_byte 44 (map tag_member_text tags) ++ 125 ∷ []
 object_is [] = refl
 object_is (t ∷ tags) =
-    member_with (123 ∷ []) t (written.members_text true (members tags)) (led 44 (map member_text tags)) (later tags)
-    ∙ led-list 123 125 (member_text t) (map member_text tags)
+    member_with (123 ∷ []) t (written.members_text true (tag_members tags)) (led_by_byte 44 (map tag_member_text tags)) (later tags)
+    ∙ led-list 123 125 (tag_member_text t) (map tag_member_text tags)
 
-pub text_is : (tags : List Tag) → compact_text (object (members (by_key tags))) ≡ properties_text tags
+pub text_is : (tags : List Tag) → compact_text (object (tag_members (by_key tags))) ≡ properties_text tags
 text_is tags = object_is (by_key tags)

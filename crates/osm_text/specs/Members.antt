@@ -3,6 +3,6 @@ use Rattle.std.specs.Prelude.{List, [], ◌∷◌}
 use Rattle.serde_json.specs.Data.{string, Members, no_members, member}
 use Rattle.opl_reader.specs.declared.object.Tag.{Tag}
 
-abbrev pub members : List Tag → Members
-members [] = no_members
-members (t ∷ tags) = member t.key (string t.value) (members tags)
+abbrev pub tag_members : List Tag → Members
+tag_members [] = no_members
+tag_members (t ∷ tags) = member t.key (string t.value) (tag_members tags)

@@ -29,6 +29,6 @@ polygon_in WellKnown rings = polygon_wkt rings
 polygon_in Json rings = polygon_json rings
 
 -- the list of polygons, in WKT what stands behind the word
-abbrev pub polygons_in : Notation → List (List (List Loc)) → List ℕ
-polygons_in WellKnown polygons = in_parentheses (map polygon_wkt polygons)
-polygons_in Json polygons = multipolygon_json polygons
+abbrev pub polygon_list_text : Notation → List (List (List Loc)) → List ℕ
+polygon_list_text WellKnown polygons = in_parentheses (map polygon_wkt polygons)
+polygon_list_text Json polygons = multipolygon_json polygons

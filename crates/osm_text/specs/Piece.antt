@@ -10,13 +10,13 @@ use Rattle.osm_text.specs.declared.piece.PieceKind.TheVariants.{Land, Water}
 use Rattle.osm_text.specs.Rounded.{has_vanished, rounded_ring, vanished_at}
 use Rattle.osm_text.specs.Wkt.{polygon_wkt}
 
-abbrev pub kind_text : PieceKind → List ℕ
-kind_text Land = codes "land "
-kind_text Water = codes "water "
+abbrev pub piece_kind_text : PieceKind → List ℕ
+piece_kind_text Land = codes "land "
+piece_kind_text Water = codes "water "
 
 -- the line of these rings, the outer one first
 abbrev pub piece_line : PieceKind → List (List Loc) → List ℕ
-piece_line kind rings = kind_text kind ++ codes "POLYGON" ++ polygon_wkt rings ++ codes "\n"
+piece_line kind rings = piece_kind_text kind ++ codes "POLYGON" ++ polygon_wkt rings ++ codes "\n"
 
 -- the inner rings that haven't vanished, rounded
 abbrev pub holes_left : List (List Edge) → List (List Loc)

@@ -21,8 +21,8 @@ abbrev pub by_key : List Tag → List Tag
 by_key tags = fold with_tag [] tags
 
 -- the first tag with a key
-abbrev pub tag_at : List ℕ → List Tag → Option Tag
-tag_at key tags = find (λ t. bytes_eq key t.key) tags
+abbrev pub first_tag_with : List ℕ → List Tag → Option Tag
+first_tag_with key tags = find (λ t. bytes_eq key t.key) tags
 
 -- a tag's key is below that of the first of these
 abbrev pub IsBelow : Tag → List Tag → Type 0
@@ -56,9 +56,9 @@ unfoldable pub string_text : List ℕ → List ℕ
 string_text bytes = codes "\"" ++ flat_map escaped_byte bytes ++ codes "\""
 
 -- a tag as a member of the object: its key and its value as strings
-abbrev pub member_text : Tag → List ℕ
-member_text tag = string_text tag.key ++ codes ":" ++ string_text tag.value
+abbrev pub tag_member_text : Tag → List ℕ
+tag_member_text tag = string_text tag.key ++ codes ":" ++ string_text tag.value
 
 -- the object of tags by keys, its members parted by commas and no spaces
 abbrev pub properties_text : List Tag → List ℕ
-properties_text tags = codes "{" ++ join_with_byte 44 (map member_text (by_key tags)) ++ codes "}"
+properties_text tags = codes "{" ++ join_with_byte 44 (map tag_member_text (by_key tags)) ++ codes "}"

@@ -2,6 +2,6 @@
 use Rattle.std.specs.Prelude.{ℕ, List, [], ◌∷◌, ◌++◌}
 
 -- the first text behind a byte, each other behind a comma
-abbrev pub led : ℕ → List (List ℕ) → List ℕ
-led byte [] = []
-led byte (text ∷ texts) = byte ∷ text ++ led 44 texts
+abbrev pub led_by_byte : ℕ → List (List ℕ) → List ℕ
+led_by_byte byte [] = []
+led_by_byte byte (text ∷ texts) = byte ∷ text ++ led_by_byte 44 texts

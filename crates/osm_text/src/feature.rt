@@ -1,7 +1,7 @@
 //! Features of the formats text and GeoJSON.
 
 ghost use Rattle.std.specs.Prelude.{◌≡◌, ◌++◌, codes, map, IfOk, OnOk, OnErr};
-ghost use Rattle.osm_notation.specs.Kept.{Keeps};
+ghost use Rattle.osm_notation.specs.Kept.{KeepsFront};
 ghost use Rattle.osm_text.specs.Paths.{paths_of};
 ghost use Rattle.osm_text.specs.Feature.{tags_text, feature_text};
 ghost use Rattle.osm_text.specs.GeoJson.{feature_json, id_member, multipolygon_json};
@@ -20,7 +20,7 @@ const FIRST_ROOM: usize = 1_024;
 /// Adds tags, the first behind a space and each other behind a comma.
 fn put_tags(text: &mut Vec<u8>, tags: &Tags) -> Result<(), OutOfMemory>
     ensures text { OnOk result (text.new.items ≡ text.old.items ++ tags_text tags.now) }
-    ensures kept { OnErr result (Keeps text.old.items text.new.items) }
+    ensures kept { OnErr result (KeepsFront text.old.items text.new.items) }
 {
     let mut byte = b' ';
     let mut rest = tags.iter();
@@ -46,7 +46,7 @@ pub fn put_feature_text(
 ) -> Result<(), OutOfMemory>
     ensures text { OnOk result (text.new.items
         ≡ text.old.items ++ feature_text id (paths_of polygons.now) tags.now) }
-    ensures kept { OnErr result (Keeps text.old.items text.new.items) }
+    ensures kept { OnErr result (KeepsFront text.old.items text.new.items) }
 {
     put_id_before(text, id)?;
     text.extend_from_slice(b"MULTIPOLYGON")?;
@@ -80,7 +80,7 @@ fn put_geometry(
         ++ codes "{\"type\":\"Feature\"," ++ id_member id
         ++ codes "\"geometry\":{\"type\":\"MultiPolygon\",\"coordinates\":"
         ++ multipolygon_json (paths_of polygons.now)) }
-    ensures kept { OnErr result (Keeps text.old.items text.new.items) }
+    ensures kept { OnErr result (KeepsFront text.old.items text.new.items) }
 {
     text.extend_from_slice(b"{\"type\":\"Feature\",")?;
     put_id_member(text, id)?;
@@ -103,7 +103,7 @@ pub fn put_feature_json(
 ) -> Result<(), OutOfMemory>
     ensures text { OnOk result (text.new.items
         ≡ text.old.items ++ feature_json id (paths_of polygons.now) tags.now) }
-    ensures kept { OnErr result (Keeps text.old.items text.new.items) }
+    ensures kept { OnErr result (KeepsFront text.old.items text.new.items) }
 {
     put_geometry(text, polygons, id)?;
     text.extend_from_slice(b"},\"properties\":")?;

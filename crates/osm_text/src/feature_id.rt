@@ -1,6 +1,6 @@
 //! Ids of features.
 ghost use Rattle.std.specs.Prelude.{◌≡◌, ◌++◌, OnOk, OnErr};
-ghost use Rattle.osm_notation.specs.Kept.{Keeps};
+ghost use Rattle.osm_notation.specs.Kept.{KeepsFront};
 ghost use Rattle.osm_text.specs.Feature.{id_before};
 ghost use Rattle.osm_text.specs.GeoJson.{id_member};
 ghost use Rattle.osm_text.specs.Id.{feature_id, id_text};
@@ -37,7 +37,7 @@ impl FeatureId {
 /// Adds an id.
 fn put_id(text: &mut Vec<u8>, id: FeatureId) -> Result<(), OutOfMemory>
     ensures text { OnOk result (text.new.items ≡ text.old.items ++ id_text id) }
-    ensures kept { OnErr result (Keeps text.old.items text.new.items) }
+    ensures kept { OnErr result (KeepsFront text.old.items text.new.items) }
 {
     match id {
         FeatureId::Counter(number) => put_number(text, number),
@@ -51,7 +51,7 @@ fn put_id(text: &mut Vec<u8>, id: FeatureId) -> Result<(), OutOfMemory>
 /// Adds the id and a space, where there is an id.
 pub(crate) fn put_id_before(text: &mut Vec<u8>, id: Option<FeatureId>) -> Result<(), OutOfMemory>
     ensures text { OnOk result (text.new.items ≡ text.old.items ++ id_before id) }
-    ensures kept { OnErr result (Keeps text.old.items text.new.items) }
+    ensures kept { OnErr result (KeepsFront text.old.items text.new.items) }
 {
     let Some(id) = id else {
         return Ok(());
@@ -64,7 +64,7 @@ pub(crate) fn put_id_before(text: &mut Vec<u8>, id: Option<FeatureId>) -> Result
 /// Adds the member of the id and a comma, where there is an id.
 pub(crate) fn put_id_member(text: &mut Vec<u8>, id: Option<FeatureId>) -> Result<(), OutOfMemory>
     ensures text { OnOk result (text.new.items ≡ text.old.items ++ id_member id) }
-    ensures kept { OnErr result (Keeps text.old.items text.new.items) }
+    ensures kept { OnErr result (KeepsFront text.old.items text.new.items) }
 {
     let Some(id) = id else {
         return Ok(());

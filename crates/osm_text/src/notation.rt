@@ -1,11 +1,11 @@
 //! Polygons in well-known text and in GeoJSON: lists in parentheses or in brackets, a ring's first point again at its end.
 
 ghost use Rattle.std.specs.Prelude.{◌≡◌, ◌++◌, map, OnOk, OnErr};
-ghost use Rattle.osm_notation.specs.Kept.{Keeps};
+ghost use Rattle.osm_notation.specs.Kept.{KeepsFront};
 ghost use Rattle.osm_text.specs.GeoJson.{position_json};
-ghost use Rattle.osm_text.specs.Notation.{close_of, open_of, point_in, polygon_in, polygons_in, ring_in};
+ghost use Rattle.osm_text.specs.Notation.{close_of, open_of, point_in, polygon_in, polygon_list_text, ring_in};
 ghost use Rattle.osm_text.specs.Paths.{path_along, paths_in, paths_of};
-ghost use Rattle.osm_text.specs.Rows.{led};
+ghost use Rattle.osm_text.specs.Rows.{led_by_byte};
 
 use crate::paths::{first_along, location_at};
 use osm_geom::{Edge, Loc};
@@ -48,7 +48,7 @@ impl Notation {
 /// Adds a position of GeoJSON.
 fn put_position(text: &mut Vec<u8>, point: Loc) -> Result<(), OutOfMemory>
     ensures text { OnOk result (text.new.items ≡ text.old.items ++ position_json point) }
-    ensures kept { OnErr result (Keeps text.old.items text.new.items) }
+    ensures kept { OnErr result (KeepsFront text.old.items text.new.items) }
 {
     text.push(b'[')?;
     put_both(text, i64::from(point.x), b',', i64::from(point.y))?;
@@ -59,7 +59,7 @@ fn put_position(text: &mut Vec<u8>, point: Loc) -> Result<(), OutOfMemory>
 /// Adds a point.
 fn put_location(text: &mut Vec<u8>, notation: Notation, point: Loc) -> Result<(), OutOfMemory>
     ensures text { OnOk result (text.new.items ≡ text.old.items ++ point_in notation point) }
-    ensures kept { OnErr result (Keeps text.old.items text.new.items) }
+    ensures kept { OnErr result (KeepsFront text.old.items text.new.items) }
 {
     match notation {
         Notation::WellKnown => put_point(text, point),
@@ -75,8 +75,8 @@ fn put_points(
     points: &[Loc],
 ) -> Result<(), OutOfMemory>
     ensures text { OnOk result (text.new.items ≡ text.old.items
-        ++ led lead (map (point_in notation) points.now)) }
-    ensures kept { OnErr result (Keeps text.old.items text.new.items) }
+        ++ led_by_byte lead (map (point_in notation) points.now)) }
+    ensures kept { OnErr result (KeepsFront text.old.items text.new.items) }
 {
     let mut byte = lead;
     for &point in points {
@@ -94,7 +94,7 @@ pub(crate) fn put_ring(
     path: &[Loc],
 ) -> Result<(), OutOfMemory>
     ensures text { OnOk result (text.new.items ≡ text.old.items ++ ring_in notation path.now) }
-    ensures kept { OnErr result (Keeps text.old.items text.new.items) }
+    ensures kept { OnErr result (KeepsFront text.old.items text.new.items) }
 {
     if path.is_empty() {
         text.push(notation.open())?;
@@ -115,8 +115,8 @@ fn put_starts(
     edges: &[Edge],
 ) -> Result<(), OutOfMemory>
     ensures text { OnOk result (text.new.items ≡ text.old.items
-        ++ led lead (map (point_in notation) (path_along edges.now))) }
-    ensures kept { OnErr result (Keeps text.old.items text.new.items) }
+        ++ led_by_byte lead (map (point_in notation) (path_along edges.now))) }
+    ensures kept { OnErr result (KeepsFront text.old.items text.new.items) }
 {
     let mut byte = lead;
     for edge in edges {
@@ -133,7 +133,7 @@ fn put_starts(
 fn put_ring_along(text: &mut Vec<u8>, notation: Notation, edges: &[Edge]) -> Result<(), OutOfMemory>
     ensures text { OnOk result (text.new.items
         ≡ text.old.items ++ ring_in notation (path_along edges.now)) }
-    ensures kept { OnErr result (Keeps text.old.items text.new.items) }
+    ensures kept { OnErr result (KeepsFront text.old.items text.new.items) }
 {
     let Some(first) = first_along(edges) else {
         return put_ring(text, notation, &[]);
@@ -147,8 +147,8 @@ fn put_ring_along(text: &mut Vec<u8>, notation: Notation, edges: &[Edge]) -> Res
 /// Adds rings, each behind a comma.
 fn put_inners(text: &mut Vec<u8>, notation: Notation, rings: &[Ring]) -> Result<(), OutOfMemory>
     ensures text { OnOk result (text.new.items ≡ text.old.items
-        ++ led 44 (map (ring_in notation) (map path_along rings.now))) }
-    ensures kept { OnErr result (Keeps text.old.items text.new.items) }
+        ++ led_by_byte 44 (map (ring_in notation) (map path_along rings.now))) }
+    ensures kept { OnErr result (KeepsFront text.old.items text.new.items) }
 {
     for ring in rings {
         text.push(b',')?;
@@ -161,7 +161,7 @@ fn put_inners(text: &mut Vec<u8>, notation: Notation, rings: &[Ring]) -> Result<
 fn put_polygon(text: &mut Vec<u8>, notation: Notation, polygon: &Polygon) -> Result<(), OutOfMemory>
     ensures text { OnOk result (text.new.items ≡ text.old.items
         ++ polygon_in notation (paths_in polygon.now)) }
-    ensures kept { OnErr result (Keeps text.old.items text.new.items) }
+    ensures kept { OnErr result (KeepsFront text.old.items text.new.items) }
 {
     text.push(notation.open())?;
     put_ring_along(text, notation, polygon.outer.as_slice())?;
@@ -178,8 +178,8 @@ fn put_each(
     polygons: &[Polygon],
 ) -> Result<(), OutOfMemory>
     ensures text { OnOk result (text.new.items ≡ text.old.items
-        ++ led lead (map (polygon_in notation) (paths_of polygons.now))) }
-    ensures kept { OnErr result (Keeps text.old.items text.new.items) }
+        ++ led_by_byte lead (map (polygon_in notation) (paths_of polygons.now))) }
+    ensures kept { OnErr result (KeepsFront text.old.items text.new.items) }
 {
     let mut byte = lead;
     for polygon in polygons {
@@ -197,8 +197,8 @@ pub(crate) fn put_polygons(
     polygons: &[Polygon],
 ) -> Result<(), OutOfMemory>
     ensures text { OnOk result (text.new.items ≡ text.old.items
-        ++ polygons_in notation (paths_of polygons.now)) }
-    ensures kept { OnErr result (Keeps text.old.items text.new.items) }
+        ++ polygon_list_text notation (paths_of polygons.now)) }
+    ensures kept { OnErr result (KeepsFront text.old.items text.new.items) }
 {
     if polygons.is_empty() {
         text.push(notation.open())?;

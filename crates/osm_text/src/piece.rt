@@ -2,8 +2,8 @@
 
 ghost use Rattle.std.specs.Prelude.{◌≡◌, ◌++◌, ◌∷◌, [], IfOk, OnOk, OnErr, option_map};
 ghost use Rattle.std.specs.List.{filter_map, flat_map};
-ghost use Rattle.osm_notation.specs.Kept.{Keeps};
-ghost use Rattle.osm_text.specs.Piece.{kind_text, piece_text, vanished_in};
+ghost use Rattle.osm_notation.specs.Kept.{KeepsFront};
+ghost use Rattle.osm_text.specs.Piece.{piece_kind_text, piece_text, vanished_in};
 ghost use Rattle.osm_text.specs.PieceSteps.{hole_text};
 ghost use Rattle.osm_text.specs.Rounded.{has_vanished, rounded_ring, vanished_at};
 
@@ -40,8 +40,8 @@ pub struct Piece {
 
 /// Adds what a piece is.
 fn put_kind(text: &mut Vec<u8>, kind: PieceKind) -> Result<(), OutOfMemory>
-    ensures text { OnOk result (text.new.items ≡ text.old.items ++ kind_text kind) }
-    ensures kept { OnErr result (Keeps text.old.items text.new.items) }
+    ensures text { OnOk result (text.new.items ≡ text.old.items ++ piece_kind_text kind) }
+    ensures kept { OnErr result (KeepsFront text.old.items text.new.items) }
 {
     let word = match kind {
         PieceKind::Land => "land ",
@@ -78,7 +78,7 @@ fn put_hole(
     ring: &Ring,
 ) -> Result<(), OutOfMemory>
     ensures text { OnOk result (text.new.items ≡ text.old.items ++ hole_text ring.now) }
-    ensures kept { OnErr result (Keeps text.old.items text.new.items) }
+    ensures kept { OnErr result (KeepsFront text.old.items text.new.items) }
     ensures noted { OnOk result (vanished.new
         ≡ vanished.old ++ filter_map vanished_at (ring.now ∷ [])) }
 {
@@ -98,7 +98,7 @@ fn put_holes(
     rings: &[Ring],
 ) -> Result<(), OutOfMemory>
     ensures text { OnOk result (text.new.items ≡ text.old.items ++ flat_map hole_text rings.now) }
-    ensures kept { OnErr result (Keeps text.old.items text.new.items) }
+    ensures kept { OnErr result (KeepsFront text.old.items text.new.items) }
     ensures noted { OnOk result (vanished.new ≡ vanished.old ++ filter_map vanished_at rings.now) }
 {
     for ring in rings {

@@ -3,9 +3,9 @@ ghost use Rattle.std.specs.Prelude.{◌≡◌, ◌++◌, List, ℕ, IfOk, OnOk, 
 ghost use Rattle.serde_json.specs.View.{members_view};
 ghost use Rattle.opl_reader.specs.declared.object.Tag.{Tag};
 ghost use Rattle.opl_reader.specs.Seen.{tag_seen};
-ghost use Rattle.osm_notation.specs.Kept.{Keeps};
-ghost use Rattle.osm_text.specs.Members.{members};
-ghost use Rattle.osm_text.specs.Properties.{KeysRise, by_key, properties_text, tag_at, with_tag};
+ghost use Rattle.osm_notation.specs.Kept.{KeepsFront};
+ghost use Rattle.osm_text.specs.Members.{tag_members};
+ghost use Rattle.osm_text.specs.Properties.{KeysRise, by_key, first_tag_with, properties_text, with_tag};
 
 use opl_reader::{TagRef, Tags};
 use serde_json::{Map, Value};
@@ -13,9 +13,9 @@ use std::alloc::{AllocError as OutOfMemory, Global};
 
 /// Adds a tag, unless its key is there.
 fn put(alloc: Global, object: &mut Map<String, Value>, tag: &TagRef<'_>) -> Result<(), OutOfMemory>
-    ensures { (tags : List Tag) → members_view object.old.entries ≡ members tags
+    ensures { (tags : List Tag) → members_view object.old.entries ≡ tag_members tags
         → OnOk result (members_view object.new.entries
-        ≡ members (with_tag tags (tag_seen tag.now))) }
+        ≡ tag_members (with_tag tags (tag_seen tag.now))) }
 {
     let key = String::from_str(alloc, tag.key)?;
     if object.contains_key(&key) {
@@ -45,7 +45,7 @@ pub(crate) fn put_properties(
     tags: &Tags,
 ) -> Result<(), OutOfMemory>
     ensures text { OnOk result (text.new.items ≡ text.old.items ++ properties_text tags.now) }
-    ensures kept { OnErr result (Keeps text.old.items text.new.items) }
+    ensures kept { OnErr result (KeepsFront text.old.items text.new.items) }
 {
     text.extend_from_slice(properties(alloc, tags)?.as_bytes())?;
     Ok(())
@@ -56,5 +56,6 @@ pub(crate) fn put_properties(
 #[tactic(auto, using(crate::proofs::KeyLaws::by_key_rises, crate::proofs::KeyLaws::first_stands))]
 pub fn tags_by_key(_tags: &Tags)
     ensures rise { KeysRise (by_key _tags.now) }
-    ensures first { (key : List ℕ) → tag_at key (by_key _tags.now) ≡ tag_at key _tags.now }
+    ensures first { (key : List ℕ) → first_tag_with key (by_key _tags.now)
+        ≡ first_tag_with key _tags.now }
 {}

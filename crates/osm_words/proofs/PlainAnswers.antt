@@ -6,7 +6,7 @@ use Rattle.std.proofs.lemmas.Slice.Eq.{bytes_eq-Decides}
 use Rattle.std.specs.Prelude.{unwrap_or}
 use Rattle.clap.specs.Words.{Row, Shape, Text, first_of}
 use Rattle.osm_words.specs.Job.{Job}
-use Rattle.osm_words.specs.Answers.{Answers, Gives}
+use Rattle.osm_words.specs.Answers.{AnswersJob, AnswersWords}
 use Rattle.osm_words.specs.PlainExport.{ids_text}
 use Rattle.osm_words.specs.Ranges.{are_both_dashes, ids_said}
 use Rattle.osm_words.specs.declared.fault.WordsFault.{WordsFault}
@@ -58,7 +58,7 @@ is_job (Ok given) = true
 is_job (Err fault) = false
 
 -- an answer that is what was asked gives the job, where a job was asked
-pub answers_give : (asked : Result Job WordsFault) (job : Job) (r : Result CodeJob WordsError) → asked ≡ Ok job → Answers asked r → Gives job r
+pub answers_give : (asked : Result Job WordsFault) (job : Job) (r : Result CodeJob WordsError) → asked ≡ Ok job → AnswersWords asked r → AnswersJob job r
 answers_give asked job (Ok found) is answers = ap (job_or job) (sym answers ∙ is)
 answers_give asked job (Err OutOfMemory) is answers = refl
 answers_give asked job (Err (BadWords fault)) is answers = absurd (true≢false (ap is_job (sym is ∙ answers)))

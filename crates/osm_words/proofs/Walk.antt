@@ -11,7 +11,7 @@ use Rattle.clap.specs.Walk.{Held, Walk, at_row, has_row, idle, more_values, opti
 use Rattle.clap.specs.declared.builder.value_parser.Reading.TheVariants.{AsWritten}
 use Rattle.clap.specs.declared.error.kind.ErrorKind.TheVariants.{ArgumentConflict}
 use Rattle.clap.specs.declared.parser.matches.ValueSource.TheVariants.{CommandLine}
-use Rattle.osm_words.specs.PlainWords.{Form, HavePlainValues, IsFileName, StandOnce, plain_words, plain_words_of_two, words_of_options}
+use Rattle.osm_words.specs.PlainWords.{Form, HaveDistinctNames, HavePlainValues, IsFileName, plain_words, plain_words_of_two, words_of_options}
 use Rattle.std.proofs.Math.Bool.{and-false}
 use Rattle.std.proofs.lemmas.Bool.{or_parts}
 
@@ -254,7 +254,7 @@ module _ (s : Shape) (o : Options s) where
 
   -- the options lead on, with a row for each in their order
   leads_from : (options : List (Form × o.Choice)) (rows : List Row) (pending : Pending) (used : List Row) → Ready s rows pending used
-      → AreNew used options → StandOnce o.name_of options → HavePlainValues o.HasPlainValue options
+      → AreNew used options → HaveDistinctNames o.name_of options → HavePlainValues o.HasPlainValue options
       → Leads s (words_of_options o.words_of options) rows pending (used ++ rows_with options)
   leads_from [] rows pending used ready new once plain = record {
     later = rows;
@@ -280,7 +280,7 @@ module _ (s : Shape) (o : Options s) where
         ready = subst (Ready s rest.later rest.left) (append_assoc used (row_of first.1 ∷ []) (rows_with others)) rest.ready;
       }
 
-  leads : (options : List (Form × o.Choice)) → StandOnce o.name_of options → HavePlainValues o.HasPlainValue options
+  leads : (options : List (Form × o.Choice)) → HaveDistinctNames o.name_of options → HavePlainValues o.HasPlainValue options
       → Leads s (words_of_options o.words_of options) [] None (rows_with options)
   leads options once plain = leads_from options [] None [] (ready_none s []) (all_new options) once plain
 
@@ -290,7 +290,7 @@ module _ (s : Shape) (o : Options s) where
   no_row name other (first ∷ others) = ap₂ (λ (a b : Bool). a || b) (other first.1) (no_row name other others)
 
   -- plain words end with a row for each option, in their order, and the file pending
-  pub ends : (last : Text) → Named s o 1 last → (options : List (Form × o.Choice)) (file : Text) → StandOnce o.name_of options
+  pub ends : (last : Text) → Named s o 1 last → (options : List (Form × o.Choice)) (file : Text) → HaveDistinctNames o.name_of options
       → HavePlainValues o.HasPlainValue options → IsFileName file → Ends s last (plain_words o.words_of options file) (rows_with options) file
   unfolding walk_fault
   ends last named options file once plain is_name =
@@ -309,7 +309,7 @@ module _ (s : Shape) (o : Options s) where
 
   -- and so with two names: the first has its row too, and the second is pending
   pub ends_of_two : (first last : Text) → Named s o 1 first → Named s o 2 last → bytes_eq first last ≡ false
-      → (options : List (Form × o.Choice)) (file second : Text) → StandOnce o.name_of options
+      → (options : List (Form × o.Choice)) (file second : Text) → HaveDistinctNames o.name_of options
       → HavePlainValues o.HasPlainValue options → IsFileName file → IsFileName second
       → Ends s last (plain_words_of_two o.words_of options file second) (rows_with options ++ row_for first file ∷ []) second
   unfolding walk_fault

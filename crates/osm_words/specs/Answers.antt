@@ -85,12 +85,12 @@ job_seen (code_certify settings) = certify (certify_seen settings)
 job_seen (code_locate settings) = locate (locate_seen settings)
 
 -- the answer is what was asked
-abbrev pub Answers : Result Job WordsFault → Result CodeJob WordsError → Type 0
-Answers asked (Ok job) = asked ≡ Ok (job_seen job)
-Answers asked (Err (BadWords cause)) = asked ≡ Err cause
-Answers asked (Err OutOfMemory) = ⊤
+abbrev pub AnswersWords : Result Job WordsFault → Result CodeJob WordsError → Type 0
+AnswersWords asked (Ok job) = asked ≡ Ok (job_seen job)
+AnswersWords asked (Err (BadWords cause)) = asked ≡ Err cause
+AnswersWords asked (Err OutOfMemory) = ⊤
 
 -- the answer is this job
-abbrev pub Gives : Job → Result CodeJob WordsError → Type 0
-Gives asked (Ok job) = job_seen job ≡ asked
-Gives asked (Err error) = error ≡ OutOfMemory
+abbrev pub AnswersJob : Job → Result CodeJob WordsError → Type 0
+AnswersJob asked (Ok job) = job_seen job ≡ asked
+AnswersJob asked (Err error) = error ≡ OutOfMemory

@@ -27,10 +27,10 @@ begins_with_dash [] = false
 begins_with_dash (first ∷ others) = first == 45
 
 -- no two of the options have one name
-abbrev pub StandOnce : {C : Type 0} → (C → List ℕ) → List (Form × C) → Type 0
-StandOnce name_of [] = ⊤
-StandOnce name_of (option ∷ others) =
-    (list_any (λ other. bytes_eq (name_of option.1) (name_of other.1)) others ≡ false) × StandOnce name_of others
+abbrev pub HaveDistinctNames : {C : Type 0} → (C → List ℕ) → List (Form × C) → Type 0
+HaveDistinctNames name_of [] = ⊤
+HaveDistinctNames name_of (option ∷ others) =
+    (list_any (λ other. bytes_eq (name_of option.1) (name_of other.1)) others ≡ false) × HaveDistinctNames name_of others
 
 -- each of the options has a plain value, or none
 abbrev pub HavePlainValues : {C : Type 0} → (C → Type 0) → List (Form × C) → Type 0
@@ -43,14 +43,14 @@ IsFileName file = (file ≡ codes "-") ⊎ (begins_with_dash file ≡ false)
 
 -- Each option stands at most once and has a plain value or none, and the file's name is one.
 pub record ArePlainWords {C : Type 0} (name_of : C → List ℕ) (HasPlainValue : C → Type 0) (options : List (Form × C)) (file : List ℕ) : Type 0 where
-  pub once : StandOnce name_of options
+  pub once : HaveDistinctNames name_of options
   pub values : HavePlainValues HasPlainValue options
   pub file_name : IsFileName file
 
 -- The same with two names: one of them at most is a lone dash, since standard input is read once.
 pub record ArePlainWordsOfTwo {C : Type 0} (name_of : C → List ℕ) (HasPlainValue : C → Type 0) (options : List (Form × C)) (file second : List ℕ)
     : Type 0 where
-  pub once : StandOnce name_of options
+  pub once : HaveDistinctNames name_of options
   pub values : HavePlainValues HasPlainValue options
   pub file_name : IsFileName file
   pub second_name : IsFileName second

@@ -1,7 +1,7 @@
 //! The words of a command line: which command they name, and what they ask for.
 
 ghost use Rattle.std.specs.Prelude.{◌≡◌, ℕ, List, Ok, map, string_bytes};
-ghost use Rattle.osm_words.specs.Answers.{Answers, Gives};
+ghost use Rattle.osm_words.specs.Answers.{AnswersJob, AnswersWords};
 ghost use Rattle.osm_words.specs.Job.{certify, coastline, export, filter, locate, sample};
 ghost use Rattle.osm_words.specs.PlainCertify.{ArePlainCertify, CertifyOption, certify_words, said_certify};
 ghost use Rattle.osm_words.specs.PlainCoastline.{ArePlainCoastline, CoastlineOption, coastline_words, said_coastline};
@@ -61,7 +61,7 @@ fn unnamed_cause(words: &[String]) -> WordsFault
 
 /// What the words ask for.
 fn answer<'a>(alloc: Global, words: &'a [String]) -> Result<Job<'a>, WordsError>
-    ensures { Answers (job_asked (map string_bytes words.now)) result }
+    ensures { AnswersWords (job_asked (map string_bytes words.now)) result }
 {
     match command_of(words) {
         Command::Export => match export_settings(alloc, words) {
@@ -112,29 +112,29 @@ fn answer<'a>(alloc: Global, words: &'a [String]) -> Result<Job<'a>, WordsError>
 /// long form and at most once, and behind them a file, or a file and a second input, are taken with what they say;
 /// `plain_sample` says so of a number in range alone.
 pub fn job_of<'a>(alloc: Global, words: &'a [String]) -> Result<Job<'a>, WordsError>
-    ensures answers { Answers (job_asked (map string_bytes words.now)) result }
+    ensures answers { AnswersWords (job_asked (map string_bytes words.now)) result }
     ensures plain { (options : List (Form × ExportOption)) (file : List ℕ) → ArePlain options file
         → map string_bytes words.now ≡ export_words options file
-        → Gives (export (said options file)) result }
+        → AnswersJob (export (said options file)) result }
     ensures plain_coastline { (options : List (Form × CoastlineOption)) (file : List ℕ)
         → ArePlainCoastline options file
         → map string_bytes words.now ≡ coastline_words options file
-        → Gives (coastline (said_coastline options file)) result }
+        → AnswersJob (coastline (said_coastline options file)) result }
     ensures plain_sample { (written : List ℕ) (count : ℕ) → IsPlainCount written count
         → map string_bytes words.now ≡ sample_words written
-        → Gives (sample count) result }
+        → AnswersJob (sample count) result }
     ensures plain_filter { (options : List (Form × FilterOption)) (file : List ℕ)
         → ArePlainFilter options file
         → map string_bytes words.now ≡ filter_words options file
-        → Gives (filter (said_filter options file)) result }
+        → AnswersJob (filter (said_filter options file)) result }
     ensures plain_certify { (options : List (Form × CertifyOption)) (file text : List ℕ)
         → ArePlainCertify options file text
         → map string_bytes words.now ≡ certify_words options file text
-        → Gives (certify (said_certify options file text)) result }
+        → AnswersJob (certify (said_certify options file text)) result }
     ensures plain_locate { (options : List (Form × LocateOption)) (file points : List ℕ)
         → ArePlainLocate options file points
         → map string_bytes words.now ≡ locate_words options file points
-        → Gives (locate (said_locate options file points)) result }
+        → AnswersJob (locate (said_locate options file points)) result }
 {
     answer(alloc, words)
 }

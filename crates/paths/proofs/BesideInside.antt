@@ -12,7 +12,7 @@ use Rattle.plane.specs.FreeSegment.{IsBetween}
 use Rattle.plane.specs.RayCrossing.{IsOffEdge, down_by, up_by}
 use Rattle.plane.specs.Scale.{scaled_edge, scaled_point}
 use Rattle.plane.specs.Sign.{Minus, Null, Plus, Sign, is_null, negated, sign}
-use Rattle.plane.specs.Vector.{IsDirection, Vector, cross, dot, east, from_to, orient}
+use Rattle.plane.specs.Vector.{IsNonZero, Vector, cross, dot, east, from_to, orient}
 use Rattle.winding.specs.EdgeList.{IsBalanced, down_count, up_count, winding_number}
 use Rattle.winding.specs.ScaledEdges.{scaled_edges}
 use Rattle.winding.specs.Sided.{IsSided}
@@ -180,7 +180,7 @@ module _ (e : Edge) (p : Vector) (r : Vector) (v : View e.from e.to (from_to r))
     pub last-off : IsOffEdge P1 (scaled_edge k e)
     last-off = off_by-set (sign (cross (from_to P1 (scaled_point k e.from)) (from_to P1 (scaled_point k e.to)))) _ (ap (λ s. not (is_null s)) c1)
 
-    pub step-way : IsDirection D
+    pub step-way : IsNonZero D
     step-way = cross-direction D (from_to P0 (scaled_point k e.from)) s0
 
 at-least : (f : Edge → ℕ) (x : Edge) (xs : List Edge) → In x xs → f x ≡ 1 → 0 < total f xs

@@ -5,7 +5,7 @@ use borrow.Author.Differences.{ints}
 use Rattle.lists.specs.Member.{In}
 use Rattle.nesting.specs.Cover.{covers}
 use Rattle.nesting.specs.Nesting.{edges_of}
-use Rattle.nesting.specs.Polygon.{ArePolygons, Polygon, polygon_edges}
+use Rattle.nesting.specs.Polygon.{ArePolygonsOfRings, Polygon, polygon_edges}
 use Rattle.nesting.specs.RingList.{IsRingList}
 use Rattle.nesting.specs.Walk.{HasSameEdges}
 use Rattle.one_ring_list.specs.RingListOf.{IsRingListOf}
@@ -108,7 +108,7 @@ off-part : (xs es : List Edge) → ((x : Edge) → In x xs → In x es) → (p :
 off-part xs es sub p o = all-in (IsOffEdge p) xs (λ x i. in-all (IsOffEdge p) es x o (sub x i))
 
 -- ---- the polygons of a sided list
-module _ (es : List Edge) (sd : IsSided es) (rs : List (List Edge)) (l : IsRingListOf es rs) (gs : List Polygon) (a : ArePolygons rs gs) where
+module _ (es : List Edge) (sd : IsSided es) (rs : List (List Edge)) (l : IsRingListOf es rs) (gs : List Polygon) (a : ArePolygonsOfRings rs gs) where
   u : IsRingList rs
   u = rings-uncrossed es sd rs l
 
@@ -191,6 +191,6 @@ module _ (es : List Edge) (sd : IsSided es) (rs : List (List Edge)) (l : IsRingL
         let ie = reached-own g i p o.first e.0 e.1 e.2 in let jf = reached-own g i q o.second f.0 f.1 f.2 in
         reached-by es sd k hk p q e.0 f.0 e.1 f.1 ((linked_one es sd rs l gs a g i e.0 f.0 ie).1 jf) e.2 f.2
 
-pub parts : (es : List Edge) → IsSided es → (rs : List (List Edge)) → IsRingListOf es rs → (gs : List Polygon) → ArePolygons rs gs → (k : ℤ) → sign k ≡ Plus → (p q : Vector) →
+pub parts : (es : List Edge) → IsSided es → (rs : List (List Edge)) → IsRingListOf es rs → (gs : List Polygon) → ArePolygonsOfRings rs gs → (k : ℤ) → sign k ≡ Plus → (p q : Vector) →
     IsInside (scaled_edges k es) p → IsInside (scaled_edges k es) q → Joined (scaled_edges k es) p q ↔ AreInOne k gs p q
 parts es sd rs l gs a k hk p q x y = (joined-one es sd rs l gs a k hk p q x y, one-joined es sd rs l gs a k hk p q x y)

@@ -1,7 +1,7 @@
 -- The place of an edge just above a height is strictly inside the edge.
 use Rattle.std.proofs.Common.{ap, arith, pos, true, ℤ, ◌*ℤ◌, ◌+ℤ◌, ◌-ℤ◌, ◌∙◌, ◌≡◌, ◌⊎◌, inl, inr}
 use borrow.Author.Differences.{ints}
-use Rattle.plane.specs.Edge.{Edge, IsRising}
+use Rattle.plane.specs.Edge.{Edge, IsRisingEdge}
 use Rattle.plane.specs.FreeSegment.{IsBetween}
 use Rattle.plane.specs.Height.{distance_right, is_in_span}
 use Rattle.plane.specs.Order.{order}
@@ -34,7 +34,7 @@ above-by k a b c = let k' = lift k in let a' = lift a in let b' = lift b in let 
 pub below-by : (k a b c : ℤ) → k *ℤ c -ℤ (k *ℤ a +ℤ b) ≡ k *ℤ (c -ℤ a) -ℤ b
 below-by k a b c = let k' = lift k in let a' = lift a in let b' = lift b in let c' = lift c in same (k' ⊠ c' ⊟ (k' ⊠ a' ⊞ b')) (k' ⊠ (c' ⊟ a') ⊟ b') (omega arith)
 
-module _ (p : Vector) (f : Edge) (m : ℤ) (hm : sign m ≡ Plus) (Y V : Vector) (i : IsPlace p f m Y V) (r : IsRising f) (s : is_in_span p f ≡ true) where
+module _ (p : Vector) (f : Edge) (m : ℤ) (hm : sign m ≡ Plus) (Y V : Vector) (i : IsPlace p f m Y V) (r : IsRisingEdge f) (s : is_in_span p f ≡ true) where
   abbrev u : Vector
   u = scaled_point m f.from
 

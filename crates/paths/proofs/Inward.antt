@@ -5,7 +5,7 @@ use Rattle.lists.specs.Member.{In}
 use Rattle.paths.specs.Beside.{IsLeftBeside, ReachesEdge}
 use Rattle.paths.specs.Line.{IsApart, IsFreeStep}
 use Rattle.plane.specs.Bit.{bit}
-use Rattle.plane.specs.Edge.{Edge, IsRising, reversed, same_edge, segment_of}
+use Rattle.plane.specs.Edge.{Edge, IsRisingEdge, reversed, same_edge, segment_of}
 use Rattle.plane.specs.Height.{is_in_span, is_left_of}
 use Rattle.plane.specs.Order.{order}
 use Rattle.plane.specs.RayCrossing.{IsOffEdge}
@@ -14,7 +14,7 @@ use Rattle.plane.specs.Sign.{Minus, Null, Plus, Sign, is_null, is_plus, sign, th
 use Rattle.plane.specs.Vector.{Vector, cross, east, from_to, orient}
 use Rattle.winding.specs.ConflictFree.{IsConflictFree, others}
 use Rattle.winding.specs.EdgeList.{IsEvenAtPoints, crossing_count, down_count, up_count, winding_number}
-use Rattle.winding.specs.OddSide.{directed, directed_edge, runs_up}
+use Rattle.winding.specs.OddSide.{directed, directed_edge, runs_up_by_odd_side}
 use Rattle.winding.specs.Ring.{segments_of}
 use Rattle.winding.specs.ScaledEdges.{scaled_edges}
 use Rattle.winding.specs.Sided.{IsSided}
@@ -138,7 +138,7 @@ module _ (p : Vector) (es : List Edge) (pl : IsConflictFree es) (off : (g : Edge
       first-right g n (inl q) = absurd (let k = same_edge-refl a in let l = ap (same_edge a) q in cc (sym k ∙ sym l ∙ n))
       first-right g n (inr k) = k
 
-  pub a-runs : IsEvenAtPoints es → crossing_count east p es % 2 ≡ 1 → runs_up es a ≡ true
+  pub a-runs : IsEvenAtPoints es → crossing_count east p es % 2 ≡ 1 → runs_up_by_odd_side es a ≡ true
   a-runs even odd =
       let c = covers-crossings p es pl in
       let s = split_off (λ t. bit (is_left_of p t)) a es pl ja in
@@ -193,7 +193,7 @@ module _ (es : List Edge) (sd : IsSided es) (p : Vector) (off : All (IsOffEdge p
         let r = in-map-out segment_of es a in-up in
         let q : a ≡ r.0 = sym itself ∙ ap (directed_edge up-list) r.2 ∙ sided_direct es sd r.0 r.1 in subst (λ w. In w es) (sym q) r.1
 
-    a-rises : IsRising a
+    a-rises : IsRisingEdge a
     a-rises = rising_in up-list a sd.plain in-up
 
     a-segment : segment_of a ≡ a

@@ -3,7 +3,7 @@ use Rattle.std.proofs.Common.{List, subst, sym, ℤ, ◌*ℤ◌, ◌∙◌, ◌�
 use Rattle.connected.specs.Linked.{Linked}
 use Rattle.connected.specs.Linked.Linked.{Back, Crosses, Follows, Itself, Through}
 use Rattle.lists.specs.Member.{In}
-use Rattle.nesting.specs.Polygon.{ArePolygons, Polygon, polygon_edges}
+use Rattle.nesting.specs.Polygon.{ArePolygonsOfRings, Polygon, polygon_edges}
 use Rattle.one_ring_list.specs.RingListOf.{IsRingListOf}
 use Rattle.paths.specs.Beside.{AreBeside, IsLeftBeside, ReachesEdge}
 use Rattle.paths.specs.Inside.{IsInside}
@@ -121,7 +121,7 @@ module _ (es : List Edge) (sd : IsSided es) where
   pub inside-joined : ((e f : Edge) → In e es → In f es → Linked es e f) → (k : ℤ) → sign k ≡ Plus → (p q : Vector) → IsInside (scaled_edges k es) p → IsInside (scaled_edges k es) q → Joined (scaled_edges k es) p q
   inside-joined linked k hk p q a b = any-joined k hk linked p q a b
 
-pub polygon-connected : (es : List Edge) → IsSided es → (rs : List (List Edge)) → IsRingListOf es rs → (gs : List Polygon) → ArePolygons rs gs → (g : Polygon) → In g gs →
+pub polygon-connected : (es : List Edge) → IsSided es → (rs : List (List Edge)) → IsRingListOf es rs → (gs : List Polygon) → ArePolygonsOfRings rs gs → (g : Polygon) → In g gs →
     (k : ℤ) → sign k ≡ Plus → (p q : Vector) → IsInside (scaled_edges k (polygon_edges g)) p → IsInside (scaled_edges k (polygon_edges g)) q → Joined (scaled_edges k (polygon_edges g)) p q
 polygon-connected es sd rs l gs a g i k hk p q x y =
     inside-joined (polygon_edges g) (polygon_sided rs (rings-uncrossed es sd rs l) g (a.each g i)) (polygon_linked es sd rs l gs a g i) k hk p q x y

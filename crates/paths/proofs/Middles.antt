@@ -4,7 +4,7 @@ use Rattle.paths.specs.Near.{opposite_of}
 use Rattle.plane.specs.Edge.{Edge, ends_at, other_end}
 use Rattle.plane.specs.Sector.{in_sector, sector_by}
 use Rattle.plane.specs.Sign.{Minus, Null, Plus, Sign, is_minus, is_null, is_plus, negated, sign}
-use Rattle.plane.specs.Vector.{IsDirection, Vector, cross, dot, from_to, same_point}
+use Rattle.plane.specs.Vector.{IsNonZero, Vector, cross, dot, from_to, same_point}
 use Rattle.lists.proofs.ListsKit.{or-out}
 use Rattle.nesting.proofs.NestingKit.{is_some, some-signs}
 use Rattle.plane.proofs.PlaneKit.{cross-here, cross-negated, cross-self, cross2, dot2, frame-agree, lift2, same_point-true}
@@ -64,7 +64,7 @@ quarter-last S B = let s = lift2 S in let b = lift2 B in same (dot2 s b ⊞ ((li
 quarter-third : (S W : Vector) → cross W (quarter S) ≡ dot S W
 quarter-third S W = let s = lift2 S in let w = lift2 W in same (w.x2 ⊠ s.x2 ⊟ w.y2 ⊠ (lift (pos 0) ⊟ s.y2)) (dot2 s w) (omega arith)
 
-middle-by : (S B : Vector) → IsDirection S → (c : Sign) → sign (cross S B) ≡ c → (c ≡ Null → sign (dot S B) ≡ Minus) → Middle S B
+middle-by : (S B : Vector) → IsNonZero S → (c : Sign) → sign (cross S B) ≡ c → (c ≡ Null → sign (dot S B) ≡ Minus) → Middle S B
 middle-by S B d Plus h n = record {
   way = plus S B;
   after = ap sign (sum-first S B) ∙ h;
@@ -98,7 +98,7 @@ minus-when Plus c h k e = let l = ap (λ c. not (is_null c && true)) e in absurd
 minus-when Null c h k e = let l = ap (λ c. agree Null (times c c) Plus) e in absurd (cc (sym h ∙ l))
 
 -- two directions that don't point the same way have a middle, counterclockwise from the first
-pub middle : (S B : Vector) → IsDirection S → IsDirection B → not (is_null (sign (cross S B)) && is_plus (sign (dot S B))) ≡ true → Middle S B
+pub middle : (S B : Vector) → IsNonZero S → IsNonZero B → not (is_null (sign (cross S B)) && is_plus (sign (dot S B))) ≡ true → Middle S B
 middle S B ds db n = middle-by S B ds (sign (cross S B)) refl (minus-when (sign (dot S B)) (sign (cross S B)) (some-signs S B ds db) n)
 
 -- ---- what is outside the sector is outside both halves
@@ -113,8 +113,8 @@ out_1 x y t c = all2 λ e a.
     imp (lies_by c y e x a) λ _.
     (is_minus y || is_minus a) && (is_plus e || is_plus a)
 
-module _ (S B : Vector) (ds : IsDirection S) (db : IsDirection B) (nb : not (is_null (sign (cross S B)) && is_plus (sign (dot S B))) ≡ true) (M : Middle S B)
-    (W : Vector) (dw : IsDirection W) (nw : not (is_null (sign (cross S W)) && is_plus (sign (dot S W))) ≡ true) (z : in_sector S B W ≡ 0) where
+module _ (S B : Vector) (ds : IsNonZero S) (db : IsNonZero B) (nb : not (is_null (sign (cross S B)) && is_plus (sign (dot S B))) ≡ true) (M : Middle S B)
+    (W : Vector) (dw : IsNonZero W) (nw : not (is_null (sign (cross S W)) && is_plus (sign (dot S W))) ≡ true) (z : in_sector S B W ≡ 0) where
   outs : ((is_minus (sign (cross S W)) || is_minus (sign (cross W M.way))) && (is_plus (sign (cross B W)) || is_plus (sign (cross W M.way)))) ≡ true
   outs =
       let x = sign (dot S W) in let y = sign (cross S W) in let t = sign (dot S B) in let c = sign (cross S B) in let e = sign (cross B W) in let a = sign (cross W M.way) in

@@ -1,6 +1,6 @@
 -- Places just above a height: near a whole point at the height of p (all multiplied by a number), in a direction that goes up.
 use Rattle.std.proofs.Common.{Bool, ap, arith, false, not, pos, refl, subst, sym, true, ℤ, ◌&&◌, ◌*ℤ◌, ◌+ℤ◌, ◌-ℤ◌, ◌∙◌, ◌≡◌, inl, inr}
-use Rattle.plane.specs.Edge.{Edge, IsRising}
+use Rattle.plane.specs.Edge.{Edge, IsRisingEdge}
 use Rattle.plane.specs.Height.{distance_right, is_in_span, order_above}
 use Rattle.plane.specs.Scale.{scaled_edge, scaled_point}
 use Rattle.plane.specs.Sign.{Minus, Null, Plus, Sign, is_minus, is_plus, negated, sign, then_sign}
@@ -126,7 +126,7 @@ module _ (p : Vector) (m : ℤ) (hm : sign m ≡ Plus) (X U : Vector) (a : IsJus
   below-near w h =
       not-plus-cases (sign (w.y -ℤ p.y)) h _ _ (down-side (from_to X (scaled_point m w)) ∙ ap negated (height w)) (down-side U ∙ ap negated a.up)
 
-module _ (p : Vector) (m : ℤ) (hm : sign m ≡ Plus) (X U Y V : Vector) (a : IsJustAbove p m X U) (b : IsJustAbove p m Y V) (g : Edge) (r : IsRising g) where
+module _ (p : Vector) (m : ℤ) (hm : sign m ≡ Plus) (X U Y V : Vector) (a : IsJustAbove p m X U) (b : IsJustAbove p m Y V) (g : Edge) (r : IsRisingEdge g) where
   both-above : sign (g.from.y -ℤ p.y) ≡ Plus → IsNearApart X U Y V (scaled_edge m g)
   both-above h =
       let n : sign (g.to.y -ℤ g.from.y) ≡ Minus → ⊥ = λ e. (let k = not-minus-by (sign (g.to.y -ℤ g.from.y)) (sign (g.to.x -ℤ g.from.x)) r in let l = ap (λ s. not (is_minus s)) e in cc (sym k ∙ l)) in

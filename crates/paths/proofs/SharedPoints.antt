@@ -6,7 +6,7 @@ use Rattle.plane.specs.Edge.{Edge}
 use Rattle.plane.specs.RayCrossing.{IsOffEdge, off_by}
 use Rattle.plane.specs.Scale.{scaled_point}
 use Rattle.plane.specs.Sign.{Minus, Null, Plus, Sign, is_null, negated, sign}
-use Rattle.plane.specs.Vector.{IsDirection, Vector, cross, dot, from_to}
+use Rattle.plane.specs.Vector.{IsNonZero, Vector, cross, dot, from_to}
 use Rattle.lists.proofs.ListsKit.{same_from_difference}
 use Rattle.plane.proofs.PlaneKit.{cross-chain, cross2, direction-from, dot-reversed, dot2, frame-agree, frame-dot-agree, from_to2, lift2, point-once, same_edge_by, same_vector, side-there}
 use Rattle.plane.proofs.SignKit.{agree, agree-sum, all4-out, imp, imp-out, is_plus-true, lift, null-first, null-plus, null-zero, plus-null, plus-plus, plus-sum, plus-times, same, same_sign, same_sign-true, sign-reversed, times, ◌⊞◌, ◌⊟◌, ◌⊠◌}
@@ -75,7 +75,7 @@ sum-plus Null Plus z h k n e = null-plus z e
 sum-plus Plus Null z h k n e = plus-null z e
 sum-plus Plus Plus z h k n e = plus-plus z e
 
-module _ (p q : Vector) (e : Edge) (d : IsDirection (from_to e.from e.to)) (h : ShareNoPoint p q e) where
+module _ (p q : Vector) (e : Edge) (d : IsNonZero (from_to e.from e.to)) (h : ShareNoPoint p q e) where
   abbrev F : Vector
   F = from_to e.from e.to
 
@@ -264,7 +264,7 @@ module _ (p q : Vector) (e : Edge) (d : IsDirection (from_to e.from e.to)) (h : 
   pub kept-apart : IsApart p q e
   kept-apart = apart-cases (sign A) (sign C) refl refl
 
-edge-direction : (e : Edge) → (e.from ≡ e.to → ⊥) → IsDirection (from_to e.from e.to)
+edge-direction : (e : Edge) → (e.from ≡ e.to → ⊥) → IsNonZero (from_to e.from e.to)
 edge-direction e n =
     direction-from (from_to e.from e.to) (λ k l. n (same_vector e.from.x e.from.y e.to.x e.to.y (sym (same_from_difference e.to.x e.from.x k)) (sym (same_from_difference e.to.y e.from.y l))))
 

@@ -6,7 +6,7 @@ use Rattle.plane.specs.Edge.{Edge}
 use Rattle.plane.specs.RayCrossing.{IsOffEdge, off_by}
 use Rattle.plane.specs.Scale.{scaled_edge, scaled_point}
 use Rattle.plane.specs.Sign.{Minus, Null, Plus, Sign, negated, sign}
-use Rattle.plane.specs.Vector.{IsDirection, Vector, cross, dot, from_to}
+use Rattle.plane.specs.Vector.{IsNonZero, Vector, cross, dot, from_to}
 use Rattle.plane.proofs.PlaneKit.{cross-direction, cross-negated, cross-times, cross2, direction-from, dot2, frame-agree, frame-dot-agree, from_to-scaled, from_to2, lift2}
 use Rattle.plane.proofs.SignKit.{agree, agree-sum, all4-out, imp, imp-out, is_plus-true, lift, null-plus, plus-null, plus-plus, plus-times, same, sign-*, times, ◌⊞◌, ◌⊟◌, ◌⊠◌}
 
@@ -52,7 +52,7 @@ none-null a b h k =
     ap (λ z. z *ℤ b.x +ℤ a.y *ℤ b.y) h ∙ ap (λ z. pos 0 *ℤ b.x +ℤ z *ℤ b.y) k
     ∙ same (lift (pos 0) ⊠ lift b.x ⊞ lift (pos 0) ⊠ lift b.y) (lift (pos 0)) (omega arith)
 
-pub dot-direction : (a b : Vector) → sign (dot a b) ≡ Plus → IsDirection a
+pub dot-direction : (a b : Vector) → sign (dot a b) ≡ Plus → IsNonZero a
 dot-direction a b h = direction-from a (λ k l. let z = ap sign (none-null a b k l) in cc (sym h ∙ z))
 
 off-by-cross : (p : Vector) (e : Edge) (s : Sign) → sign (cross (from_to p e.from) (from_to p e.to)) ≡ s → off_by s (sign (dot (from_to p e.from) (from_to p e.to))) ≡ true → IsApart p p e

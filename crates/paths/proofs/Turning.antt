@@ -9,7 +9,7 @@ use Rattle.plane.specs.FreeSegment.{IsBetween}
 use Rattle.plane.specs.RayCrossing.{IsOffEdge}
 use Rattle.plane.specs.Scale.{scaled_edge, scaled_point}
 use Rattle.plane.specs.Sign.{Minus, Null, Plus, is_null, is_plus, negated, sign}
-use Rattle.plane.specs.Vector.{IsDirection, Vector, cross, dot, from_to, same_point}
+use Rattle.plane.specs.Vector.{IsNonZero, Vector, cross, dot, from_to, same_point}
 use Rattle.winding.specs.Node.{away}
 use Rattle.winding.specs.Ring.{segments_of}
 use Rattle.winding.specs.Sided.{IsSided}
@@ -48,7 +48,7 @@ less-one k h = sign-from Plus (pos k -ℤ pos 1) (omega (arith, ints))
 some : (k : ℕ) → 1 < k → sign (pos k) ≡ Plus
 some k h = sign-from Plus (pos k) (omega (arith, ints))
 
-between-spoke : (v w : Vector) → IsDirection (from_to v w) → (k : ℤ) → sign k ≡ Plus → sign (k -ℤ pos 1) ≡ Plus → IsBetween (scaled_point k v) (scaled_point k w) (near k v (from_to v w))
+between-spoke : (v w : Vector) → IsNonZero (from_to v w) → (k : ℤ) → sign k ≡ Plus → sign (k -ℤ pos 1) ≡ Plus → IsBetween (scaled_point k v) (scaled_point k w) (near k v (from_to v w))
 between-spoke v w d k hk hl =
     let D = from_to v w in let l = from_to-scaled k hk v w in let s = step-of k v D in let r = rest-of k v w in record {
       on_line = ap (λ z. sign (cross z (from_to (scaled_point k v) (near k v D)))) l ∙ ap (λ z. sign (cross (scaled_point k D) z)) s ∙ ap sign (first-times k D D) ∙ plus-times k (cross D D) hk ∙ ap sign (cross-self D);
@@ -58,11 +58,11 @@ between-spoke v w d k hk hl =
     }
 
 -- so the point is strictly inside the step from some multiple on
-pub later-along : (v w : Vector) → IsDirection (from_to v w) → Later (λ k. IsBetween (scaled_point k v) (scaled_point k w) (near k v (from_to v w)))
+pub later-along : (v w : Vector) → IsNonZero (from_to v w) → Later (λ k. IsBetween (scaled_point k v) (scaled_point k w) (near k v (from_to v w)))
 later-along v w d = (1, λ k h. between-spoke v w d (pos k) (some k h) (less-one k h))
 
 -- multiplied by one
-pub later-spoke : (v w : Vector) → IsDirection (from_to v w) → Later (λ k. IsBetween (scaled_point k (scaled_point (pos 1) v)) (scaled_point k (scaled_point (pos 1) w)) (near k v (from_to v w)))
+pub later-spoke : (v w : Vector) → IsNonZero (from_to v w) → Later (λ k. IsBetween (scaled_point k (scaled_point (pos 1) v)) (scaled_point k (scaled_point (pos 1) w)) (near k v (from_to v w)))
 later-spoke v w d =
     let b = later-along v w d in (
       b.0,
@@ -93,8 +93,8 @@ module _ (es : List Edge) (sd : IsSided es) (e s : Edge) (i : In e es) (n : IsSu
   h : ends_at v e ≡ true
   h = ends_at-to e
 
-  direct : (g : Edge) → In g es → ends_at v g ≡ true → IsDirection (spoke g)
-  direct g j k = subst IsDirection (way-segment v g k (rise es sd g j)) (way-direction v (segment_of g) (segment-ends v g k) (rise es sd g j))
+  direct : (g : Edge) → In g es → ends_at v g ≡ true → IsNonZero (spoke g)
+  direct g j k = subst IsNonZero (way-segment v g k (rise es sd g j)) (way-direction v (segment_of g) (segment-ends v g k) (rise es sd g j))
 
   separate : (f g : Edge) → In f es → In g es → ends_at v f ≡ true → ends_at v g ≡ true → same_edge f g ≡ false → not (is_null (sign (cross (spoke f) (spoke g))) && is_plus (sign (dot (spoke f) (spoke g)))) ≡ true
   separate f g jf jg hf hg d =
@@ -102,10 +102,10 @@ module _ (es : List Edge) (sd : IsSided es) (e s : Edge) (i : In e es) (n : IsSu
       (subst (λ w. not (is_null (sign (cross (way v (segment_of f)) w)) && is_plus (sign (dot (way v (segment_of f)) w))) ≡ true) (way-segment v g hg (rise es sd g jg))
       (ways_apart v (segment_of f) (segment_of g) (segment-ends v f hf) (segment-ends v g hg) (rise es sd f jf) (rise es sd g jg) (clear-two es sd f g jf jg d)))
 
-  dS : IsDirection S
+  dS : IsNonZero S
   dS = direct s n.member n.meets
 
-  dB : IsDirection B
+  dB : IsNonZero B
   dB = direct e i h
 
   nb : not (is_null (sign (cross S B)) && is_plus (sign (dot S B))) ≡ true
@@ -171,12 +171,12 @@ module _ (es : List Edge) (sd : IsSided es) (e s : Edge) (i : In e es) (n : IsSu
   s-between =
       subst (λ (w : Vector). Later (λ k. IsBetween (scaled_point k (scaled_point (pos 1) s.from)) (scaled_point k (scaled_point (pos 1) s.to)) (near k v w))) (sym S-is)
       (subst (λ (w : Vector). Later (λ k. IsBetween (scaled_point k (scaled_point (pos 1) s.from)) (scaled_point k (scaled_point (pos 1) s.to)) (near k w (from_to s.from s.to)))) (sym starts)
-      (later-spoke s.from s.to (subst IsDirection S-is dS)))
+      (later-spoke s.from s.to (subst IsNonZero S-is dS)))
 
   e-between : Later (λ k. IsBetween (scaled_point k (scaled_point (pos 1) e.from)) (scaled_point k (scaled_point (pos 1) e.to)) (near k v B))
   e-between =
       subst (λ (w : Vector). Later (λ k. IsBetween (scaled_point k (scaled_point (pos 1) e.from)) (scaled_point k (scaled_point (pos 1) e.to)) (near k v w))) (sym B-is)
-      (later-turned (pos 1) e.to e.from v (from_to e.to e.from) (later-spoke e.to e.from (subst IsDirection B-is dB)))
+      (later-turned (pos 1) e.to e.from v (from_to e.to e.from) (later-spoke e.to e.from (subst IsNonZero B-is dB)))
 
   s-left : IsLeftNear (from_to s.to s.from) v M (scaled_point (pos 1) s.from)
   s-left =

@@ -3,7 +3,7 @@ use Rattle.std.specs.Prelude.{List, ◌↔◌, ◌≡◌}
 use lib.IntN.{ℤ}
 use Rattle.connected.specs.Linked.{Linked}
 use Rattle.lists.specs.Member.{In}
-use Rattle.nesting.specs.Polygon.{ArePolygons, Polygon, polygon_edges}
+use Rattle.nesting.specs.Polygon.{ArePolygonsOfRings, Polygon, polygon_edges}
 use Rattle.one_ring_list.specs.RingListOf.{IsRingListOf}
 use Rattle.paths.specs.Inside.{AreInOne, IsInside, IsLineInside}
 use Rattle.paths.specs.Line.{IsPolyline, Joined}
@@ -31,7 +31,7 @@ LinkedInsideIsJoined =
 abbrev pub PolygonIsConnected : Type 0
 PolygonIsConnected =
     (es : List Edge) → IsSided es → (rs : List (List Edge)) → IsRingListOf es rs → (gs : List Polygon) →
-    ArePolygons rs gs → (g : Polygon) → In g gs → (k : ℤ) → sign k ≡ Plus → (p q : Vector) →
+    ArePolygonsOfRings rs gs → (g : Polygon) → In g gs → (k : ℤ) → sign k ≡ Plus → (p q : Vector) →
     IsInside (scaled_edges k (polygon_edges g)) p → IsInside (scaled_edges k (polygon_edges g)) q →
     Joined (scaled_edges k (polygon_edges g)) p q
 
@@ -40,5 +40,5 @@ PolygonIsConnected =
 abbrev pub PolygonsAreParts : Type 0
 PolygonsAreParts =
     (es : List Edge) → IsSided es → (rs : List (List Edge)) → IsRingListOf es rs → (gs : List Polygon) →
-    ArePolygons rs gs → (k : ℤ) → sign k ≡ Plus → (p q : Vector) → IsInside (scaled_edges k es) p →
+    ArePolygonsOfRings rs gs → (k : ℤ) → sign k ≡ Plus → (p q : Vector) → IsInside (scaled_edges k es) p →
     IsInside (scaled_edges k es) q → Joined (scaled_edges k es) p q ↔ AreInOne k gs p q

@@ -1,7 +1,7 @@
 -- Two segments with and without conflict.
 use Rattle.std.proofs.Common.{Bool, ap, false, not, refl, subst, sym, true, ◌&&◌, ◌||◌, ◌∙◌, ◌≡◌}
 use Rattle.plane.specs.Conflict.{IsClearOf, conflicts, crosses, overlaps}
-use Rattle.plane.specs.Edge.{Edge, IsRising, ends_at, same_edge}
+use Rattle.plane.specs.Edge.{Edge, IsRisingEdge, ends_at, same_edge}
 use Rattle.plane.specs.FreeSegment.{Misses, misses_by}
 use Rattle.plane.specs.Order.{order}
 use Rattle.plane.specs.RayCrossing.{IsOff, IsOffEdge, off_by}
@@ -87,7 +87,7 @@ match-by Plus s t h = refl
 match-by Minus s t h = refl
 
 -- t misses the inside of s
-pub clear_misses : (s t : Edge) → IsRising s → IsRising t → IsClearOf s t → Misses s.from s.to t
+pub clear_misses : (s t : Edge) → IsRisingEdge s → IsRisingEdge t → IsClearOf s t → Misses s.from s.to t
 clear_misses s t hs ht h =
     let p = s.from in let q = s.to in let u = t.from in let v = t.to in let st = from_to p q in
     let dir = rising-direction p q hs in
@@ -145,10 +145,10 @@ ends_off s t h =
     let c = all4-out (end_off (orient p q u) (orient p q v) (orient u v p) (orient u v q)) (all4-out (λ a b c d. all4 (end_off a b c d)) end_off_computes (orient p q u) (orient p q v) (orient u v p) (orient u v q)) (order p u) (order p v) (order q u) (order q v) in
     imp-out _ _ c (ap not (sym (conflicts-by s t) ∙ h))
 
-pub clear_off_from : (s t : Edge) → IsRising t → IsClearOf s t → same_point s.from t.from ≡ false → same_point s.from t.to ≡ false → IsOff (from_to s.from t.from) (from_to s.from t.to)
+pub clear_off_from : (s t : Edge) → IsRisingEdge t → IsClearOf s t → same_point s.from t.from ≡ false → same_point s.from t.to ≡ false → IsOff (from_to s.from t.from) (from_to s.from t.to)
 clear_off_from s t ht h hu hv = off_at s.from t.from t.to ht hu hv (left-out _ _ (ends_off s t h))
 
-pub clear_off_to : (s t : Edge) → IsRising t → IsClearOf s t → same_point s.to t.from ≡ false → same_point s.to t.to ≡ false → IsOff (from_to s.to t.from) (from_to s.to t.to)
+pub clear_off_to : (s t : Edge) → IsRisingEdge t → IsClearOf s t → same_point s.to t.from ≡ false → same_point s.to t.to ≡ false → IsOff (from_to s.to t.from) (from_to s.to t.to)
 clear_off_to s t ht h hu hv = off_at s.to t.from t.to ht hu hv (right-out _ _ (ends_off s t h))
 
 -- ---- conflicts go both ways
@@ -180,27 +180,27 @@ conflicts_reversed s t = conflicts-by t s ∙ swap_by conflict_by refl s t ∙ s
 cross-twice-here : (p q : Vector) → orient p q p ≡ Null
 cross-twice-here p q = ap sign (cross-here (from_to p q) p)
 
-pub self_conflicts : (s : Edge) → IsRising s → conflicts s s ≡ true
+pub self_conflicts : (s : Edge) → IsRisingEdge s → conflicts s s ≡ true
 self_conflicts s h =
     let a = cross-twice-here s.from s.to in let b = ap sign (cross-self (from_to s.from s.to)) in
     rw (a, b, h) refl
 
-apart-by : (s t : Edge) → IsRising s → IsClearOf s t → (b : Bool) → same_edge s t ≡ b → b ≡ false
+apart-by : (s t : Edge) → IsRisingEdge s → IsClearOf s t → (b : Bool) → same_edge s t ≡ b → b ≡ false
 apart-by s t r h false e = refl
 apart-by s t r h true e = let k = self_conflicts s r in let g = ap (λ w. conflicts s w) (same_edge-true s t e) in absurd (cc (sym k ∙ g ∙ h))
 
-pub clear_differs : (s t : Edge) → IsRising s → IsClearOf s t → same_edge s t ≡ false
+pub clear_differs : (s t : Edge) → IsRisingEdge s → IsClearOf s t → same_edge s t ≡ false
 clear_differs s t r h = apart-by s t r h (same_edge s t) refl
 
 pub clear_back : (s t : Edge) → IsClearOf s t → IsClearOf t s
 clear_back s t h = conflicts_reversed s t ∙ h
 
-pub self_overlaps : (s : Edge) → IsRising s → overlaps s s ≡ true
+pub self_overlaps : (s : Edge) → IsRisingEdge s → overlaps s s ≡ true
 self_overlaps s h =
     let a = cross-twice-here s.from s.to in let b = ap sign (cross-self (from_to s.from s.to)) in
     rw (a, b, h) refl
 
-end-is-off-by : (v : Vector) (s t : Edge) → IsRising t → IsClearOf s t → (b c : Bool) → same_point v s.from ≡ b → same_point v s.to ≡ c → (b || c) ≡ true → (x y : Bool) → same_point v t.from ≡ x → same_point v t.to ≡ y → (x || y) ≡ false →
+end-is-off-by : (v : Vector) (s t : Edge) → IsRisingEdge t → IsClearOf s t → (b c : Bool) → same_point v s.from ≡ b → same_point v s.to ≡ c → (b || c) ≡ true → (x y : Bool) → same_point v t.from ≡ x → same_point v t.to ≡ y → (x || y) ≡ false →
     IsOffEdge v t
 end-is-off-by v s t r n true c h k o false false hx hy e =
     let q = same_point-true v s.from h in
@@ -215,5 +215,5 @@ end-is-off-by v s t r n false true h k o true y hx hy e = absurd (cc e)
 end-is-off-by v s t r n false true h k o false true hx hy e = absurd (cc e)
 
 -- an end of s that is no end of t is off t
-pub clear_end_off : (v : Vector) (s t : Edge) → IsRising t → IsClearOf s t → ends_at v s ≡ true → ends_at v t ≡ false → IsOffEdge v t
+pub clear_end_off : (v : Vector) (s t : Edge) → IsRisingEdge t → IsClearOf s t → ends_at v s ≡ true → ends_at v t ≡ false → IsOffEdge v t
 clear_end_off v s t r n h e = end-is-off-by v s t r n (same_point v s.from) (same_point v s.to) refl refl h (same_point v t.from) (same_point v t.to) refl refl e

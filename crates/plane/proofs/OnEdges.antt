@@ -5,7 +5,7 @@ use Rattle.plane.specs.Edge.{Edge}
 use Rattle.plane.specs.FreeSegment.{IsBetween}
 use Rattle.plane.specs.RayCrossing.{is_off, off_by}
 use Rattle.plane.specs.Sign.{Minus, Null, Plus, Sign, is_plus, sign}
-use Rattle.plane.specs.Vector.{IsDirection, Vector, cross, dot, from_to, same_point}
+use Rattle.plane.specs.Vector.{IsNonZero, Vector, cross, dot, from_to, same_point}
 use Rattle.lists.proofs.ListsKit.{same_from_difference}
 use Rattle.plane.proofs.Identities.{same, ◌⊞◌}
 use Rattle.plane.proofs.Points.{same_point-refl, same_vector}
@@ -14,7 +14,7 @@ use Rattle.plane.proofs.RayCrossings.{off_by-no}
 use Rattle.plane.proofs.Signs.{agree, agree-sum}
 
 -- the way to another point
-pub step-direction : (p q : Vector) → same_point p q ≡ false → IsDirection (from_to p q)
+pub step-direction : (p q : Vector) → same_point p q ≡ false → IsNonZero (from_to p q)
 step-direction p q h =
     direction-from (from_to p q) (λ k l.
     let e = same_vector p.x p.y q.x q.y (sym (same_from_difference q.x p.x k)) (sym (same_from_difference q.y p.y l)) in

@@ -4,7 +4,7 @@ use borrow.Author.Differences.{ints}
 use lib.IntN.{pos, ℤ, ◌*ℤ◌, ◌+ℤ◌, ◌-ℤ◌}
 use Rattle.plane.specs.Order.{order}
 use Rattle.plane.specs.Sign.{Minus, Null, Plus, Sign, is_null, negated, sign, then_sign}
-use Rattle.plane.specs.Vector.{IsDirection, Vector, cross, dot, from_to, same_point}
+use Rattle.plane.specs.Vector.{IsNonZero, Vector, cross, dot, from_to, same_point}
 use Rattle.plane.proofs.Identities.{apart, lift, same, ◌⊞◌, ◌⊟◌, ◌⊠◌}
 use Rattle.lists.proofs.ListsKit.{same_from_difference}
 use Rattle.plane.proofs.Points.{same_point-refl, same_vector}
@@ -73,7 +73,7 @@ is_set s t = not (is_null (then_sign s t))
 abbrev square_set : Sign → Sign → Sign → Bool
 square_set y x d = imp (is_set y x) λ _. imp (agree (times x x) (times y y) d) λ _. same_sign d Plus
 
-pub rising-direction : (p q : Vector) → order p q ≡ Plus → IsDirection (from_to p q)
+pub rising-direction : (p q : Vector) → order p q ≡ Plus → IsNonZero (from_to p q)
 rising-direction p q h =
     let x = q.x -ℤ p.x in let y = q.y -ℤ p.y in
     let f = agree-products x x y y (pos 1) (dot (from_to p q) (from_to p q)) (one-by x y x y) in

@@ -2,7 +2,7 @@
 use Rattle.std.proofs.Common.{Bool, ap, arith, false, refl, subst, sym, true, ◌∙◌, ◌≡◌}
 use lib.IntN.{pos, ◌*ℤ◌, ◌+ℤ◌, ◌-ℤ◌}
 use Rattle.plane.specs.Sign.{Null, Plus, Sign, is_plus, negated, sign}
-use Rattle.plane.specs.Vector.{IsDirection, Vector, cross, dot, east, from_to}
+use Rattle.plane.specs.Vector.{IsNonZero, Vector, cross, dot, east, from_to}
 use Rattle.plane.proofs.Identities.{Split, lift, same, ◌⊞◌, ◌⊟◌, ◌⊠◌}
 use Rattle.plane.proofs.Signs.{agree, agree-products, agree-sum, all, all-out, all2-out, imp, imp-out, is_plus-true, null-is, sign-*, sign-reversed, times, times-plus}
 
@@ -40,13 +40,13 @@ plucker-dot d c a b =
     let e = lift2 d in let f = lift2 c in let u = lift2 a in let v = lift2 b in
     same (dot2 e f ⊠ cross2 u v ⊞ dot2 e v ⊠ cross2 f u) (dot2 e u ⊠ cross2 f v) (omega arith)
 
-pub frame-agree : (d a b : Vector) → IsDirection d →
+pub frame-agree : (d a b : Vector) → IsNonZero d →
     agree (times Plus (sign (cross a b))) (times (sign (dot d b)) (sign (cross d a))) (times (sign (dot d a)) (sign (cross d b))) ≡ true
 frame-agree d a b p =
     subst (λ (n : Sign). agree (times n (sign (cross a b))) (times (sign (dot d b)) (sign (cross d a))) (times (sign (dot d a)) (sign (cross d b))) ≡ true) p
     (agree-products (dot d d) (cross a b) (dot d b) (cross d a) (dot d a) (cross d b) (frame d a b))
 
-pub frame-dot-agree : (d a b : Vector) → IsDirection d →
+pub frame-dot-agree : (d a b : Vector) → IsNonZero d →
     agree (times (sign (dot d a)) (sign (dot d b))) (times (sign (cross d a)) (sign (cross d b))) (times Plus (sign (dot a b))) ≡ true
 frame-dot-agree d a b p =
     subst (λ (n : Sign). agree (times (sign (dot d a)) (sign (dot d b))) (times (sign (cross d a)) (sign (cross d b))) (times n (sign (dot a b))) ≡ true) p
@@ -123,14 +123,14 @@ nonzero-by : (s t : Sign) → (s ≡ Null → t ≡ Null → ⊥) → is_nonzero
 nonzero-by Null Null h = absurd (h refl refl)
 nonzero-by s t h = refl
 
-pub direction-from : (a : Vector) → (a.x ≡ pos 0 → a.y ≡ pos 0 → ⊥) → IsDirection a
+pub direction-from : (a : Vector) → (a.x ≡ pos 0 → a.y ≡ pos 0 → ⊥) → IsNonZero a
 direction-from a h =
     let k = agree-sum (a.x *ℤ a.x) (a.y *ℤ a.y) (dot a a) refl in
     let f = rw (sign-* a.x a.x, sign-* a.y a.y) at k in
     let c = all-out (square_sum (sign a.x) (sign a.y)) (all2-out (λ s t. all (square_sum s t)) refl (sign a.x) (sign a.y)) (sign (dot a a)) in
     is_plus-true (sign (dot a a)) (imp-out _ _ (imp-out _ _ c (nonzero-by (sign a.x) (sign a.y) (λ u v. h ((null-is a.x).0 u) ((null-is a.y).0 v)))) f)
 
-pub cross-direction : (a b : Vector) → sign (cross a b) ≡ Plus → IsDirection a
+pub cross-direction : (a b : Vector) → sign (cross a b) ≡ Plus → IsNonZero a
 cross-direction a b h =
     direction-from a (λ k l.
     let z : cross a b ≡ pos 0 = ap (λ z. z *ℤ b.y -ℤ a.y *ℤ b.x) k ∙ ap (λ z. pos 0 *ℤ b.y -ℤ z *ℤ b.x) l ∙ same (lift (pos 0) ⊠ lift b.y ⊟ lift (pos 0) ⊠ lift b.x) (lift (pos 0)) (omega arith) in
@@ -160,7 +160,7 @@ same-length a b =
 pub cross-back : (a b : Vector) → cross (from_to a b) (from_to b a) ≡ pos 0
 cross-back a b = let a' = lift2 a in let b' = lift2 b in same (cross2 (from_to2 a' b') (from_to2 b' a')) (lift (pos 0)) (omega arith)
 
-pub direction-back : (a b : Vector) → IsDirection (from_to a b) → IsDirection (from_to b a)
+pub direction-back : (a b : Vector) → IsNonZero (from_to a b) → IsNonZero (from_to b a)
 direction-back a b h = ap sign (same-length a b) ∙ h
 
 pub dot-east : (a : Vector) → dot east a ≡ a.x

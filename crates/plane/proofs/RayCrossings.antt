@@ -4,12 +4,12 @@ use borrow.Author.Differences.{ints}
 use lib.IntN.{pos, ℤ, ◌-ℤ◌}
 use lib.Signed.{◌<ℤ◌, ◌≤ℤ◌}
 use Rattle.plane.specs.Bit.{bit}
-use Rattle.plane.specs.Edge.{Edge, IsRising, ends_at}
+use Rattle.plane.specs.Edge.{Edge, IsRisingEdge, ends_at}
 use Rattle.plane.specs.Height.{is_in_span, is_left_of}
 use Rattle.plane.specs.RayCrossing.{crosses_down, crosses_up, down_by, down_crossing, off_by, up_by, up_crossing}
 use Rattle.plane.specs.Sector.{in_sector, sector_by}
 use Rattle.plane.specs.Sign.{Minus, Null, Plus, Sign, is_minus, is_null, is_plus, negated, sign}
-use Rattle.plane.specs.Vector.{IsDirection, Vector, cross, dot, east, from_to, orient, same_point}
+use Rattle.plane.specs.Vector.{IsNonZero, Vector, cross, dot, east, from_to, orient, same_point}
 use Rattle.plane.proofs.Identities.{lift, same, ◌⊟◌, ◌⊠◌}
 use Rattle.plane.proofs.Points.{same_point-true}
 use Rattle.plane.proofs.Products.{cross-agree, cross-here, cross-negated, cross-self, dot-east, dot-swap, orient-round}
@@ -77,7 +77,7 @@ down_crossing-is d a b = (
 pub cross-east : (a : Vector) → cross east a ≡ a.y
 cross-east a = let x = lift a.x in let y = lift a.y in same (lift (pos 1) ⊠ y ⊟ lift (pos 0) ⊠ x) y (omega arith)
 
-pub east-direction : IsDirection east
+pub east-direction : IsNonZero east
 east-direction = refl
 
 abbrev pub up_seen : Vector → (Vector → Vector) → Edge → ℕ
@@ -100,7 +100,7 @@ pub rise-y : (p u v : Vector) → agree (sign (u.y -ℤ p.y)) (sign (v.y -ℤ u.
 rise-y p u v = agree-sum (u.y -ℤ p.y) (v.y -ℤ u.y) (v.y -ℤ p.y) (omega (arith, ints))
 
 -- a ray in a direction d of which the heights tell the sides
-pub crossings-left : (d p : Vector) (t : Edge) → ((w : Vector) → sign (cross d w) ≡ sign w.y) → IsRising t → crossings_at d (from_to p) t ≡ bit (is_left_of p t)
+pub crossings-left : (d p : Vector) (t : Edge) → ((w : Vector) → sign (cross d w) ≡ sign w.y) → IsRisingEdge t → crossings_at d (from_to p) t ≡ bit (is_left_of p t)
 crossings-left d p t h r =
     let u = t.from in let v = t.to in
     let e = left-signs (sign (u.y -ℤ p.y)) (sign (v.y -ℤ p.y)) (sign (cross (from_to p u) (from_to p v))) (sign (v.y -ℤ u.y)) (rise-y p u v) (not-minus-by (sign (v.y -ℤ u.y)) (sign (v.x -ℤ u.x)) r) in
@@ -130,7 +130,7 @@ sector-east d w = rw (dot-east w, cross-east w, dot-east d, cross-east d)
 abbrev rightward_1 : Sign → Sign → Sign → Sign → Bool
 rightward_1 yu yv c dy = imp (agree yu dy yv) λ _. imp (not (is_minus dy)) λ _. both (eqb (up_by yu yv c) (bit ((not (is_plus yu) && is_plus yv) && is_plus c))) (eqb (down_by yu yv c) 0)
 
-pub rightward_crossing : (p : Vector) (t : Edge) → IsRising t → (up_crossing east (from_to p t.from) (from_to p t.to) ≡ bit (is_left_of p t)) × (down_crossing east (from_to p t.from) (from_to p t.to) ≡ 0)
+pub rightward_crossing : (p : Vector) (t : Edge) → IsRisingEdge t → (up_crossing east (from_to p t.from) (from_to p t.to) ≡ bit (is_left_of p t)) × (down_crossing east (from_to p t.from) (from_to p t.to) ≡ 0)
 rightward_crossing p t r =
     let u = t.from in let v = t.to in
     let c = imp-out _ _ (imp-out _ _ (all4-out rightward_1 refl (sign (u.y -ℤ p.y)) (sign (v.y -ℤ p.y)) (sign (cross (from_to p u) (from_to p v))) (sign (v.y -ℤ u.y))) (rise-y p u v)) (not-minus-by (sign (v.y -ℤ u.y)) (sign (v.x -ℤ u.x)) r) in

@@ -5,7 +5,7 @@ use lib.IntN.{pos, ◌-ℤ◌}
 use Rattle.plane.specs.RayCrossing.{IsOff, down_by, down_crossing, off_by, ray_crossing, up_by, up_crossing}
 use Rattle.plane.specs.Sector.{in_sector, sector_by}
 use Rattle.plane.specs.Sign.{Plus, Sign, negated, sign}
-use Rattle.plane.specs.Vector.{IsDirection, Vector, cross, dot, from_to}
+use Rattle.plane.specs.Vector.{IsNonZero, Vector, cross, dot, from_to}
 use Rattle.plane.proofs.Products.{cross-back, cross-here, cross-self, direction-back, dot-here, dot-reversed, frame-agree, frame-dot-agree, plucker-agree, plucker-dot-agree}
 use Rattle.plane.proofs.Signs.{agree, all2, all2-out, all4, all4-out, imp, imp-out, times}
 
@@ -48,7 +48,7 @@ sector_signs xa ya xb yb c s xd yd ca cb h1 h2 h3 h4 h5 h6 h7 h8 =
     let i = all4-out (sector_inner xa ya xb yb c) (imp-out _ _ (imp-out _ _ (imp-out _ _ m h1) h2) h3) xd yd ca cb in
     eqb-true _ _ (imp-out _ _ (imp-out _ _ (imp-out _ _ (imp-out _ _ (imp-out _ _ i h4) h5) h6) h7) h8)
 
-pub sector_lemma : (d d' a b : Vector) → IsDirection d → IsDirection d' → IsOff a b →
+pub sector_lemma : (d d' a b : Vector) → IsNonZero d → IsNonZero d' → IsOff a b →
     up_crossing d a b + down_crossing d' a b + in_sector d d' a ≡ up_crossing d' a b + down_crossing d a b + in_sector d d' b
 sector_lemma d d' a b p p' o =
     sector_signs (sign (dot d a)) (sign (cross d a)) (sign (dot d b)) (sign (cross d b)) (sign (cross a b)) (sign (dot a b)) (sign (dot d d')) (sign (cross d d')) (sign (cross d' a)) (sign (cross d' b))
@@ -65,15 +65,15 @@ pub here-outside : (d c v : Vector) → in_sector d c (from_to v v) ≡ 0
 here-outside d c v = rw (dot-here d v, cross-here d v)
 
 -- ---- the wedge lemma over ℤ
-pub signed_sector_lemma : (d c a b : Vector) → IsDirection d → IsDirection c → IsOff a b → ray_crossing d a b -ℤ ray_crossing c a b ≡ pos (in_sector d c b) -ℤ pos (in_sector d c a)
+pub signed_sector_lemma : (d c a b : Vector) → IsNonZero d → IsNonZero c → IsOff a b → ray_crossing d a b -ℤ ray_crossing c a b ≡ pos (in_sector d c b) -ℤ pos (in_sector d c a)
 signed_sector_lemma d c a b p q o = let w = sector_lemma d c a b p q o in omega (arith, ints)
 
-pub opposite-in : (a b : Vector) → IsDirection (from_to a b) → in_sector (from_to a b) (from_to b a) (from_to b a) ≡ 1
+pub opposite-in : (a b : Vector) → IsNonZero (from_to a b) → in_sector (from_to a b) (from_to b a) (from_to b a) ≡ 1
 opposite-in a b h =
     let m = dot-reversed b a b a ∙ ap negated (direction-back a b h) in
     rw (m, cross-back a b, cross-self (from_to b a)) refl
 
-pub own-out : (a b : Vector) → IsDirection (from_to a b) → in_sector (from_to a b) (from_to b a) (from_to a b) ≡ 0
+pub own-out : (a b : Vector) → IsNonZero (from_to a b) → in_sector (from_to a b) (from_to b a) (from_to a b) ≡ 0
 own-out a b h =
     let m = dot-reversed b a b a ∙ ap negated (direction-back a b h) in
     rw (h, m, cross-back a b, cross-self (from_to a b)) refl

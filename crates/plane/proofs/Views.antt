@@ -5,7 +5,7 @@ use borrow.Author.Differences.{ints}
 use lib.IntN.{pos, ℤ, ◌*ℤ◌, ◌+ℤ◌, ◌-ℤ◌}
 use Rattle.plane.specs.FreeSegment.{IsBetween}
 use Rattle.plane.specs.Sign.{Plus, sign}
-use Rattle.plane.specs.Vector.{IsDirection, Vector, cross, dot, from_to}
+use Rattle.plane.specs.Vector.{IsNonZero, Vector, cross, dot, from_to}
 use Rattle.plane.proofs.Identities.{apart, lift, same, ◌⊞◌, ◌⊟◌, ◌⊠◌}
 use Rattle.plane.proofs.Points.{same_vector}
 use Rattle.plane.proofs.Products.{Vec2, cross-chain, cross2, dot-chain, dot2, frame, from_to2, lift2, side-moves, side-there}
@@ -27,7 +27,7 @@ mix N C Cp Ct W D m q k h f e g i z =
 
 -- ---- a view from inside the segment from s to t: r places each point as it is seen from there, to some scale
 pub record View (s t : Vector) (r : Vector → Vector) : Type 0 where
-  pub direction : IsDirection (from_to s t)
+  pub direction : IsNonZero (from_to s t)
   pub side : (w : Vector) → sign (cross (from_to s t) (r w)) ≡ sign (cross (from_to s t) (from_to s w))
   pub mixed : (u v : Vector) → agree (times Plus (sign (cross (from_to s u) (from_to s v)))) (times Plus (sign (cross (from_to t u) (from_to t v)))) (times Plus (sign (cross (r u) (r v)))) ≡ true
   pub past_s : (w : Vector) → agree Plus (sign (dot (from_to s t) (r w))) (sign (dot (from_to s t) (from_to s w))) ≡ true
@@ -38,7 +38,7 @@ module _ (s t p : Vector) (i : IsBetween s t p) where
   abbrev pub st : Vector
   st = from_to s t
 
-  st-direction : IsDirection st
+  st-direction : IsNonZero st
   st-direction =
       let h = agree-sum (dot st (from_to s p)) (dot st (from_to p t)) (dot st st) (dot-chain st s p t) in
       plus-plus (sign (dot st st)) (rw (i.after_s, i.before_t) at h)
@@ -74,7 +74,7 @@ mid s t w = record { x = (w.x -ℤ s.x) +ℤ (w.x -ℤ t.x); y = (w.y -ℤ s.y) 
 abbrev mid2 : Vec2 → Vec2 → Vec2 → Vec2
 mid2 s t w = record { x2 = (w.x2 ⊟ s.x2) ⊞ (w.x2 ⊟ t.x2); y2 = (w.y2 ⊟ s.y2) ⊞ (w.y2 ⊟ t.y2) }
 
-module _ (s t : Vector) (d : IsDirection (from_to s t)) where
+module _ (s t : Vector) (d : IsNonZero (from_to s t)) where
   abbrev line : Vector
   line = from_to s t
 
@@ -142,7 +142,7 @@ square q m C D X Y e =
     same (q' ⊠ (q' ⊠ C' ⊞ m' ⊠ X') ⊞ m' ⊠ (q' ⊠ Y' ⊞ m' ⊠ D')) ((q' ⊞ m') ⊠ (q' ⊠ C' ⊞ m' ⊠ D'))
     (omega (arith, apart ((q' ⊠ m') ⊠ (X' ⊞ Y')) ((q' ⊠ m') ⊠ (C' ⊞ D')) (ap (λ (z : ℤ). (q *ℤ m) *ℤ z) e)))
 
-module _ (s t : Vector) (q m : ℤ) (hq : sign q ≡ Plus) (hm : sign m ≡ Plus) (d : IsDirection (from_to s t)) where
+module _ (s t : Vector) (q m : ℤ) (hq : sign q ≡ Plus) (hm : sign m ≡ Plus) (d : IsNonZero (from_to s t)) where
   abbrev weighted_line : Vector
   weighted_line = from_to s t
 

@@ -21,8 +21,8 @@ abbrev pub other_end : Vector → Edge → Vector
 other_end v e = cond (same_point v e.from) e.to e.from
 
 -- e is a segment: its first end comes before its second in the order of points
-abbrev pub IsRising : Edge → Type 0
-IsRising e = order e.from e.to ≡ Plus
+abbrev pub IsRisingEdge : Edge → Type 0
+IsRisingEdge e = order e.from e.to ≡ Plus
 
 -- the same as a test: e runs to its upper end, or along one height to its right end
 abbrev pub is_rising : Edge → Bool

@@ -3,7 +3,7 @@ use Rattle.std.specs.Prelude.{◌↔◌, ◌≡◌}
 use lib.IntN.{pos}
 use lib.Signed.{◌<ℤ◌, ◌≤ℤ◌}
 use Rattle.plane.specs.Bit.{bit}
-use Rattle.plane.specs.Edge.{Edge, IsRising}
+use Rattle.plane.specs.Edge.{Edge, IsRisingEdge}
 use Rattle.plane.specs.Height.{is_left_of}
 use Rattle.plane.specs.RayCrossing.{down_crossing, up_crossing}
 use Rattle.plane.specs.Vector.{Vector, cross, east, from_to}
@@ -23,6 +23,6 @@ DownCrossingMeans =
 -- the ray from p to the right crosses a segment where p is in its span and left of it, and then counterclockwise
 abbrev pub RightwardRayCrosses : Type 0
 RightwardRayCrosses =
-    (p : Vector) (t : Edge) → IsRising t →
+    (p : Vector) (t : Edge) → IsRisingEdge t →
     (up_crossing east (from_to p t.from) (from_to p t.to) ≡ bit (is_left_of p t))
     × (down_crossing east (from_to p t.from) (from_to p t.to) ≡ 0)

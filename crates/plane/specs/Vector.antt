@@ -22,8 +22,8 @@ abbrev pub dot : Vector → Vector → ℤ
 dot a b = a.x *ℤ b.x +ℤ a.y *ℤ b.y
 
 -- a is not the zero vector
-abbrev pub IsDirection : Vector → Type 0
-IsDirection a = sign (dot a a) ≡ Plus
+abbrev pub IsNonZero : Vector → Type 0
+IsNonZero a = sign (dot a a) ≡ Plus
 
 abbrev pub east : Vector
 east = record { x = pos 1; y = pos 0 }

@@ -1,7 +1,7 @@
 -- Multiplied, the points of a carrier are on the line of its piece.
 use Rattle.std.proofs.Common.{ap, arith, not, pos, refl, subst, sym, true, ℕ, ℤ, ◌*ℤ◌, ◌-ℤ◌, ◌*◌, ◌/◌, ◌∙◌, ◌≡◌, ◌≤◌}
 use Prim.Native.Nat.{◌∣◌}
-use Rattle.plane.specs.Edge.{IsRising}
+use Rattle.plane.specs.Edge.{IsRisingEdge}
 use Rattle.plane.specs.Edge as plane
 use Rattle.plane.specs.RayCrossing.{is_off}
 use Rattle.plane.specs.Scale.{scaled_edge, scaled_point}
@@ -95,12 +95,12 @@ on_line k (Vertical c) p some divides h = on_vertical k c p divides h
 on_line k (Horizontal d) p some divides h = on_horizontal k d p divides h
 
 -- ---- how a carrier rises
-piece-rises : (c : Carrier) → IsRising (piece_of c)
+piece-rises : (c : Carrier) → IsRisingEdge (piece_of c)
 piece-rises (OfSeg s) = rising_edge s
 piece-rises (Vertical c) = refl
 piece-rises (Horizontal d) = ap (λ s. then_sign s Plus) (self-diff d)
 
-pub piece_times-rises : (k : ℕ) (c : Carrier) → 1 ≤ k → IsRising (piece_times k c)
+pub piece_times-rises : (k : ℕ) (c : Carrier) → 1 ≤ k → IsRisingEdge (piece_times k c)
 piece_times-rises k c some = order-scaled (pos k) (sign-some k some) (piece_of c).from (piece_of c).to ∙ piece-rises c
 
 nothing : (c : ℤ) → c -ℤ c ≡ pos 0

@@ -14,7 +14,7 @@ use Rattle.osm_geom.specs.declared.edge.Edge.{Edge}
 use Rattle.osm_geom.specs.declared.point.Point.{Point}
 use Rattle.osm_geom.specs.Point.{den_of, x_of, y_of}
 use Rattle.osm_geom.proofs.GeometryKit.{x_den-some, y_den-some}
-use Rattle.plane_edges.specs.Multiple.{IsCommon, common_den, edges_times}
+use Rattle.plane_edges.specs.Multiple.{IsCommon, edges_times, product_of_denominators}
 use Rattle.plane_edges.specs.Sided.{IsSided, count_at, signed_count_at}
 use Rattle.plane_edges.proofs.Multiples.{times_further}
 use Rattle.winding.proofs.WindingKit.{count-scaled, edges-turned, sided-back, sided-scaled, winding-scaled}
@@ -32,10 +32,10 @@ den-some p = product-some (x_of p).den (y_of p).den (x_den-some p) (y_den-some p
 all-further : (d : Edge → ℕ) (n : ℕ) (k : ℕ) (es : List Edge) → All (λ (e : Edge). d e ∣ k) es → All (λ (e : Edge). d e ∣ n * k) es
 all-further d n k es h = all-in (λ (e : Edge). d e ∣ n * k) es (λ e i. dvd-mul_left_of_dvd (d e) (in-all (λ (e : Edge). d e ∣ k) es e h i) n)
 
-pub common_is_common : (es : List Edge) → IsCommon (common_den es) es
+pub common_is_common : (es : List Edge) → IsCommon (product_of_denominators es) es
 common_is_common [] = record { some = omega arith; froms = All-nil (λ (e : Edge). den_of e.from ∣ 1); tos = All-nil (λ (e : Edge). den_of e.to ∣ 1) }
 common_is_common (e ∷ es) =
-    let rest = common_is_common es in let n = den_of e.from * den_of e.to in let k = common_den es in
+    let rest = common_is_common es in let n = den_of e.from * den_of e.to in let k = product_of_denominators es in
     record {
       some = product-some n k (product-some (den_of e.from) (den_of e.to) (den-some e.from) (den-some e.to)) rest.some;
       froms = All-cons (λ (f : Edge). den_of f.from ∣ n * k) e es (dvd-mul_right_of_dvd (den_of e.from) (dvd-mul_right (den_of e.from) (den_of e.to)) k) (all-further (λ f. den_of f.from) n k es rest.froms);
@@ -58,7 +58,7 @@ sided-other : (k m : ℕ) (es : List Edge) → IsCommon k es → IsCommon m es �
 sided-other k m es h g sd = sided-back (pos k) (sign-some k h.some) (edges_times m es) (subst winding.IsSided (both-ways k m es h g) (sided-scaled (pos m) (sign-some m g.some) (edges_times k es) sd))
 
 pub sided_at_each : (k : ℕ) (es : List Edge) → IsCommon k es → IsSided es ↔ winding.IsSided (edges_times k es)
-sided_at_each k es h = let c = common_is_common es in (sided-other (common_den es) k es c h, sided-other k (common_den es) es h c)
+sided_at_each k es h = let c = common_is_common es in (sided-other (product_of_denominators es) k es c h, sided-other k (product_of_denominators es) es h c)
 
 -- a list and a point, each multiplied further
 further : (q : ℤ) (k m : ℕ) (es : List Edge) → IsCommon k es → IsCommon m es → scaled_edges (pos m) (scaled_edges q (edges_times k es)) ≡ scaled_edges (pos k) (scaled_edges q (edges_times m es))
@@ -67,7 +67,7 @@ further q k m es h g =
 
 pub count_at_each : (k : ℕ) (es : List Edge) → IsCommon k es → (q : ℤ) (p : Vector) → count_at q p es ≡ crossing_count east (scaled_point (pos k) p) (scaled_edges q (edges_times k es))
 count_at_each k es h q p =
-    let c = common_is_common es in let m = common_den es in
+    let c = common_is_common es in let m = product_of_denominators es in
     sym (count-scaled (pos k) (sign-some k h.some) east (scaled_point (pos m) p) (scaled_edges q (edges_times m es)))
     ∙ ap (λ v. crossing_count east v (scaled_edges (pos k) (scaled_edges q (edges_times m es)))) (point-turned (pos k) (pos m) p)
     ∙ ap (λ l. crossing_count east (scaled_point (pos m) (scaled_point (pos k) p)) l) (further q m k es c h)
@@ -75,7 +75,7 @@ count_at_each k es h q p =
 
 pub signed_count_at_each : (k : ℕ) (es : List Edge) → IsCommon k es → (q : ℤ) (p : Vector) → signed_count_at q p es ≡ winding_number east (scaled_point (pos k) p) (scaled_edges q (edges_times k es))
 signed_count_at_each k es h q p =
-    let c = common_is_common es in let m = common_den es in
+    let c = common_is_common es in let m = product_of_denominators es in
     sym (winding-scaled (pos k) (sign-some k h.some) east (scaled_point (pos m) p) (scaled_edges q (edges_times m es)))
     ∙ ap (λ v. winding_number east v (scaled_edges (pos k) (scaled_edges q (edges_times m es)))) (point-turned (pos k) (pos m) p)
     ∙ ap (λ l. winding_number east (scaled_point (pos m) (scaled_point (pos k) p)) l) (further q m k es c h)

@@ -3,7 +3,7 @@ use Rattle.std.proofs.Common.{ap, arith, pos, refl, sym, ℤ, ◌*ℤ◌, ◌+�
 use Rattle.plane.specs.Scale.{scaled_point}
 use Rattle.plane.specs.Sector.{in_sector}
 use Rattle.plane.specs.Sign.{Null, Plus, sign}
-use Rattle.plane.specs.Vector.{IsDirection, Vector, cross, dot}
+use Rattle.plane.specs.Vector.{IsNonZero, Vector, cross, dot}
 use Rattle.plane.proofs.SignKit.{lift, same, ◌⊞◌, ◌⊟◌, ◌⊠◌, null-zero, plus-times}
 use Rattle.plane.proofs.PlaneKit.{same_vector, cross-times}
 use Rattle.osm_geom.specs.Edge.{opposite}
@@ -68,7 +68,7 @@ plus-zero x b = let x' = lift x in let b' = lift b in same x' (x' ⊞ b' ⊠ lif
 minus-zero : (x b : ℤ) → x ≡ x -ℤ b *ℤ pos 0
 minus-zero x b = let x' = lift x in let b' = lift b in same x' (x' ⊟ b' ⊠ lift (pos 0)) (omega arith)
 
-pub along-from : (d w : Vector) → IsDirection d → sign (cross d w) ≡ Null → sign (dot d w) ≡ Plus → HaveOneDirection w d
+pub along-from : (d w : Vector) → IsNonZero d → sign (cross d w) ≡ Null → sign (dot d w) ≡ Plus → HaveOneDirection w d
 along-from d w direction on ahead = record {
   m = dot d d;
   n = dot d w;

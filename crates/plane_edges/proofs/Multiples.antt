@@ -15,10 +15,10 @@ use Rattle.osm_geom.specs.declared.point.Point.TheVariants.{Lattice}
 use Rattle.osm_geom.specs.Point.{den_of, whole_of}
 use Rattle.osm_lattice.specs.declared.loc.Loc.{Loc}
 use Rattle.osm_lattice.specs.Loc.{vector_of}
-use Rattle.plane_edges.specs.Multiple.{common_den, edge_times, edges_times, point_times, whole_edges}
+use Rattle.plane_edges.specs.Multiple.{edge_times, edges_times, point_times, product_of_denominators, whole_edges}
 use Rattle.plane_edges.specs.SidedLaws.{IsLattice}
 
-pub common-lattice : (es : List Edge) → IsLattice es → common_den es ≡ 1
+pub common-lattice : (es : List Edge) → IsLattice es → product_of_denominators es ≡ 1
 common-lattice [] h = refl
 common-lattice (e ∷ es) h = rw ((h e (inl refl)).0, (h e (inl refl)).1, common-lattice es (λ f i. h f (inr i))) refl
 

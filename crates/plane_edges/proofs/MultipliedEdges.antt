@@ -3,7 +3,7 @@ use Rattle.std.proofs.Common.{Bool, List, ap, arith, cond, false, not, pos, refl
 use Rattle.std.specs.Ordering.{is_lt}
 use Rattle.std.proofs.lemmas.Int.{ints}
 use Prim.Native.Nat.{◌∣◌}
-use Rattle.plane.specs.Edge.{IsRising, is_rising, reversed, segment_of}
+use Rattle.plane.specs.Edge.{IsRisingEdge, is_rising, reversed, segment_of}
 use Rattle.plane.specs.Edge as plane
 use Rattle.plane.specs.Height.{is_in_span, is_right_above, order_above}
 use Rattle.plane.specs.Order.{order}
@@ -36,12 +36,12 @@ pub each_whole : (k : ℕ) (es : List Edge) → IsCommon k es → (e : Edge) →
 each_whole k es c e i = record { some = c.some; first = in-all (λ (f : Edge). den_of f.from ∣ k) es e c.froms i; second = in-all (λ (f : Edge). den_of f.to ∣ k) es e c.tos i }
 
 -- ---- the segment of an edge
-segment_rises-by : (t : plane.Edge) (s : Sign) → order t.from t.to ≡ s → (s ≡ Null → ⊥) → IsRising (cond (is_plus s) t (reversed t))
+segment_rises-by : (t : plane.Edge) (s : Sign) → order t.from t.to ≡ s → (s ≡ Null → ⊥) → IsRisingEdge (cond (is_plus s) t (reversed t))
 segment_rises-by t Plus h apart = h
 segment_rises-by t Minus h apart = order-reversed t.from t.to ∙ ap negated h
 segment_rises-by t Null h apart = absurd (apart refl)
 
-pub segment_rises : (k : ℕ) (e : Edge) → IsWholeAt k e → IsRising (segment_of (edge_times k e))
+pub segment_rises : (k : ℕ) (e : Edge) → IsWholeAt k e → IsRisingEdge (segment_of (edge_times k e))
 segment_rises k e w =
     segment_rises-by (edge_times k e) (order (point_times k e.from) (point_times k e.to)) refl
     (λ h. e.apart (same_is_same k e.from e.to w.some w.first w.second (order-null (point_times k e.from) (point_times k e.to) h)))
@@ -56,7 +56,7 @@ between-nothing t u v h g =
     let d = step_of t in
     ap sign (rest_nothing (cross d (from_to t.from u)) (cross d (from_to u v)) (cross d (from_to t.from v)) (cross-chain d t.from u v) (null-zero (cross d (from_to t.from u)) h) (null-zero (cross d (from_to t.from v)) g))
 
-one-line : (s t : plane.Edge) → IsRising s → IsRising t → IsOnLineOf t s.from → IsOnLineOf t s.to → AreOneLine s t
+one-line : (s t : plane.Edge) → IsRisingEdge s → IsRisingEdge t → IsOnLineOf t s.from → IsOnLineOf t s.to → AreOneLine s t
 one-line s t up_s up_t h g =
     let on = between-nothing t s.from s.to h g in
     record {

@@ -1,7 +1,7 @@
 -- The laws of multiplied edges, as statements: what a carrier says of an edge, the plane says of it once multiplied.
 use Rattle.std.specs.Prelude.{List, ℕ, ◌≡◌}
 use Prim.Native.Nat.{◌∣◌}
-use Rattle.plane.specs.Edge.{IsRising, is_rising, segment_of}
+use Rattle.plane.specs.Edge.{IsRisingEdge, is_rising, segment_of}
 use Rattle.plane.specs.Height.{is_in_span, is_right_above, order_above}
 use Rattle.plane.specs.Sign.{sign}
 use Rattle.plane.specs.Vector.{cross, dot, from_to}
@@ -45,7 +45,7 @@ RunsUpAsRising = (k : ℕ) (e : Edge) → IsWholeAt k e → runs_up e ≡ is_ris
 
 -- an edge has two ends, so with its lower end first it is a segment
 abbrev pub MultipleHasSegment : Type 0
-MultipleHasSegment = (k : ℕ) (e : Edge) → IsWholeAt k e → IsRising (segment_of (edge_times k e))
+MultipleHasSegment = (k : ℕ) (e : Edge) → IsWholeAt k e → IsRisingEdge (segment_of (edge_times k e))
 
 -- ---- heights
 abbrev pub SpansAsSegment : Type 0

@@ -35,10 +35,10 @@ pub record IsCommon (k : ℕ) (es : List Edge) : Type 0 where
   pub tos : All (λ (e : Edge). den_of e.to ∣ k) es
 
 -- the product of all denominators, which is such a number
-abbrev pub common_den : List Edge → ℕ
-common_den [] = 1
-common_den (e ∷ es) = den_of e.from * den_of e.to * common_den es
+abbrev pub product_of_denominators : List Edge → ℕ
+product_of_denominators [] = 1
+product_of_denominators (e ∷ es) = den_of e.from * den_of e.to * product_of_denominators es
 
 -- the list in the plane multiplied by it
 abbrev pub whole_edges : List Edge → List plane.Edge
-whole_edges es = edges_times (common_den es) es
+whole_edges es = edges_times (product_of_denominators es) es

@@ -8,7 +8,7 @@ use Rattle.winding.specs.ScaledEdges.{scaled_edges}
 use Rattle.winding.specs.Sided as winding
 use Rattle.osm_geom.specs.declared.edge.Edge.{Edge}
 use Rattle.osm_geom.specs.Point.{den_of}
-use Rattle.plane_edges.specs.Multiple.{IsCommon, common_den, edges_times, whole_edges}
+use Rattle.plane_edges.specs.Multiple.{IsCommon, edges_times, product_of_denominators, whole_edges}
 use Rattle.plane_edges.specs.Sided.{IsSided, count_at, signed_count_at}
 
 -- all points of the list are lattice points
@@ -26,7 +26,7 @@ MultipleOfMultiple = (k m : ℕ) (es : List Edge) → IsCommon k es → edges_ti
 
 -- every list has a common multiple: the product of all denominators is one
 abbrev pub CommonDenIsCommon : Type 0
-CommonDenIsCommon = (es : List Edge) → IsCommon (common_den es) es
+CommonDenIsCommon = (es : List Edge) → IsCommon (product_of_denominators es) es
 
 -- a list is sided exactly where it is, multiplied by any common multiple, in the plane
 abbrev pub SidedAtEachMultiple : Type 0

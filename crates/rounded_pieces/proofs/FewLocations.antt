@@ -10,7 +10,7 @@ use Rattle.winding.specs.ScaledEdges.{scaled_edges}
 use Rattle.winding.specs.EdgeList.{crossing_count, down_count, up_count, winding_number}
 use Rattle.lists.proofs.ListsKit.{total, total-is}
 use Rattle.winding.proofs.WindingKit.{count-is, reversed-crossings}
-use Rattle.rounded_pieces.specs.Printed.{edge_of, edges_round}
+use Rattle.rounded_pieces.specs.Printed.{edge_between, edges_round}
 
 module _ (q : ℤ) (p : Vector) where
   abbrev round : List Loc → List plane.Edge
@@ -25,8 +25,8 @@ module _ (q : ℤ) (p : Vector) where
   -- as often up as down
   few-alike : (ps : List Loc) → length ps < 3 → total up (round ps) ≡ total down (round ps)
   few-alike [] h = refl
-  few-alike (a ∷ []) h = let r = reversed-crossings east (from_to p) (scaled_edge q (edge_of (a, a))) in let x = r.0 in omega (arith, x)
-  few-alike (a ∷ (b ∷ [])) h = let r = reversed-crossings east (from_to p) (scaled_edge q (edge_of (a, b))) in let x = r.0 in let y = r.1 in omega (arith, x, y)
+  few-alike (a ∷ []) h = let r = reversed-crossings east (from_to p) (scaled_edge q (edge_between (a, a))) in let x = r.0 in omega (arith, x)
+  few-alike (a ∷ (b ∷ [])) h = let r = reversed-crossings east (from_to p) (scaled_edge q (edge_between (a, b))) in let x = r.0 in let y = r.1 in omega (arith, x, y)
   few-alike (a ∷ (b ∷ (c ∷ ps))) h = absurd (omega arith)
 
   pub few-wind : (ps : List Loc) → length ps < 3 → winding_number east p (round ps) ≡ pos 0

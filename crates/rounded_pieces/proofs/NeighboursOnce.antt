@@ -10,14 +10,14 @@ use Rattle.plane.specs.Edge as plane
 use Rattle.plane.specs.Vector.{Vector}
 use Rattle.rounded.specs.Steps.{steps}
 use Rattle.winding.specs.Ring.{IsPath}
-use Rattle.rounded_pieces.specs.Printed.{edge_of, edges_round}
+use Rattle.rounded_pieces.specs.Printed.{edge_between, edges_round}
 use Rattle.rounded_pieces.proofs.ClosedPaths.{closed-told, joined, round, starts, steps-path}
 
 -- ---- in points of the plane
-in-plane : (ps qs : List Loc) → map joined (zip (map vector_of ps) (map vector_of qs)) ≡ map edge_of (zip ps qs)
+in-plane : (ps qs : List Loc) → map joined (zip (map vector_of ps) (map vector_of qs)) ≡ map edge_between (zip ps qs)
 in-plane [] qs = refl
 in-plane (p ∷ ps) [] = refl
-in-plane (p ∷ ps) (q ∷ qs) = ap (λ (es : List plane.Edge). edge_of (p, q) ∷ es) (in-plane ps qs)
+in-plane (p ∷ ps) (q ∷ qs) = ap (λ (es : List plane.Edge). edge_between (p, q) ∷ es) (in-plane ps qs)
 
 pub round-is : (ps : List Loc) → round (map vector_of ps) ≡ edges_round ps
 round-is [] = refl
@@ -25,19 +25,19 @@ round-is (p ∷ ps) =
     ap (λ (vs : List Vector). map joined (zip (map vector_of (p ∷ ps)) vs)) (sym (map-append vector_of ps (p ∷ []))) ∙ in-plane (p ∷ ps) (ps ++ p ∷ [])
 
 -- ---- from each location to the next, and at last to one
-pub path-to : (p : Loc) (ps : List Loc) (last : Loc) → IsPath (vector_of p) (map edge_of (zip (p ∷ ps) (ps ++ last ∷ []))) (vector_of last)
+pub path-to : (p : Loc) (ps : List Loc) (last : Loc) → IsPath (vector_of p) (map edge_between (zip (p ∷ ps) (ps ++ last ∷ []))) (vector_of last)
 path-to p [] last = (refl, refl)
 path-to p (q ∷ ps) last = (refl, path-to q ps last)
 
 start-by : (b : Bool) (p q : Loc) (es : List plane.Edge) (ls : List Loc) → starts es ≡ map vector_of ls →
-    starts (cond (not b) (edge_of (p, q) ∷ es) es) ≡ map vector_of (cond b ls (p ∷ ls))
+    starts (cond (not b) (edge_between (p, q) ∷ es) es) ≡ map vector_of (cond b ls (p ∷ ls))
 start-by true p q es ls h = h
 start-by false p q es ls h = ap (λ (vs : List Vector). vector_of p ∷ vs) h
 
-starts-left : (p : Loc) (ps : List Loc) (last : Loc) → starts (steps (map edge_of (zip (p ∷ ps) (ps ++ last ∷ [])))) ≡ map vector_of (unlike (p ∷ ps) (ps ++ last ∷ []))
+starts-left : (p : Loc) (ps : List Loc) (last : Loc) → starts (steps (map edge_between (zip (p ∷ ps) (ps ++ last ∷ [])))) ≡ map vector_of (unlike (p ∷ ps) (ps ++ last ∷ []))
 starts-left p [] last = start-by (is_same p last) p last [] [] refl
 starts-left p (q ∷ ps) last =
-    start-by (is_same p q) p q (steps (map edge_of (zip (q ∷ ps) (ps ++ last ∷ [])))) (unlike (q ∷ ps) (ps ++ last ∷ [])) (starts-left q ps last)
+    start-by (is_same p q) p q (steps (map edge_between (zip (q ∷ ps) (ps ++ last ∷ [])))) (unlike (q ∷ ps) (ps ++ last ∷ [])) (starts-left q ps last)
 
 pub once-steps : (ps : List Loc) → steps (edges_round ps) ≡ edges_round (neighbours_once ps)
 once-steps [] = refl

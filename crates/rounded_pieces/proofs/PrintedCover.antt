@@ -9,7 +9,7 @@ use Rattle.job_coastline.specs.Pieces.{AreTiles, Tile}
 use Rattle.one_coast.specs.Cover.{SomeLeafCovers}
 use Rattle.plane.specs.Sign.{Plus, sign}
 use Rattle.plane.specs.Vector.{Vector}
-use Rattle.plane_edges.specs.Multiple.{common_den, whole_edges}
+use Rattle.plane_edges.specs.Multiple.{product_of_denominators, whole_edges}
 use Rattle.plane_edges.specs.Sided.{count_at}
 use Rattle.plane_edges.proofs.EdgesKit.{common_is_common}
 use Rattle.rounded.proofs.RoundedKit.{beyond-off}
@@ -62,4 +62,4 @@ module _ (q : ℤ) (plus : sign q ≡ Plus) (p : Vector) (leaves : List Leaf) (t
 pub far-off : (q : ℤ) → sign q ≡ Plus → (p : Vector) (leaves : List Leaf) → All (IsBeyondLeaf q p) leaves → All (λ (leaf : Leaf). IsOffList q p leaf.edges) leaves
 far-off q plus p leaves far =
     all-in (λ (leaf : Leaf). IsOffList q p leaf.edges) leaves (λ leaf i.
-    beyond-off (common_den leaf.edges) (common_is_common leaf.edges).some (whole_edges leaf.edges) q plus p (in-all (IsBeyondLeaf q p) leaves leaf far i))
+    beyond-off (product_of_denominators leaf.edges) (common_is_common leaf.edges).some (whole_edges leaf.edges) q plus p (in-all (IsBeyondLeaf q p) leaves leaf far i))

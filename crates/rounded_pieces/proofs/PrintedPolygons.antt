@@ -28,7 +28,7 @@ use Rattle.plane.specs.RayCrossing.{IsOffEdge}
 use Rattle.plane.specs.Scale.{scaled_point}
 use Rattle.plane.specs.Sign.{Plus, sign}
 use Rattle.plane.specs.Vector.{Vector, east}
-use Rattle.plane_edges.specs.Multiple.{IsCommon, common_den, edge_times, edges_times, whole_edges}
+use Rattle.plane_edges.specs.Multiple.{IsCommon, edge_times, edges_times, product_of_denominators, whole_edges}
 use Rattle.plane_edges.specs.Sided.{IsSided, count_at}
 use Rattle.plane_edges.proofs.EdgesKit.{count_at_each, each_whole}
 use Rattle.rounded.specs.RoundedLaws.{IsBeyondHalf}
@@ -126,12 +126,12 @@ module _ (k : ℕ) (polygon : Polygon) (common : IsCommon k (edges_in polygon)) 
 -- ---- all polygons of nested rings
 module _ (fit : RingsMayBeNested) (cover : NestedCoverAsRings) (counts : RingsCountAsEdges) (are-valid : NestedPolygonsAreValid) (es : List Edge) (sd : IsSided es) (rs : List (List Edge)) (a : AreRingsOf es rs) (polygons : List Polygon) (n : AreNested rs polygons) where
   abbrev K : ℕ
-  K = common_den es
+  K = product_of_denominators es
 
   are : AreRings rs
   are = fit es rs sd a
 
-  same : common_den (all_edges rs) ≡ K
+  same : product_of_denominators (all_edges rs) ≡ K
   same = sym (same-common es rs a)
 
   common-at : (polygon : Polygon) → In polygon polygons → IsCommon K (edges_in polygon)
@@ -154,7 +154,7 @@ module _ (fit : RingsMayBeNested) (cover : NestedCoverAsRings) (counts : RingsCo
   in-list : (polygon : Polygon) → In polygon polygons → (x : plane.Edge) → In x (edges_times K (edges_in polygon)) → In x (whole_edges es)
   in-list polygon i x j =
       let w = was n.polygons polygons n.begun polygon i in let g = polygon_times K w.0 in
-      let of : IsPolygon (map (edges_times K) rs) g = subst (λ m. IsPolygon (map (edges_times m) rs) (polygon_times m w.0)) same (in-all (λ (q : Polygon). IsPolygon (whole_rings rs) (polygon_times (common_den (all_edges rs)) q)) n.polygons w.0 n.of_rings.each w.1) in
+      let of : IsPolygon (map (edges_times K) rs) g = subst (λ m. IsPolygon (map (edges_times m) rs) (polygon_times m w.0)) same (in-all (λ (q : Polygon). IsPolygon (whole_rings rs) (polygon_times (product_of_denominators (all_edges rs)) q)) n.polygons w.0 n.of_rings.each w.1) in
       same-in (edges_of (map (edges_times K) rs)) (whole_edges es) list.edges x
       (out-of-by g of x (in-either g.outer (edges_of g.inner) x (same-in (edges_times K (edges_in polygon)) (polygon_edges g) (polygon-same K w.0 polygon w.2) x j)))
 

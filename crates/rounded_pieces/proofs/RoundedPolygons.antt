@@ -24,7 +24,7 @@ use Rattle.winding.specs.Ring as winding
 use Rattle.winding.specs.ScaledEdges.{scaled_edges}
 use Rattle.winding.proofs.WindingKit.{count-is, even-is}
 use Rattle.rounded_pieces.specs.Near.{AreBeyondHalf}
-use Rattle.rounded_pieces.specs.Printed.{edges_round, has_inside, rings_cover}
+use Rattle.rounded_pieces.specs.Printed.{edges_round, printed_has_inside, rings_cover}
 use Rattle.rounded_pieces.proofs.FewLocations.{few-even}
 use Rattle.rounded_pieces.proofs.RoundedRings.{ring-odd}
 
@@ -54,10 +54,10 @@ module _ (k : ℕ) (some : 1 ≤ k) (q : ℤ) (plus : sign q ≡ Plus) (p : Vect
   abbrev exact_inside : List Edge → Bool
   exact_inside ring = valid.has_inside q P (edges_times k ring)
 
-  inside-alike : (ring : List Edge) → IsFarRing ring → has_inside q p (rounded_ring ring) ≡ exact_inside ring
+  inside-alike : (ring : List Edge) → IsFarRing ring → printed_has_inside q p (rounded_ring ring) ≡ exact_inside ring
   inside-alike ring is = ap (λ r. not (r == 0)) (ring-odd k some ring is.whole is.closed q plus p is.far)
 
-  vanished-out : (ring : List Edge) → has_vanished ring ≡ true → has_inside q p (rounded_ring ring) ≡ false
+  vanished-out : (ring : List Edge) → has_vanished ring ≡ true → printed_has_inside q p (rounded_ring ring) ≡ false
   vanished-out ring v =
       ap not (even-is (crossing_count east p (scaled_edges q (edges_round (rounded_ring ring)))) (few-even q p (rounded_ring ring) (less-out (length (rounded_ring ring)) 3 v)))
 
@@ -68,12 +68,12 @@ module _ (k : ℕ) (some : 1 ≤ k) (q : ℤ) (plus : sign q ≡ Plus) (p : Vect
   abbrev exact_count : List (List Edge) → ℕ
   exact_count rings = count_by (valid.has_inside q P) (map (edges_times k) rings)
 
-  left-by : (v : Bool) (ring : List Edge) (more : List (List Edge)) → (v ≡ true → has_inside q p (rounded_ring ring) ≡ false) →
-      count_by (has_inside q p) (map rounded_ring (cond (not v) (ring ∷ more) more)) ≡ bit (has_inside q p (rounded_ring ring)) + count_by (has_inside q p) (map rounded_ring more)
+  left-by : (v : Bool) (ring : List Edge) (more : List (List Edge)) → (v ≡ true → printed_has_inside q p (rounded_ring ring) ≡ false) →
+      count_by (printed_has_inside q p) (map rounded_ring (cond (not v) (ring ∷ more) more)) ≡ bit (printed_has_inside q p (rounded_ring ring)) + count_by (printed_has_inside q p) (map rounded_ring more)
   left-by true ring more out = let none = ap bit (out refl) in omega arith
-  left-by false ring more out = count_by-cons (has_inside q p) (rounded_ring ring) (map rounded_ring more)
+  left-by false ring more out = count_by-cons (printed_has_inside q p) (rounded_ring ring) (map rounded_ring more)
 
-  left-count : (rings : List (List Edge)) → AreFar rings → count_by (has_inside q p) (left rings) ≡ exact_count rings
+  left-count : (rings : List (List Edge)) → AreFar rings → count_by (printed_has_inside q p) (left rings) ≡ exact_count rings
   left-count [] far = refl
   left-count (ring ∷ rings) far =
       let a = left-by (has_vanished ring) ring (filter (λ (r : List Edge). not (has_vanished r)) rings) (vanished-out ring) in
@@ -90,14 +90,14 @@ module _ (k : ℕ) (some : 1 ≤ k) (q : ℤ) (plus : sign q ≡ Plus) (p : Vect
     exact = crossing_count east P (scaled_edges q (polygon_edges G))
 
     abbrev count : List (List Loc) → ℕ
-    count rings = count_by (has_inside q p) rings
+    count rings = count_by (printed_has_inside q p) rings
 
-    outer-alike : has_inside q p (rounded_ring outer) ≡ exact_inside outer
+    outer-alike : printed_has_inside q p (rounded_ring outer) ≡ exact_inside outer
     outer-alike = inside-alike outer (far outer (inl refl))
 
     whole-count : count (rounded_ring outer ∷ left inners) ≡ bit (exact_inside outer) + exact_count inners
     whole-count =
-        let a = count_by-cons (has_inside q p) (rounded_ring outer) (left inners) in let b = ap bit outer-alike in
+        let a = count_by-cons (printed_has_inside q p) (rounded_ring outer) (left inners) in let b = ap bit outer-alike in
         let c = left-count inners (λ r i. far r (inr i)) in omega (arith, a, b, c)
 
     count-by : LiesByRings q P G → (v : Bool) → has_vanished outer ≡ v → count (cond v [] (rounded_ring outer ∷ left inners)) % 2 ≡ exact % 2

@@ -4,7 +4,7 @@ use Rattle.lists.specs.Member.{In}
 use Rattle.opl_reader.specs.declared.object.Object.{Object}
 use Rattle.coast_sides.specs.Land.{parity_at}
 use Rattle.coast_sides.specs.Segments.{all_segments}
-use Rattle.coast_sides.specs.Water.{IsWithin}
+use Rattle.coast_sides.specs.Water.{IsInsideWorld}
 use Rattle.job_coastline.specs.Coastline.{IsCoastline}
 use Rattle.job_coastline.specs.Pieces.{AreTiles, Tile, has_land, has_water}
 use Rattle.one_coast.specs.Cover.{SomeLeafCovers}
@@ -52,5 +52,5 @@ PrintedLandIsCoast =
 abbrev pub PrintedWaterIsCoast : Type 0
 PrintedWaterIsCoast =
     (settings : CoastlineSettings) (objects : List Object) (whole : Whole) (right : IsCoastline settings objects whole) → has_water settings.polygons ≡ true →
-    (tiles : List Tile) → AreTiles right.areas.water_leaves tiles → (p : Vector) → IsWithin p → All (IsBeyondLeaf (pos 1) p) right.areas.water_leaves →
+    (tiles : List Tile) → AreTiles right.areas.water_leaves tiles → (p : Vector) → IsInsideWorld p → All (IsBeyondLeaf (pos 1) p) right.areas.water_leaves →
     SomePrintCovers (pos 1) p tiles ↔ (parity_at (pos 1) p (all_segments right.areas.coast.sorted.kept) ≡ pos 0)

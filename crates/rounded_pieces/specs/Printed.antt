@@ -13,20 +13,20 @@ use Rattle.plane.specs.Edge as plane
 use Rattle.plane.specs.Vector.{Vector}
 
 -- the edge from one location to another
-abbrev pub edge_of : Loc × Loc → plane.Edge
-edge_of step = record { from = vector_of step.0; to = vector_of step.1 }
+abbrev pub edge_between : Loc × Loc → plane.Edge
+edge_between step = record { from = vector_of step.0; to = vector_of step.1 }
 
 -- the edges of a printed ring: from each location to the next, and from the last to the first
 abbrev pub edges_round : List Loc → List plane.Edge
-edges_round ring = map edge_of (zip ring (drop 1 ring ++ take 1 ring))
+edges_round ring = map edge_between (zip ring (drop 1 ring ++ take 1 ring))
 
 -- the printed ring has the point p.x / q, p.y / q inside: it crosses the ray from there to the east an odd number of times
-abbrev pub has_inside : ℤ → Vector → List Loc → Bool
-has_inside q p ring = covers (scaled_edges q (edges_round ring)) p
+abbrev pub printed_has_inside : ℤ → Vector → List Loc → Bool
+printed_has_inside q p ring = covers (scaled_edges q (edges_round ring)) p
 
 -- an odd number of the rings of a printed polygon have it inside
 abbrev pub rings_cover : ℤ → Vector → List (List Loc) → Bool
-rings_cover q p rings = not (is_even (count_by (has_inside q p) rings))
+rings_cover q p rings = not (is_even (count_by (printed_has_inside q p) rings))
 
 -- the rings of a polygon that are printed, the outer one first; none where that has vanished
 abbrev pub printed_rings : Polygon → List (List Loc)

@@ -12,7 +12,7 @@ use Rattle.osm_text.specs.Rounded.{rounded_ring}
 use Rattle.plane.specs.RayCrossing.{IsOffEdge}
 use Rattle.plane.specs.Sign.{Plus, sign}
 use Rattle.plane.specs.Vector.{Vector}
-use Rattle.plane_edges.specs.Multiple.{common_den}
+use Rattle.plane_edges.specs.Multiple.{product_of_denominators}
 use Rattle.plane_edges.specs.Sided.{count_at}
 use Rattle.winding.specs.ScaledEdges.{scaled_edges}
 use Rattle.rounded_pieces.specs.Near.{AreBeyondHalf, IsWithinHalfUnit}
@@ -44,11 +44,11 @@ pub record ArePrintedRight (edges : List Edge) (polygons : List Polygon) : Type 
   pub near : All (λ (polygon : Polygon). All (IsPrintedRing polygon) (printed_rings polygon)) polygons
   pub each :
       (polygon : Polygon) → In polygon polygons → (q : ℤ) → sign q ≡ Plus → (p : Vector) →
-      AreBeyondHalf (common_den edges) q p (edges_in polygon) → IsPrintedRight polygon q p
+      AreBeyondHalf (product_of_denominators edges) q p (edges_in polygon) → IsPrintedRight polygon q p
   pub together :
-      (q : ℤ) → sign q ≡ Plus → (p : Vector) → AreBeyondHalf (common_den edges) q p edges →
+      (q : ℤ) → sign q ≡ Plus → (p : Vector) → AreBeyondHalf (product_of_denominators edges) q p edges →
       count_by (print_covers q p) polygons ≡ count_at q p edges % 2
 
 -- the closed unit square round the point p.x / q, p.y / q meets no edge of the leaf
 abbrev pub IsBeyondLeaf : ℤ → Vector → Leaf → Type 0
-IsBeyondLeaf q p leaf = AreBeyondHalf (common_den leaf.edges) q p leaf.edges
+IsBeyondLeaf q p leaf = AreBeyondHalf (product_of_denominators leaf.edges) q p leaf.edges

@@ -6,7 +6,7 @@ use Rattle.std.proofs.lemmas.List.{append-nil, get_or-drop, length-drop, map-app
 use Rattle.std.proofs.lemmas.List.Elements.{All-cons, All-head, All-tail, filter-append}
 use Rattle.std.proofs.lemmas.List.Sums.{sum_by-append, sum_by-cons}
 use Rattle.plane.specs.Conflict.{IsClearOf}
-use Rattle.plane.specs.Edge.{Edge, IsRising}
+use Rattle.plane.specs.Edge.{Edge, IsRisingEdge}
 use Rattle.plane.specs.Height.{is_in_span, is_right_above}
 use Rattle.plane.specs.Vector.{Vector}
 use Rattle.plane.proofs.PlaneKit.{clear_back}
@@ -63,7 +63,7 @@ module _ {X : Type 0} (edge : X → Edge) where
         let here : In x (drop k xs) = subst (In x) (sym (drop-cons xs k x inside ∙ ap (λ t. t ∷ drop (suc k) xs) (next x))) (inl refl) in
         let among = λ (e : Edge) (i : In e (front ++ back)). rising_in (map edge xs) e free (subst (In e) (sym parts) i) in
         record {
-          rising = All-cons IsRising (edge x) front (among (edge x) (in-right front back (edge x) (in-map edge (drop k xs) x here))) (all-in IsRising front (λ e i. among e (in-left front back e i)));
+          rising = All-cons IsRisingEdge (edge x) front (among (edge x) (in-right front back (edge x) (in-map edge (drop k xs) x here))) (all-in IsRisingEdge front (λ e i. among e (in-left front back e i)));
           clear = (
             all-in (IsClearOf (edge x)) front (λ e i. clear_back e (edge x) (pairs-across IsClearOf front back e (edge x) clear i (in-map edge (drop k xs) x here))),
             pairs-left IsClearOf front back clear,

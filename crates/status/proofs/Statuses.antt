@@ -19,7 +19,7 @@ use Rattle.plane.proofs.PlaneKit.{clear_back, same_edge-refl, same_edge-true, or
 use Rattle.winding.specs.ConflictFree.{IsConflictFree}
 use Rattle.lists.specs.Member.{In}
 use Rattle.winding.proofs.WindingKit.{clear_pair, right_apart}
-use Rattle.status.specs.Status.{IsRight, IsStatus, spanning}
+use Rattle.status.specs.Status.{IsRightJustAbove, IsStatus, spanning}
 use Rattle.status.proofs.Lists.{sum-filter, sum-same}
 
 module _ {X : Type 0} (edge : X → Edge) where
@@ -34,7 +34,7 @@ module _ {X : Type 0} (edge : X → Edge) where
   enters p xs status x place free is sx within before after =
       let all = split p x xs true sx in
       record {
-        order = pairs_insert (IsRight edge p) status place x is.order
+        order = pairs_insert (IsRightJustAbove edge p) status place x is.order
             (λ k d h l. left-of (get_or status k d) (is.members k d (omega arith)) (before k d h l))
             (λ k d h l. and-right (is_in_span p (edge (get_or status k d))) (right_of p (edge x) (edge (get_or status k d))) (after k d h l)) within;
         whole = λ f. sum_by-insert f status place x ∙ ap (λ n. n + f x) (is.whole f) ∙ turned (sum_by f (spanning edge p xs)) (f x) ∙ sym (ap (sum_by f) all ∙ sum_by-cons f x (spanning edge p xs));
@@ -71,7 +71,7 @@ module _ {X : Type 0} (edge : X → Edge) where
       let low = All-filter sq (λ (x : X). In x (spanning edge p xs)) status is.members in
       let high = filter_passes sq status in
       record {
-        order = λ i j d h l. stays (get_or (filter sq status) i d) (get_or (filter sq status) j d) (low i d (omega arith)) (low j d l) (high i d (omega arith)) (high j d l) (AllPairs-filter (IsRight edge p) sq status is.order i j d h l);
+        order = λ i j d h l. stays (get_or (filter sq status) i d) (get_or (filter sq status) j d) (low i d (omega arith)) (low j d l) (high i d (omega arith)) (high j d l) (AllPairs-filter (IsRightJustAbove edge p) sq status is.order i j d h l);
         whole = λ f. sum-filter sq f status ∙ is.whole (λ x. cond (sq x) (f x) 0) ∙ sum-filter sp (λ x. cond (sq x) (f x) 0) xs ∙ in-both f xs (λ x i. both x i) ∙ sym (sum-filter sq f xs);
         members = λ k d h. into-filter sq xs (get_or (filter sq status) k d) (in-filter sp xs (get_or (filter sq status) k d) (low k d h)) (high k d h);
       }
@@ -143,7 +143,7 @@ module _ {X : Type 0} (edge : X → Edge) where
   member-spans p xs status is k d h = in-passes (λ (x : X). is_in_span p (edge x)) xs (get_or status k d) (is.members k d h)
 
   pub nearest : (p : Vector) (xs status : List X) → IsStatus edge p xs status → (i : ℕ) (d : X) → i + 1 < length status → (f : X) → In f xs → is_right_above p (edge (get_or status i d)) (edge f) ≡ true →
-      (edge f ≡ edge (get_or status (i + 1) d)) ⊎ IsRight edge p (get_or status (i + 1) d) f
+      (edge f ≡ edge (get_or status (i + 1) d)) ⊎ IsRightJustAbove edge p (get_or status (i + 1) d) f
   nearest p xs status is i d inside f j r =
       let e = edge (get_or status i d) in
       let sf = and-left (is_in_span p (edge f)) (right_of p e (edge f)) r in let rf = and-right (is_in_span p (edge f)) (right_of p e (edge f)) r in
@@ -185,19 +185,19 @@ module _ {X : Type 0} (edge : X → Edge) where
 
   -- ---- by neighbours
   pub fits : (p : Vector) (xs status : List X) (x : X) (place : ℕ) → IsStatus edge p xs status → is_in_span p (edge x) ≡ true → place ≤ length status →
-      ((d : X) → 0 < place → IsRight edge p (get_or status (place - 1) d) x) → ((d : X) → place < length status → IsRight edge p x (get_or status place d)) → IsStatus edge p (x ∷ xs) (insert status place x)
+      ((d : X) → 0 < place → IsRightJustAbove edge p (get_or status (place - 1) d) x) → ((d : X) → place < length status → IsRightJustAbove edge p x (get_or status place d)) → IsStatus edge p (x ∷ xs) (insert status place x)
   fits p xs status x place is sx within before after =
       let all = split p x xs true sx in
       let spans = member-spans p xs status is in
       record {
-        order = pairs_insert (IsRight edge p) status place x is.order
+        order = pairs_insert (IsRightJustAbove edge p) status place x is.order
             (λ k d h l. ⊎_elim
-            (λ (next : k ≡ place - 1). subst (λ m. IsRight edge p (get_or status m d) x) (sym next) (before d (omega arith)))
+            (λ (next : k ≡ place - 1). subst (λ m. IsRightJustAbove edge p (get_or status m d) x) (sym next) (before d (omega arith)))
             (λ (far : k ≢ place - 1). right_chain p (edge (get_or status k d)) (edge (get_or status (place - 1) d)) (edge x) (spans k d (omega arith)) (spans (place - 1) d (omega arith)) sx
             (is.order k (place - 1) d (omega (arith, far)) (omega arith)) (before d (omega arith)))
             (cases_eq k (place - 1)))
             (λ k d h l. ⊎_elim
-            (λ (next : k ≡ place). subst (λ m. IsRight edge p x (get_or status m d)) (sym next) (after d (omega arith)))
+            (λ (next : k ≡ place). subst (λ m. IsRightJustAbove edge p x (get_or status m d)) (sym next) (after d (omega arith)))
             (λ (far : k ≢ place). right_chain p (edge x) (edge (get_or status place d)) (edge (get_or status k d)) sx (spans place d (omega arith)) (spans k d l) (after d (omega arith))
             (is.order place k d (omega (arith, far)) l))
             (cases_eq k place)) within;
@@ -256,7 +256,7 @@ module _ {X : Type 0} (edge : X → Edge) where
       let sp = λ (t : X). is_in_span p (edge t) in
       let sx : is_in_span p (edge x) ≡ true = subst (λ t. is_in_span p (edge t) ≡ true) (at x) (member-spans p (front ++ x ∷ back) status is place x inside) in
       record {
-        order = all_pairs_remove (IsRight edge p) status place inside is.order;
+        order = all_pairs_remove (IsRightJustAbove edge p) status place inside is.order;
         whole = λ f. less (sum_by f (remove status place)) (sum_by f (spanning edge p (front ++ back))) (f x) (sum_by f status) (removed f) (is.whole f ∙ middle p f x back sx front);
         members = λ k d h.
             let len = length-remove status place inside in

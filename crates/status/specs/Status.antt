@@ -11,10 +11,10 @@ abbrev pub spanning : {X : Type 0} → (X → Edge) → Vector → List X → Li
 spanning {X} edge p xs = filter (λ (x : X). is_in_span p (edge x)) xs
 
 -- y is right of x just above the height of p
-abbrev pub IsRight : {X : Type 0} → (X → Edge) → Vector → X → X → Type 0
-IsRight edge p x y = is_plus (order_above p (edge x) (edge y)) ≡ true
+abbrev pub IsRightJustAbove : {X : Type 0} → (X → Edge) → Vector → X → X → Type 0
+IsRightJustAbove edge p x y = is_plus (order_above p (edge x) (edge y)) ≡ true
 
 pub record IsStatus {X : Type 0} (edge : X → Edge) (p : Vector) (xs status : List X) : Type 0 where
-  pub order : AllPairs (IsRight edge p) status
+  pub order : AllPairs (IsRightJustAbove edge p) status
   pub whole : (f : X → ℕ) → sum_by f status ≡ sum_by f (spanning edge p xs)
   pub members : All (λ (x : X). In x (spanning edge p xs)) status

@@ -7,7 +7,7 @@ use Rattle.plane.specs.Height.{is_in_span, is_right_above}
 use Rattle.plane.specs.Vector.{Vector}
 use Rattle.winding.specs.ConflictFree.{IsConflictFree}
 use Rattle.lists.specs.Member.{In}
-use Rattle.status.specs.Status.{IsRight, IsStatus}
+use Rattle.status.specs.Status.{IsRightJustAbove, IsStatus}
 
 -- an item that spans the height goes before those that are right of it, which stand last
 abbrev pub ItemEnters : Type 0 → Type 0
@@ -40,7 +40,7 @@ abbrev pub NeighboursAreNearest : Type 0 → Type 0
 NeighboursAreNearest X =
     (edge : X → Edge) (p : Vector) (xs status : List X) → IsStatus edge p xs status → (i : ℕ) (d : X) → i + 1 < length status →
     (f : X) → In f xs → is_right_above p (edge (slice_index_or status i d)) (edge f) ≡ true →
-    (edge f ≡ edge (slice_index_or status (i + 1) d)) ⊎ IsRight edge p (slice_index_or status (i + 1) d) f
+    (edge f ≡ edge (slice_index_or status (i + 1) d)) ⊎ IsRightJustAbove edge p (slice_index_or status (i + 1) d) f
 
 -- those right of an item that spans the height stand last
 abbrev pub ItemsRightStandLast : Type 0 → Type 0
@@ -52,8 +52,8 @@ ItemsRightStandLast X =
 abbrev pub ItemFits : Type 0 → Type 0
 ItemFits X =
     (edge : X → Edge) (p : Vector) (xs status : List X) (x : X) (place : ℕ) → IsStatus edge p xs status → is_in_span p (edge x) ≡ true → place ≤ length status →
-    ((d : X) → 0 < place → IsRight edge p (slice_index_or status (place - 1) d) x) →
-    ((d : X) → place < length status → IsRight edge p x (slice_index_or status place d)) →
+    ((d : X) → 0 < place → IsRightJustAbove edge p (slice_index_or status (place - 1) d) x) →
+    ((d : X) → place < length status → IsRightJustAbove edge p x (slice_index_or status place d)) →
     IsStatus edge p (x ∷ xs) (insert status place x)
 
 -- an item that stands in the status is taken out of it and of the list

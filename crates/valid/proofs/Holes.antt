@@ -11,13 +11,13 @@ use Rattle.paths.specs.Inside.{IsInside, IsLineInside, IsOutside, IsStepInside}
 use Rattle.paths.specs.Line.{IsApart, IsFreeStep, IsPolyline, Joined}
 use Rattle.paths.specs.Near.{near, opposite_of}
 use Rattle.plane.specs.Bit.{bit}
-use Rattle.plane.specs.Edge.{Edge, IsRising, reversed, same_edge, segment_of}
+use Rattle.plane.specs.Edge.{Edge, IsRisingEdge, reversed, same_edge, segment_of}
 use Rattle.plane.specs.FreeSegment.{IsBetween}
 use Rattle.plane.specs.Order.{order}
 use Rattle.plane.specs.RayCrossing.{IsOffEdge, is_off}
 use Rattle.plane.specs.Scale.{scaled_edge, scaled_point}
 use Rattle.plane.specs.Sign.{Plus, is_plus, sign}
-use Rattle.plane.specs.Vector.{IsDirection, Vector, cross, dot, east, from_to, one_at, same_point}
+use Rattle.plane.specs.Vector.{IsNonZero, Vector, cross, dot, east, from_to, one_at, same_point}
 use Rattle.winding.specs.ConflictFree.{IsConflictFree}
 use Rattle.winding.specs.EdgeList.{IsBalanced, down_count, up_count, winding_number}
 use Rattle.winding.specs.Ring.{IsPath, IsRing, segments_of}
@@ -95,7 +95,7 @@ module _ (g : Polygon) (sg : IsSided (polygon_edges g)) (parted : (k : ℤ) → 
   sub : (x : Edge) → In x h → In x es
   sub x i = in-right g.outer (edges_of g.inner) x (in-edges g.inner h x ih i)
 
-  segments-turned : (xs : List Edge) → ((x : Edge) → In x xs → IsRising (segment_of x)) → segments_of (map reversed xs) ≡ segments_of xs
+  segments-turned : (xs : List Edge) → ((x : Edge) → In x xs → IsRisingEdge (segment_of x)) → segments_of (map reversed xs) ≡ segments_of xs
   segments-turned [] r = refl
   segments-turned (x ∷ xs) r =
       ap (λ s. s ∷ segments_of (map reversed xs)) (reversed-by (is_plus (order x.from x.to)) x (r x (inl refl))) ∙ ap (λ l. segment_of x ∷ l) (segments-turned xs (λ y i. r y (inr i)))
@@ -182,7 +182,7 @@ module _ (g : Polygon) (sg : IsSided (polygon_edges g)) (parted : (k : ℤ) → 
       let inside = subst (λ x. IsInside x p) (edges-twice k m es) ((s.2).0).0 in
       no-part g h ih km p inside t (parted km hkm p inside.off)
 
-  at-end : (m : ℤ) → sign m ≡ Plus → (e : Edge) → In e es → (x y : Vector) → IsDirection (from_to x y) →
+  at-end : (m : ℤ) → sign m ≡ Plus → (e : Edge) → In e es → (x y : Vector) → IsNonZero (from_to x y) →
       ((k : ℤ) (z : Vector) → IsBetween (scaled_point k x) (scaled_point k y) z → IsBetween (scaled_point (k *ℤ m) e.from) (scaled_point (k *ℤ m) e.to) z) → IsInside (scaled_edges m rev) x → ⊥
   at-end m hm e i x y d turn n =
       let l = scaled_edges m rev in let u = from_to x y in
@@ -211,7 +211,7 @@ module _ (g : Polygon) (sg : IsSided (polygon_edges g)) (parted : (k : ℤ) → 
     abbrev c : Vector
     c = scaled_point m e.to
 
-    way : IsDirection (from_to a c)
+    way : IsNonZero (from_to a c)
     way = step-direction a c (point-scaled m hm e.from e.to ∙ no-loop es sg e i)
 
     not-first : x ≡ a → ⊥

@@ -4,7 +4,7 @@ use lib.IntN.{ℤ}
 use Rattle.lists.specs.Member.{EachPair, In}
 use Rattle.nesting.specs.Nesting.{edges_of}
 use Rattle.plane.specs.Conflict.{IsClearOf}
-use Rattle.plane.specs.Edge.{Edge, IsRising, ends_at, reversed, same_edge, segment_of}
+use Rattle.plane.specs.Edge.{Edge, IsRisingEdge, ends_at, reversed, same_edge, segment_of}
 use Rattle.plane.specs.FreeSegment.{IsBetween}
 use Rattle.plane.specs.Order.{order}
 use Rattle.plane.specs.RayCrossing.{is_off, off_by}
@@ -69,7 +69,7 @@ inner-off e f q hq r b m true h = refl
 inner-off e f q hq r b m false h = absurd (not-end (scaled_edge q e) r b (m q hq r (inner-on (scaled_edge q e) r b) h).0)
 
 -- ---- two segments
-module _ (s t : Edge) (rs : IsRising s) (rt : IsRising t) (clear : IsClearOf s t) (p : Vector) (ps : is_off p s ≡ false) (pt : is_off p t ≡ false) where
+module _ (s t : Edge) (rs : IsRisingEdge s) (rt : IsRisingEdge t) (clear : IsClearOf s t) (p : Vector) (ps : is_off p s ≡ false) (pt : is_off p t ≡ false) where
   no-end : (b c : Bool) → same_point p t.from ≡ b → same_point p t.to ≡ c → (same_point p s.from ≡ true) ⊎ (same_point p s.to ≡ true) → (b || c) ≡ true
   no-end true c x y h = refl
   no-end false true x y h = refl

@@ -5,7 +5,7 @@ use lib.IntN.{pos, ℤ, ◌-ℤ◌}
 use Rattle.lists.specs.Member.{EachPair, In}
 use Rattle.nesting.specs.Cover.{covers}
 use Rattle.nesting.specs.Nesting.{edges_of}
-use Rattle.nesting.specs.Polygon.{ArePolygons, IsPolygon, Polygon, polygon_edges}
+use Rattle.nesting.specs.Polygon.{ArePolygonsOfRings, IsPolygon, Polygon, polygon_edges}
 use Rattle.nesting.specs.RingList.{AreUncrossed, IsRingList}
 use Rattle.nesting.specs.Walk.{HasSameEdges}
 use Rattle.one_ring_list.specs.RingListOf.{IsRingListOf}
@@ -104,7 +104,7 @@ module _ (rs : List (List Edge)) (u : IsRingList rs) (g : Polygon) (is : IsPolyg
 pub boundary_alone : (rs : List (List Edge)) × (g : Polygon) × IsRingList rs × IsPolygon rs g × HasValidBoundary g × HasInterior g × (HasConnectedInterior g → ⊥)
 boundary_alone = (crescents_outlined, polygon, outlined_ring_list, is-polygon, valid-boundary crescents_outlined outlined_ring_list polygon is-polygon outlined_ring_list, (pos 4, there, refl, there-inside), λ c. apart-crescents (c (pos 4) refl there here there-inside here-inside))
 
-module _ (es : List Edge) (sd : IsSided es) (rs : List (List Edge)) (l : IsRingListOf es rs) (gs : List Polygon) (a : ArePolygons rs gs) where
+module _ (es : List Edge) (sd : IsSided es) (rs : List (List Edge)) (l : IsRingListOf es rs) (gs : List Polygon) (a : ArePolygonsOfRings rs gs) where
   u : IsRingList rs
   u = rings-uncrossed es sd rs l
 

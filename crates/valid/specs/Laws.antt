@@ -1,7 +1,7 @@
 -- The polygons of the one ring list of a sided list are valid, and rings of a valid polygon share one point at most, as statements.
 use Rattle.std.specs.Prelude.{List, false, ◌≡◌}
 use lib.IntN.{ℤ}
-use Rattle.nesting.specs.Polygon.{ArePolygons, IsPolygon, Polygon}
+use Rattle.nesting.specs.Polygon.{ArePolygonsOfRings, IsPolygon, Polygon}
 use Rattle.one_ring_list.specs.RingListOf.{IsRingListOf}
 use Rattle.plane.specs.Edge.{Edge}
 use Rattle.valid.specs.Valid.{HasConnectedInterior, HasInterior, HasValidBoundary, IsValidMultiPolygon, IsValidPolygon, boundary_rings}
@@ -16,7 +16,7 @@ use Rattle.plane.specs.Sign.{Plus, sign}
 abbrev pub PolygonsAreValid : Type 0
 PolygonsAreValid =
     (es : List Edge) → IsSided es → (rs : List (List Edge)) → IsRingListOf es rs → (gs : List Polygon) →
-    ArePolygons rs gs → IsValidMultiPolygon gs
+    ArePolygonsOfRings rs gs → IsValidMultiPolygon gs
 
 -- that the interior is connected doesn't follow from the rest. Two crescents that share both tips are an outline with a hole that touches it
 -- twice, and all else holds of that polygon. Its rings are a ring list, but they pass from walk to walk

@@ -14,7 +14,7 @@ use Rattle.osm_cli.specs.Whole.{IsWhole}
 use Rattle.osm_input.specs.declared.reading.ReadError.{ReadError}
 use Rattle.osm_job.specs.Cause.{Cause, by_input, by_itself, by_memory, by_open, by_read, by_verdict, by_words, by_write, cause_of}
 use Rattle.osm_job.specs.Texts.{Texts, told_texts}
-use Rattle.osm_job.specs.Whole.{IsAfter, IsReadThen, Whole}
+use Rattle.osm_job.specs.Whole.{IsReadThen, IsRightAfterReading, Whole}
 use Rattle.osm_job.specs.Written.{IsWrittenBy, WroteAll, WrotePrefix}
 use Rattle.osm_job.specs.declared.ended.Ended.{Ended}
 use Rattle.osm_job.proofs.Writes.{output_of-append, output_of_output, piece_out}
@@ -110,7 +110,7 @@ module _ (valid : AreasAreValid) (settings : ExportSettings) (objects : List Obj
 pub exported-valid : AreasAreValid → ExportedFeaturesAreValid
 exported-valid valid settings objects whole is = has-valid valid settings objects whole is
 
-after-valid : AreasAreValid → (settings : ExportSettings) → (read : Result (List Object) ReadError) (whole : Whole) → IsAfter (IsExport settings) read whole → IsAfter (HasValidFeatures settings) read whole
+after-valid : AreasAreValid → (settings : ExportSettings) → (read : Result (List Object) ReadError) (whole : Whole) → IsRightAfterReading (IsExport settings) read whole → IsRightAfterReading (HasValidFeatures settings) read whole
 after-valid valid settings (Ok objects) whole is = has-valid valid settings objects whole is
 after-valid valid settings (Err error) whole is = is
 

@@ -5,7 +5,7 @@ use Rattle.std.specs.Str.Parse.{digits_value, digits_value_after}
 use Rattle.std.proofs.lemmas.Bool.{eqb-true, eqb-false}
 use Rattle.std.proofs.lemmas.Fmt.{decimal_digit, decimal_is_IsNumeral, first_decimal}
 use Rattle.std.proofs.lemmas.Nat.{pow-add}
-use Rattle.osm_notation.specs.Decimal.{last_digits, without_end_zeros, fraction, magnitude_text, units_text}
+use Rattle.osm_notation.specs.Decimal.{last_digits, without_end_zeros, fraction_text, magnitude_text, units_text}
 use Rattle.valid_areas.specs.Numeral.{AreOnes, HasNoLeadingZero, SpellsMagnitude, SpellsUnits, whole, with_decimals, plain, minus}
 use Rattle.osm_notation.proofs.DecimalValues.{digits-last, digits-without, length-last, length-without, value-append, value-rest}
 
@@ -53,7 +53,7 @@ magnitude-by n small false some =
     ∙ ap (λ (v : ℕ). v * 10 ^ 7) (sym (value-append 0 ones decimals)))
 
 pub magnitude_spelled : (n : ℕ) → n < 2 ^ 64 → SpellsMagnitude (magnitude_text n) n
-unfolding magnitude_text fraction
+unfolding magnitude_text fraction_text
 magnitude_spelled n small = magnitude-by n small (n % 10 ^ 7 == 0) refl
 
 pub units_spelled : (z : ℤ) → unsigned_abs z < 2 ^ 64 → SpellsUnits (units_text z) z

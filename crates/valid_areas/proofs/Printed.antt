@@ -23,7 +23,7 @@ use Rattle.plane.specs.Vector.{Vector}
 use Rattle.plane_edges.specs.Multiple.{edge_times, edges_times, point_times}
 use Rattle.valid.specs.Valid.{IsLinearRing}
 use Rattle.winding.specs.Ring.{IsPath}
-use Rattle.valid_areas.specs.Spelled.{Notation, SpellsList, SpellsMultiPolygon, SpellsPolygon, SpellsPosition, SpellsRing, SpellsRow, closing, edges_along, geo_json, opening, well_known}
+use Rattle.valid_areas.specs.Spelled.{Notation, SpellsList, SpellsMultiPolygon, SpellsPolygon, SpellsPosition, SpellsRing, SpellsRow, closing_bracket, edges_along, geo_json, opening, well_known}
 use Rattle.valid_areas.specs.ValidArea.{IsValidArea}
 use Rattle.valid_areas.proofs.Numerals.{units_spelled}
 
@@ -75,7 +75,7 @@ position-spelled well_known p = (_, _, refl, units_spelled p.x (x_small p), unit
 
 module _ (n : Notation) where
   abbrev pub list_text : List (List ℕ) → List ℕ
-  list_text texts = opening n ++ join_with_byte 44 texts ++ closing n
+  list_text texts = opening n ++ join_with_byte 44 texts ++ closing_bracket n
 
   abbrev pub ring_text : List Loc → List ℕ
   ring_text ring = list_text (map (position_text n) (ring ++ take 1 ring))

@@ -68,12 +68,12 @@ framed_features settings earlier [] = []
 framed_features settings earlier (feature ∷ features) = framed settings earlier feature ++ framed_features settings (earlier + 1) features
 
 -- All candidates have entries, and the footer stands behind the features; or the run stopped at a candidate, and nothing does.
-pub data IsEndOf (settings : ExportSettings) (objects : List Object) (entries : List Entry) (ended : Ended) (end : List ℕ) : Type 0 where
+pub data IsEndOfOutput (settings : ExportSettings) (objects : List Object) (entries : List Entry) (ended : Ended) (end : List ℕ) : Type 0 where
   finished : ended ≡ Done → map (λ entry. entry.candidate) entries ≡ candidates (choice_of settings) objects →
-      end ≡ footer settings.format → IsEndOf settings objects entries ended end
+      end ≡ footer settings.format → IsEndOfOutput settings objects entries ended end
   stopped : (candidate : ObjectRef) → ended ≡ Stopped candidate → settings.stop_on_error ≡ true →
       IsPrefix (map (λ entry. entry.candidate) entries) (candidates (choice_of settings) objects) →
-      end ≡ [] → IsEndOf settings objects entries ended end
+      end ≡ [] → IsEndOfOutput settings objects entries ended end
 
 -- The output is the header, then a feature for each entry with an area, in order, and none else, then its end. Each feature spells the polygons of
 -- its entry, a valid MultiPolygon.
@@ -83,5 +83,5 @@ pub record HasValidFeatures (settings : ExportSettings) (objects : List Object) 
   pub features : List (List ℕ)
   pub each : AllZip (IsFeatureOf settings.format) (filter has_area entries) features
   pub end : List ℕ
-  pub ends : IsEndOf settings objects entries whole.ended end
+  pub ends : IsEndOfOutput settings objects entries whole.ended end
   pub output : output_of whole.written ≡ header settings.format ++ framed_features settings 0 features ++ end

@@ -17,9 +17,9 @@ abbrev pub opening : Notation → List ℕ
 opening geo_json = codes "["
 opening well_known = codes "("
 
-abbrev pub closing : Notation → List ℕ
-closing geo_json = codes "]"
-closing well_known = codes ")"
+abbrev pub closing_bracket : Notation → List ℕ
+closing_bracket geo_json = codes "]"
+closing_bracket well_known = codes ")"
 
 -- at least one item, and a comma between each two
 abbrev pub SpellsRow : {A : Type 0} → (List ℕ → A → Type 0) → List ℕ → List A → Type 0
@@ -30,7 +30,7 @@ SpellsRow Spells text (item ∷ next ∷ items) =
 
 -- such a row in brackets
 abbrev pub SpellsList : {A : Type 0} → Notation → (List ℕ → A → Type 0) → List ℕ → List A → Type 0
-SpellsList notation Spells text items = (row : List ℕ) × (text ≡ opening notation ++ row ++ closing notation) × SpellsRow Spells row items
+SpellsList notation Spells text items = (row : List ℕ) × (text ≡ opening notation ++ row ++ closing_bracket notation) × SpellsRow Spells row items
 
 -- ---- positions, rings, polygons
 

@@ -4,7 +4,7 @@ use Rattle.std.proofs.Common.{List, [], ap, arith, inl, inr, length, map, refl, 
 use Rattle.lists.specs.Member.{EachPair, In}
 use Rattle.lists.specs.Rotated.{IsRotated}
 use Rattle.nesting.specs.Nesting.{edges_of}
-use Rattle.nesting.specs.Polygon.{ArePolygons, IsPolygon, Polygon, polygon_edges}
+use Rattle.nesting.specs.Polygon.{ArePolygonsOfRings, IsPolygon, Polygon, polygon_edges}
 use Rattle.nesting.specs.RingList.{IsRingList}
 use Rattle.nesting.specs.Rotated.{AreRotated}
 use Rattle.nesting.specs.Walk.{HasSameEdges}
@@ -79,7 +79,7 @@ less-than : (n : ℕ) → 3 ≤ n → 0 < n
 less-than n h = omega arith
 
 -- ---- the ring list and the polygons
-module _ (es : List Edge) (sd : IsSided es) (rs : List (List Edge)) (l : IsRingListOf es rs) (gs : List Polygon) (a : ArePolygons rs gs) (hs : List Polygon) (begun : AreBegun gs hs) where
+module _ (es : List Edge) (sd : IsSided es) (rs : List (List Edge)) (l : IsRingListOf es rs) (gs : List Polygon) (a : ArePolygonsOfRings rs gs) (hs : List Polygon) (begun : AreBegun gs hs) where
   abbrev pub begun_rings : List (List Edge)
   begun_rings = rings_of hs
 
@@ -146,5 +146,5 @@ module _ (es : List Edge) (sd : IsSided es) (rs : List (List Edge)) (l : IsRingL
           (apart-lists h.inner (pairs-right (λ (x y : Edge). x ≡ y → ⊥) h.outer (edges_of h.inner) once-edges));
     }
 
-  pub begun_polygons : ArePolygons begun_rings hs
+  pub begun_polygons : ArePolygonsOfRings begun_rings hs
   begun_polygons = record { each = is-polygon; whole = λ f. sym (own-same f) }

@@ -3,7 +3,7 @@ use Rattle.std.proofs.Common.{List, [], ap, map, subst, sym, ℕ, ◌∙◌, ◌
 use Rattle.std.proofs.lemmas.List.{map-append}
 use Rattle.lists.specs.Rotated.{IsRotated}
 use Rattle.nesting.specs.Polygon as nesting
-use Rattle.nesting.specs.Polygon.{ArePolygons}
+use Rattle.nesting.specs.Polygon.{ArePolygonsOfRings}
 use Rattle.nesting.specs.Rotated.{AreRotated}
 use Rattle.one_ring_list.specs.RingListOf.{IsRingListOf}
 use Rattle.osm_geom.specs.declared.edge.Edge.{Edge}
@@ -16,7 +16,7 @@ use Rattle.osm_nest.proofs.NestedCover.{whole}
 use Rattle.osm_nest.proofs.NestedRings.{may-be-nested, same-common}
 use Rattle.osm_rings.specs.RingList.{AreRingsOf}
 use Rattle.osm_rings.proofs.UncrossedRings.{plane-list, rings-do-not-cross}
-use Rattle.plane_edges.specs.Multiple.{common_den, edge_times, edges_times, whole_edges}
+use Rattle.plane_edges.specs.Multiple.{edge_times, edges_times, product_of_denominators, whole_edges}
 use Rattle.plane_edges.specs.Sided.{IsSided}
 use Rattle.valid.specs.Valid.{IsValidMultiPolygon}
 use Rattle.valid.proofs.ValidKit.{valid_polygons}
@@ -45,7 +45,7 @@ module _ (k : ℕ) where
 
 module _ (es : List Edge) (sd : IsSided es) (rs : List (List Edge)) (a : AreRingsOf es rs) (nested : List Polygon) (n : AreNested rs nested) where
   abbrev k : ℕ
-  k = common_den (all_edges rs)
+  k = product_of_denominators (all_edges rs)
 
   are : AreRings rs
   are = may-be-nested rings-do-not-cross es rs sd a
@@ -59,7 +59,7 @@ module _ (es : List Edge) (sd : IsSided es) (rs : List (List Edge)) (a : AreRing
   abbrev planes : List nesting.Polygon
   planes = map (polygon_times k) nested
 
-  are-polygons : ArePolygons (whole_rings rs) was
+  are-polygons : ArePolygonsOfRings (whole_rings rs) was
   are-polygons = polygons rs are n.polygons nested n.of_rings n.begun (whole rs are nested n)
 
   begun : AreBegun was planes
@@ -71,7 +71,7 @@ module _ (es : List Edge) (sd : IsSided es) (rs : List (List Edge)) (a : AreRing
       (begun_list (whole_edges es) sd (whole_rings rs) lists was are-polygons planes begun) planes
       (begun_polygons (whole_edges es) sd (whole_rings rs) lists was are-polygons planes begun)
 
-  pub nested_valid : IsValidMultiPolygon (map (polygon_times (common_den es)) nested)
+  pub nested_valid : IsValidMultiPolygon (map (polygon_times (product_of_denominators es)) nested)
   nested_valid = subst (λ m. IsValidMultiPolygon (map (polygon_times m) nested)) (sym (same-common es rs a)) plane-valid
 
   pub are_valid : AreValid nested

@@ -14,12 +14,12 @@ use Rattle.osm_nest.proofs.BegunPolygons.{in-rings, was}
 use Rattle.osm_nest.proofs.NestedRings.{ring-edge}
 use Rattle.osm_rings.specs.RingList.{AreRingsOf}
 use Rattle.osm_rings.proofs.Whole.{from-lattice, to-lattice}
-use Rattle.plane_edges.specs.Multiple.{common_den}
+use Rattle.plane_edges.specs.Multiple.{product_of_denominators}
 use Rattle.plane_edges.proofs.EdgesKit.{common-lattice}
 use Rattle.valid_polygons.proofs.Flattened.{out-flat}
 
 -- the common denominator is 1
-pub common-whole : (es : List Edge) → All IsWholeSegment es → common_den es ≡ 1
+pub common-whole : (es : List Edge) → All IsWholeSegment es → product_of_denominators es ≡ 1
 common-whole es whole =
     common-lattice es (λ e i. let w = in-all IsWholeSegment es e whole i in (ap den_of (from-lattice e w).1, ap den_of (to-lattice e w).1))
 

@@ -5,7 +5,7 @@ use Rattle.osm_nest.specs.declared.polygon.Polygon.{Polygon}
 use Rattle.osm_nest.specs.Nested.{AreNested}
 use Rattle.osm_nest.specs.Polygons.{polygon_times}
 use Rattle.osm_rings.specs.RingList.{AreRingsOf}
-use Rattle.plane_edges.specs.Multiple.{common_den}
+use Rattle.plane_edges.specs.Multiple.{product_of_denominators}
 use Rattle.plane_edges.specs.Sided.{IsSided}
 use Rattle.valid.specs.Valid.{IsValidMultiPolygon}
 use Rattle.valid_polygons.specs.AreValid.{AreValid}
@@ -14,7 +14,7 @@ use Rattle.valid_polygons.specs.AreValid.{AreValid}
 abbrev pub NestedPolygonsAreValid : Type 0
 NestedPolygonsAreValid =
     (es : List Edge) → IsSided es → (rs : List (List Edge)) → AreRingsOf es rs → (nested : List Polygon) →
-    AreNested rs nested → IsValidMultiPolygon (map (polygon_times (common_den es)) nested)
+    AreNested rs nested → IsValidMultiPolygon (map (polygon_times (product_of_denominators es)) nested)
 
 -- that number makes all points of the polygons whole
 abbrev pub NestedAreValid : Type 0

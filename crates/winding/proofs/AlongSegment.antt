@@ -6,7 +6,7 @@ use Rattle.plane.specs.Edge.{Edge, ends_at}
 use Rattle.plane.specs.FreeSegment.{IsBetween, Misses}
 use Rattle.plane.specs.RayCrossing.{IsOffEdge, down_by, up_by}
 use Rattle.plane.specs.Sign.{Sign}
-use Rattle.plane.specs.Vector.{IsDirection, Vector, from_to, same_point}
+use Rattle.plane.specs.Vector.{IsNonZero, Vector, from_to, same_point}
 use Rattle.winding.specs.EdgeList.{IsBalanced, IsEvenAtPoints, crossing_count, winding_number}
 use Rattle.winding.specs.Node.{away, spokes_in}
 use Rattle.plane.proofs.PlaneKit.{Sound, crossings-by, crossings_0, crossings_seen, down_compute, down_sound, misses_reversed, none_here, off_when_missed, past_edge, up_compute, up_sound, down_seen, up_seen, View, mid, mid_reversed, view_at, view_mid}
@@ -29,7 +29,7 @@ pub off_all : (s t : Vector) (r : Vector → Vector) → View s t r → (es : Li
 off_all s t r i es missed = All-weaker (Misses s t) (IsOffSeen r) (λ e m. off_when_missed s t r i e.from e.to m) es missed
 
 -- two points inside a segment that no edge meets: the rays from them cross the edges equally often modulo 2
-pub parity_along_segment : (d s t p q : Vector) (es : List Edge) → IsDirection d → IsEvenAtPoints es → All (Misses s t) es → IsBetween s t p → IsBetween s t q →
+pub parity_along_segment : (d s t p q : Vector) (es : List Edge) → IsNonZero d → IsEvenAtPoints es → All (Misses s t) es → IsBetween s t p → IsBetween s t q →
     crossing_count d p es % 2 ≡ crossing_count d q es % 2
 parity_along_segment d s t p q es hd even missed i j =
     let st = from_to s t in let v = view_at s t p i in let w = view_at s t q j in
@@ -41,7 +41,7 @@ parity_along_segment d s t p q es hd even missed i j =
     omega arith
 
 -- with directions: the winding numbers are the same
-pub winding_along_segment : (d s t p q : Vector) (es : List Edge) → IsDirection d → IsBalanced es → All (Misses s t) es → IsBetween s t p → IsBetween s t q →
+pub winding_along_segment : (d s t p q : Vector) (es : List Edge) → IsNonZero d → IsBalanced es → All (Misses s t) es → IsBetween s t p → IsBetween s t q →
     winding_number d p es ≡ winding_number d q es
 winding_along_segment d s t p q es hd balanced missed i j =
     let st = from_to s t in let v = view_at s t p i in let w = view_at s t q j in
@@ -77,7 +77,7 @@ along_from s t r i es missed off =
     let f = count-is st r es in let h = count-is st (from_to s) (away s es) in omega arith
 
 -- and so the parity at a point inside, by a ray in any direction
-pub parity_from_end : (d s t p : Vector) (es : List Edge) → IsDirection d → IsBetween s t p → IsEvenAtPoints es → All (Misses s t) es → All (IsOffEdge s) (away s es) →
+pub parity_from_end : (d s t p : Vector) (es : List Edge) → IsNonZero d → IsBetween s t p → IsEvenAtPoints es → All (Misses s t) es → All (IsOffEdge s) (away s es) →
     crossing_count d p es % 2 ≡ crossing_count (from_to s t) s (away s es) % 2
 parity_from_end d s t p es hd i even missed off =
     let v = view_at s t p i in
@@ -85,7 +85,7 @@ parity_from_end d s t p es hd i even missed off =
     a ∙ ap (λ (n : ℕ). n % 2) (along_from s t (from_to p) v es missed off)
 
 -- two free segments from v: the parities inside them differ by the number of edges at v in the sector from one to the other
-pub parity_between_segments : (d v s t p q : Vector) (es : List Edge) → IsDirection d → IsBetween v s p → IsBetween v t q → IsEvenAtPoints es →
+pub parity_between_segments : (d v s t p q : Vector) (es : List Edge) → IsNonZero d → IsBetween v s p → IsBetween v t q → IsEvenAtPoints es →
     All (Misses v s) es → All (Misses v t) es → All (IsOffEdge v) (away v es) →
     (crossing_count d p es + crossing_count d q es) % 2 ≡ spokes_in (from_to v s) (from_to v t) v es % 2
 parity_between_segments d v s t p q es hd i j even ms mt off =
@@ -95,7 +95,7 @@ parity_between_segments d v s t p q es hd i j even ms mt off =
     omega arith
 
 -- the parity along a free segment is the same from both its ends
-pub parity_from_both_ends : (s t : Vector) (es : List Edge) → IsDirection (from_to s t) → IsDirection (from_to t s) → IsEvenAtPoints es → All (Misses s t) es → All (IsOffEdge s) (away s es) → All (IsOffEdge t) (away t es) →
+pub parity_from_both_ends : (s t : Vector) (es : List Edge) → IsNonZero (from_to s t) → IsNonZero (from_to t s) → IsEvenAtPoints es → All (Misses s t) es → All (IsOffEdge s) (away s es) → All (IsOffEdge t) (away t es) →
     crossing_count (from_to s t) s (away s es) % 2 ≡ crossing_count (from_to t s) t (away t es) % 2
 parity_from_both_ends s t es hs ht even missed off_s off_t =
     let i = view_mid s t hs in let j = view_mid t s ht in

@@ -3,19 +3,19 @@ use Rattle.std.proofs.Common.{Bool, List, [], ap, arith, cond, eqb, eqb-true, fa
 use borrow.Author.Differences.{ints}
 use lib.IntN.{negsuc, pos, ◌+ℤ◌, ◌-ℤ◌}
 use Rattle.plane.specs.Bit.{bit}
-use Rattle.plane.specs.Edge.{Edge, IsRising, ends_at, other_end, same_edge, segment_of}
+use Rattle.plane.specs.Edge.{Edge, IsRisingEdge, ends_at, other_end, same_edge, segment_of}
 use Rattle.plane.specs.FreeSegment.{Misses}
 use Rattle.plane.specs.Height.{is_in_span}
 use Rattle.plane.specs.Order.{order}
 use Rattle.plane.specs.RayCrossing.{down_by, up_by}
 use Rattle.plane.specs.Sector.{in_sector, sector_by}
 use Rattle.plane.specs.Sign.{Minus, Null, Plus, Sign, is_minus, is_plus, negated, sign, then_sign}
-use Rattle.plane.specs.Vector.{IsDirection, Vector, cross, dot, east, from_to, orient, same_point}
+use Rattle.plane.specs.Vector.{IsNonZero, Vector, cross, dot, east, from_to, orient, same_point}
 use Rattle.winding.specs.ConflictFree.{IsConflictFree, others}
 use Rattle.winding.specs.EdgeList.{IsEvenAtPoints, crossing_count, winding_number}
 use Rattle.lists.specs.Member.{In}
 use Rattle.winding.specs.Node.{away, spokes, spokes_in}
-use Rattle.winding.specs.OddSide.{runs_up}
+use Rattle.winding.specs.OddSide.{runs_up_by_odd_side}
 use Rattle.winding.specs.Parity.{is_even}
 use Rattle.winding.specs.Ring.{IsAnchor, IsRing, segments_of}
 use Rattle.std.proofs.lemmas.Bool.{false_from_ne_true}
@@ -33,7 +33,7 @@ use Rattle.winding.proofs.RoundNode.{parity_round_node}
 abbrev pub west : Vector
 west = record { x = negsuc 0; y = pos 0 }
 
-pub west-direction : IsDirection west
+pub west-direction : IsNonZero west
 west-direction = refl
 
 pub cross-west : (w : Vector) → sign (cross west w) ≡ negated (sign w.y)
@@ -63,7 +63,7 @@ first-not-minus Plus t h = refl
 plus-not-minus : (s : Sign) → s ≡ Plus → s ≡ Minus → ⊥
 plus-not-minus s h k = cc (sym h ∙ k)
 
-pub west-misses : (a : Vector) (t : Edge) → IsRising t → (order a t.from ≡ Minus → ⊥) → crossings_at west (from_to a) t ≡ 0
+pub west-misses : (a : Vector) (t : Edge) → IsRisingEdge t → (order a t.from ≡ Minus → ⊥) → crossings_at west (from_to a) t ≡ 0
 west-misses a t r h =
     let u = t.from in let v = t.to in let c = sign (cross (from_to a u) (from_to a v)) in
     let g = all4-out west_1 refl (sign (u.y -ℤ a.y)) (sign (v.y -ℤ a.y)) c (sign (v.y -ℤ u.y)) in
@@ -74,7 +74,7 @@ beyond-none-by : (n : ℕ) (b : Bool) → n ≡ 0 → cond (not b) n 0 ≡ 0
 beyond-none-by n true h = refl
 beyond-none-by n false h = h
 
-pub west-none : (a : Vector) (es : List Edge) → ((t : Edge) → In t es → IsRising t) → ((t : Edge) → In t es → order a t.from ≡ Minus → ⊥) → crossing_count west a (away a es) ≡ 0
+pub west-none : (a : Vector) (es : List Edge) → ((t : Edge) → In t es → IsRisingEdge t) → ((t : Edge) → In t es → order a t.from ≡ Minus → ⊥) → crossing_count west a (away a es) ≡ 0
 west-none a es r h =
     crossings-away west a es ∙ total-same (beyond west a) (λ t. 0) es (λ t i. beyond-none-by (crossings_at west (from_to a) t) (ends_at a t) (west-misses a t (r t i) (h t i))) ∙ none-sum es
 
@@ -90,7 +90,7 @@ west-sector d w hd hw n =
     sector-west d w ∙ eqb-true _ _ (imp-out _ _ (imp-out _ _ (imp-out _ _ (imp-out _ _ c (cross-agree d w)) n) (ap is_plus hw)) (ap is_plus hd))
 
 -- an edge at a point below all edges begins there
-pub begins-by : (a : Vector) (t : Edge) (b c : Bool) → same_point a t.from ≡ b → same_point a t.to ≡ c → (b || c) ≡ true → IsRising t → (order a t.from ≡ Minus → ⊥) → b ≡ true
+pub begins-by : (a : Vector) (t : Edge) (b c : Bool) → same_point a t.from ≡ b → same_point a t.to ≡ c → (b || c) ≡ true → IsRisingEdge t → (order a t.from ≡ Minus → ⊥) → b ≡ true
 begins-by a t true c h k o r l = refl
 begins-by a t false true h k o r l = absurd (l (order-reversed t.from a ∙ ap negated (subst (λ w. order t.from w ≡ Plus) (sym (same_point-true a t.to k)) r)))
 begins-by a t false false h k o r l = o
@@ -100,7 +100,7 @@ share-one-by n true h = h refl
 share-one-by n false h = refl
 
 -- all edges at a are right of the direction d, or along it: they are in the sector from west round to d
-pub all-right : (a : Vector) (d : Vector) (es : List Edge) → then_sign (sign d.y) (sign d.x) ≡ Plus → ((t : Edge) → In t es → IsRising t) → ((t : Edge) → In t es → order a t.from ≡ Minus → ⊥) →
+pub all-right : (a : Vector) (d : Vector) (es : List Edge) → then_sign (sign d.y) (sign d.x) ≡ Plus → ((t : Edge) → In t es → IsRisingEdge t) → ((t : Edge) → In t es → order a t.from ≡ Minus → ⊥) →
     ((t : Edge) → In t es → a ≡ t.from → not (is_plus (sign (cross d (from_to a t.to)))) ≡ true) → spokes_in west d a es ≡ length (spokes a es)
 all-right a d es hd r l n =
     spokes-is west d a es
@@ -122,7 +122,7 @@ pub anchor_right : (s t : Edge) (es : List Edge) → IsAnchor s es → In t es �
 anchor_right s t es a i q = anchor-right-by s t es a i q (same_edge s t) refl
 
 -- the odd side directs the anchor down
-pub anchor_runs : (s : Edge) (es : List Edge) → IsConflictFree es → IsEvenAtPoints es → IsAnchor s es → runs_up es s ≡ false
+pub anchor_runs : (s : Edge) (es : List Edge) → IsConflictFree es → IsEvenAtPoints es → IsAnchor s es → runs_up_by_odd_side es s ≡ false
 anchor_runs s es p even a =
     let v = s.from in let d = from_to s.from s.to in let rs = rising_in es s p a.member in
     let b = parity_round_node west d v es west-direction (rising-direction s.from s.to rs) even (off_away v s es p a.member (ends_at-from s)) in
@@ -202,7 +202,7 @@ ok-of-plus o k h = ap (λ o. ok_by o k) h
 ok-of-null : (o k : Sign) → o ≡ Null → not (is_plus k) ≡ true → ok_by o k ≡ true
 ok-of-null o k h g = ap (λ o. ok_by o k) h ∙ g
 
-ok-chain-by : (s t u : Edge) → IsRising s → IsRising t → IsRising u → (o o' : Sign) → order s.from t.from ≡ o → order t.from u.from ≡ o' → ok_by o (orient s.from s.to t.to) ≡ true → ok_by o' (orient t.from t.to u.to) ≡ true → ok s u ≡ true
+ok-chain-by : (s t u : Edge) → IsRisingEdge s → IsRisingEdge t → IsRisingEdge u → (o o' : Sign) → order s.from t.from ≡ o → order t.from u.from ≡ o' → ok_by o (orient s.from s.to t.to) ≡ true → ok_by o' (orient t.from t.to u.to) ≡ true → ok s u ≡ true
 ok-chain-by s t u rs rt ru Plus Plus h g a b = ok-of-plus (order s.from u.from) (orient s.from s.to u.to) (plus-plus (order s.from u.from) (let k = order-sum s.from t.from u.from in rw (h, g) at k))
 ok-chain-by s t u rs rt ru Plus Null h g a b = ok-of-plus (order s.from u.from) (orient s.from s.to u.to) (plus-null (order s.from u.from) (let k = order-sum s.from t.from u.from in rw (h, g) at k))
 ok-chain-by s t u rs rt ru Null Plus h g a b = ok-of-plus (order s.from u.from) (orient s.from s.to u.to) (null-plus (order s.from u.from) (let k = order-sum s.from t.from u.from in rw (h, g) at k))
@@ -216,7 +216,7 @@ ok-chain-by s t u rs rt ru Minus o' h g a b = absurd (cc a)
 ok-chain-by s t u rs rt ru Plus Minus h g a b = absurd (cc b)
 ok-chain-by s t u rs rt ru Null Minus h g a b = absurd (cc b)
 
-pub ok_chain : (s t u : Edge) → IsRising s → IsRising t → IsRising u → ok s t ≡ true → ok t u ≡ true → ok s u ≡ true
+pub ok_chain : (s t u : Edge) → IsRisingEdge s → IsRisingEdge t → IsRisingEdge u → ok s t ≡ true → ok t u ≡ true → ok s u ≡ true
 ok_chain s t u rs rt ru a b = ok-chain-by s t u rs rt ru (order s.from t.from) (order t.from u.from) refl refl a b
 
 not-plus-negated : (k : Sign) → not (is_plus k) ≡ false → not (is_plus (negated k)) ≡ true
@@ -239,7 +239,7 @@ record Best (s : Edge) (es : List Edge) : Type 0 where
   here : In s es
   best : (t : Edge) → In t es → ok s t ≡ true
 
-better-head : (x : Edge) (es : List Edge) (s : Edge) → ((t : Edge) → In t (x ∷ es) → IsRising t) → Best s es → ok x s ≡ true → (t : Edge) → In t (x ∷ es) → ok x t ≡ true
+better-head : (x : Edge) (es : List Edge) (s : Edge) → ((t : Edge) → In t (x ∷ es) → IsRisingEdge t) → Best s es → ok x s ≡ true → (t : Edge) → In t (x ∷ es) → ok x t ≡ true
 better-head x es s r b h t (inl e) = subst (λ w. ok x w ≡ true) (sym e) (ok-self x)
 better-head x es s r b h t (inr i) = ok_chain x s t (r x (inl refl)) (r s (inr b.here)) (r t (inr i)) h (b.best t i)
 
@@ -325,11 +325,11 @@ abbrev pub leftmost_of : Edge → List Edge → Edge
 leftmost_of x [] = x
 leftmost_of x (y ∷ ys) = cond (ok x (leftmost_of y ys)) x (leftmost_of y ys)
 
-best-step : (x : Edge) (es : List Edge) (s : Edge) → ((t : Edge) → In t (x ∷ es) → IsRising t) → Best s es → (b : Bool) → ok x s ≡ b → Best (cond b x s) (x ∷ es)
+best-step : (x : Edge) (es : List Edge) (s : Edge) → ((t : Edge) → In t (x ∷ es) → IsRisingEdge t) → Best s es → (b : Bool) → ok x s ≡ b → Best (cond b x s) (x ∷ es)
 best-step x es s r b true h = record { here = inl refl; best = better-head x es s r b h }
 best-step x es s r b false h = record { here = inr b.here; best = keep-tail x es s b (ok-either-by x s (order x.from s.from) refl h) }
 
-leftmost-best : (x : Edge) (es : List Edge) → ((t : Edge) → In t (x ∷ es) → IsRising t) → Best (leftmost_of x es) (x ∷ es)
+leftmost-best : (x : Edge) (es : List Edge) → ((t : Edge) → In t (x ∷ es) → IsRisingEdge t) → Best (leftmost_of x es) (x ∷ es)
 leftmost-best x [] r = record { here = inl refl; best = one-best x }
 leftmost-best x (y ∷ ys) r = best-step x (y ∷ ys) (leftmost_of y ys) r (leftmost-best y ys (λ t i. r t (inr i))) (ok x (leftmost_of y ys)) refl
 

@@ -3,17 +3,17 @@ use Rattle.std.proofs.Common.{Bool, List, [], ap, arith, cond, eqb, eqb-true, fa
 use lib.IntN.{pos, ◌*ℤ◌, ◌+ℤ◌}
 use Rattle.plane.specs.Bit.{bit}
 use Rattle.plane.specs.Conflict.{IsClearOf}
-use Rattle.plane.specs.Edge.{Edge, IsRising, ends_at, other_end, reversed}
+use Rattle.plane.specs.Edge.{Edge, IsRisingEdge, ends_at, other_end, reversed}
 use Rattle.plane.specs.FreeSegment.{Misses}
 use Rattle.plane.specs.Order.{order}
 use Rattle.plane.specs.Sector.{in_sector, sector_by}
 use Rattle.plane.specs.Sign.{Minus, Null, Plus, Sign, is_null, is_plus, negated, sign, then_sign}
-use Rattle.plane.specs.Vector.{IsDirection, Vector, cross, dot, east, from_to, one_at, same_point}
+use Rattle.plane.specs.Vector.{IsNonZero, Vector, cross, dot, east, from_to, one_at, same_point}
 use Rattle.winding.specs.ConflictFree.{IsConflictFree, others}
 use Rattle.winding.specs.EdgeList.{IsBalanced, IsEvenAtPoints, crossing_count}
 use Rattle.lists.specs.Member.{In}
 use Rattle.winding.specs.Node.{away, spokes, spokes_in}
-use Rattle.winding.specs.OddSide.{directed, directed_edge, runs_up}
+use Rattle.winding.specs.OddSide.{directed, directed_edge, runs_up_by_odd_side}
 use Rattle.winding.specs.Parity.{is_even}
 use Rattle.winding.specs.Rank.{IsOrder}
 use Rattle.lists.proofs.ListsKit.{even_or_odd, in-filter, in-passes, not-not, pairs-filter, pairs-weaker, total, total-filter, total-is, total-map, total-same}
@@ -40,13 +40,13 @@ abbrev pub crossed : Sign → Sign → Sign → Sign → Sign → Bool
 crossed ax ay bx by k = agree k (times ay bx) (times ax by)
 
 -- a turn is told by signs, seen from any direction d
-pub crossed-at : (d a b : Vector) → IsDirection d → crossed (sign (dot d a)) (sign (cross d a)) (sign (dot d b)) (sign (cross d b)) (sign (cross a b)) ≡ true
+pub crossed-at : (d a b : Vector) → IsNonZero d → crossed (sign (dot d a)) (sign (cross d a)) (sign (dot d b)) (sign (cross d b)) (sign (cross a b)) ≡ true
 crossed-at d a b p =
     let k = sign (cross a b) in let ay = sign (cross d a) in let bx = sign (dot d b) in
     subst (λ s. agree s (times ay bx) (times (sign (dot d a)) (sign (cross d b))) ≡ true) (times-plus k)
     (subst (λ s. agree (times Plus k) s (times (sign (dot d a)) (sign (cross d b))) ≡ true) (times-back bx ay) (frame-agree d a b p))
 
-pub dot-at : (d a b : Vector) → IsDirection d → agree (times (sign (dot d a)) (sign (dot d b))) (times (sign (cross d a)) (sign (cross d b))) (sign (dot a b)) ≡ true
+pub dot-at : (d a b : Vector) → IsNonZero d → agree (times (sign (dot d a)) (sign (dot d b))) (times (sign (cross d a)) (sign (cross d b))) (sign (dot a b)) ≡ true
 dot-at d a b p = subst (λ s. agree (times (sign (dot d a)) (sign (dot d b))) (times (sign (cross d a)) (sign (cross d b))) s ≡ true) (times-plus (sign (dot a b))) (frame-dot-agree d a b p)
 
 abbrev chain_4 : Sign → Sign → Sign → Sign → Sign → Sign → Sign → Sign → Sign → Bool
@@ -132,20 +132,20 @@ turns_either a b sa sb n =
 abbrev pub way : Vector → Edge → Vector
 way v t = from_to v (other_end v t)
 
-way-set-by : (v : Vector) (t : Edge) (b c : Bool) → same_point v t.from ≡ b → same_point v t.to ≡ c → (b || c) ≡ true → IsRising t → not (is_null (order v (cond b t.to t.from))) ≡ true
+way-set-by : (v : Vector) (t : Edge) (b c : Bool) → same_point v t.from ≡ b → same_point v t.to ≡ c → (b || c) ≡ true → IsRisingEdge t → not (is_null (order v (cond b t.to t.from))) ≡ true
 way-set-by v t true c h k o r = ap (λ s. not (is_null s)) (subst (λ w. order w t.to ≡ Plus) (sym (same_point-true v t.from h)) r)
 way-set-by v t false true h k o r = ap (λ s. not (is_null s)) (order-reversed t.from v ∙ ap negated (subst (λ w. order t.from w ≡ Plus) (sym (same_point-true v t.to k)) r))
 way-set-by v t false false h k o r = absurd (cc o)
 
-pub way-set : (v : Vector) (t : Edge) → ends_at v t ≡ true → IsRising t → is_set (way v t) ≡ true
+pub way-set : (v : Vector) (t : Edge) → ends_at v t ≡ true → IsRisingEdge t → is_set (way v t) ≡ true
 way-set v t h r = way-set-by v t (same_point v t.from) (same_point v t.to) refl refl h r
 
-way-direction-by : (v : Vector) (t : Edge) (b c : Bool) → same_point v t.from ≡ b → same_point v t.to ≡ c → (b || c) ≡ true → IsRising t → IsDirection (from_to v (cond b t.to t.from))
-way-direction-by v t true c h k o r = subst (λ w. IsDirection (from_to w t.to)) (sym (same_point-true v t.from h)) (rising-direction t.from t.to r)
-way-direction-by v t false true h k o r = subst (λ w. IsDirection (from_to w t.from)) (sym (same_point-true v t.to k)) (direction-back t.from t.to (rising-direction t.from t.to r))
+way-direction-by : (v : Vector) (t : Edge) (b c : Bool) → same_point v t.from ≡ b → same_point v t.to ≡ c → (b || c) ≡ true → IsRisingEdge t → IsNonZero (from_to v (cond b t.to t.from))
+way-direction-by v t true c h k o r = subst (λ w. IsNonZero (from_to w t.to)) (sym (same_point-true v t.from h)) (rising-direction t.from t.to r)
+way-direction-by v t false true h k o r = subst (λ w. IsNonZero (from_to w t.from)) (sym (same_point-true v t.to k)) (direction-back t.from t.to (rising-direction t.from t.to r))
 way-direction-by v t false false h k o r = absurd (cc o)
 
-pub way-direction : (v : Vector) (t : Edge) → ends_at v t ≡ true → IsRising t → IsDirection (way v t)
+pub way-direction : (v : Vector) (t : Edge) → ends_at v t ≡ true → IsRisingEdge t → IsNonZero (way v t)
 way-direction v t h r = way-direction-by v t (same_point v t.from) (same_point v t.to) refl refl h r
 
 misses-way-by : (v : Vector) (s t : Edge) (b c : Bool) → same_point v s.from ≡ b → same_point v s.to ≡ c → (b || c) ≡ true → Misses s.from s.to t → Misses v (cond b s.to s.from) t
@@ -163,7 +163,7 @@ nowhere-by Null Minus h = refl
 nowhere-by Plus m h = refl
 nowhere-by Minus m h = refl
 
-apart-by : (v p : Vector) (t : Edge) (b c : Bool) → same_point v t.from ≡ b → same_point v t.to ≡ c → (b || c) ≡ true → IsDirection (from_to v p) → Misses v p t →
+apart-by : (v p : Vector) (t : Edge) (b c : Bool) → same_point v t.from ≡ b → same_point v t.to ≡ c → (b || c) ≡ true → IsNonZero (from_to v p) → Misses v p t →
     not (is_null (sign (cross (from_to v p) (from_to v (cond b t.to t.from)))) && is_plus (sign (dot (from_to v p) (from_to v (cond b t.to t.from))))) ≡ true
 apart-by v p t true c h k o d m =
     let e = subst (λ w. Misses v p (edge_of w t.to)) (sym (same_point-true v t.from h)) m in
@@ -174,7 +174,7 @@ apart-by v p t false true h k o d m =
 apart-by v p t false false h k o d m = absurd (cc o)
 
 -- two clear edges leave a point in different directions
-pub ways_apart : (v : Vector) (s t : Edge) → ends_at v s ≡ true → ends_at v t ≡ true → IsRising s → IsRising t → IsClearOf s t →
+pub ways_apart : (v : Vector) (s t : Edge) → ends_at v s ≡ true → ends_at v t ≡ true → IsRisingEdge s → IsRisingEdge t → IsClearOf s t →
     not (is_null (sign (cross (way v s) (way v t))) && is_plus (sign (dot (way v s) (way v t)))) ≡ true
 ways_apart v s t hs ht rs rt n =
     apart-by v (other_end v s) t (same_point v t.from) (same_point v t.to) refl refl ht (way-direction v s hs rs) (misses-way v s t hs (clear_misses s t rs rt n))
@@ -230,7 +230,7 @@ cond-never : (b : Bool) → cond b false false ≡ false
 cond-never true = refl
 cond-never false = refl
 
-pub no-loop : (v : Vector) (t : Edge) → same_point v t.from ≡ true → same_point v t.to ≡ true → IsRising t → ⊥
+pub no-loop : (v : Vector) (t : Edge) → same_point v t.from ≡ true → same_point v t.to ≡ true → IsRisingEdge t → ⊥
 no-loop v t h k r =
     let e = sym (same_point-true v t.from h) ∙ same_point-true v t.to k in
     let f = subst (λ w. order t.from w ≡ Plus) (sym e) r in
@@ -241,19 +241,19 @@ leaves-by : (v : Vector) (t : Edge) (es : List Edge) → IsConflictFree es → I
     × (one_at v (directed_edge es t).to ≡ cond (b || c) (evens (crossing_count (from_to v (cond b t.to t.from)) v (away v es))) 0)
 leaves-by v t es p even i true true h k = absurd (no-loop v t h k (rising_in es t p i))
 leaves-by v t es p even i true false h k =
-    let r = runs_up es t in
+    let r = runs_up_by_odd_side es t in
     let x = subst (λ w. r ≡ not (is_even (crossing_count (from_to w t.to) w (away w es)))) (sym (same_point-true v t.from h)) (runs_from t es p even i) in (
       ap (one_at v) (from-cond r t) ∙ at-cond v r t.from t.to true false h k ∙ ap bit (cond-id r ∙ x),
       ap (one_at v) (to-cond r t) ∙ at-cond v r t.to t.from false true k h ∙ ap bit (cond-not r ∙ ap not x ∙ not-not _),
     )
 leaves-by v t es p even i false true h k =
-    let r = runs_up es t in
+    let r = runs_up_by_odd_side es t in
     let x = subst (λ w. r ≡ is_even (crossing_count (from_to w t.from) w (away w es))) (sym (same_point-true v t.to k)) (runs_to t es p even i) in (
       ap (one_at v) (from-cond r t) ∙ at-cond v r t.from t.to false true h k ∙ ap bit (cond-not r ∙ ap not x),
       ap (one_at v) (to-cond r t) ∙ at-cond v r t.to t.from true false k h ∙ ap bit (cond-id r ∙ x),
     )
 leaves-by v t es p even i false false h k =
-    let r = runs_up es t in (
+    let r = runs_up_by_odd_side es t in (
       ap (one_at v) (from-cond r t) ∙ at-cond v r t.from t.to false false h k ∙ ap bit (cond-never r),
       ap (one_at v) (to-cond r t) ∙ at-cond v r t.to t.from false false k h ∙ ap bit (cond-never r),
     )
@@ -267,7 +267,7 @@ pub length-total : {X : Type 0} (xs : List X) → total (λ x. 1) xs ≡ length 
 length-total [] = refl
 length-total (x ∷ xs) = let h = length-total xs in omega arith
 
-pub ends-by : (v : Vector) (t : Edge) → IsRising t → (b c : Bool) → same_point v t.from ≡ b → same_point v t.to ≡ c → cond {A = ℕ} b 1 0 + cond {A = ℕ} c 1 0 ≡ cond {A = ℕ} (b || c) 1 0
+pub ends-by : (v : Vector) (t : Edge) → IsRisingEdge t → (b c : Bool) → same_point v t.from ≡ b → same_point v t.to ≡ c → cond {A = ℕ} b 1 0 + cond {A = ℕ} c 1 0 ≡ cond {A = ℕ} (b || c) 1 0
 ends-by v t r true true h k = absurd (no-loop v t h k r)
 ends-by v t r true false h k = refl
 ends-by v t r false true h k = refl

@@ -2,7 +2,7 @@
 use Rattle.std.proofs.Common.{All, List, sym, ◌+◌, ◌∙◌, ◌≡◌}
 use Rattle.std.specs.List.{count_by}
 use Rattle.plane.specs.Bit.{bit}
-use Rattle.plane.specs.Edge.{Edge, IsRising}
+use Rattle.plane.specs.Edge.{Edge, IsRisingEdge}
 use Rattle.plane.specs.Height.{is_left_of}
 use Rattle.plane.specs.RayCrossing.{down_crossing, is_crossed, up_crossing}
 use Rattle.plane.specs.Sign.{sign}
@@ -18,8 +18,8 @@ count-crossed d p es =
     (λ e i. crossing-bit (sign (cross d (from_to p e.from))) (sign (cross d (from_to p e.to))) (sign (cross (from_to p e.from) (from_to p e.to))))
     ∙ total-is (λ (e : Edge). bit (is_crossed d p e)) es
 
-pub count-right : (p : Vector) (es : List Edge) → All IsRising es → crossing_count east p es ≡ count_by (is_left_of p) es
+pub count-right : (p : Vector) (es : List Edge) → All IsRisingEdge es → crossing_count east p es ≡ count_by (is_left_of p) es
 count-right p es r =
     sym (total-is (crossings_at east (from_to p)) es)
-    ∙ total-same (crossings_at east (from_to p)) (λ (t : Edge). bit (is_left_of p t)) es (λ t i. crossings-left east p t east-side (in-all IsRising es t r i))
+    ∙ total-same (crossings_at east (from_to p)) (λ (t : Edge). bit (is_left_of p t)) es (λ t i. crossings-left east p t east-side (in-all IsRisingEdge es t r i))
     ∙ total-is (λ (t : Edge). bit (is_left_of p t)) es

@@ -5,19 +5,19 @@ use borrow.Author.Differences.{ints}
 use lib.IntN.{pos, ℤ, ◌*ℤ◌, ◌+ℤ◌, ◌-ℤ◌}
 use Rattle.plane.specs.Bit.{bit}
 use Rattle.plane.specs.Conflict.{IsClearOf}
-use Rattle.plane.specs.Edge.{Edge, IsRising, ends_at, reversed, same_edge}
+use Rattle.plane.specs.Edge.{Edge, IsRisingEdge, ends_at, reversed, same_edge}
 use Rattle.plane.specs.FreeSegment.{Misses}
 use Rattle.plane.specs.Height.{distance_right, is_in_span, is_left_of, order_above, starts_left_of}
 use Rattle.plane.specs.Order.{order}
 use Rattle.plane.specs.RayCrossing.{IsOff, IsOffEdge, down_by, off_by, up_by}
 use Rattle.plane.specs.Sector.{in_sector, sector_by}
 use Rattle.plane.specs.Sign.{Minus, Null, Plus, Sign, is_minus, is_null, is_plus, negated, sign, then_sign}
-use Rattle.plane.specs.Vector.{IsDirection, Vector, cross, dot, east, from_to, orient, same_point}
+use Rattle.plane.specs.Vector.{IsNonZero, Vector, cross, dot, east, from_to, orient, same_point}
 use Rattle.winding.specs.ConflictFree.{IsConflictFree, others}
 use Rattle.winding.specs.EdgeList.{IsEvenAtPoints, crossing_count, down_count, up_count, winding_number}
 use Rattle.lists.specs.Member.{In}
 use Rattle.winding.specs.Node.{away}
-use Rattle.winding.specs.OddSide.{directed, directed_edge, runs_up}
+use Rattle.winding.specs.OddSide.{directed, directed_edge, runs_up_by_odd_side}
 use Rattle.winding.specs.Parity.{is_even}
 use Rattle.winding.specs.Rank.{IsOrder}
 use Rattle.std.proofs.lemmas.Bool.{and_from, and_parts}
@@ -115,13 +115,13 @@ module _ (p : Vector) (e : Edge) (es : List Edge) (pl : IsConflictFree es) (i : 
   abbrev pub from_e : Vector → Vector
   from_e = look p e.from e.to lo hi
 
-  pub e-direction : IsDirection (step_of e)
+  pub e-direction : IsNonZero (step_of e)
   e-direction = rising-direction e.from e.to (rising_in es e pl i)
 
   pub e-view : View e.from e.to from_e
   e-view = view_weighted e.from e.to (e.to.y -ℤ p.y) (p.y -ℤ e.from.y) hi (low-plus p e.from e.to lo hi) e-direction
 
-  pub crossings-right : (f : Edge) → IsOffSeen from_e f → IsRising f → crossings_at east from_e f ≡ to_right p e f
+  pub crossings-right : (f : Edge) → IsOffSeen from_e f → IsRisingEdge f → crossings_at east from_e f ≡ to_right p e f
   crossings-right f o r =
       let u = f.from in let v = f.to in
       let a = look-height p e.from e.to lo hi u in let b = look-height p e.from e.to lo hi v in
@@ -155,7 +155,7 @@ module _ (p : Vector) (e : Edge) (es : List Edge) (pl : IsConflictFree es) (i : 
       ∙ low-sector (sign w.x) (sign d.x) (sign (cross d w))
 
   -- how many others are right of e tells its direction
-  pub inner_runs : IsEvenAtPoints es → runs_up es e ≡ is_even (total (to_right p e) (others e es))
+  pub inner_runs : IsEvenAtPoints es → runs_up_by_odd_side es e ≡ is_even (total (to_right p e) (others e es))
   inner_runs even =
       let d = step_of e in let os = others e es in
       let off = off_all e.from e.to from_e e-view os (misses_others e es pl i) in
@@ -263,7 +263,7 @@ module _ (p : Vector) (e : Edge) (es : List Edge) (pl : IsConflictFree es) (i : 
       ∙ ap (λ b. bit (b && is_plus (then_sign o l))) (span-level f)
       ∙ ap (λ k. bit (is_in_span p f && is_plus (then_sign k l))) (sym (distance-sign f))
 
-  pub level_runs : IsEvenAtPoints es → runs_up es e ≡ is_even (total (to_right p e) (others e es))
+  pub level_runs : IsEvenAtPoints es → runs_up_by_odd_side es e ≡ is_even (total (to_right p e) (others e es))
   level_runs even =
       sloping_runs-by e es (sign (e.to.y -ℤ e.from.y)) e-tall
       ∙ ap is_even (sym (total-is (λ (t : Edge). bit (starts_left_of e t)) (others e es)))
@@ -280,12 +280,12 @@ low-by Null Null h = absurd (cc h)
 low-by Null Minus h = absurd (cc h)
 
 spanning-by : (p : Vector) (e : Edge) (es : List Edge) → IsConflictFree es → IsEvenAtPoints es → In e es → (sign (e.from.y -ℤ p.y) ≡ Minus) ⊎ (sign (e.from.y -ℤ p.y) ≡ Null) → sign (e.to.y -ℤ p.y) ≡ Plus →
-    runs_up es e ≡ is_even (total (to_right p e) (others e es))
+    runs_up_by_odd_side es e ≡ is_even (total (to_right p e) (others e es))
 spanning-by p e es pl even i (inl lo) hi = inner_runs p e es pl i lo hi even
 spanning-by p e es pl even i (inr lo) hi = level_runs p e es pl i lo hi even
 
 -- an edge that spans the height of p runs up exactly where an even number of the others that span it are right of it there
-pub spanning_runs : (p : Vector) (e : Edge) (es : List Edge) → IsConflictFree es → IsEvenAtPoints es → In e es → is_in_span p e ≡ true → runs_up es e ≡ is_even (total (to_right p e) (others e es))
+pub spanning_runs : (p : Vector) (e : Edge) (es : List Edge) → IsConflictFree es → IsEvenAtPoints es → In e es → is_in_span p e ≡ true → runs_up_by_odd_side es e ≡ is_even (total (to_right p e) (others e es))
 spanning_runs p e es pl even i s = let h = low-by (sign (e.from.y -ℤ p.y)) (sign (e.to.y -ℤ p.y)) s in spanning-by p e es pl even i h.0 h.1
 
 -- ---- two of these edges are not at one place in the order
@@ -402,14 +402,14 @@ crossing-rank p e es pl even i =
     let b = total-same (λ f. cond (is_left_of p f) (bit (right_of p e f)) 0) (to_right p e) es (λ f j. kept-by (is_left_of p f) (is_in_span p f) (right_of p e f) (left-span p f) (λ s r. right_left p e f l s r)) in
     let c = split_off (to_right p e) e es pl k in let d = own-right p e in omega arith
 
-crossing-runs : (p : Vector) (e : Edge) (es : List Edge) → IsConflictFree es → IsEvenAtPoints es → In e (crossing_by p es) → runs_up es e ≡ is_even (rank' (right_of p) (crossing_by p es) e)
+crossing-runs : (p : Vector) (e : Edge) (es : List Edge) → IsConflictFree es → IsEvenAtPoints es → In e (crossing_by p es) → runs_up_by_odd_side es e ≡ is_even (rank' (right_of p) (crossing_by p es) e)
 crossing-runs p e es pl even i =
     spanning_runs p e es pl even (in-filter (is_left_of p) es e i) (left-span p e (in-passes (is_left_of p) es e i)) ∙ ap is_even (sym (crossing-rank p e es pl even i))
 
-crossing-sum : (p : Vector) (es : List Edge) → IsConflictFree es → IsEvenAtPoints es → total (λ e. bit (runs_up es e)) (crossing_by p es) ≡ total (λ e. bit (not (runs_up es e))) (crossing_by p es) + length (crossing_by p es) % 2
+crossing-sum : (p : Vector) (es : List Edge) → IsConflictFree es → IsEvenAtPoints es → total (λ e. bit (runs_up_by_odd_side es e)) (crossing_by p es) ≡ total (λ e. bit (not (runs_up_by_odd_side es e))) (crossing_by p es) + length (crossing_by p es) % 2
 crossing-sum p es pl even =
-    let a = total-same (λ e. bit (runs_up es e)) (λ e. evens (rank' (right_of p) (crossing_by p es) e)) (crossing_by p es) (λ e i. ap bit (crossing-runs p e es pl even i)) in
-    let b = total-same (λ e. bit (not (runs_up es e))) (λ e. odds (rank' (right_of p) (crossing_by p es) e)) (crossing_by p es) (λ e i. ap (λ x. bit (not x)) (crossing-runs p e es pl even i)) in
+    let a = total-same (λ e. bit (runs_up_by_odd_side es e)) (λ e. evens (rank' (right_of p) (crossing_by p es) e)) (crossing_by p es) (λ e i. ap bit (crossing-runs p e es pl even i)) in
+    let b = total-same (λ e. bit (not (runs_up_by_odd_side es e))) (λ e. odds (rank' (right_of p) (crossing_by p es) e)) (crossing_by p es) (λ e i. ap (λ x. bit (not x)) (crossing-runs p e es pl even i)) in
     let c = rank-parity (right_of p) (crossing_by p es) (crossing-order p es pl) in omega arith
 
 -- ---- the crossings of a directed edge
@@ -424,7 +424,7 @@ fourth false b c d h = absurd (cc h)
 fourth true false c d h = absurd (cc h)
 fourth true true false d h = absurd (cc h)
 
-module _ (p : Vector) (t : Edge) (r : IsRising t) where
+module _ (p : Vector) (t : Edge) (r : IsRisingEdge t) where
   abbrev yu : Sign
   yu = sign (t.from.y -ℤ p.y)
 
@@ -465,9 +465,9 @@ pub signed_parity : (p : Vector) (es : List Edge) → IsConflictFree es → IsEv
 signed_parity p es pl even =
     let a = sym (total-is (up_seen east (from_to p)) (directed es)) ∙ total-map (up_seen east (from_to p)) (directed_edge es) es in
     let b = sym (total-is (down_seen east (from_to p)) (directed es)) ∙ total-map (down_seen east (from_to p)) (directed_edge es) es in
-    let c = total-same (λ t. up_seen east (from_to p) (directed_edge es t)) (λ t. cond (is_left_of p t) (bit (runs_up es t)) 0) es (λ t i. up-run p t (rising_in es t pl i) (runs_up es t)) in
-    let d = total-same (λ t. down_seen east (from_to p) (directed_edge es t)) (λ t. cond (is_left_of p t) (bit (not (runs_up es t))) 0) es (λ t i. down-run p t (rising_in es t pl i) (runs_up es t)) in
-    let x = total-filter (is_left_of p) (λ t. bit (runs_up es t)) es in let y = total-filter (is_left_of p) (λ t. bit (not (runs_up es t))) es in
+    let c = total-same (λ t. up_seen east (from_to p) (directed_edge es t)) (λ t. cond (is_left_of p t) (bit (runs_up_by_odd_side es t)) 0) es (λ t i. up-run p t (rising_in es t pl i) (runs_up_by_odd_side es t)) in
+    let d = total-same (λ t. down_seen east (from_to p) (directed_edge es t)) (λ t. cond (is_left_of p t) (bit (not (runs_up_by_odd_side es t))) 0) es (λ t i. down-run p t (rising_in es t pl i) (runs_up_by_odd_side es t)) in
+    let x = total-filter (is_left_of p) (λ t. bit (runs_up_by_odd_side es t)) es in let y = total-filter (is_left_of p) (λ t. bit (not (runs_up_by_odd_side es t))) es in
     let z = crossing-sum p es pl even in
     let l = length-total (crossing_by p es) in let m = total-filter (is_left_of p) (λ t. 1) es in
     let n = total-is (crossings_at east (from_to p)) es in

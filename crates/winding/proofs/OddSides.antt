@@ -4,18 +4,18 @@ use Rattle.std.specs.List.{count_by}
 use lib.IntN.{◌-ℤ◌}
 use Rattle.plane.specs.Bit.{bit}
 use Rattle.plane.specs.Conflict.{IsClearOf}
-use Rattle.plane.specs.Edge.{Edge, IsRising, ends_at, other_end, same_edge}
+use Rattle.plane.specs.Edge.{Edge, IsRisingEdge, ends_at, other_end, same_edge}
 use Rattle.plane.specs.FreeSegment.{Misses, misses_by}
 use Rattle.plane.specs.Height.{is_in_span, is_left_of, starts_left_of}
 use Rattle.plane.specs.Order.{order}
 use Rattle.plane.specs.Sector.{in_sector, sector_by}
 use Rattle.plane.specs.Sign.{Minus, Null, Plus, Sign, is_minus, is_null, is_plus, negated, sign, then_sign}
-use Rattle.plane.specs.Vector.{IsDirection, Vector, cross, dot, east, from_to, orient, same_point}
+use Rattle.plane.specs.Vector.{IsNonZero, Vector, cross, dot, east, from_to, orient, same_point}
 use Rattle.winding.specs.ConflictFree.{IsConflictFree, others}
 use Rattle.winding.specs.EdgeList.{IsEvenAtPoints, crossing_count}
 use Rattle.lists.specs.Member.{In}
 use Rattle.winding.specs.Node.{away, spokes, spokes_in}
-use Rattle.winding.specs.OddSide.{runs_up}
+use Rattle.winding.specs.OddSide.{runs_up_by_odd_side}
 use Rattle.winding.specs.Parity.{is_even}
 use Rattle.lists.proofs.ListsKit.{even_or_odd, in-filter, not-not, total, total-+, total-filter, total-is, total-same}
 use Rattle.plane.proofs.PlaneKit.{clear_misses, edge_of, ends_at-from, line-order-up, order-reversed, rising-direction, same_point-refl, same_point-true, cross-agree, cross-here, cross-self, direction-back, dot-here, dot-reversed, crossings-left, crossings_at, east-direction, east-side, level-side, not-left, sector-east}
@@ -25,11 +25,11 @@ use Rattle.winding.proofs.OppositeEnds.{beyond, crossings-away, opposite_odd}
 use Rattle.winding.proofs.Ranks.{even-is, odd-is}
 use Rattle.winding.proofs.RoundNode.{parity_round_node}
 
-beyond-left-by : (d p : Vector) (t : Edge) (b : Bool) → ends_at p t ≡ b → ((w : Vector) → sign (cross d w) ≡ sign w.y) → IsRising t → cond (not b) (crossings_at d (from_to p) t) 0 ≡ bit (is_left_of p t)
+beyond-left-by : (d p : Vector) (t : Edge) (b : Bool) → ends_at p t ≡ b → ((w : Vector) → sign (cross d w) ≡ sign w.y) → IsRisingEdge t → cond (not b) (crossings_at d (from_to p) t) 0 ≡ bit (is_left_of p t)
 beyond-left-by d p t true e h r = sym (not-left p t e)
 beyond-left-by d p t false e h r = crossings-left d p t h r
 
-pub beyond-left : (d p : Vector) (t : Edge) → ((w : Vector) → sign (cross d w) ≡ sign w.y) → IsRising t → beyond d p t ≡ bit (is_left_of p t)
+pub beyond-left : (d p : Vector) (t : Edge) → ((w : Vector) → sign (cross d w) ≡ sign w.y) → IsRisingEdge t → beyond d p t ≡ bit (is_left_of p t)
 beyond-left d p t h r = beyond-left-by d p t (ends_at p t) refl h r
 
 -- ---- an edge that begins at the point, and one that ends there
@@ -50,15 +50,15 @@ no_way_2 cs ct Plus h = cc h
 no_way_2 cs ct Null h = cc h
 no_way_2 cs ct Minus h = cc h
 
-back-minus : (v p : Vector) → IsDirection (from_to v p) → sign (dot (from_to v p) (from_to p v)) ≡ Minus
+back-minus : (v p : Vector) → IsNonZero (from_to v p) → sign (dot (from_to v p) (from_to p v)) ≡ Minus
 back-minus v p h = dot-reversed p v p v ∙ ap negated (direction-back v p h)
 
-pub no_same_way_from : (v p q : Vector) → IsDirection (from_to v p) → Misses v p (edge_of v q) → sign (cross (from_to v p) (from_to v q)) ≡ Null → sign (dot (from_to v p) (from_to v q)) ≡ Plus → ⊥
+pub no_same_way_from : (v p q : Vector) → IsNonZero (from_to v p) → Misses v p (edge_of v q) → sign (cross (from_to v p) (from_to v q)) ≡ Null → sign (dot (from_to v p) (from_to v q)) ≡ Plus → ⊥
 no_same_way_from v p q h m z o =
     no_way_1 Null (sign (cross (from_to p v) (from_to p q))) (sign (dot (from_to v p) (from_to p q))) (sign (cross (from_to v v) (from_to v q)))
     (rw (cross-here (from_to v p) v, z, dot-here (from_to v p) v, o, back-minus v p h) at m)
 
-pub no_same_way_to : (v p q : Vector) → IsDirection (from_to v p) → Misses v p (edge_of q v) → sign (cross (from_to v p) (from_to v q)) ≡ Null → sign (dot (from_to v p) (from_to v q)) ≡ Plus → ⊥
+pub no_same_way_to : (v p q : Vector) → IsNonZero (from_to v p) → Misses v p (edge_of q v) → sign (cross (from_to v p) (from_to v q)) ≡ Null → sign (dot (from_to v p) (from_to v q)) ≡ Plus → ⊥
 no_same_way_to v p q h m z o =
     no_way_2 (sign (cross (from_to v q) (from_to v v))) (sign (cross (from_to p q) (from_to p v))) (sign (dot (from_to v p) (from_to p q)))
     (rw (cross-here (from_to v p) v, z, dot-here (from_to v p) v, o, back-minus v p h) at m)
@@ -90,7 +90,7 @@ or-nothing x false = refl
 abbrev pub share : Edge → Edge → Bool → ℕ
 share s t b = cond b (in_sector east (from_to s.from s.to) (from_to s.from (other_end s.from t))) 0
 
-share-by : (s t : Edge) → sign (s.to.y -ℤ s.from.y) ≡ Plus → IsRising s → IsRising t → IsClearOf s t → (b c : Bool) → same_point s.from t.from ≡ b → same_point s.from t.to ≡ c →
+share-by : (s t : Edge) → sign (s.to.y -ℤ s.from.y) ≡ Plus → IsRisingEdge s → IsRisingEdge t → IsClearOf s t → (b c : Bool) → same_point s.from t.from ≡ b → same_point s.from t.to ≡ c →
     cond (not (b || c)) (crossings_at east (from_to s.from) t) 0 + cond (b || c) (in_sector east (from_to s.from s.to) (from_to s.from (cond b t.to t.from))) 0
     ≡ bit (is_in_span s.from t && (is_plus (orient t.from t.to s.from) || (b && is_minus (orient s.from s.to t.to))))
 share-by s t hy hs ht n true c h k =
@@ -114,7 +114,7 @@ share-by s t hy hs ht n false false h k =
     let e = crossings-left east s.from t east-side ht in
     let f = or-nothing (is_in_span s.from t) (is_plus (orient t.from t.to s.from)) in omega arith
 
-pub share-is : (s t : Edge) → sign (s.to.y -ℤ s.from.y) ≡ Plus → IsRising s → IsRising t → IsClearOf s t →
+pub share-is : (s t : Edge) → sign (s.to.y -ℤ s.from.y) ≡ Plus → IsRisingEdge s → IsRisingEdge t → IsClearOf s t →
     beyond east s.from t + share s t (ends_at s.from t) ≡ bit (starts_left_of s t)
 share-is s t hy hs ht n = share-by s t hy hs ht n (same_point s.from t.from) (same_point s.from t.to) refl refl
 
@@ -184,12 +184,12 @@ runs-by s es p even i Plus x hy hx r =
     differ-parity (count_by (starts_left_of s) (others s es)) (crossing_count d a (away a es)) (omega arith)
 
 pub runs_from : (s : Edge) (es : List Edge) → IsConflictFree es → IsEvenAtPoints es → In s es →
-    runs_up es s ≡ not (is_even (crossing_count (from_to s.from s.to) s.from (away s.from es)))
+    runs_up_by_odd_side es s ≡ not (is_even (crossing_count (from_to s.from s.to) s.from (away s.from es)))
 runs_from s es p even i = runs-by s es p even i (sign (s.to.y -ℤ s.from.y)) (sign (s.to.x -ℤ s.from.x)) refl refl (rising_in es s p i)
 
 -- and so it enters its upper end exactly where the ray back along it from there hits an even number
 pub runs_to : (s : Edge) (es : List Edge) → IsConflictFree es → IsEvenAtPoints es → In s es →
-    runs_up es s ≡ is_even (crossing_count (from_to s.to s.from) s.to (away s.to es))
+    runs_up_by_odd_side es s ≡ is_even (crossing_count (from_to s.to s.from) s.to (away s.to es))
 runs_to s es p even i =
     runs_from s es p even i ∙ ap not (differ-parity _ (crossing_count (from_to s.to s.from) s.to (away s.to es)) (opposite_odd s es p even i)) ∙ not-not (is_even (crossing_count (from_to s.to s.from) s.to (away s.to es)))
 

@@ -5,7 +5,7 @@ use Rattle.plane.specs.FreeSegment.{IsBetween}
 use Rattle.plane.specs.RayCrossing.{down_by, up_by}
 use Rattle.plane.specs.Sector.{in_sector, sector_by}
 use Rattle.plane.specs.Sign.{Minus, Null, Plus, Sign, negated, sign}
-use Rattle.plane.specs.Vector.{IsDirection, Vector, cross, dot, from_to}
+use Rattle.plane.specs.Vector.{IsNonZero, Vector, cross, dot, from_to}
 use Rattle.winding.specs.ConflictFree.{IsConflictFree, others}
 use Rattle.winding.specs.EdgeList.{IsEvenAtPoints, crossing_count}
 use Rattle.lists.specs.Member.{In}
@@ -30,7 +30,7 @@ times-null Null = refl
 times-null Minus = refl
 
 -- two vectors along a line, in one way
-module _ (d c x y : Vector) (hc : IsDirection c) (cx : sign (cross c x) ≡ Null) (cy : sign (cross c y) ≡ Null) (one : sign (dot c x) ≡ sign (dot c y)) where
+module _ (d c x y : Vector) (hc : IsNonZero c) (cx : sign (cross c x) ≡ Null) (cy : sign (cross c y) ≡ Null) (one : sign (dot c x) ≡ sign (dot c y)) where
   cross-along : (z : Vector) → sign (cross c z) ≡ Null → agree (sign (cross d z)) (times (sign (dot c z)) (sign (cross c d))) Null ≡ true
   cross-along z n =
       subst (λ s. agree s (times (sign (dot c z)) (sign (cross c d))) Null ≡ true) (times-plus (sign (cross d z)))
@@ -55,11 +55,11 @@ module _ (d c x y : Vector) (hc : IsDirection c) (cx : sign (cross c x) ≡ Null
       ∙ ap (λ s. sector_by (sign (dot d y)) s (sign (dot d c)) (sign (cross d c)) (sign (cross c x))) same-cross
       ∙ ap (λ s. sector_by (sign (dot d y)) (sign (cross d y)) (sign (dot d c)) (sign (cross d c)) s) (cx ∙ sym cy)
 
-module _ (d : Vector) (hd : IsDirection d) (s : Edge) (es : List Edge) (pl : IsConflictFree es) (even : IsEvenAtPoints es) (i : In s es) where
+module _ (d : Vector) (hd : IsNonZero d) (s : Edge) (es : List Edge) (pl : IsConflictFree es) (even : IsEvenAtPoints es) (i : In s es) where
   abbrev along : Vector
   along = from_to s.from s.to
 
-  along-direction : IsDirection along
+  along-direction : IsNonZero along
   along-direction = rising-direction s.from s.to (rising_in es s pl i)
 
   module _ (p : Vector) (b : IsBetween s.from s.to p) where

@@ -9,7 +9,7 @@ use Rattle.plane.specs.Vector.{Vector, cross, east, from_to, one_at, same_point}
 use Rattle.winding.specs.ConflictFree.{IsConflictFree}
 use Rattle.winding.specs.EdgeList.{IsBalanced, IsEvenAtPoints, crossing_count, down_count, up_count}
 use Rattle.lists.specs.Member.{EachPair, In}
-use Rattle.winding.specs.OddSide.{directed, directed_edge, runs_up}
+use Rattle.winding.specs.OddSide.{directed, directed_edge, runs_up_by_odd_side}
 use Rattle.winding.specs.Ring.{IsPath, IsRing, segments_of}
 use Rattle.plane.proofs.PlaneKit.{same_point-true, cross-negated, crossings_at, down_seen, up_seen}
 use Rattle.plane.proofs.SignKit.{all4-out, both, left-out, right-out, same_bool, bit-same}
@@ -57,10 +57,10 @@ dir-by false false e = refl
 
 -- whether the odd side directs the edge as the ring does
 abbrev pub keeps : List Edge → Edge → Bool
-keeps es e = same_bool (runs_up (segments_of es) (segment_of e)) (is_plus (order e.from e.to))
+keeps es e = same_bool (runs_up_by_odd_side (segments_of es) (segment_of e)) (is_plus (order e.from e.to))
 
 pub direct-is : (es : List Edge) (e : Edge) → directed_edge (segments_of es) (segment_of e) ≡ cond (keeps es e) e (reversed e)
-direct-is es e = dir-by (runs_up (segments_of es) (segment_of e)) (is_plus (order e.from e.to)) e
+direct-is es e = dir-by (runs_up_by_odd_side (segments_of es) (segment_of e)) (is_plus (order e.from e.to)) e
 
 pub ends-swap : (v : Vector) (b : Bool) (e : Edge) → one_at v (cond b e (reversed e)).from + one_at v (cond b e (reversed e)).to ≡ one_at v e.from + one_at v e.to
 ends-swap v true e = refl

@@ -5,7 +5,7 @@ use Rattle.std.proofs.lemmas.List.Filters.{sum_by-filter_both}
 use Rattle.plane.specs.Edge.{Edge, ends_at, other_end}
 use Rattle.plane.specs.RayCrossing.{IsOffEdge, is_off}
 use Rattle.plane.specs.Sector.{in_sector}
-use Rattle.plane.specs.Vector.{IsDirection, Vector, from_to, same_point}
+use Rattle.plane.specs.Vector.{IsNonZero, Vector, from_to, same_point}
 use Rattle.winding.specs.EdgeList.{IsEvenAtPoints, crossing_count}
 use Rattle.winding.specs.Node.{away, edges_off, ends_in, spokes, spokes_in}
 use Rattle.plane.proofs.PlaneKit.{edge_of, same_point-refl, same_point-true, here-outside}
@@ -33,7 +33,7 @@ spokes-total d c v (e ∷ es) =
     (λ t. one-end d c v e (same_point v e.from) (same_point v e.to) refl refl t) (spokes-total d c v es)
 
 -- from one direction to another, the crossings of the edges that do not end at v change by as many, modulo 2, as edges at v leave in the sector between
-pub parity_round_node : (d c v : Vector) (es : List Edge) → IsDirection d → IsDirection c → IsEvenAtPoints es → All (IsOffEdge v) (away v es) →
+pub parity_round_node : (d c v : Vector) (es : List Edge) → IsNonZero d → IsNonZero c → IsEvenAtPoints es → All (IsOffEdge v) (away v es) →
     (crossing_count d v (away v es) + crossing_count c v (away v es)) % 2 ≡ spokes_in d c v es % 2
 parity_round_node d c v es hd hc even off =
     let s = sector_sum d c (from_to v) hd hc (away v es) off in
@@ -57,7 +57,7 @@ all-clear p [] = All-nil (IsOffEdge p)
 all-clear p (e ∷ es) = all-clear-step p e (edges_off p es) (is_off p e) refl (all-clear p es)
 
 -- the same at any point, also one that is inside edges: the ends of the edges that it is on count
-pub parity_round_point : (d c p : Vector) (es : List Edge) → IsDirection d → IsDirection c → IsEvenAtPoints es →
+pub parity_round_point : (d c p : Vector) (es : List Edge) → IsNonZero d → IsNonZero c → IsEvenAtPoints es →
     (crossing_count d p (edges_off p es) + crossing_count c p (edges_off p es)) % 2 ≡ ends_in d c p es % 2
 parity_round_point d c p es hd hc even =
     let s = sector_sum d c (from_to p) hd hc (edges_off p es) (all-clear p es) in
@@ -82,7 +82,7 @@ spokes-with d e v w es =
     ∙ ap (λ b. in_sector d e (from_to v (cond b w v)) + total f (spokes v es)) (same_point-refl v)
     ∙ ap (λ n. in_sector d e (from_to v w) + n) (total-is f (spokes v es))
 
-pub parity_round_node_but_edge : (d e v w : Vector) (es : List Edge) → IsDirection d → IsDirection e → IsEvenAtPoints (edge_of v w ∷ es) → All (IsOffEdge v) (away v es) →
+pub parity_round_node_but_edge : (d e v w : Vector) (es : List Edge) → IsNonZero d → IsNonZero e → IsEvenAtPoints (edge_of v w ∷ es) → All (IsOffEdge v) (away v es) →
     (crossing_count d v (away v es) + crossing_count e v (away v es)) % 2 ≡ (spokes_in d e v es + in_sector d e (from_to v w)) % 2
 parity_round_node_but_edge d e v w es hd he even off =
     let a = away-with v w es in

@@ -4,7 +4,7 @@ use Rattle.std.specs.List.{count_by}
 use lib.IntN.{pos, ℤ}
 use Rattle.plane.specs.Bit.{bit}
 use Rattle.plane.specs.Conflict.{IsClearOf}
-use Rattle.plane.specs.Edge.{Edge, IsRising, is_horizontal, reversed, same_edge}
+use Rattle.plane.specs.Edge.{Edge, IsRisingEdge, is_horizontal, reversed, same_edge}
 use Rattle.plane.specs.Height.{is_left_of, starts_left_of}
 use Rattle.plane.specs.Scale.{scaled_edge, scaled_point}
 use Rattle.plane.specs.Sign.{Plus, sign}
@@ -12,7 +12,7 @@ use Rattle.plane.specs.Vector.{Vector, east, one_at}
 use Rattle.winding.specs.ConflictFree.{IsConflictFree, others}
 use Rattle.winding.specs.EdgeList.{IsEvenAtPoints, crossing_count, winding_number}
 use Rattle.lists.specs.Member.{EachPair, In}
-use Rattle.winding.specs.OddSide.{directed, directed_edge, odd_side_count, runs_up}
+use Rattle.winding.specs.OddSide.{directed, directed_edge, odd_side_count, runs_up_by_odd_side}
 use Rattle.winding.specs.Parity.{is_even}
 use Rattle.winding.specs.ScaledEdges.{scaled_edges}
 use Rattle.plane.proofs.PlaneKit.{conflicts-scaled, edge-scaled, left-scaled, level-scaled, order-scaled, right-scaled}
@@ -44,7 +44,7 @@ module _ (k : ℤ) (hk : sign k ≡ Plus) where
       ∙ ap (λ (l : List Edge). cond (is_horizontal s) (count_by (is_left_of s.from) es) (count_by (starts_left_of (scaled_edge k s)) l)) (others-scaled s es)
       ∙ ap (λ n. cond (is_horizontal s) (count_by (is_left_of s.from) es) n) (count-scaled (starts_left_of (scaled_edge k s)) (starts_left_of s) (right-scaled k hk s) (others s es))
 
-  pub runs-scaled : (s : Edge) (es : List Edge) → runs_up (scaled_edges k es) (scaled_edge k s) ≡ runs_up es s
+  pub runs-scaled : (s : Edge) (es : List Edge) → runs_up_by_odd_side (scaled_edges k es) (scaled_edge k s) ≡ runs_up_by_odd_side es s
   runs-scaled s es =
       ap (λ b. cond b (not (is_even (odd_side_count (scaled_edge k s) (scaled_edges k es)))) (is_even (odd_side_count (scaled_edge k s) (scaled_edges k es)))) (level-scaled k hk s)
       ∙ ap (λ n. cond (is_horizontal s) (not (is_even n)) (is_even n)) (odd-scaled s es)
@@ -59,7 +59,7 @@ module _ (k : ℤ) (hk : sign k ≡ Plus) where
   pub directed_scaled : (es : List Edge) → directed (scaled_edges k es) ≡ scaled_edges k (directed es)
   directed_scaled es =
       map-map (directed_edge (scaled_edges k es)) (scaled_edge k) es
-      ∙ map-same (λ s. directed_edge (scaled_edges k es) (scaled_edge k s)) (λ s. scaled_edge k (directed_edge es s)) es (λ s. direct-by (runs_up (scaled_edges k es) (scaled_edge k s)) (runs_up es s) s (runs-scaled s es))
+      ∙ map-same (λ s. directed_edge (scaled_edges k es) (scaled_edge k s)) (λ s. scaled_edge k (directed_edge es s)) es (λ s. direct-by (runs_up_by_odd_side (scaled_edges k es) (scaled_edge k s)) (runs_up_by_odd_side es s) s (runs-scaled s es))
       ∙ sym (map-map (scaled_edge k) (directed_edge es) es)
 
   pub in-scaled : (es : List Edge) (s : Edge) → In s (scaled_edges k es) → (t : Edge) × In t es × (s ≡ scaled_edge k t)
@@ -74,7 +74,7 @@ module _ (k : ℤ) (hk : sign k ≡ Plus) where
 
   pub plain_scaled : (es : List Edge) → IsConflictFree es → IsConflictFree (scaled_edges k es)
   plain_scaled es p = record {
-    rising = all-in IsRising (scaled_edges k es) (λ s i. let r = in-scaled es s i in subst IsRising (sym r.2) (order-scaled k hk r.0.from r.0.to ∙ rising_in es r.0 p r.1));
+    rising = all-in IsRisingEdge (scaled_edges k es) (λ s i. let r = in-scaled es s i in subst IsRisingEdge (sym r.2) (order-scaled k hk r.0.from r.0.to ∙ rising_in es r.0 p r.1));
     clear = pairs-scaled es p.clear;
   }
 

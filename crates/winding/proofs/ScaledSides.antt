@@ -1,7 +1,7 @@
 -- A list multiplied by a positive number is sided exactly where the list is, and has the same counts.
 use Rattle.std.proofs.Common.{All, List, [], ap, map, pos, refl, subst, sym, ℕ, ℤ, ◌*ℤ◌, ◌-ℤ◌, ◌+◌, ◌∙◌, ◌∷◌, ◌≡◌, ◌⊎◌}
 use Rattle.plane.specs.Conflict.{IsClearOf}
-use Rattle.plane.specs.Edge.{Edge, IsRising, segment_of}
+use Rattle.plane.specs.Edge.{Edge, IsRisingEdge, segment_of}
 use Rattle.plane.specs.Order.{order}
 use Rattle.plane.specs.RayCrossing.{IsOffEdge, off_by}
 use Rattle.plane.specs.Scale.{scaled_edge, scaled_point}
@@ -62,7 +62,7 @@ module _ (k : ℤ) (hk : sign k ≡ Plus) where
 
   plain-back : (es : List Edge) → IsConflictFree (scaled_edges k es) → IsConflictFree es
   plain-back es p = record {
-    rising = all-in IsRising es (λ s i. sym (order-scaled k hk s.from s.to) ∙ rising_in (scaled_edges k es) (scaled_edge k s) p (in-map (scaled_edge k) es s i));
+    rising = all-in IsRisingEdge es (λ s i. sym (order-scaled k hk s.from s.to) ∙ rising_in (scaled_edges k es) (scaled_edge k s) p (in-map (scaled_edge k) es s i));
     clear = pairs-back es p.clear;
   }
 

@@ -2,7 +2,7 @@
 use Rattle.std.proofs.Common.{Bool, ap, arith, false, not, refl, subst, sym, true, ◌&&◌, ◌∙◌, ◌≡◌}
 use borrow.Author.Differences.{ints}
 use lib.IntN.{pos, ℤ, ◌*ℤ◌, ◌+ℤ◌, ◌-ℤ◌}
-use Rattle.plane.specs.Edge.{Edge, IsRising}
+use Rattle.plane.specs.Edge.{Edge, IsRisingEdge}
 use Rattle.plane.specs.Height.{is_in_span, is_left_of}
 use Rattle.plane.specs.RayCrossing.{IsOff, IsOffEdge, off_by}
 use Rattle.plane.specs.Scale.{scaled_edge, scaled_point}
@@ -185,7 +185,7 @@ sub-x k a b = let k' = lift k in let a' = lift a in let b' = lift b in same (k' 
 add-x : (k a b : ℤ) → k *ℤ a -ℤ (k *ℤ b -ℤ pos 1) ≡ k *ℤ (a -ℤ b) +ℤ pos 1
 add-x k a b = let k' = lift k in let a' = lift a in let b' = lift b in same (k' ⊠ a' ⊟ (k' ⊠ b' ⊟ lift (pos 1))) (k' ⊠ (a' ⊟ b') ⊞ lift (pos 1)) (omega arith)
 
-module _ (k : ℤ) (hk : sign k ≡ Plus) (h1 : sign (k -ℤ pos 1) ≡ Plus) (p : Vector) (t : Edge) (r : IsRising t) (big : is_in_span p t ≡ true → sign (k -ℤ (t.to.y -ℤ t.from.y)) ≡ Plus) where
+module _ (k : ℤ) (hk : sign k ≡ Plus) (h1 : sign (k -ℤ pos 1) ≡ Plus) (p : Vector) (t : Edge) (r : IsRisingEdge t) (big : is_in_span p t ≡ true → sign (k -ℤ (t.to.y -ℤ t.from.y)) ≡ Plus) where
   abbrev o : Sign
   o = orient t.from t.to p
 

@@ -5,7 +5,7 @@ use borrow.Author.Differences.{ints, up}
 use lib.IntN.{pos, ℤ, ◌*ℤ◌, ◌+ℤ◌, ◌-ℤ◌}
 use Rattle.plane.specs.Bit.{bit}
 use Rattle.plane.specs.Conflict.{IsClearOf}
-use Rattle.plane.specs.Edge.{Edge, IsRising, ends_at, reversed, same_edge, segment_of}
+use Rattle.plane.specs.Edge.{Edge, IsRisingEdge, ends_at, reversed, same_edge, segment_of}
 use Rattle.plane.specs.FreeSegment.{IsBetween}
 use Rattle.plane.specs.Height.{distance_right, is_in_span, is_left_of}
 use Rattle.plane.specs.Order.{order}
@@ -16,7 +16,7 @@ use Rattle.plane.specs.Vector.{Vector, cross, dot, east, from_to, one_at, orient
 use Rattle.winding.specs.ConflictFree.{IsConflictFree, others}
 use Rattle.winding.specs.EdgeList.{IsBalanced, IsEvenAtPoints, crossing_count, up_count, winding_number}
 use Rattle.lists.specs.Member.{EachPair, In}
-use Rattle.winding.specs.OddSide.{directed, directed_edge, runs_up}
+use Rattle.winding.specs.OddSide.{directed, directed_edge, runs_up_by_odd_side}
 use Rattle.winding.specs.Parity.{is_even}
 use Rattle.winding.specs.Ring.{IsAnchor, segments_of}
 use Rattle.winding.specs.ScaledEdges.{scaled_edges}
@@ -106,7 +106,7 @@ module _ (es : List Edge) (pl : IsConflictFree (segments_of es)) (even : IsEvenA
   is' : In s U
   is' = in-map segment_of es e i
 
-  rs : IsRising s
+  rs : IsRisingEdge s
   rs = rising_in U s pl is'
 
   s-span : is_in_span p s ≡ true
@@ -147,7 +147,7 @@ module _ (es : List Edge) (pl : IsConflictFree (segments_of es)) (even : IsEvenA
   own-not-left = ap (λ z. bit (is_in_span p s && is_plus z)) on ∙ and-zero (is_in_span p s)
 
   -- the direction of the odd side, by the parity at p
-  runs-here : runs_up U s ≡ is_even (crossing_count east p U)
+  runs-here : runs_up_by_odd_side U s ≡ is_even (crossing_count east p U)
   runs-here =
       let a = covers-crossings p U pl in let b = split_off (λ t. bit (is_left_of p t)) s U pl is' in let c = own-not-left in
       let d = total-same (to_right p s) (λ t. bit (is_left_of p t)) (others s U) rest-right in
@@ -166,7 +166,7 @@ module _ (es : List Edge) (pl : IsConflictFree (segments_of es)) (even : IsEvenA
       let z = none-sum (others s U) in omega arith
 
   module _ (k : ℤ) (hk : sign k ≡ Plus) (h1 : sign (k -ℤ pos 1) ≡ Plus) (big : (t : Edge) → In t U → is_in_span p t ≡ true → sign (k -ℤ (t.to.y -ℤ t.from.y)) ≡ Plus) where
-    rk : (x : Edge) → In x es → IsRising (scaled_edge k (segment_of x))
+    rk : (x : Edge) → In x es → IsRisingEdge (scaled_edge k (segment_of x))
     rk x j = order-scaled k hk (segment_of x).from (segment_of x).to ∙ segment-rises es pl x j
 
     up-q : (q : Vector) → total (up_seen east (from_to q)) (scaled_edges k es) ≡ total (λ x. cond (is_left_of q (scaled_edge k (segment_of x))) (bit (rises x)) 0) es
@@ -261,10 +261,10 @@ keeps-at es pl even counted e i p lo hi on =
 -- ---- the doubled list has a point in the middle of each edge
 keeps-scaled : (k : ℤ) (hk : sign k ≡ Plus) (es : List Edge) (e : Edge) → keeps (scaled_edges k es) (scaled_edge k e) ≡ keeps es e
 keeps-scaled k hk es e =
-    ap (λ (l : List Edge). same_bool (runs_up l (segment_of (scaled_edge k e))) (rises (scaled_edge k e))) (segments-scaled k hk es)
-    ∙ ap (λ (s : Edge). same_bool (runs_up (scaled_edges k (segments_of es)) s) (rises (scaled_edge k e))) (segment-scaled k hk e)
+    ap (λ (l : List Edge). same_bool (runs_up_by_odd_side l (segment_of (scaled_edge k e))) (rises (scaled_edge k e))) (segments-scaled k hk es)
+    ∙ ap (λ (s : Edge). same_bool (runs_up_by_odd_side (scaled_edges k (segments_of es)) s) (rises (scaled_edge k e))) (segment-scaled k hk e)
     ∙ ap (λ b. same_bool b (rises (scaled_edge k e))) (runs-scaled k hk (segment_of e) (segments_of es))
-    ∙ ap (λ b. same_bool (runs_up (segments_of es) (segment_of e)) b) (ap is_plus (order-scaled k hk e.from e.to))
+    ∙ ap (λ b. same_bool (runs_up_by_odd_side (segments_of es) (segment_of e)) b) (ap is_plus (order-scaled k hk e.from e.to))
 
 product-plus : (k m : ℤ) → sign k ≡ Plus → sign m ≡ Plus → sign (k *ℤ m) ≡ Plus
 product-plus k m h g = plus-times k m h ∙ g
@@ -321,7 +321,7 @@ pairs-bad q (x ∷ xs) p =
 
 plain-bad : (q : Edge → Bool) (es : List Edge) → IsConflictFree (segments_of es) → IsConflictFree (segments_of (filter q es))
 plain-bad q es p = record {
-  rising = all-in IsRising (segments_of (filter q es)) (λ t i. let r = segments-filter q es t i in subst IsRising (sym r.3) (rising_in (segments_of es) (segment_of r.0) p (in-map segment_of es r.0 r.1)));
+  rising = all-in IsRisingEdge (segments_of (filter q es)) (λ t i. let r = segments-filter q es t i in subst IsRisingEdge (sym r.3) (rising_in (segments_of es) (segment_of r.0) p (in-map segment_of es r.0 r.1)));
   clear = pairs-bad q es p.clear;
 }
 
@@ -418,14 +418,14 @@ module _ (es : List Edge) (d : IsSided es) where
   sided_direct e i = direct-is es e ∙ ap (λ k. cond k e (reversed e)) (keeps-by e i (keeps es e) refl)
 
 -- ---- the odd side gives a sided list
-pub segment-direct-by : (b : Bool) (s : Edge) → IsRising s → segment_of (cond b s (reversed s)) ≡ s
+pub segment-direct-by : (b : Bool) (s : Edge) → IsRisingEdge s → segment_of (cond b s (reversed s)) ≡ s
 segment-direct-by true s r = ap (λ z. cond (is_plus z) s (reversed s)) r
 segment-direct-by false s r = ap (λ z. cond (is_plus z) (reversed s) (reversed (reversed s))) (order-reversed s.from s.to ∙ ap negated r)
 
-segments-directed-by : (us es : List Edge) → ((s : Edge) → In s es → IsRising s) → segments_of (map (directed_edge us) es) ≡ es
+segments-directed-by : (us es : List Edge) → ((s : Edge) → In s es → IsRisingEdge s) → segments_of (map (directed_edge us) es) ≡ es
 segments-directed-by us [] r = refl
 segments-directed-by us (x ∷ xs) r =
-    ap (λ y. y ∷ segments_of (map (directed_edge us) xs)) (segment-direct-by (runs_up us x) x (r x (inl refl))) ∙ ap (λ l. x ∷ l) (segments-directed-by us xs (λ s i. r s (inr i)))
+    ap (λ y. y ∷ segments_of (map (directed_edge us) xs)) (segment-direct-by (runs_up_by_odd_side us x) x (r x (inl refl))) ∙ ap (λ l. x ∷ l) (segments-directed-by us xs (λ s i. r s (inr i)))
 
 zero-or-one : (n : ℕ) (w : ℤ) → w ≡ pos (n % 2) → (n % 2 ≡ 0) ⊎ (n % 2 ≡ 1) → (w ≡ pos 0) ⊎ (w ≡ pos 1)
 zero-or-one n w h (inl e) = inl (h ∙ ap pos e)

@@ -1,7 +1,7 @@
 -- What the crossings of a ray count, as statements.
 use Rattle.std.specs.Prelude.{All, List, ◌≡◌}
 use Rattle.std.specs.List.{count_by}
-use Rattle.plane.specs.Edge.{Edge, IsRising}
+use Rattle.plane.specs.Edge.{Edge, IsRisingEdge}
 use Rattle.plane.specs.Height.{is_left_of}
 use Rattle.plane.specs.RayCrossing.{is_crossed}
 use Rattle.plane.specs.Vector.{Vector, east}
@@ -15,4 +15,4 @@ CountIsOfCrossedEdges =
 -- the ray to the right: the segments that span the height of p and have p on their left
 abbrev pub CountIsOfSegmentsRight : Type 0
 CountIsOfSegmentsRight =
-    (p : Vector) (es : List Edge) → All IsRising es → crossing_count east p es ≡ count_by (is_left_of p) es
+    (p : Vector) (es : List Edge) → All IsRisingEdge es → crossing_count east p es ≡ count_by (is_left_of p) es

@@ -11,11 +11,11 @@ abbrev pub odd_side_count : Edge → List Edge → ℕ
 odd_side_count s es = cond (is_horizontal s) (count_by (is_left_of s.from) es) (count_by (starts_left_of s) (others s es))
 
 -- whether s runs from its lower end to its upper, or from its left end to its right
-abbrev pub runs_up : List Edge → Edge → Bool
-runs_up es s = cond (is_horizontal s) (not (is_even (odd_side_count s es))) (is_even (odd_side_count s es))
+abbrev pub runs_up_by_odd_side : List Edge → Edge → Bool
+runs_up_by_odd_side es s = cond (is_horizontal s) (not (is_even (odd_side_count s es))) (is_even (odd_side_count s es))
 
 abbrev pub directed_edge : List Edge → Edge → Edge
-directed_edge es s = cond (runs_up es s) s (reversed s)
+directed_edge es s = cond (runs_up_by_odd_side es s) s (reversed s)
 
 abbrev pub directed : List Edge → List Edge
 directed es = map (directed_edge es) es

@@ -8,7 +8,7 @@ use Rattle.winding.specs.ConflictFree.{IsConflictFree, others}
 use Rattle.winding.specs.EdgeList.{IsBalanced, IsEvenAtPoints, crossing_count, winding_number}
 use Rattle.lists.specs.Member.{In}
 use Rattle.winding.specs.Node.{away, spokes_in}
-use Rattle.winding.specs.OddSide.{directed, directed_edge, runs_up}
+use Rattle.winding.specs.OddSide.{directed, directed_edge, runs_up_by_odd_side}
 use Rattle.winding.specs.Parity.{is_even}
 use Rattle.winding.specs.Ring.{segments_of}
 use Rattle.winding.specs.Sided.{IsSided}
@@ -23,13 +23,13 @@ EndsAreOff =
 abbrev pub RunsUpByRayUp : Type 0
 RunsUpByRayUp =
     (s : Edge) (es : List Edge) → IsConflictFree es → IsEvenAtPoints es → In s es →
-    runs_up es s ≡ not (is_even (crossing_count (from_to s.from s.to) s.from (away s.from es)))
+    runs_up_by_odd_side es s ≡ not (is_even (crossing_count (from_to s.from s.to) s.from (away s.from es)))
 
 -- and exactly where the ray back along it from its upper end crosses an even number
 abbrev pub RunsUpByRayDown : Type 0
 RunsUpByRayDown =
     (s : Edge) (es : List Edge) → IsConflictFree es → IsEvenAtPoints es → In s es →
-    runs_up es s ≡ is_even (crossing_count (from_to s.to s.from) s.to (away s.to es))
+    runs_up_by_odd_side es s ≡ is_even (crossing_count (from_to s.to s.from) s.to (away s.to es))
 
 -- an edge at v leaves it exactly where the edges right of v and the other edges at v in the sector from east to it are even in number
 abbrev pub LeavesByCount : Type 0

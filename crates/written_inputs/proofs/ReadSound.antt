@@ -11,7 +11,7 @@ use Rattle.opl_reader.specs.Lines.{lines_of}
 use Rattle.opl_reader.specs.OneAnswer.{IsAnswer}
 use Rattle.opl_reader.specs.Spells.{Spells}
 use Rattle.opl_reader.specs.Told.{object_in, object_told}
-use Rattle.opl_writer.specs.Writable.{IsLive, IsSound, IsWritable}
+use Rattle.opl_writer.specs.Writable.{IsLive, IsWellFormed, IsWritable}
 use Rattle.osm_objects.specs.Object.{id_of, is_live, kind_of, ref_of}
 use Rattle.osm_objects.specs.Objects.{AreApart, is_duplicate, object_at}
 use Rattle.osm_objects.proofs.ObjectsKit.{one_more_apart}
@@ -27,7 +27,7 @@ abbrev pub Answers : Type 0
 Answers = (line : List ℕ) → IsAnswer line
 
 abbrev pub SpelledSound : Type 0
-SpelledSound = (line : List ℕ) (o : Object) → Spells line o → IsSound o
+SpelledSound = (line : List ℕ) (o : Object) → Spells line o → IsWellFormed o
 
 -- ---- each can be written
 

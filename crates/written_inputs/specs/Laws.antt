@@ -4,7 +4,7 @@ use Rattle.opl_reader.specs.Lines.{lines_of}
 use Rattle.opl_reader.specs.Spells.{Spells}
 use Rattle.opl_reader.specs.declared.object.Object.{Object}
 use Rattle.opl_writer.specs.Writable.{IsWritable}
-use Rattle.opl_writer.specs.Written.{line_of, text_of}
+use Rattle.opl_writer.specs.Written.{object_line, objects_text}
 use Rattle.osm_input.specs.Input.{IsBadPlace, objects_told}
 use Rattle.osm_input.specs.Reading.{IsReadAs}
 use Rattle.osm_input.specs.declared.fault.InputFault.{InputFault}
@@ -31,13 +31,13 @@ SpelledObjectsCanBeWritten =
 abbrev pub WrittenInputsAreRead : Type 0
 WrittenInputsAreRead =
     (limit longest : ℕ) (objects : List Object) → CanBeInput objects →
-    length (text_of objects) ≤ limit → All (λ line. length line ≤ longest) (map line_of objects) →
-    IsReadAs limit longest (text_of objects) (Ok objects)
+    length (objects_text objects) ≤ limit → All (λ line. length line ≤ longest) (map object_line objects) →
+    IsReadAs limit longest (objects_text objects) (Ok objects)
 
 -- The lines of their text tell them, and a bad one among these is too long.
 pub record HasNoOtherFault (longest : ℕ) (objects : List Object) : Type 0 where
-  pub told : objects_told (lines_of (text_of objects)) ≡ objects
-  pub bad : (number : ℕ) (fault : InputFault) → IsBadPlace longest (lines_of (text_of objects)) number fault → fault ≡ TooLong
+  pub told : objects_told (lines_of (objects_text objects)) ≡ objects
+  pub bad : (number : ℕ) (fault : InputFault) → IsBadPlace longest (lines_of (objects_text objects)) number fault → fault ≡ TooLong
 
 abbrev pub OnlyLongLinesAreBad : Type 0
 OnlyLongLinesAreBad = (longest : ℕ) (objects : List Object) → CanBeInput objects → HasNoOtherFault longest objects

@@ -5,7 +5,7 @@ use Rattle.osm_objects.specs.CoastWays.{coast_ways}
 use Rattle.osm_objects.specs.Nodes.{node_ids}
 use Rattle.osm_objects.specs.Object.{ref_of}
 use Rattle.osm_objects.specs.Objects.{object_at}
-use Rattle.coast_filter.specs.ByIds.{HaveSame, among, node_text, way_nodes, way_text}
+use Rattle.coast_filter.specs.ByIds.{HaveSame, among, node_text, way_line_by_id, way_nodes}
 use Rattle.coast_filter.proofs.Lookups.{whole}
 use Rattle.coast_filter.proofs.filtering.coast_lines.Goals as goal
 
@@ -21,6 +21,6 @@ returns c =
     record {
       text = c.in_ok-put_ways.ensures
           ∙ ap₂ (λ (xs ys : List ℕ). xs ++ ys) (c.in_ok-put_named.ensures ∙ ap₂ (λ (xs ys : List ℕ). xs ++ ys) c.new-text.ensures.items (ap (λ (ids : List ℤ). flat_map (node_text objects) (among names ids)) nodes))
-          (ap (flat_map (way_text objects)) ways_again)
+          (ap (flat_map (way_line_by_id objects)) ways_again)
           ∙ whole objects found names named;
     }

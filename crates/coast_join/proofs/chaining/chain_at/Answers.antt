@@ -2,9 +2,9 @@
 use Rattle.std.proofs.Common.{◌≡◌, ◌<◌, ℕ, Bool, All, List, length, map, slice_index, is_some, get_or, sym, ap, subst, ◌∙◌, rules}
 use Rattle.std.proofs.lemmas.List.Elements.{All-map}
 use Rattle.std.proofs.lemmas.Result.{IfOk-weaker}
-use Rattle.orbits.specs.Orbits.{after, last}
-use Rattle.coast_join.specs.Chains.{Line}
-use Rattle.coast_join.specs.ChainSteps.{AreLinked, Makes, members}
+use Rattle.orbits.specs.Orbits.{after, last_number}
+use Rattle.coast_join.specs.Chains.{WayPath}
+use Rattle.coast_join.specs.ChainSteps.{AreLinked, Makes, ways_at}
 use Rattle.coast_join.proofs.Joining.{same_members, orbit_linked, is_chain}
 use Rattle.coast_join.proofs.chaining.chain_at.Goals as goal
 
@@ -21,11 +21,11 @@ chain_of-requires-clause-linked c =
     let ways = c.args.ways.now in
     let order = c.args.order.now in
     let orbit = c.args.orbit.now in
-    let closed : c.is_some-closed.result ≡ is_some (after c.args.next.now (last orbit)) = search rules in
+    let closed : c.is_some-closed.result ≡ is_some (after c.args.next.now (last_number orbit)) = search rules in
     let places = c.deref.ensures.value ∙ c.in_ok-places.ensures in
-    let same : members ways c.deref.result.now ≡ _ = ap (members ways) places ∙ same_members ways order c.requires.inside orbit c.requires.below in
-    subst (λ (b : Bool). AreLinked b (map (λ (l : Line). l.path) (members ways c.deref.result.now))) (sym closed)
-    (subst (λ (ls : List Line). AreLinked (is_some (after c.args.next.now (last orbit))) (map (λ (l : Line). l.path) ls)) (sym same)
+    let same : ways_at ways c.deref.result.now ≡ _ = ap (ways_at ways) places ∙ same_members ways order c.requires.inside orbit c.requires.below in
+    subst (λ (b : Bool). AreLinked b (map (λ (l : WayPath). l.path) (ways_at ways c.deref.result.now))) (sym closed)
+    (subst (λ (ls : List WayPath). AreLinked (is_some (after c.args.next.now (last_number orbit))) (map (λ (l : WayPath). l.path) ls)) (sym same)
     (orbit_linked ways order c.requires.inside c.args.next.now c.requires.links orbit c.requires.orbit c.requires.below))
 
 pub returns : goal.returns
@@ -33,8 +33,8 @@ returns c =
     let ways = c.args.ways.now in
     let order = c.args.order.now in
     let orbit = c.args.orbit.now in
-    let closed : c.is_some-closed.result ≡ is_some (after c.args.next.now (last orbit)) = search rules in
+    let closed : c.is_some-closed.result ≡ is_some (after c.args.next.now (last_number orbit)) = search rules in
     let places = c.deref.ensures.value ∙ c.in_ok-places.ensures in
     IfOk-weaker c.chain_of.result _ _ (λ chain makes.
     is_chain ways order c.requires.inside c.args.next.now c.requires.links orbit chain c.requires.orbit.some c.requires.below
-    (subst (λ (b : Bool). Makes (members ways (map (slice_index order) orbit)) b chain) closed (subst (λ (ps : List ℕ). Makes (members ways ps) c.is_some-closed.result chain) places makes))) c.chain_of.ensures
+    (subst (λ (b : Bool). Makes (ways_at ways (map (slice_index order) orbit)) b chain) closed (subst (λ (ps : List ℕ). Makes (ways_at ways ps) c.is_some-closed.result chain) places makes))) c.chain_of.ensures

@@ -4,12 +4,12 @@ use Rattle.std.proofs.lemmas.List.{length-map}
 use Rattle.std.proofs.lemmas.Result.{IfOk-weaker}
 use Rattle.osm_lattice.specs.declared.loc.Loc.{Loc}
 use Rattle.coast_join.specs.declared.way.CoastWay.{CoastWay}
-use Rattle.orbits.specs.Orbits.{IsOneToOne, AreOrbits, AreInOrder}
+use Rattle.orbits.specs.Orbits.{IsOneToOne, AreOrbits, AreOrbitsInOrder}
 use Rattle.coast_join.specs.ById.{AreById}
-use Rattle.coast_join.specs.Chains.{Line}
-use Rattle.coast_join.specs.ChainSteps.{member, members}
-use Rattle.coast_join.specs.Line.{first_of, last_of}
-use Rattle.coast_join.specs.Links.{AreLinks}
+use Rattle.coast_join.specs.Chains.{WayPath}
+use Rattle.coast_join.specs.ChainSteps.{member, ways_at}
+use Rattle.coast_join.specs.Line.{first_location, last_location}
+use Rattle.coast_join.specs.Links.{AreNextWays}
 use Rattle.coast_join.proofs.Joining.{order_inside, sorted_same, sorted_rising}
 use Rattle.coast_join.proofs.Numbering.{one_to_one}
 use Rattle.coast_join.proofs.chaining.chains.Goals as goal
@@ -32,15 +32,15 @@ chains_of-requires-clause-inside c = below_ways c.args.ways.now c.in_ok-order.or
 
 -- the links of the ways in order
 links_of : (ways : List CoastWay) (order lent_2 lent_3 : List ℕ) (starts ends lent_4 lent_5 : List Loc) (next : List (Option ℕ)) → lent_2 ≡ order → lent_3 ≡ order
-    → starts ≡ map (λ (l : Line). first_of l.path) (members ways lent_2) → ends ≡ map (λ (l : Line). last_of l.path) (members ways lent_3) → lent_4 ≡ ends → lent_5 ≡ starts → AreLinks lent_4 lent_5 next
-    → AreLinks (map (λ (l : Line). last_of l.path) (members ways order)) (map (λ (l : Line). first_of l.path) (members ways order)) next
+    → starts ≡ map (λ (l : WayPath). first_location l.path) (ways_at ways lent_2) → ends ≡ map (λ (l : WayPath). last_location l.path) (ways_at ways lent_3) → lent_4 ≡ ends → lent_5 ≡ starts → AreNextWays lent_4 lent_5 next
+    → AreNextWays (map (λ (l : WayPath). last_location l.path) (ways_at ways order)) (map (λ (l : WayPath). first_location l.path) (ways_at ways order)) next
 links_of ways order lent_2 lent_3 starts ends lent_4 lent_5 next e2 e3 s e e4 e5 h =
-    let first = e5 ∙ (s ∙ ap (λ (ps : List ℕ). map (λ (l : Line). first_of l.path) (members ways ps)) e2) in
-    let last = e4 ∙ (e ∙ ap (λ (ps : List ℕ). map (λ (l : Line). last_of l.path) (members ways ps)) e3) in
-    subst (λ (xs : List Loc). AreLinks xs (map (λ (l : Line). first_of l.path) (members ways order)) next) last (subst (λ (xs : List Loc). AreLinks lent_4 xs next) first h)
+    let first = e5 ∙ (s ∙ ap (λ (ps : List ℕ). map (λ (l : WayPath). first_location l.path) (ways_at ways ps)) e2) in
+    let last = e4 ∙ (e ∙ ap (λ (ps : List ℕ). map (λ (l : WayPath). last_location l.path) (ways_at ways ps)) e3) in
+    subst (λ (xs : List Loc). AreNextWays xs (map (λ (l : WayPath). first_location l.path) (ways_at ways order)) next) last (subst (λ (xs : List Loc). AreNextWays lent_4 xs next) first h)
 
-sized_of : (ways : List CoastWay) (order : List ℕ) → length (map (λ (l : Line). first_of l.path) (members ways order)) ≡ length (map (λ (l : Line). last_of l.path) (members ways order))
-sized_of ways order = length-map (members ways order) (λ (l : Line). first_of l.path) ∙ sym (length-map (members ways order) (λ (l : Line). last_of l.path))
+sized_of : (ways : List CoastWay) (order : List ℕ) → length (map (λ (l : WayPath). first_location l.path) (ways_at ways order)) ≡ length (map (λ (l : WayPath). last_location l.path) (ways_at ways order))
+sized_of ways order = length-map (ways_at ways order) (λ (l : WayPath). first_location l.path) ∙ sym (length-map (ways_at ways order) (λ (l : WayPath). last_location l.path))
 
 pub orbits-requires : goal.orbits-requires
 orbits-requires c =
@@ -56,7 +56,7 @@ chains_of-requires-clause-below c =
     let order = c.in_ok-order.order.items in
     let next = c.in_ok-next.next.items in
     let links = links_of ways order c.deref-2.result.now c.deref-3.result.now c.in_ok-starts.starts.items c.in_ok-ends.ends.items c.deref-4.result.now c.deref-5.result.now next c.deref-2.ensures.value c.deref-3.ensures.value c.in_ok-starts.ensures c.in_ok-ends.ensures c.deref-4.ensures.value c.deref-5.ensures.value c.in_ok-next.ensures in
-    let sized : length next ≡ length order = links.sized ∙ (length-map (members ways order) (λ (l : Line). last_of l.path) ∙ length-map order (member ways)) in
+    let sized : length next ≡ length order = links.sized ∙ (length-map (ways_at ways order) (λ (l : WayPath). last_location l.path) ∙ length-map order (member ways)) in
     let n : length c.deref-6.result.now ≡ length c.deref-7.result.now = ap length c.deref-6.ensures.value ∙ (sized ∙ ap length (sym c.deref-7.ensures.value)) in
     let os = map (λ o. o.items) c.in_ok-orbits.orbits.items in
     let below = c.each_stands_once.ensures.below (length c.deref-6.result.now) os c.in_ok-orbits.ensures.orbits.once in
@@ -72,13 +72,13 @@ returns c =
     let links = links_of ways order c.deref-2.result.now c.deref-3.result.now c.in_ok-starts.starts.items c.in_ok-ends.ends.items c.deref-4.result.now c.deref-5.result.now next c.deref-2.ensures.value c.deref-3.ensures.value c.in_ok-starts.ensures c.in_ok-ends.ensures c.deref-4.ensures.value c.deref-5.ensures.value c.in_ok-next.ensures in
     let os = map (λ o. o.items) c.in_ok-orbits.orbits.items in
     IfOk-weaker c.chains_of.result _ _ (λ v each. record {
-      sorted = members ways order;
+      sorted = ways_at ways order;
       same = sorted_same ways order by_id;
       rising = sorted_rising ways order by_id;
       next = next;
       links = links;
       orbits = os;
       are_orbits = subst (λ (xs : List (Option ℕ)). AreOrbits xs os) c.deref-6.ensures.value c.in_ok-orbits.ensures.orbits;
-      in_order = subst (λ (xs : List (Option ℕ)). AreInOrder xs os) c.deref-6.ensures.value c.in_ok-orbits.ensures.order;
+      in_order = subst (λ (xs : List (Option ℕ)). AreOrbitsInOrder xs os) c.deref-6.ensures.value c.in_ok-orbits.ensures.order;
       each = rw (c.deref-7.ensures.value, c.deref-8.ensures.value, c.deref-9.ensures.value) at each;
     }) c.chains_of.ensures

@@ -1,8 +1,8 @@
 use Rattle.std.proofs.Common.{◌≡◌, map, take}
-use Rattle.coast_join.specs.Chains.{Line}
-use Rattle.coast_join.specs.ChainSteps.{members}
-use Rattle.coast_join.specs.Line.{last_of}
+use Rattle.coast_join.specs.Chains.{WayPath}
+use Rattle.coast_join.specs.ChainSteps.{ways_at}
+use Rattle.coast_join.specs.Line.{last_location}
 use Rattle.coast_join.proofs.chaining.ends.Given as goal
 
 abbrev pub invariant-loop-place : goal.invariant-loop-place
-invariant-loop-place l = l.ends.items ≡ map (λ (x : Line). last_of x.path) (members l.ways (take l.place-index l.places))
+invariant-loop-place l = l.ends.items ≡ map (λ (x : WayPath). last_location x.path) (ways_at l.ways (take l.place-index l.places))

@@ -2,7 +2,7 @@
 use Rattle.std.proofs.Common.{◌≡◌, ◌<◌, ℕ, All, List, length, map, sym, ap, subst, ◌∙◌, arith}
 use Rattle.std.proofs.lemmas.List.{length-map}
 use Rattle.coast_join.specs.declared.ring.CoastRing.{CoastRing}
-use Rattle.coast_join.specs.Joined.{IsRing, chains_at, is_closed}
+use Rattle.coast_join.specs.Joined.{IsCoastRing, chains_at, is_closed_orbit}
 use Rattle.coast_join.specs.JoinSteps.{AreParts}
 use Rattle.coast_join.proofs.Joining.{list_at, list_is, zip_kept, zip_passed}
 use Rattle.coast_join.proofs.regained.rings.Goals as goal
@@ -31,10 +31,10 @@ loop-orbit-preserved c =
     let inside : i < length os = let l = c.loop-orbit-test.true in omega arith in
     let o = c.orbit-item.result.items in
     let is = list_is c.args.orbits.now i c.orbit-item.result c.loop-orbit-test.true c.orbit-item.is in
-    let tested : c.is_closed.result ≡ is_closed c.args.next.now o = c.is_closed.ensures ∙ ap (is_closed c.args.next.now) c.deref.ensures.value in
+    let tested : c.is_closed_orbit.result ≡ is_closed_orbit c.args.next.now o = c.is_closed_orbit.ensures ∙ ap (is_closed_orbit c.args.next.now) c.deref.ensures.value in
     elim c.if-is_closed.branch [
       | then-is_closed+in_ok-ring_of+in_ok-push w ↦
-          let made = subst (λ (o : List ℕ). IsRing (chains_at c.args.chains.now o) w.in_ok-ring_of.field-0) w.deref-then-is_closed.ensures.value w.in_ok-ring_of.ensures in
-          rw (w.rings-is, w.in_ok-push.ensures.items) (zip_kept (λ (o : List ℕ) (x : CoastRing). IsRing (chains_at c.args.chains.now o) x) (is_closed c.args.next.now) os c.loop-orbit.rings.items i o w.in_ok-ring_of.field-0 inside is (sym tested ∙ w.if-is_closed.true) c.loop-orbit.invariant made)
-      | else-is_closed w ↦ rw w.rings-is (zip_passed (λ (o : List ℕ) (x : CoastRing). IsRing (chains_at c.args.chains.now o) x) (is_closed c.args.next.now) os c.loop-orbit.rings.items i o inside is (sym tested ∙ w.if-is_closed.false) c.loop-orbit.invariant)
+          let made = subst (λ (o : List ℕ). IsCoastRing (chains_at c.args.chains.now o) w.in_ok-ring_of.field-0) w.deref-then-is_closed.ensures.value w.in_ok-ring_of.ensures in
+          rw (w.rings-is, w.in_ok-push.ensures.items) (zip_kept (λ (o : List ℕ) (x : CoastRing). IsCoastRing (chains_at c.args.chains.now o) x) (is_closed_orbit c.args.next.now) os c.loop-orbit.rings.items i o w.in_ok-ring_of.field-0 inside is (sym tested ∙ w.if-is_closed.true) c.loop-orbit.invariant made)
+      | else-is_closed w ↦ rw w.rings-is (zip_passed (λ (o : List ℕ) (x : CoastRing). IsCoastRing (chains_at c.args.chains.now o) x) (is_closed_orbit c.args.next.now) os c.loop-orbit.rings.items i o inside is (sym tested ∙ w.if-is_closed.false) c.loop-orbit.invariant)
     ]

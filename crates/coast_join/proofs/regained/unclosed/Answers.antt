@@ -2,7 +2,7 @@
 use Rattle.std.proofs.Common.{◌≡◌, ◌<◌, ℕ, All, List, length, map, not, sym, ap, subst, ◌∙◌, arith}
 use Rattle.std.proofs.lemmas.List.{length-map}
 use Rattle.coast_join.specs.declared.chain.Chain.{Chain}
-use Rattle.coast_join.specs.Joined.{IsUnclosed, chains_at, is_closed}
+use Rattle.coast_join.specs.Joined.{IsUnclosed, chains_at, is_closed_orbit}
 use Rattle.coast_join.specs.JoinSteps.{AreParts}
 use Rattle.coast_join.proofs.Joining.{list_at, list_is, zip_kept, zip_passed}
 use Rattle.coast_join.proofs.regained.unclosed.Goals as goal
@@ -31,10 +31,10 @@ loop-orbit-preserved c =
     let inside : i < length os = let l = c.loop-orbit-test.true in omega arith in
     let o = c.orbit-item.result.items in
     let is = list_is c.args.orbits.now i c.orbit-item.result c.loop-orbit-test.true c.orbit-item.is in
-    let tested : c.is_closed.result ≡ is_closed c.args.next.now o = c.is_closed.ensures ∙ ap (is_closed c.args.next.now) c.deref.ensures.value in
+    let tested : c.is_closed_orbit.result ≡ is_closed_orbit c.args.next.now o = c.is_closed_orbit.ensures ∙ ap (is_closed_orbit c.args.next.now) c.deref.ensures.value in
     elim c.if-not-is_closed.branch [
       | then-not-is_closed+in_ok-unclosed_of+in_ok-push w ↦
           let made = subst (λ (o : List ℕ). IsUnclosed (chains_at c.args.chains.now o) w.in_ok-unclosed_of.field-0) w.deref-then-not-is_closed.ensures.value w.in_ok-unclosed_of.ensures in
-          rw (w.unclosed-is, w.in_ok-push.ensures.ok) (zip_kept (λ (o : List ℕ) (x : Chain). IsUnclosed (chains_at c.args.chains.now o) x) (λ (o : List ℕ). not (is_closed c.args.next.now o)) os c.loop-orbit.unclosed i o w.in_ok-unclosed_of.field-0 inside is (ap not (sym tested ∙ w.if-not-is_closed.true)) c.loop-orbit.invariant made)
-      | else-not-is_closed w ↦ rw w.unclosed-is (zip_passed (λ (o : List ℕ) (x : Chain). IsUnclosed (chains_at c.args.chains.now o) x) (λ (o : List ℕ). not (is_closed c.args.next.now o)) os c.loop-orbit.unclosed i o inside is (ap not (sym tested ∙ w.if-not-is_closed.false)) c.loop-orbit.invariant)
+          rw (w.unclosed-is, w.in_ok-push.ensures.ok) (zip_kept (λ (o : List ℕ) (x : Chain). IsUnclosed (chains_at c.args.chains.now o) x) (λ (o : List ℕ). not (is_closed_orbit c.args.next.now o)) os c.loop-orbit.unclosed i o w.in_ok-unclosed_of.field-0 inside is (ap not (sym tested ∙ w.if-not-is_closed.true)) c.loop-orbit.invariant made)
+      | else-not-is_closed w ↦ rw w.unclosed-is (zip_passed (λ (o : List ℕ) (x : Chain). IsUnclosed (chains_at c.args.chains.now o) x) (λ (o : List ℕ). not (is_closed_orbit c.args.next.now o)) os c.loop-orbit.unclosed i o inside is (ap not (sym tested ∙ w.if-not-is_closed.false)) c.loop-orbit.invariant)
     ]

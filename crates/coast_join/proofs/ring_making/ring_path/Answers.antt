@@ -1,7 +1,7 @@
 -- The path is closed without equal neighbours.
 use Rattle.std.proofs.Common.{◌≡◌, ◌++◌, List, ap, sym, subst, ◌∙◌, arith}
 use Rattle.osm_lattice.specs.declared.loc.Loc.{Loc}
-use Rattle.coast_join.specs.Joined.{chains_at, corners, paths_of}
+use Rattle.coast_join.specs.Joined.{chains_at, corners, locations_along}
 use Rattle.coast_join.specs.Line.{IsLine}
 use Rattle.coast_join.specs.Round.{IsRound, once}
 use Rattle.coast_join.proofs.Following.{line_of_chains}
@@ -14,13 +14,13 @@ returns-then-not-any_antarctic-clause-round c = subst IsRound (sym (c.from_vec.e
 
 pub round_path-requires : goal.round_path-requires
 round_path-requires c =
-    let line : IsLine (once (paths_of (chains_at c.args.chains.now c.args.places.now) ++ corners)) = line_of_chains c.orders_are_exact.ensures.locations c.args.chains.now c.args.places.now corners c.requires.some c.requires.inside in
-    let is : c.add_corners.new.locs.items ≡ paths_of (chains_at c.args.chains.now c.args.places.now) ++ corners = c.in_ok-add_corners.ensures ∙ ap (λ (xs : List Loc). xs ++ corners) c.in_ok-locs.ensures in
+    let line : IsLine (once (locations_along (chains_at c.args.chains.now c.args.places.now) ++ corners)) = line_of_chains c.orders_are_exact.ensures.locations c.args.chains.now c.args.places.now corners c.requires.some c.requires.inside in
+    let is : c.add_corners.new.locs.items ≡ locations_along (chains_at c.args.chains.now c.args.places.now) ++ corners = c.in_ok-add_corners.ensures ∙ ap (λ (xs : List Loc). xs ++ corners) c.in_ok-locs.ensures in
     let long = (subst (λ (xs : List Loc). IsLine (once xs)) (sym is) line).long in
     omega arith
 
 pub returns-clause-round : goal.returns-clause-round
 returns-clause-round c =
-    let line : IsLine (once (paths_of (chains_at c.args.chains.now c.args.places.now) ++ corners)) = line_of_chains c.orders_are_exact.ensures.locations c.args.chains.now c.args.places.now corners c.requires.some c.requires.inside in
-    let is : c.add_corners.new.locs.items ≡ paths_of (chains_at c.args.chains.now c.args.places.now) ++ corners = c.in_ok-add_corners.ensures ∙ ap (λ (xs : List Loc). xs ++ corners) c.in_ok-locs.ensures in
+    let line : IsLine (once (locations_along (chains_at c.args.chains.now c.args.places.now) ++ corners)) = line_of_chains c.orders_are_exact.ensures.locations c.args.chains.now c.args.places.now corners c.requires.some c.requires.inside in
+    let is : c.add_corners.new.locs.items ≡ locations_along (chains_at c.args.chains.now c.args.places.now) ++ corners = c.in_ok-add_corners.ensures ∙ ap (λ (xs : List Loc). xs ++ corners) c.in_ok-locs.ensures in
     subst IsRound (sym c.in_ok-path.ensures) (round_from c.orders_are_exact.ensures.locations (once c.add_corners.new.locs.items) (subst (λ (xs : List Loc). IsLine (once xs)) (sym is) line))

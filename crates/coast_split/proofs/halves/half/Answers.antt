@@ -1,13 +1,13 @@
 use Rattle.std.proofs.Common.{All, subst, sym}
 use Rattle.coast_split.specs.Half.{ArePortions, IsHalf}
-use Rattle.coast_split.specs.Walk.{AddsWalked, AreSortedEnds, IsEnd}
+use Rattle.coast_split.specs.Walk.{AddsWalked, AreSortedEnds, IsEndOnLine}
 use Rattle.coast_split.proofs.MadeHalves.{all-ends, made}
 use Rattle.coast_split.proofs.SidedHalves.{half-beyond, half-kept, half-sided}
 use Rattle.coast_split.proofs.halves.half.Goals as goal
 
 pub push_links-requires : goal.push_links-requires
 push_links-requires c =
-    subst (All (IsEnd c.args.cut)) (sym c.as_slice-3.ensures.value) (all-ends c.args.cut c.args.side c.as_slice-2.result.now c.in_ok-ends.ends.items c.in_ok-ends.ensures)
+    subst (All (IsEndOnLine c.args.cut)) (sym c.as_slice-3.ensures.value) (all-ends c.args.cut c.args.side c.as_slice-2.result.now c.in_ok-ends.ends.items c.in_ok-ends.ensures)
 
 is_half : (c : goal.After-drop-ends-2) → IsHalf c.args.cut c.args.side c.args.edges.now c.push_links.new.edges
 is_half c =

@@ -3,7 +3,7 @@ use Rattle.osm_host.specs.Outside.{output}
 use Rattle.osm_words.specs.Answers.{coastline_seen}
 use Rattle.osm_job.proofs.InputThenOutput.{lacks_input, no_memory, output_not_opened, output_written, too_many}
 use Rattle.job_coastline.specs.Coastline.{IsCoastline}
-use Rattle.job_coastline.specs.Found.{whole_of}
+use Rattle.job_coastline.specs.Found.{whole_of_found}
 use Rattle.job_coastline.proofs.work.coastline.Goals as goal
 
 pub returns-in-Err : goal.returns-in-Err
@@ -27,7 +27,7 @@ returns-in_default g c =
     let found = c.in-Ok-found_in.ensures.found in
     output_not_opened c.streams_append.ensures c.args.settings.now.file.now (output c.args.settings.now.output.now c.args.settings.now.overwrite) (IsCoastline (coastline_seen c.args.settings.now))
     (g.H.Host.seen c.args.host.now) c.in-Ok.store (g.H.Host.seen c.read_input.new.host) c.in-Ok.ensures (g.H.Host.seen c.open_output.new.self) e.rest e.left e.cause.never_falls e.bytes_read
-    (whole_of c.in-Ok-found_in.found, found.right, found.itself) e.cause.failed e.listed_or_not
+    (whole_of_found c.in-Ok-found_in.found, found.right, found.itself) e.cause.failed e.listed_or_not
 
 pub returns : goal.returns
 returns g c =

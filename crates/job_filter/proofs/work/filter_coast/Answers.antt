@@ -4,7 +4,7 @@ use Rattle.osm_host.specs.Outside.{output}
 use Rattle.osm_job.specs.Worked.{WroteOver}
 use Rattle.osm_job.proofs.InputThenOutput.{lacks_input, no_memory, output_not_opened, output_written}
 use Rattle.job_filter.specs.Filter.{IsFilter}
-use Rattle.job_filter.specs.WorkSteps.{IsText, whole_of}
+use Rattle.job_filter.specs.WorkSteps.{IsText, whole_of_text}
 use Rattle.job_filter.proofs.Written.{right_written, text_right}
 use Rattle.job_filter.proofs.work.filter_coast.Goals as goal
 
@@ -24,7 +24,7 @@ returns-in_default-open_output g c =
     let text = c.in-Ok-filter.text.items in
     let right = text_right c.args.settings.now.file.now c.in-Ok.store (g.H.Host.seen c.args.host.now) (g.H.Host.seen c.read_input.new.host) text c.in-Ok.ensures c.filters_exist.ensures c.in-Ok-filter.ensures.text in
     output_not_opened c.streams_append.ensures c.args.settings.now.file.now (output c.args.settings.now.output.now c.args.settings.now.overwrite) IsFilter (g.H.Host.seen c.args.host.now) c.in-Ok.store
-    (g.H.Host.seen c.read_input.new.host) c.in-Ok.ensures (g.H.Host.seen c.open_output.new.self) e.rest e.left e.cause.never_falls e.bytes_read (whole_of text, right, refl) e.cause.failed e.listed_or_not
+    (g.H.Host.seen c.read_input.new.host) c.in-Ok.ensures (g.H.Host.seen c.open_output.new.self) e.rest e.left e.cause.never_falls e.bytes_read (whole_of_text text, right, refl) e.cause.failed e.listed_or_not
 
 pub returns : goal.returns
 returns g c =

@@ -7,7 +7,7 @@ use Rattle.osm_job.specs.Worked.{WroteOver}
 use Rattle.osm_points.specs.Errors.{IsErrorOf}
 use Rattle.osm_words.specs.Answers.{locate_seen}
 use Rattle.job_locate.proofs.Located.{found_right, no_points, ran_out_read}
-use Rattle.job_locate.specs.Locate.{IsLocate, whole_of}
+use Rattle.job_locate.specs.Locate.{IsLocate, whole_of_points}
 use Rattle.job_locate.specs.WorkSteps.{IsLines}
 use Rattle.job_locate.proofs.work.locate_points.Goals as goal
 
@@ -34,7 +34,7 @@ returns-in_default-open_output g c =
     c.in-Ok-read_points.ensures.points c.deref-2.ensures.value c.in-Ok-find.ensures in
     both_not_opened c.streams_append.ensures c.args.settings.now.file.now c.args.settings.now.points.now (output c.args.settings.now.output.now c.args.settings.now.overwrite)
     (IsLocate settings) (g.H.Host.seen c.args.host.now) c.in-Ok.both.0 c.in-Ok.both.1.items (g.H.Host.seen c.read_both.new.host) c.in-Ok.ensures
-    (g.H.Host.seen c.open_output.new.self) e.rest e.left e.cause.never_falls e.bytes_read (whole_of c.in-Ok-find.found, right, refl) e.cause.failed e.listed_or_not
+    (g.H.Host.seen c.open_output.new.self) e.rest e.left e.cause.never_falls e.bytes_read (whole_of_points c.in-Ok-find.found, right, refl) e.cause.failed e.listed_or_not
 
 pub returns : goal.returns
 returns g c =

@@ -3,7 +3,7 @@ use Rattle.std.proofs.Common.{codes, false, refl}
 use Rattle.osm_host.specs.Outside.{output}
 use Rattle.osm_job.proofs.OutputAlone.{alone_not_opened, alone_written, ran_out}
 use Rattle.job_sample.specs.Sample.{IsSample}
-use Rattle.job_sample.specs.WorkSteps.{whole_of}
+use Rattle.job_sample.specs.WorkSteps.{whole_of_lines}
 use Rattle.job_sample.proofs.work.sample.Goals as goal
 
 pub returns-in_default : goal.returns-in_default
@@ -13,7 +13,7 @@ pub returns-in_default-open_output : goal.returns-in_default-open_output
 returns-in_default-open_output g c =
     let e = c.in_default-open_output.ensures in
     alone_not_opened c.streams_append.ensures (output (codes "-") false) (IsSample c.args.settings.now.count) (g.H.Host.seen c.args.host.now)
-    (g.H.Host.seen c.open_output.new.self) e.rest e.left e.cause.never_falls e.bytes_read (whole_of c.in-Ok.lines.items, c.in-Ok.ensures, refl) e.cause.failed e.listed_or_not
+    (g.H.Host.seen c.open_output.new.self) e.rest e.left e.cause.never_falls e.bytes_read (whole_of_lines c.in-Ok.lines.items, c.in-Ok.ensures, refl) e.cause.failed e.listed_or_not
 
 pub returns : goal.returns
 returns g c =

@@ -1,6 +1,6 @@
 use Rattle.std.proofs.Common.{rules, ◌∙◌, ap, ℤ, w64, to_z, of_z}
 use Rattle.std.proofs.lemmas.Int.{to_z-of_z}
-use Rattle.opl_reader.specs.Coordinates.{place_of}
+use Rattle.opl_reader.specs.Coordinates.{location_from}
 use Rattle.opl_reader.specs.CoordinateReading.{longitude, latitude}
 use Rattle.opl_reader.proofs.PlaceLaws.{placed}
 use Rattle.opl_reader.proofs.refs.place_at.Goals as goal
@@ -10,5 +10,5 @@ returns c =
     let x = c.args.x in
     let y = c.args.y in
     placed (to_z w64 (of_z w64 x)) (to_z w64 (of_z w64 y)) c.new.result c.new.ensures.valid c.new.ensures.value
-    ∙ ap (λ (z : ℤ). place_of (longitude z) (latitude (to_z w64 (of_z w64 y)))) (to_z-of_z w64 x (search rules))
-    ∙ ap (λ (z : ℤ). place_of (longitude x) (latitude z)) (to_z-of_z w64 y (search rules))
+    ∙ ap (λ (z : ℤ). location_from (longitude z) (latitude (to_z w64 (of_z w64 y)))) (to_z-of_z w64 x (search rules))
+    ∙ ap (λ (z : ℤ). location_from (longitude x) (latitude z)) (to_z-of_z w64 y (search rules))

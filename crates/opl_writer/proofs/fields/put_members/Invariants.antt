@@ -1,5 +1,5 @@
 use Rattle.std.proofs.Common.{◌≡◌, ◌++◌, map, length}
-use Rattle.osm_notation.specs.Kept.{Keeps}
+use Rattle.osm_notation.specs.Kept.{KeepsFront}
 use Rattle.opl_writer.specs.Written.{member_text, members_field}
 use Rattle.opl_writer.specs.Rows.{led}
 use Rattle.opl_writer.proofs.fields.put_members.Given as goal
@@ -8,7 +8,7 @@ use Rattle.opl_writer.proofs.fields.put_members.Given as goal
 abbrev pub invariant-loop-member : goal.invariant-loop-member
 invariant-loop-member l = record {
   whole : l.text.items ++ led l.mark (map member_text l.rest) ≡ l.fn.text.items ++ members_field l.members;
-  kept : Keeps l.fn.text.items l.text.items;
+  kept : KeepsFront l.fn.text.items l.text.items;
 }
 
 abbrev pub decreases-loop-member : goal.decreases-loop-member

@@ -1,5 +1,5 @@
 use Rattle.std.proofs.Common.{◌≡◌, ◌++◌, map, length}
-use Rattle.osm_notation.specs.Kept.{Keeps}
+use Rattle.osm_notation.specs.Kept.{KeepsFront}
 use Rattle.opl_writer.specs.Written.{tags_field}
 use Rattle.osm_notation.specs.Written.{tag_text}
 use Rattle.opl_writer.specs.Rows.{led}
@@ -9,7 +9,7 @@ use Rattle.opl_writer.proofs.fields.put_tags.Given as goal
 abbrev pub invariant-loop-tag : goal.invariant-loop-tag
 invariant-loop-tag l = record {
   whole : l.text.items ++ led l.mark (map tag_text l.rest) ≡ l.fn.text.items ++ tags_field l.tags;
-  kept : Keeps l.fn.text.items l.text.items;
+  kept : KeepsFront l.fn.text.items l.text.items;
 }
 
 abbrev pub decreases-loop-tag : goal.decreases-loop-tag

@@ -1,6 +1,6 @@
 use Rattle.std.proofs.Common.{◌≡◌}
 use Rattle.osm_host.specs.Outside.{OnlyReads}
-use Rattle.osm_input.specs.Keeps.{Keeps}
+use Rattle.osm_input.specs.Keeps.{KeepsNames}
 use Rattle.osm_input.proofs.TextTaken.{TextTaken}
 use Rattle.osm_input.proofs.text.read_whole.Given as goal
 
@@ -8,7 +8,7 @@ abbrev pub invariant-loop-count : goal.invariant-loop-count
 invariant-loop-count g l = record {
   taken : TextTaken l.limit (g.H.Host.seen l.fn.host) (g.H.Host.seen l.host) l.text.items l.room;
   no_fault : (g.H.Host.seen l.host).read_faults ≡ (g.H.Host.seen l.fn.host).read_faults;
-  keeps : Keeps (g.H.Host.seen l.fn.host) (g.H.Host.seen l.host);
+  keeps : KeepsNames (g.H.Host.seen l.fn.host) (g.H.Host.seen l.host);
   rest : OnlyReads (g.H.Host.seen l.fn.host) (g.H.Host.seen l.host);
 }
 

@@ -14,6 +14,6 @@ returns-in-Ok-read_all g c =
 
 pub returns-in-Err : goal.returns-in-Err
 returns-in-Err g c =
-    rw c.read_ended.ensures (input_not_read c.args.name.now (g.H.Host.seen c.args.host.now) (g.H.Host.seen c.open_input.new.self)
+    rw c.ending_of_read.ensures (input_not_read c.args.name.now (g.H.Host.seen c.args.host.now) (g.H.Host.seen c.open_input.new.self)
     c.in-Ok.ensures.rest c.in-Ok.ensures.told c.in-Ok.ensures.cause.never_falls c.in-Ok.ensures.listed c.in-Ok.ensures.begins c.in-Ok.ensures.none_read c.in-Ok.ensures.cause.answered
     (g.H.Host.seen c.read_all.new.host) c.in-Err.ensures.rest c.in-Err.ensures.keeps c.in-Err.error c.in-Err.ensures.reads c.in-Err.ensures.told c.in-Err.ensures.at_once)

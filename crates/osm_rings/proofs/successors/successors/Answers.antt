@@ -2,7 +2,7 @@
 use Rattle.std.proofs.Common.{◌≡◌, ◌++◌, ◌∷◌, [], length, ap, subst, sym, ◌∙◌, arith}
 use Rattle.std.proofs.lemmas.List.{length-append}
 use Rattle.orbits.specs.Orbits.{after}
-use Rattle.plane_edges.specs.Multiple.{common_den, edge_times, whole_edges}
+use Rattle.plane_edges.specs.Multiple.{edge_times, product_of_denominators, whole_edges}
 use Rattle.lists.specs.Member.{In}
 use Rattle.osm_rings.specs.Numbered.{edge_at}
 use Rattle.osm_rings.specs.Departures.{IsFirstMet}
@@ -21,7 +21,7 @@ loop-edge-preserved c =
     let new = c.successor.result in
     let items : c.push.new.self.items ≡ next ++ new ∷ [] = c.in_ok-push.ensures.items in
     let member : In edge es = subst (λ e. In e es) (sym c.edge-item.is) (at-in es n edge c.loop-edge-test.true) in
-    let here : edge_at xs n ≡ edge_times (common_den es) edge = read-edge (common_den es) es n edge c.loop-edge-test.true ∙ ap (edge_times (common_den es)) (sym c.edge-item.is) in
+    let here : edge_at xs n ≡ edge_times (product_of_denominators es) edge = read-edge (product_of_denominators es) es n edge c.loop-edge-test.true ∙ ap (edge_times (product_of_denominators es)) (sym c.edge-item.is) in
     let met : IsFirstMet xs (edge_at xs n) new = subst (λ e. IsFirstMet xs e new) (sym here) (c.successor.ensures es c.requires member) in
     record {
       sized = ap length items ∙ (let sized = c.loop-edge.invariant.sized in omega (arith, length-append next (new ∷ [])));

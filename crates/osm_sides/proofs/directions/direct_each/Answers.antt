@@ -4,7 +4,7 @@ use Rattle.status.specs.Status.{IsStatus}
 use Rattle.osm_lattice.specs.declared.seg.Seg.{Seg}
 use Rattle.osm_lattice.specs.Loc.{vector_of}
 use Rattle.osm_lattice.specs.Seg.{edge_of}
-use Rattle.osm_sides.specs.Sweep.{AreDirectedTo, EndsRise, ends_above}
+use Rattle.osm_sides.specs.Sweep.{AreDirectedTo, EndsNeverFall, ends_above}
 use Rattle.osm_sides.proofs.Statuses.{none-directed, none-swept, remaining, risen}
 use Rattle.osm_sides.proofs.directions.direct_each.Goals as goal
 use Rattle.osm_sides.proofs.SweptHeights.{IsSweptBeforeRow}
@@ -16,7 +16,7 @@ loop-done-init c =
     (omega arith, subst (IsSweptBeforeRow segs ends 0 0) (sym c.new-status.ensures) (none-swept segs ends), subst (AreDirectedTo segs 0) (sym c.in_ok-edges.ensures.items) (none-directed segs))
 
 pub leave-next-requires-clause-rise : goal.leave-next-requires-clause-rise
-leave-next-requires-clause-rise c = subst EndsRise (sym c.deref.ensures.value) (c.leaving-ends.ensures c.args.segs.now c.requires.ends).rise
+leave-next-requires-clause-rise c = subst EndsNeverFall (sym c.deref.ensures.value) (c.leaving-ends.ensures c.args.segs.now c.requires.ends).rise
 
 pub leave-next-requires-clause-remains : goal.leave-next-requires-clause-remains
 leave-next-requires-clause-remains c =

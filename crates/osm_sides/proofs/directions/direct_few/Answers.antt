@@ -23,7 +23,7 @@ loop-place-preserved c =
     let ss = c.args.segs.now in let i = c.loop-place.place in let s = c.index-segs-place.result in
     let es = c.loop-place.edges.items in let new = c.push.new.self.items in let e = c.of.result in
     let grown = c.in_ok-push.ensures.items in let so_far = c.loop-place.invariant.1 in
-    let up : c.direction.result ≡ odd_side.runs_up (plane_edges_of ss) (edge_of s) = c.direction.ensures.right s ∙ ap (λ (t : Seg). odd_side.runs_up (plane_edges_of ss) (edge_of t)) (sym c.index-segs-place.is) in (
+    let up : c.direction.result ≡ odd_side.runs_up_by_odd_side (plane_edges_of ss) (edge_of s) = c.direction.ensures.right s ∙ ap (λ (t : Seg). odd_side.runs_up_by_odd_side (plane_edges_of ss) (edge_of t)) (sym c.index-segs-place.is) in (
       c.direction.ensures.known,
       record {
         carriers = map_more (λ e. e.carrier) OfSeg ss i s es new e so_far.carriers c.of.ensures.carrier grown c.index-segs-place.is c.loop-place-test.true;

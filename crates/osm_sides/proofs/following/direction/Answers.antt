@@ -17,10 +17,10 @@ follow-requires-clause-directed c =
     let ss = c.args.segs.now in let place = c.args.place in let s = c.index-segs-place.result in
     record {
       inside = c.requires.inside;
-      right = λ d. c.runs_up-up.ensures ∙ ap (λ (t : Seg). odd_side.runs_up (plane_edges_of ss) (edge_of t)) (c.index-segs-place.is ∙ get_or_default ss place s d c.requires.inside);
+      right = λ d. c.runs_up-up.ensures ∙ ap (λ (t : Seg). odd_side.runs_up_by_odd_side (plane_edges_of ss) (edge_of t)) (c.index-segs-place.is ∙ get_or_default ss place s d c.requires.inside);
     }
 
 pub returns-clause-right : goal.returns-clause-right
 returns-clause-right c = λ d.
     let ss = c.args.segs.now in let place = c.args.place in let s = c.index-segs-place.result in
-    c.runs_up-up.ensures ∙ ap (λ (t : Seg). odd_side.runs_up (plane_edges_of ss) (edge_of t)) (c.index-segs-place.is ∙ get_or_default ss place s d c.requires.inside)
+    c.runs_up-up.ensures ∙ ap (λ (t : Seg). odd_side.runs_up_by_odd_side (plane_edges_of ss) (edge_of t)) (c.index-segs-place.is ∙ get_or_default ss place s d c.requires.inside)

@@ -2,7 +2,7 @@ use Rattle.std.proofs.Common.{rules, ◌≡◌, ◌∙◌, FitsSigned, w32, w64,
 use Rattle.std.proofs.lemmas.Int.{to_z-of_z}
 use Rattle.osm_bands.specs.Bands.{HoldsReaching}
 use Rattle.osm_bands.specs.declared.bands.Span.{Span}
-use Rattle.area_locate.specs.Sides.{span_of}
+use Rattle.area_locate.specs.Sides.{span_of_segment}
 use Rattle.area_locate.proofs.sides.Sides.place_of.Goals as goal
 
 pub place_near-requires-clause-whole : goal.place_near-requires-clause-whole
@@ -11,5 +11,5 @@ place_near-requires-clause-whole c =
     let wide : FitsSigned w64 c.from.result = search rules in
     let narrow : FitsSigned w32 c.args.p.y = search rules in
     let height = to_z-of_z w64 c.from.result wide ∙ c.from.ensures ∙ to_z-of_z w32 c.args.p.y narrow in
-    let spans : c.self.inside.bands ≡ map span_of c.deref.result.now = c.self.invariant ∙ ap (map span_of) (sym c.deref.ensures.value) in
+    let spans : c.self.inside.bands ≡ map span_of_segment c.deref.result.now = c.self.invariant ∙ ap (map span_of_segment) (sym c.deref.ensures.value) in
     subst (λ (s : List Span). HoldsReaching s c.args.p.y near) spans (subst (λ (h : ℤ). HoldsReaching c.self.inside.bands h near) height c.at.ensures.whole)

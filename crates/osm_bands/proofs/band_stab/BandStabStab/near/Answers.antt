@@ -2,7 +2,7 @@
 use Rattle.std.proofs.Common.{ap, map, rules, subst, w64, ◌∙◌, ◌≡◌}
 use Rattle.std.proofs.lemmas.Int.{to_z-of_z}
 use Rattle.osm_bands.specs.Bands.{HoldsReaching}
-use Rattle.osm_bands.specs.Heights.{height_of, span_of}
+use Rattle.osm_bands.specs.Heights.{span_of, whole_height_of}
 use Rattle.osm_bands.proofs.SpannedHeights.{spanning}
 use Rattle.osm_bands.proofs.band_stab.BandStabStab.near.Goals as goal
 
@@ -12,5 +12,5 @@ returns-clause-whole c =
     let each : c.self.inside.bands ≡ map span_of c.args.self.now = c.self.invariant ∙ ap (map span_of) c.self.view_is in
     let height = to_z-of_z w64 c.floor_at.result (search rules) ∙ c.floor_at.ensures in
     spanning c.args.self.now c.args.at.now near
-    (subst (λ spans. HoldsReaching spans (height_of c.args.at.now) near) each
+    (subst (λ spans. HoldsReaching spans (whole_height_of c.args.at.now) near) each
     (subst (λ height. HoldsReaching c.self.inside.bands height near) height c.at.ensures.whole))

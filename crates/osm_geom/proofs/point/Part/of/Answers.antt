@@ -2,7 +2,7 @@
 use Rattle.std.proofs.Common.{arith, rules, subst, sym, ◌≤◌, FitsSigned, to_z, of_z}
 use Rattle.std.specs.Int.{w32, w128}
 use Rattle.std.proofs.lemmas.Int.{to_z-of_z}
-use Rattle.osm_lattice.specs.Lowest.{IsLowest}
+use Rattle.osm_lattice.specs.Lowest.{IsInLowestTerms}
 use Rattle.osm_geom.specs.Part.{IsPartNum}
 use Rattle.osm_geom.proofs.Parts.{above_is_in, num_is}
 use Rattle.osm_geom.proofs.point.Part.of.Goals as goal
@@ -22,5 +22,5 @@ invariant_of-result c =
       den_in = c.requires.den_in;
       above_in = above_is_in f.num f.den some c.rest_above.result rest;
       num_in = subst (λ z. IsPartNum z f.den) (sym is) c.requires.num_in;
-      lowest = subst (λ z. IsLowest z f.den) (sym is) f.lowest;
+      lowest = subst (λ z. IsInLowestTerms z f.den) (sym is) f.lowest;
     }

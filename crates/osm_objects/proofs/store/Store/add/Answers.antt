@@ -9,7 +9,7 @@ use Rattle.osm_objects.specs.declared.held.Placed.{Placed}
 use Rattle.osm_objects.specs.Object.{ref_of}
 use Rattle.osm_objects.specs.Objects.{object_at, AreApart}
 use Rattle.osm_objects.specs.Held.{KindsAgree, object_from, others_from}
-use Rattle.osm_objects.specs.Plain.{node_from, nodes_from, AreRising}
+use Rattle.osm_objects.specs.Plain.{node_from, nodes_from, HaveRisingIds}
 use Rattle.osm_objects.specs.Merged.{merged}
 use Rattle.osm_objects.proofs.MergedLemmas.{since_most}
 use Rattle.osm_objects.proofs.LookupLemmas.{lookup_none}
@@ -47,7 +47,7 @@ invariant_of-self-then-is_above c =
     let here : object_at (merged (nodes_from nodes) (others_from others)) (ref_of (node_from n)) ≡ None = ap (object_at (merged (nodes_from nodes) (others_from others))) is ∙ ap (λ (objects : List Object). object_at objects of) c.self.view_is ∙ absent in
     let pushed = c.in_ok-push_node.ensures.ok in
     let rise = rw c.as_slice.ensures.value at (c.is_above.ensures c.if-is_above.true) in (
-      subst AreRising (sym pushed) rise,
+      subst HaveRisingIds (sym pushed) rise,
       c.self.invariant.1,
       node_fits nodes c.push_node.new.nodes.items n others c.self.inside.since pushed c.self.invariant.2,
       subst AreApart (sym (node_last nodes c.push_node.new.nodes.items n others c.self.inside.since pushed c.self.invariant.2)) (one_more_apart (merged (nodes_from nodes) (others_from others)) (node_from n) c.self.invariant.3 here),

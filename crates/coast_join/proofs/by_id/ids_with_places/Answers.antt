@@ -2,7 +2,7 @@
 use Rattle.std.proofs.Common.{FitsSigned, w64, ℤ, pos, get_or, ◌∙◌, rules}
 use Rattle.std.proofs.lemmas.Int.{to_z-of_z}
 use Rattle.coast_join.proofs.Sorting.{placed_more}
-use Rattle.coast_join.proofs.by_id.placed.Goals as goal
+use Rattle.coast_join.proofs.by_id.ids_with_places.Goals as goal
 
 pub loop-place-preserved : goal.loop-place-preserved
 loop-place-preserved c =

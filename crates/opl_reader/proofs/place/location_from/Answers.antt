@@ -1,5 +1,5 @@
 use Rattle.opl_reader.proofs.PlaceLaws.{place-at, longitude-held, latitude-held}
-use Rattle.opl_reader.proofs.place.place_of.Goals as goal
+use Rattle.opl_reader.proofs.place.location_from.Goals as goal
 
 pub returns-in-Some-Some : goal.returns-in-Some-Some
 returns-in-Some-Some c =

@@ -6,7 +6,7 @@ use Rattle.job_coastline.specs.Coast.{coast_seen}
 use Rattle.job_coastline.specs.Counts.{AreCoastCounts}
 use Rattle.job_coastline.specs.Report.{coast_lines}
 use Rattle.job_coastline.proofs.Together.{counts_right}
-use Rattle.job_coastline.proofs.counts.counts_of.Goals as goal
+use Rattle.job_coastline.proofs.counts.coast_counts_of.Goals as goal
 
 pub returns : goal.returns
 returns c =

@@ -1,6 +1,0 @@
-use Rattle.std.proofs.Common.{◌≡◌, take}
-use Rattle.coast_sides.specs.Water.{segments_along}
-use Rattle.coast_sides.proofs.watering.segments_along.Given as goal
-
-abbrev pub invariant-loop-edge : goal.invariant-loop-edge
-invariant-loop-edge l = l.segs.items ≡ segments_along (take l.edge-index l.edges)
