@@ -5,7 +5,7 @@ use Rattle.std.proofs.lemmas.List.Folds.{list_all-append}
 use Rattle.std.specs.Fmt.{digit_glyph, digits, digits_onto, signed_decimal}
 use Rattle.std.specs.List.{join_with_byte, list_all}
 use Rattle.lists.proofs.ListsKit.{and-left, and-right}
-use Rattle.opl_reader.specs.declared.object.Tag.{Tag}
+use Rattle.osm_elements.specs.declared.object.Tag.{Tag}
 use Rattle.osm_lattice.specs.declared.loc.Loc.{Loc}
 use Rattle.osm_notation.specs.Coordinates.{point_text}
 use Rattle.osm_notation.specs.Decimal.{fraction_text, last_digits, magnitude_text, units_text, without_end_zeros}

@@ -2,8 +2,8 @@
 use Rattle.std.proofs.Common.{◌≡◌, ◌∙◌, ◌↔◌, refl, sym, ap, subst, ℕ, ◌+◌, true, false, List, [], ◌∷◌, ◌++◌, length, take, drop, get_or, Some, Result, IfOk, take-append-drop, bytes_eq, Bor, ◌<◌, ◌≤◌, arith, Option}
 use Rattle.std.proofs.lemmas.List.{drop_more, take_all, take_more}
 use Rattle.std.proofs.lemmas.Result.{IfOk-weaker}
-use Rattle.opl_reader.specs.declared.object.Object.{Object}
-use Rattle.opl_reader.specs.declared.object.ObjectRef.{ObjectRef}
+use Rattle.osm_elements.specs.declared.object.Object.{Object}
+use Rattle.osm_elements.specs.declared.object.ObjectRef.{ObjectRef}
 use Rattle.osm_area.specs.Outcome.{HasAreaExactly, OutcomeExists}
 use Rattle.osm_nest.specs.declared.polygon.Polygon.{Polygon}
 use Rattle.osm_objects.specs.Candidates.{candidates}
@@ -11,7 +11,7 @@ use Rattle.osm_objects.specs.Objects.{object_at}
 use Rattle.osm_objects.specs.declared.choice.Choice.{Choice}
 use Rattle.osm_text.specs.Feature.{feature_text}
 use Rattle.osm_text.specs.Paths.{paths_of}
-use Rattle.one_area.specs.Laws.{OutcomeIsOne}
+use Rattle.osm_area.specs.OneOutcome.{OutcomeIsOne}
 use Rattle.area_certify.specs.declared.telling.Told.{Told}
 use Rattle.area_certify.specs.declared.telling.Told.TheVariants.{NoArea, Right, Wrong}
 use Rattle.osm_objects.specs.declared.area.UniqueId.{UniqueId}

@@ -3,8 +3,8 @@ use Rattle.std.proofs.Common.{◌≡◌, ◌∙◌, refl, sym, ap, subst, ℕ, �
 use Rattle.std.proofs.lemmas.Bool.{cases_lt}
 use Rattle.std.proofs.lemmas.Option.{slice_get_within}
 use Rattle.std.proofs.lemmas.Slice.Eq.{bytes_eq-Decides}
-use Rattle.opl_reader.specs.declared.object.Object.{Object}
-use Rattle.opl_reader.specs.declared.object.ObjectRef.{ObjectRef}
+use Rattle.osm_elements.specs.declared.object.Object.{Object}
+use Rattle.osm_elements.specs.declared.object.ObjectRef.{ObjectRef}
 use Rattle.osm_objects.specs.Objects.{object_at}
 use Rattle.osm_objects.specs.declared.problem.Note.{Note}
 use Rattle.osm_objects.specs.declared.problem.Problem.{Problem}
@@ -16,7 +16,7 @@ use Rattle.osm_area.specs.declared.outcome.Outcome.TheVariants.{Area, Problems}
 use Rattle.osm_nest.specs.declared.polygon.Polygon.{Polygon}
 use Rattle.osm_text.specs.Feature.{feature_text}
 use Rattle.osm_text.specs.Paths.{paths_of}
-use Rattle.one_area.specs.Laws.{OutcomeIsOne}
+use Rattle.osm_area.specs.OneOutcome.{OutcomeIsOne}
 use Rattle.osm_objects.specs.declared.area.UniqueId.{UniqueId}
 use Rattle.area_certify.specs.declared.verdict.Verdict.TheVariants.{Yes, No}
 use Rattle.area_certify.specs.Areas.{AreThoseWithAreas}

@@ -1,7 +1,7 @@
 -- Texts without a wrong line, as the whole of what is to be written.
 use Rattle.std.specs.Prelude.{◌≡◌, ◌↔◌, ◌+◌, ◌++◌, ℕ, List, [], ◌∷◌, Option}
-use Rattle.opl_reader.specs.declared.object.Object.{Object}
-use Rattle.opl_reader.specs.declared.object.ObjectRef.{ObjectRef}
+use Rattle.osm_elements.specs.declared.object.Object.{Object}
+use Rattle.osm_elements.specs.declared.object.ObjectRef.{ObjectRef}
 use Rattle.osm_objects.specs.Candidates.{candidates}
 use Rattle.osm_objects.specs.declared.choice.Choice.{Choice}
 use Rattle.osm_objects.specs.declared.area.UniqueId.{UniqueId}

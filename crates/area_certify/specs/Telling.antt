@@ -1,7 +1,7 @@
 -- Words of private clauses on what a candidate tells of the lines that are left. No public contract cites it.
 use Rattle.std.specs.Prelude.{◌≡◌, ℕ, List, ◌∷◌, Option, Some, None}
-use Rattle.opl_reader.specs.declared.object.Object.{Object}
-use Rattle.opl_reader.specs.declared.object.ObjectRef.{ObjectRef}
+use Rattle.osm_elements.specs.declared.object.Object.{Object}
+use Rattle.osm_elements.specs.declared.object.ObjectRef.{ObjectRef}
 use Rattle.osm_objects.specs.declared.problem.Note.{Note}
 use Rattle.osm_area.specs.declared.outcome.Outcome.TheVariants.{Area}
 use Rattle.osm_area.specs.Outcome.{IsOutcome}

@@ -3,8 +3,8 @@
 ghost use Rattle.std.specs.Prelude.{IfOk};
 ghost use Rattle.area_certify.specs.Telling.{IsAreaOf};
 
-use opl_reader::ObjectRef;
 use osm_area::{Outcome, assemble, has_area_exactly};
+use osm_elements::ObjectRef;
 use osm_nest::Polygons;
 use osm_objects::Store;
 use std::alloc::{AllocError as OutOfMemory, Global};

@@ -10,8 +10,8 @@ ghost use Rattle.area_certify.specs.declared.verdict.Verdict.TheVariants.{Yes, N
 use crate::laws::{first_wrong_line_is_one, verdicts_exclude};
 use crate::telling::{Told, tell};
 use crate::verdict::Verdict;
-use opl_reader::ObjectRef;
 use osm_area::{has_area_exactly, outcome_exists};
+use osm_elements::ObjectRef;
 use osm_objects::{Choice, Store, UniqueId};
 use std::alloc::{AllocError as OutOfMemory, Global};
 

@@ -7,7 +7,7 @@ ghost use Rattle.osm_text.specs.Feature.{feature_text};
 ghost use Rattle.osm_text.specs.Id.{feature_id};
 ghost use Rattle.osm_text.specs.Paths.{paths_of};
 
-use opl_reader::ObjectRef;
+use osm_elements::ObjectRef;
 use osm_nest::Polygons;
 use osm_objects::{Store, UniqueId};
 use osm_text::{FeatureId, feature_text};

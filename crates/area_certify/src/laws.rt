@@ -3,8 +3,7 @@
 ghost use Rattle.area_certify.specs.Laws.{FirstWrongLineIsOne, TextsHaveAVerdict, VerdictsExclude};
 ghost use Rattle.area_certify.specs.RightTexts.{RightTextsAreFeatures, RightTextsExist};
 
-use one_area::outcome_is_one;
-use osm_area::{has_area_exactly, outcome_exists};
+use osm_area::{has_area_exactly, outcome_exists, outcome_is_one};
 
 /// A text has one first wrong line at most.
 pub fn first_wrong_line_is_one()

@@ -8,8 +8,8 @@ ghost use Rattle.area_certify.specs.Telling.{IsTold};
 use crate::area::area_of;
 use crate::feature::is_feature;
 use crate::lines::first_line;
-use one_area::outcome_is_one;
-use opl_reader::ObjectRef;
+use osm_area::outcome_is_one;
+use osm_elements::ObjectRef;
 use osm_objects::{Store, UniqueId};
 use std::alloc::{AllocError as OutOfMemory, Global};
 

@@ -6,9 +6,9 @@ use Rattle.lists.proofs.ListsKit.{taken_more}
 use Rattle.osm_lattice.specs.declared.loc.Loc.{Loc}
 use Rattle.osm_lattice.specs.declared.seg.Seg.{Seg}
 use Rattle.osm_lattice.specs.Seg.{edge_of}
-use Rattle.winding.specs.EdgeList.{IsEvenAtPoints}
-use Rattle.opl_reader.specs.declared.object.Object.{Object}
-use Rattle.opl_reader.specs.declared.object.ObjectRef.{ObjectRef}
+use Rattle.plane_lists.specs.Lists.EdgeList.{IsEvenAtPoints}
+use Rattle.osm_elements.specs.declared.object.Object.{Object}
+use Rattle.osm_elements.specs.declared.object.ObjectRef.{ObjectRef}
 use Rattle.osm_objects.specs.Candidates.{candidates}
 use Rattle.osm_objects.specs.declared.problem.Problem.{Problem}
 use Rattle.osm_segments.specs.Counts.{AreSurvivors}

@@ -6,7 +6,7 @@ use Rattle.std.specs.Int.Signed.{lt_z, lt_z_no}
 use Rattle.std.proofs.lemmas.Bool.{or_parts}
 use Rattle.std.proofs.lemmas.Grind.{flat_map-append}
 use Rattle.std.proofs.lemmas.Option.{slice_get-map}
-use Rattle.osm_bands.specs.Bands.{HoldsReaching}
+use Rattle.osm_sides.specs.HeightBands.Bands.{HoldsReaching}
 use Rattle.osm_lattice.specs.declared.loc.Loc.{Loc}
 use Rattle.area_locate.specs.declared.area.Area.{Area}
 use Rattle.area_locate.specs.declared.envelope.Envelope.{Envelope}

@@ -6,7 +6,7 @@ use Rattle.std.proofs.lemmas.List.{get_or_default}
 use Rattle.std.proofs.lemmas.List.Elements.{filter_map-append}
 use Rattle.std.proofs.lemmas.Option.{slice_get_read}
 use Rattle.lists.proofs.ListsKit.{count_by-cons, taken_more}
-use Rattle.osm_stab.proofs.StabKit.{marked, marks, marks_count, near_gives}
+use Rattle.osm_sides.proofs.StabKit.{marked, marks, marks_count, near_gives}
 use Rattle.area_locate.specs.ItemsAt.{items_at}
 
 module _ {X Y : Type 0} (f : X → List Y) where

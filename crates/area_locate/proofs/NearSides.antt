@@ -12,7 +12,7 @@ use Rattle.osm_lattice.specs.declared.loc.Loc.{Loc}
 use Rattle.osm_lattice.specs.declared.seg.Seg.{Seg}
 use Rattle.osm_lattice.specs.Loc.{vector_of}
 use Rattle.osm_lattice.proofs.LatticeKit.{rising_edge}
-use Rattle.osm_bands.specs.Bands.{HoldsReaching}
+use Rattle.osm_sides.specs.HeightBands.Bands.{HoldsReaching}
 use Rattle.area_locate.specs.ItemsAt.{items_at}
 use Rattle.area_locate.specs.Sides.{are_alike, is_beside, is_on_line, lies_on, on_count, span_of_segment}
 use Rattle.osm_sides.specs.SideTests.{left_count, left_of}

@@ -9,8 +9,8 @@ use Rattle.plane.specs.Sign.{Sign, Minus, Null, Plus, is_plus, negated, sign}
 use Rattle.plane.specs.Vector.{cross, east, from_to}
 use Rattle.plane.proofs.PlaneKit.{cross-agree, crossings-left, crossings_at, east-direction, east-side, orient-round}
 use Rattle.plane.proofs.SignKit.{Says, agree, all3-out, imp, imp-out, says, times}
-use Rattle.winding.specs.EdgeList.{IsEvenAtPoints, crossing_count}
-use Rattle.winding.proofs.WindingKit.{cross-west, parity_independent, west, west-direction}
+use Rattle.plane_lists.specs.Lists.EdgeList.{IsEvenAtPoints, crossing_count}
+use Rattle.plane_lists.proofs.WindingKit.{cross-west, parity_independent, west, west-direction}
 use Rattle.lists.specs.Member.{In}
 use Rattle.lists.proofs.ListsKit.{all-in, below_from, count_by-cons, from-map, in-all, not-true-out, or-out, total-is, total-map, total_none}
 use Rattle.osm_lattice.specs.declared.loc.Loc.{Loc}

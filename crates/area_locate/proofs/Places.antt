@@ -4,7 +4,7 @@ use Rattle.std.proofs.lemmas.Bool.{eq-eqb, eqb-true, lt-ltb, ltb-true}
 use Rattle.plane.specs.RayCrossing.{is_off}
 use Rattle.plane.specs.Edge as plane
 use Rattle.plane.specs.Vector.{one_at}
-use Rattle.winding.specs.EdgeList.{IsEvenAtPoints}
+use Rattle.plane_lists.specs.Lists.EdgeList.{IsEvenAtPoints}
 use Rattle.lists.specs.Member.{In}
 use Rattle.lists.proofs.ListsKit.{count_by-cons, not-true-out}
 use Rattle.osm_lattice.specs.declared.loc.Loc.{Loc}

@@ -1,6 +1,6 @@
 -- How areas keep their bands. No public contract cites it.
 use Rattle.std.specs.Prelude.{◌≡◌, map}
-use Rattle.osm_bands.specs.declared.bands.Span.{Span}
+use Rattle.osm_sides.specs.declared.bands.bands.Span.{Span}
 use Rattle.area_locate.specs.declared.area.Area.{Area}
 use Rattle.area_locate.specs.declared.areas.Areas.TheInside.{Inside}
 use Rattle.area_locate.specs.Envelopes.{heights_of}

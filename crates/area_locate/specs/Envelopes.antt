@@ -1,7 +1,7 @@
 -- The rectangles that areas lie in. No public contract cites it.
 use Rattle.std.specs.Prelude.{All, Bool, List, ◌||◌, ◌≤ℤ◌}
 use lib.Signed.{lt_z}
-use Rattle.osm_bands.specs.declared.bands.Span.{Span}
+use Rattle.osm_sides.specs.declared.bands.bands.Span.{Span}
 use Rattle.osm_lattice.specs.declared.loc.Loc.{Loc}
 use Rattle.osm_lattice.specs.declared.seg.Seg.{Seg}
 use Rattle.area_locate.specs.declared.envelope.Envelope.{Envelope}

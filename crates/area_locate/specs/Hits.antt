@@ -2,15 +2,15 @@
 use Rattle.std.specs.Prelude.{◌≡◌, ◌⊎◌, ◌%◌, Bool, true, false, List, [], ◌∷◌}
 use Rattle.plane.specs.RayCrossing.{is_off}
 use Rattle.plane.specs.Vector.{east}
-use Rattle.winding.specs.EdgeList.{crossing_count}
+use Rattle.plane_lists.specs.Lists.EdgeList.{crossing_count}
 use Rattle.lists.specs.Member.{In}
 use Rattle.osm_lattice.specs.declared.loc.Loc.{Loc}
 use Rattle.osm_lattice.specs.declared.seg.Seg.{Seg}
 use Rattle.osm_lattice.specs.Loc.{vector_of}
 use Rattle.osm_lattice.specs.Seg.{edge_of}
 use Rattle.osm_sides.specs.Survivors.{plane_edges_of}
-use Rattle.opl_reader.specs.declared.object.Object.{Object}
-use Rattle.opl_reader.specs.declared.object.ObjectRef.{ObjectRef}
+use Rattle.osm_elements.specs.declared.object.Object.{Object}
+use Rattle.osm_elements.specs.declared.object.ObjectRef.{ObjectRef}
 use Rattle.osm_objects.specs.declared.choice.Choice.{Choice}
 use Rattle.osm_objects.specs.Candidates.{candidates}
 use Rattle.osm_area.specs.Problems.{SurvivorsAre}

@@ -1,7 +1,7 @@
 -- That the points of a list are found in one way, as statements.
 use Rattle.std.specs.Prelude.{◌≡◌, List}
 use Rattle.osm_lattice.specs.declared.loc.Loc.{Loc}
-use Rattle.opl_reader.specs.declared.object.Object.{Object}
+use Rattle.osm_elements.specs.declared.object.Object.{Object}
 use Rattle.osm_objects.specs.declared.choice.Choice.{Choice}
 use Rattle.area_locate.specs.declared.found.Found.{Found}
 use Rattle.area_locate.specs.Hits.{AreFound}

@@ -8,7 +8,7 @@ use Rattle.osm_lattice.specs.declared.seg.Seg.{Seg}
 use Rattle.osm_lattice.specs.Loc.{vector_of}
 use Rattle.osm_lattice.specs.Seg.{edge_of}
 use Rattle.osm_sides.specs.SideTests.{left_count}
-use Rattle.osm_bands.specs.declared.bands.Span.{Span}
+use Rattle.osm_sides.specs.declared.bands.bands.Span.{Span}
 use Rattle.area_locate.specs.declared.sides.Place.{Place}
 use Rattle.area_locate.specs.declared.sides.Place.TheVariants.{Off, In, On}
 

@@ -6,8 +6,8 @@ ghost use Rattle.area_locate.specs.Envelopes.{Encloses};
 
 use crate::envelope::Envelope;
 use crate::sides::Sides;
-use opl_reader::ObjectRef;
 use osm_area::{Outcome, assemble, has_area_exactly};
+use osm_elements::ObjectRef;
 use osm_geom::{Carrier, Edge, Seg};
 use osm_nest::Polygon;
 use osm_objects::Store;

@@ -3,7 +3,7 @@
 ghost use Rattle.std.specs.Prelude.{◌≡◌, ◌++◌, ◌<◌, All, IfOk, OnOk, length, map};
 ghost use Rattle.std.specs.List.{flat_map};
 ghost use Rattle.std.specs.List.Sorted.{IsStrictlyIncreasing};
-ghost use Rattle.osm_bands.specs.Bands.{HoldsReaching};
+ghost use Rattle.osm_sides.specs.HeightBands.Bands.{HoldsReaching};
 ghost use Rattle.area_locate.specs.Areas.{AreAreas, hits_by, hits_of};
 ghost use Rattle.area_locate.specs.AreasInside.{area_heights};
 ghost use Rattle.area_locate.specs.ItemsAt.{items_at};
@@ -11,10 +11,10 @@ ghost use Rattle.area_locate.specs.ItemsAt.{items_at};
 use crate::area::{Area, area_of};
 use crate::found::{Hit, Hits};
 use crate::sides::Place;
-use opl_reader::ObjectRef;
-use osm_bands::{Bands, Span};
+use osm_elements::ObjectRef;
 use osm_lattice::Loc;
 use osm_objects::Store;
+use osm_sides::bands::{Bands, Span};
 use std::alloc::{AllocError as OutOfMemory, Global};
 use std::marker::Model;
 

@@ -4,8 +4,8 @@ ghost use Rattle.std.specs.Prelude.{◌≡◌};
 ghost use Rattle.osm_lattice.specs.declared.loc.Loc.{Loc};
 ghost use Rattle.area_locate.specs.Envelopes.{Encloses, IsInEnvelope, heights_of, lacks};
 
-use osm_bands::Span;
 use osm_lattice::{Loc, Seg};
+use osm_sides::bands::Span;
 
 /// A rectangle, its border included, in units of 1e-7 degree. Where `left` is above `right` it has no location.
 #[derive(Clone, Copy, Debug, PartialEq, Eq)]

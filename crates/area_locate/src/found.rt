@@ -1,7 +1,7 @@
 //! What the locator answers.
 
 use lists::List;
-use opl_reader::ObjectRef;
+use osm_elements::ObjectRef;
 use osm_lattice::Loc;
 
 /// An area that holds a location, or has it on it.

@@ -2,14 +2,14 @@
 
 ghost use Rattle.std.specs.Prelude.{◌≡◌, ◌<◌, ◌%◌, ◌==◌, All, IfOk, length, map, nat_lt};
 ghost use Rattle.std.specs.List.Sorted.{IsStrictlyIncreasing};
-ghost use Rattle.osm_bands.specs.Bands.{HoldsReaching};
+ghost use Rattle.osm_sides.specs.HeightBands.Bands.{HoldsReaching};
 ghost use Rattle.area_locate.specs.ItemsAt.{items_at};
 ghost use Rattle.area_locate.specs.Sides.{on_count, place_among, place_by_parity, span_of_segment};
 ghost use Rattle.osm_sides.specs.SideTests.{left_count};
 
 use crate::against_segment::is_on;
-use osm_bands::{Bands, Span};
 use osm_lattice::{Loc, Seg};
+use osm_sides::bands::{Bands, Span};
 use osm_sides::is_left_of;
 use std::alloc::{AllocError as OutOfMemory, Global};
 use std::marker::Model;

@@ -1,7 +1,7 @@
 -- Objects no two of which have one kind and id: each is what is found by its kind and id.
 use Rattle.std.proofs.Common.{◌≡◌, ◌∙◌, refl, ap, subst, cond, Bool, false, None, Some, inl, inr, List, [], ◌∷◌, All}
 use Rattle.std.proofs.lemmas.List.Elements.{All-cons, All-head, All-nil, All-tail}
-use Rattle.opl_reader.specs.declared.object.Object.{Object}
+use Rattle.osm_elements.specs.declared.object.Object.{Object}
 use Rattle.osm_objects.specs.Object.{is_at, ref_of}
 use Rattle.osm_objects.specs.Objects.{AreApart, object_at}
 use Rattle.osm_objects.proofs.ObjectsKit.{is_at-itself, is_at-symmetric, passes}

@@ -5,8 +5,8 @@ use Rattle.std.specs.List.{AllByRecursion, flat_map, list_any}
 use Rattle.std.specs.Option.{option_map_or}
 use Rattle.std.specs.Ordering.{int_eq}
 use Rattle.std.proofs.lemmas.Grind.{flat_map-append}
-use Rattle.opl_reader.specs.declared.object.Object.{Object}
-use Rattle.opl_reader.specs.declared.object.Object.TheVariants as object
+use Rattle.osm_elements.specs.declared.object.Object.{Object}
+use Rattle.osm_elements.specs.declared.object.Object.TheVariants as object
 use Rattle.opl_writer.specs.Written.{ended, node_line, object_line, objects_text, way_line}
 use Rattle.osm_objects.specs.CoastWays.{coast_ways, is_coast_way}
 use Rattle.osm_objects.specs.Nodes.{node_ids}

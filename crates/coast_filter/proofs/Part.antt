@@ -5,9 +5,9 @@ use Rattle.std.specs.List.{flat_map, list_any}
 use Rattle.std.specs.Ordering.{int_eq}
 use Rattle.std.proofs.lemmas.Bool.{true≢false}
 use Rattle.std.proofs.lemmas.List.Elements.{All-append, All-filter, filter-append, filter_agree}
-use Rattle.opl_reader.specs.declared.object.Object.{Object}
-use Rattle.opl_reader.specs.declared.object.Object.TheVariants as object
-use Rattle.opl_reader.specs.declared.object.ObjectKind.TheVariants.{Way}
+use Rattle.osm_elements.specs.declared.object.Object.{Object}
+use Rattle.osm_elements.specs.declared.object.Object.TheVariants as object
+use Rattle.osm_elements.specs.declared.object.ObjectKind.TheVariants.{Way}
 use Rattle.opl_writer.specs.Writable.{IsWritable}
 use Rattle.osm_objects.specs.CoastWays.{is_coast_way}
 use Rattle.osm_objects.specs.Object.{is_at, kind_of, ref_of}

@@ -6,10 +6,10 @@ use Rattle.std.specs.Option.{option_map_or, option_or}
 use Rattle.std.specs.Ordering.{int_eq}
 use Rattle.std.proofs.lemmas.Bool.{true≢false}
 use Rattle.osm_lattice.specs.declared.loc.Loc.{Loc}
-use Rattle.opl_reader.specs.declared.object.Object.{Object}
-use Rattle.opl_reader.specs.declared.object.Object.TheVariants as object
-use Rattle.opl_reader.specs.declared.object.ObjectKind.TheVariants.{Node}
-use Rattle.opl_reader.specs.declared.object.Ref.{Ref}
+use Rattle.osm_elements.specs.declared.object.Object.{Object}
+use Rattle.osm_elements.specs.declared.object.Object.TheVariants as object
+use Rattle.osm_elements.specs.declared.object.ObjectKind.TheVariants.{Node}
+use Rattle.osm_elements.specs.declared.object.Ref.{Ref}
 use Rattle.osm_objects.specs.CoastWays.{coast_ways, is_coast_way}
 use Rattle.osm_objects.specs.Object.{id_of, is_at, ref_of}
 use Rattle.osm_objects.specs.Objects.{AreApart, location_of, object_at, place_in, place_of, way_in}

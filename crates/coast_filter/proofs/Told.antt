@@ -2,9 +2,9 @@
 use Rattle.std.proofs.Common.{◌≡◌, subst, sym, ℕ, List, Result, Ok, Err, IfOk}
 use Rattle.std.specs.Prelude.{Vec}
 use Rattle.std.specs.declared.alloc.Global.{Global}
-use Rattle.opl_reader.specs.declared.object.Object.{Object}
+use Rattle.osm_elements.specs.declared.object.Object.{Object}
 use Rattle.opl_writer.specs.Written.{objects_text}
-use Rattle.written_inputs.specs.Laws.{CanBeInput, OnlyLongLinesAreBad}
+use Rattle.opl_writer.specs.ReadBack.Laws.{CanBeInput, OnlyLongLinesAreBad}
 use Rattle.coast_filter.specs.CoastPart.{coast_part}
 use Rattle.coast_filter.specs.Laws.{CoastInputStays, CoastPartIsApart, CoastPartIsWritable, CoastTextTellsCoast, HaveOneCoastInput, TellsCoastOf}
 

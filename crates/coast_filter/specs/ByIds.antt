@@ -3,7 +3,7 @@ use Rattle.std.specs.Prelude.{◌≡◌, ℕ, ℤ, List, [], filter}
 use Rattle.std.specs.List.{list_any}
 use Rattle.std.specs.Option.{option_map_or}
 use Rattle.std.specs.Ordering.{int_eq}
-use Rattle.opl_reader.specs.declared.object.Object.{Object}
+use Rattle.osm_elements.specs.declared.object.Object.{Object}
 use Rattle.opl_writer.specs.Written.{ended, node_line, way_line}
 use Rattle.osm_objects.specs.Objects.{node_of, way_of}
 use Rattle.coast_filter.specs.CoastPart.{nodes_named}

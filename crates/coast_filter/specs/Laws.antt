@@ -2,7 +2,7 @@
 use Rattle.std.specs.Prelude.{◌≡◌, ℕ, All, List}
 use Rattle.std.specs.List.{flat_map}
 use Rattle.opl_reader.specs.Lines.{lines_of}
-use Rattle.opl_reader.specs.declared.object.Object.{Object}
+use Rattle.osm_elements.specs.declared.object.Object.{Object}
 use Rattle.opl_writer.specs.Writable.{IsWritable}
 use Rattle.opl_writer.specs.Written.{objects_text}
 use Rattle.osm_objects.specs.CoastWays.{coast_ways}
@@ -11,7 +11,7 @@ use Rattle.coast_join.specs.Input.{asides_of, way_paths_in as lines_taking_part}
 use Rattle.osm_input.specs.Input.{IsBadPlace, objects_told}
 use Rattle.osm_input.specs.declared.fault.InputFault.{InputFault}
 use Rattle.osm_input.specs.declared.fault.InputFault.TheVariants.{TooLong}
-use Rattle.written_inputs.specs.Laws.{CanBeInput}
+use Rattle.opl_writer.specs.ReadBack.Laws.{CanBeInput}
 use Rattle.coast_filter.specs.CoastPart.{coast_part}
 
 -- The coast input of both is the same: the coast ways that take part, with their paths, and what keeps the others from it, in order.

@@ -6,15 +6,15 @@ ghost use Rattle.opl_writer.specs.Written.{objects_text};
 ghost use Rattle.coast_filter.specs.ByIds.{among, node_text, way_line_by_id};
 ghost use Rattle.coast_filter.specs.CoastPart.{coast_part};
 ghost use Rattle.coast_filter.specs.Laws.{TellsCoastOf};
-ghost use Rattle.written_inputs.specs.Laws.{AreSpelled};
+ghost use Rattle.opl_writer.specs.ReadBack.Laws.{AreSpelled};
 
 use crate::laws::coast_text_tells_the_coast;
 use crate::names::names_of;
 use indexmap::IndexSet;
+use opl_writer::read_back::spelled_objects_can_be_written;
 use opl_writer::{put_node, put_way};
 use osm_objects::Store;
 use std::alloc::{AllocError as OutOfMemory, Global};
-use written_inputs::spelled_objects_can_be_written;
 
 /// Adds the line of the node of this id.
 fn put_held_node(text: &mut Vec<u8>, store: &Store, id: i64) -> Result<(), OutOfMemory>

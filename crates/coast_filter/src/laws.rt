@@ -3,7 +3,7 @@
 
 ghost use Rattle.coast_filter.specs.Laws.{CoastInputStays, CoastPartIsApart, CoastPartIsWritable, CoastPartStays, CoastTextTellsCoast};
 
-use written_inputs::written_inputs_are_read;
+use opl_writer::read_back::written_inputs_are_read;
 
 /// The coast part of an input has its coast input: the same coast ways take part, with the same paths, and the same are set
 /// aside, in the same order, for the same reasons.

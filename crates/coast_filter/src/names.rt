@@ -6,7 +6,7 @@ ghost use Rattle.coast_filter.specs.ByIds.{HaveSame, way_nodes};
 ghost use Rattle.coast_filter.specs.CoastPart.{nodes_named};
 
 use indexmap::IndexSet;
-use opl_reader::Refs;
+use osm_elements::Refs;
 use osm_objects::Store;
 use std::alloc::{AllocError as OutOfMemory, Global};
 

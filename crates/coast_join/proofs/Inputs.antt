@@ -6,7 +6,7 @@ use Rattle.std.proofs.lemmas.Map.Keys.{IsDistinct-cons, IsDistinct-head, IsDisti
 use Rattle.coast_join.specs.declared.way.CoastWay.{CoastWay}
 use Rattle.lists.proofs.ListsKit.{map-map}
 use Rattle.std.proofs.lemmas.List.{flat_map_more, take_more}
-use Rattle.opl_reader.specs.declared.object.Object.{Object}
+use Rattle.osm_elements.specs.declared.object.Object.{Object}
 use Rattle.coast_join.specs.Chains.{WayPath, way_path_of}
 use Rattle.coast_join.specs.Input.{is_empty, line_along, missing_node_ids, refs_of, way_paths_in}
 

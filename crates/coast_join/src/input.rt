@@ -15,7 +15,7 @@ use crate::repeated::each_once;
 use crate::round::once_path;
 use crate::way::{Aside, Asides, CoastWay, CoastWays};
 use indexmap::IndexSet;
-use opl_reader::Refs;
+use osm_elements::Refs;
 use osm_geom::{Loc, Path, orders_are_exact};
 use osm_objects::Store;
 use std::alloc::{AllocError as OutOfMemory, Global};

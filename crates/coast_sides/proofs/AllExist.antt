@@ -15,7 +15,7 @@ use Rattle.osm_segments.specs.Laws.{RepeatsExist}
 use Rattle.osm_sides.specs.Laws.{DirectedAreWhole, DirectionsExist}
 use Rattle.osm_sides.specs.Survivors.{HasEvenNodes}
 use Rattle.osm_sides.proofs.SidesKit.{directed_counts, directed_is_sided}
-use Rattle.plane_edges.specs.SidedLaws.{LatticeIsSided}
+use Rattle.osm_geom.specs.InPlane.SidedLaws.{LatticeIsSided}
 use Rattle.coast_join.specs.declared.ring.CoastRing.{CoastRing}
 use Rattle.coast_sides.specs.ExistenceLaws.{LandExists, SortedExists, WaterExists}
 use Rattle.coast_sides.specs.Land.{HaveNoConflicts, IsLand}

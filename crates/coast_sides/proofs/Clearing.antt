@@ -6,8 +6,8 @@ use Rattle.plane.specs.Vector.{Vector, east, from_to}
 use Rattle.plane.specs.Edge as plane
 use Rattle.plane.specs.RayCrossing.{up_crossing, down_crossing}
 use Rattle.plane.specs.Scale.{scaled_edge}
-use Rattle.winding.specs.EdgeList.{crossing_count}
-use Rattle.winding.specs.ScaledEdges.{scaled_edges}
+use Rattle.plane_lists.specs.Lists.EdgeList.{crossing_count}
+use Rattle.plane_lists.specs.Lists.ScaledEdges.{scaled_edges}
 use Rattle.osm_lattice.specs.declared.seg.Seg.{Seg}
 use Rattle.osm_lattice.specs.Conflict.{conflict_of}
 use Rattle.osm_lattice.specs.OrderLaws.{SegmentOrderTellsApart}

@@ -5,14 +5,14 @@ use Rattle.std.proofs.lemmas.Int.{ints}
 use Rattle.plane.specs.Edge as plane
 use Rattle.plane.specs.Scale.{scaled_edge}
 use Rattle.plane.specs.Vector.{east}
-use Rattle.winding.specs.EdgeList.{crossing_count}
-use Rattle.winding.specs.ScaledEdges.{scaled_edges}
+use Rattle.plane_lists.specs.Lists.EdgeList.{crossing_count}
+use Rattle.plane_lists.specs.Lists.ScaledEdges.{scaled_edges}
 use Rattle.osm_geom.specs.declared.edge.Carrier.TheVariants.{OfSeg}
 use Rattle.osm_geom.specs.declared.edge.Edge.{Edge}
 use Rattle.osm_lattice.specs.declared.seg.Seg.{Seg}
 use Rattle.osm_lattice.specs.OrderLaws.{SegmentOrderTellsApart}
 use Rattle.osm_sides.specs.Survivors.{plane_edges_of}
-use Rattle.plane_edges.specs.Sided.{signed_count_at}
+use Rattle.osm_geom.specs.InPlane.Sided.{signed_count_at}
 use Rattle.coast_sides.specs.Land.{IsLand, parity_at}
 use Rattle.coast_sides.specs.Water.{IsCoveredOnce, LandAndWaterCover, WaterCoversTheRest, segment_of_carrier, segments_under}
 use Rattle.coast_sides.proofs.Clearing.{left_parity}

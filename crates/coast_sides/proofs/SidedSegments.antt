@@ -13,8 +13,8 @@ use Rattle.plane.specs.Edge as plane
 use Rattle.plane.specs.Sign.{is_plus, negated}
 use Rattle.plane.specs.Vector.{one_at, same_point}
 use Rattle.plane.proofs.PlaneKit.{order-reversed, same_point-refl, same_point-true}
-use Rattle.winding.specs.Ring.{segments_of}
-use Rattle.winding.specs.Sided as winding
+use Rattle.plane_lists.specs.Lists.Ring.{segments_of}
+use Rattle.plane_lists.specs.Lists.Sided as winding
 use Rattle.lists.specs.Member.{EachPair}
 use Rattle.lists.proofs.ListsKit.{in-all, member_cases, no_member}
 use Rattle.osm_geom.specs.declared.edge.Edge.{Edge}
@@ -31,10 +31,10 @@ use Rattle.osm_lattice.specs.OrderLaws.{LocationOrderTellsApart}
 use Rattle.osm_lattice.specs.Seg.{edge_of, seg_cmp}
 use Rattle.osm_lattice.proofs.LatticeKit.{loc_from_vectors, rising_edge}
 use Rattle.osm_sides.specs.Survivors.{HasEvenNodes, plane_edges_of}
-use Rattle.plane_edges.specs.Multiple.{edge_times, edges_times, point_times}
-use Rattle.plane_edges.specs.Sided.{IsSided}
-use Rattle.plane_edges.specs.SidedLaws.{IsLattice, LatticeIsSided}
-use Rattle.plane_edges.proofs.EdgesKit.{lattice_point}
+use Rattle.osm_geom.specs.InPlane.Multiple.{edge_times, edges_times, point_times}
+use Rattle.osm_geom.specs.InPlane.Sided.{IsSided}
+use Rattle.osm_geom.specs.InPlane.SidedLaws.{IsLattice, LatticeIsSided}
+use Rattle.osm_geom.proofs.EdgesKit.{lattice_point}
 use Rattle.coast_sides.specs.Land.{HaveNoConflicts}
 use Rattle.coast_sides.specs.Water.{segment_of_carrier, segments_under}
 use Rattle.coast_sides.proofs.EvenRings.{ends_are, ends_at, one, rising_none, seg_cmp_total}

@@ -13,7 +13,7 @@ use Rattle.plane.specs.Vector.{Vector, east, from_to, orient}
 use Rattle.lists.proofs.ListsKit.{int_eq-true}
 use Rattle.plane.proofs.PlaneKit.{rightward_crossing, rise-y}
 use Rattle.plane.proofs.SignKit.{agree, all4-out, imp, imp-out, minus-is, not-minus-by, plus-is, sign-*, sign-reversed, times}
-use Rattle.winding.specs.EdgeList.{crossing_count}
+use Rattle.plane_lists.specs.Lists.EdgeList.{crossing_count}
 use Rattle.osm_lattice.specs.declared.loc.Loc.{Loc}
 use Rattle.osm_lattice.specs.declared.seg.Seg.{Seg}
 use Rattle.osm_lattice.specs.Loc.{loc_cmp, vector_of}

@@ -2,7 +2,7 @@
 use Rattle.std.specs.Prelude.{All, List}
 use Rattle.osm_geom.specs.declared.edge.Edge.{Edge}
 use Rattle.osm_geom.specs.WholeSegment.{IsWholeSegment}
-use Rattle.plane_edges.specs.Sided.{IsSided}
+use Rattle.osm_geom.specs.InPlane.Sided.{IsSided}
 use Rattle.coast_join.specs.declared.ring.CoastRing.{CoastRing}
 use Rattle.coast_sides.specs.declared.land_parts.Land.{Land}
 use Rattle.coast_sides.specs.declared.sorted.Sorted.{Sorted}

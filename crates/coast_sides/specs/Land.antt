@@ -2,8 +2,8 @@
 use Rattle.std.specs.Prelude.{◌≡◌, ◌%◌, List, All, Contains, None, ℤ, pos}
 use Rattle.plane.specs.Sign.{Plus, sign}
 use Rattle.plane.specs.Vector.{Vector, east}
-use Rattle.winding.specs.EdgeList.{crossing_count}
-use Rattle.winding.specs.ScaledEdges.{scaled_edges}
+use Rattle.plane_lists.specs.Lists.EdgeList.{crossing_count}
+use Rattle.plane_lists.specs.Lists.ScaledEdges.{scaled_edges}
 use Rattle.osm_geom.specs.declared.edge.Edge.{Edge}
 use Rattle.osm_geom.specs.WholeSegment.{IsWholeSegment}
 use Rattle.osm_lattice.specs.declared.seg.Seg.{Seg}
@@ -11,7 +11,7 @@ use Rattle.osm_lattice.specs.Conflict.{conflict_of}
 use Rattle.osm_segments.specs.Counts.{AreSurvivors}
 use Rattle.osm_sides.specs.Directions.{AreDirected}
 use Rattle.osm_sides.specs.Survivors.{plane_edges_of}
-use Rattle.plane_edges.specs.Sided.{IsSided, signed_count_at}
+use Rattle.osm_geom.specs.InPlane.Sided.{IsSided, signed_count_at}
 
 -- no two of the segments conflict
 abbrev pub HaveNoConflicts : List Seg → Type 0

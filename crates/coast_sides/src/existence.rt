@@ -3,10 +3,10 @@ ghost use Rattle.coast_sides.specs.ExistenceLaws.{LandExists, SortedExists, Wate
 
 use crate::ring_segments::closed_lines_are_even;
 use crate::water_laws::{water_is_clear, water_is_even};
+use osm_geom::in_plane::lattice::lattice_edges_are_whole;
 use osm_geom::{conflicts_are_symmetric, orders_are_exact};
 use osm_segments::repeats_exist;
 use osm_sides::{directing_is_sided, directions_exist};
-use plane_edges::lattice::lattice_edges_are_whole;
 
 /// Every list of rings can be sorted out, and no two segments of the rings that are kept conflict.
 pub fn sorting_exists()

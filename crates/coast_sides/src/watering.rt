@@ -4,7 +4,7 @@ ghost use Rattle.std.specs.Prelude.{◌≡◌, ◌<◌, ◌++◌, All, IfOk, OnO
 ghost use Rattle.std.specs.Option.{option_to_list};
 ghost use Rattle.osm_geom.specs.WholeSegment.{IsWholeSegment};
 ghost use Rattle.osm_sides.specs.Survivors.{HasEvenNodes};
-ghost use Rattle.plane_edges.specs.Sided.{IsSided};
+ghost use Rattle.osm_geom.specs.InPlane.Sided.{IsSided};
 ghost use Rattle.coast_sides.specs.Land.{HaveNoConflicts};
 ghost use Rattle.coast_sides.specs.Water.{AreSides, IsWater, pieces, segment_of_carrier, segments_under};
 
@@ -12,10 +12,10 @@ use crate::landing::list_of;
 use crate::ring_segments::add_step;
 use crate::side_nodes::{WorldSide, side_nodes};
 use crate::water_laws::{water_is_clear, water_is_even};
+use osm_geom::in_plane::lattice::lattice_edges_are_whole;
 use osm_geom::{Carrier, Edge, Edges, Loc, Seg, conflicts_are_symmetric, orders_are_exact};
 use osm_segments::survivors;
 use osm_sides::direct;
-use plane_edges::lattice::lattice_edges_are_whole;
 use std::alloc::{AllocError as OutOfMemory, Global};
 
 /// Adds the segments between neighbouring nodes.

@@ -2,10 +2,10 @@
 use Rattle.std.proofs.Common.{ap, arith, inl, inr, pos, refl, subst, suc, sym, true, zero, Bool, List, ℕ, ℤ, ◌*◌, ◌*ℤ◌, ◌+ℤ◌, ◌-ℤ◌, ◌∙◌, ◌<◌, ◌≡◌, ◌≤◌, ◌⊎◌}
 use borrow.Author.Differences.{ints}
 use lib.IntN.{negsuc}
-use Rattle.paths.specs.Near.{near}
+use Rattle.plane_lists.specs.Paths.Near.{near}
 use Rattle.plane.specs.Sign.{Minus, Null, Plus, Sign, sign}
 use Rattle.plane.specs.Vector.{IsNonZero, Vector, cross, dot}
-use Rattle.halving.specs.Line.{scaled_line, side}
+use Rattle.plane_lists.specs.Halves.Line.{scaled_line, side}
 use Rattle.osm_geom.specs.declared.cut.Axis.{Axis}
 use Rattle.osm_geom.specs.declared.cut.Axis.TheVariants.{X, Y}
 use Rattle.osm_geom.specs.declared.cut.Cut.{Cut}

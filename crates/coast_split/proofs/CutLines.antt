@@ -5,7 +5,7 @@ use borrow.Author.Differences.{ints}
 use Rattle.plane.specs.Order.{order}
 use Rattle.plane.specs.Sign.{Minus, Null, Plus, Sign, negated, sign, then_sign}
 use Rattle.plane.specs.Vector.{IsNonZero, Vector}
-use Rattle.halving.specs.Line.{order_along, scaled_line, side}
+use Rattle.plane_lists.specs.Halves.Line.{order_along, scaled_line, side}
 use Rattle.osm_geom.specs.declared.cut.Axis.{Axis}
 use Rattle.osm_geom.specs.declared.cut.Axis.TheVariants.{X, Y}
 use Rattle.osm_geom.specs.declared.cut.Cut.{Cut}
@@ -14,11 +14,11 @@ use Rattle.osm_geom.specs.declared.cut.Side.TheVariants.{Low, High}
 use Rattle.osm_geom.specs.declared.point.Point.{Point}
 use Rattle.osm_geom.specs.Cut.{coordinate_of, cut_order, side_by, side_of}
 use Rattle.osm_geom.specs.Point.{den_of, point_order, x_of, y_of}
-use Rattle.plane_edges.specs.Multiple.{point_times}
+use Rattle.osm_geom.specs.InPlane.Multiple.{point_times}
 use Rattle.coast_split.specs.Half.{line_by, line_of, line_order, runs_forward}
 use Rattle.plane.proofs.SignKit.{lift, same, ◌⊞◌, ◌⊟◌, ◌⊠◌, null-zero, plus-times, sign-reversed}
 use Rattle.osm_geom.proofs.GeometryKit.{x_den-some, y_den-some}
-use Rattle.plane_edges.proofs.EdgesKit.{product-some, sign-some, factor, factor-some, nat, order_is, swapped}
+use Rattle.osm_geom.proofs.EdgesKit.{product-some, sign-some, factor, factor-some, nat, order_is, swapped}
 
 -- ---- the side: a number x = m * (n * f) against k * at, where k = m * (d * f)
 before-by : (at n : ℤ) (m d f k : ℕ) → m * (d * f) ≡ k → pos k *ℤ at -ℤ pos m *ℤ (n *ℤ pos f) ≡ pos (m * f) *ℤ (at *ℤ pos d -ℤ n)

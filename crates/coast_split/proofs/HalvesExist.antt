@@ -3,7 +3,7 @@ use Rattle.std.proofs.Common.{Bool, List, [], ap, false, inl, inr, refl, subst, 
 use Rattle.plane.specs.Sign.{Minus, Null, Plus, Sign, are_opposite, is_plus, negated}
 use Rattle.lists.specs.Member.{EachPair, In}
 use Rattle.lists.proofs.ListsKit.{in-all}
-use Rattle.winding.specs.Parity.{is_even}
+use Rattle.plane_lists.specs.Lists.Parity.{is_even}
 use Rattle.osm_lattice.specs.declared.loc.Loc.{Loc}
 use Rattle.osm_geom.specs.declared.cut.Cut.{Cut}
 use Rattle.osm_geom.specs.declared.cut.Side.{Side}

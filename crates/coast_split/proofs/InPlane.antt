@@ -8,13 +8,13 @@ use Rattle.plane.specs.Edge.{ends_at}
 use Rattle.plane.specs.Sign.{Minus, Null, Plus, Sign, is_minus, is_null, is_plus, negated, sign}
 use Rattle.plane.specs.Vector.{IsNonZero, Vector, cross, dot, from_to, orient, same_point}
 use Rattle.lists.specs.Member.{EachPair, In}
-use Rattle.winding.specs.Parity.{is_even}
-use Rattle.winding.specs.Sided as winding
-use Rattle.halving.specs.Half as plane_half
-use Rattle.halving.specs.Half.{Cutting, IsCut, IsPart, IsPartEnd, closing, closing_from, parts, wholes}
-use Rattle.halving.proofs.HalvingKit.{is_from, IsAfter, counted-either-way, IsApart, AllPlaced, all-placed, first-step, next-placed}
-use Rattle.halving.specs.HalfLaws.{IsHalved}
-use Rattle.halving.specs.Line.{Line, has_part, order_along, scaled_line, side}
+use Rattle.plane_lists.specs.Lists.Parity.{is_even}
+use Rattle.plane_lists.specs.Lists.Sided as winding
+use Rattle.plane_lists.specs.Halves.Half as plane_half
+use Rattle.plane_lists.specs.Halves.Half.{Cutting, IsCut, IsPart, IsPartEnd, closing, closing_from, parts, wholes}
+use Rattle.plane_lists.proofs.HalvingKit.{is_from, IsAfter, counted-either-way, IsApart, AllPlaced, all-placed, first-step, next-placed}
+use Rattle.plane_lists.specs.Halves.HalfLaws.{IsHalved}
+use Rattle.plane_lists.specs.Halves.Line.{Line, has_part, order_along, scaled_line, side}
 use Rattle.osm_geom.specs.declared.cut.Cut.{Cut}
 use Rattle.osm_geom.specs.declared.cut.Side.{Side}
 use Rattle.osm_geom.specs.declared.cut.Side.TheVariants.{Low, High}
@@ -24,12 +24,12 @@ use Rattle.osm_geom.specs.declared.point.Point.{Point}
 use Rattle.osm_geom.specs.Carrier.{is_on}
 use Rattle.osm_geom.specs.Cut.{cut_order, side_by, side_of}
 use Rattle.osm_geom.specs.Point.{den_of, point_order}
-use Rattle.plane_edges.specs.Multiple.{edge_times, edges_times, point_times}
+use Rattle.osm_geom.specs.InPlane.Multiple.{edge_times, edges_times, point_times}
 use Rattle.coast_split.specs.Half.{AreLinks, AreLinksFrom, AreMeetings, ArePortions, IsHalf, IsPortion, IsPortionEnd, NextLink, NextPortion, ends_up_to, has_portion, is_up_to, line_of, line_order, lower_of, runs_forward}
 use Rattle.plane.proofs.PlaneKit.{same_edge_by, rising-direction, same_point-refl, same_point-true, cross-chain, frame-agree}
 use Rattle.plane.proofs.SignKit.{agree, agree-sum, all, all-out, all2-out, imp, imp-out, same_sign, same_sign-true, times, is_null-true, null-first}
 use Rattle.lists.proofs.ListsKit.{in-left, in-map, in-map-out, pairs-into-map, pairs-weaker, total, total-is, total-map, total-same}
-use Rattle.plane_edges.proofs.EdgesKit.{on_line, piece_times, piece_times-rises, step_of}
+use Rattle.osm_geom.proofs.EdgesKit.{on_line, piece_times, piece_times-rises, step_of}
 use Rattle.coast_split.proofs.CutLines.{line-direction, order-times, side-times}
 use Rattle.std.proofs.lemmas.Bool.{or_right}
 

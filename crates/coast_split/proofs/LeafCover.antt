@@ -5,19 +5,19 @@ use Rattle.plane.specs.Edge as plane
 use Rattle.plane.specs.Scale.{scaled_point}
 use Rattle.plane.specs.Sign.{Minus, Null, Plus, Sign, sign}
 use Rattle.plane.specs.Vector.{Vector, east}
-use Rattle.winding.specs.EdgeList.{down_count, up_count}
+use Rattle.plane_lists.specs.Lists.EdgeList.{down_count, up_count}
 use Rattle.lists.specs.Member.{In}
-use Rattle.winding.specs.ScaledEdges.{scaled_edges}
-use Rattle.winding.proofs.WindingKit.{counted-both-ways}
-use Rattle.halving.specs.Line.{scaled_line, side}
+use Rattle.plane_lists.specs.Lists.ScaledEdges.{scaled_edges}
+use Rattle.plane_lists.proofs.WindingKit.{counted-both-ways}
+use Rattle.plane_lists.specs.Halves.Line.{scaled_line, side}
 use Rattle.osm_geom.specs.declared.cut.Axis.{Axis}
 use Rattle.osm_geom.specs.declared.cut.Axis.TheVariants.{X, Y}
 use Rattle.osm_geom.specs.declared.cut.Cut.{Cut}
 use Rattle.osm_geom.specs.declared.cut.Side.{Side}
 use Rattle.osm_geom.specs.declared.cut.Side.TheVariants.{Low, High}
 use Rattle.osm_geom.specs.declared.edge.Edge.{Edge}
-use Rattle.plane_edges.specs.Multiple.{product_of_denominators, whole_edges}
-use Rattle.plane_edges.specs.Sided.{IsSided, count_at, signed_count_at}
+use Rattle.osm_geom.specs.InPlane.Multiple.{product_of_denominators, whole_edges}
+use Rattle.osm_geom.specs.InPlane.Sided.{IsSided, count_at, signed_count_at}
 use Rattle.coast_split.specs.Half.{IsHalf, line_by, line_of}
 use Rattle.coast_split.specs.SplitTree.{Covers, IsOffCuts, IsOffList, IsTree, SomeCovers, Tree, high_cut, leaves_of, low_cut, middle_of}
 use Rattle.coast_split.specs.SplitTree.Tree.{Fork, Whole}

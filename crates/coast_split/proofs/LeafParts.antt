@@ -4,13 +4,13 @@ use Rattle.std.specs.List.{sum_by}
 use Rattle.std.proofs.lemmas.List.Sums.{sum_by-append, sum_by-cons}
 use Rattle.plane.specs.Sign.{Minus, Null, Plus, Sign, negated, sign}
 use Rattle.plane.specs.Vector.{Vector}
-use Rattle.halving.specs.Line.{scaled_line, side}
+use Rattle.plane_lists.specs.Halves.Line.{scaled_line, side}
 use Rattle.osm_geom.specs.declared.cut.Axis.{Axis}
 use Rattle.osm_geom.specs.declared.cut.Axis.TheVariants.{X, Y}
 use Rattle.osm_geom.specs.declared.cut.Cut.{Cut}
 use Rattle.osm_geom.specs.declared.cut.Side.TheVariants.{Low, High}
 use Rattle.osm_geom.specs.declared.edge.Edge.{Edge}
-use Rattle.plane_edges.specs.Sided.{IsSided, count_at, signed_count_at}
+use Rattle.osm_geom.specs.InPlane.Sided.{IsSided, count_at, signed_count_at}
 use Rattle.coast_split.specs.Half.{line_by, line_of}
 use Rattle.coast_split.specs.SplitTree.{IsOffCuts, IsOffList, IsTree, Tree, high_cut, leaves_of, low_cut, middle_of}
 use Rattle.coast_split.specs.SplitTree.Tree.{Fork, Whole}

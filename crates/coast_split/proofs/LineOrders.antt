@@ -9,11 +9,11 @@ use Rattle.osm_geom.specs.declared.cut.Cut.{Cut}
 use Rattle.osm_geom.specs.declared.cut.Side.{Side}
 use Rattle.osm_geom.specs.declared.point.Point.{Point}
 use Rattle.osm_geom.specs.Point.{den_of, point_order}
-use Rattle.plane_edges.specs.Multiple.{point_times}
+use Rattle.osm_geom.specs.InPlane.Multiple.{point_times}
 use Rattle.coast_split.specs.Half.{line_order, runs_forward}
 use Rattle.plane.proofs.PlaneKit.{order-null, order-reversed, order-sum}
 use Rattle.plane.proofs.SignKit.{agree, all, all-out, all2, all2-out, imp, imp-out, same_sign, same_sign-true, agree-back}
-use Rattle.plane_edges.proofs.EdgesKit.{den-some, product-some, order_is, same_is_same}
+use Rattle.osm_geom.proofs.EdgesKit.{den-some, product-some, order_is, same_is_same}
 use Rattle.lists.proofs.ListsKit.{not-true-out}
 use Rattle.std.proofs.lemmas.Bool.{not_from_false}
 

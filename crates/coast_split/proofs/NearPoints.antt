@@ -1,24 +1,24 @@
 -- Close to a point off a list, the list covers what it covers at the point.
 use Rattle.std.proofs.Common.{All, List, [], ap, arith, inl, inr, pos, refl, subst, sym, ℤ, ◌*ℤ◌, ◌+ℤ◌, ◌+◌, ◌∙◌, ◌∷◌, ◌≡◌, ◌⊎◌}
 use Rattle.lists.specs.Member.{In}
-use Rattle.paths.specs.Line.{IsFreeStep}
-use Rattle.paths.specs.Near.{near}
+use Rattle.plane_lists.specs.Paths.Line.{IsFreeStep}
+use Rattle.plane_lists.specs.Paths.Near.{near}
 use Rattle.plane.specs.Edge as plane
 use Rattle.plane.specs.RayCrossing.{IsOffEdge}
 use Rattle.plane.specs.Scale.{scaled_point}
 use Rattle.plane.specs.Sign.{Plus, sign}
 use Rattle.plane.specs.Vector.{Vector, east}
-use Rattle.winding.specs.EdgeList.{winding_number}
-use Rattle.winding.specs.ScaledEdges.{scaled_edges}
+use Rattle.plane_lists.specs.Lists.EdgeList.{winding_number}
+use Rattle.plane_lists.specs.Lists.ScaledEdges.{scaled_edges}
 use Rattle.osm_geom.specs.declared.edge.Edge.{Edge}
-use Rattle.plane_edges.specs.Multiple.{product_of_denominators, whole_edges}
-use Rattle.plane_edges.specs.Sided.{IsSided, signed_count_at}
+use Rattle.osm_geom.specs.InPlane.Multiple.{product_of_denominators, whole_edges}
+use Rattle.osm_geom.specs.InPlane.Sided.{IsSided, signed_count_at}
 use Rattle.coast_split.specs.SplitTree.{Covers, IsOffList}
 use Rattle.lists.proofs.ListsKit.{in-all}
 use Rattle.plane.proofs.PlaneKit.{same_vector}
 use Rattle.plane.proofs.SignKit.{lift, plus-times, same, ◌⊞◌, ◌⊠◌}
-use Rattle.winding.proofs.WindingKit.{balanced-scaled, edges-twice, winding-scaled}
-use Rattle.paths.proofs.PathsKit.{Later, apart-near, free-back, free-off, later-free, later-then, off-apart, step-winds}
+use Rattle.plane_lists.proofs.WindingKit.{balanced-scaled, edges-twice, winding-scaled}
+use Rattle.plane_lists.proofs.PathsKit.{Later, apart-near, free-back, free-off, later-free, later-then, off-apart, step-winds}
 use Rattle.coast_split.proofs.LeafCover.{covers-once, once-covers}
 
 -- ---- points near a point

@@ -4,28 +4,28 @@ use borrow.Author.Differences.{ints}
 use Rattle.std.specs.List.{sum_by}
 use Rattle.std.proofs.lemmas.List.Elements.{All-append, All-cons, All-nil}
 use Rattle.lists.specs.Member.{In}
-use Rattle.paths.specs.BesideLaws.{EdgePartsInside}
-use Rattle.paths.specs.Inside.{PartsInside}
-use Rattle.paths.specs.Near.{near, opposite_of}
+use Rattle.plane_lists.specs.Paths.BesideLaws.{EdgePartsInside}
+use Rattle.plane_lists.specs.Paths.Inside.{PartsInside}
+use Rattle.plane_lists.specs.Paths.Near.{near, opposite_of}
 use Rattle.plane.specs.Edge as plane
 use Rattle.plane.specs.FreeSegment.{IsBetween}
 use Rattle.plane.specs.RayCrossing.{IsOffEdge, is_off}
 use Rattle.plane.specs.Scale.{scaled_edge, scaled_point}
 use Rattle.plane.specs.Sign.{Plus, sign}
 use Rattle.plane.specs.Vector.{IsNonZero, Vector, cross, from_to, same_point}
-use Rattle.winding.specs.ScaledEdges.{scaled_edges}
+use Rattle.plane_lists.specs.Lists.ScaledEdges.{scaled_edges}
 use Rattle.osm_geom.specs.declared.cut.Side.TheVariants.{Low, High}
 use Rattle.osm_geom.specs.declared.edge.Edge.{Edge}
-use Rattle.plane_edges.specs.Multiple.{product_of_denominators, whole_edges}
-use Rattle.plane_edges.specs.Sided.{IsSided, count_at, signed_count_at}
+use Rattle.osm_geom.specs.InPlane.Multiple.{product_of_denominators, whole_edges}
+use Rattle.osm_geom.specs.InPlane.Sided.{IsSided, count_at, signed_count_at}
 use Rattle.coast_split.specs.SplitTree.{Covers, IsOffCuts, IsOffLeaves, IsOffList, IsTree, SomeCovers, Tree, high_cut, leaves_of, low_cut, middle_of}
 use Rattle.coast_split.specs.SplitTree.Tree.{Fork, Whole}
 use Rattle.lists.proofs.ListsKit.{all-in, in-all, in-map, in-map-out, total-is, total-same}
 use Rattle.plane.proofs.PlaneKit.{cross-times, direction-back, on-between, point-twice, same_point-true, same_vector}
 use Rattle.plane.proofs.SignKit.{lift, plus-times, same, sign-from, ◌⊟◌, ◌⊠◌}
-use Rattle.winding.proofs.WindingKit.{sided-scaled}
-use Rattle.plane_edges.proofs.EdgesKit.{common_is_common, sign-some}
-use Rattle.paths.proofs.PathsKit.{Later, between-back, later-both, later-some}
+use Rattle.plane_lists.proofs.WindingKit.{sided-scaled}
+use Rattle.osm_geom.proofs.EdgesKit.{common_is_common, sign-some}
+use Rattle.plane_lists.proofs.PathsKit.{Later, between-back, later-both, later-some}
 use Rattle.coast_split.proofs.Aside.{IsUnit, aside, aside-left, off-cuts, unit-back, unit-x, unit-y}
 use Rattle.coast_split.proofs.LeafCover.{covers-once, half-at, leaf-cover, leaves-sided, once-covers, zero-one}
 use Rattle.coast_split.proofs.LeafParts.{leaf-parts, same-parity}

@@ -1,18 +1,18 @@
 -- A point on an edge is one of its ends, close to which there are points strictly inside the edge, or is strictly inside it.
 use Rattle.std.proofs.Common.{Bool, List, ap, arith, cond, false, pos, true, ℤ, ◌*ℤ◌, ◌+ℤ◌, ◌-ℤ◌, ◌∙◌, ◌≡◌}
 use Rattle.lists.specs.Member.{In}
-use Rattle.paths.specs.Near.{near}
+use Rattle.plane_lists.specs.Paths.Near.{near}
 use Rattle.plane.specs.Edge.{Edge, IsRisingEdge, is_rising, reversed, segment_of}
 use Rattle.plane.specs.FreeSegment.{IsBetween}
 use Rattle.plane.specs.Scale.{scaled_point}
 use Rattle.plane.specs.Sign.{Plus, sign}
 use Rattle.plane.specs.Vector.{IsNonZero, Vector, cross, dot, from_to}
-use Rattle.winding.specs.Ring.{segments_of}
-use Rattle.winding.specs.Sided.{IsSided}
+use Rattle.plane_lists.specs.Lists.Ring.{segments_of}
+use Rattle.plane_lists.specs.Lists.Sided.{IsSided}
 use Rattle.lists.proofs.ListsKit.{in-map}
 use Rattle.plane.proofs.PlaneKit.{direction-back, from_to-scaled, rising-direction, same_vector}
 use Rattle.plane.proofs.SignKit.{lift, plus-times, same, ◌⊞◌, ◌⊟◌, ◌⊠◌}
-use Rattle.winding.proofs.WindingKit.{rising_in}
+use Rattle.plane_lists.proofs.WindingKit.{rising_in}
 
 -- ---- close to an end of an edge, c / k of the way along it
 way-there : (k x d : ℤ) → (k *ℤ x +ℤ d) -ℤ k *ℤ x ≡ d

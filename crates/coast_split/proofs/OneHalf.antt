@@ -4,7 +4,7 @@ use Prim.Native.Nat.{◌∣◌}
 use Rattle.std.proofs.Math.Nat.{dvd-mul_left, dvd-mul_left_of_dvd, dvd-mul_right, dvd-mul_right_of_dvd}
 use Rattle.plane.specs.Sign.{Minus, Null, Plus, Sign, is_plus, negated}
 use Rattle.lists.specs.Member.{EachPair, In}
-use Rattle.winding.specs.Parity.{is_even}
+use Rattle.plane_lists.specs.Lists.Parity.{is_even}
 use Rattle.osm_geom.specs.declared.cut.Cut.{Cut}
 use Rattle.osm_geom.specs.declared.cut.Side.{Side}
 use Rattle.osm_geom.specs.declared.edge.Edge.{Edge}
@@ -12,15 +12,15 @@ use Rattle.osm_geom.specs.declared.point.Point.{Point}
 use Rattle.osm_geom.specs.Carrier.{is_on}
 use Rattle.osm_geom.specs.Cut.{cut_order, side_of}
 use Rattle.osm_geom.specs.Point.{den_of}
-use Rattle.plane_edges.specs.Multiple.{point_times}
+use Rattle.osm_geom.specs.InPlane.Multiple.{point_times}
 use Rattle.coast_split.specs.Half.{AreLinks, AreLinksFrom, AreMeetings, ArePortions, IsHalf, IsPortion, IsPortionEnd, NextLink, NextPortion, ends_up_to, has_portion, line_order, lower_of}
 use Rattle.osm_geom.specs.declared.cut.Side.TheVariants.{Low, High}
 use Rattle.coast_split.specs.SplitTree.{IsTree, Tree, high_cut, is_split, low_cut, middle_of}
 use Rattle.coast_split.specs.SplitTree.Tree.{Fork, Whole}
 use Rattle.lists.proofs.ListsKit.{clash, in-all}
-use Rattle.halving.proofs.HalvingKit.{meeting-one, meeting-one-back}
+use Rattle.plane_lists.proofs.HalvingKit.{meeting-one, meeting-one-back}
 use Rattle.osm_geom.proofs.GeometryKit.{edge-from-fields}
-use Rattle.plane_edges.proofs.EdgesKit.{den-some, product-some, same_is_same}
+use Rattle.osm_geom.proofs.EdgesKit.{den-some, product-some, same_is_same}
 use Rattle.coast_split.proofs.CutLines.{side-times}
 use Rattle.coast_split.proofs.InPlane.{cut-side-null, edge-line-null, line_times}
 use Rattle.coast_split.proofs.LineOrders.{line-back}

@@ -6,7 +6,7 @@ use Rattle.std.proofs.Math.Nat.{dvd-mul_left, dvd-mul_right_of_dvd, dvd-mul_righ
 use Rattle.plane.specs.Sign.{Minus, Null, Plus, Sign, is_minus, is_plus, sign}
 use Rattle.plane.specs.Vector.{Vector, cross, from_to}
 use Rattle.lists.specs.Member.{In}
-use Rattle.winding.specs.Parity.{is_even}
+use Rattle.plane_lists.specs.Lists.Parity.{is_even}
 use Rattle.osm_geom.specs.declared.cut.Axis.{Axis}
 use Rattle.osm_geom.specs.declared.cut.Axis.TheVariants.{X, Y}
 use Rattle.osm_geom.specs.declared.cut.Cut.{Cut}
@@ -16,12 +16,12 @@ use Rattle.osm_geom.specs.declared.point.Point.{Point}
 use Rattle.osm_geom.specs.Carrier.{is_on}
 use Rattle.osm_geom.specs.Cut.{cut_order, side_of}
 use Rattle.osm_geom.specs.Point.{den_of}
-use Rattle.plane_edges.specs.Multiple.{point_times}
+use Rattle.osm_geom.specs.InPlane.Multiple.{point_times}
 use Rattle.coast_split.specs.Half.{AreLinks, AreLinksFrom, ArePortions, IsHalf, IsPortionEnd, NextLink, NextPortion, ends_up_to, has_portion, lower_of}
 use Rattle.plane.proofs.SignKit.{lift, same, ◌⊟◌, ◌⊠◌, agree, says-at, sum-not-plus, sum-not-minus}
 use Rattle.lists.proofs.ListsKit.{in-either}
-use Rattle.halving.proofs.HalvingKit.{IsMean, mean-cross, meeting-is-mean, meeting-is-mean-back}
-use Rattle.plane_edges.proofs.EdgesKit.{den-some, product-some}
+use Rattle.plane_lists.proofs.HalvingKit.{IsMean, mean-cross, meeting-is-mean, meeting-is-mean-back}
+use Rattle.osm_geom.proofs.EdgesKit.{den-some, product-some}
 use Rattle.osm_geom.proofs.GeometryKit.{order_at}
 use Rattle.coast_split.proofs.CutLines.{side-times, x-before, y-before}
 use Rattle.coast_split.proofs.Envelopes.{AllIn, IsIn}

@@ -6,21 +6,21 @@ use Rattle.plane.specs.RayCrossing.{IsOffEdge}
 use Rattle.plane.specs.Scale.{scaled_point}
 use Rattle.plane.specs.Sign.{Minus, Plus, Sign, sign}
 use Rattle.plane.specs.Vector.{Vector, east}
-use Rattle.winding.specs.EdgeList.{winding_number}
-use Rattle.winding.specs.ScaledEdges.{scaled_edges}
-use Rattle.winding.specs.Sided as winding
-use Rattle.halving.specs.Line.{scaled_line, side}
+use Rattle.plane_lists.specs.Lists.EdgeList.{winding_number}
+use Rattle.plane_lists.specs.Lists.ScaledEdges.{scaled_edges}
+use Rattle.plane_lists.specs.Lists.Sided as winding
+use Rattle.plane_lists.specs.Halves.Line.{scaled_line, side}
 use Rattle.osm_geom.specs.declared.cut.Cut.{Cut}
 use Rattle.osm_geom.specs.declared.cut.Side.{Side}
 use Rattle.osm_geom.specs.declared.edge.Edge.{Edge}
 use Rattle.osm_geom.specs.Point.{den_of}
-use Rattle.plane_edges.specs.Multiple.{IsCommon, edges_times, product_of_denominators, whole_edges}
-use Rattle.plane_edges.specs.Sided.{IsSided, signed_count_at}
+use Rattle.osm_geom.specs.InPlane.Multiple.{IsCommon, edges_times, product_of_denominators, whole_edges}
+use Rattle.osm_geom.specs.InPlane.Sided.{IsSided, signed_count_at}
 use Rattle.coast_split.specs.Half.{IsHalf, line_of}
 use Rattle.lists.proofs.ListsKit.{all-in, in-all}
-use Rattle.halving.proofs.HalvingKit.{balanced, beyond-at, counted-at, kept-at, off-beyond-at, off-kept-at, half-plain, side-scaled}
-use Rattle.winding.proofs.WindingKit.{all-off-back, all-off-scaled, edges-turned}
-use Rattle.plane_edges.proofs.EdgesKit.{point-regained, common_is_common, product-some, sided_at_each, sign-some, signed_count_at_each, times_further}
+use Rattle.plane_lists.proofs.HalvingKit.{balanced, beyond-at, counted-at, kept-at, off-beyond-at, off-kept-at, half-plain, side-scaled}
+use Rattle.plane_lists.proofs.WindingKit.{all-off-back, all-off-scaled, edges-turned}
+use Rattle.osm_geom.proofs.EdgesKit.{point-regained, common_is_common, product-some, sided_at_each, sign-some, signed_count_at_each, times_further}
 use Rattle.coast_split.proofs.InPlane.{AllWhole, InPlane, in-plane, line_times}
 use Rattle.plane.proofs.PlaneKit.{times-turned}
 

@@ -9,7 +9,7 @@ use Rattle.osm_geom.specs.declared.cut.Axis.TheVariants.{X, Y}
 use Rattle.osm_geom.specs.declared.cut.Cut.{Cut}
 use Rattle.osm_geom.specs.declared.cut.Side.TheVariants.{Low, High}
 use Rattle.osm_geom.specs.declared.edge.Edge.{Edge}
-use Rattle.plane_edges.specs.Sided.{IsSided}
+use Rattle.osm_geom.specs.InPlane.Sided.{IsSided}
 use Rattle.coast_split.specs.Half.{IsHalf}
 use Rattle.coast_split.specs.declared.leaves.Leaf.{Leaf}
 use Rattle.coast_split.specs.SplitTree.{AreLeaves, HasMoreLeaves, IsTree, Tree, high_cut, is_split, leaf_of, leaves_of, low_cut, middle_of, size_of}

@@ -3,8 +3,8 @@ use Rattle.std.specs.Prelude.{Bool, List, [], cond, false, not, true, ℕ, pos, 
 use Rattle.std.specs.List.{count_by}
 use Rattle.plane.specs.Sign.{Minus, Null, Plus, Sign, is_minus, is_null, is_plus}
 use Rattle.lists.specs.Member.{EachPair, In}
-use Rattle.winding.specs.Parity.{is_even}
-use Rattle.halving.specs.Line.{Line}
+use Rattle.plane_lists.specs.Lists.Parity.{is_even}
+use Rattle.plane_lists.specs.Halves.Line.{Line}
 use Rattle.osm_geom.specs.declared.cut.Axis.{Axis}
 use Rattle.osm_geom.specs.declared.cut.Axis.TheVariants.{X, Y}
 use Rattle.osm_geom.specs.declared.cut.Cut.{Cut}

@@ -2,11 +2,11 @@
 use Rattle.std.specs.Prelude.{List, pos, ℤ, ◌≡◌}
 use Rattle.plane.specs.Sign.{Minus, Plus, sign}
 use Rattle.plane.specs.Vector.{Vector}
-use Rattle.halving.specs.Line.{scaled_line, side}
+use Rattle.plane_lists.specs.Halves.Line.{scaled_line, side}
 use Rattle.osm_geom.specs.declared.cut.Cut.{Cut}
 use Rattle.osm_geom.specs.declared.cut.Side.{Side}
 use Rattle.osm_geom.specs.declared.edge.Edge.{Edge}
-use Rattle.plane_edges.specs.Sided.{signed_count_at}
+use Rattle.osm_geom.specs.InPlane.Sided.{signed_count_at}
 use Rattle.coast_split.specs.Half.{line_of}
 use Rattle.coast_split.specs.SplitTree.{IsOffList}
 

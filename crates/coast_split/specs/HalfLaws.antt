@@ -8,7 +8,7 @@ use Rattle.osm_geom.specs.declared.cut.Cut.{Cut}
 use Rattle.osm_geom.specs.declared.cut.Side.{Side}
 use Rattle.osm_geom.specs.declared.cut.Side.TheVariants.{Low, High}
 use Rattle.osm_geom.specs.declared.edge.Edge.{Edge}
-use Rattle.plane_edges.specs.Sided.{IsSided, count_at}
+use Rattle.osm_geom.specs.InPlane.Sided.{IsSided, count_at}
 use Rattle.coast_split.specs.Half.{IsHalf}
 use Rattle.coast_split.specs.HalfCount.{CountsAsKept, CountsNothingBeyond}
 use Rattle.coast_split.specs.SplitTree.{Covers, IsOffCuts, IsOffLeaves, IsOffList, IsTree, SomeCovers, Tree, high_cut, is_split, leaves_of, low_cut, middle_of, size_of}

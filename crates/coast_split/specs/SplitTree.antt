@@ -6,8 +6,8 @@ use Rattle.plane.specs.RayCrossing.{IsOffEdge}
 use Rattle.plane.specs.Scale.{scaled_point}
 use Rattle.plane.specs.Vector.{Vector}
 use Rattle.lists.specs.Member.{In}
-use Rattle.winding.specs.ScaledEdges.{scaled_edges}
-use Rattle.halving.specs.Line.{scaled_line, side}
+use Rattle.plane_lists.specs.Lists.ScaledEdges.{scaled_edges}
+use Rattle.plane_lists.specs.Halves.Line.{scaled_line, side}
 use Rattle.osm_geom.specs.declared.cut.Axis.{Axis}
 use Rattle.osm_geom.specs.declared.cut.Axis.TheVariants.{X, Y}
 use Rattle.osm_geom.specs.declared.cut.Cut.{Cut}
@@ -15,8 +15,8 @@ use Rattle.osm_geom.specs.declared.cut.Side.TheVariants.{Low, High}
 use Rattle.osm_geom.specs.declared.edge.Edge.{Edge}
 use Rattle.osm_geom.specs.Coordinate.{ceiling_of, floor_of}
 use Rattle.osm_geom.specs.Cut.{coordinate_of}
-use Rattle.plane_edges.specs.Multiple.{product_of_denominators, whole_edges}
-use Rattle.plane_edges.specs.Sided.{count_at}
+use Rattle.osm_geom.specs.InPlane.Multiple.{product_of_denominators, whole_edges}
+use Rattle.osm_geom.specs.InPlane.Sided.{count_at}
 use Rattle.coast_split.specs.declared.leaves.Leaf.{Leaf}
 use Rattle.coast_split.specs.Half.{IsHalf, line_of}
 

@@ -4,7 +4,7 @@ ghost use Rattle.std.specs.Ordering.{is_lt};
 ghost use Rattle.plane.specs.Sign.{is_plus};
 ghost use Rattle.osm_geom.specs.Cut.{carrier_of_cut};
 ghost use Rattle.osm_lattice.specs.OrderLaws.{ordering_of};
-ghost use Rattle.plane_edges.specs.Sided.{IsSided};
+ghost use Rattle.osm_geom.specs.InPlane.Sided.{IsSided};
 ghost use Rattle.coast_split.specs.Half.{ArePortions, IsHalf, IsLink, line_order, runs_forward};
 ghost use Rattle.coast_split.specs.HalfCount.{CountsAsKept, CountsNothingBeyond};
 ghost use Rattle.coast_split.specs.Walk.{AddsLink, AddsWalk, AddsWalked, AreSortedEnds, IsEndOnLine, end_on, ends_on, is_skipped};

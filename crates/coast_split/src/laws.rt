@@ -2,7 +2,7 @@
 ghost use Rattle.coast_split.specs.HalfLaws.{HalfIsSided, HalfKeepsCount, HalfIsEmptyBeyond, HalfIsOne, HalvesExist, LeafCover, LeavesAddAlongCuts, LeavesAreSided, LeavesKeepEdges, LeavesPart, SplitShrinks, TreeIsOne};
 ghost use Rattle.coast_split.specs.TreeLaws.{SplitNarrows, SplitTreesAreShallow, SplitTreesExist};
 
-use paths::edge_parts_inside;
+use plane_lists::path_laws::edge_parts_inside;
 
 /// The half of a sided list is sided.
 pub fn half_of_sided_list_is_sided()

@@ -1,7 +1,7 @@
 //! Areas split into pieces.
 ghost use Rattle.std.specs.Prelude.{◌≡◌, ◌≤◌, ◌<◌, ◌+◌, ◌++◌, ◌∷◌, [], All, IfOk, IfErr, OnOk, length, ℕ, ◌-ℤ◌, pos, unsigned_abs};
 ghost use Rattle.plane.specs.Sign.{is_plus, sign};
-ghost use Rattle.plane_edges.specs.Sided.{IsSided};
+ghost use Rattle.osm_geom.specs.InPlane.Sided.{IsSided};
 ghost use Rattle.coast_split.specs.declared.leaves.Leaf.{Leaf};
 ghost use Rattle.coast_split.specs.declared.leaves.SplitError.TheVariants.{TooManyPieces, OutOfMemory};
 ghost use Rattle.coast_split.specs.SplitTree.{AreLeaves, HasMoreLeaves, high_cut, is_large, leaf_of, low_cut};

@@ -1,11 +1,11 @@
 -- All that was found is written: land, water, the report.
 use Rattle.std.proofs.Common.{◌≡◌, refl, sym, subst, Bool, true, false, if◌then◌else◌, List, ◌++◌, length, ◌==◌, map, Result, Ok, Err}
 use Rattle.std.specs.List.{list_any}
-use Rattle.opl_reader.specs.declared.object.Object.{Object}
+use Rattle.osm_elements.specs.declared.object.Object.{Object}
 use Rattle.osm_host.specs.Outside.{Outside}
 use Rattle.osm_host.specs.declared.host.Failed.{Failed}
-use Rattle.osm_report.specs.Coast.{is_error}
-use Rattle.osm_report.specs.declared.coast.CoastLine.{CoastLine}
+use Rattle.osm_text.specs.Coast.{is_error}
+use Rattle.osm_text.specs.declared.coast.CoastLine.{CoastLine}
 use Rattle.osm_words.specs.Job.{CoastlineSettings}
 use Rattle.osm_job.specs.Cause.{Cause, by_itself, cause_of}
 use Rattle.osm_job.specs.Faults.{writes_failed}

@@ -7,7 +7,7 @@ use Rattle.std.proofs.lemmas.List.Sums.{sum_by_more}
 use Rattle.osm_geom.specs.declared.edge.Edge.{Edge}
 use Rattle.osm_job.specs.Sent.{lines_text}
 use Rattle.osm_nest.specs.RingLists.{all_edges}
-use Rattle.osm_report.specs.declared.coast.CoastLine.{CoastLine}
+use Rattle.osm_text.specs.declared.coast.CoastLine.{CoastLine}
 use Rattle.job_coastline.specs.PieceSteps.{Adds}
 use Rattle.job_coastline.specs.declared.pieces.Pieces.{Pieces}
 

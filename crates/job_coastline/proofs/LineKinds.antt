@@ -8,9 +8,9 @@ use Rattle.coast_join.specs.declared.way.Aside.{Aside}
 use Rattle.coast_join.specs.declared.way.Aside.TheVariants.{Missing, Short}
 use Rattle.coast_sides.specs.Sorting.{AreConflicts}
 use Rattle.osm_lattice.specs.declared.seg.Seg.{Seg}
-use Rattle.osm_report.specs.Coast.{HasItsKind}
-use Rattle.osm_report.specs.declared.coast.CoastLine.{CoastLine}
-use Rattle.osm_report.specs.declared.coast.CoastLine.TheVariants as line
+use Rattle.osm_text.specs.Coast.{HasItsKind}
+use Rattle.osm_text.specs.declared.coast.CoastLine.{CoastLine}
+use Rattle.osm_text.specs.declared.coast.CoastLine.TheVariants as line
 use Rattle.osm_segments.specs.Pairs.{IsPairOfItsKind}
 use Rattle.osm_segments.proofs.SegmentsKit.{conflicts_of_kind}
 use Rattle.job_coastline.specs.Coast.{Coast}

@@ -4,8 +4,8 @@ use Rattle.std.specs.declared.alloc.Global.{Global}
 use Rattle.std.proofs.lemmas.List.{take_more}
 use Rattle.std.proofs.lemmas.Grind.{flat_map-append}
 use Rattle.osm_job.specs.Sent.{lines_text}
-use Rattle.osm_report.specs.Coast.{IsCoastLine}
-use Rattle.osm_report.specs.declared.coast.CoastLine.{CoastLine}
+use Rattle.osm_text.specs.Coast.{IsCoastLine}
+use Rattle.osm_text.specs.declared.coast.CoastLine.{CoastLine}
 use Rattle.job_coastline.specs.Report.{ArePrinted}
 
 printed_more : (lines : List CoastLine) (l : CoastLine) (text line : List ℕ) → ArePrinted lines text → IsCoastLine l line → ArePrinted (lines ++ l ∷ []) (text ++ line)

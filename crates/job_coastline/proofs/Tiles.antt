@@ -8,7 +8,7 @@ use Rattle.std.proofs.lemmas.List.Sums.{sum_by-append, sum_by_push}
 use Rattle.coast_split.specs.declared.leaves.Leaf.{Leaf}
 use Rattle.osm_job.specs.Sent.{lines_text}
 use Rattle.osm_nest.specs.declared.polygon.Polygon.{Polygon}
-use Rattle.osm_report.specs.declared.coast.CoastLine.{CoastLine}
+use Rattle.osm_text.specs.declared.coast.CoastLine.{CoastLine}
 use Rattle.osm_text.specs.declared.piece.PieceKind.{PieceKind}
 use Rattle.osm_words.specs.Job.{CoastlineSettings}
 use Rattle.job_coastline.specs.Pieces.{AreTiles, IsTile, Tile, large_lines, piece_text_count, pieces_count, pieces_text, polygon_text, tile_count, tile_lines, tile_text, vanished_lines}

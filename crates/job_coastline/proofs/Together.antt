@@ -2,15 +2,15 @@
 use Rattle.std.proofs.Common.{◌≡◌, ◌∙◌, refl, sym, ap, ap₂, subst, ℕ, ◌+◌, ◌-◌, ◌≤◌, All, List, not, ◌++◌, length, arith, map, inl, inr, Vec}
 use Rattle.std.specs.List.{count_by}
 use Rattle.std.specs.declared.alloc.Global.{Global}
-use Rattle.opl_reader.specs.declared.object.Object.{Object}
+use Rattle.osm_elements.specs.declared.object.Object.{Object}
 use Rattle.coast_split.specs.TreeLaws.{SplitTreesExist}
 use Rattle.coast_split.specs.declared.leaves.Leaf.{Leaf}
 use Rattle.coast_split.specs.declared.leaves.SplitError.{SplitError}
 use Rattle.coast_split.specs.declared.leaves.SplitError.TheVariants.{TooManyPieces, OutOfMemory}
 use Rattle.coast_sides.specs.Segments.{all_segments}
 use Rattle.osm_nest.specs.declared.polygon.Polygon.{Polygon}
-use Rattle.osm_report.specs.Coast.{HasItsKind, is_error}
-use Rattle.osm_report.specs.declared.coast.CoastLine.{CoastLine}
+use Rattle.osm_text.specs.Coast.{HasItsKind, is_error}
+use Rattle.osm_text.specs.declared.coast.CoastLine.{CoastLine}
 use Rattle.osm_text.specs.declared.piece.PieceKind.{PieceKind}
 use Rattle.osm_text.specs.declared.piece.PieceKind.TheVariants as kind
 use Rattle.osm_words.specs.Job.{CoastlineSettings}

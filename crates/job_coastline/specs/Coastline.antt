@@ -1,7 +1,7 @@
 -- What a coastline job is to write in all, and how it is to end.
 use Rattle.std.specs.Prelude.{◌≡◌, ◌⊎◌, ◌<◌, ◌≤◌, ◌+◌, ℕ, Bool, true, false, List, [], ◌++◌, length, map}
 use Rattle.std.specs.List.{flat_map}
-use Rattle.opl_reader.specs.declared.object.Object.{Object}
+use Rattle.osm_elements.specs.declared.object.Object.{Object}
 use Rattle.osm_geom.specs.declared.edge.Edge.{Edge}
 use Rattle.osm_host.specs.Outside.{Outside, output}
 use Rattle.osm_nest.specs.declared.polygon.Polygon.{Polygon}
@@ -18,7 +18,7 @@ use Rattle.job_coastline.specs.Coast.{Coast, IsCoast}
 use Rattle.job_coastline.specs.Pieces.{AreLeavesOf, AreTiles, Tile, has_land, has_water, pieces_text, tile_lines}
 use Rattle.osm_nest.specs.Nested.{ArePolygons}
 use Rattle.job_coastline.specs.Report.{ArePrinted, coast_lines, ending_of}
-use Rattle.osm_report.specs.declared.coast.CoastLine.{CoastLine}
+use Rattle.osm_text.specs.declared.coast.CoastLine.{CoastLine}
 
 -- of land, where they are asked for
 abbrev pub AreLand : Bool → List Edge → List Polygon → Type 0

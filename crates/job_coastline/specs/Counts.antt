@@ -1,8 +1,8 @@
 -- How many lines a coastline job writes, whatever the number of leaves.
 use Rattle.std.specs.Prelude.{◌≡◌, not, List}
 use Rattle.std.specs.List.{count_by}
-use Rattle.opl_reader.specs.declared.object.Object.{Object}
-use Rattle.osm_report.specs.Coast.{is_error}
+use Rattle.osm_elements.specs.declared.object.Object.{Object}
+use Rattle.osm_text.specs.Coast.{is_error}
 use Rattle.osm_text.specs.declared.piece.PieceKind.TheVariants as kind
 use Rattle.osm_words.specs.Job.{CoastlineSettings}
 use Rattle.job_coastline.specs.declared.counts.CoastCounts.{CoastCounts}

@@ -1,6 +1,6 @@
 -- What is found before anything is written. No public contract cites it.
 use Rattle.std.specs.Prelude.{◌≡◌, List, ◌++◌, map}
-use Rattle.opl_reader.specs.declared.object.Object.{Object}
+use Rattle.osm_elements.specs.declared.object.Object.{Object}
 use Rattle.osm_words.specs.Job.{CoastlineSettings}
 use Rattle.osm_job.specs.Cause.{by_itself, cause_of}
 use Rattle.osm_job.specs.Sent.{Sent, lines_text, to_output, to_report}

@@ -1,7 +1,7 @@
 -- A law of the lines of a coastline's report, as a statement.
 use Rattle.std.specs.Prelude.{All, List}
-use Rattle.opl_reader.specs.declared.object.Object.{Object}
-use Rattle.osm_report.specs.Coast.{HasItsKind}
+use Rattle.osm_elements.specs.declared.object.Object.{Object}
+use Rattle.osm_text.specs.Coast.{HasItsKind}
 use Rattle.osm_words.specs.Job.{CoastlineSettings}
 use Rattle.job_coastline.specs.Coast.{Coast, IsCoast}
 use Rattle.job_coastline.specs.Coastline.{all_lines}

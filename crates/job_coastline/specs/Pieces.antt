@@ -7,8 +7,8 @@ use Rattle.osm_nest.specs.Polygons.{edges_in}
 use Rattle.osm_nest.specs.declared.polygon.Polygon.{Polygon}
 use Rattle.coast_split.specs.SplitTree.{AreLeaves}
 use Rattle.coast_split.specs.declared.leaves.Leaf.{Leaf}
-use Rattle.osm_report.specs.declared.coast.CoastLine.{CoastLine}
-use Rattle.osm_report.specs.declared.coast.CoastLine.TheVariants as line
+use Rattle.osm_text.specs.declared.coast.CoastLine.{CoastLine}
+use Rattle.osm_text.specs.declared.coast.CoastLine.TheVariants as line
 use Rattle.osm_text.specs.Piece.{piece_text, vanished_in}
 use Rattle.osm_text.specs.declared.piece.PieceKind.{PieceKind}
 use Rattle.osm_words.specs.Job.{CoastlineSettings}

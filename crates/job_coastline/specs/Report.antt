@@ -5,9 +5,9 @@ use Rattle.osm_segments.specs.declared.counts.Repeat.{Repeat}
 use Rattle.osm_segments.specs.declared.pairs.Pair.{Pair}
 use Rattle.osm_job.specs.declared.ended.Ended.{Ended}
 use Rattle.osm_job.specs.declared.ended.Ended.TheVariants as ended
-use Rattle.osm_report.specs.Coast.{IsCoastLine, is_error}
-use Rattle.osm_report.specs.declared.coast.CoastLine.{CoastLine}
-use Rattle.osm_report.specs.declared.coast.CoastLine.TheVariants as line
+use Rattle.osm_text.specs.Coast.{IsCoastLine, is_error}
+use Rattle.osm_text.specs.declared.coast.CoastLine.{CoastLine}
+use Rattle.osm_text.specs.declared.coast.CoastLine.TheVariants as line
 use Rattle.coast_join.specs.Line.{first_location, last_location}
 use Rattle.coast_join.specs.declared.chain.Chain.{Chain}
 use Rattle.coast_join.specs.declared.gap.Gap.{Gap}

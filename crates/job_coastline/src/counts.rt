@@ -7,9 +7,9 @@ ghost use Rattle.job_coastline.specs.Counts.{AreCoastCounts};
 ghost use Rattle.job_coastline.specs.PieceSteps.{AreLandPieces, ArePieces, AreWaterPieces, counts_found};
 ghost use Rattle.osm_geom.specs.WholeSegment.{IsWholeSegment};
 ghost use Rattle.osm_nest.specs.Cover.{AreSided};
-ghost use Rattle.osm_report.specs.Coast.{is_error};
+ghost use Rattle.osm_text.specs.Coast.{is_error};
 ghost use Rattle.osm_words.specs.Answers.{coastline_seen};
-ghost use Rattle.plane_edges.specs.Sided.{IsSided};
+ghost use Rattle.osm_geom.specs.InPlane.Sided.{IsSided};
 
 use crate::coast::{Coast, coast_of};
 use crate::found::{all_lines, has_land, has_water, land_polygons, water_polygons};
@@ -18,9 +18,8 @@ use coast_split::SplitError;
 use osm_geom::Edges;
 use osm_nest::Polygon;
 use osm_objects::Store;
-use osm_report::{CoastLine, is_error};
 use osm_sides::directing_is_sided;
-use osm_text::PieceKind;
+use osm_text::{CoastLine, PieceKind, is_error};
 use osm_words::CoastlineSettings;
 use std::alloc::{AllocError as OutOfMemory, Global};
 

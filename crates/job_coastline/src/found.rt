@@ -13,9 +13,9 @@ ghost use Rattle.osm_job.specs.declared.ended.Ended.TheVariants as ended;
 ghost use Rattle.osm_nest.specs.Cover.{AreSided};
 ghost use Rattle.osm_text.specs.declared.piece.PieceKind.TheVariants as kind;
 ghost use Rattle.osm_geom.specs.WholeSegment.{IsWholeSegment};
-ghost use Rattle.osm_report.specs.Coast.{HasItsKind};
+ghost use Rattle.osm_text.specs.Coast.{HasItsKind};
 ghost use Rattle.osm_words.specs.Answers.{coastline_seen};
-ghost use Rattle.plane_edges.specs.Sided.{IsSided};
+ghost use Rattle.osm_geom.specs.InPlane.Sided.{IsSided};
 
 use crate::coast::{Coast, coast_of};
 use crate::lines::{
@@ -29,9 +29,8 @@ use osm_geom::Edges;
 use osm_job::Ended;
 use osm_nest::{Polygon, Polygons, polygons};
 use osm_objects::Store;
-use osm_report::CoastLine;
 use osm_sides::directing_is_sided;
-use osm_text::PieceKind;
+use osm_text::{CoastLine, PieceKind};
 use osm_words::{CoastlineSettings, OutputPolygons};
 use std::alloc::{AllocError as OutOfMemory, Global};
 

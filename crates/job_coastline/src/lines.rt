@@ -4,12 +4,12 @@ ghost use Rattle.std.specs.Prelude.{◌≡◌, All, IfOk, map};
 ghost use Rattle.std.specs.List.{filter_map, list_any};
 ghost use Rattle.job_coastline.specs.Report.{ArePrinted, antarctica_line, aside_line, conflict_line, ending_of, gap_line, left_out_line, repeated_line, unclosed_line, wrong_way_line};
 ghost use Rattle.osm_job.specs.Sent.{lines_text};
-ghost use Rattle.osm_report.specs.Coast.{HasItsKind, is_error};
+ghost use Rattle.osm_text.specs.Coast.{HasItsKind, is_error};
 
 use coast_join::{Aside, Chain, CoastRing, Gap};
 use osm_job::Ended;
-use osm_report::{CoastLine, coast_line, is_error};
 use osm_segments::{Pair, Repeat};
+use osm_text::{CoastLine, coast_line, is_error};
 use std::alloc::{AllocError as OutOfMemory, Global};
 
 /// What keeps a way from taking part.

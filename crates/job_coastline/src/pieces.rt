@@ -12,13 +12,12 @@ ghost use Rattle.osm_job.specs.Sent.{lines_text};
 ghost use Rattle.osm_nest.specs.Cover.{AreSided};
 ghost use Rattle.osm_nest.specs.Polygons.{edges_in};
 ghost use Rattle.osm_words.specs.Answers.{coastline_seen};
-ghost use Rattle.plane_edges.specs.Sided.{IsSided};
+ghost use Rattle.osm_geom.specs.InPlane.Sided.{IsSided};
 
 use coast_split::{Leaf, Settings, SplitError, split, split_trees_exist};
 use osm_geom::{Edges, Loc};
 use osm_nest::{Polygon, polygons};
-use osm_report::CoastLine;
-use osm_text::{PieceKind, piece_text};
+use osm_text::{CoastLine, PieceKind, piece_text};
 use osm_words::CoastlineSettings;
 use std::alloc::{AllocError as OutOfMemory, Global};
 

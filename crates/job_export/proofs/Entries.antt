@@ -3,14 +3,14 @@ use Rattle.std.proofs.Common.{◌≡◌, ◌∙◌, refl, sym, ap, ap₂, ℕ, �
 use Rattle.std.specs.List.{flat_map}
 use Rattle.std.proofs.lemmas.List.{map-append}
 use Rattle.std.proofs.lemmas.List.Elements.{All-nil, All-cons, All-append, All-head, All-tail}
-use Rattle.opl_reader.specs.declared.object.Object.{Object}
-use Rattle.opl_reader.specs.declared.object.ObjectRef.{ObjectRef}
+use Rattle.osm_elements.specs.declared.object.Object.{Object}
+use Rattle.osm_elements.specs.declared.object.ObjectRef.{ObjectRef}
 use Rattle.osm_area.specs.declared.outcome.Outcome.{Outcome}
 use Rattle.osm_area.specs.declared.outcome.Outcome.TheVariants.{Area, Problems}
 use Rattle.osm_area.specs.Outcome.{OutcomeExists, problems_in}
 use Rattle.osm_objects.specs.Problem.{IsOfItsKind}
 use Rattle.osm_objects.specs.declared.problem.Problem.{Problem}
-use Rattle.osm_report.specs.Report.{ProblemLineExists, note_line}
+use Rattle.osm_text.specs.Report.{ProblemLineExists, note_line}
 use Rattle.osm_words.specs.Job.{ExportSettings}
 use Rattle.job_export.specs.Entry.{Entry, IsEntry, AreProblemLines, IsReportShown, has_area, features_in, entry_sent, entries_sent}
 use Rattle.job_export.specs.ExportSteps.{IsEntryOf, AreEntriesOf, StopsAt}

@@ -1,11 +1,11 @@
 -- What was written of an export, against a right whole.
 use Rattle.std.proofs.Common.{◌≡◌, refl, sym, ap, subst, List, [], ◌∷◌, ◌++◌, map, Ok, Err}
-use Rattle.opl_reader.specs.declared.object.Object.{Object}
-use Rattle.opl_reader.specs.declared.object.ObjectRef.{ObjectRef}
+use Rattle.osm_elements.specs.declared.object.Object.{Object}
+use Rattle.osm_elements.specs.declared.object.ObjectRef.{ObjectRef}
 use Rattle.osm_area.specs.Outcome.{OutcomeExists}
 use Rattle.osm_objects.specs.Candidates.{candidates}
 use Rattle.job_export.specs.Choice.{choice_of}
-use Rattle.osm_report.specs.Report.{ProblemLineExists}
+use Rattle.osm_text.specs.Report.{ProblemLineExists}
 use Rattle.osm_words.specs.Job.{ExportSettings}
 use Rattle.job_export.specs.declared.work.Halt.{Halt}
 use Rattle.job_export.specs.declared.work.Halt.TheVariants.{Stopped, WriteFault, OutOfMemory}

@@ -4,14 +4,14 @@ use Rattle.std.specs.List.{flat_map}
 use Rattle.std.specs.declared.alloc.Global.{Global}
 use Rattle.std.proofs.lemmas.List.{take_more}
 use Rattle.std.proofs.lemmas.Grind.{flat_map-append}
-use Rattle.opl_reader.specs.declared.object.Object.{Object}
-use Rattle.opl_reader.specs.declared.object.ObjectRef.{ObjectRef}
+use Rattle.osm_elements.specs.declared.object.Object.{Object}
+use Rattle.osm_elements.specs.declared.object.ObjectRef.{ObjectRef}
 use Rattle.osm_objects.specs.declared.problem.Problem.{Problem}
 use Rattle.osm_objects.specs.declared.problem.Note.{Note}
 use Rattle.osm_area.specs.declared.outcome.Outcome.TheVariants.{Area, Problems}
 use Rattle.osm_area.specs.Outcome.{IsOutcome}
 use Rattle.osm_nest.specs.declared.polygon.Polygon.{Polygon}
-use Rattle.osm_report.specs.Report.{IsProblemLine, note_line}
+use Rattle.osm_text.specs.Report.{IsProblemLine, note_line}
 use Rattle.osm_words.specs.Job.{ExportSettings}
 use Rattle.job_export.specs.Entry.{AreProblemLines, IsReportShown, framed_feature}
 use Rattle.osm_job.specs.Sent.{lines_text}

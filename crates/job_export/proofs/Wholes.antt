@@ -1,13 +1,13 @@
 -- The header, the candidates and the footer, one behind the other.
 use Rattle.std.proofs.Common.{◌≡◌, ◌∙◌, sym, ap, ap₂, subst, ℕ, List, ◌++◌, map, arith, Result, Ok, Err}
-use Rattle.opl_reader.specs.declared.object.Object.{Object}
-use Rattle.opl_reader.specs.declared.object.ObjectRef.{ObjectRef}
+use Rattle.osm_elements.specs.declared.object.Object.{Object}
+use Rattle.osm_elements.specs.declared.object.ObjectRef.{ObjectRef}
 use Rattle.osm_area.specs.Outcome.{OutcomeExists}
 use Rattle.osm_host.specs.Outside.{Outside}
 use Rattle.osm_host.specs.declared.host.Failed.{Failed}
 use Rattle.osm_objects.specs.Candidates.{candidates}
 use Rattle.job_export.specs.Choice.{choice_of}
-use Rattle.osm_report.specs.Report.{ProblemLineExists}
+use Rattle.osm_text.specs.Report.{ProblemLineExists}
 use Rattle.osm_words.specs.Job.{ExportSettings}
 use Rattle.job_export.specs.declared.work.Halt.{Halt}
 use Rattle.job_export.specs.declared.work.Halt.TheVariants.{Stopped, WriteFault, OutOfMemory}

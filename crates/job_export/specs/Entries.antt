@@ -1,7 +1,7 @@
 -- Words of private clauses on what candidates add. No public contract cites it.
 use Rattle.std.specs.Prelude.{◌≡◌, ℕ, Bool, true, false, List, [], ◌++◌, if◌then◌else◌}
-use Rattle.opl_reader.specs.declared.object.Object.{Object}
-use Rattle.opl_reader.specs.declared.object.ObjectRef.{ObjectRef}
+use Rattle.osm_elements.specs.declared.object.Object.{Object}
+use Rattle.osm_elements.specs.declared.object.ObjectRef.{ObjectRef}
 use Rattle.osm_objects.specs.declared.problem.Problem.{Problem}
 use Rattle.osm_words.specs.Job.{ExportSettings}
 use Rattle.job_export.specs.declared.entry.Addition.{Addition}

@@ -1,9 +1,9 @@
 -- What a candidate with its outcome adds to the output and to the report.
 use Rattle.std.specs.Prelude.{◌≡◌, ℕ, Bool, true, false, List, [], ◌∷◌, ◌++◌, ◌+◌, map, Option}
 use Rattle.std.specs.List.{flat_map}
-use Rattle.opl_reader.specs.declared.object.Object.{Object}
-use Rattle.opl_reader.specs.declared.object.ObjectRef.{ObjectRef}
-use Rattle.opl_reader.specs.declared.object.Tag.{Tag}
+use Rattle.osm_elements.specs.declared.object.Object.{Object}
+use Rattle.osm_elements.specs.declared.object.ObjectRef.{ObjectRef}
+use Rattle.osm_elements.specs.declared.object.Tag.{Tag}
 use Rattle.osm_objects.specs.declared.problem.Problem.{Problem}
 use Rattle.osm_objects.specs.Objects.{object_at}
 use Rattle.osm_area.specs.declared.outcome.Outcome.{Outcome}
@@ -16,7 +16,7 @@ use Rattle.osm_text.specs.declared.feature_id.FeatureId.{FeatureId}
 use Rattle.osm_text.specs.Feature.{feature_text}
 use Rattle.osm_text.specs.GeoJson.{feature_json}
 use Rattle.osm_text.specs.Id.{feature_id}
-use Rattle.osm_report.specs.Report.{IsProblemLine, note_line}
+use Rattle.osm_text.specs.Report.{IsProblemLine, note_line}
 use Rattle.osm_words.specs.Job.{ExportSettings}
 use Rattle.osm_words.specs.declared.settings.Format.{Format}
 use Rattle.osm_words.specs.declared.settings.Format.TheVariants.{GeoJson, GeoJsonSeq, Text}

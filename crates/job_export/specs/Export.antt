@@ -1,7 +1,7 @@
 -- What an export is to write in all, and how it is to end.
 use Rattle.std.specs.Prelude.{◌≡◌, false, true, List, [], ◌∷◌, ◌++◌, map, All}
-use Rattle.opl_reader.specs.declared.object.Object.{Object}
-use Rattle.opl_reader.specs.declared.object.ObjectRef.{ObjectRef}
+use Rattle.osm_elements.specs.declared.object.Object.{Object}
+use Rattle.osm_elements.specs.declared.object.ObjectRef.{ObjectRef}
 use Rattle.osm_host.specs.Outside.{Outside, output}
 use Rattle.osm_objects.specs.Candidates.{candidates}
 use Rattle.job_export.specs.Choice.{choice_of}

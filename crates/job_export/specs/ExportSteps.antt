@@ -1,7 +1,7 @@
 -- Words of private clauses on the work of an export. No public contract cites it.
 use Rattle.std.specs.Prelude.{◌≡◌, ℕ, true, false, List, [], ◌∷◌, ◌++◌, map, All, Result, Ok, Err}
-use Rattle.opl_reader.specs.declared.object.Object.{Object}
-use Rattle.opl_reader.specs.declared.object.ObjectRef.{ObjectRef}
+use Rattle.osm_elements.specs.declared.object.Object.{Object}
+use Rattle.osm_elements.specs.declared.object.ObjectRef.{ObjectRef}
 use Rattle.osm_host.specs.Outside.{Outside, risen}
 use Rattle.osm_words.specs.Job.{ExportSettings}
 use Rattle.osm_job.specs.declared.ended.Ended.{Ended}

@@ -1,6 +1,6 @@
 -- That an export of any objects has a whole, as a statement.
 use Rattle.std.specs.Prelude.{List}
-use Rattle.opl_reader.specs.declared.object.Object.{Object}
+use Rattle.osm_elements.specs.declared.object.Object.{Object}
 use Rattle.osm_words.specs.Job.{ExportSettings}
 use Rattle.osm_job.specs.Whole.{Whole}
 use Rattle.job_export.specs.Export.{IsExport}

@@ -6,7 +6,7 @@ ghost use Rattle.osm_objects.specs.Candidates.{candidates};
 ghost use Rattle.osm_objects.specs.Objects.{object_at};
 ghost use Rattle.osm_words.specs.Answers.{settings_seen};
 
-use opl_reader::ObjectRef;
+use osm_elements::ObjectRef;
 use osm_job::choice_of;
 use osm_objects::Store;
 use osm_words::ExportSettings;

@@ -10,13 +10,13 @@ ghost use Rattle.job_export.specs.Framing.{framed};
 ghost use Rattle.osm_notation.specs.Kept.{KeepsFront};
 ghost use Rattle.osm_objects.specs.Objects.{object_at};
 ghost use Rattle.osm_objects.specs.Problem.{IsOfItsKind};
-ghost use Rattle.osm_report.specs.Report.{note_line};
+ghost use Rattle.osm_text.specs.Report.{note_line};
 ghost use Rattle.osm_text.specs.Id.{feature_id};
 ghost use Rattle.osm_words.specs.Answers.{settings_seen};
 
 use crate::framing::{after_feature, before_feature};
-use opl_reader::{ObjectKind, ObjectRef, Tags};
 use osm_area::{Outcome, assemble};
+use osm_elements::{ObjectKind, ObjectRef, Tags};
 use osm_nest::Polygons;
 use osm_objects::{Note, Problem, Store};
 use osm_text::{FeatureId, note_line, problem_line, put_feature_json, put_feature_text};

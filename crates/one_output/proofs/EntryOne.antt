@@ -2,17 +2,17 @@
 use Rattle.std.proofs.Common.{All, Bool, List, [], ap, false, subst, sym, true, ℕ, ◌++◌, ◌∙◌, ◌∷◌, ◌≡◌}
 use Rattle.std.specs.List.{flat_map}
 use Rattle.std.proofs.lemmas.List.Elements.{All-head, All-tail}
-use Rattle.opl_reader.specs.declared.object.Object.{Object}
-use Rattle.opl_reader.specs.declared.object.ObjectRef.{ObjectRef}
+use Rattle.osm_elements.specs.declared.object.Object.{Object}
+use Rattle.osm_elements.specs.declared.object.ObjectRef.{ObjectRef}
 use Rattle.osm_objects.specs.Problem.{IsOfItsKind}
 use Rattle.osm_objects.specs.declared.problem.Problem.{Problem}
 use Rattle.osm_area.specs.declared.outcome.Outcome.{Outcome}
 use Rattle.osm_area.specs.declared.outcome.Outcome.TheVariants.{Area, Problems}
 use Rattle.osm_area.specs.Outcome.{IsOutcome, problems_in}
 use Rattle.osm_area.proofs.ProblemKinds.{problems_of_kind}
-use Rattle.osm_report.specs.Report.{ProblemLineIsOne, note_line}
+use Rattle.osm_text.specs.Report.{ProblemLineIsOne, note_line}
 use Rattle.job_export.specs.Entry.{AreProblemLines, Entry, IsEntry, IsReport, IsReportShown}
-use Rattle.one_area.proofs.OutcomeOne.{candidate-one}
+use Rattle.osm_area.proofs.OutcomeOne.{candidate-one}
 
 -- ---- report lines
 module _ (line-one : ProblemLineIsOne) where

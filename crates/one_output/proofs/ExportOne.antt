@@ -1,13 +1,13 @@
 -- An export is one whole.
 use Rattle.std.proofs.Common.{All, List, [], ap, false, map, refl, sym, true, ◌++◌, ◌∙◌, ◌∷◌, ◌≡◌}
 use Rattle.std.proofs.lemmas.List.Elements.{All-head, All-tail}
-use Rattle.opl_reader.specs.declared.object.Object.{Object}
-use Rattle.opl_reader.specs.declared.object.ObjectRef.{ObjectRef}
+use Rattle.osm_elements.specs.declared.object.Object.{Object}
+use Rattle.osm_elements.specs.declared.object.ObjectRef.{ObjectRef}
 use Rattle.osm_words.specs.Job.{ExportSettings}
 use Rattle.job_export.specs.Entry.{Entry, IsEntry, has_area}
 use Rattle.osm_job.specs.Whole.{Whole}
 use Rattle.job_export.specs.Export.{HaveAreas, IsExport, finished, finished_whole, stopped, stopped_whole}
-use Rattle.osm_report.specs.Report.{ProblemLineIsOne}
+use Rattle.osm_text.specs.Report.{ProblemLineIsOne}
 use Rattle.one_output.proofs.EntryOne.{entry-one}
 
 abbrev named : List Entry → List ObjectRef

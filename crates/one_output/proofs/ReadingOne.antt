@@ -1,6 +1,6 @@
 -- An input is read as one thing, and a text is.
 use Rattle.std.proofs.Common.{Err, List, Ok, Result, Some, [], ap, arith, inl, inr, length, refl, subst, sym, take, ℕ, ◌++◌, ◌+◌, ◌∙◌, ◌∷◌, ◌≡◌, ◌⊎◌}
-use Rattle.opl_reader.specs.declared.object.Object.{Object}
+use Rattle.osm_elements.specs.declared.object.Object.{Object}
 use Rattle.osm_input.specs.declared.fault.InputFault.{InputFault}
 use Rattle.osm_input.specs.declared.reading.ReadError.{ReadError}
 use Rattle.osm_input.specs.declared.reading.ReadError.TheVariants.{BadInput, OutOfMemory, ReadFault, TooMuchInput}
@@ -13,7 +13,7 @@ use Rattle.osm_input.specs.Laws.{LinesCount}
 use Rattle.osm_input.specs.Reading.{IsReadAs, lines_counted}
 use Rattle.osm_input.specs.Text.{IsTextAs}
 use Rattle.osm_input.proofs.InputKit.{good_not_bad}
-use Rattle.one_ring_list.proofs.OneRingListKit.{Overlap, overlap}
+use Rattle.plane_lists.proofs.OneRingListKit.{Overlap, overlap}
 
 some-one : {X : Type 0} (x y : X) → Some x ≡ Some y → x ≡ y
 some-one x y h = cc

@@ -17,7 +17,7 @@ use Rattle.osm_job.specs.Whole.{Whole, silent}
 use Rattle.osm_cli.specs.Whole.{IsWhole}
 use Rattle.one_output.specs.Laws.{RunsAgree, RunsDontPart, RunsKeepToTheWhole, WholeIsOne}
 use Rattle.one_output.specs.Right.{AllRunsKeepTo, AreTold, IsRightForWords, TextsOf, is_unbroken}
-use Rattle.one_ring_list.proofs.OneRingListKit.{Overlap, overlap}
+use Rattle.plane_lists.proofs.OneRingListKit.{Overlap, overlap}
 use Rattle.one_output.proofs.WholeThere.{AreThere, whole-there}
 
 abbrev whole-by : List Sent → Ended → Whole

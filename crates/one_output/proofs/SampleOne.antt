@@ -3,8 +3,8 @@ use Rattle.std.proofs.Common.{All, List, [], ap, false, map, pos, refl, subst, s
 use Rattle.std.specs.List.{IsDistinct}
 use Rattle.std.specs.Ordering.{int_eq}
 use Rattle.std.proofs.lemmas.List.Elements.{All-cons, All-head, All-nil, All-tail}
-use Rattle.opl_reader.specs.declared.object.Object.{Object}
-use Rattle.opl_reader.specs.declared.object.ObjectRef.{ObjectRef}
+use Rattle.osm_elements.specs.declared.object.Object.{Object}
+use Rattle.osm_elements.specs.declared.object.ObjectRef.{ObjectRef}
 use Rattle.osm_area.specs.Outcome.{IsOutcome, OutcomeExists}
 use Rattle.osm_objects.specs.Candidates.{candidates, without_lists}
 use Rattle.osm_objects.specs.CoastWays.{coast_ways}
@@ -13,12 +13,12 @@ use Rattle.osm_job.specs.Whole.{Whole}
 use Rattle.osm_job.specs.declared.ended.Ended.TheVariants as ended
 use Rattle.osm_sample.specs.Input.{sample_objects}
 use Rattle.osm_sample.specs.Laws.{SampleHasOneCoast}
-use Rattle.job_sample.specs.Sample.{IsSample}
-use Rattle.job_sample.specs.Summary.{AreAssembled, Assembled, IsAssembled, IsSummary, coast_settings, summary_of}
-use Rattle.job_sample.specs.SummaryLines.{area_line, coast_line}
-use Rattle.job_sample.specs.declared.summary.Summary.{Summary}
-use Rattle.one_area.specs.Laws.{OutcomeIsOne}
-use Rattle.one_coast.specs.Laws.{CoastCountsAreOne, CoastCountsExist}
+use Rattle.job_small.specs.Sampling.Sample.{IsSample}
+use Rattle.job_small.specs.Sampling.Summary.{AreAssembled, Assembled, IsAssembled, IsSummary, coast_settings, summary_of}
+use Rattle.job_small.specs.Sampling.SummaryLines.{area_line, coast_line}
+use Rattle.job_small.specs.declared.sample.summary.Summary.{Summary}
+use Rattle.osm_area.specs.OneOutcome.{OutcomeIsOne}
+use Rattle.one_output.specs.OneCoast.Laws.{CoastCountsAreOne, CoastCountsExist}
 
 abbrev named : List Assembled → List ObjectRef
 named all = map (λ (one : Assembled). one.candidate) all

@@ -1,7 +1,7 @@
 -- What is right for a job over the texts of its inputs is one.
 use Rattle.std.proofs.Common.{Err, List, Ok, Result, inl, inr, length, refl, subst, sym, ℕ, ◌<◌, ◌≤◌, ◌∙◌, ◌≡◌, ◌⊎◌}
 use Rattle.std.proofs.lemmas.Bool.{cases_lt}
-use Rattle.opl_reader.specs.declared.object.Object.{Object}
+use Rattle.osm_elements.specs.declared.object.Object.{Object}
 use Rattle.osm_words.specs.Job.{certify, coastline, export, filter, locate, sample}
 use Rattle.osm_input.specs.Laws.{LinesCount}
 use Rattle.osm_input.specs.Reading.{IsReadAs}
@@ -10,17 +10,17 @@ use Rattle.osm_input.specs.declared.reading.ReadError.{ReadError}
 use Rattle.osm_input.specs.declared.text.TextError.{TextError}
 use Rattle.osm_input.specs.declared.text.TextError.TheVariants.{TooMuchInput}
 use Rattle.osm_job.specs.Whole.{IsAfterText, IsReadThen, IsRightAfterReading, IsTextThen, Whole, input_limit, longest_line}
-use Rattle.job_certify.specs.Certify.{IsCertify}
-use Rattle.job_certify.specs.Laws.{CertifyIsOne}
+use Rattle.job_ask.specs.Certifying.Certify.{IsCertify}
+use Rattle.job_ask.specs.Certifying.Laws.{CertifyIsOne}
 use Rattle.job_coastline.specs.Coastline.{IsCoastline}
 use Rattle.job_export.specs.Export.{IsExport}
-use Rattle.job_filter.specs.Filter.{IsFilter}
-use Rattle.job_filter.specs.Laws.{FilterIsOne}
-use Rattle.job_locate.specs.Laws.{LocateIsOne}
-use Rattle.job_locate.specs.Locate.{IsLocate}
-use Rattle.one_area.specs.Laws.{OutcomeIsOne}
-use Rattle.one_coast.specs.Laws.{CoastCountsAreOne, CoastlineIsOne}
-use Rattle.osm_report.specs.Report.{ProblemLineIsOne}
+use Rattle.job_small.specs.Filtering.Filter.{IsFilter}
+use Rattle.job_small.specs.Filtering.Laws.{FilterIsOne}
+use Rattle.job_ask.specs.Locating.Laws.{LocateIsOne}
+use Rattle.job_ask.specs.Locating.Locate.{IsLocate}
+use Rattle.osm_area.specs.OneOutcome.{OutcomeIsOne}
+use Rattle.one_output.specs.OneCoast.Laws.{CoastCountsAreOne, CoastlineIsOne}
+use Rattle.osm_text.specs.Report.{ProblemLineIsOne}
 use Rattle.one_output.specs.Laws.{IsReadAlike, IsTakenAlike, ObjectsTellTheWhole, WholeIsOne}
 use Rattle.one_output.proofs.ExportOne.{export-one}
 use Rattle.one_output.proofs.ReadingOne.{reading-one, text-one}

@@ -1,7 +1,7 @@
 -- Each job and input has a whole.
 use Rattle.std.proofs.Common.{Err, List, None, Ok, Option, Result, Some, [], ap, inl, inr, length, refl, subst, sym, take, ℕ, ◌++◌, ◌+◌, ◌<◌, ◌≤◌, ◌∙◌, ◌∷◌, ◌≡◌, ◌⊎◌}
 use Rattle.std.proofs.lemmas.Bool.{cases_lt}
-use Rattle.opl_reader.specs.declared.object.Object.{Object}
+use Rattle.osm_elements.specs.declared.object.Object.{Object}
 use Rattle.osm_words.specs.Job.{CoastlineSettings, Job, certify, coastline, export, filter, locate, sample}
 use Rattle.osm_input.specs.declared.fault.InputFault.{InputFault}
 use Rattle.osm_input.specs.declared.reading.ReadError.{ReadError}
@@ -15,22 +15,22 @@ use Rattle.osm_input.specs.Laws.{LinesCount}
 use Rattle.osm_input.specs.Reading.{IsReadAs}
 use Rattle.osm_input.specs.declared.text.TextError.TheVariants as text
 use Rattle.osm_job.specs.Whole.{IsReadThen, IsRightAfterReading, IsTextThen, Whole, ending_of_read, input_limit, longest_line, silent, text_ended}
-use Rattle.job_certify.specs.Certify.{IsCertify}
-use Rattle.job_certify.specs.Laws.{CertifyExists}
+use Rattle.job_ask.specs.Certifying.Certify.{IsCertify}
+use Rattle.job_ask.specs.Certifying.Laws.{CertifyExists}
 use Rattle.job_coastline.specs.Coastline.{IsCoastline}
 use Rattle.job_export.specs.Export.{IsExport}
-use Rattle.job_filter.specs.Filter.{IsFilter}
-use Rattle.job_filter.specs.Laws.{FiltersExist}
-use Rattle.job_locate.specs.Laws.{LocatesExist}
-use Rattle.job_locate.specs.Locate.{IsLocate}
-use Rattle.one_coast.specs.Laws.{CoastCountsExist, CoastlineExists}
+use Rattle.job_small.specs.Filtering.Filter.{IsFilter}
+use Rattle.job_small.specs.Filtering.Laws.{FiltersExist}
+use Rattle.job_ask.specs.Locating.Laws.{LocatesExist}
+use Rattle.job_ask.specs.Locating.Locate.{IsLocate}
+use Rattle.one_output.specs.OneCoast.Laws.{CoastCountsExist, CoastlineExists}
 use Rattle.osm_area.specs.Outcome.{OutcomeExists}
 use Rattle.osm_sample.specs.Laws.{SampleHasOneCoast}
-use Rattle.written_inputs.specs.Laws.{ReadObjectsCanBeWritten}
+use Rattle.opl_writer.specs.ReadBack.Laws.{ReadObjectsCanBeWritten}
 use Rattle.osm_objects.proofs.ObjectsKit.{coast_ways-distinct}
 use Rattle.job_export.specs.Laws.{ExportExists}
 use Rattle.osm_cli.specs.Whole.{IsWhole}
-use Rattle.one_ring_list.proofs.OneRingListKit.{Overlap, overlap}
+use Rattle.plane_lists.proofs.OneRingListKit.{Overlap, overlap}
 use Rattle.one_output.proofs.SampleOne.{sample_there}
 
 append-nil : (xs : List (List ℕ)) → xs ++ [] ≡ xs

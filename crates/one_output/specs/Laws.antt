@@ -1,6 +1,6 @@
 -- What a run is to write in all is a function of its job and its inputs, as statements.
 use Rattle.std.specs.Prelude.{Bool, List, Result, true, ℕ, [], ◌↔◌, ◌∷◌, ◌≡◌, ◌⊎◌}
-use Rattle.opl_reader.specs.declared.object.Object.{Object}
+use Rattle.osm_elements.specs.declared.object.Object.{Object}
 use Rattle.osm_words.specs.Job.{ExportSettings, Job}
 use Rattle.osm_words.specs.declared.fault.WordsFault.{WordsFault}
 use Rattle.osm_host.specs.Outside.{Outside}

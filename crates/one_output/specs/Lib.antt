@@ -1,2 +1,5 @@
 pub mod Laws
+pub mod OneCoast
 pub mod Right
+pub mod RoundedPieces
+pub mod ValidAreas

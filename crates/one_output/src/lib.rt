@@ -5,19 +5,24 @@
 //! `osm_cli`, by which the contract of its `run` speaks.
 #![tactic(auto)]
 
+pub mod one_coast;
+pub mod rounded_pieces;
+pub mod valid_areas;
+
 ghost use Rattle.one_output.specs.Laws.{EntryIsOne, ExportIsOne, ObjectsTellTheWhole, ReadingIsOne, RunsAgree, RunsDontPart, RunsKeepToTheWhole, WholeIsOne};
 
-use job_certify::{certify_exists, certify_is_one};
+use crate::one_coast::{
+    coast_counts_are_one, coast_counts_exist, coastline_exists, coastline_is_one,
+};
+use job_ask::certify::{certify_exists, certify_is_one};
+use job_ask::locate::{locate_is_one, locates_exist};
 use job_export::export_exists;
-use job_filter::{filter_is_one, filters_exist};
-use job_locate::{locate_is_one, locates_exist};
-use one_area::outcome_is_one;
-use one_coast::{coast_counts_are_one, coast_counts_exist, coastline_exists, coastline_is_one};
-use osm_area::outcome_exists;
+use job_small::filter::{filter_is_one, filters_exist};
+use opl_writer::read_back::read_inputs_can_be_written;
+use osm_area::{outcome_exists, outcome_is_one};
 use osm_input::limit_decides_the_lines;
-use osm_report::problem_line_is_one;
 use osm_sample::sample_has_one_coast;
-use written_inputs::read_inputs_can_be_written;
+use osm_text::problem_line_is_one;
 
 /// What is right for a job over the texts of its inputs is one list of what is written, and one
 /// ending, alone: each text is read as one thing, and each candidate adds one thing. It depends on

@@ -8,10 +8,10 @@ use Rattle.std.proofs.lemmas.Option.{none-some}
 use Rattle.opl_reader.specs.declared.fault.FaultKind.{FaultKind}
 use Rattle.opl_reader.specs.declared.fault.FaultKind.TheVariants.{UnknownField, RepeatedField, BadNumber, BadFlag, BadCoordinate, BadEscape, BadTag, BadReference, BadMember}
 use Rattle.opl_reader.specs.declared.fault.LineFault.{LineFault}
-use Rattle.opl_reader.specs.declared.object.Tag.{Tag}
-use Rattle.opl_reader.specs.declared.object.Member.{Member}
-use Rattle.opl_reader.specs.declared.object.ObjectKind.{ObjectKind}
-use Rattle.opl_reader.specs.declared.object.ObjectKind.TheVariants.{Node, Way, Relation}
+use Rattle.osm_elements.specs.declared.object.Tag.{Tag}
+use Rattle.osm_elements.specs.declared.object.Member.{Member}
+use Rattle.osm_elements.specs.declared.object.ObjectKind.{ObjectKind}
+use Rattle.osm_elements.specs.declared.object.ObjectKind.TheVariants.{Node, Way, Relation}
 use Rattle.opl_reader.specs.declared.field.Meaning.{Meaning}
 use Rattle.opl_reader.specs.declared.field.Meaning.TheVariants.{Count, Flag, Anything, Name, X, Y, Tagged, Referring, Having}
 use Rattle.opl_reader.specs.declared.content.Content.{Content}

@@ -4,7 +4,7 @@ use Rattle.std.specs.List.{slice_split, filter_map, cons_option, before_first, p
 use Rattle.std.proofs.lemmas.Bool.{lt-ltb, le-ltb}
 use Rattle.std.proofs.lemmas.List.{take_all}
 use Rattle.std.proofs.lemmas.List.Elements.{filter_map-append}
-use Rattle.opl_reader.specs.declared.object.Object.{Object}
+use Rattle.osm_elements.specs.declared.object.Object.{Object}
 use Rattle.opl_reader.specs.declared.feed.Fed.{Fed}
 use Rattle.opl_reader.specs.LineReading.{reading}
 use Rattle.opl_reader.specs.Lines.{is_newline, whole_lines, lines_of, unfinished_of}

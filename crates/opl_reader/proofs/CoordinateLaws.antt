@@ -3,11 +3,12 @@ use Rattle.std.proofs.Common.{◌≡◌, ℕ, cond, eqb, ◌⊎◌, List, [], le
 use Rattle.std.specs.Prelude.{option_map, option_and_then}
 use Rattle.std.proofs.lemmas.Bool.{cases_eq, ne_eqb, eq-eqb}
 use Rattle.std.proofs.lemmas.List.{nil_from_length}
-use Rattle.opl_reader.specs.declared.coordinate.Longitude.{Longitude}
-use Rattle.opl_reader.specs.declared.coordinate.Latitude.{Latitude}
+use Rattle.osm_elements.specs.declared.coordinate.Longitude.{Longitude}
+use Rattle.osm_elements.specs.declared.coordinate.Latitude.{Latitude}
 use Rattle.opl_reader.specs.Coordinates.{IsX, IsY}
 use Rattle.opl_reader.specs.NumberReading.{decimal_of}
-use Rattle.opl_reader.specs.CoordinateReading.{longitude, latitude, x_spelled, y_spelled}
+use Rattle.osm_elements.specs.Places.{longitude, latitude}
+use Rattle.opl_reader.specs.CoordinateReading.{x_spelled, y_spelled}
 use Rattle.opl_reader.proofs.SpellingLaws.{map_some}
 use Rattle.opl_reader.proofs.PlaceLaws.{longitude_is, latitude_is, is_longitude, is_latitude, some_decimal}
 

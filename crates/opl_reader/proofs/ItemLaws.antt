@@ -10,16 +10,16 @@ use Rattle.std.proofs.lemmas.Option.{cond_some}
 use Rattle.opl_reader.specs.declared.fault.FaultKind.{FaultKind}
 use Rattle.opl_reader.specs.declared.fault.LineFault.{LineFault}
 use Rattle.osm_lattice.specs.declared.loc.Loc.{Loc}
-use Rattle.opl_reader.specs.declared.object.Tag.{Tag}
-use Rattle.opl_reader.specs.declared.object.Ref.{Ref}
-use Rattle.opl_reader.specs.declared.object.Member.{Member}
-use Rattle.opl_reader.specs.declared.object.ObjectKind.{ObjectKind}
+use Rattle.osm_elements.specs.declared.object.Tag.{Tag}
+use Rattle.osm_elements.specs.declared.object.Ref.{Ref}
+use Rattle.osm_elements.specs.declared.object.Member.{Member}
+use Rattle.osm_elements.specs.declared.object.ObjectKind.{ObjectKind}
 use Rattle.opl_reader.specs.declared.fault.FaultKind.TheVariants.{BadEscape, BadTag, BadReference, BadMember}
 use Rattle.opl_reader.specs.Reading.{◌>>=◌, or_fault}
 use Rattle.opl_reader.specs.Parts.{Lacks}
 use Rattle.opl_reader.specs.Numbers.{IsId}
 use Rattle.opl_reader.specs.Strings.{IsString}
-use Rattle.opl_reader.specs.Coordinates.{location_from}
+use Rattle.osm_elements.specs.Places.{location_from}
 use Rattle.opl_reader.specs.Items.{kind_by_letter, Each, IsItems, IsTag, IsOwnPlace, IsRef, HasTarget, IsMember}
 use Rattle.opl_reader.specs.NumberReading.{id_spelled}
 use Rattle.opl_reader.specs.CoordinateReading.{x_spelled, y_spelled}

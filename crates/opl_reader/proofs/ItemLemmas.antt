@@ -12,7 +12,7 @@ use Rattle.opl_reader.specs.declared.fault.LineFault.{LineFault}
 use Rattle.opl_reader.specs.declared.fault.LineError.{LineError}
 use Rattle.opl_reader.specs.declared.fault.LineError.TheVariants.{Fault, OutOfMemory}
 use Rattle.opl_reader.specs.declared.fault.FaultKind.TheVariants.{BadReference}
-use Rattle.opl_reader.specs.declared.object.Ref.{Ref}
+use Rattle.osm_elements.specs.declared.object.Ref.{Ref}
 use Rattle.opl_reader.specs.Reading.{◌>>=◌, Fails, or_fault}
 use Rattle.opl_reader.specs.Parts.{Part}
 use Rattle.opl_reader.specs.ItemReading.{placed, is_comma, items, each, ref_behind, ref_spelled, ref_at}

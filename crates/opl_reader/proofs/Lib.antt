@@ -21,10 +21,6 @@ mod BadLaws
 mod FaultLaws
 mod AnswerLaws
 mod KeyLaws
-mod UsualLemmas
-mod PackedLemmas
-mod CompactLemmas
-mod HeldLemmas
 mod LineSplits
 mod FeedSteps
 mod ChunkLaws

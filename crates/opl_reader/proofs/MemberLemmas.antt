@@ -1,13 +1,13 @@
 -- Members, one more at a time.
 use Rattle.std.proofs.Common.{◌≡◌, ◌++◌, ◌∷◌, [], ℕ, List, Some, Result, Ok, Err, refl, sym}
-use Rattle.opl_reader.specs.declared.object.Member.{Member}
-use Rattle.opl_reader.specs.declared.object.ObjectRef.{ObjectRef}
+use Rattle.osm_elements.specs.declared.object.Member.{Member}
+use Rattle.osm_elements.specs.declared.object.ObjectRef.{ObjectRef}
 use Rattle.opl_reader.specs.declared.fault.LineFault.{LineFault}
 use Rattle.opl_reader.specs.declared.fault.LineError.{LineError}
 use Rattle.opl_reader.specs.declared.fault.LineError.TheVariants.{Fault, OutOfMemory}
 use Rattle.opl_reader.specs.ItemReading.{halves, member_at, target_of}
 use Rattle.opl_reader.specs.Reading.{◌>>=◌, Fails}
-use Rattle.opl_reader.specs.Seen.{member_of}
+use Rattle.osm_elements.specs.Seen.{member_of}
 use Rattle.opl_reader.specs.Steps.{with_member_at}
 use Rattle.opl_reader.specs.StringReading.{string_at, string_of}
 

@@ -6,4 +6,3 @@ pub use Rattle.opl_reader.proofs.FeedSteps.{Finished, Step, empty, ended, finish
 pub use Rattle.opl_reader.proofs.FieldLemmas.{letter_ascii}
 pub use Rattle.opl_reader.proofs.KeyLaws.{first_differ}
 pub use Rattle.opl_reader.proofs.LineSplits.{IsOneLine, all_before, at_most_all, cut_piece, ends_with, front_is_one, lines_with_rest, newline_ends, one_line, rest_is_one, some_part, split_behind, used_is, with_last-cons, with_last_behind}
-pub use Rattle.opl_reader.proofs.PlaceLaws.{placed}

@@ -1,7 +1,7 @@
 -- The first bad line of an input that comes in pieces.
 use Rattle.std.specs.Prelude.{◌≡◌, ◌≤◌, ◌<◌, ◌+◌, ℕ, true, List, ◌∷◌, ◌++◌, length, Err}
 use Rattle.std.specs.List.{slice_split, before_first}
-use Rattle.opl_reader.specs.declared.object.Object.{Object}
+use Rattle.osm_elements.specs.declared.object.Object.{Object}
 use Rattle.opl_reader.specs.declared.fault.LineFault.{LineFault}
 use Rattle.opl_reader.specs.declared.feed.FeedError.TheVariants.{Line, TooLong}
 use Rattle.opl_reader.specs.LineReading.{reading}

@@ -1,7 +1,7 @@
 -- What a reader has handed out, however the input is cut into pieces.
 use Rattle.std.specs.Prelude.{◌≡◌, ◌≤◌, ℕ, false, List, [], ◌∷◌, ◌++◌, length, take, Option, Some, None, Ok}
 use Rattle.std.specs.List.{flat_map, filter_map}
-use Rattle.opl_reader.specs.declared.object.Object.{Object}
+use Rattle.osm_elements.specs.declared.object.Object.{Object}
 use Rattle.opl_reader.specs.declared.feed.Fed.{Fed}
 use Rattle.opl_reader.specs.LineReading.{reading}
 use Rattle.opl_reader.specs.Lines.{whole_lines, lines_of, unfinished_of}

@@ -1,8 +1,7 @@
 -- Coordinates: what x and y spell, and the location that they make.
 use Rattle.std.specs.Prelude.{◌≡◌, ℕ, ◌⊎◌, List, [], Option, Some, None}
-use Rattle.osm_lattice.specs.declared.loc.Loc.{Loc}
-use Rattle.opl_reader.specs.declared.coordinate.Longitude.{Longitude}
-use Rattle.opl_reader.specs.declared.coordinate.Latitude.{Latitude}
+use Rattle.osm_elements.specs.declared.coordinate.Longitude.{Longitude}
+use Rattle.osm_elements.specs.declared.coordinate.Latitude.{Latitude}
 use Rattle.opl_reader.specs.Numbers.{IsDecimal}
 
 -- empty, or the decimal of a longitude
@@ -12,9 +11,3 @@ IsX bytes x = ((bytes ≡ []) × (x ≡ None)) ⊎ ((l : Longitude) × IsDecimal
 -- empty, or the decimal of a latitude
 abbrev pub IsY : List ℕ → Option Latitude → Type 0
 IsY bytes y = ((bytes ≡ []) × (y ≡ None)) ⊎ ((l : Latitude) × IsDecimal bytes l.units × (y ≡ Some l))
-
--- a location, where both coordinates are there
-abbrev pub location_from : Option Longitude → Option Latitude → Option Loc
-location_from None y = None
-location_from (Some x) None = None
-location_from (Some x) (Some y) = Some (record { x = x.units; y = y.units; x_in = x.in_range; y_in = y.in_range })

@@ -7,13 +7,13 @@ use Rattle.opl_reader.specs.declared.fault.FaultKind.TheVariants.{NotUtf8, Unkno
 use Rattle.opl_reader.specs.declared.fault.LineFault.{LineFault}
 use Rattle.opl_reader.specs.declared.fault.LineError.{LineError}
 use Rattle.opl_reader.specs.declared.fault.LineError.TheVariants.{Fault, OutOfMemory}
-use Rattle.opl_reader.specs.declared.object.ObjectKind.{ObjectKind}
-use Rattle.opl_reader.specs.declared.object.Ref.{Ref}
+use Rattle.osm_elements.specs.declared.object.ObjectKind.{ObjectKind}
+use Rattle.osm_elements.specs.declared.object.Ref.{Ref}
 use Rattle.opl_reader.specs.declared.field.Meaning.{Meaning}
 use Rattle.opl_reader.specs.declared.field.Meaning.TheVariants.{Count, Flag, Anything, Name, X, Y, Tagged, Referring, Having}
 use Rattle.opl_reader.specs.declared.content.Content.{Content}
-use Rattle.opl_reader.specs.declared.coordinate.Longitude.{Longitude}
-use Rattle.opl_reader.specs.declared.coordinate.Latitude.{Latitude}
+use Rattle.osm_elements.specs.declared.coordinate.Longitude.{Longitude}
+use Rattle.osm_elements.specs.declared.coordinate.Latitude.{Latitude}
 use Rattle.opl_reader.specs.Parts.{Part, without_cr, Lacks, Parted, PartedByCommas}
 use Rattle.opl_reader.specs.Numbers.{IsId, IsNumber}
 use Rattle.opl_reader.specs.Strings.{IsString}

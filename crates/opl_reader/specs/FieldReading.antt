@@ -3,7 +3,7 @@ use Rattle.std.specs.Prelude.{ℕ, ◌+◌, Bool, true, false, ◌==◌, if◌th
 use Rattle.std.specs.List.{list_any}
 use Rattle.opl_reader.specs.declared.fault.FaultKind.TheVariants.{UnknownField, RepeatedField, BadNumber, BadFlag, BadCoordinate}
 use Rattle.opl_reader.specs.declared.fault.LineFault.{LineFault}
-use Rattle.opl_reader.specs.declared.object.ObjectKind.{ObjectKind}
+use Rattle.osm_elements.specs.declared.object.ObjectKind.{ObjectKind}
 use Rattle.opl_reader.specs.declared.field.Meaning.{Meaning}
 use Rattle.opl_reader.specs.declared.field.Meaning.TheVariants.{Count, Flag, Anything, Name, X, Y, Tagged, Referring, Having}
 use Rattle.opl_reader.specs.declared.content.Content.{Content}

@@ -3,16 +3,17 @@ use Rattle.std.specs.Prelude.{◌≡◌, ◌≢◌, ℕ, ◌<◌, ◌⊎◌, not
 use Rattle.std.specs.List.{filter, AllByRecursion}
 use Rattle.std.specs.Str.{bytes_eq}
 use Rattle.osm_lattice.specs.declared.loc.Loc.{Loc}
-use Rattle.opl_reader.specs.declared.coordinate.Longitude.{Longitude}
-use Rattle.opl_reader.specs.declared.coordinate.Latitude.{Latitude}
-use Rattle.opl_reader.specs.declared.object.Tag.{Tag}
-use Rattle.opl_reader.specs.declared.object.Ref.{Ref}
-use Rattle.opl_reader.specs.declared.object.Member.{Member}
-use Rattle.opl_reader.specs.declared.object.ObjectKind.{ObjectKind}
-use Rattle.opl_reader.specs.declared.object.ObjectKind.TheVariants.{Node, Way, Relation}
+use Rattle.osm_elements.specs.declared.coordinate.Longitude.{Longitude}
+use Rattle.osm_elements.specs.declared.coordinate.Latitude.{Latitude}
+use Rattle.osm_elements.specs.declared.object.Tag.{Tag}
+use Rattle.osm_elements.specs.declared.object.Ref.{Ref}
+use Rattle.osm_elements.specs.declared.object.Member.{Member}
+use Rattle.osm_elements.specs.declared.object.ObjectKind.{ObjectKind}
+use Rattle.osm_elements.specs.declared.object.ObjectKind.TheVariants.{Node, Way, Relation}
 use Rattle.opl_reader.specs.Parts.{Lacks, PartedByCommas}
 use Rattle.opl_reader.specs.Numbers.{IsId}
-use Rattle.opl_reader.specs.Coordinates.{location_from, IsX, IsY}
+use Rattle.osm_elements.specs.Places.{location_from}
+use Rattle.opl_reader.specs.Coordinates.{IsX, IsY}
 use Rattle.opl_reader.specs.Strings.{IsString}
 
 -- each part spells the value in its place

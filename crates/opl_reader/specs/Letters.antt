@@ -3,8 +3,8 @@ use Rattle.std.specs.Prelude.{◌≡◌, ℕ, ◌||◌, ◌==◌, if◌then◌el
 use Rattle.osm_tables.specs.declared.Row.{Row}
 use Rattle.osm_tables.specs.declared.TheConstants.{NODE_FIELDS, WAY_FIELDS, RELATION_FIELDS}
 use Rattle.osm_tables.specs.Tables.{code_of}
-use Rattle.opl_reader.specs.declared.object.ObjectKind.{ObjectKind}
-use Rattle.opl_reader.specs.declared.object.ObjectKind.TheVariants.{Node, Way, Relation}
+use Rattle.osm_elements.specs.declared.object.ObjectKind.{ObjectKind}
+use Rattle.osm_elements.specs.declared.object.ObjectKind.TheVariants.{Node, Way, Relation}
 use Rattle.opl_reader.specs.declared.field.Meaning.{Meaning}
 use Rattle.opl_reader.specs.declared.field.Meaning.TheVariants.{Count, Flag, Anything, Name, X, Y, Tagged, Referring, Having}
 use Rattle.opl_reader.specs.Fields.{letter_of}

@@ -17,10 +17,6 @@ pub mod Spells
 pub mod Faults
 pub mod OneAnswer
 pub mod Steps
-pub mod Seen
-pub mod Packed
-pub mod Compact
-pub mod Held
 pub mod Lines
 pub mod Told
 pub mod Reader

@@ -1,10 +1,10 @@
 -- Which line spells which object, and which line is passed over.
 use Rattle.std.specs.Prelude.{◌≡◌, ℕ, ◌⊎◌, List, [], ◌∷◌, ℤ, Some}
 use Rattle.std.specs.Str.{IsUtf8}
-use Rattle.opl_reader.specs.declared.object.ObjectKind.{ObjectKind}
-use Rattle.opl_reader.specs.declared.object.Object.{Object}
-use Rattle.opl_reader.specs.declared.object.Object.TheVariants as object
-use Rattle.opl_reader.specs.declared.object.Tag.{Tag}
+use Rattle.osm_elements.specs.declared.object.ObjectKind.{ObjectKind}
+use Rattle.osm_elements.specs.declared.object.Object.{Object}
+use Rattle.osm_elements.specs.declared.object.Object.TheVariants as object
+use Rattle.osm_elements.specs.declared.object.Tag.{Tag}
 use Rattle.opl_reader.specs.declared.content.Content.{Content}
 use Rattle.opl_reader.specs.Parts.{Part, part, without_cr, Parted}
 use Rattle.opl_reader.specs.Numbers.{IsId}

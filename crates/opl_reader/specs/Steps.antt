@@ -6,9 +6,9 @@ use Rattle.std.specs.List.{slice_split, position_or_len, list_all, list_any}
 use Rattle.std.specs.Str.Parse.{digits_value}
 use Rattle.std.specs.Str.{bytes_eq}
 use Rattle.std.specs.declared.string.String.{String}
-use Rattle.opl_reader.specs.declared.object.Ref.{Ref}
-use Rattle.opl_reader.specs.declared.object.Tag.{Tag}
-use Rattle.opl_reader.specs.declared.object.Member.{Member}
+use Rattle.osm_elements.specs.declared.object.Ref.{Ref}
+use Rattle.osm_elements.specs.declared.object.Tag.{Tag}
+use Rattle.osm_elements.specs.declared.object.Member.{Member}
 use Rattle.opl_reader.specs.declared.fault.LineFault.{LineFault}
 use Rattle.opl_reader.specs.declared.fault.LineError.{LineError}
 use Rattle.opl_reader.specs.declared.fault.LineError.TheVariants as line

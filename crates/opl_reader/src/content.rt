@@ -3,12 +3,8 @@
 ghost use Rattle.std.specs.Prelude.{◌≡◌};
 ghost use Rattle.opl_reader.specs.Fields.{nothing, object_of};
 
-use crate::coordinate::{Latitude, Longitude};
-use crate::members::Members;
-use crate::object::{Object, ObjectKind};
 use crate::place::location_from;
-use crate::refs::Refs;
-use crate::tags::Tags;
+use osm_elements::{Latitude, Longitude, Members, Object, ObjectKind, Refs, Tags};
 use std::alloc::Global;
 
 /// What the fields so far say. A field that isn't there is empty, and an object without a flag is live.

@@ -8,7 +8,7 @@ ghost use Rattle.opl_reader.specs.StringReading.{code_point, string_of, string_a
 use crate::cut::cut;
 use crate::fault::{FaultKind, LineError, fault};
 use crate::search::first_cut;
-use crate::text::Text;
+use osm_elements::Text;
 use std::alloc::Global;
 
 /// The character of an escape: one to six hexadecimal digits.

@@ -4,7 +4,7 @@ ghost use Rattle.std.specs.Prelude.{◌≡◌};
 ghost use Rattle.opl_reader.specs.Steps.{of_line};
 
 use crate::fault::{LineError, LineFault};
-use crate::object::Object;
+use osm_elements::Object;
 
 /// What a piece gave.
 #[derive(Debug, Drop)]

@@ -12,8 +12,8 @@ use crate::escape::is_string;
 use crate::fault::{FaultKind, LineError, fault};
 use crate::items::{read_members, read_refs, read_tags};
 use crate::number::are_digits;
-use crate::object::ObjectKind;
 use crate::place::{x_spelled, y_spelled};
+use osm_elements::ObjectKind;
 use std::alloc::Global;
 
 /// What a field's letter stands for.

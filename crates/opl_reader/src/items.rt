@@ -12,13 +12,10 @@ ghost use Rattle.opl_reader.specs.Steps.{BeginsWithRef, IsFirstRef, all_left, le
 use crate::cut::{cut, cut_bytes};
 use crate::escape::{is_plain, read_string};
 use crate::fault::{FaultKind, LineError, fault};
-use crate::members::Members;
 use crate::number::{leading_digits, read_id};
-use crate::object::{ObjectKind, ObjectRef, Ref};
 use crate::place::{location_from, x_spelled, y_spelled};
-use crate::refs::Refs;
-use crate::tags::Tags;
 use memchr::memchr_iter;
+use osm_elements::{Members, ObjectKind, ObjectRef, Ref, Refs, Tags};
 use osm_lattice::Loc;
 use std::alloc::{AllocError as OutOfMemory, Global};
 use std::collections::BTreeSet;

@@ -8,8 +8,8 @@ ghost use Rattle.opl_reader.specs.Keys.{AreKeys, is_inner, key_said, keys_said};
 use crate::escape::{is_string, read_string};
 use crate::fault::LineError;
 use crate::items::next_item;
-use crate::text::Text;
 use lists::List;
+use osm_elements::Text;
 use std::alloc::{AllocError as OutOfMemory, Global};
 
 /// How many keys stand there at most.

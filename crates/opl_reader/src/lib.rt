@@ -5,9 +5,7 @@
 #![tactic(auto)]
 
 mod chunking;
-mod compact;
 mod content;
-mod coordinate;
 mod cut;
 mod escape;
 mod fault;
@@ -17,16 +15,9 @@ mod items;
 mod keys;
 mod line;
 mod lines;
-mod members;
 mod number;
-mod object;
-mod packed;
 mod place;
-mod refs;
 mod search;
-mod tags;
-mod text;
-mod usual;
 
 pub use chunking::{
     any_chunking_gives_the_objects, finish_gives_the_rest, first_fault_is_reported,
@@ -40,9 +31,4 @@ pub use field::tables_have_the_letters;
 pub use keys::{is_keys, keys_are_written, read_keys};
 pub use line::{lines_have_one_answer, read_line};
 pub use lines::Lines;
-pub use members::{MemberIter, MemberRef, Members};
 pub use number::read_decimal;
-pub use object::{Member, Object, ObjectKind, ObjectRef, Ref, Tag};
-pub use refs::{RefIter, Refs};
-pub use tags::{TagIter, TagRef, Tags};
-pub use text::Text;

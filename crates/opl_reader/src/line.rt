@@ -1,7 +1,7 @@
 //! Lines.
 
 ghost use Rattle.std.specs.Prelude.{◌≡◌, ◌+◌, ◌^◌, ◌<◌, ◌≤◌, ◌∷◌, [], List, ℕ, length, slice_index, IfSome, MatchOption, Some, None, Ok, IfOk, OnOk, IfErr, IfNone, Err};
-ghost use Rattle.opl_reader.specs.declared.object.ObjectKind.{ObjectKind};
+ghost use Rattle.osm_elements.specs.declared.object.ObjectKind.{ObjectKind};
 ghost use Rattle.opl_reader.specs.declared.fault.LineFault.{LineFault};
 ghost use Rattle.opl_reader.specs.Reading.{Gives, Leaves};
 ghost use Rattle.opl_reader.specs.Parts.{without_cr};
@@ -13,7 +13,7 @@ ghost use Rattle.opl_reader.specs.Items.{HaveDifferentKeys};
 ghost use Rattle.opl_reader.specs.Faults.{HasFault, Explains};
 ghost use Rattle.opl_reader.specs.OneAnswer.{IsAnswer, HasAnswer, HasNoOther};
 ghost use Rattle.opl_reader.specs.Steps.{with_part, begins_passed, Marks};
-ghost use Rattle.opl_reader.specs.declared.object.Object.{Object};
+ghost use Rattle.osm_elements.specs.declared.object.Object.{Object};
 ghost use Rattle.std.specs.Str.{IsUtf8};
 
 use crate::content::{Content, object_of};
@@ -21,8 +21,8 @@ use crate::fault::{FaultKind, LineError, fault};
 use crate::field::{add_value, letter_of};
 use crate::items::kind_by_letter;
 use crate::number::read_id;
-use crate::object::{Object, ObjectKind};
 use crate::search::first_separator;
+use osm_elements::{Object, ObjectKind};
 use std::alloc::Global;
 use std::str;
 

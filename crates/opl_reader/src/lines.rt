@@ -11,8 +11,8 @@ ghost use Rattle.opl_reader.specs.Feeding.{has_newline, feeding, finishing, Answ
 use crate::fault::LineError;
 use crate::feed::{Fed, FeedError};
 use crate::line::read_line;
-use crate::object::Object;
 use memchr::memchr;
+use osm_elements::Object;
 use std::alloc::Global;
 use std::marker::Model;
 

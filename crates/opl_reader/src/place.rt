@@ -1,12 +1,13 @@
 //! Coordinates and the location that they make.
 
 ghost use Rattle.std.specs.Prelude.{◌≡◌, pos, option_and_then};
-ghost use Rattle.opl_reader.specs.Coordinates.{location_from};
+ghost use Rattle.osm_elements.specs.Places.{location_from};
 ghost use Rattle.opl_reader.specs.NumberReading.{decimal_of};
-ghost use Rattle.opl_reader.specs.CoordinateReading.{longitude, latitude, x_spelled, y_spelled};
+ghost use Rattle.osm_elements.specs.Places.{longitude, latitude};
+ghost use Rattle.opl_reader.specs.CoordinateReading.{x_spelled, y_spelled};
 
-use crate::coordinate::{Latitude, Longitude};
 use crate::number::decimal;
+use osm_elements::{Latitude, Longitude};
 use osm_lattice::Loc;
 
 /// The longitude of a decimal.

@@ -3,11 +3,11 @@ use Rattle.std.proofs.Common.{◌≡◌, ◌≢◌, ◌∙◌, ◌+◌, ◌<◌,
 use Rattle.std.specs.List.{join_with_byte}
 use Rattle.std.proofs.lemmas.List.Elements.{All-nil, All-cons, All-append, All-head, All-tail, All-weaker}
 use Rattle.osm_lattice.specs.declared.loc.Loc.{Loc}
-use Rattle.opl_reader.specs.declared.object.Tag.{Tag}
-use Rattle.opl_reader.specs.declared.object.Ref.{Ref}
-use Rattle.opl_reader.specs.declared.object.Member.{Member}
-use Rattle.opl_reader.specs.declared.object.ObjectKind.{ObjectKind}
-use Rattle.opl_reader.specs.declared.object.ObjectKind.TheVariants.{Node, Way, Relation}
+use Rattle.osm_elements.specs.declared.object.Tag.{Tag}
+use Rattle.osm_elements.specs.declared.object.Ref.{Ref}
+use Rattle.osm_elements.specs.declared.object.Member.{Member}
+use Rattle.osm_elements.specs.declared.object.ObjectKind.{ObjectKind}
+use Rattle.osm_elements.specs.declared.object.ObjectKind.TheVariants.{Node, Way, Relation}
 use Rattle.opl_reader.specs.declared.field.Meaning.TheVariants.{X, Y, Tagged, Referring, Having}
 use Rattle.opl_reader.specs.declared.content.Content.{Content}
 use Rattle.opl_reader.specs.Parts.{Part, part, Lacks, EndsField, Parted, ends, separator, field}

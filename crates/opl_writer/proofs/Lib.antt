@@ -1,9 +1,10 @@
-mod RowLemmas
 mod Bytes
-mod StringLemmas
-mod NumberLemmas
-mod ItemLemmas
 mod FieldLemmas
+mod ItemLemmas
 mod LineLemmas
-mod TextLemmas
+mod NumberLemmas
+mod ReadBack
+mod RowLemmas
 mod SoundLemmas
+mod StringLemmas
+mod TextLemmas

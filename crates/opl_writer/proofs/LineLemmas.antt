@@ -8,17 +8,17 @@ use Rattle.std.proofs.lemmas.List.Elements.{All-cons, All-append}
 use Rattle.std.proofs.lemmas.List.{get_or_past}
 use Rattle.std.proofs.lemmas.Str.{IsUtf8-from_ascii}
 use Rattle.osm_lattice.specs.declared.loc.Loc.{Loc}
-use Rattle.opl_reader.specs.declared.object.Tag.{Tag}
-use Rattle.opl_reader.specs.declared.object.Ref.{Ref}
-use Rattle.opl_reader.specs.declared.object.Member.{Member}
-use Rattle.opl_reader.specs.declared.object.ObjectKind.{ObjectKind}
-use Rattle.opl_reader.specs.declared.object.ObjectKind.TheVariants.{Node, Way, Relation}
-use Rattle.opl_reader.specs.declared.object.Object.{Object}
-use Rattle.opl_reader.specs.declared.object.Object.TheVariants as object
+use Rattle.osm_elements.specs.declared.object.Tag.{Tag}
+use Rattle.osm_elements.specs.declared.object.Ref.{Ref}
+use Rattle.osm_elements.specs.declared.object.Member.{Member}
+use Rattle.osm_elements.specs.declared.object.ObjectKind.{ObjectKind}
+use Rattle.osm_elements.specs.declared.object.ObjectKind.TheVariants.{Node, Way, Relation}
+use Rattle.osm_elements.specs.declared.object.Object.{Object}
+use Rattle.osm_elements.specs.declared.object.Object.TheVariants as object
 use Rattle.opl_reader.specs.declared.content.Content.{Content}
 use Rattle.opl_reader.specs.Parts.{without_cr, Lacks, Parted, part}
 use Rattle.opl_reader.specs.Items.{kind_by_letter}
-use Rattle.opl_reader.specs.Coordinates.{location_from}
+use Rattle.osm_elements.specs.Places.{location_from}
 use Rattle.opl_reader.specs.Fields.{nothing, object_of, Told}
 use Rattle.opl_reader.specs.Spells.{Spells}
 use Rattle.opl_writer.specs.Written.{ref_text, member_text, tags_field, refs_field, members_field, place_fields, node_line, way_line, relation_line, object_line}

@@ -6,7 +6,7 @@ use Rattle.std.proofs.lemmas.Bool.{ne_eqb}
 use Rattle.std.proofs.lemmas.List.Elements.{All-head, All-tail}
 use Rattle.std.proofs.lemmas.List.Splits.{slice_split_at, length-slice_split}
 use Rattle.opl_reader.specs.declared.fault.LineFault.{LineFault}
-use Rattle.opl_reader.specs.declared.object.Object.{Object}
+use Rattle.osm_elements.specs.declared.object.Object.{Object}
 use Rattle.opl_reader.specs.LineReading.{reading}
 use Rattle.opl_reader.specs.Lines.{is_newline, with_last, lines_of}
 use Rattle.opl_reader.specs.Parts.{Lacks}

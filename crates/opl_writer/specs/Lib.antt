@@ -1,3 +1,4 @@
-pub mod Written
-pub mod Writable
+pub mod ReadBack
 pub mod Rows
+pub mod Writable
+pub mod Written

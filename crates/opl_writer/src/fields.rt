@@ -5,7 +5,7 @@ ghost use Rattle.osm_notation.specs.Kept.{KeepsFront};
 ghost use Rattle.opl_writer.specs.Written.{members_field, place_fields, refs_field, tags_field};
 
 use crate::items::{put_member, put_ref};
-use opl_reader::{Members, Refs, Tags};
+use osm_elements::{Members, Refs, Tags};
 use osm_lattice::Loc;
 use osm_notation::{put_coordinate, put_tag};
 use std::alloc::AllocError as OutOfMemory;

@@ -1,11 +1,11 @@
 //! Items of a field: tags, references and members.
 
 ghost use Rattle.std.specs.Prelude.{◌≡◌, ◌++◌, OnOk, OnErr};
-ghost use Rattle.opl_reader.specs.Seen.{member_seen};
+ghost use Rattle.osm_elements.specs.Seen.{member_seen};
 ghost use Rattle.osm_notation.specs.Kept.{KeepsFront};
 ghost use Rattle.opl_writer.specs.Written.{kind_letter, member_text, own_place_text, ref_text};
 
-use opl_reader::{MemberRef, ObjectKind, Ref};
+use osm_elements::{MemberRef, ObjectKind, Ref};
 use osm_lattice::Loc;
 use osm_notation::{put_coordinate, put_number, put_written};
 use std::alloc::AllocError as OutOfMemory;

@@ -3,7 +3,7 @@
 ghost use Rattle.std.specs.Prelude.{◌≡◌, List, Ok, Some, map, All, ℕ};
 ghost use Rattle.std.specs.List.{filter_map};
 ghost use Rattle.std.specs.Str.{IsUtf8};
-ghost use Rattle.opl_reader.specs.declared.object.Object.{Object};
+ghost use Rattle.osm_elements.specs.declared.object.Object.{Object};
 ghost use Rattle.opl_reader.specs.LineReading.{reading};
 ghost use Rattle.opl_reader.specs.Lines.{lines_of};
 ghost use Rattle.opl_reader.specs.Parts.{Lacks};

@@ -9,6 +9,7 @@ mod fields;
 mod items;
 mod laws;
 mod lines;
+pub mod read_back;
 
 pub use laws::{spelled_objects_are_sound, written_lines_read_back, written_texts_read_back};
 pub use lines::{put_node, put_relation, put_way};

@@ -5,7 +5,7 @@ ghost use Rattle.osm_notation.specs.Kept.{KeepsFront};
 ghost use Rattle.opl_writer.specs.Written.{ended, node_line, relation_line, way_line};
 
 use crate::fields::{put_members, put_place, put_refs, put_tags};
-use opl_reader::{Members, Refs, Tags};
+use osm_elements::{Members, Refs, Tags};
 use osm_lattice::Loc;
 use osm_notation::put_number;
 use std::alloc::AllocError as OutOfMemory;

@@ -7,14 +7,14 @@ use Rattle.plane.specs.RayCrossing.{up_crossing, down_crossing}
 use Rattle.plane.specs.Scale.{scaled_edge, scaled_point}
 use Rattle.plane.specs.Vector.{Vector, east, from_to}
 use Rattle.plane.proofs.PlaneKit.{point-once}
-use Rattle.winding.specs.EdgeList.{crossing_count}
-use Rattle.winding.specs.OddSide.{directed_edge}
-use Rattle.winding.specs.ScaledEdges.{scaled_edges}
-use Rattle.winding.proofs.WindingKit.{reversed-crossings}
-use Rattle.plane_edges.specs.Multiple.{edge_times, edges_times, whole_edges}
-use Rattle.plane_edges.specs.Sided.{count_at}
-use Rattle.plane_edges.specs.SidedLaws.{IsLattice}
-use Rattle.plane_edges.proofs.EdgesKit.{common-lattice, lattice_whole}
+use Rattle.plane_lists.specs.Lists.EdgeList.{crossing_count}
+use Rattle.plane_lists.specs.Lists.OddSide.{directed_edge}
+use Rattle.plane_lists.specs.Lists.ScaledEdges.{scaled_edges}
+use Rattle.plane_lists.proofs.WindingKit.{reversed-crossings}
+use Rattle.osm_geom.specs.InPlane.Multiple.{edge_times, edges_times, whole_edges}
+use Rattle.osm_geom.specs.InPlane.Sided.{count_at}
+use Rattle.osm_geom.specs.InPlane.SidedLaws.{IsLattice}
+use Rattle.osm_geom.proofs.EdgesKit.{common-lattice, lattice_whole}
 use Rattle.osm_geom.specs.declared.edge.Carrier.TheVariants.{OfSeg}
 use Rattle.osm_geom.specs.declared.edge.Edge.{Edge}
 use Rattle.osm_lattice.specs.declared.seg.Seg.{Seg}

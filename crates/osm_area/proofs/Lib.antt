@@ -3,6 +3,7 @@ pub mod AreaLemmas
 mod FewNames
 pub mod OutcomeExists
 pub mod OutcomeLemmas
+pub mod OutcomeOne
 pub mod OutcomeParity
 pub mod ProblemKinds
 pub mod RefLemmas

@@ -5,7 +5,7 @@ use Rattle.osm_lattice.specs.declared.seg.Seg.{Seg}
 use Rattle.osm_lattice.specs.Loc.{loc_cmp}
 use Rattle.osm_lattice.specs.Seg.{seg_cmp}
 use Rattle.osm_lattice.proofs.LatticeKit.{loc_total, seg_total}
-use Rattle.opl_reader.specs.declared.object.ObjectRef.{ObjectRef}
+use Rattle.osm_elements.specs.declared.object.ObjectRef.{ObjectRef}
 use Rattle.lists.specs.Rising.{count_of}
 use Rattle.lists.proofs.ListsKit.{count-picked, odd_once, picked, rising-picked}
 use Rattle.osm_objects.specs.declared.problem.Note.{Note}

@@ -1,8 +1,8 @@
 -- Of an outcome: the parity of its rings.
 use Rattle.std.proofs.Common.{All}
 use Rattle.std.specs.Prelude.{List}
-use Rattle.opl_reader.specs.declared.object.Object.{Object}
-use Rattle.opl_reader.specs.declared.object.ObjectRef.{ObjectRef}
+use Rattle.osm_elements.specs.declared.object.Object.{Object}
+use Rattle.osm_elements.specs.declared.object.ObjectRef.{ObjectRef}
 use Rattle.osm_geom.specs.WholeSegment.{IsWholeSegment}
 use Rattle.osm_nest.specs.Polygons.{rings_of}
 use Rattle.osm_area.specs.declared.outcome.Outcome.{Outcome}

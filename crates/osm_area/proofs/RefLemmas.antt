@@ -1,7 +1,7 @@
 -- The test of equal references in the words of the definitions.
 use Rattle.std.proofs.Common.{◌≡◌, ◌∙◌, Bool, not, List, [], ◌∷◌, filter, refl, ap}
-use Rattle.opl_reader.specs.declared.object.ObjectRef.{ObjectRef}
-use Rattle.opl_reader.specs.contracts.object.ObjectRefPartialEq.TheImpl as ref_eq
+use Rattle.osm_elements.specs.declared.object.ObjectRef.{ObjectRef}
+use Rattle.osm_elements.specs.contracts.object.ObjectRefPartialEq.TheImpl as ref_eq
 use Rattle.osm_objects.proofs.ObjectsKit.{eq-is}
 use Rattle.lists.specs.Once.{each_once}
 use Rattle.osm_area.specs.Missing.{same_ref}

@@ -3,10 +3,10 @@ use Rattle.std.proofs.Common.{◌≡◌, ◌∙◌, Bool, true, false, cond, ◌
 use Rattle.std.specs.List.{filter_map, list_any}
 use Rattle.std.specs.Option.{option_map_or}
 use Rattle.std.proofs.lemmas.Slice.Eq.{bytes_eq-Decides}
-use Rattle.opl_reader.specs.declared.object.Member.{Member}
-use Rattle.opl_reader.specs.declared.object.Object.{Object}
-use Rattle.opl_reader.specs.declared.object.ObjectKind.TheVariants.{Relation}
-use Rattle.opl_reader.specs.declared.object.ObjectRef.{ObjectRef}
+use Rattle.osm_elements.specs.declared.object.Member.{Member}
+use Rattle.osm_elements.specs.declared.object.Object.{Object}
+use Rattle.osm_elements.specs.declared.object.ObjectKind.TheVariants.{Relation}
+use Rattle.osm_elements.specs.declared.object.ObjectRef.{ObjectRef}
 use Rattle.osm_objects.specs.Objects.{RelationParts, relation_of}
 use Rattle.osm_objects.specs.declared.problem.Note.{Note}
 use Rattle.osm_objects.specs.declared.problem.Note.TheVariants.{InnerInOuter, OuterInInner}

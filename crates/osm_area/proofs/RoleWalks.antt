@@ -4,9 +4,9 @@ use Rattle.std.specs.List.{cons_option, filter_map, list_any}
 use Rattle.std.proofs.lemmas.Cmp.{int_eq_equiv}
 use Rattle.lists.specs.Once.{each_once}
 use Rattle.osm_lattice.specs.declared.seg.Seg.{Seg}
-use Rattle.opl_reader.specs.declared.object.Member.{Member}
-use Rattle.opl_reader.specs.declared.object.Object.{Object}
-use Rattle.opl_reader.specs.declared.object.ObjectKind.TheVariants.{Way}
+use Rattle.osm_elements.specs.declared.object.Member.{Member}
+use Rattle.osm_elements.specs.declared.object.Object.{Object}
+use Rattle.osm_elements.specs.declared.object.ObjectKind.TheVariants.{Way}
 use Rattle.osm_objects.specs.Object.{same_kind}
 use Rattle.osm_objects.specs.declared.problem.Note.{Note}
 use Rattle.osm_nest.specs.declared.polygon.Polygon.{Polygon}

@@ -2,7 +2,7 @@
 use Rattle.std.proofs.Common.{All, List, [], ◌∷◌, ap}
 use Rattle.std.proofs.lemmas.List.Elements.{All-nil, All-append, All-head, All-tail}
 use Rattle.lists.proofs.ListsKit.{in-all}
-use Rattle.plane_edges.specs.SidedLaws.{IsLattice}
+use Rattle.osm_geom.specs.InPlane.SidedLaws.{IsLattice}
 use Rattle.osm_geom.specs.declared.edge.Edge.{Edge}
 use Rattle.osm_geom.specs.Point.{den_of}
 use Rattle.osm_geom.specs.WholeSegment.{IsWholeSegment}

@@ -2,9 +2,9 @@
 use Rattle.std.specs.Prelude.{◌≡◌, ◌≢◌, ◌%◌, List, [], ℤ}
 use Rattle.plane.specs.Sign.{Plus, sign}
 use Rattle.plane.specs.Vector.{Vector, east}
-use Rattle.winding.specs.EdgeList.{crossing_count}
-use Rattle.winding.specs.ScaledEdges.{scaled_edges}
-use Rattle.plane_edges.specs.Sided.{count_at}
+use Rattle.plane_lists.specs.Lists.EdgeList.{crossing_count}
+use Rattle.plane_lists.specs.Lists.ScaledEdges.{scaled_edges}
+use Rattle.osm_geom.specs.InPlane.Sided.{count_at}
 use Rattle.osm_lattice.specs.declared.seg.Seg.{Seg}
 use Rattle.osm_geom.specs.declared.edge.Edge.{Edge}
 use Rattle.osm_sides.specs.Directions.{AreDirected}

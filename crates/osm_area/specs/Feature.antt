@@ -1,7 +1,7 @@
 -- What a feature tells of the candidate that it is the area of.
 use Rattle.std.specs.Prelude.{List, [], Option, None, Some}
-use Rattle.opl_reader.specs.declared.object.Object.{Object}
-use Rattle.opl_reader.specs.declared.object.Tag.{Tag}
+use Rattle.osm_elements.specs.declared.object.Object.{Object}
+use Rattle.osm_elements.specs.declared.object.Tag.{Tag}
 use Rattle.osm_objects.specs.Candidates.{area_tags}
 
 -- the tags of a candidate's area

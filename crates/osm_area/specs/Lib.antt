@@ -4,12 +4,13 @@ pub mod MemberWays
 pub mod Missing
 pub mod Names
 pub mod Notes
+pub mod OneOutcome
 pub mod Outcome
 pub mod Problems
 pub mod RingSegments
 pub mod RoleKinds
-pub mod Roles
 pub mod RoleWalk
-pub mod Segments
+pub mod Roles
 pub mod SegmentSteps
+pub mod Segments
 pub mod Sound

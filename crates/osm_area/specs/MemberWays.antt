@@ -2,11 +2,11 @@
 use Rattle.std.specs.Prelude.{List, [], ◌∷◌, map, filter, count_by, nat_le, ℤ}
 use Rattle.std.specs.Option.{option_map_or}
 use Rattle.std.specs.Ordering.{int_eq}
-use Rattle.opl_reader.specs.declared.object.Member.{Member}
-use Rattle.opl_reader.specs.declared.object.ObjectKind.TheVariants.{Node, Way, Relation}
-use Rattle.opl_reader.specs.declared.object.ObjectRef.{ObjectRef}
-use Rattle.opl_reader.specs.declared.object.ObjectKind.{ObjectKind}
-use Rattle.opl_reader.specs.declared.object.Object.{Object}
+use Rattle.osm_elements.specs.declared.object.Member.{Member}
+use Rattle.osm_elements.specs.declared.object.ObjectKind.TheVariants.{Node, Way, Relation}
+use Rattle.osm_elements.specs.declared.object.ObjectRef.{ObjectRef}
+use Rattle.osm_elements.specs.declared.object.ObjectKind.{ObjectKind}
+use Rattle.osm_elements.specs.declared.object.Object.{Object}
 use Rattle.osm_objects.specs.Object.{same_kind}
 use Rattle.osm_objects.specs.Objects.{relation_of}
 use Rattle.lists.specs.Once.{each_once}

@@ -1,7 +1,7 @@
 -- What is noted of a candidate.
 use Rattle.std.specs.Prelude.{◌≡◌, List, [], ◌∷◌, ◌++◌, map, ℤ}
 use Rattle.osm_lattice.specs.declared.seg.Seg.{Seg}
-use Rattle.opl_reader.specs.declared.object.ObjectRef.{ObjectRef}
+use Rattle.osm_elements.specs.declared.object.ObjectRef.{ObjectRef}
 use Rattle.osm_objects.specs.declared.problem.Note.{Note}
 use Rattle.osm_objects.specs.declared.problem.Note.TheVariants.{NamedTwice, Repeated}
 use Rattle.osm_segments.specs.declared.counts.Repeat.{Repeat}

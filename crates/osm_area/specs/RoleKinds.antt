@@ -4,7 +4,7 @@ use Rattle.std.specs.List.{list_any}
 use Rattle.std.specs.Ordering.{is_eq}
 use Rattle.osm_lattice.specs.declared.seg.Seg.{Seg}
 use Rattle.osm_lattice.specs.Seg.{seg_cmp}
-use Rattle.opl_reader.specs.declared.object.Member.{Member}
+use Rattle.osm_elements.specs.declared.object.Member.{Member}
 use Rattle.osm_objects.specs.declared.problem.Note.{Note}
 use Rattle.osm_objects.specs.declared.problem.Note.TheVariants.{InnerInOuter, OuterInInner}
 use Rattle.osm_area.specs.declared.roles.Role.{Role}

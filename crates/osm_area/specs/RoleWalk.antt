@@ -2,7 +2,7 @@
 use Rattle.std.specs.Prelude.{Bool, false, ◌≡◌, ◌++◌, if◌then◌else◌, List, [], ◌∷◌, length, map, ℕ, ℤ, Option, None}
 use Rattle.std.specs.List.{cons_option, flat_map, list_any}
 use Rattle.osm_lattice.specs.declared.seg.Seg.{Seg}
-use Rattle.opl_reader.specs.declared.object.Member.{Member}
+use Rattle.osm_elements.specs.declared.object.Member.{Member}
 use Rattle.osm_objects.specs.declared.problem.Note.{Note}
 use Rattle.osm_nest.specs.declared.polygon.Polygon.{Polygon}
 use Rattle.osm_area.specs.RoleKinds.{note_on, role_named}

@@ -1,8 +1,8 @@
 -- What a candidate needs to have an area.
 use Rattle.std.specs.Prelude.{List, [], ◌≡◌, ◌≢◌}
 use Rattle.osm_lattice.specs.declared.seg.Seg.{Seg}
-use Rattle.opl_reader.specs.declared.object.Object.{Object}
-use Rattle.opl_reader.specs.declared.object.ObjectRef.{ObjectRef}
+use Rattle.osm_elements.specs.declared.object.Object.{Object}
+use Rattle.osm_elements.specs.declared.object.ObjectRef.{ObjectRef}
 use Rattle.osm_segments.specs.Counts.{AreSurvivors}
 use Rattle.osm_segments.specs.Pairs.{conflicts_of}
 use Rattle.osm_sides.specs.Survivors.{HasEvenNodes}

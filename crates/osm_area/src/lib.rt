@@ -7,6 +7,7 @@ mod member_ways;
 mod missing;
 mod notes;
 mod once;
+mod one_outcome;
 mod outcome;
 mod outcome_lists;
 mod problems;
@@ -17,5 +18,6 @@ mod roles;
 mod segments;
 
 pub use laws::{areas_have_kinds, has_area_exactly, outcome_exists};
+pub use one_outcome::outcome_is_one;
 pub use outcome::{Outcome, assemble};
 pub use outcome_lists::{Notes, Problems};

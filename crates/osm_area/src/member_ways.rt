@@ -3,9 +3,9 @@
 ghost use Rattle.std.specs.Prelude.{◌≡◌, IfOk};
 ghost use Rattle.osm_objects.specs.Object.{same_kind};
 ghost use Rattle.osm_area.specs.MemberWays.{ways_among, named_ways};
-ghost use Rattle.opl_reader.specs.declared.object.ObjectKind.TheVariants.{Way};
+ghost use Rattle.osm_elements.specs.declared.object.ObjectKind.TheVariants.{Way};
 
-use opl_reader::{Members, ObjectKind, ObjectRef};
+use osm_elements::{Members, ObjectKind, ObjectRef};
 use osm_objects::Store;
 use std::alloc::{AllocError as OutOfMemory, Global};
 

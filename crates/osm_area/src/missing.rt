@@ -7,7 +7,7 @@ ghost use Rattle.osm_area.specs.Missing.{same_ref, nodes_missing, way_missing};
 
 use crate::once::each_once;
 use indexmap::IndexSet;
-use opl_reader::{ObjectKind, ObjectRef, Refs};
+use osm_elements::{ObjectKind, ObjectRef, Refs};
 use osm_objects::Store;
 use std::alloc::{AllocError as OutOfMemory, Global};
 

@@ -21,7 +21,7 @@ use crate::outcome_lists::{Notes, Problems};
 use crate::problems::{missing_problems, problems_among};
 use crate::role_notes::{Ways, add_role_notes};
 use crate::segments::{WaySegments, segments};
-use opl_reader::{ObjectKind, ObjectRef};
+use osm_elements::{ObjectKind, ObjectRef};
 use osm_nest::Polygons;
 use osm_objects::Store;
 use osm_segments::cancel;

@@ -7,7 +7,7 @@ ghost use Rattle.osm_segments.specs.Sweep.{AreByEnds};
 ghost use Rattle.osm_area.specs.Problems.{missing_problem, conflict_problem, odd_problem, AreFaults, AreProblemsAmong};
 
 use crate::outcome_lists::Problems;
-use opl_reader::{ObjectKind, ObjectRef};
+use osm_elements::{ObjectKind, ObjectRef};
 use osm_geom::{Loc, Seg};
 use osm_objects::Problem;
 use osm_segments::{Pair, faults_of};

@@ -2,10 +2,10 @@
 
 ghost use Rattle.std.specs.Prelude.{◌≡◌};
 ghost use Rattle.std.specs.List.{list_any};
-ghost use Rattle.opl_reader.specs.Seen.{member_seen};
+ghost use Rattle.osm_elements.specs.Seen.{member_seen};
 ghost use Rattle.osm_area.specs.RoleKinds.{role_named, names_a_ring};
 
-use opl_reader::{MemberRef, Members};
+use osm_elements::{MemberRef, Members};
 
 /// What a role tells of the rings that a way lies in.
 #[derive(Clone, Copy)]

@@ -7,7 +7,7 @@ ghost use Rattle.osm_area.specs.Missing.{nodes_missing, way_missing};
 ghost use Rattle.osm_area.specs.Segments.{segments_along, way_segments};
 ghost use Rattle.osm_area.specs.SegmentSteps.{step_from};
 
-use opl_reader::Refs;
+use osm_elements::Refs;
 use osm_geom::{Loc, Seg};
 use osm_objects::Store;
 use std::alloc::{AllocError as OutOfMemory, Global};

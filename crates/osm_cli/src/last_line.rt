@@ -6,7 +6,8 @@ ghost use Rattle.osm_job.specs.declared.ended.Ended.TheVariants.{BadPoint, Refut
 ghost use Rattle.osm_cli.specs.LastLine.{last_line, fault_line, line_begun, bad_line, again_line, kind_word, words_line};
 
 use crate::fixed_line::Line;
-use opl_reader::{LineFault, ObjectKind, ObjectRef, fault_text};
+use opl_reader::{LineFault, fault_text};
+use osm_elements::{ObjectKind, ObjectRef};
 use osm_input::InputFault;
 use osm_job::Ended;
 use osm_words::WordsFault;

@@ -3,6 +3,7 @@ pub mod Coordinate
 pub mod Cut
 pub mod Dir
 pub mod Edge
+pub mod InPlane
 pub mod JustAbove
 pub mod Level
 pub mod LineOrder

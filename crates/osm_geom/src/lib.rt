@@ -8,6 +8,7 @@ mod dir;
 mod edge;
 mod edge_dir;
 mod edge_lists;
+pub mod in_plane;
 mod just_above;
 mod laws;
 mod level;

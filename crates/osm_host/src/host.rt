@@ -16,14 +16,14 @@ pub struct Faults {
 }
 
 /// What a new host has counted.
-pub(crate) const NO_FAULTS: Faults = Faults {
+pub const NO_FAULTS: Faults = Faults {
     opens: 0,
     reads: 0,
     writes: 0,
 };
 
 /// Counts one more fault.
-pub(crate) fn note_fault(count: &mut u64) -> Failed
+pub fn note_fault(count: &mut u64) -> Failed
     ensures counted { count.new ≡ risen count.old }
     ensures never_falls { count.old ≤ count.new }
 {

@@ -3,6 +3,7 @@ mod Begun
 mod BytesTaken
 pub mod InputKit
 mod Lines
+mod PointLines
 mod Prefixes
 mod Steps
 mod Taking

@@ -3,7 +3,7 @@ use Rattle.std.proofs.Common.{◌≡◌, ◌∙◌, refl, sym, ap, subst, ℕ, �
 use Rattle.std.proofs.lemmas.Bool.{cases_lt}
 use Rattle.std.proofs.lemmas.List.{take_all, take-take, take-append-le}
 use Rattle.std.proofs.Math.Seq.{take-append-add}
-use Rattle.opl_reader.specs.declared.object.Object.{Object}
+use Rattle.osm_elements.specs.declared.object.Object.{Object}
 use Rattle.opl_reader.specs.Lines.{whole_lines}
 use Rattle.opl_reader.specs.Reader.{Reader, new_reader}
 use Rattle.osm_host.specs.Outside.{Outside, preceded, grown, OnlyReads}

@@ -3,7 +3,7 @@ use Rattle.std.specs.Prelude.{◌≡◌, ◌<◌, ℕ, List, ◌++◌, length, t
 use Rattle.std.specs.List.{filter_map}
 use Rattle.opl_reader.specs.declared.feed.FeedError.{FeedError}
 use Rattle.opl_reader.specs.declared.feed.FeedError.TheVariants as feed
-use Rattle.opl_reader.specs.declared.object.Object.{Object}
+use Rattle.osm_elements.specs.declared.object.Object.{Object}
 use Rattle.opl_reader.specs.Chunking.{HandsOut}
 use Rattle.opl_reader.specs.Lines.{whole_lines, lines_of}
 use Rattle.opl_reader.specs.Reader.{Reader}

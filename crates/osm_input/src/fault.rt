@@ -1,6 +1,7 @@
 //! What is wrong with a line of an input.
 
-use opl_reader::{LineFault, ObjectKind};
+use opl_reader::LineFault;
+use osm_elements::ObjectKind;
 
 /// What is wrong with the bad place of an input, a line.
 #[derive(Clone, Copy, Debug, PartialEq, Eq)]

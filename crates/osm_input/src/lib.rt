@@ -5,6 +5,7 @@
 mod fault;
 mod laws;
 mod pieces;
+pub mod points;
 mod reading;
 mod text;
 

@@ -7,7 +7,8 @@ ghost use Rattle.osm_input.specs.LineSteps.{IsLineError, IsErrorOfRefusal, with_
 
 use crate::fault::InputFault;
 use crate::reading::ReadError;
-use opl_reader::{FeedError, Lines, Object};
+use opl_reader::{FeedError, Lines};
+use osm_elements::Object;
 use osm_objects::{AddError, Store};
 
 /// Why an input isn't read whose lines were refused. A reader of lines that goes on has not ended.

@@ -1,6 +1,6 @@
 -- An input that is read, and behind it a text: what was taken off both.
 use Rattle.std.proofs.Common.{◌≡◌, ◌∙◌, refl, sym, ap, subst, ℕ, List, [], ◌∷◌, Option, Some, IfSome, Result, Ok, Err, inl, inr}
-use Rattle.opl_reader.specs.declared.object.Object.{Object}
+use Rattle.osm_elements.specs.declared.object.Object.{Object}
 use Rattle.osm_host.specs.Laws.{StreamsAppend}
 use Rattle.osm_host.specs.Outside.{Outside, Opened, input, appended, risen}
 use Rattle.osm_input.specs.declared.reading.ReadError.{ReadError}

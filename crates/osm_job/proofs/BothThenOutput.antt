@@ -1,6 +1,6 @@
 -- A job that reads an input and then a text, and then writes one output or none: each way in which it ends.
 use Rattle.std.proofs.Common.{◌≡◌, ◌∙◌, refl, sym, ap, ℕ, ◌≤◌, ◌⊎◌, List, [], ◌∷◌, take, arith, Option, None, Some, IfSome, Ok, Err, inl, inr}
-use Rattle.opl_reader.specs.declared.object.Object.{Object}
+use Rattle.osm_elements.specs.declared.object.Object.{Object}
 use Rattle.osm_host.specs.Laws.{StreamsAppend}
 use Rattle.osm_host.specs.Outside.{Outside, Opened, appended, risen, OnlyOpens}
 use Rattle.osm_input.specs.declared.reading.ReadError.{ReadError}

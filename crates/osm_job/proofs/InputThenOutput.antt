@@ -1,6 +1,6 @@
 -- A job that reads one input and then writes one output: each way in which it ends.
 use Rattle.std.proofs.Common.{◌≡◌, refl, ℕ, ◌≤◌, ◌⊎◌, List, [], ◌∷◌, Option, None, Some, IfSome, Ok, Err}
-use Rattle.opl_reader.specs.declared.object.Object.{Object}
+use Rattle.osm_elements.specs.declared.object.Object.{Object}
 use Rattle.osm_host.specs.Laws.{StreamsAppend}
 use Rattle.osm_host.specs.Outside.{Outside, Opened, appended, risen, OnlyOpens}
 use Rattle.osm_input.specs.declared.reading.ReadError.{ReadError}

@@ -1,6 +1,6 @@
 -- What a job did with its host.
 use Rattle.std.specs.Prelude.{◌≡◌, ℕ, List, [], ◌∷◌, IfSome}
-use Rattle.opl_reader.specs.declared.object.Object.{Object}
+use Rattle.osm_elements.specs.declared.object.Object.{Object}
 use Rattle.osm_host.specs.Outside.{Outside, Opened, appended}
 use Rattle.osm_input.specs.Keeps.{KeepsNames}
 use Rattle.osm_job.specs.declared.ended.Ended.{Ended}

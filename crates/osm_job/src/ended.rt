@@ -1,6 +1,6 @@
 //! How a run ends.
 
-use opl_reader::ObjectRef;
+use osm_elements::ObjectRef;
 use osm_input::InputFault;
 use osm_words::WordsFault;
 

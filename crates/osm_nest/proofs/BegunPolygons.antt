@@ -2,22 +2,22 @@
 use Rattle.std.proofs.Common.{All, List, [], ap, arith, inl, inr, map, not, pos, refl, subst, sym, ℕ, ℤ, ◌%◌, ◌++◌, ◌+◌, ◌∙◌, ◌∷◌, ◌≡◌, ◌≤◌, ◌⊎◌}
 use Rattle.std.specs.List.{count_by}
 use Rattle.std.proofs.lemmas.List.{map-append}
-use Rattle.nesting.specs.Cover.{covers}
-use Rattle.nesting.specs.Nesting.{edges_of}
-use Rattle.nesting.specs.Polygon as nesting
-use Rattle.nesting.specs.Polygon.{ArePolygonsOfRings, IsPolygon, polygon_edges}
-use Rattle.nesting.specs.Walk.{HasSameEdges}
-use Rattle.nesting.proofs.NestingKit.{odd-bit, total-edges, sided_same, polygons_cover_at_fractions, polygon_sided}
+use Rattle.plane_lists.specs.Rings.Cover.{covers}
+use Rattle.plane_lists.specs.Rings.Nesting.{edges_of}
+use Rattle.plane_lists.specs.Rings.Polygon as nesting
+use Rattle.plane_lists.specs.Rings.Polygon.{ArePolygonsOfRings, IsPolygon, polygon_edges}
+use Rattle.plane_lists.specs.Rings.Walk.{HasSameEdges}
+use Rattle.plane_lists.proofs.NestingKit.{odd-bit, total-edges, sided_same, polygons_cover_at_fractions, polygon_sided}
 use Rattle.plane.specs.Bit.{bit}
 use Rattle.plane.specs.Edge as plane
 use Rattle.plane.specs.RayCrossing.{down_crossing, up_crossing}
 use Rattle.plane.specs.Scale.{scaled_edge, scaled_point}
 use Rattle.plane.specs.Sign.{Plus, sign}
 use Rattle.plane.specs.Vector.{Vector, east, from_to}
-use Rattle.winding.specs.EdgeList.{crossing_count}
+use Rattle.plane_lists.specs.Lists.EdgeList.{crossing_count}
 use Rattle.lists.specs.Member.{In}
-use Rattle.winding.specs.Parity.{is_even}
-use Rattle.winding.specs.ScaledEdges.{scaled_edges}
+use Rattle.plane_lists.specs.Lists.Parity.{is_even}
+use Rattle.plane_lists.specs.Lists.ScaledEdges.{scaled_edges}
 use Rattle.lists.proofs.ListsKit.{all-either, all-in, in-all, in-either, in-left, in-map-out, in-right, total, total-++, total-is, total-map}
 use Rattle.osm_geom.specs.declared.edge.Edge.{Edge}
 use Rattle.osm_geom.specs.Point.{den_of}
@@ -28,9 +28,9 @@ use Rattle.osm_nest.specs.Polygons.{edges_in, polygon_times, rings_in, rings_of}
 use Rattle.osm_nest.specs.RingLists.{AreRings, all_edges, whole_rings}
 use Rattle.lists.specs.Rotated.{IsRotated}
 use Prim.Native.Nat.{◌∣◌}
-use Rattle.plane_edges.specs.Multiple.{IsCommon, IsWholeAt, edge_times, edges_times, product_of_denominators}
-use Rattle.plane_edges.specs.Sided.{IsSided, count_at}
-use Rattle.plane_edges.proofs.EdgesKit.{common_is_common, count_at_each, sided_at_each}
+use Rattle.osm_geom.specs.InPlane.Multiple.{IsCommon, IsWholeAt, edge_times, edges_times, product_of_denominators}
+use Rattle.osm_geom.specs.InPlane.Sided.{IsSided, count_at}
+use Rattle.osm_geom.proofs.EdgesKit.{common_is_common, count_at_each, sided_at_each}
 
 -- ---- sums over edges in the multiplied plane
 module _ (k : ℕ) where

@@ -9,7 +9,7 @@ use Rattle.plane.proofs.PlaneKit.{right_chain, right_itself}
 use Rattle.osm_geom.specs.declared.edge.Edge.{Edge}
 use Rattle.osm_geom.specs.JustAbove.{just_above_cmp}
 use Rattle.osm_geom.specs.Span.{lower_end, spans}
-use Rattle.plane_edges.specs.Multiple.{IsWholeAt, product_of_denominators}
+use Rattle.osm_geom.specs.InPlane.Multiple.{IsWholeAt, product_of_denominators}
 use Rattle.osm_nest.specs.Beside.{IsRightOf, is_nearer, is_right_of_lower_end}
 use Rattle.osm_nest.proofs.InPlane.{above-at, segment_at, spans-at, whole-at}
 

@@ -1,23 +1,23 @@
 -- The candidate with the nearest edge is the ring that directly encloses an inner ring.
 use Rattle.std.proofs.Common.{◌≡◌, inl, inr, ◌⊎◌, true, false, not, ℕ, ◌<◌, List, [], length, get_or, map, All, sym, ap, subst, ◌∙◌, arith}
 use Rattle.std.proofs.lemmas.List.{get_or_default, get_or-map, length-map}
-use Rattle.nesting.specs.Nesting.{EnclosesDirectly, IsInnerRing, IsOuterRing, edges_of, encloses, has_edge}
-use Rattle.nesting.specs.RingList.{IsRingList}
-use Rattle.nesting.proofs.NestingKit.{encloses_law, encloser_exists, inner-out, is_outer_by, outer-out, encloses-not, in-edges, same-ring, nest-plain, ring_list_nest}
+use Rattle.plane_lists.specs.Rings.Nesting.{EnclosesDirectly, IsInnerRing, IsOuterRing, edges_of, encloses, has_edge}
+use Rattle.plane_lists.specs.Rings.RingList.{IsRingList}
+use Rattle.plane_lists.proofs.NestingKit.{encloses_law, encloser_exists, inner-out, is_outer_by, outer-out, encloses-not, in-edges, same-ring, nest-plain, ring_list_nest}
 use Rattle.plane.specs.Edge as plane
 use Rattle.plane.specs.Edge.{segment_of}
 use Rattle.plane.specs.Height.{is_right_above, order_above}
 use Rattle.plane.specs.Sign.{is_plus}
 use Rattle.std.proofs.lemmas.Bool.{false_from_ne_true}
-use Rattle.winding.specs.ConflictFree.{IsConflictFree}
-use Rattle.winding.specs.EdgeList.{IsEvenAtPoints}
+use Rattle.plane_lists.specs.Lists.ConflictFree.{IsConflictFree}
+use Rattle.plane_lists.specs.Lists.EdgeList.{IsEvenAtPoints}
 use Rattle.lists.specs.Member.{In}
-use Rattle.winding.specs.Parity.{is_even}
-use Rattle.winding.specs.Ring.{IsAnchor, segments_of}
-use Rattle.winding.proofs.WindingKit.{anchor_one, anchor_span}
+use Rattle.plane_lists.specs.Lists.Parity.{is_even}
+use Rattle.plane_lists.specs.Lists.Ring.{IsAnchor, segments_of}
+use Rattle.plane_lists.proofs.WindingKit.{anchor_one, anchor_span}
 use Rattle.lists.proofs.ListsKit.{at-in, clash, in-at, in-map, in-map-out, map-map}
 use Rattle.osm_geom.specs.declared.edge.Edge.{Edge}
-use Rattle.plane_edges.specs.Multiple.{IsWholeAt, edge_times, edges_times, product_of_denominators}
+use Rattle.osm_geom.specs.InPlane.Multiple.{IsWholeAt, edge_times, edges_times, product_of_denominators}
 use Rattle.osm_nest.specs.declared.enclosers.Encloser.{Encloser}
 use Rattle.osm_nest.specs.Beside.{IsEncloser, IsNearestUpTo, IsSloping, is_around, is_nearer, is_right_of_lower_end}
 use Rattle.osm_nest.specs.Enclosers.{segments_at}

@@ -10,16 +10,16 @@ use Rattle.plane.specs.Scale.{scaled_edge, scaled_point}
 use Rattle.plane.specs.Sign.{Minus, Plus, is_plus, sign}
 use Rattle.plane.specs.Vector.{orient}
 use Rattle.plane.proofs.PlaneKit.{conflicts-scaled, order-scaled, orient-scaled, point-back}
-use Rattle.winding.specs.ConflictFree.{IsConflictFree, others}
+use Rattle.plane_lists.specs.Lists.ConflictFree.{IsConflictFree, others}
 use Rattle.lists.specs.Member.{EachPair, In}
-use Rattle.winding.specs.Ring.{IsAnchor, segments_of}
-use Rattle.winding.specs.ScaledEdges.{scaled_edges}
-use Rattle.winding.proofs.WindingKit.{rising_in, direct-by, others-scaled, plain_scaled}
+use Rattle.plane_lists.specs.Lists.Ring.{IsAnchor, segments_of}
+use Rattle.plane_lists.specs.Lists.ScaledEdges.{scaled_edges}
+use Rattle.plane_lists.proofs.WindingKit.{rising_in, direct-by, others-scaled, plain_scaled}
 use Rattle.lists.proofs.ListsKit.{all-in, in-all, in-left, in-map, in-map-out, in-right, map-map, map-same}
 use Rattle.osm_geom.specs.declared.edge.Edge.{Edge}
 use Rattle.osm_geom.specs.Point.{den_of}
-use Rattle.plane_edges.specs.Multiple.{IsCommon, IsWholeAt, edge_times, edges_times, product_of_denominators}
-use Rattle.plane_edges.proofs.EdgesKit.{common_is_common, sign-some, times_further}
+use Rattle.osm_geom.specs.InPlane.Multiple.{IsCommon, IsWholeAt, edge_times, edges_times, product_of_denominators}
+use Rattle.osm_geom.proofs.EdgesKit.{common_is_common, sign-some, times_further}
 use Rattle.osm_nest.specs.RingLists.{all_edges}
 use Rattle.osm_nest.proofs.InPlane.{common-append, segment_at, segments_times, whole-at}
 

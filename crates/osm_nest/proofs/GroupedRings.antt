@@ -5,12 +5,12 @@ use Rattle.std.proofs.lemmas.Bool.{cases_lt, eq-eqb, eqb-true}
 use Rattle.std.proofs.lemmas.List.{get_or-map, get_or_past, length-map}
 use Rattle.std.proofs.lemmas.List.Elements.{All-map}
 use Rattle.std.proofs.lemmas.List.Kept.{AllPairs-cons, AllPairs-filter}
-use Rattle.nesting.specs.Nesting.{EnclosesDirectly, IsInnerRing, IsOuterRing, edges_of}
-use Rattle.nesting.specs.Polygon.{IsPolygon}
-use Rattle.nesting.proofs.NestingKit.{inner-out, is_outer_by, outer-out, sided-once}
+use Rattle.plane_lists.specs.Rings.Nesting.{EnclosesDirectly, IsInnerRing, IsOuterRing, edges_of}
+use Rattle.plane_lists.specs.Rings.Polygon.{IsPolygon}
+use Rattle.plane_lists.proofs.NestingKit.{inner-out, is_outer_by, outer-out, sided-once}
 use Rattle.plane.specs.Edge as plane
 use Rattle.lists.specs.Member.{EachPair, In}
-use Rattle.winding.specs.Ring.{segments_of}
+use Rattle.plane_lists.specs.Lists.Ring.{segments_of}
 use Rattle.lists.proofs.ListsKit.{all-in, at-in, both_conds, clash, cond-+, cond-total, cond_none, in-all, in-either, in-filter, in-map, in-map-out, in-passes, none-sum, pairs-each, pairs-into-map, pairs-weaker, some_member, swap-sums, total, total-+, total-filter, total-is, total-map, total-same}
 use Rattle.osm_geom.specs.declared.edge.Edge.{Edge}
 use Rattle.osm_nest.specs.declared.rings_from_least.RingFromLeast.{RingFromLeast}
@@ -29,7 +29,7 @@ use Rattle.osm_nest.proofs.TurnedAnchors.{runs-turned}
 use Rattle.osm_nest.proofs.BegunPolygons.{cover_begun, rings-total, sided_begun}
 use Rattle.osm_nest.proofs.Listing.{turned_all}
 use Rattle.osm_nest.proofs.Places.{placed, ring-at, rings-apart, stand, sum-all, sum-one}
-use Rattle.plane_edges.specs.Multiple.{IsWholeAt, edges_times, product_of_denominators}
+use Rattle.osm_geom.specs.InPlane.Multiple.{IsWholeAt, edges_times, product_of_denominators}
 
 -- ---- lists
 pairs-map : {X Y : Type 0} (R : Y → Y → Type 0) (f : X → Y) (xs : List X) → AllPairs (λ x y. R (f x) (f y)) xs → AllPairs R (map f xs)

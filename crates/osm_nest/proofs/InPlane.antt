@@ -15,8 +15,8 @@ use Rattle.osm_lattice.specs.OrderLaws.{ordering_of}
 use Rattle.osm_lattice.proofs.LatticeKit.{is_lt-plus}
 use Rattle.osm_geom.specs.Point.{den_of, point_cmp}
 use Rattle.osm_geom.specs.Span.{lower_end, spans}
-use Rattle.plane_edges.specs.Multiple.{IsWholeAt, edge_times, point_times, product_of_denominators}
-use Rattle.plane_edges.proofs.EdgesKit.{common_is_common, each_whole, just_above_alike, rises_alike, spans_alike, order_is}
+use Rattle.osm_geom.specs.InPlane.Multiple.{IsWholeAt, edge_times, point_times, product_of_denominators}
+use Rattle.osm_geom.proofs.EdgesKit.{common_is_common, each_whole, just_above_alike, rises_alike, spans_alike, order_is}
 
 -- the segment of the multiplied plane along which e runs
 abbrev pub segment_at : ℕ → Edge → plane.Edge

@@ -6,8 +6,8 @@ use Rattle.std.proofs.lemmas.Bool.{cases_eq}
 use Rattle.std.proofs.lemmas.List.{get_or-set_other, get_or-set_same, length-set}
 use Rattle.std.proofs.lemmas.List.Sorted.{All-permutation, IsPermutation-sym}
 use Rattle.std.specs.Prelude.{IfSome, IsPermutation, set}
-use Rattle.nesting.specs.Nesting.{edges_of}
-use Rattle.nesting.proofs.NestingKit.{nest-plain, in-edges}
+use Rattle.plane_lists.specs.Rings.Nesting.{edges_of}
+use Rattle.plane_lists.proofs.NestingKit.{nest-plain, in-edges}
 use Rattle.plane.specs.Edge as plane
 use Rattle.plane.specs.Height.{is_in_span}
 use Rattle.plane.specs.Sign.{Minus, Null, Plus, Sign, is_plus, sign}
@@ -15,11 +15,11 @@ use Rattle.plane.specs.Vector.{Vector}
 use Rattle.lists.proofs.ListsKit.{all-in, and-left, and-right, in-all, in-either, in-filter, in-map}
 use Rattle.plane.proofs.SignKit.{says-at, sign-from}
 use Rattle.lists.specs.Member.{In}
-use Rattle.status.specs.Status.{IsStatus}
-use Rattle.status.proofs.StatusKit.{climbs}
+use Rattle.plane_lists.specs.Statuses.Status.{IsStatus}
+use Rattle.plane_lists.proofs.StatusKit.{climbs}
 use Rattle.osm_geom.specs.declared.edge.Edge.{Edge}
 use Rattle.osm_geom.specs.Span.{lower_end, spans}
-use Rattle.plane_edges.specs.Multiple.{IsWholeAt, product_of_denominators}
+use Rattle.osm_geom.specs.InPlane.Multiple.{IsWholeAt, product_of_denominators}
 use Rattle.osm_nest.specs.declared.ring_edge.RingEdge.{RingEdge}
 use Rattle.osm_nest.specs.Beside.{IsSloping}
 use Rattle.osm_nest.specs.Enclosers.{IsDirectEncloser}

@@ -8,15 +8,15 @@ use Rattle.plane.specs.Edge.{IsRisingEdge}
 use Rattle.plane.specs.Order.{order}
 use Rattle.plane.specs.Sign.{Minus, Null, Plus, Sign}
 use Rattle.plane.proofs.PlaneKit.{order-null}
-use Rattle.winding.specs.Ring.{IsAnchor}
-use Rattle.winding.proofs.WindingKit.{some-anchor}
+use Rattle.plane_lists.specs.Lists.Ring.{IsAnchor}
+use Rattle.plane_lists.proofs.WindingKit.{some-anchor}
 use Rattle.lists.specs.Member.{In}
 use Rattle.lists.proofs.ListsKit.{at-in, in-at, in-map, in-map-out, item-in}
 use Rattle.osm_lattice.specs.OrderLaws.{ordering_of}
 use Rattle.osm_geom.specs.declared.edge.Edge.{Edge}
 use Rattle.osm_geom.specs.Point.{point_cmp}
-use Rattle.plane_edges.specs.Multiple.{IsWholeAt, edge_times, point_times, product_of_denominators}
-use Rattle.plane_edges.proofs.EdgesKit.{order_is, same_is_same, segment_rises}
+use Rattle.osm_geom.specs.InPlane.Multiple.{IsWholeAt, edge_times, point_times, product_of_denominators}
+use Rattle.osm_geom.proofs.EdgesKit.{order_is, same_is_same, segment_rises}
 use Rattle.osm_rings.specs.Ring.{IsRing}
 use Rattle.osm_nest.specs.Leftmost.{IsPlaceBefore, comes_first}
 use Rattle.osm_nest.specs.Outer.{AreConflictFree, IsAnchorOf}

@@ -1,8 +1,8 @@
 -- The nearest edge left of the anchor of an inner ring, in a status of all edges: its ring tells the encloser.
 use Rattle.std.proofs.Common.{List, Some, [], ap, arith, get_or, inl, inr, length, not, subst, sym, true, ℕ, ◌+◌, ◌<◌, ◌∙◌, ◌≡◌, ⊎_elim}
 use lib.IntN.{◌-ℤ◌}
-use Rattle.nesting.specs.Nesting.{IsNextLeft, edges_of}
-use Rattle.nesting.proofs.NestingKit.{in-edges-out, left_neighbour_alike, left_neighbour_encloses}
+use Rattle.plane_lists.specs.Rings.Nesting.{IsNextLeft, edges_of}
+use Rattle.plane_lists.proofs.NestingKit.{in-edges-out, left_neighbour_alike, left_neighbour_encloses}
 use Rattle.plane.specs.Edge as plane
 use Rattle.plane.specs.Height.{is_in_span, is_right_above}
 use Rattle.plane.specs.Sign.{is_plus, sign}
@@ -12,11 +12,11 @@ use Rattle.lists.proofs.ListsKit.{and-left, at-in, in-all, in-filter, in-map, in
 use Rattle.plane.proofs.PlaneKit.{right_of, tall-by}
 use Rattle.plane.proofs.SignKit.{self-diff}
 use Rattle.lists.specs.Member.{In}
-use Rattle.winding.specs.Ring.{IsAnchor}
-use Rattle.status.specs.Status.{IsStatus}
-use Rattle.status.proofs.StatusKit.{nearest}
+use Rattle.plane_lists.specs.Lists.Ring.{IsAnchor}
+use Rattle.plane_lists.specs.Statuses.Status.{IsStatus}
+use Rattle.plane_lists.proofs.StatusKit.{nearest}
 use Rattle.osm_geom.specs.declared.edge.Edge.{Edge}
-use Rattle.plane_edges.specs.Multiple.{product_of_denominators}
+use Rattle.osm_geom.specs.InPlane.Multiple.{product_of_denominators}
 use Rattle.osm_nest.specs.declared.ring_edge.RingEdge.{RingEdge}
 use Rattle.osm_nest.specs.Beside.{IsSloping}
 use Rattle.osm_nest.specs.Enclosers.{IsDirectEncloser, segments_at}

@@ -11,14 +11,14 @@ use Rattle.plane.specs.Vector.{Vector, cross, from_to, orient}
 use Rattle.plane.proofs.PlaneKit.{same_edge-true, order-null, order-reversed, cross-agree, cross-from-here, cross-negated, cross-self}
 use Rattle.plane.proofs.SignKit.{agree, all, all-out, all4-out, imp, imp-out, same_bool, same_bool-true, self-diff, times}
 use Rattle.lists.specs.Member.{In}
-use Rattle.winding.specs.Ring.{IsAnchor}
+use Rattle.plane_lists.specs.Lists.Ring.{IsAnchor}
 use Rattle.lists.proofs.ListsKit.{in-map, into-filter}
 use Rattle.osm_geom.specs.declared.edge.Edge.{Edge}
 use Rattle.osm_geom.specs.JustAbove.{just_above_cmp}
 use Rattle.osm_lattice.specs.OrderLaws.{ordering_of}
 use Rattle.osm_geom.specs.Span.{lower_end, spans}
-use Rattle.plane_edges.specs.Multiple.{IsWholeAt, product_of_denominators}
-use Rattle.plane_edges.proofs.EdgesKit.{segment_rises}
+use Rattle.osm_geom.specs.InPlane.Multiple.{IsWholeAt, product_of_denominators}
+use Rattle.osm_geom.proofs.EdgesKit.{segment_rises}
 use Rattle.osm_nest.specs.Leftmost.{comes_first, first_of, forks_left}
 use Rattle.osm_nest.proofs.InPlane.{above-at, order-at, segment_at, spans-at, whole-at}
 

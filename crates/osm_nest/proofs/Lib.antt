@@ -1,4 +1,5 @@
 mod AnchorLists
+pub mod BegunOnce
 pub mod BegunPolygons
 mod Beside
 mod DirectEnclosers
@@ -19,6 +20,7 @@ mod Nearest
 pub mod NestKit
 pub mod NestedCover
 mod NestedKinds
+pub mod NestedOne
 pub mod NestedRings
 mod NestingExists
 mod OneOuter
@@ -28,9 +30,11 @@ mod PolygonOfAll
 mod Reaches
 mod RingAnchors
 mod RingEdges
+pub mod SortedLists
 mod StatusSteps
 mod SweptHeights
 mod SweptRows
 mod TurnedAnchors
 mod Turns
+pub mod ValidPolygons
 mod WholeHeights

@@ -6,9 +6,9 @@ use Rattle.osm_nest.specs.Outer.{IsOuter}
 use Rattle.osm_nest.specs.RingLists.{AreRings}
 use Rattle.lists.proofs.ListsKit.{clash, in-map, in-map-out, some_member}
 use Rattle.osm_geom.specs.Edge.{runs_up}
-use Rattle.plane_edges.specs.Multiple.{edge_times, edges_times, product_of_denominators}
-use Rattle.winding.specs.Ring.{IsAnchor}
-use Rattle.winding.proofs.WindingKit.{some-anchor}
+use Rattle.osm_geom.specs.InPlane.Multiple.{edge_times, edges_times, product_of_denominators}
+use Rattle.plane_lists.specs.Lists.Ring.{IsAnchor}
+use Rattle.plane_lists.proofs.WindingKit.{some-anchor}
 use Rattle.osm_nest.specs.Outer.{AreConflictFree, IsAnchorOf}
 use Rattle.osm_nest.specs.RingLists.{all_edges}
 use Rattle.osm_nest.proofs.DirectEnclosers.{clear-at, listed, ring-in, some-encloser}

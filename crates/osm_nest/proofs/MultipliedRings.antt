@@ -3,23 +3,23 @@ use Rattle.std.proofs.Common.{◌≡◌, Bool, true, false, not, ℕ, ◌*◌, �
 use Rattle.std.specs.List.{count_by}
 use Rattle.std.proofs.Math.Nat.{dvd-mul_right_of_dvd}
 use Prim.Native.Nat.{◌∣◌}
-use Rattle.nesting.specs.Nesting.{IsInnerRing, IsOuterRing, is_outer}
-use Rattle.nesting.proofs.NestingKit.{ring-plain, in-edges, outer_down}
+use Rattle.plane_lists.specs.Rings.Nesting.{IsInnerRing, IsOuterRing, is_outer}
+use Rattle.plane_lists.proofs.NestingKit.{ring-plain, in-edges, outer_down}
 use Rattle.plane.specs.Bit.{bit}
 use Rattle.plane.specs.Edge as plane
 use Rattle.plane.specs.Edge.{segment_of}
 use Rattle.plane.specs.Height.{is_right_above}
-use Rattle.winding.specs.ConflictFree.{IsConflictFree}
-use Rattle.winding.specs.EdgeList.{IsEvenAtPoints}
+use Rattle.plane_lists.specs.Lists.ConflictFree.{IsConflictFree}
+use Rattle.plane_lists.specs.Lists.EdgeList.{IsEvenAtPoints}
 use Rattle.lists.specs.Member.{In}
-use Rattle.winding.specs.Ring.{IsAnchor, segments_of}
+use Rattle.plane_lists.specs.Lists.Ring.{IsAnchor, segments_of}
 use Rattle.lists.proofs.ListsKit.{in-map, in-map-out, map-map, not-same, total-is, total-map, total-same}
-use Rattle.winding.proofs.WindingKit.{ring-even}
+use Rattle.plane_lists.proofs.WindingKit.{ring-even}
 use Rattle.osm_geom.specs.declared.edge.Edge.{Edge}
 use Rattle.osm_geom.specs.Edge.{runs_up}
 use Rattle.osm_geom.specs.Point.{den_of}
-use Rattle.plane_edges.specs.Multiple.{IsWholeAt, edge_times, edges_times, product_of_denominators}
-use Rattle.plane_edges.proofs.EdgesKit.{common_is_common, rises_alike}
+use Rattle.osm_geom.specs.InPlane.Multiple.{IsWholeAt, edge_times, edges_times, product_of_denominators}
+use Rattle.osm_geom.proofs.EdgesKit.{common_is_common, rises_alike}
 use Rattle.osm_nest.specs.Beside.{is_right_of_lower_end}
 use Rattle.osm_nest.specs.Outer.{AnchorRuns, AreConflictFree, IsAnchorOf, IsInner, IsOuter}
 use Rattle.osm_nest.specs.RingLists.{AreRings, all_edges, whole_rings}

@@ -7,11 +7,11 @@ use Rattle.plane.specs.Edge as plane
 use Rattle.plane.specs.Height.{is_right_above}
 use Rattle.plane.specs.Vector.{Vector}
 use Rattle.plane.proofs.PlaneKit.{right_of}
-use Rattle.winding.specs.ConflictFree.{IsConflictFree}
+use Rattle.plane_lists.specs.Lists.ConflictFree.{IsConflictFree}
 use Rattle.lists.specs.Member.{In}
-use Rattle.winding.specs.Parity.{is_even}
+use Rattle.plane_lists.specs.Lists.Parity.{is_even}
 use Rattle.lists.proofs.ListsKit.{clash, in-either, in-left, in-map, in-right, into-filter, not-false-out, total-is, total_none}
-use Rattle.nesting.proofs.NestingKit.{beyond-order, pairs-of}
+use Rattle.plane_lists.proofs.NestingKit.{beyond-order, pairs-of}
 use Rattle.std.specs.List.{count_by, filter}
 use Rattle.osm_geom.specs.declared.edge.Edge.{Edge}
 use Rattle.osm_nest.specs.declared.enclosers.Encloser.{Encloser}
@@ -21,7 +21,7 @@ use Rattle.osm_nest.proofs.Beside.{nearer-at, nearer-chain, not-nearer, not-near
 use Rattle.osm_nest.proofs.Further.{one-more, plain-further}
 use Rattle.osm_nest.proofs.InPlane.{segment_at, segments_times, whole-at}
 use Rattle.osm_nest.proofs.RingAnchors.{plain-along, same-along}
-use Rattle.plane_edges.specs.Multiple.{IsWholeAt, product_of_denominators}
+use Rattle.osm_geom.specs.InPlane.Multiple.{IsWholeAt, product_of_denominators}
 
 -- ---- in one ring
 in-more : (es : List Edge) (x f : Edge) → In f (es ++ x ∷ []) → (In f es) ⊎ (f ≡ x)

@@ -7,16 +7,16 @@ use Rattle.plane.specs.Edge as plane
 use Rattle.plane.specs.RayCrossing.{down_crossing, up_crossing}
 use Rattle.plane.specs.Scale.{scaled_edge, scaled_point}
 use Rattle.plane.specs.Vector.{Vector, east, from_to}
-use Rattle.winding.specs.EdgeList.{crossing_count}
-use Rattle.winding.specs.ScaledEdges.{scaled_edges}
+use Rattle.plane_lists.specs.Lists.EdgeList.{crossing_count}
+use Rattle.plane_lists.specs.Lists.ScaledEdges.{scaled_edges}
 use Rattle.lists.specs.Member.{In}
 use Rattle.lists.specs.Rotated.{IsRotated}
 use Rattle.lists.proofs.ListsKit.{all-in, in-either, in-left, in-right, rotated-in, total, total-is, total-map}
 use Rattle.osm_geom.specs.declared.edge.Edge.{Edge}
 use Rattle.osm_geom.specs.Point.{den_of}
-use Rattle.plane_edges.specs.Multiple.{IsWholeAt, edge_times, edges_times, product_of_denominators}
-use Rattle.plane_edges.specs.Sided.{count_at}
-use Rattle.plane_edges.proofs.EdgesKit.{common_is_common}
+use Rattle.osm_geom.specs.InPlane.Multiple.{IsWholeAt, edge_times, edges_times, product_of_denominators}
+use Rattle.osm_geom.specs.InPlane.Sided.{count_at}
+use Rattle.osm_geom.proofs.EdgesKit.{common_is_common}
 use Rattle.osm_rings.specs.RingList.{AreRingsOf}
 use Rattle.osm_nest.specs.declared.polygon.Polygon.{Polygon}
 use Rattle.osm_nest.specs.Cover.{AreSided, CoverAsRings}

@@ -3,19 +3,19 @@ use Rattle.std.proofs.Common.{All, ◌≡◌, Bool, false, refl, true, not, nat_
 use Rattle.std.specs.List.{count_by}
 use Rattle.std.proofs.Math.Nat.{div-add-mod, mul-mod_right}
 use Rattle.std.proofs.lemmas.Bool.{eq-eqb, eqb-true}
-use Rattle.nesting.specs.Polygon.{IsPolygon}
-use Rattle.nesting.specs.Nesting.{EnclosesDirectly, IsInnerRing, IsOuterRing, encloses}
-use Rattle.nesting.proofs.NestingKit.{encloses_law, encloses-not, ring_list_nest}
+use Rattle.plane_lists.specs.Rings.Polygon.{IsPolygon}
+use Rattle.plane_lists.specs.Rings.Nesting.{EnclosesDirectly, IsInnerRing, IsOuterRing, encloses}
+use Rattle.plane_lists.proofs.NestingKit.{encloses_law, encloses-not, ring_list_nest}
 use Rattle.plane.specs.Bit.{bit}
 use Rattle.lists.specs.Member.{In}
-use Rattle.winding.specs.Parity.{is_even}
-use Rattle.winding.specs.Ring.{segments_of}
-use Rattle.winding.proofs.WindingKit.{anchor_one}
+use Rattle.plane_lists.specs.Lists.Parity.{is_even}
+use Rattle.plane_lists.specs.Lists.Ring.{segments_of}
+use Rattle.plane_lists.proofs.WindingKit.{anchor_one}
 use Rattle.lists.proofs.ListsKit.{all-in, in-all, in-map, rotated-back, total, total-++, total-is, total_none}
 use Rattle.osm_geom.specs.declared.edge.Edge.{Edge}
 use Rattle.lists.specs.Rotated.{IsRotated}
-use Rattle.plane_edges.specs.Multiple.{edges_times, product_of_denominators}
-use Rattle.plane_edges.proofs.EdgesKit.{common_is_common}
+use Rattle.osm_geom.specs.InPlane.Multiple.{edges_times, product_of_denominators}
+use Rattle.osm_geom.proofs.EdgesKit.{common_is_common}
 use Rattle.osm_nest.specs.declared.polygon.Polygon.{Polygon}
 use Rattle.osm_nest.specs.Beside.{is_around, is_right_of_lower_end}
 use Rattle.osm_nest.specs.Laws.{IsAroundInners}

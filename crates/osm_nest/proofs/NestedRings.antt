@@ -3,7 +3,7 @@ use Rattle.std.proofs.Common.{All, Bool, ◌+◌, List, [], ap, arith, cond, fal
 use Rattle.std.specs.List.{sum_by}
 use Rattle.std.proofs.Math.Nat.{mul_assoc, mul_left_comm}
 use Rattle.std.proofs.lemmas.Bool.{eq-eqb, eqb-true, and_from, and_parts, or_left, or_right}
-use Rattle.nesting.specs.RingList.{IsRingList}
+use Rattle.plane_lists.specs.Rings.RingList.{IsRingList}
 use Rattle.plane.specs.Bit.{bit}
 use Rattle.plane.specs.Vector.{same_point}
 use Rattle.plane.proofs.PlaneKit.{same_point-refl, same_point-true}
@@ -17,8 +17,8 @@ use Rattle.osm_geom.specs.declared.point.Point.{Point}
 use Rattle.osm_geom.specs.declared.point.Point.TheVariants.{Lattice, OnHorizontal, OnVertical}
 use Rattle.osm_lattice.specs.Loc.{vector_of}
 use Rattle.osm_geom.specs.Point.{den_of}
-use Rattle.plane_edges.specs.Multiple.{edges_times, product_of_denominators}
-use Rattle.plane_edges.specs.Sided.{IsSided}
+use Rattle.osm_geom.specs.InPlane.Multiple.{edges_times, product_of_denominators}
+use Rattle.osm_geom.specs.InPlane.Sided.{IsSided}
 use Rattle.osm_geom.specs.WholeSegment.{IsWholeSegment}
 use Rattle.osm_rings.specs.Laws.{RingsOfEdgesDoNotCross}
 use Rattle.osm_rings.specs.RingList.{AreRingsOf}

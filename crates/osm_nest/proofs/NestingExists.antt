@@ -7,14 +7,14 @@ use Rattle.std.specs.declared.cmp.Ordering.{Ordering}
 use Rattle.std.specs.declared.cmp.Ordering.TheVariants.{Equal, Greater, Less}
 use Rattle.std.proofs.lemmas.List.{get_or-map, get_or_default, length-map, take-append-drop}
 use Rattle.std.proofs.lemmas.List.Sorted.{IsPermutation-append_comm, IsPermutation-append_left, IsPermutation-cons, IsPermutation-refl, IsPermutation-trans}
-use Rattle.nesting.specs.Nesting.{EnclosesDirectly, IsInnerRing}
-use Rattle.nesting.proofs.NestingKit.{encloser_exists, is_outer_by, outer-in, rings-anchors, rings-tell}
+use Rattle.plane_lists.specs.Rings.Nesting.{EnclosesDirectly, IsInnerRing}
+use Rattle.plane_lists.proofs.NestingKit.{encloser_exists, is_outer_by, outer-in, rings-anchors, rings-tell}
 use Rattle.plane.specs.Edge as plane
-use Rattle.winding.specs.Ring.{segments_of}
+use Rattle.plane_lists.specs.Lists.Ring.{segments_of}
 use Rattle.lists.proofs.ListsKit.{in-at, in-map}
 use Rattle.osm_geom.specs.declared.edge.Edge.{Edge}
 use Rattle.osm_geom.specs.Point.{point_cmp}
-use Rattle.plane_edges.specs.Multiple.{edge_times, edges_times, product_of_denominators}
+use Rattle.osm_geom.specs.InPlane.Multiple.{edge_times, edges_times, product_of_denominators}
 use Rattle.osm_nest.specs.declared.rings_from_least.RingFromLeast.{RingFromLeast}
 use Rattle.osm_nest.specs.declared.polygon.Polygon.{Polygon}
 use Rattle.osm_nest.specs.Grouped.{AreSortedFromLeast, AreListed, IsFromLeastAt, polygons_of}

@@ -2,9 +2,9 @@
 use Rattle.std.proofs.Common.{Bool, List, None, Option, Some, [], ap, arith, false, get_or, length, nat_eq, not, refl, subst, suc, sym, true, zero, ℕ, ◌++◌, ◌+◌, ◌<◌, ◌∙◌, ◌∷◌, ◌≡◌, ⊎_elim}
 use Rattle.std.specs.Bool.{then_some}
 use Rattle.std.proofs.lemmas.Bool.{cases_lt, eq-eqb, eqb-true}
-use Rattle.nesting.specs.Nesting.{EnclosesDirectly}
+use Rattle.plane_lists.specs.Rings.Nesting.{EnclosesDirectly}
 use Rattle.lists.proofs.ListsKit.{clash}
-use Rattle.plane_edges.specs.Multiple.{product_of_denominators}
+use Rattle.osm_geom.specs.InPlane.Multiple.{product_of_denominators}
 use Rattle.osm_geom.specs.declared.edge.Edge.{Edge}
 use Rattle.osm_geom.specs.Edge.{runs_up}
 use Rattle.osm_nest.specs.Enclosers.{AreDirectEnclosers, IsDirectEncloser, segments_at}

@@ -5,18 +5,18 @@ use Rattle.std.proofs.lemmas.Bool.{cases_lt, eq-eqb, eqb-true}
 use Rattle.std.proofs.lemmas.List.{length-map}
 use Rattle.std.proofs.lemmas.List.Kept.{AllPairs-cons}
 use Rattle.std.proofs.lemmas.List.Sorted.{All-permutation, sum_by-IsPermutation}
-use Rattle.nesting.specs.Nesting.{edges_of}
-use Rattle.nesting.proofs.NestingKit.{Once, once-apart}
+use Rattle.plane_lists.specs.Rings.Nesting.{edges_of}
+use Rattle.plane_lists.proofs.NestingKit.{Once, once-apart}
 use Rattle.plane.specs.Bit.{bit}
 use Rattle.plane.specs.Edge as plane
 use Rattle.lists.specs.Member.{In}
 use Rattle.lists.proofs.ListsKit.{all-in, at-in, in-left, in-right, pairs-right, total, total-is}
-use Rattle.winding.proofs.WindingKit.{total-member}
+use Rattle.plane_lists.proofs.WindingKit.{total-member}
 use Rattle.osm_geom.specs.declared.edge.Edge.{Edge}
 use Rattle.osm_nest.specs.declared.rings_from_least.RingFromLeast.{RingFromLeast}
 use Rattle.osm_nest.specs.Grouped.{AreListed, ArePlaced, IsFromLeastAt}
 use Rattle.osm_nest.specs.RingLists.{all_edges, whole_rings}
-use Rattle.plane_edges.specs.Multiple.{edges_times, product_of_denominators}
+use Rattle.osm_geom.specs.InPlane.Multiple.{edges_times, product_of_denominators}
 
 -- ---- rings at different places
 edges-at : (gs : List (List plane.Edge)) (j : ℕ) (x : plane.Edge) → j < length gs → In x (get_or gs j []) → In x (edges_of gs)

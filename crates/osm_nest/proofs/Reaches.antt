@@ -18,8 +18,8 @@ use Rattle.osm_geom.specs.JustAbove.{just_above_cmp}
 use Rattle.osm_geom.specs.Point.{den_of, x_of, y_of}
 use Rattle.osm_geom.specs.Span.{spans}
 use Rattle.osm_lattice.proofs.LatticeKit.{is_lt-plus}
-use Rattle.plane_edges.specs.Multiple.{IsWholeAt, edge_times, point_times, product_of_denominators}
-use Rattle.plane_edges.proofs.EdgesKit.{den-some, factor, just_above_alike, nat, product-some, spans_alike}
+use Rattle.osm_geom.specs.InPlane.Multiple.{IsWholeAt, edge_times, point_times, product_of_denominators}
+use Rattle.osm_geom.proofs.EdgesKit.{den-some, factor, just_above_alike, nat, product-some, spans_alike}
 use Rattle.osm_nest.specs.Reach.{IsReach}
 use Rattle.osm_nest.proofs.InPlane.{segment_at, whole-at}
 

@@ -8,17 +8,17 @@ use Rattle.plane.specs.Scale.{scaled_edge, scaled_point}
 use Rattle.plane.specs.Sign.{Plus, is_plus, sign}
 use Rattle.plane.specs.Vector.{Vector, east, same_point}
 use Rattle.plane.proofs.PlaneKit.{self_conflicts, order-scaled, point-scaled}
-use Rattle.winding.specs.ConflictFree.{IsConflictFree}
-use Rattle.winding.specs.EdgeList.{crossing_count, winding_number}
+use Rattle.plane_lists.specs.Lists.ConflictFree.{IsConflictFree}
+use Rattle.plane_lists.specs.Lists.EdgeList.{crossing_count, winding_number}
 use Rattle.lists.specs.Member.{In}
-use Rattle.winding.specs.Ring.{IsAnchor, IsPath, segments_of}
-use Rattle.winding.specs.Ring as winding
-use Rattle.winding.specs.ScaledEdges.{scaled_edges}
-use Rattle.winding.proofs.WindingKit.{anchor_one, ring_by_anchor, rising_in, plain_scaled}
+use Rattle.plane_lists.specs.Lists.Ring.{IsAnchor, IsPath, segments_of}
+use Rattle.plane_lists.specs.Lists.Ring as winding
+use Rattle.plane_lists.specs.Lists.ScaledEdges.{scaled_edges}
+use Rattle.plane_lists.proofs.WindingKit.{anchor_one, ring_by_anchor, rising_in, plain_scaled}
 use Rattle.lists.proofs.ListsKit.{in-map, map-map, not-false-out, not-true-out, pairs-map}
-use Rattle.nesting.proofs.NestingKit.{pairs-unmap, pairs-of}
-use Rattle.plane_edges.specs.Multiple.{edge_times, product_of_denominators, whole_edges}
-use Rattle.plane_edges.proofs.EdgesKit.{rises_alike}
+use Rattle.plane_lists.proofs.NestingKit.{pairs-unmap, pairs-of}
+use Rattle.osm_geom.specs.InPlane.Multiple.{edge_times, product_of_denominators, whole_edges}
+use Rattle.osm_geom.proofs.EdgesKit.{rises_alike}
 use Rattle.osm_geom.specs.declared.edge.Edge.{Edge}
 use Rattle.osm_geom.specs.Edge.{runs_up}
 use Rattle.osm_rings.specs.Ring.{IsRing}

@@ -4,8 +4,8 @@ use borrow.Author.Differences.{ints}
 use Rattle.std.specs.Ordering.{is_lt}
 use Rattle.std.proofs.lemmas.Bool.{cases_lt, and_from}
 use Rattle.std.proofs.lemmas.List.{get_or-drop, get_or-take, length-drop, length-take-le, take-append-drop}
-use Rattle.nesting.specs.Nesting.{edges_of}
-use Rattle.nesting.proofs.NestingKit.{in-edges, nest-plain}
+use Rattle.plane_lists.specs.Rings.Nesting.{edges_of}
+use Rattle.plane_lists.proofs.NestingKit.{in-edges, nest-plain}
 use Rattle.plane.specs.Edge as plane
 use Rattle.plane.specs.Height.{is_in_span}
 use Rattle.plane.specs.Order.{order}
@@ -15,12 +15,12 @@ use Rattle.lists.proofs.ListsKit.{and-left, and-right, at-in, clash, in-all, in-
 use Rattle.plane.proofs.PlaneKit.{tall-by}
 use Rattle.plane.proofs.SignKit.{is_plus-true, says-at, sign-from}
 use Rattle.lists.specs.Member.{In}
-use Rattle.status.specs.Status.{IsStatus}
-use Rattle.status.proofs.StatusKit.{rises-among}
+use Rattle.plane_lists.specs.Statuses.Status.{IsStatus}
+use Rattle.plane_lists.proofs.StatusKit.{rises-among}
 use Rattle.osm_geom.specs.declared.edge.Edge.{Edge}
 use Rattle.osm_geom.specs.declared.point.Point.{Point}
 use Rattle.osm_geom.specs.Span.{lower_end}
-use Rattle.plane_edges.specs.Multiple.{product_of_denominators}
+use Rattle.osm_geom.specs.InPlane.Multiple.{product_of_denominators}
 use Rattle.osm_nest.specs.declared.ring_edge.RingEdge.{RingEdge}
 use Rattle.osm_nest.specs.RingLists.{AreRings, all_edges, whole_rings}
 use Rattle.osm_nest.specs.SweptEdges.{AreSlopingEdges, IsSlopingEdge, IsRowPut, PutRow, StartsRise, is_within}

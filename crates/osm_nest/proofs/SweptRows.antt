@@ -11,12 +11,12 @@ use Rattle.plane.specs.Vector.{Vector}
 use Rattle.lists.proofs.ListsKit.{and-right, at-in, clash, in-all, in-filter, in-left, in-passes, same_get}
 use Rattle.plane.proofs.PlaneKit.{right_chain, right_itself, right_of}
 use Rattle.lists.specs.Member.{In}
-use Rattle.status.specs.Status.{IsRightJustAbove, IsStatus, spanning}
-use Rattle.status.proofs.StatusKit.{fits, present, to_end}
+use Rattle.plane_lists.specs.Statuses.Status.{IsRightJustAbove, IsStatus, spanning}
+use Rattle.plane_lists.proofs.StatusKit.{fits, present, to_end}
 use Rattle.osm_geom.specs.declared.edge.Edge.{Edge}
 use Rattle.osm_geom.specs.JustAbove.{just_above_cmp}
 use Rattle.osm_geom.specs.Span.{lower_end, spans}
-use Rattle.plane_edges.specs.Multiple.{IsWholeAt, product_of_denominators}
+use Rattle.osm_geom.specs.InPlane.Multiple.{IsWholeAt, product_of_denominators}
 use Rattle.osm_nest.specs.declared.ring_edge.RingEdge.{RingEdge}
 use Rattle.osm_nest.specs.RingLists.{AreRings, all_edges}
 use Rattle.osm_nest.specs.SweptEdges.{AreSlopingEdges, HasNeighbour, IsSlopingEdge, PutRow, is_within, left_at}

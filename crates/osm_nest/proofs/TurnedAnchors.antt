@@ -4,10 +4,10 @@ use Rattle.std.proofs.Math.Nat.{mul_comm}
 use Rattle.plane.specs.Edge as plane
 use Rattle.plane.specs.Edge.{same_edge, segment_of}
 use Rattle.lists.specs.Member.{In}
-use Rattle.winding.specs.Ring.{IsAnchor, segments_of}
+use Rattle.plane_lists.specs.Lists.Ring.{IsAnchor, segments_of}
 use Rattle.lists.proofs.ListsKit.{in-filter, in-map, in-map-out, in-passes, in-rotated, into-filter, rotated-in}
 use Rattle.osm_geom.specs.declared.edge.Edge.{Edge}
-use Rattle.plane_edges.specs.Multiple.{edge_times, edges_times, product_of_denominators}
+use Rattle.osm_geom.specs.InPlane.Multiple.{edge_times, edges_times, product_of_denominators}
 use Rattle.lists.specs.Rotated.{IsRotated}
 use Rattle.osm_nest.specs.Outer.{AnchorRuns, IsAnchorOf}
 use Rattle.osm_nest.proofs.InPlane.{common-append}

@@ -10,8 +10,8 @@ use Rattle.std.proofs.lemmas.Cmp.{on_total, then_total, tied_itself}
 use Rattle.std.proofs.lemmas.List.{get_or-map, length-append, length-map}
 use Rattle.std.proofs.lemmas.List.MinMax.{ranks_by}
 use Rattle.std.proofs.lemmas.List.Sorted.{sorted_far}
-use Rattle.nesting.proofs.NestingKit.{sided-once}
-use Rattle.nesting.specs.Nesting.{edges_of}
+use Rattle.plane_lists.proofs.NestingKit.{sided-once}
+use Rattle.plane_lists.specs.Rings.Nesting.{edges_of}
 use Rattle.lists.specs.Member.{In}
 use Rattle.lists.proofs.ListsKit.{at-in, clash, in-map, rotated-in}
 use Rattle.osm_geom.specs.declared.edge.Edge.{Edge}
@@ -24,7 +24,7 @@ use Rattle.osm_nest.specs.Grouped.{AreListed, ArePlacesSorted, AreSortedFromLeas
 use Rattle.osm_nest.specs.Nested.{BeginsBefore, edge_cmp}
 use Rattle.osm_nest.specs.RingLists.{AreRings, all_edges, whole_rings}
 use Rattle.osm_nest.proofs.Places.{placed, rings-apart, stand}
-use Rattle.plane_edges.specs.Multiple.{edge_times, edges_times, point_times, product_of_denominators}
+use Rattle.osm_geom.specs.InPlane.Multiple.{edge_times, edges_times, point_times, product_of_denominators}
 
 pub edges-total : IsTotalOrder edge_cmp
 edges-total = then_total (on_total (λ (e : Edge). e.from) point_total) (on_total (λ (e : Edge). e.to) point_total)

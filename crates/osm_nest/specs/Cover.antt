@@ -3,12 +3,12 @@ use Rattle.std.specs.Prelude.{All, Bool, List, not, ℤ, ◌%◌, ◌≡◌}
 use Rattle.std.specs.List.{count_by}
 use Rattle.plane.specs.Sign.{Plus, sign}
 use Rattle.plane.specs.Vector.{Vector}
-use Rattle.winding.specs.Parity.{is_even}
+use Rattle.plane_lists.specs.Lists.Parity.{is_even}
 use Rattle.osm_geom.specs.declared.edge.Edge.{Edge}
 use Rattle.osm_nest.specs.declared.polygon.Polygon.{Polygon}
 use Rattle.osm_nest.specs.Polygons.{edges_in}
 use Rattle.osm_nest.specs.RingLists.{all_edges}
-use Rattle.plane_edges.specs.Sided.{IsSided, count_at}
+use Rattle.osm_geom.specs.InPlane.Sided.{IsSided, count_at}
 
 -- the polygon covers the point p.x / q, p.y / q: its parity there is odd
 abbrev pub covers_at : ℤ → Vector → Polygon → Bool

@@ -1,7 +1,7 @@
 -- Which ring directly encloses which, by places in a list. No public contract cites it.
 use Rattle.std.specs.Prelude.{Bool, List, Option, None, Some, [], false, get_or, length, map, true, ℕ, ◌<◌, ◌≡◌, ◌↔◌}
-use Rattle.nesting.specs.Nesting.{EnclosesDirectly, IsInnerRing, IsOuterRing}
-use Rattle.winding.specs.Ring.{segments_of}
+use Rattle.plane_lists.specs.Rings.Nesting.{EnclosesDirectly, IsInnerRing, IsOuterRing}
+use Rattle.plane_lists.specs.Lists.Ring.{segments_of}
 use Rattle.osm_geom.specs.declared.edge.Edge.{Edge}
 use Rattle.osm_nest.specs.Outer.{IsInner, IsOuter}
 use Rattle.osm_nest.specs.RingLists.{whole_rings}

@@ -10,7 +10,7 @@ use Rattle.osm_nest.specs.Outer.{AreConflictFree, IsAnchorOf}
 use Rattle.osm_nest.specs.RingLists.{AreRings, all_edges}
 use Rattle.osm_geom.specs.WholeSegment.{IsWholeSegment}
 use Rattle.osm_rings.specs.RingList.{AreRingsOf}
-use Rattle.plane_edges.specs.Sided.{IsSided, count_at}
+use Rattle.osm_geom.specs.InPlane.Sided.{IsSided, count_at}
 
 -- the rings of a sided list of edges are rings to be nested
 abbrev pub RingsMayBeNested : Type 0

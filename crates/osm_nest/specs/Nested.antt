@@ -3,7 +3,7 @@ use Rattle.std.specs.Prelude.{All, AllPairs, List, [], slice_index_or, sum_by, â
 use Rattle.std.specs.declared.cmp.Ordering.{Ordering}
 use Rattle.std.specs.declared.cmp.Ordering.TheVariants.{Less}
 use Rattle.std.specs.Ordering.{ordering_then}
-use Rattle.nesting.specs.Polygon.{IsPolygon}
+use Rattle.plane_lists.specs.Rings.Polygon.{IsPolygon}
 use Rattle.osm_geom.specs.declared.edge.Edge.{Edge}
 use Rattle.osm_geom.specs.Point.{point_cmp}
 use Rattle.osm_nest.specs.declared.polygon.Polygon.{Polygon}
@@ -13,7 +13,7 @@ use Rattle.osm_nest.specs.RingLists.{all_edges, whole_rings}
 use Rattle.lists.specs.Rotated.{IsRotated}
 use Rattle.osm_rings.specs.RingList.{AreRingsOf}
 use Rattle.osm_rings.specs.Turned.{BeginsLeast}
-use Rattle.plane_edges.specs.Multiple.{product_of_denominators}
+use Rattle.osm_geom.specs.InPlane.Multiple.{product_of_denominators}
 
 -- each polygon is an outer ring of the list and inner rings that it directly encloses, and each ring stands in exactly one polygon, there once
 pub record ArePolygonsOf (rs : List (List Edge)) (polygons : List Polygon) : Type 0 where

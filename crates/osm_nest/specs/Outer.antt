@@ -3,13 +3,13 @@ use Rattle.std.specs.Prelude.{Bool, List, cond, false, pos, true, ℤ, ◌%◌, 
 use Rattle.plane.specs.Edge.{segment_of}
 use Rattle.plane.specs.Sign.{Plus, sign}
 use Rattle.plane.specs.Vector.{Vector}
-use Rattle.winding.specs.ConflictFree.{IsConflictFree}
+use Rattle.plane_lists.specs.Lists.ConflictFree.{IsConflictFree}
 use Rattle.lists.specs.Member.{In}
-use Rattle.winding.specs.Ring.{IsAnchor, segments_of}
+use Rattle.plane_lists.specs.Lists.Ring.{IsAnchor, segments_of}
 use Rattle.osm_geom.specs.declared.edge.Edge.{Edge}
 use Rattle.osm_geom.specs.Edge.{runs_up}
-use Rattle.plane_edges.specs.Multiple.{edge_times, product_of_denominators, whole_edges}
-use Rattle.plane_edges.specs.Sided.{count_at, signed_count_at}
+use Rattle.osm_geom.specs.InPlane.Multiple.{edge_times, product_of_denominators, whole_edges}
+use Rattle.osm_geom.specs.InPlane.Sided.{count_at, signed_count_at}
 
 -- no two edges share a point that isn't an end of both
 abbrev pub AreConflictFree : List Edge → Type 0

@@ -1,11 +1,11 @@
 -- Polygons: an outer ring and the inner rings under it.
 use Rattle.std.specs.Prelude.{List, ◌∷◌, map, ℕ}
 use Rattle.std.specs.List.{flat_map}
-use Rattle.nesting.specs.Polygon as nesting
+use Rattle.plane_lists.specs.Rings.Polygon as nesting
 use Rattle.osm_geom.specs.declared.edge.Edge.{Edge}
 use Rattle.osm_nest.specs.declared.polygon.Polygon.{Polygon}
 use Rattle.osm_nest.specs.RingLists.{all_edges}
-use Rattle.plane_edges.specs.Multiple.{edges_times}
+use Rattle.osm_geom.specs.InPlane.Multiple.{edges_times}
 
 -- the rings of a polygon, the outer one first
 abbrev pub rings_in : Polygon → List (List Edge)

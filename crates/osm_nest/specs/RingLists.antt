@@ -1,10 +1,10 @@
 -- Ring lists of edges, in the plane multiplied so that all of their points are whole.
 use Rattle.std.specs.Prelude.{List, map}
 use Rattle.std.specs.List.{flat_map}
-use Rattle.nesting.specs.RingList.{IsRingList}
+use Rattle.plane_lists.specs.Rings.RingList.{IsRingList}
 use Rattle.plane.specs.Edge as plane
 use Rattle.osm_geom.specs.declared.edge.Edge.{Edge}
-use Rattle.plane_edges.specs.Multiple.{edges_times, product_of_denominators}
+use Rattle.osm_geom.specs.InPlane.Multiple.{edges_times, product_of_denominators}
 
 -- all edges of rings, one ring after the other
 abbrev pub all_edges : List (List Edge) → List Edge

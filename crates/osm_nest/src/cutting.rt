@@ -3,7 +3,7 @@
 ghost use Rattle.std.specs.Prelude.{IfOk};
 ghost use Rattle.osm_nest.specs.Cover.{AreSided};
 ghost use Rattle.osm_nest.specs.Nested.{ArePolygons};
-ghost use Rattle.plane_edges.specs.Sided.{IsSided};
+ghost use Rattle.osm_geom.specs.InPlane.Sided.{IsSided};
 
 use crate::grouping::nest_rings;
 use crate::laws::rings_may_be_nested;

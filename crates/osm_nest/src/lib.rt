@@ -6,6 +6,7 @@ mod enclosers;
 mod grouping;
 mod heights;
 mod laws;
+mod one_nesting;
 mod one_outer;
 mod outer;
 mod polygon;
@@ -16,11 +17,13 @@ mod ring_edges;
 mod rings_from_least;
 mod sweep_status;
 mod swept_enclosers;
+pub mod valid_polygons;
 
 pub use cutting::polygons;
 pub use grouping::{nest, nest_rings};
 pub use laws::{
     nested_cover_as_rings, nested_have_kinds, nesting_exists, rings_are_clear, rings_may_be_nested,
 };
+pub use one_nesting::polygons_are_one;
 pub use outer::is_outer;
 pub use polygon::{Polygon, Polygons};

@@ -6,7 +6,7 @@ ghost use Rattle.std.specs.List.{list_all};
 ghost use Rattle.osm_notation.specs.Written.{is_plain, written};
 ghost use Rattle.osm_notation.specs.Kept.{KeepsFront};
 
-use opl_reader::Text;
+use osm_elements::Text;
 use std::alloc::{AllocError as OutOfMemory, Global};
 
 /// Whether a byte is a character that stands for itself.

@@ -1,12 +1,12 @@
 //! Tags, as OPL and the format text spell them.
 
 ghost use Rattle.std.specs.Prelude.{◌≡◌, ◌++◌, OnOk, OnErr};
-ghost use Rattle.opl_reader.specs.Seen.{tag_seen};
+ghost use Rattle.osm_elements.specs.Seen.{tag_seen};
 ghost use Rattle.osm_notation.specs.Kept.{KeepsFront};
 ghost use Rattle.osm_notation.specs.Written.{tag_text};
 
 use crate::strings::put_written;
-use opl_reader::TagRef;
+use osm_elements::TagRef;
 use std::alloc::AllocError as OutOfMemory;
 
 /// Adds a tag: its key, an equals sign and its value.

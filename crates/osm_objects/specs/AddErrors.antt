@@ -1,6 +1,6 @@
 -- Why an object is not added.
 use Rattle.std.specs.Prelude.{◌≡◌, true, false, List}
-use Rattle.opl_reader.specs.declared.object.Object.{Object}
+use Rattle.osm_elements.specs.declared.object.Object.{Object}
 use Rattle.osm_objects.specs.Object.{is_live, kind_of, id_of}
 use Rattle.osm_objects.specs.Objects.{is_duplicate}
 use Rattle.osm_objects.specs.declared.error.AddError.{AddError}

@@ -2,11 +2,11 @@
 use Rattle.std.specs.Prelude.{◌-◌, Bool, true, false, not, ◌&&◌, ◌||◌, nat_le, nat_lt, ℕ, List, [], length, map, filter, slice_get, codes, ℤ, Option, None, Some, option_map}
 use Rattle.std.specs.Ordering.{int_eq}
 use Rattle.std.specs.Option.{option_eq}
-use Rattle.opl_reader.specs.declared.object.Tag.{Tag}
-use Rattle.opl_reader.specs.declared.object.Ref.{Ref}
-use Rattle.opl_reader.specs.declared.object.ObjectRef.{ObjectRef}
-use Rattle.opl_reader.specs.declared.object.Object.{Object}
-use Rattle.opl_reader.specs.declared.object.Object.TheVariants as object
+use Rattle.osm_elements.specs.declared.object.Tag.{Tag}
+use Rattle.osm_elements.specs.declared.object.Ref.{Ref}
+use Rattle.osm_elements.specs.declared.object.ObjectRef.{ObjectRef}
+use Rattle.osm_elements.specs.declared.object.Object.{Object}
+use Rattle.osm_elements.specs.declared.object.Object.TheVariants as object
 use Rattle.osm_objects.specs.declared.choice.Choice.{Choice}
 use Rattle.osm_objects.specs.Object.{ref_of}
 use Rattle.osm_objects.specs.Tags.{has_one_of, is_tagged, without_key}

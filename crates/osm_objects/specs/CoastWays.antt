@@ -1,7 +1,7 @@
 -- Coast ways: the ways tagged natural=coastline.
 use Rattle.std.specs.Prelude.{Bool, false, List, map, filter, codes, ℤ}
-use Rattle.opl_reader.specs.declared.object.Object.{Object}
-use Rattle.opl_reader.specs.declared.object.Object.TheVariants as object
+use Rattle.osm_elements.specs.declared.object.Object.{Object}
+use Rattle.osm_elements.specs.declared.object.Object.TheVariants as object
 use Rattle.osm_objects.specs.Object.{id_of}
 use Rattle.osm_objects.specs.Tags.{is_tagged}
 

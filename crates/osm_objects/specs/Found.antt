@@ -1,6 +1,6 @@
 -- The object that was found. Only private clauses cite it.
 use Rattle.std.specs.Prelude.{ℤ, Option, Some, None}
-use Rattle.opl_reader.specs.declared.object.Object.{Object}
+use Rattle.osm_elements.specs.declared.object.Object.{Object}
 use Rattle.osm_objects.specs.declared.found.Found.{Found}
 use Rattle.osm_objects.specs.declared.found.Found.TheVariants.{Nowhere, Plain, Other}
 use Rattle.osm_objects.specs.Held.{object_from}

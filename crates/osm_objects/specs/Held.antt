@@ -1,8 +1,8 @@
 -- What the store keeps of an object, and the object that it stands for. Only private clauses cite it.
 use Rattle.std.specs.Prelude.{◌≡◌, true, List, [], ◌∷◌, ℤ, map, Option, Some, None, if◌then◌else◌}
-use Rattle.opl_reader.specs.declared.object.ObjectRef.{ObjectRef}
-use Rattle.opl_reader.specs.declared.object.Object.{Object}
-use Rattle.opl_reader.specs.declared.object.Object.TheVariants as object
+use Rattle.osm_elements.specs.declared.object.ObjectRef.{ObjectRef}
+use Rattle.osm_elements.specs.declared.object.Object.{Object}
+use Rattle.osm_elements.specs.declared.object.Object.TheVariants as object
 use Rattle.osm_objects.specs.Object.{kind_of, is_live, ref_of}
 use Rattle.osm_objects.specs.Merged.{Other, other}
 use Rattle.osm_objects.specs.declared.held.Held.{Held}

@@ -1,7 +1,7 @@
 -- Nodes among the objects.
 use Rattle.std.specs.Prelude.{Bool, true, false, List, map, filter, ℤ}
-use Rattle.opl_reader.specs.declared.object.Object.{Object}
-use Rattle.opl_reader.specs.declared.object.Object.TheVariants as object
+use Rattle.osm_elements.specs.declared.object.Object.{Object}
+use Rattle.osm_elements.specs.declared.object.Object.TheVariants as object
 use Rattle.osm_objects.specs.Object.{id_of}
 
 abbrev pub is_node : Object → Bool

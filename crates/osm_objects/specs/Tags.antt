@@ -2,7 +2,7 @@
 use Rattle.std.specs.Prelude.{Bool, not, ℕ, List, filter, find, bytes_eq, Option, Some, option_map, is_some}
 use Rattle.std.specs.List.{list_any}
 use Rattle.std.specs.Option.{option_eq}
-use Rattle.opl_reader.specs.declared.object.Tag.{Tag}
+use Rattle.osm_elements.specs.declared.object.Tag.{Tag}
 
 -- the value of the first tag of this key
 abbrev pub tag_value : List ℕ → List Tag → Option (List ℕ)

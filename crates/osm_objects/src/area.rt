@@ -3,7 +3,7 @@
 ghost use Rattle.std.specs.Prelude.{◌≡◌};
 ghost use Rattle.osm_objects.specs.AreaIds.{area_id};
 
-use opl_reader::{ObjectKind, ObjectRef};
+use osm_elements::{ObjectKind, ObjectRef};
 
 /// By what the feature of a written area is named.
 #[derive(Clone, Copy, Debug, PartialEq, Eq)]

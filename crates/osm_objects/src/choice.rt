@@ -5,7 +5,7 @@ ghost use Rattle.osm_objects.specs.Candidates.{has_key_or_any, has_no_key, is_ar
 
 use crate::tags::{has_one_of, is_tagged};
 use lists::List;
-use opl_reader::{Tags, Text};
+use osm_elements::{Tags, Text};
 
 /// Keys of tags, as `building` and `landuse`, in any order and as often as one likes.
 pub type Keys = List<Text>;

@@ -3,7 +3,7 @@
 ghost use Rattle.std.specs.Prelude.{◌≡◌};
 ghost use Rattle.osm_objects.specs.declared.error.AddError.TheVariants.{OutOfMemory};
 
-use opl_reader::ObjectKind;
+use osm_elements::ObjectKind;
 use std::alloc::{AllocError as OutOfMemory, AllocFailed};
 
 /// Why `Store::add` refuses an object.

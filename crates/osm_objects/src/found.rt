@@ -10,7 +10,7 @@ ghost use Rattle.osm_objects.specs.Views.{node_seen, way_seen, relation_seen};
 use crate::held::Held;
 use crate::plain::PlainNode;
 use crate::view::{NodeView, RelationView, WayView};
-use opl_reader::Tags;
+use osm_elements::Tags;
 use osm_lattice::Loc;
 use std::alloc::{AllocError as OutOfMemory, Global};
 

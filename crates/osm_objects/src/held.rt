@@ -12,7 +12,7 @@ ghost use Rattle.osm_objects.specs.Views.{node_seen, way_seen, relation_seen};
 use crate::choice::Choice;
 use crate::tags::{copy_without, has_other_key, is_tagged};
 use crate::view::{NodeView, RelationView, WayView};
-use opl_reader::{Members, Object, ObjectKind, Ref, Refs, Tags};
+use osm_elements::{Members, Object, ObjectKind, Ref, Refs, Tags};
 use osm_lattice::Loc;
 use std::alloc::{AllocError as OutOfMemory, Global};
 

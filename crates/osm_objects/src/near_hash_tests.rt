@@ -1,7 +1,7 @@
 //! The hash of kinds and ids, which no public call shows: what a look-up finds is proved for every hasher.
 
 use crate::near_hash::NearHasher;
-use opl_reader::{ObjectKind, ObjectRef};
+use osm_elements::{ObjectKind, ObjectRef};
 use std::alloc::Global;
 use std::hash::{BuildHasher, BuildHasherDefault};
 use std::test::Fail;

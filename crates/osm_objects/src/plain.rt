@@ -6,7 +6,7 @@ ghost use Rattle.osm_objects.specs.Objects.{object_at};
 ghost use Rattle.osm_objects.specs.declared.plain.PlainNode.{PlainNode};
 ghost use Rattle.osm_objects.specs.Plain.{node_from, nodes_from, HaveRisingIds};
 
-use opl_reader::{Object, ObjectKind, ObjectRef};
+use osm_elements::{Object, ObjectKind, ObjectRef};
 use osm_lattice::Loc;
 use std::alloc::AllocError as OutOfMemory;
 use std::cmp::Ordering;

@@ -22,7 +22,7 @@ use crate::near_hash::NearHasher;
 use crate::plain::{PlainNode, is_above, node_of, plain_node, push_ids, push_node};
 use crate::view::{NodeView, RelationView, WayView};
 use indexmap::IndexMap;
-use opl_reader::{Object, ObjectKind, ObjectRef, Ref, Tags};
+use osm_elements::{Object, ObjectKind, ObjectRef, Ref, Tags};
 use osm_lattice::Loc;
 use std::alloc::{AllocError as OutOfMemory, Global};
 use std::hash::BuildHasherDefault;
@@ -43,7 +43,7 @@ pub struct Store {
 
 impl Model for Store {
     ghost use Rattle.std.specs.Prelude.{◌≡◌, List, []};
-    ghost use Rattle.opl_reader.specs.declared.object.Object.{Object};
+    ghost use Rattle.osm_elements.specs.declared.object.Object.{Object};
     ghost use Rattle.osm_objects.specs.Objects.{AreApart};
     ghost use Rattle.osm_objects.specs.Held.{others_from, KindsAgree};
     ghost use Rattle.osm_objects.specs.Merged.{merged, Fit};

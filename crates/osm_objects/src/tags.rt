@@ -4,7 +4,7 @@ ghost use Rattle.std.specs.Prelude.{◌≡◌, not, bytes_eq, IfOk};
 ghost use Rattle.std.specs.List.{list_any};
 ghost use Rattle.osm_objects.specs.Tags.{has_key, has_one_of, is_tagged, without_key};
 
-use opl_reader::{Tags, Text};
+use osm_elements::{Tags, Text};
 use std::alloc::{AllocError as OutOfMemory, Global};
 
 /// Whether the first tag of this key has this value.

@@ -1,6 +1,6 @@
 //! What the store lends.
 
-use opl_reader::{Members, Refs, Tags};
+use osm_elements::{Members, Refs, Tags};
 use osm_lattice::Loc;
 
 /// A node that is held: its tags, and its location if it has one.

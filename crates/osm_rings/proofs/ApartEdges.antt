@@ -20,9 +20,9 @@ use Rattle.osm_geom.specs.declared.edge.Edge.{Edge}
 use Rattle.osm_geom.specs.declared.point.Point.{Point}
 use Rattle.osm_geom.specs.Point.{point_cmp}
 use Rattle.osm_geom.proofs.GeometryKit.{point_same, point_total}
-use Rattle.plane_edges.specs.Multiple.{point_times, product_of_denominators, whole_edges}
-use Rattle.plane_edges.specs.Sided.{IsSided}
-use Rattle.plane_edges.proofs.EdgesKit.{same_is_same}
+use Rattle.osm_geom.specs.InPlane.Multiple.{point_times, product_of_denominators, whole_edges}
+use Rattle.osm_geom.specs.InPlane.Sided.{IsSided}
+use Rattle.osm_geom.proofs.EdgesKit.{same_is_same}
 use Rattle.osm_rings.specs.Apart.{IsFirstLeaving, LeaveApart, LeavesFirst, NoneLeavesBefore}
 use Rattle.osm_rings.specs.Clockwise.{earlier, is_met_before}
 use Rattle.osm_rings.specs.declared.departures.Departure.{Departure}

@@ -6,15 +6,15 @@ use Rattle.plane.specs.Sign.{Sign, is_null, is_plus, negated, sign}
 use Rattle.plane.specs.Vector.{IsNonZero, Vector, cross, dot}
 use Rattle.plane.proofs.SignKit.{agree, all, all-out, all2, all2-out, all4, all4-out, imp, imp-out, same_bool, same_bool-true, sign-reversed, times}
 use Rattle.plane.proofs.PlaneKit.{cross-negated, dot-swap}
-use Rattle.winding.proofs.WindingKit.{crossed, crossed-at, dot-at}
-use Rattle.nesting.proofs.NestingKit.{is_some, some-signs}
+use Rattle.plane_lists.proofs.WindingKit.{crossed, crossed-at, dot-at}
+use Rattle.plane_lists.proofs.NestingKit.{is_some, some-signs}
 use Rattle.osm_geom.specs.declared.dir.Dir.{Dir}
 use Rattle.osm_geom.specs.Dir as dir
 use Rattle.osm_geom.specs.Dir.{clockwise_cmp, rank_of, turn_by, vector_along}
 use Rattle.osm_lattice.specs.OrderLaws.{ordering_of}
 use Rattle.osm_lattice.proofs.LatticeKit.{int_cmp-is}
-use Rattle.plane_edges.specs.OneDirection.{HaveOneDirection}
-use Rattle.plane_edges.proofs.EdgesKit.{along-cross, along-dot}
+use Rattle.osm_geom.specs.InPlane.OneDirection.{HaveOneDirection}
+use Rattle.osm_geom.proofs.EdgesKit.{along-cross, along-dot}
 use Rattle.osm_rings.specs.Clockwise.{earlier, is_met_before}
 use Rattle.lists.proofs.ListsKit.{sum_none}
 

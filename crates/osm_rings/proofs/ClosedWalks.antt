@@ -11,7 +11,7 @@ use Rattle.orbits.proofs.Reading.{ltb_yes, unwrap}
 use Rattle.orbits.proofs.Sums.{all_below, sums_agree}
 use Rattle.osm_geom.specs.declared.edge.Edge.{Edge}
 use Rattle.osm_geom.specs.declared.point.Point.{Point}
-use Rattle.plane_edges.specs.Sided.{IsSided}
+use Rattle.osm_geom.specs.InPlane.Sided.{IsSided}
 use Rattle.osm_rings.specs.Apart.{IsFirstLeaving, LeaveApart, LeavesFirst}
 use Rattle.osm_rings.specs.Pieces.{AreRingsAlong, edges_at}
 use Rattle.osm_rings.specs.RingList.{AreRingsOf}

@@ -6,7 +6,7 @@ use Rattle.plane.specs.Bit.{bit}
 use Rattle.std.proofs.lemmas.Bool.{and_from, and_parts}
 use Rattle.lists.proofs.ListsKit.{equal_from, int_eq-same, int_eq-true, total}
 use Rattle.lists.specs.Member.{In}
-use Rattle.winding.proofs.WindingKit.{total-member}
+use Rattle.plane_lists.proofs.WindingKit.{total-member}
 use Rattle.osm_geom.specs.Point.{point_cmp}
 use Rattle.osm_lattice.specs.Seg.{seg_cmp}
 use Rattle.osm_geom.specs.declared.edge.Carrier.{Carrier}

@@ -10,9 +10,9 @@ use Rattle.plane.specs.Vector.{Vector, from_to}
 use Rattle.orbits.specs.Orbits.{after}
 use Rattle.osm_geom.specs.declared.edge.Edge as geom
 use Rattle.osm_geom.specs.Edge.{direction_of, opposite}
-use Rattle.plane_edges.specs.Multiple.{IsWholeAt, edge_times, point_times, product_of_denominators, whole_edges}
-use Rattle.plane_edges.specs.OneDirection.{HaveOneDirection}
-use Rattle.plane_edges.proofs.EdgesKit.{back_along, same_is_same}
+use Rattle.osm_geom.specs.InPlane.Multiple.{IsWholeAt, edge_times, point_times, product_of_denominators, whole_edges}
+use Rattle.osm_geom.specs.InPlane.OneDirection.{HaveOneDirection}
+use Rattle.osm_geom.proofs.EdgesKit.{back_along, same_is_same}
 use Rattle.lists.specs.Member.{In}
 use Rattle.osm_rings.specs.declared.departures.Departure.{Departure}
 use Rattle.osm_rings.specs.Clockwise.{is_met_before}

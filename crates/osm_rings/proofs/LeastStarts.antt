@@ -14,7 +14,7 @@ use Rattle.osm_geom.specs.RatioOrder.{fraction_cmp}
 use Rattle.osm_lattice.proofs.LatticeKit.{int_cmp-is, ordering_of-then, less-plus}
 use Rattle.osm_geom.proofs.GeometryKit.{point_cmp_is, x_den-some, y_den-some}
 use Rattle.osm_rings.specs.LeastStart.{IsLesserStart}
-use Rattle.plane_edges.proofs.EdgesKit.{sign-some}
+use Rattle.osm_geom.proofs.EdgesKit.{sign-some}
 
 -- how far s is above r, multiplied by both denominators
 abbrev rise : Fraction → Fraction → ℤ

@@ -4,6 +4,7 @@ mod ClosedWalks
 mod DeparturesRound
 mod EdgeDirs
 pub mod EdgeEquality
+pub mod ExactRings
 mod FirstMets
 pub mod LeastStarts
 mod Multiplied

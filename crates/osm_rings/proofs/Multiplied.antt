@@ -5,9 +5,9 @@ use Rattle.plane.specs.Vector.{east, from_to}
 use Rattle.lists.specs.Member.{In}
 use Rattle.osm_geom.specs.declared.edge.Edge.{Edge}
 use Rattle.osm_geom.specs.Edge.{direction_of}
-use Rattle.plane_edges.specs.Multiple.{IsWholeAt, edge_times, edges_times, point_times, product_of_denominators, whole_edges}
-use Rattle.plane_edges.specs.OneDirection.{HaveOneDirection}
-use Rattle.plane_edges.proofs.EdgesKit.{common_is_common, each_whole, step_along, same_is_same}
+use Rattle.osm_geom.specs.InPlane.Multiple.{IsWholeAt, edge_times, edges_times, point_times, product_of_denominators, whole_edges}
+use Rattle.osm_geom.specs.InPlane.OneDirection.{HaveOneDirection}
+use Rattle.osm_geom.proofs.EdgesKit.{common_is_common, each_whole, step_along, same_is_same}
 use Rattle.osm_rings.specs.Numbered.{edge_at, nowhere}
 use Rattle.osm_rings.specs.Departures.{TellStarts, direction_at, step_at}
 use Rattle.osm_rings.proofs.Starts.{same-some, start-at}

@@ -2,8 +2,8 @@
 use Rattle.std.proofs.Common.{◌≡◌, inl, inr, ℕ, zero, suc, ◌+◌, ◌-◌, ◌<◌, List, [], ◌∷◌, length, get_or, map, take, All, refl, sym, ap, subst, ◌∙◌, arith, Option, Some, sum_by}
 use Rattle.std.proofs.lemmas.List.{take_all}
 use Rattle.std.proofs.lemmas.List.Sums.{sum_by-cons, sum_by-append, sum_by_more}
-use Rattle.nesting.specs.Nesting.{edges_of}
-use Rattle.nesting.specs.Walk.{AreWalks, Follow, IsSuccessor, IsWalk, last}
+use Rattle.plane_lists.specs.Rings.Nesting.{edges_of}
+use Rattle.plane_lists.specs.Rings.Walk.{AreWalks, Follow, IsSuccessor, IsWalk, last}
 use Rattle.plane.specs.Edge.{Edge}
 use Rattle.lists.specs.Member.{In}
 use Rattle.lists.proofs.ListsKit.{at-in, in-map-out}

@@ -8,7 +8,7 @@ use Rattle.orbits.specs.OnceLaws.{sum_below}
 use Rattle.osm_geom.specs.declared.edge.Edge.{Edge}
 use Rattle.osm_rings.specs.Numbered.{edge_at}
 use Rattle.osm_rings.specs.Pieces.{AreAllCut, edges_at}
-use Rattle.plane_edges.specs.Multiple.{IsWholeAt, edge_times, edges_times}
+use Rattle.osm_geom.specs.InPlane.Multiple.{IsWholeAt, edge_times, edges_times}
 use Rattle.osm_rings.proofs.Multiplied.{pick, read-edge}
 
 pub one-at : (es : List Edge) (k : ℕ) (d : Edge) → k < length es → take 1 (drop k es) ≡ get_or es k d ∷ []

@@ -1,7 +1,7 @@
 -- Successors and numbers of points, for edges of the plane named by their places.
 use Rattle.std.proofs.Common.{List, Option, Some, get_or, length, ℕ, ◌<◌, ◌≡◌}
 use Rattle.plane.specs.Edge.{Edge}
-use Rattle.nesting.specs.Walk.{IsSuccessor}
+use Rattle.plane_lists.specs.Rings.Walk.{IsSuccessor}
 use Rattle.orbits.specs.Orbits.{IsOneToOne, after}
 use Rattle.osm_rings.specs.Numbered.{edge_at}
 

@@ -6,12 +6,12 @@ use Rattle.plane.specs.Vector.{Vector, same_point}
 use Rattle.std.proofs.lemmas.Bool.{false_from_ne_true}
 use Rattle.plane.proofs.PlaneKit.{same_point-refl, same_point-true}
 use Rattle.lists.specs.Member.{EachPair, In}
-use Rattle.winding.specs.Ring.{IsPath}
-use Rattle.winding.specs.Ring as winding
+use Rattle.plane_lists.specs.Lists.Ring.{IsPath}
+use Rattle.plane_lists.specs.Lists.Ring as winding
 use Rattle.lists.proofs.ListsKit.{all-in, clash, in-all, in-map-out}
 use Rattle.osm_geom.specs.declared.edge.Edge.{Edge}
-use Rattle.plane_edges.specs.Multiple.{IsWholeAt, edge_times, edges_times, point_times}
-use Rattle.plane_edges.proofs.EdgesKit.{same_is_same}
+use Rattle.osm_geom.specs.InPlane.Multiple.{IsWholeAt, edge_times, edges_times, point_times}
+use Rattle.osm_geom.proofs.EdgesKit.{same_is_same}
 use Rattle.osm_rings.specs.Ring.{IsRing}
 
 -- ---- a ring of the plane is a ring

@@ -1,18 +1,18 @@
 -- A ring list of the multiplied edges is one of the edges themselves: each multiplied edge is that of one edge alone.
 use Rattle.std.proofs.Common.{◌≡◌, ◌+◌, ℕ, List, [], ◌∷◌, map, inl, inr, Bool, true, false, cond, refl, sym, ap, subst, ◌∙◌, arith, sum_by}
 use Rattle.std.proofs.lemmas.List.Sums.{sum_by-append, sum_by-cons}
-use Rattle.nesting.specs.Nesting.{edges_of}
-use Rattle.nesting.specs.Stack.{cut_all}
-use Rattle.nesting.proofs.NestingKit.{sided-once, piece_walk, pieces_same, stack_cut_all, stack_rings, walks_there}
+use Rattle.plane_lists.specs.Rings.Nesting.{edges_of}
+use Rattle.plane_lists.specs.Rings.Stack.{cut_all}
+use Rattle.plane_lists.proofs.NestingKit.{sided-once, piece_walk, pieces_same, stack_cut_all, stack_rings, walks_there}
 use Rattle.plane.specs.Edge as plane
 use Rattle.plane.specs.Edge.{same_edge}
 use Rattle.plane.proofs.PlaneKit.{same_edge-refl, same_edge-true}
 use Rattle.lists.specs.Member.{EachPair, In}
 use Rattle.lists.proofs.ListsKit.{all-in, in-all, in-map, in-map-out}
 use Rattle.osm_geom.specs.declared.edge.Edge.{Edge}
-use Rattle.plane_edges.specs.Multiple.{IsWholeAt, edge_times, edges_times, product_of_denominators, whole_edges}
-use Rattle.plane_edges.specs.Sided.{IsSided}
-use Rattle.plane_edges.proofs.EdgesKit.{common_is_common, each_whole}
+use Rattle.osm_geom.specs.InPlane.Multiple.{IsWholeAt, edge_times, edges_times, product_of_denominators, whole_edges}
+use Rattle.osm_geom.specs.InPlane.Sided.{IsSided}
+use Rattle.osm_geom.proofs.EdgesKit.{common_is_common, each_whole}
 use Rattle.osm_rings.specs.RingList.{AreRingsOf, HoldTheEdges}
 use Rattle.osm_rings.proofs.PlaneRings.{ring-of-plane}
 use Rattle.osm_rings.proofs.UncrossedRings.{held-within}

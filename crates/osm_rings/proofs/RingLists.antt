@@ -2,20 +2,20 @@
 use Rattle.std.proofs.Common.{◌≡◌, ◌≢◌, None, inl, inr, ℕ, suc, zero, ◌-◌, ◌<◌, ◌≤◌, List, [], ◌∷◌, length, get_or, map, All, Option, Some, Result, Ok, Err, IfOk, refl, sym, ap, subst, ◌∙◌, arith}
 use Rattle.std.proofs.lemmas.List.{get_or-map, length-map, map-append}
 use Rattle.std.proofs.lemmas.List.Elements.{All-cons, All-nil}
-use Rattle.nesting.specs.RingList.{IsRingList}
-use Rattle.nesting.specs.Walk.{AreCuts, AreWalks}
-use Rattle.nesting.proofs.NestingKit.{piece_walk, ring_list, next_leaves}
+use Rattle.plane_lists.specs.Rings.RingList.{IsRingList}
+use Rattle.plane_lists.specs.Rings.Walk.{AreCuts, AreWalks}
+use Rattle.plane_lists.proofs.NestingKit.{piece_walk, ring_list, next_leaves}
 use Rattle.plane.specs.Edge as plane
 use Rattle.lists.specs.Member.{In}
-use Rattle.winding.specs.Ring.{IsPath}
-use Rattle.winding.specs.Ring as winding
+use Rattle.plane_lists.specs.Lists.Ring.{IsPath}
+use Rattle.plane_lists.specs.Lists.Ring as winding
 use Rattle.lists.proofs.ListsKit.{in-all, in-map, in-map-out}
 use Rattle.orbits.specs.Orbits.{AreOrbits, IsOrbit, after}
 use Rattle.orbits.specs.Once.{HoldEachOnce}
 use Rattle.orbits.specs.OnceLaws.{StandBelow, SumsAgree}
 use Rattle.osm_geom.specs.declared.edge.Edge.{Edge}
-use Rattle.plane_edges.specs.Multiple.{IsWholeAt, edges_times, product_of_denominators, whole_edges}
-use Rattle.plane_edges.specs.Sided.{IsSided}
+use Rattle.osm_geom.specs.InPlane.Multiple.{IsWholeAt, edges_times, product_of_denominators, whole_edges}
+use Rattle.osm_geom.specs.InPlane.Sided.{IsSided}
 use Rattle.osm_rings.specs.Numbered.{edge_at}
 use Rattle.osm_rings.specs.Pieces.{AreAllCut, edges_at}
 use Rattle.osm_rings.specs.Ring.{IsRing}

@@ -2,15 +2,15 @@
 use Rattle.std.proofs.Common.{◌≡◌, ℕ, suc, zero, ◌<◌, List, [], ◌∷◌, length, Bool, true, false, cond, Option, Some, None, refl, sym, ap, subst, ◌∙◌, arith, ⊎_elim}
 use Rattle.std.proofs.lemmas.Bool.{cases_lt}
 use Rattle.std.proofs.lemmas.List.{get_or_past}
-use Rattle.nesting.specs.Walk.{IsSuccessor}
-use Rattle.nesting.proofs.NestingKit.{sided-once, clear-two, next_leaves, next_one, no-loop-segments, segment-ends, rise, sym-differs, way-segment, next_there}
+use Rattle.plane_lists.specs.Rings.Walk.{IsSuccessor}
+use Rattle.plane_lists.proofs.NestingKit.{sided-once, clear-two, next_leaves, next_one, no-loop-segments, segment-ends, rise, sym-differs, way-segment, next_there}
 use Rattle.plane.specs.Edge.{Edge, ends_at, other_end, same_edge, segment_of}
 use Rattle.plane.specs.Sector.{in_sector}
 use Rattle.plane.specs.Vector.{IsNonZero, Vector, from_to, same_point}
 use Rattle.plane.proofs.PlaneKit.{ends_at-from, ends_at-to, same_edge-true, same_point-refl}
 use Rattle.lists.specs.Member.{EachPair, In}
-use Rattle.winding.specs.Sided.{IsSided}
-use Rattle.winding.proofs.WindingKit.{way, way-direction, ways_apart}
+use Rattle.plane_lists.specs.Lists.Sided.{IsSided}
+use Rattle.plane_lists.proofs.WindingKit.{way, way-direction, ways_apart}
 use Rattle.orbits.specs.Orbits.{after}
 use Rattle.osm_rings.specs.Clockwise.{is_met_before}
 use Rattle.osm_rings.specs.Numbered.{edge_at, nowhere}

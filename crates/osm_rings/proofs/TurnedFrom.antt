@@ -3,8 +3,8 @@ use Rattle.std.proofs.Common.{◌≡◌, Bool, true, false, refl}
 use Rattle.plane.specs.Sign.{Sign, sign}
 use Rattle.plane.specs.Vector.{IsNonZero, Vector, cross, dot}
 use Rattle.plane.proofs.SignKit.{agree, all, all-out, all2, all2-out, all4, all4-out, imp, imp-out, same_bool, same_bool-true, times}
-use Rattle.winding.proofs.WindingKit.{crossed, crossed-at, dot-at}
-use Rattle.nesting.proofs.NestingKit.{is_some, some-signs}
+use Rattle.plane_lists.proofs.WindingKit.{crossed, crossed-at, dot-at}
+use Rattle.plane_lists.proofs.NestingKit.{is_some, some-signs}
 use Rattle.osm_rings.specs.Clockwise.{earlier, is_met_before}
 
 -- what is met after the new first direction comes before the rest: by whether either of two is, and whether the one was before the other

@@ -2,22 +2,22 @@
 use Rattle.std.proofs.Common.{length, List, [], ap, arith, map, refl, subst, sym, ℕ, ◌∙◌, ◌∷◌, ◌≡◌}
 use Rattle.std.specs.List.{sum_by}
 use Rattle.std.proofs.lemmas.List.{length-map}
-use Rattle.nesting.specs.Nesting.{edges_of}
-use Rattle.nesting.specs.RingList.{IsRingList}
-use Rattle.nesting.specs.Walk.{HasSameEdges}
-use Rattle.nesting.proofs.NestingKit.{total-edges}
-use Rattle.one_ring_list.specs.RingListOf.{IsRingListOf, LiesInWalk}
-use Rattle.one_ring_list.proofs.OneRingListKit.{rings-uncrossed}
+use Rattle.plane_lists.specs.Rings.Nesting.{edges_of}
+use Rattle.plane_lists.specs.Rings.RingList.{IsRingList}
+use Rattle.plane_lists.specs.Rings.Walk.{HasSameEdges}
+use Rattle.plane_lists.proofs.NestingKit.{total-edges}
+use Rattle.plane_lists.specs.OneRingList.RingListOf.{IsRingListOf, LiesInWalk}
+use Rattle.plane_lists.proofs.OneRingListKit.{rings-uncrossed}
 use Rattle.plane.specs.Edge as plane
 use Rattle.plane.specs.Bit.{bit}
 use Rattle.lists.specs.Member.{In}
-use Rattle.winding.specs.Ring as winding
+use Rattle.plane_lists.specs.Lists.Ring as winding
 use Rattle.lists.proofs.ListsKit.{in-map-out, some_member, total, total-is, total-map}
-use Rattle.winding.proofs.WindingKit.{total-member}
+use Rattle.plane_lists.proofs.WindingKit.{total-member}
 use Rattle.osm_geom.specs.declared.edge.Edge.{Edge}
-use Rattle.plane_edges.specs.Multiple.{edge_times, edges_times, product_of_denominators, whole_edges}
-use Rattle.plane_edges.specs.Sided.{IsSided}
-use Rattle.plane_edges.proofs.EdgesKit.{common_is_common, each_whole}
+use Rattle.osm_geom.specs.InPlane.Multiple.{edge_times, edges_times, product_of_denominators, whole_edges}
+use Rattle.osm_geom.specs.InPlane.Sided.{IsSided}
+use Rattle.osm_geom.proofs.EdgesKit.{common_is_common, each_whole}
 use Rattle.osm_rings.specs.RingList.{AreRingsOf, HoldTheEdges}
 use Rattle.osm_rings.proofs.EdgeEquality.{counted-in, exact-out, exact-own, same_exact}
 use Rattle.osm_rings.proofs.PlaneRings.{plane-ring}

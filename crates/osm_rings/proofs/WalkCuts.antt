@@ -2,16 +2,16 @@
 use Rattle.std.proofs.Common.{◌≡◌, ◌≢◌, ℕ, zero, suc, ◌<◌, List, [], ◌∷◌, ◌++◌, length, get_or, map, All, Bool, true, false, refl, sym, ap, subst, ◌∙◌, arith}
 use Rattle.std.proofs.lemmas.List.{append_assoc, append-nil, map-append, length-map, length-append, get_or_append_left}
 use Rattle.std.proofs.lemmas.List.Elements.{All-append}
-use Rattle.nesting.specs.Walk.{AreCuts, Cuts}
+use Rattle.plane_lists.specs.Rings.Walk.{AreCuts, Cuts}
 use Rattle.plane.specs.Edge.{Edge}
 use Rattle.plane.specs.Vector.{Vector, same_point}
 use Rattle.plane.proofs.PlaneKit.{same_point-true}
 use Rattle.lists.specs.Member.{EachPair}
-use Rattle.winding.specs.Ring.{IsPath, IsRing}
+use Rattle.plane_lists.specs.Lists.Ring.{IsPath, IsRing}
 use Rattle.orbits.specs.Cutting.{AreCutOff}
 use Rattle.osm_rings.specs.Numbered.{edge_at}
 use Rattle.osm_rings.proofs.PlaneNumbers.{TellPoints}
-use Rattle.winding.proofs.WindingKit.{path-join, path-split}
+use Rattle.plane_lists.proofs.WindingKit.{path-join, path-split}
 
 module _ (es : List Edge) where
   -- the first edge of a path leaves its start

@@ -1,12 +1,12 @@
 -- The laws of successors and ring lists, as statements. An edge of the list stands in the plane multiplied by the common denominator.
 use Rattle.std.specs.Prelude.{List, map, ◌≡◌}
-use Rattle.nesting.specs.RingList.{IsRingList}
-use Rattle.nesting.specs.Walk.{IsSuccessor}
+use Rattle.plane_lists.specs.Rings.RingList.{IsRingList}
+use Rattle.plane_lists.specs.Rings.Walk.{IsSuccessor}
 use Rattle.plane.specs.Edge as plane
 use Rattle.lists.specs.Member.{In}
 use Rattle.osm_geom.specs.declared.edge.Edge.{Edge}
-use Rattle.plane_edges.specs.Multiple.{edges_times, product_of_denominators, whole_edges}
-use Rattle.plane_edges.specs.Sided.{IsSided}
+use Rattle.osm_geom.specs.InPlane.Multiple.{edges_times, product_of_denominators, whole_edges}
+use Rattle.osm_geom.specs.InPlane.Sided.{IsSided}
 use Rattle.osm_rings.specs.RingList.{AreRingsOf}
 
 -- each edge of a sided list has a successor

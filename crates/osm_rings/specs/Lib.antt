@@ -1,11 +1,12 @@
+pub mod Apart
 pub mod Clockwise
+pub mod Departures
 pub mod Laws
 pub mod LeastStart
 pub mod Numbered
+pub mod OneList
 pub mod Pieces
 pub mod Ring
 pub mod RingList
 pub mod Turned
-pub mod Departures
-pub mod Apart
 pub mod Walked

@@ -1,10 +1,10 @@
 -- The ring lists of a list of edges.
 use Rattle.std.specs.Prelude.{List, sum_by, ℕ, ◌≡◌}
 use Rattle.lists.specs.Member.{In}
-use Rattle.one_ring_list.specs.RingListOf.{LiesInWalk}
+use Rattle.plane_lists.specs.OneRingList.RingListOf.{LiesInWalk}
 use Rattle.osm_geom.specs.declared.edge.Edge.{Edge}
 use Rattle.osm_rings.specs.Ring.{IsRing}
-use Rattle.plane_edges.specs.Multiple.{edges_times, product_of_denominators, whole_edges}
+use Rattle.osm_geom.specs.InPlane.Multiple.{edges_times, product_of_denominators, whole_edges}
 
 -- the edges of the rings are those of the list, each as often: every sum over them is that over the list
 abbrev pub HoldTheEdges : List Edge → List (List Edge) → Type 0

@@ -4,7 +4,7 @@
 ghost use Rattle.std.specs.Prelude.{◌≡◌, ◌<◌, ◌≤◌, IfOk, IfSome, false, length, slice_index_or, take};
 ghost use Rattle.std.specs.Ordering.{is_eq};
 ghost use Rattle.osm_geom.specs.Point.{point_cmp};
-ghost use Rattle.plane_edges.specs.Sided.{IsSided};
+ghost use Rattle.osm_geom.specs.InPlane.Sided.{IsSided};
 ghost use Rattle.osm_rings.specs.Apart.{IsFirstLeaving};
 ghost use Rattle.osm_rings.specs.RingList.{AreRingsOf};
 ghost use Rattle.osm_rings.specs.Walked.{AreMarked, AreNoted, IsFresh, IsNoted};

@@ -8,8 +8,8 @@ ghost use Rattle.osm_rings.specs.Numbered.{edge_at};
 ghost use Rattle.osm_rings.specs.Pieces.{AreAllCut, AreRingsAlong, edges_at};
 ghost use Rattle.osm_rings.specs.Ring.{IsRing};
 ghost use Rattle.osm_rings.specs.RingList.{AreRingsOf};
-ghost use Rattle.plane_edges.specs.Multiple.{whole_edges};
-ghost use Rattle.plane_edges.specs.Sided.{IsSided};
+ghost use Rattle.osm_geom.specs.InPlane.Multiple.{whole_edges};
+ghost use Rattle.osm_geom.specs.InPlane.Sided.{IsSided};
 
 use crate::departures::{Departure, are_apart, departures, node_numbers};
 use crate::few_rings::few_rings;

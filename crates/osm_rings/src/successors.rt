@@ -5,7 +5,7 @@ ghost use Rattle.osm_geom.specs.declared.edge.Edge.{Edge};
 ghost use Rattle.osm_geom.specs.Dir.{vector_along};
 ghost use Rattle.osm_geom.specs.Edge.{direction_of, opposite};
 ghost use Rattle.orbits.specs.Orbits.{after};
-ghost use Rattle.plane_edges.specs.Multiple.{edge_times, product_of_denominators, whole_edges};
+ghost use Rattle.osm_geom.specs.InPlane.Multiple.{edge_times, product_of_denominators, whole_edges};
 ghost use Rattle.lists.specs.Member.{In};
 ghost use Rattle.osm_rings.specs.Clockwise.{is_met_before};
 ghost use Rattle.osm_rings.specs.Numbered.{edge_at};

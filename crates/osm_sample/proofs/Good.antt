@@ -5,13 +5,13 @@ use Rattle.std.proofs.lemmas.List.{length-append}
 use Rattle.std.proofs.lemmas.List.Concat.{length-flat_map}
 use Rattle.std.proofs.lemmas.List.Sums.{sum_by-le}
 use Rattle.std.proofs.lemmas.List.Elements.{All-head, All-map, All-tail, All-weaker}
-use Rattle.opl_reader.specs.declared.object.Object.{Object}
-use Rattle.opl_reader.specs.declared.object.Object.TheVariants as object
+use Rattle.osm_elements.specs.declared.object.Object.{Object}
+use Rattle.osm_elements.specs.declared.object.Object.TheVariants as object
 use Rattle.opl_writer.specs.Writable.{IsWritable}
 use Rattle.opl_writer.specs.Written.{ended, object_line, objects_text}
 use Rattle.osm_objects.specs.Object.{is_live}
 use Rattle.osm_job.specs.Whole.{input_limit, longest_line}
-use Rattle.written_inputs.specs.Laws.{WrittenInputsAreRead}
+use Rattle.opl_writer.specs.ReadBack.Laws.{WrittenInputsAreRead}
 use Rattle.osm_sample.specs.Input.{sample_objects}
 use Rattle.osm_sample.specs.Laws.{SampleIsRead}
 use Rattle.osm_sample.proofs.Rising.{rises_apart}

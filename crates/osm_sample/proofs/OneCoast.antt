@@ -1,7 +1,7 @@
 -- The sample has one coastline way.
 use Rattle.std.proofs.Common.{Bool, List, [], ap, ap₂, cond, false, flat_map, filter, map, pos, refl, true, ℕ, ◌*◌, ◌++◌, ◌+◌, ◌∙◌, ◌∷◌, ◌≡◌}
 use Rattle.std.proofs.lemmas.List.Elements.{filter-append}
-use Rattle.opl_reader.specs.declared.object.Object.{Object}
+use Rattle.osm_elements.specs.declared.object.Object.{Object}
 use Rattle.osm_objects.specs.CoastWays.{is_coast_way}
 use Rattle.osm_objects.specs.Object.{id_of}
 use Rattle.osm_sample.specs.Input.{sample_objects}

@@ -5,9 +5,9 @@ use Rattle.std.specs.List.{flat_map}
 use Rattle.std.specs.Ordering.{int_eq}
 use Rattle.std.proofs.lemmas.List.Elements.{All-cons, All-head, All-nil, All-tail}
 use Rattle.std.proofs.lemmas.Bool.{and_parts}
-use Rattle.opl_reader.specs.declared.object.Object.{Object}
-use Rattle.opl_reader.specs.declared.object.ObjectKind.{ObjectKind}
-use Rattle.opl_reader.specs.declared.object.ObjectKind.TheVariants.{Node, Way, Relation}
+use Rattle.osm_elements.specs.declared.object.Object.{Object}
+use Rattle.osm_elements.specs.declared.object.ObjectKind.{ObjectKind}
+use Rattle.osm_elements.specs.declared.object.ObjectKind.TheVariants.{Node, Way, Relation}
 use Rattle.osm_objects.specs.Object.{id_of, is_at, kind_of, ref_of, same_kind}
 use Rattle.osm_objects.specs.Objects.{AreApart, object_at}
 use Rattle.osm_objects.proofs.ObjectsKit.{same_kind-same}

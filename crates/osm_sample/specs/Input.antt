@@ -1,7 +1,7 @@
 -- The sample input: its objects and its bytes.
 use Rattle.std.specs.Prelude.{ℕ, ◌*◌, ◌+◌, List, [], ◌∷◌, ◌++◌, map}
 use Rattle.std.specs.List.{flat_map}
-use Rattle.opl_reader.specs.declared.object.Object.{Object}
+use Rattle.osm_elements.specs.declared.object.Object.{Object}
 use Rattle.opl_writer.specs.Written.{objects_text}
 use Rattle.osm_sample.specs.Numbers.{numbers}
 use Rattle.osm_sample.specs.Objects.{cell_nodes, cell_relation, cell_ways, coast_node_objects, coast_way, forest}

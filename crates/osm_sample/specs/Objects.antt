@@ -2,14 +2,14 @@
 -- from 0, row by row.
 use Rattle.std.specs.Prelude.{ℕ, ◌+◌, ◌*◌, ◌/◌, ◌%◌, true, List, [], ◌∷◌, ◌++◌, map, ℤ, pos, neg_ℤ, ◌-ℤ◌, codes, Option, None}
 use Rattle.osm_lattice.specs.declared.loc.Loc.{Loc}
-use Rattle.opl_reader.specs.CoordinateReading.{latitude, longitude}
-use Rattle.opl_reader.specs.Coordinates.{location_from}
-use Rattle.opl_reader.specs.declared.object.Member.{Member}
-use Rattle.opl_reader.specs.declared.object.Object.{Object}
-use Rattle.opl_reader.specs.declared.object.Object.TheVariants as object
-use Rattle.opl_reader.specs.declared.object.ObjectKind.TheVariants as kind
-use Rattle.opl_reader.specs.declared.object.Ref.{Ref}
-use Rattle.opl_reader.specs.declared.object.Tag.{Tag}
+use Rattle.osm_elements.specs.Places.{latitude, longitude}
+use Rattle.osm_elements.specs.Places.{location_from}
+use Rattle.osm_elements.specs.declared.object.Member.{Member}
+use Rattle.osm_elements.specs.declared.object.Object.{Object}
+use Rattle.osm_elements.specs.declared.object.Object.TheVariants as object
+use Rattle.osm_elements.specs.declared.object.ObjectKind.TheVariants as kind
+use Rattle.osm_elements.specs.declared.object.Ref.{Ref}
+use Rattle.osm_elements.specs.declared.object.Tag.{Tag}
 use Rattle.osm_sample.specs.Numbers.{numbers}
 
 -- ---- nodes

@@ -7,7 +7,7 @@ ghost use Rattle.osm_sample.specs.Objects.{cell_nodes, cell_relation, cell_ways,
 
 use crate::nodes::node_at;
 use crate::ways::{add_way, closed_way, multipolygon};
-use opl_reader::{Members, Object, Tags};
+use osm_elements::{Members, Object, Tags};
 use std::alloc::{AllocError as OutOfMemory, Global};
 
 /// The number of the cells.

@@ -7,7 +7,7 @@ ghost use Rattle.osm_sample.specs.Objects.{cells_end, coast_node_objects, coast_
 use crate::cells::cell_count;
 use crate::nodes::node_at;
 use crate::ways::{add_way, closed_way, multipolygon, one_tag};
-use opl_reader::{Members, Object};
+use osm_elements::{Members, Object};
 use std::alloc::{AllocError as OutOfMemory, Global};
 
 /// The number of the cells' nodes; those of the coast come behind them.

@@ -5,8 +5,8 @@ ghost use Rattle.opl_writer.specs.Written.{ended, object_line, objects_text};
 ghost use Rattle.osm_sample.specs.Input.{sample_text};
 
 use crate::objects::sample_objects;
-use opl_reader::Object;
 use opl_writer::{put_node, put_relation, put_way};
+use osm_elements::Object;
 use std::alloc::{AllocError as OutOfMemory, Global};
 
 /// Adds the line of an object.

@@ -2,7 +2,7 @@
 
 ghost use Rattle.osm_sample.specs.Laws.{SampleHasOneCoast, SampleIsRead};
 
-use written_inputs::written_inputs_are_read;
+use opl_writer::read_back::written_inputs_are_read;
 
 /// Whatever the number of cells from 1 to 100, the input has no bad place and is read as its objects.
 pub fn sample_is_read()

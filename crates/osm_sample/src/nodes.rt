@@ -3,7 +3,7 @@
 ghost use Rattle.std.specs.Prelude.{◌≡◌, ◌≤◌, ◌+◌, IfOk, OnOk, [], ◌∷◌, ◌++◌, ℤ, map};
 ghost use Rattle.osm_sample.specs.Objects.{node_at, place_at};
 
-use opl_reader::{Object, Tags};
+use osm_elements::{Object, Tags};
 use osm_lattice::Loc;
 use std::alloc::Global;
 

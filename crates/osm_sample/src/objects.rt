@@ -7,7 +7,7 @@ ghost use Rattle.osm_sample.specs.Input.{sample_objects};
 
 use crate::cells::{add_cell_nodes, add_cell_relations, add_cell_ways};
 use crate::coast::{add_coast_nodes, coast_way, forest};
-use opl_reader::Object;
+use osm_elements::Object;
 use osm_objects::{AddError, Store};
 use std::alloc::{AllocError as OutOfMemory, Global};
 

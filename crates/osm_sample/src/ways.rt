@@ -4,7 +4,7 @@ ghost use Rattle.std.specs.Prelude.{◌≡◌, ◌≤◌, ◌+◌, ◌++◌, IfO
 ghost use Rattle.osm_sample.specs.Numbers.{numbers};
 ghost use Rattle.osm_sample.specs.Objects.{closed_refs, closed_way, multipolygon, ref_to, tag_of, way_member};
 
-use opl_reader::{Members, Object, ObjectKind, ObjectRef, Ref, Refs, Tags};
+use osm_elements::{Members, Object, ObjectKind, ObjectRef, Ref, Refs, Tags};
 use std::alloc::{AllocError as OutOfMemory, Global};
 
 /// A reference to a node.

@@ -3,20 +3,20 @@ use Rattle.std.proofs.Common.{List, [], pos, ◌≡◌, ◌∙◌, ap, sym, subs
 use Rattle.plane.specs.Scale.{scaled_point}
 use Rattle.plane.specs.Vector.{east}
 use Rattle.plane.proofs.PlaneKit.{point-once}
-use Rattle.winding.specs.EdgeList.{winding_number}
-use Rattle.winding.specs.OddSide.{directed}
-use Rattle.winding.specs.ScaledEdges.{scaled_edges}
-use Rattle.winding.specs.Sided as winding
-use Rattle.winding.proofs.WindingKit.{rational_count, directed_sided}
+use Rattle.plane_lists.specs.Lists.EdgeList.{winding_number}
+use Rattle.plane_lists.specs.Lists.OddSide.{directed}
+use Rattle.plane_lists.specs.Lists.ScaledEdges.{scaled_edges}
+use Rattle.plane_lists.specs.Lists.Sided as winding
+use Rattle.plane_lists.proofs.WindingKit.{rational_count, directed_sided}
 use Rattle.osm_geom.specs.declared.edge.Edge.{Edge}
 use Rattle.osm_lattice.specs.declared.seg.Seg.{Seg}
 use Rattle.osm_lattice.specs.Seg.{seg_cmp}
 use Rattle.lists.specs.Rising.{IsRising}
 use Rattle.osm_segments.specs.Pairs.{conflicts_of}
-use Rattle.plane_edges.specs.Multiple.{whole_edges}
-use Rattle.plane_edges.specs.Sided.{IsSided}
-use Rattle.plane_edges.specs.SidedLaws.{IsLattice}
-use Rattle.plane_edges.proofs.EdgesKit.{common-lattice, lattice_whole}
+use Rattle.osm_geom.specs.InPlane.Multiple.{whole_edges}
+use Rattle.osm_geom.specs.InPlane.Sided.{IsSided}
+use Rattle.osm_geom.specs.InPlane.SidedLaws.{IsLattice}
+use Rattle.osm_geom.proofs.EdgesKit.{common-lattice, lattice_whole}
 use Rattle.osm_sides.specs.Directions.{AreDirected, CountsParity}
 use Rattle.osm_sides.specs.Survivors.{HasEvenNodes, plane_edges_of}
 use Rattle.osm_sides.proofs.PlaneEdges.{lattice_edges, plane_edges}

@@ -1,6 +1,6 @@
 -- Segments have one list of edges that they are directed to.
 use Rattle.std.proofs.Common.{Bool, List, [], ap, cond, false, map, refl, sym, true, ◌∙◌, ◌∷◌, ◌≡◌}
-use Rattle.winding.specs.OddSide as odd_side
+use Rattle.plane_lists.specs.Lists.OddSide as odd_side
 use Rattle.lists.proofs.ListsKit.{map-map, map-same}
 use Rattle.osm_lattice.specs.declared.seg.Seg.{Seg}
 use Rattle.osm_lattice.specs.Seg.{edge_of}

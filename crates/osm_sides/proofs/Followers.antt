@@ -8,9 +8,9 @@ use Rattle.plane.specs.Bit.{bit}
 use Rattle.plane.specs.Edge as plane
 use Rattle.plane.specs.Vector.{Vector, one_at, same_point}
 use Rattle.plane.proofs.PlaneKit.{same_point-refl, same_point-true}
-use Rattle.winding.specs.EdgeList.{IsBalanced}
-use Rattle.winding.specs.OddSide.{directed, directed_edge, runs_up_by_odd_side}
-use Rattle.winding.proofs.WindingKit.{directed_sided}
+use Rattle.plane_lists.specs.Lists.EdgeList.{IsBalanced}
+use Rattle.plane_lists.specs.Lists.OddSide.{directed, directed_edge, runs_up_by_odd_side}
+use Rattle.plane_lists.proofs.WindingKit.{directed_sided}
 use Rattle.lists.specs.Member.{In}
 use Rattle.lists.specs.Rising.{IsRising}
 use Rattle.lists.proofs.ListsKit.{at-in, in-at, in-map, in-map-out}

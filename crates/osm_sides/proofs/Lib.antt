@@ -3,11 +3,14 @@ pub mod DirectedSides
 mod DirectionLists
 mod Ends
 mod Followers
+mod HeightBands
 mod OddSideCounts
 pub mod PlaneEdges
 mod Pushes
 mod SegmentTests
 pub mod SidesKit
+pub mod StabKit
+mod Stabs
 mod StatusEdges
 mod Statuses
 mod Survivors

@@ -3,9 +3,9 @@ use Rattle.std.proofs.Common.{Bool, true, false, not, cond, List, [], ◌∷◌,
 use Rattle.std.specs.List.{count_by}
 use Rattle.plane.specs.Edge.{Edge, same_edge}
 use Rattle.plane.specs.Height.{is_left_of, starts_left_of}
-use Rattle.winding.specs.ConflictFree.{others}
-use Rattle.winding.specs.OddSide as odd_side
-use Rattle.winding.specs.Parity.{is_even}
+use Rattle.plane_lists.specs.Lists.ConflictFree.{others}
+use Rattle.plane_lists.specs.Lists.OddSide as odd_side
+use Rattle.plane_lists.specs.Lists.Parity.{is_even}
 use Rattle.osm_lattice.specs.declared.loc.Loc.{Loc}
 use Rattle.osm_lattice.specs.declared.seg.Seg.{Seg}
 use Rattle.osm_lattice.specs.Loc.{vector_of}

@@ -3,16 +3,16 @@ use Rattle.std.proofs.Common.{Bool, true, false, cond, List, [], ◌∷◌, map,
 use Rattle.plane.specs.Edge as plane
 use Rattle.plane.proofs.PlaneKit.{same_edge_by}
 use Rattle.lists.specs.Member.{In}
-use Rattle.winding.specs.OddSide as odd_side
+use Rattle.plane_lists.specs.Lists.OddSide as odd_side
 use Rattle.osm_geom.specs.declared.edge.Edge.{Edge}
 use Rattle.osm_geom.specs.declared.point.Point.{Point}
 use Rattle.osm_lattice.specs.declared.seg.Seg.{Seg}
 use Rattle.osm_lattice.specs.Loc.{vector_of}
 use Rattle.osm_geom.specs.Point.{den_of}
 use Rattle.osm_lattice.specs.Seg.{edge_of}
-use Rattle.plane_edges.specs.Multiple.{edge_times, edges_times, point_times}
-use Rattle.plane_edges.specs.SidedLaws.{IsLattice}
-use Rattle.plane_edges.proofs.EdgesKit.{lattice_point}
+use Rattle.osm_geom.specs.InPlane.Multiple.{edge_times, edges_times, point_times}
+use Rattle.osm_geom.specs.InPlane.SidedLaws.{IsLattice}
+use Rattle.osm_geom.proofs.EdgesKit.{lattice_point}
 use Rattle.osm_sides.specs.Directions.{first_end, last_end}
 use Rattle.osm_sides.specs.Survivors.{plane_edges_of}
 

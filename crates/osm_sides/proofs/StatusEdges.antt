@@ -8,9 +8,9 @@ use Rattle.plane.specs.Vector.{Vector}
 use Rattle.std.proofs.lemmas.Bool.{and_right}
 use Rattle.plane.proofs.PlaneKit.{same_edge-true, right_itself, right_of}
 use Rattle.plane.proofs.SignKit.{bit-same}
-use Rattle.winding.specs.ConflictFree.{IsConflictFree}
+use Rattle.plane_lists.specs.Lists.ConflictFree.{IsConflictFree}
 use Rattle.lists.specs.Member.{In}
-use Rattle.winding.proofs.WindingKit.{right-level}
+use Rattle.plane_lists.proofs.WindingKit.{right-level}
 
 module _ (p : Vector) (es : List Edge) (free : IsConflictFree es) (e : Edge) (i : In e es) (low : sign (e.from.y -ℤ p.y) ≡ Null) (high : sign (e.to.y -ℤ p.y) ≡ Plus) where
   counts-by : (t : Edge) → In t es → (b : Bool) → same_edge e t ≡ b → (not b && starts_left_of e t) ≡ is_right_above p e t

@@ -11,14 +11,14 @@ use Rattle.plane.specs.Sign.{is_plus, sign}
 use Rattle.plane.specs.Vector.{Vector}
 use Rattle.plane.proofs.PlaneKit.{right_of}
 use Rattle.lists.proofs.ListsKit.{and-left, and-right, at-in, in-filter, in-map, in-passes, in-take, not-false-out, not-true-out, same_get}
-use Rattle.winding.specs.ConflictFree.{IsConflictFree}
+use Rattle.plane_lists.specs.Lists.ConflictFree.{IsConflictFree}
 use Rattle.lists.specs.Member.{In}
-use Rattle.winding.specs.OddSide.{runs_up_by_odd_side}
-use Rattle.winding.specs.Parity.{is_even}
-use Rattle.winding.proofs.WindingKit.{left-span, right_left}
-use Rattle.status.specs.Leaving.{Remains}
-use Rattle.status.specs.Status.{IsStatus}
-use Rattle.status.proofs.StatusKit.{all_is_front, front_is_all, next_enters, next_passes, all_remain, in-front, climbs, counts, parted, rises-among}
+use Rattle.plane_lists.specs.Lists.OddSide.{runs_up_by_odd_side}
+use Rattle.plane_lists.specs.Lists.Parity.{is_even}
+use Rattle.plane_lists.proofs.WindingKit.{left-span, right_left}
+use Rattle.plane_lists.specs.Statuses.Leaving.{Remains}
+use Rattle.plane_lists.specs.Statuses.Status.{IsStatus}
+use Rattle.plane_lists.proofs.StatusKit.{all_is_front, front_is_all, next_enters, next_passes, all_remain, in-front, climbs, counts, parted, rises-among}
 use Rattle.osm_lattice.specs.declared.loc.Loc.{Loc}
 use Rattle.osm_lattice.specs.declared.seg.Seg.{Seg}
 use Rattle.osm_lattice.specs.Loc.{vector_of}

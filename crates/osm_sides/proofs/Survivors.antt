@@ -10,10 +10,10 @@ use Rattle.plane.specs.Conflict.{IsClearOf}
 use Rattle.plane.specs.Edge as plane
 use Rattle.plane.specs.Vector.{Vector, one_at, same_point}
 use Rattle.plane.proofs.PlaneKit.{same_point-refl, same_point-true}
-use Rattle.winding.specs.ConflictFree.{IsConflictFree}
-use Rattle.winding.specs.EdgeList.{IsEvenAtPoints}
+use Rattle.plane_lists.specs.Lists.ConflictFree.{IsConflictFree}
+use Rattle.plane_lists.specs.Lists.EdgeList.{IsEvenAtPoints}
 use Rattle.lists.specs.Member.{EachPair}
-use Rattle.winding.specs.Parity.{IsEven}
+use Rattle.plane_lists.specs.Lists.Parity.{IsEven}
 use Rattle.osm_lattice.specs.declared.conflicts.Kind.{Kind}
 use Rattle.osm_lattice.specs.declared.loc.Loc.{Loc}
 use Rattle.osm_lattice.specs.declared.seg.Seg.{Seg}

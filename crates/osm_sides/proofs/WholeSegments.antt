@@ -1,7 +1,7 @@
 -- Directed segments run along whole segments.
 use Rattle.std.proofs.Common.{◌≡◌, List, [], ◌∷◌, All, Bool, true, false, cond, drop, get_or, length, map, refl, ap, ◌∙◌, arith}
 use Rattle.std.proofs.lemmas.List.Elements.{All-cons, All-nil}
-use Rattle.winding.specs.OddSide as odd_side
+use Rattle.plane_lists.specs.Lists.OddSide as odd_side
 use Rattle.osm_geom.specs.declared.edge.Carrier.TheVariants.{OfSeg}
 use Rattle.osm_geom.specs.declared.edge.Edge.{Edge}
 use Rattle.osm_lattice.specs.declared.loc.Loc.{Loc}

@@ -2,16 +2,16 @@
 use Rattle.std.specs.Prelude.{List, cond, map, pos, ℤ, ◌%◌, ◌≡◌}
 use Rattle.plane.specs.Sign.{Plus, sign}
 use Rattle.plane.specs.Vector.{Vector, east}
-use Rattle.winding.specs.EdgeList.{crossing_count}
-use Rattle.winding.specs.OddSide as odd_side
-use Rattle.winding.specs.ScaledEdges.{scaled_edges}
+use Rattle.plane_lists.specs.Lists.EdgeList.{crossing_count}
+use Rattle.plane_lists.specs.Lists.OddSide as odd_side
+use Rattle.plane_lists.specs.Lists.ScaledEdges.{scaled_edges}
 use Rattle.osm_geom.specs.declared.edge.Carrier.TheVariants.{OfSeg}
 use Rattle.osm_geom.specs.declared.edge.Edge.{Edge}
 use Rattle.osm_geom.specs.declared.point.Point.{Point}
 use Rattle.osm_geom.specs.declared.point.Point.TheVariants.{Lattice}
 use Rattle.osm_lattice.specs.declared.seg.Seg.{Seg}
 use Rattle.osm_lattice.specs.Seg.{edge_of}
-use Rattle.plane_edges.specs.Sided.{signed_count_at}
+use Rattle.osm_geom.specs.InPlane.Sided.{signed_count_at}
 use Rattle.osm_sides.specs.Survivors.{plane_edges_of}
 
 -- where s begins and ends, directed by the odd side among segs

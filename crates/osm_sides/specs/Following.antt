@@ -1,6 +1,6 @@
 -- Directions told by the segments before: where two segments alone end at a node, one leaves it as the other enters it. No public contract cites it.
 use Rattle.std.specs.Prelude.{Bool, List, None, Option, Some, cond, length, slice_index_or, ℕ, ◌<◌, ◌≡◌, ◌≤◌, ◌⊎◌}
-use Rattle.winding.specs.OddSide as odd_side
+use Rattle.plane_lists.specs.Lists.OddSide as odd_side
 use Rattle.osm_lattice.specs.declared.loc.Loc.{Loc}
 use Rattle.osm_lattice.specs.declared.seg.Seg.{Seg}
 use Rattle.osm_lattice.specs.Seg.{edge_of}

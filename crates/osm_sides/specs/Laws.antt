@@ -1,14 +1,14 @@
 -- The laws of directed segments, as statements.
 use Rattle.std.specs.Prelude.{All, List, [], ◌≡◌}
 use Rattle.lists.specs.Rising.{IsRising}
-use Rattle.winding.specs.OddSide.{directed}
+use Rattle.plane_lists.specs.Lists.OddSide.{directed}
 use Rattle.osm_geom.specs.declared.edge.Edge.{Edge}
 use Rattle.osm_lattice.specs.declared.seg.Seg.{Seg}
 use Rattle.osm_lattice.specs.Seg.{seg_cmp}
 use Rattle.osm_geom.specs.WholeSegment.{IsWholeSegment}
 use Rattle.osm_segments.specs.Pairs.{conflicts_of}
-use Rattle.plane_edges.specs.Multiple.{edges_times}
-use Rattle.plane_edges.specs.Sided.{IsSided}
+use Rattle.osm_geom.specs.InPlane.Multiple.{edges_times}
+use Rattle.osm_geom.specs.InPlane.Sided.{IsSided}
 use Rattle.osm_sides.specs.Directions.{AreDirected}
 use Rattle.osm_sides.specs.Survivors.{HasEvenNodes, plane_edges_of}
 

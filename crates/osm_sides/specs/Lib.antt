@@ -1,6 +1,8 @@
-pub mod Survivors
-pub mod SideTests
 pub mod Directions
-pub mod Laws
-pub mod Sweep
 pub mod Following
+pub mod HeightBands
+pub mod Laws
+pub mod SideTests
+pub mod Stabs
+pub mod Survivors
+pub mod Sweep

@@ -4,8 +4,8 @@ use Rattle.std.specs.List.{AllWithin}
 use lib.Signed.{lt_z}
 use Rattle.plane.specs.Vector.{Vector}
 use Rattle.lists.specs.Member.{In}
-use Rattle.status.specs.Leaving.{Remains}
-use Rattle.status.specs.Status.{IsStatus}
+use Rattle.plane_lists.specs.Statuses.Leaving.{Remains}
+use Rattle.plane_lists.specs.Statuses.Status.{IsStatus}
 use Rattle.osm_geom.specs.declared.edge.Carrier.TheVariants.{OfSeg}
 use Rattle.osm_geom.specs.declared.edge.Edge.{Edge}
 use Rattle.osm_lattice.specs.declared.seg.Seg.{Seg}

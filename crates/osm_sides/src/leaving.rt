@@ -2,7 +2,7 @@
 ghost use Rattle.std.specs.Prelude.{◌≡◌, ◌<◌, ◌≤◌, ◌+◌, List, false, filter, length, slice_index_or, true};
 ghost use Rattle.std.specs.List.{AllWithin};
 ghost use Rattle.osm_lattice.specs.declared.seg.Seg.{Seg};
-ghost use Rattle.status.specs.Leaving.{Remains};
+ghost use Rattle.plane_lists.specs.Statuses.Leaving.{Remains};
 ghost use Rattle.osm_segments.specs.Sweep.{AreByEnds};
 ghost use Rattle.osm_sides.specs.Sweep.{AreEnds, EndsNeverFall, NextHasLeft, ends_above};
 

@@ -1,14 +1,16 @@
 //! Directions of segments by the odd side, and how many edges are right of one at a height.
 #![tactic(auto)]
 
+pub mod bands;
 mod directions;
 mod following;
 mod laws;
 mod leaving;
 mod rows;
 mod sides;
+pub mod stab;
 
+pub use crate::stab::{PlainStab, Stab};
 pub use directions::{direct, direct_along};
 pub use laws::{directing_is_sided, directions_are_one, directions_exist};
-pub use osm_stab::{PlainStab, Stab};
 pub use sides::is_left_of;

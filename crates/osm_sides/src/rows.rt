@@ -3,8 +3,8 @@ ghost use Rattle.std.specs.Prelude.{◌≡◌, ◌<◌, ◌≤◌, ◌-◌, [], 
 ghost use Rattle.std.specs.List.{AllWithin};
 ghost use Rattle.std.specs.List.Sorted.{IsPartitionedBy};
 ghost use Rattle.plane.specs.Vector.{Vector};
-ghost use Rattle.winding.specs.Parity.{is_even};
-ghost use Rattle.status.specs.Status.{IsStatus};
+ghost use Rattle.plane_lists.specs.Lists.Parity.{is_even};
+ghost use Rattle.plane_lists.specs.Statuses.Status.{IsStatus};
 ghost use Rattle.osm_lattice.specs.declared.seg.Seg.{Seg};
 ghost use Rattle.osm_lattice.specs.Loc.{vector_of};
 ghost use Rattle.osm_lattice.specs.Seg.{edge_of, seg_cmp};

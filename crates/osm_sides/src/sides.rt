@@ -1,7 +1,7 @@
 //! The tests that the odd side is made of: which segments are left or right of a point or a segment, and how many.
 
 ghost use Rattle.std.specs.Prelude.{◌≡◌};
-ghost use Rattle.winding.specs.OddSide.{runs_up_by_odd_side};
+ghost use Rattle.plane_lists.specs.Lists.OddSide.{runs_up_by_odd_side};
 ghost use Rattle.osm_lattice.specs.Seg.{edge_of};
 ghost use Rattle.osm_sides.specs.Survivors.{plane_edges_of};
 ghost use Rattle.osm_sides.specs.SideTests.{span, left_of, starts_left, level, same, forks_right, counted, left_count, right_count};

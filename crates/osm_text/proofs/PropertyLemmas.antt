@@ -15,7 +15,7 @@ use Rattle.serde_json.specs.Written as written
 use Rattle.serde_json.specs.declared.value.Value.{Value, the_lemmas}
 use Rattle.serde_json.specs.declared.value.Value as value
 use Rattle.serde_json.proofs.Views.{Entry, members_view-insert_entry, view-lookup}
-use Rattle.opl_reader.specs.declared.object.Tag.{Tag}
+use Rattle.osm_elements.specs.declared.object.Tag.{Tag}
 use Rattle.osm_text.specs.Members.{tag_members}
 use Rattle.osm_text.specs.Properties.{by_key, properties_text, put_tag, string_text, tag_member_text, with_tag}
 use Rattle.osm_text.specs.Rows.{led_by_byte}

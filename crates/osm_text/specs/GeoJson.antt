@@ -1,7 +1,7 @@
 -- Features of GeoJSON (RFC 7946), their coordinates in degrees.
 use Rattle.std.specs.Prelude.{ℕ, List, [], ◌++◌, Option, Some, None, map, take, codes}
 use Rattle.std.specs.List.{join_with_byte}
-use Rattle.opl_reader.specs.declared.object.Tag.{Tag}
+use Rattle.osm_elements.specs.declared.object.Tag.{Tag}
 use Rattle.osm_lattice.specs.declared.loc.Loc.{Loc}
 use Rattle.osm_text.specs.declared.feature_id.FeatureId.{FeatureId}
 use Rattle.osm_text.specs.declared.feature_id.FeatureId.TheVariants.{Counter, Area}

@@ -1,7 +1,7 @@
 -- Ids of features.
 use Rattle.std.specs.Prelude.{ℕ, List, ◌++◌, codes, decimal, Option, None, Some, option_map}
 use Rattle.std.specs.Fmt.{signed_decimal}
-use Rattle.opl_reader.specs.declared.object.ObjectRef.{ObjectRef}
+use Rattle.osm_elements.specs.declared.object.ObjectRef.{ObjectRef}
 use Rattle.osm_objects.specs.declared.area.UniqueId.{UniqueId}
 use Rattle.osm_objects.specs.declared.area.UniqueId.TheVariants as unique
 use Rattle.osm_objects.specs.AreaIds.{area_id}

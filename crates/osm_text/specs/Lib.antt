@@ -1,3 +1,4 @@
+pub mod Coast
 pub mod Feature
 pub mod GeoJson
 pub mod Id
@@ -7,6 +8,7 @@ pub mod Paths
 pub mod Piece
 pub mod PieceSteps
 pub mod Properties
+pub mod Report
 pub mod Rounded
 pub mod RoundedSteps
 pub mod Rows

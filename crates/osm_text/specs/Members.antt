@@ -1,7 +1,7 @@
 -- Tags as the members of an object of JSON, their values strings. No public contract cites it.
 use Rattle.std.specs.Prelude.{List, [], ◌∷◌}
 use Rattle.serde_json.specs.Data.{string, Members, no_members, member}
-use Rattle.opl_reader.specs.declared.object.Tag.{Tag}
+use Rattle.osm_elements.specs.declared.object.Tag.{Tag}
 
 abbrev pub tag_members : List Tag → Members
 tag_members [] = no_members

@@ -5,7 +5,7 @@ use Rattle.std.specs.List.{find, join_with_byte, list_any}
 use Rattle.std.specs.Ordering.{nat_cmp, match_ordering}
 use Rattle.std.specs.declared.cmp.Ordering.TheVariants.{Less}
 use Rattle.std.specs.Cmp.Lexicographic.{slice_cmp}
-use Rattle.opl_reader.specs.declared.object.Tag.{Tag}
+use Rattle.osm_elements.specs.declared.object.Tag.{Tag}
 
 -- a tag put before the first one whose key is above its own
 abbrev pub put_tag : Tag → List Tag → List Tag

@@ -9,7 +9,7 @@ ghost use Rattle.osm_text.specs.GeoJson.{feature_json, id_member, multipolygon_j
 use crate::feature_id::{FeatureId, put_id_before, put_id_member};
 use crate::notation::{Notation, put_polygons};
 use crate::properties::put_properties;
-use opl_reader::Tags;
+use osm_elements::Tags;
 use osm_nest::Polygons;
 use osm_notation::put_tag;
 use std::alloc::{AllocError as OutOfMemory, Global};

@@ -5,7 +5,7 @@ ghost use Rattle.osm_text.specs.Feature.{id_before};
 ghost use Rattle.osm_text.specs.GeoJson.{id_member};
 ghost use Rattle.osm_text.specs.Id.{feature_id, id_text};
 
-use opl_reader::ObjectRef;
+use osm_elements::ObjectRef;
 use osm_notation::put_number;
 use osm_objects::{UniqueId, area_id};
 use std::alloc::AllocError as OutOfMemory;

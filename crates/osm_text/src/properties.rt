@@ -1,13 +1,13 @@
 //! The object of an area's tags in GeoJSON.
 ghost use Rattle.std.specs.Prelude.{◌≡◌, ◌++◌, List, ℕ, IfOk, OnOk, OnErr, string_bytes};
 ghost use Rattle.serde_json.specs.View.{members_view};
-ghost use Rattle.opl_reader.specs.declared.object.Tag.{Tag};
-ghost use Rattle.opl_reader.specs.Seen.{tag_seen};
+ghost use Rattle.osm_elements.specs.declared.object.Tag.{Tag};
+ghost use Rattle.osm_elements.specs.Seen.{tag_seen};
 ghost use Rattle.osm_notation.specs.Kept.{KeepsFront};
 ghost use Rattle.osm_text.specs.Members.{tag_members};
 ghost use Rattle.osm_text.specs.Properties.{KeysRise, by_key, first_tag_with, properties_text, with_tag};
 
-use opl_reader::{TagRef, Tags};
+use osm_elements::{TagRef, Tags};
 use serde_json::{Map, Value};
 use std::alloc::{AllocError as OutOfMemory, Global};
 

@@ -2,7 +2,7 @@
 
 use crate::reading::store_of;
 use area_locate::{Hit, locate};
-use opl_reader::ObjectKind;
+use osm_elements::ObjectKind;
 use osm_lattice::{Loc, Locs};
 use osm_objects::Choice;
 use std::alloc::Global;

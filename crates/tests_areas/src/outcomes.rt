@@ -1,8 +1,8 @@
 //! For the tests: outcomes of candidates in words.
 
 use crate::reading::add_lines;
-use opl_reader::{ObjectKind, ObjectRef};
 use osm_area::{Notes, Outcome, assemble};
+use osm_elements::{ObjectKind, ObjectRef};
 use osm_geom::{Loc, Point, Seg};
 use osm_nest::Polygon;
 use osm_objects::{Note, Problem, Store};

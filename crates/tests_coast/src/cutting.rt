@@ -1,6 +1,6 @@
 //! For the tests: edges along closed lines, and whether edges run along them.
 ghost use Rattle.std.specs.Prelude.{IfOk};
-ghost use Rattle.plane_edges.specs.Sided.{IsSided};
+ghost use Rattle.osm_geom.specs.InPlane.Sided.{IsSided};
 
 use osm_geom::{Edges, Loc, Point, Seg};
 use osm_segments::{conflicts, odd_nodes, survivors};

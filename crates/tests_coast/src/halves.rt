@@ -1,6 +1,6 @@
 //! Halves of small lists of edges, printed as the closed lines that they run along.
 ghost use Rattle.std.specs.Prelude.{IfOk};
-ghost use Rattle.plane_edges.specs.Sided.{IsSided};
+ghost use Rattle.osm_geom.specs.InPlane.Sided.{IsSided};
 
 use crate::cutting::{directed, run_along};
 use coast_split::half;

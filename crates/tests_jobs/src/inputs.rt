@@ -1,11 +1,11 @@
 //! The inputs of a job, and which objects its options take for candidates.
 
-use opl_reader::ObjectKind;
-use osm_host::MemoryHost;
+use osm_elements::ObjectKind;
 use osm_input::InputFault;
 use osm_job::{Ended, choice_of, read_both};
 use std::alloc::{AllocError as OutOfMemory, Global};
 use std::test::Fail;
+use tests_host::MemoryHost;
 
 /// A host with inputs of objects and a text, whose call of this number fails, counted from 1.
 fn host_of(alloc: Global, fail: u64) -> Result<MemoryHost, OutOfMemory> {

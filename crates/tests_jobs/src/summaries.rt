@@ -1,11 +1,11 @@
 //! Summaries of samples, against the numbers that their description gives: of N times N cells, N N + 2 areas, 2 N N + 1
 //! polygons, 4 N N + 1 rings, no problem, and one piece each of land and of water.
 
-use job_sample::{Summary, sample, sample_summary};
-use osm_host::MemoryHost;
+use job_small::sample::{Summary, sample, sample_summary};
 use osm_job::Ended;
 use osm_words::SampleSettings;
 use std::test::Fail;
+use tests_host::MemoryHost;
 
 #[test]
 fn sample_counts(rt: HostRuntime) -> Result<(), Fail> {

@@ -1,11 +1,11 @@
 //! Verdicts on texts, and calls that fail. What is right is taken from the formats, by hand.
 
-use job_certify::certify_text;
-use osm_host::MemoryHost;
+use job_ask::certify::certify_text;
 use osm_job::Ended;
 use osm_words::{CertifySettings, UniqueId};
 use std::alloc::{AllocError as OutOfMemory, Global};
 use std::test::Fail;
+use tests_host::MemoryHost;
 
 /// Two squares that cross at two common nodes.
 const CRESCENTS: &str =

@@ -1,10 +1,11 @@
 //! The real files, and a host over memory call by call.
 
-use osm_host::{Faults, Host, MemoryHost, StdHost, write_all_out};
+use osm_host::{Faults, Host, StdHost, write_all_out};
 use std::alloc::Global;
 use std::fs;
 use std::process::Abort;
 use std::test::Fail;
+use tests_host::MemoryHost;
 
 /// Whether an input can be opened, and how many bytes a first and a second read give; None for a read that fails.
 fn read_twice(host: &mut StdHost, name: &str) -> (bool, [Option<usize>; 2]) {

@@ -2,7 +2,8 @@
 
 ghost use Rattle.std.specs.Prelude.{◌<◌, ◌≤◌, ◌+◌, ◌^◌, length};
 
-use opl_reader::{FaultKind, FeedError, Lines, Object};
+use opl_reader::{FaultKind, FeedError, Lines};
+use osm_elements::Object;
 use std::alloc::Global;
 use std::test::*;
 

@@ -1,6 +1,6 @@
 //! Decimals and written strings against the values of the formats.
 
-use opl_reader::Text;
+use osm_elements::Text;
 use osm_notation::{put_decimal, written};
 use std::alloc::{AllocError as OutOfMemory, Global};
 use std::test::Fail;

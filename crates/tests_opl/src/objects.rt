@@ -1,7 +1,8 @@
 //! Lines that are read, and lines that are bad.
 
 use crate::telling::tells;
-use opl_reader::{Object, read_decimal, read_line};
+use opl_reader::{read_decimal, read_line};
+use osm_elements::Object;
 use std::alloc::Global;
 use std::test::*;
 

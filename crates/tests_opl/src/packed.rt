@@ -1,7 +1,7 @@
 //! References and tags, which are held in few bytes.
 
 use crate::telling::tells;
-use opl_reader::{Ref, Refs, Tags};
+use osm_elements::{Ref, Refs, Tags};
 use osm_lattice::Loc;
 use std::alloc::Global;
 use std::test::*;

@@ -1,7 +1,7 @@
 //! Texts of points.
 
+use osm_input::points::{PointsError, read_points};
 use osm_lattice::Loc;
-use osm_points::{PointsError, read_points};
 use std::alloc::Global;
 use std::test::Fail;
 

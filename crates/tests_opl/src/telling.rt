@@ -1,6 +1,7 @@
 //! For the tests: what a line of OPL tells, in words.
 
-use opl_reader::{LineError, Members, Object, ObjectKind, Refs, Tags, fault_text, read_line};
+use opl_reader::{LineError, fault_text, read_line};
+use osm_elements::{Members, Object, ObjectKind, Refs, Tags};
 use osm_lattice::Loc;
 use std::alloc::{AllocError as OutOfMemory, Global};
 

@@ -1,7 +1,8 @@
 //! Written lines against lines of the formats.
 
-use opl_reader::{Object, Ref, Refs, Tags, read_line};
+use opl_reader::read_line;
 use opl_writer::{put_node, put_relation, put_way};
+use osm_elements::{Object, Ref, Refs, Tags};
 use osm_lattice::Loc;
 use std::alloc::{AllocError as OutOfMemory, Global};
 use std::test::Fail;

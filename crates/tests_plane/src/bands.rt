@@ -1,9 +1,9 @@
 //! Spans and edges at a height.
 
 use crate::reading::{at, edge, edges, has_counts, height};
-use osm_bands::{BandStab, Bands, Span};
 use osm_geom::{Edges, Point};
-use osm_stab::Stab;
+use osm_sides::bands::{BandStab, Bands, Span};
+use osm_sides::stab::Stab;
 use std::alloc::{AllocError as OutOfMemory, Global};
 use std::test::Fail;
 

@@ -1,7 +1,7 @@
 //! For the tests: locations, segments, edges and numbers out of words.
 
 use osm_geom::{Edge, Edges, Loc, Part, Point, Seg, spans_height};
-use osm_stab::Stab;
+use osm_sides::stab::Stab;
 use std::alloc::{AllocError as OutOfMemory, Global};
 use std::test::Fail;
 

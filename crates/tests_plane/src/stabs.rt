@@ -2,7 +2,7 @@
 
 use crate::reading::{edges, has_counts, height};
 use osm_geom::{Point, spans_height};
-use osm_stab::{PlainStab, Stab};
+use osm_sides::stab::{PlainStab, Stab};
 use std::alloc::Global;
 use std::test::Fail;
 

@@ -1,6 +1,6 @@
 //! For the tests: sided edges along closed lines, and whether rings run along such lines.
 ghost use Rattle.std.specs.Prelude.{IfOk};
-ghost use Rattle.plane_edges.specs.Sided.{IsSided};
+ghost use Rattle.osm_geom.specs.InPlane.Sided.{IsSided};
 
 use coast_split::half;
 use osm_geom::{Axis, Cut, Edge, Edges, Loc, Point, Seg, Side};

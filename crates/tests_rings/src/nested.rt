@@ -1,6 +1,6 @@
 //! The polygons of ring lists: which ring lies under which. Each list is nested alone, where each inner ring's encloser is searched, and
 //! beside a ring with nine inner ones, where all are found in one sweep.
-ghost use Rattle.plane_edges.specs.Sided.{IsSided};
+ghost use Rattle.osm_geom.specs.InPlane.Sided.{IsSided};
 
 use crate::drawing::{begins_along, sided};
 use osm_geom::Edge;

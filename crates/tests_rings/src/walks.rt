@@ -1,5 +1,5 @@
 //! The rings that edges are cut into, at nodes that rings touch, of few edges and of more, and at fractional points.
-ghost use Rattle.plane_edges.specs.Sided.{IsSided};
+ghost use Rattle.osm_geom.specs.InPlane.Sided.{IsSided};
 
 use crate::drawing::{directed, runs_along, segs, sided};
 use osm_geom::{Edge, Loc};

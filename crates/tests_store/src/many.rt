@@ -1,7 +1,7 @@
 //! A store of many ways and relations.
 
 use crate::reading::{RELATION, WAY, at, refusal};
-use opl_reader::{Members, Object, ObjectRef, Ref, Refs, Tags};
+use osm_elements::{Members, Object, ObjectRef, Ref, Refs, Tags};
 use osm_objects::Store;
 use std::alloc::Global;
 use std::test::Fail;

@@ -1,6 +1,7 @@
 //! For the tests: objects of lines, stores of them, and tags and locations.
 
-use opl_reader::{Object, ObjectKind, ObjectRef, Tags, read_line};
+use opl_reader::read_line;
+use osm_elements::{Object, ObjectKind, ObjectRef, Tags};
 use osm_lattice::Loc;
 use osm_objects::{AddError, Store};
 use std::alloc::Global;

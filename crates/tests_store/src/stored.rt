@@ -1,7 +1,7 @@
 //! What a store takes, and the locations that it knows.
 
 use crate::reading::{NODE, RELATION, WAY, at, degrees, object_of, refusal, store_of};
-use opl_reader::{Object, ObjectRef};
+use osm_elements::{Object, ObjectRef};
 use osm_lattice::Loc;
 use osm_objects::Store;
 use std::alloc::Global;

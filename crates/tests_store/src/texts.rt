@@ -1,9 +1,10 @@
 //! An input that is read as one text: its end, its limit, and a failed read at each place.
 
-use osm_host::{Host, MemoryHost};
+use osm_host::Host;
 use osm_input::{TextError, read_text};
 use std::alloc::{AllocError as OutOfMemory, Global};
 use std::test::Fail;
+use tests_host::MemoryHost;
 
 /// So many bytes, not all alike.
 fn bytes_of(alloc: Global, count: usize) -> Result<Vec<u8>, OutOfMemory> {

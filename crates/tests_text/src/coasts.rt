@@ -1,9 +1,9 @@
 //! Lines of a coastline report against the values of the formats.
 
-ghost use Rattle.osm_report.specs.Coast.{HasItsKind};
+ghost use Rattle.osm_text.specs.Coast.{HasItsKind};
 
 use osm_geom::{Loc, Seg, conflict};
-use osm_report::{CoastLine, coast_line, is_error};
+use osm_text::{CoastLine, coast_line, is_error};
 use std::alloc::Global;
 use std::test::Fail;
 

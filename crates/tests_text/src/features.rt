@@ -1,7 +1,7 @@
 //! Features against the values of the formats.
 
 use crate::shapes::{Sides, polygon_of};
-use opl_reader::Tags;
+use osm_elements::Tags;
 use osm_nest::Polygons;
 use osm_text::{FeatureId, feature_json, feature_text};
 use std::alloc::Global;

@@ -1,10 +1,10 @@
 //! Report lines against the values of the formats.
 ghost use Rattle.osm_objects.specs.Problem.{IsOfItsKind};
 
-use opl_reader::{ObjectKind, ObjectRef};
+use osm_elements::{ObjectKind, ObjectRef};
 use osm_geom::{Loc, Seg, conflict};
 use osm_objects::{Note, Problem};
-use osm_report::{note_line, problem_line};
+use osm_text::{note_line, problem_line};
 use std::alloc::Global;
 use std::test::Fail;
 

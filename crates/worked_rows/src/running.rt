@@ -2,9 +2,9 @@
 
 use crate::form::{BlockFault, Field, find, first_word};
 use osm_cli::{Ended, command_of, run, status};
-use osm_host::MemoryHost;
 use std::alloc::{AllocError as OutOfMemory, Global};
 use std::fmt::Write;
+use tests_host::MemoryHost;
 
 /// The host's room for what is written.
 const ROOM: usize = 65536;

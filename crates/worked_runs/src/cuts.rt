@@ -1,9 +1,9 @@
 //! A run over each front of an input.
 
 use osm_cli::{Ended, run};
-use osm_host::MemoryHost;
 use std::alloc::{AllocError as OutOfMemory, Global};
 use std::test::Fail;
+use tests_host::MemoryHost;
 
 /// A village as osmium writes it: a boundary of two ways, a label, and a node that was deleted.
 const VILLAGE: &str =

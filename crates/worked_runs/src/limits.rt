@@ -1,10 +1,12 @@
 //! The limits of reading: the most bytes of an input, and those of a line.
 
-use opl_reader::{FaultKind, LineFault, ObjectKind};
+use opl_reader::{FaultKind, LineFault};
 use osm_cli::{InputFault, ReadError, read_all};
-use osm_host::{Host, MemoryHost};
+use osm_elements::ObjectKind;
+use osm_host::Host;
 use std::alloc::{AllocError as OutOfMemory, Global};
 use std::test::Fail;
+use tests_host::MemoryHost;
 
 /// A host that holds an input, where the call of this number fails.
 fn host_of(alloc: Global, input: &str, fail: u64) -> Result<MemoryHost, OutOfMemory> {

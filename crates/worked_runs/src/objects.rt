@@ -1,6 +1,7 @@
 //! The objects of an input that comes in pieces of any size.
 
-use opl_reader::{FeedError, Lines, Object};
+use opl_reader::{FeedError, Lines};
+use osm_elements::Object;
 use std::alloc::{AllocError as OutOfMemory, Global};
 use std::test::Fail;
 

@@ -1,7 +1,7 @@
 -- What is found among the areas is what is found among the candidates.
 use Rattle.std.proofs.Common.{List, map, ◌≡◌, ◌∙◌, subst, sym}
 use Rattle.std.proofs.lemmas.Result.{IfOk-weaker}
-use Rattle.opl_reader.specs.declared.object.ObjectRef.{ObjectRef}
+use Rattle.osm_elements.specs.declared.object.ObjectRef.{ObjectRef}
 use Rattle.osm_objects.specs.Candidates.{candidates}
 use Rattle.area_locate.specs.declared.area.Area.{Area}
 use Rattle.area_locate.specs.declared.found.Found.{Found}

@@ -1,5 +1,5 @@
 use Rattle.std.proofs.Common.{◌≡◌, ◌++◌, filter, is_none, map}
-use Rattle.opl_reader.specs.declared.object.Ref.{Ref}
+use Rattle.osm_elements.specs.declared.object.Ref.{Ref}
 use Rattle.osm_objects.specs.Objects.{place_of}
 use Rattle.coast_join.proofs.input.unlocated.Given as goal
 

@@ -8,7 +8,7 @@ use Rattle.osm_segments.specs.Counts.{AreSurvivors}
 use Rattle.osm_segments.specs.Pairs.{conflicts_of}
 use Rattle.osm_sides.specs.Directions.{AreDirected, CountsParity}
 use Rattle.osm_sides.specs.Survivors.{HasEvenNodes}
-use Rattle.plane_edges.specs.Sided.{IsSided, signed_count_at}
+use Rattle.osm_geom.specs.InPlane.Sided.{IsSided, signed_count_at}
 use Rattle.coast_sides.specs.Land.{parity_at}
 use Rattle.coast_sides.specs.Segments.{all_segments}
 use Rattle.coast_sides.proofs.Clearing.{clear_left, left_parity, none_conflict}

@@ -7,7 +7,7 @@ use Rattle.osm_lattice.specs.declared.seg.Seg.{Seg}
 use Rattle.osm_segments.specs.Counts.{AreSurvivors}
 use Rattle.osm_sides.specs.Directions.{AreDirected, CountsParity}
 use Rattle.osm_sides.specs.Survivors.{HasEvenNodes}
-use Rattle.plane_edges.specs.Sided.{IsSided, signed_count_at}
+use Rattle.osm_geom.specs.InPlane.Sided.{IsSided, signed_count_at}
 use Rattle.coast_sides.specs.Land.{parity_at}
 use Rattle.coast_sides.proofs.Clearing.{left_parity}
 use Rattle.coast_sides.proofs.watering.water_edges.Goals as goal

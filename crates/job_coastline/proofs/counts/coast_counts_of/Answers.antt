@@ -1,6 +1,6 @@
 -- The counts are those of what was found, as it is written.
 use Rattle.std.proofs.Common.{◌∙◌, ◌++◌, List, ap₂, ap, subst, sym}
-use Rattle.osm_report.specs.declared.coast.CoastLine.{CoastLine}
+use Rattle.osm_text.specs.declared.coast.CoastLine.{CoastLine}
 use Rattle.osm_words.specs.Answers.{coastline_seen}
 use Rattle.job_coastline.specs.Coast.{coast_seen}
 use Rattle.job_coastline.specs.Counts.{AreCoastCounts}

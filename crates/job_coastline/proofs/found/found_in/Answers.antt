@@ -1,8 +1,8 @@
 -- What was found is right, by the steps; or there are too many leaves.
 use Rattle.std.proofs.Common.{◌∙◌, ◌++◌, All, Bool, List, ap₂, ap, subst, sym}
 use Rattle.osm_job.specs.declared.ended.Ended.{Ended}
-use Rattle.osm_report.specs.Coast.{HasItsKind}
-use Rattle.osm_report.specs.declared.coast.CoastLine.{CoastLine}
+use Rattle.osm_text.specs.Coast.{HasItsKind}
+use Rattle.osm_text.specs.declared.coast.CoastLine.{CoastLine}
 use Rattle.osm_job.specs.Sent.{lines_text}
 use Rattle.osm_nest.specs.declared.polygon.Polygon.{Polygon}
 use Rattle.osm_words.specs.Answers.{coastline_seen}

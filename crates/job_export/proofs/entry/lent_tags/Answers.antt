@@ -1,6 +1,6 @@
 use Rattle.std.proofs.Common.{◌≡◌, ◌∙◌, FitsSigned, ap, rules, subst, sym, w64}
 use Rattle.std.proofs.lemmas.Int.{to_z-of_z}
-use Rattle.opl_reader.specs.declared.object.ObjectKind.{ObjectKind}
+use Rattle.osm_elements.specs.declared.object.ObjectKind.{ObjectKind}
 use Rattle.osm_objects.specs.Objects.{object_at, way_of}
 use Rattle.osm_objects.specs.Views.{way_seen}
 use Rattle.osm_area.specs.Feature.{feature_tags}

@@ -1,7 +1,7 @@
 use Rattle.std.proofs.Common.{◌≡◌, ◌++◌, take}
 use Rattle.std.specs.List.{flat_map}
 use Rattle.osm_job.specs.Sent.{lines_text}
-use Rattle.osm_report.specs.Report.{note_line}
+use Rattle.osm_text.specs.Report.{note_line}
 use Rattle.job_export.proofs.entry.push_notes.Given as goal
 
 abbrev pub invariant-loop-note : goal.invariant-loop-note

@@ -1,5 +1,5 @@
 use Rattle.std.proofs.Common.{◌∙◌, List, Ok, sym, ap}
-use Rattle.opl_reader.specs.declared.object.Member.{Member}
+use Rattle.osm_elements.specs.declared.object.Member.{Member}
 use Rattle.opl_reader.proofs.MemberLemmas.{plain_added}
 use Rattle.opl_reader.proofs.items.add_member.Goals as goal
 

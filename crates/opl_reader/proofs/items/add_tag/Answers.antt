@@ -1,5 +1,5 @@
 use Rattle.std.proofs.Common.{◌∙◌, List, Ok, sym, ap}
-use Rattle.opl_reader.specs.declared.object.Tag.{Tag}
+use Rattle.osm_elements.specs.declared.object.Tag.{Tag}
 use Rattle.opl_reader.proofs.TagLemmas.{plain_kept}
 use Rattle.opl_reader.proofs.items.add_tag.Goals as goal
 

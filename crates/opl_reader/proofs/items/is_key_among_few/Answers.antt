@@ -1,7 +1,7 @@
 use Rattle.std.proofs.Common.{◌-◌, ◌∙◌, refl, sym, ap, arith, take, List}
 use Rattle.std.specs.List.{list_any}
-use Rattle.opl_reader.specs.declared.object.Tag.{Tag}
-use Rattle.opl_reader.specs.Seen.{tag_seen}
+use Rattle.osm_elements.specs.declared.object.Tag.{Tag}
+use Rattle.osm_elements.specs.Seen.{tag_seen}
 use Rattle.opl_reader.proofs.TagLemmas.{has_this, few_none, few_hit, few_miss, few_end}
 use Rattle.opl_reader.proofs.items.is_key_among_few.Goals as goal
 

@@ -1,7 +1,7 @@
 use Rattle.std.proofs.Common.{◌∙◌, ◌+◌, List, Ok, ap, length, subst, sym}
 use Rattle.std.specs.Option.{option_copied}
 use Rattle.std.proofs.lemmas.Result.{err_from_is_err_and}
-use Rattle.opl_reader.specs.declared.object.Member.{Member}
+use Rattle.osm_elements.specs.declared.object.Member.{Member}
 use Rattle.opl_reader.specs.ItemReading.{member_at, members_at}
 use Rattle.opl_reader.proofs.ItemLemmas.{ItemsTo, begins-all, goes_on, fails, is_read}
 use Rattle.opl_reader.proofs.MemberLemmas.{added_from, not_added}

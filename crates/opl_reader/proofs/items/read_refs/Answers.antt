@@ -1,12 +1,12 @@
 use Rattle.std.proofs.Common.{◌≡◌, ◌∙◌, ◌+◌, List, Option, Some, None, Ok, length, refl, sym, ap}
 use Rattle.std.specs.Prelude.{slice_get}
 use Rattle.std.specs.Option.{option_copied, unwrap_or}
-use Rattle.opl_reader.specs.declared.object.Ref.{Ref}
+use Rattle.osm_elements.specs.declared.object.Ref.{Ref}
 use Rattle.opl_reader.specs.declared.fault.FaultKind.TheVariants.{BadReference}
 use Rattle.opl_reader.specs.ItemReading.{ref_spelled, ref_at, refs_at}
 use Rattle.opl_reader.specs.Steps.{left_len}
 use Rattle.opl_reader.proofs.ItemLemmas.{begins-all, goes_on, stops, is_read, no_ref, one_ref}
-use Rattle.opl_reader.proofs.HeldLemmas.{first_more}
+use Rattle.osm_elements.proofs.ElementsKit.{first_more}
 use Rattle.opl_reader.proofs.items.read_refs.Goals as goal
 
 pub loop-left-init : goal.loop-left-init

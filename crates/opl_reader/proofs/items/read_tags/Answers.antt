@@ -1,5 +1,5 @@
 use Rattle.std.proofs.Common.{◌∙◌, ◌++◌, ◌∷◌, [], List, sym, ap}
-use Rattle.opl_reader.specs.declared.object.Tag.{Tag}
+use Rattle.osm_elements.specs.declared.object.Tag.{Tag}
 use Rattle.opl_reader.specs.ItemReading.{tag_at}
 use Rattle.opl_reader.specs.Steps.{kept_with}
 use Rattle.opl_reader.proofs.ItemLemmas.{begins-all, goes_on}

@@ -1,6 +1,6 @@
 use Rattle.std.proofs.Common.{◌≡◌, List, drop}
 use Rattle.std.specs.Option.{option_copied}
-use Rattle.opl_reader.specs.declared.object.Tag.{Tag}
+use Rattle.osm_elements.specs.declared.object.Tag.{Tag}
 use Rattle.opl_reader.specs.Items.{first_of_each}
 use Rattle.opl_reader.specs.ItemReading.{tag_at}
 use Rattle.opl_reader.specs.Steps.{left_len, HasKeysOf}

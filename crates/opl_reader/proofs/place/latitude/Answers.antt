@@ -1,8 +1,8 @@
 use Rattle.std.proofs.Common.{◌≡◌, ◌∙◌, sym, ap, rules, w32, w64, to_z, of_z}
 use Rattle.std.specs.Prelude.{FitsSigned, option_and_then}
 use Rattle.std.proofs.lemmas.Int.{to_z-of_z}
-use Rattle.opl_reader.specs.CoordinateReading.{latitude}
-use Rattle.opl_reader.proofs.PlaceLaws.{latitude-at}
+use Rattle.osm_elements.specs.Places.{latitude}
+use Rattle.osm_elements.proofs.ElementsKit.{latitude-at}
 use Rattle.opl_reader.proofs.place.latitude.Goals as goal
 
 pub returns : goal.returns

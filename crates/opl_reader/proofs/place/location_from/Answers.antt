@@ -1,4 +1,4 @@
-use Rattle.opl_reader.proofs.PlaceLaws.{place-at, longitude-held, latitude-held}
+use Rattle.osm_elements.proofs.ElementsKit.{place-at, longitude-held, latitude-held}
 use Rattle.opl_reader.proofs.place.location_from.Goals as goal
 
 pub returns-in-Some-Some : goal.returns-in-Some-Some

@@ -1,8 +1,8 @@
 use Rattle.std.proofs.Common.{◌≡◌, ◌∙◌, sym, ap, rules, w32, w64, to_z, of_z}
 use Rattle.std.specs.Prelude.{FitsSigned, option_and_then}
 use Rattle.std.proofs.lemmas.Int.{to_z-of_z}
-use Rattle.opl_reader.specs.CoordinateReading.{longitude}
-use Rattle.opl_reader.proofs.PlaceLaws.{longitude-at}
+use Rattle.osm_elements.specs.Places.{longitude}
+use Rattle.osm_elements.proofs.ElementsKit.{longitude-at}
 use Rattle.opl_reader.proofs.place.longitude.Goals as goal
 
 pub returns : goal.returns

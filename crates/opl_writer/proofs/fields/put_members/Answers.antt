@@ -1,5 +1,5 @@
 use Rattle.std.proofs.Common.{refl, ◌++◌, ◌∙◌, [], ◌∷◌, ap, map, List, ℕ}
-use Rattle.opl_reader.specs.declared.object.Member.{Member}
+use Rattle.osm_elements.specs.declared.object.Member.{Member}
 use Rattle.osm_notation.proofs.KeptTexts.{kept_as_is, kept_at_fault, kept_further, kept_through}
 use Rattle.opl_writer.specs.Written.{member_text}
 use Rattle.opl_writer.specs.Rows.{led}

@@ -2,7 +2,7 @@
 use Rattle.std.proofs.Common.{All, List, refl, sym, subst}
 use Rattle.std.proofs.lemmas.Result.{IfOk-weaker}
 use Rattle.osm_geom.specs.declared.edge.Edge.{Edge}
-use Rattle.plane_edges.specs.Sided.{IsSided}
+use Rattle.osm_geom.specs.InPlane.Sided.{IsSided}
 use Rattle.osm_geom.specs.WholeSegment.{IsWholeSegment}
 use Rattle.osm_area.proofs.AreaLemmas.{is_area}
 use Rattle.osm_area.proofs.area.area.Goals as goal

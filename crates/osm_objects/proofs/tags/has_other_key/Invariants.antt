@@ -1,7 +1,7 @@
 use Rattle.std.proofs.Common.{◌≡◌, length, not}
 use Rattle.std.specs.List.{list_any}
 use Rattle.std.specs.Str.{bytes_eq}
-use Rattle.opl_reader.specs.declared.object.Tag.{Tag}
+use Rattle.osm_elements.specs.declared.object.Tag.{Tag}
 use Rattle.osm_objects.proofs.tags.has_other_key.Given as goal
 
 abbrev pub invariant-loop-tag : goal.invariant-loop-tag

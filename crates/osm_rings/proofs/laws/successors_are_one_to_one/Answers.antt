@@ -1,6 +1,6 @@
 -- The laws of the plane, for the multiplied list.
-use Rattle.nesting.proofs.NestingKit.{next_leaves, next_one, next_there}
-use Rattle.plane_edges.specs.Multiple.{whole_edges}
+use Rattle.plane_lists.proofs.NestingKit.{next_leaves, next_one, next_there}
+use Rattle.osm_geom.specs.InPlane.Multiple.{whole_edges}
 use Rattle.osm_rings.proofs.laws.successors_are_one_to_one.Goals as goal
 
 pub returns-clause-exists : goal.returns-clause-exists

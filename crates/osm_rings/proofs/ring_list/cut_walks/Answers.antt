@@ -3,7 +3,7 @@ use Rattle.std.proofs.Common.{◌≡◌, ◌<◌, All, length, map, ap, subst, s
 use Rattle.orbits.specs.Once.{HoldEachOnce}
 use Rattle.orbits.specs.Orbits.{AreOrbits}
 use Rattle.orbits.proofs.Sums.{all_below, sums_agree}
-use Rattle.plane_edges.specs.Multiple.{whole_edges}
+use Rattle.osm_geom.specs.InPlane.Multiple.{whole_edges}
 use Rattle.osm_rings.specs.Pieces.{AreAllCut, edges_at}
 use Rattle.osm_rings.specs.Ring.{IsRing}
 use Rattle.osm_rings.specs.RingList.{AreRingsOf}

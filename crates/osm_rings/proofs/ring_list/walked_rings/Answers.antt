@@ -1,6 +1,6 @@
 -- The orbits of the followers are a ring list.
 use Rattle.orbits.proofs.Sums.{all_below, sums_agree}
-use Rattle.plane_edges.specs.Multiple.{whole_edges}
+use Rattle.osm_geom.specs.InPlane.Multiple.{whole_edges}
 use Rattle.osm_rings.specs.Pieces.{AreRingsAlong}
 use Rattle.osm_rings.proofs.ApartEdges.{numbers, orbits-cut, places-tell}
 use Rattle.osm_rings.proofs.RingLists.{all-go-on, pieces-are-rings, pieces-inside, successors-of}

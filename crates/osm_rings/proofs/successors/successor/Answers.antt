@@ -1,7 +1,7 @@
 -- The successor is among the departures that leave the end.
 use Rattle.std.proofs.Common.{refl, subst, sym}
 use Rattle.osm_geom.specs.Edge.{direction_of, opposite}
-use Rattle.plane_edges.specs.Multiple.{edge_times, product_of_denominators, whole_edges}
+use Rattle.osm_geom.specs.InPlane.Multiple.{edge_times, product_of_denominators, whole_edges}
 use Rattle.osm_rings.specs.Departures.{IsFirstMet}
 use Rattle.osm_rings.proofs.FirstMets.{met-none, met-some}
 use Rattle.osm_rings.proofs.successors.successor.Goals as goal

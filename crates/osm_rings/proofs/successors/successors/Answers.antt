@@ -2,7 +2,7 @@
 use Rattle.std.proofs.Common.{◌≡◌, ◌++◌, ◌∷◌, [], length, ap, subst, sym, ◌∙◌, arith}
 use Rattle.std.proofs.lemmas.List.{length-append}
 use Rattle.orbits.specs.Orbits.{after}
-use Rattle.plane_edges.specs.Multiple.{edge_times, product_of_denominators, whole_edges}
+use Rattle.osm_geom.specs.InPlane.Multiple.{edge_times, product_of_denominators, whole_edges}
 use Rattle.lists.specs.Member.{In}
 use Rattle.osm_rings.specs.Numbered.{edge_at}
 use Rattle.osm_rings.specs.Departures.{IsFirstMet}

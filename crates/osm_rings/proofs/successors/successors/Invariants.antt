@@ -1,7 +1,7 @@
 -- The successors of the edges passed.
 use Rattle.std.proofs.Common.{◌≡◌, ◌<◌, ℕ, length}
 use Rattle.orbits.specs.Orbits.{after}
-use Rattle.plane_edges.specs.Multiple.{whole_edges}
+use Rattle.osm_geom.specs.InPlane.Multiple.{whole_edges}
 use Rattle.osm_rings.specs.Numbered.{edge_at}
 use Rattle.osm_rings.specs.Departures.{IsFirstMet}
 use Rattle.osm_rings.proofs.successors.successors.Given as goal

@@ -1,7 +1,7 @@
 use Rattle.std.proofs.Common.{◌∙◌, ap₂, ℤ, of_z, rules, to_z, w64}
 use Rattle.std.proofs.lemmas.Int.{to_z-of_z}
 use Rattle.osm_sample.specs.Objects.{place_at}
-use Rattle.opl_reader.proofs.ReaderKit.{placed}
+use Rattle.osm_elements.proofs.ElementsKit.{placed}
 use Rattle.osm_sample.proofs.nodes.place_at.Goals as goal
 
 pub returns : goal.returns

@@ -1,5 +1,5 @@
 use Rattle.std.proofs.Common.{◌≡◌, ◌∙◌, List, Result, Ok, Err, IfOk, ap, filter}
-use Rattle.opl_reader.specs.declared.object.Object.{Object}
+use Rattle.osm_elements.specs.declared.object.Object.{Object}
 use Rattle.osm_objects.specs.Object.{is_live}
 use Rattle.osm_sample.specs.Input.{sample_objects}
 use Rattle.osm_sample.proofs.Good.{sample_live, store_is}

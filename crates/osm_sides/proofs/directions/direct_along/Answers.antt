@@ -3,7 +3,7 @@ use Rattle.std.proofs.lemmas.List.{take_all}
 use Rattle.std.proofs.lemmas.Result.{IfOk-weaker}
 use Rattle.osm_geom.specs.declared.edge.Carrier.TheVariants.{OfSeg}
 use Rattle.osm_geom.specs.WholeSegment.{IsWholeSegment}
-use Rattle.plane_edges.specs.Sided.{IsSided}
+use Rattle.osm_geom.specs.InPlane.Sided.{IsSided}
 use Rattle.osm_sides.specs.Directions.{AreDirected, CountsParity, first_end, last_end}
 use Rattle.osm_sides.specs.Sweep.{AreDirectedTo}
 use Rattle.osm_sides.proofs.DirectedSides.{directed_is_sided, directed_counts}

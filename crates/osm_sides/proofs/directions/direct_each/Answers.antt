@@ -1,6 +1,6 @@
 use Rattle.std.proofs.Common.{List, arith, get_or, subst, sym, take}
-use Rattle.status.specs.Leaving.{Remains}
-use Rattle.status.specs.Status.{IsStatus}
+use Rattle.plane_lists.specs.Statuses.Leaving.{Remains}
+use Rattle.plane_lists.specs.Statuses.Status.{IsStatus}
 use Rattle.osm_lattice.specs.declared.seg.Seg.{Seg}
 use Rattle.osm_lattice.specs.Loc.{vector_of}
 use Rattle.osm_lattice.specs.Seg.{edge_of}

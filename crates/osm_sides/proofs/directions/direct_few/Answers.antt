@@ -1,6 +1,6 @@
 use Rattle.std.proofs.Common.{Bool, None, Option, ap, arith, replicate, subst, sym, ◌∙◌, ◌≡◌}
 use Rattle.std.proofs.lemmas.List.{length-replicate}
-use Rattle.winding.specs.OddSide as odd_side
+use Rattle.plane_lists.specs.Lists.OddSide as odd_side
 use Rattle.osm_geom.specs.declared.edge.Carrier.TheVariants.{OfSeg}
 use Rattle.osm_lattice.specs.declared.seg.Seg.{Seg}
 use Rattle.osm_lattice.specs.Seg.{edge_of}

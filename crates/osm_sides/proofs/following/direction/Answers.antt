@@ -1,7 +1,7 @@
 -- What is known is right, and so is what the odd side tells.
 use Rattle.std.proofs.Common.{None, ap, arith, ◌∙◌}
 use Rattle.std.proofs.lemmas.List.{get_or_default}
-use Rattle.winding.specs.OddSide as odd_side
+use Rattle.plane_lists.specs.Lists.OddSide as odd_side
 use Rattle.osm_lattice.specs.declared.seg.Seg.{Seg}
 use Rattle.osm_lattice.specs.Seg.{edge_of}
 use Rattle.osm_sides.specs.Survivors.{plane_edges_of}

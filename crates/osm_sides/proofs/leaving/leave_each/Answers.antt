@@ -1,5 +1,5 @@
 use Rattle.std.proofs.Common.{arith}
-use Rattle.status.proofs.StatusKit.{those_that_stay_remain}
+use Rattle.plane_lists.proofs.StatusKit.{those_that_stay_remain}
 use Rattle.osm_sides.specs.Sweep.{ends_above}
 use Rattle.osm_sides.proofs.leaving.leave_each.Goals as goal
 

@@ -1,4 +1,4 @@
-use Rattle.status.specs.Leaving.{Remains}
+use Rattle.plane_lists.specs.Statuses.Leaving.{Remains}
 use Rattle.osm_sides.specs.Sweep.{ends_above}
 use Rattle.osm_sides.proofs.leaving.leave_each.Given as goal
 

@@ -1,6 +1,6 @@
 use Rattle.std.proofs.Common.{false, length, subst, sym, ◌+◌, ◌<◌, ◌∙◌, ◌≡◌}
-use Rattle.status.specs.Leaving.{Remains}
-use Rattle.status.proofs.StatusKit.{all_are_taken_out, next_is_taken_out}
+use Rattle.plane_lists.specs.Statuses.Leaving.{Remains}
+use Rattle.plane_lists.proofs.StatusKit.{all_are_taken_out, next_is_taken_out}
 use Rattle.osm_sides.specs.Sweep.{ends_above}
 use Rattle.osm_sides.proofs.leaving.leave_next.Goals as goal
 use Rattle.lists.proofs.ListsKit.{same_get}

@@ -1,6 +1,6 @@
 use Rattle.std.proofs.Common.{Bool, cond, false, true, refl, if◌then◌else◌, ◌≡◌, ◌<◌, arith, ap, length, subst, sym, ◌∙◌}
 use Rattle.lists.specs.Member.{In}
-use Rattle.winding.specs.OddSide as odd_side
+use Rattle.plane_lists.specs.Lists.OddSide as odd_side
 use Rattle.osm_geom.specs.declared.edge.Carrier.TheVariants.{OfSeg}
 use Rattle.osm_lattice.specs.declared.loc.Loc.{Loc}
 use Rattle.osm_geom.specs.declared.point.Point.TheVariants.{Lattice}

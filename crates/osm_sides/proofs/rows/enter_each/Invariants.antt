@@ -1,5 +1,5 @@
 use Rattle.std.proofs.Common.{take, ◌≤◌}
-use Rattle.status.specs.Status.{IsStatus}
+use Rattle.plane_lists.specs.Statuses.Status.{IsStatus}
 use Rattle.osm_lattice.specs.Loc.{vector_of}
 use Rattle.osm_lattice.specs.Seg.{edge_of}
 use Rattle.osm_sides.proofs.rows.enter_each.Given as goal

@@ -1,5 +1,5 @@
 use Rattle.std.proofs.Common.{refl, ◌++◌, ◌∙◌, ap, map, List, ℕ}
-use Rattle.opl_reader.specs.declared.object.Tag.{Tag}
+use Rattle.osm_elements.specs.declared.object.Tag.{Tag}
 use Rattle.osm_notation.proofs.KeptTexts.{kept_as_is}
 use Rattle.osm_notation.specs.Written.{tag_text}
 use Rattle.osm_text.specs.Rows.{led_by_byte}

@@ -3,7 +3,7 @@ use Rattle.std.proofs.lemmas.Result.{IfOk-weaker}
 use Rattle.serde_json.specs.Data.{object}
 use Rattle.serde_json.specs.Written.{compact_text, has_float}
 use Rattle.serde_json.proofs.Views.{view-Object}
-use Rattle.opl_reader.specs.Seen.{tag_seen}
+use Rattle.osm_elements.specs.Seen.{tag_seen}
 use Rattle.osm_text.specs.Members.{tag_members}
 use Rattle.osm_text.specs.Properties.{by_key, with_tag}
 use Rattle.osm_text.proofs.PropertyLemmas.{no_float, text_is}

@@ -1,6 +1,6 @@
 use Rattle.std.proofs.Common.{◌≡◌, List, fold, length}
 use Rattle.serde_json.specs.View.{members_view}
-use Rattle.opl_reader.specs.declared.object.Tag.{Tag}
+use Rattle.osm_elements.specs.declared.object.Tag.{Tag}
 use Rattle.osm_text.specs.Members.{tag_members}
 use Rattle.osm_text.specs.Properties.{by_key, with_tag}
 use Rattle.osm_text.proofs.properties.properties.Given as goal

@@ -1,7 +1,7 @@
 use Rattle.std.proofs.Common.{◌∙◌, sym, ap, string_bytes}
 use Rattle.osm_text.proofs.PropertyLemmas.{is_there, members-there, members-insert, view-String}
 use Rattle.serde_json.specs.Data.{string}
-use Rattle.opl_reader.specs.Seen.{tag_seen}
+use Rattle.osm_elements.specs.Seen.{tag_seen}
 use Rattle.osm_text.proofs.properties.put.Goals as goal
 
 pub returns-then-contains_key : goal.returns-then-contains_key

@@ -1,7 +1,7 @@
 use Rattle.std.proofs.Common.{rules, ◌≡◌, ◌∙◌, FitsSigned, w32, w64, List, ℤ, ap, map, subst, sym}
 use Rattle.std.proofs.lemmas.Int.{to_z-of_z}
-use Rattle.osm_bands.specs.Bands.{HoldsReaching}
-use Rattle.osm_bands.specs.declared.bands.Span.{Span}
+use Rattle.osm_sides.specs.HeightBands.Bands.{HoldsReaching}
+use Rattle.osm_sides.specs.declared.bands.bands.Span.{Span}
 use Rattle.area_locate.specs.AreasInside.{area_heights}
 use Rattle.area_locate.proofs.areas.Areas.hits_at.Goals as goal
 

@@ -3,8 +3,8 @@ use Rattle.std.specs.Prelude.{FitsSigned}
 use Rattle.std.proofs.lemmas.Int.{to_z-of_z}
 use Rattle.lists.proofs.ListsKit.{none_from}
 use Rattle.indexmap.proofs.CallerLemmas.{insert_entry-new}
-use Rattle.opl_reader.specs.declared.object.ObjectRef.{ObjectRef}
-use Rattle.opl_reader.specs.declared.object.Object.{Object}
+use Rattle.osm_elements.specs.declared.object.ObjectRef.{ObjectRef}
+use Rattle.osm_elements.specs.declared.object.Object.{Object}
 use Rattle.osm_objects.specs.declared.held.Placed.{Placed}
 use Rattle.osm_objects.specs.Object.{ref_of}
 use Rattle.osm_objects.specs.Objects.{object_at, AreApart}

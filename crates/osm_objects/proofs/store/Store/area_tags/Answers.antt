@@ -1,5 +1,5 @@
 use Rattle.std.proofs.Common.{Option, subst, sym, IsSome}
-use Rattle.opl_reader.specs.declared.object.Object.{Object}
+use Rattle.osm_elements.specs.declared.object.Object.{Object}
 use Rattle.osm_objects.proofs.store.Store.area_tags.Goals as goal
 
 pub returns : goal.returns

@@ -1,7 +1,7 @@
 use Rattle.std.proofs.Common.{◌≡◌, List, IsSome, subst, sym, rules}
 use Rattle.std.specs.Prelude.{All}
 use Rattle.std.proofs.lemmas.List.Elements.{All-from_recursion}
-use Rattle.opl_reader.specs.declared.object.ObjectRef.{ObjectRef}
+use Rattle.osm_elements.specs.declared.object.ObjectRef.{ObjectRef}
 use Rattle.osm_objects.specs.Objects.{object_at, AreApart}
 use Rattle.osm_objects.specs.Candidates.{candidates, is_candidate}
 use Rattle.osm_objects.proofs.FoundLemmas.{filter-held}

@@ -1,7 +1,7 @@
 use Rattle.std.proofs.Common.{◌≡◌, true, Some, option_map, List, IsTrue, subst}
 use Rattle.std.proofs.lemmas.List.Elements.{All-from_recursion}
 use Rattle.std.specs.Prelude.{All}
-use Rattle.opl_reader.specs.declared.object.Object.{Object}
+use Rattle.osm_elements.specs.declared.object.Object.{Object}
 use Rattle.osm_objects.specs.Object.{is_live, ref_of}
 use Rattle.osm_objects.specs.Objects.{object_at, AreApart}
 use Rattle.osm_objects.specs.Candidates.{candidates, is_candidate}

@@ -1,0 +1,16 @@
+-- What is determined of a locate job, as statements.
+use Rattle.std.specs.Prelude.{◌≡◌, ℕ, List}
+use Rattle.osm_elements.specs.declared.object.Object.{Object}
+use Rattle.osm_words.specs.Job.{LocateSettings}
+use Rattle.osm_job.specs.Whole.{Whole}
+use Rattle.job_ask.specs.Locating.Locate.{IsLocate}
+
+-- over objects and a text there is something that a locate job is to write
+abbrev pub LocatesExist : Type 0
+LocatesExist = (settings : LocateSettings) (objects : List Object) (text : List ℕ) → (whole : Whole) × IsLocate settings objects text whole
+
+-- it is one list of what is written, and one ending, alone
+abbrev pub LocateIsOne : Type 0
+LocateIsOne =
+    (settings : LocateSettings) (objects : List Object) (text : List ℕ) (v w : Whole) →
+    IsLocate settings objects text v → IsLocate settings objects text w → v ≡ w

@@ -1,0 +1,35 @@
+//! How a certifying job is to end is determined, and what it finds. Each function's contract is the law; the body calls the
+//! laws that it rests on.
+
+ghost use Rattle.job_ask.specs.Certifying.Laws.{CertifiedTextsAreExports, CertifyExists, CertifyIsOne};
+
+use area_certify::{
+    first_wrong_line_is_one, right_texts_are_features, texts_have_a_verdict, verdicts_exclude,
+};
+use osm_area::{has_area_exactly, outcome_exists};
+
+/// For each settings, objects and text there is a right ending.
+pub fn certify_exists()
+    ensures { CertifyExists }
+{
+    texts_have_a_verdict();
+}
+
+/// And it is one alone.
+pub fn certify_is_one()
+    ensures { CertifyIsOne }
+{
+    first_wrong_line_is_one();
+    verdicts_exclude();
+}
+
+/// A text has no wrong line exactly where it is the whole output of an export in format text over the same objects, with the
+/// same choice of candidates and the same ids.
+pub fn certified_texts_are_exports()
+    ensures { CertifiedTextsAreExports }
+{
+    // By law: each candidate has an area or problems, and a text without a wrong line is the features of the areas.
+    outcome_exists();
+    has_area_exactly();
+    right_texts_are_features();
+}

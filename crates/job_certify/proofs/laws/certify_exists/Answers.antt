@@ -1,5 +1,0 @@
-use Rattle.job_certify.proofs.Endings.{certify_there}
-use Rattle.job_certify.proofs.laws.certify_exists.Goals as goal
-
-pub returns : goal.returns
-returns c = certify_there c.texts_have_a_verdict.ensures

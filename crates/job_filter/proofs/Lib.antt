@@ -1,2 +1,0 @@
-mod Coastlines
-mod Written

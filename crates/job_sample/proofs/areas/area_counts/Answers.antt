@@ -1,8 +1,0 @@
--- One more candidate is counted with those before it.
-use Rattle.job_sample.proofs.Counting.{candidates_next}
-use Rattle.job_sample.proofs.areas.area_counts.Goals as goal
-
-pub loop-candidate-preserved : goal.loop-candidate-preserved
-loop-candidate-preserved c =
-    candidates_next c.args.store.now c.args.candidates.now c.loop-candidate.candidate-index _ c.loop-candidate-test.true c.loop-candidate.counts c.in_ok-counts.counts
-    c.loop-candidate.invariant c.in_ok-counts.ensures

@@ -1,0 +1,2 @@
+pub mod Coastlines
+pub mod Written

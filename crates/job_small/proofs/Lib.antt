@@ -1,0 +1,2 @@
+mod Filtering
+pub mod Sampling

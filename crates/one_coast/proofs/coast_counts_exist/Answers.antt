@@ -1,7 +1,0 @@
-use Rattle.one_coast.proofs.coast_counts_exist.Goals as goal
-use Rattle.one_coast.proofs.CoastThere.{counts_there}
-
-pub returns : goal.returns
-returns c =
-    counts_there c.coast_exists.ensures c.ring_list_of_edges_exists.ensures c.rings_may_be_nested.ensures.nested
-    c.nesting_exists.ensures c.water_exists.ensures c.nested_cover_as_rings.ensures.sided c.split_trees_exist.ensures c.leaves_cover_as_list.ensures.sided

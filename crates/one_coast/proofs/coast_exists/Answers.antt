@@ -1,7 +1,0 @@
-use Rattle.one_coast.proofs.coast_exists.Goals as goal
-use Rattle.one_coast.proofs.CoastThere.{coast_there}
-
-pub returns : goal.returns
-returns c =
-    coast_there c.coast_ways_exist.ensures c.chains_exist.ensures c.closings_exist.ensures c.joined_exists.ensures
-    c.sorting_exists.ensures c.land_exists.ensures

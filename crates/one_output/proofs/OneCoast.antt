@@ -1,0 +1,10 @@
+pub mod AreasOne
+pub mod CoastOne
+pub mod CoastThere
+pub mod LeavesApart
+pub mod LeavesOne
+pub mod LeavesTogether
+pub mod PiecesRight
+pub mod PolygonsOne
+pub mod PrintedOne
+pub mod SignedParity

@@ -1,0 +1,10 @@
+pub mod ClosedPaths
+pub mod FewLocations
+pub mod NearPoints
+pub mod NeighboursOnce
+pub mod PrintedCover
+pub mod PrintedPolygons
+pub mod PrintedTiles
+pub mod RingLaws
+pub mod RoundedPolygons
+pub mod RoundedRings

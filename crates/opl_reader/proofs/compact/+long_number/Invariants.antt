@@ -1,5 +1,0 @@
-use Rattle.std.proofs.Common.{length}
-use Rattle.opl_reader.proofs.compact.+long_number.Given as goal
-
-abbrev pub decreases-long_number : goal.decreases-long_number
-decreases-long_number l = length l.bytes.now

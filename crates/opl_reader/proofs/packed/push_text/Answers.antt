@@ -1,8 +1,0 @@
-use Rattle.opl_reader.proofs.PackedLemmas.{usual_added, whole_added}
-use Rattle.opl_reader.proofs.packed.push_text.Goals as goal
-
-pub returns-in-Some-clause-ok : goal.returns-in-Some-clause-ok
-returns-in-Some-clause-ok c = usual_added c.args.texts.now.items c.args.text.now c.push.new.self.items c.in-Some.code c.in-Some.ensures.code.0 c.in-Some.ensures.code.1 c.in-Some.ensures.text c.in_ok-push.ensures.items
-
-pub returns-clause-ok : goal.returns-clause-ok
-returns-clause-ok c = whole_added c.args.texts.now.items c.args.text.now c.push_whole.new.texts.items c.push_whole.result c.push_whole.ensures.ok

@@ -1,9 +1,0 @@
-use Rattle.std.proofs.Common.{◌≡◌, ◌+◌, None, length}
-use Rattle.opl_reader.specs.Held.{refs_behind}
-use Rattle.opl_reader.proofs.refs.Refs.len.Given as goal
-
-abbrev pub invariant-loop-rest : goal.invariant-loop-rest
-invariant-loop-rest l = l.len + length (refs_behind None l.rest) ≡ length l.self
-
-abbrev pub decreases-loop-rest : goal.decreases-loop-rest
-decreases-loop-rest l = length l.rest

@@ -1,5 +1,0 @@
-use Rattle.opl_reader.proofs.UsualLemmas.{text_is}
-use Rattle.opl_reader.proofs.usual.text_at.Goals as goal
-
-pub returns : goal.returns
-returns c = text_is c.args.texts.now c.args.place _ c.requires

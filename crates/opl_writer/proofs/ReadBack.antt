@@ -1,0 +1,4 @@
+pub mod Apart
+pub mod ReadAlone
+pub mod ReadBack
+pub mod ReadSound

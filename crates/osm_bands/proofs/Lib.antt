@@ -1,5 +1,0 @@
-mod Extents
-mod HeightBands
-mod IndexedSpans
-mod SpanRows
-mod SpannedHeights

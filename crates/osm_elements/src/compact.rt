@@ -1,0 +1,95 @@
+//! Numbers in few bytes where they are small, and signed numbers by how they differ from others.
+
+ghost use Rattle.std.specs.Prelude.{◌≡◌, ◌++◌, length, take, OnOk, OnErr};
+ghost use Rattle.osm_elements.specs.Compact.{number_bytes, number_in, after_number, folded, unfolded, difference, moved};
+
+use std::alloc::AllocError as OutOfMemory;
+
+/// Adds a number: its digits in base 128, the lowest first, each but the last with 128 added. After an `Err` some of them
+/// may have been added.
+pub(crate) fn push_number(bytes: &mut Vec<u8>, number: u64) -> Result<(), OutOfMemory>
+    ensures ok { OnOk result (bytes.new.items ≡ bytes.old.items ++ number_bytes number) }
+    ensures err { OnErr result (take (length bytes.old.items) bytes.new.items ≡ bytes.old.items) }
+{
+    let mut left = number;
+    while left >= 128 {
+        bytes.push(128 + (left % 128) as u8)?;
+        left /= 128;
+    }
+    bytes.push(left as u8)?;
+    Ok(())
+}
+
+/// The number in front that has more than one digit, and what stands behind it. It goes as deep as there are digits, and no
+/// number has more than ten.
+fn long_number(bytes: &[u8]) -> (u64, &[u8])
+    ensures number { result.0 ≡ number_in bytes.now }
+    ensures behind { result.1.now ≡ after_number bytes.now }
+{
+    match bytes {
+        [] => (0, bytes),
+        [last, behind @ ..] if *last < 128 => (u64::from(*last), behind),
+        [digit, more @ ..] => {
+            let (high, behind) = long_number(more);
+            let low = u64::from(*digit - 128);
+            (high.wrapping_mul(128).wrapping_add(low), behind)
+        }
+    }
+}
+
+/// The number in front, and what stands behind it. Most have one digit or two.
+pub(crate) fn first_number(bytes: &[u8]) -> (u64, &[u8])
+    ensures number { result.0 ≡ number_in bytes.now }
+    ensures behind { result.1.now ≡ after_number bytes.now }
+{
+    match bytes {
+        [last, behind @ ..] if *last < 128 => (u64::from(*last), behind),
+        [first, last, behind @ ..] if *last < 128 => (
+            u64::from(*last) * 128 + u64::from(*first - 128),
+            behind,
+        ),
+        _ => long_number(bytes),
+    }
+}
+
+/// The bits of a signed number, folded so that small numbers of either sign are small.
+#[tactic(auto, unfolding(crate::specs::Compact::folded))]
+fn folded(bits: u64) -> u64
+    ensures { result ≡ folded bits }
+{
+    if bits < 9_223_372_036_854_775_808 {
+        2 * bits
+    } else {
+        2 * (u64::MAX - bits) + 1
+    }
+}
+
+/// The bits that were folded.
+#[tactic(auto, unfolding(crate::specs::Compact::unfolded))]
+fn unfolded(number: u64) -> u64
+    ensures { result ≡ unfolded number }
+{
+    if number % 2 == 0 {
+        number / 2
+    } else {
+        u64::MAX - number / 2
+    }
+}
+
+/// How the second number differs from the first.
+#[tactic(auto, unfolding(crate::specs::Compact::difference))]
+pub(crate) fn difference(from: i64, to: i64) -> u64
+    ensures { result ≡ difference from to }
+{
+    folded(to.cast_unsigned().wrapping_sub(from.cast_unsigned()))
+}
+
+/// The number that differs so from this one.
+#[tactic(auto, unfolding(crate::specs::Compact::moved))]
+pub(crate) fn moved(from: i64, by: u64) -> i64
+    ensures { result ≡ moved from by }
+{
+    from.cast_unsigned()
+        .wrapping_add(unfolded(by))
+        .cast_signed()
+}

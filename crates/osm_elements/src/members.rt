@@ -1,0 +1,152 @@
+//! The members of a relation, held as their kinds and ids, and with their roles in one block, packed as tags are.
+
+ghost use Rattle.std.specs.Prelude.{◌≡◌, ◌++◌, ◌∷◌, ◌==◌, [], length, IfOk, OnOk, OnErr, MatchOption, IfNone};
+ghost use Rattle.osm_elements.specs.Seen.{member_of, member_seen};
+
+use crate::object::{ObjectKind, ObjectRef};
+use crate::packed::{push_text, split_text};
+use std::alloc::{AllocError as OutOfMemory, Global};
+use std::marker::Model;
+
+/// A member that is lent.
+#[derive(Clone, Copy, Debug)]
+pub struct MemberRef<'a> {
+    pub kind: ObjectKind,
+    pub id: i64,
+    pub role: &'a str,
+}
+
+/// The members of a relation, in the order of its line: 16 bytes each, and their roles, a byte for a usual one, and a byte or
+/// five beside the text of any other.
+#[derive(Debug, Drop)]
+pub struct Members {
+    targets: Vec<ObjectRef>,
+    roles: Vec<u8>,
+}
+
+impl Model for Members {
+    ghost use Rattle.std.specs.Prelude.{List};
+    ghost use Rattle.osm_elements.specs.declared.object.Member.{Member};
+
+    ghost Value = { List Member };
+
+    ghost use Rattle.osm_elements.specs.Packed.{members_in, HaveRoles};
+
+    ghost view = { λ m. members_in m.targets.items m.roles.items };
+
+    ghost invariant = { λ m. HaveRoles m.targets.items m.roles.items };
+}
+
+/// Members, gone through one by one.
+#[derive(Drop)]
+pub struct MemberIter<'a> {
+    targets: &'a [ObjectRef],
+    roles: &'a [u8],
+}
+
+impl<'a> Model for MemberIter<'a> {
+    ghost use Rattle.std.specs.Prelude.{List};
+    ghost use Rattle.osm_elements.specs.declared.object.Member.{Member};
+
+    ghost Value = { List Member };
+
+    ghost use Rattle.osm_elements.specs.Packed.{members_in, HaveRoles};
+
+    ghost view = { λ m. members_in m.targets.now m.roles.now };
+
+    ghost invariant = { λ m. HaveRoles m.targets.now m.roles.now };
+}
+
+impl Members {
+    /// The empty list, which takes no memory.
+    pub fn new(alloc: Global) -> Members
+        ensures { result ≡ [] }
+    {
+        Members {
+            targets: Vec::new(alloc),
+            roles: Vec::new(alloc),
+        }
+    }
+
+    /// The empty list, with room for so many members, and for so many bytes: those of the roles, and one for each that has
+    /// fewer than 192, suffice.
+    pub fn with_capacity(
+        alloc: Global,
+        members: usize,
+        bytes: usize,
+    ) -> Result<Members, OutOfMemory>
+        ensures { IfOk result (λ members. members ≡ []) }
+    {
+        Ok(Members {
+            targets: Vec::with_capacity(alloc, members)?,
+            roles: Vec::with_capacity(alloc, bytes)?,
+        })
+    }
+
+    /// A copy of its own size.
+    pub fn copy(&self, alloc: Global) -> Result<Members, OutOfMemory>
+        ensures { IfOk result (λ members. members ≡ self.now) }
+    {
+        Ok(Members {
+            targets: Vec::from_slice(alloc, &self.targets)?,
+            roles: Vec::from_slice(alloc, &self.roles)?,
+        })
+    }
+
+    /// Adds a member at the end, with a copy of its role. After an `Err` the list is unchanged. A role of 2^32 bytes and more
+    /// finds no room.
+    pub fn push(&mut self, target: ObjectRef, role: &str) -> Result<(), OutOfMemory>
+        ensures ok { OnOk result (self.new ≡ self.old ++ member_of target role.now ∷ []) }
+        ensures err { OnErr result (self.new ≡ self.old) }
+    {
+        self.targets.push(target)?;
+        if let Err(e) = push_text(&mut self.roles, role) {
+            self.targets.pop();
+            return Err(e);
+        }
+        Ok(())
+    }
+
+    /// How many members there are.
+    pub fn len(&self) -> usize
+        ensures { result ≡ length self.now }
+    {
+        self.targets.len()
+    }
+
+    /// Whether there are none.
+    pub fn is_empty(&self) -> bool
+        ensures { result ≡ (length self.now == 0) }
+    {
+        self.targets.is_empty()
+    }
+
+    /// The members, to be gone through. It takes no memory.
+    pub fn iter(&self) -> MemberIter<'_>
+        ensures { result ≡ self.now }
+    {
+        MemberIter {
+            targets: self.targets.as_slice(),
+            roles: self.roles.as_slice(),
+        }
+    }
+}
+
+impl<'a> MemberIter<'a> {
+    /// The next member. None exactly where none is left.
+    pub fn next(&mut self) -> Option<MemberRef<'a>>
+        ensures member { MatchOption result (self.old ≡ [])
+            (λ m. self.old ≡ member_seen m ∷ self.new) }
+        ensures ended { IfNone result (self.new ≡ []) }
+    {
+        let (target, targets) = self.targets.split_first()?;
+        let (role, roles) = split_text(self.roles);
+        self.targets = targets;
+        self.roles = roles;
+        Some(MemberRef {
+            kind: target.kind,
+            id: target.id,
+            role,
+        })
+    }
+}

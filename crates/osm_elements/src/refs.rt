@@ -1,0 +1,312 @@
+//! The references of a way, held in one block of bytes: each by how it differs from the first of them.
+
+ghost use Rattle.std.specs.Prelude.{◌≡◌, ◌++◌, ◌∷◌, ◌==◌, ◌+◌, ◌-◌, [], Some, length, take, slice_get, IfOk, OnOk, OnErr};
+ghost use Rattle.osm_elements.specs.Places.{location_from};
+ghost use Rattle.osm_elements.specs.Places.{longitude, latitude};
+ghost use Rattle.osm_elements.specs.Compact.{difference};
+ghost use Rattle.osm_elements.specs.Held.{refs_behind, last_behind, compared_id, place_from, x_from, y_from, place_bytes, ref_bytes, first_place, after_place, first_ref, after_ref};
+
+use crate::compact::{difference, first_number, moved, push_number};
+use crate::object::Ref;
+use osm_lattice::Loc;
+use std::alloc::{AllocError as OutOfMemory, Global};
+use std::marker::Model;
+
+/// How many bytes a reference is given room for: enough for one that carries a location, where it is near the first.
+const ROOM: usize = 8;
+
+/// The references of a way, in order. Each takes two bytes or so where its id is near that of the first, and some five
+/// where it carries a location near that of the first; the first itself takes up to some fifteen.
+#[derive(Debug, Drop)]
+pub struct Refs {
+    bytes: Vec<u8>,
+}
+
+impl Model for Refs {
+    ghost use Rattle.std.specs.Prelude.{List, None};
+    ghost use Rattle.osm_elements.specs.declared.object.Ref.{Ref};
+    ghost use Rattle.osm_elements.specs.Held.{refs_behind, AreRefBytes};
+
+    ghost Value = { List Ref };
+
+    ghost view = { λ r. refs_behind None r.bytes.items };
+
+    ghost invariant = { λ r. AreRefBytes r.bytes.items };
+}
+
+/// References, gone through one by one.
+#[derive(Drop)]
+pub struct RefIter<'a> {
+    bytes: &'a [u8],
+    // The first of all, once it is gone through.
+    first: Option<Ref>,
+}
+
+impl<'a> Model for RefIter<'a> {
+    ghost use Rattle.std.specs.Prelude.{List};
+    ghost use Rattle.osm_elements.specs.declared.object.Ref.{Ref};
+    ghost use Rattle.osm_elements.specs.Held.{refs_behind};
+
+    ghost Value = { List Ref };
+
+    ghost view = { λ r. refs_behind r.first r.bytes.now };
+}
+
+/// The id that ids are compared with.
+fn compared_id(first: Option<Ref>) -> i64
+    ensures { result ≡ compared_id first }
+{
+    match first {
+        None => 0,
+        Some(first) => first.node,
+    }
+}
+
+/// The location that locations are compared with.
+fn place_from(first: Option<Ref>) -> Option<Loc>
+    ensures { result ≡ place_from first }
+{
+    match first {
+        None => None,
+        Some(first) => first.at,
+    }
+}
+
+/// The coordinates that those of locations are compared with.
+fn coordinates_from(from: Option<Loc>) -> (i64, i64)
+    ensures x { result.0 ≡ x_from from }
+    ensures y { result.1 ≡ y_from from }
+{
+    match from {
+        None => (0, 0),
+        Some(at) => (i64::from(at.x), i64::from(at.y)),
+    }
+}
+
+/// The location with these coordinates, if they are in range.
+fn place_at(x: i64, y: i64) -> Option<Loc>
+    ensures { result ≡ location_from (longitude x) (latitude y) }
+{
+    Loc::new(x, y)
+}
+
+/// By how much x differs, and one more, and by how much y does.
+fn differences(from: Option<Loc>, at: Loc) -> (u64, u64)
+    ensures along { result.0 ≡ 1 + difference (x_from from) at.x }
+    ensures up { result.1 ≡ difference (y_from from) at.y }
+{
+    let (x, y) = coordinates_from(from);
+    let along = difference(x, i64::from(at.x));
+    let up = difference(y, i64::from(at.y));
+    (1 + along, up)
+}
+
+/// Adds a location, or that there is none. After an `Err` a part of it may have been added.
+fn push_place(bytes: &mut Vec<u8>, from: Option<Loc>, at: Option<Loc>) -> Result<(), OutOfMemory>
+    ensures ok { OnOk result (bytes.new.items ≡ bytes.old.items ++ place_bytes from at) }
+    ensures err { OnErr result (take (length bytes.old.items) bytes.new.items ≡ bytes.old.items) }
+{
+    let Some(at) = at else {
+        return push_number(bytes, 0);
+    };
+    let (along, up) = differences(from, at);
+    push_number(bytes, along)?;
+    push_number(bytes, up)?;
+    Ok(())
+}
+
+/// Adds a reference. After an `Err` a part of it may have been added.
+fn push_ref(bytes: &mut Vec<u8>, first: Option<Ref>, reference: Ref) -> Result<(), OutOfMemory>
+    ensures ok { OnOk result (bytes.new.items ≡ bytes.old.items ++ ref_bytes first reference) }
+    ensures err { OnErr result (take (length bytes.old.items) bytes.new.items ≡ bytes.old.items) }
+{
+    push_number(bytes, difference(compared_id(first), reference.node))?;
+    push_place(bytes, place_from(first), reference.at)?;
+    Ok(())
+}
+
+/// The location in front, and what stands behind it.
+#[tactic(auto, unfolding(crate::specs::Held::first_place, crate::specs::Held::after_place))]
+fn first_place(from: Option<Loc>, bytes: &[u8]) -> (Option<Loc>, &[u8])
+    ensures place { result.0 ≡ first_place from bytes.now }
+    ensures behind { result.1.now ≡ after_place bytes.now }
+{
+    let (along, behind) = first_number(bytes);
+    if along == 0 {
+        return (None, behind);
+    }
+    let (x, y) = coordinates_from(from);
+    let (up, behind) = first_number(behind);
+    (place_at(moved(x, along - 1), moved(y, up)), behind)
+}
+
+/// The reference in front, and what stands behind it.
+fn first_ref(first: Option<Ref>, bytes: &[u8]) -> (Ref, &[u8])
+    ensures reference { result.0 ≡ first_ref first bytes.now }
+    ensures behind { result.1.now ≡ after_ref bytes.now }
+{
+    let (by, behind) = first_number(bytes);
+    let (at, behind) = first_place(place_from(first), behind);
+    let node = moved(compared_id(first), by);
+    (Ref { node, at }, behind)
+}
+
+/// What stands behind the reference in front, which isn't asked for.
+#[tactic(auto, unfolding(crate::specs::Held::after_place))]
+fn after_ref(bytes: &[u8]) -> &[u8]
+    ensures { result.now ≡ after_ref bytes.now }
+{
+    let (_, behind) = first_number(bytes);
+    let (along, behind) = first_number(behind);
+    if along == 0 {
+        return behind;
+    }
+    first_number(behind).1
+}
+
+/// The last of the references that stand behind a first one. It is that one where there are none.
+fn last_behind(first: Ref, bytes: &[u8]) -> Ref
+    ensures { Some result ≡ last_behind (Some first) (refs_behind (Some first) bytes.now) }
+{
+    let mut last: &[u8] = &[];
+    let mut rest = bytes;
+    while !rest.is_empty() {
+        last = rest;
+        rest = after_ref(rest);
+    }
+    if last.is_empty() {
+        return first;
+    }
+    first_ref(Some(first), last).0
+}
+
+impl Refs {
+    /// The empty list, which takes no memory.
+    pub fn new(alloc: Global) -> Refs
+        ensures { result ≡ [] }
+    {
+        Refs {
+            bytes: Vec::new(alloc),
+        }
+    }
+
+    /// The empty list, with room for so many references that are near each other.
+    pub fn with_capacity(alloc: Global, room: usize) -> Result<Refs, OutOfMemory>
+        ensures { IfOk result (λ refs. refs ≡ []) }
+    {
+        Ok(Refs {
+            bytes: Vec::with_capacity(alloc, room.saturating_mul(ROOM))?,
+        })
+    }
+
+    /// Adds a reference at the end. After an `Err` the list is unchanged.
+    pub fn push(&mut self, reference: Ref) -> Result<(), OutOfMemory>
+        ensures ok { OnOk result (self.new ≡ self.old ++ reference ∷ []) }
+        ensures err { OnErr result (self.new ≡ self.old) }
+    {
+        let first = self.first();
+        self.push_behind(first, reference)
+    }
+
+    /// The same where the first reference is known, so that it isn't read again for each.
+    pub fn push_behind(&mut self, first: Option<Ref>, reference: Ref) -> Result<(), OutOfMemory>
+        requires { first ≡ slice_get self.old 0 }
+        ensures ok { OnOk result (self.new ≡ self.old ++ reference ∷ []) }
+        ensures err { OnErr result (self.new ≡ self.old) }
+    {
+        let len = self.bytes.len();
+        if push_ref(&mut self.bytes, first, reference).is_err() {
+            self.bytes.truncate(len);
+            return Err(OutOfMemory);
+        }
+        Ok(())
+    }
+
+    /// How many references there are. It goes through all of them, and reads none.
+    pub fn len(&self) -> usize
+        ensures { result ≡ length self.now }
+    {
+        let mut len = 0;
+        let mut rest = self.bytes.as_slice();
+        while !rest.is_empty() {
+            len += 1;
+            rest = after_ref(rest);
+        }
+        len
+    }
+
+    /// Whether there are none.
+    pub fn is_empty(&self) -> bool
+        ensures { result ≡ (length self.now == 0) }
+    {
+        self.bytes.is_empty()
+    }
+
+    /// The reference of this index, from 0. None where there are fewer. It goes through those before it.
+    pub fn get(&self, index: usize) -> Option<Ref>
+        ensures { result ≡ slice_get self.now index }
+    {
+        let mut rest = self.iter();
+        let mut before = index;
+        while before > 0 {
+            rest.next()?;
+            before -= 1;
+        }
+        rest.next()
+    }
+
+    /// The first reference. None where there is none.
+    pub fn first(&self) -> Option<Ref>
+        ensures { result ≡ slice_get self.now 0 }
+    {
+        self.iter().next()
+    }
+
+    /// The last reference. None where there is none. It goes through all of them, and reads the first and the last.
+    pub fn last(&self) -> Option<Ref>
+        ensures { result ≡ slice_get self.now (length self.now - 1) }
+    {
+        let first = self.first()?;
+        Some(last_behind(first, after_ref(self.bytes.as_slice())))
+    }
+
+    /// A copy, which takes no more memory than it needs.
+    pub fn copy(&self, alloc: Global) -> Result<Refs, OutOfMemory>
+        ensures { IfOk result (λ refs. refs ≡ self.now) }
+    {
+        Ok(Refs {
+            bytes: Vec::from_slice(alloc, &self.bytes)?,
+        })
+    }
+
+    /// The references, to be gone through. It takes no memory.
+    pub fn iter(&self) -> RefIter<'_>
+        ensures { result ≡ self.now }
+    {
+        RefIter {
+            bytes: self.bytes.as_slice(),
+            first: None,
+        }
+    }
+}
+
+impl<'a> Iterator for RefIter<'a> {
+    ghost use Rattle.std.specs.Iterator.{YieldsFirst, item_count};
+
+    type Item = Ref;
+
+    ghost next_gives = { YieldsFirst (λ refs. refs) };
+
+    ghost remaining = { item_count (λ refs. refs) };
+
+    /// The next reference. None exactly where none is left.
+    fn next(&mut self) -> Option<Ref> {
+        if self.bytes.is_empty() {
+            return None;
+        }
+        let (reference, behind) = first_ref(self.first, self.bytes);
+        self.first = Some(self.first.unwrap_or(reference));
+        self.bytes = behind;
+        Some(reference)
+    }
+}

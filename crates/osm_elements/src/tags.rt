@@ -1,0 +1,178 @@
+//! The tags of an object, held in one block: keys and values by turns, a usual one as one byte, any other behind its length.
+
+ghost use Rattle.std.specs.Prelude.{◌≡◌, ◌<◌, ◌^◌, ◌++◌, ◌∷◌, ◌==◌, [], length, IfOk, OnOk, OnErr, MatchOption, IfNone, option_map, find};
+ghost use Rattle.std.specs.Str.{bytes_eq};
+ghost use Rattle.osm_elements.specs.Packed.{BothAdded};
+ghost use Rattle.osm_elements.specs.Seen.{tag_seen};
+
+use crate::packed::{push_text, split_text};
+use std::alloc::{AllocError as OutOfMemory, Global};
+use std::marker::Model;
+
+/// A tag that is lent.
+#[derive(Clone, Copy, Debug)]
+pub struct TagRef<'a> {
+    pub key: &'a str,
+    pub value: &'a str,
+}
+
+/// The tags of an object, in the order of its line. They take one block of memory, and none where there are none: a byte for
+/// a key or value that is usual in OpenStreetMap, and a byte or five beside the text of any other.
+#[derive(Debug, Drop)]
+pub struct Tags {
+    texts: Vec<u8>,
+    count: usize,
+}
+
+impl Model for Tags {
+    ghost use Rattle.std.specs.Prelude.{List};
+    ghost use Rattle.osm_elements.specs.declared.object.Tag.{Tag};
+
+    ghost Value = { List Tag };
+
+    ghost use Rattle.osm_elements.specs.Packed.{tags_in, AreKeysAndValues};
+
+    ghost view = { λ t. tags_in t.count t.texts.items };
+
+    ghost invariant = { λ t. AreKeysAndValues t.count t.texts.items };
+}
+
+/// Tags, gone through one by one.
+#[derive(Drop)]
+pub struct TagIter<'a> {
+    texts: &'a [u8],
+    left: usize,
+}
+
+impl<'a> Model for TagIter<'a> {
+    ghost use Rattle.std.specs.Prelude.{List};
+    ghost use Rattle.osm_elements.specs.declared.object.Tag.{Tag};
+
+    ghost Value = { List Tag };
+
+    ghost use Rattle.osm_elements.specs.Packed.{tags_in, AreKeysAndValues};
+
+    ghost view = { λ t. tags_in t.left t.texts.now };
+
+    ghost invariant = { λ t. AreKeysAndValues t.left t.texts.now };
+}
+
+/// Adds a key and a value. After an `Err` nothing is added.
+fn push_both(texts: &mut Vec<u8>, key: &str, value: &str) -> Result<(), OutOfMemory>
+    ensures ok { OnOk result (BothAdded texts.old.items key.now value.now texts.new.items) }
+    ensures short { OnOk result ((length key.now < 2 ^ 32) × (length value.now < 2 ^ 32)) }
+    ensures err { OnErr result (texts.new.items ≡ texts.old.items) }
+{
+    let before = texts.len();
+    push_text(texts, key)?;
+    if push_text(texts, value).is_err() {
+        texts.truncate(before);
+        return Err(OutOfMemory);
+    }
+    Ok(())
+}
+
+impl Tags {
+    /// The empty list, which takes no memory.
+    pub fn new(alloc: Global) -> Tags
+        ensures { result ≡ [] }
+    {
+        Tags {
+            texts: Vec::new(alloc),
+            count: 0,
+        }
+    }
+
+    /// The empty list, with room for this many bytes: those of the texts, and one for each that has fewer than 192, suffice.
+    pub fn with_capacity(alloc: Global, bytes: usize) -> Result<Tags, OutOfMemory>
+        ensures { IfOk result (λ tags. tags ≡ []) }
+    {
+        Ok(Tags {
+            texts: Vec::with_capacity(alloc, bytes)?,
+            count: 0,
+        })
+    }
+
+    /// Adds a copy of a tag at the end. After an `Err` the list is unchanged. Texts of 2^32 bytes and more find no room.
+    pub fn push(&mut self, key: &str, value: &str) -> Result<(), OutOfMemory>
+        ensures ok { OnOk result (self.new
+            ≡ self.old ++ record { key = key.now; value = value.now } ∷ []) }
+        ensures err { OnErr result (self.new ≡ self.old) }
+    {
+        let Some(count) = self.count.checked_add(1) else {
+            return Err(OutOfMemory);
+        };
+        push_both(&mut self.texts, key, value)?;
+        self.count = count;
+        Ok(())
+    }
+
+    /// How many tags there are.
+    pub fn len(&self) -> usize
+        ensures { result ≡ length self.now }
+    {
+        self.count
+    }
+
+    /// Whether there are none.
+    pub fn is_empty(&self) -> bool
+        ensures { result ≡ (length self.now == 0) }
+    {
+        self.count == 0
+    }
+
+    /// How many bytes of memory its texts take: one for each usual text, and for any other one or five more than it has. No clause
+    /// says it.
+    pub fn bytes(&self) -> usize {
+        self.texts.len()
+    }
+
+    /// The value of the first tag of this key. It takes no memory.
+    pub fn value_of(&self, key: &str) -> Option<&str>
+        ensures { option_map (λ v. v.now) result
+            ≡ option_map (λ t. t.value) (find (λ t. bytes_eq t.key key.now) self.now) }
+    {
+        let mut rest = self.iter();
+        while let Some(tag) = rest.next() {
+            if tag.key == key {
+                return Some(tag.value);
+            }
+        }
+        None
+    }
+
+    /// A copy, which takes no more memory than it needs.
+    pub fn copy(&self, alloc: Global) -> Result<Tags, OutOfMemory>
+        ensures { IfOk result (λ tags. tags ≡ self.now) }
+    {
+        Ok(Tags {
+            texts: Vec::from_slice(alloc, &self.texts)?,
+            count: self.count,
+        })
+    }
+
+    /// The tags, to be gone through. It takes no memory.
+    pub fn iter(&self) -> TagIter<'_>
+        ensures { result ≡ self.now }
+    {
+        TagIter {
+            texts: self.texts.as_slice(),
+            left: self.count,
+        }
+    }
+}
+
+impl<'a> TagIter<'a> {
+    /// The next tag. None exactly where none is left.
+    pub fn next(&mut self) -> Option<TagRef<'a>>
+        ensures tag { MatchOption result (self.old ≡ []) (λ t. self.old ≡ tag_seen t ∷ self.new) }
+        ensures ended { IfNone result (self.new ≡ []) }
+    {
+        let left = self.left.checked_sub(1)?;
+        let (key, texts) = split_text(self.texts);
+        let (value, texts) = split_text(texts);
+        self.texts = texts;
+        self.left = left;
+        Some(TagRef { key, value })
+    }
+}

@@ -1,7 +1,0 @@
-use Rattle.std.proofs.Common.{◌≡◌, map, drop}
-use Rattle.osm_host.specs.Names.{name_and_bytes}
-use Rattle.osm_host.specs.Memory.{bytes_named}
-use Rattle.osm_host.proofs.names.find.Given as goal
-
-abbrev pub invariant-loop-index : goal.invariant-loop-index
-invariant-loop-index l = bytes_named (map name_and_bytes (drop l.index l.inputs)) l.name ≡ bytes_named (map name_and_bytes l.inputs) l.name

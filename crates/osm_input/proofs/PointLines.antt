@@ -1,0 +1,4 @@
+pub mod FirstBad
+pub mod Places
+pub mod ReadLines
+pub mod Words

@@ -1,0 +1,18 @@
+//! Laws of texts of points. The contract of each function is the law.
+
+ghost use Rattle.osm_input.specs.PointLines.Laws.{FirstBadLineIsOne, PointsExcludeABadLine, TextsHavePointsOrABadLine};
+
+/// A text has points, or a first bad line.
+pub fn texts_have_points_or_a_bad_line()
+    ensures { TextsHavePointsOrABadLine }
+{}
+
+/// No text has both.
+pub fn points_exclude_a_bad_line()
+    ensures { PointsExcludeABadLine }
+{}
+
+/// A text has one first bad line at most.
+pub fn first_bad_line_is_one()
+    ensures { FirstBadLineIsOne }
+{}

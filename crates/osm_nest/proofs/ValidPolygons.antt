@@ -1,0 +1,4 @@
+pub mod BegunElsewhere
+pub mod Flattened
+pub mod NestedValid
+pub mod WholePolygons

@@ -1,4 +1,0 @@
-mod FirstBad
-mod Places
-mod ReadLines
-mod Words

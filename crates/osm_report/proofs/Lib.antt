@@ -1,4 +1,0 @@
-mod CoastLineExists
-mod LineExists
-mod LineOne
-mod PhraseLemmas

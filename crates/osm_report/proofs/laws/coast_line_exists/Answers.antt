@@ -1,5 +1,0 @@
-use Rattle.osm_report.proofs.CoastLineExists.{coast_line_there}
-use Rattle.osm_report.proofs.laws.coast_line_exists.Goals as goal
-
-pub returns : goal.returns
-returns c = coast_line_there c.meetings_exist.ensures

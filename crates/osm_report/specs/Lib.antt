@@ -1,2 +1,0 @@
-pub mod Coast
-pub mod Report

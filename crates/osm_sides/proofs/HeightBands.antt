@@ -1,0 +1,5 @@
+pub mod Extents
+pub mod HeightBands
+pub mod IndexedSpans
+pub mod SpanRows
+pub mod SpannedHeights

@@ -1,0 +1,3 @@
+pub mod NearCounts
+pub mod NearIndexes
+pub mod NearItems

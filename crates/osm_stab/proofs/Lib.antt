@@ -1,4 +1,0 @@
-mod NearCounts
-mod NearIndexes
-mod NearItems
-pub mod StabKit

@@ -1,8 +1,0 @@
-mod Carriers
-mod Commons
-mod Directions
-pub mod EdgesKit
-mod Lines
-mod Multiples
-mod MultipliedEdges
-mod MultipliedPoints

@@ -1,0 +1,10 @@
+pub mod Above
+pub mod AlongLine
+pub mod Balance
+pub mod Clears
+pub mod Counts
+pub mod Halves
+pub mod Means
+pub mod Plain
+pub mod ScaledHalves
+pub mod Sides

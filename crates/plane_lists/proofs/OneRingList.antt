@@ -1,0 +1,10 @@
+pub mod ByComputing
+pub mod Crescents
+pub mod Cyclic
+pub mod CyclicLists
+pub mod OneRingList
+pub mod Returns
+pub mod RingsOfWalk
+pub mod SameNests
+pub mod Sees
+pub mod Uncrossed

@@ -1,0 +1,17 @@
+pub mod Across
+pub mod BesideInside
+pub mod Builders
+pub mod Components
+pub mod Feet
+pub mod FeetAbove
+pub mod Inside
+pub mod Inward
+pub mod Joins
+pub mod Later
+pub mod LinkedInside
+pub mod Middles
+pub mod Places
+pub mod SharedPoints
+pub mod Steps
+pub mod Turning
+pub mod Winds

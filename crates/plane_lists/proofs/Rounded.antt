@@ -1,0 +1,9 @@
+pub mod ClearEdges
+pub mod ClearPoints
+pub mod Factors
+pub mod Moves
+pub mod Nears
+pub mod OneSide
+pub mod PointEdges
+pub mod Roundings
+pub mod Separations

@@ -1,0 +1,9 @@
+pub mod Connected
+pub mod Halves
+pub mod Lists
+pub mod OneRingList
+pub mod Paths
+pub mod Rings
+pub mod Rounded
+pub mod Statuses
+pub mod Valid

@@ -1,0 +1,37 @@
+//! A sided list has one ring list alone: the rings that its walks are cut into are determined.
+//!
+//! There is no code to run here. Each public function has an empty body; its contract is a law
+//! about the definitions in `specs/` and in `nesting`, for all lists of edges between points with
+//! integer coordinates.
+
+ghost use Rattle.plane_lists.specs.OneRingList.Laws.{WalkSeesAlike, ClosedPartsShareOnePoint, PointsDoNotAlternate, RingsOfWalksAreOne, RingListIsOne, CutsAreRingListOf, CutsAreOne, KindsAreOne, DirectEnclosureIsOne, RingsDoNotCross, WalksAreNeeded};
+
+/// All edges of a walk see a list alike, and two closed parts of a walk share no point but the one
+/// where they are parted. So a walk doesn't meet two points by turns.
+pub fn closed_parts_share_one_point()
+    ensures sees { WalkSeesAlike }
+    ensures one_point { ClosedPartsShareOnePoint }
+    ensures no_turns { PointsDoNotAlternate }
+{}
+
+/// Two rings of walks that have an edge in common are one. So a sided list has one ring list alone,
+/// up to the order of the rings and where each begins. No two of its rings cross. That each lies
+/// within one walk can't be left out.
+pub fn ring_list_is_one()
+    ensures ring { RingsOfWalksAreOne }
+    ensures ring_list { RingListIsOne }
+    ensures uncrossed { RingsDoNotCross }
+    ensures needed { WalksAreNeeded }
+{}
+
+/// Pieces that are cut off walks are the ring list, in whatever order they are cut off.
+pub fn cuts_are_one()
+    ensures ring_list { CutsAreRingListOf }
+    ensures one { CutsAreOne }
+{}
+
+/// The one ring list nests in one way, however its rings are ordered and begun.
+pub fn nesting_is_one()
+    ensures kinds { KindsAreOne }
+    ensures direct { DirectEnclosureIsOne }
+{}

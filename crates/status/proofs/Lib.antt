@@ -1,5 +1,0 @@
-mod Fronts
-mod Leaving
-mod Lists
-pub mod StatusKit
-mod Statuses

@@ -1,0 +1,4 @@
+pub mod Memory
+pub mod MemoryHost
+pub mod Names
+pub mod Opens

@@ -1,8 +1,0 @@
-mod Crescents
-mod Holes
-mod Meets
-mod RingParts
-mod SharedNodes
-pub mod ValidKit
-mod ValidPolygons
-mod Windings

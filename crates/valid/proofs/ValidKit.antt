@@ -1,2 +1,0 @@
--- Valid polygons: what crates above take of the lemmas on them.
-pub use Rattle.valid.proofs.ValidPolygons.{valid_polygons}

@@ -1,8 +1,0 @@
-use Rattle.valid.proofs.polygons_are_valid.Goals as goal
-use Rattle.valid.proofs.ValidPolygons.{boundary_alone, valid_polygons}
-
-pub returns-clause-valid : goal.returns-clause-valid
-returns-clause-valid c = λ es sd rs l gs a. valid_polygons es sd rs l gs a
-
-pub returns-clause-needed : goal.returns-clause-needed
-returns-clause-needed c = boundary_alone

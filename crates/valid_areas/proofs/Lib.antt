@@ -1,6 +1,0 @@
-mod Exports
-mod Features
-mod Numerals
-mod OneReading
-mod Printed
-mod ValidAreas

@@ -1,5 +1,0 @@
-use Rattle.valid_areas.proofs.areas_are_valid.Goals as goal
-use Rattle.valid_areas.proofs.ValidAreas.{valid-in}
-
-pub returns : goal.returns
-returns c = valid-in c.directing_is_sided.ensures.whole c.nested_polygons_are_valid.ensures.at

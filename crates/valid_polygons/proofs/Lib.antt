@@ -1,4 +1,0 @@
-mod BegunElsewhere
-mod Flattened
-mod NestedValid
-pub mod WholePolygons

@@ -1,8 +1,0 @@
-use Rattle.winding.proofs.ring.ring_winds_by_anchor.Goals as goal
-use Rattle.winding.proofs.Anchors.{ring_by_anchor, some-anchor}
-
-pub returns-clause-anchor : goal.returns-clause-anchor
-returns-clause-anchor c = λ x es i p. some-anchor es x i p
-
-pub returns-clause-winding : goal.returns-clause-winding
-returns-clause-winding c = ring_by_anchor

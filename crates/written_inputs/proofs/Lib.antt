@@ -1,4 +1,0 @@
-mod Apart
-mod ReadAlone
-mod ReadBack
-mod ReadSound

@@ -1,6 +1,0 @@
--- By the law of what lines spell.
-use Rattle.written_inputs.proofs.ReadSound.{spelled_can}
-use Rattle.written_inputs.proofs.spelled_objects_can_be_written.Goals as goal
-
-pub returns : goal.returns
-returns c = spelled_can c.spelled_objects_are_sound.ensures
