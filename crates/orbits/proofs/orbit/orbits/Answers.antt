@@ -14,8 +14,8 @@ not_false : (b : Bool) → not b ≡ false → b ≡ true
 not_false true e = refl
 not_false false e = sym e
 
-both_ways : (v b : Bool) → v ≡ true → v ≡ not b → b ≡ true → ⊥
-both_ways v b p q r = let s : not b ≡ false = rw r refl in cc
+not_opposite : (v b : Bool) → v ≡ true → v ≡ not b → b ≡ true → ⊥
+not_opposite v b p q r = let s : not b ≡ false = rw r refl in cc
 
 pub loop-place-preserved : goal.loop-place-preserved
 loop-place-preserved c =
@@ -72,7 +72,7 @@ loop-place-2-preserved c =
                   let off : get_or chained place false ≡ false = read_chained v.index-else-index-2.result.now v.index-else-index-2.ensures ∙ u.if-not-index.true in
                   let fresh : get_or seen place false ≡ false = read_seen u.index-then-not-index.result.now u.index-then-not-index.ensures ∙ not_true _ (sym u.value-is ∙ v.if-not-index-2.true) in
                   found_cycle next c.requires starts are chained all place seen c.if-index-2.seen.items o os c.loop-place-2.invariant w.in_ok-orbit-2.ensures off fresh marked
-              | else-not-index u ↦ absurd (both_ways _ _ v.if-not-index-2.true u.value-is u.if-not-index.false)
+              | else-not-index u ↦ absurd (not_opposite _ _ v.if-not-index-2.true u.value-is u.if-not-index.false)
             ]
           ])
       | else-index-2+else-not-index-2 w ↦
