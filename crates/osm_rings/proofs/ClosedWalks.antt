@@ -1,13 +1,13 @@
 -- Closed walks that pass each edge once are the rings.
 use Rattle.std.proofs.Common.{◌≡◌, ℕ, zero, suc, ◌+◌, ◌-◌, ◌<◌, ◌≤◌, List, [], ◌∷◌, ◌++◌, length, get_or, map, All, Option, Some, cond, refl, sym, ap, subst, ◌∙◌, arith, ⊎_elim, count_by, sum_by, eqb}
-use Rattle.std.proofs.lemmas.Bool.{cases_lt}
+use Rattle.std.proofs.lemmas.Bool.{cases_lt, lt-ltb}
 use Rattle.std.proofs.lemmas.List.{get_or_default}
 use Rattle.std.proofs.lemmas.List.Sums.{sum_by-cons}
 use Rattle.orbits.specs.Once.{HoldEachOnce}
 use Rattle.orbits.specs.Orbits.{AreOrbits, IsOrbit, after, first, last_number}
 use Rattle.orbits.proofs.Finding.{some_or_none}
 use Rattle.orbits.proofs.Members.{count_absent, find}
-use Rattle.orbits.proofs.Reading.{ltb_yes, unwrap}
+use Rattle.orbits.proofs.Reading.{unwrap}
 use Rattle.orbits.proofs.Sums.{all_below, sums_agree}
 use Rattle.osm_geom.specs.declared.edge.Edge.{Edge}
 use Rattle.osm_geom.specs.declared.point.Point.{Point}
@@ -58,7 +58,7 @@ module _ (es : List Edge) (o : List ℕ) (w : IsClosedWalk es o) where
 module _ (es : List Edge) (walks : List (List ℕ)) (each : All (IsClosedWalk es) walks) (once : HoldEachOnce (length es) walks) where
   -- what holds of each place of each walk holds of each place
   held : (P : ℕ → Type 0) → All (λ o. (k : ℕ) → k < length o → P (get_or o k 0)) walks → (i : ℕ) → i < length es → P i
-  held P all i h = somewhere walks all (let one = once i in let yes = ap (λ b. cond {A = ℕ} b 1 0) (ltb_yes i (length es) h) in omega arith)
+  held P all i h = somewhere walks all (let one = once i in let yes = ap (λ b. cond {A = ℕ} b 1 0) (lt-ltb i (length es) h) in omega arith)
     where
       somewhere : (os : List (List ℕ)) → All (λ o. (k : ℕ) → k < length o → P (get_or o k 0)) os → 1 ≤ sum_by (count_by (eqb i)) os → P i
       somewhere [] all some = absurd (omega arith)

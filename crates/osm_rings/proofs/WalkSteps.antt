@@ -1,14 +1,15 @@
 -- The steps of walks along edges, and of what is noted on the way.
 use Rattle.std.proofs.Common.{◌≡◌, ◌≢◌, ℕ, zero, suc, ◌+◌, ◌-◌, ◌<◌, ◌≤◌, List, [], ◌∷◌, ◌++◌, length, get_or, map, set, take, All, Bool, false, true, Some, cond, refl, sym, ap, subst, ◌∙◌, arith, ⊎_elim, count_by, sum_by, eqb, ltb}
 use Rattle.std.specs.List.{concat}
-use Rattle.std.proofs.lemmas.Bool.{cases_lt}
+use Rattle.std.proofs.lemmas.Bool.{cases_lt, le-ltb, lt-ltb}
 use Rattle.std.proofs.lemmas.List.{append-nil, append_assoc, get_or-set_other, get_or-set_same, get_or_default, length-append, length-take-le, map-append, take_more_set}
 use Rattle.std.proofs.lemmas.List.Elements.{All-nil, All-push}
 use Rattle.std.proofs.lemmas.List.Folds.{concat-append}
 use Rattle.std.proofs.lemmas.List.Sums.{sum_by-append, sum_by-cons}
 use Rattle.orbits.specs.Once.{HoldEachOnce}
 use Rattle.orbits.proofs.Members.{Absent, Distinct, Present, count_absent, count_present, distinct_below, find}
-use Rattle.orbits.proofs.Reading.{at_new, at_old, clash, length_push, ltb_no, ltb_yes}
+use Rattle.orbits.proofs.Reading.{at_new, at_old, length_push}
+use Rattle.lists.proofs.ListsKit.{clash}
 use Rattle.osm_geom.specs.declared.edge.Edge.{Edge}
 use Rattle.osm_rings.specs.Apart.{IsFirstLeaving, LeavesFirst}
 use Rattle.osm_rings.specs.Walked.{AreMarked, AreNoted, FollowAtPlaces, IsClosedWalk, IsFollower, IsFresh, IsNoted}
@@ -141,8 +142,8 @@ module _ (n : ℕ) (places : List ℕ) (within : All (λ i. i < n) places) (apar
 
   counts : (i : ℕ) → count_by (eqb i) places ≡ cond {A = ℕ} (ltb i n) 1 0
   counts i = ⊎_elim
-      (λ h. let p = present i h in count_present i places p.0 apart p.1 p.2 ∙ sym (ap (λ b. cond {A = ℕ} b 1 0) (ltb_yes i n h)))
-      (λ h. count_absent i places (λ k l e. let low = within k 0 l in absurd (omega (arith, e, h, low))) ∙ sym (ap (λ b. cond {A = ℕ} b 1 0) (ltb_no i n h)))
+      (λ h. let p = present i h in count_present i places p.0 apart p.1 p.2 ∙ sym (ap (λ b. cond {A = ℕ} b 1 0) (lt-ltb i n h)))
+      (λ h. count_absent i places (λ k l e. let low = within k 0 l in absurd (omega (arith, e, h, low))) ∙ sym (ap (λ b. cond {A = ℕ} b 1 0) (le-ltb i n h)))
       (cases_lt i n)
 
   count-joined : (i : ℕ) (os : List (List ℕ)) → sum_by (count_by (eqb i)) os ≡ count_by (eqb i) (concat os)

@@ -130,9 +130,9 @@ module _ (e f : Edge) (he : sign (e.to.y -ℤ e.from.y) ≡ Plus) (hf : sign (f.
       tops-by Null Minus x y k l z u = absurd (cc l)
       tops-by Plus Plus x y k l z u = absurd (not-both z x u y)
       tops-by Plus Null x y k l z u = absurd (never-b (at-second-to e f he hf ∙ ap negated (at-end f.to Null y)) (order-up e.from f.to (low-to e.from.y f.to.y w.y z y)) (order-down e.to f.to (to-high f.to.y e.to.y w.y y x)))
-      tops-by Null Plus x y k l z u = absurd (never-d (sym at-first-to e f he hf ∙ at-end e.to Null x) (order-down e.to f.from (low-to f.from.y e.to.y w.y u x)) (order-up e.to f.to (to-high e.to.y f.to.y w.y x y)))
+      tops-by Null Plus x y k l z u = absurd (never-d (sym (at-first-to e f he hf) ∙ at-end e.to Null x) (order-down e.to f.from (low-to f.from.y e.to.y w.y u x)) (order-up e.to f.to (to-high e.to.y f.to.y w.y x y)))
       tops-by Null Null x y k l z u =
-          (one-point (from_to f.from f.to) f.to e.to hf (one-height e.to.y f.to.y w.y x y) (ap sign (side-there f.from f.to e.to) ∙ sym at-first-to e f he hf ∙ at-end e.to Null x), x)
+          (one-point (from_to f.from f.to) f.to e.to hf (one-height e.to.y f.to.y w.y x y) (ap sign (side-there f.from f.to e.to) ∙ sym (at-first-to e f he hf) ∙ at-end e.to Null x), x)
 
       -- both end above: at the height both begin, in one point
       pub bottoms-by : (g h : Sign) → sign (e.from.y -ℤ w.y) ≡ g → sign (f.from.y -ℤ w.y) ≡ h → not (is_plus g) ≡ true → not (is_plus h) ≡ true → sign (e.to.y -ℤ w.y) ≡ Plus → sign (f.to.y -ℤ w.y) ≡ Plus →
@@ -142,6 +142,6 @@ module _ (e f : Edge) (he : sign (e.to.y -ℤ e.from.y) ≡ Plus) (hf : sign (f.
       bottoms-by Null Plus x y k l z u = absurd (cc l)
       bottoms-by Minus Minus x y k l z u = absurd (not-both x z y u)
       bottoms-by Minus Null x y k l z u = absurd (never-a (at-second-from e f he hf ∙ ap negated (at-end f.from Null y)) (order-up e.from f.from (low-to e.from.y f.from.y w.y x y)) (order-down e.to f.from (to-high f.from.y e.to.y w.y y z)))
-      bottoms-by Null Minus x y k l z u = absurd (never-c (sym at-first-from e f he hf ∙ at-end e.from Null x) (order-down e.from f.from (low-to f.from.y e.from.y w.y y x)) (order-up e.from f.to (to-high e.from.y f.to.y w.y x u)))
+      bottoms-by Null Minus x y k l z u = absurd (never-c (sym (at-first-from e f he hf) ∙ at-end e.from Null x) (order-down e.from f.from (low-to f.from.y e.from.y w.y y x)) (order-up e.from f.to (to-high e.from.y f.to.y w.y x u)))
       bottoms-by Null Null x y k l z u =
-          (one-point (from_to f.from f.to) f.from e.from hf (one-height e.from.y f.from.y w.y x y) (sym at-first-from e f he hf ∙ at-end e.from Null x), x)
+          (one-point (from_to f.from f.to) f.from e.from hf (one-height e.from.y f.from.y w.y x y) (sym (at-first-from e f he hf) ∙ at-end e.from Null x), x)
