@@ -7,8 +7,6 @@ mod error;
 mod found;
 mod held;
 mod near_hash;
-#[cfg(test)]
-mod near_hash_tests;
 mod plain;
 mod problem;
 mod store;
@@ -18,6 +16,7 @@ mod view;
 pub use area::{UniqueId, area_id};
 pub use choice::{Choice, Keys};
 pub use error::AddError;
+pub use near_hash::NearHasher;
 pub use problem::{Note, Problem};
 pub use store::Store;
 pub use view::{NodeView, RelationView, WayView};

@@ -23,7 +23,7 @@ const APART: u64 = 0x6a09_e667_f3bc_c909;
 /// quarters alike in a table of any size, and sparse ones are scattered as by any hash. Like std's `FoldHasher` it has no
 /// secret: who picks the ids can pick them badly.
 #[derive(Clone, Copy)]
-pub(crate) struct NearHasher {
+pub struct NearHasher {
     // All numbers before the last.
     earlier: u64,
     // The last number.

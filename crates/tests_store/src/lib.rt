@@ -4,6 +4,8 @@
 #[cfg(test)]
 mod chosen;
 #[cfg(test)]
+mod hashing;
+#[cfg(test)]
 mod lent;
 #[cfg(test)]
 mod many;

@@ -1,20 +1,11 @@
-//! The hash of kinds and ids, which no public call shows: what a look-up finds is proved for every hasher.
+//! The hash of kinds and ids. Only speed rests on it: what a look-up finds is proved for every hasher.
 
-use crate::near_hash::NearHasher;
-use osm_elements::{ObjectKind, ObjectRef};
+use crate::reading::{NODE, RELATION, WAY, at};
+use osm_elements::ObjectRef;
+use osm_objects::NearHasher;
 use std::alloc::Global;
 use std::hash::{BuildHasher, BuildHasherDefault};
 use std::test::Fail;
-
-const NODE: ObjectKind = ObjectKind::Node;
-
-const WAY: ObjectKind = ObjectKind::Way;
-
-const RELATION: ObjectKind = ObjectKind::Relation;
-
-fn at(kind: ObjectKind, id: i64) -> ObjectRef {
-    ObjectRef { kind, id }
-}
 
 fn hash_of(of: ObjectRef) -> u64 {
     BuildHasherDefault::<NearHasher>::new().hash_one(of)
