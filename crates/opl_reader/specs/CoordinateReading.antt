@@ -1,5 +1,5 @@
 -- Coordinates as functions of their bytes.
-use Rattle.std.specs.Prelude.{ℕ, ◌==◌, List, length, pos, Option, Some, None, option_map, option_and_then}
+use Rattle.std.specs.Prelude.{ℕ, ◌==◌, if◌then◌else◌, List, length, pos, Option, Some, None, option_map, option_and_then}
 use Rattle.osm_elements.specs.declared.coordinate.Longitude.{Longitude}
 use Rattle.osm_elements.specs.declared.coordinate.Latitude.{Latitude}
 use Rattle.opl_reader.specs.NumberReading.{decimal_of}
