@@ -159,7 +159,7 @@ last_reading r number fault lt (Err other) e h = record {
 last_length : (r : Reader) (number : ℕ) (fault : LineFault) → (b : Bool) → (length r.unfinished == 0) ≡ b →
     (if b then Ok (None, record r { has_ended = true }) else with_last_line r (reading r.unfinished)) ≡ Err (Line number fault) → LastRefused r number fault
 last_length r number fault true e h = absurd (cc)
-last_length r number fault false e h = last_reading r number fault (positive (length r.unfinished) e) (reading r.unfinished) refl h
+last_length r number fault false e h = let some = eqb-false (length r.unfinished) 0 e in last_reading r number fault (omega arith) (reading r.unfinished) refl h
 
 last_end : (r : Reader) (number : ℕ) (fault : LineFault) → (b : Bool) →
     (if b then Err Ended else (if length r.unfinished == 0 then Ok (None, record r { has_ended = true }) else with_last_line r (reading r.unfinished))) ≡ Err (Line number fault) → LastRefused r number fault
