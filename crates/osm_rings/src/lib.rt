@@ -2,7 +2,8 @@
 #![tactic(auto)]
 
 mod departures;
-mod few_rings;
+mod few;
+mod keys;
 mod laws;
 mod one_list;
 mod ring;

@@ -12,7 +12,7 @@ ghost use Rattle.osm_geom.specs.InPlane.Multiple.{whole_edges};
 ghost use Rattle.osm_geom.specs.InPlane.Sided.{IsSided};
 
 use crate::departures::{Departure, are_apart, departures, node_numbers};
-use crate::few_rings::few_rings;
+use crate::few::walks::few_rings;
 use crate::ring::{Ring, Rings};
 use crate::successors::successors;
 use orbits::{cut, cycles};

@@ -6,10 +6,11 @@ ghost use Rattle.osm_segments.specs.Counts.{AreOddNodes};
 ghost use Rattle.osm_segments.specs.Pairs.{conflicts_of, pair_cmp};
 ghost use Rattle.osm_segments.specs.Sweep.{AreByEnds};
 
-use crate::clear::{by_ends, sort_by_ends};
 use crate::counts::odd_nodes;
-use crate::pairs::{FEW, Pair, conflicts_along, conflicts_of_few};
+use crate::few::pairs::{FEW, conflicts_of_few};
+use crate::pairs::{Pair, conflicts_along};
 use crate::parity::are_even;
+use crate::sweep::clear::{by_ends, sort_by_ends};
 use osm_lattice::{Loc, Seg};
 use std::alloc::{AllocError as OutOfMemory, Global};
 

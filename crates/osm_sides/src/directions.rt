@@ -12,9 +12,9 @@ ghost use Rattle.osm_geom.specs.declared.edge.Carrier.TheVariants.{OfSeg};
 ghost use Rattle.osm_sides.specs.Directions.{AreDirected, CountsParity};
 ghost use Rattle.osm_sides.specs.Sweep.{AreDirectedTo};
 
-use crate::following::direction;
-use crate::leaving::{leave, leaving};
-use crate::rows::{direct_row, enter_row};
+use crate::few::following::direction;
+use crate::sweep::leaving::{leave, leaving};
+use crate::sweep::rows::{direct_row, enter_row};
 use chunked_list::ChunkedList;
 use osm_geom::{Edge, Seg};
 use osm_segments::in_order_of_ends;
