@@ -12,6 +12,8 @@ use osm_rings::Ring;
 use std::alloc::{AllocError as OutOfMemory, Global};
 
 /// For each inner ring the place of the outer ring that directly encloses it; for an outer ring None.
+///
+/// Ways: up to 8 inner rings by a search (few); all others by a sweep (sweep), and where it doesn't tell by the search (few).
 pub(crate) fn direct_enclosers(
     alloc: Global,
     rings: &[Ring],

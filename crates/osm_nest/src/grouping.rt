@@ -137,6 +137,8 @@ fn under_one(alloc: Global, rings: Rings, only: usize) -> Result<Polygons, OutOf
 }
 
 /// Each outer ring with those that it directly encloses.
+///
+/// Ways: rings of which one alone is outer (few); all others by direct enclosers.
 fn group(alloc: Global, rings: Rings) -> Result<Polygons, OutOfMemory>
     requires { AreRings rings }
     ensures { IfOk result (λ v. IsGrouping rings v) }

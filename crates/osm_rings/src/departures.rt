@@ -77,6 +77,8 @@ fn in_order_round<'a>(departures: Vec<Departure<'a>>) -> Result<Vec<Departure<'a
 }
 
 /// The departures in order: by their sort keys alone, where that is their order, as where no two leave one point.
+///
+/// Ways: departures whose order their sort keys tell; those that need directions round each point besides; all others by their points.
 fn in_order<'a>(departures: Vec<Departure<'a>>) -> Result<Vec<Departure<'a>>, OutOfMemory>
     ensures moved { IfOk result (λ v. IsPermutation departures.entry.items v.items) }
     ensures rising { IfOk result (λ v. AreRising v.items) }
@@ -171,6 +173,8 @@ fn is_first_at(departures: &[Departure], p: Point, place: usize) -> bool
 }
 
 /// How many departures begin before p: where some begin at p, the place of the first of these.
+///
+/// Ways: four places from the last one on by sort keys; other places by halves of the sort keys; all others by halves of the points.
 fn first_at(departures: &[Departure], keys: &[i64], near: usize, p: Point) -> usize
     requires { AreRising departures.now }
     ensures inside { result ≤ length departures.now }

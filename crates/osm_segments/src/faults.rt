@@ -26,6 +26,8 @@ pub struct Faults {
 }
 
 /// The odd nodes of segments, which are given in the order of their upper ends, too.
+///
+/// Ways: ends of which an even number lie at each location, passed by twos; all others by counting.
 fn odd_nodes_along(alloc: Global, segs: &[Seg], ends: &[Seg]) -> Result<Vec<Loc>, OutOfMemory>
     requires { IsPermutation segs.now ends.now }
     ensures { IfOk result (λ v. AreOddNodes segs.now v.items) }
@@ -66,6 +68,9 @@ fn faults_of_few(alloc: Global, segs: &[Seg]) -> Result<Faults, OutOfMemory>
     })
 }
 
+/// What keeps segments in strict order from being the edges of rings.
+///
+/// Ways: up to 32 segments by pairs, without a list by upper ends (few); all others by that list.
 fn all_faults(alloc: Global, segs: &[Seg]) -> Result<Faults, OutOfMemory>
     requires { IsRising seg_cmp segs.now }
     ensures conflicts { IfOk result (λ f. f.conflicts.items ≡ conflicts_of segs.now) }

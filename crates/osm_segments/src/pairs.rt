@@ -27,7 +27,9 @@ pub struct Pair {
 }
 
 /// The conflicts among segments in strict order, which are given in the order of their upper ends, too. One sweep finds most long lists
-/// free of conflicts; only where it doesn't is the list divided.
+/// free of conflicts.
+///
+/// Ways: segments that one sweep finds free of conflicts (sweep); all others by cells (cells).
 pub(crate) fn conflicts_along(
     alloc: Global,
     segs: &[Seg],
@@ -47,6 +49,9 @@ pub(crate) fn conflicts_along(
     distinct_items(alloc, &pairs)
 }
 
+/// The conflicts among segments in strict order.
+///
+/// Ways: up to 32 segments by pairs (few); more that one sweep finds free of conflicts (sweep); all others by cells (cells).
 fn all_conflicts(alloc: Global, segs: &[Seg]) -> Result<Vec<Pair>, OutOfMemory>
     requires { IsRising seg_cmp segs.now }
     ensures { IfOk result (λ v. v.items ≡ conflicts_of segs.now) }

@@ -62,6 +62,9 @@ fn direct_few(alloc: Global, segs: &[Seg]) -> Result<Vec<Edge>, OutOfMemory>
 /// So few segments are directed sooner along their rings than by a sweep.
 const FEW: usize = 32;
 
+/// Each survivor directed, in order.
+///
+/// Ways: segments given by upper ends too, by a sweep (sweep); up to 32 along their rings (few); all others by sorting and a sweep (sweep).
 fn direct_all(alloc: Global, segs: &[Seg], ends: Option<Vec<Seg>>) -> Result<Vec<Edge>, OutOfMemory>
     requires rising { IsRising seg_cmp segs.now }
     requires clear { conflicts_of segs.now ≡ [] }

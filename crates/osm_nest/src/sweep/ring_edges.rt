@@ -107,7 +107,9 @@ fn sorted_by_lower_ends<'a>(edges: Vec<RingEdge<'a>>) -> Result<Vec<RingEdge<'a>
     Ok(edges)
 }
 
-/// The edges in order of their lower ends: as they are, or by the sort keys of these, where that is their order.
+/// The edges in order of their lower ends.
+///
+/// Ways: edges that stand in order; those whose order their sort keys tell; all others by their points.
 pub(crate) fn by_lower_ends<'a>(edges: Vec<RingEdge<'a>>) -> Result<Vec<RingEdge<'a>>, OutOfMemory>
     ensures moved { IfOk result (λ v. IsPermutation edges.entry.items v.items) }
     ensures rise { IfOk result (λ v. StartsRise v.items) }

@@ -92,6 +92,8 @@ fn is_at(status: &ChunkedList<RingEdge>, place: usize, edge: &RingEdge) -> bool 
 }
 
 /// Where an edge stands, if that is where the status changed last, or beside that; else where the search sees it. Nothing rests on it but speed.
+///
+/// Ways: the four places beside where the status changed last; all others by a search.
 fn place_of(status: &ChunkedList<RingEdge>, edge: &RingEdge, at: &Point) -> usize
     requires { is_within at.now edge.now ≡ true }
 {

@@ -34,6 +34,8 @@ fn find_near(status: &ChunkedList<Seg>, s: Seg) -> Option<usize>
 
 /// The place of a segment in the status of a sweep upwards, if it stands near where that changed last, or just behind those that are
 /// left of it below its upper end.
+///
+/// Ways: the four places beside where the status changed last; all others by a search.
 pub fn place_in_status(status: &ChunkedList<Seg>, s: Seg) -> Option<usize>
     ensures inside { IfSome result (λ place. place < length status.now) }
     ensures at { IfSome result (λ place. slice_index_or status.now place s ≡ s) }
