@@ -9,8 +9,7 @@ ghost use Rattle.osm_rings.specs.Apart.{LeaveApart};
 ghost use Rattle.osm_rings.specs.Departures.{AreClockwiseRound, AreDepartures, AreFrom, AreRising, IsEndAt, IsFirstAt, TellStarts, stands_before};
 
 use crate::keys::{compare_by_keys, guess_first};
-use crate::sort_keys::sort_key;
-use osm_geom::{Dir, Edge, Point, clockwise, compare_points, order_points};
+use osm_geom::{Dir, Edge, Point, clockwise, compare_points, order_points, sort_key};
 use std::alloc::{AllocError as OutOfMemory, Global};
 use std::cmp::Ordering;
 use std::mem;

@@ -4,8 +4,7 @@
 ghost use Rattle.std.specs.Prelude.{◌<◌, length};
 
 use crate::departures::{Departure, EAST};
-use crate::sort_keys::sort_key;
-use osm_geom::{Point, clockwise};
+use osm_geom::{Point, clockwise, sort_key};
 use std::alloc::{AllocError as OutOfMemory, Global};
 use std::cmp::Ordering;
 

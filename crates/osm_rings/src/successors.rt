@@ -13,8 +13,7 @@ ghost use Rattle.osm_rings.specs.Departures.{AreClockwise, AreClockwiseRound, Ar
 
 use crate::departures::{Departure, EAST, leaving};
 use crate::keys::keys_of;
-use crate::sort_keys::sort_key;
-use osm_geom::{Dir, Edge, clockwise};
+use osm_geom::{Dir, Edge, clockwise, sort_key};
 use std::alloc::{AllocError as OutOfMemory, Global};
 
 /// By less than this the sort keys differ of the ends of an edge that is level.

@@ -7,8 +7,8 @@ ghost use Rattle.osm_nest.specs.SweptEdges.{AreRingEdges, AreSlopingEdges, IsOne
 
 use crate::outer::{is_rising, lower_end, upper_end};
 use crate::sweep::ring_edge::RingEdge;
-use osm_geom::{Edge, order_points, spans_height};
-use osm_rings::{Ring, sort_key};
+use osm_geom::{Edge, order_points, sort_key, spans_height};
+use osm_rings::Ring;
 use std::alloc::{AllocError as OutOfMemory, Global};
 use std::mem;
 

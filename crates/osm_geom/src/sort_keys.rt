@@ -1,5 +1,5 @@
 //! Whole numbers by which points are sorted fast. Nothing rests on them but speed.
-use osm_geom::Point;
+use crate::point::Point;
 
 /// A number for the point (x, y), of which the one with the lesser y has the lesser, and of one height the one with the lesser x.
 fn key_at(x: i64, y: i64) -> i64 {
