@@ -59,6 +59,8 @@ impl<'a, T: Copy> Search<'a, T> {
     }
 
     /// Where the items that pass end, looked for near a place first.
+    ///
+    /// Ways: up to four steps from the place; the chunk in which the end seems to lie; all others by halves.
     pub(crate) fn point<F: Fn(&T) -> bool>(&self, near: usize, test: &F) -> usize
         requires { F.IsAlwaysCallable test.now }
         ensures within { result ≤ length self.now }

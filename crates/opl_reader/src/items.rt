@@ -80,6 +80,8 @@ fn is_key_among_few(tags: &Tags, key: &str) -> bool
 }
 
 /// Whether a tag has this key: one of the first few, or one of the later ones, whose keys are given.
+///
+/// Ways: the first 16 tags one by one; all others by a set of their keys.
 fn has_key(tags: &Tags, later_keys: &BTreeSet<String>, key: &str) -> bool
     requires { HasKeysOf later_keys.now (drop 16 tags.now) }
     ensures { result ≡ list_any (λ t. bytes_eq t.key key.now) tags.now }
@@ -126,6 +128,8 @@ fn keep(
 }
 
 /// Adds the tag that an item spells, key=value, unless one with its key is there.
+///
+/// Ways: keys and values without escapes as they stand; all others by texts that are read from them.
 #[tactic(auto, unfolding(crate::specs::ItemReading::tag_at))]
 fn add_tag(
     alloc: Global,
@@ -232,6 +236,8 @@ fn usual_ref(rest: &[u8]) -> Option<(Ref, usize)>
 }
 
 /// The reference that the first item is, how many bytes the item has, and what is left behind its comma.
+///
+/// Ways: references of an n and up to 18 digits; all others by the whole grammar.
 fn next_ref(rest: &str) -> (Option<Ref>, usize, Option<&str>)
     ensures first { IsFirstRef rest.now result.0 result.1 (option_copied result.2) }
     ensures utf8 { IfSome result.2 (λ left. IsUtf8 left.now) }

@@ -78,6 +78,8 @@ fn long_value(bytes: &[u8]) -> Option<u64>
 }
 
 /// The value of digits, at most 2^64 - 1; None where a byte is no digit.
+///
+/// Ways: up to 19 digits by plain sums; all others by sums that stop at the greatest number.
 fn value(bytes: &[u8]) -> Option<u64>
     ensures { result ≡ (if list_all is_ascii_digit bytes.now
         then Some (capped (digits_value 10 bytes.now)) else None) }
@@ -201,6 +203,8 @@ fn usual(text: &[u8]) -> Option<u64>
 }
 
 /// The units of digits with a point, as far as the machine counts.
+///
+/// Ways: decimals of up to 180 degrees and a point; all others by the whole grammar.
 #[tactic(auto, unfolding(crate::specs::NumberReading::unsigned_of))]
 fn unsigned(text: &[u8]) -> Option<u64>
     ensures { result ≡ option_map capped (unsigned_of text.now) }

@@ -28,8 +28,9 @@ fn differ(names: &[i64]) -> bool
     true
 }
 
-/// Whether no two of these names are the same. More than a few are told by sorting a copy, which takes less time and memory
-/// than a table of them.
+/// Whether no two of these names are the same. To sort a copy takes less time and memory than a table of them.
+///
+/// Ways: up to 8 names by pairs; all others by a sorted copy.
 pub fn all_differ(alloc: Global, names: &[i64]) -> Result<bool, OutOfMemory>
     ensures { IfOk result (λ all. all ≡ true → differ names.now ≡ true) }
 {

@@ -107,6 +107,8 @@ fn outcome_by(
 }
 
 /// What comes of a candidate by the ways that it names. Most name each once.
+///
+/// Ways: names that all differ; all others by a table of them.
 fn outcome_by_names(
     alloc: Global,
     store: &Store,

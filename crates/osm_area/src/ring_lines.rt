@@ -67,6 +67,8 @@ fn some_inner_along(polygons: &[Polygon], seg: &Seg) -> bool
 }
 
 /// The rings of polygons that have no more than so many segments.
+///
+/// Ways: up to 16 segments by going through them; all others by sorted lists.
 pub fn ring_lines<'a>(
     alloc: Global,
     polygons: &'a [Polygon],

@@ -15,6 +15,7 @@ mod level;
 mod point;
 mod point_order;
 mod ratio;
+mod sort_keys;
 mod span;
 mod turning;
 
@@ -34,5 +35,6 @@ pub use osm_lattice::{
 };
 pub use point::{Part, Point};
 pub use point_order::{compare_points, order_points};
+pub use sort_keys::sort_key;
 pub use span::spans_height;
 pub use turning::clockwise;

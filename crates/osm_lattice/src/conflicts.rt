@@ -168,6 +168,8 @@ pub fn conflict_of_near(s: Seg, t: Seg) -> Option<Kind>
 }
 
 /// How two segments conflict, if they do. Two equal ones do not.
+///
+/// Ways: two of which one lies above or beside the other; two that few tests tell to be clear; all others by the definition.
 pub fn conflict(s: Seg, t: Seg) -> Option<Kind>
     ensures { result ≡ conflict_of s t }
 {

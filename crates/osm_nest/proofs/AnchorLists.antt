@@ -2,7 +2,7 @@
 use Rattle.std.proofs.Common.{Bool, List, [], ap, arith, false, get_or, length, subst, sym, ℕ, ◌++◌, ◌+◌, ◌<◌, ◌∙◌, ◌∷◌, ◌≡◌}
 use Rattle.std.proofs.lemmas.List.{get_or_default, length-append}
 use Rattle.osm_geom.specs.declared.edge.Edge.{Edge}
-use Rattle.osm_nest.specs.declared.ring_edge.RingEdge.{RingEdge}
+use Rattle.osm_nest.specs.declared.sweep.ring_edge.RingEdge.{RingEdge}
 use Rattle.osm_nest.specs.declared.ring_anchors.Anchors.{Anchors}
 use Rattle.osm_nest.specs.Anchors.{AreAnchors, IsAnchorAt}
 use Rattle.osm_nest.specs.Enclosers.{TellsOuter}

@@ -18,7 +18,7 @@ use Rattle.plane_lists.proofs.WindingKit.{anchor_one, anchor_span}
 use Rattle.lists.proofs.ListsKit.{at-in, clash, in-at, in-map, in-map-out, map-map}
 use Rattle.osm_geom.specs.declared.edge.Edge.{Edge}
 use Rattle.osm_geom.specs.InPlane.Multiple.{IsWholeAt, edge_times, edges_times, product_of_denominators}
-use Rattle.osm_nest.specs.declared.enclosers.Encloser.{Encloser}
+use Rattle.osm_nest.specs.declared.few.search.Encloser.{Encloser}
 use Rattle.osm_nest.specs.Beside.{IsEncloser, IsNearestUpTo, IsSloping, is_around, is_nearer, is_right_of_lower_end}
 use Rattle.osm_nest.specs.Enclosers.{segments_at}
 use Rattle.osm_nest.specs.Outer.{AreConflictFree, IsAnchorOf, IsInner, IsOuter}

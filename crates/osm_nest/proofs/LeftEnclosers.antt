@@ -17,7 +17,7 @@ use Rattle.plane_lists.specs.Statuses.Status.{IsStatus}
 use Rattle.plane_lists.proofs.StatusKit.{nearest}
 use Rattle.osm_geom.specs.declared.edge.Edge.{Edge}
 use Rattle.osm_geom.specs.InPlane.Multiple.{product_of_denominators}
-use Rattle.osm_nest.specs.declared.ring_edge.RingEdge.{RingEdge}
+use Rattle.osm_nest.specs.declared.sweep.ring_edge.RingEdge.{RingEdge}
 use Rattle.osm_nest.specs.Beside.{IsSloping}
 use Rattle.osm_nest.specs.Enclosers.{IsDirectEncloser, segments_at}
 use Rattle.osm_nest.specs.SweptEdges.{AreSlopingEdges, IsSlopingEdge}

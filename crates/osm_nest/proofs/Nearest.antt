@@ -14,7 +14,7 @@ use Rattle.lists.proofs.ListsKit.{clash, in-either, in-left, in-map, in-right, i
 use Rattle.plane_lists.proofs.NestingKit.{beyond-order, pairs-of}
 use Rattle.std.specs.List.{count_by, filter}
 use Rattle.osm_geom.specs.declared.edge.Edge.{Edge}
-use Rattle.osm_nest.specs.declared.enclosers.Encloser.{Encloser}
+use Rattle.osm_nest.specs.declared.few.search.Encloser.{Encloser}
 use Rattle.osm_nest.specs.Beside.{IsBestUpTo, IsEncloser, IsEncloserAt, IsEncloserBy, IsNearest, IsNearestRight, IsNearestUpTo, IsRightOf, nearer_encloser, nearest_so_far, is_around, is_nearer, is_right_of_lower_end, nearer_edge}
 use Rattle.osm_nest.specs.Outer.{AreConflictFree, IsOuter}
 use Rattle.osm_nest.proofs.Beside.{nearer-at, nearer-chain, not-nearer, not-nearer-itself, right-at}

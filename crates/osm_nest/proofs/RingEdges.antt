@@ -12,7 +12,7 @@ use Rattle.std.proofs.lemmas.List.{get_or_default, take_all, take_more}
 use Rattle.lists.specs.Member.{In}
 use Rattle.lists.proofs.ListsKit.{all-in, in-either, in-left, in-right}
 use Rattle.osm_geom.specs.declared.edge.Edge.{Edge}
-use Rattle.osm_nest.specs.declared.ring_edge.RingEdge.{RingEdge}
+use Rattle.osm_nest.specs.declared.sweep.ring_edge.RingEdge.{RingEdge}
 use Rattle.osm_nest.specs.Beside.{IsSloping}
 use Rattle.osm_nest.specs.SweptEdges.{AreSlopingEdges, AreRingEdges, IsOneMore, IsSlopingEdge, StartsRise}
 

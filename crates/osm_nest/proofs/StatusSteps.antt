@@ -8,7 +8,7 @@ use Rattle.osm_geom.specs.declared.edge.Edge.{Edge}
 use Rattle.osm_geom.specs.declared.point.Point.{Point}
 use Rattle.osm_geom.specs.JustAbove.{just_above_cmp}
 use Rattle.osm_geom.specs.Span.{lower_end, spans}
-use Rattle.osm_nest.specs.declared.ring_edge.RingEdge.{RingEdge}
+use Rattle.osm_nest.specs.declared.sweep.ring_edge.RingEdge.{RingEdge}
 use Rattle.osm_nest.specs.SweptEdges.{HasNeighbour, IsPut, is_within, left_at}
 use Rattle.osm_nest.proofs.FilteredLists.{filter-insert, kept, kept-at, kept-inside, kept-most, kept-next}
 

@@ -21,7 +21,7 @@ use Rattle.osm_geom.specs.declared.edge.Edge.{Edge}
 use Rattle.osm_geom.specs.declared.point.Point.{Point}
 use Rattle.osm_geom.specs.Span.{lower_end}
 use Rattle.osm_geom.specs.InPlane.Multiple.{product_of_denominators}
-use Rattle.osm_nest.specs.declared.ring_edge.RingEdge.{RingEdge}
+use Rattle.osm_nest.specs.declared.sweep.ring_edge.RingEdge.{RingEdge}
 use Rattle.osm_nest.specs.RingLists.{AreRings, all_edges, whole_rings}
 use Rattle.osm_nest.specs.SweptEdges.{AreSlopingEdges, IsSlopingEdge, IsRowPut, PutRow, StartsRise, is_within}
 use Rattle.osm_nest.proofs.DirectEnclosers.{listed, nest, segments-in}

@@ -2,7 +2,7 @@
 use Rattle.std.specs.Prelude.{List, [], get_or, length, ℕ, ◌<◌, ◌≡◌}
 use Rattle.osm_geom.specs.declared.edge.Edge.{Edge}
 use Rattle.osm_nest.specs.declared.ring_anchors.Anchors.{Anchors}
-use Rattle.osm_nest.specs.declared.ring_edge.RingEdge.{RingEdge}
+use Rattle.osm_nest.specs.declared.sweep.ring_edge.RingEdge.{RingEdge}
 use Rattle.osm_nest.specs.Enclosers.{TellOuter}
 use Rattle.osm_nest.specs.Outer.{IsAnchorOf}
 

@@ -7,7 +7,7 @@ use Rattle.plane_lists.specs.Lists.Parity.{is_even}
 use Rattle.osm_geom.specs.declared.edge.Edge.{Edge}
 use Rattle.osm_geom.specs.JustAbove.{just_above_cmp}
 use Rattle.osm_geom.specs.Span.{lower_end, spans}
-use Rattle.osm_nest.specs.declared.enclosers.Encloser.{Encloser}
+use Rattle.osm_nest.specs.declared.few.search.Encloser.{Encloser}
 use Rattle.osm_nest.specs.Outer.{IsOuter}
 
 -- e isn't horizontal

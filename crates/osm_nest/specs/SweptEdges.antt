@@ -5,7 +5,7 @@ use Rattle.lists.specs.Member.{In}
 use Rattle.osm_geom.specs.declared.edge.Edge.{Edge}
 use Rattle.osm_geom.specs.JustAbove.{just_above_cmp}
 use Rattle.osm_geom.specs.Span.{lower_end, spans}
-use Rattle.osm_nest.specs.declared.ring_edge.RingEdge.{RingEdge}
+use Rattle.osm_nest.specs.declared.sweep.ring_edge.RingEdge.{RingEdge}
 use Rattle.osm_geom.specs.declared.point.Point.{Point}
 use Rattle.osm_geom.specs.Point.{point_cmp}
 use Rattle.osm_nest.specs.Beside.{IsSloping}

@@ -11,7 +11,7 @@ ghost use Rattle.osm_nest.specs.RingLists.{AreRings};
 ghost use Rattle.osm_geom.specs.WholeSegment.{IsWholeSegment};
 
 use crate::enclosers::direct_enclosers;
-use crate::one_outer::{inside_one, only_outer};
+use crate::few::one_outer::{inside_one, only_outer};
 use crate::polygon::{Polygon, Polygons};
 use crate::rings_from_least::{RingFromLeast, are_in_order, sorted, turned};
 use osm_rings::{Ring, Rings};
@@ -137,6 +137,8 @@ fn under_one(alloc: Global, rings: Rings, only: usize) -> Result<Polygons, OutOf
 }
 
 /// Each outer ring with those that it directly encloses.
+///
+/// Ways: rings of which one alone is outer (few); all others by direct enclosers.
 fn group(alloc: Global, rings: Rings) -> Result<Polygons, OutOfMemory>
     requires { AreRings rings }
     ensures { IfOk result (λ v. IsGrouping rings v) }

@@ -3,20 +3,15 @@
 
 mod cutting;
 mod enclosers;
+mod few;
 mod grouping;
-mod heights;
 mod laws;
 mod one_nesting;
-mod one_outer;
 mod outer;
 mod polygon;
-mod reach;
 mod ring_anchors;
-mod ring_edge;
-mod ring_edges;
 mod rings_from_least;
-mod sweep_status;
-mod swept_enclosers;
+mod sweep;
 pub mod valid_polygons;
 
 pub use cutting::polygons;

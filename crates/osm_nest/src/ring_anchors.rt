@@ -4,7 +4,7 @@ ghost use Rattle.osm_nest.specs.Anchors.{AreAnchors};
 ghost use Rattle.osm_nest.specs.RingLists.{AreRings};
 
 use crate::outer::{anchor, is_rising};
-use crate::ring_edge::RingEdge;
+use crate::sweep::ring_edge::RingEdge;
 use osm_rings::Ring;
 use std::alloc::{AllocError as OutOfMemory, Global};
 

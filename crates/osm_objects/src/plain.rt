@@ -118,6 +118,8 @@ fn node_at(nodes: &[PlainNode], place: usize, of: ObjectRef) -> Option<PlainNode
 }
 
 /// The node of this id among nodes whose ids rise.
+///
+/// Ways: ids above all others; those that stand where they would if ids rose evenly; all others by halves.
 fn by_id(nodes: &[PlainNode], of: ObjectRef) -> Option<PlainNode>
     requires { HaveRisingIds nodes.now }
     ensures { result ≡ find (λ n. int_eq of.id n.id) nodes.now }

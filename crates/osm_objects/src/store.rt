@@ -144,6 +144,8 @@ impl Store {
     }
 
     /// Where an object is held.
+    ///
+    /// Ways: plain nodes in their row; all others by the table.
     fn find(&self, of: ObjectRef) -> Found<'_>
         ensures { object_found of.id result ≡ object_at self.now of }
     {

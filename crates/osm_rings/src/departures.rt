@@ -4,23 +4,18 @@
 ghost use Rattle.std.specs.Prelude.{◌≡◌, ◌<◌, ◌≤◌, ◌-◌, All, IfOk, IsPermutation, List, false, length, not, slice_index_or, true};
 ghost use Rattle.std.specs.Ordering.{is_lt};
 ghost use Rattle.osm_geom.specs.declared.edge.Edge.{Edge};
-ghost use Rattle.osm_geom.specs.Dir.{vector_along};
-ghost use Rattle.osm_geom.specs.Edge.{direction_of};
 ghost use Rattle.osm_geom.specs.Point.{point_cmp};
 ghost use Rattle.osm_rings.specs.Apart.{LeaveApart};
 ghost use Rattle.osm_rings.specs.Departures.{AreClockwiseRound, AreDepartures, AreFrom, AreRising, IsEndAt, IsFirstAt, TellStarts, stands_before};
 
-use crate::sort_keys::sort_key;
-use osm_geom::{Dir, Edge, Point, clockwise, compare_points, order_points};
+use crate::keys::{compare_by_keys, guess_first};
+use osm_geom::{Dir, Edge, Point, clockwise, compare_points, order_points, sort_key};
 use std::alloc::{AllocError as OutOfMemory, Global};
 use std::cmp::Ordering;
 use std::mem;
 
 /// The direction from which the departures round a point are told, clockwise.
 pub const EAST: Dir = Dir { dx: 1, dy: 0 };
-
-/// So many places near another are looked at before all are searched.
-const STEPS: usize = 4;
 
 /// An edge, its place in the list, and the sort key of the point that it leaves.
 #[derive(Clone, Copy, Debug)]
@@ -35,14 +30,6 @@ fn compare_departures(departure: &Departure, other: &Departure) -> Ordering
     ensures { is_lt result ≡ stands_before departure.now other.now }
 {
     match order_points(&departure.edge.from, &other.edge.from) {
-        Ordering::Equal => clockwise(EAST, departure.edge.dir(), other.edge.dir()),
-        order => order,
-    }
-}
-
-/// The same by the sort keys of the points.
-fn compare_by_keys(departure: &Departure, other: &Departure) -> Ordering {
-    match departure.key.cmp(&other.key) {
         Ordering::Equal => clockwise(EAST, departure.edge.dir(), other.edge.dir()),
         order => order,
     }
@@ -89,6 +76,8 @@ fn in_order_round<'a>(departures: Vec<Departure<'a>>) -> Result<Vec<Departure<'a
 }
 
 /// The departures in order: by their sort keys alone, where that is their order, as where no two leave one point.
+///
+/// Ways: departures whose order their sort keys tell; those that need directions round each point besides; all others by their points.
 fn in_order<'a>(departures: Vec<Departure<'a>>) -> Result<Vec<Departure<'a>>, OutOfMemory>
     ensures moved { IfOk result (λ v. IsPermutation departures.entry.items v.items) }
     ensures rising { IfOk result (λ v. AreRising v.items) }
@@ -182,34 +171,9 @@ fn is_first_at(departures: &[Departure], p: Point, place: usize) -> bool
     parts_before(departures, p, place)
 }
 
-/// The sort keys of the points that departures leave, side by side, so that a search passes few bytes.
-pub fn keys_of(alloc: Global, departures: &[Departure]) -> Result<Vec<i64>, OutOfMemory> {
-    let mut keys = Vec::with_capacity(alloc, departures.len())?;
-    for departure in departures {
-        keys.push(departure.key)?;
-    }
-    Ok(keys)
-}
-
-/// Whether the keys before a place are below one, and those from there on aren't, as keys rise.
-fn parts_keys(keys: &[i64], place: usize, key: i64) -> bool
-    requires { place < length keys.now }
-{
-    (place == 0 || keys[place - 1] < key) && keys[place] >= key
-}
-
-/// Where the sort keys tell that the departures from p begin. It is looked for first at a place and few behind it.
-fn guess_first(keys: &[i64], near: usize, p: Point) -> usize {
-    let key = sort_key(p);
-    for place in near..near.saturating_add(STEPS).min(keys.len()) {
-        if parts_keys(keys, place, key) {
-            return place;
-        }
-    }
-    keys.partition_point(|other| *other < key)
-}
-
 /// How many departures begin before p: where some begin at p, the place of the first of these.
+///
+/// Ways: four places from the last one on by sort keys; other places by halves of the sort keys; all others by halves of the points.
 fn first_at(departures: &[Departure], keys: &[i64], near: usize, p: Point) -> usize
     requires { AreRising departures.now }
     ensures inside { result ≤ length departures.now }

@@ -2,16 +2,15 @@
 #![tactic(auto)]
 
 mod departures;
-mod few_rings;
+mod few;
+mod keys;
 mod laws;
 mod one_list;
 mod ring;
 mod ring_list;
-mod sort_keys;
 mod successors;
 
 pub use laws::{ring_list_of_edges_exists, rings_do_not_cross, successors_are_one_to_one};
 pub use one_list::ring_list_of_edges_is_one;
 pub use ring::{Ring, Rings};
 pub use ring_list::rings;
-pub use sort_keys::sort_key;

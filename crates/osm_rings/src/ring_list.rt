@@ -12,7 +12,7 @@ ghost use Rattle.osm_geom.specs.InPlane.Multiple.{whole_edges};
 ghost use Rattle.osm_geom.specs.InPlane.Sided.{IsSided};
 
 use crate::departures::{Departure, are_apart, departures, node_numbers};
-use crate::few_rings::few_rings;
+use crate::few::walks::few_rings;
 use crate::ring::{Ring, Rings};
 use crate::successors::successors;
 use orbits::{cut, cycles};
@@ -56,6 +56,8 @@ fn walked_rings(alloc: Global, edges: &[Edge], next: &[Option<usize>]) -> Result
 }
 
 /// The rings of a sided list of edges. Where no two edges leave one point, no walk needs to be cut.
+///
+/// Ways: edges of which no two leave one point by whole walks; all others by walks that are cut.
 fn cut_rings(alloc: Global, edges: &[Edge]) -> Result<Rings, OutOfMemory>
     requires { IsSided edges.now }
     ensures { IfOk result (λ v. AreRingsOf edges.now v) }
@@ -74,6 +76,8 @@ fn cut_rings(alloc: Global, edges: &[Edge]) -> Result<Rings, OutOfMemory>
 ///
 /// Each edge lies in exactly one ring, there once, and the edges of a ring lie in one walk of successors. By the law
 /// `rings_do_not_cross` no two rings cross. It takes time n log n, however many edges meet at a node. The error is want of memory.
+///
+/// Ways: up to 32 edges of which no two leave one point (few); all others by sorted departures.
 pub fn rings(alloc: Global, edges: &[Edge]) -> Result<Rings, OutOfMemory>
     requires { IsSided edges.now }
     ensures { IfOk result (λ v. AreRingsOf edges.now v) }

@@ -11,9 +11,9 @@ ghost use Rattle.osm_rings.specs.Clockwise.{is_met_before};
 ghost use Rattle.osm_rings.specs.Numbered.{edge_at};
 ghost use Rattle.osm_rings.specs.Departures.{AreClockwise, AreClockwiseRound, AreRising, AreDepartures, IsFirstMet};
 
-use crate::departures::{Departure, EAST, keys_of, leaving};
-use crate::sort_keys::sort_key;
-use osm_geom::{Dir, Edge, clockwise};
+use crate::departures::{Departure, EAST, leaving};
+use crate::keys::keys_of;
+use osm_geom::{Dir, Edge, clockwise, sort_key};
 use std::alloc::{AllocError as OutOfMemory, Global};
 
 /// By less than this the sort keys differ of the ends of an edge that is level.

@@ -12,9 +12,9 @@ use Rattle.osm_lattice.specs.declared.seg.Seg.{Seg}
 use Rattle.osm_lattice.specs.Loc.{orientation}
 use Rattle.osm_lattice.specs.Conflict.{conflict_of}
 use Rattle.osm_lattice.specs.ConflictLaws.{ConflictIsSymmetric, SegmentsPartedAreClear, reach}
-use Rattle.osm_segments.specs.declared.division.Direction.{Direction}
-use Rattle.osm_segments.specs.declared.division.Direction.TheVariants.{East, North, LeftOf}
-use Rattle.osm_segments.specs.declared.division.Line.{Line}
+use Rattle.osm_segments.specs.declared.cells.division.Direction.{Direction}
+use Rattle.osm_segments.specs.declared.cells.division.Direction.TheVariants.{East, North, LeftOf}
+use Rattle.osm_segments.specs.declared.cells.division.Line.{Line}
 use Rattle.osm_segments.specs.declared.pairs.Pair.{Pair}
 use Rattle.osm_segments.specs.Cells.{AreAdded, ends_beyond, is_beyond, reach_in, starts_before}
 use Rattle.osm_segments.specs.Pairs.{conflicts_of, pair_of}

@@ -4,9 +4,9 @@ use lib.Signed.{lt_z}
 use Rattle.osm_lattice.specs.declared.loc.Loc.{Loc}
 use Rattle.osm_lattice.specs.declared.seg.Seg.{Seg}
 use Rattle.osm_lattice.specs.Loc.{orientation}
-use Rattle.osm_segments.specs.declared.division.Direction.{Direction}
-use Rattle.osm_segments.specs.declared.division.Direction.TheVariants.{East, North, LeftOf}
-use Rattle.osm_segments.specs.declared.division.Line.{Line}
+use Rattle.osm_segments.specs.declared.cells.division.Direction.{Direction}
+use Rattle.osm_segments.specs.declared.cells.division.Direction.TheVariants.{East, North, LeftOf}
+use Rattle.osm_segments.specs.declared.cells.division.Line.{Line}
 use Rattle.osm_segments.specs.declared.pairs.Pair.{Pair}
 use Rattle.osm_segments.specs.Pairs.{conflicts_of}
 

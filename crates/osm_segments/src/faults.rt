@@ -6,10 +6,11 @@ ghost use Rattle.osm_segments.specs.Counts.{AreOddNodes};
 ghost use Rattle.osm_segments.specs.Pairs.{conflicts_of, pair_cmp};
 ghost use Rattle.osm_segments.specs.Sweep.{AreByEnds};
 
-use crate::clear::{by_ends, sort_by_ends};
 use crate::counts::odd_nodes;
-use crate::pairs::{FEW, Pair, conflicts_along, conflicts_of_few};
+use crate::few::pairs::{FEW, conflicts_of_few};
+use crate::pairs::{Pair, conflicts_along};
 use crate::parity::are_even;
+use crate::sweep::clear::{by_ends, sort_by_ends};
 use osm_lattice::{Loc, Seg};
 use std::alloc::{AllocError as OutOfMemory, Global};
 
@@ -25,6 +26,8 @@ pub struct Faults {
 }
 
 /// The odd nodes of segments, which are given in the order of their upper ends, too.
+///
+/// Ways: ends of which an even number lie at each location, passed by twos; all others by counting.
 fn odd_nodes_along(alloc: Global, segs: &[Seg], ends: &[Seg]) -> Result<Vec<Loc>, OutOfMemory>
     requires { IsPermutation segs.now ends.now }
     ensures { IfOk result (λ v. AreOddNodes segs.now v.items) }
@@ -65,6 +68,9 @@ fn faults_of_few(alloc: Global, segs: &[Seg]) -> Result<Faults, OutOfMemory>
     })
 }
 
+/// What keeps segments in strict order from being the edges of rings.
+///
+/// Ways: up to 32 segments by pairs, without a list by upper ends (few); all others by that list.
 fn all_faults(alloc: Global, segs: &[Seg]) -> Result<Faults, OutOfMemory>
     requires { IsRising seg_cmp segs.now }
     ensures conflicts { IfOk result (λ f. f.conflicts.items ≡ conflicts_of segs.now) }

@@ -2,18 +2,18 @@
 //! repeatedly, which conflict, and at which locations an odd number of them end.
 #![tactic(auto)]
 
-mod clear;
+mod cells;
 mod counts;
-mod division;
 mod faults;
-mod finding;
+mod few;
 mod laws;
 mod pairs;
 mod parity;
+mod sweep;
 
-pub use clear::in_order_of_ends;
 pub use counts::{Cancelled, Repeat, cancel, distinct, odd_nodes, repeated, survivors};
 pub use faults::{Faults, faults_of};
-pub use finding::place_in_status;
 pub use laws::{conflicts_have_their_kind, repeats_are_one, repeats_exist};
 pub use pairs::{Pair, conflicts};
+pub use sweep::clear::in_order_of_ends;
+pub use sweep::finding::place_in_status;

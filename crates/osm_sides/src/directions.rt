@@ -12,9 +12,9 @@ ghost use Rattle.osm_geom.specs.declared.edge.Carrier.TheVariants.{OfSeg};
 ghost use Rattle.osm_sides.specs.Directions.{AreDirected, CountsParity};
 ghost use Rattle.osm_sides.specs.Sweep.{AreDirectedTo};
 
-use crate::following::direction;
-use crate::leaving::{leave, leaving};
-use crate::rows::{direct_row, enter_row};
+use crate::few::following::direction;
+use crate::sweep::leaving::{leave, leaving};
+use crate::sweep::rows::{direct_row, enter_row};
 use chunked_list::ChunkedList;
 use osm_geom::{Edge, Seg};
 use osm_segments::in_order_of_ends;
@@ -62,6 +62,9 @@ fn direct_few(alloc: Global, segs: &[Seg]) -> Result<Vec<Edge>, OutOfMemory>
 /// So few segments are directed sooner along their rings than by a sweep.
 const FEW: usize = 32;
 
+/// Each survivor directed, in order.
+///
+/// Ways: segments given by upper ends too, by a sweep (sweep); up to 32 along their rings (few); all others by sorting and a sweep (sweep).
 fn direct_all(alloc: Global, segs: &[Seg], ends: Option<Vec<Seg>>) -> Result<Vec<Edge>, OutOfMemory>
     requires rising { IsRising seg_cmp segs.now }
     requires clear { conflicts_of segs.now ≡ [] }

@@ -3,12 +3,11 @@
 
 pub mod bands;
 mod directions;
-mod following;
+mod few;
 mod laws;
-mod leaving;
-mod rows;
 mod sides;
 pub mod stab;
+mod sweep;
 
 pub use crate::stab::{PlainStab, Stab};
 pub use directions::{direct, direct_along};

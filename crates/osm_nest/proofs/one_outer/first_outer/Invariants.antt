@@ -1,6 +1,0 @@
--- None of the rings passed is outer.
-use Rattle.osm_nest.specs.OneOuter.{AreInnerBetween}
-use Rattle.osm_nest.proofs.one_outer.first_outer.Given as goal
-
-abbrev pub invariant-loop-place : goal.invariant-loop-place
-invariant-loop-place l = AreInnerBetween l.rings 0 l.place

@@ -1,0 +1,3 @@
+//! Rings of few edges.
+
+pub mod walks;

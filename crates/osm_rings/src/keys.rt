@@ -1,0 +1,47 @@
+//! Departures by the sort keys of the points that they leave.
+//!
+//! Nothing rests on these but speed: who sorts or seeks by them then tests by the points themselves.
+ghost use Rattle.std.specs.Prelude.{◌<◌, length};
+
+use crate::departures::{Departure, EAST};
+use osm_geom::{Point, clockwise, sort_key};
+use std::alloc::{AllocError as OutOfMemory, Global};
+use std::cmp::Ordering;
+
+/// So many places near another are looked at before all are searched.
+const STEPS: usize = 4;
+
+/// The order of departures by the sort keys of the points that they leave, and round one point clockwise from the east.
+pub(crate) fn compare_by_keys(departure: &Departure, other: &Departure) -> Ordering {
+    match departure.key.cmp(&other.key) {
+        Ordering::Equal => clockwise(EAST, departure.edge.dir(), other.edge.dir()),
+        order => order,
+    }
+}
+
+/// The sort keys of the points that departures leave, side by side, so that a search passes few bytes.
+pub fn keys_of(alloc: Global, departures: &[Departure]) -> Result<Vec<i64>, OutOfMemory> {
+    let mut keys = Vec::with_capacity(alloc, departures.len())?;
+    for departure in departures {
+        keys.push(departure.key)?;
+    }
+    Ok(keys)
+}
+
+/// Whether the keys before a place are below one, and those from there on aren't, as keys rise.
+fn parts_keys(keys: &[i64], place: usize, key: i64) -> bool
+    requires { place < length keys.now }
+{
+    (place == 0 || keys[place - 1] < key) && keys[place] >= key
+}
+
+/// Where the sort keys tell that the departures from p begin. It is looked for first at a place and few behind it.
+pub(crate) fn guess_first(keys: &[i64], near: usize, p: Point) -> usize {
+    let key = sort_key(p);
+    for place in near..near.saturating_add(STEPS).min(keys.len()) {
+        if parts_keys(keys, place, key) {
+            return place;
+        }
+    }
+    keys.partition_point(|other| *other < key)
+}

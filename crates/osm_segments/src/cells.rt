@@ -1,0 +1,3 @@
+//! Conflicts among many segments, where the sweep doesn't find the list free of them.
+
+pub mod division;

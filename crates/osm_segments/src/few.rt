@@ -1,0 +1,3 @@
+//! Conflicts among few segments.
+
+pub mod pairs;

@@ -1,0 +1,4 @@
+//! One sweep upwards that finds most long lists of segments free of conflicts.
+
+pub mod clear;
+pub mod finding;

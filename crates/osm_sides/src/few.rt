@@ -1,0 +1,3 @@
+//! Directions of few segments.
+
+pub mod following;

@@ -1,0 +1,4 @@
+//! Directions of many segments, by one sweep upwards.
+
+pub mod leaving;
+pub mod rows;
