@@ -2,10 +2,11 @@
 use Rattle.std.proofs.Common.{◌≢◌, ℕ, ◌-◌, ◌<◌, List, length, get_or, replicate, Bool, false, arith, ⊎_elim, Option, None}
 use Rattle.std.proofs.lemmas.List.{length-replicate}
 use Rattle.std.proofs.lemmas.Bool.{both_ways}
+use Rattle.orbits.specs.Marks.{AreChained, IsMarked}
 use Rattle.orbits.specs.OrbitSteps.{AreStarts}
 use Rattle.orbits.specs.Orbits.{after, last_number, IsOneToOne}
 use Rattle.orbits.proofs.Exists.{starts_exist, walk_exists}
-use Rattle.orbits.proofs.Finding.{AreChained, IsMarked, blank, none_marked, on_or_off, start_open}
+use Rattle.orbits.proofs.Finding.{blank, none_marked, on_or_off, start_open}
 
 -- no number is marked
 abbrev pub unmarked : List (Option ℕ) → List Bool

@@ -2,8 +2,9 @@
 use Rattle.std.proofs.Common.{◌≡◌, ◌≢◌, ℕ, ◌+◌, ◌-◌, ◌<◌, ◌≤◌, List, [], ◌∷◌, ◌++◌, length, get_or, take, drop, set, All, refl, sym, ap, ◌∙◌, arith, ⊎_elim}
 use Rattle.std.proofs.lemmas.List.{append_assoc, append-nil, drop_more, get_or-set_same, get_or-set_other, length-take-le, length-drop, take-append-drop}
 use Rattle.std.proofs.lemmas.List.Elements.{All-push, All-take}
-use Rattle.std.proofs.lemmas.Bool.{cases_lt}
+use Rattle.std.proofs.lemmas.Bool.{cases_lt, cases_Bool, cond-true, cond-false, and_parts, and_cases, ltb-true, ltb-false, eqb-true, eqb-false}
 use Rattle.orbits.specs.Cutting.{IsPiece, AreCutOff, first_key}
+use Rattle.orbits.specs.Taking.{has_key_at, left_by, IsTaken}
 use Rattle.orbits.proofs.Reading.{at_take, at_drop, at_old, at_new, length_push}
 
 -- the stack, what has been cut off, and what is left of the walk: whatever is cut off the stack and the rest comes after what has been cut off
@@ -108,3 +109,28 @@ module _ (keys walk depths : List ℕ) (place : ℕ) (pieces : List (List ℕ)) 
   pub step_cut : (item d m : ℕ) (pieces_after : List (List ℕ)) (left after : List ℕ) → place < length walk → item ≡ get_or walk place 0 → item < length keys → get_or keys item 0 < length depths → d < length stack → get_or keys (get_or stack d 0) 0 ≡ get_or keys item 0 → pieces_after ≡ pieces ++ drop d stack ∷ [] → left ≡ take d stack → m ≡ length left → after ≡ left ++ item ∷ [] → IsStack keys walk (set depths (get_or keys item 0) m) (place + 1) pieces_after after
   step_cut item d m pieces_after left after l is keyed fits h same p q e f =
       rw (p, f, e, q) (push_stack keys walk depths place (pieces ++ drop d stack ∷ []) (take d stack) (cut_stack keys walk depths place pieces stack inv item d l is h same) item l is keyed fits (left_is_new keys walk depths place pieces stack inv item d h same))
+
+  -- whether or not it cuts something off, the item goes on the stack
+  pub step_taken : (item : ℕ) (depths_after stack_after : List ℕ) (pieces_after : List (List ℕ)) → place < length walk → item ≡ get_or walk place 0 → item < length keys → get_or keys item 0 < length depths → IsTaken keys item depths depths_after stack stack_after pieces pieces_after → IsStack keys walk depths_after (place + 1) pieces_after stack_after
+  step_taken item depths_after stack_after pieces_after l is keyed fits t =
+      let key = get_or keys item 0 in
+      let depth = get_or depths key 0 in
+      let has = has_key_at keys stack depth key in
+      rw t.depths_are (⊎_elim
+      (λ e.
+      let both = and_parts _ _ e in
+      let inside : depth < length stack = ltb-true depth (length stack) both.0 in
+      let same : get_or keys (get_or stack depth 0) 0 ≡ key = eqb-true (get_or keys (get_or stack depth 0) 0) key both.1 in
+      let left_is : left_by keys item depths stack ≡ take depth stack = cond-true has (take depth stack) stack e in
+      let cut_is : pieces_after ≡ pieces ++ drop depth stack ∷ [] = t.pieces_are ∙ cond-true has (pieces ++ drop depth stack ∷ []) pieces e in
+      step_cut item depth (length (left_by keys item depths stack)) pieces_after (left_by keys item depths stack) stack_after l is keyed fits inside same cut_is left_is refl t.stack_is)
+      (λ e.
+      let left_is : left_by keys item depths stack ≡ stack = cond-false has (take depth stack) stack e in
+      let whole : pieces_after ≡ pieces = t.pieces_are ∙ cond-false has (pieces ++ drop depth stack ∷ []) pieces e in
+      let long : length (left_by keys item depths stack) ≡ length stack = ap length left_is in
+      let after_is : stack_after ≡ stack ++ item ∷ [] = t.stack_is ∙ ap (λ s. s ++ item ∷ []) left_is in
+      rw whole (⊎_elim
+      (λ past. step_past keys walk depths place pieces stack inv item l is keyed (length (left_by keys item depths stack)) stack_after fits (ltb-false depth (length stack) past) long after_is)
+      (λ other. step_other keys walk depths place pieces stack inv item l is keyed (length (left_by keys item depths stack)) stack_after fits (eqb-false (get_or keys (get_or stack depth 0) 0) key other) long after_is)
+      (and_cases _ _ e)))
+      (cases_Bool has))

@@ -2,12 +2,13 @@
 use Rattle.std.proofs.Common.{◌≡◌, ℕ, zero, suc, ◌+◌, ◌<◌, List, [], ◌∷◌, ◌++◌, length, get_or, set, take, replicate, Bool, true, false, refl, sym, ◌∙◌, arith, ⊎_elim, Option, Some, None}
 use Rattle.std.proofs.lemmas.List.{get_or-replicate, length-replicate, take_all}
 use Rattle.std.proofs.lemmas.Bool.{both_ways}
+use Rattle.orbits.specs.Marks.{AreChained}
 use Rattle.orbits.specs.OrbitSteps.{AreMarkedAlso, AreStarts, IsWholeWalk}
 use Rattle.orbits.specs.Orbits.{after, IsOneToOne, AreOrbits, AreOrbitsInOrder}
 use Rattle.orbits.proofs.Reading.{length_push, unwrap}
 use Rattle.orbits.proofs.Walks.{IsWalkTo, walk_to_start, walk_to_more, walk_whole, walk_short}
 use Rattle.orbits.proofs.Marking.{marked_none, marked_more, AreStartsUpTo, starts_more, starts_pass, starts_all, same_or_not}
-use Rattle.orbits.proofs.Finding.{on_or_off, some_or_none, AreChained, chained_none, chained_more, chained_pass, AreFound, found_none, found_start, found_cycle, found_pass, found_all}
+use Rattle.orbits.proofs.Finding.{on_or_off, some_or_none, chained_none, chained_more, chained_pass, AreFound, found_none, found_start, found_cycle, found_pass, found_all}
 
 mark_from : (old : List Bool) (places : List ℕ) → ((k : ℕ) → k < length places → get_or places k 0 < length old) → (fuel i : ℕ) (new : List Bool) → AreMarkedAlso old (take i places) new → i + fuel ≡ length places → (marks : List Bool) × AreMarkedAlso old places marks
 mark_from old places fit zero i new m e = (new, rw (← take_all i places (omega arith)) m)

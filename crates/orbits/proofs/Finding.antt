@@ -1,10 +1,11 @@
 -- The steps of finding orbits with marks.
-use Rattle.std.proofs.Common.{◌≡◌, ◌≢◌, ◌⊎◌, inl, inr, ℕ, zero, suc, ◌+◌, ◌-◌, ◌<◌, ◌≤◌, List, [], ◌∷◌, ◌++◌, length, get_or, All, AllPairs, replicate, Bool, true, false, cond, refl, sym, ap, ◌∙◌, arith, ⊎_elim, Option, Some, None, count_by, sum_by, eqb}
-use Rattle.std.proofs.lemmas.Bool.{cases_lt, both_ways, lt-ltb, le-ltb}
+use Rattle.std.proofs.Common.{◌≡◌, ◌≢◌, ◌⊎◌, inl, inr, ℕ, zero, suc, ◌+◌, ◌-◌, ◌<◌, ◌≤◌, List, [], ◌∷◌, ◌++◌, length, get_or, All, AllPairs, replicate, Bool, true, false, cond, not, ◌&&◌, ◌||◌, refl, sym, ap, ◌∙◌, arith, ⊎_elim, Option, Some, None, count_by, sum_by, eqb}
+use Rattle.std.proofs.lemmas.Bool.{cases_lt, both_ways, lt-ltb, le-ltb, and_parts, and_cases, or_parts, not-true, not-false}
 use Rattle.std.proofs.lemmas.List.{get_or_past, get_or_default, get_or-replicate, length-replicate}
 use Rattle.std.proofs.lemmas.List.Sums.{sum_by_push}
 use Rattle.std.proofs.lemmas.List.Elements.{All-push}
 use Rattle.std.proofs.lemmas.List.Quantifiers.{all_pairs_push}
+use Rattle.orbits.specs.Marks.{AreChained, AreClosed, IsMarked, begins_orbit}
 use Rattle.orbits.specs.OrbitSteps.{AreMarkedAlso, IsWholeWalk, AreStarts}
 use Rattle.orbits.specs.Orbits.{after, IsOneToOne, IsOrbit, GoesOn, first, last_number, AreOrbits}
 use Rattle.orbits.proofs.Reading.{unwrap}
@@ -18,15 +19,6 @@ on_or_off false = inr refl
 pub some_or_none : (r : Option ℕ) → ((j : ℕ) × (r ≡ Some j)) ⊎ (r ≡ None)
 some_or_none (Some j) = inl (j, refl)
 some_or_none None = inr refl
-
-abbrev pub IsMarked : List Bool → ℕ → Type 0
-IsMarked marks x = get_or marks x false ≡ true
-
--- the marks hold whole orbits
-pub record AreClosed (next : List (Option ℕ)) (marks : List Bool) : Type 0 where
-  pub sized : length marks ≡ length next
-  pub on : (i j : ℕ) → after next i ≡ Some j → IsMarked marks i → IsMarked marks j
-  pub back : (i j : ℕ) → after next i ≡ Some j → IsMarked marks j → IsMarked marks i
 
 pub blank : (n x : ℕ) → get_or (replicate n false) x false ≡ false
 blank n x = ⊎_elim (λ h. get_or-replicate n x false false h) (λ h. get_or_past (replicate n false) x false (let e = length-replicate n false in omega arith)) (cases_lt x n)
@@ -131,12 +123,6 @@ module _ (next : List (Option ℕ)) (map : IsOneToOne next) where
         closes = λ j e. w.closes j e ∙ sym w.begins;
         opens = λ none i e. cycle_goes_on place o w off none;
       }
-
--- the open orbits that begin below a place are marked, and nothing that no start leads to
-pub record AreChained (next : List (Option ℕ)) (starts : List Bool) (place : ℕ) (chained : List Bool) : Type 0 where
-  pub closed : AreClosed next chained
-  pub heads : (j : ℕ) → j < place → IsMarked starts j → IsMarked chained j
-  pub reached : (D : ℕ → Bool) → ((j : ℕ) → IsMarked starts j → D j ≡ true) → ((i j : ℕ) → after next i ≡ Some j → D i ≡ true → D j ≡ true) → (x : ℕ) → IsMarked chained x → D x ≡ true
 
 -- the orbits that were found up to a place
 pub record AreFound (next : List (Option ℕ)) (starts chained : List Bool) (place : ℕ) (seen : List Bool) (os : List (List ℕ)) : Type 0 where
@@ -283,6 +269,22 @@ module _ (next : List (Option ℕ)) (map : IsOneToOne next) (starts : List Bool)
       firsts = f.firsts;
       least = f.least;
     }
+
+    -- an orbit begins here, or none
+    pub found_begun : (place : ℕ) (old new : List Bool) (o : List ℕ) (os : List (List ℕ)) → AreFound next starts chained place old os → IsWholeWalk next place o → begins_orbit starts chained old place ≡ true → AreMarkedAlso old o new → AreFound next starts chained (place + 1) new (os ++ o ∷ [])
+    found_begun place old new o os f w e a = ⊎_elim
+        (λ s. found_start place old new o os f w s a)
+        (λ n. let both = and_parts _ _ (sym (ap (λ b. b || (not (get_or chained place false) && not (get_or old place false))) n) ∙ e) in
+        found_cycle place old new o os f w (not-true _ both.0) (not-true _ both.1) a)
+        (on_or_off (get_or starts place false))
+
+    pub found_none_begun : (place : ℕ) (seen : List Bool) (os : List (List ℕ)) → AreFound next starts chained place seen os → begins_orbit starts chained seen place ≡ false → AreFound next starts chained (place + 1) seen os
+    found_none_begun place seen os f e =
+        let none = or_parts _ _ e in
+        found_pass place seen os f none.0 (λ off. ⊎_elim
+        (λ on. absurd (both_ways _ off (not-false _ on)))
+        (λ on. not-false _ on)
+        (and_cases _ _ none.1))
 
     pub found_all : (seen : List Bool) (os : List (List ℕ)) → AreFound next starts chained (length next) seen os → AreOrbits next os
     found_all seen os f = record {

@@ -5,10 +5,11 @@ use Rattle.std.proofs.Math.Seq.{take-append_seam}
 use Rattle.std.proofs.lemmas.List.{append-nil, append_assoc, length-append, map-append, take_all}
 use Rattle.std.proofs.lemmas.List.Folds.{concat-append}
 use Rattle.orbits.specs.Along.{AreOrbitsAlong, StandAlong}
+use Rattle.orbits.specs.Marks.{IsMarked}
 use Rattle.orbits.specs.OrbitSteps.{AreMarkedAlso, IsPassed}
 use Rattle.orbits.specs.Orbits.{after, IsOneToOne}
 use Rattle.orbits.proofs.Closed.{no-starts, none-chained, unmarked}
-use Rattle.orbits.proofs.Finding.{AreFound, IsMarked, blank, found_all, found_cycle, found_none, found_pass}
+use Rattle.orbits.proofs.Finding.{AreFound, blank, found_all, found_cycle, found_none, found_pass}
 use Rattle.orbits.proofs.Reading.{at_new, length_push}
 use Rattle.orbits.proofs.Marking.{marked_more, marked_none}
 use Rattle.orbits.proofs.Walks.{IsWalkTo, walk_short, walk_to_more, walk_to_start, walk_whole}

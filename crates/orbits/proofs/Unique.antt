@@ -4,10 +4,11 @@ use Rattle.std.proofs.lemmas.Bool.{cases_lt, both_ways, lt-ltb}
 use Rattle.std.proofs.lemmas.List.{length-replicate}
 use Rattle.std.proofs.lemmas.Grind.{same_number_lists}
 use Rattle.std.proofs.lemmas.List.Sums.{sum_by-cons}
+use Rattle.orbits.specs.Marks.{IsMarked}
 use Rattle.orbits.specs.Orbits.{after, IsOneToOne, IsOrbit, AreOrbits, AreOrbitsInOrder, first, last_number}
 use Rattle.orbits.proofs.Reading.{unwrap}
 use Rattle.orbits.proofs.Members.{Present, Distinct, find, count_absent, held_below, held_distinct}
-use Rattle.orbits.proofs.Finding.{none_marked, mark_orbit, back_to_first, blank, some_or_none, IsMarked}
+use Rattle.orbits.proofs.Finding.{none_marked, mark_orbit, back_to_first, blank, some_or_none}
 use Rattle.orbits.proofs.Exists.{mark_exists}
 
 abbrev Rising : List (List ℕ) → Type 0

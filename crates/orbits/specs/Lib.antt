@@ -1,7 +1,9 @@
 pub mod Along
 pub mod Cutting
+pub mod Marks
 pub mod Once
 pub mod OnceLaws
 pub mod OrbitLaws
 pub mod OrbitSteps
 pub mod Orbits
+pub mod Taking

@@ -1,5 +1,6 @@
 //! Orbits of a partial one-to-one map.
-ghost use Rattle.std.specs.Prelude.{◌<◌, length, All, IfOk, map};
+ghost use Rattle.std.specs.Prelude.{◌≡◌, ◌<◌, length, All, IfOk, map};
+ghost use Rattle.orbits.specs.Marks.{AreChained, begins_orbit, IsAdded};
 ghost use Rattle.orbits.specs.Orbits.{IsOneToOne, AreOrbits, AreOrbitsInOrder};
 ghost use Rattle.orbits.specs.OrbitSteps.{IsWholeWalk, AreStarts, AreMarkedAlso};
 
@@ -15,24 +16,93 @@ pub fn orbits(alloc: Global, next: &[Option<usize>]) -> Result<Vec<Vec<usize>>, 
     ensures order { IfOk result (λ v. AreOrbitsInOrder next.now (map (λ o. o.items) v.items)) }
 {
     let starts = starts(alloc, next)?;
-    // What no open orbit holds is on a closed one, and the first number met there is its least.
+    let chained = chained(alloc, next, &starts)?;
+    in_order(alloc, next, &starts, &chained)
+}
+
+/// For each number whether it is on an open orbit.
+fn chained(alloc: Global, next: &[Option<usize>], starts: &[bool]) -> Result<Vec<bool>, OutOfMemory>
+    requires map { IsOneToOne next.now }
+    requires starts { AreStarts next.now starts.now }
+    ensures { IfOk result (λ v. AreChained next.now starts.now (length next.now) v.items) }
+{
     let mut chained = vec![in alloc; false; next.len()]?;
     for place in 0..next.len() {
         if starts[place] {
-            let orbit = walk(alloc, next, place)?;
-            mark(&mut chained, &orbit);
+            mark_walk(alloc, next, place, &mut chained)?;
         }
     }
+    Ok(chained)
+}
+
+/// The orbits, begun at the starts and at the least numbers of what is on no open orbit.
+fn in_order(
+    alloc: Global,
+    next: &[Option<usize>],
+    starts: &[bool],
+    chained: &[bool],
+) -> Result<Vec<Vec<usize>>, OutOfMemory>
+    requires map { IsOneToOne next.now }
+    requires starts { AreStarts next.now starts.now }
+    requires chained { AreChained next.now starts.now (length next.now) chained.now }
+    ensures orbits { IfOk result (λ v. AreOrbits next.now (map (λ o. o.items) v.items)) }
+    ensures order { IfOk result (λ v. AreOrbitsInOrder next.now (map (λ o. o.items) v.items)) }
+{
     let mut seen = vec![in alloc; false; next.len()]?;
     let mut orbits = Vec::new(alloc);
     for place in 0..next.len() {
-        if starts[place] || !chained[place] && !seen[place] {
-            let orbit = walk(alloc, next, place)?;
-            mark(&mut seen, &orbit);
-            orbits.push(orbit)?;
+        // What no open orbit holds is on a closed one, and the first number met there is its least.
+        if is_first(starts, chained, &seen, place) {
+            add_orbit(alloc, next, place, &mut seen, &mut orbits)?;
         }
     }
     Ok(orbits)
+}
+
+/// Whether an orbit that wasn't seen begins at this place.
+fn is_first(starts: &[bool], chained: &[bool], seen: &[bool], place: usize) -> bool
+    requires starts { place < length starts.now }
+    requires chained { place < length chained.now }
+    requires seen { place < length seen.now }
+    ensures { result ≡ begins_orbit starts.now chained.now seen.now place }
+{
+    starts[place] || !chained[place] && !seen[place]
+}
+
+/// Adds the orbit from `from` on, and marks it as seen.
+fn add_orbit(
+    alloc: Global,
+    next: &[Option<usize>],
+    from: usize,
+    seen: &mut [bool],
+    orbits: &mut Vec<Vec<usize>>,
+) -> Result<(), OutOfMemory>
+    requires map { IsOneToOne next.now }
+    requires inside { from < length next.now }
+    requires sized { length seen.old ≡ length next.now }
+    ensures { IfOk result (λ u. IsAdded next.now from seen.old seen.new
+        (map (λ o. o.items) orbits.old.items) (map (λ o. o.items) orbits.new.items)) }
+{
+    orbits.push(mark_walk(alloc, next, from, seen)?)?;
+    Ok(())
+}
+
+/// The numbers from `from` on, as [`walk`] gives them, which are marked too.
+fn mark_walk(
+    alloc: Global,
+    next: &[Option<usize>],
+    from: usize,
+    marks: &mut [bool],
+) -> Result<Vec<usize>, OutOfMemory>
+    requires map { IsOneToOne next.now }
+    requires inside { from < length next.now }
+    requires sized { length marks.old ≡ length next.now }
+    ensures whole { IfOk result (λ v. IsWholeWalk next.now from v.items) }
+    ensures also { IfOk result (λ v. AreMarkedAlso marks.old v.items marks.new) }
+{
+    let orbit = walk(alloc, next, from)?;
+    mark(marks, &orbit);
+    Ok(orbit)
 }
 
 /// For each number whether nothing goes on to it.

@@ -10,7 +10,6 @@ ghost use Rattle.osm_sides.specs.Sweep.{ends_above};
 use osm_geom::{Loc, Seg};
 
 /// The height of `p` is at least that of the lower end and less than that of the upper end.
-#[tactic(auto, unfolding(crate::specs::SideTests::span))]
 fn is_in_span(p: Loc, t: Seg) -> bool
     ensures { result ≡ span p t }
 {

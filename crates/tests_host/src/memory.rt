@@ -1,7 +1,9 @@
 //! A host over memory, for tests. It tells everything, and each call is exact.
 
-ghost use Rattle.std.specs.Prelude.{◌≡◌, ◌⊎◌, ◌+◌, ◌<◌, ◌≤◌, ◌++◌, [], ◌∷◌, length, take, drop, unwrap_or, IfOk, OnOk, OnErr, IfSome, min, is_ok, is_some, not, true, false, ◌-◌};
+ghost use Rattle.std.specs.Prelude.{◌≡◌, ◌⊎◌, ◌+◌, ◌<◌, ◌≤◌, ◌++◌, [], ◌∷◌, length, take, drop, unwrap_or, IfOk, OnOk, OnErr, IfSome, map, min, is_ok, is_some, not, true, false, ◌-◌};
 ghost use Rattle.osm_host.specs.Outside.{input, output, appended, preceded, risen, grown, Counts, OnlyOpens, OnlyReads, OnlyWritesOut, OnlyWritesReport};
+ghost use Rattle.tests_host.specs.MemoryHost.{left_of_input};
+ghost use Rattle.tests_host.specs.Names.{name_and_bytes};
 ghost use Rattle.tests_host.specs.Memory.{Memory, bytes_named, outside_of, is_listed, with_open, with_open_fault, input_opens, output_opens, reads, writes};
 
 use crate::names::{NamedBytes, find, may_be_made};
@@ -171,6 +173,44 @@ fn take_number(call: &mut u64, fail: &[u64]) -> bool
     fails
 }
 
+/// Copies as much as `most` and the buffer allow of what is left of the opened input, and says how many bytes these are.
+fn read_opened(
+    inputs: &[NamedBytes],
+    opened: Option<usize>,
+    place: &mut usize,
+    most: usize,
+    buf: &mut [u8],
+) -> usize
+    requires { IfSome opened (λ index. index < length inputs.now) }
+    ensures amount { result
+        ≡ min (min (length (left_of_input (map name_and_bytes inputs.now) opened place.old)) (length buf.old)) most }
+    ensures taken { left_of_input (map name_and_bytes inputs.now) opened place.old
+        ≡ take result buf.new ++ left_of_input (map name_and_bytes inputs.now) opened place.new }
+    ensures left { left_of_input (map name_and_bytes inputs.now) opened place.new
+        ≡ drop result (left_of_input (map name_and_bytes inputs.now) opened place.old) }
+    ensures behind { drop result buf.new ≡ drop result buf.old }
+{
+    let Some(index) = opened else {
+        return 0;
+    };
+    let bytes = inputs[index].bytes.as_slice();
+    let from = (*place).min(bytes.len());
+    let count = copy_prefix(buf, &bytes[from..], most);
+    *place = from + count;
+    count
+}
+
+/// Copies as many bytes as `most` and the buffer allow, and says how many these are.
+fn copy_prefix(buf: &mut [u8], bytes: &[u8], most: usize) -> usize
+    ensures amount { result ≡ min (min (length bytes.now) (length buf.old)) most }
+    ensures copied { take result buf.new ≡ take result bytes.now }
+    ensures behind { drop result buf.new ≡ drop result buf.old }
+{
+    let count = bytes.len().min(buf.len()).min(most);
+    buf[..count].copy_from_slice(&bytes[..count]);
+    count
+}
+
 impl Host for MemoryHost {
     ghost seen = { outside_of };
 
@@ -254,14 +294,7 @@ impl Host for MemoryHost {
         if fails {
             return Err(note_fault(&mut self.faults.reads));
         }
-        let Some(index) = self.opened else {
-            return Ok(0);
-        };
-        let bytes = self.inputs[index].bytes.as_slice();
-        let place = self.place.min(bytes.len());
-        let count = (bytes.len() - place).min(buf.len()).min(self.most);
-        buf[..count].copy_from_slice(&bytes[place..place + count]);
-        self.place = place + count;
+        let count = read_opened(&self.inputs, self.opened, &mut self.place, self.most, buf);
         self.bytes_read = self.bytes_read.saturating_add(count as u64);
         Ok(count)
     }
