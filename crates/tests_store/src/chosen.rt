@@ -134,9 +134,20 @@ fn coast_ways_in_input_order(rt: HostRuntime) -> Result<(), Fail> {
     Ok(())
 }
 
-/// Whether the area of an object has these tags.
-fn has_area_tags(alloc: Global, store: &Store, of: ObjectRef, words: &str) -> Result<bool, Fail> {
-    are_tags(alloc, &store.area_tags(alloc, of)?, words)
+/// Whether the areas of all candidates have these tags: of ways the first, of relations the second.
+fn have_area_tags(
+    alloc: Global,
+    store: &Store,
+    of_way: &str,
+    of_relation: &str,
+) -> Result<bool, Fail> {
+    for of in &store.candidates(alloc, &Choice::without_lists(false))? {
+        let words = if of.kind == WAY { of_way } else { of_relation };
+        if !are_tags(alloc, &store.area_tags(alloc, *of)?, words)? {
+            return Ok(false);
+        }
+    }
+    Ok(true)
 }
 
 #[test]
@@ -144,9 +155,7 @@ fn tags_of_an_area(rt: HostRuntime) -> Result<(), Fail> {
     let lines = "w1 Ttype=x,name=y Nn1,n2,n3,n1\nr1 Tname=y,type=boundary,level=8 Mw1@outer";
     assert!(rt; are_chosen(rt.alloc(), lines, false, "w1 r1 ")?);
     let store = store_of(rt.alloc(), lines)?;
-    for (kind, words) in [(WAY, "type=x name=y "), (RELATION, "name=y level=8 ")] {
-        assert!(rt; has_area_tags(rt.alloc(), &store, at(kind, 1), words)?);
-    }
+    assert!(rt; have_area_tags(rt.alloc(), &store, "type=x name=y ", "name=y level=8 ")?);
     Ok(())
 }
 
