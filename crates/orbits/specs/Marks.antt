@@ -26,7 +26,7 @@ abbrev pub begins_orbit : List Bool → List Bool → List Bool → ℕ → Bool
 begins_orbit starts chained seen place = is_marked starts place || (not (is_marked chained place) && not (is_marked seen place))
 
 -- the whole walk from a number was marked, and stands behind the others
-pub record IsAdded (next : List (Option ℕ)) (from : ℕ) (marked marks : List Bool) (old new : List (List ℕ)) : Type 0 where
+pub record IsAddedWalk (next : List (Option ℕ)) (from : ℕ) (marked marks : List Bool) (old new : List (List ℕ)) : Type 0 where
   pub walk : List ℕ
   pub whole : IsWholeWalk next from walk
   pub also : AreMarkedAlso marked walk marks

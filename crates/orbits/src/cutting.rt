@@ -43,7 +43,8 @@ fn take_item(
     requires item { item < length keys.now }
     requires keyed { All (λ i. i < length keys.now) stack.old.items }
     requires room { All (λ k. k < length depths.old) keys.now }
-    ensures { IfOk result (λ u. IsTaken keys.now item depths.old depths.new stack.old.items stack.new.items
+    ensures { IfOk result (λ u. IsTaken keys.now item depths.old depths.new
+        stack.old.items stack.new.items
         (map (λ p. p.items) pieces.old.items) (map (λ p. p.items) pieces.new.items)) }
 {
     let key = keys[item];

@@ -1,6 +1,6 @@
 //! Orbits of a partial one-to-one map.
 ghost use Rattle.std.specs.Prelude.{◌≡◌, ◌<◌, length, All, IfOk, map};
-ghost use Rattle.orbits.specs.Marks.{AreChained, begins_orbit, IsAdded};
+ghost use Rattle.orbits.specs.Marks.{AreChained, begins_orbit, IsAddedWalk};
 ghost use Rattle.orbits.specs.Orbits.{IsOneToOne, AreOrbits, AreOrbitsInOrder};
 ghost use Rattle.orbits.specs.OrbitSteps.{IsWholeWalk, AreStarts, AreMarkedAlso};
 
@@ -80,7 +80,7 @@ fn add_orbit(
     requires map { IsOneToOne next.now }
     requires inside { from < length next.now }
     requires sized { length seen.old ≡ length next.now }
-    ensures { IfOk result (λ u. IsAdded next.now from seen.old seen.new
+    ensures { IfOk result (λ u. IsAddedWalk next.now from seen.old seen.new
         (map (λ o. o.items) orbits.old.items) (map (λ o. o.items) orbits.new.items)) }
 {
     orbits.push(mark_walk(alloc, next, from, seen)?)?;

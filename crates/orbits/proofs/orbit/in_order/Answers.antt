@@ -1,7 +1,7 @@
 -- One more orbit, or none.
 use Rattle.std.proofs.Common.{◌≡◌, Bool, List, map, length, sym, subst, ◌∙◌, arith}
 use Rattle.std.proofs.lemmas.List.{take_at}
-use Rattle.orbits.specs.Marks.{begins_orbit, IsAdded}
+use Rattle.orbits.specs.Marks.{begins_orbit, IsAddedWalk}
 use Rattle.orbits.proofs.Finding.{found_begun, found_none_begun, found_all}
 use Rattle.orbits.proofs.orbit.in_order.Goals as goal
 use Rattle.orbits.proofs.orbit.in_order.Goals.{then-is_first+in_ok-add_orbit, else-is_first}
@@ -18,7 +18,7 @@ loop-place-preserved c =
     elim c.if-is_first.branch [
       | then-is_first+in_ok-add_orbit w ↦
           let marks = w.add_orbit.new.seen in
-          let one : IsAdded next place seen marks os (map (λ o. o.items) w.add_orbit.new.orbits.items) = rw (← w.deref_mut.ensures.value) w.in_ok-add_orbit.ensures in
+          let one : IsAddedWalk next place seen marks os (map (λ o. o.items) w.add_orbit.new.orbits.items) = rw (← w.deref_mut.ensures.value) w.in_ok-add_orbit.ensures in
           let marks_are : c.if-is_first.seen.items ≡ marks = rw w.seen-is (take_at marks _ c.loop-place.seen.len (one.also.sized ∙ sym c.loop-place.seen.ok.0)) in
           rw (marks_are, w.orbits-is, one.added) (found_begun next c.requires.map starts c.requires.starts chained c.requires.chained place seen marks one.walk os c.loop-place.invariant one.whole (sym is ∙ w.if-is_first.true) one.also)
       | else-is_first w ↦
