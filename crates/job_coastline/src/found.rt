@@ -2,7 +2,7 @@
 
 ghost use Rattle.std.specs.Prelude.{◌≡◌, ◌≤◌, ◌+◌, ◌++◌, All, IfErr, IfOk, ℕ};
 ghost use Rattle.coast_split.specs.declared.leaves.SplitError.TheVariants.{TooManyPieces};
-ghost use Rattle.job_coastline.specs.Coast.{coast_seen};
+ghost use Rattle.job_coastline.specs.Coast.{coast_seen, IsCoast};
 ghost use Rattle.job_coastline.specs.Coastline.{AreLand, AreWater, IsCoastline, most_leaves};
 ghost use Rattle.job_coastline.specs.Found.{IsFound};
 ghost use Rattle.job_coastline.specs.PieceSteps.{ArePieces, HaveMoreTogether, whole_error};
@@ -189,16 +189,63 @@ pub(crate) fn found_in(
     ensures many { IfErr result (λ e. (m : ℕ) → e ≡ TooManyPieces m
         → IsCoastline (coastline_seen settings.now) store.now (silent (ended.TooManyPieces m))) }
 {
+    let coast = coast_of(alloc, store, settings)?;
+    found_of(alloc, store, &coast, settings)
+}
+
+/// All that a run writes, from what comes of the coastline ways of a store. It is lent, so that nothing of it is dropped where
+/// memory runs out.
+fn found_of(
+    alloc: Global,
+    store: &Store,
+    coast: &Coast,
+    settings: &CoastlineSettings<'_>,
+) -> Result<Found, SplitError>
+    requires { IsCoast (coastline_seen settings.now) store.now (coast_seen coast.now) }
+    ensures found { IfOk result (λ found. IsFound (coastline_seen settings.now) store.now found) }
+    ensures many { IfErr result (λ e. (m : ℕ) → e ≡ TooManyPieces m
+        → IsCoastline (coastline_seen settings.now) store.now (silent (ended.TooManyPieces m))) }
+{
     // By law: directed by the odd side, land is sided and runs along whole segments.
     directing_is_sided();
-    let coast = coast_of(alloc, store, settings)?;
-    let land = land_polygons(alloc, has_land(settings.polygons), &coast.land.edges)?;
-    let water = water_polygons(alloc, has_water(settings.polygons), &coast.land.edges)?;
-    let (land, water) = match all_pieces(alloc, land.as_slice(), water.as_slice(), settings) {
+    let edges = &coast.land.edges;
+    let land = land_polygons(alloc, has_land(settings.polygons), edges)?;
+    let water = water_polygons(alloc, has_water(settings.polygons), edges)?;
+    found_with(
+        alloc,
+        store,
+        coast,
+        land.as_slice(),
+        water.as_slice(),
+        settings,
+    )
+}
+
+/// All that a run writes, from what comes of the coastline ways of a store and the polygons of land and water.
+fn found_with(
+    alloc: Global,
+    _store: &Store,
+    coast: &Coast,
+    land: &[Polygon],
+    water: &[Polygon],
+    settings: &CoastlineSettings<'_>,
+) -> Result<Found, SplitError>
+    requires coast { IsCoast (coastline_seen settings.now) _store.now (coast_seen coast.now) }
+    requires land { AreLand (has_land (coastline_seen settings.now).polygons)
+        (coast_seen coast.now).land.edges land.now }
+    requires water { AreWater (has_water (coastline_seen settings.now).polygons)
+        (coast_seen coast.now).land.edges water.now }
+    requires land_sided { AreSided land.now }
+    requires water_sided { AreSided water.now }
+    ensures found { IfOk result (λ found. IsFound (coastline_seen settings.now) _store.now found) }
+    ensures many { IfErr result (λ e. (m : ℕ) → e ≡ TooManyPieces m
+        → IsCoastline (coastline_seen settings.now) _store.now (silent (ended.TooManyPieces m))) }
+{
+    let (land, water) = match all_pieces(alloc, land, water, settings) {
         Ok((land, water)) => (land, water),
         Err(error) => return Err(error),
     };
-    let lines = all_lines(alloc, &coast, &land.lines, &water.lines)?;
+    let lines = all_lines(alloc, coast, &land.lines, &water.lines)?;
     Ok(Found {
         ended: ending_of(&lines),
         lines: printed(alloc, &lines)?,
