@@ -1,7 +1,6 @@
 //! The polygons that areas are made of are valid in the sense of Simple Features.
 //!
-//! There is no code to run here. The public function has an empty body; its contract is a law about the definitions in
-//! `specs/`, `valid`, `osm_rings` and `osm_nest`.
+//! There is no code to run here. The public function has an empty body; its contract is a law about the definitions in `specs/`.
 
 ghost use Rattle.osm_nest.specs.ValidPolygons.Laws.{NestedAreValid, NestedPolygonsAreValid};
 

@@ -1,7 +1,4 @@
 //! The interior of each polygon is connected: steps along the left sides of its edges lead from each edge to each other.
-//!
-//! There is no code to run here. Each public function has an empty body; its contract is a law about the definitions in
-//! `specs/`, `nesting` and `one_ring_list`, for all lists of edges between points with integer coordinates.
 
 ghost use Rattle.plane_lists.specs.Connected.Laws.{WalkHasOneOuterRing, PolygonHasWholeWalks, PolygonHasSuccessors, PolygonIsRingListOf, LeftNeighbourExists, LeftNeighbourIsEarlier, PolygonIsLinked, LinkedIsOnePolygon};
 

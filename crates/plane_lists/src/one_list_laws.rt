@@ -1,8 +1,4 @@
 //! A sided list has one ring list alone: the rings that its walks are cut into are determined.
-//!
-//! There is no code to run here. Each public function has an empty body; its contract is a law
-//! about the definitions in `specs/` and in `nesting`, for all lists of edges between points with
-//! integer coordinates.
 
 ghost use Rattle.plane_lists.specs.OneRingList.Laws.{WalkSeesAlike, ClosedPartsShareOnePoint, PointsDoNotAlternate, RingsOfWalksAreOne, RingListIsOne, CutsAreRingListOf, CutsAreOne, KindsAreOne, DirectEnclosureIsOne, RingsDoNotCross, WalksAreNeeded};
 

@@ -1,7 +1,4 @@
 //! Polygonal lines that meet no edge of a list, and the interior of a polygon, which is connected.
-//!
-//! There is no code to run here. Each public function has an empty body; its contract is a law about the definitions in
-//! `specs/`, for all lists of edges between points with integer coordinates.
 
 ghost use Rattle.plane_lists.specs.Paths.LineLaws.{ApartSharesNoPoint, JoinedToItself, JoinedIsSymmetric, JoinedIsTransitive, JoinedIsOff, JoinedWindsAlike, ScaledIsJoined};
 ghost use Rattle.plane_lists.specs.Paths.BesideLaws.{EdgePartsInside, WindsAcrossEdge, BesideIsInside, EdgeHasBeside, BesideOneEdgeJoined, SuccessorIsBeside, AcrossIsBeside, InsideReachesEdge};

@@ -1,7 +1,5 @@
-//! Closed lists of edges of which each point is moved a little, or rounded to a whole point, and the points that they go round.
-//!
-//! There is no code to run here. Each public function has an empty body; its contract is a law about the definitions in
-//! `specs/`, for all lists of edges between points with integer coordinates, or with fractions.
+//! Closed lists of edges of which each point is moved a little, or rounded to a whole point, and the points that they go round;
+//! with fractions, too.
 
 ghost use Rattle.plane_lists.specs.Rounded.ClearLaws.{ClearHasNoPoint};
 ghost use Rattle.plane_lists.specs.Rounded.FactorLaws.{FactorRoundsAlike};

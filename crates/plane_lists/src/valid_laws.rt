@@ -1,7 +1,4 @@
 //! The polygons of a sided list are valid in the sense of Simple Features.
-//!
-//! There is no code to run here. The public function has an empty body; its contract is a law about the definitions in
-//! `specs/`, for all lists of edges between points with integer coordinates.
 
 ghost use Rattle.plane_lists.specs.Valid.Laws.{ConnectedIsNeeded, PolygonsAreValid, RingsShareOneNode, RingsShareOnePoint};
 
