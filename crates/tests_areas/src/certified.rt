@@ -62,6 +62,17 @@ fn right_outputs(rt: HostRuntime) -> Result<(), Fail> {
             None,
             "MULTIPOLYGON(((0 0,9 0,9 9,0 9,0 0),(1 1,1 8,8 8,8 1,1 1)),((2 2,7 2,7 7,2 7,2 2),(3 3,3 6,6 6,6 3,3 3))) a=b\n",
         ),
+    ];
+    for (input, ids, text) in cases {
+        assert_eq!(rt; wrong_line(alloc, input, false, ids, text)?, 0, "{text}");
+    }
+    Ok(())
+}
+
+#[test]
+fn right_ids_and_empty_outputs(rt: HostRuntime) -> Result<(), Fail> {
+    let alloc = rt.alloc();
+    let cases = [
         // the place of a feature counts those before it, not the candidates
         (
             SQUARES,

@@ -97,6 +97,19 @@ fn inside_and_on_areas(rt: HostRuntime) -> Result<(), Fail> {
             "2,1 2,2 1,1 3,1 4,0",
             ": on w1 on w2: on w1 on w2: in w1: in w2: on w2",
         ),
+    ];
+    for (nodes, areas, points, hits) in rows {
+        let input = format!(in alloc; "{nodes}{areas}")?;
+        let got = hits_of(alloc, input.as_str(), points)?;
+        assert_eq!(rt; got.as_str(), hits, "{areas} at {points}");
+    }
+    Ok(())
+}
+
+#[test]
+fn corners_of_areas(rt: HostRuntime) -> Result<(), Fail> {
+    let alloc = rt.alloc();
+    let rows = [
         // a ring that touches another at a node
         (
             SQUARE,

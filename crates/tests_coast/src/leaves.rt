@@ -72,6 +72,20 @@ fn lists_that_are_cut(rt: HostRuntime) -> Result<(), Fail> {
             5,
             "0,0 45,0 45,30 20,30 0,20 0,0|35,0 80,0 80,20 60,30 35,30 35,0",
         ),
+    ];
+    for (lines, most_points, overlap, wanted) in rows {
+        let settings = settings(most_points, overlap, 4_194_304);
+        assert!(rt;
+            has_leaves(rt.alloc(), lines, &settings, wanted)?,
+            "{lines}"
+        );
+    }
+    Ok(())
+}
+
+#[test]
+fn slivers_and_sides_that_are_cut(rt: HostRuntime) -> Result<(), Fail> {
+    let rows = [
         // vanishing sliver
         (
             "0,0 8,0 8,1 7,2 6,2 1,3 5,4 0,5 0,4 0,2 0,0",
