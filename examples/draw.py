@@ -2,11 +2,11 @@
 """Draws a map as SVG.  Usage: draw.py [FILE ..] >FILE.svg
 
 Each FILE, standard input where there is none or for `-`, is one of these, the first at the bottom:
-- GeoJSON: areas as `osmpoly export` writes them, problems as problems.py does (red; warnings orange, notes violet)
+- GeoJSON: areas as `osmpoly export` writes them, small ones above large ones, and problems as problems.py does (red; warnings orange, notes violet)
 - pieces of land and water, the output of `osmpoly coastline`; the picture's edges are those of all else
-- points, the output of `osmpoly locate`: full in an area, ringed on a boundary, empty outside
+- points, the output of `osmpoly locate`: green in an area, yellow on a boundary, a grey ring outside
 - OPL: its ways as thin lines
-A line that isn't drawn, as one of a report, is passed over."""
+A line that isn't drawn, as one of a report, is passed over. The more circles a picture has, the smaller they are."""
 import collections
 import json
 import re
@@ -22,7 +22,14 @@ LAND = 'fill="#f2e6c7" stroke="#8c7b50" stroke-width="1" fill-rule="evenodd"'
 WATER = 'fill="#c6dbef" stroke="#6baed6" stroke-width="1" fill-rule="evenodd"'
 WAY = 'fill="none" stroke="#888888" stroke-width="1.5"'
 # of located points
-POINTS = {"in": "#238b45", "on": "#ffffff", "none": "none"}
+POINTS = {
+    "in": 'fill="#238b45" stroke="#005a32"',
+    "on": 'fill="#ffe119" stroke="#005a32"',
+    "none": 'fill="none" stroke="#777777"',
+}
+RADIUS = 8  # of a circle, in pixels, where a picture has few of them
+CROWD = 40  # so many circles are few
+SMALLEST = 1.5
 
 # `rings` are closed; with `nodes` their corners are marked
 Polygon = collections.namedtuple("Polygon", "rings style nodes")
@@ -30,7 +37,14 @@ Line = collections.namedtuple("Line", "points style title")
 Point = collections.namedtuple("Point", "place style title")
 
 
-def of_features(features):
+def extent(ring):
+    """The area of a ring's envelope, to six digits, so that equal rings stay in their order."""
+    xs, ys = [point[0] for point in ring], [point[1] for point in ring]
+    return float(f"{(max(xs) - min(xs)) * (max(ys) - min(ys)):.6g}")
+
+
+def as_they_stand(features):
+    """The polygons, lines and points of features, in their order."""
     shapes = [feature["geometry"] or {"type": None} for feature in features]
     few = sum(len(ring) for shape in shapes if shape["type"] == "MultiPolygon" for rings in shape["coordinates"] for ring in rings) <= FEW
     for number, (feature, shape) in enumerate(zip(features, shapes)):
@@ -42,7 +56,14 @@ def of_features(features):
         elif shape["type"] == "LineString":
             yield Line(shape["coordinates"], f'fill="none" stroke="{colour}" stroke-width="5"', title)
         elif shape["type"] == "Point":
-            yield Point(shape["coordinates"], f'r="8" fill="{colour}" fill-opacity="0.4" stroke="{colour}" stroke-width="3"', title)
+            yield Point(shape["coordinates"], f'fill="{colour}" fill-opacity="0.4" stroke="{colour}"', title)
+
+
+def of_features(features):
+    """The same with polygons first, from the largest to the smallest, so that none hides another."""
+    shapes = list(as_they_stand(features))
+    yield from sorted((shape for shape in shapes if isinstance(shape, Polygon)), key=lambda polygon: -extent(polygon.rings[0]))
+    yield from (shape for shape in shapes if not isinstance(shape, Polygon))
 
 
 def of_piece(kind, text):
@@ -52,7 +73,7 @@ def of_piece(kind, text):
 
 def of_located(line, x, y, answer):
     where = "on" if " on " in answer else answer.split()[0]
-    return Point((float(x), float(y)), f'r="7" fill="{POINTS[where]}" stroke="#238b45" stroke-width="3"', line)
+    return Point((float(x), float(y)), POINTS[where], line)
 
 
 def of_ways(lines):
@@ -97,6 +118,8 @@ class Sheet:
         self.scale = SIDE / (side + 2 * margin)
         self.west, self.north = min(xs) - margin, max(ys) + margin
         self.width, self.height = self.at((max(xs) + margin, min(ys) - margin))
+        circles = sum(isinstance(shape, Point) for shape in shapes)
+        self.radius = max(SMALLEST, RADIUS * min(1, (CROWD / max(circles, 1)) ** 0.5))
 
     def at(self, point):
         return (point[0] - self.west) * self.scale, (self.north - point[1]) * self.scale
@@ -115,7 +138,8 @@ class Sheet:
         elif isinstance(shape, Line) and shape.points:
             yield f'<path d="{self.path(shape.points)}" {shape.style}><title>{escape(shape.title)}</title></path>'
         elif isinstance(shape, Point):
-            yield f'<circle {self.circle(shape.place)} {shape.style}><title>{escape(shape.title)}</title></circle>'
+            size = f'r="{self.radius:.1f}" stroke-width="{self.radius / 3:.1f}"'
+            yield f'<circle {self.circle(shape.place)} {size} {shape.style}><title>{escape(shape.title)}</title></circle>'
 
     def drawing(self, shapes):
         size = f"{self.width:.0f} {self.height:.0f}"

@@ -4,10 +4,11 @@
     osmium export --geometry-types=polygon -f text -u type_id map.opl | examples/from_osmium.py > areas.txt
     osmpoly certify -u type_id map.opl areas.txt
 
-Nothing is mended: the rings, their points and the tags stay what they are. Only what doesn't matter to an area is put as osmpoly
-has it: a ring begins at its least node (the lowest, of the lowest ones the leftmost), the land is on its left, inner rings and
-polygons are in the order of their first nodes, and areas in the order of the map, those of ways before those of relations; and
-letters beyond ASCII, which osmium writes as they are, are spelled `%e4%`.
+It changes no ring, no point and no tag, only the form:
+- A ring begins at its least node (the lowest, of these the leftmost), and its area lies on the left.
+- Inner rings and polygons are in order of their first nodes.
+- Areas are in the order of a sorted map: those of ways before those of relations, negative ids before positive ones.
+- Letters beyond ASCII are escaped, and escapes have no leading zeros: `%e4%` for both `ä` and `%00e4%`.
 """
 import re
 import sys
@@ -60,15 +61,22 @@ def area(shape):
 
 
 def spelled(tags):
-    return "".join(letter if " " <= letter <= "~" else f"%{ord(letter):x}%" for letter in tags)
+    """The tags with escapes as osmpoly has them: every letter beyond ASCII escaped, and no zeros before its number."""
+    unpadded = re.sub("%([0-9a-f]+)%", lambda escape: f"%{int(escape[1], 16):x}%", tags)
+    return "".join(letter if " " <= letter <= "~" else f"%{ord(letter):x}%" for letter in unpadded)
+
+
+def place_in_map(name):
+    """By this areas are in order: those of ways first, negative ids before positive ones, and then by magnitude, as osmium sorts."""
+    number = int(name[1:])
+    return number % 2, number > 0, abs(number)
 
 
 def main():
     lines = []
     for line in sys.stdin:
         name, shape, *tags = re.match(r"(a-?\d+) MULTIPOLYGON\(([(),0-9. -]*)\)( .*)?$", line).groups()
-        number = int(name[1:])
-        lines.append(((number % 2, number), " ".join([name, area(shape)]) + spelled(tags[0] or "")))
+        lines.append((place_in_map(name), " ".join([name, area(shape)]) + spelled(tags[0] or "")))
     for _, line in sorted(lines):
         print(line)
 
