@@ -1,16 +1,17 @@
 -- Makes of docs/MANUAL.md the man page that `-M page=NAME` names, as a filter for pandoc (./install calls it):
---     pandoc -f gfm -t man -s -L docs/man.lua -M page=osmpoly-export docs/MANUAL.md
--- A section `## osmpoly COMMAND` is the page osmpoly-COMMAND; all others, and the manual's head, are the page osmpoly.
--- Each page begins with a paragraph `**its name**: what it is for` and with the words that run it.
+--     pandoc -f gfm -t man -s -L docs/man.lua -M page=osmpoly-export -M footer="osmpoly VERSION" docs/MANUAL.md
+-- A section `## osmpoly COMMAND` is the page osmpoly-COMMAND, and `## examples/SCRIPT` the page osmpoly-SCRIPT. All others, and the manual's head,
+-- are the page osmpoly. Each page begins with a paragraph `**its name**: what it is for` and with the words that run it.
+-- The page osmpoly-formats is docs/FORMATS.md as a whole.
 
 local text_of = pandoc.utils.stringify
 
-local sources = "The files under docs/, examples/ and bench/ stand in the sources of osmpoly. docs/FORMATS.md has the formats "
-  .. "to the byte, docs/DEFINITIONS.md says what areas, coasts and problems are, docs/CLAIMS.md what is proved of this program."
+local sources = "The files that this page names under docs/, examples/ and bench/ are in share/osmpoly of the installation."
 
 -- The page that a section of the manual stands on.
 local function page_of(header)
-  local command = text_of(header):match("^osmpoly (%S+)$")
+  local title = text_of(header)
+  local command = title:match("^osmpoly (%S+)$") or title:match("^examples/(%S+)$")
   return command and "osmpoly-" .. command or "osmpoly"
 end
 
@@ -79,6 +80,9 @@ local function dressed(blocks, highest)
     Code = function(code)
       return pandoc.Strong(pandoc.Str(code.text))
     end,
+    Str = function(word)
+      return pandoc.Str((word.text:gsub("docs/FORMATS%.md", "osmpoly-formats(5)"):gsub("docs/MANUAL%.md", "osmpoly(1)")))
+    end,
     Table = explained,
   }
   return pandoc.walk_block(pandoc.Div(blocks), looks).content
@@ -103,9 +107,18 @@ local function overview(pages, order, blocks)
   return whole
 end
 
+-- The words that run a command, a line each.
+local function synopsis(text)
+  local lines = pandoc.List({})
+  for line in text:gmatch("[^\n]+") do
+    lines:extend(#lines > 0 and { pandoc.LineBreak(), pandoc.Strong(pandoc.Str(line)) } or { pandoc.Strong(pandoc.Str(line)) })
+  end
+  return pandoc.Para(lines)
+end
+
 -- What the last section of a page names.
 local function others(page, order)
-  local names = {}
+  local names = { page ~= "osmpoly-formats" and "osmpoly-formats(5)" or nil }
   for _, other in ipairs(order) do
     if other ~= page then
       table.insert(names, other .. "(1)")
@@ -115,16 +128,32 @@ local function others(page, order)
   return table.concat(names, ", ")
 end
 
+-- The page of the formats: the document without its title.
+local function formats(document)
+  local whole = pandoc.List(section("NAME", pandoc.Plain("osmpoly-formats - what osmpoly reads and writes, to the byte")))
+  whole:extend(dressed({ table.unpack(document.blocks, 2) }, 2))
+  whole:extend(section("SEE ALSO", pandoc.Para("osmpoly(1), osmium-file-formats(5)"), pandoc.Para(sources)))
+  return whole
+end
+
+-- The document as a page of a section of the man pages.
+local function as_page(document, blocks, page, of)
+  document.blocks = blocks
+  document.meta = { title = page:upper(), section = of, header = "osmpoly", footer = document.meta.footer, adjusting = "l", hyphenate = false }
+  return document
+end
+
 function Pandoc(manual)
   local page = text_of(manual.meta.page)
+  if page == "osmpoly-formats" then
+    return as_page(manual, formats(manual), page, "5")
+  end
   local pages, order = pages_of(manual.blocks)
   local blocks = assert(pages[page], "the manual has no page " .. page)
   local rest = dressed({ table.unpack(blocks, 3) }, page == "osmpoly" and 2 or 3)
   local whole = pandoc.List(section("NAME", pandoc.Plain(name_line(page, blocks))))
-  whole:extend(section("SYNOPSIS", pandoc.Para(pandoc.Strong(blocks[2].text))))
+  whole:extend(section("SYNOPSIS", synopsis(blocks[2].text)))
   whole:extend(page == "osmpoly" and overview(pages, order, rest) or rest)
   whole:extend(section("SEE ALSO", pandoc.Para(others(page, order)), pandoc.Para(sources)))
-  manual.blocks = whole
-  manual.meta = { title = page:upper(), section = "1", header = "osmpoly", adjusting = "l", hyphenate = false }
-  return manual
+  return as_page(manual, whole, page, "1")
 end
