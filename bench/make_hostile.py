@@ -342,8 +342,8 @@ def open_chains(n):
 
 @kind
 def ribbon(n):
-    """one coast: n long segments side by side, forth and back"""
-    length, count = 34 * LONG, n // 2
+    """one coast: n / 2 segments of a third of a degree side by side, forth and back"""
+    length, count = 3_400_000, n // 2
     west = -length // 2
     ring = []
     for i in range(count):
