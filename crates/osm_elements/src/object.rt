@@ -7,15 +7,15 @@ use crate::text::Text;
 use osm_lattice::Loc;
 
 /// The kinds of OpenStreetMap objects.
-#[derive(Clone, Copy, Debug, PartialEq, Eq, Hash)]
+#[derive(Clone, Copy, Debug, PartialEq, Eq, PartialOrd, Ord, Hash)]
 pub enum ObjectKind {
     Node,
     Way,
     Relation,
 }
 
-/// An object by its kind and id: ids of different kinds are apart.
-#[derive(Clone, Copy, Debug, PartialEq, Eq, Hash)]
+/// An object by its kind and id: ids of different kinds are apart. The order is that of a sorted input.
+#[derive(Clone, Copy, Debug, PartialEq, Eq, PartialOrd, Ord, Hash)]
 pub struct ObjectRef {
     pub kind: ObjectKind,
     pub id: i64,

@@ -274,9 +274,8 @@ impl Refs {
     pub fn copy(&self, alloc: Global) -> Result<Refs, OutOfMemory>
         ensures { IfOk result (λ refs. refs ≡ self.now) }
     {
-        Ok(Refs {
-            bytes: Vec::from_slice(alloc, &self.bytes)?,
-        })
+        let bytes = Vec::from_slice(alloc, self.bytes.as_slice())?;
+        Ok(Refs { bytes })
     }
 
     /// The references, to be gone through. It takes no memory.

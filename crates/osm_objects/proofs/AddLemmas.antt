@@ -31,27 +31,28 @@ nodes-push : (nodes : List PlainNode) (n : PlainNode) → nodes_from (nodes ++ n
 nodes-push [] n = refl
 nodes-push (m ∷ nodes) n = ap (λ (zs : List Object). node_from m ∷ zs) (nodes-push nodes n)
 
-pub node_last : (nodes after : List PlainNode) (n : PlainNode) (es : List (ObjectRef × Placed)) (since : ℕ) → after ≡ nodes ++ n ∷ [] → Fit (nodes_from nodes) (others_from es) since →
-    merged (nodes_from after) (others_from es) ≡ merged (nodes_from nodes) (others_from es) ++ node_from n ∷ []
-node_last nodes after n es since e f = ap (λ (ns : List PlainNode). merged (nodes_from ns) (others_from es)) e ∙ ap (λ (os : List Object). merged os (others_from es)) (nodes-push nodes n) ∙ plain_last (nodes_from nodes) (others_from es) since (node_from n) f
+pub node_last : (nodes after : List PlainNode) (n : PlainNode) (others : List Placed) (since : ℕ) → after ≡ nodes ++ n ∷ [] → Fit (nodes_from nodes) (others_from others) since →
+    merged (nodes_from after) (others_from others) ≡ merged (nodes_from nodes) (others_from others) ++ node_from n ∷ []
+node_last nodes after n others since e f = ap (λ (ns : List PlainNode). merged (nodes_from ns) (others_from others)) e ∙ ap (λ (os : List Object). merged os (others_from others)) (nodes-push nodes n) ∙ plain_last (nodes_from nodes) (others_from others) since (node_from n) f
 
-pub node_fits : (nodes after : List PlainNode) (n : PlainNode) (es : List (ObjectRef × Placed)) (since : ℕ) → after ≡ nodes ++ n ∷ [] → Fit (nodes_from nodes) (others_from es) since →
-    Fit (nodes_from after) (others_from es) (since + 1)
-node_fits nodes after n es since e f = rw (e, nodes-push nodes n) (plain_fits (nodes_from nodes) (others_from es) since (node_from n) f)
+pub node_fits : (nodes after : List PlainNode) (n : PlainNode) (others : List Placed) (since : ℕ) → after ≡ nodes ++ n ∷ [] → Fit (nodes_from nodes) (others_from others) since →
+    Fit (nodes_from after) (others_from others) (since + 1)
+node_fits nodes after n others since e f = rw (e, nodes-push nodes n) (plain_fits (nodes_from nodes) (others_from others) since (node_from n) f)
 
 -- ---- among the others
 
-others-push : (es : List (ObjectRef × Placed)) (e : ObjectRef × Placed) → others_from (es ++ e ∷ []) ≡ others_from es ++ other e.1.gap (object_from e.0.id e.1.held) ∷ []
-others-push [] e = refl
-others-push (d ∷ es) e = ap (λ (zs : List (Other Object)). other d.1.gap (object_from d.0.id d.1.held) ∷ zs) (others-push es e)
+others-push : (others : List Placed) (p : Placed) → others_from (others ++ p ∷ []) ≡ others_from others ++ other p.gap (object_from p.id p.held) ∷ []
+others-push [] p = refl
+others-push (q ∷ others) p = ap (λ (zs : List (Other Object)). other q.gap (object_from q.id q.held) ∷ zs) (others-push others p)
 
-pub held_last : (nodes : List PlainNode) (es after : List (ObjectRef × Placed)) (e : ObjectRef × Placed) → after ≡ es ++ e ∷ [] → Fit (nodes_from nodes) (others_from es) e.1.gap →
-    merged (nodes_from nodes) (others_from after) ≡ merged (nodes_from nodes) (others_from es) ++ object_from e.0.id e.1.held ∷ []
-held_last nodes es after e is f = ap (λ (ds : List (ObjectRef × Placed)). merged (nodes_from nodes) (others_from ds)) is ∙ ap (merged (nodes_from nodes)) (others-push es e) ∙ other_last (nodes_from nodes) (others_from es) e.1.gap (object_from e.0.id e.1.held) f
+pub held_last : (nodes : List PlainNode) (others after : List Placed) (p : Placed) → after ≡ others ++ p ∷ [] → Fit (nodes_from nodes) (others_from others) p.gap →
+    merged (nodes_from nodes) (others_from after) ≡ merged (nodes_from nodes) (others_from others) ++ object_from p.id p.held ∷ []
+held_last nodes others after p is f =
+    ap (λ (all : List Placed). merged (nodes_from nodes) (others_from all)) is ∙ ap (merged (nodes_from nodes)) (others-push others p) ∙ other_last (nodes_from nodes) (others_from others) p.gap (object_from p.id p.held) f
 
-pub held_fits : (nodes : List PlainNode) (es after : List (ObjectRef × Placed)) (e : ObjectRef × Placed) → after ≡ es ++ e ∷ [] → Fit (nodes_from nodes) (others_from es) e.1.gap →
+pub held_fits : (nodes : List PlainNode) (others after : List Placed) (p : Placed) → after ≡ others ++ p ∷ [] → Fit (nodes_from nodes) (others_from others) p.gap →
     Fit (nodes_from nodes) (others_from after) 0
-held_fits nodes es after e is f = rw (is, others-push es e) (other_fits (nodes_from nodes) (others_from es) e.1.gap (object_from e.0.id e.1.held) f)
+held_fits nodes others after p is f = rw (is, others-push others p) (other_fits (nodes_from nodes) (others_from others) p.gap (object_from p.id p.held) f)
 
 pub nodes_length : (nodes : List PlainNode) → length (nodes_from nodes) ≡ length nodes
 nodes_length [] = refl

@@ -1,36 +1,14 @@
--- Objects of different references, and ids of coast ways.
-use Rattle.std.proofs.Common.{◌≡◌, ◌∙◌, Bool, true, false, cond, List, [], ◌∷◌, refl, sym, ap, None, option_map, filter, map, int_eq, true≢false}
+-- Ids of coast ways.
+use Rattle.std.proofs.Common.{◌≡◌, ◌∙◌, Bool, true, false, cond, List, [], ◌∷◌, refl, sym, None, filter, map, int_eq, true≢false}
 use Rattle.std.specs.List.{AllByRecursion, IsDistinct}
-use Rattle.std.specs.Map.{lookup, keys_of}
-use Rattle.std.proofs.lemmas.Map.Keys.{IsDistinct-head, IsDistinct-tail, IsDistinct-cons}
+use Rattle.std.proofs.lemmas.Map.Keys.{IsDistinct-cons}
 use Rattle.osm_elements.specs.declared.object.ObjectKind.TheVariants.{Way}
-use Rattle.osm_elements.specs.declared.object.ObjectRef.{ObjectRef}
 use Rattle.osm_elements.specs.declared.object.Object.{Object}
 use Rattle.osm_elements.specs.declared.object.Object.TheVariants as object
-use Rattle.osm_objects.specs.declared.held.Placed.{Placed}
 use Rattle.osm_objects.specs.Object.{kind_of, id_of, ref_of, is_at}
 use Rattle.osm_objects.specs.Objects.{object_at, AreApart}
 use Rattle.osm_objects.specs.CoastWays.{is_coast_way, coast_ways}
-use Rattle.osm_objects.specs.Held.{object_from, KindsAgree}
-use Rattle.osm_objects.proofs.StoreLemmas.{eq, id-from, object_at-from, kept_at, objects_from}
 use Rattle.osm_objects.proofs.FoundLemmas.{passes}
-
--- a key that is equal to none is not found
-not_found : {V : Type 0} (k : ObjectRef) (es : List (ObjectRef × V)) → AllByRecursion (λ y. eq k y ≡ false) (keys_of es) → lookup (eq k) es ≡ None
-not_found k [] none = refl
-not_found k (e ∷ es) none = rw (none.0) (not_found k es none.1)
-
-ref-from : (e : ObjectRef × Placed) → kind_of (object_from e.0.id e.1.held) ≡ e.0.kind → ref_of (object_from e.0.id e.1.held) ≡ e.0
-ref-from e agree = rw (agree, id-from e.0.id e.1.held) refl
-
-pub AreApart-from : (es : List (ObjectRef × Placed)) → KindsAgree es → IsDistinct eq (keys_of es) → AreApart (objects_from es)
-AreApart-from [] agree distinct = tt
-AreApart-from (e ∷ es) agree distinct = (
-  ap (object_at (objects_from es)) (ref-from e agree.0) ∙ object_at-from e.0 es agree.1 ∙ ap (option_map (kept_at e.0.id)) (not_found e.0 es (IsDistinct-head eq e.0 (keys_of es) distinct)),
-  AreApart-from es agree.1 (IsDistinct-tail eq e.0 (keys_of es) distinct),
-)
-
--- ---- ids of coast ways
 
 coast-is-way : (o : Object) → is_coast_way o ≡ true → kind_of o ≡ Way
 unfolding is_coast_way

@@ -1,6 +1,8 @@
 -- What is found among objects of different references.
-use Rattle.std.proofs.Common.{◌≡◌, ◌∙◌, Bool, true, false, cond, List, [], ◌∷◌, refl, sym, ap, ℤ, Option, None, Some, option_map, filter, map, IsTrue, IsSome}
+use Rattle.std.proofs.Common.{◌≡◌, ◌∙◌, Bool, true, false, cond, ◌&&◌, List, [], ◌∷◌, refl, sym, ap, ℤ, Option, None, Some, option_map, filter, map, IsTrue, IsSome, int_eq}
 use Rattle.std.specs.List.{AllByRecursion}
+use Rattle.std.proofs.lemmas.Bool.{and_parts}
+use Rattle.std.proofs.lemmas.Bool.Decides.{Decides-int_eq}
 use Rattle.std.proofs.lemmas.Cmp.{int_eq_equiv}
 use Rattle.osm_elements.specs.declared.object.ObjectKind.{ObjectKind}
 use Rattle.osm_elements.specs.declared.object.ObjectKind.TheVariants.{Node, Way, Relation}
@@ -46,11 +48,21 @@ same_kind-same Relation Way same = absurd (cc)
 pub is_at-itself : (o : Object) → is_at (ref_of o) o ≡ true
 is_at-itself o = rw (same_kind-itself (kind_of o), int_eq_equiv.refl (id_of o)) refl
 
+-- a reference at which an object is, is its own
+pub same_ref : (of : ObjectRef) (o : Object) → is_at of o ≡ true → of ≡ ref_of o
+same_ref of o is =
+    let parts = and_parts (same_kind of.kind (kind_of o)) (int_eq of.id (id_of o)) is in
+    let same : of.id ≡ id_of o = (Decides-int_eq of.id (id_of o)).0 parts.1 in
+    ap (λ (k : ObjectKind). record { kind = k; id = of.id }) (same_kind-same of.kind (kind_of o) parts.0) ∙ ap (λ (i : ℤ). record { kind = kind_of o; id = i }) same
+
+pub same_either_way : (a b : ObjectRef) → (same_kind a.kind b.kind && int_eq a.id b.id) ≡ (same_kind b.kind a.kind && int_eq b.id a.id)
+same_either_way a b = rw (same_kind-symmetric a.kind b.kind, int_eq_equiv.symm a.id b.id) refl
+
 pub is_at-symmetric : (o u : Object) → is_at (ref_of o) u ≡ is_at (ref_of u) o
-is_at-symmetric o u = rw (same_kind-symmetric (kind_of o) (kind_of u), int_eq_equiv.symm (id_of o) (id_of u)) refl
+is_at-symmetric o u = same_either_way (ref_of o) (ref_of u)
 
 -- what is not found first is not found later
-pub passes : (b : Bool) (o : Object) (rest : Option Object) → cond b (Some o) rest ≡ None → (b ≡ false) × (rest ≡ None)
+pub passes : {A : Type 0} (b : Bool) (o : A) (rest : Option A) → cond b (Some o) rest ≡ None → (b ≡ false) × (rest ≡ None)
 passes true o rest none = absurd (cc)
 passes false o rest none = (refl, none)
 
@@ -106,6 +118,6 @@ live-from id (held.Tagged n) = refl
 live-from id (held.Way w) = refl
 live-from id (held.Relation r) = refl
 
-pub all_live : (es : List (ObjectRef × Placed)) → AllByRecursion (λ o. IsTrue (is_live o)) (objects_from es)
+pub all_live : (others : List Placed) → AllByRecursion (λ o. IsTrue (is_live o)) (objects_from others)
 all_live [] = tt
-all_live (e ∷ es) = (live-from e.0.id e.1.held, all_live es)
+all_live (p ∷ others) = (live-from p.id p.held, all_live others)

@@ -5,6 +5,7 @@ mod ApartLemmas
 mod FoundLemmas
 mod MergedLemmas
 mod RisingLemmas
+mod OthersLemmas
 mod LookupLemmas
 mod NodeLemmas
 mod AddLemmas

@@ -46,10 +46,6 @@ find-append_none p (x ∷ xs) ys none = by (p x) none (find-append_none p xs ys)
     by true none rest = absurd (cc)
     by false none rest = rest none
 
-find-append_some : {A : Type 0} (p : A → Bool) (xs ys zs : List A) → find p ys ≡ find p zs → find p (xs ++ ys) ≡ find p (xs ++ zs)
-find-append_some p [] ys zs e = e
-find-append_some p (x ∷ xs) ys zs e = ap (cond (p x) (Some x)) (find-append_some p xs ys zs e)
-
 find-take : {A : Type 0} (p : A → Bool) (n : ℕ) (xs : List A) → find p xs ≡ None → find p (take n xs) ≡ None
 find-take p zero xs none = refl
 find-take p (suc n) [] none = refl
@@ -75,18 +71,6 @@ found_among_others p plain (o ∷ others) none =
     find-append_none p (take o.gap plain) (o.item ∷ merged (drop o.gap plain) others) (find-take p o.gap plain none)
     ∙ ap (cond (p o.item) (Some o.item)) (found_among_others p (drop o.gap plain) others (find-drop p o.gap plain none))
 
--- where no other item is one, the plain ones tell
-pub found_among_plain : {A : Type 0} (p : A → Bool) (plain : List A) (others : List (Other A)) → find p (items_of others) ≡ None → find p (merged plain others) ≡ find p plain
-found_among_plain p plain [] none = refl
-found_among_plain p plain (o ∷ others) none = by (p o.item) refl none (found_among_plain p (drop o.gap plain) others)
-  where
-    by : (b : Bool) → p o.item ≡ b → cond b (Some o.item) (find p (items_of others)) ≡ None
-        → (find p (items_of others) ≡ None → find p (merged (drop o.gap plain) others) ≡ find p (drop o.gap plain)) → find p (take o.gap plain ++ o.item ∷ merged (drop o.gap plain) others) ≡ find p plain
-    by true is none rest = absurd (cc)
-    by false is none rest =
-        find-append_some p (take o.gap plain) (o.item ∷ merged (drop o.gap plain) others) (drop o.gap plain) (rw is (rest none))
-        ∙ ap (find p) (take-append-drop o.gap plain)
-
 -- ---- what holds of all, and what is kept
 
 all-append_front : {A : Type 0} (P : A → Type 0) (xs ys : List A) → AllByRecursion P (xs ++ ys) → AllByRecursion P xs × AllByRecursion P ys
@@ -103,6 +87,12 @@ plain_of_all {A} P plain (o ∷ others) all =
     let cut = all-append_front P (take o.gap plain) (o.item ∷ merged (drop o.gap plain) others) all in
     let behind = plain_of_all P (drop o.gap plain) others cut.1.1 in
     subst (AllByRecursion P) (take-append-drop o.gap plain) (all-append P (take o.gap plain) (drop o.gap plain) cut.0 behind)
+
+pub others_of_all : {A : Type 0} (P : A → Type 0) (plain : List A) (others : List (Other A)) → AllByRecursion P (merged plain others) → AllByRecursion P (items_of others)
+others_of_all P plain [] all = tt
+others_of_all P plain (o ∷ others) all =
+    let cut = all-append_front P (take o.gap plain) (o.item ∷ merged (drop o.gap plain) others) all in
+    (cut.1.0, others_of_all P (drop o.gap plain) others cut.1.1)
 
 pub all_merged : {A : Type 0} (P : A → Type 0) (plain : List A) (others : List (Other A)) → AllByRecursion P plain → AllByRecursion P (items_of others) → AllByRecursion P (merged plain others)
 all_merged P plain [] all there = all

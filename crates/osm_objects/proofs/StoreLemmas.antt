@@ -1,8 +1,6 @@
--- A look-up in the map is a look-up in the list of objects.
-use Rattle.std.proofs.Common.{◌≡◌, ◌∙◌, Bool, true, false, cond, ◌&&◌, List, [], ◌∷◌, ◌++◌, refl, sym, ap, map, ℤ, Option, None, Some, option_map, is_some, int_eq, Bor, if◌then◌else◌}
-use Rattle.std.specs.Option.{option_copied}
-use Rattle.std.specs.Map.{lookup}
-use Rattle.std.proofs.lemmas.Bool.Decides.{Decides-int_eq}
+-- A look-up among the others is a look-up in the list of their objects.
+use Rattle.std.proofs.Common.{◌≡◌, ◌∙◌, Bool, true, false, cond, ◌&&◌, List, [], ◌∷◌, ◌++◌, refl, sym, ap, map, ℤ, Option, None, Some, option_map, int_eq, if◌then◌else◌}
+use Rattle.std.specs.List.{find}
 use Rattle.osm_elements.specs.declared.object.ObjectKind.{ObjectKind}
 use Rattle.osm_elements.specs.declared.object.ObjectKind.TheVariants.{Node, Way, Relation}
 use Rattle.osm_elements.specs.declared.object.ObjectRef.{ObjectRef}
@@ -13,13 +11,13 @@ use Rattle.osm_objects.specs.declared.held.Held.{Held}
 use Rattle.osm_objects.specs.declared.held.Placed.{Placed}
 use Rattle.osm_objects.specs.declared.held.Held.TheVariants as held
 use Rattle.osm_objects.specs.Object.{kind_of, id_of, is_live, ref_of, same_kind, is_at}
-use Rattle.osm_objects.specs.Objects.{object_at, is_duplicate, with_object}
-use Rattle.osm_objects.specs.Held.{object_from, KindsAgree, live_ref}
-use Rattle.lists.proofs.ListsKit.{and-right, is_some-map}
+use Rattle.osm_objects.specs.Objects.{object_at, with_object}
+use Rattle.osm_objects.specs.Held.{object_from, live_ref}
+use Rattle.osm_objects.specs.Others.{object_held, is_held_at}
 
--- the objects that entries stand for
-abbrev pub objects_from : List (ObjectRef × Placed) → List Object
-objects_from entries = map (λ e. object_from e.0.id e.1.held) entries
+-- the objects
+abbrev pub objects_from : List Placed → List Object
+objects_from others = map object_held others
 
 abbrev pub eq : ObjectRef → ObjectRef → Bool
 eq = ref_eq.ghosts.eq
@@ -44,41 +42,14 @@ id-from id (held.Tagged n) = refl
 id-from id (held.Way w) = refl
 id-from id (held.Relation r) = refl
 
--- equal references have the same id
-same-id : (a b : ObjectRef) → eq a b ≡ true → a.id ≡ b.id
-same-id a b same = (Decides-int_eq a.id b.id).0 (and-right (same_kind a.kind b.kind) (int_eq a.id b.id) (sym (eq-is a b) ∙ same))
-
--- the test of an object is that of its entry
-at-entry : (of : ObjectRef) (e : ObjectRef × Placed) → kind_of (object_from e.0.id e.1.held) ≡ e.0.kind → is_at of (object_from e.0.id e.1.held) ≡ eq of e.0
-at-entry of e agree = rw (agree, id-from e.0.id e.1.held) (sym (eq-is of e.0))
-
--- the object of this id for which something is kept
-abbrev pub kept_at : ℤ → Placed → Object
-kept_at id e = object_from id e.held
-
-pub object_at-from : (of : ObjectRef) (es : List (ObjectRef × Placed)) → KindsAgree es → object_at (objects_from es) of ≡ option_map (kept_at of.id) (lookup (eq of) es)
-object_at-from of [] agree = refl
-object_at-from of (e ∷ es) agree = rw (at-entry of e agree.0) (by (eq of e.0) refl (object_at-from of es agree.1))
+pub object_at-from : (of : ObjectRef) (others : List Placed) → object_at (objects_from others) of ≡ option_map object_held (find (is_held_at of) others)
+object_at-from of [] = refl
+object_at-from of (p ∷ others) = by (is_held_at of p) (object_at-from of others)
   where
-    by : (b : Bool) → eq of e.0 ≡ b → object_at (objects_from es) of ≡ option_map (kept_at of.id) (lookup (eq of) es)
-        → cond b (Some (object_from e.0.id e.1.held)) (object_at (objects_from es) of) ≡ option_map (kept_at of.id) (cond b (Some e.1) (lookup (eq of) es))
-    by true same rest = ap (λ (id : ℤ). Some (object_from id e.1.held)) (sym (same-id of e.0 same))
-    by false other rest = rest
-
--- what `get` lends
-pub lent : (id : ℤ) (r : Option (Bor Placed)) → option_map (λ (h : Bor Placed). object_from id h.now.held) r ≡ option_map (kept_at id) (option_copied r)
-lent id None = refl
-lent id (Some h) = refl
-
--- ---- one more entry
-
-pub objects_from-push : (es : List (ObjectRef × Placed)) (e : ObjectRef × Placed) → objects_from (es ++ e ∷ []) ≡ objects_from es ++ object_from e.0.id e.1.held ∷ []
-objects_from-push [] e = refl
-objects_from-push (d ∷ es) e = ap (λ os. object_from d.0.id d.1.held ∷ os) (objects_from-push es e)
-
-pub KindsAgree-push : (es : List (ObjectRef × Placed)) (e : ObjectRef × Placed) → KindsAgree es → kind_of (object_from e.0.id e.1.held) ≡ e.0.kind → KindsAgree (es ++ e ∷ [])
-KindsAgree-push [] e agree one = (one, tt)
-KindsAgree-push (d ∷ es) e agree one = (agree.0, KindsAgree-push es e agree.1 one)
+    by : (b : Bool) → object_at (objects_from others) of ≡ option_map object_held (find (is_held_at of) others)
+        → cond b (Some (object_held p)) (object_at (objects_from others) of) ≡ option_map object_held (cond b (Some p) (find (is_held_at of) others))
+    by true rest = refl
+    by false rest = rest
 
 -- ---- what `add` finds and leaves
 
@@ -93,16 +64,6 @@ at-live_ref o of found = by (is_live o) refl found
     by : (b : Bool) → is_live o ≡ b → (if b then Some (ref_of o) else None) ≡ Some of → At o of
     by true live some = record { live = live; is = cc }
     by false live none = absurd (cc)
-
-pub is_duplicate-from : (o : Object) (of : ObjectRef) (es : List (ObjectRef × Placed)) (objects : List Object) → At o of → KindsAgree es → objects_from es ≡ objects → is_duplicate objects o ≡ is_some (lookup (eq of) es)
-is_duplicate-from o of es objects at agree view = rw (at.live, at.is, ← view, object_at-from of es agree) (is_some-map (kept_at of.id) (lookup (eq of) es))
-
--- what is kept stands for the object
-pub object-kept : (o : Object) (of : ObjectRef) (h : Held) → At o of → object_from (id_of o) h ≡ o → object_from of.id h ≡ o
-object-kept o of h at kept = ap (λ (r : ObjectRef). object_from r.id h) (sym at.is) ∙ kept
-
-pub kind-kept : (o : Object) (of : ObjectRef) (h : Held) → At o of → object_from (id_of o) h ≡ o → kind_of (object_from of.id h) ≡ of.kind
-kind-kept o of h at kept = ap kind_of (object-kept o of h at kept) ∙ ap (λ (r : ObjectRef). r.kind) at.is
 
 pub with_object-live : (objects : List Object) (o : Object) → is_live o ≡ true → with_object objects o ≡ objects ++ o ∷ []
 with_object-live objects o live = rw live refl

@@ -1,9 +1,9 @@
 -- What the store keeps of an object, and the object that it stands for. Only private clauses cite it.
-use Rattle.std.specs.Prelude.{◌≡◌, true, List, [], ◌∷◌, ℤ, map, Option, Some, None, if◌then◌else◌}
+use Rattle.std.specs.Prelude.{true, List, [], ℤ, map, Option, Some, None, if◌then◌else◌}
 use Rattle.osm_elements.specs.declared.object.ObjectRef.{ObjectRef}
 use Rattle.osm_elements.specs.declared.object.Object.{Object}
 use Rattle.osm_elements.specs.declared.object.Object.TheVariants as object
-use Rattle.osm_objects.specs.Object.{kind_of, is_live, ref_of}
+use Rattle.osm_objects.specs.Object.{is_live, ref_of}
 use Rattle.osm_objects.specs.Merged.{Other, other}
 use Rattle.osm_objects.specs.declared.held.Held.{Held}
 use Rattle.osm_objects.specs.declared.held.Placed.{Placed}
@@ -17,13 +17,8 @@ object_from id (Way w) = object.Way id true w.value.tags w.value.refs
 object_from id (Relation r) = object.Relation id true r.value.tags r.value.members
 
 -- the objects, each with the count of plain nodes before it
-abbrev pub others_from : List (ObjectRef × Placed) → List (Other Object)
-others_from entries = map (λ e. other e.1.gap (object_from e.0.id e.1.held)) entries
-
--- the kind of each reference is that of what is kept
-abbrev pub KindsAgree : List (ObjectRef × Placed) → Type 0
-KindsAgree [] = Unit {0}
-KindsAgree (e ∷ entries) = (kind_of (object_from e.0.id e.1.held) ≡ e.0.kind) × KindsAgree entries
+abbrev pub others_from : List Placed → List (Other Object)
+others_from others = map (λ p. other p.gap (object_from p.id p.held)) others
 
 -- the reference under which an object is kept; none where it was deleted
 abbrev pub live_ref : Object → Option ObjectRef

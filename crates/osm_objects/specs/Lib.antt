@@ -12,4 +12,4 @@ pub mod Problem
 pub mod Merged
 pub mod Plain
 pub mod Found
-pub mod NearHash
+pub mod Others

@@ -12,7 +12,7 @@ ghost use Rattle.osm_objects.specs.Views.{node_seen, way_seen, relation_seen};
 use crate::choice::Choice;
 use crate::tags::{copy_without, has_other_key, is_tagged};
 use crate::view::{NodeView, RelationView, WayView};
-use osm_elements::{Members, Object, ObjectKind, Ref, Refs, Tags};
+use osm_elements::{Members, Object, ObjectKind, ObjectRef, Ref, Refs, Tags};
 use osm_lattice::Loc;
 use std::alloc::{AllocError as OutOfMemory, Global};
 
@@ -47,12 +47,58 @@ pub(crate) enum Held {
     Relation(Box<HeldRelation>),
 }
 
-/// What is kept of an object that isn't a plain node, with how many of those stand between it and the other such object
-/// before it: so the order of all is kept.
+/// An object that isn't a plain node, with how many of those stand between it and the other such object before it: so the
+/// order of all is kept.
 #[derive(Drop)]
 pub(crate) struct Placed {
+    pub(crate) id: i64,
     pub(crate) gap: u64,
     pub(crate) held: Held,
+}
+
+impl Placed {
+    ghost use Rattle.std.specs.Ordering.{is_lt};
+    ghost use Rattle.osm_objects.specs.Others.{object_held, ref_held, ref_cmp, is_held_at};
+
+    /// A live object of this id, behind so many plain nodes.
+    pub(crate) fn new(
+        alloc: Global,
+        id: i64,
+        gap: u64,
+        object: Object,
+    ) -> Result<Placed, OutOfMemory>
+        requires live { IsTrue (is_live object) }
+        requires id { id ≡ id_of object }
+        ensures gap { IfOk result (λ p. p.gap ≡ gap) }
+        ensures object { IfOk result (λ p. object_held p ≡ object) }
+    {
+        let held = Held::of(alloc, object)?;
+        Ok(Placed { id, gap, held })
+    }
+
+    /// Whether it has this kind and id.
+    pub(crate) fn is_at(&self, of: ObjectRef) -> bool
+        ensures { result ≡ is_held_at of self.now }
+    {
+        self.of() == of
+    }
+
+    /// Whether its kind and id come before these in a sorted input.
+    pub(crate) fn is_below(&self, of: ObjectRef) -> bool
+        ensures { result ≡ is_lt (ref_cmp (ref_held self.now) of) }
+    {
+        self.of().cmp(&of).is_lt()
+    }
+
+    /// Its kind and id.
+    pub(crate) fn of(&self) -> ObjectRef
+        ensures { result ≡ ref_held self.now }
+    {
+        ObjectRef {
+            kind: self.held.kind(),
+            id: self.id,
+        }
+    }
 }
 
 impl Held {

@@ -47,21 +47,6 @@ pub(crate) fn is_above(nodes: &[PlainNode], node: &PlainNode) -> bool
     }
 }
 
-/// How many nodes more there is room for at least, whenever the row grows.
-const LEAST_STEP: usize = 64;
-
-/// Adds a node at the end. After an `Err` the row is unchanged. It grows by an eighth, since it may hold most of an input.
-pub(crate) fn push_node(nodes: &mut Vec<PlainNode>, node: PlainNode) -> Result<(), OutOfMemory>
-    ensures ok { OnOk result (nodes.new.items ≡ nodes.old.items ++ node ∷ []) }
-    ensures err { OnErr result (nodes.new.items ≡ nodes.old.items) }
-{
-    if nodes.len() == nodes.capacity() {
-        nodes.reserve_exact(nodes.len() / 8 + LEAST_STEP)?;
-    }
-    nodes.push(node)?;
-    Ok(())
-}
-
 /// Adds the ids of these nodes.
 pub(crate) fn push_ids(ids: &mut Vec<i64>, nodes: &[PlainNode]) -> Result<(), OutOfMemory>
     ensures { OnOk result (ids.new.items

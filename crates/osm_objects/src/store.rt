@@ -1,6 +1,6 @@
 //! The store of objects.
 
-ghost use Rattle.std.specs.Prelude.{◌≡◌, [], true, All, Contains, IsTrue, IfOk, OnOk, OnErr, IfErr, IsSome, Some, option_map, false};
+ghost use Rattle.std.specs.Prelude.{◌≡◌, ◌++◌, ◌∷◌, [], true, All, Contains, IsTrue, IfOk, OnOk, OnErr, IfErr, IsSome, Some, option_map, false};
 ghost use Rattle.std.specs.List.{IsDistinct};
 ghost use Rattle.std.specs.Ordering.{int_eq};
 ghost use Rattle.osm_objects.specs.Object.{is_live, ref_of};
@@ -13,19 +13,19 @@ ghost use Rattle.osm_objects.specs.AddErrors.{Refuses};
 ghost use Rattle.osm_objects.specs.Views.{node_seen, way_seen, relation_seen};
 ghost use Rattle.osm_objects.specs.Held.{live_ref};
 ghost use Rattle.osm_objects.specs.Found.{object_found};
+ghost use Rattle.osm_objects.specs.Others.{object_held};
 
 use crate::choice::Choice;
 use crate::error::AddError;
 use crate::found::Found;
-use crate::held::{Held, Placed};
-use crate::near_hash::NearHasher;
-use crate::plain::{PlainNode, is_above, node_of, plain_node, push_ids, push_node};
+use crate::growing::push_last;
+use crate::held::Placed;
+use crate::others::Others;
+use crate::plain::{PlainNode, is_above, node_of, plain_node, push_ids};
 use crate::view::{NodeView, RelationView, WayView};
-use indexmap::IndexMap;
 use osm_elements::{Object, ObjectKind, ObjectRef, Ref, Tags};
 use osm_lattice::Loc;
 use std::alloc::{AllocError as OutOfMemory, Global};
-use std::hash::BuildHasherDefault;
 use std::marker::Model;
 
 /// The live objects of an input. Contracts see it as their list, in the order in which they were added.
@@ -33,8 +33,8 @@ use std::marker::Model;
 pub struct Store {
     // Nodes that have a location and no tags, as long as their ids rise, as they do in a sorted input.
     nodes: Vec<PlainNode>,
-    // All others. One map for the three kinds, since candidates come in input order across them.
-    others: IndexMap<ObjectRef, Placed, BuildHasherDefault<NearHasher>>,
+    // All others, the three kinds in one list, since candidates come in input order across them.
+    others: Others,
     // How many of the nodes came behind the last of the others.
     since: u64,
     // No tags: those of a node that has none, to be lent.
@@ -45,18 +45,17 @@ impl Model for Store {
     ghost use Rattle.std.specs.Prelude.{◌≡◌, List, []};
     ghost use Rattle.osm_elements.specs.declared.object.Object.{Object};
     ghost use Rattle.osm_objects.specs.Objects.{AreApart};
-    ghost use Rattle.osm_objects.specs.Held.{others_from, KindsAgree};
+    ghost use Rattle.osm_objects.specs.Held.{others_from};
     ghost use Rattle.osm_objects.specs.Merged.{merged, Fit};
     ghost use Rattle.osm_objects.specs.Plain.{nodes_from, HaveRisingIds};
 
     ghost Value = { List Object };
 
-    ghost view = { λ s. merged (nodes_from s.nodes.items) (others_from s.others.entries) };
+    ghost view = { λ s. merged (nodes_from s.nodes.items) (others_from s.others) };
 
     ghost invariant = { λ s. HaveRisingIds s.nodes.items
-        × KindsAgree s.others.entries
-        × Fit (nodes_from s.nodes.items) (others_from s.others.entries) s.since
-        × AreApart (merged (nodes_from s.nodes.items) (others_from s.others.entries))
+        × Fit (nodes_from s.nodes.items) (others_from s.others) s.since
+        × AreApart (merged (nodes_from s.nodes.items) (others_from s.others))
         × (s.no_tags ≡ []) };
 }
 
@@ -81,6 +80,17 @@ fn live_ref(object: &Object) -> Option<ObjectRef>
     }
 }
 
+/// Adds the id of a node, and none of another object.
+fn push_id(ids: &mut Vec<i64>, placed: &Placed) -> Result<(), OutOfMemory>
+    ensures { OnOk result (ids.new.items
+        ≡ ids.old.items ++ node_ids (object_held placed.now ∷ [])) }
+{
+    if placed.held.is_node() {
+        ids.push(placed.id)?;
+    }
+    Ok(())
+}
+
 impl Store {
     /// A store that holds nothing. It takes no memory yet.
     pub fn new(alloc: Global) -> Store
@@ -88,7 +98,7 @@ impl Store {
     {
         Store {
             nodes: Vec::new(alloc),
-            others: IndexMap::with_hasher(alloc, BuildHasherDefault::new()),
+            others: Others::new(alloc),
             since: 0,
             no_tags: Tags::new(alloc),
         }
@@ -114,14 +124,13 @@ impl Store {
         }
         if let Some(node) = plain_node(&object) {
             if is_above(self.nodes.as_slice(), &node) {
-                push_node(&mut self.nodes, node)?;
+                push_last(&mut self.nodes, node)?;
                 self.since += 1;
                 return Ok(());
             }
         }
-        let held = Held::of(*self.others.allocator(), object)?;
-        let gap = self.since;
-        self.others.insert(of, Placed { gap, held })?;
+        let placed = Placed::new(*self.nodes.allocator(), of.id, self.since, object)?;
+        self.others.push(placed)?;
         self.since = 0;
         Ok(())
     }
@@ -145,14 +154,14 @@ impl Store {
 
     /// Where an object is held.
     ///
-    /// Ways: plain nodes in their row; all others by the table.
+    /// Ways: plain nodes in their row; all others in theirs.
     fn find(&self, of: ObjectRef) -> Found<'_>
         ensures { object_found of.id result ≡ object_at self.now of }
     {
         if let Some(node) = node_of(self.nodes.as_slice(), of) {
             return Found::Plain(node);
         }
-        match self.others.get(&of) {
+        match self.others.find(of) {
             Some(placed) => Found::Other(&placed.held),
             None => Found::Nowhere,
         }
@@ -209,14 +218,12 @@ impl Store {
         ensures list { IfOk result (λ list. list.items ≡ candidates choice.now self.now) }
         ensures held { IfOk result (λ list. All (λ of. IsSome (object_at self.now of)) list.items) }
     {
+        let others = self.others.as_slice();
         // There is room for all at once: a list that grows leaves holes behind, and room that isn't used takes no memory.
-        let mut list = Vec::with_capacity(alloc, self.others.len())?;
-        for (of, placed) in &self.others {
+        let mut list = Vec::with_capacity(alloc, others.len())?;
+        for placed in others {
             if placed.held.is_candidate(choice) {
-                list.push(ObjectRef {
-                    kind: placed.held.kind(),
-                    id: of.id,
-                })?;
+                list.push(placed.of())?;
             }
         }
         Ok(list)
@@ -228,12 +235,11 @@ impl Store {
     {
         let mut ids = Vec::with_capacity(alloc, self.nodes.len())?;
         let mut plain = self.nodes.as_slice();
-        for (of, placed) in &self.others {
+        let others = self.others.as_slice();
+        for placed in others {
             let (before, behind) = plain.split_at(placed.gap as usize);
             push_ids(&mut ids, before)?;
-            if placed.held.is_node() {
-                ids.push(of.id)?;
-            }
+            push_id(&mut ids, placed)?;
             plain = behind;
         }
         push_ids(&mut ids, plain)?;
@@ -247,9 +253,10 @@ impl Store {
         ensures distinct { IsDistinct int_eq (coast_ways self.now) }
     {
         let mut list = Vec::new(alloc);
-        for (of, placed) in &self.others {
+        let others = self.others.as_slice();
+        for placed in others {
             if placed.held.is_coast_way() {
-                list.push(of.id)?;
+                list.push(placed.id)?;
             }
         }
         Ok(list)

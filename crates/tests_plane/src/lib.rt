@@ -15,3 +15,5 @@ mod reading;
 mod segments;
 #[cfg(test)]
 mod stabs;
+#[cfg(test)]
+mod surviving;

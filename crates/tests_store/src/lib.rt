@@ -4,8 +4,6 @@
 #[cfg(test)]
 mod chosen;
 #[cfg(test)]
-mod hashing;
-#[cfg(test)]
 mod lent;
 #[cfg(test)]
 mod many;

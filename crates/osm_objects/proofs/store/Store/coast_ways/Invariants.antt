@@ -1,7 +1,7 @@
-use Rattle.std.proofs.Common.{◌≡◌, ◌++◌}
+use Rattle.std.proofs.Common.{◌≡◌, ◌++◌, drop}
 use Rattle.osm_objects.specs.CoastWays.{coast_ways}
 use Rattle.osm_objects.proofs.StoreLemmas.{objects_from}
 use Rattle.osm_objects.proofs.store.Store.coast_ways.Given as goal
 
-abbrev pub invariant-loop-of : goal.invariant-loop-of
-invariant-loop-of l = l.list.items ++ coast_ways (objects_from l.of-iterator) ≡ coast_ways l.self
+abbrev pub invariant-loop-placed : goal.invariant-loop-placed
+invariant-loop-placed l = l.list.items ++ coast_ways (objects_from (drop l.placed-index l.others)) ≡ coast_ways l.self

@@ -17,18 +17,18 @@ pub returns-clause-live : goal.returns-clause-live
 returns-clause-live c =
     let AllLive : List Object → Type 0 = λ objects. All (λ o. IsTrue (is_live o)) objects in
     let nodes = c.self.inside.nodes.items in
-    let others = c.self.inside.others.entries in
+    let others = c.self.inside.others in
     subst AllLive c.self.view_is (All-from_recursion (λ o. IsTrue (is_live o)) (merged (nodes_from nodes) (others_from others)) (all_merged_live nodes others))
 
 pub returns-clause-found : goal.returns-clause-found
 returns-clause-found c =
     let objects = c.args.self.now in
-    All-from_recursion (λ o. object_at objects (ref_of o) ≡ Some o) objects (all_found objects (subst AreApart c.self.view_is c.self.invariant.3))
+    All-from_recursion (λ o. object_at objects (ref_of o) ≡ Some o) objects (all_found objects (subst AreApart c.self.view_is c.self.invariant.2))
 
 pub returns-clause-candidates : goal.returns-clause-candidates
 returns-clause-candidates c choice =
     let objects = c.args.self.now in
-    let found = all_found objects (subst AreApart c.self.view_is c.self.invariant.3) in
+    let found = all_found objects (subst AreApart c.self.view_is c.self.invariant.2) in
     All-from_recursion (λ of. option_map (is_candidate choice) (object_at objects of) ≡ Some true) (candidates choice objects)
     (filter-found (is_candidate choice) objects objects found)
 
