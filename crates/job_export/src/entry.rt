@@ -15,10 +15,10 @@ ghost use Rattle.osm_text.specs.Id.{feature_id};
 ghost use Rattle.osm_words.specs.Answers.{settings_seen};
 
 use crate::framing::{after_feature, before_feature};
-use osm_area::{Outcome, assemble};
+use osm_area::{Outcome, Problems, assemble};
 use osm_elements::{ObjectKind, ObjectRef, Tags};
 use osm_nest::Polygons;
-use osm_objects::{Note, Problem, Store};
+use osm_objects::{Note, Store};
 use osm_text::{FeatureId, note_line, problem_line, put_feature_json, put_feature_text};
 use osm_words::{ExportSettings, Format};
 use std::alloc::{AllocError as OutOfMemory, Global};
@@ -148,7 +148,7 @@ pub(crate) fn addition_of(
             Ok(Addition { has_feature, lines })
         }
         Outcome::Problems { list, notes } => {
-            push_problems(alloc, &mut lines, candidate, list.as_slice(), show)?;
+            push_problems(alloc, &mut lines, candidate, &list, show)?;
             push_notes(alloc, &mut lines, candidate, notes.as_slice(), show)?;
             let has_feature = false;
             Ok(Addition { has_feature, lines })
@@ -161,7 +161,7 @@ fn push_problems(
     alloc: Global,
     lines: &mut Vec<Vec<u8>>,
     of: ObjectRef,
-    problems: &[Problem],
+    problems: &Problems,
     show_errors: bool,
 ) -> Result<(), OutOfMemory>
     requires { All IsOfItsKind problems.now }
@@ -171,8 +171,11 @@ fn push_problems(
     if !show_errors {
         return Ok(());
     }
-    for problem in problems {
-        lines.push(problem_line(alloc, of, problem)?)?;
+    for place in 0..problems.len() {
+        let Some(problem) = problems.get(place) else {
+            return Ok(());
+        };
+        lines.push(problem_line(alloc, of, &problem)?)?;
     }
     Ok(())
 }
