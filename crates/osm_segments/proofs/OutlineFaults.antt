@@ -1,5 +1,5 @@
 -- Faults of segments, of which there are none or some.
-use Rattle.std.proofs.Common.{Bool, List, [], arith, false, length, not, refl, subst, sym, ℕ, ◌+◌, ◌==◌, ◌∙◌, ◌∷◌, ◌≡◌}
+use Rattle.std.proofs.Common.{Bool, List, [], arith, false, length, not, refl, subst, suc, sym, ℕ, ◌==◌, ◌∙◌, ◌∷◌, ◌≡◌}
 use Rattle.std.specs.Prelude.{◌↔◌}
 use Rattle.std.proofs.lemmas.Bool.Decides.{nat_tests}
 use Rattle.lists.proofs.ListsKit.{same_rising}
@@ -16,7 +16,7 @@ none_found [] n empty e is = ((λ _. refl), (λ _. none_by n empty e is))
     none_by n empty e is = grind (arith, nat_tests)
 none_found (x ∷ xs) n empty e is = ((λ h. absurd (some_by (length xs) n empty e is h)), (λ none. cc))
   where
-    some_by : (m n : ℕ) (empty : Bool) → m + 1 ≡ n → empty ≡ (n == 0) → not empty ≡ false → ⊥
+    some_by : (m n : ℕ) (empty : Bool) → suc m ≡ n → empty ≡ (n == 0) → not empty ≡ false → ⊥
     some_by m n empty e is h = grind (arith, nat_tests)
 
 pub odd-nodes-one : (segs : List Seg) (a b : List Loc) → AreOddNodes segs a → AreOddNodes segs b → a ≡ b

@@ -18,8 +18,8 @@ fn place_of(segs: &[Seg], s: Seg) -> Option<u32>
     ensures { IfSome result (λ place. slice_get segs.now place ≡ Some s) }
 {
     let place = segs.partition_point(|t| *t < s);
-    if place < segs.len() && segs[place] == s {
-        return u32::try_from(place).ok();
+    if place < segs.len() && place < 4_294_967_296 && segs[place] == s {
+        return Some(place as u32);
     }
     None
 }
@@ -29,8 +29,12 @@ fn places_of_pair(segs: &[Seg], pair: Pair) -> Result<Places, OutOfMemory>
     requires { IsPairOfItsKind pair }
     ensures { IfOk result (λ places. pair_at segs.now places ≡ Some pair) }
 {
-    let first = place_of(segs, pair.first).ok_or(OutOfMemory)?;
-    let second = place_of(segs, pair.second).ok_or(OutOfMemory)?;
+    let Some(first) = place_of(segs, pair.first) else {
+        return Err(OutOfMemory);
+    };
+    let Some(second) = place_of(segs, pair.second) else {
+        return Err(OutOfMemory);
+    };
     Ok(Places { first, second })
 }
 
