@@ -1,6 +1,6 @@
 //! The report lines of a candidate, each printed and written before the next.
 
-ghost use Rattle.std.specs.Prelude.{◌≡◌, [], All, Some, true};
+ghost use Rattle.std.specs.Prelude.{◌≡◌, [], All, None, Some, true};
 ghost use Rattle.std.specs.List.{flat_map};
 ghost use Rattle.job_export.specs.Entry.{AreProblemLines};
 ghost use Rattle.job_export.specs.ReportSteps.{WroteLines};
@@ -30,7 +30,8 @@ pub(crate) struct Report {
 impl Report {
     /// The report of nothing.
     pub(crate) fn nothing(alloc: Global) -> Report
-        ensures { (of : ObjectRef) → IsReportOf of result [] }
+        ensures problems { result.problems ≡ None }
+        ensures notes { result.notes ≡ [] }
     {
         Report {
             problems: None,

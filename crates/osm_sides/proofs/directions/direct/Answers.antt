@@ -13,12 +13,12 @@ use Rattle.osm_sides.proofs.WholeSegments.{directed_is_whole}
 use Rattle.osm_sides.proofs.directions.direct.Goals as goal
 
 pub direct_all-requires-clause-outline : goal.direct_all-requires-clause-outline
-direct_all-requires-clause-outline c = subst IsOutline (sym (c.deref.ensures.value ∙ c.into_parts.ensures.segments)) c.into_parts.ensures.outline
+direct_all-requires-clause-outline c = subst IsOutline (sym (c.deref.ensures.value ∙ c.into_parts-segs.ensures.segments)) c.into_parts-segs.ensures.outline
 
 pub returns-clause-odd_side : goal.returns-clause-odd_side
 returns-clause-odd_side c =
     let lent = c.deref.result.now in let ss = c.args.outline in
-    let same : lent ≡ ss = c.deref.ensures.value ∙ c.into_parts.ensures.segments in
+    let same : lent ≡ ss = c.deref.ensures.value ∙ c.into_parts-segs.ensures.segments in
     let all = take_all (length lent) lent (omega arith) in
     IfOk-weaker c.direct_all.result (λ v. AreDirectedTo lent (length lent) v.items) (λ v. AreDirected ss v.items)
     (λ v d. subst (λ (segs : List Seg). AreDirected segs v.items) same (record { whole = d.carriers ∙ ap (map OfSeg) all; firsts = d.firsts ∙ ap (map (first_end lent)) all; lasts = d.lasts ∙ ap (map (last_end lent)) all }))
@@ -31,12 +31,12 @@ returns-clause-whole c =
 
 pub returns-clause-sided : goal.returns-clause-sided
 returns-clause-sided c =
-    let is = c.into_parts.ensures.outline in
+    let is = c.into_parts-segs.ensures.outline in
     IfOk-weaker c.direct_all.result (λ v. AreDirected c.args.outline v.items) (λ v. IsSided v.items)
     (λ v d. directed_is_sided c.args.outline v.items is.rising is.clear is.even d) (returns-clause-odd_side c)
 
 pub returns-clause-parity : goal.returns-clause-parity
 returns-clause-parity c =
-    let is = c.into_parts.ensures.outline in
+    let is = c.into_parts-segs.ensures.outline in
     IfOk-weaker c.direct_all.result (λ v. AreDirected c.args.outline v.items) (λ v. CountsParity c.args.outline v.items)
     (λ v d. directed_counts c.args.outline v.items is.rising is.clear is.even d) (returns-clause-odd_side c)
