@@ -15,6 +15,7 @@ use Rattle.osm_nest.specs.Nested.{HasKinds}
 use Rattle.osm_nest.specs.Polygons.{rings_of}
 use Rattle.osm_objects.specs.declared.problem.Note.{Note}
 use Rattle.osm_objects.specs.declared.problem.Problem.{Problem}
+use Rattle.osm_objects.specs.declared.problem.Problem.TheVariants.{Nothing}
 use Rattle.osm_segments.specs.Counts.{AreSurvivors}
 use Rattle.osm_segments.specs.Outlines.{IsOutline}
 use Rattle.osm_segments.specs.Pairs.{conflicts_of}
@@ -41,13 +42,6 @@ some_left [] n empty e is some none = some_by n empty e is some
     some_by : (n : ℕ) (empty : Bool) → 0 ≡ n → empty ≡ (n == 0) → empty ≡ false → ⊥
     some_by n empty e is some = grind (arith, nat_tests)
 some_left (x ∷ xs) n empty e is some none = cc
-
-pub no_one_left : {X : Type 0} (xs : List X) (n : ℕ) (empty : Bool) → length xs ≡ n → empty ≡ (n == 0) → empty ≡ true → xs ≡ []
-no_one_left [] n empty e is none = refl
-no_one_left (x ∷ xs) n empty e is none = absurd (none_by (length xs) n empty e is none)
-  where
-    none_by : (m n : ℕ) (empty : Bool) → m + 1 ≡ n → empty ≡ (n == 0) → empty ≡ true → ⊥
-    none_by m n empty e is none = grind (arith, nat_tests)
 
 -- ---- segments
 
@@ -93,6 +87,12 @@ problems_given segs notes middle survivors list are noted among some twice n = (
   (noted.0, (noted.1.0, noted.1.1 ∙ ap (λ (ns : List Note). ns ++ map repeated_note noted.0) n)),
 )
 
+pub nothing_given : (segs : List Seg) (notes middle : List Note) (survivors : List Seg) (list : List Problem) → AreSurvivors segs survivors → AddsRepeats segs notes middle → survivors ≡ [] → list ≡ Nothing ∷ []
+    → (twice : List ℤ) → notes ≡ map named_twice_note twice
+    → AreProblemsGiven [] segs list × (list ≢ []) × AreNotesGiven [] twice segs middle
+nothing_given segs notes middle survivors list are noted none is =
+    problems_given segs notes middle [] list (subst (AreSurvivors segs) none are) noted is (λ empty. cc)
+
 -- ---- areas without notes
 
 module _ (objects : List Object) (candidate : ObjectRef) (ways : List ℤ) (ways_are : ways ≡ member_ways objects candidate) where
@@ -104,7 +104,7 @@ module _ (objects : List Object) (candidate : ObjectRef) (ways : List ℤ) (ways
       cc
 
   pub made_by_segments : {A : Type 0} (found : Option A) (a : A) (segs lent : List Seg) → IsSome found ↔ (flat_map (way_missing objects) ways ≡ []) → found ≡ Some a → segs ≡ flat_map (way_segments objects) ways → lent ≡ segs → (made : Option (List Polygon)) → IsMadeOf lent made → IsMadeBy objects candidate made
-  made_by_segments found a segs lent test some s l None made sound =
+  made_by_segments found a segs lent test some s l None made = λ sound.
       let same : lent ≡ candidate_segments objects candidate = l ∙ s ∙ ap (flat_map (way_segments objects)) ways_are in
       let one = survivors-one (candidate_segments objects candidate) sound.survivors made.0 sound.survive (subst (λ (ss : List Seg). AreSurvivors ss made.0) same made.1.0) in
       let is : IsOutline sound.survivors = record { rising = sound.survive.rising; clear = sound.clear; even = sound.even } in

@@ -22,7 +22,7 @@ use crate::missing::missing;
 use crate::notes::{add_repeats, named_twice};
 use crate::once::{all_differ, each_once};
 use crate::outcome_lists::Notes;
-use crate::problems::{Problems, faults};
+use crate::problems::{Problems, problems_of};
 use crate::role_notes::{Ways, add_role_notes};
 use crate::segments::{WaySegments, segments};
 use osm_elements::{ObjectKind, ObjectRef};
@@ -81,7 +81,7 @@ fn complete(
             Ok(Outcome::Problems { list, notes })
         }
         Made::Faulty(survivors) => {
-            let list = faults(alloc, survivors)?;
+            let list = problems_of(alloc, survivors)?;
             Ok(Outcome::Problems { list, notes })
         }
     }

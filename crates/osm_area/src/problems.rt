@@ -171,7 +171,7 @@ fn faults_among(alloc: Global, segs: &[Seg]) -> Result<(Vec<Places>, Vec<Loc>), 
 }
 
 /// Each conflicting pair of surviving segments in order, and then each odd node in order.
-pub(crate) fn faults(alloc: Global, survivors: Vec<Seg>) -> Result<Problems, OutOfMemory>
+pub(crate) fn problems_of(alloc: Global, survivors: Vec<Seg>) -> Result<Problems, OutOfMemory>
     requires { IsRising seg_cmp survivors.items }
     ensures { IfOk result (λ list. AreFaults survivors.items list) }
 {
