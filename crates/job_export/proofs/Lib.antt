@@ -1,4 +1,3 @@
-mod Additions
 mod Candidates
 mod Entries
 mod Exports

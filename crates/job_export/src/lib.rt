@@ -8,7 +8,6 @@ mod choice;
 mod entry;
 mod framing;
 mod laws;
-mod report;
 mod work;
 mod writing;
 
