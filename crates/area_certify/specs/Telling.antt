@@ -20,7 +20,7 @@ TellsNextLine ids objects counter candidate lines (Right rest) =
 TellsNextLine ids objects counter candidate lines Wrong =
     IsSound objects candidate × ((line : List ℕ) (later : List (List ℕ)) → lines ≡ line ∷ later → IsFeature ids objects counter candidate line → ⊥)
 
-pub record IsTold (ids : Option UniqueId) (objects : List Object) (counter : ℕ) (candidate : ObjectRef) (lines : List (List ℕ)) (told : Told) : Type 0 where
+pub record IsLineTold (ids : Option UniqueId) (objects : List Object) (counter : ℕ) (candidate : ObjectRef) (lines : List (List ℕ)) (told : Told) : Type 0 where
   pub tells : TellsNextLine ids objects counter candidate lines told
 
 -- the verdict on lines against these candidates

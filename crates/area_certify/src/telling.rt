@@ -3,7 +3,7 @@
 ghost use Rattle.std.specs.Prelude.{IfOk, IsSome};
 ghost use Rattle.osm_objects.specs.Objects.{object_at};
 ghost use Rattle.area_certify.specs.Lines.{text_lines};
-ghost use Rattle.area_certify.specs.Telling.{IsTold};
+ghost use Rattle.area_certify.specs.Telling.{IsLineTold};
 
 use crate::feature::is_feature;
 use crate::lines::first_line;
@@ -33,7 +33,7 @@ pub(crate) fn tell<'a>(
     text: &'a [u8],
 ) -> Result<Told<'a>, OutOfMemory>
     requires held { IsSome (object_at store.now candidate) }
-    ensures { IfOk result (IsTold ids store.now counter candidate (text_lines text.now)) }
+    ensures { IfOk result (IsLineTold ids store.now counter candidate (text_lines text.now)) }
 {
     // By law: it has one outcome alone.
     outcome_is_one();
