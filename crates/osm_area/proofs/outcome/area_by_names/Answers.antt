@@ -9,4 +9,3 @@ area_by-requires c =
     let lent = c.deref-then-branch in
     let apart : differ lent.result.now ≡ true = ap differ (lent.ensures.value ∙ sym c.deref.ensures.value) ∙ c.in_ok-all_differ.ensures c.if-branch.true in
     few_ways c.args.store.now c.args.candidate c.in_ok-named.named.items lent.result.now c.in_ok-named.ensures lent.ensures.value apart
-
