@@ -3,12 +3,11 @@
 ghost use Rattle.std.specs.Prelude.{IfOk, IsSome};
 ghost use Rattle.osm_objects.specs.Objects.{object_at};
 ghost use Rattle.area_certify.specs.Lines.{text_lines};
-ghost use Rattle.area_certify.specs.Telling.{IsTold};
+ghost use Rattle.area_certify.specs.Telling.{IsLineTold};
 
-use crate::area::area_of;
 use crate::feature::is_feature;
 use crate::lines::first_line;
-use osm_area::outcome_is_one;
+use osm_area::{area_of, outcome_is_one};
 use osm_elements::ObjectRef;
 use osm_objects::{Store, UniqueId};
 use std::alloc::{AllocError as OutOfMemory, Global};
@@ -34,7 +33,7 @@ pub(crate) fn tell<'a>(
     text: &'a [u8],
 ) -> Result<Told<'a>, OutOfMemory>
     requires held { IsSome (object_at store.now candidate) }
-    ensures { IfOk result (IsTold ids store.now counter candidate (text_lines text.now)) }
+    ensures { IfOk result (IsLineTold ids store.now counter candidate (text_lines text.now)) }
 {
     // By law: it has one outcome alone.
     outcome_is_one();

@@ -1,8 +1,8 @@
 //! Lists without repetition, in the order of first places.
 
-ghost use Rattle.std.specs.Prelude.{◌≡◌, true, ℤ, IfOk, nat_le, count_by};
+ghost use Rattle.std.specs.Prelude.{◌≡◌, ◌&&◌, true, ℤ, IfOk, OnOk, cond, nat_le, count_by};
 ghost use Rattle.std.specs.Ordering.{int_eq};
-ghost use Rattle.indexmap.specs.IndexSet.{contains};
+ghost use Rattle.indexmap.specs.IndexSet.{contains, insert_key};
 ghost use Rattle.lists.specs.Once.{each_once};
 ghost use Rattle.osm_area.specs.Names.{differ};
 
@@ -55,6 +55,23 @@ pub fn each_once<T: Eq + Hash + Copy>(
     Ok(seen)
 }
 
+/// Sees one more item, which stands again where it was seen before.
+fn see<T: Eq + Hash + Copy>(
+    seen: &mut IndexSet<T>,
+    again: &mut IndexSet<T>,
+    item: T,
+) -> Result<(), OutOfMemory>
+    ensures seen { OnOk result (seen.new.keys ≡ insert_key T.eq seen.old.keys item) }
+    ensures again { OnOk result ((q : T) → contains T.eq again.new q
+        ≡ cond (contains T.eq seen.old item && T.eq item q) true (contains T.eq again.old q)) }
+{
+    if seen.insert(item)? {
+        return Ok(());
+    }
+    again.insert(item)?;
+    Ok(())
+}
+
 /// The items that stand at least twice in a list.
 pub fn repeated<T: Eq + Hash + Copy>(alloc: Global, items: &[T]) -> Result<IndexSet<T>, OutOfMemory>
     ensures { IfOk result (λ s. (x : T)
@@ -63,9 +80,7 @@ pub fn repeated<T: Eq + Hash + Copy>(alloc: Global, items: &[T]) -> Result<Index
     let mut seen = IndexSet::with_capacity(alloc, items.len())?;
     let mut again = IndexSet::new(alloc);
     for &item in items {
-        if !seen.insert(item)? {
-            again.insert(item)?;
-        }
+        see(&mut seen, &mut again, item)?;
     }
     Ok(again)
 }

@@ -10,6 +10,6 @@ pub mod stab;
 mod sweep;
 
 pub use crate::stab::{PlainStab, Stab};
-pub use directions::{direct, direct_along};
+pub use directions::direct;
 pub use laws::{directing_is_sided, directions_are_one, directions_exist};
 pub use sides::is_left_of;

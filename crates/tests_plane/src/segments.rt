@@ -2,7 +2,9 @@
 
 use crate::reading::{at, segment, segs};
 use osm_lattice::{Kind, Seg};
-use osm_segments::{Pair, conflicts, distinct, faults_of, survivors};
+use osm_segments::{
+    Pair, Places, conflict_places, conflicts, distinct, odd_nodes, outline_of, pair_at, survivors,
+};
 use std::alloc::Global;
 use std::test::Fail;
 
@@ -131,8 +133,18 @@ impl Case {
     /// Whether just these conflicts are found.
     fn is_found(&self, alloc: Global) -> Result<bool, Fail> {
         let segs = distinct(alloc, &self.segs)?;
-        Ok(faults_of(alloc, &segs)?.conflicts.as_slice() == self.pairs.as_slice())
+        let places = conflict_places(alloc, &segs)?;
+        Ok(are_at(&segs, &places, &self.pairs))
     }
+}
+
+/// Whether these pairs are at the places.
+fn are_at(segs: &[Seg], places: &[Places], pairs: &[Pair]) -> bool {
+    places.len() == pairs.len()
+        && places
+            .iter()
+            .zip(pairs)
+            .all(|(at, pair)| pair_at(segs, *at) == Some(*pair))
 }
 
 /// A segment, given from the foot of a post 4 high, and how it conflicts with the post.
@@ -282,29 +294,38 @@ fn long_line(alloc: Global) -> Result<Case, Fail> {
     Ok(case)
 }
 
-/// The odd nodes of segments without conflicts, by their x, and whether a list by upper ends is given on.
-fn odd_ends(alloc: Global, segs: &[Seg]) -> Result<(Vec<i32>, bool), Fail> {
-    let faults = faults_of(alloc, &distinct(alloc, segs)?)?;
-    if !faults.conflicts.is_empty() {
-        return Err(Fail::new("a conflict"));
-    }
+/// The odd nodes of segments, by their x.
+fn odd_ends(alloc: Global, segs: &[Seg]) -> Result<Vec<i32>, Fail> {
     let mut ends = Vec::new(alloc);
-    for node in &faults.odd_nodes {
+    for node in &odd_nodes(alloc, segs)? {
         ends.push(node.x)?;
     }
-    Ok((ends, faults.ends.is_some()))
+    Ok(ends)
+}
+
+/// Whether segments are an outline, with the list by upper ends.
+fn are_sorted_outline(alloc: Global, segs: &[Seg]) -> Result<bool, Fail> {
+    match outline_of(alloc, distinct(alloc, segs)?)? {
+        Ok(outline) => Ok(outline.into_parts().1.is_some()),
+        Err(_) => Ok(false),
+    }
 }
 
 #[test]
 fn a_long_line_and_a_ring(rt: HostRuntime) -> Result<(), Fail> {
     let mut case = long_line(rt.alloc())?;
-    let (ends, _) = odd_ends(rt.alloc(), &case.segs)?;
+    let ends = odd_ends(rt.alloc(), &case.segs)?;
     assert_eq!(rt; ends.as_slice(), [0, 100].as_slice());
+    assert!(rt; !are_sorted_outline(rt.alloc(), &case.segs)?);
     // Three sides that go back below the line.
     case.add((0, 0), (0, -5))?;
     case.add((0, -5), (100, -5))?;
     case.add((100, -5), (100, 0))?;
-    let (ends, given_on) = odd_ends(rt.alloc(), &case.segs)?;
-    assert!(rt; ends.is_empty() && given_on);
+    assert!(rt; are_sorted_outline(rt.alloc(), &case.segs)?);
+    // A triangle across the lowest of them.
+    case.add((10, -6), (20, -6))?;
+    case.add((20, -6), (15, -4))?;
+    case.add((15, -4), (10, -6))?;
+    assert!(rt; !are_sorted_outline(rt.alloc(), &case.segs)?);
     Ok(())
 }

@@ -2,7 +2,7 @@
 
 use crate::reading::{loc, segs};
 use osm_lattice::Seg;
-use osm_segments::{Repeat, distinct, faults_of, odd_nodes, repeated, survivors};
+use osm_segments::{Repeat, distinct, odd_nodes, repeated, survivors};
 use std::alloc::Global;
 use std::test::Fail;
 
@@ -39,12 +39,12 @@ fn stand_repeatedly(alloc: Global, list: &[Seg], row: Row) -> Result<bool, Fail>
     Ok(found.as_slice() == wanted.as_slice())
 }
 
-/// Whether so many nodes are odd, also among the faults of what survives.
+/// Whether so many nodes are odd, also among what survives.
 fn are_odd(alloc: Global, list: &[Seg], row: Row) -> Result<bool, Fail> {
     let odd = odd_nodes(alloc, list)?;
     let kept = survivors(alloc, list)?;
-    let faults = faults_of(alloc, &kept)?;
-    Ok(odd.len() == row.odd && faults.odd_nodes.len() == row.odd)
+    let left = odd_nodes(alloc, &kept)?;
+    Ok(odd.len() == row.odd && left.len() == row.odd)
 }
 
 /// Whether all of a row is so.

@@ -1,22 +1,22 @@
-use Rattle.std.proofs.Common.{map, rules, Err, Ok}
-use Rattle.osm_host.specs.declared.host.Failed.{Failed}
-use Rattle.osm_job.specs.Sent.{to_output}
-use Rattle.osm_job.specs.Writes.{Wrote}
-use Rattle.osm_job.proofs.Writes.{then_more, of_longer}
+-- What waits, and then a report.
+use Rattle.std.proofs.Common.{List, [], ap, rules, subst, sym, ℕ, ◌++◌, ◌≡◌}
+use Rattle.job_export.specs.Reports.{IsReportOf}
+use Rattle.job_export.proofs.ReportLines.{report_there, text_behind, waiting_failed, waiting_written}
 use Rattle.job_export.proofs.writing.write_waiting.Goals as goal
 
-pub returns-in-Ok : goal.returns-in-Ok
-returns-in-Ok g c =
-    let first : Wrote {T = Unit {0}} {E = Failed} (map to_output c.args.waiting.now.items) (g.H.Host.seen c.args.host.now) (g.H.Host.seen c.write_out.new.host) (Ok tt) = rw (← c.deref.ensures.value) c.in-Ok.ensures in
+pub returns-in_default : goal.returns-in_default
+returns-in_default g c =
+    let there = report_there c.problem_line_exists.ensures c.args.of c.args.report.now.problems c.args.report.now.notes c.requires in
     record {
-      wrote = then_more (map to_output c.args.waiting.now.items) _ (g.H.Host.seen c.args.host.now) (g.H.Host.seen c.write_out.new.host) (g.H.Host.seen c.write_lines.new.host) tt c.write_lines.result first c.write_lines.ensures;
-      none = search rules;
+      wrote = waiting_failed c.args.waiting.now.items (IsReportOf c.args.of c.args.report.now) (g.H.Host.seen c.args.host.now) (g.H.Host.seen c.write_out.new.host) c.in_default.field-0 (rw (← c.deref.ensures.value) c.in_default.ensures) there.0 there.1;
+      none = tt;
     }
 
-pub returns-in-Err : goal.returns-in-Err
-returns-in-Err g c =
-    let first : Wrote {T = Unit {0}} {E = Failed} (map to_output c.args.waiting.now.items) (g.H.Host.seen c.args.host.now) (g.H.Host.seen c.write_out.new.host) (Err c.in-Err.failed) = rw (← c.deref.ensures.value) c.in-Err.ensures in
+pub returns : goal.returns
+returns g c =
+    let first = waiting_written c.args.waiting.now.items (g.H.Host.seen c.args.host.now) (g.H.Host.seen c.write_out.new.host) c.in-Ok.field-0 tt (rw (← c.deref.ensures.value) c.in-Ok.ensures) in
     record {
-      wrote = of_longer {T = Unit {0}} {T' = Unit {0}} (map to_output c.args.waiting.now.items) _ (g.H.Host.seen c.args.host.now) (g.H.Host.seen c.write_out.new.host) c.in-Err.failed first;
-      none = tt;
+      wrote = text_behind c.args.waiting.now.items (λ text. text ≡ []) (IsReportOf c.args.of c.args.report.now) (IsReportOf c.args.of c.args.report.now) (g.H.Host.seen c.args.host.now) (g.H.Host.seen c.write_out.new.host) (g.H.Host.seen c.write_report_of.new.host) tt c.write_report_of.result first c.write_report_of.ensures
+          (λ a b none is. subst (IsReportOf c.args.of c.args.report.now) (ap (λ (xs : List ℕ). xs ++ b) (sym none)) is);
+      none = search rules;
     }
