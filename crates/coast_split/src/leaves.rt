@@ -72,7 +72,7 @@ fn is_more(a: u64, b: u64) -> bool
 }
 
 /// Whether there are more edges than are wanted.
-fn is_large(edges: &[Edge], settings: &Settings) -> bool
+pub(crate) fn is_large(edges: &[Edge], settings: &Settings) -> bool
     ensures { result ≡ is_large settings.now.most_points edges.now }
 {
     let most = u64::from(settings.most_points);
@@ -80,7 +80,7 @@ fn is_large(edges: &[Edge], settings: &Settings) -> bool
 }
 
 /// The middle of the longer side of a list that is cut; None for a leaf.
-fn middle_of(edges: &[Edge], settings: &Settings) -> Option<Cut>
+pub(crate) fn middle_of(edges: &[Edge], settings: &Settings) -> Option<Cut>
     ensures { IsMiddle settings.now.most_points settings.now.overlap edges.now result }
 {
     if !is_large(edges, settings) {
@@ -98,7 +98,7 @@ fn middle_of(edges: &[Edge], settings: &Settings) -> Option<Cut>
 }
 
 /// Where the low half ends.
-fn low_cut(middle: Cut, overlap: u32) -> Cut
+pub(crate) fn low_cut(middle: Cut, overlap: u32) -> Cut
     requires middle { unsigned_abs middle.at ≤ 1_800_000_000 }
     requires overlap { overlap ≤ 100_000_000 }
     ensures { result ≡ low_cut middle overlap }
@@ -110,7 +110,7 @@ fn low_cut(middle: Cut, overlap: u32) -> Cut
 }
 
 /// Where the high half begins.
-fn high_cut(middle: Cut, overlap: u32) -> Cut
+pub(crate) fn high_cut(middle: Cut, overlap: u32) -> Cut
     requires middle { unsigned_abs middle.at ≤ 1_800_000_000 }
     requires overlap { overlap ≤ 100_000_000 }
     ensures { result ≡ high_cut middle overlap }
