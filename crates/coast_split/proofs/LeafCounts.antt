@@ -1,5 +1,5 @@
 -- How many leaves have come, and what that says of all.
-use Rattle.std.proofs.Common.{List, [], ap, arith, length, map, refl, subst, sym, ℕ, ◌+◌, ◌++◌, ◌<◌, ◌≤◌, ◌∙◌, ◌∷◌, ◌≡◌, false}
+use Rattle.std.proofs.Common.{List, [], ap, arith, length, map, refl, subst, sym, ℕ, ◌+◌, ◌++◌, ◌<◌, ◌∙◌, ◌∷◌, ◌≡◌, false}
 use Rattle.std.proofs.lemmas.List.{append_assoc, append-nil, length-append, length-map}
 use Rattle.osm_geom.specs.declared.edge.Edge.{Edge}
 use Rattle.coast_split.specs.declared.leaves.Leaf.{Leaf}
@@ -45,6 +45,15 @@ module _ (m o : ℕ) where
   more-of-one es most lists h g =
       let k = left-of-one es g.leaves ((h g.leaves).1 g.are_left) in let e = ap length k.leaves in let i = length-map (leaves_of es k.tree) (leaf_of m) in let j = g.more in
       record { tree = k.tree; is_tree = k.is_tree; more = omega arith }
+
+  pub left-as : (m' o' : ℕ) (lists : List (List Edge)) (ls : List Leaf) → m' ≡ m → o' ≡ o → AreLeft m' o' lists ls → AreLeft m o lists ls
+  left-as m' o' lists ls e f h = subst (λ a. AreLeft a o lists ls) e (subst (λ b. AreLeft m' b lists ls) f h)
+
+  pub more-as : (m' o' most : ℕ) (lists : List (List Edge)) → m' ≡ m → o' ≡ o → HaveMoreLeft m' o' most lists → HaveMoreLeft m o most lists
+  more-as m' o' most lists e f h = record { leaves = h.leaves; are_left = left-as m' o' lists h.leaves e f h.are_left; more = h.more }
+
+  pub next-as : (m' o' : ℕ) (before after : List (List Edge)) (leaf : Leaf) → m' ≡ m → o' ≡ o → IsNextLeaf m' o' before leaf after → IsNextLeaf m o before leaf after
+  next-as m' o' before after leaf e f h = subst (λ a. IsNextLeaf a o before leaf after) e (subst (λ b. IsNextLeaf m' b before leaf after) f h)
 
   pub more-than-none : (es : List Edge) (most : ℕ) → is_split m o es ≡ false → most < 1 → HasMoreLeaves m o most es
   more-than-none es most h g = record { tree = Whole; is_tree = h; more = g }

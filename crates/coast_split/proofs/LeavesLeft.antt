@@ -1,10 +1,10 @@
 -- What is to come of a list that is cut is to come of its halves; a list that isn't cut is the next leaf.
-use Rattle.std.proofs.Common.{List, [], ap, false, map, refl, reverse, subst, sym, true, ℕ, ◌++◌, ◌∙◌, ◌∷◌, ◌≡◌}
+use Rattle.std.proofs.Common.{List, [], ap, false, map, refl, reverse, subst, sym, ℕ, ◌++◌, ◌∙◌, ◌∷◌, ◌≡◌}
 use Rattle.std.proofs.lemmas.List.{append_assoc, map-append, reverse-append}
 use Rattle.osm_geom.specs.declared.cut.Side.TheVariants.{Low, High}
 use Rattle.osm_geom.specs.declared.edge.Edge.{Edge}
 use Rattle.coast_split.specs.declared.leaves.Leaf.{Leaf}
-use Rattle.coast_split.specs.LeavesLeft.{AreLeft, IsNextLeaf}
+use Rattle.coast_split.specs.LeavesLeft.{IsNextLeaf}
 use Rattle.coast_split.specs.SplitTree.{AreLeaves, IsTree, Tree, high_cut, is_split, leaf_of, leaves_of, low_cut, middle_of}
 use Rattle.coast_split.specs.SplitTree.Tree.{Fork, Whole}
 use Rattle.coast_split.specs.Splitting.{AreSidedHalves, HaveSameLeaves, IsCutOff}

@@ -1,9 +1,9 @@
 //! How many leaves a list has.
-ghost use Rattle.std.specs.Prelude.{◌≡◌, ◌≤◌, ◌<◌, ◌+◌, ◌∷◌, [], IfErr, IfOk, List, MatchOption, length, false, ℕ};
+ghost use Rattle.std.specs.Prelude.{◌≡◌, ◌≤◌, ◌<◌, ◌+◌, ◌∷◌, [], IfErr, IfOk, List, length, false, true, ℕ};
 ghost use Rattle.osm_geom.specs.InPlane.Sided.{IsSided};
 ghost use Rattle.coast_split.specs.declared.leaves.Leaf.{Leaf};
 ghost use Rattle.coast_split.specs.declared.leaves.SplitError.TheVariants.{TooManyPieces};
-ghost use Rattle.coast_split.specs.LeavesLeft.{AreLeft};
+ghost use Rattle.coast_split.specs.LeavesLeft.{AreLeft, IsNextLeaf};
 ghost use Rattle.coast_split.specs.SplitTree.{AreLeaves, HasMoreLeaves};
 ghost use Rattle.coast_split.specs.Splitting.{HaveMoreLeft};
 
@@ -11,7 +11,22 @@ use crate::in_turn::Leaves;
 use crate::laws::split_trees_exist;
 use crate::leaves::{Settings, SplitError};
 use osm_geom::Edges;
-use std::alloc::Global;
+use std::alloc::{AllocError as OutOfMemory, Global};
+
+/// Takes the next leaf; gives whether there was one.
+fn pass_leaf(leaves: &mut Leaves) -> Result<bool, OutOfMemory>
+    ensures kept { (leaves.new.most_points ≡ leaves.old.most_points)
+        × (leaves.new.overlap ≡ leaves.old.overlap) }
+    ensures passed { IfOk result (λ passed. passed ≡ true → (leaf : Leaf)
+        × IsNextLeaf leaves.old.most_points leaves.old.overlap leaves.old.waiting leaf
+        leaves.new.waiting) }
+    ensures none { IfOk result (λ passed. passed ≡ false → leaves.old.waiting ≡ []) }
+{
+    match leaves.next()? {
+        None => Ok(false),
+        Some(_) => Ok(true),
+    }
+}
 
 /// How many leaves are still to come; there are too many where they are more than `most`.
 fn count_left(leaves: &mut Leaves, most: u64) -> Result<u64, SplitError>
@@ -24,14 +39,14 @@ fn count_left(leaves: &mut Leaves, most: u64) -> Result<u64, SplitError>
     // By law: leaves behind one too many are there to be told of.
     split_trees_exist();
     for count in 0..most {
-        if leaves.next()?.is_none() {
+        if !pass_leaf(leaves)? {
             return Ok(count);
         }
     }
-    match leaves.next()? {
-        None => Ok(most),
-        Some(_) => Err(SplitError::TooManyPieces { most }),
+    if pass_leaf(leaves)? {
+        return Err(SplitError::TooManyPieces { most });
     }
+    Ok(most)
 }
 
 /// The number of leaves of a list that isn't cut.
