@@ -48,7 +48,7 @@ module _ (m o : ℕ) (es low high : List Edge) (h : AreSidedHalves m o es low hi
   pub cut-off : (before : List (List Edge)) → IsCutOff m o es (reverse before) low (reverse (before ++ high ∷ []))
   cut-off before = record {
     sided = h.low_sided;
-    smaller = low-falls m o 0 es h.is_cut low h.low_half;
+    smaller = low-falls m o es h.is_cut low h.low_half;
     same = subst (λ v. HaveSameLeaves m o (es ∷ reverse before) (low ∷ v)) (sym (reverse-append before (high ∷ []))) (cut-same (reverse before));
   }
 

@@ -17,4 +17,4 @@ pub use laws::{
     leaves_cover_as_list, leaves_have_edges, leaves_part_the_list, split_trees_are_shallow,
     split_trees_exist,
 };
-pub use leaves::{Leaf, Settings, SplitError, split};
+pub use leaves::{Leaf, Settings, SplitError};
