@@ -33,17 +33,22 @@ module _ (m o : ℕ) (es low high : List Edge) (h : AreSidedHalves m o es low hi
       let r : high' ≡ high = one-half (high_cut (middle_of es) o) High es high' high k.2 h.high_half in
       let i = subst (λ x. IsTree m o x s) l k.3 in let j = subst (λ x. IsTree m o x t) r k.4 in
       let v : ls ≡ map (leaf_of m) (leaves_of low s ++ leaves_of high t) =
-          e ∙ ap (λ x. map (leaf_of m) (leaves_of x s ++ leaves_of high' t)) l ∙ ap (λ x. map (leaf_of m) (leaves_of low s ++ leaves_of x t)) r in
-      (map (leaf_of m) (leaves_of low s), map (leaf_of m) (leaves_of high t), record { tree = s; is_tree = i; leaves = refl }, record { tree = t; is_tree = j; leaves = refl },
-      v ∙ map-append (leaf_of m) (leaves_of low s) (leaves_of high t))
+      e ∙ ap (λ x. map (leaf_of m) (leaves_of x s ++ leaves_of high' t)) l ∙ ap (λ x. map (leaf_of m) (leaves_of low s ++ leaves_of x t)) r in (
+        map (leaf_of m) (leaves_of low s),
+        map (leaf_of m) (leaves_of high t),
+        record { tree = s; is_tree = i; leaves = refl },
+        record { tree = t; is_tree = j; leaves = refl },
+        v ∙ map-append (leaf_of m) (leaves_of low s) (leaves_of high t),
+      )
 
   leaf-parts : (ls : List Leaf) → AreLeaves m o es ls → AreParts ls
   leaf-parts ls k = tree-parts k.tree k.is_tree ls k.leaves
 
   pub cut-same : (rest : List (List Edge)) → HaveSameLeaves m o (es ∷ rest) (low ∷ high ∷ rest)
-  cut-same rest ls =
-      (λ k. let p = leaf-parts k.0 k.2 in (p.0, p.1 ++ k.1, p.2, (p.1, k.1, p.3, k.3, refl), k.4 ∙ ap (λ v. v ++ k.1) p.4 ∙ append_assoc p.0 p.1 k.1),
-      λ k. let g = k.3 in (k.0 ++ g.0, g.1, fork-leaves k.0 g.0 k.2 g.2, g.3, k.4 ∙ ap (λ v. k.0 ++ v) g.4 ∙ sym (append_assoc k.0 g.0 g.1)))
+  cut-same rest ls = (
+    λ k. let p = leaf-parts k.0 k.2 in (p.0, p.1 ++ k.1, p.2, (p.1, k.1, p.3, k.3, refl), k.4 ∙ ap (λ v. v ++ k.1) p.4 ∙ append_assoc p.0 p.1 k.1),
+    λ k. let g = k.3 in (k.0 ++ g.0, g.1, fork-leaves k.0 g.0 k.2 g.2, g.3, k.4 ∙ ap (λ v. k.0 ++ v) g.4 ∙ sym (append_assoc k.0 g.0 g.1)),
+  )
 
   pub cut-off : (before : List (List Edge)) → IsCutOff m o es (reverse before) low (reverse (before ++ high ∷ []))
   cut-off before = record {

@@ -7,10 +7,12 @@ use Rattle.coast_split.proofs.counting.count_left.Goals as goal
 pub loop-count-preserved : goal.loop-count-preserved
 loop-count-preserved c =
     let old = c.args.leaves.now in let now = c.loop-count.leaves in let after = c.pass_leaf.new.leaves in let i = c.loop-count.invariant in let k = c.in_ok-pass_leaf.ensures in
-    let g = k.passed c.if-not-branch.false in
-    (k.kept.0 ∙ i.0, k.kept.1 ∙ i.1,
-    one-came old.most_points old.overlap old.waiting c.loop-count.count now.waiting after.waiting g.0 i.2
-    (next-as old.most_points old.overlap now.most_points now.overlap now.waiting after.waiting g.0 i.0 i.1 g.1))
+    let g = k.passed c.if-not-branch.false in (
+      k.kept.0 ∙ i.0,
+      k.kept.1 ∙ i.1,
+      one-came old.most_points old.overlap old.waiting c.loop-count.count now.waiting after.waiting g.0 i.2
+          (next-as old.most_points old.overlap now.most_points now.overlap now.waiting after.waiting g.0 i.0 i.1 g.1),
+    )
 
 pub returns-then-not-branch-clause-counted : goal.returns-then-not-branch-clause-counted
 returns-then-not-branch-clause-counted c =
@@ -24,7 +26,7 @@ returns-then-branch-clause-many c =
     let g = c.in_ok-pass_leaf-2.ensures.passed c.if-branch.true in let b = c.loop-count.auto.count-end in
     let n : c.loop-count.count ≡ c.args.most = omega arith in
     let more = more-come old.most_points old.overlap old.waiting c.split_trees_exist.ensures c.loop-count.count now.waiting after.waiting g.0 i.2
-        (next-as old.most_points old.overlap now.most_points now.overlap now.waiting after.waiting g.0 i.0 i.1 g.1) in
+    (next-as old.most_points old.overlap now.most_points now.overlap now.waiting after.waiting g.0 i.0 i.1 g.1) in
     λ m e. (cc e, subst (λ (k : ℕ). HaveMoreLeft old.most_points old.overlap k old.waiting) n more)
 
 pub returns-clause-counted : goal.returns-clause-counted

@@ -12,7 +12,9 @@ invariant_of-result c =
 
 pub returns : goal.returns
 returns c =
-    let s = c.args.settings.now in
-    (refl, refl,
-    put-last s.most_points s.overlap c.args.edges.now c.new-waiting.result.items c.cut_off.new.waiting.items c.push.new.self.items c.in_ok-low.low c.new-waiting.ensures.items c.in_ok-push.ensures.items
-    c.in_ok-low.ensures.low.same)
+    let s = c.args.settings.now in (
+      refl,
+      refl,
+      put-last s.most_points s.overlap c.args.edges.now c.new-waiting.result.items c.cut_off.new.waiting.items c.push.new.self.items c.in_ok-low.low c.new-waiting.ensures.items c.in_ok-push.ensures.items
+          c.in_ok-low.ensures.low.same,
+    )
