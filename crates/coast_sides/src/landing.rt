@@ -1,6 +1,13 @@
 //! Land: what is left of the rings, directed.
 
-ghost use Rattle.std.specs.Prelude.{◌≡◌, ◌++◌, IfOk, OnOk};
+ghost use Rattle.std.specs.Prelude.{◌≡◌, [], IfOk, List};
+ghost use Rattle.lists.specs.Rising.{IsRising};
+ghost use Rattle.osm_lattice.specs.Seg.{seg_cmp};
+ghost use Rattle.osm_lattice.specs.declared.seg.Seg.{Seg};
+ghost use Rattle.osm_segments.specs.Counts.{AreSurvivors};
+ghost use Rattle.osm_segments.specs.Pairs.{conflicts_of};
+ghost use Rattle.osm_segments.specs.Repeats.{AreRepeats};
+ghost use Rattle.osm_segments.specs.Counts.{HasEvenNodes};
 ghost use Rattle.coast_join.specs.declared.ring.CoastRing.{CoastRing};
 ghost use Rattle.coast_sides.specs.Segments.{all_segments};
 ghost use Rattle.coast_sides.specs.Land.{HaveNoConflicts, IsLand};
@@ -10,52 +17,49 @@ use crate::land_parts::{Land, Repeats};
 use crate::ring_segments::{all_segments, closed_lines_are_even};
 use crate::wrong_ways::wrong_ways;
 use coast_join::CoastRing;
-use osm_geom::{Edge, Edges, orders_are_exact};
-use osm_segments::{Outline, repeated, survivors};
+use osm_geom::{Edges, Seg, orders_are_exact};
+use osm_segments::{Cancelled, Outline, cancel};
 use osm_sides::direct;
 use std::alloc::{AllocError as OutOfMemory, Global};
 
-/// These edges as a list of their own.
-pub(crate) fn list_of(alloc: Global, edges: &[Edge]) -> Result<Edges, OutOfMemory>
-    ensures { IfOk result (λ list. list ≡ edges.now) }
+/// What cancelling makes of the segments of rings.
+fn cancelled(alloc: Global, kept: &[CoastRing]) -> Result<Cancelled, OutOfMemory>
+    ensures survivors { IfOk result (λ c. AreSurvivors (all_segments kept.now) c.survivors.items) }
+    ensures repeats { IfOk result (λ c. AreRepeats (all_segments kept.now) c.repeats.items) }
 {
-    let mut list = Edges::new(alloc);
-    for &edge in edges {
-        list.push(edge)?;
-    }
-    Ok(list)
+    let segs = all_segments(alloc, kept)?;
+    cancel(alloc, &segs)
 }
 
-/// The edges of land: what is left of the segments of rings, directed so that land is on the left.
-///
-/// No two segments of the rings conflict. The error is want of memory.
-fn land_edges(alloc: Global, kept: &[CoastRing]) -> Result<Edges, OutOfMemory>
-    requires { HaveNoConflicts (all_segments kept.now) }
-    ensures { IfOk result (λ edges. IsLand (all_segments kept.now) edges) }
+/// The edges of land: what is left of segments, directed so that land is on the left. Fails only if memory runs out.
+fn land_edges(alloc: Global, left: Vec<Seg>) -> Result<Edges, OutOfMemory>
+    requires rising { IsRising seg_cmp left.items }
+    requires clear { conflicts_of left.items ≡ [] }
+    requires even { HasEvenNodes left.items }
+    ensures { IfOk result (λ edges. (segs : List Seg) → AreSurvivors segs left.items
+        → IsLand segs edges) }
 {
-    closed_lines_are_even();
     orders_are_exact();
-    let segs = all_segments(alloc, kept)?;
-    let left = survivors(alloc, &segs)?;
     let edges = direct(alloc, Outline::new(left))?;
-    list_of(alloc, &edges)
+    Ok(Edges::from_vec(edges))
 }
 
 /// Land of kept rings: what is left of their segments once pairs are cancelled, directed so that land is on the left;
 /// which of their segments stand at least twice; and which rings run the wrong way.
 ///
-/// No two segments of the rings conflict, as `sort_out` has it of those that it keeps. The error is want of memory.
+/// No two segments of the rings conflict, as `sort_out` has it of those that it keeps. Fails only if memory runs out.
 pub fn land(alloc: Global, kept: &[CoastRing]) -> Result<Land, OutOfMemory>
     requires { HaveNoConflicts (all_segments kept.now) }
     ensures { IfOk result (λ land. IsLandOf kept.now land) }
 {
-    let edges = land_edges(alloc, kept)?;
-    let segs = all_segments(alloc, kept)?;
-    let repeats = Repeats::from_vec(repeated(alloc, &segs)?);
+    closed_lines_are_even();
+    orders_are_exact();
+    let left = cancelled(alloc, kept)?;
+    let edges = land_edges(alloc, left.survivors)?;
     let wrong_way = wrong_ways(alloc, edges.as_slice(), kept)?;
     Ok(Land {
         edges,
-        repeats,
+        repeats: Repeats::from_vec(left.repeats),
         wrong_way,
     })
 }

@@ -8,7 +8,6 @@ ghost use Rattle.osm_geom.specs.InPlane.Sided.{IsSided};
 ghost use Rattle.coast_sides.specs.Land.{HaveNoConflicts};
 ghost use Rattle.coast_sides.specs.Water.{AreSides, IsWater, pieces, segment_of_carrier, segments_under};
 
-use crate::landing::list_of;
 use crate::ring_segments::add_step;
 use crate::side_nodes::{WorldSide, side_nodes};
 use crate::water_laws::{water_is_clear, water_is_even};
@@ -71,20 +70,20 @@ fn segments_under(alloc: Global, edges: &[Edge]) -> Result<Vec<Seg>, OutOfMemory
 }
 
 /// The edges of water about segments of land that have no conflicts and are even at each location.
-fn water_edges(alloc: Global, land: &[Seg]) -> Result<Edges, OutOfMemory>
-    requires clear { HaveNoConflicts land.now }
-    requires even { HasEvenNodes land.now }
-    ensures { IfOk result (λ edges. IsWater land.now edges) }
+fn water_edges(alloc: Global, land: Vec<Seg>) -> Result<Edges, OutOfMemory>
+    requires clear { HaveNoConflicts land.items }
+    requires even { HasEvenNodes land.items }
+    ensures { IfOk result (λ edges. IsWater land.items edges) }
 {
     orders_are_exact();
     water_is_clear();
     water_is_even();
-    let sides = world_sides(alloc, land)?;
-    let mut segs = Vec::from_slice(alloc, land)?;
+    let sides = world_sides(alloc, &land)?;
+    let mut segs = land;
     segs.extend_from_slice(&sides)?;
     let left = survivors(alloc, &segs)?;
     let edges = direct(alloc, Outline::new(left))?;
-    list_of(alloc, &edges)
+    Ok(Edges::from_vec(edges))
 }
 
 /// Water: what is left of land's segments together with the sides of the world's rectangle, each cut at every node of land
@@ -100,5 +99,5 @@ pub fn water(alloc: Global, land: &Edges) -> Result<Edges, OutOfMemory>
     conflicts_are_symmetric();
     lattice_edges_are_whole();
     let segs = segments_under(alloc, land.as_slice())?;
-    water_edges(alloc, &segs)
+    water_edges(alloc, segs)
 }
