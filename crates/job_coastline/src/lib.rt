@@ -7,14 +7,17 @@
 #![tactic(auto)]
 
 mod coast;
+mod counting;
 mod counts;
-mod found;
+mod laws;
 mod line_laws;
 mod lines;
+mod outlines;
 mod pieces;
 mod work;
 mod writing;
 
 pub use counts::{CoastCounts, coast_counts};
+pub use laws::pieces_exist;
 pub use line_laws::lines_have_kinds;
 pub use work::coastline;
