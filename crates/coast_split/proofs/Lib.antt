@@ -6,7 +6,9 @@ mod Envelopes
 mod HalvesExist
 mod InPlane
 mod LeafCover
+mod LeafCounts
 mod LeafParts
+mod LeavesLeft
 mod LineOrders
 mod LinePoints
 mod Lists

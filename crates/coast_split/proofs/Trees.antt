@@ -18,8 +18,8 @@ module _ (halves : HalvesExist) (m o : ℕ) where
   tree-by es false h grow = (Whole, h)
   tree-by es true h grow =
       let low = halves (low_cut (middle_of es) o) Low es in let high = halves (high_cut (middle_of es) o) High es in
-      let s = grow low.0 (low-falls m o 0 es h low.0 low.1) in
-      let t = grow high.0 (high-falls m o 0 es h low.0 high.0 low.1 high.1) in
+      let s = grow low.0 (low-falls m o es h low.0 low.1) in
+      let t = grow high.0 (high-falls m o es h high.0 high.1) in
       (Fork low.0 high.0 s.0 t.0, (h, low.1, high.1, s.1, t.1))
 
   below : (n a b : ℕ) → b < suc n → a < b → a < n

@@ -2,8 +2,10 @@ pub mod Envelope
 pub mod Half
 pub mod HalfCount
 pub mod HalfLaws
+pub mod LeavesLeft
 pub mod Place
 pub mod SplitTree
 pub mod Splitting
+pub mod ToCut
 pub mod TreeLaws
 pub mod Walk

@@ -1,22 +1,39 @@
--- What the steps of splitting know: the leaves so far, and that there are too many. No public contract cites it.
-use Rattle.std.specs.Prelude.{List, None, Option, Some, length, map, false, true, unsigned_abs, ℕ, ◌++◌, ◌+◌, ◌<◌, ◌≤◌, ◌≡◌}
+-- What the steps of splitting know. No public contract cites it.
+use Rattle.std.specs.Prelude.{List, None, Option, Some, length, false, true, unsigned_abs, ℕ, ◌<◌, ◌↔◌, ◌≤◌, ◌∷◌, ◌≡◌}
 use Rattle.osm_geom.specs.declared.cut.Cut.{Cut}
+use Rattle.osm_geom.specs.declared.cut.Side.TheVariants.{Low, High}
 use Rattle.osm_geom.specs.declared.edge.Edge.{Edge}
+use Rattle.osm_geom.specs.InPlane.Sided.{IsSided}
+use Rattle.coast_split.specs.Half.{IsHalf}
+use Rattle.coast_split.specs.LeavesLeft.{AreLeft}
 use Rattle.coast_split.specs.declared.leaves.Leaf.{Leaf}
-use Rattle.coast_split.specs.SplitTree.{IsTree, Tree, is_split, leaf_of, leaves_of, middle_of}
+use Rattle.coast_split.specs.SplitTree.{high_cut, is_split, low_cut, middle_of, size_of}
 
 -- where the list is cut, if it is
 abbrev pub IsMiddle : ℕ → ℕ → List Edge → Option Cut → Type 0
 IsMiddle m o es None = is_split m o es ≡ false
 IsMiddle m o es (Some middle) = (is_split m o es ≡ true) × (middle ≡ middle_of es) × (unsigned_abs middle.at ≤ 1_800_000_000)
 
--- new holds the leaves of old and then those of a split tree, no more than most together
-pub record IsSplitOnto (m o most : ℕ) (es : List Edge) (old new : List Leaf) : Type 0 where
-  pub tree : Tree
-  pub is_tree : IsTree m o es tree
-  pub leaves : new ≡ old ++ map (leaf_of m) (leaves_of es tree)
-  pub few : length new ≤ most
+-- the halves of a list that is cut
+pub record AreSidedHalves (m o : ℕ) (es low high : List Edge) : Type 0 where
+  pub is_cut : is_split m o es ≡ true
+  pub low_half : IsHalf (low_cut (middle_of es) o) Low es low
+  pub high_half : IsHalf (high_cut (middle_of es) o) High es high
+  pub low_sided : IsSided low
+  pub high_sided : IsSided high
 
--- each split tree has, with those of old, more than most leaves
-abbrev pub HasTooMany : ℕ → ℕ → ℕ → List Edge → ℕ → Type 0
-HasTooMany m o most es old = (t : Tree) → IsTree m o es t → most < old + length (leaves_of es t)
+-- the same leaves are to come of both
+abbrev pub HaveSameLeaves : ℕ → ℕ → List (List Edge) → List (List Edge) → Type 0
+HaveSameLeaves m o before after = (ls : List Leaf) → AreLeft m o before ls ↔ AreLeft m o after ls
+
+-- low is what is left of es, before the lists that wait now, and is smaller
+pub record IsCutOff (m o : ℕ) (es : List Edge) (before : List (List Edge)) (low : List Edge) (after : List (List Edge)) : Type 0 where
+  pub sided : IsSided low
+  pub smaller : unsigned_abs (size_of low) < unsigned_abs (size_of es)
+  pub same : HaveSameLeaves m o (es ∷ before) (low ∷ after)
+
+-- more leaves than most are to come
+pub record HaveMoreLeft (m o most : ℕ) (lists : List (List Edge)) : Type 0 where
+  pub leaves : List Leaf
+  pub are_left : AreLeft m o lists leaves
+  pub more : most < length leaves

@@ -1,7 +1,7 @@
 //! Leaves of small lists of edges, told as the closed lines that they run along.
 
 use crate::cutting::{directed, run_along};
-use coast_split::{Leaf, Settings, SplitError, split};
+use coast_split::{Leaf, Leaves, Settings, SplitError, count_leaves};
 use std::alloc::Global;
 use std::test::Fail;
 
@@ -34,13 +34,34 @@ fn are_leaves(leaves: &[Leaf], wanted: &str) -> bool {
     count == leaves.len()
 }
 
-/// Whether the list along closed lines has these leaves.
-fn has_leaves(alloc: Global, lines: &str, settings: &Settings, wanted: &str) -> Result<bool, Fail> {
-    let edges = directed(alloc, lines)?;
-    match split(alloc, &edges, settings) {
-        Ok(leaves) => Ok(are_leaves(&leaves, wanted)),
-        Err(_) => Err(Fail::new("not split")),
+/// The leaves of the list along closed lines, as they are handed out. No list here has more than eight.
+fn leaves_along(alloc: Global, lines: &str, settings: &Settings) -> Result<Vec<Leaf>, Fail> {
+    let mut leaves = Leaves::of(alloc, directed(alloc, lines)?, settings)?;
+    let mut list = Vec::new(alloc);
+    for _ in 0..9 {
+        let Some(leaf) = leaves.next()? else {
+            return Ok(list);
+        };
+        list.push(leaf)?;
     }
+    Err(Fail::new("too many leaves"))
+}
+
+/// Whether the leaves of a list are counted as so many where these are no more than allowed, and refused where they are.
+fn keeps_to(alloc: Global, lines: &str, settings: &Settings, count: u64) -> Result<bool, Fail> {
+    let edges = directed(alloc, lines)?;
+    let most = settings.most_leaves;
+    match count_leaves(alloc, &edges, settings) {
+        Ok(counted) => Ok(count <= most && counted == count),
+        Err(SplitError::TooManyPieces { most: told }) => Ok(most < count && told == most),
+        Err(SplitError::OutOfMemory) => Err(Fail::new("no memory")),
+    }
+}
+
+/// Whether the list along closed lines has these leaves, and as many are counted.
+fn has_leaves(alloc: Global, lines: &str, settings: &Settings, wanted: &str) -> Result<bool, Fail> {
+    let leaves = leaves_along(alloc, lines, settings)?;
+    Ok(are_leaves(&leaves, wanted) && keeps_to(alloc, lines, settings, leaves.len() as u64)?)
 }
 
 #[test]
@@ -148,22 +169,6 @@ fn lists_that_stay_whole(rt: HostRuntime) -> Result<(), Fail> {
     Ok(())
 }
 
-/// Whether a list that has so many leaves is split where they are no more than allowed, and refused where they are.
-fn keeps_to(
-    alloc: Global,
-    lines: &str,
-    most_points: u32,
-    most: u64,
-    count: u64,
-) -> Result<bool, Fail> {
-    let edges = directed(alloc, lines)?;
-    match split(alloc, &edges, &settings(most_points, 0, most)) {
-        Ok(leaves) => Ok(count <= most && leaves.len() as u64 == count),
-        Err(SplitError::TooManyPieces { most: told }) => Ok(most < count && told == most),
-        Err(SplitError::OutOfMemory) => Err(Fail::new("no memory")),
-    }
-}
-
 #[test]
 fn too_many_leaves(rt: HostRuntime) -> Result<(), Fail> {
     let lines = "0,0 8,0 8,8 0,8 4,4 0,0";
@@ -176,7 +181,7 @@ fn too_many_leaves(rt: HostRuntime) -> Result<(), Fail> {
         (5, 1, 1),
     ] {
         assert!(rt;
-            keeps_to(rt.alloc(), lines, most_points, most, count)?,
+            keeps_to(rt.alloc(), lines, &settings(most_points, 0, most), count)?,
             "{most_points} {most}"
         );
     }

@@ -1,0 +1,165 @@
+//! The leaves of a list in turn: each is cut out once it is asked for.
+ghost use Rattle.std.specs.Prelude.{◌≡◌, ◌<◌, ◌∷◌, [], All, IfNone, IfOk, IfSome, MatchOption, Some, false, reverse};
+ghost use Rattle.osm_geom.specs.InPlane.Sided.{IsSided};
+ghost use Rattle.coast_split.specs.LeavesLeft.{IsNextLeaf};
+ghost use Rattle.coast_split.specs.SplitTree.{is_split};
+ghost use Rattle.coast_split.specs.Splitting.{AreSidedHalves, HaveSameLeaves, IsCutOff, IsMiddle};
+
+use crate::halves::half;
+use crate::leaves::{Leaf, Settings, high_cut, is_large, low_cut, middle_of};
+use osm_geom::{Cut, Edges, Side};
+use std::alloc::{AllocError as OutOfMemory, Global};
+use std::marker::Model;
+
+/// The halves of a list that is cut.
+#[derive(Drop)]
+struct Halves {
+    low: Edges,
+    high: Edges,
+}
+
+/// Cuts a list.
+fn halves_at(
+    alloc: Global,
+    edges: &Edges,
+    middle: Cut,
+    settings: &Settings,
+) -> Result<Halves, OutOfMemory>
+    requires sided { IsSided edges.now }
+    requires cut { IsMiddle settings.now.most_points settings.now.overlap edges.now (Some middle) }
+    ensures { IfOk result (λ halves. AreSidedHalves settings.now.most_points settings.now.overlap
+        edges.now halves.low halves.high) }
+{
+    let high = half(alloc, edges, high_cut(middle, settings.overlap), Side::High)?;
+    let low = half(alloc, edges, low_cut(middle, settings.overlap), Side::Low)?;
+    Ok(Halves { low, high })
+}
+
+/// Cuts a list, lets its high half wait, and gives the low one.
+fn cut_off(
+    alloc: Global,
+    edges: &Edges,
+    middle: Cut,
+    settings: &Settings,
+    waiting: &mut Vec<Edges>,
+) -> Result<Edges, OutOfMemory>
+    requires sided { IsSided edges.now }
+    requires cut { IsMiddle settings.now.most_points settings.now.overlap edges.now (Some middle) }
+    requires waiting { All IsSided waiting.old.items }
+    ensures waiting { All IsSided waiting.new.items }
+    ensures low { IfOk result (λ low. IsCutOff settings.now.most_points settings.now.overlap
+        edges.now (reverse waiting.old.items) low (reverse waiting.new.items)) }
+{
+    let halves = halves_at(alloc, edges, middle, settings)?;
+    waiting.push(halves.high)?;
+    Ok(halves.low)
+}
+
+/// Cuts a list, and each low half, until the first leaf is left. The high halves wait.
+fn first_leaf(
+    alloc: Global,
+    list: Edges,
+    settings: &Settings,
+    waiting: &mut Vec<Edges>,
+) -> Result<Leaf, OutOfMemory>
+    requires list { IsSided list }
+    requires waiting { All IsSided waiting.old.items }
+    ensures waiting { All IsSided waiting.new.items }
+    ensures sided { IfOk result (λ leaf. IsSided leaf.edges) }
+    ensures leaf { IfOk result (λ leaf. IsNextLeaf settings.now.most_points settings.now.overlap
+        (list ∷ reverse waiting.old.items) leaf (reverse waiting.new.items)) }
+{
+    let mut edges = list;
+    while let Some(middle) = middle_of(edges.as_slice(), settings) {
+        edges = cut_off(alloc, &edges, middle, settings, waiting)?;
+    }
+    let large = is_large(edges.as_slice(), settings);
+    Ok(Leaf { edges, large })
+}
+
+/// The leaves of a list, handed out one after the other.
+///
+/// Contracts see the lists that are still to be cut. One path of the split tree is held: the high halves that wait, of the lists
+/// that were cut on the way to the last leaf.
+#[derive(Drop)]
+pub struct Leaves {
+    alloc: Global,
+    settings: Settings,
+    // The next one stands last.
+    waiting: Vec<Edges>,
+}
+
+impl Model for Leaves {
+    ghost use Rattle.std.specs.Prelude.{All, reverse};
+    ghost use Rattle.osm_geom.specs.InPlane.Sided.{IsSided};
+    ghost use Rattle.coast_split.specs.ToCut.{ToCut};
+
+    ghost Value = { ToCut };
+
+    ghost view = { λ leaves. record { most_points = leaves.settings.most_points; overlap = leaves.settings.overlap; waiting = reverse leaves.waiting.items } };
+
+    ghost invariant = { λ leaves. All IsSided leaves.waiting.items };
+}
+
+impl Leaves {
+    /// The leaves of a sided list, however many they are.
+    pub fn of(alloc: Global, edges: Edges, settings: &Settings) -> Result<Leaves, OutOfMemory>
+        requires { IsSided edges }
+        ensures { IfOk result (λ leaves. leaves ≡ record {
+          most_points = settings.now.most_points;
+          overlap = settings.now.overlap;
+          waiting = edges ∷ [];
+        }) }
+    {
+        let mut waiting = Vec::new(alloc);
+        waiting.push(edges)?;
+        Ok(Leaves {
+            alloc,
+            settings: *settings,
+            waiting,
+        })
+    }
+
+    /// The leaves of a sided list that is lent; None where it isn't cut.
+    pub(crate) fn of_halves(
+        alloc: Global,
+        edges: &Edges,
+        settings: &Settings,
+    ) -> Result<Option<Leaves>, OutOfMemory>
+        requires { IsSided edges.now }
+        ensures { IfOk result (λ made. MatchOption made (is_split settings.now.most_points
+            settings.now.overlap edges.now ≡ false) (λ leaves.
+            (leaves.most_points ≡ settings.now.most_points)
+            × (leaves.overlap ≡ settings.now.overlap)
+            × HaveSameLeaves settings.now.most_points settings.now.overlap (edges.now ∷ [])
+            leaves.waiting)) }
+    {
+        let Some(middle) = middle_of(edges.as_slice(), settings) else {
+            return Ok(None);
+        };
+        let mut waiting = Vec::new(alloc);
+        let low = cut_off(alloc, edges, middle, settings, &mut waiting)?;
+        waiting.push(low)?;
+        Ok(Some(Leaves {
+            alloc,
+            settings: *settings,
+            waiting,
+        }))
+    }
+
+    /// Takes the next leaf; None once there is none left.
+    pub fn next(&mut self) -> Result<Option<Leaf>, OutOfMemory>
+        ensures kept { (self.new.most_points ≡ self.old.most_points)
+            × (self.new.overlap ≡ self.old.overlap) }
+        ensures some { IfOk result (λ next. IfSome next (λ leaf. IsNextLeaf self.old.most_points
+            self.old.overlap self.old.waiting leaf self.new.waiting)) }
+        ensures none { IfOk result (λ next. IfNone next (self.old.waiting ≡ [])) }
+        ensures sided { IfOk result (λ next. IfSome next (λ leaf. IsSided leaf.edges)) }
+    {
+        let Some(edges) = self.waiting.pop() else {
+            return Ok(None);
+        };
+        let leaf = first_leaf(self.alloc, edges, &self.settings, &mut self.waiting)?;
+        Ok(Some(leaf))
+    }
+}
