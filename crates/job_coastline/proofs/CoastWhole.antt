@@ -62,7 +62,7 @@ module _ (settings : CoastlineSettings) (land water : List (List Edge)) where
   pub more_of_land : SplitTreesExist → HaveMoreLeaves settings most_leaves land → HaveMoreTogether settings land water
   more_of_land trees more =
       let rest = left_there settings.max_points settings.bbox_overlap trees water in
-      record { land_leaves = more.leaves; land_are = more.are; water_leaves = rest.0; water_are = rest.1; more = let m = more.more in omega arith }
+      record { land_leaves = more.leaves; land_are = more.are; water_leaves = rest.leaves; water_are = rest.are; more = let m = more.more in omega arith }
 
   pub more_of_water : (count : ℕ) → HaveLeaves settings most_leaves land count → HaveMoreLeaves settings (most_leaves - count) water → HaveMoreTogether settings land water
   more_of_water count have more =

@@ -48,11 +48,16 @@ module _ (m o : ℕ) where
       let tree = trees m o es in
       (map (leaf_of m) (leaves_of es tree.0), record { tree = tree.0; is_tree = tree.1; leaves = refl })
 
-  pub left_there : SplitTreesExist → (lists : List (List Edge)) → (ls : List Leaf) × AreLeft m o lists ls
-  left_there trees [] = ([], refl)
+  -- some leaves are left of lists
+  pub record HasLeaves (lists : List (List Edge)) : Type 0 where
+    pub leaves : List Leaf
+    pub are : AreLeft m o lists leaves
+
+  pub left_there : SplitTreesExist → (lists : List (List Edge)) → HasLeaves lists
+  left_there trees [] = record { leaves = []; are = refl }
   left_there trees (es ∷ lists) =
       let first = leaves_by es trees in let rest = left_there trees lists in
-      (first.0 ++ rest.0, (first.0, rest.0, first.1, rest.1, refl))
+      record { leaves = first.0 ++ rest.leaves; are = (first.0, rest.leaves, first.1, rest.are, refl) }
 
 -- the leaf that was handed out
 pub next_leaf : (m o m' o' : ℕ) (before after : List (List Edge)) (answer : Option Leaf) (leaf : Leaf) → m' ≡ m → o' ≡ o → IfSome answer (λ (next : Leaf). IsNextLeaf m' o' before next after) → answer ≡ Some leaf →
@@ -106,10 +111,10 @@ module _ (settings : CoastlineSettings) where
       let so_far = left_next lists k es lt is a b have.are (one_left settings.max_points settings.bbox_overlap es b (record { tree = more.tree; is_tree = more.is_tree; leaves = refl })) in
       let rest = left_there settings.max_points settings.bbox_overlap trees (drop (k + 1) lists) in
       record {
-        leaves = (a ++ b) ++ rest.0;
-        are = subst (λ (xs : List (List Edge)). Left xs ((a ++ b) ++ rest.0)) (take-append-drop (k + 1) lists)
-            (left_both settings.max_points settings.bbox_overlap (take (k + 1) lists) (drop (k + 1) lists) (a ++ b) rest.0 so_far rest.1);
-        more = longer (length (leaves_of es more.tree)) most count (length b) (length a) (length (a ++ b)) (length rest.0) (length ((a ++ b) ++ rest.0)) (length-map (leaves_of es more.tree) (leaf_of settings.max_points)) (length-append a b) (length-append (a ++ b) rest.0) have.counted have.few more.more;
+        leaves = (a ++ b) ++ rest.leaves;
+        are = subst (λ (xs : List (List Edge)). Left xs ((a ++ b) ++ rest.leaves)) (take-append-drop (k + 1) lists)
+            (left_both settings.max_points settings.bbox_overlap (take (k + 1) lists) (drop (k + 1) lists) (a ++ b) rest.leaves so_far rest.are);
+        more = longer (length (leaves_of es more.tree)) most count (length b) (length a) (length (a ++ b)) (length rest.leaves) (length ((a ++ b) ++ rest.leaves)) (length-map (leaves_of es more.tree) (leaf_of settings.max_points)) (length-append a b) (length-append (a ++ b) rest.leaves) have.counted have.few more.more;
       }
     where
       longer : (n m c b a ab r all : ℕ) → b ≡ n → ab ≡ a + b → all ≡ ab + r → c ≡ a → c ≤ m → m - c < n → m < all

@@ -82,10 +82,11 @@ module _ (kind : PieceKind) where
     }
 
     pub all_counted : (waiting : List (List Edge)) (now : Tally) → CountedFirst waiting now → waiting ≡ [] → (list : List Leaf) × AreLeft m o begun list × CountsLeaves kind list start now
-    all_counted waiting now so_far none =
-        (so_far.done,
-        subst (λ (ls : List Leaf). AreLeft m o begun ls) (append-nil so_far.done) (so_far.joins [] (subst (λ (lists : List (List Edge)). AreLeft m o lists []) (sym none) refl)),
-        so_far.counts)
+    all_counted waiting now so_far none = (
+      so_far.done,
+      subst (λ (ls : List Leaf). AreLeft m o begun ls) (append-nil so_far.done) (so_far.joins [] (subst (λ (lists : List (List Edge)). AreLeft m o lists []) (sym none) refl)),
+      so_far.counts,
+    )
 
   -- ---- lists
 

@@ -15,7 +15,7 @@ loop-preserved c =
       counts =
           next_counted c.args.kind c.args.leaves.now.most_points c.args.leaves.now.overlap c.args.leaves.now.waiting c.args.tally c.loop.leaves.waiting c.loop.now c.loop.invariant.counts c.in-Some.leaf c.next.new.self.waiting
           (next_leaf c.args.leaves.now.most_points c.args.leaves.now.overlap c.loop.leaves.most_points c.loop.leaves.overlap c.loop.leaves.waiting c.next.new.self.waiting c.in_ok-next.next c.in-Some.leaf kept.0 kept.1 c.in_ok-next.ensures.some c.in-Some.is)
-          c.in_ok-now.now c.in_ok-now.ensures;
+          c.in_ok-now-in-Some.now c.in_ok-now-in-Some.ensures;
     }
 
 pub returns-in-None : goal.returns-in-None

@@ -22,10 +22,10 @@ loop-preserved g c =
     record {
       kept = (same.0 ∙ kept.0, same.1 ∙ kept.1);
       wrote = λ list are.
-        next_first c.args.kind c.args.leaves.now.most_points c.args.leaves.now.overlap c.args.leaves.now.waiting c.args.lines.now.items (g.H.Host.seen c.args.host.now) list c.loop.counter c.loop.leaves.waiting c.loop.lines.items
-        (g.H.Host.seen c.loop.host) (c.loop.invariant.wrote list are) c.in-Some.leaf c.next.new.self.waiting
-        (next_leaf c.args.leaves.now.most_points c.args.leaves.now.overlap c.loop.leaves.most_points c.loop.leaves.overlap c.loop.leaves.waiting c.next.new.self.waiting c.in-Ok.next c.in-Some.leaf kept.0 kept.1 c.in-Ok.ensures.some c.in-Some.is)
-        c.write_leaf.new.lines.items (g.H.Host.seen c.write_leaf.new.host) c.in_default-write_leaf.ensures;
+          next_first c.args.kind c.args.leaves.now.most_points c.args.leaves.now.overlap c.args.leaves.now.waiting c.args.lines.now.items (g.H.Host.seen c.args.host.now) list c.loop.counter c.loop.leaves.waiting c.loop.lines.items
+          (g.H.Host.seen c.loop.host) (c.loop.invariant.wrote list are) c.in-Some.leaf c.next.new.self.waiting
+          (next_leaf c.args.leaves.now.most_points c.args.leaves.now.overlap c.loop.leaves.most_points c.loop.leaves.overlap c.loop.leaves.waiting c.next.new.self.waiting c.in-Ok.next c.in-Some.leaf kept.0 kept.1 c.in-Ok.ensures.some c.in-Some.is)
+          c.write_leaf.new.lines.items (g.H.Host.seen c.write_leaf.new.host) c.in_default-write_leaf.ensures;
     }
 
 pub returns-in-Err-write_leaf : goal.returns-in-Err-write_leaf
