@@ -3,7 +3,8 @@
 //!
 //! What it is to write in all is a definition over the objects of the input (specs/Coastline): what comes of the coastline
 //! ways, the polygons that are asked for, the leaves that they are split into, what is printed of those, and the lines of the
-//! report, which tell how the run ends. Too many leaves end it before anything is written.
+//! report, which tell how the run ends. Too many leaves end it before anything is written. So leaves are counted first; then
+//! each is made into pieces, and those are written before the next one is cut out.
 #![tactic(auto)]
 
 mod coast;
