@@ -19,7 +19,6 @@ use Rattle.osm_nest.specs.declared.polygon.Polygon.{Polygon}
 use Rattle.osm_text.specs.Coast.{HasItsKind}
 use Rattle.osm_text.specs.declared.coast.CoastLine.{CoastLine}
 use Rattle.osm_words.specs.Job.{CoastlineSettings}
-use Rattle.job_coastline.specs.Coast.{Coast}
 use Rattle.job_coastline.specs.CoastSteps.{JoinsChains, MakesCoast, MakesLand}
 use Rattle.job_coastline.specs.Coastline.{AreLand, AreWater}
 use Rattle.job_coastline.specs.OutlineSteps.{AreEdgesOf, AreOutlinesOf, IsShoreOf}

@@ -1,5 +1,5 @@
 -- Land, water and the report together: what is written is right, and what isn't written is there all the same.
-use Rattle.std.proofs.Common.{◌≡◌, ◌∙◌, refl, sym, ap, ap₂, subst, arith, Bool, true, false, if◌then◌else◌, ℕ, ◌<◌, ◌≤◌, ◌+◌, ◌-◌, not, All, List, ◌++◌, length, ◌==◌, map, append_assoc, inl, inr, Result, Ok, Err}
+use Rattle.std.proofs.Common.{◌≡◌, ◌∙◌, refl, sym, ap, ap₂, subst, arith, Bool, true, false, if◌then◌else◌, ℕ, ◌≤◌, ◌+◌, ◌-◌, not, All, List, ◌++◌, length, ◌==◌, map, append_assoc, inl, inr, Result, Ok, Err}
 use Rattle.std.specs.List.{count_by, flat_map, list_any}
 use Rattle.std.proofs.lemmas.List.Elements.{All-append}
 use Rattle.osm_elements.specs.declared.object.Object.{Object}
@@ -28,15 +28,15 @@ use Rattle.coast_split.specs.declared.leaves.SplitError.{SplitError}
 use Rattle.coast_split.specs.declared.leaves.SplitError.TheVariants.{TooManyPieces, OutOfMemory}
 use Rattle.coast_split.specs.TreeLaws.{SplitTreesExist}
 use Rattle.job_coastline.specs.Coast.{IsCoast}
-use Rattle.job_coastline.specs.CoastSteps.{IsCoastOf, IsInputOf}
-use Rattle.job_coastline.specs.Coastline.{AreCoastAreas, AreWritten, Areas, IsCoastline, all_lines, all_sent, most_leaves}
+use Rattle.job_coastline.specs.CoastSteps.{IsInputOf}
+use Rattle.job_coastline.specs.Coastline.{AreCoastAreas, AreWritten, Areas, IsCoastline, all_lines, most_leaves}
 use Rattle.job_coastline.specs.Counts.{AreCoastCounts}
 use Rattle.job_coastline.specs.CountSteps.{CountsOutlines}
 use Rattle.job_coastline.specs.OutlineSteps.{AreOutlinesOf, HaveFewTogether, HaveLeaves, HaveMoreLeaves, HaveMoreTogether, whole_error}
 use Rattle.job_coastline.specs.PieceLaws.{LeftAreSided, ReportExists, TilesExist}
 use Rattle.job_coastline.specs.Pieces.{Tile, tile_lines}
-use Rattle.job_coastline.specs.Report.{ArePrinted, coast_lines, ending_of}
-use Rattle.job_coastline.specs.WriteSteps.{AreMade, BreaksBy, Sends, WroteLeaves, WroteOutlines, WroteReport, ended_after, ended_unsplit}
+use Rattle.job_coastline.specs.Report.{ArePrinted, ending_of}
+use Rattle.job_coastline.specs.WriteSteps.{AreMade, BreaksBy, WroteLeaves, WroteOutlines, WroteReport, ended_after, ended_unsplit}
 use Rattle.job_coastline.specs.declared.counts.CoastCounts.{CoastCounts}
 use Rattle.job_coastline.specs.declared.outlines.Outlines.{Outlines}
 use Rattle.job_coastline.specs.declared.writing.BrokenOff.{BrokenOff}

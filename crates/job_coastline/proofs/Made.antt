@@ -25,7 +25,7 @@ use Rattle.job_coastline.specs.WriteSteps.{AreMade, Sends, WroteLeaves, WroteRep
 use Rattle.job_coastline.specs.declared.pieces.Pieces.{Pieces}
 use Rattle.job_coastline.specs.declared.writing.BrokenOff.{BrokenOff}
 use Rattle.job_coastline.specs.declared.writing.BrokenOff.TheVariants.{WriteFault, OutOfMemory}
-use Rattle.job_coastline.proofs.Left.{AreParted, left_parted}
+use Rattle.job_coastline.proofs.Left.{left_parted}
 use Rattle.job_coastline.proofs.Sending.{sends_answered, sends_both, sends_failed, sends_longer, sends_none_of, sends_nothing, sends_then_none}
 use Rattle.job_coastline.proofs.Tiles.{no_tiles, one_tile, tiles_both}
 

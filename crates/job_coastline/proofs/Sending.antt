@@ -1,6 +1,6 @@
 -- Bytes that are written one after the other, until a run is broken off.
 use Rattle.std.proofs.Common.{◌≡◌, ◌∙◌, refl, sym, ap, ap₂, append-nil, append_assoc, arith, List, [], ◌++◌, Result, Ok, Err}
-use Rattle.osm_host.specs.Outside.{Outside, risen}
+use Rattle.osm_host.specs.Outside.{Outside}
 use Rattle.osm_host.specs.declared.host.Failed.{Failed}
 use Rattle.osm_job.specs.Sent.{Sent}
 use Rattle.osm_job.specs.Writes.{IsSent, Wrote}

@@ -14,8 +14,7 @@ use Rattle.osm_text.specs.declared.piece.PieceKind.TheVariants as kinds
 use Rattle.osm_words.specs.Job.{CoastlineSettings}
 use Rattle.job_coastline.specs.CountSteps.{CountsLeaves, CountsLists, CountsOutlines, warnings_among}
 use Rattle.job_coastline.specs.PieceSteps.{ArePiecesOf}
-use Rattle.job_coastline.specs.Pieces.{pieces_count, tile_count, tile_lines}
-use Rattle.job_coastline.specs.declared.counts.CoastCounts.{CoastCounts}
+use Rattle.job_coastline.specs.Pieces.{tile_count, tile_lines}
 use Rattle.job_coastline.specs.declared.counts.Tally.{Tally}
 use Rattle.job_coastline.specs.declared.outlines.Outlines.{Outlines}
 use Rattle.job_coastline.specs.declared.pieces.Pieces.{Pieces}

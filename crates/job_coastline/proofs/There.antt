@@ -11,9 +11,8 @@ use Rattle.osm_geom.specs.InPlane.Sided.{IsSided}
 use Rattle.osm_nest.specs.Laws.{NestingExists, RingsMayBeNested}
 use Rattle.osm_rings.specs.Laws.{RingListOfEdgesExists}
 use Rattle.osm_text.specs.Coast.{CoastLineExists, HasItsKind}
-use Rattle.osm_text.specs.declared.coast.CoastLine.{CoastLine}
 use Rattle.job_coastline.specs.PieceLaws.{EdgesMakePolygons, HaveSidedEdges, LeftAreSided, ReportExists, TilesExist}
-use Rattle.job_coastline.specs.Pieces.{AreTiles, IsTile, Tile}
+use Rattle.job_coastline.specs.Pieces.{IsTile, Tile}
 
 -- ---- leaves
 

@@ -1,5 +1,5 @@
 -- The pieces of leaves, one leaf after the other.
-use Rattle.std.proofs.Common.{◌≡◌, ◌∙◌, refl, sym, ap, ap₂, subst, ℕ, ◌+◌, List, [], ◌∷◌, ◌++◌, length, map, append-nil, arith}
+use Rattle.std.proofs.Common.{◌≡◌, ◌∙◌, refl, ap, ap₂, ℕ, List, [], ◌∷◌, ◌++◌, length, append-nil, arith}
 use Rattle.std.specs.List.{flat_map, sum_by}
 use Rattle.std.proofs.lemmas.List.{map-append}
 use Rattle.std.proofs.lemmas.List.Elements.{All-append, All-cons, All-nil}
@@ -8,7 +8,7 @@ use Rattle.osm_job.specs.Sent.{lines_text}
 use Rattle.osm_nest.specs.declared.polygon.Polygon.{Polygon}
 use Rattle.osm_text.specs.declared.coast.CoastLine.{CoastLine}
 use Rattle.osm_text.specs.declared.piece.PieceKind.{PieceKind}
-use Rattle.job_coastline.specs.Pieces.{AreTiles, IsTile, Tile, large_lines, piece_text_count, pieces_text, polygon_text, tile_count, tile_lines, tile_text, vanished_lines}
+use Rattle.job_coastline.specs.Pieces.{AreTiles, IsTile, Tile, large_lines, piece_text_count, polygon_text, vanished_lines}
 use Rattle.osm_nest.specs.Nested.{ArePolygons}
 use Rattle.job_coastline.specs.PieceSteps.{Adds, ArePiecesOf}
 use Rattle.job_coastline.specs.declared.pieces.Pieces.{Pieces}

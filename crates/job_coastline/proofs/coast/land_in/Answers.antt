@@ -1,4 +1,3 @@
-use Rattle.std.proofs.Common.{Result}
 use Rattle.std.proofs.lemmas.Result.{IfOk-weaker}
 use Rattle.osm_words.specs.Answers.{coastline_seen}
 use Rattle.job_coastline.proofs.CoastJoined.{coast_made}

@@ -1,4 +1,4 @@
-use Rattle.std.proofs.Common.{map-id, rules, sym, ap, map, ◌∙◌, ◌≡◌}
+use Rattle.std.proofs.Common.{map-id, rules, sym, ap, map, ◌∙◌}
 use Rattle.std.proofs.lemmas.Iterator.Adapters.{YieldsList-from_vec}
 use Rattle.std.proofs.lemmas.Iterator.Consumers.{YieldsList-end}
 use Rattle.osm_nest.specs.Polygons.{edges_in}

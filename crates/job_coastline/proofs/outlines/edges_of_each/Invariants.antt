@@ -1,4 +1,4 @@
-use Rattle.std.proofs.Common.{length, map, take, ◌≡◌}
+use Rattle.std.proofs.Common.{map, ◌≡◌}
 use Rattle.osm_nest.specs.Polygons.{edges_in}
 use Rattle.job_coastline.proofs.outlines.edges_of_each.Given as goal
 

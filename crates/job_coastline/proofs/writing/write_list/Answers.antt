@@ -1,4 +1,4 @@
-use Rattle.std.proofs.Common.{List, [], ◌∷◌, All, subst, sym, ◌≤◌, length, Err, Ok}
+use Rattle.std.proofs.Common.{[], ◌∷◌}
 use Rattle.std.proofs.lemmas.List.Elements.{All-cons, All-nil}
 use Rattle.osm_geom.specs.InPlane.Sided.{IsSided}
 use Rattle.job_coastline.proofs.Made.{left_by, some_made, wrote_none_of}

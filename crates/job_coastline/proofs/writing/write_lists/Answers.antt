@@ -1,8 +1,7 @@
-use Rattle.std.proofs.Common.{List, [], ◌∷◌, length, take, rules, ◌≤◌, ◌≡◌, ◌∙◌, sym, subst, refl, arith}
-use Rattle.std.proofs.lemmas.List.{length-append, take_all}
+use Rattle.std.proofs.Common.{[], ◌∷◌, length, rules}
+use Rattle.std.proofs.lemmas.List.{length-append}
 use Rattle.std.proofs.lemmas.Iterator.Adapters.{YieldsList-from_vec}
 use Rattle.std.proofs.lemmas.Iterator.Consumers.{YieldsList-end, YieldsList-turn}
-use Rattle.osm_geom.specs.declared.edge.Edge.{Edge}
 use Rattle.job_coastline.proofs.Made.{lists_broken, lists_next, lists_written, no_lists_written}
 use Rattle.job_coastline.proofs.writing.write_lists.Goals as goal
 
