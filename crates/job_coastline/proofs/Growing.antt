@@ -1,5 +1,5 @@
 -- What is written of lists of things, seen one thing after the other.
-use Rattle.std.proofs.Common.{◌≡◌, ◌∙◌, refl, sym, ap, ap₂, subst, Result, Ok, Err, OnOk, ℕ, ◌+◌, ◌<◌, ◌≤◌, List, [], ◌∷◌, ◌++◌, length, take, get_or, append-nil, append_assoc, arith}
+use Rattle.std.proofs.Common.{◌≡◌, ◌∙◌, sym, ap, ap₂, subst, Result, Ok, Err, OnOk, ℕ, ◌+◌, ◌<◌, ◌≤◌, List, [], ◌∷◌, ◌++◌, length, take, get_or, append-nil, append_assoc, arith}
 use Rattle.std.specs.List.{flat_map, sum_by}
 use Rattle.std.proofs.lemmas.List.{take_more, take_all}
 use Rattle.std.proofs.lemmas.Grind.{flat_map-append}
@@ -26,7 +26,6 @@ adds_nothing pieces = record {
   written = sym (append-nil (lines_text pieces.texts.items));
   printed = omega arith;
   told = sym (append-nil pieces.lines.items);
-  uncounted = refl;
 }
 
 pub adds_both : (before middle after : Pieces) (t u : List ℕ) (m n : ℕ) (k l : List CoastLine) → Adds before middle t m k → Adds middle after u n l → Adds before after (t ++ u) (m + n) (k ++ l)
@@ -34,7 +33,6 @@ adds_both before middle after t u m n k l first then = record {
   written = then.written ∙ ap (λ (xs : List ℕ). xs ++ u) first.written ∙ append_assoc (lines_text before.texts.items) t u;
   printed = let p = first.printed in let q = then.printed in omega arith;
   told = then.told ∙ ap (λ (xs : List CoastLine). xs ++ l) first.told ∙ append_assoc before.lines.items k l;
-  uncounted = then.uncounted ∙ first.uncounted;
 }
 
 module _ {X : Type 0} (text : X → List ℕ) (count : X → ℕ) (lines : X → List CoastLine) (xs : List X) where

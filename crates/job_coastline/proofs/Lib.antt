@@ -1,7 +1,10 @@
-pub mod Growing
-pub mod Leaves
-pub mod Tiles
-pub mod LineKinds
-pub mod LineTexts
-pub mod FoundWrites
-pub mod Together
+mod CoastJoined
+mod CoastWhole
+mod Growing
+mod Left
+mod LineKinds
+mod Made
+mod Sending
+mod Tallies
+mod There
+mod Tiles

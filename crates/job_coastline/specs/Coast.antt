@@ -17,7 +17,6 @@ use Rattle.coast_sides.specs.declared.sorted.Sorted.{Sorted}
 use Rattle.coast_sides.specs.RingLand.{IsLandOf}
 use Rattle.coast_sides.specs.Sorting.{IsSorted}
 use Rattle.osm_words.specs.Job.{CoastlineSettings}
-use Rattle.job_coastline.specs.declared.coast.Coast.{Coast as CodeCoast}
 
 pub record Coast : Type 0 where
   -- what keeps coastline ways from taking part
@@ -43,14 +42,3 @@ pub record IsCoast (settings : CoastlineSettings) (objects : List Object) (coast
   pub joined : AreJoined coast.chains coast.closings coast.joined
   pub sorted : IsSorted coast.joined.rings coast.sorted
   pub land : IsLandOf coast.sorted.kept coast.land
-
--- what a run has found of it
-abbrev pub coast_seen : CodeCoast → Coast
-coast_seen coast = record {
-  asides = coast.asides;
-  chains = coast.chains.items;
-  closings = coast.closings;
-  joined = coast.joined;
-  sorted = coast.sorted;
-  land = coast.land;
-}

@@ -1,9 +1,12 @@
 pub mod Coast
+pub mod CoastSteps
 pub mod Report
 pub mod Pieces
 pub mod PieceSteps
+pub mod PieceLaws
 pub mod Coastline
-pub mod Found
+pub mod OutlineSteps
+pub mod WriteSteps
 pub mod Counts
-pub mod WorkSteps
+pub mod CountSteps
 pub mod LineLaws

@@ -1,53 +1,171 @@
 //! What comes of the coastline ways of an input, step by step: chains, gaps, rings, land.
+//!
+//! Each step gives back what the one before it left. What is kept besides land are the lines of the report.
 
-ghost use Rattle.std.specs.Prelude.{IfOk};
-ghost use Rattle.job_coastline.specs.Coast.{IsCoast, coast_seen};
+ghost use Rattle.std.specs.Prelude.{◌≡◌, ◌++◌, IfOk, List, OnOk, map};
+ghost use Rattle.std.specs.List.{IsDistinct, filter_map};
+ghost use Rattle.std.specs.Ordering.{int_eq};
+ghost use Rattle.coast_join.specs.Chains.{AreChains};
+ghost use Rattle.coast_join.specs.declared.way.CoastWay.{CoastWay};
+ghost use Rattle.coast_sides.specs.Land.{HaveNoConflicts};
+ghost use Rattle.coast_sides.specs.Segments.{all_segments};
+ghost use Rattle.coast_sides.specs.Sorting.{IsSorted};
+ghost use Rattle.job_coastline.specs.CoastSteps.{IsInputOf, JoinsChains, MakesCoast, MakesLand};
+ghost use Rattle.job_coastline.specs.OutlineSteps.{IsShoreOf};
+ghost use Rattle.job_coastline.specs.Report.{antarctica_line, aside_line, conflict_line, gap_line, left_out_line, repeated_line, unclosed_line, wrong_way_line};
 ghost use Rattle.osm_words.specs.Answers.{coastline_seen};
 
-use coast_join::{Asides, Chain, Closings, Joined, chains, closed_rings, closings, coast_input};
+use crate::lines::{
+    antarctica_lines, aside_lines, conflict_lines, gap_lines, left_out_lines, repeated_lines,
+    unclosed_lines, wrong_way_lines,
+};
+use coast_join::{
+    Chain, Closings, CoastInput, Joined, chains, closed_rings, closings, coast_input,
+};
 use coast_sides::{Land, Sorted, land, sort_out};
+use osm_geom::Edges;
 use osm_objects::Store;
+use osm_text::CoastLine;
 use osm_words::CoastlineSettings;
 use std::alloc::{AllocError as OutOfMemory, Global};
 
-/// What comes of the coastline ways of an input.
+/// What is left of what comes of the coastline ways.
 #[derive(Drop)]
-pub(crate) struct Coast {
-    /// What keeps ways from taking part.
-    pub(crate) asides: Asides,
-    /// The ways that take part, put together.
-    pub(crate) chains: Vec<Chain>,
-    /// Which unclosed chains are closed.
-    pub(crate) closings: Closings,
-    /// The rings, and the chains that are still unclosed.
-    pub(crate) joined: Joined,
-    /// The rings that are kept, those that are left out, and the conflicts.
-    pub(crate) sorted: Sorted,
-    /// The edges of land, and what is noted of the rings that are kept.
-    pub(crate) land: Land,
+pub(crate) struct Shore {
+    /// The edges of land.
+    pub(crate) land: Edges,
+    /// The lines of the report, but for those of leaves.
+    pub(crate) lines: Vec<CoastLine>,
 }
 
-/// What comes of the coastline ways of a store.
-pub(crate) fn coast_of(
-    alloc: Global,
-    store: &Store,
-    settings: &CoastlineSettings<'_>,
-) -> Result<Coast, OutOfMemory>
-    ensures { IfOk result (λ coast.
-        IsCoast (coastline_seen settings.now) store.now (coast_seen coast)) }
+/// The coastline ways of a store, which goes.
+pub(crate) fn input_of(alloc: Global, store: Store) -> Result<CoastInput, OutOfMemory>
+    ensures { IfOk result (λ input. IsInputOf store input) }
 {
-    let input = coast_input(alloc, store)?;
-    let chains = chains(alloc, input.ways.as_slice())?;
-    let closings = closings(alloc, &chains, settings.close_distance)?;
-    let joined = closed_rings(alloc, &chains, &closings)?;
-    let sorted = sort_out(alloc, joined.rings.as_slice())?;
+    coast_input(alloc, &store)
+}
+
+/// The chains of the ways that take part. Lines tell of those that don't.
+fn chains_of(
+    alloc: Global,
+    input: CoastInput,
+    lines: &mut Vec<CoastLine>,
+) -> Result<Vec<Chain>, OutOfMemory>
+    requires { IsDistinct int_eq (map (λ (w : CoastWay). w.id) input.ways) }
+    ensures chains { IfOk result (λ chains. AreChains input.ways chains.items) }
+    ensures told { OnOk result (lines.new.items ≡ lines.old.items ++ map aside_line input.aside) }
+{
+    lines.extend_from_slice(&aside_lines(alloc, input.aside.as_slice())?)?;
+    chains(alloc, input.ways.as_slice())
+}
+
+/// Lines tell of chains that are closed.
+fn add_closings(
+    alloc: Global,
+    chains: &[Chain],
+    closings: &Closings,
+    lines: &mut Vec<CoastLine>,
+) -> Result<(), OutOfMemory>
+    ensures { OnOk result (lines.new.items ≡ lines.old.items
+        ++ (filter_map (antarctica_line chains.now) closings.now.antarctica
+        ++ filter_map (gap_line chains.now) closings.now.gaps)) }
+{
+    let antarctica = antarctica_lines(alloc, chains, closings.antarctica.as_slice())?;
+    lines.extend_from_slice(&antarctica)?;
+    let gaps = gap_lines(alloc, chains, closings.gaps.as_slice())?;
+    lines.extend_from_slice(&gaps)?;
+    Ok(())
+}
+
+/// The rings of chains with their gaps closed, and the chains that are still unclosed.
+fn joined_of(
+    alloc: Global,
+    chains: Vec<Chain>,
+    limit: u32,
+    lines: &mut Vec<CoastLine>,
+) -> Result<Joined, OutOfMemory>
+    requires { (ways : List CoastWay) × AreChains ways chains.items }
+    ensures { IfOk result (λ joined. JoinsChains chains.items limit joined
+        lines.old.items lines.new.items) }
+{
+    let closings = closings(alloc, &chains, limit)?;
+    add_closings(alloc, &chains, &closings, lines)?;
+    closed_rings(alloc, &chains, &closings)
+}
+
+/// The rings sorted out. Lines tell of chains that are still unclosed.
+fn sorted_of(
+    alloc: Global,
+    joined: Joined,
+    lines: &mut Vec<CoastLine>,
+) -> Result<Sorted, OutOfMemory>
+    ensures sorted { IfOk result (λ sorted. IsSorted joined.rings sorted) }
+    ensures clear { IfOk result (λ sorted. HaveNoConflicts (all_segments sorted.kept)) }
+    ensures told { OnOk result (lines.new.items
+        ≡ lines.old.items ++ map unclosed_line joined.unclosed) }
+{
+    lines.extend_from_slice(&unclosed_lines(alloc, joined.unclosed.as_slice())?)?;
+    sort_out(alloc, joined.rings.as_slice())
+}
+
+/// Lines tell of rings that are left out, and of conflicts.
+fn add_sorted(alloc: Global, sorted: &Sorted, lines: &mut Vec<CoastLine>) -> Result<(), OutOfMemory>
+    ensures { OnOk result (lines.new.items ≡ lines.old.items
+        ++ (map left_out_line sorted.now.left_out ++ map conflict_line sorted.now.pairs)) }
+{
+    lines.extend_from_slice(&left_out_lines(alloc, sorted.left_out.as_slice())?)?;
+    lines.extend_from_slice(&conflict_lines(alloc, sorted.pairs.as_slice())?)?;
+    Ok(())
+}
+
+/// Lines tell of segments that stand more than once, and of rings that run the wrong way.
+fn add_land(alloc: Global, land: &Land, lines: &mut Vec<CoastLine>) -> Result<(), OutOfMemory>
+    ensures { OnOk result (lines.new.items ≡ lines.old.items
+        ++ (map repeated_line land.now.repeats ++ map wrong_way_line land.now.wrong_way)) }
+{
+    lines.extend_from_slice(&repeated_lines(alloc, land.repeats.as_slice())?)?;
+    lines.extend_from_slice(&wrong_way_lines(alloc, land.wrong_way.as_slice())?)?;
+    Ok(())
+}
+
+/// The edges of land. Lines tell of all that is amiss with rings.
+fn land_of(alloc: Global, sorted: Sorted, lines: &mut Vec<CoastLine>) -> Result<Edges, OutOfMemory>
+    requires { HaveNoConflicts (all_segments sorted.kept) }
+    ensures { IfOk result (λ edges. MakesLand sorted edges lines.old.items lines.new.items) }
+{
+    add_sorted(alloc, &sorted, lines)?;
     let land = land(alloc, sorted.kept.as_slice())?;
-    Ok(Coast {
-        asides: input.aside,
-        chains,
-        closings,
-        joined,
-        sorted,
-        land,
-    })
+    add_land(alloc, &land, lines)?;
+    Ok(land.edges)
+}
+
+/// The edges of land that come of coastline ways. Lines tell of all that is amiss with them.
+fn land_in(
+    alloc: Global,
+    input: CoastInput,
+    settings: &CoastlineSettings<'_>,
+    lines: &mut Vec<CoastLine>,
+) -> Result<Edges, OutOfMemory>
+    requires { IsDistinct int_eq (map (λ (w : CoastWay). w.id) input.ways) }
+    ensures { IfOk result (λ edges. MakesCoast (coastline_seen settings.now) input edges
+        lines.old.items lines.new.items) }
+{
+    let chains = chains_of(alloc, input, lines)?;
+    let joined = joined_of(alloc, chains, settings.close_distance, lines)?;
+    let sorted = sorted_of(alloc, joined, lines)?;
+    land_of(alloc, sorted, lines)
+}
+
+/// What is left of what comes of coastline ways.
+pub(crate) fn shore_of(
+    alloc: Global,
+    input: CoastInput,
+    settings: &CoastlineSettings<'_>,
+) -> Result<Shore, OutOfMemory>
+    requires { IsDistinct int_eq (map (λ (w : CoastWay). w.id) input.ways) }
+    ensures { IfOk result (λ shore. IsShoreOf (coastline_seen settings.now) input shore) }
+{
+    let mut lines = Vec::new(alloc);
+    let land = land_in(alloc, input, settings, &mut lines)?;
+    Ok(Shore { land, lines })
 }

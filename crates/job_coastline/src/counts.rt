@@ -1,24 +1,21 @@
-//! How many lines a coastline job writes.
+//! How many lines a coastline job writes, counted leaf by leaf.
 
-ghost use Rattle.std.specs.Prelude.{◌≡◌, All, IfOk, not};
+ghost use Rattle.std.specs.Prelude.{◌≡◌, ◌+◌, ◌∷◌, [], All, IfOk, List, length};
 ghost use Rattle.std.specs.List.{count_by};
-ghost use Rattle.job_coastline.specs.Coast.{IsCoast, coast_seen};
+ghost use Rattle.coast_split.specs.LeavesLeft.{AreLeft};
+ghost use Rattle.coast_split.specs.declared.leaves.Leaf.{Leaf};
 ghost use Rattle.job_coastline.specs.Counts.{AreCoastCounts};
-ghost use Rattle.job_coastline.specs.PieceSteps.{AreLandPieces, ArePieces, AreWaterPieces, counts_found};
-ghost use Rattle.osm_geom.specs.WholeSegment.{IsWholeSegment};
-ghost use Rattle.osm_nest.specs.Cover.{AreSided};
+ghost use Rattle.job_coastline.specs.CountSteps.{CountsLeaves, CountsLists, CountsOutlines, warnings_among};
+ghost use Rattle.osm_geom.specs.InPlane.Sided.{IsSided};
 ghost use Rattle.osm_text.specs.Coast.{is_error};
 ghost use Rattle.osm_words.specs.Answers.{coastline_seen};
-ghost use Rattle.osm_geom.specs.InPlane.Sided.{IsSided};
 
-use crate::coast::{Coast, coast_of};
-use crate::found::{all_lines, has_land, has_water, land_polygons, water_polygons};
+use crate::outlines::{Outlines, outlines_of};
 use crate::pieces::{Pieces, pieces_of};
-use coast_split::SplitError;
+use coast_join::coast_input;
+use coast_split::{Leaf, Leaves, Settings};
 use osm_geom::Edges;
-use osm_nest::Polygon;
 use osm_objects::Store;
-use osm_sides::directing_is_sided;
 use osm_text::{CoastLine, PieceKind, is_error};
 use osm_words::CoastlineSettings;
 use std::alloc::{AllocError as OutOfMemory, Global};
@@ -36,25 +33,15 @@ pub struct CoastCounts {
     pub errors: u64,
 }
 
-/// More leaves than any list can hold.
-const ANY_NUMBER: u64 = 9_223_372_036_854_775_807;
-
-/// The pieces of polygons, however many leaves they have.
-fn all_pieces_of(
-    alloc: Global,
-    kind: PieceKind,
-    polygons: &[Polygon],
-    settings: &CoastlineSettings<'_>,
-) -> Result<Pieces, OutOfMemory>
-    requires { AreSided polygons.now }
-    ensures { IfOk result (λ pieces.
-        ArePieces (coastline_seen settings.now) kind polygons.now pieces) }
-{
-    match pieces_of(alloc, kind, polygons, settings, ANY_NUMBER) {
-        Ok(pieces) => Ok(pieces),
-        // No memory holds so many leaves.
-        Err(SplitError::TooManyPieces { .. } | SplitError::OutOfMemory) => Err(OutOfMemory),
-    }
+/// What is counted so far.
+#[derive(Clone, Copy)]
+pub(crate) struct Tally {
+    /// Pieces of the one kind.
+    pub(crate) pieces: u64,
+    /// Report lines that are warnings.
+    pub(crate) warnings: u64,
+    /// Report lines that are errors.
+    pub(crate) errors: u64,
 }
 
 /// How many lines are errors.
@@ -66,21 +53,152 @@ fn errors_in(lines: &[CoastLine]) -> usize
 
 /// How many lines are warnings.
 fn warnings_in(lines: &[CoastLine]) -> usize
-    ensures { result ≡ count_by (λ line. not (is_error line)) lines.now }
+    ensures { result ≡ warnings_among lines.now }
 {
     lines.iter().filter(|line| !is_error(line)).count()
 }
 
-/// How many lines were found.
-fn counts_found(land: &Pieces, water: &Pieces, lines: &Vec<CoastLine>) -> CoastCounts
-    ensures { result ≡ counts_found land.now water.now lines.now.items }
+/// A count with more. No memory holds so much that it passes the greatest number.
+fn with_more(count: u64, more: usize) -> Result<u64, OutOfMemory>
+    ensures { IfOk result (λ sum. sum ≡ count + more) }
 {
-    CoastCounts {
-        land: land.texts.as_slice().len() as u64,
-        water: water.texts.as_slice().len() as u64,
-        warnings: warnings_in(lines.as_slice()) as u64,
-        errors: errors_in(lines.as_slice()) as u64,
+    count.checked_add(more as u64).ok_or(OutOfMemory)
+}
+
+/// A tally with the pieces and report lines of one more leaf.
+fn with_pieces(tally: Tally, pieces: &Pieces) -> Result<Tally, OutOfMemory>
+    ensures { IfOk result (λ after.
+        (after.pieces ≡ tally.pieces + length pieces.now.texts.items)
+        × (after.warnings ≡ tally.warnings + warnings_among pieces.now.lines.items)
+        × (after.errors ≡ tally.errors + count_by is_error pieces.now.lines.items)) }
+{
+    let printed = with_more(tally.pieces, pieces.texts.len())?;
+    let warnings = with_more(tally.warnings, warnings_in(&pieces.lines))?;
+    let errors = with_more(tally.errors, errors_in(&pieces.lines))?;
+    Ok(Tally {
+        pieces: printed,
+        warnings,
+        errors,
+    })
+}
+
+/// Counts what a leaf makes.
+fn count_leaf(
+    alloc: Global,
+    kind: PieceKind,
+    leaf: &Leaf,
+    tally: Tally,
+) -> Result<Tally, OutOfMemory>
+    requires { IsSided leaf.now.edges }
+    ensures { IfOk result (λ after. CountsLeaves kind (leaf.now ∷ []) tally after) }
+{
+    let pieces = pieces_of(alloc, kind, leaf)?;
+    with_pieces(tally, &pieces)
+}
+
+/// More leaves than any run goes through.
+const ANY_NUMBER: u64 = 18_446_744_073_709_551_615;
+
+/// Counts what leaves make, each before the next one is cut out.
+fn count_leaves_of(
+    alloc: Global,
+    kind: PieceKind,
+    leaves: &mut Leaves,
+    tally: Tally,
+) -> Result<Tally, OutOfMemory>
+    ensures { IfOk result (λ after. (list : List Leaf)
+        × AreLeft leaves.old.most_points leaves.old.overlap leaves.old.waiting list
+        × CountsLeaves kind list tally after) }
+{
+    let mut now = tally;
+    for _ in 0..ANY_NUMBER {
+        let next = leaves.next()?;
+        match next {
+            Some(leaf) => now = count_leaf(alloc, kind, &leaf, now)?,
+            None => return Ok(now),
+        }
     }
+    Err(OutOfMemory)
+}
+
+/// Splits a list and counts what its leaves make.
+fn count_list(
+    alloc: Global,
+    kind: PieceKind,
+    edges: Edges,
+    settings: &CoastlineSettings<'_>,
+    tally: Tally,
+) -> Result<Tally, OutOfMemory>
+    requires { IsSided edges }
+    ensures { IfOk result (λ after. CountsLists (coastline_seen settings.now) kind (edges ∷ [])
+        tally after) }
+{
+    let settings = Settings {
+        most_points: settings.max_points,
+        overlap: settings.bbox_overlap,
+        most_leaves: ANY_NUMBER,
+    };
+    let mut leaves = Leaves::of(alloc, edges, &settings)?;
+    count_leaves_of(alloc, kind, &mut leaves, tally)
+}
+
+/// Counts what lists make. A list goes before the next one is split.
+fn count_lists(
+    alloc: Global,
+    kind: PieceKind,
+    lists: Vec<Edges>,
+    settings: &CoastlineSettings<'_>,
+    tally: Tally,
+) -> Result<Tally, OutOfMemory>
+    requires { All IsSided lists.items }
+    ensures { IfOk result (λ after. CountsLists (coastline_seen settings.now) kind lists.items
+        tally after) }
+{
+    let mut now = tally;
+    for edges in lists {
+        match count_list(alloc, kind, edges, settings, now) {
+            Ok(after) => now = after,
+            Err(error) => return Err(error),
+        }
+    }
+    Ok(now)
+}
+
+/// The report lines of the coast, counted.
+fn tally_of(lines: &[CoastLine]) -> Tally
+    ensures pieces { result.pieces ≡ 0 }
+    ensures warnings { result.warnings ≡ warnings_among lines.now }
+    ensures errors { result.errors ≡ count_by is_error lines.now }
+{
+    Tally {
+        pieces: 0,
+        warnings: warnings_in(lines) as u64,
+        errors: errors_in(lines) as u64,
+    }
+}
+
+/// How many lines come of outlines.
+fn counts_of(
+    alloc: Global,
+    outlines: Outlines,
+    settings: &CoastlineSettings<'_>,
+) -> Result<CoastCounts, OutOfMemory>
+    requires land { All IsSided outlines.land.items }
+    requires water { All IsSided outlines.water.items }
+    ensures { IfOk result (λ counts.
+        CountsOutlines (coastline_seen settings.now) outlines counts) }
+{
+    let Outlines { land, water, lines } = outlines;
+    let coast = tally_of(&lines);
+    let land = count_lists(alloc, PieceKind::Land, land, settings, coast)?;
+    let none = Tally { pieces: 0, ..land };
+    let water = count_lists(alloc, PieceKind::Water, water, settings, none)?;
+    Ok(CoastCounts {
+        land: land.pieces,
+        water: water.pieces,
+        warnings: water.warnings,
+        errors: water.errors,
+    })
 }
 
 /// How many lines a coastline job with these settings writes of a store. The most leaves of a run don't matter here. The error
@@ -93,58 +211,7 @@ pub fn coast_counts(
     ensures { IfOk result (λ counts.
         AreCoastCounts (coastline_seen settings.now) store.now counts) }
 {
-    let coast = coast_of(alloc, store, settings)?;
-    coast_counts_of(alloc, store, &coast, settings)
-}
-
-/// How many lines come of the coastline ways of a store, from what comes of them. It is lent, so that nothing of it is dropped
-/// where memory runs out.
-fn coast_counts_of(
-    alloc: Global,
-    _store: &Store,
-    coast: &Coast,
-    settings: &CoastlineSettings<'_>,
-) -> Result<CoastCounts, OutOfMemory>
-    requires { IsCoast (coastline_seen settings.now) _store.now (coast_seen coast.now) }
-    ensures { IfOk result (λ counts.
-        AreCoastCounts (coastline_seen settings.now) _store.now counts) }
-{
-    // By law: directed by the odd side, land is sided and runs along whole segments.
-    directing_is_sided();
-    let edges = &coast.land.edges;
-    let land = land_pieces(alloc, edges, settings)?;
-    let water = water_pieces(alloc, edges, settings)?;
-    let lines = all_lines(alloc, coast, &land.lines, &water.lines)?;
-    Ok(counts_found(&land, &water, &lines))
-}
-
-/// The pieces of land, if they are asked for.
-fn land_pieces(
-    alloc: Global,
-    land: &Edges,
-    settings: &CoastlineSettings<'_>,
-) -> Result<Pieces, OutOfMemory>
-    requires { IsSided land.now }
-    ensures { IfOk result (λ pieces.
-        AreLandPieces (coastline_seen settings.now) land.now pieces) }
-{
-    let polygons = land_polygons(alloc, has_land(settings.polygons), land)?;
-    let pieces = all_pieces_of(alloc, PieceKind::Land, polygons.as_slice(), settings)?;
-    Ok(pieces)
-}
-
-/// The pieces of water, if they are asked for.
-fn water_pieces(
-    alloc: Global,
-    land: &Edges,
-    settings: &CoastlineSettings<'_>,
-) -> Result<Pieces, OutOfMemory>
-    requires whole { All IsWholeSegment land.now }
-    requires sided { IsSided land.now }
-    ensures { IfOk result (λ pieces.
-        AreWaterPieces (coastline_seen settings.now) land.now pieces) }
-{
-    let polygons = water_polygons(alloc, has_water(settings.polygons), land)?;
-    let pieces = all_pieces_of(alloc, PieceKind::Water, polygons.as_slice(), settings)?;
-    Ok(pieces)
+    let input = coast_input(alloc, store)?;
+    let outlines = outlines_of(alloc, input, settings)?;
+    counts_of(alloc, outlines, settings)
 }

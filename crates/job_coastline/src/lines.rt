@@ -1,15 +1,14 @@
 //! The lines of the report: one of each thing that is amiss, and how a run ends that has such lines.
 
-ghost use Rattle.std.specs.Prelude.{◌≡◌, All, IfOk, map};
+ghost use Rattle.std.specs.Prelude.{◌≡◌, IfOk, map};
 ghost use Rattle.std.specs.List.{filter_map, list_any};
-ghost use Rattle.job_coastline.specs.Report.{ArePrinted, antarctica_line, aside_line, conflict_line, ending_of, gap_line, left_out_line, repeated_line, unclosed_line, wrong_way_line};
-ghost use Rattle.osm_job.specs.Sent.{lines_text};
-ghost use Rattle.osm_text.specs.Coast.{HasItsKind, is_error};
+ghost use Rattle.job_coastline.specs.Report.{antarctica_line, aside_line, conflict_line, ending_of, gap_line, left_out_line, repeated_line, unclosed_line, wrong_way_line};
+ghost use Rattle.osm_text.specs.Coast.{is_error};
 
 use coast_join::{Aside, Chain, CoastRing, Gap};
 use osm_job::Ended;
 use osm_segments::{Pair, Repeat};
-use osm_text::{CoastLine, coast_line, is_error};
+use osm_text::{CoastLine, is_error};
 use std::alloc::{AllocError as OutOfMemory, Global};
 
 /// What keeps a way from taking part.
@@ -151,18 +150,6 @@ pub(crate) fn wrong_way_lines(alloc: Global, names: &[i64]) -> Result<Vec<CoastL
         .iter()
         .map(|&ring| CoastLine::WrongWay { ring })
         .collect(alloc)
-}
-
-/// The lines as they are printed.
-pub(crate) fn printed(alloc: Global, lines: &[CoastLine]) -> Result<Vec<Vec<u8>>, OutOfMemory>
-    requires { All HasItsKind lines.now }
-    ensures { IfOk result (λ v. ArePrinted lines.now (lines_text v.items)) }
-{
-    let mut texts = Vec::with_capacity(alloc, lines.len())?;
-    for line in lines {
-        texts.push(coast_line(alloc, line)?)?;
-    }
-    Ok(texts)
 }
 
 /// Whether some line is an error.

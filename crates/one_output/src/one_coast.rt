@@ -19,13 +19,12 @@ use coast_sides::{
 use coast_split::{
     halves_are_determined, leaves_cover_as_list, leaves_part_the_list, split_trees_exist,
 };
-use job_coastline::lines_have_kinds;
+use job_coastline::{lines_have_kinds, pieces_exist};
 use osm_nest::valid_polygons::nested_polygons_are_valid;
 use osm_nest::{
-    nested_cover_as_rings, nested_have_kinds, nesting_exists, polygons_are_one, rings_may_be_nested,
+    nested_cover_as_rings, nested_have_kinds, polygons_are_one, rings_may_be_nested,
 };
-use osm_rings::ring_list_of_edges_exists;
-use osm_text::{coast_line_exists, coast_line_is_one};
+use osm_text::coast_line_is_one;
 
 /// What comes of the coastline ways of objects is one thing alone: what keeps ways from taking part, chains,
 /// closings, rings, what is sorted out, and land.
@@ -85,10 +84,8 @@ pub fn coastline_exists()
 {
     coast_exists();
     lines_have_kinds();
-    coast_line_exists();
-    ring_list_of_edges_exists();
+    pieces_exist();
     rings_may_be_nested();
-    nesting_exists();
     water_exists();
     nested_cover_as_rings();
     split_trees_exist();
@@ -100,9 +97,8 @@ pub fn coast_counts_exist()
     ensures { CoastCountsExist }
 {
     coast_exists();
-    ring_list_of_edges_exists();
+    pieces_exist();
     rings_may_be_nested();
-    nesting_exists();
     water_exists();
     nested_cover_as_rings();
     split_trees_exist();

@@ -1,9 +1,8 @@
 -- A coastline job over objects has a whole, and counts.
-use Rattle.std.proofs.Common.{All, Bool, List, [], ap, false, inl, inr, length, map, refl, true, ℕ, ◌+◌, ◌++◌, ◌<◌, ◌≤◌, ◌⊎◌, ◌∷◌}
+use Rattle.std.proofs.Common.{All, Bool, List, [], false, inl, inr, length, map, refl, true, ℕ, ◌+◌, ◌++◌, ◌<◌, ◌≤◌, ◌⊎◌, ◌∷◌}
 use Rattle.std.proofs.lemmas.Bool.{cases_lt}
 use Rattle.std.specs.List.{IsDistinct, flat_map}
 use Rattle.std.specs.Ordering.{int_eq}
-use Rattle.std.proofs.lemmas.List.Elements.{All-cons, All-head, All-nil, All-tail}
 use Rattle.osm_elements.specs.declared.object.Object.{Object}
 use Rattle.osm_words.specs.Job.{CoastlineSettings}
 use Rattle.osm_job.specs.Whole.{Whole, silent}
@@ -16,11 +15,8 @@ use Rattle.osm_objects.specs.CoastWays.{coast_ways}
 use Rattle.osm_geom.specs.declared.edge.Edge.{Edge}
 use Rattle.osm_geom.specs.WholeSegment.{IsWholeSegment}
 use Rattle.osm_nest.specs.declared.polygon.Polygon.{Polygon}
-use Rattle.osm_nest.specs.Laws.{NestedAreSided, NestingExists, RingsMayBeNested}
+use Rattle.osm_nest.specs.Laws.{NestedAreSided, RingsMayBeNested}
 use Rattle.osm_nest.specs.Polygons.{edges_in}
-use Rattle.osm_text.specs.Coast.{CoastLineExists, HasItsKind}
-use Rattle.osm_text.specs.declared.coast.CoastLine.{CoastLine}
-use Rattle.osm_rings.specs.Laws.{RingListOfEdgesExists}
 use Rattle.osm_geom.specs.InPlane.Sided.{IsSided}
 use Rattle.coast_join.specs.ChainLaws.{ChainsExist}
 use Rattle.coast_join.specs.Input.{asides_of}
@@ -31,9 +27,9 @@ use Rattle.job_coastline.specs.Coast.{Coast, IsCoast}
 use Rattle.job_coastline.specs.Coastline.{AreCoastAreas, AreLand, AreWater, Areas, AreWritten, AreWrittenOrTooMany, all_lines, all_sent, most_leaves}
 use Rattle.job_coastline.specs.Counts.{coast_counts_of}
 use Rattle.job_coastline.specs.LineLaws.{LinesHaveKinds}
-use Rattle.job_coastline.specs.Pieces.{AreLeavesOf, AreTiles, IsTile, Tile, has_land, has_water}
-use Rattle.osm_nest.specs.Nested.{ArePolygons}
-use Rattle.job_coastline.specs.Report.{ArePrinted, ending_of}
+use Rattle.job_coastline.specs.PieceLaws.{EdgesMakePolygons, ReportExists, TilesExist}
+use Rattle.job_coastline.specs.Pieces.{AreLeavesOf, has_land, has_water}
+use Rattle.job_coastline.specs.Report.{ending_of}
 use Rattle.one_output.proofs.OneCoast.AreasOne.{land_leaves_sided, water_leaves_sided}
 use Rattle.one_output.proofs.OneCoast.LeavesOne.{AreSidedLeaves}
 use Rattle.one_output.specs.OneCoast.Laws.{CoastCountsExist, CoastExists, CoastlineExists}
@@ -68,31 +64,17 @@ coast_there some_ways some_chains some_closings some_joined some_sorted some_lan
     )
 
 -- ---- polygons
-module _ (some_rings : RingListOfEdgesExists) (fit : RingsMayBeNested) (some_nesting : NestingExists) where
-  polygons_there : (edges : List Edge) → IsSided edges → (polygons : List Polygon) × ArePolygons edges polygons
-  polygons_there edges sided =
-      let rings = some_rings edges sided in
-      let nested = some_nesting rings.0 (fit edges rings.0 sided rings.1) in
-      (nested.0, record { rings = rings.0; cut = rings.1; nested = nested.1 })
-
+module _ (some_polygons : EdgesMakePolygons) where
   pub land_there : (asked : Bool) (edges : List Edge) → IsSided edges → (polygons : List Polygon) × AreLand asked edges polygons
-  land_there true edges sided = polygons_there edges sided
+  land_there true edges sided = some_polygons edges sided
   land_there false edges sided = ([], refl)
 
   pub water_there : WaterExists → (asked : Bool) (land : List Edge) → All IsWholeSegment land → IsSided land → (polygons : List Polygon) × AreWater asked land polygons
   water_there some_water true land whole sided =
       let water = some_water land whole sided in
-      let polygons = polygons_there water.0 water.1.sided in
+      let polygons = some_polygons water.0 water.1.sided in
       (polygons.0, (water.0, water.1, polygons.1))
   water_there some_water false land whole sided = ([], refl)
-
--- ---- the report
-pub printed_there : CoastLineExists → (lines : List CoastLine) → All HasItsKind lines → (text : List ℕ) × ArePrinted lines text
-printed_there one [] kinds = ([], refl)
-printed_there one (line ∷ lines) kinds =
-    let first = one line (All-head HasItsKind line lines kinds) in
-    let rest = printed_there one lines (All-tail HasItsKind line lines kinds) in
-    (first.0 ++ rest.0, (first.0, rest.0, first.1, rest.1, refl))
 
 -- ---- leaves
 module _ (settings : CoastlineSettings) (some_tree : SplitTreesExist) where
@@ -104,24 +86,14 @@ module _ (settings : CoastlineSettings) (some_tree : SplitTreesExist) where
       let rest = leaves_there polygons in
       (first ++ rest.0, (first, rest.0, record { tree = tree.0; is_tree = tree.1; leaves = refl }, rest.1, refl))
 
--- and what each makes
-module _ (some_rings : RingListOfEdgesExists) (fit : RingsMayBeNested) (some_nesting : NestingExists) where
-  tiles_there : (leaves : List Leaf) → AreSidedLeaves leaves → (tiles : List Tile) × AreTiles leaves tiles
-  tiles_there [] sided = ([], record { of_leaves = refl; made = All-nil IsTile })
-  tiles_there (leaf ∷ leaves) sided =
-      let polygons = polygons_there some_rings fit some_nesting leaf.edges (All-head (λ (l : Leaf). IsSided l.edges) leaf leaves sided) in
-      let rest = tiles_there leaves (All-tail (λ (l : Leaf). IsSided l.edges) leaf leaves sided) in
-      let first : Tile = record { leaf = leaf; polygons = polygons.0 } in
-      (first ∷ rest.0, record { of_leaves = ap (λ (ls : List Leaf). leaf ∷ ls) rest.1.of_leaves; made = All-cons IsTile first rest.0 polygons.1 rest.1.made })
-
 -- ---- the whole
-module _ (kinds : LinesHaveKinds) (some_line : CoastLineExists) (some_rings : RingListOfEdgesExists) (fit : RingsMayBeNested) (some_nesting : NestingExists) (settings : CoastlineSettings) (objects : List Object) (coast : Coast)
+module _ (kinds : LinesHaveKinds) (some_report : ReportExists) (some_tiles : TilesExist) (settings : CoastlineSettings) (objects : List Object) (coast : Coast)
     (is : IsCoast settings objects coast) (land water : List Leaf) (land_sided : AreSidedLeaves land) (water_sided : AreSidedLeaves water) where
   written_there : (whole : Whole) × AreWritten coast land water whole
   written_there =
-      let l = tiles_there some_rings fit some_nesting land land_sided in
-      let w = tiles_there some_rings fit some_nesting water water_sided in
-      let report = printed_there some_line (all_lines coast l.0 w.0) (kinds settings objects coast is l.0 w.0) in (
+      let l = some_tiles land land_sided in
+      let w = some_tiles water water_sided in
+      let report = some_report (all_lines coast l.0 w.0) (kinds settings objects coast is l.0 w.0) in (
         record { written = all_sent l.0 w.0 report.0; ended = ending_of (all_lines coast l.0 w.0) },
         record { land_tiles = l.0; land_made = l.1; water_tiles = w.0; water_made = w.1; report = report.0; printed = report.1; written = refl; ended = refl },
       )
@@ -134,36 +106,36 @@ module _ (kinds : LinesHaveKinds) (some_line : CoastLineExists) (some_rings : Ri
   written_or_too_many_there = written_by (cases_lt most_leaves (length land + length water))
 
 -- ---- what is split
-module _ (some_coast : CoastExists) (some_rings : RingListOfEdgesExists) (fit : RingsMayBeNested) (some_nesting : NestingExists) (some_water : WaterExists) (some_tree : SplitTreesExist) (settings : CoastlineSettings)
+module _ (some_coast : CoastExists) (some_polygons : EdgesMakePolygons) (some_water : WaterExists) (some_tree : SplitTreesExist) (settings : CoastlineSettings)
     (objects : List Object) (apart : IsDistinct int_eq (coast_ways objects)) where
   areas_there : (areas : Areas) × AreCoastAreas settings objects areas
   areas_there =
       let coast = some_coast settings objects apart in
       let edges = coast.1.land.edges in
-      let land = land_there some_rings fit some_nesting (has_land settings.polygons) coast.0.land.edges edges.sided in
-      let water = water_there some_rings fit some_nesting some_water (has_water settings.polygons) coast.0.land.edges edges.whole edges.sided in
+      let land = land_there some_polygons (has_land settings.polygons) coast.0.land.edges edges.sided in
+      let water = water_there some_polygons some_water (has_water settings.polygons) coast.0.land.edges edges.whole edges.sided in
       let land_leaves = leaves_there settings some_tree land.0 in
       let water_leaves = leaves_there settings some_tree water.0 in (
         record { coast = coast.0; land = land.0; land_leaves = land_leaves.0; water = water.0; water_leaves = water_leaves.0 },
         record { coast = coast.1; land = land.1; land_leaves = land_leaves.1; water = water.1; water_leaves = water_leaves.1 },
       )
 
-module _ (some_coast : CoastExists) (some_rings : RingListOfEdgesExists) (fit : RingsMayBeNested) (some_nesting : NestingExists) (some_water : WaterExists) (nesting : NestedAreSided) (some_tree : SplitTreesExist)
+module _ (some_coast : CoastExists) (some_polygons : EdgesMakePolygons) (some_tiles : TilesExist) (some_water : WaterExists) (fit : RingsMayBeNested) (nesting : NestedAreSided) (some_tree : SplitTreesExist)
     (leaves_are_sided : LeavesAreSided) where
-  pub coastline_there : LinesHaveKinds → CoastLineExists → CoastlineExists
-  coastline_there kinds some_line settings objects apart =
-      let split = areas_there some_coast some_rings fit some_nesting some_water some_tree settings objects apart in
+  pub coastline_there : LinesHaveKinds → ReportExists → CoastlineExists
+  coastline_there kinds some_report settings objects apart =
+      let split = areas_there some_coast some_polygons some_water some_tree settings objects apart in
       let areas = split.0 in
-      let whole = written_or_too_many_there kinds some_line some_rings fit some_nesting settings objects areas.coast split.1.coast areas.land_leaves areas.water_leaves
+      let whole = written_or_too_many_there kinds some_report some_tiles settings objects areas.coast split.1.coast areas.land_leaves areas.water_leaves
       (land_leaves_sided fit nesting leaves_are_sided settings objects areas split.1) (water_leaves_sided fit nesting leaves_are_sided settings objects areas split.1) in
       (whole.0, record { areas = areas; right = split.1; written = whole.1 })
 
   pub counts_there : CoastCountsExist
   counts_there settings objects apart =
-      let split = areas_there some_coast some_rings fit some_nesting some_water some_tree settings objects apart in
+      let split = areas_there some_coast some_polygons some_water some_tree settings objects apart in
       let areas = split.0 in
-      let land = tiles_there some_rings fit some_nesting areas.land_leaves (land_leaves_sided fit nesting leaves_are_sided settings objects areas split.1) in
-      let water = tiles_there some_rings fit some_nesting areas.water_leaves (water_leaves_sided fit nesting leaves_are_sided settings objects areas split.1) in (
+      let land = some_tiles areas.land_leaves (land_leaves_sided fit nesting leaves_are_sided settings objects areas split.1) in
+      let water = some_tiles areas.water_leaves (water_leaves_sided fit nesting leaves_are_sided settings objects areas split.1) in (
         coast_counts_of areas.coast land.0 water.0,
         record { areas = areas; right = split.1; land = land.0; land_made = land.1; water = water.0; water_made = water.1; counted = refl },
       )

@@ -3,5 +3,5 @@ use Rattle.one_output.proofs.OneCoast.CoastThere.{counts_there}
 
 pub returns : goal.returns
 returns c =
-    counts_there c.coast_exists.ensures c.ring_list_of_edges_exists.ensures c.rings_may_be_nested.ensures.nested
-    c.nesting_exists.ensures c.water_exists.ensures c.nested_cover_as_rings.ensures.sided c.split_trees_exist.ensures c.leaves_cover_as_list.ensures.sided
+    counts_there c.coast_exists.ensures c.pieces_exist.ensures.polygons c.pieces_exist.ensures.tiles c.water_exists.ensures
+    c.rings_may_be_nested.ensures.nested c.nested_cover_as_rings.ensures.sided c.split_trees_exist.ensures c.leaves_cover_as_list.ensures.sided

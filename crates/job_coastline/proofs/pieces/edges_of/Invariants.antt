@@ -1,6 +1,0 @@
-use Rattle.std.proofs.Common.{take, ◌++◌, ◌≡◌}
-use Rattle.osm_nest.specs.RingLists.{all_edges}
-use Rattle.job_coastline.proofs.pieces.edges_of.Given as goal
-
-abbrev pub invariant-loop-ring : goal.invariant-loop-ring
-invariant-loop-ring l = l.edges.items ≡ l.polygon.outer ++ all_edges (take l.ring-index l.polygon.inners)
