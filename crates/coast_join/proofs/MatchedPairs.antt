@@ -24,7 +24,7 @@ use Rattle.coast_join.specs.declared.sites.Near.{Near}
 use Rattle.coast_join.specs.declared.sites.Site.{Site}
 use Rattle.coast_join.specs.Closings.{gap_between, near_pairs, open_ends, open_ends_at, square_between}
 use Rattle.coast_join.specs.GapSteps.{gap_cmp}
-use Rattle.coast_join.specs.Matches.{AreSites, AreTakenSoFar, HasMatched, IsChoice, IsFarFromStarts, IsFurther, IsMutual, IsNearPair, end_site, is_marked, matched_gap, start_site, unmarked, weight}
+use Rattle.coast_join.specs.Matches.{AreSites, AreTakenSoFar, HasMatched, IsChoice, IsFarFromStarts, IsFurther, IsMutual, IsNearPair, end_site, is_chain_marked, matched_gap, start_site, unmarked, weight}
 use Rattle.coast_join.specs.Sites.{IsFreeNear, IsNearestSite, is_gone, near_of, nearness, nearness_from}
 use Rattle.coast_join.specs.SiteTrees.{IsSiteTree}
 use Rattle.coast_join.specs.Taken.{AreTaken, IsFree}
@@ -64,10 +64,10 @@ next_choice ends starts pair back next choice found other nearest =
 
 -- ---- marks
 
-pub unmarked_inside : (marks : List Bool) (c : ℕ) → is_marked marks c ≡ false → c < length marks
+pub unmarked_inside : (marks : List Bool) (c : ℕ) → is_chain_marked marks c ≡ false → c < length marks
 unmarked_inside marks c e = ⊎_elim (λ l. l) (λ l. absurd (false≢true (sym e ∙ get_or_past marks c true l))) (cases_lt c (length marks))
 
-pub fewer_unmarked : (marks : List Bool) (c : ℕ) → is_marked marks c ≡ false → count_by not (set marks c true) < count_by not marks
+pub fewer_unmarked : (marks : List Bool) (c : ℕ) → is_chain_marked marks c ≡ false → count_by not (set marks c true) < count_by not marks
 fewer_unmarked marks c e =
     let f : Bool → ℕ = λ b. cond {A = ℕ} (not b) 1 0 in
     let was : f (get_or marks c true) ≡ 1 = ap f e in
@@ -92,7 +92,7 @@ module _ (limit : ℕ) (m : Matching) (has : HasMatched limit m) where
   start_of : (g : Gap) (p : IsNearPair limit m.ends.sites.items m.starts.sites.items g) (to : Site) → Contains m.starts.sites.items to → g.to_chain ≡ to.chain → p.to ≡ to
   start_of g p to inside e = has.start_sites.one p.to to p.to_in inside (sym p.to_chain ∙ e)
 
-  none_left : (from : Site) → Contains m.ends.sites.items from → IsFarFromStarts m.starts limit from.at → (g : Gap) → IsNearPair limit m.ends.sites.items m.starts.sites.items g → g.from_chain ≡ from.chain → is_marked m.starts.gone.items g.to_chain ≡ false → ⊥
+  none_left : (from : Site) → Contains m.ends.sites.items from → IsFarFromStarts m.starts limit from.at → (g : Gap) → IsNearPair limit m.ends.sites.items m.starts.sites.items g → g.from_chain ≡ from.chain → is_chain_marked m.starts.gone.items g.to_chain ≡ false → ⊥
   none_left from inside far g p e f =
       let same = end_of g p from inside e in
       let free : is_gone m.starts.gone.items p.to ≡ false = ap (λ k. get_or m.starts.gone.items k true) (sym p.to_chain) ∙ f in
@@ -102,7 +102,7 @@ module _ (limit : ℕ) (m : Matching) (has : HasMatched limit m) where
       p.near
 
   module _ (pair : Match) (both : IsMutual m.ends m.starts pair) where
-    no_start : (g : Gap) → IsNearPair limit m.ends.sites.items m.starts.sites.items g → g.from_chain ≡ pair.from.chain → is_marked m.starts.gone.items g.to_chain ≡ false → gap_cmp g (matched_gap pair) ≡ Less → ⊥
+    no_start : (g : Gap) → IsNearPair limit m.ends.sites.items m.starts.sites.items g → g.from_chain ≡ pair.from.chain → is_chain_marked m.starts.gone.items g.to_chain ≡ false → gap_cmp g (matched_gap pair) ≡ Less → ⊥
     no_start g p e f less =
         let same = end_of g p pair.from both.choice.stands e in
         let free : is_gone m.starts.gone.items p.to ≡ false = ap (λ k. get_or m.starts.gone.items k true) (sym p.to_chain) ∙ f in
@@ -110,7 +110,7 @@ module _ (limit : ℕ) (m : Matching) (has : HasMatched limit m) where
         let small : g.to_chain < 18446744073709551616 = subst (λ n. n < 18446744073709551616) (sym p.to_chain) (has.start_sites.small p.to p.to_in) in
         not_less (nearness g.square g.to_chain) (nearness_from pair.from.at p.to) (near_of pair.to) is (both.choice.least p.to p.to_in free) (less_by_start g (matched_gap pair) e small less)
 
-    no_end : (g : Gap) → IsNearPair limit m.ends.sites.items m.starts.sites.items g → g.to_chain ≡ pair.to.site.chain → is_marked m.ends.gone.items g.from_chain ≡ false → gap_cmp g (matched_gap pair) ≡ Less → ⊥
+    no_end : (g : Gap) → IsNearPair limit m.ends.sites.items m.starts.sites.items g → g.to_chain ≡ pair.to.site.chain → is_chain_marked m.ends.gone.items g.from_chain ≡ false → gap_cmp g (matched_gap pair) ≡ Less → ⊥
     no_end g p e f less =
         let same = start_of g p pair.to.site both.choice.to.stands e in
         let free : is_gone m.ends.gone.items p.from ≡ false = ap (λ k. get_or m.ends.gone.items k true) (sym p.from_chain) ∙ f in
@@ -168,12 +168,6 @@ module _ (limit : ℕ) (m : Matching) (has : HasMatched limit m) where
         further = further_by n pair.from.chain es ss eg;
         fewer = subst (λ marks. count_by not marks < count_by not m.ends.gone.items) (sym eg) (fewer_unmarked m.ends.gone.items pair.from.chain both.choice.free);
       }
-
-pub further_none : (m : Matching) → IsFurther m m
-further_none m = record { ends = refl; starts = refl; marked = λ k h. h }
-
-pub further_both : (m n o : Matching) → IsFurther m n → IsFurther n o → IsFurther m o
-further_both m n o a b = record { ends = b.ends ∙ a.ends; starts = b.starts ∙ a.starts; marked = λ k h. b.marked k (a.marked k h) }
 
 -- ---- the sites of chains
 

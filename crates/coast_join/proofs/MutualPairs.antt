@@ -9,7 +9,7 @@ use Rattle.std.proofs.lemmas.List.{get_or-set_other, get_or-set_same}
 use Rattle.std.proofs.lemmas.List.Elements.{All-contains, All-nil, All-push, All-weaker, Contains-append_left, Contains-get_or, Contains-push}
 use Rattle.coast_join.specs.declared.gap.Gap.{Gap}
 use Rattle.coast_join.specs.GapSteps.{gap_cmp}
-use Rattle.coast_join.specs.Matches.{AreTakenSoFar, is_marked}
+use Rattle.coast_join.specs.Matches.{AreTakenSoFar, is_chain_marked}
 use Rattle.coast_join.specs.Sites.{nearness}
 use Rattle.coast_join.specs.Taken.{IsFree}
 use Rattle.coast_join.proofs.NearPairs.{tied_gaps}
@@ -57,16 +57,16 @@ unlike marks a b t f e = false≢true (sym f ∙ (ap (λ k. get_or marks k true)
 
 module _ (P : Gap → Type 0) (ended started : List Bool) (taken : List Gap) (so_far : AreTakenSoFar P ended started taken) where
   -- no unmarked start is near the end of chain c, which is put aside
-  pub put_aside : (c : ℕ) → ((g : Gap) → P g → g.from_chain ≡ c → is_marked started g.to_chain ≡ false → ⊥) → AreTakenSoFar P (set ended c true) started taken
+  pub put_aside : (c : ℕ) → ((g : Gap) → P g → g.from_chain ≡ c → is_chain_marked started g.to_chain ≡ false → ⊥) → AreTakenSoFar P (set ended c true) started taken
   put_aside c none = record {
     near = so_far.near;
-    ends = All-weaker (λ (g : Gap). is_marked ended g.from_chain ≡ true) (λ (g : Gap). is_marked (set ended c true) g.from_chain ≡ true) (λ g m. still_gone ended c g.from_chain m) taken so_far.ends;
+    ends = All-weaker (λ (g : Gap). is_chain_marked ended g.from_chain ≡ true) (λ (g : Gap). is_chain_marked (set ended c true) g.from_chain ≡ true) (λ g m. still_gone ended c g.from_chain m) taken so_far.ends;
     starts = so_far.starts;
     apart = so_far.apart;
     settled = settled;
   }
     where
-      by : (g : Gap) → P g → (is_marked (set ended c true) g.from_chain ≡ true) ⊎ (is_marked started g.to_chain ≡ true) → IsFree gap_cmp taken g → (a b : Bool) → is_marked ended g.from_chain ≡ a → is_marked started g.to_chain ≡ b → Contains taken g
+      by : (g : Gap) → P g → (is_chain_marked (set ended c true) g.from_chain ≡ true) ⊎ (is_chain_marked started g.to_chain ≡ true) → IsFree gap_cmp taken g → (a b : Bool) → is_chain_marked ended g.from_chain ≡ a → is_chain_marked started g.to_chain ≡ b → Contains taken g
       by g p m free true b ea eb = so_far.settled g p (inl ea) free
       by g p m free false true ea eb = so_far.settled g p (inr eb) free
       by g p m free false false ea eb = ⊎_elim
@@ -74,17 +74,17 @@ module _ (P : Gap → Type 0) (ended started : List Bool) (taken : List Gap) (so
           (λ t. absurd (false≢true (sym eb ∙ t)))
           m
 
-      settled : (g : Gap) → P g → (is_marked (set ended c true) g.from_chain ≡ true) ⊎ (is_marked started g.to_chain ≡ true) → IsFree gap_cmp taken g → Contains taken g
-      settled g p m free = by g p m free (is_marked ended g.from_chain) (is_marked started g.to_chain) refl refl
+      settled : (g : Gap) → P g → (is_chain_marked (set ended c true) g.from_chain ≡ true) ⊎ (is_chain_marked started g.to_chain ≡ true) → IsFree gap_cmp taken g → Contains taken g
+      settled g p m free = by g p m free (is_chain_marked ended g.from_chain) (is_chain_marked started g.to_chain) refl refl
 
-  module _ (new : Gap) (near : P new) (from_in : new.from_chain < length ended) (to_in : new.to_chain < length started) (end_free : is_marked ended new.from_chain ≡ false) (start_free : is_marked started new.to_chain ≡ false)
-      (by_start : (g : Gap) → P g → g.from_chain ≡ new.from_chain → is_marked started g.to_chain ≡ false → gap_cmp g new ≡ Less → ⊥)
-      (by_end : (g : Gap) → P g → g.to_chain ≡ new.to_chain → is_marked ended g.from_chain ≡ false → gap_cmp g new ≡ Less → ⊥) where
-
+  module _ (new : Gap) (near : P new) (from_in : new.from_chain < length ended) (to_in : new.to_chain < length started) (end_free : is_chain_marked ended new.from_chain ≡ false) (start_free : is_chain_marked started new.to_chain ≡ false)
+      (by_start : (g : Gap) → P g → g.from_chain ≡ new.from_chain → is_chain_marked started g.to_chain ≡ false → gap_cmp g new ≡ Less → ⊥)
+      (by_end : (g : Gap) → P g → g.to_chain ≡ new.to_chain → is_chain_marked ended g.from_chain ≡ false → gap_cmp g new ≡ Less → ⊥) where
     apart_from : (h : Gap) → Contains taken h → (h.from_chain ≢ new.from_chain) × (h.to_chain ≢ new.to_chain)
-    apart_from h c =
-        (unlike ended h.from_chain new.from_chain (All-contains (λ (g : Gap). is_marked ended g.from_chain ≡ true) taken h so_far.ends c) end_free,
-        unlike started h.to_chain new.to_chain (All-contains (λ (g : Gap). is_marked started g.to_chain ≡ true) taken h so_far.starts c) start_free)
+    apart_from h c = (
+      unlike ended h.from_chain new.from_chain (All-contains (λ (g : Gap). is_chain_marked ended g.from_chain ≡ true) taken h so_far.ends c) end_free,
+      unlike started h.to_chain new.to_chain (All-contains (λ (g : Gap). is_chain_marked started g.to_chain ≡ true) taken h so_far.starts c) start_free,
+    )
 
     -- a free pair that has a chain in common with the new one is the new one
     is_new : (g : Gap) → (g.from_chain ≡ new.from_chain) ⊎ (g.to_chain ≡ new.to_chain) → (gap_cmp g new ≡ Less → ⊥) → IsFree gap_cmp (taken ++ new ∷ []) g → new ≡ g
@@ -107,7 +107,7 @@ module _ (P : Gap → Type 0) (ended started : List Bool) (taken : List Gap) (so
     new_free : IsFree gap_cmp (taken ++ new ∷ []) new
     new_free = All-push (λ h. gap_cmp h new ≡ Less → (h.from_chain ≢ new.from_chain) × (h.to_chain ≢ new.to_chain)) taken new (λ k d h less. apart_from (get_or taken k d) (Contains-get_or taken k d h)) (λ less. absurd (not_itself new less))
 
-    by_marks : (g : Gap) → P g → (is_marked (set ended new.from_chain true) g.from_chain ≡ true) ⊎ (is_marked (set started new.to_chain true) g.to_chain ≡ true) → IsFree gap_cmp (taken ++ new ∷ []) g → (a b : Bool) → is_marked ended g.from_chain ≡ a → is_marked started g.to_chain ≡ b → Contains (taken ++ new ∷ []) g
+    by_marks : (g : Gap) → P g → (is_chain_marked (set ended new.from_chain true) g.from_chain ≡ true) ⊎ (is_chain_marked (set started new.to_chain true) g.to_chain ≡ true) → IsFree gap_cmp (taken ++ new ∷ []) g → (a b : Bool) → is_chain_marked ended g.from_chain ≡ a → is_chain_marked started g.to_chain ≡ b → Contains (taken ++ new ∷ []) g
     by_marks g p m free true b ea eb = Contains-append_left taken (new ∷ []) g (so_far.settled g p (inl ea) (front_free g free))
     by_marks g p m free false true ea eb = Contains-append_left taken (new ∷ []) g (so_far.settled g p (inr eb) (front_free g free))
     by_marks g p m free false false ea eb = ⊎_elim
@@ -118,25 +118,25 @@ module _ (P : Gap → Type 0) (ended started : List Bool) (taken : List Gap) (so
     pub take_pair : AreTakenSoFar P (set ended new.from_chain true) (set started new.to_chain true) (taken ++ new ∷ [])
     take_pair = record {
       near = All-push P taken new so_far.near near;
-      ends = All-push (λ (g : Gap). is_marked (set ended new.from_chain true) g.from_chain ≡ true) taken new
-          (All-weaker (λ (g : Gap). is_marked ended g.from_chain ≡ true) (λ (g : Gap). is_marked (set ended new.from_chain true) g.from_chain ≡ true) (λ g m. still_gone ended new.from_chain g.from_chain m) taken so_far.ends)
+      ends = All-push (λ (g : Gap). is_chain_marked (set ended new.from_chain true) g.from_chain ≡ true) taken new
+          (All-weaker (λ (g : Gap). is_chain_marked ended g.from_chain ≡ true) (λ (g : Gap). is_chain_marked (set ended new.from_chain true) g.from_chain ≡ true) (λ g m. still_gone ended new.from_chain g.from_chain m) taken so_far.ends)
           (get_or-set_same ended new.from_chain true true from_in);
-      starts = All-push (λ (g : Gap). is_marked (set started new.to_chain true) g.to_chain ≡ true) taken new
-          (All-weaker (λ (g : Gap). is_marked started g.to_chain ≡ true) (λ (g : Gap). is_marked (set started new.to_chain true) g.to_chain ≡ true) (λ g m. still_gone started new.to_chain g.to_chain m) taken so_far.starts)
+      starts = All-push (λ (g : Gap). is_chain_marked (set started new.to_chain true) g.to_chain ≡ true) taken new
+          (All-weaker (λ (g : Gap). is_chain_marked started g.to_chain ≡ true) (λ (g : Gap). is_chain_marked (set started new.to_chain true) g.to_chain ≡ true) (λ g m. still_gone started new.to_chain g.to_chain m) taken so_far.starts)
           (get_or-set_same started new.to_chain true true to_in);
       apart = All-push (IsFree gap_cmp (taken ++ new ∷ [])) taken new
           (λ k d h. old_free (get_or taken k d) (Contains-get_or taken k d h) (so_far.apart k d h))
           new_free;
-      settled = λ g p m free. by_marks g p m free (is_marked ended g.from_chain) (is_marked started g.to_chain) refl refl;
+      settled = λ g p m free. by_marks g p m free (is_chain_marked ended g.from_chain) (is_chain_marked started g.to_chain) refl refl;
     }
 
 -- ---- the first pair, and the last
 
-pub none_taken : (P : Gap → Type 0) (ended started : List Bool) → ((g : Gap) → P g → (is_marked ended g.from_chain ≡ false) × (is_marked started g.to_chain ≡ false)) → AreTakenSoFar P ended started []
+pub none_taken : (P : Gap → Type 0) (ended started : List Bool) → ((g : Gap) → P g → (is_chain_marked ended g.from_chain ≡ false) × (is_chain_marked started g.to_chain ≡ false)) → AreTakenSoFar P ended started []
 none_taken P ended started free = record {
   near = All-nil P;
-  ends = All-nil (λ (g : Gap). is_marked ended g.from_chain ≡ true);
-  starts = All-nil (λ (g : Gap). is_marked started g.to_chain ≡ true);
+  ends = All-nil (λ (g : Gap). is_chain_marked ended g.from_chain ≡ true);
+  starts = All-nil (λ (g : Gap). is_chain_marked started g.to_chain ≡ true);
   apart = All-nil (IsFree gap_cmp []);
   settled = λ g p m f. let u = free g p in absurd (⊎_elim (λ t. false≢true (sym u.0 ∙ t)) (λ t. false≢true (sym u.1 ∙ t)) m);
 }
@@ -145,7 +145,8 @@ none_taken P ended started free = record {
 pub free_alike : (xs ys : List Gap) (g : Gap) → ((h : Gap) → Contains ys h → Contains xs h) → IsFree gap_cmp xs g → IsFree gap_cmp ys g
 free_alike xs ys g same free k d h = All-contains (λ y. gap_cmp y g ≡ Less → (y.from_chain ≢ g.from_chain) × (y.to_chain ≢ g.to_chain)) xs (get_or ys k d) free (same (get_or ys k d) (Contains-get_or ys k d h))
 
-pub all_settled : (P : Gap → Type 0) (ended started : List Bool) (taken gaps : List Gap) → AreTakenSoFar P ended started taken → ((g : Gap) → P g → is_marked ended g.from_chain ≡ true) → ((g : Gap) → Contains gaps g → Contains taken g) → ((g : Gap) → Contains taken g → Contains gaps g) → (g : Gap) → (Contains gaps g → P g × IsFree gap_cmp gaps g) × (P g × IsFree gap_cmp gaps g → Contains gaps g)
-all_settled P ended started taken gaps so_far marked into out g =
-    ((λ c. (All-contains P taken g so_far.near (into g c), free_alike taken gaps g into (All-contains (IsFree gap_cmp taken) taken g so_far.apart (into g c)))),
-    (λ p. out g (so_far.settled g p.0 (inl (marked g p.0)) (free_alike gaps taken g out p.1))))
+pub all_settled : (P : Gap → Type 0) (ended started : List Bool) (taken gaps : List Gap) → AreTakenSoFar P ended started taken → ((g : Gap) → P g → is_chain_marked ended g.from_chain ≡ true) → ((g : Gap) → Contains gaps g → Contains taken g) → ((g : Gap) → Contains taken g → Contains gaps g) → (g : Gap) → (Contains gaps g → P g × IsFree gap_cmp gaps g) × (P g × IsFree gap_cmp gaps g → Contains gaps g)
+all_settled P ended started taken gaps so_far marked into out g = (
+  (λ c. (All-contains P taken g so_far.near (into g c), free_alike taken gaps g into (All-contains (IsFree gap_cmp taken) taken g so_far.apart (into g c)))),
+  (λ p. out g (so_far.settled g p.0 (inl (marked g p.0)) (free_alike gaps taken g out p.1))),
+)

@@ -1,15 +1,12 @@
 -- The nearest of several sites, from the nearest of some and of the others.
 use Rattle.std.proofs.Common.{◌≡◌, ◌⊎◌, inl, inr, ◌+◌, ◌*◌, ◌<◌, ◌≤◌, ℕ, Bool, true, false, List, refl, sym, subst, arith, ⊎_elim}
-use Rattle.std.proofs.Math.Nat.{le_refl, le_trans}
+use Rattle.std.proofs.Math.Nat.{le_trans}
 use Rattle.osm_lattice.specs.declared.loc.Loc.{Loc}
 use Rattle.coast_join.specs.declared.sites.Near.{Near}
 use Rattle.coast_join.specs.declared.sites.Site.{Site}
 use Rattle.coast_join.specs.Sites.{IsFreeNear, IsNearestSite, is_gone, near_of, nearness_from}
 
 module _ (gone : List Bool) (p : Loc) where
-  pub none_nearer : (P : Site → Type 0) (best : Near) → ((s : Site) → P s → is_gone gone s ≡ false → near_of best ≤ nearness_from p s) → IsNearestSite P gone p best best
-  none_nearer P best h = record { within = le_refl (near_of best); least = h; origin = inl refl }
-
   stands_too : (P Q : Site → Type 0) (near : Near) → ((s : Site) → P s → Q s) → IsFreeNear P gone p near → IsFreeNear Q gone p near
   stands_too P Q near h f = record { stands = h near.site f.stands; free = f.free; square = f.square }
 
@@ -21,11 +18,4 @@ module _ (gone : List Bool) (p : Loc) where
         (λ e. subst (λ n. (n ≡ best) ⊎ IsFreeNear R gone p n) (sym e) (⊎_elim (λ d. inl d) (λ f. inr (stands_too P R mid pr f)) a.origin))
         (λ f. inr (stands_too Q R near qr f))
         b.origin;
-  }
-
-  pub nearest_same : (P Q : Site → Type 0) (best near : Near) → ((s : Site) → P s → Q s) → ((s : Site) → Q s → P s) → IsNearestSite P gone p best near → IsNearestSite Q gone p best near
-  nearest_same P Q best near pq qp a = record {
-    within = a.within;
-    least = λ s q f. a.least s (qp s q) f;
-    origin = ⊎_elim (λ d. inl d) (λ f. inr (stands_too P Q near pq f)) a.origin;
   }

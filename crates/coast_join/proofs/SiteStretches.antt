@@ -1,6 +1,5 @@
 -- The sites of a stretch of a list, and what the nodes of a tree tell of them.
 use Rattle.std.proofs.Common.{◌≡◌, ◌⊎◌, inl, inr, ℕ, suc, ◌+◌, ◌*◌, ◌-◌, ◌<◌, ◌≤◌, Bool, true, false, List, length, drop, take, get_or, set, All, refl, sym, ap, subst, ◌∙◌, arith, ⊎_elim}
-use Rattle.std.proofs.Math.Nat.{le_trans}
 use Rattle.std.proofs.lemmas.Bool.{cases_eq, cases_lt, false≢true}
 use Rattle.std.proofs.lemmas.List.{get_or_default, get_or-drop, get_or-take, get_or-set_other, get_or-set_same, get_or_past, length-drop, length-set, length-take-le}
 use Rattle.std.proofs.lemmas.List.Elements.{All-weaker}
@@ -9,64 +8,35 @@ use Rattle.coast_join.specs.declared.site_tree.SiteNode.{SiteNode}
 use Rattle.coast_join.specs.declared.site_tree.Stretch.{Stretch}
 use Rattle.coast_join.specs.declared.sites.Near.{Near}
 use Rattle.coast_join.specs.declared.sites.Site.{Site}
-use Rattle.coast_join.specs.Closings.{square_between}
 use Rattle.coast_join.specs.Sites.{IsNearestSite, is_gone, near_of, nearness, nearness_from}
-use Rattle.coast_join.specs.SiteTrees.{AreGoneIn, IsInBounds, IsIn, IsParted, IsRightNode, Stands}
-use Rattle.coast_join.proofs.NearestSites.{nearest_joined, none_nearer}
+use Rattle.coast_join.specs.SiteTrees.{AreGoneIn, IsInBounds, IsPlaceOf, AreHalves, IsRightNode, Stands}
+use Rattle.coast_join.proofs.NearestSites.{nearest_joined}
 
 -- ---- where sites stand
 
-pub stands_in : (sites : List Site) (a b : Stretch) (s : Site) → ((k : ℕ) → IsIn k a → IsIn k b) → Stands sites a s → Stands sites b s
+pub stands_in : (sites : List Site) (a b : Stretch) (s : Site) → ((k : ℕ) → IsPlaceOf k a → IsPlaceOf k b) → Stands sites a s → Stands sites b s
 stands_in sites a b s h st = let i = h st.place (st.from, st.before) in record { place = st.place; from = i.0; before = i.1; is = st.is }
 
-pub stands_parted : (sites : List Site) (whole a b : Stretch) → IsParted whole a b → (s : Site) → Stands sites whole s → Stands sites a s ⊎ Stands sites b s
+pub stands_parted : (sites : List Site) (whole a b : Stretch) → AreHalves whole a b → (s : Site) → Stands sites whole s → Stands sites a s ⊎ Stands sites b s
 stands_parted sites whole a b parted s st = ⊎_elim
     (λ i. inl (record { place = st.place; from = i.0; before = i.1; is = st.is }))
     (λ i. inr (record { place = st.place; from = i.0; before = i.1; is = st.is }))
     (parted.all st.place (st.from, st.before))
 
-pub nearest_parted : (sites : List Site) (gone : List Bool) (p : Loc) (whole a b : Stretch) (best mid near : Near) → IsParted whole a b → IsNearestSite (Stands sites a) gone p best mid → IsNearestSite (Stands sites b) gone p mid near → IsNearestSite (Stands sites whole) gone p best near
+pub nearest_parted : (sites : List Site) (gone : List Bool) (p : Loc) (whole a b : Stretch) (best mid near : Near) → AreHalves whole a b → IsNearestSite (Stands sites a) gone p best mid → IsNearestSite (Stands sites b) gone p mid near → IsNearestSite (Stands sites whole) gone p best near
 nearest_parted sites gone p whole a b best mid near parted x y = nearest_joined gone p (Stands sites a) (Stands sites b) (Stands sites whole) best mid near
     (λ s st. stands_in sites a whole s parted.first_in st)
     (λ s st. stands_in sites b whole s parted.second_in st)
     (stands_parted sites whole a b parted) x y
-
--- a stretch of no places
-pub none_stands : (sites : List Site) (stretch : Stretch) (s : Site) → stretch.end ≤ stretch.first → Stands sites stretch s → ⊥
-none_stands sites stretch s h st = let a = st.from in let b = st.before in absurd (omega arith)
-
--- a stretch of one place
-pub one_stands : (sites : List Site) (stretch : Stretch) (here s : Site) → stretch.end ≤ stretch.first + 1 → stretch.end ≤ length sites → here ≡ get_or sites stretch.first here → Stands sites stretch s → s ≡ here
-one_stands sites stretch here s h l e st =
-    let a = st.from in
-    let b = st.before in
-    let same : st.place ≡ stretch.first = omega arith in
-    sym st.is ∙ (ap (λ k. get_or sites k s) same ∙ (get_or_default sites stretch.first s here (omega arith) ∙ sym e))
-
-pub first_stands : (sites : List Site) (stretch : Stretch) (here : Site) → stretch.first < stretch.end → here ≡ get_or sites stretch.first here → Stands sites stretch here
-first_stands sites stretch here h e = record { place = stretch.first; from = omega arith; before = h; is = sym e }
-
--- ---- by bounds
-
-pub nearness_up : (square least other chain : ℕ) → square ≤ other → least ≤ chain → nearness square least ≤ nearness other chain
-nearness_up square least other chain a b = omega arith
-
-pub farther : (sites : List Site) (gone : List Bool) (node : SiteNode) (p : Loc) (square : ℕ) (best : Near) → ((s : Site) → IsInBounds node.bounds s → square ≤ square_between p s.at) → near_of best ≤ nearness square node.bounds.least → IsRightNode sites gone node → IsNearestSite (Stands sites node.stretch) gone p best best
-farther sites gone node p square best to far right = none_nearer gone p (Stands sites node.stretch) best (λ s st f.
-    let b = right.bounds s st in
-    le_trans far (nearness_up square node.bounds.least (square_between p s.at) s.chain (to s b) b.least))
-
-pub all_spent : (sites : List Site) (gone : List Bool) (node : SiteNode) (p : Loc) (best : Near) → node.spent ≡ true → IsRightNode sites gone node → IsNearestSite (Stands sites node.stretch) gone p best best
-all_spent sites gone node p best spent right = none_nearer gone p (Stands sites node.stretch) best (λ s st f. absurd (false≢true (sym f ∙ right.spent spent s st)))
 
 -- ---- one more chain is marked
 
 pub still_gone : (gone : List Bool) (chain : ℕ) (c : ℕ) → get_or gone c true ≡ true → get_or (set gone chain true) c true ≡ true
 still_gone gone chain c h = ⊎_elim
     (λ e. ⊎_elim
-        (λ l. ap (λ k. get_or (set gone chain true) k true) e ∙ get_or-set_same gone chain true true l)
-        (λ l. let n = length-set gone chain true in get_or_past (set gone chain true) c true (omega arith))
-        (cases_lt chain (length gone)))
+    (λ l. ap (λ k. get_or (set gone chain true) k true) e ∙ get_or-set_same gone chain true true l)
+    (λ l. let n = length-set gone chain true in get_or_past (set gone chain true) c true (omega arith))
+    (cases_lt chain (length gone)))
     (λ ne. get_or-set_other gone chain c true true ne ∙ h)
     (cases_eq c chain)
 
@@ -81,7 +51,7 @@ all_right_still sites gone chain nodes right = All-weaker (IsRightNode sites gon
 
 -- ---- both halves are marked
 
-pub gone_parted : (sites : List Site) (gone : List Bool) (whole a b : Stretch) → IsParted whole a b → AreGoneIn sites gone a → AreGoneIn sites gone b → AreGoneIn sites gone whole
+pub gone_parted : (sites : List Site) (gone : List Bool) (whole a b : Stretch) → AreHalves whole a b → AreGoneIn sites gone a → AreGoneIn sites gone b → AreGoneIn sites gone whole
 gone_parted sites gone whole a b parted x y s st = ⊎_elim (λ l. x s l) (λ l. y s l) (stands_parted sites whole a b parted s st)
 
 pub same_stretch : (a b : Stretch) → a.first ≡ b.first → a.end ≡ b.end → a ≡ b
@@ -90,18 +60,11 @@ same_stretch a b f e =
     let two : ◌≡◌ {A = Stretch} (record { first = b.first; end = a.end }) b = ap (λ n. record { first = b.first; end = n }) e in
     one ∙ two
 
-pub spent_node : (sites : List Site) (gone : List Bool) (node : SiteNode) (stretch a b : Stretch) → IsRightNode sites gone node → node.stretch.first ≡ stretch.first → node.stretch.end ≡ stretch.end → IsParted stretch a b → AreGoneIn sites gone a → AreGoneIn sites gone b → IsRightNode sites gone (record { stretch = node.stretch; bounds = node.bounds; spent = true })
+pub spent_node : (sites : List Site) (gone : List Bool) (node : SiteNode) (stretch a b : Stretch) → IsRightNode sites gone node → node.stretch.first ≡ stretch.first → node.stretch.end ≡ stretch.end → AreHalves stretch a b → AreGoneIn sites gone a → AreGoneIn sites gone b → IsRightNode sites gone (record { stretch = node.stretch; bounds = node.bounds; spent = true })
 spent_node sites gone node stretch a b right f e parted x y = record {
   bounds = right.bounds;
   spent = λ _. subst (AreGoneIn sites gone) (sym (same_stretch node.stretch stretch f e)) (gone_parted sites gone stretch a b parted x y);
 }
-
--- the same for a stretch that is told by its ends
-pub farther_there : (sites : List Site) (gone : List Bool) (node : SiteNode) (stretch : Stretch) (p : Loc) (square : ℕ) (best : Near) → node.stretch.first ≡ stretch.first → node.stretch.end ≡ stretch.end → ((s : Site) → IsInBounds node.bounds s → square ≤ square_between p s.at) → near_of best ≤ nearness square node.bounds.least → IsRightNode sites gone node → IsNearestSite (Stands sites stretch) gone p best best
-farther_there sites gone node stretch p square best f e to far right = subst (λ t. IsNearestSite (Stands sites t) gone p best best) (same_stretch node.stretch stretch f e) (farther sites gone node p square best to far right)
-
-pub spent_there : (sites : List Site) (gone : List Bool) (node : SiteNode) (stretch : Stretch) (p : Loc) (best : Near) → node.stretch.first ≡ stretch.first → node.stretch.end ≡ stretch.end → node.spent ≡ true → IsRightNode sites gone node → IsNearestSite (Stands sites stretch) gone p best best
-spent_there sites gone node stretch p best f e spent right = subst (λ t. IsNearestSite (Stands sites t) gone p best best) (same_stretch node.stretch stretch f e) (all_spent sites gone node p best spent right)
 
 -- what holds of each item of a part of the list
 pub slice_has : (P : Site → Type 0) (sites : List Site) (stretch : Stretch) → stretch.first ≤ stretch.end → stretch.end ≤ length sites → All P (take (stretch.end - stretch.first) (drop stretch.first sites)) → (s : Site) → Stands sites stretch s → P s

@@ -40,8 +40,8 @@ pub record IsMutual (ends starts : SiteTree) (m : Match) : Type 0 where
   pub choice : IsChoice ends starts m
   pub back : (s : Site) → Contains ends.sites.items s → is_gone ends.gone.items s ≡ false → weight m ≤ nearness_from m.to.site.at s
 
-abbrev pub is_marked : List Bool → ℕ → Bool
-is_marked marks chain = slice_index_or marks chain true
+abbrev pub is_chain_marked : List Bool → ℕ → Bool
+is_chain_marked marks chain = slice_index_or marks chain true
 
 -- the start that is the nearest to a location, and nearer than the limit
 pub record IsNearestStart (starts : SiteTree) (limit : ℕ) (p : Loc) (near : Near) : Type 0 where
@@ -67,10 +67,10 @@ pub record IsNearPair (limit : ℕ) (ends starts : List Site) (g : Gap) : Type 0
 -- of the pairs of which the end or the start is marked, those are taken that are free of lesser ones that are taken
 pub record AreTakenSoFar (P : Gap → Type 0) (ended started : List Bool) (taken : List Gap) : Type 0 where
   pub near : All P taken
-  pub ends : All (λ g. is_marked ended g.from_chain ≡ true) taken
-  pub starts : All (λ g. is_marked started g.to_chain ≡ true) taken
+  pub ends : All (λ g. is_chain_marked ended g.from_chain ≡ true) taken
+  pub starts : All (λ g. is_chain_marked started g.to_chain ≡ true) taken
   pub apart : All (IsFree gap_cmp taken) taken
-  pub settled : (g : Gap) → P g → (is_marked ended g.from_chain ≡ true) ⊎ (is_marked started g.to_chain ≡ true) → IsFree gap_cmp taken g → Contains taken g
+  pub settled : (g : Gap) → P g → (is_chain_marked ended g.from_chain ≡ true) ⊎ (is_chain_marked started g.to_chain ≡ true) → IsFree gap_cmp taken g → Contains taken g
 
 -- one site of each chain, whose place is below 2 ^ 64
 pub record AreSites (sites : List Site) : Type 0 where
@@ -90,7 +90,7 @@ pub record HasMatched (limit : ℕ) (m : Matching) : Type 0 where
 pub record IsFurther (old new : Matching) : Type 0 where
   pub ends : new.ends.sites.items ≡ old.ends.sites.items
   pub starts : new.starts.sites.items ≡ old.starts.sites.items
-  pub marked : (chain : ℕ) → is_marked old.ends.gone.items chain ≡ true → is_marked new.ends.gone.items chain ≡ true
+  pub marked : (chain : ℕ) → is_chain_marked old.ends.gone.items chain ≡ true → is_chain_marked new.ends.gone.items chain ≡ true
 
 abbrev pub unmarked : Matching → ℕ
 unmarked m = count_by not m.ends.gone.items

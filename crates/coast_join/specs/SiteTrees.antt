@@ -36,14 +36,14 @@ pub record IsSiteTree (tree : SiteTree) : Type 0 where
   pub right : All (IsRightNode tree.sites.items tree.gone.items) tree.nodes.items
 
 -- a place of the one stretch is a place of the other
-abbrev pub IsIn : ℕ → Stretch → Type 0
-IsIn k s = (s.first ≤ k) × (k < s.end)
+abbrev pub IsPlaceOf : ℕ → Stretch → Type 0
+IsPlaceOf k s = (s.first ≤ k) × (k < s.end)
 
 -- a stretch has the places of two shorter ones
-pub record IsParted (whole one other : Stretch) : Type 0 where
-  pub all : (k : ℕ) → IsIn k whole → IsIn k one ⊎ IsIn k other
-  pub first_in : (k : ℕ) → IsIn k one → IsIn k whole
-  pub second_in : (k : ℕ) → IsIn k other → IsIn k whole
+pub record AreHalves (whole one other : Stretch) : Type 0 where
+  pub all : (k : ℕ) → IsPlaceOf k whole → IsPlaceOf k one ⊎ IsPlaceOf k other
+  pub first_in : (k : ℕ) → IsPlaceOf k one → IsPlaceOf k whole
+  pub second_in : (k : ℕ) → IsPlaceOf k other → IsPlaceOf k whole
   pub first_end : one.end ≤ whole.end
   pub second_end : other.end ≤ whole.end
   pub first_less : one.end - one.first < whole.end - whole.first

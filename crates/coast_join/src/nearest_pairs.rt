@@ -228,11 +228,7 @@ fn start_sites(alloc: Global, ends: &[OpenEnds]) -> Result<Vec<Site>, OutOfMemor
 }
 
 /// The ends and starts of chains, of which none is taken.
-fn matching_of(
-    alloc: Global,
-    ends: &[OpenEnds],
-    chains: usize,
-) -> Result<Matching, OutOfMemory>
+fn matching_of(alloc: Global, ends: &[OpenEnds], chains: usize) -> Result<Matching, OutOfMemory>
     requires inside { All (λ (e : OpenEnds). e.chain < chains) ends.now }
     requires rising { AllPairs (λ (e f : OpenEnds). e.chain < f.chain) ends.now }
     ensures matched { IfOk result (λ m. (limit : ℕ) → HasMatched limit m) }
@@ -251,11 +247,7 @@ fn matching_of(
 }
 
 /// The pairs that are taken, in order.
-fn matched_gaps(
-    alloc: Global,
-    limit: u32,
-    matching: &mut Matching,
-) -> Result<Gaps, OutOfMemory>
+fn matched_gaps(alloc: Global, limit: u32, matching: &mut Matching) -> Result<Gaps, OutOfMemory>
     requires { HasMatched limit matching.old }
     ensures rising { IfOk result (λ v. IsRising gap_cmp v) }
     ensures exact { IfOk result (λ v. (g : Gap) → Contains v g

@@ -7,7 +7,7 @@
 ghost use Rattle.std.specs.Prelude.{◌≡◌, ◌+◌, ◌<◌, ◌≤◌, All, Bool, Contains, List, length, slice_set, true, false};
 ghost use Rattle.coast_join.specs.declared.sites.Site.{Site};
 ghost use Rattle.coast_join.specs.Sites.{IsNearestSite, is_gone};
-ghost use Rattle.coast_join.specs.SiteTrees.{AreGoneIn, IsParted, IsRightNode, IsSiteTree, Stands};
+ghost use Rattle.coast_join.specs.SiteTrees.{AreGoneIn, AreHalves, IsRightNode, IsSiteTree, Stands};
 
 use crate::bounds::{Bounds, square_to};
 use crate::sites::{Near, Site, is_gone, is_nearer, nearer};
@@ -58,7 +58,7 @@ pub(crate) fn middle_of(stretch: Stretch) -> usize
 fn halves(stretch: Stretch, middle: usize, second_first: bool) -> (Stretch, Stretch)
     requires first { stretch.first < middle }
     requires end { middle < stretch.end }
-    ensures { IsParted stretch result.0 result.1 }
+    ensures { AreHalves stretch result.0 result.1 }
 {
     let first = Stretch {
         first: stretch.first,
@@ -117,7 +117,7 @@ fn nearer_half_first(
 ) -> (Stretch, Stretch)
     requires first { stretch.first < middle }
     requires end { middle < stretch.end }
-    ensures { IsParted stretch result.0 result.1 }
+    ensures { AreHalves stretch result.0 result.1 }
 {
     let (first, second) = halves(stretch, middle, false);
     let second_first = square_to_stretch(nodes, second, at) < square_to_stretch(nodes, first, at);
