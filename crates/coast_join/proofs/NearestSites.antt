@@ -1,10 +1,10 @@
 -- The nearest of several sites, from the nearest of some and of the others.
-use Rattle.std.proofs.Common.{◌≡◌, ◌⊎◌, inl, inr, ◌+◌, ◌*◌, ◌<◌, ◌≤◌, ℕ, Bool, true, false, List, refl, sym, subst, arith, ⊎_elim}
+use Rattle.std.proofs.Common.{◌≡◌, ◌⊎◌, inl, inr, Bool, List, sym, subst, ⊎_elim}
 use Rattle.std.proofs.Math.Nat.{le_trans}
 use Rattle.osm_lattice.specs.declared.loc.Loc.{Loc}
 use Rattle.coast_join.specs.declared.sites.Near.{Near}
 use Rattle.coast_join.specs.declared.sites.Site.{Site}
-use Rattle.coast_join.specs.Sites.{IsFreeNear, IsNearestSite, is_gone, near_of, nearness_from}
+use Rattle.coast_join.specs.Sites.{IsFreeNear, IsNearestSite}
 
 module _ (gone : List Bool) (p : Loc) where
   stands_too : (P Q : Site → Type 0) (near : Near) → ((s : Site) → P s → Q s) → IsFreeNear P gone p near → IsFreeNear Q gone p near

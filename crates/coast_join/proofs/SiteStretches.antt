@@ -1,15 +1,15 @@
 -- The sites of a stretch of a list, and what the nodes of a tree tell of them.
-use Rattle.std.proofs.Common.{◌≡◌, ◌⊎◌, inl, inr, ℕ, suc, ◌+◌, ◌*◌, ◌-◌, ◌<◌, ◌≤◌, Bool, true, false, List, length, drop, take, get_or, set, All, refl, sym, ap, subst, ◌∙◌, arith, ⊎_elim}
-use Rattle.std.proofs.lemmas.Bool.{cases_eq, cases_lt, false≢true}
-use Rattle.std.proofs.lemmas.List.{get_or_default, get_or-drop, get_or-take, get_or-set_other, get_or-set_same, get_or_past, length-drop, length-set, length-take-le}
+use Rattle.std.proofs.Common.{◌≡◌, ◌⊎◌, inl, inr, ℕ, ◌+◌, ◌-◌, ◌≤◌, Bool, true, List, length, drop, take, get_or, set, All, sym, ap, subst, ◌∙◌, arith, ⊎_elim}
+use Rattle.std.proofs.lemmas.Bool.{cases_eq, cases_lt}
+use Rattle.std.proofs.lemmas.List.{get_or-drop, get_or-take, get_or-set_other, get_or-set_same, get_or_past, length-drop, length-set, length-take-le}
 use Rattle.std.proofs.lemmas.List.Elements.{All-weaker}
 use Rattle.osm_lattice.specs.declared.loc.Loc.{Loc}
 use Rattle.coast_join.specs.declared.site_tree.SiteNode.{SiteNode}
 use Rattle.coast_join.specs.declared.site_tree.Stretch.{Stretch}
 use Rattle.coast_join.specs.declared.sites.Near.{Near}
 use Rattle.coast_join.specs.declared.sites.Site.{Site}
-use Rattle.coast_join.specs.Sites.{IsNearestSite, is_gone, near_of, nearness, nearness_from}
-use Rattle.coast_join.specs.SiteTrees.{AreGoneIn, IsInBounds, IsPlaceOf, AreHalves, IsRightNode, Stands}
+use Rattle.coast_join.specs.Sites.{IsNearestSite}
+use Rattle.coast_join.specs.SiteTrees.{AreGoneIn, IsPlaceOf, AreHalves, IsRightNode, Stands}
 use Rattle.coast_join.proofs.NearestSites.{nearest_joined}
 
 -- ---- where sites stand

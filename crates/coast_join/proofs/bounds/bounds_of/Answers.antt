@@ -1,5 +1,5 @@
 -- One more site, in wider bounds.
-use Rattle.std.proofs.Common.{◌+◌, take, subst}
+use Rattle.std.proofs.Common.{take, subst}
 use Rattle.std.proofs.lemmas.List.Elements.{All-more, All-weaker}
 use Rattle.coast_join.specs.SiteTrees.{IsInBounds}
 use Rattle.coast_join.proofs.bounds.bounds_of.Goals as goal

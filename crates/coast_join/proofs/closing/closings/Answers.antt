@@ -1,5 +1,5 @@
 -- The near pairs that are taken, told by names.
-use Rattle.std.proofs.Common.{◌≡◌, ◌<◌, All, AllPairs, List, length, sym, subst, ◌∙◌}
+use Rattle.std.proofs.Common.{◌<◌, All, AllPairs, List, length, sym, subst, ◌∙◌}
 use Rattle.std.proofs.lemmas.List.{length-map}
 use Rattle.coast_join.specs.declared.chain.Chain.{Chain}
 use Rattle.coast_join.specs.declared.closing.OpenEnds.{OpenEnds}

@@ -1,5 +1,5 @@
 -- Nothing is taken at first.
-use Rattle.std.proofs.Common.{map, List, subst, arith}
+use Rattle.std.proofs.Common.{List, subst, arith}
 use Rattle.std.specs.List.Sorted.{IsPermutation}
 use Rattle.coast_join.specs.declared.nearest_pairs.Matching.{Matching}
 use Rattle.coast_join.specs.declared.sites.Site.{Site}

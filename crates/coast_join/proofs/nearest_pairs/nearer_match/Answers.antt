@@ -1,5 +1,4 @@
 -- The end that is nearer, and its start.
-use Rattle.std.proofs.Common.{◌≡◌, ℕ}
 use Rattle.coast_join.proofs.MatchedPairs.{next_choice}
 use Rattle.coast_join.proofs.nearest_pairs.nearer_match.Goals as goal
 use Rattle.coast_join.proofs.nearest_pairs.nearer_match.Goals.{else-back-to-via-then-back-to+else-back-pair, else-back-to-via-else-back-to}

@@ -1,5 +1,4 @@
 -- What holds of each site of a part of the list holds of those that stand in its stretch.
-use Rattle.std.proofs.Common.{false, true}
 use Rattle.std.proofs.lemmas.Bool.{false≢true}
 use Rattle.coast_join.specs.SiteTrees.{IsInBounds}
 use Rattle.coast_join.proofs.SiteStretches.{slice_has}

@@ -1,4 +1,3 @@
-use Rattle.std.proofs.Common.{◌≡◌, set, true, sym, subst}
 use Rattle.coast_join.proofs.SiteStretches.{all_right_still}
 use Rattle.coast_join.proofs.site_tree.mark.Goals as goal
 
