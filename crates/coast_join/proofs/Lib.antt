@@ -9,7 +9,10 @@ mod OneTaken
 mod Rounding
 mod Sorting
 pub mod Stepping
-mod Slants
+mod NearestSites
+mod SiteStretches
+mod MutualPairs
+mod MatchedPairs
 mod NameOrder
 mod Parts
 mod ClosedEnds

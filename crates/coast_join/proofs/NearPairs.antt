@@ -6,7 +6,6 @@ use Rattle.std.specs.Ordering.{is_eq, nat_cmp, ordering_then}
 use Rattle.std.specs.List.{enumerate_from, filter_map}
 use Rattle.std.proofs.lemmas.Bool.{false≢true}
 use Rattle.std.proofs.lemmas.Cmp.{tied_itself, ranked}
-use Rattle.std.proofs.lemmas.List.Elements.{All-contains, Contains-get_or}
 use Rattle.std.proofs.lemmas.List.Sums.{sum_by-cons}
 use Rattle.std.proofs.lemmas.Option.{same_Some}
 use Rattle.lists.specs.Rising.{count_of}
@@ -23,7 +22,7 @@ use Rattle.lists.proofs.ListsKit.{min_some, some_min}
 
 -- ---- a pair stands in a list where it counts
 
-same_gap : (a b : Gap) → a.square ≡ b.square → a.from_chain ≡ b.from_chain → a.to_chain ≡ b.to_chain → a ≡ b
+pub same_gap : (a b : Gap) → a.square ≡ b.square → a.from_chain ≡ b.from_chain → a.to_chain ≡ b.to_chain → a ≡ b
 same_gap a b s f t =
     let one : a ≡ record { square = b.square; from_chain = a.from_chain; to_chain = a.to_chain } = ap (λ n. record { square = n; from_chain = a.from_chain; to_chain = a.to_chain }) s in
     let two : ◌≡◌ {A = Gap} (record { square = b.square; from_chain = a.from_chain; to_chain = a.to_chain }) (record { square = b.square; from_chain = b.from_chain; to_chain = a.to_chain }) = ap (λ n. record { square = b.square; from_chain = n; to_chain = a.to_chain }) f in
@@ -73,7 +72,7 @@ module _ (ps ds : List Gap) (once : (g : Gap) → count_of gap_cmp g ds ≡ min 
   pub once_in : (g : Gap) → Contains ds g → Contains ps g
   once_in g (k, h, e) = stands g ps (min_some _ _ (once g) (counted g ds k h e))
 
-  once_out : (g : Gap) → Contains ps g → Contains ds g
+  pub once_out : (g : Gap) → Contains ps g → Contains ds g
   once_out g (k, h, e) = stands g ds (some_min _ _ (once g) (counted g ps k h e))
 
   pub taken_once : (taken : List Gap) → AreTaken gap_cmp ds taken → AreTaken gap_cmp ps taken
@@ -81,9 +80,6 @@ module _ (ps ds : List Gap) (once : (g : Gap) → count_of gap_cmp g ds ≡ min 
     rising = are.rising;
     exact = λ g. ((λ c. let w = (are.exact g).0 c in (once_in g w.0, w.1)), (λ p. (are.exact g).1 (once_out g p.0, p.1)));
   }
-
-  pub All-once : (P : Gap → Type 0) → All P ps → All P ds
-  All-once P all k d h = All-contains P ps (get_or ds k d) all (once_in (get_or ds k d) (Contains-get_or ds k d h))
 
 -- ---- which chains near pairs name
 

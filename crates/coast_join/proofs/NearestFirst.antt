@@ -1,15 +1,13 @@
 -- The nearest pairs first.
-use Rattle.std.proofs.Common.{◌≡◌, ◌≢◌, ◌⊎◌, inl, inr, ℕ, zero, suc, ◌+◌, ◌<◌, Bool, true, false, not, ◌&&◌, ◌||◌, List, [], ◌∷◌, ◌++◌, length, take, get_or, set, All, Contains, nat_eq, refl, sym, ap, subst, ◌∙◌, arith, ⊎_elim}
+use Rattle.std.proofs.Common.{◌≡◌, ◌≢◌, ◌⊎◌, ℕ, zero, suc, ◌<◌, Bool, true, false, ◌||◌, List, [], ◌∷◌, ◌++◌, length, take, get_or, All, Contains, nat_eq, refl, sym, ap, subst, ◌∙◌, arith, ⊎_elim}
 use Rattle.std.specs.declared.cmp.Ordering.TheVariants.{Less, Equal, Greater}
 use Rattle.std.specs.Cmp.{IsTotalOrder}
 use Rattle.std.specs.List.{list_any}
 use Rattle.std.specs.Ordering.{ordering_reverse}
-use Rattle.std.proofs.Math.Bool.{or-false, or-true}
-use Rattle.std.proofs.lemmas.Bool.{cases_eq, false≢true, eq-eqb, eqb-true}
+use Rattle.std.proofs.lemmas.Bool.{false≢true, eq-eqb, eqb-true}
 use Rattle.std.proofs.lemmas.Cmp.{nat_cmp_total, on_total, then_total, tied_itself}
-use Rattle.std.proofs.lemmas.List.{take_more, get_or-set_same, get_or-set_other, get_or_default, length-set, length-take-le, get_or-take}
+use Rattle.std.proofs.lemmas.List.{get_or_default, length-take-le, get_or-take}
 use Rattle.std.proofs.lemmas.List.Elements.{All-push, All-contains, Contains-push, Contains-push_cases, Contains-append_left, Contains-get_or}
-use Rattle.std.proofs.lemmas.List.Folds.{list_any-append}
 use Rattle.std.proofs.lemmas.List.Quantifiers.{all_pairs_push}
 use Rattle.lists.specs.Rising.{IsRising}
 use Rattle.coast_join.specs.declared.gap.Gap.{Gap}
@@ -24,32 +22,6 @@ not_itself g e = let t = tied_itself gap_cmp_total g in let c : Less ≡ Equal =
 
 pub not_both : (g h : Gap) → gap_cmp g h ≡ Less → gap_cmp h g ≡ Less → ⊥
 not_both g h a b = let t : gap_cmp g h ≡ Greater = gap_cmp_total.antisymm g h ∙ ap ordering_reverse b in let c : Less ≡ Greater = sym a ∙ t in absurd (cc)
-
--- whether a chain's end, or its start, is taken
-abbrev pub AreMarks : (Gap → ℕ) → List Gap → ℕ → List Bool → Type 0
-AreMarks place taken n marks = (length marks ≡ n) × ((c : ℕ) → c < n → get_or marks c false ≡ list_any (λ g. nat_eq (place g) c) taken)
-
-pub marks_none : (place : Gap → ℕ) (n : ℕ) (marks : List Bool) → length marks ≡ n → ((c : ℕ) → c < n → get_or marks c false ≡ false) → AreMarks place [] n marks
-marks_none place n marks sized none = (sized, none)
-
-eq_false : (x y : ℕ) → x ≢ y → nat_eq x y ≡ false
-eq_false x y ne = decide (nat_eq x y) refl
-  where
-    decide : (b : Bool) → nat_eq x y ≡ b → nat_eq x y ≡ false
-    decide true e = absurd (ne (eqb-true x y e))
-    decide false e = e
-
-pub marks_push : (place : Gap → ℕ) (taken : List Gap) (n : ℕ) (marks : List Bool) (g : Gap) → place g < n → AreMarks place taken n marks → AreMarks place (taken ++ g ∷ []) n (set marks (place g) true)
-marks_push place taken n marks g h (sized, is) = (length-set marks (place g) true ∙ sized, here)
-  where
-    split : (c : ℕ) → list_any (λ x. nat_eq (place x) c) (taken ++ g ∷ []) ≡ (list_any (λ x. nat_eq (place x) c) taken || nat_eq (place g) c)
-    split c = list_any-append (λ x. nat_eq (place x) c) taken (g ∷ []) ∙ ap (λ b. list_any (λ x. nat_eq (place x) c) taken || b) (or-false (nat_eq (place g) c))
-
-    here : (c : ℕ) → c < n → get_or (set marks (place g) true) c false ≡ list_any (λ x. nat_eq (place x) c) (taken ++ g ∷ [])
-    here c l = ⊎_elim
-        (λ e. ap (λ k. get_or (set marks (place g) true) k false) e ∙ (get_or-set_same marks (place g) true false (omega arith) ∙ sym (split c ∙ (ap (λ b. list_any (λ x. nat_eq (place x) c) taken || b) (eq-eqb (place g) c (sym e)) ∙ or-true (list_any (λ x. nat_eq (place x) c) taken)))))
-        (λ ne. get_or-set_other marks (place g) c true false ne ∙ (is c l ∙ sym (split c ∙ (ap (λ b. list_any (λ x. nat_eq (place x) c) taken || b) (eq_false (place g) c (λ e. ne (sym e))) ∙ or-false (list_any (λ x. nat_eq (place x) c) taken)))))
-        (cases_eq c (place g))
 
 pub none_marked : (place : Gap → ℕ) (c : ℕ) (taken : List Gap) → list_any (λ g. nat_eq (place g) c) taken ≡ false → All (λ g. place g ≢ c) taken
 none_marked place c [] e k d h = absurd (omega arith)
@@ -67,19 +39,6 @@ some_marked place c (g ∷ gs) e = by (nat_eq (place g) c) refl e (some_marked p
     by : (b : Bool) → nat_eq (place g) c ≡ b → (b || list_any (λ g. nat_eq (place g) c) gs) ≡ true → (list_any (λ g. nat_eq (place g) c) gs ≡ true → (h : Gap) × Contains gs h × (place h ≡ c)) → (h : Gap) × Contains (g ∷ gs) h × (place h ≡ c)
     by true s t later = (g, (0, omega arith, refl), eqb-true (place g) c s)
     by false s t later = let r = later t in (r.0, (suc r.1.0, (let l = r.1.1 in omega arith), r.1.2), r.2)
-
--- how far the choice has come
-pub record AreTakenOf (passed : List Gap) (n : ℕ) (ended started : List Bool) (taken : List Gap) : Type 0 where
-  pub are : AreTaken gap_cmp passed taken
-  pub ends : AreMarks (λ g. g.from_chain) taken n ended
-  pub starts : AreMarks (λ g. g.to_chain) taken n started
-
-pub taken_none : (n : ℕ) (ended started : List Bool) → AreMarks (λ g. g.from_chain) [] n ended → AreMarks (λ g. g.to_chain) [] n started → AreTakenOf [] n ended started []
-taken_none n ended started a b = record {
-  are = record { rising = λ i j d h l. absurd (omega arith); exact = λ g. ((λ c. (c, λ k d h. absurd (omega arith))), λ p. p.0) };
-  ends = a;
-  starts = b;
-}
 
 module _ (passed : List Gap) (g : Gap) (above : All (λ h. gap_cmp h g ≡ Less) passed) (taken : List Gap) (are : AreTaken gap_cmp passed taken) where
   all_passed : (h : Gap) → Contains taken h → Contains passed h
@@ -135,42 +94,3 @@ rising_front pairs i g rising l e k d h =
     let at = get_or-take i pairs k d (omega arith) in
     let here : get_or pairs i d ≡ g = get_or_default pairs i d g l ∙ sym e in
     rw at (subst (λ y. gap_cmp (get_or pairs k d) y ≡ Less) here (rising k i d (omega arith) l))
-
-module _ (pairs : List Gap) (rising : IsRising gap_cmp pairs) (n i : ℕ) (g : Gap) (l : i < length pairs) (e : g ≡ get_or pairs i g) (ended started : List Bool) (taken : List Gap) (so_far : AreTakenOf (take i pairs) n ended started taken) (from_in : g.from_chain < n) (to_in : g.to_chain < n) where
-  more : take (i + 1) pairs ≡ take i pairs ++ g ∷ []
-  more = take_more pairs i g l ∙ ap (λ y. take i pairs ++ y ∷ []) (sym e)
-
-  pub take_step : get_or ended g.from_chain false ≡ false → get_or started g.to_chain false ≡ false → AreTakenOf (take (i + 1) pairs) n (set ended g.from_chain true) (set started g.to_chain true) (taken ++ g ∷ [])
-  take_step a b = record {
-    are = subst (λ xs. AreTaken gap_cmp xs (taken ++ g ∷ [])) (sym more) (choose (take i pairs) g (rising_front pairs i g rising l e) taken so_far.are
-        (none_marked (λ h. h.from_chain) g.from_chain taken (sym (so_far.ends.1 g.from_chain from_in) ∙ a))
-        (none_marked (λ h. h.to_chain) g.to_chain taken (sym (so_far.starts.1 g.to_chain to_in) ∙ b)));
-    ends = marks_push (λ h. h.from_chain) taken n ended g from_in so_far.ends;
-    starts = marks_push (λ h. h.to_chain) taken n started g to_in so_far.starts;
-  }
-
-  pub skip_step : (get_or ended g.from_chain false ≡ true) ⊎ (get_or started g.to_chain false ≡ true) → AreTakenOf (take (i + 1) pairs) n ended started taken
-  skip_step t = record {
-    are = subst (λ xs. AreTaken gap_cmp xs taken) (sym more) (⊎_elim
-        (λ a. let w = some_marked (λ h. h.from_chain) g.from_chain taken (sym (so_far.ends.1 g.from_chain from_in) ∙ a) in skip (take i pairs) g (rising_front pairs i g rising l e) taken so_far.are w.0 w.1 (inl w.2))
-        (λ b. let w = some_marked (λ h. h.to_chain) g.to_chain taken (sym (so_far.starts.1 g.to_chain to_in) ∙ b) in skip (take i pairs) g (rising_front pairs i g rising l e) taken so_far.are w.0 w.1 (inr w.2))
-        t);
-    ends = so_far.ends;
-    starts = so_far.starts;
-  }
-
-free_cases : (a b : Bool) → (not a && not b) ≡ true → (a ≡ false) × (b ≡ false)
-free_cases true b e = absurd (false≢true e)
-free_cases false true e = absurd (false≢true e)
-free_cases false false e = (refl, refl)
-
-touched_cases : (a b : Bool) → (not a && not b) ≡ false → (a ≡ true) ⊎ (b ≡ true)
-touched_cases true b e = inl refl
-touched_cases false true e = inr refl
-touched_cases false false e = absurd (false≢true (sym e))
-
-pub is_free_means : (a b r : Bool) → r ≡ (not a && not b) → r ≡ true → (a ≡ false) × (b ≡ false)
-is_free_means a b r e t = free_cases a b (sym e ∙ t)
-
-pub is_touched_means : (a b r : Bool) → r ≡ (not a && not b) → r ≡ false → (a ≡ true) ⊎ (b ≡ true)
-is_touched_means a b r e t = touched_cases a b (sym e ∙ t)

@@ -10,6 +10,9 @@ pub mod Joined
 pub mod JoinSteps
 pub mod Input
 pub mod GapSteps
+pub mod Sites
+pub mod SiteTrees
+pub mod Matches
 pub mod ChainLaws
 pub mod RingLaws
 pub mod InputLaws

@@ -8,10 +8,8 @@ ghost use Rattle.coast_join.specs.Closings.{AreClosings, is_antarctic, is_open, 
 
 use crate::chain::Chain;
 use crate::gap::{Closings, Indexes};
-use crate::greedy::taken;
 use crate::laws::names_rise;
-use crate::near::near_pairs;
-use lists::distinct_items;
+use crate::nearest_pairs::nearest_pairs;
 use osm_geom::Loc;
 use std::alloc::{AllocError as OutOfMemory, Global};
 
@@ -75,8 +73,8 @@ fn open_ends(alloc: Global, chains: &[Chain]) -> Result<Vec<OpenEnds>, OutOfMemo
 /// Which unclosed chains are closed: each round Antarctica, and of the others the pairs of an end and a start that
 /// are nearer than the limit, the nearest first, each end and start once. The limit is in units of 1e-7 degree.
 ///
-/// It takes time n log n for n chains, and that of the pairs of unclosed chains that are near in slant, a few where
-/// chains lie far apart. The chains are what `chains` gives. The error is want of memory.
+/// It takes about time n log² n and some hundred bytes a chain for n unclosed chains, however many of them end near
+/// each other. The chains are what `chains` gives. Fails only if memory runs out.
 pub fn closings(alloc: Global, chains: &[Chain], limit: u32) -> Result<Closings, OutOfMemory>
     requires { (ways : List CoastWay) × AreChains ways chains.now }
     ensures { IfOk result (λ v. AreClosings chains.now limit v) }
@@ -84,8 +82,6 @@ pub fn closings(alloc: Global, chains: &[Chain], limit: u32) -> Result<Closings,
     names_rise();
     let antarctica = antarctica(alloc, chains)?;
     let ends = open_ends(alloc, chains)?;
-    let pairs = near_pairs(alloc, limit, &ends)?;
-    let pairs = distinct_items(alloc, &pairs)?;
-    let gaps = taken(alloc, &pairs, chains.len())?;
+    let gaps = nearest_pairs(alloc, limit, &ends, chains.len())?;
     Ok(Closings { antarctica, gaps })
 }

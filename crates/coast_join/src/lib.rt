@@ -1,36 +1,39 @@
 //! Coastline ways joined to chains, and gaps between chains closed.
 #![tactic(auto)]
 
+mod bounds;
 mod by_id;
 mod chain;
 mod chaining;
 mod closing;
 mod gap;
-mod greedy;
 mod input;
 mod input_laws;
 mod laws;
 mod links;
-mod near;
+mod nearest_pairs;
 mod regained;
 mod repeated;
 mod ring;
 mod ring_laws;
 mod ring_making;
 mod round;
+mod site_order;
+mod site_tree;
+mod sites;
 mod way;
 
 pub use chain::{Chain, Chains};
 pub use chaining::chains;
 pub use closing::closings;
 pub use gap::{Closings, Gap, Gaps, Indexes};
-pub use greedy::taken_pairs_are_determined;
 pub use input::{CoastInput, coast_input};
 pub use input_laws::coast_ways_exist;
 pub use laws::{
     chains_are_determined, chains_exist, closed_names_are_least, names_rise, unclosed_ends_differ,
     ways_stand_once,
 };
+pub use nearest_pairs::taken_pairs_are_determined;
 pub use regained::closed_rings;
 pub use ring::{CoastRing, CoastRings, Joined};
 pub use ring_laws::{

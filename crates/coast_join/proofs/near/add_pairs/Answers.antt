@@ -1,7 +1,0 @@
-use Rattle.std.proofs.Common.{arith}
-use Rattle.std.proofs.lemmas.Grind.{common_steps}
-use Rattle.std.proofs.lemmas.List.Elements.{filter_map-append}
-use Rattle.coast_join.proofs.near.add_pairs.Goals as goal
-
-pub loop-to-preserved : goal.loop-to-preserved
-loop-to-preserved c = grind (arith, common_steps, filter_map-append)
