@@ -4,7 +4,8 @@ use Rattle.std.proofs.lemmas.List.{drop_more, take_all, take_more}
 use Rattle.std.proofs.lemmas.Result.{IfOk-weaker}
 use Rattle.osm_elements.specs.declared.object.Object.{Object}
 use Rattle.osm_elements.specs.declared.object.ObjectRef.{ObjectRef}
-use Rattle.osm_area.specs.Outcome.{HasAreaExactly, OutcomeExists}
+use Rattle.osm_area.specs.Outcome.{HasAreaExactly, IsAreaOf, OutcomeExists}
+use Rattle.osm_area.specs.Sound.{IsSound}
 use Rattle.osm_nest.specs.declared.polygon.Polygon.{Polygon}
 use Rattle.osm_objects.specs.Candidates.{candidates}
 use Rattle.osm_objects.specs.Objects.{object_at}
@@ -22,27 +23,27 @@ use Rattle.osm_text.specs.Id.{feature_id}
 use Rattle.osm_area.specs.Feature.{feature_tags}
 use Rattle.area_certify.specs.Laws.{FirstWrongLineIsOne, VerdictsExclude}
 use Rattle.area_certify.specs.Lines.{text_lines}
-use Rattle.area_certify.specs.Telling.{IsAreaOf, IsTold, IsVerdict, TellsNextLine}
+use Rattle.area_certify.specs.Telling.{IsTold, IsVerdict, TellsNextLine}
 use Rattle.area_certify.proofs.LineCuts.{some_line}
 use Rattle.area_certify.proofs.RightLines.{IsSeen, area_seen, no_area_seen}
 use Rattle.area_certify.proofs.Verdicts.{is_feature_by, later_areas, line_too_many, stops}
 
-module _ (ids : Option UniqueId) (objects : List Object) (counter : ℕ) (c : ObjectRef) (polygons : List Polygon) (area : IsAreaOf objects c (Some polygons))
+module _ (ids : Option UniqueId) (objects : List Object) (counter : ℕ) (c : ObjectRef) (polygons : List Polygon) (sound : IsSound objects c) (area : IsAreaOf objects c (Some polygons))
     (lines : List (List ℕ)) where
   pub told_lacking : lines ≡ [] → IsTold ids objects counter c lines Wrong
-  told_lacking none = record { tells = (area.0, λ line later is feature. absurd (cc)) }
+  told_lacking none = record { tells = (sound, λ line later is feature. absurd (cc)) }
 
   module _ (one : OutcomeIsOne) (line : List ℕ) (rest : Bor (List ℕ)) (next : lines ≡ line ∷ text_lines rest.now) where
     pub told_right : bytes_eq line (feature_text (feature_id ids counter c) (paths_of polygons) (feature_tags (object_at objects c))) ≡ true →
         IsTold ids objects counter c lines (Right rest)
-    told_right same = record { tells = (area.0, line, (is_feature_by one ids objects counter c polygons area.1 line area.2).0 same, next) }
+    told_right same = record { tells = (sound, line, (is_feature_by one ids objects counter c polygons area.0 line area.1).0 same, next) }
 
     pub told_wrong : bytes_eq line (feature_text (feature_id ids counter c) (paths_of polygons) (feature_tags (object_at objects c))) ≡ false →
         IsTold ids objects counter c lines Wrong
     told_wrong other = record {
       tells = (
-        area.0,
-        λ l later is feature. (is_feature_by one ids objects counter c polygons area.1 line area.2).1 other
+        sound,
+        λ l later is feature. (is_feature_by one ids objects counter c polygons area.0 line area.1).1 other
             (let e : l ≡ line = cc in subst (IsFeature ids objects counter c) e feature),
       );
     }

@@ -113,10 +113,6 @@ sound_by : (exactly : HasAreaExactly) (objects : List Object) (c : ObjectRef) (o
 sound_by exactly objects c (Area polygons notes) right = inl ((exactly objects c (Area polygons notes) right).0 refl)
 sound_by exactly objects c (Problems list notes) right = inr (λ sound. right.1 ((exactly objects c (Problems list notes) right).1 sound))
 
-pub no_area : HasAreaExactly → (objects : List Object) (c : ObjectRef) (list : List Problem) (notes : List Note) →
-    IsOutcome objects c (Problems list notes) → IsSound objects c → ⊥
-no_area exactly objects c list notes right sound = right.1 ((exactly objects c (Problems list notes) right).1 sound)
-
 sound_or_not : OutcomeExists → HasAreaExactly → (objects : List Object) (c : ObjectRef) → IsSound objects c ⊎ (IsSound objects c → ⊥)
 sound_or_not exists exactly objects c = let found = exists objects c in sound_by exactly objects c found.0 found.1
 

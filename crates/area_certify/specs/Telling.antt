@@ -1,12 +1,8 @@
 -- Words of private clauses on what a candidate tells of the lines that are left. No public contract cites it.
-use Rattle.std.specs.Prelude.{◌≡◌, ℕ, List, ◌∷◌, Option, Some, None}
+use Rattle.std.specs.Prelude.{◌≡◌, ℕ, List, ◌∷◌, Option}
 use Rattle.osm_elements.specs.declared.object.Object.{Object}
 use Rattle.osm_elements.specs.declared.object.ObjectRef.{ObjectRef}
-use Rattle.osm_objects.specs.declared.problem.Note.{Note}
-use Rattle.osm_area.specs.declared.outcome.Outcome.TheVariants.{Area}
-use Rattle.osm_area.specs.Outcome.{IsOutcome}
 use Rattle.osm_area.specs.Sound.{IsSound}
-use Rattle.osm_nest.specs.declared.polygon.Polygon.{Polygon}
 use Rattle.osm_objects.specs.declared.area.UniqueId.{UniqueId}
 use Rattle.area_certify.specs.declared.verdict.Verdict.{Verdict}
 use Rattle.area_certify.specs.declared.verdict.Verdict.TheVariants.{Yes, No}
@@ -15,11 +11,6 @@ use Rattle.area_certify.specs.declared.telling.Told.TheVariants.{NoArea, Right, 
 use Rattle.area_certify.specs.Areas.{AreThoseWithAreas}
 use Rattle.area_certify.specs.FirstWrong.{HasNoWrong, IsFeature, IsFirstWrong}
 use Rattle.area_certify.specs.Lines.{text_lines}
-
--- the polygons of the candidate's area; none where it has no area
-abbrev pub IsAreaOf : List Object → ObjectRef → Option (List Polygon) → Type 0
-IsAreaOf objects candidate None = IsSound objects candidate → ⊥
-IsAreaOf objects candidate (Some polygons) = IsSound objects candidate × (notes : List Note) × IsOutcome objects candidate (Area polygons notes)
 
 -- The candidate has no area; or it has one, and the next line is its feature with this counter, or isn't.
 abbrev pub TellsNextLine : Option UniqueId → List Object → ℕ → ObjectRef → List (List ℕ) → Told → Type 0

@@ -4,7 +4,6 @@
 //! candidate has one outcome alone, there is one right line at each place.
 #![tactic(auto)]
 
-mod area;
 mod certifying;
 mod feature;
 mod laws;

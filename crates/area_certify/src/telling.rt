@@ -5,10 +5,9 @@ ghost use Rattle.osm_objects.specs.Objects.{object_at};
 ghost use Rattle.area_certify.specs.Lines.{text_lines};
 ghost use Rattle.area_certify.specs.Telling.{IsTold};
 
-use crate::area::area_of;
 use crate::feature::is_feature;
 use crate::lines::first_line;
-use osm_area::outcome_is_one;
+use osm_area::{area_of, outcome_is_one};
 use osm_elements::ObjectRef;
 use osm_objects::{Store, UniqueId};
 use std::alloc::{AllocError as OutOfMemory, Global};

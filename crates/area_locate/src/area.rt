@@ -6,7 +6,7 @@ ghost use Rattle.area_locate.specs.Envelopes.{Encloses};
 
 use crate::envelope::Envelope;
 use crate::sides::Sides;
-use osm_area::{Outcome, assemble, has_area_exactly};
+use osm_area::area_of;
 use osm_elements::ObjectRef;
 use osm_geom::{Carrier, Edge, Seg};
 use osm_nest::Polygon;
@@ -90,21 +90,19 @@ fn area_with(alloc: Global, of: ObjectRef, polygons: &[Polygon]) -> Result<Area,
     })
 }
 
-/// The area of a candidate. None exactly where it has none.
-pub(crate) fn area_of(
+/// The area of a candidate, with its sides. None exactly where it has none.
+pub(crate) fn indexed_area_of(
     alloc: Global,
     store: &Store,
     candidate: ObjectRef,
 ) -> Result<Option<Area>, OutOfMemory>
     ensures { IfOk result (IsIndexedAreaOf store.now candidate) }
 {
-    // By law: it has an area exactly where it is sound.
-    has_area_exactly();
-    match assemble(alloc, store, candidate)? {
-        Outcome::Area { polygons, .. } => {
+    match area_of(alloc, store, candidate)? {
+        Some(polygons) => {
             let area = area_with(alloc, candidate, polygons.as_slice())?;
             Ok(Some(area))
         }
-        Outcome::Problems { .. } => Ok(None),
+        None => Ok(None),
     }
 }

@@ -8,7 +8,7 @@ ghost use Rattle.area_locate.specs.Areas.{AreAreas, hits_by, hits_of};
 ghost use Rattle.area_locate.specs.AreasInside.{area_heights};
 ghost use Rattle.area_locate.specs.ItemsAt.{items_at};
 
-use crate::area::{Area, area_of};
+use crate::area::{Area, indexed_area_of};
 use crate::found::{Hit, Hits};
 use crate::sides::Place;
 use osm_elements::ObjectRef;
@@ -58,7 +58,7 @@ pub(crate) fn areas_of(
 {
     let mut areas = Vec::new(alloc);
     for &candidate in candidates {
-        match area_of(alloc, store, candidate)? {
+        match indexed_area_of(alloc, store, candidate)? {
             Some(area) => areas.push(area)?,
             None => {}
         }

@@ -13,7 +13,7 @@ use Rattle.osm_segments.specs.Counts.{AreDistinct, AreSurvivors, ends_of}
 use Rattle.osm_segments.specs.Pairs.{conflicts_of}
 use Rattle.osm_segments.specs.Laws.{RepeatsExist}
 use Rattle.osm_sides.specs.Laws.{DirectedAreWhole, DirectionsExist}
-use Rattle.osm_sides.specs.Survivors.{HasEvenNodes}
+use Rattle.osm_segments.specs.Counts.{HasEvenNodes}
 use Rattle.osm_sides.proofs.SidesKit.{directed_counts, directed_is_sided}
 use Rattle.osm_geom.specs.InPlane.SidedLaws.{LatticeIsSided}
 use Rattle.coast_join.specs.declared.ring.CoastRing.{CoastRing}

@@ -30,7 +30,8 @@ use Rattle.osm_lattice.specs.Loc.{loc_cmp, vector_of}
 use Rattle.osm_lattice.specs.OrderLaws.{LocationOrderTellsApart}
 use Rattle.osm_lattice.specs.Seg.{edge_of, seg_cmp}
 use Rattle.osm_lattice.proofs.LatticeKit.{loc_from_vectors, rising_edge}
-use Rattle.osm_sides.specs.Survivors.{HasEvenNodes, plane_edges_of}
+use Rattle.osm_segments.specs.Counts.{HasEvenNodes}
+use Rattle.osm_sides.specs.Survivors.{plane_edges_of}
 use Rattle.osm_geom.specs.InPlane.Multiple.{edge_times, edges_times, point_times}
 use Rattle.osm_geom.specs.InPlane.Sided.{IsSided}
 use Rattle.osm_geom.specs.InPlane.SidedLaws.{IsLattice, LatticeIsSided}

@@ -22,7 +22,8 @@ use Rattle.osm_lattice.specs.OrderLaws.{LocationOrderTellsApart, SegmentOrderTel
 use Rattle.osm_lattice.proofs.LatticeKit.{rising_edge}
 use Rattle.lists.specs.Rising.{count_of}
 use Rattle.osm_segments.specs.Counts.{AreSurvivors}
-use Rattle.osm_sides.specs.Survivors.{HasEvenNodes, plane_edges_of}
+use Rattle.osm_segments.specs.Counts.{HasEvenNodes}
+use Rattle.osm_sides.specs.Survivors.{plane_edges_of}
 use Rattle.coast_join.specs.Joined.{south_east, south_west}
 use Rattle.coast_join.specs.Line.{last_location}
 use Rattle.coast_sides.specs.Water.{AreSides, IsInsideWorld, IsSide, is_east, is_north, is_south, is_west, north_east, north_west, pieces}

@@ -19,7 +19,8 @@ use Rattle.osm_lattice.specs.Seg.{edge_of, segment_between}
 use Rattle.lists.specs.Rising.{IsRising}
 use Rattle.osm_segments.specs.Counts.{AreSurvivors, ends_of}
 use Rattle.osm_sides.specs.Directions.{AreDirected}
-use Rattle.osm_sides.specs.Survivors.{HasEvenNodes, plane_edges_of}
+use Rattle.osm_segments.specs.Counts.{HasEvenNodes}
+use Rattle.osm_sides.specs.Survivors.{plane_edges_of}
 use Rattle.osm_geom.specs.InPlane.Sided.{IsSided, signed_count_at}
 use Rattle.coast_join.specs.Joined.{south_east, south_west}
 use Rattle.coast_join.specs.Line.{first_location, last_location}

@@ -11,7 +11,7 @@ use crate::ring_segments::{all_segments, closed_lines_are_even};
 use crate::wrong_ways::wrong_ways;
 use coast_join::CoastRing;
 use osm_geom::{Edge, Edges, orders_are_exact};
-use osm_segments::{repeated, survivors};
+use osm_segments::{Outline, repeated, survivors};
 use osm_sides::direct;
 use std::alloc::{AllocError as OutOfMemory, Global};
 
@@ -37,7 +37,7 @@ fn land_edges(alloc: Global, kept: &[CoastRing]) -> Result<Edges, OutOfMemory>
     orders_are_exact();
     let segs = all_segments(alloc, kept)?;
     let left = survivors(alloc, &segs)?;
-    let edges = direct(alloc, &left)?;
+    let edges = direct(alloc, Outline::new(left))?;
     list_of(alloc, &edges)
 }
 

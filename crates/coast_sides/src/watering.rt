@@ -3,7 +3,7 @@
 ghost use Rattle.std.specs.Prelude.{◌≡◌, ◌<◌, ◌++◌, All, IfOk, OnOk, length};
 ghost use Rattle.std.specs.Option.{option_to_list};
 ghost use Rattle.osm_geom.specs.WholeSegment.{IsWholeSegment};
-ghost use Rattle.osm_sides.specs.Survivors.{HasEvenNodes};
+ghost use Rattle.osm_segments.specs.Counts.{HasEvenNodes};
 ghost use Rattle.osm_geom.specs.InPlane.Sided.{IsSided};
 ghost use Rattle.coast_sides.specs.Land.{HaveNoConflicts};
 ghost use Rattle.coast_sides.specs.Water.{AreSides, IsWater, pieces, segment_of_carrier, segments_under};
@@ -14,7 +14,7 @@ use crate::side_nodes::{WorldSide, side_nodes};
 use crate::water_laws::{water_is_clear, water_is_even};
 use osm_geom::in_plane::lattice::lattice_edges_are_whole;
 use osm_geom::{Carrier, Edge, Edges, Loc, Seg, conflicts_are_symmetric, orders_are_exact};
-use osm_segments::survivors;
+use osm_segments::{Outline, survivors};
 use osm_sides::direct;
 use std::alloc::{AllocError as OutOfMemory, Global};
 
@@ -83,7 +83,7 @@ fn water_edges(alloc: Global, land: &[Seg]) -> Result<Edges, OutOfMemory>
     let mut segs = Vec::from_slice(alloc, land)?;
     segs.extend_from_slice(&sides)?;
     let left = survivors(alloc, &segs)?;
-    let edges = direct(alloc, &left)?;
+    let edges = direct(alloc, Outline::new(left))?;
     list_of(alloc, &edges)
 }
 

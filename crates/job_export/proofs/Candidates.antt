@@ -13,12 +13,16 @@ use Rattle.job_export.specs.declared.work.Halt.{Halt}
 use Rattle.job_export.specs.declared.work.Halt.TheVariants.{Stopped, WriteFault, OutOfMemory}
 use Rattle.job_export.specs.Entry.{Entry, area_in, has_area, features_in, framed_feature, entry_sent, entries_sent}
 use Rattle.job_export.specs.Entries.{IsAdditionOf}
+use Rattle.job_export.specs.Reports.{IsReportOf}
+use Rattle.job_export.specs.ReportSteps.{WroteBehind}
+use Rattle.osm_area.specs.Outcome.{OutcomeExists}
+use Rattle.osm_text.specs.Report.{ProblemLineExists}
 use Rattle.osm_job.specs.Prefix.{IsPrefix}
 use Rattle.osm_job.specs.Writes.{Wrote, Added}
-use Rattle.job_export.specs.ExportSteps.{HaltCause, IsEntryOf, IsAddedBy, WroteCandidate, AreEntriesOf, StopsAt, IsPrefixOf, going, stopping, AreAddedBy, WroteCandidates}
-use Rattle.osm_job.specs.Sent.{Sent, lines_text, to_output, to_report}
-use Rattle.job_export.proofs.Entries.{features_of, sent_push, features_push, both_entries, one_entry, stops_behind, stops_here, no_entries}
-use Rattle.osm_job.proofs.Prefixes.{prefix_behind}
+use Rattle.job_export.specs.ExportSteps.{HaltCause, IsEntryOf, IsAddedBy, WroteCandidate, WroteLast, AreEntriesOf, StopsAt, IsPrefixOf, going, stopping, AreAddedBy, WroteCandidates}
+use Rattle.osm_job.specs.Sent.{Sent, to_output, to_report}
+use Rattle.job_export.proofs.Entries.{entry_exists, features_of, sent_push, features_push, both_entries, one_entry, stops_behind, stops_here, no_entries}
+use Rattle.osm_job.proofs.Prefixes.{prefix_behind, prefix_of_longer}
 use Rattle.osm_job.proofs.Writes.{nothing_added, added_both}
 
 -- ---- the first candidates
@@ -44,81 +48,85 @@ count_none (Area polygons notes) has = absurd (cc)
 count_none (Problems list notes) has = refl
 
 module _ (settings : ExportSettings) (objects : List Object) (earlier : ℕ) (c : ObjectRef) (waited waiting : List ℕ) (before : Outside) where
-  pub nothing_said : WroteCandidate settings objects earlier c waited waiting before before (Err OutOfMemory)
-  nothing_said = record { written = []; right = refl; added = nothing_added before; cause = refl }
+  -- there was no memory for what it adds, and what waited was written
+  pub last_written : OutcomeExists → ProblemLineExists → (now : Outside) (halt : Halt) → (left : List ℕ) → WroteLast waited before now halt → WroteCandidate settings objects earlier c waited left before now (Err halt)
+  last_written outcomes lines now (Stopped candidate) left w = absurd w.sent
+  last_written outcomes lines now WriteFault left w =
+      let entry = entry_exists outcomes lines settings objects c in
+      record { written = w.written; right = (entry.0, entry.1, prefix_of_longer w.written (map to_output waited) (entry_sent settings objects earlier entry.0) w.sent); added = w.added; cause = w.cause }
+  last_written outcomes lines now OutOfMemory left w =
+      let entry = entry_exists outcomes lines settings objects c in
+      let sent : List Sent = entry_sent settings objects earlier entry.0 in
+      record { written = w.written; right = (entry.0, entry.1, [], record { rest = sent; whole = refl }, w.sent ∙ sym (append-nil (map to_output waited))); added = w.added; cause = w.cause }
 
   module _ (addition : Addition) (is : IsAdditionOf settings objects earlier c waited waiting addition) where
-    is_entry : IsEntryOf settings objects c is.entry
-    is_entry = record { of_candidate = is.of_candidate; right = is.right }
+    -- the entry with this report
+    abbrev entry_with : List ℕ → Entry
+    entry_with text = record { candidate = c; outcome = is.outcome; report = text }
 
-    abbrev all_sent : List Sent
-    all_sent = map to_output waiting ++ map to_report (lines_text addition.lines.items)
+    is_entry : (text : List ℕ) → IsReportOf c addition.report text → IsEntryOf settings objects c (entry_with text)
+    is_entry text right = record { of_candidate = refl; right = record { right = is.right; reported = is.reported text right } }
 
-    sent : all_sent ≡ map to_output waited ++ entry_sent settings objects earlier is.entry
-    sent =
-        let piece : List ℕ = framed_feature settings objects earlier is.entry.candidate is.entry.outcome in
-        ap₂ (λ (feature lines : List ℕ). map to_output feature ++ map to_report lines) is.piece is.lines
-        ∙ ap (λ (xs : List Sent). xs ++ map to_report is.entry.report) (map-append to_output waited piece)
-        ∙ append_assoc (map to_output waited) (map to_output piece) (map to_report is.entry.report)
+    abbrev piece : List ℕ
+    piece = framed_feature settings objects earlier c is.outcome
 
-    pub feature_waits : addition.has_feature ≡ true → addition.lines.items ≡ [] → WroteCandidate settings objects earlier c waited waiting before before (Ok 1)
+    -- what waits, and more behind it
+    behind : (more : List Sent) → map to_output waiting ++ more ≡ map to_output waited ++ (map to_output piece ++ more)
+    behind more =
+        ap (λ (xs : List ℕ). map to_output xs ++ more) is.piece
+        ∙ ap (λ (xs : List Sent). xs ++ more) (map-append to_output waited piece)
+        ∙ append_assoc (map to_output waited) (map to_output piece) more
+
+    pub feature_waits : addition.has_feature ≡ true → IsReportOf c addition.report [] → WroteCandidate settings objects earlier c waited waiting before before (Ok 1)
     feature_waits has alone =
-        let area : area_in is.entry.outcome ≡ true = sym is.area ∙ has in
+        let area : area_in is.outcome ≡ true = sym is.area ∙ has in
         record {
           written = [];
-          right = (
-            is.entry,
-            is_entry,
-            (λ _. area),
-            count_one is.entry.outcome area,
-            sym (append-nil (map to_output waiting)) ∙ ap (λ lines. map to_output waiting ++ map to_report (lines_text lines)) (sym alone) ∙ sent,
-          );
+          right = (entry_with [], is_entry [] alone, (λ _. area), count_one is.outcome area, sym (append-nil (map to_output waiting)) ∙ behind []);
           added = nothing_added before;
           cause = refl;
         }
 
     module _ (now : Outside) where
-      pub not_written : (left : List ℕ) (failed : Failed) → Wrote {T = Unit {0}} all_sent before now (Err failed) → WroteCandidate settings objects earlier c waited left before now (Err WriteFault)
-      not_written left failed w = record {
+      pub broken_off : (left : List ℕ) (halt : Halt) → WroteBehind waiting (IsReportOf c addition.report) before now (Err halt) → WroteCandidate settings objects earlier c waited left before now (Err halt)
+      broken_off left (Stopped candidate) w = absurd w.sent
+      broken_off left WriteFault w = record {
         written = w.written;
-        right = (is.entry, is_entry, subst (λ (xs : List Sent). IsPrefix w.written xs) sent w.sent);
+        right = (entry_with w.text, is_entry w.text w.right, subst (λ (xs : List Sent). IsPrefix w.written xs) (behind (map to_report w.text)) w.sent);
         added = w.added;
-        cause = w.counts.failed;
+        cause = w.cause;
+      }
+      broken_off left OutOfMemory w = record {
+        written = w.written;
+        right = (entry_with w.text, is_entry w.text w.right, map to_output piece ++ w.sent.0, prefix_behind (map to_output piece) w.sent.0 (map to_report w.text) w.sent.1, w.sent.2 ∙ behind w.sent.0);
+        added = w.added;
+        cause = w.cause;
       }
 
-      module _ (left : List ℕ) (none_left : left ≡ []) (u : Unit {0}) (w : Wrote {T = Unit {0}} {E = Failed} all_sent before now (Ok u)) where
-        sent_all : w.written ++ map to_output left ≡ map to_output waited ++ entry_sent settings objects earlier is.entry
-        sent_all = ap (λ (xs : List ℕ). w.written ++ map to_output xs) none_left ∙ append-nil w.written ∙ w.sent ∙ sent
+      module _ (left : List ℕ) (none_left : left ≡ []) (u : Unit {0}) (w : WroteBehind waiting (IsReportOf c addition.report) before now (Ok u)) where
+        abbrev entry : Entry
+        entry = entry_with w.text
+
+        sent : w.written ≡ map to_output waited ++ entry_sent settings objects earlier entry
+        sent = w.sent ∙ behind (map to_report w.text)
+
+        sent_all : w.written ++ map to_output left ≡ map to_output waited ++ entry_sent settings objects earlier entry
+        sent_all = ap (λ (xs : List ℕ). w.written ++ map to_output xs) none_left ∙ append-nil w.written ∙ sent
 
         pub feature_written : addition.has_feature ≡ true → WroteCandidate settings objects earlier c waited left before now (Ok 1)
         feature_written has =
-            let area : area_in is.entry.outcome ≡ true = sym is.area ∙ has in
-            record {
-              written = w.written;
-              right = (is.entry, is_entry, (λ _. area), count_one is.entry.outcome area, sent_all);
-              added = w.added;
-              cause = w.counts.answered;
-            }
+            let area : area_in is.outcome ≡ true = sym is.area ∙ has in
+            record { written = w.written; right = (entry, is_entry w.text w.right, (λ _. area), count_one is.outcome area, sent_all); added = w.added; cause = w.cause }
 
         pub stops_written : addition.has_feature ≡ false → settings.stop_on_error ≡ true → WroteCandidate settings objects earlier c waited left before now (Err (Stopped c))
         stops_written none stops =
-            let area : area_in is.entry.outcome ≡ false = sym is.area ∙ none in
-            record {
-              written = w.written;
-              right = (is.entry, is_entry, stops, area, refl, w.sent ∙ sent);
-              added = w.added;
-              cause = w.counts.answered;
-            }
+            let area : area_in is.outcome ≡ false = sym is.area ∙ none in
+            record { written = w.written; right = (entry, is_entry w.text w.right, stops, area, refl, sent); added = w.added; cause = w.cause }
 
         pub problems_written : addition.has_feature ≡ false → settings.stop_on_error ≡ false → WroteCandidate settings objects earlier c waited left before now (Ok 0)
         problems_written none goes =
-            let area : area_in is.entry.outcome ≡ false = sym is.area ∙ none in
-            record {
-              written = w.written;
-              right = (is.entry, is_entry, (λ stops. absurd (cc)), count_none is.entry.outcome area, sent_all);
-              added = w.added;
-              cause = w.counts.answered;
-            }
+            let area : area_in is.outcome ≡ false = sym is.area ∙ none in
+            record { written = w.written; right = (entry, is_entry w.text w.right, (λ stops. absurd (cc)), count_none is.outcome area, sent_all); added = w.added; cause = w.cause }
 
 -- ---- one candidate more
 
@@ -200,10 +208,9 @@ module _ (settings : ExportSettings) (objects : List Object) (cs : List ObjectRe
       )
   halt_right written WriteFault right = failed_front right.0 right.1 written right.2 settings.stop_on_error refl (has_area right.0) refl
   halt_right written OutOfMemory right =
-      going (take k cs) (drop k cs) es (sym (take-append-drop k cs)) first.are (record {
-        rest = map to_output waited;
-        whole = sym first.all ∙ ap (λ (xs : List Sent). xs ++ map to_output waited) (sym (append-nil first.written) ∙ ap (λ (xs : List Sent). first.written ++ xs) (sym right));
-      })
+      let e : Entry = right.0 in
+      let front : IsFront e written = subst (λ (xs : List Sent). IsPrefix xs (map to_output waited ++ entry_sent settings objects features e)) (sym right.4) (prefix_behind (map to_output waited) right.2 (entry_sent settings objects features e) right.3) in
+      failed_front e right.1 written front settings.stop_on_error refl (has_area e) refl
 
   halt_cause : (halt : Halt) → middle.write_faults ≡ before.write_faults → HaltCause {T = ℕ} middle now (Err halt) → HaltCause {T = Unit {0}} before now (Err halt)
   halt_cause (Stopped stopped) same cause = cause ∙ same

@@ -111,22 +111,22 @@ pub data Rest (settings : ExportSettings) (objects : List Object) (candidates : 
   all_go : (entries : List Entry) → AreEntriesOf settings objects candidates entries → Rest settings objects candidates
   one_stops : (entries : List Entry) (last : Entry) → StopsAt settings objects candidates entries last → Rest settings objects candidates
 
-module _ (outcome_exists : OutcomeExists) (line_exists : ProblemLineExists) where
-  lines_exist : (of : ObjectRef) (problems : List Problem) → All IsOfItsKind problems → (text : List ℕ) × AreProblemLines of problems text
-  lines_exist of [] kinds = ([], refl)
-  lines_exist of (p ∷ problems) kinds =
-      let line = line_exists of p (All-head IsOfItsKind p problems kinds) in
-      let rest = lines_exist of problems (All-tail IsOfItsKind p problems kinds) in
-      (line.0 ++ rest.0, (line.0, rest.0, line.1, rest.1, refl))
+pub lines_exist : ProblemLineExists → (of : ObjectRef) (problems : List Problem) → All IsOfItsKind problems → (text : List ℕ) × AreProblemLines of problems text
+lines_exist line_exists of [] kinds = ([], refl)
+lines_exist line_exists of (p ∷ problems) kinds =
+    let line = line_exists of p (All-head IsOfItsKind p problems kinds) in
+    let rest = lines_exist line_exists of problems (All-tail IsOfItsKind p problems kinds) in
+    (line.0 ++ rest.0, (line.0, rest.0, line.1, rest.1, refl))
 
+module _ (outcome_exists : OutcomeExists) (line_exists : ProblemLineExists) where
   report_exists : (show : Bool) (of : ObjectRef) (outcome : Outcome) → All IsOfItsKind (problems_in outcome) → (text : List ℕ) × IsReportShown show of outcome text
   report_exists false of outcome kinds = ([], refl)
   report_exists true of (Area polygons notes) kinds = (flat_map (note_line of) notes, refl)
   report_exists true of (Problems list notes) kinds =
-      let lines = lines_exist of list kinds in
+      let lines = lines_exist line_exists of list kinds in
       (lines.0 ++ flat_map (note_line of) notes, (lines.0, lines.1, refl))
 
-  entry_exists : (settings : ExportSettings) (objects : List Object) (c : ObjectRef) → (e : Entry) × IsEntryOf settings objects c e
+  pub entry_exists : (settings : ExportSettings) (objects : List Object) (c : ObjectRef) → (e : Entry) × IsEntryOf settings objects c e
   entry_exists settings objects c =
       let outcome = outcome_exists objects c in
       let report = report_exists settings.show_errors c outcome.0 outcome.2 in

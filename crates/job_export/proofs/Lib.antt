@@ -1,3 +1,4 @@
+mod Additions
 mod Candidates
 mod Entries
 mod Exports

@@ -22,6 +22,21 @@ HaltCause before after (Err (Stopped candidate)) = after.write_faults ≡ before
 HaltCause before after (Err WriteFault) = after.write_faults ≡ risen before.write_faults
 HaltCause before after (Err OutOfMemory) = after.write_faults ≡ before.write_faults
 
+-- ---- the last features
+
+-- all that waited was written, or a prefix where a write failed
+abbrev pub IsSentLast : List Sent → List Sent → Halt → Type 0
+IsSentLast waited written (Stopped candidate) = ⊥
+IsSentLast waited written WriteFault = IsPrefix written waited
+IsSentLast waited written OutOfMemory = written ≡ waited
+
+-- What waited was written before memory ended the run.
+pub record WroteLast (waited : List ℕ) (before after : Outside) (halt : Halt) : Type 0 where
+  pub written : List Sent
+  pub sent : IsSentLast (map to_output waited) written halt
+  pub added : Added written before after
+  pub cause : HaltCause {T = Unit {0}} before after (Err halt)
+
 -- ---- one candidate
 
 -- an entry of this candidate
@@ -30,7 +45,7 @@ pub record IsEntryOf (settings : ExportSettings) (objects : List Object) (candid
   pub right : IsEntry settings.show_errors objects entry
 
 -- What was written, and then what waits, is what waited, and then what a candidate with `earlier` features before it adds; the answer is the number of its
--- features. Where the run stops there, nothing waits.
+-- features. Where the run stops there, nothing waits; where memory runs out, all that waited was written.
 abbrev pub IsAddedBy : ExportSettings → List Object → ℕ → ObjectRef → List ℕ → List ℕ → List Sent → Result ℕ Halt → Type 0
 IsAddedBy settings objects earlier candidate waited waiting written (Ok count) =
     (entry : Entry) × IsEntryOf settings objects candidate entry × (settings.stop_on_error ≡ true → has_area entry ≡ true) × (count ≡ features_in entry.outcome)
@@ -40,7 +55,9 @@ IsAddedBy settings objects earlier candidate waited waiting written (Err (Stoppe
     × (written ≡ map to_output waited ++ entry_sent settings objects earlier entry)
 IsAddedBy settings objects earlier candidate waited waiting written (Err WriteFault) =
     (entry : Entry) × IsEntryOf settings objects candidate entry × IsPrefix written (map to_output waited ++ entry_sent settings objects earlier entry)
-IsAddedBy settings objects earlier candidate waited waiting written (Err OutOfMemory) = written ≡ []
+IsAddedBy settings objects earlier candidate waited waiting written (Err OutOfMemory) =
+    (entry : Entry) × IsEntryOf settings objects candidate entry × (more : List Sent) × IsPrefix more (entry_sent settings objects earlier entry)
+    × (written ≡ map to_output waited ++ more)
 
 pub record WroteCandidate (settings : ExportSettings) (objects : List Object) (earlier : ℕ) (candidate : ObjectRef) (waited waiting : List ℕ) (before after : Outside) (result : Result ℕ Halt) : Type 0 where
   pub written : List Sent

@@ -5,3 +5,5 @@ pub mod Export
 pub mod ExportSteps
 pub mod Framing
 pub mod Laws
+pub mod ReportSteps
+pub mod Reports

@@ -1,25 +1,24 @@
 //! What a candidate adds to the output and to the report.
 
-ghost use Rattle.std.specs.Prelude.{◌≡◌, All, IfOk, IfSome, IsSome, OnErr, OnOk, [], ◌++◌, ◌+◌, ◌≤◌, map, true};
-ghost use Rattle.std.specs.List.{flat_map};
-ghost use Rattle.job_export.specs.Entries.{shown, IsAdditionOf, AddsProblems};
-ghost use Rattle.osm_job.specs.Sent.{lines_text};
+ghost use Rattle.std.specs.Prelude.{◌≡◌, IfOk, IfSome, IsSome, OnErr, OnOk, [], ◌++◌, ◌+◌, ◌≤◌, false, true};
+ghost use Rattle.job_export.specs.Entries.{IsAdditionOf};
+ghost use Rattle.job_export.specs.Reports.{IsReportOf};
 ghost use Rattle.job_export.specs.Entry.{feature_in};
 ghost use Rattle.osm_area.specs.Feature.{feature_tags};
+ghost use Rattle.osm_elements.specs.declared.object.ObjectRef.{ObjectRef};
 ghost use Rattle.job_export.specs.Framing.{framed};
 ghost use Rattle.osm_notation.specs.Kept.{KeepsFront};
 ghost use Rattle.osm_objects.specs.Objects.{object_at};
-ghost use Rattle.osm_objects.specs.Problem.{IsOfItsKind};
-ghost use Rattle.osm_text.specs.Report.{note_line};
 ghost use Rattle.osm_text.specs.Id.{feature_id};
 ghost use Rattle.osm_words.specs.Answers.{settings_seen};
 
 use crate::framing::{after_feature, before_feature};
-use osm_area::{Outcome, assemble};
+use crate::report::Report;
+use osm_area::{Outcome, area_of, assemble};
 use osm_elements::{ObjectKind, ObjectRef, Tags};
 use osm_nest::Polygons;
-use osm_objects::{Note, Problem, Store};
-use osm_text::{FeatureId, note_line, problem_line, put_feature_json, put_feature_text};
+use osm_objects::Store;
+use osm_text::{FeatureId, put_feature_json, put_feature_text};
 use osm_words::{ExportSettings, Format};
 use std::alloc::{AllocError as OutOfMemory, Global};
 
@@ -28,17 +27,17 @@ use std::alloc::{AllocError as OutOfMemory, Global};
 pub(crate) struct Addition {
     /// Whether it has a feature; not where it has problems.
     pub has_feature: bool,
-    /// Its report lines, each a piece that is written by itself; none where they aren't asked for.
-    pub lines: Vec<Vec<u8>>,
+    /// What is reported of it; nothing where report lines aren't asked for.
+    pub report: Report,
 }
 
 impl Addition {
     /// Whether it is a feature alone, which may wait for the next ones.
     pub(crate) fn is_feature_alone(&self) -> bool
         ensures feature { result ≡ true → self.now.has_feature ≡ true }
-        ensures alone { result ≡ true → self.now.lines.items ≡ [] }
+        ensures alone { result ≡ true → (of : ObjectRef) → IsReportOf of self.now.report [] }
     {
-        self.has_feature && self.lines.is_empty()
+        self.has_feature && self.report.is_empty()
     }
 }
 
@@ -96,7 +95,8 @@ fn put_feature_of(
     put_feature(alloc, text, format, polygons, &tags, id)
 }
 
-/// Adds the feature of a candidate's area with `earlier` features before it, and what stands around it.
+/// Adds the feature of a candidate's area with `earlier` features before it, and what stands around it. Where memory runs out, what was
+/// there still stands in front.
 fn put_framed(
     alloc: Global,
     text: &mut Vec<u8>,
@@ -108,10 +108,11 @@ fn put_framed(
 ) -> Result<(), OutOfMemory>
     requires held { IsSome (object_at store.now candidate) }
     requires room { earlier + 1 ≤ 18_446_744_073_709_551_615 }
-    ensures { OnOk result (text.new.items ≡ text.old.items
+    ensures text { OnOk result (text.new.items ≡ text.old.items
         ++ framed (settings_seen settings.now) earlier
         (feature_in settings.now.format (feature_id settings.now.ids (earlier + 1) candidate)
         polygons.now (feature_tags (object_at store.now candidate)))) }
+    ensures kept { OnErr result (KeepsFront text.old.items text.new.items) }
 {
     let id = FeatureId::of(settings.ids, earlier + 1, candidate);
     let before = before_feature(settings.format, settings.omit_rs, earlier);
@@ -121,8 +122,110 @@ fn put_framed(
     Ok(())
 }
 
+/// Adds the feature of a candidate's area, with what stands around it, to those that wait. Where memory runs out, the same wait as before.
+fn add_feature(
+    alloc: Global,
+    waiting: &mut Vec<u8>,
+    store: &Store,
+    settings: &ExportSettings<'_>,
+    candidate: ObjectRef,
+    polygons: &Polygons,
+    earlier: u64,
+) -> Result<(), OutOfMemory>
+    requires held { IsSome (object_at store.now candidate) }
+    requires room { earlier + 1 ≤ 18_446_744_073_709_551_615 }
+    ensures added { OnOk result (waiting.new.items ≡ waiting.old.items
+        ++ framed (settings_seen settings.now) earlier
+        (feature_in settings.now.format (feature_id settings.now.ids (earlier + 1) candidate)
+        polygons.now (feature_tags (object_at store.now candidate)))) }
+    ensures kept { OnErr result (waiting.new.items ≡ waiting.old.items) }
+{
+    let before = waiting.len();
+    match put_framed(
+        alloc, waiting, store, settings, candidate, polygons, earlier,
+    ) {
+        Ok(()) => Ok(()),
+        Err(error) => {
+            waiting.truncate(before);
+            Err(error)
+        }
+    }
+}
+
+/// Adds the feature of a candidate whose report lines aren't asked for, and gives what else it adds. No problem is listed.
+fn feature_of(
+    alloc: Global,
+    waiting: &mut Vec<u8>,
+    store: &Store,
+    settings: &ExportSettings<'_>,
+    candidate: ObjectRef,
+    earlier: u64,
+) -> Result<Addition, OutOfMemory>
+    requires held { IsSome (object_at store.now candidate) }
+    requires room { earlier + 1 ≤ 18_446_744_073_709_551_615 }
+    requires silent { settings.now.show_errors ≡ false }
+    ensures added { IfOk result (IsAdditionOf (settings_seen settings.now) store.now earlier candidate
+        waiting.old.items waiting.new.items) }
+    ensures kept { OnErr result (waiting.new.items ≡ waiting.old.items) }
+{
+    match area_of(alloc, store, candidate)? {
+        Some(polygons) => {
+            add_feature(
+                alloc, waiting, store, settings, candidate, &polygons, earlier,
+            )?;
+            Ok(Addition {
+                has_feature: true,
+                report: Report::nothing(alloc),
+            })
+        }
+        None => Ok(Addition {
+            has_feature: false,
+            report: Report::nothing(alloc),
+        }),
+    }
+}
+
+/// Adds the feature of a candidate whose report lines are asked for, and gives what else it adds.
+fn feature_and_report_of(
+    alloc: Global,
+    waiting: &mut Vec<u8>,
+    store: &Store,
+    settings: &ExportSettings<'_>,
+    candidate: ObjectRef,
+    earlier: u64,
+) -> Result<Addition, OutOfMemory>
+    requires held { IsSome (object_at store.now candidate) }
+    requires room { earlier + 1 ≤ 18_446_744_073_709_551_615 }
+    requires shown { settings.now.show_errors ≡ true }
+    ensures added { IfOk result (IsAdditionOf (settings_seen settings.now) store.now earlier candidate
+        waiting.old.items waiting.new.items) }
+    ensures kept { OnErr result (waiting.new.items ≡ waiting.old.items) }
+{
+    match assemble(alloc, store, candidate)? {
+        Outcome::Area { polygons, notes } => {
+            add_feature(
+                alloc, waiting, store, settings, candidate, &polygons, earlier,
+            )?;
+            let problems = None;
+            Ok(Addition {
+                has_feature: true,
+                report: Report { problems, notes },
+            })
+        }
+        Outcome::Problems { list, notes } => {
+            let problems = Some(list);
+            Ok(Addition {
+                has_feature: false,
+                report: Report { problems, notes },
+            })
+        }
+    }
+}
+
 /// Adds the feature of a candidate with `earlier` features before it, if it has one, to those that wait, and gives what else
-/// the candidate adds.
+/// the candidate adds. Where memory runs out, the same wait as before.
+///
+/// Ways: where report lines aren't asked for, the area alone; else the whole outcome.
 pub(crate) fn addition_of(
     alloc: Global,
     waiting: &mut Vec<u8>,
@@ -133,66 +236,13 @@ pub(crate) fn addition_of(
 ) -> Result<Addition, OutOfMemory>
     requires held { IsSome (object_at store.now candidate) }
     requires room { earlier + 1 ≤ 18_446_744_073_709_551_615 }
-    ensures { IfOk result (IsAdditionOf (settings_seen settings.now) store.now earlier candidate
+    ensures added { IfOk result (IsAdditionOf (settings_seen settings.now) store.now earlier candidate
         waiting.old.items waiting.new.items) }
+    ensures kept { OnErr result (waiting.new.items ≡ waiting.old.items) }
 {
-    let show = settings.show_errors;
-    let mut lines = Vec::new(alloc);
-    match assemble(alloc, store, candidate)? {
-        Outcome::Area { polygons, notes } => {
-            put_framed(
-                alloc, waiting, store, settings, candidate, &polygons, earlier,
-            )?;
-            push_notes(alloc, &mut lines, candidate, notes.as_slice(), show)?;
-            let has_feature = true;
-            Ok(Addition { has_feature, lines })
-        }
-        Outcome::Problems { list, notes } => {
-            push_problems(alloc, &mut lines, candidate, list.as_slice(), show)?;
-            push_notes(alloc, &mut lines, candidate, notes.as_slice(), show)?;
-            let has_feature = false;
-            Ok(Addition { has_feature, lines })
-        }
+    if settings.show_errors {
+        feature_and_report_of(alloc, waiting, store, settings, candidate, earlier)
+    } else {
+        feature_of(alloc, waiting, store, settings, candidate, earlier)
     }
-}
-
-/// Adds the report lines of problems, where they are asked for.
-fn push_problems(
-    alloc: Global,
-    lines: &mut Vec<Vec<u8>>,
-    of: ObjectRef,
-    problems: &[Problem],
-    show_errors: bool,
-) -> Result<(), OutOfMemory>
-    requires { All IsOfItsKind problems.now }
-    ensures { OnOk result (AddsProblems show_errors of problems.now
-        (lines_text lines.old.items) (lines_text lines.new.items)) }
-{
-    if !show_errors {
-        return Ok(());
-    }
-    for problem in problems {
-        lines.push(problem_line(alloc, of, problem)?)?;
-    }
-    Ok(())
-}
-
-/// Adds the report lines of notes, where they are asked for.
-fn push_notes(
-    alloc: Global,
-    lines: &mut Vec<Vec<u8>>,
-    of: ObjectRef,
-    notes: &[Note],
-    show_errors: bool,
-) -> Result<(), OutOfMemory>
-    ensures { OnOk result (lines_text lines.new.items
-        ≡ lines_text lines.old.items ++ shown show_errors (flat_map (note_line of) notes.now)) }
-{
-    if !show_errors {
-        return Ok(());
-    }
-    for note in notes {
-        lines.push(note_line(alloc, of, note)?)?;
-    }
-    Ok(())
 }

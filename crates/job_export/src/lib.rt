@@ -8,6 +8,7 @@ mod choice;
 mod entry;
 mod framing;
 mod laws;
+mod report;
 mod work;
 mod writing;
 

@@ -13,7 +13,7 @@ use crate::choice::candidates_of;
 use crate::entry::addition_of;
 use crate::framing::{footer, header};
 use crate::laws::export_exists;
-use crate::writing::write_waiting;
+use crate::writing::{write_last, write_waiting};
 use osm_area::outcome_exists;
 use osm_elements::ObjectRef;
 use osm_host::{Host, streams_append};
@@ -149,7 +149,7 @@ fn write_candidates<H: Host>(
 const MANY: usize = 65_536;
 
 /// Assembles a candidate with `earlier` features before it, and writes what it adds behind the features that wait; a feature alone waits too.
-/// It answers the number of the candidate's features, 1 or 0.
+/// Where memory runs out, those that wait are written before the run ends. It answers the number of the candidate's features, 1 or 0.
 fn write_candidate<H: Host>(
     alloc: Global,
     store: &Store,
@@ -165,15 +165,17 @@ fn write_candidate<H: Host>(
     ensures wrote { WroteCandidate (settings_seen settings.now) store.now earlier candidate
         waiting.old.items waiting.new.items (H.seen host.old) (H.seen host.new) result }
 {
+    outcome_exists();
+    problem_line_exists();
     let Ok(addition) = addition_of(alloc, waiting, store, settings, candidate, earlier) else {
-        return Err(Halt::OutOfMemory);
+        return Err(write_last(host, waiting));
     };
     if addition.is_feature_alone() && waiting.len() < MANY {
         return Ok(1);
     }
-    let Ok(()) = write_waiting(host, waiting, &addition.lines) else {
-        return Err(Halt::WriteFault);
-    };
+    if let Err(halt) = write_waiting(alloc, host, waiting, candidate, &addition.report) {
+        return Err(halt);
+    }
     if addition.has_feature {
         return Ok(1);
     }

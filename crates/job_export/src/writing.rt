@@ -1,27 +1,46 @@
 //! What candidates add, handed to the host.
 
-ghost use Rattle.std.specs.Prelude.{◌≡◌, ◌++◌, [], OnOk, map};
-ghost use Rattle.osm_job.specs.Sent.{lines_text, to_output, to_report};
-ghost use Rattle.osm_job.specs.Writes.{Wrote};
+ghost use Rattle.std.specs.Prelude.{◌≡◌, [], OnOk, map};
+ghost use Rattle.osm_job.specs.Sent.{to_output};
+ghost use Rattle.job_export.specs.ExportSteps.{WroteLast};
+ghost use Rattle.job_export.specs.Reports.{IsReportOf, TellsKinds};
+ghost use Rattle.job_export.specs.ReportSteps.{WroteBehind};
 
-use osm_host::{Failed, Host};
-use osm_job::{write_lines, write_out};
+use crate::report::{Report, write_report_of};
+use crate::work::Halt;
+use osm_elements::ObjectRef;
+use osm_host::Host;
+use osm_job::write_out;
+use osm_text::problem_line_exists;
+use std::alloc::Global;
 
-/// Writes the features that wait, all at once, and then report lines. Then none waits.
+/// Writes the features that wait, all at once, and then what is reported of a candidate. Then none waits.
 pub(crate) fn write_waiting<H: Host>(
+    alloc: Global,
     host: &mut H,
     waiting: &mut Vec<u8>,
-    lines: &[Vec<u8>],
-) -> Result<(), Failed>
-    ensures wrote { Wrote (map to_output waiting.old.items ++ map to_report (lines_text lines.now))
-        (H.seen host.old) (H.seen host.new) result }
+    of: ObjectRef,
+    report: &Report,
+) -> Result<(), Halt>
+    requires { TellsKinds report.now }
+    ensures wrote { WroteBehind waiting.old.items (IsReportOf of report.now) (H.seen host.old)
+        (H.seen host.new) result }
     ensures none { OnOk result (waiting.new.items ≡ []) }
 {
+    problem_line_exists();
+    let Ok(()) = write_out(host, waiting) else {
+        return Err(Halt::WriteFault);
+    };
+    waiting.clear();
+    write_report_of(alloc, of, report, host)
+}
+
+/// Writes the features that wait before memory ends the run, and says what ends it: a write that fails, or else want of memory.
+pub(crate) fn write_last<H: Host>(host: &mut H, waiting: &[u8]) -> Halt
+    ensures { WroteLast waiting.now (H.seen host.old) (H.seen host.new) result }
+{
     match write_out(host, waiting) {
-        Ok(()) => {
-            waiting.clear();
-            write_lines(host, lines)
-        }
-        Err(failed) => Err(failed),
+        Ok(()) => Halt::OutOfMemory,
+        Err(_) => Halt::WriteFault,
     }
 }

@@ -5,7 +5,7 @@ use Rattle.osm_lattice.specs.Seg.{seg_cmp}
 use Rattle.lists.specs.Rising.{IsRising}
 use Rattle.osm_segments.specs.Pairs.{conflicts_of}
 use Rattle.osm_sides.specs.Laws.{DirectionsExist}
-use Rattle.osm_sides.specs.Survivors.{HasEvenNodes}
+use Rattle.osm_segments.specs.Counts.{HasEvenNodes}
 use Rattle.osm_sides.proofs.SidesKit.{directed_is_sided}
 use Rattle.osm_rings.specs.Laws.{RingListOfEdgesExists}
 use Rattle.osm_nest.specs.declared.polygon.Polygon.{Polygon}

@@ -1,6 +1,8 @@
 pub mod AreaExists
 pub mod AreaLemmas
 mod FewNames
+mod HeldFaults
+pub mod MadeLemmas
 pub mod OutcomeExists
 pub mod OutcomeLemmas
 pub mod OutcomeOne

@@ -50,7 +50,7 @@ pub one_note : (objects : List Object) (candidate : ObjectRef) (notes : List Not
 one_note objects candidate notes is none =
     few_notes objects candidate (candidate.id ∷ []) (candidate.id ∷ []) notes (ap (λ (kind : ObjectKind). ways_named_by objects kind candidate.id) (sym is)) refl refl none
 
-none-once : (refs : List ObjectRef) → each_once same_ref refs ≡ [] → refs ≡ []
+pub none-once : (refs : List ObjectRef) → each_once same_ref refs ≡ [] → refs ≡ []
 none-once [] none = refl
 none-once (r ∷ refs) none = absurd (cc)
 
@@ -60,15 +60,15 @@ given_missing [] ways segments roles list notes some e n = absurd (some refl)
 given_missing (r ∷ missing) ways segments roles list notes some e n = (e, (λ none. cc), n)
 
 -- `found` are the segments, or None where a way isn't whole
-pub missing_outcome : {A : Type 0} (objects : List Object) (candidate : ObjectRef) (ways : List ℤ) (parts lent : List ObjectRef) (notes : List Note) (list : List Problem) (found : Option A)
+pub missing_outcome : {A : Type 0} (objects : List Object) (candidate : ObjectRef) (ways : List ℤ) (parts : List ObjectRef) (notes : List Note) (list : List Problem) (found : Option A)
     → ways ≡ member_ways objects candidate → notes ≡ map named_twice_note (ways_named_twice objects candidate) → IsSome found ↔ (flat_map (way_missing objects) ways ≡ []) → found ≡ None
-    → parts ≡ each_once same_ref (flat_map (way_missing objects) ways) → lent ≡ parts → list ≡ map missing_problem lent
+    → parts ≡ each_once same_ref (flat_map (way_missing objects) ways) → list ≡ map missing_problem parts
     → IsOutcome objects candidate (outcome.Problems list notes)
-missing_outcome objects candidate ways parts lent notes list found ways_are notes_are test absent p l e =
+missing_outcome objects candidate ways parts notes list found ways_are notes_are test absent p e =
     let are : parts ≡ missing objects candidate = p ∙ ap (λ ids. each_once same_ref (flat_map (way_missing objects) ids)) ways_are in
     given_missing (missing objects candidate) (ways_named_twice objects candidate) (candidate_segments objects candidate) (role_notes objects candidate) list notes
     (λ none. let some : IsSome found = test.1 (none-once (flat_map (way_missing objects) ways) (sym p ∙ (are ∙ none))) in cc)
-    (e ∙ ap (map missing_problem) (l ∙ are))
+    (e ∙ ap (map missing_problem) are)
     notes_are
 
 pub complete_outcome : {A : Type 0} (objects : List Object) (candidate : ObjectRef) (ways named : List ℤ) (notes : List Note) (segs passed : List Seg) (found : Option A) (a : A) (outcome : Outcome)
@@ -83,17 +83,3 @@ complete_outcome objects candidate ways named notes segs passed found a outcome 
     let With : List Seg → Type 0 = λ ss. IsOutcomeGiven [] (ways_named_twice objects candidate) ss (role_notes objects candidate) outcome in
     let Along : List ℤ → Type 0 = λ ws. IsOutcomeGiven [] (ways_named_twice objects candidate) passed (role_notes_of objects candidate ws) outcome in
     subst Given nothing (subst With same (subst Along (n ∙ ways_are) (h (ways_named_twice objects candidate) notes_are)))
-
--- `first` and `second` are the survivors as they were lent to two calls, and `seen` the problems
-pub area_given : (segs : List Seg) (roles : List Note) (polygons : List Polygon) (notes middle last : List Note) (repeats lent : List Repeat) (survivors first second : List Seg) (list seen : List Problem) (empty : Bool)
-    → AreRepeats segs repeats → lent ≡ repeats → middle ≡ notes ++ map repeated_note lent
-    → AreSurvivors segs survivors → first ≡ survivors → AreProblemsAmong first list → seen ≡ list → empty ≡ (length seen == 0) → empty ≡ true
-    → second ≡ survivors → IsArea second polygons → last ≡ middle ++ roles
-    → (twice : List ℤ) → notes ≡ map named_twice_note twice
-    → SurvivorsAre segs (λ ss. AreProblemsAmong ss []) × SurvivorsAre segs (λ ss. IsArea ss polygons) × AreNotesBefore [] twice segs roles last
-area_given segs roles polygons notes middle last repeats lent survivors first second list seen empty are l m odd f among s test none g area end twice n =
-    let clear : list ≡ [] = sym s ∙ nil_from_length seen ((Decides-eqb (length seen) 0).0 (sym test ∙ none)) in (
-      (survivors, (odd, subst (AreProblemsAmong survivors) clear (subst (λ ss. AreProblemsAmong ss list) f among))),
-      (survivors, (odd, subst (λ ss. IsArea ss polygons) g area)),
-      (middle, ((repeats, (are, m ∙ (λ i. n i ++ map repeated_note (l i)))), end)),
-    )

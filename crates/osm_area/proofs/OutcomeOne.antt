@@ -5,9 +5,9 @@ use Rattle.osm_lattice.specs.Seg.{seg_cmp}
 use Rattle.lists.specs.Rising.{IsRising}
 use Rattle.osm_segments.specs.Counts.{AreSurvivors}
 use Rattle.osm_segments.specs.Pairs.{conflicts_of}
-use Rattle.osm_sides.specs.Survivors.{HasEvenNodes}
+use Rattle.osm_segments.specs.Counts.{HasEvenNodes}
 use Rattle.osm_sides.proofs.SidesKit.{directed_is_sided, directions_one}
-use Rattle.osm_segments.proofs.SegmentsKit.{repeats_one}
+use Rattle.osm_segments.proofs.SegmentsKit.{odd-nodes-one, repeats_one}
 use Rattle.osm_rings.specs.RingList.{AreRingsOf}
 use Rattle.osm_nest.specs.declared.polygon.Polygon.{Polygon}
 use Rattle.osm_elements.specs.declared.object.Object.{Object}
@@ -24,7 +24,7 @@ use Rattle.osm_area.specs.Roles.{role_notes}
 use Rattle.osm_area.specs.Segments.{candidate_segments}
 use Rattle.osm_area.specs.declared.outcome.Outcome.{Outcome}
 use Rattle.osm_area.specs.declared.outcome.Outcome.TheVariants as outcome
-use Rattle.osm_area.proofs.SoundAreas.{no-problems, odd-nodes-one, survivors-one}
+use Rattle.osm_area.proofs.SoundAreas.{no-problems, survivors-one}
 use Rattle.osm_nest.proofs.NestedOne.{polygons-one}
 
 -- ---- the area of segments without faults
@@ -50,7 +50,7 @@ pub notes-one : (missing : List ObjectRef) (ways : List ℤ) (segs : List Seg) (
 notes-one [] ways segs a b s t = s.1.1 ∙ ap (λ rs. map named_twice_note ways ++ map repeated_note rs) (repeats_one segs s.0 t.0 s.1.0 t.1.0) ∙ sym t.1.1
 notes-one (r ∷ missing) ways segs a b s t = s ∙ sym t
 
-areas-one : (missing : List ObjectRef) (segs : List Seg) → AreProblemsGiven missing segs [] → (m n : List Polygon) → SurvivorsAre segs (λ survivors. IsArea survivors m) → SurvivorsAre segs (λ survivors. IsArea survivors n) → m ≡ n
+pub areas-one : (missing : List ObjectRef) (segs : List Seg) → AreProblemsGiven missing segs [] → (m n : List Polygon) → SurvivorsAre segs (λ survivors. IsArea survivors m) → SurvivorsAre segs (λ survivors. IsArea survivors n) → m ≡ n
 areas-one missing segs h m n a b =
     let sound = no-problems missing segs h in
     let one = λ (survivors : List Seg) (are : AreSurvivors segs survivors). survivors-one segs survivors sound.survivors are sound.survive in

@@ -1,10 +1,9 @@
 -- A candidate has an area exactly where it is sound.
 use Rattle.std.proofs.Common.{◌≡◌, ◌↔◌, ◌∙◌, All, List, [], ◌∷◌, ◌++◌, map, refl, sym, ap, subst}
 use Rattle.std.proofs.lemmas.List.Elements.{All-nil}
-use Rattle.osm_lattice.specs.declared.loc.Loc.{Loc}
 use Rattle.osm_lattice.specs.declared.seg.Seg.{Seg}
 use Rattle.osm_lattice.specs.Seg.{seg_cmp}
-use Rattle.osm_lattice.proofs.LatticeKit.{loc_total, seg_total, loc_same, seg_same}
+use Rattle.osm_lattice.proofs.LatticeKit.{seg_total, seg_same}
 use Rattle.osm_elements.specs.declared.object.Object.{Object}
 use Rattle.osm_elements.specs.declared.object.ObjectRef.{ObjectRef}
 use Rattle.lists.specs.Rising.{IsRising}
@@ -12,7 +11,8 @@ use Rattle.lists.proofs.ListsKit.{same_rising}
 use Rattle.osm_objects.specs.declared.problem.Problem.{Problem}
 use Rattle.osm_segments.specs.Counts.{AreOddNodes, AreSurvivors}
 use Rattle.osm_segments.specs.Pairs.{conflicts_of}
-use Rattle.osm_sides.specs.Survivors.{HasEvenNodes}
+use Rattle.osm_segments.proofs.SegmentsKit.{odd-nodes-one}
+use Rattle.osm_segments.specs.Counts.{HasEvenNodes}
 use Rattle.osm_sides.proofs.DirectedSides.{directed_is_sided}
 use Rattle.osm_nest.specs.declared.polygon.Polygon.{Polygon}
 use Rattle.osm_nest.specs.Laws.{NestedHaveKinds, RingsMayBeNested}
@@ -29,9 +29,6 @@ use Rattle.osm_area.specs.Sound.{IsSound, IsSoundGiven}
 -- ---- lists told by counts
 pub survivors-one : (segs a b : List Seg) → AreSurvivors segs a → AreSurvivors segs b → a ≡ b
 survivors-one segs a b s t = same_rising seg_total seg_same a b s.rising t.rising (λ z. s.odd z ∙ sym (t.odd z))
-
-pub odd-nodes-one : (segs : List Seg) (a b : List Loc) → AreOddNodes segs a → AreOddNodes segs b → a ≡ b
-odd-nodes-one segs a b s t = same_rising loc_total loc_same a b s.rising t.rising (λ z. s.odd z ∙ sym (t.odd z))
 
 -- ---- no problem
 none-left : (a b : List Problem) → a ++ b ≡ [] → a ≡ []

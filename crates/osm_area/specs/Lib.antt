@@ -1,5 +1,7 @@
 pub mod Area
+pub mod FaultsHeld
 pub mod Feature
+pub mod Made
 pub mod MemberWays
 pub mod Missing
 pub mod Names
@@ -7,6 +9,7 @@ pub mod Notes
 pub mod OneOutcome
 pub mod Outcome
 pub mod Problems
+pub mod ProblemsHeld
 pub mod RingSegments
 pub mod RoleKinds
 pub mod RoleWalk

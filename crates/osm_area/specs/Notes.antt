@@ -22,3 +22,8 @@ AreNotesGiven (r ∷ missing) ways segments notes = notes ≡ map named_twice_no
 -- those, and then the notes on roles
 abbrev pub AreNotesBefore : List ObjectRef → List ℤ → List Seg → (roles notes : List Note) → Type 0
 AreNotesBefore missing ways segments roles notes = (shared : List Note) × (AreNotesGiven missing ways segments shared × (notes ≡ shared ++ roles))
+
+-- notes on segments that stand at least twice were added
+abbrev pub AddsRepeats : List Seg → (before after : List Note) → Type 0
+AddsRepeats segments before after =
+    (repeats : List Repeat) × (AreRepeats segments repeats × (after ≡ before ++ map repeated_note repeats))

@@ -1,5 +1,5 @@
 -- What comes of a candidate.
-use Rattle.std.specs.Prelude.{All, ◌≡◌, ◌≢◌, ◌↔◌, List, [], ℤ}
+use Rattle.std.specs.Prelude.{All, ◌≡◌, ◌≢◌, ◌↔◌, List, [], Option, None, Some, ℤ}
 use Rattle.osm_lattice.specs.declared.seg.Seg.{Seg}
 use Rattle.osm_elements.specs.declared.object.ObjectRef.{ObjectRef}
 use Rattle.osm_elements.specs.declared.object.Object.{Object}
@@ -40,6 +40,11 @@ IsOutcomeGiven missing ways segments roles (outcome.Area polygons notes) =
 abbrev pub IsOutcome : List Object → ObjectRef → Outcome → Type 0
 IsOutcome objects candidate outcome =
     IsOutcomeGiven (missing objects candidate) (ways_named_twice objects candidate) (candidate_segments objects candidate) (role_notes objects candidate) outcome
+
+-- the polygons of the candidate's outcome; none exactly where it has problems
+abbrev pub IsAreaOf : List Object → ObjectRef → Option (List Polygon) → Type 0
+IsAreaOf objects candidate None = (list : List Problem) × (notes : List Note) × IsOutcome objects candidate (outcome.Problems list notes)
+IsAreaOf objects candidate (Some polygons) = (notes : List Note) × IsOutcome objects candidate (outcome.Area polygons notes)
 
 -- at every point the rings of an area together have the parity of the segments that survive
 abbrev pub KeepsParity : List Object → ObjectRef → Outcome → Type 0

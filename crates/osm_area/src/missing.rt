@@ -6,7 +6,6 @@ ghost use Rattle.lists.specs.Once.{each_once};
 ghost use Rattle.osm_area.specs.Missing.{same_ref, nodes_missing, way_missing};
 
 use crate::once::each_once;
-use indexmap::IndexSet;
 use osm_elements::{ObjectKind, ObjectRef, Refs};
 use osm_objects::Store;
 use std::alloc::{AllocError as OutOfMemory, Global};
@@ -57,14 +56,11 @@ fn all_missing(alloc: Global, store: &Store, ways: &[i64]) -> Result<Vec<ObjectR
 
 /// What ways lack, one way after the other, each thing once, at its first place.
 #[tactic(auto, using(crate::proofs::RefLemmas::each_once_refs))]
-pub fn missing(
-    alloc: Global,
-    store: &Store,
-    ways: &[i64],
-) -> Result<IndexSet<ObjectRef>, OutOfMemory>
-    ensures { IfOk result (λ s. s.keys
+pub fn missing(alloc: Global, store: &Store, ways: &[i64]) -> Result<Vec<ObjectRef>, OutOfMemory>
+    ensures { IfOk result (λ v. v.items
         ≡ each_once same_ref (flat_map (way_missing store.now) ways.now)) }
 {
     let all = all_missing(alloc, store, ways)?;
-    each_once(alloc, &all)
+    let parts = each_once(alloc, &all)?;
+    Vec::from_slice(alloc, parts.as_slice())
 }

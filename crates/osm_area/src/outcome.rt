@@ -1,27 +1,32 @@
 //! From a candidate to its area, or to what keeps it from having one.
 
-ghost use Rattle.std.specs.Prelude.{◌≡◌, List, [], ℤ, map, All, IfOk};
+ghost use Rattle.std.specs.Prelude.{◌≡◌, ◌↔◌, List, [], ℤ, map, All, IfOk, IsSome, OnOk};
 ghost use Rattle.osm_objects.specs.Problem.{IsOfItsKind};
 ghost use Rattle.osm_geom.specs.WholeSegment.{IsWholeSegment};
 ghost use Rattle.osm_nest.specs.Nested.{HasKinds};
 ghost use Rattle.osm_nest.specs.Polygons.{rings_of};
-ghost use Rattle.osm_area.specs.Outcome.{IsOutcome, IsOutcomeGiven, KeepsParity, polygons_in, problems_in};
+ghost use Rattle.osm_area.specs.Outcome.{IsAreaOf, IsOutcome, IsOutcomeGiven, KeepsParity, polygons_in, problems_in};
+ghost use Rattle.osm_area.specs.Made.{IsMadeBy};
+ghost use Rattle.osm_segments.specs.Counts.{AreSurvivors};
 ghost use Rattle.osm_area.specs.MemberWays.{member_ways, ways_named_twice};
-ghost use Rattle.osm_area.specs.Notes.{named_twice_note};
+ghost use Rattle.osm_area.specs.Notes.{AddsRepeats, named_twice_note};
 ghost use Rattle.osm_area.specs.RoleWalk.{HaveSegments};
 ghost use Rattle.osm_area.specs.Roles.{role_notes_of};
 ghost use Rattle.osm_area.specs.Segments.{way_segments};
+ghost use Rattle.osm_area.specs.Sound.{IsSound};
 
-use crate::area::area;
+use crate::area::{Made, made_of, polygons_of};
+use crate::laws::outcome_exists;
 use crate::member_ways::named_ways;
 use crate::missing::missing;
 use crate::notes::{add_repeats, named_twice};
 use crate::once::{all_differ, each_once};
-use crate::outcome_lists::{Notes, Problems};
-use crate::problems::{missing_problems, problems_among};
+use crate::outcome_lists::Notes;
+use crate::problems::{Problems, problems_of};
 use crate::role_notes::{Ways, add_role_notes};
 use crate::segments::{WaySegments, segments};
 use osm_elements::{ObjectKind, ObjectRef};
+use osm_geom::Seg;
 use osm_nest::Polygons;
 use osm_objects::Store;
 use osm_segments::cancel;
@@ -34,6 +39,16 @@ pub enum Outcome {
     Area { polygons: Polygons, notes: Notes },
     /// What keeps it from having an area; at least one problem.
     Problems { list: Problems, notes: Notes },
+}
+
+/// What survives of segments; those that stand repeatedly are noted.
+fn cancelled(alloc: Global, segs: &[Seg], notes: &mut Notes) -> Result<Vec<Seg>, OutOfMemory>
+    ensures survive { IfOk result (λ v. AreSurvivors segs.now v.items) }
+    ensures noted { OnOk result (AddsRepeats segs.now notes.old notes.new) }
+{
+    let cancelled = cancel(alloc, segs)?;
+    add_repeats(notes, &cancelled.repeats)?;
+    Ok(cancelled.survivors)
 }
 
 /// What comes of a candidate of which nothing is missing, and of which these segments and notes on ways are known.
@@ -55,16 +70,21 @@ fn complete(
     ensures whole { IfOk result (λ outcome.
         All (All IsWholeSegment) (rings_of (polygons_in outcome))) }
 {
-    let cancelled = cancel(alloc, ways.segs)?;
-    add_repeats(&mut notes, &cancelled.repeats)?;
-    let found = problems_among(alloc, &cancelled.survivors)?;
-    let list = found.problems;
-    if !list.as_slice().is_empty() {
-        return Ok(Outcome::Problems { list, notes });
+    let survivors = cancelled(alloc, ways.segs, &mut notes)?;
+    match made_of(alloc, survivors)? {
+        Made::Area(polygons) => {
+            add_role_notes(&mut notes, alloc, store, candidate, &polygons, ways)?;
+            Ok(Outcome::Area { polygons, notes })
+        }
+        Made::Nothing => {
+            let list = Problems::of_nothing();
+            Ok(Outcome::Problems { list, notes })
+        }
+        Made::Faulty(survivors) => {
+            let list = problems_of(alloc, survivors)?;
+            Ok(Outcome::Problems { list, notes })
+        }
     }
-    let polygons = area(alloc, &cancelled.survivors, found.ends)?;
-    add_role_notes(&mut notes, alloc, store, candidate, &polygons, ways)?;
-    Ok(Outcome::Area { polygons, notes })
 }
 
 /// Ways with their segments.
@@ -99,8 +119,8 @@ fn outcome_by(
         Some(found) => complete(alloc, store, candidate, with_segments(ways, &found), notes),
         // What is missing is looked up only where something is.
         None => {
-            let missing = missing(alloc, store, ways)?;
-            let list = missing_problems(alloc, missing.as_slice())?;
+            let parts = missing(alloc, store, ways)?;
+            let list = Problems::of_missing(parts);
             Ok(Outcome::Problems { list, notes })
         }
     }
@@ -151,7 +171,7 @@ fn outcome_of(alloc: Global, store: &Store, candidate: ObjectRef) -> Result<Outc
 /// Where a way isn't held, or a node that a way names has no location, these are the problems. Otherwise they are
 /// found among the segments that stand an odd number of times in its ways together. Where there are none, these
 /// segments make the area: each is directed so that its odd side is on its left, they are cut into rings, and each
-/// inner ring is put under the outer one that directly encloses it. The error is want of memory.
+/// inner ring is put under the outer one that directly encloses it. Fails only if memory runs out.
 pub fn assemble(alloc: Global, store: &Store, candidate: ObjectRef) -> Result<Outcome, OutOfMemory>
     ensures outcome { IfOk result (λ outcome. IsOutcome store.now candidate outcome) }
     ensures kinds { IfOk result (λ outcome. All IsOfItsKind (problems_in outcome)) }
@@ -161,4 +181,71 @@ pub fn assemble(alloc: Global, store: &Store, candidate: ObjectRef) -> Result<Ou
     ensures parity { IfOk result (λ outcome. KeepsParity store.now candidate outcome) }
 {
     outcome_of(alloc, store, candidate)
+}
+
+/// The polygons that ways make, each of them once, if they make an area.
+fn area_by(
+    alloc: Global,
+    store: &Store,
+    candidate: ObjectRef,
+    ways: &[i64],
+) -> Result<Option<Polygons>, OutOfMemory>
+    requires { ways.now ≡ member_ways store.now candidate }
+    ensures { IfOk result (IsMadeBy store.now candidate) }
+{
+    match segments(alloc, store, ways)? {
+        Some(found) => polygons_of(alloc, &found.segs),
+        None => Ok(None),
+    }
+}
+
+/// The polygons of a candidate's area by the ways that it names.
+///
+/// Ways: names that all differ; all others by a table of them.
+fn area_by_names(
+    alloc: Global,
+    store: &Store,
+    candidate: ObjectRef,
+) -> Result<Option<Polygons>, OutOfMemory>
+    ensures { IfOk result (IsMadeBy store.now candidate) }
+{
+    let named = named_ways(alloc, store, candidate)?;
+    if all_differ(alloc, &named)? {
+        return area_by(alloc, store, candidate, &named);
+    }
+    let distinct = each_once(alloc, &named)?;
+    area_by(alloc, store, candidate, distinct.as_slice())
+}
+
+/// The polygons of a candidate's area. A way names itself alone.
+fn made_by(
+    alloc: Global,
+    store: &Store,
+    candidate: ObjectRef,
+) -> Result<Option<Polygons>, OutOfMemory>
+    ensures { IfOk result (IsMadeBy store.now candidate) }
+{
+    match candidate.kind {
+        ObjectKind::Way => {
+            let ways = [candidate.id];
+            area_by(alloc, store, candidate, &ways)
+        }
+        ObjectKind::Node | ObjectKind::Relation => area_by_names(alloc, store, candidate),
+    }
+}
+
+/// The polygons of a candidate's outcome. None exactly where it has problems; these are not listed, and nothing is noted.
+///
+/// Fails only if memory runs out.
+pub fn area_of(
+    alloc: Global,
+    store: &Store,
+    candidate: ObjectRef,
+) -> Result<Option<Polygons>, OutOfMemory>
+    ensures outcome { IfOk result (IsAreaOf store.now candidate) }
+    ensures sound { IfOk result (λ found. IsSome found ↔ IsSound store.now candidate) }
+{
+    // By law: it has an outcome, whose notes aren't asked for here.
+    outcome_exists();
+    made_by(alloc, store, candidate)
 }

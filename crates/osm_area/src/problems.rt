@@ -1,17 +1,19 @@
 //! What keeps a candidate from having an area.
 
-ghost use Rattle.std.specs.Prelude.{◌≡◌, ◌++◌, [], OnOk, IfOk, IfSome, map};
+ghost use Rattle.std.specs.Prelude.{◌≡◌, ◌∷◌, ◌==◌, [], IfOk, length, map};
+ghost use Rattle.std.specs.List.{slice_get};
 ghost use Rattle.osm_lattice.specs.Seg.{seg_cmp};
 ghost use Rattle.lists.specs.Rising.{IsRising};
-ghost use Rattle.osm_segments.specs.Sweep.{AreByEnds};
-ghost use Rattle.osm_area.specs.Problems.{missing_problem, conflict_problem, odd_problem, AreFaults, AreProblemsAmong};
+ghost use Rattle.osm_objects.specs.declared.problem.Problem.TheVariants.{Nothing};
+ghost use Rattle.osm_area.specs.Problems.{missing_problem, AreFaults};
+ghost use Rattle.osm_area.specs.FaultsHeld.{AreFaultsHeld, problem_at};
 
-use crate::outcome_lists::Problems;
 use osm_elements::{ObjectKind, ObjectRef};
 use osm_geom::{Loc, Seg};
 use osm_objects::Problem;
-use osm_segments::{Pair, faults_of};
+use osm_segments::{Places, conflict_places, odd_nodes, pair_at};
 use std::alloc::{AllocError as OutOfMemory, Global};
+use std::marker::Model;
 
 /// The problem of a missing way or node.
 fn missing_problem(missing: ObjectRef) -> Problem
@@ -24,81 +26,166 @@ fn missing_problem(missing: ObjectRef) -> Problem
     }
 }
 
-/// A problem for each missing way or node.
-pub fn missing_problems(alloc: Global, missing: &[ObjectRef]) -> Result<Problems, OutOfMemory>
-    ensures { IfOk result (λ list. list ≡ map missing_problem missing.now) }
+/// The problem of two segments by their places. Only places of conflicts are held.
+fn problem_at(segs: &[Seg], places: Places) -> Problem
+    ensures { result ≡ problem_at segs.now places }
 {
-    let mut list = Problems::new(alloc);
-    for part in missing {
-        list.push(missing_problem(*part))?;
-    }
-    Ok(list)
-}
-
-/// Adds a problem for each conflicting pair.
-fn add_conflicts(list: &mut Problems, pairs: &[Pair]) -> Result<(), OutOfMemory>
-    ensures { OnOk result (list.new ≡ list.old ++ map conflict_problem pairs.now) }
-{
-    for pair in pairs {
-        list.push(Problem::Conflict {
+    match pair_at(segs, places) {
+        Some(pair) => Problem::Conflict {
             kind: pair.kind,
             first: pair.first,
             second: pair.second,
-        })?;
+        },
+        None => Problem::Nothing,
     }
-    Ok(())
 }
 
-/// Adds a problem for each odd node.
-fn add_odd_nodes(list: &mut Problems, nodes: &[Loc]) -> Result<(), OutOfMemory>
-    ensures { OnOk result (list.new ≡ list.old ++ map odd_problem nodes.now) }
-{
-    for &at in nodes {
-        list.push(Problem::Odd { at })?;
-    }
-    Ok(())
-}
-
-/// What is found of surviving segments.
+/// The faults of segments: conflicts, each by the places of its two segments, and odd nodes.
 #[derive(Drop)]
-pub struct Found {
-    /// What keeps them from having an area.
-    pub problems: Problems,
-    /// The segments in the order of their upper ends, if they were sorted so: they are directed sooner along it.
-    pub ends: Option<Vec<Seg>>,
+struct Faults {
+    segs: Vec<Seg>,
+    conflicts: Vec<Places>,
+    odd_nodes: Vec<Loc>,
 }
 
-/// Each conflicting pair in order, and then each odd node in order.
-fn faults(alloc: Global, survivors: &[Seg]) -> Result<Found, OutOfMemory>
-    requires { IsRising seg_cmp survivors.now }
-    ensures problems { IfOk result (λ found. AreFaults survivors.now found.problems) }
-    ensures ends { IfOk result (λ found.
-        IfSome found.ends (λ ends. AreByEnds survivors.now ends.items)) }
-{
-    let faults = faults_of(alloc, survivors)?;
-    let mut problems = Problems::new(alloc);
-    add_conflicts(&mut problems, &faults.conflicts)?;
-    add_odd_nodes(&mut problems, &faults.odd_nodes)?;
-    Ok(Found {
-        problems,
-        ends: faults.ends,
-    })
-}
+impl Faults {
+    ghost use Rattle.osm_area.specs.ProblemsHeld.{faults_held};
 
-/// The problems among the surviving segments of a candidate of which nothing is missing.
-pub fn problems_among(alloc: Global, survivors: &[Seg]) -> Result<Found, OutOfMemory>
-    requires { IsRising seg_cmp survivors.now }
-    ensures problems { IfOk result (λ found. AreProblemsAmong survivors.now found.problems) }
-    ensures ends { IfOk result (λ found.
-        IfSome found.ends (λ ends. AreByEnds survivors.now ends.items)) }
-{
-    if survivors.is_empty() {
-        let mut problems = Problems::new(alloc);
-        problems.push(Problem::Nothing)?;
-        return Ok(Found {
-            problems,
-            ends: None,
-        });
+    fn len(&self) -> usize
+        ensures { result ≡ length (faults_held self.now) }
+    {
+        self.conflicts.len() + self.odd_nodes.len()
     }
-    faults(alloc, survivors)
+
+    /// The problem at a place, conflicts before odd nodes.
+    fn get(&self, place: usize) -> Option<Problem>
+        ensures { result ≡ slice_get (faults_held self.now) place }
+    {
+        let conflicts = self.conflicts.len();
+        if place < conflicts {
+            return Some(problem_at(&self.segs, self.conflicts[place]));
+        }
+        let behind = place - conflicts;
+        if behind < self.odd_nodes.len() {
+            return Some(Problem::Odd {
+                at: self.odd_nodes[behind],
+            });
+        }
+        None
+    }
+}
+
+/// Problems as they are held.
+#[derive(Drop)]
+enum Held {
+    Missing(Vec<ObjectRef>),
+    NoSegment,
+    Faulty(Faults),
+}
+
+/// What keeps a candidate from having an area, in order. Contracts see the list of problems; a conflict takes 8 bytes.
+#[derive(Drop)]
+pub struct Problems {
+    held: Held,
+}
+
+impl Model for Problems {
+    ghost use Rattle.std.specs.Prelude.{List};
+    ghost use Rattle.osm_objects.specs.declared.problem.Problem.{Problem};
+
+    ghost Value = { List Problem };
+
+    ghost use Rattle.osm_area.specs.ProblemsHeld.{problems_held};
+
+    ghost view = { λ problems. problems_held problems.held };
+}
+
+impl Problems {
+    /// One for each missing way or node.
+    pub(crate) fn of_missing(parts: Vec<ObjectRef>) -> Problems
+        ensures { result ≡ map missing_problem parts.items }
+    {
+        Problems {
+            held: Held::Missing(parts),
+        }
+    }
+
+    /// That no segment is left.
+    pub(crate) fn of_nothing() -> Problems
+        ensures { result ≡ Nothing ∷ [] }
+    {
+        Problems {
+            held: Held::NoSegment,
+        }
+    }
+
+    /// How many they are.
+    pub fn len(&self) -> usize
+        ensures { result ≡ length self.now }
+    {
+        match &self.held {
+            Held::Missing(parts) => parts.len(),
+            Held::NoSegment => 1,
+            Held::Faulty(faults) => faults.len(),
+        }
+    }
+
+    /// Whether there is none.
+    pub fn is_empty(&self) -> bool
+        ensures { result ≡ (length self.now == 0) }
+    {
+        self.len() == 0
+    }
+
+    /// The problem at a place, counted from 0; None behind the last.
+    pub fn get(&self, place: usize) -> Option<Problem>
+        ensures { result ≡ slice_get self.now place }
+    {
+        match &self.held {
+            Held::Missing(parts) => missing_at(parts, place),
+            Held::NoSegment if place == 0 => Some(Problem::Nothing),
+            Held::NoSegment => None,
+            Held::Faulty(faults) => faults.get(place),
+        }
+    }
+}
+
+/// The problem of the missing part at a place.
+fn missing_at(parts: &[ObjectRef], place: usize) -> Option<Problem>
+    ensures { result ≡ slice_get (map missing_problem parts.now) place }
+{
+    if place < parts.len() {
+        return Some(missing_problem(parts[place]));
+    }
+    None
+}
+
+/// The places of the conflicts among segments, and their odd nodes.
+fn faults_among(alloc: Global, segs: &[Seg]) -> Result<(Vec<Places>, Vec<Loc>), OutOfMemory>
+    requires { IsRising seg_cmp segs.now }
+    ensures { IfOk result (λ found. AreFaultsHeld segs.now found.0.items found.1.items) }
+{
+    let odd_nodes = odd_nodes(alloc, segs)?;
+    let conflicts = conflict_places(alloc, segs)?;
+    Ok((conflicts, odd_nodes))
+}
+
+/// Each conflicting pair of surviving segments in order, and then each odd node in order.
+pub(crate) fn problems_of(alloc: Global, survivors: Vec<Seg>) -> Result<Problems, OutOfMemory>
+    requires { IsRising seg_cmp survivors.items }
+    ensures { IfOk result (λ list. AreFaults survivors.items list) }
+{
+    match faults_among(alloc, &survivors) {
+        Ok((conflicts, odd_nodes)) => {
+            let faults = Faults {
+                segs: survivors,
+                conflicts,
+                odd_nodes,
+            };
+            Ok(Problems {
+                held: Held::Faulty(faults),
+            })
+        }
+        Err(error) => Err(error),
+    }
 }

@@ -1,11 +1,13 @@
 mod CellPairs
 mod ConflictKinds
+mod ConflictPlaces
 pub mod CountLemmas
 mod EdgeMeetings
 mod EdgeOrders
 mod EdgePairs
 mod FoundPairs
 mod LaterSegments
+mod OutlineFaults
 mod Parities
 mod RepeatLists
 mod RisingPairs

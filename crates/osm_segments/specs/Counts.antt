@@ -25,3 +25,7 @@ ends_of segs = flat_map (λ s. s.a ∷ (s.b ∷ [])) segs
 pub record AreOddNodes (segs : List Seg) (nodes : List Loc) : Type 0 where
   pub odd : (p : Loc) → count_of loc_cmp p nodes ≡ count_of loc_cmp p (ends_of segs) % 2
   pub rising : IsRising loc_cmp nodes
+
+-- an even number of segments end at each location
+abbrev pub HasEvenNodes : List Seg → Type 0
+HasEvenNodes segs = AreOddNodes segs []

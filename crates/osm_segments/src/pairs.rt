@@ -4,10 +4,13 @@ ghost use Rattle.std.specs.Prelude.{◌≡◌, IfOk, IsPermutation};
 ghost use Rattle.osm_lattice.specs.Seg.{seg_cmp};
 ghost use Rattle.lists.specs.Rising.{IsRising};
 ghost use Rattle.osm_segments.specs.Pairs.{conflicts_of, pair_cmp};
+ghost use Rattle.osm_segments.specs.Places.{AreConflictPlaces, pair_at};
 ghost use Rattle.osm_segments.specs.Sweep.{EndsRise};
 
 use crate::cells::division::add_conflicts;
-use crate::few::pairs::{FEW, conflicts_of_few};
+use crate::few::pairs::{FEW, conflicts_of_few, pair_of};
+use crate::places::Places;
+use crate::search;
 use crate::sweep::clear::{by_ends, is_clear};
 use lists::{counts_determine, distinct_items};
 use osm_lattice::{Kind, Seg};
@@ -70,4 +73,44 @@ pub fn conflicts(alloc: Global, segs: &[Seg]) -> Result<Vec<Pair>, OutOfMemory>
     ensures rising { IfOk result (λ v. IsRising pair_cmp v.items) }
 {
     all_conflicts(alloc, segs)
+}
+
+/// The two segments at these places, if both are there and conflict.
+pub fn pair_at(segs: &[Seg], places: Places) -> Option<Pair>
+    ensures { result ≡ pair_at segs.now places }
+{
+    let first = places.first as usize;
+    let second = places.second as usize;
+    if first >= segs.len() || second >= segs.len() {
+        return None;
+    }
+    pair_of(segs[first], segs[second])
+}
+
+/// The places of the conflicts among segments in strict order, which are given in the order of their upper ends, too.
+///
+/// Ways: segments that one sweep finds free of conflicts (sweep); all others by a search.
+fn conflict_places_along(
+    alloc: Global,
+    segs: &[Seg],
+    ends: &[Seg],
+) -> Result<Vec<Places>, OutOfMemory>
+    requires rising { IsRising seg_cmp segs.now }
+    requires moved { IsPermutation segs.now ends.now }
+    requires rise { EndsRise ends.now }
+    ensures { IfOk result (λ v. AreConflictPlaces segs.now v.items) }
+{
+    if is_clear(alloc, segs, ends)? {
+        return Ok(Vec::new(alloc));
+    }
+    search::conflict_places(alloc, segs)
+}
+
+/// The places of all conflicting pairs among segments in strict order: by the first segment, then by the second. A pair takes 8 bytes.
+pub fn conflict_places(alloc: Global, segs: &[Seg]) -> Result<Vec<Places>, OutOfMemory>
+    requires { IsRising seg_cmp segs.now }
+    ensures { IfOk result (λ v. AreConflictPlaces segs.now v.items) }
+{
+    let ends = by_ends(alloc, segs)?;
+    conflict_places_along(alloc, segs, &ends)
 }

@@ -18,7 +18,8 @@ use Rattle.osm_geom.specs.InPlane.Sided.{IsSided}
 use Rattle.osm_geom.specs.InPlane.SidedLaws.{IsLattice}
 use Rattle.osm_geom.proofs.EdgesKit.{common-lattice, lattice_whole}
 use Rattle.osm_sides.specs.Directions.{AreDirected, CountsParity}
-use Rattle.osm_sides.specs.Survivors.{HasEvenNodes, plane_edges_of}
+use Rattle.osm_segments.specs.Counts.{HasEvenNodes}
+use Rattle.osm_sides.specs.Survivors.{plane_edges_of}
 use Rattle.osm_sides.proofs.PlaneEdges.{lattice_edges, plane_edges}
 use Rattle.osm_sides.proofs.Survivors.{conflict_free, even_points}
 

@@ -24,7 +24,8 @@ use Rattle.osm_lattice.proofs.LatticeKit.{loc_from_vectors}
 use Rattle.osm_segments.specs.Pairs.{conflicts_of}
 use Rattle.osm_sides.specs.Following.{AreOthersUpTo, IsDirected, IsDirection, IsEnd, IsSoleOther, KnownDirectionsAreRight, stop_of}
 use Rattle.osm_sides.specs.SideTests.{same}
-use Rattle.osm_sides.specs.Survivors.{HasEvenNodes, plane_edges_of}
+use Rattle.osm_segments.specs.Counts.{HasEvenNodes}
+use Rattle.osm_sides.specs.Survivors.{plane_edges_of}
 use Rattle.osm_sides.proofs.Survivors.{conflict_free, even_points}
 
 -- ---- one location is told by the test

@@ -25,7 +25,8 @@ use Rattle.lists.specs.Rising.{IsRising, count_of}
 use Rattle.osm_segments.specs.Counts.{ends_of}
 use Rattle.osm_segments.specs.Pairs.{conflicts_of, pair_of}
 use Rattle.osm_sides.specs.SideTests.{same}
-use Rattle.osm_sides.specs.Survivors.{HasEvenNodes, plane_edges_of}
+use Rattle.osm_segments.specs.Counts.{HasEvenNodes}
+use Rattle.osm_sides.specs.Survivors.{plane_edges_of}
 use Rattle.osm_sides.proofs.SegmentTests.{same_is}
 
 -- ---- no conflicts

@@ -10,7 +10,8 @@ use Rattle.osm_segments.specs.Pairs.{conflicts_of}
 use Rattle.osm_geom.specs.InPlane.Multiple.{edges_times}
 use Rattle.osm_geom.specs.InPlane.Sided.{IsSided}
 use Rattle.osm_sides.specs.Directions.{AreDirected}
-use Rattle.osm_sides.specs.Survivors.{HasEvenNodes, plane_edges_of}
+use Rattle.osm_segments.specs.Counts.{HasEvenNodes}
+use Rattle.osm_sides.specs.Survivors.{plane_edges_of}
 
 -- directed segments run along whole segments
 abbrev pub DirectedAreWhole : Type 0

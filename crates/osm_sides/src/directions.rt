@@ -1,13 +1,10 @@
-//! The directions of survivors: by their places in the status of one sweep upwards.
+//! The directions of the segments of an outline: by their places in the status of one sweep upwards.
 
 ghost use Rattle.std.specs.Prelude.{◌≡◌, ◌≤◌, [], All, IfOk, IfSome, length};
-ghost use Rattle.osm_lattice.specs.Seg.{seg_cmp};
 ghost use Rattle.osm_geom.specs.WholeSegment.{IsWholeSegment};
-ghost use Rattle.lists.specs.Rising.{IsRising};
-ghost use Rattle.osm_segments.specs.Pairs.{conflicts_of};
+ghost use Rattle.osm_segments.specs.Outlines.{IsOutline};
 ghost use Rattle.osm_segments.specs.Sweep.{AreByEnds};
 ghost use Rattle.osm_geom.specs.InPlane.Sided.{IsSided};
-ghost use Rattle.osm_sides.specs.Survivors.{HasEvenNodes};
 ghost use Rattle.osm_geom.specs.declared.edge.Carrier.TheVariants.{OfSeg};
 ghost use Rattle.osm_sides.specs.Directions.{AreDirected, CountsParity};
 ghost use Rattle.osm_sides.specs.Sweep.{AreDirectedTo};
@@ -17,14 +14,13 @@ use crate::sweep::leaving::{leave, leaving};
 use crate::sweep::rows::{direct_row, enter_row};
 use chunked_list::ChunkedList;
 use osm_geom::{Edge, Seg};
-use osm_segments::in_order_of_ends;
+use osm_segments::{Outline, in_order_of_ends};
 use std::alloc::{AllocError as OutOfMemory, Global};
 
-/// Each segment directed, in order: row by row of those that begin at one height, upwards, by their places in the status. They are given
+/// Each segment of an outline directed, in order: row by row of those that begin at one height, upwards, by their places in the status. They are given
 /// in the order of their upper ends, too.
 fn direct_each(alloc: Global, segs: &[Seg], by_ends: Vec<Seg>) -> Result<Vec<Edge>, OutOfMemory>
-    requires rising { IsRising seg_cmp segs.now }
-    requires clear { conflicts_of segs.now ≡ [] }
+    requires outline { IsOutline segs.now }
     requires ends { AreByEnds segs.now by_ends.items }
     ensures { IfOk result (λ v. AreDirectedTo segs.now (length segs.now) v.items) }
 {
@@ -43,11 +39,9 @@ fn direct_each(alloc: Global, segs: &[Seg], by_ends: Vec<Seg>) -> Result<Vec<Edg
     Ok(edges)
 }
 
-/// Each segment directed, in order: the first of a ring by counting all of them, the others along the ring.
+/// Each segment of an outline directed, in order: the first of a ring by counting all of them, the others along the ring.
 fn direct_few(alloc: Global, segs: &[Seg]) -> Result<Vec<Edge>, OutOfMemory>
-    requires rising { IsRising seg_cmp segs.now }
-    requires clear { conflicts_of segs.now ≡ [] }
-    requires even { HasEvenNodes segs.now }
+    requires outline { IsOutline segs.now }
     requires few { length segs.now ≤ 32 }
     ensures { IfOk result (λ v. AreDirectedTo segs.now (length segs.now) v.items) }
 {
@@ -62,13 +56,11 @@ fn direct_few(alloc: Global, segs: &[Seg]) -> Result<Vec<Edge>, OutOfMemory>
 /// So few segments are directed sooner along their rings than by a sweep.
 const FEW: usize = 32;
 
-/// Each survivor directed, in order.
+/// Each segment of an outline directed, in order.
 ///
 /// Ways: segments given by upper ends too, by a sweep (sweep); up to 32 along their rings (few); all others by sorting and a sweep (sweep).
 fn direct_all(alloc: Global, segs: &[Seg], ends: Option<Vec<Seg>>) -> Result<Vec<Edge>, OutOfMemory>
-    requires rising { IsRising seg_cmp segs.now }
-    requires clear { conflicts_of segs.now ≡ [] }
-    requires even { HasEvenNodes segs.now }
+    requires outline { IsOutline segs.now }
     requires ends { IfSome ends (λ ends. AreByEnds segs.now ends.items) }
     ensures { IfOk result (λ v. AreDirectedTo segs.now (length segs.now) v.items) }
 {
@@ -82,35 +74,15 @@ fn direct_all(alloc: Global, segs: &[Seg], ends: Option<Vec<Seg>>) -> Result<Vec
     direct_each(alloc, segs, ends)
 }
 
-/// What `direct` gives, sooner where the survivors are given in the order of their upper ends, too, as `faults_of` gives them.
-pub fn direct_along(
-    alloc: Global,
-    survivors: &[Seg],
-    ends: Option<Vec<Seg>>,
-) -> Result<Vec<Edge>, OutOfMemory>
-    requires rising { IsRising seg_cmp survivors.now }
-    requires clear { conflicts_of survivors.now ≡ [] }
-    requires even { HasEvenNodes survivors.now }
-    requires ends { IfSome ends (λ ends. AreByEnds survivors.now ends.items) }
-    ensures odd_side { IfOk result (λ v. AreDirected survivors.now v.items) }
-    ensures whole { IfOk result (λ v. All IsWholeSegment v.items) }
-    ensures sided { IfOk result (λ v. IsSided v.items) }
-    ensures parity { IfOk result (λ v. CountsParity survivors.now v.items) }
-{
-    direct_all(alloc, survivors, ends)
-}
-
-/// The survivors as edges, one for each and in their order, directed so that the odd side is on the left (the
+/// The segments of an outline as edges, one for each and in their order, directed so that the odd side is on the left (the
 /// right-hand rule of RFC 7946): an edge runs up where the number of others right of it is even, and a horizontal
 /// one runs right where the number of those right of its left end is odd.
-pub fn direct(alloc: Global, survivors: &[Seg]) -> Result<Vec<Edge>, OutOfMemory>
-    requires rising { IsRising seg_cmp survivors.now }
-    requires clear { conflicts_of survivors.now ≡ [] }
-    requires even { HasEvenNodes survivors.now }
-    ensures odd_side { IfOk result (λ v. AreDirected survivors.now v.items) }
+pub fn direct(alloc: Global, outline: Outline) -> Result<Vec<Edge>, OutOfMemory>
+    ensures odd_side { IfOk result (λ v. AreDirected outline v.items) }
     ensures whole { IfOk result (λ v. All IsWholeSegment v.items) }
     ensures sided { IfOk result (λ v. IsSided v.items) }
-    ensures parity { IfOk result (λ v. CountsParity survivors.now v.items) }
+    ensures parity { IfOk result (λ v. CountsParity outline v.items) }
 {
-    direct_along(alloc, survivors, None)
+    let (segs, ends) = outline.into_parts();
+    direct_all(alloc, &segs, ends)
 }

@@ -12,7 +12,7 @@ pub mod stab;
 mod sweep;
 
 pub use crate::stab::{PlainStab, Stab};
-pub use directions::{direct, direct_along};
+pub use directions::direct;
 pub use laws::{directing_is_sided, directions_are_one, directions_exist};
 pub use places::{Place, places_among};
 pub use sides::is_left_of;

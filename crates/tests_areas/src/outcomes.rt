@@ -1,7 +1,7 @@
 //! For the tests: outcomes of candidates in words.
 
 use crate::reading::add_lines;
-use osm_area::{Notes, Outcome, assemble};
+use osm_area::{Notes, Outcome, Problems, assemble};
 use osm_elements::{ObjectKind, ObjectRef};
 use osm_geom::{Loc, Point, Seg};
 use osm_nest::Polygon;
@@ -86,6 +86,17 @@ fn put_polygon(alloc: Global, text: &mut String, polygon: &Polygon) -> Result<()
     Ok(())
 }
 
+/// The problems, a line for each.
+fn put_problems(alloc: Global, text: &mut String, list: &Problems) -> Result<(), OutOfMemory> {
+    for place in 0..list.len() {
+        if let Some(problem) = list.get(place) {
+            text.push_str(problem_text(alloc, &problem)?.as_str())?;
+            text.push_str("\n")?;
+        }
+    }
+    Ok(())
+}
+
 /// An outcome as lines: the area's rings or the problems, and then the notes.
 fn outcome_text(alloc: Global, outcome: &Outcome) -> Result<String, OutOfMemory> {
     let mut text = String::new(alloc);
@@ -97,10 +108,7 @@ fn outcome_text(alloc: Global, outcome: &Outcome) -> Result<String, OutOfMemory>
             put_notes(alloc, &mut text, notes)?;
         }
         Outcome::Problems { list, notes } => {
-            for problem in list.as_slice() {
-                text.push_str(problem_text(alloc, problem)?.as_str())?;
-                text.push_str("\n")?;
-            }
+            put_problems(alloc, &mut text, list)?;
             put_notes(alloc, &mut text, notes)?;
         }
     }

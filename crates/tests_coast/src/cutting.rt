@@ -3,7 +3,7 @@ ghost use Rattle.std.specs.Prelude.{IfOk};
 ghost use Rattle.osm_geom.specs.InPlane.Sided.{IsSided};
 
 use osm_geom::{Edges, Loc, Point, Seg};
-use osm_segments::{conflicts, odd_nodes, survivors};
+use osm_segments::{outline_of, survivors};
 use osm_sides::direct;
 use std::alloc::Global;
 use std::test::Fail;
@@ -37,13 +37,10 @@ pub(crate) fn directed(alloc: Global, lines: &str) -> Result<Edges, Fail>
     ensures { IfOk result (λ list. IsSided list) }
 {
     let segs = segments(alloc, lines)?;
-    let kept = survivors(alloc, &segs)?;
-    let pairs = conflicts(alloc, &kept)?;
-    let odd = odd_nodes(alloc, &kept)?;
-    if !pairs.is_empty() || !odd.is_empty() {
-        return Err(Fail::new("not closed"));
+    match outline_of(alloc, survivors(alloc, &segs)?)? {
+        Ok(outline) => Ok(Edges::from_vec(direct(alloc, outline)?)),
+        Err(_) => Err(Fail::new("not closed")),
     }
-    Ok(Edges::from_vec(direct(alloc, &kept)?))
 }
 
 /// Whether a coordinate is the number that a word names, such as `9/4`.

@@ -2,7 +2,10 @@
 
 use crate::reading::{at, loc, segment, segs};
 use osm_lattice::{Kind, Seg};
-use osm_segments::{Pair, Repeat, conflicts, distinct, faults_of, odd_nodes, repeated, survivors};
+use osm_segments::{
+    Pair, Places, Repeat, conflict_places, conflicts, distinct, odd_nodes, outline_of, pair_at, repeated,
+    survivors,
+};
 use std::alloc::Global;
 use std::test::Fail;
 
@@ -39,12 +42,12 @@ fn stand_repeatedly(alloc: Global, list: &[Seg], row: Row) -> Result<bool, Fail>
     Ok(found.as_slice() == wanted.as_slice())
 }
 
-/// Whether so many nodes are odd, also among the faults of what survives.
+/// Whether so many nodes are odd, also among what survives.
 fn are_odd(alloc: Global, list: &[Seg], row: Row) -> Result<bool, Fail> {
     let odd = odd_nodes(alloc, list)?;
     let kept = survivors(alloc, list)?;
-    let faults = faults_of(alloc, &kept)?;
-    Ok(odd.len() == row.odd && faults.odd_nodes.len() == row.odd)
+    let left = odd_nodes(alloc, &kept)?;
+    Ok(odd.len() == row.odd && left.len() == row.odd)
 }
 
 /// Whether all of a row is so.
@@ -226,11 +229,21 @@ impl Case {
         self.due(Kind::Crossing, first, second)
     }
 
-    /// Whether just these conflicts are found.
+    /// Whether just these conflicts are found, and so the segments aren't an outline.
     fn is_found(&self, alloc: Global) -> Result<bool, Fail> {
         let segs = distinct(alloc, &self.segs)?;
-        Ok(faults_of(alloc, &segs)?.conflicts.as_slice() == self.pairs.as_slice())
+        let places = conflict_places(alloc, &segs)?;
+        Ok(are_at(&segs, &places, &self.pairs) && outline_of(alloc, segs)?.is_err())
     }
+}
+
+/// Whether these pairs are at the places.
+fn are_at(segs: &[Seg], places: &[Places], pairs: &[Pair]) -> bool {
+    places.len() == pairs.len()
+        && places
+            .iter()
+            .zip(pairs)
+            .all(|(at, pair)| pair_at(segs, *at) == Some(*pair))
 }
 
 /// A segment, given from the foot of a post 4 high, and how it conflicts with the post.
@@ -380,29 +393,33 @@ fn long_line(alloc: Global) -> Result<Case, Fail> {
     Ok(case)
 }
 
-/// The odd nodes of segments without conflicts, by their x, and whether a list by upper ends is given on.
-fn odd_ends(alloc: Global, segs: &[Seg]) -> Result<(Vec<i32>, bool), Fail> {
-    let faults = faults_of(alloc, &distinct(alloc, segs)?)?;
-    if !faults.conflicts.is_empty() {
-        return Err(Fail::new("a conflict"));
-    }
+/// The odd nodes of segments, by their x.
+fn odd_ends(alloc: Global, segs: &[Seg]) -> Result<Vec<i32>, Fail> {
     let mut ends = Vec::new(alloc);
-    for node in &faults.odd_nodes {
+    for node in &odd_nodes(alloc, segs)? {
         ends.push(node.x)?;
     }
-    Ok((ends, faults.ends.is_some()))
+    Ok(ends)
+}
+
+/// Whether segments are an outline, with the list by upper ends.
+fn are_sorted_outline(alloc: Global, segs: &[Seg]) -> Result<bool, Fail> {
+    match outline_of(alloc, distinct(alloc, segs)?)? {
+        Ok(outline) => Ok(outline.into_parts().1.is_some()),
+        Err(_) => Ok(false),
+    }
 }
 
 #[test]
 fn a_long_line_and_a_ring(rt: HostRuntime) -> Result<(), Fail> {
     let mut case = long_line(rt.alloc())?;
-    let (ends, _) = odd_ends(rt.alloc(), &case.segs)?;
+    let ends = odd_ends(rt.alloc(), &case.segs)?;
     assert_eq!(rt; ends.as_slice(), [0, 100].as_slice());
+    assert!(rt; !are_sorted_outline(rt.alloc(), &case.segs)?);
     // Three sides that go back below the line.
     case.add((0, 0), (0, -5))?;
     case.add((0, -5), (100, -5))?;
     case.add((100, -5), (100, 0))?;
-    let (ends, given_on) = odd_ends(rt.alloc(), &case.segs)?;
-    assert!(rt; ends.is_empty() && given_on);
+    assert!(rt; are_sorted_outline(rt.alloc(), &case.segs)?);
     Ok(())
 }

@@ -2,8 +2,6 @@
 
 use crate::drawing::{directed, segs, steps};
 use osm_geom::{Edge, Loc, Point, Seg};
-use osm_segments::{faults_of, survivors};
-use osm_sides::direct_along;
 use std::alloc::Global;
 use std::test::Fail;
 
@@ -88,16 +86,6 @@ fn band_sides(alloc: Global) -> Result<Vec<(Loc, Loc)>, Fail> {
     Ok(steps)
 }
 
-/// The survivors of segments, directed along the list by upper ends by which faults are told.
-fn directed_along(alloc: Global, segs: &[Seg]) -> Result<Vec<Edge>, Fail> {
-    let kept = survivors(alloc, segs)?;
-    let faults = faults_of(alloc, &kept)?;
-    if !faults.conflicts.is_empty() || !faults.odd_nodes.is_empty() {
-        return Err(Fail::new("not closed"));
-    }
-    Ok(direct_along(alloc, &kept, faults.ends)?)
-}
-
 /// Whether each edge runs along the step at its place.
 fn are_along(edges: &[Edge], steps: &[(Loc, Loc)]) -> bool {
     edges.len() == steps.len()
@@ -111,6 +99,5 @@ fn bands(rt: HostRuntime) -> Result<(), Fail> {
     let steps = band_sides(rt.alloc())?;
     let segs = segs(rt.alloc(), &steps)?;
     assert!(rt; are_along(directed(rt.alloc(), &segs)?.as_slice(), &steps));
-    assert!(rt; are_along(&directed_along(rt.alloc(), &segs)?, &steps));
     Ok(())
 }

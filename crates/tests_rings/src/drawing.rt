@@ -4,7 +4,7 @@ ghost use Rattle.osm_geom.specs.InPlane.Sided.{IsSided};
 
 use coast_split::half;
 use osm_geom::{Axis, Cut, Edge, Edges, Loc, Point, Seg, Side};
-use osm_segments::{conflicts, odd_nodes, survivors};
+use osm_segments::{outline_of, survivors};
 use osm_sides::direct;
 use std::alloc::Global;
 use std::test::Fail;
@@ -52,13 +52,10 @@ pub(crate) fn segs(alloc: Global, steps: &[(Loc, Loc)]) -> Result<Vec<Seg>, Fail
 pub(crate) fn directed(alloc: Global, segs: &[Seg]) -> Result<Edges, Fail>
     ensures { IfOk result (λ list. IsSided list) }
 {
-    let kept = survivors(alloc, segs)?;
-    let pairs = conflicts(alloc, &kept)?;
-    let odd = odd_nodes(alloc, &kept)?;
-    if !pairs.is_empty() || !odd.is_empty() {
-        return Err(Fail::new("not closed"));
+    match outline_of(alloc, survivors(alloc, segs)?)? {
+        Ok(outline) => Ok(Edges::from_vec(direct(alloc, outline)?)),
+        Err(_) => Err(Fail::new("not closed")),
     }
-    Ok(Edges::from_vec(direct(alloc, &kept)?))
 }
 
 /// The edges along closed lines, with what the lines enclose on their left.

@@ -17,7 +17,7 @@ use Rattle.osm_nest.specs.declared.polygon.Polygon.{Polygon}
 use Rattle.osm_nest.specs.Polygons.{polygon_times}
 use Rattle.osm_segments.specs.Pairs.{conflicts_of}
 use Rattle.osm_sides.specs.Laws.{DirectedAreWhole}
-use Rattle.osm_sides.specs.Survivors.{HasEvenNodes}
+use Rattle.osm_segments.specs.Counts.{HasEvenNodes}
 use Rattle.osm_sides.proofs.DirectedSides.{directed_is_sided}
 use Rattle.plane_lists.specs.Valid.Valid.{IsValidMultiPolygon}
 use Rattle.one_output.specs.ValidAreas.Laws.{AreasAreValid}

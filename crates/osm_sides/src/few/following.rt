@@ -1,11 +1,8 @@
 //! The directions of few segments, along their rings: where two alone end at a node, one leaves it as the other enters it.
 ghost use Rattle.std.specs.Prelude.{◌≡◌, ◌<◌, [], IfSome, false, length, true};
-ghost use Rattle.osm_lattice.specs.Seg.{seg_cmp};
-ghost use Rattle.lists.specs.Rising.{IsRising};
-ghost use Rattle.osm_segments.specs.Pairs.{conflicts_of};
+ghost use Rattle.osm_segments.specs.Outlines.{IsOutline};
 ghost use Rattle.osm_sides.specs.Following.{AreOthersUpTo, IsDirected, IsDirection, IsEnd, IsSoleOther, KnownDirectionsAreRight, stop_of};
 ghost use Rattle.osm_sides.specs.SideTests.{same};
-ghost use Rattle.osm_sides.specs.Survivors.{HasEvenNodes};
 
 use crate::sides::{is_same, runs_up};
 use osm_geom::{Loc, Seg};
@@ -43,9 +40,7 @@ fn stop_of(s: Seg, up: bool) -> Loc
 
 /// The place of the segment that goes on where the one at a place ends, and its direction.
 fn next_along(segs: &[Seg], place: usize, up: bool) -> Option<(usize, bool)>
-    requires rising { IsRising seg_cmp segs.now }
-    requires clear { conflicts_of segs.now ≡ [] }
-    requires even { HasEvenNodes segs.now }
+    requires outline { IsOutline segs.now }
     requires directed { IsDirected segs.now place up }
     ensures { IfSome result (λ next. IsDirected segs.now next.0 next.1) }
 {
@@ -56,9 +51,7 @@ fn next_along(segs: &[Seg], place: usize, up: bool) -> Option<(usize, bool)>
 
 /// Makes the direction of a segment known, and those of the segments that follow it along its ring.
 fn follow(segs: &[Seg], from: usize, direction: bool, known: &mut [Option<bool>])
-    requires rising { IsRising seg_cmp segs.now }
-    requires clear { conflicts_of segs.now ≡ [] }
-    requires even { HasEvenNodes segs.now }
+    requires outline { IsOutline segs.now }
     requires directed { IsDirected segs.now from direction }
     requires known { KnownDirectionsAreRight segs.now known.old }
     ensures { KnownDirectionsAreRight segs.now known.new }
@@ -82,9 +75,7 @@ fn follow(segs: &[Seg], from: usize, direction: bool, known: &mut [Option<bool>]
 
 /// The direction of the segment at a place: as it is known, else by the odd side.
 pub fn direction(segs: &[Seg], place: usize, known: &mut [Option<bool>]) -> bool
-    requires rising { IsRising seg_cmp segs.now }
-    requires clear { conflicts_of segs.now ≡ [] }
-    requires even { HasEvenNodes segs.now }
+    requires outline { IsOutline segs.now }
     requires inside { place < length segs.now }
     requires known { KnownDirectionsAreRight segs.now known.old }
     ensures right { IsDirection segs.now place result }

@@ -8,8 +8,7 @@ ghost use Rattle.plane_lists.specs.Statuses.Status.{IsStatus};
 ghost use Rattle.osm_lattice.specs.declared.seg.Seg.{Seg};
 ghost use Rattle.osm_lattice.specs.Loc.{vector_of};
 ghost use Rattle.osm_lattice.specs.Seg.{edge_of, seg_cmp};
-ghost use Rattle.lists.specs.Rising.{IsRising};
-ghost use Rattle.osm_segments.specs.Pairs.{conflicts_of};
+ghost use Rattle.osm_segments.specs.Outlines.{IsOutline};
 ghost use Rattle.osm_sides.specs.SideTests.{counted, left_count, left_of, level, right_count};
 ghost use Rattle.osm_sides.specs.Sweep.{AreDirectedTo, IsEntered, IsRow};
 
@@ -48,8 +47,7 @@ fn enter_each(
     to: usize,
     at: Loc,
 ) -> Result<(), OutOfMemory>
-    requires rising { IsRising seg_cmp segs.now }
-    requires clear { conflicts_of segs.now ≡ [] }
+    requires outline { IsOutline segs.now }
     requires status { IsStatus edge_of (vector_of at) (take from segs.now) status.old }
     requires row { AllWithin (λ t. t.a.y ≡ at.y) segs.now from to }
     requires order { from ≤ to }
@@ -72,8 +70,7 @@ pub fn enter_row(
     from: usize,
     at: Loc,
 ) -> Result<usize, OutOfMemory>
-    requires rising { IsRising seg_cmp segs.now }
-    requires clear { conflicts_of segs.now ≡ [] }
+    requires outline { IsOutline segs.now }
     requires inside { from < length segs.now }
     requires first { (d : Seg) → (slice_index_or segs.now from d).a ≡ at }
     requires status { IsStatus edge_of (vector_of at) (take from segs.now) status.old }
@@ -143,8 +140,7 @@ pub fn direct_row(
     from: usize,
     to: usize,
 ) -> Result<(), OutOfMemory>
-    requires rising { IsRising seg_cmp segs.now }
-    requires clear { conflicts_of segs.now ≡ [] }
+    requires outline { IsOutline segs.now }
     requires row { (p : Vector) × IsRow segs.now from to p status.now }
     requires so_far { AreDirectedTo segs.now from edges.old.items }
     ensures { OnOk result (AreDirectedTo segs.now to edges.new.items) }

@@ -5,9 +5,7 @@ use Rattle.osm_geom.specs.declared.edge.Edge.{Edge}
 use Rattle.osm_geom.specs.WholeSegment.{IsWholeSegment}
 use Rattle.osm_lattice.specs.declared.seg.Seg.{Seg}
 use Rattle.osm_segments.specs.Counts.{AreSurvivors}
-use Rattle.osm_segments.specs.Pairs.{conflicts_of}
 use Rattle.osm_sides.specs.Directions.{AreDirected, CountsParity}
-use Rattle.osm_sides.specs.Survivors.{HasEvenNodes}
 use Rattle.osm_geom.specs.InPlane.Sided.{IsSided, signed_count_at}
 use Rattle.coast_sides.specs.Land.{parity_at}
 use Rattle.coast_sides.specs.Segments.{all_segments}
@@ -17,27 +15,25 @@ use Rattle.coast_sides.proofs.landing.land_edges.Goals as goal
 survivors_of : (all segs lent left : List Seg) → segs ≡ all → lent ≡ segs → AreSurvivors lent left → AreSurvivors all left
 survivors_of all segs lent left e d are = subst (λ (ss : List Seg). AreSurvivors ss left) (d ∙ e) are
 
-pub direct-requires-clause-clear : goal.direct-requires-clause-clear
-direct-requires-clause-clear c =
+pub new-requires : goal.new-requires
+new-requires c =
     let left = c.in_ok-left.left.items in
     let are = survivors_of (all_segments c.args.kept.now) c.in_ok-segs.segs.items c.deref.result.now left c.in_ok-segs.ensures c.deref.ensures.value c.in_ok-left.ensures in
-    subst (λ (ss : List Seg). conflicts_of ss ≡ []) (sym c.deref-2.ensures.value) (none_conflict left (clear_left c.orders_are_exact.ensures.segments (all_segments c.args.kept.now) left c.requires are))
-
-pub direct-requires-clause-even : goal.direct-requires-clause-even
-direct-requires-clause-even c =
-    let left = c.in_ok-left.left.items in
-    let are = survivors_of (all_segments c.args.kept.now) c.in_ok-segs.segs.items c.deref.result.now left c.in_ok-segs.ensures c.deref.ensures.value c.in_ok-left.ensures in
-    subst HasEvenNodes (sym c.deref-2.ensures.value) (c.closed_lines_are_even.ensures c.args.kept.now left are)
+    record {
+      rising = are.rising;
+      clear = none_conflict left (clear_left c.orders_are_exact.ensures.segments (all_segments c.args.kept.now) left c.requires are);
+      even = c.closed_lines_are_even.ensures c.args.kept.now left are;
+    }
 
 pub returns : goal.returns
 returns c =
     let left = c.in_ok-left.left.items in
     let all = all_segments c.args.kept.now in
     let are = survivors_of all c.in_ok-segs.segs.items c.deref.result.now left c.in_ok-segs.ensures c.deref.ensures.value c.in_ok-left.ensures in
-    let directed = subst (λ (ss : List Seg). AreDirected ss c.in_ok-edges.edges.items) c.deref-2.ensures.value c.in_ok-edges.ensures.odd_side in
-    let counts = subst (λ (ss : List Seg). CountsParity ss c.in_ok-edges.edges.items) c.deref-2.ensures.value c.in_ok-edges.ensures.parity in
+    let directed = subst (λ (ss : List Seg). AreDirected ss c.in_ok-edges.edges.items) c.new.ensures c.in_ok-edges.ensures.odd_side in
+    let counts = subst (λ (ss : List Seg). CountsParity ss c.in_ok-edges.edges.items) c.new.ensures c.in_ok-edges.ensures.parity in
     IfOk-weaker c.list_of.result _ _ (λ edges e.
-    let same : c.in_ok-edges.edges.items ≡ edges = sym (e ∙ c.deref-3.ensures.value) in
+    let same : c.in_ok-edges.edges.items ≡ edges = sym (e ∙ c.deref-2.ensures.value) in
     record {
       survivors = left;
       left = are;

@@ -1,6 +1,6 @@
 -- The segments of land are clear and even, land being sided.
 use Rattle.std.proofs.Common.{ap, sym, subst, ◌∙◌}
-use Rattle.osm_sides.specs.Survivors.{HasEvenNodes}
+use Rattle.osm_segments.specs.Counts.{HasEvenNodes}
 use Rattle.coast_sides.specs.Land.{HaveNoConflicts}
 use Rattle.coast_sides.specs.Water.{segments_under}
 use Rattle.coast_sides.proofs.SidedSegments.{clear_sided, even_sided, plane_sided}

@@ -6,7 +6,6 @@ use Rattle.osm_geom.specs.WholeSegment.{IsWholeSegment}
 use Rattle.osm_lattice.specs.declared.seg.Seg.{Seg}
 use Rattle.osm_segments.specs.Counts.{AreSurvivors}
 use Rattle.osm_sides.specs.Directions.{AreDirected, CountsParity}
-use Rattle.osm_sides.specs.Survivors.{HasEvenNodes}
 use Rattle.osm_geom.specs.InPlane.Sided.{IsSided, signed_count_at}
 use Rattle.coast_sides.specs.Land.{parity_at}
 use Rattle.coast_sides.proofs.Clearing.{left_parity}
@@ -16,13 +15,17 @@ survivors_of : (land sides copy lent segs given left : List Seg) → copy ≡ la
 survivors_of land sides copy lent segs given left e d is g are =
     subst (λ (ss : List Seg). AreSurvivors ss left) (g ∙ (is ∙ (ap (λ (ss : List Seg). ss ++ lent) e ∙ ap (λ (ss : List Seg). land ++ ss) d))) are
 
-pub direct-requires-clause-even : goal.direct-requires-clause-even
-direct-requires-clause-even c =
+pub new-requires : goal.new-requires
+new-requires c =
     let land = c.args.land.now in
     let sides = c.in_ok-sides.sides.items in
     let left = c.in_ok-left.left.items in
     let are = survivors_of land sides c.in_ok-segs.segs.items c.deref.result.now c.extend_from_slice.new.self.items c.deref-2.result.now left c.in_ok-segs.ensures.items c.deref.ensures.value c.in_ok-extend_from_slice.ensures.items c.deref-2.ensures.value c.in_ok-left.ensures in
-    subst HasEvenNodes (sym c.deref-3.ensures.value) (c.water_is_even.ensures land sides left c.requires.even c.in_ok-sides.ensures are)
+    record {
+      rising = are.rising;
+      clear = c.water_is_clear.ensures land sides left c.requires.clear c.in_ok-sides.ensures are;
+      even = c.water_is_even.ensures land sides left c.requires.even c.in_ok-sides.ensures are;
+    }
 
 pub returns : goal.returns
 returns c =
@@ -30,10 +33,10 @@ returns c =
     let sides = c.in_ok-sides.sides.items in
     let left = c.in_ok-left.left.items in
     let are = survivors_of land sides c.in_ok-segs.segs.items c.deref.result.now c.extend_from_slice.new.self.items c.deref-2.result.now left c.in_ok-segs.ensures.items c.deref.ensures.value c.in_ok-extend_from_slice.ensures.items c.deref-2.ensures.value c.in_ok-left.ensures in
-    let directed = subst (λ (ss : List Seg). AreDirected ss c.in_ok-edges.edges.items) c.deref-3.ensures.value c.in_ok-edges.ensures.odd_side in
-    let counts = subst (λ (ss : List Seg). CountsParity ss c.in_ok-edges.edges.items) c.deref-3.ensures.value c.in_ok-edges.ensures.parity in
+    let directed = subst (λ (ss : List Seg). AreDirected ss c.in_ok-edges.edges.items) c.new.ensures c.in_ok-edges.ensures.odd_side in
+    let counts = subst (λ (ss : List Seg). CountsParity ss c.in_ok-edges.edges.items) c.new.ensures c.in_ok-edges.ensures.parity in
     IfOk-weaker c.list_of.result _ _ (λ edges e.
-    let same : c.in_ok-edges.edges.items ≡ edges = sym (e ∙ c.deref-4.ensures.value) in
+    let same : c.in_ok-edges.edges.items ≡ edges = sym (e ∙ c.deref-3.ensures.value) in
     record {
       sides = sides;
       are_sides = c.in_ok-sides.ensures;

@@ -13,7 +13,7 @@ nest_rings-requires c =
 
 pub returns-clause-area : goal.returns-clause-area
 returns-clause-area c =
-    IfOk-weaker c.nest_rings.result _ _ (λ polygons nested. is_area c.args.survivors.now c.in_ok-edges.edges.items c.deref.result.now c.in_ok-rings.rings c.in_ok-rings.rings c.requires.some c.in_ok-edges.ensures.odd_side c.deref.ensures.value c.in_ok-rings.ensures refl polygons nested) c.nest_rings.ensures.nested
+    IfOk-weaker c.nest_rings.result _ _ (λ polygons nested. is_area c.args.outline c.in_ok-edges.edges.items c.deref.result.now c.in_ok-rings.rings c.in_ok-rings.rings c.requires c.in_ok-edges.ensures.odd_side c.deref.ensures.value c.in_ok-rings.ensures refl polygons nested) c.nest_rings.ensures.nested
 
 pub returns-clause-whole : goal.returns-clause-whole
 returns-clause-whole c =

@@ -6,12 +6,12 @@ use Rattle.osm_area.specs.declared.segments.WaySegments.{WaySegments}
 use Rattle.osm_area.proofs.OutcomeLemmas.{missing_outcome, complete_outcome}
 use Rattle.osm_area.proofs.outcome.outcome_by.Goals as goal
 
-pub returns-in_ok-list-in-None-clause-right : goal.returns-in_ok-list-in-None-clause-right
-returns-in_ok-list-in-None-clause-right c =
+pub returns-in_ok-parts-in-None-clause-right : goal.returns-in_ok-parts-in-None-clause-right
+returns-in_ok-parts-in-None-clause-right c =
     let objects = c.args.store.now in
     let ways = c.args.ways.now in
-    missing_outcome objects c.args.candidate ways c.in_ok-missing-in-None.missing.keys c.as_slice.result.now c.args.notes c.in_ok-list-in-None.list _ c.requires.ways c.requires.notes
-    c.in_ok-found.ensures.whole c.in-None.is c.in_ok-missing-in-None.ensures c.as_slice.ensures.keys c.in_ok-list-in-None.ensures
+    missing_outcome objects c.args.candidate ways c.in_ok-parts-in-None.parts.items c.args.notes c.of_missing-list.result _ c.requires.ways c.requires.notes
+    c.in_ok-found.ensures.whole c.in-None.is c.in_ok-parts-in-None.ensures c.of_missing-list.ensures
 
 pub returns-in-Some-clause-right : goal.returns-in-Some-clause-right
 returns-in-Some-clause-right c =

@@ -22,7 +22,7 @@ leave-next-requires-clause-remains c =
     let segs = c.args.segs.now in let done = c.loop-done.done in let next = c.loop-done.next in let status = c.loop-done.status in
     let y = (get_or segs done c.index-segs-done.result).a.y in
     subst (λ (ends : List Seg). Remains (ends_above y) ends next status status) (sym c.deref.ensures.value)
-    (remaining segs c.requires.rising c.requires.clear c.leaving-ends.result.items (c.leaving-ends.ensures segs c.requires.ends) done next status c.loop-done.invariant.1 y)
+    (remaining segs c.requires.outline.rising c.requires.outline.clear c.leaving-ends.result.items (c.leaving-ends.ensures segs c.requires.ends) done next status c.loop-done.invariant.1 y)
 
 pub enter_row-requires-clause-status : goal.enter_row-requires-clause-status
 enter_row-requires-clause-status c =
@@ -30,7 +30,7 @@ enter_row-requires-clause-status c =
     let swept = c.loop-done.invariant.1 in
     let up = not-false-out _ (swept.swept.later done s (omega arith) c.loop-done-test.true) in
     subst (IsStatus edge_of (vector_of (get_or segs done s).a) (take done segs)) (sym c.leave-next.ensures.stay)
-    (risen segs c.requires.rising c.requires.clear c.leaving-ends.result.items (c.leaving-ends.ensures segs c.requires.ends) done next status swept (vector_of (get_or segs done s).a) up)
+    (risen segs c.requires.outline.rising c.requires.outline.clear c.leaving-ends.result.items (c.leaving-ends.ensures segs c.requires.ends) done next status swept (vector_of (get_or segs done s).a) up)
 
 pub returns : goal.returns
 returns c = subst (λ k. AreDirectedTo c.args.segs.now k c.loop-done.edges.items) (omega (arith, c.loop-done.invariant.0)) c.loop-done.invariant.2

@@ -12,4 +12,4 @@ returns c =
     let s = c.index-segs-place.result in let t = c.index-segs-next.result in
     let at = c.stop_of-stop.result in let stop = c.stop_of-stop.ensures in
     subst (IsDirected ss next) (sym (c.is_same.ensures ∙ (ap (λ (x : Seg). same x.a at) (sym c.index-segs-next.is) ∙ ap (same t.a) stop)))
-    (sole-leaves ss c.requires.rising c.requires.clear c.requires.even place next c.args.up s t c.index-segs-place.is c.index-segs-next.is c.requires.directed (subst (λ p. IsSoleOther ss place p next) stop c.in_ok-next.ensures))
+    (sole-leaves ss c.requires.outline.rising c.requires.outline.clear c.requires.outline.even place next c.args.up s t c.index-segs-place.is c.index-segs-next.is c.requires.directed (subst (λ p. IsSoleOther ss place p next) stop c.in_ok-next.ensures))

@@ -19,14 +19,14 @@ pub place_of-place-requires-clause-flat : goal.place_of-place-requires-clause-fl
 place_of-place-requires-clause-flat c flat =
     let segs = c.args.segs.now in let k = c.loop-i.i in let s = c.index-segs-i.result in let p = c.requires.row.0 in let r = c.requires.row.1 in
     let level : s.a.y ≡ p.y = ap (λ (t : Seg). t.a.y) c.index-segs-i.is ∙ r.level k s c.loop-i.invariant.0 c.loop-i-test.true in
-    left-parts segs c.requires.rising c.requires.clear p c.args.status.now r.swept.is s.a level
+    left-parts segs c.requires.outline.rising c.requires.outline.clear p c.args.status.now r.swept.is s.a level
 
 pub place_of-place-requires-clause-sloping : goal.place_of-place-requires-clause-sloping
 place_of-place-requires-clause-sloping c sloping =
     let segs = c.args.segs.now in let k = c.loop-i.i in let s = c.index-segs-i.result in let p = c.requires.row.0 in let r = c.requires.row.1 in
     let inside : k < length segs = omega (arith, r.within) in
     let level : s.a.y ≡ p.y = ap (λ (t : Seg). t.a.y) c.index-segs-i.is ∙ r.level k s c.loop-i.invariant.0 c.loop-i-test.true in
-    counted-parts segs c.requires.rising c.requires.clear p s (subst (λ t. In t segs) (sym c.index-segs-i.is) (at-in segs k s inside)) level (sloping-high s p.y level sloping) segs c.args.status.now (λ t i. i) r.swept.is
+    counted-parts segs c.requires.outline.rising c.requires.outline.clear p s (subst (λ t. In t segs) (sym c.index-segs-i.is) (at-in segs k s inside)) level (sloping-high s p.y level sloping) segs c.args.status.now (λ t i. i) r.swept.is
 
 ends_by : (b : Bool) (p q : Loc) → (if b then Lattice p else Lattice q) ≡ Lattice (cond b p q)
 ends_by true p q = refl
@@ -37,7 +37,7 @@ loop-i-preserved c =
     let segs = c.args.segs.now in let k = c.loop-i.i in let s = c.index-segs-i.result in let p = c.requires.row.0 in let r = c.requires.row.1 in let b = c.runs_up_at.result in
     let inside : k < length segs = omega (arith, r.within) in
     let level : s.a.y ≡ p.y = ap (λ (t : Seg). t.a.y) c.index-segs-i.is ∙ r.level k s c.loop-i.invariant.0 c.loop-i-test.true in
-    let up : b ≡ odd_side.runs_up_by_odd_side (plane_edges_of segs) (edge_of s) = c.runs_up_at.ensures ∙ sym (runs_up-whole segs c.requires.rising c.requires.clear p c.args.status.now r.swept.is s level) in
+    let up : b ≡ odd_side.runs_up_by_odd_side (plane_edges_of segs) (edge_of s) = c.runs_up_at.ensures ∙ sym (runs_up-whole segs c.requires.outline.rising c.requires.outline.clear p c.args.status.now r.swept.is s level) in
     let es = c.loop-i.edges.items in let new = c.push.new.self.items in let e = c.of.result in let grown = c.in_ok-push.ensures.items in
     let from : e.from ≡ first_end segs s = c.of.ensures.from ∙ ends_by b s.a s.b ∙ ap (λ d. Lattice (cond d s.a s.b)) up in
     let to : e.to ≡ last_end segs s = c.of.ensures.to ∙ ends_by b s.b s.a ∙ ap (λ d. Lattice (cond d s.b s.a)) up in

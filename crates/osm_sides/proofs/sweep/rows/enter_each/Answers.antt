@@ -14,7 +14,7 @@ enter-requires c =
     let inside : k < length segs = omega arith in
     let level : s.a.y ≡ p.y = ap (λ (t : Seg). t.a.y) c.index-segs-i.is ∙ c.requires.row k s c.loop-i.invariant.0 c.loop-i-test.true in
     let high : ends_above p.y s ≡ true = sym c.is_above.ensures ∙ c.if-is_above.true in
-    next-parts segs c.requires.rising c.requires.clear p k s c.loop-i.status inside c.index-segs-i.is level c.loop-i.invariant.2 high
+    next-parts segs c.requires.outline.rising c.requires.outline.clear p k s c.loop-i.status inside c.index-segs-i.is level c.loop-i.invariant.2 high
 
 pub loop-i-preserved : goal.loop-i-preserved
 loop-i-preserved c =
@@ -25,11 +25,11 @@ loop-i-preserved c =
       | then-is_above+in_ok-enter w ↦
           let high : ends_above p.y s ≡ true = sym c.is_above.ensures ∙ w.if-is_above.true in
           subst (IsStatus edge_of p (take (k + 1) segs)) (sym w.status-is)
-          (entered segs c.requires.rising c.requires.clear p k s status inside c.index-segs-i.is level c.loop-i.invariant.2 _ high w.in_ok-enter.ensures)
+          (entered segs c.requires.outline.rising c.requires.outline.clear p k s status inside c.index-segs-i.is level c.loop-i.invariant.2 _ high w.in_ok-enter.ensures)
       | else-is_above w ↦
           let low : ends_above p.y s ≡ false = sym c.is_above.ensures ∙ w.if-is_above.false in
           subst (IsStatus edge_of p (take (k + 1) segs)) (sym w.status-is)
-          (passed segs c.requires.rising c.requires.clear p k s status inside c.index-segs-i.is level c.loop-i.invariant.2 low)
+          (passed segs c.requires.outline.rising c.requires.outline.clear p k s status inside c.index-segs-i.is level c.loop-i.invariant.2 low)
     ] in (omega arith, omega arith, next)
 
 pub returns : goal.returns

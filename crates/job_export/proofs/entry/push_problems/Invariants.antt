@@ -1,7 +1,0 @@
-use Rattle.std.proofs.Common.{take, true}
-use Rattle.osm_job.specs.Sent.{lines_text}
-use Rattle.job_export.specs.Entries.{AddsProblems}
-use Rattle.job_export.proofs.entry.push_problems.Given as goal
-
-abbrev pub invariant-loop-problem : goal.invariant-loop-problem
-invariant-loop-problem l = AddsProblems true l.of (take l.problem-index l.problems) (lines_text l.fn.lines.items) (lines_text l.lines.items)

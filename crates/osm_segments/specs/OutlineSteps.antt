@@ -1,0 +1,14 @@
+-- How an outline is told. No public contract cites it.
+use Rattle.std.specs.Prelude.{List, Option, None, Some, Vec, IfSome}
+use Rattle.std.specs.declared.alloc.Global.{Global}
+use Rattle.osm_lattice.specs.declared.seg.Seg.{Seg}
+use Rattle.osm_segments.specs.declared.outline.Told.{Told}
+use Rattle.osm_segments.specs.declared.outline.Told.TheVariants.{Whole, Sorted, Faulty}
+use Rattle.osm_segments.specs.Outlines.{IsOutline}
+use Rattle.osm_segments.specs.Sweep.{AreByEnds}
+
+-- what was told of segments is so
+abbrev pub IsTold : List Seg → Told → Type 0
+IsTold segs Whole = IsOutline segs
+IsTold segs (Sorted ends) = IsOutline segs × AreByEnds segs ends.items
+IsTold segs Faulty = IsOutline segs → ⊥
