@@ -1,13 +1,13 @@
 //! Where locations lie against the segments that bound an area: by one sweep upwards over both.
 
-ghost use Rattle.std.specs.Prelude.{◌≡◌, ◌||◌, ◌≤◌, ◌<◌, ◌-◌, ◌%◌, ◌==◌, [], IfOk, List, count_by, false, length, map, nat_lt, take, true};
+ghost use Rattle.std.specs.Prelude.{◌≡◌, ◌||◌, ◌≤◌, ◌<◌, ◌-◌, ◌%◌, ◌==◌, IfOk, IfSome, List, count_by, false, length, map, nat_lt, true};
 ghost use Rattle.std.specs.List.{AllWithin};
 ghost use Rattle.plane.specs.Vector.{Vector};
-ghost use Rattle.lists.specs.Rising.{IsRising};
 ghost use Rattle.osm_lattice.specs.declared.seg.Seg.{Seg};
 ghost use Rattle.osm_lattice.specs.Loc.{vector_of};
-ghost use Rattle.osm_lattice.specs.Seg.{edge_of, seg_cmp};
-ghost use Rattle.osm_segments.specs.Pairs.{conflicts_of};
+ghost use Rattle.osm_lattice.specs.Seg.{edge_of};
+ghost use Rattle.osm_segments.specs.Outlines.{IsOutline};
+ghost use Rattle.osm_segments.specs.Sweep.{AreByEnds};
 ghost use Rattle.plane_lists.specs.Statuses.Status.{IsStatus};
 ghost use Rattle.osm_sides.specs.PointPlaces.{HeightsNeverFall, place_among, place_by_parity};
 ghost use Rattle.osm_sides.specs.PointSteps.{AreLevels, passes_through};
@@ -20,7 +20,7 @@ use crate::sweep::rising::{Progress, rise};
 use crate::sweep::rows::left_from;
 use chunked_list::ChunkedList;
 use osm_geom::{Loc, Seg};
-use osm_segments::in_order_of_ends;
+use osm_segments::{Outline, in_order_of_ends};
 use std::alloc::{AllocError as OutOfMemory, Global};
 
 /// Where a location lies against the segments that bound an area.
@@ -61,12 +61,11 @@ fn is_passed(status: &ChunkedList<Seg>, from: usize, p: Loc) -> bool
 
 /// Where `p` lies against segments of which the status of a sweep at its height and the level parts are given.
 fn place_of(status: &ChunkedList<Seg>, levels: &Levels, p: Loc) -> Place
-    requires { (segs : List Seg) × IsRising seg_cmp segs × (conflicts_of segs ≡ [])
-        × AreLevels segs levels.now × (height : Vector) × (p.y ≡ height.y)
-        × IsStatus edge_of height segs status.now }
-    ensures { (segs : List Seg) → IsRising seg_cmp segs → conflicts_of segs ≡ []
-        → AreLevels segs levels.now → (height : Vector) → p.y ≡ height.y
-        → IsStatus edge_of height segs status.now → result ≡ place_among p segs }
+    requires { (segs : List Seg) × IsOutline segs × AreLevels segs levels.now
+        × (height : Vector) × (p.y ≡ height.y) × IsStatus edge_of height segs status.now }
+    ensures { (segs : List Seg) → IsOutline segs → AreLevels segs levels.now
+        → (height : Vector) → p.y ≡ height.y → IsStatus edge_of height segs status.now
+        → result ≡ place_among p segs }
 {
     let from = left_from(status, status.last_changed(), p);
     place_by(
@@ -84,8 +83,7 @@ fn places_along(
     levels: &Levels,
     points: &[Loc],
 ) -> Result<Vec<Place>, OutOfMemory>
-    requires rising { IsRising seg_cmp segs.now }
-    requires clear { conflicts_of segs.now ≡ [] }
+    requires outline { IsOutline segs.now }
     requires ends { AreEnds segs.now ends.now }
     requires levels { AreLevels segs.now levels.now }
     requires points { HeightsNeverFall points.now }
@@ -101,15 +99,33 @@ fn places_along(
     Ok(places)
 }
 
-/// Where each of some locations lies against the segments that bound an area, of which no two conflict. The locations are in order of
-/// height. Fails only if memory runs out.
-pub fn places_among(alloc: Global, segs: &[Seg], points: &[Loc]) -> Result<Vec<Place>, OutOfMemory>
-    requires rising { IsRising seg_cmp segs.now }
-    requires clear { conflicts_of segs.now ≡ [] }
-    requires points { HeightsNeverFall points.now }
-    ensures { IfOk result (λ v. v.items ≡ map (λ p. place_among p segs.now) points.now) }
+/// The segments in the order of their upper ends.
+fn in_order_to_leave(
+    alloc: Global,
+    segs: &[Seg],
+    ends: Option<Vec<Seg>>,
+) -> Result<Vec<Seg>, OutOfMemory>
+    requires { IfSome ends (λ ends. AreByEnds segs.now ends.items) }
+    ensures { IfOk result (λ ends. AreEnds segs.now ends.items) }
 {
-    let levels = Levels::of(alloc, segs)?;
-    let ends = leaving(in_order_of_ends(Vec::from_slice(alloc, segs)?));
-    places_along(alloc, segs, &ends, &levels, points)
+    match ends {
+        Some(ends) => Ok(leaving(ends)),
+        None => Ok(leaving(in_order_of_ends(Vec::from_slice(alloc, segs)?))),
+    }
+}
+
+/// Where each of some locations lies against the segments of an outline. The locations are in order of height. Fails only if memory
+/// runs out.
+pub fn places_among(
+    alloc: Global,
+    outline: Outline,
+    points: &[Loc],
+) -> Result<Vec<Place>, OutOfMemory>
+    requires { HeightsNeverFall points.now }
+    ensures { IfOk result (λ v. v.items ≡ map (λ p. place_among p outline) points.now) }
+{
+    let (segs, ends) = outline.into_parts();
+    let levels = Levels::of(alloc, &segs)?;
+    let ends = in_order_to_leave(alloc, &segs, ends)?;
+    places_along(alloc, &segs, &ends, &levels, points)
 }

@@ -1,9 +1,7 @@
 //! How a sweep goes on to the height of a location.
 
-ghost use Rattle.std.specs.Prelude.{◌≡◌, [], IfOk, false};
-ghost use Rattle.lists.specs.Rising.{IsRising};
-ghost use Rattle.osm_lattice.specs.Seg.{seg_cmp};
-ghost use Rattle.osm_segments.specs.Pairs.{conflicts_of};
+ghost use Rattle.std.specs.Prelude.{◌≡◌, IfOk, false};
+ghost use Rattle.osm_segments.specs.Outlines.{IsOutline};
 ghost use Rattle.osm_sides.specs.Sweep.{AreEnds, IsSweptFrom};
 ghost use lib.Signed.{lt_z};
 
@@ -29,8 +27,7 @@ pub fn rise(
     progress: Progress,
     at: Loc,
 ) -> Result<Progress, OutOfMemory>
-    requires rising { IsRising seg_cmp segs.now }
-    requires clear { conflicts_of segs.now ≡ [] }
+    requires outline { IsOutline segs.now }
     requires ends { AreEnds segs.now ends.now }
     requires swept { (swept : IsSweptFrom segs.now ends.now progress.begun progress.left status.old)
         × (lt_z at.y swept.height.y ≡ false) }

@@ -29,7 +29,7 @@ pub loop-p-preserved : goal.loop-p-preserved
 loop-p-preserved c =
     let segs = c.args.segs.now in let points = c.args.points.now in let j = c.loop-p.p-index in let p = c.p-item.result in
     let now = c.in_ok-progress.ensures in
-    let place = c.place_of.ensures segs c.requires.rising c.requires.clear c.requires.levels now.0.height (sym now.1) now.0.swept.is in
+    let place = c.place_of.ensures segs c.requires.outline c.requires.levels now.0.height (sym now.1) now.0.swept.is in
     (
       (now.0, λ d inside. next_above points j p d now.0.height.y c.requires.points c.p-item.is now.1 inside),
       one_more_place segs points j p c.loop-p.places.items c.push.new.self.items c.place_of.result c.loop-p.invariant.1 place c.in_ok-push.ensures.items c.p-item.is c.loop-p-test.true,

@@ -14,14 +14,14 @@ use Rattle.osm_sides.proofs.sweep.rising.rise.Goals as goal
 
 pub leave-left-requires-clause-remains : goal.leave-left-requires-clause-remains
 leave-left-requires-clause-remains c =
-    remaining c.args.segs.now c.requires.rising c.requires.clear c.args.ends.now c.requires.ends c.loop-begun.begun c.loop-begun.left c.loop-begun.status c.loop-begun.invariant.0 _
+    remaining c.args.segs.now c.requires.outline.rising c.requires.outline.clear c.args.ends.now c.requires.ends c.loop-begun.begun c.loop-begun.left c.loop-begun.status c.loop-begun.invariant.0 _
 
 pub enter_row-requires-clause-status : goal.enter_row-requires-clause-status
 enter_row-requires-clause-status c =
     let segs = c.args.segs.now in let k = c.loop-begun.begun in let s = c.index-segs-begun-in-loop-begun.result in let swept = c.loop-begun.invariant.0 in
     let up = not-false-out _ (swept.swept.later k s (omega arith) c.loop-begun-test.true) in
     subst (IsStatus edge_of (vector_of (get_or segs k s).a) (take k segs)) (sym c.leave-left.ensures.stay)
-    (risen segs c.requires.rising c.requires.clear c.args.ends.now c.requires.ends k c.loop-begun.left c.loop-begun.status swept (vector_of (get_or segs k s).a) up)
+    (risen segs c.requires.outline.rising c.requires.outline.clear c.args.ends.now c.requires.ends k c.loop-begun.left c.loop-begun.status swept (vector_of (get_or segs k s).a) up)
 
 pub loop-begun-preserved : goal.loop-begun-preserved
 loop-begun-preserved c =
@@ -31,7 +31,7 @@ loop-begun-preserved c =
 
 pub leave-left-requires-2-clause-remains : goal.leave-left-requires-2-clause-remains
 leave-left-requires-2-clause-remains c =
-    remaining c.args.segs.now c.requires.rising c.requires.clear c.args.ends.now c.requires.ends c.loop-begun.begun c.loop-begun.left c.loop-begun.status c.loop-begun.invariant.0 c.args.at.y
+    remaining c.args.segs.now c.requires.outline.rising c.requires.outline.clear c.args.ends.now c.requires.ends c.loop-begun.begun c.loop-begun.left c.loop-begun.status c.loop-begun.invariant.0 c.args.at.y
 
 pub returns : goal.returns
 returns c =
@@ -40,5 +40,5 @@ returns c =
       | then-loop-begun-test+else-begins_by w ↦ λ d inside. ap (begins_by c.args.at.y) (get_or_default segs k d w.index-segs-begun.result inside ∙ sym w.index-segs-begun.is) ∙ sym w.begins_by.ensures ∙ w.if-begins_by.false
       | else-loop-begun-test w ↦ λ d inside. absurd (let none = w.loop-begun-test.false in omega (arith, none, inside))
     ] in
-    arrived segs c.args.ends.now c.loop-begun.status c.requires.rising c.requires.clear c.requires.ends k c.loop-begun.left c.loop-begun.invariant.0 c.args.at c.loop-begun.invariant.1 later
+    arrived segs c.args.ends.now c.loop-begun.status c.requires.outline.rising c.requires.outline.clear c.requires.ends k c.loop-begun.left c.loop-begun.invariant.0 c.args.at c.loop-begun.invariant.1 later
     c.leave-left-2.result c.leave-left-2.new.status c.leave-left-2.ensures.stay c.leave-left-2.ensures.ended
