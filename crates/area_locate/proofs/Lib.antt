@@ -1,9 +1,4 @@
 mod Enclosing
 mod Founds
-mod NearAreas
-mod NearItems
-mod NearSides
-mod OnSegments
 mod OutsideSides
 mod Places
-mod SideSums

@@ -21,7 +21,7 @@ use Rattle.osm_sides.proofs.SegmentTests.{level_is, lt_by}
 
 -- ---- the signs: the steps (a, c) and (b, d) from the location to the ends
 -- both are Plus, or both are Minus
-abbrev are_alike : Sign → Sign → Bool
+abbrev pub are_alike : Sign → Sign → Bool
 are_alike Plus Plus = true
 are_alike Minus Minus = true
 are_alike s t = false
@@ -266,6 +266,16 @@ module _ (p : Loc) (s : Seg) where
       let around = ap sign (sym (orient-round (vector_of p) (vector_of s.a) (vector_of s.b))) in
       seen xa xb ya yb ∙ parts_by (level s) refl
       ∙ ap₂ (λ (k : Sign) (b : Bool). ((not (is_plus (sign ya)) && is_plus (sign yb)) && is_null k) || b) around (sym level_seen)
+
+  -- a segment that has the location on it lies to no side of it
+  pub on_between : lies_on p s ≡ true → (not (are_alike (sign xa) (sign xb)) ≡ true) × (not (are_alike (sign ya) (sign yb)) ≡ true)
+  unfolding lies_on
+  on_between on = by (are_alike (sign xa) (sign xb)) (are_alike (sign ya) (sign yb)) (sym (seen xa xb ya yb) ∙ on)
+    where
+      by : (b c : Bool) → (not (b || c) && is_null side) ≡ true → (not b ≡ true) × (not c ≡ true)
+      by false false h = (refl, refl)
+      by false true h = absurd (cc h)
+      by true c h = absurd (cc h)
 
   pub level_in_order : place_number (level_from s) ≤ place_number s.b
   level_in_order = by (level s) refl
