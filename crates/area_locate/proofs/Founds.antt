@@ -1,7 +1,8 @@
 -- What is found: the hits of each candidate, all of them, that there are some, and that they are one.
 use Rattle.std.proofs.Common.{Bool, true, false, cond, get_or, length, take, ℕ, ◌+◌, ◌<◌, List, [], ◌∷◌, ◌++◌, map, ◌%◌, ◌==◌, ◌≡◌, ◌∙◌, ◌⊎◌, ⊎_elim, refl, sym, ap, subst, inl, inr, nat_lt}
 use Rattle.std.specs.List.{flat_map}
-use Rattle.lists.proofs.ListsKit.{taken_more}
+use Rattle.std.proofs.lemmas.List.{flat_map_more}
+use Rattle.lists.proofs.ListsKit.{map-same, taken_more}
 use Rattle.osm_lattice.specs.declared.loc.Loc.{Loc}
 use Rattle.osm_lattice.specs.declared.seg.Seg.{Seg}
 use Rattle.osm_lattice.specs.Seg.{edge_of}
@@ -18,7 +19,7 @@ use Rattle.osm_area.specs.declared.outcome.Outcome.{Outcome}
 use Rattle.osm_area.proofs.SoundAreas.{survivors-one}
 use Rattle.area_locate.specs.declared.found.Found.{Found}
 use Rattle.area_locate.specs.declared.found.Hit.{Hit}
-use Rattle.area_locate.specs.Areas.{Area, AreAreas, IsAreaIn, found_at, hits_by, hits_of}
+use Rattle.area_locate.specs.Areas.{Area, AreAreas, HaveFurther, HaveHits, IsAreaIn, all_hits, found_at, hits_by, hits_of}
 use Rattle.area_locate.specs.Envelopes.{lacks}
 use Rattle.area_locate.specs.Hits.{AreFoundAmong, AreHits, IsHit, IsIn, IsOn}
 use Rattle.area_locate.specs.Laws.{FoundExists, FoundIsOne}
@@ -150,3 +151,10 @@ next_area objects cs areas k c l at are area is = subst (λ (xs : List ObjectRef
 
 pub next_none : (objects : List Object) (cs : List ObjectRef) (areas : List Area) (k : ℕ) (c : ObjectRef) → k < length cs → c ≡ get_or cs k c → AreAreas objects (take k cs) areas → (IsSound objects c → ⊥) → AreAreas objects (take (k + 1) cs) areas
 next_none objects cs areas k c l at are none = subst (λ (xs : List ObjectRef). AreAreas objects xs areas) (sym (taken_more cs k c l at)) (without_area objects (take k cs) areas c are none)
+
+pub next_hits : (objects : List Object) (cs : List ObjectRef) (points : List Loc) (k : ℕ) (c : ObjectRef) (old new : List (List Hit)) → k < length cs → c ≡ get_or cs k c → HaveHits objects (take k cs) points old →
+    ((IsSound objects c → ⊥) × (new ≡ old)) ⊎ ((area : Area) × IsAreaIn objects c area × HaveFurther (λ p. hits_of p area) points old new) → HaveHits objects (take (k + 1) cs) points new
+next_hits objects cs points k c old new l at had (inl none) = (had.0, next_none objects cs had.0 k c l at had.1 none.0, none.1 ∙ had.2)
+next_hits objects cs points k c old new l at had (inr one) =
+    (had.0 ++ one.0 ∷ [], next_area objects cs had.0 k c l at had.1 one.0 one.1,
+    one.2 (all_hits had.0) had.2 ∙ map-same (λ p. all_hits had.0 p ++ hits_of p one.0) (all_hits (had.0 ++ one.0 ∷ [])) points (λ p. flat_map_more (hits_of p) [] had.0 one.0))

@@ -6,7 +6,7 @@ use Rattle.std.proofs.lemmas.List.Sums.{sum_by-cons}
 use Rattle.std.specs.Int.Signed.{lt_z}
 use Rattle.plane.specs.RayCrossing.{IsOffEdge, is_off, up_by, down_by}
 use Rattle.plane.specs.Sign.{Sign, Minus, Null, Plus, is_plus, negated, sign}
-use Rattle.plane.specs.Vector.{cross, east, from_to}
+use Rattle.plane.specs.Vector.{cross, east, from_to, orient}
 use Rattle.plane.proofs.PlaneKit.{cross-agree, crossings-left, crossings_at, east-direction, east-side, orient-round}
 use Rattle.plane.proofs.SignKit.{Says, agree, all3-out, imp, imp-out, says, times}
 use Rattle.plane_lists.specs.Lists.EdgeList.{IsEvenAtPoints, crossing_count}

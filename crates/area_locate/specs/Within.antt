@@ -9,12 +9,16 @@ use Rattle.area_locate.specs.declared.found.Hit.{Hit}
 use Rattle.area_locate.specs.Areas.{hits_by}
 use Rattle.area_locate.specs.Envelopes.{lacks}
 
--- the places of all points in the rectangle, in order
-pub record AreWithin (envelope : Envelope) (points : List Loc) (places : List ℕ) : Type 0 where
+-- of the first so many points the places of those in the rectangle, in order
+pub record AreFirstWithin (envelope : Envelope) (points : List Loc) (count : ℕ) (places : List ℕ) : Type 0 where
   pub rising : IsStrictlyIncreasing places
-  pub inside : All (λ i. i < length points) places
-  pub within : (i : ℕ) (d : Loc) → Contains places i → lacks envelope (slice_index_or points i d) ≡ false
-  pub whole : (i : ℕ) (d : Loc) → i < length points → lacks envelope (slice_index_or points i d) ≡ false → Contains places i
+  pub inside : All (λ i. i < count) places
+  pub within : All (λ i. (d : Loc) → lacks envelope (slice_index_or points i d) ≡ false) places
+  pub whole : (i : ℕ) (d : Loc) → i < count → lacks envelope (slice_index_or points i d) ≡ false → Contains places i
+
+-- those of all points
+abbrev pub AreWithin : Envelope → List Loc → List ℕ → Type 0
+AreWithin envelope points places = AreFirstWithin envelope points (length points) places
 
 -- the hits that the j-th point gets where the points at these places lie so
 abbrev pub hits_at : ObjectRef → ℕ → List ℕ → List Place → List Hit

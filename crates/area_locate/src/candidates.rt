@@ -41,10 +41,9 @@ fn add_hits(
 ) -> Result<(), OutOfMemory>
     requires inside { All (λ i. i < length hits.old) near.now }
     requires all { length places.now ≡ length near.now }
-    ensures len { OnOk result (length hits.new ≡ length hits.old) }
-    ensures added { OnOk result ((j : ℕ) → j < length hits.old
-        → slice_index_or hits.new j [] ≡ slice_index_or hits.old j []
-        ++ hits_at of j near.now places.now) }
+    ensures { OnOk result ((length hits.new ≡ length hits.old)
+        × ((j : ℕ) → j < length hits.old → slice_index_or hits.new j []
+        ≡ slice_index_or hits.old j [] ++ hits_at of j near.now places.now)) }
 {
     for k in 0..near.len() {
         add_hit(&mut hits[near[k]], of, places[k])?;

@@ -40,7 +40,8 @@ pub(crate) fn points_at(
     places: &[usize],
 ) -> Result<Vec<Loc>, OutOfMemory>
     requires { All (λ i. i < length points.now) places.now }
-    ensures { (d : Loc) → IfOk result (λ v.
+    ensures len { IfOk result (λ v. length v.items ≡ length places.now) }
+    ensures are { (d : Loc) → IfOk result (λ v.
         v.items ≡ map (λ i. slice_index_or points.now i d) places.now) }
 {
     let mut there = Vec::with_capacity(alloc, places.len())?;
