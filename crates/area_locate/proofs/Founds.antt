@@ -1,8 +1,8 @@
 -- What is found: the hits of each candidate, all of them, that there are some, and that they are one.
-use Rattle.std.proofs.Common.{Bool, true, false, cond, get_or, length, take, ℕ, ◌+◌, ◌<◌, List, [], ◌∷◌, ◌++◌, map, ◌%◌, ◌==◌, ◌≡◌, ◌∙◌, ◌⊎◌, ⊎_elim, refl, sym, ap, subst, inl, inr, nat_lt, Option, Some, None}
+use Rattle.std.proofs.Common.{Bool, true, false, cond, get_or, length, take, ℕ, ◌+◌, ◌<◌, List, [], ◌∷◌, ◌++◌, map, ◌%◌, ◌==◌, ◌≡◌, ◌∙◌, ◌⊎◌, ⊎_elim, refl, sym, ap, subst, inl, inr, nat_lt}
 use Rattle.std.specs.List.{flat_map}
-use Rattle.std.proofs.lemmas.List.{get_or_default}
-use Rattle.lists.proofs.ListsKit.{taken_more}
+use Rattle.std.proofs.lemmas.List.{flat_map_more}
+use Rattle.lists.proofs.ListsKit.{map-same, taken_more}
 use Rattle.osm_lattice.specs.declared.loc.Loc.{Loc}
 use Rattle.osm_lattice.specs.declared.seg.Seg.{Seg}
 use Rattle.osm_lattice.specs.Seg.{edge_of}
@@ -17,18 +17,17 @@ use Rattle.osm_area.specs.Segments.{candidate_segments}
 use Rattle.osm_area.specs.Sound.{IsSound}
 use Rattle.osm_area.specs.declared.outcome.Outcome.{Outcome}
 use Rattle.osm_area.proofs.SoundAreas.{survivors-one}
-use Rattle.area_locate.specs.declared.area.Area.{Area}
 use Rattle.area_locate.specs.declared.found.Found.{Found}
 use Rattle.area_locate.specs.declared.found.Hit.{Hit}
-use Rattle.area_locate.specs.Areas.{AreAreas, IsIndexedArea, IsIndexedAreaOf, found_at, hits_by, hits_of}
+use Rattle.area_locate.specs.Areas.{Area, AreAreas, HaveFurther, HaveHits, IsAreaIn, all_hits, found_at, hits_by, hits_of}
 use Rattle.area_locate.specs.Envelopes.{lacks}
 use Rattle.area_locate.specs.Hits.{AreFoundAmong, AreHits, IsHit, IsIn, IsOn}
 use Rattle.area_locate.specs.Laws.{FoundExists, FoundIsOne}
-use Rattle.area_locate.specs.Sides.{on_count, place_among, place_by_parity}
+use Rattle.osm_sides.specs.PointPlaces.{on_count, place_among, place_by_parity}
 use Rattle.osm_sides.specs.SideTests.{left_count}
 use Rattle.osm_sides.proofs.SidesKit.{even_points}
 use Rattle.area_locate.proofs.OutsideSides.{outside_apart}
-use Rattle.area_locate.proofs.Places.{apart_place, even_sides, in_where, off_where, on_where, out_where, same_place}
+use Rattle.area_locate.proofs.Places.{apart_place, in_where, off_where, on_where, out_where}
 
 module _ (objects : List Object) (p : Loc) where
   -- ---- one candidate
@@ -54,23 +53,21 @@ module _ (objects : List Object) (p : Loc) where
         by false false h k = inr (neither h k, rest)
 
   -- ---- one area: what is outside of its envelope is apart from it
-  hits_case : (c : ObjectRef) (area : Area) (is : IsIndexedArea objects c area) (b : Bool) → lacks area.envelope p ≡ b → cond b [] (hits_by area.of (place_among p area.sides)) ≡ hits_by c (place_among p is.sides.0)
+  hits_case : (c : ObjectRef) (area : Area) (is : IsAreaIn objects c area) (b : Bool) → lacks area.envelope p ≡ b → cond b [] (hits_by area.of (place_among p area.sides)) ≡ hits_by c (place_among p area.sides)
   hits_case c area is true out =
-      let survivors = is.sides.0 in let same = is.sides.1.1 in
-      let one : is.sound.survivors ≡ survivors = survivors-one (candidate_segments objects c) is.sound.survivors survivors is.sound.survive is.sides.1.0 in
-      let even = even_sides area.sides survivors same (subst (λ (ss : List Seg). IsEvenAtPoints (map edge_of ss)) one (even_points is.sound.survivors is.sound.even)) in
-      ap (hits_by c) (sym (apart_place p area.sides (outside_apart p area.envelope area.sides is.within even out)) ∙ same_place p area.sides survivors same)
-  hits_case c area is false inside =
-      ap (λ o. hits_by o (place_among p area.sides)) is.of ∙ ap (hits_by c) (same_place p area.sides is.sides.0 is.sides.1.1)
+      let one : is.sound.survivors ≡ area.sides = survivors-one (candidate_segments objects c) is.sound.survivors area.sides is.sound.survive is.survive in
+      let even = subst (λ (ss : List Seg). IsEvenAtPoints (map edge_of ss)) one (even_points is.sound.survivors is.sound.even) in
+      ap (hits_by c) (sym (apart_place p area.sides (outside_apart p area.envelope area.sides is.within even out)))
+  hits_case c area is false inside = ap (λ o. hits_by o (place_among p area.sides)) is.of
 
   -- ---- all areas
   hits_all : (cs : List ObjectRef) (areas : List Area) → AreAreas objects cs areas → AreHits objects p cs (flat_map (hits_of p) areas)
   hits_all [] areas are = ap (flat_map (hits_of p)) are
   hits_all (c ∷ cs) areas (inl one) =
       let area = one.0 in let is = one.1 in
-      let first : hits_of p area ≡ hits_by c (place_among p is.sides.0) = hits_case c area is (lacks area.envelope p) refl in
+      let first : hits_of p area ≡ hits_by c (place_among p area.sides) = hits_case c area is (lacks area.envelope p) refl in
       subst (AreHits objects p (c ∷ cs)) (ap (λ (hits : List Hit). hits ++ flat_map (hits_of p) one.2) (sym first) ∙ ap (flat_map (hits_of p)) (sym one.4))
-      (told c is.sound is.sides.0 is.sides.1.0 cs (flat_map (hits_of p) one.2) (hits_all cs one.2 one.3))
+      (told c is.sound area.sides is.survive cs (flat_map (hits_of p) one.2) (hits_all cs one.2 one.3))
   hits_all (c ∷ cs) areas (inr none) = inr (unsound c none.0, hits_all cs areas none.1)
 
   -- ---- there are hits
@@ -138,7 +135,7 @@ pub found_exists : OutcomeExists → HasAreaExactly → FoundExists
 found_exists exists exactly choice objects points = some_found objects (candidates choice objects) exists exactly points
 
 -- ---- one more candidate
-pub with_area : (objects : List Object) (cs : List ObjectRef) (areas : List Area) (c : ObjectRef) (area : Area) → AreAreas objects cs areas → IsIndexedArea objects c area → AreAreas objects (cs ++ c ∷ []) (areas ++ area ∷ [])
+pub with_area : (objects : List Object) (cs : List ObjectRef) (areas : List Area) (c : ObjectRef) (area : Area) → AreAreas objects cs areas → IsAreaIn objects c area → AreAreas objects (cs ++ c ∷ []) (areas ++ area ∷ [])
 with_area objects [] areas c area are is = inl (area, is, [], refl, ap (λ (xs : List Area). xs ++ area ∷ []) are)
 with_area objects (d ∷ cs) areas c area (inl one) is =
     inl (one.0, one.1, one.2 ++ area ∷ [], with_area objects cs one.2 c area one.3 is, ap (λ (xs : List Area). xs ++ area ∷ []) one.4)
@@ -149,16 +146,15 @@ without_area objects [] areas c are lacking = inr (lacking, are)
 without_area objects (d ∷ cs) areas c (inl one) lacking = inl (one.0, one.1, one.2, without_area objects cs one.2 c one.3 lacking, one.4)
 without_area objects (d ∷ cs) areas c (inr none) lacking = inr (none.0, without_area objects cs areas c none.1 lacking)
 
-pub next_area : (objects : List Object) (cs : List ObjectRef) (areas new : List Area) (k : ℕ) (d : ObjectRef) → k < length cs → AreAreas objects (take k cs) areas → (found : Option Area) → IsIndexedAreaOf objects (get_or cs k d) found →
-    (area : Area) → found ≡ Some area → new ≡ areas ++ area ∷ [] → AreAreas objects (take (k + 1) cs) new
-next_area objects cs areas new k d l are found is area e more =
-    let c = get_or cs k d in
-    let both : AreAreas objects (take k cs ++ c ∷ []) (areas ++ area ∷ []) = with_area objects (take k cs) areas c area are (subst (IsIndexedAreaOf objects c) e is) in
-    subst (AreAreas objects (take (k + 1) cs)) (sym more) (subst (λ (xs : List ObjectRef). AreAreas objects xs (areas ++ area ∷ [])) (sym (taken_more cs k c l (get_or_default cs k d c l))) both)
+pub next_area : (objects : List Object) (cs : List ObjectRef) (areas : List Area) (k : ℕ) (c : ObjectRef) → k < length cs → c ≡ get_or cs k c → AreAreas objects (take k cs) areas → (area : Area) → IsAreaIn objects c area → AreAreas objects (take (k + 1) cs) (areas ++ area ∷ [])
+next_area objects cs areas k c l at are area is = subst (λ (xs : List ObjectRef). AreAreas objects xs (areas ++ area ∷ [])) (sym (taken_more cs k c l at)) (with_area objects (take k cs) areas c area are is)
 
-pub next_none : (objects : List Object) (cs : List ObjectRef) (areas new : List Area) (k : ℕ) (d : ObjectRef) → k < length cs → AreAreas objects (take k cs) areas → (found : Option Area) → IsIndexedAreaOf objects (get_or cs k d) found →
-    found ≡ None → new ≡ areas → AreAreas objects (take (k + 1) cs) new
-next_none objects cs areas new k d l are found is e same =
-    let c = get_or cs k d in
-    let both : AreAreas objects (take k cs ++ c ∷ []) areas = without_area objects (take k cs) areas c are (subst (IsIndexedAreaOf objects c) e is) in
-    subst (AreAreas objects (take (k + 1) cs)) (sym same) (subst (λ (xs : List ObjectRef). AreAreas objects xs areas) (sym (taken_more cs k c l (get_or_default cs k d c l))) both)
+pub next_none : (objects : List Object) (cs : List ObjectRef) (areas : List Area) (k : ℕ) (c : ObjectRef) → k < length cs → c ≡ get_or cs k c → AreAreas objects (take k cs) areas → (IsSound objects c → ⊥) → AreAreas objects (take (k + 1) cs) areas
+next_none objects cs areas k c l at are none = subst (λ (xs : List ObjectRef). AreAreas objects xs areas) (sym (taken_more cs k c l at)) (without_area objects (take k cs) areas c are none)
+
+pub next_hits : (objects : List Object) (cs : List ObjectRef) (points : List Loc) (k : ℕ) (c : ObjectRef) (old new : List (List Hit)) → k < length cs → c ≡ get_or cs k c → HaveHits objects (take k cs) points old →
+    ((IsSound objects c → ⊥) × (new ≡ old)) ⊎ ((area : Area) × IsAreaIn objects c area × HaveFurther (λ p. hits_of p area) points old new) → HaveHits objects (take (k + 1) cs) points new
+next_hits objects cs points k c old new l at had (inl none) = (had.0, next_none objects cs had.0 k c l at had.1 none.0, none.1 ∙ had.2)
+next_hits objects cs points k c old new l at had (inr one) =
+    (had.0 ++ one.0 ∷ [], next_area objects cs had.0 k c l at had.1 one.0 one.1,
+    one.2 (all_hits had.0) had.2 ∙ map-same (λ p. all_hits had.0 p ++ hits_of p one.0) (all_hits (had.0 ++ one.0 ∷ [])) points (λ p. flat_map_more (hits_of p) [] had.0 one.0))

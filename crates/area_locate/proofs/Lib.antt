@@ -1,9 +1,7 @@
+mod AddedHits
 mod Enclosing
 mod Founds
-mod NearAreas
-mod NearItems
-mod NearSides
-mod OnSegments
 mod OutsideSides
 mod Places
-mod SideSums
+mod SortedPoints
+mod WithinPoints

@@ -1,18 +1,18 @@
 -- Outside of the envelope of an area there is neither a side with the location on it nor an odd number of sides right of it.
-use Rattle.std.proofs.Common.{T, Bool, true, false, not, cond, eqb, eqb-true, List, [], ◌∷◌, map, refl, sym, ap, subst, arith, ℕ, ℤ, ◌&&◌, ◌||◌, ◌+◌, ◌-ℤ◌, ◌<ℤ◌, ◌%◌, ◌≡◌, ◌∙◌, ⊎_elim, All, count_by}
+use Rattle.std.proofs.Common.{T, Bool, true, false, not, cond, eqb, eqb-true, List, [], ◌∷◌, map, refl, sym, ap, subst, arith, ℕ, ℤ, ◌&&◌, ◌||◌, ◌+◌, ◌-ℤ◌, ◌<ℤ◌, ◌≤ℤ◌, ◌%◌, ◌≡◌, ◌∙◌, ⊎_elim, All, count_by}
 use Rattle.std.proofs.lemmas.Bool.{false_from_ne_true}
 use Rattle.std.proofs.lemmas.Int.{ints}
 use Rattle.std.proofs.lemmas.List.Sums.{sum_by-cons}
 use Rattle.std.specs.Int.Signed.{lt_z}
 use Rattle.plane.specs.RayCrossing.{IsOffEdge, is_off, up_by, down_by}
 use Rattle.plane.specs.Sign.{Sign, Minus, Null, Plus, is_plus, negated, sign}
-use Rattle.plane.specs.Vector.{cross, east, from_to}
+use Rattle.plane.specs.Vector.{cross, east, from_to, orient}
 use Rattle.plane.proofs.PlaneKit.{cross-agree, crossings-left, crossings_at, east-direction, east-side, orient-round}
 use Rattle.plane.proofs.SignKit.{Says, agree, all3-out, imp, imp-out, says, times}
 use Rattle.plane_lists.specs.Lists.EdgeList.{IsEvenAtPoints, crossing_count}
 use Rattle.plane_lists.proofs.WindingKit.{cross-west, parity_independent, west, west-direction}
 use Rattle.lists.specs.Member.{In}
-use Rattle.lists.proofs.ListsKit.{all-in, below_from, count_by-cons, from-map, in-all, not-true-out, or-out, total-is, total-map, total_none}
+use Rattle.lists.proofs.ListsKit.{all-in, and-left, and-right, below_from, count_by-cons, from-map, in-all, not-true-out, or-out, total-is, total-map, total_none}
 use Rattle.osm_lattice.specs.declared.loc.Loc.{Loc}
 use Rattle.osm_lattice.specs.declared.seg.Seg.{Seg}
 use Rattle.osm_lattice.specs.Loc.{vector_of}
@@ -20,9 +20,9 @@ use Rattle.osm_lattice.specs.Seg.{edge_of}
 use Rattle.osm_lattice.proofs.LatticeKit.{rising_edge}
 use Rattle.area_locate.specs.declared.envelope.Envelope.{Envelope}
 use Rattle.area_locate.specs.Envelopes.{Encloses, IsInEnvelope, lacks}
-use Rattle.area_locate.specs.Sides.{are_alike, lies_on, on_count}
+use Rattle.osm_sides.specs.PointPlaces.{lies_on, on_count}
 use Rattle.osm_sides.specs.SideTests.{left_count, left_of}
-use Rattle.area_locate.proofs.NearSides.{left_reaches, on_apart}
+use Rattle.osm_sides.proofs.SidesKit.{are_alike, on_between}
 
 -- ---- signs of numbers in order
 sign_plus : (s : Sign) (a b : ℤ) → Says s (a -ℤ b) → b <ℤ a → s ≡ Plus
@@ -41,6 +41,21 @@ above a b = sign_plus (sign (a -ℤ b)) a b (says (a -ℤ b))
 below : (a b : ℤ) → a <ℤ b → sign (a -ℤ b) ≡ Minus
 below a b = sign_minus (sign (a -ℤ b)) a b (says (a -ℤ b))
 
+-- ---- the heights that a segment spans
+spanned : (s t : Sign) (a b p : ℤ) → Says s (a -ℤ p) → Says t (b -ℤ p) → not (is_plus s) ≡ true → is_plus t ≡ true → (a ≤ℤ p) × (p ≤ℤ b)
+spanned Plus t a b p h k low high = absurd (cc low)
+spanned s Null a b p h k low high = absurd (cc high)
+spanned s Minus a b p h k low high = absurd (cc high)
+spanned Null Plus a b p h k low high = (omega (arith, ints), omega (arith, ints))
+spanned Minus Plus a b p h k low high = (omega (arith, ints), omega (arith, ints))
+
+left_reaches : (p : Loc) (s : Seg) → left_of p s ≡ true → (s.a.y ≤ℤ p.y) × (p.y ≤ℤ s.b.y)
+unfolding left_of
+left_reaches p s left =
+    let low = not (is_plus (sign (s.a.y -ℤ p.y))) in let high = is_plus (sign (s.b.y -ℤ p.y)) in
+    let span : (low && high) ≡ true = and-left (low && high) (is_plus (orient (vector_of s.a) (vector_of s.b) (vector_of p))) left in
+    spanned (sign (s.a.y -ℤ p.y)) (sign (s.b.y -ℤ p.y)) s.a.y s.b.y p.y (says (s.a.y -ℤ p.y)) (says (s.b.y -ℤ p.y)) (and-left low high span) (and-right low high span)
+
 -- ---- one side, wholly right of p, left of it, above it or below it
 data Beyond (p : Loc) (s : Seg) : Type 0 where
   right : p.x <ℤ s.a.x → p.x <ℤ s.b.x → Beyond p s
@@ -52,10 +67,10 @@ alike_clash : (s t u v : Sign) → s ≡ u → t ≡ v → are_alike u v ≡ tru
 alike_clash s t u v e f one_side apart = let whole : not (are_alike u v) ≡ true = rw (← e, ← f) apart in let clash : not true ≡ true = rw one_side at whole in cc clash
 
 beyond_off : (p : Loc) (s : Seg) → Beyond p s → lies_on p s ≡ false
-beyond_off p s (right h k) = false_from_ne_true (lies_on p s) (λ on. alike_clash _ _ Plus Plus (above s.a.x p.x h) (above s.b.x p.x k) refl (on_apart p s on).0)
-beyond_off p s (left h k) = false_from_ne_true (lies_on p s) (λ on. alike_clash _ _ Minus Minus (below s.a.x p.x h) (below s.b.x p.x k) refl (on_apart p s on).0)
-beyond_off p s (higher h k) = false_from_ne_true (lies_on p s) (λ on. alike_clash _ _ Plus Plus (above s.a.y p.y h) (above s.b.y p.y k) refl (on_apart p s on).1)
-beyond_off p s (lower h k) = false_from_ne_true (lies_on p s) (λ on. alike_clash _ _ Minus Minus (below s.a.y p.y h) (below s.b.y p.y k) refl (on_apart p s on).1)
+beyond_off p s (right h k) = false_from_ne_true (lies_on p s) (λ on. alike_clash _ _ Plus Plus (above s.a.x p.x h) (above s.b.x p.x k) refl (on_between p s on).0)
+beyond_off p s (left h k) = false_from_ne_true (lies_on p s) (λ on. alike_clash _ _ Minus Minus (below s.a.x p.x h) (below s.b.x p.x k) refl (on_between p s on).0)
+beyond_off p s (higher h k) = false_from_ne_true (lies_on p s) (λ on. alike_clash _ _ Plus Plus (above s.a.y p.y h) (above s.b.y p.y k) refl (on_between p s on).1)
+beyond_off p s (lower h k) = false_from_ne_true (lies_on p s) (λ on. alike_clash _ _ Minus Minus (below s.a.y p.y h) (below s.b.y p.y k) refl (on_between p s on).1)
 
 higher_not_left : (p : Loc) (s : Seg) → p.y <ℤ s.a.y → left_of p s ≡ false
 higher_not_left p s h = false_from_ne_true (left_of p s) (λ yes. let reach = (left_reaches p s yes).0 in omega (arith, ints))

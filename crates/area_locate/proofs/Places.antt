@@ -1,31 +1,20 @@
 -- What the place of a location among survivors tells: whether they have it on them, or it is in the area that they bound.
-use Rattle.std.proofs.Common.{Bool, true, false, not, cond, List, [], ◌∷◌, map, ℕ, ◌+◌, ◌%◌, ◌==◌, ◌<◌, ◌≡◌, ◌∙◌, refl, sym, ap, arith, inl, inr, nat_lt}
+use Rattle.std.proofs.Common.{Bool, true, false, not, cond, List, [], ◌∷◌, ℕ, ◌+◌, ◌%◌, ◌==◌, ◌<◌, ◌≡◌, ◌∙◌, refl, sym, ap, arith, inl, inr, nat_lt}
 use Rattle.std.proofs.lemmas.Bool.{eq-eqb, eqb-true, lt-ltb, ltb-true}
 use Rattle.plane.specs.RayCrossing.{is_off}
-use Rattle.plane.specs.Edge as plane
-use Rattle.plane.specs.Vector.{one_at}
-use Rattle.plane_lists.specs.Lists.EdgeList.{IsEvenAtPoints}
 use Rattle.lists.specs.Member.{In}
 use Rattle.lists.proofs.ListsKit.{count_by-cons, not-true-out}
 use Rattle.osm_lattice.specs.declared.loc.Loc.{Loc}
 use Rattle.osm_lattice.specs.declared.seg.Seg.{Seg}
 use Rattle.osm_lattice.specs.Loc.{vector_of}
 use Rattle.osm_lattice.specs.Seg.{edge_of}
-use Rattle.area_locate.specs.declared.sides.Place.TheVariants.{Off}
-use Rattle.area_locate.specs.Areas.{HaveSumsOf}
+use Rattle.osm_sides.specs.declared.places.Place.TheVariants.{Off}
 use Rattle.area_locate.specs.Hits.{IsIn, IsOn}
-use Rattle.area_locate.specs.Sides.{lies_on, on_count, place_among, place_by_parity}
+use Rattle.osm_sides.specs.PointPlaces.{lies_on, on_count, place_among, place_by_parity}
 use Rattle.osm_sides.specs.SideTests.{left_count, left_of}
 use Rattle.area_locate.proofs.OutsideSides.{IsApart, left_crosses}
-use Rattle.area_locate.proofs.SideSums.{sum_map}
 
 module _ (p : Loc) where
-  -- ---- among sides that are survivors in some order
-  pub same_place : (sides survivors : List Seg) → HaveSumsOf sides survivors → place_among p sides ≡ place_among p survivors
-  same_place sides survivors same =
-      ap (λ n. place_by_parity (nat_lt 0 n) (left_count p sides % 2 == 1)) (same (λ s. cond (lies_on p s) 1 0))
-      ∙ ap (λ n. place_by_parity (nat_lt 0 (on_count p survivors)) (n % 2 == 1)) (same (λ s. cond (left_of p s) 1 0))
-
   pub apart_place : (sides : List Seg) → IsApart p sides → place_among p sides ≡ Off
   apart_place sides apart =
       ap (λ n. place_by_parity (nat_lt 0 n) (left_count p sides % 2 == 1)) apart.none_on
@@ -73,9 +62,3 @@ module _ (p : Loc) where
   pub out_where : (ss : List Seg) → (left_count p ss % 2 == 1) ≡ false → IsIn p ss → ⊥
   out_where ss even inside =
       let odd = eq-eqb (left_count p ss % 2) 1 (ap (λ n. n % 2) (sym (left_crosses p ss)) ∙ inside.1) in cc (sym odd ∙ even)
-
--- ---- sides are even at points where survivors are
-pub even_sides : (sides survivors : List Seg) → HaveSumsOf sides survivors → IsEvenAtPoints (map edge_of survivors) → IsEvenAtPoints (map edge_of sides)
-even_sides sides survivors same even v =
-    let ends = λ (e : plane.Edge). one_at v e.from + one_at v e.to in
-    ap (λ n. n % 2) (sum_map ends edge_of sides ∙ same (λ s. ends (edge_of s)) ∙ sym (sum_map ends edge_of survivors)) ∙ even v

@@ -1,7 +1,6 @@
 -- The rectangles that areas lie in. No public contract cites it.
 use Rattle.std.specs.Prelude.{All, Bool, List, ◌||◌, ◌≤ℤ◌}
 use lib.Signed.{lt_z}
-use Rattle.osm_sides.specs.declared.bands.bands.Span.{Span}
 use Rattle.osm_lattice.specs.declared.loc.Loc.{Loc}
 use Rattle.osm_lattice.specs.declared.seg.Seg.{Seg}
 use Rattle.area_locate.specs.declared.envelope.Envelope.{Envelope}
@@ -19,6 +18,3 @@ Encloses e sides = All (λ s. IsInEnvelope e s.a × IsInEnvelope e s.b) sides
 -- p is outside
 abbrev pub lacks : Envelope → Loc → Bool
 lacks e p = lt_z p.x e.left || (lt_z e.right p.x || (lt_z p.y e.low || lt_z e.high p.y))
-
-abbrev pub heights_of : Envelope → Span
-heights_of e = record { low = e.low; high = e.high }

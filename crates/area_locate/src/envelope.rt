@@ -2,10 +2,9 @@
 
 ghost use Rattle.std.specs.Prelude.{◌≡◌};
 ghost use Rattle.osm_lattice.specs.declared.loc.Loc.{Loc};
-ghost use Rattle.area_locate.specs.Envelopes.{Encloses, IsInEnvelope, heights_of, lacks};
+ghost use Rattle.area_locate.specs.Envelopes.{Encloses, IsInEnvelope, lacks};
 
 use osm_lattice::{Loc, Seg};
-use osm_sides::bands::Span;
 
 /// A rectangle, its border included, in units of 1e-7 degree. Where `left` is above `right` it has no location.
 #[derive(Clone, Copy, Debug, PartialEq, Eq)]
@@ -56,15 +55,5 @@ impl Envelope {
         ensures { result ≡ lacks self.now p }
     {
         p.x < self.left || self.right < p.x || p.y < self.low || self.high < p.y
-    }
-
-    /// Its heights.
-    pub(crate) fn heights(&self) -> Span
-        ensures { result ≡ heights_of self.now }
-    {
-        Span {
-            low: i64::from(self.low),
-            high: i64::from(self.high),
-        }
     }
 }

@@ -1,14 +1,12 @@
 //! The locator: which areas of an input hold a location, and which have it on them.
 #![tactic(auto)]
 
-mod against_segment;
-mod area;
-mod areas;
+mod candidates;
 mod envelope;
 mod found;
 mod laws;
 mod locating;
-mod sides;
+mod within;
 
 pub use found::{Found, FoundList, Hit, Hits};
 pub use laws::{found_exists, found_is_one};

@@ -1,22 +1,61 @@
 //! The locator.
 
-ghost use Rattle.std.specs.Prelude.{◌≡◌, IfOk, map};
-ghost use Rattle.area_locate.specs.Areas.{found_at};
+ghost use Rattle.std.specs.Prelude.{◌≡◌, Contains, IfOk, IsPermutation, List, map};
+ghost use Rattle.std.specs.List.Sorted.{IsSorted};
+ghost use Rattle.osm_lattice.specs.Loc.{loc_cmp};
+ghost use Rattle.osm_lattice.specs.declared.loc.Loc.{Loc};
+ghost use Rattle.area_locate.specs.declared.found.Hit.{Hit};
 ghost use Rattle.area_locate.specs.Hits.{AreFound};
 
-use crate::areas::{Areas, areas_of};
-use crate::found::{Found, FoundList};
+use crate::candidates::hits_of_all;
+use crate::found::{Found, FoundList, Hits};
 use osm_lattice::Loc;
 use osm_objects::{Choice, Store};
 use std::alloc::{AllocError as OutOfMemory, Global};
 
-/// The hits of each point, in order.
-fn all_found(alloc: Global, areas: &Areas, points: &[Loc]) -> Result<FoundList, OutOfMemory>
-    ensures { IfOk result (λ found. found ≡ map (found_at areas.now) points.now) }
+/// The points in order.
+fn in_order(alloc: Global, points: &[Loc]) -> Result<Vec<Loc>, OutOfMemory>
+    ensures moved { IfOk result (λ v. IsPermutation points.now v.items) }
+    ensures sorted { IfOk result (λ v. IsSorted loc_cmp v.items) }
+{
+    let mut sorted = Vec::from_slice(alloc, points)?;
+    sorted.sort_unstable();
+    Ok(sorted)
+}
+
+/// A copy of the hits of a point, which stands among points in order that have these hits.
+fn hits_of_point(
+    alloc: Global,
+    sorted: &[Loc],
+    hits: &[Hits],
+    p: Loc,
+) -> Result<Hits, OutOfMemory>
+    requires sorted { IsSorted loc_cmp sorted.now }
+    requires there { Contains sorted.now p }
+    requires hits { (f : Loc → List Hit) × (hits.now ≡ map f sorted.now) }
+    ensures { (f : Loc → List Hit) → hits.now ≡ map f sorted.now
+        → IfOk result (λ copy. copy ≡ f p) }
+{
+    let place = sorted.partition_point(|q| *q < p);
+    Ok(Hits::from_vec(Vec::from_slice(alloc, hits[place].as_slice())?))
+}
+
+/// The points with their hits, in their own order.
+fn all_found(
+    alloc: Global,
+    points: &[Loc],
+    sorted: &[Loc],
+    hits: &[Hits],
+) -> Result<FoundList, OutOfMemory>
+    requires moved { IsPermutation points.now sorted.now }
+    requires sorted { IsSorted loc_cmp sorted.now }
+    requires hits { (f : Loc → List Hit) × (hits.now ≡ map f sorted.now) }
+    ensures { (f : Loc → List Hit) → hits.now ≡ map f sorted.now
+        → IfOk result (λ found. found ≡ map (λ p. record { at = p; hits = f p }) points.now) }
 {
     let mut found = FoundList::with_capacity(alloc, points.len())?;
     for &at in points {
-        let hits = areas.hits_at(alloc, at)?;
+        let hits = hits_of_point(alloc, sorted, hits, at)?;
         found.push(Found { at, hits })?;
     }
     Ok(found)
@@ -28,8 +67,8 @@ fn all_found(alloc: Global, areas: &Areas, points: &[Loc]) -> Result<FoundList, 
 /// for each point, in order. Its hits are, in order of the candidates, one for each area whose boundary it lies on
 /// and one for each area that it lies in, off the boundary; and no others.
 ///
-/// Each candidate is assembled once. The sides of its polygons are looked at through an index by heights, and so are
-/// the areas: the time goes with the points and the sides near their heights. The error is want of memory.
+/// The outline of each candidate is made once, and one sweep goes over it and the points in its rectangle: the time is n log n
+/// of both together, and that of the points at the heights of each area. Fails only if memory runs out.
 pub fn locate(
     alloc: Global,
     store: &Store,
@@ -39,6 +78,7 @@ pub fn locate(
     ensures { IfOk result (λ found. AreFound choice.now store.now points.now found) }
 {
     let candidates = store.candidates(alloc, choice)?;
-    let areas = Areas::new(alloc, areas_of(alloc, store, &candidates)?)?;
-    all_found(alloc, &areas, points)
+    let sorted = in_order(alloc, points)?;
+    let hits = hits_of_all(alloc, store, &candidates, &sorted)?;
+    all_found(alloc, points, &sorted, &hits)
 }

@@ -20,14 +20,14 @@ use Rattle.osm_segments.specs.Counts.{AreSurvivors}
 use Rattle.osm_segments.specs.Outlines.{IsOutline}
 use Rattle.osm_segments.specs.Pairs.{conflicts_of}
 use Rattle.osm_area.specs.Area.{IsArea}
-use Rattle.osm_area.specs.Made.{AreMade, IsMadeBy, IsMadeOf}
+use Rattle.osm_area.specs.Made.{AreMade, IsMadeBy, IsOutlineAmong}
 use Rattle.osm_area.specs.MemberWays.{member_ways, ways_named_twice}
 use Rattle.osm_area.specs.Missing.{missing, same_ref, way_missing}
 use Rattle.osm_area.specs.Notes.{AddsRepeats, AreNotesBefore, AreNotesGiven, named_twice_note, repeated_note}
 use Rattle.osm_area.specs.Outcome.{IsAreaOf, IsOutcome, OutcomeExists}
 use Rattle.osm_area.specs.Problems.{AreFaults, AreProblemsAmong, AreProblemsGiven, SurvivorsAre, conflict_problem, odd_problem}
 use Rattle.osm_area.specs.Segments.{candidate_segments, way_segments}
-use Rattle.osm_area.specs.Sound.{IsSound}
+use Rattle.osm_area.specs.Sound.{IsOutlineFor, IsSound}
 use Rattle.osm_area.specs.declared.outcome.Outcome.{Outcome}
 use Rattle.osm_area.specs.declared.outcome.Outcome.TheVariants as outcome
 use Rattle.osm_area.proofs.OutcomeLemmas.{none-once}
@@ -103,27 +103,35 @@ module _ (objects : List Object) (candidate : ObjectRef) (ways : List ℤ) (ways
       let some : IsSome found = test.1 (none-once (flat_map (way_missing objects) ways) same) in
       cc
 
-  pub made_by_segments : {A : Type 0} (found : Option A) (a : A) (segs lent : List Seg) → IsSome found ↔ (flat_map (way_missing objects) ways ≡ []) → found ≡ Some a → segs ≡ flat_map (way_segments objects) ways → lent ≡ segs → (made : Option (List Polygon)) → IsMadeOf lent made → IsMadeBy objects candidate made
-  made_by_segments found a segs lent test some s l None made = λ sound.
+  pub outline_by_segments : {A : Type 0} (found : Option A) (a : A) (segs lent : List Seg) → IsSome found ↔ (flat_map (way_missing objects) ways ≡ []) → found ≡ Some a → segs ≡ flat_map (way_segments objects) ways → lent ≡ segs →
+      (outline : Option (List Seg)) → IsOutlineAmong lent outline → IsOutlineFor objects candidate outline
+  outline_by_segments found a segs lent test some s l None none = λ sound.
       let same : lent ≡ candidate_segments objects candidate = l ∙ s ∙ ap (flat_map (way_segments objects)) ways_are in
-      let one = survivors-one (candidate_segments objects candidate) sound.survivors made.0 sound.survive (subst (λ (ss : List Seg). AreSurvivors ss made.0) same made.1.0) in
+      let one = survivors-one (candidate_segments objects candidate) sound.survivors none.0 sound.survive (subst (λ (ss : List Seg). AreSurvivors ss none.0) same none.1.0) in
       let is : IsOutline sound.survivors = record { rising = sound.survive.rising; clear = sound.clear; even = sound.even } in
-      made.1.1 (subst (λ (ss : List Seg). ss ≢ []) one sound.some) (subst IsOutline one is)
-  made_by_segments found a segs lent test some s l (Some polygons) made =
+      none.1.1 (subst (λ (ss : List Seg). ss ≢ []) one sound.some) (subst IsOutline one is)
+  outline_by_segments found a segs lent test some s l (Some outline) is =
       let same : lent ≡ candidate_segments objects candidate = l ∙ s ∙ ap (flat_map (way_segments objects)) ways_are in
       let held : IsSome found = ap is_some some in
-      let are : AreSurvivors (candidate_segments objects candidate) made.0 = subst (λ (ss : List Seg). AreSurvivors ss made.0) same made.1.0 in
-      let is = made.1.1 in (
+      let are : AreSurvivors (candidate_segments objects candidate) outline = subst (λ (ss : List Seg). AreSurvivors ss outline) same is.0 in (
         record {
           complete = ap (λ ids. each_once same_ref (flat_map (way_missing objects) ids)) (sym ways_are) ∙ ap (each_once same_ref) (test.0 held);
-          survivors = made.0;
+          survivors = outline;
           survive = are;
-          some = is.some;
-          clear = is.outline.clear;
-          even = is.outline.even;
+          some = is.1;
+          clear = is.2.clear;
+          even = is.2.even;
         },
-        (made.0, (are, is.area)),
+        are,
       )
+
+-- the outline of an area has segments
+pub some_outline : (objects : List Object) (candidate : ObjectRef) (outline : List Seg) → IsOutlineFor objects candidate (Some outline) → outline ≢ []
+some_outline objects candidate outline is =
+    subst (λ (ss : List Seg). ss ≢ []) (survivors-one (candidate_segments objects candidate) is.0.survivors outline is.0.survive is.1) is.0.some
+
+pub made_by_outline : (objects : List Object) (candidate : ObjectRef) (outline : List Seg) (polygons : List Polygon) → IsOutlineFor objects candidate (Some outline) → IsArea outline polygons → IsMadeBy objects candidate (Some polygons)
+made_by_outline objects candidate outline polygons is area = (is.0, (outline, (is.1, area)))
 
 pub sound_exactly : (objects : List Object) (candidate : ObjectRef) (made : Option (List Polygon)) → IsMadeBy objects candidate made → IsSome made ↔ IsSound objects candidate
 sound_exactly objects candidate None made = ((λ some. absurd (cc)), (λ sound. absurd (made sound)))

@@ -7,6 +7,7 @@ use Rattle.osm_geom.specs.WholeSegment.{IsWholeSegment}
 use Rattle.osm_nest.specs.declared.polygon.Polygon.{Polygon}
 use Rattle.osm_nest.specs.Nested.{HasKinds}
 use Rattle.osm_nest.specs.Polygons.{rings_of}
+use Rattle.osm_segments.specs.Counts.{AreSurvivors}
 use Rattle.osm_segments.specs.Outlines.{IsOutline}
 use Rattle.osm_area.specs.Area.{IsArea}
 use Rattle.osm_area.specs.Problems.{SurvivorsAre}
@@ -29,10 +30,10 @@ IsMade survivors (Area polygons) = AreMade survivors polygons
 IsMade survivors Nothing = survivors ≡ []
 IsMade survivors (Faulty left) = (survivors ≢ []) × (left.items ≡ survivors) × (IsOutline survivors → ⊥)
 
--- what survives of these segments makes these polygons; none where no segment or no outline survives
-abbrev pub IsMadeOf : List Seg → Option (List Polygon) → Type 0
-IsMadeOf segs None = SurvivorsAre segs (λ survivors. survivors ≢ [] → IsOutline survivors → ⊥)
-IsMadeOf segs (Some polygons) = SurvivorsAre segs (λ survivors. AreMade survivors polygons)
+-- the outline that survives of these segments; none where no segment or no outline survives
+abbrev pub IsOutlineAmong : List Seg → Option (List Seg) → Type 0
+IsOutlineAmong segs None = SurvivorsAre segs (λ survivors. survivors ≢ [] → IsOutline survivors → ⊥)
+IsOutlineAmong segs (Some outline) = AreSurvivors segs outline × (outline ≢ []) × IsOutline outline
 
 -- the candidate is sound, and its surviving segments make these polygons; none where it isn't sound
 abbrev pub IsMadeBy : List Object → ObjectRef → Option (List Polygon) → Type 0

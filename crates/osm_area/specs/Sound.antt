@@ -1,5 +1,5 @@
 -- What a candidate needs to have an area.
-use Rattle.std.specs.Prelude.{List, [], ◌≡◌, ◌≢◌}
+use Rattle.std.specs.Prelude.{List, [], None, Option, Some, ◌≡◌, ◌≢◌}
 use Rattle.osm_lattice.specs.declared.seg.Seg.{Seg}
 use Rattle.osm_elements.specs.declared.object.Object.{Object}
 use Rattle.osm_elements.specs.declared.object.ObjectRef.{ObjectRef}
@@ -21,3 +21,8 @@ pub record IsSoundGiven (missing : List ObjectRef) (segments : List Seg) : Type 
 
 abbrev pub IsSound : List Object → ObjectRef → Type 0
 IsSound objects candidate = IsSoundGiven (missing objects candidate) (candidate_segments objects candidate)
+
+-- the segments that survive of a sound candidate; none where it isn't sound
+abbrev pub IsOutlineFor : List Object → ObjectRef → Option (List Seg) → Type 0
+IsOutlineFor objects candidate None = IsSound objects candidate → ⊥
+IsOutlineFor objects candidate (Some outline) = IsSound objects candidate × AreSurvivors (candidate_segments objects candidate) outline

@@ -7,7 +7,7 @@ ghost use Rattle.osm_geom.specs.WholeSegment.{IsWholeSegment};
 ghost use Rattle.osm_nest.specs.Nested.{HasKinds};
 ghost use Rattle.osm_nest.specs.Polygons.{rings_of};
 ghost use Rattle.osm_area.specs.Area.{IsArea};
-ghost use Rattle.osm_area.specs.Made.{IsMade, IsMadeOf};
+ghost use Rattle.osm_area.specs.Made.{IsMade, IsOutlineAmong};
 
 use osm_geom::Seg;
 use osm_nest::{Polygons, nest_rings, rings_may_be_nested};
@@ -19,7 +19,7 @@ use std::mem;
 
 /// The polygons that an outline makes: directed by the odd side, which is on their left, cut into rings, and each
 /// inner ring put under the outer one that directly encloses it.
-fn area(alloc: Global, outline: Outline) -> Result<Polygons, OutOfMemory>
+pub(crate) fn area(alloc: Global, outline: Outline) -> Result<Polygons, OutOfMemory>
     requires { outline ≢ [] }
     ensures area { IfOk result (λ polygons. IsArea outline polygons) }
     ensures rings { IfOk result (λ polygons. All HasKinds polygons) }
@@ -61,13 +61,16 @@ pub(crate) fn made_of(alloc: Global, survivors: Vec<Seg>) -> Result<Made, OutOfM
     }
 }
 
-/// The polygons that the survivors of segments make, if they make an area.
-pub(crate) fn polygons_of(alloc: Global, segs: &[Seg]) -> Result<Option<Polygons>, OutOfMemory>
-    ensures { IfOk result (IsMadeOf segs.now) }
+/// The outline that survives of segments. None where nothing survives or no outline does.
+pub(crate) fn outline_among(alloc: Global, segs: &[Seg]) -> Result<Option<Outline>, OutOfMemory>
+    ensures { IfOk result (IsOutlineAmong segs.now) }
 {
     let left = survivors(alloc, segs)?;
-    match made_of(alloc, left)? {
-        Made::Area(polygons) => Ok(Some(polygons)),
-        Made::Nothing | Made::Faulty(_) => Ok(None),
+    if left.is_empty() {
+        return Ok(None);
+    }
+    match outline_of(alloc, left)? {
+        Ok(outline) => Ok(Some(outline)),
+        Err(_) => Ok(None),
     }
 }

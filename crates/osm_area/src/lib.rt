@@ -19,6 +19,6 @@ mod segments;
 
 pub use laws::{areas_have_kinds, has_area_exactly, outcome_exists};
 pub use one_outcome::outcome_is_one;
-pub use outcome::{Outcome, area_of, assemble};
+pub use outcome::{Outcome, area_of, area_outline, assemble};
 pub use outcome_lists::Notes;
 pub use problems::Problems;

@@ -13,9 +13,9 @@ ghost use Rattle.osm_area.specs.Notes.{AddsRepeats, named_twice_note};
 ghost use Rattle.osm_area.specs.RoleWalk.{HaveSegments};
 ghost use Rattle.osm_area.specs.Roles.{role_notes_of};
 ghost use Rattle.osm_area.specs.Segments.{way_segments};
-ghost use Rattle.osm_area.specs.Sound.{IsSound};
+ghost use Rattle.osm_area.specs.Sound.{IsOutlineFor, IsSound};
 
-use crate::area::{Made, made_of, polygons_of};
+use crate::area::{Made, area, made_of, outline_among};
 use crate::laws::outcome_exists;
 use crate::member_ways::named_ways;
 use crate::missing::missing;
@@ -29,7 +29,7 @@ use osm_elements::{ObjectKind, ObjectRef};
 use osm_geom::Seg;
 use osm_nest::Polygons;
 use osm_objects::Store;
-use osm_segments::cancel;
+use osm_segments::{Outline, cancel};
 use std::alloc::{AllocError as OutOfMemory, Global};
 
 /// What comes of a candidate.
@@ -183,41 +183,61 @@ pub fn assemble(alloc: Global, store: &Store, candidate: ObjectRef) -> Result<Ou
     outcome_of(alloc, store, candidate)
 }
 
-/// The polygons that ways make, each of them once, if they make an area.
-fn area_by(
+/// The outline that ways make, each of them once, if they make an area.
+fn outline_by(
     alloc: Global,
     store: &Store,
     candidate: ObjectRef,
     ways: &[i64],
-) -> Result<Option<Polygons>, OutOfMemory>
+) -> Result<Option<Outline>, OutOfMemory>
     requires { ways.now ≡ member_ways store.now candidate }
-    ensures { IfOk result (IsMadeBy store.now candidate) }
+    ensures { IfOk result (IsOutlineFor store.now candidate) }
 {
     match segments(alloc, store, ways)? {
-        Some(found) => polygons_of(alloc, &found.segs),
+        Some(found) => outline_among(alloc, &found.segs),
         None => Ok(None),
     }
 }
 
-/// The polygons of a candidate's area by the ways that it names.
+/// The outline of a candidate's area by the ways that it names.
 ///
 /// Ways: names that all differ; all others by a table of them.
-fn area_by_names(
+fn outline_by_names(
     alloc: Global,
     store: &Store,
     candidate: ObjectRef,
-) -> Result<Option<Polygons>, OutOfMemory>
-    ensures { IfOk result (IsMadeBy store.now candidate) }
+) -> Result<Option<Outline>, OutOfMemory>
+    ensures { IfOk result (IsOutlineFor store.now candidate) }
 {
     let named = named_ways(alloc, store, candidate)?;
     if all_differ(alloc, &named)? {
-        return area_by(alloc, store, candidate, &named);
+        return outline_by(alloc, store, candidate, &named);
     }
     let distinct = each_once(alloc, &named)?;
-    area_by(alloc, store, candidate, distinct.as_slice())
+    outline_by(alloc, store, candidate, distinct.as_slice())
 }
 
-/// The polygons of a candidate's area. A way names itself alone.
+/// The outline of a candidate's area: the segments that survive. None exactly where it has no area; why isn't listed, and no
+/// polygon is made. A way names itself alone.
+///
+/// Fails only if memory runs out.
+pub fn area_outline(
+    alloc: Global,
+    store: &Store,
+    candidate: ObjectRef,
+) -> Result<Option<Outline>, OutOfMemory>
+    ensures { IfOk result (IsOutlineFor store.now candidate) }
+{
+    match candidate.kind {
+        ObjectKind::Way => {
+            let ways = [candidate.id];
+            outline_by(alloc, store, candidate, &ways)
+        }
+        ObjectKind::Node | ObjectKind::Relation => outline_by_names(alloc, store, candidate),
+    }
+}
+
+/// The polygons of a candidate's area, by its outline.
 fn made_by(
     alloc: Global,
     store: &Store,
@@ -225,13 +245,11 @@ fn made_by(
 ) -> Result<Option<Polygons>, OutOfMemory>
     ensures { IfOk result (IsMadeBy store.now candidate) }
 {
-    match candidate.kind {
-        ObjectKind::Way => {
-            let ways = [candidate.id];
-            area_by(alloc, store, candidate, &ways)
-        }
-        ObjectKind::Node | ObjectKind::Relation => area_by_names(alloc, store, candidate),
-    }
+    let Some(outline) = area_outline(alloc, store, candidate)? else {
+        return Ok(None);
+    };
+    let polygons = area(alloc, outline)?;
+    Ok(Some(polygons))
 }
 
 /// The polygons of a candidate's outcome. None exactly where it has problems; these are not listed, and nothing is noted.

@@ -4,7 +4,11 @@ mod DirectionLists
 mod Ends
 mod Followers
 mod HeightBands
+mod LevelCounts
+mod LevelParts
 mod OddSideCounts
+mod PassedPoints
+mod RisingSweeps
 pub mod PlaneEdges
 mod Pushes
 mod SegmentTests

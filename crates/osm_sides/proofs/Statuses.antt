@@ -27,11 +27,11 @@ use Rattle.lists.specs.Rising.{IsRising}
 use Rattle.osm_segments.specs.Pairs.{conflicts_of}
 use Rattle.osm_sides.specs.SideTests.{counted, left_count, left_of, level, right_count, starts_left}
 use Rattle.osm_sides.specs.Survivors.{plane_edges_of}
-use Rattle.osm_sides.specs.Sweep.{AreDirectedTo, AreEnds, IsEntered, IsSweptTo, begins_by, ends_above}
+use Rattle.osm_sides.specs.Sweep.{AreDirectedTo, AreEnds, IsEntered, IsSweptFrom, IsSweptTo, begins_by, ends_above}
 use Rattle.osm_sides.proofs.OddSideCounts.{runs_up_is}
 use Rattle.osm_sides.proofs.StatusEdges.{counts-is}
 use Rattle.osm_sides.proofs.Survivors.{conflict_free}
-use Rattle.osm_sides.proofs.SweptHeights.{begins-later, begins-level, ended-away, ends-sooner, high-sign, later-away, level-sign, none-begun, span-ends, span-is, span-slopes, spans, IsSweptBeforeRow}
+use Rattle.osm_sides.proofs.SweptHeights.{begins-later, begins-level, ended-away, ends-sooner, high-sign, later-away, level-sign, none-begun, span-ends, span-is, span-slopes, spans}
 
 -- ---- lists
 -- tests that agree on the items of a list keep the same ones, and part it alike
@@ -96,7 +96,7 @@ module _ (segs : List Seg) (rising : IsRising seg_cmp segs) (clear : conflicts_o
   }
 
   -- ---- a greater height
-  module _ (ends : List Seg) (are : AreEnds segs ends) (k next : ℕ) (status : List Seg) (swept : IsSweptBeforeRow segs ends k next status) where
+  module _ (ends : List Seg) (are : AreEnds segs ends) (k next : ℕ) (status : List Seg) (swept : IsSweptFrom segs ends k next status) where
     -- the status is of those that haven't ended
     pub remaining : (y : ℤ) → Remains (ends_above y) ends next status status
     remaining y =
@@ -118,7 +118,7 @@ module _ (segs : List Seg) (rising : IsRising seg_cmp segs) (clear : conflicts_o
   -- ---- the odd side by places in the status
   module _ (p : Vector) (status : List Seg) (is : IsStatus edge_of p segs status) where
     module _ (q : Loc) (level : q.y ≡ p.y) where
-      at-point : IsStatus edge_of (vector_of q) segs status
+      pub at-point : IsStatus edge_of (vector_of q) segs status
       at-point = climbs edge_of p (vector_of q) segs status (plane_edges_of segs) free (in-map edge_of segs) is (λ t i. ap (λ (z : ℤ). not (is_plus (sign (t.a.y -ℤ z))) && is_plus (sign (t.b.y -ℤ z))) (sym level))
 
       left-on : (t u : Seg) → In u (filter (λ (t : Seg). is_in_span (vector_of q) (edge_of t)) segs) → right_of (vector_of q) (edge_of t) (edge_of u) ≡ true → left_of q t ≡ true → left_of q u ≡ true
@@ -159,7 +159,7 @@ module _ (segs : List Seg) (rising : IsRising seg_cmp segs) (clear : conflicts_o
 abbrev low : Vector
 low = record { x = pos 0; y = negsuc 1_000_000_000 }
 
-pub none-swept : (segs ends : List Seg) → IsSweptBeforeRow segs ends 0 0 []
+unfoldable pub none-swept : (segs ends : List Seg) → IsSweptFrom segs ends 0 0 []
 none-swept segs ends = record {
   height = low;
   swept = record {

@@ -18,7 +18,7 @@ use Rattle.osm_lattice.specs.declared.seg.Seg.{Seg}
 use Rattle.osm_lattice.specs.Seg.{edge_of, seg_cmp}
 use Rattle.lists.specs.Rising.{IsRising}
 use Rattle.osm_sides.specs.SideTests.{level}
-use Rattle.osm_sides.specs.Sweep.{EndsNeverFall, begins_by, ends_above, IsSweptTo}
+use Rattle.osm_sides.specs.Sweep.{EndsNeverFall, begins_by, ends_above}
 use Rattle.osm_sides.proofs.SegmentTests.{level_is, lt_by}
 
 lt-plus : (x y : ℤ) → lt_z x y ≡ is_plus (sign (y -ℤ x))
@@ -122,10 +122,3 @@ low_number z h = grind (arith, ints)
 
 pub none-begun : (t : Seg) → begins_by (negsuc 1_000_000_000) t ≡ false
 none-begun t = low_number t.a.y t.a.y_in
-
--- ---- where the sweep stands
--- before a row: the sweep has come to some height, and none of the ends before a place is above it
-pub record IsSweptBeforeRow (segs ends : List Seg) (k next : ℕ) (status : List Seg) : Type 0 where
-  pub height : Vector
-  pub swept : IsSweptTo height segs k status
-  pub ended : AllWithin (λ t. ends_above height.y t ≡ false) ends 0 next

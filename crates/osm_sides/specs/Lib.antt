@@ -2,6 +2,8 @@ pub mod Directions
 pub mod Following
 pub mod HeightBands
 pub mod Laws
+pub mod PointPlaces
+pub mod PointSteps
 pub mod SideTests
 pub mod Stabs
 pub mod Survivors

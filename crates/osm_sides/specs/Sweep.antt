@@ -47,6 +47,12 @@ pub record IsSweptTo (p : Vector) (segs : List Seg) (k : ℕ) (status : List Seg
   pub later : AllWithin (λ t. begins_by p.y t ≡ false) segs k (length segs)
   pub is : IsStatus edge_of p segs status
 
+-- It has come to some height: the first k of the segments begin by it, and none of the ends before a place is above it.
+pub record IsSweptFrom (segs ends : List Seg) (k next : ℕ) (status : List Seg) : Type 0 where
+  pub height : Vector
+  pub swept : IsSweptTo height segs k status
+  pub ended : AllWithin (λ t. ends_above height.y t ≡ false) ends 0 next
+
 -- and those from one place up to another begin at it
 pub record IsRow (segs : List Seg) (from to : ℕ) (p : Vector) (status : List Seg) : Type 0 where
   pub more : from < to

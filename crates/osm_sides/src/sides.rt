@@ -5,7 +5,7 @@ ghost use Rattle.plane_lists.specs.Lists.OddSide.{runs_up_by_odd_side};
 ghost use Rattle.osm_lattice.specs.Seg.{edge_of};
 ghost use Rattle.osm_sides.specs.Survivors.{plane_edges_of};
 ghost use Rattle.osm_sides.specs.SideTests.{span, left_of, starts_left, level, same, forks_right, counted, left_count, right_count};
-ghost use Rattle.osm_sides.specs.Sweep.{ends_above};
+ghost use Rattle.osm_sides.specs.Sweep.{begins_by, ends_above};
 
 use osm_geom::{Loc, Seg};
 
@@ -69,6 +69,13 @@ pub fn is_above(t: Seg, at: Loc) -> bool
     ensures { result ≡ ends_above at.y t }
 {
     at.y < t.b.y
+}
+
+/// Its lower end is no higher than `at`.
+pub fn begins_by(t: Seg, at: Loc) -> bool
+    ensures { result ≡ begins_by at.y t }
+{
+    !(at.y < t.a.y)
 }
 
 /// How many segments have `p` on their left.

@@ -1,4 +1,5 @@
-//! Directions of many segments, by one sweep upwards.
+//! One sweep upwards over many segments: their directions, and where locations lie against them.
 
 pub mod leaving;
+pub mod rising;
 pub mod rows;

@@ -91,9 +91,11 @@ fn right_from(status: &ChunkedList<Seg>, near: usize, s: Seg) -> usize
 }
 
 /// Where those of the status begin that have `p` on their left: they stand last.
-fn left_from(status: &ChunkedList<Seg>, near: usize, p: Loc) -> usize
+pub(crate) fn left_from(status: &ChunkedList<Seg>, near: usize, p: Loc) -> usize
     requires { IsPartitionedBy (λ t. not (left_of p t)) status.now }
     ensures within { result ≤ length status.now }
+    ensures before { AllWithin (λ t. left_of p t ≡ false) status.now 0 result }
+    ensures after { AllWithin (λ t. left_of p t ≡ true) status.now result (length status.now) }
     ensures count { length status.now - result ≡ left_count p status.now }
 {
     status.partition_point_near(near, |t| !is_left_of(p, *t))

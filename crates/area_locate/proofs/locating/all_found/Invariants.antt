@@ -1,7 +1,8 @@
--- What is found of the points so far.
-use Rattle.std.proofs.Common.{◌≡◌, map, take}
-use Rattle.area_locate.specs.Areas.{found_at}
+-- The points so far have their hits.
+use Rattle.std.proofs.Common.{List, map, take, ◌≡◌}
+use Rattle.osm_lattice.specs.declared.loc.Loc.{Loc}
+use Rattle.area_locate.specs.declared.found.Hit.{Hit}
 use Rattle.area_locate.proofs.locating.all_found.Given as goal
 
 abbrev pub invariant-loop-at : goal.invariant-loop-at
-invariant-loop-at l = l.found ≡ map (found_at l.areas) (take l.at-index l.points)
+invariant-loop-at l = (f : Loc → List Hit) → l.hits ≡ map f l.sorted → l.found ≡ map (λ p. record { at = p; hits = f p }) (take l.at-index l.points)

@@ -1,10 +1,10 @@
--- A way names itself.
-use Rattle.std.proofs.Common.{◌∷◌, [], ◌∙◌, FitsSigned, ap, rules, w64, ℤ}
-use Rattle.std.proofs.lemmas.Int.{to_z-of_z}
-use Rattle.osm_area.proofs.OutcomeLemmas.{one_way}
+-- An outline of an area has segments.
+use Rattle.std.proofs.Common.{List, Option, subst}
+use Rattle.osm_lattice.specs.declared.seg.Seg.{Seg}
+use Rattle.osm_area.specs.Sound.{IsOutlineFor}
+use Rattle.osm_area.proofs.MadeLemmas.{some_outline}
 use Rattle.osm_area.proofs.outcome.made_by.Goals as goal
 
-pub area_by-requires : goal.area_by-requires
-area_by-requires c =
-    let fits : FitsSigned w64 c.args.candidate.id = search rules in
-    ap (λ (id : ℤ). id ∷ []) (to_z-of_z w64 c.args.candidate.id fits) ∙ one_way c.args.store.now c.args.candidate c.in-Way.is
+pub area-requires : goal.area-requires
+area-requires c =
+    some_outline c.args.store.now c.args.candidate c.in-Some.outline (subst (IsOutlineFor c.args.store.now c.args.candidate) c.in-Some.is c.in_ok-outline.ensures)

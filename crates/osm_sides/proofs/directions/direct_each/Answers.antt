@@ -4,16 +4,15 @@ use Rattle.plane_lists.specs.Statuses.Status.{IsStatus}
 use Rattle.osm_lattice.specs.declared.seg.Seg.{Seg}
 use Rattle.osm_lattice.specs.Loc.{vector_of}
 use Rattle.osm_lattice.specs.Seg.{edge_of}
-use Rattle.osm_sides.specs.Sweep.{AreDirectedTo, EndsNeverFall, ends_above}
+use Rattle.osm_sides.specs.Sweep.{AreDirectedTo, EndsNeverFall, IsSweptFrom, ends_above}
 use Rattle.osm_sides.proofs.Statuses.{none-directed, none-swept, remaining, risen}
 use Rattle.osm_sides.proofs.directions.direct_each.Goals as goal
-use Rattle.osm_sides.proofs.SweptHeights.{IsSweptBeforeRow}
 use Rattle.lists.proofs.ListsKit.{not-false-out}
 
 pub loop-done-init : goal.loop-done-init
 loop-done-init c =
     let segs = c.args.segs.now in let ends = c.leaving-ends.result.items in
-    (omega arith, subst (IsSweptBeforeRow segs ends 0 0) (sym c.new-status.ensures) (none-swept segs ends), subst (AreDirectedTo segs 0) (sym c.in_ok-edges.ensures.items) (none-directed segs))
+    (omega arith, subst (IsSweptFrom segs ends 0 0) (sym c.new-status.ensures) (none-swept segs ends), subst (AreDirectedTo segs 0) (sym c.in_ok-edges.ensures.items) (none-directed segs))
 
 pub leave-next-requires-clause-rise : goal.leave-next-requires-clause-rise
 leave-next-requires-clause-rise c = subst EndsNeverFall (sym c.deref.ensures.value) (c.leaving-ends.ensures c.args.segs.now c.requires.ends).rise
