@@ -1,4 +1,3 @@
-mod CellPairs
 mod ConflictKinds
 pub mod CountLemmas
 mod EdgeMeetings
@@ -7,11 +6,16 @@ mod EdgePairs
 mod FoundPairs
 mod LaterSegments
 mod Parities
+mod PlaceOrders
 mod RepeatLists
 mod RisingPairs
 mod SegmentTests
 pub mod SegmentsKit
+mod SettledPairs
 mod StandOnce
+mod StripOrders
 mod Sweeps
 mod SweptLists
 mod TiltedEdges
+mod ToldPlaces
+mod TriedPairs

@@ -1,8 +1,9 @@
 pub mod Counts
 pub mod Repeats
 pub mod Pairs
+pub mod Places
 pub mod Tilted
+pub mod Ranges
 pub mod Sweep
 pub mod Parity
-pub mod Cells
 pub mod Laws

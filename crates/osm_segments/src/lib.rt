@@ -2,13 +2,14 @@
 //! repeatedly, which conflict, and at which locations an odd number of them end.
 #![tactic(auto)]
 
-mod cells;
 mod counts;
 mod faults;
 mod few;
 mod laws;
 mod pairs;
 mod parity;
+mod places;
+mod ranges;
 mod sweep;
 
 pub use counts::{Cancelled, Repeat, cancel, distinct, odd_nodes, repeated, survivors};

@@ -12,7 +12,7 @@ pub(crate) const FEW: usize = 32;
 
 /// Two segments, if they conflict.
 #[tactic(auto, unfolding(crate::specs::Pairs::pair_of))]
-fn pair_of(first: Seg, second: Seg) -> Option<Pair>
+pub(crate) fn pair_of(first: Seg, second: Seg) -> Option<Pair>
     ensures { result ≡ pair_of first second }
 {
     if are_apart(first, second) {

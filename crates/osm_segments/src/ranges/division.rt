@@ -1,0 +1,127 @@
+//! Strips halved until each segment runs through or few are left.
+//!
+//! A segment that runs through a strip is put into a row there and goes no further; the others go to the halves that they reach. Two
+//! segments in conflict stay together until one of them runs through a strip in which they conflict.
+ghost use Rattle.std.specs.Prelude.{◌≤ℤ◌, Contains, IfOk, OnOk};
+ghost use Rattle.osm_lattice.specs.declared.loc.Loc.{Loc};
+ghost use Rattle.osm_segments.specs.declared.places.Places.{Places};
+ghost use Rattle.osm_lattice.specs.Seg.{seg_cmp};
+ghost use Rattle.lists.specs.Rising.{IsRising};
+ghost use Rattle.osm_segments.specs.Places.{AreConflictPlaces};
+ghost use Rattle.osm_segments.specs.Ranges.{AreSettled, AreToldOrClear, IsGrown, IsReduced, height, places_cmp};
+
+use crate::pairs::Pair;
+use crate::places::Places;
+use crate::ranges::rows::{ByRun, in_order_across, part_by_run};
+use crate::ranges::strips::{
+    SegAt, Strip, heights_of, reaching_above, reaching_below, with_places,
+};
+use crate::ranges::telling::{settle_rows, try_each};
+use lists::counts_determine;
+use osm_lattice::{Loc, Seg, conflicts_are_symmetric};
+use std::alloc::{AllocError as OutOfMemory, Global};
+
+/// At most this many segments are tried in pairs; a strip of more is halved.
+const FEW: usize = 24;
+
+/// Settles those that run through a strip, and gives the others.
+fn settle_through(
+    alloc: Global,
+    told: &mut Vec<Places>,
+    segs: &[Seg],
+    strip: Strip,
+    all: &[SegAt],
+) -> Result<Vec<SegAt>, OutOfMemory>
+    ensures grown { IfOk result (λ others. IsGrown segs.now told.old.items told.new.items) }
+    ensures reduced { IfOk result (λ others. IsReduced segs.now strip told.new.items others.items all.now) }
+{
+    let ByRun { through, others } = part_by_run(alloc, strip, all)?;
+    let through = in_order_across(strip, through);
+    settle_rows(alloc, told, segs, strip, through, &others)?;
+    Ok(others)
+}
+
+/// Settles the segments of a strip, which is halved at heights within it.
+fn settle_strip(
+    alloc: Global,
+    told: &mut Vec<Places>,
+    segs: &[Seg],
+    strip: Strip,
+    heights: &[Loc],
+    all: &[SegAt],
+) -> Result<(), OutOfMemory>
+    ensures grown { OnOk result (IsGrown segs.now told.old.items told.new.items) }
+    ensures settled { OnOk result (AreSettled segs.now told.new.items strip all.now) }
+{
+    if all.len() <= FEW {
+        return try_each(told, segs, strip, all);
+    }
+    let others = settle_through(alloc, told, segs, strip, all)?;
+    if heights.is_empty() {
+        return try_each(told, segs, strip, &others);
+    }
+    let at = heights.len() / 2;
+    let middle = heights[at];
+    let half = reaching_below(alloc, &others, middle)?;
+    let lower = Strip {
+        low: strip.low,
+        high: middle,
+    };
+    settle_strip(alloc, told, segs, lower, &heights[..at], &half)?;
+    let half = reaching_above(alloc, &others, middle)?;
+    let upper = Strip {
+        low: middle,
+        high: strip.high,
+    };
+    settle_strip(alloc, told, segs, upper, &heights[at + 1..], &half)
+}
+
+/// All of the plane.
+fn whole_plane() -> Strip
+    ensures low { (p : Loc) → height result.low ≤ℤ height p }
+    ensures high { (p : Loc) → height p ≤ℤ height result.high }
+{
+    Strip {
+        low: Loc {
+            x: -1_800_000_000,
+            y: -900_000_000,
+        },
+        high: Loc {
+            x: 1_800_000_000,
+            y: 900_000_000,
+        },
+    }
+}
+
+/// Places in order, each once.
+fn each_once(mut told: Vec<Places>) -> Vec<Places>
+    ensures kept { (p : Places) → Contains told.items p → Contains result.items p }
+    ensures known { (p : Places) → Contains result.items p → Contains told.items p }
+    ensures rising { IsRising places_cmp result.items }
+{
+    told.sort_unstable();
+    told.dedup();
+    told
+}
+
+/// Settles all segments of a list.
+fn settle_list(alloc: Global, told: &mut Vec<Places>, segs: &[Seg]) -> Result<(), OutOfMemory>
+    ensures grown { OnOk result (IsGrown segs.now told.old.items told.new.items) }
+    ensures told { OnOk result (AreToldOrClear segs.now told.new.items) }
+{
+    let all = with_places(alloc, segs)?;
+    let heights = heights_of(alloc, segs)?;
+    settle_strip(alloc, told, segs, whole_plane(), &heights, &all)
+}
+
+/// The places of all conflicting pairs among segments in strict order, in order.
+pub fn conflict_places(alloc: Global, segs: &[Seg]) -> Result<Vec<Places>, OutOfMemory>
+    requires { IsRising seg_cmp segs.now }
+    ensures { IfOk result (λ v. AreConflictPlaces segs.now v.items) }
+{
+    conflicts_are_symmetric();
+    counts_determine::<Pair>();
+    let mut told = Vec::new(alloc);
+    settle_list(alloc, &mut told, segs)?;
+    Ok(each_once(told))
+}
