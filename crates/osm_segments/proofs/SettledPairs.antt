@@ -13,7 +13,7 @@ use Rattle.osm_segments.specs.declared.places.Places.{Places}
 use Rattle.osm_segments.specs.declared.ranges.strips.SegAt.{SegAt}
 use Rattle.osm_segments.specs.declared.ranges.strips.Strip.{Strip}
 use Rattle.osm_segments.specs.Places.{pair_at}
-use Rattle.osm_segments.specs.Ranges.{AreKept, AreSettled, BothRun, IsConflictAt, IsGrown, IsReduced, IsSettled, IsTold, IsTried, RunClear, RunsLeft, StandInRow, height}
+use Rattle.osm_segments.specs.Ranges.{AreKept, AreSettled, BothRun, IsConflictAt, IsGrown, IsReduced, IsSettled, IsToldOrNone, IsTried, RunClear, RunsLeft, StandInRow, height}
 use Rattle.osm_segments.proofs.StripOrders.{clear_upon, left_chain, left_in_part, turned_run}
 
 -- ---- what was told stays told
@@ -26,7 +26,7 @@ grown_more segs old mid new first second = record {
   known = λ p c. ⊎_elim (λ (c : Contains mid p). first.known p c) (λ (k : IsConflictAt segs p). inr k) (second.known p c);
 }
 
-told_still : (segs : List Seg) (old new : List Places) (p : Places) → AreKept old new → IsTold segs old p → IsTold segs new p
+told_still : (segs : List Seg) (old new : List Places) (p : Places) → AreKept old new → IsToldOrNone segs old p → IsToldOrNone segs new p
 told_still segs old new p kept (inl c) = inl (kept p c)
 told_still segs old new p kept (inr none) = inr none
 

@@ -24,7 +24,7 @@ use Rattle.osm_segments.specs.declared.places.Places.{Places}
 use Rattle.osm_segments.specs.contracts.pairs.PairOrd.TheImpl.{cmp-value}
 use Rattle.osm_segments.specs.Pairs.{conflicts_of, pair_cmp, pair_of}
 use Rattle.osm_segments.specs.Places.{AreConflictPlaces, pair_at}
-use Rattle.osm_segments.specs.Ranges.{AreToldOrClear, IsConflictAt, IsGrown, IsTold, IsTried, places_cmp}
+use Rattle.osm_segments.specs.Ranges.{AreToldOrClear, IsConflictAt, IsGrown, IsToldOrNone, IsTried, places_cmp}
 use Rattle.osm_segments.proofs.FoundPairs.{pair_exact, pair_itself, rising_whole, same_once}
 use Rattle.osm_segments.proofs.RisingPairs.{IsOf, before_by_first, before_by_second, conflicts_rising, pair_is}
 
@@ -115,12 +115,9 @@ at_places : (segs : List Seg) (p : Places) (s t : Seg) → slice_get segs p.firs
 unfolding pair_at
 at_places segs p s t e f = rw (e, f) refl
 
-clear_pair : (s t : Seg) → conflict_of s t ≡ None → pair_of s t ≡ None
-unfolding pair_of
-clear_pair s t none = ap (option_map {U = Pair} (λ k. record { kind = k; first = s; second = t })) none
-
 pub clear_at_places : (segs : List Seg) (p : Places) (s t : Seg) → slice_get segs p.first ≡ Some s → slice_get segs p.second ≡ Some t → conflict_of s t ≡ None → pair_at segs p ≡ None
-clear_at_places segs p s t e f none = at_places segs p s t e f ∙ clear_pair s t none
+unfolding pair_of
+clear_at_places segs p s t e f none = at_places segs p s t e f ∙ ap (option_map {U = Pair} (λ k. record { kind = k; first = s; second = t })) none
 
 -- ---- the conflicts of a list by their places
 pub record StandsIn (segs : List Seg) (x : Pair) : Type 0 where

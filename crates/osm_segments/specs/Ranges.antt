@@ -58,13 +58,13 @@ abbrev pub RunClear : Strip → Seg → Seg → Type 0
 RunClear strip s t = (p q : Loc) → BothRun strip s t p q → RunsLeft p q s t ⊎ RunsLeft p q t s
 
 -- these places were told, or no conflict is there
-abbrev pub IsTold : List Seg → List Places → Places → Type 0
-IsTold segs told p = Contains told p ⊎ (pair_at segs p ≡ None)
+abbrev pub IsToldOrNone : List Seg → List Places → Places → Type 0
+IsToldOrNone segs told p = Contains told p ⊎ (pair_at segs p ≡ None)
 
 -- the segments at two places were told, or tried without finding a conflict
 abbrev pub IsTried : List Seg → List Places → ℕ → ℕ → Type 0
 IsTried segs told i j =
-    IsTold segs told (record { first = i; second = j }) ⊎ IsTold segs told (record { first = j; second = i })
+    IsToldOrNone segs told (record { first = i; second = j }) ⊎ IsToldOrNone segs told (record { first = j; second = i })
 
 -- they are one, or were tried, or are clear within the strip
 abbrev pub IsSettled : List Seg → List Places → Strip → SegAt → SegAt → Type 0

@@ -33,7 +33,8 @@ fn settle_through(
     all: &[SegAt],
 ) -> Result<Vec<SegAt>, OutOfMemory>
     ensures grown { IfOk result (λ others. IsGrown segs.now told.old.items told.new.items) }
-    ensures reduced { IfOk result (λ others. IsReduced segs.now strip told.new.items others.items all.now) }
+    ensures reduced { IfOk result (λ others. IsReduced segs.now strip told.new.items others.items
+        all.now) }
 {
     let ByRun { through, others } = part_by_run(alloc, strip, all)?;
     let through = in_order_across(strip, through);

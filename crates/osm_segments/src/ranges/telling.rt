@@ -11,7 +11,8 @@ use std::alloc::{AllocError as OutOfMemory, Global};
 
 /// Two places, the lesser first.
 fn in_order(i: u32, j: u32) -> Places
-    ensures { ((result ≡ record { first = i; second = j }) × (i < j)) ⊎ ((result ≡ record { first = j; second = i }) × (j ≤ i)) }
+    ensures { ((result ≡ record { first = i; second = j }) × (i < j))
+        ⊎ ((result ≡ record { first = j; second = i }) × (j ≤ i)) }
 {
     if i < j {
         return Places {
@@ -121,8 +122,10 @@ fn settle_row(
     others: &[SegAt],
 ) -> Result<Vec<SegAt>, OutOfMemory>
     ensures grown { IfOk result (λ rest. IsGrown segs.now told.old.items told.new.items) }
-    ensures shorter { IfOk result (λ rest. 0 < length all.now → length rest.items < length all.now) }
-    ensures reduced { IfOk result (λ rest. IsReduced segs.now strip told.new.items (rest.items ++ others.now) (all.now ++ others.now)) }
+    ensures shorter { IfOk result (λ rest. 0 < length all.now
+        → length rest.items < length all.now) }
+    ensures reduced { IfOk result (λ rest. IsReduced segs.now strip told.new.items
+        (rest.items ++ others.now) (all.now ++ others.now)) }
 {
     let SideBySide { row, rest } = row_of(alloc, strip, all)?;
     settle_all(told, segs, strip, &row, &rest)?;
@@ -140,7 +143,8 @@ pub fn settle_rows(
     others: &[SegAt],
 ) -> Result<(), OutOfMemory>
     ensures grown { OnOk result (IsGrown segs.now told.old.items told.new.items) }
-    ensures reduced { OnOk result (IsReduced segs.now strip told.new.items others.now (all.items ++ others.now)) }
+    ensures reduced { OnOk result (IsReduced segs.now strip told.new.items others.now
+        (all.items ++ others.now)) }
 {
     let mut rest = all;
     while !rest.is_empty() {
