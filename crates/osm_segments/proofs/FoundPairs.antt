@@ -23,7 +23,7 @@ module _ {X : Type 0} {R : X → X → Ordering} (itself : (x : X) → R x x ≡
   counts_itself y x e = rw (e, itself x) refl
 
   -- a member stands at least once
-  counted : (x : X) (xs : List X) → Contains xs x → 0 < count_of R x xs
+  pub counted : (x : X) (xs : List X) → Contains xs x → 0 < count_of R x xs
   counted x [] c = absurd (no_member x c)
   counted x (y ∷ ys) c =
       ⊎_elim
@@ -37,7 +37,7 @@ module _ {X : Type 0} {R : X → X → Ordering} (itself : (x : X) → R x x ≡
   member_by Greater x y ys e some later = later_member y x ys (later (omega arith))
 
   -- what stands there is a member
-  member : (x : X) (xs : List X) → 0 < count_of R x xs → Contains xs x
+  pub member : (x : X) (xs : List X) → 0 < count_of R x xs → Contains xs x
   member x [] some = absurd (omega arith)
   member x (y ∷ ys) some = member_by (R y x) x y ys refl (omega (arith, count-cons R x y ys)) (member x ys)
 

@@ -16,6 +16,7 @@ mod StandOnce
 mod StripOrders
 mod Sweeps
 mod SweptLists
+mod SweptParts
 mod TiltedEdges
 mod ToldPlaces
 mod TriedPairs

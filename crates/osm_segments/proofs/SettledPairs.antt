@@ -50,7 +50,8 @@ turned_tried segs told i j (inr t) = inl t
 pub turned_settled : (segs : List Seg) (told : List Places) (strip : Strip) (s t : SegAt) → IsSettled segs told strip s t → IsSettled segs told strip t s
 turned_settled segs told strip s t (inl e) = inl (sym e)
 turned_settled segs told strip s t (inr (inl tried)) = inr (inl (turned_tried segs told s.place t.place tried))
-turned_settled segs told strip s t (inr (inr clear)) = inr (inr (turned_clear strip s.seg t.seg clear))
+turned_settled segs told strip s t (inr (inr (inl clear))) = inr (inr (inl (turned_clear strip s.seg t.seg clear)))
+turned_settled segs told strip s t (inr (inr (inr none))) = inr (inr (inr (none.1, none.0)))
 
 -- ---- rows
 -- what both have of a strip lies within the part in which the second runs
@@ -83,8 +84,8 @@ settled_in_row segs told strip row stand s t (i, hi, ei) (j, hj, ej) =
     ⊎_elim
     (λ (e : i ≡ j). inl (ap (λ (u : SegAt). u.place) (sym ei ∙ (same_get row i s t hi ∙ (ap (λ k. get_or row k t) e ∙ ej)))))
     (λ (n : i ≢ j). ⊎_elim
-    (λ (l : i < j). inr (inr (row_left strip s.seg t.seg (row_at strip row stand s t i j l hj ei ej))))
-    (λ (l : j ≤ i). inr (inr (turned_clear strip t.seg s.seg (row_left strip t.seg s.seg (row_at strip row stand t s j i (omega (arith, n)) hi ej ei)))))
+    (λ (l : i < j). inr (inr (inl (row_left strip s.seg t.seg (row_at strip row stand s t i j l hj ei ej)))))
+    (λ (l : j ≤ i). inr (inr (inl (turned_clear strip t.seg s.seg (row_left strip t.seg s.seg (row_at strip row stand t s j i (omega (arith, n)) hi ej ei))))))
     (cases_lt i j))
     (cases_eq i j)
 
@@ -117,10 +118,10 @@ module _ (segs : List Seg) (told : List Places) (strip part : Strip) (row : List
   pub settled_beside : (s : SegAt) → Contains row s → IsSettled segs told strip s t
   settled_beside s (k, inside, e) =
       ⊎_elim
-      (λ (l : k < from). inr (inr (left_of s k l e)))
+      (λ (l : k < from). inr (inr (inl (left_of s k l e))))
       (λ (l : from ≤ k). ⊎_elim
       (λ (m : k < to). inr (inl (subst (λ (u : SegAt). IsTried segs told u.place t.place) e (tried k s l m))))
-      (λ (m : to ≤ k). inr (inr (right_of s k m inside e)))
+      (λ (m : to ≤ k). inr (inr (inl (right_of s k m inside e))))
       (cases_lt k to))
       (cases_lt k from)
 
@@ -231,9 +232,11 @@ module _ (segs : List Seg) (told : List Places) (strip : Strip) (m : Loc) (s t :
   upon : IsSettled segs told (record { low = strip.low; high = m }) s t → IsSettled segs told (record { low = m; high = strip.high }) s t → IsSettled segs told strip s t
   upon (inl e) above = inl e
   upon (inr (inl tried)) above = inr (inl tried)
-  upon (inr (inr clear)) (inl e) = inl e
-  upon (inr (inr clear)) (inr (inl tried)) = inr (inl tried)
-  upon (inr (inr clear)) (inr (inr clear')) = inr (inr (clear_upon strip m s.seg t.seg clear clear'))
+  upon (inr (inr (inr none))) above = inr (inr (inr none))
+  upon (inr (inr (inl clear))) (inl e) = inl e
+  upon (inr (inr (inl clear))) (inr (inl tried)) = inr (inl tried)
+  upon (inr (inr (inl clear))) (inr (inr (inr none))) = inr (inr (inr none))
+  upon (inr (inr (inl clear))) (inr (inr (inl clear'))) = inr (inr (inl (clear_upon strip m s.seg t.seg clear clear')))
 
 pub halves_settled : (segs : List Seg) (mid told : List Places) (strip : Strip) (m : Loc) (all below above : List SegAt) →
     ((s : SegAt) → Contains all s → Contains below s ⊎ (height m ≤ℤ height s.seg.a)) → ((s : SegAt) → Contains all s → Contains above s ⊎ (height s.seg.b ≤ℤ height m)) → AreKept mid told →
@@ -243,10 +246,10 @@ halves_settled segs mid told strip m all below above to_below to_above kept sett
     (⊎_elim
     (λ (r : Contains below s). ⊎_elim
     (λ (q : Contains below t). settled_still segs mid told (record { low = strip.low; high = m }) s t kept (settled_below s t r q))
-    (λ (h : height m ≤ℤ height t.seg.a). inr (inr (high_one segs told strip m s t (inr h)))) (to_below t j))
-    (λ (h : height m ≤ℤ height s.seg.a). inr (inr (high_one segs told strip m s t (inl h)))) (to_below s i))
+    (λ (h : height m ≤ℤ height t.seg.a). inr (inr (inl (high_one segs told strip m s t (inr h))))) (to_below t j))
+    (λ (h : height m ≤ℤ height s.seg.a). inr (inr (inl (high_one segs told strip m s t (inl h))))) (to_below s i))
     (⊎_elim
     (λ (r : Contains above s). ⊎_elim
     (λ (q : Contains above t). settled_above s t r q)
-    (λ (h : height t.seg.b ≤ℤ height m). inr (inr (low_one segs told strip m s t (inr h)))) (to_above t j))
-    (λ (h : height s.seg.b ≤ℤ height m). inr (inr (low_one segs told strip m s t (inl h)))) (to_above s i))
+    (λ (h : height t.seg.b ≤ℤ height m). inr (inr (inl (low_one segs told strip m s t (inr h))))) (to_above t j))
+    (λ (h : height s.seg.b ≤ℤ height m). inr (inr (inl (low_one segs told strip m s t (inl h))))) (to_above s i))

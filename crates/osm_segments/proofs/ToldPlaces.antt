@@ -119,6 +119,10 @@ pub clear_at_places : (segs : List Seg) (p : Places) (s t : Seg) → slice_get s
 unfolding pair_of
 clear_at_places segs p s t e f none = at_places segs p s t e f ∙ ap (option_map {U = Pair} (λ k. record { kind = k; first = s; second = t })) none
 
+pub kind_at_places : (segs : List Seg) (p : Places) (s t : Seg) (k : Kind) → slice_get segs p.first ≡ Some s → slice_get segs p.second ≡ Some t → conflict_of s t ≡ Some k → pair_at segs p ≡ Some (record { kind = k; first = s; second = t })
+unfolding pair_of
+kind_at_places segs p s t k e f some = at_places segs p s t e f ∙ ap (option_map {U = Pair} (λ k. record { kind = k; first = s; second = t })) some
+
 -- ---- the conflicts of a list by their places
 pub record StandsIn (segs : List Seg) (x : Pair) : Type 0 where
   pub first : ℕ
@@ -228,6 +232,14 @@ own_none s x e = none_by (seg_cmp s s) (tied_itself seg_total s) e
     none_by Equal h e = cc e
     none_by Less h e = cc h
     none_by Greater h e = cc h
+
+pub own_kind : (s t : Seg) → s ≡ t → conflict_of s t ≡ None
+own_kind s t e = subst (λ u. conflict_of s u ≡ None) e (none_by (seg_cmp s s) (tied_itself seg_total s))
+  where
+    none_by : (o : Ordering) → o ≡ Equal → cond (is_eq o) None (cond (are_overlapping s s) (Some Overlap) (cond (are_crossing s s) (Some Crossing) None)) ≡ None
+    none_by Equal h = refl
+    none_by Less h = cc h
+    none_by Greater h = cc h
 
 pub own_place : (segs : List Seg) (i : ℕ) (x : Pair) → pair_at segs (record { first = i; second = i }) ≡ Some x → ⊥
 own_place segs i x e =

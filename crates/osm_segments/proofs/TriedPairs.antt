@@ -13,6 +13,7 @@ use Rattle.plane.specs.Sign.{Minus, Null, Plus, Sign, sign}
 use Rattle.plane.proofs.SignKit.{says-at}
 use Rattle.osm_lattice.specs.declared.loc.Loc.{Loc}
 use Rattle.osm_lattice.specs.declared.seg.Seg.{Seg}
+use Rattle.osm_lattice.specs.Conflict.{conflict_of}
 use Rattle.osm_lattice.specs.Loc.{loc_cmp, vector_of}
 use Rattle.osm_lattice.proofs.LatticeKit.{loc_cmp-is}
 use Rattle.osm_segments.specs.declared.pairs.Pair.{Pair}
@@ -99,15 +100,18 @@ module _ (s0 : Seg) (ss : List Seg) (told : List Places) (strip : Strip) (all : 
   t-is : t ≡ record { seg = get_or (s0 ∷ ss) j s0; place = j }
   t-is = each j some h
 
+  none_there : conflict_of s.seg t.seg ≡ None → pair_at (s0 ∷ ss) (record { first = i; second = j }) ≡ None
+  none_there none =
+      clear_at_places (s0 ∷ ss) (record { first = i; second = j }) s.seg t.seg
+      (slice_get-get_or (s0 ∷ ss) i s0 (omega arith) ∙ ap Some (sym (ap (λ (u : SegAt). u.seg) s-is)))
+      (slice_get-get_or (s0 ∷ ss) j s0 h ∙ ap Some (sym (ap (λ (u : SegAt). u.seg) t-is)))
+      none
+
   by_settled : IsSettled (s0 ∷ ss) told strip s t → IsTried (s0 ∷ ss) told i j ⊎ (pair_at (s0 ∷ ss) (record { first = i; second = j }) ≡ None)
   by_settled (inl e) = let f : i ≡ j = sym (ap (λ (u : SegAt). u.place) s-is) ∙ (e ∙ ap (λ (u : SegAt). u.place) t-is) in absurd (omega arith)
   by_settled (inr (inl tried)) = inl (subst (λ (u : SegAt). IsTried (s0 ∷ ss) told u.place j) s-is (subst (λ (u : SegAt). IsTried (s0 ∷ ss) told s.place u.place) t-is tried))
-  by_settled (inr (inr clear)) =
-      inr
-      (clear_at_places (s0 ∷ ss) (record { first = i; second = j }) s.seg t.seg
-      (slice_get-get_or (s0 ∷ ss) i s0 (omega arith) ∙ ap Some (sym (ap (λ (u : SegAt). u.seg) s-is)))
-      (slice_get-get_or (s0 ∷ ss) j s0 h ∙ ap Some (sym (ap (λ (u : SegAt). u.seg) t-is)))
-      (clear_everywhere strip low high s.seg t.seg clear))
+  by_settled (inr (inr (inl clear))) = inr (none_there (clear_everywhere strip low high s.seg t.seg clear))
+  by_settled (inr (inr (inr none))) = inr (none_there none.0)
 
 pub told_or_clear : (segs : List Seg) (told : List Places) (strip : Strip) (all : List SegAt) → ((p : Loc) → height strip.low ≤ℤ height p) → ((p : Loc) → height p ≤ℤ height strip.high) → length all ≡ length segs →
     ((k : ℕ) (d : SegAt) → k < length segs → get_or all k d ≡ record { seg = get_or segs k d.seg; place = k }) → AreSettled segs told strip all → AreToldOrClear segs told

@@ -7,6 +7,7 @@ use Rattle.plane.specs.Sign.{Plus, Sign, sign}
 use Rattle.plane.specs.Vector.{cross}
 use Rattle.osm_lattice.specs.declared.loc.Loc.{Loc}
 use Rattle.osm_lattice.specs.declared.seg.Seg.{Seg}
+use Rattle.osm_lattice.specs.Conflict.{conflict_of}
 use Rattle.osm_segments.specs.declared.pairs.Pair.{Pair}
 use Rattle.osm_segments.specs.declared.places.Places.{Places}
 use Rattle.osm_segments.specs.declared.ranges.strips.SegAt.{SegAt}
@@ -66,10 +67,14 @@ abbrev pub IsTried : List Seg → List Places → ℕ → ℕ → Type 0
 IsTried segs told i j =
     IsToldOrNone segs told (record { first = i; second = j }) ⊎ IsToldOrNone segs told (record { first = j; second = i })
 
--- they are one, or were tried, or are clear within the strip
+-- the two don't conflict, whichever is named first
+abbrev pub HaveNoConflict : Seg → Seg → Type 0
+HaveNoConflict s t = (conflict_of s t ≡ None) × (conflict_of t s ≡ None)
+
+-- they are one, or were tried, or are clear within the strip or everywhere
 abbrev pub IsSettled : List Seg → List Places → Strip → SegAt → SegAt → Type 0
 IsSettled segs told strip s t =
-    (s.place ≡ t.place) ⊎ (IsTried segs told s.place t.place ⊎ RunClear strip s.seg t.seg)
+    (s.place ≡ t.place) ⊎ (IsTried segs told s.place t.place ⊎ (RunClear strip s.seg t.seg ⊎ HaveNoConflict s.seg t.seg))
 
 -- each two of them are settled
 abbrev pub AreSettled : List Seg → List Places → Strip → List SegAt → Type 0

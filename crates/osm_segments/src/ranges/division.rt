@@ -2,14 +2,16 @@
 //!
 //! A segment that runs through a strip is put into a row there and goes no further; the others go to the halves that they reach. Two
 //! segments in conflict stay together until one of them runs through a strip in which they conflict.
-ghost use Rattle.std.specs.Prelude.{◌≤ℤ◌, Contains, IfOk, OnOk};
+ghost use Rattle.std.specs.Prelude.{◌≡◌, ◌≤ℤ◌, Contains, IfOk, OnOk, map, true};
 ghost use Rattle.osm_lattice.specs.declared.loc.Loc.{Loc};
 ghost use Rattle.osm_segments.specs.declared.places.Places.{Places};
+ghost use Rattle.osm_segments.specs.declared.ranges.strips.SegAt.{SegAt};
 ghost use Rattle.osm_lattice.specs.Seg.{seg_cmp};
 ghost use Rattle.lists.specs.Rising.{IsRising};
 ghost use Rattle.osm_segments.specs.Places.{AreConflictPlaces};
-ghost use Rattle.osm_segments.specs.Ranges.{AreSettled, AreToldOrClear, IsGrown, IsReduced, height, places_cmp};
+ghost use Rattle.osm_segments.specs.Ranges.{AreSettled, AreToldOrClear, HaveNoConflict, IsGrown, IsReduced, height, places_cmp};
 
+use crate::counts::distinct;
 use crate::pairs::Pair;
 use crate::places::Places;
 use crate::ranges::rows::{ByRun, in_order_across, part_by_run};
@@ -17,6 +19,7 @@ use crate::ranges::strips::{
     SegAt, Strip, heights_of, reaching_above, reaching_below, with_places,
 };
 use crate::ranges::telling::{settle_rows, try_each};
+use crate::sweep::clear::{by_ends, is_clear};
 use lists::counts_determine;
 use osm_lattice::{Loc, Seg, conflicts_are_symmetric};
 use std::alloc::{AllocError as OutOfMemory, Global};
@@ -42,6 +45,29 @@ fn settle_through(
     Ok(others)
 }
 
+/// The segments, without their places.
+fn segs_of(alloc: Global, all: &[SegAt]) -> Result<Vec<Seg>, OutOfMemory>
+    ensures { IfOk result (λ v. v.items ≡ map (λ s. s.seg) all.now) }
+{
+    let mut segs = Vec::with_capacity(alloc, all.len())?;
+    for s in all {
+        segs.push(s.seg)?;
+    }
+    Ok(segs)
+}
+
+/// Whether one sweep finds segments free of conflicts.
+fn are_clear(alloc: Global, all: &[SegAt]) -> Result<bool, OutOfMemory>
+    ensures { IfOk result (λ clear. clear ≡ true → (s t : SegAt) → Contains all.now s
+        → Contains all.now t → HaveNoConflict s.seg t.seg) }
+{
+    conflicts_are_symmetric();
+    let segs = segs_of(alloc, all)?;
+    let segs = distinct(alloc, &segs)?;
+    let ends = by_ends(alloc, &segs)?;
+    is_clear(alloc, &segs, &ends)
+}
+
 /// Settles the segments of a strip, which is halved at heights within it.
 fn settle_strip(
     alloc: Global,
@@ -56,6 +82,9 @@ fn settle_strip(
 {
     if all.len() <= FEW {
         return try_each(told, segs, strip, all);
+    }
+    if are_clear(alloc, all)? {
+        return Ok(());
     }
     let others = settle_through(alloc, told, segs, strip, all)?;
     if heights.is_empty() {

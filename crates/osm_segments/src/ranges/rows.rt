@@ -89,26 +89,40 @@ pub fn in_order_across(strip: Strip, mut through: Vec<SegAt>) -> Vec<SegAt>
     through
 }
 
-/// Where those of a row end that are left of a segment.
-pub fn end_of_left(strip: Strip, row: &[SegAt], t: Seg) -> usize
+/// Whether those of a row that are left of a segment seem to end at a place.
+fn seems_end_of_left(strip: Strip, row: &[SegAt], place: usize, t: Seg) -> bool
+    requires { place ≤ length row.now }
+{
+    (place == 0 || runs_left(strip, row[place - 1].seg, t))
+        && (place == row.len() || !runs_left(strip, row[place].seg, t))
+}
+
+/// Where those of a row end that are left of a segment, looked for first at a place.
+pub fn end_of_left(strip: Strip, row: &[SegAt], near: usize, t: Seg) -> usize
     ensures within { result ≤ length row.now }
     ensures left { 0 < result → (d : SegAt)
         → RunsLeft strip.low strip.high (slice_index_or row.now (result - 1) d).seg t }
 {
-    let mut end = row.partition_point(|s| runs_left(strip, s.seg, t));
+    let mut end = near.min(row.len());
+    if !seems_end_of_left(strip, row, end, t) {
+        end = row.partition_point(|s| runs_left(strip, s.seg, t));
+    }
     while end > 0 && !runs_left(strip, row[end - 1].seg, t) {
         end -= 1;
     }
     end
 }
 
-/// Where those of a row begin that are right of a segment.
-pub fn begin_of_right(strip: Strip, row: &[SegAt], t: Seg) -> usize
+/// Where those of a row begin that are right of a segment, looked for first at a place.
+pub fn begin_of_right(strip: Strip, row: &[SegAt], near: usize, t: Seg) -> usize
     ensures within { result ≤ length row.now }
     ensures right { result < length row.now → (d : SegAt)
         → RunsLeft strip.low strip.high t (slice_index_or row.now result d).seg }
 {
-    let mut begin = row.partition_point(|s| !runs_left(strip, t, s.seg));
+    let mut begin = near.min(row.len());
+    if begin < row.len() && !runs_left(strip, t, row[begin].seg) {
+        begin = row.partition_point(|s| !runs_left(strip, t, s.seg));
+    }
     while begin < row.len() && !runs_left(strip, t, row[begin].seg) {
         begin += 1;
     }

@@ -74,23 +74,25 @@ pub fn try_each(
     Ok(())
 }
 
-/// Settles a segment with those of a row. Those left of it and right of it are found by halves.
+/// Settles a segment with those of a row, looking first at a place for where those end that are left of it. That place.
 fn settle_with_row(
     told: &mut Vec<Places>,
     segs: &[Seg],
     strip: Strip,
     row: &[SegAt],
+    near: usize,
     t: SegAt,
-) -> Result<(), OutOfMemory>
+) -> Result<usize, OutOfMemory>
     requires { StandInRow strip row.now }
-    ensures grown { OnOk result (IsGrown segs.now told.old.items told.new.items) }
-    ensures settled { OnOk result ((s : SegAt) → Contains row.now s
+    ensures grown { IfOk result (λ place. IsGrown segs.now told.old.items told.new.items) }
+    ensures settled { IfOk result (λ place. (s : SegAt) → Contains row.now s
         → IsSettled segs.now told.new.items strip s t) }
 {
     let part = part_along(strip, t.seg);
-    let from = end_of_left(part, row, t.seg);
-    let to = begin_of_right(part, row, t.seg);
-    try_some(told, segs, row, from, to, t.place)
+    let from = end_of_left(part, row, near, t.seg);
+    let to = begin_of_right(part, row, from, t.seg);
+    try_some(told, segs, row, from, to, t.place)?;
+    Ok(from)
 }
 
 /// Settles segments with those of a row.
@@ -106,8 +108,9 @@ fn settle_all(
     ensures settled { OnOk result ((s t : SegAt) → Contains row.now s → Contains all.now t
         → IsSettled segs.now told.new.items strip s t) }
 {
+    let mut near = 0;
     for &t in all {
-        settle_with_row(told, segs, strip, row, t)?;
+        near = settle_with_row(told, segs, strip, row, near, t)?;
     }
     Ok(())
 }

@@ -7,11 +7,11 @@ use Rattle.osm_segments.proofs.ranges.telling.settle_all.Goals as goal
 pub loop-t-preserved : goal.loop-t-preserved
 loop-t-preserved c =
     let segs = c.args.segs.now in let all = c.args.all.now in let i = c.loop-t.t-index in let old = c.loop-t.told.items in let new = c.settle_with_row.new.told.items in let strip = c.args.strip in let x = c.t-item.result in
-    let grown = c.in_ok-settle_with_row.ensures.grown in (
+    let grown = c.in_ok-near.ensures.grown in (
       grown_more segs c.args.told.now.items old new c.loop-t.invariant.0 grown,
       λ s t a b. ⊎_elim
           (λ (k : Contains (take i all) t). settled_still segs old new strip s t grown.kept (c.loop-t.invariant.1 s t a k))
-          (λ (e : x ≡ t). subst (λ (u : SegAt). IsSettled segs new strip s u) e (c.in_ok-settle_with_row.ensures.settled s a))
+          (λ (e : x ≡ t). subst (λ (u : SegAt). IsSettled segs new strip s u) e (c.in_ok-near.ensures.settled s a))
           (one_more_in all i x c.loop-t-test.true c.t-item.is t b),
     )
 
