@@ -24,10 +24,10 @@ seg_in (x ∷ xs) s zero h e = subst (λ (u : SegAt). Contains (x.seg ∷ map (�
 seg_in (x ∷ xs) s (suc k) h e = later_member x.seg s.seg (map (λ u. u.seg) xs) (seg_in xs s k (omega arith) e)
 
 -- what stands in a list stands in the list of its segments, each once
-in_distinct : (segs distinct : List Seg) → AreDistinct segs distinct → (s : Seg) → Contains segs s → Contains distinct s
-in_distinct segs distinct are s c =
+in_distinct : (segs distinct : List Seg) → ((s : Seg) → count_of seg_cmp s distinct ≡ min 1 (count_of seg_cmp s segs)) → (s : Seg) → Contains segs s → Contains distinct s
+in_distinct segs distinct once s c =
     let some = counted (tied_itself seg_total) seg_same s segs c in
-    member (tied_itself seg_total) seg_same s distinct (omega (arith, are.once s))
+    member (tied_itself seg_total) seg_same s distinct (omega (arith, once s))
 
 none_between : (segs : List Seg) → conflicts_of segs ≡ [] → (i j : ℕ) (s t : Seg) → i < j → (i < length segs) × (get_or segs i s ≡ s) → (j < length segs) × (get_or segs j t ≡ t) → conflict_of s t ≡ None
 none_between segs none i j s t l hi hj = by (conflict_of s t) refl
@@ -50,6 +50,6 @@ none_among alike segs none s t (i, hi, ei) (j, hj, ej) =
 
 pub clear_part : ConflictIsSymmetric → (all : List SegAt) (segs distinct : List Seg) → segs ≡ map (λ s. s.seg) all → AreDistinct segs distinct → conflicts_of distinct ≡ [] → (s t : SegAt) → Contains all s → Contains all t → HaveNoConflict s.seg t.seg
 clear_part alike all segs distinct are once none s t a b =
-    let first = in_distinct segs distinct once s.seg (subst (λ xs. Contains xs s.seg) (sym are) (seg_in all s a.0 a.1 a.2)) in
-    let second = in_distinct segs distinct once t.seg (subst (λ xs. Contains xs t.seg) (sym are) (seg_in all t b.0 b.1 b.2)) in
+    let first = in_distinct segs distinct once.once s.seg (subst (λ xs. Contains xs s.seg) (sym are) (seg_in all s a.0 a.1 a.2)) in
+    let second = in_distinct segs distinct once.once t.seg (subst (λ xs. Contains xs t.seg) (sym are) (seg_in all t b.0 b.1 b.2)) in
     (none_among alike distinct none s.seg t.seg first second, none_among alike distinct none t.seg s.seg second first)
