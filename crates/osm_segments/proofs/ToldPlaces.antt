@@ -6,6 +6,7 @@ use Rattle.std.specs.declared.cmp.Ordering.{Ordering}
 use Rattle.std.specs.declared.cmp.Ordering.TheVariants.{Equal, Greater, Less}
 use Rattle.std.specs.Ordering.{is_eq, nat_cmp, ordering_then}
 use Rattle.std.proofs.lemmas.Cmp.{tied_itself}
+use Rattle.std.proofs.lemmas.List.{length-map}
 use Rattle.std.proofs.lemmas.Option.{get_or_from_slice_get, slice_get-get_or, slice_get_within}
 use Rattle.std.proofs.lemmas.List.Elements.{Contains-append_cases, Contains-append_left, Contains-append_right}
 use Rattle.std.proofs.lemmas.Bool.Decides.{nat_tests}
@@ -297,3 +298,13 @@ module _ (alike : ConflictIsSymmetric) (segs : List Seg) (rising : IsRising seg_
       let up_goal = rising_whole goal (conflicts_rising segs rising) in
       all_kept (pair_at segs) v (λ p c. let h = sound p c in (h.pair, h.is))
       ∙ ap (map Some) (determine pair_exact xs goal up_xs up_goal (λ x. omega (arith, same_once pair_itself pair_exact xs goal up_goal into back x, stands_once pair_itself pair_exact x xs up_xs)))
+
+pub as_many : (segs : List Seg) (v : List Places) → AreConflictPlaces segs v → length v ≡ length (conflicts_of segs)
+as_many segs v are = sym (length-map v (pair_at segs)) ∙ (ap length are ∙ length-map (conflicts_of segs) Some)
+
+pub empty_by : {X : Type 0} (xs : List X) → length xs ≡ 0 → xs ≡ []
+empty_by [] e = refl
+empty_by (x ∷ xs) e = absurd (omega arith)
+
+pub shown : (segs : List Seg) (p : Places) (x : Pair) → p.first < p.second → pair_at segs p ≡ Some x → conflicts_of segs ≡ [] → ⊥
+shown segs p x l is none = no_member x (subst (λ xs. Contains xs x) none (conflict_at_places segs p.first p.second x l is))

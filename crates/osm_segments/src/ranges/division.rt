@@ -2,17 +2,19 @@
 //!
 //! A segment that runs through a strip is put into a row there and goes no further; the others go to the halves that they reach. Two
 //! segments in conflict stay together until one of them runs through a strip in which they conflict.
-ghost use Rattle.std.specs.Prelude.{◌≡◌, ◌≤ℤ◌, Contains, IfOk, OnOk, map, true};
+ghost use Rattle.std.specs.Prelude.{◌≡◌, ◌≢◌, ◌↔◌, ◌≤ℤ◌, [], Contains, IfOk, IsPermutation, OnOk, false, map, true};
 ghost use Rattle.osm_lattice.specs.declared.loc.Loc.{Loc};
 ghost use Rattle.osm_segments.specs.declared.places.Places.{Places};
 ghost use Rattle.osm_segments.specs.declared.ranges.strips.SegAt.{SegAt};
 ghost use Rattle.osm_lattice.specs.Seg.{seg_cmp};
 ghost use Rattle.lists.specs.Rising.{IsRising};
+ghost use Rattle.osm_segments.specs.Pairs.{conflicts_of};
 ghost use Rattle.osm_segments.specs.Places.{AreConflictPlaces};
+ghost use Rattle.osm_segments.specs.Sweep.{EndsRise};
 ghost use Rattle.osm_segments.specs.Ranges.{AreSettled, AreToldOrClear, HaveNoConflict, IsGrown, IsReduced, height, places_cmp};
 
 use crate::counts::distinct;
-use crate::pairs::Pair;
+use crate::pairs::{Pair, pair_at};
 use crate::places::Places;
 use crate::ranges::rows::{ByRun, in_order_across, part_by_run};
 use crate::ranges::strips::{
@@ -31,6 +33,7 @@ const FEW: usize = 24;
 fn settle_through(
     alloc: Global,
     told: &mut Vec<Places>,
+    limit: usize,
     segs: &[Seg],
     strip: Strip,
     all: &[SegAt],
@@ -41,7 +44,7 @@ fn settle_through(
 {
     let ByRun { through, others } = part_by_run(alloc, strip, all)?;
     let through = in_order_across(strip, through);
-    settle_rows(alloc, told, segs, strip, through, &others)?;
+    settle_rows(alloc, told, limit, segs, strip, through, &others)?;
     Ok(others)
 }
 
@@ -72,6 +75,7 @@ fn are_clear(alloc: Global, all: &[SegAt]) -> Result<bool, OutOfMemory>
 fn settle_strip(
     alloc: Global,
     told: &mut Vec<Places>,
+    limit: usize,
     segs: &[Seg],
     strip: Strip,
     heights: &[Loc],
@@ -81,14 +85,14 @@ fn settle_strip(
     ensures settled { OnOk result (AreSettled segs.now told.new.items strip all.now) }
 {
     if all.len() <= FEW {
-        return try_each(told, segs, strip, all);
+        return try_each(told, limit, segs, strip, all);
     }
     if are_clear(alloc, all)? {
         return Ok(());
     }
-    let others = settle_through(alloc, told, segs, strip, all)?;
+    let others = settle_through(alloc, told, limit, segs, strip, all)?;
     if heights.is_empty() {
-        return try_each(told, segs, strip, &others);
+        return try_each(told, limit, segs, strip, &others);
     }
     let at = heights.len() / 2;
     let middle = heights[at];
@@ -97,13 +101,13 @@ fn settle_strip(
         low: strip.low,
         high: middle,
     };
-    settle_strip(alloc, told, segs, lower, &heights[..at], &half)?;
+    settle_strip(alloc, told, limit, segs, lower, &heights[..at], &half)?;
     let half = reaching_above(alloc, &others, middle)?;
     let upper = Strip {
         low: middle,
         high: strip.high,
     };
-    settle_strip(alloc, told, segs, upper, &heights[at + 1..], &half)
+    settle_strip(alloc, told, limit, segs, upper, &heights[at + 1..], &half)
 }
 
 /// All of the plane.
@@ -135,13 +139,18 @@ fn each_once(mut told: Vec<Places>) -> Vec<Places>
 }
 
 /// Settles all segments of a list.
-fn settle_list(alloc: Global, told: &mut Vec<Places>, segs: &[Seg]) -> Result<(), OutOfMemory>
+fn settle_list(
+    alloc: Global,
+    told: &mut Vec<Places>,
+    limit: usize,
+    segs: &[Seg],
+) -> Result<(), OutOfMemory>
     ensures grown { OnOk result (IsGrown segs.now told.old.items told.new.items) }
     ensures told { OnOk result (AreToldOrClear segs.now told.new.items) }
 {
     let all = with_places(alloc, segs)?;
     let heights = heights_of(alloc, segs)?;
-    settle_strip(alloc, told, segs, whole_plane(), &heights, &all)
+    settle_strip(alloc, told, limit, segs, whole_plane(), &heights, &all)
 }
 
 /// The places of all conflicting pairs among segments in strict order, in order.
@@ -152,6 +161,50 @@ pub fn conflict_places(alloc: Global, segs: &[Seg]) -> Result<Vec<Places>, OutOf
     conflicts_are_symmetric();
     counts_determine::<Pair>();
     let mut told = Vec::new(alloc);
-    settle_list(alloc, &mut told, segs)?;
+    settle_list(alloc, &mut told, usize::MAX, segs)?;
     Ok(each_once(told))
+}
+
+/// Whether two segments of a list, of which the first is given first, conflict.
+fn is_conflict_at(segs: &[Seg], p: Places) -> bool
+    ensures { result ≡ true → conflicts_of segs.now ≢ [] }
+{
+    if p.first >= p.second {
+        return false;
+    }
+    pair_at(segs, p).is_some()
+}
+
+/// Whether the first of these places shows two segments of a list that conflict.
+fn shows_conflict(segs: &[Seg], told: &[Places]) -> bool
+    ensures { result ≡ true → conflicts_of segs.now ≢ [] }
+{
+    if told.is_empty() {
+        return false;
+    }
+    is_conflict_at(segs, told[0])
+}
+
+/// Whether any two of these segments in strict order conflict, which are given in the order of their upper ends, too. The search ends
+/// with the second conflict.
+///
+/// Ways: segments that one sweep finds free of conflicts (sweep); all others by strips (ranges).
+pub fn has_conflict(alloc: Global, segs: &[Seg], ends: &[Seg]) -> Result<bool, OutOfMemory>
+    requires rising { IsRising seg_cmp segs.now }
+    requires moved { IsPermutation segs.now ends.now }
+    requires rise { EndsRise ends.now }
+    ensures { IfOk result (λ found. (found ≡ false) ↔ (conflicts_of segs.now ≡ [])) }
+{
+    if is_clear(alloc, segs, ends)? {
+        return Ok(false);
+    }
+    conflicts_are_symmetric();
+    counts_determine::<Pair>();
+    let mut told = Vec::new(alloc);
+    let searched = settle_list(alloc, &mut told, 1, segs);
+    if shows_conflict(segs, &told) {
+        return Ok(true);
+    }
+    searched?;
+    Ok(!each_once(told).is_empty())
 }

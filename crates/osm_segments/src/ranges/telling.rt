@@ -26,13 +26,22 @@ fn in_order(i: u32, j: u32) -> Places
     }
 }
 
-/// Tries the segments at two places.
-fn try_pair(told: &mut Vec<Places>, segs: &[Seg], i: u32, j: u32) -> Result<(), OutOfMemory>
+/// Tries the segments at two places. It is given up where as many as `limit` were told before.
+fn try_pair(
+    told: &mut Vec<Places>,
+    limit: usize,
+    segs: &[Seg],
+    i: u32,
+    j: u32,
+) -> Result<(), OutOfMemory>
     ensures grown { OnOk result (IsGrown segs.now told.old.items told.new.items) }
     ensures tried { OnOk result (IsTried segs.now told.new.items i j) }
 {
     let places = in_order(i, j);
     if pair_at(segs, places).is_some() {
+        if told.len() >= limit {
+            return Err(OutOfMemory);
+        }
         told.push(places)?;
     }
     Ok(())
@@ -41,6 +50,7 @@ fn try_pair(told: &mut Vec<Places>, segs: &[Seg], i: u32, j: u32) -> Result<(), 
 /// Tries a segment with some of a list.
 fn try_some(
     told: &mut Vec<Places>,
+    limit: usize,
     segs: &[Seg],
     all: &[SegAt],
     from: usize,
@@ -53,7 +63,7 @@ fn try_some(
         → IsTried segs.now told.new.items (slice_index_or all.now k d).place place) }
 {
     for i in from..to {
-        try_pair(told, segs, all[i].place, place)?;
+        try_pair(told, limit, segs, all[i].place, place)?;
     }
     Ok(())
 }
@@ -61,6 +71,7 @@ fn try_some(
 /// Tries each two segments.
 pub fn try_each(
     told: &mut Vec<Places>,
+    limit: usize,
     segs: &[Seg],
     strip: Strip,
     all: &[SegAt],
@@ -69,7 +80,7 @@ pub fn try_each(
     ensures settled { OnOk result (AreSettled segs.now told.new.items strip all.now) }
 {
     for i in 0..all.len() {
-        try_some(told, segs, all, 0, i, all[i].place)?;
+        try_some(told, limit, segs, all, 0, i, all[i].place)?;
     }
     Ok(())
 }
@@ -77,6 +88,7 @@ pub fn try_each(
 /// Settles a segment with those of a row, looking first at a place for where those end that are left of it. That place.
 fn settle_with_row(
     told: &mut Vec<Places>,
+    limit: usize,
     segs: &[Seg],
     strip: Strip,
     row: &[SegAt],
@@ -91,13 +103,14 @@ fn settle_with_row(
     let part = part_along(strip, t.seg);
     let from = end_of_left(part, row, near, t.seg);
     let to = begin_of_right(part, row, from, t.seg);
-    try_some(told, segs, row, from, to, t.place)?;
+    try_some(told, limit, segs, row, from, to, t.place)?;
     Ok(from)
 }
 
 /// Settles segments with those of a row.
 fn settle_all(
     told: &mut Vec<Places>,
+    limit: usize,
     segs: &[Seg],
     strip: Strip,
     row: &[SegAt],
@@ -110,7 +123,7 @@ fn settle_all(
 {
     let mut near = 0;
     for &t in all {
-        near = settle_with_row(told, segs, strip, row, near, t)?;
+        near = settle_with_row(told, limit, segs, strip, row, near, t)?;
     }
     Ok(())
 }
@@ -119,6 +132,7 @@ fn settle_all(
 fn settle_row(
     alloc: Global,
     told: &mut Vec<Places>,
+    limit: usize,
     segs: &[Seg],
     strip: Strip,
     all: &[SegAt],
@@ -131,8 +145,8 @@ fn settle_row(
         (rest.items ++ others.now) (all.now ++ others.now)) }
 {
     let SideBySide { row, rest } = row_of(alloc, strip, all)?;
-    settle_all(told, segs, strip, &row, &rest)?;
-    settle_all(told, segs, strip, &row, others)?;
+    settle_all(told, limit, segs, strip, &row, &rest)?;
+    settle_all(told, limit, segs, strip, &row, others)?;
     Ok(rest)
 }
 
@@ -140,6 +154,7 @@ fn settle_row(
 pub fn settle_rows(
     alloc: Global,
     told: &mut Vec<Places>,
+    limit: usize,
     segs: &[Seg],
     strip: Strip,
     all: Vec<SegAt>,
@@ -151,7 +166,7 @@ pub fn settle_rows(
 {
     let mut rest = all;
     while !rest.is_empty() {
-        rest = settle_row(alloc, told, segs, strip, &rest, others)?;
+        rest = settle_row(alloc, told, limit, segs, strip, &rest, others)?;
     }
     Ok(())
 }
