@@ -31,7 +31,7 @@ BottomsLeft w e f = (beside w e f ≡ Plus) ⊎ ((beside w e f ≡ Null) × (fan
 
 -- ---- from neighbour to neighbour
 module _ (e f g : Edge) (te : IsTall e) (tf : IsTall f) (tg : IsTall g) where
-  beside-chain : (w : Vector) → agree (beside w e f) (beside w f g) (beside w e g) ≡ true
+  pub beside-chain : (w : Vector) → agree (beside w e f) (beside w f g) (beside w e g) ≡ true
   beside-chain w =
       let A = distance_right w e in let B = distance_right w f in let C = distance_right w g in
       let x = rw (dot-east A, dot-east B, dot-east C, te, tf, tg, times-plus (sign (cross B C)), times-plus (sign (cross A B)), times-plus (sign (cross A C))) at (plucker-dot-agree east A B C) in

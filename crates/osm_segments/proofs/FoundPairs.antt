@@ -12,7 +12,6 @@ use Rattle.osm_lattice.specs.Seg.{seg_cmp}
 use Rattle.osm_lattice.proofs.LatticeKit.{seg_total, seg_same}
 use Rattle.lists.specs.Rising.{CountsDetermine, IsRising, count_of}
 use Rattle.osm_segments.specs.declared.pairs.Pair.{Pair}
-use Rattle.osm_segments.specs.Cells.{AreAdded}
 use Rattle.osm_segments.specs.Pairs.{conflicts_of, pair_cmp}
 use Rattle.osm_segments.specs.contracts.pairs.PairOrd.TheImpl.{cmp-value}
 use Rattle.osm_segments.proofs.RisingPairs.{conflicts_rising}
@@ -24,7 +23,7 @@ module _ {X : Type 0} {R : X → X → Ordering} (itself : (x : X) → R x x ≡
   counts_itself y x e = rw (e, itself x) refl
 
   -- a member stands at least once
-  counted : (x : X) (xs : List X) → Contains xs x → 0 < count_of R x xs
+  pub counted : (x : X) (xs : List X) → Contains xs x → 0 < count_of R x xs
   counted x [] c = absurd (no_member x c)
   counted x (y ∷ ys) c =
       ⊎_elim
@@ -38,12 +37,12 @@ module _ {X : Type 0} {R : X → X → Ordering} (itself : (x : X) → R x x ≡
   member_by Greater x y ys e some later = later_member y x ys (later (omega arith))
 
   -- what stands there is a member
-  member : (x : X) (xs : List X) → 0 < count_of R x xs → Contains xs x
+  pub member : (x : X) (xs : List X) → 0 < count_of R x xs → Contains xs x
   member x [] some = absurd (omega arith)
   member x (y ∷ ys) some = member_by (R y x) x y ys refl (omega (arith, count-cons R x y ys)) (member x ys)
 
   -- each once, in strict order, of lists with the same members
-  same_once : (xs ys : List X) → IsRising R ys → ((x : X) → Contains xs x → Contains ys x) → ((x : X) → Contains ys x → Contains xs x) → (x : X) → min 1 (count_of R x xs) ≡ count_of R x ys
+  pub same_once : (xs ys : List X) → IsRising R ys → ((x : X) → Contains xs x → Contains ys x) → ((x : X) → Contains ys x → Contains xs x) → (x : X) → min 1 (count_of R x xs) ≡ count_of R x ys
   same_once xs ys rising into back x =
       let there : 0 < count_of R x xs → 0 < count_of R x ys = λ h. counted x ys (into x (member x xs h)) in
       let here : 0 < count_of R x ys → 0 < count_of R x xs = λ h. counted x xs (back x (member x ys h)) in
@@ -95,28 +94,18 @@ less_already Equal Less c e = refl
 less_already Equal Equal c e = absurd (cc e)
 less_already Equal Greater c e = absurd (cc e)
 
-pair_itself : (p : Pair) → cmp-value.it p p ≡ Equal
+pub pair_itself : (p : Pair) → cmp-value.it p p ≡ Equal
 pair_itself p = rw (parts p p, tied_itself seg_total p.first, tied_itself seg_total p.second) (kind_itself p.kind)
 
-pair_exact : (p q : Pair) → cmp-value.it p q ≡ Equal → p ≡ q
+pub pair_exact : (p q : Pair) → cmp-value.it p q ≡ Equal → p ≡ q
 pair_exact p q e =
     let h = all_equal (seg_cmp p.first q.first) (seg_cmp p.second q.second) (kind_cmp p.kind q.kind) (sym (parts p q) ∙ e) in
     λ i. record { first = seg_same p.first q.first h.0 i; second = seg_same p.second q.second h.1 i; kind = kind_exact p.kind q.kind h.2 i }
 
-rising_whole : (ps : List Pair) → IsRising pair_cmp ps → IsRising cmp-value.it ps
+pub rising_whole : (ps : List Pair) → IsRising pair_cmp ps → IsRising cmp-value.it ps
 rising_whole ps rising i j d h l =
     let p = get_or ps i d in let q = get_or ps j d in
     parts p q ∙ less_already (seg_cmp p.first q.first) (seg_cmp p.second q.second) (kind_cmp p.kind q.kind) (rising i j d h l)
-
-pub pairs_are : CountsDetermine cmp-value.it → (segs : List Seg) (start found kept v : List Pair) → IsRising seg_cmp segs → start ≡ [] → AreAdded segs start found → kept ≡ found →
-    IsRising cmp-value.it v → ((p : Pair) → count_of cmp-value.it p v ≡ min 1 (count_of cmp-value.it p kept)) → v ≡ conflicts_of segs
-pairs_are determine segs start found kept v rising empty all_of same_kept rising_v each =
-    let goal = conflicts_of segs in
-    let up = rising_whole goal (conflicts_rising segs rising) in
-    let added : AreAdded segs [] found = subst (λ old. AreAdded segs old found) empty all_of in
-    let into : (p : Pair) → Contains found p → Contains goal p = λ p c. ⊎_elim (λ (c : Contains [] p). absurd (no_member p c)) (λ (c : Contains goal p). c) (added.known p c) in
-    determine pair_exact v goal rising_v up
-    (λ p. each p ∙ (ap (λ ps. min 1 (count_of cmp-value.it p ps)) same_kept ∙ same_once pair_itself pair_exact found goal up into added.found p))
 
 pub pairs_rise : (segs : List Seg) (v : List Pair) → IsRising seg_cmp segs → v ≡ conflicts_of segs → IsRising pair_cmp v
 pairs_rise segs v rising e = subst (IsRising pair_cmp) (sym e) (conflicts_rising segs rising)

@@ -1,4 +1,3 @@
-mod CellPairs
 mod ConflictKinds
 mod ConflictPlaces
 pub mod CountLemmas
@@ -9,11 +8,17 @@ mod FoundPairs
 mod LaterSegments
 mod OutlineFaults
 mod Parities
+mod PlaceOrders
 mod RepeatLists
 mod RisingPairs
 mod SegmentTests
 pub mod SegmentsKit
+mod SettledPairs
 mod StandOnce
+mod StripOrders
 mod Sweeps
 mod SweptLists
+mod SweptParts
 mod TiltedEdges
+mod ToldPlaces
+mod TriedPairs

@@ -46,7 +46,7 @@ of_some s t (Some k) p e = record { first = first_is p (record { kind = k; first
     second_is : (p q : Pair) → Some q ≡ Some p → p.second ≡ q.second
     second_is p q e = cc
 
-pair_is : (s t : Seg) (p : Pair) → pair_of s t ≡ Some p → IsOf s t p
+pub pair_is : (s t : Seg) (p : Pair) → pair_of s t ≡ Some p → IsOf s t p
 unfolding pair_of
 pair_is s t p e = of_some s t (conflict_of s t) p e
 
@@ -71,13 +71,13 @@ all_firsts P (t ∷ ts) all =
     (all_firsts P ts (tail_all P t ts all))
 
 -- a pair comes before another by its first segment, or with the same first segment by its second
-before_by_first : (p q : Pair) (s : Seg) → p.first ≡ s → seg_cmp s q.first ≡ Less → pair_cmp p q ≡ Less
+pub before_by_first : (p q : Pair) (s : Seg) → p.first ≡ s → seg_cmp s q.first ≡ Less → pair_cmp p q ≡ Less
 before_by_first p q s e h = by_then (seg_cmp p.first q.first) (seg_cmp p.second q.second) (ap (λ r. seg_cmp r q.first) e ∙ h)
   where
     by_then : (o r : Ordering) → o ≡ Less → ordering_then o r ≡ Less
     by_then o r e = rw e refl
 
-before_by_second : (p q : Pair) (s t : Seg) → IsOf s t p → q.first ≡ s → seg_cmp t q.second ≡ Less → pair_cmp p q ≡ Less
+pub before_by_second : (p q : Pair) (s t : Seg) → IsOf s t p → q.first ≡ s → seg_cmp t q.second ≡ Less → pair_cmp p q ≡ Less
 before_by_second p q s t is e h =
     by_then (seg_cmp p.first q.first) (seg_cmp p.second q.second)
     (ap (λ r. seg_cmp r q.first) is.first ∙ (ap (seg_cmp s) e ∙ tied_itself seg_total s)) (ap (λ r. seg_cmp r q.second) is.second ∙ h)

@@ -14,7 +14,7 @@ use Rattle.osm_lattice.proofs.LatticeKit.{distance_in, rising_edge}
 use Rattle.osm_segments.specs.Tilted.{steep, tilt, tilted, tilted_point}
 
 -- ---- sides
-step-y : (k a b c d : ℤ) → (k *ℤ b +ℤ d) -ℤ (k *ℤ a +ℤ c) ≡ k *ℤ (b -ℤ a) +ℤ (d -ℤ c)
+pub step-y : (k a b c d : ℤ) → (k *ℤ b +ℤ d) -ℤ (k *ℤ a +ℤ c) ≡ k *ℤ (b -ℤ a) +ℤ (d -ℤ c)
 step-y k a b c d =
     let k' = lift k in let a' = lift a in let b' = lift b in let c' = lift c in let d' = lift d in
     same ((k' ⊠ b' ⊞ d') ⊟ (k' ⊠ a' ⊞ c')) (k' ⊠ (b' ⊟ a') ⊞ (d' ⊟ c')) (omega arith)
@@ -24,12 +24,14 @@ cross-by k p q r s =
     let k' = lift k in let p' = lift p in let q' = lift q in let r' = lift r in let s' = lift s in
     same (p' ⊠ (k' ⊠ s' ⊞ r') ⊟ (k' ⊠ q' ⊞ p') ⊠ r') (k' ⊠ (p' ⊠ s' ⊟ q' ⊠ r')) (omega arith)
 
+pub cross-steep : (a b c d : Vector) → cross (from_to (tilt a) (tilt b)) (from_to (tilt c) (tilt d)) ≡ steep *ℤ cross (from_to a b) (from_to c d)
+cross-steep a b c d =
+    ap (λ (z : ℤ). (b.x -ℤ a.x) *ℤ z -ℤ ((steep *ℤ b.y +ℤ b.x) -ℤ (steep *ℤ a.y +ℤ a.x)) *ℤ (d.x -ℤ c.x)) (step-y steep c.y d.y c.x d.x)
+    ∙ ap (λ (z : ℤ). (b.x -ℤ a.x) *ℤ (steep *ℤ (d.y -ℤ c.y) +ℤ (d.x -ℤ c.x)) -ℤ z *ℤ (d.x -ℤ c.x)) (step-y steep a.y b.y a.x b.x)
+    ∙ cross-by steep (b.x -ℤ a.x) (b.y -ℤ a.y) (d.x -ℤ c.x) (d.y -ℤ c.y)
+
 pub cross-tilted : (a b c d : Vector) → sign (cross (from_to (tilt a) (tilt b)) (from_to (tilt c) (tilt d))) ≡ sign (cross (from_to a b) (from_to c d))
-cross-tilted a b c d =
-    ap (λ (z : ℤ). sign ((b.x -ℤ a.x) *ℤ z -ℤ ((steep *ℤ b.y +ℤ b.x) -ℤ (steep *ℤ a.y +ℤ a.x)) *ℤ (d.x -ℤ c.x))) (step-y steep c.y d.y c.x d.x)
-    ∙ ap (λ (z : ℤ). sign ((b.x -ℤ a.x) *ℤ (steep *ℤ (d.y -ℤ c.y) +ℤ (d.x -ℤ c.x)) -ℤ z *ℤ (d.x -ℤ c.x))) (step-y steep a.y b.y a.x b.x)
-    ∙ ap sign (cross-by steep (b.x -ℤ a.x) (b.y -ℤ a.y) (d.x -ℤ c.x) (d.y -ℤ c.y))
-    ∙ plus-times steep (cross (from_to a b) (from_to c d)) refl
+cross-tilted a b c d = ap sign (cross-steep a b c d) ∙ plus-times steep (cross (from_to a b) (from_to c d)) refl
 
 -- ---- order
 height-by : (dy dx : ℤ) (s : Sign) → sign dy ≡ s → unsigned_abs dx ≤ 3_600_000_000 → sign (steep *ℤ dy +ℤ dx) ≡ then_sign s (sign dx)

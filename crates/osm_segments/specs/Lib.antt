@@ -3,10 +3,10 @@ pub mod Repeats
 pub mod Pairs
 pub mod Places
 pub mod Tilted
+pub mod Ranges
 pub mod Sweep
 pub mod Parity
 pub mod Outlines
 pub mod OutlineSteps
 pub mod OutlinesInside
-pub mod Cells
 pub mod Laws

@@ -8,7 +8,7 @@ use Rattle.osm_lattice.specs.Loc.{vector_of}
 
 -- more than any difference of two longitudes
 abbrev pub steep : ℤ
-steep = pos 8_589_934_592
+steep = pos 4_294_967_296
 
 abbrev pub tilt : Vector → Vector
 tilt v = record { x = v.x; y = steep *ℤ v.y +ℤ v.x }

@@ -2,7 +2,6 @@
 //! repeatedly, which conflict, at which locations an odd number of them end, and whether rings can be made of them.
 #![tactic(auto)]
 
-mod cells;
 mod counts;
 mod few;
 mod laws;
@@ -10,7 +9,7 @@ mod outline;
 mod pairs;
 mod parity;
 mod places;
-mod search;
+mod ranges;
 mod sweep;
 
 pub use counts::{Cancelled, Repeat, cancel, distinct, odd_nodes, repeated, survivors};

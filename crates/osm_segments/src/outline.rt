@@ -11,7 +11,7 @@ ghost use Rattle.osm_segments.specs.Sweep.{AreByEnds};
 use crate::counts::odd_nodes;
 use crate::few::pairs::{FEW, conflicts_of_few};
 use crate::parity::are_even;
-use crate::search::has_conflict;
+use crate::ranges::division::has_conflict;
 use crate::sweep::clear::{by_ends, sort_by_ends};
 use osm_lattice::{Loc, Seg};
 use std::alloc::{AllocError as OutOfMemory, Global};

@@ -1,23 +1,19 @@
 //! The conflicting pairs among segments.
 
 ghost use Rattle.std.specs.Prelude.{◌≡◌, IfOk, IsPermutation};
+ghost use Rattle.std.specs.List.{filter_map};
 ghost use Rattle.osm_lattice.specs.Seg.{seg_cmp};
 ghost use Rattle.lists.specs.Rising.{IsRising};
 ghost use Rattle.osm_segments.specs.Pairs.{conflicts_of, pair_cmp};
 ghost use Rattle.osm_segments.specs.Places.{AreConflictPlaces, pair_at};
 ghost use Rattle.osm_segments.specs.Sweep.{EndsRise};
 
-use crate::cells::division::add_conflicts;
 use crate::few::pairs::{FEW, conflicts_of_few, pair_of};
 use crate::places::Places;
-use crate::search;
+use crate::ranges::division;
 use crate::sweep::clear::{by_ends, is_clear};
-use lists::{counts_determine, distinct_items};
 use osm_lattice::{Kind, Seg};
 use std::alloc::{AllocError as OutOfMemory, Global};
-
-/// How often a list of segments is divided in a row.
-const DEPTH: u32 = 64;
 
 /// Two segments that conflict, the lesser first, and how.
 ///
@@ -29,10 +25,36 @@ pub struct Pair {
     pub kind: Kind,
 }
 
+/// The two segments at these places, if both are there and conflict.
+#[tactic(auto, unfolding(crate::specs::Places::pair_at))]
+pub fn pair_at(segs: &[Seg], places: Places) -> Option<Pair>
+    ensures { result ≡ pair_at segs.now places }
+{
+    let first = places.first as usize;
+    let second = places.second as usize;
+    if first >= segs.len() || second >= segs.len() {
+        return None;
+    }
+    pair_of(segs[first], segs[second])
+}
+
+/// The pairs at these places.
+fn pairs_at(alloc: Global, segs: &[Seg], places: &[Places]) -> Result<Vec<Pair>, OutOfMemory>
+    ensures { IfOk result (λ v. v.items ≡ filter_map (pair_at segs.now) places.now) }
+{
+    let mut pairs = Vec::with_capacity(alloc, places.len())?;
+    for &p in places {
+        if let Some(pair) = pair_at(segs, p) {
+            pairs.push(pair)?;
+        }
+    }
+    Ok(pairs)
+}
+
 /// The conflicts among segments in strict order, which are given in the order of their upper ends, too. One sweep finds most long lists
 /// free of conflicts.
 ///
-/// Ways: segments that one sweep finds free of conflicts (sweep); all others by cells (cells).
+/// Ways: segments that one sweep finds free of conflicts (sweep); all others by strips (ranges).
 pub(crate) fn conflicts_along(
     alloc: Global,
     segs: &[Seg],
@@ -46,15 +68,13 @@ pub(crate) fn conflicts_along(
     if is_clear(alloc, segs, ends)? {
         return Ok(Vec::new(alloc));
     }
-    let mut pairs = Vec::new(alloc);
-    add_conflicts(alloc, &mut pairs, segs, DEPTH)?;
-    counts_determine::<Pair>();
-    distinct_items(alloc, &pairs)
+    let places = division::conflict_places(alloc, segs)?;
+    pairs_at(alloc, segs, &places)
 }
 
 /// The conflicts among segments in strict order.
 ///
-/// Ways: up to 32 segments by pairs (few); more that one sweep finds free of conflicts (sweep); all others by cells (cells).
+/// Ways: up to 32 segments by pairs (few); more that one sweep finds free of conflicts (sweep); all others by strips (ranges).
 fn all_conflicts(alloc: Global, segs: &[Seg]) -> Result<Vec<Pair>, OutOfMemory>
     requires { IsRising seg_cmp segs.now }
     ensures { IfOk result (λ v. v.items ≡ conflicts_of segs.now) }
@@ -75,21 +95,9 @@ pub fn conflicts(alloc: Global, segs: &[Seg]) -> Result<Vec<Pair>, OutOfMemory>
     all_conflicts(alloc, segs)
 }
 
-/// The two segments at these places, if both are there and conflict.
-pub fn pair_at(segs: &[Seg], places: Places) -> Option<Pair>
-    ensures { result ≡ pair_at segs.now places }
-{
-    let first = places.first as usize;
-    let second = places.second as usize;
-    if first >= segs.len() || second >= segs.len() {
-        return None;
-    }
-    pair_of(segs[first], segs[second])
-}
-
 /// The places of the conflicts among segments in strict order, which are given in the order of their upper ends, too.
 ///
-/// Ways: segments that one sweep finds free of conflicts (sweep); all others by a search.
+/// Ways: segments that one sweep finds free of conflicts (sweep); all others by strips (ranges).
 fn conflict_places_along(
     alloc: Global,
     segs: &[Seg],
@@ -103,7 +111,7 @@ fn conflict_places_along(
     if is_clear(alloc, segs, ends)? {
         return Ok(Vec::new(alloc));
     }
-    search::conflict_places(alloc, segs)
+    division::conflict_places(alloc, segs)
 }
 
 /// The places of all conflicting pairs among segments in strict order: by the first segment, then by the second. A pair takes 8 bytes.

@@ -10,7 +10,7 @@ use osm_lattice::{Loc, Seg};
 
 /// Whether two locations are one.
 #[tactic(auto, using(crate::proofs::SegmentTests::loc_by_tests))]
-fn is_same(p: Loc, q: Loc) -> bool
+pub(crate) fn is_same(p: Loc, q: Loc) -> bool
     ensures { result ≡ true → p ≡ q }
 {
     p == q

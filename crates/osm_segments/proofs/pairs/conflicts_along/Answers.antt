@@ -1,9 +1,13 @@
-use Rattle.osm_segments.proofs.CountLemmas.{IfOk-both}
-use Rattle.osm_segments.proofs.FoundPairs.{pairs_are}
+use Rattle.std.proofs.Common.{ap, ◌∙◌}
+use Rattle.std.specs.List.{filter_map}
+use Rattle.std.proofs.lemmas.Result.{IfOk-weaker}
+use Rattle.osm_segments.specs.Pairs.{conflicts_of}
+use Rattle.osm_segments.specs.Places.{pair_at}
+use Rattle.osm_segments.proofs.ToldPlaces.{kept_items}
 use Rattle.osm_segments.proofs.pairs.conflicts_along.Goals as goal
 
 pub returns : goal.returns
 returns c =
-    IfOk-both c.distinct_items.result _ _ _
-    (λ v once rising. pairs_are c.counts_determine.ensures c.args.segs.now c.new-pairs.result.items c.add_conflicts.new.pairs.items c.deref.result.now v.items c.requires.rising c.new-pairs.ensures.items c.in_ok-add_conflicts.ensures c.deref.ensures.value rising once)
-    c.distinct_items.ensures.once c.distinct_items.ensures.rising
+    IfOk-weaker c.pairs_at.result _ _
+    (λ v e. e ∙ (ap (filter_map (pair_at c.args.segs.now)) c.deref.ensures.value ∙ kept_items (pair_at c.args.segs.now) c.in_ok-places.places.items (conflicts_of c.args.segs.now) c.in_ok-places.ensures))
+    c.pairs_at.ensures

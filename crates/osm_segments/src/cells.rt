@@ -1,3 +1,0 @@
-//! Conflicts among many segments, where the sweep doesn't find the list free of them.
-
-pub mod division;
