@@ -1,8 +1,9 @@
 //! The run: from words and a host to what is written and how it ended.
 
-ghost use Rattle.std.specs.Prelude.{◌≡◌, ℕ, List, Ok, map, string_bytes};
+ghost use Rattle.std.specs.Prelude.{◌≡◌, ◌≢◌, ℕ, List, [], Ok, map, string_bytes, true};
 ghost use Rattle.osm_cli.specs.Run.{Ran};
-ghost use Rattle.osm_cli.specs.RunSteps.{Works, words_ended};
+ghost use Rattle.osm_cli.specs.Job.{outputs_of};
+ghost use Rattle.osm_cli.specs.RunSteps.{KeepsOutput, Works, words_ended};
 ghost use Rattle.osm_cli.specs.Status.{EndsWith};
 ghost use Rattle.osm_words.specs.Answers.{certify_seen, coastline_seen, filter_seen, job_seen, locate_seen, sample_seen, settings_seen};
 ghost use Rattle.osm_words.specs.Job.{certify, coastline, export, filter, locate, sample};
@@ -98,8 +99,40 @@ fn work<H: Host>(alloc: Global, words: &[String], host: &mut H) -> Ended
     }
 }
 
-/// Does a job.
+/// Does a job, and has its output kept.
 fn work_on<H: Host>(alloc: Global, job: &Job<'_>, host: &mut H) -> Ended
+    ensures { Works (Ok (job_seen job.now)) result (H.seen host.old) (H.seen host.new) }
+{
+    let ended = do_job(alloc, job, host);
+    if !opens_output(job) {
+        return ended;
+    }
+    keep(ended, host)
+}
+
+/// Whether a job opens an output: each but `certify`.
+fn opens_output(job: &Job<'_>) -> bool
+    ensures { result ≡ true → outputs_of (job_seen job.now) ≢ [] }
+{
+    !matches!(job, Job::Certify(_))
+}
+
+/// Has the output kept of a job that came to its end, and says how the run ends.
+fn keep<H: Host>(ended: Ended, host: &mut H) -> Ended
+    ensures { KeepsOutput ended result (H.seen host.old) (H.seen host.new) }
+{
+    match ended {
+        Ended::Done | Ended::Warnings | Ended::Errors | Ended::Stopped { .. } => {}
+        _ => return ended,
+    }
+    match host.keep_output() {
+        Ok(()) => ended,
+        Err(_) => Ended::WriteFault,
+    }
+}
+
+/// Does a job, whose output isn't kept yet.
+fn do_job<H: Host>(alloc: Global, job: &Job<'_>, host: &mut H) -> Ended
     ensures { Works (Ok (job_seen job.now)) result (H.seen host.old) (H.seen host.new) }
 {
     match job {
