@@ -1,21 +1,21 @@
 -- A run whose output is kept once its job came to its end.
-use Rattle.std.proofs.Common.{◌≡◌, ◌∙◌, refl, sym, ap, subst, List, [], append-nil, Option, None, Some, IfSome, Result, Ok, Err}
-use Rattle.osm_host.specs.Outside.{Outside, Opened, risen, OnlyWritesOut}
-use Rattle.osm_words.specs.Job.{Job}
+use Rattle.std.proofs.Common.{◌≡◌, ◌∙◌, refl, sym, ap, subst, true, [], length, append-nil, arith, Option, None, Some, Ok}
+use Rattle.osm_host.specs.Outside.{Outside, risen, OnlyWritesOut}
+use Rattle.osm_words.specs.Job.{Job, certify, coastline, export, filter, locate, sample}
 use Rattle.osm_job.proofs.Keeping.{keeps_both, write_keeps}
 use Rattle.osm_job.specs.declared.ended.Ended.{Ended}
 use Rattle.osm_job.specs.declared.ended.Ended.TheVariants.{Done, Warnings, Errors, Stopped, BadWords, BadInput, TooMuchInput, TooManyPieces, Refuted, BadPoint}
 use Rattle.osm_job.specs.declared.ended.Ended.TheVariants.{OpenFault, ReadFault, WriteFault, OutOfMemory}
-use Rattle.osm_job.specs.Cause.{Cause, by_itself, cause_of}
+use Rattle.osm_job.specs.Cause.{Cause, by_itself, by_words, by_input, by_verdict, by_open, by_read, by_write, by_memory, cause_of}
 use Rattle.osm_job.specs.Faults.{ReadsFailed, opens_failed, writes_failed}
 use Rattle.osm_job.specs.Sent.{Sent}
 use Rattle.osm_job.specs.Taken.{TookBy}
-use Rattle.osm_job.specs.Texts.{Texts, told_texts}
+use Rattle.osm_job.specs.Texts.{told_texts}
 use Rattle.osm_job.specs.Whole.{Whole}
 use Rattle.osm_job.specs.Written.{IsWrittenBy, WroteAll, WrotePrefix}
 use Rattle.osm_cli.specs.Job.{TookAll, inputs_of, outputs_of}
 use Rattle.osm_cli.specs.Run.{Opens}
-use Rattle.osm_cli.specs.RunSteps.{KeepsOutput, OnlyCounts, Works, kept, lost}
+use Rattle.osm_cli.specs.RunSteps.{KeepsOutput, OnlyCounts, Works, has_output, is_by_itself, kept, lost}
 use Rattle.osm_cli.specs.Whole.{IsWhole}
 use Rattle.osm_cli.proofs.Jobs.{all_kept, nothing_kept}
 
@@ -34,6 +34,24 @@ nothing_else before after out rest counts = λ i. record {
   at_end = rest.at_end i;
   bytes_read = rest.bytes_read i;
 }
+
+pub some_output : (job : Job) → has_output job ≡ true → outputs_of job ≡ [] → ⊥
+some_output (export settings) has none = omega (arith, ap length none)
+some_output (coastline settings) has none = omega (arith, ap length none)
+some_output (sample count) has none = omega (arith, ap length none)
+some_output (filter settings) has none = omega (arith, ap length none)
+some_output (certify settings) has none = absurd (cc)
+some_output (locate settings) has none = omega (arith, ap length none)
+
+pub by_itself_alone : (cause : Cause) → is_by_itself cause ≡ true → cause ≡ by_itself
+by_itself_alone by_itself is = refl
+by_itself_alone by_words is = absurd (cc)
+by_itself_alone by_input is = absurd (cc)
+by_itself_alone by_verdict is = absurd (cc)
+by_itself_alone by_open is = absurd (cc)
+by_itself_alone by_read is = absurd (cc)
+by_itself_alone by_write is = absurd (cc)
+by_itself_alone by_memory is = absurd (cc)
 
 reads_none : (ended : Ended) (before after : Outside) → cause_of ended ≡ by_itself → ReadsFailed ended before after → after.read_faults ≡ before.read_faults
 reads_none Done before after is reads = reads
@@ -79,7 +97,7 @@ module _ (job : Job) (ended : Ended) (before middle now : Outside) (works : Work
           reads = rest.read_faults ∙ reads_none ended before middle is works.faults.reads;
         };
         write_faults = counts ∙ ap risen (works.write_faults ∙ ap (λ (c : Cause). writes_failed c before.write_faults) is);
-        keeps = keeps_both before middle now works.keeps (write_keeps middle now rest.named rest.left rest.open_faults rest.read_faults (omega arith));
+        keeps = keeps_both before middle now works.keeps (write_keeps middle now rest.named rest.left rest.open_faults rest.read_faults only.never_falls);
       }
 
   -- the run but for its last line is that of the job, or its output isn't kept

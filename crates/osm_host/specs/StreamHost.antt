@@ -2,7 +2,7 @@
 use Rattle.std.specs.Prelude.{ℕ, List, [], ◌∷◌, None, Option, codes, if◌then◌else◌}
 use Rattle.std.specs.Str.{bytes_eq}
 use Rattle.osm_host.specs.Outside.{Opened, Outside, appended}
-use Rattle.osm_host.specs.Streams.{left_of, held_by}
+use Rattle.osm_host.specs.Streams.{left_in, held_by}
 use Rattle.osm_host.specs.declared.stream_host.StreamHost.{StreamHost}
 
 -- nothing is told, and its counts alone are known
@@ -33,7 +33,7 @@ asked_behind asked name opened = if bytes_eq name (codes "-") then asked else ap
 
 -- what is left of the input
 abbrev pub input_left : {D R W I O E : Type 0} → (I → Option (List ℕ)) → (R → Option (List ℕ)) → StreamHost D R W I O E → Option (List ℕ)
-input_left standard opened host = left_of standard opened host.input host.source
+input_left standard opened host = left_in standard opened host.input host.source
 
 -- what the output holds
 abbrev pub output_held : {D R W I O E : Type 0} → (O → Option (List ℕ)) → (W → Option (List ℕ)) → StreamHost D R W I O E → Option (List ℕ)

@@ -4,7 +4,7 @@ ghost use Rattle.std.specs.Prelude.{◌≡◌, ◌⊎◌, ◌<◌, ◌≤◌, []
 ghost use Rattle.std.specs.Io.KnownBytes.{ReadConsumes, WriteAppends};
 ghost use Rattle.std.specs.Str.{bytes_eq};
 ghost use Rattle.osm_host.specs.Outside.{input, output, appended, preceded, grown, finds_end, Counts, OnlyOpens, OnlyReads, OnlyWritesOut, OnlyWritesReport};
-ghost use Rattle.osm_host.specs.Streams.{left_of, held_by};
+ghost use Rattle.osm_host.specs.Streams.{left_in, held_by};
 
 use crate::edge::{put, take};
 use crate::host::{Failed, Faults, Host, NO_FAULTS, note_fault};
@@ -85,8 +85,8 @@ fn take_off<R: Read, I: Read>(
     buf: &mut [u8],
 ) -> Result<usize, Failed>
     ensures count { IfOk result (λ n. n ≤ length buf.new) }
-    ensures bytes { ReadConsumes (left_of I.remaining R.remaining standard.old source.old)
-        (left_of I.remaining R.remaining standard.new source.new) result buf.new }
+    ensures bytes { ReadConsumes (left_in I.remaining R.remaining standard.old source.old)
+        (left_in I.remaining R.remaining standard.new source.new) result buf.new }
 {
     match source {
         Source::Nothing => Ok(0),

@@ -2,7 +2,7 @@
 use Rattle.std.proofs.Common.{[], ◌∷◌, refl, subst}
 use Rattle.osm_host.specs.Outside.{output}
 use Rattle.osm_job.proofs.BothThenOutput.{both_not_opened, both_written, lacks_both}
-use Rattle.osm_job.proofs.Sparing.{both_spared, either_spared}
+use Rattle.osm_job.proofs.Sparing.{either_spared}
 use Rattle.osm_job.proofs.TextWritten.{right_written}
 use Rattle.osm_job.specs.TextWhole.{IsText, whole_of_text}
 use Rattle.osm_job.specs.Worked.{WroteOver}
@@ -60,11 +60,11 @@ returns-in-Err-clause-spares g c =
 
 pub returns-in-Err-read_points-clause-spares : goal.returns-in-Err-read_points-clause-spares
 returns-in-Err-read_points-clause-spares g c =
-    λ is. both_spared c.args.settings.now.file.now c.args.settings.now.points.now (g.H.Host.seen c.args.host.now) (g.H.Host.seen c.read_both.new.host) c.in-Ok.both.0 c.in-Ok.both.1.items c.in-Ok.ensures
+    λ is. record { opened = 2; opens = c.in-Ok.ensures.opens; out = c.in-Ok.ensures.silent.out }
 
 pub returns-in_default-clause-spares : goal.returns-in_default-clause-spares
 returns-in_default-clause-spares g c =
-    λ is. both_spared c.args.settings.now.file.now c.args.settings.now.points.now (g.H.Host.seen c.args.host.now) (g.H.Host.seen c.read_both.new.host) c.in-Ok.both.0 c.in-Ok.both.1.items c.in-Ok.ensures
+    λ is. record { opened = 2; opens = c.in-Ok.ensures.opens; out = c.in-Ok.ensures.silent.out }
 
 pub returns-in_default-open_output-clause-spares : goal.returns-in_default-open_output-clause-spares
 returns-in_default-open_output-clause-spares g c = λ is. absurd (cc)

@@ -5,7 +5,7 @@ use Rattle.osm_job.specs.TextWhole.{IsText, whole_of_text}
 use Rattle.osm_job.specs.Worked.{WroteOver}
 use Rattle.osm_job.proofs.TextWritten.{right_written}
 use Rattle.osm_job.proofs.InputThenOutput.{lacks_input, no_memory, output_not_opened, output_written}
-use Rattle.osm_job.proofs.Sparing.{first_spared, read_spared}
+use Rattle.osm_job.proofs.Sparing.{first_spared}
 use Rattle.job_small.specs.Filtering.Filter.{IsFilter}
 use Rattle.job_small.proofs.Filtering.Written.{text_right}
 use Rattle.job_small.proofs.filter.work.filter_coast.Goals as goal
@@ -44,8 +44,7 @@ returns-in-Err-clause-spares g c =
     first_spared c.args.settings.now.file.now [] (g.H.Host.seen c.args.host.now) (g.H.Host.seen c.read_input.new.host) c.in-Err.ended c.in-Err.ensures
 
 pub returns-in_default-clause-spares : goal.returns-in_default-clause-spares
-returns-in_default-clause-spares g c =
-    λ is. read_spared c.args.settings.now.file.now c.in-Ok.store (g.H.Host.seen c.args.host.now) (g.H.Host.seen c.read_input.new.host) c.in-Ok.ensures
+returns-in_default-clause-spares g c = λ is. record { opened = 1; opens = c.in-Ok.ensures.opens; out = c.in-Ok.ensures.silent.out }
 
 pub returns-in_default-open_output-clause-spares : goal.returns-in_default-open_output-clause-spares
 returns-in_default-open_output-clause-spares g c = λ is. absurd (cc)

@@ -1,8 +1,7 @@
 -- Each ending by its lemma on a job that reads nothing and opens one output.
-use Rattle.std.proofs.Common.{codes, false, refl}
+use Rattle.std.proofs.Common.{codes, false, refl, sym}
 use Rattle.osm_host.specs.Outside.{output}
 use Rattle.osm_job.proofs.OutputAlone.{alone_not_opened, alone_written, ran_out}
-use Rattle.osm_job.proofs.Sparing.{none_spared}
 use Rattle.job_small.specs.Sampling.Sample.{IsSample}
 use Rattle.job_small.specs.Sampling.WorkSteps.{whole_of_lines}
 use Rattle.job_small.proofs.sample.work.sample.Goals as goal
@@ -24,7 +23,8 @@ returns-clause-works g c =
     (g.H.Host.seen c.write_all.new.host) c.write_all.result c.write_all.ensures.works
 
 pub returns-in_default-clause-spares : goal.returns-in_default-clause-spares
-returns-in_default-clause-spares g c = λ is. none_spared c.streams_append.ensures (g.H.Host.seen c.args.host.now)
+returns-in_default-clause-spares g c =
+    λ is. record { opened = 0; opens = sym (c.streams_append.ensures.no_opens (g.H.Host.seen c.args.host.now).opens); out = refl }
 
 pub returns-in_default-open_output-clause-spares : goal.returns-in_default-open_output-clause-spares
 returns-in_default-open_output-clause-spares g c = λ is. absurd (cc)
