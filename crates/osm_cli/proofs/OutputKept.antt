@@ -1,5 +1,5 @@
 -- A run whose output is kept once its job came to its end.
-use Rattle.std.proofs.Common.{◌≡◌, ◌∙◌, refl, sym, ap, subst, true, [], length, append-nil, arith, Option, None, Some, Ok}
+use Rattle.std.proofs.Common.{◌≡◌, ◌∙◌, refl, sym, ap, subst, true, List, [], length, append-nil, arith, Option, None, Some, Ok}
 use Rattle.osm_host.specs.Outside.{Outside, risen, OnlyWritesOut}
 use Rattle.osm_words.specs.Job.{Job, certify, coastline, export, filter, locate, sample}
 use Rattle.osm_job.proofs.Keeping.{keeps_both, write_keeps}
