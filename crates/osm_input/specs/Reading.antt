@@ -47,8 +47,8 @@ abbrev pub HasReachedEnd : Outside → Type 0
 HasReachedEnd now = IfSome now.left (λ left. left ≡ [])
 
 -- What is answered of the bytes that were taken off an input. With a bad place, it stands in their lines, the last one
--- counting only where the input ended there or it is too long already; and no further piece was taken behind what shows it, or that
--- the limit is passed.
+-- counting only where the input ended there or it is too long already; and the last 65,536 bytes show it. Beyond the limit at most
+-- as many were taken.
 abbrev pub IsAnswerOfReading : ℕ → ℕ → List ℕ → Outside → Result (List Object) ReadError → Type 0
 IsAnswerOfReading limit longest taken now (Ok objects) = HasReachedEnd now × IsReadAs limit longest taken (Ok objects)
 IsAnswerOfReading limit longest taken now (Err (BadInput line fault)) =

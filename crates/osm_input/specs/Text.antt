@@ -29,7 +29,7 @@ IsTextWhole limit bytes (Err (TooMuchInput most)) = IsTextAs limit bytes (Err (T
 IsTextWhole limit bytes (Err ReadFault) = ⊥
 IsTextWhole limit bytes (Err OutOfMemory) = Unit {0}
 
--- What is answered of the bytes that were taken off an input. No further piece was taken behind what shows that it passes the limit.
+-- What is answered of the bytes that were taken off an input. At most 65,536 were taken beyond the limit.
 abbrev pub IsTextAnswer : ℕ → List ℕ → Outside → Result (List ℕ) TextError → Type 0
 IsTextAnswer limit taken now (Ok text) = HasReachedEnd now × IsTextAs limit taken (Ok text)
 IsTextAnswer limit taken now (Err (TooMuchInput most)) = IsTextAs limit taken (Err (TooMuchInput most)) × PassesLast limit taken
