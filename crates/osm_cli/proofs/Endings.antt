@@ -8,7 +8,7 @@ use Rattle.osm_job.specs.declared.ended.Ended.{Ended}
 use Rattle.osm_job.specs.declared.ended.Ended.TheVariants.{Done, Warnings, Errors, BadWords, BadInput, Stopped, TooMuchInput, TooManyPieces, Refuted, BadPoint, OpenFault, ReadFault, WriteFault, OutOfMemory}
 use Rattle.osm_words.specs.Job.{Job}
 use Rattle.osm_job.specs.Cause.{Cause, by_itself, by_words, by_input, by_verdict, by_open, by_read, by_write, by_memory, cause_of}
-use Rattle.osm_input.specs.ReadFaults.{LastReadFailed, NoneOrLastReadFailed}
+use Rattle.osm_input.specs.ReadFaults.{LastReadFailed}
 use Rattle.osm_job.specs.Faults.{ReadsFailed, NoFault, CountsFaults}
 use Rattle.osm_job.specs.Texts.{Texts}
 use Rattle.osm_cli.specs.Job.{TookAll, inputs_of}
@@ -19,7 +19,7 @@ use Rattle.osm_cli.specs.Whole.{IsWhole}
 use Rattle.osm_job.specs.Prefix.{IsPrefix}
 use Rattle.osm_job.specs.Written.{WroteAll}
 use Rattle.osm_job.specs.Taken.{read_error}
-use Rattle.osm_cli.specs.Run.{IsLastLine, stands, is_cut, Writes, JudgesInput, Opens, Completes, Ran}
+use Rattle.osm_cli.specs.Run.{IsLastLine, stands, is_cut, Writes, JudgesInput, Opens, Spares, Completes, Ran}
 use Rattle.osm_cli.specs.RunSteps.{Works}
 use Rattle.osm_job.proofs.Keeping.{keeps_both, write_keeps}
 use Rattle.osm_job.proofs.Taken.{taken_kept, stopped_kept}
@@ -58,6 +58,10 @@ opens_so_far (Ok job) by_read before middle now only opens = (opens.0, opens.1, 
 opens_so_far (Ok job) by_write before middle now only opens = (opens.0, only.opens ∙ opens.1)
 opens_so_far (Ok job) by_memory before middle now only opens = (opens.0, (only.opens ∙ opens.1.0, λ more. (all_kept job before middle now only.left only.bytes_read (opens.1.1 more).0, (opens.1.1 more).1), opens.1.2))
 
+spares_still : (words : Result Job WordsFault) (ended : Ended) (before middle now : Outside) → OnlyWritesReport middle now → Spares words ended before middle → Spares words ended before now
+spares_still (Err fault) ended before middle now only spares = tt
+spares_still (Ok job) ended before middle now only spares = λ first is. let spared = spares first is in record { opened = spared.opened; opens = only.opens ∙ spared.opens; out = only.out ∙ spared.out }
+
 input_so_far : (words : Result Job WordsFault) (ended : Ended) (before middle now : Outside) → OnlyWritesReport middle now → JudgesInput words ended before middle → JudgesInput words ended before now
 input_so_far (Err fault) ended before middle now only input = nothing_kept before middle now only.left only.bytes_read input
 input_so_far (Ok job) ended before middle now only input = (
@@ -66,10 +70,6 @@ input_so_far (Ok job) ended before middle now only input = (
   λ none. nothing_kept before middle now only.left only.bytes_read (input.2 none),
 )
 
-last_still : (before middle now : Outside) → now.read_faults ≡ middle.read_faults → now.read_failed ≡ middle.read_failed → NoneOrLastReadFailed before middle → NoneOrLastReadFailed before now
-last_still before middle now same failed (inl none) = inl (same ∙ none)
-last_still before middle now same failed (inr last) = inr (same ∙ last.0, failed ∙ last.1)
-
 reads_still : (ended : Ended) (before middle now : Outside) → now.read_faults ≡ middle.read_faults → now.read_failed ≡ middle.read_failed → ReadsFailed ended before middle → ReadsFailed ended before now
 reads_still OpenFault before middle now same failed reads = same ∙ reads
 reads_still ReadFault before middle now same failed reads = (same ∙ reads.0, failed ∙ reads.1)
@@ -77,9 +77,9 @@ reads_still WriteFault before middle now same failed reads = same ∙ reads
 reads_still Done before middle now same failed reads = same ∙ reads
 reads_still Warnings before middle now same failed reads = same ∙ reads
 reads_still Errors before middle now same failed reads = same ∙ reads
-reads_still OutOfMemory before middle now same failed reads = last_still before middle now same failed reads
+reads_still OutOfMemory before middle now same failed reads = same ∙ reads
 reads_still (BadWords fault) before middle now same failed reads = same ∙ reads
-reads_still (BadInput line fault) before middle now same failed reads = last_still before middle now same failed reads
+reads_still (BadInput line fault) before middle now same failed reads = same ∙ reads
 reads_still (Stopped candidate) before middle now same failed reads = same ∙ reads
 reads_still (TooMuchInput limit) before middle now same failed reads = same ∙ reads
 reads_still (TooManyPieces most) before middle now same failed reads = same ∙ reads
@@ -130,6 +130,7 @@ ran law words ended before middle now works only line r is all front some counts
       judges = works.judged;
       reads = input_so_far words ended before middle now only works.judged_input;
       opens = opens_so_far words (cause_of ended) before middle now only works.opens;
+      spares = spares_still words ended before middle now only works.spares;
       faults = faults;
       complete = λ none. completes words ended before now wrote faults none;
       keeps = keeps_both before middle now works.keeps (write_keeps middle now only.named only.left only.open_faults only.read_faults counts.never_falls);

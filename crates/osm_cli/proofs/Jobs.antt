@@ -1,5 +1,5 @@
 -- A run but for its last line: of a job, and of words that aren't taken.
-use Rattle.std.proofs.Common.{◌≡◌, ◌∙◌, refl, sym, subst, ℕ, [], arith, Result, Ok, Err, inl, inr}
+use Rattle.std.proofs.Common.{◌≡◌, ◌∙◌, refl, sym, subst, ℕ, [], ◌∷◌, arith, Result, Ok, Err, inl, inr}
 use Rattle.osm_host.specs.Laws.{StreamsAppend}
 use Rattle.osm_host.specs.Outside.{Outside}
 use Rattle.osm_words.specs.declared.fault.WordsFault.{WordsFault}
@@ -11,6 +11,7 @@ use Rattle.osm_job.proofs.Keeping.{nothing_changed}
 use Rattle.osm_job.specs.declared.ended.Ended.{Ended}
 use Rattle.osm_job.specs.declared.ended.Ended.TheVariants.{BadWords, OutOfMemory}
 use Rattle.osm_job.specs.Cause.{Cause}
+use Rattle.osm_job.specs.Spared.{SparesOutput}
 use Rattle.osm_job.specs.Taken.{TookNothing}
 use Rattle.osm_job.specs.Texts.{told_texts}
 use Rattle.osm_job.specs.Worked.{Worked}
@@ -23,6 +24,7 @@ use Rattle.job_small.specs.Filtering.Filter.{Filters}
 use Rattle.job_ask.specs.Locating.Locate.{Locates}
 use Rattle.job_small.specs.Sampling.Sample.{Samples}
 use Rattle.osm_cli.specs.Job.{TookAll, inputs_of, outputs_of}
+use Rattle.osm_cli.specs.Run.{Spares}
 use Rattle.osm_cli.specs.RunSteps.{Works, words_ended}
 use Rattle.osm_cli.specs.Whole.{IsWhole}
 
@@ -41,8 +43,8 @@ all_kept (filter settings) before middle now same counted took = input_kept midd
 all_kept (certify settings) before middle now same counted took = both_kept middle now same counted before settings.file settings.text took
 all_kept (locate settings) before middle now same counted took = both_kept middle now same counted before settings.file settings.points took
 
-of_job : (job : Job) (ended : Ended) (before after : Outside) → Worked (inputs_of job) (outputs_of job) (IsWhole job) (TookAll job) ended before after → Works (Ok job) ended before after
-of_job job ended before after w = record {
+of_job : (job : Job) (ended : Ended) (before after : Outside) → Worked (inputs_of job) (outputs_of job) (IsWhole job) (TookAll job) ended before after → Spares (Ok job) ended before after → Works (Ok job) ended before after
+of_job job ended before after w spares = record {
   written = w.written;
   out = w.out;
   report = w.report;
@@ -50,28 +52,29 @@ of_job job ended before after w = record {
   judged = λ is. subst (λ (c : Cause). IsWrittenBy (IsWhole job) c (told_texts before.named (inputs_of job)) ended w.written) is w.right;
   judged_input = (w.refused, w.took, w.untouched);
   opens = w.opens;
+  spares = spares;
   faults = w.faults;
   write_faults = w.write_faults;
   keeps = w.keeps;
 }
 
 pub of_export : (settings : ExportSettings) (ended : Ended) (before after : Outside) → Exports settings ended before after → Works (Ok (export settings)) ended before after
-of_export settings ended before after exported = of_job (export settings) ended before after exported
+of_export settings ended before after exported = of_job (export settings) ended before after exported (λ first. absurd (cc))
 
 pub of_coastline : (settings : CoastlineSettings) (ended : Ended) (before after : Outside) → Coastlines settings ended before after → Works (Ok (coastline settings)) ended before after
-of_coastline settings ended before after done = of_job (coastline settings) ended before after done
+of_coastline settings ended before after done = of_job (coastline settings) ended before after done (λ first. absurd (cc))
 
-pub of_sample : (count : ℕ) (ended : Ended) (before after : Outside) → Samples count ended before after → Works (Ok (sample count)) ended before after
-of_sample count ended before after done = of_job (sample count) ended before after done
+pub of_sample : (count : ℕ) (ended : Ended) (before after : Outside) → Samples count ended before after → SparesOutput [] ended before after → Works (Ok (sample count)) ended before after
+of_sample count ended before after done spares = of_job (sample count) ended before after done (λ first. spares)
 
-pub of_filter : (settings : FilterSettings) (ended : Ended) (before after : Outside) → Filters settings ended before after → Works (Ok (filter settings)) ended before after
-of_filter settings ended before after done = of_job (filter settings) ended before after done
+pub of_filter : (settings : FilterSettings) (ended : Ended) (before after : Outside) → Filters settings ended before after → SparesOutput (settings.file ∷ []) ended before after → Works (Ok (filter settings)) ended before after
+of_filter settings ended before after done spares = of_job (filter settings) ended before after done (λ first. spares)
 
 pub of_certify : (settings : CertifySettings) (ended : Ended) (before after : Outside) → Certifies settings ended before after → Works (Ok (certify settings)) ended before after
-of_certify settings ended before after done = of_job (certify settings) ended before after done
+of_certify settings ended before after done = of_job (certify settings) ended before after done (λ first. absurd (cc))
 
-pub of_locate : (settings : LocateSettings) (ended : Ended) (before after : Outside) → Locates settings ended before after → Works (Ok (locate settings)) ended before after
-of_locate settings ended before after done = of_job (locate settings) ended before after done
+pub of_locate : (settings : LocateSettings) (ended : Ended) (before after : Outside) → Locates settings ended before after → SparesOutput (settings.file ∷ settings.points ∷ []) ended before after → Works (Ok (locate settings)) ended before after
+of_locate settings ended before after done spares = of_job (locate settings) ended before after done (λ first. spares)
 
 -- of words that ask for the same
 pub works_alike : (x y : Result Job WordsFault) (ended : Ended) (before now : Outside) → Works x ended before now → x ≡ y → Works y ended before now
@@ -92,6 +95,7 @@ module _ (law : StreamsAppend) (o : Outside) where
     judged = inr refl;
     judged_input = nothing_taken;
     opens = refl;
+    spares = tt;
     faults = record { opens = refl; reads = refl };
     write_faults = refl;
     keeps = nothing_changed o;
@@ -107,7 +111,8 @@ module _ (law : StreamsAppend) (o : Outside) where
     judged = λ is. absurd (cc);
     judged_input = (tt, tt, λ none. nothing_taken);
     opens = (0, (sym (law.no_opens o.opens), λ more. absurd (omega arith), λ two. absurd (omega arith)));
-    faults = record { opens = refl; reads = inl refl };
+    spares = λ first is. record { opened = 0; opens = sym (law.no_opens o.opens); out = refl };
+    faults = record { opens = refl; reads = refl };
     write_faults = refl;
     keeps = nothing_changed o;
   }
@@ -119,7 +124,8 @@ module _ (law : StreamsAppend) (o : Outside) where
     judged = inl refl;
     judged_input = nothing_taken;
     opens = refl;
-    faults = record { opens = refl; reads = inl refl };
+    spares = tt;
+    faults = record { opens = refl; reads = refl };
     write_faults = refl;
     keeps = nothing_changed o;
   }

@@ -1,5 +1,5 @@
 -- What a job reads, and what it opens.
-use Rattle.std.specs.Prelude.{ℕ, false, List, [], ◌∷◌, codes}
+use Rattle.std.specs.Prelude.{ℕ, Bool, false, true, List, [], ◌∷◌, codes}
 use Rattle.osm_host.specs.Outside.{Outside, Opened, output}
 use Rattle.osm_words.specs.Job.{Job, certify, coastline, export, filter, locate, sample}
 use Rattle.osm_job.specs.Taken.{TookBoth, TookInput, TookNothing}
@@ -21,6 +21,15 @@ outputs_of (sample count) = output (codes "-") false ∷ []
 outputs_of (filter settings) = output settings.output settings.overwrite ∷ []
 outputs_of (certify settings) = []
 outputs_of (locate settings) = output settings.output settings.overwrite ∷ []
+
+-- The job makes all that it writes before it opens an output. `certify` opens none.
+abbrev pub makes_first : Job → Bool
+makes_first (export settings) = false
+makes_first (coastline settings) = false
+makes_first (sample count) = true
+makes_first (filter settings) = true
+makes_first (certify settings) = false
+makes_first (locate settings) = true
 
 -- The inputs of a job were taken to their ends and are read; of one without inputs nothing was taken.
 abbrev pub TookAll : Job → Outside → Outside → Type 0

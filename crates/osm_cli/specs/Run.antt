@@ -1,5 +1,5 @@
 -- What a run does with its words and its host.
-use Rattle.std.specs.Prelude.{◌≡◌, ◌⊎◌, ◌<◌, ℕ, List, [], ◌++◌, length, IfSome, Result, Ok, Err}
+use Rattle.std.specs.Prelude.{◌≡◌, ◌⊎◌, ◌<◌, ℕ, true, List, [], ◌++◌, length, IfSome, Result, Ok, Err}
 use Rattle.osm_host.specs.Outside.{Outside, appended, risen}
 use Rattle.osm_words.specs.Job.{Job}
 use Rattle.osm_words.specs.declared.fault.WordsFault.{WordsFault}
@@ -11,12 +11,13 @@ use Rattle.osm_job.specs.Faults.{CountsFaults, NoFault, writes_failed}
 use Rattle.osm_job.specs.Opens.{OpensBy}
 use Rattle.osm_job.specs.Prefix.{IsPrefix}
 use Rattle.osm_job.specs.Sent.{Sent, output_of, report_of}
+use Rattle.osm_job.specs.Spared.{SparesOutput}
 use Rattle.osm_job.specs.Taken.{IsStopped, TookBy, TookNothing, read_error}
 use Rattle.osm_job.specs.Texts.{told_texts}
 use Rattle.osm_job.specs.Whole.{Whole}
 use Rattle.osm_job.specs.Worked.{IsReady}
 use Rattle.osm_job.specs.Written.{IsWrittenBy}
-use Rattle.osm_cli.specs.Job.{TookAll, inputs_of, outputs_of}
+use Rattle.osm_cli.specs.Job.{TookAll, inputs_of, makes_first, outputs_of}
 use Rattle.osm_cli.specs.LastLine.{last_line}
 use Rattle.osm_cli.specs.Whole.{IsWhole}
 
@@ -68,6 +69,11 @@ Opens (Ok job) cause before after =
     OpensBy (inputs_of job) (outputs_of job) (IsReady (inputs_of job) (IsWhole job) (TookAll job)) cause before after
 Opens (Err fault) cause before after = after.opens ≡ before.opens
 
+-- Where memory ran out in a job that makes all that it writes first, no output was opened and nothing was written to one.
+abbrev pub Spares : Result Job WordsFault → Ended → Outside → Outside → Type 0
+Spares (Ok job) ended before after = makes_first job ≡ true → SparesOutput (inputs_of job) ended before after
+Spares (Err fault) ended before after = Unit {0}
+
 -- ---- why it ended so
 
 -- Words are refused exactly where they are faulty, and then with their fault, unless memory ran out.
@@ -97,8 +103,9 @@ pub record Ran (words : Result Job WordsFault) (ended : Ended) (before after : O
   -- No name is opened that the words don't give, and no output before the inputs are read, nor one where what they hold
   -- allows none.
   pub opens : Opens words (cause_of ended) before after
-  -- OpenFault comes with one open that failed, ReadFault with one read, the last; the others with none, but for a read
-  -- behind a bad line or before memory ran out.
+  -- A job that makes all that it writes before it opens its output touches none where memory ran out.
+  pub spares : Spares words ended before after
+  -- OpenFault comes with one open that failed, ReadFault with one read, the last; the others with none.
   pub faults : CountsFaults ended before after
   -- Without a fault of the host the run ends as is right for the inputs.
   pub complete : NoFault before after → Completes words before ended

@@ -2,7 +2,8 @@
 
 ghost use Rattle.std.specs.Prelude.{◌≡◌, ℕ, List, Ok, map, string_bytes};
 ghost use Rattle.osm_cli.specs.Run.{Ran};
-ghost use Rattle.osm_cli.specs.RunSteps.{Works, words_ended};
+ghost use Rattle.osm_job.specs.Cause.{cause_of};
+ghost use Rattle.osm_cli.specs.RunSteps.{KeepsOutput, Works, has_output, is_by_itself, words_ended};
 ghost use Rattle.osm_cli.specs.Status.{EndsWith};
 ghost use Rattle.osm_words.specs.Answers.{certify_seen, coastline_seen, filter_seen, job_seen, locate_seen, sample_seen, settings_seen};
 ghost use Rattle.osm_words.specs.Job.{certify, coastline, export, filter, locate, sample};
@@ -98,8 +99,62 @@ fn work<H: Host>(alloc: Global, words: &[String], host: &mut H) -> Ended
     }
 }
 
-/// Does a job.
+/// Does a job, and has its output kept.
 fn work_on<H: Host>(alloc: Global, job: &Job<'_>, host: &mut H) -> Ended
+    ensures { Works (Ok (job_seen job.now)) result (H.seen host.old) (H.seen host.new) }
+{
+    let ended = do_job(alloc, job, host);
+    if !opens_output(job) {
+        return ended;
+    }
+    keep(ended, host)
+}
+
+/// Whether a job opens an output: each but `certify`.
+fn opens_output(job: &Job<'_>) -> bool
+    ensures { result ≡ has_output (job_seen job.now) }
+{
+    match job {
+        Job::Export(_) | Job::Coastline(_) | Job::Sample(_) | Job::Filter(_) | Job::Locate(_) =>
+            true,
+        Job::Certify(_) => false,
+    }
+}
+
+/// Has the output kept of a job that came to its end, and says how the run ends.
+fn keep<H: Host>(ended: Ended, host: &mut H) -> Ended
+    ensures { KeepsOutput ended result (H.seen host.old) (H.seen host.new) }
+{
+    if !comes_to_its_end(&ended) {
+        return ended;
+    }
+    match host.keep_output() {
+        Ok(()) => ended,
+        Err(_) => Ended::WriteFault,
+    }
+}
+
+/// Whether a run that ends so came to its end.
+fn comes_to_its_end(ended: &Ended) -> bool
+    ensures { result ≡ is_by_itself (cause_of ended.now) }
+{
+    match ended {
+        Ended::Done | Ended::Warnings | Ended::Errors | Ended::Stopped { .. } => true,
+        Ended::BadWords { .. }
+        | Ended::BadInput { .. }
+        | Ended::TooMuchInput { .. }
+        | Ended::TooManyPieces { .. }
+        | Ended::Refuted { .. }
+        | Ended::BadPoint { .. }
+        | Ended::OpenFault
+        | Ended::ReadFault
+        | Ended::WriteFault
+        | Ended::OutOfMemory => false,
+    }
+}
+
+/// Does a job, whose output isn't kept yet.
+fn do_job<H: Host>(alloc: Global, job: &Job<'_>, host: &mut H) -> Ended
     ensures { Works (Ok (job_seen job.now)) result (H.seen host.old) (H.seen host.new) }
 {
     match job {

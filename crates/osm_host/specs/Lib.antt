@@ -1,3 +1,4 @@
 pub mod Laws
 pub mod Outside
-pub mod StdHost
+pub mod StreamHost
+pub mod Streams

@@ -1,5 +1,5 @@
 -- What a host means: its streams and its list of opens, each told or not, and its counts of faults.
-use Rattle.std.specs.Prelude.{◌≡◌, ◌+◌, ◌-◌, ◌^◌, ◌≤◌, min, max, ℕ, Bool, List, ◌++◌, Option, None, Some, Result, OnOk, OnErr}
+use Rattle.std.specs.Prelude.{◌≡◌, ◌+◌, ◌-◌, ◌^◌, ◌≤◌, ◌&&◌, nat_eq, nat_lt, min, max, ℕ, Bool, false, List, ◌++◌, Option, None, Some, Result, Ok, Err, OnOk, OnErr}
 
 -- an open that was asked for, by the bytes of its name; an output with its overwrite
 pub data Opened : Type 0 where
@@ -21,6 +21,8 @@ pub record Outside : Type 0 where
   pub write_faults : ℕ
   -- whether the last read failed
   pub read_failed : Bool
+  -- whether the last read found the end of the opened input
+  pub at_end : Bool
   -- how many bytes were taken off the opened input
   pub bytes_read : ℕ
 
@@ -45,6 +47,11 @@ grown count more = min (count + more) (max count (2 ^ 64 - 1))
 -- The count rose by one at least, or stands at its last value.
 abbrev pub HasRisen : ℕ → ℕ → Type 0
 HasRisen before now = risen before ≤ now
+
+-- A read that answers so found the end: it gave nothing to a buffer of this size, which isn't empty.
+abbrev pub finds_end : {E : Type 0} → Result ℕ E → ℕ → Bool
+finds_end (Ok count) size = nat_eq count 0 && nat_lt 0 size
+finds_end (Err failed) size = false
 
 -- A count never falls, is one up where a call of its kind failed, and stays where it was answered.
 pub record Counts {T E : Type 0} (before now : ℕ) (result : Result T E) : Type 0 where
@@ -79,6 +86,7 @@ pub record OnlyWritesOut (before now : Outside) : Type 0 where
   pub open_faults : now.open_faults ≡ before.open_faults
   pub read_faults : now.read_faults ≡ before.read_faults
   pub read_failed : now.read_failed ≡ before.read_failed
+  pub at_end : now.at_end ≡ before.at_end
   pub bytes_read : now.bytes_read ≡ before.bytes_read
 
 -- Nothing but the report and the count of writes changed.
@@ -90,4 +98,5 @@ pub record OnlyWritesReport (before now : Outside) : Type 0 where
   pub open_faults : now.open_faults ≡ before.open_faults
   pub read_faults : now.read_faults ≡ before.read_faults
   pub read_failed : now.read_failed ≡ before.read_failed
+  pub at_end : now.at_end ≡ before.at_end
   pub bytes_read : now.bytes_read ≡ before.bytes_read

@@ -1,5 +1,6 @@
 -- The bytes that are taken off an input, piece by piece.
-use Rattle.std.proofs.Common.{◌≡◌, ◌∙◌, refl, sym, ap, ℕ, ◌+◌, ◌≤◌, List, [], ◌++◌, length, take, length-append, length-take, arith, Option, None, Some}
+use Rattle.std.proofs.Common.{◌≡◌, ◌∙◌, refl, sym, ap, ℕ, ◌+◌, ◌≤◌, ◌&&◌, nat_eq, nat_lt, false, List, [], ◌++◌, length, take, length-append, length-take, arith, Option, None, Some}
+use Rattle.std.proofs.lemmas.Bool.{ne_eqb}
 use Rattle.osm_host.specs.Laws.{PrecedesInTurn}
 use Rattle.osm_host.specs.Outside.{Outside, preceded, grown}
 
@@ -18,6 +19,10 @@ nothing_preceded (Some bytes) = refl
 
 pub none_taken : (now : Outside) → AreTaken now now []
 none_taken now = record { left = sym (nothing_preceded now.left); counted = omega arith }
+
+-- a read that gave something didn't find the end
+pub no_end : (count size : ℕ) → (count ≡ 0 → ⊥) → nat_eq count 0 && nat_lt 0 size ≡ false
+no_end count size some = rw (ne_eqb count 0 some) refl
 
 -- with so many bytes of a buffer behind them
 pub piece_size : (bytes buffer : List ℕ) (count : ℕ) → count ≤ length buffer → length (bytes ++ take count buffer) ≡ length bytes + count

@@ -109,10 +109,10 @@ module _ (limit longest : ℕ) (before middle : Outside) (r : Reader) (objects :
 
     pub end_at_once : (result : Result (List Object) ReadError) → ReadsAll longest t.bytes result → now.read_faults ≡ before.read_faults → ReadsOnce before now result
     end_at_once (Ok all) read same = same
-    end_at_once (Err (BadInput line fault)) read same = inl same
+    end_at_once (Err (BadInput line fault)) read same = same
     end_at_once (Err (TooMuchInput most)) read same = absurd read
     end_at_once (Err ReadFault) read same = absurd read
-    end_at_once (Err OutOfMemory) read same = inl same
+    end_at_once (Err OutOfMemory) read same = same
 
   -- ---- a piece was taken
 
@@ -161,10 +161,10 @@ module _ (limit longest : ℕ) (before middle : Outside) (r : Reader) (objects :
     piece_reads few OutOfMemory refused = tt
 
     pub piece_at_once : (e : ReadError) → IsRefusedBy longest t.bytes (take within buffer) e → now.read_faults ≡ before.read_faults → ReadsOnce before now (Err e)
-    piece_at_once (BadInput line fault) refused same = inl same
+    piece_at_once (BadInput line fault) refused same = same
     piece_at_once (TooMuchInput most) refused same = absurd refused
     piece_at_once ReadFault refused same = absurd refused
-    piece_at_once OutOfMemory refused same = inl same
+    piece_at_once OutOfMemory refused same = same
 
     module _ (next : Reader) (more : List Object) (holds : HasReadLines longest (t.bytes ++ take within buffer) next more) where
       -- there is more than the limit

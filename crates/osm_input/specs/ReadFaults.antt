@@ -1,11 +1,7 @@
 -- Which reads failed, by the counts.
-use Rattle.std.specs.Prelude.{◌≡◌, ◌⊎◌, true}
+use Rattle.std.specs.Prelude.{◌≡◌, true}
 use Rattle.osm_host.specs.Outside.{Outside, risen}
 
 -- One read failed, and it was the last read.
 abbrev pub LastReadFailed : Outside → Outside → Type 0
 LastReadFailed before now = (now.read_faults ≡ risen before.read_faults) × (now.read_failed ≡ true)
-
--- No read failed, or one did and it was the last read.
-abbrev pub NoneOrLastReadFailed : Outside → Outside → Type 0
-NoneOrLastReadFailed before now = (now.read_faults ≡ before.read_faults) ⊎ LastReadFailed before now

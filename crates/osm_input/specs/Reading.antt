@@ -4,7 +4,7 @@ use Rattle.osm_elements.specs.declared.object.Object.{Object}
 use Rattle.osm_host.specs.Outside.{Outside, preceded, grown}
 use Rattle.osm_input.specs.declared.reading.ReadError.{ReadError}
 use Rattle.osm_input.specs.declared.reading.ReadError.TheVariants.{BadInput, TooMuchInput, ReadFault, OutOfMemory}
-use Rattle.osm_input.specs.ReadFaults.{LastReadFailed, NoneOrLastReadFailed}
+use Rattle.osm_input.specs.ReadFaults.{LastReadFailed}
 use Rattle.osm_input.specs.Shown.{IsShownLast, PassesLast}
 use Rattle.opl_reader.specs.Lines.{lines_of}
 use Rattle.osm_input.specs.Lines.{lines_begun}
@@ -47,8 +47,8 @@ abbrev pub HasReachedEnd : Outside → Type 0
 HasReachedEnd now = IfSome now.left (λ left. left ≡ [])
 
 -- What is answered of the bytes that were taken off an input. With a bad place, it stands in their lines, the last one
--- counting only where the input ended there or it is too long already; and no further piece was taken behind what shows it, or that
--- the limit is passed.
+-- counting only where the input ended there or it is too long already; and the last 65,536 bytes show it. Beyond the limit at most
+-- as many were taken.
 abbrev pub IsAnswerOfReading : ℕ → ℕ → List ℕ → Outside → Result (List Object) ReadError → Type 0
 IsAnswerOfReading limit longest taken now (Ok objects) = HasReachedEnd now × IsReadAs limit longest taken (Ok objects)
 IsAnswerOfReading limit longest taken now (Err (BadInput line fault)) =
@@ -76,11 +76,10 @@ Reads limit longest before now (Err (TooMuchInput most)) = Took limit longest be
 Reads limit longest before now (Err ReadFault) = Took limit longest before now (Err ReadFault)
 Reads limit longest before now (Err OutOfMemory) = Unit {0}
 
--- A read failed, one alone and the last, where ReadFault is answered. Where a bad line is, which was read before, or
--- memory ran out, one may have failed, the last. Else none did.
+-- A read failed, one alone and the last, where ReadFault is answered. Else none did.
 abbrev pub ReadsOnce : Outside → Outside → Result (List Object) ReadError → Type 0
 ReadsOnce before now (Ok objects) = now.read_faults ≡ before.read_faults
-ReadsOnce before now (Err (BadInput line fault)) = NoneOrLastReadFailed before now
+ReadsOnce before now (Err (BadInput line fault)) = now.read_faults ≡ before.read_faults
 ReadsOnce before now (Err (TooMuchInput most)) = now.read_faults ≡ before.read_faults
 ReadsOnce before now (Err ReadFault) = LastReadFailed before now
-ReadsOnce before now (Err OutOfMemory) = NoneOrLastReadFailed before now
+ReadsOnce before now (Err OutOfMemory) = now.read_faults ≡ before.read_faults

@@ -1,4 +1,4 @@
--- How soon it is told that an input isn't read: no further piece is taken off it behind what shows that.
+-- How soon it is told that an input isn't read, by the bytes that were taken.
 use Rattle.std.specs.Prelude.{◌≡◌, ◌+◌, ◌<◌, ◌≤◌, ℕ, List, ◌++◌, length}
 use Rattle.osm_input.specs.Lines.{lines_begun}
 

@@ -4,7 +4,7 @@ use Rattle.std.specs.declared.alloc.Global.{Global}
 use Rattle.osm_host.specs.Outside.{Outside, preceded, grown}
 use Rattle.osm_input.specs.declared.text.TextError.{TextError}
 use Rattle.osm_input.specs.declared.text.TextError.TheVariants.{TooMuchInput, ReadFault, OutOfMemory}
-use Rattle.osm_input.specs.ReadFaults.{LastReadFailed, NoneOrLastReadFailed}
+use Rattle.osm_input.specs.ReadFaults.{LastReadFailed}
 use Rattle.osm_input.specs.Reading.{HasReachedEnd}
 use Rattle.osm_input.specs.Shown.{PassesLast}
 
@@ -29,7 +29,7 @@ IsTextWhole limit bytes (Err (TooMuchInput most)) = IsTextAs limit bytes (Err (T
 IsTextWhole limit bytes (Err ReadFault) = ⊥
 IsTextWhole limit bytes (Err OutOfMemory) = Unit {0}
 
--- What is answered of the bytes that were taken off an input. No further piece was taken behind what shows that it passes the limit.
+-- What is answered of the bytes that were taken off an input. At most 65,536 were taken beyond the limit.
 abbrev pub IsTextAnswer : ℕ → List ℕ → Outside → Result (List ℕ) TextError → Type 0
 IsTextAnswer limit taken now (Ok text) = HasReachedEnd now × IsTextAs limit taken (Ok text)
 IsTextAnswer limit taken now (Err (TooMuchInput most)) = IsTextAs limit taken (Err (TooMuchInput most)) × PassesLast limit taken
@@ -50,13 +50,12 @@ ReadsText limit before now (Err (TooMuchInput most)) = TookWhole limit before no
 ReadsText limit before now (Err ReadFault) = TookWhole limit before now (Err ReadFault)
 ReadsText limit before now (Err OutOfMemory) = Unit {0}
 
--- A read failed, one alone and the last, where ReadFault is answered. Where memory ran out, one may have failed, the last.
--- Else none did.
+-- A read failed, one alone and the last, where ReadFault is answered. Else none did.
 abbrev pub ReadsTextOnce : Outside → Outside → Result (List ℕ) TextError → Type 0
 ReadsTextOnce before now (Ok text) = now.read_faults ≡ before.read_faults
 ReadsTextOnce before now (Err (TooMuchInput most)) = now.read_faults ≡ before.read_faults
 ReadsTextOnce before now (Err ReadFault) = LastReadFailed before now
-ReadsTextOnce before now (Err OutOfMemory) = NoneOrLastReadFailed before now
+ReadsTextOnce before now (Err OutOfMemory) = now.read_faults ≡ before.read_faults
 
 -- a text by its bytes
 abbrev pub text_seen : Result (Vec ℕ Global) TextError → Result (List ℕ) TextError

@@ -1,6 +1,6 @@
 //! An opened input, read to its end into a store.
 
-ghost use Rattle.std.specs.Prelude.{◌≡◌, ◌<◌, ◌^◌, IfSome};
+ghost use Rattle.std.specs.Prelude.{◌≡◌, ◌<◌, ◌^◌, false, IfSome};
 ghost use Rattle.osm_host.specs.Outside.{HasRisen, OnlyReads};
 ghost use Rattle.osm_input.specs.Keeps.{KeepsNames};
 ghost use Rattle.osm_input.specs.Reading.{IsReadOf, IsReadWhole, Reads, ReadsOnce};
@@ -41,15 +41,16 @@ pub fn read_all<H: Host>(
     limit: u64,
     longest: u64,
 ) -> Result<Store, ReadError>
-    requires { limit < 2 ^ 63 }
+    requires limited { limit < 2 ^ 63 }
+    // No read follows one that found the end.
+    requires goes_on { (H.seen host.old).at_end ≡ false }
     // What is answered is right for the bytes that were taken off the input: with a bad line fewer than
     // 65,536 beyond the byte that ended it or made it too long, with TooMuchInput at most so many beyond
     // the limit.
     ensures reads { Reads limit longest (H.seen host.old) (H.seen host.new) result }
     // Where the host tells the input, it is right for the input.
     ensures told { IfSome (H.seen host.old).left (λ bytes. IsReadOf limit longest bytes result) }
-    // A read failed, one alone and the last, where ReadFault is answered, and none with an Ok or
-    // TooMuchInput.
+    // A read failed, one alone and the last, where ReadFault is answered, and none with any other answer.
     ensures at_once { ReadsOnce (H.seen host.old) (H.seen host.new) result }
     // Where no read failed, the whole of it was read, or memory ran out.
     ensures complete { ¬ HasRisen (H.seen host.old).read_faults (H.seen host.new).read_faults
@@ -68,7 +69,8 @@ fn read_pieces<H: Host>(
     limit: u64,
     longest: u64,
 ) -> Result<Store, ReadError>
-    requires { limit < 2 ^ 63 }
+    requires limited { limit < 2 ^ 63 }
+    requires goes_on { (H.seen host.old).at_end ≡ false }
     ensures reads { Reads limit longest (H.seen host.old) (H.seen host.new) result }
     ensures at_once { ReadsOnce (H.seen host.old) (H.seen host.new) result }
     ensures keeps { KeepsNames (H.seen host.old) (H.seen host.new) }

@@ -1,6 +1,6 @@
 //! An opened input, read to its end as one text.
 
-ghost use Rattle.std.specs.Prelude.{◌≡◌, ◌<◌, ◌^◌, IfSome};
+ghost use Rattle.std.specs.Prelude.{◌≡◌, ◌<◌, ◌^◌, false, IfSome};
 ghost use Rattle.osm_host.specs.Outside.{HasRisen, OnlyReads};
 ghost use Rattle.osm_input.specs.Keeps.{KeepsNames};
 ghost use Rattle.osm_input.specs.Text.{IsTextOf, IsTextWhole, ReadsText, ReadsTextOnce, text_seen};
@@ -25,15 +25,16 @@ pub enum TextError {
 /// Ok comes only where that end was reached within `limit` bytes, and TooMuchInput exactly where so
 /// many were taken and the host gave at least one more. No more of the input is held than the text and a piece.
 pub fn read_text<H: Host>(alloc: Global, host: &mut H, limit: u64) -> Result<Vec<u8>, TextError>
-    requires { limit < 2 ^ 63 }
+    requires limited { limit < 2 ^ 63 }
+    // No read follows one that found the end.
+    requires goes_on { (H.seen host.old).at_end ≡ false }
     // What is answered is right for the bytes that were taken off the input: with TooMuchInput at most
     // 65,536 beyond the limit.
     ensures reads { ReadsText limit (H.seen host.old) (H.seen host.new) (text_seen result) }
     // Where the host tells the input, it is right for the input.
     ensures told { IfSome (H.seen host.old).left
         (λ bytes. IsTextOf limit bytes (text_seen result)) }
-    // A read failed, one alone and the last, where ReadFault is answered, and none with an Ok or
-    // TooMuchInput.
+    // A read failed, one alone and the last, where ReadFault is answered, and none with any other answer.
     ensures at_once { ReadsTextOnce (H.seen host.old) (H.seen host.new) (text_seen result) }
     // Where no read failed, the whole of it was read, or memory ran out.
     ensures complete { ¬ HasRisen (H.seen host.old).read_faults (H.seen host.new).read_faults
@@ -47,7 +48,8 @@ pub fn read_text<H: Host>(alloc: Global, host: &mut H, limit: u64) -> Result<Vec
 
 /// As `read_text`, of which it says what was taken.
 fn read_whole<H: Host>(alloc: Global, host: &mut H, limit: u64) -> Result<Vec<u8>, TextError>
-    requires { limit < 2 ^ 63 }
+    requires limited { limit < 2 ^ 63 }
+    requires goes_on { (H.seen host.old).at_end ≡ false }
     ensures reads { ReadsText limit (H.seen host.old) (H.seen host.new) (text_seen result) }
     ensures at_once { ReadsTextOnce (H.seen host.old) (H.seen host.new) (text_seen result) }
     ensures keeps { KeepsNames (H.seen host.old) (H.seen host.new) }

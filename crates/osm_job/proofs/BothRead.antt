@@ -15,7 +15,7 @@ use Rattle.osm_job.specs.InputRead.{IsSilent, OpensOne, OpensBoth, HasInput, Has
 use Rattle.osm_job.specs.Taken.{TookText, IsReadableInput, IsTextStopped, text_error}
 use Rattle.osm_job.specs.TextRead.{HasContent, LacksContent}
 use Rattle.osm_job.specs.Whole.{input_limit}
-use Rattle.osm_job.proofs.SilentReads.{last_failed, none_or_last, silent_both}
+use Rattle.osm_job.proofs.SilentReads.{last_failed, silent_both}
 
 module _ (law : StreamsAppend) (file name : List ℕ) (objects : List Object) (before middle : Outside) (has : HasInput file objects before middle)
     (now : Outside) where
@@ -94,6 +94,6 @@ module _ (law : StreamsAppend) (file name : List ℕ) (objects : List Object) (b
   no_text OutOfMemory l = record {
     readable = is_readable;
     lack = opens_both l.lack;
-    faults = record { opens = l.faults.opens ∙ has.open_faults; reads = none_or_last before middle now has.read_faults l.faults.reads };
+    faults = record { opens = l.faults.opens ∙ has.open_faults; reads = l.faults.reads ∙ has.read_faults };
     silent = all_silent l.silent;
   }

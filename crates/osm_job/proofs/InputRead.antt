@@ -10,7 +10,7 @@ use Rattle.osm_job.specs.declared.ended.Ended.TheVariants.{OpenFault}
 use Rattle.osm_job.specs.InputRead.{IsSilent, OpensOne, HasInput, RefusesInput, LacksInput}
 use Rattle.osm_job.specs.Taken.{TookOff, IsFileStopped}
 use Rattle.osm_job.specs.Whole.{ending_of_read, input_limit, longest_line}
-use Rattle.osm_job.proofs.SilentReads.{last_failed, none_or_last, opening_silent, reading_silent, silent_both}
+use Rattle.osm_job.proofs.SilentReads.{last_failed, opening_silent, reading_silent, silent_both}
 
 module _ (name : List ℕ) (before middle : Outside) (only : OnlyOpens before middle) (told_still : is_some middle.left ≡ is_some before.left)
     (rises : before.open_faults ≤ middle.open_faults) where
@@ -74,7 +74,7 @@ module _ (name : List ℕ) (before middle : Outside) (only : OnlyOpens before mi
         ReadsOnce middle now (Err error) → LacksInput name (ending_of_read error) before now
     input_not_read (read.BadInput line fault) reads told once = record {
       lack = refuses (read.BadInput line fault) told reads;
-      faults = record { opens = reads_only.open_faults ∙ answered; reads = none_or_last before middle now only.read_faults once };
+      faults = record { opens = reads_only.open_faults ∙ answered; reads = once ∙ only.read_faults };
       silent = silent_since;
     }
     input_not_read (read.TooMuchInput limit) reads told once = record {
@@ -89,6 +89,6 @@ module _ (name : List ℕ) (before middle : Outside) (only : OnlyOpens before mi
     }
     input_not_read read.OutOfMemory reads told once = record {
       lack = opens_one;
-      faults = record { opens = reads_only.open_faults ∙ answered; reads = none_or_last before middle now only.read_faults once };
+      faults = record { opens = reads_only.open_faults ∙ answered; reads = once ∙ only.read_faults };
       silent = silent_since;
     }

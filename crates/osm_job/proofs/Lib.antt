@@ -9,8 +9,10 @@ mod OnceRead
 pub mod OutputAlone
 pub mod Prefixes
 mod SilentReads
+pub mod Sparing
 pub mod Taken
 mod TextRead
+pub mod TextWritten
 pub mod Weaker
 mod Wholes
 pub mod Writes

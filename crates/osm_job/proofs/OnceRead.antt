@@ -97,7 +97,7 @@ module _ (law : StreamsAppend) (inputs : List (List ℕ)) (outputs : List Opened
     no_memory =
         silent_work OutOfMemory now has.silent (inl refl) tt tt has.untouched
         (length inputs, (has.opens ∙ ap (appended before.opens) (sym (inputs_first inputs outputs)), λ more. absurd (omega arith), λ second. has.first))
-        (record { opens = has.open_faults; reads = inl has.read_faults }) has.silent.write_faults
+        (record { opens = has.open_faults; reads = has.read_faults }) has.silent.write_faults
 
     -- what the inputs hold allows no output
     pub verdict : (ended : Ended) → cause_of ended ≡ by_verdict → Over (silent ended) → Does ended now
@@ -254,7 +254,7 @@ module _ (law : StreamsAppend) (inputs : List (List ℕ)) (output : Opened) (IsR
       over_all OutOfMemory right counts =
           works OutOfMemory (inr (begun right.0 right.1 right.2 right.3)) tt tt
           (length inputs + 1, (first_opens last (added.rest.opens ∙ lists), λ more. (took_all, comes_out right.0 right.1 right.2), λ second. has.first))
-          (record { opens = opens_same; reads = inl reads_same }) (counts ∙ writes_so_far)
+          (record { opens = opens_same; reads = reads_same }) (counts ∙ writes_so_far)
 
     -- it was written, as far as the job came
     pub output_written : (ended : Ended) → WroteOver Over ended opened last → Did ended last

@@ -1,8 +1,8 @@
 -- Calls that write nothing, one behind the other, and which of their reads failed.
-use Rattle.std.proofs.Common.{◌≡◌, ◌∙◌, ap, ◌≤◌, is_some, inl, inr}
+use Rattle.std.proofs.Common.{◌≡◌, ◌∙◌, ap, ◌≤◌, is_some}
 use Rattle.osm_host.specs.Outside.{Outside, risen, OnlyOpens, OnlyReads}
 use Rattle.osm_input.specs.Keeps.{KeepsNames}
-use Rattle.osm_input.specs.ReadFaults.{LastReadFailed, NoneOrLastReadFailed}
+use Rattle.osm_input.specs.ReadFaults.{LastReadFailed}
 use Rattle.osm_job.specs.InputRead.{IsSilent}
 use Rattle.osm_job.proofs.Keeping.{keeps_both, open_keeps}
 
@@ -29,7 +29,3 @@ module _ (before middle now : Outside) where
   module _ (none_failed : middle.read_faults ≡ before.read_faults) where
     pub last_failed : LastReadFailed middle now → LastReadFailed before now
     last_failed last = (last.0 ∙ ap risen none_failed, last.1)
-
-    pub none_or_last : NoneOrLastReadFailed middle now → NoneOrLastReadFailed before now
-    none_or_last (inl none) = inl (none ∙ none_failed)
-    none_or_last (inr last) = inr (last_failed last)

@@ -10,7 +10,7 @@ use Rattle.osm_job.specs.InputRead.{IsSilent, OpensOne}
 use Rattle.osm_job.specs.Taken.{TookText}
 use Rattle.osm_job.specs.TextRead.{HasContent, LacksContent}
 use Rattle.osm_job.specs.Whole.{text_ended, input_limit}
-use Rattle.osm_job.proofs.SilentReads.{last_failed, none_or_last, opening_silent, reading_silent, silent_both}
+use Rattle.osm_job.proofs.SilentReads.{last_failed, opening_silent, reading_silent, silent_both}
 
 module _ (name : List ℕ) (before middle : Outside) (only : OnlyOpens before middle) (told_still : is_some middle.left ≡ is_some before.left)
     (rises : before.open_faults ≤ middle.open_faults) where
@@ -81,6 +81,6 @@ module _ (name : List ℕ) (before middle : Outside) (only : OnlyOpens before mi
     }
     text_not_read text_fault.OutOfMemory reads told once = record {
       lack = opens_one;
-      faults = record { opens = reads_only.open_faults ∙ answered; reads = none_or_last before middle now only.read_faults once };
+      faults = record { opens = reads_only.open_faults ∙ answered; reads = once ∙ only.read_faults };
       silent = silent_since;
     }

@@ -1,7 +1,7 @@
 -- Which calls on the host failed, by the counts.
 use Rattle.std.specs.Prelude.{◌≡◌, ℕ}
 use Rattle.osm_host.specs.Outside.{Outside, risen, HasRisen}
-use Rattle.osm_input.specs.ReadFaults.{LastReadFailed, NoneOrLastReadFailed}
+use Rattle.osm_input.specs.ReadFaults.{LastReadFailed}
 use Rattle.osm_job.specs.declared.ended.Ended.{Ended}
 use Rattle.osm_job.specs.declared.ended.Ended.TheVariants.{Done, Warnings, Errors, Stopped, BadWords, BadInput, TooMuchInput, TooManyPieces, Refuted, BadPoint}
 use Rattle.osm_job.specs.declared.ended.Ended.TheVariants.{OpenFault, ReadFault, WriteFault, OutOfMemory}
@@ -29,15 +29,14 @@ writes_failed by_read count = count
 writes_failed by_write count = risen count
 writes_failed by_memory count = count
 
--- A read failed where ReadFault is answered. Where a bad line is, which was read before, or memory ran out, one may have
--- failed.
+-- A read failed, one alone and the last, where ReadFault is answered. Else none did.
 abbrev pub ReadsFailed : Ended → Outside → Outside → Type 0
 ReadsFailed Done before after = after.read_faults ≡ before.read_faults
 ReadsFailed Warnings before after = after.read_faults ≡ before.read_faults
 ReadsFailed Errors before after = after.read_faults ≡ before.read_faults
 ReadsFailed (Stopped candidate) before after = after.read_faults ≡ before.read_faults
 ReadsFailed (BadWords cause) before after = after.read_faults ≡ before.read_faults
-ReadsFailed (BadInput line fault) before after = NoneOrLastReadFailed before after
+ReadsFailed (BadInput line fault) before after = after.read_faults ≡ before.read_faults
 ReadsFailed (TooMuchInput limit) before after = after.read_faults ≡ before.read_faults
 ReadsFailed (TooManyPieces most) before after = after.read_faults ≡ before.read_faults
 ReadsFailed (Refuted line) before after = after.read_faults ≡ before.read_faults
@@ -45,10 +44,9 @@ ReadsFailed (BadPoint line) before after = after.read_faults ≡ before.read_fau
 ReadsFailed OpenFault before after = after.read_faults ≡ before.read_faults
 ReadsFailed ReadFault before after = LastReadFailed before after
 ReadsFailed WriteFault before after = after.read_faults ≡ before.read_faults
-ReadsFailed OutOfMemory before after = NoneOrLastReadFailed before after
+ReadsFailed OutOfMemory before after = after.read_faults ≡ before.read_faults
 
--- The opens and reads that failed: the one that ended the run, and no other; but behind a bad line, and where memory ran
--- out, the last read may have failed too.
+-- The opens and reads that failed: the one that ended the run, and no other.
 pub record CountsFaults (ended : Ended) (before after : Outside) : Type 0 where
   pub opens : after.open_faults ≡ opens_failed (cause_of ended) before.open_faults
   pub reads : ReadsFailed ended before after

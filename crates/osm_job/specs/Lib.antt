@@ -4,8 +4,10 @@ pub mod InputRead
 pub mod Opens
 pub mod Prefix
 pub mod Sent
+pub mod Spared
 pub mod Taken
 pub mod TextRead
+pub mod TextWhole
 pub mod Texts
 pub mod Whole
 pub mod Worked

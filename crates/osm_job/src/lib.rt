@@ -13,4 +13,4 @@ mod writing;
 pub use choice::choice_of;
 pub use ended::Ended;
 pub use input::{read_both, read_input};
-pub use writing::{write_lines, write_out, write_pieces, write_report};
+pub use writing::{write_lines, write_out, write_pieces, write_report, write_text};

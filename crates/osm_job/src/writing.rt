@@ -1,9 +1,13 @@
 //! What a job writes, handed to the host piece by piece.
 
-ghost use Rattle.std.specs.Prelude.{◌≡◌, map};
+ghost use Rattle.std.specs.Prelude.{◌≡◌, ◌≢◌, map};
+ghost use Rattle.osm_job.specs.Cause.{by_memory, cause_of};
 ghost use Rattle.osm_job.specs.Sent.{lines_text, to_output, to_report};
+ghost use Rattle.osm_job.specs.TextWhole.{IsText};
+ghost use Rattle.osm_job.specs.Worked.{WroteOver};
 ghost use Rattle.osm_job.specs.Writes.{Wrote};
 
+use crate::ended::Ended;
 use osm_host::{Failed, Host, write_all_out, write_all_report};
 
 /// Writes a piece of the output; none where it is empty.
@@ -18,6 +22,17 @@ pub fn write_report<H: Host>(host: &mut H, piece: &[u8]) -> Result<(), Failed>
     ensures { Wrote (map to_report piece.now) (H.seen host.old) (H.seen host.new) result }
 {
     write_all_report(host, piece)
+}
+
+/// Writes a text to the opened output, as one piece where it isn't empty, and says how the run ends. It takes no memory.
+pub fn write_text<H: Host>(host: &mut H, text: &[u8]) -> Ended
+    ensures works { WroteOver (IsText text.now) result (H.seen host.old) (H.seen host.new) }
+    ensures not_memory { cause_of result ≢ by_memory }
+{
+    match write_out(host, text) {
+        Ok(()) => Ended::Done,
+        Err(_) => Ended::WriteFault,
+    }
 }
 
 /// Writes pieces of the output, one after the other. None is written behind one that couldn't be.

@@ -2,7 +2,7 @@
 #![tactic(auto)]
 
 use osm_cli::run_for_status;
-use osm_host::StdHost;
+use osm_host::{ends, std_host};
 use std::env;
 use std::io::ErrorKind;
 use std::process::ExitCode;
@@ -17,10 +17,10 @@ fn main(rt: HostRuntime) -> ExitCode {
     let alloc = rt.alloc();
     let words = match words_given(&rt) {
         Ok(words) => words,
-        Err(status) => return ExitCode::from(status),
+        Err(status) => return ends(status),
     };
-    let mut host = StdHost::new(rt);
-    ExitCode::from(run_for_status(alloc, &words, &mut host))
+    let mut host = std_host(rt);
+    ends(run_for_status(alloc, &words, &mut host))
 }
 
 /// The words after the program's name, or the status that says why they can't be had.

@@ -27,6 +27,8 @@ pub record Memory : Type 0 where
   pub write_faults : ℕ
   -- whether the last read failed
   pub read_failed : Bool
+  -- whether the last read found the end of the opened input
+  pub at_end : Bool
   -- how many bytes were taken off the opened input
   pub bytes_read : ℕ
 
@@ -47,6 +49,7 @@ outside_of m = record {
   read_faults = m.read_faults;
   write_faults = m.write_faults;
   read_failed = m.read_failed;
+  at_end = m.at_end;
   bytes_read = m.bytes_read;
 }
 

@@ -26,6 +26,7 @@ memory_of host = record {
   read_faults = host.faults.reads;
   write_faults = host.faults.writes;
   read_failed = host.read_failed;
+  at_end = host.at_end;
   bytes_read = host.bytes_read;
 }
 

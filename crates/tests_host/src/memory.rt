@@ -1,7 +1,7 @@
 //! A host over memory, for tests. It tells everything, and each call is exact.
 
 ghost use Rattle.std.specs.Prelude.{◌≡◌, ◌⊎◌, ◌+◌, ◌<◌, ◌≤◌, ◌++◌, [], ◌∷◌, length, take, drop, unwrap_or, IfOk, OnOk, OnErr, IfSome, map, min, is_ok, is_some, not, true, false, ◌-◌};
-ghost use Rattle.osm_host.specs.Outside.{input, output, appended, preceded, risen, grown, Counts, OnlyOpens, OnlyReads, OnlyWritesOut, OnlyWritesReport};
+ghost use Rattle.osm_host.specs.Outside.{input, output, appended, preceded, risen, grown, finds_end, Counts, OnlyOpens, OnlyReads, OnlyWritesOut, OnlyWritesReport};
 ghost use Rattle.tests_host.specs.MemoryHost.{left_of_input};
 ghost use Rattle.tests_host.specs.Names.{name_and_bytes};
 ghost use Rattle.tests_host.specs.Memory.{Memory, bytes_named, outside_of, is_listed, with_open, with_open_fault, input_opens, output_opens, reads, writes};
@@ -36,6 +36,7 @@ pub struct MemoryHost {
     entries: Vec<Entry>,
     faults: Faults,
     read_failed: bool,
+    at_end: bool,
     bytes_read: u64,
 }
 
@@ -70,6 +71,7 @@ impl MemoryHost {
           read_faults = 0;
           write_faults = 0;
           read_failed = false;
+          at_end = false;
           bytes_read = 0;
         } }
     {
@@ -89,6 +91,7 @@ impl MemoryHost {
             entries: Vec::new(alloc),
             faults: NO_FAULTS,
             read_failed: false,
+            at_end: false,
             bytes_read: 0,
         }
     }
@@ -223,6 +226,7 @@ impl Host for MemoryHost {
         ensures begins { OnOk result ((outside_of self.new).left
             ≡ (outside_of self.old).named name.now) }
         ensures none_read { OnOk result ((outside_of self.new).bytes_read ≡ 0) }
+        ensures goes_on { OnOk result ((outside_of self.new).at_end ≡ false) }
         ensures told { is_some (outside_of self.new).left ≡ is_some (outside_of self.old).left }
         ensures cause { Counts (outside_of self.old).open_faults
             (outside_of self.new).open_faults result }
@@ -230,7 +234,7 @@ impl Host for MemoryHost {
         ensures exact { is_ok result ≡ input_opens self.old name.now }
         ensures after { OnOk result (self.new
             ≡ record (with_open self.old (input name.now) (length name.now))
-            { left = unwrap_or (bytes_named self.old.inputs name.now) []; bytes_read = 0 }) }
+            { left = unwrap_or (bytes_named self.old.inputs name.now) []; at_end = false; bytes_read = 0 }) }
         ensures after_fault { OnErr result (self.new
             ≡ with_open_fault (with_open self.old (input name.now) (length name.now))) }
     {
@@ -246,6 +250,7 @@ impl Host for MemoryHost {
             Some(index) if has_room && !fails => {
                 self.opened = Some(index);
                 self.place = 0;
+                self.at_end = false;
                 self.bytes_read = 0;
                 Ok(())
             }
@@ -254,11 +259,13 @@ impl Host for MemoryHost {
     }
 
     fn read(&mut self, buf: &mut [u8]) -> Result<usize, Failed>
+        requires goes_on { (outside_of self.old).at_end ≡ false }
         ensures count { IfOk result (λ n. n ≤ length buf.old) }
         ensures taken { IfOk result (λ n. (outside_of self.old).left
             ≡ preceded (take n buf.new) (outside_of self.new).left) }
         ensures ended { result ≡ Ok 0 → 0 < length buf.old
             → IfSome (outside_of self.old).left (λ left. left ≡ []) }
+        ensures at_end { (outside_of self.new).at_end ≡ finds_end result (length buf.old) }
         ensures failed { OnErr result ((outside_of self.new).left ≡ (outside_of self.old).left) }
         ensures empty { length buf.old ≡ 0 → result ≡ Ok 0 }
         ensures last { (outside_of self.new).read_failed ≡ not (is_ok result) }
@@ -276,6 +283,7 @@ impl Host for MemoryHost {
           call = risen self.old.call;
           left = drop n self.old.left;
           read_failed = false;
+          at_end = finds_end result (length buf.old);
           bytes_read = grown self.old.bytes_read n;
         }) }
         ensures after_fault { OnErr result (self.new ≡ record self.old {
@@ -295,6 +303,7 @@ impl Host for MemoryHost {
             return Err(note_fault(&mut self.faults.reads));
         }
         let count = read_opened(&self.inputs, self.opened, &mut self.place, self.most, buf);
+        self.at_end = count == 0;
         self.bytes_read = self.bytes_read.saturating_add(count as u64);
         Ok(count)
     }
@@ -307,6 +316,7 @@ impl Host for MemoryHost {
             ⊎ ((outside_of self.new).opens ≡ (outside_of self.old).opens)) }
         ensures left { (outside_of self.new).left ≡ (outside_of self.old).left }
         ensures bytes_read { (outside_of self.new).bytes_read ≡ (outside_of self.old).bytes_read }
+        ensures at_end { (outside_of self.new).at_end ≡ (outside_of self.old).at_end }
         ensures cause { Counts (outside_of self.old).open_faults
             (outside_of self.new).open_faults result }
         ensures rest { OnlyOpens (outside_of self.old) (outside_of self.new) }
@@ -361,6 +371,24 @@ impl Host for MemoryHost {
             return Err(note_fault(&mut self.faults.writes));
         }
         Ok(add_front(&mut self.out, &mut self.room, self.most, bytes))
+    }
+
+    fn keep_output(&mut self) -> Result<(), Failed>
+        ensures written { (outside_of self.new).out ≡ (outside_of self.old).out }
+        ensures cause { Counts (outside_of self.old).write_faults
+            (outside_of self.new).write_faults result }
+        ensures rest { OnlyWritesOut (outside_of self.old) (outside_of self.new) }
+        ensures exact { is_ok result ≡ not (is_listed self.old.call self.old.fail) }
+        ensures after { OnOk result (self.new ≡ record self.old { call = risen self.old.call }) }
+        ensures after_fault { OnErr result (self.new ≡ record self.old {
+          call = risen self.old.call;
+          write_faults = risen self.old.write_faults;
+        }) }
+    {
+        if take_number(&mut self.call, &self.fail) {
+            return Err(note_fault(&mut self.faults.writes));
+        }
+        Ok(())
     }
 
     fn write_report(&mut self, bytes: &[u8]) -> Result<usize, Failed>

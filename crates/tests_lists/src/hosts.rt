@@ -1,37 +1,55 @@
 //! The real files, and a host over memory call by call.
 
-use osm_host::{Faults, Host, StdHost, write_all_out};
+ghost use Rattle.std.specs.Prelude.{◌≡◌, false};
+ghost use Rattle.osm_host.specs.StreamHost.{stream_outside};
+
+use osm_host::{Faults, Host, StdHost, std_host, write_all_out};
 use std::alloc::Global;
 use std::fs;
 use std::process::Abort;
 use std::test::Fail;
 use tests_host::MemoryHost;
 
-/// Whether an input can be opened, and how many bytes a first and a second read give; None for a read that fails.
-fn read_twice(host: &mut StdHost, name: &str) -> (bool, [Option<usize>; 2]) {
+/// How many bytes a first and a second read give; None for a read that fails, and for those behind it.
+fn read_twice(host: &mut StdHost) -> [Option<usize>; 2]
+    requires { (stream_outside host.old).at_end ≡ false }
+{
     let mut buffer = [0; 8];
-    let open = host.open_input(name).is_ok();
-    let first = host.read(&mut buffer).ok();
-    (open, [first, host.read(&mut buffer).ok()])
+    match host.read(&mut buffer) {
+        Ok(0) => [Some(0), None],
+        Ok(first) => [Some(first), host.read(&mut buffer).ok()],
+        Err(_) => [None, None],
+    }
+}
+
+/// What two reads of an input give; None where it can't be opened.
+fn reads(host: &mut StdHost, name: &str) -> Option<[Option<usize>; 2]> {
+    match host.open_input(name) {
+        Ok(()) => Some(read_twice(host)),
+        Err(_) => None,
+    }
 }
 
 /// Asserts what inputs give where a file of three bytes is there.
 fn assert_read(rt: &impl Abort, host: &mut StdHost) {
     let rows = [
-        ("absent.txt", (false, [Some(0), Some(0)])),
-        ("there.txt", (true, [Some(3), Some(0)])),
+        ("absent.txt", None),
+        ("there.txt", Some([Some(3), Some(0)])),
         // a folder is no input
-        (".", (true, [None, None])),
+        (".", Some([None, None])),
     ];
     for (name, told) in rows {
-        assert_eq!(rt; read_twice(host, name), told, "{name}");
+        assert_eq!(rt; reads(host, name), told, "{name}");
     }
 }
 
 /// Whether an input begins with this text.
 fn begins_with(host: &mut StdHost, name: &str, text: &[u8]) -> bool {
     let mut buffer = [0; 8];
-    host.open_input(name).is_ok() && host.read(&mut buffer).is_ok() && buffer.starts_with(text)
+    match host.open_input(name) {
+        Ok(()) => host.read(&mut buffer).is_ok() && buffer.starts_with(text),
+        Err(_) => false,
+    }
 }
 
 /// Whether an output can be opened and a text written to it.
@@ -49,7 +67,7 @@ fn holds(rt: &HostRuntime, name: &str, text: &str) -> Result<bool, Fail> {
 fn files_are_read_and_written(rt: HostRuntime) -> Result<(), Fail> {
     fs::write(&rt, "there.txt", "abc")?;
     let _ = fs::remove_file(&rt, "new.txt");
-    let mut host = StdHost::new(rt.clone()?);
+    let mut host = std_host(rt.clone()?);
     assert_read(&rt, &mut host);
     assert!(rt; begins_with(&mut host, "there.txt", b"abc"));
     assert!(rt; !writes(&mut host, "there.txt", false, "ab"));
@@ -62,11 +80,13 @@ fn files_are_read_and_written(rt: HostRuntime) -> Result<(), Fail> {
 }
 
 /// What is answered to a read, a write of six bytes out and one of two to the report, after opens of an input and an
-/// output.
+/// output. None for a call that fails, and for a read of an input that isn't opened.
 fn call_all(host: &mut MemoryHost) -> [Option<usize>; 3] {
     let mut buffer = [0; 8];
-    let _ = host.open_input("in");
-    let read = host.read(&mut buffer).ok();
+    let read = match host.open_input("in") {
+        Ok(()) => host.read(&mut buffer).ok(),
+        Err(_) => None,
+    };
     let _ = host.open_output("new", false);
     let out = host.write_out(b"abcdef").ok();
     let report = host.write_report(b"gh").ok();
@@ -108,8 +128,8 @@ fn room_most_and_numbers_bound_a_host_over_memory(rt: HostRuntime) -> Result<(),
         (2, 99, 0, [Some(2), Some(2), Some(2)], [0, 0, 0]),
         (9, 9, 0, [Some(5), Some(2), None], [0, 0, 1]),
         (9, 3, 0, [Some(5), None, None], [1, 0, 2]),
-        (9, 2, 0, [Some(0), Some(2), None], [2, 0, 1]),
-        (9, 99, 1, [Some(0), Some(6), Some(2)], [1, 0, 0]),
+        (9, 2, 0, [None, Some(2), None], [2, 0, 1]),
+        (9, 99, 1, [None, Some(6), Some(2)], [1, 0, 0]),
         (9, 99, 2, [None, Some(6), Some(2)], [0, 1, 0]),
         (9, 99, 5, [Some(5), Some(6), None], [0, 0, 1]),
     ];

@@ -15,15 +15,22 @@ fn bytes_of(alloc: Global, count: usize) -> Result<Vec<u8>, OutOfMemory> {
     Ok(bytes)
 }
 
-/// A host whose opened input has these bytes, and whose call of this number fails: the first read is the second call.
+/// A host whose input has these bytes, and whose call of this number fails: the first read is the second call.
 fn host_of(alloc: Global, bytes: &[u8], most: usize, fail: u64) -> Result<MemoryHost, OutOfMemory> {
     // Each `most` below is at least 1, which the check can't read off a table.
     let mut host = MemoryHost::new(alloc, most.max(1));
     host.add_input("text", bytes)?;
     host.fail_at(fail)?;
     host.reserve(9)?;
-    let _ = host.open_input("text");
     Ok(host)
+}
+
+/// The text of the input; a read fault also where it isn't opened.
+fn text_of(alloc: Global, host: &mut MemoryHost, limit: u32) -> Result<Vec<u8>, TextError> {
+    let Ok(()) = host.open_input("text") else {
+        return Err(TextError::ReadFault);
+    };
+    read_text(alloc, host, u64::from(limit))
 }
 
 #[test]
@@ -43,13 +50,13 @@ fn a_text_is_read_within_its_limit(rt: HostRuntime) -> Result<(), Fail> {
         (131_073, 40_000, 131_073, true),
     ];
     for (count, most, limit, keeps) in rows {
-        let limit = u64::from(limit);
         let bytes = bytes_of(rt.alloc(), count)?;
         let mut host = host_of(rt.alloc(), &bytes, most, 0)?;
-        match read_text(rt.alloc(), &mut host, limit) {
+        match text_of(rt.alloc(), &mut host, limit) {
             Ok(text) => assert!(rt; keeps && text == bytes, "{count} bytes, limit {limit}"),
             Err(error) => {
                 assert!(rt; !keeps, "{count} bytes, limit {limit}");
+                let limit = u64::from(limit);
                 assert_eq!(rt; error, TextError::TooMuchInput { limit });
             }
         }
@@ -64,7 +71,7 @@ fn a_failed_read_ends_the_reading_of_a_text(rt: HostRuntime) -> Result<(), Fail>
     let bytes = bytes_of(rt.alloc(), 5)?;
     for fail in 2..7 {
         let mut host = host_of(rt.alloc(), &bytes, 2, fail)?;
-        match read_text(rt.alloc(), &mut host, 5) {
+        match text_of(rt.alloc(), &mut host, 5) {
             Ok(text) => assert!(rt; fail == 6 && text == bytes, "call {fail}"),
             Err(error) => { assert!(rt; fail < 6 && error == TextError::ReadFault, "call {fail}") }
         }

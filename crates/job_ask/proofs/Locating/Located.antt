@@ -1,5 +1,5 @@
 -- A locate job whose inputs are read, by how it ends.
-use Rattle.std.proofs.Common.{◌≡◌, refl, subst, ℕ, List, [], ◌∷◌}
+use Rattle.std.proofs.Common.{◌≡◌, refl, ap, subst, ℕ, List, [], ◌∷◌}
 use Rattle.osm_elements.specs.declared.object.Object.{Object}
 use Rattle.osm_lattice.specs.declared.loc.Loc.{Loc}
 use Rattle.osm_host.specs.Laws.{StreamsAppend}
@@ -8,14 +8,14 @@ use Rattle.osm_words.specs.Job.{LocateSettings}
 use Rattle.osm_job.proofs.BothThenOutput.{no_memory_both, verdict_both}
 use Rattle.osm_job.specs.declared.ended.Ended.TheVariants as ended
 use Rattle.osm_job.specs.InputRead.{HasBoth}
+use Rattle.osm_job.specs.TextWhole.{whole_of_text}
 use Rattle.osm_input.specs.declared.points.reading.PointsError.{PointsError}
 use Rattle.osm_input.specs.declared.points.reading.PointsError.TheVariants.{BadPoint, OutOfMemory}
 use Rattle.osm_input.specs.PointLines.Errors.{IsErrorOf}
 use Rattle.osm_input.specs.PointLines.Points.{ArePoints}
-use Rattle.area_locate.specs.declared.found.Found.{Found}
 use Rattle.area_locate.specs.Hits.{AreFound}
-use Rattle.job_ask.specs.Locating.Locate.{IsLocate, Locates, choice_of, whole_of_points, points, bad}
-use Rattle.job_ask.specs.Locating.WorkSteps.{points_ended}
+use Rattle.job_ask.specs.Locating.Locate.{IsLocate, Locates, choice_of, points, bad}
+use Rattle.job_ask.specs.Locating.WorkSteps.{TellsPoints, points_ended}
 
 module _ (law : StreamsAppend) (settings : LocateSettings) (before : Outside) (objects : List Object) (content : List ℕ) (now : Outside)
     (has : HasBoth settings.file settings.points objects content before now) where
@@ -31,8 +31,9 @@ module _ (law : StreamsAppend) (settings : LocateSettings) (before : Outside) (o
       (ended.BadPoint line) refl (bad line is refl)
   no_points OutOfMemory is = ran_out_read
 
--- the points of the text, found, are what is right
-pub found_right : (settings : LocateSettings) (objects : List Object) (content text : List ℕ) (ps qs : List Loc) (found : List Found) → text ≡ content → ArePoints text ps → qs ≡ ps →
-    AreFound (choice_of settings) objects qs found → IsLocate settings objects content (whole_of_points found)
-found_right settings objects content text ps qs found same told also among =
-    points ps found (subst (λ (t : List ℕ). ArePoints t ps) same told) (subst (λ (at : List Loc). AreFound (choice_of settings) objects at found) also among) refl
+-- the lines of the points of the text, found, are what is right
+pub text_right : (settings : LocateSettings) (objects : List Object) (content text : List ℕ) (ps qs : List Loc) (lines : List ℕ) → text ≡ content → ArePoints text ps → qs ≡ ps →
+    TellsPoints (choice_of settings) objects qs lines → IsLocate settings objects content (whole_of_text lines)
+text_right settings objects content text ps qs lines same told also tells =
+    points ps tells.found (subst (λ (t : List ℕ). ArePoints t ps) same told) (subst (λ (at : List Loc). AreFound (choice_of settings) objects at tells.found) also tells.right)
+    (ap whole_of_text tells.told)

@@ -1,17 +1,18 @@
-//! The work: all points are read and found before the output is opened, and then written line by line.
+//! The work: all points are read and found, and their lines made, before the output is opened.
 
-ghost use Rattle.std.specs.Prelude.{◌≡◌, IfOk};
+ghost use Rattle.std.specs.Prelude.{◌≡◌, [], ◌∷◌, IfOk};
 ghost use Rattle.area_locate.specs.Hits.{AreFound};
 ghost use Rattle.job_ask.specs.Locating.Locate.{Locates, choice_of};
-ghost use Rattle.job_ask.specs.Locating.WorkSteps.{IsLines, points_ended};
-ghost use Rattle.osm_job.specs.Worked.{WroteOver};
+ghost use Rattle.job_ask.specs.Locating.Lines.{point_lines};
+ghost use Rattle.job_ask.specs.Locating.WorkSteps.{TellsPoints, points_ended};
+ghost use Rattle.osm_job.specs.Spared.{SparesOutput};
 ghost use Rattle.osm_words.specs.Answers.{locate_seen};
 
 use crate::locate::printing::put_line;
 use area_locate::{Found, FoundList, locate};
 use osm_host::{Host, streams_append};
 use osm_input::points::{PointsError, read_points};
-use osm_job::{Ended, choice_of, read_both, write_out};
+use osm_job::{Ended, choice_of, read_both, write_text};
 use osm_lattice::Loc;
 use osm_objects::Store;
 use osm_words::LocateSettings;
@@ -20,7 +21,10 @@ use std::alloc::{AllocError as OutOfMemory, Global};
 /// Reads the input and then the points, opens the output and writes for each point which areas hold it and which have it on
 /// them, in order of the candidates.
 pub fn locate_points<H: Host>(alloc: Global, settings: &LocateSettings<'_>, host: &mut H) -> Ended
-    ensures { Locates (locate_seen settings.now) result (H.seen host.old) (H.seen host.new) }
+    ensures works { Locates (locate_seen settings.now) result (H.seen host.old) (H.seen host.new) }
+    // Where memory ran out, no output was opened and nothing was written.
+    ensures spares { SparesOutput (settings.now.file.now ∷ settings.now.points.now ∷ []) result
+        (H.seen host.old) (H.seen host.new) }
 {
     // By law: what is written and opened adds up in turn.
     streams_append();
@@ -32,13 +36,13 @@ pub fn locate_points<H: Host>(alloc: Global, settings: &LocateSettings<'_>, host
         Ok(points) => points,
         Err(error) => return points_ended(error),
     };
-    let Ok(found) = find(alloc, &store, settings, &points) else {
+    let Ok(lines) = lines_for(alloc, &store, settings, &points) else {
         return Ended::OutOfMemory;
     };
     let Ok(()) = host.open_output(settings.output, settings.overwrite) else {
         return Ended::OpenFault;
     };
-    write_lines(alloc, found.as_slice(), host)
+    write_text(host, &lines)
 }
 
 /// How a run ends whose points aren't read.
@@ -71,19 +75,27 @@ fn find(
     locate(alloc, store, &choice, points)
 }
 
-/// Writes the line of each point to the opened output, as a piece of its own, and says how the run ends.
-fn write_lines<H: Host>(alloc: Global, found: &[Found], host: &mut H) -> Ended
-    ensures { WroteOver (IsLines found.now) result (H.seen host.old) (H.seen host.new) }
+/// The lines of points, found among the areas that the settings choose.
+fn lines_for(
+    alloc: Global,
+    store: &Store,
+    settings: &LocateSettings<'_>,
+    points: &[Loc],
+) -> Result<Vec<u8>, OutOfMemory>
+    ensures { IfOk result (λ lines. TellsPoints (choice_of (locate_seen settings.now)) store.now
+        points.now lines.items) }
 {
-    let mut line = Vec::new(alloc);
+    let found = find(alloc, store, settings, points)?;
+    lines_of(alloc, found.as_slice())
+}
+
+/// The lines of what was found of points, in order.
+fn lines_of(alloc: Global, found: &[Found]) -> Result<Vec<u8>, OutOfMemory>
+    ensures { IfOk result (λ lines. lines.items ≡ point_lines found.now) }
+{
+    let mut lines = Vec::new(alloc);
     for entry in found {
-        line.clear();
-        let Ok(()) = put_line(&mut line, entry) else {
-            return Ended::OutOfMemory;
-        };
-        let Ok(()) = write_out(host, &line) else {
-            return Ended::WriteFault;
-        };
+        put_line(&mut lines, entry)?;
     }
-    Ended::Done
+    Ok(lines)
 }

@@ -15,7 +15,7 @@ use Rattle.job_coastline.specs.Coastline.{AreCoastAreas, Areas, IsCoastline}
 use Rattle.opl_writer.specs.ReadBack.Laws.{CanBeInput, ReadAloneAsObjects, ReadObjectsCanBeWritten, WrittenInputsAreRead}
 use Rattle.job_small.specs.Filtering.Filter.{HasTheirCoastline, KeepsLimits, coast_text}
 use Rattle.job_small.specs.Filtering.Laws.{FilterIsOne, FiltersExist}
-use Rattle.job_small.specs.Filtering.WorkSteps.{whole_of_text}
+use Rattle.osm_job.specs.TextWhole.{whole_of_text}
 
 -- ---- one coast input, one coastline
 

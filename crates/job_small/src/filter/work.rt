@@ -1,22 +1,25 @@
 //! The work: the text of the coast is made before the output is opened, and then written.
 
-ghost use Rattle.std.specs.Prelude.{◌≡◌};
+ghost use Rattle.std.specs.Prelude.{[], ◌∷◌};
 ghost use Rattle.job_small.specs.Filtering.Filter.{Filters};
-ghost use Rattle.job_small.specs.Filtering.WorkSteps.{IsText};
-ghost use Rattle.osm_job.specs.Worked.{WroteOver};
+ghost use Rattle.osm_job.specs.Spared.{SparesOutput};
 ghost use Rattle.osm_words.specs.Answers.{filter_seen};
 
 use crate::filter::laws::filters_exist;
 use coast_filter::filter;
 use osm_host::{Host, streams_append};
-use osm_job::{Ended, read_input, write_out};
+use osm_job::{Ended, read_input, write_text};
 use osm_words::FilterSettings;
 use std::alloc::Global;
 
 /// Reads the input, opens the output and writes the coast of the input as OPL: the nodes that its coast ways name, and behind
 /// them these ways. Nothing is written where there is no coast.
 pub fn filter_coast<H: Host>(alloc: Global, settings: &FilterSettings<'_>, host: &mut H) -> Ended
-    ensures { Filters (filter_seen settings.now) result (H.seen host.old) (H.seen host.new) }
+    ensures works { Filters (filter_seen settings.now) result (H.seen host.old)
+        (H.seen host.new) }
+    // Where memory ran out, no output was opened and nothing was written.
+    ensures spares { SparesOutput (settings.now.file.now ∷ []) result (H.seen host.old)
+        (H.seen host.new) }
 {
     // By law: what is written and opened adds up in turn, and the text of the coast is right for what was read.
     streams_append();
@@ -31,15 +34,5 @@ pub fn filter_coast<H: Host>(alloc: Global, settings: &FilterSettings<'_>, host:
     let Ok(()) = host.open_output(settings.output, settings.overwrite) else {
         return Ended::OpenFault;
     };
-    write_text(&text, host)
-}
-
-/// Writes a text to the opened output, as one piece where it isn't empty, and says how the run ends.
-fn write_text<H: Host>(text: &[u8], host: &mut H) -> Ended
-    ensures { WroteOver (IsText text.now) result (H.seen host.old) (H.seen host.new) }
-{
-    match write_out(host, text) {
-        Ok(()) => Ended::Done,
-        Err(_) => Ended::WriteFault,
-    }
+    write_text(host, &text)
 }

@@ -1,6 +1,8 @@
 //! The work: the summary is made before the output is opened, and then written.
 
-ghost use Rattle.std.specs.Prelude.{◌≡◌, ◌≤◌, IfOk};
+ghost use Rattle.std.specs.Prelude.{◌≡◌, ◌≢◌, ◌≤◌, [], IfOk};
+ghost use Rattle.osm_job.specs.Cause.{by_memory, cause_of};
+ghost use Rattle.osm_job.specs.Spared.{SparesOutput};
 ghost use Rattle.osm_job.specs.Worked.{WroteOver};
 ghost use Rattle.job_small.specs.Sampling.Sample.{IsSample, Samples};
 ghost use Rattle.job_small.specs.Sampling.WorkSteps.{ended_by, whole_of_lines};
@@ -16,7 +18,9 @@ use std::alloc::{AllocError as OutOfMemory, Global};
 ///
 /// It opens no input and reads none.
 pub fn sample<H: Host>(alloc: Global, settings: &SampleSettings, host: &mut H) -> Ended
-    ensures { Samples settings.now.count result (H.seen host.old) (H.seen host.new) }
+    ensures works { Samples settings.now.count result (H.seen host.old) (H.seen host.new) }
+    // Where memory ran out, no output was opened and nothing was written.
+    ensures spares { SparesOutput [] result (H.seen host.old) (H.seen host.new) }
 {
     // By law: what is written and opened adds up in turn.
     streams_append();
@@ -42,14 +46,16 @@ fn lines_for(alloc: Global, count: u8) -> Result<Vec<Vec<u8>>, OutOfMemory>
 /// Writes the lines to the opened output, and says how the run ends.
 fn write_all<H: Host>(count: u8, lines: &[Vec<u8>], host: &mut H) -> Ended
     requires { IsSample count (whole_of_lines lines.now) }
-    ensures { WroteOver (IsSample count) result (H.seen host.old) (H.seen host.new) }
+    ensures works { WroteOver (IsSample count) result (H.seen host.old) (H.seen host.new) }
+    ensures not_memory { cause_of result ≢ by_memory }
 {
     ended_by(write_pieces(host, lines))
 }
 
 /// How a run ends whose output was opened.
 fn ended_by(written: Result<(), Failed>) -> Ended
-    ensures { result ≡ ended_by written }
+    ensures ended { result ≡ ended_by written }
+    ensures not_memory { cause_of result ≢ by_memory }
 {
     match written {
         Ok(()) => Ended::Done,

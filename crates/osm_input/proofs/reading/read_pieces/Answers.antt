@@ -1,4 +1,5 @@
-use Rattle.std.proofs.Common.{rules, refl, ap, Ok}
+use Rattle.std.proofs.Common.{rules, refl, ap, ◌∙◌, Ok}
+use Rattle.osm_input.proofs.BytesTaken.{no_end}
 use Rattle.osm_input.proofs.Taking.{nothing_taken, keeps_all, no_reads, read_failed, end_reads, end_at_once, piece_reads, piece_at_once, limit_passed, piece_taken}
 use Rattle.osm_input.proofs.reading.read_pieces.Goals as goal
 
@@ -6,6 +7,7 @@ pub loop-count-init : goal.loop-count-init
 loop-count-init g c = record {
   taken = nothing_taken c.args.limit c.args.longest (g.H.Host.seen c.args.host.now) c.new-lines.result c.new-store.result c.new-lines.ensures c.new-store.ensures;
   no_fault = refl;
+  goes_on = search rules;
   keeps = keeps_all (g.H.Host.seen c.args.host.now);
   rest = no_reads (g.H.Host.seen c.args.host.now);
 }
@@ -58,6 +60,7 @@ loop-count-preserved g c =
           c.read.new.buf c.in-Ok.count c.min-within.result (search rules) c.in-Ok.ensures.taken c.in-Ok.ensures.counted c.streams_append.ensures.taken (search rules)
           c.read_piece.new.lines c.read_piece.new.store (c.in_default-read_piece.ensures.holds c.args.longest t.bytes t.holds) _ (search rules) refl;
       no_fault = search rules;
+      goes_on = c.in-Ok.ensures.at_end ∙ no_end c.in-Ok.count _ c.if-count-eq0.false;
       keeps = search rules;
       rest = search rules;
     }

@@ -1,4 +1,5 @@
-use Rattle.std.proofs.Common.{rules, refl, ap, Ok}
+use Rattle.std.proofs.Common.{rules, refl, ap, ◌∙◌, Ok}
+use Rattle.osm_input.proofs.BytesTaken.{no_end}
 use Rattle.osm_input.proofs.Taking.{keeps_all, no_reads}
 use Rattle.osm_input.proofs.TextTaken.{no_text_taken, text_failed, text_whole, text_passed, text_more}
 use Rattle.osm_input.proofs.text.read_whole.Goals as goal
@@ -7,6 +8,7 @@ pub loop-count-init : goal.loop-count-init
 loop-count-init g c = record {
   taken = no_text_taken c.args.limit (g.H.Host.seen c.args.host.now) c.new-text.result.items (search rules);
   no_fault = refl;
+  goes_on = search rules;
   keeps = keeps_all (g.H.Host.seen c.args.host.now);
   rest = no_reads (g.H.Host.seen c.args.host.now);
 }
@@ -34,6 +36,7 @@ loop-count-preserved g c = record {
       (g.H.Host.seen c.read.new.self) c.read.new.buf c.in-Ok.count c.in-Ok.ensures.taken c.in-Ok.ensures.counted
       (search rules) c.streams_append.ensures.taken _ _ (search rules) (search rules) refl;
   no_fault = search rules;
+  goes_on = c.in-Ok.ensures.at_end ∙ no_end c.in-Ok.count _ c.if-count-eq0.false;
   keeps = search rules;
   rest = search rules;
 }

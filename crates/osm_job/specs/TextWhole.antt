@@ -1,4 +1,4 @@
--- Words of private clauses on the work of a filter job. No public contract cites it.
+-- A run that writes one text.
 use Rattle.std.specs.Prelude.{◌≡◌, ℕ, List, map}
 use Rattle.osm_job.specs.declared.ended.Ended.TheVariants as ended
 use Rattle.osm_job.specs.Sent.{to_output}

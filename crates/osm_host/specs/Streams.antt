@@ -1,0 +1,17 @@
+-- What the source of an input has left, and what the sink of an output holds.
+use Rattle.std.specs.Prelude.{ℕ, List, [], Option, Some}
+use Rattle.osm_host.specs.declared.stream_host.Sink.{Sink}
+use Rattle.osm_host.specs.declared.stream_host.Sink.TheVariants as sink
+use Rattle.osm_host.specs.declared.stream_host.Source.{Source}
+use Rattle.osm_host.specs.declared.stream_host.Source.TheVariants as source
+
+-- what is left of the input: of standard input, or of the opened file
+abbrev pub left_in : {R I : Type 0} → (I → Option (List ℕ)) → (R → Option (List ℕ)) → I → Source R → Option (List ℕ)
+left_in standard opened input source.Nothing = Some []
+left_in standard opened input source.Standard = standard input
+left_in standard opened input (source.Opened file) = opened file
+
+-- what the output holds: standard output, or the opened file
+abbrev pub held_by : {W O : Type 0} → (O → Option (List ℕ)) → (W → Option (List ℕ)) → O → Sink W → Option (List ℕ)
+held_by standard opened output sink.Standard = standard output
+held_by standard opened output (sink.Opened file) = opened file

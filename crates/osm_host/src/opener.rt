@@ -1,0 +1,80 @@
+//! What opens files by their names.
+
+ghost use Rattle.std.specs.Prelude.{◌≡◌, ℕ, List, [], ◌∷◌, Option, None};
+ghost use Rattle.std.specs.Io.KnownBytes.{Keeps};
+ghost use Rattle.osm_host.specs.Outside.{Opened, input, output, appended};
+
+use crate::edge::options_for;
+use crate::host::Failed;
+use std::fs::{File, OpenFile};
+use std::io;
+use std::io::{ErrorKind, Read, Write};
+use std::os::fd::AsRawFd;
+
+/// Opens readers and writers by the names of files.
+pub trait Opener<R: Read, W: Write> {
+    /// The opens that were asked for, in order, where it tells them.
+    ghost asked: { Self → Option (List Opened) };
+
+    /// Opens a file to be read.
+    fn open_reader(&mut self, name: &str) -> Result<R, Failed>
+        ensures { asked self.new ≡ appended (asked self.old) (input name.now ∷ []) };
+
+    /// Opens a file to be written: without `overwrite` a new one, never one that is there already.
+    fn open_writer(&mut self, name: &str, overwrite: bool) -> Result<W, Failed>
+        ensures { asked self.new ≡ appended (asked self.old) (output name.now overwrite ∷ []) };
+
+    /// Has what was written to a file kept.
+    fn keep(&mut self, file: &mut W) -> Result<(), Failed>
+        ensures asked { asked self.new ≡ asked self.old }
+        ensures held { Keeps (W.contents file.old) (W.contents file.new) };
+}
+
+/// The files of the system.
+#[derive(Drop)]
+pub struct SystemFiles {
+    rt: HostRuntime,
+}
+
+impl SystemFiles {
+    /// Those that this runtime opens.
+    pub(crate) fn new(rt: HostRuntime) -> SystemFiles {
+        SystemFiles { rt }
+    }
+}
+
+/// The highest number of a standard stream.
+const LAST_STANDARD: i32 = 2;
+
+/// A file that was opened, under a number that no standard stream has. The system gives such a number to a file where the
+/// program begins with that stream closed.
+fn beside_standard(opened: io::Result<File>) -> Result<File, Failed> {
+    let Ok(file) = opened else {
+        return Err(Failed);
+    };
+    if file.as_raw_fd() > LAST_STANDARD {
+        return Ok(file);
+    }
+    file.try_clone().map_err(|_| Failed)
+}
+
+impl Opener<File, File> for SystemFiles {
+    ghost asked = { λ _. None };
+
+    fn open_reader(&mut self, name: &str) -> Result<File, Failed> {
+        beside_standard(File::open(&self.rt, name))
+    }
+
+    fn open_writer(&mut self, name: &str, overwrite: bool) -> Result<File, Failed> {
+        beside_standard(options_for(overwrite).open(&self.rt, name))
+    }
+
+    /// Of a file that can't be synchronized, as a pipe, nothing more is asked.
+    fn keep(&mut self, file: &mut File) -> Result<(), Failed> {
+        match file.sync_data() {
+            Ok(()) => Ok(()),
+            Err(error) if error.kind() == ErrorKind::InvalidInput => Ok(()),
+            Err(_) => Err(Failed),
+        }
+    }
+}
