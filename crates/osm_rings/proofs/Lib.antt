@@ -14,6 +14,7 @@ mod PlaneNumbers
 pub mod PlaneRings
 mod RingListLifts
 mod RingLists
+mod Rounds
 mod Starts
 mod Succeed
 mod TurnedFrom

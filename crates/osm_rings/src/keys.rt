@@ -1,23 +1,14 @@
 //! Departures by the sort keys of the points that they leave.
 //!
-//! Nothing rests on these but speed: who sorts or seeks by them then tests by the points themselves.
+//! Nothing rests on these but speed: who seeks by them then tests by the points themselves.
 ghost use Rattle.std.specs.Prelude.{◌<◌, length};
 
-use crate::departures::{Departure, EAST};
-use osm_geom::{Point, clockwise, sort_key};
+use crate::departures::Departure;
+use osm_geom::{Point, sort_key};
 use std::alloc::{AllocError as OutOfMemory, Global};
-use std::cmp::Ordering;
 
 /// So many places near another are looked at before all are searched.
 const STEPS: usize = 4;
-
-/// The order of departures by the sort keys of the points that they leave, and round one point clockwise from the east.
-pub(crate) fn compare_by_keys(departure: &Departure, other: &Departure) -> Ordering {
-    match departure.key.cmp(&other.key) {
-        Ordering::Equal => clockwise(EAST, departure.edge.dir(), other.edge.dir()),
-        order => order,
-    }
-}
 
 /// The sort keys of the points that departures leave, side by side, so that a search passes few bytes.
 pub fn keys_of(alloc: Global, departures: &[Departure]) -> Result<Vec<i64>, OutOfMemory> {
