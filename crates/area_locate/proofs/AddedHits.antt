@@ -1,11 +1,9 @@
 -- The hits of one area more: those at the places of the points that lie in its rectangle.
-use Rattle.std.proofs.Common.{All, Bool, Contains, List, [], ap, arith, cond, false, get_or, length, map, nat_eq, refl, set, subst, suc, sym, take, true, zero, ℕ, ⊎_elim, ◌++◌, ◌+◌, ◌<◌, ◌∙◌, ◌∷◌, ◌≡◌, ◌≢◌}
-use Rattle.std.specs.List.Sorted.{IsStrictlyIncreasing}
-use Rattle.std.proofs.Common.{AllPairs}
+use Rattle.std.proofs.Common.{AllPairs, Bool, Contains, List, [], ap, arith, cond, false, get_or, length, map, nat_eq, refl, set, subst, suc, sym, take, true, ℕ, ⊎_elim, ◌++◌, ◌+◌, ◌<◌, ◌∙◌, ◌∷◌, ◌≡◌, ◌≢◌}
 use Rattle.std.proofs.lemmas.List.{append-nil, append_assoc, get_or-map, get_or-set_other, get_or-set_same, get_or_default, length-map, length-set, length-take-le, same_lists, take_more}
 use Rattle.std.proofs.lemmas.List.Elements.{All-contains}
 use Rattle.std.proofs.lemmas.List.Kept.{AllPairs-from_increasing}
-use Rattle.lists.proofs.ListsKit.{first_member, later_member, map-map, member_cases, no_member, some_member}
+use Rattle.lists.proofs.ListsKit.{clash, first_member, later_member, map-map, member_cases, no_member, some_member}
 use Rattle.osm_lattice.specs.declared.loc.Loc.{Loc}
 use Rattle.osm_sides.specs.declared.places.Place.{Place}
 use Rattle.osm_sides.specs.PointPlaces.{place_among}
@@ -13,13 +11,10 @@ use Rattle.osm_elements.specs.declared.object.ObjectRef.{ObjectRef}
 use Rattle.area_locate.specs.declared.found.Hit.{Hit}
 use Rattle.area_locate.specs.Areas.{Area, HaveFurther, hits_by, hits_of}
 use Rattle.area_locate.specs.Envelopes.{lacks}
-use Rattle.area_locate.specs.Within.{AreWithin, hits_at}
+use Rattle.area_locate.specs.Within.{AreAllWithin, hits_at}
 
 eq_true : (i j : ℕ) → nat_eq i j ≡ true → i ≡ j
 eq_true i j h = grind arith
-
-clash : {b : Bool} → b ≡ true → b ≡ false → ⊥
-clash h k = cc (sym h ∙ k)
 
 eq_false : (i j : ℕ) → nat_eq i j ≡ false → j ≢ i
 eq_false i j h e = grind arith
@@ -82,7 +77,7 @@ module _ (of : ObjectRef) where
       by false e rest = rest (⊎_elim (λ (same : i ≡ j). absurd (eq_false i j e (sym same))) (λ (later : Contains near j). later) (member_cases i j near some))
 
 -- ---- all points
-module _ (area : Area) (points : List Loc) (near : List ℕ) (within : AreWithin area.envelope points near) (places : List Place) (there : List Loc)
+module _ (area : Area) (points : List Loc) (near : List ℕ) (within : AreAllWithin area.envelope points near) (places : List Place) (there : List Loc)
     (at : (d : Loc) → there ≡ map (λ i. get_or points i d) near) (lie : places ≡ map (λ p. place_among p area.sides) there) where
   abbrev place_at : Loc → ℕ → Place
   place_at d i = place_among (get_or points i d) area.sides
@@ -91,7 +86,7 @@ module _ (area : Area) (points : List Loc) (near : List ℕ) (within : AreWithin
   hits_there j d h = ap (hits_at area.of j near) (lie ∙ ap (map (λ p. place_among p area.sides)) (at d) ∙ map-map (λ p. place_among p area.sides) (λ i. get_or points i d) near) ∙ by (lacks area.envelope (get_or points j d)) refl
     where
       by : (b : Bool) → lacks area.envelope (get_or points j d) ≡ b → hits_at area.of j near (map (place_at d) near) ≡ cond b [] (hits_by area.of (place_among (get_or points j d) area.sides))
-      by true out = hits_out area.of j near (map (place_at d) near) (λ some. absurd (let inside = All-contains (λ i. (d : Loc) → lacks area.envelope (get_or points i d) ≡ false) near j within.within some d in clash out inside))
+      by true out = hits_out area.of j near (map (place_at d) near) (λ some. absurd (let inside = All-contains (λ i. (d : Loc) → lacks area.envelope (get_or points i d) ≡ false) near j within.within some d in clash (lacks area.envelope (get_or points j d)) out inside))
       by false inside = hits_in area.of j near (place_at d) (AllPairs-from_increasing near within.rising) (within.whole j d h inside)
 
   pub have_further : (old new : List (List Hit)) → length new ≡ length old → ((j : ℕ) → j < length old → get_or new j [] ≡ get_or old j [] ++ hits_at area.of j near places) → HaveFurther (λ p. hits_of p area) points old new
@@ -99,7 +94,7 @@ module _ (area : Area) (points : List Loc) (near : List ℕ) (within : AreWithin
       let g : Loc → List Hit = λ p. f p ++ hits_of p area in
       let many : length old ≡ length points = ap length was ∙ length-map points f in
       same_lists new (map g points) (long ∙ many ∙ sym (length-map points g)) (λ k d h.
-          let l : k < length points = omega (arith, h, long, many) in
-          let e = (some_member points (omega (arith, l))).0 in
-          get_or_default new k d [] h ∙ added k (omega (arith, h, long)) ∙ ap (λ (hits : List Hit). hits ++ hits_at area.of k near places) (ap (λ (hs : List (List Hit)). get_or hs k []) was ∙ get_or-map f points k e [] l)
-          ∙ ap (λ (hits : List Hit). f (get_or points k e) ++ hits) (hits_there k e l) ∙ sym (get_or-map g points k e d l))
+      let l : k < length points = omega (arith, h, long, many) in
+      let e = (some_member points (omega (arith, l))).0 in
+      get_or_default new k d [] h ∙ added k (omega (arith, h, long)) ∙ ap (λ (hits : List Hit). hits ++ hits_at area.of k near places) (ap (λ (hs : List (List Hit)). get_or hs k []) was ∙ get_or-map f points k e [] l)
+      ∙ ap (λ (hits : List Hit). f (get_or points k e) ++ hits) (hits_there k e l) ∙ sym (get_or-map g points k e d l))

@@ -19,7 +19,7 @@ use Rattle.osm_area.specs.declared.outcome.Outcome.{Outcome}
 use Rattle.osm_area.proofs.SoundAreas.{survivors-one}
 use Rattle.area_locate.specs.declared.found.Found.{Found}
 use Rattle.area_locate.specs.declared.found.Hit.{Hit}
-use Rattle.area_locate.specs.Areas.{Area, AreAreas, HaveFurther, HaveHits, IsAreaIn, all_hits, found_at, hits_by, hits_of}
+use Rattle.area_locate.specs.Areas.{Area, AreAreas, HaveFurther, HaveHits, IsAreaIn, all_hits, found_as, hits_by, hits_of}
 use Rattle.area_locate.specs.Envelopes.{lacks}
 use Rattle.area_locate.specs.Hits.{AreFoundAmong, AreHits, IsHit, IsIn, IsOn}
 use Rattle.area_locate.specs.Laws.{FoundExists, FoundIsOne}
@@ -110,9 +110,9 @@ module _ (objects : List Object) (p : Loc) where
 
 -- ---- all points
 module _ (objects : List Object) (cs : List ObjectRef) where
-  pub all_found : (areas : List Area) → AreAreas objects cs areas → (points : List Loc) → AreFoundAmong objects cs points (map (found_at areas) points)
+  pub all_found : (areas : List Area) → AreAreas objects cs areas → (points : List Loc) → AreFoundAmong objects cs points (map (found_as (all_hits areas)) points)
   all_found areas are [] = refl
-  all_found areas are (p ∷ points) = (flat_map (hits_of p) areas, hits_all objects p cs areas are, map (found_at areas) points, all_found areas are points, refl)
+  all_found areas are (p ∷ points) = (flat_map (hits_of p) areas, hits_all objects p cs areas are, map (found_as (all_hits areas)) points, all_found areas are points, refl)
 
   some_found : OutcomeExists → HasAreaExactly → (points : List Loc) → (found : List Found) × AreFoundAmong objects cs points found
   some_found exists exactly [] = ([], refl)
@@ -155,6 +155,8 @@ next_none objects cs areas k c l at are none = subst (λ (xs : List ObjectRef). 
 pub next_hits : (objects : List Object) (cs : List ObjectRef) (points : List Loc) (k : ℕ) (c : ObjectRef) (old new : List (List Hit)) → k < length cs → c ≡ get_or cs k c → HaveHits objects (take k cs) points old →
     ((IsSound objects c → ⊥) × (new ≡ old)) ⊎ ((area : Area) × IsAreaIn objects c area × HaveFurther (λ p. hits_of p area) points old new) → HaveHits objects (take (k + 1) cs) points new
 next_hits objects cs points k c old new l at had (inl none) = (had.0, next_none objects cs had.0 k c l at had.1 none.0, none.1 ∙ had.2)
-next_hits objects cs points k c old new l at had (inr one) =
-    (had.0 ++ one.0 ∷ [], next_area objects cs had.0 k c l at had.1 one.0 one.1,
-    one.2 (all_hits had.0) had.2 ∙ map-same (λ p. all_hits had.0 p ++ hits_of p one.0) (all_hits (had.0 ++ one.0 ∷ [])) points (λ p. flat_map_more (hits_of p) [] had.0 one.0))
+next_hits objects cs points k c old new l at had (inr one) = (
+  had.0 ++ one.0 ∷ [],
+  next_area objects cs had.0 k c l at had.1 one.0 one.1,
+  one.2 (all_hits had.0) had.2 ∙ map-same (λ p. all_hits had.0 p ++ hits_of p one.0) (all_hits (had.0 ++ one.0 ∷ [])) points (λ p. flat_map_more (hits_of p) [] had.0 one.0),
+)

@@ -1,5 +1,5 @@
 -- Outside of the envelope of an area there is neither a side with the location on it nor an odd number of sides right of it.
-use Rattle.std.proofs.Common.{T, Bool, true, false, not, cond, eqb, eqb-true, List, [], ◌∷◌, map, refl, sym, ap, subst, arith, ℕ, ℤ, ◌&&◌, ◌||◌, ◌+◌, ◌-ℤ◌, ◌<ℤ◌, ◌≤ℤ◌, ◌%◌, ◌≡◌, ◌∙◌, ⊎_elim, All, count_by}
+use Rattle.std.proofs.Common.{Bool, true, false, not, cond, eqb, eqb-true, List, [], ◌∷◌, map, refl, sym, ap, arith, ℕ, ℤ, ◌&&◌, ◌||◌, ◌+◌, ◌-ℤ◌, ◌<ℤ◌, ◌≤ℤ◌, ◌%◌, ◌≡◌, ◌∙◌, ⊎_elim, All, count_by}
 use Rattle.std.proofs.lemmas.Bool.{false_from_ne_true}
 use Rattle.std.proofs.lemmas.Int.{ints}
 use Rattle.std.proofs.lemmas.List.Sums.{sum_by-cons}

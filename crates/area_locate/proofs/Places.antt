@@ -11,7 +11,7 @@ use Rattle.osm_lattice.specs.Seg.{edge_of}
 use Rattle.osm_sides.specs.declared.places.Place.TheVariants.{Off}
 use Rattle.area_locate.specs.Hits.{IsIn, IsOn}
 use Rattle.osm_sides.specs.PointPlaces.{lies_on, on_count, place_among, place_by_parity}
-use Rattle.osm_sides.specs.SideTests.{left_count, left_of}
+use Rattle.osm_sides.specs.SideTests.{left_count}
 use Rattle.area_locate.proofs.OutsideSides.{IsApart, left_crosses}
 
 module _ (p : Loc) where

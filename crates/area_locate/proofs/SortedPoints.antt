@@ -1,11 +1,11 @@
 -- Where a point stands among points in order.
-use Rattle.std.proofs.Common.{Bool, Contains, Equal, Greater, Less, List, Ordering, ap, arith, false, get_or, length, map, refl, subst, sym, true, ℕ, ⊎_elim, ◌<◌, ◌∙◌, ◌≡◌, ◌≤◌}
-use Rattle.std.specs.Cmp.{IsTotalOrder}
+use Rattle.std.proofs.Common.{Contains, Equal, Greater, Less, List, Ordering, ap, arith, false, get_or, length, map, refl, true, ℕ, ⊎_elim, ◌<◌, ◌∙◌, ◌≡◌, ◌≤◌}
 use Rattle.std.specs.List.Sorted.{IsNonDecreasingBy, IsPartitionPoint, IsPartitionedBy, IsSorted}
 use Rattle.std.specs.Ordering.{is_lt, ordering_index, ordering_reverse}
 use Rattle.std.proofs.lemmas.Bool.{cases_lt}
 use Rattle.std.proofs.lemmas.List.{get_or-map, get_or_default}
 use Rattle.std.proofs.lemmas.List.Sorted.{searchable_from_sorted}
+use Rattle.lists.proofs.ListsKit.{clash}
 use Rattle.osm_lattice.specs.declared.loc.Loc.{Loc}
 use Rattle.osm_lattice.specs.Loc.{loc_cmp}
 use Rattle.osm_lattice.proofs.LatticeKit.{loc_same, loc_total}
@@ -33,9 +33,6 @@ equal_too Less h k = absurd (cc k)
 equal_too Equal h k = refl
 equal_too Greater h k = absurd (omega (arith, h))
 
-clash : {b : Bool} → b ≡ true → b ≡ false → ⊥
-clash h k = cc (sym h ∙ k)
-
 module _ (points : List Loc) (sorted : IsSorted loc_cmp points) (p : Loc) where
   rise : IsNonDecreasingBy (λ q. ordering_index (loc_cmp q p)) points
   rise = searchable_from_sorted loc_total (λ (q : Loc). q) points p sorted
@@ -46,7 +43,7 @@ module _ (points : List Loc) (sorted : IsSorted loc_cmp points) (p : Loc) where
   module _ (there : Contains points p) (place : ℕ) (point : IsPartitionPoint (λ q. is_lt (loc_cmp q p) ≡ true) (λ q. is_lt (loc_cmp q p) ≡ false) points place) where
     not_before : place ≤ there.0
     not_before = ⊎_elim
-        (λ (before : there.0 < place). absurd (clash (point.0 there.0 p (omega arith) before) (ap (λ q. is_lt (loc_cmp q p)) there.2 ∙ ap is_lt (itself p))))
+        (λ (before : there.0 < place). absurd (clash (is_lt (loc_cmp (get_or points there.0 p) p)) (point.0 there.0 p (omega arith) before) (ap (λ q. is_lt (loc_cmp q p)) there.2 ∙ ap is_lt (itself p))))
         (λ (after : place ≤ there.0). after)
         (cases_lt there.0 place)
 

@@ -1,5 +1,5 @@
 -- Which points lie in a rectangle, of points in order.
-use Rattle.std.proofs.Common.{All, Bool, Contains, List, [], ap, arith, eq-or-lt_of_le, false, get_or, inl, inr, length, map, refl, subst, sym, take, true, ℕ, ℤ, ⊎_elim, ◌++◌, ◌+◌, ◌<◌, ◌||◌, ◌∙◌, ◌∷◌, ◌≡◌, ◌≤◌, ◌⊎◌}
+use Rattle.std.proofs.Common.{All, Bool, Contains, List, [], ap, arith, eq-or-lt_of_le, false, get_or, inl, inr, length, map, subst, sym, take, true, ℕ, ℤ, ⊎_elim, ◌++◌, ◌+◌, ◌<◌, ◌||◌, ◌∙◌, ◌∷◌, ◌≡◌, ◌≤◌, ◌⊎◌}
 use lib.Signed.{lt_z}
 use Rattle.std.specs.List.{AllWithin}
 use Rattle.std.specs.List.Sorted.{IsPartitionedBy, IsSorted, IsStrictlyIncreasing}
@@ -12,6 +12,7 @@ use Rattle.std.proofs.lemmas.List.Elements.{All-nil, All-push, Contains-append_l
 use Rattle.std.proofs.lemmas.List.Kept.{AllPairs-from_increasing}
 use Rattle.std.proofs.lemmas.List.Quantifiers.{all_pairs_push}
 use Rattle.std.proofs.lemmas.List.Sorted.{ranks_by, sorted_far}
+use Rattle.lists.proofs.ListsKit.{clash}
 use Rattle.osm_lattice.specs.declared.loc.Loc.{Loc}
 use Rattle.osm_lattice.specs.Loc.{loc_cmp}
 use Rattle.osm_lattice.proofs.LatticeKit.{loc_total}
@@ -51,9 +52,6 @@ high_out false true c d h k = absurd (cc k)
 high_out false false true d h k = absurd (cc k)
 high_out false false false true h k = absurd (cc k)
 high_out false false false false h k = absurd (cc h)
-
-clash : (b : Bool) → b ≡ true → b ≡ false → ⊥
-clash b h k = cc (sym h ∙ k)
 
 rising_push : (xs : List ℕ) (n : ℕ) → IsStrictlyIncreasing xs → All (λ i. i < n) xs → IsStrictlyIncreasing (xs ++ n ∷ [])
 rising_push xs n up below k l = all_pairs_push (λ x y. x < y) xs n (AllPairs-from_increasing xs up) below k (k + 1) 0 (omega arith) l
@@ -116,7 +114,7 @@ module _ (envelope : Envelope) (points : List Loc) where
       whole = λ i d h k. ⊎_elim
           (λ (before : i < place). first.whole i d before k)
           (λ (after : place ≤ i).
-              absurd (lacks_high (get_or points i d) (above_too at.y (get_or points i d).y envelope.high (subst (λ (p : Loc). lt_z (get_or points i d).y p.y ≡ false) (here d) (rise place i d after h)) high) k))
+          absurd (lacks_high (get_or points i d) (above_too at.y (get_or points i d).y envelope.high (subst (λ (p : Loc). lt_z (get_or points i d).y p.y ≡ false) (here d) (rise place i d after h)) high) k))
           (cases_lt i place);
     }
 

@@ -1,5 +1,5 @@
 -- Words of private clauses: areas by their outlines, and the hits among them. No public contract cites it.
-use Rattle.std.specs.Prelude.{false, true, ◌≡◌, ◌⊎◌, cond, List, [], ◌∷◌, ◌++◌, Option, None, Some, map}
+use Rattle.std.specs.Prelude.{false, true, ◌≡◌, ◌⊎◌, cond, List, [], ◌∷◌, ◌++◌, map}
 use Rattle.std.specs.List.{flat_map}
 use Rattle.osm_lattice.specs.declared.loc.Loc.{Loc}
 use Rattle.osm_lattice.specs.declared.seg.Seg.{Seg}
@@ -52,8 +52,9 @@ hits_of p area = cond (lacks area.envelope p) [] (hits_by area.of (place_among p
 abbrev pub all_hits : List Area → Loc → List Hit
 all_hits areas p = flat_map (hits_of p) areas
 
-abbrev pub found_at : List Area → Loc → Found
-found_at areas p = record { at = p; hits = all_hits areas p }
+-- the entry of a location by its hits
+abbrev pub found_as : (Loc → List Hit) → Loc → Found
+found_as hits p = record { at = p; hits = hits p }
 
 -- each of the points has the hits of the areas of these candidates
 abbrev pub HaveHits : List Object → List ObjectRef → List Loc → List (List Hit) → Type 0

@@ -17,8 +17,8 @@ pub record AreFirstWithin (envelope : Envelope) (points : List Loc) (count : ℕ
   pub whole : (i : ℕ) (d : Loc) → i < count → lacks envelope (slice_index_or points i d) ≡ false → Contains places i
 
 -- those of all points
-abbrev pub AreWithin : Envelope → List Loc → List ℕ → Type 0
-AreWithin envelope points places = AreFirstWithin envelope points (length points) places
+abbrev pub AreAllWithin : Envelope → List Loc → List ℕ → Type 0
+AreAllWithin envelope points places = AreFirstWithin envelope points (length points) places
 
 -- the hits that the j-th point gets where the points at these places lie so
 abbrev pub hits_at : ObjectRef → ℕ → List ℕ → List Place → List Hit

@@ -5,6 +5,7 @@ ghost use Rattle.std.specs.List.Sorted.{IsSorted};
 ghost use Rattle.osm_lattice.specs.Loc.{loc_cmp};
 ghost use Rattle.osm_lattice.specs.declared.loc.Loc.{Loc};
 ghost use Rattle.area_locate.specs.declared.found.Hit.{Hit};
+ghost use Rattle.area_locate.specs.Areas.{found_as};
 ghost use Rattle.area_locate.specs.Hits.{AreFound};
 
 use crate::candidates::hits_of_all;
@@ -24,12 +25,7 @@ fn in_order(alloc: Global, points: &[Loc]) -> Result<Vec<Loc>, OutOfMemory>
 }
 
 /// A copy of the hits of a point, which stands among points in order that have these hits.
-fn hits_of_point(
-    alloc: Global,
-    sorted: &[Loc],
-    hits: &[Hits],
-    p: Loc,
-) -> Result<Hits, OutOfMemory>
+fn hits_of_point(alloc: Global, sorted: &[Loc], hits: &[Hits], p: Loc) -> Result<Hits, OutOfMemory>
     requires sorted { IsSorted loc_cmp sorted.now }
     requires there { Contains sorted.now p }
     requires hits { (f : Loc → List Hit) × (hits.now ≡ map f sorted.now) }
@@ -51,7 +47,7 @@ fn all_found(
     requires sorted { IsSorted loc_cmp sorted.now }
     requires hits { (f : Loc → List Hit) × (hits.now ≡ map f sorted.now) }
     ensures { (f : Loc → List Hit) → hits.now ≡ map f sorted.now
-        → IfOk result (λ found. found ≡ map (λ p. record { at = p; hits = f p }) points.now) }
+        → IfOk result (λ found. found ≡ map (found_as f) points.now) }
 {
     let mut found = FoundList::with_capacity(alloc, points.len())?;
     for &at in points {

@@ -5,7 +5,7 @@ ghost use Rattle.std.specs.List.Sorted.{IsSorted};
 ghost use Rattle.osm_lattice.specs.Loc.{loc_cmp};
 ghost use Rattle.osm_lattice.specs.declared.loc.Loc.{Loc};
 ghost use Rattle.osm_sides.specs.PointPlaces.{HeightsNeverFall};
-ghost use Rattle.area_locate.specs.Within.{AreWithin};
+ghost use Rattle.area_locate.specs.Within.{AreAllWithin};
 
 use crate::envelope::Envelope;
 use osm_lattice::Loc;
@@ -18,7 +18,7 @@ pub(crate) fn places_within(
     envelope: &Envelope,
 ) -> Result<Vec<usize>, OutOfMemory>
     requires { IsSorted loc_cmp points.now }
-    ensures { IfOk result (λ v. AreWithin envelope.now points.now v.items) }
+    ensures { IfOk result (λ v. AreAllWithin envelope.now points.now v.items) }
 {
     let from = points.partition_point(|p| p.y < envelope.low);
     let mut places = Vec::new(alloc);

@@ -1,7 +1,6 @@
 -- The outline is that of the candidate's area.
-use Rattle.std.proofs.Common.{List, Option, inr, refl, subst}
+use Rattle.std.proofs.Common.{inr, refl, subst}
 use Rattle.std.proofs.lemmas.Result.{on_ok_weaker}
-use Rattle.osm_lattice.specs.declared.seg.Seg.{Seg}
 use Rattle.osm_area.specs.Sound.{IsOutlineFor}
 use Rattle.area_locate.proofs.candidates.add_candidate.Goals as goal
 

@@ -1,5 +1,5 @@
 -- The point stands at the first place that isn't before it.
-use Rattle.std.proofs.Common.{ap, arith, length, map, rules, sym, ◌∙◌, ◌≡◌}
+use Rattle.std.proofs.Common.{ap, arith, length, rules, ◌∙◌}
 use Rattle.std.specs.Ordering.{is_lt}
 use Rattle.std.proofs.lemmas.List.{length-map}
 use Rattle.std.proofs.lemmas.List.Sorted.{IsPartitionPoint-from_clause}

@@ -1,5 +1,5 @@
 -- Points below the rectangle, one more point, and those above it.
-use Rattle.std.proofs.Common.{ap, ap₂, arith, false, get_or, refl, rules, sym, true, w32, ◌∙◌, ◌≡◌}
+use Rattle.std.proofs.Common.{ap, ap₂, arith, get_or, refl, rules, sym, w32, ◌∙◌}
 use lib.Signed.{lt_z}
 use Rattle.std.proofs.lemmas.Int.{to_z-of_z}
 use Rattle.std.proofs.lemmas.List.Sorted.{IsPartitionPoint-from_clause}
@@ -24,11 +24,12 @@ returns-then-envelope-points c =
 pub loop-place-preserved : goal.loop-place-preserved
 loop-place-preserved c =
     let envelope = c.args.envelope.now in let points = c.args.points.now in let place = c.loop-place.place in let at = c.index-points-place-in-loop-place.result in
-    let inside = c.loop-place-test.true in
-    (omega (arith, inside),
-    elim c.if-not-lacks.branch [
-      | then-not-lacks+in_ok-push w ↦
-          rw w.places-is (one_in envelope points place c.loop-place.places.items c.loop-place.invariant.1 at c.index-points-place-in-loop-place.is inside _ w.in_ok-push.ensures.items (sym c.lacks.ensures ∙ w.if-not-lacks.true))
-      | else-not-lacks w ↦
-          rw w.places-is (one_out envelope points place c.loop-place.places.items c.loop-place.invariant.1 at c.index-points-place-in-loop-place.is inside _ refl (sym c.lacks.ensures ∙ w.if-not-lacks.false))
-    ])
+    let inside = c.loop-place-test.true in (
+      omega (arith, inside),
+      elim c.if-not-lacks.branch [
+        | then-not-lacks+in_ok-push w ↦
+            rw w.places-is (one_in envelope points place c.loop-place.places.items c.loop-place.invariant.1 at c.index-points-place-in-loop-place.is inside _ w.in_ok-push.ensures.items (sym c.lacks.ensures ∙ w.if-not-lacks.true))
+        | else-not-lacks w ↦
+            rw w.places-is (one_out envelope points place c.loop-place.places.items c.loop-place.invariant.1 at c.index-points-place-in-loop-place.is inside _ refl (sym c.lacks.ensures ∙ w.if-not-lacks.false))
+      ],
+    )
