@@ -27,9 +27,6 @@ before_rest m n rest h = by (nat_cmp m n) refl h
     by Equal e t = inr (ranked m n Equal e, t)
     by Greater e t = absurd (cc)
 
-before_last : (m n : ℕ) → nat_cmp m n ≡ Less → m < n
-before_last m n h = ranked m n Less (sym h)
-
 less_nearness : (s t a b : ℕ) → a < 18446744073709551616 → (s < t) ⊎ ((s ≡ t) × (a < b)) → nearness s a < nearness t b
 less_nearness s t a b small (inl l) = omega arith
 less_nearness s t a b small (inr (e, l)) = omega arith
@@ -37,13 +34,13 @@ less_nearness s t a b small (inr (e, l)) = omega arith
 pub less_by_start : (g h : Gap) → g.from_chain ≡ h.from_chain → g.to_chain < 18446744073709551616 → gap_cmp g h ≡ Less → nearness g.square g.to_chain < nearness h.square h.to_chain
 less_by_start g h same small less = less_nearness g.square h.square g.to_chain h.to_chain small (⊎_elim
     (λ l. inl l)
-    (λ p. inr (p.0, ⊎_elim (λ l. absurd (omega arith)) (λ q. before_last g.to_chain h.to_chain q.1) (before_rest g.from_chain h.from_chain (nat_cmp g.to_chain h.to_chain) p.1)))
+    (λ p. inr (p.0, ⊎_elim (λ l. absurd (omega arith)) (λ q. ranked g.to_chain h.to_chain Less (sym q.1)) (before_rest g.from_chain h.from_chain (nat_cmp g.to_chain h.to_chain) p.1)))
     (before_rest g.square h.square (ordering_then (nat_cmp g.from_chain h.from_chain) (nat_cmp g.to_chain h.to_chain)) less))
 
 pub less_by_end : (g h : Gap) → g.to_chain ≡ h.to_chain → g.from_chain < 18446744073709551616 → gap_cmp g h ≡ Less → nearness g.square g.from_chain < nearness h.square h.from_chain
 less_by_end g h same small less = less_nearness g.square h.square g.from_chain h.from_chain small (⊎_elim
     (λ l. inl l)
-    (λ p. inr (p.0, ⊎_elim (λ l. l) (λ q. let l = before_last g.to_chain h.to_chain q.1 in absurd (omega arith)) (before_rest g.from_chain h.from_chain (nat_cmp g.to_chain h.to_chain) p.1)))
+    (λ p. inr (p.0, ⊎_elim (λ l. l) (λ q. let l = ranked g.to_chain h.to_chain Less (sym q.1) in absurd (omega arith)) (before_rest g.from_chain h.from_chain (nat_cmp g.to_chain h.to_chain) p.1)))
     (before_rest g.square h.square (ordering_then (nat_cmp g.from_chain h.from_chain) (nat_cmp g.to_chain h.to_chain)) less))
 
 -- ---- one more chain is marked

@@ -4,10 +4,8 @@ use Rattle.std.specs.List.{slice_get}
 use Rattle.std.specs.Option.{option_and_then}
 use Rattle.std.proofs.lemmas.Option.{slice_get_past}
 use Rattle.osm_lattice.specs.declared.seg.Seg.{Seg}
-use Rattle.osm_lattice.specs.Conflict.{conflict_of}
-use Rattle.osm_segments.specs.declared.pairs.Pair.{Pair}
 use Rattle.osm_segments.specs.declared.places.Places.{Places}
-use Rattle.osm_segments.specs.Pairs.{IsPairOfItsKind, pair_of}
+use Rattle.osm_segments.specs.Pairs.{pair_of}
 use Rattle.osm_segments.specs.Places.{pair_at}
 
 -- the pair of the segments that stand at two places
@@ -15,11 +13,6 @@ pub pair-at_both : (segs : List Seg) (places : Places) (s t : Seg) → slice_get
 unfolding pair_at
 pair-at_both segs places s t first second =
     ap (option_and_then (λ (s : Seg). option_and_then (pair_of s) (slice_get segs places.second))) first ∙ ap (option_and_then (pair_of s)) second
-
--- a pair that is of its kind is what its segments make
-pub pair-again : (p : Pair) → IsPairOfItsKind p → pair_of p.first p.second ≡ Some p
-unfolding pair_of
-pair-again p kind = rw kind refl
 
 -- none, where a place is behind the last
 pub no_pair_past : (segs : List Seg) (places : Places) → (length segs ≤ places.first) ⊎ (length segs ≤ places.second) → pair_at segs places ≡ None

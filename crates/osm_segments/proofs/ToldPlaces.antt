@@ -28,6 +28,7 @@ use Rattle.osm_segments.specs.Places.{AreConflictPlaces, pair_at}
 use Rattle.osm_segments.specs.Ranges.{AreToldOrClear, IsConflictAt, IsGrown, IsToldOrNone, IsTried, places_cmp}
 use Rattle.osm_segments.proofs.FoundPairs.{pair_exact, pair_itself, rising_whole, same_once}
 use Rattle.osm_segments.proofs.RisingPairs.{IsOf, before_by_first, before_by_second, conflicts_rising, pair_is}
+use Rattle.osm_segments.proofs.ConflictPlaces.{pair-at_both}
 
 -- ---- items that a test keeps
 module _ {X Y : Type 0} (h : X → Option Y) where
@@ -112,17 +113,13 @@ stand_at : (segs : List Seg) (p : Places) (x : Pair) → pair_at segs p ≡ Some
 unfolding pair_at
 stand_at segs p x e = stand_by segs p x (slice_get segs p.first) (slice_get segs p.second) refl refl e
 
-at_places : (segs : List Seg) (p : Places) (s t : Seg) → slice_get segs p.first ≡ Some s → slice_get segs p.second ≡ Some t → pair_at segs p ≡ pair_of s t
-unfolding pair_at
-at_places segs p s t e f = rw (e, f) refl
-
 pub clear_at_places : (segs : List Seg) (p : Places) (s t : Seg) → slice_get segs p.first ≡ Some s → slice_get segs p.second ≡ Some t → conflict_of s t ≡ None → pair_at segs p ≡ None
 unfolding pair_of
-clear_at_places segs p s t e f none = at_places segs p s t e f ∙ ap (option_map {U = Pair} (λ k. record { kind = k; first = s; second = t })) none
+clear_at_places segs p s t e f none = pair-at_both segs p s t e f ∙ ap (option_map {U = Pair} (λ k. record { kind = k; first = s; second = t })) none
 
 pub kind_at_places : (segs : List Seg) (p : Places) (s t : Seg) (k : Kind) → slice_get segs p.first ≡ Some s → slice_get segs p.second ≡ Some t → conflict_of s t ≡ Some k → pair_at segs p ≡ Some (record { kind = k; first = s; second = t })
 unfolding pair_of
-kind_at_places segs p s t k e f some = at_places segs p s t e f ∙ ap (option_map {U = Pair} (λ k. record { kind = k; first = s; second = t })) some
+kind_at_places segs p s t k e f some = pair-at_both segs p s t e f ∙ ap (option_map {U = Pair} (λ k. record { kind = k; first = s; second = t })) some
 
 -- ---- the conflicts of a list by their places
 pub record StandsIn (segs : List Seg) (x : Pair) : Type 0 where
@@ -155,7 +152,7 @@ place_of_conflict (s ∷ ts) x c =
           first = 0;
           second = suc k;
           ordered = omega arith;
-          is = at_places (s ∷ ts) (record { first = 0; second = suc k }) s g.item refl (slice_get-get_or ts k g.item m.1 ∙ ap Some m.2) ∙ g.gives;
+          is = pair-at_both (s ∷ ts) (record { first = 0; second = suc k }) s g.item refl (slice_get-get_or ts k g.item m.1 ∙ ap Some m.2) ∙ g.gives;
         }
 
 pub conflict_at_places : (segs : List Seg) (i j : ℕ) (x : Pair) → i < j → pair_at segs (record { first = i; second = j }) ≡ Some x → Contains (conflicts_of segs) x
@@ -262,7 +259,7 @@ pair_back alike s t none = pair_back_by s t (conflict_of s t) (conflict_of t s) 
 no_pair_back : ConflictIsSymmetric → (segs : List Seg) (i j : ℕ) (x : Pair) → pair_at segs (record { first = i; second = j }) ≡ Some x → pair_at segs (record { first = j; second = i }) ≡ None → ⊥
 no_pair_back alike segs i j x e none =
     let h = stand_at segs (record { first = i; second = j }) x e in
-    let n = pair_back alike h.s h.t (sym (at_places segs (record { first = j; second = i }) h.t h.s h.second h.first) ∙ none) in
+    let n = pair_back alike h.s h.t (sym (pair-at_both segs (record { first = j; second = i }) h.t h.s h.second h.first) ∙ none) in
     cc (sym n ∙ h.is)
 
 module _ (alike : ConflictIsSymmetric) (segs : List Seg) (rising : IsRising seg_cmp segs) (start told v : List Places) (empty : start ≡ []) (grown : IsGrown segs start told) (all : AreToldOrClear segs told)
