@@ -21,9 +21,7 @@ use coast_split::{
 };
 use job_coastline::{lines_have_kinds, pieces_exist};
 use osm_nest::valid_polygons::nested_polygons_are_valid;
-use osm_nest::{
-    nested_cover_as_rings, nested_have_kinds, polygons_are_one, rings_may_be_nested,
-};
+use osm_nest::{nested_cover_as_rings, nested_have_kinds, polygons_are_one, rings_may_be_nested};
 use osm_text::coast_line_is_one;
 
 /// What comes of the coastline ways of objects is one thing alone: what keeps ways from taking part, chains,
