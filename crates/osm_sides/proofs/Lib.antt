@@ -3,7 +3,6 @@ pub mod DirectedSides
 mod DirectionLists
 mod Ends
 mod Followers
-mod HeightBands
 mod LevelCounts
 mod LevelParts
 mod OddSideCounts
@@ -13,8 +12,6 @@ pub mod PlaneEdges
 mod Pushes
 mod SegmentTests
 pub mod SidesKit
-pub mod StabKit
-mod Stabs
 mod StatusEdges
 mod Statuses
 mod Survivors

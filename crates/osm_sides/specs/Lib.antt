@@ -1,10 +1,8 @@
 pub mod Directions
 pub mod Following
-pub mod HeightBands
 pub mod Laws
 pub mod PointPlaces
 pub mod PointSteps
 pub mod SideTests
-pub mod Stabs
 pub mod Survivors
 pub mod Sweep

@@ -1,8 +1,6 @@
-//! Tests of exact geometry, of what survives and conflicts, and of edges at a height.
+//! Tests of exact geometry, and of what survives and conflicts.
 #![tactic(auto)]
 
-#[cfg(test)]
-mod bands;
 #[cfg(test)]
 mod cuts;
 #[cfg(test)]
@@ -13,5 +11,3 @@ mod lattice;
 mod reading;
 #[cfg(test)]
 mod segments;
-#[cfg(test)]
-mod stabs;

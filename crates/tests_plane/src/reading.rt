@@ -1,8 +1,7 @@
-//! For the tests: locations, segments, edges and numbers out of words.
+//! For the tests: locations, segments and points out of words.
 
-use osm_geom::{Edge, Edges, Loc, Part, Point, Seg, spans_height};
-use osm_sides::stab::Stab;
-use std::alloc::{AllocError as OutOfMemory, Global};
+use osm_geom::{Loc, Part, Point, Seg};
+use std::alloc::Global;
 use std::test::Fail;
 
 /// The location x, y.
@@ -25,11 +24,6 @@ pub(crate) fn segment(p: Loc, q: Loc) -> Result<Seg, Fail> {
 pub(crate) fn seg(words: &str) -> Result<Seg, Fail> {
     let (p, q) = words.split_once(' ').unwrap_or((words, ""));
     segment(loc(p)?, loc(q)?)
-}
-
-/// The edge from one location to another.
-pub(crate) fn edge(from: Loc, to: Loc) -> Result<Edge, Fail> {
-    Ok(Edge::of(segment(from, to)?, from < to))
 }
 
 /// Adds the steps between the neighbouring locations of a line.
@@ -63,15 +57,6 @@ pub(crate) fn segs(alloc: Global, lines: &str) -> Result<Vec<Seg>, Fail> {
     Ok(segs)
 }
 
-/// The edges along lines, parted by `/`.
-pub(crate) fn edges(alloc: Global, lines: &str) -> Result<Edges, Fail> {
-    let mut edges = Edges::new(alloc);
-    for (from, to) in &steps(alloc, lines)? {
-        edges.push(edge(*from, *to)?)?;
-    }
-    Ok(edges)
-}
-
 /// The point (7, 1/2).
 fn half() -> Point {
     Point::OnVertical {
@@ -90,42 +75,4 @@ pub(crate) fn height(word: &str) -> Result<Point, Fail> {
         return Ok(half());
     }
     Ok(Point::Lattice(at(7, word.parse().unwrap_or(i64::MAX))?))
-}
-
-/// A number for each word, none for `-`.
-fn numbers(alloc: Global, words: &str) -> Result<Vec<Option<u64>>, OutOfMemory> {
-    words
-        .split_whitespace()
-        .map(|word| word.parse().ok())
-        .collect(alloc)
-}
-
-/// For each edge that spans the height the number of those right of it.
-fn right_counts<S: Stab>(
-    alloc: Global,
-    stab: &S,
-    at: &Point,
-) -> Result<Vec<Option<u64>>, OutOfMemory> {
-    let edges = stab.edges();
-    let mut counts = Vec::new(alloc);
-    for (e, edge) in edges.iter().enumerate() {
-        counts.push(if spans_height(edge, at) {
-            Some(stab.right_of(at, e))
-        } else {
-            None
-        })?;
-    }
-    Ok(counts)
-}
-
-/// Whether so many are right of each edge that spans the height, none for those that don't.
-pub(crate) fn has_counts<S: Stab>(
-    alloc: Global,
-    stab: &S,
-    at: &Point,
-    counts: &str,
-) -> Result<bool, Fail> {
-    let wanted = numbers(alloc, counts)?;
-    let found = right_counts(alloc, stab, at)?;
-    Ok(found.as_slice() == wanted.as_slice())
 }

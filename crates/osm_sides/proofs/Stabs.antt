@@ -1,3 +1,0 @@
-pub mod NearCounts
-pub mod NearIndexes
-pub mod NearItems

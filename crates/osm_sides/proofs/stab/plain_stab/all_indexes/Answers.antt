@@ -1,6 +1,0 @@
-use Rattle.std.proofs.Common.{arith, refl}
-use Rattle.std.proofs.lemmas.Iterator.{YieldsList-from_range, items_from_collect}
-use Rattle.osm_sides.proofs.stab.plain_stab.all_indexes.Goals as goal
-
-pub returns : goal.returns
-returns c = items_from_collect _ c.collect.ensures.ran (YieldsList-from_range 0 c.args.len c.args.len refl (omega arith))

@@ -1,5 +1,0 @@
-pub mod BandStab
-pub mod Bands
-pub mod Heights
-pub mod Rows
-pub mod Scale

@@ -1,2 +1,0 @@
-pub mod PlainStab
-pub mod Stab
