@@ -3,8 +3,8 @@
 use crate::reading::{at, loc, segment, segs};
 use osm_lattice::{Kind, Seg};
 use osm_segments::{
-    Pair, Places, Repeat, conflict_places, conflicts, distinct, odd_nodes, outline_of, pair_at, repeated,
-    survivors,
+    Pair, Places, Repeat, conflict_places, conflicts, distinct, odd_nodes, outline_of, pair_at,
+    repeated, survivors,
 };
 use std::alloc::Global;
 use std::test::Fail;
