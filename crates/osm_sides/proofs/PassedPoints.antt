@@ -33,7 +33,7 @@ left_kept p e f se sf r h =
     let a = sign (cross (from_to p e.from) (from_to p e.to)) in let b = sign (cross (from_to p f.from) (from_to p f.to)) in
     let seen = rw (tall-by p e se, tall-by p f sf) at (cross-agree (distance_right p e) (distance_right p f)) in
     let c = all-out (λ b. imp (agree k (times a Plus) (times Plus b)) λ _. imp (is_plus (then_sign k l)) λ _. imp (is_minus b) λ _. is_minus a)
-        (all-out (λ a. all λ b. imp (agree k (times a Plus) (times Plus b)) λ _. imp (is_plus (then_sign k l)) λ _. imp (is_minus b) λ _. is_minus a) (all2-out keeps_left refl k l) a) b in
+    (all-out (λ a. all λ b. imp (agree k (times a Plus) (times Plus b)) λ _. imp (is_plus (then_sign k l)) λ _. imp (is_minus b) λ _. is_minus a) (all2-out keeps_left refl k l) a) b in
     let m : is_minus b ≡ true = ap (λ z. is_minus (sign z)) (sym (orient-round p f.from f.to)) ∙ h in
     ap (λ z. is_minus (sign z)) (orient-round p e.from e.to) ∙ imp-out _ _ (imp-out _ _ (imp-out _ _ c seen) r) m
 

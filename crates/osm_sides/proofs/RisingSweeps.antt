@@ -57,7 +57,7 @@ module _ (segs ends status : List Seg) (rising : IsRising seg_cmp segs) (clear :
   level flat =
       let same : swept.height.y ≡ at.y = level_height at.y swept.height.y low flat in
       let here : new ≡ status = stay ∙ all_stay (ends_above at.y) status (λ j d h. subst (λ (y : ℤ). ends_above y (get_or status j d) ≡ true) same
-          (span-ends swept.height (get_or status j d) (in-passes (λ (t : Seg). is_in_span swept.height (edge_of t)) segs (get_or status j d) (swept.swept.is.members j d h)))) in
+      (span-ends swept.height (get_or status j d) (in-passes (λ (t : Seg). is_in_span swept.height (edge_of t)) segs (get_or status j d) (swept.swept.is.members j d h)))) in
       (record { height = swept.height; swept = subst (λ (xs : List Seg). IsSweptTo swept.height segs k xs) (sym here) swept.swept; ended = subst (λ (y : ℤ). AllWithin (λ t. ends_above y t ≡ false) ends 0 left) (sym same) ended }, same)
 
   pub arrived : (now : IsSweptFrom segs ends k left new) × (now.height.y ≡ at.y)

@@ -13,10 +13,9 @@ use Rattle.osm_sides.proofs.places.places_along.Goals as goal
 
 pub loop-p-init : goal.loop-p-init
 loop-p-init c =
-    let segs = c.args.segs.now in let ends = c.args.ends.now in let points = c.args.points.now in
-    (
+    let segs = c.args.segs.now in let ends = c.args.ends.now in let points = c.args.points.now in (
       subst (λ (status : List Seg). (x : IsSweptFrom segs ends 0 0 status) × ((d : Loc) → 0 < length points → lt_z (slice_index_or points 0 d).y x.height.y ≡ false)) (sym c.new-status.ensures)
-      (none-swept segs ends, λ d some. all_above segs ends (slice_index_or points 0 d)),
+          (none-swept segs ends, λ d some. all_above segs ends (slice_index_or points 0 d)),
       c.in_ok-places.ensures.items,
     )
 
@@ -29,8 +28,7 @@ pub loop-p-preserved : goal.loop-p-preserved
 loop-p-preserved c =
     let segs = c.args.segs.now in let points = c.args.points.now in let j = c.loop-p.p-index in let p = c.p-item.result in
     let now = c.in_ok-progress.ensures in
-    let place = c.place_of.ensures segs c.requires.outline c.requires.levels now.0.height (sym now.1) now.0.swept.is in
-    (
+    let place = c.place_of.ensures segs c.requires.outline c.requires.levels now.0.height (sym now.1) now.0.swept.is in (
       (now.0, λ d inside. next_above points j p d now.0.height.y c.requires.points c.p-item.is now.1 inside),
       one_more_place segs points j p c.loop-p.places.items c.push.new.self.items c.place_of.result c.loop-p.invariant.1 place c.in_ok-push.ensures.items c.p-item.is c.loop-p-test.true,
     )
