@@ -1,9 +1,10 @@
 #!/usr/bin/env python3
-"""The shoreline of GSHHG as OPL: make_gshhg.py [l] >coast.opl
+"""The shoreline of GSHHG as OPL: make_gshhg.py [c | l | i | h | f] >coast.opl
 
-Reads what `gmt coast -M` prints (Debian's gmt and gmt-gshhg-low; `i`, `h` and `f` need gmt-gshhg-high or -full): shores of
-seas, lakes, islands in lakes and ponds on these, land on their left, cut along bins. Each piece becomes a way tagged
-natural=coastline; equal places are one node. At 180 degrees neighbouring ends are joined, as OpenStreetMap does.
+The resolution is crude, low, intermediate, high or full; low if none is given. Debian's gmt-gshhg-low has the first three, gmt-gshhg-high
+the next, gmt-gshhg-full the last. The script reads what `gmt coast -M` prints: shores of seas, lakes, islands in lakes and ponds on these,
+land on their left, cut along bins. Each piece becomes a way tagged natural=coastline; equal places are one node. At 180 degrees
+neighbouring ends are joined, as OpenStreetMap does.
 One lake is left out: it crosses the coast of Florida, and both commands would leave out all of America with it.
 """
 import subprocess

@@ -7,6 +7,8 @@ locations of their nodes, and a kind whose ways make one area ends with the rela
 import random
 import sys
 
+from opl_numbers import decimal
+
 KINDS = {}
 LONG = 100_000_000  # ten degrees
 FAR_AWAY = -2 * LONG
@@ -16,14 +18,6 @@ LONGEST_WAY = 20_000  # references
 def kind(function):
     KINDS[function.__name__] = function
     return function
-
-
-def decimal(units):
-    """A coordinate of so many units."""
-    sign = "-" if units < 0 else ""
-    whole, rest = divmod(abs(units), 10_000_000)
-    fraction = f".{rest:07d}".rstrip("0") if rest else ""
-    return f"{sign}{whole}{fraction}"
 
 
 class Map:

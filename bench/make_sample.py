@@ -3,17 +3,11 @@
 ways, and a coastline round the whole.  Usage: make_sample.py N [>FILE]"""
 import sys
 
+from opl_numbers import decimal
+
 CELL = 10_000
 SIDE = 8_000
 HOLE = (2_000, 6_000)
-
-
-def decimal(units):
-    """A coordinate of so many units of 1e-7 degree."""
-    sign = "-" if units < 0 else ""
-    whole, rest = divmod(abs(units), 10_000_000)
-    fraction = f".{rest:07d}".rstrip("0") if rest else ""
-    return f"{sign}{whole}{fraction}"
 
 
 def corners(x, y, low, high):
