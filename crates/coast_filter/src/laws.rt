@@ -5,8 +5,8 @@ ghost use Rattle.coast_filter.specs.Laws.{CoastInputStays, CoastPartIsApart, Coa
 
 use opl_writer::read_back::written_inputs_are_read;
 
-/// The coast part of an input has its coast input: the same coast ways take part, with the same paths, and the same are set
-/// aside, in the same order, for the same reasons.
+/// The coast part of an input has its coast input: the same coast ways take part, with the same paths.
+/// The same ones are set aside, in the same order, for the same reasons.
 pub fn coast_input_stays()
     ensures { CoastInputStays }
 {}
@@ -16,14 +16,14 @@ pub fn coast_part_stays()
     ensures { CoastPartStays }
 {}
 
-/// The objects of a coast part are apart where those of the input are, and can be written where those can.
+/// The objects of a coast part are apart if those of the input are, and can be written if those can.
 pub fn coast_part_is_sound()
     ensures apart { CoastPartIsApart }
     ensures writable { CoastPartIsWritable }
 {}
 
-/// The text of a coast part tells this part and no more, and nothing is wrong with it but that a line may be too long. So as an
-/// input it has the coast input of the whole.
+/// The text of a coast part tells this part and nothing else, and nothing is wrong with it but that a line may be too
+/// long. So as an input it has the coast input of the whole.
 pub fn coast_text_tells_the_coast()
     ensures { CoastTextTellsCoast }
 {
