@@ -37,7 +37,7 @@ with_value Having place bytes c = members_at (place + 1) bytes >>= λ members. O
 
 -- ---- fields
 
--- The content with a field, where these letters stood before.
+-- The content with a field, after fields with these letters.
 unfoldable pub with_field : ObjectKind → List ℕ → ℕ → List ℕ → Content → Result Content LineFault
 with_field kind seen place [] c = no_reading UnknownField place
 with_field kind seen place (letter ∷ bytes) c = do
