@@ -1,7 +1,7 @@
 //! Which pairs of ends and starts of unclosed chains are taken: the nearest ones first.
 //!
-//! A pair may be taken at any time if its start is the nearest to its end and its end the nearest to its start, among the
-//! ends and starts that are not taken. So the order in which such pairs are found is not proved.
+//! Consider only ends and starts that are not taken. A pair may be taken at any time if its start is the nearest to its end
+//! and its end the nearest to its start. So the order in which such pairs are found is not proved.
 
 ghost use Rattle.std.specs.Prelude.{◌≡◌, ◌↔◌, ◌<◌, ◌≤◌, ℕ, All, AllPairs, Contains, IfOk, IfSome, List, MatchOption, OnOk, false, map, true};
 ghost use Rattle.std.specs.List.Sorted.{IsPermutation};

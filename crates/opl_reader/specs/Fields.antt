@@ -30,7 +30,8 @@ shared letter =
     else (if letter == 116 then Some Anything
     else (if letter == 117 then Some Name else None))))
 
--- What a letter means for a kind of object: T, then v, c or i, then d, t and u for all; x and y for a node, N for a way, M for a relation.
+-- What a letter means for a kind of object. All kinds have T, v, c, i, d, t and u.
+-- Besides, a node has x and y, a way N, and a relation M.
 unfoldable pub letter_of : ObjectKind → ℕ → Option Meaning
 letter_of Node letter = if letter == 120 then Some X else (if letter == 121 then Some Y else shared letter)
 letter_of Way letter = if letter == 78 then Some Referring else shared letter

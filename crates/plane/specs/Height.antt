@@ -18,8 +18,8 @@ abbrev pub starts_left_of : Edge → Edge → Bool
 starts_left_of s t =
     is_in_span s.from t && (is_plus (orient t.from t.to s.from) || (same_point s.from t.from && is_minus (orient s.from s.to t.to)))
 
--- Where t is at the height of p, as a fraction. x is the height of t; y is its distance to the right of p at that height,
--- multiplied by the height of t.
+-- Where t is at the height of p, as a fraction. Its x is the height of t.
+-- Its y is the distance of t to the right of p at that height, multiplied by the height of t.
 abbrev pub distance_right : Vector → Edge → Vector
 distance_right p t = record { x = t.to.y -ℤ t.from.y; y = cross (from_to p t.from) (from_to p t.to) }
 

@@ -26,8 +26,9 @@ pub record SomeLeafCovers (q : ℤ) (p : Vector) (leaves : List Leaf) : Type 0 w
 abbrev pub IsOffLeafEdges : ℤ → Vector → List Leaf → Type 0
 IsOffLeafEdges q p leaves = All (λ (leaf : Leaf). IsOffList q p leaf.edges) leaves
 
--- If land is asked for: some leaf of land covers a point off the edges of its leaves exactly if an odd number of the kept
--- rings' segments are to the right of it. None of these segments is cancelled.
+-- If land is asked for: take a point off the edges of the leaves of land.
+-- Some of these leaves covers it exactly if an odd number of the kept rings' segments are to the right of it. None of these
+-- segments is cancelled.
 abbrev pub LandLeavesCover : Type 0
 LandLeavesCover =
     (settings : CoastlineSettings) (objects : List Object) (whole : Whole) (right : IsCoastline settings objects whole) → has_land settings.polygons ≡ true →

@@ -39,8 +39,8 @@ PrintedWaterCovers =
     AreTiles right.areas.water_leaves tiles → (q : ℤ) → sign q ≡ Plus → (p : Vector) → All (IsBeyondLeaf q p) right.areas.water_leaves →
     SomePrintCovers q p tiles ↔ SomeLeafCovers q p right.areas.water_leaves
 
--- If land is asked for: the print of some leaf of land covers such a point exactly if an odd number of the kept rings'
--- segments are to the right of it. None of these segments is cancelled.
+-- If land is asked for: the print of some leaf of land covers such a point exactly if a number is odd.
+-- It is that of the kept rings' segments to the right of the point. None of these segments is cancelled.
 abbrev pub PrintedLandIsCoast : Type 0
 PrintedLandIsCoast =
     (settings : CoastlineSettings) (objects : List Object) (whole : Whole) (right : IsCoastline settings objects whole) → has_land settings.polygons ≡ true →

@@ -36,8 +36,7 @@ LineIsOfPrintedRings =
 abbrev pub PrintedIsNear : Type 0
 PrintedIsNear = (polygon : Polygon) → All (IsPrintedRing polygon) (printed_rings polygon)
 
--- if the closed unit square of a point p.x / q, p.y / q meets no edge of a ring, the point is on no edge of what is left of
--- the ring
+-- If the closed unit square of a point p.x / q, p.y / q meets no edge of a ring, the point is off what is left of the ring.
 abbrev pub RoundedRingIsOff : Type 0
 RoundedRingIsOff =
     (k : ℕ) (ring : List Edge) → IsRing ring → IsCommon k ring → (q : ℤ) → sign q ≡ Plus → (p : Vector) → AreBeyondHalf k q p ring →

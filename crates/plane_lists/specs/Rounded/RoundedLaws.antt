@@ -11,7 +11,7 @@ use Rattle.plane_lists.specs.Rounded.Square.{HasNoPointNear, IsNear}
 use Rattle.plane_lists.specs.Lists.EdgeList.{IsBalanced, crossing_count, winding_number}
 use Rattle.plane_lists.specs.Lists.ScaledEdges.{scaled_edges}
 
--- rounding moves a point p.x / m, p.y / m by at most a half in x and in y, or by at most m if all is multiplied by 2 m
+-- Rounding moves a point p.x / m, p.y / m by at most a half in x and in y. That is at most m if all is multiplied by 2 m.
 abbrev pub RoundedIsNear : Type 0
 RoundedIsNear =
     (m : ℕ) → 0 < m → (p : Vector) →
