@@ -12,8 +12,7 @@ use Rattle.area_certify.specs.Areas.{AreThoseWithAreas}
 use Rattle.area_certify.specs.FirstWrong.{HasNoWrong, IsFeature, IsFirstWrong}
 use Rattle.area_certify.specs.Lines.{text_lines}
 
--- The candidate has no area; or it has one, and the next line is its feature with this counter; or it has one, and no
--- such line.
+-- The candidate has no area; or it has one, and the next line is its feature with this counter; or it has one, and no such line.
 abbrev pub TellsNextLine : Option UniqueId → List Object → ℕ → ObjectRef → List (List ℕ) → Told → Type 0
 TellsNextLine ids objects counter candidate lines NoArea = IsSound objects candidate → ⊥
 TellsNextLine ids objects counter candidate lines (Right rest) =

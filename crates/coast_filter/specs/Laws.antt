@@ -14,8 +14,7 @@ use Rattle.osm_input.specs.declared.fault.InputFault.TheVariants.{TooLong}
 use Rattle.opl_writer.specs.ReadBack.Laws.{CanBeInput}
 use Rattle.coast_filter.specs.CoastPart.{coast_part}
 
--- Both have the same coast input: the coast ways that take part, with their paths, and what keeps the others out, in
--- order.
+-- Both have the same coast input: the coast ways that take part, with their paths, and what keeps the others out, in order.
 pub record HaveOneCoastInput (objects others : List Object) : Type 0 where
   pub ways : coast_ways objects ≡ coast_ways others
   pub taking_part : flat_map (lines_taking_part objects) (coast_ways objects) ≡ flat_map (lines_taking_part others) (coast_ways others)

@@ -90,8 +90,8 @@ fn coast_lines(alloc: Global, store: &Store) -> Result<Vec<u8>, OutOfMemory>
 /// location still names its node. If there is no coast, there are no bytes. Fails only if memory runs out.
 pub fn filter(alloc: Global, store: &Store) -> Result<Vec<u8>, OutOfMemory>
     ensures text { IfOk result (λ text. text.items ≡ objects_text (coast_part store.now)) }
-    // If lines spell the objects of the store, as those of an input do, the text tells their coast part and nothing
-    // else. Nothing is wrong with it but that a line may be too long, and it has their coast input.
+    // The text tells the coast part of the objects and nothing else, if lines spell them, as those of an input do.
+    // Nothing is wrong with it but that a line may be too long, and it has their coast input.
     ensures coast { AreSpelled store.now → IfOk result (λ text. TellsCoastOf store.now text.items) }
 {
     // By law: the objects of a store are live and apart.

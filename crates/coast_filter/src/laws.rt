@@ -1,5 +1,6 @@
-//! Laws of the coast part of an input. Each function's contract is the law; the body calls the laws that
-//! it rests on.
+//! Laws of the coast part of an input.
+//!
+//! Each function's contract is the law; the body calls the laws that it rests on.
 
 ghost use Rattle.coast_filter.specs.Laws.{CoastInputStays, CoastPartIsApart, CoastPartIsWritable, CoastPartStays, CoastTextTellsCoast};
 
@@ -22,8 +23,9 @@ pub fn coast_part_is_sound()
     ensures writable { CoastPartIsWritable }
 {}
 
-/// The text of a coast part tells this part and nothing else, and nothing is wrong with it but that a line may be too
-/// long. So as an input it has the coast input of the whole.
+/// As an input, the text of a coast part has the coast input of the whole.
+///
+/// It tells this part and nothing else, and nothing is wrong with it but that a line may be too long.
 pub fn coast_text_tells_the_coast()
     ensures { CoastTextTellsCoast }
 {

@@ -1,5 +1,6 @@
-//! Laws of closed chains and of what gaps give. Each function's contract is the law; the body calls the laws that it
-//! rests on.
+//! Laws of closed chains, and of the rings that gaps give.
+//!
+//! Each function's contract is the law; the body calls the laws that it rests on.
 ghost use Rattle.coast_join.specs.RingLaws.{ClosedEndsDiffer, ClosingsAreOne, ClosingsExist, JoinedExists, JoinedIsOne, RingsBeginLeast};
 
 use crate::gap::Gap;

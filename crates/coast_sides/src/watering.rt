@@ -86,11 +86,10 @@ fn water_edges(alloc: Global, land: Vec<Seg>) -> Result<Edges, OutOfMemory>
     Ok(Edges::from_vec(edges))
 }
 
-/// Water: what is left of land's segments together with the sides of the world's rectangle, directed so that water is on the
-/// left.
+/// Water: what is left of land's segments together with the sides of the world's rectangle.
 ///
-/// Each side is cut at every node of land on it. If there is no land, water is the world. The edges of land are sided, each
-/// along a whole segment, as `land` gives them. Fails only if memory runs out.
+/// It is directed so that water is on the left. Each side is cut at every node of land on it. If there is no land, water is
+/// the world. The edges of land are sided, each along a whole segment, as `land` gives them. Fails only if memory runs out.
 pub fn water(alloc: Global, land: &Edges) -> Result<Edges, OutOfMemory>
     requires whole { All IsWholeSegment land.now }
     requires sided { IsSided land.now }

@@ -88,8 +88,7 @@ NextLink cut z w true rest ls = rest ls
 NextLink cut z w false rest [] = ⊥
 NextLink cut z w false rest (e ∷ ls) = IsLink cut z w e × rest ls
 
--- ls are the edges from z on: there is one between neighbours exactly if an odd number of parts end on the line at or before
--- the lower one
+-- ls are the edges from z on: there is one between neighbours exactly if an odd number of parts end on the line at or before the lower one
 abbrev pub AreLinksFrom : Cut → Side → List Edge → Point → List Point → List Edge → Type 0
 AreLinksFrom cut side ts z [] ls = ls ≡ []
 AreLinksFrom cut side ts z (w ∷ zs) ls =

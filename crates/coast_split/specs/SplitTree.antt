@@ -35,8 +35,7 @@ abbrev pub high_from : Axis → ℤ → List Edge → ℤ
 high_from axis a [] = a
 high_from axis a (e ∷ es) = high_from axis (greater (greater a (ceiling_of (coordinate_of axis e.from))) (ceiling_of (coordinate_of axis e.to))) es
 
--- Where the envelope of a list that isn't empty begins and ends on an axis: at the floor of the least coordinate and at the
--- ceiling of the greatest.
+-- Where the envelope of a list that isn't empty begins and ends on an axis: at the floor of the least coordinate and at the ceiling of the greatest.
 abbrev pub low_of : Axis → List Edge → ℤ
 low_of axis [] = pos 0
 low_of axis (e ∷ es) = low_from axis (floor_of (coordinate_of axis e.from)) (e ∷ es)

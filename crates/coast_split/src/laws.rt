@@ -41,8 +41,9 @@ pub fn leaves_have_edges()
     edge_parts_inside();
 }
 
-/// Without an overlap the leaves part the list: a point off their edges is in one leaf if the list covers it, and else in
-/// none.
+/// Without an overlap the leaves part the list.
+///
+/// A point off their edges is in one leaf if the list covers it, and otherwise in none.
 pub fn leaves_part_the_list()
     ensures { LeavesPart }
 {

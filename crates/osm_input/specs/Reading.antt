@@ -15,8 +15,7 @@ abbrev pub lines_counted : ℕ → ℕ → List ℕ → List (List ℕ)
 lines_counted limit longest bytes =
     if nat_le (length bytes) limit then lines_of bytes else lines_begun longest (take limit bytes)
 
--- What is right for an input of these bytes: its objects if no line is bad and it keeps the limit, its bad place, or that it
--- exceeds the limit.
+-- What is right for an input of these bytes: its objects if no line is bad and it keeps the limit, its bad place, or that it exceeds the limit.
 abbrev pub IsReadAs : ℕ → ℕ → List ℕ → Result (List Object) ReadError → Type 0
 IsReadAs limit longest bytes (Ok objects) =
     (length bytes ≤ limit) × AreGood longest (lines_of bytes) × (objects ≡ objects_told (lines_of bytes))

@@ -97,8 +97,7 @@ read_error ReadFault = Some read.ReadFault
 read_error WriteFault = None
 read_error OutOfMemory = None
 
--- The inputs were taken to their ends if a run came to its end, the contents of its inputs allow no output, or a write
--- failed.
+-- The inputs were taken to their ends if a run came to its end, the contents of its inputs allow no output, or a write failed.
 abbrev pub TookBy : (Outside → Outside → Type 0) → Cause → Outside → Outside → Type 0
 TookBy TookAll by_itself before after = TookAll before after
 TookBy TookAll by_words before after = ⊥

@@ -33,8 +33,7 @@ IsOuter ring = AnchorRuns false ring
 abbrev pub IsInner : List Edge → Type 0
 IsInner ring = AnchorRuns true ring
 
--- at every point p.x / q, p.y / q the signed count of an outer ring is its parity, and that of an inner ring is the negative
--- of it
+-- at every point p.x / q, p.y / q the signed count of an outer ring is its parity, and that of an inner ring is the negative of it
 abbrev pub WindsBySign : Bool → List Edge → Type 0
 WindsBySign outer ring =
     (q : ℤ) → sign q ≡ Plus → (p : Vector) →

@@ -92,8 +92,7 @@ pub record KnownEnclosersAreRight (rs : List (List Edge)) (known : List (Option 
   pub sized : length known ≡ length rs
   pub right : (place encloser : ℕ) → place < length rs → get_or known place None ≡ Some encloser → IsDirectEncloser rs place (Some encloser)
 
--- An edge shows the encloser of an anchor's ring: it is the edge's ring, if that is outer, and otherwise the encloser of
--- that ring.
+-- An edge shows the encloser of an anchor's ring: it is the edge's ring, if that is outer, and otherwise the encloser of that ring.
 pub record IsTeller (rs : List (List Edge)) (a e : RingEdge) : Type 0 where
   pub inside : e.ring < length rs
   pub outer : IsOuter (get_or rs e.ring []) → IsDirectEncloser rs a.ring (Some e.ring)

@@ -9,8 +9,9 @@ use osm_lattice::{Kind, Loc, Seg};
 pub enum Problem {
     /// A member way that isn't held.
     MissingWay { id: i64 },
-    /// A node of a member way's reference without a location: the reference has none of its own, and no node with one is
-    /// held.
+    /// A node of a member way's reference without a location.
+    ///
+    /// The reference has no location of its own, and no node with one is held.
     MissingNode { id: i64 },
     /// No segment is left.
     Nothing,

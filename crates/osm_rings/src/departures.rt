@@ -204,8 +204,8 @@ fn runs_up(edge: &Edge) -> bool {
 pub fn departures<'a>(alloc: Global, edges: &'a [Edge]) -> Result<Vec<Departure<'a>>, OutOfMemory>
     ensures { IfOk result (λ v. AreDepartures edges.now v.items) }
 {
-    // If edges are in order of their lower ends, half is left to be sorted: the departures of those that run up are in
-    // order.
+    // The departures of edges that run up are in order if the edges are in order of their lower ends.
+    // So half is left to be sorted.
     let mut up = Vec::with_capacity(alloc, edges.len())?;
     let mut down = Vec::with_capacity(alloc, edges.len())?;
     for (place, edge) in edges.iter().enumerate() {

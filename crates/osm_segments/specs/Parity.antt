@@ -14,8 +14,7 @@ lesser_at p segs = count_by (λ s. is_eq (loc_cmp s.a p)) segs
 abbrev pub greater_at : Loc → List Seg → ℕ
 greater_at p segs = count_by (λ s. is_eq (loc_cmp s.b p)) segs
 
--- some of the lesser ends from i and the greater ones from j are passed, and the parity at each location of those that are
--- left stays the same
+-- some of the lesser ends from i and the greater ones from j are passed, and the parity at each location of those that are left stays the same
 pub record ArePassed (lower : List Seg) (i i' : ℕ) (upper : List Seg) (j j' : ℕ) : Type 0 where
   pub lesser : i ≤ i'
   pub greater : j ≤ j'

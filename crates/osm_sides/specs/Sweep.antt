@@ -1,5 +1,4 @@
--- The sweep that directs segments: the heights that it reaches, the segments that leave there, the status of a row, and the
--- directions so far.
+-- The sweep that directs segments: the heights that it reaches, the segments that leave there, the status of a row, and the directions so far.
 use Rattle.std.specs.Prelude.{Bool, List, false, insert, length, map, not, slice_index_or, take, true, ℕ, ℤ, ◌+◌, ◌<◌, ◌≡◌, ◌≤◌}
 use Rattle.std.specs.List.{AllWithin}
 use lib.Signed.{lt_z}
@@ -42,15 +41,13 @@ pub record IsEntered (s : Seg) (old new : List Seg) : Type 0 where
   pub after : AllWithin (λ t. not (counted s t) ≡ false) old place (length old)
   pub is : new ≡ insert old place s
 
--- The sweep has reached the height of p: the first k of the segments begin by it and the others don't, and the status is
--- that of all segments.
+-- The sweep has reached the height of p: the first k of the segments begin by it and the others don't, and the status is that of all segments.
 pub record IsSweptTo (p : Vector) (segs : List Seg) (k : ℕ) (status : List Seg) : Type 0 where
   pub begun : AllWithin (λ t. begins_by p.y t ≡ true) segs 0 k
   pub later : AllWithin (λ t. begins_by p.y t ≡ false) segs k (length segs)
   pub is : IsStatus edge_of p segs status
 
--- The sweep has reached some height: the first k of the segments begin by it, and none of the ends before a place is above
--- it.
+-- The sweep has reached some height: the first k of the segments begin by it, and none of the ends before a place is above it.
 pub record IsSweptFrom (segs ends : List Seg) (k next : ℕ) (status : List Seg) : Type 0 where
   pub height : Vector
   pub swept : IsSweptTo height segs k status

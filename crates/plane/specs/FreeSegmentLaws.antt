@@ -13,8 +13,7 @@ MissesBothWays = (s t : Vector) (e : Edge) → Misses s t e → Misses t s e
 abbrev pub InnerPointIsOff : Type 0
 InnerPointIsOff = (s t p : Vector) (e : Edge) → IsBetween s t p → Misses s t e → IsOffEdge p e
 
--- the ray along the segment crosses the edge from all inner points in the same way, since otherwise the edge would meet the
--- segment in between
+-- the ray along the segment crosses the edge from all inner points in the same way, since otherwise the edge would meet the segment in between
 abbrev pub InnerPointsSeeAlike : Type 0
 InnerPointsSeeAlike =
     (s t p q : Vector) (e : Edge) → IsBetween s t p → IsBetween s t q → Misses s t e →

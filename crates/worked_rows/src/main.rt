@@ -1,9 +1,8 @@
-//! Makes the worked runs of the program: each is a row of standard input, in the form that the head of the file `stdin`
-//! describes.
+//! Makes the worked runs of the program, which are the rows of standard input.
 //!
-//! A run is that of `osm_cli` over a host in memory. A line is printed for each row, which ends in `ok` or says what was
-//! wanted and what came. The last line says how many rows went as wanted, and how many didn't. The status is 1 if one
-//! didn't.
+//! The head of the file `stdin` describes their form. A run is that of `osm_cli` over a host in memory. A line is printed
+//! for each row, which ends in `ok` or says what was wanted and what came. The last line says how many rows went as wanted,
+//! and how many didn't. The status is 1 if one didn't.
 #![tactic(auto)]
 
 mod form;

@@ -74,8 +74,7 @@ summary_of all coast = record {
   errors = coast.errors;
 }
 
--- It counts the outcomes of the candidates of these objects, without those that have no tags, and the lines of coastline
--- over the objects.
+-- It counts the outcomes of the candidates of these objects, without those that have no tags, and the lines of coastline over the objects.
 pub record IsSummary (objects : List Object) (summary : Summary) : Type 0 where
   pub all : List Assembled
   pub assembled : AreAssembled objects (candidates (without_lists false) objects) all

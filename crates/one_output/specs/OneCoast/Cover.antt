@@ -47,16 +47,14 @@ WaterLeavesCover =
 abbrev pub leaves_over : ℤ → Vector → List Leaf → ℕ
 leaves_over q p leaves = sum_by (λ (leaf : Leaf). count_at q p leaf.edges % 2) leaves
 
--- Without an overlap no point off the edges is in two leaves of land: it is in one if that number is odd, and in none if it
--- is even.
+-- Without an overlap no point off the edges is in two leaves of land: it is in one if that number is odd, and in none if it is even.
 abbrev pub LandLeavesPart : Type 0
 LandLeavesPart =
     (settings : CoastlineSettings) (objects : List Object) (whole : Whole) (right : IsCoastline settings objects whole) → has_land settings.polygons ≡ true →
     settings.bbox_overlap ≡ 0 → (q : ℤ) → sign q ≡ Plus → (p : Vector) → IsOffLeafEdges q p right.areas.land_leaves →
     pos (leaves_over q p right.areas.land_leaves) ≡ parity_at q p (all_segments right.areas.coast.sorted.kept)
 
--- Of the leaves of water, one covers such a whole point strictly within the world if the number is even, and none if it is
--- odd.
+-- Of the leaves of water, one covers such a whole point strictly within the world if the number is even, and none if it is odd.
 abbrev pub WaterLeavesPart : Type 0
 WaterLeavesPart =
     (settings : CoastlineSettings) (objects : List Object) (whole : Whole) (right : IsCoastline settings objects whole) → has_water settings.polygons ≡ true →

@@ -23,8 +23,7 @@ pub record MakesPolygons (tile : Tile) : Type 0 where
   -- its edges are sided, and each occurs once in the rings; each inner ring is under the outer one that directly encloses it
   pub leaf : IsSided tile.leaf.edges
   pub made : ArePolygons tile.leaf.edges tile.polygons
-  -- the first ring of each polygon is outer and the others are inner and lie in it, as their anchors show; its edges are
-  -- sided
+  -- the first ring of each polygon is outer and the others are inner and lie in it, as their anchors show; its edges are sided
   pub kinds : All HasKinds tile.polygons
   pub around : All IsAroundInners tile.polygons
   pub sided : AreSided tile.polygons

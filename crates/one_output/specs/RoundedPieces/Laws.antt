@@ -31,8 +31,7 @@ LineIsOfPrintedRings =
     (kind : PieceKind) (polygon : Polygon) →
     piece_text kind polygon ≡ (if has_vanished polygon.outer then None else Some (piece_line kind (printed_rings polygon)))
 
--- each printed location of a polygon is at most half a unit away, in x and in y, from a point of the ring that it is printed
--- for
+-- each printed location of a polygon is at most half a unit away, in x and in y, from a point of the ring that it is printed for
 abbrev pub PrintedIsNear : Type 0
 PrintedIsNear = (polygon : Polygon) → All (IsPrintedRing polygon) (printed_rings polygon)
 

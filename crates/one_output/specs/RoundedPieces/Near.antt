@@ -8,8 +8,7 @@ use Rattle.plane.specs.Vector.{Vector}
 use Rattle.osm_geom.specs.InPlane.Multiple.{edges_times}
 use Rattle.plane_lists.specs.Rounded.RoundedLaws.{IsBeyondHalf}
 
--- A whole number is at most a half away from a fraction: its double numerator and that of the number differ by no more than
--- the denominator.
+-- A whole number is at most a half away from a fraction: its double numerator and that of the number differ by no more than the denominator.
 abbrev pub IsWithinHalf : Fraction → ℤ → Type 0
 IsWithinHalf f z = unsigned_abs (pos 2 *ℤ f.num -ℤ pos 2 *ℤ (pos f.den *ℤ z)) ≤ f.den
 

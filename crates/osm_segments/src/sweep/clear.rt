@@ -107,8 +107,9 @@ fn leave(status: &mut ChunkedList<Seg>, s: Seg) -> bool
     }
 }
 
-/// Replaces a segment by one that begins where it ends, if that one fits there and its two neighbours don't conflict with
-/// each other.
+/// Replaces a segment by one that begins where it ends.
+///
+/// It does so if that one fits there and its two neighbours don't conflict with each other.
 fn go_on(status: &mut ChunkedList<Seg>, s: Seg, t: Seg) -> bool
     ensures { result ≡ true → IsFollowed s t status.old status.new }
 {

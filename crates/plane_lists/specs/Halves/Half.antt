@@ -52,8 +52,7 @@ is_up_to l z v = is_null (side l v) && not (is_minus (order_along l v z))
 abbrev pub ends_up_to : Line → List Edge → Vector → ℕ
 ends_up_to l ts z = count_by (λ (t : Edge). is_up_to l z t.from || is_up_to l z t.to) ts
 
--- The edges on the line from z on: there is one between neighbours exactly if an odd number of parts end on the line up to
--- the lower one.
+-- The edges on the line from z on: there is one between neighbours exactly if an odd number of parts end on the line up to the lower one.
 abbrev pub closing_from : Line → List Edge → Vector → List Vector → List Edge
 closing_from l ts z [] = []
 closing_from l ts z (w ∷ zs) =

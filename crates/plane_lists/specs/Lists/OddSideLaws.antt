@@ -19,8 +19,7 @@ EndsAreOff =
     (v : Vector) (s : Edge) (es : List Edge) → IsConflictFree es → In s es → ends_at v s ≡ true →
     All (IsOffEdge v) (away v es)
 
--- an edge runs up exactly if the ray along it from its lower end, past the edges that end there, crosses an odd number of
--- edges
+-- an edge runs up exactly if the ray along it from its lower end, past the edges that end there, crosses an odd number of edges
 abbrev pub RunsUpByRayUp : Type 0
 RunsUpByRayUp =
     (s : Edge) (es : List Edge) → IsConflictFree es → IsEvenAtPoints es → In s es →
@@ -32,8 +31,7 @@ RunsUpByRayDown =
     (s : Edge) (es : List Edge) → IsConflictFree es → IsEvenAtPoints es → In s es →
     runs_up_by_odd_side es s ≡ is_even (crossing_count (from_to s.to s.from) s.to (away s.to es))
 
--- An edge at v leaves it exactly if a number is even: the edges right of v, and the other edges at v in the sector from east
--- to it.
+-- An edge at v leaves it exactly if a number is even: the edges right of v, and the other edges at v in the sector from east to it.
 abbrev pub LeavesByCount : Type 0
 LeavesByCount =
     (v : Vector) (s : Edge) (es : List Edge) → IsConflictFree es → IsEvenAtPoints es → In s es →

@@ -39,8 +39,7 @@ abbrev pub IsPolyline : List Edge → Vector → List Vector → Vector → Type
 IsPolyline es p [] q = IsFreeStep es p q
 IsPolyline es p (c ∷ cs) q = IsFreeStep es p c × IsPolyline es c cs q
 
--- p and q are joined by a polygonal line with rational corners that meets no edge: if all is multiplied by one number, the
--- corners are whole points
+-- p and q are joined by a polygonal line with rational corners that meets no edge: if all is multiplied by one number, the corners are whole points
 pub record Joined (es : List Edge) (p q : Vector) : Type 0 where
   pub multiple : ℤ
   pub positive : sign multiple ≡ Plus

@@ -13,8 +13,7 @@ use Rattle.plane_lists.specs.Lists.Parity.{is_even}
 abbrev pub covers : List Edge → Vector → Bool
 covers es p = not (is_even (crossing_count east p es))
 
--- the parity of the list along the inside of the edge t is odd, by the ray along t from its first end, past the edges that
--- end there
+-- the parity of the list along the inside of the edge t is odd, by the ray along t from its first end, past the edges that end there
 abbrev pub covers_edge : List Edge → Edge → Bool
 covers_edge es t = not (is_even (crossing_count (from_to t.from t.to) t.from (away t.from es)))
 

@@ -9,8 +9,7 @@ use Rattle.plane.specs.Vector.{Vector, from_to}
 use Rattle.lists.specs.Member.{In}
 use Rattle.plane_lists.specs.Lists.Ring.{IsRing, segments_of}
 
--- f is the first edge at v that is met when turning clockwise from e, an edge at v: no other is in the sector from f
--- counterclockwise to e
+-- f is the first edge at v that is met when turning clockwise from e, an edge at v: no other is in the sector from f counterclockwise to e
 pub record IsNextClockwise (v : Vector) (e f : Edge) (es : List Edge) : Type 0 where
   pub member : In f es
   pub meets : ends_at v f ≡ true
@@ -19,8 +18,7 @@ pub record IsNextClockwise (v : Vector) (e f : Edge) (es : List Edge) : Type 0 w
       (g : Edge) → In g es → ends_at v g ≡ true → same_edge e g ≡ false → same_edge f g ≡ false →
       in_sector (from_to v (other_end v f)) (from_to v (other_end v e)) (from_to v (other_end v g)) ≡ 0
 
--- f is the successor of e: the first edge that is met when turning clockwise, at the end of e, from the direction back along
--- it
+-- f is the successor of e: the first edge that is met when turning clockwise, at the end of e, from the direction back along it
 abbrev pub IsSuccessor : List Edge → Edge → Edge → Type 0
 IsSuccessor es e f = IsNextClockwise e.to e f es
 

@@ -7,8 +7,7 @@ use Rattle.plane.specs.Vector.{Vector}
 use Rattle.lists.specs.Member.{In}
 use Rattle.plane_lists.specs.Statuses.Status.{IsStatus}
 
--- What remains of a status: it has the items of old that stay, each of its items once, and none of those before a place of
--- the list.
+-- What remains of a status: it has the items of old that stay, each of its items once, and none of those before a place of the list.
 pub record Remains {X : Type 0} (stays : X → Bool) (ends : List X) (place : ℕ) (old status : List X) : Type 0 where
   pub kept : filter stays status ≡ filter stays old
   pub once : AllPairs (λ (x y : X). x ≢ y) status

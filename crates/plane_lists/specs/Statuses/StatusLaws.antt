@@ -23,8 +23,7 @@ ItemPasses X =
     (edge : X → Edge) (p : Vector) (xs status : List X) (x : X) → IsStatus edge p xs status →
     is_in_span p (edge x) ≡ false → IsStatus edge p (x ∷ xs) status
 
--- if all items that span a second height also span a first one, those that span the second are left of the first one's
--- status
+-- if all items that span a second height also span a first one, those that span the second are left of the first one's status
 abbrev pub StatusRises : Type 0 → Type 0
 StatusRises X =
     (edge : X → Edge) (p q : Vector) (xs status : List X) → IsConflictFree (map edge xs) → IsStatus edge p xs status →

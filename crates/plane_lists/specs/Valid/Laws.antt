@@ -1,5 +1,4 @@
--- The polygons of the one ring list of a sided list are valid, and rings of a valid polygon share at most one point, as
--- statements.
+-- The polygons of the one ring list of a sided list are valid, and rings of a valid polygon share at most one point, as statements.
 use Rattle.std.specs.Prelude.{List, false, ◌≡◌}
 use lib.IntN.{ℤ}
 use Rattle.plane_lists.specs.Rings.Polygon.{ArePolygonsOfRings, IsPolygon, Polygon}

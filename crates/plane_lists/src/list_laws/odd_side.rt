@@ -1,8 +1,9 @@
 //! The odd side.
 ghost use Rattle.plane_lists.specs.Lists.OddSideLaws.{EndsAreOff, RunsUpByRayUp, RunsUpByRayDown, LeavesByCount, DirectedIsBalanced, DirectedWindsByParity, DirectedIsSided, SidedIsDirected};
 
-/// The odd side's direction of an edge, by rays: along the edge from its lower end, back from its upper end, and to the
-/// right from either end.
+/// The odd side's direction of an edge, by rays.
+///
+/// They run along the edge from its lower end, back from its upper end, and to the right from either end.
 pub fn odd_side_by_rays()
     ensures ends { EndsAreOff }
     ensures up { RunsUpByRayUp }
