@@ -29,7 +29,7 @@ pub record IsFeature (ids : Option UniqueId) (objects : List Object) (counter : 
 abbrev pub EndsInNewline : List ℕ → Type 0
 EndsInNewline line = (front : List ℕ) × (line ≡ front ++ codes "\n")
 
--- the line after so many earlier ones is right: it is the feature of the next candidate with an area
+-- the line after `earlier` others is right: it is the feature of the next candidate with an area
 pub record IsRightLine (ids : Option UniqueId) (objects : List Object) (areas : List ObjectRef) (earlier : ℕ) (line : List ℕ) : Type 0 where
   pub candidate : ObjectRef
   pub place : slice_get areas earlier ≡ Some candidate

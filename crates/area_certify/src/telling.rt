@@ -35,7 +35,7 @@ pub(crate) fn tell<'a>(
     requires held { IsSome (object_at store.now candidate) }
     ensures { IfOk result (IsLineTold ids store.now counter candidate (text_lines text.now)) }
 {
-    // By law: it has one outcome alone.
+    // By law: it has at most one outcome.
     outcome_is_one();
     let Some(polygons) = area_of(alloc, store, candidate)? else {
         return Ok(Told::NoArea);

@@ -115,7 +115,7 @@ fn places_of(alloc: Global, sites: &[Site], chains: usize) -> Result<Vec<usize>,
     Ok(places)
 }
 
-/// The tree over sites of so many chains, none of which is marked.
+/// The tree over sites of `chains` chains, none of which is marked.
 pub(crate) fn site_tree(
     alloc: Global,
     mut sites: Vec<Site>,

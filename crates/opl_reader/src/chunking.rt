@@ -8,7 +8,7 @@ pub fn nothing_is_fed_at_first()
     ensures { NothingFed }
 {}
 
-/// One call of `feed` hands out what the bytes that it used tell, after those fed before.
+/// One call of `feed` hands out the objects of the bytes that it used, after those fed before.
 pub fn one_more_piece_is_read()
     ensures { OneMorePiece }
 {}

@@ -16,7 +16,7 @@ use crate::place::{x_spelled, y_spelled};
 use osm_elements::ObjectKind;
 use std::alloc::Global;
 
-/// What a field's letter stands for.
+/// What a field's letter means.
 #[derive(Clone, Copy, Debug, PartialEq, Eq)]
 pub enum Meaning {
     /// A number that isn't kept: v, c or i.

@@ -34,7 +34,7 @@ kind_letter Relation = codes "r"
 abbrev pub member_text : Member → List ℕ
 member_text m = kind_letter m.kind ++ signed_decimal m.id ++ codes "@" ++ written m.role
 
--- ---- fields, each behind a space
+-- ---- fields, each after a space
 
 -- a letter and the items separated by commas; nothing if there are no items
 abbrev pub items_field : List ℕ → List (List ℕ) → List ℕ

@@ -32,7 +32,7 @@ pub fn written_lines_read_back()
     lines_have_one_answer();
 }
 
-/// The lines of a text of written objects are the lines of these objects, in order, and tell them.
+/// The lines of a text of written objects are the lines of these objects, in order, and spell them.
 pub fn written_texts_read_back()
     ensures lines { (objects : List Object) → All IsWritable objects
         → lines_of (objects_text objects) ≡ map object_line objects }

@@ -1,4 +1,4 @@
--- What cutting a closed walk does with each item. No public contract cites it.
+-- What cutting a closed walk does with each item. No public contract cites this.
 use Rattle.std.specs.Prelude.{◌≡◌, ℕ, ◌++◌, ◌∷◌, [], ◌&&◌, nat_eq, nat_lt, List, length, take, drop, Bool, slice_index, slice_set, if◌then◌else◌}
 
 -- the stack has an item at this depth that leaves this key

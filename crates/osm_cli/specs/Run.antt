@@ -74,7 +74,7 @@ abbrev pub Spares : Result Job WordsFault → Ended → Outside → Outside → 
 Spares (Ok job) ended before after = makes_first job ≡ true → SparesOutput (inputs_of job) ended before after
 Spares (Err fault) ended before after = Unit {0}
 
--- ---- why it ended so
+-- ---- the cause of its ending
 
 -- Words are refused exactly if they are faulty, and then with their fault, unless memory ran out.
 abbrev pub JudgesWords : Result Job WordsFault → Ended → Type 0

@@ -40,7 +40,7 @@ preceded more (Some items) = Some (more ++ items)
 abbrev pub risen : ℕ → ℕ
 risen count = min (count + 1) (2 ^ 64 - 1)
 
--- a count raised by so many, or at its last value; it never falls
+-- a count raised by `more`, or at its last value; it never falls
 abbrev pub grown : ℕ → ℕ → ℕ
 grown count more = min (count + more) (max count (2 ^ 64 - 1))
 

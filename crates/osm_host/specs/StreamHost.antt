@@ -21,7 +21,7 @@ stream_outside host = record {
   bytes_read = host.bytes_read;
 }
 
--- ---- what its parts hold, where they tell it
+-- ---- what its parts hold, if it is known
 
 -- the opens that the opener was asked for
 abbrev pub files_asked : {D R W I O E : Type 0} → (D → Option (List Opened)) → StreamHost D R W I O E → Option (List Opened)

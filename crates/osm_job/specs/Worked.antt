@@ -50,7 +50,7 @@ ReadThenWrote name opened IsRight ended before after =
 
 -- ---- an input and a text, then any outputs
 
--- what is right over the objects of the one and the text of the other
+-- what is right over the objects of the input and over the text
 abbrev pub OverBoth : (List Object → List ℕ → Whole → Type 0) → (file text : List ℕ) → Texts (file ∷ text ∷ []) → Whole → Type 0
 OverBoth IsRight file text texts whole = IsReadThen (λ objects right. IsTextThen (IsRight objects) texts.1.0 right) texts.0 whole
 

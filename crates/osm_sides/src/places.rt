@@ -51,7 +51,7 @@ fn place_by(is_level: bool, is_passed: bool, is_odd: bool) -> Place
 }
 
 /// Whether a segment of the status passes through `p`.
-/// Those from a place on are right of it, so the last one before them tells.
+/// Those from a place on are right of it, so the last one before them decides.
 fn is_passed(status: &ChunkedList<Seg>, from: usize, p: Loc) -> bool
     requires status { (segs : List Seg) × IsStatus edge_of (vector_of p) segs status.now }
     requires within { from ≤ length status.now }

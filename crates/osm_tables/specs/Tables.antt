@@ -16,7 +16,7 @@ abbrev pub code_of : List Row → ℕ → Option ℕ
 code_of [] key = None
 code_of (r ∷ rows) key = if r.key == key then Some r.code else code_of rows key
 
--- ---- what stands in the tables
+-- ---- the contents of the tables
 
 -- keys and their codes, in order
 abbrev pub table : List ℕ → List ℕ → List Row

@@ -66,7 +66,7 @@ IsInterior k p g = IsInside (scaled_edges k (polygon_edges g)) p
 abbrev pub IsExterior : ℤ → Vector → Polygon → Type 0
 IsExterior k p g = IsOutside (scaled_edges k (polygon_edges g)) p
 
--- some polygonal line from the one point to the other meets none of the rings
+-- some polygonal line from one point to the other meets none of the rings
 abbrev pub AreJoinedOff : Polygon → ℤ → Vector → Vector → Type 0
 AreJoinedOff g k p q = Joined (scaled_edges k (polygon_edges g)) p q
 
