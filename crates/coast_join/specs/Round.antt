@@ -18,7 +18,7 @@ is_same_location p q = is_eq (loc_cmp p q)
 abbrev pub once : List Loc → List Loc
 once path = dedup is_same_location path
 
--- without the last location, if it is the first again
+-- without the last location, where it is the first again
 abbrev pub opened : List Loc → List Loc
 opened path = if is_same_location (last_location path) (first_location path) then front_of path else path
 
