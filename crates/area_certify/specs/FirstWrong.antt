@@ -19,7 +19,7 @@ use Rattle.area_certify.specs.Lines.{text_lines}
 
 -- ---- a right line
 
--- the line, with its LF, is the feature of the candidate's area over some polygons that come of it
+-- the line, with its LF, is the feature of the candidate's area over some polygons that the area may have
 pub record IsFeature (ids : Option UniqueId) (objects : List Object) (counter : ℕ) (candidate : ObjectRef) (line : List ℕ) : Type 0 where
   pub polygons : List Polygon
   pub notes : List Note
@@ -29,26 +29,26 @@ pub record IsFeature (ids : Option UniqueId) (objects : List Object) (counter : 
 abbrev pub EndsInNewline : List ℕ → Type 0
 EndsInNewline line = (front : List ℕ) × (line ≡ front ++ codes "\n")
 
--- the line with so many lines before it is right: so many candidates with an area stand before one more, whose feature it is
+-- the line after `earlier` others is right: it is the feature of the next candidate with an area
 pub record IsRightLine (ids : Option UniqueId) (objects : List Object) (areas : List ObjectRef) (earlier : ℕ) (line : List ℕ) : Type 0 where
   pub candidate : ObjectRef
   pub place : slice_get areas earlier ≡ Some candidate
   pub ended : EndsInNewline line
   pub feature : IsFeature ids objects (earlier + 1) candidate line
 
--- the first so many lines are right
+-- the first `count` lines are right
 abbrev pub AreRight : Option UniqueId → List Object → List ObjectRef → List (List ℕ) → ℕ → Type 0
 AreRight ids objects areas lines count = (k : ℕ) (line : List ℕ) → k < count → slice_get lines k ≡ Some line → IsRightLine ids objects areas k line
 
 -- ---- all lines
 
--- all lines are right, and no candidate with an area is without one
+-- all lines are right, and every candidate with an area has one
 pub record HasNoWrong (ids : Option UniqueId) (objects : List Object) (areas : List ObjectRef) (lines : List (List ℕ)) : Type 0 where
   pub right : AreRight ids objects areas lines (length lines)
   pub as_many : length lines ≡ length areas
 
--- The first wrong line is the first that isn't right; or the one behind the last, where all are right and fewer than the
--- candidates with an area. Its number counts from 1.
+-- The first wrong line is the first that isn't right.
+-- If all are right and fewer than the candidates with an area, it is the one after the last. Its number counts from 1.
 pub data IsFirstWrong (ids : Option UniqueId) (objects : List Object) (areas : List ObjectRef) (lines : List (List ℕ)) (number : ℕ) : Type 0 where
   not_right : (earlier : ℕ) (line : List ℕ) → slice_get lines earlier ≡ Some line → (IsRightLine ids objects areas earlier line → ⊥) →
       AreRight ids objects areas lines earlier → number ≡ earlier + 1 → IsFirstWrong ids objects areas lines number

@@ -5,7 +5,7 @@ use Rattle.osm_objects.specs.declared.choice.Choice.{Choice}
 use Rattle.osm_objects.specs.declared.area.UniqueId.{UniqueId}
 use Rattle.area_certify.specs.FirstWrong.{HasNoWrongLine, IsFirstWrongLine}
 
--- a text has one first wrong line at most
+-- a text has at most one first wrong line
 abbrev pub FirstWrongLineIsOne : Type 0
 FirstWrongLineIsOne =
     (choice : Choice) (ids : Option UniqueId) (objects : List Object) (text : List ℕ) (m n : ℕ) →

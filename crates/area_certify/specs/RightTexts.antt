@@ -1,4 +1,4 @@
--- Texts without a wrong line, as the whole of what is to be written.
+-- Texts without a wrong line, as the whole of what an export writes.
 use Rattle.std.specs.Prelude.{◌≡◌, ◌↔◌, ◌+◌, ◌++◌, ℕ, List, [], ◌∷◌, Option}
 use Rattle.osm_elements.specs.declared.object.Object.{Object}
 use Rattle.osm_elements.specs.declared.object.ObjectRef.{ObjectRef}
@@ -8,7 +8,7 @@ use Rattle.osm_objects.specs.declared.area.UniqueId.{UniqueId}
 use Rattle.area_certify.specs.Areas.{AreThoseWithAreas}
 use Rattle.area_certify.specs.FirstWrong.{HasNoWrongLine, IsFeature}
 
--- the features of these candidates, the first with this counter, one behind the other
+-- the features of these candidates, one after the other, the first with this counter
 abbrev pub AreFeatures : Option UniqueId → List Object → ℕ → List ObjectRef → List ℕ → Type 0
 AreFeatures ids objects counter [] text = text ≡ []
 AreFeatures ids objects counter (candidate ∷ areas) text =
@@ -21,7 +21,7 @@ IsRightText choice ids objects text =
 
 -- ---- laws
 
--- a text has no wrong line exactly where it is these features
+-- a text has no wrong line exactly if it is these features
 abbrev pub RightTextsAreFeatures : Type 0
 RightTextsAreFeatures =
     (choice : Choice) (ids : Option UniqueId) (objects : List Object) (text : List ℕ) → HasNoWrongLine choice ids objects text ↔ IsRightText choice ids objects text

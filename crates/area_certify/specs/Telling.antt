@@ -1,4 +1,4 @@
--- Words of private clauses on what a candidate tells of the lines that are left. No public contract cites it.
+-- Words of private clauses on what a candidate says about the lines that are left. No public contract cites them.
 use Rattle.std.specs.Prelude.{◌≡◌, ℕ, List, ◌∷◌, Option}
 use Rattle.osm_elements.specs.declared.object.Object.{Object}
 use Rattle.osm_elements.specs.declared.object.ObjectRef.{ObjectRef}
@@ -12,7 +12,7 @@ use Rattle.area_certify.specs.Areas.{AreThoseWithAreas}
 use Rattle.area_certify.specs.FirstWrong.{HasNoWrong, IsFeature, IsFirstWrong}
 use Rattle.area_certify.specs.Lines.{text_lines}
 
--- The candidate has no area; or it has one, and the next line is its feature with this counter, or isn't.
+-- The candidate has no area; or it has one, and the next line is its feature with this counter; or it has one, and no such line.
 abbrev pub TellsNextLine : Option UniqueId → List Object → ℕ → ObjectRef → List (List ℕ) → Told → Type 0
 TellsNextLine ids objects counter candidate lines NoArea = IsSound objects candidate → ⊥
 TellsNextLine ids objects counter candidate lines (Right rest) =

@@ -50,10 +50,12 @@ fn compare(
 
 /// Whether a text is right: whether its lines are the features in format text of the candidates with an area, in order.
 ///
-/// The candidates are those that the choice takes among the objects of the store. `Yes` comes exactly where all lines are
-/// right and none is lacking, and `No` exactly with the number of the first wrong line, from 1: the first that isn't right,
-/// or the one behind the last, where one is lacking. A last line without LF isn't right. No line is copied, and of the
-/// features one is held at a time. The error is want of memory.
+/// The candidates are those that the choice takes among the objects of the store. `Yes` comes exactly if all lines are
+/// right and none is missing. `No` comes exactly with the number of the first wrong line, counted from 1. That is the
+/// first line that isn't right, or the one after the last, if a line is missing there. A last line without LF isn't
+/// right.
+///
+/// No line is copied, and one feature is held at a time. Fails only if memory runs out.
 pub fn certify(
     alloc: Global,
     store: &Store,

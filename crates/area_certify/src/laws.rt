@@ -5,7 +5,7 @@ ghost use Rattle.area_certify.specs.RightTexts.{RightTextsAreFeatures, RightText
 
 use osm_area::{has_area_exactly, outcome_exists, outcome_is_one};
 
-/// A text has one first wrong line at most.
+/// A text has at most one first wrong line.
 pub fn first_wrong_line_is_one()
     ensures { FirstWrongLineIsOne }
 {}
@@ -19,17 +19,17 @@ pub fn texts_have_a_verdict()
     outcome_is_one();
 }
 
-/// No text has both.
+/// No text both has a first wrong line and has none.
 pub fn verdicts_exclude()
     ensures { VerdictsExclude }
 {}
 
-/// The texts without a wrong line are the features of the candidates with an area, one behind the other.
+/// The texts without a wrong line are the features of the candidates with an area, one after the other.
 pub fn right_texts_are_features()
     ensures { RightTextsAreFeatures }
 {}
 
-/// For all objects and settings there is such a text.
+/// For all objects and settings there is a text without a wrong line.
 pub fn right_texts_exist()
     ensures { RightTextsExist }
 {

@@ -1,7 +1,7 @@
 //! The certifier: whether a text of areas, whoever made it, is right for the objects of an input, line by line.
 //!
-//! A line is right where it is the feature in format text of the candidate at its place among those with an area. As a
-//! candidate has one outcome alone, there is one right line at each place.
+//! A line is right if it is the feature in format text of the candidate at its place among those with an area. A
+//! candidate has exactly one outcome, so there is one right line at each place.
 #![tactic(auto)]
 
 mod certifying;

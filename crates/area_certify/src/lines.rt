@@ -5,7 +5,7 @@ ghost use Rattle.area_certify.specs.Lines.{text_lines};
 
 use memchr::memchr;
 
-/// The first line of a text, with the LF that ends it, and what stands behind it. None where nothing is left.
+/// The first line of a text, with the LF that ends it, and the text after it. None if nothing is left.
 pub(crate) fn first_line(text: &[u8]) -> Option<(&[u8], &[u8])>
     ensures { MatchOption result (text_lines text.now ≡ [])
         (λ x. text_lines text.now ≡ x.0.now ∷ text_lines x.1.now) }

@@ -1,4 +1,4 @@
-//! What a candidate tells of the lines that are left.
+//! What a candidate says about the lines that are left.
 
 ghost use Rattle.std.specs.Prelude.{IfOk, IsSome};
 ghost use Rattle.osm_objects.specs.Objects.{object_at};
@@ -12,14 +12,14 @@ use osm_elements::ObjectRef;
 use osm_objects::{Store, UniqueId};
 use std::alloc::{AllocError as OutOfMemory, Global};
 
-/// What a candidate tells.
+/// What a candidate says about the lines that are left.
 #[derive(Clone, Copy)]
 pub(crate) enum Told<'a> {
-    /// It has no area, so none of the lines is its.
+    /// It has no area, so none of the lines belongs to it.
     NoArea,
-    /// The next line is its feature, and this is left behind it.
+    /// The next line is its feature, and this text follows it.
     Right { rest: &'a [u8] },
-    /// It has an area, and the next line isn't its feature, or there is none.
+    /// It has an area, but there is no next line, or that line isn't its feature.
     Wrong,
 }
 
@@ -35,7 +35,7 @@ pub(crate) fn tell<'a>(
     requires held { IsSome (object_at store.now candidate) }
     ensures { IfOk result (IsLineTold ids store.now counter candidate (text_lines text.now)) }
 {
-    // By law: it has one outcome alone.
+    // By law: it has at most one outcome.
     outcome_is_one();
     let Some(polygons) = area_of(alloc, store, candidate)? else {
         return Ok(Told::NoArea);

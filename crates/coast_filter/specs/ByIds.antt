@@ -1,4 +1,4 @@
--- Nodes and ways looked up by their ids, as the code takes them. Only private clauses cite it.
+-- Nodes and ways looked up by their ids, as the code takes them. Only private clauses cite them.
 use Rattle.std.specs.Prelude.{◌≡◌, ℕ, ℤ, List, [], filter}
 use Rattle.std.specs.List.{list_any}
 use Rattle.std.specs.Option.{option_map_or}
@@ -8,11 +8,11 @@ use Rattle.opl_writer.specs.Written.{ended, node_line, way_line}
 use Rattle.osm_objects.specs.Objects.{node_of, way_of}
 use Rattle.coast_filter.specs.CoastPart.{nodes_named}
 
--- the same ids stand in both lists, maybe not as often
+-- the same ids occur in both lists, maybe not equally often
 abbrev pub HaveSame : List ℤ → List ℤ → Type 0
 HaveSame xs ys = (id : ℤ) → list_any (int_eq id) xs ≡ list_any (int_eq id) ys
 
--- the ids that stand among the names, in order
+-- the ids that are among the names, in order
 abbrev pub among : List ℤ → List ℤ → List ℤ
 among names ids = filter (λ id. list_any (int_eq id) names) ids
 

@@ -1,4 +1,4 @@
--- The coast part of an input: its coast ways, and those of its nodes that they name.
+-- The coast part of an input: its coast ways, and the nodes of the input that they name.
 use Rattle.std.specs.Prelude.{Bool, false, List, [], ◌++◌, map, filter, ℤ}
 use Rattle.std.specs.List.{flat_map, list_any}
 use Rattle.std.specs.Ordering.{int_eq}
@@ -7,7 +7,7 @@ use Rattle.osm_elements.specs.declared.object.Object.{Object}
 use Rattle.osm_elements.specs.declared.object.Object.TheVariants as object
 use Rattle.osm_objects.specs.CoastWays.{is_coast_way}
 
--- the nodes that references name, in order, be they located or not
+-- the nodes that references name, in order, whether located or not
 abbrev pub nodes_named : List Ref → List ℤ
 nodes_named refs = map (λ r. r.node) refs
 
@@ -27,6 +27,6 @@ is_named objects (object.Node id live tags place) = list_any (int_eq id) (coast_
 is_named objects (object.Way id live tags refs) = false
 is_named objects (object.Relation id live tags members) = false
 
--- these nodes in input order, and behind them the coast ways in input order
+-- these nodes in input order, and after them the coast ways in input order
 abbrev pub coast_part : List Object → List Object
 coast_part objects = filter (is_named objects) objects ++ filter is_coast_way objects

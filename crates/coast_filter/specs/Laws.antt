@@ -14,7 +14,7 @@ use Rattle.osm_input.specs.declared.fault.InputFault.TheVariants.{TooLong}
 use Rattle.opl_writer.specs.ReadBack.Laws.{CanBeInput}
 use Rattle.coast_filter.specs.CoastPart.{coast_part}
 
--- The coast input of both is the same: the coast ways that take part, with their paths, and what keeps the others from it, in order.
+-- Both have the same coast input: the coast ways that take part, with their paths, and what keeps the others out, in order.
 pub record HaveOneCoastInput (objects others : List Object) : Type 0 where
   pub ways : coast_ways objects ≡ coast_ways others
   pub taking_part : flat_map (lines_taking_part objects) (coast_ways objects) ≡ flat_map (lines_taking_part others) (coast_ways others)
@@ -28,15 +28,16 @@ CoastInputStays = (objects : List Object) → AreApart objects → HaveOneCoastI
 abbrev pub CoastPartStays : Type 0
 CoastPartStays = (objects : List Object) → coast_part (coast_part objects) ≡ coast_part objects
 
--- no two of it have one kind and id either
+-- in it, too, no two objects have one kind and id
 abbrev pub CoastPartIsApart : Type 0
 CoastPartIsApart = (objects : List Object) → AreApart objects → AreApart (coast_part objects)
 
--- a line can spell each of it, where one can spell each of them
+-- a line can spell each object of it, if one can spell each of the input
 abbrev pub CoastPartIsWritable : Type 0
 CoastPartIsWritable = (objects : List Object) → All IsWritable objects → All IsWritable (coast_part objects)
 
--- What a text tells as an input: the coast part of these objects and no more, with nothing wrong but lines that are too long; and it has their coast input.
+-- What a text tells as an input: the coast part of these objects and nothing else.
+-- Nothing is wrong but lines that are too long, and it has their coast input.
 pub record TellsCoastOf (objects : List Object) (text : List ℕ) : Type 0 where
   pub told : objects_told (lines_of text) ≡ coast_part objects
   pub bad : (longest number : ℕ) (fault : InputFault) → IsBadPlace longest (lines_of text) number fault → fault ≡ TooLong

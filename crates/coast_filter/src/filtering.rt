@@ -80,20 +80,22 @@ fn coast_lines(alloc: Global, store: &Store) -> Result<Vec<u8>, OutOfMemory>
     Ok(text)
 }
 
-/// The coast of a store as OPL: a line for each node that a reference of a coast way names, in input order, and behind
-/// them a line for each coast way, in input order. A coast way is one tagged `natural=coastline` (OpenStreetMap wiki,
+/// The coast of a store as OPL: its coast ways and the nodes that they name.
+///
+/// First comes a line for each node that a reference of a coast way names, in input order. Then comes a line for each
+/// coast way, in input order. A coast way is one tagged `natural=coastline` (OpenStreetMap wiki,
 /// Tag:natural=coastline).
 ///
 /// Tags are kept, and so are nodes without a location and references' own locations. A reference that has its own
-/// location still names its node. Where there is no coast, there are no bytes. The error is want of memory.
+/// location still names its node. If there is no coast, there are no bytes. Fails only if memory runs out.
 pub fn filter(alloc: Global, store: &Store) -> Result<Vec<u8>, OutOfMemory>
     ensures text { IfOk result (λ text. text.items ≡ objects_text (coast_part store.now)) }
-    // Where lines spell the objects of the store, as those of an input, the text tells their coast part and no more, nothing
-    // is wrong with it but that a line may be too long, and it has their coast input.
+    // The text tells the coast part of the objects and nothing else, if lines spell them, as those of an input do.
+    // Nothing is wrong with it but that a line may be too long, and it has their coast input.
     ensures coast { AreSpelled store.now → IfOk result (λ text. TellsCoastOf store.now text.items) }
 {
-    // By law: the objects of a store are live and apart, so they can be written where lines spell them, and what is written
-    // is read back.
+    // By law: the objects of a store are live and apart.
+    // So they can be written if lines spell them, and what is written is read back.
     store.one_of_each();
     spelled_objects_can_be_written();
     coast_text_tells_the_coast();

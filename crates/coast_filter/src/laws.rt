@@ -1,12 +1,13 @@
-//! Laws of the coast part of an input. Each function's contract is the law; the body calls the laws that
-//! it rests on.
+//! Laws of the coast part of an input.
+//!
+//! Each function's contract is the law; the body calls the laws that it rests on.
 
 ghost use Rattle.coast_filter.specs.Laws.{CoastInputStays, CoastPartIsApart, CoastPartIsWritable, CoastPartStays, CoastTextTellsCoast};
 
 use opl_writer::read_back::written_inputs_are_read;
 
-/// The coast part of an input has its coast input: the same coast ways take part, with the same paths, and the same are set
-/// aside, in the same order, for the same reasons.
+/// The coast part of an input has its coast input: the same coast ways take part, with the same paths.
+/// The same ones are set aside, in the same order, for the same reasons.
 pub fn coast_input_stays()
     ensures { CoastInputStays }
 {}
@@ -16,14 +17,15 @@ pub fn coast_part_stays()
     ensures { CoastPartStays }
 {}
 
-/// The objects of a coast part are apart where those of the input are, and can be written where those can.
+/// The objects of a coast part are apart if those of the input are, and can be written if those can.
 pub fn coast_part_is_sound()
     ensures apart { CoastPartIsApart }
     ensures writable { CoastPartIsWritable }
 {}
 
-/// The text of a coast part tells this part and no more, and nothing is wrong with it but that a line may be too long. So as an
-/// input it has the coast input of the whole.
+/// As an input, the text of a coast part has the coast input of the whole.
+///
+/// It tells this part and nothing else, and nothing is wrong with it but that a line may be too long.
 pub fn coast_text_tells_the_coast()
     ensures { CoastTextTellsCoast }
 {

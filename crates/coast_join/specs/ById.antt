@@ -1,4 +1,4 @@
--- The places of a list in order of the ids that stand there.
+-- The places of a list, in order of the ids at them.
 use Rattle.std.specs.Prelude.{ℕ, ℤ, pos, List, length, map, slice_index_or}
 use Rattle.std.specs.List.{range_with_len}
 use Rattle.std.specs.List.Sorted.{IsPermutation}
@@ -8,7 +8,7 @@ use Rattle.lists.specs.Rising.{IsRising}
 abbrev pub id_at : List ℤ → ℕ → ℤ
 id_at ids i = slice_index_or ids i (pos 0)
 
--- each place once, by ids that rise
+-- each place once, in order of id
 pub record AreById (ids : List ℤ) (order : List ℕ) : Type 0 where
   pub each : IsPermutation (range_with_len 0 (length ids)) order
   pub rising : IsRising int_cmp (map (id_at ids) order)

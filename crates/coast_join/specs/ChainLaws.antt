@@ -13,11 +13,11 @@ abbrev pub UnclosedEndsDiffer : Type 0
 UnclosedEndsDiffer = (ways : List CoastWay) (chains : List Chain) → AreChains ways chains → (c d : Chain) → Contains chains c → Contains chains d →
     c.closed ≡ false → d.closed ≡ false → last_location c.path ≢ first_location d.path
 
--- chains stand in order of name
+-- chains are in order of name
 abbrev pub NamesRise : Type 0
 NamesRise = (ways : List CoastWay) (chains : List Chain) → AreChains ways chains → IsRising int_cmp (map (λ (c : Chain). c.name) chains)
 
--- of ways there is one list of chains
+-- ways have at most one list of chains
 abbrev pub ChainsAreOne : Type 0
 ChainsAreOne = (ways : List CoastWay) (c d : List Chain) → AreChains ways c → AreChains ways d → c ≡ d
 
@@ -29,7 +29,7 @@ ChainsExist = (ways : List CoastWay) → IsDistinct int_eq (map (λ (w : CoastWa
 abbrev pub ClosedNamesAreLeast : Type 0
 ClosedNamesAreLeast = (ways : List CoastWay) (chains : List Chain) → AreChains ways chains → (c : Chain) → Contains chains c → c.closed ≡ true → All (λ id. c.name ≤ℤ id) c.ways
 
--- each way stands in the chains as often as among the ways: once
+-- each way occurs in the chains as often as among the ways: once
 abbrev pub WaysStandOnce : Type 0
 WaysStandOnce = (ways : List CoastWay) (chains : List Chain) → AreChains ways chains → (id : ℤ) →
     sum_by (λ (c : Chain). count_by (int_eq id) c.ways) chains ≡ count_by (int_eq id) (map (λ (w : CoastWay). w.id) ways)

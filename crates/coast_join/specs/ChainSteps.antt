@@ -1,4 +1,4 @@
--- What putting ways together goes by. No public contract cites it.
+-- Words of private clauses on putting ways together. No public contract cites them.
 use Rattle.std.specs.Prelude.{◌≡◌, ◌<◌, ◌-◌, ℕ, suc, Bool, true, All, List, [], length, map, slice_index_or}
 use Rattle.osm_lattice.specs.declared.loc.Loc.{Loc}
 use Rattle.coast_join.specs.declared.chain.Chain.{Chain}
@@ -17,7 +17,7 @@ ways_at ways places = map (member ways) places
 abbrev pub path_at : List (List Loc) → ℕ → List Loc
 path_at paths k = slice_index_or paths k []
 
--- lines of which each ends where the next starts, and the last where the first does if they are closed
+-- lines of which each ends where the next starts, and, if they are closed, the last where the first starts
 pub record AreLinked (closed : Bool) (paths : List (List Loc)) : Type 0 where
   pub some : 0 < length paths
   pub lines : All IsLine paths

@@ -22,18 +22,21 @@ way_path_of w = record { id = w.id; path = w.path }
 abbrev pub line_at : List WayPath → ℕ → WayPath
 line_at lines i = slice_index_or lines i (record { id = pos 0; path = [] })
 
--- the paths one after the other, the location that two share once: each path without its last location, and then that of the last one, unless the whole is closed
+-- The paths one after the other, with the location that two share only once: each path without its last location.
+-- The last path keeps its own, unless the whole is closed.
 abbrev pub joined_path : Bool → List (List Loc) → List Loc
 joined_path closed paths = flat_map front_of paths ++ (if closed then [] else last_location (slice_index_or paths (length paths - 1) []) ∷ [])
 
--- the chain of an orbit, which is told by places in a list of lines
+-- the chain of an orbit, which is a list of places in a list of lines
 pub record IsChain (lines : List WayPath) (next : List (Option ℕ)) (orbit : List ℕ) (chain : Chain) : Type 0 where
   pub ways : chain.ways ≡ map (λ i. (line_at lines i).id) orbit
   pub name : chain.name ≡ (line_at lines (slice_index orbit 0)).id
   pub closed : chain.closed ≡ is_some (after next (last_number orbit))
   pub path : chain.path ≡ joined_path chain.closed (map (λ i. (line_at lines i).path) orbit)
 
--- the chains of ways: the ways are put in order of id; at each location the i-th that ends there goes on to the i-th that starts there; the chains are the orbits, in order of their first ways, each cycle begun at its least
+-- The chains of ways. The ways are put in order of id.
+-- At each location the i-th way that ends there goes on to the i-th that starts there. The chains are the orbits, in order
+-- of their first ways, and each cycle begins at its least way.
 pub record AreChains (ways : List CoastWay) (chains : List Chain) : Type 0 where
   pub sorted : List WayPath
   pub same : IsPermutation (map way_path_of ways) sorted

@@ -40,7 +40,7 @@ unfoldable pub gap_between : ℕ → OpenEnds → OpenEnds → Option Gap
 gap_between limit from to =
     if nat_lt (square_between from.end to.start) (limit * limit) then Some (record { square = square_between from.end to.start; from_chain = from.chain; to_chain = to.chain }) else None
 
--- all pairs of the end of an unclosed chain and the start of one, the same included, that are nearer than the limit
+-- all pairs of the end of an unclosed chain and the start of the same or another one that are nearer than the limit
 abbrev pub near_pairs : ℕ → List OpenEnds → List Gap
 near_pairs limit ends = flat_map (λ from. filter_map (gap_between limit from) ends) ends
 

@@ -1,4 +1,4 @@
--- What joining chains goes by. No public contract cites it.
+-- Words of private clauses on joining chains. No public contract cites them.
 use Rattle.std.specs.Prelude.{◌≡◌, ◌≢◌, ◌↔◌, ◌<◌, ℕ, All, Contains, if◌then◌else◌, List, length, Option, Some}
 use Rattle.std.specs.List.{slice_get}
 use Rattle.orbits.specs.Orbits.{after}
@@ -13,7 +13,7 @@ pub record AreGapLinks (gaps : List Gap) (n : ℕ) (links : List (Option ℕ)) :
   pub sized : length links ≡ n
   pub exact : (i j : ℕ) → (after links i ≡ Some j) ↔ Leads gaps i j
 
--- what each chain goes on to, of which those that take part in gaps have links
+-- what each chain goes on to; those that take part in gaps have links
 pub record AreNextBy (links : List (Option ℕ)) (chains : List Chain) (next : List (Option ℕ)) : Type 0 where
   pub sized : length next ≡ length chains
   pub each : (i : ℕ) (c : Chain) → slice_get chains i ≡ Some c → after next i ≡ (if is_open c then after links i else Some i)

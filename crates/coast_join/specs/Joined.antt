@@ -20,7 +20,8 @@ use Rattle.coast_join.specs.Round.{once_round}
 abbrev pub Leads : List Gap → ℕ → ℕ → Type 0
 Leads gaps i j = (g : Gap) × Contains gaps g × (g.from_chain ≡ i) × (g.to_chain ≡ j)
 
--- what each chain goes on to: one that takes part in gaps to where a gap leads, and every other one, being closed, to itself
+-- What each chain goes on to: one that takes part in gaps goes on to where a gap leads.
+-- Every other one is closed and goes on to itself.
 pub record AreNext (chains : List Chain) (gaps : List Gap) (next : List (Option ℕ)) : Type 0 where
   pub sized : length next ≡ length chains
   pub leads : (i : ℕ) (c : Chain) → slice_get chains i ≡ Some c → is_open c ≡ true → (j : ℕ) → (after next i ≡ Some j) ↔ Leads gaps i j
@@ -58,7 +59,8 @@ pub record IsLeast (ids : List ℤ) (id : ℤ) : Type 0 where
   pub stands : Contains ids id
   pub least : All (λ other. id ≤ℤ other) ids
 
--- the path of the ring of chains: their paths one after the other; round Antarctica the corners after them, equal neighbours taken once
+-- The path of the ring of chains: their paths one after the other.
+-- Round Antarctica the corners follow, and equal neighbours are taken once.
 abbrev pub ring_path : List Chain → List Loc
 ring_path parts = if list_any is_antarctic parts then once_round (locations_along parts ++ corners) else locations_along parts
 
@@ -70,7 +72,7 @@ pub record IsCoastRing (parts : List Chain) (ring : CoastRing) : Type 0 where
 abbrev pub is_closed_orbit : List (Option ℕ) → List ℕ → Bool
 is_closed_orbit next orbit = is_some (after next (last_number orbit))
 
--- what has become of chains: each orbit of what they go on to is a ring or an unclosed chain; both stand in strict order of name
+-- What becomes of chains: each orbit of what they go on to is a ring or an unclosed chain. Both are in strict order of name.
 pub record AreJoined (chains : List Chain) (closings : Closings) (joined : Joined) : Type 0 where
   pub next : List (Option ℕ)
   pub are_next : AreNext chains closings.gaps next

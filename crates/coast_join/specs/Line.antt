@@ -4,7 +4,7 @@ use Rattle.std.specs.List.{slice_get}
 use Rattle.std.proofs.Common.{lit≤}
 use Rattle.osm_lattice.specs.declared.loc.Loc.{Loc}
 
--- no location stands at two neighbouring places
+-- no location occurs at two neighbouring places
 abbrev pub NeighboursDiffer : List Loc → Type 0
 NeighboursDiffer path = (k : ℕ) (p : Loc) → slice_get path k ≡ Some p → slice_get path (suc k) ≢ Some p
 
@@ -13,7 +13,7 @@ pub record IsLine (path : List Loc) : Type 0 where
   pub long : 2 ≤ length path
   pub differ : NeighboursDiffer path
 
--- what stands for a location where there is none
+-- the value that replaces a location if there is none
 abbrev pub origin : Loc
 origin = record { x = pos 0; y = pos 0; x_in = lit≤ tt; y_in = lit≤ tt }
 

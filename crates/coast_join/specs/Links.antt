@@ -1,4 +1,4 @@
--- Which way goes on to which, told by the locations at which the ways end and those at which they start, both in order of id.
+-- Which way goes on to which, by the locations at which the ways end and those at which they start, both in order of id.
 use Rattle.std.specs.Prelude.{◌≡◌, ◌↔◌, ℕ, List, length, take, Option, Some, option_map}
 use Rattle.std.specs.declared.cmp.Ordering.{Ordering}
 use Rattle.std.specs.List.{slice_get}
@@ -24,7 +24,7 @@ pub record AreNextWays (ends starts : List Loc) (next : List (Option ℕ)) : Typ
   pub sized : length next ≡ length ends
   pub exact : (i j : ℕ) → (after next i ≡ Some j) ↔ GoesOnTo ends starts i j
 
--- each location with how often it stands before
+-- each location with how often it occurs before
 abbrev pub AreNumbered : List Loc → List (Loc × ℕ) → Type 0
 AreNumbered locs keys = (k : ℕ) → slice_get keys k ≡ option_map (λ p. (p, count_before p locs k)) (slice_get locs k)
 

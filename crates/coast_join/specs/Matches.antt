@@ -1,4 +1,4 @@
--- What taking the nearest pairs goes by. No public contract cites it.
+-- Words of private clauses on taking the nearest pairs. No public contract cites them.
 use Rattle.std.specs.Prelude.{◌≡◌, ◌⊎◌, ◌<◌, ◌≤◌, ◌*◌, ℕ, Bool, false, true, not, All, Contains, List, count_by, slice_index_or}
 use Rattle.osm_lattice.specs.declared.loc.Loc.{Loc}
 use Rattle.coast_join.specs.declared.closing.OpenEnds.{OpenEnds}
@@ -28,14 +28,14 @@ weight m = nearness m.to.square m.from.chain
 abbrev pub matched_gap : Match → Gap
 matched_gap m = record { square = m.to.square; from_chain = m.from.chain; to_chain = m.to.site.chain }
 
--- an end and a start that is the nearest to it, of those whose chains are not marked
+-- an end, and the start that is the nearest to it, among those whose chains are not marked
 pub record IsChoice (ends starts : SiteTree) (m : Match) : Type 0 where
   pub stands : Contains ends.sites.items m.from
   pub free : is_gone ends.gone.items m.from ≡ false
   pub to : IsFreeNear (Contains starts.sites.items) starts.gone.items m.from.at m.to
   pub least : (s : Site) → Contains starts.sites.items s → is_gone starts.gone.items s ≡ false → near_of m.to ≤ nearness_from m.from.at s
 
--- and the end is the nearest to that start
+-- such a pair whose end is also the nearest to that start
 pub record IsMutual (ends starts : SiteTree) (m : Match) : Type 0 where
   pub choice : IsChoice ends starts m
   pub back : (s : Site) → Contains ends.sites.items s → is_gone ends.gone.items s ≡ false → weight m ≤ nearness_from m.to.site.at s
@@ -64,7 +64,7 @@ pub record IsNearPair (limit : ℕ) (ends starts : List Site) (g : Gap) : Type 0
   pub from_chain : g.from_chain ≡ from.chain
   pub to_chain : g.to_chain ≡ to.chain
 
--- of the pairs of which the end or the start is marked, those are taken that are free of lesser ones that are taken
+-- of the pairs whose end or start is marked, exactly those are taken that are free of lesser taken pairs
 pub record AreTakenSoFar (P : Gap → Type 0) (ended started : List Bool) (taken : List Gap) : Type 0 where
   pub near : All P taken
   pub ends : All (λ g. is_chain_marked ended g.from_chain ≡ true) taken
@@ -72,7 +72,7 @@ pub record AreTakenSoFar (P : Gap → Type 0) (ended started : List Bool) (taken
   pub apart : All (IsFree gap_cmp taken) taken
   pub settled : (g : Gap) → P g → (is_chain_marked ended g.from_chain ≡ true) ⊎ (is_chain_marked started g.to_chain ≡ true) → IsFree gap_cmp taken g → Contains taken g
 
--- one site of each chain, whose place is below 2 ^ 64
+-- at most one site of each chain, and places of chains below 2 ^ 64
 pub record AreSites (sites : List Site) : Type 0 where
   pub small : (s : Site) → Contains sites s → s.chain < 18446744073709551616
   pub one : (s t : Site) → Contains sites s → Contains sites t → s.chain ≡ t.chain → s ≡ t
@@ -86,7 +86,7 @@ pub record HasMatched (limit : ℕ) (m : Matching) : Type 0 where
   pub waiting : All (Contains m.ends.sites.items) m.waiting.items
   pub taken : AreTakenSoFar (IsNearPair limit m.ends.sites.items m.starts.sites.items) m.ends.gone.items m.starts.gone.items m.gaps.items
 
--- the sites are the same, and what was marked still is
+-- the sites are the same, and what was marked stays marked
 pub record IsFurther (old new : Matching) : Type 0 where
   pub ends : new.ends.sites.items ≡ old.ends.sites.items
   pub starts : new.starts.sites.items ≡ old.starts.sites.items

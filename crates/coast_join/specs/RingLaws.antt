@@ -14,19 +14,19 @@ use Rattle.coast_join.specs.Line.{first_location, last_location}
 abbrev pub ClosedEndsDiffer : Type 0
 ClosedEndsDiffer = (ways : List CoastWay) (chains : List Chain) → AreChains ways chains → (c : Chain) → Contains chains c → c.closed ≡ true → last_location c.path ≢ first_location c.path
 
--- of chains there are one closings for a limit
+-- chains have at most one `Closings` for a limit
 abbrev pub ClosingsAreOne : Type 0
 ClosingsAreOne = (ways : List CoastWay) (chains : List Chain) → AreChains ways chains → (limit : ℕ) (closings others : Closings) → AreClosings chains limit closings → AreClosings chains limit others → closings ≡ others
 
--- of chains and their closings there is one joined
+-- chains and their closings have at most one `Joined`
 abbrev pub JoinedIsOne : Type 0
 JoinedIsOne = (chains : List Chain) (limit : ℕ) (closings : Closings) → AreClosings chains limit closings → (joined other : Joined) → AreJoined chains closings joined → AreJoined chains closings other → joined ≡ other
 
--- chains have closings for each limit
+-- chains have a `Closings` for each limit
 abbrev pub ClosingsExist : Type 0
 ClosingsExist = (ways : List CoastWay) (chains : List Chain) → AreChains ways chains → (limit : ℕ) → (closings : Closings) × AreClosings chains limit closings
 
--- chains and their closings have a joined
+-- chains and their closings have a `Joined`
 abbrev pub JoinedExists : Type 0
 JoinedExists = (ways : List CoastWay) (chains : List Chain) → AreChains ways chains → (limit : ℕ) (closings : Closings) → AreClosings chains limit closings → (joined : Joined) × AreJoined chains closings joined
 
@@ -34,7 +34,7 @@ JoinedExists = (ways : List CoastWay) (chains : List Chain) → AreChains ways c
 abbrev pub BeginsWithLeastName : List Chain → Type 0
 BeginsWithLeastName parts = All (λ (c : Chain). id_at (names_of parts) 0 ≤ℤ c.name) parts
 
--- each ring begins with its chain of the least name
+-- each ring begins with the chain of the least name among its chains
 abbrev pub RingsBeginLeast : Type 0
 RingsBeginLeast = (ways : List CoastWay) (chains : List Chain) → AreChains ways chains → (closings : Closings) (joined : Joined) (are : AreJoined chains closings joined) →
     All (λ o. BeginsWithLeastName (chains_at chains o)) (filter (is_closed_orbit are.next) are.orbits)

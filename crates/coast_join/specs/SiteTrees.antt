@@ -1,4 +1,4 @@
--- What the tree over sites goes by. No public contract cites it.
+-- Words of private clauses on the tree over sites. No public contract cites them.
 use Rattle.std.specs.Prelude.{◌≡◌, ◌⊎◌, ◌<◌, ◌≤◌, ◌≤ℤ◌, ◌-◌, ℕ, Bool, true, All, List, length, slice_index_or}
 use Rattle.coast_join.specs.declared.bounds.Bounds.{Bounds}
 use Rattle.coast_join.specs.declared.site_tree.SiteNode.{SiteNode}
@@ -15,7 +15,7 @@ pub record IsInBounds (b : Bounds) (s : Site) : Type 0 where
   pub north : s.at.y ≤ℤ b.north
   pub least : b.least ≤ s.chain
 
--- a site stands in a stretch of the list
+-- a site is in a stretch of the list
 pub record Stands (sites : List Site) (stretch : Stretch) (s : Site) : Type 0 where
   pub place : ℕ
   pub from : stretch.first ≤ place
@@ -25,7 +25,7 @@ pub record Stands (sites : List Site) (stretch : Stretch) (s : Site) : Type 0 wh
 abbrev pub AreGoneIn : List Site → List Bool → Stretch → Type 0
 AreGoneIn sites gone stretch = (s : Site) → Stands sites stretch s → is_gone gone s ≡ true
 
--- what a node tells of its stretch is right
+-- what a node says of its stretch is right
 pub record IsRightNode (sites : List Site) (gone : List Bool) (node : SiteNode) : Type 0 where
   pub bounds : (s : Site) → Stands sites node.stretch s → IsInBounds node.bounds s
   pub spent : node.spent ≡ true → AreGoneIn sites gone node.stretch
@@ -35,11 +35,11 @@ pub record IsSiteTree (tree : SiteTree) : Type 0 where
   pub sized : length tree.nodes.items ≡ length tree.sites.items
   pub right : All (IsRightNode tree.sites.items tree.gone.items) tree.nodes.items
 
--- a place of the one stretch is a place of the other
+-- a place is one of a stretch
 abbrev pub IsPlaceOf : ℕ → Stretch → Type 0
 IsPlaceOf k s = (s.first ≤ k) × (k < s.end)
 
--- a stretch has the places of two shorter ones
+-- a stretch has the places of two shorter ones, and no others
 pub record AreHalves (whole one other : Stretch) : Type 0 where
   pub all : (k : ℕ) → IsPlaceOf k whole → IsPlaceOf k one ⊎ IsPlaceOf k other
   pub first_in : (k : ℕ) → IsPlaceOf k one → IsPlaceOf k whole

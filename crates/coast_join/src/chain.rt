@@ -6,11 +6,11 @@ ghost use Rattle.coast_join.specs.Line.{IsLine, first_location, last_location};
 use lists::List;
 use osm_geom::{Ids, Loc, Path};
 
-/// Coastline ways of which each goes on to the next. It is closed where the last goes on to the first.
+/// Coastline ways of which each goes on to the next. The chain is closed if the last goes on to the first.
 ///
-/// An unclosed chain is named by its first way, a closed one by its least and begins with that one. The path has
-/// the locations in order; that at which one way goes on to the next stands once, and a closed path ends before it
-/// comes to its start again.
+/// An unclosed chain is named by its first way. A closed one is named by its least way and begins with that one. The path
+/// has the locations in order. Each location at which one way goes on to the next occurs in it once, and a closed path ends
+/// before it returns to its start.
 #[derive(Debug, Drop)]
 pub struct Chain {
     pub name: i64,

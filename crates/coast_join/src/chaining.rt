@@ -38,7 +38,7 @@ fn starts(alloc: Global, ways: &[CoastWay], places: &[usize]) -> Result<Vec<Loc>
     Ok(starts)
 }
 
-/// Those at which they end.
+/// The locations at which the ways at these places end.
 fn ends(alloc: Global, ways: &[CoastWay], places: &[usize]) -> Result<Vec<Loc>, OutOfMemory>
     requires { All (λ i. i < length ways.now) places.now }
     ensures { IfOk result (λ v. v.items
@@ -74,7 +74,7 @@ fn add_front(path: &mut Path, way: &CoastWay) -> Result<(), OutOfMemory>
     Ok(())
 }
 
-/// The locations of the ways at these places, of each but the last.
+/// The locations of the ways at these places, without the last of each way.
 fn fronts(alloc: Global, ways: &[CoastWay], places: &[usize]) -> Result<Path, OutOfMemory>
     requires { All (λ i. i < length ways.now) places.now }
     ensures { IfOk result (λ path. path
@@ -87,7 +87,7 @@ fn fronts(alloc: Global, ways: &[CoastWay], places: &[usize]) -> Result<Path, Ou
     Ok(path)
 }
 
-/// The paths of the ways at these places one after the other, the location that two share once.
+/// The paths of the ways at these places one after the other, with a location that two share only once.
 fn path_of(
     alloc: Global,
     ways: &[CoastWay],
@@ -108,7 +108,7 @@ fn path_of(
     Ok(path)
 }
 
-/// The chain of the ways at these places, of which each goes on to the next, and the last to the first if it is closed.
+/// The chain of the ways at these places. Each goes on to the next, and the last to the first if the chain is closed.
 fn chain_of(
     alloc: Global,
     ways: &[CoastWay],
@@ -191,9 +191,9 @@ fn chains_of(
 
 /// The chains of coastline ways whose ids differ, in order of name.
 ///
-/// At each location the i-th way that ends there, by id, goes on to the i-th that starts there. A chain that goes
-/// round is closed, is named by its least way and begins with it; another is named by its first way, to which none
-/// goes on. It takes time n log n. The error is want of memory.
+/// At each location the i-th way that ends there, by id, goes on to the i-th that starts there. A chain that goes round is
+/// closed, is named by its least way and begins with it. Any other is named by its first way, to which no way goes on. It
+/// takes time n log n. Fails only if memory runs out.
 pub fn chains(alloc: Global, ways: &[CoastWay]) -> Result<Vec<Chain>, OutOfMemory>
     requires { IsDistinct int_eq (map (λ (w : CoastWay). w.id) ways.now) }
     ensures { IfOk result (λ v. AreChains ways.now v.items) }

@@ -21,7 +21,7 @@ pub(crate) struct OpenEnds {
     pub(crate) end: Loc,
 }
 
-/// It is unclosed, and runs round Antarctica from the eastern edge of the world to the western one.
+/// Whether a chain is unclosed, and runs round Antarctica from the eastern edge of the world to the western one.
 #[tactic(auto, unfolding(crate::specs::Closings::is_antarctic))]
 pub(crate) fn is_antarctic(chain: &Chain) -> bool
     ensures { result ≡ is_antarctic chain.now }
@@ -33,7 +33,7 @@ pub(crate) fn is_antarctic(chain: &Chain) -> bool
         && (start.y < -600_000_000 && end.y < -600_000_000)
 }
 
-/// It is unclosed, and does not run round Antarctica.
+/// Whether a chain is unclosed, and doesn't run round Antarctica.
 pub(crate) fn is_open(chain: &Chain) -> bool
     ensures { result ≡ is_open chain.now }
 {
@@ -70,11 +70,13 @@ fn open_ends(alloc: Global, chains: &[Chain]) -> Result<Vec<OpenEnds>, OutOfMemo
     Ok(ends)
 }
 
-/// Which unclosed chains are closed: each round Antarctica, and of the others the pairs of an end and a start that
-/// are nearer than the limit, the nearest first, each end and start once. The limit is in units of 1e-7 degree.
+/// Which unclosed chains are closed: those round Antarctica, and of the others the nearest pairs of an end and a start.
 ///
-/// It takes about time n log² n and some hundred bytes a chain for n unclosed chains, however many of them end near
-/// each other. The chains are what `chains` gives. Fails only if memory runs out.
+/// Each chain round Antarctica is closed. Of the others the pairs nearer than the limit are closed, the nearest first, each
+/// end and start once. The limit is in units of 1e-7 degree.
+///
+/// For n unclosed chains it takes about time n log² n and some hundred bytes a chain, however many of them end near each
+/// other. The chains are what `chains` gives. Fails only if memory runs out.
 pub fn closings(alloc: Global, chains: &[Chain], limit: u32) -> Result<Closings, OutOfMemory>
     requires { (ways : List CoastWay) × AreChains ways chains.now }
     ensures { IfOk result (λ v. AreClosings chains.now limit v) }

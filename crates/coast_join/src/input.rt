@@ -143,10 +143,11 @@ fn add_held(
 
 /// The coastline ways of a store that take part, and what keeps the others from it, each in input order.
 ///
-/// A coastline way is a live way tagged `natural=coastline`. One with references that have no location is set aside
-/// with the nodes of these, each once, in order of their first places. Of any other, equal neighbouring locations are
-/// taken once, and it is set aside where fewer than two are left. The ids of the ways differ, as `chains` asks. The
-/// error is want of memory.
+/// A coastline way is a live way tagged `natural=coastline`. One with references that have no location is set aside with the
+/// nodes of these, each once, in order of their first places. In any other, equal neighbouring locations are taken once, and
+/// it is set aside if fewer than two are left.
+///
+/// The ids of the ways differ, as `chains` asks. Fails only if memory runs out.
 pub fn coast_input(alloc: Global, store: &Store) -> Result<CoastInput, OutOfMemory>
     ensures ways { IfOk result (λ input.
         map way_path_of input.ways ≡ flat_map (way_paths_in store.now) (coast_ways store.now)) }

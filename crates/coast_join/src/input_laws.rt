@@ -3,7 +3,7 @@ ghost use Rattle.coast_join.specs.InputLaws.{CoastWaysExist};
 
 use osm_geom::orders_are_exact;
 
-/// Objects of which no two coastline ways have one id have ways that take part, no two of one id.
+/// If no two coastline ways of objects have one id, there are the ways that take part, and no two of them have one id.
 pub fn coast_ways_exist()
     ensures { CoastWaysExist }
 {

@@ -5,7 +5,7 @@ ghost use Rattle.coast_join.specs.ChainLaws.{ChainsAreOne, ChainsExist, ClosedNa
 use orbits::{each_stands_once, orbits_are_determined};
 use osm_geom::orders_are_exact;
 
-/// No unclosed chain ends where an unclosed chain, it or another, starts.
+/// No unclosed chain ends where an unclosed chain, itself or another, starts.
 pub fn unclosed_ends_differ()
     ensures { UnclosedEndsDiffer }
 {
@@ -13,14 +13,14 @@ pub fn unclosed_ends_differ()
     each_stands_once();
 }
 
-/// Chains stand in order of name, and no two have one name.
+/// Chains are in order of name, and no two have one name.
 pub fn names_rise()
     ensures { NamesRise }
 {
     each_stands_once();
 }
 
-/// Ways have one list of chains.
+/// Ways have at most one list of chains.
 pub fn chains_are_determined()
     ensures { ChainsAreOne }
 {
@@ -43,7 +43,7 @@ pub fn closed_names_are_least()
     each_stands_once();
 }
 
-/// Each way stands in one of the chains, and there once.
+/// Each way is in exactly one of the chains, and there once.
 pub fn ways_stand_once()
     ensures { WaysStandOnce }
 {

@@ -10,7 +10,7 @@ use osm_geom::{Loc, orders_are_exact};
 use std::alloc::{AllocError as OutOfMemory, Global};
 use std::collections::BTreeMap;
 
-/// Each location, and how often it stands before.
+/// Each location, and how often it occurs before.
 fn numbered(alloc: Global, locs: &[Loc]) -> Result<Vec<(Loc, usize)>, OutOfMemory>
     ensures { IfOk result (λ v. AreNumbered locs.now v.items) }
 {
@@ -25,7 +25,7 @@ fn numbered(alloc: Global, locs: &[Loc]) -> Result<Vec<(Loc, usize)>, OutOfMemor
     Ok(numbered)
 }
 
-/// For each location, and how often it stands before, its place.
+/// The place of each location, by the location and by how often it occurs before.
 fn places(alloc: Global, locs: &[Loc]) -> Result<BTreeMap<(Loc, usize), usize>, OutOfMemory>
     ensures { IfOk result (λ m. (p : Loc) (r j : ℕ)
         → (get key_cmp m (p, r) ≡ Some j)
@@ -53,8 +53,10 @@ fn found(
         .collect(alloc)
 }
 
-/// For each way the one that it goes on to: at each location the i-th that ends there goes on to the i-th that
-/// starts there. Told are the locations at which the ways end, and those at which they start.
+/// For each way the one that it goes on to.
+///
+/// At each location the i-th way that ends there goes on to the i-th that starts there. `ends` has the locations at which
+/// the ways end, and `starts` those at which they start.
 pub fn links(alloc: Global, ends: &[Loc], starts: &[Loc]) -> Result<Vec<Option<usize>>, OutOfMemory>
     ensures { IfOk result (λ v. AreNextWays ends.now starts.now v.items) }
 {

@@ -1,7 +1,7 @@
 //! Which pairs of ends and starts of unclosed chains are taken: the nearest ones first.
 //!
-//! A pair whose start is the nearest to its end and whose end is the nearest to its start, of the ends and starts that
-//! are not taken, is taken at any time. So it is not proved in what order such pairs are found.
+//! Consider only ends and starts that are not taken. A pair may be taken at any time if its start is the nearest to its end
+//! and its end the nearest to its start. So the order in which such pairs are found is not proved.
 
 ghost use Rattle.std.specs.Prelude.{◌≡◌, ◌↔◌, ◌<◌, ◌≤◌, ℕ, All, AllPairs, Contains, IfOk, IfSome, List, MatchOption, OnOk, false, map, true};
 ghost use Rattle.std.specs.List.Sorted.{IsPermutation};
@@ -77,8 +77,9 @@ fn nearer_match(ends: &SiteTree, starts: &SiteTree, pair: Match) -> Option<Match
     })
 }
 
-/// A pair that is the nearest both ways, looked for from a pair that is so one way. The ends on the way are left to
-/// be looked at later.
+/// A pair that is the nearest both ways, searched from a pair that is so one way.
+///
+/// The ends on the way are left to be looked at later.
 fn mutual_match(
     ends: &SiteTree,
     starts: &SiteTree,
@@ -156,7 +157,7 @@ fn settle_one(matching: &mut Matching, limit: u32, from: Site) -> Result<(), Out
     Ok(())
 }
 
-/// The end that was left last, of those whose chains are not marked; this one, if there is none.
+/// The end that was left last, among those whose chains are not marked; this one, if there is none.
 fn next_end(waiting: &mut Vec<Site>, gone: &[bool], end: Site) -> Site
     requires { is_gone gone.now end ≡ false }
     ensures among { (sites : List Site) → All (Contains sites) waiting.old.items
@@ -259,8 +260,9 @@ fn matched_gaps(alloc: Global, limit: u32, matching: &mut Matching) -> Result<Ga
     Ok(Gaps::from_vec(gaps))
 }
 
-/// The pairs of an end and a start that are nearer than the limit, of which no nearer taken pair has the end or the
-/// start. Fails only if memory runs out.
+/// The pairs of an end and a start that are nearer than the limit and free of nearer taken pairs.
+///
+/// A pair is taken if no nearer taken pair has its end or its start. Fails only if memory runs out.
 pub(crate) fn nearest_pairs(
     alloc: Global,
     limit: u32,
@@ -275,7 +277,7 @@ pub(crate) fn nearest_pairs(
     matched_gaps(alloc, limit, &mut matching)
 }
 
-/// A law: of pairs of chains whose names rise there is one list of those that are taken.
+/// A law: for pairs of chains whose names rise, there is at most one list of those that are taken.
 pub fn taken_pairs_are_determined()
     ensures { TakenAreOne }
 {}

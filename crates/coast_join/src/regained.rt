@@ -1,4 +1,4 @@
-//! What has become of chains once gaps are closed.
+//! What becomes of chains once gaps are closed.
 
 ghost use Rattle.std.specs.Prelude.{◌≡◌, ◌<◌, not, All, IfOk, filter, length, map, List, ℕ};
 ghost use Rattle.std.specs.List.{AllZip};
@@ -84,11 +84,11 @@ fn by_name(mut rings: Vec<CoastRing>) -> Result<CoastRings, OutOfMemory>
     Ok(CoastRings::from_vec(rings))
 }
 
-/// What has become of chains once gaps are closed: the rings, and the chains that are still unclosed.
+/// What becomes of chains once gaps are closed: the rings, and the chains that stay unclosed.
 ///
-/// A ring is named by the least of its ways and begins with the chain of the least name; one round Antarctica goes on
-/// to the two southern corners. Of equal neighbours one is taken, the last and the first included. The chains are what `chains` gives, and the closings what `closings` gives of them for some
-/// limit. The error is want of memory.
+/// A ring is named by the least of its ways and begins with the chain of the least name. One round Antarctica goes on to the
+/// two southern corners. Of equal neighbours one is taken, the last and the first included. The chains are what `chains`
+/// gives, and the closings what `closings` gives of them for some limit. Fails only if memory runs out.
 pub fn closed_rings(
     alloc: Global,
     chains: &[Chain],

@@ -6,8 +6,9 @@ use crate::chain::Chains;
 use lists::List;
 use osm_geom::Path;
 
-/// A closed line of coast: its locations in order, at least two, no two equal ones next to each other, the last and
-/// the first included. It is named by the least id of its ways.
+/// A closed line of coast, named by the least id of its ways.
+///
+/// It has at least two locations, in order. No two neighbours are equal, the last and the first included.
 #[derive(Debug, Drop)]
 pub struct CoastRing {
     pub name: i64,
@@ -15,7 +16,7 @@ pub struct CoastRing {
     pub ghost round: { IsRound path },
 }
 
-/// What has become of the chains: the rings, and the chains that are still not closed, each in order of name.
+/// What becomes of the chains: the rings, and the chains that are not closed, each in order of name.
 #[derive(Debug, Drop)]
 pub struct Joined {
     pub rings: CoastRings,

@@ -9,7 +9,7 @@ use crate::site_tree::{SiteNode, SiteTree, Stretch, is_short, middle_of};
 use crate::sites::Site;
 use std::alloc::{AllocError as OutOfMemory, Global};
 
-/// Puts sites in order of the coordinate by which they reach farther, equal ones in order of their chains.
+/// Sorts sites by the coordinate in which they reach farther, and equal ones by their chains.
 fn sort(sites: &mut [Site])
     ensures { IsPermutation sites.old sites.new }
 {
@@ -20,7 +20,7 @@ fn sort(sites: &mut [Site])
     }
 }
 
-/// Puts the sites in such an order that each stretch that is halved has near sites.
+/// Puts the sites in such an order that the sites of each stretch that is halved are near each other.
 fn arrange(sites: &mut [Site])
     ensures { IsPermutation sites.old sites.new }
 {
@@ -104,7 +104,7 @@ fn nodes_of(alloc: Global, sites: &[Site]) -> Result<Vec<SiteNode>, OutOfMemory>
     Ok(nodes)
 }
 
-/// Where the site of each chain stands: the last one of several. Nothing that is proved goes by it.
+/// The place of the site of each chain: the last one of several. Nothing that is proved depends on it.
 fn places_of(alloc: Global, sites: &[Site], chains: usize) -> Result<Vec<usize>, OutOfMemory> {
     let mut places = vec![in alloc; 0; chains]?;
     for (place, site) in sites.iter().enumerate() {
@@ -115,7 +115,7 @@ fn places_of(alloc: Global, sites: &[Site], chains: usize) -> Result<Vec<usize>,
     Ok(places)
 }
 
-/// The tree over sites of so many chains, none of which is marked.
+/// The tree over sites of `chains` chains, none of which is marked.
 pub(crate) fn site_tree(
     alloc: Global,
     mut sites: Vec<Site>,

@@ -1,8 +1,8 @@
-//! A tree over sites, by which the nearest one is found whose chain is not marked.
+//! A tree over sites. It finds the nearest site whose chain is not marked.
 //!
-//! The sites stand in such an order that each stretch of the list that the tree halves has its sites near each other.
-//! What is known of a stretch stands at its middle. The proofs take each such entry for itself: how the list is
-//! halved, and in what order, bears on speed alone.
+//! The sites are in such an order that the sites of each stretch that the tree halves are near each other. What is known of
+//! a stretch is kept at its middle. The proofs take each such entry for itself. How the list is halved, and in what order,
+//! bears on speed alone.
 
 ghost use Rattle.std.specs.Prelude.{◌≡◌, ◌+◌, ◌<◌, ◌≤◌, All, Bool, Contains, List, length, slice_set, true, false};
 ghost use Rattle.coast_join.specs.declared.sites.Site.{Site};
@@ -28,7 +28,7 @@ pub(crate) struct SiteNode {
     pub(crate) spent: bool,
 }
 
-/// Sites with what is known of stretches of them, which chains are marked, and where the site of each chain stands.
+/// Sites with what is known of stretches of them, which chains are marked, and the place of the site of each chain.
 #[derive(Drop)]
 pub(crate) struct SiteTree {
     pub(crate) sites: Vec<Site>,
@@ -54,7 +54,7 @@ pub(crate) fn middle_of(stretch: Stretch) -> usize
     stretch.first + (stretch.end - stretch.first) / 2
 }
 
-/// The halves of a stretch, the second one first where that is asked.
+/// The halves of a stretch, the second one first if that is asked.
 fn halves(stretch: Stretch, middle: usize, second_first: bool) -> (Stretch, Stretch)
     requires first { stretch.first < middle }
     requires end { middle < stretch.end }
@@ -74,7 +74,7 @@ fn halves(stretch: Stretch, middle: usize, second_first: bool) -> (Stretch, Stre
     (first, second)
 }
 
-/// Whether a node tells of this stretch.
+/// Whether a node is about this stretch.
 fn is_of(node: SiteNode, stretch: Stretch) -> bool
     ensures first { result ≡ true → node.stretch.first ≡ stretch.first }
     ensures end { result ≡ true → node.stretch.end ≡ stretch.end }
@@ -82,7 +82,7 @@ fn is_of(node: SiteNode, stretch: Stretch) -> bool
     node.stretch.first == stretch.first && node.stretch.end == stretch.end
 }
 
-/// Whether the node tells that no site of the stretch with an unmarked chain comes before the nearest one so far.
+/// Whether, by the node, no site of the stretch with an unmarked chain comes before the nearest one so far.
 fn is_farther(node: SiteNode, stretch: Stretch, at: Loc, best: Near) -> bool
     ensures { result ≡ true → (sites : List Site) → (gone : List Bool)
         → IsRightNode sites gone node → IsNearestSite (Stands sites stretch) gone at best best }
@@ -97,7 +97,7 @@ fn is_farther(node: SiteNode, stretch: Stretch, at: Loc, best: Near) -> bool
     !is_nearer(square, node.bounds.least, best)
 }
 
-/// How far a stretch lies away, as far as a node tells.
+/// How far away a stretch is, as far as a node tells.
 fn square_to_stretch(nodes: &[SiteNode], stretch: Stretch, at: Loc) -> u128 {
     if is_short(stretch) {
         return 0;
@@ -168,7 +168,7 @@ pub(crate) fn nearest(tree: &SiteTree, at: Loc, best: Near) -> Near
     nearest_in(tree, whole, at, best)
 }
 
-/// Whether the chains of all sites of a stretch are marked, as far as its node tells.
+/// Whether, by its node, the chains of all sites of a stretch are marked.
 fn is_spent(sites: &[Site], gone: &[bool], nodes: &[SiteNode], stretch: Stretch) -> bool
     requires inside { stretch.end ≤ length sites.now }
     requires sized { length nodes.now ≡ length sites.now }
@@ -182,7 +182,7 @@ fn is_spent(sites: &[Site], gone: &[bool], nodes: &[SiteNode], stretch: Stretch)
     is_of(node, stretch) && node.spent
 }
 
-/// Tells at a stretch that the chains of all its sites are marked, if its halves tell so.
+/// Notes at a stretch that the chains of all its sites are marked, if its halves say so.
 fn refresh(sites: &[Site], gone: &[bool], nodes: &mut [SiteNode], stretch: Stretch)
     requires long { stretch.first + 1 < stretch.end }
     requires inside { stretch.end ≤ length sites.now }
@@ -201,7 +201,7 @@ fn refresh(sites: &[Site], gone: &[bool], nodes: &mut [SiteNode], stretch: Stret
     }
 }
 
-/// Does so along the stretches of a place, the shortest first.
+/// Refreshes the stretches that hold a place, the shortest first.
 fn refresh_along(
     sites: &[Site],
     gone: &[bool],

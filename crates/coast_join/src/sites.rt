@@ -54,7 +54,7 @@ pub(crate) fn is_gone(gone: &[bool], site: Site) -> bool
     }
 }
 
-/// The nearer of a site, if its chain is not marked, and the nearest one so far.
+/// The nearer of a site, if its chain isn't marked, and the nearest one so far.
 pub(crate) fn nearer(gone: &[bool], at: Loc, site: Site, best: Near) -> Near
     ensures { IsNearestSite (λ s. s ≡ site) gone.now at best result }
 {

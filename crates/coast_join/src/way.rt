@@ -6,8 +6,10 @@ ghost use Rattle.coast_join.specs.Line.{IsLine, first_location, last_location};
 use lists::List;
 use osm_geom::{Loc, Path};
 
-/// A coastline way that takes part: its id, and the locations of its references in order, equal neighbours taken
-/// once. They are at least two; a way that ends where it starts holds that location at both ends.
+/// A coastline way that takes part: its id, and the locations of its references in order.
+///
+/// Equal neighbours are taken once. There are at least two locations. A way that ends where it starts has that location at
+/// both ends.
 #[derive(Debug, Drop)]
 pub struct CoastWay {
     pub id: i64,
@@ -37,7 +39,7 @@ impl CoastWay {
 pub enum Aside {
     /// The node of a reference that has no location.
     Missing { way: i64, node: i64 },
-    /// Fewer than two locations are left where equal neighbours are taken once.
+    /// Fewer than two locations are left once equal neighbours are taken once.
     Short { way: i64 },
 }
 

@@ -21,8 +21,9 @@ HaveNoConflicts segs = (s t : Seg) → Contains segs s → Contains segs t → c
 abbrev pub parity_at : ℤ → Vector → List Seg → ℤ
 parity_at q p segs = pos (crossing_count east p (scaled_edges q (plane_edges_of segs)) % 2)
 
--- the edges are what is left of the segments once pairs are cancelled, directed by the odd side; each runs along a whole segment,
--- they are sided, and their signed count is the parity of the segments, before cancelling, at every point
+-- The edges are what is left of the segments once pairs are cancelled, directed by the odd side.
+-- Each runs along a whole segment, and they are sided. At every point their signed count is the parity of the segments
+-- before cancelling.
 pub record IsLand (segs : List Seg) (edges : List Edge) : Type 0 where
   pub survivors : List Seg
   pub left : AreSurvivors segs survivors

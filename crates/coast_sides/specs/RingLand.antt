@@ -7,8 +7,8 @@ use Rattle.coast_sides.specs.Land.{IsLand}
 use Rattle.coast_sides.specs.Segments.{all_segments}
 use Rattle.coast_sides.specs.WrongWays.{runs_against}
 
--- land of rings; the segments of rings that stand at least twice, before any cancelling; and the names of the rings one of whose
--- steps runs against an edge, in order
+-- Land of rings. Its repeats are the segments of rings that occur at least twice, before any cancelling.
+-- Its wrong ways are the names of the rings one of whose steps runs against an edge, in order.
 pub record IsLandOf (rings : List CoastRing) (land : Land) : Type 0 where
   pub edges : IsLand (all_segments rings) land.edges
   pub repeats : AreRepeats (all_segments rings) land.repeats

@@ -26,8 +26,8 @@ pub record AreConflicts (segs : List Seg) (pairs : List Pair) : Type 0 where
   pub once : AreDistinct segs distinct
   pub are : pairs ≡ conflicts_of distinct
 
--- a ring is left out where one of its segments, before any cancelling, conflicts with a segment of any ring, itself included;
--- the others are kept, both in order; and the conflicts of the segments of all rings
+-- A ring is left out if one of its segments, before any cancelling, conflicts with a segment of any ring, itself included.
+-- The others are kept, both in order. The pairs are the conflicts of the segments of all rings.
 pub record IsSorted (rings : List CoastRing) (sorted : Sorted) : Type 0 where
   pub left_out : sorted.left_out ≡ filter (is_left_out (all_segments rings)) rings
   pub kept : sorted.kept ≡ filter (λ ring. not (is_left_out (all_segments rings) ring)) rings

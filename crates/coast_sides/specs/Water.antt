@@ -45,7 +45,8 @@ is_west p = int_eq p.x (neg_ℤ (pos 1800000000))
 abbrev pub is_east : Loc → Bool
 is_east p = int_eq p.x (pos 1800000000)
 
--- the nodes at which a side of the world is cut: from its one corner to its other, in order, each node of land on the side, and no other location
+-- The nodes at which a side of the world is cut, in order from its one corner to its other.
+-- They are these corners and each node of land on the side, and no other location.
 pub record IsSide (on : Loc → Bool) (from to : Loc) (land : List Seg) (nodes : List Loc) : Type 0 where
   pub some : 0 < length nodes
   pub rising : IsRising loc_cmp nodes
@@ -71,8 +72,9 @@ pub record AreSides (land sides : List Seg) : Type 0 where
   pub west : IsSide is_west south_west north_west land on_west
   pub whole : sides ≡ pieces on_south ++ (pieces on_east ++ (pieces on_north ++ pieces on_west))
 
--- the edges are what is left of land's segments together with the sides, directed by the odd side; each runs along a whole segment,
--- they are sided, and their signed count is its parity, before cancelling, at every point
+-- The edges are what is left of land's segments together with the sides, directed by the odd side.
+-- Each runs along a whole segment, and they are sided. At every point their signed count is the parity of these segments
+-- before cancelling.
 pub record IsWater (land : List Seg) (edges : List Edge) : Type 0 where
   pub sides : List Seg
   pub are_sides : AreSides land sides

@@ -44,10 +44,10 @@ fn land_edges(alloc: Global, left: Vec<Seg>) -> Result<Edges, OutOfMemory>
     Ok(Edges::from_vec(edges))
 }
 
-/// Land of kept rings: what is left of their segments once pairs are cancelled, directed so that land is on the left;
-/// which of their segments stand at least twice; and which rings run the wrong way.
+/// Land of kept rings: what is left of their segments once pairs are cancelled, directed so that land is on the left.
 ///
-/// No two segments of the rings conflict, as `sort_out` has it of those that it keeps. Fails only if memory runs out.
+/// It also says which of their segments occur at least twice, and which rings run the wrong way. No two segments of the
+/// rings conflict, as `sort_out` ensures for those that it keeps. Fails only if memory runs out.
 pub fn land(alloc: Global, kept: &[CoastRing]) -> Result<Land, OutOfMemory>
     requires { HaveNoConflicts (all_segments kept.now) }
     ensures { IfOk result (λ land. IsLandOf kept.now land) }

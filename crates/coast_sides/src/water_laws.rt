@@ -18,8 +18,9 @@ pub fn water_is_even()
     orders_are_exact();
 }
 
-/// A segment whose ends on a side of the world are among the nodes at which the side is cut, and which has none of these
-/// nodes inside, doesn't conflict with the pieces of the side.
+/// A segment doesn't conflict with the pieces of a side of the world if it meets the side only at nodes.
+///
+/// That is, its ends on the side are among the nodes at which the side is cut, and none of these nodes is inside it.
 pub fn sides_are_clear()
     ensures south { IsClearOfSide is_south }
     ensures east { IsClearOfSide is_east }

@@ -86,10 +86,10 @@ fn water_edges(alloc: Global, land: Vec<Seg>) -> Result<Edges, OutOfMemory>
     Ok(Edges::from_vec(edges))
 }
 
-/// Water: what is left of land's segments together with the sides of the world's rectangle, each cut at every node of land
-/// on it, directed so that water is on the left. Where there is no land it is the world.
+/// Water: what is left of land's segments together with the sides of the world's rectangle.
 ///
-/// The edges of land are sided, each along a whole segment, as `land` gives them. The error is want of memory.
+/// It is directed so that water is on the left. Each side is cut at every node of land on it. If there is no land, water is
+/// the world. The edges of land are sided, each along a whole segment, as `land` gives them. Fails only if memory runs out.
 pub fn water(alloc: Global, land: &Edges) -> Result<Edges, OutOfMemory>
     requires whole { All IsWholeSegment land.now }
     requires sided { IsSided land.now }

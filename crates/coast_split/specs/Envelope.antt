@@ -1,4 +1,4 @@
--- The envelope of a list of edges as one value, and how it grows point by point. No public contract cites it.
+-- The envelope of a list of edges as one value, and how it grows point by point. No public contract cites this.
 use Rattle.std.specs.Prelude.{List, [], unsigned_abs, ℤ, ◌-ℤ◌, ◌+ℤ◌, ◌≤◌, ◌∷◌, cond, pos}
 use Rattle.std.specs.Int.{int_div_euclid}
 use Rattle.plane.specs.Sign.{is_minus, sign}
@@ -14,15 +14,15 @@ use Rattle.coast_split.specs.SplitTree.{greater, high_of, lesser, low_of}
 abbrev pub envelope_of : List Edge → Envelope
 envelope_of es = record { low_x = low_of X es; high_x = high_of X es; low_y = low_of Y es; high_y = high_of Y es }
 
--- that of one point
+-- the envelope of one point
 abbrev pub envelope_at : Point → Envelope
 envelope_at p = record { low_x = floor_of (x_of p); high_x = ceiling_of (x_of p); low_y = floor_of (y_of p); high_y = ceiling_of (y_of p) }
 
--- the least that holds two
+-- the least envelope that holds two
 abbrev pub joined_envelope : Envelope → Envelope → Envelope
 joined_envelope v w = record { low_x = lesser v.low_x w.low_x; high_x = greater v.high_x w.high_x; low_y = lesser v.low_y w.low_y; high_y = greater v.high_y w.high_y }
 
--- the least that holds v and the edges
+-- the least envelope that holds v and the edges
 abbrev pub envelope_from : Envelope → List Edge → Envelope
 envelope_from v [] = v
 envelope_from v (e ∷ es) = envelope_from (joined_envelope (joined_envelope v (envelope_at e.from)) (envelope_at e.to)) es

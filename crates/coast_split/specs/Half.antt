@@ -22,7 +22,8 @@ use Rattle.osm_geom.specs.Point.{point_order}
 abbrev pub has_portion : Cut → Side → Edge → Bool
 has_portion cut side e = is_plus (side_of cut side e.from) || is_plus (side_of cut side e.to)
 
--- w ends the portion of an edge on the carrier where v ends the edge, by the side of v: v itself on the closed side, else the carrier's point on the line
+-- w is the end, in the portion of an edge on the carrier, for the end v of the edge.
+-- The side of v decides: v itself on the closed side, and otherwise the carrier's point on the line.
 abbrev pub IsPortionEnd : Cut → Carrier → Point → Point → Sign → Type 0
 IsPortionEnd cut carrier v w Minus = (cut_order cut w ≡ Null) × (is_on carrier w ≡ true)
 IsPortionEnd cut carrier v w s = w ≡ v
@@ -33,13 +34,13 @@ pub record IsPortion (cut : Cut) (side : Side) (e t : Edge) : Type 0 where
   pub from : IsPortionEnd cut e.carrier e.from t.from (side_of cut side e.from)
   pub to : IsPortionEnd cut e.carrier e.to t.to (side_of cut side e.to)
 
--- the first of the list is the portion of e, where e has one, and the others are as `rest` says
+-- if e has a portion, it is the first of the list, and the others are as `rest` says
 abbrev pub NextPortion : Cut → Side → Edge → Bool → (List Edge → Type 0) → List Edge → Type 0
 NextPortion cut side e false rest ts = rest ts
 NextPortion cut side e true rest [] = ⊥
 NextPortion cut side e true rest (t ∷ ts) = IsPortion cut side e t × rest ts
 
--- ts are the portions of those of the edges that have one, in order
+-- ts are the portions of the edges that have one, in order
 abbrev pub ArePortions : Cut → Side → List Edge → List Edge → Type 0
 ArePortions cut side [] ts = ts ≡ []
 ArePortions cut side (e ∷ es) ts = NextPortion cut side e (has_portion cut side e) (ArePortions cut side es) ts
@@ -52,7 +53,7 @@ runs_forward X High = false
 runs_forward Y Low = false
 runs_forward Y High = true
 
--- Plus where q comes after p along the line, run with the side on its left
+-- Plus if q comes after p along the line, run with the side on its left
 abbrev pub line_order : Cut → Side → Point → Point → Sign
 line_order cut side p q = cond (runs_forward cut.axis side) (point_order p q) (point_order q p)
 
@@ -87,7 +88,7 @@ NextLink cut z w true rest ls = rest ls
 NextLink cut z w false rest [] = ⊥
 NextLink cut z w false rest (e ∷ ls) = IsLink cut z w e × rest ls
 
--- ls are the edges from z on: one between neighbours exactly where the number of parts that end on the line at or before the lower is odd
+-- ls are the edges from z on: there is one between neighbours exactly if an odd number of parts end on the line at or before the lower one
 abbrev pub AreLinksFrom : Cut → Side → List Edge → Point → List Point → List Edge → Type 0
 AreLinksFrom cut side ts z [] ls = ls ≡ []
 AreLinksFrom cut side ts z (w ∷ zs) ls =

@@ -29,7 +29,7 @@ HalfIsEmptyBeyond = (cut : Cut) (s : Side) (es hs : List Edge) → IsHalf cut s 
 abbrev pub HalvesExist : Type 0
 HalvesExist = (cut : Cut) (s : Side) (es : List Edge) → (hs : List Edge) × IsHalf cut s es hs
 
--- at each point off the edges of the leaves some leaf covers it exactly where the list does
+-- some leaf covers a point off the edges of the leaves exactly if the list covers it
 abbrev pub LeafCover : Type 0
 LeafCover =
     (m o : ℕ) (es : List Edge) (t : Tree) → IsTree m o es t → IsSided es → (q : ℤ) → sign q ≡ Plus → (p : Vector) → IsOffLeaves q p (leaves_of es t) →
@@ -40,7 +40,7 @@ abbrev pub LeavesKeepEdges : Type 0
 LeavesKeepEdges =
     (m o : ℕ) (es : List Edge) (t : Tree) → IsTree m o es t → IsSided es → (q : ℤ) → sign q ≡ Plus → (p : Vector) → IsOffLeaves q p (leaves_of es t) → IsOffList q p es
 
--- and edges are added along the lines of the cuts alone
+-- edges are added only along the lines of the cuts
 abbrev pub LeavesAddAlongCuts : Type 0
 LeavesAddAlongCuts =
     (m o : ℕ) (es : List Edge) (t : Tree) → IsTree m o es t → IsSided es → (q : ℤ) → sign q ≡ Plus → (p : Vector) → IsOffList q p es → IsOffCuts o q p es t →
@@ -50,11 +50,11 @@ LeavesAddAlongCuts =
 abbrev pub LeavesAreSided : Type 0
 LeavesAreSided = (m o : ℕ) (es : List Edge) (t : Tree) → IsTree m o es t → IsSided es → (leaf : List Edge) → In leaf (leaves_of es t) → IsSided leaf
 
--- a list has one half on a side of a line
+-- a list has at most one half on a side of a line
 abbrev pub HalfIsOne : Type 0
 HalfIsOne = (cut : Cut) (s : Side) (es hs gs : List Edge) → IsHalf cut s es hs → IsHalf cut s es gs → hs ≡ gs
 
--- and one split tree
+-- a list has at most one split tree
 abbrev pub TreeIsOne : Type 0
 TreeIsOne = (m o : ℕ) (es : List Edge) (t u : Tree) → IsTree m o es t → IsTree m o es u → t ≡ u
 
@@ -64,8 +64,8 @@ SplitShrinks =
     (m o : ℕ) (es : List Edge) → is_split m o es ≡ true → (hs : List Edge) →
     (IsHalf (low_cut (middle_of es) o) Low es hs → size_of hs <ℤ size_of es) × (IsHalf (high_cut (middle_of es) o) High es hs → size_of hs <ℤ size_of es)
 
--- with overlap 0 the leaves part the list: at each point off their edges their parities add up to that of the list, so that one leaf covers it
--- where the list does, and none elsewhere
+-- With overlap 0 the leaves part the list: at each point off their edges, their parities add up to that of the list.
+-- So one leaf covers the point if the list does, and otherwise none does.
 abbrev pub LeavesPart : Type 0
 LeavesPart =
     (m : ℕ) (es : List Edge) (t : Tree) → IsTree m 0 es t → IsSided es → (q : ℤ) → sign q ≡ Plus → (p : Vector) → IsOffLeaves q p (leaves_of es t) →

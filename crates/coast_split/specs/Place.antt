@@ -1,4 +1,4 @@
--- Where points stand against the side of a cut line.
+-- Where points lie relative to the side of a cut line.
 use Rattle.plane.specs.Sign.{Minus, Null, Plus, Sign}
 use Rattle.coast_split.specs.declared.portion.Place.{Place}
 use Rattle.coast_split.specs.declared.portion.Place.TheVariants.{Kept, OnLine, Beyond}

@@ -35,7 +35,7 @@ abbrev pub high_from : Axis → ℤ → List Edge → ℤ
 high_from axis a [] = a
 high_from axis a (e ∷ es) = high_from axis (greater (greater a (ceiling_of (coordinate_of axis e.from))) (ceiling_of (coordinate_of axis e.to))) es
 
--- where the envelope of a list that isn't empty begins and ends on an axis: from the floor of the least coordinate to the ceiling of the greatest
+-- Where the envelope of a list that isn't empty begins and ends on an axis: at the floor of the least coordinate and at the ceiling of the greatest.
 abbrev pub low_of : Axis → List Edge → ℤ
 low_of axis [] = pos 0
 low_of axis (e ∷ es) = low_from axis (floor_of (coordinate_of axis e.from)) (e ∷ es)
@@ -47,7 +47,7 @@ high_of axis (e ∷ es) = high_from axis (ceiling_of (coordinate_of axis e.from)
 abbrev pub width_of : Axis → List Edge → ℤ
 width_of axis es = high_of axis es -ℤ low_of axis es
 
--- the axis of the longer side, x where both are equal
+-- the axis of the longer side, or x if both are equal
 abbrev pub longer_of : List Edge → Axis
 longer_of es = cond (is_minus (sign (width_of X es -ℤ width_of Y es))) Y X
 
@@ -59,7 +59,7 @@ middle_by axis es = record { axis = axis; at = int_div_euclid (low_of axis es +�
 abbrev pub middle_of : List Edge → Cut
 middle_of es = middle_by (longer_of es) es
 
--- a list with more than m edges, where m isn't 0; a leaf with more is large
+-- a list with more than m edges, if m isn't 0; a leaf with more is large
 abbrev pub is_large : ℕ → List Edge → Bool
 is_large m es = not (is_plus (sign (pos 1 -ℤ pos m))) && is_plus (sign (pos (length es) -ℤ pos m))
 
@@ -67,7 +67,7 @@ is_large m es = not (is_plus (sign (pos 1 -ℤ pos m))) && is_plus (sign (pos (l
 abbrev pub is_wide : ℕ → ℤ → Bool
 is_wide o width = not (is_minus (sign (width -ℤ pos (8 * o)))) && not (is_minus (sign (width -ℤ pos 4)))
 
--- with m as the maximum of points and o as the overlap, a list of more than m edges is cut where its longer side is wide
+-- with m as the maximum of points and o as the overlap, a list of more than m edges is cut if its longer side is wide
 abbrev pub is_split : ℕ → ℕ → List Edge → Bool
 is_split m o es = is_large m es && is_wide o (width_of (longer_of es) es)
 

@@ -1,4 +1,4 @@
--- What the steps of splitting know. No public contract cites it.
+-- Words of private clauses on the steps of splitting. No public contract cites them.
 use Rattle.std.specs.Prelude.{List, None, Option, Some, length, false, true, unsigned_abs, ℕ, ◌<◌, ◌↔◌, ◌≤◌, ◌∷◌, ◌≡◌}
 use Rattle.osm_geom.specs.declared.cut.Cut.{Cut}
 use Rattle.osm_geom.specs.declared.cut.Side.TheVariants.{Low, High}
@@ -22,17 +22,17 @@ pub record AreSidedHalves (m o : ℕ) (es low high : List Edge) : Type 0 where
   pub low_sided : IsSided low
   pub high_sided : IsSided high
 
--- the same leaves are to come of both
+-- both have the same leaves still to come
 abbrev pub HaveSameLeaves : ℕ → ℕ → List (List Edge) → List (List Edge) → Type 0
 HaveSameLeaves m o before after = (ls : List Leaf) → AreLeft m o before ls ↔ AreLeft m o after ls
 
--- low is what is left of es, before the lists that wait now, and is smaller
+-- low is what is left of es, before the lists that wait after the cut, and is smaller
 pub record IsCutOff (m o : ℕ) (es : List Edge) (before : List (List Edge)) (low : List Edge) (after : List (List Edge)) : Type 0 where
   pub sided : IsSided low
   pub smaller : unsigned_abs (size_of low) < unsigned_abs (size_of es)
   pub same : HaveSameLeaves m o (es ∷ before) (low ∷ after)
 
--- more leaves than most are to come
+-- more leaves than `most` are to come
 pub record HaveMoreLeft (m o most : ℕ) (lists : List (List Edge)) : Type 0 where
   pub leaves : List Leaf
   pub are_left : AreLeft m o lists leaves

@@ -10,7 +10,7 @@ use Rattle.coast_split.specs.SplitTree.{IsTree, Tree, depth_of, high_cut, is_spl
 abbrev pub SplitTreesExist : Type 0
 SplitTreesExist = (m o : ℕ) (es : List Edge) → (t : Tree) × IsTree m o es t
 
--- hs is no wider than es on any axis, and on the axis of the cut it has at most five eighths of the width and one unit
+-- hs is no wider than es on any axis, and on the longer axis of es it has at most five eighths of the width and one unit
 pub record IsNarrower (es hs : List Edge) : Type 0 where
   pub each : (axis : Axis) → width_of axis hs ≤ℤ width_of axis es
   pub longer : (pos 8 *ℤ width_of (longer_of es) hs) ≤ℤ (pos 5 *ℤ width_of (longer_of es) es +ℤ pos 8)

@@ -1,4 +1,4 @@
--- The ends of parts on the line as a sorted list, and the edges that a walk along it leaves. No public contract cites it.
+-- The ends of parts on the line as a sorted list, and the edges that a walk along it leaves. No public contract cites them.
 use Rattle.std.specs.Prelude.{Bool, List, [], cond, false, length, true, ℕ, ◌++◌, ◌+◌, ◌-◌, ◌∷◌, ◌≡◌, ◌||◌, not}
 use Rattle.std.specs.List.Sorted.{IsPermutation, IsSortedBy}
 use Rattle.plane.specs.Sign.{Null, is_null, is_plus}
@@ -20,11 +20,11 @@ abbrev pub ends_on : Cut → List Edge → List Point
 ends_on cut [] = []
 ends_on cut (t ∷ ts) = end_on cut t.from ++ (end_on cut t.to ++ ends_on cut ts)
 
--- of n ends, how many stand at the lower of two neighbours or before it, where i stand at the first of them or before it along the line
+-- how many of n ends are at or before the lower of two neighbours, if i of them are at or before the first of the two along the line
 abbrev pub up_to_lower : Cut → Side → ℕ → ℕ → ℕ
 up_to_lower cut side n i = cond (runs_forward cut.axis side) i (n - i)
 
--- no edge stands between z, the i-th of n ends, and w, which follows: they are one, or the number of ends up to the lower is even
+-- There is no edge between z, the i-th of n ends, and w, the next one: they are equal, or the number of ends up to the lower is even.
 abbrev pub is_skipped : Cut → Side → ℕ → ℕ → Point → Point → Bool
 is_skipped cut side n i z w = not (is_plus (line_order cut side z w)) || is_even (up_to_lower cut side n i)
 

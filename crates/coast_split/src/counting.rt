@@ -28,7 +28,7 @@ fn pass_leaf(leaves: &mut Leaves) -> Result<bool, OutOfMemory>
     }
 }
 
-/// How many leaves are still to come; there are too many where they are more than `most`.
+/// How many leaves are still to come; refused if they are more than `most`.
 fn count_left(leaves: &mut Leaves, most: u64) -> Result<u64, SplitError>
     ensures counted { IfOk result (λ n. (ls : List Leaf)
         × AreLeft leaves.old.most_points leaves.old.overlap leaves.old.waiting ls
@@ -36,7 +36,7 @@ fn count_left(leaves: &mut Leaves, most: u64) -> Result<u64, SplitError>
     ensures many { IfErr result (λ e. (m : ℕ) → e ≡ TooManyPieces m → (m ≡ most)
         × HaveMoreLeft leaves.old.most_points leaves.old.overlap most leaves.old.waiting) }
 {
-    // By law: leaves behind one too many are there to be told of.
+    // By law: there are leaves after one too many.
     split_trees_exist();
     for count in 0..most {
         if !pass_leaf(leaves)? {
@@ -65,8 +65,8 @@ fn count_of_one(settings: &Settings) -> Result<u64, SplitError>
 
 /// How many leaves a sided list has.
 ///
-/// There are too many pieces exactly where the split tree has more leaves than `most_leaves`. What is held is one path of the
-/// tree.
+/// There are too many pieces exactly if the split tree has more leaves than `most_leaves`. One path of the tree is held at a
+/// time.
 pub fn count_leaves(alloc: Global, edges: &Edges, settings: &Settings) -> Result<u64, SplitError>
     requires { IsSided edges.now }
     ensures counted { IfOk result (λ n. (ls : List Leaf)

@@ -37,7 +37,7 @@ fn is_less(a: i64, b: i64) -> bool
     a < b
 }
 
-/// The whole number in the middle of two, the lesser of two such.
+/// The whole number in the middle of two; of two such the lesser.
 fn between(a: i64, b: i64) -> i64
     requires first { unsigned_abs a ≤ 1_800_000_000 }
     requires second { unsigned_abs b ≤ 1_800_000_000 }
@@ -83,7 +83,7 @@ impl Envelope {
         }
     }
 
-    /// The axis of its longer side, x where both are equal.
+    /// The axis of its longer side, or x if both are equal.
     pub(crate) fn longer(&self) -> Axis
         requires { IsSmall self.now }
         ensures { result ≡ longer_in self.now }

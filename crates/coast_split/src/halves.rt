@@ -14,7 +14,7 @@ use osm_geom::{Axis, Carrier, Cut, Edge, Edges, Point, Side, compare_points, com
 use std::alloc::{AllocError as OutOfMemory, Global};
 use std::cmp::Ordering;
 
-/// The portions of those of the edges that have one.
+/// The portions of the edges that have one.
 fn portions(alloc: Global, edges: &[Edge], cut: Cut, side: Side) -> Result<Edges, OutOfMemory>
     ensures { IfOk result (λ list. ArePortions cut side edges.now list) }
 {
@@ -49,7 +49,7 @@ fn line_ends(alloc: Global, parts: &[Edge], cut: Cut) -> Result<Vec<Point>, OutO
     Ok(ends)
 }
 
-/// Whether the side is on the left of the line where it runs in the order of points.
+/// Whether the side is on the left of the line when the line runs in the order of points.
 fn runs_forward(axis: Axis, side: Side) -> bool
     ensures { result ≡ runs_forward axis side }
 {
@@ -77,7 +77,7 @@ fn compare_along(p: Point, q: Point, cut: Cut, side: Side) -> Ordering
     }
 }
 
-/// The line as what carries edges.
+/// The line as a carrier of edges.
 fn line_carrier(cut: Cut) -> Carrier
     ensures { result ≡ carrier_of_cut cut }
 {
@@ -101,7 +101,7 @@ fn link(z: Point, w: Point, cut: Cut) -> Edge
     }
 }
 
-/// Whether no edge stands between an end and the next, of which so many are passed.
+/// Whether there is no edge between an end and the next, after `passed` ends of `count`.
 fn is_skipped(z: Point, w: Point, passed: usize, count: usize, cut: Cut, side: Side) -> bool
     requires { passed ≤ count }
     ensures { result ≡ is_skipped cut side count passed z w }
@@ -114,7 +114,7 @@ fn is_skipped(z: Point, w: Point, passed: usize, count: usize, cut: Cut, side: S
     compare_along(z, w, cut, side) != Ordering::Less || up_to_lower % 2 == 0
 }
 
-/// Adds the edge from an end to the next, if one stands there.
+/// Adds the edge from an end to the next, if there is one.
 fn push_link(
     edges: &mut Edges,
     z: Point,
@@ -159,7 +159,7 @@ fn push_links_from(
     Ok(())
 }
 
-/// The same, as what a sort asks.
+/// The same order, in the form that a sort needs.
 fn compare_ends(p: Point, q: Point, cut: Cut, side: Side) -> Ordering
     ensures { is_lt result ≡ is_plus (line_order cut side p q) }
 {
@@ -191,10 +191,11 @@ fn push_links(edges: &mut Edges, ends: &[Point], cut: Cut, side: Side) -> Result
     }
 }
 
-/// The half of a list of edges on one side of a cut line: the portions of its edges on that side, and edges on the
-/// line that close them, with the side on their left.
+/// The half of a list of edges on one side of a cut line.
 ///
-/// It is sided. Strictly on the side and off the list it counts what the list counts, and strictly on the other side nothing.
+/// It has the portions of the list's edges on that side, and edges on the line that close them, with the side on their left.
+/// It is sided. At points strictly on the side and off the list, it counts what the list counts. At points strictly on the
+/// other side it counts nothing.
 pub fn half(alloc: Global, edges: &Edges, cut: Cut, side: Side) -> Result<Edges, OutOfMemory>
     requires { IsSided edges.now }
     ensures half { IfOk result (λ hs. IsHalf cut side edges.now hs) }

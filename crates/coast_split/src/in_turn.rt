@@ -1,4 +1,4 @@
-//! The leaves of a list in turn: each is cut out once it is asked for.
+//! The leaves of a list in turn: each is cut out when it is asked for.
 ghost use Rattle.std.specs.Prelude.{◌≡◌, ◌<◌, ◌∷◌, [], All, IfNone, IfOk, IfSome, MatchOption, Some, false, reverse};
 ghost use Rattle.osm_geom.specs.InPlane.Sided.{IsSided};
 ghost use Rattle.coast_split.specs.LeavesLeft.{IsNextLeaf};
@@ -35,7 +35,7 @@ fn halves_at(
     Ok(Halves { low, high })
 }
 
-/// Cuts a list, lets its high half wait, and gives the low one.
+/// Cuts a list, puts its high half among those that wait, and gives the low one.
 fn cut_off(
     alloc: Global,
     edges: &Edges,
@@ -55,7 +55,7 @@ fn cut_off(
     Ok(halves.low)
 }
 
-/// Cuts a list, and each low half, until the first leaf is left. The high halves wait.
+/// Cuts a list, and each low half, until it reaches the first leaf. The high halves wait.
 fn first_leaf(
     alloc: Global,
     list: Edges,
@@ -79,13 +79,13 @@ fn first_leaf(
 
 /// The leaves of a list, handed out one after the other.
 ///
-/// Contracts see the lists that are still to be cut. One path of the split tree is held: the high halves that wait, of the lists
-/// that were cut on the way to the last leaf.
+/// Contracts see the lists that are still to be cut. One path of the split tree is held: the waiting high halves of the
+/// lists that were cut on the way to the last leaf.
 #[derive(Drop)]
 pub struct Leaves {
     alloc: Global,
     settings: Settings,
-    // The next one stands last.
+    // The next one comes last.
     waiting: Vec<Edges>,
 }
 
@@ -102,7 +102,7 @@ impl Model for Leaves {
 }
 
 impl Leaves {
-    /// The leaves of a sided list, however many they are.
+    /// The leaves of a sided list, however many there are.
     pub fn of(alloc: Global, edges: Edges, settings: &Settings) -> Result<Leaves, OutOfMemory>
         requires { IsSided edges }
         ensures { IfOk result (λ leaves. leaves ≡ record {
@@ -120,7 +120,7 @@ impl Leaves {
         })
     }
 
-    /// The leaves of a sided list that is lent; None where it isn't cut.
+    /// The leaves of a sided list that is lent; None if it isn't cut.
     pub(crate) fn of_halves(
         alloc: Global,
         edges: &Edges,
@@ -147,7 +147,7 @@ impl Leaves {
         }))
     }
 
-    /// Takes the next leaf; None once there is none left.
+    /// Takes the next leaf; None if none is left.
     pub fn next(&mut self) -> Result<Option<Leaf>, OutOfMemory>
         ensures kept { (self.new.most_points ≡ self.old.most_points)
             × (self.new.overlap ≡ self.old.overlap) }

@@ -9,8 +9,9 @@ pub fn half_of_sided_list_is_sided()
     ensures { HalfIsSided }
 {}
 
-/// At points off the list and strictly on the kept side the half has the list's signed count, and at points strictly on the
-/// other side it has 0.
+/// The half has the list's signed count at points off the list and strictly on the kept side.
+///
+/// At points strictly on the other side it has 0.
 pub fn half_counts_as_list()
     ensures kept { HalfKeepsCount }
     ensures beyond { HalfIsEmptyBeyond }
@@ -21,8 +22,10 @@ pub fn halves_exist()
     ensures { HalvesExist }
 {}
 
-/// Leaf cover: however often a sided list is split, its leaves are sided. At each point off their edges, also on the lines of
-/// the cuts, some leaf covers the point exactly where the list does.
+/// Leaf cover: however often a sided list is split, its leaves are sided.
+///
+/// Some leaf covers a point exactly if the list covers it, for each point off the edges of the leaves, also on the lines of
+/// the cuts.
 pub fn leaves_cover_as_list()
     ensures sided { LeavesAreSided }
     ensures cover { LeafCover }
@@ -30,7 +33,7 @@ pub fn leaves_cover_as_list()
     edge_parts_inside();
 }
 
-/// What edges leaves have: all of the list's, and others along the lines of the cuts alone.
+/// The edges of leaves: they have all edges of the list, and others only along the lines of the cuts.
 pub fn leaves_have_edges()
     ensures kept { LeavesKeepEdges }
     ensures added { LeavesAddAlongCuts }
@@ -38,31 +41,34 @@ pub fn leaves_have_edges()
     edge_parts_inside();
 }
 
-/// Without an overlap the leaves part the list: of a point off their edges one leaf covers it where the list does, and none
-/// elsewhere.
+/// Without an overlap the leaves part the list.
+///
+/// A point off their edges is in one leaf if the list covers it, and otherwise in none.
 pub fn leaves_part_the_list()
     ensures { LeavesPart }
 {
     edge_parts_inside();
 }
 
-/// A list has one half on a side of a line, and so one split tree: its leaves are determined. The halves of a list that is cut
-/// have a smaller envelope, by the sum of its sides.
+/// A list has at most one half on a side of a line, and so at most one split tree: its leaves are determined.
+///
+/// The halves of a list that is cut have a smaller envelope, by the sum of its sides.
 pub fn halves_are_determined()
     ensures half { HalfIsOne }
     ensures tree { TreeIsOne }
     ensures shrinks { SplitShrinks }
 {}
 
-/// A list has a split tree, so that its leaves are there to be told of.
+/// A list has a split tree, so it has leaves.
 pub fn split_trees_exist()
     ensures { SplitTreesExist }
 {
     halves_exist();
 }
 
-/// Each cut leaves halves that have at most five eighths of the longer side and one unit, and are no longer on the other. So
-/// no branch of a split tree has 120 cuts.
+/// Each cut leaves halves that have at most five eighths of the longer side and one unit.
+///
+/// On the other side they are no longer than the list. So no branch of a split tree has 120 cuts.
 pub fn split_trees_are_shallow()
     ensures narrows { SplitNarrows }
     ensures depth { SplitTreesAreShallow }

@@ -12,7 +12,7 @@ use std::alloc::{AllocError, AllocFailed};
 /// How areas are split.
 #[derive(Clone, Copy, Debug, PartialEq, Eq)]
 pub struct Settings {
-    /// No list with more edges is left whole, where it can be cut; 0 for no such limit.
+    /// No list with more edges is left whole, if it can be cut; 0 for no such limit.
     pub most_points: u32,
     /// How far the halves reach beyond the middle, in units of 1e-7 degree.
     pub overlap: u32,
@@ -32,19 +32,19 @@ pub struct Leaf {
 /// Why an area was not split.
 #[derive(Clone, Copy, Debug, PartialEq, Eq)]
 pub enum SplitError {
-    /// It has more leaves than are allowed.
+    /// It has more leaves than allowed.
     TooManyPieces {
-        /// How many are.
+        /// The most leaves that are allowed.
         most: u64,
     },
-    /// There is no memory.
+    /// Memory ran out.
     OutOfMemory,
 }
 
 impl From<AllocError> for SplitError {
     ghost from_gives = { λ _ e. e ≡ OutOfMemory };
 
-    /// Want of memory is an answer of its own.
+    /// Running out of memory is an answer of its own.
     fn from(_error: AllocError) -> Self {
         SplitError::OutOfMemory
     }
@@ -53,7 +53,7 @@ impl From<AllocError> for SplitError {
 impl<T: Drop> From<AllocFailed<T>> for SplitError {
     ghost from_gives = { λ _ e. e ≡ OutOfMemory };
 
-    /// Want of memory is an answer of its own; what was to be stored is dropped.
+    /// Running out of memory is an answer of its own; what was to be stored is dropped.
     fn from(_failed: AllocFailed<T>) -> Self {
         SplitError::OutOfMemory
     }

@@ -11,7 +11,7 @@ ghost use Rattle.coast_split.specs.Place.{place_by_sign};
 use osm_geom::{Carrier, Cut, Edge, Loc, Point, Side, compare_to_cut, cut_point};
 use std::cmp::Ordering;
 
-/// Where a point stands against the kept side of a cut line.
+/// Where a point lies relative to the kept side of a cut line.
 #[derive(Clone, Copy, Debug, PartialEq, Eq)]
 pub enum Place {
     /// Strictly on the side.
@@ -21,7 +21,7 @@ pub enum Place {
     Beyond,
 }
 
-/// Where a point stands.
+/// Where a point lies.
 pub fn place_of(p: &Point, cut: Cut, side: Side) -> Place
     ensures { result ≡ place_by_sign (side_of cut side p.now) }
 {
@@ -48,7 +48,7 @@ fn lattice_point(x: i32, y: i32) -> Loc
     Loc { x, y }
 }
 
-/// The point in which an edge from one side of the line to the other meets it.
+/// The point at which an edge from one side of the line to the other meets it.
 fn crossing(e: &Edge, cut: Cut) -> Point
     requires { are_opposite (cut_order cut e.now.from) (cut_order cut e.now.to) ≡ true }
     ensures on_line { cut_order cut result ≡ Null }

@@ -1,7 +1,7 @@
 //! The certifying job: whether a text is what an export in format text writes over an input, whoever made it.
 //!
-//! How it is to end is a definition over the objects of the input and the text (specs/Certify): as done where the text has no
-//! wrong line, and refuted with the first one where it has. It opens no output and writes nothing.
+//! How it must end is a definition over the objects of the input and the text (specs/Certify). It ends as done if the text
+//! has no wrong line, and otherwise as refuted, with the first one. It opens no output and writes nothing.
 
 mod laws;
 mod work;

@@ -1,5 +1,6 @@
-//! Jobs that ask something of the areas of an input, a module each: whether a text is what `export` writes, and which areas
-//! hold points.
+//! Jobs that ask something about the areas of an input, a module each.
+//!
+//! They ask whether a text is what `export` writes, and which areas hold points.
 #![tactic(auto)]
 
 pub mod certify;

@@ -1,4 +1,4 @@
-//! The job of `locate`: which areas of an input hold the points of a text, and which have them on them, a line a point.
+//! The job of `locate`: for each point of a text a line with the areas that hold it and those that have it on them.
 
 mod laws;
 mod printing;

@@ -52,8 +52,11 @@ wrong_way_line ring = line.WrongWay ring
 
 -- ---- all lines
 
--- of the ways set aside, Antarctica, gaps, chains that are still unclosed, rings that are left out, conflicts, segments that
--- stand more than once, and rings that run the wrong way
+-- The lines of the report, in order:
+-- - ways set aside, Antarctica and gaps
+-- - chains that are still unclosed, and rings that are left out
+-- - conflicts, and segments that occur more than once
+-- - rings that run the wrong way
 abbrev pub coast_lines : Coast → List CoastLine
 coast_lines coast =
     map aside_line coast.asides

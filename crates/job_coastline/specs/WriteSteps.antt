@@ -40,8 +40,8 @@ pub record AreMade (kind : PieceKind) (leaves : List Leaf) (text : List ℕ) (li
   pub written : text ≡ pieces_text kind tiles
   pub told : lines ≡ flat_map tile_lines tiles
 
--- What these leaves make was written, and their report lines stand behind those of before; or what was written is a prefix of
--- what they make, where the run is broken off.
+-- What these leaves make was written, and their report lines come after earlier ones.
+-- Or what was written is a prefix of what they make, if the run stopped early.
 pub record WroteLeaves {T : Type 0} (kind : PieceKind) (leaves : List Leaf) (before_lines lines : List CoastLine) (before after : Outside)
     (result : Result T BrokenOff) : Type 0 where
   pub text : List ℕ
@@ -56,8 +56,8 @@ pub record WroteReport {T : Type 0} (lines : List CoastLine) (before after : Out
   pub printed : ArePrinted lines report
   pub sends : Sends (map to_report report) before after result
 
--- What leaves of the outlines make was written, of land and then of water, and behind it the report, begun with the lines of the
--- coast, which tells how the run ends; or a prefix of that.
+-- What leaves of the outlines make was written, of land and then of water, followed by the report; or a prefix of that.
+-- The report begins with the lines of the coast, and determines how the run ends.
 pub record WroteOutlines (settings : CoastlineSettings) (outlines : Outlines) (before after : Outside) (result : Result Ended BrokenOff) : Type 0 where
   pub leaves : HaveFewTogether settings outlines.land.items outlines.water.items
   pub land_text : List ℕ

@@ -1,10 +1,12 @@
-//! The coastline job: the coastline ways of an input joined to rings, land and water split into pieces of an output, and a
-//! report of all that is amiss.
+//! The coastline job: the coastline ways of an input joined to rings, land and water split into pieces, and a report.
 //!
-//! What it is to write in all is a definition over the objects of the input (specs/Coastline): what comes of the coastline
-//! ways, the polygons that are asked for, the leaves that they are split into, what is printed of those, and the lines of the
-//! report, which tell how the run ends. Too many leaves end it before anything is written. So leaves are counted first; then
-//! each is made into pieces, and those are written before the next one is cut out.
+//! The pieces go to an output, and the report has all that is amiss. What the job must write in all is a definition over the
+//! objects of the input (specs/Coastline). It says what becomes of the coastline ways, which polygons are asked for, which
+//! leaves they are split into, and how these are printed. It also says which lines the report has, and these determine how
+//! the run ends.
+//!
+//! Too many leaves end the run before anything is written. So leaves are counted first. Then each is made into pieces, and
+//! those are written before the next one is cut out.
 #![tactic(auto)]
 
 mod coast;

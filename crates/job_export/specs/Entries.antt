@@ -1,4 +1,4 @@
--- Words of private clauses on what candidates add. No public contract cites it.
+-- Words of private clauses on what candidates add. No public contract cites them.
 use Rattle.std.specs.Prelude.{◌≡◌, ℕ, List, ◌++◌}
 use Rattle.osm_elements.specs.declared.object.Object.{Object}
 use Rattle.osm_elements.specs.declared.object.ObjectRef.{ObjectRef}
@@ -9,8 +9,8 @@ use Rattle.job_export.specs.declared.entry.Addition.{Addition}
 use Rattle.job_export.specs.Entry.{IsReportShown, area_in, framed_feature}
 use Rattle.job_export.specs.Reports.{IsReportOf, TellsKinds}
 
--- an addition is that of the candidate and its outcome, with `earlier` features before it; its feature stands behind those that wait, and its report is
--- what is shown of the outcome
+-- An addition is that of the candidate and its outcome, after `earlier` features.
+-- Its feature comes after those that wait, and its report is what is shown of the outcome.
 pub record IsAdditionOf (settings : ExportSettings) (objects : List Object) (earlier : ℕ) (candidate : ObjectRef) (waited waiting : List ℕ) (addition : Addition) : Type 0 where
   pub outcome : Outcome
   pub right : IsOutcome objects candidate outcome

@@ -30,7 +30,7 @@ feature_in Text id polygons tags = feature_text id (paths_of polygons) tags
 feature_in GeoJson id polygons tags = feature_json id (paths_of polygons) tags
 feature_in GeoJsonSeq id polygons tags = feature_json id (paths_of polygons) tags
 
--- the feature of an area with what stands around it; nothing where there are problems
+-- the feature of an area with the text around it; nothing if there are problems
 abbrev pub framed_feature : ExportSettings → List Object → ℕ → ObjectRef → Outcome → List ℕ
 framed_feature settings objects earlier candidate (Area polygons notes) =
     framed settings earlier (feature_in settings.format (feature_id settings.ids (earlier + 1) candidate) polygons (feature_tags (object_at objects candidate)))
@@ -56,14 +56,14 @@ IsReport candidate (Area polygons notes) text = text ≡ flat_map (note_line can
 IsReport candidate (Problems list notes) text =
     (lines : List ℕ) × AreProblemLines candidate list lines × (text ≡ lines ++ flat_map (note_line candidate) notes)
 
--- the report of a candidate, where report lines are asked for
+-- the report of a candidate, if report lines are asked for
 abbrev pub IsReportShown : Bool → ObjectRef → Outcome → List ℕ → Type 0
 IsReportShown true candidate outcome text = IsReport candidate outcome text
 IsReportShown false candidate outcome text = text ≡ []
 
 -- ---- both
 
--- a candidate with what comes of it, and its report lines
+-- a candidate with its outcome and its report lines
 pub record Entry : Type 0 where
   pub candidate : ObjectRef
   pub outcome : Outcome
@@ -82,7 +82,7 @@ area_in (Problems list notes) = false
 abbrev pub has_area : Entry → Bool
 has_area entry = area_in entry.outcome
 
--- what an entry adds, with `earlier` features before it: its feature, then its report lines
+-- what an entry adds after `earlier` features: its feature, then its report lines
 abbrev pub entry_sent : ExportSettings → List Object → ℕ → Entry → List Sent
 entry_sent settings objects earlier entry =
     map to_output (framed_feature settings objects earlier entry.candidate entry.outcome) ++ map to_report entry.report

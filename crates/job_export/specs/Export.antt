@@ -1,4 +1,4 @@
--- What an export is to write in all, and how it is to end.
+-- What an export must write in all, and how it must end.
 use Rattle.std.specs.Prelude.{◌≡◌, false, true, List, [], ◌∷◌, ◌++◌, map, All}
 use Rattle.osm_elements.specs.declared.object.Object.{Object}
 use Rattle.osm_elements.specs.declared.object.ObjectRef.{ObjectRef}
@@ -33,7 +33,7 @@ stopped_whole settings objects entries last = record {
 abbrev pub HaveAreas : List Entry → Type 0
 HaveAreas entries = All (λ entry. has_area entry ≡ true) entries
 
--- Each candidate has its entry, in order; or the run is to stop at the first candidate with problems.
+-- Each candidate has its entry, in order; or the run must stop at the first candidate with problems.
 pub data IsExport (settings : ExportSettings) (objects : List Object) (whole : Whole) : Type 0 where
   finished : (entries : List Entry) →
       map (λ entry. entry.candidate) entries ≡ candidates (choice_of settings) objects →
@@ -46,7 +46,7 @@ pub data IsExport (settings : ExportSettings) (objects : List Object) (whole : W
       HaveAreas entries → has_area last ≡ false →
       whole ≡ stopped_whole settings objects entries last → IsExport settings objects whole
 
--- An export ended so: it reads its input, opens its output, and writes what is right over the objects of the input.
+-- An export ended like this: it reads its input, opens its output, and writes what is right for the objects of the input.
 abbrev pub Exports : ExportSettings → Ended → Outside → Outside → Type 0
 Exports settings ended before after =
     ReadThenWrote settings.file (output settings.output settings.overwrite) (IsExport settings) ended before after

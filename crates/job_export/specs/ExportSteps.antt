@@ -1,4 +1,4 @@
--- Words of private clauses on the work of an export. No public contract cites it.
+-- Words of private clauses on the work of an export. No public contract cites them.
 use Rattle.std.specs.Prelude.{◌≡◌, ℕ, true, false, List, [], ◌∷◌, ◌++◌, map, All, Result, Ok, Err}
 use Rattle.osm_elements.specs.declared.object.Object.{Object}
 use Rattle.osm_elements.specs.declared.object.ObjectRef.{ObjectRef}
@@ -15,7 +15,7 @@ use Rattle.job_export.specs.declared.work.Halt.TheVariants.{Stopped, WriteFault,
 use Rattle.job_export.specs.Entry.{Entry, IsEntry, features_in, has_area, entry_sent, entries_sent}
 use Rattle.job_export.specs.Export.{HaveAreas, IsExport}
 
--- A write failed, one alone, where that is answered, and only there.
+-- Exactly one write failed if that is the answer, and otherwise none.
 abbrev pub HaltCause : {T : Type 0} → Outside → Outside → Result T Halt → Type 0
 HaltCause before after (Ok done) = after.write_faults ≡ before.write_faults
 HaltCause before after (Err (Stopped candidate)) = after.write_faults ≡ before.write_faults
@@ -24,13 +24,13 @@ HaltCause before after (Err OutOfMemory) = after.write_faults ≡ before.write_f
 
 -- ---- the last features
 
--- all that waited was written, or a prefix where a write failed
+-- all that waited was written, or a prefix if a write failed
 abbrev pub IsSentLast : List Sent → List Sent → Halt → Type 0
 IsSentLast waited written (Stopped candidate) = ⊥
 IsSentLast waited written WriteFault = IsPrefix written waited
 IsSentLast waited written OutOfMemory = written ≡ waited
 
--- What waited was written before memory ended the run.
+-- What waited was written before the run ended for lack of memory.
 pub record WroteLast (waited : List ℕ) (before after : Outside) (halt : Halt) : Type 0 where
   pub written : List Sent
   pub sent : IsSentLast (map to_output waited) written halt
@@ -44,8 +44,9 @@ pub record IsEntryOf (settings : ExportSettings) (objects : List Object) (candid
   pub of_candidate : entry.candidate ≡ candidate
   pub right : IsEntry settings.show_errors objects entry
 
--- What was written, and then what waits, is what waited, and then what a candidate with `earlier` features before it adds; the answer is the number of its
--- features. Where the run stops there, nothing waits; where memory runs out, all that waited was written.
+-- What was written, followed by what waits, is what waited before, followed by what a candidate adds after `earlier`
+-- features. The answer is the number of its features. If the run stops there, nothing waits. If memory runs out, all that
+-- waited was written.
 abbrev pub IsAddedBy : ExportSettings → List Object → ℕ → ObjectRef → List ℕ → List ℕ → List Sent → Result ℕ Halt → Type 0
 IsAddedBy settings objects earlier candidate waited waiting written (Ok count) =
     (entry : Entry) × IsEntryOf settings objects candidate entry × (settings.stop_on_error ≡ true → has_area entry ≡ true) × (count ≡ features_in entry.outcome)
@@ -67,7 +68,7 @@ pub record WroteCandidate (settings : ExportSettings) (objects : List Object) (e
 
 -- ---- many candidates
 
--- Entries of these candidates, in order, with areas where the run stops at problems.
+-- Entries of these candidates, in order, all with areas if the run must stop at problems.
 pub record AreEntriesOf (settings : ExportSettings) (objects : List Object) (candidates : List ObjectRef) (entries : List Entry) : Type 0 where
   pub in_order : map (λ entry. entry.candidate) entries ≡ candidates
   pub right : All (IsEntry settings.show_errors objects) entries
@@ -90,7 +91,7 @@ pub data IsPrefixOf (settings : ExportSettings) (objects : List Object) (candida
   stopping : (entries : List Entry) (last : Entry) → StopsAt settings objects candidates entries last →
       IsPrefix written (entries_sent settings objects 0 (entries ++ last ∷ [])) → IsPrefixOf settings objects candidates written
 
--- What was written is what these candidates add, as far as the run came.
+-- What was written is what these candidates add, as far as the run got.
 abbrev pub AreAddedBy : ExportSettings → List Object → List ObjectRef → List Sent → Result (Unit {0}) Halt → Type 0
 AreAddedBy settings objects candidates written (Ok done) =
     (entries : List Entry) × AreEntriesOf settings objects candidates entries × (written ≡ entries_sent settings objects 0 entries)
@@ -114,7 +115,7 @@ ended_by_halt (Err (Stopped candidate)) = ended.Stopped candidate
 ended_by_halt (Err WriteFault) = ended.WriteFault
 ended_by_halt (Err OutOfMemory) = ended.OutOfMemory
 
--- what was written is all of a right whole, which ends so
+-- what was written is all of a right whole with this ending
 abbrev pub IsAll : ExportSettings → List Object → List Sent → Ended → Type 0
 IsAll settings objects written ended = IsExport settings objects (record { written = written; ended = ended })
 

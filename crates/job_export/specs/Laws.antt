@@ -5,6 +5,6 @@ use Rattle.osm_words.specs.Job.{ExportSettings}
 use Rattle.osm_job.specs.Whole.{Whole}
 use Rattle.job_export.specs.Export.{IsExport}
 
--- for each settings and objects there is something that is right to be written
+-- for all settings and objects there is something right to write
 abbrev pub ExportExists : Type 0
 ExportExists = (settings : ExportSettings) (objects : List Object) → (whole : Whole) × IsExport settings objects whole

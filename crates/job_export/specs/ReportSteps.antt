@@ -1,4 +1,4 @@
--- How report lines are written, alone and behind the features that wait. No public contract cites it.
+-- How report lines are written, alone and after the features that wait. No public contract cites this.
 use Rattle.std.specs.Prelude.{◌≡◌, ℕ, List, [], ◌++◌, map, Result, Ok, Err}
 use Rattle.osm_host.specs.Outside.{Outside}
 use Rattle.osm_job.specs.Prefix.{IsPrefix}
@@ -8,14 +8,14 @@ use Rattle.job_export.specs.declared.work.Halt.{Halt}
 use Rattle.job_export.specs.declared.work.Halt.TheVariants.{Stopped, WriteFault, OutOfMemory}
 use Rattle.job_export.specs.ExportSteps.{HaltCause}
 
--- Lines were written behind what waited: all of both, or a prefix. Where memory ran out, all that waited was written.
+-- Lines were written after what waited: all of both, or a prefix. If memory ran out, all that waited was written.
 abbrev pub AreSentBehind : List Sent → List Sent → List Sent → Result (Unit {0}) Halt → Type 0
 AreSentBehind waited lines written (Ok done) = written ≡ waited ++ lines
 AreSentBehind waited lines written (Err (Stopped candidate)) = ⊥
 AreSentBehind waited lines written (Err WriteFault) = IsPrefix written (waited ++ lines)
 AreSentBehind waited lines written (Err OutOfMemory) = (more : List Sent) × IsPrefix more lines × (written ≡ waited ++ more)
 
--- Behind what waited a report text that is right was written, or a prefix where the run is broken off.
+-- A right report text was written after what waited, or a prefix of both if the run stopped early.
 pub record WroteBehind (waited : List ℕ) (IsText : List ℕ → Type 0) (before after : Outside) (result : Result (Unit {0}) Halt) : Type 0 where
   pub text : List ℕ
   pub right : IsText text
@@ -24,6 +24,6 @@ pub record WroteBehind (waited : List ℕ) (IsText : List ℕ → Type 0) (befor
   pub added : Added written before after
   pub cause : HaltCause before after result
 
--- the same where nothing waited
+-- the same if nothing waited
 abbrev pub WroteLines : (List ℕ → Type 0) → Outside → Outside → Result (Unit {0}) Halt → Type 0
 WroteLines IsText before after result = WroteBehind [] IsText before after result

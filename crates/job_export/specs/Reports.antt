@@ -1,4 +1,4 @@
--- What is reported of a candidate, as it is held. No public contract cites it.
+-- What is reported of a candidate, as it is held. No public contract cites this.
 use Rattle.std.specs.Prelude.{◌≡◌, ℕ, All, List, ◌++◌, Option, None, Some}
 use Rattle.std.specs.List.{flat_map}
 use Rattle.osm_elements.specs.declared.object.ObjectRef.{ObjectRef}
@@ -9,7 +9,7 @@ use Rattle.osm_text.specs.Report.{note_line}
 use Rattle.job_export.specs.declared.report.Report.{Report}
 use Rattle.job_export.specs.Entry.{AreProblemLines}
 
--- the lines of problems, where there are any, and then those of notes
+-- the lines of problems, if there are any, and then those of notes
 abbrev pub AreReportLines : ObjectRef → Option (List Problem) → List Note → List ℕ → Type 0
 AreReportLines of None notes text = text ≡ flat_map (note_line of) notes
 AreReportLines of (Some problems) notes text = (lines : List ℕ) × AreProblemLines of problems lines × (text ≡ lines ++ flat_map (note_line of) notes)
@@ -22,6 +22,6 @@ abbrev pub AreOfTheirKinds : Option (List Problem) → Type 0
 AreOfTheirKinds None = Unit {0}
 AreOfTheirKinds (Some problems) = All IsOfItsKind problems
 
--- each conflict that it tells is of the kind that its segments have
+-- each conflict in it is of the kind that its segments have
 abbrev pub TellsKinds : Report → Type 0
 TellsKinds report = AreOfTheirKinds report.problems

@@ -22,17 +22,17 @@ use osm_text::{FeatureId, put_feature_json, put_feature_text};
 use osm_words::{ExportSettings, Format};
 use std::alloc::{AllocError as OutOfMemory, Global};
 
-/// What a candidate adds beside its feature.
+/// What a candidate adds besides its feature.
 #[derive(Drop)]
 pub(crate) struct Addition {
-    /// Whether it has a feature; not where it has problems.
+    /// Whether it has a feature; false if it has problems.
     pub has_feature: bool,
-    /// What is reported of it; nothing where report lines aren't asked for.
+    /// What is reported of it; nothing if report lines aren't asked for.
     pub report: Report,
 }
 
 impl Addition {
-    /// Whether it is a feature alone, which may wait for the next ones.
+    /// Whether it adds only a feature, which may wait for the next ones.
     pub(crate) fn is_feature_alone(&self) -> bool
         ensures feature { result ≡ true → self.now.has_feature ≡ true }
         ensures alone { result ≡ true → (of : ObjectRef) → IsReportOf of self.now.report [] }
@@ -41,7 +41,7 @@ impl Addition {
     }
 }
 
-/// Adds the feature of an area in a format. Where memory runs out, what was there still stands in front.
+/// Adds the feature of an area in a format. If memory runs out, what was there before stays in front.
 fn put_feature(
     alloc: Global,
     text: &mut Vec<u8>,
@@ -73,7 +73,7 @@ fn lent_tags<'a>(store: &'a Store, candidate: ObjectRef) -> Option<&'a Tags>
     }
 }
 
-/// Adds the feature of a candidate's area. Where memory runs out, what was there still stands in front.
+/// Adds the feature of a candidate's area. If memory runs out, what was there before stays in front.
 fn put_feature_of(
     alloc: Global,
     text: &mut Vec<u8>,
@@ -95,8 +95,9 @@ fn put_feature_of(
     put_feature(alloc, text, format, polygons, &tags, id)
 }
 
-/// Adds the feature of a candidate's area with `earlier` features before it, and what stands around it. Where memory runs out, what was
-/// there still stands in front.
+/// Adds the feature of a candidate's area, the one after `earlier` features, with the text around it.
+///
+/// If memory runs out, what was there before stays in front.
 fn put_framed(
     alloc: Global,
     text: &mut Vec<u8>,
@@ -122,7 +123,8 @@ fn put_framed(
     Ok(())
 }
 
-/// Adds the feature of a candidate's area, with what stands around it, to those that wait. Where memory runs out, the same wait as before.
+/// Adds the feature of a candidate's area, with the text around it, to those that wait.
+/// If memory runs out, the same features wait as before.
 fn add_feature(
     alloc: Global,
     waiting: &mut Vec<u8>,
@@ -152,7 +154,8 @@ fn add_feature(
     }
 }
 
-/// Adds the feature of a candidate whose report lines aren't asked for, and gives what else it adds. No problem is listed.
+/// Adds the feature of a candidate whose report lines aren't asked for, and gives what else the candidate adds.
+/// It lists no problem.
 fn feature_of(
     alloc: Global,
     waiting: &mut Vec<u8>,
@@ -185,7 +188,7 @@ fn feature_of(
     }
 }
 
-/// Adds the feature of a candidate whose report lines are asked for, and gives what else it adds.
+/// Adds the feature of a candidate whose report lines are asked for, and gives what else the candidate adds.
 fn feature_and_report_of(
     alloc: Global,
     waiting: &mut Vec<u8>,
@@ -222,10 +225,11 @@ fn feature_and_report_of(
     }
 }
 
-/// Adds the feature of a candidate with `earlier` features before it, if it has one, to those that wait, and gives what else
-/// the candidate adds. Where memory runs out, the same wait as before.
+/// Adds the feature of a candidate, if it has one, to those that wait, and gives what else the candidate adds.
 ///
-/// Ways: where report lines aren't asked for, the area alone; else the whole outcome.
+/// It is the feature after `earlier` others. If memory runs out, the same features wait as before.
+///
+/// Ways: if report lines aren't asked for, the area alone; otherwise the whole outcome.
 pub(crate) fn addition_of(
     alloc: Global,
     waiting: &mut Vec<u8>,

@@ -1,11 +1,11 @@
-//! What stands around the features of an output, by its format.
+//! The text around the features of an output, by its format.
 
 ghost use Rattle.std.specs.Prelude.{◌≡◌};
 ghost use Rattle.job_export.specs.Framing.{header, footer, record_separator, before_feature, after_feature};
 
 use osm_words::Format;
 
-/// What an output begins with.
+/// The text at the start of an output.
 pub(crate) fn header(format: Format) -> &'static str
     ensures { result.now ≡ header format }
 {
@@ -15,7 +15,7 @@ pub(crate) fn header(format: Format) -> &'static str
     }
 }
 
-/// What it ends with.
+/// The text at its end.
 pub(crate) fn footer(format: Format) -> &'static str
     ensures { result.now ≡ footer format }
 {
@@ -32,7 +32,7 @@ fn record_separator(omit_rs: bool) -> &'static str
     if omit_rs { "" } else { "\x1e" }
 }
 
-/// What stands before a feature with `earlier` features before it.
+/// The text before a feature that follows `earlier` features.
 pub(crate) fn before_feature(format: Format, omit_rs: bool, earlier: u64) -> &'static str
     ensures { result.now ≡ before_feature format omit_rs earlier }
 {
@@ -44,7 +44,7 @@ pub(crate) fn before_feature(format: Format, omit_rs: bool, earlier: u64) -> &'s
     }
 }
 
-/// What stands after a feature.
+/// The text after a feature.
 pub(crate) fn after_feature(format: Format) -> &'static str
     ensures { result.now ≡ after_feature format }
 {

@@ -1,11 +1,11 @@
-//! That what is right for an export is there: a law, without code to run.
+//! The law that every export has something right to write. It has no code to run.
 
 ghost use Rattle.job_export.specs.Laws.{ExportExists};
 
 use osm_area::outcome_exists;
 use osm_text::problem_line_exists;
 
-/// Whatever the objects and the settings are, something is right to be written.
+/// For any objects and settings there is something right to write.
 pub fn export_exists()
     ensures { ExportExists }
 {

@@ -1,7 +1,8 @@
 //! The export job: the areas of an input's candidates, as features of an output, with the report lines that are asked for.
 //!
-//! What it is to write in all is a definition over the objects of the input: a header, for each candidate its feature and
-//! then its report lines, and a footer; or all up to the first candidate with problems, where the run is to stop there.
+//! What it must write in all is a definition over the objects of the input. It writes a header, for each candidate its
+//! feature and then its report lines, and a footer. If the run must stop at the first candidate with problems, it writes all
+//! up to that candidate.
 #![tactic(auto)]
 
 mod choice;

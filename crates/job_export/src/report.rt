@@ -74,7 +74,7 @@ fn write_problem<H: Host>(
     }
 }
 
-/// Writes that of a note.
+/// Writes the report line of a note.
 fn write_note<H: Host>(alloc: Global, of: ObjectRef, note: &Note, host: &mut H) -> Result<(), Halt>
     ensures { WroteLines (λ text. text ≡ note_line of note.now) (H.seen host.old)
         (H.seen host.new) result }
@@ -108,7 +108,7 @@ fn write_problems<H: Host>(
     Ok(())
 }
 
-/// Writes those of notes.
+/// Writes the report lines of notes.
 fn write_notes<H: Host>(
     alloc: Global,
     of: ObjectRef,
@@ -126,7 +126,7 @@ fn write_notes<H: Host>(
     Ok(())
 }
 
-/// Writes those of problems and then those of notes.
+/// Writes the report lines of problems and then those of notes.
 fn write_both<H: Host>(
     alloc: Global,
     of: ObjectRef,

@@ -1,4 +1,4 @@
-//! The work: the areas of an input's candidates, each assembled and then written together with those behind it, or before the next report line.
+//! The work: assembles each candidate's area, and writes it with the following ones, or before the next report line.
 
 ghost use Rattle.std.specs.Prelude.{◌≡◌, ◌+◌, ◌≤◌, All, IfOk, IsSome, Ok};
 ghost use Rattle.job_export.specs.ExportSteps.{WroteWhole, WroteCandidates, WroteCandidate, ended_by_halt};
@@ -23,10 +23,10 @@ use osm_text::problem_line_exists;
 use osm_words::ExportSettings;
 use std::alloc::Global;
 
-/// Why an export is broken off after its output was opened.
+/// Why an export stops early after its output was opened.
 #[derive(Clone, Copy, Debug, PartialEq, Eq)]
 pub(crate) enum Halt {
-    /// This candidate has problems, and the run is to stop at the first that has.
+    /// This candidate has problems, and the run must stop at the first one that has.
     Stopped { candidate: ObjectRef },
     /// A write failed.
     WriteFault,
@@ -38,7 +38,7 @@ pub(crate) enum Halt {
 pub fn export<H: Host>(alloc: Global, settings: &ExportSettings<'_>, host: &mut H) -> Ended
     ensures { Exports (settings_seen settings.now) result (H.seen host.old) (H.seen host.new) }
 {
-    // By law: what is written and opened adds up in turn, and something is right to be written.
+    // By law: what is written and opened adds up in turn, and there is something right to write.
     streams_append();
     export_exists();
     let store = match read_input(alloc, host, settings.file) {
@@ -54,7 +54,7 @@ pub fn export<H: Host>(alloc: Global, settings: &ExportSettings<'_>, host: &mut 
     write_export(alloc, &store, settings, &candidates, host)
 }
 
-/// Writes all of it to the opened output, and says how the run ends.
+/// Writes everything to the opened output, and says how the run ends.
 fn write_export<H: Host>(
     alloc: Global,
     store: &Store,
@@ -71,7 +71,7 @@ fn write_export<H: Host>(
     ended_by_halt(write_whole(alloc, store, settings, candidates, host))
 }
 
-/// How a run ends whose output was opened.
+/// How a run ends once its output was opened.
 fn ended_by_halt(written: Result<(), Halt>) -> Ended
     ensures { result ≡ ended_by_halt written }
 {
@@ -145,11 +145,13 @@ fn write_candidates<H: Host>(
     Ok(())
 }
 
-/// So many bytes of features are written, and no longer wait for more.
+/// Waiting features are written once they have this many bytes.
 const MANY: usize = 65_536;
 
-/// Assembles a candidate with `earlier` features before it, and writes what it adds behind the features that wait; a feature alone waits too.
-/// Where memory runs out, those that wait are written before the run ends. It answers the number of the candidate's features, 1 or 0.
+/// Assembles a candidate that follows `earlier` features, and writes what it adds after the features that wait.
+///
+/// A feature alone waits too. If memory runs out, the features that wait are written before the run ends. The answer is the
+/// number of the candidate's features, 1 or 0.
 fn write_candidate<H: Host>(
     alloc: Global,
     store: &Store,

@@ -14,7 +14,7 @@ use osm_job::write_out;
 use osm_text::problem_line_exists;
 use std::alloc::Global;
 
-/// Writes the features that wait, all at once, and then what is reported of a candidate. Then none waits.
+/// Writes the waiting features, all at once, and then what is reported of a candidate. Then none waits.
 pub(crate) fn write_waiting<H: Host>(
     alloc: Global,
     host: &mut H,
@@ -35,7 +35,9 @@ pub(crate) fn write_waiting<H: Host>(
     write_report_of(alloc, of, report, host)
 }
 
-/// Writes the features that wait before memory ends the run, and says what ends it: a write that fails, or else want of memory.
+/// Writes the waiting features before the run ends for lack of memory.
+///
+/// It says what ends the run: a write that fails, or else lack of memory.
 pub(crate) fn write_last<H: Host>(host: &mut H, waiting: &[u8]) -> Halt
     ensures { WroteLast waiting.now (H.seen host.old) (H.seen host.new) result }
 {

@@ -1,7 +1,7 @@
 //! The filter job: the coast of an input, written as OPL of its own.
 //!
-//! What it is to write in all is a definition over the objects of the input (specs/Filter): the lines of their coast part. A
-//! coastline job over that text is to write what it is to write over the input.
+//! What it must write in all is a definition over the objects of the input (specs/Filter): the lines of their coast part. A
+//! coastline job over that text must write the same as over the input.
 
 mod laws;
 mod work;

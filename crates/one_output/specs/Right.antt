@@ -14,17 +14,17 @@ use Rattle.osm_cli.specs.Whole.{IsWhole}
 use Rattle.osm_job.specs.declared.ended.Ended.{Ended}
 use Rattle.osm_job.specs.declared.ended.Ended.TheVariants.{BadWords}
 
--- a text for each input of the job that the words ask for; nothing where they are refused
+-- a text for each input of the job that the words ask for; nothing if the words are refused
 abbrev pub TextsOf : Result Job WordsFault → Type 0
 TextsOf (Ok job) = Texts (inputs_of job)
 TextsOf (Err fault) = Unit {0}
 
--- the names of the inputs stand for these texts outside
+-- outside, the names of the inputs have these texts as their contents
 abbrev pub AreTold : Outside → (words : Result Job WordsFault) → TextsOf words → Type 0
 AreTold before (Ok job) texts = told_texts before.named (inputs_of job) ≡ Some texts
 AreTold before (Err fault) texts = Unit {0}
 
--- what is right for the job over its texts; where the words are refused, that nothing is written
+-- what is right for the job over its texts; if the words are refused, that nothing is written
 abbrev pub IsRightForWords : (words : Result Job WordsFault) → TextsOf words → Whole → Type 0
 IsRightForWords (Ok job) texts whole = IsWhole job texts whole
 IsRightForWords (Err fault) texts whole = whole ≡ silent (BadWords fault)
@@ -40,13 +40,13 @@ is_unbroken by_read = false
 is_unbroken by_write = false
 is_unbroken by_memory = false
 
--- a prefix of the whole was written, and unless the host or memory failed all of it, and the run
--- ended as is right; only the last line of the report comes after it, which the ending tells
+-- A prefix of the whole was written. Unless the host or memory failed, all of it was, and the run ended as is right.
+-- Only the last line of the report comes after it, and the ending determines that line.
 pub record KeepsTo (whole : Whole) (ended : Ended) (written : List Sent) : Type 0 where
   pub front : IsPrefix written whole.written
   pub all : is_unbroken (cause_of ended) ≡ true → (written ≡ whole.written) × (ended ≡ whole.ended)
 
--- every run with these words over these texts, on whatever host that tells them, keeps to the whole
+-- every run with these words over these texts, on any host that reveals them, keeps to the whole
 abbrev pub AllRunsKeepTo : (words : Result Job WordsFault) → TextsOf words → Whole → Type 0
 AllRunsKeepTo words texts whole =
     (ended : Ended) (before after : Outside) (run : Writes words ended before after) →

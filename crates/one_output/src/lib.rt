@@ -1,8 +1,7 @@
-//! What a run writes is a function of its words and the texts of its inputs: there is one right
-//! output, one report and one ending.
+//! What a run writes is a function of its words and the texts of its inputs.
 //!
-//! There is no code to run here. The contract of each function is a law about the definitions of
-//! `osm_cli`, by which the contract of its `run` speaks.
+//! There is one right output, one report and one ending. There is no code to run here. The contract of each function is a
+//! law about the definitions of `osm_cli` that the contract of its `run` uses.
 #![tactic(auto)]
 
 pub mod one_coast;
@@ -24,9 +23,10 @@ use osm_input::limit_decides_the_lines;
 use osm_sample::sample_has_one_coast;
 use osm_text::problem_line_is_one;
 
-/// What is right for a job over the texts of its inputs is one list of what is written, and one
-/// ending, alone: each text is read as one thing, and each candidate adds one thing. It depends on
-/// the objects of the input alone, and on the bytes of a second one.
+/// A job has at most one right list of what is written over the texts of its inputs, and one ending.
+///
+/// Each text is read as one thing, and each candidate adds one thing. The list and the ending depend only on the objects of
+/// the input, and on the bytes of a second input.
 pub fn whole_is_one()
     ensures reading { ReadingIsOne }
     ensures entry { EntryIsOne }
@@ -34,8 +34,8 @@ pub fn whole_is_one()
     ensures whole { WholeIsOne }
     ensures objects { ObjectsTellTheWhole }
 {
-    // By law: the limit decides which lines count, a problem has one line, a coastline, a filter, a
-    // certified text and located points have one whole, and a candidate has one outcome and a coast
+    // By law: the limit decides which lines count, and a problem has one line.
+    // A coastline, a filter, a certified text and located points have one whole. A candidate has one outcome, and a coast
     // one number of lines.
     limit_decides_the_lines();
     problem_line_is_one();
@@ -47,15 +47,15 @@ pub fn whole_is_one()
     coast_counts_are_one();
 }
 
-/// For each words and texts of their inputs there is exactly one right output, report and ending;
-/// and whatever a run writes is a prefix of it, and all of it unless the host or memory failed.
+/// For all words and texts of their inputs there is exactly one right output, report and ending.
+///
+/// Whatever a run writes is a prefix of it, and all of it unless the host or memory failed.
 pub fn runs_keep_to_the_whole()
     ensures { RunsKeepToTheWhole }
 {
-    // By law: what is right is one. An export of any objects has a whole, so has a coastline job where
-    // no two coastline ways have one id, as reading sees to, and a filter of an input; a text has a
-    // verdict, and points have areas or none; and a sample, each of whose candidates has an outcome,
-    // and which has one coastline way.
+    // By law: what is right is one. An export of any objects has a whole, and so has a filter of an input.
+    // A coastline job has one if no two coastline ways have one id, which reading ensures. A text has a verdict, and points
+    // have areas or none. A sample has one too: each of its candidates has an outcome, and it has one coastline way.
     whole_is_one();
     limit_decides_the_lines();
     export_exists();
@@ -69,8 +69,9 @@ pub fn runs_keep_to_the_whole()
     sample_has_one_coast();
 }
 
-/// Two runs with the same words over the same texts, on whatever hosts, write the same and end
-/// alike, unless the host or memory failed; then what one wrote is still a prefix of what the other
+/// Two runs with the same words over the same texts write the same and end alike, on any hosts.
+///
+/// The exception is a failure of the host or of memory. Then what one of them wrote is still a prefix of what the other
 /// wrote.
 pub fn runs_agree()
     ensures same { RunsAgree }

@@ -1,8 +1,7 @@
-//! What a coastline job is to write is a function of its settings and of the objects of its input: it is
-//! there, and it is one. What the leaves of land and of water cover, and that their polygons are valid.
+//! What a coastline job must write is a function of its settings and of the objects of its input.
 //!
-//! There is no code to run here. The contract of each function is a law about the definitions of
-//! `job_coastline`.
+//! It exists, and it is one. Other laws say what the leaves of land and of water cover, and that their polygons are valid.
+//! There is no code to run here. The contract of each function is a law about the definitions of `job_coastline`.
 
 ghost use Rattle.one_output.specs.OneCoast.Cover.{LandLeavesCover, LandLeavesPart, LeavesPartTheWorld, WaterLeavesCover, WaterLeavesPart};
 ghost use Rattle.one_output.specs.OneCoast.Laws.{CoastCountsAreOne, CoastCountsExist, CoastExists, CoastIsOne, CoastlineExists, CoastlineIsOne};
@@ -24,8 +23,9 @@ use osm_nest::valid_polygons::nested_polygons_are_valid;
 use osm_nest::{nested_cover_as_rings, nested_have_kinds, polygons_are_one, rings_may_be_nested};
 use osm_text::coast_line_is_one;
 
-/// What comes of the coastline ways of objects is one thing alone: what keeps ways from taking part, chains,
-/// closings, rings, what is sorted out, and land.
+/// The coastline ways of objects have at most one coast.
+///
+/// It is what keeps ways from taking part, chains, closings, rings, what is sorted out, and land.
 pub fn coast_is_one()
     ensures { CoastIsOne }
 {
@@ -36,7 +36,7 @@ pub fn coast_is_one()
     land_is_one();
 }
 
-/// So what a coastline job is to write, and how it is to end, is one thing alone.
+/// There is at most one thing that a coastline job must write, and one ending.
 pub fn coastline_is_one()
     ensures { CoastlineIsOne }
 {
@@ -51,7 +51,7 @@ pub fn coastline_is_one()
     leaves_cover_as_list();
 }
 
-/// So are the numbers of lines that it writes, whatever the number of leaves.
+/// The numbers of lines that it writes are one too, for any number of leaves.
 pub fn coast_counts_are_one()
     ensures { CoastCountsAreOne }
 {
@@ -64,7 +64,7 @@ pub fn coast_counts_are_one()
     leaves_cover_as_list();
 }
 
-/// Where no two coastline ways have one id, there is what comes of them.
+/// If no two coastline ways have one id, there is a coast.
 pub fn coast_exists()
     ensures { CoastExists }
 {
@@ -76,7 +76,7 @@ pub fn coast_exists()
     land_exists();
 }
 
-/// And there is something that a coastline job is to write.
+/// Then there is something that a coastline job must write.
 pub fn coastline_exists()
     ensures { CoastlineExists }
 {
@@ -90,7 +90,7 @@ pub fn coastline_exists()
     leaves_cover_as_list();
 }
 
-/// And there are the numbers of lines that it writes.
+/// Then there are also the numbers of lines that it writes.
 pub fn coast_counts_exist()
     ensures { CoastCountsExist }
 {
@@ -103,9 +103,11 @@ pub fn coast_counts_exist()
     leaves_cover_as_list();
 }
 
-/// What the leaves cover together. Where land is asked for, some leaf of land covers a point off the edges of its leaves
-/// exactly where the parity of the kept rings' segments is 1; where water is asked for, some leaf of water covers such a whole
-/// point strictly within the world exactly where it is 0.
+/// What the leaves cover together.
+///
+/// If land is asked for, some leaf of land covers a point off the edges of its leaves exactly if the parity of the kept
+/// rings' segments is 1. If water is asked for, some leaf of water covers such a whole point strictly within the world
+/// exactly if that parity is 0.
 pub fn leaves_cover_the_coast()
     ensures land { LandLeavesCover }
     ensures water { WaterLeavesCover }
@@ -116,8 +118,9 @@ pub fn leaves_cover_the_coast()
     land_and_water_cover();
 }
 
-/// Without an overlap the leaves part the coast: off their edges no two leaves of land cover one point, nor two of water. Where
-/// both are asked for exactly one leaf covers each such whole point strictly within the world.
+/// Without an overlap the leaves part the coast: off their edges no two leaves of land cover one point, nor two of water.
+///
+/// If both are asked for, exactly one leaf covers each such whole point strictly within the world.
 pub fn leaves_part_the_coast()
     ensures land { LandLeavesPart }
     ensures water { WaterLeavesPart }
@@ -129,8 +132,10 @@ pub fn leaves_part_the_coast()
     land_and_water_cover();
 }
 
-/// The polygons of each leaf, before they are rounded: outer and inner rings as their anchors tell, each inner one under the
-/// outer one that directly encloses it. Together they cover each point exactly as the leaf does, once or not at all.
+/// The polygons of each leaf, before they are rounded.
+///
+/// Anchors decide which rings are outer and which inner, and each inner one is under the outer one that directly encloses
+/// it. Together the polygons cover each point exactly as the leaf does, once or not at all.
 pub fn pieces_are_polygons()
     ensures { PiecesArePolygons }
 {
@@ -140,8 +145,9 @@ pub fn pieces_are_polygons()
     nested_cover_as_rings();
 }
 
-/// The polygons of land, those of water, and those of each leaf before they are rounded are a valid MultiPolygon,
-/// multiplied by a number that makes their points whole.
+/// The polygons of land, those of water, and those of each leaf are valid MultiPolygons before they are rounded.
+///
+/// They are multiplied by a number that makes their points whole.
 pub fn coasts_are_valid()
     ensures whole { CoastsAreValid }
     ensures pieces { PiecesAreValid }

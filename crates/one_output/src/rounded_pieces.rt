@@ -1,8 +1,7 @@
-//! What is printed of land and water is wrong at most within half a unit of its border: points are rounded to whole units of 1e-7
-//! degree, and rings that vanish so are left out.
+//! The printed land and water are wrong at most within half a unit of their borders.
 //!
-//! There is no code to run here. The contract of each function is a law about the definitions in `specs/`, of `osm_text` and of
-//! `job_coastline`.
+//! Points are rounded to whole units of 1e-7 degree, and rings that vanish by this are left out. There is no code to run
+//! here. The contract of each function is a law about the definitions in `specs/`, of `osm_text` and of `job_coastline`.
 
 ghost use Rattle.one_output.specs.RoundedPieces.Cover.{PrintedLandCovers, PrintedLandIsCoast, PrintedWaterCovers, PrintedWaterIsCoast};
 ghost use Rattle.one_output.specs.RoundedPieces.Laws.{LandIsPrintedRight, LeavesArePrintedRight, LineIsOfPrintedRings, PrintedIsNear, RoundedRingIsOff, RoundedRingWindsAlike, VanishedGoesRoundNothing, WaterIsPrintedRight};
@@ -12,22 +11,25 @@ use coast_split::leaves_cover_as_list;
 use osm_nest::valid_polygons::nested_polygons_are_valid;
 use osm_nest::{nested_cover_as_rings, rings_may_be_nested};
 
-/// The line of a polygon is that of the rings that are printed of it, and each location in it is at most half a unit away, in x
-/// and in y, from the point that it is printed for.
+/// The line of a polygon is that of its printed rings.
+///
+/// Each location in it is at most half a unit away, in x and in y, from the point that it is printed for.
 pub fn printed_points_are_near()
     ensures line { LineIsOfPrintedRings }
     ensures near { PrintedIsNear }
 {}
 
-/// What is left of a ring goes round each point with rational coordinates whose closed unit square the ring doesn't meet as the ring does,
-/// and no line of it passes there. What is left of a ring that has vanished goes round nothing.
+/// What is left of a ring winds round distant points as the ring does, and none of its lines passes there.
+///
+/// These are the points with rational coordinates whose closed unit square the ring doesn't meet. What is left of a ring
+/// that has vanished goes round nothing.
 pub fn rounded_rings_wind_alike()
     ensures off { RoundedRingIsOff }
     ensures winding { RoundedRingWindsAlike }
     ensures vanished { VanishedGoesRoundNothing }
 {}
 
-/// Sided leaves are printed right but for half a unit.
+/// Sided leaves are printed right, except within half a unit of their edges.
 pub fn leaves_are_printed_right()
     ensures { LeavesArePrintedRight }
 {
@@ -36,7 +38,7 @@ pub fn leaves_are_printed_right()
     nested_polygons_are_valid();
 }
 
-/// So are the leaves of land and of water that a coastline job writes.
+/// The leaves of land and of water that a coastline job writes are printed right in this sense.
 pub fn coast_is_printed_right()
     ensures land { LandIsPrintedRight }
     ensures water { WaterIsPrintedRight }
@@ -47,8 +49,9 @@ pub fn coast_is_printed_right()
     leaves_cover_as_list();
 }
 
-/// And what is printed covers together: at a point that is more than half a unit away from the borders of all leaves of land, the
-/// print of some leaf of land covers it exactly where some leaf of land does. So of water.
+/// What the prints of leaves cover together, at points more than half a unit away from the borders of all leaves of land.
+///
+/// The print of some leaf of land covers such a point exactly if some leaf of land does. The same holds for water.
 pub fn printed_coast_covers()
     ensures land { PrintedLandCovers }
     ensures water { PrintedWaterCovers }
@@ -56,9 +59,11 @@ pub fn printed_coast_covers()
     coast_is_printed_right();
 }
 
-/// So it covers what the coast does: where land is asked for, at each point that is more than half a unit away from the borders of all
-/// leaves of land, exactly where the parity of the kept rings' segments is 1; where water is asked for, at each such whole point
-/// strictly within the world, exactly where it is 0.
+/// What is printed covers what the coast does.
+///
+/// If land is asked for, take a point that is more than half a unit away from the borders of all leaves of land. The print
+/// covers it exactly if the parity of the kept rings' segments is 1. If water is asked for, take such a whole point strictly
+/// within the world, by the leaves of water. The print covers it exactly if that parity is 0.
 pub fn printed_coast_is_coast()
     ensures land { PrintedLandIsCoast }
     ensures water { PrintedWaterIsCoast }

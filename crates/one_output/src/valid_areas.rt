@@ -1,8 +1,7 @@
-//! The polygons of an area are a valid MultiPolygon in the sense of Simple Features, and so is what each feature spells that
-//! `export` writes.
+//! The polygons of an area are a valid MultiPolygon in the sense of Simple Features.
 //!
-//! There is no code to run here. The public functions call the laws of the layers below; their contracts are laws about the
-//! definitions in `specs/`, `osm_area`, `job_export` and `osm_cli`.
+//! So is what each feature spells that `export` writes. There is no code to run here. The public functions call the laws of
+//! the layers below. Their contracts are laws about the definitions in `specs/`, `osm_area`, `job_export` and `osm_cli`.
 
 ghost use Rattle.one_output.specs.ValidAreas.Laws.{AreasAreValid, ExportedFeaturesAreValid, RightFeaturesAreValid, SpelledIsOne, WrittenFeaturesAreValid};
 
@@ -17,9 +16,11 @@ pub fn areas_are_valid()
     nested_polygons_are_valid();
 }
 
-/// What an export puts out is a header, a feature for each candidate with an area, and a footer. Each feature, read as
-/// GeoJSON or as well-known text, spells the polygons of the area, and these are a valid MultiPolygon. So it is for the
-/// bytes that are right over objects, for those that are right over an input, and for those that a run writes.
+/// The output of an export is a header, a feature for each candidate with an area, and a footer.
+///
+/// Each feature, read as GeoJSON or as well-known text, spells the polygons of the area, and these are a valid MultiPolygon.
+/// This holds for the bytes that are right over objects, for those that are right over an input, and for those that a run
+/// writes.
 pub fn exported_features_are_valid()
     ensures export { ExportedFeaturesAreValid }
     ensures right { RightFeaturesAreValid }
@@ -29,7 +30,7 @@ pub fn exported_features_are_valid()
     areas_are_valid();
 }
 
-/// A text spells one list of polygons alone, or none.
+/// A text spells at most one list of polygons.
 pub fn spelled_polygons_are_one()
     ensures { SpelledIsOne }
 {}

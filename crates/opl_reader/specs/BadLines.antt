@@ -21,7 +21,7 @@ pub record IsFirstFault (longest : ℕ) (lines : List (List ℕ)) (number : ℕ)
   pub short : length line ≤ longest
   pub bad : reading line ≡ Err fault
 
--- A fault that feed reports is that of the first bad line of the bytes with the piece, and the newline that ended it stands in the piece.
+-- A fault that feed reports is that of the first bad line of the bytes with the piece, and the piece has the newline that ended it.
 abbrev pub FirstFaultIsReported : Type 0
 FirstFaultIsReported = (longest : ℕ) (bytes : List ℕ) (handed : List Object) (r : Reader) (piece : List ℕ) (number : ℕ) (fault : LineFault) → HandsOut longest bytes handed r →
     feeding r piece ≡ Err (Line number fault) → IsFirstFault longest (whole_lines (bytes ++ piece)) number fault × (has_newline piece ≡ true) × (number ≡ length (whole_lines bytes) + 1)
@@ -41,7 +41,7 @@ pub record IsFirstTooLong (longest : ℕ) (parts : List (List ℕ)) (number : �
   pub readable : AreReadable longest before
   pub long : longest < length part
 
--- A line that feed reports as too long is the first bad one of the bytes with the piece, be it ended or not, and the piece made it too long.
+-- A line that feed reports as too long is the first bad one of the bytes with the piece, whether ended or not, and the piece made it too long.
 abbrev pub FirstTooLongIsReported : Type 0
 FirstTooLongIsReported = (longest : ℕ) (bytes : List ℕ) (handed : List Object) (r : Reader) (piece : List ℕ) (number : ℕ) → HandsOut longest bytes handed r →
     feeding r piece ≡ Err (TooLong number) → IsFirstTooLong longest (slice_split is_newline (bytes ++ piece)) number

@@ -20,7 +20,7 @@ abbrev pub AreReadable : ℕ → List (List ℕ) → Type 0
 AreReadable longest [] = Unit {0}
 AreReadable longest (line ∷ lines) = IsReadable longest line × AreReadable longest lines
 
--- The objects of all whole lines of these bytes were handed out, and the reader that goes on behind them is told by the bytes.
+-- The objects of all whole lines of these bytes were handed out, and the bytes determine the reader after them.
 pub record HandsOut (most : ℕ) (bytes : List ℕ) (handed : List Object) (r : Reader) : Type 0 where
   pub objects : handed ≡ filter_map object_told (whole_lines bytes)
   pub readable : AreReadable most (whole_lines bytes)
@@ -41,7 +41,7 @@ with_told objects (Some object) = objects ++ object ∷ []
 abbrev pub NothingFed : Type 0
 NothingFed = (longest : ℕ) → HandsOut longest [] [] (new_reader longest)
 
--- One piece more, of which so many bytes were used.
+-- One more piece, of which `fed.used` bytes were used.
 abbrev pub OneMorePiece : Type 0
 OneMorePiece = (longest : ℕ) (bytes : List ℕ) (handed : List Object) (r : Reader) (piece : List ℕ) (fed : Fed) (next : Reader) → HandsOut longest bytes handed r →
     feeding r piece ≡ Ok (fed, next) → HandsOut longest (bytes ++ take fed.used piece) (with_told handed fed.object) next
@@ -51,7 +51,7 @@ pub record Call : Type 0 where
   pub piece : List ℕ
   pub fed : Fed
 
--- These calls lead from one reader to another; what `feed` promises of an Ok is `feeding .. ≡ Ok ..`.
+-- These calls lead from one reader to another; what the contract of `feed` says of an Ok is `feeding .. ≡ Ok ..`.
 abbrev pub Calls : Reader → List Call → Reader → Type 0
 Calls first [] last = first ≡ last
 Calls first (call ∷ calls) last = (next : Reader) × (feeding first call.piece ≡ Ok (call.fed, next)) × Calls next calls last
@@ -69,7 +69,7 @@ abbrev pub AnyChunking : Type 0
 AnyChunking = (longest : ℕ) (calls : List Call) (last : Reader) → Calls (new_reader longest) calls last →
     HandsOut longest (bytes_of calls) (objects_of calls) last
 
--- With what finish gives, the objects are those of all lines of the bytes.
+-- Together with what finish gives, the objects are those of all lines of the bytes.
 pub record HandsOutAll (longest : ℕ) (bytes : List ℕ) (handed : List Object) (r : Reader) : Type 0 where
   pub objects : handed ≡ filter_map object_told (lines_of bytes)
   pub readable : AreReadable longest (lines_of bytes)

@@ -1,4 +1,4 @@
--- The fault of a line: the kind and the place of what comes first that has no reading.
+-- The fault of a line: the kind and the place of its first part without a reading.
 use Rattle.std.specs.Prelude.{◌≡◌, ◌≢◌, ℕ, ◌+◌, ◌<◌, ◌⊎◌, Bool, List, [], ◌∷◌, ◌++◌, length, sum_by, ℤ, Option, Some, None, slice_index}
 use Rattle.std.specs.Str.{IsUtf8}
 use Rattle.std.specs.Str.Lossy.{utf8_valid_len}
@@ -45,7 +45,7 @@ abbrev pub IsBadMember : FaultKind → List ℕ → Type 0
 IsBadMember kind bytes = (((role : List ℕ) (k : ObjectKind) (id : ℤ) → ¬ HasTarget bytes role k id) × (kind ≡ BadMember))
     ⊎ ((role : List ℕ) × (k : ObjectKind) × (id : ℤ) × HasTarget bytes role k id × IsBadString role × (kind ≡ BadEscape))
 
--- the parts before are read, and this one is bad; its fault stands where it begins
+-- the parts before are read, and this one is bad; its fault is at its first byte
 pub record FirstBad {A : Type 0} (spells : List ℕ → A → Type 0) (bad : FaultKind → List ℕ → Type 0) (place : ℕ) (parts : List (List ℕ)) (x : LineFault) : Type 0 where
   pub before : List (List ℕ)
   pub item : List ℕ
@@ -56,7 +56,7 @@ pub record FirstBad {A : Type 0} (spells : List ℕ → A → Type 0) (bad : Fau
   pub is_bad : bad x.kind item
   pub place_is : x.place ≡ place + sum_by (λ b. length b + 1) before
 
--- a value in which something stands, with a first bad one among its items
+-- a value that isn't empty, with a first bad one among its items
 pub record HasBadItem {A : Type 0} (spells : List ℕ → A → Type 0) (bad : FaultKind → List ℕ → Type 0) (place : ℕ) (bytes : List ℕ) (x : LineFault) : Type 0 where
   pub some : 0 < length bytes
   pub parts : List (List ℕ)
@@ -65,7 +65,8 @@ pub record HasBadItem {A : Type 0} (spells : List ℕ → A → Type 0) (bad : F
 
 -- ---- fields
 
--- A value that has no reading by the letter's meaning. Its fault stands at the letter, but that of items stands at the first bad one.
+-- A value that has no reading by the letter's meaning.
+-- Its fault is at the letter, but that of items is at the first bad item.
 abbrev pub BadValue : Meaning → ℕ → List ℕ → LineFault → Type 0
 BadValue Count place value x = (¬ IsNumber value) × (x ≡ fault_at BadNumber place)
 BadValue Flag place value x = ((live : Bool) → ¬ IsFlag value live) × (x ≡ fault_at BadFlag place)
@@ -83,7 +84,7 @@ BadField kind seen field x = ((letter_of kind (slice_index field.bytes 0) ≡ No
     ⊎ ((letter : ℕ) × (value : List ℕ) × (meaning : Meaning) × (field.bytes ≡ letter ∷ value) × (letter_of kind letter ≡ Some meaning)
     × (((¬ Lacks letter seen) × (x ≡ fault_at RepeatedField field.at)) ⊎ (Lacks letter seen × BadValue meaning field.at value x)))
 
--- the letters seen behind these fields
+-- the letters seen after these fields
 abbrev pub seen_after : List ℕ → List Part → List ℕ
 seen_after seen [] = seen
 seen_after seen (f ∷ fields) = seen_after (slice_index f.bytes 0 ∷ seen) fields
@@ -106,7 +107,7 @@ pub record IsKept (line : List ℕ) (first : Part) (others : List Part) : Type 0
   pub comment : slice_index first.bytes 0 ≢ 35
   pub changeset : slice_index first.bytes 0 ≢ 99
 
--- No letter of an object, or a bad id behind it; else the first of the other fields without a reading.
+-- No letter of an object, or a bad id after it; else the first of the other fields without a reading.
 abbrev pub ObjectFault : Part → List Part → LineFault → Type 0
 ObjectFault first others x = ((kind_by_letter (slice_index first.bytes 0) ≡ None) × (x ≡ fault_at UnknownObject first.at))
     ⊎ ((letter : ℕ) × (digits : List ℕ) × (kind : ObjectKind) × (first.bytes ≡ letter ∷ digits) × (kind_by_letter letter ≡ Some kind)
@@ -120,7 +121,7 @@ pub record HasFault (line : List ℕ) (x : LineFault) : Type 0 where
   pub why : ((¬ IsUtf8 (without_cr line)) × (x ≡ fault_at NotUtf8 (utf8_valid_len (without_cr line))))
       ⊎ (IsUtf8 (without_cr line) × ObjectFault first others x)
 
--- what an error says of the line; where memory ran out, nothing
+-- what an error says of the line; nothing if memory ran out
 abbrev pub Explains : List ℕ → LineError → Type 0
 Explains line OutOfMemory = Unit {0}
 Explains line (Fault x) = HasFault line x

@@ -1,4 +1,4 @@
--- What a call answers, told by the reader before it.
+-- What a call answers, by the reader before it.
 use Rattle.std.specs.Prelude.{◌≡◌, ◌≢◌, ℕ, ◌+◌, Bool, true, ◌==◌, nat_lt, List, [], ◌++◌, length, Option, None, Result, Ok, Err, if◌then◌else◌}
 use Rattle.std.specs.List.{position_or_len, before_first}
 use Rattle.osm_elements.specs.declared.object.Object.{Object}
@@ -12,11 +12,11 @@ use Rattle.opl_reader.specs.Reader.{Reader}
 
 -- ---- feed
 
--- the line now begun, with what the piece adds to it
+-- the unfinished line, with what the piece adds to it
 abbrev pub begun : Reader → List ℕ → List ℕ
 begun r piece = r.unfinished ++ before_first is_newline piece
 
--- a newline stands in the piece
+-- the piece has a newline
 abbrev pub has_newline : List ℕ → Bool
 has_newline piece = nat_lt (position_or_len is_newline piece) (length piece)
 
@@ -28,7 +28,7 @@ abbrev pub with_line : Reader → ℕ → Result (Option Object) LineFault → R
 with_line r used (Ok object) = Ok (fed used object, record r { unfinished = []; line = r.line + 1; fed = r.fed + used })
 with_line r used (Err fault) = Err (Line (r.line + 1) fault)
 
--- What feeding a piece to a reader gives, and the reader behind it.
+-- What feeding a piece to a reader gives, and the reader after it.
 unfoldable pub feeding : Reader → List ℕ → Result (Fed × Reader) FeedError
 feeding r piece =
     if r.has_ended then Err Ended
@@ -43,7 +43,7 @@ abbrev pub with_last_line : Reader → Result (Option Object) LineFault → Resu
 with_last_line r (Ok object) = Ok (object, record r { unfinished = []; line = r.line + 1; has_ended = true })
 with_last_line r (Err fault) = Err (Line (r.line + 1) fault)
 
--- What finishing gives: where bytes are left they are the last line.
+-- What finishing gives: bytes that are left are the last line.
 unfoldable pub finishing : Reader → Result (Option Object × Reader) FeedError
 finishing r =
     if r.has_ended then Err Ended
@@ -51,8 +51,8 @@ finishing r =
 
 -- ---- answers
 
--- A call answered this and left the reader so. Want of memory may come in place of any answer but Ended; after any refusal
--- the reader has ended.
+-- A call gave this answer and left this reader. Running out of memory may replace any answer but Ended.
+-- After any refusal the reader has ended.
 abbrev pub Answers : {A : Type 0} → Result A FeedError → Reader → Result (A × Reader) FeedError → Type 0
 Answers (Ok x) now answer = answer ≡ Ok (x, now)
 Answers (Err (Line line fault)) now answer = (answer ≡ Err (Line line fault)) × (now.has_ended ≡ true)

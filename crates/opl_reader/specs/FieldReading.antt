@@ -23,7 +23,7 @@ flag_of [] = None
 flag_of (b ∷ []) = if b == 86 then Some true else (if b == 68 then Some false else None)
 flag_of (b ∷ c ∷ bytes) = None
 
--- The content with the value of a field whose letter stands at place.
+-- The content with the value of a field whose letter is at `place`.
 unfoldable pub with_value : Meaning → ℕ → List ℕ → Content → Result Content LineFault
 with_value Count place bytes c = if is_number bytes then Ok c else no_reading BadNumber place
 with_value Flag place bytes c = or_fault BadFlag place (flag_of bytes) >>= λ live. Ok (record c { live = live })
@@ -37,7 +37,7 @@ with_value Having place bytes c = members_at (place + 1) bytes >>= λ members. O
 
 -- ---- fields
 
--- The content with a field, where these letters stood before.
+-- The content with a field, after fields with these letters.
 unfoldable pub with_field : ObjectKind → List ℕ → ℕ → List ℕ → Content → Result Content LineFault
 with_field kind seen place [] c = no_reading UnknownField place
 with_field kind seen place (letter ∷ bytes) c = do

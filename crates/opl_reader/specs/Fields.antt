@@ -1,4 +1,4 @@
--- Fields: what a letter stands for, and what a field says of an object.
+-- Fields: what a letter means, and what a field says of an object.
 use Rattle.std.specs.Prelude.{◌≡◌, ℕ, ◌⊎◌, Bool, true, false, ◌||◌, ◌==◌, if◌then◌else◌, List, [], ◌∷◌, ℤ, Option, Some, None, slice_index}
 use Rattle.osm_elements.specs.declared.object.Tag.{Tag}
 use Rattle.osm_elements.specs.declared.object.Ref.{Ref}
@@ -30,7 +30,8 @@ shared letter =
     else (if letter == 116 then Some Anything
     else (if letter == 117 then Some Name else None))))
 
--- What a letter means for a kind of object: T, then v, c or i, then d, t and u for all; x and y for a node, N for a way, M for a relation.
+-- What a letter means for a kind of object. All kinds have T, v, c, i, d, t and u.
+-- Besides, a node has x and y, a way N, and a relation M.
 unfoldable pub letter_of : ObjectKind → ℕ → Option Meaning
 letter_of Node letter = if letter == 120 then Some X else (if letter == 121 then Some Y else shared letter)
 letter_of Way letter = if letter == 78 then Some Referring else shared letter
@@ -38,7 +39,7 @@ letter_of Relation letter = if letter == 77 then Some Having else shared letter
 
 -- ---- content
 
--- what is known of an object before its fields: it is live, and nothing else stands
+-- what is known of an object before its fields: it is live, and all else is empty
 abbrev pub nothing : Content
 nothing = record { live = true; x = None; y = None; tags = []; refs = []; members = [] }
 
@@ -54,7 +55,7 @@ object_of Relation id c = object.Relation id c.live c.tags c.members
 abbrev pub IsFlag : List ℕ → Bool → Type 0
 IsFlag bytes live = ((bytes ≡ 86 ∷ []) × (live ≡ true)) ⊎ ((bytes ≡ 68 ∷ []) × (live ≡ false))
 
--- a field of this meaning with this value makes d of the content c
+-- a field of this meaning with this value changes the content c to d
 abbrev pub Tells : Meaning → List ℕ → Content → Content → Type 0
 Tells Count value c d = IsNumber value × (c ≡ d)
 Tells Flag value c d = (live : Bool) × IsFlag value live × (record c { live = live } ≡ d)
@@ -73,7 +74,7 @@ abbrev pub FieldTells : ObjectKind → List ℕ → List ℕ → Content → Con
 FieldTells kind seen [] c d = ⊥
 FieldTells kind seen (letter ∷ value) c d = (meaning : Meaning) × (letter_of kind letter ≡ Some meaning) × Lacks letter seen × Tells meaning value c d
 
--- the fields from left to right make d of the content c
+-- the fields from left to right change the content c to d
 abbrev pub Told : ObjectKind → List ℕ → List Part → Content → Content → Type 0
 Told kind seen [] c d = c ≡ d
 Told kind seen (f ∷ fields) c d = (e : Content) × FieldTells kind seen f.bytes c e × Told kind (slice_index f.bytes 0 ∷ seen) fields e d

@@ -16,7 +16,7 @@ use Rattle.opl_reader.specs.NumberReading.{id_spelled}
 use Rattle.opl_reader.specs.CoordinateReading.{x_spelled, y_spelled}
 use Rattle.opl_reader.specs.StringReading.{string_at}
 
--- the parts of a text that begins at a byte; one byte stands between two of them
+-- the parts of a text that begins at a byte, with one byte between neighbours
 abbrev pub placed : ℕ → List (List ℕ) → List Part
 placed at [] = []
 placed at (bytes ∷ more) = part at bytes ∷ placed (at + length bytes + 1) more
@@ -24,7 +24,7 @@ placed at (bytes ∷ more) = part at bytes ∷ placed (at + length bytes + 1) mo
 abbrev pub is_comma : ℕ → Bool
 is_comma b = b == 44
 
--- none where nothing stands; otherwise what stands between commas
+-- none if the text is empty; otherwise the texts between commas
 unfoldable pub items : ℕ → List ℕ → List Part
 items at bytes = placed at (if length bytes == 0 then [] else slice_split is_comma bytes)
 
@@ -33,7 +33,7 @@ abbrev pub each : {A : Type 0} → (ℕ → List ℕ → Result A LineFault) →
 each read [] = Ok []
 each read (p ∷ parts) = read p.at p.bytes >>= λ x. each read parts >>= λ xs. Ok (x ∷ xs)
 
--- what stands before the first such byte, and what behind it
+-- the bytes before the first such byte, and those after it
 abbrev pub halves : ℕ → List ℕ → Option (List ℕ × List ℕ)
 halves byte bytes = if nat_lt (position_or_len (λ b. b == byte) bytes) (length bytes) then Some (before_first (λ b. b == byte) bytes, after_first (λ b. b == byte) bytes) else None
 
@@ -52,11 +52,11 @@ tags_at place bytes = each tag_at (items place bytes) >>= λ tags. Ok (first_of_
 
 -- ---- references
 
--- Behind the x of an own location: a longitude or nothing, y, a latitude or nothing.
+-- The own location after its x: a longitude or nothing, y, a latitude or nothing.
 unfoldable pub own_place_of : List ℕ → Option (Option Loc)
 own_place_of bytes = option_and_then (λ parts. option_and_then (λ x. option_map (λ y. location_from x y) (y_spelled parts.1)) (x_spelled parts.0)) (halves 121 bytes)
 
--- an id, and an own location where an x parts it from the id
+-- an id, and an own location if an x separates it from the id
 abbrev pub ref_in : List ℕ → Option (List ℕ × List ℕ) → Option Ref
 ref_in bytes None = option_map (λ id. record { node = id; at = None }) (id_spelled bytes)
 ref_in bytes (Some parts) = option_and_then (λ id. option_map (λ at. record { node = id; at = at }) (own_place_of parts.1)) (id_spelled parts.0)
@@ -64,7 +64,7 @@ ref_in bytes (Some parts) = option_and_then (λ id. option_map (λ at. record { 
 unfoldable pub ref_behind : List ℕ → Option Ref
 ref_behind bytes = ref_in bytes (halves 120 bytes)
 
--- n, and a reference behind it
+-- n, and a reference after it
 unfoldable pub ref_spelled : List ℕ → Option Ref
 ref_spelled [] = None
 ref_spelled (b ∷ bytes) = if b == 110 then ref_behind bytes else None

@@ -23,14 +23,14 @@ Each spells [] (x ∷ xs) = ⊥
 Each spells (part ∷ parts) [] = ⊥
 Each spells (part ∷ parts) (x ∷ xs) = spells part x × Each spells parts xs
 
--- items that commas part
+-- items separated by commas
 pub record AreItems {A : Type 0} (spells : List ℕ → A → Type 0) (bytes : List ℕ) (xs : List A) : Type 0 where
   pub some : 0 < length bytes
   pub parts : List (List ℕ)
   pub parted : PartedByCommas bytes parts
   pub spelled : Each spells parts xs
 
--- no items where the value is empty, else those that commas part
+-- no items if the value is empty; otherwise items separated by commas
 abbrev pub IsItems : {A : Type 0} → (List ℕ → A → Type 0) → List ℕ → List A → Type 0
 IsItems spells bytes xs = ((bytes ≡ []) × (xs ≡ [])) ⊎ AreItems spells bytes xs
 
@@ -45,7 +45,7 @@ pub record IsTag (bytes : List ℕ) (t : Tag) : Type 0 where
   pub key_is : IsString key t.key
   pub value_is : IsString value t.value
 
--- of equal keys the first alone
+-- of equal keys only the first
 abbrev pub first_of_each : List Tag → List Tag
 first_of_each [] = []
 first_of_each (t ∷ tags) = t ∷ filter (λ u. not (bytes_eq u.key t.key)) (first_of_each tags)
@@ -57,7 +57,7 @@ HaveDifferentKeys (t ∷ tags) = AllByRecursion (λ u. u.key ≢ t.key) tags × 
 
 -- ---- references
 
--- x, a longitude or nothing, y, a latitude or nothing; a location where both are there
+-- x, a longitude or nothing, y, a latitude or nothing; a location if both are there
 pub record IsOwnPlace (bytes : List ℕ) (at : Option Loc) : Type 0 where
   pub x_bytes : List ℕ
   pub y_bytes : List ℕ
@@ -69,7 +69,7 @@ pub record IsOwnPlace (bytes : List ℕ) (at : Option Loc) : Type 0 where
   pub y_is : IsY y_bytes y
   pub at_is : location_from x y ≡ at
 
--- n, an id, and behind the id either nothing or, from the first x on, an own location
+-- n, an id, and after the id either nothing or, from the first x on, an own location
 pub record IsRef (bytes : List ℕ) (r : Ref) : Type 0 where
   pub digits : List ℕ
   pub behind : List ℕ
@@ -80,11 +80,11 @@ pub record IsRef (bytes : List ℕ) (r : Ref) : Type 0 where
 
 -- ---- members
 
--- the kind of object that n, w or r stands for
+-- the kind of object that n, w or r names
 abbrev pub kind_by_letter : ℕ → Option ObjectKind
 kind_by_letter b = if b == 110 then Some Node else (if b == 119 then Some Way else (if b == 114 then Some Relation else None))
 
--- a letter and an id, which the first @ parts from a role
+-- a letter and an id, separated by the first @ from a role
 pub record HasTarget (bytes : List ℕ) (role : List ℕ) (kind : ObjectKind) (id : ℤ) : Type 0 where
   pub letter : ℕ
   pub digits : List ℕ

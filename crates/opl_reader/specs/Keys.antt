@@ -1,4 +1,4 @@
--- KEYS, the value of an option: keys that commas part.
+-- KEYS, the value of an option: keys separated by commas.
 use Rattle.std.specs.Prelude.{ℕ, ◌<◌, ◌≤◌, Bool, not, ◌&&◌, nat_lt, nat_le, if◌then◌else◌, List, [], ◌∷◌, length, Option, Some, None, option_and_then, option_map}
 use Rattle.std.specs.List.{list_all, slice_split}
 use Rattle.opl_reader.specs.Parts.{LacksSeparators, PartedByCommas}
@@ -16,7 +16,7 @@ pub record IsKey (bytes key : List ℕ) : Type 0 where
   pub string : IsString bytes key
   pub some : 0 < length key
 
--- commas part 64 keys at most, which may be equal
+-- at most 64 keys separated by commas; some may be equal
 pub record AreKeys (bytes : List ℕ) (keys : List (List ℕ)) : Type 0 where
   pub parts : List (List ℕ)
   pub parted : PartedByCommas bytes parts
@@ -32,7 +32,7 @@ is_inner b = not (is_separator b)
 unfoldable pub key_said : List ℕ → Option (List ℕ)
 key_said bytes = if nat_lt 0 (length bytes) && list_all is_inner bytes then string_of bytes else None
 
--- the key of each part, where each is one
+-- the key of each part, if each is one
 abbrev pub each_said : List (List ℕ) → Option (List (List ℕ))
 each_said [] = Some []
 each_said (part ∷ parts) = option_and_then (λ key. option_map (λ keys. key ∷ keys) (each_said parts)) (key_said part)

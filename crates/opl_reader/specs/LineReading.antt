@@ -19,11 +19,11 @@ use Rattle.opl_reader.specs.FieldReading.{with_fields}
 abbrev pub is_separator : ℕ → Bool
 is_separator b = b == 32 || b == 9
 
--- the parts in which something stands
+-- the parts that aren't empty
 abbrev pub nonempty : List Part → List Part
 nonempty parts = filter (λ p. nat_lt 0 (length p.bytes)) parts
 
--- what stands between separators, in a text that begins at a place
+-- the parts between separators, in a text that begins at a place
 unfoldable pub fields_from : ℕ → List ℕ → List Part
 fields_from place text = nonempty (placed place (slice_split is_separator text))
 

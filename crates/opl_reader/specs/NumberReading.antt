@@ -17,7 +17,7 @@ id_spelled (b ∷ bs) = if b == 45 then option_map neg_ℤ (magnitude_of bs) els
 abbrev pub is_point : ℕ → Bool
 is_point b = b == 46
 
--- digits, and where there is a point digits behind it; at least one digit
+-- digits, and after a point more digits; at least one digit in all
 unfoldable pub unsigned_of : List ℕ → Option ℕ
 unsigned_of text =
     let whole = before_first is_point text in

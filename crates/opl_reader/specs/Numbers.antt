@@ -21,15 +21,15 @@ IsId text id = ((n : ℕ) × IsMagnitude text n × (id ≡ pos n)) ⊎ ((digits 
 
 -- ---- decimals
 
--- eight decimals, with zeros for those that aren't there
+-- eight decimals, with zeros for missing ones
 abbrev pub first_eight : List ℕ → List ℕ
 first_eight decimals = take 8 decimals ++ replicate (8 - length decimals) 48
 
--- the magnitude in units of 1e-7 degree: the eighth decimal rounds, and those behind it don't count
+-- the magnitude in units of 1e-7 degree: the eighth decimal rounds, and later ones don't count
 abbrev pub units : List ℕ → List ℕ → ℕ
 units whole decimals = digits_value 10 whole * 10000000 + (digits_value 10 (first_eight decimals) + 5) / 10
 
--- digits, and where there is a point digits behind it; at least one digit
+-- digits, and after a point more digits; at least one digit in all
 pub record IsUnsigned (text : List ℕ) (n : ℕ) : Type 0 where
   pub whole : List ℕ
   pub decimals : List ℕ

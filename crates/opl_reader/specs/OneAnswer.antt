@@ -6,7 +6,7 @@ use Rattle.opl_reader.specs.LineReading.{reading}
 use Rattle.opl_reader.specs.Spells.{Spells, IsPassedOver}
 use Rattle.opl_reader.specs.Faults.{HasFault}
 
--- what a line is read as, is what it spells, whether it is passed over, and its fault
+-- a line is read as what it spells, as passed over if it is that, or as its fault
 pub record IsAnswer (line : List ℕ) : Type 0 where
   pub object : (o : Object) → (reading line ≡ Ok (Some o)) ↔ Spells line o
   pub passed : (reading line ≡ Ok None) ↔ IsPassedOver line

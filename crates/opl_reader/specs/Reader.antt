@@ -1,8 +1,8 @@
--- What callers see of a reader of lines.
+-- A reader of lines, as callers see it.
 use Rattle.std.specs.Prelude.{ℕ, Bool, false, List, []}
 
 pub record Reader : Type 0 where
-  -- the bytes fed behind the last newline
+  -- the bytes fed after the last newline
   pub unfinished : List ℕ
   -- the number of the line last read, from 1
   pub line : ℕ

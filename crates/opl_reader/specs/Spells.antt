@@ -36,7 +36,7 @@ pub record IsAside (line : List ℕ) : Type 0 where
   pub fields : Parted 0 (without_cr line) (part place (letter ∷ rest) ∷ others)
   pub passed : (letter ≡ 35) ⊎ (letter ≡ 99)
 
--- Nothing stands in the line, or it is a comment or a changeset.
+-- The line has no fields, or it is a comment or a changeset.
 abbrev pub IsPassedOver : List ℕ → Type 0
 IsPassedOver line = Parted 0 (without_cr line) [] ⊎ IsAside line
 

@@ -1,4 +1,4 @@
--- Words that contracts of private functions alone cite: one step of a reading.
+-- Words that only contracts of private functions cite: one step of a reading.
 use Rattle.std.specs.Prelude.{◌≡◌, ℕ, ◌+◌, ◌-◌, ◌^◌, ◌<◌, ◌≤◌, nat_le, min, Bool, true, false, ◌==◌, if◌then◌else◌, List, [], ◌∷◌, ◌++◌, length, take, slice_index_or, Option, Some, None, Result, Ok}
 use Rattle.std.specs.BTreeSet.{BTreeSet, contains_text}
 use Rattle.std.specs.Char.{is_ascii_digit}
@@ -19,11 +19,11 @@ use Rattle.opl_reader.specs.Reading.{◌>>=◌}
 use Rattle.opl_reader.specs.ItemReading.{is_comma, tag_at, ref_spelled, member_at}
 use Rattle.opl_reader.specs.LineReading.{is_passed_over}
 
--- a value as far as the machine counts
+-- a value, at most the greatest number of the machine
 abbrev pub capped : ℕ → ℕ
 capped n = min n (2 ^ 64 - 1)
 
--- so many digits stand in front, and this is their value
+-- the text begins with `count` digits that have this value
 pub record LeadingDigits (bytes : List ℕ) (value count : ℕ) : Type 0 where
   pub digits : list_all is_ascii_digit (take count bytes) ≡ true
   pub worth : value ≡ digits_value 10 (take count bytes)
@@ -35,7 +35,7 @@ is_low b = nat_le b 32
 
 -- ---- items
 
--- the text of a value in which something stands
+-- the text of a value that isn't empty
 abbrev pub all_left : List ℕ → Option (List ℕ)
 all_left text = if length text == 0 then None else Some text
 
@@ -49,13 +49,13 @@ abbrev pub left_len : Option (List ℕ) → ℕ
 left_len None = 0
 left_len (Some rest) = length rest + 1
 
--- so many bytes are the first item, and this reference
+-- the first `len` bytes are the first item, and it is this reference
 pub record BeginsWithRef (rest : List ℕ) (reference : Ref) (len : ℕ) : Type 0 where
   pub inside : len ≤ length rest
   pub ends : position_or_len is_comma rest ≡ len
   pub read : ref_spelled (take len rest) ≡ Some reference
 
--- so many bytes are the first item, which is read as this, and this is left behind its comma
+-- the first `len` bytes are the first item, which is read as this, and `left` is left after its comma
 pub record IsFirstRef (rest : List ℕ) (reference : Option Ref) (len : ℕ) (left : Option (List ℕ)) : Type 0 where
   pub item : List ℕ
   pub parts : slice_split is_comma rest ≡ item ∷ left_parts left
@@ -89,7 +89,7 @@ HasKeysOf keys tags = (key : List ℕ) → contains_text keys key ≡ list_any (
 abbrev pub Marks : List Bool → List ℕ → Type 0
 Marks seen letters = (length seen ≡ 256) × ((k : ℕ) → k < 256 → slice_index_or seen k false ≡ list_any (λ s. s == k) letters)
 
--- a part, where something stands in it, before the fields behind it
+-- a part, if it isn't empty, before the fields after it
 abbrev pub with_part : ℕ → List ℕ → List Part → List Part
 with_part place [] fields = fields
 with_part place (b ∷ bytes) fields = part place (b ∷ bytes) ∷ fields

@@ -19,13 +19,13 @@ is_scalar c = nat_lt c 0xD800 || (nat_le 0xE000 c && nat_le c 0x10_FFFF)
 unfoldable pub code_point : List ℕ → Option ℕ
 code_point digits = if nat_lt 0 (length digits) && nat_le (length digits) 6 && list_all is_hex digits && is_scalar (digits_value 16 digits) then Some (digits_value 16 digits) else None
 
--- plain text and escapes by turns: the first part and the last are plain
+-- plain text and escapes alternate: the first part and the last are plain
 unfoldable pub joined_text : List (List ℕ) → Option (List ℕ)
 joined_text [] = None
 joined_text (plain ∷ []) = Some plain
 joined_text (plain ∷ escape ∷ parts) = option_and_then (λ c. option_map (λ rest. plain ++ encode_utf8 c ++ rest) (joined_text parts)) (code_point escape)
 
--- the text of a string, which percent signs part
+-- the text of a string, split at percent signs
 unfoldable pub string_of : List ℕ → Option (List ℕ)
 string_of bytes = joined_text (slice_split (λ b. b == 37) bytes)
 

@@ -1,4 +1,4 @@
--- Strings, in which an escape stands between two percent signs.
+-- Strings, with escapes between two percent signs.
 use Rattle.std.specs.Prelude.{◌≡◌, ◌≢◌, ℕ, ◌<◌, ◌≤◌, ◌⊎◌, List, [], ◌∷◌, ◌++◌, length, All, encode_utf8}
 use Rattle.std.specs.Char.{digit_value}
 use Rattle.std.specs.Str.Parse.{digits_value}
@@ -11,7 +11,7 @@ pub record IsCode (digits : List ℕ) (c : ℕ) : Type 0 where
   pub scalar : (c < 0xD800) ⊎ ((0xE000 ≤ c) × (c ≤ 0x10_FFFF))
   pub worth : c ≡ digits_value 16 digits
 
--- Bytes spell a text: an escape is its character, and each other byte stands for itself.
+-- Bytes spell a text: an escape spells its character, and every other byte spells itself.
 pub data IsString : List ℕ → List ℕ → Type 0 where
   ends : IsString [] []
   stands : (b : ℕ) (bytes text : List ℕ) → b ≢ 37 → IsString bytes text → IsString (b ∷ bytes) (b ∷ text)

@@ -1,14 +1,14 @@
-//! What calls of `feed` and `finish` give together. The functions do nothing: each says a law.
+//! What calls of `feed` and `finish` give together. The functions do nothing: the contract of each is a law.
 
 ghost use Rattle.opl_reader.specs.Chunking.{NothingFed, OneMorePiece, AnyChunking, FinishGivesTheRest};
 ghost use Rattle.opl_reader.specs.BadLines.{FirstFaultIsReported, LastFaultIsReported, FirstTooLongIsReported};
 
-/// A new reader has handed out what no bytes tell.
+/// A new reader has handed out the objects of no bytes.
 pub fn nothing_is_fed_at_first()
     ensures { NothingFed }
 {}
 
-/// One call of `feed` hands out what the bytes that it used tell behind those fed before.
+/// One call of `feed` hands out the objects of the bytes that it used, after those fed before.
 pub fn one_more_piece_is_read()
     ensures { OneMorePiece }
 {}
@@ -18,7 +18,7 @@ pub fn any_chunking_gives_the_objects()
     ensures { AnyChunking }
 {}
 
-/// With what `finish` gives they are the objects of all lines.
+/// Together with what `finish` gives, they are the objects of all lines.
 pub fn finish_gives_the_rest()
     ensures { FinishGivesTheRest }
 {}

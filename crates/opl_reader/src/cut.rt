@@ -7,7 +7,7 @@ ghost use Rattle.std.specs.List.{slice_split, position_or_len, before_first, aft
 
 use crate::search::first_cut;
 
-/// The text before the first such character, and that behind it.
+/// The text before the first such character, and the text after it.
 pub fn cut(text: &str, at: char) -> Option<(&str, &str)>
     requires { at < 128 }
     ensures first { MatchOption result (position_or_len (λ b. b == at) text.now ≡ length text.now)
@@ -27,7 +27,7 @@ pub fn cut(text: &str, at: char) -> Option<(&str, &str)>
     Some((&text[..place], &text[place + 1..]))
 }
 
-/// The bytes before the first such byte, and those behind it.
+/// The bytes before the first such byte, and the bytes after it.
 pub fn cut_bytes(bytes: &[u8], at: u8) -> Option<(&[u8], &[u8])>
     ensures { option_map (λ x. (x.0.now, x.1.now)) result ≡ halves at bytes.now }
 {

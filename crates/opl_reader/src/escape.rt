@@ -26,14 +26,14 @@ fn code_point(digits: &str) -> Option<char>
     char::from_u32(code)
 }
 
-/// Whether no escape begins in a text, so that it is a string that stands for itself.
+/// Whether no escape begins in a text, so that the text is a string that spells itself.
 pub fn is_plain(text: &str) -> bool
     ensures { IsTrue result → string_of text.now ≡ Some text.now }
 {
     first_cut(text.as_bytes(), b'%') == text.len()
 }
 
-/// The string that stands in a field or an item at this place, its escapes read.
+/// The string of a field or an item at this place, with its escapes read.
 pub fn read_string(alloc: Global, text: &str, place: u64) -> Result<Text, LineError>
     ensures { Gives result (string_at place text.now) }
 {
@@ -54,7 +54,7 @@ pub fn read_string(alloc: Global, text: &str, place: u64) -> Result<Text, LineEr
     Ok(Text::of(read))
 }
 
-/// Whether a string stands here. It takes no memory, for strings that aren't kept.
+/// Whether the text is a string. It takes no memory, for strings that aren't kept.
 pub fn is_string(text: &str) -> bool
     ensures { result ≡ is_some (string_of text.now) }
 {
@@ -71,7 +71,7 @@ pub fn is_string(text: &str) -> bool
     true
 }
 
-/// What a string is read as is what its bytes spell, and nothing else.
+/// A string is read as what its bytes spell, and as nothing else.
 pub fn strings_are_spelled()
     ensures read { (bytes text : List ℕ) → string_of bytes ≡ Some text → IsString bytes text }
     ensures spelled { (bytes text : List ℕ) → IsString bytes text → string_of bytes ≡ Some text }

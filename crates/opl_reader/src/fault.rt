@@ -15,13 +15,13 @@ pub enum FaultKind {
     UnknownObject,
     /// A field begins with a letter that means nothing for its object.
     UnknownField,
-    /// A letter stands twice.
+    /// A letter occurs twice.
     RepeatedField,
     /// An id, or a number that isn't kept, can't be read.
     BadNumber,
     /// The flag is neither V nor D.
     BadFlag,
-    /// A coordinate is no decimal, or out of range.
+    /// A coordinate is not a decimal, or out of range.
     BadCoordinate,
     /// A percent sign begins no escape.
     BadEscape,
@@ -52,7 +52,7 @@ pub fn fault_text(kind: FaultKind) -> &'static str
     }
 }
 
-/// The first fault of a line, and the byte of the line at which it stands, from 0.
+/// The first fault of a line, and the byte of the line at which it is, from 0.
 #[derive(Clone, Copy, Debug, PartialEq, Eq)]
 pub struct LineFault {
     pub kind: FaultKind,

@@ -9,9 +9,9 @@ use osm_elements::Object;
 /// What a piece gave.
 #[derive(Debug, Drop)]
 pub struct Fed {
-    /// How many bytes of the piece were taken: up to and with its first newline, or all.
+    /// How many bytes of the piece were used: up to and including its first newline, or all.
     pub used: usize,
-    /// The object of the line that ended; None where none ended or it is passed over.
+    /// The object of the line that ended; None if no line ended, or it is passed over.
     pub object: Option<Object>,
 }
 

@@ -16,7 +16,7 @@ use crate::place::{x_spelled, y_spelled};
 use osm_elements::ObjectKind;
 use std::alloc::Global;
 
-/// What a field's letter stands for.
+/// What a field's letter means.
 #[derive(Clone, Copy, Debug, PartialEq, Eq)]
 pub enum Meaning {
     /// A number that isn't kept: v, c or i.
@@ -39,7 +39,7 @@ pub enum Meaning {
     Having,
 }
 
-/// What a letter means that every kind of object may have, None where it is no such letter.
+/// What a letter means that every kind of object may have; None for any other letter.
 #[inline(always)]
 fn shared(letter: u8) -> Option<Meaning>
     ensures { result ≡ shared letter }
@@ -54,8 +54,9 @@ fn shared(letter: u8) -> Option<Meaning>
     }
 }
 
-/// What a letter means for a kind of object, None where it means nothing. It is what the field tables say, by
-/// `tables_have_the_letters`, without a search in them.
+/// What a letter means for a kind of object; None if it means nothing.
+///
+/// It agrees with the field tables, by `tables_have_the_letters`, without searching them.
 #[tactic(auto, unfolding(crate::specs::Fields::letter_of))]
 #[inline(always)]
 pub fn letter_of(kind: ObjectKind, letter: u8) -> Option<Meaning>
@@ -114,7 +115,7 @@ fn flag_of(bytes: &[u8]) -> Option<bool>
     }
 }
 
-/// Adds to the content the value of a field whose letter stands at this place.
+/// Adds the value of a field, whose letter is at this place, to the content.
 #[tactic(auto, unfolding(crate::specs::FieldReading::with_value, crate::specs::StringReading::string_at))]
 pub fn add_value(
     alloc: Global,

@@ -20,14 +20,15 @@ use osm_lattice::Loc;
 use std::alloc::{AllocError as OutOfMemory, Global};
 use std::collections::BTreeSet;
 
-/// The most items that a list has room for before they are read, so that a line of commas alone takes little memory.
+/// The most items that a list gets room for before they are read. So a line of commas alone takes little memory.
 const MOST_ROOM: usize = 2_000;
 
-/// How many tags are looked through for a key. The keys of the tags behind them stand in a set, so that a line of very
-/// many tags is soon read.
+/// How many tags are searched one by one for a key.
+///
+/// The keys of later tags are in a set, so that a line with very many tags is read fast.
 const FEW_TAGS: usize = 16;
 
-/// The first item, and what is left behind its comma.
+/// The first item, and what is left after its comma.
 pub(crate) fn next_item(rest: &str) -> (&str, Option<&str>)
     ensures parts { slice_split is_comma rest.now
         ≡ result.0.now ∷ left_parts (option_copied result.1) }
@@ -40,7 +41,7 @@ pub(crate) fn next_item(rest: &str) -> (&str, Option<&str>)
     }
 }
 
-/// The text where something stands in it.
+/// The text, if it isn't empty.
 fn all_items(text: &str) -> Option<&str>
     ensures value { option_copied result ≡ all_left text.now }
     ensures utf8 { IfSome result (λ left. IsUtf8 left.now) }
@@ -48,7 +49,7 @@ fn all_items(text: &str) -> Option<&str>
     if text.is_empty() { None } else { Some(text) }
 }
 
-/// How many items a list is given room for: all that stand in the text, up to a limit.
+/// How many items a list gets room for: all items of the text, up to a limit.
 fn item_room(text: &str) -> usize {
     if text.is_empty() {
         return 0;
@@ -57,8 +58,10 @@ fn item_room(text: &str) -> usize {
     commas.min(MOST_ROOM - 1) + 1
 }
 
-/// How many bytes tags are given room for. Where no escape stands in the text and each key and value is short, the two
-/// bytes that tell their lengths take the place of an equals sign and a comma.
+/// How many bytes tags get room for.
+///
+/// If the text has no escape and each key and value is short, the two bytes for their lengths replace an equals sign and a
+/// comma.
 fn tag_room(text: &str) -> usize {
     if text.is_empty() { 0 } else { text.len() + 1 }
 }
@@ -89,7 +92,7 @@ fn has_key(tags: &Tags, later_keys: &BTreeSet<String>, key: &str) -> bool
     is_key_among_few(tags, key) || later_keys.contains(key)
 }
 
-/// Adds the key of the tag that is to stand behind these, where it is a later one.
+/// Adds the key of the tag that is to follow these, if it is a later one.
 fn add_later_key(
     alloc: Global,
     tags: &Tags,
@@ -129,7 +132,7 @@ fn keep(
 
 /// Adds the tag that an item spells, key=value, unless one with its key is there.
 ///
-/// Ways: keys and values without escapes as they stand; all others by texts that are read from them.
+/// Ways: keys and values without escapes as they are; all others by texts that are read from them.
 #[tactic(auto, unfolding(crate::specs::ItemReading::tag_at))]
 fn add_tag(
     alloc: Global,
@@ -145,7 +148,7 @@ fn add_tag(
     let Some((key, value)) = cut(item, '=') else {
         return Err(fault(FaultKind::BadTag, place));
     };
-    // Most stand for themselves, and are kept without a copy in between.
+    // Most spell themselves, and are kept without a copy in between.
     if is_plain(key) && is_plain(value) {
         keep(alloc, tags, later_keys, key, value)?;
         return Ok(());
@@ -156,7 +159,7 @@ fn add_tag(
     Ok(())
 }
 
-/// Tags, of equal keys the first alone.
+/// Tags; of equal keys only the first.
 #[tactic(auto, unfolding(crate::specs::ItemReading::tags_at))]
 pub fn read_tags(alloc: Global, text: &str, place: u64) -> Result<Tags, LineError>
     requires { place + length text.now < 2 ^ 63 }
@@ -172,11 +175,11 @@ pub fn read_tags(alloc: Global, text: &str, place: u64) -> Result<Tags, LineErro
         at += item.len() as u64 + 1;
         left = more;
     }
-    // A block that is made smaller may stay as large as it was, so what is held is a copy.
+    // A block that is made smaller may keep its size, so a copy is stored.
     Ok(tags.copy(alloc)?)
 }
 
-/// What stands behind the x of an own location: a longitude or nothing, y, a latitude or nothing.
+/// The own location after its x: a longitude or nothing, y, a latitude or nothing.
 #[tactic(auto, unfolding(crate::specs::ItemReading::own_place_of))]
 fn own_place_of(bytes: &[u8]) -> Option<Option<Loc>>
     ensures { result ≡ own_place_of bytes.now }
@@ -187,7 +190,7 @@ fn own_place_of(bytes: &[u8]) -> Option<Option<Loc>>
     Some(location_from(x, y))
 }
 
-/// An id, and behind it an own location where an x stands there.
+/// An id, and after it an own location if an x follows.
 #[tactic(auto, unfolding(crate::specs::ItemReading::ref_behind))]
 fn ref_behind(bytes: &[u8]) -> Option<Ref>
     ensures { result ≡ ref_behind bytes.now }
@@ -216,7 +219,7 @@ fn read_ref(item: &[u8]) -> Option<Ref>
     }
 }
 
-/// A first item as most are written, n and a few digits, and how many bytes it has. None says nothing.
+/// A first item in the usual form, n and a few digits, and how many bytes it has. None decides nothing.
 fn usual_ref(rest: &[u8]) -> Option<(Ref, usize)>
     ensures { IfSome result (λ r. BeginsWithRef rest.now r.0 r.1) }
 {
@@ -235,7 +238,7 @@ fn usual_ref(rest: &[u8]) -> Option<(Ref, usize)>
     Some((Ref { node, at: None }, len + 1))
 }
 
-/// The reference that the first item is, how many bytes the item has, and what is left behind its comma.
+/// The reference that the first item is, how many bytes the item has, and what is left after its comma.
 ///
 /// Ways: references of an n and up to 18 digits; all others by the whole grammar.
 fn next_ref(rest: &str) -> (Option<Ref>, usize, Option<&str>)
@@ -272,7 +275,7 @@ pub fn read_refs(alloc: Global, text: &str, place: u64) -> Result<Refs, LineErro
         at += len as u64 + 1;
         left = more;
     }
-    // As for tags, a copy is held.
+    // As for tags, a copy is stored.
     Ok(refs.copy(alloc)?)
 }
 
@@ -314,7 +317,7 @@ fn add_member(alloc: Global, members: &mut Members, item: &str, place: u64) -> R
     let Some(target) = read_target(target) else {
         return Err(fault(FaultKind::BadMember, place));
     };
-    // Most roles stand for themselves, and are kept without a copy in between.
+    // Most roles spell themselves, and are kept without a copy in between.
     if is_plain(role) {
         members.push(target, role)?;
         return Ok(());
@@ -338,6 +341,6 @@ pub fn read_members(alloc: Global, text: &str, place: u64) -> Result<Members, Li
         at += item.len() as u64 + 1;
         left = more;
     }
-    // As for tags, a copy is held.
+    // As for tags, a copy is stored.
     Ok(members.copy(alloc)?)
 }

@@ -1,4 +1,4 @@
-//! KEYS, the value of an option: keys that commas part.
+//! KEYS, the value of an option: keys separated by commas.
 
 ghost use Rattle.std.specs.Prelude.{◌≡◌, ℕ, Some, None, IfOk, IfSome, is_some};
 ghost use Rattle.std.specs.Prelude as prelude;
@@ -12,10 +12,10 @@ use lists::List;
 use osm_elements::Text;
 use std::alloc::{AllocError as OutOfMemory, Global};
 
-/// How many keys stand there at most.
+/// The most keys that it may have.
 const MOST_KEYS: usize = 64;
 
-/// Whether neither a space nor a tab stands in the text.
+/// Whether the text has neither a space nor a tab.
 fn is_one_word(text: &str) -> bool
     ensures { result ≡ list_all is_inner text.now }
 {
@@ -24,7 +24,7 @@ fn is_one_word(text: &str) -> bool
         .all(|byte| *byte != b' ' && *byte != b'\t')
 }
 
-/// Whether this is a key as it is written.
+/// Whether a text writes a key.
 fn is_key(written: &str) -> bool
     ensures { result ≡ is_some (key_said written.now) }
 {
@@ -37,7 +37,7 @@ fn is_key(written: &str) -> bool
     is_string(written)
 }
 
-/// The key that is written so; None where it isn't one.
+/// The key that a text writes; None if it writes none.
 fn read_key(alloc: Global, written: &str) -> Result<Option<Text>, OutOfMemory>
     ensures { IfOk result (λ key. key ≡ key_said written.now) }
 {
@@ -51,7 +51,7 @@ fn read_key(alloc: Global, written: &str) -> Result<Option<Text>, OutOfMemory>
     }
 }
 
-/// Whether a text is KEYS: 1 to 64 keys that commas part. It takes no memory.
+/// Whether a text is KEYS: 1 to 64 keys separated by commas. It takes no memory.
 pub fn is_keys(text: &str) -> bool
     ensures { result ≡ is_some (keys_said text.now) }
 {
@@ -69,7 +69,7 @@ pub fn is_keys(text: &str) -> bool
     left.is_none()
 }
 
-/// The keys of KEYS; None where the text isn't so.
+/// The keys of KEYS; None if the text isn't KEYS.
 fn keys_of(alloc: Global, text: &str) -> Result<Option<List<Text>>, OutOfMemory>
     ensures { IfOk result (λ keys. keys ≡ keys_said text.now) }
 {
@@ -92,10 +92,11 @@ fn keys_of(alloc: Global, text: &str) -> Result<Option<List<Text>>, OutOfMemory>
     Ok(Some(keys))
 }
 
-/// The keys of KEYS: 1 to 64 strings of an OPL line, none empty and parted by commas. A space or a tab in one is
-/// written `%20%` or `%9%`; any other character stands for itself, and a key may stand there twice.
+/// The keys of KEYS: 1 to 64 strings of an OPL line, none empty, separated by commas.
 ///
-/// None exactly where the text isn't so.
+/// A space or a tab in one is written `%20%` or `%9%`; any other character is written as itself. A key may occur twice.
+///
+/// None comes exactly if the text isn't KEYS.
 pub fn read_keys(alloc: Global, text: &str) -> Result<Option<List<Text>>, OutOfMemory>
     ensures said { IfOk result (λ read. read ≡ keys_said text.now) }
     ensures keys { IfOk result (λ read. IfSome read (AreKeys text.now)) }
@@ -105,7 +106,7 @@ pub fn read_keys(alloc: Global, text: &str) -> Result<Option<List<Text>>, OutOfM
     keys_of(alloc, text)
 }
 
-/// What KEYS is read as is the keys that it writes, and no others.
+/// KEYS is read as the keys that it writes, and as no others.
 pub fn keys_are_written()
     ensures read { (bytes : prelude.List ℕ) (keys : prelude.List (prelude.List ℕ))
         → keys_said bytes ≡ Some keys → AreKeys bytes keys }

@@ -1,7 +1,7 @@
-//! OPL, the line format of OpenStreetMap data that osmium reads and writes: a line an object.
+//! OPL, the line format of OpenStreetMap data that osmium reads and writes: a line for each object.
 //!
-//! A line is fields parted by spaces or tabs. Each field is a letter and a value that is read by its letter,
-//! as the OPL manual (<https://osmcode.org/opl-file-format/>) says; a line has to be right to its last byte.
+//! A line consists of fields separated by spaces or tabs. Each field is a letter and a value, and the letter decides how the
+//! value is read, as in the OPL manual (<https://osmcode.org/opl-file-format/>). A line has to be right to its last byte.
 #![tactic(auto)]
 
 mod chunking;

@@ -26,7 +26,7 @@ use osm_elements::{Object, ObjectKind};
 use std::alloc::Global;
 use std::str;
 
-/// What stands before the first separator, and what stands behind it.
+/// The text before the first separator, and the text after it.
 #[inline(always)]
 fn next_part(text: &str) -> (&str, &str)
     ensures fields { (place : ℕ) → fields_from place text.now
@@ -46,7 +46,7 @@ fn next_part(text: &str) -> (&str, &str)
     (&text[..len], &text[len + 1..])
 }
 
-/// The next field with its place, and what is left behind it.
+/// The next field with its place, and what is left after it.
 #[inline(always)]
 fn next_field(text: &str, place: u64) -> Option<(u64, &str, &str)>
     requires { place + length text.now < 2 ^ 64 }
@@ -87,7 +87,7 @@ fn is_passed_over(text: &[u8]) -> bool
     true
 }
 
-/// Adds a field to the content, where letters are seen, and its own from then on.
+/// Adds a field to the content, and marks its letter as seen.
 #[tactic(auto, unfolding(crate::specs::FieldReading::with_field))]
 fn add_field(
     alloc: Global,
@@ -105,7 +105,7 @@ fn add_field(
         → Marks seen.new (slice_index field.now 0 ∷ letters)) }
 {
     let letter = field.as_bytes()[0];
-    // Asked first, so that what a letter means leads to its value at once.
+    // This test comes first, so that the meaning of a letter leads to its value at once.
     if seen[letter as usize] {
         if letter_of(kind, letter).is_none() {
             return Err(fault(FaultKind::UnknownField, place));
@@ -161,7 +161,7 @@ fn read_head(field: &str, place: u64) -> Result<(ObjectKind, i64), LineError>
     }
 }
 
-/// A line without the CR that stands last in it.
+/// A line without the CR at its end.
 fn without_cr(line: &[u8]) -> &[u8]
     ensures { result.now ≡ without_cr line.now }
 {
@@ -192,17 +192,18 @@ fn read(alloc: Global, line: &[u8]) -> Result<Option<Object>, LineError>
     Ok(Some(object_of(kind, id, content)))
 }
 
-/// Reads a line of OPL, given without its LF: an object, or None for a line that is passed over, as one without fields, a comment or a changeset.
+/// Reads a line of OPL, given without its LF: an object, or None for a line that is passed over.
 ///
-/// A line that has no reading gives its first fault. Bytes that aren't UTF-8 come before all other faults.
+/// A line without fields, a comment and a changeset are passed over. A line that has no reading gives its first fault. Bytes
+/// that aren't UTF-8 come before all other faults.
 pub fn read_line(alloc: Global, line: &[u8]) -> Result<Option<Object>, LineError>
-    // What comes is so.
+    // An answer is right.
     ensures object { IfOk result (λ o. IfSome o (λ x. Spells line.now x)) }
     ensures passed { IfOk result (λ o. IfNone o (IsPassedOver line.now)) }
     ensures fault { IfErr result (Explains line.now) }
-    // Of equal keys the first tag alone is kept.
+    // Of tags with equal keys only the first is kept.
     ensures keys { IfOk result (λ o. IfSome o (λ x. HaveDifferentKeys (tags_of x))) }
-    // What is so comes, unless memory runs out.
+    // What is right is answered, unless memory runs out.
     ensures spelled { (o : Object) → Spells line.now o → Gives result (Ok (Some o)) }
     ensures skipped { IsPassedOver line.now → Gives result (Ok None) }
     ensures refused { (x : LineFault) → HasFault line.now x → Gives result (Err x) }
@@ -212,7 +213,7 @@ pub fn read_line(alloc: Global, line: &[u8]) -> Result<Option<Object>, LineError
     read(alloc, line)
 }
 
-/// Every line is passed over, or spells one object, or has one fault; this is what it is read as.
+/// Every line is passed over, spells one object, or has one fault; that is what it is read as.
 pub fn lines_have_one_answer()
     ensures reading { (line : List ℕ) → IsAnswer line }
     ensures some { (line : List ℕ) → HasAnswer line }

@@ -16,7 +16,7 @@ use osm_elements::Object;
 use std::alloc::Global;
 use std::marker::Model;
 
-/// A reader of lines. It holds the line that no newline has ended yet, and no more of the input.
+/// A reader of lines. It holds the unfinished line, and no more of the input.
 #[derive(Drop)]
 pub struct Lines {
     alloc: Global,
@@ -50,7 +50,7 @@ fn first_line(piece: &[u8]) -> (&[u8], bool)
     }
 }
 
-/// Whether a line with these bytes added passes the most that it may have.
+/// Whether a line with these bytes added is longer than it may be.
 fn is_too_long(unfinished: &[u8], more: &[u8], longest: u64) -> bool
     requires { length unfinished.now ≤ longest }
     ensures { result ≡ nat_lt longest (length (unfinished.now ++ more.now)) }
@@ -58,7 +58,7 @@ fn is_too_long(unfinished: &[u8], more: &[u8], longest: u64) -> bool
     more.len() as u64 > longest - unfinished.len() as u64
 }
 
-/// Reads the line that is the unfinished one and these bytes, where they stand if they are all of it.
+/// Reads the line that is the unfinished one and these bytes. If they are all of it, it is read in place.
 fn read_complete_line(
     alloc: Global,
     unfinished: &mut Vec<u8>,
@@ -77,7 +77,7 @@ fn read_complete_line(
 }
 
 impl Lines {
-    /// A reader of lines of at most `longest` bytes. It takes no memory yet.
+    /// A reader of lines of at most `longest` bytes. Making it takes no memory.
     pub fn new(alloc: Global, longest: u64) -> Lines
         ensures { result ≡ new_reader longest }
     {
@@ -98,10 +98,10 @@ impl Lines {
         self.line
     }
 
-    /// Takes bytes up to and with the first newline, or all. The line that ends there is read.
+    /// Takes bytes up to and including the first newline, or all, and reads the line that ends there.
     ///
-    /// A line that ends without a reading is refused, and so is one of more than `longest` bytes, as soon as the bytes
-    /// of this piece pass them. After any refusal the reader has ended, and answers `Ended` from then on.
+    /// A line that ends without a reading is refused. So is one of more than `longest` bytes, as soon as the bytes of this
+    /// piece exceed them. After any refusal the reader has ended, and every later call answers `Ended`.
     #[tactic(auto, unfolding(crate::specs::Feeding::feeding))]
     pub fn feed(&mut self, piece: &[u8]) -> Result<Fed, FeedError>
         requires some { 0 < length piece.now }
@@ -150,7 +150,8 @@ impl Lines {
         }
     }
 
-    /// Reads what no newline ended as the last line. None where nothing is left, or the line is passed over.
+    /// Reads the bytes after the last newline as the last line; None if there are none, or the line is passed over.
+    ///
     /// Afterwards the reader has ended.
     #[tactic(auto, unfolding(crate::specs::Feeding::finishing))]
     pub fn finish(&mut self) -> Result<Option<Object>, FeedError>

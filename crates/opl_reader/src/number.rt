@@ -20,10 +20,10 @@ pub fn are_digits(bytes: &[u8]) -> bool
     bytes.iter().all(|b| b.is_ascii_digit())
 }
 
-/// How many digits a u64 holds, whichever they are.
+/// How many digits always fit a u64.
 const HELD_DIGITS: usize = 19;
 
-/// The value of few digits; None where a byte is no digit.
+/// The value of few digits; None if a byte is no digit.
 fn short_value(bytes: &[u8]) -> Option<u64>
     requires { length bytes.now ≤ 19 }
     ensures { result ≡ (if list_all is_ascii_digit bytes.now
@@ -39,10 +39,10 @@ fn short_value(bytes: &[u8]) -> Option<u64>
     Some(value)
 }
 
-/// How many digits are read at once, whose value is that of an id.
+/// How many digits are read at once: their value is always that of an id.
 const FEW_DIGITS: usize = 18;
 
-/// The value of the digits in front, at most 18, and how many they are.
+/// The value of the digits in front, at most 18, and how many there are.
 pub fn leading_digits(bytes: &[u8]) -> (u64, usize)
     ensures digits { LeadingDigits bytes.now result.0 result.1 }
     ensures inside { result.1 ≤ length bytes.now }
@@ -60,7 +60,7 @@ pub fn leading_digits(bytes: &[u8]) -> (u64, usize)
     (value, most)
 }
 
-/// The value of any number of digits, at most 2^64 - 1; None where a byte is no digit.
+/// The value of any number of digits, at most 2^64 - 1; None if a byte is no digit.
 fn long_value(bytes: &[u8]) -> Option<u64>
     ensures { result ≡ (if list_all is_ascii_digit bytes.now
         then Some (capped (digits_value 10 bytes.now)) else None) }
@@ -77,7 +77,7 @@ fn long_value(bytes: &[u8]) -> Option<u64>
     Some(value)
 }
 
-/// The value of digits, at most 2^64 - 1; None where a byte is no digit.
+/// The value of digits, at most 2^64 - 1; None if a byte is no digit.
 ///
 /// Ways: up to 19 digits by plain sums; all others by sums that stop at the greatest number.
 fn value(bytes: &[u8]) -> Option<u64>
@@ -120,7 +120,7 @@ fn id(text: &[u8]) -> Option<i64>
     }
 }
 
-/// An id, None where the text is none.
+/// An id; None if the text is none.
 pub fn read_id(text: &[u8]) -> Option<i64>
     ensures found { IfSome result (λ id. IsId text.now id) }
     ensures none { IfNone result ((id : ℤ) → ¬ IsId text.now id) }
@@ -129,7 +129,7 @@ pub fn read_id(text: &[u8]) -> Option<i64>
     id(text)
 }
 
-/// The digits before the first point, and those behind it.
+/// The digits before the first point, and those after it.
 fn cut_at_point(text: &[u8]) -> (&[u8], &[u8])
     ensures whole { result.0.now ≡ before_first is_point text.now }
     ensures decimals { result.1.now ≡ after_first is_point text.now }
@@ -141,10 +141,10 @@ fn cut_at_point(text: &[u8]) -> (&[u8], &[u8])
     (&text[..len], &text[len + 1..])
 }
 
-/// What the last of so many decimals counts, in units.
+/// What the last of `n` decimals counts, in units, at place `n`.
 const UNITS: [u64; 8] = [10_000_000, 1_000_000, 100_000, 10_000, 1_000, 100, 10, 1];
 
-/// The units of at most seven decimals, which nothing rounds; None where a byte is no digit.
+/// The units of at most seven decimals, which need no rounding; None if a byte is no digit.
 fn few_decimals(decimals: &[u8]) -> Option<u64>
     requires { length decimals.now ≤ 7 }
     ensures value { result ≡ (if list_all is_ascii_digit decimals.now
@@ -155,7 +155,7 @@ fn few_decimals(decimals: &[u8]) -> Option<u64>
     Some(value * UNITS[decimals.len()])
 }
 
-/// The units of eight decimals and more, rounded at the eighth; None where a byte is no digit.
+/// The units of eight or more decimals, rounded at the eighth; None if a byte is no digit.
 fn many_decimals(decimals: &[u8]) -> Option<u64>
     requires { 8 ≤ length decimals.now }
     ensures value { result ≡ (if list_all is_ascii_digit decimals.now
@@ -170,7 +170,7 @@ fn many_decimals(decimals: &[u8]) -> Option<u64>
     Some((tenths + 5) / 10)
 }
 
-/// The units of decimals, rounded at the eighth; None where a byte is no digit.
+/// The units of decimals, rounded at the eighth; None if a byte is no digit.
 fn fraction(decimals: &[u8]) -> Option<u64>
     ensures value { result ≡ (if list_all is_ascii_digit decimals.now
         then Some ((digits_value 10 (first_eight decimals.now) + 5) / 10) else None) }
@@ -182,10 +182,10 @@ fn fraction(decimals: &[u8]) -> Option<u64>
     many_decimals(decimals)
 }
 
-/// The degrees that no coordinate passes.
+/// The most degrees of any coordinate.
 const MOST_DEGREES: u64 = 180;
 
-/// The units of a coordinate as most are written, with a few degrees and a point. None says nothing.
+/// The units of a coordinate in the usual form, with a few degrees and a point. None decides nothing.
 fn usual(text: &[u8]) -> Option<u64>
     ensures units { IfSome result (λ n. unsigned_of text.now ≡ Some n) }
     ensures small { IfSome result (λ n. n < 2 ^ 64) }
@@ -202,7 +202,7 @@ fn usual(text: &[u8]) -> Option<u64>
     Some(degrees * 10_000_000 + fraction)
 }
 
-/// The units of digits with a point, as far as the machine counts.
+/// The units of digits with a point, up to the greatest number of the machine.
 ///
 /// Ways: decimals of up to 180 degrees and a point; all others by the whole grammar.
 #[tactic(auto, unfolding(crate::specs::NumberReading::unsigned_of))]
@@ -234,7 +234,7 @@ fn within(text: &[u8], limit: i64) -> Option<i64>
     Some(units as i64)
 }
 
-/// The units of a decimal with its sign. The crate calls this one, whose contract is the function alone.
+/// The units of a decimal with its sign. The crate calls this one; its contract is the function alone.
 #[tactic(auto, unfolding(crate::specs::NumberReading::decimal_of))]
 pub fn decimal(text: &[u8], limit: i64) -> Option<i64>
     ensures value { result ≡ decimal_of limit text.now }
@@ -250,10 +250,10 @@ pub fn decimal(text: &[u8], limit: i64) -> Option<i64>
     }
 }
 
-/// The value of a decimal in units of 1e-7: an optional sign, digits, and where there is a point more digits, at least one in all.
+/// The value of a decimal in units of 1e-7: an optional sign, digits, and after a point more digits, at least one in all.
 ///
-/// The eighth decimal rounds the magnitude, from 5 on upwards, and later ones don't count. There is no exponent.
-/// None comes where the text is no such decimal, or where its rounded magnitude is above the limit.
+/// The eighth decimal rounds the magnitude, upwards from 5 on, and later ones don't count. There is no exponent. None comes
+/// if the text is no such decimal, or if its rounded magnitude is above the limit.
 pub fn read_decimal(text: &[u8], limit: i64) -> Option<i64>
     ensures found { IfSome result (λ units. IsDecimal text.now units × IsWithinLimit limit units) }
     ensures none { IfNone result ((units : ℤ) → IsDecimal text.now units

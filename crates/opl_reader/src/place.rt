@@ -54,7 +54,7 @@ pub fn y_spelled(bytes: &[u8]) -> Option<Option<Latitude>>
     Some(Some(y))
 }
 
-/// A location, where both coordinates are there.
+/// A location, if both coordinates are there.
 pub fn location_from(x: Option<Longitude>, y: Option<Latitude>) -> Option<Loc>
     ensures { result ≡ location_from x y }
 {

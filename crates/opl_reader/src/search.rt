@@ -1,4 +1,4 @@
-//! Where the first byte stands at which a text is cut, or the text's length. Most texts that are cut have few bytes.
+//! The first byte at which a text is cut, or the text's length. Most texts that are cut have few bytes.
 
 ghost use Rattle.std.specs.Prelude.{◌≡◌, ◌+◌, ◌<◌, ◌≤◌, ◌==◌, length, drop, MatchOption, IfSome};
 ghost use Rattle.std.specs.List.{position_or_len};
@@ -57,7 +57,7 @@ fn low_by_ones(text: &[u8], start: usize) -> usize
     text.len()
 }
 
-/// The same, but where the text ends is asked once for four bytes.
+/// The same, but tests for the end of the text once in four bytes.
 #[inline(always)]
 fn low_by_fours(text: &[u8], start: usize) -> usize
     requires { start ≤ length text.now }
@@ -74,7 +74,7 @@ fn low_by_fours(text: &[u8], start: usize) -> usize
     low_by_ones(text, place)
 }
 
-/// The first place of a space or a tab, or the length. Nearly every byte is greater than both, which one test tells.
+/// The first place of a space or a tab, or the length. Nearly every byte is greater than both, and one test shows it.
 #[inline(always)]
 pub fn first_separator(text: &[u8]) -> usize
     ensures value { result ≡ position_or_len is_separator text.now }

@@ -1,4 +1,4 @@
--- Which objects a line can spell as they are written here.
+-- Which objects a line can spell as this crate writes them.
 use Rattle.std.specs.Prelude.{◌≡◌, ◌≤◌, List, ℤ, nat_abs, true, All}
 use Rattle.std.specs.Str.{IsUtf8}
 use Rattle.osm_elements.specs.declared.object.Tag.{Tag}
@@ -32,13 +32,13 @@ IsMemberInRange m = IsIdNumber m.id × IsUtf8 m.role
 abbrev pub AreMembers : List Member → Type 0
 AreMembers members = All IsMemberInRange members
 
--- Its ids are in range, its texts are texts of characters, and no key stands twice.
+-- Its ids are in range, its texts are texts of characters, and no key occurs twice.
 abbrev pub IsWellFormed : Object → Type 0
 IsWellFormed (object.Node id live tags place) = IsIdNumber id × AreTags tags
 IsWellFormed (object.Way id live tags refs) = IsIdNumber id × AreTags tags × AreRefs refs
 IsWellFormed (object.Relation id live tags members) = IsIdNumber id × AreTags tags × AreMembers members
 
--- it wasn't deleted
+-- it isn't deleted
 abbrev pub IsLive : Object → Type 0
 IsLive (object.Node id live tags place) = live ≡ true
 IsLive (object.Way id live tags refs) = live ≡ true

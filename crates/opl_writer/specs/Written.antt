@@ -1,4 +1,4 @@
--- Objects written as lines of OPL: an id, and behind it the fields in which something stands.
+-- Objects written as lines of OPL: an id, and after it the fields that aren't empty.
 use Rattle.std.specs.Prelude.{ℕ, ℤ, List, [], ◌∷◌, ◌++◌, Option, Some, None, map, flat_map, codes}
 use Rattle.std.specs.List.{join_with_byte}
 use Rattle.std.specs.Fmt.{signed_decimal}
@@ -20,7 +20,7 @@ abbrev pub own_place_text : Option Loc → List ℕ
 own_place_text None = []
 own_place_text (Some p) = codes "x" ++ units_text p.x ++ codes "y" ++ units_text p.y
 
--- a reference: n, the id of its node, and its own location where it has one
+-- a reference: n, the id of its node, and its own location if it has one
 abbrev pub ref_text : Ref → List ℕ
 ref_text r = codes "n" ++ signed_decimal r.node ++ own_place_text r.at
 
@@ -34,9 +34,9 @@ kind_letter Relation = codes "r"
 abbrev pub member_text : Member → List ℕ
 member_text m = kind_letter m.kind ++ signed_decimal m.id ++ codes "@" ++ written m.role
 
--- ---- fields, each behind a space
+-- ---- fields, each after a space
 
--- a letter and the items that commas part; nothing where there are no items
+-- a letter and the items separated by commas; nothing if there are no items
 abbrev pub items_field : List ℕ → List (List ℕ) → List ℕ
 items_field letter [] = []
 items_field letter (item ∷ items) = codes " " ++ letter ++ join_with_byte 44 (item ∷ items)
@@ -50,7 +50,7 @@ refs_field refs = items_field (codes "N") (map ref_text refs)
 abbrev pub members_field : List Member → List ℕ
 members_field members = items_field (codes "M") (map member_text members)
 
--- where there is a location, the field of its longitude and that of its latitude
+-- the field of the longitude and that of the latitude, if there is a location
 abbrev pub place_fields : Option Loc → List ℕ
 place_fields None = []
 place_fields (Some p) = codes " x" ++ units_text p.x ++ codes " y" ++ units_text p.y

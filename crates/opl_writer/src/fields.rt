@@ -1,4 +1,4 @@
-//! Fields of a line. Each stands behind a space, and only where something stands in it.
+//! Fields of a line. Each follows a space, and empty fields are left out.
 
 ghost use Rattle.std.specs.Prelude.{◌≡◌, ◌++◌, OnOk, OnErr};
 ghost use Rattle.osm_notation.specs.Kept.{KeepsFront};
@@ -10,7 +10,7 @@ use osm_lattice::Loc;
 use osm_notation::{put_coordinate, put_tag};
 use std::alloc::AllocError as OutOfMemory;
 
-/// Adds the field of tags, where there are any.
+/// Adds the field of tags, if there are any.
 pub(crate) fn put_tags(text: &mut Vec<u8>, tags: &Tags) -> Result<(), OutOfMemory>
     ensures text { OnOk result (text.new.items ≡ text.old.items ++ tags_field tags.now) }
     ensures kept { OnErr result (KeepsFront text.old.items text.new.items) }
@@ -25,7 +25,7 @@ pub(crate) fn put_tags(text: &mut Vec<u8>, tags: &Tags) -> Result<(), OutOfMemor
     Ok(())
 }
 
-/// Adds the field of references, where there are any.
+/// Adds the field of references, if there are any.
 pub(crate) fn put_refs(text: &mut Vec<u8>, refs: &Refs) -> Result<(), OutOfMemory>
     ensures text { OnOk result (text.new.items ≡ text.old.items ++ refs_field refs.now) }
     ensures kept { OnErr result (KeepsFront text.old.items text.new.items) }
@@ -39,7 +39,7 @@ pub(crate) fn put_refs(text: &mut Vec<u8>, refs: &Refs) -> Result<(), OutOfMemor
     Ok(())
 }
 
-/// Adds the field of members, where there are any.
+/// Adds the field of members, if there are any.
 pub(crate) fn put_members(text: &mut Vec<u8>, members: &Members) -> Result<(), OutOfMemory>
     ensures text { OnOk result (text.new.items ≡ text.old.items ++ members_field members.now) }
     ensures kept { OnErr result (KeepsFront text.old.items text.new.items) }
@@ -54,7 +54,7 @@ pub(crate) fn put_members(text: &mut Vec<u8>, members: &Members) -> Result<(), O
     Ok(())
 }
 
-/// Adds the two fields of a location, where there is one.
+/// Adds the two fields of a location, if there is one.
 pub(crate) fn put_place(text: &mut Vec<u8>, place: Option<Loc>) -> Result<(), OutOfMemory>
     ensures text { OnOk result (text.new.items ≡ text.old.items ++ place_fields place) }
     ensures kept { OnErr result (KeepsFront text.old.items text.new.items) }

@@ -10,7 +10,7 @@ use osm_lattice::Loc;
 use osm_notation::{put_coordinate, put_number, put_written};
 use std::alloc::AllocError as OutOfMemory;
 
-/// Adds the location that a reference carries, where it carries one.
+/// Adds the location that a reference carries, if it carries one.
 fn put_own_place(text: &mut Vec<u8>, at: Option<Loc>) -> Result<(), OutOfMemory>
     ensures text { OnOk result (text.new.items ≡ text.old.items ++ own_place_text at) }
     ensures kept { OnErr result (KeepsFront text.old.items text.new.items) }

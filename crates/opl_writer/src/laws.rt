@@ -1,4 +1,4 @@
-//! What is written is read back. The functions do nothing: each says a law.
+//! What is written is read back. The functions do nothing: the contract of each is a law.
 
 ghost use Rattle.std.specs.Prelude.{◌≡◌, List, Ok, Some, map, All, ℕ};
 ghost use Rattle.std.specs.List.{filter_map};
@@ -14,13 +14,14 @@ ghost use Rattle.opl_writer.specs.Written.{object_line, objects_text};
 
 use opl_reader::lines_have_one_answer;
 
-/// Each object that a line spells is sound: its ids are in range, its texts are texts of characters, and no key stands
-/// twice. So it can be written, where it is live.
+/// Each object that a line spells is well-formed.
+///
+/// Its ids are in range, its texts are texts of characters, and no key occurs twice. So it can be written if it is live.
 pub fn spelled_objects_are_sound()
     ensures { (line : List ℕ) (o : Object) → Spells line o → IsWellFormed o }
 {}
 
-/// The line of an object spells this object and is read as it. No newline stands in it, and it is UTF-8.
+/// The line of an object spells this object and is read as it. It has no newline, and is UTF-8.
 pub fn written_lines_read_back()
     ensures object { (o : Object) → IsWritable o → Spells (object_line o) o }
     ensures reading { (o : Object) → IsWritable o → reading (object_line o) ≡ Ok (Some o) }
@@ -31,7 +32,7 @@ pub fn written_lines_read_back()
     lines_have_one_answer();
 }
 
-/// The lines of a text of written objects are the lines of these objects, in order, and tell them.
+/// The lines of a text of written objects are the lines of these objects, in order, and spell them.
 pub fn written_texts_read_back()
     ensures lines { (objects : List Object) → All IsWritable objects
         → lines_of (objects_text objects) ≡ map object_line objects }

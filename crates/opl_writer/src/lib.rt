@@ -1,8 +1,8 @@
-//! Objects written as lines of OPL, the line format of OpenStreetMap data, which read back as these objects.
+//! Objects written as lines of OPL, the line format of OpenStreetMap data. The lines are read back as these objects.
 //!
-//! A line has an id and the fields in which something stands: tags, a location, references, members. What else
-//! a line of the OPL manual (<https://osmcode.org/opl-file-format/>) may tell, as versions and users, the reader
-//! doesn't keep, so it isn't written.
+//! A line has an id and the fields that aren't empty: tags, a location, references, members. A line of the OPL manual
+//! (<https://osmcode.org/opl-file-format/>) may also have versions, users and the like. The reader doesn't keep these, so
+//! they aren't written.
 #![tactic(auto)]
 
 mod fields;

@@ -1,4 +1,4 @@
-//! Lines of objects, each ended by LF.
+//! Lines of objects, each ending with LF.
 
 ghost use Rattle.std.specs.Prelude.{◌≡◌, ◌++◌, OnOk, OnErr};
 ghost use Rattle.osm_notation.specs.Kept.{KeepsFront};
@@ -10,9 +10,10 @@ use osm_lattice::Loc;
 use osm_notation::put_number;
 use std::alloc::AllocError as OutOfMemory;
 
-/// Adds the line of a node: `n` and its id, ` T` and its tags where it has any, ` x`, the longitude, ` y` and the
-/// latitude where it has a location, and LF. The error is want of memory: what was there still stands in front, and a part
-/// of the line may stand behind it.
+/// Adds the line of a node: `n` and its id, ` T` and its tags, ` x`, the longitude, ` y` and the latitude, and LF.
+///
+/// The tags are left out if there are none, and so are both coordinates if the node has no location. Fails only if memory
+/// runs out. Then what was there before stays in front, and a part of the line may follow it.
 pub fn put_node(
     text: &mut Vec<u8>,
     id: i64,
@@ -31,9 +32,10 @@ pub fn put_node(
     Ok(())
 }
 
-/// Adds the line of a way: `w` and its id, ` T` and its tags where it has any, ` N` and its references where it has
-/// any, and LF. A reference that carries a location keeps it. The error is want of memory: what was there still stands in
-/// front, and a part of the line may stand behind it.
+/// Adds the line of a way: `w` and its id, ` T` and its tags, ` N` and its references, and LF.
+///
+/// Tags or references are left out if there are none. A reference that carries a location keeps it. Fails only if memory
+/// runs out. Then what was there before stays in front, and a part of the line may follow it.
 pub fn put_way(text: &mut Vec<u8>, id: i64, tags: &Tags, refs: &Refs) -> Result<(), OutOfMemory>
     ensures text { OnOk result (text.new.items
         ≡ text.old.items ++ ended (way_line id tags.now refs.now)) }
@@ -47,8 +49,10 @@ pub fn put_way(text: &mut Vec<u8>, id: i64, tags: &Tags, refs: &Refs) -> Result<
     Ok(())
 }
 
-/// Adds the line of a relation: `r` and its id, ` T` and its tags where it has any, ` M` and its members where it has
-/// any, and LF. The error is want of memory: what was there still stands in front, and a part of the line may stand behind it.
+/// Adds the line of a relation: `r` and its id, ` T` and its tags, ` M` and its members, and LF.
+///
+/// Tags or members are left out if there are none. Fails only if memory runs out. Then what was there before stays in front,
+/// and a part of the line may follow it.
 pub fn put_relation(
     text: &mut Vec<u8>,
     id: i64,

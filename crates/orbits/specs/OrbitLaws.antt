@@ -6,6 +6,6 @@ use Rattle.orbits.specs.Orbits.{AreOrbits, AreOrbitsInOrder, IsOneToOne}
 abbrev pub OrbitsExist : Type 0
 OrbitsExist = (next : List (Option ℕ)) → IsOneToOne next → (os : List (List ℕ)) × AreOrbits next os × AreOrbitsInOrder next os
 
--- and one list of them alone
+-- it has at most one list of them
 abbrev pub OrbitsAreOne : Type 0
 OrbitsAreOne = (next : List (Option ℕ)) → IsOneToOne next → (os ps : List (List ℕ)) → AreOrbits next os → AreOrbitsInOrder next os → AreOrbits next ps → AreOrbitsInOrder next ps → os ≡ ps

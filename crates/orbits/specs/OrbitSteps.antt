@@ -1,4 +1,5 @@
--- What finding orbits goes by: walks from a number on, the numbers where open orbits start, marks, and walks that are noted. No public contract cites it.
+-- Words of private clauses on finding orbits. No public contract cites them.
+-- They are walks from a number on, the numbers at which open orbits start, marks, and walks that are noted.
 use Rattle.std.specs.Prelude.{◌≡◌, ◌≢◌, ℕ, ◌++◌, ◌<◌, List, length, slice_index, slice_index_or, Option, Some, Bool, true, false}
 use Rattle.orbits.specs.Orbits.{after, first, last_number, GoesOn}
 
@@ -23,7 +24,7 @@ pub record AreMarkedAlso (old : List Bool) (places : List ℕ) (new : List Bool)
   pub here : (k : ℕ) → k < length places → slice_index_or new (slice_index places k) false ≡ true
   pub others : (x : ℕ) → ((k : ℕ) → k < length places → slice_index places k ≢ x) → slice_index_or new x false ≡ slice_index_or old x false
 
--- the numbers of a whole walk, so many, stand behind the old ones and are marked
+-- the `size` numbers of a whole walk come after the old ones and are marked
 pub record IsPassed (next : List (Option ℕ)) (from size : ℕ) (old new : List ℕ) (marked marks : List Bool) : Type 0 where
   pub walk : List ℕ
   pub whole : IsWholeWalk next from walk

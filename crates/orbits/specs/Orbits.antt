@@ -1,4 +1,5 @@
--- The orbits of a partial one-to-one map on the numbers below a bound. The map is a list: number i goes on to j where Some j stands at place i.
+-- The orbits of a partial one-to-one map on the numbers below a bound.
+-- The map is a list: number i goes on to j if place i has Some j.
 use Rattle.std.specs.Prelude.{◌≡◌, ◌≢◌, ℕ, ◌+◌, ◌-◌, ◌<◌, ◌≤◌, List, length, slice_index, slice_index_or, All, AllPairs, Option, Some, None}
 use Rattle.orbits.specs.Once.{HoldEachOnce}
 
@@ -6,7 +7,7 @@ use Rattle.orbits.specs.Once.{HoldEachOnce}
 abbrev pub after : List (Option ℕ) → ℕ → Option ℕ
 after next i = slice_index_or next i None
 
--- no number goes on to one out of range, and no two go on to one
+-- no number goes on to one out of range, and no two go on to the same one
 pub record IsOneToOne (next : List (Option ℕ)) : Type 0 where
   pub within : (i j : ℕ) → after next i ≡ Some j → j < length next
   pub one : (i k j : ℕ) → after next i ≡ Some j → after next k ≡ Some j → i ≡ k
@@ -21,7 +22,7 @@ last_number o = slice_index o (length o - 1)
 abbrev pub GoesOn : List (Option ℕ) → List ℕ → Type 0
 GoesOn next o = (k : ℕ) → k + 1 < length o → after next (slice_index o k) ≡ Some (slice_index o (k + 1))
 
--- an orbit: where its last number goes on, it goes on to the first; where it does not, nothing goes on to the first
+-- An orbit: if its last number goes on, it goes on to the first; otherwise nothing goes on to the first.
 pub record IsOrbit (next : List (Option ℕ)) (o : List ℕ) : Type 0 where
   pub some : 0 < length o
   pub steps : GoesOn next o

@@ -7,10 +7,11 @@ use std::alloc::{AllocError as OutOfMemory, Global};
 
 /// Cuts a closed walk into closed walks that leave no key twice.
 ///
-/// The walk is a list of items, each a number below `keys.len()`; item i leaves the key `keys[i]` and
-/// enters the one that the next item leaves, the last that of the first. The pieces are lists of items too.
-/// `depths` is room to work in, one number for each key; what it holds before and after doesn't matter.
-/// It takes time in proportion to the walk. The error is want of memory.
+/// The walk is a list of items, each a number below `keys.len()`. Item i leaves the key `keys[i]` and enters the key that
+/// the next item leaves; the last enters that of the first. The pieces are lists of items too.
+///
+/// `depths` is room to work in, one number for each key; what it holds before and after doesn't matter. It takes time in
+/// proportion to the walk. Fails only if memory runs out.
 pub fn cut(
     alloc: Global,
     walk: &[usize],
@@ -32,7 +33,7 @@ pub fn cut(
     Ok(pieces)
 }
 
-/// Cuts off what the stack has from an item's key on, if it has that, and puts the item on the stack.
+/// Cuts off the stack from an item's key on, if the stack has that key, and then puts the item on the stack.
 fn take_item(
     item: usize,
     keys: &[usize],
@@ -47,7 +48,7 @@ fn take_item(
         stack.old.items stack.new.items (map (λ p. p.items) pieces.old.items) (map (λ p. p.items) pieces.new.items)) }
 {
     let key = keys[item];
-    // A depth is right only where the stack has the key there, so none is ever cleared.
+    // A depth counts only if the stack has the key there, so none is ever cleared.
     let depth = depths[key];
     if has_key(keys, stack, depth, key) {
         pieces.push(stack.split_off(depth)?)?;

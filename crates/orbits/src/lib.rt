@@ -1,4 +1,4 @@
-//! Orbits of a partial one-to-one map on numbers, and closed walks cut where they come to a key again.
+//! Orbits of a partial one-to-one map on numbers, and closed walks cut where they return to a key.
 #![tactic(auto)]
 
 mod cutting;

@@ -6,10 +6,10 @@ ghost use Rattle.orbits.specs.OrbitSteps.{IsWholeWalk, AreStarts, AreMarkedAlso}
 
 use std::alloc::{AllocError as OutOfMemory, Global};
 
-/// The orbits of a partial one-to-one map, in which i goes on to j where `next[i]` is `Some(j)`.
+/// The orbits of a partial one-to-one map, in which i goes on to j if `next[i]` is `Some(j)`.
 ///
-/// They stand in order of their first numbers. An open one begins with the number that nothing goes
-/// on to, a closed one with its least. It takes time in proportion to the map. The error is want of memory.
+/// They are in order of their first numbers. An open one begins with the number that nothing goes on to, a closed one with
+/// its least. It takes time in proportion to the map. Fails only if memory runs out.
 pub fn orbits(alloc: Global, next: &[Option<usize>]) -> Result<Vec<Vec<usize>>, OutOfMemory>
     requires { IsOneToOne next.now }
     ensures orbits { IfOk result (λ v. AreOrbits next.now (map (λ o. o.items) v.items)) }
@@ -35,7 +35,7 @@ fn chained(alloc: Global, next: &[Option<usize>], starts: &[bool]) -> Result<Vec
     Ok(chained)
 }
 
-/// The orbits, begun at the starts and at the least numbers of what is on no open orbit.
+/// The orbits. They begin at the starts, and at the least numbers of those on no open orbit.
 fn in_order(
     alloc: Global,
     next: &[Option<usize>],
@@ -51,7 +51,7 @@ fn in_order(
     let mut seen = vec![in alloc; false; next.len()]?;
     let mut orbits = Vec::new(alloc);
     for place in 0..next.len() {
-        // What no open orbit holds is on a closed one, and the first number met there is its least.
+        // A number on no open orbit is on a closed one, and the first number met there is its least.
         if is_first(starts, chained, &seen, place) {
             add_orbit(alloc, next, place, &mut seen, &mut orbits)?;
         }
@@ -59,7 +59,7 @@ fn in_order(
     Ok(orbits)
 }
 
-/// Whether an orbit that wasn't seen begins at this place.
+/// Whether an unseen orbit begins at this place.
 fn is_first(starts: &[bool], chained: &[bool], seen: &[bool], place: usize) -> bool
     requires starts { place < length starts.now }
     requires chained { place < length chained.now }
@@ -87,7 +87,7 @@ fn add_orbit(
     Ok(())
 }
 
-/// The numbers from `from` on, as [`walk`] gives them, which are marked too.
+/// The numbers from `from` on, as [`walk`] gives them. They are marked too.
 fn mark_walk(
     alloc: Global,
     next: &[Option<usize>],

@@ -1,4 +1,4 @@
-//! The closed orbits of a map by which each number goes on.
+//! The closed orbits of a map in which each number goes on.
 ghost use Rattle.std.specs.Prelude.{◌≡◌, ◌≢◌, ◌<◌, length, IfOk, None, ℕ};
 ghost use Rattle.orbits.specs.Along.{AreOrbitsAlong};
 ghost use Rattle.orbits.specs.OrbitSteps.{IsPassed};
@@ -15,10 +15,10 @@ pub struct ClosedWalks {
     pub sizes: Vec<usize>,
 }
 
-/// The orbits of a one-to-one map by which each number goes on, so that all orbits are closed.
+/// The orbits of a one-to-one map in which each number goes on, so that all orbits are closed.
 ///
-/// They stand in order of their first numbers, each begun with its least. It takes time in proportion to the map,
-/// and no list for each orbit. The error is want of memory.
+/// They are in order of their first numbers, and each begins with its least. It takes time in proportion to the map, and
+/// makes no list for each orbit. Fails only if memory runs out.
 pub fn cycles(alloc: Global, next: &[Option<usize>]) -> Result<ClosedWalks, OutOfMemory>
     requires map { IsOneToOne next.now }
     requires total { (i : ℕ) → i < length next.now → after next.now i ≢ None }
@@ -36,8 +36,9 @@ pub fn cycles(alloc: Global, next: &[Option<usize>]) -> Result<ClosedWalks, OutO
     Ok(ClosedWalks { places, sizes })
 }
 
-/// Passes the numbers from `from` on, each going on to the one after it, up to where they end or close, and marks them.
-/// It gives how many these are.
+/// Passes the numbers from `from` on, each going on to the one after it, up to where they end or close.
+///
+/// It marks them and gives how many there are.
 fn pass(
     next: &[Option<usize>],
     from: usize,

@@ -14,7 +14,7 @@ use Rattle.osm_nest.specs.Nested.{ArePolygons}
 use Rattle.osm_nest.specs.Polygons.{rings_of}
 use Rattle.osm_nest.specs.RingLists.{all_edges}
 
--- the segments, each with its odd side on the left, make these polygons, of which there are some
+-- the segments, each with its odd side on the left, make these polygons, at least one
 pub record IsArea (survivors : List Seg) (polygons : List Polygon) : Type 0 where
   pub edges : List Edge
   pub directed : AreDirected survivors edges

@@ -1,4 +1,4 @@
--- The faults of segments as they are held. No public contract cites it.
+-- The faults of segments as they are held. No public contract cites them.
 use Rattle.std.specs.Prelude.{List, Option, None, Some}
 use Rattle.osm_lattice.specs.declared.loc.Loc.{Loc}
 use Rattle.osm_lattice.specs.declared.seg.Seg.{Seg}
@@ -15,7 +15,7 @@ abbrev pub problem_of : Option Pair → Problem
 problem_of None = Nothing
 problem_of (Some pair) = conflict_problem pair
 
--- that of two segments by their places
+-- the problem of two segments, given their places
 abbrev pub problem_at : List Seg → Places → Problem
 problem_at segs places = problem_of (pair_at segs places)
 

@@ -1,4 +1,4 @@
--- What a feature tells of the candidate that it is the area of.
+-- What a feature has of its candidate.
 use Rattle.std.specs.Prelude.{List, [], Option, None, Some}
 use Rattle.osm_elements.specs.declared.object.Object.{Object}
 use Rattle.osm_elements.specs.declared.object.Tag.{Tag}

@@ -1,4 +1,4 @@
--- What surviving segments make. No public contract cites it.
+-- What surviving segments make. No public contract cites this.
 use Rattle.std.specs.Prelude.{◌≡◌, ◌≢◌, List, [], All, Option, None, Some}
 use Rattle.osm_lattice.specs.declared.seg.Seg.{Seg}
 use Rattle.osm_elements.specs.declared.object.Object.{Object}
@@ -24,18 +24,18 @@ pub record AreMade (survivors : List Seg) (polygons : List Polygon) : Type 0 whe
   pub kinds : All HasKinds polygons
   pub whole : All (All IsWholeSegment) (rings_of polygons)
 
--- an area, where there are segments and they are an outline, and else what they are
+-- an area, if there are segments and they are an outline; otherwise what they are
 abbrev pub IsMade : List Seg → Made → Type 0
 IsMade survivors (Area polygons) = AreMade survivors polygons
 IsMade survivors Nothing = survivors ≡ []
 IsMade survivors (Faulty left) = (survivors ≢ []) × (left.items ≡ survivors) × (IsOutline survivors → ⊥)
 
--- the outline that survives of these segments; none where no segment or no outline survives
+-- the outline that survives of these segments; none if no segment or no outline survives
 abbrev pub IsOutlineAmong : List Seg → Option (List Seg) → Type 0
 IsOutlineAmong segs None = SurvivorsAre segs (λ survivors. survivors ≢ [] → IsOutline survivors → ⊥)
 IsOutlineAmong segs (Some outline) = AreSurvivors segs outline × (outline ≢ []) × IsOutline outline
 
--- the candidate is sound, and its surviving segments make these polygons; none where it isn't sound
+-- the candidate is sound, and its surviving segments make these polygons; none if it isn't sound
 abbrev pub IsMadeBy : List Object → ObjectRef → Option (List Polygon) → Type 0
 IsMadeBy objects candidate None = IsSound objects candidate → ⊥
 IsMadeBy objects candidate (Some polygons) =

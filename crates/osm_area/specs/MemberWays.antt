@@ -1,4 +1,4 @@
--- The ways that a candidate is made of.
+-- The ways that a candidate consists of.
 use Rattle.std.specs.Prelude.{List, [], ◌∷◌, map, filter, count_by, nat_le, ℤ}
 use Rattle.std.specs.Option.{option_map_or}
 use Rattle.std.specs.Ordering.{int_eq}
@@ -24,11 +24,11 @@ ways_named_by objects Relation id = option_map_or (λ r. ways_among r.members) (
 abbrev pub named_ways : List Object → ObjectRef → List ℤ
 named_ways objects candidate = ways_named_by objects candidate.kind candidate.id
 
--- each of them once, at its first mention
+-- the ways that a candidate names, each once, at its first mention
 abbrev pub member_ways : List Object → ObjectRef → List ℤ
 member_ways objects candidate = each_once int_eq (named_ways objects candidate)
 
--- those that are named at least twice
+-- the ways that it names at least twice
 abbrev pub ways_named_twice : List Object → ObjectRef → List ℤ
 ways_named_twice objects candidate =
     filter (λ way. nat_le 2 (count_by (int_eq way) (named_ways objects candidate))) (member_ways objects candidate)

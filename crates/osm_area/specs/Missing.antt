@@ -19,7 +19,7 @@ same_ref r s = same_kind r.kind s.kind && int_eq r.id s.id
 abbrev pub nodes_missing : List Object → List Ref → List ObjectRef
 nodes_missing objects refs = map (λ r. record { kind = Node; id = r.node }) (filter (λ r. is_none (place_of objects r)) refs)
 
--- what a way lacks: itself, where it isn't here, and otherwise nodes
+-- what a way lacks: itself, if it isn't held, and otherwise nodes
 abbrev pub missing_from : List Object → ℤ → Option WayParts → List ObjectRef
 missing_from objects id None = record { kind = Way; id = id } ∷ []
 missing_from objects id (Some way) = nodes_missing objects way.refs

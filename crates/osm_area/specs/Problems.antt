@@ -1,4 +1,4 @@
--- What keeps a candidate from having an area.
+-- The problems that keep a candidate from having an area.
 use Rattle.std.specs.Prelude.{◌≡◌, List, [], ◌∷◌, ◌++◌, map, ℤ}
 use Rattle.osm_lattice.specs.declared.loc.Loc.{Loc}
 use Rattle.osm_lattice.specs.declared.seg.Seg.{Seg}
@@ -11,7 +11,7 @@ use Rattle.osm_segments.specs.declared.pairs.Pair.{Pair}
 use Rattle.osm_segments.specs.Counts.{AreSurvivors, AreOddNodes}
 use Rattle.osm_segments.specs.Pairs.{conflicts_of}
 
--- a way that is missing, or else a node
+-- a missing way, or else a missing node
 abbrev pub missing_of : ObjectKind → ℤ → Problem
 missing_of Way id = MissingWay id
 missing_of Node id = MissingNode id
@@ -32,16 +32,16 @@ pub record AreFaults (survivors : List Seg) (problems : List Problem) : Type 0 w
   pub odd : AreOddNodes survivors odd_nodes
   pub whole : problems ≡ map conflict_problem (conflicts_of survivors) ++ map odd_problem odd_nodes
 
--- of surviving segments: that there is none, or else their faults
+-- the problems of surviving segments: that there are none, or else their faults
 abbrev pub AreProblemsAmong : List Seg → List Problem → Type 0
 AreProblemsAmong [] problems = problems ≡ Nothing ∷ []
 AreProblemsAmong (s ∷ survivors) problems = AreFaults (s ∷ survivors) problems
 
--- P holds of the segments that survive of these
+-- P holds for the surviving ones of these segments
 abbrev pub SurvivorsAre : List Seg → (List Seg → Type 0) → Type 0
 SurvivorsAre segments P = (survivors : List Seg) × (AreSurvivors segments survivors × P survivors)
 
--- the missing parts, where there are any, and else the problems among the surviving segments
+-- the missing parts, if there are any, and otherwise the problems among the surviving segments
 abbrev pub AreProblemsGiven : List ObjectRef → List Seg → List Problem → Type 0
 AreProblemsGiven [] segments problems = SurvivorsAre segments (λ survivors. AreProblemsAmong survivors problems)
 AreProblemsGiven (r ∷ missing) segments problems = problems ≡ map missing_problem (r ∷ missing)

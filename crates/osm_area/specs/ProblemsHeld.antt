@@ -1,4 +1,4 @@
--- The list that contracts see of problems. No public contract cites it.
+-- The list of problems that contracts see. No public contract cites this.
 use Rattle.std.specs.Prelude.{List, [], ◌∷◌, ◌++◌, map}
 use Rattle.osm_objects.specs.declared.problem.Problem.{Problem}
 use Rattle.osm_objects.specs.declared.problem.Problem.TheVariants.{Nothing}

@@ -1,4 +1,4 @@
--- Roles, as far as they tell of rings. No public contract cites it.
+-- Roles, as far as they concern rings. No public contract cites them.
 use Rattle.std.specs.Prelude.{Bool, ◌||◌, if◌then◌else◌, List, bytes_eq, codes, ℕ, ℤ, Option, None, Some}
 use Rattle.std.specs.List.{list_any}
 use Rattle.std.specs.Ordering.{is_eq}

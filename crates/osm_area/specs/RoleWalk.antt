@@ -1,4 +1,4 @@
--- Notes on roles, found by one walk along the members. No public contract cites it.
+-- Notes on roles, found by one walk along the members. No public contract cites this.
 use Rattle.std.specs.Prelude.{Bool, false, ◌≡◌, ◌++◌, if◌then◌else◌, List, [], ◌∷◌, length, map, ℕ, ℤ, Option, None}
 use Rattle.std.specs.List.{cons_option, flat_map, list_any}
 use Rattle.osm_lattice.specs.declared.seg.Seg.{Seg}
@@ -8,7 +8,7 @@ use Rattle.osm_nest.specs.declared.polygon.Polygon.{Polygon}
 use Rattle.osm_area.specs.RoleKinds.{note_on, role_named}
 use Rattle.osm_area.specs.Roles.{inners, is_in_rings, mentions, outers}
 
--- these are the segments of ways, one way after the other, and how many each has, where `along` says which a way has
+-- these are the segments of ways, one way after the other, and how many each has, if `along` gives those of a way
 abbrev pub HaveSegments : (along : ℤ → List Seg) (ways : List ℤ) (counts : List ℕ) (segs : List Seg) → Type 0
 HaveSegments along ways counts segs = (segs ≡ flat_map along ways) × (counts ≡ map (λ way. length (along way)) ways)
 
@@ -26,7 +26,7 @@ abbrev pub note_at : List Polygon → (along : ℤ → List Seg) → Member → 
 note_at polygons along member [] = None
 note_at polygons along member (way ∷ ways) = if mentions way member then note_along polygons member.role way (along way) else None
 
--- the ways that are left behind the member
+-- the ways that are left after the member
 abbrev pub ways_behind : Member → List ℤ → List ℤ
 ways_behind member [] = []
 ways_behind member (way ∷ ways) = if mentions way member then ways else way ∷ ways
@@ -36,7 +36,7 @@ abbrev pub notes_along : List Polygon → (along : ℤ → List Seg) → List Me
 notes_along polygons along [] ways = []
 notes_along polygons along (member ∷ members) ways = cons_option (note_at polygons along member ways) (notes_along polygons along members (ways_behind member ways))
 
--- from these ways and notes to those ways and notes by a member
+-- one member changes these ways and notes to those ways and notes
 abbrev pub IsMemberStep : List Polygon → (along : ℤ → List Seg) → Member → (ways : List ℤ) (counts : List ℕ) (segs : List Seg) → (behind : List ℤ) (counts_behind : List ℕ) (segs_behind : List Seg) → (old new : List Note) → Type 0
 IsMemberStep polygons along member ways counts segs behind counts_behind segs_behind old new =
     HaveSegments along ways counts segs → (behind ≡ ways_behind member ways) × HaveSegments along behind counts_behind segs_behind × (new ≡ old ++ cons_option (note_at polygons along member ways) [])

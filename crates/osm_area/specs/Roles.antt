@@ -35,7 +35,7 @@ members_of objects candidate = members_by objects candidate.kind candidate.id
 abbrev pub mentions : ℤ → Member → Bool
 mentions way member = same_kind member.kind Way && int_eq member.id way
 
--- the first of the members that is this way has this role
+-- the first of the members that names this way has this role
 abbrev pub is_first_role : List ℕ → List Member → ℤ → Bool
 is_first_role role members way = option_map_or (λ m. bytes_eq m.role role) (find (mentions way) members) false
 
@@ -70,10 +70,10 @@ role_note objects members polygons way =
     else if is_first_role (codes "outer") members way && lies_in objects (inners polygons) way then Some (OuterInInner way)
     else None
 
--- those of these ways, in order
+-- the notes on these ways, in order
 abbrev pub role_notes_of : List Object → ObjectRef → List ℤ → List Polygon → List Note
 role_notes_of objects candidate ways polygons = filter_map (role_note objects (members_of objects candidate) polygons) ways
 
--- those of the member ways, in order of first mention
+-- the notes on the member ways, in order of first mention
 abbrev pub role_notes : List Object → ObjectRef → List Polygon → List Note
 role_notes objects candidate polygons = role_notes_of objects candidate (member_ways objects candidate) polygons

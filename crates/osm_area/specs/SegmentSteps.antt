@@ -1,4 +1,4 @@
--- Segments along locations, as the functions that add them see them. No public contract cites it.
+-- Segments along locations, as the functions that add them see them. No public contract cites them.
 use Rattle.std.specs.Prelude.{List, [], Option, None, Some}
 use Rattle.std.specs.List.{cons_option}
 use Rattle.osm_lattice.specs.declared.loc.Loc.{Loc}

@@ -9,8 +9,8 @@ use Rattle.osm_segments.specs.Counts.{HasEvenNodes}
 use Rattle.osm_area.specs.Missing.{missing}
 use Rattle.osm_area.specs.Segments.{candidate_segments}
 
--- no part is missing, and of the segments some survive, no two of which are in conflict and an even
--- number of which end at each location
+-- No part is missing, and some of the segments survive.
+-- No two survivors conflict, and an even number of them end at each location.
 pub record IsSoundGiven (missing : List ObjectRef) (segments : List Seg) : Type 0 where
   pub complete : missing ≡ []
   pub survivors : List Seg
@@ -22,7 +22,7 @@ pub record IsSoundGiven (missing : List ObjectRef) (segments : List Seg) : Type 
 abbrev pub IsSound : List Object → ObjectRef → Type 0
 IsSound objects candidate = IsSoundGiven (missing objects candidate) (candidate_segments objects candidate)
 
--- the segments that survive of a sound candidate; none where it isn't sound
+-- the surviving segments of a sound candidate; none if it isn't sound
 abbrev pub IsOutlineFor : List Object → ObjectRef → Option (List Seg) → Type 0
 IsOutlineFor objects candidate None = IsSound objects candidate → ⊥
 IsOutlineFor objects candidate (Some outline) = IsSound objects candidate × AreSurvivors (candidate_segments objects candidate) outline

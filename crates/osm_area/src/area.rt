@@ -17,8 +17,9 @@ use osm_sides::direct;
 use std::alloc::{AllocError as OutOfMemory, Global};
 use std::mem;
 
-/// The polygons that an outline makes: directed by the odd side, which is on their left, cut into rings, and each
-/// inner ring put under the outer one that directly encloses it.
+/// The polygons of an outline. Its segments are directed with their odd sides on the left and cut into rings.
+///
+/// Each inner ring is put under the outer one that directly encloses it.
 pub(crate) fn area(alloc: Global, outline: Outline) -> Result<Polygons, OutOfMemory>
     requires { outline ≢ [] }
     ensures area { IfOk result (λ polygons. IsArea outline polygons) }
@@ -28,7 +29,7 @@ pub(crate) fn area(alloc: Global, outline: Outline) -> Result<Polygons, OutOfMem
     let edges = direct(alloc, outline)?;
     rings_may_be_nested();
     let rings = rings(alloc, &edges)?;
-    // Edges are large: those of a long boundary don't stand beside its polygons.
+    // Edges are large: those of a long boundary aren't kept along with its polygons.
     mem::drop(edges);
     nest_rings(alloc, rings)
 }
@@ -61,7 +62,7 @@ pub(crate) fn made_of(alloc: Global, survivors: Vec<Seg>) -> Result<Made, OutOfM
     }
 }
 
-/// The outline that survives of segments. None where nothing survives or no outline does.
+/// The outline of the surviving segments. None if nothing survives, or the survivors aren't an outline.
 pub(crate) fn outline_among(alloc: Global, segs: &[Seg]) -> Result<Option<Outline>, OutOfMemory>
     ensures { IfOk result (IsOutlineAmong segs.now) }
 {

@@ -6,7 +6,7 @@ use osm_rings::ring_list_of_edges_exists;
 use osm_segments::repeats_exist;
 use osm_sides::directions_exist;
 
-/// Every candidate of every list of objects has an outcome, whatever memory there is.
+/// Every candidate of every list of objects has an outcome, however much memory there is.
 pub fn outcome_exists()
     ensures { OutcomeExists }
 {
@@ -17,13 +17,15 @@ pub fn outcome_exists()
     nesting_exists();
 }
 
-/// A candidate has an area exactly where it lacks no member way and no location of one of their nodes, some segment survives,
-/// no two survivors are in conflict, and an even number of them end at each location.
+/// A candidate has an area exactly if it is sound.
+///
+/// That is, it lacks no member way and no location of their nodes, and some segment survives. No two survivors conflict, and
+/// an even number of them end at each location.
 pub fn has_area_exactly()
     ensures { HasAreaExactly }
 {}
 
-/// In each polygon of every area that is right the first ring is outer and the others are inner, as their anchors tell.
+/// In each polygon of every right area the first ring is outer and the others are inner, as their anchors show.
 pub fn areas_have_kinds()
     ensures { AreasHaveKinds }
 {

@@ -1,4 +1,4 @@
-//! From a candidate to its area, or to the exact list of what keeps it from having one.
+//! From a candidate to its area, or to the exact list of the problems that keep it from having one.
 #![tactic(auto)]
 
 mod area;

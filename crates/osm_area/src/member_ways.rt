@@ -1,4 +1,4 @@
-//! The ways that a candidate is made of.
+//! The ways that a candidate consists of.
 
 ghost use Rattle.std.specs.Prelude.{◌≡◌, IfOk};
 ghost use Rattle.osm_objects.specs.Object.{same_kind};
@@ -9,7 +9,7 @@ use osm_elements::{Members, ObjectKind, ObjectRef};
 use osm_objects::Store;
 use std::alloc::{AllocError as OutOfMemory, Global};
 
-/// Whether it is that of ways.
+/// Whether a kind is that of ways.
 pub fn is_way(kind: ObjectKind) -> bool
     ensures { result ≡ same_kind kind Way }
 {

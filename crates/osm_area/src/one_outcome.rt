@@ -1,8 +1,8 @@
-//! What is determined of an outcome.
+//! The law that outcomes are determined.
 
 ghost use Rattle.osm_area.specs.OneOutcome.{OutcomeIsOne};
 
-/// A candidate has one outcome alone.
+/// A candidate has at most one outcome.
 pub fn outcome_is_one()
     ensures { OutcomeIsOne }
 {}

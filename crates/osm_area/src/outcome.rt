@@ -1,4 +1,4 @@
-//! From a candidate to its area, or to what keeps it from having one.
+//! From a candidate to its area, or to the problems that keep it from having one.
 
 ghost use Rattle.std.specs.Prelude.{◌≡◌, ◌↔◌, List, [], ℤ, map, All, IfOk, IsSome, OnOk};
 ghost use Rattle.osm_objects.specs.Problem.{IsOfItsKind};
@@ -32,16 +32,16 @@ use osm_objects::Store;
 use osm_segments::{Outline, cancel};
 use std::alloc::{AllocError as OutOfMemory, Global};
 
-/// What comes of a candidate.
+/// The outcome of a candidate.
 #[derive(Drop)]
 pub enum Outcome {
     /// It has an area of at least one polygon.
     Area { polygons: Polygons, notes: Notes },
-    /// What keeps it from having an area; at least one problem.
+    /// The problems that keep it from having an area, at least one.
     Problems { list: Problems, notes: Notes },
 }
 
-/// What survives of segments; those that stand repeatedly are noted.
+/// The segments that survive. Those that occur repeatedly are noted.
 fn cancelled(alloc: Global, segs: &[Seg], notes: &mut Notes) -> Result<Vec<Seg>, OutOfMemory>
     ensures survive { IfOk result (λ v. AreSurvivors segs.now v.items) }
     ensures noted { OnOk result (AddsRepeats segs.now notes.old notes.new) }
@@ -51,7 +51,7 @@ fn cancelled(alloc: Global, segs: &[Seg], notes: &mut Notes) -> Result<Vec<Seg>,
     Ok(cancelled.survivors)
 }
 
-/// What comes of a candidate of which nothing is missing, and of which these segments and notes on ways are known.
+/// The outcome of a candidate of which nothing is missing, from its segments and the notes on its ways.
 fn complete(
     alloc: Global,
     store: &Store,
@@ -100,7 +100,7 @@ fn with_segments<'a>(ways: &'a [i64], found: &'a WaySegments) -> Ways<'a>
     }
 }
 
-/// What comes of a candidate by its ways, each of them once, and by the notes on those that it names twice.
+/// The outcome of a candidate from its ways, each once, and from the notes on those that it names twice.
 fn outcome_by(
     alloc: Global,
     store: &Store,
@@ -117,7 +117,7 @@ fn outcome_by(
 {
     match segments(alloc, store, ways)? {
         Some(found) => complete(alloc, store, candidate, with_segments(ways, &found), notes),
-        // What is missing is looked up only where something is.
+        // The missing parts are looked up only if there are any.
         None => {
             let parts = missing(alloc, store, ways)?;
             let list = Problems::of_missing(parts);
@@ -126,7 +126,7 @@ fn outcome_by(
     }
 }
 
-/// What comes of a candidate by the ways that it names. Most name each once.
+/// The outcome of a candidate from the ways that it names. Most candidates name each once.
 ///
 /// Ways: names that all differ; all others by a table of them.
 fn outcome_by_names(
@@ -149,7 +149,7 @@ fn outcome_by_names(
     outcome_by(alloc, store, candidate, ways, notes)
 }
 
-/// What comes of a candidate. A way names itself alone.
+/// The outcome of a candidate. A way names only itself.
 fn outcome_of(alloc: Global, store: &Store, candidate: ObjectRef) -> Result<Outcome, OutOfMemory>
     ensures right { IfOk result (λ outcome. IsOutcome store.now candidate outcome) }
     ensures rings { IfOk result (λ outcome. All HasKinds (polygons_in outcome)) }
@@ -167,11 +167,12 @@ fn outcome_of(alloc: Global, store: &Store, candidate: ObjectRef) -> Result<Outc
 
 /// Assembles a candidate: its area, or the exact list of its problems.
 ///
-/// Its ways are those that it names, each once, at its first mention; members of other kinds are passed over.
-/// Where a way isn't held, or a node that a way names has no location, these are the problems. Otherwise they are
-/// found among the segments that stand an odd number of times in its ways together. Where there are none, these
-/// segments make the area: each is directed so that its odd side is on its left, they are cut into rings, and each
-/// inner ring is put under the outer one that directly encloses it. Fails only if memory runs out.
+/// Its ways are those that it names, each once, at its first mention; members of other kinds are passed over. If a way isn't
+/// held, or a node that a way names has no location, these are the problems. Otherwise the problems are those among the
+/// surviving segments, which occur an odd number of times in its ways together.
+///
+/// If there are no problems, these segments make the area. Each is directed so that its odd side is on its left, and they
+/// are cut into rings. Each inner ring is put under the outer one that directly encloses it. Fails only if memory runs out.
 pub fn assemble(alloc: Global, store: &Store, candidate: ObjectRef) -> Result<Outcome, OutOfMemory>
     ensures outcome { IfOk result (λ outcome. IsOutcome store.now candidate outcome) }
     ensures kinds { IfOk result (λ outcome. All IsOfItsKind (problems_in outcome)) }
@@ -183,7 +184,7 @@ pub fn assemble(alloc: Global, store: &Store, candidate: ObjectRef) -> Result<Ou
     outcome_of(alloc, store, candidate)
 }
 
-/// The outline that ways make, each of them once, if they make an area.
+/// The outline of ways, each taken once, if they make an area.
 fn outline_by(
     alloc: Global,
     store: &Store,
@@ -199,7 +200,7 @@ fn outline_by(
     }
 }
 
-/// The outline of a candidate's area by the ways that it names.
+/// The outline of a candidate's area, from the ways that it names.
 ///
 /// Ways: names that all differ; all others by a table of them.
 fn outline_by_names(
@@ -217,10 +218,9 @@ fn outline_by_names(
     outline_by(alloc, store, candidate, distinct.as_slice())
 }
 
-/// The outline of a candidate's area: the segments that survive. None exactly where it has no area; why isn't listed, and no
-/// polygon is made. A way names itself alone.
+/// The outline of a candidate's area: the segments that survive. None exactly if it has no area.
 ///
-/// Fails only if memory runs out.
+/// It lists no problems and makes no polygon. A way names only itself. Fails only if memory runs out.
 pub fn area_outline(
     alloc: Global,
     store: &Store,
@@ -237,7 +237,7 @@ pub fn area_outline(
     }
 }
 
-/// The polygons of a candidate's area, by its outline.
+/// The polygons of a candidate's area, from its outline.
 fn made_by(
     alloc: Global,
     store: &Store,
@@ -252,7 +252,7 @@ fn made_by(
     Ok(Some(polygons))
 }
 
-/// The polygons of a candidate's outcome. None exactly where it has problems; these are not listed, and nothing is noted.
+/// The polygons of a candidate's outcome. None exactly if it has problems; these are not listed, and nothing is noted.
 ///
 /// Fails only if memory runs out.
 pub fn area_of(

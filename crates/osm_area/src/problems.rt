@@ -1,4 +1,4 @@
-//! What keeps a candidate from having an area.
+//! The problems that keep a candidate from having an area.
 
 ghost use Rattle.std.specs.Prelude.{◌≡◌, ◌∷◌, ◌==◌, [], IfOk, length, map};
 ghost use Rattle.std.specs.List.{slice_get};
@@ -26,7 +26,7 @@ fn missing_problem(missing: ObjectRef) -> Problem
     }
 }
 
-/// The problem of two segments by their places. Only places of conflicts are held.
+/// The problem of two segments, given their places. Conflicts are held only as places.
 fn problem_at(segs: &[Seg], places: Places) -> Problem
     ensures { result ≡ problem_at segs.now places }
 {
@@ -83,7 +83,8 @@ enum Held {
     Faulty(Faults),
 }
 
-/// What keeps a candidate from having an area, in order. Contracts see the list of problems; a conflict takes 8 bytes.
+/// The problems that keep a candidate from having an area, in order.
+/// Contracts see the list of problems; a conflict takes 8 bytes.
 #[derive(Drop)]
 pub struct Problems {
     held: Held,
@@ -101,7 +102,7 @@ impl Model for Problems {
 }
 
 impl Problems {
-    /// One for each missing way or node.
+    /// A problem for each missing way or node.
     pub(crate) fn of_missing(parts: Vec<ObjectRef>) -> Problems
         ensures { result ≡ map missing_problem parts.items }
     {
@@ -110,7 +111,7 @@ impl Problems {
         }
     }
 
-    /// That no segment is left.
+    /// The problem that no segment is left.
     pub(crate) fn of_nothing() -> Problems
         ensures { result ≡ Nothing ∷ [] }
     {
@@ -119,7 +120,7 @@ impl Problems {
         }
     }
 
-    /// How many they are.
+    /// How many there are.
     pub fn len(&self) -> usize
         ensures { result ≡ length self.now }
     {
@@ -137,7 +138,7 @@ impl Problems {
         self.len() == 0
     }
 
-    /// The problem at a place, counted from 0; None behind the last.
+    /// The problem at a place, counted from 0; None after the last.
     pub fn get(&self, place: usize) -> Option<Problem>
         ensures { result ≡ slice_get self.now place }
     {

@@ -13,10 +13,10 @@ use osm_nest::Polygon;
 use osm_rings::Ring;
 use std::alloc::{AllocError as OutOfMemory, Global};
 
-/// Rings of an area with so few segments are gone through for each that is asked for. Of more the segments are put in order.
+/// The rings of areas with at most this many segments are searched for each query. The segments of larger ones are sorted.
 const FEW: usize = 16;
 
-/// The rings of polygons, and, where they are many, the segments along which they run.
+/// The rings of polygons, and, if there are many, the segments along which they run.
 #[derive(Drop)]
 pub struct RingLines<'a> {
     pub polygons: &'a [Polygon],
@@ -40,14 +40,14 @@ fn runs_along(ring: &Ring, seg: &Seg) -> bool
     ring.as_slice().iter().any(|edge| carries(edge, seg))
 }
 
-/// Whether one of the rings does.
+/// Whether one of the rings runs along a segment.
 fn some_runs_along(rings: &[Ring], seg: &Seg) -> bool
     ensures { result ≡ is_in_rings rings.now seg.now }
 {
     rings.iter().any(|ring| runs_along(ring, seg))
 }
 
-/// Whether an outer ring of the polygons does.
+/// Whether an outer ring of the polygons runs along a segment.
 fn some_outer_along(polygons: &[Polygon], seg: &Seg) -> bool
     ensures { result ≡ list_any
         (λ (p : Polygon). list_any (λ (e : Edge). carries seg.now e.carrier) p.outer) polygons.now }
@@ -57,7 +57,7 @@ fn some_outer_along(polygons: &[Polygon], seg: &Seg) -> bool
         .any(|polygon| runs_along(&polygon.outer, seg))
 }
 
-/// Whether an inner ring of the polygons does.
+/// Whether an inner ring of the polygons runs along a segment.
 fn some_inner_along(polygons: &[Polygon], seg: &Seg) -> bool
     ensures { result ≡ list_any (λ (p : Polygon). is_in_rings p.inners seg.now) polygons.now }
 {
@@ -66,9 +66,9 @@ fn some_inner_along(polygons: &[Polygon], seg: &Seg) -> bool
         .any(|polygon| some_runs_along(polygon.inners.as_slice(), seg))
 }
 
-/// The rings of polygons that have no more than so many segments.
+/// The rings of polygons with at most `count` segments.
 ///
-/// Ways: up to 16 segments by going through them; all others by sorted lists.
+/// Ways: up to 16 segments by searching them; all others by sorted lists.
 pub fn ring_lines<'a>(
     alloc: Global,
     polygons: &'a [Polygon],

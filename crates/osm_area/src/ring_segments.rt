@@ -1,4 +1,4 @@
-//! The segments along which rings run, in order, to be looked up by halves.
+//! The segments along which rings run, in order, for binary search.
 
 ghost use Rattle.std.specs.Prelude.{◌≡◌, ◌||◌, IfOk, OnOk};
 ghost use Rattle.std.specs.List.{list_any};
@@ -34,7 +34,7 @@ fn add_edge(segs: &mut Vec<Seg>, edge: &Edge) -> Result<(), OutOfMemory>
     Ok(())
 }
 
-/// Adds those of a ring.
+/// Adds the segments of a ring.
 fn add_ring(segs: &mut Vec<Seg>, ring: &Ring) -> Result<(), OutOfMemory>
     ensures { OnOk result ((s : Seg)
         → has_segment segs.new.items s
@@ -47,7 +47,7 @@ fn add_ring(segs: &mut Vec<Seg>, ring: &Ring) -> Result<(), OutOfMemory>
     Ok(())
 }
 
-/// Adds those of rings.
+/// Adds the segments of rings.
 fn add_rings(segs: &mut Vec<Seg>, rings: &[Ring]) -> Result<(), OutOfMemory>
     ensures { OnOk result ((s : Seg)
         → has_segment segs.new.items s

@@ -42,7 +42,7 @@ fn mentions_first(member: &MemberRef<'_>, ways: &[i64]) -> bool
     }
 }
 
-/// The segments of the first of the ways, and the ways behind it.
+/// The segments of the first of the ways, and the ways after it.
 fn first_way<'a>(ways: Ways<'a>) -> (&'a [Seg], Ways<'a>)
     ensures { (along : ℤ → List Seg) (way : ℤ) (others : List ℤ)
         → ways.entry.ids.now ≡ way ∷ others
@@ -92,7 +92,7 @@ fn add_note(
     Ok(())
 }
 
-/// Adds the note on the first of the ways, if this member is that one. It answers the ways that are left.
+/// Adds the note on the first of the ways, if this member names it, and answers the ways that are left.
 fn add_note_at<'a>(
     notes: &mut Notes,
     lines: &RingLines<'_>,
@@ -156,8 +156,9 @@ fn add_notes_among(
     add_all(notes, &lines, members, ways)
 }
 
-/// Adds a note for each of a candidate's ways that is first mentioned as `inner` and lies in an outer ring, or as `outer`
-/// and lies in an inner one.
+/// Adds a note for each of a candidate's ways whose first role contradicts its rings.
+///
+/// Such a way is first mentioned as `inner` and lies in an outer ring, or as `outer` and lies in an inner one.
 pub fn add_role_notes(
     notes: &mut Notes,
     alloc: Global,

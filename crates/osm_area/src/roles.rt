@@ -7,7 +7,7 @@ ghost use Rattle.osm_area.specs.RoleKinds.{role_named, names_a_ring};
 
 use osm_elements::{MemberRef, Members};
 
-/// What a role tells of the rings that a way lies in.
+/// What a role says about the rings that a way lies in.
 #[derive(Clone, Copy)]
 pub enum Role {
     Inner,
@@ -15,7 +15,7 @@ pub enum Role {
     Other,
 }
 
-/// What a role is, by its name.
+/// The role with this name.
 #[tactic(auto, unfolding(crate::specs::RoleKinds::role_named))]
 pub fn role_named(role: &str) -> Role
     ensures { result ≡ role_named role.now }

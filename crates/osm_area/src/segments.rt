@@ -12,7 +12,7 @@ use osm_geom::{Loc, Seg};
 use osm_objects::Store;
 use std::alloc::{AllocError as OutOfMemory, Global};
 
-/// So many segments are given room for each way, and so many besides; more are seldom asked for.
+/// Room is made for this many segments for each way, and as many besides; more are seldom needed.
 const ROOM: usize = 4;
 
 /// The segments of ways, one way after the other, and how many each way has.
@@ -22,7 +22,7 @@ pub struct WaySegments {
     pub counts: Vec<usize>,
 }
 
-/// Adds the segment from the location before, where there is one that is another.
+/// Adds the segment from the location before, if there is one and it differs.
 fn add_step(segments: &mut Vec<Seg>, before: Option<Loc>, at: Loc) -> Result<(), OutOfMemory>
     ensures { OnOk result (segments.new.items ≡ segments.old.items ++ step_from before at) }
 {
@@ -35,7 +35,7 @@ fn add_step(segments: &mut Vec<Seg>, before: Option<Loc>, at: Loc) -> Result<(),
     Ok(())
 }
 
-/// Adds the segments along references. False where one of them has no location.
+/// Adds the segments along references. False if one of them has no location.
 fn add_along_refs(segments: &mut Vec<Seg>, store: &Store, refs: &Refs) -> Result<bool, OutOfMemory>
     ensures whole { IfOk result (λ whole. IsTrue whole ↔ (nodes_missing store.now refs.now ≡ [])) }
     ensures added { IfOk result (λ whole. whole ≡ true
@@ -53,7 +53,7 @@ fn add_along_refs(segments: &mut Vec<Seg>, store: &Store, refs: &Refs) -> Result
     Ok(true)
 }
 
-/// Adds the segments of a way. False where it isn't held, or one of its references has no location.
+/// Adds the segments of a way. False if it isn't held, or one of its references has no location.
 fn add_segments(segments: &mut Vec<Seg>, store: &Store, way: i64) -> Result<bool, OutOfMemory>
     ensures whole { IfOk result (λ whole. IsTrue whole ↔ (way_missing store.now way ≡ [])) }
     ensures added { IfOk result (λ whole. whole ≡ true
@@ -67,7 +67,7 @@ fn add_segments(segments: &mut Vec<Seg>, store: &Store, way: i64) -> Result<bool
 
 /// The segments of ways, one way after the other.
 ///
-/// None where a way isn't held, or a reference of one has no location.
+/// None if a way isn't held, or a reference of one has no location.
 pub fn segments(
     alloc: Global,
     store: &Store,

@@ -22,7 +22,7 @@ outputs_of (filter settings) = output settings.output settings.overwrite ∷ []
 outputs_of (certify settings) = []
 outputs_of (locate settings) = output settings.output settings.overwrite ∷ []
 
--- The job makes all that it writes before it opens an output. `certify` opens none.
+-- The job makes all its output before it opens an output. `certify` opens none.
 abbrev pub makes_first : Job → Bool
 makes_first (export settings) = false
 makes_first (coastline settings) = false
@@ -31,7 +31,7 @@ makes_first (filter settings) = true
 makes_first (certify settings) = false
 makes_first (locate settings) = true
 
--- The inputs of a job were taken to their ends and are read; of one without inputs nothing was taken.
+-- The inputs of a job were taken to their ends and are read; a job without inputs took nothing.
 abbrev pub TookAll : Job → Outside → Outside → Type 0
 TookAll (export settings) before after = TookInput settings.file before after
 TookAll (coastline settings) before after = TookInput settings.file before after

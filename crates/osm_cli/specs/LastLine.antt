@@ -27,12 +27,12 @@ kind_word Relation = codes "relation"
 abbrev pub line_begun : ℕ → List ℕ
 line_begun line = codes "osmpoly: line " ++ decimal line ++ codes ": "
 
--- of a line without a reading
+-- the last line about a line without a reading
 abbrev pub bad_line : ℕ → LineFault → List ℕ
 bad_line line fault =
     line_begun line ++ fault_text fault.kind ++ codes " at byte " ++ decimal fault.place ++ codes "\n"
 
--- of a line that tells an object again
+-- the last line about a line that tells an object again
 abbrev pub again_line : ℕ → ObjectKind → ℤ → List ℕ
 again_line line kind id =
     line_begun line ++ kind_word kind ++ codes " " ++ signed_decimal id ++ codes " again\n"

@@ -33,15 +33,15 @@ IsRun (Ok job) before ended written =
     IsWrittenBy (IsWhole job) (cause_of ended) (told_texts before.named (inputs_of job)) ended written
 IsRun (Err fault) before ended written = IsRefused fault ended × (written ≡ [])
 
--- What stands of the last line, with the counts of writes that failed before the run and after it.
+-- How much of the last line is there, with the counts of failed writes before the run and after it.
 pub data IsLastLine (ended : Ended) (last : List ℕ) (before after : ℕ) : Type 0 where
-  -- The whole of it, and none failed but what ended the run.
+  -- All of it, and no write failed but the one that ended the run, if any.
   stands : last ≡ last_line ended → after ≡ writes_failed (cause_of ended) before → IsLastLine ended last before after
-  -- A prefix of it, and its own write failed, one alone behind what ended the run. Where there is no last line, none fails.
+  -- A prefix of it, and its own write failed, exactly one after what ended the run. If there is no last line, none fails.
   is_cut : IsPrefix last (last_line ended) → 0 < length (last_line ended) →
       after ≡ risen (writes_failed (cause_of ended) before) → IsLastLine ended last before after
 
--- What a run wrote, in order, and behind it its last line.
+-- What a run wrote, in order, followed by its last line.
 pub record Writes (words : Result Job WordsFault) (ended : Ended) (before after : Outside) : Type 0 where
   pub written : List Sent
   pub last : List ℕ
@@ -52,9 +52,9 @@ pub record Writes (words : Result Job WordsFault) (ended : Ended) (before after 
 
 -- ---- what was read
 
--- An input is refused only for what was taken off it: its bad place stands in the lines that count there, or they have
--- none and it passes the limit. Where a read failed, they have none either. A job without inputs takes nothing, and nothing
--- is taken with words that are refused.
+-- An input is refused only for what was taken from it.
+-- Its bad place is in the lines that count there, or they have none and it passes the limit. If a read failed, they have
+-- none either. A job without inputs takes nothing, and nothing is taken if the words are refused.
 abbrev pub JudgesInput : Result Job WordsFault → Ended → Outside → Outside → Type 0
 JudgesInput (Ok job) ended before after =
     IfSome (read_error ended) (λ error. IsStopped (inputs_of job) error before after) × TookBy (TookAll job) (cause_of ended) before after
@@ -63,20 +63,20 @@ JudgesInput (Err fault) ended before after = TookNothing before after
 
 -- ---- what was opened
 
--- The opens are those of the job, as far as the run came, its output only where what is right for it goes out.
+-- The opens are those of the job, as far as the run got. Its output is opened only if what is right for the job goes out.
 abbrev pub Opens : Result Job WordsFault → Cause → Outside → Outside → Type 0
 Opens (Ok job) cause before after =
     OpensBy (inputs_of job) (outputs_of job) (IsReady (inputs_of job) (IsWhole job) (TookAll job)) cause before after
 Opens (Err fault) cause before after = after.opens ≡ before.opens
 
--- Where memory ran out in a job that makes all that it writes first, no output was opened and nothing was written to one.
+-- If memory ran out in a job that makes all its output first, no output was opened and nothing was written to one.
 abbrev pub Spares : Result Job WordsFault → Ended → Outside → Outside → Type 0
 Spares (Ok job) ended before after = makes_first job ≡ true → SparesOutput (inputs_of job) ended before after
 Spares (Err fault) ended before after = Unit {0}
 
--- ---- why it ended so
+-- ---- the cause of its ending
 
--- Words are refused exactly where they are faulty, and then with their fault, unless memory ran out.
+-- Words are refused exactly if they are faulty, and then with their fault, unless memory ran out.
 abbrev pub JudgesWords : Result Job WordsFault → Ended → Type 0
 JudgesWords (Ok job) ended = cause_of ended ≡ by_words → ⊥
 JudgesWords (Err fault) ended = IsRefused fault ended
@@ -91,23 +91,23 @@ Completes (Err fault) before ended = IsRefused fault ended
 
 -- ---- the whole run
 
--- What holds of a run that ended so. Each clause stands for itself: none has the others' premises.
+-- What holds for a run with this ending. Each clause holds by itself, without the premises of the others.
 pub record Ran (words : Result Job WordsFault) (ended : Ended) (before after : Outside) : Type 0 where
-  -- What is written is right for the words and the inputs that they name, in order, as far as the run came. WriteFault
-  -- comes only with a write that failed; of the others only that of the last line may fail.
+  -- What is written is right for the words and the inputs that they name, in order, as far as the run got.
+  -- WriteFault comes only with a write that failed; otherwise only the write of the last line may fail.
   pub writes : Writes words ended before after
-  -- Words are refused exactly where they ask for nothing that a run does.
+  -- Words are refused exactly if they ask for nothing that a run does.
   pub judges : JudgesWords words ended
-  -- An input is refused only for what was taken off it, and only a whole one is written of.
+  -- An input is refused only for what was taken from it, and only a whole one leads to output.
   pub reads : JudgesInput words ended before after
-  -- No name is opened that the words don't give, and no output before the inputs are read, nor one where what they hold
-  -- allows none.
+  -- Only names that the words give are opened.
+  -- No output is opened before the inputs are read, nor if their contents allow none.
   pub opens : Opens words (cause_of ended) before after
-  -- A job that makes all that it writes before it opens its output touches none where memory ran out.
+  -- A job that makes all its output before it opens one touches none if memory ran out.
   pub spares : Spares words ended before after
   -- OpenFault comes with one open that failed, ReadFault with one read, the last; the others with none.
   pub faults : CountsFaults ended before after
   -- Without a fault of the host the run ends as is right for the inputs.
   pub complete : NoFault before after → Completes words before ended
-  -- What no run changes stays as it was.
+  -- What no run changes stays unchanged.
   pub keeps : KeepsNames before after

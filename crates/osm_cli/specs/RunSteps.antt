@@ -1,4 +1,4 @@
--- Words of private clauses on a run. No public contract cites it.
+-- Words of private clauses on a run. No public contract cites them.
 use Rattle.std.specs.Prelude.{◌≡◌, ◌≤◌, Bool, true, false, List, Result}
 use Rattle.osm_host.specs.Outside.{Outside, appended, risen, OnlyWritesOut}
 use Rattle.osm_words.specs.declared.fault.WordsFault.{WordsFault}
@@ -13,12 +13,12 @@ use Rattle.osm_job.specs.Faults.{CountsFaults, writes_failed}
 use Rattle.osm_job.specs.Sent.{Sent, output_of, report_of}
 use Rattle.osm_cli.specs.Run.{IsRun, Opens, JudgesWords, JudgesInput, Spares}
 
--- how a run ends of whose words nothing is known but this
+-- how a run ends if only this is known of its words
 abbrev pub words_ended : WordsError → Ended
 words_ended (words.BadWords cause) = ended.BadWords cause
 words_ended words.OutOfMemory = ended.OutOfMemory
 
--- A run but for its last line.
+-- A run without its last line.
 pub record Works (words : Result Job WordsFault) (ended : Ended) (before after : Outside) : Type 0 where
   pub written : List Sent
   pub out : after.out ≡ appended before.out (output_of written)
@@ -52,14 +52,14 @@ is_by_itself by_read = false
 is_by_itself by_write = false
 is_by_itself by_memory = false
 
--- Nothing but the count of writes that failed changed, and that didn't fall.
+-- Only the count of failed writes changed, and it didn't fall.
 pub record OnlyCounts (before after : Outside) : Type 0 where
   pub out : after.out ≡ before.out
   pub never_falls : before.write_faults ≤ after.write_faults
   pub rest : OnlyWritesOut before after
 
--- A job that ended so has its output kept: it ends so still and nothing changed, or it came to its end, one write more failed
--- and it ends with WriteFault.
+-- The host kept the output of a job with this ending, or failed to. Either the ending stays and nothing changed.
+-- Or the job came to its end, one more write failed, and the run ends with WriteFault.
 pub data KeepsOutput (first last : Ended) (before after : Outside) : Type 0 where
   kept : last ≡ first → after ≡ before → KeepsOutput first last before after
   lost : cause_of first ≡ by_itself → last ≡ ended.WriteFault → OnlyCounts before after →

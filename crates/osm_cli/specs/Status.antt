@@ -1,4 +1,4 @@
--- The statuses of the process, and what a run means that is answered by its status.
+-- The statuses of the process, and what a run is whose answer is its status.
 use Rattle.std.specs.Prelude.{◌≡◌, ℕ, List}
 use Rattle.osm_host.specs.Outside.{Outside}
 use Rattle.osm_words.specs.Words.{command_named, job_asked}
@@ -8,7 +8,7 @@ use Rattle.osm_job.specs.declared.ended.Ended.{Ended}
 use Rattle.osm_job.specs.declared.ended.Ended.TheVariants.{Done, Warnings, Errors, BadWords, BadInput, Stopped, TooMuchInput, TooManyPieces, Refuted, BadPoint, OpenFault, ReadFault, WriteFault, OutOfMemory}
 use Rattle.osm_cli.specs.Run.{Ran}
 
--- of every command but `coastline`, and of words that name no command
+-- the statuses of every command but `coastline`, and of words that name no command
 abbrev pub export_status : Ended → ℕ
 export_status Done = 0
 export_status Warnings = 1
@@ -25,7 +25,8 @@ export_status ReadFault = 1
 export_status WriteFault = 1
 export_status OutOfMemory = 5
 
--- of `coastline`, as osmcoastline has them: 1 for warnings, 2 for errors, 3 where nothing came of it, 4 for the words
+-- the statuses of `coastline`, like those of osmcoastline:
+-- 1 for warnings, 2 for errors, 4 for the words, 3 for other failures
 abbrev pub coastline_status : Ended → ℕ
 coastline_status Done = 0
 coastline_status Warnings = 1

@@ -1,4 +1,4 @@
--- What a run is to write in all, and how it is to end, by its job.
+-- What a run must write in all, and how it must end, by its job.
 use Rattle.osm_words.specs.Job.{Job, certify, coastline, export, filter, locate, sample}
 use Rattle.osm_job.specs.Texts.{Texts}
 use Rattle.osm_job.specs.Whole.{IsReadThen, Whole}

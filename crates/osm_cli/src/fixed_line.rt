@@ -1,4 +1,4 @@
-//! A line that is put together in a fixed buffer and takes no memory.
+//! A line that is built in a fixed buffer and takes no memory.
 
 ghost use Rattle.std.specs.Prelude.{◌≡◌, ◌+◌, ◌≤◌, ◌++◌, ℕ, List, [], length, take, decimal};
 ghost use Rattle.std.specs.Fmt.{signed_decimal};
@@ -9,7 +9,7 @@ use std::marker::Model;
 /// The most bytes of a line.
 const ROOM: usize = 96;
 
-/// A line that is being put together.
+/// A line that is being built.
 #[derive(Drop)]
 pub(crate) struct Line {
     bytes: [u8; ROOM],
@@ -35,7 +35,7 @@ impl Line {
         }
     }
 
-    /// Adds a text for which there is room.
+    /// Adds a text that fits into the room left.
     pub(crate) fn put(&mut self, text: &str)
         requires { length self.old + length text.now ≤ 96 }
         ensures added { self.new ≡ self.old ++ text.now }
@@ -56,7 +56,7 @@ impl Line {
         self.put(digits.format(number));
     }
 
-    /// Adds the sign, where there is one, and the digits of an id.
+    /// Adds the sign, if there is one, and the digits of an id.
     pub(crate) fn put_id(&mut self, id: i64)
         requires { length self.old + 20 ≤ 96 }
         ensures added { self.new ≡ self.old ++ signed_decimal id }

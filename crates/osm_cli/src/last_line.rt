@@ -12,7 +12,7 @@ use osm_input::InputFault;
 use osm_job::Ended;
 use osm_words::WordsFault;
 
-/// The last line of a run that ended so; empty where no such line is written. It takes no memory.
+/// The last line of a run with this ending; empty if no such line is written. It takes no memory.
 pub(crate) fn last_line(ended: &Ended) -> Line
     ensures { result ≡ last_line ended.now }
 {

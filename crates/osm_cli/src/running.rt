@@ -34,13 +34,14 @@ use osm_words::{
 };
 use std::alloc::Global;
 
-/// Does what the words behind the program's name ask for, and answers how it ended.
+/// Does what the words after the program's name ask for, and answers how it ended.
 ///
-/// Every ending but Done, Warnings and Errors writes a last line to the report. A failed write of that line doesn't change the answer.
+/// Every ending but Done, Warnings and Errors writes a last line to the report. A failed write of that line doesn't change
+/// the answer.
 pub fn run<H: Host>(alloc: Global, words: &[String], host: &mut H) -> Ended
     ensures ran { Ran (job_asked (map string_bytes words.now)) result (H.seen host.old)
         (H.seen host.new) }
-    // Plain words are taken with what they say, so that all of this is said of that.
+    // Plain words are taken as the job that they say, so all of this holds for that job.
     ensures plain { (options : List (Form × ExportOption)) (file : List ℕ) → ArePlain options file
         → map string_bytes words.now ≡ export_words options file
         → job_asked (map string_bytes words.now) ≡ Ok (export (said options file)) }
@@ -64,7 +65,7 @@ pub fn run<H: Host>(alloc: Global, words: &[String], host: &mut H) -> Ended
         → map string_bytes words.now ≡ locate_words options file points
         → job_asked (map string_bytes words.now) ≡ Ok (locate (said_locate options file points)) }
 {
-    // By law: plain words ask for what they say, and what is reported adds up in turn.
+    // By law: plain words ask for what they say, and reported lines add up in turn.
     plain_words_are_taken();
     plain_coastline_words_are_taken();
     plain_sample_words_are_taken();
@@ -78,7 +79,7 @@ pub fn run<H: Host>(alloc: Global, words: &[String], host: &mut H) -> Ended
     ended
 }
 
-/// As `run`, of which it answers the status that the process ends with.
+/// As `run`, but answers the status that the process ends with.
 pub fn run_for_status<H: Host>(alloc: Global, words: &[String], host: &mut H) -> u8
     ensures { EndsWith (map string_bytes words.now) result (H.seen host.old) (H.seen host.new) }
 {
@@ -86,12 +87,12 @@ pub fn run_for_status<H: Host>(alloc: Global, words: &[String], host: &mut H) ->
     status(command_of(words), &ended)
 }
 
-/// The run but for its last line.
+/// The run without its last line.
 fn work<H: Host>(alloc: Global, words: &[String], host: &mut H) -> Ended
     ensures { Works (job_asked (map string_bytes words.now)) result (H.seen host.old)
         (H.seen host.new) }
 {
-    // By law: nothing more is nothing changed.
+    // By law: adding nothing changes nothing.
     streams_append();
     match job_of(alloc, words) {
         Ok(job) => work_on(alloc, &job, host),
@@ -99,7 +100,7 @@ fn work<H: Host>(alloc: Global, words: &[String], host: &mut H) -> Ended
     }
 }
 
-/// Does a job, and has its output kept.
+/// Does a job, and has the host keep its output.
 fn work_on<H: Host>(alloc: Global, job: &Job<'_>, host: &mut H) -> Ended
     ensures { Works (Ok (job_seen job.now)) result (H.seen host.old) (H.seen host.new) }
 {
@@ -121,7 +122,7 @@ fn opens_output(job: &Job<'_>) -> bool
     }
 }
 
-/// Has the output kept of a job that came to its end, and says how the run ends.
+/// Has the host keep the output of a job that came to its end, and says how the run ends.
 fn keep<H: Host>(ended: Ended, host: &mut H) -> Ended
     ensures { KeepsOutput ended result (H.seen host.old) (H.seen host.new) }
 {
@@ -134,7 +135,7 @@ fn keep<H: Host>(ended: Ended, host: &mut H) -> Ended
     }
 }
 
-/// Whether a run that ends so came to its end.
+/// Whether a run with this ending came to its end.
 fn comes_to_its_end(ended: &Ended) -> bool
     ensures { result ≡ is_by_itself (cause_of ended.now) }
 {
@@ -153,7 +154,7 @@ fn comes_to_its_end(ended: &Ended) -> bool
     }
 }
 
-/// Does a job, whose output isn't kept yet.
+/// Does a job. Its output isn't kept yet.
 fn do_job<H: Host>(alloc: Global, job: &Job<'_>, host: &mut H) -> Ended
     ensures { Works (Ok (job_seen job.now)) result (H.seen host.old) (H.seen host.new) }
 {
@@ -167,7 +168,7 @@ fn do_job<H: Host>(alloc: Global, job: &Job<'_>, host: &mut H) -> Ended
     }
 }
 
-/// As `export`, of which it says what it is for a run.
+/// As `export`, with a contract in the words of a run.
 fn run_export<H: Host>(alloc: Global, settings: &ExportSettings<'_>, host: &mut H) -> Ended
     ensures { Works (Ok (export (settings_seen settings.now))) result (H.seen host.old)
         (H.seen host.new) }
@@ -175,7 +176,7 @@ fn run_export<H: Host>(alloc: Global, settings: &ExportSettings<'_>, host: &mut 
     export(alloc, settings, host)
 }
 
-/// As `coastline`, of which it says what it is for a run.
+/// As `coastline`, with a contract in the words of a run.
 fn run_coastline<H: Host>(alloc: Global, settings: &CoastlineSettings<'_>, host: &mut H) -> Ended
     ensures { Works (Ok (coastline (coastline_seen settings.now))) result (H.seen host.old)
         (H.seen host.new) }
@@ -183,7 +184,7 @@ fn run_coastline<H: Host>(alloc: Global, settings: &CoastlineSettings<'_>, host:
     coastline(alloc, settings, host)
 }
 
-/// As `sample`, of which it says what it is for a run.
+/// As `sample`, with a contract in the words of a run.
 fn run_sample<H: Host>(alloc: Global, settings: &SampleSettings, host: &mut H) -> Ended
     ensures { Works (Ok (sample (sample_seen settings.now))) result (H.seen host.old)
         (H.seen host.new) }
@@ -191,7 +192,7 @@ fn run_sample<H: Host>(alloc: Global, settings: &SampleSettings, host: &mut H) -
     sample(alloc, settings, host)
 }
 
-/// As `filter_coast`, of which it says what it is for a run.
+/// As `filter_coast`, with a contract in the words of a run.
 fn run_filter<H: Host>(alloc: Global, settings: &FilterSettings<'_>, host: &mut H) -> Ended
     ensures { Works (Ok (filter (filter_seen settings.now))) result (H.seen host.old)
         (H.seen host.new) }
@@ -199,7 +200,7 @@ fn run_filter<H: Host>(alloc: Global, settings: &FilterSettings<'_>, host: &mut 
     filter_coast(alloc, settings, host)
 }
 
-/// As `certify_text`, of which it says what it is for a run.
+/// As `certify_text`, with a contract in the words of a run.
 fn run_certify<H: Host>(alloc: Global, settings: &CertifySettings<'_>, host: &mut H) -> Ended
     ensures { Works (Ok (certify (certify_seen settings.now))) result (H.seen host.old)
         (H.seen host.new) }
@@ -207,7 +208,7 @@ fn run_certify<H: Host>(alloc: Global, settings: &CertifySettings<'_>, host: &mu
     certify_text(alloc, settings, host)
 }
 
-/// As `locate_points`, of which it says what it is for a run.
+/// As `locate_points`, with a contract in the words of a run.
 fn run_locate<H: Host>(alloc: Global, settings: &LocateSettings<'_>, host: &mut H) -> Ended
     ensures { Works (Ok (locate (locate_seen settings.now))) result (H.seen host.old)
         (H.seen host.new) }
@@ -215,7 +216,7 @@ fn run_locate<H: Host>(alloc: Global, settings: &LocateSettings<'_>, host: &mut 
     locate_points(alloc, settings, host)
 }
 
-/// How a run ends whose words aren't taken.
+/// How a run ends if its words aren't taken.
 fn words_ended(error: WordsError) -> Ended
     ensures { result ≡ words_ended error }
 {

@@ -21,8 +21,9 @@ pub fn status(command: Command, ended: &Ended) -> u8
     }
 }
 
-/// Of `coastline`: 0 for Done, 1 for warnings, 2 for errors, 4 for words that aren't taken, 5 where memory ran out, 3 for the
-/// others.
+/// The status of `coastline`, by its ending.
+///
+/// It is 0 for Done, 1 for warnings, 2 for errors, 4 for words that aren't taken, 5 if memory ran out, 3 for the others.
 fn coastline_status(ended: &Ended) -> u8
     ensures { result ≡ coastline_status ended.now }
 {
@@ -44,7 +45,7 @@ fn coastline_status(ended: &Ended) -> u8
     }
 }
 
-/// Of the other commands: 0 for Done, 2 for words that aren't taken, 5 where memory ran out, 1 for the others.
+/// The status of the other commands: 0 for Done, 2 for words that aren't taken, 5 if memory ran out, 1 for the others.
 fn export_status(ended: &Ended) -> u8
     ensures { result ≡ export_status ended.now }
 {

@@ -1,22 +1,22 @@
--- Numbers below 2^64 in few bytes where they are small, and signed numbers by how they differ from others.
+-- Numbers below 2^64 in few bytes if they are small, and signed numbers by how they differ from others.
 use Rattle.std.specs.Prelude.{ℕ, zero, suc, ◌+◌, ◌-◌, ◌*◌, ◌/◌, ◌%◌, ◌^◌, ◌==◌, nat_lt, if◌then◌else◌, List, [], ◌∷◌, ℤ}
 use Rattle.std.specs.Int.{w64, cast_unsigned, cast_signed}
 
--- The digits in base 128, the lowest first, each but the last with 128 added. No more than so many stand before the last.
+-- The digits in base 128, the lowest first, each but the last with 128 added. At most this many precede the last.
 abbrev pub digits_within : ℕ → ℕ → List ℕ
 digits_within zero n = n ∷ []
 digits_within (suc more) n = if nat_lt n 128 then n ∷ [] else (128 + n % 128) ∷ digits_within more (n / 128)
 
--- a number by its digits, of which there are never more than it
+-- a number by its digits; at most n of them precede the last
 unfoldable pub number_bytes : ℕ → List ℕ
 number_bytes n = digits_within n n
 
--- the number that the digits in front tell, in 64 bits
+-- the number of the digits in front, in 64 bits
 abbrev pub number_in : List ℕ → ℕ
 number_in [] = 0
 number_in (byte ∷ bytes) = if nat_lt byte 128 then byte else (number_in bytes * 128 % 2 ^ 64 + (byte - 128)) % 2 ^ 64
 
--- what stands behind them
+-- the bytes after them
 abbrev pub after_number : List ℕ → List ℕ
 after_number [] = []
 after_number (byte ∷ bytes) = if nat_lt byte 128 then bytes else after_number bytes
@@ -33,6 +33,6 @@ unfolded n = if n % 2 == 0 then n / 2 else 2 ^ 64 - 1 - n / 2
 unfoldable pub difference : ℤ → ℤ → ℕ
 difference from to = folded ((cast_unsigned w64 to + (2 ^ 64 - cast_unsigned w64 from)) % 2 ^ 64)
 
--- the number that differs so from this one
+-- the number that differs by this from the given one
 unfoldable pub moved : ℤ → ℕ → ℤ
 moved from by = cast_signed w64 ((cast_unsigned w64 from + unfolded by) % 2 ^ 64)

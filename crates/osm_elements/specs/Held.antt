@@ -17,7 +17,7 @@ abbrev pub place_from : Option Ref → Option Loc
 place_from None = None
 place_from (Some first) = first.at
 
--- its coordinates, 0 where there is none
+-- its coordinates, or 0 if there is none
 abbrev pub x_from : Option Loc → ℤ
 x_from None = pos 0
 x_from (Some at) = at.x
@@ -28,7 +28,7 @@ y_from (Some at) = at.y
 
 -- ---- references as bytes
 
--- 0 where there is no location, and otherwise how x differs, by one more, and how y differs
+-- 0 if there is no location, and otherwise how x differs, plus one, and how y differs
 abbrev pub place_bytes : Option Loc → Option Loc → List ℕ
 place_bytes from None = number_bytes 0
 place_bytes from (Some at) = number_bytes (1 + difference (x_from from) at.x) ++ number_bytes (difference (y_from from) at.y)
@@ -37,18 +37,18 @@ place_bytes from (Some at) = number_bytes (1 + difference (x_from from) at.x) ++
 abbrev pub ref_bytes : Option Ref → Ref → List ℕ
 ref_bytes first r = number_bytes (difference (compared_id first) r.node) ++ place_bytes (place_from first) r.at
 
--- Those that stand behind a first reference, where it is given. Where it isn't, the first of them is it.
+-- The references after a first one, if it is given. If it isn't, the first of them is the first one.
 abbrev pub refs_bytes : Option Ref → List Ref → List ℕ
 refs_bytes first [] = []
 refs_bytes first (r ∷ refs) = ref_bytes first r ++ refs_bytes (Some (unwrap_or first r)) refs
 
 -- ---- references from bytes
 
--- the location in front; None too where the bytes tell no location of the world
+-- the location in front; None also if the bytes give no location of the world
 unfoldable pub first_place : Option Loc → List ℕ → Option Loc
 first_place from bytes = if number_in bytes == 0 then None else location_from (longitude (moved (x_from from) (number_in bytes - 1))) (latitude (moved (y_from from) (number_in (after_number bytes))))
 
--- what stands behind it
+-- the bytes after it
 unfoldable pub after_place : List ℕ → List ℕ
 after_place bytes = if number_in bytes == 0 then after_number bytes else after_number (after_number bytes)
 
@@ -56,25 +56,25 @@ after_place bytes = if number_in bytes == 0 then after_number bytes else after_n
 abbrev pub first_ref : Option Ref → List ℕ → Ref
 first_ref first bytes = record { node = moved (compared_id first) (number_in bytes); at = first_place (place_from first) (after_number bytes) }
 
--- what stands behind it
+-- the bytes after it
 abbrev pub after_ref : List ℕ → List ℕ
 after_ref bytes = after_place (after_number bytes)
 
--- at most so many of the references
+-- at most this many of the references
 abbrev pub refs_within : ℕ → Option Ref → List ℕ → List Ref
 refs_within zero first bytes = []
 refs_within (suc more) first [] = []
 refs_within (suc more) first (byte ∷ bytes) = first_ref first (byte ∷ bytes) ∷ refs_within more (Some (unwrap_or first (first_ref first (byte ∷ bytes)))) (after_ref (byte ∷ bytes))
 
--- The references that stand behind a first one, where it is given: no more than there are bytes.
+-- The references after a first one, if it is given: no more than there are bytes.
 abbrev pub refs_behind : Option Ref → List ℕ → List Ref
 refs_behind first bytes = refs_within (length bytes) first bytes
 
--- the last of some references, where this one stands before them
+-- the last of some references with this one before them
 abbrev pub last_behind : Option Ref → List Ref → Option Ref
 last_behind last [] = last
 last_behind last (r ∷ refs) = last_behind (Some r) refs
 
--- The bytes are those of references, and no more.
+-- The bytes are those of references, and nothing else.
 abbrev pub AreRefBytes : List ℕ → Type 0
 AreRefBytes bytes = refs_bytes None (refs_behind None bytes) ≡ bytes

@@ -5,20 +5,20 @@ use Rattle.osm_lattice.specs.declared.loc.Loc.{Loc}
 use Rattle.std.proofs.lemmas.Bool.{leb-true}
 use Rattle.std.specs.Prelude.{◌≡◌, Bool, true, false, nat_le, ℤ, unsigned_abs, Option, Some, None, refl}
 
--- what a test that holds allows
+-- a value that exists if a test holds
 abbrev pub where_true : {A : Type 0} (b : Bool) → (b ≡ true → A) → Option A
 where_true true f = Some (f refl)
 where_true false f = None
 
--- a number of units, where it is a longitude
+-- a number of units, if it is a longitude
 abbrev pub longitude : ℤ → Option Longitude
 longitude z = where_true (nat_le (unsigned_abs z) 1_800_000_000) (λ h. record { units = z; in_range = leb-true (unsigned_abs z) 1_800_000_000 h })
 
--- a number of units, where it is a latitude
+-- a number of units, if it is a latitude
 abbrev pub latitude : ℤ → Option Latitude
 latitude z = where_true (nat_le (unsigned_abs z) 900_000_000) (λ h. record { units = z; in_range = leb-true (unsigned_abs z) 900_000_000 h })
 
--- a location, where both coordinates are there
+-- a location, if both coordinates are there
 abbrev pub location_from : Option Longitude → Option Latitude → Option Loc
 location_from None y = None
 location_from (Some x) None = None

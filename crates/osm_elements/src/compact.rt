@@ -1,12 +1,13 @@
-//! Numbers in few bytes where they are small, and signed numbers by how they differ from others.
+//! Numbers in few bytes if they are small, and signed numbers by how they differ from others.
 
 ghost use Rattle.std.specs.Prelude.{◌≡◌, ◌++◌, length, take, OnOk, OnErr};
 ghost use Rattle.osm_elements.specs.Compact.{number_bytes, number_in, after_number, folded, unfolded, difference, moved};
 
 use std::alloc::AllocError as OutOfMemory;
 
-/// Adds a number: its digits in base 128, the lowest first, each but the last with 128 added. After an `Err` some of them
-/// may have been added.
+/// Adds a number: its digits in base 128, the lowest first, each but the last with 128 added.
+///
+/// After an `Err` some of them may have been added.
 pub(crate) fn push_number(bytes: &mut Vec<u8>, number: u64) -> Result<(), OutOfMemory>
     ensures ok { OnOk result (bytes.new.items ≡ bytes.old.items ++ number_bytes number) }
     ensures err { OnErr result (take (length bytes.old.items) bytes.new.items ≡ bytes.old.items) }
@@ -20,8 +21,9 @@ pub(crate) fn push_number(bytes: &mut Vec<u8>, number: u64) -> Result<(), OutOfM
     Ok(())
 }
 
-/// The number in front that has more than one digit, and what stands behind it. It goes as deep as there are digits, and no
-/// number has more than ten.
+/// The number in front that has more than one digit, and the bytes after it.
+///
+/// It recurses once for each digit, and no number has more than ten.
 fn long_number(bytes: &[u8]) -> (u64, &[u8])
     ensures number { result.0 ≡ number_in bytes.now }
     ensures behind { result.1.now ≡ after_number bytes.now }
@@ -37,7 +39,7 @@ fn long_number(bytes: &[u8]) -> (u64, &[u8])
     }
 }
 
-/// The number in front, and what stands behind it. Most have one digit or two.
+/// The number in front, and the bytes after it. Most have one digit or two.
 pub(crate) fn first_number(bytes: &[u8]) -> (u64, &[u8])
     ensures number { result.0 ≡ number_in bytes.now }
     ensures behind { result.1.now ≡ after_number bytes.now }
@@ -84,7 +86,7 @@ pub(crate) fn difference(from: i64, to: i64) -> u64
     folded(to.cast_unsigned().wrapping_sub(from.cast_unsigned()))
 }
 
-/// The number that differs so from this one.
+/// The number that differs by this from the given one.
 #[tactic(auto, unfolding(crate::specs::Compact::moved))]
 pub(crate) fn moved(from: i64, by: u64) -> i64
     ensures { result ≡ moved from by }

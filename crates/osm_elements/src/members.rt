@@ -1,4 +1,4 @@
-//! The members of a relation, held as their kinds and ids, and with their roles in one block, packed as tags are.
+//! The members of a relation: a list of their kinds and ids, and one block with their roles, packed as tags are.
 
 ghost use Rattle.std.specs.Prelude.{◌≡◌, ◌++◌, ◌∷◌, ◌==◌, [], length, IfOk, OnOk, OnErr, MatchOption, IfNone};
 ghost use Rattle.osm_elements.specs.Seen.{member_of, member_seen};
@@ -16,8 +16,9 @@ pub struct MemberRef<'a> {
     pub role: &'a str,
 }
 
-/// The members of a relation, in the order of its line: 16 bytes each, and their roles, a byte for a usual one, and a byte or
-/// five beside the text of any other.
+/// The members of a relation, in the order of its line.
+///
+/// They take 16 bytes each, and for the role a byte if it is a usual one, or else its text and a byte or five.
 #[derive(Debug, Drop)]
 pub struct Members {
     targets: Vec<ObjectRef>,
@@ -37,7 +38,7 @@ impl Model for Members {
     ghost invariant = { λ m. HaveRoles m.targets.items m.roles.items };
 }
 
-/// Members, gone through one by one.
+/// An iterator over members.
 #[derive(Drop)]
 pub struct MemberIter<'a> {
     targets: &'a [ObjectRef],
@@ -68,8 +69,9 @@ impl Members {
         }
     }
 
-    /// The empty list, with room for so many members, and for so many bytes: those of the roles, and one for each that has
-    /// fewer than 192, suffice.
+    /// The empty list, with room for this many members and this many bytes of roles.
+    ///
+    /// The bytes suffice if they are those of the roles and one for each role of fewer than 192 bytes.
     pub fn with_capacity(
         alloc: Global,
         members: usize,
@@ -83,7 +85,7 @@ impl Members {
         })
     }
 
-    /// A copy of its own size.
+    /// A copy without spare room.
     pub fn copy(&self, alloc: Global) -> Result<Members, OutOfMemory>
         ensures { IfOk result (λ members. members ≡ self.now) }
     {
@@ -93,8 +95,9 @@ impl Members {
         })
     }
 
-    /// Adds a member at the end, with a copy of its role. After an `Err` the list is unchanged. A role of 2^32 bytes and more
-    /// finds no room.
+    /// Adds a member at the end, with a copy of its role. After an `Err` the list is unchanged.
+    ///
+    /// A role of 2^32 or more bytes is refused as out of memory.
     pub fn push(&mut self, target: ObjectRef, role: &str) -> Result<(), OutOfMemory>
         ensures ok { OnOk result (self.new ≡ self.old ++ member_of target role.now ∷ []) }
         ensures err { OnErr result (self.new ≡ self.old) }
@@ -121,7 +124,7 @@ impl Members {
         self.targets.is_empty()
     }
 
-    /// The members, to be gone through. It takes no memory.
+    /// An iterator over the members. It takes no memory.
     pub fn iter(&self) -> MemberIter<'_>
         ensures { result ≡ self.now }
     {
@@ -133,7 +136,7 @@ impl Members {
 }
 
 impl<'a> MemberIter<'a> {
-    /// The next member. None exactly where none is left.
+    /// The next member. None exactly if none is left.
     pub fn next(&mut self) -> Option<MemberRef<'a>>
         ensures member { MatchOption result (self.old ≡ [])
             (λ m. self.old ≡ member_seen m ∷ self.new) }

@@ -1,4 +1,4 @@
-//! What an OPL line tells: nodes, ways and relations with their tags.
+//! The objects of OPL lines: nodes, ways and relations with their tags.
 
 use crate::members::Members;
 use crate::refs::Refs;
@@ -14,14 +14,14 @@ pub enum ObjectKind {
     Relation,
 }
 
-/// An object by its kind and id: ids of different kinds are apart. The order is that of a sorted input.
+/// An object by its kind and id: different kinds have separate ids. The order is that of a sorted input.
 #[derive(Clone, Copy, Debug, PartialEq, Eq, PartialOrd, Ord, Hash)]
 pub struct ObjectRef {
     pub kind: ObjectKind,
     pub id: i64,
 }
 
-/// A tag, as `building=yes`.
+/// A tag, such as `building=yes`.
 #[derive(Debug, Drop)]
 pub struct Tag {
     pub key: Text,
@@ -33,7 +33,7 @@ pub struct Tag {
 pub struct Ref {
     /// The node's id.
     pub node: i64,
-    /// The location that the reference itself carries, where it carries one.
+    /// The location that the reference itself carries, if it carries one.
     pub at: Option<Loc>,
 }
 
@@ -52,7 +52,7 @@ pub enum Object {
         id: i64,
         live: bool,
         tags: Tags,
-        /// None where x or y isn't given or is empty.
+        /// None if x or y isn't given or is empty.
         place: Option<Loc>,
     },
     Way {

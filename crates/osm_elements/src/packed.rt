@@ -1,5 +1,6 @@
-//! Texts in one block. A usual text is one byte; any other stands behind its length, which takes a byte, or five where
-//! there are 192 bytes and more.
+//! Texts in one block. A usual text is one byte; any other follows its length.
+//!
+//! A length takes one byte, or five if the text has 192 or more bytes.
 
 ghost use Rattle.std.specs.Prelude.{◌≡◌, ◌≤◌, ◌<◌, ◌^◌, ◌++◌, length, drop, take, OnOk, OnErr};
 ghost use Rattle.osm_elements.specs.Packed.{length_bytes, head_len, text_len, first_text, after_text, BeginsWithText, IsTextAdded};
@@ -11,7 +12,7 @@ use std::str;
 /// The byte in front of a length of four bytes.
 const LONG: u8 = 255;
 
-/// The bytes that stand for a length, and how many there are.
+/// The bytes of a length, and how many there are.
 #[tactic(auto, unfolding(crate::specs::Packed::length_bytes))]
 fn length_bytes(len: u32) -> ([u8; 5], usize)
     ensures few { result.1 ≤ 5 }
@@ -38,7 +39,7 @@ fn length_bytes(len: u32) -> ([u8; 5], usize)
     )
 }
 
-/// Adds a text behind its length. After an `Err` nothing is added.
+/// Adds a text after its length. After an `Err` nothing is added.
 fn push_whole(texts: &mut Vec<u8>, len: u32, text: &str) -> Result<(), OutOfMemory>
     requires { len ≡ length text.now }
     ensures ok { OnOk result (texts.new.items
@@ -71,7 +72,7 @@ pub(crate) fn push_text(texts: &mut Vec<u8>, text: &str) -> Result<(), OutOfMemo
     push_whole(texts, len, text)
 }
 
-/// The length that stands in front of a text, none where a byte tells the text, and what stands behind.
+/// The length in front of a text, or 0 if one byte is the text, and the bytes after it.
 #[tactic(auto, unfolding(crate::specs::Packed::head_len, crate::specs::Packed::text_len))]
 fn split_length(bytes: &[u8]) -> (usize, &[u8])
     requires { head_len bytes.now ≤ length bytes.now }
@@ -96,7 +97,7 @@ fn split_length(bytes: &[u8]) -> (usize, &[u8])
     (len, behind)
 }
 
-/// The text in front, and what stands behind it.
+/// The text in front, and the bytes after it.
 #[tactic(auto, unfolding(crate::specs::Packed::text_by))]
 pub(crate) fn split_text(bytes: &[u8]) -> (&str, &[u8])
     requires { BeginsWithText bytes.now }
@@ -109,7 +110,7 @@ pub(crate) fn split_text(bytes: &[u8]) -> (&str, &[u8])
     if first >= FIRST_CODE && first < LONG {
         return (usual_text(first), behind);
     }
-    // These are the bytes of the text that was pushed, so they are proved to be UTF-8.
+    // By contract these are the bytes of the text that was pushed, so they are UTF-8.
     let text = unsafe { str::from_utf8_unchecked(text) };
     (text, behind)
 }

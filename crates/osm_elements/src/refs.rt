@@ -12,11 +12,13 @@ use osm_lattice::Loc;
 use std::alloc::{AllocError as OutOfMemory, Global};
 use std::marker::Model;
 
-/// How many bytes a reference is given room for: enough for one that carries a location, where it is near the first.
+/// How many bytes a reference gets room for. They suffice for one with a location, if it is near the first.
 const ROOM: usize = 8;
 
-/// The references of a way, in order. Each takes two bytes or so where its id is near that of the first, and some five
-/// where it carries a location near that of the first; the first itself takes up to some fifteen.
+/// The references of a way, in order.
+///
+/// Each takes about two bytes if its id is near that of the first, and about five if it carries a location near that of the
+/// first. The first itself takes up to about fifteen.
 #[derive(Debug, Drop)]
 pub struct Refs {
     bytes: Vec<u8>,
@@ -34,11 +36,11 @@ impl Model for Refs {
     ghost invariant = { λ r. AreRefBytes r.bytes.items };
 }
 
-/// References, gone through one by one.
+/// An iterator over references.
 #[derive(Drop)]
 pub struct RefIter<'a> {
     bytes: &'a [u8],
-    // The first of all, once it is gone through.
+    // The first of all, once it has been passed.
     first: Option<Ref>,
 }
 
@@ -90,7 +92,7 @@ fn place_at(x: i64, y: i64) -> Option<Loc>
     Loc::new(x, y)
 }
 
-/// By how much x differs, and one more, and by how much y does.
+/// By how much x differs, plus one, and by how much y differs.
 fn differences(from: Option<Loc>, at: Loc) -> (u64, u64)
     ensures along { result.0 ≡ 1 + difference (x_from from) at.x }
     ensures up { result.1 ≡ difference (y_from from) at.y }
@@ -125,7 +127,7 @@ fn push_ref(bytes: &mut Vec<u8>, first: Option<Ref>, reference: Ref) -> Result<(
     Ok(())
 }
 
-/// The location in front, and what stands behind it.
+/// The location in front, and the bytes after it.
 #[tactic(auto, unfolding(crate::specs::Held::first_place, crate::specs::Held::after_place))]
 fn first_place(from: Option<Loc>, bytes: &[u8]) -> (Option<Loc>, &[u8])
     ensures place { result.0 ≡ first_place from bytes.now }
@@ -140,7 +142,7 @@ fn first_place(from: Option<Loc>, bytes: &[u8]) -> (Option<Loc>, &[u8])
     (place_at(moved(x, along - 1), moved(y, up)), behind)
 }
 
-/// The reference in front, and what stands behind it.
+/// The reference in front, and the bytes after it.
 fn first_ref(first: Option<Ref>, bytes: &[u8]) -> (Ref, &[u8])
     ensures reference { result.0 ≡ first_ref first bytes.now }
     ensures behind { result.1.now ≡ after_ref bytes.now }
@@ -151,7 +153,7 @@ fn first_ref(first: Option<Ref>, bytes: &[u8]) -> (Ref, &[u8])
     (Ref { node, at }, behind)
 }
 
-/// What stands behind the reference in front, which isn't asked for.
+/// The bytes after the reference in front, which isn't read.
 #[tactic(auto, unfolding(crate::specs::Held::after_place))]
 fn after_ref(bytes: &[u8]) -> &[u8]
     ensures { result.now ≡ after_ref bytes.now }
@@ -164,7 +166,7 @@ fn after_ref(bytes: &[u8]) -> &[u8]
     first_number(behind).1
 }
 
-/// The last of the references that stand behind a first one. It is that one where there are none.
+/// The last of the references that follow a first one, or that one if none follows.
 fn last_behind(first: Ref, bytes: &[u8]) -> Ref
     ensures { Some result ≡ last_behind (Some first) (refs_behind (Some first) bytes.now) }
 {
@@ -190,7 +192,7 @@ impl Refs {
         }
     }
 
-    /// The empty list, with room for so many references that are near each other.
+    /// The empty list, with room for this many references that are near each other.
     pub fn with_capacity(alloc: Global, room: usize) -> Result<Refs, OutOfMemory>
         ensures { IfOk result (λ refs. refs ≡ []) }
     {
@@ -208,7 +210,7 @@ impl Refs {
         self.push_behind(first, reference)
     }
 
-    /// The same where the first reference is known, so that it isn't read again for each.
+    /// The same if the first reference is known, so that it isn't read again each time.
     pub fn push_behind(&mut self, first: Option<Ref>, reference: Ref) -> Result<(), OutOfMemory>
         requires { first ≡ slice_get self.old 0 }
         ensures ok { OnOk result (self.new ≡ self.old ++ reference ∷ []) }
@@ -222,7 +224,7 @@ impl Refs {
         Ok(())
     }
 
-    /// How many references there are. It goes through all of them, and reads none.
+    /// How many references there are. It passes all of them, and reads none.
     pub fn len(&self) -> usize
         ensures { result ≡ length self.now }
     {
@@ -242,7 +244,7 @@ impl Refs {
         self.bytes.is_empty()
     }
 
-    /// The reference of this index, from 0. None where there are fewer. It goes through those before it.
+    /// The reference of this index, from 0; None if there are fewer. It passes those before it.
     pub fn get(&self, index: usize) -> Option<Ref>
         ensures { result ≡ slice_get self.now index }
     {
@@ -255,14 +257,14 @@ impl Refs {
         rest.next()
     }
 
-    /// The first reference. None where there is none.
+    /// The first reference; None if there is none.
     pub fn first(&self) -> Option<Ref>
         ensures { result ≡ slice_get self.now 0 }
     {
         self.iter().next()
     }
 
-    /// The last reference. None where there is none. It goes through all of them, and reads the first and the last.
+    /// The last reference; None if there is none. It passes all of them, and reads the first and the last.
     pub fn last(&self) -> Option<Ref>
         ensures { result ≡ slice_get self.now (length self.now - 1) }
     {
@@ -270,7 +272,7 @@ impl Refs {
         Some(last_behind(first, after_ref(self.bytes.as_slice())))
     }
 
-    /// A copy, which takes no more memory than it needs.
+    /// A copy without spare room.
     pub fn copy(&self, alloc: Global) -> Result<Refs, OutOfMemory>
         ensures { IfOk result (λ refs. refs ≡ self.now) }
     {
@@ -278,7 +280,7 @@ impl Refs {
         Ok(Refs { bytes })
     }
 
-    /// The references, to be gone through. It takes no memory.
+    /// An iterator over the references. It takes no memory.
     pub fn iter(&self) -> RefIter<'_>
         ensures { result ≡ self.now }
     {
@@ -298,7 +300,7 @@ impl<'a> Iterator for RefIter<'a> {
 
     ghost remaining = { item_count (λ refs. refs) };
 
-    /// The next reference. None exactly where none is left.
+    /// The next reference. None exactly if none is left.
     fn next(&mut self) -> Option<Ref> {
         if self.bytes.is_empty() {
             return None;

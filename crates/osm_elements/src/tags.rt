@@ -1,4 +1,4 @@
-//! The tags of an object, held in one block: keys and values by turns, a usual one as one byte, any other behind its length.
+//! The tags of an object in one block of alternating keys and values: a usual one as one byte, any other after its length.
 
 ghost use Rattle.std.specs.Prelude.{◌≡◌, ◌<◌, ◌^◌, ◌++◌, ◌∷◌, ◌==◌, [], length, IfOk, OnOk, OnErr, MatchOption, IfNone, option_map, find};
 ghost use Rattle.std.specs.Str.{bytes_eq};
@@ -16,8 +16,10 @@ pub struct TagRef<'a> {
     pub value: &'a str,
 }
 
-/// The tags of an object, in the order of its line. They take one block of memory, and none where there are none: a byte for
-/// a key or value that is usual in OpenStreetMap, and a byte or five beside the text of any other.
+/// The tags of an object, in the order of its line.
+///
+/// They take one block of memory, or none if there are no tags. A key or value that is usual in OpenStreetMap takes a byte,
+/// and any other takes its text and a byte or five.
 #[derive(Debug, Drop)]
 pub struct Tags {
     texts: Vec<u8>,
@@ -37,7 +39,7 @@ impl Model for Tags {
     ghost invariant = { λ t. AreKeysAndValues t.count t.texts.items };
 }
 
-/// Tags, gone through one by one.
+/// An iterator over tags.
 #[derive(Drop)]
 pub struct TagIter<'a> {
     texts: &'a [u8],
@@ -83,7 +85,7 @@ impl Tags {
         }
     }
 
-    /// The empty list, with room for this many bytes: those of the texts, and one for each that has fewer than 192, suffice.
+    /// The empty list, with room for this many bytes. Those of the texts, and one for each text of fewer than 192, suffice.
     pub fn with_capacity(alloc: Global, bytes: usize) -> Result<Tags, OutOfMemory>
         ensures { IfOk result (λ tags. tags ≡ []) }
     {
@@ -93,7 +95,8 @@ impl Tags {
         })
     }
 
-    /// Adds a copy of a tag at the end. After an `Err` the list is unchanged. Texts of 2^32 bytes and more find no room.
+    /// Adds a copy of a tag at the end. After an `Err` the list is unchanged.
+    /// Texts of 2^32 or more bytes are refused as out of memory.
     pub fn push(&mut self, key: &str, value: &str) -> Result<(), OutOfMemory>
         ensures ok { OnOk result (self.new
             ≡ self.old ++ record { key = key.now; value = value.now } ∷ []) }
@@ -121,8 +124,9 @@ impl Tags {
         self.count == 0
     }
 
-    /// How many bytes of memory its texts take: one for each usual text, and for any other one or five more than it has. No clause
-    /// says it.
+    /// How many bytes of memory its texts take. No clause says it.
+    ///
+    /// Each usual text takes one byte, and any other one or five more than it has.
     pub fn bytes(&self) -> usize {
         self.texts.len()
     }
@@ -141,7 +145,7 @@ impl Tags {
         None
     }
 
-    /// A copy, which takes no more memory than it needs.
+    /// A copy without spare room.
     pub fn copy(&self, alloc: Global) -> Result<Tags, OutOfMemory>
         ensures { IfOk result (λ tags. tags ≡ self.now) }
     {
@@ -151,7 +155,7 @@ impl Tags {
         })
     }
 
-    /// The tags, to be gone through. It takes no memory.
+    /// An iterator over the tags. It takes no memory.
     pub fn iter(&self) -> TagIter<'_>
         ensures { result ≡ self.now }
     {
@@ -163,7 +167,7 @@ impl Tags {
 }
 
 impl<'a> TagIter<'a> {
-    /// The next tag. None exactly where none is left.
+    /// The next tag. None exactly if none is left.
     pub fn next(&mut self) -> Option<TagRef<'a>>
         ensures tag { MatchOption result (self.old ≡ []) (λ t. self.old ≡ tag_seen t ∷ self.new) }
         ensures ended { IfNone result (self.new ≡ []) }

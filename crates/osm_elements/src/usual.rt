@@ -1,9 +1,9 @@
-//! Texts that most tags are made of, each told by one byte.
+//! The usual texts of tags, each coded as one byte.
 
 ghost use Rattle.std.specs.Prelude.{◌≡◌, ◌≤◌, ◌<◌, [], length, map, slice_index_or, IfSome};
 ghost use Rattle.osm_elements.specs.Packed.{usual_text};
 
-/// Usual keys, then usual values and roles: those that take most bytes in OpenStreetMap.
+/// Usual keys, then usual values and roles: those that take the most bytes in OpenStreetMap.
 const USUAL: [&str; 63] = [
     "access",
     "addr:city",
@@ -70,10 +70,10 @@ const USUAL: [&str; 63] = [
     "yes",
 ];
 
-/// The byte that tells the first of them; a lesser one is a length.
+/// The byte of the first of them; a lesser byte is a length.
 pub(crate) const FIRST_CODE: u8 = 192;
 
-/// For each sum the place in `USUAL` of the text that has it, of which there is one at most; 63 where none has it.
+/// For each sum the place in `USUAL` of the text with this sum, of which there is at most one; 63 if there is none.
 const PLACES: [u8; 256] = [
     46, 63, 63, 16, 63, 63, 63, 63, 0, 63, 57, 29, 63, 8, 63, 63, 37, 63, 63, 32, 63, 56, 45, 63,
     63, 63, 63, 63, 10, 63, 21, 31, 63, 63, 63, 30, 63, 63, 63, 63, 4, 63, 54, 63, 5, 26, 38, 63,
@@ -88,7 +88,8 @@ const PLACES: [u8; 256] = [
     63, 63, 63, 3, 63, 63, 63, 63, 62, 63, 20, 63, 55, 44, 22, 63,
 ];
 
-/// A sum of a text's first, middle and last byte, modulo 256. No two usual texts have the same: the factors were searched for.
+/// A sum of a text's first, middle and last byte, modulo 256.
+/// The factors were chosen so that no two usual texts have the same.
 fn sum_of(text: &[u8]) -> u8 {
     let (Some(first), Some(middle), Some(last)) = (
         text.first(),
@@ -112,7 +113,7 @@ fn text_at(texts: &[&'static str], place: usize) -> &'static str
     texts[place]
 }
 
-/// The text that a byte tells.
+/// The text that a byte codes.
 #[tactic(auto, unfolding(crate::specs::Packed::usual_text))]
 pub(crate) fn usual_text(code: u8) -> &'static str
     requires { (192 ≤ code) × (code < 255) }
@@ -121,7 +122,7 @@ pub(crate) fn usual_text(code: u8) -> &'static str
     text_at(&USUAL, usize::from(code - FIRST_CODE))
 }
 
-/// The byte that tells a text; None where none does, which no clause says: it would only take more memory.
+/// The byte that codes a text; None if none does. No clause says the latter: a wrong None would only take more memory.
 pub(crate) fn usual_code(text: &str) -> Option<u8>
     ensures code { IfSome result (λ code. (192 ≤ code) × (code < 255)) }
     ensures text { IfSome result (λ code. usual_text code ≡ text.now) }

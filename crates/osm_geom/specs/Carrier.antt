@@ -1,4 +1,4 @@
--- What carries an edge: a segment, or a line of whole coordinate.
+-- The carrier of an edge: a segment, or a line of whole coordinate.
 use Rattle.std.specs.Prelude.{Bool, false, not, ℤ, pos}
 use Rattle.std.specs.Ordering.{int_eq}
 use Rattle.plane.specs.RayCrossing.{is_off}

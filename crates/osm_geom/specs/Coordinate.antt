@@ -18,7 +18,7 @@ floor_of f = int_div_euclid f.num (pos f.den)
 abbrev pub ceiling_of : Fraction → ℤ
 ceiling_of f = pos 0 -ℤ int_div_euclid (pos 0 -ℤ f.num) (pos f.den)
 
--- a whole number is at most a fraction, and a fraction at most a whole number
+-- A whole number is at most a fraction; a fraction is at most a whole number.
 abbrev pub AtLeast : ℤ → Fraction → Type 0
 AtLeast n f = (n *ℤ pos f.den) ≤ℤ f.num
 

@@ -1,4 +1,4 @@
--- Cut lines: where points stand against them.
+-- Cut lines, and where points lie relative to them.
 use Rattle.std.specs.Prelude.{true, pos, ◌*ℤ◌, ◌-ℤ◌, ◌≡◌}
 use Rattle.plane.specs.Sign.{Null, Sign, negated, sign}
 use Rattle.osm_geom.specs.declared.cut.Axis.{Axis}
@@ -23,11 +23,11 @@ abbrev pub coordinate_of : Axis → Point → Fraction
 coordinate_of X p = x_of p
 coordinate_of Y p = y_of p
 
--- Plus where the line comes after p, Null where p is on it, Minus where the line comes before p
+-- Plus if the line comes after p, Null if p is on it, Minus if the line comes before p
 abbrev pub cut_order : Cut → Point → Sign
 cut_order cut p = sign (cut.at *ℤ pos (coordinate_of cut.axis p).den -ℤ (coordinate_of cut.axis p).num)
 
--- Plus where p is strictly on the side, Null where it is on the line, Minus where it is strictly on the other side
+-- Plus if p is strictly on the side, Null if it is on the line, Minus if it is strictly on the other side
 abbrev pub side_by : Side → Sign → Sign
 side_by Low s = s
 side_by High s = negated s

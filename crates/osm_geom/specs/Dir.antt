@@ -19,7 +19,7 @@ cross d e = vector.cross (vector_along d) (vector_along e)
 unfoldable pub dot : Dir → Dir → ℤ
 dot d e = vector.dot (vector_along d) (vector_along e)
 
--- by the side on which a direction lies, and where it lies on the same line, by which way it points
+-- by the side on which a direction lies; for one on the same line, by which way it points
 abbrev pub turn_by : Ordering → Ordering → Turn
 turn_by Less o = Right
 turn_by Equal Less = Back

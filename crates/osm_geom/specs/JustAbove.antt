@@ -21,11 +21,11 @@ piece_of (OfSeg s) = edge_of s
 piece_of (Vertical c) = record { from = record { x = c; y = pos 0 }; to = record { x = c; y = pos 1 } }
 piece_of (Horizontal d) = record { from = record { x = pos 0; y = d }; to = record { x = pos 1; y = d } }
 
--- the height of a point, as the point of the line x = 0 that is as high, in the plane multiplied by the denominator of its y
+-- the height of a point, as the point of the line x = 0 at this height, in the plane multiplied by the denominator of its y
 abbrev pub height_of : Point → Vector
 height_of at = record { x = pos 0; y = (y_of at).num }
 
--- by where the lines of e and f are at the height of the point, then by their slopes: Less where e is left of f
+-- by where the lines of e and f are at the height of the point, then by their slopes: Less if e is left of f
 unfoldable pub just_above_cmp : Edge → Edge → Point → Ordering
 just_above_cmp e f at = ordering_of (order_above (height_of at) (scaled_edge (pos (y_of at).den) (piece_of e.carrier)) (scaled_edge (pos (y_of at).den) (piece_of f.carrier)))
 

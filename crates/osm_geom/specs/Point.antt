@@ -1,4 +1,4 @@
--- Exact points, of whose coordinates one need not be whole: the points of the plane that they are once multiplied, and their order.
+-- Exact points with at most one fractional coordinate, their multiples in the plane, and their order.
 use Rattle.std.specs.Prelude.{ℕ, ◌*◌, ◌≤◌, ℤ, pos, ◌*ℤ◌, unsigned_abs}
 use Rattle.std.specs.declared.cmp.Ordering.{Ordering}
 use Rattle.plane.specs.Order.{order}
@@ -19,7 +19,7 @@ pub record Fraction : Type 0 where
 abbrev pub whole : ℤ → Fraction
 whole n = record { num = n; den = 1 }
 
--- a coordinate that is no whole number
+-- a coordinate that isn't whole
 abbrev pub fraction_in : Part → Fraction
 fraction_in p = record { num = part_num p.floor p.above p.den; den = p.den }
 
@@ -35,15 +35,15 @@ y_of (Lattice p) = whole p.y
 y_of (OnVertical c y) = fraction_in y
 y_of (OnHorizontal x d) = whole d
 
--- the least positive number by which the plane is multiplied so that p has whole coordinates
+-- the least positive number to multiply the plane by, so that p has whole coordinates
 abbrev pub den_of : Point → ℕ
 den_of p = (x_of p).den * (y_of p).den
 
--- p in the plane multiplied by it
+-- p in the plane multiplied by that number
 abbrev pub whole_of : Point → Vector
 whole_of p = record { x = (x_of p).num *ℤ pos (y_of p).den; y = (y_of p).num *ℤ pos (x_of p).den }
 
--- the order of points, in the plane multiplied by both denominators: Plus where q comes after p
+-- the order of points, in the plane multiplied by both denominators: Plus if q comes after p
 abbrev pub point_order : Point → Point → Sign
 point_order p q = order (scaled_point (pos (den_of q)) (whole_of p)) (scaled_point (pos (den_of p)) (whole_of q))
 

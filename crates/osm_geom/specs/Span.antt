@@ -6,7 +6,7 @@ use Rattle.osm_geom.specs.declared.point.Point.{Point}
 use Rattle.osm_geom.specs.Edge.{runs_up}
 use Rattle.osm_geom.specs.Point.{y_of}
 
--- Plus where q is higher than p, Null where it is as high, Minus where it is lower
+-- Plus if q is higher than p, Null if it is as high, Minus if it is lower
 abbrev pub height_order : Point → Point → Sign
 height_order p q = sign ((y_of q).num *ℤ pos (y_of p).den -ℤ (y_of p).num *ℤ pos (y_of q).den)
 

@@ -1,4 +1,5 @@
--- The laws of the orders of points, of edges just above a height and of directions around one, as statements: what sorts by them may rely on.
+-- The laws of the orders of points, of edges just above a height and of directions around one, as statements.
+-- Sorts may rely on them.
 use Rattle.std.specs.Prelude.{◌≡◌, ◌↔◌, true}
 use Rattle.std.specs.Cmp.{IsTotalOrder}
 use Rattle.std.specs.Ordering.{ordering_reverse}
@@ -13,11 +14,11 @@ use Rattle.osm_geom.specs.JustAbove.{just_above_cmp, piece_of}
 use Rattle.osm_geom.specs.Point.{point_cmp}
 use Rattle.osm_geom.specs.Span.{spans}
 
--- the reverse comparison is the reversed answer, Less is transitive, and what ties compares alike with all others
+-- The reverse comparison is the reversed answer, Less is transitive, and what ties compares alike with all others.
 abbrev pub PointOrderIsTotal : Type 0
 PointOrderIsTotal = IsTotalOrder point_cmp
 
--- two points tie exactly where they are one
+-- two points tie exactly if they are equal
 abbrev pub PointOrderTellsApart : Type 0
 PointOrderTellsApart = (p q : Point) → (point_cmp p q ≡ Equal) ↔ (p ≡ q)
 
@@ -35,7 +36,7 @@ OrderAboveTiesAlike =
     (e f g : Edge) (at : Point) → spans e at ≡ true → spans f at ≡ true → spans g at ≡ true →
     just_above_cmp e f at ≡ Equal → just_above_cmp e g at ≡ just_above_cmp f g at
 
--- two edges tie exactly where their carriers lie on one line: both ends of the piece of the second on the line of the first
+-- two edges tie exactly if their carriers lie on one line: both ends of the piece of the second are on the line of the first
 abbrev pub OrderAboveTellsLinesApart : Type 0
 OrderAboveTellsLinesApart =
     (e f : Edge) (at : Point) → spans e at ≡ true → spans f at ≡ true →
@@ -49,6 +50,6 @@ IsOneDirection d e = (sign (cross d e) ≡ Null) × (sign (dot d e) ≡ Plus)
 abbrev pub ClockwiseOrderIsTotal : Type 0
 ClockwiseOrderIsTotal = (from : Dir) → IsTotalOrder (clockwise_cmp from)
 
--- two directions tie exactly where they are one
+-- two directions tie exactly if they are equal
 abbrev pub ClockwiseOrderTellsApart : Type 0
 ClockwiseOrderTellsApart = (from d e : Dir) → (clockwise_cmp from d e ≡ Equal) ↔ IsOneDirection d e

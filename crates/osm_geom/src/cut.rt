@@ -39,7 +39,7 @@ pub struct Cut {
     pub at: i32,
 }
 
-/// Where a point stands against a cut line: `Less` where its coordinate is less than the line's.
+/// Where a point lies relative to a cut line: `Less` if its coordinate is less than the line's.
 pub fn compare_to_cut(p: &Point, cut: Cut) -> Ordering
     ensures { result ≡ ordering_of (cut_order cut p.now) }
 {
@@ -56,7 +56,7 @@ fn distance(a: i32, b: i32) -> u64
     (i64::from(b) - i64::from(a)).unsigned_abs()
 }
 
-/// How far along from `start` to `end` the number `at`, which is not beyond them, lies.
+/// How far along the way from `start` to `end` the number `at` is. It isn't beyond them.
 fn share_between(start: i32, end: i32, at: i32) -> Share
     requires { sign (at -ℤ start) ≢ sign (at -ℤ end) }
     ensures above { result.above ≡ unsigned_abs (at -ℤ start) }
@@ -68,7 +68,7 @@ fn share_between(start: i32, end: i32, at: i32) -> Share
     }
 }
 
-/// The number that lies so far from `start` to `end`.
+/// The number at this share of the way from `start` to `end`.
 fn number_at(start: i32, end: i32, at: Share) -> Frac
     requires start_in { unsigned_abs start ≤ 1_800_000_000 }
     requires end_in { unsigned_abs end ≤ 1_800_000_000 }
@@ -131,7 +131,9 @@ fn point_with_y(s: Seg, d: i32) -> Point
     point_above(number_at(s.a.x, s.b.x, share_between(s.a.y, s.b.y, d)), d)
 }
 
-/// The one point in which a segment meets a cut line that it isn't parallel to: in lowest terms, and whole where it is a location.
+/// The one point at which a segment meets a cut line that it isn't parallel to.
+///
+/// It is in lowest terms, and whole if it is a location.
 pub fn cut_point(s: Seg, cut: Cut) -> Point
     requires { cut_order cut (Lattice s.a) ≢ cut_order cut (Lattice s.b) }
     ensures on_segment { is_on (OfSeg s) result ≡ true }

@@ -21,10 +21,13 @@ pub enum Carrier {
 
 /// A directed part of a carrier, between two different points of the world.
 ///
-/// Valid where both ends lie on the carrier, differ, and are in the world; ghost fields hold these facts, so that every value of
-/// the type is valid. No end is rounded: it is a location, or the exact point where a segment meets a line of whole coordinate. An
-/// edge may be the whole of a segment or a part of it, and its direction is the carrier's or the opposite, whatever its ends are.
-/// In a sided list the area is on the left of each edge, as the right-hand rule of RFC 7946, section 3.1.6, has it for rings.
+/// It is valid if both ends lie on the carrier, differ, and are in the world. Ghost fields hold these facts, so every value
+/// of the type is valid. No end is rounded: it is a location, or the exact point where a segment meets a line of whole
+/// coordinate.
+///
+/// An edge may be the whole of a segment or a part of it. Its direction is the carrier's or the opposite, whatever its ends
+/// are. In a sided list the area is on the left of each edge, like the right-hand rule of RFC 7946, section 3.1.6, for
+/// rings.
 #[derive(Clone, Copy, Debug, PartialEq, Eq)]
 pub struct Edge {
     pub from: Point,
@@ -38,7 +41,7 @@ pub struct Edge {
 }
 
 impl Edge {
-    /// The whole segment, from its lesser end if `forward`, else from its greater one.
+    /// The whole segment, from its lesser end if `forward`, and otherwise from its greater one.
     #[tactic(auto, using(crate::proofs::SegmentEnds::end_facts))]
     pub fn of(s: Seg, forward: bool) -> Edge
         ensures carrier { result.carrier ≡ OfSeg s }

@@ -35,8 +35,10 @@ fn turned_back(d: Dir) -> Dir
 }
 
 impl Edge {
-    /// The direction from the first end to the second: that of the segment from its lesser end to its greater
-    /// one, (0, 1) on a vertical line, (1, 0) on a horizontal one, and the opposite where the edge runs so.
+    /// The direction from the first end to the second.
+    ///
+    /// On a segment it is that from its lesser end to its greater one, on a vertical line (0, 1), and on a horizontal one
+    /// (1, 0). If the edge runs the other way, it is the opposite.
     #[tactic(auto, unfolding(crate::specs::Edge::direction_of, crate::specs::Point::point_cmp))]
     pub fn dir(&self) -> Dir
         ensures { vector_along result ≡ direction_of self.now }

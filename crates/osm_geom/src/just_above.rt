@@ -95,9 +95,10 @@ fn level_of(at: &Point, e: &Edge) -> Level
     }
 }
 
-/// The order of two edges from left to right just above the height of a point that both span: by where
-/// they are at that height, then by their slopes. `order_above_is_total` says that it is total, and `Equal` for
-/// edges on one line alone.
+/// The order of two edges from left to right just above the height of a point that both span.
+///
+/// They are ordered by where they are at that height, then by their slopes. `order_above_is_total` says that the order is
+/// total, and `Equal` only for edges on one line.
 pub fn compare_just_above(e: &Edge, f: &Edge, at: &Point) -> Ordering
     requires first { spans e.now at.now ≡ true }
     requires second { spans f.now at.now ≡ true }

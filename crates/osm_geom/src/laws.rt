@@ -2,14 +2,15 @@
 ghost use Rattle.osm_geom.specs.Coordinate.{CeilingIsLeast, FloorIsGreatest};
 ghost use Rattle.osm_geom.specs.TotalOrders.{PointOrderIsTotal, PointOrderTellsApart, OrderAboveReverses, OrderAboveIsTransitive, OrderAboveTiesAlike, OrderAboveTellsLinesApart, ClockwiseOrderIsTotal, ClockwiseOrderTellsApart};
 
-/// The order of `compare_points` is total, and `Equal` for one point alone.
+/// The order of `compare_points` is total, and `Equal` only for equal points.
 pub fn point_order_is_total()
     ensures total { PointOrderIsTotal }
     ensures apart { PointOrderTellsApart }
 {}
 
-/// The order of `compare_just_above` is total among the edges that span the height, and `Equal` exactly for
-/// those whose carriers lie on one line.
+/// The order of `compare_just_above` is total among the edges that span the height.
+///
+/// It is `Equal` exactly for edges whose carriers lie on one line.
 pub fn order_above_is_total()
     ensures reverses { OrderAboveReverses }
     ensures transitive { OrderAboveIsTransitive }
@@ -17,14 +18,15 @@ pub fn order_above_is_total()
     ensures apart { OrderAboveTellsLinesApart }
 {}
 
-/// The order of `clockwise` is total around each direction, and `Equal` for one direction alone.
+/// The order of `clockwise` is total around each direction, and `Equal` only for equal directions.
 pub fn clockwise_order_is_total()
     ensures total { ClockwiseOrderIsTotal }
     ensures apart { ClockwiseOrderTellsApart }
 {}
 
-/// The floor of a fraction is the greatest whole number that is at most the fraction, its ceiling the least that is
-/// at least it.
+/// The floor of a fraction is the greatest whole number that is at most the fraction.
+///
+/// Its ceiling is the least that is at least the fraction.
 pub fn floors_are_next()
     ensures floor { FloorIsGreatest }
     ensures ceiling { CeilingIsLeast }

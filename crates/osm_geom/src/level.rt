@@ -31,7 +31,7 @@ pub struct Line {
 impl Line {
     ghost use Rattle.osm_geom.specs.LineOrder.{slope_cmp};
 
-    /// The order of two lines that rise by how far each runs to the right while it rises.
+    /// The order of two rising lines by how far each runs to the right while it rises.
     fn compare_slopes(self, other: Line) -> Ordering
         ensures { result ≡ slope_cmp self other }
     {
@@ -59,14 +59,14 @@ impl Level {
         l.x * l.rise * i128::from(self.den) + self.above(l) * l.run
     }
 
-    /// The order of two lines that rise by where they are at this height.
+    /// The order of two rising lines by where they are at this height.
     fn compare_places(self, l: Line, m: Line) -> Ordering
         ensures { result ≡ place_cmp l m self }
     {
         (self.x_num(l) * m.rise).cmp(&(self.x_num(m) * l.rise))
     }
 
-    /// The order of two lines that rise, from left to right just above this height.
+    /// The order of two rising lines, from left to right just above this height.
     #[tactic(auto, unfolding(crate::specs::LineOrder::line_cmp))]
     pub fn compare(self, l: Line, m: Line) -> Ordering
         ensures { result ≡ line_cmp l m self }

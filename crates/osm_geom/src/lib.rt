@@ -1,5 +1,7 @@
-//! Exact geometry over OpenStreetMap's coordinates, whole numbers in units of 1e-7 degree: points and directed edges of which
-//! one coordinate need not be whole, their orders, and cut lines. Locations and segments are those of `osm_lattice`.
+//! Exact geometry over OpenStreetMap's coordinates, whole numbers in units of 1e-7 degree.
+//!
+//! It has points and directed edges with at most one fractional coordinate, their orders, and cut lines. Locations and
+//! segments are those of `osm_lattice`.
 #![tactic(auto)]
 
 mod coordinate;

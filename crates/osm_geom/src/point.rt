@@ -1,4 +1,4 @@
-//! Exact points of which one coordinate need not be whole.
+//! Exact points with at most one fractional coordinate.
 ghost use Rattle.std.specs.Prelude.{◌<◌, ◌≡◌, ◌≤◌, pos};
 ghost use Rattle.std.specs.Int.{int_div_euclid, int_rem_euclid};
 ghost use Rattle.osm_lattice.specs.Lowest.{IsInLowestTerms};
@@ -15,7 +15,7 @@ fn whole_below(num: i128, den: u64) -> i32
     num.div_euclid(i128::from(den)) as i32
 }
 
-/// How far `num / den` is above it, times `den`.
+/// How far `num / den` is above that whole number, times `den`.
 fn rest_above(num: i128, den: u64) -> u32
     requires { IsPartDen den }
     ensures { pos result ≡ int_rem_euclid num (pos den) }
@@ -23,9 +23,11 @@ fn rest_above(num: i128, den: u64) -> u32
     num.rem_euclid(i128::from(den)) as u32
 }
 
-/// A coordinate that is no whole number, in units of 1e-7 degree: `floor + above / den`. Over its denominator it is in lowest
-/// terms, and that is 2 to 3,600,000,000, the greatest distance of two longitudes.
-// Three numbers of 32 bits in place of a `Frac` of 32 bytes, since each edge holds two points.
+/// A coordinate that isn't whole, in units of 1e-7 degree: `floor + above / den`.
+///
+/// Over its denominator it is in lowest terms. The denominator is 2 to 3,600,000,000, the greatest distance of two
+/// longitudes.
+// Three numbers of 32 bits instead of a `Frac` of 32 bytes, since each edge holds two points.
 #[derive(Clone, Copy, Debug, PartialEq, Eq)]
 pub struct Part {
     pub floor: i32,
@@ -73,10 +75,12 @@ impl Part {
 
 /// An exact point of which at least one coordinate is whole.
 ///
-/// Whole coordinates are OpenStreetMap's, longitude and latitude in units of 1e-7 degree. A point that isn't a location lies where
-/// a segment meets a line of whole coordinate, so one of its coordinates is a fraction. No point has two spellings: a fraction is
-/// in lowest terms and never whole, so that equal points have equal fields, and `==` is equality of points. A point where two
-/// segments cross may have no whole coordinate and is none of these: `meeting` gives it as two fractions.
+/// Whole coordinates are OpenStreetMap's, longitude and latitude in units of 1e-7 degree. A point that isn't a location lies
+/// where a segment meets a line of whole coordinate, so one of its coordinates is a fraction.
+///
+/// No point has two spellings: a fraction is in lowest terms and never whole. So equal points have equal fields, and `==` is
+/// equality of points. A point where two segments cross may have no whole coordinate, and then is none of these: `meeting`
+/// gives it as two fractions.
 #[derive(Clone, Copy, Debug, PartialEq, Eq)]
 pub enum Point {
     /// Both coordinates are whole.

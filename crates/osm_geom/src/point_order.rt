@@ -29,7 +29,7 @@ pub(crate) fn y_ratio(p: Point) -> Ratio
     }
 }
 
-// Nearly all points are whole: what compares the others is kept out of the callers.
+// Nearly all points are whole: the comparison of the others is kept out of the callers.
 #[cold]
 #[inline(never)]
 fn compare_by_fractions(p: Point, q: Point) -> Ordering
@@ -40,7 +40,7 @@ fn compare_by_fractions(p: Point, q: Point) -> Ordering
         .then(x_ratio(p).compare(x_ratio(q)))
 }
 
-/// The order of two points by y, where one of them need not be whole.
+/// The order of two points by y, if one of them may not be whole.
 #[cold]
 #[inline(never)]
 fn compare_heights_by_fractions(p: &Point, q: &Point) -> Ordering
@@ -60,8 +60,9 @@ pub fn compare_heights(p: &Point, q: &Point) -> Ordering
     }
 }
 
-/// The order of two points: by y, then by x. `point_order_is_total` says that it is total, and `Equal` for one
-/// point alone.
+/// The order of two points: by y, then by x.
+///
+/// `point_order_is_total` says that it is total, and `Equal` only for equal points.
 #[inline]
 pub fn compare_points(p: Point, q: Point) -> Ordering
     ensures { result ≡ point_cmp p q }
@@ -72,7 +73,7 @@ pub fn compare_points(p: Point, q: Point) -> Ordering
     }
 }
 
-/// As `compare_points`, for points that stay where they are: of whole ones only the coordinates are read.
+/// As `compare_points`, for points that aren't copied: of whole ones it reads only the coordinates.
 #[inline]
 pub fn order_points(p: &Point, q: &Point) -> Ordering
     ensures { result ≡ point_cmp p.now q.now }

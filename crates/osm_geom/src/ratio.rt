@@ -29,7 +29,7 @@ impl Ratio {
         }
     }
 
-    /// A coordinate that is no whole number, as it stands.
+    /// A coordinate that isn't whole, as it is.
     pub fn of_part(p: Part) -> Ratio
         ensures num { result.num ≡ part_num p.floor p.above p.den }
         ensures den { result.den ≡ p.den }
@@ -41,7 +41,7 @@ impl Ratio {
         }
     }
 
-    /// By cross products.
+    /// Compares by cross products.
     pub fn compare(self, other: Ratio) -> Ordering
         ensures { result ≡ fraction_cmp (fraction_of self) (fraction_of other) }
     {

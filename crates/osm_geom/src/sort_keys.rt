@@ -1,13 +1,14 @@
-//! Whole numbers by which points are sorted fast. Nothing rests on them but speed.
+//! Whole numbers for sorting points fast. Only speed depends on them.
 use crate::point::Point;
 
-/// A number for the point (x, y), of which the one with the lesser y has the lesser, and of one height the one with the lesser x.
+/// A number for the point (x, y): lesser for a lesser y, and at equal y lesser for a lesser x.
 fn key_at(x: i64, y: i64) -> i64 {
     y.wrapping_mul(1 << 32).wrapping_add(x)
 }
 
-/// A number that rises with lattice points in their order, and with most other points. Who sorts by it has to test the order by
-/// the points themselves, and to sort by these where the test fails.
+/// A number that rises with lattice points in their order, and with most other points.
+///
+/// A sort by it has to be tested against the points themselves, and replaced by a sort of the points if the test fails.
 pub fn sort_key(point: Point) -> i64 {
     match point {
         Point::Lattice(at) => key_at(i64::from(at.x), i64::from(at.y)),

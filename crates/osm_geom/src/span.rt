@@ -19,10 +19,11 @@ fn is_at_most_as_high(p: &Point, q: &Point) -> bool
 }
 
 /// Whether an edge spans the height of a point: its lower end is at most as high, and its upper end is higher.
+///
 /// A horizontal edge spans no height.
 pub fn spans_height(e: &Edge, at: &Point) -> bool
     ensures { result ≡ spans e.now at.now }
 {
-    // So one end is at most as high and the other isn't, whichever is the lower one.
+    // One end is at most as high and the other isn't, whichever is the lower one.
     is_at_most_as_high(&e.from, at) != is_at_most_as_high(&e.to, at)
 }

@@ -41,9 +41,10 @@ fn turn_between(from: Dir, d: Dir) -> Turn
     }
 }
 
-/// The order of the angles by which `d` and `e` are turned clockwise from `from`, each above 0 and up to a
-/// full turn, which is the angle of `from` itself. `clockwise_order_is_total` says that it is total, and `Equal`
-/// for one direction alone, however long its step.
+/// The order of the angles by which `d` and `e` are turned clockwise from `from`.
+///
+/// Each is above 0 and up to a full turn, which is the angle of `from` itself. `clockwise_order_is_total` says that the
+/// order is total, and `Equal` only for equal directions, however long their steps.
 pub fn clockwise(from: Dir, d: Dir, e: Dir) -> Ordering
     ensures { result ≡ clockwise_cmp from d e }
 {

@@ -1,4 +1,4 @@
--- What more behind a stream, or before it, adds up to, as statements.
+-- What additions after a stream, or before it, add up to, as statements.
 use Rattle.std.specs.Prelude.{◌≡◌, ℕ, List, [], ◌++◌, Option}
 use Rattle.osm_host.specs.Outside.{Opened, appended, preceded}
 
@@ -10,11 +10,11 @@ AppendsInTurn A = (stream : Option (List A)) (first second : List A) → appende
 abbrev pub AppendsNothing : Type 0 → Type 0
 AppendsNothing A = (stream : Option (List A)) → appended stream [] ≡ stream
 
--- two pieces, one taken off after the other, are taken off as one
+-- two pieces, one taken after the other, are taken as one
 abbrev pub PrecedesInTurn : Type 0 → Type 0
 PrecedesInTurn A = (first second : List A) (stream : Option (List A)) → preceded first (preceded second stream) ≡ preceded (first ++ second) stream
 
--- bytes and opens add up so
+-- bytes and opens add up in this way
 pub record StreamsAppend : Type 0 where
   pub bytes : AppendsInTurn ℕ
   pub opens : AppendsInTurn Opened

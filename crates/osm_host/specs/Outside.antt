@@ -1,4 +1,4 @@
--- What a host means: its streams and its list of opens, each told or not, and its counts of faults.
+-- What a host is: its streams and its list of opens, each known or unknown, and its counts of faults.
 use Rattle.std.specs.Prelude.{◌≡◌, ◌+◌, ◌-◌, ◌^◌, ◌≤◌, ◌&&◌, nat_eq, nat_lt, min, max, ℕ, Bool, false, List, ◌++◌, Option, None, Some, Result, Ok, Err, OnOk, OnErr}
 
 -- an open that was asked for, by the bytes of its name; an output with its overwrite
@@ -6,11 +6,11 @@ pub data Opened : Type 0 where
   input : List ℕ → Opened
   output : List ℕ → Bool → Opened
 
--- A stream that a host tells is Some of its bytes; None tells nothing.
+-- A known stream is Some of its bytes; None is an unknown one.
 pub record Outside : Type 0 where
-  -- the bytes that an input name stands for
+  -- the content behind an input name
   pub named : List ℕ → Option (List ℕ)
-  -- what is left of the opened input
+  -- the unread rest of the opened input
   pub left : Option (List ℕ)
   -- what was written to the output, and to the report
   pub out : Option (List ℕ)
@@ -23,15 +23,15 @@ pub record Outside : Type 0 where
   pub read_failed : Bool
   -- whether the last read found the end of the opened input
   pub at_end : Bool
-  -- how many bytes were taken off the opened input
+  -- how many bytes were taken from the opened input
   pub bytes_read : ℕ
 
--- a told list with more behind it; what isn't told stays so
+-- a known list with more after it; an unknown one stays unknown
 abbrev pub appended : {A : Type 0} → Option (List A) → List A → Option (List A)
 appended None more = None
 appended (Some items) more = Some (items ++ more)
 
--- a told list with more before it
+-- a known list with more before it
 abbrev pub preceded : {A : Type 0} → List A → Option (List A) → Option (List A)
 preceded more None = None
 preceded more (Some items) = Some (more ++ items)
@@ -40,26 +40,26 @@ preceded more (Some items) = Some (more ++ items)
 abbrev pub risen : ℕ → ℕ
 risen count = min (count + 1) (2 ^ 64 - 1)
 
--- a count so many up, or at its last value; it never falls
+-- a count raised by `more`, or at its last value; it never falls
 abbrev pub grown : ℕ → ℕ → ℕ
 grown count more = min (count + more) (max count (2 ^ 64 - 1))
 
--- The count rose by one at least, or stands at its last value.
+-- The count rose by at least one, or is at its last value.
 abbrev pub HasRisen : ℕ → ℕ → Type 0
 HasRisen before now = risen before ≤ now
 
--- A read that answers so found the end: it gave nothing to a buffer of this size, which isn't empty.
+-- A read with this answer found the end: it gave nothing to a buffer of this size, which isn't empty.
 abbrev pub finds_end : {E : Type 0} → Result ℕ E → ℕ → Bool
 finds_end (Ok count) size = nat_eq count 0 && nat_lt 0 size
 finds_end (Err failed) size = false
 
--- A count never falls, is one up where a call of its kind failed, and stays where it was answered.
+-- A count never falls. It is one up if a call of its kind failed, and stays if the call was answered.
 pub record Counts {T E : Type 0} (before now : ℕ) (result : Result T E) : Type 0 where
   pub never_falls : before ≤ now
   pub failed : OnErr result (now ≡ risen before)
   pub answered : OnOk result (now ≡ before)
 
--- Nothing but the opened input, the list of opens and the count of opens changed.
+-- Only the opened input, the list of opens and the count of opens changed.
 pub record OnlyOpens (before now : Outside) : Type 0 where
   pub named : now.named ≡ before.named
   pub out : now.out ≡ before.out
@@ -68,7 +68,7 @@ pub record OnlyOpens (before now : Outside) : Type 0 where
   pub write_faults : now.write_faults ≡ before.write_faults
   pub read_failed : now.read_failed ≡ before.read_failed
 
--- Nothing but what is left of the input, and what is counted of reads, changed.
+-- Only the rest of the input, and what is counted of reads, changed.
 pub record OnlyReads (before now : Outside) : Type 0 where
   pub named : now.named ≡ before.named
   pub out : now.out ≡ before.out
@@ -77,7 +77,7 @@ pub record OnlyReads (before now : Outside) : Type 0 where
   pub open_faults : now.open_faults ≡ before.open_faults
   pub write_faults : now.write_faults ≡ before.write_faults
 
--- Nothing but the output and the count of writes changed.
+-- Only the output and the count of writes changed.
 pub record OnlyWritesOut (before now : Outside) : Type 0 where
   pub named : now.named ≡ before.named
   pub left : now.left ≡ before.left
@@ -89,7 +89,7 @@ pub record OnlyWritesOut (before now : Outside) : Type 0 where
   pub at_end : now.at_end ≡ before.at_end
   pub bytes_read : now.bytes_read ≡ before.bytes_read
 
--- Nothing but the report and the count of writes changed.
+-- Only the report and the count of writes changed.
 pub record OnlyWritesReport (before now : Outside) : Type 0 where
   pub named : now.named ≡ before.named
   pub left : now.left ≡ before.left

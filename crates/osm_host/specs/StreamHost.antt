@@ -1,11 +1,11 @@
--- What a host over an opener and standard streams means, and what its parts hold.
+-- What a host over an opener and standard streams is, and what its parts hold.
 use Rattle.std.specs.Prelude.{ℕ, List, [], ◌∷◌, None, Option, codes, if◌then◌else◌}
 use Rattle.std.specs.Str.{bytes_eq}
 use Rattle.osm_host.specs.Outside.{Opened, Outside, appended}
 use Rattle.osm_host.specs.Streams.{left_in, held_by}
 use Rattle.osm_host.specs.declared.stream_host.StreamHost.{StreamHost}
 
--- nothing is told, and its counts alone are known
+-- all contents are unknown, and only its counts are known
 abbrev pub stream_outside : {D R W I O E : Type 0} → StreamHost D R W I O E → Outside
 stream_outside host = record {
   named = λ _. None;
@@ -21,13 +21,13 @@ stream_outside host = record {
   bytes_read = host.bytes_read;
 }
 
--- ---- what its parts hold, where they tell it
+-- ---- what its parts hold, if it is known
 
 -- the opens that the opener was asked for
 abbrev pub files_asked : {D R W I O E : Type 0} → (D → Option (List Opened)) → StreamHost D R W I O E → Option (List Opened)
 files_asked asked host = asked host.opener
 
--- an open is asked of the opener, but for that of a standard stream, `-`
+-- the opener is asked for an open, unless it is that of a standard stream, `-`
 abbrev pub asked_behind : Option (List Opened) → List ℕ → Opened → Option (List Opened)
 asked_behind asked name opened = if bytes_eq name (codes "-") then asked else appended asked (opened ∷ [])
 

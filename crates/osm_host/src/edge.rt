@@ -10,7 +10,7 @@ use std::fs::OpenOptions;
 use std::io::{ErrorKind, Read, Write};
 use std::process::ExitCode;
 
-/// Takes bytes off a source, and says how many. A read that is interrupted is asked again.
+/// Takes bytes from a source, and says how many. An interrupted read is repeated.
 pub(crate) fn take<R: Read>(source: &mut R, buf: &mut [u8]) -> Result<usize, Failed>
     ensures count { IfOk result (λ n. n ≤ length buf.new) }
     ensures bytes { ReadConsumes (R.remaining source.old) (R.remaining source.new) result buf.new }
@@ -25,7 +25,7 @@ pub(crate) fn take<R: Read>(source: &mut R, buf: &mut [u8]) -> Result<usize, Fai
     Err(Failed)
 }
 
-/// Writes a prefix of a piece, at least one byte of it, and says how long it is. A write that is interrupted is asked again.
+/// Writes a prefix of a piece, at least one byte of it, and says how long it is. An interrupted write is repeated.
 pub(crate) fn put<W: Write>(sink: &mut W, bytes: &[u8]) -> Result<usize, Failed>
     ensures count { IfOk result (λ n. (0 < n) × (n ≤ length bytes.now)) }
     ensures bytes { WriteAppends (W.contents sink.old) (W.contents sink.new) result bytes.now }
@@ -40,7 +40,7 @@ pub(crate) fn put<W: Write>(sink: &mut W, bytes: &[u8]) -> Result<usize, Failed>
     Err(Failed)
 }
 
-/// How an output is opened: as a new file alone, or written over from its beginning.
+/// How an output is opened: only as a new file, or overwritten from its beginning.
 pub(crate) fn options_for(overwrite: bool) -> OpenOptions
     ensures write { asks_write result ≡ true }
     ensures new { asks_create_new result ≡ not overwrite }

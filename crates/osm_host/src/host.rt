@@ -3,11 +3,11 @@
 ghost use Rattle.std.specs.Prelude.{◌≡◌, ◌⊎◌, ◌<◌, ◌≤◌, ◌++◌, [], ◌∷◌, length, take, is_ok, is_some, not, false, IfOk, OnOk, OnErr, IfSome};
 ghost use Rattle.osm_host.specs.Outside.{Outside, input, output, appended, preceded, risen, grown, finds_end, Counts, OnlyOpens, OnlyReads, OnlyWritesOut, OnlyWritesReport};
 
-/// A call on the outside failed. Why isn't told: the counts of faults say of which kind it was.
+/// A call on the outside failed. It doesn't say why: the counts of faults say of which kind it was.
 #[derive(Clone, Copy, Debug, PartialEq, Eq)]
 pub struct Failed;
 
-/// How many calls of each kind have failed. A count stays at its last value, 2^64 - 1.
+/// How many calls of each kind have failed. A count saturates at 2^64 - 1.
 #[derive(Clone, Copy, Debug, PartialEq, Eq)]
 pub struct Faults {
     pub opens: u64,
@@ -15,7 +15,7 @@ pub struct Faults {
     pub writes: u64,
 }
 
-/// What a new host has counted.
+/// The counts of a new host.
 pub const NO_FAULTS: Faults = Faults {
     opens: 0,
     reads: 0,
@@ -33,20 +33,21 @@ pub fn note_fault(count: &mut u64) -> Failed
 
 /// The outside: one opened input, one output and one report.
 ///
-/// A host means the bytes that input names stand for, the bytes left of the opened input, the bytes out, the bytes of
-/// the report and the list of opens. It tells each of these or doesn't, and no call changes that. Whether it tells them
-/// or not, it counts the bytes that are taken off the opened input, and its faults: each call that fails counts once, as
-/// an open, a read or a write. It always tells whether the last read found the end of the input.
+/// A host has the content behind each input name, the unread rest of the opened input, the bytes of the output, those of the
+/// report, and the list of opens. Each of these is known or unknown to contracts, and no call changes which.
 ///
-/// No call touches what is another call's: each changes its own stream or the list of opens, and the count of its kind, and
-/// what a name stands for never changes.
+/// Always known are the count of bytes taken from the opened input, the counts of faults, and whether the last read found
+/// the end of the input. Each failed call counts once, as an open, a read or a write.
+///
+/// Each call changes only its own stream or the list of opens, and the count of its kind. The content behind a name never
+/// changes.
 pub trait Host {
     /// The streams, the list of opens, and the counts.
     ghost seen: { Self → Outside };
 
     /// Opens an input by its name, in place of the one before; `-` is standard input.
     ///
-    /// From then on what is left is what the name stands for. A failed open is listed or isn't.
+    /// From then on the unread rest is the content behind the name. A failed open is listed or isn't.
     fn open_input(&mut self, name: &str) -> Result<(), Failed>
         ensures listed { OnOk result ((seen self.new).opens
             ≡ appended (seen self.old).opens (input name.now ∷ [])) }
@@ -56,12 +57,12 @@ pub trait Host {
         ensures begins { OnOk result ((seen self.new).left ≡ (seen self.old).named name.now) }
         ensures none_read { OnOk result ((seen self.new).bytes_read ≡ 0) }
         ensures goes_on { OnOk result ((seen self.new).at_end ≡ false) }
-        // What is left is told after the call where it was told before.
+        // The unread rest is known after the call if it was known before.
         ensures told { is_some (seen self.new).left ≡ is_some (seen self.old).left }
         ensures cause { Counts (seen self.old).open_faults (seen self.new).open_faults result }
         ensures rest { OnlyOpens (seen self.old) (seen self.new) };
 
-    /// Takes bytes off the front of the opened input into the front of the buffer, and says how many.
+    /// Takes bytes from the front of the opened input into the front of the buffer, and says how many.
     ///
     /// 0 for a buffer that isn't empty means that nothing was left: that read is the last of this input. A failed read takes
     /// nothing.
@@ -100,8 +101,9 @@ pub trait Host {
         ensures cause { Counts (seen self.old).open_faults (seen self.new).open_faults result }
         ensures rest { OnlyOpens (seen self.old) (seen self.new) };
 
-    /// Writes a prefix of the piece to the output, and says how long it is: at least one byte of a piece that isn't
-    /// empty. A failed write writes nothing.
+    /// Writes a prefix of the piece to the output, and says how long it is.
+    ///
+    /// It is at least one byte of a piece that isn't empty. A failed write writes nothing.
     fn write_out(&mut self, bytes: &[u8]) -> Result<usize, Failed>
         ensures count { IfOk result (λ n. n ≤ length bytes.now) }
         ensures some { 0 < length bytes.now → IfOk result (λ n. 0 < n) }
@@ -112,15 +114,17 @@ pub trait Host {
         ensures cause { Counts (seen self.old).write_faults (seen self.new).write_faults result }
         ensures rest { OnlyWritesOut (seen self.old) (seen self.new) };
 
-    /// Has what was written to the output kept, where the output is a file. Nothing is written by it, and where it fails, that
-    /// counts as a write.
+    /// Makes the system keep what was written to the output, if the output is a file.
+    ///
+    /// It writes nothing. A failure counts as a failed write.
     fn keep_output(&mut self) -> Result<(), Failed>
         ensures written { (seen self.new).out ≡ (seen self.old).out }
         ensures cause { Counts (seen self.old).write_faults (seen self.new).write_faults result }
         ensures rest { OnlyWritesOut (seen self.old) (seen self.new) };
 
-    /// Writes a prefix of the piece to the report, and says how long it is: at least one byte of a piece that isn't
-    /// empty. A failed write writes nothing.
+    /// Writes a prefix of the piece to the report, and says how long it is.
+    ///
+    /// It is at least one byte of a piece that isn't empty. A failed write writes nothing.
     fn write_report(&mut self, bytes: &[u8]) -> Result<usize, Failed>
         ensures count { IfOk result (λ n. n ≤ length bytes.now) }
         ensures some { 0 < length bytes.now → IfOk result (λ n. 0 < n) }

@@ -1,7 +1,7 @@
 //! The outside of the program: an input, an output and a report, behind one trait.
 //!
-//! [`Host`] says what a program may rely on. [`StreamHost`] is the host over an opener of files and three streams, and
-//! [`StdHost`] is its instance at the files and standard streams of the process.
+//! The trait [`Host`] says what a program may rely on. A [`StreamHost`] is the host over an opener of files and three
+//! streams. Its instance at the files and standard streams of the process is [`StdHost`].
 #![tactic(auto)]
 
 mod edge;

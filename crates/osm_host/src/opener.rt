@@ -13,18 +13,18 @@ use std::os::fd::AsRawFd;
 
 /// Opens readers and writers by the names of files.
 pub trait Opener<R: Read, W: Write> {
-    /// The opens that were asked for, in order, where it tells them.
+    /// The opens that were asked for, in order, if they are known.
     ghost asked: { Self → Option (List Opened) };
 
-    /// Opens a file to be read.
+    /// Opens a file for reading.
     fn open_reader(&mut self, name: &str) -> Result<R, Failed>
         ensures { asked self.new ≡ appended (asked self.old) (input name.now ∷ []) };
 
-    /// Opens a file to be written: without `overwrite` a new one, never one that is there already.
+    /// Opens a file for writing: without `overwrite` a new one, never an existing one.
     fn open_writer(&mut self, name: &str, overwrite: bool) -> Result<W, Failed>
         ensures { asked self.new ≡ appended (asked self.old) (output name.now overwrite ∷ []) };
 
-    /// Has what was written to a file kept.
+    /// Makes the system keep what was written to a file.
     fn keep(&mut self, file: &mut W) -> Result<(), Failed>
         ensures asked { asked self.new ≡ asked self.old }
         ensures held { Keeps (W.contents file.old) (W.contents file.new) };
@@ -37,7 +37,7 @@ pub struct SystemFiles {
 }
 
 impl SystemFiles {
-    /// Those that this runtime opens.
+    /// The files that this runtime opens.
     pub(crate) fn new(rt: HostRuntime) -> SystemFiles {
         SystemFiles { rt }
     }
@@ -46,8 +46,9 @@ impl SystemFiles {
 /// The highest number of a standard stream.
 const LAST_STANDARD: i32 = 2;
 
-/// A file that was opened, under a number that no standard stream has. The system gives such a number to a file where the
-/// program begins with that stream closed.
+/// An opened file, under a number that no standard stream has.
+///
+/// The system gives such a number to a file if the program begins with that stream closed.
 fn beside_standard(opened: io::Result<File>) -> Result<File, Failed> {
     let Ok(file) = opened else {
         return Err(Failed);
@@ -69,7 +70,7 @@ impl Opener<File, File> for SystemFiles {
         beside_standard(options_for(overwrite).open(&self.rt, name))
     }
 
-    /// Of a file that can't be synchronized, as a pipe, nothing more is asked.
+    /// A file that can't be synchronized, such as a pipe, needs nothing more.
     fn keep(&mut self, file: &mut File) -> Result<(), Failed> {
         match file.sync_data() {
             Ok(()) => Ok(()),

@@ -1,4 +1,4 @@
-//! The host over the real files and standard streams. It tells nothing of what they hold.
+//! The host over the real files and standard streams. Their contents are unknown to contracts.
 
 use crate::opener::SystemFiles;
 use crate::stream_host::StreamHost;
@@ -8,7 +8,7 @@ use std::rt::{Stderr, Stdin, Stdout};
 /// The files and standard streams of the process: the trusted edge of the program. The report is standard error.
 pub type StdHost = StreamHost<SystemFiles, File, File, Stdin, Stdout, Stderr>;
 
-/// The host over the files and streams of this runtime, where nothing is open and nothing has failed.
+/// The host over the files and streams of this runtime, before anything is open or has failed.
 pub fn std_host(rt: HostRuntime) -> StdHost {
     let (input, output, report) = (rt.stdin(), rt.stdout(), rt.stderr());
     StreamHost::over(SystemFiles::new(rt), input, output, report)

@@ -1,4 +1,4 @@
-//! The host over an opener of files and three standard streams, whatever these are.
+//! The host over an opener of files and any three standard streams.
 
 ghost use Rattle.std.specs.Prelude.{◌≡◌, ◌⊎◌, ◌<◌, ◌≤◌, [], ◌∷◌, length, take, is_ok, is_some, not, true, false, codes, None, IfOk, OnOk, OnErr, IfSome};
 ghost use Rattle.std.specs.Io.KnownBytes.{ReadConsumes, WriteAppends};
@@ -28,8 +28,8 @@ pub(crate) enum Sink<W> {
 
 /// A host over an opener, a standard input, a standard output and a report.
 ///
-/// Where no input is opened, nothing is left to read; where no output is, it is standard output. As a host it tells nothing.
-/// The clauses of its own calls say more: what the parts of which it is made hold, where these tell it.
+/// If no input is opened, nothing is left to read; if no output is opened, it is standard output. As a host its contents are
+/// unknown. The clauses of its own calls say more: what its parts hold, if these make it known.
 #[derive(Drop)]
 pub struct StreamHost<D, R, W, I, O, E> {
     opener: D,
@@ -47,7 +47,7 @@ pub struct StreamHost<D, R, W, I, O, E> {
 impl<D, R, W, I, O, E> StreamHost<D, R, W, I, O, E> {
     ghost use Rattle.osm_host.specs.StreamHost.{stream_outside};
 
-    /// The host over these, where nothing is open and nothing has failed.
+    /// The host over these parts, before anything is open or has failed.
     pub fn over(opener: D, input: I, output: O, report: E) -> StreamHost<D, R, W, I, O, E>
         ensures { stream_outside result ≡ record {
           named = λ _. None;
@@ -78,7 +78,7 @@ impl<D, R, W, I, O, E> StreamHost<D, R, W, I, O, E> {
     }
 }
 
-/// Takes bytes off the source, or off standard input where that is the source.
+/// Takes bytes from the source, or from standard input if that is the source.
 fn take_off<R: Read, I: Read>(
     source: &mut Source<R>,
     standard: &mut I,
@@ -95,7 +95,7 @@ fn take_off<R: Read, I: Read>(
     }
 }
 
-/// Writes a prefix of a piece to the sink, or to standard output where that is the sink.
+/// Writes a prefix of a piece to the sink, or to standard output if that is the sink.
 fn put_into<W: Write, O: Write>(
     sink: &mut Sink<W>,
     standard: &mut O,

@@ -1,11 +1,11 @@
-//! Whole pieces, by as many writes as they take.
+//! Whole pieces, in as many writes as they take.
 
 ghost use Rattle.std.specs.Prelude.{◌≡◌, ◌<◌, ◌≤◌, ◌++◌, ℕ, List, length, take, OnOk, OnErr};
 ghost use Rattle.osm_host.specs.Outside.{appended, Counts, OnlyWritesOut, OnlyWritesReport};
 
 use crate::host::{Failed, Host};
 
-/// Writes all of the bytes to the output. Where a write fails, a prefix of them was written.
+/// Writes all of the bytes to the output. If a write fails, a prefix of them was written.
 ///
 /// It makes only writes to the output, and takes no memory.
 pub fn write_all_out<H: Host>(host: &mut H, bytes: &[u8]) -> Result<(), Failed>
@@ -23,7 +23,7 @@ pub fn write_all_out<H: Host>(host: &mut H, bytes: &[u8]) -> Result<(), Failed>
     Ok(())
 }
 
-/// Writes all of the bytes to the report. Where a write fails, a prefix of them was written.
+/// Writes all of the bytes to the report. If a write fails, a prefix of them was written.
 ///
 /// It makes only writes to the report, and takes no memory.
 pub fn write_all_report<H: Host>(host: &mut H, bytes: &[u8]) -> Result<(), Failed>

@@ -20,8 +20,7 @@ fault_in earlier (Ok None) = None
 fault_in earlier (Ok (Some object)) =
     if is_duplicate earlier object then Some (Duplicate (kind_of object) (id_of object)) else None
 
--- What is wrong with a line behind lines that told these objects: it is too long, has no reading, or tells a live object
--- again.
+-- What is wrong with a line after lines with these objects: it is too long, has no reading, or tells a live object again.
 abbrev pub line_fault : ℕ → List Object → List ℕ → Option InputFault
 line_fault longest earlier line =
     if nat_lt longest (length line) then Some TooLong else fault_in earlier (reading line)
@@ -32,7 +31,7 @@ AreGood longest lines =
     (before : List (List ℕ)) (line : List ℕ) (after : List (List ℕ)) → lines ≡ before ++ line ∷ after →
     line_fault longest (objects_told before) line ≡ None
 
--- The bad place: the first line with which something is wrong, by its number from 1, and what that is.
+-- The bad place: the first line with a fault, by its number from 1, and the fault.
 pub record IsBadPlace (longest : ℕ) (lines : List (List ℕ)) (number : ℕ) (fault : InputFault) : Type 0 where
   pub before : List (List ℕ)
   pub line : List ℕ

@@ -1,8 +1,8 @@
--- What no run changes of its host.
+-- What no run changes in its host.
 use Rattle.std.specs.Prelude.{◌≡◌, ◌≤◌, is_some}
 use Rattle.osm_host.specs.Outside.{Outside}
 
--- What the names stand for stays, what is left of the input is told where it was, and no count of faults falls.
+-- The contents behind names don't change, nor does whether the rest of the input is known. No count of faults falls.
 pub record KeepsNames (before after : Outside) : Type 0 where
   pub named : after.named ≡ before.named
   pub told : is_some after.left ≡ is_some before.left

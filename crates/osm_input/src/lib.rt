@@ -1,5 +1,6 @@
-//! An opened input, read piece by piece: into a store of its objects, with the lines of its bytes, its
-//! bad place and its limit; or as one text, with its limit.
+//! An opened input, read piece by piece: into a store of its objects, or as one text.
+//!
+//! A store has the lines of its bytes, its bad place and its limit; a text has its limit.
 #![tactic(auto)]
 
 mod fault;

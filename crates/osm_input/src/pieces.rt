@@ -11,7 +11,7 @@ use opl_reader::{FeedError, Lines};
 use osm_elements::Object;
 use osm_objects::{AddError, Store};
 
-/// Why an input isn't read whose lines were refused. A reader of lines that goes on has not ended.
+/// Why an input isn't read if its lines were refused. A reader of lines that goes on has not ended.
 fn refusal(error: FeedError) -> ReadError
     requires { error ≢ Ended }
     ensures { IsErrorOfRefusal error result }
@@ -30,7 +30,7 @@ fn refusal(error: FeedError) -> ReadError
     }
 }
 
-/// Adds the object that the line of this number tells, where it tells one.
+/// Adds the object that the line of this number tells, if it tells one.
 fn add_told(store: &mut Store, object: Option<Object>, number: u64) -> Result<(), ReadError>
     ensures added { OnOk result (store.new ≡ with_live store.old object) }
     ensures good { OnOk result (fault_in store.old (Ok object) ≡ None) }
@@ -52,8 +52,9 @@ fn add_told(store: &mut Store, object: Option<Object>, number: u64) -> Result<()
     }
 }
 
-/// Reads the bytes up to and with the first newline, or all, and says how many they are. The object
-/// of the line that ends there comes into the store.
+/// Reads the bytes up to and including the first newline, or all, and says how many there are.
+///
+/// The object of the line that ends there goes into the store.
 fn add_object(lines: &mut Lines, store: &mut Store, piece: &[u8]) -> Result<usize, ReadError>
     requires goes_on { lines.old.has_ended ≡ false }
     requires some { 0 < length piece.now }
@@ -74,8 +75,9 @@ fn add_object(lines: &mut Lines, store: &mut Store, piece: &[u8]) -> Result<usiz
     }
 }
 
-/// Reads a piece of an input: the objects of the lines that end in it come into the store, and what
-/// stands behind them is kept.
+/// Reads a piece of an input: the objects of the lines that end in it go into the store.
+///
+/// The bytes after these lines are kept.
 pub(crate) fn read_piece(
     lines: &mut Lines,
     store: &mut Store,
@@ -97,7 +99,7 @@ pub(crate) fn read_piece(
     Ok(())
 }
 
-/// Reads what no newline ended as the last line, and hands over the store.
+/// Reads the bytes after the last newline as the last line, and hands over the store.
 pub(crate) fn finish(mut lines: Lines, mut store: Store) -> Result<Store, ReadError>
     requires { lines.has_ended ≡ false }
     ensures { (longest : ℕ) (bytes : List ℕ) → HasReadLines longest bytes lines store

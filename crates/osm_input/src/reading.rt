@@ -30,11 +30,11 @@ pub enum ReadError {
 
 /// Reads the opened input to its end into a store, in pieces of at most 65,536 bytes.
 ///
-/// A line of more than `longest` bytes, one without a reading and one that tells a live object again
-/// are bad; the first of them is reported, as soon as the piece that shows it is taken. Where a read
-/// fails or the input passes `limit`, the line that no newline has ended yet counts only if it is too
-/// long already, and a bad line is reported before the fault. No more of the input is held than the
-/// store, a piece, and the line that no newline has ended yet.
+/// A line of more than `longest` bytes, one without a reading and one that tells a live object again are bad. The first of
+/// them is reported, as soon as the piece that shows it is taken.
+///
+/// If a read fails or the input exceeds `limit`, an unfinished line counts only if it is too long already. A bad line is
+/// reported before the fault. The only parts of the input that are held are the store, a piece, and the unfinished line.
 pub fn read_all<H: Host>(
     alloc: Global,
     host: &mut H,
@@ -44,25 +44,25 @@ pub fn read_all<H: Host>(
     requires limited { limit < 2 ^ 63 }
     // No read follows one that found the end.
     requires goes_on { (H.seen host.old).at_end ≡ false }
-    // What is answered is right for the bytes that were taken off the input: with a bad line fewer than
-    // 65,536 beyond the byte that ended it or made it too long, with TooMuchInput at most so many beyond
-    // the limit.
+    // The answer is right for the bytes that were taken from the input.
+    // For a bad line, fewer than 65,536 were taken beyond the byte that ended it or made it too long. For TooMuchInput, at
+    // most 65,536 were taken beyond the limit.
     ensures reads { Reads limit longest (H.seen host.old) (H.seen host.new) result }
-    // Where the host tells the input, it is right for the input.
+    // If the input is known, the answer is right for the input.
     ensures told { IfSome (H.seen host.old).left (λ bytes. IsReadOf limit longest bytes result) }
-    // A read failed, one alone and the last, where ReadFault is answered, and none with any other answer.
+    // If the answer is ReadFault, exactly one read failed, the last; with any other answer none failed.
     ensures at_once { ReadsOnce (H.seen host.old) (H.seen host.new) result }
-    // Where no read failed, the whole of it was read, or memory ran out.
+    // If no read failed, the whole of it was read, or memory ran out.
     ensures complete { ¬ HasRisen (H.seen host.old).read_faults (H.seen host.new).read_faults
         → IfSome (H.seen host.old).left (λ bytes. IsReadWhole limit longest bytes result) }
-    // What no run changes stays as it was.
+    // What no run changes stays unchanged.
     ensures keeps { KeepsNames (H.seen host.old) (H.seen host.new) }
     ensures rest { OnlyReads (H.seen host.old) (H.seen host.new) }
 {
     read_pieces(alloc, host, limit, longest)
 }
 
-/// As `read_all`, of which it says what was taken.
+/// As `read_all`, with clauses on what was taken.
 fn read_pieces<H: Host>(
     alloc: Global,
     host: &mut H,

@@ -22,31 +22,31 @@ pub enum TextError {
 
 /// Reads the opened input to its end, in pieces of at most 65,536 bytes, and hands over its bytes.
 ///
-/// Ok comes only where that end was reached within `limit` bytes, and TooMuchInput exactly where so
-/// many were taken and the host gave at least one more. No more of the input is held than the text and a piece.
+/// Ok comes only if that end was reached within `limit` bytes. TooMuchInput comes exactly if `limit` bytes were taken and
+/// the host gave at least one more. The only parts of the input that are held are the text and a piece.
 pub fn read_text<H: Host>(alloc: Global, host: &mut H, limit: u64) -> Result<Vec<u8>, TextError>
     requires limited { limit < 2 ^ 63 }
     // No read follows one that found the end.
     requires goes_on { (H.seen host.old).at_end ≡ false }
-    // What is answered is right for the bytes that were taken off the input: with TooMuchInput at most
-    // 65,536 beyond the limit.
+    // The answer is right for the bytes that were taken from the input.
+    // For TooMuchInput, at most 65,536 were taken beyond the limit.
     ensures reads { ReadsText limit (H.seen host.old) (H.seen host.new) (text_seen result) }
-    // Where the host tells the input, it is right for the input.
+    // If the input is known, the answer is right for the input.
     ensures told { IfSome (H.seen host.old).left
         (λ bytes. IsTextOf limit bytes (text_seen result)) }
-    // A read failed, one alone and the last, where ReadFault is answered, and none with any other answer.
+    // If the answer is ReadFault, exactly one read failed, the last; with any other answer none failed.
     ensures at_once { ReadsTextOnce (H.seen host.old) (H.seen host.new) (text_seen result) }
-    // Where no read failed, the whole of it was read, or memory ran out.
+    // If no read failed, the whole of it was read, or memory ran out.
     ensures complete { ¬ HasRisen (H.seen host.old).read_faults (H.seen host.new).read_faults
         → IfSome (H.seen host.old).left (λ bytes. IsTextWhole limit bytes (text_seen result)) }
-    // What no run changes stays as it was.
+    // What no run changes stays unchanged.
     ensures keeps { KeepsNames (H.seen host.old) (H.seen host.new) }
     ensures rest { OnlyReads (H.seen host.old) (H.seen host.new) }
 {
     read_whole(alloc, host, limit)
 }
 
-/// As `read_text`, of which it says what was taken.
+/// As `read_text`, with clauses on what was taken.
 fn read_whole<H: Host>(alloc: Global, host: &mut H, limit: u64) -> Result<Vec<u8>, TextError>
     requires limited { limit < 2 ^ 63 }
     requires goes_on { (H.seen host.old).at_end ≡ false }

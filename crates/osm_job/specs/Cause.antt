@@ -8,9 +8,9 @@ pub data Cause : Type 0 where
   by_itself : Cause
   -- its words are refused
   by_words : Cause
-  -- its input is refused, for what it holds
+  -- its input is refused for its contents
   by_input : Cause
-  -- its inputs are read to their ends, and what they hold allows no output
+  -- its inputs are read to their ends, and their contents allow no output
   by_verdict : Cause
   -- an open failed, a read, a write
   by_open : Cause

@@ -7,7 +7,7 @@ use Rattle.osm_job.specs.declared.ended.Ended.TheVariants.{Done, Warnings, Error
 use Rattle.osm_job.specs.declared.ended.Ended.TheVariants.{OpenFault, ReadFault, WriteFault, OutOfMemory}
 use Rattle.osm_job.specs.Cause.{Cause, by_itself, by_words, by_input, by_verdict, by_open, by_read, by_write, by_memory, cause_of}
 
--- the count of opens that failed, one up where that ends the run
+-- the count of failed opens, one up if that ends the run
 abbrev pub opens_failed : Cause → ℕ → ℕ
 opens_failed by_itself count = count
 opens_failed by_words count = count
@@ -18,7 +18,7 @@ opens_failed by_read count = count
 opens_failed by_write count = count
 opens_failed by_memory count = count
 
--- the count of writes that failed, that of the last line apart, one up where that ends the run
+-- the count of failed writes, without that of the last line, one up if that ends the run
 abbrev pub writes_failed : Cause → ℕ → ℕ
 writes_failed by_itself count = count
 writes_failed by_words count = count
@@ -29,7 +29,7 @@ writes_failed by_read count = count
 writes_failed by_write count = risen count
 writes_failed by_memory count = count
 
--- A read failed, one alone and the last, where ReadFault is answered. Else none did.
+-- If the answer is ReadFault, exactly one read failed, the last. Otherwise none did.
 abbrev pub ReadsFailed : Ended → Outside → Outside → Type 0
 ReadsFailed Done before after = after.read_faults ≡ before.read_faults
 ReadsFailed Warnings before after = after.read_faults ≡ before.read_faults
@@ -51,7 +51,7 @@ pub record CountsFaults (ended : Ended) (before after : Outside) : Type 0 where
   pub opens : after.open_faults ≡ opens_failed (cause_of ended) before.open_faults
   pub reads : ReadsFailed ended before after
 
--- No count of faults rose, or stands at its last value.
+-- No count of faults rose, or is at its last value.
 pub record NoFault (before after : Outside) : Type 0 where
   pub opens : HasRisen before.open_faults after.open_faults → ⊥
   pub reads : HasRisen before.read_faults after.read_faults → ⊥

@@ -1,5 +1,5 @@
--- The inputs of a job that are opened and read, before anything else is done: one that tells objects, or one behind which a
--- text is read.
+-- The inputs of a job that are opened and read before anything else is done.
+-- There is one that tells objects, and maybe a text that is read after it.
 use Rattle.std.specs.Prelude.{◌≡◌, ◌⊎◌, ℕ, List, [], ◌∷◌, IfSome, Result, Ok, Err, Vec}
 use Rattle.std.specs.declared.alloc.Global.{Global}
 use Rattle.osm_elements.specs.declared.object.Object.{Object}
@@ -24,7 +24,7 @@ pub record IsSilent (before now : Outside) : Type 0 where
   pub write_faults : now.write_faults ≡ before.write_faults
   pub keeps : KeepsNames before now
 
--- The input of this name alone was opened.
+-- Only the input of this name was opened.
 abbrev pub OpensOne : List ℕ → Outside → Outside → Type 0
 OpensOne name before now = now.opens ≡ appended before.opens (input name ∷ [])
 
@@ -37,7 +37,7 @@ pub record HasInput (name : List ℕ) (objects : List Object) (before now : Outs
   pub read_faults : now.read_faults ≡ before.read_faults
   pub silent : IsSilent before now
 
--- The input is refused for what it holds, as what was taken off it shows.
+-- The input is refused for its contents, as the bytes taken from it show.
 pub record RefusesInput (name : List ℕ) (error : ReadError) (before now : Outside) : Type 0 where
   pub right : IfSome (before.named name) (λ bytes. IsReadAs input_limit longest_line bytes (Err error))
   pub stopped : IsFileStopped name error before now
@@ -60,7 +60,7 @@ IsLack name ReadFault before now = IsFileStopped name read.ReadFault before now 
 IsLack name WriteFault before now = ⊥
 IsLack name OutOfMemory before now = OpensOne name before now
 
--- There are no objects of the input of this name: it isn't opened, isn't read, or is refused.
+-- There are no objects of the input of this name: it can't be opened, can't be read, or is refused.
 pub record LacksInput (name : List ℕ) (ended : Ended) (before now : Outside) : Type 0 where
   pub lack : IsLack name ended before now
   pub faults : CountsFaults ended before now
@@ -76,7 +76,7 @@ ReadsInput name before now (Err ended) = LacksInput name ended before now
 abbrev pub OpensBoth : List ℕ → List ℕ → Outside → Outside → Type 0
 OpensBoth file text before now = now.opens ≡ appended before.opens (input file ∷ input text ∷ [])
 
--- The input was opened and taken to its end, and these are its objects; then the text was, and these are its bytes.
+-- The input was opened and taken to its end, and these are its objects. Then the text was, and these are its bytes.
 pub record HasBoth (file text : List ℕ) (objects : List Object) (bytes : List ℕ) (before now : Outside) : Type 0 where
   pub right : IfSome (before.named file) (λ told. IsReadAs input_limit longest_line told (Ok objects))
   pub right_text : IfSome (before.named text) (λ told. IsTextAs input_limit told (Ok bytes))
@@ -86,13 +86,13 @@ pub record HasBoth (file text : List ℕ) (objects : List Object) (bytes : List 
   pub read_faults : now.read_faults ≡ before.read_faults
   pub silent : IsSilent before now
 
--- The text has too many bytes, as what was taken off it shows.
+-- The text has too many bytes, as the bytes taken from it show.
 pub record PassesLimit (file text : List ℕ) (limit : ℕ) (before now : Outside) : Type 0 where
   pub right : IfSome (before.named text) (λ told. IsTextAs input_limit told (Err (text_fault.TooMuchInput limit)))
   pub stopped : IsTextStopped file text (read.TooMuchInput limit) before now
   pub opens : OpensBoth file text before now
 
--- why there is no text behind an input that is read, by how the run ends
+-- why there is no text after an input that is read, by how the run ends
 abbrev pub IsTextLack : List ℕ → List ℕ → Ended → Outside → Outside → Type 0
 IsTextLack file text Done before now = ⊥
 IsTextLack file text Warnings before now = ⊥
@@ -109,14 +109,14 @@ IsTextLack file text ReadFault before now = IsTextStopped file text read.ReadFau
 IsTextLack file text WriteFault before now = ⊥
 IsTextLack file text OutOfMemory before now = OpensBoth file text before now
 
--- The input is read, and there is no text of this name: it isn't opened, isn't read, or has too many bytes.
+-- The input is read, and there is no text of this name: it can't be opened, can't be read, or has too many bytes.
 pub record LacksText (file text : List ℕ) (ended : Ended) (before now : Outside) : Type 0 where
   pub readable : IsReadableInput file before
   pub lack : IsTextLack file text ended before now
   pub faults : CountsFaults ended before now
   pub silent : IsSilent before now
 
--- There are no objects, or there is no text behind them.
+-- There are no objects, or there is no text after them.
 abbrev pub LacksBoth : List ℕ → List ℕ → Ended → Outside → Outside → Type 0
 LacksBoth file text ended before now = LacksInput file ended before now ⊎ LacksText file text ended before now
 

@@ -8,7 +8,7 @@ use Rattle.osm_job.specs.Taken.{IsFirstRead}
 abbrev pub opens_of : List (List ℕ) → List Opened → List Opened
 opens_of inputs outputs = map input inputs ++ outputs
 
--- The first n opens of a job were asked for, a second input only where the first is read, an output only once this holds.
+-- The first n opens of a job were asked for: a second input only if the first is read, an output only once `IsReady` holds.
 abbrev pub OpensFirst : List (List ℕ) → List Opened → (Outside → Outside → Type 0) → ℕ → Outside → Outside → Type 0
 OpensFirst inputs outputs IsReady n before after =
     (after.opens ≡ appended before.opens (take n (opens_of inputs outputs)))
@@ -20,8 +20,8 @@ OpensInputs inputs outputs before after =
     (n : ℕ) × (1 ≤ n) × (n ≤ length inputs)
     × (after.opens ≡ appended before.opens (take n (opens_of inputs outputs)))
 
--- The opens are those of the job, as far as it came; no output is asked for before this holds. A write fails only where the
--- job has an output.
+-- The opens are those of the job, as far as it got. No output is asked for before `IsReady` holds.
+-- A write fails only if the job has an output.
 abbrev pub OpensBy : List (List ℕ) → List Opened → (Outside → Outside → Type 0) → Cause → Outside → Outside → Type 0
 OpensBy inputs outputs IsReady by_itself before after = after.opens ≡ appended before.opens (opens_of inputs outputs)
 OpensBy inputs outputs IsReady by_words before after = ⊥

@@ -1,4 +1,4 @@
--- What a run writes, in order: bytes, each with where it goes.
+-- What a run writes, in order: bytes, each with its destination.
 use Rattle.std.specs.Prelude.{ℕ, List, [], ◌∷◌, Vec}
 use Rattle.std.specs.List.{flat_map}
 use Rattle.std.specs.declared.alloc.Global.{Global}

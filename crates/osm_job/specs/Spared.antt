@@ -1,4 +1,4 @@
--- What a job leaves of an output that it doesn't open.
+-- The output of a job that doesn't open it.
 use Rattle.std.specs.Prelude.{◌≡◌, ℕ, List, map, take}
 use Rattle.osm_host.specs.Outside.{Outside, appended, input}
 use Rattle.osm_job.specs.declared.ended.Ended.{Ended}
@@ -10,6 +10,6 @@ pub record IsSpared (inputs : List (List ℕ)) (before after : Outside) : Type 0
   pub opens : after.opens ≡ appended before.opens (map input (take opened inputs))
   pub out : after.out ≡ before.out
 
--- Where memory ran out, the output is spared.
+-- If memory ran out, the output is spared.
 abbrev pub SparesOutput : List (List ℕ) → Ended → Outside → Outside → Type 0
 SparesOutput inputs ended before after = cause_of ended ≡ by_memory → IsSpared inputs before after

@@ -1,4 +1,4 @@
--- Words of a private clause on a text that is opened and read behind an input. No public contract cites it.
+-- Words of a private clause on a text that is opened and read after an input. No public contract cites them.
 use Rattle.std.specs.Prelude.{◌≡◌, ◌⊎◌, ℕ, List, IfSome, Result, Ok, Err, Vec}
 use Rattle.std.specs.declared.alloc.Global.{Global}
 use Rattle.osm_host.specs.Outside.{Outside}
@@ -21,7 +21,7 @@ pub record HasContent (name content : List ℕ) (before now : Outside) : Type 0 
   pub read_faults : now.read_faults ≡ before.read_faults
   pub silent : IsSilent before now
 
--- The text has too many bytes, as what was taken off it shows.
+-- The text has too many bytes, as the bytes taken from it show.
 pub record Passes (name : List ℕ) (limit : ℕ) (before now : Outside) : Type 0 where
   pub right : IfSome (before.named name) (λ bytes. IsTextAs input_limit bytes (Err (text_fault.TooMuchInput limit)))
   pub took : TookText name (Err (text_fault.TooMuchInput limit)) before now
@@ -44,7 +44,7 @@ IsContentLack name ReadFault before now = TookText name (Err text_fault.ReadFaul
 IsContentLack name WriteFault before now = ⊥
 IsContentLack name OutOfMemory before now = OpensOne name before now
 
--- There is no text of this name: it isn't opened, isn't read, or has too many bytes.
+-- There is no text of this name: it can't be opened, can't be read, or has too many bytes.
 pub record LacksContent (name : List ℕ) (ended : Ended) (before now : Outside) : Type 0 where
   pub lack : IsContentLack name ended before now
   pub faults : CountsFaults ended before now

@@ -11,7 +11,7 @@ both None more = None
 both (Some first) None = None
 both (Some first) (Some more) = Some (first, more)
 
--- the texts that these names stand for, where each of them is told
+-- the texts that are the contents behind these names, if all of them are known
 abbrev pub told_texts : (List ℕ → Option (List ℕ)) → (names : List (List ℕ)) → Option (Texts names)
 told_texts named [] = Some tt
 told_texts named (name ∷ names) = both (named name) (told_texts named names)

@@ -1,4 +1,4 @@
--- What a job is to write in all, and how it is to end.
+-- What a job must write in all, and how it must end.
 use Rattle.std.specs.Prelude.{◌≡◌, ◌^◌, ℕ, List, [], Result, Ok, Err}
 use Rattle.osm_elements.specs.declared.object.Object.{Object}
 use Rattle.osm_input.specs.declared.reading.ReadError.{ReadError}
@@ -28,7 +28,7 @@ pub record Whole : Type 0 where
 abbrev pub silent : Ended → Whole
 silent ended = record { written = []; ended = ended }
 
--- how a run ends whose input isn't read
+-- how a run ends if its input can't be read
 abbrev pub ending_of_read : ReadError → Ended
 ending_of_read (BadInput line fault) = ended.BadInput line fault
 ending_of_read (TooMuchInput limit) = ended.TooMuchInput limit
@@ -47,7 +47,7 @@ pub record IsReadThen (IsRight : List Object → Whole → Type 0) (bytes : List
 
 -- ---- an input that is read as one text
 
--- how a run ends whose text isn't read
+-- how a run ends if its text can't be read
 abbrev pub text_ended : TextError → Ended
 text_ended (text_fault.TooMuchInput limit) = ended.TooMuchInput limit
 text_ended text_fault.ReadFault = ended.ReadFault

@@ -19,8 +19,9 @@ use Rattle.osm_job.specs.Written.{GoesOut, IsWrittenBy}
 abbrev pub IsReady : (inputs : List (List ℕ)) → (Texts inputs → Whole → Type 0) → (Outside → Outside → Type 0) → Outside → Outside → Type 0
 IsReady inputs IsRight TookAll before after = TookAll before after × GoesOut IsRight (told_texts before.named inputs)
 
--- A job ended so, but for its last line: a job of these inputs and outputs, for which this is right over the texts of its
--- inputs, and which has taken all of them where this holds. One without inputs takes nothing, however it ends.
+-- A job with these inputs and outputs ended like this, without its last line.
+-- `IsRight` is what is right over the texts of its inputs, and `TookAll` says that it has taken all of them. One without
+-- inputs takes nothing, however it ends.
 pub record Worked (inputs : List (List ℕ)) (outputs : List Opened) (IsRight : Texts inputs → Whole → Type 0) (TookAll : Outside → Outside → Type 0)
     (ended : Ended) (before after : Outside) : Type 0 where
   pub written : List Sent
@@ -41,25 +42,27 @@ pub record Worked (inputs : List (List ℕ)) (outputs : List Opened) (IsRight : 
 abbrev pub OverOne : (List Object → Whole → Type 0) → (name : List ℕ) → Texts (name ∷ []) → Whole → Type 0
 OverOne IsRight name texts whole = IsReadThen IsRight texts.0 whole
 
--- A job ended so that reads one input and then opens one output, and for which this is right over the objects of the input.
+-- A job ended like this that reads one input and then opens one output.
+-- `IsRight` is what is right for it over the objects of the input.
 abbrev pub ReadThenWrote : List ℕ → Opened → (List Object → Whole → Type 0) → Ended → Outside → Outside → Type 0
 ReadThenWrote name opened IsRight ended before after =
     Worked (name ∷ []) (opened ∷ []) (OverOne IsRight name) (TookInput name) ended before after
 
 -- ---- an input and a text, then any outputs
 
--- what is right over the objects of the one and the text of the other
+-- what is right over the objects of the input and over the text
 abbrev pub OverBoth : (List Object → List ℕ → Whole → Type 0) → (file text : List ℕ) → Texts (file ∷ text ∷ []) → Whole → Type 0
 OverBoth IsRight file text texts whole = IsReadThen (λ objects right. IsTextThen (IsRight objects) texts.1.0 right) texts.0 whole
 
--- A job ended so that reads an input and then a text, and for which this is right over its objects and the text.
+-- A job ended like this that reads an input and then a text.
+-- `IsRight` is what is right for it over its objects and the text.
 abbrev pub ReadBoth : List ℕ → List ℕ → List Opened → (List Object → List ℕ → Whole → Type 0) → Ended → Outside → Outside → Type 0
 ReadBoth file text outputs IsRight ended before after =
     Worked (file ∷ text ∷ []) outputs (OverBoth IsRight file text) (TookBoth file text) ended before after
 
 -- ---- an output alone
 
--- A job ended so that reads nothing and opens one output, and for which this is right.
+-- A job ended like this that reads nothing and opens one output. `IsRight` is what is right for it.
 abbrev pub WroteAlone : Opened → (Whole → Type 0) → Ended → Outside → Outside → Type 0
 WroteAlone opened IsRight ended before after = Worked [] (opened ∷ []) (λ texts whole. IsRight whole) TookNothing ended before after
 
@@ -69,7 +72,7 @@ WroteAlone opened IsRight ended before after = Worked [] (opened ∷ []) (λ tex
 abbrev pub IsBegun : (Whole → Type 0) → List Sent → Type 0
 IsBegun IsRight written = (whole : Whole) × IsRight whole × (cause_of whole.ended ≡ by_itself) × IsPrefix written whole.written
 
--- What was written is right, by what ended the job. Nothing is left to be opened or read.
+-- What was written is right, by what ended the job. Everything was opened and read before.
 abbrev pub IsWrittenOver : (Whole → Type 0) → Cause → Ended → List Sent → Type 0
 IsWrittenOver IsRight by_itself ended written = IsRight (record { written = written; ended = ended })
 IsWrittenOver IsRight by_words ended written = ⊥
@@ -80,7 +83,7 @@ IsWrittenOver IsRight by_read ended written = ⊥
 IsWrittenOver IsRight by_write ended written = IsBegun IsRight written
 IsWrittenOver IsRight by_memory ended written = IsBegun IsRight written
 
--- A job whose output is open ended so.
+-- A job whose output is open ended like this.
 pub record WroteOver (IsRight : Whole → Type 0) (ended : Ended) (before after : Outside) : Type 0 where
   pub written : List Sent
   pub right : IsWrittenOver IsRight (cause_of ended) ended written

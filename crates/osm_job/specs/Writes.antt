@@ -4,7 +4,7 @@ use Rattle.osm_host.specs.Outside.{Outside, appended, Counts}
 use Rattle.osm_job.specs.Prefix.{IsPrefix}
 use Rattle.osm_job.specs.Sent.{Sent, output_of, report_of}
 
--- Nothing but the output, the report and the count of writes changed.
+-- Only the output, the report and the count of writes changed.
 pub record OnlyWrites (before now : Outside) : Type 0 where
   pub named : now.named ≡ before.named
   pub left : now.left ≡ before.left
@@ -25,7 +25,7 @@ abbrev pub IsSent : {T E : Type 0} → List Sent → List Sent → Result T E �
 IsSent all written (Ok done) = written ≡ all
 IsSent all written (Err failed) = IsPrefix written all
 
--- All of this was written, or a prefix of it where a write failed.
+-- All of this was written, or a prefix of it if a write failed.
 pub record Wrote {T E : Type 0} (all : List Sent) (before after : Outside) (result : Result T E) : Type 0 where
   pub written : List Sent
   pub sent : IsSent all written result

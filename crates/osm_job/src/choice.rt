@@ -7,7 +7,7 @@ use opl_reader::read_keys;
 use osm_objects::{Choice, Keys};
 use std::alloc::{AllocError as OutOfMemory, Global};
 
-/// The keys that are written so; None where there are none to be read.
+/// The keys that a text writes; None if there are none to read.
 fn keys_of(alloc: Global, written: Option<&str>) -> Result<Option<Keys>, OutOfMemory>
     ensures { IfOk result (λ keys. keys ≡ keys_seen written.entry) }
 {

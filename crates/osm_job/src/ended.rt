@@ -13,7 +13,7 @@ pub enum Ended {
     Warnings,
     /// As Done, and the report has errors.
     Errors,
-    /// This candidate is the first that has problems, and the run was to stop there.
+    /// This candidate is the first with problems, and the run had to stop there.
     Stopped { candidate: ObjectRef },
     /// The words aren't taken.
     BadWords { cause: WordsFault },
@@ -21,7 +21,7 @@ pub enum Ended {
     BadInput { line: u64, fault: InputFault },
     /// The input has more bytes than this limit.
     TooMuchInput { limit: u64 },
-    /// What is asked for has more pieces than this: leaves are counted, before the output is opened.
+    /// The output would have more pieces than this: leaves are counted before the output is opened.
     TooManyPieces { most: u64 },
     /// This line of the text, counted from 1, is the first that isn't right.
     Refuted { line: u64 },

@@ -17,7 +17,7 @@ const INPUT_LIMIT: u64 = 1 << 36;
 /// The most bytes of a line.
 const LONGEST_LINE: u64 = 1 << 24;
 
-/// Opens the input of this name and reads it, or says how the run ends that can't.
+/// Opens the input of this name and reads it, or says how the run ends if it can't.
 pub fn read_input<H: Host>(alloc: Global, host: &mut H, name: &str) -> Result<Store, Ended>
     ensures { ReadsInput name.now (H.seen host.old) (H.seen host.new) result }
 {
@@ -30,7 +30,7 @@ pub fn read_input<H: Host>(alloc: Global, host: &mut H, name: &str) -> Result<St
     }
 }
 
-/// Opens FILE and reads it, then opens TEXT and reads all of its bytes, or says how the run ends that can't.
+/// Opens FILE and reads it, then opens TEXT and reads all of its bytes, or says how the run ends if it can't.
 pub fn read_both<H: Host>(
     alloc: Global,
     host: &mut H,
@@ -51,7 +51,7 @@ pub fn read_both<H: Host>(
     }
 }
 
-/// Opens the text of this name and reads it, or says how the run ends that can't.
+/// Opens the text of this name and reads it, or says how the run ends if it can't.
 fn read_content<H: Host>(alloc: Global, host: &mut H, name: &str) -> Result<Vec<u8>, Ended>
     ensures { ReadsContent name.now (H.seen host.old) (H.seen host.new) (content_seen result) }
 {
@@ -64,7 +64,7 @@ fn read_content<H: Host>(alloc: Global, host: &mut H, name: &str) -> Result<Vec<
     }
 }
 
-/// How a run ends whose input isn't read.
+/// How a run ends if its input can't be read.
 fn ending_of_read(error: ReadError) -> Ended
     ensures { result ≡ ending_of_read error }
 {
@@ -76,7 +76,7 @@ fn ending_of_read(error: ReadError) -> Ended
     }
 }
 
-/// How a run ends whose text isn't read.
+/// How a run ends if its text can't be read.
 fn text_ended(error: TextError) -> Ended
     ensures { result ≡ text_ended error }
 {

@@ -1,8 +1,9 @@
-//! What every job of the program says of itself, and the calls of which it is made: how a run ends, one list of what is
-//! written to the output and to the report, inputs that are opened and read before it, which objects are taken for
-//! candidates, and which calls on the host failed.
+//! What all jobs of the program share: how a run ends, and the calls that a job consists of.
 //!
-//! A job is a crate of its own: what it is to write in all, as a definition over the objects of its inputs, and its work.
+//! A run writes one list to the output and to the report. Its inputs are opened and read before that. The options say which
+//! objects are candidates, and counts say which calls on the host failed.
+//!
+//! A job is a crate of its own. It defines what it must write in all, over the objects of its inputs, and has its work.
 #![tactic(auto)]
 
 mod choice;

@@ -15,7 +15,7 @@ are_overlapping s t = overlaps (edge_of s) (edge_of t)
 unfoldable pub are_crossing : Seg → Seg → Bool
 are_crossing s t = crosses (edge_of s) (edge_of t)
 
--- how two segments conflict, if they do: two equal ones do not
+-- how two segments conflict, if they do: two equal ones don't
 abbrev pub conflict_of : Seg → Seg → Option Kind
 conflict_of s t =
     if is_eq (seg_cmp s t) then None

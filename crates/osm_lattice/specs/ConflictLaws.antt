@@ -4,11 +4,11 @@ use Rattle.osm_lattice.specs.declared.loc.Loc.{Loc}
 use Rattle.osm_lattice.specs.declared.seg.Seg.{Seg}
 use Rattle.osm_lattice.specs.Conflict.{conflict_of}
 
--- a conflict does not depend on which segment is named first
+-- a conflict doesn't depend on which segment is named first
 abbrev pub ConflictIsSymmetric : Type 0
 ConflictIsSymmetric = (s t : Seg) → conflict_of s t ≡ conflict_of t s
 
--- segments of which one begins above the other don't conflict
+-- two segments don't conflict if one begins above the other
 abbrev pub SegmentsApartAreClear : Type 0
 SegmentsApartAreClear = (s t : Seg) → s.b.y <ℤ t.a.y → conflict_of s t ≡ None
 
@@ -16,7 +16,7 @@ SegmentsApartAreClear = (s t : Seg) → s.b.y <ℤ t.a.y → conflict_of s t ≡
 abbrev pub reach : ℤ → ℤ → Loc → ℤ
 reach u v p = u *ℤ p.x +ℤ v *ℤ p.y
 
--- segments of which one lies up to a line, in some direction, and the other beyond it don't conflict
+-- two segments don't conflict if, in some direction, one lies up to a line and the other beyond it
 abbrev pub SegmentsPartedAreClear : Type 0
 SegmentsPartedAreClear =
     (u v m : ℤ) (s t : Seg) → reach u v s.a ≤ℤ m → reach u v s.b ≤ℤ m → m <ℤ reach u v t.a → m <ℤ reach u v t.b → conflict_of s t ≡ None

@@ -1,4 +1,4 @@
--- What the conflict of two segments says of the points that they share, as statements.
+-- What the conflict of two segments implies about the points that they share, as statements.
 use Rattle.std.specs.Prelude.{◌≡◌, ◌≢◌, ◌⊎◌, ◌↔◌, Some, None, pos, ◌*ℤ◌}
 use Rattle.osm_lattice.specs.declared.loc.Loc.{Loc}
 use Rattle.osm_lattice.specs.declared.seg.Seg.{Seg}
@@ -33,15 +33,15 @@ pub record ManyPoints (s t : Seg) : Type 0 where
   pub second : CommonPoint s t
   pub apart : AreSame s t first second → ⊥
 
--- two segments cross exactly where they share one such point
+-- two segments cross exactly if they share one such point
 abbrev pub CrossingHasOnePoint : Type 0
 CrossingHasOnePoint = (s t : Seg) → (conflict_of s t ≡ Some Crossing) ↔ OnePoint s t
 
--- they overlap exactly where they are two and share more than one point
+-- they overlap exactly if they differ and share more than one point
 abbrev pub OverlapHasManyPoints : Type 0
 OverlapHasManyPoints = (s t : Seg) → (conflict_of s t ≡ Some Overlap) ↔ ((s ≢ t) × ManyPoints s t)
 
--- two different ones have no conflict exactly where each point that they share is an end of both
+-- two different ones have no conflict exactly if each point that they share is an end of both
 abbrev pub ClearSegmentsMeetAtEnds : Type 0
 ClearSegmentsMeetAtEnds =
     (s t : Seg) → s ≢ t → (conflict_of s t ≡ None) ↔ ((p : CommonPoint s t) → IsEndOfBoth s t p)

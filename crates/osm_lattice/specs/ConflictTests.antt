@@ -1,4 +1,4 @@
--- The tests that conflicts are made of, on locations and segments: the plane's tests of their points and edges.
+-- The tests that define conflicts, on locations and segments: the plane's tests of their points and edges.
 use Rattle.std.specs.Prelude.{Bool, ◌&&◌, ◌||◌}
 use lib.Signed.{lt_z}
 use Rattle.plane.specs.Conflict.{is_inside, is_along, is_touched_by, is_parted_by}

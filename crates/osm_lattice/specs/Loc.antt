@@ -22,6 +22,6 @@ vector_of p = record { x = p.x; y = p.y }
 unfoldable pub step : Loc → Loc → Vector
 step p q = from_to (vector_of p) (vector_of q)
 
--- twice the signed area of the triangle a, b, c: positive where c lies left of the line from a to b
+-- twice the signed area of the triangle a, b, c: positive if c lies left of the line from a to b
 unfoldable pub orientation : Loc → Loc → Loc → ℤ
 orientation a b c = cross (from_to (vector_of a) (vector_of b)) (from_to (vector_of a) (vector_of c))

@@ -8,11 +8,11 @@ use Rattle.osm_lattice.specs.declared.frac.Frac.{Frac}
 use Rattle.osm_lattice.specs.Loc.{step}
 use Rattle.osm_lattice.specs.Seg.{edge_of}
 
--- a number by which the plane is multiplied so that the point (x, y) has whole coordinates
+-- a number to multiply the plane by, so that the point (x, y) has whole coordinates
 abbrev pub common_den : Frac → Frac → ℤ
 common_den x y = pos x.den *ℤ pos y.den
 
--- the point (x, y) in the plane multiplied by it
+-- the point (x, y) in the plane multiplied by that number
 abbrev pub whole_point : Frac → Frac → Vector
 whole_point x y = record { x = x.num *ℤ pos y.den; y = y.num *ℤ pos x.den }
 
@@ -27,6 +27,6 @@ pub record CommonPoint (s t : Seg) : Type 0 where
   pub on_first : IsOnSegment s x y
   pub on_second : IsOnSegment t x y
 
--- how two segments slant against each other: 0 where they are parallel
+-- how two segments slant against each other: 0 if they are parallel
 unfoldable pub slant : Seg → Seg → ℤ
 slant s t = cross (step s.a s.b) (step t.a t.b)

@@ -19,10 +19,10 @@ ordering_of Minus = Greater
 abbrev pub LocationOrderIsPointOrder : Type 0
 LocationOrderIsPointOrder = (p q : Loc) → loc_cmp p q ≡ ordering_of (order (vector_of p) (vector_of q))
 
--- two locations tie exactly where they are one
+-- two locations tie exactly if they are equal
 abbrev pub LocationOrderTellsApart : Type 0
 LocationOrderTellsApart = (p q : Loc) → (loc_cmp p q ≡ Equal) ↔ (p ≡ q)
 
--- two segments tie exactly where they are one
+-- two segments tie exactly if they are equal
 abbrev pub SegmentOrderTellsApart : Type 0
 SegmentOrderTellsApart = (s t : Seg) → (seg_cmp s t ≡ Equal) ↔ (s ≡ t)

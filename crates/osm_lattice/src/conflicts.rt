@@ -35,7 +35,7 @@ fn is_on_line(p: Loc, s: Seg) -> bool
     compare_to_line(p, s).is_eq()
 }
 
-/// One number is positive and the other negative.
+/// Whether one number is positive and the other negative.
 fn are_opposite(x: i128, y: i128) -> bool
     ensures { result ≡ are_opposite (sign x) (sign y) }
 {
@@ -88,7 +88,7 @@ fn are_crossing(s: Seg, t: Seg) -> bool
         && (is_touched_by(s, t) || is_touched_by(t, s) || is_parted_by(t, s) && is_parted_by(s, t))
 }
 
-/// Both ends of `t` lie strictly on one side of the line of `s`.
+/// Whether both ends of `t` lie strictly on one side of the line of `s`.
 #[tactic(auto, unfolding(crate::specs::ConflictTests::beside, crate::specs::Line::is_left_of_line, crate::specs::Line::is_right_of_line))]
 fn is_beside(t: Seg, s: Seg) -> bool
     ensures { result ≡ beside t s }
@@ -109,21 +109,23 @@ fn meet_at_end(s: Seg, t: Seg) -> bool
     is_end_of(s.a, t) || is_end_of(s.b, t)
 }
 
-/// One of the two begins above the other.
+/// Whether one of the two begins above the other.
 fn are_at_other_heights(s: Seg, t: Seg) -> bool
     ensures { result ≡ true → conflict_of s t ≡ None }
 {
     s.b.y < t.a.y || t.b.y < s.a.y
 }
 
-/// Each end of the first is left of both ends of the second.
+/// Whether each end of the first is left of both ends of the second.
 fn is_left_of(s: Seg, t: Seg) -> bool
     ensures { result ≡ true → west s t ≡ true }
 {
     s.a.x.max(s.b.x) < t.a.x.min(t.b.x)
 }
 
-/// Whether one of two segments lies above the other or beside it, as most do of which neither comes near the other: they have no conflict.
+/// Whether one of two segments lies above the other or beside it. Then they have no conflict.
+///
+/// Most segments that aren't near each other are apart.
 pub fn are_apart(s: Seg, t: Seg) -> bool
     ensures { result ≡ true → conflict_of s t ≡ None }
 {
@@ -136,7 +138,9 @@ pub fn are_apart(s: Seg, t: Seg) -> bool
     is_left_of(t, s)
 }
 
-/// Whether few tests tell that two segments have no conflict: of most that aren't apart and have none they do.
+/// Whether a few tests show that two segments have no conflict.
+///
+/// They show it for most segments that aren't apart and have none.
 fn are_clear_at_once(s: Seg, t: Seg) -> bool
     ensures { result ≡ true → conflict_of s t ≡ None }
 {
@@ -149,7 +153,7 @@ fn are_clear_at_once(s: Seg, t: Seg) -> bool
     is_beside(s, t)
 }
 
-/// What `conflict` gives, sooner where two segments aren't `are_apart`.
+/// What `conflict` gives, computed faster for two segments that aren't `are_apart`.
 pub fn conflict_of_near(s: Seg, t: Seg) -> Option<Kind>
     ensures { result ≡ conflict_of s t }
 {
@@ -167,9 +171,10 @@ pub fn conflict_of_near(s: Seg, t: Seg) -> Option<Kind>
     }
 }
 
-/// How two segments conflict, if they do. Two equal ones do not.
+/// How two segments conflict, if they do. Two equal ones don't.
 ///
-/// Ways: two of which one lies above or beside the other; two that few tests tell to be clear; all others by the definition.
+/// Ways: two of which one lies above or beside the other; two that a few tests show to be clear; all others by the
+/// definition.
 pub fn conflict(s: Seg, t: Seg) -> Option<Kind>
     ensures { result ≡ conflict_of s t }
 {

@@ -27,7 +27,7 @@ fn gcd(a: u128, b: u128) -> u128
 }
 
 impl Frac {
-    /// The fraction `num / den` in lowest terms. Neither part grows.
+    /// The fraction `num / den` in lowest terms. Neither part is larger than before.
     pub fn new(num: i128, den: u64) -> Frac
         requires { 1 ≤ den }
         ensures value { result.num *ℤ pos den ≡ num *ℤ pos result.den }
@@ -44,7 +44,7 @@ impl Frac {
 
 /// The nearest whole number, and at a half the greater one: floor((2 num + den) / (2 den)).
 ///
-/// Cut points and meeting points are printed so, in whole units of 1e-7 degree.
+/// Cut points and meeting points are printed like this, in whole units of 1e-7 degree.
 pub fn round(f: Frac) -> i64
     requires { unsigned_abs f.num ≤ 3_600_000_000 * f.den }
     ensures { result ≡ rounded f.num f.den }

@@ -4,33 +4,35 @@ ghost use Rattle.osm_lattice.specs.ConflictPoints.{CrossingHasOnePoint, OverlapH
 ghost use Rattle.osm_lattice.specs.MeetingLaws.{CrossingSegmentsMeet};
 ghost use Rattle.osm_lattice.specs.OrderLaws.{LocationOrderIsPointOrder, LocationOrderTellsApart, SegmentOrderTellsApart};
 
-/// Locations are in the order of the plane's points. Two locations, and two segments, tie exactly
-/// where they are one.
+/// Locations are in the order of the plane's points.
+///
+/// Two locations, and two segments, tie exactly if they are equal.
 pub fn orders_are_exact()
     ensures points { LocationOrderIsPointOrder }
     ensures locations { LocationOrderTellsApart }
     ensures segments { SegmentOrderTellsApart }
 {}
 
-/// How two segments conflict does not depend on which is named first.
+/// How two segments conflict doesn't depend on which is named first.
 pub fn conflicts_are_symmetric()
     ensures { ConflictIsSymmetric }
 {}
 
-/// Segments of which one begins above the other don't conflict, nor do those that any line parts.
+/// Two segments don't conflict if one begins above the other, or if any line separates them.
 pub fn segments_apart_are_clear()
     ensures heights { SegmentsApartAreClear }
     ensures lines { SegmentsPartedAreClear }
 {}
 
-/// Two segments that cross have a point in common: the one that `meeting` gives is a value, whether it is called or not.
+/// Two segments that cross have a point in common: what `meeting` gives exists, whether it is called or not.
 pub fn meetings_exist()
     ensures { CrossingSegmentsMeet }
 {}
 
-/// The points that two segments share tell how they conflict: they cross exactly where they share one point, which isn't
-/// an end of both; they overlap exactly where they are two and share more than one; two different ones have no conflict
-/// exactly where they share none but ends of both.
+/// How two segments conflict follows from the points that they share.
+///
+/// They cross exactly if they share one point, which isn't an end of both. They overlap exactly if they differ and share
+/// more than one point. Two different ones have no conflict exactly if they share no points but ends of both.
 pub fn conflicts_are_told_by_points()
     ensures crossing { CrossingHasOnePoint }
     ensures overlap { OverlapHasManyPoints }

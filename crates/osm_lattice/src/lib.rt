@@ -1,5 +1,6 @@
-//! Locations and segments of OpenStreetMap's coordinates, whole numbers in units of 1e-7 degree: their orders, how segments conflict,
-//! and the points in which they cross, exactly.
+//! Locations and segments of OpenStreetMap's coordinates, whole numbers in units of 1e-7 degree.
+//!
+//! It has their orders, how segments conflict, and the exact points at which they cross.
 #![tactic(auto)]
 
 mod conflicts;

@@ -32,8 +32,10 @@ fn slant(s: Seg, t: Seg) -> i128
     )
 }
 
-/// How far along `s` its meeting point with `t` lies: the lower end's distance from the line of `t`,
-/// against the distance between the two ends of `s` across that line.
+/// How far along `s` its meeting point with `t` lies.
+///
+/// It is the lower end's distance from the line of `t`, relative to the distance between the two ends of `s` across that
+/// line.
 fn share_of(s: Seg, t: Seg) -> Share
     requires { conflict_of s t ≡ Some Kind.Crossing }
     ensures above { result.above ≡ unsigned_abs (orientation t.a t.b s.a) }
@@ -45,7 +47,7 @@ fn share_of(s: Seg, t: Seg) -> Share
     }
 }
 
-/// The number that lies so far from `start` to `end`, times `at.den`.
+/// The number at the share `at` of the way from `start` to `end`, times `at.den`.
 pub fn between(start: i32, end: i32, at: Share) -> i128
     requires start_in { unsigned_abs start ≤ 1_800_000_000 }
     requires end_in { unsigned_abs end ≤ 1_800_000_000 }
@@ -72,7 +74,7 @@ fn y_at(s: Seg, at: Share) -> Frac
     Frac::new(between(s.a.y, s.b.y, at), at.den)
 }
 
-/// The point in which two segments cross: its x and its y, exactly. It is in the world.
+/// The point at which two segments cross: its x and its y, exactly. It is in the world.
 pub fn meeting(s: Seg, t: Seg) -> (Frac, Frac)
     requires { conflict_of s t ≡ Some Kind.Crossing }
     ensures first { IsOnSegment s result.0 result.1 }
@@ -89,8 +91,9 @@ pub fn meeting(s: Seg, t: Seg) -> (Frac, Frac)
     (x_at(s, at), y_at(s, at))
 }
 
-/// The segment that two overlapping segments share: from the greater of their lesser ends to the
-/// lesser of their greater ends.
+/// The segment that two overlapping segments share.
+///
+/// It runs from the greater of their lesser ends to the lesser of their greater ends.
 pub fn overlap(s: Seg, t: Seg) -> Seg
     requires { conflict_of s t ≡ Some Kind.Overlap }
     ensures begins { result.a ≡ ord_max loc_cmp s.a t.a }

@@ -32,7 +32,7 @@ fn product(a: i64, b: i64) -> i128
     i128::from(a) * i128::from(b)
 }
 
-/// The cross product of the steps `u` and `v`: positive where `v` points left of `u`.
+/// The cross product of the steps `u` and `v`: positive if `v` points left of `u`.
 pub fn cross(ux: i64, uy: i64, vx: i64, vy: i64) -> i128
     requires ux_in { unsigned_abs ux ≤ 3_600_000_000 }
     requires uy_in { unsigned_abs uy ≤ 1_800_000_000 }
@@ -44,8 +44,9 @@ pub fn cross(ux: i64, uy: i64, vx: i64, vy: i64) -> i128
     product(ux, vy) - product(uy, vx)
 }
 
-/// Twice the signed area of the triangle `a`, `b`, `c`: positive where `c` lies left of the line
-/// from `a` to `b`, negative where it lies right of it, and 0 on the line.
+/// Twice the signed area of the triangle `a`, `b`, `c`.
+///
+/// It is positive if `c` lies left of the line from `a` to `b`, negative if it lies right of it, and 0 on the line.
 #[tactic(auto, unfolding(crate::specs::Loc::orientation))]
 pub fn orient(a: Loc, b: Loc, c: Loc) -> i128
     ensures value { result ≡ orientation a b c }
@@ -62,7 +63,7 @@ fn short_product(a: i64, b: i64) -> i64
     a * b
 }
 
-/// Where `p` stands against the line of `s`: `Less` left of it, `Equal` on it, `Greater` right of it.
+/// Where `p` lies relative to the line of `s`: `Less` left of it, `Equal` on it, `Greater` right of it.
 ///
 /// Each of the two products whose difference is the orientation fits 64 bits, and comparing them needs no more.
 pub fn compare_to_line(p: Loc, s: Seg) -> Ordering

@@ -1,4 +1,4 @@
--- The anchors of a list of rings. No public contract cites it.
+-- The anchors of a list of rings. No public contract cites them.
 use Rattle.std.specs.Prelude.{List, [], get_or, length, ℕ, ◌<◌, ◌≡◌}
 use Rattle.osm_geom.specs.declared.edge.Edge.{Edge}
 use Rattle.osm_nest.specs.declared.ring_anchors.Anchors.{Anchors}
@@ -11,7 +11,7 @@ pub record IsAnchorAt (rs : List (List Edge)) (place : ℕ) (a : RingEdge) : Typ
   pub here : a.ring ≡ place
   pub anchor : IsAnchorOf a.edge.now (get_or rs place [])
 
--- those of all rings, and whether each is outer
+-- the anchors of all rings, and whether each is outer
 pub record AreAnchors (rs : List (List Edge)) (anchors : Anchors) : Type 0 where
   pub sized : length anchors.edges.items ≡ length rs
   pub each : (place : ℕ) (d : RingEdge) → place < length rs → IsAnchorAt rs place (get_or anchors.edges.items place d)

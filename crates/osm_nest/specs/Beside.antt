@@ -18,7 +18,7 @@ IsSloping e = spans e (lower_end e) ≡ true
 unfoldable pub is_right_of_lower_end : Edge → Edge → Bool
 is_right_of_lower_end a f = spans f (lower_end a) && is_lt (just_above_cmp a f (lower_end a))
 
--- just above the lower end of a, which both span, f is left of g
+-- f is left of g just above the lower end of a, whose height both span
 unfoldable pub is_nearer : Edge → Edge → Edge → Bool
 is_nearer a f g = is_lt (just_above_cmp f g (lower_end a))
 
@@ -44,7 +44,7 @@ abbrev pub nearest_so_far : Edge → Option Edge → Edge → Edge
 nearest_so_far a None next = next
 nearest_so_far a (Some e) next = cond (is_nearer a next e) next e
 
--- the same, where the next edge counts only right of a
+-- the same, but the next edge counts only if it is right of a
 abbrev pub nearer_edge : Edge → Option Edge → Edge → Option Edge
 nearer_edge a found next = cond (is_right_of_lower_end a next) (Some (nearest_so_far a found next)) found
 
@@ -54,7 +54,7 @@ pub record IsEncloser (rs : List (List Edge)) (a : Edge) (place : ℕ) : Type 0 
   pub outer : IsOuter (get_or rs place [])
   pub odd : is_around a (get_or rs place []) ≡ true
 
--- with the nearest of its edges
+-- an encloser with the nearest of its edges
 pub record IsEncloserBy (rs : List (List Edge)) (a : Edge) (c : Encloser) : Type 0 where
   pub candidate : IsEncloser rs a c.place
   pub edge : IsNearest a (get_or rs c.place []) c.edge
@@ -68,7 +68,7 @@ nearer_encloser a None next = next
 nearer_encloser a (Some b) None = Some b
 nearer_encloser a (Some b) (Some c) = cond (is_nearer a c.edge b.edge) (Some c) (Some b)
 
--- of the edges right of a of all candidates up to a place none is nearer
+-- no edge right of a, of all candidates up to a place, is nearer
 pub record IsNearestUpTo (rs : List (List Edge)) (a : Edge) (place : ℕ) (c : Encloser) : Type 0 where
   pub is : IsEncloserBy rs a c
   pub nearest : (k : ℕ) → k < place → IsEncloser rs a k → (f : Edge) → In f (get_or rs k []) → is_right_of_lower_end a f ≡ true → is_nearer a f c.edge ≡ false

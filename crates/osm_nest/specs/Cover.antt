@@ -18,7 +18,7 @@ covers_at q p polygon = not (is_even (count_at q p (edges_in polygon)))
 abbrev pub AreSided : List Polygon → Type 0
 AreSided polygons = All (λ (polygon : Polygon). IsSided (edges_in polygon)) polygons
 
--- at every point exactly one polygon covers it where the parity of the rings is odd there, and none where it is even
+-- exactly one polygon covers a point at which the parity of the rings is odd, and none covers one at which it is even
 abbrev pub CoverAsRings : List (List Edge) → List Polygon → Type 0
 CoverAsRings rs polygons =
     (q : ℤ) → sign q ≡ Plus → (p : Vector) → count_by (covers_at q p) polygons ≡ count_at q p (all_edges rs) % 2

@@ -1,4 +1,4 @@
--- Which ring directly encloses which, by places in a list. No public contract cites it.
+-- Which ring directly encloses which, by places in a list. No public contract cites this.
 use Rattle.std.specs.Prelude.{Bool, List, Option, None, Some, [], false, get_or, length, map, true, ℕ, ◌<◌, ◌≡◌, ◌↔◌}
 use Rattle.plane_lists.specs.Rings.Nesting.{EnclosesDirectly, IsInnerRing, IsOuterRing}
 use Rattle.plane_lists.specs.Lists.Ring.{segments_of}
@@ -21,7 +21,7 @@ pub record AreDirectEnclosers (rs : List (List Edge)) (enclosers : List (Option 
   pub sized : length enclosers ≡ length rs
   pub right : (place : ℕ) → place < length rs → IsDirectEncloser rs place (get_or enclosers place None)
 
--- the answer whether a ring is outer
+-- the answer to whether a ring is outer
 abbrev pub TellsOuter : Bool → List Edge → Type 0
 TellsOuter outer ring = ((outer ≡ true) ↔ IsOuter ring) × ((outer ≡ false) ↔ IsInner ring)
 

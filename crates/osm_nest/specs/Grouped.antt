@@ -1,4 +1,4 @@
--- Rings begun at their least nodes, in order, and gathered under the outer ones. No public contract cites it.
+-- Rings that begin at their least nodes, in order, and gathered under the outer ones. No public contract cites this.
 use Rattle.std.specs.Prelude.{All, AllPairs, Bool, List, None, Option, Some, [], false, map, nat_eq, remove, slice_index_or, suc, true, ℕ, length, ◌<◌, ◌∷◌, ◌≡◌, ◌≢◌}
 use Rattle.std.specs.List.{filter}
 use Rattle.std.specs.List.Sorted.{IsPermutation, IsSortedBy}
@@ -10,7 +10,7 @@ use Rattle.osm_nest.specs.Enclosers.{AreDirectEnclosers}
 use Rattle.osm_nest.specs.Nested.{BeginsBefore, IsFromLeast, edge_cmp}
 use Rattle.osm_nest.specs.RingLists.{AreRings}
 
--- rings begun at their least nodes where they stood
+-- rings turned in place so that they begin at their least nodes
 pub record AreTurned (rs turned : List (List Edge)) : Type 0 where
   pub sized : length turned ≡ length rs
   pub each : (place : ℕ) → place < length rs → IsFromLeast (slice_index_or rs place []) (slice_index_or turned place [])
@@ -27,17 +27,17 @@ abbrev pub placed_from : ℕ → List (List Edge) → List RingFromLeast
 placed_from n [] = []
 placed_from n (r ∷ rs) = record { place = n; ring = r } ∷ placed_from (suc n) rs
 
--- the ring at a place, begun at its least node
+-- the ring at a place, beginning at its least node
 pub record IsFromLeastAt (ring : List Edge) (place : ℕ) (begun : RingFromLeast) : Type 0 where
   pub here : begun.place ≡ place
   pub turned : IsFromLeast ring begun.ring
 
--- the first of the rings, each begun at its least node
+-- the first of the rings, each beginning at its least node
 pub record AreListed (rs : List (List Edge)) (count : ℕ) (listed : List RingFromLeast) : Type 0 where
   pub sized : length listed ≡ count
   pub each : (place : ℕ) (d : RingFromLeast) → place < count → IsFromLeastAt (slice_index_or rs place []) place (slice_index_or listed place d)
 
--- all of the rings, each begun at its least node, in order
+-- all of the rings, each beginning at its least node, in order
 pub record AreSortedFromLeast (rs : List (List Edge)) (begun : List RingFromLeast) : Type 0 where
   pub listed : List RingFromLeast
   pub are : AreListed rs (length rs) listed
@@ -52,11 +52,11 @@ abbrev pub has_encloser : ℕ → Option ℕ → Bool
 has_encloser place None = false
 has_encloser place (Some encloser) = nat_eq encloser place
 
--- a ring without a encloser is outer
+-- a ring without an encloser is outer
 abbrev pub stands_first : List (Option ℕ) → RingFromLeast → Bool
 stands_first enclosers b = has_no_encloser (slice_index_or enclosers b.place None)
 
--- one whose encloser is at the place stands under the ring there
+-- a ring whose encloser is at the place is under the ring there
 abbrev pub stands_under : List (Option ℕ) → ℕ → RingFromLeast → Bool
 stands_under enclosers place b = has_encloser place (slice_index_or enclosers b.place None)
 
@@ -66,15 +66,15 @@ rings_under enclosers bs place = map (λ (b : RingFromLeast). b.ring) (filter (s
 abbrev pub polygon_at : List (Option ℕ) → List RingFromLeast → RingFromLeast → Polygon
 polygon_at enclosers bs b = record { outer = b.ring; inners = rings_under enclosers bs b.place }
 
--- each outer ring with the rings that stand under it
+-- each outer ring with the rings under it
 abbrev pub polygons_of : List (Option ℕ) → List RingFromLeast → List Polygon
 polygons_of enclosers bs = map (polygon_at enclosers bs) (filter (stands_first enclosers) bs)
 
--- an outer ring with what stands under its place
+-- an outer ring with the rings under its place
 abbrev pub with_under : List (List (List Edge)) → RingFromLeast → Polygon
 with_under under b = record { outer = b.ring; inners = slice_index_or under b.place [] }
 
--- each begun ring stands at a place of its own
+-- each begun ring has a place of its own
 pub record ArePlaced (count : ℕ) (begun : List RingFromLeast) : Type 0 where
   pub within : All (λ (b : RingFromLeast). b.place < count) begun
   pub once : AllPairs (λ (b c : RingFromLeast). b.place ≢ c.place) begun
@@ -83,7 +83,7 @@ pub record ArePlaced (count : ℕ) (begun : List RingFromLeast) : Type 0 where
 abbrev pub AreWithin : List (Option ℕ) → Type 0
 AreWithin enclosers = (place encloser : ℕ) → slice_index_or enclosers place None ≡ Some encloser → encloser < length enclosers
 
--- each outer ring with those that it directly encloses, all begun at their least nodes and in order
+-- each outer ring with those that it directly encloses, all beginning at their least nodes and in order
 pub record IsGrouping (rs : List (List Edge)) (polygons : List Polygon) : Type 0 where
   pub enclosers : List (Option ℕ)
   pub begun : List RingFromLeast

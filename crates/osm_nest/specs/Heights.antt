@@ -1,4 +1,4 @@
--- Which whole heights an edge spans. No public contract cites it.
+-- Which whole heights an edge spans. No public contract cites this.
 use Rattle.std.specs.Prelude.{ℤ, ◌≡◌}
 use Rattle.osm_geom.specs.declared.edge.Edge.{Edge}
 use Rattle.osm_geom.specs.Coordinate.{ceiling_of}

@@ -20,7 +20,7 @@ RingsMayBeNested = (es : List Edge) (rs : List (List Edge)) → IsSided es → A
 abbrev pub RingsRunAlongSegments : Type 0
 RingsRunAlongSegments = (es : List Edge) (rs : List (List Edge)) → All IsWholeSegment es → AreRingsOf es rs → All (All IsWholeSegment) rs
 
--- of rings to be nested none has a conflict among its own edges, so that each is outer or inner
+-- a ring that may be nested has no conflict among its own edges, so it is outer or inner
 abbrev pub RingsAreClear : Type 0
 RingsAreClear = (rs : List (List Edge)) → AreRings rs → All AreConflictFree rs
 
@@ -28,7 +28,7 @@ RingsAreClear = (rs : List (List Edge)) → AreRings rs → All AreConflictFree 
 abbrev pub NestingExists : Type 0
 NestingExists = (rs : List (List Edge)) → AreRings rs → (polygons : List Polygon) × AreNested rs polygons
 
--- every polygon of nested rings has an outer ring first and inner ones under it, as their anchors tell
+-- every polygon of nested rings has an outer ring first and inner ones under it, as their anchors show
 abbrev pub NestedHaveKinds : Type 0
 NestedHaveKinds = (rs : List (List Edge)) (polygons : List Polygon) → AreRings rs → AreNested rs polygons → All HasKinds polygons
 
@@ -43,10 +43,10 @@ NestedAreAround = (rs : List (List Edge)) (polygons : List Polygon) → AreRings
 abbrev pub NestedAreSided : Type 0
 NestedAreSided = (rs : List (List Edge)) (polygons : List Polygon) → AreRings rs → AreNested rs polygons → AreSided polygons
 
--- and at every point one polygon covers it where the parity of the rings is odd there, and none where it is even
+-- exactly one polygon covers a point at which the parity of the rings is odd, and none covers one at which it is even
 abbrev pub NestedCoverAsRings : Type 0
 NestedCoverAsRings = (rs : List (List Edge)) (polygons : List Polygon) → AreRings rs → AreNested rs polygons → CoverAsRings rs polygons
 
--- the rings that a list of edges is cut into count as the list, at every point
+-- the rings that a list of edges is cut into count as the list does, at every point
 abbrev pub RingsCountAsEdges : Type 0
 RingsCountAsEdges = (es : List Edge) (rs : List (List Edge)) → AreRingsOf es rs → (q : ℤ) (p : Vector) → count_at q p (all_edges rs) ≡ count_at q p es

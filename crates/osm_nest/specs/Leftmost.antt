@@ -1,4 +1,4 @@
--- Which of two edges comes first as the anchor of a ring, and places round a ring. No public contract cites it.
+-- Which of two edges comes first as the anchor of a ring, and places round a ring. No public contract cites this.
 use Rattle.std.specs.Prelude.{Bool, false, not, true, ℕ, ◌&&◌, ◌||◌, ◌+◌, ◌<◌, ◌≡◌}
 use Rattle.std.specs.declared.cmp.Ordering.{Ordering}
 use Rattle.std.specs.declared.cmp.Ordering.TheVariants.{Equal, Greater, Less}
@@ -8,7 +8,7 @@ use Rattle.osm_geom.specs.JustAbove.{just_above_cmp}
 use Rattle.osm_geom.specs.Point.{point_cmp}
 use Rattle.osm_geom.specs.Span.{lower_end, spans}
 
--- f runs to the left of e, where both have one lower end; a horizontal edge runs to the right of all others
+-- f runs to the left of e, if both have one lower end; a horizontal edge runs to the right of all others
 unfoldable pub forks_left : Edge → Edge → Bool
 forks_left e f = spans f (lower_end e) && (not (spans e (lower_end e)) || is_lt (just_above_cmp f e (lower_end e)))
 
@@ -22,7 +22,7 @@ first_of Greater left = false
 unfoldable pub comes_first : Edge → Edge → Bool
 comes_first e f = first_of (point_cmp (lower_end e) (lower_end f)) (forks_left e f)
 
--- the place before another one, round a list
+-- the place before another one, going round a list
 pub record IsPlaceBefore (size place before : ℕ) : Type 0 where
   pub inside : before < size
   pub first : place ≡ 0 → before + 1 ≡ size

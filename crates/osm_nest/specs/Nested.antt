@@ -15,17 +15,18 @@ use Rattle.osm_rings.specs.RingList.{AreRingsOf}
 use Rattle.osm_rings.specs.Turned.{BeginsLeast}
 use Rattle.osm_geom.specs.InPlane.Multiple.{product_of_denominators}
 
--- each polygon is an outer ring of the list and inner rings that it directly encloses, and each ring stands in exactly one polygon, there once
+-- Each polygon is an outer ring of the list and inner rings that it directly encloses.
+-- Each ring is in exactly one polygon, once.
 pub record ArePolygonsOf (rs : List (List Edge)) (polygons : List Polygon) : Type 0 where
   pub each : All (λ polygon. IsPolygon (whole_rings rs) (polygon_times (product_of_denominators (all_edges rs)) polygon)) polygons
   pub once : (f : List Edge → ℕ) → sum_by f (rings_of polygons) ≡ sum_by f rs
 
--- the first ring of the polygon is outer, told by its anchor, and the others are inner
+-- the first ring of the polygon is outer, by its anchor, and the others are inner
 pub record HasKinds (polygon : Polygon) : Type 0 where
   pub outer : IsOuter polygon.outer
   pub inners : All IsInner polygon.inners
 
--- the cyclic list of edges begun with the one that leaves its least node
+-- the cyclic list of edges, beginning with the one that leaves its least node
 pub record IsFromLeast (ring begun : List Edge) : Type 0 where
   pub turned : IsRotated ring begun
   pub least : BeginsLeast begun
@@ -54,7 +55,7 @@ pub record AreInOrder (polygons : List Polygon) : Type 0 where
   pub outers : AllPairs (λ (p q : Polygon). BeginsBefore p.outer q.outer) polygons
   pub inners : All (λ (p : Polygon). AllPairs BeginsBefore p.inners) polygons
 
--- the polygons of the rings, in order, each ring begun at its least node
+-- the polygons of the rings, in order, each ring beginning at its least node
 pub record AreNested (rs : List (List Edge)) (nested : List Polygon) : Type 0 where
   pub polygons : List Polygon
   pub of_rings : ArePolygonsOf rs polygons

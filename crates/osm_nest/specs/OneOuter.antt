@@ -1,4 +1,4 @@
--- Rings of which one alone is outer. No public contract cites it.
+-- Rings of which exactly one is outer. No public contract cites this.
 use Rattle.std.specs.Prelude.{List, Option, [], get_or, length, nat_eq, not, suc, zero, ℕ, ◌<◌, ◌∷◌, ◌≢◌, ◌≤◌}
 use Rattle.std.specs.Bool.{then_some}
 use Rattle.osm_geom.specs.declared.edge.Edge.{Edge}
@@ -8,7 +8,7 @@ use Rattle.osm_nest.specs.Outer.{IsInner, IsOuter}
 abbrev pub AreInnerBetween : List (List Edge) → ℕ → ℕ → Type 0
 AreInnerBetween rs from to = (k : ℕ) → from ≤ k → k < to → IsInner (get_or rs k [])
 
--- the first outer ring stands at the place
+-- the first outer ring is at the place
 pub record IsFirstOuter (rs : List (List Edge)) (place : ℕ) : Type 0 where
   pub inside : place < length rs
   pub outer : IsOuter (get_or rs place [])
@@ -24,7 +24,7 @@ pub record IsOnlyOuter (rs : List (List Edge)) (place : ℕ) : Type 0 where
 abbrev pub encloser_under : ℕ → ℕ → Option ℕ
 encloser_under only place = then_some (not (nat_eq place only)) only
 
--- the same for so many places from one on
+-- the same for this many places from one on
 abbrev pub enclosers_under : ℕ → ℕ → ℕ → List (Option ℕ)
 enclosers_under only from zero = []
 enclosers_under only from (suc n) = encloser_under only from ∷ enclosers_under only (suc from) n

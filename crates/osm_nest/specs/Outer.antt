@@ -1,4 +1,4 @@
--- Outer and inner rings, told by the anchor.
+-- Outer and inner rings, by the anchor.
 use Rattle.std.specs.Prelude.{Bool, List, cond, false, pos, true, ℤ, ◌%◌, ◌-ℤ◌, ◌≡◌}
 use Rattle.plane.specs.Edge.{segment_of}
 use Rattle.plane.specs.Sign.{Plus, sign}
@@ -15,7 +15,7 @@ use Rattle.osm_geom.specs.InPlane.Sided.{count_at, signed_count_at}
 abbrev pub AreConflictFree : List Edge → Type 0
 AreConflictFree es = IsConflictFree (segments_of (whole_edges es))
 
--- e stands at the least node of the ring and is the leftmost of the edges that rise from there
+-- e is at the least node of the ring and is the leftmost of the edges that rise from there
 pub record IsAnchorOf (e : Edge) (ring : List Edge) : Type 0 where
   pub member : In e ring
   pub anchor : IsAnchor (segment_of (edge_times (product_of_denominators ring) e)) (segments_of (whole_edges ring))
@@ -26,14 +26,14 @@ pub record AnchorRuns (up : Bool) (ring : List Edge) : Type 0 where
   pub is_anchor : IsAnchorOf anchor ring
   pub direction : runs_up anchor ≡ up
 
--- a ring is outer where its anchor runs down, inner where it runs up
+-- a ring is outer if its anchor runs down, and inner if it runs up
 abbrev pub IsOuter : List Edge → Type 0
 IsOuter ring = AnchorRuns false ring
 
 abbrev pub IsInner : List Edge → Type 0
 IsInner ring = AnchorRuns true ring
 
--- at every point p.x / q, p.y / q the signed count of a ring is its parity where it is outer, and the negative of it where it is inner
+-- at every point p.x / q, p.y / q the signed count of an outer ring is its parity, and that of an inner ring is the negative of it
 abbrev pub WindsBySign : Bool → List Edge → Type 0
 WindsBySign outer ring =
     (q : ℤ) → sign q ≡ Plus → (p : Vector) →

@@ -1,4 +1,4 @@
--- Between which x an edge lies. No public contract cites it.
+-- The range of x in which an edge lies. No public contract cites this.
 use Rattle.std.specs.Prelude.{ℤ}
 use Rattle.osm_geom.specs.declared.edge.Edge.{Edge}
 use Rattle.osm_geom.specs.Coordinate.{AtLeast, AtMost}

@@ -1,4 +1,4 @@
--- The edges of rings in a sweep. No public contract cites it.
+-- The edges of rings in a sweep. No public contract cites them.
 use Rattle.std.specs.Prelude.{All, Bool, List, None, Option, Some, [], false, get_or, insert, length, slice_index_or, suc, take, true, zero, ℕ, ◌⊎◌, ◌&&◌, ◌+◌, ◌-◌, ◌<◌, ◌≡◌, ◌≤◌}
 use Rattle.std.specs.Ordering.{is_lt}
 use Rattle.lists.specs.Member.{In}
@@ -12,7 +12,7 @@ use Rattle.osm_nest.specs.Beside.{IsSloping}
 use Rattle.osm_nest.specs.Enclosers.{IsDirectEncloser}
 use Rattle.osm_nest.specs.Outer.{IsAnchorOf, IsInner, IsOuter}
 
--- an edge of the ring at its place, which isn't horizontal
+-- an edge of the ring at its place that isn't horizontal
 pub record IsSlopingEdge (rs : List (List Edge)) (i : RingEdge) : Type 0 where
   pub inside : i.ring < length rs
   pub member : In i.edge.now (get_or rs i.ring [])
@@ -45,7 +45,7 @@ PutRow at items from zero old new = new ≡ old
 PutRow at items from (suc n) old new =
     (between : List RingEdge) × (i : RingEdge) × (i ≡ slice_index_or items (from + n) i) × (is_within at i ≡ true) × PutRow at items from n old between × IsPut at i between new
 
--- from a place up to another those that span the height were put, and the next one doesn't span it
+-- the edges from a place up to another, which span the height, were put, and the next one doesn't span it
 pub record IsRowPut (at : Point) (items : List RingEdge) (from to : ℕ) (old new : List RingEdge) : Type 0 where
   pub within : to ≤ length items
   pub size : ℕ
@@ -53,7 +53,7 @@ pub record IsRowPut (at : Point) (items : List RingEdge) (from to : ℕ) (old ne
   pub put : PutRow at items from size old new
   pub ended : (d : RingEdge) → to < length items → is_within at (slice_index_or items to d) ≡ false
 
--- e stands before an edge that isn't left of a, and is left of a
+-- e comes just before an edge that isn't left of a, and e is left of a
 pub record HasNeighbour (a : Edge) (status : List RingEdge) (e : RingEdge) : Type 0 where
   pub place : ℕ
   pub inside : place + 1 < length status
@@ -71,7 +71,7 @@ pub record IsOneMore (i : RingEdge) (old new : List RingEdge) : Type 0 where
   pub has : In i new
   pub only : (x : RingEdge) → In x new → (In x old) ⊎ (x ≡ i)
 
--- of the first n edges of the ring at a place those that aren't horizontal were added
+-- of the first n edges of the ring at a place, those that aren't horizontal were added
 pub record AreRingEdges (place n : ℕ) (ring : List Edge) (old new : List RingEdge) : Type 0 where
   pub kept : (i : RingEdge) → In i old → In i new
   pub added : (i : RingEdge) → In i new → (In i old) ⊎ ((i.ring ≡ place) × In i.edge.now (take n ring) × IsSloping i.edge.now)
@@ -92,12 +92,12 @@ pub record KnownEnclosersAreRight (rs : List (List Edge)) (known : List (Option 
   pub sized : length known ≡ length rs
   pub right : (place encloser : ℕ) → place < length rs → get_or known place None ≡ Some encloser → IsDirectEncloser rs place (Some encloser)
 
--- an edge tells the encloser of an anchor's ring: it is the edge's ring, if that is outer, else the encloser of that ring
+-- An edge shows the encloser of an anchor's ring: it is the edge's ring, if that is outer, and otherwise the encloser of that ring.
 pub record IsTeller (rs : List (List Edge)) (a e : RingEdge) : Type 0 where
   pub inside : e.ring < length rs
   pub outer : IsOuter (get_or rs e.ring []) → IsDirectEncloser rs a.ring (Some e.ring)
   pub inner : (encloser : ℕ) → IsDirectEncloser rs e.ring (Some encloser) → IsDirectEncloser rs a.ring (Some encloser)
 
--- the neighbour of an anchor in the status does
+-- the neighbour of an anchor in the status shows its encloser
 abbrev pub TellsEncloser : List (List Edge) → List RingEdge → RingEdge → Type 0
 TellsEncloser rs status a = (e : RingEdge) → HasNeighbour a.edge.now status e → IsTeller rs a e

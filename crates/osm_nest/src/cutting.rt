@@ -12,7 +12,7 @@ use osm_geom::Edge;
 use osm_rings::rings;
 use std::alloc::{AllocError as OutOfMemory, Global};
 
-/// The polygons of sided edges: cut into rings, each inner ring put under the outer one that directly encloses it.
+/// The polygons of sided edges, cut into rings. Each inner ring is put under the outer one that directly encloses it.
 pub fn polygons(alloc: Global, edges: &[Edge]) -> Result<Polygons, OutOfMemory>
     requires { IsSided edges.now }
     ensures polygons { IfOk result (λ polygons. ArePolygons edges.now polygons) }

@@ -13,7 +13,8 @@ use std::alloc::{AllocError as OutOfMemory, Global};
 
 /// For each inner ring the place of the outer ring that directly encloses it; for an outer ring None.
 ///
-/// Ways: up to 8 inner rings by a search (few); all others by a sweep (sweep), and where it doesn't tell by the search (few).
+/// Ways: up to 8 inner rings by a search (few); all others by a sweep (sweep), or by the search (few) if the sweep doesn't
+/// find it.
 pub(crate) fn direct_enclosers(
     alloc: Global,
     rings: &[Ring],
@@ -30,7 +31,7 @@ pub(crate) fn direct_enclosers(
     Ok(enclosers)
 }
 
-/// With so few inner rings the plain search over all edges is faster than a sweep.
+/// For at most this many inner rings the plain search over all edges is faster than a sweep.
 const FEW: usize = 8;
 
 /// Whether few of the rings are inner.
@@ -38,7 +39,7 @@ fn are_few_inner(anchors: &Anchors) -> bool {
     anchors.outer.iter().filter(|outer| !**outer).count() <= FEW
 }
 
-/// For each ring the place of its direct encloser, where it is found for all rings at once.
+/// The place of the direct encloser of each ring, if it was found for all rings at once.
 fn known_enclosers(
     alloc: Global,
     rings: &[Ring],
@@ -54,7 +55,7 @@ fn known_enclosers(
     swept_enclosers(alloc, rings, anchors)
 }
 
-/// The direct encloser that is known, else the one that the plain search finds.
+/// The known direct encloser, or else the one that the plain search finds.
 fn direct_encloser(
     rings: &[Ring],
     anchors: &Anchors,

@@ -1,4 +1,4 @@
-//! Nesting where few rings are inner, or one alone is outer.
+//! Nesting if few rings are inner, or only one is outer.
 
 pub mod one_outer;
 pub mod search;

@@ -30,7 +30,7 @@ fn no_rings(alloc: Global, places: usize) -> Result<Vec<Rings>, OutOfMemory>
     Ok(under)
 }
 
-/// Puts one ring at the end of the outer ones, or of those that stand under its encloser.
+/// Adds one ring to the end of the outer ones, or of those under its encloser.
 fn place_ring(
     outers: &mut Vec<RingFromLeast>,
     under: &mut Vec<Rings>,
@@ -53,7 +53,7 @@ fn place_ring(
     Ok(())
 }
 
-/// Each outer ring with those that stand under it.
+/// Each outer ring with the rings under it.
 fn with_inner_rings(
     alloc: Global,
     outers: Vec<RingFromLeast>,
@@ -74,7 +74,7 @@ fn with_inner_rings(
     Ok(polygons)
 }
 
-/// The rings that have no encloser, each with those whose encloser it is.
+/// The rings without an encloser, each with the rings that it encloses.
 fn polygons_of(
     alloc: Global,
     rings: Vec<RingFromLeast>,
@@ -108,7 +108,7 @@ fn polygon_of_all(
     Ok(polygons)
 }
 
-/// Each outer ring with those whose encloser it is.
+/// Each outer ring with the rings that it encloses.
 fn under_enclosers(
     alloc: Global,
     rings: Vec<Ring>,
@@ -122,7 +122,7 @@ fn under_enclosers(
     polygons_of(alloc, begun, enclosers)
 }
 
-/// The only outer ring with all others. Mostly they are in order.
+/// The only outer ring with all others. Mostly these are in order.
 fn under_one(alloc: Global, rings: Rings, only: usize) -> Result<Polygons, OutOfMemory>
     requires rings { AreRings rings }
     requires only { IsOnlyOuter rings only }
@@ -138,7 +138,7 @@ fn under_one(alloc: Global, rings: Rings, only: usize) -> Result<Polygons, OutOf
 
 /// Each outer ring with those that it directly encloses.
 ///
-/// Ways: rings of which one alone is outer (few); all others by direct enclosers.
+/// Ways: rings of which exactly one is outer (few); all others by direct enclosers.
 fn group(alloc: Global, rings: Rings) -> Result<Polygons, OutOfMemory>
     requires { AreRings rings }
     ensures { IfOk result (λ v. IsGrouping rings v) }
@@ -163,9 +163,11 @@ fn copied(alloc: Global, rings: &[Ring]) -> Result<Rings, OutOfMemory>
 
 /// The polygons of a ring list.
 ///
-/// Each ring stands in exactly one polygon, there once, begun at its least node: an outer ring first in a polygon of its own, an inner ring
-/// under the outer one that directly encloses it. Polygons by their outer rings, and inner rings, are in order of their least
-/// nodes, and then of the next. Where all edges run along whole segments, so do those of the polygons. The error is want of memory.
+/// Each ring is in exactly one polygon, once, and begins at its least node. An outer ring comes first in a polygon of its
+/// own, and an inner ring is under the outer one that directly encloses it. Polygons, by their outer rings, and inner rings
+/// are in order of their least nodes, and then of the next.
+///
+/// If all edges run along whole segments, so do those of the polygons. Fails only if memory runs out.
 pub fn nest(alloc: Global, rings: &[Ring]) -> Result<Polygons, OutOfMemory>
     requires { AreRings rings.now }
     ensures nested { IfOk result (λ polygons. AreNested rings.now polygons) }
@@ -178,7 +180,7 @@ pub fn nest(alloc: Global, rings: &[Ring]) -> Result<Polygons, OutOfMemory>
     nest_rings(alloc, copied(alloc, rings)?)
 }
 
-/// What `nest` gives of rings that aren't needed any more: they are turned where they stand.
+/// What `nest` gives for rings that aren't needed afterwards: they are turned in place.
 pub fn nest_rings(alloc: Global, rings: Rings) -> Result<Polygons, OutOfMemory>
     requires { AreRings rings }
     ensures nested { IfOk result (λ polygons. AreNested rings polygons) }

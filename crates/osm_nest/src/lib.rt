@@ -1,4 +1,4 @@
-//! Which rings are outer and which inner, and which inner ring lies under which outer one: the polygons of a ring list.
+//! Which rings are outer and which inner, and which inner ring is under which outer one: the polygons of a ring list.
 #![tactic(auto)]
 
 mod cutting;

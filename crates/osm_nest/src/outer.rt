@@ -1,4 +1,4 @@
-//! Outer and inner rings, told by their anchors.
+//! Outer and inner rings, by their anchors.
 ghost use Rattle.std.specs.Prelude.{◌≡◌, ◌<◌, ◌&&◌, ◌||◌, ◌↔◌, cond, false, not, true};
 ghost use Rattle.std.specs.Ordering.{is_lt};
 ghost use Rattle.std.specs.declared.cmp.Ordering.TheVariants.{Equal};
@@ -13,10 +13,10 @@ use osm_geom::{Edge, Point, compare_just_above, order_points, spans_height};
 use osm_rings::Ring;
 use std::cmp::Ordering;
 
-/// Whether a ring, of whose edges no two conflict, is outer: its anchor runs down. Else it is inner.
+/// Whether a ring without conflicts among its edges is outer: its anchor runs down. Otherwise it is inner.
 ///
-/// The anchor stands at the ring's least node, and is the leftmost of the edges that rise from there. Round an outer ring
-/// the inside is on the left, so that it counts 1 at each point that it covers; an inner one counts -1.
+/// The anchor is at the ring's least node, and is the leftmost of the edges that rise from there. Round an outer ring the
+/// inside is on the left, so it counts 1 at each point that it covers; an inner one counts -1.
 pub fn is_outer(ring: &Ring) -> bool
     requires { AreConflictFree ring.now }
     ensures anchor { (result ≡ true) ↔ IsOuter ring.now }
@@ -26,7 +26,7 @@ pub fn is_outer(ring: &Ring) -> bool
     !is_rising(anchor(ring))
 }
 
-/// The place before another one, round a list of so many items.
+/// The place before another one, going round a list of `size` items.
 fn place_before(place: usize, size: usize) -> usize
     requires { place < size }
     ensures { IsPlaceBefore size place result }
@@ -34,7 +34,7 @@ fn place_before(place: usize, size: usize) -> usize
     if place == 0 { size - 1 } else { place - 1 }
 }
 
-/// The anchor of a ring: of the two edges at its least node the one that comes first.
+/// The anchor of a ring: the first of the two edges at its least node.
 pub(crate) fn anchor(ring: &Ring) -> &Edge
     requires { AreConflictFree ring.now }
     ensures anchor { IsAnchorOf result.now ring.now }
@@ -46,14 +46,14 @@ pub(crate) fn anchor(ring: &Ring) -> &Edge
     first_of(&edges[before], &edges[least])
 }
 
-/// Of two edges the one that comes first.
+/// The one of two edges that comes first.
 pub(crate) fn first_of<'a>(e: &'a Edge, f: &'a Edge) -> &'a Edge
     ensures { result.now ≡ cond (comes_first e.now f.now) e.now f.now }
 {
     if comes_first(e, f) { e } else { f }
 }
 
-/// Whether `e` has the lesser lower end, or the same as `f`, which doesn't run to the left of it.
+/// Whether `e` has the lesser lower end, or the same one as `f`, and `f` doesn't run to the left of it.
 #[tactic(auto, unfolding(crate::specs::Leftmost::comes_first))]
 fn comes_first(e: &Edge, f: &Edge) -> bool
     ensures { result ≡ comes_first e.now f.now }
@@ -65,7 +65,7 @@ fn comes_first(e: &Edge, f: &Edge) -> bool
     }
 }
 
-/// Of two edges with one lower end, whether `f` runs to the left of `e`. A horizontal one runs to the right of all others.
+/// Whether `f` runs to the left of `e`, if both have one lower end. A horizontal edge runs to the right of all others.
 #[tactic(auto, unfolding(crate::specs::Leftmost::forks_left))]
 fn forks_left(e: &Edge, f: &Edge) -> bool
     ensures { result ≡ forks_left e.now f.now }

@@ -8,7 +8,7 @@ use crate::sweep::ring_edge::RingEdge;
 use osm_rings::Ring;
 use std::alloc::{AllocError as OutOfMemory, Global};
 
-/// At the place of each ring its anchor, and whether the ring is outer.
+/// The anchor of each ring, at its place, and whether the ring is outer.
 #[derive(Drop)]
 pub(crate) struct Anchors<'a> {
     pub edges: Vec<RingEdge<'a>>,

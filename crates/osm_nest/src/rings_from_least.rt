@@ -1,4 +1,4 @@
-//! Rings begun at their least nodes, in order.
+//! Rings that begin at their least nodes, in order.
 ghost use Rattle.std.specs.Prelude.{◌≡◌, IfOk, IsPermutation, length, slice_index_or, true};
 ghost use Rattle.osm_geom.specs.declared.edge.Edge.{Edge};
 ghost use Rattle.osm_nest.specs.Grouped.{AreTurned, ArePlacesSorted, AreStartsSorted, placed_from};
@@ -9,7 +9,7 @@ use osm_rings::Ring;
 use std::alloc::{AllocError as OutOfMemory, Global};
 use std::cmp::Ordering;
 
-/// A ring begun at its least node, and its place in the list that was given.
+/// A ring that begins at its least node, and its place in the given list.
 #[derive(Drop)]
 pub struct RingFromLeast {
     pub place: usize,
@@ -34,7 +34,7 @@ fn compare_rings(ring: &Ring, other: &Ring) -> Ordering
     compare_starts(&ring.as_slice()[0], &other.as_slice()[0])
 }
 
-/// The rings, each begun at its least node where it stands.
+/// The rings, each turned in place so that it begins at its least node.
 pub(crate) fn turned(rings: Vec<Ring>) -> Vec<Ring>
     ensures { AreTurned rings.items result.items }
 {

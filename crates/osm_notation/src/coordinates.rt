@@ -23,7 +23,7 @@ pub fn put_coordinate(text: &mut Vec<u8>, v: i64) -> Result<(), OutOfMemory>
     Ok(())
 }
 
-/// Adds two coordinates and what stands between them.
+/// Adds two coordinates and the byte between them.
 pub fn put_both(text: &mut Vec<u8>, x: i64, between: u8, y: i64) -> Result<(), OutOfMemory>
     ensures text { OnOk result (text.new.items
         ≡ text.old.items ++ units_text x ++ between ∷ units_text y) }

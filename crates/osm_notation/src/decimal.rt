@@ -8,7 +8,7 @@ use itoa::Buffer;
 /// The units of a degree.
 const UNITS: u64 = 10_000_000;
 
-/// Puts a byte at a place of the buffer, and gives the place behind it.
+/// Puts a byte at a place of the buffer, and gives the place after it.
 pub(crate) fn put_byte(buf: &mut [u8], at: usize, byte: u8) -> usize
     requires { at < length buf.old }
     ensures end { result ≡ at + 1 }
@@ -18,7 +18,7 @@ pub(crate) fn put_byte(buf: &mut [u8], at: usize, byte: u8) -> usize
     at + 1
 }
 
-/// Puts bytes at a place of the buffer, and gives the place behind them.
+/// Puts bytes at a place of the buffer, and gives the place after them.
 fn put(buf: &mut [u8], at: usize, bytes: &[u8]) -> usize
     requires { at + length bytes.now ≤ length buf.old }
     ensures end { result ≡ at + length bytes.now }
@@ -37,7 +37,7 @@ fn digit(number: u64) -> u8
     b'0' + number as u8
 }
 
-/// The seven decimals of a rest. Each division is by a number that the compiler knows.
+/// The seven decimals of a remainder. Each division is by a number that the compiler knows.
 #[tactic(auto, unfolding(crate::specs::Decimal::last_digits))]
 fn decimals(rest: u64) -> [u8; 7]
     requires { rest < 10 ^ 7 }
@@ -59,7 +59,7 @@ fn decimals(rest: u64) -> [u8; 7]
     ]
 }
 
-/// How many digits there are without the zeros at their end.
+/// How many digits there are without trailing zeros.
 #[tactic(auto, using(crate::proofs::DecimalLemmas::zero_less))]
 fn len_without_end_zeros(digits: &[u8]) -> usize
     ensures bound { result ≤ length digits.now }
@@ -73,8 +73,9 @@ fn len_without_end_zeros(digits: &[u8]) -> usize
     len
 }
 
-/// Puts all seven decimals, of which the first `len` are to stand, and gives the place behind these: so the compiler
-/// knows how many bytes it copies.
+/// Puts all seven decimals, and gives the place after the first `len`, which count.
+///
+/// So the compiler knows how many bytes it copies.
 fn put_front(buf: &mut [u8], at: usize, decimals: [u8; 7], len: usize) -> usize
     requires room { at + 7 ≤ length buf.old }
     requires few { len ≤ 7 }
@@ -85,7 +86,7 @@ fn put_front(buf: &mut [u8], at: usize, decimals: [u8; 7], len: usize) -> usize
     at + len
 }
 
-/// Puts a point and decimals, where a rest stands.
+/// Puts a point and decimals, if there is a remainder.
 #[tactic(auto, unfolding(crate::specs::Decimal::fraction_text))]
 fn put_fraction(buf: &mut [u8], at: usize, rest: u64) -> usize
     requires room { at + 8 ≤ length buf.old }
@@ -125,7 +126,7 @@ fn put_magnitude(buf: &mut [u8], at: usize, magnitude: u64) -> usize
     put_fraction(buf, point, magnitude % UNITS)
 }
 
-/// Puts the decimal of a number of units at a place of the buffer, and gives the place behind it.
+/// Puts the decimal of a number of units at a place of the buffer, and gives the place after it.
 pub(crate) fn put_units(buf: &mut [u8], at: usize, v: i64) -> usize
     requires { at + 22 ≤ length buf.old }
     ensures short { result ≤ at + 22 }

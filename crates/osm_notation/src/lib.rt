@@ -1,6 +1,6 @@
 //! How numbers, points and strings are spelled: decimals of coordinates, whole numbers, written strings.
 //!
-//! What adds to a text may have added a part where memory runs out: what was there still stands in front.
+//! A function that adds to a text may have added only a part if memory runs out. What was there before stays in front.
 #![tactic(auto)]
 
 mod coordinates;

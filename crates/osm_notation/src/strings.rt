@@ -9,14 +9,14 @@ ghost use Rattle.osm_notation.specs.Kept.{KeepsFront};
 use osm_elements::Text;
 use std::alloc::{AllocError as OutOfMemory, Global};
 
-/// Whether a byte is a character that stands for itself.
+/// Whether a byte is a character that is written as itself.
 fn is_plain(c: u8) -> bool
     ensures { result ≡ is_plain c }
 {
     b'!' <= c && c <= b'~' && !(c == b'%' || c == b',' || c == b'=' || c == b'@')
 }
 
-/// How many bytes at the front are characters that stand for themselves.
+/// How many bytes at the front are characters that are written as themselves.
 fn plain_len(bytes: &[u8]) -> usize
     ensures bound { result ≤ length bytes.now }
     ensures plain { list_all is_plain (take result bytes.now) ≡ true }
@@ -59,7 +59,7 @@ fn put_hexadecimal(bytes: &mut Vec<u8>, number: u32) -> Result<(), OutOfMemory>
     Ok(())
 }
 
-/// Adds a character that doesn't stand for itself: its code point between percent signs.
+/// Adds a character that isn't written as itself: its code point between percent signs.
 fn put_escape(bytes: &mut Vec<u8>, c: char) -> Result<(), OutOfMemory>
     ensures text { OnOk result (bytes.new.items
         ≡ bytes.old.items ++ 37 ∷ digits 16 false c ++ 37 ∷ []) }
@@ -71,7 +71,7 @@ fn put_escape(bytes: &mut Vec<u8>, c: char) -> Result<(), OutOfMemory>
     Ok(())
 }
 
-/// Adds the first character of a text, which doesn't stand for itself, and gives the text behind it.
+/// Adds the first character of a text, which isn't written as itself, and gives the text after it.
 fn put_first<'a>(bytes: &mut Vec<u8>, text: &'a str) -> Result<&'a str, OutOfMemory>
     requires { 0 < length text.now → is_plain (slice_index text.now 0) ≡ false }
     ensures text { IfOk result (λ rest. bytes.new.items ++ written rest.now
@@ -106,7 +106,7 @@ pub fn put_written(bytes: &mut Vec<u8>, text: &str) -> Result<(), OutOfMemory>
 
 /// The written string of a text, the spelling of strings in OPL (its manual calls it escaping).
 ///
-/// The characters from `!` to `~` stand for themselves, except `%`, `,`, `=` and `@`. Each other character is `%`, its
+/// The characters from `!` to `~` are written as themselves, except `%`, `,`, `=` and `@`. Each other character is `%`, its
 /// code point in lower case hexadecimal without leading zeros, and `%`.
 pub fn written(alloc: Global, text: &Text) -> Result<Vec<u8>, OutOfMemory>
     ensures { IfOk result (λ bytes. bytes.items ≡ written text.now) }

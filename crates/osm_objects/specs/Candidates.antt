@@ -25,17 +25,17 @@ is_closed refs = nat_lt 0 (length refs) && option_eq int_eq (node_named (slice_g
 abbrev pub without_lists : Bool → Choice
 without_lists keep_untagged = record { keep_untagged = keep_untagged; area_keys = None; linear_keys = None }
 
--- it has no key of the list, where that is given
+-- it has no key of the list, if the list is given
 abbrev pub has_no_key : Option (List (List ℕ)) → List Tag → Bool
 has_no_key None tags = true
 has_no_key (Some keys) tags = not (has_one_of keys tags)
 
--- it has a key of the list, where that is given
+-- it has a key of the list, if the list is given
 abbrev pub has_key_or_any : Option (List (List ℕ)) → List Tag → Bool
 has_key_or_any None tags = true
 has_key_or_any (Some keys) tags = has_one_of keys tags
 
--- tagged area=yes; or not tagged area=no, without a linear key and with an area key, where these are given
+-- tagged area=yes; or not tagged area=no, without a linear key and with an area key, if these are given
 abbrev pub is_area_way : Choice → List Tag → Bool
 is_area_way choice tags =
     is_tagged (codes "area") (codes "yes") tags
@@ -43,7 +43,8 @@ is_area_way choice tags =
 
 -- ---- candidates
 
--- a closed way with at least four references that is an area by its tags, or a relation tagged type=multipolygon or type=boundary
+-- a closed way with at least four references that is an area by its tags, or a relation tagged type=multipolygon or
+-- type=boundary
 unfoldable pub may_have_area : Choice → Object → Bool
 may_have_area choice (object.Node id live tags place) = false
 may_have_area choice (object.Way id live tags refs) = nat_le 4 (length refs) && is_closed refs && is_area_way choice tags

@@ -1,4 +1,4 @@
--- The object that was found. Only private clauses cite it.
+-- The object that was found. Only private clauses cite this.
 use Rattle.std.specs.Prelude.{ℤ, Option, Some, None}
 use Rattle.osm_elements.specs.declared.object.Object.{Object}
 use Rattle.osm_objects.specs.declared.found.Found.{Found}

@@ -1,4 +1,4 @@
--- What the store keeps of an object, and the object that it stands for. Only private clauses cite it.
+-- What the store keeps of an object, and the object that it represents. Only private clauses cite this.
 use Rattle.std.specs.Prelude.{true, List, [], ℤ, map, Option, Some, None, if◌then◌else◌}
 use Rattle.osm_elements.specs.declared.object.ObjectRef.{ObjectRef}
 use Rattle.osm_elements.specs.declared.object.Object.{Object}
@@ -20,6 +20,6 @@ object_from id (Relation r) = object.Relation id true r.value.tags r.value.membe
 abbrev pub others_from : List Placed → List (Other Object)
 others_from others = map (λ p. other p.gap (object_from p.id p.held)) others
 
--- the reference under which an object is kept; none where it was deleted
+-- the reference under which an object is kept; none if it is deleted
 abbrev pub live_ref : Object → Option ObjectRef
 live_ref o = if is_live o then Some (ref_of o) else None

@@ -17,7 +17,7 @@ id_of (object.Node id live tags place) = id
 id_of (object.Way id live tags refs) = id
 id_of (object.Relation id live tags members) = id
 
--- it was not deleted
+-- it isn't deleted
 abbrev pub is_live : Object → Bool
 is_live (object.Node id live tags place) = live
 is_live (object.Way id live tags refs) = live

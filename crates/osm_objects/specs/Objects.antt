@@ -26,7 +26,7 @@ place_in (object.Relation id live tags members) = None
 abbrev pub location_of : List Object → ℤ → Option Loc
 location_of objects id = option_and_then place_in (object_at objects (record { kind = Node; id = id }))
 
--- the location of a reference: its own where it has one, otherwise that of the node of its id
+-- the location of a reference: its own if it has one, and otherwise that of the node of its id
 abbrev pub place_of : List Object → Ref → Option Loc
 place_of objects reference = option_or reference.at (location_of objects reference.node)
 
@@ -74,7 +74,7 @@ relation_of objects id = option_and_then relation_in (object_at objects (record 
 
 -- ---- one more object
 
--- a live object comes last, one that was deleted adds nothing
+-- a live object comes last, and a deleted one adds nothing
 abbrev pub with_object : List Object → Object → List Object
 with_object objects o = if is_live o then objects ++ o ∷ [] else objects
 

@@ -1,4 +1,4 @@
--- All objects but the plain nodes, and how one is found by kind and id. Only private clauses cite it.
+-- All objects except the plain nodes, and how one is found by kind and id. Only private clauses cite this.
 use Rattle.std.specs.Prelude.{◌≡◌, ◌<◌, ◌≤◌, ℕ, Bool, List, length, slice_index_or, Option, Some}
 use Rattle.std.specs.declared.cmp.Ordering.{Ordering}
 use Rattle.osm_elements.specs.declared.object.ObjectRef.{ObjectRef}
@@ -20,10 +20,10 @@ ref_held placed = ref_of (object_held placed)
 abbrev pub is_held_at : ObjectRef → Placed → Bool
 is_held_at of placed = is_at of (object_held placed)
 
--- the order in which objects of a sorted input come: by kind, then by id
+-- the order of the objects of a sorted input: by kind, then by id
 abbrev pub ref_cmp : ObjectRef → ObjectRef → Ordering
 ref_cmp = ref_ord.ghosts.cmp
 
--- of each object from a place on it is told where it stands
+-- each object from a place on has its place in the map
 abbrev pub TellPlaces : (ObjectRef → Option ℕ) → ℕ → List Placed → Type 0
 TellPlaces told from list = (j : ℕ) (d : Placed) → from ≤ j → j < length list → told (ref_held (slice_index_or list j d)) ≡ Some j

@@ -1,4 +1,4 @@
--- Nodes with a location and without tags, by rising ids. Only private clauses cite it.
+-- Nodes with a location and without tags, by rising ids. Only private clauses cite this.
 use Rattle.std.specs.Prelude.{true, List, [], ◌∷◌, map, Some}
 use Rattle.std.specs.Int.Signed.{◌<ℤ◌}
 use Rattle.std.specs.List.{AllByRecursion}

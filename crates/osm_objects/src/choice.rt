@@ -7,22 +7,22 @@ use crate::tags::{has_one_of, is_tagged};
 use lists::List;
 use osm_elements::{Tags, Text};
 
-/// Keys of tags, as `building` and `landuse`, in any order and as often as one likes.
+/// Keys of tags, such as `building` and `landuse`, in any order and with any repetition.
 pub type Keys = List<Text>;
 
 /// Which objects are taken for candidates.
 #[derive(Debug, Drop)]
 pub struct Choice {
-    /// Whether those are taken, too, whose area would have no tag.
+    /// Whether objects are taken, too, whose area would have no tag.
     pub keep_untagged: bool,
-    /// Keys of areas: where they are given, a closed way is an area only if it has one of them or `area=yes`.
+    /// Keys of areas: if they are given, a closed way is an area only if it has one of them or `area=yes`.
     pub area_keys: Option<Keys>,
-    /// Keys of lines: where they are given, a closed way is an area only if it has none of them or `area=yes`.
+    /// Keys of lines: if they are given, a closed way is an area only if it has none of them or `area=yes`.
     pub linear_keys: Option<Keys>,
 }
 
 impl Choice {
-    /// The choice by which keys do not matter: a closed way is an area unless its tag `area` is `no`.
+    /// The choice without lists of keys: a closed way is an area unless its tag `area` is `no`.
     pub fn without_lists(keep_untagged: bool) -> Choice
         ensures { result ≡ without_lists keep_untagged }
     {

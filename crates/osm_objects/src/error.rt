@@ -1,4 +1,4 @@
-//! Why an object is not added.
+//! Why an object isn't added.
 
 ghost use Rattle.std.specs.Prelude.{◌≡◌};
 ghost use Rattle.osm_objects.specs.declared.error.AddError.TheVariants.{OutOfMemory};
@@ -11,7 +11,7 @@ use std::alloc::{AllocError as OutOfMemory, AllocFailed};
 pub enum AddError {
     /// A live object of this kind and id is held.
     Duplicate { kind: ObjectKind, id: i64 },
-    /// Memory was wanting.
+    /// Memory ran out.
     OutOfMemory,
 }
 

@@ -43,7 +43,7 @@ impl<'a> Found<'a> {
         }
     }
 
-    /// The node that was found. Of one without tags these are lent.
+    /// The node that was found. If it has no tags, `no_tags` are lent.
     pub(crate) fn node(&self, no_tags: &'a Tags) -> Option<NodeView<'a>>
         requires { no_tags.now ≡ [] }
         ensures { (id : ℤ)

@@ -4,10 +4,10 @@ ghost use Rattle.std.specs.Prelude.{◌≡◌, ◌++◌, ◌∷◌, [], OnOk, On
 
 use std::alloc::AllocError as OutOfMemory;
 
-/// How many more items there is room for at least, whenever a list grows.
+/// The least number of items by which the room of a list grows.
 const LEAST_STEP: usize = 64;
 
-/// Adds an item at the end. After an `Err` the list is unchanged. It grows by an eighth.
+/// Adds an item at the end. After an `Err` the list is unchanged. Its room grows by an eighth.
 pub(crate) fn push_last<T: Drop>(list: &mut Vec<T>, item: T) -> Result<(), OutOfMemory>
     ensures ok { OnOk result (list.new.items ≡ list.old.items ++ item ∷ []) }
     ensures err { OnErr result (list.new.items ≡ list.old.items) }

@@ -1,4 +1,4 @@
-//! What the store keeps of an object, beside its kind and id.
+//! What the store keeps of an object, besides its kind and id.
 
 ghost use Rattle.std.specs.Prelude.{◌≡◌, [], ℤ, nat_lt, nat_le, length, IsTrue, IfOk, option_map};
 ghost use Rattle.osm_objects.specs.Object.{is_live, id_of, kind_of};
@@ -37,8 +37,9 @@ pub(crate) struct HeldRelation {
     pub(crate) members: Members,
 }
 
-/// An object without its kind and id. Most are nodes without tags, so these alone stand in the entry itself,
-/// and an entry is no larger than they need.
+/// An object without its kind and id.
+///
+/// Most are nodes without tags. So only these are stored in the entry itself, and an entry is no larger than they need.
 #[derive(Drop)]
 pub(crate) enum Held {
     Plain(Option<Loc>),
@@ -47,8 +48,9 @@ pub(crate) enum Held {
     Relation(Box<HeldRelation>),
 }
 
-/// An object that isn't a plain node, with how many of those stand between it and the other such object before it: so the
-/// order of all is kept.
+/// An object that isn't a plain node, with how many plain nodes are between it and the other such object before it.
+///
+/// So the order of all objects is kept.
 #[derive(Drop)]
 pub(crate) struct Placed {
     pub(crate) id: i64,
@@ -60,7 +62,7 @@ impl Placed {
     ghost use Rattle.std.specs.Ordering.{is_lt};
     ghost use Rattle.osm_objects.specs.Others.{object_held, ref_held, ref_cmp, is_held_at};
 
-    /// A live object of this id, behind so many plain nodes.
+    /// A live object of this id, after this many plain nodes.
     pub(crate) fn new(
         alloc: Global,
         id: i64,
@@ -132,7 +134,7 @@ impl Held {
         }
     }
 
-    /// Whether it may have an area, be that tagged or not.
+    /// Whether it may have an area, tagged or not.
     #[tactic(auto, unfolding(crate::specs::Candidates::may_have_area))]
     fn may_have_area(&self, choice: &Choice) -> bool
         ensures { (id : ℤ) → result ≡ may_have_area choice.now (object_from id self.now) }
@@ -161,7 +163,7 @@ impl Held {
         }
     }
 
-    /// Whether it is a candidate by this choice. Tags are looked at first, since of a way's references all are gone through.
+    /// Whether it is a candidate by this choice. Tags are tested first, since testing a way's references passes all of them.
     #[tactic(auto, unfolding(crate::specs::Candidates::is_candidate))]
     pub(crate) fn is_candidate(&self, choice: &Choice) -> bool
         ensures { (id : ℤ) → result ≡ is_candidate choice.now (object_from id self.now) }
@@ -213,7 +215,7 @@ impl Held {
         }
     }
 
-    /// The node, if it is one. Of one without tags these are lent.
+    /// The node, if it is one. If it has no tags, `no_tags` are lent.
     pub(crate) fn node<'a>(&'a self, no_tags: &'a Tags) -> Option<NodeView<'a>>
         requires { no_tags.now ≡ [] }
         ensures { (id : ℤ) → option_map node_seen result ≡ node_in (object_from id self.now) }
@@ -266,14 +268,14 @@ fn node_named(reference: Option<Ref>) -> Option<i64>
     reference.map(|reference| reference.node)
 }
 
-/// Whether there are four references or more. These few are gone through, and not all.
+/// Whether there are at least four references. It passes only these four.
 fn has_four(refs: &Refs) -> bool
     ensures { result ≡ nat_le 4 (length refs.now) }
 {
     refs.get(3).is_some()
 }
 
-/// Whether there is a reference, and the last is to the node of the first. Their own locations do not matter.
+/// Whether there is a reference, and the last is to the node of the first. Their own locations don't matter.
 fn is_closed(refs: &Refs) -> bool
     ensures { result ≡ is_closed refs.now }
 {

@@ -1,4 +1,4 @@
-//! All objects but the plain nodes, in input order, found by kind and id.
+//! All objects except the plain nodes, in input order, found by kind and id.
 
 ghost use Rattle.std.specs.Prelude.{◌≡◌, ◌+◌, ◌≤◌, ◌++◌, ◌∷◌, [], ℕ, take, None, true, false, Contains, All, IfSome, IfNone, MatchOption, OnOk, OnErr, find, length, ◌<◌};
 ghost use Rattle.std.specs.List.{AllWithin, HoldsAt};
@@ -14,14 +14,16 @@ use std::alloc::{AllocError as OutOfMemory, Global};
 use std::collections::BTreeMap;
 use std::marker::Model;
 
-/// Objects in input order. The first of them came by rising kind and id, as all do in a sorted input, and are searched by halves.
-/// A map tells where each of the others stands. So a look-up takes few steps whatever the ids are.
+/// Objects in input order.
+///
+/// The first of them came by rising kind and id, as all do in a sorted input, and are found by binary search. A map has the
+/// places of the others. So a look-up takes few steps whatever the ids are.
 #[derive(Drop)]
 pub(crate) struct Others {
     list: Vec<Placed>,
     // How many of them, from the first on, came by rising kind and id.
     in_order: usize,
-    // Where those behind them stand in the list.
+    // The places of the later ones in the list.
     places: BTreeMap<ObjectRef, usize>,
 }
 
@@ -41,7 +43,7 @@ impl Model for Others {
         × TellPlaces (get ref_cmp o.places) o.in_order o.list.items };
 }
 
-/// Whether the kind and id lie above those of all of these, as those of an object do that comes in order.
+/// Whether the kind and id are above those of all of these, like those of an object that comes in order.
 fn lies_above(sorted: &[Placed], of: ObjectRef) -> bool
     requires { IsSortedByKey ref_held ref_cmp sorted.now }
     ensures rises { result ≡ true
@@ -72,7 +74,7 @@ fn go_on(list: &[Placed], in_order: usize, of: ObjectRef) -> bool
 
 /// The place of this kind and id among objects in order.
 ///
-/// Ways: above all of them; all others by halves.
+/// Ways: above all of them; all others by binary search.
 fn place_of(sorted: &[Placed], of: ObjectRef) -> Option<usize>
     requires { IsSortedByKey ref_held ref_cmp sorted.now }
     ensures { MatchOption result
@@ -86,7 +88,7 @@ fn place_of(sorted: &[Placed], of: ObjectRef) -> Option<usize>
     sorted.binary_search_by_key(&of, |placed| placed.of()).ok()
 }
 
-/// The object of this kind and id, if the map tells its place. A place may be told at which no such object stands.
+/// The object of this kind and id, if the map has its place. The map may also have a place without such an object.
 fn told<'a>(
     list: &'a [Placed],
     places: &BTreeMap<ObjectRef, usize>,
@@ -106,7 +108,7 @@ fn told<'a>(
 }
 
 impl Others {
-    /// No objects. They take no memory yet.
+    /// No objects. They take no memory.
     pub(crate) fn new(alloc: Global) -> Others
         ensures { result ≡ [] }
     {
@@ -136,7 +138,7 @@ impl Others {
             self.in_order += 1;
             return Ok(());
         }
-        // If memory is wanting for the object after that, a place is told at which none of this kind and id stands.
+        // If memory runs out for the object after that, the map has a place at which there is no object of this kind and id.
         match self.places.insert(of, self.list.len()) {
             Ok(_) => push_last(&mut self.list, placed),
             Err(_) => Err(OutOfMemory),
@@ -145,7 +147,7 @@ impl Others {
 
     /// The object of this kind and id.
     ///
-    /// Ways: those that came in order by halves; all others by the map.
+    /// Ways: those that came in order by binary search; all others by the map.
     pub(crate) fn find(&self, of: ObjectRef) -> Option<&Placed>
         ensures some { IfSome result (λ placed. (is_held_at of placed.now ≡ true)
             × Contains self.now placed.now) }

@@ -1,4 +1,4 @@
-//! Nodes that have a location and no tags: most objects of an input are such nodes, so each takes little room.
+//! Nodes that have a location and no tags. Most objects of an input are such nodes, so each takes little room.
 
 ghost use Rattle.std.specs.Prelude.{◌≡◌, ◌++◌, ◌∷◌, [], None, Some, true, IsTrue, IfSome, OnOk, OnErr, find, map, option_map};
 ghost use Rattle.std.specs.Ordering.{int_eq};
@@ -69,7 +69,7 @@ pub(crate) fn node_of(nodes: &[PlainNode], of: ObjectRef) -> Option<PlainNode>
     by_id(nodes, of)
 }
 
-/// Whether the id lies above those of all of these nodes, as that of a node does that is added in order.
+/// Whether the id is above those of all of these nodes, like that of a node that is added in order.
 fn lies_above(nodes: &[PlainNode], of: ObjectRef) -> bool
     requires { HaveRisingIds nodes.now }
     ensures { result ≡ true → find (λ n. int_eq of.id n.id) nodes.now ≡ None }
@@ -80,7 +80,7 @@ fn lies_above(nodes: &[PlainNode], of: ObjectRef) -> bool
     }
 }
 
-/// Where the id would stand if ids rose evenly. Only how soon a node is found rests on it.
+/// The place that the id would have if ids rose evenly. Only the speed of the search depends on it.
 fn likely_place(nodes: &[PlainNode], of: ObjectRef) -> usize {
     let (Some(first), Some(last)) = (nodes.first(), nodes.last()) else {
         return 0;
@@ -104,7 +104,7 @@ fn node_at(nodes: &[PlainNode], place: usize, of: ObjectRef) -> Option<PlainNode
 
 /// The node of this id among nodes whose ids rise.
 ///
-/// Ways: ids above all others; those that stand where they would if ids rose evenly; all others by halves.
+/// Ways: ids above all others; those at the place that they would have if ids rose evenly; all others by binary search.
 fn by_id(nodes: &[PlainNode], of: ObjectRef) -> Option<PlainNode>
     requires { HaveRisingIds nodes.now }
     ensures { result ≡ find (λ n. int_eq of.id n.id) nodes.now }
@@ -119,7 +119,7 @@ fn by_id(nodes: &[PlainNode], of: ObjectRef) -> Option<PlainNode>
     by_halves(nodes, of)
 }
 
-/// The same by halves.
+/// The same by binary search.
 fn by_halves(nodes: &[PlainNode], of: ObjectRef) -> Option<PlainNode>
     requires { HaveRisingIds nodes.now }
     ensures { result ≡ find (λ n. int_eq of.id n.id) nodes.now }

@@ -1,15 +1,17 @@
-//! What keeps a candidate from having an area, and what is noted beside.
+//! The problems that keep a candidate from having an area, and notes.
 
 use osm_lattice::{Kind, Loc, Seg};
 
-/// One thing that keeps a candidate from having an area.
+/// A problem that keeps a candidate from having an area.
 ///
-/// The segments that are left are those that stand an odd number of times in the candidate's ways together.
+/// The segments that are left are those that occur an odd number of times in the candidate's ways together.
 #[derive(Clone, Copy, Debug, PartialEq, Eq)]
 pub enum Problem {
     /// A member way that isn't held.
     MissingWay { id: i64 },
-    /// A node of a member way's reference that has no location, neither of its own nor that of a node that is held.
+    /// A node of a member way's reference without a location.
+    ///
+    /// The reference has no location of its own, and no node with one is held.
     MissingNode { id: i64 },
     /// No segment is left.
     Nothing,
@@ -19,7 +21,7 @@ pub enum Problem {
     Odd { at: Loc },
 }
 
-/// Something of a candidate that is worth a look, whether or not it has an area.
+/// Something about a candidate that is worth a look, whether or not it has an area.
 #[derive(Clone, Copy, Debug, PartialEq, Eq)]
 pub enum Note {
     /// A relation names this way more than once.

@@ -35,9 +35,9 @@ pub struct Store {
     nodes: Vec<PlainNode>,
     // All others, the three kinds in one list, since candidates come in input order across them.
     others: Others,
-    // How many of the nodes came behind the last of the others.
+    // How many of the nodes came after the last of the others.
     since: u64,
-    // No tags: those of a node that has none, to be lent.
+    // No tags, lent as those of a node that has none.
     no_tags: Tags,
 }
 
@@ -80,7 +80,7 @@ fn live_ref(object: &Object) -> Option<ObjectRef>
     }
 }
 
-/// Adds the id of a node, and none of another object.
+/// Adds the id of a node, and nothing for another object.
 fn push_id(ids: &mut Vec<i64>, placed: &Placed) -> Result<(), OutOfMemory>
     ensures { OnOk result (ids.new.items
         ≡ ids.old.items ++ node_ids (object_held placed.now ∷ [])) }
@@ -92,7 +92,7 @@ fn push_id(ids: &mut Vec<i64>, placed: &Placed) -> Result<(), OutOfMemory>
 }
 
 impl Store {
-    /// A store that holds nothing. It takes no memory yet.
+    /// A store that holds nothing. Making it takes no memory.
     pub fn new(alloc: Global) -> Store
         ensures { result ≡ [] }
     {
@@ -104,9 +104,10 @@ impl Store {
         }
     }
 
-    /// Adds an object at the end. One that was deleted (`dD` in OPL) changes nothing and is never refused.
-    /// A live object of a kind and id that are held already is refused as `Duplicate`, and the store stays
-    /// as it was, as it does where memory is wanting.
+    /// Adds an object at the end. A deleted one (`dD` in OPL) changes nothing and is never refused.
+    ///
+    /// A live object whose kind and id are held already is refused as `Duplicate`. After a refusal, or if memory runs out,
+    /// the store is unchanged.
     pub fn add(&mut self, object: Object) -> Result<(), AddError>
         ensures added { OnOk result (self.new ≡ with_object self.old object) }
         ensures fresh { OnOk result (is_duplicate self.old object ≡ false) }
@@ -135,9 +136,10 @@ impl Store {
         Ok(())
     }
 
-    /// A law: all objects of a store are live, no two have one kind and id, each is what a look-up of its kind
-    /// and id finds, and so a candidate's kind and id find a candidate. The candidates of every choice are among
-    /// those of the choice that keeps the untagged and has no lists of keys.
+    /// A law: all objects of a store are live, no two have one kind and id, and a look-up of its kind and id finds each.
+    ///
+    /// So a candidate's kind and id find a candidate. The candidates of every choice are among those of the choice that
+    /// keeps the untagged and has no lists of keys.
     pub fn one_of_each(&self)
         ensures live { All (λ o. IsTrue (is_live o)) self.now }
         ensures apart { AreApart self.now }
@@ -148,13 +150,13 @@ impl Store {
         ensures widest { (choice : Choice)
             → All (Contains (candidates (without_lists true) self.now)) (candidates choice self.now) }
     {
-        // The invariant of the type says it.
+        // The invariant of the type says this.
         let _ = &self.others;
     }
 
     /// Where an object is held.
     ///
-    /// Ways: plain nodes in their row; all others in theirs.
+    /// Ways: plain nodes in their list; all others in theirs.
     fn find(&self, of: ObjectRef) -> Found<'_>
         ensures { object_found of.id result ≡ object_at self.now of }
     {
@@ -167,7 +169,7 @@ impl Store {
         }
     }
 
-    /// The location of a node. None exactly where no node of this id is held, or it has no location.
+    /// The location of a node. None exactly if no node of this id is held, or it has no location.
     pub fn location(&self, id: i64) -> Option<Loc>
         ensures { result ≡ location_of self.now id }
     {
@@ -175,8 +177,9 @@ impl Store {
         self.find(ObjectRef { kind, id }).place()
     }
 
-    /// The location of a reference: its own if it has one, and otherwise that of its node. None exactly where neither
-    /// is there. It takes no memory.
+    /// The location of a reference: its own if it has one, and otherwise that of its node.
+    ///
+    /// None exactly if there is neither. It takes no memory.
     pub fn place_of(&self, reference: &Ref) -> Option<Loc>
         ensures { result ≡ place_of self.now reference.now }
     {
@@ -186,7 +189,7 @@ impl Store {
         }
     }
 
-    /// The node of this id. None exactly where none is held. It takes no memory.
+    /// The node of this id. None exactly if none is held. It takes no memory.
     pub fn node(&self, id: i64) -> Option<NodeView<'_>>
         ensures { option_map node_seen result ≡ node_of self.now id }
     {
@@ -194,7 +197,7 @@ impl Store {
         self.find(ObjectRef { kind, id }).node(&self.no_tags)
     }
 
-    /// The way of this id. None exactly where none is held.
+    /// The way of this id. None exactly if none is held.
     pub fn way(&self, id: i64) -> Option<WayView<'_>>
         ensures { option_map way_seen result ≡ way_of self.now id }
     {
@@ -202,7 +205,7 @@ impl Store {
         self.find(ObjectRef { kind, id }).way()
     }
 
-    /// The relation of this id. None exactly where none is held.
+    /// The relation of this id. None exactly if none is held.
     pub fn relation(&self, id: i64) -> Option<RelationView<'_>>
         ensures { option_map relation_seen result ≡ relation_of self.now id }
     {
@@ -210,16 +213,18 @@ impl Store {
         self.find(ObjectRef { kind, id }).relation()
     }
 
-    /// The objects that may have an area, in input order: closed ways that are areas by the choice, and
-    /// relations tagged `type=multipolygon` or `type=boundary` (OpenStreetMap wiki, Relation:multipolygon).
-    /// One whose area would have no tag is among them only if the choice keeps those.
+    /// The objects that may have an area, in input order.
+    ///
+    /// They are closed ways that are areas by the choice, and relations tagged `type=multipolygon` or `type=boundary`
+    /// (OpenStreetMap wiki, Relation:multipolygon). An object whose area would have no tag is among them only if the choice
+    /// keeps those.
     #[tactic(auto, using(crate::proofs::LookupLemmas::candidates_others))]
     pub fn candidates(&self, alloc: Global, choice: &Choice) -> Result<Vec<ObjectRef>, OutOfMemory>
         ensures list { IfOk result (λ list. list.items ≡ candidates choice.now self.now) }
         ensures held { IfOk result (λ list. All (λ of. IsSome (object_at self.now of)) list.items) }
     {
         let others = self.others.as_slice();
-        // There is room for all at once: a list that grows leaves holes behind, and room that isn't used takes no memory.
+        // There is room for all at once: a growing list would leave holes, and unused room takes no memory.
         let mut list = Vec::with_capacity(alloc, others.len())?;
         for placed in others {
             if placed.held.is_candidate(choice) {

@@ -1,4 +1,4 @@
-//! What an object's tags say. Of tags of one key the first counts.
+//! What an object's tags say. Of tags with one key the first counts.
 
 ghost use Rattle.std.specs.Prelude.{◌≡◌, not, bytes_eq, IfOk};
 ghost use Rattle.std.specs.List.{list_any};

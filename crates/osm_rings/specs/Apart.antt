@@ -1,4 +1,4 @@
--- Edges of which no two leave one point, and the places of those that leave points. No public contract cites it.
+-- Edges of which no two leave one point, and the places of those that leave points. No public contract cites this.
 use Rattle.std.specs.Prelude.{List, None, Option, Some, length, slice_index_or, ℕ, ◌<◌, ◌≡◌, ◌≢◌}
 use Rattle.osm_geom.specs.declared.edge.Edge.{Edge}
 use Rattle.osm_geom.specs.declared.point.Point.{Point}

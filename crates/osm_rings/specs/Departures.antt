@@ -1,4 +1,4 @@
--- The departures of edges in order, and the edges that leave a point. No public contract cites it.
+-- The departures of edges in order, and the edges that leave a point. No public contract cites this.
 use Rattle.std.specs.Prelude.{All, Bool, Contains, List, Option, None, Some, false, get_or, length, map, not, slice_index_or, true, ℕ, ◌&&◌, ◌<◌, ◌||◌, ◌≡◌, ◌≢◌, ◌≤◌}
 use Rattle.std.specs.Ordering.{is_eq, is_lt}
 use Rattle.std.specs.List.Sorted.{IsPartitionPoint}
@@ -16,7 +16,7 @@ use Rattle.osm_rings.specs.Numbered.{edge_at}
 abbrev pub start_at : List geom.Edge → ℕ → Option Point
 start_at es i = get_or (map (λ e. Some e.from) es) i None
 
--- numbers tell the points that the edges at these places leave
+-- two edges at places have the same number exactly if they leave the same point
 abbrev pub TellStarts : List geom.Edge → List ℕ → Type 0
 TellStarts es numbers = (i j : ℕ) → i < length es → j < length es → ((get_or numbers i 0 ≡ get_or numbers j 0) → start_at es i ≡ start_at es j) × ((start_at es i ≡ start_at es j) → get_or numbers i 0 ≡ get_or numbers j 0)
 
@@ -30,7 +30,7 @@ pub record IsDepartureOf (es : List geom.Edge) (w : Departure) : Type 0 where
   pub from : start_at es w.place ≡ Some w.edge.now.from
   pub along : direction_of w.edge.now ≡ direction_at es w.place
 
--- on turning clockwise from the east, v is met before w
+-- v is met before w when turning clockwise from the east
 abbrev pub points_before : Departure → Departure → Bool
 points_before v w = is_met_before east (direction_of v.edge.now) (direction_of w.edge.now)
 
@@ -38,15 +38,15 @@ points_before v w = is_met_before east (direction_of v.edge.now) (direction_of w
 abbrev pub stands_before : Departure → Departure → Bool
 stands_before v w = is_lt (point_cmp v.edge.now.from w.edge.now.from) || (is_eq (point_cmp v.edge.now.from w.edge.now.from) && points_before v w)
 
--- no departure begins before one that stands before it
+-- no departure begins before an earlier one in the list
 abbrev pub AreRising : List Departure → Type 0
 AreRising ws = (i j : ℕ) (d : Departure) → i ≤ j → j < length ws → is_lt (point_cmp (slice_index_or ws j d).edge.now.from (slice_index_or ws i d).edge.now.from) ≡ false
 
--- no departure points before one that stands before it
+-- no departure points before an earlier one in the list
 abbrev pub AreClockwise : List Departure → Type 0
 AreClockwise ws = (i j : ℕ) (d : Departure) → i ≤ j → j < length ws → points_before (slice_index_or ws j d) (slice_index_or ws i d) ≡ false
 
--- of departures that begin at one point, none points before one that stands before it
+-- no departure points before an earlier one in the list that begins at the same point
 abbrev pub AreClockwiseRound : List Departure → Type 0
 AreClockwiseRound ws =
     (i j : ℕ) (d : Departure) → i ≤ j → j < length ws → (slice_index_or ws j d).edge.now.from ≡ (slice_index_or ws i d).edge.now.from →
@@ -78,7 +78,7 @@ pub record AreFrom (ws : List Departure) (p : Point) (vs : List Departure) : Typ
 abbrev pub step_at : List Edge → ℕ → Vector
 step_at es k = from_to (edge_at es k).from (edge_at es k).to
 
--- of the edges that leave the end of e, the one at place j is met first on turning clockwise from the direction back
+-- of the edges that leave the end of e, the one at place j is met first when turning clockwise from the direction back
 pub record IsFirstFrom (es : List Edge) (e : Edge) (j : ℕ) : Type 0 where
   pub inside : j < length es
   pub leaves : (edge_at es j).from ≡ e.to

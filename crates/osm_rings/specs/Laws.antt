@@ -1,4 +1,5 @@
--- The laws of successors and ring lists, as statements. An edge of the list stands in the plane multiplied by the common denominator.
+-- The laws of successors and ring lists, as statements.
+-- An edge of the list is taken in the plane multiplied by the common denominator.
 use Rattle.std.specs.Prelude.{List, map, ◌≡◌}
 use Rattle.plane_lists.specs.Rings.RingList.{IsRingList}
 use Rattle.plane_lists.specs.Rings.Walk.{IsSuccessor}

@@ -1,4 +1,4 @@
--- Edges named by their places in a list. No public contract cites it.
+-- Edges named by their places in a list. No public contract cites this.
 use Rattle.std.specs.Prelude.{List, get_or, pos, ℕ}
 use Rattle.plane.specs.Edge.{Edge}
 

@@ -1,4 +1,4 @@
--- The pieces of walks, as places and as edges. No public contract cites it.
+-- The pieces of walks, as places and as edges. No public contract cites them.
 use Rattle.std.specs.Prelude.{All, List, [], drop, length, map, take, ℕ, ◌++◌, ◌<◌, ◌∷◌, ◌≡◌}
 use Rattle.orbits.specs.Along.{StandAlong}
 use Rattle.orbits.specs.Cutting.{AreCutOff}
@@ -15,7 +15,7 @@ abbrev pub edges_at : List geom.Edge → List ℕ → List geom.Edge
 edges_at es [] = []
 edges_at es (k ∷ ks) = take 1 (drop k es) ++ edges_at es ks
 
--- walks stand along places, and the edges that they pass are the rings
+-- `places` has walks one after the other, and the edges that they pass are the rings
 pub record AreRingsAlong (es : List geom.Edge) (places sizes : List ℕ) : Type 0 where
   pub walks : List (List ℕ)
   pub along : StandAlong walks places sizes

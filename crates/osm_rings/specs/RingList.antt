@@ -6,7 +6,7 @@ use Rattle.osm_geom.specs.declared.edge.Edge.{Edge}
 use Rattle.osm_rings.specs.Ring.{IsRing}
 use Rattle.osm_geom.specs.InPlane.Multiple.{edges_times, product_of_denominators, whole_edges}
 
--- the edges of the rings are those of the list, each as often: every sum over them is that over the list
+-- the edges of the rings are those of the list, equally often: every sum over them is that over the list
 abbrev pub HoldTheEdges : List Edge → List (List Edge) → Type 0
 HoldTheEdges es rs = (f : Edge → ℕ) → sum_by (λ r. sum_by f r) rs ≡ sum_by f es
 

@@ -1,4 +1,4 @@
--- Cyclic lists begun elsewhere.
+-- Cyclic lists with other beginnings.
 use Rattle.std.specs.Prelude.{All, List, slice_index_or, ◌≢◌}
 use Rattle.std.specs.declared.cmp.Ordering.TheVariants.{Less}
 use Rattle.osm_geom.specs.declared.edge.Edge.{Edge}

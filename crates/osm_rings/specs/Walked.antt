@@ -1,4 +1,4 @@
--- Closed walks along edges that pass each of them once, and what is noted on the way. No public contract cites it.
+-- Closed walks along edges that pass each of them once, and what is noted on the way. No public contract cites this.
 use Rattle.std.specs.Prelude.{All, Bool, List, false, length, slice_index, slice_index_or, take, true, ℕ, ◌+◌, ◌++◌, ◌-◌, ◌<◌, ◌≡◌, ◌≢◌, ◌≤◌}
 use Rattle.orbits.specs.Along.{StandAlong}
 use Rattle.orbits.specs.Once.{HoldEachOnce}
@@ -13,7 +13,7 @@ IsFollower es i j = (d : Edge) → LeavesFirst es (slice_index_or es i d).to j
 abbrev pub FollowAtPlaces : List Edge → List ℕ → Type 0
 FollowAtPlaces es places = (k : ℕ) → k + 1 < length places → IsFollower es (slice_index places k) (slice_index places (k + 1))
 
--- and the first follows the last
+-- such a walk in which the first edge follows the last
 pub record IsClosedWalk (es : List Edge) (places : List ℕ) : Type 0 where
   pub some : 0 < length places
   pub steps : FollowAtPlaces es places
@@ -42,7 +42,7 @@ pub record AreMarked (n : ℕ) (marks : List Bool) (places : List ℕ) : Type 0 
   pub apart : (i j : ℕ) → i < j → j < length places → slice_index places i ≢ slice_index places j
   pub marked : All (λ i. slice_index_or marks i false ≡ true) places
 
--- a closed walk of this size is noted after the places that were noted before, and marked as these are
+-- a closed walk of this size is noted after the earlier places, and is marked as they are
 pub record IsNoted (es : List Edge) (done size : ℕ) (old new : List ℕ) (marks : List Bool) : Type 0 where
   pub walk : List ℕ
   pub closed : IsClosedWalk es walk

@@ -1,6 +1,6 @@
 //! The edges of a list as they leave their points, in order; the numbers of these points; and the edges that leave one.
 //!
-//! Where departures belong is sought by whole numbers that stand for points, and then tested by the points themselves.
+//! The places of departures are searched by sort keys of points, and then tested against the points themselves.
 ghost use Rattle.std.specs.Prelude.{◌≡◌, ◌<◌, ◌≤◌, ◌-◌, ◌++◌, All, IfOk, IsPermutation, List, OnOk, Some, false, length, map, not, slice_index_or, true, unwrap_or};
 ghost use Rattle.std.specs.Ordering.{is_lt};
 ghost use Rattle.osm_geom.specs.declared.edge.Edge.{Edge};
@@ -15,7 +15,7 @@ use std::alloc::{AllocError as OutOfMemory, Global};
 use std::cmp::Ordering;
 use std::mem;
 
-/// The direction from which the departures round a point are told, clockwise.
+/// The direction from which the departures round a point are ordered, clockwise.
 pub const EAST: Dir = Dir { dx: 1, dy: 0 };
 
 /// An edge, its place in the list, and the sort key of the point that it leaves.
@@ -62,11 +62,12 @@ fn sorted<'a>(departures: Vec<Departure<'a>>) -> Result<Vec<Departure<'a>>, OutO
     Ok(departures)
 }
 
-/// The few departures from one point: eight of them take no block of memory. A `SmallVec` wants values that can be made of
-/// nothing, hence the options.
+/// The few departures from one point: up to eight take no block of memory.
+///
+/// A `SmallVec` needs values that can be made from nothing, hence the options.
 type Few<'a> = SmallVec<Option<Departure<'a>>, 8>;
 
-/// Departures from one point as they are given.
+/// Departures from one point, as they are given.
 fn few_of<'a>(alloc: Global, departures: &[Departure<'a>]) -> Result<Few<'a>, OutOfMemory>
     ensures { IfOk result (λ few. few.items ≡ map (λ d. Some d) departures.now) }
 {
@@ -85,7 +86,7 @@ fn compare_round(departure: &Option<Departure>, other: &Option<Departure>) -> Or
     }
 }
 
-/// Adds these departures; in place of none the first.
+/// Adds these departures; for a None it adds the first.
 fn add_few<'a>(
     ordered: &mut Vec<Departure<'a>>,
     few: &[Option<Departure<'a>>],
@@ -116,7 +117,7 @@ fn add_round<'a>(
     add_few(ordered, few.as_slice(), *first)
 }
 
-/// Where the departures end that have the sort key of the one at a place.
+/// Where the departures with the sort key of the one at `from` end.
 fn end_of_key(departures: &[Departure], from: usize) -> usize
     requires { from < length departures.now }
     ensures behind { from < result }
@@ -129,7 +130,7 @@ fn end_of_key(departures: &[Departure], from: usize) -> usize
     end
 }
 
-/// Departures that stand by their sort keys, put in order round each point.
+/// Departures that are ordered by their sort keys, put in order round each point.
 fn rounds<'a>(
     alloc: Global,
     departures: &[Departure<'a>],
@@ -146,7 +147,7 @@ fn rounds<'a>(
     Ok(ordered)
 }
 
-/// The departures in order: those that stand by their sort keys are put in order round each point, where that is their order.
+/// The departures in order. Those that are ordered by their sort keys are put in order round each point, if that orders all.
 fn in_order_round<'a>(
     alloc: Global,
     departures: Vec<Departure<'a>>,
@@ -162,9 +163,10 @@ fn in_order_round<'a>(
     sorted(departures)
 }
 
-/// The departures in order: by their sort keys alone, where that is their order, as where no two leave one point.
+/// The departures in order: by their sort keys alone, if that is their order, as when no two leave one point.
 ///
-/// Ways: departures whose order their sort keys tell; those that need directions round each point besides; all others by their points.
+/// Ways: departures that their sort keys put in order; those that also need directions round each point; all others by their
+/// points.
 fn in_order<'a>(
     alloc: Global,
     departures: Vec<Departure<'a>>,
@@ -202,7 +204,8 @@ fn runs_up(edge: &Edge) -> bool {
 pub fn departures<'a>(alloc: Global, edges: &'a [Edge]) -> Result<Vec<Departure<'a>>, OutOfMemory>
     ensures { IfOk result (λ v. AreDepartures edges.now v.items) }
 {
-    // Edges in order of their lower ends leave half to be sorted: where they run up, so do their departures.
+    // The departures of edges that run up are in order if the edges are in order of their lower ends.
+    // So half is left to be sorted.
     let mut up = Vec::with_capacity(alloc, edges.len())?;
     let mut down = Vec::with_capacity(alloc, edges.len())?;
     for (place, edge) in edges.iter().enumerate() {
@@ -261,9 +264,10 @@ fn is_first_at(departures: &[Departure], p: Point, place: usize) -> bool
     parts_before(departures, p, place)
 }
 
-/// How many departures begin before p: where some begin at p, the place of the first of these.
+/// How many departures begin before p. If some begin at p, it is the place of the first of these.
 ///
-/// Ways: four places from the last one on by sort keys; other places by halves of the sort keys; all others by halves of the points.
+/// Ways: four places from `near` on by sort keys; other places by binary search of the sort keys; all others by that of the
+/// points.
 fn first_at(departures: &[Departure], keys: &[i64], near: usize, p: Point) -> usize
     requires { AreRising departures.now }
     ensures inside { result ≤ length departures.now }
@@ -305,7 +309,7 @@ fn is_end_at(departures: &[Departure], p: Point, place: usize) -> bool
     parts_after(departures, p, place)
 }
 
-/// How many departures begin at p or before; mostly one begins there, the first of which stands at `first`.
+/// How many departures begin at p or before. Mostly one begins at p, at the place `first`.
 fn end_at(departures: &[Departure], p: Point, first: usize) -> usize
     requires { AreRising departures.now }
     ensures inside { result ≤ length departures.now }
@@ -381,7 +385,7 @@ pub fn node_numbers(
     Ok(numbers)
 }
 
-/// The places between which the departures that begin at p stand.
+/// The range of places of the departures that begin at p.
 fn range_at(departures: &[Departure], keys: &[i64], near: usize, p: Point) -> (usize, usize)
     requires { AreRising departures.now }
     ensures ordered { result.0 ≤ result.1 }
@@ -393,8 +397,10 @@ fn range_at(departures: &[Departure], keys: &[i64], near: usize, p: Point) -> (u
     (first, end_at(departures, p, first))
 }
 
-/// The departures from p, clockwise from the east, looked for first at a place, for which the one behind them is put. It takes longer where
-/// they aren't there, or where the keys aren't those of `keys_of`.
+/// The departures from p, clockwise from the east.
+///
+/// The search starts at `near`, which is then set to the place after them. It takes longer if they aren't there, or if the
+/// keys aren't those of `keys_of`.
 pub fn leaving<'a, 'b>(
     departures: &'b [Departure<'a>],
     keys: &[i64],

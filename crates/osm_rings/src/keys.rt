@@ -1,16 +1,16 @@
 //! Departures by the sort keys of the points that they leave.
 //!
-//! Nothing rests on these but speed: who seeks by them then tests by the points themselves.
+//! Only speed depends on these: callers that search by them then test by the points themselves.
 ghost use Rattle.std.specs.Prelude.{◌<◌, length};
 
 use crate::departures::Departure;
 use osm_geom::{Point, sort_key};
 use std::alloc::{AllocError as OutOfMemory, Global};
 
-/// So many places near another are looked at before all are searched.
+/// How many places near another are tried before all are searched.
 const STEPS: usize = 4;
 
-/// The sort keys of the points that departures leave, side by side, so that a search passes few bytes.
+/// The sort keys of the points that departures leave, side by side, so that a search reads few bytes.
 pub fn keys_of(alloc: Global, departures: &[Departure]) -> Result<Vec<i64>, OutOfMemory> {
     let mut keys = Vec::with_capacity(alloc, departures.len())?;
     for departure in departures {
@@ -19,14 +19,14 @@ pub fn keys_of(alloc: Global, departures: &[Departure]) -> Result<Vec<i64>, OutO
     Ok(keys)
 }
 
-/// Whether the keys before a place are below one, and those from there on aren't, as keys rise.
+/// Whether the keys before a place are below `key`, and those from there on aren't, if keys rise.
 fn parts_keys(keys: &[i64], place: usize, key: i64) -> bool
     requires { place < length keys.now }
 {
     (place == 0 || keys[place - 1] < key) && keys[place] >= key
 }
 
-/// Where the sort keys tell that the departures from p begin. It is looked for first at a place and few behind it.
+/// Where the departures from p begin, by the sort keys. The search starts at `near` and the few places after it.
 pub(crate) fn guess_first(keys: &[i64], near: usize, p: Point) -> usize {
     let key = sort_key(p);
     for place in near..near.saturating_add(STEPS).min(keys.len()) {

@@ -1,4 +1,4 @@
-//! The rings that a sided list of edges is cut into: the walks of successors, cut where they come to a node again.
+//! The rings that a sided list of edges is cut into: the walks of successors, cut where they return to a node.
 #![tactic(auto)]
 
 mod departures;

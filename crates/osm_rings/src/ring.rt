@@ -13,12 +13,13 @@ use std::alloc::{AllocError as OutOfMemory, Global};
 use std::cmp::Ordering;
 use std::marker::Model;
 
-/// A closed chain of edges: a linear ring, as RFC 7946 has it, but without its first point again at the end.
+/// A closed chain of edges: a linear ring, as in RFC 7946, but without its first point again at the end.
 ///
 /// It has at least three edges. Each ends where the next one begins, and the last where the first begins. No point is left
-/// twice: where an area touches itself at a node, there are two rings. Of the rings that `rings` gives no two cross, though
-/// they may touch at nodes, and the inside of the area is on the left of each edge: an outer ring runs counterclockwise, an
-/// inner one clockwise. Contracts see it as the list of its edges.
+/// twice: if an area touches itself at a node, there are two rings.
+///
+/// Of the rings that `rings` gives no two cross, though they may touch at nodes. The inside of the area is on the left of
+/// each edge: an outer ring runs counterclockwise, an inner one clockwise. Contracts see a ring as the list of its edges.
 #[derive(Drop)]
 pub struct Ring {
     edges: Vec<Edge>,
@@ -62,8 +63,9 @@ impl Ring {
         least_start(self.as_slice())
     }
 
-    /// The same edges in the same cyclic order, begun with the one that leaves the ring's least node. The error is
-    /// want of memory.
+    /// The same edges in the same cyclic order, beginning with the one that leaves the ring's least node.
+    ///
+    /// Fails only if memory runs out.
     pub fn from_least(&self, alloc: Global) -> Result<Ring, OutOfMemory>
         ensures turned { IfOk result (λ ring. IsRotated self.now ring) }
         ensures least { IfOk result (λ ring. BeginsLeast ring) }
@@ -100,7 +102,7 @@ fn least_start(edges: &[Edge]) -> usize
     least
 }
 
-/// Of two places the one whose edge leaves the lesser point, the first of them where both leave one.
+/// The one of two places whose edge leaves the lesser point, or the first if both leave the same point.
 fn lesser_start(edges: &[Edge], least: usize, place: usize) -> usize
     requires first { least < length edges.now }
     requires second { place < length edges.now }
@@ -112,5 +114,5 @@ fn lesser_start(edges: &[Edge], least: usize, place: usize) -> usize
     }
 }
 
-/// A list of rings. As `rings` gives it, each edge of the area's boundary lies in exactly one of them, there once.
+/// A list of rings. In the list that `rings` gives, each edge of the area's boundary is in exactly one of them, once.
 pub type Rings = List<Ring>;

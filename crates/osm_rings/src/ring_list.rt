@@ -41,7 +41,7 @@ fn cut_walks(
     rings_of(alloc, edges, &pieces)
 }
 
-/// The rings that successors make where no two edges leave one point: no walk is cut.
+/// The rings of successors if no two edges leave one point: no walk is cut.
 fn walked_rings(alloc: Global, edges: &[Edge], next: &[Option<usize>]) -> Result<Rings, OutOfMemory>
     requires sided { IsSided edges.now }
     requires apart { LeaveApart edges.now }
@@ -55,7 +55,7 @@ fn walked_rings(alloc: Global, edges: &[Edge], next: &[Option<usize>]) -> Result
     rings_along(alloc, edges, &walks.places, &walks.sizes)
 }
 
-/// The rings of a sided list of edges. Where no two edges leave one point, no walk needs to be cut.
+/// The rings of a sided list of edges. If no two edges leave one point, no walk needs to be cut.
 ///
 /// Ways: edges of which no two leave one point by whole walks; all others by walks that are cut.
 fn cut_rings(alloc: Global, edges: &[Edge]) -> Result<Rings, OutOfMemory>
@@ -65,7 +65,7 @@ fn cut_rings(alloc: Global, edges: &[Edge]) -> Result<Rings, OutOfMemory>
     let departures = departures(alloc, edges)?;
     let next = successors(alloc, edges, &departures)?;
     if are_apart(&departures) {
-        // They are given back before the rings are made.
+        // They are freed before the rings are made.
         mem::drop(departures);
         return walked_rings(alloc, edges, &next);
     }
@@ -74,8 +74,9 @@ fn cut_rings(alloc: Global, edges: &[Edge]) -> Result<Rings, OutOfMemory>
 
 /// The rings of a sided list of edges, between any points.
 ///
-/// Each edge lies in exactly one ring, there once, and the edges of a ring lie in one walk of successors. By the law
-/// `rings_do_not_cross` no two rings cross. It takes time n log n, however many edges meet at a node. The error is want of memory.
+/// Each edge is in exactly one ring, once, and the edges of a ring are in one walk of successors. By the law
+/// `rings_do_not_cross` no two rings cross. It takes time n log n, however many edges meet at a node. Fails only if memory
+/// runs out.
 ///
 /// Ways: up to 32 edges of which no two leave one point (few); all others by sorted departures.
 pub fn rings(alloc: Global, edges: &[Edge]) -> Result<Rings, OutOfMemory>
@@ -88,7 +89,7 @@ pub fn rings(alloc: Global, edges: &[Edge]) -> Result<Rings, OutOfMemory>
     cut_rings(alloc, edges)
 }
 
-/// The pieces that are cut off walks whose places stand one after the other, so many for each.
+/// The pieces that are cut off walks. `places` has the walks one after the other, and `sizes` how many places each has.
 fn pieces(
     alloc: Global,
     places: &[usize],
@@ -125,7 +126,7 @@ pub fn edges_at(alloc: Global, edges: &[Edge], places: &[usize]) -> Result<Vec<E
     Ok(found)
 }
 
-/// The rings whose edges stand at these places.
+/// The rings whose edges are at these places.
 fn rings_of(alloc: Global, edges: &[Edge], pieces: &[Vec<usize>]) -> Result<Rings, OutOfMemory>
     requires inside { All (λ p. All (λ k. k < length edges.now) p.items) pieces.now }
     requires rings { All (λ p. IsRing (edges_at edges.now p.items)) pieces.now }
@@ -138,7 +139,7 @@ fn rings_of(alloc: Global, edges: &[Edge], pieces: &[Vec<usize>]) -> Result<Ring
     Ok(rings)
 }
 
-/// The rings along walks whose places stand one after the other, so many for each.
+/// The rings along walks. `places` has the walks one after the other, and `sizes` how many places each has.
 pub fn rings_along(
     alloc: Global,
     edges: &[Edge],

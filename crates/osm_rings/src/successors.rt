@@ -1,4 +1,4 @@
-//! The successor of each edge: the first edge that is met on turning clockwise from the direction back.
+//! The successor of each edge: the first edge that is met when turning clockwise from the direction back.
 ghost use Rattle.std.specs.Prelude.{◌≡◌, ◌<◌, All, Contains, IfNone, IfOk, IfSome, List, [], false, length, ℕ};
 ghost use Rattle.plane.specs.Vector.{east};
 ghost use Rattle.osm_geom.specs.declared.edge.Edge.{Edge};
@@ -16,7 +16,7 @@ use crate::keys::keys_of;
 use osm_geom::{Dir, Edge, clockwise, sort_key};
 use std::alloc::{AllocError as OutOfMemory, Global};
 
-/// By less than this the sort keys differ of the ends of an edge that is level.
+/// The keys of both ends of a horizontal edge differ by less than this.
 const LEVEL: i64 = 1 << 31;
 
 /// The direction back along an edge, from its end.
@@ -30,15 +30,16 @@ fn back(edge: &Edge) -> Dir
     }
 }
 
-/// Whether `dir` is met after `from` on turning clockwise from the east.
+/// Whether `dir` is met after `from` when turning clockwise from the east.
 fn lies_after(dir: Dir, from: Dir) -> bool
     ensures { result ≡ is_met_before east (vector_along from) (vector_along dir) }
 {
     clockwise(EAST, from, dir).is_lt()
 }
 
-/// The first of these departures that is met on turning clockwise from `from`: the first that lies after it, or where none
-/// does, the first.
+/// The first of these departures that is met when turning clockwise from `from`.
+///
+/// It is the first that lies after it, or the first of all if none does.
 fn first_met<'a, 'b>(departures: &'b [Departure<'a>], from: Dir) -> Option<&'b Departure<'a>>
     requires { AreClockwise departures.now }
     ensures none { IfNone result (departures.now ≡ []) }
@@ -51,7 +52,7 @@ fn first_met<'a, 'b>(departures: &'b [Departure<'a>], from: Dir) -> Option<&'b D
     departures.get(after).or(departures.first())
 }
 
-/// The same for the direction back along an edge. Mostly one departure is there.
+/// The same for the direction back along an edge. Mostly there is one departure.
 fn first_met_back<'a, 'b>(departures: &'b [Departure<'a>], edge: &Edge) -> Option<&'b Departure<'a>>
     requires { AreClockwise departures.now }
     ensures none { IfNone result (departures.now ≡ []) }
@@ -82,7 +83,7 @@ fn heading(edge: &Edge) -> usize
     }
 }
 
-/// The place of the successor of an edge, among those that the departures are of. These are looked for near a place first.
+/// The place of the successor of an edge, among the edges of the departures. The search starts at `near`.
 fn successor(departures: &[Departure], keys: &[i64], near: &mut usize, edge: &Edge) -> Option<usize>
     requires rising { AreRising departures.now }
     requires round { AreClockwiseRound departures.now }
@@ -106,7 +107,7 @@ pub fn successors(
         (after v.items i)) }
 {
     let keys = keys_of(alloc, departures)?;
-    // Edges that run one way mostly end in the order in which they stand, so each finds its successor near that of the last one.
+    // Edges with the same heading mostly end in list order, so each finds its successor near that of the last one.
     let mut near = [0; 4];
     let mut next = Vec::with_capacity(alloc, edges.len())?;
     for edge in edges {

@@ -6,7 +6,8 @@ use Rattle.opl_writer.specs.Written.{objects_text}
 use Rattle.osm_sample.specs.Numbers.{numbers}
 use Rattle.osm_sample.specs.Objects.{cell_nodes, cell_relation, cell_ways, coast_node_objects, coast_way, forest}
 
--- the nodes of the cells and of the coast, the ways of the cells and of the coast, the relations of the cells, and the forest
+-- the nodes of the cells and of the coast, the ways of the cells and of the coast, the relations of the cells, and the
+-- forest
 abbrev pub sample_objects : ℕ → List Object
 sample_objects n =
     flat_map (cell_nodes n) (numbers (n * n))

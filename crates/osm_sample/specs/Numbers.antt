@@ -1,7 +1,7 @@
--- The numbers by which the parts of the sample are counted.
+-- The numbers that count the parts of the sample.
 use Rattle.std.specs.Prelude.{ℕ, zero, suc, List, [], ◌∷◌, ◌++◌}
 
--- those below n, rising
+-- the numbers below n, rising
 abbrev pub numbers : ℕ → List ℕ
 numbers zero = []
 numbers (suc n) = numbers n ++ n ∷ []

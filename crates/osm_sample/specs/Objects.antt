@@ -1,5 +1,5 @@
--- The objects of the sample input: a square of n times n cells, each with a hole, and a coast around all of them. Cells are counted
--- from 0, row by row.
+-- The objects of the sample input: a square of n times n cells, each with a hole, and a coast around all of them.
+-- Cells are counted from 0, row by row.
 use Rattle.std.specs.Prelude.{ℕ, ◌+◌, ◌*◌, ◌/◌, ◌%◌, true, List, [], ◌∷◌, ◌++◌, map, ℤ, pos, neg_ℤ, ◌-ℤ◌, codes, Option, None}
 use Rattle.osm_lattice.specs.declared.loc.Loc.{Loc}
 use Rattle.osm_elements.specs.Places.{latitude, longitude}
@@ -22,25 +22,25 @@ place_at x y = location_from (longitude x) (latitude y)
 abbrev pub node_at : ℕ → ℤ → ℤ → Object
 node_at id x y = object.Node (pos id) true [] (place_at x y)
 
--- a node of cell k, which lies in column k % n and row k / n: so far to the right of its lower left corner, and so far up
+-- a node of cell k, in column k % n and row k / n: this far to the right of its lower left corner, and this far up
 abbrev pub corner_node : ℕ → ℕ → ℕ → ℕ → ℕ → Object
 corner_node n k id right up = node_at id (pos (10_000 * (k % n) + right)) (pos (10_000 * (k / n) + up))
 
--- the corners of a square within a cell, from the lower left one on, against the clock
+-- the corners of a square within a cell, from the lower left one on, counterclockwise
 abbrev pub square_nodes : ℕ → ℕ → ℕ → ℕ → ℕ → List Object
 square_nodes n k first low high =
     corner_node n k first low low ∷ corner_node n k (first + 1) high low ∷ corner_node n k (first + 2) high high
     ∷ corner_node n k (first + 3) low high ∷ []
 
--- those of the cell, then those of its hole
+-- the nodes of the cell, then those of its hole
 abbrev pub cell_nodes : ℕ → ℕ → List Object
 cell_nodes n k = square_nodes n k (8 * k + 1) 0 8_000 ++ square_nodes n k (8 * k + 5) 2_000 6_000
 
--- the number of the cells' nodes; the nodes of the coast come behind them
+-- the number of the cells' nodes; the nodes of the coast come after them
 abbrev pub cells_end : ℕ → ℕ
 cells_end n = 8 * (n * n)
 
--- the nodes of the coast's upper side, from right to left, by turns nearer to the cells and farther from them
+-- the nodes of the coast's upper side, from right to left, alternately nearer to the cells and farther from them
 abbrev pub upper_node : ℕ → ℕ → Object
 upper_node n s =
     node_at (cells_end n + 3 + s) (pos (10_000 * n + 10_000) -ℤ pos (5_000 * s)) (pos (10_000 * n + 10_000 + 5_000 * (s % 2)))
@@ -67,7 +67,7 @@ closed_refs first count = map (λ i. ref_to (first + i)) (numbers count) ++ ref_
 abbrev pub closed_way : ℕ → List Tag → ℕ → ℕ → Object
 closed_way id tags first count = object.Way (pos id) true tags (closed_refs first count)
 
--- the way around a cell, and that around its hole
+-- the way around a cell, and the way around its hole
 abbrev pub cell_ways : ℕ → List Object
 cell_ways k = closed_way (2 * k + 1) [] (8 * k + 1) 4 ∷ closed_way (2 * k + 2) [] (8 * k + 5) 4 ∷ []
 

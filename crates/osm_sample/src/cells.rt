@@ -19,7 +19,7 @@ pub(crate) fn cell_count(n: u32) -> u32
     n * n
 }
 
-/// A node of a cell, so far to the right of its lower left corner and so far up, in units of 1e-7 degree.
+/// A node of a cell, `right` and `up` from its lower left corner, in units of 1e-7 degree.
 fn corner_node(alloc: Global, n: u32, k: u32, id: u32, right: u32, up: u32) -> Object
     requires some { 1 ≤ n }
     requires few { k < 10_000 }
@@ -84,7 +84,7 @@ pub(crate) fn add_cell_nodes(
     Ok(())
 }
 
-/// Adds the way around a cell and that around its hole.
+/// Adds the way around a cell and the way around its hole.
 fn add_ways_of(alloc: Global, objects: &mut Vec<Object>, k: u32) -> Result<(), OutOfMemory>
     requires few { k < 10_000 }
     ensures { OnOk result (objects.new.items ≡ objects.old.items ++ cell_ways k) }

@@ -1,4 +1,4 @@
-//! What lies around the cells or is made of all of them: the coast and the forest.
+//! What lies around the cells or consists of all of them: the coast and the forest.
 
 ghost use Rattle.std.specs.Prelude.{◌≡◌, ◌≤◌, ◌*◌, ◌+◌, ◌++◌, IfOk, OnOk, [], map};
 ghost use Rattle.osm_sample.specs.Numbers.{numbers};
@@ -10,7 +10,7 @@ use crate::ways::{add_way, closed_way, multipolygon, one_tag};
 use osm_elements::{Members, Object};
 use std::alloc::{AllocError as OutOfMemory, Global};
 
-/// The number of the cells' nodes; those of the coast come behind them.
+/// The number of the cells' nodes; those of the coast come after them.
 fn cells_end(n: u32) -> u32
     requires { n ≤ 100 }
     ensures value { result ≡ cells_end n }
@@ -19,7 +19,7 @@ fn cells_end(n: u32) -> u32
     8 * cell_count(n)
 }
 
-/// A node of the upper side of the coast, from right to left, by turns nearer to the cells and farther from them.
+/// A node of the upper side of the coast, from right to left, alternately nearer to the cells and farther from them.
 fn upper_node(alloc: Global, n: u32, s: u32) -> Object
     requires few { n ≤ 100 }
     requires here { s ≤ 1_000 }
@@ -31,7 +31,7 @@ fn upper_node(alloc: Global, n: u32, s: u32) -> Object
     node_at(alloc, cells_end(n) + 3 + s, x, y)
 }
 
-/// Adds the nodes of its upper side.
+/// Adds the nodes of the coast's upper side.
 fn add_upper_nodes(alloc: Global, objects: &mut Vec<Object>, n: u32) -> Result<(), OutOfMemory>
     requires { n ≤ 100 }
     ensures { OnOk result (objects.new.items
@@ -51,7 +51,7 @@ fn lower_left(alloc: Global, n: u32) -> Object
     node_at(alloc, cells_end(n) + 1, -10_000, -10_000)
 }
 
-/// The lower right one.
+/// The lower right node of the coast.
 fn lower_right(alloc: Global, n: u32) -> Object
     requires { n ≤ 100 }
     ensures { result ≡ lower_right n }

@@ -41,8 +41,10 @@ fn text_of(alloc: Global, objects: &[Object]) -> Result<Vec<u8>, OutOfMemory>
     Ok(text)
 }
 
-/// The bytes of the sample input of `count` times `count` cells: each with a hole, its two ways and a multipolygon, all of them
-/// in one more multipolygon, and a closed coastline around them. The error is want of memory.
+/// The bytes of the sample input of `count` times `count` cells.
+///
+/// Each cell has a hole, its two ways and a multipolygon. All cells are in one more multipolygon, and a closed coastline is
+/// around them. Fails only if memory runs out.
 pub fn sample_input(alloc: Global, count: u8) -> Result<Vec<u8>, OutOfMemory>
     requires some { 1 ≤ count }
     requires few { count ≤ 100 }

@@ -4,11 +4,11 @@ ghost use Rattle.osm_sample.specs.Laws.{SampleHasOneCoast, SampleIsRead};
 
 use opl_writer::read_back::written_inputs_are_read;
 
-/// Whatever the number of cells from 1 to 100, the input has no bad place and is read as its objects.
+/// For any number of cells from 1 to 100, the input has no bad place and is read as its objects.
 pub fn sample_is_read()
     ensures { SampleIsRead }
 {
-    // By law: objects that are written are read back.
+    // By law: written objects are read back.
     written_inputs_are_read();
 }
 

@@ -7,7 +7,7 @@ use osm_elements::{Object, Tags};
 use osm_lattice::Loc;
 use std::alloc::Global;
 
-/// The location of these coordinates, in units of 1e-7 degree. None where they are out of range.
+/// The location of these coordinates, in units of 1e-7 degree. None if they are out of range.
 fn place_at(x: i64, y: i64) -> Option<Loc>
     ensures { result ≡ place_at x y }
 {

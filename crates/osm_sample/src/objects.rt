@@ -32,15 +32,14 @@ pub(crate) fn sample_objects(alloc: Global, count: u8) -> Result<Vec<Object>, Ou
 fn add(store: &mut Store, object: Object) -> Result<(), OutOfMemory>
     ensures { OnOk result (store.new ≡ with_object store.old object) }
 {
-    // No two objects of the sample have one kind and id, as the law says that it is read, so that nothing but memory can
-    // be wanting.
+    // No two objects of the sample have one kind and id, by the law that it is read. So it fails only if memory runs out.
     match store.add(object) {
         Ok(()) => Ok(()),
         Err(AddError::Duplicate { .. } | AddError::OutOfMemory) => Err(OutOfMemory),
     }
 }
 
-/// A store of those of these objects that are live.
+/// A store of the live ones of these objects.
 fn store_of(alloc: Global, objects: Vec<Object>) -> Result<Store, OutOfMemory>
     ensures { IfOk result (λ store. store ≡ filter is_live objects.items) }
 {
@@ -51,7 +50,7 @@ fn store_of(alloc: Global, objects: Vec<Object>) -> Result<Store, OutOfMemory>
     Ok(store)
 }
 
-/// A store that holds the objects of the sample of `count` times `count` cells. The error is want of memory.
+/// A store that holds the objects of the sample of `count` times `count` cells. Fails only if memory runs out.
 pub fn sample_store(alloc: Global, count: u8) -> Result<Store, OutOfMemory>
     requires some { 1 ≤ count }
     requires few { count ≤ 100 }

@@ -1,4 +1,4 @@
--- What counting tells of a list of segments. A strictly rising list is determined by how often each item stands in it.
+-- What counting shows about a list of segments. A strictly rising list is determined by how often each item occurs in it.
 use Rattle.std.specs.Prelude.{◌≡◌, ◌%◌, List, [], ◌∷◌, min}
 use Rattle.std.specs.List.{flat_map}
 use Rattle.osm_lattice.specs.declared.loc.Loc.{Loc}
@@ -7,7 +7,7 @@ use Rattle.osm_lattice.specs.Loc.{loc_cmp}
 use Rattle.osm_lattice.specs.Seg.{seg_cmp}
 use Rattle.lists.specs.Rising.{IsRising, count_of}
 
--- the segments that stand an odd number of times in a list
+-- the segments that occur an odd number of times in a list
 pub record AreSurvivors (segs survivors : List Seg) : Type 0 where
   pub odd : (s : Seg) → count_of seg_cmp s survivors ≡ count_of seg_cmp s segs % 2
   pub rising : IsRising seg_cmp survivors

@@ -1,4 +1,4 @@
--- How an outline is told. No public contract cites it.
+-- How an outline is recognized. No public contract cites this.
 use Rattle.std.specs.Prelude.{List, Option, None, Some, Vec, IfSome}
 use Rattle.std.specs.declared.alloc.Global.{Global}
 use Rattle.osm_lattice.specs.declared.seg.Seg.{Seg}
@@ -7,7 +7,7 @@ use Rattle.osm_segments.specs.declared.outline.Told.TheVariants.{Whole, Sorted, 
 use Rattle.osm_segments.specs.Outlines.{IsOutline}
 use Rattle.osm_segments.specs.Sweep.{AreByEnds}
 
--- what was told of segments is so
+-- what was found out about segments is right
 abbrev pub IsTold : List Seg → Told → Type 0
 IsTold segs Whole = IsOutline segs
 IsTold segs (Sorted ends) = IsOutline segs × AreByEnds segs ends.items

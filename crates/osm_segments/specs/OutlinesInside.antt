@@ -1,4 +1,4 @@
--- The fields of an outline. No public contract cites it.
+-- The fields of an outline. No public contract cites them.
 use Rattle.std.specs.Prelude.{IfSome}
 use Rattle.osm_segments.specs.declared.outline.Outline.TheInside.{Inside}
 use Rattle.osm_segments.specs.Outlines.{IsOutline}

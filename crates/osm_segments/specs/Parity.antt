@@ -1,4 +1,5 @@
--- How often a location is a lesser or a greater end of segments, and ends that are passed two by two. No public contract cites it.
+-- How often a location is a lesser or a greater end of segments, and ends that are passed two by two.
+-- No public contract cites this.
 use Rattle.std.specs.Prelude.{◌≡◌, ◌≤◌, ◌+◌, ◌%◌, ℕ, List, count_by, drop, length}
 use Rattle.std.specs.Ordering.{is_eq}
 use Rattle.osm_lattice.specs.declared.loc.Loc.{Loc}
@@ -13,7 +14,7 @@ lesser_at p segs = count_by (λ s. is_eq (loc_cmp s.a p)) segs
 abbrev pub greater_at : Loc → List Seg → ℕ
 greater_at p segs = count_by (λ s. is_eq (loc_cmp s.b p)) segs
 
--- of the lesser ends from i and the greater ones from j some are passed: those of which an odd number are left stay the same
+-- some of the lesser ends from i and the greater ones from j are passed, and the parity at each location of those that are left stays the same
 pub record ArePassed (lower : List Seg) (i i' : ℕ) (upper : List Seg) (j j' : ℕ) : Type 0 where
   pub lesser : i ≤ i'
   pub greater : j ≤ j'

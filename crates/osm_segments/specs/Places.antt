@@ -1,4 +1,4 @@
--- Conflicts told by the places of their segments.
+-- Conflicts, as the places of their segments.
 use Rattle.std.specs.Prelude.{◌≡◌, List, Option, Some, map}
 use Rattle.std.specs.List.{slice_get}
 use Rattle.std.specs.Option.{option_and_then}

@@ -1,4 +1,5 @@
--- Segments over strips of the tilted plane: who is left of whom, and which pairs have been settled there. No public contract cites it.
+-- Segments over strips of the tilted plane: which are left of which, and which pairs have been settled there.
+-- No public contract cites this.
 use Rattle.std.specs.Prelude.{◌≡◌, ◌⊎◌, ◌<◌, ◌<ℤ◌, ◌≤ℤ◌, ℕ, ℤ, AllPairs, Contains, List, None, Some, length}
 use Rattle.std.specs.declared.cmp.Ordering.{Ordering}
 use Rattle.std.specs.Ordering.{nat_cmp, on, then_cmp}
@@ -19,7 +20,7 @@ use Rattle.osm_segments.specs.Tilted.{tilted, tilted_point}
 abbrev pub height : Loc → ℤ
 height p = (tilted_point p).y
 
--- Plus where t is right of s at the height of v
+-- Plus if t is right of s at the height of v
 unfoldable pub side_at : Loc → Seg → Seg → Sign
 side_at v s t = sign (cross (distance_right (tilted_point v) (tilted s)) (distance_right (tilted_point v) (tilted t)))
 
@@ -58,11 +59,11 @@ pub record BothRun (strip : Strip) (s t : Seg) (p q : Loc) : Type 0 where
 abbrev pub RunClear : Strip → Seg → Seg → Type 0
 RunClear strip s t = (p q : Loc) → BothRun strip s t p q → RunsLeft p q s t ⊎ RunsLeft p q t s
 
--- these places were told, or no conflict is there
+-- these places were listed, or have no conflict
 abbrev pub IsToldOrNone : List Seg → List Places → Places → Type 0
 IsToldOrNone segs told p = Contains told p ⊎ (pair_at segs p ≡ None)
 
--- the segments at two places were told, or tried without finding a conflict
+-- the segments at two places were listed, or tried without finding a conflict
 abbrev pub IsTried : List Seg → List Places → ℕ → ℕ → Type 0
 IsTried segs told i j =
     IsToldOrNone segs told (record { first = i; second = j }) ⊎ IsToldOrNone segs told (record { first = j; second = i })
@@ -71,7 +72,7 @@ IsTried segs told i j =
 abbrev pub HaveNoConflict : Seg → Seg → Type 0
 HaveNoConflict s t = (conflict_of s t ≡ None) × (conflict_of t s ≡ None)
 
--- they are one, or were tried, or are clear within the strip or everywhere
+-- they are the same one, or were tried, or are clear within the strip or everywhere
 abbrev pub IsSettled : List Seg → List Places → Strip → SegAt → SegAt → Type 0
 IsSettled segs told strip s t =
     (s.place ≡ t.place) ⊎ (IsTried segs told s.place t.place ⊎ (RunClear strip s.seg t.seg ⊎ HaveNoConflict s.seg t.seg))
@@ -80,17 +81,17 @@ IsSettled segs told strip s t =
 abbrev pub AreSettled : List Seg → List Places → Strip → List SegAt → Type 0
 AreSettled segs told strip xs = (s t : SegAt) → Contains xs s → Contains xs t → IsSettled segs told strip s t
 
--- all places that were told are told still
+-- all places that were listed before are listed after
 abbrev pub AreKept : List Places → List Places → Type 0
 AreKept old new = (p : Places) → Contains old p → Contains new p
 
--- a conflict stands at these places
+-- there is a conflict at these places
 pub record IsConflictAt (segs : List Seg) (p : Places) : Type 0 where
   pub ordered : p.first < p.second
   pub pair : Pair
   pub is : pair_at segs p ≡ Some pair
 
--- conflicts alone were told
+-- only conflicts were added
 pub record IsGrown (segs : List Seg) (old new : List Places) : Type 0 where
   pub kept : AreKept old new
   pub known : (p : Places) → Contains new p → Contains old p ⊎ IsConflictAt segs p

@@ -1,4 +1,6 @@
--- One step of a sweep upwards over segments: where a segment stands among those that span the point at which it begins, and who stand side by side once it has ended. Public contracts cite `EndsRise` and `AreByEnds` alone.
+-- One step of a sweep upwards over segments.
+-- It says where a segment is among those that span the point at which it begins, and which segments are neighbours once it
+-- has ended. Public contracts cite only `EndsRise` and `AreByEnds`.
 use Rattle.std.specs.Prelude.{Bool, IsPermutation, List, None, insert, length, not, remove, slice_index_or, true, ℕ, ◌&&◌, ◌+◌, ◌-◌, ◌<◌, ◌||◌, ◌≡◌, ◌≤◌}
 use Rattle.plane.specs.Order.{order}
 use Rattle.plane.specs.Sign.{is_minus}
@@ -29,7 +31,7 @@ pub record IsPutBetween (s : Seg) (old new : List Seg) : Type 0 where
   pub after : place < length old → FitsAfter s (slice_index_or old place s)
   pub is : new ≡ insert old place s
 
--- s was taken out, and the two between which it stood don't conflict
+-- s was taken out, and its two neighbours don't conflict
 pub record HasLeft (s : Seg) (old new : List Seg) : Type 0 where
   pub place : ℕ
   pub inside : place < length old
@@ -37,7 +39,7 @@ pub record HasLeft (s : Seg) (old new : List Seg) : Type 0 where
   pub closes : (d : Seg) → 0 < place → place + 1 < length old → conflict_of (slice_index_or old (place - 1) d) (slice_index_or old (place + 1) d) ≡ None
   pub is : new ≡ remove old place
 
--- s was taken out, and t put between the two between which it stood
+-- s was taken out, and t was put between its two neighbours
 pub record IsFollowed (s t : Seg) (old new : List Seg) : Type 0 where
   pub between : List Seg
   pub left : HasLeft s old between

@@ -1,4 +1,5 @@
--- The plane tilted a little, so that of two points the one that comes later, by y and then by x, is higher. No segment is horizontal there.
+-- The plane, tilted a little: of two points, the one that comes later by y and then by x is higher.
+-- No segment is horizontal there.
 use Rattle.std.specs.Prelude.{ℤ, pos, ◌*ℤ◌, ◌+ℤ◌}
 use Rattle.plane.specs.Edge.{Edge}
 use Rattle.plane.specs.Vector.{Vector}

@@ -1,4 +1,4 @@
-//! What counting tells of a list of segments: survivors, repeats, and nodes at which an odd number end.
+//! What counting shows about a list of segments: survivors, repeats, and nodes at which an odd number end.
 
 ghost use Rattle.std.specs.Prelude.{◌≡◌, ◌++◌, IfOk, OnOk, length, map};
 ghost use Rattle.osm_segments.specs.Counts.{AreSurvivors, AreDistinct, AreOddNodes};
@@ -8,7 +8,7 @@ use lists::{Tally, distinct_items, odd_items, odd_items_of, repeated_items};
 use osm_lattice::{Loc, Seg};
 use std::alloc::{AllocError as OutOfMemory, Global};
 
-/// A segment of a list, and how often it stands there.
+/// A segment of a list, and how often it occurs there.
 #[derive(Clone, Copy, Debug, PartialEq, Eq)]
 pub struct Repeat {
     pub seg: Seg,
@@ -18,13 +18,13 @@ pub struct Repeat {
 /// What cancelling makes of a list of segments.
 #[derive(Drop)]
 pub struct Cancelled {
-    /// The segments that stand an odd number of times, each once, in strict order.
+    /// The segments that occur an odd number of times, each once, in strict order.
     pub survivors: Vec<Seg>,
-    /// Those that stand at least twice, each once, in strict order.
+    /// Those that occur at least twice, each once, in strict order.
     pub repeats: Vec<Repeat>,
 }
 
-/// The segments that stand an odd number of times in a list, each once, in strict order.
+/// The segments that occur an odd number of times in a list, each once, in strict order.
 pub fn survivors(alloc: Global, segs: &[Seg]) -> Result<Vec<Seg>, OutOfMemory>
     ensures { IfOk result (λ v. AreSurvivors segs.now v.items) }
 {
@@ -50,7 +50,7 @@ fn repeats_of(alloc: Global, tallies: &[Tally<Seg>]) -> Result<Vec<Repeat>, OutO
         .collect(alloc)
 }
 
-/// The segments that stand at least twice in a list, each once and with its number, in strict order.
+/// The segments that occur at least twice in a list, each once and with its number, in strict order.
 pub fn repeated(alloc: Global, segs: &[Seg]) -> Result<Vec<Repeat>, OutOfMemory>
     ensures { IfOk result (λ v. AreRepeats segs.now v.items) }
 {
@@ -58,7 +58,7 @@ pub fn repeated(alloc: Global, segs: &[Seg]) -> Result<Vec<Repeat>, OutOfMemory>
     repeats_of(alloc, &tallies)
 }
 
-/// The repeats of a list of which so many segments survive: none, where all do.
+/// The repeats of a list of which `survivors` segments survive: none, if all do.
 fn repeats_beside(alloc: Global, segs: &[Seg], survivors: usize) -> Result<Vec<Repeat>, OutOfMemory>
     requires { survivors ≡ length segs.now → StandOnce segs.now }
     ensures { IfOk result (λ v. AreRepeats segs.now v.items) }
@@ -69,7 +69,7 @@ fn repeats_beside(alloc: Global, segs: &[Seg], survivors: usize) -> Result<Vec<R
     repeated(alloc, segs)
 }
 
-/// Cancels the segments of a list that stand there repeatedly: what survives and what was repeated.
+/// Cancels the segments of a list that occur there repeatedly: gives what survives and what was repeated.
 pub fn cancel(alloc: Global, segs: &[Seg]) -> Result<Cancelled, OutOfMemory>
     ensures survivors { IfOk result (λ c. AreSurvivors segs.now c.survivors.items) }
     ensures repeats { IfOk result (λ c. AreRepeats segs.now c.repeats.items) }
@@ -99,7 +99,7 @@ fn add_greater_ends(ends: &mut Vec<Loc>, segs: &[Seg]) -> Result<(), OutOfMemory
     Ok(())
 }
 
-/// Both ends of each segment: all lesser ones, which are in order where the segments are, and then all greater ones.
+/// Both ends of each segment: all lesser ones, which are in order if the segments are, and then all greater ones.
 fn ends(alloc: Global, segs: &[Seg]) -> Result<Vec<Loc>, OutOfMemory>
     ensures { IfOk result (λ v. v.items ≡ map (λ s. s.a) segs.now ++ map (λ s. s.b) segs.now) }
 {

@@ -1,5 +1,7 @@
-//! What is known of a list of segments before any ring is made: which survive cancelling, which stand
-//! repeatedly, which conflict, at which locations an odd number of them end, and whether rings can be made of them.
+//! What is known about a list of segments before any ring is made.
+//!
+//! It says which survive cancelling, which occur repeatedly, which conflict, at which locations an odd number of them end,
+//! and whether rings can be made of them.
 #![tactic(auto)]
 
 mod counts;

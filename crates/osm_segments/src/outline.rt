@@ -17,8 +17,9 @@ use osm_lattice::{Loc, Seg};
 use std::alloc::{AllocError as OutOfMemory, Global};
 use std::marker::Model;
 
-/// Segments of which rings can be made: in strict order, no two of them in conflict, an even number of them at each
-/// location. Contracts see them as their list.
+/// Segments of which rings can be made: in strict order, no two in conflict, an even number of them at each location.
+///
+/// Contracts see them as their list.
 #[derive(Drop)]
 pub struct Outline {
     segs: Vec<Seg>,
@@ -55,7 +56,7 @@ impl Outline {
         &self.segs
     }
 
-    /// The segments in order, and the same in the order of their upper ends, where they were sorted so.
+    /// The segments in order, and, if they were sorted like that, the same in the order of their upper ends.
     pub fn into_parts(self) -> (Vec<Seg>, Option<Vec<Seg>>)
         ensures segments { result.0.items ≡ self }
         ensures outline { IsOutline self }
@@ -65,7 +66,7 @@ impl Outline {
     }
 }
 
-/// The odd nodes of segments, which are given in the order of their upper ends, too.
+/// The odd nodes of segments, which are also given in the order of their upper ends.
 ///
 /// Ways: ends of which an even number lie at each location, passed by twos; all others by counting.
 fn odd_nodes_along(alloc: Global, segs: &[Seg], ends: &[Seg]) -> Result<Vec<Loc>, OutOfMemory>
@@ -87,7 +88,7 @@ fn has_odd_node(alloc: Global, segs: &[Seg], ends: &[Seg]) -> Result<bool, OutOf
     Ok(!nodes.is_empty())
 }
 
-/// The same of few segments.
+/// The same for few segments.
 fn has_odd_node_of_few(alloc: Global, segs: &[Seg]) -> Result<bool, OutOfMemory>
     requires { length segs.now ≤ 32 }
     ensures { IfOk result (λ found. (found ≡ false) ↔ HasEvenNodes segs.now) }
@@ -122,7 +123,7 @@ fn has_fault_of_few(alloc: Global, segs: &[Seg]) -> Result<bool, OutOfMemory>
     has_conflict_of_few(alloc, segs)
 }
 
-/// Whether segments in strict order aren't an outline. They are given in the order of their upper ends, too.
+/// Whether segments in strict order aren't an outline. They are also given in the order of their upper ends.
 fn has_fault(alloc: Global, segs: &[Seg], ends: &[Seg]) -> Result<bool, OutOfMemory>
     requires rising { IsRising seg_cmp segs.now }
     requires ends { AreByEnds segs.now ends.now }
@@ -134,12 +135,12 @@ fn has_fault(alloc: Global, segs: &[Seg], ends: &[Seg]) -> Result<bool, OutOfMem
     has_conflict(alloc, segs, ends)
 }
 
-/// What is told of segments in strict order.
+/// What is found out about segments in strict order.
 #[derive(Drop)]
 enum Told {
     /// They are an outline.
     Whole,
-    /// They are one, and this is their list by upper ends.
+    /// They are one, and this is their list in order of upper ends.
     Sorted(Vec<Seg>),
     /// They aren't one.
     Faulty,
@@ -157,7 +158,7 @@ fn told_of_few(alloc: Global, segs: &[Seg]) -> Result<Told, OutOfMemory>
     Ok(Told::Whole)
 }
 
-/// Whether segments are an outline, by their list by upper ends.
+/// Whether segments are an outline, by their list in order of upper ends.
 fn told_along(alloc: Global, segs: &[Seg], ends: Vec<Seg>) -> Result<Told, OutOfMemory>
     requires rising { IsRising seg_cmp segs.now }
     requires ends { AreByEnds segs.now ends.items }
@@ -184,7 +185,7 @@ fn told_of(alloc: Global, segs: &[Seg]) -> Result<Told, OutOfMemory>
     told_along(alloc, segs, ends)
 }
 
-/// The outline of segments in strict order, exactly where they are one, and else the same segments. No conflict is listed.
+/// The outline of segments in strict order, exactly if they are one, and otherwise the same segments. It lists no conflict.
 pub fn outline_of(alloc: Global, segs: Vec<Seg>) -> Result<Result<Outline, Vec<Seg>>, OutOfMemory>
     requires { IsRising seg_cmp segs.items }
     ensures { IfOk result (IsOutlineOf segs.items) }

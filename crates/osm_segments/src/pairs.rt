@@ -51,8 +51,9 @@ fn pairs_at(alloc: Global, segs: &[Seg], places: &[Places]) -> Result<Vec<Pair>,
     Ok(pairs)
 }
 
-/// The conflicts among segments in strict order, which are given in the order of their upper ends, too. One sweep finds most long lists
-/// free of conflicts.
+/// The conflicts among segments in strict order, which are also given in the order of their upper ends.
+///
+/// One sweep finds most long lists free of conflicts.
 ///
 /// Ways: segments that one sweep finds free of conflicts (sweep); all others by strips (ranges).
 pub(crate) fn conflicts_along(
@@ -95,7 +96,7 @@ pub fn conflicts(alloc: Global, segs: &[Seg]) -> Result<Vec<Pair>, OutOfMemory>
     all_conflicts(alloc, segs)
 }
 
-/// The places of the conflicts among segments in strict order, which are given in the order of their upper ends, too.
+/// The places of the conflicts among segments in strict order, which are also given in the order of their upper ends.
 ///
 /// Ways: segments that one sweep finds free of conflicts (sweep); all others by strips (ranges).
 fn conflict_places_along(
@@ -114,7 +115,9 @@ fn conflict_places_along(
     division::conflict_places(alloc, segs)
 }
 
-/// The places of all conflicting pairs among segments in strict order: by the first segment, then by the second. A pair takes 8 bytes.
+/// The places of all conflicting pairs among segments in strict order: by the first segment, then by the second.
+///
+/// A pair takes 8 bytes.
 pub fn conflict_places(alloc: Global, segs: &[Seg]) -> Result<Vec<Places>, OutOfMemory>
     requires { IsRising seg_cmp segs.now }
     ensures { IfOk result (λ v. AreConflictPlaces segs.now v.items) }

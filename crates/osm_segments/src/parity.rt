@@ -1,4 +1,4 @@
-//! Whether an even number of segments end at each location, told along two orders: that of lesser ends and that of greater ones.
+//! Whether an even number of segments end at each location, found along two orders: of lesser ends and of greater ones.
 ghost use Rattle.std.specs.Prelude.{◌≡◌, ◌%◌, ◌+◌, ◌≤◌, IfSome, IsPermutation, length, true};
 ghost use Rattle.osm_lattice.specs.declared.loc.Loc.{Loc};
 ghost use Rattle.osm_lattice.specs.Loc.{loc_cmp};
@@ -8,7 +8,7 @@ ghost use Rattle.osm_segments.specs.Parity.{ArePassed, greater_at, lesser_at};
 
 use osm_lattice::{Loc, Seg};
 
-/// Whether two locations are one.
+/// Whether two locations are equal.
 #[tactic(auto, using(crate::proofs::SegmentTests::loc_by_tests))]
 pub(crate) fn is_same(p: Loc, q: Loc) -> bool
     ensures { result ≡ true → p ≡ q }
@@ -16,8 +16,9 @@ pub(crate) fn is_same(p: Loc, q: Loc) -> bool
     p == q
 }
 
-/// Up to where two of the ends that are left are passed that are one location: a lesser and a greater one, or two of
-/// the same list.
+/// The places after two of the remaining ends that are equal, if two such come first.
+///
+/// They are a lesser and a greater end, or two of the same list.
 fn pass_two(lower: &[Seg], i: usize, upper: &[Seg], j: usize) -> Option<(usize, usize)>
     requires lesser { i ≤ length lower.now }
     requires greater { j ≤ length upper.now }
@@ -35,8 +36,9 @@ fn pass_two(lower: &[Seg], i: usize, upper: &[Seg], j: usize) -> Option<(usize, 
     None
 }
 
-/// Whether lesser ends of some segments and greater ends of others are passed two by two, each two being one location. Where both lists
-/// are in order, they are wherever it can be done.
+/// Whether lesser ends of some segments and greater ends of others can be passed two by two, each two being equal.
+///
+/// If both lists are in order, they are passed whenever that is possible.
 fn pass_by_twos(lower: &[Seg], upper: &[Seg]) -> bool
     ensures { result ≡ true → (p : Loc) → (lesser_at p lower.now + greater_at p upper.now) % 2 ≡ 0 }
 {
@@ -54,7 +56,8 @@ fn pass_by_twos(lower: &[Seg], upper: &[Seg]) -> bool
     true
 }
 
-/// Whether an even number of segments are found to end at each location, where the same are given in the order of their greater ends.
+/// Whether an even number of segments is found to end at each location.
+/// They are also given in the order of their greater ends.
 pub fn are_even(segs: &[Seg], ends: &[Seg]) -> bool
     requires { IsPermutation segs.now ends.now }
     ensures { result ≡ true → (p : Loc) → count_of loc_cmp p (ends_of segs.now) % 2 ≡ 0 }

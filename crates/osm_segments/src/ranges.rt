@@ -1,6 +1,6 @@
-//! Conflicts among many segments, where the sweep doesn't find the list free of them.
+//! Conflicts among many segments, if the sweep doesn't find the list free of them.
 //!
-//! Heights are those of the tilted plane: a location is higher than another where it comes later, so no segment is level.
+//! Heights are those of the tilted plane: a location is higher than another if it comes later, so no segment is level.
 
 pub mod division;
 pub mod order;

@@ -14,14 +14,14 @@ use Rattle.osm_lattice.specs.Seg.{edge_of}
 use Rattle.osm_geom.specs.InPlane.Sided.{signed_count_at}
 use Rattle.osm_sides.specs.Survivors.{plane_edges_of}
 
--- where s begins and ends, directed by the odd side among segs
+-- where s begins and ends, if the odd side among segs directs it
 abbrev pub first_end : List Seg → Seg → Point
 first_end segs s = Lattice (cond (odd_side.runs_up_by_odd_side (plane_edges_of segs) (edge_of s)) s.a s.b)
 
 abbrev pub last_end : List Seg → Seg → Point
 last_end segs s = Lattice (cond (odd_side.runs_up_by_odd_side (plane_edges_of segs) (edge_of s)) s.b s.a)
 
--- one edge for each segment, in order, its odd side on the left
+-- one edge for each segment, in order, with its odd side on the left
 pub record AreDirected (segs : List Seg) (edges : List Edge) : Type 0 where
   pub whole : map (λ (e : Edge). e.carrier) edges ≡ map OfSeg segs
   pub firsts : map (λ (e : Edge). e.from) edges ≡ map (first_end segs) segs

@@ -1,4 +1,5 @@
--- Directions told by the segments before: where two segments alone end at a node, one leaves it as the other enters it. No public contract cites it.
+-- Directions that follow from earlier segments: if only two segments end at a node, one leaves it as the other enters it.
+-- No public contract cites this.
 use Rattle.std.specs.Prelude.{Bool, List, None, Option, Some, cond, length, slice_index_or, ℕ, ◌<◌, ◌≡◌, ◌≤◌, ◌⊎◌}
 use Rattle.plane_lists.specs.Lists.OddSide as odd_side
 use Rattle.osm_lattice.specs.declared.loc.Loc.{Loc}
@@ -10,7 +11,7 @@ use Rattle.osm_sides.specs.Survivors.{plane_edges_of}
 abbrev pub IsEnd : Loc → Seg → Type 0
 IsEnd p s = (s.a ≡ p) ⊎ (s.b ≡ p)
 
--- where s ends if it runs up, or down
+-- the end that s runs to if it runs up, or down
 abbrev pub stop_of : Bool → Seg → Loc
 stop_of up s = cond up s.b s.a
 
@@ -20,7 +21,7 @@ pub record IsSoleOther (segs : List Seg) (place : ℕ) (p : Loc) (other : ℕ) :
   pub ends : (d : Seg) → IsEnd p (slice_index_or segs other d)
   pub sole : (k : ℕ) (d : Seg) → k < length segs → IsEnd p (slice_index_or segs k d) → (k ≡ place) ⊎ (k ≡ other)
 
--- what was found among the first segments: none other that ends at p, or one alone
+-- what was found among the first segments: no other that ends at p, or exactly one
 abbrev pub AreOthersUpTo : List Seg → ℕ → Loc → ℕ → Option ℕ → Type 0
 AreOthersUpTo segs place p n None = (k : ℕ) (d : Seg) → k < n → IsEnd p (slice_index_or segs k d) → k ≡ place
 AreOthersUpTo segs place p n (Some other) =

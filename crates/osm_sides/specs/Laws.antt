@@ -17,7 +17,7 @@ use Rattle.osm_sides.specs.Survivors.{plane_edges_of}
 abbrev pub DirectedAreWhole : Type 0
 DirectedAreWhole = (segs : List Seg) (edges : List Edge) → AreDirected segs edges → All IsWholeSegment edges
 
--- those of survivors are sided
+-- the directed segments of survivors are sided
 abbrev pub DirectedAreSided : Type 0
 DirectedAreSided =
     (segs : List Seg) (edges : List Edge) → IsRising seg_cmp segs → conflicts_of segs ≡ [] → HasEvenNodes segs →
@@ -27,10 +27,10 @@ DirectedAreSided =
 abbrev pub DirectedAreOfPlane : Type 0
 DirectedAreOfPlane = (segs : List Seg) (edges : List Edge) → AreDirected segs edges → edges_times 1 edges ≡ directed (plane_edges_of segs)
 
--- segments are directed to some edges, whether or not there is memory for them
+-- segments are directed to some edges, however much memory there is
 abbrev pub DirectionsExist : Type 0
 DirectionsExist = (segs : List Seg) → (edges : List Edge) × AreDirected segs edges
 
--- and to no others
+-- they are directed to at most one list of edges
 abbrev pub DirectionsAreOne : Type 0
 DirectionsAreOne = (segs : List Seg) (a b : List Edge) → AreDirected segs a → AreDirected segs b → a ≡ b

@@ -1,4 +1,4 @@
--- Where a location lies against the segments that bound an area.
+-- Where a location lies relative to the segments that bound an area.
 use Rattle.std.specs.Prelude.{Bool, List, false, length, nat_lt, not, slice_index_or, true, ℕ, ◌%◌, ◌<◌, ◌==◌, ◌≡◌, ◌≤◌}
 use Rattle.std.specs.List.{count_by}
 use lib.Signed.{lt_z}

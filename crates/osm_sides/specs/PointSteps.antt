@@ -1,4 +1,5 @@
--- Which segments have a location on them: those that pass through it at its height, and those whose level part has it. No public contract cites it.
+-- Which segments have a location on them: those that pass through it at its height, and those whose level part has it.
+-- No public contract cites this.
 use Rattle.std.specs.Prelude.{Bool, IsPermutation, List, cond, map, nat_le, pos, unsigned_abs, ℕ, ℤ, ◌&&◌, ◌*◌, ◌+◌, ◌+ℤ◌, ◌≡◌}
 use Rattle.std.specs.List.Sorted.{IsSorted}
 use Rattle.std.specs.Ordering.{nat_cmp}
@@ -18,7 +19,7 @@ passes_through p t = span p t && is_null (side_of_line p t)
 abbrev pub place_number : Loc → ℕ
 place_number p = unsigned_abs (p.y +ℤ pos 900_000_000) * 4_294_967_296 + unsigned_abs (p.x +ℤ pos 1_800_000_000)
 
--- a horizontal segment is level as a whole, of another one the upper end alone
+-- a horizontal segment is level as a whole, and any other only at its upper end
 abbrev pub level_from : Seg → Loc
 level_from s = cond (level s) s.a s.b
 

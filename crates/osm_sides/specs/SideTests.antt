@@ -1,4 +1,4 @@
--- The tests that the odd side is made of, on locations and segments: the plane's tests of their points and edges.
+-- The tests that define the odd side, on locations and segments: the plane's tests of their points and edges.
 use Rattle.std.specs.Prelude.{Bool, List, not, ℕ, ◌&&◌}
 use Rattle.std.specs.List.{count_by}
 use Rattle.plane.specs.Edge.{is_horizontal, same_edge}

@@ -1,4 +1,4 @@
-//! The directions of the segments of an outline: by their places in the status of one sweep upwards.
+//! The directions of the segments of an outline, by their places in the status of one sweep upwards.
 
 ghost use Rattle.std.specs.Prelude.{◌≡◌, ◌≤◌, [], All, IfOk, IfSome, length};
 ghost use Rattle.osm_geom.specs.WholeSegment.{IsWholeSegment};
@@ -17,8 +17,10 @@ use osm_geom::{Edge, Seg};
 use osm_segments::{Outline, in_order_of_ends};
 use std::alloc::{AllocError as OutOfMemory, Global};
 
-/// Each segment of an outline directed, in order: row by row of those that begin at one height, upwards, by their places in the status. They are given
-/// in the order of their upper ends, too.
+/// Each segment of an outline directed, in order, by its place in the status.
+///
+/// The sweep goes upwards, row by row of those that begin at one height. The segments are also given in the order of their
+/// upper ends.
 fn direct_each(alloc: Global, segs: &[Seg], by_ends: Vec<Seg>) -> Result<Vec<Edge>, OutOfMemory>
     requires outline { IsOutline segs.now }
     requires ends { AreByEnds segs.now by_ends.items }
@@ -39,7 +41,7 @@ fn direct_each(alloc: Global, segs: &[Seg], by_ends: Vec<Seg>) -> Result<Vec<Edg
     Ok(edges)
 }
 
-/// Each segment of an outline directed, in order: the first of a ring by counting all of them, the others along the ring.
+/// Each segment of an outline directed, in order: the first of a ring by counting all segments, the others along the ring.
 fn direct_few(alloc: Global, segs: &[Seg]) -> Result<Vec<Edge>, OutOfMemory>
     requires outline { IsOutline segs.now }
     requires few { length segs.now ≤ 32 }
@@ -53,12 +55,13 @@ fn direct_few(alloc: Global, segs: &[Seg]) -> Result<Vec<Edge>, OutOfMemory>
     Ok(edges)
 }
 
-/// So few segments are directed sooner along their rings than by a sweep.
+/// For at most this many segments, going along their rings is faster than a sweep.
 const FEW: usize = 32;
 
 /// Each segment of an outline directed, in order.
 ///
-/// Ways: segments given by upper ends too, by a sweep (sweep); up to 32 along their rings (few); all others by sorting and a sweep (sweep).
+/// Ways: segments also given by upper ends, by a sweep (sweep); up to 32 along their rings (few); all others by sorting and
+/// a sweep (sweep).
 fn direct_all(alloc: Global, segs: &[Seg], ends: Option<Vec<Seg>>) -> Result<Vec<Edge>, OutOfMemory>
     requires outline { IsOutline segs.now }
     requires ends { IfSome ends (λ ends. AreByEnds segs.now ends.items) }
@@ -74,9 +77,10 @@ fn direct_all(alloc: Global, segs: &[Seg], ends: Option<Vec<Seg>>) -> Result<Vec
     direct_each(alloc, segs, ends)
 }
 
-/// The segments of an outline as edges, one for each and in their order, directed so that the odd side is on the left (the
-/// right-hand rule of RFC 7946): an edge runs up where the number of others right of it is even, and a horizontal
-/// one runs right where the number of those right of its left end is odd.
+/// The segments of an outline as edges, one for each and in their order, with the odd side on the left.
+///
+/// This is the right-hand rule of RFC 7946. An edge runs up if the number of others right of it is even. A horizontal one
+/// runs right if the number of those right of its left end is odd.
 pub fn direct(alloc: Global, outline: Outline) -> Result<Vec<Edge>, OutOfMemory>
     ensures odd_side { IfOk result (λ v. AreDirected outline v.items) }
     ensures whole { IfOk result (λ v. All IsWholeSegment v.items) }

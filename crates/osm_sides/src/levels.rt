@@ -1,4 +1,5 @@
-//! The level parts of segments: horizontal ones as a whole, of others the upper end alone. A sweep upwards has these by no status.
+//! The level parts of segments: a horizontal one as a whole, of any other the upper end alone.
+//! A sweep has no status for these.
 
 ghost use Rattle.std.specs.Prelude.{◌≡◌, IfOk, IsPermutation, List, map, nat_le, nat_lt};
 ghost use Rattle.std.specs.List.{count_by};
@@ -48,7 +49,7 @@ fn begins_of(alloc: Global, segs: &[Seg]) -> Result<Vec<u64>, OutOfMemory>
     Ok(begins)
 }
 
-/// Where they end, in order.
+/// Where level parts end, in order.
 fn ends_of(alloc: Global, segs: &[Seg]) -> Result<Vec<u64>, OutOfMemory>
     ensures are { IfOk result (λ v.
         IsPermutation (map (λ (s : Seg). place_number s.b) segs.now) v.items) }
@@ -76,7 +77,7 @@ fn count_below(numbers: &[u64], bound: u64) -> usize
 }
 
 impl Levels {
-    /// Those of these segments.
+    /// The level parts of these segments.
     pub(crate) fn of(alloc: Global, segs: &[Seg]) -> Result<Levels, OutOfMemory>
         ensures { IfOk result (AreLevels segs.now) }
     {

@@ -1,4 +1,4 @@
-//! Where locations lie against the segments that bound an area: by one sweep upwards over both.
+//! Where locations lie relative to the segments that bound an area: by one sweep upwards over both.
 
 ghost use Rattle.std.specs.Prelude.{◌≡◌, ◌||◌, ◌≤◌, ◌<◌, ◌-◌, ◌%◌, ◌==◌, IfOk, IfSome, List, count_by, false, length, map, nat_lt, true};
 ghost use Rattle.std.specs.List.{AllWithin};
@@ -23,7 +23,7 @@ use osm_geom::{Loc, Seg};
 use osm_segments::{Outline, in_order_of_ends};
 use std::alloc::{AllocError as OutOfMemory, Global};
 
-/// Where a location lies against the segments that bound an area.
+/// Where a location lies relative to the segments that bound an area.
 #[derive(Clone, Copy, Debug, PartialEq, Eq)]
 pub enum Place {
     /// Outside.
@@ -34,8 +34,10 @@ pub enum Place {
     On,
 }
 
-/// Where a location lies that is on the level part of a segment or not, that a segment passes through or none does, and that has an odd
-/// number of segments on its right or not.
+/// Where a location lies, by three answers.
+///
+/// They say whether it is on the level part of a segment, whether a segment passes through it, and whether an odd number of
+/// segments are on its right.
 fn place_by(is_level: bool, is_passed: bool, is_odd: bool) -> Place
     ensures { result ≡ place_by_parity (is_level || is_passed) is_odd }
 {
@@ -48,7 +50,8 @@ fn place_by(is_level: bool, is_passed: bool, is_odd: bool) -> Place
     }
 }
 
-/// Whether a segment of the status passes through `p`, those from a place on being right of it: the last one before these does.
+/// Whether a segment of the status passes through `p`.
+/// Those from a place on are right of it, so the last one before them decides.
 fn is_passed(status: &ChunkedList<Seg>, from: usize, p: Loc) -> bool
     requires status { (segs : List Seg) × IsStatus edge_of (vector_of p) segs status.now }
     requires within { from ≤ length status.now }
@@ -59,7 +62,7 @@ fn is_passed(status: &ChunkedList<Seg>, from: usize, p: Loc) -> bool
     from > 0 && !status.get(from - 1).has_on_right(p)
 }
 
-/// Where `p` lies against segments of which the status of a sweep at its height and the level parts are given.
+/// Where `p` lies relative to segments, by the status of a sweep at its height and by their level parts.
 fn place_of(status: &ChunkedList<Seg>, levels: &Levels, p: Loc) -> Place
     requires { (segs : List Seg) × IsOutline segs × AreLevels segs levels.now
         × (height : Vector) × (p.y ≡ height.y) × IsStatus edge_of height segs status.now }
@@ -75,7 +78,7 @@ fn place_of(status: &ChunkedList<Seg>, levels: &Levels, p: Loc) -> Place
     )
 }
 
-/// Where each location lies, the segments being given in the order in which they leave the sweep, and by their level parts, too.
+/// Where each location lies, by the segments in the order in which they leave the sweep, and by their level parts.
 fn places_along(
     alloc: Global,
     segs: &[Seg],
@@ -114,8 +117,9 @@ fn in_order_to_leave(
     }
 }
 
-/// Where each of some locations lies against the segments of an outline. The locations are in order of height. Fails only if memory
-/// runs out.
+/// Where each of some locations lies relative to the segments of an outline. The locations are in order of height.
+///
+/// Fails only if memory runs out.
 pub fn places_among(
     alloc: Global,
     outline: Outline,

@@ -1,4 +1,4 @@
-//! The tests that the odd side is made of: which segments are left or right of a point or a segment, and how many.
+//! The tests that define the odd side: which segments are left or right of a point or a segment, and how many.
 
 ghost use Rattle.std.specs.Prelude.{◌≡◌};
 ghost use Rattle.plane_lists.specs.Lists.OddSide.{runs_up_by_odd_side};
@@ -9,14 +9,14 @@ ghost use Rattle.osm_sides.specs.Sweep.{begins_by, ends_above};
 
 use osm_geom::{Loc, Seg};
 
-/// The height of `p` is at least that of the lower end and less than that of the upper end.
+/// Whether the height of `p` is at least that of the lower end and less than that of the upper end.
 fn is_in_span(p: Loc, t: Seg) -> bool
     ensures { result ≡ span p t }
 {
     t.a.y <= p.y && p.y < t.b.y
 }
 
-/// The segment spans the height of `p` and has it on its left.
+/// Whether the segment spans the height of `p` and has it on its left.
 #[tactic(auto, unfolding(crate::specs::SideTests::left_of, crate::specs::SideTests::span, osm_lattice::specs::Line::is_left_of_line))]
 pub fn is_left_of(p: Loc, t: Seg) -> bool
     ensures { result ≡ left_of p t }
@@ -24,7 +24,7 @@ pub fn is_left_of(p: Loc, t: Seg) -> bool
     is_in_span(p, t) && t.has_on_left(p)
 }
 
-/// The two locations are one.
+/// Whether the two locations are equal.
 #[tactic(auto, unfolding(crate::specs::SideTests::same))]
 pub fn is_same(p: Loc, q: Loc) -> bool
     ensures { result ≡ same p q }
@@ -32,7 +32,7 @@ pub fn is_same(p: Loc, q: Loc) -> bool
     p == q
 }
 
-/// `t` begins where `s` does, and runs to the right of it.
+/// Whether `t` begins where `s` does, and runs to the right of it.
 #[tactic(auto, unfolding(crate::specs::SideTests::forks_right, crate::specs::SideTests::same, osm_lattice::specs::Line::is_right_of_line))]
 fn forks_right(s: Seg, t: Seg) -> bool
     ensures { result ≡ forks_right s t }
@@ -40,7 +40,7 @@ fn forks_right(s: Seg, t: Seg) -> bool
     is_same(s.a, t.a) && s.has_on_right(t.b)
 }
 
-/// The lower end of `s` is left of `t`, or `t` begins there too and runs to the right of `s`.
+/// Whether the lower end of `s` is left of `t`, or `t` begins there too and runs to the right of `s`.
 #[tactic(auto, unfolding(crate::specs::SideTests::starts_left, crate::specs::SideTests::span, osm_lattice::specs::Line::is_left_of_line, crate::specs::SideTests::forks_right))]
 fn starts_left_of(s: Seg, t: Seg) -> bool
     ensures { result ≡ starts_left s t }
@@ -48,7 +48,7 @@ fn starts_left_of(s: Seg, t: Seg) -> bool
     is_in_span(s.a, t) && (t.has_on_left(s.a) || forks_right(s, t))
 }
 
-/// Its upper end is no higher than its lower end.
+/// Whether its upper end is no higher than its lower end.
 #[tactic(auto, using(crate::proofs::SegmentTests::level_is))]
 pub fn is_horizontal(s: Seg) -> bool
     ensures { result ≡ level s }
@@ -56,7 +56,7 @@ pub fn is_horizontal(s: Seg) -> bool
     !(s.a.y < s.b.y)
 }
 
-/// `t` is another segment than `s` and right of it just above its lower end.
+/// Whether `t` is another segment than `s` and right of it just above its lower end.
 #[tactic(auto, unfolding(crate::specs::SideTests::counted, crate::specs::SideTests::same))]
 pub fn is_counted(s: Seg, t: Seg) -> bool
     ensures { result ≡ counted s t }
@@ -64,14 +64,14 @@ pub fn is_counted(s: Seg, t: Seg) -> bool
     !(is_same(s.a, t.a) && is_same(s.b, t.b)) && starts_left_of(s, t)
 }
 
-/// Its upper end is above the height of `at`.
+/// Whether its upper end is above the height of `at`.
 pub fn is_above(t: Seg, at: Loc) -> bool
     ensures { result ≡ ends_above at.y t }
 {
     at.y < t.b.y
 }
 
-/// Its lower end is no higher than `at`.
+/// Whether its lower end is no higher than `at`.
 pub fn begins_by(t: Seg, at: Loc) -> bool
     ensures { result ≡ begins_by at.y t }
 {

@@ -1,4 +1,4 @@
-//! One sweep upwards over many segments: their directions, and where locations lie against them.
+//! One sweep upwards over many segments: their directions, and where locations lie relative to them.
 
 pub mod leaving;
 pub mod rising;

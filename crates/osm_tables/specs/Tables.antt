@@ -1,4 +1,4 @@
--- Tables: their order, and the code that stands beside a key.
+-- Tables: their order, and the code for a key.
 use Rattle.std.specs.Prelude.{ℕ, List, [], ◌∷◌, Option, Some, None, ◌==◌, if◌then◌else◌, Contains, map, codes}
 use Rattle.std.specs.List.Sorted.{IsStrictlyIncreasing}
 use Rattle.osm_tables.specs.declared.Row.{Row}
@@ -11,12 +11,12 @@ HasRisingKeys rows = IsStrictlyIncreasing (map (λ r. r.key) rows)
 abbrev pub HasRow : List Row → ℕ → ℕ → Type 0
 HasRow rows key code = Contains rows (record { key = key; code = code })
 
--- the code beside a key
+-- the code for a key
 abbrev pub code_of : List Row → ℕ → Option ℕ
 code_of [] key = None
 code_of (r ∷ rows) key = if r.key == key then Some r.code else code_of rows key
 
--- ---- what stands in the tables
+-- ---- the contents of the tables
 
 -- keys and their codes, in order
 abbrev pub table : List ℕ → List ℕ → List Row
@@ -24,7 +24,7 @@ table [] codes = []
 table (key ∷ keys) [] = []
 table (key ∷ keys) (code ∷ codes) = record { key = key; code = code } ∷ table keys codes
 
--- the letters that a node, a way or a relation may have; the code 0 stands for no field
+-- the letters that a node, a way or a relation may have; the code 0 is no field
 abbrev pub node_fields : List Row
 node_fields = table (codes "DTcdituvxy") (0 ∷ 1 ∷ 2 ∷ 3 ∷ 4 ∷ 5 ∷ 6 ∷ 7 ∷ 8 ∷ 9 ∷ [])
 
@@ -38,6 +38,6 @@ relation_fields = table (codes "MTcdituv") (11 ∷ 1 ∷ 2 ∷ 3 ∷ 4 ∷ 5 ∷
 abbrev pub problem_kinds : List Row
 problem_kinds = table (1 ∷ 2 ∷ 3 ∷ 4 ∷ 5 ∷ 6 ∷ 7 ∷ 8 ∷ 9 ∷ 10 ∷ []) (1 ∷ 1 ∷ 1 ∷ 1 ∷ 1 ∷ 1 ∷ 2 ∷ 2 ∷ 2 ∷ 2 ∷ [])
 
--- the twelve kinds of lines of a coastline report: 1 stands for a warning, 2 for an error
+-- the twelve kinds of lines of a coastline report: 1 is a warning, 2 an error
 abbrev pub coast_kinds : List Row
 coast_kinds = table (1 ∷ 2 ∷ 3 ∷ 4 ∷ 5 ∷ 6 ∷ 7 ∷ 8 ∷ 9 ∷ 10 ∷ 11 ∷ 12 ∷ []) (2 ∷ 1 ∷ 1 ∷ 1 ∷ 2 ∷ 2 ∷ 2 ∷ 2 ∷ 1 ∷ 1 ∷ 1 ∷ 1 ∷ [])

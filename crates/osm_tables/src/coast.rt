@@ -25,7 +25,7 @@ pub const ANTARCTICA: u8 = 3;
 /// A gap between two chains is closed.
 pub const GAP: u8 = 4;
 
-/// A chain is not closed.
+/// A chain isn't closed.
 pub const UNCLOSED: u8 = 5;
 
 /// A ring is left out.
@@ -37,7 +37,7 @@ pub const CROSSING: u8 = 7;
 /// Two segments overlap.
 pub const OVERLAP: u8 = 8;
 
-/// A segment stands more than once.
+/// A segment occurs more than once.
 pub const REPEATED: u8 = 9;
 
 /// A ring runs the wrong way.
@@ -101,7 +101,7 @@ pub const COAST_KINDS: [Row; 12] = [
     },
 ];
 
-/// Whether a kind of line is a warning or an error, as its code; None where there is no such kind.
+/// Whether a kind of line is a warning or an error, as its code; None if there is no such kind.
 pub fn coast_code(kind: u8) -> Option<u16>
     ensures { result ≡ code_of COAST_KINDS kind }
 {
@@ -109,7 +109,7 @@ pub fn coast_code(kind: u8) -> Option<u16>
     look(&COAST_KINDS, kind)
 }
 
-/// The words of a kind of line; None where there is no such kind.
+/// The words of a kind of line; None if there is no such kind.
 pub fn coast_word(kind: u8) -> Option<&'static str>
     ensures listed { IsSome result ↔ IsSome (code_of COAST_KINDS kind) }
     ensures word { option_copied result ≡ coast_word_of kind }

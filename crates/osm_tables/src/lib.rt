@@ -17,7 +17,7 @@ pub struct Row {
     pub code: u16,
 }
 
-/// The code of the row with this key, None where no row has it. The tables are short, so the rows are gone through.
+/// The code of the row with this key; None if no row has it. The tables are short, so the rows are searched one by one.
 pub fn look<const N: usize>(rows: &[Row; N], key: u8) -> Option<u16>
     requires { HasRisingKeys rows.now }
     ensures row { MatchOption result (All (λ r. r.key ≢ key) rows.now)
@@ -32,7 +32,7 @@ pub fn look<const N: usize>(rows: &[Row; N], key: u8) -> Option<u16>
     None
 }
 
-/// The letters of a node's fields. Code 0 stands for no field: an upper case `D`, a common slip, is refused like any other letter.
+/// The letters of a node's fields. Code 0 is no field: an upper case `D`, a common slip, is refused like any other letter.
 pub const NODE_FIELDS: [Row; 10] = [
     Row { key: b'D', code: 0 },
     Row { key: b'T', code: 1 },
@@ -79,7 +79,7 @@ pub const RELATION_FIELDS: [Row; 8] = [
 /// The code of a problem: it keeps a candidate from becoming an area.
 pub const PROBLEM: u16 = 1;
 
-/// The code of a note: it is reported, and the area is made all the same.
+/// The code of a note: it is reported, but the area is made.
 pub const NOTE: u16 = 2;
 
 // ---- kinds of report lines
@@ -105,7 +105,7 @@ pub const ODD_NODE: u8 = 6;
 /// A way is named twice.
 pub const NAMED_TWICE: u8 = 7;
 
-/// A segment stands more than once.
+/// A segment occurs more than once.
 pub const REPEATED: u8 = 8;
 
 /// A way with role inner lies in an outer ring.
@@ -158,35 +158,35 @@ pub const PROBLEM_KINDS: [Row; 10] = [
     },
 ];
 
-/// The code of a field's letter in a node, None where no row has it.
+/// The code of a field's letter in a node; None if no row has it.
 pub fn node_field(letter: u8) -> Option<u16>
     ensures { result ≡ code_of NODE_FIELDS letter }
 {
     look(&NODE_FIELDS, letter)
 }
 
-/// The code of a field's letter in a way, None where no row has it.
+/// The code of a field's letter in a way; None if no row has it.
 pub fn way_field(letter: u8) -> Option<u16>
     ensures { result ≡ code_of WAY_FIELDS letter }
 {
     look(&WAY_FIELDS, letter)
 }
 
-/// The code of a field's letter in a relation, None where no row has it.
+/// The code of a field's letter in a relation; None if no row has it.
 pub fn relation_field(letter: u8) -> Option<u16>
     ensures { result ≡ code_of RELATION_FIELDS letter }
 {
     look(&RELATION_FIELDS, letter)
 }
 
-/// Whether a kind of report line is a problem or a note, as its code; None where there is no such kind.
+/// Whether a kind of report line is a problem or a note, as its code; None if there is no such kind.
 pub fn problem_code(kind: u8) -> Option<u16>
     ensures { result ≡ code_of PROBLEM_KINDS kind }
 {
     look(&PROBLEM_KINDS, kind)
 }
 
-/// The words of a kind of report line, which stand behind the object's name; None where there is no such kind.
+/// The words of a kind of report line, which follow the object's name; None if there is no such kind.
 pub fn problem_word(kind: u8) -> Option<&'static str>
     ensures listed { IsSome result ↔ IsSome (code_of PROBLEM_KINDS kind) }
     ensures word { option_copied result ≡ word_of kind }
@@ -206,7 +206,7 @@ pub fn problem_word(kind: u8) -> Option<&'static str>
     }
 }
 
-/// What stands in the tables.
+/// The contents of the tables.
 pub fn tables_are()
     ensures node { NODE_FIELDS ≡ node_fields }
     ensures way { WAY_FIELDS ≡ way_fields }
@@ -215,7 +215,7 @@ pub fn tables_are()
     ensures coast { COAST_KINDS ≡ coast_kinds }
 {}
 
-/// The keys of each table rise strictly, which `look` asks for.
+/// The keys of each table rise strictly, as `look` requires.
 pub fn tables_rise()
     ensures node { HasRisingKeys NODE_FIELDS }
     ensures way { HasRisingKeys WAY_FIELDS }

@@ -32,12 +32,13 @@ fn put_tags(text: &mut Vec<u8>, tags: &Tags) -> Result<(), OutOfMemory>
     Ok(())
 }
 
-/// Adds the feature of the format text, a line: the id and a space where there is an id, the polygons in well-known text,
-/// then where there are tags a space and the tags, and LF.
+/// Adds the feature of the format text: a line with the id, the polygons in well-known text, the tags, and LF.
 ///
-/// Each ring runs through the locations that its edges leave, the first again at the end (by law all its points where
-/// its edges run along whole segments). Coordinates are in degrees. The
-/// error is want of memory: what was there still stands in front, and a part of the feature may stand behind it.
+/// A space follows the id, and another precedes the tags. The id and its space are left out if there is no id, and so are
+/// the tags with theirs if there are no tags. Each ring runs through the locations that its edges leave, the first again at
+/// the end. By law these are all its points if its edges run along whole segments. Coordinates are in degrees.
+///
+/// Fails only if memory runs out. Then what was there before stays in front, and a part of the feature may follow it.
 pub fn put_feature_text(
     text: &mut Vec<u8>,
     polygons: &Polygons,

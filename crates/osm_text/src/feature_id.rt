@@ -15,8 +15,9 @@ use std::alloc::AllocError as OutOfMemory;
 pub enum FeatureId {
     /// The place of the feature in the output, from 1.
     Counter(u64),
-    /// The id of the feature's area, printed behind the letter `a`: twice the magnitude of the id of a way, or twice that of a
-    /// relation and 1, with the sign of the id.
+    /// The id of the feature's area, printed after the letter `a`.
+    ///
+    /// It is twice the magnitude of the id for a way, and twice that and 1 for a relation, with the sign of the id.
     Area(i64),
 }
 

@@ -60,7 +60,8 @@ HasPlainValue (polygons p) = ⊤
 HasPlainValue (output name) = begins_with_dash name ≡ false
 HasPlainValue overwrite = ⊤
 
--- Each option stands at most once, numbers and units are those of what is written, no value begins with a dash, and the file's name doesn't either or is a lone dash.
+-- Each option occurs at most once, and numbers and units are those of what is written. No value begins with a dash.
+-- The file's name doesn't either, or it is a lone dash.
 abbrev pub ArePlainCoastline : List (Form × CoastlineOption) → List ℕ → Type 0
 ArePlainCoastline options file = ArePlainWords name_of HasPlainValue options file
 

@@ -94,23 +94,21 @@ fn answer<'a>(alloc: Global, words: &'a [String]) -> Result<Job<'a>, WordsError>
     }
 }
 
-/// What the words of a run ask for, where they are the program's arguments without its name.
+/// What the words of a run ask for. The words are the program's arguments without its name.
 ///
-/// `answers` says that it is what `job_asked` says, want of memory aside. So NoCommand comes exactly where there are no
-/// words, and UnknownCommand exactly where the first word names no command. Refused comes exactly where the command's
-/// parser doesn't take the words behind its name, with the one kind that `clap` states for them. OutOfRange comes exactly
-/// where it takes them and a value isn't one of its option's. It names the first such option in the command's order:
+/// `answers` says that it is what `job_asked` says, unless memory runs out. So NoCommand comes exactly if there are no
+/// words, and UnknownCommand exactly if the first word names no command. Refused comes exactly if the command's parser
+/// doesn't take the words after its name. It has the one kind that `clap` states for them.
 ///
-/// - `export`: `f`, `u`, `a` (`--area-keys`), `l` (`--linear-keys`);
-/// - `coastline`: `c`, `m`, `b`, `p`;
-/// - `sample`: `N`, as its one value is named;
-/// - `coast-filter`: none, since no value of its options has a range;
-/// - `certify`: `u`, `a`, `l`, and behind them `t` where both names are `-`, since standard input is read once;
-/// - `locate`: `a`, `l`, and `t` in the same way.
+/// OutOfRange comes exactly if the parser takes them and a value isn't one of its option's. It names the first such option
+/// in the command's order. For `export` this is `f`, `u`, `a` (`--area-keys`), `l` (`--linear-keys`). For `coastline` it is
+/// `c`, `m`, `b`, `p`. For `sample` it is `N`, the name of its one value. For `coast-filter` there is none, since no value
+/// of its options has a range. For `certify` it is `u`, `a`, `l`, and then `t` if both names are `-`, since standard input
+/// is read once. For `locate` it is `a`, `l`, and `t` in the same way.
 ///
-/// `plain` and the clauses that are named after other commands say that options in any order, each in its short or its
-/// long form and at most once, and behind them a file, or a file and a second input, are taken with what they say;
-/// `plain_sample` says so of a number in range alone.
+/// `plain` and the clauses named after other commands say which words are taken with what they say. These are options in any
+/// order, each in its short or its long form and at most once. A file follows them, or a file and a second input.
+/// `plain_sample` says this only of a number in range.
 pub fn job_of<'a>(alloc: Global, words: &'a [String]) -> Result<Job<'a>, WordsError>
     ensures answers { AnswersWords (job_asked (map string_bytes words.now)) result }
     ensures plain { (options : List (Form × ExportOption)) (file : List ℕ) → ArePlain options file

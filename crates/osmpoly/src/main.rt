@@ -7,10 +7,10 @@ use std::env;
 use std::io::ErrorKind;
 use std::process::ExitCode;
 
-/// The status where the words can't be held.
+/// The status if the words can't be held.
 const NO_MEMORY: u8 = 5;
 
-/// The status where a word isn't text.
+/// The status if a word isn't text.
 const NO_TEXT: u8 = 6;
 
 fn main(rt: HostRuntime) -> ExitCode {
@@ -23,7 +23,7 @@ fn main(rt: HostRuntime) -> ExitCode {
     ends(run_for_status(alloc, &words, &mut host))
 }
 
-/// The words after the program's name, or the status that says why they can't be had.
+/// The words after the program's name, or the status that says why there are none.
 fn words_given(rt: &HostRuntime) -> Result<Vec<String>, u8> {
     let words = match env::args(rt) {
         Ok(words) => words,

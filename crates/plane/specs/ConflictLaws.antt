@@ -16,7 +16,7 @@ CrossingIsSymmetric = (s t : Edge) → crosses t s ≡ crosses s t
 abbrev pub ConflictIsSymmetric : Type 0
 ConflictIsSymmetric = (s t : Edge) → conflicts t s ≡ conflicts s t
 
--- a segment overlaps itself, so that a list without conflicts has no edge twice
+-- a segment overlaps itself, so a list without conflicts has no edge twice
 abbrev pub SegmentOverlapsItself : Type 0
 SegmentOverlapsItself = (s : Edge) → IsRisingEdge s → overlaps s s ≡ true
 
@@ -24,7 +24,7 @@ SegmentOverlapsItself = (s : Edge) → IsRisingEdge s → overlaps s s ≡ true
 abbrev pub ClearSegmentMisses : Type 0
 ClearSegmentMisses = (s t : Edge) → IsRisingEdge s → IsRisingEdge t → IsClearOf s t → Misses s.from s.to t
 
--- an end of a segment that is no end of another one lies nowhere on it, where they don't conflict
+-- an end of a segment that is no end of another one is off the other, if they don't conflict
 abbrev pub ClearEndIsOff : Type 0
 ClearEndIsOff =
     (v : Vector) (s t : Edge) → IsRisingEdge t → IsClearOf s t → ends_at v s ≡ true → ends_at v t ≡ false →

@@ -10,9 +10,13 @@ pub record IsBetween (s t p : Vector) : Type 0 where
   pub after_s : sign (dot (from_to s t) (from_to s p)) ≡ Plus
   pub before_t : sign (dot (from_to s t) (from_to p t)) ≡ Plus
 
--- a, b: the sides of the line from s to t that the edge's two ends are on; cs, ct: the sides of the edge that s and t are on;
--- us, vs, ut, vt: where the ends are along the line, seen from s and from t.
--- The edge is strictly on one side; or on the line, not past s or not before t; or its line passes s and t on one side
+-- Whether an edge misses the segment from s to t, by signs:
+-- - a, b: the sides of the line from s to t that the edge's two ends are on
+-- - cs, ct: the sides of the edge that s and t are on
+-- - us, vs, ut, vt: where the ends are along the line, seen from s and from t
+--
+-- The edge is strictly on one side. Or it is on the line, not past s or not before t. Or its line passes s and t on one
+-- side.
 abbrev pub misses_by : Sign → Sign → Sign → Sign → Sign → Sign → Sign → Sign → Bool
 misses_by Plus Plus cs ct us vs ut vt = true
 misses_by Minus Minus cs ct us vs ut vt = true

@@ -13,21 +13,21 @@ MissesBothWays = (s t : Vector) (e : Edge) → Misses s t e → Misses t s e
 abbrev pub InnerPointIsOff : Type 0
 InnerPointIsOff = (s t p : Vector) (e : Edge) → IsBetween s t p → Misses s t e → IsOffEdge p e
 
--- the ray along the segment crosses the edge from all inner points in the same way, since the edge would meet the segment in between
+-- the ray along the segment crosses the edge from all inner points in the same way, since otherwise the edge would meet the segment in between
 abbrev pub InnerPointsSeeAlike : Type 0
 InnerPointsSeeAlike =
     (s t p q : Vector) (e : Edge) → IsBetween s t p → IsBetween s t q → Misses s t e →
     (up_crossing (from_to s t) (from_to p e.from) (from_to p e.to) ≡ up_crossing (from_to s t) (from_to q e.from) (from_to q e.to))
     × (down_crossing (from_to s t) (from_to p e.from) (from_to p e.to) ≡ down_crossing (from_to s t) (from_to q e.from) (from_to q e.to))
 
--- and in the same way from s, where s is not on the edge
+-- it crosses the edge in the same way from s, if s is not on the edge
 abbrev pub EndSeesAlike : Type 0
 EndSeesAlike =
     (s t p : Vector) (e : Edge) → IsBetween s t p → Misses s t e → IsOffEdge s e →
     (up_crossing (from_to s t) (from_to p e.from) (from_to p e.to) ≡ up_crossing (from_to s t) (from_to s e.from) (from_to s e.to))
     × (down_crossing (from_to s t) (from_to p e.from) (from_to p e.to) ≡ down_crossing (from_to s t) (from_to s e.from) (from_to s e.to))
 
--- it doesn't cross an edge that ends at s
+-- the ray doesn't cross an edge that ends at s
 abbrev pub EdgeAtEndIsNotCrossed : Type 0
 EdgeAtEndIsNotCrossed =
     (s t p : Vector) (e : Edge) → IsBetween s t p → Misses s t e → ends_at s e ≡ true →

@@ -18,11 +18,13 @@ abbrev pub starts_left_of : Edge → Edge → Bool
 starts_left_of s t =
     is_in_span s.from t && (is_plus (orient t.from t.to s.from) || (same_point s.from t.from && is_minus (orient s.from s.to t.to)))
 
--- where t is at the height of p, as a fraction: x is the height of t, y its distance to the right of p at that height multiplied by the height of t
+-- Where t is at the height of p, as a fraction. Its x is the height of t.
+-- Its y is the distance of t to the right of p at that height, multiplied by the height of t.
 abbrev pub distance_right : Vector → Edge → Vector
 distance_right p t = record { x = t.to.y -ℤ t.from.y; y = cross (from_to p t.from) (from_to p t.to) }
 
--- Plus where f is right of e at the height of p, or at one place with it there and right of it just above. Both have p in their span
+-- Plus if f is right of e at the height of p, or at the same place there and right of it just above.
+-- Both have p in their span.
 abbrev pub order_above : Vector → Edge → Edge → Sign
 order_above p e f =
     then_sign (sign (cross (distance_right p e) (distance_right p f))) (sign (cross (from_to f.from f.to) (from_to e.from e.to)))

@@ -5,7 +5,7 @@ use Rattle.plane.specs.Edge.{Edge}
 use Rattle.plane.specs.Height.{is_in_span, is_right_above, order_above}
 use Rattle.plane.specs.Vector.{Vector}
 
--- of the edges that span a height none is right of itself
+-- no edge that spans a height is right of itself
 abbrev pub NoEdgeIsRightOfItself : Type 0
 NoEdgeIsRightOfItself = (p : Vector) (e : Edge) → is_right_above p e e ≡ false
 

@@ -8,7 +8,7 @@ use Rattle.plane.specs.Vector.{Vector}
 abbrev pub PointOrderTellsApart : Type 0
 PointOrderTellsApart = (p q : Vector) → (order p q ≡ Null) ↔ (p ≡ q)
 
--- of two points one comes before the other where the other comes after it
+-- one of two points comes before the other exactly if the other comes after it
 abbrev pub PointOrderReverses : Type 0
 PointOrderReverses = (p q : Vector) → order q p ≡ negated (order p q)
 

@@ -1,5 +1,6 @@
--- How a step from a to b crosses the ray from the origin in a direction d. A point on the line of the ray counts as not above it
--- (half-open rule), so that a step that ends there and the next one are counted once together.
+-- How a step from a to b crosses the ray from the origin in a direction d.
+-- A point on the line of the ray counts as not above it (half-open rule). So a step that ends there and the next one count
+-- once together.
 use Rattle.std.specs.Prelude.{Bool, not, true, ℕ, ◌&&◌, ◌||◌, ◌≡◌}
 use lib.IntN.{pos, ℤ, ◌-ℤ◌}
 use Rattle.plane.specs.Bit.{bit}
@@ -7,11 +8,12 @@ use Rattle.plane.specs.Edge.{Edge}
 use Rattle.plane.specs.Sign.{Sign, is_minus, is_null, is_plus, sign}
 use Rattle.plane.specs.Vector.{Vector, cross, dot, from_to}
 
--- the step comes from not above the line of the ray to above it, and passes the origin on the ray's side: the signs of cross d a, cross d b and cross a b
+-- The step goes from not above the line of the ray to above it, and passes the origin on the ray's side.
+-- The signs are those of cross d a, cross d b and cross a b.
 abbrev pub crosses_up : Sign → Sign → Sign → Bool
 crosses_up s t c = not (is_plus s) && (is_plus t && is_plus c)
 
--- the step comes from above the line of the ray to not above it, and passes the origin on the ray's side
+-- the step goes from above the line of the ray to not above it, and passes the origin on the ray's side
 abbrev pub crosses_down : Sign → Sign → Sign → Bool
 crosses_down s t c = is_plus s && (not (is_plus t) && is_minus c)
 
@@ -21,11 +23,11 @@ up_by s t c = bit (crosses_up s t c)
 abbrev pub down_by : Sign → Sign → Sign → ℕ
 down_by s t c = bit (crosses_down s t c)
 
--- 1 where the step crosses the ray counterclockwise, else 0
+-- 1 if the step crosses the ray counterclockwise, else 0
 abbrev pub up_crossing : Vector → Vector → Vector → ℕ
 up_crossing d a b = up_by (sign (cross d a)) (sign (cross d b)) (sign (cross a b))
 
--- 1 where it crosses it clockwise, else 0
+-- 1 if the step crosses the ray clockwise, else 0
 abbrev pub down_crossing : Vector → Vector → Vector → ℕ
 down_crossing d a b = down_by (sign (cross d a)) (sign (cross d b)) (sign (cross a b))
 

@@ -1,4 +1,4 @@
--- Points and edges multiplied by a number: a point X/q, Y/q against an edge is the point X, Y against the edge multiplied by q.
+-- Points and edges multiplied by a number: a point X/q, Y/q lies to an edge as the point X, Y lies to the edge multiplied by q.
 use lib.IntN.{ℤ, ◌*ℤ◌}
 use Rattle.plane.specs.Edge.{Edge}
 use Rattle.plane.specs.Vector.{Vector}

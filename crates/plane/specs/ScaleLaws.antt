@@ -1,4 +1,4 @@
--- Nothing changes where points and edges are multiplied by a positive number, as statements.
+-- Nothing changes if points and edges are multiplied by a positive number, as statements.
 use Rattle.std.specs.Prelude.{◌≡◌}
 use lib.IntN.{ℤ}
 use Rattle.plane.specs.Conflict.{crosses, overlaps}

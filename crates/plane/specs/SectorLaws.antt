@@ -5,7 +5,9 @@ use Rattle.plane.specs.RayCrossing.{IsOff, down_crossing, ray_crossing, up_cross
 use Rattle.plane.specs.Sector.{in_sector}
 use Rattle.plane.specs.Vector.{IsNonZero, Vector}
 
--- a step off the origin crosses the ray in the direction d and not that in the direction e, counted with signs, as it enters the sector from d to e
+-- Take a step off the origin.
+-- Its signed crossing of the ray in the direction d, less that of the ray in the direction e, is how it enters the sector
+-- from d to e.
 abbrev pub SectorLemma : Type 0
 SectorLemma =
     (d e a b : Vector) → IsNonZero d → IsNonZero e → IsOff a b →

@@ -1,4 +1,4 @@
--- What signs and directions mean, as statements.
+-- The meaning of signs and directions, as statements.
 use Rattle.std.specs.Prelude.{◌↔◌, ◌≡◌}
 use lib.IntN.{pos, ℤ}
 use lib.Signed.{◌<ℤ◌}

@@ -13,11 +13,11 @@ pub record Vector : Type 0 where
 abbrev pub from_to : Vector → Vector → Vector
 from_to p q = record { x = q.x -ℤ p.x; y = q.y -ℤ p.y }
 
--- Plus where b is counterclockwise of a, less than a half turn
+-- Plus if b is counterclockwise of a, by less than a half turn
 abbrev pub cross : Vector → Vector → ℤ
 cross a b = a.x *ℤ b.y -ℤ a.y *ℤ b.x
 
--- Plus where b is less than a quarter turn from a
+-- Plus if b is less than a quarter turn from a
 abbrev pub dot : Vector → Vector → ℤ
 dot a b = a.x *ℤ b.x +ℤ a.y *ℤ b.y
 
@@ -35,6 +35,6 @@ orient p q r = sign (cross (from_to p q) (from_to p r))
 abbrev pub same_point : Vector → Vector → Bool
 same_point p q = int_eq p.x q.x && int_eq p.y q.y
 
--- 1 where q is p, else 0
+-- 1 if q is p, else 0
 abbrev pub one_at : Vector → Vector → ℕ
 one_at p q = bit (same_point p q)

@@ -1,7 +1,7 @@
 //! Segments with and without conflict.
 ghost use Rattle.plane.specs.ConflictLaws.{OverlapIsSymmetric, CrossingIsSymmetric, ConflictIsSymmetric, SegmentOverlapsItself, ClearSegmentMisses, ClearEndIsOff};
 
-/// Whether two segments overlap, cross or conflict doesn't depend on which is named first; a segment overlaps itself.
+/// Whether two segments overlap, cross or conflict doesn't depend on which is named first. A segment overlaps itself.
 pub fn conflict_is_symmetric()
     ensures overlap { OverlapIsSymmetric }
     ensures crossing { CrossingIsSymmetric }
@@ -9,8 +9,9 @@ pub fn conflict_is_symmetric()
     ensures itself { SegmentOverlapsItself }
 {}
 
-/// Two segments that don't conflict share no point that isn't an end of both: no point of the one is strictly between
-/// the ends of the other, and an end of the one that isn't an end of the other is off the other.
+/// Two segments that don't conflict share no point that isn't an end of both.
+///
+/// No point of one is strictly between the ends of the other. An end of one that isn't an end of the other is off the other.
 pub fn clear_segments_share_only_ends()
     ensures between { ClearSegmentMisses }
     ensures ends { ClearEndIsOff }

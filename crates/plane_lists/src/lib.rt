@@ -1,5 +1,7 @@
-//! Lists of edges in the plane; laws. How a ray crosses them, how often they go round a point, and the odd side; walks, rings
-//! and polygons, which are one and valid; the status of a sweep; halves; lists whose points are moved or rounded.
+//! Laws of lists of edges in the plane.
+//!
+//! They say how a ray crosses lists, how often lists go round a point, and what the odd side is. Walks, rings and polygons
+//! are one and valid. There are laws of the status of a sweep, of halves, and of lists whose points are moved or rounded.
 //!
 //! There is no code to run here. Each public function has an empty body; its contract is a law about the definitions in
 //! `specs/`, for all lists of edges between points with integer coordinates.

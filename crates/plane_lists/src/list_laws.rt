@@ -1,5 +1,6 @@
-//! Lists of edges in the plane: how a ray crosses them, how often they go round a point, and the directions that the odd
-//! side gives them.
+//! Lists of edges in the plane: how a ray crosses them, and how often they go round a point.
+//!
+//! The odd side gives their edges directions.
 
 pub mod along_segment;
 pub mod count;

@@ -1,18 +1,20 @@
-//! A sided list has one ring list alone: the rings that its walks are cut into are determined.
+//! A sided list has exactly one ring list: the rings that its walks are cut into are determined.
 
 ghost use Rattle.plane_lists.specs.OneRingList.Laws.{WalkSeesAlike, ClosedPartsShareOnePoint, PointsDoNotAlternate, RingsOfWalksAreOne, RingListIsOne, CutsAreRingListOf, CutsAreOne, KindsAreOne, DirectEnclosureIsOne, RingsDoNotCross, WalksAreNeeded};
 
-/// All edges of a walk see a list alike, and two closed parts of a walk share no point but the one
-/// where they are parted. So a walk doesn't meet two points by turns.
+/// All edges of a walk see a list alike.
+///
+/// Two closed parts of a walk share only the point at which they are cut. So a walk doesn't meet two points alternately.
 pub fn closed_parts_share_one_point()
     ensures sees { WalkSeesAlike }
     ensures one_point { ClosedPartsShareOnePoint }
     ensures no_turns { PointsDoNotAlternate }
 {}
 
-/// Two rings of walks that have an edge in common are one. So a sided list has one ring list alone,
-/// up to the order of the rings and where each begins. No two of its rings cross. That each lies
-/// within one walk can't be left out.
+/// Two rings of walks that have an edge in common are one.
+///
+/// So a sided list has at most one ring list, up to the order of the rings and where each begins. No two of its rings cross.
+/// The condition that each ring lies within one walk can't be left out.
 pub fn ring_list_is_one()
     ensures ring { RingsOfWalksAreOne }
     ensures ring_list { RingListIsOne }
@@ -26,7 +28,7 @@ pub fn cuts_are_one()
     ensures one { CutsAreOne }
 {}
 
-/// The one ring list nests in one way, however its rings are ordered and begun.
+/// The one ring list nests in one way, whatever the order of its rings and wherever they begin.
 pub fn nesting_is_one()
     ensures kinds { KindsAreOne }
     ensures direct { DirectEnclosureIsOne }

@@ -1,4 +1,6 @@
-//! Rings in the plane that do not cross: how a sided list is cut into them, which encloses which, and what polygons they make.
+//! Rings in the plane that don't cross.
+//!
+//! The laws say how a sided list is cut into them, which encloses which, and what polygons they make.
 
 pub mod cover;
 pub mod nest;

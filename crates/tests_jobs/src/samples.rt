@@ -4,8 +4,10 @@ use osm_sample::sample_input;
 use std::alloc::Global;
 use std::test::Fail;
 
-/// The sample of one cell, by its description: the corners of the cell and of its hole, the coast in a zigzag from right to
-/// left, the ways, the cell and the forest.
+/// The sample of one cell, by its description.
+///
+/// It has the corners of the cell and of its hole, the coast in a zigzag from right to left, the ways, the cell and the
+/// forest.
 const ONE_CELL: &str = "n1 x0 y0
 n2 x0.0008 y0
 n3 x0.0008 y0.0008

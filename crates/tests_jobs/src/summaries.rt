@@ -1,5 +1,7 @@
-//! Summaries of samples, against the numbers that their description gives: of N times N cells, N N + 2 areas, 2 N N + 1
-//! polygons, 4 N N + 1 rings, no problem, and one piece each of land and of water.
+//! Summaries of samples, against the numbers that their description gives.
+//!
+//! N times N cells have N N + 2 areas, 2 N N + 1 polygons and 4 N N + 1 rings. There is no problem, and one piece each of
+//! land and of water.
 
 use job_small::sample::{Summary, sample, sample_summary};
 use osm_job::Ended;

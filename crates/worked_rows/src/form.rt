@@ -7,7 +7,7 @@ const WORDS: [&str; 10] = [
     "text", "row", "words", "input", "taken", "most", "fails", "out", "report", "ends",
 ];
 
-/// Why a block can't be followed.
+/// Why a block isn't of the form.
 #[derive(Clone, Copy)]
 pub(crate) struct BlockFault(pub(crate) &'static str);
 
@@ -17,7 +17,7 @@ impl From<OutOfMemory> for BlockFault {
     }
 }
 
-/// A field: the word that it begins with, what it says behind that, and its text.
+/// A field: the word that it begins with, what it says after that, and its text.
 #[derive(Drop)]
 pub(crate) struct Field<'a> {
     pub(crate) word: &'a str,
@@ -35,13 +35,14 @@ pub(crate) fn find<'f, 'a>(fields: &'f [Field<'a>], word: &str) -> Option<&'f Fi
     None
 }
 
-/// The first of words that are parted by spaces, and the others.
+/// The first of words that are separated by spaces, and the others.
 pub(crate) fn first_word(words: &str) -> (&str, &str) {
     words.split_once(' ').unwrap_or((words, ""))
 }
 
-/// Adds a line of a block: the words of a field, and behind the first `|` a line of the last field's text. One that begins with
-/// `#` is a comment.
+/// Adds a line of a block: the words of a field, or, after the first `|`, a line of the last field's text.
+///
+/// A line that begins with `#` is a comment.
 pub(crate) fn add_line<'a>(
     alloc: Global,
     line: &'a str,
@@ -61,7 +62,7 @@ pub(crate) fn add_line<'a>(
     }
 }
 
-/// Adds a field of these words, where there are any, with the named texts that it calls. Each but an input stands once.
+/// Adds a field of these words, if there are any, with the named texts that it calls. Each but an input occurs once.
 fn add_field<'a>(
     alloc: Global,
     words: &'a str,
@@ -133,7 +134,7 @@ fn add_text(line: &str, text: &mut Vec<u8>) -> Result<(), BlockFault> {
     Ok(())
 }
 
-/// Adds what stands behind a `\`: two hex digits for a byte, and what stands for itself.
+/// Adds what follows a `\`: two hex digits for a byte, and then plain text.
 fn add_escaped(part: &str, text: &mut Vec<u8>) -> Result<(), BlockFault> {
     let (digits, others) = part.split_at_checked(2).unwrap_or(("", ""));
     let Ok(byte) = u8::from_str_radix(digits, 16) else {

@@ -1,7 +1,8 @@
-//! Makes the worked runs of the program: each is a row of standard input, in the form that the head of the file `stdin` describes.
+//! Makes the worked runs of the program, which are the rows of standard input.
 //!
-//! A run is that of `osm_cli` over a host in memory. For each row a line is printed, which ends in `ok` or says what was wanted and
-//! what came, and last how many rows went as wanted, and how many didn't. The status is 1 where one didn't.
+//! The head of the file `stdin` describes their form. A run is that of `osm_cli` over a host in memory. A line is printed
+//! for each row, which ends in `ok` or says what was wanted and what came. The last line says how many rows went as wanted,
+//! and how many didn't. The status is 1 if one didn't.
 #![tactic(auto)]
 
 mod form;
@@ -13,7 +14,7 @@ use std::alloc::{AllocError as OutOfMemory, Global};
 use std::io;
 use std::process::ExitCode;
 
-/// What came of the rows so far: the texts that have names, the lines to print, and how many rows went as wanted.
+/// The results of the rows so far: the named texts, the lines to print, and how many rows went as wanted.
 #[derive(Drop)]
 struct Told<'a> {
     texts: Vec<Field<'a>>,
@@ -47,7 +48,7 @@ fn tell_rows<'a>(alloc: Global, rows: &'a str, told: &mut Told<'a>) -> Result<()
     Ok(())
 }
 
-/// Follows a block, and tells one that isn't of the form.
+/// Follows a block, and reports one that isn't of the form.
 fn tell_block<'a>(alloc: Global, block: &'a str, told: &mut Told<'a>) -> Result<(), OutOfMemory> {
     let mut fields = Vec::new(alloc);
     match follow(alloc, block, &mut fields, told) {
@@ -56,7 +57,7 @@ fn tell_block<'a>(alloc: Global, block: &'a str, told: &mut Told<'a>) -> Result<
     }
 }
 
-/// Tells a block that isn't of the form.
+/// Reports a block that isn't of the form.
 fn tell_fault(block: &str, fault: BlockFault, told: &mut Told<'_>) -> Result<(), OutOfMemory> {
     told.failed = told.failed.saturating_add(1);
     told.lines.push_str(block)?;
@@ -88,7 +89,7 @@ fn follow<'a>(
     Ok(())
 }
 
-/// Makes the run of a row, and tells how it went.
+/// Makes the run of a row, and reports how it went.
 fn tell_row(
     alloc: Global,
     name: &str,

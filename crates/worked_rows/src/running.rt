@@ -9,7 +9,7 @@ use tests_host::MemoryHost;
 /// The host's room for what is written.
 const ROOM: usize = 65536;
 
-/// Makes a row's run, and tells where it differs from what is wanted: nothing where it doesn't.
+/// Makes a row's run, and reports where it differs from what is wanted, if anywhere.
 pub(crate) fn tell_run(
     alloc: Global,
     fields: &[Field<'_>],
@@ -21,7 +21,7 @@ pub(crate) fn tell_run(
     run_over(alloc, fields, &mut host, told)
 }
 
-/// Makes a row's run over a host that holds nothing yet.
+/// Makes a row's run over an empty host.
 fn run_over(
     alloc: Global,
     fields: &[Field<'_>],
@@ -36,7 +36,7 @@ fn run_over(
     tell_differences(alloc, fields, &words, host, told)
 }
 
-/// Runs the words, and tells where the run differs from what is wanted.
+/// Runs the words, and reports where the run differs from what is wanted.
 fn tell_differences(
     alloc: Global,
     fields: &[Field<'_>],
@@ -63,7 +63,7 @@ fn prepare(field: &Field<'_>, host: &mut MemoryHost) -> Result<(), BlockFault> {
     }
 }
 
-/// Lets the calls of these numbers fail.
+/// Makes the calls of these numbers fail.
 fn fail_at(numbers: &str, host: &mut MemoryHost) -> Result<(), BlockFault> {
     for digits in numbers.split_whitespace() {
         host.fail_at(number(digits)?)?;
@@ -96,7 +96,7 @@ fn said<'a>(fields: &[Field<'a>], word: &str) -> Option<&'a str> {
     }
 }
 
-/// The text of the field of a word; empty where there is none.
+/// The text of the field of a word; empty if there is none.
 fn text_of<'f>(fields: &'f [Field<'_>], word: &str) -> &'f [u8] {
     match find(fields, word) {
         Some(field) => field.text.as_slice(),
@@ -104,7 +104,7 @@ fn text_of<'f>(fields: &'f [Field<'_>], word: &str) -> &'f [u8] {
     }
 }
 
-/// Tells the status and the ending of a run, unless they begin with what is wanted.
+/// Reports the status and the ending of a run, unless they begin with what is wanted.
 fn tell_ending(
     alloc: Global,
     wanted: &str,
@@ -119,7 +119,7 @@ fn tell_ending(
     }
 }
 
-/// Tells a difference, where there is one.
+/// Reports a difference, if there is one.
 fn tell(word: &str, wanted: &[u8], got: &[u8], told: &mut String) -> Result<(), OutOfMemory> {
     if wanted == got {
         return Ok(());

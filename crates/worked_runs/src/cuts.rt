@@ -1,11 +1,11 @@
-//! A run over each front of an input.
+//! A run over each prefix of an input.
 
 use osm_cli::{Ended, run};
 use std::alloc::{AllocError as OutOfMemory, Global};
 use std::test::Fail;
 use tests_host::MemoryHost;
 
-/// A village as osmium writes it: a boundary of two ways, a label, and a node that was deleted.
+/// A village as osmium writes it: a boundary of two ways, a label, and a deleted node.
 const VILLAGE: &str =
     "n1 v1 dV c11 t2020-01-01T00:00:00Z i7 uAnna%20%B T x10 y50\nn2 v1 dV c11 t2020-01-01T00:00:00Z i7 uAnna%20%B T x10.1 y50\nn3 v1 dV c11 t2020-01-01T00:00:00Z i7 uAnna%20%B T x10.1 y50.1\nn4 v1 dV c11 t2020-01-01T00:00:00Z i7 uAnna%20%B T x10 y50.1\nn8 v2 dD c12 t2020-01-03T00:00:00Z i7 uAnna%20%B T x y\nn9 v1 dV c11 t2020-01-01T00:00:00Z i7 uAnna%20%B Tplace=village x10.05 y50.05\nw1 v2 dV c12 t2020-01-03T00:00:00Z i7 uAnna%20%B T Nn1,n2,n3\nw2 v1 dV c11 t2020-01-01T00:00:00Z i7 uAnna%20%B T Nn1,n4,n3\nr1 v4 dV c12 t2020-01-03T00:00:00Z i7 uAnna%20%B Ttype=boundary,boundary=administrative,admin_level=8 Mw1@outer,w2@outer,n9@label\n";
 

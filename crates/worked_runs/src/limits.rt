@@ -8,7 +8,7 @@ use std::alloc::{AllocError as OutOfMemory, Global};
 use std::test::Fail;
 use tests_host::MemoryHost;
 
-/// A host that holds an input, where the call of this number fails.
+/// A host that holds an input, and whose call of this number fails.
 fn host_of(alloc: Global, input: &str, fail: u64) -> Result<MemoryHost, OutOfMemory> {
     let mut host = MemoryHost::new(alloc, 65536);
     host.add_input("-", input.as_bytes())?;
@@ -17,7 +17,7 @@ fn host_of(alloc: Global, input: &str, fail: u64) -> Result<MemoryHost, OutOfMem
     Ok(host)
 }
 
-/// Why the input isn't read; None where it is. A read fault also where it isn't opened.
+/// Why the input isn't read; None if it is. It is a read fault, too, if the input can't be opened.
 fn read_error(alloc: Global, host: &mut MemoryHost, limit: u32, longest: u64) -> Option<ReadError> {
     let Ok(()) = host.open_input("-") else {
         return Some(ReadError::ReadFault);
@@ -38,7 +38,7 @@ fn too_much(limit: u64) -> Option<ReadError> {
     Some(ReadError::TooMuchInput { limit })
 }
 
-/// A read that fails behind a bad line doesn't hide it; the unfinished line isn't read.
+/// A read that fails after a bad line doesn't hide it; the unfinished line isn't read.
 #[test]
 fn limits_are_met_exactly(rt: HostRuntime) -> Result<(), Fail> {
     let alloc = rt.alloc();
@@ -56,7 +56,7 @@ fn limits_are_met_exactly(rt: HostRuntime) -> Result<(), Fail> {
         ("n1 x0 y00\n", 100, 8, 0, bad(1, long)),
         ("n1\nn1\nx", 100, 8, 0, bad(2, again)),
         ("n1\nn1\n", 3, 8, 0, too_much(3)),
-        // only lines within the limit are read, and they before it is passed
+        // only lines within the limit are read, and before it is exceeded
         ("n1\nx1\n", 3, 8, 0, too_much(3)),
         ("n1\nx1\nn2\n", 6, 8, 0, bad(2, unknown)),
         ("n1\nxxxxxxxx", 8, 8, 0, too_much(8)),

@@ -9,7 +9,7 @@ use std::test::Fail;
 const ESCAPED: &str =
     "n1 x0 y0\nn2 x1 y0\nn3 x1 y1\nn4 x0 y1\nw7 Tname=Hütte,building=yes Nn1,n2,n3,n4,n1\n";
 
-/// Adds an object to a text, a line of it.
+/// Adds the line of an object to a text.
 fn push_told(alloc: Global, text: &mut String, object: Option<Object>) -> Result<(), OutOfMemory> {
     let Some(object) = object else {
         return Ok(());
@@ -17,7 +17,7 @@ fn push_told(alloc: Global, text: &mut String, object: Option<Object>) -> Result
     text.push_str(&format!(in alloc; "{object:?}\n")?)
 }
 
-/// The objects that are handed out where each piece has at most this many bytes, as text.
+/// The objects that are handed out if each piece has at most this many bytes, as text.
 fn told_by(alloc: Global, input: &[u8], size: usize) -> Result<String, FeedError> {
     let mut text = String::new(alloc);
     let mut lines = Lines::new(alloc, 1 << 24);
@@ -33,7 +33,7 @@ fn told_by(alloc: Global, input: &[u8], size: usize) -> Result<String, FeedError
     Ok(text)
 }
 
-/// A piece of all bytes is taken up to each newline.
+/// A piece of all bytes is read up to each newline.
 #[test]
 fn objects_are_the_same_by_bytes_and_by_lines(rt: HostRuntime) -> Result<(), Fail> {
     let alloc = rt.alloc();

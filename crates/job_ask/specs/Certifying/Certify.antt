@@ -1,4 +1,4 @@
--- What a certifying job is to write in all, and how it is to end.
+-- What a certifying job must write in all, and how it must end.
 use Rattle.std.specs.Prelude.{◌≡◌, ℕ, List, []}
 use Rattle.osm_elements.specs.declared.object.Object.{Object}
 use Rattle.osm_host.specs.Outside.{Outside}
@@ -18,14 +18,14 @@ choice_of settings = record {
   linear_keys = settings.linear_keys;
 }
 
--- The text has no wrong line for the objects; or this line is the first, which the ending names. Nothing is written, either
--- way, but the last line of the report.
+-- The text has no wrong line for the objects, or this line is the first wrong one, which the ending names.
+-- Either way, only the last line of the report is written.
 pub data IsCertify (settings : CertifySettings) (objects : List Object) (text : List ℕ) (whole : Whole) : Type 0 where
   right : HasNoWrongLine (choice_of settings) settings.ids objects text → whole ≡ silent ended.Done →
       IsCertify settings objects text whole
   wrong : (line : ℕ) → IsFirstWrongLine (choice_of settings) settings.ids objects text line →
       whole ≡ silent (ended.Refuted line) → IsCertify settings objects text whole
 
--- A certifying job ended so: it reads its input and then its text, opens no output, and ends as is right for both.
+-- A certifying job ended like this: it reads its input and then its text, opens no output, and ends as is right for both.
 abbrev pub Certifies : CertifySettings → Ended → Outside → Outside → Type 0
 Certifies settings ended before after = ReadBoth settings.file settings.text [] (IsCertify settings) ended before after

@@ -1,4 +1,4 @@
--- The export whose output a certifying job looks for in its text.
+-- The export whose output a certifying job expects in its text.
 use Rattle.std.specs.Prelude.{false, codes}
 use Rattle.osm_words.specs.Job.{CertifySettings, ExportSettings}
 use Rattle.osm_words.specs.declared.settings.Format.TheVariants.{Text}

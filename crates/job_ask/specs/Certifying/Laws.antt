@@ -1,4 +1,4 @@
--- What is determined of a certifying job, as statements.
+-- Laws of what a certifying job must do, as statements.
 use Rattle.std.specs.Prelude.{◌≡◌, ◌↔◌, ℕ, List}
 use Rattle.osm_elements.specs.declared.object.Object.{Object}
 use Rattle.osm_words.specs.Job.{CertifySettings}
@@ -9,17 +9,17 @@ use Rattle.job_export.specs.Export.{IsExport}
 use Rattle.job_ask.specs.Certifying.Certify.{IsCertify, choice_of}
 use Rattle.job_ask.specs.Certifying.Exported.{export_of}
 
--- for each settings, objects and text there is a right ending
+-- for all settings, objects and texts there is a right ending
 abbrev pub CertifyExists : Type 0
 CertifyExists = (settings : CertifySettings) (objects : List Object) (text : List ℕ) → (whole : Whole) × IsCertify settings objects text whole
 
--- and it is one alone
+-- there is at most one right ending
 abbrev pub CertifyIsOne : Type 0
 CertifyIsOne =
     (settings : CertifySettings) (objects : List Object) (text : List ℕ) (v w : Whole) →
     IsCertify settings objects text v → IsCertify settings objects text w → v ≡ w
 
--- A text has no wrong line exactly where it is the whole output of the export over the same objects.
+-- A text has no wrong line exactly if it is the whole output of the export over the same objects.
 abbrev pub CertifiedTextsAreExports : Type 0
 CertifiedTextsAreExports =
     (settings : CertifySettings) (objects : List Object) (text : List ℕ) →

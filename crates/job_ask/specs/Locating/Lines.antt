@@ -8,7 +8,7 @@ use Rattle.osm_objects.specs.AreaIds.{area_id}
 use Rattle.area_locate.specs.declared.found.Found.{Found}
 use Rattle.area_locate.specs.declared.found.Hit.{Hit}
 
--- an area's id behind the letter a
+-- an area's id after the letter a
 abbrev pub area_id_text : Option ℤ → List ℕ
 area_id_text None = []
 area_id_text (Some id) = codes "a" ++ signed_decimal id

@@ -1,4 +1,4 @@
--- What a locate job is to write in all, and how it is to end.
+-- What a locate job must write in all, and how it must end.
 use Rattle.std.specs.Prelude.{◌≡◌, ℕ, List, [], ◌∷◌, map}
 use Rattle.osm_elements.specs.declared.object.Object.{Object}
 use Rattle.osm_lattice.specs.declared.loc.Loc.{Loc}
@@ -27,14 +27,14 @@ choice_of settings = record {
 abbrev pub whole_of_points : List Found → Whole
 whole_of_points found = record { written = map to_output (point_lines found); ended = ended.Done }
 
--- The points of the text, each found among the areas of the objects, go to the output, a line each; or the text has a bad line, and
--- nothing is written but the first such line's number.
+-- Each point of the text is located among the areas of the objects, and its line goes to the output.
+-- Or the text has a bad line, and only the number of the first such line is written.
 pub data IsLocate (settings : LocateSettings) (objects : List Object) (text : List ℕ) (whole : Whole) : Type 0 where
   points : (points : List Loc) (found : List Found) → ArePoints text points → AreFound (choice_of settings) objects points found →
       whole ≡ whole_of_points found → IsLocate settings objects text whole
   bad : (line : ℕ) → IsBadPoint text line → whole ≡ silent (ended.BadPoint line) → IsLocate settings objects text whole
 
--- A locate job ended so: it reads its input and its points, opens its output, and writes what is right over them.
+-- A locate job ended like this: it reads its input and its points, opens its output, and writes what is right for them.
 abbrev pub Locates : LocateSettings → Ended → Outside → Outside → Type 0
 Locates settings ended before after =
     ReadBoth settings.file settings.points (output settings.output settings.overwrite ∷ []) (IsLocate settings) ended before after

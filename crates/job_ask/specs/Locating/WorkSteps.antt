@@ -1,4 +1,4 @@
--- Words of private clauses on the work of a locate job. No public contract cites it.
+-- Words of private clauses on the work of a locate job. No public contract cites them.
 use Rattle.std.specs.Prelude.{◌≡◌, ℕ, List}
 use Rattle.osm_job.specs.declared.ended.Ended.{Ended}
 use Rattle.osm_job.specs.declared.ended.Ended.TheVariants as ended
@@ -11,12 +11,12 @@ use Rattle.area_locate.specs.declared.found.Found.{Found}
 use Rattle.area_locate.specs.Hits.{AreFound}
 use Rattle.job_ask.specs.Locating.Lines.{point_lines}
 
--- how a run ends whose points aren't read
+-- how a run ends if its points can't be read
 abbrev pub points_ended : PointsError → Ended
 points_ended (BadPoint line) = ended.BadPoint line
 points_ended OutOfMemory = ended.OutOfMemory
 
--- These are the lines of points, each found among the areas of the objects.
+-- These are the lines of points, each located among the areas of the objects.
 pub record TellsPoints (choice : Choice) (objects : List Object) (points : List Loc) (lines : List ℕ) : Type 0 where
   pub found : List Found
   pub right : AreFound choice objects points found

@@ -1,5 +1,6 @@
-//! How a certifying job is to end is determined, and what it finds. Each function's contract is the law; the body calls the
-//! laws that it rests on.
+//! Laws of how a certifying job ends, and of what it finds.
+//!
+//! Each function's contract is the law; the body calls the laws that it rests on.
 
 ghost use Rattle.job_ask.specs.Certifying.Laws.{CertifiedTextsAreExports, CertifyExists, CertifyIsOne};
 
@@ -8,14 +9,14 @@ use area_certify::{
 };
 use osm_area::{has_area_exactly, outcome_exists};
 
-/// For each settings, objects and text there is a right ending.
+/// For all settings, objects and texts there is a right ending.
 pub fn certify_exists()
     ensures { CertifyExists }
 {
     texts_have_a_verdict();
 }
 
-/// And it is one alone.
+/// There is at most one right ending.
 pub fn certify_is_one()
     ensures { CertifyIsOne }
 {
@@ -23,8 +24,9 @@ pub fn certify_is_one()
     verdicts_exclude();
 }
 
-/// A text has no wrong line exactly where it is the whole output of an export in format text over the same objects, with the
-/// same choice of candidates and the same ids.
+/// A text has no wrong line exactly if it is the whole output of an export in format text over the same objects.
+///
+/// The export has the same choice of candidates and the same ids.
 pub fn certified_texts_are_exports()
     ensures { CertifiedTextsAreExports }
 {

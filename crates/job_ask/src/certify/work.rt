@@ -1,4 +1,4 @@
-//! The work: the input and the text are read, and then the text is judged.
+//! The work: reads the input and the text, and then judges the text.
 
 ghost use Rattle.std.specs.Prelude.{◌≡◌, IfOk};
 ghost use Rattle.job_ask.specs.Certifying.Certify.{Certifies, IsCertify};
@@ -12,8 +12,10 @@ use osm_objects::Store;
 use osm_words::CertifySettings;
 use std::alloc::{AllocError as OutOfMemory, Global};
 
-/// Reads the input and the text, and says whether the text is right for the objects of the input: Done exactly where it has no
-/// wrong line, and Refuted exactly with the first that it has, from 1. It opens no output and writes nothing.
+/// Reads the input and the text, and says whether the text is right for the objects of the input.
+///
+/// It ends as Done exactly if the text has no wrong line, and as Refuted exactly with the first wrong line, counted from 1.
+/// It opens no output and writes nothing.
 pub fn certify_text<H: Host>(alloc: Global, settings: &CertifySettings<'_>, host: &mut H) -> Ended
     ensures { Certifies (certify_seen settings.now) result (H.seen host.old) (H.seen host.new) }
 {

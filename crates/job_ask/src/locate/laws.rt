@@ -1,4 +1,4 @@
-//! Laws of what a locate job is to write. The contract of each function is the law.
+//! Laws of what a locate job must write. The contract of each function is the law.
 
 ghost use Rattle.job_ask.specs.Locating.Laws.{LocateIsOne, LocatesExist};
 
@@ -7,7 +7,7 @@ use osm_input::points::{
     first_bad_line_is_one, points_exclude_a_bad_line, texts_have_points_or_a_bad_line,
 };
 
-/// Over any objects and any text there is something that a locate job is to write.
+/// For any objects and any text there is something that a locate job must write.
 pub fn locates_exist()
     ensures { LocatesExist }
 {
@@ -15,7 +15,7 @@ pub fn locates_exist()
     texts_have_points_or_a_bad_line();
 }
 
-/// It is one list of what is written, and one ending, alone.
+/// There is at most one list of what it must write, and at most one ending.
 pub fn locate_is_one()
     ensures { LocateIsOne }
 {

@@ -30,7 +30,7 @@ fn put_hit(line: &mut Vec<u8>, hit: Hit) -> Result<(), OutOfMemory>
     put_area(line, hit.of)
 }
 
-/// Adds hits, one behind the other.
+/// Adds hits, one after the other.
 fn put_each(line: &mut Vec<u8>, hits: &[Hit]) -> Result<(), OutOfMemory>
     ensures { OnOk result (line.new.items ≡ line.old.items ++ flat_map hit_text hits.now) }
 {

@@ -1,4 +1,4 @@
-//! The work: all points are read and found, and their lines made, before the output is opened.
+//! The work: reads and locates all points, and makes their lines, before the output is opened.
 
 ghost use Rattle.std.specs.Prelude.{◌≡◌, [], ◌∷◌, IfOk};
 ghost use Rattle.area_locate.specs.Hits.{AreFound};
@@ -18,11 +18,12 @@ use osm_objects::Store;
 use osm_words::LocateSettings;
 use std::alloc::{AllocError as OutOfMemory, Global};
 
-/// Reads the input and then the points, opens the output and writes for each point which areas hold it and which have it on
-/// them, in order of the candidates.
+/// Reads the input and then the points, opens the output and writes a line for each point.
+///
+/// The line says which areas hold the point and which have it on them, in order of the candidates.
 pub fn locate_points<H: Host>(alloc: Global, settings: &LocateSettings<'_>, host: &mut H) -> Ended
     ensures works { Locates (locate_seen settings.now) result (H.seen host.old) (H.seen host.new) }
-    // Where memory ran out, no output was opened and nothing was written.
+    // If memory ran out, no output was opened and nothing was written.
     ensures spares { SparesOutput (settings.now.file.now ∷ settings.now.points.now ∷ []) result
         (H.seen host.old) (H.seen host.new) }
 {
@@ -45,7 +46,7 @@ pub fn locate_points<H: Host>(alloc: Global, settings: &LocateSettings<'_>, host
     write_text(host, &lines)
 }
 
-/// How a run ends whose points aren't read.
+/// How a run ends if its points can't be read.
 fn points_ended(error: PointsError) -> Ended
     ensures { result ≡ points_ended error }
 {
@@ -55,7 +56,7 @@ fn points_ended(error: PointsError) -> Ended
     }
 }
 
-/// Finds the points among the areas that the settings choose.
+/// Locates the points among the areas that the settings choose.
 fn find(
     alloc: Global,
     store: &Store,
@@ -75,7 +76,7 @@ fn find(
     locate(alloc, store, &choice, points)
 }
 
-/// The lines of points, found among the areas that the settings choose.
+/// The lines of points, located among the areas that the settings choose.
 fn lines_for(
     alloc: Global,
     store: &Store,
@@ -89,7 +90,7 @@ fn lines_for(
     lines_of(alloc, found.as_slice())
 }
 
-/// The lines of what was found of points, in order.
+/// The lines of located points, in order.
 fn lines_of(alloc: Global, found: &[Found]) -> Result<Vec<u8>, OutOfMemory>
     ensures { IfOk result (λ lines. lines.items ≡ point_lines found.now) }
 {

@@ -1,4 +1,4 @@
--- What a filter job is to write in all, and how it is to end.
+-- What a filter job must write in all, and how it must end.
 use Rattle.std.specs.Prelude.{◌≡◌, ◌≤◌, ◌↔◌, ℕ, All, List, length, map}
 use Rattle.opl_reader.specs.Lines.{lines_of}
 use Rattle.osm_elements.specs.declared.object.Object.{Object}
@@ -22,18 +22,19 @@ pub record KeepsLimits (text : List ℕ) : Type 0 where
 abbrev pub coast_text : List Object → List ℕ
 coast_text objects = objects_text (coast_part objects)
 
--- A coastline job is to write the same over this text as over the objects, for whatever settings.
+-- A coastline job must write the same over this text as over the objects, for any settings.
 abbrev pub HasTheirCoastline : List Object → List ℕ → Type 0
 HasTheirCoastline objects text =
     (settings : CoastlineSettings) (whole : Whole) → IsCoastline settings objects whole ↔ IsReadThen (IsCoastline settings) text whole
 
--- The coast part of the objects goes to the output as OPL, over which a coastline job is to write the same, where it may be an input.
+-- The coast part of the objects goes to the output as OPL.
+-- If that text may be an input, a coastline job over it must write the same.
 pub record IsFilter (objects : List Object) (whole : Whole) : Type 0 where
   pub written : whole.written ≡ map to_output (coast_text objects)
   pub ended : whole.ended ≡ ended.Done
   pub same : KeepsLimits (coast_text objects) → HasTheirCoastline objects (coast_text objects)
 
--- A filter job ended so: it reads its input, opens its output, and writes what is right over the objects of the input.
+-- A filter job ended like this: it reads its input, opens its output, and writes what is right for the objects of the input.
 abbrev pub Filters : FilterSettings → Ended → Outside → Outside → Type 0
 Filters settings ended before after =
     ReadThenWrote settings.file (output settings.output settings.overwrite) IsFilter ended before after

@@ -1,4 +1,4 @@
--- Words of private clauses on the counts of areas. No public contract cites it.
+-- Words of private clauses on the counts of areas. No public contract cites them.
 use Rattle.std.specs.Prelude.{◌≡◌, ◌+◌, List}
 use Rattle.osm_elements.specs.declared.object.Object.{Object}
 use Rattle.osm_elements.specs.declared.object.ObjectRef.{ObjectRef}
@@ -7,7 +7,7 @@ use Rattle.osm_area.specs.declared.outcome.Outcome.{Outcome}
 use Rattle.job_small.specs.Sampling.Summary.{AreAssembled, Assembled, area_count, polygon_count, problem_count, ring_count, sum_of}
 use Rattle.job_small.specs.declared.sample.areas.AreaCounts.{AreaCounts}
 
--- those of one candidate
+-- the counts of one candidate
 abbrev pub area_counts_of : Outcome → AreaCounts
 area_counts_of outcome =
     record { areas = area_count outcome; polygons = polygon_count outcome; rings = ring_count outcome; problems = problem_count outcome }
@@ -24,7 +24,7 @@ total all = record {
   problems = sum_of problem_count all;
 }
 
--- They are those of what comes of these candidates.
+-- These are the counts of the outcomes of these candidates.
 pub record AreAreaCounts (objects : List Object) (chosen : List ObjectRef) (counts : AreaCounts) : Type 0 where
   pub all : List Assembled
   pub assembled : AreAssembled objects chosen all

@@ -16,7 +16,7 @@ use Rattle.job_small.specs.declared.sample.summary.Summary.{Summary}
 
 -- ---- areas
 
--- a candidate with what comes of it
+-- a candidate with its outcome
 pub record Assembled : Type 0 where
   pub candidate : ObjectRef
   pub outcome : Outcome
@@ -24,7 +24,7 @@ pub record Assembled : Type 0 where
 abbrev pub IsAssembled : List Object → Assembled → Type 0
 IsAssembled objects one = IsOutcome objects one.candidate one.outcome
 
--- These candidates with what comes of each, in order.
+-- These candidates with their outcomes, in order.
 pub record AreAssembled (objects : List Object) (chosen : List ObjectRef) (all : List Assembled) : Type 0 where
   pub in_order : map (λ one. one.candidate) all ≡ chosen
   pub right : All (IsAssembled objects) all
@@ -74,7 +74,7 @@ summary_of all coast = record {
   errors = coast.errors;
 }
 
--- It counts what comes of the candidates of these objects, those without tags left out, and the lines of coastline over them.
+-- It counts the outcomes of the candidates of these objects, without those that have no tags, and the lines of coastline over the objects.
 pub record IsSummary (objects : List Object) (summary : Summary) : Type 0 where
   pub all : List Assembled
   pub assembled : AreAssembled objects (candidates (without_lists false) objects) all

@@ -1,4 +1,4 @@
-//! The work: the text of the coast is made before the output is opened, and then written.
+//! The work: makes the text of the coast before the output is opened, and then writes it.
 
 ghost use Rattle.std.specs.Prelude.{[], ◌∷◌};
 ghost use Rattle.job_small.specs.Filtering.Filter.{Filters};
@@ -12,12 +12,13 @@ use osm_job::{Ended, read_input, write_text};
 use osm_words::FilterSettings;
 use std::alloc::Global;
 
-/// Reads the input, opens the output and writes the coast of the input as OPL: the nodes that its coast ways name, and behind
-/// them these ways. Nothing is written where there is no coast.
+/// Reads the input, opens the output and writes the coast of the input as OPL.
+///
+/// First come the nodes that its coast ways name, and then these ways. Nothing is written if there is no coast.
 pub fn filter_coast<H: Host>(alloc: Global, settings: &FilterSettings<'_>, host: &mut H) -> Ended
     ensures works { Filters (filter_seen settings.now) result (H.seen host.old)
         (H.seen host.new) }
-    // Where memory ran out, no output was opened and nothing was written.
+    // If memory ran out, no output was opened and nothing was written.
     ensures spares { SparesOutput (settings.now.file.now ∷ []) result (H.seen host.old)
         (H.seen host.new) }
 {

@@ -23,7 +23,7 @@ pub(crate) struct AreaCounts {
     pub(crate) problems: u64,
 }
 
-/// Nothing is counted yet.
+/// Nothing is counted.
 const NONE: AreaCounts = AreaCounts {
     areas: 0,
     polygons: 0,
@@ -31,7 +31,7 @@ const NONE: AreaCounts = AreaCounts {
     problems: 0,
 };
 
-/// Both counts together; None where a number grows too large.
+/// Both counts together; None if a number grows too large.
 fn together(a: AreaCounts, b: AreaCounts) -> Option<AreaCounts>
     ensures { IfSome result (λ counts. counts ≡ together a b) }
 {
@@ -43,7 +43,7 @@ fn together(a: AreaCounts, b: AreaCounts) -> Option<AreaCounts>
     })
 }
 
-/// How many rings polygons have; None where they are too many for a number.
+/// How many rings polygons have; None if the number grows too large.
 fn ring_count(polygons: &[Polygon]) -> Option<u64>
     ensures { IfSome result (λ count. count ≡ length (rings_of polygons.now)) }
 {
@@ -55,7 +55,7 @@ fn ring_count(polygons: &[Polygon]) -> Option<u64>
     Some(count)
 }
 
-/// What comes of one candidate, counted; None where a number grows too large.
+/// The outcome of one candidate, counted; None if a number grows too large.
 fn area_counts_of(outcome: &Outcome) -> Option<AreaCounts>
     ensures { IfSome result (λ counts. counts ≡ area_counts_of outcome.now) }
 {
@@ -84,11 +84,11 @@ fn with_candidate(
 {
     let outcome = assemble(alloc, store, candidate)?;
     let one = area_counts_of(&outcome).ok_or(OutOfMemory)?;
-    // No memory holds objects of which so many rings come.
+    // No memory holds objects with so many rings.
     together(counts, one).ok_or(OutOfMemory)
 }
 
-/// What export makes of candidates, counted. The error is want of memory.
+/// What export makes of candidates, counted. Fails only if memory runs out.
 pub(crate) fn area_counts(
     alloc: Global,
     store: &Store,

@@ -42,7 +42,7 @@ fn coast_line(alloc: Global, summary: &Summary) -> Result<Vec<u8>, OutOfMemory>
     Ok(line)
 }
 
-/// Both lines. The error is want of memory.
+/// Both lines. Fails only if memory runs out.
 pub(crate) fn lines_of(alloc: Global, summary: &Summary) -> Result<Vec<Vec<u8>>, OutOfMemory>
     ensures { IfOk result (λ lines.
         lines_text lines.items ≡ area_line summary.now ++ coast_line summary.now) }

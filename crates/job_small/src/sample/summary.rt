@@ -33,8 +33,9 @@ pub struct Summary {
     pub errors: u64,
 }
 
-/// What coastline is asked for: land and water, in pieces of at most 100 points where they can be cut, with halves that reach
-/// 0.0001 degrees beyond a cut. Gaps are closed below a degree.
+/// What coastline is asked for: land and water, in pieces of at most 100 points if they can be cut.
+///
+/// The halves reach 0.0001 degrees beyond a cut. Gaps are closed below a degree.
 fn coast_settings() -> CoastlineSettings<'static>
     ensures { coastline_seen result ≡ coast_settings }
 {
@@ -49,8 +50,9 @@ fn coast_settings() -> CoastlineSettings<'static>
     }
 }
 
-/// What export and coastline make of the objects of a store, counted. Candidates without tags are left out, and the most
-/// leaves of a run don't matter. The error is want of memory.
+/// What export and coastline make of the objects of a store, counted.
+///
+/// Candidates without tags are left out, and the limit on the leaves of a run doesn't matter. Fails only if memory runs out.
 pub fn summary_of(alloc: Global, store: &Store) -> Result<Summary, OutOfMemory>
     ensures { IfOk result (λ summary. IsSummary store.now summary) }
 {
@@ -69,7 +71,7 @@ pub fn summary_of(alloc: Global, store: &Store) -> Result<Summary, OutOfMemory>
     })
 }
 
-/// The summary of the sample of `count` times `count` cells. The error is want of memory.
+/// The summary of the sample of `count` times `count` cells. Fails only if memory runs out.
 pub fn sample_summary(alloc: Global, count: u8) -> Result<Summary, OutOfMemory>
     requires some { 1 ≤ count }
     requires few { count ≤ 100 }

@@ -1,4 +1,4 @@
-//! The work: the summary is made before the output is opened, and then written.
+//! The work: makes the summary before the output is opened, and then writes it.
 
 ghost use Rattle.std.specs.Prelude.{◌≡◌, ◌≢◌, ◌≤◌, [], IfOk};
 ghost use Rattle.osm_job.specs.Cause.{by_memory, cause_of};
@@ -19,7 +19,7 @@ use std::alloc::{AllocError as OutOfMemory, Global};
 /// It opens no input and reads none.
 pub fn sample<H: Host>(alloc: Global, settings: &SampleSettings, host: &mut H) -> Ended
     ensures works { Samples settings.now.count result (H.seen host.old) (H.seen host.new) }
-    // Where memory ran out, no output was opened and nothing was written.
+    // If memory ran out, no output was opened and nothing was written.
     ensures spares { SparesOutput [] result (H.seen host.old) (H.seen host.new) }
 {
     // By law: what is written and opened adds up in turn.
@@ -52,7 +52,7 @@ fn write_all<H: Host>(count: u8, lines: &[Vec<u8>], host: &mut H) -> Ended
     ended_by(write_pieces(host, lines))
 }
 
-/// How a run ends whose output was opened.
+/// How a run ends once its output was opened.
 fn ended_by(written: Result<(), Failed>) -> Ended
     ensures ended { result ≡ ended_by written }
     ensures not_memory { cause_of result ≢ by_memory }

@@ -26,16 +26,17 @@ pub record SomeLeafCovers (q : ℤ) (p : Vector) (leaves : List Leaf) : Type 0 w
 abbrev pub IsOffLeafEdges : ℤ → Vector → List Leaf → Type 0
 IsOffLeafEdges q p leaves = All (λ (leaf : Leaf). IsOffList q p leaf.edges) leaves
 
--- Where land is asked for: some leaf of land covers a point off the edges of its leaves exactly where an odd number of the kept rings'
--- segments are to the right of it. None of these segments is cancelled.
+-- If land is asked for: take a point off the edges of the leaves of land.
+-- Some of these leaves covers it exactly if an odd number of the kept rings' segments are to the right of it. None of these
+-- segments is cancelled.
 abbrev pub LandLeavesCover : Type 0
 LandLeavesCover =
     (settings : CoastlineSettings) (objects : List Object) (whole : Whole) (right : IsCoastline settings objects whole) → has_land settings.polygons ≡ true →
     (q : ℤ) → sign q ≡ Plus → (p : Vector) → IsOffLeafEdges q p right.areas.land_leaves →
     SomeLeafCovers q p right.areas.land_leaves ↔ (parity_at q p (all_segments right.areas.coast.sorted.kept) ≡ pos 1)
 
--- Where water is asked for: some leaf of water covers such a point off the edges of its leaves, a whole point strictly within the world,
--- exactly where that number is even.
+-- If water is asked for: take a whole point strictly within the world, off the edges of the leaves of water.
+-- Some of these leaves covers it exactly if that number is even.
 abbrev pub WaterLeavesCover : Type 0
 WaterLeavesCover =
     (settings : CoastlineSettings) (objects : List Object) (whole : Whole) (right : IsCoastline settings objects whole) → has_water settings.polygons ≡ true →
@@ -46,21 +47,21 @@ WaterLeavesCover =
 abbrev pub leaves_over : ℤ → Vector → List Leaf → ℕ
 leaves_over q p leaves = sum_by (λ (leaf : Leaf). count_at q p leaf.edges % 2) leaves
 
--- Without an overlap no point off the edges is in two leaves of land: in one where that number is odd, in none where it is even.
+-- Without an overlap no point off the edges is in two leaves of land: it is in one if that number is odd, and in none if it is even.
 abbrev pub LandLeavesPart : Type 0
 LandLeavesPart =
     (settings : CoastlineSettings) (objects : List Object) (whole : Whole) (right : IsCoastline settings objects whole) → has_land settings.polygons ≡ true →
     settings.bbox_overlap ≡ 0 → (q : ℤ) → sign q ≡ Plus → (p : Vector) → IsOffLeafEdges q p right.areas.land_leaves →
     pos (leaves_over q p right.areas.land_leaves) ≡ parity_at q p (all_segments right.areas.coast.sorted.kept)
 
--- And of the leaves of water one covers such a whole point strictly within the world where it is even, and none where it is odd.
+-- Of the leaves of water, one covers such a whole point strictly within the world if the number is even, and none if it is odd.
 abbrev pub WaterLeavesPart : Type 0
 WaterLeavesPart =
     (settings : CoastlineSettings) (objects : List Object) (whole : Whole) (right : IsCoastline settings objects whole) → has_water settings.polygons ≡ true →
     settings.bbox_overlap ≡ 0 → (p : Vector) → IsInsideWorld p → IsOffLeafEdges (pos 1) p right.areas.water_leaves →
     pos (leaves_over (pos 1) p right.areas.water_leaves) ≡ pos 1 -ℤ parity_at (pos 1) p (all_segments right.areas.coast.sorted.kept)
 
--- So where both are asked for, exactly one leaf covers such a point.
+-- If both are asked for, exactly one leaf covers such a point.
 abbrev pub LeavesPartTheWorld : Type 0
 LeavesPartTheWorld =
     (settings : CoastlineSettings) (objects : List Object) (whole : Whole) (right : IsCoastline settings objects whole) →

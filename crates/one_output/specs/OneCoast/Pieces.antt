@@ -20,14 +20,14 @@ AreTilesOf areas tiles = (AreTiles areas.land_leaves tiles) ⊎ (AreTiles areas.
 
 -- a leaf and its polygons
 pub record MakesPolygons (tile : Tile) : Type 0 where
-  -- its edges are sided, and stand each once in the rings; each inner ring is under the outer one that directly encloses it
+  -- its edges are sided, and each occurs once in the rings; each inner ring is under the outer one that directly encloses it
   pub leaf : IsSided tile.leaf.edges
   pub made : ArePolygons tile.leaf.edges tile.polygons
-  -- of each polygon the first ring is outer, the others are inner and lie in it, as their anchors tell, and its edges are sided
+  -- the first ring of each polygon is outer and the others are inner and lie in it, as their anchors show; its edges are sided
   pub kinds : All HasKinds tile.polygons
   pub around : All IsAroundInners tile.polygons
   pub sided : AreSided tile.polygons
-  -- at each point p.x / q, p.y / q where the leaf covers it one of the polygons does, and elsewhere none
+  -- exactly one of the polygons covers each point p.x / q, p.y / q that the leaf covers, and none covers any other point
   pub cover : (q : ℤ) → sign q ≡ Plus → (p : Vector) → count_by (covers_at q p) tile.polygons ≡ count_at q p tile.leaf.edges % 2
 
 abbrev pub PiecesArePolygons : Type 0

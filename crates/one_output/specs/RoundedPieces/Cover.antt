@@ -1,4 +1,4 @@
--- What is printed of land and of water covers together, as statements.
+-- What the printed land and water cover together, as statements.
 use Rattle.std.specs.Prelude.{All, List, pos, true, ℤ, ◌↔◌, ◌≡◌}
 use Rattle.lists.specs.Member.{In}
 use Rattle.osm_elements.specs.declared.object.Object.{Object}
@@ -24,31 +24,31 @@ pub record SomePrintCovers (q : ℤ) (p : Vector) (tiles : List Tile) : Type 0 w
   pub of_tile : In polygon tile.polygons
   pub covers : print_covers q p polygon ≡ true
 
--- At each point whose closed unit square meets no edge of a leaf of land, the print of some leaf of land covers the point exactly where some
--- leaf of land does.
+-- Take a point whose closed unit square meets no edge of a leaf of land.
+-- The print of some leaf of land covers it exactly if some leaf of land does.
 abbrev pub PrintedLandCovers : Type 0
 PrintedLandCovers =
     (settings : CoastlineSettings) (objects : List Object) (whole : Whole) (right : IsCoastline settings objects whole) (tiles : List Tile) →
     AreTiles right.areas.land_leaves tiles → (q : ℤ) → sign q ≡ Plus → (p : Vector) → All (IsBeyondLeaf q p) right.areas.land_leaves →
     SomePrintCovers q p tiles ↔ SomeLeafCovers q p right.areas.land_leaves
 
--- And so of water.
+-- The same holds for water.
 abbrev pub PrintedWaterCovers : Type 0
 PrintedWaterCovers =
     (settings : CoastlineSettings) (objects : List Object) (whole : Whole) (right : IsCoastline settings objects whole) (tiles : List Tile) →
     AreTiles right.areas.water_leaves tiles → (q : ℤ) → sign q ≡ Plus → (p : Vector) → All (IsBeyondLeaf q p) right.areas.water_leaves →
     SomePrintCovers q p tiles ↔ SomeLeafCovers q p right.areas.water_leaves
 
--- Where land is asked for: at each such point the print of some leaf of land covers it exactly where an odd number of the kept rings'
--- segments, none of them cancelled, are to the right of it.
+-- If land is asked for: the print of some leaf of land covers such a point exactly if a number is odd.
+-- It is that of the kept rings' segments to the right of the point. None of these segments is cancelled.
 abbrev pub PrintedLandIsCoast : Type 0
 PrintedLandIsCoast =
     (settings : CoastlineSettings) (objects : List Object) (whole : Whole) (right : IsCoastline settings objects whole) → has_land settings.polygons ≡ true →
     (tiles : List Tile) → AreTiles right.areas.land_leaves tiles → (q : ℤ) → sign q ≡ Plus → (p : Vector) → All (IsBeyondLeaf q p) right.areas.land_leaves →
     SomePrintCovers q p tiles ↔ (parity_at q p (all_segments right.areas.coast.sorted.kept) ≡ pos 1)
 
--- Where water is asked for: at each such whole point strictly within the world, by the leaves of water, the print of some leaf of water
--- covers it exactly where that number is even.
+-- If water is asked for: take such a whole point strictly within the world, for the leaves of water.
+-- The print of some leaf of water covers it exactly if that number is even.
 abbrev pub PrintedWaterIsCoast : Type 0
 PrintedWaterIsCoast =
     (settings : CoastlineSettings) (objects : List Object) (whole : Whole) (right : IsCoastline settings objects whole) → has_water settings.polygons ≡ true →

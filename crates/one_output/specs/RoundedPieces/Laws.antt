@@ -1,4 +1,4 @@
--- What is printed of the leaves of land and of water, as statements.
+-- The prints of the leaves of land and of water, as statements.
 use Rattle.std.specs.Prelude.{All, List, None, Some, if◌then◌else◌, pos, true, ℕ, ℤ, ◌≡◌}
 use Rattle.osm_elements.specs.declared.object.Object.{Object}
 use Rattle.coast_split.specs.declared.leaves.Leaf.{Leaf}
@@ -25,23 +25,23 @@ use Rattle.one_output.specs.RoundedPieces.Tiles.{ArePrintedRight, IsPrintedRing}
 
 -- ---- polygons and rings
 
--- the line of a polygon is that of the rings that are printed of it
+-- the line of a polygon is that of its printed rings
 abbrev pub LineIsOfPrintedRings : Type 0
 LineIsOfPrintedRings =
     (kind : PieceKind) (polygon : Polygon) →
     piece_text kind polygon ≡ (if has_vanished polygon.outer then None else Some (piece_line kind (printed_rings polygon)))
 
--- each location that is printed of a polygon is at most half a unit away, in x and in y, from a point of the ring that it is printed for
+-- each printed location of a polygon is at most half a unit away, in x and in y, from a point of the ring that it is printed for
 abbrev pub PrintedIsNear : Type 0
 PrintedIsNear = (polygon : Polygon) → All (IsPrintedRing polygon) (printed_rings polygon)
 
--- a point p.x / q, p.y / q whose closed unit square meets no edge of a ring is on no edge of what is left of the ring
+-- If the closed unit square of a point p.x / q, p.y / q meets no edge of a ring, the point is off what is left of the ring.
 abbrev pub RoundedRingIsOff : Type 0
 RoundedRingIsOff =
     (k : ℕ) (ring : List Edge) → IsRing ring → IsCommon k ring → (q : ℤ) → sign q ≡ Plus → (p : Vector) → AreBeyondHalf k q p ring →
     All (IsOffEdge p) (scaled_edges q (edges_round (rounded_ring ring)))
 
--- and that goes round the point as the ring does
+-- what is left winds round such a point as the ring does
 abbrev pub RoundedRingWindsAlike : Type 0
 RoundedRingWindsAlike =
     (k : ℕ) (ring : List Edge) → IsRing ring → IsCommon k ring → (q : ℤ) → sign q ≡ Plus → (p : Vector) → AreBeyondHalf k q p ring →
@@ -57,19 +57,19 @@ VanishedGoesRoundNothing =
 abbrev pub IsTilePrintedRight : Tile → Type 0
 IsTilePrintedRight tile = ArePrintedRight tile.leaf.edges tile.polygons
 
--- sided leaves are printed right but for half a unit
+-- sided leaves are printed right, except within half a unit of their edges
 abbrev pub LeavesArePrintedRight : Type 0
 LeavesArePrintedRight =
     (leaves : List Leaf) → All (λ (leaf : Leaf). IsSided leaf.edges) leaves → (tiles : List Tile) → AreTiles leaves tiles →
     All IsTilePrintedRight tiles
 
--- so are the leaves of land of a coastline job
+-- the leaves of land of a coastline job are printed right in this sense
 abbrev pub LandIsPrintedRight : Type 0
 LandIsPrintedRight =
     (settings : CoastlineSettings) (objects : List Object) (whole : Whole) (right : IsCoastline settings objects whole) (tiles : List Tile) →
     AreTiles right.areas.land_leaves tiles → All IsTilePrintedRight tiles
 
--- and those of water
+-- and so are those of water
 abbrev pub WaterIsPrintedRight : Type 0
 WaterIsPrintedRight =
     (settings : CoastlineSettings) (objects : List Object) (whole : Whole) (right : IsCoastline settings objects whole) (tiles : List Tile) →

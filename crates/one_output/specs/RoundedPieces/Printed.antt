@@ -1,4 +1,4 @@
--- What is printed of polygons, and which points it covers.
+-- The prints of polygons, and which points they cover.
 use Rattle.std.specs.Prelude.{Bool, List, [], drop, if◌then◌else◌, map, not, take, ℤ, ◌++◌, ◌∷◌}
 use Rattle.std.specs.List.{count_by, zip}
 use Rattle.plane_lists.specs.Rings.Cover.{covers}
@@ -24,14 +24,14 @@ edges_round ring = map edge_between (zip ring (drop 1 ring ++ take 1 ring))
 abbrev pub printed_has_inside : ℤ → Vector → List Loc → Bool
 printed_has_inside q p ring = covers (scaled_edges q (edges_round ring)) p
 
--- an odd number of the rings of a printed polygon have it inside
+-- an odd number of the rings of a printed polygon have the point inside
 abbrev pub rings_cover : ℤ → Vector → List (List Loc) → Bool
 rings_cover q p rings = not (is_even (count_by (printed_has_inside q p) rings))
 
--- the rings of a polygon that are printed, the outer one first; none where that has vanished
+-- the rings of a polygon that are printed, the outer one first; none if the outer one has vanished
 abbrev pub printed_rings : Polygon → List (List Loc)
 printed_rings polygon = if has_vanished polygon.outer then [] else rounded_ring polygon.outer ∷ holes_left polygon.inners
 
--- what is printed of the polygon covers it
+-- the print of the polygon covers the point
 abbrev pub print_covers : ℤ → Vector → Polygon → Bool
 print_covers q p polygon = rings_cover q p (printed_rings polygon)

@@ -1,4 +1,4 @@
--- What is printed of a leaf, near its border and away from it.
+-- The print of a leaf, near its border and away from it.
 use Rattle.std.specs.Prelude.{All, List, ℤ, ◌%◌, ◌≡◌}
 use Rattle.std.specs.List.{count_by}
 use Rattle.lists.specs.Member.{In}
@@ -25,21 +25,24 @@ pub record IsPrintedFor (ring : List Edge) (at : Loc) : Type 0 where
   pub near : IsWithinHalfUnit edge.from at
 
 -- a printed ring is what is left of one of the polygon's rings, and each of its locations is printed for a point of that
+-- ring
 pub record IsPrintedRing (polygon : Polygon) (printed : List Loc) : Type 0 where
   pub ring : List Edge
   pub member : In ring (rings_in polygon)
   pub left : printed ≡ rounded_ring ring
   pub near : (at : Loc) → In at printed → IsPrintedFor ring at
 
--- the point p.x / q, p.y / q is on no line that is printed of the polygon, and the print covers it exactly where the polygon does
+-- The point p.x / q, p.y / q is on no printed line of the polygon, and the print covers it exactly if the polygon does.
 pub record IsPrintedRight (polygon : Polygon) (q : ℤ) (p : Vector) : Type 0 where
   pub off : All (λ (printed : List Loc). All (IsOffEdge p) (scaled_edges q (edges_round printed))) (printed_rings polygon)
   pub covers : print_covers q p polygon ≡ covers_at q p polygon
 
--- Of a leaf with these edges, which makes these polygons, all is printed right but for half a unit: each location is at most half a unit
--- away from the point that it is printed for; the print of a polygon is right at each point with rational coordinates whose closed unit
--- square meets no edge of the polygon; and where it meets no edge of the leaf, the print of one polygon covers the point if the leaf does,
--- and else of none.
+-- A leaf with these edges and these polygons is printed right, except within half a unit:
+-- - Each location is at most half a unit away from the point that it is printed for.
+-- - The print of a polygon is right at each point with rational coordinates whose closed unit square meets no edge of the
+--   polygon.
+-- - If that square meets no edge of the leaf, the print of one polygon covers the point if the leaf does, and otherwise the
+--   print of none.
 pub record ArePrintedRight (edges : List Edge) (polygons : List Polygon) : Type 0 where
   pub near : All (λ (polygon : Polygon). All (IsPrintedRing polygon) (printed_rings polygon)) polygons
   pub each :

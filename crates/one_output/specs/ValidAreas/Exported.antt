@@ -1,4 +1,4 @@
--- What an export puts out: a header, features with what stands around each, a footer; and what each feature spells.
+-- The output of an export: a header, features with the text around each, a footer; and what each feature spells.
 use Rattle.std.specs.Prelude.{All, List, Option, [], codes, map, true, ℕ, ◌+◌, ◌++◌, ◌∷◌, ◌≡◌}
 use Rattle.std.specs.List.{AllZip, filter}
 use Rattle.osm_elements.specs.declared.object.Object.{Object}
@@ -31,21 +31,21 @@ notation_of GeoJson = geo_json
 notation_of GeoJsonSeq = geo_json
 notation_of Text = well_known
 
--- a feature of GeoJSON up to the coordinates of its geometry
+-- a GeoJSON feature up to the coordinates of its geometry
 abbrev pub json_before : Option FeatureId → List ℕ
 json_before id = codes "{\"type\":\"Feature\"," ++ id_member id ++ codes "\"geometry\":{\"type\":\"MultiPolygon\",\"coordinates\":"
 
--- and from there on
+-- the rest of the feature, after the coordinates
 abbrev pub json_after : List Tag → List ℕ
 json_after tags = codes "},\"properties\":" ++ properties_text tags ++ codes "}"
 
--- what stands in a feature before the coordinates of its geometry
+-- the text of a feature before the coordinates of its geometry
 abbrev pub before_coordinates : Format → Option FeatureId → List ℕ
 before_coordinates GeoJson id = json_before id
 before_coordinates GeoJsonSeq id = json_before id
 before_coordinates Text id = id_before id ++ codes "MULTIPOLYGON"
 
--- what stands behind them
+-- the text after the coordinates
 abbrev pub after_coordinates : Format → List Tag → List ℕ
 after_coordinates GeoJson tags = json_after tags
 after_coordinates GeoJsonSeq tags = json_after tags
@@ -62,12 +62,12 @@ pub record IsFeatureOf (format : Format) (entry : Entry) (feature : List ℕ) : 
 
 -- ---- all that goes out
 
--- features, each with what stands around it, with `earlier` features before them
+-- features after `earlier` others, each with the text around it
 abbrev pub framed_features : ExportSettings → ℕ → List (List ℕ) → List ℕ
 framed_features settings earlier [] = []
 framed_features settings earlier (feature ∷ features) = framed settings earlier feature ++ framed_features settings (earlier + 1) features
 
--- All candidates have entries, and the footer stands behind the features; or the run stopped at a candidate, and nothing does.
+-- All candidates have entries, and the footer follows the features; or the run stopped at a candidate, and nothing follows.
 pub data IsEndOfOutput (settings : ExportSettings) (objects : List Object) (entries : List Entry) (ended : Ended) (end : List ℕ) : Type 0 where
   finished : ended ≡ Done → map (λ entry. entry.candidate) entries ≡ candidates (choice_of settings) objects →
       end ≡ footer settings.format → IsEndOfOutput settings objects entries ended end
@@ -75,8 +75,8 @@ pub data IsEndOfOutput (settings : ExportSettings) (objects : List Object) (entr
       IsPrefix (map (λ entry. entry.candidate) entries) (candidates (choice_of settings) objects) →
       end ≡ [] → IsEndOfOutput settings objects entries ended end
 
--- The output is the header, then a feature for each entry with an area, in order, and none else, then its end. Each feature spells the polygons of
--- its entry, a valid MultiPolygon.
+-- The output is the header, then a feature for each entry with an area, in order, and no others, and then its end.
+-- Each feature spells the polygons of its entry, a valid MultiPolygon.
 pub record HasValidFeatures (settings : ExportSettings) (objects : List Object) (whole : Whole) : Type 0 where
   pub entries : List Entry
   pub right : All (IsEntry settings.show_errors objects) entries

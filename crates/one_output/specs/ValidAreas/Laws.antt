@@ -1,4 +1,4 @@
--- The areas are valid, and so are the features that are written of them, as statements.
+-- The areas are valid, and so are the features written for them, as statements.
 use Rattle.std.specs.Prelude.{List, Ok, ℕ, ◌≡◌}
 use Rattle.plane_lists.specs.Rings.Polygon.{Polygon}
 use Rattle.osm_elements.specs.declared.object.Object.{Object}
@@ -26,26 +26,27 @@ AreasAreValid =
     (objects : List Object) (candidate : ObjectRef) (outcome : Outcome) → IsOutcome objects candidate outcome →
     IsValidArea (polygons_in outcome)
 
--- the bytes that are right for an export of objects: each feature spells a valid MultiPolygon
+-- in the bytes that are right for an export of objects, each feature spells a valid MultiPolygon
 abbrev pub ExportedFeaturesAreValid : Type 0
 ExportedFeaturesAreValid =
     (settings : ExportSettings) (objects : List Object) (whole : Whole) → IsExport settings objects whole →
     HasValidFeatures settings objects whole
 
--- What is right for a run with the words of an export is that over the objects of the input; or the input is refused, and nothing goes out.
+-- What is right for a run with the words of an export is that over the objects of the input; or the input is refused, and
+-- nothing is output.
 abbrev pub RightFeaturesAreValid : Type 0
 RightFeaturesAreValid =
     (settings : ExportSettings) (texts : Texts (inputs_of (export settings))) (whole : Whole) → IsWhole (export settings) texts whole →
     IsReadThen (HasValidFeatures settings) texts.0 whole
 
--- So a run with these words writes all of that, or a prefix of it where a call failed or memory ran out.
+-- A run with these words writes all of that, or a prefix of it if a call failed or memory ran out.
 abbrev pub WrittenFeaturesAreValid : Type 0
 WrittenFeaturesAreValid =
     (settings : ExportSettings) (ended : Ended) (before after : Outside) (run : Writes (Ok (export settings)) ended before after) →
     IsWrittenBy (λ (texts : Texts (inputs_of (export settings))). IsReadThen (HasValidFeatures settings) texts.0) (cause_of ended)
     (told_texts before.named (inputs_of (export settings))) ended run.written
 
--- a text spells one list of polygons alone, or none
+-- a text spells at most one list of polygons
 abbrev pub SpelledIsOne : Type 0
 SpelledIsOne =
     (notation : Notation) (text : List ℕ) (polygons others : List Polygon) → SpellsMultiPolygon notation text polygons →

@@ -1,5 +1,5 @@
--- Polygons as texts spell them: the coordinates of GeoJSON (RFC 7946), and well-known text (OGC 06-103r4). A coordinate x is the number of
--- units of 1e-7 degree.
+-- Polygons as texts spell them: the coordinates of GeoJSON (RFC 7946), and well-known text (OGC 06-103r4).
+-- A coordinate x is the number of units of 1e-7 degree.
 use Rattle.std.specs.Prelude.{List, [], codes, ℕ, ◌++◌, ◌∷◌, ◌≡◌}
 use Rattle.plane_lists.specs.Rings.Polygon.{Polygon}
 use Rattle.plane.specs.Edge.{Edge}
@@ -21,7 +21,7 @@ abbrev pub closing_bracket : Notation → List ℕ
 closing_bracket geo_json = codes "]"
 closing_bracket well_known = codes ")"
 
--- at least one item, and a comma between each two
+-- at least one item, with a comma between neighbours
 abbrev pub SpellsRow : {A : Type 0} → (List ℕ → A → Type 0) → List ℕ → List A → Type 0
 SpellsRow Spells text [] = ⊥
 SpellsRow Spells text (item ∷ []) = Spells text item

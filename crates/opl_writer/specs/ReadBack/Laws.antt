@@ -22,7 +22,7 @@ pub record CanBeInput (objects : List Object) : Type 0 where
 abbrev pub AreSpelled : List Object → Type 0
 AreSpelled objects = All (λ o. (line : List ℕ) × Spells line o) objects
 
--- so they make an input where they are live, and no two have one kind and id
+-- they make an input if they are live and no two have one kind and id
 abbrev pub SpelledObjectsCanBeWritten : Type 0
 SpelledObjectsCanBeWritten =
     (objects : List Object) → AreSpelled objects → All (λ o. IsTrue (is_live o)) objects → AreApart objects → CanBeInput objects
@@ -34,7 +34,7 @@ WrittenInputsAreRead =
     length (objects_text objects) ≤ limit → All (λ line. length line ≤ longest) (map object_line objects) →
     IsReadAs limit longest (objects_text objects) (Ok objects)
 
--- The lines of their text tell them, and a bad one among these is too long.
+-- The lines of their text tell them, and a bad line among these is too long.
 pub record HasNoOtherFault (longest : ℕ) (objects : List Object) : Type 0 where
   pub told : objects_told (lines_of (objects_text objects)) ≡ objects
   pub bad : (number : ℕ) (fault : InputFault) → IsBadPlace longest (lines_of (objects_text objects)) number fault → fault ≡ TooLong

@@ -1,4 +1,4 @@
--- The laws of multiplied edges, as statements: what a carrier says of an edge, the plane says of it once multiplied.
+-- The laws of multiplied edges, as statements: what a carrier says of an edge holds in the plane once it is multiplied.
 use Rattle.std.specs.Prelude.{List, ℕ, ◌≡◌}
 use Prim.Native.Nat.{◌∣◌}
 use Rattle.plane.specs.Edge.{IsRisingEdge, is_rising, segment_of}
@@ -24,7 +24,7 @@ EachEdgeIsWhole = (k : ℕ) (es : List Edge) → IsCommon k es → (e : Edge) �
 abbrev pub StepHasDirection : Type 0
 StepHasDirection = (k : ℕ) (e : Edge) → IsWholeAt k e → HaveOneDirection (step_times k e) (direction_of e)
 
--- and the way back in the opposite one
+-- the way back is in the opposite direction
 abbrev pub BackHasOppositeDirection : Type 0
 BackHasOppositeDirection =
     (k : ℕ) (e : Edge) → IsWholeAt k e →

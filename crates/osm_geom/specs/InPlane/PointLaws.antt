@@ -1,4 +1,4 @@
--- The laws of multiplied points, as statements. They are for each number k that is a multiple of the points' denominators.
+-- The laws of multiplied points, as statements. They hold for each number k that is a multiple of the points' denominators.
 use Rattle.std.specs.Prelude.{ℕ, ◌≡◌, ◌≤◌}
 use Prim.Native.Nat.{◌∣◌}
 use Rattle.plane.specs.Order.{order}
@@ -12,7 +12,7 @@ PointsAreInOrder =
     (k : ℕ) (p q : Point) → 1 ≤ k → den_of p ∣ k → den_of q ∣ k →
     point_order p q ≡ order (point_times k p) (point_times k q)
 
--- and the plane tells them apart
+-- different points are different in the plane
 abbrev pub PointsAreToldApart : Type 0
 PointsAreToldApart =
     (k : ℕ) (p q : Point) → 1 ≤ k → den_of p ∣ k → den_of q ∣ k → point_times k p ≡ point_times k q → p ≡ q

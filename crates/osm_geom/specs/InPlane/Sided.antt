@@ -12,11 +12,11 @@ use Rattle.osm_geom.specs.InPlane.Multiple.{product_of_denominators, whole_edges
 abbrev pub count_at : ℤ → Vector → List Edge → ℕ
 count_at q p es = crossing_count east (scaled_point (pos (product_of_denominators es)) p) (scaled_edges q (whole_edges es))
 
--- those that run up, less those that run down
+-- how many of them run up, less how many run down
 abbrev pub signed_count_at : ℤ → Vector → List Edge → ℤ
 signed_count_at q p es = winding_number east (scaled_point (pos (product_of_denominators es)) p) (scaled_edges q (whole_edges es))
 
--- no two edges share a point that isn't an end of both, each point is left by as many edges as enter it, and the signed count
--- is 0 or 1 at every point off the list
+-- No two edges share a point that isn't an end of both. As many edges leave each point as enter it.
+-- The signed count is 0 or 1 at every point off the list.
 abbrev pub IsSided : List Edge → Type 0
 IsSided es = winding.IsSided (whole_edges es)

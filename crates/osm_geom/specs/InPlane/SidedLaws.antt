@@ -28,11 +28,11 @@ MultipleOfMultiple = (k m : ℕ) (es : List Edge) → IsCommon k es → edges_ti
 abbrev pub CommonDenIsCommon : Type 0
 CommonDenIsCommon = (es : List Edge) → IsCommon (product_of_denominators es) es
 
--- a list is sided exactly where it is, multiplied by any common multiple, in the plane
+-- a list is sided exactly if it is in the plane, multiplied by any common multiple
 abbrev pub SidedAtEachMultiple : Type 0
 SidedAtEachMultiple = (k : ℕ) (es : List Edge) → IsCommon k es → IsSided es ↔ winding.IsSided (edges_times k es)
 
--- and has there the same counts at the points p.x / q, p.y / q
+-- and it has the same counts there, at the points p.x / q, p.y / q
 abbrev pub CountAtEachMultiple : Type 0
 CountAtEachMultiple =
     (k : ℕ) (es : List Edge) → IsCommon k es → (q : ℤ) (p : Vector) →

@@ -11,7 +11,7 @@ pub fn product_is_common()
     ensures { CommonDenIsCommon }
 {}
 
-/// A list is sided, and has the same counts, at whichever number it is multiplied by that makes all of its points whole.
+/// A list is sided, or not, and has the same counts at every number that makes all its points whole.
 pub fn every_multiple_is_alike()
     ensures sided { SidedAtEachMultiple }
     ensures count { CountAtEachMultiple }

@@ -1,4 +1,4 @@
--- That each text has points or a first bad line, one alone, as statements.
+-- Each text has either points or exactly one first bad line, as statements.
 use Rattle.std.specs.Prelude.{◌≡◌, ◌⊎◌, ℕ, List}
 use Rattle.osm_lattice.specs.declared.loc.Loc.{Loc}
 use Rattle.osm_input.specs.PointLines.Points.{ArePoints, IsBadPoint}
@@ -7,10 +7,10 @@ use Rattle.osm_input.specs.PointLines.Points.{ArePoints, IsBadPoint}
 abbrev pub TextsHavePointsOrABadLine : Type 0
 TextsHavePointsOrABadLine = (text : List ℕ) → ((points : List Loc) × ArePoints text points) ⊎ ((number : ℕ) × IsBadPoint text number)
 
--- and not both
+-- no text has both
 abbrev pub PointsExcludeABadLine : Type 0
 PointsExcludeABadLine = (text : List ℕ) (points : List Loc) (number : ℕ) → ArePoints text points → IsBadPoint text number → ⊥
 
--- its first bad line is one alone
+-- it has at most one first bad line
 abbrev pub FirstBadLineIsOne : Type 0
 FirstBadLineIsOne = (text : List ℕ) (m n : ℕ) → IsBadPoint text m → IsBadPoint text n → m ≡ n

@@ -1,4 +1,4 @@
--- Words of private clauses on the lines of a text of points. No public contract cites it.
+-- Words of private clauses on the lines of a text of points. No public contract cites them.
 use Rattle.std.specs.Prelude.{◌≡◌, ◌+◌, ◌<◌, ℕ, true, false, List, [], ◌∷◌, length, Option, Some, None}
 use Rattle.opl_reader.specs.LineReading.{is_separator}
 use Rattle.osm_input.specs.declared.points.line.Told.{Told}
@@ -13,7 +13,7 @@ abbrev pub BeginsWord : List ℕ → Type 0
 BeginsWord [] = Unit {0}
 BeginsWord (byte ∷ text) = is_separator byte ≡ false
 
--- its first word, in which something stands, and what is left
+-- its first word, which isn't empty, and what is left
 pub record IsNextWord (text word rest : List ℕ) : Type 0 where
   pub some : 0 < length word
   pub words : words_in text ≡ word ∷ words_in rest
@@ -30,7 +30,7 @@ LineTells line told = IsToldBy (words_of line) told
 
 -- ---- all lines
 
--- those of what is left
+-- the lines of what is left
 abbrev pub lines_left : Option (List ℕ) → List (List ℕ)
 lines_left None = []
 lines_left (Some rest) = lines_parted rest

@@ -8,7 +8,7 @@ use Rattle.opl_reader.specs.LineReading.{is_separator}
 use Rattle.opl_reader.specs.NumberReading.{decimal_of}
 use Rattle.opl_reader.specs.Parts.{without_cr}
 
--- what stands between separators
+-- the texts between separators
 abbrev pub words_in : List ℕ → List (List ℕ)
 words_in text = filter (λ word. nat_lt 0 (length word)) (slice_split is_separator text)
 
@@ -16,12 +16,12 @@ words_in text = filter (λ word. nat_lt 0 (length word)) (slice_split is_separat
 abbrev pub words_of : List ℕ → List (List ℕ)
 words_of line = words_in (without_cr line)
 
--- Nothing stands in it, or its first word begins with `#`, 35.
+-- It has no words, or its first word begins with `#`, 35.
 abbrev pub is_empty_or_comment : List (List ℕ) → Bool
 is_empty_or_comment [] = true
 is_empty_or_comment (first ∷ others) = slice_index first 0 == 35
 
--- the location of a longitude and a latitude, each a decimal of degrees; of more or fewer words there is none
+-- the location of a longitude and a latitude, each a decimal of degrees; more or fewer words have none
 abbrev pub location_in_words : List (List ℕ) → Option Loc
 location_in_words [] = None
 location_in_words (x ∷ []) = None

@@ -5,7 +5,7 @@ use Rattle.osm_lattice.specs.declared.loc.Loc.{Loc}
 use Rattle.opl_reader.specs.Lines.{is_newline}
 use Rattle.osm_input.specs.PointLines.Lines.{is_bad, point_told}
 
--- the lines of a text: its bytes parted at LF. What stands behind the last LF is one too, which is passed over where it is empty.
+-- The lines of a text: its bytes, split at LF. Text after the last LF is a line too, which is passed over if it is empty.
 abbrev pub lines_parted : List ℕ → List (List ℕ)
 lines_parted text = slice_split is_newline text
 

@@ -7,12 +7,12 @@ pub fn texts_have_points_or_a_bad_line()
     ensures { TextsHavePointsOrABadLine }
 {}
 
-/// No text has both.
+/// No text has both points and a bad line.
 pub fn points_exclude_a_bad_line()
     ensures { PointsExcludeABadLine }
 {}
 
-/// A text has one first bad line at most.
+/// A text has at most one first bad line.
 pub fn first_bad_line_is_one()
     ensures { FirstBadLineIsOne }
 {}

@@ -19,11 +19,11 @@ pub(crate) enum Told {
     /// Nothing: it is empty or a comment.
     Nothing,
     Point(Loc),
-    /// It should tell a point and doesn't.
+    /// It should tell a point but doesn't.
     Bad,
 }
 
-/// A line without the CR that stands last in it.
+/// A line without the CR at its end.
 fn without_cr(line: &[u8]) -> &[u8]
     ensures { result.now ≡ without_cr line.now }
 {
@@ -33,14 +33,14 @@ fn without_cr(line: &[u8]) -> &[u8]
     }
 }
 
-/// Whether a byte parts words.
+/// Whether a byte separates words.
 fn is_separator(byte: u8) -> bool
     ensures { result ≡ is_separator byte }
 {
     byte == b' ' || byte == b'\t'
 }
 
-/// The location of a longitude and a latitude as they are written in degrees.
+/// The location of a longitude and a latitude, written in degrees.
 fn location(x: &[u8], y: &[u8]) -> Option<Loc>
     ensures { result ≡ location_from (option_and_then longitude (decimal_of (pos 1800000000) x.now))
         (option_and_then latitude (decimal_of (pos 900000000) y.now)) }
@@ -65,7 +65,7 @@ fn from_word(text: &[u8]) -> &[u8]
     rest
 }
 
-/// The first word of a text, and what stands behind it. None where nothing but separators is left.
+/// The first word of a text, and the text after it. None if only separators are left.
 fn next_word(text: &[u8]) -> Option<(&[u8], &[u8])>
     ensures { MatchOption result (words_in text.now ≡ [])
         (λ cut. IsNextWord text.now cut.0.now cut.1.now) }

@@ -14,13 +14,13 @@ use std::alloc::Global;
 /// Why a text isn't read as points.
 #[derive(Clone, Copy, Debug, PartialEq, Eq)]
 pub enum PointsError {
-    /// This line, from 1, is the first that is neither passed over nor tells a point.
+    /// This line, counted from 1, is the first that is neither passed over nor tells a point.
     BadPoint { line: u64 },
     /// Memory ran out.
     OutOfMemory,
 }
 
-/// The first line of a text, and what stands behind its LF.
+/// The first line of a text, and the text after its LF.
 fn next_line(text: &[u8]) -> (&[u8], Option<&[u8]>)
     ensures lines { lines_parted text.now ≡ result.0.now ∷ lines_left (option_copied result.1) }
     ensures len { length result.0.now + len_left (option_copied result.1) ≡ length text.now }
@@ -33,9 +33,11 @@ fn next_line(text: &[u8]) -> (&[u8], Option<&[u8]>)
 
 /// The points that the lines of a text tell, in order.
 ///
-/// A line is a longitude and a latitude in degrees, each a decimal, with spaces or tabs between, before and behind them, within
-/// 180 and 90 degrees once the eighth digit behind the point has rounded. An empty line and one whose first word begins with `#` are passed over, and a CR at a line's end doesn't count. `BadPoint` comes
-/// exactly where some other line isn't so, and names the first. No line is copied.
+/// A line is a longitude and a latitude in degrees, each a decimal, with spaces or tabs between, before and after them. They
+/// are within 180 and 90 degrees once the eighth digit after the point has rounded. An empty line and one whose first word
+/// begins with `#` are passed over, and a CR at a line's end doesn't count.
+///
+/// `BadPoint` comes exactly if some line is none of these, and names the first. No line is copied.
 pub fn read_points(alloc: Global, text: &[u8]) -> Result<Vec<Loc>, PointsError>
     ensures points { IfOk result (λ points. ArePoints text.now points.items) }
     ensures bad { IfErr result (IsErrorOf text.now) }

@@ -1,4 +1,4 @@
--- Polygons whose points may have fractions, that are valid in the sense of Simple Features.
+-- Valid polygons in the sense of Simple Features, whose points may have fractions.
 use Rattle.std.specs.Prelude.{List, map, ℕ}
 use Rattle.lists.specs.Member.{In}
 use Rattle.osm_nest.specs.declared.polygon.Polygon.{Polygon}

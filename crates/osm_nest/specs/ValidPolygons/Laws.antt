@@ -10,7 +10,7 @@ use Rattle.osm_geom.specs.InPlane.Sided.{IsSided}
 use Rattle.plane_lists.specs.Valid.Valid.{IsValidMultiPolygon}
 use Rattle.osm_nest.specs.ValidPolygons.AreValid.{AreValid}
 
--- together they are a valid MultiPolygon, in the plane multiplied by the common denominator of the list that the rings are of
+-- They are together a valid MultiPolygon, in the plane multiplied by the common denominator of the list that the rings come from.
 abbrev pub NestedPolygonsAreValid : Type 0
 NestedPolygonsAreValid =
     (es : List Edge) → IsSided es → (rs : List (List Edge)) → AreRingsOf es rs → (nested : List Polygon) →

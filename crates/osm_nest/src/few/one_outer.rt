@@ -1,4 +1,4 @@
-//! Rings of which one alone is outer, as those of most areas: it directly encloses each of the others.
+//! Rings of which exactly one is outer, as in most areas: it directly encloses each of the others.
 ghost use Rattle.std.specs.Prelude.{◌≡◌, ◌≤◌, IfOk, IfSome, length, true};
 ghost use Rattle.osm_nest.specs.OneOuter.{AreInnerBetween, IsFirstOuter, IsOnlyOuter, enclosers_under};
 ghost use Rattle.osm_nest.specs.RingLists.{AreRings};
@@ -34,7 +34,7 @@ fn are_inner_from(rings: &[Ring], from: usize) -> bool
     true
 }
 
-/// The place of the outer ring, where there is one alone. A ring alone is outer, as nothing encloses it.
+/// The place of the outer ring, if there is exactly one. A single ring is outer, as nothing encloses it.
 pub(crate) fn only_outer(rings: &[Ring]) -> Option<usize>
     requires { AreRings rings.now }
     ensures { IfSome result (IsOnlyOuter rings.now) }
@@ -49,7 +49,7 @@ pub(crate) fn only_outer(rings: &[Ring]) -> Option<usize>
     None
 }
 
-/// For each inner one of so many rings the place of the only outer one; for that one None.
+/// For each inner one of this many rings the place of the only outer one; for the outer one None.
 pub(crate) fn inside_one(
     alloc: Global,
     count: usize,

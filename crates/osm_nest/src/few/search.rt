@@ -1,4 +1,4 @@
-//! The ring that directly encloses another, searched for among all edges.
+//! The ring that directly encloses another, searched among all edges.
 ghost use Rattle.std.specs.Prelude.{◌≡◌, ◌<◌, IfSome, cond, length};
 ghost use Rattle.std.specs.Ordering.{is_lt};
 ghost use Rattle.osm_geom.specs.Span.{lower_end};
@@ -19,7 +19,7 @@ pub(crate) struct Encloser {
     pub edge: Edge,
 }
 
-/// The place of the ring that directly encloses the one at a place, found among all edges; None for an outer ring.
+/// The place of the ring that directly encloses the one at a place, searched among all edges; None for an outer ring.
 pub(crate) fn searched_encloser(rings: &[Ring], anchors: &Anchors, place: usize) -> Option<usize>
     requires rings { AreRings rings.now }
     requires anchors { AreAnchors rings.now anchors.now }
@@ -35,7 +35,9 @@ pub(crate) fn searched_encloser(rings: &[Ring], anchors: &Anchors, place: usize)
     }
 }
 
-/// Among the outer rings that have an odd number of edges right of the anchor, the one to which the nearest of these edges belongs.
+/// The encloser with the nearest edge right of the anchor.
+///
+/// It is taken among the outer rings that have an odd number of edges right of the anchor.
 fn nearest_encloser(rings: &[Ring], outer: &[bool], anchor: &Edge) -> Option<Encloser>
     requires rings { AreRings rings.now }
     requires sized { length outer.now ≡ length rings.now }
@@ -50,7 +52,9 @@ fn nearest_encloser(rings: &[Ring], outer: &[bool], anchor: &Edge) -> Option<Enc
     best
 }
 
-/// The nearest edge right of the anchor of the ring at a place, if the ring is outer and has an odd number of such edges.
+/// The nearest edge right of the anchor that belongs to the ring at a place.
+///
+/// There is one only if the ring is outer and has an odd number of such edges.
 fn encloser_at(rings: &[Ring], outer: &[bool], place: usize, anchor: &Edge) -> Option<Encloser>
     requires sized { length outer.now ≡ length rings.now }
     requires outer { TellOuter rings.now outer.now }
@@ -68,7 +72,7 @@ fn encloser_at(rings: &[Ring], outer: &[bool], place: usize, anchor: &Edge) -> O
     }
 }
 
-/// Of two enclosers the one whose edge is nearer to the anchor.
+/// The one of two enclosers whose edge is nearer to the anchor.
 fn nearer_encloser(
     best: Option<Encloser>,
     next: Option<Encloser>,
@@ -116,7 +120,7 @@ pub(crate) fn nearest_right(edges: &[Edge], anchor: &Edge) -> Option<Edge>
     nearest
 }
 
-/// The next edge where it is right of the anchor and nearer than what was found, else that.
+/// The next edge if it is right of the anchor and nearer than the one found; otherwise the one found.
 fn nearer_edge(found: Option<Edge>, next: Edge, anchor: &Edge) -> Option<Edge>
     requires anchor { IsSloping anchor.now }
     requires found { IfSome found (λ e. IsRightOf anchor.now e) }
@@ -131,7 +135,7 @@ fn nearer_edge(found: Option<Edge>, next: Edge, anchor: &Edge) -> Option<Edge>
     }
 }
 
-/// Of two edges right of the anchor the nearer.
+/// The nearer of two edges right of the anchor.
 fn closer_edge(edge: Edge, next: Edge, anchor: &Edge) -> Edge
     requires anchor { IsSloping anchor.now }
     requires first { IsRightOf anchor.now edge }
@@ -155,7 +159,7 @@ fn is_right_of_lower_end(edge: &Edge, anchor: &Edge) -> bool
     spans_height(edge, at) && compare_just_above(anchor, edge, at).is_lt()
 }
 
-/// Of two edges right of the anchor, whether the first is left of the second.
+/// Whether the first of two edges right of the anchor is left of the second.
 #[tactic(auto, using(crate::proofs::Beside::right_spans), unfolding(crate::specs::Beside::is_nearer))]
 fn is_nearer(edge: &Edge, other: &Edge, anchor: &Edge) -> bool
     requires anchor { IsSloping anchor.now }

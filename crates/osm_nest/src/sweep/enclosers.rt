@@ -1,5 +1,6 @@
-//! The direct enclosers that one sweep upwards over all edges of the rings tells: the nearest edge left of an inner ring's anchor tells what
-//! encloses the ring directly.
+//! Direct enclosers, found by one sweep upwards over all edges of the rings.
+//!
+//! The nearest edge left of an inner ring's anchor shows which ring directly encloses that ring.
 ghost use Rattle.std.specs.Prelude.{◌≡◌, ◌<◌, ◌≤◌, All, IfOk, IfSome, List, None, Option, Some, filter, length, slice_index_or, true};
 ghost use Rattle.osm_geom.specs.Span.{lower_end};
 ghost use Rattle.osm_nest.specs.declared.sweep.ring_edge.RingEdge.{RingEdge};
@@ -18,7 +19,7 @@ use osm_geom::{Edge, spans_height};
 use osm_rings::Ring;
 use std::alloc::{AllocError as OutOfMemory, Global};
 
-/// For each ring the place of its direct encloser, where the sweep tells it.
+/// The place of the direct encloser of each ring, if the sweep finds it.
 pub(crate) fn swept_enclosers(
     alloc: Global,
     rings: &[Ring],
@@ -101,7 +102,9 @@ fn begins_there(inner: &[RingEdge], next: usize, first: &Edge) -> bool
     anchor.spans(lower_end(first)) && spans_height(first, lower_end(anchor.edge))
 }
 
-/// Settles the direct enclosers of the inner rings whose anchors begin at the height at which `first` begins; gives the place of the next anchor.
+/// Settles the direct enclosers of the inner rings whose anchors begin at the height at which `first` begins.
+///
+/// It gives the place of the next anchor.
 fn settle_row(
     rings: &[Ring],
     anchors: &Anchors,
@@ -129,7 +132,7 @@ fn settle_row(
     next
 }
 
-/// Settles the direct encloser of the ring of an anchor, where its neighbour in the status tells it.
+/// Settles the direct encloser of an anchor's ring, if the anchor's neighbour in the status shows it.
 fn settle(
     rings: &[Ring],
     anchors: &Anchors,
@@ -153,7 +156,7 @@ fn settle(
     }
 }
 
-/// The place of the neighbour's ring, if that is outer, else what directly encloses that ring, if it is known.
+/// The place of the neighbour's ring, if that is outer; otherwise the direct encloser of that ring, if it is known.
 fn encloser_by(
     rings: &[Ring],
     anchors: &Anchors,

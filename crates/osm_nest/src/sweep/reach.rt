@@ -1,4 +1,4 @@
-//! Between which x an edge lies.
+//! The range of x in which an edge lies.
 ghost use Rattle.std.specs.Prelude.{◌≡◌, ◌<ℤ◌, ◌≤ℤ◌, true};
 ghost use Rattle.osm_geom.specs.Coordinate.{AtLeast, AtMost};
 ghost use Rattle.osm_geom.specs.Point.{x_of};
@@ -60,7 +60,7 @@ fn greater(a: i32, b: i32) -> i32
     a.max(b)
 }
 
-/// Between which x an edge lies: those of its ends, or whole numbers beside them.
+/// The range of x in which an edge lies: the x of its ends, or whole numbers next to them.
 pub(crate) fn reach_of(edge: &Edge) -> Reach
     ensures { IsReach result.west result.east edge.now }
 {

@@ -1,4 +1,4 @@
-//! An edge of a ring, with what a sweep mostly asks of it.
+//! An edge of a ring, with what a sweep mostly needs of it.
 ghost use Rattle.std.specs.Prelude.{◌≡◌};
 ghost use Rattle.osm_geom.specs.Span.{spans};
 ghost use Rattle.osm_nest.specs.Heights.{AreHeights};
@@ -8,8 +8,8 @@ use crate::sweep::heights::{Heights, heights_of};
 use crate::sweep::reach::{Reach, reach_of};
 use osm_geom::{Edge, Point, spans_height};
 
-/// An edge of a ring, the place of the ring, between which x the edge lies, and which whole heights it spans.
-// These stand beside the reference, so that a sweep mostly needs no look at the edge.
+/// An edge of a ring, the place of the ring, the range of x in which the edge lies, and which whole heights it spans.
+// These are kept beside the reference, so that a sweep mostly doesn't read the edge.
 #[derive(Clone, Copy)]
 pub(crate) struct RingEdge<'a> {
     pub edge: &'a Edge,

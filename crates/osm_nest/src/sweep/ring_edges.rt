@@ -36,7 +36,7 @@ fn push_edge<'a>(
     Ok(())
 }
 
-/// Adds the edges of one ring that aren't horizontal: those that run up to one list, and those that run down to another.
+/// Adds the edges of one ring that aren't horizontal, to two lists: those that run up, and those that run down.
 fn push_ring<'a>(
     up: &mut Vec<RingEdge<'a>>,
     down: &mut Vec<RingEdge<'a>>,
@@ -63,11 +63,11 @@ fn edge_count(rings: &[Ring]) -> usize {
     count
 }
 
-/// The edges of all rings that aren't horizontal: those that run up, and then those that run down.
+/// The edges of all rings that aren't horizontal: those that run up, followed by those that run down.
 fn sloping_edges<'a>(alloc: Global, rings: &'a [Ring]) -> Result<Vec<RingEdge<'a>>, OutOfMemory>
     ensures { IfOk result (λ v. AreSlopingEdges rings.now v.items) }
 {
-    // Rings come mostly in order of their least nodes. So where they are small, both lists are nearly in order.
+    // Rings are mostly in order of their least nodes. So if they are small, both lists are nearly in order.
     let count = edge_count(rings);
     let mut up = Vec::with_capacity(alloc, count)?;
     let mut down = Vec::with_capacity(alloc, count / 2)?;
@@ -109,7 +109,7 @@ fn sorted_by_lower_ends<'a>(edges: Vec<RingEdge<'a>>) -> Result<Vec<RingEdge<'a>
 
 /// The edges in order of their lower ends.
 ///
-/// Ways: edges that stand in order; those whose order their sort keys tell; all others by their points.
+/// Ways: edges that are in order; those that their sort keys put in order; all others by their points.
 pub(crate) fn by_lower_ends<'a>(edges: Vec<RingEdge<'a>>) -> Result<Vec<RingEdge<'a>>, OutOfMemory>
     ensures moved { IfOk result (λ v. IsPermutation edges.entry.items v.items) }
     ensures rise { IfOk result (λ v. StartsRise v.items) }
@@ -145,7 +145,7 @@ pub(crate) struct Top {
     pub place: usize,
 }
 
-/// The edges in order of the sort keys of their upper ends. Nothing rests on the order but speed.
+/// The edges in order of the sort keys of their upper ends. Only speed depends on this order.
 pub(crate) fn by_upper_ends(alloc: Global, edges: &[RingEdge]) -> Result<Vec<Top>, OutOfMemory> {
     let mut tops = Vec::with_capacity(alloc, edges.len())?;
     for (place, edge) in edges.iter().enumerate() {

@@ -1,7 +1,7 @@
 //! The status of a sweep upwards over edges: those that span its height, from left to right just above it.
 //!
-//! Where an edge belongs is searched for as if the status were in order, and then its neighbours there are tested. An edge that
-//! ended may still stand in the status: what counts is the status without those.
+//! The place of an edge is searched as if the status were in order, and then its neighbours there are tested. An edge that
+//! ended may remain in the status: only the others count.
 ghost use Rattle.std.specs.Prelude.{◌≡◌, ◌<◌, ◌≤◌, ◌⊎◌, ◌&&◌, ◌-◌, IfOk, IfSome, filter, length, slice_index_or, take, true, false};
 ghost use Rattle.std.specs.Ordering.{is_lt};
 ghost use Rattle.osm_geom.specs.JustAbove.{just_above_cmp};
@@ -18,7 +18,7 @@ use chunked_list::ChunkedList;
 use osm_geom::{Point, compare_just_above};
 use std::alloc::AllocError as OutOfMemory;
 
-/// Whether `f` is left of `g` just above a height that both span: by their x, where these part them.
+/// Whether `f` is left of `g` just above a height that both span: by their x, if these separate them.
 fn is_left(f: &RingEdge, g: &RingEdge, at: &Point) -> bool
     requires first { is_within at.now f.now ≡ true }
     requires second { is_within at.now g.now ≡ true }
@@ -33,7 +33,7 @@ fn is_left(f: &RingEdge, g: &RingEdge, at: &Point) -> bool
     compare_just_above(f.edge, g.edge, at).is_lt()
 }
 
-/// Whether `f` spans the height of a point, and is left just above it of `g`, which is known to span it.
+/// Whether `f` spans the height of a point, and just above it is left of `g`, which is known to span it.
 fn is_left_of(f: &RingEdge, g: &RingEdge, at: &Point) -> bool
     requires { is_within at.now g.now ≡ true }
     ensures { result ≡ left_at at.now f.now.edge.now g.now.edge.now }
@@ -41,7 +41,7 @@ fn is_left_of(f: &RingEdge, g: &RingEdge, at: &Point) -> bool
     f.spans(at) && is_left(f, g, at)
 }
 
-/// Whether `g` spans the height of a point, and is right just above it of `f`, which is known to span it.
+/// Whether `g` spans the height of a point, and just above it is right of `f`, which is known to span it.
 fn stands_right_of(g: &RingEdge, f: &RingEdge, at: &Point) -> bool
     requires { is_within at.now f.now ≡ true }
     ensures { result ≡ left_at at.now f.now.edge.now g.now.edge.now }
@@ -49,7 +49,7 @@ fn stands_right_of(g: &RingEdge, f: &RingEdge, at: &Point) -> bool
     g.spans(at) && is_left(f, g, at)
 }
 
-/// Whether `f` lies left of `g`, where no x parts them just above a height that `g` spans. Nothing rests on it but speed.
+/// Whether `f` lies left of `g` just above a height that `g` spans, if no x separates them. Only speed depends on it.
 fn seems_left(f: &RingEdge, g: &RingEdge, at: &Point) -> bool
     requires { is_within at.now g.now ≡ true }
 {
@@ -62,7 +62,7 @@ fn seems_left(f: &RingEdge, g: &RingEdge, at: &Point) -> bool
     is_left_of(f, g, at)
 }
 
-/// Where the search sees an edge that spans the height among those of the status.
+/// The place that the search finds for an edge that spans the height, among those of the status.
 fn search(status: &ChunkedList<RingEdge>, edge: &RingEdge, at: &Point) -> usize
     requires { is_within at.now edge.now ≡ true }
     ensures { result ≤ length status.now }
@@ -82,7 +82,7 @@ fn is_past(status: &ChunkedList<RingEdge>, place: usize, at: &Point) -> bool
     !status.get(place).spans(at)
 }
 
-/// Whether an edge of a ring seems to stand at a place, by what is known without a look at the edges. Nothing rests on it but speed.
+/// Whether an edge of a ring seems to be at a place, by what is known without reading the edges. Only speed depends on it.
 fn is_at(status: &ChunkedList<RingEdge>, place: usize, edge: &RingEdge) -> bool {
     if place >= status.len() {
         return false;
@@ -91,9 +91,11 @@ fn is_at(status: &ChunkedList<RingEdge>, place: usize, edge: &RingEdge) -> bool 
     other.ring == edge.ring && other.reach == edge.reach && other.heights == edge.heights
 }
 
-/// Where an edge stands, if that is where the status changed last, or beside that; else where the search sees it. Nothing rests on it but speed.
+/// The place of an edge, if it is where the status changed last or next to that; otherwise the place that the search finds.
 ///
-/// Ways: the four places beside where the status changed last; all others by a search.
+/// Only speed depends on it.
+///
+/// Ways: the four places next to where the status changed last; all others by a search.
 fn place_of(status: &ChunkedList<RingEdge>, edge: &RingEdge, at: &Point) -> usize
     requires { is_within at.now edge.now ≡ true }
 {
@@ -106,7 +108,7 @@ fn place_of(status: &ChunkedList<RingEdge>, edge: &RingEdge, at: &Point) -> usiz
     search(status, edge, at)
 }
 
-/// Takes out an edge that ended, where its place is found; else all that don't span the height of `at`.
+/// Takes out an edge that ended, if its place is found; otherwise all edges that don't span the height of `at`.
 fn take_out(status: &mut ChunkedList<RingEdge>, edge: &RingEdge, below: &Point, at: &Point)
     requires { is_within below.now edge.now ≡ true }
     ensures within { filter (is_within at.now) status.new ≡ filter (is_within at.now) status.old }
@@ -140,8 +142,10 @@ fn ends_between(edges: &[RingEdge], tops: &[Top], next: usize, below: &Point, at
     edge.spans(below) && !edge.spans(at)
 }
 
-/// Takes out the edges that span the height of `below` and end no higher than `at`, by the places of all edges in order of their upper
-/// ends, from one on; gives the one from which to go on. That each is found rests on no proof, and need not.
+/// Takes out the edges that span the height of `below` and end no higher than `at`.
+///
+/// It takes them by the places of all edges in order of their upper ends, from one on, and gives the one to continue from.
+/// No clause says that each is found, and none is needed.
 pub(crate) fn leave(
     status: &mut ChunkedList<RingEdge>,
     edges: &[RingEdge],
@@ -161,7 +165,7 @@ pub(crate) fn leave(
     next
 }
 
-/// Whether the two between which a place lies span the height, and are left and right of the edge.
+/// Whether the two edges next to a place span the height, and are left and right of the edge.
 fn fits_at(status: &ChunkedList<RingEdge>, place: usize, edge: &RingEdge, at: &Point) -> bool
     requires within { is_within at.now edge.now ≡ true }
     requires inside { place ≤ length status.now }
@@ -214,7 +218,9 @@ fn goes_on(edges: &[RingEdge], next: usize, at: &Point) -> bool
     edges[next].spans(at)
 }
 
-/// Puts in the edges from a place on that span the height of `at`; gives the place after the last of them, or None where one doesn't fit.
+/// Puts in the edges from a place on that span the height of `at`.
+///
+/// It gives the place after the last of them, or None if one doesn't fit.
 pub(crate) fn enter_row<'a>(
     status: &mut ChunkedList<RingEdge<'a>>,
     edges: &[RingEdge<'a>],
@@ -238,7 +244,9 @@ pub(crate) fn enter_row<'a>(
     Ok(Some(next))
 }
 
-/// Whether an anchor that spans the height stands between two edges: the first is left of it, and the second, which spans the height too, isn't.
+/// Whether an anchor that spans the height is between two edges.
+///
+/// The first edge is left of it. The second, which spans the height too, isn't.
 fn is_between(left: &RingEdge, next: &RingEdge, anchor: &RingEdge, at: &Point) -> bool
     requires { is_within at.now anchor.now ≡ true }
     ensures left { result ≡ true → left_at at.now left.now.edge.now anchor.now.edge.now ≡ true }
@@ -248,7 +256,7 @@ fn is_between(left: &RingEdge, next: &RingEdge, anchor: &RingEdge, at: &Point) -
     is_left_of(left, anchor, at) && next.spans(at) && !is_left(next, anchor, at)
 }
 
-/// The edge just before an anchor in the status, if the anchor seems to stand there.
+/// The edge just before an anchor in the status, if the anchor seems to belong there.
 pub(crate) fn left_neighbour<'a>(
     status: &ChunkedList<RingEdge<'a>>,
     anchor: &RingEdge,

@@ -1,6 +1,6 @@
-//! The rings of a few edges of which no two leave one point, as nearly all areas have: walks along the edges themselves.
+//! The rings of a few edges of which no two leave one point, as in nearly all areas: walks along the edges themselves.
 //!
-//! The general way gives the same rings of them. Only speed rests on this one: it takes no memory but the rings'.
+//! The general way gives the same rings. Only speed depends on this one: it takes no memory but that of the rings.
 ghost use Rattle.std.specs.Prelude.{◌≡◌, ◌<◌, ◌≤◌, IfOk, IfSome, false, length, slice_index_or, take};
 ghost use Rattle.std.specs.Ordering.{is_eq};
 ghost use Rattle.osm_geom.specs.Point.{point_cmp};
@@ -14,16 +14,16 @@ use crate::ring_list::rings_along;
 use osm_geom::{Edge, Point, order_points};
 use std::alloc::{AllocError as OutOfMemory, Global};
 
-/// So few edges are looked through for each sooner than they are sorted.
+/// At most this many edges are searched one by one; more are sorted.
 pub const FEW: usize = 32;
 
-/// Whether two points are one.
+/// Whether two points are equal.
 #[inline]
 fn is_same_point(p: &Point, q: &Point) -> bool
     ensures { result ≡ is_eq (point_cmp p.now q.now) }
 {
     match (p, q) {
-        // Of two that differ mostly one coordinate is read. Only speed rests on it.
+        // For two different points it mostly reads one coordinate. Only speed depends on it.
         (Point::Lattice(p), Point::Lattice(q)) => *p == *q,
         _ => order_points(p, q).is_eq(),
     }
@@ -53,7 +53,8 @@ fn fresh_from(passed: &[bool], from: usize) -> Option<usize>
     None
 }
 
-/// Walks from a fresh place on, from each edge to the first that leaves its end, and notes the places after those noted before.
+/// Walks from a fresh place on, from each edge to the first that leaves its end, and notes the places after earlier ones.
+///
 /// It gives how many it notes, if the walk leads back to its start and to no other place that was passed before.
 fn walk_from(
     edges: &[Edge],
@@ -83,9 +84,9 @@ fn walk_from(
 }
 
 /// The walks of few edges: how many there are, their places one after the other, and how many places each has.
-/// There are none where the edges are more, where two leave one point, or where a walk doesn't lead back.
 ///
-/// Each walk begins at the first place that none before it passes, so its rings come in the order in which the general way has them.
+/// There are none if there are more edges, if two leave one point, or if a walk doesn't lead back. Each walk begins at the
+/// first place that no earlier walk passes, so its rings have the order of the general way.
 pub fn few_walks(
     edges: &[Edge],
     places: &mut [usize; FEW],
@@ -110,7 +111,7 @@ pub fn few_walks(
     Some(count)
 }
 
-/// The rings of a sided list of few edges of which no two leave one point; none where it isn't such a list.
+/// The rings of a sided list of few edges of which no two leave one point; None if it isn't such a list.
 pub fn few_rings(alloc: Global, edges: &[Edge]) -> Result<Option<Rings>, OutOfMemory>
     requires { IsSided edges.now }
     ensures { IfOk result (λ found. IfSome found (λ v. AreRingsOf edges.now v)) }

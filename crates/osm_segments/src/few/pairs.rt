@@ -7,7 +7,7 @@ use crate::pairs::Pair;
 use osm_lattice::{Seg, are_apart, conflict_of_near};
 use std::alloc::{AllocError as OutOfMemory, Global};
 
-/// All pairs of so few segments are tried sooner than they are swept.
+/// For at most this many segments, trying all pairs is faster than a sweep.
 pub(crate) const FEW: usize = 32;
 
 /// Two segments, if they conflict.

@@ -1,7 +1,7 @@
-//! Strips halved until each segment runs through or few are left.
+//! Strips, halved until each segment runs through one or few are left.
 //!
-//! A segment that runs through a strip is put into a row there and goes no further; the others go to the halves that they reach. Two
-//! segments in conflict stay together until one of them runs through a strip in which they conflict.
+//! A segment that runs through a strip is put into a row there and goes no further. The others go to the halves that they
+//! reach. Two segments in conflict stay together until one of them runs through a strip in which they conflict.
 ghost use Rattle.std.specs.Prelude.{◌≡◌, ◌≢◌, ◌↔◌, ◌≤ℤ◌, [], Contains, IfOk, IsPermutation, OnOk, false, map, true};
 ghost use Rattle.osm_lattice.specs.declared.loc.Loc.{Loc};
 ghost use Rattle.osm_segments.specs.declared.places.Places.{Places};
@@ -29,7 +29,7 @@ use std::alloc::{AllocError as OutOfMemory, Global};
 /// At most this many segments are tried in pairs; a strip of more is halved.
 const FEW: usize = 24;
 
-/// Settles those that run through a strip, and gives the others.
+/// Settles the segments that run through a strip, and gives the others.
 fn settle_through(
     alloc: Global,
     told: &mut Vec<Places>,
@@ -71,7 +71,7 @@ fn are_clear(alloc: Global, all: &[SegAt]) -> Result<bool, OutOfMemory>
     is_clear(alloc, &segs, &ends)
 }
 
-/// Settles the segments of a strip, which is halved at heights within it.
+/// Settles the segments of a strip. The strip is halved at heights within it.
 fn settle_strip(
     alloc: Global,
     told: &mut Vec<Places>,
@@ -165,7 +165,7 @@ pub fn conflict_places(alloc: Global, segs: &[Seg]) -> Result<Vec<Places>, OutOf
     Ok(each_once(told))
 }
 
-/// Whether two segments of a list, of which the first is given first, conflict.
+/// Whether two segments of a list conflict, given as places, the lesser first.
 fn is_conflict_at(segs: &[Seg], p: Places) -> bool
     ensures { result ≡ true → conflicts_of segs.now ≢ [] }
 {
@@ -175,7 +175,7 @@ fn is_conflict_at(segs: &[Seg], p: Places) -> bool
     pair_at(segs, p).is_some()
 }
 
-/// Whether the first of these places shows two segments of a list that conflict.
+/// Whether the first of these pairs of places shows two segments of a list that conflict.
 fn shows_conflict(segs: &[Seg], told: &[Places]) -> bool
     ensures { result ≡ true → conflicts_of segs.now ≢ [] }
 {
@@ -185,8 +185,9 @@ fn shows_conflict(segs: &[Seg], told: &[Places]) -> bool
     is_conflict_at(segs, told[0])
 }
 
-/// Whether any two of these segments in strict order conflict, which are given in the order of their upper ends, too. The search ends
-/// with the second conflict.
+/// Whether any two of these segments in strict order conflict. They are also given in the order of their upper ends.
+///
+/// The search ends with the second conflict.
 ///
 /// Ways: segments that one sweep finds free of conflicts (sweep); all others by strips (ranges).
 pub fn has_conflict(alloc: Global, segs: &[Seg], ends: &[Seg]) -> Result<bool, OutOfMemory>

@@ -25,7 +25,7 @@ fn long_product(a: i128, b: i64) -> i128
     a * i128::from(b)
 }
 
-/// Where `s` stands against `t` at the height of `v`: `Less` left of it.
+/// Where `s` lies relative to `t` at the height of `v`: `Less` left of it.
 pub fn compare_at(v: Loc, s: Seg, t: Seg) -> Ordering
     ensures { result ≡ ordering_of (side_at v s t) }
 {

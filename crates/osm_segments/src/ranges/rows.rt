@@ -54,7 +54,7 @@ pub fn row_of(alloc: Global, strip: Strip, all: &[SegAt]) -> Result<SideBySide, 
     Ok(SideBySide { row, rest })
 }
 
-/// Segments that run through a strip, and the others.
+/// The segments that run through a strip, and the others.
 pub fn part_by_run(alloc: Global, strip: Strip, all: &[SegAt]) -> Result<ByRun, OutOfMemory>
     ensures { IfOk result (λ p. (s : SegAt) → Contains all.now s
         → Contains p.through.items s ⊎ Contains p.others.items s) }
@@ -79,9 +79,9 @@ fn compare_across(strip: Strip, s: Seg, t: Seg) -> Ordering {
     }
 }
 
-/// Segments that run through a strip from left to right at its lower height, and then at its upper one.
+/// Segments that run through a strip, from left to right at its lower height, and then at its upper one.
 ///
-/// How long rows get rests on the order, and nothing else.
+/// Only the length of rows depends on the order.
 pub fn in_order_across(strip: Strip, mut through: Vec<SegAt>) -> Vec<SegAt>
     ensures { IsPermutation through.items result.items }
 {
@@ -89,7 +89,7 @@ pub fn in_order_across(strip: Strip, mut through: Vec<SegAt>) -> Vec<SegAt>
     through
 }
 
-/// Whether those of a row that are left of a segment seem to end at a place.
+/// Whether the segments of a row that are left of a segment seem to end at a place.
 fn seems_end_of_left(strip: Strip, row: &[SegAt], place: usize, t: Seg) -> bool
     requires { place ≤ length row.now }
 {
@@ -97,7 +97,7 @@ fn seems_end_of_left(strip: Strip, row: &[SegAt], place: usize, t: Seg) -> bool
         && (place == row.len() || !runs_left(strip, row[place].seg, t))
 }
 
-/// Where those of a row end that are left of a segment, looked for first at a place.
+/// Where the segments of a row that are left of a segment end. The search starts at `near`.
 pub fn end_of_left(strip: Strip, row: &[SegAt], near: usize, t: Seg) -> usize
     ensures within { result ≤ length row.now }
     ensures left { 0 < result → (d : SegAt)
@@ -113,7 +113,7 @@ pub fn end_of_left(strip: Strip, row: &[SegAt], near: usize, t: Seg) -> usize
     end
 }
 
-/// Where those of a row begin that are right of a segment, looked for first at a place.
+/// Where the segments of a row that are right of a segment begin. The search starts at `near`.
 pub fn begin_of_right(strip: Strip, row: &[SegAt], near: usize, t: Seg) -> usize
     ensures within { result ≤ length row.now }
     ensures right { result < length row.now → (d : SegAt)

@@ -74,7 +74,7 @@ pub fn with_places(alloc: Global, segs: &[Seg]) -> Result<Vec<SegAt>, OutOfMemor
     Ok(all)
 }
 
-/// Those that reach below a height.
+/// The segments that reach below a height.
 pub fn reaching_below(alloc: Global, all: &[SegAt], middle: Loc) -> Result<Vec<SegAt>, OutOfMemory>
     ensures { IfOk result (λ v. (s : SegAt) → Contains all.now s
         → Contains v.items s ⊎ (height middle ≤ℤ height s.seg.a)) }
@@ -88,7 +88,7 @@ pub fn reaching_below(alloc: Global, all: &[SegAt], middle: Loc) -> Result<Vec<S
     Ok(below)
 }
 
-/// Those that reach above a height.
+/// The segments that reach above a height.
 pub fn reaching_above(alloc: Global, all: &[SegAt], middle: Loc) -> Result<Vec<SegAt>, OutOfMemory>
     ensures { IfOk result (λ v. (s : SegAt) → Contains all.now s
         → Contains v.items s ⊎ (height s.seg.b ≤ℤ height middle)) }
@@ -104,7 +104,7 @@ pub fn reaching_above(alloc: Global, all: &[SegAt], middle: Loc) -> Result<Vec<S
 
 /// The heights at which segments begin or end, each once and in order.
 ///
-/// Only speed rests on it.
+/// Only speed depends on them.
 pub fn heights_of(alloc: Global, segs: &[Seg]) -> Result<Vec<Loc>, OutOfMemory> {
     let mut heights = Vec::with_capacity(alloc, 2 * segs.len())?;
     for s in segs {

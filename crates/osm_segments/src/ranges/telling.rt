@@ -1,4 +1,4 @@
-//! Pairs of segments that are tried, and told by their places if they conflict.
+//! Pairs of segments that are tried, and listed by their places if they conflict.
 ghost use Rattle.std.specs.Prelude.{◌≡◌, ◌⊎◌, ◌<◌, ◌≤◌, ℕ, ◌++◌, Contains, IfOk, OnOk, length, slice_index_or};
 ghost use Rattle.osm_segments.specs.Ranges.{AreSettled, IsGrown, IsReduced, IsSettled, IsTried, StandInRow};
 
@@ -26,7 +26,7 @@ fn in_order(i: u32, j: u32) -> Places
     }
 }
 
-/// Tries the segments at two places. It is given up where as many as `limit` were told before.
+/// Tries the segments at two places. It gives up at a conflict after `limit` others.
 fn try_pair(
     told: &mut Vec<Places>,
     limit: usize,
@@ -85,7 +85,9 @@ pub fn try_each(
     Ok(())
 }
 
-/// Settles a segment with those of a row, looking first at a place for where those end that are left of it. That place.
+/// Settles a segment with those of a row, and gives the place where those left of it end.
+///
+/// The search for this place starts at `near`.
 fn settle_with_row(
     told: &mut Vec<Places>,
     limit: usize,
@@ -128,7 +130,7 @@ fn settle_all(
     Ok(())
 }
 
-/// Takes a row out of segments, and settles it with the rest of them and with others. The rest.
+/// Takes a row out of segments, settles it with the rest of them and with others, and gives the rest.
 fn settle_row(
     alloc: Global,
     told: &mut Vec<Places>,

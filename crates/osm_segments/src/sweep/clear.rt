@@ -15,7 +15,7 @@ use chunked_list::ChunkedList;
 use osm_lattice::{Loc, Seg, conflict};
 use std::alloc::{AllocError as OutOfMemory, Global};
 
-/// `t` is right of `s` just above the lower end of `s`, where both pass that height.
+/// Whether `t` is right of `s` just above the lower end of `s`, if both pass that height.
 fn lies_right(s: Seg, t: Seg) -> bool
     ensures { result ≡ lies_right s t }
 {
@@ -75,7 +75,7 @@ fn enter(status: &mut ChunkedList<Seg>, s: Seg) -> Result<bool, OutOfMemory>
     Ok(true)
 }
 
-/// Whether the two beside a place don't conflict.
+/// Whether the two segments next to a place don't conflict.
 fn closes(status: &ChunkedList<Seg>, place: usize) -> bool
     requires { place < length status.now }
     ensures { result ≡ true → (d : Seg) → 0 < place → place + 1 < length status.now
@@ -91,7 +91,7 @@ fn closes(status: &ChunkedList<Seg>, place: usize) -> bool
     true
 }
 
-/// Takes a segment out, if it stands there and the two beside it don't conflict.
+/// Takes a segment out, if it is there and the two next to it don't conflict.
 fn leave(status: &mut ChunkedList<Seg>, s: Seg) -> bool
     ensures { result ≡ true → HasLeft s status.old status.new }
 {
@@ -107,7 +107,9 @@ fn leave(status: &mut ChunkedList<Seg>, s: Seg) -> bool
     }
 }
 
-/// Puts a segment in the place of one that ends where it begins, if it fits there and the two beside it don't conflict.
+/// Replaces a segment by one that begins where it ends.
+///
+/// It does so if that one fits there and its two neighbours don't conflict with each other.
 fn go_on(status: &mut ChunkedList<Seg>, s: Seg, t: Seg) -> bool
     ensures { result ≡ true → IsFollowed s t status.old status.new }
 {
@@ -133,7 +135,7 @@ pub fn sort_by_ends(segs: &mut [Seg])
     segs.sort_unstable_by(|s, t| s.b.cmp(&t.b));
 }
 
-/// The segments of a list in the order of their upper ends: none stands behind one whose upper end comes after its own.
+/// The segments of a list in the order of their upper ends: none follows one whose upper end comes after its own.
 pub fn in_order_of_ends(mut segs: Vec<Seg>) -> Vec<Seg>
     ensures moved { IsPermutation segs.items result.items }
     ensures rise { EndsRise result.items }
@@ -188,8 +190,9 @@ fn goes_on(segs: &[Seg], next: usize, ends: &[Seg], left: usize) -> bool
 
 /// Whether one sweep upwards finds segments in strict order free of conflicts.
 ///
-/// Each enters between those of the status that are left and right of its lower end, and leaves at its upper end, or another goes on from
-/// there in its place; who come to stand side by side are tried. No other pairs are. The segments are given in the order of their upper ends, too.
+/// Each segment enters between those of the status that are left and right of its lower end. It leaves at its upper end, or
+/// another that begins there takes its place. Only segments that become neighbours are tried. The segments are also given in
+/// the order of their upper ends.
 pub fn is_clear(alloc: Global, segs: &[Seg], ends: &[Seg]) -> Result<bool, OutOfMemory>
     requires rising { IsRising seg_cmp segs.now }
     requires moved { IsPermutation segs.now ends.now }

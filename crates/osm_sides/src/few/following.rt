@@ -1,4 +1,4 @@
-//! The directions of few segments, along their rings: where two alone end at a node, one leaves it as the other enters it.
+//! The directions of few segments, along their rings: if only two end at a node, one leaves it as the other enters it.
 ghost use Rattle.std.specs.Prelude.{◌≡◌, ◌<◌, [], IfSome, false, length, true};
 ghost use Rattle.osm_segments.specs.Outlines.{IsOutline};
 ghost use Rattle.osm_sides.specs.Following.{AreOthersUpTo, IsDirected, IsDirection, IsEnd, IsSoleOther, KnownDirectionsAreRight, stop_of};
@@ -15,7 +15,7 @@ fn ends_at(s: Seg, p: Loc) -> bool
     is_same(s.a, p) || is_same(s.b, p)
 }
 
-/// The place of the segment that ends at a location besides the one at a place, if there is one alone.
+/// The place of the other segment that ends at a location, besides the one at `place`, if there is exactly one.
 fn sole_other(segs: &[Seg], place: usize, p: Loc) -> Option<usize>
     ensures { IfSome result (λ other. IsSoleOther segs.now place p other) }
 {
@@ -31,14 +31,14 @@ fn sole_other(segs: &[Seg], place: usize, p: Loc) -> Option<usize>
     found
 }
 
-/// Where a segment ends that runs up, or down.
+/// The end that a segment runs to if it runs up, or down.
 fn stop_of(s: Seg, up: bool) -> Loc
     ensures { result ≡ stop_of up s }
 {
     if up { s.b } else { s.a }
 }
 
-/// The place of the segment that goes on where the one at a place ends, and its direction.
+/// The place of the segment that goes on from the end of the one at a place, and its direction.
 fn next_along(segs: &[Seg], place: usize, up: bool) -> Option<(usize, bool)>
     requires outline { IsOutline segs.now }
     requires directed { IsDirected segs.now place up }
@@ -49,7 +49,7 @@ fn next_along(segs: &[Seg], place: usize, up: bool) -> Option<(usize, bool)>
     Some((next, is_same(segs[next].a, stop)))
 }
 
-/// Makes the direction of a segment known, and those of the segments that follow it along its ring.
+/// Notes the direction of a segment, and those of the segments that follow it along its ring.
 fn follow(segs: &[Seg], from: usize, direction: bool, known: &mut [Option<bool>])
     requires outline { IsOutline segs.now }
     requires directed { IsDirected segs.now from direction }
@@ -73,7 +73,7 @@ fn follow(segs: &[Seg], from: usize, direction: bool, known: &mut [Option<bool>]
     }
 }
 
-/// The direction of the segment at a place: as it is known, else by the odd side.
+/// The direction of the segment at a place: the known one, or else by the odd side.
 pub fn direction(segs: &[Seg], place: usize, known: &mut [Option<bool>]) -> bool
     requires outline { IsOutline segs.now }
     requires inside { place < length segs.now }

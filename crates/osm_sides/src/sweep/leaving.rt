@@ -11,8 +11,10 @@ use chunked_list::ChunkedList;
 use osm_geom::{Loc, Seg};
 use osm_segments::place_in_status;
 
-/// Of segments in the order of their upper ends those that aren't horizontal, in the order in which they leave: of those that end at
-/// one height, the left one first. Horizontal ones never enter, and would be looked for in vain: only speed rests on leaving them out.
+/// The segments that aren't horizontal, in the order in which they leave.
+///
+/// They are given in the order of their upper ends; of those that end at one height, the left one leaves first. Horizontal
+/// ones never enter, so a search for them would fail: only speed depends on leaving them out.
 pub fn leaving(mut ends: Vec<Seg>) -> Vec<Seg>
     ensures { (segs : List Seg) → AreByEnds segs ends.items → AreEnds segs result.items }
 {
@@ -20,14 +22,14 @@ pub fn leaving(mut ends: Vec<Seg>) -> Vec<Seg>
     ends
 }
 
-/// Those that end above the height of `at` stay.
+/// Keeps the segments that end above the height of `at`.
 fn leave_all(status: &mut ChunkedList<Seg>, at: Loc)
     ensures { status.new ≡ filter (ends_above at.y) status.old }
 {
     status.retain(|t| is_above(*t, at));
 }
 
-/// Takes out the next one that has ended by the height of `at`; all that have, if it isn't found.
+/// Takes out the next segment that has ended by the height of `at`, or all that have, if it isn't found.
 fn leave_next(status: &mut ChunkedList<Seg>, ends: &[Seg], next: usize, at: Loc)
     requires inside { next < length ends.now }
     requires ended { (d : Seg) → ends_above at.y (slice_index_or ends.now next d) ≡ false }
@@ -43,7 +45,7 @@ fn leave_next(status: &mut ChunkedList<Seg>, ends: &[Seg], next: usize, at: Loc)
     }
 }
 
-/// Takes out those from one place up to another.
+/// Takes out the segments from one place up to another.
 fn leave_each(status: &mut ChunkedList<Seg>, ends: &[Seg], from: usize, to: usize, at: Loc)
     requires within { to ≤ length ends.now }
     requires ended { AllWithin (λ t. ends_above at.y t ≡ false) ends.now from to }
@@ -56,8 +58,9 @@ fn leave_each(status: &mut ChunkedList<Seg>, ends: &[Seg], from: usize, to: usiz
     }
 }
 
-/// Takes out those that have ended by the height of `at`, the next ones in the list of ends; gives the place of the
-/// first that hasn't.
+/// Takes out the segments that have ended by the height of `at`, the next ones in the list of ends.
+///
+/// It gives the place of the first that hasn't.
 pub fn leave(status: &mut ChunkedList<Seg>, ends: &[Seg], next: usize, at: Loc) -> usize
     requires rise { EndsNeverFall ends.now }
     requires remains { Remains (ends_above at.y) ends.now next status.old status.old }

@@ -12,14 +12,14 @@ use chunked_list::ChunkedList;
 use osm_geom::{Loc, Seg};
 use std::alloc::AllocError as OutOfMemory;
 
-/// How far a sweep has come: how many of the segments have begun, and how many of those that end have left.
+/// How far a sweep has got: how many of the segments have begun, and how many of those that end have left.
 #[derive(Clone, Copy, Debug, PartialEq, Eq)]
 pub struct Progress {
     pub begun: usize,
     pub left: usize,
 }
 
-/// Goes on to the height of `at`: row by row the segments enter that begin by it, and those leave that have ended by it.
+/// Goes on to the height of `at`. Row by row, segments that begin by it enter, and those that have ended by it leave.
 pub fn rise(
     status: &mut ChunkedList<Seg>,
     segs: &[Seg],

@@ -17,7 +17,7 @@ use chunked_list::ChunkedList;
 use osm_geom::{Edge, Loc, Seg};
 use std::alloc::AllocError as OutOfMemory;
 
-/// How many of the status don't count as right of `s`: these stand first.
+/// How many of the status don't count as right of `s`: these come first.
 fn place(status: &ChunkedList<Seg>, s: Seg) -> usize
     requires { IsPartitionedBy (λ t. not (counted s t)) status.now }
     ensures within { result ≤ length status.now }
@@ -38,8 +38,9 @@ fn enter(status: &mut ChunkedList<Seg>, s: Seg) -> Result<(), OutOfMemory>
     Ok(())
 }
 
-/// Puts in the segments from one place up to another, which begin at the height of `at`; a horizontal one doesn't span
-/// it.
+/// Puts in the segments from one place up to another, which begin at the height of `at`.
+///
+/// A horizontal one doesn't span this height.
 fn enter_each(
     status: &mut ChunkedList<Seg>,
     segs: &[Seg],
@@ -63,7 +64,7 @@ fn enter_each(
     Ok(())
 }
 
-/// Puts in the segments that begin at the height of `at`, where the one at `from` does; tells up to where they do.
+/// Puts in the segments that begin at the height of `at`, as the one at `from` does, and gives the place after them.
 pub fn enter_row(
     status: &mut ChunkedList<Seg>,
     segs: &[Seg],
@@ -81,7 +82,9 @@ pub fn enter_row(
     Ok(to)
 }
 
-/// Where those of the status begin that are right of `s` just above its lower end: they stand last. It is looked for near a place first.
+/// Where the segments of the status begin that are right of `s` just above its lower end: they come last.
+///
+/// The search starts at `near`.
 fn right_from(status: &ChunkedList<Seg>, near: usize, s: Seg) -> usize
     requires { IsPartitionedBy (λ t. not (counted s t)) status.now }
     ensures within { result ≤ length status.now }
@@ -90,7 +93,7 @@ fn right_from(status: &ChunkedList<Seg>, near: usize, s: Seg) -> usize
     status.partition_point_near(near, |t| !is_counted(s, *t))
 }
 
-/// Where those of the status begin that have `p` on their left: they stand last.
+/// Where the segments of the status begin that have `p` on their left: they come last.
 pub(crate) fn left_from(status: &ChunkedList<Seg>, near: usize, p: Loc) -> usize
     requires { IsPartitionedBy (λ t. not (left_of p t)) status.now }
     ensures within { result ≤ length status.now }
@@ -101,7 +104,7 @@ pub(crate) fn left_from(status: &ChunkedList<Seg>, near: usize, p: Loc) -> usize
     status.partition_point_near(near, |t| !is_left_of(p, *t))
 }
 
-/// Where those of the status begin that tell the direction of `s`.
+/// Where the segments of the status begin that decide the direction of `s`.
 fn place_of(status: &ChunkedList<Seg>, near: usize, s: Seg) -> usize
     requires flat { level s ≡ true → IsPartitionedBy (λ t. not (left_of s.a t)) status.now }
     requires sloping { level s ≡ false → IsPartitionedBy (λ t. not (counted s t)) status.now }

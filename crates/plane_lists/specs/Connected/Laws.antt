@@ -12,14 +12,14 @@ use Rattle.plane_lists.specs.OneRingList.RingListOf.{IsRingListOf}
 
 -- ---- walks and polygons
 
--- polygons that have an edge each of one walk have one outer ring
+-- polygons that each have an edge of one walk have one outer ring
 abbrev pub WalkHasOneOuterRing : Type 0
 WalkHasOneOuterRing =
     (es : List Edge) → IsSided es → (rs : List (List Edge)) → IsRingListOf es rs → (g h : Polygon) →
     IsPolygon rs g → IsPolygon rs h → (w : List Edge) → IsWalk es w → (e f : Edge) → In e w → In f w →
     In e (polygon_edges g) → In f (polygon_edges h) → g.outer ≡ h.outer
 
--- so the polygon that has one edge of a walk has all
+-- a polygon that has one edge of a walk has all of its edges
 abbrev pub PolygonHasWholeWalks : Type 0
 PolygonHasWholeWalks =
     (es : List Edge) → IsSided es → (rs : List (List Edge)) → IsRingListOf es rs → (gs : List Polygon) →
@@ -33,7 +33,7 @@ PolygonHasSuccessors =
     ArePolygonsOfRings rs gs → (g : Polygon) → In g gs → (e f : Edge) → In e (polygon_edges g) →
     IsSuccessor es e f ↔ IsSuccessor (polygon_edges g) e f
 
--- and the rings of a polygon are the ring list of its edges
+-- the rings of a polygon are the ring list of its edges
 abbrev pub PolygonIsRingListOf : Type 0
 PolygonIsRingListOf =
     (es : List Edge) → IsSided es → (rs : List (List Edge)) → IsRingListOf es rs → (gs : List Polygon) →
@@ -62,7 +62,7 @@ PolygonIsLinked =
     ArePolygonsOfRings rs gs → (g : Polygon) → In g gs → (e f : Edge) → In e (polygon_edges g) →
     In f (polygon_edges g) → Linked (polygon_edges g) e f
 
--- and in the whole list an edge of a polygon is linked to the edges of the polygon and to no others
+-- in the whole list an edge of a polygon is linked exactly to the edges of the polygon
 abbrev pub LinkedIsOnePolygon : Type 0
 LinkedIsOnePolygon =
     (es : List Edge) → IsSided es → (rs : List (List Edge)) → IsRingListOf es rs → (gs : List Polygon) →

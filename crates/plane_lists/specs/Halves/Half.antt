@@ -8,7 +8,8 @@ use Rattle.lists.specs.Member.{EachPair, In}
 use Rattle.plane_lists.specs.Lists.Parity.{is_even}
 use Rattle.plane_lists.specs.Halves.Line.{Line, has_part, order_along, side}
 
--- w is the end of e's part in place of e's end v, by the side of v: v itself on the closed kept side, else the point of e on the line
+-- w is the end of e's part for e's end v.
+-- The side of v decides: v itself on the closed kept side, and otherwise the point of e on the line.
 abbrev pub IsPartEnd : Line → Edge → Vector → Vector → Sign → Type 0
 IsPartEnd l e v w Minus = (side l w ≡ Null) × (orient e.from e.to w ≡ Null)
 IsPartEnd l e v w s = w ≡ v
@@ -18,7 +19,7 @@ pub record IsPart (l : Line) (e t : Edge) : Type 0 where
   pub from : IsPartEnd l e e.from t.from (side l e.from)
   pub to : IsPartEnd l e e.to t.to (side l e.to)
 
--- an edge and its part. Of an edge without a part the second is of no account
+-- an edge and its part; the second doesn't matter if the edge has no part
 pub record Cutting : Type 0 where
   pub whole : Edge
   pub part : Edge
@@ -51,7 +52,7 @@ is_up_to l z v = is_null (side l v) && not (is_minus (order_along l v z))
 abbrev pub ends_up_to : Line → List Edge → Vector → ℕ
 ends_up_to l ts z = count_by (λ (t : Edge). is_up_to l z t.from || is_up_to l z t.to) ts
 
--- the edges on the line from z on: one between neighbours exactly where the number of parts that end on the line up to the lower is odd
+-- The edges on the line from z on: there is one between neighbours exactly if an odd number of parts end on the line up to the lower one.
 abbrev pub closing_from : Line → List Edge → Vector → List Vector → List Edge
 closing_from l ts z [] = []
 closing_from l ts z (w ∷ zs) =

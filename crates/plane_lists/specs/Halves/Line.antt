@@ -9,11 +9,11 @@ pub record Line : Type 0 where
   pub along : Vector
   pub level : ℤ
 
--- Plus where p is strictly on the kept side, Null where it is on the line, Minus where it is strictly on the other side
+-- Plus if p is strictly on the kept side, Null if it is on the line, Minus if it is strictly on the other side
 abbrev pub side : Line → Vector → Sign
 side l p = sign (cross l.along p -ℤ l.level)
 
--- for points on the line: Plus where q comes after p, Null where it is p, Minus where it comes before p
+-- for points on the line: Plus if q comes after p, Null if it is p, Minus if it comes before p
 abbrev pub order_along : Line → Vector → Vector → Sign
 order_along l p q = sign (dot l.along (from_to p q))
 

@@ -1,4 +1,4 @@
--- Along a segment that shares with a list no point but ends, as statements.
+-- Along a segment that shares only ends with a list, as statements.
 use Rattle.std.specs.Prelude.{All, List, ◌%◌, ◌≡◌}
 use Rattle.plane.specs.Edge.{Edge}
 use Rattle.plane.specs.FreeSegment.{IsBetween, Misses}
@@ -15,20 +15,20 @@ ParityAlongSegment =
     (d s t p q : Vector) (es : List Edge) → IsNonZero d → IsEvenAtPoints es → All (Misses s t) es →
     IsBetween s t p → IsBetween s t q → crossing_count d p es % 2 ≡ crossing_count d q es % 2
 
--- and so is the winding number
+-- the winding number is the same, too
 abbrev pub WindingAlongSegment : Type 0
 WindingAlongSegment =
     (d s t p q : Vector) (es : List Edge) → IsNonZero d → IsBalanced es → All (Misses s t) es →
     IsBetween s t p → IsBetween s t q → winding_number d p es ≡ winding_number d q es
 
--- the parity there is told by the ray along the segment from its end s, past the edges that end at s
+-- the parity there is that of the ray along the segment from its end s, past the edges that end at s
 abbrev pub ParityFromEnd : Type 0
 ParityFromEnd =
     (d s t p : Vector) (es : List Edge) → IsNonZero d → IsBetween s t p → IsEvenAtPoints es →
     All (Misses s t) es → All (IsOffEdge s) (away s es) →
     crossing_count d p es % 2 ≡ crossing_count (from_to s t) s (away s es) % 2
 
--- and in the same way from both ends
+-- this parity is the same from both ends
 abbrev pub ParityFromBothEnds : Type 0
 ParityFromBothEnds =
     (s t : Vector) (es : List Edge) → IsNonZero (from_to s t) → IsNonZero (from_to t s) →

@@ -12,19 +12,19 @@ TurningChangesWinding =
     (d e p : Vector) → IsNonZero d → IsNonZero e → (es : List Edge) → All (IsOffEdge p) es →
     winding_number d p es -ℤ winding_number e p es ≡ pos (stops_in d e p es) -ℤ pos (starts_in d e p es)
 
--- and changes the parity by the number of all ends in it
+-- it changes the parity by the number of all ends in the sector
 abbrev pub TurningChangesParity : Type 0
 TurningChangesParity =
     (d e p : Vector) → IsNonZero d → IsNonZero e → (es : List Edge) → All (IsOffEdge p) es →
     (crossing_count d p es + crossing_count e p es) % 2 ≡ (starts_in d e p es + stops_in d e p es) % 2
 
--- of a list that leaves each point as often as it enters it the winding number is the same in every direction
+-- for a list that leaves each point as often as it enters it, the winding number is the same in every direction
 abbrev pub WindingIsDirectionFree : Type 0
 WindingIsDirectionFree =
     (d e p : Vector) → IsNonZero d → IsNonZero e → (es : List Edge) → All (IsOffEdge p) es →
     IsBalanced es → winding_number d p es ≡ winding_number e p es
 
--- of a list that is even at points the parity is the same in every direction
+-- for a list that is even at points, the parity is the same in every direction
 abbrev pub ParityIsDirectionFree : Type 0
 ParityIsDirectionFree =
     (d e p : Vector) → IsNonZero d → IsNonZero e → (es : List Edge) → All (IsOffEdge p) es →

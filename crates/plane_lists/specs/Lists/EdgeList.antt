@@ -30,7 +30,7 @@ abbrev pub crossing_count : Vector → Vector → List Edge → ℕ
 crossing_count d p es =
     sum_by (λ (e : Edge). up_crossing d (from_to p e.from) (from_to p e.to) + down_crossing d (from_to p e.from) (from_to p e.to)) es
 
--- how often the edges go round p counterclockwise, as the ray in the direction d tells it: the signed count
+-- how often the edges go round p counterclockwise, by the ray in the direction d: the signed count
 abbrev pub winding_number : Vector → Vector → List Edge → ℤ
 winding_number d p es = pos (up_count d p es) -ℤ pos (down_count d p es)
 

@@ -1,4 +1,4 @@
--- The edges at a point, and the edges that do not end there.
+-- The edges at a point, and the edges that don't end there.
 use Rattle.std.specs.Prelude.{List, not, ℕ, ◌+◌}
 use Rattle.std.specs.List.{filter, sum_by}
 use Rattle.plane.specs.Edge.{Edge, ends_at, other_end}
@@ -6,7 +6,7 @@ use Rattle.plane.specs.RayCrossing.{is_off}
 use Rattle.plane.specs.Sector.{in_sector}
 use Rattle.plane.specs.Vector.{Vector, from_to}
 
--- the edges that do not end at v
+-- the edges that don't end at v
 abbrev pub away : Vector → List Edge → List Edge
 away v es = filter (λ (e : Edge). not (ends_at v e)) es
 

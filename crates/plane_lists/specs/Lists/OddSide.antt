@@ -6,7 +6,7 @@ use Rattle.plane.specs.Height.{is_left_of, starts_left_of}
 use Rattle.plane_lists.specs.Lists.ConflictFree.{others}
 use Rattle.plane_lists.specs.Lists.Parity.{is_even}
 
--- of the others, how many are right of s just above its lower end; of a horizontal s, how many are right of its left end
+-- how many other edges are right of s just above its lower end; for a horizontal s, how many are right of its left end
 abbrev pub odd_side_count : Edge → List Edge → ℕ
 odd_side_count s es = cond (is_horizontal s) (count_by (is_left_of s.from) es) (count_by (starts_left_of s) (others s es))
 

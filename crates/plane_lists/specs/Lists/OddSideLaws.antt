@@ -19,19 +19,19 @@ EndsAreOff =
     (v : Vector) (s : Edge) (es : List Edge) → IsConflictFree es → In s es → ends_at v s ≡ true →
     All (IsOffEdge v) (away v es)
 
--- an edge runs up exactly where the ray along it from its lower end, past the edges that end there, crosses an odd number of edges
+-- an edge runs up exactly if the ray along it from its lower end, past the edges that end there, crosses an odd number of edges
 abbrev pub RunsUpByRayUp : Type 0
 RunsUpByRayUp =
     (s : Edge) (es : List Edge) → IsConflictFree es → IsEvenAtPoints es → In s es →
     runs_up_by_odd_side es s ≡ not (is_even (crossing_count (from_to s.from s.to) s.from (away s.from es)))
 
--- and exactly where the ray back along it from its upper end crosses an even number
+-- it runs up exactly if the ray back along it from its upper end crosses an even number
 abbrev pub RunsUpByRayDown : Type 0
 RunsUpByRayDown =
     (s : Edge) (es : List Edge) → IsConflictFree es → IsEvenAtPoints es → In s es →
     runs_up_by_odd_side es s ≡ is_even (crossing_count (from_to s.to s.from) s.to (away s.to es))
 
--- an edge at v leaves it exactly where the edges right of v and the other edges at v in the sector from east to it are even in number
+-- An edge at v leaves it exactly if a number is even: the edges right of v, and the other edges at v in the sector from east to it.
 abbrev pub LeavesByCount : Type 0
 LeavesByCount =
     (v : Vector) (s : Edge) (es : List Edge) → IsConflictFree es → IsEvenAtPoints es → In s es →
@@ -53,7 +53,7 @@ DirectedWindsByParity =
 abbrev pub DirectedIsSided : Type 0
 DirectedIsSided = (es : List Edge) → IsConflictFree es → IsEvenAtPoints es → IsSided (directed es)
 
--- and each sided list is directed by the odd side
+-- each sided list has the directions of the odd side
 abbrev pub SidedIsDirected : Type 0
 SidedIsDirected =
     (es : List Edge) → IsSided es → (e : Edge) → In e es → directed_edge (segments_of es) (segment_of e) ≡ e

@@ -7,7 +7,8 @@ use Rattle.lists.specs.Member.{EachPair, In}
 abbrev pub rank : {X : Type 0} → (X → X → Bool) → List X → X → ℕ
 rank above xs x = count_by (above x) xs
 
--- `above x y`: y is above x. A total order of the elements, none of which stands twice: strict where `own` is false, else each is above itself
+-- `above x y`: y is above x. A total order of the elements, none of which occurs twice.
+-- It is strict if `own` is false, and otherwise each element is above itself.
 pub record IsOrder {X : Type 0} (own : Bool) (above : X → X → Bool) (xs : List X) : Type 0 where
   pub itself : (x : X) → In x xs → above x x ≡ own
   pub chain : (x y z : X) → In x xs → In y xs → In z xs → above x y ≡ true → above y z ≡ true → above x z ≡ true

@@ -10,7 +10,7 @@ RanksAreFirstNumbers X =
     (above : X → X → Bool) (xs : List X) → IsOrder false above xs → (f : ℕ → ℕ) →
     sum_by (λ x. f (rank above xs x)) xs ≡ sum_from f 0 (length xs)
 
--- so those of even rank are as many as those of odd rank, and one more where the list is of odd length
+-- as many have even rank as have odd rank, and one more if the length of the list is odd
 abbrev pub EvenRanksAreHalf : Type 0 → Type 0
 EvenRanksAreHalf X =
     (above : X → X → Bool) (xs : List X) → IsOrder false above xs →

@@ -21,7 +21,7 @@ pub record IsRing (es : List Edge) : Type 0 where
 abbrev pub segments_of : List Edge → List Edge
 segments_of es = map segment_of es
 
--- s stands at the least point of the list of segments and is the leftmost of those that rise from there, by dx / dy
+-- s is at the least point of the list of segments and is the leftmost of those that rise from there, by dx / dy
 pub record IsAnchor (s : Edge) (es : List Edge) : Type 0 where
   pub member : In s es
   pub least : (t : Edge) → In t es → order s.from t.from ≡ Minus → ⊥

@@ -12,7 +12,7 @@ use Rattle.plane_lists.specs.Lists.Ring.{IsAnchor, IsRing, segments_of}
 abbrev pub AnchorExists : Type 0
 AnchorExists = (x : Edge) (es : List Edge) → In x es → IsConflictFree es → (m : Edge) × IsAnchor m es
 
--- the winding number of a ring is everywhere its parity where its anchor runs down, and everywhere the negative of it where its anchor runs up
+-- The winding number of a ring is everywhere its parity if its anchor runs down, and everywhere the negative of it if its anchor runs up.
 abbrev pub RingWindsByAnchor : Type 0
 RingWindsByAnchor =
     (e : Edge) (es : List Edge) → IsRing es → IsConflictFree (segments_of es) → In e es →

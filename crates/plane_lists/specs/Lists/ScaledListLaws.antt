@@ -1,4 +1,5 @@
--- Lists multiplied by a positive number, as statements. A point X/k, Y/k against a list is the point X, Y against the list multiplied by k.
+-- Lists multiplied by a positive number, as statements.
+-- A point X/k, Y/k lies to a list as the point X, Y lies to the list multiplied by k.
 use Rattle.std.specs.Prelude.{List, ◌%◌, ◌≡◌}
 use lib.IntN.{pos, ℤ}
 use Rattle.plane.specs.Edge.{Edge}

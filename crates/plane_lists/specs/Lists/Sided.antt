@@ -10,8 +10,8 @@ use Rattle.plane_lists.specs.Lists.EdgeList.{IsBalanced, winding_number}
 use Rattle.plane_lists.specs.Lists.Ring.{segments_of}
 use Rattle.plane_lists.specs.Lists.ScaledEdges.{scaled_edges}
 
--- no two edges share a point that isn't an end of both, each point is left by as many edges as enter it,
--- and the winding number is 0 or 1 at every point p.x / q, p.y / q off the list
+-- No two edges share a point that isn't an end of both. As many edges leave each point as enter it.
+-- The winding number is 0 or 1 at every point p.x / q, p.y / q off the list.
 pub record IsSided (es : List Edge) : Type 0 where
   pub plain : IsConflictFree (segments_of es)
   pub balanced : IsBalanced es

@@ -27,7 +27,7 @@ WalkSeesAlike =
     ((x : Edge) → In x xs → In x es) → IsConflictFree (segments_of xs) → IsEvenAtPoints (segments_of xs) →
     (e f : Edge) → In e w → In f w → sees_even (segments_of xs) e ≡ sees_even (segments_of xs) f
 
--- a walk that comes back to a point falls there into two closed parts; they share no other point
+-- a walk that returns to a point is split there into two closed parts; they share no other point
 abbrev pub ClosedPartsShareOnePoint : Type 0
 ClosedPartsShareOnePoint =
     (es : List Edge) → IsSided es → (p q : List Edge) → IsWalk es (p ++ q) → HasNoneTwice (p ++ q) →
@@ -49,19 +49,19 @@ RingsOfWalksAreOne =
     (es : List Edge) → IsSided es → (r s : List Edge) → IsRing r → IsRing s → LiesInWalk es r →
     LiesInWalk es s → (e : Edge) → In e r → In e s → IsRotated r s
 
--- a sided list has one ring list alone
+-- a sided list has at most one ring list
 abbrev pub RingListIsOne : Type 0
 RingListIsOne =
     (es : List Edge) → IsSided es → (rs qs : List (List Edge)) → IsRingListOf es rs → IsRingListOf es qs →
     AreSameRings rs qs
 
--- no two of its rings cross, and each has three edges at least
+-- no two of its rings cross, and each has at least three edges
 abbrev pub RingsDoNotCross : Type 0
 RingsDoNotCross =
     (es : List Edge) → IsSided es → (rs : List (List Edge)) → IsRingListOf es rs → IsRingList rs
 
--- but rings that hold the same edges and don't cross may be others, since a ring may pass from one
--- walk to another. Two crescents that share both tips are an outline with a hole as well
+-- Rings that hold the same edges and don't cross may be others, since a ring may pass from one walk to another.
+-- For instance, two crescents that share both tips are also an outline with a hole.
 abbrev pub WalksAreNeeded : Type 0
 WalksAreNeeded =
     (rs : List (List Edge)) × (qs : List (List Edge)) × IsRingList rs × IsRingList qs
@@ -75,7 +75,7 @@ CutsAreRingListOf =
     (es : List Edge) → IsSided es → (ws rs : List (List Edge)) → AreWalks es ws → AreCuts ws rs →
     IsRingListOf es rs
 
--- and so the same ones, whatever walks they are cut off and in whatever order
+-- they are the same ring list, whatever walks they are cut off and in whatever order
 abbrev pub CutsAreOne : Type 0
 CutsAreOne =
     (es : List Edge) → IsSided es → (ws vs rs qs : List (List Edge)) → AreWalks es ws → AreCuts ws rs →
@@ -91,7 +91,7 @@ KindsAreOne =
     (IsOuterRing (map segments_of rs) (segments_of r) → IsOuterRing (map segments_of qs) (segments_of q))
     × (IsInnerRing (map segments_of rs) (segments_of r) → IsInnerRing (map segments_of qs) (segments_of q))
 
--- and directly enclose the same rings
+-- they directly enclose the same rings
 abbrev pub DirectEnclosureIsOne : Type 0
 DirectEnclosureIsOne =
     (es : List Edge) → IsSided es → (rs qs : List (List Edge)) → IsRingListOf es rs → IsRingListOf es qs →

@@ -19,11 +19,11 @@ pub record IsRingListOf (es : List Edge) (rs : List (List Edge)) : Type 0 where
   pub ring : (r : List Edge) → In r rs → IsRing r
   pub some : (r : List Edge) → In r rs → 0 < length r
 
--- the same lists of edges, each as often: every sum over the one is that over the other
+-- the same lists of edges, equally often: every sum over one is that over the other
 abbrev pub HasSameRings : List (List Edge) → List (List Edge) → Type 0
 HasSameRings rs qs = (f : List Edge → ℕ) → sum_by f rs ≡ sum_by f qs
 
--- the same rings, begun at other edges and in another order
+-- the same rings, beginning at other edges and in another order
 pub record AreSameRings (rs qs : List (List Edge)) : Type 0 where
   pub begun : List (List Edge)
   pub rotated : AreRotated rs begun

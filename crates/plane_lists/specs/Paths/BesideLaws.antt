@@ -18,17 +18,18 @@ use Rattle.plane_lists.specs.Lists.EdgeList.{IsBalanced}
 use Rattle.plane_lists.specs.Lists.ScaledEdges.{scaled_edges}
 use Rattle.plane_lists.specs.Lists.Sided.{IsSided}
 
--- at each point r / q strictly inside an edge, and for each direction u to its left. From some k on, (r + u / k) / q is inside and
--- (r - u / k) / q is outside. So no edge has the inside on both of its sides, or on none
+-- Take a point r / q strictly inside an edge, and a direction u to its left.
+-- From some k on, (r + u / k) / q is inside and (r - u / k) / q is outside. So no edge has the inside on both of its sides,
+-- or on none.
 abbrev pub EdgePartsInside : Type 0
 EdgePartsInside =
     (es : List Edge) → IsSided es → (e : Edge) → In e es → (q : ℤ) → sign q ≡ Plus → (r u : Vector) →
     IsBetween (scaled_point q e.from) (scaled_point q e.to) r → sign (cross (from_to e.from e.to) u) ≡ Plus →
     (n : ℕ) × ((k : ℕ) → n < k → PartsInside (scaled_edges (pos k) (scaled_edges q es)) (near (pos k) r u) (near (pos k) r (opposite_of u)))
 
--- take a closed list, an edge, and a point r / q strictly inside the edge that no other edge of the list passes. Compare a point close to it
--- on the left, (r + u / k) / q, with one on the right, (r - u / k) / q. From some k on, the list winds round the first as many times more as
--- the edge is in it
+-- Take a closed list, an edge, and a point r / q strictly inside the edge that no other edge of the list passes.
+-- Compare a point close to it on the left, (r + u / k) / q, with one on the right, (r - u / k) / q. From some k on, the list
+-- winds more often round the first: as many times more as the edge is in it.
 abbrev pub WindsAcrossEdge : Type 0
 WindsAcrossEdge =
     (es : List Edge) → IsBalanced es → (e : Edge) (q : ℤ) → sign q ≡ Plus → (r u : Vector) →

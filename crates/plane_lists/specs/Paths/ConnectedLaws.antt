@@ -20,7 +20,7 @@ LineStaysInside =
     (es : List Edge) → IsBalanced es → (p : Vector) (cs : List Vector) (q : Vector) → IsPolyline es p cs q →
     IsInside es p → IsLineInside es p cs q
 
--- where any two edges of a sided list are linked, any two points p.x / k, p.y / k and q.x / k, q.y / k inside are joined
+-- if any two edges of a sided list are linked, any two points p.x / k, p.y / k and q.x / k, q.y / k inside are joined
 abbrev pub LinkedInsideIsJoined : Type 0
 LinkedInsideIsJoined =
     (es : List Edge) → IsSided es → ((e f : Edge) → In e es → In f es → Linked es e f) → (k : ℤ) →
@@ -35,8 +35,8 @@ PolygonIsConnected =
     IsInside (scaled_edges k (polygon_edges g)) p → IsInside (scaled_edges k (polygon_edges g)) q →
     Joined (scaled_edges k (polygon_edges g)) p q
 
--- the interiors of the polygons are the connected parts of the inside of the list: of two points inside, one polygon has both
--- inside exactly where they are joined
+-- The interiors of the polygons are the connected parts of the inside of the list.
+-- Two points inside are joined exactly if one polygon has both inside.
 abbrev pub PolygonsAreParts : Type 0
 PolygonsAreParts =
     (es : List Edge) → IsSided es → (rs : List (List Edge)) → IsRingListOf es rs → (gs : List Polygon) →

@@ -21,7 +21,7 @@ IsStepInside es p q =
     (a b : ℤ) → (sign a ≡ Minus → ⊥) → (sign b ≡ Minus → ⊥) → sign (a +ℤ b) ≡ Plus →
     IsInside (scaled_edges (a +ℤ b) es) (record { x = a *ℤ p.x +ℤ b *ℤ q.x; y = a *ℤ p.y +ℤ b *ℤ q.y })
 
--- each point of the polygonal line is
+-- each point of the polygonal line is inside
 abbrev pub IsLineInside : List Edge → Vector → List Vector → Vector → Type 0
 IsLineInside es p [] q = IsStepInside es p q
 IsLineInside es p (c ∷ cs) q = IsStepInside es p c × IsLineInside es c cs q

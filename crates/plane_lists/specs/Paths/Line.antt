@@ -13,8 +13,9 @@ use Rattle.plane_lists.specs.Lists.ScaledEdges.{scaled_edges}
 abbrev pub IsLeftAlong : Vector → Vector → Vector → Type 0
 IsLeftAlong d p w = sign (cross d (from_to p w)) ≡ Plus
 
--- a straight line keeps the step from p to q apart from the edge. Seen from p and from q, both ends of the edge are strictly on the left
--- of its direction. So the step shares no point with the edge, also where p is q
+-- A straight line keeps the step from p to q apart from the edge.
+-- Seen from p and from q, both ends of the edge are strictly on the left of its direction. So the step shares no point with
+-- the edge, even if p is q.
 pub record IsApart (p q : Vector) (e : Edge) : Type 0 where
   pub along : Vector
   pub first_from : IsLeftAlong along p e.from
@@ -22,7 +23,8 @@ pub record IsApart (p q : Vector) (e : Edge) : Type 0 where
   pub last_from : IsLeftAlong along q e.from
   pub last_to : IsLeftAlong along q e.to
 
--- the same in points: none between p and q, (a * p + b * q) / (a + b) of weights a and b that aren't negative, is on the edge
+-- The same in points: no point between p and q is on the edge.
+-- Such a point is (a * p + b * q) / (a + b), with weights a and b that aren't negative.
 abbrev pub ShareNoPoint : Vector → Vector → Edge → Type 0
 ShareNoPoint p q e =
     (a b : ℤ) → (sign a ≡ Minus → ⊥) → (sign b ≡ Minus → ⊥) → sign (a +ℤ b) ≡ Plus →
@@ -37,7 +39,7 @@ abbrev pub IsPolyline : List Edge → Vector → List Vector → Vector → Type
 IsPolyline es p [] q = IsFreeStep es p q
 IsPolyline es p (c ∷ cs) q = IsFreeStep es p c × IsPolyline es c cs q
 
--- p and q are joined by a polygonal line with rational corners that meets no edge: all multiplied by one number, the corners are whole points
+-- p and q are joined by a polygonal line with rational corners that meets no edge: if all is multiplied by one number, the corners are whole points
 pub record Joined (es : List Edge) (p q : Vector) : Type 0 where
   pub multiple : ℤ
   pub positive : sign multiple ≡ Plus

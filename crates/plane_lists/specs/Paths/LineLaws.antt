@@ -10,7 +10,7 @@ use Rattle.plane.specs.Vector.{Vector, east}
 use Rattle.plane_lists.specs.Lists.EdgeList.{IsBalanced, winding_number}
 use Rattle.plane_lists.specs.Lists.ScaledEdges.{scaled_edges}
 
--- a straight line keeps a step apart from an edge, which is more than a point, exactly where the two share no point
+-- a straight line keeps a step apart from an edge, which is more than a point, exactly if the two share no point
 abbrev pub ApartSharesNoPoint : Type 0
 ApartSharesNoPoint =
     (p q : Vector) (e : Edge) → (e.from ≡ e.to → ⊥) → IsApart p q e ↔ ShareNoPoint p q e
@@ -25,17 +25,17 @@ JoinedIsSymmetric = (es : List Edge) (p q : Vector) → Joined es p q → Joined
 abbrev pub JoinedIsTransitive : Type 0
 JoinedIsTransitive = (es : List Edge) (p q r : Vector) → Joined es p q → Joined es q r → Joined es p r
 
--- points that are joined are off the list
+-- joined points are off the list
 abbrev pub JoinedIsOff : Type 0
 JoinedIsOff = (es : List Edge) (p q : Vector) → Joined es p q → All (IsOffEdge p) es
 
--- the winding number of a closed list is the same at points that are joined
+-- the winding number of a closed list is the same at joined points
 abbrev pub JoinedWindsAlike : Type 0
 JoinedWindsAlike =
     (es : List Edge) → IsBalanced es → (p q : Vector) → Joined es p q →
     winding_number east p es ≡ winding_number east q es
 
--- nothing changes where all is multiplied by a positive number
+-- nothing changes if all is multiplied by a positive number
 abbrev pub ScaledIsJoined : Type 0
 ScaledIsJoined =
     (k : ℤ) → sign k ≡ Plus → (es : List Edge) (p q : Vector) →

@@ -1,4 +1,4 @@
--- What a list of edges covers, and lists that do not cross.
+-- What a list of edges covers, and lists that don't cross.
 use Rattle.std.specs.Prelude.{Bool, List, not, true, ◌%◌, ◌≡◌}
 use Rattle.plane.specs.Conflict.{IsClearOf}
 use Rattle.plane.specs.Edge.{Edge, ends_at, other_end}
@@ -13,17 +13,17 @@ use Rattle.plane_lists.specs.Lists.Parity.{is_even}
 abbrev pub covers : List Edge → Vector → Bool
 covers es p = not (is_even (crossing_count east p es))
 
--- the parity of the list along the inside of the edge t is odd: by the ray along t from its first end, past the edges that end there
+-- the parity of the list along the inside of the edge t is odd, by the ray along t from its first end, past the edges that end there
 abbrev pub covers_edge : List Edge → Edge → Bool
 covers_edge es t = not (is_even (crossing_count (from_to t.from t.to) t.from (away t.from es)))
 
--- at each point, between two edges of the one list there is an even number of edges of the other
+-- at each point, an even number of edges of one list lie between two edges of the other
 abbrev pub DoNotCross : List Edge → List Edge → Type 0
 DoNotCross ss es =
     (v : Vector) (s t : Edge) → In s ss → In t ss → ends_at v s ≡ true → ends_at v t ≡ true →
     spokes_in (from_to v (other_end v s)) (from_to v (other_end v t)) v es % 2 ≡ 0
 
--- no edge of the one list conflicts with one of the other
+-- no edge of one list conflicts with one of the other
 abbrev pub AreClear : List Edge → List Edge → Type 0
 AreClear ss es = (s t : Edge) → In s ss → In t es → IsClearOf s t
 

@@ -1,4 +1,4 @@
--- Lists that do not cross, as statements.
+-- Lists that don't cross, as statements.
 use Rattle.std.specs.Prelude.{List, false, true, ◌≡◌}
 use Rattle.plane_lists.specs.Rings.Cover.{AreClear, AreClearTogether, DoNotCross, covers, covers_edge}
 use Rattle.plane.specs.Edge.{Edge}
@@ -15,7 +15,7 @@ CoverIsOneAlongRing =
     IsEvenAtPoints es → AreClear (segments_of rs) es → DoNotCross (segments_of rs) es → (s t : Edge) →
     In s (segments_of rs) → In t (segments_of rs) → covers_edge es s ≡ covers_edge es t
 
--- of two lists not each covers all edges of the other
+-- two lists don't both cover all edges of the other
 abbrev pub NotEachCoversOther : Type 0
 NotEachCoversOther =
     (ss es : List Edge) → AreClearTogether ss es → (x : Edge) → In x ss →

@@ -28,7 +28,7 @@ encloses g s = not (has_edge g s) && covers_edge g s
 abbrev pub depth : List (List Edge) → Edge → ℕ
 depth gs s = count_by (λ g. encloses g s) gs
 
--- no two edges conflict; each ring is even at points; and each ring covers all edges of another one or none
+-- no two edges conflict; each ring is even at points; and each ring covers all edges of any other one or none
 pub record IsNest (gs : List (List Edge)) : Type 0 where
   pub plain : IsConflictFree (edges_of gs)
   pub even : (g : List Edge) → In g gs → IsEvenAtPoints g
@@ -52,7 +52,7 @@ pub record IsInnerRing (gs : List (List Edge)) (h : List Edge) : Type 0 where
   pub anchors : IsAnchor anchor h
   pub up : is_outer gs anchor ≡ false
 
--- g is outer and encloses h, and of the edges right of the anchor of h, among all outer rings that enclose h, the nearest belongs to g
+-- g is outer and encloses h; among all outer rings that enclose h, g has the nearest edge right of the anchor of h
 pub record EnclosesDirectly (gs : List (List Edge)) (g h : List Edge) : Type 0 where
   pub outer : IsOuterRing gs g
   pub anchor : Edge

@@ -13,32 +13,33 @@ use Rattle.plane_lists.specs.Lists.Ring.{IsAnchor, segments_of}
 abbrev pub RingListIsNest : Type 0
 RingListIsNest = (rs : List (List Edge)) → IsRingList rs → IsNest (map segments_of rs)
 
--- each ring of a ring list has one anchor
+-- each ring of a ring list has exactly one anchor
 abbrev pub RingHasAnchor : Type 0
 RingHasAnchor =
     (rs : List (List Edge)) → IsRingList rs → (r : List Edge) → In r rs →
     (a : Edge) × IsAnchor a (segments_of r) × ((b : Edge) → IsAnchor b (segments_of r) → b ≡ a)
 
--- a ring of a ring list is outer where its anchor runs down
+-- a ring of a ring list is outer exactly if its anchor runs down
 abbrev pub OuterRunsDown : Type 0
 OuterRunsDown =
     (rs : List (List Edge)) → IsRingList rs → (e : Edge) → In e (edges_of rs) →
     is_outer (map segments_of rs) (segment_of e) ≡ not (is_rising e)
 
--- a ring is outer exactly where an even number of rings enclose it
+-- a ring is outer exactly if an even number of rings enclose it
 abbrev pub OuterByDepth : Type 0
 OuterByDepth =
     (gs : List (List Edge)) → IsNest gs → (h : List Edge) (s : Edge) → In h gs → IsAnchor s h →
     is_outer gs s ≡ is_even (depth gs s)
 
--- a ring encloses another where an odd number of its edges are right of the other's anchor
+-- a ring encloses another exactly if an odd number of its edges are right of the other's anchor
 abbrev pub EnclosesByAnchor : Type 0
 EnclosesByAnchor =
     (gs : List (List Edge)) → IsNest gs → (g h : List Edge) → In g gs → In h gs → (e : Edge) →
     IsAnchor e h → has_edge g e ≡ false →
     encloses g e ≡ not (is_even (count_by (is_right_above e.from e) g))
 
--- of the rings that enclose an outer ring as many are outer as inner, of those that enclose an inner ring one outer ring more
+-- Of the rings that enclose an outer ring, as many are outer as inner.
+-- Of those that enclose an inner ring, one more is outer.
 abbrev pub EnclosingRingsBalance : Type 0
 EnclosingRingsBalance =
     (rs : List (List Edge)) → IsRingList rs → (outer : List Edge → Bool) →
@@ -54,7 +55,7 @@ DirectEncloserExists =
     IsInnerRing (map segments_of rs) (segments_of h) →
     (r : List Edge) × In r rs × EnclosesDirectly (map segments_of rs) (segments_of r) (segments_of h)
 
--- and by no other
+-- it is directly enclosed by no other
 abbrev pub DirectEncloserIsOne : Type 0
 DirectEncloserIsOne =
     (rs : List (List Edge)) → IsRingList rs → (h r s : List Edge) → In h rs → In r rs → In s rs →
@@ -62,7 +63,7 @@ DirectEncloserIsOne =
     EnclosesDirectly (map segments_of rs) (segments_of r) (segments_of h) →
     EnclosesDirectly (map segments_of rs) (segments_of s) (segments_of h) → r ≡ s
 
--- the nearest edge left of the anchor of an inner ring: where its ring is outer, it directly encloses the inner one
+-- if the ring of the nearest edge left of the anchor of an inner ring is outer, it directly encloses the inner one
 abbrev pub LeftNeighbourEncloses : Type 0
 LeftNeighbourEncloses =
     (rs : List (List Edge)) → IsRingList rs → (h q : List Edge) → In h rs → In q rs →
@@ -71,7 +72,7 @@ LeftNeighbourEncloses =
     IsNextLeft a e (edges_of (map segments_of rs)) →
     EnclosesDirectly (map segments_of rs) (segments_of q) (segments_of h)
 
--- where its ring is inner, what directly encloses that one directly encloses this one too
+-- if the ring of that edge is inner, its direct encloser directly encloses this one too
 abbrev pub LeftNeighbourIsEnclosedAlike : Type 0
 LeftNeighbourIsEnclosedAlike =
     (rs : List (List Edge)) → IsRingList rs → (h q r : List Edge) → In h rs → In q rs → In r rs →

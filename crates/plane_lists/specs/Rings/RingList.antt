@@ -1,4 +1,4 @@
--- Ring lists: a sided list split into rings that do not cross.
+-- Ring lists: a sided list split into rings that don't cross.
 use Rattle.std.specs.Prelude.{List, length, map, ◌≤◌}
 use lib.IntN.{ℤ}
 use Rattle.plane_lists.specs.Rings.Cover.{DoNotCross}
@@ -9,11 +9,11 @@ use Rattle.plane_lists.specs.Lists.Ring.{IsRing, segments_of}
 use Rattle.plane_lists.specs.Lists.ScaledEdges.{scaled_edges}
 use Rattle.plane_lists.specs.Lists.Sided.{IsSided}
 
--- two rings that do not cross
+-- two rings that don't cross
 abbrev pub AreUncrossed : List Edge → List Edge → Type 0
 AreUncrossed r s = DoNotCross (segments_of r) (segments_of s) × DoNotCross (segments_of s) (segments_of r)
 
--- rings of at least three edges each, that together make a sided list, and no two of which cross
+-- rings of at least three edges each that together make a sided list, no two of which cross
 pub record IsRingList (rs : List (List Edge)) : Type 0 where
   pub ring : (r : List Edge) → In r rs → IsRing r
   pub long : (r : List Edge) → In r rs → 3 ≤ length r

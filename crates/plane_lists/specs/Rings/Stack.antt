@@ -17,7 +17,8 @@ abbrev pub with_piece : List Edge → List (List Edge) → List (List Edge)
 with_piece [] ps = ps
 with_piece (e ∷ p) ps = (e ∷ p) ∷ ps
 
--- the rings, where the stack holds the first list: an edge is pushed, and where an edge of the stack begins at its end, all from there on is a ring
+-- The rings, if the stack holds the first list. An edge is pushed.
+-- If an edge of the stack begins at its end, everything from there on is a ring.
 abbrev pub cut_off : List Edge → List Edge → List (List Edge)
 cut_off st [] = []
 cut_off st (e ∷ es) = with_piece (from_at e.to (st ++ (e ∷ []))) (cut_off (before_at e.to (st ++ (e ∷ []))) es)

@@ -9,7 +9,7 @@ use Rattle.plane.specs.Vector.{Vector, from_to}
 use Rattle.lists.specs.Member.{In}
 use Rattle.plane_lists.specs.Lists.Ring.{IsRing, segments_of}
 
--- f is the first edge at v that is met on turning clockwise from e, an edge at v: no other is in the sector from f counterclockwise to e
+-- f is the first edge at v that is met when turning clockwise from e, an edge at v: no other is in the sector from f counterclockwise to e
 pub record IsNextClockwise (v : Vector) (e f : Edge) (es : List Edge) : Type 0 where
   pub member : In f es
   pub meets : ends_at v f ≡ true
@@ -18,7 +18,7 @@ pub record IsNextClockwise (v : Vector) (e f : Edge) (es : List Edge) : Type 0 w
       (g : Edge) → In g es → ends_at v g ≡ true → same_edge e g ≡ false → same_edge f g ≡ false →
       in_sector (from_to v (other_end v f)) (from_to v (other_end v e)) (from_to v (other_end v g)) ≡ 0
 
--- f is the successor of e: the first on turning clockwise at the end of e from the direction back along it
+-- f is the successor of e: the first edge that is met when turning clockwise, at the end of e, from the direction back along it
 abbrev pub IsSuccessor : List Edge → Edge → Edge → Type 0
 IsSuccessor es e f = IsNextClockwise e.to e f es
 
@@ -42,7 +42,7 @@ pub record IsWalk (es w : List Edge) : Type 0 where
   pub here : (e : Edge) → In e w → In e es
   pub cycle : IsCycle (IsSuccessor es) w
 
--- the pieces, in the order in which they are cut off: each is a ring, and stands unbroken in what the ones before it have left
+-- The pieces, in the order in which they are cut off: each is a ring, and is unbroken in what the earlier ones have left.
 abbrev pub Cuts : List Edge → List (List Edge) → Type 0
 Cuts w [] = w ≡ []
 Cuts w (p ∷ ps) = (a : List Edge) × (b : List Edge) × (w ≡ a ++ (p ++ b)) × (0 < length p) × IsRing p × Cuts (a ++ b) ps
@@ -52,7 +52,7 @@ abbrev pub AreCuts : List (List Edge) → List (List Edge) → Type 0
 AreCuts [] rs = rs ≡ []
 AreCuts (w ∷ ws) rs = (ps : List (List Edge)) × (qs : List (List Edge)) × (rs ≡ ps ++ qs) × Cuts w ps × AreCuts ws qs
 
--- the same edges, each as often: every sum over the one is that over the other
+-- the same edges, equally often: every sum over one is that over the other
 abbrev pub HasSameEdges : List Edge → List Edge → Type 0
 HasSameEdges xs ys = (f : Edge → ℕ) → sum_by f xs ≡ sum_by f ys
 

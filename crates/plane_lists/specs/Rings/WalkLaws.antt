@@ -14,7 +14,7 @@ use Rattle.lists.specs.Member.{EachPair, In}
 use Rattle.plane_lists.specs.Lists.Ring.{IsPath, IsRing, segments_of}
 use Rattle.plane_lists.specs.Lists.Sided.{IsSided}
 
--- round a point of a sided list edges enter and leave by turns
+-- round a point of a sided list edges alternately enter and leave
 abbrev pub EdgesAlternate : Type 0
 EdgesAlternate =
     (es : List Edge) → IsSided es → (v : Vector) (e f : Edge) → In e es → ends_at v e ≡ true →
@@ -32,7 +32,7 @@ NeighboursAreCoveredAlike =
 abbrev pub SuccessorExists : Type 0
 SuccessorExists = (es : List Edge) → IsSided es → (e : Edge) → In e es → (f : Edge) × IsSuccessor es e f
 
--- and one alone
+-- it has at most one successor
 abbrev pub SuccessorIsOne : Type 0
 SuccessorIsOne =
     (es : List Edge) → IsSided es → (e f g : Edge) → In e es → IsSuccessor es e f → IsSuccessor es e g →
@@ -49,7 +49,7 @@ SuccessorIsOneToOne =
     (es : List Edge) → IsSided es → (d e f : Edge) → In d es → In e es → IsSuccessor es d f →
     IsSuccessor es e f → d ≡ e
 
--- the edges of a sided list are parted into walks
+-- the edges of a sided list are split into walks
 abbrev pub WalksExist : Type 0
 WalksExist = (es : List Edge) → IsSided es → (ws : List (List Edge)) × AreWalks es ws
 
@@ -65,7 +65,7 @@ PiecesHoldEachEdge =
     (es : List Edge) → IsSided es → (ws rs : List (List Edge)) → AreWalks es ws → AreCuts ws rs →
     HasSameEdges (edges_of rs) es
 
--- of each two pieces each covers all edges of the other or none
+-- each of two pieces covers all edges of the other or none
 abbrev pub PiecesCoverAllOrNone : Type 0
 PiecesCoverAllOrNone =
     (es : List Edge) → IsSided es → (ws rs : List (List Edge)) → AreWalks es ws → AreCuts ws rs →
@@ -86,11 +86,11 @@ abbrev pub StackGivesRingList : Type 0
 StackGivesRingList =
     (es : List Edge) → IsSided es → (ws : List (List Edge)) → AreWalks es ws → IsRingList (cut_all ws)
 
--- so every sided list has a ring list
+-- every sided list has a ring list
 abbrev pub RingListExists : Type 0
 RingListExists =
     (es : List Edge) → IsSided es → (rs : List (List Edge)) × IsRingList rs × HasSameEdges (edges_of rs) es
 
--- a ring list stays one where its rings begin at other edges
+-- a ring list stays one if its rings begin at other edges
 abbrev pub RotatedIsRingList : Type 0
 RotatedIsRingList = (rs qs : List (List Edge)) → AreRotated rs qs → IsRingList rs → IsRingList qs

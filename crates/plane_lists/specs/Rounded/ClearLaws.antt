@@ -7,6 +7,6 @@ use Rattle.plane.specs.Vector.{Vector}
 use Rattle.plane_lists.specs.Rounded.Clear.{IsClearOfSquare}
 use Rattle.plane_lists.specs.Rounded.Square.{HasNoPointNear}
 
--- a straight line keeps an edge apart from a square exactly where no point of the edge is in it; the edge may be a point
+-- a straight line keeps an edge apart from a square exactly if no point of the edge is in it; the edge may be a point
 abbrev pub ClearHasNoPoint : Type 0
 ClearHasNoPoint = (h : ℤ) → pos 0 ≤ℤ h → (p : Vector) (e : Edge) → IsClearOfSquare h p e ↔ HasNoPointNear h p e

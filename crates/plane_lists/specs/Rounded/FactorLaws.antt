@@ -1,4 +1,4 @@
--- Rounding tells nothing of the denominator, as a statement.
+-- Rounding doesn't depend on a common factor, as a statement.
 use Rattle.std.specs.Prelude.{ℕ, ◌*◌, ◌<◌, ◌≡◌}
 use lib.IntN.{pos, ℤ, ◌*ℤ◌}
 use Rattle.plane_lists.specs.Rounded.RoundedEdges.{whole_near}

@@ -1,4 +1,4 @@
--- Points with fractions rounded to whole ones: the point X / m, Y / m is the point X, Y where all is multiplied by m.
+-- Points with fractions rounded to whole ones: the point X / m, Y / m is the point X, Y if all is multiplied by m.
 use Rattle.std.specs.Prelude.{List, ℕ, ◌*◌}
 use Rattle.std.specs.Int.{int_div_euclid}
 use lib.IntN.{pos, ℤ, ◌*ℤ◌, ◌+ℤ◌}

@@ -1,4 +1,4 @@
--- Closed lists of edges of which each point is rounded, as statements.
+-- Closed lists of edges whose points are each rounded, as statements.
 use Rattle.std.specs.Prelude.{All, List, ℕ, ◌%◌, ◌<◌, ◌≡◌}
 use lib.IntN.{pos, ℤ, ◌*ℤ◌}
 use Rattle.plane.specs.Edge.{Edge}
@@ -11,14 +11,14 @@ use Rattle.plane_lists.specs.Rounded.Square.{HasNoPointNear, IsNear}
 use Rattle.plane_lists.specs.Lists.EdgeList.{IsBalanced, crossing_count, winding_number}
 use Rattle.plane_lists.specs.Lists.ScaledEdges.{scaled_edges}
 
--- rounding moves a point p.x / m, p.y / m by at most a half in x and in y: where all is multiplied by 2 m, by at most m
+-- Rounding moves a point p.x / m, p.y / m by at most a half in x and in y. That is at most m if all is multiplied by 2 m.
 abbrev pub RoundedIsNear : Type 0
 RoundedIsNear =
     (m : ℕ) → 0 < m → (p : Vector) →
     IsNear (pos m) (scaled_point (pos 2) p) (scaled_point (pos 2) (scaled_point (pos m) (rounded_point m p)))
 
--- no point of the edge, of points with denominator m, is in the closed unit square round the point p.x / q, p.y / q: each is more than half
--- a unit away from it, in x or in y. All is multiplied by 2 q m
+-- No point of the edge, whose points have denominator m, is in the closed unit square round the point p.x / q, p.y / q.
+-- Each is more than half a unit away from it, in x or in y. All is multiplied by 2 q m.
 abbrev pub IsBeyondHalf : ℕ → ℤ → Vector → Edge → Type 0
 IsBeyondHalf m q p e =
     HasNoPointNear (q *ℤ pos m) (scaled_point (pos 2) (scaled_point (pos m) p)) (scaled_edge (pos 2) (scaled_edge q e))
@@ -29,19 +29,19 @@ BeyondIsOff =
     (m : ℕ) → 0 < m → (es : List Edge) (q : ℤ) → sign q ≡ Plus → (p : Vector) → All (IsBeyondHalf m q p) es →
     All (IsOffEdge (scaled_point (pos m) p)) (scaled_edges q es)
 
--- and on no rounded edge
+-- it is on no rounded edge either
 abbrev pub RoundedIsOff : Type 0
 RoundedIsOff =
     (m : ℕ) → 0 < m → (es : List Edge) (q : ℤ) → sign q ≡ Plus → (p : Vector) → All (IsBeyondHalf m q p) es →
     All (IsOffEdge p) (scaled_edges q (rounded_edges m es))
 
--- a closed list and the rounded one go round it alike
+-- a closed list and the rounded one go round such a point alike
 abbrev pub RoundedWindsAlike : Type 0
 RoundedWindsAlike =
     (m : ℕ) → 0 < m → (es : List Edge) → IsBalanced es → (q : ℤ) → sign q ≡ Plus → (p : Vector) → All (IsBeyondHalf m q p) es →
     winding_number east p (scaled_edges q (rounded_edges m es)) ≡ winding_number east (scaled_point (pos m) p) (scaled_edges q es)
 
--- with one parity of crossings
+-- they have the same parity of crossings
 abbrev pub RoundedIsOddAlike : Type 0
 RoundedIsOddAlike =
     (m : ℕ) → 0 < m → (es : List Edge) → IsBalanced es → (q : ℤ) → sign q ≡ Plus → (p : Vector) → All (IsBeyondHalf m q p) es →

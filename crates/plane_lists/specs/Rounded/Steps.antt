@@ -1,4 +1,4 @@
--- Edges that are a point, as two neighbours leave that are rounded to one, and the list without them.
+-- Edges that are a point, which two neighbours leave if they are rounded to one, and the list without them.
 use Rattle.std.specs.Prelude.{Bool, List, filter, not, ◌≡◌}
 use Rattle.plane.specs.Edge.{Edge}
 use Rattle.plane.specs.Vector.{Vector, same_point}
@@ -15,10 +15,10 @@ steps es = filter is_step es
 abbrev pub StepsWindAlike : Type 0
 StepsWindAlike = (d p : Vector) (es : List Edge) → winding_number d p (steps es) ≡ winding_number d p es
 
--- no count
+-- it changes no count
 abbrev pub StepsAreCrossedAlike : Type 0
 StepsAreCrossedAlike = (d p : Vector) (es : List Edge) → crossing_count d p (steps es) ≡ crossing_count d p es
 
--- and leaves a closed list closed
+-- it leaves a closed list closed
 abbrev pub StepsAreBalanced : Type 0
 StepsAreBalanced = (es : List Edge) → IsBalanced es → IsBalanced (steps es)

@@ -7,7 +7,7 @@ use Rattle.plane.specs.Vector.{Vector}
 use Rattle.plane_lists.specs.Lists.ConflictFree.{IsConflictFree}
 use Rattle.plane_lists.specs.Statuses.Status.{IsStatus}
 
--- the next item spans the height: it goes before those that are right of it, which stand last
+-- if the next item spans the height, it goes before those that are right of it, which come last
 abbrev pub NextEnters : Type 0 → Type 0
 NextEnters X =
     (edge : X → Edge) (p : Vector) (xs status : List X) (k : ℕ) (x : X) (place : ℕ) → IsConflictFree (map edge xs) →
@@ -17,21 +17,21 @@ NextEnters X =
     AllWithin (λ (t : X). is_right_above p (edge x) (edge t) ≡ true) status place (length status) →
     IsStatus edge p (take (k + 1) xs) (insert status place x)
 
--- it doesn't span the height: it stays away
+-- if it doesn't span the height, it stays away
 abbrev pub NextPasses : Type 0 → Type 0
 NextPasses X =
     (edge : X → Edge) (p : Vector) (xs status : List X) (k : ℕ) (x : X) → IsStatus edge p (take k xs) status →
     k < length xs → ((d : X) → slice_index_or xs k d ≡ x) → is_in_span p (edge x) ≡ false →
     IsStatus edge p (take (k + 1) xs) status
 
--- where no later item spans the height, the status of the first ones is that of all
+-- if no later item spans the height, the status of the first ones is that of all
 abbrev pub FrontIsAll : Type 0 → Type 0
 FrontIsAll X =
     (edge : X → Edge) (p : Vector) (xs status : List X) (k : ℕ) →
     AllWithin (λ (x : X). is_in_span p (edge x) ≡ false) xs k (length xs) →
     IsStatus edge p (take k xs) status → IsStatus edge p xs status
 
--- and the other way round
+-- then the status of all is also that of the first ones
 abbrev pub AllIsFront : Type 0 → Type 0
 AllIsFront X =
     (edge : X → Edge) (p : Vector) (xs status : List X) (k : ℕ) →

@@ -6,7 +6,7 @@ use Rattle.plane.specs.Sign.{is_plus}
 use Rattle.plane.specs.Vector.{Vector}
 use Rattle.lists.specs.Member.{In}
 
--- those that span the height of p
+-- the items that span the height of p
 abbrev pub spanning : {X : Type 0} → (X → Edge) → Vector → List X → List X
 spanning {X} edge p xs = filter (λ (x : X). is_in_span p (edge x)) xs
 

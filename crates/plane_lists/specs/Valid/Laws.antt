@@ -1,4 +1,4 @@
--- The polygons of the one ring list of a sided list are valid, and rings of a valid polygon share one point at most, as statements.
+-- The polygons of the one ring list of a sided list are valid, and rings of a valid polygon share at most one point, as statements.
 use Rattle.std.specs.Prelude.{List, false, ◌≡◌}
 use lib.IntN.{ℤ}
 use Rattle.plane_lists.specs.Rings.Polygon.{ArePolygonsOfRings, IsPolygon, Polygon}
@@ -18,8 +18,9 @@ PolygonsAreValid =
     (es : List Edge) → IsSided es → (rs : List (List Edge)) → IsRingListOf es rs → (gs : List Polygon) →
     ArePolygonsOfRings rs gs → IsValidMultiPolygon gs
 
--- that the interior is connected doesn't follow from the rest. Two crescents that share both tips are an outline with a hole that touches it
--- twice, and all else holds of that polygon. Its rings are a ring list, but they pass from walk to walk
+-- That the interior is connected doesn't follow from the rest.
+-- Two crescents that share both tips are an outline with a hole that touches it twice, and all else holds for that polygon.
+-- Its rings are a ring list, but they pass from walk to walk.
 abbrev pub ConnectedIsNeeded : Type 0
 ConnectedIsNeeded =
     (rs : List (List Edge)) × (g : Polygon) × IsRingList rs × IsPolygon rs g × HasValidBoundary g
@@ -29,11 +30,11 @@ ConnectedIsNeeded =
 abbrev pub IsNode : Vector → List Edge → Type 0
 IsNode v r = (e : Edge) × In e r × (e.from ≡ v)
 
--- two nodes of both rings are one
+-- any two nodes of both rings are equal
 abbrev pub ShareOneNode : List Edge → List Edge → Type 0
 ShareOneNode r s = (u v : Vector) → IsNode u r → IsNode u s → IsNode v r → IsNode v s → u ≡ v
 
--- two rings of one polygon share one node at most
+-- two rings of one polygon share at most one node
 abbrev pub RingsShareOneNode : Type 0
 RingsShareOneNode = (g : Polygon) → IsValidPolygon g → EachPair ShareOneNode (boundary_rings g)
 
@@ -41,12 +42,12 @@ RingsShareOneNode = (g : Polygon) → IsValidPolygon g → EachPair ShareOneNode
 abbrev pub IsOnRing : ℤ → Vector → List Edge → Type 0
 IsOnRing k p r = (e : Edge) × In e r × (is_off p (scaled_edge k e) ≡ false)
 
--- two points of both rings are one
+-- any two points of both rings are equal
 abbrev pub ShareOnePoint : List Edge → List Edge → Type 0
 ShareOnePoint r s =
     (k : ℤ) → sign k ≡ Plus → (p q : Vector) → IsOnRing k p r → IsOnRing k p s → IsOnRing k q r →
     IsOnRing k q s → p ≡ q
 
--- and, since they meet at nodes alone, one point at most
+-- since they meet only at nodes, they share at most one point
 abbrev pub RingsShareOnePoint : Type 0
 RingsShareOnePoint = (g : Polygon) → IsValidPolygon g → EachPair ShareOnePoint (boundary_rings g)

@@ -1,8 +1,8 @@
--- Valid polygons in the sense of Simple Features (OGC 06-103r4, ISO 19125-1): what it asserts of a LinearRing, a Polygon and a MultiPolygon.
+-- Valid polygons in the sense of Simple Features (OGC 06-103r4, ISO 19125-1): LinearRing, Polygon and MultiPolygon.
 --
--- A ring is a list of edges. A polygon is a record of its outer ring and its inner rings, which are the holes. Edges run between points with
--- whole coordinates. The statements are about all points with rational coordinates. The point (p.x / k, p.y / k), where k is positive, lies to
--- the edges as the whole point p lies to the edges multiplied by k.
+-- A ring is a list of edges. A polygon is a record of its outer ring and its inner rings, which are the holes. Edges run
+-- between points with whole coordinates. The statements are about all points with rational coordinates. The point (p.x / k,
+-- p.y / k), where k is positive, lies to the edges as the whole point p lies to the edges multiplied by k.
 use Rattle.std.specs.Prelude.{All, Bool, List, false, length, map, true, ℕ, ◌<◌, ◌∷◌, ◌↔◌, ◌≡◌, ◌≤◌, ◌⊎◌}
 use Rattle.std.specs.List.{count_by}
 use lib.IntN.{pos, ℤ, ◌-ℤ◌}
@@ -66,27 +66,28 @@ IsInterior k p g = IsInside (scaled_edges k (polygon_edges g)) p
 abbrev pub IsExterior : ℤ → Vector → Polygon → Type 0
 IsExterior k p g = IsOutside (scaled_edges k (polygon_edges g)) p
 
--- some polygonal line from the one point to the other meets none of the rings
+-- some polygonal line from one point to the other meets none of the rings
 abbrev pub AreJoinedOff : Polygon → ℤ → Vector → Vector → Type 0
 AreJoinedOff g k p q = Joined (scaled_edges k (polygon_edges g)) p q
 
 -- ---- Polygon: what is asserted of its boundary
 
--- the point is in the interior, and then the outer ring has it inside and no hole has. Or it is in the exterior: one hole has it inside where
--- the outer ring has, and none elsewhere
+-- The point is in the interior: then the outer ring has it inside and no hole has.
+-- Or it is in the exterior: then one hole has it inside if the outer ring has, and otherwise none has.
 abbrev pub LiesByRings : ℤ → Vector → Polygon → Type 0
 LiesByRings k p g =
     (IsInterior k p g × (has_inside k p g.outer ≡ true) × (holes_round k p g ≡ 0))
     ⊎ (IsExterior k p g × (holes_round k p g ≡ bit (has_inside k p g.outer)))
 
--- two rings share no points but nodes of both, which are finitely many. They don't cross there: at each node, an even number of edges of the
--- one ring lies between two edges of the other
+-- Two rings share no points but nodes of both, which are finitely many.
+-- They don't cross there: at each node, an even number of edges of one ring lies between two edges of the other.
 pub record MeetOnlyAtPoints (r s : List Edge) : Type 0 where
   pub at_ends : (e f : Edge) → In e r → In f s → MeetAtEnds e f
   pub uncrossed : AreUncrossed r s
 
--- the inside is left of the edge, all along, and the outside right of it. Take a point r / q strictly inside the edge, and a direction u to
--- its left. From some n on, (r + u / n) / q is inside and (r - u / n) / q is outside
+-- The inside is left of the edge, all along, and the outside right of it.
+-- Take a point r / q strictly inside the edge, and a direction u to its left. From some n on, (r + u / n) / q is inside and
+-- (r - u / n) / q is outside.
 abbrev pub HasInsideOnLeft : List Edge → Edge → Type 0
 HasInsideOnLeft es e =
     (q : ℤ) → sign q ≡ Plus → (r u : Vector) → IsBetween (scaled_point q e.from) (scaled_point q e.to) r →
@@ -106,7 +107,7 @@ pub record HasValidBoundary (g : Polygon) : Type 0 where
   pub holes_clockwise :
       (h : List Edge) → In h g.inner → (k : ℤ) → sign k ≡ Plus → (p : Vector) →
       winding_number east p (scaled_edges k h) ≡ pos 0 -ℤ pos (bit (has_inside k p h))
-  -- the interior is the inside of the exterior ring less the holes, which lie in it and apart from one another
+  -- the interior is the inside of the exterior ring without the holes, which lie in it and apart from one another
   pub outer_less_holes : (k : ℤ) → sign k ≡ Plus → (p : Vector) → IsOffRings k p g → LiesByRings k p g
   -- (c) no two rings cross; they may meet at points, but only as tangents
   pub tangent : EachPair MeetOnlyAtPoints (boundary_rings g)
@@ -159,8 +160,8 @@ pub record IsValidMultiPolygon (gs : List Polygon) : Type 0 where
   -- (c) a MultiPolygon is topologically closed: its points are those of its polygons.
   -- (d) there are no cut lines, spikes or punctures, also where polygons touch: right of each edge is the exterior of all polygons
   pub regular : (e : Edge) → In e (edges_of_polygons gs) → HasInsideOnLeft (edges_of_polygons gs) e
-  -- (e) the connected parts of the interior are the interiors of the polygons: of two points inside, one polygon has both exactly where they
-  -- are joined. No interior is empty, and no two meet, so there are as many parts as polygons
+  -- (e) the connected parts of the interior are the interiors of the polygons: two points inside are joined exactly if one
+  -- polygon has both. No interior is empty, and no two meet, so there are as many parts as polygons.
   pub parts :
       (k : ℤ) → sign k ≡ Plus → (p q : Vector) → IsInside (scaled_edges k (edges_of_polygons gs)) p →
       IsInside (scaled_edges k (edges_of_polygons gs)) q → Joined (scaled_edges k (edges_of_polygons gs)) p q ↔ AreInOne k gs p q

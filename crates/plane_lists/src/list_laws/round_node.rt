@@ -1,8 +1,9 @@
 //! Round a node.
 ghost use Rattle.plane_lists.specs.Lists.RoundNodeLaws.{ParityRoundNode, ParityRoundNodeButEdge, ParityBetweenSegments, ParityRoundPoint};
 
-/// Round a node, what the ray crosses past the edges at the node changes, modulo 2, by the edges at the node in the sector
-/// that the ray is turned through.
+/// How turning the ray at a node changes what it crosses past the edges at the node.
+///
+/// Modulo 2, this changes by the number of edges at the node in the sector that the ray is turned through.
 pub fn parity_changes_round_node()
     ensures node { ParityRoundNode }
     ensures but_edge { ParityRoundNodeButEdge }

@@ -7,7 +7,7 @@ pub fn ring_list_is_nest()
     ensures anchor { RingHasAnchor }
 {}
 
-/// A ring is outer where its anchor runs down, and that is where an even number of rings enclose it.
+/// A ring is outer if its anchor runs down, and exactly then an even number of rings enclose it.
 pub fn outer_by_depth()
     ensures down { OuterRunsDown }
     ensures depth { OuterByDepth }
@@ -21,8 +21,9 @@ pub fn direct_encloser_is_one()
     ensures one { DirectEncloserIsOne }
 {}
 
-/// The nearest edge left of the anchor of an inner ring tells what directly encloses it: the ring of that edge where it is outer, else
-/// what directly encloses that ring.
+/// The nearest edge left of the anchor of an inner ring shows the direct encloser of that ring.
+///
+/// It is the ring of that edge, if that is outer, and otherwise the direct encloser of that one.
 pub fn left_neighbour_tells_encloser()
     ensures outer { LeftNeighbourEncloses }
     ensures inner { LeftNeighbourIsEnclosedAlike }

@@ -1,7 +1,9 @@
 //! Walks and the rings that are cut off them.
 ghost use Rattle.plane_lists.specs.Rings.WalkLaws.{EdgesAlternate, NeighboursAreCoveredAlike, SuccessorExists, SuccessorIsOne, SuccessorLeaves, SuccessorIsOneToOne, WalksExist, PieceIsRingOfOneWalk, PiecesHoldEachEdge, PiecesCoverAllOrNone, PiecesAreRingList, StackCuts, StackGivesRingList, RingListExists, RotatedIsRingList};
 
-/// Round a node of a sided list edges enter and leave by turns, and nothing comes between neighbours.
+/// Round a node of a sided list edges alternately enter and leave.
+///
+/// A list that holds neither of two neighbours covers both or none.
 pub fn edges_alternate_round_node()
     ensures turns { EdgesAlternate }
     ensures neighbours { NeighboursAreCoveredAlike }
@@ -16,7 +18,7 @@ pub fn successor_is_one_to_one()
     ensures walks { WalksExist }
 {}
 
-/// Pieces that are cut off the walks wherever a point comes up again are rings that don't cross: a ring list.
+/// Pieces that are cut off the walks wherever a point recurs are rings that don't cross: a ring list.
 pub fn pieces_are_ring_list()
     ensures ring { PieceIsRingOfOneWalk }
     ensures each_edge { PiecesHoldEachEdge }
@@ -24,7 +26,7 @@ pub fn pieces_are_ring_list()
     ensures ring_list { PiecesAreRingList }
 {}
 
-/// A stack cuts such pieces, so every sided list has a ring list; and its rings may begin at any of their edges.
+/// A stack cuts such pieces, so every sided list has a ring list; its rings may begin at any of their edges.
 pub fn ring_list_exists()
     ensures cuts { StackCuts }
     ensures stack { StackGivesRingList }
