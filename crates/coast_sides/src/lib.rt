@@ -2,6 +2,7 @@
 #![tactic(auto)]
 
 mod conflicting;
+mod cut;
 mod existence;
 mod land_parts;
 mod landing;
@@ -14,6 +15,7 @@ mod water_laws;
 mod watering;
 mod wrong_ways;
 
+pub use cut::{Cut, Cuts};
 pub use existence::{land_exists, sorting_exists, water_exists};
 pub use land_parts::{Land, Repeats};
 pub use landing::land;
