@@ -8,8 +8,8 @@ ghost use Rattle.coast_sides.specs.Land.{HaveNoConflicts};
 ghost use Rattle.coast_sides.specs.Segments.{all_segments, segments_round};
 ghost use Rattle.coast_sides.specs.Sorting.{IsSorted};
 
-use crate::cut::Cuts;
 use crate::conflicting::{distinct_conflicts, runs_along, segments_of};
+use crate::cut::Cuts;
 use crate::ring_segments::all_segments;
 use crate::sorted::{Pairs, Sorted};
 use coast_join::{CoastRing, CoastRings};
