@@ -46,6 +46,7 @@ fn coast_settings() -> CoastlineSettings<'static>
         max_points: 100,
         bbox_overlap: 1_000,
         polygons: OutputPolygons::Both,
+        cut_crossings: false,
     }
 }
 
