@@ -17,9 +17,13 @@ rings_conflict a b = list_any (conflicts_with (segments_round b.path)) (segments
 abbrev pub is_beaten : (CoastRing → Bool) → List CoastRing → CoastRing → Bool
 is_beaten is_kept rings ring = list_any (λ foe. is_kept foe && (outranks foe ring && rings_conflict foe ring)) rings
 
--- a ring is kept exactly where no kept ring that outranks it conflicts with it; the others are left out, both in order
+-- a ring is kept exactly where no kept ring that outranks it conflicts with it
+abbrev pub KeepsUnbeaten : List CoastRing → (CoastRing → Bool) → Type 0
+KeepsUnbeaten rings is_kept = (ring : CoastRing) → Contains rings ring → is_kept ring ≡ not (is_beaten is_kept rings ring)
+
+-- those that are kept, and the others, which are left out, both in order
 pub record AreChosen (rings kept left_out : List CoastRing) : Type 0 where
   pub is_kept : CoastRing → Bool
-  pub exact : (ring : CoastRing) → Contains rings ring → is_kept ring ≡ not (is_beaten is_kept rings ring)
-  pub kept : kept ≡ filter is_kept rings
-  pub left_out : left_out ≡ filter (λ ring. not (is_kept ring)) rings
+  pub exact : KeepsUnbeaten rings is_kept
+  pub kept_are : kept ≡ filter is_kept rings
+  pub left_out_are : left_out ≡ filter (λ ring. not (is_kept ring)) rings

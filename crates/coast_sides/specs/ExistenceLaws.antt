@@ -1,5 +1,5 @@
 -- The laws that what the crate gives exists, as statements.
-use Rattle.std.specs.Prelude.{All, Bool, List}
+use Rattle.std.specs.Prelude.{◌≡◌, All, Bool, List, true}
 use Rattle.osm_geom.specs.declared.edge.Edge.{Edge}
 use Rattle.osm_geom.specs.WholeSegment.{IsWholeSegment}
 use Rattle.osm_geom.specs.InPlane.Sided.{IsSided}
@@ -12,10 +12,11 @@ use Rattle.coast_sides.specs.RingLand.{IsLandOf}
 use Rattle.coast_sides.specs.Segments.{all_segments}
 use Rattle.coast_sides.specs.Water.{IsWater, segments_under}
 
--- rings are sorted out somehow, with their crossings cut and without, and the kept ones are without conflicts
+-- every list of rings is sorted out somehow, with its crossings cut and without; and the kept ones are without conflicts, where
+-- with a cut the names rise
 abbrev pub SortedExists : Type 0
 SortedExists =
-    (cut : Bool) (rings : List CoastRing) → NamesOfRingsRise rings → (sorted : Sorted) × IsSortedWith cut rings sorted × HaveNoConflicts (all_segments sorted.kept)
+    (cut : Bool) (rings : List CoastRing) → (sorted : Sorted) × IsSortedWith cut rings sorted × ((cut ≡ true → NamesOfRingsRise rings) → HaveNoConflicts (all_segments sorted.kept))
 
 -- rings without conflicts have land
 abbrev pub LandExists : Type 0

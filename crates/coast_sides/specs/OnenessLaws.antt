@@ -9,7 +9,7 @@ use Rattle.coast_sides.specs.CutSorting.{IsSortedWith}
 use Rattle.coast_sides.specs.RingLand.{IsLandOf}
 use Rattle.coast_sides.specs.Water.{IsWater}
 
--- rings are sorted out in one way
+-- rings are sorted out in one way, with their crossings cut and without
 abbrev pub SortedIsOne : Type 0
 SortedIsOne = (cut : Bool) (rings : List CoastRing) (a b : Sorted) → IsSortedWith cut rings a → IsSortedWith cut rings b → a ≡ b
 

@@ -57,8 +57,8 @@ module _ (stay : ClearRingsStay) (some_sorted : SortedExists) (some_land : LandE
   clear_rings : (settings : CoastlineSettings) (objects : List Object) → HaveClearRings (cutting false settings) objects → (coast : Coast) → IsCoast (cutting true settings) objects coast →
       HaveNoConflicts (all_segments coast.joined.rings)
   clear_rings settings objects clear coast is =
-      let sorted = some_sorted false coast.joined.rings is.joined.rings_rise in
-      let land = some_land sorted.0.kept sorted.2 in
+      let sorted = some_sorted false coast.joined.rings in
+      let land = some_land sorted.0.kept (sorted.2 (λ cut. is.joined.rings_rise)) in
       let uncut : Coast = record coast { sorted = sorted.0; land = land.0 } in
       clear uncut
       (record {
