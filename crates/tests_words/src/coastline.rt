@@ -32,6 +32,17 @@ const ALL: CoastlineSettings<'static> = CoastlineSettings {
     cut_crossings: true,
 };
 
+const CUT: CoastlineSettings<'static> = CoastlineSettings {
+    file: "-",
+    output: "-",
+    overwrite: false,
+    close_distance: DEGREE,
+    max_points: 1_000,
+    bbox_overlap: 1_000,
+    polygons: OutputPolygons::Land,
+    cut_crossings: true,
+};
+
 /// The settings of plain words but for these.
 fn plain_but(
     close_distance: u32,
@@ -92,14 +103,6 @@ fn with_polygons(polygons: OutputPolygons) -> CoastlineSettings<'static> {
     plain_but(DEGREE, 1_000, 1_000, polygons)
 }
 
-/// The settings of plain words with crossings cut.
-fn with_crossings_cut() -> CoastlineSettings<'static> {
-    CoastlineSettings {
-        cut_crossings: true,
-        ..PLAIN
-    }
-}
-
 /// Whether `coastline` takes these words for these settings.
 fn takes(alloc: Global, line: &str, settings: CoastlineSettings) -> Result<bool, OutOfMemory> {
     is_taken(alloc, line, Job::Coastline(settings))
@@ -146,7 +149,7 @@ fn each_option_by_itself(rt: HostRuntime) -> Result<(), Fail> {
         ("--output=out", output),
         ("-f", overwrite),
         ("--overwrite", overwrite),
-        ("--cut-crossings", with_crossings_cut()),
+        ("--cut-crossings", CUT),
     ];
     for (options, settings) in rows {
         assert!(rt; takes_options(rt.alloc(), options, settings)?, "{options}");
