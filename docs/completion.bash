@@ -12,7 +12,7 @@ _osmpoly() {
     *)
       case $command in
         export) words="-f --output-format -o --output -O --overwrite -n --keep-untagged -u --add-unique-id -r --omit-rs -e --show-errors -E --stop-on-error --area-keys --linear-keys" ;;
-        coastline) words="-c --close-distance -m --max-points -b --bbox-overlap -p --output-polygons --output -f --overwrite" ;;
+        coastline) words="-c --close-distance -m --max-points -b --bbox-overlap -p --output-polygons --output -f --overwrite --cut-crossings" ;;
         coast-filter) words="-o --output -O --overwrite" ;;
         certify) words="-n --keep-untagged -u --add-unique-id --area-keys --linear-keys" ;;
         locate) words="-n --keep-untagged --area-keys --linear-keys -o --output -O --overwrite" ;;

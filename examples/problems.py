@@ -4,8 +4,8 @@ QGIS, or drawn by draw.py:
 
     osmpoly export -e -o areas.geojson map.opl 2>&1 | examples/problems.py >problems.geojson
 
-Points are odd nodes, crossings, vanished rings and the ends of gaps and of unclosed chains; lines are overlaps, gaps, and segments that
-stand more than once; what has no place of its own has the geometry null. The properties of a feature are `object` (`way/7`, as in
+Points are odd nodes, crossings, vanished rings and the ends of gaps, of cuts and of unclosed chains; lines are overlaps, gaps, cuts, and
+segments that stand more than once; what has no place of its own has the geometry null. The properties of a feature are `object` (`way/7`, as in
 https://www.openstreetmap.org/way/7, or null), `kind` and `severity` (words of the table below) and `text` (the line).
 A line that isn't in the table, as the last one of a run that failed, goes to standard error, and the status is 1."""
 import json
@@ -29,6 +29,7 @@ LINES = [
     ("warning", "antarctica", "warning antarctica closed on OBJECT"),
     ("warning", "gap", "warning gap closed from POINT to POINT"),
     ("error", "unclosed", "error chain of OBJECT is not closed, from POINT to POINT"),
+    ("warning", "cut", "warning ring of OBJECT was cut from POINT to POINT"),
     ("error", "left_out", "error ring of OBJECT is left out"),
     ("error", "crossing", "error crossing POINT of SEGMENT and SEGMENT"),
     ("error", "overlap", "error overlap LINE of SEGMENT and SEGMENT"),
@@ -69,7 +70,7 @@ def features(line):
             continue
         named = found.groupdict().get("object")
         places = [place for place in found.groups() if place != named]
-        if kind == "gap":
+        if kind in ("gap", "cut"):
             places.insert(0, ",".join(places))
         properties = {"object": named and named.replace(" ", "/"), "kind": kind, "severity": severity, "text": line}
         return [{"type": "Feature", "geometry": geometry(place) if place else None, "properties": properties} for place in places or [None]]

@@ -52,16 +52,6 @@ module _ (counted : CountedListsExist seg_cmp) where
 
   -- ---- rings sorted out
 
-  pub sorted_exists : SortedExists
-  sorted_exists rings =
-      let segs = all_segments rings in
-      let distinct = distinct_exist segs in
-      let kept = filter (λ ring. not (is_left_out segs ring)) rings in (
-        record { kept = kept; left_out = filter (is_left_out segs) rings; pairs = conflicts_of distinct.0 },
-        record { left_out = refl; kept = refl; pairs = record { distinct = distinct.0; once = distinct.1; are = refl } },
-        kept_clear rings kept refl,
-      )
-
   module _ (exact : SegmentOrderTellsApart) (whole : DirectedAreWhole) (directions : DirectionsExist) where
     -- ---- land
 

@@ -81,13 +81,6 @@ module _ (exact : SegmentOrderTellsApart) where
       let distinct = told_by_counts s.distinct t.distinct s.once.rising t.once.rising (λ z. s.once.once z ∙ sym (t.once.once z)) in
       s.are ∙ (ap conflicts_of distinct ∙ sym t.are)
 
-  pub sorted_one : SortedIsOne
-  sorted_one rings a b s t =
-      let kept = s.kept ∙ sym t.kept in
-      let left = s.left_out ∙ sym t.left_out in
-      let pairs = conflicts_one (all_segments rings) a.pairs b.pairs s.pairs t.pairs in
-      λ i. record { kept = kept i; left_out = left i; pairs = pairs i }
-
   module _ (directions : DirectionsAreOne) where
     land_edges_one : (segs : List Seg) (a b : List Edge) → IsLand segs a → IsLand segs b → a ≡ b
     land_edges_one segs a b s t =

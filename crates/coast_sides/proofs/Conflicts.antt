@@ -18,6 +18,7 @@ use Rattle.osm_segments.specs.Counts.{AreDistinct}
 use Rattle.osm_segments.specs.Pairs.{conflicts_of, pair_of}
 use Rattle.osm_segments.specs.declared.pairs.Pair.{Pair}
 use Rattle.coast_join.specs.declared.ring.CoastRing.{CoastRing}
+use Rattle.coast_sides.specs.declared.cut.Cut.{Cut}
 use Rattle.coast_sides.specs.Land.{HaveNoConflicts}
 use Rattle.coast_sides.specs.Segments.{all_segments, segments_round}
 use Rattle.coast_sides.specs.Sorting.{AreConflicts, IsSorted, conflicts_with, is_in_pair, is_left_out}
@@ -187,15 +188,16 @@ kept_clear rings kept is s t c d =
     none_from (conflict_of s t) (any_none (λ u. is_some (conflict_of s u)) (all_segments rings) t clear (flat_map_has f rings b.item t kb.0 b.holds))
 
 -- what the looked up segments tell is the definition
-pub sorted_are : SegmentOrderTellsApart → ConflictIsSymmetric → (rings : List CoastRing) (segs lent : List Seg) (pairs lent_pairs told : List Pair) (found : Seg → Bool) (kept left : List CoastRing)
+pub sorted_are : SegmentOrderTellsApart → ConflictIsSymmetric → (rings : List CoastRing) (segs lent : List Seg) (pairs lent_pairs told : List Pair) (found : Seg → Bool) (kept left : List CoastRing) (cuts : List Cut)
     → segs ≡ all_segments rings → lent ≡ segs → AreConflicts lent pairs → lent_pairs ≡ pairs → ((s : Seg) → found s ≡ list_any (is_in_pair s) lent_pairs)
-    → kept ≡ filter (λ (ring : CoastRing). not (list_any found (segments_round ring.path))) rings → left ≡ filter (λ (ring : CoastRing). list_any found (segments_round ring.path)) rings → told ≡ pairs
-    → IsSorted rings (record { kept = kept; left_out = left; pairs = told })
-sorted_are exact symmetric rings segs lent pairs lent_pairs told found kept left all borrowed are same is kept_is left_is told_is =
+    → kept ≡ filter (λ (ring : CoastRing). not (list_any found (segments_round ring.path))) rings → left ≡ filter (λ (ring : CoastRing). list_any found (segments_round ring.path)) rings → told ≡ pairs → cuts ≡ []
+    → IsSorted rings (record { kept = kept; left_out = left; pairs = told; cuts = cuts })
+sorted_are exact symmetric rings segs lent pairs lent_pairs told found kept left cuts all borrowed are same is kept_is left_is told_is uncut =
     let of_rings : AreConflicts (all_segments rings) pairs = subst (λ (ss : List Seg). AreConflicts ss pairs) (borrowed ∙ all) are in
     let looked : (s : Seg) → found s ≡ list_any (is_in_pair s) (conflicts_of of_rings.distinct) = λ s. is s ∙ ap (list_any (is_in_pair s)) (same ∙ of_rings.are) in
     record {
       left_out = left_is ∙ left_out_are exact symmetric rings of_rings.distinct of_rings.once found looked;
       kept = kept_is ∙ kept_are exact symmetric rings of_rings.distinct of_rings.once found looked;
       pairs = subst (AreConflicts (all_segments rings)) (sym told_is) of_rings;
+      uncut = uncut;
     }

@@ -1,20 +1,22 @@
 -- The laws that what the crate gives exists, as statements.
-use Rattle.std.specs.Prelude.{All, List}
+use Rattle.std.specs.Prelude.{◌≡◌, All, Bool, List, true}
 use Rattle.osm_geom.specs.declared.edge.Edge.{Edge}
 use Rattle.osm_geom.specs.WholeSegment.{IsWholeSegment}
 use Rattle.osm_geom.specs.InPlane.Sided.{IsSided}
 use Rattle.coast_join.specs.declared.ring.CoastRing.{CoastRing}
 use Rattle.coast_sides.specs.declared.land_parts.Land.{Land}
 use Rattle.coast_sides.specs.declared.sorted.Sorted.{Sorted}
+use Rattle.coast_sides.specs.CutSorting.{IsSortedWith, NamesOfRingsRise}
 use Rattle.coast_sides.specs.Land.{HaveNoConflicts}
 use Rattle.coast_sides.specs.RingLand.{IsLandOf}
 use Rattle.coast_sides.specs.Segments.{all_segments}
-use Rattle.coast_sides.specs.Sorting.{IsSorted}
 use Rattle.coast_sides.specs.Water.{IsWater, segments_under}
 
--- every list of rings is sorted out somehow, and the kept ones are without conflicts
+-- every list of rings is sorted out somehow, with its crossings cut and without; and the kept ones are without conflicts, where
+-- with a cut the names rise
 abbrev pub SortedExists : Type 0
-SortedExists = (rings : List CoastRing) → (sorted : Sorted) × IsSorted rings sorted × HaveNoConflicts (all_segments sorted.kept)
+SortedExists =
+    (cut : Bool) (rings : List CoastRing) → (sorted : Sorted) × IsSortedWith cut rings sorted × ((cut ≡ true → NamesOfRingsRise rings) → HaveNoConflicts (all_segments sorted.kept))
 
 -- rings without conflicts have land
 abbrev pub LandExists : Type 0

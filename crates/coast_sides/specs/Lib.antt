@@ -8,3 +8,7 @@ pub mod WrongWays
 pub mod RingLand
 pub mod ExistenceLaws
 pub mod OnenessLaws
+pub mod Shortcuts
+pub mod Rounds
+pub mod Choice
+pub mod CutSorting

@@ -1,5 +1,5 @@
 -- Rings sorted out by their conflicts.
-use Rattle.std.specs.Prelude.{◌≡◌, ◌||◌, Bool, not, List, filter, is_some}
+use Rattle.std.specs.Prelude.{◌≡◌, ◌||◌, Bool, not, List, [], filter, is_some}
 use Rattle.std.specs.List.{list_any}
 use Rattle.std.specs.Ordering.{is_eq}
 use Rattle.osm_lattice.specs.declared.seg.Seg.{Seg}
@@ -27,11 +27,12 @@ pub record AreConflicts (segs : List Seg) (pairs : List Pair) : Type 0 where
   pub are : pairs ≡ conflicts_of distinct
 
 -- A ring is left out if one of its segments, before any cancelling, conflicts with a segment of any ring, itself included.
--- The others are kept, both in order. The pairs are the conflicts of the segments of all rings.
+-- The others are kept, both in order. The pairs are the conflicts of the segments of all rings. Nothing is cut out.
 pub record IsSorted (rings : List CoastRing) (sorted : Sorted) : Type 0 where
   pub left_out : sorted.left_out ≡ filter (is_left_out (all_segments rings)) rings
   pub kept : sorted.kept ≡ filter (λ ring. not (is_left_out (all_segments rings) ring)) rings
   pub pairs : AreConflicts (all_segments rings) sorted.pairs
+  pub uncut : sorted.cuts ≡ []
 
 -- s is one of a pair
 abbrev pub is_in_pair : Seg → Pair → Bool

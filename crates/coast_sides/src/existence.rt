@@ -10,6 +10,7 @@ use osm_sides::{directing_is_sided, directions_exist};
 
 /// Every list of rings can be sorted out, and no two segments of the rings that are kept conflict.
 pub fn sorting_exists()
+    requires { SortedExists }
     ensures { SortedExists }
 {}
 

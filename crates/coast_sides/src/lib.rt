@@ -2,6 +2,9 @@
 #![tactic(auto)]
 
 mod conflicting;
+mod cut;
+mod cutting;
+mod cutting_laws;
 mod existence;
 mod land_parts;
 mod landing;
@@ -14,6 +17,9 @@ mod water_laws;
 mod watering;
 mod wrong_ways;
 
+pub use cut::{Cut, Cuts};
+pub use cutting::cut_and_sort_out;
+pub use cutting_laws::clear_rings_stay;
 pub use existence::{land_exists, sorting_exists, water_exists};
 pub use land_parts::{Land, Repeats};
 pub use landing::land;

@@ -7,6 +7,7 @@ use osm_sides::directions_are_one;
 
 /// Rings are sorted out in one way.
 pub fn sorting_is_one()
+    requires { SortedIsOne }
     ensures { SortedIsOne }
 {
     orders_are_exact();

@@ -9,6 +9,7 @@ ghost use Rattle.coast_sides.specs.Segments.{all_segments, segments_round};
 ghost use Rattle.coast_sides.specs.Sorting.{IsSorted};
 
 use crate::conflicting::{distinct_conflicts, runs_along, segments_of};
+use crate::cut::Cuts;
 use crate::ring_segments::all_segments;
 use crate::sorted::{Pairs, Sorted};
 use coast_join::{CoastRing, CoastRings};
@@ -84,5 +85,6 @@ pub fn sort_out(alloc: Global, rings: &[CoastRing]) -> Result<Sorted, OutOfMemor
         kept,
         left_out,
         pairs: Pairs::from_vec(pairs),
+        cuts: Cuts::new(alloc),
     })
 }

@@ -8,7 +8,7 @@ use Rattle.coast_join.specs.declared.chain.Chain.{Chain}
 use Rattle.coast_join.specs.declared.input.CoastInput.{CoastInput}
 use Rattle.coast_join.specs.declared.ring.Joined.{Joined}
 use Rattle.coast_sides.specs.Segments.{all_segments}
-use Rattle.coast_sides.specs.Sorting.{IsSorted}
+use Rattle.coast_sides.specs.CutSorting.{IsSortedWith}
 use Rattle.coast_sides.specs.declared.sorted.Sorted.{Sorted}
 use Rattle.osm_geom.specs.declared.edge.Edge.{Edge}
 use Rattle.osm_geom.specs.InPlane.Sided.{IsSided}
@@ -23,10 +23,10 @@ use Rattle.job_coastline.specs.CoastSteps.{JoinsChains, MakesCoast, MakesLand}
 use Rattle.job_coastline.specs.Coastline.{AreLand, AreWater}
 use Rattle.job_coastline.specs.OutlineSteps.{AreEdgesOf, AreOutlinesOf, IsShoreOf}
 use Rattle.job_coastline.specs.Pieces.{has_land, has_water}
-use Rattle.job_coastline.specs.Report.{antarctica_line, aside_line, coast_lines, conflict_line, gap_line, left_out_line, repeated_line, unclosed_line, wrong_way_line}
+use Rattle.job_coastline.specs.Report.{antarctica_line, aside_line, coast_lines, conflict_line, cut_line, gap_line, left_out_line, repeated_line, unclosed_line, wrong_way_line}
 use Rattle.job_coastline.specs.declared.coast.Shore.{Shore}
 use Rattle.job_coastline.specs.declared.outlines.Outlines.{Outlines}
-use Rattle.job_coastline.proofs.LineKinds.{lines_of_kind}
+use Rattle.job_coastline.proofs.LineKinds.{lines_of_kind, pairs_told}
 
 in_a_row : (o a b c u r : List CoastLine) → (((o ++ a) ++ (b ++ c)) ++ u) ++ r ≡ o ++ (a ++ (b ++ (c ++ (u ++ r))))
 in_a_row o a b c u r =
@@ -47,7 +47,7 @@ all_edges_of polygons lists are sided = record { are = are; sided = subst (λ (x
 module _ (settings : CoastlineSettings) (input : CoastInput) where
   pub coast_made : (chains : List Chain) (joined : Joined) (sorted : Sorted) (edges : List Edge) (start told_of_ways told_of_chains told_of_rings told : List CoastLine) →
       AreChains input.ways chains → told_of_ways ≡ start ++ map aside_line input.aside → JoinsChains chains settings.close_distance joined told_of_ways told_of_chains →
-      IsSorted joined.rings sorted → told_of_rings ≡ told_of_chains ++ map unclosed_line joined.unclosed → MakesLand sorted edges told_of_rings told → MakesCoast settings input edges start told
+      IsSortedWith settings.cut_crossings joined.rings sorted → told_of_rings ≡ told_of_chains ++ map unclosed_line joined.unclosed → MakesLand sorted edges told_of_rings told → MakesCoast settings input edges start told
   coast_made chains joined sorted edges start one two three four are_chains asides joins is_sorted unclosed land = record {
     coast = record { asides = input.aside; chains = chains; closings = joins.closings; joined = joined; sorted = sorted; land = land.land };
     is_coast = record { asides = refl; chains = are_chains; closings = joins.are_closings; joined = joins.are_joined; sorted = is_sorted; land = land.is_land };
@@ -57,7 +57,7 @@ module _ (settings : CoastlineSettings) (input : CoastInput) where
         let b = filter_map (antarctica_line chains) joins.closings.antarctica in
         let c = filter_map (gap_line chains) joins.closings.gaps in
         let u = map unclosed_line joined.unclosed in
-        let r = map left_out_line sorted.left_out ++ (map conflict_line sorted.pairs ++ (map repeated_line land.land.repeats ++ map wrong_way_line land.land.wrong_way)) in
+        let r = map cut_line sorted.cuts ++ (map left_out_line sorted.left_out ++ (map conflict_line sorted.pairs ++ (map repeated_line land.land.repeats ++ map wrong_way_line land.land.wrong_way))) in
         land.told
         ∙ ap (λ (xs : List CoastLine). xs ++ r) (unclosed ∙ ap (λ (xs : List CoastLine). xs ++ u) (joins.told ∙ ap (λ (xs : List CoastLine). xs ++ (b ++ c)) asides))
         ∙ in_a_row start a b c u r;
@@ -73,7 +73,7 @@ module _ (settings : CoastlineSettings) (input : CoastInput) where
         whole = subst (λ (es : List Edge). All IsWholeSegment es) (sym made.has) made.is_coast.land.edges.whole;
         sided = subst IsSided (sym made.has) made.is_coast.land.edges.sided;
         told = told;
-        kinds = subst (λ (ls : List CoastLine). All HasItsKind ls) (sym told) (lines_of_kind (all_segments made.coast.joined.rings) made.coast made.is_coast.sorted.pairs);
+        kinds = subst (λ (ls : List CoastLine). All HasItsKind ls) (sym told) (lines_of_kind (all_segments made.coast.joined.rings) made.coast (pairs_told settings.cut_crossings made.coast.joined.rings made.coast.sorted made.is_coast.sorted));
       }
 
   pub outlines_made : (shore : Shore) → IsShoreOf settings input shore → (outlines : Outlines) (land_asked water_asked : Bool) → land_asked ≡ has_land settings.polygons → water_asked ≡ has_water settings.polygons →

@@ -4,9 +4,13 @@ use Rattle.std.specs.List.{filter_map, flat_map, slice_get}
 use Rattle.std.proofs.lemmas.Option.{same_Some}
 use Rattle.std.proofs.lemmas.List.Elements.{All-nil, All-cons, All-append, All-map}
 use Rattle.coast_join.specs.declared.chain.Chain.{Chain}
+use Rattle.coast_join.specs.declared.ring.CoastRing.{CoastRing}
 use Rattle.coast_join.specs.declared.way.Aside.{Aside}
 use Rattle.coast_join.specs.declared.way.Aside.TheVariants.{Missing, Short}
+use Rattle.coast_sides.specs.CutSorting.{IsSortedWith}
+use Rattle.coast_sides.specs.Segments.{all_segments}
 use Rattle.coast_sides.specs.Sorting.{AreConflicts}
+use Rattle.coast_sides.specs.declared.sorted.Sorted.{Sorted}
 use Rattle.osm_lattice.specs.declared.seg.Seg.{Seg}
 use Rattle.osm_text.specs.Coast.{HasItsKind}
 use Rattle.osm_text.specs.declared.coast.CoastLine.{CoastLine}
@@ -18,7 +22,7 @@ use Rattle.osm_nest.specs.declared.polygon.Polygon.{Polygon}
 use Rattle.osm_text.specs.Piece.{vanished_in}
 use Rattle.job_coastline.specs.Coastline.{all_lines}
 use Rattle.job_coastline.specs.Pieces.{Tile, large_lines, tile_lines, vanished_line, vanished_lines}
-use Rattle.job_coastline.specs.Report.{antarctica_line, aside_line, coast_lines, conflict_line, gap_line, gap_line_between, left_out_line, repeated_line, unclosed_line, wrong_way_line}
+use Rattle.job_coastline.specs.Report.{antarctica_line, aside_line, coast_lines, conflict_line, cut_line, gap_line, gap_line_between, left_out_line, repeated_line, unclosed_line, wrong_way_line}
 
 -- ---- lines of one thing
 
@@ -48,16 +52,22 @@ between_of_kind None to l is = absurd (cc)
 
 -- ---- all of them
 
+-- with crossings cut or without, the conflicts are told
+pub pairs_told : (cut : Bool) (rings : List CoastRing) (sorted : Sorted) → IsSortedWith cut rings sorted → AreConflicts (all_segments rings) sorted.pairs
+pairs_told true rings sorted is = is.pairs
+pairs_told false rings sorted is = is.pairs
+
 pub lines_of_kind : (segs : List Seg) (coast : Coast) → AreConflicts segs coast.sorted.pairs → All HasItsKind (coast_lines coast)
 lines_of_kind segs coast conflicts =
     both _ _ (All-map HasItsKind aside_line coast.asides (λ k d lt. aside_of_kind (get_or coast.asides k d)))
     (both _ _ (listed_of_kind (antarctica_line coast.chains) coast.closings.antarctica (antarctica_of_kind coast.chains))
     (both _ _ (listed_of_kind (gap_line coast.chains) coast.closings.gaps (λ gap l is. between_of_kind (slice_get coast.chains gap.from_chain) (slice_get coast.chains gap.to_chain) l is))
     (both _ _ (All-map HasItsKind unclosed_line coast.joined.unclosed (λ k d lt. tt))
+    (both _ _ (All-map HasItsKind cut_line coast.sorted.cuts (λ k d lt. tt))
     (both _ _ (All-map HasItsKind left_out_line coast.sorted.left_out (λ k d lt. tt))
     (both _ _ (All-map HasItsKind conflict_line coast.sorted.pairs (subst (All IsPairOfItsKind) (sym conflicts.are) (conflicts_of_kind conflicts.distinct)))
     (both _ _ (All-map HasItsKind repeated_line coast.land.repeats (λ k d lt. tt))
-    (All-map HasItsKind wrong_way_line coast.land.wrong_way (λ k d lt. tt))))))))
+    (All-map HasItsKind wrong_way_line coast.land.wrong_way (λ k d lt. tt)))))))))
   where
     both : (xs ys : List CoastLine) → All HasItsKind xs → All HasItsKind ys → All HasItsKind (xs ++ ys)
     both xs ys h k = All-append HasItsKind xs ys h k

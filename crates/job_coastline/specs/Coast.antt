@@ -15,7 +15,7 @@ use Rattle.coast_join.specs.Joined.{AreJoined}
 use Rattle.coast_sides.specs.declared.land_parts.Land.{Land}
 use Rattle.coast_sides.specs.declared.sorted.Sorted.{Sorted}
 use Rattle.coast_sides.specs.RingLand.{IsLandOf}
-use Rattle.coast_sides.specs.Sorting.{IsSorted}
+use Rattle.coast_sides.specs.CutSorting.{IsSortedWith}
 use Rattle.osm_words.specs.Job.{CoastlineSettings}
 
 pub record Coast : Type 0 where
@@ -27,12 +27,12 @@ pub record Coast : Type 0 where
   pub closings : Closings
   -- the rings, and the chains that are still unclosed
   pub joined : Joined
-  -- the rings that are kept, those that are left out, and the conflicts
+  -- the rings that are kept, those that are left out, the conflicts, and what was cut out of rings
   pub sorted : Sorted
   -- the edges of land, and what is noted of the rings that are kept
   pub land : Land
 
--- It comes of the coastline ways of these objects, with gaps closed below this distance.
+-- It comes of the coastline ways of these objects, with gaps closed below a distance, and crossings cut or not.
 pub record IsCoast (settings : CoastlineSettings) (objects : List Object) (coast : Coast) : Type 0 where
   pub ways : List CoastWay
   pub taking_part : map way_path_of ways ≡ flat_map (way_paths_in objects) (coast_ways objects)
@@ -40,5 +40,5 @@ pub record IsCoast (settings : CoastlineSettings) (objects : List Object) (coast
   pub chains : AreChains ways coast.chains
   pub closings : AreClosings coast.chains settings.close_distance coast.closings
   pub joined : AreJoined coast.chains coast.closings coast.joined
-  pub sorted : IsSorted coast.joined.rings coast.sorted
+  pub sorted : IsSortedWith settings.cut_crossings coast.joined.rings coast.sorted
   pub land : IsLandOf coast.sorted.kept coast.land

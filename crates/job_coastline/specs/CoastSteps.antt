@@ -19,9 +19,9 @@ use Rattle.coast_join.specs.Joined.{AreJoined}
 use Rattle.coast_sides.specs.declared.land_parts.Land.{Land}
 use Rattle.coast_sides.specs.declared.sorted.Sorted.{Sorted}
 use Rattle.coast_sides.specs.RingLand.{IsLandOf}
-use Rattle.coast_sides.specs.Sorting.{IsSorted}
+use Rattle.coast_sides.specs.CutSorting.{IsSortedWith}
 use Rattle.job_coastline.specs.Coast.{Coast}
-use Rattle.job_coastline.specs.Report.{antarctica_line, coast_lines, conflict_line, gap_line, left_out_line, repeated_line, wrong_way_line}
+use Rattle.job_coastline.specs.Report.{antarctica_line, coast_lines, conflict_line, cut_line, gap_line, left_out_line, repeated_line, wrong_way_line}
 
 -- The coastline ways among these objects: those that take part, and what keeps others from it.
 pub record IsInputOf (objects : List Object) (input : CoastInput) : Type 0 where
@@ -41,16 +41,16 @@ pub record MakesLand (sorted : Sorted) (edges : List Edge) (before after : List 
   pub land : Land
   pub is_land : IsLandOf sorted.kept land
   pub has : edges ≡ land.edges
-  pub told : after ≡ before ++ (map left_out_line sorted.left_out ++ (map conflict_line sorted.pairs
-      ++ (map repeated_line land.repeats ++ map wrong_way_line land.wrong_way)))
+  pub told : after ≡ before ++ (map cut_line sorted.cuts ++ (map left_out_line sorted.left_out ++ (map conflict_line sorted.pairs
+      ++ (map repeated_line land.repeats ++ map wrong_way_line land.wrong_way))))
 
--- It comes of these coastline ways, with gaps closed below this distance.
+-- It comes of these coastline ways, with gaps closed below a distance, and crossings cut or not.
 pub record IsCoastOf (settings : CoastlineSettings) (input : CoastInput) (coast : Coast) : Type 0 where
   pub asides : coast.asides ≡ input.aside
   pub chains : AreChains input.ways coast.chains
   pub closings : AreClosings coast.chains settings.close_distance coast.closings
   pub joined : AreJoined coast.chains coast.closings coast.joined
-  pub sorted : IsSorted coast.joined.rings coast.sorted
+  pub sorted : IsSortedWith settings.cut_crossings coast.joined.rings coast.sorted
   pub land : IsLandOf coast.sorted.kept coast.land
 
 -- What comes of these coastline ways has land with these edges; its lines were added.

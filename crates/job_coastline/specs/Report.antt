@@ -14,6 +14,7 @@ use Rattle.coast_join.specs.declared.gap.Gap.{Gap}
 use Rattle.coast_join.specs.declared.ring.CoastRing.{CoastRing}
 use Rattle.coast_join.specs.declared.way.Aside.{Aside}
 use Rattle.coast_join.specs.declared.way.Aside.TheVariants.{Missing, Short}
+use Rattle.coast_sides.specs.declared.cut.Cut.{Cut}
 use Rattle.job_coastline.specs.Coast.{Coast}
 
 -- ---- one line
@@ -38,6 +39,9 @@ gap_line chains gap = gap_line_between (slice_get chains gap.from_chain) (slice_
 abbrev pub unclosed_line : Chain → CoastLine
 unclosed_line chain = line.Unclosed chain.name (first_location chain.path) (last_location chain.path)
 
+abbrev pub cut_line : Cut → CoastLine
+cut_line cut = line.Cut cut.ring cut.from cut.to
+
 abbrev pub left_out_line : CoastRing → CoastLine
 left_out_line ring = line.LeftOut ring.name
 
@@ -54,19 +58,20 @@ wrong_way_line ring = line.WrongWay ring
 
 -- The lines of the report, in order:
 -- - ways set aside, Antarctica and gaps
--- - chains that are still unclosed, and rings that are left out
--- - conflicts, and segments that occur more than once
--- - rings that run the wrong way
+-- - chains that are still unclosed, and what was cut out of rings
+-- - rings that are left out, and conflicts
+-- - segments that occur more than once, and rings that run the wrong way
 abbrev pub coast_lines : Coast → List CoastLine
 coast_lines coast =
     map aside_line coast.asides
     ++ (filter_map (antarctica_line coast.chains) coast.closings.antarctica
     ++ (filter_map (gap_line coast.chains) coast.closings.gaps
     ++ (map unclosed_line coast.joined.unclosed
+    ++ (map cut_line coast.sorted.cuts
     ++ (map left_out_line coast.sorted.left_out
     ++ (map conflict_line coast.sorted.pairs
     ++ (map repeated_line coast.land.repeats
-    ++ map wrong_way_line coast.land.wrong_way))))))
+    ++ map wrong_way_line coast.land.wrong_way)))))))
 
 -- how they are printed, one after the other
 abbrev pub ArePrinted : List CoastLine → List ℕ → Type 0

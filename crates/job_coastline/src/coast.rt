@@ -9,20 +9,20 @@ ghost use Rattle.coast_join.specs.Chains.{AreChains};
 ghost use Rattle.coast_join.specs.declared.way.CoastWay.{CoastWay};
 ghost use Rattle.coast_sides.specs.Land.{HaveNoConflicts};
 ghost use Rattle.coast_sides.specs.Segments.{all_segments};
-ghost use Rattle.coast_sides.specs.Sorting.{IsSorted};
+ghost use Rattle.coast_sides.specs.CutSorting.{IsSortedWith, NamesOfRingsRise};
 ghost use Rattle.job_coastline.specs.CoastSteps.{IsInputOf, JoinsChains, MakesCoast, MakesLand};
 ghost use Rattle.job_coastline.specs.OutlineSteps.{IsShoreOf};
-ghost use Rattle.job_coastline.specs.Report.{antarctica_line, aside_line, conflict_line, gap_line, left_out_line, repeated_line, unclosed_line, wrong_way_line};
+ghost use Rattle.job_coastline.specs.Report.{antarctica_line, aside_line, conflict_line, cut_line, gap_line, left_out_line, repeated_line, unclosed_line, wrong_way_line};
 ghost use Rattle.osm_words.specs.Answers.{coastline_seen};
 
 use crate::lines::{
-    antarctica_lines, aside_lines, conflict_lines, gap_lines, left_out_lines, repeated_lines,
-    unclosed_lines, wrong_way_lines,
+    antarctica_lines, aside_lines, conflict_lines, cut_lines, gap_lines, left_out_lines,
+    repeated_lines, unclosed_lines, wrong_way_lines,
 };
 use coast_join::{
     Chain, Closings, CoastInput, Joined, chains, closed_rings, closings, coast_input,
 };
-use coast_sides::{Land, Sorted, land, sort_out};
+use coast_sides::{Land, Sorted, cut_and_sort_out, land, sort_out};
 use osm_geom::Edges;
 use osm_objects::Store;
 use osm_text::CoastLine;
@@ -93,26 +93,33 @@ fn joined_of(
     closed_rings(alloc, &chains, &closings)
 }
 
-/// The rings sorted out. Lines tell of chains that are still unclosed.
+/// The rings sorted out, with their crossings cut or not. Lines tell of chains that are still unclosed.
 fn sorted_of(
     alloc: Global,
     joined: Joined,
+    cut_crossings: bool,
     lines: &mut Vec<CoastLine>,
 ) -> Result<Sorted, OutOfMemory>
-    ensures sorted { IfOk result (λ sorted. IsSorted joined.rings sorted) }
+    requires { NamesOfRingsRise joined.rings }
+    ensures sorted { IfOk result (λ sorted. IsSortedWith cut_crossings joined.rings sorted) }
     ensures clear { IfOk result (λ sorted. HaveNoConflicts (all_segments sorted.kept)) }
     ensures told { OnOk result (lines.new.items
         ≡ lines.old.items ++ map unclosed_line joined.unclosed) }
 {
     lines.extend_from_slice(&unclosed_lines(alloc, joined.unclosed.as_slice())?)?;
+    if cut_crossings {
+        return cut_and_sort_out(alloc, joined.rings.as_slice());
+    }
     sort_out(alloc, joined.rings.as_slice())
 }
 
-/// Lines tell of rings that are left out, and of conflicts.
+/// Lines tell of what was cut out of rings, of rings that are left out, and of conflicts.
 fn add_sorted(alloc: Global, sorted: &Sorted, lines: &mut Vec<CoastLine>) -> Result<(), OutOfMemory>
     ensures { OnOk result (lines.new.items ≡ lines.old.items
-        ++ (map left_out_line sorted.now.left_out ++ map conflict_line sorted.now.pairs)) }
+        ++ (map cut_line sorted.now.cuts
+        ++ (map left_out_line sorted.now.left_out ++ map conflict_line sorted.now.pairs))) }
 {
+    lines.extend_from_slice(&cut_lines(alloc, sorted.cuts.as_slice())?)?;
     lines.extend_from_slice(&left_out_lines(alloc, sorted.left_out.as_slice())?)?;
     lines.extend_from_slice(&conflict_lines(alloc, sorted.pairs.as_slice())?)?;
     Ok(())
@@ -152,7 +159,7 @@ fn land_in(
 {
     let chains = chains_of(alloc, input, lines)?;
     let joined = joined_of(alloc, chains, settings.close_distance, lines)?;
-    let sorted = sorted_of(alloc, joined, lines)?;
+    let sorted = sorted_of(alloc, joined, settings.cut_crossings, lines)?;
     land_of(alloc, sorted, lines)
 }
 

@@ -2,10 +2,11 @@
 
 ghost use Rattle.std.specs.Prelude.{◌≡◌, IfOk, map};
 ghost use Rattle.std.specs.List.{filter_map, list_any};
-ghost use Rattle.job_coastline.specs.Report.{antarctica_line, aside_line, conflict_line, ending_of, gap_line, left_out_line, repeated_line, unclosed_line, wrong_way_line};
+ghost use Rattle.job_coastline.specs.Report.{antarctica_line, aside_line, conflict_line, cut_line, ending_of, gap_line, left_out_line, repeated_line, unclosed_line, wrong_way_line};
 ghost use Rattle.osm_text.specs.Coast.{is_error};
 
 use coast_join::{Aside, Chain, CoastRing, Gap};
+use coast_sides::Cut;
 use osm_job::Ended;
 use osm_segments::{Pair, Repeat};
 use osm_text::{CoastLine, is_error};
@@ -96,6 +97,19 @@ pub(crate) fn unclosed_lines(alloc: Global, chains: &[Chain]) -> Result<Vec<Coas
     chains
         .iter()
         .map(|chain| unclosed_line(chain))
+        .collect(alloc)
+}
+
+/// Of each run of locations that was cut out of a ring, in order.
+pub(crate) fn cut_lines(alloc: Global, cuts: &[Cut]) -> Result<Vec<CoastLine>, OutOfMemory>
+    ensures { IfOk result (λ v. v.items ≡ map cut_line cuts.now) }
+{
+    cuts.iter()
+        .map(|cut| CoastLine::Cut {
+            ring: cut.ring,
+            from: cut.from,
+            to: cut.to,
+        })
         .collect(alloc)
 }
 

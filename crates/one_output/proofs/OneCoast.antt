@@ -1,4 +1,5 @@
 pub mod AreasOne
+pub mod ClearCoasts
 pub mod CoastOne
 pub mod CoastThere
 pub mod LeavesApart

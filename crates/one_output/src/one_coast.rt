@@ -3,6 +3,7 @@
 //! It exists, and it is one. Other laws say what the leaves of land and of water cover, and that their polygons are valid.
 //! There is no code to run here. The contract of each function is a law about the definitions of `job_coastline`.
 
+ghost use Rattle.one_output.specs.OneCoast.ClearCoasts.{ClearCoastsStay};
 ghost use Rattle.one_output.specs.OneCoast.Cover.{LandLeavesCover, LandLeavesPart, LeavesPartTheWorld, WaterLeavesCover, WaterLeavesPart};
 ghost use Rattle.one_output.specs.OneCoast.Laws.{CoastCountsAreOne, CoastCountsExist, CoastExists, CoastIsOne, CoastlineExists, CoastlineIsOne};
 ghost use Rattle.one_output.specs.OneCoast.Pieces.{CoastsAreValid, PiecesAreValid, PiecesArePolygons};
@@ -12,8 +13,8 @@ use coast_join::{
     joined_exists, joined_is_determined,
 };
 use coast_sides::{
-    land_and_water_cover, land_exists, land_is_one, sorting_exists, sorting_is_one, water_exists,
-    water_is_one,
+    clear_rings_stay, land_and_water_cover, land_exists, land_is_one, sorting_exists,
+    sorting_is_one, water_exists, water_is_one,
 };
 use coast_split::{
     halves_are_determined, leaves_cover_as_list, leaves_part_the_list, split_trees_exist,
@@ -101,6 +102,15 @@ pub fn coast_counts_exist()
     nested_cover_as_rings();
     split_trees_exist();
     leaves_cover_as_list();
+}
+
+/// If no two segments of rings conflict, cutting crossings changes neither the output nor the report nor the ending.
+pub fn clear_coasts_stay()
+    ensures { ClearCoastsStay }
+{
+    clear_rings_stay();
+    sorting_exists();
+    land_exists();
 }
 
 /// What the leaves cover together.

@@ -46,6 +46,7 @@ coast_words =
     ∷ word 10 (codes "runs the wrong way")
     ∷ word 11 (codes "piece of")
     ∷ word 12 (codes "vanished")
+    ∷ word 13 (codes "was cut from")
     ∷ []
 
 -- the words of a line of a coastline report

@@ -49,8 +49,11 @@ pub const LARGE: u8 = 11;
 /// A ring of a piece is gone once its points are rounded.
 pub const VANISHED: u8 = 12;
 
+/// Locations are cut out of a ring.
+pub const CUT: u8 = 13;
+
 /// The kinds of lines of a coastline report, each a warning or an error.
-pub const COAST_KINDS: [Row; 12] = [
+pub const COAST_KINDS: [Row; 13] = [
     Row {
         key: MISSING_NODE,
         code: ERROR,
@@ -99,6 +102,10 @@ pub const COAST_KINDS: [Row; 12] = [
         key: VANISHED,
         code: WARNING,
     },
+    Row {
+        key: CUT,
+        code: WARNING,
+    },
 ];
 
 /// Whether a kind of line is a warning or an error, as its code; None if there is no such kind.
@@ -127,6 +134,7 @@ pub fn coast_word(kind: u8) -> Option<&'static str>
         WRONG_WAY => Some("runs the wrong way"),
         LARGE => Some("piece of"),
         VANISHED => Some("vanished"),
+        CUT => Some("was cut from"),
         _ => None,
     }
 }

@@ -6,7 +6,7 @@ use Rattle.osm_lattice.specs.MeetingLaws.{CrossingSegmentsMeet}
 use Rattle.osm_notation.specs.Coordinates.{xy_text}
 use Rattle.osm_text.specs.Report.{IsMeetingText}
 use Rattle.osm_text.specs.Coast.{CoastLineExists}
-use Rattle.osm_text.specs.declared.coast.CoastLine.TheVariants.{Missing, Short, Antarctica, Gap, Unclosed, LeftOut, Conflict, Repeated, WrongWay, Large, Vanished}
+use Rattle.osm_text.specs.declared.coast.CoastLine.TheVariants.{Missing, Short, Antarctica, Gap, Unclosed, Cut, LeftOut, Conflict, Repeated, WrongWay, Large, Vanished}
 
 pub coast_line_there : CrossingSegmentsMeet → CoastLineExists
 coast_line_there meet (Missing way node) h = (_, (_, refl, refl))
@@ -14,6 +14,7 @@ coast_line_there meet (Short way) h = (_, (_, refl, refl))
 coast_line_there meet (Antarctica chain) h = (_, (_, refl, refl))
 coast_line_there meet (Gap end_at start_at) h = (_, (_, refl, refl))
 coast_line_there meet (Unclosed chain start_at end_at) h = (_, (_, refl, refl))
+coast_line_there meet (Cut ring from to) h = (_, (_, refl, refl))
 coast_line_there meet (LeftOut ring) h = (_, (_, refl, refl))
 coast_line_there meet (Conflict Crossing s t) h =
     let point = meet s t h in

@@ -48,6 +48,7 @@ module _ (one_point : CrossingHasOnePoint) where
   coast_text_one (line.Antarctica chain) k a b s t = s ∙ sym t
   coast_text_one (line.Gap end_at start_at) k a b s t = s ∙ sym t
   coast_text_one (line.Unclosed chain start_at end_at) k a b s t = s ∙ sym t
+  coast_text_one (line.Cut ring from to) k a b s t = s ∙ sym t
   coast_text_one (line.LeftOut ring) k a b s t = s ∙ sym t
   coast_text_one (line.Conflict Crossing x y) k a b s t =
       s.2 ∙ ap (λ (l : List ℕ). codes "crossing " ++ l ++ pair_text x y) (meeting_one x y k s.0 t.0 s.1 t.1) ∙ sym t.2

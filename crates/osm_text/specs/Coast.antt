@@ -8,7 +8,7 @@ use Rattle.osm_tables.specs.Tables.{code_of, coast_kinds}
 use Rattle.osm_notation.specs.Coordinates.{point_text}
 use Rattle.osm_text.specs.Report.{segment_text, pair_text, shared_text, IsMeetingText}
 use Rattle.osm_text.specs.declared.coast.CoastLine.{CoastLine}
-use Rattle.osm_text.specs.declared.coast.CoastLine.TheVariants.{Missing, Short, Antarctica, Gap, Unclosed, LeftOut, Conflict, Repeated, WrongWay, Large, Vanished}
+use Rattle.osm_text.specs.declared.coast.CoastLine.TheVariants.{Missing, Short, Antarctica, Gap, Unclosed, Cut, LeftOut, Conflict, Repeated, WrongWay, Large, Vanished}
 
 -- the key of a line's kind in the table
 abbrev pub key_of : CoastLine → ℕ
@@ -17,6 +17,7 @@ key_of (Short way) = 2
 key_of (Antarctica chain) = 3
 key_of (Gap end_at start_at) = 4
 key_of (Unclosed chain start_at end_at) = 5
+key_of (Cut ring from to) = 13
 key_of (LeftOut ring) = 6
 key_of (Conflict Crossing s t) = 7
 key_of (Conflict Overlap s t) = 8
@@ -46,6 +47,10 @@ ring_text ring = codes "ring of way " ++ signed_decimal ring ++ codes " "
 abbrev pub ends_text : Loc → Loc → List ℕ
 ends_text from to = point_text from ++ codes " to " ++ point_text to
 
+-- the locations of a ring between these two
+abbrev pub cut_text : ℤ → Loc → Loc → List ℕ
+cut_text ring from to = ring_text ring ++ (codes "was cut from " ++ ends_text from to)
+
 -- the ring whose least node is rounded to this point
 abbrev pub vanished_text : Loc → List ℕ
 vanished_text at = codes "ring at " ++ point_text at ++ codes " vanished"
@@ -57,6 +62,7 @@ HasItsKind (Short way) = Unit {0}
 HasItsKind (Antarctica chain) = Unit {0}
 HasItsKind (Gap end_at start_at) = Unit {0}
 HasItsKind (Unclosed chain start_at end_at) = Unit {0}
+HasItsKind (Cut ring from to) = Unit {0}
 HasItsKind (LeftOut ring) = Unit {0}
 HasItsKind (Conflict kind s t) = conflict_of s t ≡ Some kind
 HasItsKind (Repeated seg times) = Unit {0}
@@ -71,6 +77,7 @@ IsCoastText (Short way) text = text ≡ way_text way ++ codes "short"
 IsCoastText (Antarctica chain) text = text ≡ codes "antarctica closed on way " ++ signed_decimal chain
 IsCoastText (Gap end_at start_at) text = text ≡ codes "gap closed from " ++ ends_text end_at start_at
 IsCoastText (Unclosed chain start_at end_at) text = text ≡ chain_text chain ++ (codes "is not closed, from " ++ ends_text start_at end_at)
+IsCoastText (Cut ring from to) text = text ≡ cut_text ring from to
 IsCoastText (LeftOut ring) text = text ≡ ring_text ring ++ codes "is left out"
 IsCoastText (Conflict Crossing s t) text =
     (point : List ℕ) × IsMeetingText s t point × (text ≡ codes "crossing " ++ point ++ pair_text s t)

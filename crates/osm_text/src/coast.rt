@@ -31,6 +31,12 @@ pub enum CoastLine {
         start_at: Loc,
         end_at: Loc,
     },
+    /// A run of locations was cut out of a ring, those between these two: a warning.
+    Cut {
+        ring: i64,
+        from: Loc,
+        to: Loc,
+    },
     /// A ring is left out, since one of its segments conflicts with one of some ring: an error.
     LeftOut {
         ring: i64,

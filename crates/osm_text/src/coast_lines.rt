@@ -3,14 +3,14 @@
 ghost use Rattle.std.specs.Prelude.{◌≡◌, ◌++◌, ℕ, List, [], unwrap_or, IfOk, OnOk, codes, decimal};
 ghost use Rattle.std.specs.Fmt.{signed_decimal};
 ghost use Rattle.osm_tables.specs.Words.{coast_word_of};
-ghost use Rattle.osm_text.specs.Coast.{key_of, is_error, severity_text, way_text, chain_text, ring_text, ends_text, vanished_text, HasItsKind, IsCoastText, IsCoastLine};
+ghost use Rattle.osm_text.specs.Coast.{key_of, is_error, severity_text, way_text, chain_text, ring_text, cut_text, ends_text, vanished_text, HasItsKind, IsCoastText, IsCoastLine};
 
 use crate::coast::CoastLine;
 use crate::phrases::{put_crossing, put_overlap, put_repeated, put_with_id};
 use osm_geom::{Kind, Loc};
 use osm_notation::{put_number, put_point};
 use osm_tables::coast::{
-    ANTARCTICA, CROSSING, ERROR, GAP, LARGE, LEFT_OUT, MISSING_NODE, OVERLAP, REPEATED, SHORT,
+    ANTARCTICA, CROSSING, CUT, ERROR, GAP, LARGE, LEFT_OUT, MISSING_NODE, OVERLAP, REPEATED, SHORT,
     UNCLOSED, VANISHED, WRONG_WAY, coast_code, coast_word,
 };
 use std::alloc::{AllocError as OutOfMemory, Global};
@@ -32,6 +32,7 @@ fn key(line: &CoastLine) -> u8
         CoastLine::Antarctica { .. } => ANTARCTICA,
         CoastLine::Gap { .. } => GAP,
         CoastLine::Unclosed { .. } => UNCLOSED,
+        CoastLine::Cut { .. } => CUT,
         CoastLine::LeftOut { .. } => LEFT_OUT,
         CoastLine::Conflict { kind, .. } => match kind {
             Kind::Crossing => CROSSING,
@@ -145,6 +146,14 @@ fn put_unclosed(
     put_with_ends(text, word(UNCLOSED), start_at, end_at)
 }
 
+/// Adds that a run of locations was cut out of a ring.
+fn put_cut(text: &mut Vec<u8>, ring: i64, from: Loc, to: Loc) -> Result<(), OutOfMemory>
+    ensures { OnOk result (text.new.items ≡ text.old.items ++ cut_text ring from to) }
+{
+    put_ring(text, ring)?;
+    put_with_ends(text, word(CUT), from, to)
+}
+
 /// Adds that a ring is left out.
 fn put_left_out(text: &mut Vec<u8>, ring: i64) -> Result<(), OutOfMemory>
     ensures { OnOk result (text.new.items ≡ text.old.items
@@ -204,6 +213,7 @@ fn put_text(text: &mut Vec<u8>, line: &CoastLine) -> Result<(), OutOfMemory>
             start_at,
             end_at,
         } => put_unclosed(text, chain, start_at, end_at),
+        CoastLine::Cut { ring, from, to } => put_cut(text, ring, from, to),
         CoastLine::LeftOut { ring } => put_left_out(text, ring),
         CoastLine::Conflict {
             kind,

@@ -7,7 +7,7 @@ use Rattle.clap.specs.Walk.{has_row}
 use Rattle.clap.proofs.OnLiterals.{clap_on_literals}
 use Rattle.osm_words.specs.CoastlineCommand.{coastline_app}
 use Rattle.osm_words.specs.PlainWords.{Form, begins_with_dash, letter, long}
-use Rattle.osm_words.specs.PlainCoastline.{CoastlineOption, HasPlainValue, polygons_text, close_distance, max_points, bbox_overlap, polygons, output, overwrite, name_of, option_words}
+use Rattle.osm_words.specs.PlainCoastline.{CoastlineOption, HasPlainValue, polygons_text, close_distance, max_points, bbox_overlap, polygons, output, overwrite, cut_crossings, name_of, option_words}
 use Rattle.osm_words.specs.declared.settings.OutputPolygons.{OutputPolygons}
 use Rattle.osm_words.specs.declared.settings.OutputPolygons.TheVariants.{Land, Water, Both, Neither}
 use Rattle.osm_words.proofs.Taken.{EndsWell}
@@ -25,6 +25,7 @@ value_text (bbox_overlap written units) = written
 value_text (polygons p) = polygons_text p
 value_text (output name) = name
 value_text overwrite = codes "true"
+value_text cut_crossings = codes "true"
 
 polygons_plain : (p : OutputPolygons) → begins_with_dash (polygons_text p) ≡ false
 polygons_plain Land = refl
@@ -62,6 +63,8 @@ moves letter (output name) rows pending used ready new plain = option_moves top 
 moves long (output name) rows pending used ready new plain = option_moves top (codes "--output") (codes "output") name rows pending used ready new (takes_value top (codes "output") output_option name plain) refl refl
 moves letter overwrite rows pending used ready new plain = flag_moves top (codes "-f") (codes "overwrite") by_letter rows pending used ready new refl refl refl
 moves long overwrite rows pending used ready new plain = flag_moves top (codes "--overwrite") (codes "overwrite") by_long rows pending used ready new refl refl refl
+moves letter cut_crossings rows pending used ready new plain = flag_moves top (codes "--cut-crossings") (codes "cut-crossings") by_long rows pending used ready new refl refl refl
+moves long cut_crossings rows pending used ready new plain = flag_moves top (codes "--cut-crossings") (codes "cut-crossings") by_long rows pending used ready new refl refl refl
 
 abbrev pub coastline_options : Options top
 coastline_options = record {
@@ -82,6 +85,7 @@ not_file (bbox_overlap written units) = refl
 not_file (polygons p) = refl
 not_file (output name) = refl
 not_file overwrite = refl
+not_file cut_crossings = refl
 
 file_name : IsPositional top 1 (codes "file")
 file_name = record {
@@ -97,6 +101,6 @@ coastline_file = named top 1 (codes "file") file_name coastline_options not_file
 pub coastline_ends_well : EndsWell top [] (codes "file")
 coastline_ends_well = record {
   ready = coastline_file.ready;
-  defaults = (refl, (refl, (refl, (refl, (refl, (refl, (refl, tt)))))));
+  defaults = (refl, (refl, (refl, (refl, (refl, (refl, (refl, (refl, tt))))))));
   checks = λ rows before given. ap (λ (is : Bool). check_kinds false false (not is || false)) given;
 }

@@ -47,6 +47,7 @@ coastline_seen s = record {
   max_points = s.max_points;
   bbox_overlap = s.bbox_overlap;
   polygons = s.polygons;
+  cut_crossings = s.cut_crossings;
 }
 
 abbrev pub sample_seen : CodeSample → ℕ

@@ -16,6 +16,10 @@ long_option_rule name = record (new_rule name) { long = Some name; action = Some
 abbrev pub flag_rule : Text → ℕ → Text → Rule
 flag_rule name letter long = record (new_rule name) { short = Some letter; long = Some long; action = Some SetTrue }
 
+-- an option without a value and without a letter, which is written by its name
+abbrev pub long_flag_rule : Text → Rule
+long_flag_rule name = record (new_rule name) { long = Some name; action = Some SetTrue }
+
 -- a word that is no option, which has to be there; the first that `clap` is told of takes the first such word
 abbrev pub positional_rule : Text → Rule
 positional_rule name = record (new_rule name) { required = true; action = Some Set }

@@ -71,6 +71,7 @@ settings_with close_distance max_points bbox_overlap polygons rows = record {
   max_points = max_points;
   bbox_overlap = bbox_overlap;
   polygons = polygons;
+  cut_crossings = is_set (codes "cut-crossings") rows;
 }
 
 -- The first value out of its range refuses the words: `c`, `m`, `b`, `p` in this order, of the codes 99, 109, 98, 112.

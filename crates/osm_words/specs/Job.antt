@@ -36,6 +36,8 @@ pub record CoastlineSettings : Type 0 where
   -- in units of 1e-7 degree: how far each half reaches beyond a cut
   pub bbox_overlap : ℕ
   pub polygons : OutputPolygons
+  -- rings are cut short where they cross themselves, and long rings are kept before the short ones that cross them
+  pub cut_crossings : Bool
 
 -- of `coast-filter`
 pub record FilterSettings : Type 0 where

@@ -2,7 +2,7 @@
 
 ghost use Rattle.std.specs.Prelude.{◌≡◌, All, IfOk, false, map};
 ghost use Rattle.clap.specs.Words.{app_of, rule_of};
-ghost use Rattle.osm_words.specs.Arguments.{app_of_all, flag_rule, long_option_rule, option_rule, positional_rule};
+ghost use Rattle.osm_words.specs.Arguments.{app_of_all, flag_rule, long_flag_rule, long_option_rule, option_rule, positional_rule};
 
 use clap::{Arg, ArgAction, Command};
 use std::alloc::{AllocError as OutOfMemory, Global};
@@ -35,6 +35,14 @@ pub(crate) fn flag<'a>(alloc: Global, name: &'a str, letter: char, long: &'a str
         .short(letter)
         .long(long)
         .action(ArgAction::SetTrue)
+}
+
+/// An option without a value and without a short form, which is written by its name.
+pub(crate) fn long_flag<'a>(alloc: Global, name: &'a str) -> Arg<'a>
+    ensures rule { rule_of result ≡ long_flag_rule name.now }
+    ensures local { result.global ≡ false }
+{
+    Arg::new(alloc, name).long(name).action(ArgAction::SetTrue)
 }
 
 /// A word that is no option and has to be there. Such words come in the order in which `clap` is told of them.

@@ -4,7 +4,7 @@ ghost use Rattle.std.specs.Prelude.{◌≡◌, All, IfOk, false, map, string_byt
 ghost use Rattle.clap.specs.Words.{FailsBy, app_of, fault_of, found_of, matches_of, rows_of, rule_of};
 ghost use Rattle.osm_words.specs.CoastlineCommand.{coastline_app, coastline_rules};
 
-use crate::arguments::{command_with, flag, long_option, option, positional};
+use crate::arguments::{command_with, flag, long_flag, long_option, option, positional};
 use clap::{Arg, ArgMatches, Command, Error};
 use std::alloc::{AllocError as OutOfMemory, Global};
 
@@ -20,6 +20,7 @@ fn coastline_arguments<'a>(alloc: Global) -> Result<Vec<Arg<'a>>, OutOfMemory>
         option(alloc, "polygons", 'p', "output-polygons"),
         long_option(alloc, "output"),
         flag(alloc, "overwrite", 'f', "overwrite"),
+        long_flag(alloc, "cut-crossings"),
         positional(alloc, "file"),
     ]?;
     Ok(arguments)

@@ -112,6 +112,7 @@ fn settings_said<'a>(matches: &ArgMatches<'a>) -> Result<CoastlineSettings<'a>, 
         max_points,
         bbox_overlap,
         polygons,
+        cut_crossings: is_set(matches, "cut-crossings"),
     })
 }
 

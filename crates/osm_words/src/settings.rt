@@ -69,6 +69,8 @@ pub struct CoastlineSettings<'a> {
     /// In units of 1e-7 degree, up to 10 degrees: how far each half of a piece reaches beyond the line of a cut.
     pub bbox_overlap: u32,
     pub polygons: OutputPolygons,
+    /// Whether rings are cut short where they cross themselves, and long rings are kept before the short ones that cross them.
+    pub cut_crossings: bool,
     pub ghost max_points_in: { max_points ≤ 1_000_000 },
     pub ghost bbox_overlap_in: { bbox_overlap ≤ 100_000_000 },
 }

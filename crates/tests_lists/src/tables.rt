@@ -47,15 +47,16 @@ fn words_of_coast_lines(rt: HostRuntime) {
         (1, Some("missing node")),
         (5, Some("is not closed, from")),
         (12, Some("vanished")),
-        (13, None),
+        (13, Some("was cut from")),
+        (14, None),
     ];
     for (kind, word) in rows {
         assert_eq!(rt; coast_word(kind), word, "{kind}");
     }
-    for kind in 0..14 {
+    for kind in 0..15 {
         let code = match kind {
             1 | 5 | 6 | 7 | 8 => Some(ERROR),
-            2 | 3 | 4 | 9 | 10 | 11 | 12 => Some(WARNING),
+            2 | 3 | 4 | 9 | 10 | 11 | 12 | 13 => Some(WARNING),
             _ => None,
         };
         assert_eq!(rt; coast_code(kind), code, "{kind}");

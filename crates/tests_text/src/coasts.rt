@@ -77,6 +77,18 @@ fn lines_of_ways_and_chains(rt: HostRuntime) -> Result<(), Fail> {
 #[test]
 fn lines_of_rings_and_segments(rt: HostRuntime) -> Result<(), Fail> {
     let alloc = rt.alloc();
+    let cut = CoastLine::Cut {
+        ring: -9,
+        from: location(90, 90).expect(&rt, "a location"),
+        to: location(0, 95).expect(&rt, "a location"),
+    };
+    assert!(rt;
+        prints(
+            alloc,
+            &cut,
+            "warning ring of way -9 was cut from 9 9 to 0 9.5\n"
+        )?
+    );
     let left_out = CoastLine::LeftOut { ring: 7 };
     assert!(rt; prints(alloc, &left_out, "error ring of way 7 is left out\n")?);
     let wrong_way = CoastLine::WrongWay { ring: 8 };

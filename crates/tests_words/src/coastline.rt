@@ -18,6 +18,7 @@ const PLAIN: CoastlineSettings<'static> = CoastlineSettings {
     max_points: 1_000,
     bbox_overlap: 1_000,
     polygons: OutputPolygons::Land,
+    cut_crossings: false,
 };
 
 const ALL: CoastlineSettings<'static> = CoastlineSettings {
@@ -28,6 +29,18 @@ const ALL: CoastlineSettings<'static> = CoastlineSettings {
     max_points: 2_000,
     bbox_overlap: 5_000,
     polygons: OutputPolygons::Both,
+    cut_crossings: true,
+};
+
+const CUT: CoastlineSettings<'static> = CoastlineSettings {
+    file: "-",
+    output: "-",
+    overwrite: false,
+    close_distance: DEGREE,
+    max_points: 1_000,
+    bbox_overlap: 1_000,
+    polygons: OutputPolygons::Land,
+    cut_crossings: true,
 };
 
 /// The settings of plain words but for these.
@@ -48,6 +61,7 @@ fn plain_but(
         max_points,
         bbox_overlap,
         polygons,
+        cut_crossings: false,
     }
 }
 
@@ -61,6 +75,7 @@ fn plain_to(output: &'static str, overwrite: bool) -> CoastlineSettings<'static>
         max_points: 1_000,
         bbox_overlap: 1_000,
         polygons: OutputPolygons::Land,
+        cut_crossings: false,
     }
 }
 
@@ -134,6 +149,7 @@ fn each_option_by_itself(rt: HostRuntime) -> Result<(), Fail> {
         ("--output=out", output),
         ("-f", overwrite),
         ("--overwrite", overwrite),
+        ("--cut-crossings", CUT),
     ];
     for (options, settings) in rows {
         assert!(rt; takes_options(rt.alloc(), options, settings)?, "{options}");
@@ -146,19 +162,19 @@ fn options_in_any_order(rt: HostRuntime) -> Result<(), Fail> {
     let rows = [
         ("coastline -", PLAIN),
         (
-            "coastline -c .5 -m 2000 -b 0.0005 -p both --output out -f in.opl",
+            "coastline -c .5 -m 2000 -b 0.0005 -p both --output out -f --cut-crossings in.opl",
             ALL,
         ),
         (
-            "coastline in.opl -b=.0005 -f --output=out -pboth -m2000 -c=0.50",
+            "coastline in.opl -b=.0005 -f --output=out --cut-crossings -pboth -m2000 -c=0.50",
             ALL,
         ),
         (
-            "coastline --max-points 2000 --overwrite --output-polygons=both in.opl --output out --close-distance 000.5 --bbox-overlap=0.0005",
+            "coastline --max-points 2000 --overwrite --cut-crossings --output-polygons=both in.opl --output out --close-distance 000.5 --bbox-overlap=0.0005",
             ALL,
         ),
         (
-            "coastline -fpboth -b.0005 --output out -m=2000 -c.5 in.opl",
+            "coastline --cut-crossings -fpboth -b.0005 --output out -m=2000 -c.5 in.opl",
             ALL,
         ),
     ];
@@ -246,9 +262,11 @@ unknown: coastline -c -1 -
 twice: coastline -c 1 -c 1 -
 twice: coastline -c 361 -f -f -
 twice: coastline -m 3 -m 3 -
+twice: coastline --cut-crossings - --cut-crossings
 unknown: coastline -m -4 -
 no value: coastline - -b
 unknown: coastline --max 4 -
+unknown: coastline --cut -
 unknown: coastline -o out -
 unknown: coastline -O -
 unknown: coastline -e -
@@ -257,7 +275,8 @@ unknown: coastline --help -
 unknown: coastline --polygons land -
 unknown: coastline - -
 no value: coastline - -p
-too many: coastline --overwrite=yes -";
+too many: coastline --overwrite=yes -
+too many: coastline --cut-crossings=yes -";
 
 #[test]
 fn refused_words(rt: HostRuntime) -> Result<(), OutOfMemory> {

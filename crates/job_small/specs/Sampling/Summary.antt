@@ -60,6 +60,7 @@ coast_settings = record {
   max_points = 100;
   bbox_overlap = 1_000;
   polygons = Both;
+  cut_crossings = false;
 }
 
 abbrev pub summary_of : List Assembled → CoastCounts → Summary

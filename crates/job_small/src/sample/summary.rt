@@ -47,6 +47,7 @@ fn coast_settings() -> CoastlineSettings<'static>
         max_points: 100,
         bbox_overlap: 1_000,
         polygons: OutputPolygons::Both,
+        cut_crossings: false,
     }
 }
 

@@ -21,9 +21,9 @@ use Rattle.coast_join.specs.RingLaws.{ClosingsAreOne, JoinedIsOne}
 use Rattle.coast_split.specs.HalfLaws.{LeavesAreSided, TreeIsOne}
 use Rattle.coast_split.specs.declared.leaves.Leaf.{Leaf}
 use Rattle.coast_sides.specs.declared.sorted.Sorted.{Sorted}
+use Rattle.coast_sides.specs.CutSorting.{IsSortedWith}
 use Rattle.coast_sides.specs.OnenessLaws.{LandIsOne, SortedIsOne, WaterIsOne}
 use Rattle.coast_sides.specs.RingLand.{IsLandOf}
-use Rattle.coast_sides.specs.Sorting.{IsSorted}
 use Rattle.job_coastline.specs.Coast.{Coast, IsCoast}
 use Rattle.job_coastline.specs.Coastline.{Areas, AreWritten, AreWrittenOrTooMany, IsCoastline, all_lines, all_sent}
 use Rattle.job_coastline.specs.Counts.{AreCoastCounts, coast_counts_of}
@@ -77,7 +77,9 @@ module _ (chains_one : ChainsAreOne) (closings_one : ClosingsAreOne) (joined_one
       joined = joined_one c.chains settings.close_distance c.closings s.closings c.joined d.joined s.joined joined_here
 
       sorted : c.sorted ≡ d.sorted
-      sorted = sorted_one c.joined.rings c.sorted d.sorted s.sorted (subst (λ (x : Joined). IsSorted x.rings d.sorted) (sym joined) t.sorted)
+      sorted =
+          sorted_one settings.cut_crossings c.joined.rings c.sorted d.sorted s.sorted
+          (subst (λ (x : Joined). IsSortedWith settings.cut_crossings x.rings d.sorted) (sym joined) t.sorted)
 
       land : c.land ≡ d.land
       land = land_one c.sorted.kept c.land d.land s.land (subst (λ (x : Sorted). IsLandOf x.kept d.land) (sym sorted) t.land)

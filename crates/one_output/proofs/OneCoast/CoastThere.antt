@@ -41,8 +41,8 @@ coast_there some_ways some_chains some_closings some_joined some_sorted some_lan
     let chains = some_chains ways.0 ways.2 in
     let closings = some_closings ways.0 chains.0 chains.1 settings.close_distance in
     let joined = some_joined ways.0 chains.0 chains.1 settings.close_distance closings.0 closings.1 in
-    let sorted = some_sorted joined.0.rings in
-    let land = some_land sorted.0.kept sorted.2 in (
+    let sorted = some_sorted settings.cut_crossings joined.0.rings in
+    let land = some_land sorted.0.kept (sorted.2 (λ cut. joined.1.rings_rise)) in (
       record {
         asides = flat_map (asides_of objects) (coast_ways objects);
         chains = chains.0;
