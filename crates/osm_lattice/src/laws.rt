@@ -1,5 +1,5 @@
 //! Laws of the orders of locations and segments, of conflicts and of meeting points. Each function has an empty body; its contract is the law.
-ghost use Rattle.osm_lattice.specs.ConflictLaws.{ConflictIsSymmetric, SegmentsApartAreClear, SegmentsPartedAreClear};
+ghost use Rattle.osm_lattice.specs.ConflictLaws.{ConflictIsSymmetric};
 ghost use Rattle.osm_lattice.specs.ConflictPoints.{CrossingHasOnePoint, OverlapHasManyPoints, ClearSegmentsMeetAtEnds};
 ghost use Rattle.osm_lattice.specs.MeetingLaws.{CrossingSegmentsMeet};
 ghost use Rattle.osm_lattice.specs.OrderLaws.{LocationOrderIsPointOrder, LocationOrderTellsApart, SegmentOrderTellsApart};
@@ -15,12 +15,6 @@ pub fn orders_are_exact()
 /// How two segments conflict does not depend on which is named first.
 pub fn conflicts_are_symmetric()
     ensures { ConflictIsSymmetric }
-{}
-
-/// Segments of which one begins above the other don't conflict, nor do those that any line parts.
-pub fn segments_apart_are_clear()
-    ensures heights { SegmentsApartAreClear }
-    ensures lines { SegmentsPartedAreClear }
 {}
 
 /// Two segments that cross have a point in common: the one that `meeting` gives is a value, whether it is called or not.
