@@ -1,9 +1,9 @@
 //! Chunks one after the other.
 ghost use Rattle.std.specs.Prelude.{◌≡◌, ◌<◌, ◌≤◌, ◌+◌, ◌-◌, ◌^◌, insert, remove, length, set, slice_index_or, take, OnErr, OnOk};
 ghost use Rattle.std.specs.List.{flat_map};
-ghost use Rattle.chunked_list.specs.Marked.{IsMark};
+ghost use Rattle.chunked_list.specs.Marked.{EndIn, IsMark};
 
-use crate::marks::{Mark, locate};
+use crate::marks::Mark;
 use std::alloc::{AllocError as OutOfMemory, Global};
 
 /// A chunk of fewer items isn't parted.
@@ -22,7 +22,7 @@ pub(crate) fn item<T: Copy>(chunks: &[Vec<T>], near: Mark, place: usize) -> T
     requires inside { place < length (flat_map (λ c. c.items) chunks.now) }
     ensures { (d : T) → result ≡ slice_index_or (flat_map (λ c. c.items) chunks.now) place d }
 {
-    let mark = locate(chunks, near, place + 1);
+    let mark = near.locate(chunks, place + 1);
     chunks[mark.chunk][place - mark.before]
 }
 
@@ -33,11 +33,7 @@ fn put<T: Copy>(
     place: usize,
     item: T,
 ) -> Result<(), OutOfMemory>
-    requires inside { mark.chunk < length chunks.old.items }
-    requires mark { IsMark (λ c. c.items) chunks.old.items mark.chunk mark.before }
-    requires below { mark.before ≤ place }
-    requires reach { (d : _) → place - mark.before
-        ≤ length (slice_index_or chunks.old.items mark.chunk d).items }
+    requires { EndIn (λ c. c.items) chunks.old.items mark.chunk mark.before place }
     ensures mark { IsMark (λ c. c.items) chunks.new.items mark.chunk mark.before }
     ensures done { OnOk result (flat_map (λ c. c.items) chunks.new.items
         ≡ insert (flat_map (λ c. c.items) chunks.old.items) place item) }
@@ -60,7 +56,7 @@ pub(crate) fn put_over<T: Copy>(chunks: &mut Vec<Vec<T>>, mark: &mut Mark, place
     ensures items { flat_map (λ c. c.items) chunks.new.items
         ≡ set (flat_map (λ c. c.items) chunks.old.items) place item }
 {
-    *mark = locate(chunks, *mark, place + 1);
+    *mark = mark.locate(chunks, place + 1);
     chunks[mark.chunk][place - mark.before] = item;
 }
 
@@ -75,7 +71,7 @@ pub(crate) fn take_out<T: Copy>(chunks: &mut Vec<Vec<T>>, mark: &mut Mark, place
     ensures others { flat_map (λ c. c.items) chunks.new.items
         ≡ remove (flat_map (λ c. c.items) chunks.old.items) place }
 {
-    *mark = locate(chunks, *mark, place + 1);
+    *mark = mark.locate(chunks, place + 1);
     let item = chunks[mark.chunk].remove(place - mark.before);
     drop_if_empty(chunks, mark.chunk);
     item
@@ -128,10 +124,10 @@ pub(crate) fn put_in<T: Copy>(
     if chunks.is_empty() {
         chunks.push(Vec::new(alloc))?;
     }
-    *mark = locate(chunks, *mark, place);
+    *mark = mark.locate(chunks, place);
     if chunks[mark.chunk].len() >= longest(chunks.len()) {
         part(alloc, chunks, mark.chunk)?;
-        *mark = locate(chunks, *mark, place);
+        *mark = mark.locate(chunks, place);
     }
     put(chunks, *mark, place, item)
 }

@@ -7,7 +7,7 @@ ghost use Rattle.std.specs.Fn.{FnReturnsAt};
 ghost use Rattle.chunked_list.specs.Marked.{IsMark};
 
 use crate::chunks::{item, put_in, put_over, take_out};
-use crate::marks::{Mark, first};
+use crate::marks::Mark;
 use crate::searching::{Search, passes};
 use std::alloc::{AllocError as OutOfMemory, Global};
 use std::marker::Model;
@@ -41,7 +41,7 @@ impl<T: Copy> ChunkedList<T> {
         ChunkedList {
             alloc,
             chunks: Vec::new(alloc),
-            mark: first(),
+            mark: Mark::first(),
             len: 0,
             changed: 0,
         }

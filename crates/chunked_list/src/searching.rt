@@ -7,7 +7,7 @@ ghost use Rattle.chunked_list.specs.Marked.{IsMark};
 ghost use Rattle.chunked_list.specs.Parted.{IsParted};
 
 use crate::chunks::item;
-use crate::marks::{Mark, first, locate, mark_of};
+use crate::marks::Mark;
 use std::marker::Model;
 
 /// How many steps from a place are tried before all items are searched.
@@ -44,7 +44,7 @@ impl<'a, T: Copy> Search<'a, T> {
         Search {
             chunks,
             len,
-            mark: locate(chunks, mark, count),
+            mark: mark.locate(chunks, count),
         }
     }
 
@@ -236,9 +236,9 @@ fn end_of_passing<T, F: Fn(&T) -> bool>(chunks: &[Vec<T>], near: Mark, test: &F)
 {
     let begun = chunks_begun(chunks, test);
     if begun == 0 {
-        return first();
+        return Mark::first();
     }
-    mark_of(chunks, near, begun - 1)
+    near.to_chunk(chunks, begun - 1)
 }
 
 /// How many chunks begin with an item that passes, if these stand first.

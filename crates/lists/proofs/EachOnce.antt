@@ -1,15 +1,23 @@
 -- One more item of a list without repetition.
-use Rattle.std.proofs.Common.{◌≡◌, ◌∙◌, ℕ, ◌+◌, ◌<◌, Bool, true, false, cond, not, ◌||◌, ◌&&◌, nat_le, List, [], ◌∷◌, ◌++◌, length, get_or, take, filter, count_by, refl, sym, ap, arith, if◌then◌else◌}
+use Rattle.std.proofs.Common.{◌≡◌, ◌∙◌, ℕ, ◌+◌, ◌<◌, Bool, true, false, cond, not, ◌||◌, nat_le, List, [], ◌∷◌, ◌++◌, length, get_or, take, filter, count_by, refl, sym, ap, arith, if◌then◌else◌}
 use Rattle.std.specs.Cmp.{IsEquivalence}
 use Rattle.std.specs.List.{list_any}
-use Rattle.std.proofs.lemmas.List.Sums.{sum_by_push, sum_by-cons}
+use Rattle.std.proofs.lemmas.List.Sums.{sum_by-cons}
 use Rattle.std.proofs.lemmas.List.Elements.{filter-append}
+use Rattle.std.proofs.lemmas.List.Folds.{list_any-append}
+use Rattle.std.proofs.lemmas.Map.Steps.{list_any_congr}
 use Rattle.lists.specs.Once.{each_once}
 use Rattle.lists.proofs.Items.{taken_more}
 
 -- an item at the end of a list, where none is equal to it
 abbrev with_item : {X : Type 0} → (X → X → Bool) → List X → X → List X
 with_item eq ks x = if list_any (eq x) ks then ks else ks ++ x ∷ []
+
+pub with_item-new : {X : Type 0} (eq : X → X → Bool) (ks : List X) (x : X) → list_any (eq x) ks ≡ false → with_item eq ks x ≡ ks ++ x ∷ []
+with_item-new eq ks x new = rw new refl
+
+pub with_item-seen : {X : Type 0} (eq : X → X → Bool) (ks : List X) (x : X) → list_any (eq x) ks ≡ true → with_item eq ks x ≡ ks
+with_item-seen eq ks x old = rw old refl
 
 -- at least one more than n
 more-than : (n : ℕ) → nat_le 1 (1 + n) ≡ true
@@ -77,33 +85,20 @@ module _ {X : Type 0} {eq : X → X → Bool} (equal : IsEquivalence eq) where
       let taken = taken_more xs i x h is in
       e ∙ (ap (λ zs. with_item eq zs x) inv ∙ (sym (each_once-push (take i xs) x) ∙ ap (each_once eq) (sym taken)))
 
-  -- ---- the items that stand at least twice
+  -- ---- one more item is seen: q is it, or was seen before
 
-  count_same : (x y : X) (xs : List X) → eq x y ≡ true → count_by (eq x) xs ≡ count_by (eq y) xs
-  count_same x y [] same = refl
-  count_same x y (z ∷ zs) same = rw (sum_by-cons (λ w. cond (eq x w) 1 0) z zs, sum_by-cons (λ w. cond (eq y w) 1 0) z zs, equal.congr x y z same, count_same x y zs same) refl
-
-  -- one more of an item that stands there is the second of it
-  more-of : (old : Bool) (n : ℕ) (b seen : Bool) → old ≡ nat_le 2 n → (b ≡ true → seen ≡ nat_le 1 n) → cond (b && seen) true old ≡ nat_le 2 (n + cond b 1 0)
-  more-of old n false seen is one = grind arith
-  more-of old n true true is one = let some = one refl in grind arith
-  more-of old n true false is one = let some = one refl in grind arith
-
-  again_push : (xs : List X) (x : X) (old : X → Bool) → ((q : X) → old q ≡ nat_le 2 (count_by (eq q) xs)) → (q : X) → cond (eq q x && list_any (eq x) (each_once eq xs)) true (old q) ≡ nat_le 2 (count_by (eq q) (xs ++ x ∷ []))
-  again_push xs x old is q =
-      rw (sum_by_push (λ y. cond (eq q y) 1 0) xs x) (more-of (old q) (count_by (eq q) xs) (eq q x) (list_any (eq x) (each_once eq xs)) (is q) (λ same. any-each_once x xs ∙ (any-counted (eq x) xs ∙ ap (nat_le 1) (sym (count_same q x xs same)))))
-
-  pub again_step : (xs : List X) (i : ℕ) (x : X) (ks : List X) (old new : X → Bool) (b : Bool) → i < length xs → x ≡ get_or xs i x → ks ≡ each_once eq (take i xs) → ((q : X) → old q ≡ nat_le 2 (count_by (eq q) (take i xs)))
-      → list_any (eq x) ks ≡ b → ((q : X) → new q ≡ cond (b && eq x q) true (old q)) → (q : X) → new q ≡ nat_le 2 (count_by (eq q) (take (i + 1) xs))
-  again_step xs i x ks old new b h is once inv there after q =
-      let taken = taken_more xs i x h is in
-      let in_it : b ≡ list_any (eq x) (each_once eq (take i xs)) = sym there ∙ ap (list_any (eq x)) once in
-      let turned : cond (b && eq x q) true (old q) ≡ cond (eq q x && list_any (eq x) (each_once eq (take i xs))) true (old q) =
-      ap (λ d. cond (d && eq x q) true (old q)) in_it ∙ (ap (λ e. cond (list_any (eq x) (each_once eq (take i xs)) && e) true (old q)) (equal.symm x q) ∙ ap (λ d. cond d true (old q)) (and-turned (list_any (eq x) (each_once eq (take i xs))) (eq q x))) in
-      after q ∙ (turned ∙ (again_push (take i xs) x old inv q ∙ ap (λ ys. nat_le 2 (count_by (eq q) ys)) (sym taken)))
+  pub seen_more : (q x : X) (is_it was : Bool) (ks : List X) → is_it ≡ eq x q → was ≡ list_any (eq q) ks → cond is_it true was ≡ list_any (eq q) (ks ++ x ∷ [])
+  seen_more q x is_it was ks it before = rw (it ∙ equal.symm x q, before) (by (eq q x) (list_any (eq q) ks)) ∙ sym (list_any-append (eq q) ks (x ∷ []))
     where
-      and-turned : (d e : Bool) → (d && e) ≡ (e && d)
-      and-turned true true = refl
-      and-turned true false = refl
-      and-turned false true = refl
-      and-turned false false = refl
+      by : (b c : Bool) → cond b true c ≡ (c || (b || false))
+      by true true = refl
+      by true false = refl
+      by false true = refl
+      by false false = refl
+
+  pub seen_again : (q x : X) (is_it was : Bool) (ks : List X) → list_any (eq x) ks ≡ true → is_it ≡ eq x q → was ≡ list_any (eq q) ks → cond is_it true was ≡ list_any (eq q) ks
+  seen_again q x is_it was ks there it before = by is_it it
+    where
+      by : (b : Bool) → b ≡ eq x q → cond b true was ≡ list_any (eq q) ks
+      by true same = sym (list_any_congr equal q x ks (equal.symm q x ∙ sym same) ∙ there)
+      by false differ = before

@@ -14,9 +14,9 @@ pub mod Options
 pub mod Orderings
 pub mod PickedItems
 pub mod Picks
-pub mod Ranges
 pub mod RisingLists
 pub mod Rotations
+mod Searches
 pub mod Splits
 pub mod Sums
 mod TallySteps

@@ -1,7 +1,8 @@
 -- Lists in strict order.
 use Rattle.std.proofs.Common.{All, Equal, Greater, Less, List, [], Ordering, ap, arith, cond, get_or, is_eq, length, length-append, refl, subst, suc, ℕ, ◌++◌, ◌∙◌, ◌∷◌, ◌≡◌, false, ◌+◌, ◌≤◌}
 use Rattle.std.specs.Cmp.{IsTotalOrder}
-use Rattle.std.specs.Ordering.{ordering_reverse}
+use Rattle.std.specs.List.Sorted.{IsSorted}
+use Rattle.std.specs.Ordering.{is_lt, ordering_reverse}
 use Rattle.std.proofs.Math.ListN.{get_or-append}
 use Rattle.std.proofs.Math.Seq.{get_or-append_seam}
 use Rattle.std.proofs.lemmas.List.Elements.{All-cons}
@@ -42,6 +43,10 @@ module _ {X : Type 0} {R : X → X → Ordering} (o : IsTotalOrder R) where
 
   pub less_turned : (x y : X) → R x y ≡ Greater → R y x ≡ Less
   less_turned x y more = o.antisymm y x ∙ ap ordering_reverse more
+
+  -- a list in strict order is in order
+  pub sorted_from_rising : (xs : List X) → IsRising R xs → IsSorted R xs
+  sorted_from_rising xs up k d l m = ap is_lt (o.antisymm (get_or xs (k + 1) d) (get_or xs k d) ∙ ap ordering_reverse (up k (k + 1) d (omega arith) m))
 
   -- a list in strict order is determined by how often each item stands in it
   pub same_rising : ((x y : X) → R x y ≡ Equal → x ≡ y) → (xs ys : List X) → IsRising R xs → IsRising R ys → ((z : X) → count_of R z xs ≡ count_of R z ys) → xs ≡ ys

@@ -50,8 +50,8 @@ pub fn tallies<T: Ord + Copy>(alloc: Global, items: &[T]) -> Result<Vec<Tally<T>
     Ok(tallies)
 }
 
-/// The items of the tallies.
-fn items_of<T: Copy>(alloc: Global, tallies: &[Tally<T>]) -> Result<Vec<T>, OutOfMemory>
+/// The items of tallies.
+pub fn items_of<T: Copy>(alloc: Global, tallies: &[Tally<T>]) -> Result<Vec<T>, OutOfMemory>
     ensures { IfOk result (λ v. v.items ≡ map (λ t. t.item) tallies.now) }
 {
     tallies.iter().map(|t| t.item).collect(alloc)

@@ -33,7 +33,7 @@ pub use laws::{
 pub use osm_lattice::{
     Frac, Ids, Kind, Loc, Locs, Path, Seg, Segs, conflict, conflicts_are_symmetric,
     conflicts_are_told_by_points, meeting, meetings_exist, orders_are_exact, orient, overlap,
-    round, segments_apart_are_clear,
+    round,
 };
 pub use point::{Part, Point};
 pub use point_order::{compare_points, order_points};

@@ -14,7 +14,6 @@ use Rattle.osm_lattice.specs.Seg.{seg_cmp}
 use Rattle.osm_lattice.specs.Loc.{loc_cmp, orientation, vector_of}
 use Rattle.osm_lattice.specs.Meeting.{slant}
 use Rattle.osm_lattice.specs.Conflict.{are_overlapping, are_crossing, conflict_of}
-use Rattle.osm_lattice.specs.ConflictLaws.{reach}
 use Rattle.osm_lattice.proofs.CrossingMeets.{are_alike}
 use Rattle.osm_lattice.proofs.LocationOrder.{loc_total}
 use Rattle.osm_lattice.proofs.Orders.{loc_same}
@@ -22,6 +21,10 @@ use Rattle.osm_lattice.proofs.OverlapPoints.{overlapping_where}
 use Rattle.osm_lattice.proofs.Overlaps.{begin_in_time}
 use Rattle.osm_lattice.proofs.Sizes.{signed}
 use borrow.Author.Differences.{up, down}
+
+-- how far p lies in the direction (u, v)
+abbrev pub reach : ℤ → ℤ → Loc → ℤ
+reach u v p = u *ℤ p.x +ℤ v *ℤ p.y
 
 -- ---- means of two numbers
 -- no mean of b - p and b - p' is one of b + 1 + q and b + 1 + r

@@ -15,11 +15,10 @@ use Rattle.osm_lattice.specs.declared.seg.Seg.{Seg}
 use Rattle.osm_lattice.specs.declared.conflicts.Kind.TheVariants.{Crossing, Overlap}
 use Rattle.osm_lattice.specs.Conflict.{are_overlapping, are_crossing, conflict_of}
 use Rattle.osm_lattice.specs.ConflictTests.{along, beside, meet_at_end, west}
-use Rattle.osm_lattice.specs.ConflictLaws.{reach}
 use Rattle.osm_lattice.specs.Line.{side_of_line}
 use Rattle.osm_lattice.specs.Loc.{vector_of}
 use Rattle.osm_lattice.specs.Seg.{seg_cmp, edge_of}
-use Rattle.osm_lattice.proofs.ApartSegments.{apart_clear, clear_where, parted_clear}
+use Rattle.osm_lattice.proofs.ApartSegments.{apart_clear, clear_where, parted_clear, reach}
 use Rattle.osm_lattice.proofs.ConflictCases.{conflict_of-comm, where_crossing}
 use Rattle.osm_lattice.proofs.Crossings.{sides_differ_back}
 use Rattle.osm_lattice.proofs.LocationOrder.{rising_edge}

@@ -1,5 +1,5 @@
 //! Laws of the orders of locations and segments, of conflicts and of meeting points. Each function has an empty body; its contract is the law.
-ghost use Rattle.osm_lattice.specs.ConflictLaws.{ConflictIsSymmetric, SegmentsApartAreClear, SegmentsPartedAreClear};
+ghost use Rattle.osm_lattice.specs.ConflictLaws.{ConflictIsSymmetric};
 ghost use Rattle.osm_lattice.specs.ConflictPoints.{CrossingHasOnePoint, OverlapHasManyPoints, ClearSegmentsMeetAtEnds};
 ghost use Rattle.osm_lattice.specs.MeetingLaws.{CrossingSegmentsMeet};
 ghost use Rattle.osm_lattice.specs.OrderLaws.{LocationOrderIsPointOrder, LocationOrderTellsApart, SegmentOrderTellsApart};
@@ -16,12 +16,6 @@ pub fn orders_are_exact()
 /// How two segments conflict doesn't depend on which is named first.
 pub fn conflicts_are_symmetric()
     ensures { ConflictIsSymmetric }
-{}
-
-/// Two segments don't conflict if one begins above the other, or if any line separates them.
-pub fn segments_apart_are_clear()
-    ensures heights { SegmentsApartAreClear }
-    ensures lines { SegmentsPartedAreClear }
 {}
 
 /// Two segments that cross have a point in common: what `meeting` gives exists, whether it is called or not.

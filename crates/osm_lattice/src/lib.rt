@@ -16,7 +16,6 @@ pub use conflicts::{Kind, are_apart, conflict, conflict_of_near};
 pub use frac::{Frac, round};
 pub use laws::{
     conflicts_are_symmetric, conflicts_are_told_by_points, meetings_exist, orders_are_exact,
-    segments_apart_are_clear,
 };
 pub use loc::Loc;
 pub use location_lists::{Ids, Locs, Path, Segs};

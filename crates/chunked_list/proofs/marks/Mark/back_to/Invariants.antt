@@ -1,5 +1,5 @@
 use Rattle.chunked_list.specs.Marked.{IsMark}
-use Rattle.chunked_list.proofs.marks.back_to.Given as goal
+use Rattle.chunked_list.proofs.marks.Mark.back_to.Given as goal
 
 abbrev pub invariant-loop-mark : goal.invariant-loop-mark
 invariant-loop-mark g l = IsMark (λ chunk. chunk.items) l.chunks l.mark.chunk l.mark.before

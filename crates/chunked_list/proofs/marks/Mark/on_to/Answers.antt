@@ -2,7 +2,7 @@ use Rattle.std.proofs.Common.{arith, ◌+◌, ◌≤◌, length}
 use Rattle.std.specs.List.{flat_map}
 use Rattle.std.proofs.Math.ListN.{get_or}
 use Rattle.chunked_list.proofs.Joined.{within-all}
-use Rattle.chunked_list.proofs.marks.on_to.Goals as goal
+use Rattle.chunked_list.proofs.marks.Mark.on_to.Goals as goal
 
 pub on-mark-requires-clause-fits : goal.on-mark-requires-clause-fits
 on-mark-requires-clause-fits g c = λ d.
