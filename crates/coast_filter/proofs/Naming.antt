@@ -1,19 +1,16 @@
--- Names gathered way by way, and the ids among them picked one by one.
-use Rattle.std.proofs.Common.{◌≡◌, ◌∙◌, refl, sym, ap, true, false, ◌||◌, append-nil, ℕ, ℤ, pos, ◌+◌, ◌<◌, List, [], ◌∷◌, ◌++◌, length, take, get_or}
+-- Ids among names, picked one by one.
+use Rattle.std.proofs.Common.{◌≡◌, ◌∙◌, refl, sym, ap, Bool, true, false, append-nil, ℕ, ℤ, pos, ◌+◌, ◌<◌, List, [], ◌∷◌, ◌++◌, length, take, get_or}
+use Rattle.std.proofs.Math.Path.{fun_ext}
 use Rattle.std.specs.List.{flat_map, list_any}
 use Rattle.std.specs.Ordering.{int_eq}
 use Rattle.std.proofs.lemmas.List.{flat_map_more, take_more}
 use Rattle.std.proofs.lemmas.List.Elements.{filter-append}
-use Rattle.std.proofs.lemmas.List.Folds.{list_any-append}
-use Rattle.coast_filter.specs.ByIds.{HaveSame, among}
+use Rattle.std.proofs.lemmas.Cmp.{int_eq_equiv}
+use Rattle.coast_filter.specs.ByIds.{among}
 
--- the names of one more way
-pub one_more_way : (f : ℤ → List ℤ) (ways : List ℤ) (i : ℕ) (z : ℤ) (old new : List ℤ) → i < length ways → z ≡ get_or ways i (pos 0) → HaveSame old (flat_map f (take i ways)) → HaveSame new (old ++ f z) →
-    HaveSame new (flat_map f (take (i + 1) ways))
-one_more_way f ways i z old new h e was is q =
-    let more : take (i + 1) ways ≡ take i ways ++ z ∷ [] = take_more ways i (pos 0) h ∙ ap (λ (w : ℤ). take i ways ++ w ∷ []) (sym e) in
-    is q ∙ list_any-append (int_eq q) old (f z) ∙ ap (λ b. b || list_any (int_eq q) (f z)) (was q) ∙ sym (list_any-append (int_eq q) (flat_map f (take i ways)) (f z))
-    ∙ ap (list_any (int_eq q)) (flat_map_more f [] (take i ways) z ∙ ap (flat_map f) (sym more))
+-- a name is looked for from either side
+pub any-turned : (name : ℤ) (names : List ℤ) → list_any (int_eq name) names ≡ list_any (λ other. int_eq other name) names
+any-turned name names = ap (λ (f : ℤ → Bool). list_any f names) (fun_ext (λ other. int_eq_equiv.symm name other))
 
 -- ---- one more id, among the names or not
 

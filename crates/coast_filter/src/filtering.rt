@@ -2,6 +2,8 @@
 
 ghost use Rattle.std.specs.Prelude.{◌≡◌, ◌++◌, IfOk, OnOk};
 ghost use Rattle.std.specs.List.{flat_map};
+ghost use Rattle.std.specs.List.Sorted.{IsSorted};
+ghost use Rattle.std.specs.Ordering.{int_cmp};
 ghost use Rattle.opl_writer.specs.Written.{objects_text};
 ghost use Rattle.coast_filter.specs.ByIds.{among, node_text, way_line_by_id};
 ghost use Rattle.coast_filter.specs.CoastPart.{coast_part};
@@ -10,7 +12,7 @@ ghost use Rattle.opl_writer.specs.ReadBack.Laws.{AreSpelled};
 
 use crate::laws::coast_text_tells_the_coast;
 use crate::names::names_of;
-use indexmap::IndexSet;
+use lists::is_among;
 use opl_writer::read_back::spelled_objects_can_be_written;
 use opl_writer::{put_node, put_way};
 use osm_objects::Store;
@@ -36,18 +38,19 @@ fn put_held_way(text: &mut Vec<u8>, store: &Store, id: i64) -> Result<(), OutOfM
     }
 }
 
-/// Adds the lines of the nodes that are named.
+/// Adds the lines of the nodes that are among these names, which are in order.
 fn put_named(
     text: &mut Vec<u8>,
     store: &Store,
-    names: &IndexSet<i64>,
+    names: &[i64],
     nodes: &[i64],
 ) -> Result<(), OutOfMemory>
+    requires { IsSorted int_cmp names.now }
     ensures { OnOk result (text.new.items
-        ≡ text.old.items ++ flat_map (node_text store.now) (among names.now.keys nodes.now)) }
+        ≡ text.old.items ++ flat_map (node_text store.now) (among names.now nodes.now)) }
 {
     for &node in nodes {
-        if names.contains(&node) {
+        if is_among(names, &node) {
             put_held_node(text, store, node)?;
         }
     }

@@ -7,14 +7,14 @@ use Rattle.std.proofs.lemmas.List.Elements.{filter_more}
 use Rattle.std.proofs.lemmas.Option.{same_Some, slice_get-get_or, slice_get-map}
 use Rattle.std.specs.List.Sorted.{IsPermutation}
 use Rattle.std.specs.Ordering.{int_cmp}
-use Rattle.std.proofs.lemmas.List.FromFn.{fill_by_all}
+use Rattle.std.proofs.lemmas.List.FromFn.{fill_by_all, get_or-range_with_len, length-range_with_len}
 use Rattle.std.proofs.lemmas.List.Sorted.{IsPermutation-map, All-permutation}
 use Rattle.lists.specs.Rising.{IsRising}
 use Rattle.coast_join.specs.ById.{AreById, id_at}
 use Rattle.orbits.specs.Orbits.{after, last_number, IsOrbit}
 use Rattle.coast_join.specs.declared.chain.Chain.{Chain}
 use Rattle.coast_join.specs.Links.{AreNextWays}
-use Rattle.lists.proofs.ListsKit.{map-map, range_below}
+use Rattle.lists.proofs.ListsKit.{map-map}
 use Rattle.coast_join.proofs.Sorting.{map-same}
 use Rattle.osm_lattice.specs.declared.loc.Loc.{Loc}
 use Rattle.coast_join.specs.declared.way.CoastWay.{CoastWay}
@@ -257,6 +257,11 @@ list_at P os i o all h e =
     subst P (sym (list_is os i o h e)) (all i o.items (omega arith))
 
 -- ---- the ways in order of id
+
+range_below : (n : ℕ) → All (λ i. i < n) (range_with_len 0 n)
+range_below n k d h =
+    let inside : k < n = omega (arith, h, length-range_with_len 0 n) in
+    let here = get_or-range_with_len 0 n k d inside in omega (arith, here, inside)
 
 pub order_inside : (ways : List CoastWay) (order : List ℕ) → AreById (map (λ (w : CoastWay). w.id) ways) order → All (λ i. i < length ways) order
 order_inside ways order h =

@@ -11,10 +11,9 @@ ghost use Rattle.coast_join.specs.Chains.{way_path_of};
 ghost use Rattle.coast_join.specs.Line.{NeighboursDiffer};
 ghost use Rattle.coast_join.specs.Input.{asides_by, asides_of, line_along, lines_by, missing_node_ids, way_paths_in};
 
-use crate::repeated::each_once;
 use crate::round::once_path;
 use crate::way::{Aside, Asides, CoastWay, CoastWays};
-use indexmap::IndexSet;
+use lists::each_once;
 use osm_elements::Refs;
 use osm_geom::{Loc, Path, orders_are_exact};
 use osm_objects::Store;
@@ -42,8 +41,8 @@ fn unlocated(alloc: Global, store: &Store, refs: &Refs) -> Result<Vec<i64>, OutO
 }
 
 /// Those nodes, each once.
-fn missing_node_ids(alloc: Global, store: &Store, refs: &Refs) -> Result<IndexSet<i64>, OutOfMemory>
-    ensures { IfOk result (λ s. s.keys ≡ missing_node_ids store.now refs.now) }
+fn missing_node_ids(alloc: Global, store: &Store, refs: &Refs) -> Result<Vec<i64>, OutOfMemory>
+    ensures { IfOk result (λ v. v.items ≡ missing_node_ids store.now refs.now) }
 {
     let all = unlocated(alloc, store, refs)?;
     each_once(alloc, &all)
@@ -117,7 +116,7 @@ fn add_way(
     orders_are_exact();
     let missing = missing_node_ids(alloc, store, refs)?;
     if !missing.is_empty() {
-        return add_missing(asides, way, missing.as_slice());
+        return add_missing(asides, way, &missing);
     }
     let path = line_along(alloc, store, refs)?;
     add_line(ways, asides, way, path)

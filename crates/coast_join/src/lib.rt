@@ -13,7 +13,6 @@ mod laws;
 mod links;
 mod nearest_pairs;
 mod regained;
-mod repeated;
 mod ring;
 mod ring_laws;
 mod ring_making;

@@ -1,12 +1,13 @@
 -- Names of which no two are the same: each once they are what they were, and none stands twice; and where none is counted twice, they are such.
 use Rattle.std.proofs.Common.{Bool, Equal, List, [], Ordering, ap, arith, cond, count_by, false, filter, int_cmp, int_eq, is_eq, nat_le, not, refl, suc, sym, true, zero, ℕ, ℤ, ◌+◌, ◌||◌, ◌<◌, ◌∙◌, ◌∷◌, ◌≡◌, ◌≤◌}
 use Rattle.std.specs.List.{list_any}
+use Rattle.std.proofs.Math.Path.{fun_ext}
 use Rattle.std.proofs.lemmas.Bool.{and_parts, or_parts}
 use Rattle.std.proofs.lemmas.Cmp.{int_cmp_total, int_eq_equiv, tied_itself}
-use Rattle.lists.proofs.ListsKit.{count-cons, count_by-cons, int_eq-true, not-true-out}
+use Rattle.lists.proofs.ListsKit.{any-counted, count-cons, count_by-cons, int_eq-true, not-true-out}
 use Rattle.lists.specs.Once.{each_once}
 use Rattle.lists.specs.Rising.{count_of}
-use Rattle.osm_area.specs.Names.{differ}
+use Rattle.osm_area.specs.Names.{differ, has_name}
 
 below-two : (n : ℕ) → n < 2 → nat_le 2 n ≡ false
 below-two zero h = refl
@@ -63,19 +64,8 @@ none-twice named ways apart = none-counted named ways (λ (name : ℤ). counted-
 -- ---- told by counts
 
 -- a name that is counted nowhere isn't among others
-unlisted : (name : ℤ) (names : List ℤ) → count_of int_cmp name names ≡ 0 → list_any (λ other. int_eq other name) names ≡ false
-unlisted name [] none = refl
-unlisted name (n ∷ names) none = by (unlisted name names) (int_eq n name) refl
-  where
-    all : count_of int_cmp name (n ∷ names) ≡ cond {A = ℕ} (is_eq (int_cmp n name)) 1 0 + count_of int_cmp name names
-    all = count-cons int_cmp name n names
-
-    by : (count_of int_cmp name names ≡ 0 → list_any (λ other. int_eq other name) names ≡ false) → (b : Bool) → int_eq n name ≡ b → (b || list_any (λ other. int_eq other name) names) ≡ false
-    by behind true is =
-        let tied : int_cmp n name ≡ Equal = ap (λ (m : ℤ). int_cmp n m) (sym (int_eq-true n name is)) ∙ tied_itself int_cmp_total n in
-        let one : cond {A = ℕ} (is_eq (int_cmp n name)) 1 0 ≡ 1 = ap (λ (o : Ordering). cond {A = ℕ} (is_eq o) 1 0) tied in
-        absurd (omega (arith, one, all, none))
-    by behind false other = behind (omega (arith, all, none))
+unlisted : (name : ℤ) (names : List ℤ) → count_of int_cmp name names ≡ 0 → has_name names name ≡ false
+unlisted name names none = any-counted (λ other. int_eq other name) names ∙ ap (nat_le 1) none
 
 -- names of which none is counted twice
 pub once-differ : (names : List ℤ) → ((name : ℤ) → count_of int_cmp name names ≤ 1) → differ names ≡ true
@@ -93,3 +83,16 @@ once-differ (n ∷ names) once = rw (unlisted n names none) (once-differ names l
 
     later : (name : ℤ) → count_of int_cmp name names ≤ 1
     later name = omega (arith, all name, once name)
+
+-- ---- names that are counted at least twice
+
+once-or-none : (b : Bool) (n : ℕ) → n ≡ cond b 1 0 → nat_le 1 n ≡ b
+once-or-none true n e = rw e refl
+once-or-none false n e = rw e refl
+
+-- they are those of a list that has each of them once and no other
+pub twice_among : (named twice : List ℤ) (name : ℤ) → count_of int_cmp name twice ≡ cond (nat_le 2 (count_of int_cmp name named)) 1 0 → has_name twice name ≡ nat_le 2 (count_by (int_eq name) named)
+twice_among named twice name once =
+    any-counted (λ other. int_eq other name) twice
+    ∙ once-or-none (nat_le 2 (count_of int_cmp name named)) (count_of int_cmp name twice) once
+    ∙ ap (λ (f : ℤ → Bool). nat_le 2 (count_by f named)) (fun_ext (λ other. int_eq_equiv.symm other name))

@@ -13,7 +13,6 @@ pub mod RingSums
 pub mod RoleLemmas
 pub mod RoleSteps
 mod RoleWalks
-mod SegmentSearches
 pub mod SoundAreas
 pub mod WholeRings
 pub mod WholeWays

@@ -5,7 +5,7 @@ ghost use Rattle.std.specs.List.{flat_map};
 ghost use Rattle.lists.specs.Once.{each_once};
 ghost use Rattle.osm_area.specs.Missing.{same_ref, nodes_missing, way_missing};
 
-use crate::once::each_once;
+use lists::each_once;
 use osm_elements::{ObjectKind, ObjectRef, Refs};
 use osm_objects::Store;
 use std::alloc::{AllocError as OutOfMemory, Global};
@@ -61,6 +61,5 @@ pub fn missing(alloc: Global, store: &Store, ways: &[i64]) -> Result<Vec<ObjectR
         ≡ each_once same_ref (flat_map (way_missing store.now) ways.now)) }
 {
     let all = all_missing(alloc, store, ways)?;
-    let parts = each_once(alloc, &all)?;
-    Vec::from_slice(alloc, parts.as_slice())
+    each_once(alloc, &all)
 }

@@ -19,12 +19,13 @@ use crate::area::{Made, area, made_of, outline_among};
 use crate::laws::outcome_exists;
 use crate::member_ways::named_ways;
 use crate::missing::missing;
+use crate::names::all_differ;
 use crate::notes::{add_repeats, named_twice};
-use crate::once::{all_differ, each_once};
 use crate::outcome_lists::Notes;
 use crate::problems::{Problems, problems_of};
 use crate::role_notes::{Ways, add_role_notes};
 use crate::segments::{WaySegments, segments};
+use lists::each_once;
 use osm_elements::{ObjectKind, ObjectRef};
 use osm_geom::Seg;
 use osm_nest::Polygons;
@@ -128,7 +129,7 @@ fn outcome_by(
 
 /// The outcome of a candidate from the ways that it names. Most candidates name each once.
 ///
-/// Ways: names that all differ; all others by a table of them.
+/// Ways: names that all differ; all others once each, at their first places.
 fn outcome_by_names(
     alloc: Global,
     store: &Store,
@@ -144,9 +145,8 @@ fn outcome_by_names(
         return outcome_by(alloc, store, candidate, &named, Notes::new(alloc));
     }
     let distinct = each_once(alloc, &named)?;
-    let ways = distinct.as_slice();
-    let notes = named_twice(alloc, &named, ways)?;
-    outcome_by(alloc, store, candidate, ways, notes)
+    let notes = named_twice(alloc, &named, &distinct)?;
+    outcome_by(alloc, store, candidate, &distinct, notes)
 }
 
 /// The outcome of a candidate. A way names only itself.
@@ -202,7 +202,7 @@ fn outline_by(
 
 /// The outline of a candidate's area, from the ways that it names.
 ///
-/// Ways: names that all differ; all others by a table of them.
+/// Ways: names that all differ; all others once each, at their first places.
 fn outline_by_names(
     alloc: Global,
     store: &Store,
@@ -215,7 +215,7 @@ fn outline_by_names(
         return outline_by(alloc, store, candidate, &named);
     }
     let distinct = each_once(alloc, &named)?;
-    outline_by(alloc, store, candidate, distinct.as_slice())
+    outline_by(alloc, store, candidate, &distinct)
 }
 
 /// The outline of a candidate's area: the segments that survive. None exactly if it has no area.

@@ -10,6 +10,7 @@ ghost use Rattle.osm_area.specs.RingSegments.{AreSegmentsOf};
 ghost use Rattle.osm_area.specs.RoleKinds.{has_segment};
 ghost use Rattle.osm_area.specs.Roles.{carries, is_in_rings, outers, inners};
 
+use lists::is_among;
 use osm_geom::{Carrier, Edge, Seg};
 use osm_nest::Polygon;
 use osm_rings::Ring;
@@ -109,5 +110,5 @@ pub fn holds(segs: &[Seg], seg: &Seg) -> bool
     requires { IsSorted seg_cmp segs.now }
     ensures { result ≡ has_segment segs.now seg.now }
 {
-    segs.binary_search(seg).is_ok()
+    is_among(segs, seg)
 }

@@ -1,6 +1,6 @@
 use Rattle.std.proofs.Common.{◌≡◌, length}
 use Rattle.osm_area.specs.Names.{differ}
-use Rattle.osm_area.proofs.once.differ.Given as goal
+use Rattle.osm_area.proofs.names.differ.Given as goal
 
 -- those that were passed stand nowhere behind themselves
 abbrev pub invariant-loop-rest : goal.invariant-loop-rest

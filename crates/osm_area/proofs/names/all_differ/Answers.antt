@@ -2,7 +2,7 @@
 use Rattle.std.proofs.Common.{◌≡◌, arith, length}
 use Rattle.std.proofs.lemmas.Bool.Decides.{Decides-eqb}
 use Rattle.osm_area.proofs.FewNames.{once-differ}
-use Rattle.osm_area.proofs.once.all_differ.Goals as goal
+use Rattle.osm_area.proofs.names.all_differ.Goals as goal
 
 pub returns : goal.returns
 returns c same =
