@@ -5,14 +5,14 @@ use Rattle.std.specs.Cmp.Rules.{comparing}
 use Rattle.std.specs.declared.cmp.Ordering.{Ordering}
 use Rattle.std.specs.declared.cmp.Ordering.TheVariants.{Less, Equal, Greater}
 use Rattle.std.specs.Ordering.{int_cmp, int_eq, is_eq, ordering_then}
-use Rattle.std.proofs.lemmas.Bool.{false≢true}
+use Rattle.std.proofs.lemmas.Bool.{cond_both, false≢true}
 use Rattle.std.proofs.lemmas.List.{get_or-take}
 use Rattle.std.proofs.lemmas.Option.{same_Some, slice_get-get_or}
 use Rattle.osm_lattice.specs.declared.loc.Loc.{Loc}
 use Rattle.osm_lattice.specs.Loc.{loc_cmp}
 use Rattle.osm_lattice.specs.OrderLaws.{LocationOrderTellsApart}
 use Rattle.coast_join.specs.Line.{IsLine, NeighboursDiffer, first_location, front_of, last_location, origin}
-use Rattle.coast_join.specs.Round.{IsRound, is_same_location, once, opened}
+use Rattle.coast_join.specs.Round.{IsRound, is_same_location, once, once_round, opened}
 use Rattle.coast_join.proofs.Joining.{closed_long, front_differ, front_last, front_length}
 use Rattle.lists.proofs.ListsKit.{equal_from}
 
@@ -83,6 +83,10 @@ once_line exact a b rest ne = record {
   differ = from_differs exact a (b ∷ rest);
 }
 
+pub once_differs : LocationOrderTellsApart → (xs : List Loc) → NeighboursDiffer (once xs)
+once_differs exact [] = λ k p e n. absurd (cc)
+once_differs exact (x ∷ xs) = from_differs exact x xs
+
 -- ---- closed
 
 last_front : (d : List Loc) → 3 ≤ length d → slice_get d (length d - 2) ≡ Some (last_location (front_of d))
@@ -114,6 +118,35 @@ round_from exact d line = by (is_same_location (last_location d) (first_location
         }
     by false e = record { line = line; apart = not_same exact (last_location d) (first_location d) e }
 
+opened_short : (d : List Loc) → length (opened d) ≤ length d
+opened_short d =
+    let n = front_length d in
+    cond_both (is_same_location (last_location d) (first_location d)) (front_of d) d (λ e. length e ≤ length d) (λ e. omega arith) (λ e. omega arith)
+
+from_short : (k : Loc) (xs : List Loc) → length (dedup_from is_same_location k xs) ≤ suc (length xs)
+from_short k [] = omega arith
+from_short k (x ∷ xs) =
+    let r = from_short k xs in
+    let s = from_short x xs in
+    cond_both (is_same_location x k) (dedup_from is_same_location k xs) (k ∷ dedup_from is_same_location x xs) (λ ys. length ys ≤ suc (suc (length xs))) (λ e. omega arith) (λ e. omega arith)
+
+once_short : (xs : List Loc) → length (once xs) ≤ length xs
+once_short [] = omega arith
+once_short (x ∷ xs) = from_short x xs
+
+pub once_round_short : (xs : List Loc) → length (once_round xs) ≤ length xs
+once_round_short xs =
+    let a = once_short xs in
+    let b = opened_short (once xs) in
+    omega arith
+
+-- what is left of any locations, where it is two of them
+pub round_left : LocationOrderTellsApart → (locs path : List Loc) → path ≡ opened (once locs) → 2 ≤ length path → IsRound path
+round_left exact locs path is long =
+    let short = opened_short (once locs) in
+    let same = ap length is in
+    subst IsRound (sym is) (round_from exact (once locs) (record { long = omega arith; differ = once_differs exact locs }))
+
 -- ---- the test of `==`
 
 int_tie : (a b : ℤ) → int_eq a b ≡ is_eq (int_cmp a b)
@@ -132,7 +165,3 @@ both_ties Greater Greater = refl
 
 pub tests_alike : (p q : Loc) → (int_eq p.x q.x && int_eq p.y q.y) ≡ is_same_location p q
 tests_alike p q = rw (int_tie p.x q.x, int_tie p.y q.y) (both_ties (int_cmp p.y q.y) (int_cmp p.x q.x))
-
-pub once_differs : LocationOrderTellsApart → (xs : List Loc) → NeighboursDiffer (once xs)
-once_differs exact [] = λ k p e n. absurd (cc)
-once_differs exact (x ∷ xs) = from_differs exact x xs

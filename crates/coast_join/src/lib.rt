@@ -39,4 +39,5 @@ pub use ring_laws::{
     closed_ends_differ, closings_are_determined, closings_exist, joined_exists,
     joined_is_determined, rings_begin_at_least_names,
 };
+pub use round::round_path;
 pub use way::{Aside, Asides, CoastWay, CoastWays};

@@ -1,9 +1,9 @@
 //! Lines without equal neighbours.
 
 ghost use Rattle.std.specs.Prelude.{◌≡◌, ◌≤◌, IfOk, length};
-ghost use Rattle.coast_join.specs.Round.{is_same_location, once, once_round, opened};
+ghost use Rattle.coast_join.specs.Round.{IsRound, is_same_location, once, once_round, opened};
 
-use osm_geom::{Loc, Path};
+use osm_geom::{Loc, Path, orders_are_exact};
 use std::alloc::{AllocError as OutOfMemory, Global};
 
 /// Whether two locations are one.
@@ -34,9 +34,11 @@ fn once(mut locs: Vec<Loc>) -> Vec<Loc>
 
 /// Without the last location, where it is the first again.
 fn opened(locs: &[Loc]) -> &[Loc]
-    requires { 1 ≤ length locs.now }
     ensures { result.now ≡ opened locs.now }
 {
+    if locs.is_empty() {
+        return locs;
+    }
     let end = locs.len() - 1;
     if is_same_location(locs[end], locs[0]) {
         &locs[..end]
@@ -53,11 +55,13 @@ pub(crate) fn once_path(alloc: Global, locs: Vec<Loc>) -> Result<Path, OutOfMemo
     path_of(alloc, &line)
 }
 
-/// The closed line of locations with equal neighbours taken once, the last and the first included.
-pub(crate) fn round_path(alloc: Global, locs: Vec<Loc>) -> Result<Path, OutOfMemory>
-    requires { 1 ≤ length (once locs.items) }
-    ensures { IfOk result (λ path. path ≡ once_round locs.items) }
+/// The closed line of locations with equal neighbours taken once, the last and the first included. Where at least two are left, it doesn't
+/// end where it starts. Fails only if memory runs out.
+pub fn round_path(alloc: Global, locs: Vec<Loc>) -> Result<Path, OutOfMemory>
+    ensures path { IfOk result (λ path. path ≡ once_round locs.items) }
+    ensures round { IfOk result (λ path. 2 ≤ length path → IsRound path) }
 {
+    orders_are_exact();
     let line = once(locs);
     path_of(alloc, opened(&line))
 }
