@@ -4,6 +4,7 @@ Usage: make_hostile.py KIND N [>FILE]      (without words it lists the kinds)
 
 The kinds are the functions below that are marked `@kind`, each with what it is. Coordinates are in units of 1e-7 degree. Ways carry the
 locations of their nodes, and a kind whose ways make one area ends with the relation of them all."""
+import math
 import random
 import sys
 
@@ -82,6 +83,11 @@ def crossing():
 
 def square(x, y, side):
     return [(x, y), (x + side, y), (x + side, y + side), (x, y + side)]
+
+
+def polar(angle, reach):
+    """The point at an angle and so far from the origin."""
+    return round(reach * math.cos(angle)), round(reach * math.sin(angle))
 
 
 def around(count, reach):
@@ -350,6 +356,18 @@ def ribbon(n):
 def touching_islands(n):
     """n / 3 islands that touch at one node"""
     coast(triangles_at_a_node(n // 3))
+
+
+@kind
+def dominoes(n):
+    """one coast that crosses itself once; a shortcut there crosses the next step but one, and so on, n / 4 times"""
+    count = n // 4
+    turn = 1.2 / count
+    zigzag = []
+    for i in range(count):
+        angle, reach = 0.1 + turn * i, LONG * (6 - 3 * i / count)
+        zigzag += [polar(angle, reach), polar(angle - turn / 3, reach - LONG / count)]
+    coast([[(0, 0), *zigzag, *(polar(1.45 + 1.2 * math.pi * i / n * 2, LONG / 2) for i in range(n // 2 + 1))]])
 
 
 # Areas and points to be located in them
