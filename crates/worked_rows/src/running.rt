@@ -71,7 +71,7 @@ fn fail_at(numbers: &str, host: &mut MemoryHost) -> Result<(), RowFault> {
 }
 
 /// Words as a command line has them.
-fn words_of(alloc: Global, text: &str) -> Result<Vec<String>, OutOfMemory> {
+pub(crate) fn words_of(alloc: Global, text: &str) -> Result<Vec<String>, OutOfMemory> {
     let mut words = Vec::new(alloc);
     for word in text.split_whitespace() {
         words.push(String::from_str(alloc, word)?)?;

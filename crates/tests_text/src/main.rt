@@ -1,0 +1,46 @@
+//! Tests of features, pieces and reports in print: each row of standard input makes calls, whose answers it gives.
+#![tactic(auto)]
+
+mod coasts;
+mod edges;
+mod features;
+mod pieces;
+mod shapes;
+
+use std::alloc::Global;
+use std::io;
+use std::process::ExitCode;
+use worked_form::{Call, Field, RowFault, Rows, tell_all};
+
+/// The rows of this program.
+struct Prints;
+
+impl Rows for Prints {
+    fn answer(alloc: Global, call: Call<'_>, told: &mut String) -> Result<(), RowFault> {
+        match call.word {
+            "text" | "json" => features::put_feature(alloc, call, told),
+            "piece" => pieces::put_piece(alloc, call.str()?, told),
+            "coast" => coasts::put_coast(alloc, call.str()?, told),
+            _ => Err(RowFault("an unknown call")),
+        }
+    }
+
+    fn run(_: Global, _: &[Field<'_>], _: &mut String) -> Result<(), RowFault> {
+        Err(RowFault("no call"))
+    }
+}
+
+/// Adds a line without its newline.
+fn put_line(line: &[u8], told: &mut String) -> Result<(), RowFault> {
+    match str::from_utf8(line) {
+        Ok(line) => Ok(told.push_str(line.strip_suffix('\n').unwrap_or("no newline"))?),
+        Err(_) => Err(RowFault("a line that isn't UTF-8")),
+    }
+}
+
+fn main(rt: HostRuntime) -> io::Result<ExitCode> {
+    let rows = io::read_to_string(rt.alloc(), rt.stdin())?;
+    let (lines, all) = tell_all::<Prints>(rt.alloc(), &rows)?;
+    print!(rt; "{lines}")?;
+    Ok(ExitCode::from(u8::from(!all)))
+}
