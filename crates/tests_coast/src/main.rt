@@ -13,7 +13,7 @@ use osm_objects::Store;
 use std::alloc::Global;
 use std::io;
 use std::process::ExitCode;
-use worked_form::{Call, Field, RowFault, Rows, tell_all};
+use worked_form::{Call, RowFault, Rows, follow_rows};
 
 /// The rows of this program.
 struct Coasts;
@@ -22,10 +22,6 @@ impl Rows for Coasts {
     fn answer(alloc: Global, call: Call<'_>, told: &mut String) -> Result<(), RowFault> {
         let mut store = Store::new(alloc);
         answer_over(alloc, call, &mut store, told)
-    }
-
-    fn run(_: Global, _: &[Field<'_>], _: &mut String) -> Result<(), RowFault> {
-        Err(RowFault("no call"))
     }
 }
 
@@ -71,8 +67,5 @@ fn answer_on(
 }
 
 fn main(rt: HostRuntime) -> io::Result<ExitCode> {
-    let rows = io::read_to_string(rt.alloc(), rt.stdin())?;
-    let (lines, all) = tell_all::<Coasts>(rt.alloc(), &rows)?;
-    print!(rt; "{lines}")?;
-    Ok(ExitCode::from(u8::from(!all)))
+    follow_rows::<Coasts>(rt)
 }

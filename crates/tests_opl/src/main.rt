@@ -12,7 +12,7 @@ mod written;
 use std::alloc::Global;
 use std::io;
 use std::process::ExitCode;
-use worked_form::{Call, Field, RowFault, Rows, tell_all};
+use worked_form::{Call, RowFault, Rows, follow_rows};
 
 /// The rows of this program.
 struct Spelling;
@@ -33,15 +33,8 @@ impl Rows for Spelling {
             _ => packed::answer(alloc, call.word, call.str()?, told),
         }
     }
-
-    fn run(_: Global, _: &[Field<'_>], _: &mut String) -> Result<(), RowFault> {
-        Err(RowFault("no call"))
-    }
 }
 
 fn main(rt: HostRuntime) -> io::Result<ExitCode> {
-    let rows = io::read_to_string(rt.alloc(), rt.stdin())?;
-    let (lines, all) = tell_all::<Spelling>(rt.alloc(), &rows)?;
-    print!(rt; "{lines}")?;
-    Ok(ExitCode::from(u8::from(!all)))
+    follow_rows::<Spelling>(rt)
 }

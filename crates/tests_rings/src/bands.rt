@@ -1,9 +1,9 @@
 //! A long list of sides, and whether they are directed as they were drawn.
 
-use crate::reading::{at, directed, segment};
 use osm_geom::{Edge, Loc, Point, Seg};
 use std::alloc::Global;
 use std::fmt::Write;
+use tests_drawing::{at, directed, segment};
 use worked_form::RowFault;
 
 /// Adds how many edges there are along the sides of so many squares, and whether they run as the sides do.

@@ -2,11 +2,11 @@
 ghost use Rattle.osm_geom.specs.InPlane.Sided.{IsSided};
 
 use crate::printing::put_polygons;
-use crate::reading::along;
 use coast_split::{Leaf, Leaves, Settings, SplitError, count_leaves};
 use osm_geom::Edges;
 use std::alloc::Global;
 use std::fmt::Write;
+use tests_drawing::sided;
 use worked_form::RowFault;
 
 /// The settings of words: the most points, the overlap, which stays far below the greatest, and the most leaves.
@@ -30,7 +30,7 @@ pub(crate) fn put_leaves(
     told: &mut String,
 ) -> Result<(), RowFault> {
     let settings = settings(by);
-    let mut leaves = Leaves::of(alloc, along(alloc, lines)?, &settings)?;
+    let mut leaves = Leaves::of(alloc, sided(alloc, lines, "")?, &settings)?;
     for _ in 0..9 {
         let Some(leaf) = leaves.next()? else {
             break;
@@ -56,7 +56,7 @@ pub(crate) fn put_count(
     by: &str,
     told: &mut String,
 ) -> Result<(), RowFault> {
-    let edges = along(alloc, lines)?;
+    let edges = sided(alloc, lines, "")?;
     match count_leaves(alloc, &edges, &settings(by)) {
         Ok(count) => Ok(write!(told, "{count}")?),
         Err(SplitError::TooManyPieces { most }) => Ok(write!(told, "more than {most}")?),

@@ -4,14 +4,13 @@
 mod bands;
 mod leaves;
 mod printing;
-mod reading;
 
 use crate::printing::put_polygons;
-use crate::reading::sided;
 use std::alloc::Global;
 use std::io;
 use std::process::ExitCode;
-use worked_form::{Call, Field, RowFault, Rows, tell_all};
+use tests_drawing::sided;
+use worked_form::{Call, RowFault, Rows, follow_rows};
 
 /// The rows of this program.
 struct Drawings;
@@ -28,15 +27,8 @@ impl Rows for Drawings {
             _ => Err(RowFault("an unknown call")),
         }
     }
-
-    fn run(_: Global, _: &[Field<'_>], _: &mut String) -> Result<(), RowFault> {
-        Err(RowFault("no call"))
-    }
 }
 
 fn main(rt: HostRuntime) -> io::Result<ExitCode> {
-    let rows = io::read_to_string(rt.alloc(), rt.stdin())?;
-    let (lines, all) = tell_all::<Drawings>(rt.alloc(), &rows)?;
-    print!(rt; "{lines}")?;
-    Ok(ExitCode::from(u8::from(!all)))
+    follow_rows::<Drawings>(rt)
 }

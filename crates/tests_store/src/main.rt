@@ -13,7 +13,7 @@ use osm_objects::Store;
 use std::alloc::Global;
 use std::io;
 use std::process::ExitCode;
-use worked_form::{Call, Field, RowFault, Rows, tell_all};
+use worked_form::{Call, RowFault, Rows, follow_rows};
 
 /// The rows of this program.
 struct Stores;
@@ -29,10 +29,6 @@ impl Rows for Stores {
                 answer_over(alloc, call, text, &mut store, told)
             }
         }
-    }
-
-    fn run(_: Global, _: &[Field<'_>], _: &mut String) -> Result<(), RowFault> {
-        Err(RowFault("no call"))
     }
 }
 
@@ -77,8 +73,5 @@ fn answer_of(
 }
 
 fn main(rt: HostRuntime) -> io::Result<ExitCode> {
-    let rows = io::read_to_string(rt.alloc(), rt.stdin())?;
-    let (lines, all) = tell_all::<Stores>(rt.alloc(), &rows)?;
-    print!(rt; "{lines}")?;
-    Ok(ExitCode::from(u8::from(!all)))
+    follow_rows::<Stores>(rt)
 }

@@ -10,7 +10,7 @@ mod shapes;
 use std::alloc::Global;
 use std::io;
 use std::process::ExitCode;
-use worked_form::{Call, Field, RowFault, Rows, tell_all};
+use worked_form::{Call, RowFault, Rows, follow_rows};
 
 /// The rows of this program.
 struct Prints;
@@ -24,10 +24,6 @@ impl Rows for Prints {
             _ => Err(RowFault("an unknown call")),
         }
     }
-
-    fn run(_: Global, _: &[Field<'_>], _: &mut String) -> Result<(), RowFault> {
-        Err(RowFault("no call"))
-    }
 }
 
 /// Adds a line without its newline.
@@ -39,8 +35,5 @@ fn put_line(line: &[u8], told: &mut String) -> Result<(), RowFault> {
 }
 
 fn main(rt: HostRuntime) -> io::Result<ExitCode> {
-    let rows = io::read_to_string(rt.alloc(), rt.stdin())?;
-    let (lines, all) = tell_all::<Prints>(rt.alloc(), &rows)?;
-    print!(rt; "{lines}")?;
-    Ok(ExitCode::from(u8::from(!all)))
+    follow_rows::<Prints>(rt)
 }

@@ -6,7 +6,7 @@ use std::alloc::{AllocError as OutOfMemory, Global};
 use std::fmt::Write;
 use std::io;
 use std::process::ExitCode;
-use worked_form::{Call, Field, RowFault, Rows, tell_all};
+use worked_form::{Call, RowFault, Rows, follow_rows};
 
 /// The rows of this program.
 struct Words;
@@ -19,10 +19,6 @@ impl Rows for Words {
             "command" => Ok(write!(told, "{:?}", command_of(&words))?),
             _ => Err(RowFault("an unknown call")),
         }
-    }
-
-    fn run(_: Global, _: &[Field<'_>], _: &mut String) -> Result<(), RowFault> {
-        Err(RowFault("no call"))
     }
 }
 
@@ -55,8 +51,5 @@ fn put_job(alloc: Global, words: &[String], told: &mut String) -> Result<(), Row
 }
 
 fn main(rt: HostRuntime) -> io::Result<ExitCode> {
-    let rows = io::read_to_string(rt.alloc(), rt.stdin())?;
-    let (lines, all) = tell_all::<Words>(rt.alloc(), &rows)?;
-    print!(rt; "{lines}")?;
-    Ok(ExitCode::from(u8::from(!all)))
+    follow_rows::<Words>(rt)
 }

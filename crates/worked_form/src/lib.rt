@@ -7,4 +7,4 @@ mod telling;
 
 pub use calls::Call;
 pub use form::{Field, RowFault, find, first_word, number, said, text_of};
-pub use telling::{Rows, tell, tell_all};
+pub use telling::{Rows, follow_rows, tell};

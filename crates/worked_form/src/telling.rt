@@ -4,6 +4,8 @@ use crate::calls::{Call, tell_calls};
 use crate::form::{Field, RowFault, add_line, find, find_text, first_word};
 use std::alloc::{AllocError as OutOfMemory, Global};
 use std::fmt::Write;
+use std::io;
+use std::process::ExitCode;
 
 /// What a program makes of its rows.
 pub trait Rows {
@@ -11,7 +13,9 @@ pub trait Rows {
     fn answer(alloc: Global, call: Call<'_>, told: &mut String) -> Result<(), RowFault>;
 
     /// Adds where a run differs from what its row wants: nothing where it doesn't.
-    fn run(alloc: Global, fields: &[Field<'_>], told: &mut String) -> Result<(), RowFault>;
+    fn run(_: Global, _: &[Field<'_>], _: &mut String) -> Result<(), RowFault> {
+        Err(RowFault("no call"))
+    }
 }
 
 /// What came of the rows so far: the texts that have names, the lines to print, and how many rows went as wanted.
@@ -23,8 +27,17 @@ struct Told<'a> {
     failed: u64,
 }
 
-/// What is printed of rows: for each a line, and last how many went as wanted, and how many didn't. And whether all did.
-pub fn tell_all<R: Rows>(alloc: Global, rows: &str) -> Result<(String, bool), OutOfMemory> {
+/// Follows the rows of standard input. For each a line is printed, and last how many went as wanted, and how many didn't. The status
+/// is 1 where one didn't.
+pub fn follow_rows<R: Rows>(rt: HostRuntime) -> io::Result<ExitCode> {
+    let rows = io::read_to_string(rt.alloc(), rt.stdin())?;
+    let (lines, all) = tell_all::<R>(rt.alloc(), &rows)?;
+    print!(rt; "{lines}")?;
+    Ok(ExitCode::from(u8::from(!all)))
+}
+
+/// What is printed of rows, and whether all went as wanted.
+fn tell_all<R: Rows>(alloc: Global, rows: &str) -> Result<(String, bool), OutOfMemory> {
     let mut told = Told {
         texts: Vec::new(alloc),
         lines: String::new(alloc),

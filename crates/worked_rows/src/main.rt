@@ -14,7 +14,7 @@ use osm_sample::sample_input;
 use std::alloc::Global;
 use std::io;
 use std::process::ExitCode;
-use worked_form::{Call, Field, RowFault, Rows, tell_all};
+use worked_form::{Call, Field, RowFault, Rows, follow_rows};
 
 /// The rows of this program: runs, and calls that cross the crates.
 struct Runs;
@@ -47,8 +47,5 @@ fn put_sample(alloc: Global, digits: &str, told: &mut String) -> Result<(), RowF
 }
 
 fn main(rt: HostRuntime) -> io::Result<ExitCode> {
-    let rows = io::read_to_string(rt.alloc(), rt.stdin())?;
-    let (lines, all) = tell_all::<Runs>(rt.alloc(), &rows)?;
-    print!(rt; "{lines}")?;
-    Ok(ExitCode::from(u8::from(!all)))
+    follow_rows::<Runs>(rt)
 }
