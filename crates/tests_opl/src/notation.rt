@@ -1,51 +1,30 @@
-//! Decimals and written strings against the values of the formats.
+//! Decimals and strings as they are written.
 
 use osm_elements::Text;
 use osm_notation::{put_decimal, written};
-use std::alloc::{AllocError as OutOfMemory, Global};
-use std::test::Fail;
+use std::alloc::Global;
+use worked_form::RowFault;
 
-/// Whether a number is printed so.
-fn is_printed(number: i64, text: &str) -> bool {
+/// Adds the decimal of a number of units.
+pub(crate) fn put_printed(digits: &str, told: &mut String) -> Result<(), RowFault> {
+    let Ok(number) = digits.parse() else {
+        return Err(RowFault("no number"));
+    };
     let mut buf = [0; 24];
     let len = put_decimal(&mut buf, number);
-    &buf[..len] == text.as_bytes()
+    put_bytes(&buf[..len], told)
 }
 
-#[test]
-fn decimals(rt: HostRuntime) {
-    let rows = [
-        (0, "0"),
-        (5_000_000, "0.5"),
-        (-1, "-0.0000001"),
-        (1_800_000_000, "180"),
-        (-1_800_000_000, "-180"),
-        (123_456_789, "12.3456789"),
-        (100_000_010, "10.000001"),
-        (i64::MIN, "-922337203685.4775808"),
-    ];
-    for (number, text) in rows {
-        assert!(rt; is_printed(number, text), "{text}");
-    }
-}
-
-/// Whether a text is written so.
-fn is_written(alloc: Global, text: &str, wanted: &str) -> Result<bool, OutOfMemory> {
+/// Adds a text as it is written.
+pub(crate) fn put_string(alloc: Global, text: &str, told: &mut String) -> Result<(), RowFault> {
     let bytes = written(alloc, &Text::from_str(alloc, text)?)?;
-    Ok(bytes.as_slice() == wanted.as_bytes())
+    put_bytes(&bytes, told)
 }
 
-#[test]
-fn written_strings(rt: HostRuntime) -> Result<(), Fail> {
-    let rows = [
-        ("plain~!", "plain~!"),
-        ("a b", "a%20%b"),
-        ("%,=@", "%25%%2c%%3d%%40%"),
-        ("\0", "%0%"),
-        ("\u{7f}ü\u{1f600}", "%7f%%fc%%1f600%"),
-    ];
-    for (text, wanted) in rows {
-        assert!(rt; is_written(rt.alloc(), text, wanted)?, "{wanted}");
+/// Adds bytes that are UTF-8.
+fn put_bytes(bytes: &[u8], told: &mut String) -> Result<(), RowFault> {
+    match str::from_utf8(bytes) {
+        Ok(text) => Ok(told.push_str(text)?),
+        Err(_) => Err(RowFault("bytes that aren't UTF-8")),
     }
-    Ok(())
 }

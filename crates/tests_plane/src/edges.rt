@@ -1,62 +1,32 @@
-//! Edges and their directions on numbers worked out by hand.
+//! Orders of edges, each along a segment or against it.
 
-use crate::reading::{height, seg};
+use crate::reading::{parts, point, seg};
 use osm_geom::{Edge, Point, clockwise, compare_just_above, spans_height};
-use std::cmp::Ordering;
-use std::test::Fail;
+use std::fmt::Write;
+use worked_form::RowFault;
 
-/// The order of two edges where both span the height.
-fn just_above(e: &Edge, f: &Edge, at: &Point) -> Option<Ordering> {
-    if spans_height(e, at) && spans_height(f, at) {
-        Some(compare_just_above(e, f, at))
-    } else {
-        None
+/// Adds the order of two edges: just above the height of a point where both span it, or clockwise from the direction to the east.
+pub(crate) fn answer(word: &str, text: &str, told: &mut String) -> Result<(), RowFault> {
+    let (first, others) = parts(text);
+    let (second, at) = parts(others);
+    let (e, f) = (edge(first)?, edge(second)?);
+    if word == "above" {
+        return put_above(&e, &f, &point(at)?, told);
     }
+    let east = edge("up 0,0 1,0")?.dir();
+    Ok(write!(told, "{:?}", clockwise(east, e.dir(), f.dir()))?)
 }
 
-/// The order just above a height of edges along segments, the first upwards, the second downwards.
-fn order_above(first: &str, second: &str, at: &str) -> Result<Option<Ordering>, Fail> {
-    let (e, f) = (Edge::of(seg(first)?, true), Edge::of(seg(second)?, false));
-    Ok(just_above(&e, &f, &height(at)?))
+/// The edge of words such as `up 0,0 1,1`.
+fn edge(words: &str) -> Result<Edge, RowFault> {
+    let (way, ends) = words.split_once(' ').unwrap_or((words, ""));
+    Ok(Edge::of(seg(ends)?, way == "up"))
 }
 
-#[test]
-fn order_just_above_heights(rt: HostRuntime) -> Result<(), Fail> {
-    let rows = [
-        ("0,0 0,4", "2,0 2,4", "0", Some(Ordering::Less)),
-        ("2,0 0,2", "0,0 2,2", "half", Some(Ordering::Greater)),
-        ("2,0 0,2", "0,0 2,2", "1", Some(Ordering::Less)),
-        ("0,0 2,2", "0,0 2,1", "half", Some(Ordering::Less)),
-        ("0,0 2,4", "0,0 1,2", "half", Some(Ordering::Equal)),
-        ("0,0 0,2", "1,0 1,4", "2", None),
-        ("0,0 4,0", "1,0 1,4", "0", None),
-    ];
-    for (first, second, at, order) in rows {
-        let found = order_above(first, second, at)?;
-        assert_eq!(rt; found, order, "{first} and {second} at {at}");
+/// Adds the order of two edges just above a height, where both span it.
+fn put_above(e: &Edge, f: &Edge, at: &Point, told: &mut String) -> Result<(), RowFault> {
+    if !spans_height(e, at) || !spans_height(f, at) {
+        return Ok(told.push_str("none")?);
     }
-    Ok(())
-}
-
-/// The order of two edges clockwise from the direction to the east, each along a segment or against it.
-fn turned(first: &str, up: bool, second: &str, second_up: bool) -> Result<Ordering, Fail> {
-    let from = Edge::of(seg("0,0 1,0")?, true).dir();
-    let d = Edge::of(seg(first)?, up).dir();
-    let e = Edge::of(seg(second)?, second_up).dir();
-    Ok(clockwise(from, d, e))
-}
-
-#[test]
-fn clockwise_from_a_direction(rt: HostRuntime) -> Result<(), Fail> {
-    let rows = [
-        ("0,0 1,1", false, "0,0 1,1", true, Ordering::Less),
-        ("0,0 0,1", false, "0,0 1,0", false, Ordering::Less),
-        ("0,0 1,0", true, "0,0 0,1", true, Ordering::Greater),
-        ("0,0 1,2", true, "0,0 2,4", true, Ordering::Equal),
-    ];
-    for (first, up, second, second_up, order) in rows {
-        let found = turned(first, up, second, second_up)?;
-        assert_eq!(rt; found, order, "{first} and {second}");
-    }
-    Ok(())
+    Ok(write!(told, "{:?}", compare_just_above(e, f, at))?)
 }

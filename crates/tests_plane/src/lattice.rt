@@ -1,220 +1,112 @@
-//! Locations, segments and fractions on numbers worked out by hand.
+//! Locations, segments and fractions.
 
-use crate::reading::{at, loc, seg};
-use osm_lattice::{
-    Frac, Kind, Loc, Seg, compare_to_line, conflict, meeting, orient, overlap, round,
-};
-use std::cmp::Ordering;
-use std::test::Fail;
+use crate::reading::{loc, parts, seg};
+use osm_lattice::{Frac, Kind, Seg, compare_to_line, conflict, meeting, orient, overlap, round};
+use std::fmt::Write;
+use worked_form::RowFault;
 
-/// The longitude of the antimeridian and the latitude of a pole, in units of 1e-7 degree.
-const WEST: i64 = -1_800_000_000;
-
-const EAST: i64 = 1_800_000_000;
-
-const SOUTH: i64 = -900_000_000;
-
-const NORTH: i64 = 900_000_000;
-
-const CROSSING: Option<Kind> = Some(Kind::Crossing);
-
-const OVERLAP: Option<Kind> = Some(Kind::Overlap);
-
-/// The diagonals of the world.
-const RISING: &str = "-1800000000,-900000000 1800000000,900000000";
-
-const FALLING: &str = "1800000000,-900000000 -1800000000,900000000";
-
-#[test]
-fn ranges_of_locations(rt: HostRuntime) {
-    let rows = [
-        (WEST, SOUTH, true),
-        (EAST, NORTH, true),
-        (WEST - 1, 0, false),
-        (EAST + 1, 0, false),
-        (0, SOUTH - 1, false),
-        (0, NORTH + 1, false),
-    ];
-    for (x, y, valid) in rows {
-        assert_eq!(rt; Loc::new(x, y).is_some(), valid, "at {x} {y}");
+/// Adds the answer of a call on a few locations or segments.
+pub(crate) fn answer(word: &str, text: &str, told: &mut String) -> Result<(), RowFault> {
+    match word {
+        "location" => put_location(text, told),
+        "lesser" => put_lesser(text, told),
+        "order" => put_order(text, told),
+        "orientation" => put_orientation(text, told),
+        "side" => put_side(text, told),
+        "rounded" => put_rounded(text, told),
+        _ => put_shared(word, text, told),
     }
 }
 
-#[test]
-fn segments_from_their_lesser_end(rt: HostRuntime) -> Result<(), Fail> {
-    let rows = [
-        ("9,0 0,1", "9,0"),
-        ("0,1 9,0", "9,0"),
-        ("9,0 5,1", "9,0"),
-        ("5,1 9,0", "9,0"),
-        ("5,1 0,1", "0,1"),
-    ];
-    for (ends, lesser) in rows {
-        assert_eq!(rt; seg(ends)?.a, loc(lesser)?, "{ends}");
-    }
-    assert!(rt; Seg::new(loc("0,1")?, loc("0,1")?).is_none());
-    assert!(rt; seg("0,0 1,0")? < seg("0,0 0,1")?);
-    Ok(())
+/// Adds whether numbers are those of a location.
+fn put_location(text: &str, told: &mut String) -> Result<(), RowFault> {
+    Ok(told.push_str(if loc(text).is_ok() { "one" } else { "none" })?)
 }
 
-#[test]
-fn orientations(rt: HostRuntime) -> Result<(), Fail> {
-    let half_world: i128 = 6_480_000_000_000_000_000;
-    let rows = [
-        ([0, 0, 4, 0, 2, 3], 12),
-        ([0, 0, 4, 0, 2, -3], -12),
-        ([0, 0, 4, 2, 2, 1], 0),
-        ([WEST, SOUTH, EAST, SOUTH, EAST, NORTH], half_world),
-        ([WEST, NORTH, EAST, NORTH, EAST, SOUTH], -half_world),
-    ];
-    for ([ax, ay, bx, by, cx, cy], want) in rows {
-        let found = orient(at(ax, ay)?, at(bx, by)?, at(cx, cy)?);
-        assert_eq!(rt; found, want, "of {ax},{ay} {bx},{by} {cx},{cy}");
-    }
-    Ok(())
-}
-
-#[test]
-fn sides_of_lines(rt: HostRuntime) -> Result<(), Fail> {
-    let rows = [
-        ("0,0 4,2", "2,2", Ordering::Less),
-        ("0,0 4,2", "8,4", Ordering::Equal),
-        ("0,0 4,2", "2,0", Ordering::Greater),
-        (RISING, "-1800000000,900000000", Ordering::Less),
-        (FALLING, "0,0", Ordering::Equal),
-        (RISING, "1800000000,-900000000", Ordering::Greater),
-    ];
-    for (ends, p, side) in rows {
-        assert_eq!(rt; compare_to_line(loc(p)?, seg(ends)?), side, "{p} of {ends}");
-    }
-    Ok(())
-}
-
-/// Whether two segments conflict so, either way round.
-fn is_conflict(first: &str, second: &str, kind: Option<Kind>) -> Result<bool, Fail> {
-    let (s, t) = (seg(first)?, seg(second)?);
-    Ok(conflict(s, t) == kind && conflict(t, s) == kind)
-}
-
-#[test]
-fn kinds_of_conflict(rt: HostRuntime) -> Result<(), Fail> {
-    let rows = [
-        ("equal", "0,0 1,1", "1,1 0,0", None),
-        ("touching ends", "0,0 1,1", "1,1 2,0", None),
-        ("apart", "0,0 1,1", "3,0 0,3", None),
-        ("parallel", "0,0 4,4", "0,1 4,5", None),
-        ("in line, apart", "0,0 1,0", "2,0 3,0", None),
-        ("in line, touching", "0,0 1,0", "1,0 3,0", None),
-        ("an end inside", "0,0 4,0", "2,0 2,2", CROSSING),
-        ("crossing", "0,0 2,2", "0,2 2,0", CROSSING),
-        ("diagonals of the world", RISING, FALLING, CROSSING),
-        ("in line, inside", "0,0 4,0", "1,0 3,0", OVERLAP),
-        ("in line from one end", "0,0 0,4", "0,0 0,2", OVERLAP),
-        ("in line, shifted", "0,0 4,4", "2,2 6,6", OVERLAP),
-    ];
-    for (name, first, second, kind) in rows {
-        assert!(rt; is_conflict(first, second, kind)?, "{name}");
-    }
-    Ok(())
-}
-
-/// The x and the y in which two segments cross, each as a numerator and a denominator.
-fn meeting_of(first: &str, second: &str) -> Result<[(i128, u64); 2], Fail> {
-    let (s, t) = (seg(first)?, seg(second)?);
-    match conflict(s, t) {
-        Some(Kind::Crossing) => {
-            let (x, y) = meeting(s, t);
-            Ok([(x.num, x.den), (y.num, y.den)])
-        }
-        _ => Err(Fail::new("no crossing")),
+/// Adds the lesser end of the segment between two locations.
+fn put_lesser(text: &str, told: &mut String) -> Result<(), RowFault> {
+    match seg(text) {
+        Ok(s) => Ok(write!(told, "{},{}", s.a.x, s.a.y)?),
+        Err(_) => Ok(told.push_str("none")?),
     }
 }
 
-#[test]
-fn meeting_points(rt: HostRuntime) -> Result<(), Fail> {
-    let third = (10_000_000, 3);
-    let rows = [
-        (
-            "bow tie",
-            "0,0 10000000,10000000",
-            "10000000,0 0,5000000",
-            [third, third],
-        ),
-        (
-            "in general",
-            "-3,-1 2,1",
-            "-1,1 0,-2",
-            [(-11, 17), (-1, 17)],
-        ),
-        ("whole world", RISING, FALLING, [(0, 1), (0, 1)]),
-    ];
-    for (name, first, second, point) in rows {
-        assert_eq!(rt; meeting_of(first, second)?, point, "{name}");
-    }
-    Ok(())
+/// Adds the order of two segments.
+fn put_order(text: &str, told: &mut String) -> Result<(), RowFault> {
+    let (first, second) = parts(text);
+    let order = seg(first)?.cmp(&seg(second)?);
+    Ok(write!(told, "{order:?}")?)
 }
 
-#[test]
-fn meeting_points_with_whole_coordinates(rt: HostRuntime) -> Result<(), Fail> {
-    let rows = [
-        ("crossing", "0,0 2,2", "0,2 2,0", [(1, 1), (1, 1)]),
-        ("an end inside", "0,0 4,0", "1,0 2,2", [(1, 1), (0, 1)]),
-    ];
-    for (name, first, second, point) in rows {
-        assert_eq!(rt; meeting_of(first, second)?, point, "{name}");
-    }
-    Ok(())
+/// Adds the orientation of three locations.
+fn put_orientation(text: &str, told: &mut String) -> Result<(), RowFault> {
+    let (first, others) = text.split_once(' ').unwrap_or((text, ""));
+    let (second, third) = others.split_once(' ').unwrap_or((others, ""));
+    let number = orient(loc(first)?, loc(second)?, loc(third)?);
+    Ok(write!(told, "{number}")?)
 }
 
-/// What two overlapping segments share.
-fn shared(first: &str, second: &str) -> Result<Seg, Fail> {
-    let (s, t) = (seg(first)?, seg(second)?);
-    match conflict(s, t) {
-        Some(Kind::Overlap) => Ok(overlap(s, t)),
-        _ => Err(Fail::new("no overlap")),
-    }
+/// Adds the side on which a location lies of a segment.
+fn put_side(text: &str, told: &mut String) -> Result<(), RowFault> {
+    let (p, ends) = parts(text);
+    let side = compare_to_line(loc(p)?, seg(ends)?);
+    Ok(write!(told, "{side:?}")?)
 }
 
-#[test]
-fn shared_segments(rt: HostRuntime) -> Result<(), Fail> {
-    let rows = [
-        ("0,0 4,0", "1,0 3,0", "1,0 3,0"),
-        ("0,0 4,4", "6,6 2,2", "2,2 4,4"),
-        ("0,0 0,2", "0,4 0,0", "0,0 0,2"),
-    ];
-    for (first, second, wanted) in rows {
-        assert_eq!(rt;
-            shared(first, second)?,
-            seg(wanted)?,
-            "of {first} and {second}"
-        );
-    }
-    Ok(())
-}
-
-/// A fraction rounded, if it has a denominator and its numerator is a coordinate's.
-fn rounded(num: i128, den: u64) -> Option<i64> {
+/// Adds a fraction rounded, if its numerator is a coordinate's.
+fn put_rounded(text: &str, told: &mut String) -> Result<(), RowFault> {
+    let (num, den) = text.split_once('/').unwrap_or((text, ""));
+    let num: i64 = num.parse().unwrap_or(i64::MAX);
+    let den: u64 = den.parse().unwrap_or(0);
     if den == 0 || num.unsigned_abs() > 3_600_000_000 {
-        return None;
+        return Err(RowFault("no fraction of coordinates"));
     }
-    Some(round(Frac::new(num, den)))
+    let rounded = round(Frac::new(i128::from(num), den));
+    Ok(write!(told, "{rounded}")?)
 }
 
-#[test]
-fn rounding(rt: HostRuntime) {
-    let rows = [
-        (1, 2, 1),
-        (-1, 2, 0),
-        (-3, 2, -1),
-        (1, 3, 0),
-        (2, 3, 1),
-        (-2, 3, -1),
-        (5, 2, 3),
-        (9, 4, 2),
-        (10_000_000, 3, 3_333_333),
-        (-3_600_000_000, 1, -3_600_000_000),
-    ];
-    for (num, den, want) in rows {
-        assert_eq!(rt; rounded(num, den), Some(want), "{num}/{den}");
+/// Adds how two segments conflict, either way round, or what they share.
+fn put_shared(word: &str, text: &str, told: &mut String) -> Result<(), RowFault> {
+    let (first, second) = parts(text);
+    let (s, t) = (seg(first)?, seg(second)?);
+    match word {
+        "conflict" => put_conflict(s, t, told),
+        "meeting" => put_meeting(s, t, told),
+        "overlap" => put_overlap(s, t, told),
+        _ => Err(RowFault("an unknown call")),
     }
+}
+
+/// Adds the conflict of two segments, either way round.
+fn put_conflict(s: Seg, t: Seg, told: &mut String) -> Result<(), RowFault> {
+    let (one, other) = (conflict(s, t), conflict(t, s));
+    if one != other {
+        return Err(RowFault("not the same either way round"));
+    }
+    match one {
+        Some(kind) => Ok(write!(told, "{kind:?}")?),
+        None => Ok(told.push_str("none")?),
+    }
+}
+
+/// Adds the x and the y in which two segments cross, as fractions.
+fn put_meeting(s: Seg, t: Seg, told: &mut String) -> Result<(), RowFault> {
+    let Some(Kind::Crossing) = conflict(s, t) else {
+        return Err(RowFault("no crossing"));
+    };
+    let (x, y) = meeting(s, t);
+    Ok(write!(told, "{}/{},{}/{}", x.num, x.den, y.num, y.den)?)
+}
+
+/// Adds what two overlapping segments share.
+fn put_overlap(s: Seg, t: Seg, told: &mut String) -> Result<(), RowFault> {
+    let Some(Kind::Overlap) = conflict(s, t) else {
+        return Err(RowFault("no overlap"));
+    };
+    put_seg(overlap(s, t), told)
+}
+
+/// Adds the ends of a segment.
+pub(crate) fn put_seg(s: Seg, told: &mut String) -> Result<(), RowFault> {
+    Ok(write!(told, "{},{} {},{}", s.a.x, s.a.y, s.b.x, s.b.y)?)
 }

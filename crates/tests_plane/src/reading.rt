@@ -1,78 +1,111 @@
-//! For the tests: locations, segments and points out of words.
+//! Locations, segments and points out of words.
 
-use osm_geom::{Loc, Part, Point, Seg};
+use osm_geom::{Axis, Cut, Loc, Point, Seg, compare_to_cut, cut_point};
 use std::alloc::Global;
-use std::test::Fail;
-
-/// The location x, y.
-pub(crate) fn at(x: i64, y: i64) -> Result<Loc, Fail> {
-    Loc::new(x, y).ok_or_else(|| Fail::new("out of range"))
-}
+use worked_form::RowFault;
 
 /// The location of a word such as `3,-4`.
-pub(crate) fn loc(word: &str) -> Result<Loc, Fail> {
-    let (x, y) = word.split_once(',').unwrap_or((word, ""));
-    at(x.parse().unwrap_or(i64::MAX), y.parse().unwrap_or(i64::MAX))
+pub(crate) fn loc(word: &str) -> Result<Loc, RowFault> {
+    loc_at(word, 0)
 }
 
-/// The segment between two locations.
-pub(crate) fn segment(p: Loc, q: Loc) -> Result<Seg, Fail> {
-    Seg::new(p, q).ok_or_else(|| Fail::new("no segment"))
+/// The location x, y.
+fn at(x: i64, y: i64) -> Result<Loc, RowFault> {
+    Loc::new(x, y).ok_or(RowFault("out of range"))
 }
 
 /// The segment of two words with a blank between.
-pub(crate) fn seg(words: &str) -> Result<Seg, Fail> {
+pub(crate) fn seg(words: &str) -> Result<Seg, RowFault> {
     let (p, q) = words.split_once(' ').unwrap_or((words, ""));
-    segment(loc(p)?, loc(q)?)
+    seg_at(p, q, 0)
 }
 
-/// Adds the steps between the neighbouring locations of a line.
-fn add_steps(steps: &mut Vec<(Loc, Loc)>, line: &str) -> Result<(), Fail> {
-    let mut last = None;
-    for word in line.split_whitespace() {
-        let next = loc(word)?;
-        if let Some(from) = last {
-            steps.push((from, next))?;
-        }
-        last = Some(next);
+/// The segment between two locations.
+fn segment(p: Loc, q: Loc) -> Result<Seg, RowFault> {
+    Seg::new(p, q).ok_or(RowFault("no segment"))
+}
+
+/// The two parts of a text with a slash between.
+pub(crate) fn parts(text: &str) -> (&str, &str) {
+    text.split_once(" / ").unwrap_or((text, ""))
+}
+
+/// The cut of a word such as `x=2`.
+pub(crate) fn cut(word: &str) -> Cut {
+    let axis = if word.starts_with('x') {
+        Axis::X
+    } else {
+        Axis::Y
+    };
+    let (_, at) = word.split_once('=').unwrap_or((word, ""));
+    Cut {
+        axis,
+        at: at.parse().unwrap_or(i32::MAX),
     }
-    Ok(())
 }
 
-/// The steps between the neighbouring locations of lines such as `0,0 1,1 1,0`, parted by `/`.
-fn steps(alloc: Global, lines: &str) -> Result<Vec<(Loc, Loc)>, Fail> {
-    let mut steps = Vec::new(alloc);
-    for line in lines.split('/') {
-        add_steps(&mut steps, line)?;
+/// The point in which a segment meets a line, as `0,0 4,2 at x=1`, or the location of a word. The ends of the segment don't
+/// stand on one side of the line.
+pub(crate) fn point(words: &str) -> Result<Point, RowFault> {
+    let Some((ends, line)) = words.split_once(" at ") else {
+        return Ok(Point::Lattice(loc(words)?));
+    };
+    met(seg(ends)?, cut(line))
+}
+
+/// The point in which a segment meets a line.
+fn met(s: Seg, cut: Cut) -> Result<Point, RowFault> {
+    if compare_to_cut(&Point::Lattice(s.a), cut) == compare_to_cut(&Point::Lattice(s.b), cut) {
+        return Err(RowFault("no meeting"));
     }
-    Ok(steps)
+    Ok(cut_point(s, cut))
 }
 
-/// The segments along lines, parted by `/`.
-pub(crate) fn segs(alloc: Global, lines: &str) -> Result<Vec<Seg>, Fail> {
+/// The segments along lines such as `0,0 1,1 1,0`, parted by slashes. A line may begin with a count, as `100 * 0+10,0 0+10,4`: it
+/// stands for so many, in each of which a coordinate is greater by what stands behind its `+`.
+pub(crate) fn segs(alloc: Global, lines: &str) -> Result<Vec<Seg>, RowFault> {
     let mut segs = Vec::new(alloc);
-    for (from, to) in &steps(alloc, lines)? {
-        segs.push(segment(*from, *to)?)?;
+    for line in lines.split(['/', '\n']) {
+        let (count, line) = counted(line);
+        for index in 0..count {
+            add_steps(&mut segs, line, index)?;
+        }
     }
     Ok(segs)
 }
 
-/// The point (7, 1/2).
-fn half() -> Point {
-    Point::OnVertical {
-        c: 7,
-        y: Part {
-            floor: 0,
-            above: 1,
-            den: 2,
-        },
+/// How many lines a line stands for, and the line without its count.
+pub(crate) fn counted(line: &str) -> (u32, &str) {
+    match line.split_once(" * ") {
+        Some((count, line)) => (count.trim().parse().unwrap_or(0), line),
+        None => (1, line),
     }
 }
 
-/// The point with x = 7 whose y a word names, `half` for 1/2.
-pub(crate) fn height(word: &str) -> Result<Point, Fail> {
-    if word == "half" {
-        return Ok(half());
+/// Adds the segments between the neighbouring locations of the line of an index.
+fn add_steps(segs: &mut Vec<Seg>, line: &str, index: u32) -> Result<(), RowFault> {
+    let next_words = line.split_whitespace().skip(1);
+    for (from, to) in line.split_whitespace().zip(next_words) {
+        segs.push(seg_at(from, to, index)?)?;
     }
-    Ok(Point::Lattice(at(7, word.parse().unwrap_or(i64::MAX))?))
+    Ok(())
+}
+
+/// The segment of two words in the line of an index.
+pub(crate) fn seg_at(from: &str, to: &str, index: u32) -> Result<Seg, RowFault> {
+    segment(loc_at(from, index)?, loc_at(to, index)?)
+}
+
+/// The location of a word in the line of an index.
+fn loc_at(word: &str, index: u32) -> Result<Loc, RowFault> {
+    let (x, y) = word.split_once(',').unwrap_or((word, ""));
+    at(number_at(x, index), number_at(y, index))
+}
+
+/// The coordinate of a word such as `5+2` in the line of an index.
+fn number_at(word: &str, index: u32) -> i64 {
+    let (first, step) = word.split_once('+').unwrap_or((word, "0"));
+    let first: i64 = first.parse().unwrap_or(i64::MAX);
+    let step: i64 = step.parse().unwrap_or(i64::MAX);
+    first.saturating_add(step.saturating_mul(i64::from(index)))
 }

@@ -1,52 +1,51 @@
 //! A row's run over a host in memory, and where it differs from what is wanted.
 
-use crate::form::{BlockFault, Field, find, first_word};
 use osm_cli::{Ended, command_of, run, status};
 use std::alloc::{AllocError as OutOfMemory, Global};
-use std::fmt::Write;
 use tests_host::MemoryHost;
+use worked_form::{Field, RowFault, first_word, number, said, tell, text_of};
 
 /// The host's room for what is written.
 const ROOM: usize = 65536;
 
-/// Makes a row's run, and reports where it differs from what is wanted, if anywhere.
+/// Makes a row's run, and tells where it differs from what is wanted: nothing where it doesn't.
 pub(crate) fn tell_run(
     alloc: Global,
     fields: &[Field<'_>],
     told: &mut String,
-) -> Result<(), BlockFault> {
-    let digits = said(fields, "most").unwrap_or("65536");
+) -> Result<(), RowFault> {
+    let digits = said_or(fields, "most", "65536");
     let most = number(digits)?;
     let mut host = MemoryHost::new(alloc, (most as usize).max(1));
     run_over(alloc, fields, &mut host, told)
 }
 
-/// Makes a row's run over an empty host.
+/// Makes a row's run over a host that holds nothing yet.
 fn run_over(
     alloc: Global,
     fields: &[Field<'_>],
     host: &mut MemoryHost,
     told: &mut String,
-) -> Result<(), BlockFault> {
+) -> Result<(), RowFault> {
     host.reserve(ROOM)?;
     for field in fields {
         prepare(field, host)?;
     }
-    let words = words_of(alloc, said(fields, "words").unwrap_or(""))?;
+    let words = words_of(alloc, said(fields, "words"))?;
     tell_differences(alloc, fields, &words, host, told)
 }
 
-/// Runs the words, and reports where the run differs from what is wanted.
+/// Runs the words, and tells where the run differs from what is wanted.
 fn tell_differences(
     alloc: Global,
     fields: &[Field<'_>],
     words: &[String],
     host: &mut MemoryHost,
     told: &mut String,
-) -> Result<(), BlockFault> {
+) -> Result<(), RowFault> {
     let ended = run(alloc, words, host);
     let status = status(command_of(words), &ended);
-    let ends = said(fields, "ends").unwrap_or("0");
+    let ends = said_or(fields, "ends", "0");
     tell_ending(alloc, ends, status, ended, told)?;
     tell("out", text_of(fields, "out"), host.out(), told)?;
     tell("report", text_of(fields, "report"), host.report(), told)?;
@@ -54,7 +53,7 @@ fn tell_differences(
 }
 
 /// Gives a host what a field says of it.
-fn prepare(field: &Field<'_>, host: &mut MemoryHost) -> Result<(), BlockFault> {
+fn prepare(field: &Field<'_>, host: &mut MemoryHost) -> Result<(), RowFault> {
     match field.word {
         "input" => Ok(host.add_input(first_word(field.said).0, &field.text)?),
         "taken" => Ok(host.take_name(field.said)?),
@@ -63,24 +62,16 @@ fn prepare(field: &Field<'_>, host: &mut MemoryHost) -> Result<(), BlockFault> {
     }
 }
 
-/// Makes the calls of these numbers fail.
-fn fail_at(numbers: &str, host: &mut MemoryHost) -> Result<(), BlockFault> {
+/// Lets the calls of these numbers fail.
+fn fail_at(numbers: &str, host: &mut MemoryHost) -> Result<(), RowFault> {
     for digits in numbers.split_whitespace() {
         host.fail_at(number(digits)?)?;
     }
     Ok(())
 }
 
-/// The number of these digits.
-fn number(digits: &str) -> Result<u64, BlockFault> {
-    match digits.parse::<u64>() {
-        Ok(number) => Ok(number),
-        Err(_) => Err(BlockFault("no number where one has to stand")),
-    }
-}
-
 /// Words as a command line has them.
-fn words_of(alloc: Global, text: &str) -> Result<Vec<String>, OutOfMemory> {
+pub(crate) fn words_of(alloc: Global, text: &str) -> Result<Vec<String>, OutOfMemory> {
     let mut words = Vec::new(alloc);
     for word in text.split_whitespace() {
         words.push(String::from_str(alloc, word)?)?;
@@ -88,23 +79,13 @@ fn words_of(alloc: Global, text: &str) -> Result<Vec<String>, OutOfMemory> {
     Ok(words)
 }
 
-/// What the field of a word says.
-fn said<'a>(fields: &[Field<'a>], word: &str) -> Option<&'a str> {
-    match find(fields, word) {
-        Some(field) => Some(field.said),
-        None => None,
-    }
+/// What the field of a word says, or else this.
+fn said_or<'a>(fields: &[Field<'a>], word: &str, otherwise: &'a str) -> &'a str {
+    let said = said(fields, word);
+    if said.is_empty() { otherwise } else { said }
 }
 
-/// The text of the field of a word; empty if there is none.
-fn text_of<'f>(fields: &'f [Field<'_>], word: &str) -> &'f [u8] {
-    match find(fields, word) {
-        Some(field) => field.text.as_slice(),
-        None => &[],
-    }
-}
-
-/// Reports the status and the ending of a run, unless they begin with what is wanted.
+/// Tells the status and the ending of a run, unless they begin with what is wanted.
 fn tell_ending(
     alloc: Global,
     wanted: &str,
@@ -117,14 +98,4 @@ fn tell_ending(
         Some(others) if others.starts_with(' ') => Ok(()),
         _ => tell("ends", wanted.as_bytes(), got.as_bytes(), told),
     }
-}
-
-/// Reports a difference, if there is one.
-fn tell(word: &str, wanted: &[u8], got: &[u8], told: &mut String) -> Result<(), OutOfMemory> {
-    if wanted == got {
-        return Ok(());
-    }
-    let wanted = str::from_utf8(wanted).unwrap_or("not UTF-8");
-    let got = str::from_utf8(got).unwrap_or("not UTF-8");
-    write!(told, " {word} wanted {wanted:?}, got {got:?};")
 }
