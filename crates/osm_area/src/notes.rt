@@ -28,9 +28,9 @@ fn add_named(notes: &mut Notes, ways: &[i64], again: &[i64]) -> Result<(), OutOf
     ensures { OnOk result (notes.new
         ≡ notes.old ++ map named_twice_note (filter (has_name again.now) ways.now)) }
 {
-    for &way in ways {
-        if is_among(again, &way) {
-            notes.push(Note::NamedTwice { way })?;
+    for way in ways {
+        if is_among(again, way) {
+            notes.push(Note::NamedTwice { way: *way })?;
         }
     }
     Ok(())
